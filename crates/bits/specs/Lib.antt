@@ -1,0 +1,4 @@
+pub mod Bits
+pub mod Growths
+pub mod Scrambler
+pub mod Crc

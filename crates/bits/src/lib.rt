@@ -1,0 +1,1 @@
+// Bits to phases and back, the scrambler and the CRC.

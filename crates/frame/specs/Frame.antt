@@ -1,0 +1,101 @@
+-- The frame: its two kinds of front, the header, the payload, and all of its chips (RULES 5.1 to 5.13).
+-- Source 002, an earlier draft, has a short header at 5.5 Mbit/s and uses the lowest SERVICE bit: both were given up.
+-- Definitions only. Assumes nothing.
+use Prim.Native.Nat.{ℕ, _+_, _*_, _/_}
+use mathlib.Core.Bool.{Bool, true, false}
+use mathlib.Core.List.{List, [], _∷_, _++_}
+use lib.ListN.{length, take, drop, replicate}
+use Rattle.rates.specs.declared.Rate.{Rate}
+use Rattle.rates.specs.declared.Rate.the-variants.{One, Two, Five, Eleven}
+use Rattle.rates.specs.Rates.{codeOf, symbolChips, symbolBits, octetChips, lengthField, bit7}
+use Rattle.bits.specs.Bits.{bitsOf, octetBits}
+use Rattle.bits.specs.Growths.{Symbol, symbolsOf, chipsFrom, lastPhase}
+use Rattle.bits.specs.Scrambler.{scramble}
+use Rattle.bits.specs.Crc.{crcBits}
+use Rattle.frame.specs.declared.Kind.{Kind}
+use Rattle.frame.specs.declared.Kind.the-variants.{Long, Short}
+
+-- SYNC, 1 Mbit/s: 128 ones, or 56 zeros
+abbrev pub syncBits : Kind → ℕ
+syncBits Long = 128
+syncBits Short = 56
+
+abbrev pub syncBit : Kind → ℕ
+syncBit Long = 1
+syncBit Short = 0
+
+-- SFD, 1 Mbit/s, lowest bit first: F3A0h, or 05CFh
+abbrev pub sfdOf : Kind → ℕ
+sfdOf Long = 0xF3A0
+sfdOf Short = 0x05CF
+
+-- SIGNAL 8, SERVICE 8, LENGTH 16, CRC 16 bits, at 1 or 2 Mbit/s
+abbrev pub headerRate : Kind → Rate
+headerRate Long = One
+headerRate Short = Two
+
+-- scrambler start, last output first: 1101100, or 0011011
+abbrev pub start : Kind → List ℕ
+start Long = 1 ∷ 1 ∷ 0 ∷ 1 ∷ 1 ∷ 0 ∷ 0 ∷ []
+start Short = 0 ∷ 0 ∷ 1 ∷ 1 ∷ 0 ∷ 1 ∷ 1 ∷ []
+
+-- front chips: 2,112, or 1,056
+abbrev pub frontChips : Kind → ℕ
+frontChips Long = 2112
+frontChips Short = 1056
+
+-- short excludes 10
+abbrev pub goesWith : Kind → Rate → Bool
+goesWith Long r = true
+goesWith Short One = false
+goesWith Short Two = true
+goesWith Short Five = true
+goesWith Short Eleven = true
+
+-- SERVICE is 0 but for bit 7
+abbrev pub serviceField : Rate → ℕ → ℕ
+serviceField r n = 128 * bit7 r n
+
+-- Parts, as bits: the preamble is SYNC and SFD; the header is its 32 bits of fields and their CRC
+unfoldable pub preambleBits : Kind → List ℕ
+preambleBits k = replicate (syncBits k) (syncBit k) ++ bitsOf 16 (sfdOf k)
+
+unfoldable pub fieldBits : Rate → ℕ → List ℕ
+fieldBits r n = bitsOf 8 (codeOf r) ++ (bitsOf 8 (serviceField r n) ++ bitsOf 16 (lengthField r n))
+
+unfoldable pub headerBits : Rate → ℕ → List ℕ
+headerBits r n = fieldBits r n ++ crcBits (fieldBits r n)
+
+unfoldable pub frameBits : Kind → Rate → List ℕ → List ℕ
+frameBits k r payload = preambleBits k ++ (headerBits r (length payload) ++ octetBits payload)
+
+-- bits of the preamble and of the header, counted
+abbrev pub preambleLength : Kind → ℕ
+preambleLength k = syncBits k + 16
+
+abbrev pub headerLength : ℕ
+headerLength = 48
+
+-- Three parts of bits as chips: each symbol grows from the one before it, across all changes of rate
+unfoldable pub partsChips : Kind → Rate → ℕ → List ℕ → List ℕ → List ℕ → List ℕ
+partsChips k r p preamble header payload =
+    let a = symbolsOf One preamble in
+    let b = symbolsOf (headerRate k) header in
+    let c = symbolsOf r payload in
+    let q = lastPhase p a in
+    chipsFrom One p a ++ (chipsFrom (headerRate k) q b ++ chipsFrom r (lastPhase q b) c)
+
+-- every bit of the frame is scrambled in one run
+unfoldable pub sentBits : Kind → Rate → List ℕ → List ℕ
+sentBits k r payload = scramble (start k) (frameBits k r payload)
+
+-- the chips of the frame, from starting phase p
+unfoldable pub frame : Kind → Rate → ℕ → List ℕ → List ℕ
+frame k r p payload =
+    let s = sentBits k r payload in
+    let m = preambleLength k in
+    partsChips k r p (take m s) (take headerLength (drop m s)) (drop (m + headerLength) s)
+
+-- how many chips a frame of n octets has
+abbrev pub frameChips : Kind → Rate → ℕ → ℕ
+frameChips k r n = frontChips k + octetChips r * n

@@ -1,0 +1,4 @@
+pub mod Frame
+pub mod Answers
+pub mod Writing
+pub mod Reading

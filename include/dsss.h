@@ -1,0 +1,168 @@
+/* dsss.h: frames of IEEE Std 802.11b-1999, from payload octets to chips and back.
+ *
+ * The library writes a frame as chips, and reads a hard or soft recording of chips back to the
+ * payload. What it answers is fixed by docs/RULES.md and proved for every input; docs/PROMISES.md
+ * says where. No proof covers this header: it is written by hand and held to the source by a test.
+ *
+ * CONVENTIONS, the same for every call
+ *
+ * Rows      A row is a pointer and a length in elements: chips and chips_len. A row of length 0
+ *           may be NULL. Any other row is that many elements of memory that may be used, and floats
+ *           stand where C puts them, at a multiple of 4 octets. A NULL with a length, or a length
+ *           above the memory behind it, is the caller's fault; no promise covers it.
+ * Overlap   A const row is only read. A row without const is lent for writing and overlaps no
+ *           other row of the call. Const rows may overlap each other.
+ * Memory    Nothing is allocated and nothing is kept: no state, no lock, no file. Calls at the same
+ *           time are safe if no row lent for writing belongs to two of them.
+ * Numbers   Numbers are 64 bits wide and compared whole: a kind of 2^32 is refused, not cut to 0.
+ * Answers   An answer is a record by value. Its number is 0 if the call did its work, or the number
+ *           of the refusal. Where several refusals hold, the first in the call's order is given.
+ * Fills     What a lent row held before does not matter. Each call writes every element of it,
+ *           refused or not: a chip buffer is 4s but for the frame, an octet buffer is 0s but for
+ *           the payload. A refused call leaves nothing else, so nothing old can be shown.
+ * Places    Places are chip indexes from the recording's start, which is 0.
+ */
+#ifndef DSSS_H
+#define DSSS_H
+
+#include <stddef.h>
+#include <stdint.h>
+
+#ifdef __cplusplus
+extern "C" {
+#endif
+
+/* Raised when a record or a call changes. A program built with another version is built anew. */
+#define DSSS_VERSION 1
+
+/* Chip octets. 0 to 3 are phases in quarter turns counter-clockwise; 5 to 255 are unusable. */
+#define DSSS_CHIP_LOST 4 /* the mark for no chip; also what fills a chip buffer past the frame */
+
+/* Kinds of preamble. */
+#define DSSS_LONG 0
+#define DSSS_SHORT 1 /* not at 1 Mbit/s */
+
+/* Rate codes. */
+#define DSSS_RATE_1 10    /*  1   Mbit/s, 88 chips an octet */
+#define DSSS_RATE_2 20    /*  2   Mbit/s, 44 chips an octet */
+#define DSSS_RATE_5_5 55  /*  5.5 Mbit/s, 16 chips an octet */
+#define DSSS_RATE_11 110  /* 11   Mbit/s,  8 chips an octet */
+
+/* Sizes. A frame is its front (SYNC, SFD and header) and then the payload's chips. */
+#define DSSS_FRONT_LONG 2112
+#define DSSS_FRONT_SHORT 1056
+#define DSSS_PAYLOAD_MAX 4095
+#define DSSS_CHIPS_MAX 362472 /* the longest frame: long, 1 Mbit/s, 4,095 octets */
+
+/* Refusals. Writing looks for 1 to 6 in this order. Reading looks for 1, 7, 8, then 9 and 10 over
+ * the front, 11 to 17, then 9 and 10 over the payload; each 9 through its whole part before 10. */
+#define DSSS_REFUSED_KIND 1        /* kind is neither 0 (long) nor 1 (short) */
+#define DSSS_REFUSED_RATE 2        /* rate code isn't one of the four */
+#define DSSS_REFUSED_SHORT_RATE 3  /* rate code 10 with the short kind */
+#define DSSS_REFUSED_PAYLOAD 4     /* payload is 0 octets or above 4,095 */
+#define DSSS_REFUSED_PHASE 5       /* starting phase above 3 */
+#define DSSS_REFUSED_CHIP_ROOM 6   /* chip buffer shorter than the frame */
+#define DSSS_REFUSED_ROWS 7        /* I and Q rows differ in length */
+#define DSSS_REFUSED_FRONT 8       /* recording shorter than the front */
+#define DSSS_REFUSED_CHIP 9        /* an unusable chip; place: the first such chip of the part */
+#define DSSS_REFUSED_GROWTH 10     /* a 1 Mbit/s symbol grown by 1 or 3; place: its first chip */
+#define DSSS_REFUSED_SFD 11        /* unscrambled SFD differs */
+#define DSSS_REFUSED_CRC 12        /* CRC differs */
+#define DSSS_REFUSED_SIGNAL 13     /* SIGNAL not a rate of this kind */
+#define DSSS_REFUSED_SERVICE 14    /* SERVICE not 0, nor 128 at 11 Mbit/s */
+#define DSSS_REFUSED_LENGTH 15     /* LENGTH and bit 7 not those of 1 to 4,095 octets */
+#define DSSS_REFUSED_CUT 16        /* recording ends inside the payload */
+#define DSSS_REFUSED_OCTET_ROOM 17 /* octet buffer shorter than the payload */
+
+/* The answer of a write. Later versions add members at the end of a record. */
+typedef struct {
+    uint64_t number; /* 0, or the refusal */
+    uint64_t chips;  /* chips written, the frame's; 0 if refused */
+} dsss_written;
+
+/* The answer of a read. */
+typedef struct {
+    uint64_t number; /* 0, or the refusal */
+    uint64_t place;  /* of refusals 9 and 10; else 0 */
+    uint64_t rate;   /* rate code; 0 if refused */
+    uint64_t length; /* LENGTH in microseconds; if refused, 0 before 13 in the reading order */
+    uint64_t n;      /* payload octets; 0 if refused */
+    uint64_t used;   /* chips of the frame, front and payload; 0 if refused */
+} dsss_record;
+
+/* Writes one frame as chips.
+ *   kind     DSSS_LONG or DSSS_SHORT                                      refusals 1, 3
+ *   rate     one of the four rate codes                                   refusals 2, 3
+ *   phase    0 to 3, the phase before the frame's first symbol            refusal 5
+ *   payload  1 to 4,095 octets, the PSDU                                  refusal 4
+ *   chips    lent, at least the frame's chips                             refusal 6
+ * Answer:  number 0 and the chips of the frame.
+ * Refused: the number; chips 0.
+ * Buffer:  chips[] is the frame and then 4s; refused, all 4s.
+ * Proved:  crates/dsss, dsss_write, clauses answer and chips. */
+dsss_written dsss_write(uint64_t kind, uint64_t rate, uint64_t phase, const uint8_t *payload,
+                        size_t payload_len, uint8_t *chips, size_t chips_len);
+
+/* Reads the payload of one frame from a hard recording.
+ *   kind     DSSS_LONG or DSSS_SHORT                                      refusal 1
+ *   chips    the recording, chip octets; it starts at the frame's first chip, and what
+ *            stands after the frame is not looked at                      refusals 8 to 16
+ *   octets   lent, at least the payload's octets                          refusal 17
+ * Answer:  number 0, the rate code, LENGTH, n and the chips used; place 0.
+ * Refused: the number; the place of a 9 or 10; LENGTH for 13 to 17 and for a 9 or 10 in the
+ *          payload; all else 0.
+ * Buffer:  octets[] is the payload and then 0s; refused, all 0s.
+ * Proved:  crates/dsss, dsss_read_hard, clauses answer and octets. */
+dsss_record dsss_read_hard(uint64_t kind, const uint8_t *chips, size_t chips_len, uint8_t *octets,
+                           size_t octets_len);
+
+/* Reads the payload of one frame from a soft recording, a full chip being 1.0.
+ *   kind     DSSS_LONG or DSSS_SHORT                                      refusal 1
+ *   i, q     the recording, two rows of one length; it starts at the frame's first chip, and what
+ *            stands after the frame is not looked at. A chip is unusable if its I or Q is a NaN,
+ *            an infinity or above 8 in magnitude                          refusals 7 to 16
+ *   octets   lent, at least the payload's octets                          refusal 17
+ * Samples are rounded to the nearest 1/1024, halves to even, in the default rounding mode.
+ * Answer:  number 0, the rate code, LENGTH, n and the chips used; place 0.
+ * Refused: the number; the place of a 9 or 10; LENGTH for 13 to 17 and for a 9 or 10 in the
+ *          payload; all else 0.
+ * Buffer:  octets[] is the payload and then 0s; refused, all 0s.
+ * Proved:  crates/dsss, dsss_read_soft, clauses answer and octets. */
+dsss_record dsss_read_soft(uint64_t kind, const float *i, size_t i_len, const float *q,
+                           size_t q_len, uint8_t *octets, size_t octets_len);
+
+/* The sentence of an answer's number, to show to people. Any other number than 0 to 17 gets the
+ * last sentence.
+ * NOT PROVED: plain C, held to the table of refusals by tests/header. */
+static inline const char *dsss_sentence(uint64_t number)
+{
+    static const char *const sentences[] = {
+        "Not refused.",
+        "The kind is neither 0 (long) nor 1 (short).",
+        "The rate code is not one of the four: 10, 20, 55 or 110.",
+        "Rate code 10 does not go with the short kind.",
+        "The payload is 0 octets or above 4,095.",
+        "The starting phase is above 3.",
+        "The chip buffer is shorter than the frame.",
+        "The I and Q rows differ in length.",
+        "The recording is shorter than the front of a frame.",
+        "A chip is unusable.",
+        "A 1 Mbit/s symbol has grown by 1 or 3 quarter turns.",
+        "The SFD is not that of this kind.",
+        "The CRC of the header is wrong.",
+        "SIGNAL is not a rate of this kind.",
+        "SERVICE has a bit that this rate does not allow.",
+        "LENGTH is not one that a writer makes for 1 to 4,095 octets.",
+        "The recording ends inside the payload.",
+        "The octet buffer is shorter than the payload.",
+        "This number is no refusal of this library.",
+    };
+    const uint64_t last = sizeof sentences / sizeof sentences[0] - 1;
+    return sentences[number < last ? number : last];
+}
+
+#ifdef __cplusplus
+}
+#endif
+
+#endif

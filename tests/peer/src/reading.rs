@@ -1,0 +1,134 @@
+//! Reading: from recorded chips back to the payload, with its refusals in their order.
+
+use crate::bits::{decide, receive, Rate};
+use crate::chips::{Counts, Phase, Recording};
+use crate::frame::{number_of, unscramble, Header, Kind};
+use crate::refusals;
+
+/// The answer of a read. A refusal sets number, place and LENGTH as the table says; all else is 0.
+#[derive(Default, PartialEq, Eq, Debug)]
+pub struct Read {
+    pub number: u64,
+    pub place: u64,
+    pub rate: u64,
+    pub length: u64,
+    pub n: u64,
+    pub used: u64,
+}
+
+impl Read {
+    fn refused(number: u64) -> Read {
+        Read { number, ..Read::default() }
+    }
+
+    fn refused_at((number, place): (u64, usize)) -> Read {
+        Read { number, place: place as u64, ..Read::default() }
+    }
+}
+
+/// A good read leaves 0 past the n octets, a refusal leaves the octet buffer zeros.
+pub fn read(kind: u64, recording: Recording, octets: &mut [u8]) -> Read {
+    octets.fill(0);
+    let front = match read_front(kind, recording) {
+        Ok(front) => front,
+        Err(refused) => return refused,
+    };
+    // From refusal 13 on, in the reading order, a refusal shows the LENGTH field.
+    let length = u64::from(front.header.length);
+    match read_payload(front, recording, octets) {
+        Ok(read) => read,
+        Err(refused) => Read { length, ..refused },
+    }
+}
+
+/// What the payload needs of the front.
+struct Front {
+    kind: Kind,
+    header: Header,
+    scrambled: Vec<u8>,
+    phase: Phase,
+}
+
+/// 1, 7, 8, then 9 and 10 over the front, 11, 12.
+fn read_front(kind: u64, recording: Recording) -> Result<Front, Read> {
+    let kind = Kind::of_number(kind).ok_or(Read::refused(refusals::KIND))?;
+    if recording.rows_differ() {
+        return Err(Read::refused(refusals::ROWS));
+    }
+    if recording.chips() < kind.front_chips() {
+        return Err(Read::refused(refusals::FRONT));
+    }
+    let counts = usable_counts(recording, 0, kind.front_chips()).map_err(Read::refused_at)?;
+
+    // The first symbol serves only as reference: taken as grown by 0, its bit reaches SYNC bits only.
+    let mut phase = decide(Rate::Mbit1, &counts[..11]).phase;
+    let mut scrambled = Vec::new();
+    let (before_header, header) = counts.split_at(11 * kind.bits_before_header());
+    symbols(Rate::Mbit1, before_header, 0, &mut phase, &mut scrambled)?;
+    symbols(kind.header_rate(), header, before_header.len(), &mut phase, &mut scrambled)?;
+
+    // SYNC bits aren't compared.
+    let bits = unscramble(&scrambled);
+    let (before_header, header_bits) = bits.split_at(kind.bits_before_header());
+    if number_of(&before_header[before_header.len() - 16..]) != kind.sfd() {
+        return Err(Read::refused(refusals::SFD));
+    }
+    let header = Header::of_bits(header_bits);
+    let crc_read = header_bits[32..].iter().fold(0, |value: u16, bit| value << 1 | u16::from(*bit));
+    if crc_read != header.crc() {
+        return Err(Read::refused(refusals::CRC));
+    }
+    Ok(Front { kind, header, scrambled, phase })
+}
+
+/// 13, 14, 15, 16, 17, then 9 and 10 over the payload. LENGTH is added by the caller.
+fn read_payload(front: Front, recording: Recording, octets: &mut [u8]) -> Result<Read, Read> {
+    let Front { kind, header, mut scrambled, mut phase } = front;
+    let rate = match Rate::of_code(u64::from(header.signal)) {
+        Some(rate) if kind.has(rate) => rate,
+        _ => return Err(Read::refused(refusals::SIGNAL)),
+    };
+    let allowed: &[u8] = if rate == Rate::Mbit11 { &[0, 128] } else { &[0] };
+    if !allowed.contains(&header.service) {
+        return Err(Read::refused(refusals::SERVICE));
+    }
+    let n = rate.octets_of(header.length, header.service == 128);
+    if n < 1 || n > refusals::MOST_OCTETS as i64 || Header::written(rate, n as usize) != header {
+        return Err(Read::refused(refusals::LENGTH));
+    }
+    let n = n as usize;
+    let used = kind.front_chips() + rate.payload_chips(n);
+    if recording.chips() < used {
+        return Err(Read::refused(refusals::ENDS));
+    }
+    if octets.len() < n {
+        return Err(Read::refused(refusals::OCTET_BUFFER));
+    }
+    let counts = usable_counts(recording, kind.front_chips(), used).map_err(Read::refused_at)?;
+    let front_bits = scrambled.len();
+    symbols(rate, &counts, kind.front_chips(), &mut phase, &mut scrambled)?;
+
+    let bits = unscramble(&scrambled);
+    for (octet, octet_bits) in octets.iter_mut().zip(bits[front_bits..].chunks(8)) {
+        *octet = number_of(octet_bits) as u8;
+    }
+    let (rate, length) = (u64::from(rate.code()), u64::from(header.length));
+    Ok(Read { number: 0, place: 0, rate, length, n: n as u64, used: used as u64 })
+}
+
+/// 9: the counts of a part's chips, or the place of its first unusable chip.
+fn usable_counts(recording: Recording, from: usize, to: usize) -> Result<Vec<Counts>, (u64, usize)> {
+    let counts = |place| recording.chip(place).map(|chip| chip.counts()).ok_or((refusals::UNUSABLE, place));
+    (from..to).map(counts).collect()
+}
+
+/// 10: decides a run of symbols at one rate that starts at a place; their scrambled bits are added in sending order.
+fn symbols(rate: Rate, counts: &[Counts], start: usize, phase: &mut Phase, scrambled: &mut Vec<u8>) -> Result<(), Read> {
+    for (symbol, chips) in counts.chunks(rate.chips_per_symbol()).enumerate() {
+        let decided = decide(rate, chips);
+        let place = start + symbol * rate.chips_per_symbol();
+        receive(rate, symbol, *phase, decided, scrambled).ok_or(Read::refused_at((refusals::GROWTH, place)))?;
+        *phase = decided.phase;
+    }
+    Ok(())
+}

@@ -1,0 +1,42 @@
+//! # What is refused, in this order
+//!
+//! Writing: 1, 2, 3, 4, 5, 6. Reading: 1, 7, 8, then 9 and 10 over the front, 11, 12, 13, 14, 15, 16, 17, then 9 and
+//! 10 over the payload. In each part, 9 is looked for through the whole part before 10.
+
+/// kind is neither 0 (long) nor 1 (short)
+pub const KIND: u64 = 1;
+/// rate code isn't one of the four
+pub const RATE: u64 = 2;
+/// rate code 10 with the short kind
+pub const SHORT_AT_10: u64 = 3;
+/// payload is 0 octets or above 4,095
+pub const PAYLOAD: u64 = 4;
+/// starting phase above 3
+pub const PHASE: u64 = 5;
+/// chip buffer shorter than the frame
+pub const CHIP_BUFFER: u64 = 6;
+/// I and Q rows differ in length
+pub const ROWS: u64 = 7;
+/// recording shorter than the front
+pub const FRONT: u64 = 8;
+/// an unusable chip in the part; place: the first such chip
+pub const UNUSABLE: u64 = 9;
+/// a 1 Mbit/s symbol, the recording's first excepted, grown by 1 or 3; place: the first chip of the first such symbol
+pub const GROWTH: u64 = 10;
+/// unscrambled SFD differs
+pub const SFD: u64 = 11;
+/// CRC differs
+pub const CRC: u64 = 12;
+/// SIGNAL not a rate of this kind
+pub const SIGNAL: u64 = 13;
+/// at 11 Mbit/s SERVICE is neither 0 nor 128; at the other rates it isn't 0
+pub const SERVICE: u64 = 14;
+/// n outside 1 to 4,095, or the writer's LENGTH and bit 7 for n differ from those read
+pub const LENGTH: u64 = 15;
+/// recording ends inside the payload
+pub const ENDS: u64 = 16;
+/// octet buffer shorter than n
+pub const OCTET_BUFFER: u64 = 17;
+
+/// The longest payload in octets.
+pub const MOST_OCTETS: usize = 4095;
