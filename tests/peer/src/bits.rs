@@ -3,7 +3,7 @@
 //! What a symbol's bits do to the phase, at each rate, and the way back.
 
 use crate::chips::{growth, turned, Counts, Phase};
-use crate::symbols::{barker, cck, cck_number, cck_phases, choose, ALLOWED_11, ALLOWED_5_5, ALLOWED_BARKER};
+use crate::symbols::{barker, cck, cck_phases, choose, ALLOWED_11, ALLOWED_5_5, ALLOWED_BARKER};
 
 #[derive(Clone, Copy, PartialEq, Eq, Debug)]
 pub enum Rate {
@@ -82,33 +82,29 @@ pub fn send(rate: Rate, symbol: usize, bits: &[u8], phase: &mut Phase, chips: &m
     }
 }
 
-/// A decided symbol: its phase, and the phases that carry bits of their own at the CCK rates.
-#[derive(Clone, Copy)]
-pub struct Decided {
-    pub phase: Phase,
-    inner: (Phase, Phase, Phase),
-}
-
-/// Chooses among the words allowed at the rate.
-pub fn decide(rate: Rate, chips: &[Counts]) -> Decided {
-    let cck_word = |number: u8| {
-        let (p1, p2, p3, p4) = cck_phases(number);
-        debug_assert_eq!(cck_number(p1, p2, p3, p4), number);
-        Decided { phase: p1, inner: (p2, p3, p4) }
-    };
+/// The number of the symbol decided among the words allowed at the rate.
+pub fn decide(rate: Rate, chips: &[Counts]) -> u8 {
     let eleven = || chips.try_into().expect("a Barker symbol has 11 chips");
     let eight = || chips.try_into().expect("a CCK symbol has 8 chips");
     match rate {
-        Rate::Mbit1 | Rate::Mbit2 => Decided { phase: choose(&ALLOWED_BARKER, eleven()), inner: (0, 0, 0) },
-        Rate::Mbit5_5 => cck_word(choose(&ALLOWED_5_5, eight())),
-        Rate::Mbit11 => cck_word(choose(&ALLOWED_11, eight())),
+        Rate::Mbit1 | Rate::Mbit2 => choose(&ALLOWED_BARKER, eleven()),
+        Rate::Mbit5_5 => choose(&ALLOWED_5_5, eight()),
+        Rate::Mbit11 => choose(&ALLOWED_11, eight()),
+    }
+}
+
+/// The symbol phase: p of a Barker symbol, p1 of a CCK word.
+pub fn symbol_phase(rate: Rate, number: u8) -> Phase {
+    match rate {
+        Rate::Mbit1 | Rate::Mbit2 => number,
+        Rate::Mbit5_5 | Rate::Mbit11 => cck_phases(number).0,
     }
 }
 
 /// The bits of a decided symbol that grew from the phase before it, or none for a 1 Mbit/s symbol grown by 1 or 3.
-pub fn receive(rate: Rate, symbol: usize, before: Phase, decided: Decided, bits: &mut Vec<u8>) -> Option<()> {
-    let grown = growth(before, decided.phase);
-    let (p2, p3, p4) = decided.inner;
+pub fn receive(rate: Rate, symbol: usize, before: Phase, number: u8, bits: &mut Vec<u8>) -> Option<()> {
+    let grown = growth(before, symbol_phase(rate, number));
+    let (_, p2, p3, p4) = cck_phases(number);
     match rate {
         Rate::Mbit1 if grown % 2 == 1 => return None,
         Rate::Mbit1 => bits.push(grown / 2),

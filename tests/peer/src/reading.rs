@@ -1,6 +1,6 @@
 //! Reading: from recorded chips back to the payload, with its refusals in their order.
 
-use crate::bits::{decide, receive, Rate};
+use crate::bits::{decide, receive, symbol_phase, Rate};
 use crate::chips::{Counts, Phase, Recording};
 use crate::frame::{number_of, unscramble, Header, Kind};
 use crate::refusals;
@@ -61,7 +61,7 @@ fn read_front(kind: u64, recording: Recording) -> Result<Front, Read> {
     let counts = usable_counts(recording, 0, kind.front_chips()).map_err(Read::refused_at)?;
 
     // The first symbol serves only as reference: taken as grown by 0, its bit reaches SYNC bits only.
-    let mut phase = decide(Rate::Mbit1, &counts[..11]).phase;
+    let mut phase = decide(Rate::Mbit1, &counts[..11]);
     let mut scrambled = Vec::new();
     let (before_header, header) = counts.split_at(11 * kind.bits_before_header());
     symbols(Rate::Mbit1, before_header, 0, &mut phase, &mut scrambled)?;
@@ -125,10 +125,10 @@ fn usable_counts(recording: Recording, from: usize, to: usize) -> Result<Vec<Cou
 /// 10: decides a run of symbols at one rate that starts at a place; their scrambled bits are added in sending order.
 fn symbols(rate: Rate, counts: &[Counts], start: usize, phase: &mut Phase, scrambled: &mut Vec<u8>) -> Result<(), Read> {
     for (symbol, chips) in counts.chunks(rate.chips_per_symbol()).enumerate() {
-        let decided = decide(rate, chips);
+        let number = decide(rate, chips);
         let place = start + symbol * rate.chips_per_symbol();
-        receive(rate, symbol, *phase, decided, scrambled).ok_or(Read::refused_at((refusals::GROWTH, place)))?;
-        *phase = decided.phase;
+        receive(rate, symbol, *phase, number, scrambled).ok_or(Read::refused_at((refusals::GROWTH, place)))?;
+        *phase = symbol_phase(rate, number);
     }
     Ok(())
 }

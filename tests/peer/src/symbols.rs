@@ -28,12 +28,7 @@ pub fn cck(p1: Phase, p2: Phase, p3: Phase, p4: Phase) -> [Phase; 8] {
     .map(|sum| sum % 4)
 }
 
-/// The number of a word is 64·p1 + 16·p2 + 4·p3 + p4.
-pub fn cck_number(p1: Phase, p2: Phase, p3: Phase, p4: Phase) -> u8 {
-    64 * p1 + 16 * p2 + 4 * p3 + p4
-}
-
-/// The phases p1 to p4 of a word's number.
+/// The number of a word is 64·p1 + 16·p2 + 4·p3 + p4; this gives p1 to p4 back.
 pub fn cck_phases(number: u8) -> (Phase, Phase, Phase, Phase) {
     (number / 64, number / 16 % 4, number / 4 % 4, number % 4)
 }

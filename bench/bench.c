@@ -1,0 +1,266 @@
+/* bench.c: how long the library takes beside plain C, in one run.
+ *
+ *   bench [milliseconds]     the least time of one measurement, 100 if not given
+ *
+ * Each call is first made once by both, and the answers and buffers must agree. The count of calls
+ * is then doubled until one measurement lasts long enough; the time shown is the median of five,
+ * the library and plain C measured in turn. Buffers are lent whole and at the frame's size, and each
+ * call fills them, as in use. Both are built with the same optimisation.
+ *
+ * The variable DSSS_EMULATED, set by scripts/x86run, says that no real processor is timed: chips per
+ * second and the multiple of 11 Mchip/s are left out then. */
+#define _POSIX_C_SOURCE 200809L
+#include "plain.h"
+
+#include <inttypes.h>
+#include <stdio.h>
+#include <stdlib.h>
+#include <string.h>
+#include <sys/utsname.h>
+#include <time.h>
+
+enum { OCTETS = 1500, ROUNDS = 5 };
+
+struct library {
+    const char *name;
+    dsss_written (*write)(uint64_t, uint64_t, uint64_t, const uint8_t *, size_t, uint8_t *, size_t);
+    dsss_record (*read_hard)(uint64_t, const uint8_t *, size_t, uint8_t *, size_t);
+    dsss_record (*read_soft)(uint64_t, const float *, size_t, const float *, size_t, uint8_t *,
+                             size_t);
+};
+
+static const struct library libraries[2] = {
+    {"dsss", dsss_write, dsss_read_hard, dsss_read_soft},
+    {"plain", plain_write, plain_read_hard, plain_read_soft},
+};
+
+static const struct {
+    uint64_t code;
+    const char *name;
+} rates[] = {{DSSS_RATE_1, "1"}, {DSSS_RATE_2, "2"}, {DSSS_RATE_5_5, "5.5"}, {DSSS_RATE_11, "11"}};
+
+static const char *const kinds[] = {"long", "short"};
+
+/* The rows of the call under measurement. */
+static uint8_t payload[DSSS_PAYLOAD_MAX], chips[DSSS_CHIPS_MAX], octets[DSSS_PAYLOAD_MAX];
+static float i_row[DSSS_CHIPS_MAX], q_row[DSSS_CHIPS_MAX];
+static uint64_t kind, rate;
+static size_t payload_len, chips_len;
+
+static double limit = 0.1; /* seconds */
+static int emulated;
+static volatile uint64_t sink; /* keeps what is computed from being dropped */
+
+static void fail(const char *message)
+{
+    fprintf(stderr, "bench: %s\n", message);
+    exit(1);
+}
+
+/* ---- The calls ------------------------------------------------------------------------------- */
+
+typedef uint64_t (*task)(const struct library *);
+
+static uint64_t write_task(const struct library *l)
+{
+    return l->write(kind, rate, 0, payload, payload_len, chips, chips_len).chips;
+}
+
+static uint64_t read_hard_task(const struct library *l)
+{
+    return l->read_hard(kind, chips, chips_len, octets, payload_len).used;
+}
+
+static uint64_t read_soft_task(const struct library *l)
+{
+    return l->read_soft(kind, i_row, chips_len, q_row, chips_len, octets, payload_len).used;
+}
+
+static const struct {
+    const char *name;
+    task task;
+} tasks[] = {{"write", write_task}, {"read hard", read_hard_task}, {"read soft", read_soft_task}};
+
+/* Noise, the same in every run: xorshift. */
+static uint32_t noise(void)
+{
+    static uint32_t state = 2463534242u;
+
+    state ^= state << 13;
+    state ^= state >> 17;
+    state ^= state << 5;
+    return state;
+}
+
+/* A soft recording of the frame: each chip 0.9 strong, with noise of up to 0.25 on I and Q. */
+static void record_soft(void)
+{
+    static const float level[5] = {0.9f, 0.0f, -0.9f, 0.0f, 0.9f};
+
+    for (size_t k = 0; k < chips_len; k++) {
+        i_row[k] = level[chips[k]] + (float)(noise() % 512) / 1024.0f - 0.25f;
+        q_row[k] = level[(chips[k] + 3) % 4] + (float)(noise() % 512) / 1024.0f - 0.25f;
+    }
+}
+
+/* Sets the rows up for one frame. */
+static void set_up(uint64_t new_kind, uint64_t new_rate, size_t n)
+{
+    kind = new_kind;
+    rate = new_rate;
+    payload_len = n;
+    chips_len = plain_write(kind, rate, 0, payload, n, chips, DSSS_CHIPS_MAX).chips;
+    if (chips_len == 0)
+        fail("plain C refuses to write");
+    record_soft();
+}
+
+/* Both libraries answer the same, and the payload comes back. */
+static void agree(void)
+{
+    static uint8_t first[DSSS_CHIPS_MAX];
+
+    for (size_t l = 0; l < 2; l++) {
+        if (write_task(&libraries[l]) != chips_len)
+            fail("a write is refused");
+        if (l == 0)
+            memcpy(first, chips, chips_len);
+        if (memcmp(first, chips, chips_len) != 0)
+            fail("the frames differ");
+        for (size_t t = 1; t < 3; t++) {
+            memset(octets, 0, sizeof octets);
+            if (tasks[t].task(&libraries[l]) != chips_len
+                || memcmp(payload, octets, payload_len) != 0)
+                fail("a payload does not come back");
+        }
+    }
+}
+
+/* ---- Measuring ------------------------------------------------------------------------------- */
+
+static double seconds(void)
+{
+    struct timespec now;
+
+    clock_gettime(CLOCK_MONOTONIC, &now);
+    return (double)now.tv_sec + 1e-9 * (double)now.tv_nsec;
+}
+
+static double time_of(task task, const struct library *l, uint64_t count)
+{
+    double start = seconds();
+
+    for (uint64_t k = 0; k < count; k++)
+        sink += task(l);
+    return seconds() - start;
+}
+
+static int by_size(const void *a, const void *b)
+{
+    double x = *(const double *)a, y = *(const double *)b;
+
+    return (x > y) - (x < y);
+}
+
+/* Nanoseconds a call, for each library. */
+static void measure(task task, double ns[2])
+{
+    uint64_t count[2] = {1, 1};
+    double times[2][ROUNDS];
+
+    for (size_t l = 0; l < 2; l++)
+        while (time_of(task, &libraries[l], count[l]) < limit)
+            count[l] *= 2;
+    for (size_t round = 0; round < ROUNDS; round++)
+        for (size_t l = 0; l < 2; l++)
+            times[l][round] = time_of(task, &libraries[l], count[l]) * 1e9 / (double)count[l];
+    for (size_t l = 0; l < 2; l++) {
+        qsort(times[l], ROUNDS, sizeof times[l][0], by_size);
+        ns[l] = times[l][ROUNDS / 2];
+    }
+}
+
+/* ---- The tables ------------------------------------------------------------------------------ */
+
+static void head(void)
+{
+    struct utsname system;
+
+    printf("dsss (version %d) beside plain C, median of %d, at least %.0f ms each\n", DSSS_VERSION,
+           ROUNDS, limit * 1000);
+    printf("machine %s, compiler of plain C %s\n", uname(&system) < 0 ? "?" : system.machine,
+           __VERSION__);
+    if (emulated)
+        printf("UNDER AN EMULATOR: times are the emulator's; chips per second and the multiple of\n"
+               "11 Mchip/s are not printed\n");
+    printf("ratio: time of dsss / time of plain C, below 1 if dsss is faster\n");
+}
+
+static void one_line(const char *name, const char *rate_name, task task)
+{
+    double ns[2];
+
+    measure(task, ns);
+    printf("%-9s  %-5s  %4s  %7zu  %12.0f  %12.0f  %6.2f", name, kinds[kind], rate_name, chips_len,
+           ns[0], ns[1], ns[0] / ns[1]);
+    if (!emulated) {
+        double rate_of_chips = (double)chips_len * 1e9 / ns[0];
+        printf("  %9.1f  %8.2f", rate_of_chips / 1e6, rate_of_chips / 11e6);
+    }
+    printf("\n");
+    fflush(stdout);
+}
+
+static void all_calls(void)
+{
+    printf("\nframes of %d octets\n%-9s  %-5s  %4s  %7s  %12s  %12s  %6s%s\n", OCTETS, "call", "kind",
+           "rate", "chips", "dsss ns", "plain ns", "ratio",
+           emulated ? "" : "    Mchip/s  x 11 M/s");
+    for (size_t t = 0; t < 3; t++)
+        for (uint64_t k = DSSS_LONG; k <= DSSS_SHORT; k++)
+            for (size_t r = k == DSSS_SHORT ? 1 : 0; r < 4; r++) {
+                set_up(k, rates[r].code, OCTETS);
+                agree();
+                one_line(tasks[t].name, rates[r].name, tasks[t].task);
+            }
+}
+
+/* Chips and times as multiples of the first line's: they rise together if the cost is per chip. */
+static void growth(void)
+{
+    static const size_t sizes[] = {100, 200, 400, 800, 1600, 3200, DSSS_PAYLOAD_MAX};
+    double ns[2], first[3] = {0, 0, 0};
+
+    printf("\nwrite, long, 11 Mbit/s, from 100 to 4,095 octets; x: times the first line\n");
+    printf("%6s  %7s  %12s  %12s  %6s  %8s  %7s  %8s\n", "octets", "chips", "dsss ns", "plain ns",
+           "ratio", "chips x", "dsss x", "plain x");
+    for (size_t s = 0; s < sizeof sizes / sizeof sizes[0]; s++) {
+        set_up(DSSS_LONG, DSSS_RATE_11, sizes[s]);
+        agree();
+        measure(write_task, ns);
+        if (s == 0) {
+            first[0] = ns[0];
+            first[1] = ns[1];
+            first[2] = (double)chips_len;
+        }
+        printf("%6zu  %7zu  %12.0f  %12.0f  %6.2f  %8.2f  %7.2f  %8.2f\n", payload_len, chips_len,
+               ns[0], ns[1], ns[0] / ns[1], (double)chips_len / first[2], ns[0] / first[0],
+               ns[1] / first[1]);
+        fflush(stdout);
+    }
+}
+
+int main(int argc, char **argv)
+{
+    const char *set = getenv("DSSS_EMULATED");
+
+    emulated = set && strcmp(set, "") != 0 && strcmp(set, "0") != 0;
+    if (argc > 2 || (argc == 2 && (limit = atof(argv[1]) / 1000) <= 0))
+        fail("usage: bench [milliseconds]");
+    for (size_t k = 0; k < sizeof payload; k++)
+        payload[k] = (uint8_t)noise();
+    head();
+    all_calls();
+    growth();
+    return 0;
+}

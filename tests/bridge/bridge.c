@@ -1,0 +1,241 @@
+/* bridge.c: the library behind a pipe, for test programs that cannot be linked with it.
+ *
+ * Requests on stdin, one answer each on stdout, both binary and little-endian. A request is a u64
+ * op and then
+ *   1, write      u64 kind, rate, phase, payload_len, chips_len; the payload
+ *   2, read hard  u64 kind, chips_len, octets_len; the chips
+ *   3, read soft  u64 kind, i_len, q_len, octets_len; i_len f32, q_len f32, raw bits
+ * An answer is the record (1: number, chips; 2 and 3: number, place, rate, length, n, used; u64
+ * each), every octet of the lent buffer as the call left it, and a u64 guard: 0 if all is as it was
+ * around the rows and in those lent for reading only, else 1.
+ *
+ * The lent buffer holds 0xAA before the call. A row of length 0 is passed as NULL; any other stands
+ * between guard octets, octets at odd addresses and floats at multiples of 4 that are none of 16.
+ * Called as `bridge pages`, each row ends where memory ends instead: a read past it kills the
+ * bridge, on every processor.
+ *
+ * Answers are flushed when no further input is at hand, so requests may be sent ahead of answers.
+ * Status 0 at an end of input between requests; else 1 and a message on stderr. */
+#define _DEFAULT_SOURCE
+#include "dsss.h"
+
+#include <stdio.h>
+#include <stdlib.h>
+#include <string.h>
+#include <sys/mman.h>
+#include <unistd.h>
+
+enum { GUARD = 64, GUARD_OCTET = 0x5C, OLD_OCTET = 0xAA };
+
+static int pages; /* rows end where memory ends */
+
+static void die(const char *message)
+{
+    fprintf(stderr, "bridge: %s\n", message);
+    exit(1);
+}
+
+/* ---- Input and output ------------------------------------------------------------------------ */
+
+static uint8_t input[1 << 16];
+static size_t input_at, input_end;
+
+/* More input; false at its end. Nothing is at hand here, so the answers go out first. */
+static int more(void)
+{
+    if (fflush(stdout) != 0)
+        die("cannot write an answer");
+    ssize_t got = read(STDIN_FILENO, input, sizeof input);
+    if (got < 0)
+        die("cannot read a request");
+    input_at = 0;
+    input_end = (size_t)got;
+    return got > 0;
+}
+
+static void get(void *to, size_t len)
+{
+    uint8_t *next = to;
+
+    while (len > 0) {
+        if (input_at == input_end && !more())
+            die("input ends inside a request");
+        size_t some = input_end - input_at < len ? input_end - input_at : len;
+        memcpy(next, input + input_at, some);
+        input_at += some;
+        next += some;
+        len -= some;
+    }
+}
+
+static uint64_t get_number(void)
+{
+    uint64_t number;
+
+    get(&number, sizeof number);
+    return number;
+}
+
+static void put(const void *from, size_t len)
+{
+    if (len > 0 && fwrite(from, 1, len, stdout) != len)
+        die("cannot write an answer");
+}
+
+/* ---- Rows ------------------------------------------------------------------------------------ */
+
+struct row {
+    uint8_t *memory, *copy; /* guard, row and guard; the copy from before the call */
+    size_t size;            /* of the memory, in octets */
+    size_t from, to;        /* where the row stands in it */
+    size_t held;            /* what must be given back */
+    int lent;               /* for writing */
+};
+
+/* Memory for a row that begins `before` octets into it and, with pages, ends where it ends. */
+static void find_memory(struct row *row, size_t before, size_t len)
+{
+    size_t page = (size_t)sysconf(_SC_PAGESIZE);
+
+    row->from = before;
+    row->to = before + len;
+    row->size = row->to + (pages ? 0 : GUARD);
+    if (!pages) {
+        row->memory = malloc(row->size);
+        return;
+    }
+    size_t span = (row->size + page - 1) / page * page;
+    row->held = span + page;
+    void *all = mmap(NULL, row->held, PROT_READ | PROT_WRITE, MAP_PRIVATE | MAP_ANONYMOUS, -1, 0);
+    if (all == MAP_FAILED || mprotect((uint8_t *)all + span, page, PROT_NONE) != 0)
+        die("no memory for a row");
+    row->memory = (uint8_t *)all + span - row->size;
+}
+
+/* A row of `count` elements of `width` octets, guards around it, and OLD_OCTET within. */
+static struct row make_row(uint64_t count, size_t width, int lent)
+{
+    struct row row = {0};
+
+    if (count > (1u << 30) / width)
+        die("a row is too long");
+    row.lent = lent;
+    find_memory(&row, width == 1 ? GUARD + 1 : GUARD + 4, (size_t)count * width);
+    row.copy = malloc(row.size);
+    if (!row.memory || !row.copy)
+        die("no memory for a row");
+    memset(row.memory, GUARD_OCTET, row.size);
+    memset(row.memory + row.from, OLD_OCTET, row.to - row.from);
+    return row;
+}
+
+static struct row read_row(uint64_t count, size_t width)
+{
+    struct row row = make_row(count, width, 0);
+
+    get(row.memory + row.from, row.to - row.from);
+    memcpy(row.copy, row.memory, row.size);
+    return row;
+}
+
+static struct row lent_row(uint64_t count)
+{
+    struct row row = make_row(count, 1, 1);
+
+    memcpy(row.copy, row.memory, row.size);
+    return row;
+}
+
+static void *pointer(const struct row *row)
+{
+    return row->to > row->from ? row->memory + row->from : NULL;
+}
+
+/* Frees a row and answers 1 if anything but a lent row's own octets has changed. */
+static uint64_t end_row(struct row *row)
+{
+    size_t from = row->lent ? row->from : row->size, to = row->lent ? row->to : row->size;
+    int changed = memcmp(row->memory, row->copy, from) != 0
+                  || memcmp(row->memory + to, row->copy + to, row->size - to) != 0;
+
+    if (pages)
+        munmap(row->memory + row->size + (size_t)sysconf(_SC_PAGESIZE) - row->held, row->held);
+    else
+        free(row->memory);
+    free(row->copy);
+    return changed ? 1 : 0;
+}
+
+static void put_lent(const struct row *row)
+{
+    put(row->memory + row->from, row->to - row->from);
+}
+
+static void put_guard(uint64_t guard)
+{
+    put(&guard, sizeof guard);
+}
+
+/* ---- Calls ----------------------------------------------------------------------------------- */
+
+static void call_write(void)
+{
+    uint64_t kind = get_number(), rate = get_number(), phase = get_number();
+    uint64_t payload_len = get_number(), chips_len = get_number();
+    struct row payload = read_row(payload_len, 1), chips = lent_row(chips_len);
+
+    dsss_written written = dsss_write(kind, rate, phase, pointer(&payload), (size_t)payload_len,
+                                      pointer(&chips), (size_t)chips_len);
+    put(&written, sizeof written);
+    put_lent(&chips);
+    put_guard(end_row(&payload) | end_row(&chips));
+}
+
+static void call_read_hard(void)
+{
+    uint64_t kind = get_number(), chips_len = get_number(), octets_len = get_number();
+    struct row chips = read_row(chips_len, 1), octets = lent_row(octets_len);
+
+    dsss_record record = dsss_read_hard(kind, pointer(&chips), (size_t)chips_len, pointer(&octets),
+                                        (size_t)octets_len);
+    put(&record, sizeof record);
+    put_lent(&octets);
+    put_guard(end_row(&chips) | end_row(&octets));
+}
+
+static void call_read_soft(void)
+{
+    uint64_t kind = get_number(), i_len = get_number(), q_len = get_number();
+    uint64_t octets_len = get_number();
+    struct row i = read_row(i_len, sizeof(float)), q = read_row(q_len, sizeof(float));
+    struct row octets = lent_row(octets_len);
+
+    dsss_record record = dsss_read_soft(kind, pointer(&i), (size_t)i_len, pointer(&q),
+                                        (size_t)q_len, pointer(&octets), (size_t)octets_len);
+    put(&record, sizeof record);
+    put_lent(&octets);
+    put_guard(end_row(&i) | end_row(&q) | end_row(&octets));
+}
+
+int main(int argc, char **argv)
+{
+    if (argc > 2 || (argc == 2 && strcmp(argv[1], "pages") != 0))
+        die("usage: bridge [pages]");
+    pages = argc == 2;
+    while (input_at < input_end || more()) {
+        switch (get_number()) {
+        case 1:
+            call_write();
+            break;
+        case 2:
+            call_read_hard();
+            break;
+        case 3:
+            call_read_soft();
+            break;
+        default:
+            die("an op that is not 1, 2 or 3");
+        }
+    }
+    return 0;
+}

@@ -1,0 +1,145 @@
+//! The bridge to the library: a program that answers one request after the other on its pipes.
+//!
+//! Requests go ahead of the answers in batches. A batch is handed to the comparing side before it is written, and the
+//! next is handed over only when it is written whole, so neither side waits for the other in a circle.
+
+use crate::calls::Call;
+use crate::families::{Family, Out};
+use std::io::{self, BufReader, Write};
+use std::process::{Child, ChildStdin, ChildStdout, Command, Stdio};
+use std::sync::mpsc::{sync_channel, SyncSender};
+use std::sync::{Arc, Mutex};
+use std::thread;
+use std::time::{Duration, Instant};
+
+/// A batch ends at so many calls or so many octets.
+const BATCH_CALLS: usize = 64;
+const BATCH_OCTETS: usize = 1 << 18;
+
+/// Mismatches of a family shown in full; the others are counted.
+const SHOWN: u64 = 3;
+
+/// Octets of a row shown with a mismatch.
+const CUT: usize = 6000;
+
+/// A bridge that gives no answer for so long has failed.
+const PATIENCE: Duration = Duration::from_secs(150);
+
+pub struct Bridge {
+    child: Arc<Mutex<Child>>,
+    requests: ChildStdin,
+    answers: BufReader<ChildStdout>,
+    last_answer: Arc<Mutex<Instant>>,
+}
+
+/// What a family came to.
+pub struct Outcome {
+    pub calls: u64,
+    pub mismatches: u64,
+}
+
+/// What is run: the longer or the shorter form of each family, and one case alone when it is run again.
+#[derive(Clone, Copy)]
+pub struct Run {
+    pub long: bool,
+    pub only_case: Option<u64>,
+}
+
+impl Bridge {
+    pub fn start(command: &[String]) -> io::Result<Bridge> {
+        let mut child =
+            Command::new(&command[0]).args(&command[1..]).stdin(Stdio::piped()).stdout(Stdio::piped()).spawn()?;
+        let requests = child.stdin.take().expect("piped");
+        let answers = BufReader::with_capacity(1 << 16, child.stdout.take().expect("piped"));
+        let (child, last_answer) = (Arc::new(Mutex::new(child)), Arc::new(Mutex::new(Instant::now())));
+        watch(child.clone(), last_answer.clone());
+        Ok(Bridge { child, requests, answers, last_answer })
+    }
+
+    /// Runs a family and compares every answer and every buffer. An error is a bridge that doesn't answer.
+    pub fn compare(&mut self, family: &Family, run: Run) -> io::Result<Outcome> {
+        let Bridge { requests, answers, last_answer, .. } = self;
+        let (sender, batches) = sync_channel::<Vec<(u64, Call)>>(2);
+        let mut outcome = Outcome { calls: 0, mismatches: 0 };
+        thread::scope(|scope| {
+            scope.spawn(move || send_family(family, run, requests, sender));
+            for (case, call) in batches.iter().flatten() {
+                let expected = call.expected();
+                let (answer, guarded) = call.answer(answers)?;
+                *last_answer.lock().expect("no panic") = Instant::now();
+                let equal = answer == expected && guarded;
+                if !equal && outcome.mismatches < SHOWN || run.only_case.is_some() {
+                    let cut = if run.only_case.is_some() { usize::MAX } else { CUT };
+                    let long = if run.long { "--long " } else { "" };
+                    println!("{} in {}, case {case}:", if equal { "equal" } else { "MISMATCH" }, family.name);
+                    println!("  run again: {long}--replay {} {case}", family.name);
+                    println!("  {}", call.shown(cut));
+                    println!("  expected {}", call.shown_answer(&expected, cut));
+                    println!("  library  {}", call.shown_answer(&answer, cut));
+                    if let Some(at) = (0..expected.buffer.len()).find(|at| expected.buffer[*at] != answer.buffer[*at]) {
+                        let (right, found) = (expected.buffer[at], answer.buffer[at]);
+                        println!("  buffer differs first at {at}: expected {right:02x}, library {found:02x}");
+                    }
+                    if !guarded {
+                        println!("  octets around the lent rows were changed");
+                    }
+                }
+                outcome.calls += 1;
+                outcome.mismatches += u64::from(!equal);
+            }
+            Ok(outcome)
+        })
+    }
+
+    /// Ends the requests; the bridge must then end by itself with status 0.
+    pub fn end(self) -> Result<(), String> {
+        let Bridge { child, requests, .. } = self;
+        drop(requests);
+        loop {
+            match child.lock().expect("no panic").try_wait() {
+                Ok(Some(status)) if status.success() => return Ok(()),
+                Ok(Some(status)) => return Err(format!("the bridge ended with {status}")),
+                Ok(None) => {}
+                Err(error) => return Err(format!("the bridge's end can't be told: {error}")),
+            }
+            thread::sleep(Duration::from_millis(10));
+        }
+    }
+}
+
+/// Makes a family's calls and sends them in batches.
+fn send_family(family: &Family, run: Run, requests: &mut ChildStdin, sender: SyncSender<Vec<(u64, Call)>>) {
+    let (mut batch, mut octets) = (Vec::new(), Vec::new());
+    let mut case = 0;
+    // A failed write needs no word here: the comparing side finds the answers missing.
+    let mut flush = |batch: &mut Vec<(u64, Call)>, octets: &mut Vec<u8>| {
+        if sender.send(std::mem::take(batch)).is_ok() {
+            let _ = requests.write_all(octets).and_then(|()| requests.flush());
+        }
+        octets.clear();
+    };
+    let mut take = |call: Call| {
+        if run.only_case.is_none_or(|only| only == case) {
+            call.request(&mut octets);
+            batch.push((case, call));
+        }
+        case += 1;
+        if batch.len() == BATCH_CALLS || octets.len() >= BATCH_OCTETS {
+            flush(&mut batch, &mut octets);
+        }
+    };
+    (family.calls)(&mut Out::new(family.seed, run.long, &mut take));
+    flush(&mut batch, &mut octets);
+}
+
+/// Ends a bridge that gives no answer any more; the comparing side then finds its pipe closed.
+fn watch(child: Arc<Mutex<Child>>, last_answer: Arc<Mutex<Instant>>) {
+    thread::spawn(move || loop {
+        thread::sleep(Duration::from_secs(5));
+        if last_answer.lock().expect("no panic").elapsed() > PATIENCE {
+            eprintln!("no answer for {} seconds", PATIENCE.as_secs());
+            let _ = child.lock().expect("no panic").kill();
+            return;
+        }
+    });
+}

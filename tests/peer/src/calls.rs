@@ -1,0 +1,153 @@
+//! One call of the library: its request to the bridge, the answer this program expects, and how both are shown.
+
+use crate::chips::Recording;
+use crate::reading::read;
+use crate::writing::write;
+use std::fmt::Write as _;
+use std::io::{self, Read};
+
+/// A call with its numbers and lent rows. Buffers lent for writing are given by their length alone.
+#[derive(Clone)]
+pub enum Call {
+    Write { kind: u64, rate: u64, phase: u64, payload: Vec<u8>, chips_len: usize },
+    ReadHard { kind: u64, chips: Vec<u8>, octets_len: usize },
+    ReadSoft { kind: u64, i: Vec<f32>, q: Vec<f32>, octets_len: usize },
+}
+
+/// What a call answers: its numbers in the order of the record, and the lent buffer after the call.
+#[derive(PartialEq, Eq)]
+pub struct Answer {
+    pub numbers: Vec<u64>,
+    pub buffer: Vec<u8>,
+}
+
+impl Call {
+    pub fn write(kind: u64, rate: u64, phase: u64, payload: Vec<u8>, chips_len: usize) -> Call {
+        Call::Write { kind, rate, phase, payload, chips_len }
+    }
+
+    pub fn hard(kind: u64, chips: Vec<u8>, octets_len: usize) -> Call {
+        Call::ReadHard { kind, chips, octets_len }
+    }
+
+    pub fn soft(kind: u64, (i, q): (Vec<f32>, Vec<f32>), octets_len: usize) -> Call {
+        Call::ReadSoft { kind, i, q, octets_len }
+    }
+
+    fn names(&self) -> &'static [&'static str] {
+        match self {
+            Call::Write { .. } => &["number", "chips"],
+            _ => &["number", "place", "rate", "length", "n", "used"],
+        }
+    }
+
+    fn buffer_len(&self) -> usize {
+        match self {
+            Call::Write { chips_len, .. } => *chips_len,
+            Call::ReadHard { octets_len, .. } | Call::ReadSoft { octets_len, .. } => *octets_len,
+        }
+    }
+
+    /// The request: the op and its numbers as u64, then the rows, all little-endian.
+    pub fn request(&self, to: &mut Vec<u8>) {
+        let mut numbers = |list: &[u64]| list.iter().for_each(|number| to.extend(number.to_le_bytes()));
+        match self {
+            Call::Write { kind, rate, phase, payload, chips_len } => {
+                numbers(&[1, *kind, *rate, *phase, payload.len() as u64, *chips_len as u64]);
+                to.extend(payload);
+            }
+            Call::ReadHard { kind, chips, octets_len } => {
+                numbers(&[2, *kind, chips.len() as u64, *octets_len as u64]);
+                to.extend(chips);
+            }
+            Call::ReadSoft { kind, i, q, octets_len } => {
+                numbers(&[3, *kind, i.len() as u64, q.len() as u64, *octets_len as u64]);
+                to.extend(i.iter().chain(q).flat_map(|x| x.to_bits().to_le_bytes()));
+            }
+        }
+    }
+
+    /// The library's answer as the bridge sends it, and whether the octets around the lent rows were left alone.
+    pub fn answer(&self, from: &mut impl Read) -> io::Result<(Answer, bool)> {
+        let mut number = [0; 8];
+        let mut numbers = Vec::new();
+        for _ in self.names() {
+            from.read_exact(&mut number)?;
+            numbers.push(u64::from_le_bytes(number));
+        }
+        let mut buffer = vec![0; self.buffer_len()];
+        from.read_exact(&mut buffer)?;
+        from.read_exact(&mut number)?;
+        Ok((Answer { numbers, buffer }, u64::from_le_bytes(number) == 0))
+    }
+
+    /// The answer that the document gives. The buffer starts with other contents than any call leaves.
+    pub fn expected(&self) -> Answer {
+        let mut buffer = vec![0x77; self.buffer_len()];
+        let numbers = match self {
+            Call::Write { kind, rate, phase, payload, .. } => {
+                let written = write(*kind, *rate, *phase, payload, &mut buffer);
+                vec![written.number, written.chips]
+            }
+            Call::ReadHard { kind, chips, .. } => record(read(*kind, Recording::Hard(chips), &mut buffer)),
+            Call::ReadSoft { kind, i, q, .. } => record(read(*kind, Recording::Soft(i, q), &mut buffer)),
+        };
+        Answer { numbers, buffer }
+    }
+
+    /// The call with all its numbers and its rows in hex, each row cut after so many octets.
+    pub fn shown(&self, cut: usize) -> String {
+        match self {
+            Call::Write { kind, rate, phase, payload, chips_len } => format!(
+                "write: kind {kind}, rate {rate}, phase {phase}, payload_len {}, chips_len {chips_len}\n  payload {}",
+                payload.len(),
+                hex(payload, cut)
+            ),
+            Call::ReadHard { kind, chips, octets_len } => format!(
+                "read hard: kind {kind}, chips_len {}, octets_len {octets_len}\n  chips {}",
+                chips.len(),
+                hex(chips, cut)
+            ),
+            Call::ReadSoft { kind, i, q, octets_len } => format!(
+                "read soft: kind {kind}, i_len {}, q_len {}, octets_len {octets_len}\n  i (bits of each f32) {}\n  \
+                 q (bits of each f32) {}",
+                i.len(),
+                q.len(),
+                hex_row(i, cut),
+                hex_row(q, cut)
+            ),
+        }
+    }
+
+    /// An answer's numbers by name and its buffer in hex.
+    pub fn shown_answer(&self, answer: &Answer, cut: usize) -> String {
+        let numbers: Vec<String> =
+            self.names().iter().zip(&answer.numbers).map(|(name, number)| format!("{name} {number}")).collect();
+        format!("{}; buffer {}", numbers.join(", "), hex(&answer.buffer, cut))
+    }
+}
+
+fn record(read: crate::reading::Read) -> Vec<u64> {
+    vec![read.number, read.place, read.rate, read.length, read.n, read.used]
+}
+
+fn hex(octets: &[u8], cut: usize) -> String {
+    let mut text = String::new();
+    for octet in octets.iter().take(cut) {
+        write!(text, "{octet:02x}").expect("a String takes all");
+    }
+    text + rest(octets.len(), cut)
+}
+
+fn hex_row(row: &[f32], cut: usize) -> String {
+    let words: Vec<String> = row.iter().take(cut / 4).map(|x| format!("{:08x}", x.to_bits())).collect();
+    words.join(" ") + rest(row.len(), cut / 4)
+}
+
+fn rest(len: usize, cut: usize) -> &'static str {
+    match len {
+        0 => "(empty)",
+        len if len > cut => " .. (cut; --replay shows all)",
+        _ => "",
+    }
+}

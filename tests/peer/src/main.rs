@@ -1,0 +1,144 @@
+//! The independent second program: document 01 written again, laid out in its order with its headings, and compared by
+//! running with the library behind a bridge.
+//!
+//! ```text
+//! peer [--long] [--vectors DIR] [--family NAME] [--replay NAME CASE] -- BRIDGE WORDS..
+//! peer --list
+//! ```
+//!
+//! Every run checks this program against Table P and against the published figures in DIR (tests/vectors if not given),
+//! then makes the calls of each family and compares every answer and every buffer. It ends with status 1 on a
+//! difference, on fewer calls than are owed, on a bridge that dies, and on a missing file of figures. A family or a
+//! replayed case alone owes no number of calls. A replay prints the whole call and both answers.
+//!
+//! Built with no crates: rustc -O --edition 2021 tests/peer/src/main.rs -o target/peer/peer
+#![forbid(unsafe_code)]
+
+// The document, in its order.
+mod chips;
+mod symbols;
+mod bits;
+mod frame;
+mod refusals;
+mod writing;
+mod reading;
+mod table_p;
+
+// The comparison.
+mod bridge;
+mod calls;
+mod families;
+mod figures;
+mod random;
+
+use bridge::{Bridge, Run};
+use families::{Family, FAMILIES};
+use figures::Figures;
+use std::path::PathBuf;
+use std::process::ExitCode;
+use std::time::Instant;
+
+/// The calls that a whole run owes.
+const OWED: u64 = 100_000;
+
+struct Options {
+    run: Run,
+    vectors: PathBuf,
+    family: Option<String>,
+    bridge: Vec<String>,
+}
+
+fn options() -> Result<Option<Options>, String> {
+    let mut words = std::env::args().skip(1);
+    let run = Run { long: false, only_case: None };
+    let mut options = Options { run, vectors: "tests/vectors".into(), family: None, bridge: Vec::new() };
+    while let Some(word) = words.next() {
+        let mut value = || words.next().ok_or(format!("{word} needs a value"));
+        match word.as_str() {
+            "--long" => options.run.long = true,
+            "--vectors" => options.vectors = value()?.into(),
+            "--family" => options.family = Some(value()?),
+            "--replay" => {
+                options.family = Some(value()?);
+                let case = value()?;
+                options.run.only_case = Some(case.parse().map_err(|_| format!("{case} is no case number"))?);
+            }
+            "--list" => return Ok(None),
+            "--" => options.bridge = words.by_ref().collect(),
+            _ => return Err(format!("unknown option {word}")),
+        }
+    }
+    if options.bridge.is_empty() {
+        return Err("the bridge's command is missing after --".to_string());
+    }
+    Ok(Some(options))
+}
+
+fn list() {
+    for family in FAMILIES {
+        println!("{:<32}  {}", family.name, family.shows);
+    }
+}
+
+/// The families asked for: all, or the one named.
+fn chosen(name: &Option<String>) -> Result<Vec<&'static Family>, String> {
+    let families: Vec<_> =
+        FAMILIES.iter().filter(|family| name.as_ref().is_none_or(|name| name == family.name)).collect();
+    if families.is_empty() { Err("no such family; --list names them".to_string()) } else { Ok(families) }
+}
+
+fn run() -> Result<(), String> {
+    let Some(options) = options()? else {
+        list();
+        return Ok(());
+    };
+    let differences = table_p::differences();
+    if !differences.is_empty() {
+        return Err(format!("this program isn't as the document says: {}", differences.join("; ")));
+    }
+    println!("Table P: 12 entries as the document says");
+    let figures = Figures::load(&options.vectors)?;
+    for (name, count) in figures.check()? {
+        println!("{name}: {count} figures agree");
+    }
+
+    let families = chosen(&options.family)?;
+    let mut bridge = Bridge::start(&options.bridge).map_err(|error| format!("the bridge didn't start: {error}"))?;
+    println!("{:<32} {:>9} {:>11} {:>8}", "family", "calls", "mismatches", "seconds");
+    let (mut calls, mut mismatches) = (0, 0);
+    let start = Instant::now();
+    for family in families {
+        let began = Instant::now();
+        let outcome = bridge
+            .compare(family, options.run)
+            .map_err(|error| format!("{}: the bridge died or sent no whole answer: {error}", family.name))?;
+        let seconds = began.elapsed().as_secs_f64();
+        println!("{:<32} {:>9} {:>11} {seconds:>8.1}", family.name, outcome.calls, outcome.mismatches);
+        calls += outcome.calls;
+        mismatches += outcome.mismatches;
+    }
+    println!("{:<32} {calls:>9} {mismatches:>11} {:>8.1}", "total", start.elapsed().as_secs_f64());
+    bridge.end()?;
+    let owed = match (options.run.only_case, &options.family) {
+        (Some(_), _) => 1,
+        (None, Some(_)) => 1,
+        (None, None) => OWED,
+    };
+    if mismatches > 0 {
+        return Err(format!("{mismatches} of {calls} calls differ"));
+    }
+    if calls < owed {
+        return Err(format!("{calls} calls made, {owed} owed"));
+    }
+    Ok(())
+}
+
+fn main() -> ExitCode {
+    match run() {
+        Ok(()) => ExitCode::SUCCESS,
+        Err(message) => {
+            println!("FAILED: {message}");
+            ExitCode::FAILURE
+        }
+    }
+}
