@@ -4,11 +4,11 @@
  *
  * Each call is first made once by both, and the answers and buffers must agree. The count of calls
  * is then doubled until one measurement lasts long enough; the time shown is the median of five,
- * the library and plain C measured in turn. Buffers are lent whole and at the frame's size, and each
- * call fills them, as in use. Both are built with the same optimisation.
+ * the library and plain C measured in turn. Buffers have just the size needed, and each call fills
+ * them, as in use. Both are built with the same optimisation.
  *
- * The variable DSSS_EMULATED, set by scripts/x86run, says that no real processor is timed: chips per
- * second and the multiple of 11 Mchip/s are left out then. */
+ * The variable DSSS_EMULATED, set by scripts/x86run, says that no real processor is timed: chips
+ * per second and the multiple of 11 Mchip/s are left out then. */
 #define _POSIX_C_SOURCE 200809L
 #include "plain.h"
 
@@ -22,7 +22,6 @@
 enum { OCTETS = 1500, ROUNDS = 5 };
 
 struct library {
-    const char *name;
     dsss_written (*write)(uint64_t, uint64_t, uint64_t, const uint8_t *, size_t, uint8_t *, size_t);
     dsss_record (*read_hard)(uint64_t, const uint8_t *, size_t, uint8_t *, size_t);
     dsss_record (*read_soft)(uint64_t, const float *, size_t, const float *, size_t, uint8_t *,
@@ -30,8 +29,8 @@ struct library {
 };
 
 static const struct library libraries[2] = {
-    {"dsss", dsss_write, dsss_read_hard, dsss_read_soft},
-    {"plain", plain_write, plain_read_hard, plain_read_soft},
+    {dsss_write, dsss_read_hard, dsss_read_soft},
+    {plain_write, plain_read_hard, plain_read_soft},
 };
 
 static const struct {
@@ -59,7 +58,8 @@ static void fail(const char *message)
 
 /* ---- The calls ------------------------------------------------------------------------------- */
 
-typedef uint64_t (*task)(const struct library *);
+/* One call of a library; plain C's parts, timed alone, leave the library out. */
+typedef uint64_t (*task_fn)(const struct library *);
 
 static uint64_t write_task(const struct library *l)
 {
@@ -78,7 +78,7 @@ static uint64_t read_soft_task(const struct library *l)
 
 static const struct {
     const char *name;
-    task task;
+    task_fn task;
 } tasks[] = {{"write", write_task}, {"read hard", read_hard_task}, {"read soft", read_soft_task}};
 
 /* Noise, the same in every run: xorshift. */
@@ -146,7 +146,7 @@ static double seconds(void)
     return (double)now.tv_sec + 1e-9 * (double)now.tv_nsec;
 }
 
-static double time_of(task task, const struct library *l, uint64_t count)
+static double time_of(task_fn task, const struct library *l, uint64_t count)
 {
     double start = seconds();
 
@@ -162,19 +162,19 @@ static int by_size(const void *a, const void *b)
     return (x > y) - (x < y);
 }
 
-/* Nanoseconds a call, for each library. */
-static void measure(task task, double ns[2])
+/* Nanoseconds a call, for the first `many` libraries. */
+static void measure(task_fn task, double *ns, size_t many)
 {
     uint64_t count[2] = {1, 1};
     double times[2][ROUNDS];
 
-    for (size_t l = 0; l < 2; l++)
+    for (size_t l = 0; l < many; l++)
         while (time_of(task, &libraries[l], count[l]) < limit)
             count[l] *= 2;
     for (size_t round = 0; round < ROUNDS; round++)
-        for (size_t l = 0; l < 2; l++)
+        for (size_t l = 0; l < many; l++)
             times[l][round] = time_of(task, &libraries[l], count[l]) * 1e9 / (double)count[l];
-    for (size_t l = 0; l < 2; l++) {
+    for (size_t l = 0; l < many; l++) {
         qsort(times[l], ROUNDS, sizeof times[l][0], by_size);
         ns[l] = times[l][ROUNDS / 2];
     }
@@ -196,11 +196,11 @@ static void head(void)
     printf("ratio: time of dsss / time of plain C, below 1 if dsss is faster\n");
 }
 
-static void one_line(const char *name, const char *rate_name, task task)
+static void one_line(const char *name, const char *rate_name, task_fn task)
 {
     double ns[2];
 
-    measure(task, ns);
+    measure(task, ns, 2);
     printf("%-9s  %-5s  %4s  %7zu  %12.0f  %12.0f  %6.2f", name, kinds[kind], rate_name, chips_len,
            ns[0], ns[1], ns[0] / ns[1]);
     if (!emulated) {
@@ -213,9 +213,9 @@ static void one_line(const char *name, const char *rate_name, task task)
 
 static void all_calls(void)
 {
-    printf("\nframes of %d octets\n%-9s  %-5s  %4s  %7s  %12s  %12s  %6s%s\n", OCTETS, "call", "kind",
-           "rate", "chips", "dsss ns", "plain ns", "ratio",
-           emulated ? "" : "    Mchip/s  x 11 M/s");
+    printf("\nframes of %d octets\n", OCTETS);
+    printf("%-9s  %-5s  %4s  %7s  %12s  %12s  %6s%s\n", "call", "kind", "rate", "chips", "dsss ns",
+           "plain ns", "ratio", emulated ? "" : "    Mchip/s  x 11 M/s");
     for (size_t t = 0; t < 3; t++)
         for (uint64_t k = DSSS_LONG; k <= DSSS_SHORT; k++)
             for (size_t r = k == DSSS_SHORT ? 1 : 0; r < 4; r++) {
@@ -225,28 +225,92 @@ static void all_calls(void)
             }
 }
 
-/* Chips and times as multiples of the first line's: they rise together if the cost is per chip. */
+/* The time of each octet more than the first line's stays as it is if the cost is linear. */
 static void growth(void)
 {
-    static const size_t sizes[] = {100, 200, 400, 800, 1600, 3200, DSSS_PAYLOAD_MAX};
-    double ns[2], first[3] = {0, 0, 0};
+    static const size_t sizes[] = {100, 400, 1600, DSSS_PAYLOAD_MAX};
+    double ns[2], first[2] = {0, 0};
 
-    printf("\nwrite, long, 11 Mbit/s, from 100 to 4,095 octets; x: times the first line\n");
-    printf("%6s  %7s  %12s  %12s  %6s  %8s  %7s  %8s\n", "octets", "chips", "dsss ns", "plain ns",
-           "ratio", "chips x", "dsss x", "plain x");
-    for (size_t s = 0; s < sizeof sizes / sizeof sizes[0]; s++) {
-        set_up(DSSS_LONG, DSSS_RATE_11, sizes[s]);
-        agree();
-        measure(write_task, ns);
-        if (s == 0) {
-            first[0] = ns[0];
-            first[1] = ns[1];
-            first[2] = (double)chips_len;
+    printf("\nwrite, long, from 100 to 4,095 octets; more: ns for each octet above 100\n");
+    printf("%4s  %6s  %7s  %12s  %12s  %6s  %10s  %10s\n", "rate", "octets", "chips", "dsss ns",
+           "plain ns", "ratio", "dsss more", "plain more");
+    for (size_t r = 0; r < 4; r++)
+        for (size_t s = 0; s < sizeof sizes / sizeof sizes[0]; s++) {
+            set_up(DSSS_LONG, rates[r].code, sizes[s]);
+            agree();
+            measure(write_task, ns, 2);
+            printf("%4s  %6zu  %7zu  %12.0f  %12.0f  %6.2f", rates[r].name, payload_len, chips_len,
+                   ns[0], ns[1], ns[0] / ns[1]);
+            if (s == 0)
+                memcpy(first, ns, sizeof first);
+            else
+                printf("  %10.2f  %10.2f", (ns[0] - first[0]) / (double)(sizes[s] - sizes[0]),
+                       (ns[1] - first[1]) / (double)(sizes[s] - sizes[0]));
+            printf("\n");
+            fflush(stdout);
         }
-        printf("%6zu  %7zu  %12.0f  %12.0f  %6.2f  %8.2f  %7.2f  %8.2f\n", payload_len, chips_len,
-               ns[0], ns[1], ns[0] / ns[1], (double)chips_len / first[2], ns[0] / first[0],
-               ns[1] / first[1]);
-        fflush(stdout);
+}
+
+/* ---- Parts of plain C, to see where a reader's time goes ------------------------------------- */
+
+static int32_t i_counts[DSSS_CHIPS_MAX], q_counts[DSSS_CHIPS_MAX];
+
+static uint64_t count_part(const struct library *l)
+{
+    (void)l;
+    plain_count(i_row, i_counts, chips_len);
+    return (uint64_t)i_counts[chips_len - 1];
+}
+
+static uint64_t barker_part(const struct library *l)
+{
+    uint64_t sum = 0;
+
+    (void)l;
+    for (size_t k = 0; k + 11 <= chips_len; k += 11)
+        sum += plain_choose_barker(i_counts + k, q_counts + k);
+    return sum;
+}
+
+static uint64_t cck55_part(const struct library *l)
+{
+    uint64_t sum = 0;
+
+    (void)l;
+    for (size_t k = 0; k + 8 <= chips_len; k += 8)
+        sum += plain_choose_cck55(i_counts + k, q_counts + k);
+    return sum;
+}
+
+static uint64_t cck11_part(const struct library *l)
+{
+    uint64_t sum = 0;
+
+    (void)l;
+    for (size_t k = 0; k + 8 <= chips_len; k += 8)
+        sum += plain_choose_cck11(i_counts + k, q_counts + k);
+    return sum;
+}
+
+static void parts(void)
+{
+    static const struct {
+        const char *name;
+        task_fn task;
+        size_t chips; /* in one */
+    } all[] = {{"count of a sample", count_part, 1},
+               {"choice of a Barker symbol", barker_part, 11},
+               {"choice at 5.5 Mbit/s", cck55_part, 8},
+               {"choice at 11 Mbit/s", cck11_part, 8}};
+    double ns;
+
+    printf("\nparts of plain C\n%-26s  %10s\n", "part", "ns each");
+    set_up(DSSS_LONG, DSSS_RATE_11, OCTETS);
+    plain_count(i_row, i_counts, chips_len);
+    plain_count(q_row, q_counts, chips_len);
+    for (size_t p = 0; p < sizeof all / sizeof all[0]; p++) {
+        measure(all[p].task, &ns, 1);
+        printf("%-26s  %10.2f\n", all[p].name, ns / (double)(chips_len / all[p].chips));
     }
 }
 
@@ -262,5 +326,6 @@ int main(int argc, char **argv)
     head();
     all_calls();
     growth();
+    parts();
     return 0;
 }

@@ -1,0 +1,3 @@
+pub mod TableP
+pub mod Facts
+pub mod Parity

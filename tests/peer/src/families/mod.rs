@@ -1,0 +1,171 @@
+//! The families of calls. Each is made from a fixed seed in a fixed order, so a case's number says all about it.
+
+mod damage;
+mod headers;
+mod published;
+mod refused;
+mod restored;
+mod soft;
+mod written;
+
+use crate::bits::Rate;
+use crate::calls::Call;
+use crate::chips::LOST;
+use crate::figures::Figures;
+use crate::frame::{frame_chips, front_bits, Header, Kind};
+use crate::random::Random;
+
+pub struct Family {
+    pub name: &'static str,
+    pub shows: &'static str,
+    pub seed: u64,
+    pub calls: fn(&mut Out),
+}
+
+macro_rules! families {
+    ($($seed:literal $module:ident::$name:ident: $shows:literal,)*) => {
+        pub const FAMILIES: &[Family] =
+            &[$(Family { name: stringify!($name), shows: $shows, seed: $seed, calls: $module::$name }),*];
+    };
+}
+
+families! {
+    101 published::published_figures: "LENGTH and bit 7 of every n and rate, CRCs, words from outside",
+    201 written::write_short_payloads: "1 to 64 octets, all kinds, rates and phases",
+    202 written::write_long_payloads: "1,023 to 1,026 and 4,095 octets",
+    203 written::write_every_n: "every n at 11 Mbit/s, a sweep of n at the other rates",
+    204 written::write_numbers: "kind, rate, phase, payload and buffer out of range, alone and together",
+    205 written::write_edges: "payload of 0, 4,095 and 4,096 octets, buffers a chip short, exact and longer",
+    301 restored::read_short_payloads: "hard and soft recordings of 1 to 64 octets, all kinds, rates and phases",
+    302 restored::read_long_payloads: "hard and soft recordings of 1,023 to 1,026 and 4,095 octets",
+    303 restored::read_rooms: "octet buffers shorter than n, exact and longer",
+    304 restored::chips_after_the_frame: "anything after the frame, unusable chips too",
+    401 headers::every_signal_and_service: "each SIGNAL with each SERVICE, many LENGTH, right CRC",
+    402 headers::every_length: "LENGTH and bit 7 that no n has, and those around the longest payload",
+    403 headers::headers_with_payload: "right CRC and chips behind it, LENGTH near the payload's",
+    404 headers::sfd_and_crc: "SFD and CRC with bits changed, turned round, of the other kind",
+    405 headers::sync_not_compared: "any SYNC bits at all",
+    501 refused::read_numbers: "kinds, lengths and buffers out of range, alone and together",
+    502 refused::rows_that_differ: "I and Q rows of different length",
+    503 refused::empty_rows: "every row empty, alone and together",
+    504 refused::every_set_of_refusals: "each set of refusals that can be asked for at once",
+    505 refused::few_refusals: "one to three refusals at once, hard and soft",
+    506 refused::cut_recordings: "recordings cut at every length about the front's and the frame's end",
+    507 refused::kinds_crossed: "long frames read as short and the other way",
+    601 damage::unusable_octets: "one or two unusable octets at every place",
+    602 damage::odd_growths: "symbols turned by 1 to 3, alone or with all that follow",
+    603 damage::damaged_chips: "chips changed to other phases, few to most",
+    604 damage::lost_chips: "chips, symbols and whole parts lost",
+    605 damage::tied_words: "payload symbols with few chips left, so that words tie",
+    606 damage::random_recordings: "phases and marks at random",
+    701 soft::noise: "noise over all of the frame or over its payload",
+    702 soft::halves_of_a_count: "values on the halves of a count and next to them",
+    703 soft::tiny_values: "subnormals, zeros of both signs, values below half a count",
+    704 soft::exactly_eight: "8 and its neighbours, scores at both ends of their range",
+    705 soft::unusable_values: "NaN, infinities and values above 8 at every place",
+    706 soft::soft_damage: "soft chips turned, faded and lost",
+}
+
+/// Where a family puts its calls.
+pub struct Out<'a> {
+    pub long: bool,
+    pub random: Random,
+    pub figures: &'a Figures,
+    take: &'a mut dyn FnMut(Call),
+}
+
+impl<'a> Out<'a> {
+    pub fn new(seed: u64, long: bool, figures: &'a Figures, take: &'a mut dyn FnMut(Call)) -> Out<'a> {
+        Out { long, random: Random::new(seed), figures, take }
+    }
+
+    pub fn call(&mut self, call: Call) {
+        (self.take)(call);
+    }
+
+    /// So many cases, or ten times as many in the longer run.
+    pub fn cases(&self, shorter: usize) -> usize {
+        if self.long { 10 * shorter } else { shorter }
+    }
+
+    /// A step of 1 in the longer run.
+    pub fn step(&self, shorter: usize) -> usize {
+        if self.long { 1 } else { shorter }
+    }
+}
+
+/// The kinds and rates that go together.
+pub fn pairs() -> impl Iterator<Item = (Kind, Rate)> {
+    Kind::BOTH.into_iter().flat_map(|kind| Rate::ALL.into_iter().map(move |rate| (kind, rate)))
+        .filter(|(kind, rate)| kind.has(*rate))
+}
+
+pub fn any_pair(random: &mut Random) -> (Kind, Rate) {
+    let all: Vec<_> = pairs().collect();
+    random.pick(&all)
+}
+
+/// A frame whose parts can be set apart from what the writer would make.
+#[derive(Clone)]
+pub struct Draft {
+    pub kind: Kind,
+    pub rate: Rate,
+    pub phase: u8,
+    pub sync: Vec<u8>,
+    pub sfd: u16,
+    pub header: Header,
+    pub crc: u16,
+    pub payload: Vec<u8>,
+}
+
+impl Draft {
+    /// As the writer makes it.
+    pub fn new(kind: Kind, rate: Rate, phase: u8, payload: Vec<u8>) -> Draft {
+        let header = Header::written(rate, payload.len());
+        Draft { kind, rate, phase, sync: kind.sync(), sfd: kind.sfd(), header, crc: header.crc(), payload }
+    }
+
+    /// Of n random octets and any phase.
+    pub fn random(kind: Kind, rate: Rate, n: usize, random: &mut Random) -> Draft {
+        let phase = random.phase();
+        Draft::new(kind, rate, phase, random.octets(n))
+    }
+
+    /// Another header with its right CRC.
+    pub fn with_header(self, header: Header) -> Draft {
+        Draft { header, crc: header.crc(), ..self }
+    }
+
+    pub fn chips(&self) -> Vec<u8> {
+        let front = front_bits(&self.sync, self.sfd, &self.header, self.crc);
+        frame_chips(self.kind, self.rate, self.phase, &front, &self.payload)
+    }
+
+    pub fn front(&self) -> Vec<u8> {
+        let mut chips = Draft { payload: Vec::new(), ..self.clone() }.chips();
+        chips.truncate(self.kind.front_chips());
+        chips
+    }
+}
+
+/// A hard recording as a soft one of the given size; lost chips become (0, 0).
+pub fn soft_rows(chips: &[u8], size: f32) -> (Vec<f32>, Vec<f32>) {
+    let i = |chip: &u8| match chip {
+        0 => size,
+        2 => -size,
+        _ => 0.0,
+    };
+    let q = |chip: &u8| match chip {
+        1 => size,
+        3 => -size,
+        _ => 0.0,
+    };
+    (chips.iter().map(i).collect(), chips.iter().map(q).collect())
+}
+
+/// Turns the chips of a row by quarter turns; a lost chip stays lost.
+pub fn turn(chips: &mut [u8], by: u8) {
+    for chip in chips.iter_mut().filter(|chip| **chip < LOST) {
+        *chip = (*chip + by) % 4;
+    }
+}

@@ -1,0 +1,73 @@
+//! Reading back what was written, hard and soft.
+
+use super::{any_pair, pairs, soft_rows, Draft, Out};
+use crate::calls::Call;
+
+pub fn read_short_payloads(out: &mut Out) {
+    for (kind, rate) in pairs() {
+        for phase in 0..4 {
+            for n in 1..=64 {
+                let chips = Draft::new(kind, rate, phase, out.random.octets(n)).chips();
+                let room = n + out.random.pick(&[0, 0, 1, 9]);
+                let size = out.random.pick(&[1.0, 1.0, 0.5, 8.0, 3.3, 0.002, 0.01]);
+                out.call(Call::soft(kind.number(), soft_rows(&chips, size), room));
+                out.call(Call::hard(kind.number(), chips, room));
+            }
+        }
+        for octet in 0..=255 {
+            let chips = Draft::new(kind, rate, out.random.phase(), vec![octet]).chips();
+            out.call(Call::hard(kind.number(), chips, 1));
+        }
+    }
+}
+
+pub fn read_long_payloads(out: &mut Out) {
+    for (kind, rate) in pairs() {
+        for n in [1023, 1024, 1025, 1026, 4095] {
+            let chips = Draft::random(kind, rate, n, &mut out.random).chips();
+            if n != 4095 || out.long {
+                out.call(Call::soft(kind.number(), soft_rows(&chips, 1.0), n));
+            }
+            out.call(Call::hard(kind.number(), chips, n + 3));
+        }
+        let chips = Draft::random(kind, rate, 4095, &mut out.random).chips();
+        out.call(Call::hard(kind.number(), chips.clone(), 4094));
+        out.call(Call::hard(kind.number(), chips[..chips.len() - 1].to_vec(), 4095));
+    }
+}
+
+pub fn read_rooms(out: &mut Out) {
+    for (kind, rate) in pairs() {
+        for n in [1, 2, 3, 7, 16] {
+            let chips = Draft::random(kind, rate, n, &mut out.random).chips();
+            for room in 0..=n + 3 {
+                out.call(Call::hard(kind.number(), chips.clone(), room));
+            }
+            for room in [0, n - 1, n, n + 1, 4095, 4096, 5000] {
+                out.call(Call::soft(kind.number(), soft_rows(&chips, 1.0), room));
+            }
+        }
+    }
+}
+
+pub fn chips_after_the_frame(out: &mut Out) {
+    for _ in 0..out.cases(1000) {
+        let (kind, rate) = any_pair(&mut out.random);
+        let n = out.random.within(1, 8);
+        let mut chips = Draft::random(kind, rate, n, &mut out.random).chips();
+        let frame = chips.len();
+        let after = out.random.within(1, 40);
+        if out.random.once_in(2) {
+            chips.extend(out.random.octets(after));
+            out.call(Call::hard(kind.number(), chips, n));
+        } else {
+            let (mut i, mut q) = soft_rows(&chips, 1.0);
+            for _ in 0..after {
+                i.push(out.random.pick(&[f32::NAN, f32::INFINITY, 9.0, -8.5, 1.0, 0.0]));
+                q.push(out.random.pick(&[f32::NAN, f32::NEG_INFINITY, 1.0, -1.0, 0.0]));
+            }
+            debug_assert!(i.len() > frame);
+            out.call(Call::soft(kind.number(), (i, q), n));
+        }
+    }
+}

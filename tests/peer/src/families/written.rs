@@ -1,0 +1,126 @@
+//! Writing.
+
+use super::{any_pair, pairs, Out};
+use crate::bits::Rate;
+use crate::calls::Call;
+use crate::frame::Kind;
+
+fn frame_len(kind: Kind, rate: Rate, n: usize) -> usize {
+    kind.front_chips() + rate.payload_chips(n)
+}
+
+fn good_write(kind: Kind, rate: Rate, phase: u8, payload: Vec<u8>, spare: usize) -> Call {
+    let chips_len = frame_len(kind, rate, payload.len()) + spare;
+    Call::write(kind.number(), u64::from(rate.code()), u64::from(phase), payload, chips_len)
+}
+
+pub fn write_short_payloads(out: &mut Out) {
+    for (kind, rate) in pairs() {
+        for phase in 0..4 {
+            for n in 1..=64 {
+                let payload = out.random.octets(n);
+                let spare = out.random.pick(&[0, 0, 1, 7, 100]);
+                out.call(good_write(kind, rate, phase, payload, spare));
+            }
+            for octet in [0x00, 0xFF, 0x55, 0xAA, 0x01, 0x80] {
+                out.call(good_write(kind, rate, phase, vec![octet; 16], 3));
+            }
+        }
+        // Each octet alone, so that every group of bits passes through every symbol.
+        for octet in 0..=255 {
+            let phase = out.random.phase();
+            out.call(good_write(kind, rate, phase, vec![octet], 0));
+        }
+    }
+}
+
+pub fn write_long_payloads(out: &mut Out) {
+    for (kind, rate) in pairs() {
+        for phase in 0..4 {
+            for n in [1023, 1024, 1025, 1026, 4095] {
+                let payload = out.random.octets(n);
+                out.call(good_write(kind, rate, phase, payload, usize::from(phase)));
+            }
+        }
+    }
+}
+
+pub fn write_every_n(out: &mut Out) {
+    for (kind, rate) in pairs() {
+        let step = match (kind, rate) {
+            (Kind::Short, Rate::Mbit11) => 1,
+            (_, Rate::Mbit11 | Rate::Mbit5_5) => out.step(37),
+            _ => if out.long { 13 } else { 173 },
+        };
+        for n in (1..=4095).step_by(step) {
+            let (phase, octet) = (out.random.phase(), out.random.below(256) as u8);
+            let payload = (0..n).map(|k| octet.wrapping_add((k * k >> 3) as u8)).collect();
+            out.call(good_write(kind, rate, phase, payload, 0));
+        }
+    }
+}
+
+/// Numbers that are a good one in their lowest octet, 16 or 32 bits, and the largest.
+pub fn beside(good: u64) -> [u64; 8] {
+    [good, good + 1, good + (1 << 8), good + (1 << 16), good + (1 << 32), good + (1 << 63), (1 << 32) - 1, u64::MAX]
+}
+
+pub fn write_numbers(out: &mut Out) {
+    let kinds = [0, 1, 2, 3, 255, 256, 257, 1 << 32, (1 << 32) + 1, 1 << 63, u64::MAX - 1, u64::MAX];
+    let mut rates = vec![0, 1, 9, 11, 54, 56, 109, 111, 254, 255, 256];
+    for rate in Rate::ALL {
+        rates.extend(beside(u64::from(rate.code())));
+    }
+    let phases = [0, 3, 4, 5, 255, 256, 1 << 32, (1 << 32) + 3, u64::MAX];
+    for kind in kinds {
+        for rate in &rates {
+            for phase in phases {
+                // Each refusal of the payload and of the buffer beside the numbers', and neither.
+                let good = match (Kind::of_number(kind), Rate::of_code(*rate)) {
+                    (Some(kind), Some(rate)) => frame_len(kind, rate, 1),
+                    _ => 40,
+                };
+                for (n, chips_len) in [(1, good), (1, good - 1), (0, good), (0, 0)] {
+                    let payload = out.random.octets(n);
+                    out.call(Call::write(kind, *rate, phase, payload, chips_len));
+                }
+                if out.random.once_in(8) {
+                    out.call(Call::write(kind, *rate, phase, vec![0x3C; 4096], out.random.within(0, 50)));
+                }
+            }
+        }
+    }
+}
+
+pub fn write_edges(out: &mut Out) {
+    for (kind, rate) in pairs() {
+        for n in [1, 2, 3, 10, 11, 64, 255, 256, 257, 1026] {
+            let frame = frame_len(kind, rate, n);
+            for chips_len in [0, 1, kind.front_chips() - 1, kind.front_chips(), frame - 1, frame, frame + 1, frame + 300] {
+                let (phase, payload) = (out.random.phase(), out.random.octets(n));
+                out.call(Call::write(kind.number(), u64::from(rate.code()), u64::from(phase), payload, chips_len));
+            }
+        }
+        for n in [4095, 4096] {
+            let frame = frame_len(kind, rate, n);
+            for (phase, chips_len) in [(0, frame - 1), (1, frame), (2, frame + 1), (4, frame), (4, 0)] {
+                let payload = out.random.octets(n);
+                out.call(Call::write(kind.number(), u64::from(rate.code()), phase, payload, chips_len));
+            }
+        }
+        // Lengths that are good ones modulo 2^12, 2^13 and 2^16.
+        for n in [0, 4097, 4160, 8191, 8192, 8193, 65_535, 65_536, 65_537, 65_600, 69_631] {
+            let payload = out.random.octets(n);
+            out.call(Call::write(kind.number(), u64::from(rate.code()), 1, payload, 4000));
+        }
+    }
+    // Buffers of any length around short frames.
+    for _ in 0..out.cases(600) {
+        let (kind, rate) = any_pair(&mut out.random);
+        let n = out.random.within(1, 6);
+        let frame = frame_len(kind, rate, n);
+        let (phase, payload) = (out.random.below(5) as u64, out.random.octets(n));
+        let chips_len = out.random.within(frame - 12, frame + 12);
+        out.call(Call::write(kind.number(), u64::from(rate.code()), phase, payload, chips_len));
+    }
+}
