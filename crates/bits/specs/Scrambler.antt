@@ -1,4 +1,4 @@
--- The scrambler: one run over every bit of the frame, and the run that undoes it (RULES 5.6, 5.7).
+-- The scrambler: one run over every bit of the frame, and the run that undoes it (RULES 5.5 to 5.7).
 -- `past` is the outputs so far, last first. Definitions only. Assumes nothing.
 use Prim.Native.Nat.{ℕ}
 use mathlib.Core.List.{List, [], _∷_}

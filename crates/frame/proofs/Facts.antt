@@ -47,8 +47,8 @@ expected =
 
 pub facts : computed ≡ expected
 unfolding
-  computed expected some
-  barkerWord cckWord
-  bitsOf octetBits growth symbolOf symbolsFrom symbolsOf chipsFrom lastPhase mixed scramble addWhere crcStep remainder crcBits
-  preambleBits fieldBits headerBits frameBits sentBits partsChips frame
+    computed expected some
+    barkerWord cckWord
+    bitsOf octetBits growth symbolOf symbolsFrom symbolsOf chipsFrom lastPhase mixed scramble addWhere crcStep remainder crcBits
+    preambleBits fieldBits headerBits frameBits sentBits partsChips frame
 facts = refl

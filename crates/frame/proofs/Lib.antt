@@ -1,3 +1,4 @@
 pub mod TableP
 pub mod Facts
 pub mod Parity
+pub mod ReadFacts

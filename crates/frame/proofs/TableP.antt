@@ -66,8 +66,8 @@ TableP = computed ≡ printed
 
 pub table-p : TableP
 unfolding
-  computed printed five
-  barkerWord cckWord score those going firstLargest decided
-  bitsOf octetBits growth symbolOf symbolsFrom symbolsOf chipsFrom lastPhase mixed scramble addWhere crcStep remainder crcBits
-  preambleBits fieldBits headerBits frameBits sentBits partsChips frame
+    computed printed five
+    barkerWord cckWord score those going firstLargest decided
+    bitsOf octetBits growth symbolOf symbolsFrom symbolsOf chipsFrom lastPhase mixed scramble addWhere crcStep remainder crcBits
+    preambleBits fieldBits headerBits frameBits sentBits partsChips frame
 table-p = refl

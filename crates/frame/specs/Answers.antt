@@ -1,4 +1,4 @@
--- What the calls answer: for each case of an enum answer its number and values (RULES 6.1 to 6.4, 6.20 to 6.23).
+-- What the calls answer: for each case of an enum answer its number and values (RULES 6.4, 6.8, 6.10, 6.11).
 -- Definitions only. Assumes nothing.
 use Prim.Native.Nat.{ℕ}
 use Rattle.rates.specs.Rates.{codeOf}

@@ -1,4 +1,4 @@
--- Reading, once for every recorder: over a list of chips that are each unusable or a pair of counts (RULES 6.1 to 6.4, 6.11 to 6.23).
+-- Reading, once for every recorder: over a list of chips that are each unusable or a pair of counts (RULES 6.2 to 6.12).
 -- The order is 1, 7, 8, then 9 and 10 over the front, 11, 12, 13, 14, 15, 16, 17, then 9 and 10 over the payload; in each part 9 is looked
 -- for through the whole part before 10. Definitions only. Assumes nothing.
 use Prim.Native.Nat.{ℕ, zero, suc, _+_, _-_, _*_, _/_, _%_}

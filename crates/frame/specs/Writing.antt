@@ -1,4 +1,4 @@
--- Writing: refusals 1 to 6 in this order, the answer, and the chip buffer's final contents (RULES 6.5 to 6.10, 6.21).
+-- Writing: refusals 1 to 6 in this order, the answer, and the chip buffer's final contents (RULES 6.1, 6.4, 6.9, 6.12).
 -- Definitions only. Assumes nothing.
 use Prim.Native.Nat.{ℕ, _+_, _-_}
 use mathlib.Core.Bool.{Bool, true, false, cond, not, _||_}

@@ -32,7 +32,11 @@ pub enum Refusal {
 // What a write comes to, before a chip is written.
 pub enum Writing {
     Refused(Refusal),
-    Good { kind: Kind, rate: Rate, chips: usize },
+    Good {
+        kind: Kind,
+        rate: Rate,
+        chips: usize,
+    },
 }
 
 // What a recording's front tells.
@@ -44,7 +48,12 @@ pub enum Front {
 // What a reading comes to.
 pub enum Reading {
     Refused(Refusal),
-    Good { rate: Rate, length: usize, n: usize, used: usize },
+    Good {
+        rate: Rate,
+        length: usize,
+        n: usize,
+        used: usize,
+    },
 }
 
 // The writer's answer.

@@ -1,4 +1,4 @@
--- The four rates: their codes, what a symbol and an octet take, LENGTH and bit 7 (RULES 5.1, 5.2, 5.8 to 5.12).
+-- The four rates: their codes, what a symbol and an octet take, LENGTH and bit 7 (RULES 5.2, 5.8, 5.10 to 5.12).
 -- IEEE 802.11b-1999 decides; the draft's lower end of 16 microseconds is not applied.
 -- Definitions only. Assumes nothing.
 use mathlib.Core.Bool.{Bool, true, false, cond, _&&_, _||_}
