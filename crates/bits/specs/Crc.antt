@@ -1,5 +1,5 @@
--- The CRC (RULES 5.13): x^16 + x^12 + x^5 + 1, register preset to ones, over the header bits in sending order, remainder complemented,
--- highest term sent first. The register is sixteen bits, highest term first.
+-- The CRC (RULES 5.13): x^16 + x^12 + x^5 + 1, register preset to ones, over the header bits in sending order,
+-- remainder complemented, highest term sent first. The register is sixteen bits, highest term first.
 -- Definitions only. Assumes nothing.
 use Prim.Native.Nat.{ℕ, zero, suc}
 use mathlib.Core.List.{List, [], _∷_, _++_, map}

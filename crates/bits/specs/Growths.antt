@@ -95,7 +95,8 @@ heardBits One k p n = grownBy p n / 2 ∷ []
 heardBits Two k p n = growthBits (grownBy p n)
 heardBits Five k p n = growthBits (grownBy (turned p (halfTurn k)) (p1Of n)) ++ (p2Of n / 2 ∷ p4Of n / 2 ∷ [])
 heardBits Eleven k p n =
-    growthBits (grownBy (turned p (halfTurn k)) (p1Of n)) ++ (directBits (p2Of n) ++ (directBits (p3Of n) ++ directBits (p4Of n)))
+    growthBits (grownBy (turned p (halfTurn k)) (p1Of n))
+    ++ (directBits (p2Of n) ++ (directBits (p3Of n) ++ directBits (p4Of n)))
 
 -- the bits of words at a rate, the first numbered k, after phase p
 unfoldable pub heard : Rate → ℕ → ℕ → List ℕ → List ℕ

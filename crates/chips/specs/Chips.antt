@@ -27,7 +27,10 @@ nothing = pair (pos 0) (pos 0)
 -- hard phases 0, 1, 2, 3 are (1, 0), (0, 1), (-1, 0), (0, -1) full chips of `one`; any other number is nothing
 abbrev pub fullChip : ℕ → ℕ → Counts
 fullChip one p =
-    getD (pair (pos one) (pos 0) ∷ pair (pos 0) (pos one) ∷ pair (negℤ (pos one)) (pos 0) ∷ pair (pos 0) (negℤ (pos one)) ∷ []) p nothing
+    getD
+    (pair (pos one) (pos 0) ∷ pair (pos 0) (pos one) ∷ pair (negℤ (pos one)) (pos 0) ∷ pair (pos 0) (negℤ (pos one)) ∷ [])
+    p
+    nothing
 
 -- a soft chip is usable when its I and its Q are
 abbrev pub usableSample : Sample → Bool

@@ -46,8 +46,8 @@ unfoldable pub countOf : Float → ℤ
 unfolding steps usable nearest
 countOf x = cond (usable x) (signed (negative x) (nearest (steps x))) (pos 0)
 
--- The same said without a way to find it: k counts are nearest to m steps when twice the distance is at most a count, and
--- where it is just a count, k is even. The laws in proofs/Meaning.antt show that this leaves one answer, `countOf`.
+-- The same said without a way to find it: k counts are nearest to m steps when twice the distance is at most a count,
+-- and where it is just a count, k is even. The laws in proofs/Meaning.antt show that this leaves one answer, `countOf`.
 pub record Nearest (m k : ℤ) : Type 0 where
   pub close : 2 * natAbs (k *ℤ pos (2 ^ 139) -ℤ m) ≤ 2 ^ 139
   pub even : 2 * natAbs (k *ℤ pos (2 ^ 139) -ℤ m) ≡ 2 ^ 139 → natAbs k % 2 ≡ 0

@@ -69,7 +69,7 @@ placeOf (Length l) = 0
 placeOf (Ends l) = 0
 placeOf (OctetRoom l) = 0
 
--- the LENGTH field if the refusal is 13 or later in the reading order, which has a payload's 9 and 10 at its end; else 0
+-- the LENGTH field if the refusal is 13 or later in the reading order, which has a payload's 9 and 10 at its end
 abbrev pub lengthOf : Refusal → ℕ
 lengthOf NoKind = 0
 lengthOf NoRate = 0
@@ -94,7 +94,8 @@ abbrev pub writtenOf : Writing → Written
 writtenOf (writing.Refused e) = record { number = numberOf e; chips = 0 }
 writtenOf (writing.Good k r c) = record { number = 0; chips = c }
 
--- a good read answers number 0, the rate code, LENGTH, n and chips used; a refusal its number, place and LENGTH, all else 0
+-- a good read answers number 0, the rate code, LENGTH, n and chips used;
+-- a refusal its number, place and LENGTH, all else 0
 abbrev pub recordOf : Reading → Record
 recordOf (reading.Refused e) =
     record { number = numberOf e; place = placeOf e; rate = 0; length = lengthOf e; n = 0; used = 0 }

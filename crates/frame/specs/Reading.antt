@@ -1,6 +1,7 @@
--- Reading, once for every recorder: over a list of chips that are each unusable or a pair of counts (RULES 6.2 to 6.12).
--- The order is 1, 7, 8, then 9 and 10 over the front, 11, 12, 13, 14, 15, 16, 17, then 9 and 10 over the payload; in each part 9 is looked
--- for through the whole part before 10. Definitions only. Assumes nothing.
+-- Reading, once for every recorder: over a list of chips, each unusable or a pair of counts (RULES 2.7, 6.2 to 6.12).
+-- The order is 1, 7, 8, then 9 and 10 over the front, 11, 12, 13, 14, 15, 16, 17, then 9 and 10 over the payload;
+-- in each part 9 is looked for through the whole part before 10.
+-- Definitions only. Assumes nothing.
 use Prim.Native.Nat.{ℕ, zero, suc, _+_, _-_, _*_, _/_, _%_}
 use mathlib.Core.Bool.{Bool, true, false, cond, not, _&&_}
 use mathlib.Core.List.{List, [], _∷_, _++_, map}
@@ -90,7 +91,8 @@ unfoldable pub preambleWords : Kind → List Taken → List ℕ
 preambleWords k rec = decidedWords One (preambleLength k) rec
 
 unfoldable pub headerWords : Kind → List Taken → List ℕ
-headerWords k rec = decidedWords (headerRate k) (headerLength / symbolBits (headerRate k)) (drop (preambleChips k) rec)
+headerWords k rec =
+    decidedWords (headerRate k) (headerLength / symbolBits (headerRate k)) (drop (preambleChips k) rec)
 
 -- the first symbol serves only as reference: it counts as grown by 0 from itself, so it is excepted from 10
 unfoldable pub reference : Kind → List Taken → ℕ

@@ -1,5 +1,5 @@
--- Deciding a symbol (RULES 3.5 to 3.8): each allowed word scores, the largest score wins, among equals the smallest number.
--- Scores are whole numbers of any sign; the same sums over exact values serve demand 3.
+-- Deciding a symbol (RULES 3.5 to 3.8): each allowed word scores; the largest score wins, among equals the smallest
+-- number. Scores are whole numbers of any sign; the same sums over exact values serve demand 3.
 -- Definitions only. Assumes nothing.
 use Prim.Native.Nat.{ℕ, zero, suc, _%_}
 use mathlib.Core.Bool.{Bool, true, false, cond, _&&_}

@@ -1,6 +1,6 @@
 -- The words that a symbol is made of (RULES 3.1 to 3.4). A word is a list of phases, first in time first.
--- Source 001 prints the codeword formula without its two minus signs (the + 2 below), source 004 the Barker sequence negated;
--- IEEE 802.11b-1999 decides.
+-- Source 001 prints the codeword formula without its two minus signs (the + 2 below), source 004 the Barker sequence
+-- negated; IEEE 802.11b-1999 decides.
 -- Definitions only. Assumes nothing.
 use Prim.Native.Nat.{ℕ, _+_, _*_, _/_, _%_}
 use mathlib.Core.Bool.{Bool, true, false}
