@@ -28,7 +28,8 @@ nothing = pair (pos 0) (pos 0)
 abbrev pub fullChip : ℕ → ℕ → Counts
 fullChip one p =
     getD
-    (pair (pos one) (pos 0) ∷ pair (pos 0) (pos one) ∷ pair (negℤ (pos one)) (pos 0) ∷ pair (pos 0) (negℤ (pos one)) ∷ [])
+    (pair (pos one) (pos 0) ∷ pair (pos 0) (pos one) ∷ pair (negℤ (pos one)) (pos 0)
+    ∷ pair (pos 0) (negℤ (pos one)) ∷ [])
     p
     nothing
 

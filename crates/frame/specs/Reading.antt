@@ -113,7 +113,8 @@ frontOdd k rec =
 -- the front's bits as they were sent, and unscrambled
 unfoldable pub frontHeard : Kind → List Taken → List ℕ
 frontHeard k rec =
-    heard One 0 (reference k rec) (preambleWords k rec) ++ heard (headerRate k) 0 (headerPhase k rec) (headerWords k rec)
+    heard One 0 (reference k rec) (preambleWords k rec)
+    ++ heard (headerRate k) 0 (headerPhase k rec) (headerWords k rec)
 
 unfoldable pub frontBits : Kind → List Taken → List ℕ
 frontBits k rec = descramble (start k) (frontHeard k rec)

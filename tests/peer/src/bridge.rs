@@ -5,6 +5,7 @@
 
 use crate::calls::Call;
 use crate::families::{Family, Out};
+use crate::figures::Figures;
 use std::io::{self, BufReader, Write};
 use std::process::{Child, ChildStdin, ChildStdout, Command, Stdio};
 use std::sync::mpsc::{sync_channel, SyncSender};
@@ -57,13 +58,13 @@ impl Bridge {
     }
 
     /// Runs a family and compares every answer and every buffer. An error is a bridge that doesn't answer.
-    pub fn compare(&mut self, family: &Family, run: Run) -> io::Result<Outcome> {
+    pub fn compare(&mut self, family: &Family, figures: &Figures, run: Run) -> io::Result<Outcome> {
         let Bridge { requests, answers, last_answer, .. } = self;
         let (sender, batches) = sync_channel::<Vec<(u64, Call)>>(2);
         let mut outcome = Outcome { calls: 0, mismatches: 0 };
         thread::scope(|scope| {
-            scope.spawn(move || send_family(family, run, requests, sender));
-            for (case, call) in batches.iter().flatten() {
+            scope.spawn(move || send_family(family, figures, run, requests, sender));
+            for (case, call) in batches.into_iter().flatten() {
                 let expected = call.expected();
                 let (answer, guarded) = call.answer(answers)?;
                 *last_answer.lock().expect("no panic") = Instant::now();
@@ -108,7 +109,7 @@ impl Bridge {
 }
 
 /// Makes a family's calls and sends them in batches.
-fn send_family(family: &Family, run: Run, requests: &mut ChildStdin, sender: SyncSender<Vec<(u64, Call)>>) {
+fn send_family(family: &Family, figures: &Figures, run: Run, requests: &mut ChildStdin, sender: SyncSender<Vec<(u64, Call)>>) {
     let (mut batch, mut octets) = (Vec::new(), Vec::new());
     let mut case = 0;
     // A failed write needs no word here: the comparing side finds the answers missing.
@@ -128,7 +129,7 @@ fn send_family(family: &Family, run: Run, requests: &mut ChildStdin, sender: Syn
             flush(&mut batch, &mut octets);
         }
     };
-    (family.calls)(&mut Out::new(family.seed, run.long, &mut take));
+    (family.calls)(&mut Out::new(family.seed, run.long, figures, &mut take));
     flush(&mut batch, &mut octets);
 }
 

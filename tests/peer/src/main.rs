@@ -110,7 +110,7 @@ fn run() -> Result<(), String> {
     for family in families {
         let began = Instant::now();
         let outcome = bridge
-            .compare(family, options.run)
+            .compare(family, &figures, options.run)
             .map_err(|error| format!("{}: the bridge died or sent no whole answer: {error}", family.name))?;
         let seconds = began.elapsed().as_secs_f64();
         println!("{:<32} {:>9} {:>11} {seconds:>8.1}", family.name, outcome.calls, outcome.mismatches);

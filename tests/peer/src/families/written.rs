@@ -85,7 +85,8 @@ pub fn write_numbers(out: &mut Out) {
                     out.call(Call::write(kind, *rate, phase, payload, chips_len));
                 }
                 if out.random.once_in(8) {
-                    out.call(Call::write(kind, *rate, phase, vec![0x3C; 4096], out.random.within(0, 50)));
+                    let chips_len = out.random.within(0, 50);
+                    out.call(Call::write(kind, *rate, phase, vec![0x3C; 4096], chips_len));
                 }
             }
         }
