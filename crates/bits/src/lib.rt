@@ -1,1 +1,249 @@
-// Bits to phases and back, the scrambler and the CRC.
+// Bits to phases and back, the scrambler and the CRC. A bit is a u8, 0 or 1.
+ghost use mathlib.Core.Path.{_≡_};
+ghost use mathlib.Core.List.{[], _∷_, _++_};
+ghost use Prim.Native.Nat.{_<_};
+ghost use lib.ListN.{length, replicate};
+ghost use Rattle.bits.specs.Bits.{_⊕_, bitsOf, numberOf, octetBits};
+ghost use Rattle.bits.specs.Growths.{growth};
+ghost use Rattle.bits.specs.Scrambler.{scramble, descramble};
+ghost use Rattle.bits.specs.Crc.{crcStep, remainder, complement, crcBits};
+ghost use Rattle.bits.specs.Code.{inTime, lastFirst, terms, Below};
+
+// Eight bits, b0 first in time.
+pub struct Eight {
+    pub b0: u8,
+    pub b1: u8,
+    pub b2: u8,
+    pub b3: u8,
+    pub b4: u8,
+    pub b5: u8,
+    pub b6: u8,
+    pub b7: u8,
+}
+
+// Exclusive or of bits, as a sum: no bound on the arguments is asked.
+fn xor(a: u8, b: u8) -> u8
+    ensures answer { λ r. ⌜ r ≡ a ⊕ b ⌝ }
+{
+    (a % 2 + b % 2) % 2
+}
+
+fn xor3(a: u8, b: u8, c: u8) -> u8
+    ensures answer { λ r. ⌜ r ≡ a ⊕ b ⊕ c ⌝ }
+{
+    xor(xor(a, b), c)
+}
+
+// The bits of an octet, lowest first.
+pub fn unpack(x: u8) -> Eight
+    ensures answer { λ r. ⌜ inTime r ≡ bitsOf 8 x ⌝ }
+{
+    let x1 = x / 2;
+    let x2 = x1 / 2;
+    let x3 = x2 / 2;
+    let x4 = x3 / 2;
+    let x5 = x4 / 2;
+    let x6 = x5 / 2;
+    let x7 = x6 / 2;
+    Eight {
+        b0: x % 2,
+        b1: x1 % 2,
+        b2: x2 % 2,
+        b3: x3 % 2,
+        b4: x4 % 2,
+        b5: x5 % 2,
+        b6: x6 % 2,
+        b7: x7 % 2,
+    }
+}
+
+// The octet of eight bits, lowest first.
+pub fn pack(e: Eight) -> u8
+    requires { ⌜ Below 2 (inTime e) ⌝ }
+    ensures answer { λ r. ⌜ r ≡ numberOf (inTime e) ⌝ }
+{
+    let t6 = e.b6 + 2 * e.b7;
+    let t5 = e.b5 + 2 * t6;
+    let t4 = e.b4 + 2 * t5;
+    let t3 = e.b3 + 2 * t4;
+    let t2 = e.b2 + 2 * t3;
+    let t1 = e.b1 + 2 * t2;
+    e.b0 + 2 * t1
+}
+
+// Eight bits scrambled after the eight outputs before them.
+fn scramble_eight(past: Eight, x: Eight) -> Eight
+    ensures answer { λ r. ⌜ inTime r ≡ scramble (lastFirst past) (inTime x) ⌝ }
+{
+    let b0 = xor3(x.b0, past.b4, past.b1);
+    let b1 = xor3(x.b1, past.b5, past.b2);
+    let b2 = xor3(x.b2, past.b6, past.b3);
+    let b3 = xor3(x.b3, past.b7, past.b4);
+    let b4 = xor3(x.b4, b0, past.b5);
+    let b5 = xor3(x.b5, b1, past.b6);
+    let b6 = xor3(x.b6, b2, past.b7);
+    let b7 = xor3(x.b7, b3, b0);
+    Eight {
+        b0,
+        b1,
+        b2,
+        b3,
+        b4,
+        b5,
+        b6,
+        b7,
+    }
+}
+
+// And back: the outputs are what was received.
+fn descramble_eight(past: Eight, o: Eight) -> Eight
+    ensures answer { λ r. ⌜ inTime r ≡ descramble (lastFirst past) (inTime o) ⌝ }
+{
+    let b0 = xor3(o.b0, past.b4, past.b1);
+    let b1 = xor3(o.b1, past.b5, past.b2);
+    let b2 = xor3(o.b2, past.b6, past.b3);
+    let b3 = xor3(o.b3, past.b7, past.b4);
+    let b4 = xor3(o.b4, o.b0, past.b5);
+    let b5 = xor3(o.b5, o.b1, past.b6);
+    let b6 = xor3(o.b6, o.b2, past.b7);
+    let b7 = xor3(o.b7, o.b3, o.b0);
+    Eight {
+        b0,
+        b1,
+        b2,
+        b3,
+        b4,
+        b5,
+        b6,
+        b7,
+    }
+}
+
+// An octet scrambled after the eight outputs before it.
+pub fn scramble_octet(past: Eight, x: u8) -> Eight
+    ensures answer { λ r. ⌜ inTime r ≡ scramble (lastFirst past) (bitsOf 8 x) ⌝ }
+{
+    scramble_eight(past, unpack(x))
+}
+
+// The octet of eight outputs, after the eight before them.
+pub fn descramble_octet(past: Eight, o: Eight) -> u8
+    ensures answer { λ r. ⌜ r ≡ numberOf (descramble (lastFirst past) (inTime o)) ⌝ }
+{
+    pack(descramble_eight(past, o))
+}
+
+// How far two bits turn the phase: 00, 01, 10, 11.
+const GROWTHS: [u8; 4] = [0, 1, 3, 2];
+
+pub fn growth(a: u8, b: u8) -> u8
+    requires { ⌜ (a < 2) × (b < 2) ⌝ }
+    ensures answer { λ r. ⌜ (r ≡ growth a b) × (r < 4) ⌝ }
+{
+    GROWTHS[(2 * a + b) as usize]
+}
+
+// The CRC register, highest term first.
+pub struct Sixteen {
+    pub first: Eight,
+    pub second: Eight,
+}
+
+fn crc_step(r: Sixteen, b: u8) -> Sixteen
+    ensures answer { λ q. ⌜ terms q ≡ crcStep (terms r) b ⌝ }
+{
+    let h = r.first;
+    let l = r.second;
+    let f = xor(h.b0, b);
+    let t12 = xor(h.b4, f);
+    let t5 = xor(l.b3, f);
+    let t0 = xor(0, f);
+    let first = Eight {
+        b0: h.b1,
+        b1: h.b2,
+        b2: h.b3,
+        b3: t12,
+        b4: h.b5,
+        b5: h.b6,
+        b6: h.b7,
+        b7: l.b0,
+    };
+    let second = Eight {
+        b0: l.b1,
+        b1: l.b2,
+        b2: t5,
+        b3: l.b4,
+        b4: l.b5,
+        b5: l.b6,
+        b6: l.b7,
+        b7: t0,
+    };
+    Sixteen { first, second }
+}
+
+fn crc_eight(r: Sixteen, x: Eight) -> Sixteen
+    ensures answer { λ q. ⌜ terms q ≡ remainder (terms r) (inTime x) ⌝ }
+{
+    let r1 = crc_step(r, x.b0);
+    let r2 = crc_step(r1, x.b1);
+    let r3 = crc_step(r2, x.b2);
+    let r4 = crc_step(r3, x.b3);
+    let r5 = crc_step(r4, x.b4);
+    let r6 = crc_step(r5, x.b5);
+    let r7 = crc_step(r6, x.b6);
+    crc_step(r7, x.b7)
+}
+
+fn crc_octet(r: Sixteen, x: u8) -> Sixteen
+    ensures answer { λ q. ⌜ terms q ≡ remainder (terms r) (bitsOf 8 x) ⌝ }
+{
+    crc_eight(r, unpack(x))
+}
+
+fn complement_eight(e: Eight) -> Eight
+    ensures answer { λ r. ⌜ inTime r ≡ complement (inTime e) ⌝ }
+{
+    let b0 = xor(e.b0, 1);
+    let b1 = xor(e.b1, 1);
+    let b2 = xor(e.b2, 1);
+    let b3 = xor(e.b3, 1);
+    let b4 = xor(e.b4, 1);
+    let b5 = xor(e.b5, 1);
+    let b6 = xor(e.b6, 1);
+    let b7 = xor(e.b7, 1);
+    Eight {
+        b0,
+        b1,
+        b2,
+        b3,
+        b4,
+        b5,
+        b6,
+        b7,
+    }
+}
+
+// The octet whose bits, lowest first, are the complements of e's.
+fn pack_not(e: Eight) -> u8
+    ensures answer { λ x. ⌜ bitsOf 8 x ≡ complement (inTime e) ⌝ }
+{
+    pack(complement_eight(e))
+}
+
+// The CRC of four octets, as two: the first bit sent is the first octet's lowest.
+pub fn crc_octets(a: u8, b: u8, c: u8, d: u8) -> [u8; 2]
+    ensures answer { λ r. ⌜ (octetBits r ≡ crcBits (octetBits (a ∷ b ∷ c ∷ d ∷ []))) × (length r ≡ 2) ⌝ }
+{
+    let ones = unpack(255);
+    let r0 = Sixteen {
+        first: ones,
+        second: ones,
+    };
+    let r1 = crc_octet(r0, a);
+    let r2 = crc_octet(r1, b);
+    let r3 = crc_octet(r2, c);
+    let r4 = crc_octet(r3, d);
+    let first = r4.first;
+    let second = r4.second;
+    [pack_not(first), pack_not(second)]
+}

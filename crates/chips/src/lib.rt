@@ -1,4 +1,9 @@
 // What a chip is: soft samples, recorded chips, and their signed counts.
+ghost use mathlib.Core.Path.{_≡_};
+ghost use mathlib.Core.List.{map};
+ghost use Rattle.chips.specs.Floats as floats;
+ghost use Rattle.chips.specs.Floats.{countOf};
+ghost use Rattle.chips.specs.Chips.{fullChip, usableSample, countsOf, hardChip};
 
 // A soft sample: I and Q as recorded.
 pub struct Sample {
@@ -18,4 +23,107 @@ pub enum Chip {
 pub struct Counts {
     pub i: i32,
     pub q: i32,
+}
+
+// A full chip at each phase.
+const FULL: [Counts; 4] = [
+    Counts { i: 1024, q: 0 },
+    Counts { i: 0, q: 1024 },
+    Counts { i: -1024, q: 0 },
+    Counts { i: 0, q: -1024 },
+];
+
+// Whether x is a number from -8 to 8.
+pub fn usable(x: f32) -> bool
+    ensures answer { λ r. ⌜ r ≡ floats.usable x ⌝ }
+{
+    x <= 8.0 && x >= -8.0
+}
+
+// The whole number nearest to 1024 times x, ties to the even one; 0 of an x that is not usable.
+// From 8192 to 16384 an f32 is 1/1024 from the next, so the sum with 12288 is rounded just as the
+// count is, and the bit patterns there go up by one from each value to the next.
+pub fn count(x: f32) -> i32
+    ensures answer { λ r. ⌜ r ≡ countOf x ⌝ }
+{
+    if usable(x) {
+        let b: u32 = f32::to_bits(x + 12288.0);
+        (b as i32) - 0x4640_0000
+    } else {
+        0
+    }
+}
+
+// Whether both I and Q are usable.
+pub fn usable_sample(s: Sample) -> bool
+    ensures answer { λ r. ⌜ r ≡ usableSample s ⌝ }
+{
+    usable(s.i) && usable(s.q)
+}
+
+// The counts of a soft sample, field by field; (0, 0) of one that is not usable.
+pub fn quantise(s: Sample) -> Counts
+    ensures answer { λ r. ⌜ r ≡ countsOf (Chip.Soft s) ⌝ }
+{
+    if usable_sample(s) {
+        let i = count(s.i);
+        let q = count(s.q);
+        Counts { i, q }
+    } else {
+        Counts { i: 0, q: 0 }
+    }
+}
+
+// What an octet of a hard recording is: 4 the mark for no chip, any other a phase or no phase.
+pub fn hard_chip(x: u8) -> Chip
+    ensures answer { λ r. ⌜ r ≡ hardChip x ⌝ }
+{
+    if x == 4 { Chip::Lost } else { Chip::Hard(x) }
+}
+
+// The counts of a full chip at phase p; (0, 0) of a number that is no phase.
+pub fn hard_counts(p: u8) -> Counts
+    ensures answer { λ r. ⌜ r ≡ fullChip 1024 p ⌝ }
+{
+    let k = p as usize;
+    if k < 4 {
+        FULL[k]
+    } else {
+        Counts { i: 0, q: 0 }
+    }
+}
+
+// The counts of a recorded chip.
+pub fn counts_of(c: Chip) -> Counts
+    ensures answer { λ r. ⌜ r ≡ countsOf c ⌝ }
+{
+    match c {
+        Chip::Lost => Counts { i: 0, q: 0 },
+        Chip::Hard(p) => hard_counts(p),
+        Chip::Soft(s) => quantise(s),
+    }
+}
+
+// The counts of a CCK symbol's chips.
+pub fn counts8(chips: [Chip; 8]) -> [Counts; 8]
+    ensures answer { λ r. ⌜ r ≡ map countsOf chips ⌝ }
+{
+    let mut out = [Counts { i: 0, q: 0 }; 8];
+    for k in 0..8 {
+        let c = chips[k];
+        out[k] = counts_of(c);
+    }
+    out
+}
+
+// The counts of a Barker symbol's chips.
+pub fn counts11(chips: [Chip; 11]) -> [Counts; 11]
+    ensures answer { λ r. ⌜ r ≡ map countsOf chips ⌝ }
+{
+    let mut out = [Counts { i: 0, q: 0 }; 11];
+    for k in 0..11 {
+        let c = chips[k];
+        out[k] = counts_of(c);
+    }
+    out
 }

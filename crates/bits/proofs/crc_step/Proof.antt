@@ -1,0 +1,14 @@
+-- `bits::crc_step` meets its contract: sixteen terms, three of them what `xor` ensures. Assumes nothing.
+use borrow.Author.Needs.{needs}
+use Rattle.bits.specs.Crc.{crcStep, addWhere}
+use Rattle.bits.proofs.crc_step.Statement.{statement}
+use Rattle.bits.proofs.crc_step.Tie as tie
+
+returns : tie.Need-returns
+unfolding crcStep addWhere
+returns c = cc
+
+pub crc-step-spec : {M : Type 1} → statement M
+crc-step-spec =
+    tie.close
+    (tie.spec (λ c κs. search needs) (λ c κs. search needs) (λ c κs. search needs) (λ c κs. search needs) returns)

@@ -1,0 +1,60 @@
+-- The counts of every chip are from -8192 to 8192; those of a usable one are at most half a count from its exact value,
+-- and those of a hard or a lost one are the value itself. Hard chips are computed at each phase; soft ones go by the laws of
+-- their two fields.
+-- Assumes nothing.
+use mathlib.Core.Path.{refl}
+use mathlib.Core.Bool.{Bool, true, false, cond}
+use Prim.Native.Nat.{ℕ, zero, suc, _^_, _≤_}
+use lib.Dec.{T, lit≤}
+use lib.IntN.{ℤ, pos, negsuc, natAbs}
+use Rattle.base.proofs.Whole.{within-zero}
+use Rattle.base.proofs.Tests.{both-left, both-right}
+use Rattle.chips.specs.declared.Counts.{Counts}
+use Rattle.chips.specs.declared.Chip.{Chip}
+use Rattle.chips.specs.declared.Chip.the-variants.{Lost, Hard, Soft}
+use Rattle.chips.specs.Floats.{usable, countOf}
+use Rattle.chips.specs.Chips.{pair, nothing, usableSample, countsOf, exactOf}
+use Rattle.chips.specs.Bounds.{Bounded, Near, Exact, usableChip}
+use Rattle.chips.proofs.Sum.{cond-yes}
+use Rattle.chips.proofs.Meaning.{abs-within, count-within, count-near}
+
+-- ---- the range
+bounded : (x y : ℤ) → natAbs x ≤ 8192 → natAbs y ≤ 8192 → Bounded 8192 (pair x y)
+bounded x y h k = record { real = abs-within 8192 x h; imag = abs-within 8192 y k }
+
+pub counts-within : (c : Chip) → Bounded 8192 (countsOf c)
+counts-within Lost = bounded (pos 0) (pos 0) (lit≤ tt) (lit≤ tt)
+counts-within (Hard zero) = bounded (pos 1024) (pos 0) (lit≤ tt) (lit≤ tt)
+counts-within (Hard (suc zero)) = bounded (pos 0) (pos 1024) (lit≤ tt) (lit≤ tt)
+counts-within (Hard (suc (suc zero))) = bounded (negsuc 1023) (pos 0) (lit≤ tt) (lit≤ tt)
+counts-within (Hard (suc (suc (suc zero)))) = bounded (pos 0) (negsuc 1023) (lit≤ tt) (lit≤ tt)
+counts-within (Hard (suc (suc (suc (suc p))))) = bounded (pos 0) (pos 0) (lit≤ tt) (lit≤ tt)
+counts-within (Soft s) = go (usableSample s)
+  where
+    go : (b : Bool) → Bounded 8192 (cond b (pair (countOf (s .i)) (countOf (s .q))) nothing)
+    go true = record { real = count-within (s .i); imag = count-within (s .q) }
+    go false = bounded (pos 0) (pos 0) (lit≤ tt) (lit≤ tt)
+
+-- ---- the error
+pub hard-exact : (p : ℕ) → Exact (countsOf (Hard p)) (exactOf (Hard p))
+hard-exact zero = record { real = refl; imag = refl }
+hard-exact (suc zero) = record { real = refl; imag = refl }
+hard-exact (suc (suc zero)) = record { real = refl; imag = refl }
+hard-exact (suc (suc (suc zero))) = record { real = refl; imag = refl }
+hard-exact (suc (suc (suc (suc p)))) = record { real = refl; imag = refl }
+
+pub lost-exact : Exact (countsOf Lost) (exactOf Lost)
+lost-exact = record { real = refl; imag = refl }
+
+exact-near : (c e : Counts) → Exact c e → Near c e
+exact-near c e h = record { real = rw (h .real) (within-zero (2 ^ 138)); imag = rw (h .imag) (within-zero (2 ^ 138)) }
+
+pub chip-near : (c : Chip) → T (usableChip c) → Near (countsOf c) (exactOf c)
+chip-near Lost u = exact-near (countsOf Lost) (exactOf Lost) lost-exact
+chip-near (Hard p) u = exact-near (countsOf (Hard p)) (exactOf (Hard p)) (hard-exact p)
+chip-near (Soft s) u =
+    rw (cond-yes (usableSample s) (pair (countOf (s .i)) (countOf (s .q))) nothing u)
+    (record {
+      real = count-near (s .i) (both-left (usable (s .i)) (usable (s .q)) u);
+      imag = count-near (s .q) (both-right (usable (s .i)) (usable (s .q)) u);
+    })

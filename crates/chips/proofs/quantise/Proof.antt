@@ -1,0 +1,25 @@
+-- `chips::quantise` meets its contract: in each arm the definition's test is known, and each field is a count.
+-- Assumes nothing.
+use mathlib.Core.Path.{_≡_, sym, _∙_}
+use borrow.Author.Needs.{needs}
+use mir.Syntax.{w32}
+use mir.Val.{toZ, ofZ}
+use Rattle.chips.specs.Floats.{countOf}
+use Rattle.chips.specs.Chips.{pair}
+use Rattle.chips.proofs.quantise.Statement.{statement}
+use Rattle.chips.proofs.quantise.Tie as tie
+
+returns : tie.Need-returns
+returns c =
+    let s = c .before .before .before .before .args .s in
+    let x : toZ w32 (ofZ w32 (c .before .count .result)) ≡ countOf (s .i) = search needs ∙ c .before .count .ensures in
+    let y : toZ w32 (ofZ w32 (c .count2 .result)) ≡ countOf (s .q) = search needs ∙ c .count2 .ensures in
+    rw (sym (c .before .before .before .usable-sample .ensures) ∙ c .before .before .if1 .taken) (λ i. pair (x i) (y i))
+
+returns-2 : tie.Need-returns-2
+returns-2 c = rw (sym (c .before .usable-sample .ensures) ∙ c .if1 .left)
+
+pub quantise-spec : {M : Type 1} → statement M
+quantise-spec =
+    tie.close
+    (tie.spec (λ c κs. search needs) (λ c κs. search needs) (λ c κs. search needs) returns returns-2)

@@ -1,0 +1,37 @@
+-- Bounds on counts, and how far they are from the exact values (RULES 2.6): 2^139 steps are a count, 2^138 half of one.
+-- Definitions only. Assumes nothing.
+use Prim.Native.Nat.{ℕ, _^_}
+use mathlib.Core.Path.{_≡_}
+use mathlib.Core.Bool.{Bool, true}
+use lib.Dec.{ltb}
+use lib.IntN.{ℤ, pos, _-ℤ_, _*ℤ_}
+use Rattle.base.specs.Whole.{Within}
+use Rattle.chips.specs.declared.Counts.{Counts}
+use Rattle.chips.specs.declared.Chip.{Chip}
+use Rattle.chips.specs.declared.Chip.the-variants.{Lost, Hard, Soft}
+use Rattle.chips.specs.Chips.{usableSample}
+
+-- I and Q are from -b to b
+pub record Bounded (b : ℕ) (c : Counts) : Type 0 where
+  pub real : Within b (c .i)
+  pub imag : Within b (c .q)
+
+-- k counts less m steps, in steps
+abbrev pub offBy : ℤ → ℤ → ℤ
+offBy k m = (k *ℤ pos (2 ^ 139)) -ℤ m
+
+-- the counts c are at most half a count from the exact value e, in I and in Q
+pub record Near (c e : Counts) : Type 0 where
+  pub real : Within (2 ^ 138) (offBy (c .i) (e .i))
+  pub imag : Within (2 ^ 138) (offBy (c .q) (e .q))
+
+-- the counts c are the exact value e
+pub record Exact (c e : Counts) : Type 0 where
+  pub real : offBy (c .i) (e .i) ≡ pos 0
+  pub imag : offBy (c .q) (e .q) ≡ pos 0
+
+-- a chip that a recording may have: lost, a phase, or a usable sample
+abbrev pub usableChip : Chip → Bool
+usableChip Lost = true
+usableChip (Hard p) = ltb p 4
+usableChip (Soft s) = usableSample s

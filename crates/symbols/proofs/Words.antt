@@ -1,0 +1,138 @@
+-- Laws of the words, for every rate: how long a word is, that its chips are phases, that a turn of its phase turns every
+-- chip, what word a number has, and the rules of the two tables, each once over its table.
+-- Assumes nothing.
+use mathlib.Core.Path.{_≡_, refl, sym, ap, _∙_}
+use mathlib.Core.List.{List, [], _∷_, map}
+use Prim.Native.Nat.{ℕ, zero, suc, _+_, _*_, _/_, _%_, _<_}
+use native.Mathlib.Omega.{arith}
+use lib.ListN.{length, getD}
+use lib.Dec.{lit<}
+use Rattle.base.specs.Tables.{tabulate}
+use Rattle.base.proofs.Tables.{getD-tabulate, map-tabulate}
+use Rattle.rates.specs.declared.Rate.{Rate}
+use Rattle.rates.specs.declared.Rate.the-variants.{One, Two, Five, Eleven}
+use Rattle.rates.specs.Rates.{symbolChips}
+use Rattle.chips.specs.Chips.{turned}
+use Rattle.symbols.specs.Words.{barkerSigns, signChip, barkerWord, cckWord, cckNumber, cckOf, p1Of, p2Of, p3Of, p4Of, wordOf}
+
+-- every chip of the list is a phase, and so is what stands for one past its end
+pub record Phases (w : List ℕ) : Type 0 where
+  pub at : (j : ℕ) → getD w j 0 < 4
+
+pub phases-none : Phases []
+phases-none = record { at = λ j. lit< tt }
+
+pub phases-cons : {x : ℕ} {w : List ℕ} → x < 4 → Phases w → Phases (x ∷ w)
+phases-cons {x} {w} h t = record { at = at }
+  where
+    at : (j : ℕ) → getD (x ∷ w) j 0 < 4
+    at zero = h
+    at (suc j) = t .at j
+
+pub phases-tail : {x : ℕ} {w : List ℕ} → Phases (x ∷ w) → Phases w
+phases-tail h = record { at = λ j. h .at (suc j) }
+
+pub turn : (x : ℕ) → x % 4 < 4
+turn x = omega arith
+
+pub cck-phases : (p1 p2 p3 p4 : ℕ) → Phases (cckWord p1 p2 p3 p4)
+unfolding cckWord
+cck-phases p1 p2 p3 p4 =
+    phases-cons (turn _) (phases-cons (turn _) (phases-cons (turn _) (phases-cons (turn _)
+    (phases-cons (turn _) (phases-cons (turn _) (phases-cons (turn _) (phases-cons (turn _) phases-none)))))))
+
+pub barker-phases : (p : ℕ) → Phases (barkerWord p)
+unfolding barkerWord
+barker-phases p =
+    phases-cons (turn _) (phases-cons (turn _) (phases-cons (turn _) (phases-cons (turn _)
+    (phases-cons (turn _) (phases-cons (turn _) (phases-cons (turn _) (phases-cons (turn _)
+    (phases-cons (turn _) (phases-cons (turn _) (phases-cons (turn _) phases-none))))))))))
+
+pub word-phases : (r : Rate) (n : ℕ) → Phases (wordOf r n)
+word-phases One n = barker-phases n
+word-phases Two n = barker-phases n
+word-phases Five n = cck-phases _ _ _ _
+word-phases Eleven n = cck-phases _ _ _ _
+
+pub cck-length : (p1 p2 p3 p4 : ℕ) → length (cckWord p1 p2 p3 p4) ≡ 8
+unfolding cckWord
+cck-length p1 p2 p3 p4 = refl
+
+pub barker-length : (p : ℕ) → length (barkerWord p) ≡ 11
+unfolding barkerWord
+barker-length p = refl
+
+pub word-length : (r : Rate) (n : ℕ) → length (wordOf r n) ≡ symbolChips r
+word-length One n = barker-length n
+word-length Two n = barker-length n
+word-length Five n = cck-length _ _ _ _
+word-length Eleven n = cck-length _ _ _ _
+
+-- ---- a turn of the phase turns every chip
+turn-turn : (p s : ℕ) → turned p (s % 4) ≡ turned p s
+turn-turn p s = omega arith
+
+one-turn : (p s t : ℕ) → p + s ≡ t → turned p (s % 4) ≡ t % 4
+one-turn p s t e = turn-turn p s ∙ ap (λ (n : ℕ). n % 4) e
+
+pub cck-turned : (p1 p2 p3 p4 : ℕ) → map (turned p1) (cckWord 0 p2 p3 p4) ≡ cckWord p1 p2 p3 p4
+unfolding cckWord
+cck-turned p1 p2 p3 p4 =
+    λ i.
+    one-turn p1 (0 + p2 + p3 + p4) (p1 + p2 + p3 + p4) (omega arith) i
+    ∷ one-turn p1 (0 + p3 + p4) (p1 + p3 + p4) (omega arith) i
+    ∷ one-turn p1 (0 + p2 + p4) (p1 + p2 + p4) (omega arith) i
+    ∷ one-turn p1 (0 + p4 + 2) (p1 + p4 + 2) (omega arith) i
+    ∷ one-turn p1 (0 + p2 + p3) (p1 + p2 + p3) (omega arith) i
+    ∷ one-turn p1 (0 + p3) (p1 + p3) (omega arith) i
+    ∷ one-turn p1 (0 + p2 + 2) (p1 + p2 + 2) (omega arith) i
+    ∷ one-turn p1 0 p1 (omega arith) i
+    ∷ []
+
+pub barker-turned : (p : ℕ) → map (turned p) (barkerWord 0) ≡ barkerWord p
+unfolding barkerWord
+barker-turned p = refl
+
+-- ---- the tables
+abbrev pub barkerTurns : List ℕ
+barkerTurns = 0 ∷ 2 ∷ 0 ∷ 0 ∷ 2 ∷ 0 ∷ 0 ∷ 0 ∷ 2 ∷ 2 ∷ 2 ∷ []
+
+pub barker-rule : barkerTurns ≡ barkerWord 0
+unfolding barkerWord
+barker-rule = refl
+
+-- the word of 5.5 Mbit/s by d = 2 d2 + d3
+abbrev pub fiveWord : ℕ → ℕ → List ℕ
+fiveWord p1 d = cckWord p1 (2 * (d / 2) + 1) 0 (2 * (d % 2))
+
+abbrev pub fiveTable : List (List ℕ)
+fiveTable =
+    (1 ∷ 0 ∷ 1 ∷ 2 ∷ 1 ∷ 0 ∷ 3 ∷ 0 ∷ [])
+    ∷ (3 ∷ 2 ∷ 3 ∷ 0 ∷ 1 ∷ 0 ∷ 3 ∷ 0 ∷ [])
+    ∷ (3 ∷ 0 ∷ 3 ∷ 2 ∷ 3 ∷ 0 ∷ 1 ∷ 0 ∷ [])
+    ∷ (1 ∷ 2 ∷ 1 ∷ 0 ∷ 3 ∷ 0 ∷ 1 ∷ 0 ∷ [])
+    ∷ []
+
+pub five-rule : fiveTable ≡ tabulate (fiveWord 0) 4
+unfolding tabulate cckWord
+five-rule = refl
+
+pub five-at : (d : ℕ) → d < 4 → getD fiveTable d [] ≡ fiveWord 0 d
+five-at d h = ap (λ (t : List (List ℕ)). getD t d []) five-rule ∙ getD-tabulate (fiveWord 0) 4 d [] h
+
+-- ---- a loop that turns every chip of a row has made the word
+abbrev pub turnedAt : ℕ → List ℕ → ℕ → ℕ
+turnedAt p w j = turned p (getD w j 0)
+
+pub barker-filled : (p : ℕ) → tabulate (turnedAt p barkerTurns) 11 ≡ barkerWord p
+barker-filled p = sym (map-tabulate (turned p) barkerTurns 11 0 refl) ∙ ap (map (turned p)) barker-rule ∙ barker-turned p
+
+pub five-filled : (p d : ℕ) → d < 4 → tabulate (turnedAt p (getD fiveTable d [])) 8 ≡ fiveWord p d
+five-filled p d h =
+    rw (five-at d h) (sym (map-tabulate (turned p) (fiveWord 0 d) 8 0 (cck-length _ _ _ _)) ∙ cck-turned p _ _ _)
+
+pub barker-turns-phases : Phases barkerTurns
+barker-turns-phases = rw barker-rule (barker-phases 0)
+
+pub five-phases : (d : ℕ) → d < 4 → Phases (getD fiveTable d [])
+five-phases d h = rw (five-at d h) (cck-phases _ _ _ _)

@@ -1,0 +1,182 @@
+/* host.c: the program of one gallery table, over the library of dsss.h.
+ *
+ * A visitor turns a skull with one finger, and at each quarter turn the table fetches a caption by
+ * radio. Here the frames go from the writer to the reader in memory: at every kind and rate, then
+ * spoiled, then cut short. A caption of an earlier exhibition must never be seen again: before each
+ * read the octet buffer is full of one, and after it what is left of it is counted. All memory is
+ * in the static rows below; the two that are lent for writing stand between guard octets, which
+ * must stay as they were. */
+#include "dsss.h"
+
+#include <inttypes.h>
+#include <stdio.h>
+#include <string.h>
+
+enum { CAPTION_MAX = 64, CHIPS_MAX = DSSS_FRONT_LONG + 88 * CAPTION_MAX };
+enum { GUARD = 32, GUARD_OCTET = 0x5C };
+
+static const char *const captions[4] = {
+    "Cave bear, from the front. The canines are worn blunt.",
+    "Cave bear, left side. Another bear made the notch.",
+    "Cave bear, from behind. Here sat the neck.",
+    "Cave bear, right side. A hundred cubs, one adult skull.",
+};
+
+static const struct {
+    uint64_t kind, rate;
+    const char *name;
+} ways[] = {
+    {DSSS_LONG, DSSS_RATE_1, "long, 1 Mbit/s"},
+    {DSSS_LONG, DSSS_RATE_2, "long, 2 Mbit/s"},
+    {DSSS_LONG, DSSS_RATE_5_5, "long, 5.5 Mbit/s"},
+    {DSSS_LONG, DSSS_RATE_11, "long, 11 Mbit/s"},
+    {DSSS_SHORT, DSSS_RATE_2, "short, 2 Mbit/s"},
+    {DSSS_SHORT, DSSS_RATE_5_5, "short, 5.5 Mbit/s"},
+    {DSSS_SHORT, DSSS_RATE_11, "short, 11 Mbit/s"},
+};
+
+static struct {
+    uint8_t before[GUARD], row[CHIPS_MAX], after[GUARD];
+} chips;
+
+static struct {
+    uint8_t before[GUARD], row[CAPTION_MAX], after[GUARD];
+} octets;
+
+static float i_row[CHIPS_MAX], q_row[CHIPS_MAX];
+
+static void set_guards(int octet)
+{
+    memset(chips.before, octet, GUARD);
+    memset(chips.after, octet, GUARD);
+    memset(octets.before, octet, GUARD);
+    memset(octets.after, octet, GUARD);
+}
+
+static int guards_stand(void)
+{
+    int changed = 0;
+
+    for (size_t k = 0; k < GUARD; k++)
+        changed |= (chips.before[k] ^ GUARD_OCTET) | (chips.after[k] ^ GUARD_OCTET)
+                   | (octets.before[k] ^ GUARD_OCTET) | (octets.after[k] ^ GUARD_OCTET);
+    return !changed;
+}
+
+/* Writes a caption's frame to the chip row. */
+static dsss_written send_caption(uint64_t kind, uint64_t rate, const char *caption)
+{
+    const uint8_t *payload = (const uint8_t *)caption;
+
+    return dsss_write(kind, rate, 0, payload, strlen(caption), chips.row, CHIPS_MAX);
+}
+
+static void fill_with_old(void)
+{
+    static const char old[] = "Trilobites of the upper hall. ";
+
+    for (size_t k = 0; k < CAPTION_MAX; k++)
+        octets.row[k] = (uint8_t)old[k % (sizeof old - 1)];
+}
+
+/* The octets past the payload that are not 0. */
+static size_t old_octets(uint64_t n)
+{
+    size_t old = 0;
+
+    for (size_t k = (size_t)n; k < CAPTION_MAX; k++)
+        old += octets.row[k] != 0;
+    return old;
+}
+
+static void show(const char *what, dsss_record record)
+{
+    if (record.number == 0)
+        printf("%s: \"%.*s\"\n", what, (int)record.n, (const char *)octets.row);
+    else
+        printf("%s: refused, %" PRIu64 ". %s\n", what, record.number,
+               dsss_sentence(record.number));
+    printf("    place %" PRIu64 ", LENGTH %" PRIu64 ", %" PRIu64 " octets, %" PRIu64
+           " chips used, %zu old octets left\n",
+           record.place, record.length, record.n, record.used, old_octets(record.n));
+}
+
+static void show_hard(const char *what, uint64_t kind, uint64_t len)
+{
+    fill_with_old();
+    show(what, dsss_read_hard(kind, chips.row, len, octets.row, CAPTION_MAX));
+}
+
+/* The same frame as a soft recorder gives it: weak, and with an offset on I. */
+static void show_soft(const char *what, uint64_t kind, uint64_t len)
+{
+    static const float level[4] = {0.5f, 0.0f, -0.5f, 0.0f};
+
+    for (size_t k = 0; k < len; k++) {
+        i_row[k] = level[chips.row[k]] + 0.125f;
+        q_row[k] = level[(chips.row[k] + 3) % 4];
+    }
+    fill_with_old();
+    show(what, dsss_read_soft(kind, i_row, len, q_row, len, octets.row, CAPTION_MAX));
+}
+
+static void every_way(void)
+{
+    puts("Every kind and rate");
+    for (size_t k = 0; k < sizeof ways / sizeof ways[0]; k++) {
+        dsss_written frame = send_caption(ways[k].kind, ways[k].rate, captions[k % 4]);
+        show_hard(ways[k].name, ways[k].kind, frame.chips);
+    }
+    puts("\nA soft recording");
+    show_soft("short, 11 Mbit/s, weak", DSSS_SHORT,
+              send_caption(DSSS_SHORT, DSSS_RATE_11, captions[3]).chips);
+}
+
+static void spoiled(void)
+{
+    puts("\nSpoiled recordings");
+    uint64_t len = send_caption(DSSS_SHORT, DSSS_RATE_11, captions[3]).chips;
+    for (uint64_t k = 0; k < len; k += 11)
+        chips.row[k] = DSSS_CHIP_LOST;
+    show_hard("every eleventh chip lost", DSSS_SHORT, len);
+    chips.row[1234] = 200;
+    show_hard("an unusable octet at chip 1234", DSSS_SHORT, len);
+
+    len = send_caption(DSSS_LONG, DSSS_RATE_2, captions[1]).chips;
+    for (uint64_t k = 550; k < 561; k++)
+        chips.row[k] = (uint8_t)((chips.row[k] + 1) % 4);
+    show_hard("the symbol at chip 550 turned by a quarter", DSSS_LONG, len);
+}
+
+static void cut_short(void)
+{
+    puts("\nCut short");
+    uint64_t len = send_caption(DSSS_LONG, DSSS_RATE_5_5, captions[2]).chips;
+    show_hard("whole", DSSS_LONG, len);
+    show_hard("without its last chip", DSSS_LONG, len - 1);
+    show_hard("only its first 1,500 chips", DSSS_LONG, 1500);
+}
+
+static void not_written(void)
+{
+    puts("\nA frame that cannot be written");
+    dsss_written refused = send_caption(DSSS_SHORT, DSSS_RATE_1, captions[0]);
+    size_t lost = 0;
+    while (lost < CHIPS_MAX && chips.row[lost] == DSSS_CHIP_LOST)
+        lost++;
+    printf("short, 1 Mbit/s: refused, %" PRIu64 ". %s\n", refused.number,
+           dsss_sentence(refused.number));
+    printf("    %" PRIu64 " chips written, %zu of %d chips marked lost\n", refused.chips, lost,
+           (int)CHIPS_MAX);
+}
+
+int main(void)
+{
+    set_guards(GUARD_OCTET);
+    every_way();
+    spoiled();
+    cut_short();
+    not_written();
+    printf("\nGuard octets %s\n", guards_stand() ? "as they were" : "CHANGED");
+    return guards_stand() ? 0 : 1;
+}

@@ -1,0 +1,38 @@
+/* header.c: dsss.h as C99, twice in one unit, its records laid out as the library's are.
+ *
+ * As a program it prints the sentence of each number given, one a line. */
+#include "dsss.h"
+#include "dsss.h"
+
+#include <errno.h>
+#include <stdio.h>
+#include <stdlib.h>
+
+/* C99 has no static assertion: an array of -1 octets does not compile. */
+#define HOLDS(name, fact) typedef char name[(fact) ? 1 : -1]
+
+HOLDS(number_is_64_bits, sizeof(uint64_t) == 8 && sizeof(size_t) == 8 && sizeof(float) == 4);
+HOLDS(written_has_2, sizeof(dsss_written) == 16);
+HOLDS(written_chips, offsetof(dsss_written, chips) == 8);
+HOLDS(record_has_6, sizeof(dsss_record) == 48);
+HOLDS(record_place, offsetof(dsss_record, place) == 8);
+HOLDS(record_rate, offsetof(dsss_record, rate) == 16);
+HOLDS(record_length, offsetof(dsss_record, length) == 24);
+HOLDS(record_n, offsetof(dsss_record, n) == 32);
+HOLDS(record_used, offsetof(dsss_record, used) == 40);
+HOLDS(longest_frame, DSSS_CHIPS_MAX == DSSS_FRONT_LONG + 88 * DSSS_PAYLOAD_MAX);
+
+int main(int argc, char **argv)
+{
+    for (int k = 1; k < argc; k++) {
+        char *end;
+        errno = 0;
+        unsigned long long number = strtoull(argv[k], &end, 10);
+        if (errno != 0 || end == argv[k] || *end != '\0') {
+            fprintf(stderr, "header: %s is not a number\n", argv[k]);
+            return 1;
+        }
+        puts(dsss_sentence(number));
+    }
+    return 0;
+}

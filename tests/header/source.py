@@ -1,0 +1,289 @@
+"""Holds include/dsss.h against the source of crate dsss: names, order and widths.
+
+  source.py [ROOT]        compares; status 0 if they agree, else 1 and one line a difference
+  source.py --self-test   spoils a small header and source one way at a time; each must be found
+
+No compiler compares a C declaration with the Rattle function behind it. A call must have the same
+name, the same parameters in the same order, and an answer with the same members in the same order.
+A row in C is a pointer and NAME_len, in Rattle a slice. A record may be declared in another crate.
+Each call's comment must have the fields Answer, Refused, Buffer and Proved, say where the call is
+proved, and name each row and number.
+"""
+import glob
+import os
+import re
+import sys
+
+WIDTHS = {f"{sign}int{bits}_t": f"{letter}{bits}"
+          for sign, letter in (("u", "u"), ("", "i")) for bits in (8, 16, 32, 64)}
+WIDTHS.update({"size_t": "usize", "float": "f32", "double": "f64", "_Bool": "bool"})
+FIELDS = ("Answer:", "Refused:", "Buffer:", "Proved:")
+
+
+class Fault(Exception):
+    """The text cannot be read as a declaration."""
+
+
+def c_type(name):
+    return WIDTHS.get(name, name)
+
+
+# ---- The header ----------------------------------------------------------------------------------
+
+def without_comments(text):
+    return re.sub(r"/\*.*?\*/", " ", text, flags=re.S)
+
+
+def c_records(text):
+    """Record name -> list of (member, Rattle type)."""
+    records = {}
+    for body, name in re.findall(r"typedef\s+struct\s*\{(.*?)\}\s*(\w+)\s*;", text, re.S):
+        members = []
+        for line in filter(None, (part.strip() for part in body.split(";"))):
+            kind, names = line.split(None, 1)
+            members += [(member.strip(), c_type(kind)) for member in names.split(",")]
+        records[name] = members
+    return records
+
+
+def c_parameters(text):
+    """(name, Rattle type) of each parameter, a pointer and its length being one row."""
+    plain = []
+    for part in filter(None, (part.strip() for part in text.split(","))):
+        match = re.fullmatch(r"(const\s+)?(\w+)\s*(\*?)\s*(\w+)", part)
+        if not match:
+            raise Fault(f"cannot read the parameter '{part}'")
+        plain.append((bool(match[1]), c_type(match[2]), match[3] == "*", match[4]))
+    rows, k = [], 0
+    while k < len(plain):
+        const, kind, pointer, name = plain[k]
+        k += 1
+        if not pointer:
+            rows.append((name, kind))
+        elif k < len(plain) and plain[k][1:] == ("usize", False, name + "_len"):
+            rows.append((name, f"&[{kind}]" if const else f"&mut [{kind}]"))
+            k += 1
+        else:
+            rows.append((name, f"&{kind}" if const else f"&mut {kind}"))
+    return rows
+
+
+def c_calls(text):
+    """Call name -> (answer type, parameters)."""
+    calls = {}
+    pattern = r"^(\w+)\s+(dsss_\w+)\s*\(([^)]*)\)\s*;"
+    for answer, name, parameters in re.findall(pattern, text, re.M):
+        calls[name] = (c_type(answer), c_parameters(re.sub(r"\s+", " ", parameters)))
+    return calls
+
+
+def comments(header):
+    """Call name -> the comment right before its declaration."""
+    found = re.findall(r"/\*((?:(?!\*/).)*)\*/\s*\w+\s+(dsss_\w+)\s*\([^)]*\)\s*;", header, re.S)
+    return {name: comment for comment, name in found}
+
+
+# ---- The source ----------------------------------------------------------------------------------
+
+def without_line_comments(text):
+    return re.sub(r"//[^\n]*", "", text)
+
+
+def rattle_type(text):
+    return re.sub(r"\s+", " ", re.sub(r"'\w+\s*", "", text.strip()))
+
+
+def pairs(text):
+    """(name, type) of each `name: type` of a list."""
+    found = []
+    for part in filter(None, (part.strip() for part in text.split(","))):
+        name, colon, kind = part.partition(":")
+        if not colon:
+            raise Fault(f"cannot read '{part}'")
+        found.append((re.sub(r"^(pub|mut)\s+", "", name.strip()), rattle_type(kind)))
+    return found
+
+
+def rattle_calls(text):
+    """Call name -> (answer type, parameters, attributes)."""
+    pattern = (r"((?:#\[[^\]]*\]\s*)*)pub\s+extern\s+\"C\"\s+fn\s+(\w+)\s*(?:<[^>]*>)?\s*"
+               r"\(([^)]*)\)\s*(?:->\s*([\w:]+))?")
+    return {name: (answer.split("::")[-1], pairs(parameters), attributes)
+            for attributes, name, parameters, answer in re.findall(pattern, text)}
+
+
+def rattle_records(text):
+    """Record name -> its members, for each #[repr(C)] struct."""
+    pattern = r"((?:#\[[^\]]*\]\s*)*)pub\s+struct\s+(\w+)\s*\{(.*?)\}"
+    return {name: pairs(body) for attributes, name, body in re.findall(pattern, text, re.S)
+            if re.search(r"repr\s*\(\s*C\s*\)", attributes)}
+
+
+def record_named(name, sources):
+    """The members of the record, from crate dsss, else from a crate that it uses, else any."""
+    holders = {crate: rattle_records(text)[name] for crate, text in sources.items()
+               if name in rattle_records(text)}
+    if "dsss" in holders:
+        return holders["dsss"]
+    used = re.findall(r"\buse\s+(\w+)::[^;]*\b" + name + r"\b", sources["dsss"])
+    for crate in used:
+        if crate in holders:
+            return holders[crate]
+    if len(holders) != 1:
+        raise Fault(f"{len(holders)} crates have a #[repr(C)] struct {name}, not one")
+    return next(iter(holders.values()))
+
+
+# ---- The comparison ------------------------------------------------------------------------------
+
+def rows(pairs_of):
+    return ", ".join(f"{name}: {kind}" for name, kind in pairs_of)
+
+
+def compare_call(name, declared, defined, records, sources):
+    answer, parameters = declared
+    source_answer, source_parameters, attributes = defined
+    faults = []
+    if "no_mangle" not in attributes:
+        faults.append(f"{name}: no #[no_mangle] in the source")
+    if parameters != source_parameters:
+        faults.append(f"{name}: the header has ({rows(parameters)}), "
+                      f"the source ({rows(source_parameters)})")
+    if answer in records:
+        members = record_named(source_answer, sources)
+        if records[answer] != members:
+            faults.append(f"{name}: {answer} is {{{rows(records[answer])}}} in the header, "
+                          f"{source_answer} is {{{rows(members)}}} in the source")
+    elif (answer, source_answer) != ("void", "") and answer != source_answer:
+        faults.append(f"{name}: answers {answer} in the header, {source_answer} in the source")
+    return faults
+
+
+def compare_comment(name, parameters, comment):
+    faults = [f"{name}: its comment has no field {field}" for field in FIELDS
+              if field not in comment]
+    faults += [f"{name}: its comment does not name {row}" for row, _ in parameters
+               if not re.search(rf"\b{row}\b", comment)]
+    if f"crates/dsss, {name}," not in comment:
+        faults.append(f"{name}: its comment does not say where it is proved")
+    return faults
+
+
+def compare(header, sources):
+    """All differences between a header and the sources of the crates, by crate name."""
+    sources = {crate: without_line_comments(text) for crate, text in sources.items()}
+    text = without_comments(header)
+    declared, records = c_calls(text), c_records(text)
+    defined, said = rattle_calls(sources["dsss"]), comments(header)
+    faults = [f"{name}: in the source, not in the header" for name in defined.keys() - declared]
+    faults += [f"{name}: in the header, not in the source" for name in declared.keys() - defined]
+    faults += [f"{name}: public in crate dsss and not extern \"C\""
+               for name in re.findall(r"\bpub\s+fn\s+(\w+)", sources["dsss"])]
+    if not declared:
+        faults.append("the header declares no call")
+    for name in declared:
+        faults += compare_comment(name, declared[name][1], said.get(name, ""))
+        if name in defined:
+            faults += compare_call(name, declared[name], defined[name], records, sources)
+    return sorted(faults)
+
+
+def read_sources(root):
+    sources = {}
+    for path in sorted(glob.glob(os.path.join(root, "crates", "*", "src", "**", "*.rt"),
+                                 recursive=True)):
+        crate = os.path.relpath(path, os.path.join(root, "crates")).split(os.sep)[0]
+        with open(path, encoding="utf-8") as file:
+            sources[crate] = sources.get(crate, "") + file.read() + "\n"
+    if "dsss" not in sources:
+        raise Fault("no source in crates/dsss/src")
+    return sources
+
+
+# ---- The test of this test -----------------------------------------------------------------------
+
+HEADER = """
+typedef struct { uint64_t number, place; } dsss_answer; /* two */
+/* Reads. kind, chips, octets. Answer: Refused: Buffer: Proved: crates/dsss, dsss_read, clause. */
+dsss_answer dsss_read(uint64_t kind, const uint8_t *chips, size_t chips_len,
+                      uint8_t *octets, size_t octets_len);
+static inline int dsss_sentence(uint64_t number) { return 0; }
+"""
+SOURCES = {
+    "dsss": """use frame::{Answer, Other};
+#[no_mangle]
+pub extern "C" fn dsss_read(kind: u64, chips: &[u8], octets: &mut [u8]) -> Answer
+    ensures { answer: x }
+{ frame::read(kind) } // fn
+""",
+    "frame": """#[repr(C)]
+pub struct Answer {
+    pub number: u64, // first
+    pub place: u64,
+}
+""",
+    "other": "#[repr(C)] pub struct Answer { pub place: u64, }",
+}
+SPOILED = [  # which text, what, by what
+    ("header", "kind, const uint8_t", "sort, const uint8_t"),
+    ("header", "uint64_t kind", "uint32_t kind"),
+    ("header", "number, place", "place, number"),
+    ("header", "uint64_t number, place", "uint64_t number"),
+    ("header", "uint64_t number, place", "uint32_t number, place"),
+    ("header", "const uint8_t *chips", "uint8_t *chips"),
+    ("header", "size_t chips_len", "uint32_t chips_len"),
+    ("header", "dsss_read(", "dsss_reads("),
+    ("header", "Buffer:", ""),
+    ("header", "crates/dsss, dsss_read", "crates/dsss, dsss_write"),
+    ("dsss", "#[no_mangle]", ""),
+    ("dsss", "kind: u64, chips: &[u8]", "chips: &[u8], kind: u64"),
+    ("dsss", "&mut [u8]", "&mut [u16]"),
+    ("dsss", "-> Answer", "-> u64"),
+    ("dsss", "{ frame", "{ } pub fn more() { frame"),
+    ("frame", "#[repr(C)]", ""),
+    ("frame", "pub place: u64", "pub place: u32"),
+]
+
+
+def self_test():
+    texts = dict(SOURCES, header=HEADER)
+    faults = compare(HEADER, SOURCES)
+    if faults:
+        raise Fault("self-test: good texts are refused: " + "; ".join(faults))
+    for which, old, new in SPOILED:
+        spoiled = dict(texts)
+        spoiled[which] = texts[which].replace(old, new, 1)
+        if spoiled[which] == texts[which]:
+            raise Fault(f"self-test: '{old}' is not in the {which} text")
+        header = spoiled.pop("header")
+        try:
+            found = compare(header, spoiled)
+        except Fault as fault:
+            found = [str(fault)]
+        if not found:
+            raise Fault(f"self-test: '{old}' made '{new}' in {which} is not found")
+    print(f"header source test: {len(SPOILED)} spoiled pairs, all found")
+
+
+def main(arguments):
+    if arguments == ["--self-test"]:
+        self_test()
+        return 0
+    root = arguments[0] if arguments else "."
+    with open(os.path.join(root, "include", "dsss.h"), encoding="utf-8") as file:
+        header = file.read()
+    sources = read_sources(root)
+    faults = compare(header, sources)
+    for fault in faults:
+        print(f"header: {fault}", file=sys.stderr)
+    if not faults:
+        print(f"header: {len(c_calls(without_comments(header)))} calls as in crates/dsss")
+    return 1 if faults else 0
+
+
+if __name__ == "__main__":
+    try:
+        sys.exit(main(sys.argv[1:]))
+    except (Fault, OSError) as fault:
+        print(f"header: {fault}", file=sys.stderr)
+        sys.exit(1)

@@ -1,0 +1,209 @@
+//! Refusals of the readers, at their edges and several at once.
+
+use super::{any_pair, pairs, soft_rows, turn, Draft, Out};
+use crate::bits::Rate;
+use crate::calls::Call;
+use crate::frame::Kind;
+use crate::random::Random;
+
+const KINDS: [u64; 12] = [0, 1, 2, 3, 255, 256, 257, 1 << 32, (1 << 32) + 1, 1 << 63, u64::MAX - 1, u64::MAX];
+
+/// The first chips of a long or a short frame that is longer than both fronts.
+fn first_chips(len: usize, random: &mut Random) -> Vec<u8> {
+    let kind = random.pick(&Kind::BOTH);
+    let mut chips = Draft::random(kind, Rate::Mbit2, 32, random).chips();
+    chips.truncate(len);
+    chips
+}
+
+pub fn read_numbers(out: &mut Out) {
+    for kind in KINDS {
+        for len in [0, 1, 11, 1055, 1056, 1057, 2111, 2112, 2113, 2400] {
+            for room in [0, 1, 31, 32, 33] {
+                let mut chips = first_chips(len, &mut out.random);
+                if out.random.once_in(3) && len > 0 {
+                    chips[out.random.below(len)] = 5;
+                }
+                out.call(Call::soft(kind, soft_rows(&chips, 1.0), room));
+                out.call(Call::hard(kind, chips, room));
+            }
+        }
+    }
+}
+
+pub fn rows_that_differ(out: &mut Out) {
+    let lens = [0, 1, 10, 1055, 1056, 1057, 1064, 2111, 2112, 2113, 2300];
+    for kind in [0, 1, 2, 256, u64::MAX] {
+        for i_len in lens {
+            for q_len in lens {
+                let (mut i, mut q) = soft_rows(&first_chips(2300, &mut out.random), 1.0);
+                if out.random.once_in(4) {
+                    let row = if out.random.once_in(2) { &mut i } else { &mut q };
+                    row[out.random.below(2300)] = f32::NAN;
+                }
+                i.truncate(i_len);
+                q.truncate(q_len);
+                out.call(Call::soft(kind, (i, q), 40));
+            }
+        }
+    }
+}
+
+pub fn empty_rows(out: &mut Out) {
+    for kind in [0, 1, 2] {
+        for room in [0, 1, 100] {
+            out.call(Call::hard(kind, vec![], room));
+            for (i_len, q_len) in [(0, 0), (0, 1), (1, 0), (0, 2112), (2112, 0)] {
+                out.call(Call::soft(kind, (vec![0.0; i_len], vec![0.0; q_len]), room));
+            }
+        }
+        for rate in [10, 20, 55, 110, 0] {
+            for (n, chips_len) in [(0, 0), (0, 3000), (1, 0), (4096, 0)] {
+                out.call(Call::write(kind, rate, 0, vec![0xC3; n], chips_len));
+            }
+        }
+    }
+    for (kind, rate) in pairs() {
+        let chips = Draft::random(kind, rate, 1, &mut out.random).chips();
+        out.call(Call::soft(kind.number(), soft_rows(&chips, 1.0), 0));
+        out.call(Call::hard(kind.number(), chips, 0));
+    }
+}
+
+/// What can be wrong with a reading, in the order of the refusals.
+const WRONGS: usize = 14;
+const KIND: usize = 0;
+const ROWS: usize = 1;
+const FRONT: usize = 2;
+const FRONT_UNUSABLE: usize = 3;
+const FRONT_GROWTH: usize = 4;
+const SFD: usize = 5;
+const CRC: usize = 6;
+const SIGNAL: usize = 7;
+const SERVICE: usize = 8;
+const LENGTH: usize = 9;
+const ENDS: usize = 10;
+const ROOM: usize = 11;
+const PAYLOAD_UNUSABLE: usize = 12;
+const PAYLOAD_GROWTH: usize = 13;
+
+/// A reading with the wrongs of a set (bit k for wrong k), the places and values at random.
+fn wrong_reading(set: usize, soft: bool, random: &mut Random) -> Call {
+    let wrong = |k: usize| set >> k & 1 == 1;
+    let (kind, rate) = if wrong(PAYLOAD_GROWTH) { (Kind::Long, Rate::Mbit1) } else { any_pair(random) };
+    let n = random.within(1, 6);
+    let mut draft = Draft::random(kind, rate, n, random);
+    if wrong(SIGNAL) {
+        let others = [0, 11, 54, 111, 255, if kind == Kind::Short { 10 } else { 138 }];
+        draft.header.signal = random.pick(&others);
+    }
+    if wrong(SERVICE) {
+        draft.header.service ^= 1 << random.below(7);
+    }
+    if wrong(LENGTH) {
+        draft.header.length = random.pick(&[0, draft.header.length + 1, draft.header.length | 0x8000, 0xFFFF]);
+    }
+    draft.crc = draft.header.crc();
+    if wrong(CRC) {
+        draft.crc ^= random.within(1, 0xFFFF) as u16;
+    }
+    if wrong(SFD) {
+        draft.sfd ^= random.within(1, 0xFFFF) as u16;
+    }
+    let mut chips = draft.chips();
+    let (front, frame) = (kind.front_chips(), chips.len());
+    if wrong(FRONT_GROWTH) {
+        let symbol = random.within(1, kind.bits_before_header() - 1);
+        turn(&mut chips[11 * symbol..11 * (symbol + 1)], random.pick(&[1, 3]));
+    }
+    if wrong(PAYLOAD_GROWTH) {
+        let at = front + 11 * random.below(8 * n);
+        turn(&mut chips[at..at + 11], random.pick(&[1, 3]));
+    }
+    if wrong(FRONT_UNUSABLE) {
+        chips[random.below(front)] = random.within(5, 255) as u8;
+    }
+    if wrong(PAYLOAD_UNUSABLE) {
+        chips[random.within(front, frame - 1)] = random.within(5, 255) as u8;
+    }
+    if wrong(FRONT) {
+        chips.truncate(random.pick(&[0, 1, front / 2, front - 12, front - 1]));
+    } else if wrong(ENDS) {
+        chips.truncate(random.within(front, frame - 1));
+    }
+    let room = if wrong(ROOM) { random.below(n) } else { random.within(n, n + 2) };
+    let number = if wrong(KIND) { random.pick(&KINDS[2..]) } else { kind.number() };
+    if !soft {
+        return Call::hard(number, chips, room);
+    }
+    let (mut i, mut q) = soft_rows(&chips, 1.0);
+    for at in (0..chips.len()).filter(|at| chips[*at] > 4) {
+        let value = random.pick(&[f32::NAN, f32::INFINITY, f32::NEG_INFINITY, 8.000_001, -9.0, f32::MAX]);
+        if random.once_in(2) { i[at] = value } else { q[at] = value }
+    }
+    if wrong(ROWS) {
+        let row = if random.once_in(2) { &mut i } else { &mut q };
+        if random.once_in(2) || row.is_empty() { row.push(0.5) } else { row.truncate(row.len() - 1) }
+    }
+    Call::soft(number, (i, q), room)
+}
+
+pub fn every_set_of_refusals(out: &mut Out) {
+    for set in 0..1 << WRONGS {
+        let rows_differ = set >> ROWS & 1 == 1;
+        if !rows_differ {
+            let call = wrong_reading(set, false, &mut out.random);
+            out.call(call);
+        }
+        if out.long || out.random.once_in(6) {
+            let call = wrong_reading(set, true, &mut out.random);
+            out.call(call);
+        }
+    }
+}
+
+pub fn few_refusals(out: &mut Out) {
+    for case in 0..out.cases(4000) {
+        let wrongs = out.random.within(0, 3);
+        let set = (0..wrongs).fold(0, |set, _| set | 1 << out.random.below(WRONGS));
+        let soft = case % 3 == 0;
+        // The rows of a hard recording can't differ.
+        let set = if soft { set } else { set & !(1 << ROWS) };
+        let call = wrong_reading(set, soft, &mut out.random);
+        out.call(call);
+    }
+}
+
+pub fn cut_recordings(out: &mut Out) {
+    for (kind, rate) in pairs() {
+        for n in [1, 2, 5] {
+            let chips = Draft::random(kind, rate, n, &mut out.random).chips();
+            let (front, frame) = (kind.front_chips(), chips.len());
+            let about_the_ends = (front - 13..=front + 13).chain(frame.max(front + 27) - 13..frame);
+            let between = (front + 14..frame.max(front + 27) - 13).step_by(out.step(7));
+            let before = (0..front - 13).step_by(out.step(131));
+            for len in about_the_ends.chain(between).chain(before).filter(|len| *len <= frame) {
+                let mut cut = chips[..len].to_vec();
+                if len > 0 && out.random.once_in(4) {
+                    let at = out.random.below(len);
+                    cut[at] = 200;
+                }
+                let room = out.random.within(n - 1, n + 1);
+                if out.random.once_in(3) {
+                    out.call(Call::soft(kind.number(), soft_rows(&cut, 1.0), room));
+                }
+                out.call(Call::hard(kind.number(), cut, room));
+            }
+        }
+    }
+}
+
+pub fn kinds_crossed(out: &mut Out) {
+    for _ in 0..out.cases(500) {
+        let (kind, rate) = any_pair(&mut out.random);
+        let other = if kind == Kind::Long { Kind::Short } else { Kind::Long };
+        let n = out.random.within(1, 140);
+        let draft = Draft::random(kind, rate, n, &mut out.random);
+        out.call(Call::hard(other.number(), draft.chips(), n));
+    }
+}
