@@ -332,7 +332,7 @@ struct turned {
     int32_t by[5][CCK];
 };
 
-static struct turned turn(const int32_t *i, const int32_t *q)
+static inline struct turned turn(const int32_t *i, const int32_t *q)
 {
     struct turned turned;
 
@@ -355,7 +355,7 @@ struct best {
 static const struct best none = {{INT32_MIN, INT32_MIN, INT32_MIN, INT32_MIN}, {0, 0, 0, 0}};
 
 /* Tries a word in its four turns. Words come in rising order, so a later equal does not win. */
-static void try_word(struct best *best, const struct turned *turned, unsigned word)
+static inline void try_word(struct best *best, const struct turned *turned, unsigned word)
 {
     int32_t a = 0, b = 0;
 
@@ -382,8 +382,8 @@ static unsigned number_of(const struct best *best)
     return 64 * p1 + best->word[p1];
 }
 
-/* Tries the 16 words: 4, each in four turns. */
-static unsigned choose_cck55(const int32_t *i, const int32_t *q)
+/* Tries the 16 words: 4, each in four turns. Inline, as the sums of four known words unroll. */
+static inline unsigned choose_cck55(const int32_t *i, const int32_t *q)
 {
     struct turned turned = turn(i, q);
     struct best best = none;

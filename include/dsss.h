@@ -13,7 +13,7 @@
  * Overlap   A const row is only read. A row without const is lent for writing and overlaps no
  *           other row of the call. Const rows may overlap each other.
  * Memory    Nothing is allocated and nothing is kept: no state, no lock, no file. Calls at the same
- *           time are safe if no row lent for writing belongs to two of them.
+ *           time are safe if no row that one of them writes is used by another.
  * Numbers   Numbers are 64 bits wide and compared whole: a kind of 2^32 is refused, not cut to 0.
  * Answers   An answer is a record by value. Its number is 0 if the call did its work, or the number
  *           of the refusal. Where several refusals hold, the first in the call's order is given.
@@ -131,34 +131,51 @@ dsss_record dsss_read_hard(uint64_t kind, const uint8_t *chips, size_t chips_len
 dsss_record dsss_read_soft(uint64_t kind, const float *i, size_t i_len, const float *q,
                            size_t q_len, uint8_t *octets, size_t octets_len);
 
-/* The sentence of an answer's number, to show to people. Any other number than 0 to 17 gets the
- * last sentence.
+/* The sentence of an answer's number, to show to people. A number that is neither 0 nor a refusal
+ * gets the last sentence.
  * NOT PROVED: plain C, held to the table of refusals by tests/header. */
 static inline const char *dsss_sentence(uint64_t number)
 {
-    static const char *const sentences[] = {
-        "Not refused.",
-        "The kind is neither 0 (long) nor 1 (short).",
-        "The rate code is not one of the four: 10, 20, 55 or 110.",
-        "Rate code 10 does not go with the short kind.",
-        "The payload is 0 octets or above 4,095.",
-        "The starting phase is above 3.",
-        "The chip buffer is shorter than the frame.",
-        "The I and Q rows differ in length.",
-        "The recording is shorter than the front of a frame.",
-        "A chip is unusable.",
-        "A 1 Mbit/s symbol has grown by 1 or 3 quarter turns.",
-        "The unscrambled SFD differs from that of this kind.",
-        "The CRC of the header differs.",
-        "SIGNAL is not a rate of this kind.",
-        "SERVICE is not 0, nor 128 at 11 Mbit/s.",
-        "LENGTH is not one that a writer makes for 1 to 4,095 octets.",
-        "The recording ends inside the payload.",
-        "The octet buffer is shorter than the payload.",
-        "This number is no refusal of this library.",
-    };
-    const uint64_t last = sizeof sentences / sizeof sentences[0] - 1;
-    return sentences[number < last ? number : last];
+    switch (number) {
+    case 0:
+        return "Not refused.";
+    case DSSS_REFUSED_KIND:
+        return "The kind is neither 0 (long) nor 1 (short).";
+    case DSSS_REFUSED_RATE:
+        return "The rate code is not one of the four: 10, 20, 55 or 110.";
+    case DSSS_REFUSED_SHORT_RATE:
+        return "Rate code 10 does not go with the short kind.";
+    case DSSS_REFUSED_PAYLOAD:
+        return "The payload is 0 octets or above 4,095.";
+    case DSSS_REFUSED_PHASE:
+        return "The starting phase is above 3.";
+    case DSSS_REFUSED_CHIP_ROOM:
+        return "The chip buffer is shorter than the frame.";
+    case DSSS_REFUSED_ROWS:
+        return "The I and Q rows differ in length.";
+    case DSSS_REFUSED_FRONT:
+        return "The recording is shorter than the front of a frame.";
+    case DSSS_REFUSED_CHIP:
+        return "A chip is unusable.";
+    case DSSS_REFUSED_GROWTH:
+        return "A 1 Mbit/s symbol has grown by 1 or 3 quarter turns.";
+    case DSSS_REFUSED_SFD:
+        return "The unscrambled SFD differs from that of this kind.";
+    case DSSS_REFUSED_CRC:
+        return "The CRC of the header differs.";
+    case DSSS_REFUSED_SIGNAL:
+        return "SIGNAL is not a rate of this kind.";
+    case DSSS_REFUSED_SERVICE:
+        return "SERVICE is not 0, nor 128 at 11 Mbit/s.";
+    case DSSS_REFUSED_LENGTH:
+        return "LENGTH is not one that a writer makes for 1 to 4,095 octets.";
+    case DSSS_REFUSED_CUT:
+        return "The recording ends inside the payload.";
+    case DSSS_REFUSED_OCTET_ROOM:
+        return "The octet buffer is shorter than the payload.";
+    default:
+        return "This number is no refusal of this library.";
+    }
 }
 
 #ifdef __cplusplus

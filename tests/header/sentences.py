@@ -3,9 +3,9 @@
   sentences.py PROGRAM [RULES]   PROGRAM is header.c, built; RULES is docs/RULES.md if not given
 
 RULES has a table with a row "| number | given exactly when |" for each refusal. The numbers must be
-those of the constants, in rising order and without a gap; each number must have a sentence of its
-own, and a sentence must share more words with its own row than with any other, so that two
-exchanged sentences are found. 0 and numbers without a refusal get sentences of their own.
+those of the constants, which rise from 1. Each number must have a sentence of its own, and share
+more words with its own row than with any other, so that two exchanged sentences are found. 0 has a
+sentence of its own, and all numbers that are no refusal have another in common.
 """
 import re
 import subprocess
@@ -69,17 +69,18 @@ def sentences(program, numbers):
 
 def main(program, rules="docs/RULES.md"):
     numbers = constants(HEADER)
-    if not numbers or numbers != list(range(1, len(numbers) + 1)):
-        sys.exit(f"sentences: the constants are {numbers}, not 1, 2, 3 ..")
+    if not numbers or numbers[0] != 1 or numbers != sorted(set(numbers)):
+        sys.exit(f"sentences: the constants are {numbers}, which do not rise from 1")
     rows, faults = table_of_refusals(rules, numbers), []
-    past = len(numbers) + 1
-    said = sentences(program, [0] + numbers + [past] + UNKNOWN)
+    past = numbers[-1] + 1
+    unknown = [past] + UNKNOWN + sorted(set(range(1, past)) - set(numbers))
+    said = sentences(program, [0] + numbers + unknown)
     own = [said[number] for number in [0] + numbers + [past]]
     if len(set(own)) != len(own):
         faults.append("two numbers have one sentence")
     if any(not re.fullmatch(r"[A-Z].*\.", sentence) for sentence in own):
         faults.append("a sentence is empty, or has no capital or full stop")
-    if any(said[number] != said[past] for number in UNKNOWN):
+    if any(said[number] != said[past] for number in unknown):
         faults.append("numbers without a refusal have different sentences")
     for number in numbers:
         if nearest(said[number], rows) != number:

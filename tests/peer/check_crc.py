@@ -2,8 +2,8 @@
 
     python3 tests/peer/check_crc.py [DIR OF THE VECTORS]
 
-crc_hqx has the polynomial x^16 + x^12 + x^5 + 1, highest bit first; preset to ones and complemented it is CRC-16/GENIBUS.
-Ends with status 1 on a difference or a missing file.
+crc_hqx has the polynomial x^16 + x^12 + x^5 + 1, highest bit first; preset to ones and complemented it is
+CRC-16/GENIBUS. Ends with status 1 on a difference or a missing file.
 """
 
 import binascii

@@ -1,7 +1,7 @@
 -- Laws of rows whose elements are all below a number.
 --     below-nil, below-cons, below-head, below-tail, below-append    element by element
 --     below-take, below-drop, below-replicate, below-more            parts, repeats, a larger bound
---     below-eight                                                    eight elements
+--     below-eight, below-each                                        eight elements
 -- Each is by the index. Assumes nothing.
 use mathlib.Core.Path.{_≡_, refl, sym, subst}
 use mathlib.Core.List.{List, [], _∷_, _++_}
@@ -58,3 +58,7 @@ below-eight {n} {x0} h0 h1 h2 h3 h4 h5 h6 h7 =
     (below-cons h1
     (below-cons h2
     (below-cons h3 (below-cons h4 (below-cons h5 (below-cons h6 (below-cons h7 (below-nil n (omega arith)))))))))
+
+pub below-each : {n x0 x1 x2 x3 x4 x5 x6 x7 : ℕ} → Below n (x0 ∷ x1 ∷ x2 ∷ x3 ∷ x4 ∷ x5 ∷ x6 ∷ x7 ∷ [])
+    → (x0 < n) × (x1 < n) × (x2 < n) × (x3 < n) × (x4 < n) × (x5 < n) × (x6 < n) × (x7 < n)
+below-each h = (h .at 0, h .at 1, h .at 2, h .at 3, h .at 4, h .at 5, h .at 6, h .at 7)

@@ -1,22 +1,32 @@
 -- Laws of bits, numbers and octets.
 --     bits-push, bits-length, bits-below, bits-mod, bits-two      bits of a number
 --     number-bits, bits-number, number-append, number-below      a number of its bits, and bits of their number
---     octets-length, octets-below, octets-append                 bits of octets
---     octets-back, octets-bits, octets-of-append, octets-of-length, octets-of-below    octets of bits
+--     octet-bits-length, octet-bits-below, octet-bits-append     bits of octets
+--     octets-back, octets-bits                                   octets of their bits, and bits of their octets
+--     octets-append, octets-more, octets-length, octets-below    octets of bits
+--     number-one, number-two, octets-same                        numbers of octets, and octets told by their bits
 -- By induction on the bits or the octets, with what `omega` knows of a half. Assumes nothing.
 use mathlib.Core.Path.{_≡_, refl, sym, ap, ap₂, _∙_}
-use mathlib.Core.List.{List, [], _∷_, _++_, append-assoc}
+use mathlib.Core.List.{List, [], _∷_, _++_, append-assoc, append-nil}
 use Prim.Native.Nat.{ℕ, zero, suc, _+_, _*_, _/_, _%_, _^_, _<_, _≤_}
-use native.Mathlib.Nat.{pow-suc, mul-assoc, mul-comm, mul-suc, mul-zero, suc-add, zero-add}
+use native.Mathlib.Nat.{pow-suc, mul-assoc, mul-comm, suc-add, zero-add, lt-of-lt-of-le, pow-le-pow-right}
 use native.Mathlib.Omega.{arith}
 use lib.Arith.{mod-mul}
 use lib.Dec.{lit<}
-use lib.ListN.{length, take, drop, length-append, length-drop, take-append-drop}
+use lib.ListN.{length, take, drop, length-drop, length-take}
 use lib.Pow.{pow-pos}
 use lib.Seq.{take-append-le, drop-append-le, take-at, drop-at, take-add, length-take-le}
 use Rattle.bits.specs.Bits.{bitsOf, numberOf, octetBits, octetsOf}
 use Rattle.bits.specs.Code.{Below}
-use Rattle.bits.proofs.Below.{below-nil, below-cons, below-head, below-tail, below-append, below-take, below-drop}
+use Rattle.bits.proofs.Below.{
+  below-nil,
+  below-cons,
+  below-head,
+  below-tail,
+  below-append,
+  below-take,
+  below-drop,
+}
 
 -- a bit put below a number
 pub bits-push : (n c t : ℕ) → c < 2 → bitsOf (suc n) (c + 2 * t) ≡ c ∷ bitsOf n t
@@ -48,7 +58,8 @@ pub bits-mod : (n x : ℕ) → bitsOf n (x % 2 ^ n) ≡ bitsOf n x
 bits-mod zero x = unfold bitsOf in refl
 bits-mod (suc n) x =
     rw (pow-suc 2 n, mod-mul x {m = 2 ^ n} {c = 2} (pow-pos n) (lit< tt), turned (x / 2 % 2 ^ n) (x % 2))
-    (bits-push n (x % 2) (x / 2 % 2 ^ n) (omega arith) ∙ ap {B = List ℕ} (λ l. x % 2 ∷ l) (bits-mod n (x / 2)) ∙ sym (bits-suc n x))
+    (bits-push n (x % 2) (x / 2 % 2 ^ n) (omega arith)
+    ∙ ap {B = List ℕ} (λ l. x % 2 ∷ l) (bits-mod n (x / 2)) ∙ sym (bits-suc n x))
   where
     turned : (t c : ℕ) → t * 2 + c ≡ c + 2 * t
     turned t c = omega arith
@@ -101,3 +112,90 @@ number-below (b ∷ bs) h =
   where
     more : (b x k : ℕ) → b < 2 → x < k → b + 2 * x < k * 2
     more b x k h l = omega arith
+
+-- ---- octets
+
+pub octet-bits-length : (xs : List ℕ) → length (octetBits xs) ≡ 8 * length xs
+unfolding octetBits bitsOf
+octet-bits-length [] = refl
+octet-bits-length (x ∷ xs) = omega (arith, octet-bits-length xs)
+
+pub octet-bits-below : (xs : List ℕ) → Below 2 (octetBits xs)
+unfolding octetBits
+octet-bits-below [] = below-nil 2 (omega arith)
+octet-bits-below (x ∷ xs) = below-append (bits-below 8 x) (octet-bits-below xs)
+
+pub octet-bits-append : (a b : List ℕ) → octetBits (a ++ b) ≡ octetBits a ++ octetBits b
+unfolding octetBits
+octet-bits-append [] b = refl
+octet-bits-append (x ∷ a) b = rw (octet-bits-append a b) (sym (append-assoc (bitsOf 8 x) (octetBits a) (octetBits b)))
+
+pub octets-length : (n : ℕ) (bs : List ℕ) → length (octetsOf n bs) ≡ n
+unfolding octetsOf
+octets-length zero bs = refl
+octets-length (suc n) bs = ap suc (octets-length n (drop 8 bs))
+
+pub octets-back : (xs : List ℕ) → Below 256 xs → octetsOf (length xs) (octetBits xs) ≡ xs
+unfolding octetsOf octetBits
+octets-back [] h = refl
+octets-back (x ∷ xs) h =
+    ap₂ {C = List ℕ} (λ y ys. y ∷ ys)
+    (ap numberOf (take-at (bitsOf 8 x) (octetBits xs) 8 (bits-length 8 x)) ∙ number-bits 8 x (below-head h))
+    (ap (octetsOf (length xs)) (drop-at (bitsOf 8 x) (octetBits xs) 8 (bits-length 8 x))
+    ∙ octets-back xs (below-tail h))
+
+pub octets-bits : (n : ℕ) (bs : List ℕ) → 8 * n ≤ length bs → Below 2 bs → octetBits (octetsOf n bs) ≡ take (8 * n) bs
+unfolding octetsOf octetBits
+octets-bits zero bs l h = refl
+octets-bits (suc n) bs l h =
+    let m : 8 * suc n ≡ 8 + 8 * n = omega arith in
+    let first : bitsOf 8 (numberOf (take 8 bs)) ≡ take 8 bs =
+    bits-number 8 (take 8 bs) (length-take-le 8 bs (omega arith)) (below-take 8 h) in
+    let rest : octetBits (octetsOf n (drop 8 bs)) ≡ take (8 * n) (drop 8 bs) =
+    octets-bits n (drop 8 bs) (rw length-drop (omega arith)) (below-drop 8 h) in
+    rw (m, take-add 8 (8 * n) bs, first, rest)
+
+pub octets-append : (m n : ℕ) (a b : List ℕ) → length a ≡ 8 * m
+    → octetsOf (m + n) (a ++ b) ≡ octetsOf m a ++ octetsOf n b
+unfolding octetsOf
+octets-append zero n [] b e = rw (zero-add n)
+octets-append zero n (x ∷ a) b e = absurd (omega arith)
+octets-append (suc m) n a b e =
+    let l : 8 ≤ length a = omega arith in
+    let rest : length (drop 8 a) ≡ 8 * m = rw length-drop (omega arith) in
+    rw (suc-add m n, take-append-le 8 a b l, drop-append-le 8 a b l, octets-append m n (drop 8 a) b rest)
+
+pub octets-more : (n : ℕ) (a b : List ℕ) → 8 * n ≤ length a → octetsOf n (a ++ b) ≡ octetsOf n a
+unfolding octetsOf
+octets-more zero a b l = refl
+octets-more (suc n) a b l =
+    let k : 8 ≤ length a = omega arith in
+    let rest : 8 * n ≤ length (drop 8 a) = rw length-drop (omega arith) in
+    rw (take-append-le 8 a b k, drop-append-le 8 a b k, octets-more n (drop 8 a) b rest)
+
+pub octets-below : (n : ℕ) (bs : List ℕ) → Below 2 bs → Below 256 (octetsOf n bs)
+unfolding octetsOf
+octets-below zero bs h = below-nil 256 (omega arith)
+octets-below (suc n) bs h =
+    below-cons (small (take 8 bs) (below-take 8 h) (omega (arith, length-take 8 bs)))
+    (octets-below n (drop 8 bs) (below-drop 8 h))
+  where
+    small : (ds : List ℕ) → Below 2 ds → length ds ≤ 8 → numberOf ds < 256
+    small ds h l = lt-of-lt-of-le (number-below ds h) (pow-le-pow-right (omega arith) l)
+
+-- the numbers of one octet and of two, the lower first
+pub number-one : (a : ℕ) → a < 256 → numberOf (octetBits (a ∷ [])) ≡ a
+unfolding octetBits
+number-one a h = rw append-nil (number-bits 8 a h)
+
+pub number-two : (a b : ℕ) → a < 256 → b < 256 → numberOf (octetBits (a ∷ b ∷ [])) ≡ a + 256 * b
+unfolding octetBits
+number-two a b h k =
+    rw append-nil
+    (number-append (bitsOf 8 a) (bitsOf 8 b)
+    ∙ rw (bits-length 8 a) (ap₂ {C = ℕ} (λ x y. x + 256 * y) (number-bits 8 a h) (number-bits 8 b k)))
+
+-- octets with the same bits are the same
+pub octets-same : (a b : List ℕ) → length a ≡ length b → Below 256 a → Below 256 b → octetBits a ≡ octetBits b → a ≡ b
+octets-same a b e h k q =
+    sym (octets-back a h) ∙ ap₂ {C = List ℕ} (λ n bs. octetsOf n bs) e q ∙ octets-back b k

@@ -39,7 +39,8 @@ remainder-length r (b ∷ bs) e = remainder-length (crcStep r b) bs (step-length
 
 pub crc-length : (bs : List ℕ) → length (crcBits bs) ≡ 16
 unfolding crcBits
-crc-length bs = length-map (remainder (replicate 16 1) bs) (λ (b : ℕ). b ⊕ 1) ∙ remainder-length (replicate 16 1) bs refl
+crc-length bs =
+    length-map (remainder (replicate 16 1) bs) (λ (b : ℕ). b ⊕ 1) ∙ remainder-length (replicate 16 1) bs refl
 
 pub complement-below : (bs : List ℕ) → Below 2 (complement bs)
 complement-below [] = below-nil 2 (omega arith)
@@ -49,7 +50,8 @@ pub crc-below : (bs : List ℕ) → Below 2 (crcBits bs)
 unfolding crcBits
 crc-below bs = complement-below (remainder (replicate 16 1) bs)
 
--- the CRC of four octets, octet by octet: r1 to r3 are the register after one to three of them, f and g its halves after four
+-- the CRC of four octets, octet by octet: r1 to r3 are the register after one to three of them, f and g its halves
+-- after four
 pub crc-is : (a b c d x y : ℕ) (ones r1 r2 r3 f g : List ℕ)
     → ones ≡ bitsOf 8 255 → r1 ≡ remainder (ones ++ ones) (bitsOf 8 a)
     → r2 ≡ remainder r1 (bitsOf 8 b) → r3 ≡ remainder r2 (bitsOf 8 c) → f ++ g ≡ remainder r3 (bitsOf 8 d)
@@ -57,6 +59,7 @@ pub crc-is : (a b c d x y : ℕ) (ones r1 r2 r3 f g : List ℕ)
     → octetBits (x ∷ y ∷ []) ≡ crcBits (octetBits (a ∷ b ∷ c ∷ d ∷ []))
 unfolding octetBits crcBits
 crc-is a b c d x y ones r1 r2 r3 f g e e1 e2 e3 e4 ex ey =
-    let first : r1 ≡ remainder (replicate 16 1) (bitsOf 8 a) = e1 ∙ unfold bitsOf in ap (λ (l : List ℕ). remainder (l ++ l) (bitsOf 8 a)) e in
+    let first : r1 ≡ remainder (replicate 16 1) (bitsOf 8 a) =
+    e1 ∙ unfold bitsOf in ap (λ (l : List ℕ). remainder (l ++ l) (bitsOf 8 a)) e in
     simp append-nil
     (rw (remainder-append, remainder-append, remainder-append, ← first, ← e2, ← e3, ← e4, map-append, ex, ey))

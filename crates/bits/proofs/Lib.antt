@@ -1,5 +1,7 @@
 pub mod Below
 pub mod Bits
 pub mod Growths
+pub mod Heard
 pub mod Scrambler
 pub mod Crc
+pub mod Facts

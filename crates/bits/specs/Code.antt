@@ -1,8 +1,14 @@
--- What the code's structs stand for, and rows whose elements are all below a number.
+-- What the code's structs stand for, rows whose elements are all below a number, and the words of symbols by their
+-- numbers.
 -- Definitions only. Assumes nothing.
 use Prim.Native.Nat.{ℕ, _<_}
 use mathlib.Core.List.{List, [], _∷_, _++_}
 use lib.ListN.{getD}
+use Rattle.rates.specs.declared.Rate.{Rate}
+use Rattle.rates.specs.declared.Rate.the-variants.{One, Two, Five, Eleven}
+use Rattle.chips.specs.Chips.{turned}
+use Rattle.symbols.specs.Words.{cckNumber, wordOf}
+use Rattle.bits.specs.Growths.{Symbol}
 use Rattle.bits.specs.declared.Eight.{Eight}
 use Rattle.bits.specs.declared.Sixteen.{Sixteen}
 
@@ -14,6 +20,11 @@ inTime e = e .b0 ∷ e .b1 ∷ e .b2 ∷ e .b3 ∷ e .b4 ∷ e .b5 ∷ e .b6 ∷
 abbrev pub lastFirst : Eight → List ℕ
 lastFirst e = e .b7 ∷ e .b6 ∷ e .b5 ∷ e .b4 ∷ e .b3 ∷ e .b2 ∷ e .b1 ∷ e .b0 ∷ []
 
+-- the past once more outputs have been made, first in time first
+unfoldable pub pastAfter : List ℕ → List ℕ → List ℕ
+pastAfter past [] = past
+pastAfter past (o ∷ os) = pastAfter (o ∷ past) os
+
 -- the CRC register, highest term first
 abbrev pub terms : Sixteen → List ℕ
 terms r = inTime (r .first) ++ inTime (r .second)
@@ -21,3 +32,26 @@ terms r = inTime (r .first) ++ inTime (r .second)
 -- every element is below n, and so is the 0 that stands for one past the end
 pub record Below (n : ℕ) (xs : List ℕ) : Type 0 where
   pub at : (i : ℕ) → getD xs i 0 < n
+
+-- the number of the word of a symbol whose phase is p
+abbrev pub symbolNumber : Rate → ℕ → Symbol → ℕ
+symbolNumber One p s = p
+symbolNumber Two p s = p
+symbolNumber Five p s = cckNumber p (s .p2) (s .p3) (s .p4)
+symbolNumber Eleven p s = cckNumber p (s .p2) (s .p3) (s .p4)
+
+-- the numbers of symbols' words, each grown from the one before it, the first from phase p
+unfoldable pub numbersFrom : Rate → ℕ → List Symbol → List ℕ
+numbersFrom r p [] = []
+numbersFrom r p (s ∷ ss) = symbolNumber r (turned p (s .grows)) s ∷ numbersFrom r (turned p (s .grows)) ss
+
+-- the chips of words by their numbers
+unfoldable pub wordsChips : Rate → List ℕ → List ℕ
+wordsChips r [] = []
+wordsChips r (n ∷ ns) = wordOf r n ++ wordsChips r ns
+
+-- a CCK word's other phases are phases
+pub record Proper (s : Symbol) : Type 0 where
+  pub second : s .p2 < 4
+  pub third : s .p3 < 4
+  pub fourth : s .p4 < 4

@@ -1,11 +1,13 @@
 -- The counts of every chip are from -8192 to 8192; those of a usable one are at most half a count from its exact value,
--- and those of a hard or a lost one are the value itself. Hard chips are computed at each phase; soft ones go by the laws of
--- their two fields.
+-- and those of a hard or a lost one are the value itself. Hard chips are computed at each phase; soft ones go by the
+-- laws of their two fields.
 -- Assumes nothing.
 use mathlib.Core.Path.{refl}
 use mathlib.Core.Bool.{Bool, true, false, cond}
+use mathlib.Core.List.{List, map}
 use Prim.Native.Nat.{ℕ, zero, suc, _^_, _≤_}
 use lib.Dec.{T, lit≤}
+use lib.ListN.{getD, List·getD-map}
 use lib.IntN.{ℤ, pos, negsuc, natAbs}
 use Rattle.base.proofs.Whole.{within-zero}
 use Rattle.base.proofs.Tests.{both-left, both-right}
@@ -34,6 +36,10 @@ counts-within (Soft s) = go (usableSample s)
     go : (b : Bool) → Bounded 8192 (cond b (pair (countOf (s .i)) (countOf (s .q))) nothing)
     go true = record { real = count-within (s .i); imag = count-within (s .q) }
     go false = bounded (pos 0) (pos 0) (lit≤ tt) (lit≤ tt)
+
+-- so are those of a whole row, and of what stands for one past its end
+pub row-within : (cs : List Chip) (k : ℕ) → Bounded 8192 (getD (map countsOf cs) k nothing)
+row-within cs k = rw (List·getD-map countsOf cs k Lost) (counts-within (getD cs k Lost))
 
 -- ---- the error
 pub hard-exact : (p : ℕ) → Exact (countsOf (Hard p)) (exactOf (Hard p))

@@ -1,5 +1,5 @@
--- The worked values of document 01, "Chips", computed from the definitions: each float by its bit pattern, each octet by
--- what it is taken as. One statement a table.
+-- The worked values of document 01, "Chips", computed from the definitions: each float by its bit pattern, each octet
+-- by what it is taken as. One statement a table.
 -- Assumes nothing.
 use mathlib.Core.Path.{_≡_, refl}
 use mathlib.Core.Bool.{Bool, true, false}
@@ -8,7 +8,7 @@ use Prim.Native.Nat.{ℕ}
 use lib.IntN.{ℤ, pos, negℤ}
 use lib.Ieee.{binary32, ofBits}
 use Rattle.chips.specs.Floats.{usable, countOf}
-use Rattle.chips.specs.Chips.{pair, nothing, Taken, unusable, counted, hardTaken}
+use Rattle.chips.specs.Chips.{pair, nothing, unusable, counted, hardTaken}
 
 -- the count of a bit pattern, and whether it is usable
 unfoldable pub patternCount : ℕ → ℤ

@@ -1,5 +1,6 @@
--- What the recorders make of their rows: the counts that reading goes by are those of the recorded chips, and a recording
--- has at each place what the rows have there. `part` is what a symbol is read from, once for every recorder, place and width.
+-- What the recorders make of their rows: the counts that reading goes by are those of the recorded chips, and a
+-- recording has at each place what the rows have there. `part` is what a symbol is read from, once for every recorder,
+-- place and width.
 -- Assumes nothing.
 use mathlib.Core.Path.{_≡_, refl, sym, ap, _∙_}
 use mathlib.Core.Bool.{Bool, true, false, not, cond}
@@ -7,9 +8,9 @@ use mathlib.Core.List.{List, [], _∷_, _++_, map}
 use Prim.Native.Nat.{ℕ, zero, suc, _+_, _≤_, _<_, min}
 use native.Mathlib.Nat.{le-of-suc-le-suc, not-suc-le-zero, zero-min, min-zero, suc-min-suc, min-eq-left, le-refl}
 use native.Mathlib.Omega.{arith}
-use lib.Dec.{T, leb, eqb, nleb→lt}
+use lib.Dec.{T, leb, nleb→lt}
 use lib.ListN.{length, getD, take, drop, length-map, length-drop}
-use lib.Seq.{length-take-le, getD-take, getD-drop, drop-nil}
+use lib.Seq.{length-take-le, getD-take, getD-drop}
 use lib.Ieee.{Float}
 use borrow.Author.Tests.{ne-eqb}
 use Rattle.base.specs.Tables.{tabulate}
@@ -42,7 +43,8 @@ sample x y = record { i = x; q = y }
 pub taken-hard : (x : ℕ) → takenCounts (hardTaken x) ≡ countsOf (hardChip x)
 taken-hard x = go (leb x 4) (nleb→lt x 4)
   where
-    go : (b : Bool) → (T (not b) → 4 < x) → takenCounts (cond b (counted (countsOf (hardChip x))) unusable) ≡ countsOf (hardChip x)
+    go : (b : Bool) → (T (not b) → 4 < x)
+        → takenCounts (cond b (counted (countsOf (hardChip x))) unusable) ≡ countsOf (hardChip x)
     go true f = refl
     go false f = let h : 4 < x = f tt in simp (ne-eqb x 4 (λ e. omega arith)) (sym (full-past 1024 x (omega arith)))
 

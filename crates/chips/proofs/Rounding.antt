@@ -1,15 +1,17 @@
 -- The whole number nearest to n / h, the even one at a tie. It is one number (`only`); `nearest` and the logic's own
--- `closest` are it; and it goes along with an even number of h's that n is added to or taken from. Nothing here is about
--- floats. `omega` takes numbers of at most 38 digits, and 2 ^ 139 has 42: so the laws are over any h, and k * h is an
--- unknown to `omega`.
+-- `closest` are it; and it goes along with an even number of h's that n is added to or taken from. Nothing here is
+-- about floats. `omega` takes numbers of at most 38 digits, and 2 ^ 139 has 42: so the laws are over any h, and k * h
+-- is an unknown to `omega`.
 -- Assumes nothing.
 use mathlib.Core.Path.{_≡_, refl, sym, ap, _∙_, subst}
 use mathlib.Core.Bool.{Bool, true, false, not, cond}
-use Prim.Native.Nat.{ℕ, suc, _+_, _-_, _*_, _/_, _%_, _^_, _≤_, _<_, compare, Ordering, Ordering·lt, Ordering·eq, Ordering·gt}
-use native.Mathlib.Nat.{le-antisymm, mul-le-mul-right, suc-mul, add-mul, one-mul, div-add-mod', mod-lt, le-of-mul-le-mul-right}
+use Prim.Native.Nat.{ℕ, suc, _+_, _-_, _*_, _/_, _%_, _^_, _≤_, _<_}
+use Prim.Native.Nat.{compare, Ordering, Ordering·lt, Ordering·eq, Ordering·gt}
+use native.Mathlib.Nat.{le-antisymm, mul-le-mul-right, le-of-mul-le-mul-right, suc-mul, add-mul, one-mul}
+use native.Mathlib.Nat.{div-add-mod', mod-lt}
 use native.Mathlib.Numerals.{add-one}
 use native.Mathlib.Omega.{arith}
-use lib.Dec.{T, isLe, isEq, ltb, leb, eqb, ltb→lt, nltb→le, leb→le, nleb→lt, eqb→eq, eqb-refl}
+use lib.Dec.{T, isLe, isEq, ltb, eqb, ltb→lt, nltb→le, leb→le, nleb→lt, eqb→eq, eqb-refl}
 use lib.Arith.{lt-of-le-ne}
 use lib.Pow.{pow-pos}
 use lib.Ieee as ieee
@@ -148,6 +150,6 @@ at-most h n k M H l p = le-of-not-less (λ (g : M < k).
     le-of-not-less : ¬ (M < k) → k ≤ M
     le-of-not-less x = omega arith
 
--- a count of at most 8 is at most 8192
+-- 8 is 8192 counts
 pub nearest-le : (n : ℕ) → n ≤ 8 * 2 ^ 149 → nearest n ≤ 8192
 nearest-le n h = at-most (2 ^ 139) n (nearest n) 8192 (pow-pos 139) h (nearest-near n)

@@ -1,12 +1,12 @@
 -- A finite f32 is a whole number of steps: the division in `steps` leaves no remainder (`steps-exact`). So `usable` is
--- what the two comparisons with 8 and -8 find (`usable-is`).
+-- what the two comparisons with -8 and 8 find (`usable-is`).
 -- Assumes nothing.
 use mathlib.Core.Path.{_≡_, refl, sym, ap, _∙_}
 use mathlib.Core.Logic.{inl, inr}
 use mathlib.Core.Bool.{Bool, true, false, _&&_, _||_}
 use Prim.Native.Nat.{ℕ, zero, suc, _+_, _-_, _*_, _/_, _%_, _^_, _≤_, _<_}
-use native.Mathlib.Nat.{le-of-eq, eq-or-lt-of-le, le-trans, lt-of-not-le, not-le-of-lt, le-of-suc-le-suc, zero-mul, mul-assoc}
-use native.Mathlib.Nat.{mul-right-comm, mul-le-mul-right, le-of-mul-le-mul-right, mul-div-cancel}
+use native.Mathlib.Nat.{le-of-eq, eq-or-lt-of-le, le-trans, lt-of-not-le, not-le-of-lt, le-of-suc-le-suc}
+use native.Mathlib.Nat.{zero-mul, mul-assoc, mul-right-comm, mul-le-mul-right, le-of-mul-le-mul-right, mul-div-cancel}
 use native.Mathlib.Omega.{arith}
 use lib.Dec.{T, leb, ltb, eqb, leb→le, le→leb, ltb→lt, lt→ltb, eqb→eq}
 use lib.Pow.{pow-add, pow-pos, pow-lt}
@@ -23,9 +23,9 @@ exponent-le i j h = le-of-suc-le-suc (lt-of-not-le (λ (g : suc j ≤ i). not-le
 divides : (e : ℤ) → down e ≤ 2 ^ 149 → (j : ℕ) × (2 ^ 149 ≡ j * down e)
 divides (pos k) h = (2 ^ 149, refl)
 divides (negsuc k) h = (
-    2 ^ (149 - suc k),
-    ap (λ (x : ℕ). 2 ^ x) (sym (back 149 (suc k) (exponent-le (suc k) 149 h))) ∙ pow-add 2 (149 - suc k) (suc k)
-  )
+  2 ^ (149 - suc k),
+  ap (λ (x : ℕ). 2 ^ x) (sym (back 149 (suc k) (exponent-le (suc k) 149 h))) ∙ pow-add 2 (149 - suc k) (suc k),
+)
 
 whole : (a d c : ℕ) → 0 < d → a ≡ c * d → a / d * d ≡ a
 whole a d c p h = ap (λ (x : ℕ). x * d) (ap (λ (x : ℕ). x / d) h ∙ mul-div-cancel c p) ∙ sym h
@@ -82,43 +82,43 @@ to-le a b y g h =
     last false true t = tt
     last false false t = t
 
-abbrev below : Float → Bool
-below x = le x (fin false 1 (pos 3))
-
 abbrev above : Float → Bool
 above x = le (fin true 1 (pos 3)) x
 
-eight-up : (s : Bool) (m : ℕ) (e : ℤ) → T (below (fin s m e) && above (fin s m e)) → m * up e ≤ 8 * down e
+abbrev below : Float → Bool
+below x = le x (fin false 1 (pos 3))
+
+eight-up : (s : Bool) (m : ℕ) (e : ℤ) → T (above (fin s m e) && below (fin s m e)) → m * up e ≤ 8 * down e
 unfolding le
 eight-up false m e t =
     let a = m * up e * 1 in
     let b = 8 * down e in
     let h : a ≤ b = from-le a b (eqb a b) true (λ (y : T (eqb a b)). le-of-eq (eqb→eq a b y))
-    (and-l (below (fin false m e)) (above (fin false m e)) t) in
+    (and-r (above (fin false m e)) (below (fin false m e)) t) in
     omega arith
 eight-up true m e t =
     let a = m * up e * 1 in
     let b = 8 * down e in
     let h : a ≤ b = from-le a b (eqb b a) true (λ (y : T (eqb b a)). le-of-eq (sym (eqb→eq b a y)))
-    (and-r (below (fin true m e)) (above (fin true m e)) t) in
+    (and-l (above (fin true m e)) (below (fin true m e)) t) in
     omega arith
 
-eight-down : (s : Bool) (m : ℕ) (e : ℤ) → m * up e ≤ 8 * down e → T (below (fin s m e) && above (fin s m e))
+eight-down : (s : Bool) (m : ℕ) (e : ℤ) → m * up e ≤ 8 * down e → T (above (fin s m e) && below (fin s m e))
 unfolding le
 eight-down false m e h =
     let a = m * up e * 1 in
     let b = 8 * down e in
-    and-i (below (fin false m e)) (above (fin false m e))
-    (to-le a b (eqb a b) (λ (p : a ≡ b). eq→eqb p) (omega arith))
+    and-i (above (fin false m e)) (below (fin false m e))
     (first (ltb 0 (b + a)) (eqb b a && eqb b 0) (lt→ltb 0 (b + a) (omega (arith, down-pos e))))
+    (to-le a b (eqb a b) (λ (p : a ≡ b). eq→eqb p) (omega arith))
 eight-down true m e h =
     let a = m * up e * 1 in
     let b = 8 * down e in
-    and-i (below (fin true m e)) (above (fin true m e))
-    (first (ltb 0 (a + b)) (eqb a b && eqb a 0) (lt→ltb 0 (a + b) (omega (arith, down-pos e))))
+    and-i (above (fin true m e)) (below (fin true m e))
     (to-le a b (eqb b a) (λ (p : a ≡ b). eq→eqb (sym p)) (omega arith))
+    (first (ltb 0 (a + b)) (eqb a b && eqb a 0) (lt→ltb 0 (a + b) (omega (arith, down-pos e))))
 
-pub usable-is : (x : Float) → T (fits binary32 x) → usable x ≡ (le x (fin false 1 (pos 3)) && le (fin true 1 (pos 3)) x)
+pub usable-is : (x : Float) → T (fits binary32 x) → usable x ≡ (le (fin true 1 (pos 3)) x && le x (fin false 1 (pos 3)))
 unfolding usable le
 usable-is nan t = refl
 usable-is (inf true) t = refl
@@ -126,8 +126,8 @@ usable-is (inf false) t = refl
 usable-is (fin s m e) t =
     let n = steps (fin s m e) in
     let x = steps-exact s m e t in
-    same (leb n (8 * 2 ^ 149)) (below (fin s m e) && above (fin s m e))
+    same (leb n (8 * 2 ^ 149)) (above (fin s m e) && below (fin s m e))
     (λ (h : T (leb n (8 * 2 ^ 149))). eight-down s m e
     (under n (m * up e) (down e) (2 ^ 149) (down-pos e) (pow-pos 149) x (leb→le n (8 * 2 ^ 149) h)))
-    (λ (h : T (below (fin s m e) && above (fin s m e))). le→leb n (8 * 2 ^ 149)
+    (λ (h : T (above (fin s m e) && below (fin s m e))). le→leb n (8 * 2 ^ 149)
     (over n (m * up e) (down e) (2 ^ 149) (down-pos e) (pow-pos 149) x (eight-up s m e h)))

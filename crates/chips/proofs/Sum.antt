@@ -5,8 +5,9 @@
 use mathlib.Core.Path.{_≡_, refl, sym, ap, _∙_, subst⁻¹}
 use mathlib.Core.Bool.{Bool, true, false, not, cond}
 use Prim.Native.Nat.{ℕ, _+_, _-_, _*_, _/_, _^_, _≤_, _<_}
-use native.Mathlib.Nat.{le-trans, lt-of-lt-of-le, lt-of-not-le, not-le-of-lt, le-antisymm, mul-one, mul-assoc, mul-right-comm}
-use native.Mathlib.Nat.{add-mul, add-comm, mul-pos, mul-le-mul-right, mul-lt-mul-of-pos-right, mul-div-cancel}
+use native.Mathlib.Nat.{le-trans, lt-of-lt-of-le, lt-of-not-le, not-le-of-lt, le-antisymm}
+use native.Mathlib.Nat.{mul-one, mul-assoc, mul-right-comm, add-mul, add-comm, mul-pos}
+use native.Mathlib.Nat.{mul-le-mul-right, mul-lt-mul-of-pos-right, mul-div-cancel}
 use native.Mathlib.Omega.{arith}
 use lib.Dec.{T, ltb, lt→ltb, leb→le, lit≤}
 use lib.Pow.{pow-pos, pow-mono}

@@ -37,7 +37,7 @@ const FULL: [Counts; 4] = [
 pub fn usable(x: f32) -> bool
     ensures answer { λ r. ⌜ r ≡ floats.usable x ⌝ }
 {
-    x <= 8.0 && x >= -8.0
+    x >= -8.0 && x <= 8.0
 }
 
 // The whole number nearest to 1024 times x, ties to the even one; 0 of an x that is not usable.

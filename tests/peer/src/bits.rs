@@ -55,7 +55,11 @@ pub fn two_of_growth(growth: Phase) -> [u8; 2] {
 
 /// CCK symbols are numbered from 0 at the first payload symbol. Odd ones grow by 2 more.
 pub fn half_turn(symbol: usize) -> Phase {
-    if symbol % 2 == 1 { 2 } else { 0 }
+    if symbol % 2 == 1 {
+        2
+    } else {
+        0
+    }
 }
 
 /// 11 Mbit/s: two bits give p2, p3 or p4 directly: 00 is 0, 01 is 1, 10 is 2, 11 is 3.

@@ -6,6 +6,7 @@
 use crate::calls::Call;
 use crate::families::{Family, Out};
 use crate::figures::Figures;
+use std::collections::BTreeMap;
 use std::io::{self, BufReader, Write};
 use std::process::{Child, ChildStdin, ChildStdout, Command, Stdio};
 use std::sync::mpsc::{sync_channel, SyncSender};
@@ -16,6 +17,9 @@ use std::time::{Duration, Instant};
 /// A batch ends at so many calls or so many octets.
 const BATCH_CALLS: usize = 64;
 const BATCH_OCTETS: usize = 1 << 18;
+
+/// Batches that may wait for the comparing side.
+const AHEAD: usize = 2;
 
 /// Mismatches of a family shown in full; the others are counted.
 const SHOWN: u64 = 3;
@@ -33,16 +37,31 @@ pub struct Bridge {
     last_answer: Arc<Mutex<Instant>>,
 }
 
-/// What a family came to.
+/// What a family, or a run, came to.
+#[derive(Default)]
 pub struct Outcome {
     pub calls: u64,
     pub mismatches: u64,
+    /// How often each number was expected of each op.
+    pub met: BTreeMap<(&'static str, u64), u64>,
 }
 
-/// What is run: the longer or the shorter form of each family, and one case alone when it is run again.
+impl Outcome {
+    pub fn add(&mut self, other: &Outcome) {
+        self.calls += other.calls;
+        self.mismatches += other.mismatches;
+        for (key, count) in &other.met {
+            *self.met.entry(*key).or_default() += count;
+        }
+    }
+}
+
+/// What is run: the longer or the shorter form of each family, each call sent only after the answer to the one before
+/// it, and one case alone when it is run again.
 #[derive(Clone, Copy)]
 pub struct Run {
     pub long: bool,
+    pub singly: bool,
     pub only_case: Option<u64>,
 }
 
@@ -60,33 +79,34 @@ impl Bridge {
     /// Runs a family and compares every answer and every buffer. An error is a bridge that doesn't answer.
     pub fn compare(&mut self, family: &Family, figures: &Figures, run: Run) -> io::Result<Outcome> {
         let Bridge { requests, answers, last_answer, .. } = self;
-        let (sender, batches) = sync_channel::<Vec<(u64, Call)>>(2);
-        let mut outcome = Outcome { calls: 0, mismatches: 0 };
+        let (sender, batches) = sync_channel::<Vec<(u64, Call)>>(if run.singly { 0 } else { AHEAD });
+        let mut outcome = Outcome::default();
         thread::scope(|scope| {
             scope.spawn(move || send_family(family, figures, run, requests, sender));
             for (case, call) in batches.into_iter().flatten() {
                 let expected = call.expected();
-                let (answer, guarded) = call.answer(answers)?;
+                let (answer, guarded) = match call.answer(answers) {
+                    Ok(answered) => answered,
+                    Err(error) => {
+                        let ahead = if run.singly { "" } else { " or soon after; --singly finds it" };
+                        head(&format!("NO ANSWER{ahead}"), family, case, run);
+                        println!("{}", call.shown(CUT));
+                        return Err(error);
+                    }
+                };
                 *last_answer.lock().expect("no panic") = Instant::now();
                 let equal = answer == expected && guarded;
                 if !equal && outcome.mismatches < SHOWN || run.only_case.is_some() {
                     let cut = if run.only_case.is_some() { usize::MAX } else { CUT };
-                    let long = if run.long { "--long " } else { "" };
-                    println!("{} in {}, case {case}:", if equal { "equal" } else { "MISMATCH" }, family.name);
-                    println!("  run again: {long}--replay {} {case}", family.name);
-                    println!("  {}", call.shown(cut));
-                    println!("  expected {}", call.shown_answer(&expected, cut));
-                    println!("  library  {}", call.shown_answer(&answer, cut));
-                    if let Some(at) = (0..expected.buffer.len()).find(|at| expected.buffer[*at] != answer.buffer[*at]) {
-                        let (right, found) = (expected.buffer[at], answer.buffer[at]);
-                        println!("  buffer differs first at {at}: expected {right:02x}, library {found:02x}");
-                    }
+                    head(if equal { "equal" } else { "MISMATCH" }, family, case, run);
+                    println!("{}\n{}", call.shown(cut), call.compared(&expected, &answer, cut));
                     if !guarded {
-                        println!("  octets around the lent rows were changed");
+                        println!("  the octets around the lent rows, or rows lent for reading, were changed");
                     }
                 }
                 outcome.calls += 1;
                 outcome.mismatches += u64::from(!equal);
+                *outcome.met.entry((call.op(), expected.numbers[0])).or_default() += 1;
             }
             Ok(outcome)
         })
@@ -108,8 +128,21 @@ impl Bridge {
     }
 }
 
+/// Says what a case came to, and the words that run it alone.
+fn head(what: &str, family: &Family, case: u64, run: Run) {
+    let long = if run.long { "--long " } else { "" };
+    println!("{}, case {case}: {what}", family.name);
+    println!("  run again: {long}--replay {} {case}", family.name);
+}
+
 /// Makes a family's calls and sends them in batches.
-fn send_family(family: &Family, figures: &Figures, run: Run, requests: &mut ChildStdin, sender: SyncSender<Vec<(u64, Call)>>) {
+fn send_family(
+    family: &Family,
+    figures: &Figures,
+    run: Run,
+    requests: &mut ChildStdin,
+    sender: SyncSender<Vec<(u64, Call)>>,
+) {
     let (mut batch, mut octets) = (Vec::new(), Vec::new());
     let mut case = 0;
     // A failed write needs no word here: the comparing side finds the answers missing.
@@ -120,12 +153,12 @@ fn send_family(family: &Family, figures: &Figures, run: Run, requests: &mut Chil
         octets.clear();
     };
     let mut take = |call: Call| {
-        if run.only_case.is_none_or(|only| only == case) {
+        if run.only_case.map_or(true, |only| only == case) {
             call.request(&mut octets);
             batch.push((case, call));
         }
         case += 1;
-        if batch.len() == BATCH_CALLS || octets.len() >= BATCH_OCTETS {
+        if batch.len() == BATCH_CALLS || run.singly && batch.len() == 1 || octets.len() >= BATCH_OCTETS {
             flush(&mut batch, &mut octets);
         }
     };

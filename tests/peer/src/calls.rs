@@ -7,7 +7,6 @@ use std::fmt::Write as _;
 use std::io::{self, Read};
 
 /// A call with its numbers and lent rows. Buffers lent for writing are given by their length alone.
-#[derive(Clone)]
 pub enum Call {
     Write { kind: u64, rate: u64, phase: u64, payload: Vec<u8>, chips_len: usize },
     ReadHard { kind: u64, chips: Vec<u8>, octets_len: usize },
@@ -32,6 +31,14 @@ impl Call {
 
     pub fn soft(kind: u64, (i, q): (Vec<f32>, Vec<f32>), octets_len: usize) -> Call {
         Call::ReadSoft { kind, i, q, octets_len }
+    }
+
+    pub fn op(&self) -> &'static str {
+        match self {
+            Call::Write { .. } => "write",
+            Call::ReadHard { .. } => "read hard",
+            Call::ReadSoft { .. } => "read soft",
+        }
     }
 
     fn names(&self) -> &'static [&'static str] {
@@ -97,33 +104,49 @@ impl Call {
 
     /// The call with all its numbers and its rows in hex, each row cut after so many octets.
     pub fn shown(&self, cut: usize) -> String {
+        let mut lines = vec![format!("  {}: {}", self.op(), self.shown_numbers())];
         match self {
-            Call::Write { kind, rate, phase, payload, chips_len } => format!(
-                "write: kind {kind}, rate {rate}, phase {phase}, payload_len {}, chips_len {chips_len}\n  payload {}",
-                payload.len(),
-                hex(payload, cut)
-            ),
-            Call::ReadHard { kind, chips, octets_len } => format!(
-                "read hard: kind {kind}, chips_len {}, octets_len {octets_len}\n  chips {}",
-                chips.len(),
-                hex(chips, cut)
-            ),
-            Call::ReadSoft { kind, i, q, octets_len } => format!(
-                "read soft: kind {kind}, i_len {}, q_len {}, octets_len {octets_len}\n  i (bits of each f32) {}\n  \
-                 q (bits of each f32) {}",
-                i.len(),
-                q.len(),
-                hex_row(i, cut),
-                hex_row(q, cut)
-            ),
+            Call::Write { payload, .. } => lines.push(format!("  payload {}", hex(payload, cut))),
+            Call::ReadHard { chips, .. } => lines.push(format!("  chips {}", hex(chips, cut))),
+            Call::ReadSoft { i, q, .. } => {
+                lines.push(format!("  i, the bits of each f32: {}", hex_row(i, cut)));
+                lines.push(format!("  q, the bits of each f32: {}", hex_row(q, cut)));
+            }
+        }
+        lines.join("\n")
+    }
+
+    /// Both answers, and where their buffers first differ.
+    pub fn compared(&self, expected: &Answer, answer: &Answer, cut: usize) -> String {
+        let mut lines = vec![
+            format!("  expected {}", self.shown_answer(expected, cut)),
+            format!("  library  {}", self.shown_answer(answer, cut)),
+        ];
+        let both = expected.buffer.iter().zip(&answer.buffer).enumerate();
+        for (at, (right, found)) in both.filter(|(_, (right, found))| right != found).take(1) {
+            lines.push(format!("  buffer differs first at {at}: expected {right:02x}, library {found:02x}"));
+        }
+        lines.join("\n")
+    }
+
+    fn shown_numbers(&self) -> String {
+        match self {
+            Call::Write { kind, rate, phase, payload, chips_len } => {
+                let len = payload.len();
+                format!("kind {kind}, rate {rate}, phase {phase}, payload_len {len}, chips_len {chips_len}")
+            }
+            Call::ReadHard { kind, chips, octets_len } => {
+                format!("kind {kind}, chips_len {}, octets_len {octets_len}", chips.len())
+            }
+            Call::ReadSoft { kind, i, q, octets_len } => {
+                format!("kind {kind}, i_len {}, q_len {}, octets_len {octets_len}", i.len(), q.len())
+            }
         }
     }
 
-    /// An answer's numbers by name and its buffer in hex.
-    pub fn shown_answer(&self, answer: &Answer, cut: usize) -> String {
-        let numbers: Vec<String> =
-            self.names().iter().zip(&answer.numbers).map(|(name, number)| format!("{name} {number}")).collect();
-        format!("{}; buffer {}", numbers.join(", "), hex(&answer.buffer, cut))
+    fn shown_answer(&self, answer: &Answer, cut: usize) -> String {
+        let named = self.names().iter().zip(&answer.numbers).map(|(name, number)| format!("{name} {number}"));
+        format!("{}; buffer {}", named.collect::<Vec<_>>().join(", "), hex(&answer.buffer, cut))
     }
 }
 

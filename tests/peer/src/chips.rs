@@ -59,7 +59,11 @@ pub fn count(x: f32) -> i32 {
     let (whole, rest, half) = (m >> places, m & ((1 << places) - 1), 1 << (places - 1));
     let up = rest > half || (rest == half && whole % 2 == 1);
     let size = (whole + u64::from(up)) as i32;
-    if x.is_sign_negative() { -size } else { size }
+    if x.is_sign_negative() {
+        -size
+    } else {
+        size
+    }
 }
 
 /// A lent recording. The rows of a soft one may differ in length, which is refused before a chip is looked at.

@@ -73,9 +73,13 @@ impl Figures {
         let symbol = |row: &[String]| Some((digits(&row[0], 1)?[0], digits(&row[1], 11)?));
         let distance = |row: &[String]| Some((number(&row[0])?, number(&row[1])?));
         let growths = |row: &[String]| digits(&row.concat(), 4)?.try_into().ok();
+        let lengths_of_every_n = every_n(&rows(dir, LENGTHS_OF_EVERY_N, 44, 4, length)?);
+        if lengths_of_every_n.len() != Rate::ALL.len() * MOST_OCTETS {
+            return Err(format!("{LENGTHS_OF_EVERY_N} lacks an n from 1 to 11 at some rate"));
+        }
         Ok(Figures {
             lengths_1023_to_1026: rows(dir, LENGTHS_1023_TO_1026, 4, 4, length)?,
-            lengths_of_every_n: every_n(rows(dir, LENGTHS_OF_EVERY_N, 44, 4, length)?),
+            lengths_of_every_n,
             crc_example: rows(dir, CRC_EXAMPLE, 1, 2, crc_bits)?,
             crc_genibus: rows(dir, CRC_GENIBUS, 37, 2, crc_octets)?,
             cck_words: rows(dir, CCK_WORDS, 3, 2, word)?,
@@ -127,7 +131,7 @@ fn squared_distance(one: &[Phase; 8], other: &[Phase; 8]) -> usize {
 }
 
 /// Eleven octets last whole microseconds at every rate, so eleven lines a rate give every n.
-fn every_n(eleven: Vec<LengthFigure>) -> Vec<LengthFigure> {
+fn every_n(eleven: &[LengthFigure]) -> Vec<LengthFigure> {
     let mut figures = Vec::new();
     for rate in Rate::ALL {
         let lines: Vec<_> = eleven.iter().filter(|figure| figure.rate == rate).collect();
@@ -166,7 +170,11 @@ fn rows<T>(
         let parsed = if row.len() == columns { parse(&row) } else { None };
         found.push(parsed.ok_or(format!("{name} can't be read at: {line}"))?);
     }
-    if found.len() != cases { Err(format!("{name} has {} cases, not {cases}", found.len())) } else { Ok(found) }
+    if found.len() != cases {
+        Err(format!("{name} has {} cases, not {cases}", found.len()))
+    } else {
+        Ok(found)
+    }
 }
 
 fn number(text: &str) -> Option<usize> {
@@ -175,6 +183,7 @@ fn number(text: &str) -> Option<usize> {
 
 /// A run of so many digits, each a phase or a bit.
 fn digits(text: &str, count: usize) -> Option<Vec<u8>> {
-    let digits: Vec<u8> = text.bytes().filter(|digit| (b'0'..=b'3').contains(digit)).map(|digit| digit - b'0').collect();
+    let digits: Vec<u8> =
+        text.bytes().filter(|digit| (b'0'..=b'3').contains(digit)).map(|digit| digit - b'0').collect();
     (digits.len() == count && text.len() == count).then_some(digits)
 }

@@ -112,9 +112,9 @@ impl Rate {
         match self {
             Rate::Mbit1 => (8 * n, false),
             Rate::Mbit2 => (4 * n, false),
-            Rate::Mbit5_5 => ((16 * n).div_ceil(11), false),
+            Rate::Mbit5_5 => (rounded_up(16 * n, 11), false),
             Rate::Mbit11 => {
-                let length = (8 * n).div_ceil(11);
+                let length = rounded_up(8 * n, 11);
                 let added_elevenths = 11 * length - 8 * n;
                 (length, added_elevenths >= 8)
             }
@@ -132,6 +132,11 @@ impl Rate {
         };
         whole - i64::from(bit7)
     }
+}
+
+/// The quotient rounded up.
+fn rounded_up(dividend: usize, divisor: usize) -> usize {
+    (dividend + divisor - 1) / divisor
 }
 
 /// Octets, SFD, SIGNAL, SERVICE and LENGTH go lowest bit first.

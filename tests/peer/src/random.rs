@@ -19,7 +19,7 @@ impl Random {
 
     /// A number from 0 to below the bound.
     pub fn below(&mut self, bound: usize) -> usize {
-        (u64::from(self.next()) * bound as u64 >> 32) as usize
+        ((u64::from(self.next()) * bound as u64) >> 32) as usize
     }
 
     /// A number within the bounds, both included.

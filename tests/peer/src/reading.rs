@@ -123,7 +123,13 @@ fn usable_counts(recording: Recording, from: usize, to: usize) -> Result<Vec<Cou
 }
 
 /// 10: decides a run of symbols at one rate that starts at a place; their scrambled bits are added in sending order.
-fn symbols(rate: Rate, counts: &[Counts], start: usize, phase: &mut Phase, scrambled: &mut Vec<u8>) -> Result<(), Read> {
+fn symbols(
+    rate: Rate,
+    counts: &[Counts],
+    start: usize,
+    phase: &mut Phase,
+    scrambled: &mut Vec<u8>,
+) -> Result<(), Read> {
     for (symbol, chips) in counts.chunks(rate.chips_per_symbol()).enumerate() {
         let number = decide(rate, chips);
         let place = start + symbol * rate.chips_per_symbol();

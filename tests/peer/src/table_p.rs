@@ -31,12 +31,8 @@ fn first_chips_of_a_long_frame() -> Vec<Phase> {
 fn entries() -> Vec<(u32, bool)> {
     let header = digits("0101 0000 0000 0000 0000 0011 0000 0000");
     let crc_bits = digits("0101 1011 0101 0111").iter().fold(0, |value: u16, bit| value << 1 | u16::from(*bit));
-    let words_5_5 = [
-        (0, 0, "1 0 1 2 1 0 3 0"),
-        (0, 1, "3 2 3 0 1 0 3 0"),
-        (1, 0, "3 0 3 2 3 0 1 0"),
-        (1, 1, "1 2 1 0 3 0 1 0"),
-    ];
+    let words_5_5 =
+        [(0, 0, "1 0 1 2 1 0 3 0"), (0, 1, "3 2 3 0 1 0 3 0"), (1, 0, "3 0 3 2 3 0 1 0"), (1, 1, "1 2 1 0 3 0 1 0")];
     let lost = decide(Rate::Mbit11, &[Chip::Lost.counts(); 8]);
     vec![
         (1, scramble(Kind::Long.scrambler_start(), &Kind::Long.sync())[..8] == digits("0 1 1 1 1 1 1 0")),

@@ -1,5 +1,5 @@
--- `bits::crc_octets` meets its contract: the remainder runs through four octets from a register of ones, and both halves of
--- the register are complemented. Assumes nothing.
+-- `bits::crc_octets` meets its contract: the remainder runs through four octets from a register of ones, and both
+-- halves of the register are complemented. Assumes nothing.
 use mathlib.Core.Path.{refl}
 use borrow.Author.Needs.{needs}
 use Rattle.bits.specs.Code.{inTime}

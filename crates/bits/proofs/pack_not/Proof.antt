@@ -1,4 +1,5 @@
--- `bits::pack_not` meets its contract: complements are bits, so they pack, and the octet has them as its bits. Assumes nothing.
+-- `bits::pack_not` meets its contract: complements are bits, so they pack, and the octet has them as its bits.
+-- Assumes nothing.
 use mathlib.Core.Path.{refl, ap, _∙_}
 use borrow.Author.Needs.{needs}
 use Rattle.bits.specs.Bits.{bitsOf}
@@ -13,7 +14,9 @@ pack-requires c κs = rw (c .complement-eight .ensures) (complement-below (inTim
 
 returns : tie.Need-returns
 returns c =
-    ap (bitsOf 8) (c .pack .ensures) ∙ bits-number 8 _ refl (rw (c .before .complement-eight .ensures) (complement-below (inTime (c .before .before .args .e))))
+    ap (bitsOf 8) (c .pack .ensures)
+    ∙ bits-number 8 _ refl
+    (rw (c .before .complement-eight .ensures) (complement-below (inTime (c .before .before .args .e))))
     ∙ c .before .complement-eight .ensures
 
 pub pack-not-spec : {M : Type 1} → statement M

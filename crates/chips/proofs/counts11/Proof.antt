@@ -19,7 +19,7 @@ abbrev μ-loop : tie.MeasureT-loop
 
 loop-again : tie.Need-loop-again Inv-loop μ-loop
 loop-again c =
-    filled-more _ (c .before .before .before .loop .inv) (c .before .before .loop-test .taken) (c .counts-of .ensures)
+    filled-more _ (c .before .before .before .loop .inv) (search needs) (c .counts-of .ensures)
 
 returns : tie.Need-returns Inv-loop μ-loop
 returns c =

@@ -1,6 +1,7 @@
--- `chips::usable` meets its contract: `usable-is` says what the two comparisons find, with 8 and -8 by their values, which MIR has by their bit patterns.
+-- `chips::usable` meets its contract: `usable-is` says what the two comparisons find, with -8 and 8 by their values,
+-- which the program has by their bit patterns.
 -- Assumes nothing.
-use mathlib.Core.Path.{_≡_, sym, ap, _∙_, subst}
+use mathlib.Core.Path.{sym, _∙_, subst}
 use lib.Dec.{T}
 use lib.Ieee.{binary32, fits, ofBits, neg}
 use Rattle.chips.proofs.Steps.{usable-is}

@@ -1,6 +1,6 @@
 -- `chips::usable_sample` meets its contract: it asks of each field what the definition asks.
 -- Assumes nothing.
-use mathlib.Core.Path.{_≡_, sym, _∙_, ap}
+use mathlib.Core.Path.{sym, _∙_}
 use borrow.Author.Needs.{needs}
 use Rattle.chips.proofs.usable_sample.Statement.{statement}
 use Rattle.chips.proofs.usable_sample.Tie as tie

@@ -15,7 +15,8 @@ pub fn unusable_octets(out: &mut Out) {
         let mut chips = Draft::random(kind, rate, n, &mut out.random).chips();
         chips.extend([0, 1, 2]);
         let step = if kind == Kind::Long { out.step(5) } else { out.step(2) };
-        for place in (0..chips.len()).step_by(step) {
+        // The front in steps, its last chip, all of the payload and the chips after it.
+        for place in (0..kind.front_chips() - 1).step_by(step).chain(kind.front_chips() - 1..chips.len()) {
             let mut spoiled = chips.clone();
             spoiled[place] = out.random.pick(&UNUSABLE);
             if out.random.once_in(3) {

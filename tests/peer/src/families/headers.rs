@@ -1,6 +1,6 @@
 //! Headers of every SIGNAL, SERVICE and many LENGTH, and what stands before them.
 
-use super::{any_pair, soft_rows, Draft, Out};
+use super::{any_pair, pairs, soft_rows, Draft, Out};
 use crate::bits::Rate;
 use crate::calls::Call;
 use crate::frame::{Header, Kind};
@@ -39,6 +39,15 @@ pub fn every_signal_and_service(out: &mut Out) {
                     out.call(call);
                 }
             }
+        }
+    }
+    // Each SERVICE in a whole frame of each rate.
+    for (kind, rate) in pairs() {
+        for service in 0..=255 {
+            let n = out.random.within(1, 4);
+            let draft = Draft::random(kind, rate, n, &mut out.random);
+            let header = Header { service, ..draft.header };
+            out.call(Call::hard(kind.number(), draft.with_header(header).chips(), n));
         }
     }
 }

@@ -1,4 +1,14 @@
 //! The families of calls. Each is made from a fixed seed in a fixed order, so a case's number says all about it.
+//!
+//! # Errors that look right
+//!
+//! Where each shows, were it in the library:
+//! - Bit 7 only for rounding above 8/11: `published_figures`, `write_every_n`, `every_length`.
+//! - The two-bit growth order used for p2 to p4: `write_short_payloads`, `read_short_payloads`.
+//! - The half turn of odd CCK symbols forgotten, or counted from one symbol too early: the same.
+//! - The scrambler started again at the header or payload: the same.
+//! - SFD sent highest bit first: `write_short_payloads`, and every read of a good front.
+//! - Halves of a count always rounded up: `halves_of_a_count`, `tiny_values`.
 
 mod damage;
 mod headers;
@@ -33,7 +43,7 @@ families! {
     101 published::published_figures: "LENGTH and bit 7 of every n and rate, CRCs, words from outside",
     201 written::write_short_payloads: "1 to 64 octets, all kinds, rates and phases",
     202 written::write_long_payloads: "1,023 to 1,026 and 4,095 octets",
-    203 written::write_every_n: "every n at 11 Mbit/s, a sweep of n at the other rates",
+    203 written::write_every_n: "a sweep of n at each rate; every n in the longer run, but at 1 and 2 Mbit/s",
     204 written::write_numbers: "kind, rate, phase, payload and buffer out of range, alone and together",
     205 written::write_edges: "payload of 0, 4,095 and 4,096 octets, buffers a chip short, exact and longer",
     301 restored::read_short_payloads: "hard and soft recordings of 1 to 64 octets, all kinds, rates and phases",
@@ -49,7 +59,7 @@ families! {
     502 refused::rows_that_differ: "I and Q rows of different length",
     503 refused::empty_rows: "every row empty, alone and together",
     504 refused::every_set_of_refusals: "each set of refusals that can be asked for at once",
-    505 refused::few_refusals: "one to three refusals at once, hard and soft",
+    505 refused::pairs_of_refusals: "each refusal alone and with each other one, hard and soft",
     506 refused::cut_recordings: "recordings cut at every length about the front's and the frame's end",
     507 refused::kinds_crossed: "long frames read as short and the other way",
     601 damage::unusable_octets: "one or two unusable octets at every place",
@@ -85,21 +95,32 @@ impl<'a> Out<'a> {
 
     /// So many cases, or ten times as many in the longer run.
     pub fn cases(&self, shorter: usize) -> usize {
-        if self.long { 10 * shorter } else { shorter }
+        if self.long {
+            10 * shorter
+        } else {
+            shorter
+        }
     }
 
     /// A step of 1 in the longer run.
     pub fn step(&self, shorter: usize) -> usize {
-        if self.long { 1 } else { shorter }
+        if self.long {
+            1
+        } else {
+            shorter
+        }
     }
 }
 
 /// The kinds and rates that go together.
 pub fn pairs() -> impl Iterator<Item = (Kind, Rate)> {
-    Kind::BOTH.into_iter().flat_map(|kind| Rate::ALL.into_iter().map(move |rate| (kind, rate)))
+    Kind::BOTH
+        .into_iter()
+        .flat_map(|kind| Rate::ALL.into_iter().map(move |rate| (kind, rate)))
         .filter(|(kind, rate)| kind.has(*rate))
 }
 
+/// Any kind and rate that go together.
 pub fn any_pair(random: &mut Random) -> (Kind, Rate) {
     let all: Vec<_> = pairs().collect();
     random.pick(&all)
@@ -148,14 +169,15 @@ impl Draft {
     }
 }
 
-/// A hard recording as a soft one of the given size; lost chips become (0, 0).
+/// A hard recording as a soft one of the given size; lost chips become (0, 0), unusable octets NaN on I.
 pub fn soft_rows(chips: &[u8], size: f32) -> (Vec<f32>, Vec<f32>) {
-    let i = |chip: &u8| match chip {
+    let i = |chip: &u8| match *chip {
         0 => size,
         2 => -size,
-        _ => 0.0,
+        1 | 3 | LOST => 0.0,
+        _ => f32::NAN,
     };
-    let q = |chip: &u8| match chip {
+    let q = |chip: &u8| match *chip {
         1 => size,
         3 => -size,
         _ => 0.0,

@@ -5,6 +5,7 @@ use crate::bits::Rate;
 use crate::calls::Call;
 use crate::frame::Kind;
 use crate::random::Random;
+use std::collections::BTreeSet;
 
 const KINDS: [u64; 12] = [0, 1, 2, 3, 255, 256, 257, 1 << 32, (1 << 32) + 1, 1 << 63, u64::MAX - 1, u64::MAX];
 
@@ -45,6 +46,15 @@ pub fn rows_that_differ(out: &mut Out) {
                 q.truncate(q_len);
                 out.call(Call::soft(kind, (i, q), 40));
             }
+        }
+    }
+    // Lengths that agree in their lowest octet or 16 bits.
+    for kind in Kind::BOTH {
+        for more in [1 << 8, 1 << 12, 1 << 16] {
+            let (i, q) = soft_rows(&first_chips(2300, &mut out.random), 1.0);
+            let longer = |row: &[f32]| [row, &vec![0.25; more]].concat();
+            out.call(Call::soft(kind.number(), (longer(&i), q.clone()), 40));
+            out.call(Call::soft(kind.number(), (i, longer(&q)), 40));
         }
     }
 }
@@ -139,11 +149,12 @@ fn wrong_reading(set: usize, soft: bool, random: &mut Random) -> Call {
     let (mut i, mut q) = soft_rows(&chips, 1.0);
     for at in (0..chips.len()).filter(|at| chips[*at] > 4) {
         let value = random.pick(&[f32::NAN, f32::INFINITY, f32::NEG_INFINITY, 8.000_001, -9.0, f32::MAX]);
-        if random.once_in(2) { i[at] = value } else { q[at] = value }
+        (i[at], q[at]) = random.pick(&[(value, 0.0), (0.0, value), (value, value)]);
     }
     if wrong(ROWS) {
         let row = if random.once_in(2) { &mut i } else { &mut q };
-        if random.once_in(2) || row.is_empty() { row.push(0.5) } else { row.truncate(row.len() - 1) }
+        let len = random.pick(&[row.len() + 1, row.len().saturating_sub(1)]);
+        row.resize(len, 0.5);
     }
     Call::soft(number, (i, q), room)
 }
@@ -155,34 +166,40 @@ pub fn every_set_of_refusals(out: &mut Out) {
             let call = wrong_reading(set, false, &mut out.random);
             out.call(call);
         }
-        if out.long || out.random.once_in(6) {
+        if out.long || out.random.once_in(8) {
             let call = wrong_reading(set, true, &mut out.random);
             out.call(call);
         }
     }
 }
 
-pub fn few_refusals(out: &mut Out) {
-    for case in 0..out.cases(4000) {
-        let wrongs = out.random.within(0, 3);
-        let set = (0..wrongs).fold(0, |set, _| set | 1 << out.random.below(WRONGS));
-        let soft = case % 3 == 0;
-        // The rows of a hard recording can't differ.
-        let set = if soft { set } else { set & !(1 << ROWS) };
-        let call = wrong_reading(set, soft, &mut out.random);
-        out.call(call);
+pub fn pairs_of_refusals(out: &mut Out) {
+    for first in 0..WRONGS {
+        for second in first..WRONGS {
+            let set = 1 << first | 1 << second;
+            for case in 0..out.cases(20) {
+                // The rows of a hard recording can't differ.
+                let soft = case % 4 == 0 || set >> ROWS & 1 == 1;
+                let call = wrong_reading(set, soft, &mut out.random);
+                out.call(call);
+            }
+        }
     }
 }
 
 pub fn cut_recordings(out: &mut Out) {
     for (kind, rate) in pairs() {
         for n in [1, 2, 5] {
-            let chips = Draft::random(kind, rate, n, &mut out.random).chips();
+            let mut chips = Draft::random(kind, rate, n, &mut out.random).chips();
             let (front, frame) = (kind.front_chips(), chips.len());
-            let about_the_ends = (front - 13..=front + 13).chain(frame.max(front + 27) - 13..frame);
-            let between = (front + 14..frame.max(front + 27) - 13).step_by(out.step(7));
-            let before = (0..front - 13).step_by(out.step(131));
-            for len in about_the_ends.chain(between).chain(before).filter(|len| *len <= frame) {
+            chips.extend([3, 2, 1]);
+            let lens: BTreeSet<usize> = (0..front)
+                .step_by(out.step(131))
+                .chain((front..frame).step_by(out.step(7)))
+                .chain(front - 13..=front + 8)
+                .chain(frame - 13..=frame + 3)
+                .collect();
+            for len in lens {
                 let mut cut = chips[..len].to_vec();
                 if len > 0 && out.random.once_in(4) {
                     let at = out.random.below(len);

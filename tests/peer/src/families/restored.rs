@@ -10,7 +10,9 @@ pub fn read_short_payloads(out: &mut Out) {
                 let chips = Draft::new(kind, rate, phase, out.random.octets(n)).chips();
                 let room = n + out.random.pick(&[0, 0, 1, 9]);
                 let size = out.random.pick(&[1.0, 1.0, 0.5, 8.0, 3.3, 0.002, 0.01]);
-                out.call(Call::soft(kind.number(), soft_rows(&chips, size), room));
+                if out.long || n % 4 == usize::from(phase) {
+                    out.call(Call::soft(kind.number(), soft_rows(&chips, size), room));
+                }
                 out.call(Call::hard(kind.number(), chips, room));
             }
         }
@@ -25,9 +27,7 @@ pub fn read_long_payloads(out: &mut Out) {
     for (kind, rate) in pairs() {
         for n in [1023, 1024, 1025, 1026, 4095] {
             let chips = Draft::random(kind, rate, n, &mut out.random).chips();
-            if n != 4095 || out.long {
-                out.call(Call::soft(kind.number(), soft_rows(&chips, 1.0), n));
-            }
+            out.call(Call::soft(kind.number(), soft_rows(&chips, 1.0), n));
             out.call(Call::hard(kind.number(), chips, n + 3));
         }
         let chips = Draft::random(kind, rate, 4095, &mut out.random).chips();
@@ -40,10 +40,11 @@ pub fn read_rooms(out: &mut Out) {
     for (kind, rate) in pairs() {
         for n in [1, 2, 3, 7, 16] {
             let chips = Draft::random(kind, rate, n, &mut out.random).chips();
-            for room in 0..=n + 3 {
+            // Rooms that are below n in their lowest octet or 16 bits are long enough.
+            for room in (0..=n + 3).chain([255, 256, 4095, 4096, 65_535, 65_536]) {
                 out.call(Call::hard(kind.number(), chips.clone(), room));
             }
-            for room in [0, n - 1, n, n + 1, 4095, 4096, 5000] {
+            for room in [0, n - 1, n, n + 1, 256, 5000] {
                 out.call(Call::soft(kind.number(), soft_rows(&chips, 1.0), room));
             }
         }
@@ -51,13 +52,12 @@ pub fn read_rooms(out: &mut Out) {
 }
 
 pub fn chips_after_the_frame(out: &mut Out) {
-    for _ in 0..out.cases(1000) {
+    for _ in 0..out.cases(800) {
         let (kind, rate) = any_pair(&mut out.random);
         let n = out.random.within(1, 8);
         let mut chips = Draft::random(kind, rate, n, &mut out.random).chips();
-        let frame = chips.len();
         let after = out.random.within(1, 40);
-        if out.random.once_in(2) {
+        if !out.random.once_in(4) {
             chips.extend(out.random.octets(after));
             out.call(Call::hard(kind.number(), chips, n));
         } else {
@@ -66,8 +66,13 @@ pub fn chips_after_the_frame(out: &mut Out) {
                 i.push(out.random.pick(&[f32::NAN, f32::INFINITY, 9.0, -8.5, 1.0, 0.0]));
                 q.push(out.random.pick(&[f32::NAN, f32::NEG_INFINITY, 1.0, -1.0, 0.0]));
             }
-            debug_assert!(i.len() > frame);
             out.call(Call::soft(kind.number(), (i, q), n));
         }
+    }
+    // Recordings whose length is below the frame's in its lowest 16 bits.
+    for (kind, rate) in pairs() {
+        let mut chips = Draft::random(kind, rate, 2, &mut out.random).chips();
+        chips.resize((1 << 16) + out.random.below(2000), 9);
+        out.call(Call::hard(kind.number(), chips, 2));
     }
 }

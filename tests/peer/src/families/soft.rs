@@ -1,6 +1,7 @@
 //! Soft recordings: noise, halves of a count, tiny values, 8 and beyond.
 
 use super::{any_pair, pairs, soft_rows, Draft, Out};
+use crate::bits::Rate;
 use crate::calls::Call;
 use crate::frame::Kind;
 use crate::random::Random;
@@ -17,6 +18,8 @@ struct SoftFrame {
 impl SoftFrame {
     fn random(size: f32, most: usize, random: &mut Random) -> SoftFrame {
         let (kind, rate) = any_pair(random);
+        // More short fronts than long ones, as they take half the time.
+        let kind = if rate != Rate::Mbit1 && random.once_in(2) { Kind::Short } else { kind };
         let n = random.within(1, most);
         let (i, q) = soft_rows(&Draft::random(kind, rate, n, random).chips(), size);
         SoftFrame { kind, n, front: kind.front_chips(), i, q }
@@ -36,11 +39,15 @@ impl SoftFrame {
 
 /// The first chip of the frame or of the payload.
 fn some_start(frame: &SoftFrame, random: &mut Random) -> usize {
-    if random.once_in(3) { 0 } else { frame.front }
+    if random.once_in(3) {
+        0
+    } else {
+        frame.front
+    }
 }
 
 pub fn noise(out: &mut Out) {
-    for _ in 0..out.cases(2500) {
+    for _ in 0..out.cases(1200) {
         let size = out.random.pick(&[1.0, 1.0, 0.25, 0.03, 2.5]);
         let mut frame = SoftFrame::random(size, 10, &mut out.random);
         let spread = size * out.random.pick(&[0.05, 0.2, 0.35, 0.5, 0.7, 1.0, 1.5]);
@@ -55,11 +62,15 @@ fn about_a_half(most: usize, random: &mut Random) -> f32 {
     let half = (2 * random.below(most) + 1) as f32 / 2048.0;
     let next = random.pick(&[0, 0, 0, 1, u32::MAX]);
     let value = f32::from_bits(half.to_bits().wrapping_add(next));
-    if random.once_in(2) { -value } else { value }
+    if random.once_in(2) {
+        -value
+    } else {
+        value
+    }
 }
 
 pub fn halves_of_a_count(out: &mut Out) {
-    for _ in 0..out.cases(2000) {
+    for _ in 0..out.cases(1000) {
         let mut frame = SoftFrame::random(1.0, 8, &mut out.random);
         let (from, most) = (frame.front, out.random.pick(&[1, 2, 3, 4, 16, 4096, 8192]));
         frame.each(from, |_| about_a_half(most, &mut out.random));
@@ -72,7 +83,7 @@ pub fn halves_of_a_count(out: &mut Out) {
         out.call(frame.call());
     }
     // Frames of a few counts with a half added to each value: the sums differ if halves go another way.
-    for _ in 0..out.cases(600) {
+    for _ in 0..out.cases(300) {
         let size = out.random.pick(&[1.0, 2.0, 3.0]) / 1024.0;
         let mut frame = SoftFrame::random(size, 6, &mut out.random);
         let from = some_start(&frame, &mut out.random);
@@ -96,13 +107,11 @@ pub fn tiny_values(out: &mut Out) {
         0x3A00_0000, // half a count
         0xBA00_0001, // just above it, negative
     ];
-    for _ in 0..out.cases(1200) {
+    for _ in 0..out.cases(600) {
         let mut frame = SoftFrame::random(1.0, 8, &mut out.random);
         let from = some_start(&frame, &mut out.random);
         let one_in = out.random.pick(&[2, 4, 8, 1000]);
-        frame.each(from, |x| {
-            if out.random.once_in(one_in) { x } else { f32::from_bits(out.random.pick(&TINY)) }
-        });
+        frame.each(from, |x| if out.random.once_in(one_in) { x } else { f32::from_bits(out.random.pick(&TINY)) });
         out.call(frame.call());
     }
     // Nothing but tiny values: every symbol is a tie.
@@ -113,11 +122,15 @@ pub fn tiny_values(out: &mut Out) {
         }
     }
     // Any subnormal in place of each zero.
-    for _ in 0..out.cases(200) {
+    for _ in 0..out.cases(100) {
         let mut frame = SoftFrame::random(0.75, 6, &mut out.random);
         frame.each(0, |x| {
             let subnormal = out.random.below(1 << 23) as u32 | (out.random.below(2) as u32) << 31;
-            if x == 0.0 { f32::from_bits(subnormal) } else { x }
+            if x == 0.0 {
+                f32::from_bits(subnormal)
+            } else {
+                x
+            }
         });
         out.call(frame.call());
     }
@@ -126,7 +139,7 @@ pub fn tiny_values(out: &mut Out) {
 const EIGHT: u32 = 0x4100_0000;
 
 pub fn exactly_eight(out: &mut Out) {
-    for _ in 0..out.cases(1000) {
+    for _ in 0..out.cases(600) {
         // Every value 8 or just below, of either sign: scores at both ends of their range.
         let mut frame = SoftFrame::random(8.0, 8, &mut out.random);
         let from = some_start(&frame, &mut out.random);
@@ -134,17 +147,22 @@ pub fn exactly_eight(out: &mut Out) {
         frame.each(from, |x| {
             let size = f32::from_bits(EIGHT - below);
             let negative = if x == 0.0 { out.random.once_in(2) } else { x < 0.0 };
-            if negative { -size } else { size }
+            if negative {
+                -size
+            } else {
+                size
+            }
         });
         out.call(frame.call());
     }
     // One value just above 8, or 8 in a frame of another size.
-    for _ in 0..out.cases(800) {
+    for _ in 0..out.cases(500) {
         let mut frame = SoftFrame::random(1.0, 4, &mut out.random);
         let at = out.random.below(frame.i.len());
-        let bits = EIGHT + out.random.pick(&[0, 0, 1, 2, 100]) | (out.random.below(2) as u32) << 31;
+        let size = f32::from_bits(EIGHT + out.random.pick(&[0, 0, 1, 2, 100]));
+        let value = if out.random.once_in(2) { -size } else { size };
         let row = if out.random.once_in(2) { &mut frame.i } else { &mut frame.q };
-        row[at] = f32::from_bits(bits);
+        row[at] = value;
         out.call(frame.call());
     }
 }
@@ -172,8 +190,8 @@ pub fn unusable_values(out: &mut Out) {
         let n = 1;
         let (i, q) = soft_rows(&Draft::random(kind, rate, n, &mut out.random).chips(), 1.0);
         let step = if kind == Kind::Long { out.step(13) } else { out.step(7) };
-        let first = out.random.below(step);
-        for place in (first..i.len()).step_by(step) {
+        // The front in steps, its last chip and all of the payload.
+        for place in (0..kind.front_chips() - 1).step_by(step).chain(kind.front_chips() - 1..i.len()) {
             let (mut i, mut q) = (i.clone(), q.clone());
             for place in [place, out.random.below(i.len())] {
                 let value = f32::from_bits(out.random.pick(&UNUSABLE));
@@ -187,7 +205,7 @@ pub fn unusable_values(out: &mut Out) {
         }
     }
     // Any f32 at all at one place, and over all of the payload.
-    for case in 0..out.cases(1500) {
+    for case in 0..out.cases(800) {
         let mut frame = SoftFrame::random(1.0, 3, &mut out.random);
         let mut any = || f32::from_bits((out.random.below(1 << 16) << 16 | out.random.below(1 << 16)) as u32);
         if case % 8 == 0 {
@@ -203,7 +221,7 @@ pub fn unusable_values(out: &mut Out) {
 }
 
 pub fn soft_damage(out: &mut Out) {
-    for _ in 0..out.cases(1500) {
+    for _ in 0..out.cases(700) {
         let mut frame = SoftFrame::random(1.0, 10, &mut out.random);
         let from = some_start(&frame, &mut out.random);
         let one_in = out.random.pick(&[200, 50, 10, 4, 2, 1]);

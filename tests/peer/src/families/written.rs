@@ -48,13 +48,14 @@ pub fn write_long_payloads(out: &mut Out) {
 pub fn write_every_n(out: &mut Out) {
     for (kind, rate) in pairs() {
         let step = match (kind, rate) {
-            (Kind::Short, Rate::Mbit11) => 1,
-            (_, Rate::Mbit11 | Rate::Mbit5_5) => out.step(37),
-            _ => if out.long { 13 } else { 173 },
+            (Kind::Short, Rate::Mbit11) => out.step(5),
+            (_, Rate::Mbit11 | Rate::Mbit5_5) => out.step(59),
+            _ if out.long => 13,
+            _ => 311,
         };
         for n in (1..=4095).step_by(step) {
             let (phase, octet) = (out.random.phase(), out.random.below(256) as u8);
-            let payload = (0..n).map(|k| octet.wrapping_add((k * k >> 3) as u8)).collect();
+            let payload = (0..n).map(|k| octet.wrapping_add((k * k / 8) as u8)).collect();
             out.call(good_write(kind, rate, phase, payload, 0));
         }
     }
@@ -97,7 +98,9 @@ pub fn write_edges(out: &mut Out) {
     for (kind, rate) in pairs() {
         for n in [1, 2, 3, 10, 11, 64, 255, 256, 257, 1026] {
             let frame = frame_len(kind, rate, n);
-            for chips_len in [0, 1, kind.front_chips() - 1, kind.front_chips(), frame - 1, frame, frame + 1, frame + 300] {
+            for chips_len in
+                [0, 1, kind.front_chips() - 1, kind.front_chips(), frame - 1, frame, frame + 1, frame + 300]
+            {
                 let (phase, payload) = (out.random.phase(), out.random.octets(n));
                 out.call(Call::write(kind.number(), u64::from(rate.code()), u64::from(phase), payload, chips_len));
             }
@@ -114,6 +117,11 @@ pub fn write_edges(out: &mut Out) {
             let payload = out.random.octets(n);
             out.call(Call::write(kind.number(), u64::from(rate.code()), 1, payload, 4000));
         }
+    }
+    // Buffers whose length is below the frame's in its lowest 16 bits are long enough.
+    for (kind, rate) in pairs() {
+        let chips_len = (1 << 16) + out.random.below(1000);
+        out.call(Call::write(kind.number(), u64::from(rate.code()), 2, vec![0x69; 3], chips_len));
     }
     // Buffers of any length around short frames.
     for _ in 0..out.cases(600) {

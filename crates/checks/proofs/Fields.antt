@@ -1,0 +1,161 @@
+-- The header's octets and its bits.
+--     with-crc                     two octets of CRC after four of fields
+--     field-octets, header-is      the writer's four octets are its fields, and with their CRC its header
+--     header-of                    what a header of six octets and an SFD of two tell, octet by octet
+--     same-bits, other-bits        two rows of bits compared
+-- Octets of eight bits each compute to rows of bits that are cut by computing. Assumes nothing.
+use mathlib.Core.Path.{_≡_, refl, sym, ap, ap₂, _∙_, subst}
+use mathlib.Core.Bool.{Bool, true, false, cond, not, _&&_}
+use mathlib.Core.List.{List, [], _∷_, _++_, append-assoc, append-nil}
+use Prim.Native.Nat.{ℕ, zero, suc, _+_, _*_, _/_, _%_, _≤_, _<_}
+use native.Mathlib.Omega.{arith}
+use lib.Dec.{T, eqb}
+use lib.ListN.{length, getD}
+use borrow.Author.Tests.{eq-eqb, ne-eqb, eqb-true}
+use Rattle.base.specs.Tables.{tabulate}
+use Rattle.base.proofs.Tables.{as-table}
+use Rattle.rates.specs.declared.Rate.{Rate}
+use Rattle.rates.specs.declared.Rate.the-variants.{One, Two, Five, Eleven}
+use Rattle.rates.specs.Rates.{codeOf, lengthField, bit7}
+use Rattle.bits.specs.Bits.{bitsOf, numberOf, octetBits}
+use Rattle.bits.specs.Crc.{crcBits}
+use Rattle.bits.specs.Code.{Below}
+use Rattle.bits.proofs.Bits.{bits-two, octet-bits-append, number-one, octets-same}
+use Rattle.bits.proofs.Below.{below-nil, below-cons}
+use Rattle.frame.specs.declared.Kind.{Kind}
+use Rattle.frame.specs.declared.Refusal.the-variants.{Sfd, Crc}
+use Rattle.frame.specs.declared.Front.{Front}
+use Rattle.frame.specs.declared.Front.the-variants.{Refused}
+use Rattle.frame.specs.Frame.{sfdOf, serviceField, fieldBits, headerBits}
+use Rattle.frame.specs.Reading.{sameBits, fieldsOf, headerOf}
+
+pub two-is : (xs : List ℕ) → length xs ≡ 2 → xs ≡ getD xs 0 0 ∷ getD xs 1 0 ∷ []
+unfolding tabulate
+two-is xs e = as-table xs 2 0 e
+
+pub with-crc : (a b c d : ℕ) (crc : List ℕ) → length crc ≡ 2 → octetBits crc ≡ crcBits (octetBits (a ∷ b ∷ c ∷ d ∷ []))
+    → octetBits (a ∷ b ∷ c ∷ d ∷ getD crc 0 0 ∷ getD crc 1 0 ∷ [])
+    ≡ octetBits (a ∷ b ∷ c ∷ d ∷ []) ++ crcBits (octetBits (a ∷ b ∷ c ∷ d ∷ []))
+with-crc a b c d crc e q =
+    octet-bits-append (a ∷ b ∷ c ∷ d ∷ []) (getD crc 0 0 ∷ getD crc 1 0 ∷ [])
+    ∙ ap (λ (l : List ℕ). octetBits (a ∷ b ∷ c ∷ d ∷ []) ++ l) (sym (ap octetBits (two-is crc e)) ∙ q)
+
+pub code-small : (r : Rate) → codeOf r < 256
+code-small One = omega arith
+code-small Two = omega arith
+code-small Five = omega arith
+code-small Eleven = omega arith
+
+pub field-octets : (r : Rate) (n s v lo hi : ℕ)
+    → s ≡ codeOf r → v ≡ serviceField r n → lo ≡ lengthField r n % 256 → hi ≡ lengthField r n / 256
+    → octetBits (s ∷ v ∷ lo ∷ hi ∷ []) ≡ fieldBits r n
+unfolding octetBits fieldBits
+field-octets r n s v lo hi es ev el eh =
+    rw (append-nil, bits-two (lengthField r n), ← es, ← ev, ← el, ← eh)
+
+pub header-is : (r : Rate) (n s v lo hi : ℕ)
+    → s ≡ codeOf r → v ≡ serviceField r n → lo ≡ lengthField r n % 256 → hi ≡ lengthField r n / 256
+    → octetBits (s ∷ v ∷ lo ∷ hi ∷ []) ++ crcBits (octetBits (s ∷ v ∷ lo ∷ hi ∷ [])) ≡ headerBits r n
+unfolding headerBits
+header-is r n s v lo hi es ev el eh =
+    ap (λ (l : List ℕ). l ++ crcBits l) (field-octets r n s v lo hi es ev el eh)
+
+-- ---- two rows of bits compared
+
+pub same-refl : (xs : List ℕ) → sameBits xs xs ≡ true
+unfolding sameBits
+same-refl [] = refl
+same-refl (x ∷ xs) = rw (eq-eqb x x refl) (same-refl xs)
+
+same-eq : (xs ys : List ℕ) → sameBits xs ys ≡ true → xs ≡ ys
+unfolding sameBits
+same-eq [] [] e = refl
+same-eq [] (y ∷ ys) e = absurd (subst T (sym e) tt)
+same-eq (x ∷ xs) [] e = absurd (subst T (sym e) tt)
+same-eq (x ∷ xs) (y ∷ ys) e = by (eqb x y) refl (same-eq xs ys)
+  where
+    by : (b : Bool) → eqb x y ≡ b → (sameBits xs ys ≡ true → xs ≡ ys) → x ∷ xs ≡ y ∷ ys
+    by true q rest = ap₂ {C = List ℕ} (λ z zs. z ∷ zs) (eqb-true x y q) (rest (rw q at e))
+    by false q rest = absurd (subst T (sym (rw q at e)) tt)
+
+-- two octets of CRC, as made and as read
+pub crc-differs : (crc read : List ℕ) → length crc ≡ length read → Below 256 crc → Below 256 read → (crc ≡ read → ⊥)
+    → sameBits (octetBits crc) (octetBits read) ≡ false
+crc-differs crc read e h k other = by (sameBits (octetBits crc) (octetBits read)) refl
+  where
+    by : (b : Bool) → sameBits (octetBits crc) (octetBits read) ≡ b → b ≡ false
+    by true q = absurd (other (octets-same crc read e h k (same-eq (octetBits crc) (octetBits read) q)))
+    by false q = refl
+
+-- ---- what a header of six octets tells
+
+pub six-is : (xs : List ℕ) → length xs ≡ 6
+    → xs ≡ getD xs 0 0 ∷ getD xs 1 0 ∷ getD xs 2 0 ∷ getD xs 3 0 ∷ getD xs 4 0 ∷ getD xs 5 0 ∷ []
+unfolding tabulate
+six-is xs e = as-table xs 6 0 e
+
+cut : (k : Kind) (sfd : List ℕ) (a b c d x y : ℕ)
+    → headerOf k sfd (octetBits (a ∷ b ∷ c ∷ d ∷ x ∷ y ∷ []))
+    ≡ cond (not (eqb (numberOf sfd) (sfdOf k))) (Refused Sfd)
+    (cond (not (sameBits (crcBits (octetBits (a ∷ b ∷ c ∷ d ∷ []))) (octetBits (x ∷ y ∷ [])))) (Refused Crc)
+    (fieldsOf k (numberOf (octetBits (a ∷ []))) (numberOf (octetBits (b ∷ []))) (numberOf (octetBits (c ∷ d ∷ [])))))
+unfolding headerOf octetBits bitsOf
+cut k sfd a b c d x y = refl
+
+header-of : (k : Kind) (sfd header : List ℕ) → length header ≡ 6 → Below 256 header
+    → headerOf k sfd (octetBits header)
+    ≡ cond (not (eqb (numberOf sfd) (sfdOf k))) (Refused Sfd)
+    (cond
+    (not
+    (sameBits (crcBits (octetBits (getD header 0 0 ∷ getD header 1 0 ∷ getD header 2 0 ∷ getD header 3 0 ∷ [])))
+    (octetBits (getD header 4 0 ∷ getD header 5 0 ∷ []))))
+    (Refused Crc)
+    (fieldsOf k (getD header 0 0) (getD header 1 0) (numberOf (octetBits (getD header 2 0 ∷ getD header 3 0 ∷ [])))))
+header-of k sfd header six octets =
+    ap (λ (l : List ℕ). headerOf k sfd (octetBits l)) (six-is header six)
+    ∙ cut k sfd _ _ _ _ _ _
+    ∙ rw (number-one (getD header 0 0) (octets .at 0), number-one (getD header 1 0) (octets .at 1))
+
+module _
+    (k : Kind) (sfd header : List ℕ) (two : length sfd ≡ 2) (six : length header ≡ 6) (octets : Below 256 header)
+    (s t : ℕ) (es : s ≡ numberOf (octetBits (getD sfd 0 0 ∷ getD sfd 1 0 ∷ []))) (et : t ≡ sfdOf k) where
+  found : s ≡ numberOf (octetBits sfd)
+  found = es ∙ sym (ap (λ (l : List ℕ). numberOf (octetBits l)) (two-is sfd two))
+
+  pub header-sfd : (s ≡ t → ⊥) → Refused Sfd ≡ headerOf k (octetBits sfd) (octetBits header)
+  header-sfd other = rw (header-of k (octetBits sfd) header six octets, ← found, ← et, ne-eqb s t other)
+
+  module _
+      (q : s ≡ t) (crc : List ℕ) (long : length crc ≡ 2) (crcs : Below 256 crc)
+      (e : octetBits crc
+      ≡ crcBits (octetBits (getD header 0 0 ∷ getD header 1 0 ∷ getD header 2 0 ∷ getD header 3 0 ∷ []))) where
+    pub header-crc : (crc ≡ getD header 4 0 ∷ getD header 5 0 ∷ [] → ⊥)
+        → Refused Crc ≡ headerOf k (octetBits sfd) (octetBits header)
+    header-crc other =
+        let read = getD header 4 0 ∷ getD header 5 0 ∷ [] in
+        let below : Below 256 read =
+        below-cons (octets .at 4) (below-cons (octets .at 5) (below-nil 256 (omega arith))) in
+        rw (
+          header-of k (octetBits sfd) header six octets,
+          ← found,
+          ← et,
+          eq-eqb s t q,
+          ← e,
+          crc-differs crc read long crcs below other,
+        )
+
+    pub header-fields : crc ≡ getD header 4 0 ∷ getD header 5 0 ∷ [] → (l : ℕ) (f : Front)
+        → l ≡ numberOf (octetBits (getD header 2 0 ∷ getD header 3 0 ∷ []))
+        → f ≡ fieldsOf k (getD header 0 0) (getD header 1 0) l
+        → f ≡ headerOf k (octetBits sfd) (octetBits header)
+    header-fields same l f el ef =
+        rw (
+          header-of k (octetBits sfd) header six octets,
+          ← found,
+          ← et,
+          eq-eqb s t q,
+          ← e,
+          ← same,
+          same-refl (octetBits crc),
+          ← el,
+        ) ef

@@ -1,0 +1,5 @@
+pub mod Sizes
+pub mod Tests
+pub mod Lengths
+pub mod Fields
+pub mod Back

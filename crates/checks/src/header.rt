@@ -1,0 +1,131 @@
+// The header's six octets: what they tell a reader, and those that a writer sends.
+use frame::Front;
+use frame::Kind;
+use frame::Refusal;
+use rates::Rate;
+ghost use mathlib.Core.Path.{_≡_};
+ghost use mathlib.Core.List.{[], _∷_, _++_};
+ghost use Prim.Native.Nat.{_≤_, _<_};
+ghost use lib.ListN.{length};
+ghost use Rattle.bits.specs.Bits.{numberOf, octetBits};
+ghost use Rattle.bits.specs.Crc.{crcBits};
+ghost use Rattle.frame.specs.Frame.{sfdOf, headerBits};
+ghost use Rattle.frame.specs.Reading.{serviceAllowed, fieldsOf, headerOf};
+ghost use Rattle.checks.specs.Code.{octetsTold};
+
+// Whether SERVICE is one that a rate allows.
+fn service_allowed(r: Rate, service: u8) -> bool
+    ensures answer { λ b. ⌜ b ≡ serviceAllowed r service ⌝ }
+{
+    match r {
+        Rate::One => service == 0,
+        Rate::Two => service == 0,
+        Rate::Five => service == 0,
+        Rate::Eleven => service == 128 * (service / 128 % 2),
+    }
+}
+
+// The octets that LENGTH and bit 7 tell; 0 where a writer would send others for them, or where they are
+// none or above 4,095. That there is one to take away is asked first.
+fn octets_told(r: Rate, length: usize, seven: u8) -> usize
+    requires { ⌜ (length < 65536) × (seven < 2) ⌝ }
+    ensures answer { λ n. ⌜ n ≡ octetsTold r length seven ⌝ }
+{
+    let whole = r.whole_octets(length);
+    let less = seven as usize;
+    if whole <= less {
+        return 0;
+    }
+    let n = whole - less;
+    if 4095 < n {
+        return 0;
+    }
+    if r.length_field(n) != length {
+        return 0;
+    }
+    if r.bit7(n) != seven {
+        return 0;
+    }
+    n
+}
+
+// What the three fields tell: refusals 13, 14 and 15, in this order.
+pub fn fields_of(k: Kind, signal: u8, service: u8, length: usize) -> Front
+    requires { ⌜ length < 65536 ⌝ }
+    ensures answer { λ f. ⌜ f ≡ fieldsOf k signal service length ⌝ }
+{
+    let code = signal as u64;
+    if !rates::is_code(code) {
+        return Front::Refused(Refusal::Signal { length });
+    }
+    let r = rates::rate_of(code);
+    if !crate::goes_with(k, r) {
+        return Front::Refused(Refusal::Signal { length });
+    }
+    if !service_allowed(r, service) {
+        return Front::Refused(Refusal::Service { length });
+    }
+    let n = octets_told(r, length, service / 128 % 2);
+    if n == 0 {
+        return Front::Refused(Refusal::Length { length });
+    }
+    Front::Fields { rate: r, length, n }
+}
+
+// The SFD of a kind, as a number.
+fn sfd_of(k: Kind) -> usize
+    ensures answer { λ s. ⌜ s ≡ sfdOf k ⌝ }
+{
+    match k {
+        Kind::Long => 0xF3A0,
+        Kind::Short => 0x05CF,
+    }
+}
+
+// The number of two octets, the lower first.
+fn both(low: u8, high: u8) -> usize
+    ensures answer { λ n. ⌜ (n ≡ numberOf (octetBits (low ∷ high ∷ []))) × (n < 65536) ⌝ }
+{
+    low as usize + 256 * (high as usize)
+}
+
+// What the SFD and the header tell: refusals 11 to 15, in this order.
+pub fn header_of(k: Kind, sfd: [u8; 2], header: [u8; 6]) -> Front
+    ensures answer { λ f. ⌜ f ≡ headerOf k (octetBits sfd) (octetBits header) ⌝ }
+{
+    if both(sfd[0], sfd[1]) != sfd_of(k) {
+        return Front::Refused(Refusal::Sfd);
+    }
+    let crc = bits::crc_octets(header[0], header[1], header[2], header[3]);
+    if crc[0] != header[4] {
+        return Front::Refused(Refusal::Crc);
+    }
+    if crc[1] != header[5] {
+        return Front::Refused(Refusal::Crc);
+    }
+    fields_of(k, header[0], header[1], both(header[2], header[3]))
+}
+
+// Any four header octets with their CRC.
+pub fn octets_with_crc(signal: u8, service: u8, low: u8, high: u8) -> [u8; 6]
+    ensures answer { λ h.
+        ⌜
+        (octetBits h
+        ≡ octetBits (signal ∷ service ∷ low ∷ high ∷ []) ++ crcBits (octetBits (signal ∷ service ∷ low ∷ high ∷ [])))
+        × (length h ≡ 6)
+        ⌝ }
+{
+    let crc = bits::crc_octets(signal, service, low, high);
+    [signal, service, low, high, crc[0], crc[1]]
+}
+
+// The header of a frame of n octets.
+pub fn header_octets(r: Rate, n: usize) -> [u8; 6]
+    requires { ⌜ n ≤ 4095 ⌝ }
+    ensures answer { λ h. ⌜ (octetBits h ≡ headerBits r n) × (length h ≡ 6) ⌝ }
+{
+    let signal = r.code() as u8;
+    let service = 128 * r.bit7(n);
+    let length = r.length_field(n);
+    octets_with_crc(signal, service, (length % 256) as u8, (length / 256) as u8)
+}

@@ -1,0 +1,9 @@
+pub mod Small
+pub mod Sum
+pub mod Best
+pub mod Five
+pub mod Decided
+pub mod Clean
+pub mod Near
+pub mod Demand3
+pub mod Facts

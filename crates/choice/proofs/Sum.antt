@@ -1,0 +1,65 @@
+-- The loop that sums a word's score, once for every length up to 16: the sum so far with the score of the rest is the score.
+-- Assumes nothing.
+use mathlib.Core.Path.{_≡_, sym, ap, _∙_, subst}
+use mathlib.Core.List.{List, [], _∷_}
+use Prim.Native.Nat.{ℕ, zero, suc, _+_, _*_, _≤_, _<_}
+use native.Mathlib.Numerals.{add-one}
+use native.Mathlib.Omega.{arith}
+use lib.Dec.{lit<}
+use lib.ListN.{length, getD, drop, drop-of-length-le}
+use lib.Seq.{drop-cons}
+use lib.IntN.{ℤ, _+ℤ_, +ℤ-idl, +ℤ-idr, +ℤ-assoc}
+use mir.Syntax.{w32}
+use mir.Val.{SFits, toZ, ofZ}
+use mir.Facts.{toZ-ofZ}
+use Rattle.base.specs.Whole.{Within}
+use Rattle.base.proofs.Whole.{within-zero, within-add, within-sfits, small}
+use Rattle.chips.specs.declared.Counts.{Counts}
+use Rattle.chips.specs.Chips.{nothing}
+use Rattle.symbols.specs.Choice.{term, score}
+use Rattle.choice.specs.Scores.{Smalls}
+use Rattle.choice.proofs.Small.{term-within}
+
+pub record Summed (w : List ℕ) (cs : List Counts) (sum k : ℕ) : Type 0 where
+  pub done : toZ w32 sum +ℤ score (drop k w) (drop k cs) ≡ score w cs
+  pub bound : Within (8192 * k) (toZ w32 sum)
+
+pub summed-none : (w : List ℕ) (cs : List Counts) → Summed w cs 0 0
+summed-none w cs = record { done = +ℤ-idl (score w cs); bound = within-zero 0 }
+
+module _ (w : List ℕ) (cs : List Counts) (sum k : ℕ) (inv : Summed w cs sum k) (s : Smalls cs) (few : k < 16)
+    (z : ℤ) (is : z ≡ term (getD w k 0) (getD cs k nothing)) where
+  z-small : Within 8192 z
+  z-small = subst (Within 8192) (sym is) (term-within (getD w k 0) (s .at k))
+
+  read : toZ w32 (ofZ w32 z) ≡ z
+  read = small 8192 (lit< tt) z z-small
+
+  next : Within (8192 * k + 8192) (toZ w32 sum +ℤ z)
+  next = within-add (inv .bound) z-small
+
+  pub sum-fits : SFits w32 (toZ w32 sum +ℤ toZ w32 (ofZ w32 z))
+  sum-fits = rw read (within-sfits next (omega arith))
+
+  more : toZ w32 (ofZ w32 (toZ w32 sum +ℤ toZ w32 (ofZ w32 z))) ≡ toZ w32 sum +ℤ z
+  more = toZ-ofZ sum-fits ∙ ap (λ (y : ℤ). toZ w32 sum +ℤ y) read
+
+  rest : k < length w → k < length cs → score (drop k w) (drop k cs) ≡ z +ℤ score (drop (suc k) w) (drop (suc k) cs)
+  unfolding score
+  rest hw hc =
+      (λ i. score (drop-cons w k 0 hw i) (drop-cons cs k nothing hc i))
+      ∙ ap (λ (y : ℤ). y +ℤ score (drop (suc k) w) (drop (suc k) cs)) (sym is)
+
+  pub summed-more : k < length w → k < length cs → Summed w cs (ofZ w32 (toZ w32 sum +ℤ toZ w32 (ofZ w32 z))) (k + 1)
+  summed-more hw hc = record {
+    done = rw (add-one k, more)
+        (+ℤ-assoc (toZ w32 sum) z _ ∙ ap (λ (y : ℤ). toZ w32 sum +ℤ y) (sym (rest hw hc)) ∙ inv .done);
+    bound = rw more (subst (λ (b : ℕ). Within b (toZ w32 sum +ℤ z)) (omega arith) next);
+  }
+
+pub summed-all : {w : List ℕ} {cs : List Counts} {sum k : ℕ} → Summed w cs sum k → length w ≤ k → toZ w32 sum ≡ score w cs
+unfolding score
+summed-all {w} {cs} {sum} {k} inv h =
+    sym (+ℤ-idr (toZ w32 sum))
+    ∙ ap (λ (l : List ℕ). toZ w32 sum +ℤ score l (drop k cs)) (sym (drop-of-length-le w h))
+    ∙ inv .done

@@ -1,0 +1,27 @@
+-- How two words stand to each other, chip by chip: the same, a half turn apart, or a quarter turn apart.
+-- Definitions only. Assumes nothing.
+use Prim.Native.Nat.{ℕ, _+_}
+use mathlib.Core.Bool.{Bool, cond}
+use mathlib.Core.List.{List, [], _∷_, map}
+use lib.Dec.{eqb}
+use Rattle.chips.specs.declared.Counts.{Counts}
+use Rattle.chips.specs.Chips.{turned, fullChip}
+
+abbrev pub one : Bool → ℕ
+one b = cond b 1 0
+
+-- at how many chips two words agree
+unfoldable pub agreeing : List ℕ → List ℕ → ℕ
+agreeing [] w = 0
+agreeing (p ∷ v) [] = 0
+agreeing (p ∷ v) (q ∷ w) = one (eqb p q) + agreeing v w
+
+-- at how many they are a half turn apart
+unfoldable pub opposed : List ℕ → List ℕ → ℕ
+opposed [] w = 0
+opposed (p ∷ v) [] = 0
+opposed (p ∷ v) (q ∷ w) = one (eqb (turned p 2) q) + opposed v w
+
+-- the counts of a word whose chips are all full and right
+abbrev pub clean : ℕ → List ℕ → List Counts
+clean full w = map (fullChip full) w

@@ -1,0 +1,3 @@
+pub mod Scores
+pub mod Agreement
+pub mod Demand3

@@ -1,0 +1,50 @@
+-- What the functions of the choice answer: tables of scores, and the place of the largest (RULES 3.5 to 3.7).
+-- Definitions only. Assumes nothing.
+use Prim.Native.Nat.{ℕ, _+_, _*_, _/_, _%_, _<_}
+use mathlib.Core.Bool.{Bool, true}
+use mathlib.Core.List.{List}
+use lib.ListN.{length, getD}
+use lib.Dec.{T}
+use lib.IntN.{ℤ, pos}
+use lib.Signed.{_≤ℤ_, _<ℤ_}
+use Rattle.rates.specs.declared.Rate.{Rate}
+use Rattle.chips.specs.declared.Counts.{Counts}
+use Rattle.chips.specs.Chips.{nothing}
+use Rattle.chips.specs.Bounds.{Bounded}
+use Rattle.symbols.specs.Words.{wordOf, cckNumber}
+use Rattle.symbols.specs.Choice.{score, numbers, isAllowed, those, firstLargest}
+
+-- counts that are all from -b to b
+pub record AllBounded (b : ℕ) (cs : List Counts) : Type 0 where
+  pub at : (k : ℕ) → Bounded b (getD cs k nothing)
+
+-- as usable chips have them: 8 in magnitude is 8192 counts
+abbrev pub Smalls : List Counts → Type 0
+Smalls cs = AllBounded 8192 cs
+
+-- the score of the word with number n
+abbrev pub scoreAt : Rate → List Counts → ℕ → ℤ
+scoreAt r cs n = score (wordOf r n) cs
+
+-- the numbers below n, rising
+abbrev pub upTo : ℕ → List ℕ
+upTo n = those (λ j. true) n
+
+-- the place of the largest of a row, the first of several
+unfoldable pub placeOfLargest : List ℤ → ℕ
+placeOfLargest s = firstLargest (λ j. getD s j (pos 0)) (upTo (length s))
+
+-- the k-th of the sixteen numbers allowed at 5.5 Mbit/s: p3 = 0, p2 odd, p4 even
+abbrev pub number5 : ℕ → ℕ
+number5 k = cckNumber (k / 4) (2 * (k / 2 % 2) + 1) 0 (2 * (k % 2))
+
+-- the best of the numbers below n that a test allows: none has more, and each smaller one has less
+pub record BestOf (ok : ℕ → Bool) (n : ℕ) (f : ℕ → ℤ) (r : ℕ) : Type 0 where
+  pub among : r < n
+  pub allowed : T (ok r)
+  pub top : (m : ℕ) → m < n → T (ok m) → f m ≤ℤ f r
+  pub first : (m : ℕ) → m < r → T (ok m) → f m <ℤ f r
+
+-- the number of the word that counts are to be decided as
+abbrev pub DecidedAs : Rate → List Counts → ℕ → Type 0
+DecidedAs r cs n = BestOf (isAllowed r) (numbers r) (scoreAt r cs) n

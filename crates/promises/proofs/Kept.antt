@@ -1,0 +1,32 @@
+-- Every promise is kept. Assumes nothing.
+use mathlib.Core.Path.{_≡_, sym, _∙_}
+use Rattle.frame.proofs.TableP.{table-p}
+use Rattle.choice.proofs.Demand3.{demand-3, demand-3-exact}
+use Rattle.promises.specs.Promises.{OneAnswer, Promised}
+use Rattle.promises.proofs.Fills.{write-fills, read-fills}
+use Rattle.promises.proofs.Back.{read-back, read-back-soft, not-read-back}
+use Rattle.promises.proofs.Source.{one-source}
+use Rattle.promises.proofs.Right.{front-right, payload-right}
+
+-- each contract is an equation with a definition
+pub one-answer : OneAnswer
+one-answer = (
+  (λ kind rate phase payload room w w′ left left′ f g. (f .answer ∙ sym (g .answer), f .chips ∙ sym (g .chips))),
+  λ kind agree rec room a a′ left left′ f g. (f .answer ∙ sym (g .answer), f .octets ∙ sym (g .octets)),
+)
+
+pub kept : Promised
+kept = (
+  write-fills,
+  read-fills,
+  read-back,
+  read-back-soft,
+  not-read-back,
+  one-source,
+  demand-3,
+  demand-3-exact,
+  front-right,
+  payload-right,
+  one-answer,
+  table-p,
+)
