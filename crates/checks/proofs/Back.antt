@@ -120,7 +120,8 @@ header-length r n =
 fields-below : (r : Rate) (n : ℕ) → Below 2 (fieldBits r n)
 unfolding fieldBits
 fields-below r n =
-    below-append (bits-below 8 (codeOf r)) (below-append (bits-below 8 (serviceField r n)) (bits-below 16 (lengthField r n)))
+    below-append (bits-below 8 (codeOf r))
+    (below-append (bits-below 8 (serviceField r n)) (bits-below 16 (lengthField r n)))
 
 pub header-below : (r : Rate) (n : ℕ) → Below 2 (headerBits r n)
 unfolding headerBits

@@ -10,7 +10,7 @@ use mathlib.Core.List.{List, [], _∷_, _++_, append-assoc, append-nil}
 use Prim.Native.Nat.{ℕ, zero, suc, _+_, _*_, _/_, _%_, _≤_, _<_}
 use native.Mathlib.Omega.{arith}
 use lib.Dec.{T, eqb}
-use lib.ListN.{length, getD}
+use lib.ListN.{length, getD, take, drop}
 use borrow.Author.Tests.{eq-eqb, ne-eqb, eqb-true}
 use Rattle.base.specs.Tables.{tabulate}
 use Rattle.base.proofs.Tables.{as-table}
@@ -89,73 +89,61 @@ crc-differs crc read e h k other = by (sameBits (octetBits crc) (octetBits read)
 
 -- ---- what a header of six octets tells
 
-pub six-is : (xs : List ℕ) → length xs ≡ 6
+six-is : (xs : List ℕ) → length xs ≡ 6
     → xs ≡ getD xs 0 0 ∷ getD xs 1 0 ∷ getD xs 2 0 ∷ getD xs 3 0 ∷ getD xs 4 0 ∷ getD xs 5 0 ∷ []
 unfolding tabulate
 six-is xs e = as-table xs 6 0 e
 
-cut : (k : Kind) (sfd : List ℕ) (a b c d x y : ℕ)
-    → headerOf k sfd (octetBits (a ∷ b ∷ c ∷ d ∷ x ∷ y ∷ []))
-    ≡ cond (not (eqb (numberOf sfd) (sfdOf k))) (Refused Sfd)
-    (cond (not (sameBits (crcBits (octetBits (a ∷ b ∷ c ∷ d ∷ []))) (octetBits (x ∷ y ∷ [])))) (Refused Crc)
-    (fieldsOf k (numberOf (octetBits (a ∷ []))) (numberOf (octetBits (b ∷ []))) (numberOf (octetBits (c ∷ d ∷ [])))))
-unfolding headerOf octetBits bitsOf
-cut k sfd a b c d x y = refl
+-- its bits, cut
+module _ (xs : List ℕ) (e : length xs ≡ 6) where
+  front : take 32 (octetBits xs) ≡ octetBits (getD xs 0 0 ∷ getD xs 1 0 ∷ getD xs 2 0 ∷ getD xs 3 0 ∷ [])
+  front = ap (λ (l : List ℕ). take 32 (octetBits l)) (six-is xs e) ∙ unfold octetBits bitsOf in refl
 
-header-of : (k : Kind) (sfd header : List ℕ) → length header ≡ 6 → Below 256 header
-    → headerOf k sfd (octetBits header)
-    ≡ cond (not (eqb (numberOf sfd) (sfdOf k))) (Refused Sfd)
-    (cond
-    (not
-    (sameBits (crcBits (octetBits (getD header 0 0 ∷ getD header 1 0 ∷ getD header 2 0 ∷ getD header 3 0 ∷ [])))
-    (octetBits (getD header 4 0 ∷ getD header 5 0 ∷ []))))
-    (Refused Crc)
-    (fieldsOf k (getD header 0 0) (getD header 1 0) (numberOf (octetBits (getD header 2 0 ∷ getD header 3 0 ∷ [])))))
-header-of k sfd header six octets =
-    ap (λ (l : List ℕ). headerOf k sfd (octetBits l)) (six-is header six)
-    ∙ cut k sfd _ _ _ _ _ _
-    ∙ rw (number-one (getD header 0 0) (octets .at 0), number-one (getD header 1 0) (octets .at 1))
+  back : drop 32 (octetBits xs) ≡ octetBits (getD xs 4 0 ∷ getD xs 5 0 ∷ [])
+  back = ap (λ (l : List ℕ). drop 32 (octetBits l)) (six-is xs e) ∙ unfold octetBits bitsOf in refl
 
+  first : take 8 (octetBits xs) ≡ octetBits (getD xs 0 0 ∷ [])
+  first = ap (λ (l : List ℕ). take 8 (octetBits l)) (six-is xs e) ∙ unfold octetBits bitsOf in refl
+
+  second : take 8 (drop 8 (octetBits xs)) ≡ octetBits (getD xs 1 0 ∷ [])
+  second = ap (λ (l : List ℕ). take 8 (drop 8 (octetBits l))) (six-is xs e) ∙ unfold octetBits bitsOf in refl
+
+  third : take 16 (drop 16 (octetBits xs)) ≡ octetBits (getD xs 2 0 ∷ getD xs 3 0 ∷ [])
+  third = ap (λ (l : List ℕ). take 16 (drop 16 (octetBits l))) (six-is xs e) ∙ unfold octetBits bitsOf in refl
+
+-- the CRC of four octets, as made and as read
 module _
-    (k : Kind) (sfd header : List ℕ) (two : length sfd ≡ 2) (six : length header ≡ 6) (octets : Below 256 header)
-    (s t : ℕ) (es : s ≡ numberOf (octetBits (getD sfd 0 0 ∷ getD sfd 1 0 ∷ []))) (et : t ≡ sfdOf k) where
-  found : s ≡ numberOf (octetBits sfd)
-  found = es ∙ sym (ap (λ (l : List ℕ). numberOf (octetBits l)) (two-is sfd two))
+    (header : List ℕ) (six : length header ≡ 6) (octets : Below 256 header) (crc : List ℕ) (long : length crc ≡ 2)
+    (crcs : Below 256 crc)
+    (e : octetBits crc
+    ≡ crcBits (octetBits (getD header 0 0 ∷ getD header 1 0 ∷ getD header 2 0 ∷ getD header 3 0 ∷ []))) where
+  pub crc-other : (crc ≡ getD header 4 0 ∷ getD header 5 0 ∷ [] → ⊥)
+      → false ≡ sameBits (crcBits (take 32 (octetBits header))) (drop 32 (octetBits header))
+  crc-other other =
+      let read = getD header 4 0 ∷ getD header 5 0 ∷ [] in
+      let below : Below 256 read =
+      below-cons (octets .at 4) (below-cons (octets .at 5) (below-nil 256 (omega arith))) in
+      rw (front header six, back header six, ← e) (sym (crc-differs crc read long crcs below other))
 
-  pub header-sfd : (s ≡ t → ⊥) → Refused Sfd ≡ headerOf k (octetBits sfd) (octetBits header)
-  header-sfd other = rw (header-of k (octetBits sfd) header six octets, ← found, ← et, ne-eqb s t other)
+pub crc-same : (header : List ℕ) → length header ≡ 6 → (crc : List ℕ)
+    → octetBits crc ≡ crcBits (octetBits (getD header 0 0 ∷ getD header 1 0 ∷ getD header 2 0 ∷ getD header 3 0 ∷ []))
+    → crc ≡ getD header 4 0 ∷ getD header 5 0 ∷ []
+    → true ≡ sameBits (crcBits (take 32 (octetBits header))) (drop 32 (octetBits header))
+crc-same header six crc e same = rw (front header six, back header six, ← e, ← same) (sym (same-refl (octetBits crc)))
 
-  module _
-      (q : s ≡ t) (crc : List ℕ) (long : length crc ≡ 2) (crcs : Below 256 crc)
-      (e : octetBits crc
-      ≡ crcBits (octetBits (getD header 0 0 ∷ getD header 1 0 ∷ getD header 2 0 ∷ getD header 3 0 ∷ []))) where
-    pub header-crc : (crc ≡ getD header 4 0 ∷ getD header 5 0 ∷ [] → ⊥)
-        → Refused Crc ≡ headerOf k (octetBits sfd) (octetBits header)
-    header-crc other =
-        let read = getD header 4 0 ∷ getD header 5 0 ∷ [] in
-        let below : Below 256 read =
-        below-cons (octets .at 4) (below-cons (octets .at 5) (below-nil 256 (omega arith))) in
-        rw (
-          header-of k (octetBits sfd) header six octets,
-          ← found,
-          ← et,
-          eq-eqb s t q,
-          ← e,
-          crc-differs crc read long crcs below other,
-        )
-
-    pub header-fields : crc ≡ getD header 4 0 ∷ getD header 5 0 ∷ [] → (l : ℕ) (f : Front)
-        → l ≡ numberOf (octetBits (getD header 2 0 ∷ getD header 3 0 ∷ []))
-        → f ≡ fieldsOf k (getD header 0 0) (getD header 1 0) l
-        → f ≡ headerOf k (octetBits sfd) (octetBits header)
-    header-fields same l f el ef =
-        rw (
-          header-of k (octetBits sfd) header six octets,
-          ← found,
-          ← et,
-          eq-eqb s t q,
-          ← e,
-          ← same,
-          same-refl (octetBits crc),
-          ← el,
-        ) ef
+-- the three fields
+pub fields-cut : (k : Kind) (header : List ℕ) → length header ≡ 6 → Below 256 header → (l : ℕ) (f : Front)
+    → l ≡ numberOf (octetBits (getD header 2 0 ∷ getD header 3 0 ∷ []))
+    → f ≡ fieldsOf k (getD header 0 0) (getD header 1 0) l
+    → f
+    ≡ fieldsOf k (numberOf (take 8 (octetBits header))) (numberOf (take 8 (drop 8 (octetBits header))))
+    (numberOf (take 16 (drop 16 (octetBits header))))
+fields-cut k header six octets l f el ef =
+    rw (
+      first header six,
+      second header six,
+      third header six,
+      number-one (getD header 0 0) (octets .at 0),
+      number-one (getD header 1 0) (octets .at 1),
+      ← el,
+    ) ef

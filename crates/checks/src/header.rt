@@ -4,13 +4,16 @@ use frame::Kind;
 use frame::Refusal;
 use rates::Rate;
 ghost use mathlib.Core.Path.{_≡_};
+ghost use mathlib.Core.Bool.{_&&_};
 ghost use mathlib.Core.List.{[], _∷_, _++_};
 ghost use Prim.Native.Nat.{_≤_, _<_};
-ghost use lib.ListN.{length};
+ghost use lib.Dec.{eqb};
+ghost use lib.ListN.{length, take, drop};
+ghost use Rattle.rates.specs.Rates.{isCode, rateOf};
 ghost use Rattle.bits.specs.Bits.{numberOf, octetBits};
 ghost use Rattle.bits.specs.Crc.{crcBits};
-ghost use Rattle.frame.specs.Frame.{sfdOf, headerBits};
-ghost use Rattle.frame.specs.Reading.{serviceAllowed, fieldsOf, headerOf};
+ghost use Rattle.frame.specs.Frame.{sfdOf, goesWith, headerBits};
+ghost use Rattle.frame.specs.Reading.{serviceAllowed, sameBits, fieldsOf, headerOf};
 ghost use Rattle.checks.specs.Code.{octetsTold};
 
 // Whether SERVICE is one that a rate allows.
@@ -49,20 +52,29 @@ fn octets_told(r: Rate, length: usize, seven: u8) -> usize
     n
 }
 
+// Whether SIGNAL is a rate of this kind.
+fn signal_allowed(k: Kind, code: u64) -> bool
+    ensures answer { λ b. ⌜ b ≡ (isCode code && goesWith k (rateOf code)) ⌝ }
+{
+    if !rates::is_code(code) {
+        return false;
+    }
+    crate::goes_with(k, rates::rate_of(code))
+}
+
 // What the three fields tell: refusals 13, 14 and 15, in this order.
 pub fn fields_of(k: Kind, signal: u8, service: u8, length: usize) -> Front
     requires { ⌜ length < 65536 ⌝ }
     ensures answer { λ f. ⌜ f ≡ fieldsOf k signal service length ⌝ }
 {
     let code = signal as u64;
-    if !rates::is_code(code) {
-        return Front::Refused(Refusal::Signal { length });
-    }
     let r = rates::rate_of(code);
-    if !crate::goes_with(k, r) {
+    let coded = signal_allowed(k, code);
+    let served = service_allowed(r, service);
+    if !coded {
         return Front::Refused(Refusal::Signal { length });
     }
-    if !service_allowed(r, service) {
+    if !served {
         return Front::Refused(Refusal::Service { length });
     }
     let n = octets_told(r, length, service / 128 % 2);
@@ -89,18 +101,37 @@ fn both(low: u8, high: u8) -> usize
     low as usize + 256 * (high as usize)
 }
 
+// Whether the SFD is the kind's.
+fn sfd_right(k: Kind, sfd: [u8; 2]) -> bool
+    ensures answer { λ b. ⌜ b ≡ eqb (numberOf (octetBits sfd)) (sfdOf k) ⌝ }
+{
+    both(sfd[0], sfd[1]) == sfd_of(k)
+}
+
+// Whether the last two octets of a header are the CRC of the four before them.
+fn crc_right(header: [u8; 6]) -> bool
+    ensures answer { λ b. ⌜ b ≡ sameBits (crcBits (take 32 (octetBits header))) (drop 32 (octetBits header)) ⌝ }
+{
+    let crc = bits::crc_octets(header[0], header[1], header[2], header[3]);
+    if crc[0] != header[4] {
+        return false;
+    }
+    if crc[1] != header[5] {
+        return false;
+    }
+    true
+}
+
 // What the SFD and the header tell: refusals 11 to 15, in this order.
 pub fn header_of(k: Kind, sfd: [u8; 2], header: [u8; 6]) -> Front
     ensures answer { λ f. ⌜ f ≡ headerOf k (octetBits sfd) (octetBits header) ⌝ }
 {
-    if both(sfd[0], sfd[1]) != sfd_of(k) {
+    let started = sfd_right(k, sfd);
+    let summed = crc_right(header);
+    if !started {
         return Front::Refused(Refusal::Sfd);
     }
-    let crc = bits::crc_octets(header[0], header[1], header[2], header[3]);
-    if crc[0] != header[4] {
-        return Front::Refused(Refusal::Crc);
-    }
-    if crc[1] != header[5] {
+    if !summed {
         return Front::Refused(Refusal::Crc);
     }
     fields_of(k, header[0], header[1], both(header[2], header[3]))

@@ -5,7 +5,9 @@ use frame::Refusal;
 use frame::Writing;
 use rates::Rate;
 ghost use mathlib.Core.Path.{_≡_};
+ghost use mathlib.Core.Bool.{not, _||_};
 ghost use Prim.Native.Nat.{_≤_};
+ghost use lib.Dec.{eqb, ltb};
 ghost use Rattle.frame.specs.Frame.{frontChips, frameChips, headerRate, goesWith};
 ghost use Rattle.frame.specs.Writing.{isKind, kindOf, writingOf};
 
@@ -79,32 +81,53 @@ pub fn frame_chips(k: Kind, r: Rate, n: usize) -> usize
     front_chips(k) + r.octet_chips() * n
 }
 
+// Whether a payload of n octets can be sent.
+pub fn is_payload(n: usize) -> bool
+    ensures answer { λ b. ⌜ b ≡ not (eqb n 0 || ltb 4095 n) ⌝ }
+{
+    if n == 0 {
+        return false;
+    }
+    if 4095 < n {
+        return false;
+    }
+    true
+}
+
+// Whether the room is short of so many chips.
+fn is_short(room: usize, chips: usize) -> bool
+    ensures answer { λ b. ⌜ b ≡ ltb room chips ⌝ }
+{
+    room < chips
+}
+
 // What a write of n octets into room for so many chips comes to: refusals 1 to 6, in this order.
 pub fn check_write(kind: u64, rate: u64, phase: u64, n: usize, room: usize) -> Writing
     ensures answer { λ r. ⌜ r ≡ writingOf kind rate phase n room ⌝ }
 {
-    if !is_kind(kind) {
-        return Writing::Refused(Refusal::NoKind);
-    }
-    if !rates::is_code(rate) {
-        return Writing::Refused(Refusal::NoRate);
-    }
+    let known = is_kind(kind);
+    let coded = rates::is_code(rate);
     let k = kind_of(kind);
     let r = rates::rate_of(rate);
-    if !goes_with(k, r) {
+    let goes = goes_with(k, r);
+    let sized = is_payload(n);
+    if !known {
+        return Writing::Refused(Refusal::NoKind);
+    }
+    if !coded {
+        return Writing::Refused(Refusal::NoRate);
+    }
+    if !goes {
         return Writing::Refused(Refusal::ShortRate);
     }
-    if n == 0 {
-        return Writing::Refused(Refusal::PayloadSize);
-    }
-    if 4095 < n {
+    if !sized {
         return Writing::Refused(Refusal::PayloadSize);
     }
     if 3 < phase {
         return Writing::Refused(Refusal::NoPhase);
     }
     let chips = frame_chips(k, r, n);
-    if room < chips {
+    if is_short(room, chips) {
         return Writing::Refused(Refusal::ChipRoom);
     }
     Writing::Good {

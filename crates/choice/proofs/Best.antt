@@ -168,26 +168,48 @@ unfolding firstLargest
 first-map f g [] h = absurd (not-suc-le-zero h)
 first-map f g (n ∷ ns) h = going-map f g n ns
 
--- ---- the loop that keeps the best place so far, with what stands there
-pub record Going (f : ℕ → ℤ) (best top k : ℕ) : Type 0 where
+-- ---- the loop that keeps the largest so far
+pub record Topped (f : ℕ → ℤ) (top k : ℕ) : Type 0 where
   pub some : 0 < k
-  pub is : best ≡ firstLargest f (upTo k)
-  pub at : toZ w32 top ≡ f best
+  pub at : toZ w32 top ≡ f (firstLargest f (upTo k))
 
-pub going-one : (f : ℕ → ℤ) (top : ℕ) → toZ w32 top ≡ f 0 → Going f 0 top 1
+pub topped-one : (f : ℕ → ℤ) (top : ℕ) → toZ w32 top ≡ f 0 → Topped f top 1
 unfolding those firstLargest going
-going-one f top e = record { some = lit< tt; is = refl; at = e }
+topped-one f top e = record { some = lit< tt; at = e }
 
-module _ {f : ℕ → ℤ} {best top k : ℕ} (x : ℕ) (g : Going f best top k) (e : toZ w32 x ≡ f k) where
-  next : (t : Bool) → ltZ (toZ w32 top) (toZ w32 x) ≡ t → cond t k best ≡ firstLargest f (upTo (suc k))
+module _ {f : ℕ → ℤ} {top k : ℕ} (x : ℕ) (g : Topped f top k) (e : toZ w32 x ≡ f k) where
+  next : (t : Bool) → ltZ (toZ w32 top) (toZ w32 x) ≡ t → firstLargest f (upTo (suc k)) ≡ cond t k (firstLargest f (upTo k))
   unfolding those
   next t h =
-      let p : toZ w32 top ≡ f (firstLargest f (upTo k)) = g .at ∙ ap f (g .is) in
-      ap (λ (b : Bool). cond b k best) (sym h) ∙ (λ i. cond (ltZ (p i) (e i)) k (g .is i))
-      ∙ sym (first-snoc f (upTo k) k (subst (λ (n : ℕ). 0 < n) (sym (length-up k)) (g .some)))
+      first-snoc f (upTo k) k (subst (λ (n : ℕ). 0 < n) (sym (length-up k)) (g .some))
+      ∙ (λ i. cond (ltZ (sym (g .at) i) (sym e i)) k (firstLargest f (upTo k)))
+      ∙ ap (λ (b : Bool). cond b k (firstLargest f (upTo k))) h
 
-  pub going-up : ltZ (toZ w32 top) (toZ w32 x) ≡ true → Going f k x (k + 1)
-  going-up h = record { some = omega arith; is = rw (add-one k) (next true h); at = e }
+  pub topped-up : ltZ (toZ w32 top) (toZ w32 x) ≡ true → Topped f x (k + 1)
+  topped-up h = record { some = omega arith; at = rw (add-one k) (e ∙ ap f (sym (next true h))) }
 
-  pub going-on : ltZ (toZ w32 top) (toZ w32 x) ≡ false → Going f best top (k + 1)
-  going-on h = record { some = omega arith; is = rw (add-one k) (next false h); at = g .at }
+  pub topped-on : ltZ (toZ w32 top) (toZ w32 x) ≡ false → Topped f top (k + 1)
+  topped-on h = record { some = omega arith; at = rw (add-one k) (g .at ∙ ap f (sym (next false h))) }
+
+-- ---- the loop that looks for it
+module _ (s : List ℤ) (h : 0 < length s) where
+  pub place-best : BestOf (λ j. true) (length s) (λ j. getD s j (pos 0)) (placeOfLargest s)
+  unfolding placeOfLargest
+  place-best = up-best (λ j. getD s j (pos 0)) (length s) h
+
+  -- one that is smaller stands before the place, and one before the place is smaller
+  pub place-after : (k : ℕ) → k ≤ placeOfLargest s → getD s k (pos 0) <ℤ getD s (placeOfLargest s) (pos 0) → k + 1 ≤ placeOfLargest s
+  place-after k le lt = by (decLt k (placeOfLargest s))
+    where
+      by : Dec (k < placeOfLargest s) → k + 1 ≤ placeOfLargest s
+      by (yes p) = omega arith
+      by (no q) =
+          let e : k ≡ placeOfLargest s = omega arith in
+          clashℤ lt (subst (λ (j : ℕ). getD s (placeOfLargest s) (pos 0) ≤ℤ getD s j (pos 0)) (sym e) (≤ℤ-refl _))
+
+  pub place-here : (k : ℕ) → k ≤ placeOfLargest s → getD s (placeOfLargest s) (pos 0) ≤ℤ getD s k (pos 0) → k ≡ placeOfLargest s
+  place-here k le ge = by (decLt k (placeOfLargest s))
+    where
+      by : Dec (k < placeOfLargest s) → k ≡ placeOfLargest s
+      by (yes p) = clashℤ (place-best .first k p tt) ge
+      by (no q) = omega arith

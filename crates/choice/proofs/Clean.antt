@@ -29,7 +29,7 @@ use Rattle.choice.specs.Agreement.{one, agreeing, opposed, clean}
 use Rattle.choice.proofs.Decided.{decided-leads}
 
 -- four phases
-phase : (P : ℕ → Type 0) → P 0 → P 1 → P 2 → P 3 → (p : ℕ) → p < 4 → P p
+pub phase : (P : ℕ → Type 0) → P 0 → P 1 → P 2 → P 3 → (p : ℕ) → p < 4 → P p
 phase P a b c d zero h = a
 phase P a b c d (suc zero) h = b
 phase P a b c d (suc (suc zero)) h = c

@@ -1,9 +1,14 @@
 pub mod Small
 pub mod Sum
+pub mod Adding
+pub mod Blocks
+pub mod Mirror
 pub mod Best
 pub mod Five
 pub mod Decided
 pub mod Clean
 pub mod Near
+pub mod Turned
+pub mod Barker
 pub mod Demand3
 pub mod Facts

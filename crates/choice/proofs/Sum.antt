@@ -32,17 +32,8 @@ module _ (w : List ℕ) (cs : List Counts) (sum k : ℕ) (inv : Summed w cs sum 
   z-small : Within 8192 z
   z-small = subst (Within 8192) (sym is) (term-within (getD w k 0) (s .at k))
 
-  read : toZ w32 (ofZ w32 z) ≡ z
-  read = small 8192 (lit< tt) z z-small
-
   next : Within (8192 * k + 8192) (toZ w32 sum +ℤ z)
   next = within-add (inv .bound) z-small
-
-  pub sum-fits : SFits w32 (toZ w32 sum +ℤ toZ w32 (ofZ w32 z))
-  sum-fits = rw read (within-sfits next (omega arith))
-
-  more : toZ w32 (ofZ w32 (toZ w32 sum +ℤ toZ w32 (ofZ w32 z))) ≡ toZ w32 sum +ℤ z
-  more = toZ-ofZ sum-fits ∙ ap (λ (y : ℤ). toZ w32 sum +ℤ y) read
 
   rest : k < length w → k < length cs → score (drop k w) (drop k cs) ≡ z +ℤ score (drop (suc k) w) (drop (suc k) cs)
   unfolding score
@@ -50,12 +41,28 @@ module _ (w : List ℕ) (cs : List Counts) (sum k : ℕ) (inv : Summed w cs sum 
       (λ i. score (drop-cons w k 0 hw i) (drop-cons cs k nothing hc i))
       ∙ ap (λ (y : ℤ). y +ℤ score (drop (suc k) w) (drop (suc k) cs)) (sym is)
 
+  -- however the next sum v is made
+  module _ (v : ℤ) (made : v ≡ toZ w32 sum +ℤ z) where
+    pub made-fits : SFits w32 v
+    made-fits = rw made (within-sfits next (omega arith))
+
+    pub summed-made : k < length w → k < length cs → Summed w cs (ofZ w32 v) (k + 1)
+    summed-made hw hc =
+        let read : toZ w32 (ofZ w32 v) ≡ toZ w32 sum +ℤ z = toZ-ofZ made-fits ∙ made in
+        record {
+          done = rw (add-one k, read)
+              (+ℤ-assoc (toZ w32 sum) z _ ∙ ap (λ (y : ℤ). toZ w32 sum +ℤ y) (sym (rest hw hc)) ∙ inv .done);
+          bound = rw read (subst (λ (b : ℕ). Within b (toZ w32 sum +ℤ z)) (omega arith) next);
+        }
+
+  added : toZ w32 sum +ℤ toZ w32 (ofZ w32 z) ≡ toZ w32 sum +ℤ z
+  added = ap (λ (y : ℤ). toZ w32 sum +ℤ y) (small 8192 (lit< tt) z z-small)
+
+  pub sum-fits : SFits w32 (toZ w32 sum +ℤ toZ w32 (ofZ w32 z))
+  sum-fits = made-fits _ added
+
   pub summed-more : k < length w → k < length cs → Summed w cs (ofZ w32 (toZ w32 sum +ℤ toZ w32 (ofZ w32 z))) (k + 1)
-  summed-more hw hc = record {
-    done = rw (add-one k, more)
-        (+ℤ-assoc (toZ w32 sum) z _ ∙ ap (λ (y : ℤ). toZ w32 sum +ℤ y) (sym (rest hw hc)) ∙ inv .done);
-    bound = rw more (subst (λ (b : ℕ). Within b (toZ w32 sum +ℤ z)) (omega arith) next);
-  }
+  summed-more = summed-made _ added
 
 pub summed-all : {w : List ℕ} {cs : List Counts} {sum k : ℕ} → Summed w cs sum k → length w ≤ k → toZ w32 sum ≡ score w cs
 unfolding score

@@ -4,7 +4,7 @@ ghost use Prim.Native.Nat.{_+_, _*_, _/_, _%_, _<_};
 ghost use Rattle.symbols.specs.Words.{barkerWord, cckWord};
 
 // The signs + - + + - + + + - - - as turns: none for a plus, a half turn for a minus.
-const BARKER: [u8; 11] = [0, 2, 0, 0, 2, 0, 0, 0, 2, 2, 2];
+pub const BARKER: [u8; 11] = [0, 2, 0, 0, 2, 0, 0, 0, 2, 2, 2];
 
 // The words of 5.5 Mbit/s at p1 = 0, by 2 d2 + d3.
 const FIVE: [[u8; 8]; 4] = [

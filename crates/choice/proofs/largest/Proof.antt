@@ -1,49 +1,74 @@
--- `choice::largest` meets its contract: after k numbers `best` is the place of the first largest of them, and `top` stands there.
+-- `choice::largest` meets its contract: every number passed is smaller than the largest, so the place of the first that is
+-- not is the place of the largest.
 -- Assumes nothing.
+use mathlib.Core.Path.{_≡_, sym, _∙_, subst}
+use mathlib.Core.Bool.{Bool, true, false, not}
 use mir.Syntax.{w32}
 use mir.Val.{toZ, ofZ}
-use mathlib.Core.Path.{_≡_, ap, _∙_}
-use mathlib.Core.Logic.{⊎-elim}
-use Prim.Native.Nat.{ℕ, _-_, _≤_}
-use lib.ListN.{length, getD}
-use lib.IntN.{pos}
+use Prim.Native.Nat.{zero-le, _-_, _≤_, _<_}
 use native.Mathlib.Omega.{arith}
+use lib.Dec.{T}
+use lib.ListN.{length, getD}
+use lib.IntN.{ℤ, pos}
+use lib.Signed.{ltZ, ltZ-yes, ltZ-no}
 use borrow.Author.Needs.{needs}
-use Rattle.symbols.specs.Choice.{firstLargest}
-use Rattle.choice.specs.Scores.{upTo, placeOfLargest}
-use Rattle.choice.proofs.Best.{Going, going-one, going-up, going-on}
+use Rattle.choice.specs.Scores.{placeOfLargest}
+use Rattle.choice.proofs.Best.{place-best, place-after, place-here}
 use Rattle.choice.proofs.largest.Statement.{statement}
 use Rattle.choice.proofs.largest.Tie as tie
 
 abbrev Inv-loop : tie.InvT-loop
-Inv-loop s best₀ top₀ k₀ best top k = (k ≤ length s) × Going (λ j. getD s j (pos 0)) best top k
+Inv-loop s top k₀ k = k ≤ placeOfLargest s
 
 abbrev μ-loop : tie.MeasureT-loop
-μ-loop s best₀ top₀ k₀ best top k = length s - k
+μ-loop s top k₀ k = length s - k
 
 loop-holds : tie.Need-loop-holds Inv-loop μ-loop
-loop-holds c = (search needs, going-one _ _ (search needs))
+loop-holds c = zero-le
+
+mul-if1 : tie.Need-mul-if1 Inv-loop μ-loop
+mul-if1 c =
+    let s = c .before .before in
+    omega (arith, place-best (s .args .s .now) (s .pre) .among)
+
+shared-slice-copy-out-if1 : tie.Need-shared-slice-copy-out-if1 Inv-loop μ-loop
+shared-slice-copy-out-if1 c =
+    let s = c .before .before in
+    omega (arith, place-best (s .args .s .now) (s .pre) .among)
+
+add-k : tie.Need-add-k Inv-loop μ-loop
+add-k c =
+    let s = c .before .before .before .before in
+    omega (arith, place-best (s .args .s .now) (s .pre) .among)
+
+loop-less : tie.Need-loop-less Inv-loop μ-loop
+loop-less c =
+    let s = c .before .before .before .before in
+    omega (arith, place-best (s .args .s .now) (s .pre) .among)
 
 loop-again : tie.Need-loop-again Inv-loop μ-loop
 loop-again c =
-    let inv = c .before .before .before .loop .inv .1 in
-    let x = getD (c .before .before .before .before .before .args .s .now) (c .before .before .before .loop .k) (pos 0) in
-    let e : toZ w32 (ofZ w32 x) ≡ x = search needs in (
-      search needs,
-      ⊎-elim (λ w. rw (w .1, w .2) (going-up (ofZ w32 x) inv e (w .0 .taken)))
-          (λ w. rw (w .1, w .2) (going-on (ofZ w32 x) inv e (w .0 .left)))
-          (c .if1 .came),
-    )
+    let s = c .before .before .before .before in
+    let l = s .args .s .now in
+    let k = c .before .before .loop .k in
+    let r : toZ w32 (ofZ w32 (getD l k (pos 0))) ≡ getD l k (pos 0) = search needs in
+    let t : toZ w32 (ofZ w32 (c .before .before .before .top-of .result)) ≡ getD l (placeOfLargest l) (pos 0) =
+    search needs ∙ c .before .before .before .top-of .ensures in
+    let lt : ltZ (getD l k (pos 0)) (getD l (placeOfLargest l) (pos 0)) ≡ true = (λ i. ltZ (sym r i) (sym t i)) ∙ c .if1 .taken in
+    place-after l (s .pre) k (c .before .before .loop .inv) (ltZ-yes (subst T (sym lt) tt))
 
 returns : tie.Need-returns Inv-loop μ-loop
-unfolding placeOfLargest
 returns c =
-    let s = c .before .before .before .args .s .now in
-    let e : c .before .loop .k ≡ length s = omega arith in
-    c .before .loop .inv .1 .is ∙ ap (λ (n : ℕ). firstLargest (λ j. getD s j (pos 0)) (upTo n)) e
+    let s = c .before .before .before .before in
+    let l = s .args .s .now in
+    let k = c .before .before .loop .k in
+    let r : toZ w32 (ofZ w32 (getD l k (pos 0))) ≡ getD l k (pos 0) = search needs in
+    let t : toZ w32 (ofZ w32 (c .before .before .before .top-of .result)) ≡ getD l (placeOfLargest l) (pos 0) =
+    search needs ∙ c .before .before .before .top-of .ensures in
+    let ge : ltZ (getD l k (pos 0)) (getD l (placeOfLargest l) (pos 0)) ≡ false = (λ i. ltZ (sym r i) (sym t i)) ∙ c .if1 .left in
+    place-here l (s .pre) k (c .before .before .loop .inv) (ltZ-no (subst (λ (b : Bool). T (not b)) (sym ge) tt))
 
 pub largest-spec : {M : Type 1} → statement M
 largest-spec =
     tie.close
-    (tie.spec Inv-loop μ-loop (λ c. search needs) loop-holds (λ c. search needs) (λ c. search needs) (λ c. search needs) (λ c. search needs)
-    loop-again returns)
+    (tie.spec Inv-loop μ-loop (λ c κs. search needs) loop-holds mul-if1 shared-slice-copy-out-if1 add-k loop-less loop-again returns)

@@ -48,9 +48,9 @@ pub fn odd_growths(out: &mut Out) {
                 turn(&mut onward[at..], by);
                 out.call(Call::hard(kind.number(), onward, 2));
                 // An unusable chip later in the same part comes first, one in the other part doesn't.
-                if out.random.once_in(6) {
-                    let place = out.random.below(chips.len());
-                    alone[place] = 77;
+                if out.random.once_in(2) {
+                    let first = out.random.pick(&[0, at]);
+                    alone[out.random.within(first, chips.len() - 1)] = 77;
                     out.call(Call::hard(kind.number(), alone, 2));
                 }
             }

@@ -62,7 +62,7 @@ pub fn write_every_n(out: &mut Out) {
 }
 
 /// Numbers that are a good one in their lowest octet, 16 or 32 bits, and the largest.
-pub fn beside(good: u64) -> [u64; 8] {
+fn beside(good: u64) -> [u64; 8] {
     [good, good + 1, good + (1 << 8), good + (1 << 16), good + (1 << 32), good + (1 << 63), (1 << 32) - 1, u64::MAX]
 }
 

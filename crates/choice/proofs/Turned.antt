@@ -1,0 +1,253 @@
+-- What the row of turns holds, and what half a turn does: a score is the sum of what stands in the row at the word's
+-- chips, in any order, and a word turned by a half scores the negative.
+-- Assumes nothing.
+use mathlib.Core.Path.{_≡_, refl, sym, ap, _∙_, subst}
+use mathlib.Core.List.{List, [], _∷_, map}
+use Prim.Native.Nat.{ℕ, zero, suc, _+_, _*_, _/_, _%_, _≤_, _<_}
+use native.Mathlib.Omega.{arith}
+use lib.Dec.{lit<}
+use lib.ListN.{length, getD, drop}
+use lib.Seq.{drop-cons}
+use lib.IntN.{ℤ, pos, negℤ, _+ℤ_, negℤ-+ℤ, negℤ-negℤ}
+use mir.Syntax.{w32}
+use mir.Val.{toZ, ofZ}
+use Rattle.base.specs.Tables.{tabulate}
+use Rattle.base.specs.Whole.{up, dn, Within}
+use Rattle.base.proofs.Tables.{getD-tabulate, as-table, tabulate-all}
+use Rattle.base.proofs.Whole.{add, same, up-pos, dn-pos, small, within-zero, within-add, within-more}
+use Rattle.chips.specs.declared.Counts.{Counts}
+use Rattle.chips.specs.Chips.{nothing, turned}
+use Rattle.symbols.specs.Words.{barkerWord, cckWord, cckOf, p1Of, p2Of, p3Of, p4Of}
+use Rattle.symbols.specs.Choice.{term, score}
+use Rattle.symbols.proofs.Words.{Phases, phases-tail, cck-phases, cck-length, barker-phases}
+use Rattle.choice.specs.Scores.{Smalls, number5}
+use Rattle.choice.specs.Turns.{RowWithin, turnAt, addFour, slid, placed}
+use Rattle.choice.proofs.Small.{term-within, score-within}
+use Rattle.choice.proofs.Clean.{phase}
+use Rattle.choice.proofs.Five.{five-lower, five-upper}
+
+abbrev row : List Counts → List ℤ
+row cs = tabulate (turnAt cs) 64
+
+-- ---- what stands at 8 k + x
+pub turn-is : (cs : List Counts) (j k x : ℕ) → j ≡ 8 * k + x → x < 8 → turnAt cs j ≡ term (x % 4) (getD cs k nothing)
+turn-is cs j k x e h =
+    let a : j % 4 ≡ x % 4 = omega arith in
+    let b : j / 8 ≡ k = omega arith in
+    λ i. term (a i) (getD cs (b i) nothing)
+
+pub row-is : (cs : List Counts) (j k x p : ℕ) → j ≡ 8 * k + x → x < 8 → k < 8 → x % 4 ≡ p
+    → getD (row cs) j (pos 0) ≡ term p (getD cs k nothing)
+row-is cs j k x p e h few y =
+    getD-tabulate (turnAt cs) 64 j (pos 0) (omega arith) ∙ turn-is cs j k x e h ∙ ap (λ (q : ℕ). term q (getD cs k nothing)) y
+
+pub row-within : {cs : List Counts} → Smalls cs → RowWithin 8192 (row cs)
+row-within {cs} s = record {
+  at = tabulate-all (Within 8192) (turnAt cs) 64 (pos 0) (within-zero 8192) (λ j. term-within (j % 4) (s .at (j / 8)));
+}
+
+-- ---- a score is the sum of what stands at the word's chips
+pub placed-score : (cs : List Counts) (k : ℕ) (w : List ℕ) → Phases w → length cs ≡ 8 → k + length w ≤ 8
+    → placed k w (row cs) ≡ score w (drop k cs)
+unfolding placed score
+placed-score cs k [] h l few = refl
+placed-score cs k (p ∷ w) h l few =
+    let at = row-is cs (8 * k + p) k p p refl (omega (arith, h .at 0)) (omega arith) (same-phase p (h .at 0)) in
+    let rest = placed-score cs (suc k) w (phases-tail h) l (omega arith) in
+    (λ i. at i +ℤ rest i)
+    ∙ ap (score (p ∷ w)) (sym (drop-cons cs k nothing (omega arith)))
+  where
+    same-phase : (p : ℕ) → p < 4 → p % 4 ≡ p
+    same-phase p h = omega arith
+
+-- ---- half a turn
+term-half : (p : ℕ) (c : Counts) → p < 4 → term (turned p 2) c ≡ negℤ (term p c)
+term-half p c h =
+    phase (λ p. term (turned p 2) c ≡ negℤ (term p c)) refl refl (sym (negℤ-negℤ (c .i))) (sym (negℤ-negℤ (c .q))) p h
+
+pub score-half : (w : List ℕ) (cs : List Counts) → Phases w → score (map (λ p. turned p 2) w) cs ≡ negℤ (score w cs)
+unfolding score
+score-half [] cs h = refl
+score-half (p ∷ w) [] h = refl
+score-half (p ∷ w) (c ∷ cs) h =
+    (λ i. term-half p c (h .at 0) i +ℤ score-half w cs (phases-tail h) i) ∙ sym (negℤ-+ℤ (term p c) (score w cs))
+
+-- the words of the upper numbers are those of the lower ones, turned by a half
+abbrev halfTurned : List ℕ → List ℕ
+halfTurned w = map (λ p. turned p 2) w
+
+cck-halves : tabulate (λ n. cckOf (128 + n)) 128 ≡ tabulate (λ n. halfTurned (cckOf n)) 128
+unfolding tabulate cckWord
+cck-halves = refl
+
+pub cck-half : (cs : List Counts) (n : ℕ) → n < 128 → negℤ (score (cckOf n) cs) ≡ score (cckOf (128 + n)) cs
+cck-half cs n h =
+    sym (score-half (cckOf n) cs (cck-phases _ _ _ _))
+    ∙ ap (λ (w : List ℕ). score w cs)
+    (sym (getD-tabulate (λ j. halfTurned (cckOf j)) 128 n [] h)
+    ∙ ap (λ (t : List (List ℕ)). getD t n []) (sym cck-halves)
+    ∙ getD-tabulate (λ j. cckOf (128 + j)) 128 n [] h)
+
+-- the same of the sixteen words of 5.5 Mbit/s
+abbrev pub five-score : List Counts → ℕ → ℤ
+five-score cs k = score (cckOf (number5 k)) cs
+
+pub five-half : (cs : List Counts) (k : ℕ) → k < 8 → negℤ (five-score cs k) ≡ five-score cs (8 + k)
+five-half cs k h = cck-half cs (number5 k) (five-lower k h) ∙ ap (λ (n : ℕ). score (cckOf n) cs) (five-upper k h)
+
+pub barker-half : (cs : List Counts) (p : ℕ) → p < 2 → negℤ (score (barkerWord p) cs) ≡ score (barkerWord (2 + p)) cs
+unfolding barkerWord
+barker-half cs p h = sym (score-half (barkerWord p) cs (barker-phases p)) ∙ ap (λ (w : List ℕ). score w cs) (words p h)
+  where
+    words : (p : ℕ) → p < 2 → halfTurned (barkerWord p) ≡ barkerWord (2 + p)
+    words zero h = refl
+    words (suc zero) h = refl
+    words (suc (suc p)) h = absurd (omega arith)
+
+-- ---- two sums of four are the sum of eight
+pub eight : (a b c d e f g h : ℤ) → (pos 0 +ℤ e +ℤ f +ℤ g +ℤ h) +ℤ a +ℤ b +ℤ c +ℤ d
+    ≡ a +ℤ (b +ℤ (c +ℤ (d +ℤ (e +ℤ (f +ℤ (g +ℤ (h +ℤ pos 0)))))))
+eight a b c d e f g h = same _ _
+    (omega (
+      arith,
+      up-pos 0,
+      dn-pos 0,
+      add (pos 0) e,
+      add (pos 0 +ℤ e) f,
+      add (pos 0 +ℤ e +ℤ f) g,
+      add (pos 0 +ℤ e +ℤ f +ℤ g) h,
+      add (pos 0 +ℤ e +ℤ f +ℤ g +ℤ h) a,
+      add (pos 0 +ℤ e +ℤ f +ℤ g +ℤ h +ℤ a) b,
+      add (pos 0 +ℤ e +ℤ f +ℤ g +ℤ h +ℤ a +ℤ b) c,
+      add (pos 0 +ℤ e +ℤ f +ℤ g +ℤ h +ℤ a +ℤ b +ℤ c) d,
+      add h (pos 0),
+      add g (h +ℤ pos 0),
+      add f (g +ℤ (h +ℤ pos 0)),
+      add e (f +ℤ (g +ℤ (h +ℤ pos 0))),
+      add d (e +ℤ (f +ℤ (g +ℤ (h +ℤ pos 0)))),
+      add c (d +ℤ (e +ℤ (f +ℤ (g +ℤ (h +ℤ pos 0))))),
+      add b (c +ℤ (d +ℤ (e +ℤ (f +ℤ (g +ℤ (h +ℤ pos 0)))))),
+      add a (b +ℤ (c +ℤ (d +ℤ (e +ℤ (f +ℤ (g +ℤ (h +ℤ pos 0))))))),
+    ))
+
+-- ---- the words that differ in p4 alone
+around : (s p : ℕ) → (s % 4 + p) % 4 ≡ (s + p) % 4
+around s p = omega arith
+
+twice : (s : ℕ) → s % 4 % 4 ≡ s % 4
+twice s = omega arith
+
+-- what stands a whole turn on is the same: at chip k, on from the phase of s by p, or at that phase itself
+module _ (cs : List Counts) (j k s : ℕ) (few : k < 8) where
+  along : (p x : ℕ) → j ≡ 8 * k + (s % 4 + p) → p < 4 → (s + p) % 4 ≡ x → getD (row cs) j (pos 0) ≡ getD (row cs) (8 * k + x) (pos 0)
+  along p x e h y =
+      let z : x < 4 = omega arith in
+      row-is cs j k (s % 4 + p) x e (omega arith) few (around s p ∙ y)
+      ∙ sym (row-is cs (8 * k + x) k x x refl (omega arith) few (omega arith))
+
+module _ (cs : List Counts) (p1 p2 p3 p4 : ℕ) (h1 : p1 < 4) (h4 : p4 < 4) where
+  abbrev there : ℕ → ℤ
+  there j = getD (row cs) j (pos 0)
+
+  turned-on : (s : ℕ) → s % 4 + p4 ≡ 8 * 0 + (s % 4 + p4)
+  turned-on s = omega arith
+
+  after : (b s : ℕ) → b + s % 4 + p4 ≡ b + (s % 4 + p4)
+  after b s = omega arith
+
+  still : (b s : ℕ) → b + s % 4 ≡ b + (s % 4 + 0)
+  still b s = omega arith
+
+  further : (s : ℕ) → 32 + (8 + s % 4) ≡ 40 + (s % 4 + 0)
+  further s = omega arith
+
+  no-turn : (s : ℕ) → (s + 0) % 4 ≡ s % 4
+  no-turn s = omega arith
+
+  last : 56 + p1 ≡ 56 + (p1 % 4 + 0)
+  last = omega arith
+
+  pub slid-word : slid (row cs) p1 p2 p3 p4 ≡ placed 0 (cckWord p1 p2 p3 p4) (row cs)
+  unfolding placed cckWord
+  slid-word =
+      let c0 = along cs _ 0 (p1 + p2 + p3) (lit< tt) p4 _ (turned-on (p1 + p2 + p3)) h4 refl in
+      let c1 = along cs _ 1 (p1 + p3) (lit< tt) p4 _ (after 8 (p1 + p3)) h4 refl in
+      let c2 = along cs _ 2 (p1 + p2) (lit< tt) p4 _ (after 16 (p1 + p2)) h4 refl in
+      let c3 = along cs _ 3 (p1 + 2) (lit< tt) p4 ((p1 + p4 + 2) % 4) (after 24 (p1 + 2)) h4 (ap (λ (n : ℕ). n % 4) (omega arith)) in
+      let c4 = along cs _ 4 (p1 + p2 + p3) (lit< tt) 0 _ (still 32 (p1 + p2 + p3)) (lit< tt) (no-turn (p1 + p2 + p3)) in
+      let c5 = along cs _ 5 (p1 + p3) (lit< tt) 0 _ (further (p1 + p3)) (lit< tt) (no-turn (p1 + p3)) in
+      let c6 = along cs _ 6 (p1 + p2 + 2) (lit< tt) 0 _ (still 48 (p1 + p2 + 2)) (lit< tt) (no-turn (p1 + p2 + 2)) in
+      let c7 = along cs _ 7 p1 (lit< tt) 0 _ last (lit< tt) (no-turn p1) in
+      eight (there ((p1 + p2 + p3) % 4 + p4)) (there (8 + (p1 + p3) % 4 + p4)) (there (16 + (p1 + p2) % 4 + p4))
+      (there (24 + (p1 + 2) % 4 + p4)) (there (32 + (p1 + p2 + p3) % 4)) (there (32 + (8 + (p1 + p3) % 4)))
+      (there (48 + (p1 + p2 + 2) % 4)) (there (56 + p1))
+      ∙ (λ i. c0 i +ℤ (c1 i +ℤ (c2 i +ℤ (c3 i +ℤ (c4 i +ℤ (c5 i +ℤ (c6 i +ℤ (c7 i +ℤ pos 0))))))))
+
+-- the phases of number 4 g + p, where g is 16 p1 + 4 p2 + p3
+pub slid-number : (cs : List Counts) (g p : ℕ) → g < 32 → p < 4
+    → slid (row cs) (g / 16) (g / 4 % 4) (g % 4) p ≡ placed 0 (cckOf (4 * g + p)) (row cs)
+slid-number cs g p h k =
+    slid-word cs (g / 16) (g / 4 % 4) (g % 4) p (omega arith) k
+    ∙ (λ i. placed 0 (cckWord (e1 g p h k i) (e2 g p k i) (e3 g p k i) (e4 g p k i)) (row cs))
+  where
+    e1 : (g p : ℕ) → g < 32 → p < 4 → g / 16 ≡ p1Of (4 * g + p)
+    e1 g p h k = omega arith
+
+    e2 : (g p : ℕ) → p < 4 → g / 4 % 4 ≡ p2Of (4 * g + p)
+    e2 g p k = let e : (4 * g + p) / 16 ≡ g / 4 = omega arith in rw e refl
+
+    e3 : (g p : ℕ) → p < 4 → g % 4 ≡ p3Of (4 * g + p)
+    e3 g p k = let e : (4 * g + p) / 4 ≡ g = omega arith in rw e refl
+
+    e4 : (g p : ℕ) → p < 4 → p ≡ p4Of (4 * g + p)
+    e4 g p k = omega arith
+
+-- ---- two sums of four, of numbers from -8192 to 8192
+pub four-within : {b : ℕ} {more : ℤ} {t : List ℤ} (i j k l : ℕ) → Within b more → RowWithin 8192 t
+    → Within (b + 8192 + 8192 + 8192 + 8192) (addFour more t i j k l)
+four-within i j k l h r = within-add (within-add (within-add (within-add h (r .at i)) (r .at j)) (r .at k)) (r .at l)
+
+pub placed-cck : (t : List ℤ) (p1 p2 p3 p4 : ℕ) → let w = cckWord p1 p2 p3 p4 in
+    addFour
+    (addFour (pos 0) t (32 + getD w 4 0) (40 + getD w 5 0) (48 + getD w 6 0) (56 + getD w 7 0))
+    t (getD w 0 0) (8 + getD w 1 0) (16 + getD w 2 0) (24 + getD w 3 0)
+    ≡ placed 0 w t
+unfolding placed cckWord
+placed-cck t p1 p2 p3 p4 =
+    let w = cckWord p1 p2 p3 p4 in
+    let z : getD w 0 0 ≡ 0 + getD w 0 0 = omega arith in
+    eight (getD t (getD w 0 0) (pos 0)) (getD t (8 + getD w 1 0) (pos 0)) (getD t (16 + getD w 2 0) (pos 0))
+    (getD t (24 + getD w 3 0) (pos 0)) (getD t (32 + getD w 4 0) (pos 0)) (getD t (40 + getD w 5 0) (pos 0))
+    (getD t (48 + getD w 6 0) (pos 0)) (getD t (56 + getD w 7 0) (pos 0))
+    ∙ ap (λ (j : ℕ). getD t j (pos 0) +ℤ placed 1 (drop 1 w) t) z
+
+-- what a CCK word's places in the row add up to is its score
+pub placed-is : (cs : List Counts) (n : ℕ) → length cs ≡ 8 → placed 0 (cckOf n) (row cs) ≡ score (cckOf n) cs
+placed-is cs n e =
+    let l = cck-length (p1Of n) (p2Of n) (p3Of n) (p4Of n) in
+    placed-score cs 0 (cckOf n) (cck-phases (p1Of n) (p2Of n) (p3Of n) (p4Of n)) e (omega arith)
+
+-- how large a CCK word's score is
+pub cck-within : (n : ℕ) {cs : List Counts} → Smalls cs → Within 65536 (score (cckOf n) cs)
+cck-within n {cs} s =
+    let w = cck-length (p1Of n) (p2Of n) (p3Of n) (p4Of n) in
+    within-more (score-within (cckOf n) cs s) (omega arith)
+
+-- the same of a row that is known to be these turns
+module _ (cs : List Counts) (t : List ℤ) (e : t ≡ row cs) where
+  pub slid-at : (g p n : ℕ) → g < 32 → p < 4 → 4 * g + p ≡ n → slid t (g / 16) (g / 4 % 4) (g % 4) p ≡ placed 0 (cckOf n) t
+  slid-at g p n h k y = rw (e, sym y) (slid-number cs g p h k)
+
+  pub at-within : Smalls cs → RowWithin 8192 t
+  at-within s = rw e (row-within s)
+
+  pub placed-at : (n : ℕ) → length cs ≡ 8 → placed 0 (cckOf n) t ≡ score (cckOf n) cs
+  placed-at n l = rw e (placed-is cs n l)
+
+  pub placed-within : (n : ℕ) → length cs ≡ 8 → Smalls cs → Within 65536 (placed 0 (cckOf n) t)
+  placed-within n l s = rw (placed-at n l) (cck-within n s)
+
+  -- a score as it comes back from a call
+  pub placed-read : (n : ℕ) → length cs ≡ 8 → Smalls cs → (z : ℤ) → z ≡ placed 0 (cckOf n) t → toZ w32 (ofZ w32 z) ≡ score (cckOf n) cs
+  placed-read n l s z x =
+      small 65536 (lit< tt) z (subst (Within 65536) (sym x) (placed-within n l s)) ∙ x ∙ placed-at n l

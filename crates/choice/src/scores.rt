@@ -1,0 +1,216 @@
+// Scores: what a chip adds to a word's, the sum over a word's chips, and the tables of all words' scores that the choice
+// goes by.
+use chips::Counts;
+use rates::Rate;
+ghost use mathlib.Core.Path.{_≡_};
+ghost use Prim.Native.Nat.{_+_, _*_, _/_, _%_, _<_};
+ghost use Rattle.base.specs.Tables.{tabulate};
+ghost use Rattle.base.specs.Whole.{Within};
+ghost use Rattle.chips.specs.Bounds.{Bounded};
+ghost use Rattle.symbols.specs.Words.{cckWord};
+ghost use Rattle.symbols.specs.Choice.{term, score};
+ghost use Rattle.choice.specs.Scores.{Smalls, scoreAt, number5};
+ghost use Rattle.choice.specs.Turns.{RowWithin, turnAt, addFour, slid, placed};
+
+// What a chip adds to the score of a word whose chip there is p: I, Q, -I or -Q.
+pub fn part(p: u8, c: Counts) -> i32
+    requires { ⌜ Bounded 131072 c ⌝ }
+    ensures answer { λ r. ⌜ r ≡ term p c ⌝ }
+{
+    let i = c.i;
+    let q = c.q;
+    match p {
+        0 => i,
+        1 => q,
+        2 => -i,
+        3 => -q,
+        _ => 0,
+    }
+}
+
+// The score of a word of eight chips.
+pub fn score8(w: [u8; 8], cs: [Counts; 8]) -> i32
+    requires { ⌜ Smalls cs ⌝ }
+    ensures answer { λ r. ⌜ r ≡ score w cs ⌝ }
+{
+    let mut sum: i32 = 0;
+    for k in 0..8 {
+        let p = w[k];
+        let c = cs[k];
+        sum = sum + part(p, c);
+    }
+    sum
+}
+
+// The score of a word of eleven chips.
+pub fn score11(w: [u8; 11], cs: [Counts; 11]) -> i32
+    requires { ⌜ Smalls cs ⌝ }
+    ensures answer { λ r. ⌜ r ≡ score w cs ⌝ }
+{
+    let mut sum: i32 = 0;
+    for k in 0..11 {
+        let p = w[k];
+        let c = cs[k];
+        sum = sum + part(p, c);
+    }
+    sum
+}
+
+// What each of eight chips adds by the word's chip there, twice over: chip k turned by p stands at 8 k + p, up to p = 7.
+pub fn turns(cs: [Counts; 8]) -> [i32; 64]
+    requires { ⌜ Smalls cs ⌝ }
+    ensures answer { λ r. ⌜ r ≡ tabulate (turnAt cs) 64 ⌝ }
+{
+    let mut t = [0i32; 64];
+    for k in 0..8 {
+        let c = cs[k];
+        let i = c.i;
+        let q = c.q;
+        t[8 * k] = i;
+        t[8 * k + 1] = q;
+        t[8 * k + 2] = -i;
+        t[8 * k + 3] = -q;
+        t[8 * k + 4] = i;
+        t[8 * k + 5] = q;
+        t[8 * k + 6] = -i;
+        t[8 * k + 7] = -q;
+    }
+    t
+}
+
+// Four numbers of a row, added to one.
+pub fn add_four(more: i32, t: &[i32; 64], a: usize, b: usize, c: usize, d: usize) -> i32
+    requires { ⌜ Within 32768 more × RowWithin 8192 (now t) × (a < 64) × (b < 64) × (c < 64) × (d < 64) ⌝ }
+    ensures answer { λ r. ⌜ r ≡ addFour more (now (t .entry)) a b c d ⌝ }
+{
+    more + t[a] + t[b] + t[c] + t[d]
+}
+
+// The scores of the four words that differ in p4 alone: their chips 4 to 7 are the same, and their chips 0 to 3 turn
+// with p4.
+pub fn four_words(t: &[i32; 64], p1: usize, p2: usize, p3: usize) -> [i32; 4]
+    requires { ⌜ RowWithin 8192 (now t) × (p1 < 4) × (p2 < 4) × (p3 < 4) ⌝ }
+    ensures answer { λ r. ⌜ r ≡ tabulate (slid (now (t .entry)) p1 p2 p3) 4 ⌝ }
+{
+    let a = (p1 + p2 + p3) % 4;
+    let b = 8 + (p1 + p3) % 4;
+    let c = 16 + (p1 + p2) % 4;
+    let d = 24 + (p1 + 2) % 4;
+    let rest = add_four(0, t, 32 + a, 32 + b, 48 + (p1 + p2 + 2) % 4, 56 + p1);
+    let mut four = [0i32; 4];
+    for p in 0..4 {
+        four[p] = add_four(rest, t, a + p, b + p, c + p, d + p);
+    }
+    four
+}
+
+// The scores of the words with p1 = 0 and p1 = 1, by their numbers.
+pub fn half_eleven(cs: [Counts; 8]) -> [i32; 128]
+    requires { ⌜ Smalls cs ⌝ }
+    ensures answer { λ r. ⌜ r ≡ tabulate (scoreAt Rate.Eleven cs) 128 ⌝ }
+{
+    let t = turns(cs);
+    let mut scores = [0i32; 128];
+    for g in 0..32 {
+        let four = four_words(&t, g / 16, g / 4 % 4, g % 4);
+        scores[4 * g] = four[0];
+        scores[4 * g + 1] = four[1];
+        scores[4 * g + 2] = four[2];
+        scores[4 * g + 3] = four[3];
+    }
+    scores
+}
+
+// The scores of all 256 words, by their numbers: a half turn of p1 negates a score.
+pub fn scores_eleven(cs: [Counts; 8]) -> [i32; 256]
+    requires { ⌜ Smalls cs ⌝ }
+    ensures answer { λ r. ⌜ r ≡ tabulate (scoreAt Rate.Eleven cs) 256 ⌝ }
+{
+    let half = half_eleven(cs);
+    let mut scores = [0i32; 256];
+    for n in 0..128 {
+        let x = half[n];
+        scores[n] = x;
+        scores[128 + n] = -x;
+    }
+    scores
+}
+
+// The score of a word of 5.5 Mbit/s, by what each chip adds.
+pub fn score_five(t: &[i32; 64], p1: u8, d: usize) -> i32
+    requires { ⌜ RowWithin 8192 (now t) × (p1 < 4) × (d < 4) ⌝ }
+    ensures answer { λ r. ⌜ r ≡ placed 0 (cckWord p1 (2 * (d / 2) + 1) 0 (2 * (d % 2))) (now (t .entry)) ⌝ }
+{
+    let w = symbols::five_word(p1, d);
+    let rest = add_four(
+        0,
+        t,
+        32 + w[4] as usize,
+        40 + w[5] as usize,
+        48 + w[6] as usize,
+        56 + w[7] as usize,
+    );
+    add_four(
+        rest,
+        t,
+        w[0] as usize,
+        8 + w[1] as usize,
+        16 + w[2] as usize,
+        24 + w[3] as usize,
+    )
+}
+
+// The scores of the words of 5.5 Mbit/s with p1 = 0 and p1 = 1, in the order of their numbers.
+pub fn half_five(cs: [Counts; 8]) -> [i32; 8]
+    requires { ⌜ Smalls cs ⌝ }
+    ensures answer { λ r. ⌜ r ≡ tabulate (λ k. scoreAt Rate.Five cs (number5 k)) 8 ⌝ }
+{
+    let t = turns(cs);
+    [
+        score_five(&t, 0, 0),
+        score_five(&t, 0, 1),
+        score_five(&t, 0, 2),
+        score_five(&t, 0, 3),
+        score_five(&t, 1, 0),
+        score_five(&t, 1, 1),
+        score_five(&t, 1, 2),
+        score_five(&t, 1, 3),
+    ]
+}
+
+// The scores of the sixteen words allowed at 5.5 Mbit/s, in the order of their numbers: a half turn of p1 negates a score.
+pub fn scores_five(cs: [Counts; 8]) -> [i32; 16]
+    requires { ⌜ Smalls cs ⌝ }
+    ensures answer { λ r. ⌜ r ≡ tabulate (λ k. scoreAt Rate.Five cs (number5 k)) 16 ⌝ }
+{
+    let half = half_five(cs);
+    let mut scores = [0i32; 16];
+    for k in 0..8 {
+        let x = half[k];
+        scores[k] = x;
+        scores[8 + k] = -x;
+    }
+    scores
+}
+
+// The scores of the four phases of a Barker symbol: one sum of I and one of Q by its signs, and a half turn negates a score.
+pub fn scores_barker(cs: [Counts; 11]) -> [i32; 4]
+    requires { ⌜ Smalls cs ⌝ }
+    ensures answer { λ r. ⌜ r ≡ tabulate (scoreAt Rate.One cs) 4 ⌝ }
+{
+    let mut x: i32 = 0;
+    let mut y: i32 = 0;
+    for k in 0..11 {
+        let c = cs[k];
+        let i = c.i;
+        let q = c.q;
+        if symbols::BARKER[k] == 0 {
+            x = x + i;
+            y = y + q;
+        } else {
+            x = x - i;
+            y = y - q;
+        }
+    }
+    [x, y, -x, -y]
+}

@@ -1,0 +1,3 @@
+pub mod Passes
+pub mod More
+pub mod Turns

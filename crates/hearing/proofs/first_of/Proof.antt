@@ -1,0 +1,15 @@
+-- `hearing::first_of` meets its contract, by cases. Assumes nothing.
+use mathlib.Core.Path.{_≡_, refl, sym, ap, _∙_}
+use borrow.Author.Needs.{needs}
+use Rattle.recorders.specs.declared.Found.{Found}
+use Rattle.recorders.specs.Rows.{whereFound}
+use Rattle.hearing.proofs.first_of.Statement.{statement}
+use Rattle.hearing.proofs.first_of.Tie as tie
+use Rattle.hearing.proofs.first_of.Reads as reads
+use Rattle.hearing.proofs.first_of.Lts as lts
+
+returns : tie.Need-returns
+returns c = rw (c .before .a .given .1)
+
+pub first-of-spec : {M : Type 1} → statement M
+first-of-spec = tie.close (tie.spec (λ c. search needs) (λ c. search needs) returns (λ c. search needs))

@@ -1,0 +1,4 @@
+pub mod Fronts
+pub mod Payloads
+pub mod Order
+pub mod Sizes

@@ -1,0 +1,26 @@
+-- `recorders::chip_count` meets its contract: a soft recording goes as far as the shorter row. Assumes nothing.
+use mathlib.Core.Path.{_≡_, refl, sym, ap, _∙_}
+use mathlib.Core.List.{List}
+use Prim.Native.Nat.{ℕ, _≤_, _<_}
+use native.Mathlib.Omega.{arith}
+use lib.ListN.{length}
+use lib.Ieee.{Float}
+use borrow.Author.Needs.{needs}
+use Rattle.recorders.specs.declared.Recorder.{Recorder}
+use Rattle.recorders.specs.declared.Recorder.the-variants.{Hard, Soft}
+use Rattle.recorders.specs.Rows.{recordingOf}
+use Rattle.recorders.proofs.Rows.{length-hard, length-soft}
+use Rattle.recorders.proofs.chip_count.Statement.{statement}
+use Rattle.recorders.proofs.chip_count.Tie as tie
+
+returns : tie.Need-returns
+returns c = rw (c .enum-told .given .1) (sym (length-hard _))
+
+returns-2 : tie.Need-returns-2
+returns-2 c = rw (c .before .enum-told2 .given .1) (omega (arith, length-soft (c .before .before .before .args .i .now) (c .before .before .before .args .q .now)))
+
+returns-3 : tie.Need-returns-3
+returns-3 c = rw (c .before .enum-told2 .given .1) (omega (arith, length-soft (c .before .before .before .args .i .now) (c .before .before .before .args .q .now)))
+
+pub chip-count-spec : {M : Type 1} → statement M
+chip-count-spec = tie.close (tie.spec (λ c. search needs) (λ c. search needs) returns returns-2 returns-3)

@@ -1,0 +1,23 @@
+-- `recorders::eight` meets its contract: each recorder's own function does. Assumes nothing.
+use mathlib.Core.Path.{_≡_}
+use Prim.Native.Nat.{_+_, _≤_}
+use borrow.Author.Needs.{needs}
+use Rattle.recorders.proofs.Rows.{room-hard, room-soft}
+use Rattle.recorders.proofs.eight.Statement.{statement}
+use Rattle.recorders.proofs.eight.Tie as tie
+
+eight-requires : tie.Need-eight-requires
+eight-requires c κs = let start = c .before .before .before .before .before in room-hard _ _ _ (start .args .at + 8) (c .enum-told .given .1) (start .pre)
+
+eight-requires-2 : tie.Need-eight-requires-2
+eight-requires-2 c κs = let start = c .before .before .before .before .before in room-soft _ _ _ (start .args .at + 8) (c .enum-told2 .given .1) (start .pre)
+
+returns : tie.Need-returns
+returns c = rw (c .before .enum-told .given .1) (c .eight .ensures)
+
+returns-2 : tie.Need-returns-2
+returns-2 c = rw (c .before .enum-told2 .given .1) (c .eight2 .ensures)
+
+pub eight-spec : {M : Type 1} → statement M
+eight-spec =
+    tie.close (tie.spec (λ c. search needs) eight-requires (λ c. search needs) eight-requires-2 returns returns-2)

@@ -1,0 +1,5 @@
+pub mod Run
+pub mod Sent
+pub mod Xor
+pub mod Sums
+pub mod Barkers

@@ -1,0 +1,149 @@
+// The writer: payload, rate, kind and starting phase to the chips of a frame. Every argument is checked
+// first; whatever comes of it, the whole chip buffer is written.
+use frame::Kind;
+use frame::Writing;
+use frame::Written;
+use rates::Rate;
+use sender::Line;
+ghost use mathlib.Core.Path.{_≡_};
+ghost use mathlib.Core.List.{_++_};
+ghost use Prim.Native.Nat.{_-_, _≤_, _<_};
+ghost use lib.ListN.{length, replicate};
+ghost use Rattle.base.specs.Over.{over};
+ghost use Rattle.frame.specs.Frame.{frontChips, frameChips, frame};
+ghost use Rattle.frame.specs.Writing.{writingOf, chipsWritten};
+ghost use Rattle.frame.specs.Answers.{writtenOf};
+ghost use Rattle.sender.specs.Sending.{fresh, run, ran};
+ghost use Rattle.sender.specs.Line.{state};
+ghost use Rattle.writer.specs.Parts.{preambleOctets, preambleChips, firstState, frontSent, afterFront};
+
+// The preambles' octets: SYNC, then SFD.
+const LONG: [u8; 18] = [
+    255,
+    255,
+    255,
+    255,
+    255,
+    255,
+    255,
+    255,
+    255,
+    255,
+    255,
+    255,
+    255,
+    255,
+    255,
+    255,
+    0xA0,
+    0xF3,
+];
+
+const SHORT: [u8; 9] = [0, 0, 0, 0, 0, 0, 0, 0xCF, 0x05];
+
+// Before the first bit: the scrambler's start as the octet sent last, and the starting phase.
+fn first_line(k: Kind, p: u8) -> Line
+    ensures answer { λ l. ⌜ state l ≡ firstState k p ⌝ }
+{
+    match k {
+        Kind::Long => Line {
+            past: 0b11011000,
+            phase: p,
+            odd: 0,
+        },
+        Kind::Short => Line {
+            past: 0b00110110,
+            phase: p,
+            odd: 0,
+        },
+    }
+}
+
+// At a part's start the symbols are numbered from 0.
+fn again(l: Line) -> Line
+    ensures answer { λ q. ⌜ (state q ≡ fresh (state l)) × (q .odd < 2) ⌝ }
+{
+    Line {
+        past: l.past,
+        phase: l.phase,
+        odd: 0,
+    }
+}
+
+fn preamble_chips(k: Kind) -> usize
+    ensures answer { λ n. ⌜ n ≡ preambleChips k ⌝ }
+{
+    match k {
+        Kind::Long => 1584,
+        Kind::Short => 792,
+    }
+}
+
+fn put_preamble(k: Kind, l: Line, chips: &mut [u8]) -> Line
+    requires { ⌜ (l .odd < 2) × (preambleChips k ≤ length (now chips)) ⌝ }
+    ensures answer { λ q. ⌜ state q ≡ ran Rate.One (state l) (preambleOctets k) ⌝ }
+    ensures chips { λ _. ⌜ now (chips .exit) ≡ over (run Rate.One (state l) (preambleOctets k)) (now (chips .entry)) ⌝ }
+{
+    match k {
+        Kind::Long => {
+            let octets = LONG;
+            sender::put_octets(Rate::One, l, &octets, chips)
+        }
+        Kind::Short => {
+            let octets = SHORT;
+            sender::put_octets(Rate::One, l, &octets, chips)
+        }
+    }
+}
+
+// The preamble and a header of six octets.
+fn put_front(k: Kind, p: u8, header: &[u8], chips: &mut [u8]) -> Line
+    requires { ⌜ (length (now header) ≡ 6) × (frontChips k ≤ length (now chips)) ⌝ }
+    ensures answer { λ q. ⌜ (state q ≡ afterFront k p (now (header .entry))) × (q .odd < 2) ⌝ }
+    ensures chips { λ _. ⌜ now (chips .exit) ≡ over (frontSent k p (now (header .entry))) (now (chips .entry)) ⌝ }
+{
+    let l0 = first_line(k, p);
+    let l1 = put_preamble(k, l0, chips);
+    let at = preamble_chips(k);
+    let l2 = sender::put_octets(checks::header_rate(k), again(l1), header, &mut chips[at..]);
+    again(l2)
+}
+
+// The whole frame, and 4s to the buffer's end.
+fn put_frame(k: Kind, r: Rate, p: u8, payload: &[u8], count: usize, chips: &mut [u8])
+    requires { ⌜ (length (now payload) ≤ 4095) × (count ≡ frameChips k r (length (now payload)))
+        × (count ≤ length (now chips)) ⌝ }
+    ensures chips { λ _. ⌜ now (chips .exit)
+        ≡ frame k r p (now (payload .entry)) ++ replicate (length (now (chips .entry)) - count) 4 ⌝ }
+{
+    let header = checks::header_octets(r, payload.len());
+    let l = put_front(k, p, &header, chips);
+    let at = checks::front_chips(k);
+    sender::put_octets(r, l, payload, &mut chips[at..]);
+    sender::fill(&mut chips[count..], 4);
+}
+
+// A frame's chips from its payload; the answer tells the refusal, or how many chips were written.
+pub fn write(kind: u64, rate: u64, phase: u64, payload: &[u8], chips: &mut [u8]) -> Written
+    ensures answer { λ w. ⌜ w ≡ writtenOf
+        (writingOf kind rate phase (length (now (payload .entry))) (length (now (chips .entry)))) ⌝ }
+    ensures chips { λ _. ⌜ now (chips .exit)
+        ≡ chipsWritten kind rate phase (now (payload .entry)) (length (now (chips .entry))) ⌝ }
+{
+    let writing = checks::check_write(kind, rate, phase, payload.len(), chips.len());
+    let written = checks::written_of(writing);
+    match writing {
+        Writing::Refused(_) => {
+            sender::fill(chips, 4);
+            written
+        }
+        Writing::Good {
+            kind: k,
+            rate: r,
+            chips: count,
+        } => {
+            put_frame(k, r, phase as u8, payload, count, chips);
+            written
+        }
+    }
+}
