@@ -5,12 +5,12 @@
 set -euo pipefail
 cd "$(dirname "$0")/.."
 
-stage() { printf '\n== %s\n' "$*"; }
+stage() { printf '\n== %s (%s s)\n' "$1" "$SECONDS"; }
 
 stage 'packages'
-sh scripts/packages.sh
+scripts/packages.sh
 
-stage 'layout of the Rattle and antt files; text of the tree'
+stage 'layout and text of the tree'
 rt fmt --check
 python3 scripts/tree.py
 
@@ -27,4 +27,18 @@ case $verdict in
     ;;
 esac
 
-printf '\n%s\n' "$verdict"
+stage 'header'
+tests/header/run
+
+stage 'host'
+make --no-print-directory demo
+
+stage 'host under fault'
+make --no-print-directory faults
+
+stage 'second program, over rows between guards'
+make --no-print-directory target/c/bridge target/peer/peer
+target/peer/peer -- scripts/x86run target/c/bridge
+
+stage 'all passed'
+printf '%s\n' "$verdict"
