@@ -5,8 +5,9 @@ use mathlib.Core.Path.{_≡_, refl, sym, ap, _∙_, subst}
 use mathlib.Core.List.{List, [], _∷_, map}
 use Prim.Native.Nat.{ℕ, zero, suc, _+_, _*_, _/_, _%_, _≤_, _<_}
 use native.Mathlib.Omega.{arith}
-use lib.Dec.{lit<}
-use lib.ListN.{length, getD, drop}
+use native.Mathlib.Decide.{decLt}
+use lib.Dec.{T, lit<, ltb, ltb→lt}
+use lib.ListN.{length, getD, drop, List·getD-eq-default}
 use lib.Seq.{drop-cons}
 use lib.IntN.{ℤ, pos, negℤ, _+ℤ_, negℤ-+ℤ, negℤ-negℤ}
 use mir.Syntax.{w32}
@@ -14,6 +15,7 @@ use mir.Val.{toZ, ofZ}
 use Rattle.base.specs.Tables.{tabulate}
 use Rattle.base.specs.Whole.{up, dn, Within}
 use Rattle.base.proofs.Tables.{getD-tabulate, as-table, tabulate-all}
+use Rattle.base.proofs.Tests.{all, all-at}
 use Rattle.base.proofs.Whole.{add, same, up-pos, dn-pos, small, within-zero, within-add, within-more}
 use Rattle.chips.specs.declared.Counts.{Counts}
 use Rattle.chips.specs.Chips.{nothing, turned}
@@ -21,7 +23,7 @@ use Rattle.symbols.specs.Words.{barkerWord, cckWord, cckOf, p1Of, p2Of, p3Of, p
 use Rattle.symbols.specs.Choice.{term, score}
 use Rattle.symbols.proofs.Words.{Phases, phases-tail, cck-phases, cck-length, barker-phases}
 use Rattle.choice.specs.Scores.{Smalls, number5}
-use Rattle.choice.specs.Turns.{RowWithin, turnAt, addFour, slid, placed}
+use Rattle.choice.specs.Turns.{RowWithin, Below, turnAt, addFour, addEight, slid, placed}
 use Rattle.choice.proofs.Small.{term-within, score-within}
 use Rattle.choice.proofs.Clean.{phase}
 use Rattle.choice.proofs.Five.{five-lower, five-upper}
@@ -207,11 +209,28 @@ pub four-within : {b : ℕ} {more : ℤ} {t : List ℤ} (i j k l : ℕ) → With
     → Within (b + 8192 + 8192 + 8192 + 8192) (addFour more t i j k l)
 four-within i j k l h r = within-add (within-add (within-add (within-add h (r .at i)) (r .at j)) (r .at k)) (r .at l)
 
-pub placed-cck : (t : List ℤ) (p1 p2 p3 p4 : ℕ) → let w = cckWord p1 p2 p3 p4 in
-    addFour
-    (addFour (pos 0) t (32 + getD w 4 0) (40 + getD w 5 0) (48 + getD w 6 0) (56 + getD w 7 0))
-    t (getD w 0 0) (8 + getD w 1 0) (16 + getD w 2 0) (24 + getD w 3 0)
-    ≡ placed 0 w t
+-- the places of a word's chips
+abbrev pub placesOf : List ℕ → List ℕ
+placesOf w =
+    getD w 0 0
+    ∷ (8 + getD w 1 0)
+    ∷ (16 + getD w 2 0)
+    ∷ (24 + getD w 3 0)
+    ∷ (32 + getD w 4 0)
+    ∷ (40 + getD w 5 0)
+    ∷ (48 + getD w 6 0)
+    ∷ (56 + getD w 7 0)
+    ∷ []
+
+-- places are below 64 where a test of each says so
+pub below-64 : (at : List ℕ) → T (all (λ k. ltb (getD at k 0) 64) (length at)) → Below 64 at
+below-64 at t = record { each = λ k. by k (decLt k (length at)) }
+  where
+    by : (k : ℕ) → Dec (k < length at) → getD at k 0 < 64
+    by k (yes p) = ltb→lt (getD at k 0) 64 (all-at (λ j. ltb (getD at j 0) 64) (length at) t k p)
+    by k (no q) = rw (List·getD-eq-default at 0 {n = k} (omega arith)) (lit< tt)
+
+pub placed-cck : (t : List ℤ) (p1 p2 p3 p4 : ℕ) → addEight t (placesOf (cckWord p1 p2 p3 p4)) ≡ placed 0 (cckWord p1 p2 p3 p4) t
 unfolding placed cckWord
 placed-cck t p1 p2 p3 p4 =
     let w = cckWord p1 p2 p3 p4 in

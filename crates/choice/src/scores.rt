@@ -3,14 +3,13 @@
 use chips::Counts;
 use rates::Rate;
 ghost use mathlib.Core.Path.{_≡_};
-ghost use Prim.Native.Nat.{_+_, _*_, _/_, _%_, _<_};
+ghost use Prim.Native.Nat.{_<_};
 ghost use Rattle.base.specs.Tables.{tabulate};
 ghost use Rattle.base.specs.Whole.{Within};
 ghost use Rattle.chips.specs.Bounds.{Bounded};
-ghost use Rattle.symbols.specs.Words.{cckWord};
 ghost use Rattle.symbols.specs.Choice.{term, score};
 ghost use Rattle.choice.specs.Scores.{Smalls, scoreAt, number5};
-ghost use Rattle.choice.specs.Turns.{RowWithin, turnAt, addFour, slid, placed};
+ghost use Rattle.choice.specs.Turns.{RowWithin, Below, turnAt, addFour, addEight, slid};
 
 // What a chip adds to the score of a word whose chip there is p: I, Q, -I or -Q.
 pub fn part(p: u8, c: Counts) -> i32
@@ -136,45 +135,31 @@ pub fn scores_eleven(cs: [Counts; 8]) -> [i32; 256]
     scores
 }
 
-// The score of a word of 5.5 Mbit/s, by what each chip adds.
-pub fn score_five(t: &[i32; 64], p1: u8, d: usize) -> i32
-    requires { ⌜ RowWithin 8192 (now t) × (p1 < 4) × (d < 4) ⌝ }
-    ensures answer { λ r. ⌜ r ≡ placed 0 (cckWord p1 (2 * (d / 2) + 1) 0 (2 * (d % 2))) (now (t .entry)) ⌝ }
+// The sum of what stands at eight places of a row.
+pub fn add_eight(t: &[i32; 64], at: [usize; 8]) -> i32
+    requires { ⌜ RowWithin 8192 (now t) × Below 64 at ⌝ }
+    ensures answer { λ r. ⌜ r ≡ addEight (now (t .entry)) at ⌝ }
 {
-    let w = symbols::five_word(p1, d);
-    let rest = add_four(
-        0,
-        t,
-        32 + w[4] as usize,
-        40 + w[5] as usize,
-        48 + w[6] as usize,
-        56 + w[7] as usize,
-    );
-    add_four(
-        rest,
-        t,
-        w[0] as usize,
-        8 + w[1] as usize,
-        16 + w[2] as usize,
-        24 + w[3] as usize,
-    )
+    let rest = add_four(0, t, at[4], at[5], at[6], at[7]);
+    add_four(rest, t, at[0], at[1], at[2], at[3])
 }
 
-// The scores of the words of 5.5 Mbit/s with p1 = 0 and p1 = 1, in the order of their numbers.
+// The scores of the words of 5.5 Mbit/s with p1 = 0 and p1 = 1, in the order of their numbers. A word's places are 8 k and
+// its chip k: those of the first are 1 0 1 2 1 0 3 0, by 8 more at each.
 pub fn half_five(cs: [Counts; 8]) -> [i32; 8]
     requires { ⌜ Smalls cs ⌝ }
     ensures answer { λ r. ⌜ r ≡ tabulate (λ k. scoreAt Rate.Five cs (number5 k)) 8 ⌝ }
 {
     let t = turns(cs);
     [
-        score_five(&t, 0, 0),
-        score_five(&t, 0, 1),
-        score_five(&t, 0, 2),
-        score_five(&t, 0, 3),
-        score_five(&t, 1, 0),
-        score_five(&t, 1, 1),
-        score_five(&t, 1, 2),
-        score_five(&t, 1, 3),
+        add_eight(&t, [1, 8, 17, 26, 33, 40, 51, 56]),
+        add_eight(&t, [3, 10, 19, 24, 33, 40, 51, 56]),
+        add_eight(&t, [3, 8, 19, 26, 35, 40, 49, 56]),
+        add_eight(&t, [1, 10, 17, 24, 35, 40, 49, 56]),
+        add_eight(&t, [2, 9, 18, 27, 34, 41, 48, 57]),
+        add_eight(&t, [0, 11, 16, 25, 34, 41, 48, 57]),
+        add_eight(&t, [0, 9, 16, 27, 32, 41, 50, 57]),
+        add_eight(&t, [2, 11, 18, 25, 32, 41, 50, 57]),
     ]
 }
 

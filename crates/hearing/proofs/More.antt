@@ -27,7 +27,15 @@ use Rattle.recorders.specs.Rows.{whereFound}
 use Rattle.hearing.specs.declared.Line.{Line}
 use Rattle.hearing.specs.declared.Hearing.{Hearing}
 use Rattle.hearing.specs.Hearing.{received, sentBits, Next, Heard}
-use Rattle.hearing.proofs.Passes.{past-take, descramble-take, heard-append, lastHeard-append, growthsOf-append, growthsOf-length, heard-parity, heard-length, oddGrowth-append}
+use Rattle.bits.proofs.Heard.{
+  heard-append,
+  lastHeard-append,
+  growthsOf-append,
+  growthsOf-length,
+  heard-parity,
+  heard-length,
+}
+use Rattle.hearing.proofs.Passes.{past-take, descramble-take, oddGrowth-append}
 
 pub heard-none : (r : Rate) (at : ℕ) (l : Line) → l .phase < 4 → Heard r at l [] (record { line = l; odd = Nothing })
 unfolding heard lastHeard growthsOf firstOdd pastAfter
@@ -39,14 +47,17 @@ heard-none r at l h = record { past = refl; phase = refl; small = h; odd = rw ad
     by Five = refl
     by Eleven = refl
 
-pub heard-one : {r : Rate} {l m : Line} {n : ℕ} (at : ℕ) (o : Found) → Next r l n m → whereFound o ≡ oddGrowth r at (growthsOf r (l .phase) (n ∷ []))
+pub heard-one : {r : Rate} {l m : Line} {n : ℕ} (at : ℕ) (o : Found) → Next r l n m → whereFound o
+    ≡ oddGrowth r at (growthsOf r (l .phase) (n ∷ []))
     → Heard r at l (n ∷ []) (record { line = m; odd = o })
 unfolding heard lastHeard
-heard-one {r} {l} {m} {n} at o x e = record { past = rw append-nil (x .past); phase = x .phase; small = x .small; odd = x .odd; place = e }
+heard-one {r} {l} {m} {n} at o x e =
+    record { past = rw append-nil (x .past); phase = x .phase; small = x .small; odd = x .odd; place = e }
 
 pub heard-more : (r : Rate) (at : ℕ) (l : Line) (a b : List ℕ) (h g k : Hearing) → Heard r at l a h
     → Heard r (at + symbolChips r * length a) (h .line) b g → k .line ≡ g .line
-    → whereFound (k .odd) ≡ orElse (whereFound (h .odd)) (λ place. some place) (whereFound (g .odd)) → Heard r at l (a ++ b) k
+    → whereFound (k .odd) ≡ orElse (whereFound (h .odd)) (λ place. some place) (whereFound (g .odd))
+    → Heard r at l (a ++ b) k
 heard-more r at l a b h g k x y e f =
     let same : received r (h .line) b ≡ heard r (l .odd + length a) (lastHeard r (l .phase) a) b =
     heard-parity r (h .line .odd) (l .odd + length a) (h .line .phase) b (x .odd)
@@ -58,13 +69,16 @@ heard-more r at l a b h g k x y e f =
           ∙ ap₂ {C = List ℕ} (λ p bs. take 8 (pastAfter p bs)) (x .past) same
           ∙ past-take 8 _ _
           ∙ ap (take 8) (sym (past-append (lastFirst (l .past)) (received r l a) _))
-          ∙ ap (λ (bs : List ℕ). take 8 (pastAfter (lastFirst (l .past)) bs)) (sym (heard-append r (l .odd) (l .phase) a b));
-      phase = ap (λ (m : Line). m .phase) e ∙ y .phase ∙ ap (λ (p : ℕ). lastHeard r p b) (x .phase) ∙ sym (lastHeard-append r (l .phase) a b);
+          ∙ ap (λ (bs : List ℕ). take 8 (pastAfter (lastFirst (l .past)) bs))
+          (sym (heard-append r (l .odd) (l .phase) a b));
+      phase = ap (λ (m : Line). m .phase) e ∙ y .phase ∙ ap (λ (p : ℕ). lastHeard r p b) (x .phase)
+          ∙ sym (lastHeard-append r (l .phase) a b);
       small = rw e (y .small);
       odd = rw (e, length-append a b) (omega (arith, x .odd, y .odd));
       place = f ∙ ap₂ {C = Option ℕ} (λ o p. orElse o (λ place. some place) p) (x .place)
           (y .place ∙ ap (λ (p : ℕ). oddGrowth r (at + symbolChips r * length a) (growthsOf r p b)) (x .phase)
-          ∙ ap (λ (n : ℕ). oddGrowth r (at + symbolChips r * n) (growthsOf r (lastHeard r (l .phase) a) b)) (sym (growthsOf-length r (l .phase) a)))
+          ∙ ap (λ (n : ℕ). oddGrowth r (at + symbolChips r * n) (growthsOf r (lastHeard r (l .phase) a) b))
+          (sym (growthsOf-length r (l .phase) a)))
           ∙ sym (oddGrowth-append r at (growthsOf r (l .phase) a) _)
           ∙ ap (oddGrowth r at) (sym (growthsOf-append r (l .phase) a b));
     }

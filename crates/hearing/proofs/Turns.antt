@@ -1,4 +1,5 @@
--- The loops of hearing: what holds before a turn, and one turn more, over the symbols of an octet and over the octets of a part.
+-- The loops of hearing: what holds before a turn, and one turn more, over the symbols of an octet and over the octets
+-- of a part.
 --     symbols-none, symbols-more, symbols-all    the first j symbols of an octet are heard
 --     octets-none, octets-more, octets-all       the first i octets of a part are heard and stored
 -- Assumes nothing.
@@ -27,8 +28,18 @@ use Rattle.recorders.specs.Rows.{whereFound}
 use Rattle.hearing.specs.declared.Line.{Line}
 use Rattle.hearing.specs.declared.Hearing.{Hearing}
 use Rattle.hearing.specs.declared.Octet.{Octet}
-use Rattle.hearing.specs.Hearing.{octetSymbols, octetWords, partWords, received, sentBits, Heard, OctetHeard, PartHeard}
-use Rattle.hearing.proofs.Passes.{heard-length, decidedWords-length, decidedWords-append}
+use Rattle.hearing.specs.Hearing.{
+  octetSymbols,
+  octetWords,
+  partWords,
+  received,
+  sentBits,
+  Heard,
+  OctetHeard,
+  PartHeard,
+}
+use Rattle.bits.proofs.Heard.{heard-length}
+use Rattle.hearing.proofs.Passes.{decidedWords-length, decidedWords-append}
 use Rattle.hearing.proofs.More.{heard-none, heard-more, sent-more, sent-length, last-eight}
 
 -- ---- how many symbols, chips and bits an octet is
@@ -64,14 +75,16 @@ part-bits Five n = omega arith
 part-bits Eleven n = omega arith
 
 -- a symbol of an octet has room where the octet has
-pub symbol-room : (r : Rate) (at j m : ℕ) → j < octetSymbols r → at + octetChips r ≤ m → at + symbolChips r * j + symbolChips r ≤ m
+pub symbol-room : (r : Rate) (at j m : ℕ) → j < octetSymbols r → at + octetChips r ≤ m
+    → at + symbolChips r * j + symbolChips r ≤ m
 symbol-room One at j m h l = omega arith
 symbol-room Two at j m h l = omega arith
 symbol-room Five at j m h l = omega arith
 symbol-room Eleven at j m h l = omega arith
 
 -- an octet of a part has room where the part has
-pub octet-room : (r : Rate) (at i n m : ℕ) → i < n → at + octetChips r * n ≤ m → at + octetChips r * i + octetChips r ≤ m
+pub octet-room : (r : Rate) (at i n m : ℕ) → i < n → at + octetChips r * n ≤ m
+    → at + octetChips r * i + octetChips r ≤ m
 octet-room One at i n m h l = omega arith
 octet-room Two at i n m h l = omega arith
 octet-room Five at i n m h l = omega arith
@@ -84,27 +97,37 @@ pub record Symbols (r : Rate) (at : ℕ) (rec : List Taken) (l : Line) (h : Hear
   pub at-place : place ≡ at + symbolChips r * j
   pub line : Heard r at l (decidedWords r j (drop at rec)) h
 
-pub symbols-none : (r : Rate) (at : ℕ) (rec : List Taken) (l : Line) → l .phase < 4 → Symbols r at rec l (record { line = l; odd = Nothing }) at 0
+pub symbols-none : (r : Rate) (at : ℕ) (rec : List Taken) (l : Line) → l .phase < 4
+    → Symbols r at rec l (record { line = l; odd = Nothing }) at 0
 unfolding decidedWords
-symbols-none r at rec l h = record { fits = omega arith; at-place = rw (mul-zero, add-zero); line = heard-none r at l h }
+symbols-none r at rec l h = record {
+  fits = omega arith;
+  at-place = rw (mul-zero, add-zero);
+  line = heard-none r at l h;
+}
 
 one-more : (r : Rate) (at j : ℕ) (rec : List Taken)
     → decidedWords r (j + 1) (drop at rec)
-    ≡ decidedWords r j (drop at rec) ++ decided r (map takenCounts (take (symbolChips r) (drop (at + symbolChips r * j) rec))) ∷ []
+    ≡ decidedWords r j (drop at rec) ++ decided r
+    (map takenCounts (take (symbolChips r) (drop (at + symbolChips r * j) rec))) ∷ []
 one-more r at j rec =
     decidedWords-append r j 1 (drop at rec)
-    ∙ ap (λ (cs : List Taken). decidedWords r j (drop at rec) ++ decidedWords r 1 cs) (drop-drop (symbolChips r * j) at rec)
+    ∙ ap (λ (cs : List Taken). decidedWords r j (drop at rec) ++ decidedWords r 1 cs)
+    (drop-drop (symbolChips r * j) at rec)
     ∙ (unfold decidedWords in refl)
 
 pub symbols-more : (r : Rate) (at : ℕ) (rec : List Taken) (l : Line) (h g k : Hearing) (place j n chips : ℕ)
-    → Symbols r at rec l h place j → j < octetSymbols r → n ≡ decided r (map takenCounts (take (symbolChips r) (drop place rec)))
+    → Symbols r at rec l h place j → j < octetSymbols r → n
+    ≡ decided r (map takenCounts (take (symbolChips r) (drop place rec)))
     → Heard r place (h .line) (n ∷ []) g
-    → (k .line ≡ g .line) × (whereFound (k .odd) ≡ orElse (whereFound (h .odd)) (λ place. some place) (whereFound (g .odd)))
+    → (k .line ≡ g .line) × (whereFound (k .odd)
+    ≡ orElse (whereFound (h .odd)) (λ place. some place) (whereFound (g .odd)))
     → chips ≡ symbolChips r → Symbols r at rec l k (place + chips) (j + 1)
 symbols-more r at rec l h g k place j n chips s b d y e c =
     let ws = decidedWords r j (drop at rec) in
     let m : symbolChips r * (j + 1) ≡ symbolChips r * j + symbolChips r = rw add-one (mul-suc (symbolChips r) j) in
-    let there : place ≡ at + symbolChips r * length ws = s .at-place ∙ ap (λ (i : ℕ). at + symbolChips r * i) (sym (decidedWords-length r j (drop at rec))) in
+    let there : place ≡ at + symbolChips r * length ws = s .at-place
+    ∙ ap (λ (i : ℕ). at + symbolChips r * i) (sym (decidedWords-length r j (drop at rec))) in
     let is : n ≡ decided r (map takenCounts (take (symbolChips r) (drop (at + symbolChips r * j) rec))) =
     d ∙ ap (λ (i : ℕ). decided r (map takenCounts (take (symbolChips r) (drop i rec)))) (s .at-place) in
     record {
@@ -112,27 +135,32 @@ symbols-more r at rec l h g k place j n chips s b d y e c =
       at-place = omega (arith, s .at-place);
       line =
           rw (one-more r at j rec, ← is)
-          (heard-more r at l ws (n ∷ []) h g k (s .line) (subst (λ (i : ℕ). Heard r i (h .line) (n ∷ []) g) there y) (e .0) (e .1));
+          (heard-more r at l ws (n ∷ []) h g k (s .line) (subst (λ (i : ℕ). Heard r i (h .line) (n ∷ []) g) there y)
+          (e .0) (e .1));
     }
 
-pub symbols-all : (r : Rate) (at : ℕ) (rec : List Taken) (l : Line) (h : Hearing) (place j x : ℕ) → Symbols r at rec l h place j
+pub symbols-all : (r : Rate) (at : ℕ) (rec : List Taken) (l : Line) (h : Hearing) (place j x : ℕ)
+    → Symbols r at rec l h place j
     → octetSymbols r ≤ j → x ≡ numberOf (descramble (lastFirst (l .past)) (inTime (h .line .past)))
     → OctetHeard r at rec l (record { heard = h; x = x })
 symbols-all r at rec l h place j x s b d =
     let is : j ≡ octetSymbols r = le-antisymm (s .fits) b in
-    let all : Heard r at l (octetWords r at rec) h = subst (λ (i : ℕ). Heard r at l (decidedWords r i (drop at rec)) h) is (s .line) in
+    let all : Heard r at l (octetWords r at rec) h = subst (λ (i : ℕ). Heard r at l (decidedWords r i (drop at rec)) h)
+    is (s .line) in
     let eight : length (received r l (octetWords r at rec)) ≡ 8 =
     heard-length r (l .odd) (l .phase) (octetWords r at rec)
     ∙ ap (λ (i : ℕ). symbolBits r * i) (decidedWords-length r (octetSymbols r) (drop at rec))
     ∙ octet-bits r in
     record {
       line = all;
-      octet = d ∙ ap (λ (bs : List ℕ). numberOf (descramble (lastFirst (l .past)) bs)) (last-eight (h .line .past) _ _ eight (all .past));
+      octet = d ∙ ap (λ (bs : List ℕ). numberOf (descramble (lastFirst (l .past)) bs))
+          (last-eight (h .line .past) _ _ eight (all .past));
     }
 
 -- ---- the octets of a part
 
-pub record Octets (r : Rate) (at : ℕ) (rec : List Taken) (l : Line) (d : List ℕ) (h : Hearing) (place i : ℕ) (out : List ℕ) : Type 0 where
+pub record Octets (r : Rate) (at : ℕ) (rec : List Taken) (l : Line) (d : List ℕ) (h : Hearing) (place i : ℕ)
+    (out : List ℕ) : Type 0 where
   pub fits : i ≤ length d
   pub at-place : place ≡ at + octetChips r * i
   pub long : length out ≡ length d
@@ -150,40 +178,58 @@ octets-none r at rec l d h = record {
   stored = refl;
 }
 
-octet-more : (r : Rate) (at i : ℕ) (rec : List Taken) → partWords r at (i + 1) rec ≡ partWords r at i rec ++ octetWords r (at + octetChips r * i) rec
+octet-more : (r : Rate) (at i : ℕ) (rec : List Taken) → partWords r at (i + 1) rec
+    ≡ partWords r at i rec ++ octetWords r (at + octetChips r * i) rec
 octet-more r at i rec =
     let m : octetSymbols r * (i + 1) ≡ octetSymbols r * i + octetSymbols r = rw add-one (mul-suc (octetSymbols r) i) in
-    rw (part-symbols r (i + 1), part-symbols r i, m, decidedWords-append r (octetSymbols r * i) (octetSymbols r) (drop at rec), drop-drop, part-chips r i)
+    rw (
+      part-symbols r (i + 1),
+      part-symbols r i,
+      m,
+      decidedWords-append r (octetSymbols r * i) (octetSymbols r)
+          (drop at rec),
+      drop-drop,
+      part-chips r i,
+    )
 
 part-length : (r : Rate) (at i : ℕ) (rec : List Taken) → length (partWords r at i rec) ≡ octetSymbols r * i
 part-length r at i rec = decidedWords-length r (8 * i / symbolBits r) (drop at rec) ∙ part-symbols r i
 
 -- one octet more, stored behind the others
-store : (a d : List ℕ) (i x : ℕ) → length a ≡ i → i < length d → set (a ++ drop i d) i x ≡ (a ++ x ∷ []) ++ drop (i + 1) d
+store : (a d : List ℕ) (i x : ℕ) → length a ≡ i → i < length d → set (a ++ drop i d) i x
+    ≡ (a ++ x ∷ []) ++ drop (i + 1) d
 store a d i x e h = rw (drop-cons d i 0 h, set-at a _ (drop (suc i) d) x i e, append-assoc, add-one)
 
 one-octet : (bs : List ℕ) → length bs ≡ 8 → octetsOf 1 bs ≡ numberOf bs ∷ []
 unfolding octetsOf
 one-octet bs e = rw (take-all 8 bs (omega arith))
 
-pub octets-more : (r : Rate) (at : ℕ) (rec : List Taken) (l : Line) (d : List ℕ) (h k : Hearing) (o : Octet) (place i chips : ℕ) (out : List ℕ)
+pub octets-more : (r : Rate) (at : ℕ) (rec : List Taken) (l : Line) (d : List ℕ) (h k : Hearing) (o : Octet)
+    (place i chips : ℕ) (out : List ℕ)
     → Octets r at rec l d h place i out → i < length d → OctetHeard r place rec (h .line) o
-    → (k .line ≡ o .heard .line) × (whereFound (k .odd) ≡ orElse (whereFound (h .odd)) (λ place. some place) (whereFound (o .heard .odd)))
+    → (k .line ≡ o .heard .line) ×
+    (whereFound (k .odd) ≡ orElse (whereFound (h .odd)) (λ place. some place) (whereFound (o .heard .odd)))
     → chips ≡ octetChips r → Octets r at rec l d k (place + chips) (i + 1) (set out i (o .x))
 octets-more r at rec l d h k o place i chips out s b y e c =
     let ws = partWords r at i rec in
     let vs = octetWords r (at + octetChips r * i) rec in
     let m : octetChips r * (i + 1) ≡ octetChips r * i + octetChips r = rw add-one (mul-suc (octetChips r) i) in
-    let put : OctetHeard r (at + octetChips r * i) rec (h .line) o = subst (λ (p : ℕ). OctetHeard r p rec (h .line) o) (s .at-place) y in
-    let there : octetChips r * i ≡ symbolChips r * length ws = sym (ap (λ (n : ℕ). symbolChips r * n) (part-length r at i rec) ∙ part-chips r i) in
-    let bits-so-far : length (sentBits r l ws) ≡ 8 * i = sent-length r l ws ∙ ap (λ (n : ℕ). symbolBits r * n) (part-length r at i rec) ∙ part-bits r i in
+    let put : OctetHeard r (at + octetChips r * i) rec (h .line) o = subst (λ (p : ℕ). OctetHeard r p rec (h .line) o)
+    (s .at-place) y in
+    let there : octetChips r * i ≡ symbolChips r * length ws = sym
+    (ap (λ (n : ℕ). symbolChips r * n) (part-length r at i rec) ∙ part-chips r i) in
+    let bits-so-far : length (sentBits r l ws) ≡ 8 * i = sent-length r l ws
+    ∙ ap (λ (n : ℕ). symbolBits r * n) (part-length r at i rec) ∙ part-bits r i in
     let eight : length (sentBits r (h .line) vs) ≡ 8 =
-    sent-length r (h .line) vs ∙ ap (λ (n : ℕ). symbolBits r * n) (decidedWords-length r (octetSymbols r) _) ∙ octet-bits r in
-    let octets : octetsOf (i + 1) (sentBits r l (partWords r at (i + 1) rec)) ≡ octetsOf i (sentBits r l ws) ++ o .x ∷ [] =
+    sent-length r (h .line) vs ∙ ap (λ (n : ℕ). symbolBits r * n) (decidedWords-length r (octetSymbols r) _)
+    ∙ octet-bits r in
+    let octets : octetsOf (i + 1) (sentBits r l (partWords r at (i + 1) rec))
+    ≡ octetsOf i (sentBits r l ws) ++ o .x ∷ [] =
     ap (λ (us : List ℕ). octetsOf (i + 1) (sentBits r l us)) (octet-more r at i rec)
     ∙ ap (octetsOf (i + 1)) (sent-more r at l ws vs h (s .line))
     ∙ bits.octets-append i 1 (sentBits r l ws) (sentBits r (h .line) vs) bits-so-far
-    ∙ ap (λ (us : List ℕ). octetsOf i (sentBits r l ws) ++ us) (one-octet _ eight ∙ ap (λ (n : ℕ). n ∷ []) (sym (put .octet))) in
+    ∙ ap (λ (us : List ℕ). octetsOf i (sentBits r l ws) ++ us)
+    (one-octet _ eight ∙ ap (λ (n : ℕ). n ∷ []) (sym (put .octet))) in
     record {
       fits = omega arith;
       at-place = omega (arith, s .at-place);
@@ -198,7 +244,8 @@ octets-more r at rec l d h k o place i chips out s b y e c =
           ∙ ap (λ (us : List ℕ). us ++ drop (i + 1) d) (sym octets);
     }
 
-pub octets-all : (r : Rate) (at : ℕ) (rec : List Taken) (l : Line) (d : List ℕ) (h : Hearing) (place i : ℕ) (out : List ℕ)
+pub octets-all : (r : Rate) (at : ℕ) (rec : List Taken) (l : Line) (d : List ℕ) (h : Hearing) (place i : ℕ)
+    (out : List ℕ)
     → Octets r at rec l d h place i out → length d ≤ i → PartHeard r at (length d) rec l h out
 octets-all r at rec l d h place i out s b =
     let is : i ≡ length d = le-antisymm (s .fits) b in

@@ -1,4 +1,5 @@
--- What is known of a line once decided words were heard on it: symbol by symbol, an octet, and octets. Definitions only. Assumes nothing.
+-- What is known of a line once decided words were heard on it: symbol by symbol, an octet, and octets. Definitions
+-- only. Assumes nothing.
 use mathlib.Core.Path.{_≡_}
 use mathlib.Core.List.{List}
 use Prim.Native.Nat.{ℕ, _+_, _*_, _/_, _%_, _<_}
@@ -36,7 +37,8 @@ pub record Next (r : Rate) (l : Line) (n : ℕ) (m : Line) : Type 0 where
   pub small : m .phase < 4
   pub odd : m .odd % 2 ≡ (l .odd + 1) % 2
 
--- h is line l after words, the first of which starts at place `at`: the last eight bits received, the last phase, how many symbols there
+-- h is line l after words, the first of which starts at place `at`: the last eight bits received, the last phase, how
+-- many symbols there
 -- were, modulo 2, and the place of the first that is grown by 1 or 3 at 1 Mbit/s
 pub record Heard (r : Rate) (at : ℕ) (l : Line) (ws : List ℕ) (h : Hearing) : Type 0 where
   pub past : lastFirst (h .line .past) ≡ take 8 (pastAfter (lastFirst (l .past)) (received r l ws))

@@ -100,7 +100,8 @@ pub fn first_of(a: Found, b: Found) -> Found
 // What was heard first, and then more.
 pub fn joined(a: Hearing, b: Hearing) -> Hearing
     ensures line { λ r. ⌜ r .line ≡ b .line ⌝ }
-    ensures odd { λ r. ⌜ whereFound (r .odd) ≡ orElse (whereFound (a .odd)) (λ place. some place) (whereFound (b .odd)) ⌝ }
+    ensures odd { λ r. ⌜ whereFound (r .odd) ≡
+        orElse (whereFound (a .odd)) (λ place. some place) (whereFound (b .odd)) ⌝ }
 {
     let line = b.line;
     let before = a.odd;
@@ -120,7 +121,8 @@ pub fn hear_octet(
     line: Line,
 ) -> Octet
     requires { ⌜ (at + octetChips rate ≤ length (recordingOf rec (now hard) (now i) (now q))) × (line .phase < 4) ⌝ }
-    ensures answer { λ r. ⌜ OctetHeard rate at (recordingOf rec (now (hard .entry)) (now (i .entry)) (now (q .entry))) line r ⌝ }
+    ensures answer { λ r. ⌜ OctetHeard rate at
+        (recordingOf rec (now (hard .entry)) (now (i .entry)) (now (q .entry))) line r ⌝ }
 {
     let count = octet_symbols(rate);
     let chips = rate.symbol_chips();

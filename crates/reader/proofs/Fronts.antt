@@ -1,4 +1,5 @@
--- The front, heard in three parts on one line: SYNC, the SFD, and the header on the same line with its symbols numbered anew. What the
+-- The front, heard in three parts on one line: SYNC, the SFD, and the header on the same line with its symbols numbered
+-- anew. What the
 -- definition says of all its bits at once is what the parts say one after the other.
 --     reference-is     the first symbol's phase
 --     front-known      three parts heard are the front heard
@@ -50,7 +51,8 @@ use Rattle.reader.specs.Openings.{syncOctets, Starts, Opened, FrontKnown
 -- ---- the words of the parts
 
 module _ (rec : List Taken) where
-  preamble-words : (k : Kind) → partWords One 0 (syncOctets k) rec ++ partWords One (88 * syncOctets k) 2 rec ≡ preambleWords k rec
+  preamble-words : (k : Kind) → partWords One 0 (syncOctets k) rec ++ partWords One (88 * syncOctets k) 2 rec
+      ≡ preambleWords k rec
   unfolding preambleWords
   preamble-words Long = sym (decidedWords-append One 128 16 rec)
   preamble-words Short = sym (decidedWords-append One 56 16 rec)
@@ -73,7 +75,8 @@ module _ (rec : List Taken) where
   sync-long Long l = sent-length One l (partWords One 0 16 rec) ∙ omega (arith, decidedWords-length One 128 rec)
   sync-long Short l = sent-length One l (partWords One 0 7 rec) ∙ omega (arith, decidedWords-length One 56 rec)
 
-  header-long : (k : Kind) (l : Line) → length (sentBits (headerRate k) l (partWords (headerRate k) (88 * syncOctets k + 176) 6 rec)) ≡ 48
+  header-long : (k : Kind) (l : Line)
+      → length (sentBits (headerRate k) l (partWords (headerRate k) (88 * syncOctets k + 176) 6 rec)) ≡ 48
   header-long Long l = sent-length One l _ ∙ omega (arith, decidedWords-length One 48 (drop 1584 rec))
   header-long Short l = sent-length Two l _ ∙ omega (arith, decidedWords-length Two 24 (drop 792 rec))
 
@@ -90,7 +93,8 @@ start-seven Short = refl
 
 -- ---- unscrambling goes on from the bits received
 
-pub goes-on : (s : List ℕ) (r : Rate) (at : ℕ) (l : Line) (ws : List ℕ) (h : Hearing) → take 7 (lastFirst (l .past)) ≡ take 7 s → Heard r at l ws h
+pub goes-on : (s : List ℕ) (r : Rate) (at : ℕ) (l : Line) (ws : List ℕ) (h : Hearing) → take 7 (lastFirst (l .past))
+    ≡ take 7 s → Heard r at l ws h
     → take 7 (lastFirst (h .line .past)) ≡ take 7 (pastAfter s (received r l ws))
 goes-on s r at l ws h e x =
     ap (take 7) (x .past)
@@ -101,9 +105,11 @@ goes-on s r at l ws h e x =
 
 -- ---- octets of bits of known length
 
-octets-all : (n m : ℕ) (p bs xs : List ℕ) → 8 * n ≡ m → length (descramble p bs) ≡ m → xs ≡ octetsOf n (descramble p bs) → octetBits xs ≡ descramble p bs
+octets-all : (n m : ℕ) (p bs xs : List ℕ) → 8 * n ≡ m → length (descramble p bs) ≡ m → xs ≡ octetsOf n (descramble p bs)
+    → octetBits xs ≡ descramble p bs
 octets-all n m p bs xs e f g =
-    ap octetBits g ∙ octets-bits n (descramble p bs) (omega arith) (descramble-below p bs) ∙ take-all (8 * n) (descramble p bs) (omega arith)
+    ap octetBits g ∙ octets-bits n (descramble p bs) (omega arith) (descramble-below p bs)
+    ∙ take-all (8 * n) (descramble p bs) (omega arith)
 
 cut-middle : (a b c : List ℕ) (m n : ℕ) → length a ≡ m → length b ≡ n → take n (drop m ((a ++ b) ++ c)) ≡ b
 cut-middle a b c m n e f = rw (append-assoc, drop-at a (b ++ c) m e) (take-at b c n f)
@@ -118,10 +124,12 @@ module _
     (s : Starts k (reference k rec) l0)
     (x : PartHeard One 0 (syncOctets k) rec l0 a sync)
     (y : PartHeard One (88 * syncOctets k) 2 rec (a .line) b sfd)
-    (ab : (p .line ≡ b .line) × (whereFound (p .odd) ≡ orElse (whereFound (a .odd)) (λ place. some place) (whereFound (b .odd))))
+    (ab : (p .line ≡ b .line) × (whereFound (p .odd)
+    ≡ orElse (whereFound (a .odd)) (λ place. some place) (whereFound (b .odd))))
     (l2-past : l2 .past ≡ p .line .past) (l2-phase : l2 .phase ≡ p .line .phase) (l2-odd : l2 .odd ≡ 0)
     (z : PartHeard (headerRate k) (88 * syncOctets k + 176) 6 rec l2 c header)
-    (pc : (all .line ≡ c .line) × (whereFound (all .odd) ≡ orElse (whereFound (p .odd)) (λ place. some place) (whereFound (c .odd)))) where
+    (pc : (all .line ≡ c .line) × (whereFound (all .odd)
+    ≡ orElse (whereFound (p .odd)) (λ place. some place) (whereFound (c .odd)))) where
   abbrev A : List ℕ
   A = partWords One 0 (syncOctets k) rec
 
@@ -132,7 +140,8 @@ module _
   preamble : Heard One 0 l0 (preambleWords k rec) p
   preamble =
       rw (← preamble-words rec k)
-      (heard-more One 0 l0 A B a b p (x .line) (subst (λ (i : ℕ). Heard One i (a .line) B b) (sync-place rec k) (y .line)) (ab .0) (ab .1))
+      (heard-more One 0 l0 A B a b p (x .line)
+      (subst (λ (i : ℕ). Heard One i (a .line) B b) (sync-place rec k) (y .line)) (ab .0) (ab .1))
 
   preamble-received : received One l0 (preambleWords k rec) ≡ heard One 0 (reference k rec) (preambleWords k rec)
   preamble-received = ap₂ {C = List ℕ} (λ i q. heard One i q (preambleWords k rec)) (s .at-odd) (s .at-phase)
@@ -146,10 +155,12 @@ module _
       subst (λ (i : ℕ). Heard (headerRate k) i l2 (headerWords k rec) c) (header-place k)
       (subst (λ (ws : List ℕ). Heard (headerRate k) (88 * syncOctets k + 176) l2 ws c) (header-words rec k) (z .line))
 
-  header-received : received (headerRate k) l2 (headerWords k rec) ≡ heard (headerRate k) 0 (headerPhase k rec) (headerWords k rec)
+  header-received : received (headerRate k) l2 (headerWords k rec)
+      ≡ heard (headerRate k) 0 (headerPhase k rec) (headerWords k rec)
   header-received = ap₂ {C = List ℕ} (λ i q. heard (headerRate k) i q (headerWords k rec)) l2-odd header-phase
 
-  front-received : frontHeard k rec ≡ received One l0 (preambleWords k rec) ++ received (headerRate k) l2 (headerWords k rec)
+  front-received : frontHeard k rec
+      ≡ received One l0 (preambleWords k rec) ++ received (headerRate k) l2 (headerWords k rec)
   unfolding frontHeard
   front-received = sym (ap₂ {C = List ℕ} (λ u v. u ++ v) preamble-received header-received)
 
@@ -164,42 +175,55 @@ module _
       ∙ ap₂ {C = Option ℕ} (λ o q. orElse o (λ place. some place) q)
       (preamble .place ∙ ap (λ (q : ℕ). oddGrowth One 0 (growthsOf One q (preambleWords k rec))) (s .at-phase))
       (header-part .place
-      ∙ ap (λ (q : ℕ). oddGrowth (headerRate k) (preambleChips k) (growthsOf (headerRate k) q (headerWords k rec))) header-phase)
+      ∙ ap (λ (q : ℕ). oddGrowth (headerRate k) (preambleChips k) (growthsOf (headerRate k) q (headerWords k rec)))
+      header-phase)
 
   -- the front's bits, part by part
   bits-are : frontBits k rec
-      ≡ (sentBits One l0 A ++ sentBits One (a .line) B) ++ sentBits (headerRate k) l2 (partWords (headerRate k) (88 * syncOctets k + 176) 6 rec)
+      ≡ (sentBits One l0 A ++ sentBits One (a .line) B) ++ sentBits (headerRate k) l2
+      (partWords (headerRate k) (88 * syncOctets k + 176) 6 rec)
   unfolding frontBits
   bits-are =
       ap (descramble (start k)) front-received
-      ∙ descramble-append (start k) (received One l0 (preambleWords k rec)) (received (headerRate k) l2 (headerWords k rec))
+      ∙ descramble-append (start k) (received One l0 (preambleWords k rec))
+      (received (headerRate k) l2 (headerWords k rec))
       ∙ ap₂ {C = List ℕ} (λ u v. u ++ v)
-      (descramble-window (start k) (lastFirst (l0 .past)) (received One l0 (preambleWords k rec)) (sym (s .past ∙ start-seven k))
+      (descramble-window (start k) (lastFirst (l0 .past)) (received One l0 (preambleWords k rec))
+      (sym (s .past ∙ start-seven k))
       ∙ ap (sentBits One l0) (sym (preamble-words rec k))
       ∙ sent-more One 0 l0 A B a (x .line))
-      (descramble-window (pastAfter (start k) (received One l0 (preambleWords k rec))) (lastFirst (l2 .past)) (received (headerRate k) l2 (headerWords k rec)) (sym before-header)
+      (descramble-window (pastAfter (start k) (received One l0 (preambleWords k rec))) (lastFirst (l2 .past))
+      (received (headerRate k) l2 (headerWords k rec)) (sym before-header)
       ∙ ap (sentBits (headerRate k) l2) (sym (header-words rec k)))
 
   pub front-known : FrontKnown k rec (record { heard = all; sfd = sfd; header = header })
   front-known = record {
     odd = odd-is;
     sfd =
-        octets-all 2 16 (lastFirst (a .line .past)) (received One (a .line) B) sfd refl (sfd-long rec (88 * syncOctets k) (a .line)) (y .octets)
+        octets-all 2 16 (lastFirst (a .line .past)) (received One (a .line) B) sfd refl
+        (sfd-long rec (88 * syncOctets k) (a .line)) (y .octets)
         ∙ sym (ap (λ (bs : List ℕ). take 16 (drop (syncBits k) bs)) bits-are
-        ∙ cut-middle (sentBits One l0 A) (sentBits One (a .line) B) _ (syncBits k) 16 (sync-long rec k l0) (sfd-long rec (88 * syncOctets k) (a .line)));
+        ∙ cut-middle (sentBits One l0 A) (sentBits One (a .line) B) _ (syncBits k) 16 (sync-long rec k l0)
+        (sfd-long rec (88 * syncOctets k) (a .line)));
     header =
-        octets-all 6 48 (lastFirst (l2 .past)) (received (headerRate k) l2 (partWords (headerRate k) (88 * syncOctets k + 176) 6 rec)) header refl (header-long rec k l2) (z .octets)
+        octets-all 6 48 (lastFirst (l2 .past))
+        (received (headerRate k) l2 (partWords (headerRate k) (88 * syncOctets k + 176) 6 rec)) header refl
+        (header-long rec k l2) (z .octets)
         ∙ sym (ap (drop (preambleLength k)) bits-are
-        ∙ cut-last (sentBits One l0 A) (sentBits One (a .line) B) _ (syncBits k) 16 (sync-long rec k l0) (sfd-long rec (88 * syncOctets k) (a .line)));
+        ∙ cut-last (sentBits One l0 A) (sentBits One (a .line) B) _ (syncBits k) 16 (sync-long rec k l0)
+        (sfd-long rec (88 * syncOctets k) (a .line)));
     line = rw (pc .0) opened;
   }
     where
       opened : Opened k rec (c .line)
       opened = record {
-        at-phase = header-part .phase ∙ ap (λ (q : ℕ). lastHeard (headerRate k) q (headerWords k rec)) header-phase ∙ (unfold payloadPhase in refl);
+        at-phase = header-part .phase ∙ ap (λ (q : ℕ). lastHeard (headerRate k) q (headerWords k rec)) header-phase
+            ∙ (unfold payloadPhase in refl);
         small = header-part .small;
         past =
-            goes-on (pastAfter (start k) (received One l0 (preambleWords k rec))) (headerRate k) (preambleChips k) l2 (headerWords k rec) c before-header header-part
-            ∙ ap (take 7) (sym (past-append (start k) (received One l0 (preambleWords k rec)) (received (headerRate k) l2 (headerWords k rec))))
+            goes-on (pastAfter (start k) (received One l0 (preambleWords k rec))) (headerRate k) (preambleChips k) l2
+            (headerWords k rec) c before-header header-part
+            ∙ ap (take 7) (sym (past-append (start k) (received One l0 (preambleWords k rec))
+            (received (headerRate k) l2 (headerWords k rec))))
             ∙ ap (λ (bs : List ℕ). take 7 (pastAfter (start k) bs)) (sym front-received);
       }

@@ -1,4 +1,5 @@
--- The order of refusals: for each way out of reading a front, a payload and a whole recording, what the definition says there.
+-- The order of refusals: for each way out of reading a front, a payload and a whole recording, what the definition says
+-- there.
 -- Each follows by the tests that led there. Assumes nothing.
 use mathlib.Core.Path.{_≡_, refl, sym, ap, ap₂, subst, _∙_}
 use mathlib.Core.Bool.{Bool, true, false, not}
@@ -14,7 +15,15 @@ use Rattle.chips.specs.Chips.{Taken}
 use Rattle.bits.specs.Bits.{octetBits}
 use Rattle.frame.specs.declared.Kind.{Kind}
 use Rattle.frame.specs.declared.Refusal.{Refusal}
-use Rattle.frame.specs.declared.Refusal.the-variants.{NoKind, RowsDiffer, ShorterThanFront, Unusable, OddGrowth, Ends, OctetRoom}
+use Rattle.frame.specs.declared.Refusal.the-variants.{
+  NoKind,
+  RowsDiffer,
+  ShorterThanFront,
+  Unusable,
+  OddGrowth,
+  Ends,
+  OctetRoom,
+}
 use Rattle.frame.specs.declared.Front.{Front}
 use Rattle.frame.specs.declared.Front.the-variants as front
 use Rattle.frame.specs.declared.Reading.{Reading}
@@ -40,12 +49,13 @@ use Rattle.recorders.specs.declared.Found.the-variants.{Nothing, At}
 use Rattle.recorders.specs.Rows.{whereFound}
 use Rattle.reader.specs.declared.FrontHeard.{FrontHeard}
 use Rattle.reader.specs.declared.Opening.{Opening}
-use Rattle.reader.specs.Openings.{Opened, FrontKnown, afterUsable, Opens, octetsHeard}
+use Rattle.reader.specs.Openings.{Opened, FrontKnown, afterUsable, Opens, octetsHeard, afterHeard}
 
 -- ---- the front
 
 -- an opening that refuses needs no line
-opens-refused : (k : Kind) (rec : List Taken) (f : Front) (e : Refusal) (o : Opening) → o .front ≡ front.Refused e → f ≡ front.Refused e → Opens k rec f o
+opens-refused : (k : Kind) (rec : List Taken) (f : Front) (e : Refusal) (o : Opening) → o .front ≡ front.Refused e → f
+    ≡ front.Refused e → Opens k rec f o
 opens-refused k rec f e o p q = record {
   told = p ∙ sym q;
   line = λ r l n t. let z : _≡_ {A = ℕ} 0 1 = cc in absurd (omega arith);
@@ -64,21 +74,26 @@ module _ (k : Kind) (rec : List Taken) where
     line = λ r l n t. x .line;
   }
 
-  pub front-short : (o : Opening) → length rec < frontChips k → o .front ≡ front.Refused ShorterThanFront → Opens k rec (frontOf k rec) o
-  front-short o h p = opens-refused k rec (frontOf k rec) ShorterThanFront o p (unfold frontOf in rw (lt-ltb (length rec) (frontChips k) h))
+  pub front-short : (o : Opening) → length rec < frontChips k → o .front ≡ front.Refused ShorterThanFront
+      → Opens k rec (frontOf k rec) o
+  front-short o h p = opens-refused k rec (frontOf k rec) ShorterThanFront o p
+      (unfold frontOf in rw (lt-ltb (length rec) (frontChips k) h))
 
   module _
       (chips : ℕ) (f : Found) (e : chips ≡ frontChips k) (h : chips ≤ length rec)
       (g : whereFound f ≡ firstUnusable 0 (take (chips - 0) (drop 0 rec))) where
     searched : firstUnusable 0 (take (frontChips k) rec) ≡ whereFound f
-    searched = let z : chips - 0 ≡ frontChips k = omega arith in sym (g ∙ ap (λ (m : ℕ). firstUnusable 0 (take m rec)) z)
+    searched = let z : chips - 0 ≡ frontChips k = omega arith in sym
+        (g ∙ ap (λ (m : ℕ). firstUnusable 0 (take m rec)) z)
 
     enough : frontChips k ≤ length rec
     enough = omega arith
 
-    pub front-unusable : (o : Opening) (place : ℕ) → f ≡ At place → o .front ≡ front.Refused (Unusable place 0) → Opens k rec (frontOf k rec) o
+    pub front-unusable : (o : Opening) (place : ℕ) → f ≡ At place → o .front ≡ front.Refused (Unusable place 0)
+        → Opens k rec (frontOf k rec) o
     front-unusable o place t p =
-        opens-refused k rec (frontOf k rec) (Unusable place 0) o p (unfold frontOf in rw (le-ltb (length rec) (frontChips k) enough, searched, t))
+        opens-refused k rec (frontOf k rec) (Unusable place 0) o p
+        (unfold frontOf in rw (le-ltb (length rec) (frontChips k) enough, searched, t))
 
     pub front-usable : (o : Opening) → f ≡ Nothing → Opens k rec (afterUsable k rec) o → Opens k rec (frontOf k rec) o
     front-usable o t x = record {
@@ -88,40 +103,47 @@ module _ (k : Kind) (rec : List Taken) where
 
 -- ---- the payload
 
-module _ (k : Kind) (r : Rate) (l n : ℕ) (rec : List Taken) (room : ℕ) (all : ℕ) (a : all ≡ frameChips k r n) where
-  pub payload-ends : length rec < all → reading.Refused (Ends l) ≡ payloadReading k r l n rec room
+module _ (k : Kind) (r : Rate) (l n : ℕ) (rec : List Taken) (room : ℕ) where
+  pub payload-ends : (all : ℕ) → all ≡ frameChips k r n → length rec < all
+      → reading.Refused (Ends l) ≡ payloadReading k r l n rec room
   unfolding payloadReading
-  payload-ends h = rw (← a, lt-ltb (length rec) all h)
+  payload-ends all a h = rw (← a, lt-ltb (length rec) all h)
 
-  module _ (h : all ≤ length rec) where
-    pub payload-room : room < n → reading.Refused (OctetRoom l) ≡ payloadReading k r l n rec room
-    unfolding payloadReading
-    payload-room g = rw (← a, le-ltb (length rec) all h, lt-ltb room n g)
+  pub payload-room : (all : ℕ) → all ≡ frameChips k r n → all ≤ length rec → room < n
+      → reading.Refused (OctetRoom l) ≡ payloadReading k r l n rec room
+  unfolding payloadReading
+  payload-room all a h g = rw (← a, le-ltb (length rec) all h, lt-ltb room n g)
 
-    module _
-        (g : n ≤ room) (from : ℕ) (b : from ≡ frontChips k) (f : Found)
-        (e : whereFound f ≡ firstUnusable from (take (all - from) (drop from rec))) where
-      pub payload-unusable : (place : ℕ) → f ≡ At place → reading.Refused (Unusable place l) ≡ payloadReading k r l n rec room
-      unfolding payloadReading
-      payload-unusable place t = rw (← a, ← b, le-ltb (length rec) all h, le-ltb room n g, ← e, t)
+  -- 16 and 17 are through, and the payload's chips are searched
+  pub record Searched (all : ℕ) (f : Found) : Type 0 where
+    pub whole : all ≡ frameChips k r n
+    pub long : all ≤ length rec
+    pub fits : n ≤ room
+    pub from : ℕ
+    pub at-front : from ≡ frontChips k
+    pub is : whereFound f ≡ firstUnusable from (take (all - from) (drop from rec))
 
-      module _ (t : f ≡ Nothing) (o : Found) (p : whereFound o ≡ payloadOdd k r n rec) where
-        pub payload-odd-growth : (place : ℕ) → o ≡ At place → reading.Refused (OddGrowth place l) ≡ payloadReading k r l n rec room
-        unfolding payloadReading
-        payload-odd-growth place u = rw (← a, ← b, le-ltb (length rec) all h, le-ltb room n g, ← e, t, ← p, u)
+  pub payload-unusable : {all : ℕ} {f : Found} (place : ℕ) → Searched all f → f ≡ At place
+      → reading.Refused (Unusable place l) ≡ payloadReading k r l n rec room
+  unfolding payloadReading
+  payload-unusable {all} place s t =
+      rw (← s .whole, ← s .at-front, le-ltb (length rec) all (s .long), le-ltb room n (s .fits), ← s .is, t)
 
-        pub payload-good : o ≡ Nothing → reading.Good r l n all ≡ payloadReading k r l n rec room
-        unfolding payloadReading
-        payload-good u = rw (← a, ← b, le-ltb (length rec) all h, le-ltb room n g, ← e, t, ← p, u)
+  -- what hearing left is what reading leaves
+  left : (all : ℕ) (o : Found)
+      → octetsHeard k r n rec room (whereFound o) ≡ octetsAfter k rec room (afterHeard r l n all (whereFound o))
+  left all Nothing = refl
+  left all (At place) = refl
 
--- what hearing left is what reading leaves
-pub left-odd : (k : Kind) (r : Rate) (n : ℕ) (rec : List Taken) (room place : ℕ) (o : Found) (out : List ℕ) → o ≡ At place
-    → out ≡ octetsHeard k r n rec room (whereFound o) → out ≡ replicate room 0
-left-odd k r n rec room place o out e f = f ∙ ap (λ (g : Found). octetsHeard k r n rec room (whereFound g)) e
-
-pub left-good : (k : Kind) (r : Rate) (n : ℕ) (rec : List Taken) (room : ℕ) (o : Found) (out : List ℕ) → o ≡ Nothing
-    → out ≡ octetsHeard k r n rec room (whereFound o) → out ≡ payloadOf k r n rec ++ replicate (room - n) 0
-left-good k r n rec room o out e f = f ∙ ap (λ (g : Found). octetsHeard k r n rec room (whereFound g)) e
+  pub payload-heard : {all : ℕ} {f : Found} (o : Found) (g : Reading) (out : List ℕ) → Searched all f → f ≡ Nothing
+      → whereFound o ≡ payloadOdd k r n rec → out ≡ octetsHeard k r n rec room (whereFound o)
+      → g ≡ afterHeard r l n all (whereFound o)
+      → (g ≡ payloadReading k r l n rec room) × (out ≡ octetsAfter k rec room g)
+  unfolding payloadReading
+  payload-heard {all} o g out s t p q e =
+      let tests : afterHeard r l n all (whereFound o) ≡ payloadReading k r l n rec room =
+      rw (← s .whole, ← s .at-front, le-ltb (length rec) all (s .long), le-ltb room n (s .fits), ← s .is, t, ← p) in
+      (e ∙ tests, rw e (q ∙ left all o))
 
 -- ---- the whole
 
@@ -140,12 +162,15 @@ module _ (kind : ℕ) (agree : Bool) (rec : List Taken) (room : ℕ) where
   read-rows out e a z = both (reading.Refused RowsDiffer) out (unfold readingOf in rw (e, a)) z
 
   module _
-      (e : isKind kind ≡ true) (a : agree ≡ true) (k : Kind) (c : k ≡ kindOf kind) (o : Opening) (x : Opens k rec (frontOf k rec) o) where
+      (e : isKind kind ≡ true) (a : agree ≡ true) (k : Kind) (c : k ≡ kindOf kind) (o : Opening)
+      (x : Opens k rec (frontOf k rec) o) where
     pub read-refused : (w : Refusal) (out : List ℕ) → o .front ≡ front.Refused w → out ≡ replicate room 0
         → (reading.Refused w ≡ readingOf kind agree rec room) × (out ≡ octetsFound kind agree rec room)
     read-refused w out t z = both (reading.Refused w) out (unfold readingOf in rw (e, a, ← c, ← x .told, t)) z
 
-    pub read-told : (r : Rate) (l n : ℕ) (g : Reading) (out : List ℕ) → o .front ≡ front.Fields r l n → g ≡ payloadReading k r l n rec room
+    pub read-told : (r : Rate) (l n : ℕ) (g : Reading) (out : List ℕ) → o .front ≡ front.Fields r l n → g
+        ≡ payloadReading k r l n rec room
         → out ≡ octetsAfter k rec room g → (g ≡ readingOf kind agree rec room) × (out ≡ octetsFound kind agree rec room)
     read-told r l n g out t p q =
-        both g out (p ∙ (unfold readingOf in rw (e, a, ← c, ← x .told, t))) (q ∙ ap (λ (i : Kind). octetsAfter i rec room g) c)
+        both g out (p ∙ (unfold readingOf in rw (e, a, ← c, ← x .told, t)))
+        (q ∙ ap (λ (i : Kind). octetsAfter i rec room g) c)

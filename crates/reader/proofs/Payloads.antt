@@ -1,4 +1,5 @@
--- The payload, heard on the line that the front left with its symbols numbered anew: its odd growths and its octets are those that the
+-- The payload, heard on the line that the front left with its symbols numbered anew: its odd growths and its octets are
+-- those that the
 -- definition finds in all of the frame's bits at once.
 --     payload-odd, payload-octets    of n octets heard
 --     octets-back                    the part of the buffer that was lent for them, back in its place
@@ -40,7 +41,8 @@ use Rattle.recorders.specs.Rows.{whereFound}
 use Rattle.hearing.specs.declared.Line.{Line}
 use Rattle.hearing.specs.declared.Hearing.{Hearing}
 use Rattle.hearing.specs.Hearing.{PartHeard}
-use Rattle.hearing.proofs.Passes.{heard-length, decidedWords-length}
+use Rattle.bits.proofs.Heard.{heard-length}
+use Rattle.hearing.proofs.Passes.{decidedWords-length}
 use Rattle.reader.specs.Openings.{Opened}
 
 -- how many bits the front has
@@ -56,7 +58,8 @@ preamble-bits k rec = omega (arith, decidedWords-length One (preambleLength k) r
 front-length : (k : Kind) (rec : List Taken) → length (frontHeard k rec) ≡ preambleLength k + headerLength
 unfolding frontHeard
 front-length k rec =
-    length-append (heard One 0 (reference k rec) (preambleWords k rec)) (heard (headerRate k) 0 (headerPhase k rec) (headerWords k rec))
+    length-append (heard One 0 (reference k rec) (preambleWords k rec))
+    (heard (headerRate k) 0 (headerPhase k rec) (headerWords k rec))
     ∙ ap₂ {C = ℕ} (λ x y. x + y)
     (heard-length One 0 (reference k rec) (preambleWords k rec) ∙ preamble-bits k rec)
     (heard-length (headerRate k) 0 (headerPhase k rec) (headerWords k rec) ∙ header-bits k rec)
@@ -68,7 +71,8 @@ module _
   unfolding payloadOdd payloadWords
   payload-odd =
       x .line .place
-      ∙ ap (λ (p : ℕ). oddGrowth r (frontChips k) (growthsOf r p (decidedWords r (8 * n / symbolBits r) (drop (frontChips k) rec)))) (o .at-phase)
+      ∙ ap (λ (p : ℕ). oddGrowth r (frontChips k)
+      (growthsOf r p (decidedWords r (8 * n / symbolBits r) (drop (frontChips k) rec)))) (o .at-phase)
 
   pub payload-octets : out ≡ payloadOf k r n rec
   unfolding payloadOf payloadWords
@@ -80,7 +84,8 @@ module _
       ∙ ap (octetsOf n)
       (descramble-window (lastFirst (l .past)) (pastAfter (start k) (frontHeard k rec)) bits (o .past)
       ∙ sym (ap (drop (preambleLength k + headerLength)) (descramble-append (start k) (frontHeard k rec) bits)
-      ∙ drop-at (descramble (start k) (frontHeard k rec)) (descramble (pastAfter (start k) (frontHeard k rec)) bits) (preambleLength k + headerLength)
+      ∙ drop-at (descramble (start k) (frontHeard k rec)) (descramble (pastAfter (start k) (frontHeard k rec)) bits)
+      (preambleLength k + headerLength)
       (descramble-length (start k) (frontHeard k rec) ∙ front-length k rec)))
 
 -- the first n octets of a buffer, as they are lent
@@ -93,7 +98,8 @@ drop-replicate (suc n) zero = let e : 0 ≡ 0 - suc n = omega arith in ap (λ (m
 drop-replicate (suc n) (suc room) =
     let e : room - n ≡ suc room - suc n = omega arith in drop-replicate n room ∙ ap (λ (m : ℕ). replicate m 0) e
 
-pub octets-back : (n : ℕ) (d out xs : List ℕ) → d ≡ replicate (length d) 0 → out ≡ xs → out ++ drop (n - 0) d ≡ xs ++ replicate (length d - n) 0
+pub octets-back : (n : ℕ) (d out xs : List ℕ) → d ≡ replicate (length d) 0 → out ≡ xs → out ++ drop (n - 0) d
+    ≡ xs ++ replicate (length d - n) 0
 octets-back n d out xs e f =
     let z : n - 0 ≡ n = omega arith in
     ap₂ {C = List ℕ} (λ a b. a ++ b) f (ap (λ (m : ℕ). drop m d) z ∙ ap (drop n) e ∙ drop-replicate n (length d))

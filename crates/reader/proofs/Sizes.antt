@@ -18,7 +18,16 @@ use Rattle.bits.specs.Bits.{numberOf}
 use Rattle.bits.specs.Crc.{crcBits}
 use Rattle.frame.specs.declared.Kind.{Kind}
 use Rattle.frame.specs.declared.Refusal.{Refusal}
-use Rattle.frame.specs.declared.Refusal.the-variants.{ShorterThanFront, Unusable, OddGrowth, Sfd, Crc, Signal, Service, Length}
+use Rattle.frame.specs.declared.Refusal.the-variants.{
+  ShorterThanFront,
+  Unusable,
+  OddGrowth,
+  Sfd,
+  Crc,
+  Signal,
+  Service,
+  Length,
+}
 use Rattle.frame.specs.declared.Front.{Front}
 use Rattle.frame.specs.declared.Front.the-variants.{Refused, Fields}
 use Rattle.frame.specs.Frame.{sfdOf, frontChips, goesWith}
@@ -61,15 +70,19 @@ fields-small k signal service l =
     let seven = service / 128 % 2 in
     let told = Fields r l (natAbs (octetsRead r l seven)) in
     cond-small (not (isCode signal && goesWith k r)) (Signal l)
-    (cond (not (serviceAllowed r service)) (Refused (Service l)) (cond (not (lengthHolds r l seven)) (Refused (Length l)) told))
-    (λ a. cond-small (not (serviceAllowed r service)) (Service l) (cond (not (lengthHolds r l seven)) (Refused (Length l)) told)
+    (cond (not (serviceAllowed r service)) (Refused (Service l))
+    (cond (not (lengthHolds r l seven)) (Refused (Length l)) told))
+    (λ a. cond-small (not (serviceAllowed r service)) (Service l)
+    (cond (not (lengthHolds r l seven)) (Refused (Length l)) told)
     (λ b. cond-small (not (lengthHolds r l seven)) (Length l) told
-    (λ c. told-small r l (natAbs (octetsRead r l seven)) (holds-small r l seven (not-false (lengthHolds r l seven) c)))))
+    (λ c. told-small r l (natAbs (octetsRead r l seven))
+    (holds-small r l seven (not-false (lengthHolds r l seven) c)))))
 
 header-small : (k : Kind) (sfd header : List ℕ) → Small (headerOf k sfd header)
 unfolding headerOf
 header-small k sfd header =
-    let fields = fieldsOf k (numberOf (take 8 header)) (numberOf (take 8 (drop 8 header))) (numberOf (take 16 (drop 16 header))) in
+    let fields = fieldsOf k (numberOf (take 8 header)) (numberOf (take 8 (drop 8 header)))
+    (numberOf (take 16 (drop 16 header))) in
     let crc = not (sameBits (crcBits (take 32 header)) (drop 32 header)) in
     cond-small (not (eqb (numberOf sfd) (sfdOf k))) Sfd (cond crc (Refused Crc) fields)
     (λ a. cond-small crc Crc fields (λ b. fields-small k _ _ _))

@@ -1,4 +1,5 @@
--- What is known of a line once the front is heard, and what a payload heard leaves in the octet buffer. Definitions only. Assumes nothing.
+-- What is known of a line once the front is heard, and what a payload heard leaves in the octet buffer. Definitions
+-- only. Assumes nothing.
 use mathlib.Core.Path.{_≡_}
 use mathlib.Core.List.{List, _++_}
 use mathlib.Core.Option.{Option, none, some}
@@ -13,6 +14,8 @@ use Rattle.frame.specs.declared.Kind.the-variants.{Long, Short}
 use Rattle.frame.specs.declared.Refusal.the-variants.{OddGrowth}
 use Rattle.frame.specs.declared.Front.{Front}
 use Rattle.frame.specs.declared.Front.the-variants.{Refused, Fields}
+use Rattle.frame.specs.declared.Reading.{Reading}
+use Rattle.frame.specs.declared.Reading.the-variants as reading
 use Rattle.frame.specs.Frame.{start, syncBits, preambleLength}
 use Rattle.frame.specs.Reading.{orElse, frontOdd, frontHeard, frontBits, headerOf, payloadPhase, payloadOf}
 use Rattle.recorders.specs.Rows.{whereFound}
@@ -31,7 +34,8 @@ pub record Starts (k : Kind) (phase : ℕ) (l : Line) : Type 0 where
   pub at-odd : l .odd ≡ 0
   pub past : take 7 (lastFirst (l .past)) ≡ start k
 
--- the line once the front is heard: the payload's first symbol grows from its phase, and its bits are unscrambled after the front's
+-- the line once the front is heard: the payload's first symbol grows from its phase, and its bits are unscrambled after
+-- the front's
 pub record Opened (k : Kind) (rec : List Taken) (l : Line) : Type 0 where
   pub at-phase : l .phase ≡ payloadPhase k rec
   pub small : l .phase < 4
@@ -59,3 +63,7 @@ pub record Opens (k : Kind) (rec : List Taken) (f : Front) (o : Opening) : Type 
 abbrev pub octetsHeard : Kind → Rate → ℕ → List Taken → ℕ → Option ℕ → List ℕ
 octetsHeard k r n rec room none = payloadOf k r n rec ++ replicate (room - n) 0
 octetsHeard k r n rec room (some place) = replicate room 0
+
+-- what a payload of usable chips comes to: 10, or the whole answer
+abbrev pub afterHeard : Rate → ℕ → ℕ → ℕ → Option ℕ → Reading
+afterHeard r l n used odd = orElse odd (λ place. reading.Refused (OddGrowth place l)) (reading.Good r l n used)

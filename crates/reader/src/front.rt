@@ -64,7 +64,8 @@ fn first_line(kind: Kind, phase: u8) -> Line
 // SYNC, the SFD and the header, heard to their end.
 fn hear_front(rec: Recorder, hard: &[u8], i: &[f32], q: &[f32], kind: Kind) -> FrontHeard
     requires { ⌜ frontChips kind ≤ length (recordingOf rec (now hard) (now i) (now q)) ⌝ }
-    ensures answer { λ r. ⌜ FrontKnown kind (recordingOf rec (now (hard .entry)) (now (i .entry)) (now (q .entry))) r ⌝ }
+    ensures answer { λ r. ⌜ FrontKnown kind
+        (recordingOf rec (now (hard .entry)) (now (i .entry)) (now (q .entry))) r ⌝ }
 {
     let reference = recorders::decide(rec, hard, i, q, Rate::One, 0) as u8;
     let line = first_line(kind, reference);

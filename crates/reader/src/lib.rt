@@ -80,7 +80,8 @@ pub fn read(
 
 // A hard recording: octets, 0 to 3 a phase, 4 lost, 5 to 255 unusable.
 pub fn read_hard(kind: u64, chips: &[u8], octets: &mut [u8]) -> Record
-    ensures answer { λ r. ⌜ r ≡ recordOf (readingOf kind true (hardRecording (now (chips .entry))) (length (now (octets .entry)))) ⌝ }
+    ensures answer { λ r. ⌜ r ≡
+        recordOf (readingOf kind true (hardRecording (now (chips .entry))) (length (now (octets .entry)))) ⌝ }
     ensures octets { λ _. ⌜ now (octets .exit) ≡
         octetsFound kind true (hardRecording (now (chips .entry))) (length (now (octets .entry))) ⌝ }
 {
@@ -94,7 +95,8 @@ pub fn read_hard(kind: u64, chips: &[u8], octets: &mut [u8]) -> Record
 pub fn read_soft(kind: u64, i: &[f32], q: &[f32], octets: &mut [u8]) -> Record
     ensures answer { λ r. ⌜ r ≡ recordOf (readingOf kind (eqb (length (now (i .entry))) (length (now (q .entry))))
         (softRecording (now (i .entry)) (now (q .entry))) (length (now (octets .entry)))) ⌝ }
-    ensures octets { λ _. ⌜ now (octets .exit) ≡ octetsFound kind (eqb (length (now (i .entry))) (length (now (q .entry))))
+    ensures octets { λ _. ⌜ now (octets .exit) ≡
+        octetsFound kind (eqb (length (now (i .entry))) (length (now (q .entry))))
         (softRecording (now (i .entry)) (now (q .entry))) (length (now (octets .entry))) ⌝ }
 {
     let none = [0u8; 1];

@@ -5,7 +5,7 @@ ghost use lib.ListN.{length, replicate};
 ghost use Rattle.frame.specs.Frame.{frameChips};
 ghost use Rattle.frame.specs.Reading.{payloadOdd, payloadReading, octetsAfter};
 ghost use Rattle.recorders.specs.Rows.{recordingOf, whereFound};
-ghost use Rattle.reader.specs.Openings.{Opened, octetsHeard};
+ghost use Rattle.reader.specs.Openings.{Opened, octetsHeard, afterHeard};
 use frame::Kind;
 use frame::Reading;
 use frame::Refusal;
@@ -26,8 +26,8 @@ fn hear_payload(
     line: Line,
     octets: &mut [u8],
 ) -> Found
-    requires { ⌜ (frameChips kind rate n ≤ length (recordingOf rec (now hard) (now i) (now q))) × (n ≤ length (now octets))
-        × (Opened kind (recordingOf rec (now hard) (now i) (now q)) line)
+    requires { ⌜ (frameChips kind rate n ≤ length (recordingOf rec (now hard) (now i) (now q)))
+        × (n ≤ length (now octets)) × (Opened kind (recordingOf rec (now hard) (now i) (now q)) line)
         × (now octets ≡ replicate (length (now octets)) 0) ⌝ }
     ensures answer { λ r. ⌜ whereFound r ≡
         payloadOdd kind rate n (recordingOf rec (now (hard .entry)) (now (i .entry)) (now (q .entry))) ⌝ }
@@ -53,7 +53,26 @@ fn hear_payload(
     }
 }
 
-// A payload of n octets, after a front that tells it and LENGTH, into a buffer of zeros: 16, 17, then 9 and 10 over the payload.
+// What a payload of usable chips comes to: 10, or the whole answer.
+fn heard(rate: Rate, field: usize, n: usize, used: usize, odd: Found) -> Reading
+    ensures answer { λ r. ⌜ r ≡ afterHeard rate field n used (whereFound odd) ⌝ }
+{
+    match odd {
+        Found::At(place) => Reading::Refused(Refusal::OddGrowth {
+            place,
+            length: field,
+        }),
+        Found::Nothing => Reading::Good {
+            rate,
+            length: field,
+            n,
+            used,
+        },
+    }
+}
+
+// A payload of n octets, after a front that tells it and LENGTH, into a buffer of zeros: 16, 17, then 9 and 10 over
+// the payload.
 pub fn read_payload(
     rec: Recorder,
     hard: &[u8],
@@ -89,18 +108,7 @@ pub fn read_payload(
         }),
         Found::Nothing => {
             let odd = hear_payload(rec, hard, i, q, kind, rate, n, line, octets);
-            match odd {
-                Found::At(place) => Reading::Refused(Refusal::OddGrowth {
-                    place,
-                    length: field,
-                }),
-                Found::Nothing => Reading::Good {
-                    rate,
-                    length: field,
-                    n,
-                    used: all,
-                },
-            }
+            heard(rate, field, n, all, odd)
         }
     }
 }

@@ -22,12 +22,15 @@ part-cons rec at to d h k =
     let e : to - at ≡ suc (to - (at + 1)) = omega arith in
     rw (e, drop-cons rec at d (omega arith), add-one)
 
-pub search-on : (rec : List Taken) (at to : ℕ) (d : Taken) → at < to → to ≤ length rec → isUnusable (getD rec at d) ≡ false
-    → firstUnusable at (take (to - at) (drop at rec)) ≡ firstUnusable (at + 1) (take (to - (at + 1)) (drop (at + 1) rec))
+pub search-on : (rec : List Taken) (at to : ℕ) (d : Taken) → at < to → to ≤ length rec → isUnusable (getD rec at d)
+    ≡ false
+    → firstUnusable at (take (to - at) (drop at rec))
+    ≡ firstUnusable (at + 1) (take (to - (at + 1)) (drop (at + 1) rec))
 unfolding firstUnusable
 search-on rec at to d h k u = rw (part-cons rec at to d h k, u, add-one)
 
-pub search-here : (rec : List Taken) (at to : ℕ) (d : Taken) → at < to → to ≤ length rec → isUnusable (getD rec at d) ≡ true
+pub search-here : (rec : List Taken) (at to : ℕ) (d : Taken) → at < to → to ≤ length rec → isUnusable (getD rec at d)
+    ≡ true
     → firstUnusable at (take (to - at) (drop at rec)) ≡ some at
 unfolding firstUnusable
 search-here rec at to d h k u = rw (part-cons rec at to d h k, u)

@@ -9,7 +9,8 @@ use Rattle.recorders.specs.declared.Recorder.the-variants.{Hard, Soft}
 use Rattle.recorders.specs.declared.Found.{Found}
 use Rattle.recorders.specs.declared.Found.the-variants.{Nothing, At}
 
--- a hard recording is its octets; a soft one its two rows of f32. The rows that a recorder does not use are not looked at
+-- a hard recording is its octets; a soft one its two rows of f32. The rows that a recorder does not use are not looked
+-- at
 abbrev pub recordingOf : Recorder → List ℕ → List Float → List Float → List Taken
 recordingOf Hard hard i q = hardRecording hard
 recordingOf Soft hard i q = softRecording i q

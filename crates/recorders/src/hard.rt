@@ -11,7 +11,8 @@ use chips::Chip;
 
 pub fn first_unusable(hard: &[u8], from: usize, to: usize) -> Found
     requires { ⌜ to ≤ length (now hard) ⌝ }
-    ensures answer { λ r. ⌜ whereFound r ≡ firstUnusable from (take (to - from) (drop from (hardRecording (now (hard .entry))))) ⌝ }
+    ensures answer { λ r. ⌜ whereFound r ≡
+        firstUnusable from (take (to - from) (drop from (hardRecording (now (hard .entry))))) ⌝ }
 {
     let mut at = from;
     while at < to {

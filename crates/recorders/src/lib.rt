@@ -1,5 +1,5 @@
-// Recorders: what reading asks of rows that are lent, whatever recorded them. A recorder is a variant here, its chips in
-// a module of its own, and an arm in the functions below.
+// Recorders: what reading asks of rows that are lent, whatever recorded them. A recorder is a variant here, its
+// chips in a module of its own, and an arm in the functions below.
 ghost use mathlib.Core.Path.{_≡_};
 ghost use mathlib.Core.List.{map};
 ghost use Prim.Native.Nat.{_+_, _-_, _≤_};

@@ -24,9 +24,11 @@ bound n p e h = (rw e at (h .0), h .1)
 
 one : {r : Rate} (at : ℕ) (l m : Line) (n g : ℕ) (o : Found) → r ≡ One → Next One l n m → g ≡ grownBy (l .phase) n
     → whereFound o ≡ oddGrowth One at (g ∷ []) → Heard r at l (n ∷ []) (record { line = m; odd = o })
-one at l m n g o e x f h = rw e (heard-one at o x (h ∙ ap (λ (k : ℕ). oddGrowth One at (k ∷ [])) f ∙ (unfold growthsOf in refl)))
+one at l m n g o e x f h = rw e
+    (heard-one at o x (h ∙ ap (λ (k : ℕ). oddGrowth One at (k ∷ [])) f ∙ (unfold growthsOf in refl)))
 
-other : {r s : Rate} (at : ℕ) (l m : Line) (n : ℕ) → r ≡ s → ((gs : _) → whereFound Nothing ≡ oddGrowth s at gs) → Next s l n m
+other : {r s : Rate} (at : ℕ) (l m : Line) (n : ℕ) → r ≡ s → ((gs : _) → whereFound Nothing ≡ oddGrowth s at gs)
+    → Next s l n m
     → Heard r at l (n ∷ []) (record { line = m; odd = Nothing })
 other at l m n e f x = rw e (heard-one at Nothing x (f _))
 
@@ -47,7 +49,8 @@ eleven-requires c κs = bound _ _ (c .enum-told4 .given .1) (c .before .before .
 
 returns : tie.Need-returns
 returns c =
-    one _ _ _ _ _ _ (c .before .before .before .enum-told .given .1) (c .one .ensures) (c .before .before .grown-by .ensures .0)
+    one _ _ _ _ _ _ (c .before .before .before .enum-told .given .1) (c .one .ensures)
+    (c .before .before .grown-by .ensures .0)
     (c .before .odd-growth .ensures)
 
 returns-2 : tie.Need-returns-2

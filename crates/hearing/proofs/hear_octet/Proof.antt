@@ -15,7 +15,8 @@ use Rattle.hearing.proofs.hear_octet.Statement.{statement}
 use Rattle.hearing.proofs.hear_octet.Tie as tie
 
 abbrev Inv-loop : tie.InvT-loop
-Inv-loop rec hard i q rate at line count chips heard₀ place₀ j₀ heard place j = Symbols rate at (recordingOf rec hard i q) line heard place j
+Inv-loop rec hard i q rate at line count chips heard₀ place₀ j₀ heard place j = Symbols rate at
+    (recordingOf rec hard i q) line heard place j
 
 abbrev μ-loop : tie.MeasureT-loop
 μ-loop rec hard i q rate at line count chips heard₀ place₀ j₀ heard place j = count - j
@@ -23,12 +24,15 @@ abbrev μ-loop : tie.MeasureT-loop
 -- in a turn there is room for a symbol more
 within : (c : tie.In-loop Inv-loop μ-loop)
     → c .before .loop .place + symbolChips (c .before .before .before .before .before .before .before .args .rate)
-    ≤ length (recordingOf (c .before .before .before .before .before .before .before .args .rec) (c .before .before .before .before .before .before .before .args .hard .now)
-    (c .before .before .before .before .before .before .before .args .i .now) (c .before .before .before .before .before .before .before .args .q .now))
+    ≤ length (recordingOf (c .before .before .before .before .before .before .before .args .rec)
+    (c .before .before .before .before .before .before .before .args .hard .now)
+    (c .before .before .before .before .before .before .before .args .i .now)
+    (c .before .before .before .before .before .before .before .args .q .now))
 within c =
     let start = c .before .before .before .before .before .before .before in
     rw (c .before .loop .inv .at-place)
-    (symbol-room (start .args .rate) (start .args .at) (c .before .loop .j) _ (omega (arith, c .before .before .before .octet-symbols .ensures)) (start .pre .0))
+    (symbol-room (start .args .rate) (start .args .at) (c .before .loop .j) _
+    (omega (arith, c .before .before .before .octet-symbols .ensures)) (start .pre .0))
 
 loop-holds : tie.Need-loop-holds Inv-loop μ-loop
 loop-holds c = symbols-none _ _ _ _ (c .before .before .before .before .before .pre .1)
@@ -37,7 +41,10 @@ decide-requires : tie.Need-decide-requires Inv-loop μ-loop
 decide-requires c κs = within c
 
 hear-requires : tie.Need-hear-requires Inv-loop μ-loop
-hear-requires c κs = (rw (c .before .decide .ensures) (decided-below _ _), c .before .before .before .loop .inv .line .small)
+hear-requires c κs = (
+  rw (c .before .decide .ensures) (decided-below _ _),
+  c .before .before .before .loop .inv .line .small,
+)
 
 add-place : tie.Need-add-place Inv-loop μ-loop
 add-place c =
@@ -47,7 +54,8 @@ add-place c =
       arith,
       within turn,
       turn .before .before .symbol-chips .ensures,
-      recording-fits (start .args .rec) (start .args .hard .now) (start .args .i .now) (start .args .q .now) (2 ^ 64) (start .good .1 .0 .0) (start .good .1 .1 .0 .0),
+      recording-fits (start .args .rec) (start .args .hard .now) (start .args .i .now) (start .args .q .now) (2 ^ 64)
+          (start .good .1 .0 .0) (start .good .1 .1 .0 .0),
     )
 
 loop-again : tie.Need-loop-again Inv-loop μ-loop
@@ -56,14 +64,16 @@ loop-again c =
     let loop = turn .before .loop in
     symbols-more _ _ _ _ _ _ _ (loop .place) (loop .j) _ _ (loop .inv)
     (subst (λ (n : ℕ). loop .j < n) (turn .before .before .before .octet-symbols .ensures) (turn .loop-test .taken))
-    (c .before .before .before .decide .ensures) (c .before .hear .ensures) (c .joined .ensures) (turn .before .before .symbol-chips .ensures)
+    (c .before .before .before .decide .ensures) (c .before .hear .ensures) (c .joined .ensures)
+    (turn .before .before .symbol-chips .ensures)
 
 returns : tie.Need-returns Inv-loop μ-loop
 returns c =
     let end = c .before .before .before .before in
     let loop = end .before .loop in
     symbols-all _ _ _ _ _ (loop .place) (loop .j) _ (loop .inv)
-    (subst (λ (n : ℕ). n ≤ loop .j) (end .before .before .before .octet-symbols .ensures) (end .loop-test .left)) (c .descramble-octet .ensures)
+    (subst (λ (n : ℕ). n ≤ loop .j) (end .before .before .before .octet-symbols .ensures) (end .loop-test .left))
+    (c .descramble-octet .ensures)
 
 pub hear-octet-spec : {M : Type 1} → statement M
 hear-octet-spec =

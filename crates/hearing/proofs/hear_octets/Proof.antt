@@ -20,14 +20,17 @@ abbrev μ-loop : tie.MeasureT-loop
 μ-loop rec hard i q rate at out₀ chips heard₀ place₀ k₀ out heard place k = length out₀ - k
 
 -- in a turn an octet more is asked for
-taken : (c : tie.In-loop Inv-loop μ-loop) → c .before .loop .k < length (c .before .before .before .before .before .before .before .args .out .now)
+taken : (c : tie.In-loop Inv-loop μ-loop)
+    → c .before .loop .k < length (c .before .before .before .before .before .before .before .args .out .now)
 taken c = omega (arith, c .before .loop .inv .long)
 
 -- and there is room for it in the recording
 within : (c : tie.In-loop Inv-loop μ-loop)
     → c .before .loop .place + octetChips (c .before .before .before .before .before .before .before .args .rate)
-    ≤ length (recordingOf (c .before .before .before .before .before .before .before .args .rec) (c .before .before .before .before .before .before .before .args .hard .now)
-    (c .before .before .before .before .before .before .before .args .i .now) (c .before .before .before .before .before .before .before .args .q .now))
+    ≤ length (recordingOf (c .before .before .before .before .before .before .before .args .rec)
+    (c .before .before .before .before .before .before .before .args .hard .now)
+    (c .before .before .before .before .before .before .before .args .i .now)
+    (c .before .before .before .before .before .before .before .args .q .now))
 within c =
     let start = c .before .before .before .before .before .before .before in
     rw (c .before .loop .inv .at-place)
@@ -47,27 +50,32 @@ add-place c =
       arith,
       within turn,
       turn .before .before .octet-chips .ensures,
-      recording-fits (start .args .rec) (start .args .hard .now) (start .args .i .now) (start .args .q .now) (2 ^ 64) (start .good .1 .0 .0) (start .good .1 .1 .0 .0),
+      recording-fits (start .args .rec) (start .args .hard .now) (start .args .i .now) (start .args .q .now) (2 ^ 64)
+          (start .good .1 .0 .0) (start .good .1 .1 .0 .0),
     )
 
 add-k : tie.Need-add-k Inv-loop μ-loop
 add-k c =
     let turn = c .before .before .before .before in
-    omega (arith, taken turn, turn .before .before .before .before .before .before .before .good .1 .1 .1 .1 .1 .1 .1 .0 .0)
+    let start = turn .before .before .before .before .before .before .before in
+    omega (arith, taken turn, start .good .1 .1 .1 .1 .1 .1 .1 .0 .0)
 
 loop-again : tie.Need-loop-again Inv-loop μ-loop
 loop-again c =
     let turn = c .before .before .before .before in
     let loop = turn .before .loop in
-    octets-more _ _ _ _ _ _ _ _ (loop .place) (loop .k) _ (loop .out) (loop .inv) (taken turn) (c .before .before .hear-octet .ensures)
+    octets-more _ _ _ _ _ _ _ _ (loop .place) (loop .k) _ (loop .out) (loop .inv) (taken turn)
+    (c .before .before .hear-octet .ensures)
     (c .joined .ensures) (turn .before .before .octet-chips .ensures)
 
 returns : tie.Need-returns Inv-loop μ-loop
-returns c = octets-all _ _ _ _ _ _ (c .before .loop .place) (c .before .loop .k) _ (c .before .loop .inv) (omega (arith, c .before .loop .inv .long))
+returns c = octets-all _ _ _ _ _ _ (c .before .loop .place) (c .before .loop .k) _ (c .before .loop .inv)
+    (omega (arith, c .before .loop .inv .long))
 
 pub hear-octets-spec : {M : Type 1} → statement M
 hear-octets-spec =
     tie.close
     (tie.spec
     Inv-loop μ-loop (λ c κs. search needs) loop-holds hear-octet-requires (λ c. omega arith) (λ c κs. search needs)
-    add-place add-k (λ c. omega (arith, taken (c .before .before .before .before))) loop-again (λ c. c .before .loop .inv .long) returns)
+    add-place add-k (λ c. omega (arith, taken (c .before .before .before .before))) loop-again
+    (λ c. c .before .loop .inv .long) returns)

@@ -1,4 +1,5 @@
--- `reader::clear` meets its contract. The invariant: the first k octets are 0, the others as they were. Assumes nothing.
+-- `reader::clear` meets its contract. The invariant: the first k octets are 0, the others as they were. Assumes
+-- nothing.
 use mathlib.Core.Path.{_≡_, refl, sym, ap, _∙_}
 use mathlib.Core.List.{List, [], _∷_, _++_, append-nil}
 use Prim.Native.Nat.{ℕ, _+_, _≤_, _<_, _-_}
@@ -17,7 +18,8 @@ Inv-loop octets₀ k₀ octets k =
 abbrev μ-loop : tie.MeasureT-loop
 μ-loop octets₀ k₀ octets k = length octets₀ - k
 
-turn : (s d : List ℕ) (k : ℕ) → s ≡ replicate k 0 ++ drop k d → k < length d → set s k 0 ≡ replicate (k + 1) 0 ++ drop (k + 1) d
+turn : (s d : List ℕ) (k : ℕ) → s ≡ replicate k 0 ++ drop k d → k < length d → set s k 0
+    ≡ replicate (k + 1) 0 ++ drop (k + 1) d
 turn s d k e h = rw e (fill-more k 0 d h)
 
 whole : (s d : List ℕ) (k : ℕ) → s ≡ replicate k 0 ++ drop k d → k ≡ length d → s ≡ replicate (length d) 0

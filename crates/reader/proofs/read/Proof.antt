@@ -10,6 +10,7 @@ use Rattle.chips.specs.Chips.{Taken}
 use Rattle.frame.specs.declared.Kind.{Kind}
 use Rattle.frame.specs.declared.Reading.{Reading}
 use Rattle.frame.specs.declared.Front.the-variants.{Fields}
+use Rattle.frame.specs.Writing.{isKind}
 use Rattle.frame.specs.Reading.{frontOf, payloadReading, octetsAfter}
 use borrow.Author.Needs.{needs}
 use Rattle.reader.specs.declared.Opening.{Opening}
@@ -20,42 +21,69 @@ use Rattle.reader.proofs.read.Statement.{statement}
 use Rattle.reader.proofs.read.Tie as tie
 
 -- what a front that tells fields hands on to the payload
-handed : (k : Kind) (rec : List Taken) (o : Opening) (r : Rate) (l n : ℕ) (d z : List ℕ) → Opens k rec (frontOf k rec) o → o .front ≡ Fields r l n
-    → z ≡ replicate (length d) 0 → length z ≡ length d → (n ≤ 4095) × (Opened k rec (o .line)) × (z ≡ replicate (length z) 0)
-handed k rec o r l n d z x t e f = (front-bound k rec r l n (sym (x .told) ∙ t), x .line r l n t, e ∙ ap (λ (m : ℕ). replicate m 0) (sym f))
+handed : (k : Kind) (rec : List Taken) (o : Opening) (r : Rate) (l n : ℕ) (d z : List ℕ) → Opens k rec (frontOf k rec) o
+    → o .front ≡ Fields r l n
+    → z ≡ replicate (length d) 0 → length z ≡ length d
+    → (n ≤ 4095) × (Opened k rec (o .line)) × (z ≡ replicate (length z) 0)
+handed k rec o r l n d z x t e f =
+    (front-bound k rec r l n (sym (x .told) ∙ t), x .line r l n t, e ∙ ap (λ (m : ℕ). replicate m 0) (sym f))
 
 -- the buffer is as long as it was
 as-long : (k : Kind) (r : Rate) (l n : ℕ) (rec : List Taken) (g : Reading) (out : List ℕ) (m room : ℕ) → m ≡ room
-    → (g ≡ payloadReading k r l n rec m) × (out ≡ octetsAfter k rec m g) → (g ≡ payloadReading k r l n rec room) × (out ≡ octetsAfter k rec room g)
+    → (g ≡ payloadReading k r l n rec m) × (out ≡ octetsAfter k rec m g)
+    → (g ≡ payloadReading k r l n rec room) × (out ≡ octetsAfter k rec room g)
 as-long k r l n rec g out m room e h =
     subst (λ (i : ℕ). (g ≡ payloadReading k r l n rec i) × (out ≡ octetsAfter k rec i g)) e h
 
 returns : tie.Need-returns
-returns c = read-no-kind _ _ _ _ _ (sym (c .before .is-kind .ensures) ∙ not-true _ (c .if1 .taken)) (c .before .before .before .before .clear .ensures)
+returns c = read-no-kind _ _ _ _ _ (sym (c .before .is-kind .ensures) ∙ not-true _ (c .if1 .taken))
+    (c .before .before .before .before .clear .ensures)
+
+-- past refusal 1
+kind-holds : (c : tie.Else1) → isKind
+    (c .before .before .before .before .before .before .before .before .before .before .args .kind) ≡ true
+kind-holds c = sym (c .before .is-kind .ensures) ∙ not-false _ (c .if1 .left)
 
 returns-2 : tie.Need-returns-2
 returns-2 c =
-    read-rows _ _ _ _ _ (sym (c .before .before .is-kind .ensures) ∙ not-false _ (c .before .if1 .left)) (not-true _ (c .if2 .taken)) (c .before .before .before .before .before .clear .ensures)
+    let first = c .before in
+    read-rows _ _ _ _ _ (kind-holds first) (not-true _ (c .if2 .taken))
+    (first .before .before .before .before .clear .ensures)
 
 read-payload-requires : tie.Need-read-payload-requires
 read-payload-requires c κs =
-    handed _ _ _ _ _ _ (c .before .before .before .before .before .before .before .before .before .before .before .before .before .before .before .before .before .before .args .octets .now) _ (c .before .before .before .before .before .read-front .ensures) (c .before .before .before .told2 .given .1) (c .before .before .before .before .before .before .before .before .before .before .before .before .clear .ensures) (c .before .before .before .before .before .before .before .before .before .before .before .before .clear .kept .0)
+    let opened = c .before .before .before .before .before in
+    let cleared = opened .before .before .before .before .before .before .before in
+    handed _ _ _ _ _ _ (cleared .before .before .before .before .before .before .args .octets .now) _
+    (opened .read-front .ensures) (c .before .before .before .told2 .given .1)
+    (cleared .clear .ensures) (cleared .clear .kept .0)
 
 returns-3 : tie.Need-returns-3
 returns-3 c =
-    read-refused _ _ _ _ (sym (c .before .before .before .before .before .before .before .is-kind .ensures) ∙ not-false _ (c .before .before .before .before .before .before .if1 .left)) (not-false _ (c .before .before .before .before .before .if2 .left)) _ (c .before .before .before .before .kind-of .ensures) _
-    (c .before .before .before .read-front .ensures) _ _ (c .before .told .given .1) (c .before .before .before .before .before .before .before .before .before .before .clear .ensures)
+    let opened = c .before .before .before in
+    let second = opened .before .before in
+    read-refused _ _ _ _ (kind-holds (second .before)) (not-false _ (second .if2 .left)) _
+    (opened .before .kind-of .ensures) _
+    (opened .read-front .ensures) _ _ (c .before .told .given .1)
+    (opened .before .before .before .before .before .before .before .clear .ensures)
 
 returns-4 : tie.Need-returns-4
 returns-4 c =
-    let left = as-long _ _ _ _ _ _ _ _ _ (c .before .before .before .before .before .before .before .before .before .before .before .before .before .before .before .clear .kept .0) (c .before .before .read-payload .ensures) in
-    read-told _ _ _ _ (sym (c .before .before .before .before .before .before .before .before .before .before .before .before .is-kind .ensures) ∙ not-false _ (c .before .before .before .before .before .before .before .before .before .before .before .if1 .left)) (not-false _ (c .before .before .before .before .before .before .before .before .before .before .if2 .left)) _ (c .before .before .before .before .before .before .before .before .before .kind-of .ensures) _
-    (c .before .before .before .before .before .before .before .before .read-front .ensures) _ _ _ _ _ (c .before .before .before .before .before .before .told2 .given .1) (left .0) (left .1)
+    let opened = c .before .before .before .before .before .before .before .before in
+    let second = opened .before .before in
+    let left = as-long _ _ _ _ _ _ _ _ _
+    (opened .before .before .before .before .before .before .before .clear .kept .0)
+    (c .before .before .read-payload .ensures) in
+    read-told _ _ _ _ (kind-holds (second .before)) (not-false _ (second .if2 .left)) _
+    (opened .before .kind-of .ensures) _
+    (opened .read-front .ensures) _ _ _ _ _ (c .before .before .before .before .before .before .told2 .given .1)
+    (left .0) (left .1)
 
 pub read-spec : {M : Type 1} → statement M
 read-spec =
     tie.close
     (tie.spec
     (λ c κs. search needs) (λ c κs. search needs) (λ c. search needs) returns (λ c. search needs)
-    returns-2 (λ c κs. search needs) (λ c κs. search needs) (λ c. search needs) (λ c. search needs) read-payload-requires
+    returns-2 (λ c κs. search needs) (λ c κs. search needs) (λ c. search needs) (λ c. search needs)
+    read-payload-requires
     (λ c. search needs) returns-3 (λ c. search needs) returns-4)

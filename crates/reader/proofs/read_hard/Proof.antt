@@ -6,11 +6,16 @@ use Rattle.reader.proofs.read_hard.Statement.{statement}
 use Rattle.reader.proofs.read_hard.Tie as tie
 
 returns : tie.Need-returns
-returns c = (c .record-of .ensures ∙ ap recordOf (c .before .before .before .read .ensures .0), c .before .before .before .read .ensures .1)
+returns c = (
+  c .record-of .ensures
+      ∙ ap recordOf (c .before .before .before .read .ensures .0),
+  c .before .before .before .read .ensures .1,
+)
 
 pub read-hard-spec : {M : Type 1} → statement M
 read-hard-spec =
     tie.close
     (tie.spec
-    (λ c. search needs) (λ c. search needs) (λ c. search needs) (λ c κs. search needs) (λ c κs. search needs) (λ c. search needs)
+    (λ c. search needs) (λ c. search needs) (λ c. search needs) (λ c κs. search needs) (λ c κs. search needs)
+    (λ c. search needs)
     returns)

@@ -9,7 +9,7 @@ use borrow.Author.Needs.{needs}
 use Rattle.recorders.specs.declared.Recorder.{Recorder}
 use Rattle.recorders.specs.declared.Recorder.the-variants.{Hard, Soft}
 use Rattle.recorders.specs.Rows.{recordingOf}
-use Rattle.recorders.proofs.Rows.{length-hard, length-soft}
+use Rattle.chips.proofs.Recorders.{length-hard, length-soft}
 use Rattle.recorders.proofs.chip_count.Statement.{statement}
 use Rattle.recorders.proofs.chip_count.Tie as tie
 
@@ -17,10 +17,12 @@ returns : tie.Need-returns
 returns c = rw (c .enum-told .given .1) (sym (length-hard _))
 
 returns-2 : tie.Need-returns-2
-returns-2 c = rw (c .before .enum-told2 .given .1) (omega (arith, length-soft (c .before .before .before .args .i .now) (c .before .before .before .args .q .now)))
+returns-2 c = rw (c .before .enum-told2 .given .1)
+    (omega (arith, length-soft (c .before .before .before .args .i .now) (c .before .before .before .args .q .now)))
 
 returns-3 : tie.Need-returns-3
-returns-3 c = rw (c .before .enum-told2 .given .1) (omega (arith, length-soft (c .before .before .before .args .i .now) (c .before .before .before .args .q .now)))
+returns-3 c = rw (c .before .enum-told2 .given .1)
+    (omega (arith, length-soft (c .before .before .before .args .i .now) (c .before .before .before .args .q .now)))
 
 pub chip-count-spec : {M : Type 1} → statement M
 chip-count-spec = tie.close (tie.spec (λ c. search needs) (λ c. search needs) returns returns-2 returns-3)

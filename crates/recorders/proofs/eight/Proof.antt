@@ -7,10 +7,12 @@ use Rattle.recorders.proofs.eight.Statement.{statement}
 use Rattle.recorders.proofs.eight.Tie as tie
 
 eight-requires : tie.Need-eight-requires
-eight-requires c κs = let start = c .before .before .before .before .before in room-hard _ _ _ (start .args .at + 8) (c .enum-told .given .1) (start .pre)
+eight-requires c κs = let start = c .before .before .before .before .before in room-hard _ _ _ (start .args .at + 8)
+    (c .enum-told .given .1) (start .pre)
 
 eight-requires-2 : tie.Need-eight-requires-2
-eight-requires-2 c κs = let start = c .before .before .before .before .before in room-soft _ _ _ (start .args .at + 8) (c .enum-told2 .given .1) (start .pre)
+eight-requires-2 c κs = let start = c .before .before .before .before .before in room-soft _ _ _ (start .args .at + 8)
+    (c .enum-told2 .given .1) (start .pre)
 
 returns : tie.Need-returns
 returns c = rw (c .before .enum-told .given .1) (c .eight .ensures)

@@ -7,10 +7,12 @@ use Rattle.recorders.proofs.eleven.Statement.{statement}
 use Rattle.recorders.proofs.eleven.Tie as tie
 
 eleven-requires : tie.Need-eleven-requires
-eleven-requires c κs = let start = c .before .before .before .before .before in room-hard _ _ _ (start .args .at + 11) (c .enum-told .given .1) (start .pre)
+eleven-requires c κs = let start = c .before .before .before .before .before in room-hard _ _ _ (start .args .at + 11)
+    (c .enum-told .given .1) (start .pre)
 
 eleven-requires-2 : tie.Need-eleven-requires-2
-eleven-requires-2 c κs = let start = c .before .before .before .before .before in room-soft _ _ _ (start .args .at + 11) (c .enum-told2 .given .1) (start .pre)
+eleven-requires-2 c κs = let start = c .before .before .before .before .before in room-soft _ _ _ (start .args .at + 11)
+    (c .enum-told2 .given .1) (start .pre)
 
 returns : tie.Need-returns
 returns c = rw (c .before .enum-told .given .1) (c .eleven .ensures)

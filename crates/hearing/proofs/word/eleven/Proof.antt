@@ -15,9 +15,20 @@ use Rattle.hearing.proofs.Passes.{growth-two}
 use Rattle.hearing.proofs.word.eleven.Statement.{statement}
 use Rattle.hearing.proofs.word.eleven.Tie as tie
 
-next : (l : Line) (n p g s : ℕ) → p ≡ turned (l .phase) (halfTurn (l .odd)) → g ≡ grownBy p (p1Of n) → s ≡ (g + 1) / 2 % 2
+next : (l : Line) (n p g s : ℕ) → p ≡ turned (l .phase) (halfTurn (l .odd)) → g ≡ grownBy p (p1Of n) → s
+    ≡ (g + 1) / 2 % 2
     → Next Eleven l n (record {
-      past = record { b0 = g / 2; b1 = s; b2 = p2Of n / 2; b3 = p2Of n % 2; b4 = p3Of n / 2; b5 = p3Of n % 2; b6 = p4Of n / 2; b7 = p4Of n % 2 };
+      past = record {
+        b0 = g / 2;
+        b1 = s;
+        b2 = p2Of n / 2;
+        b3 = p2Of n % 2;
+        b4 = p3Of n / 2;
+        b5 = p3Of n % 2;
+        b6 = p4Of
+            n / 2;
+        b7 = p4Of n % 2;
+      };
       phase = p1Of n;
       odd = (l .odd % 2 + 1) % 2;
     })
@@ -31,12 +42,14 @@ next l n p g s k e f =
     }
 
 returns : tie.Need-returns
-returns c = next _ _ _ _ _ (c .before .before .before .half-turned .ensures .0) (c .before .before .grown-by .ensures .0) (c .before .second .ensures)
+returns c = next _ _ _ _ _ (c .before .before .before .half-turned .ensures .0)
+    (c .before .before .grown-by .ensures .0) (c .before .second .ensures)
 
 pub eleven-spec : {M : Type 1} → statement M
 eleven-spec =
     tie.close
     (tie.spec
-    (λ c κs. search needs) (λ c κs. search needs) (λ c κs. search needs) (λ c. search needs) (λ c. search needs) (λ c. search needs) (λ c. search needs)
+    (λ c κs. search needs) (λ c κs. search needs) (λ c κs. search needs) (λ c. search needs) (λ c. search needs)
+    (λ c. search needs) (λ c. search needs)
     (λ c. search needs) (λ c. search needs) (λ c. search needs) (λ c. search needs)
     returns)

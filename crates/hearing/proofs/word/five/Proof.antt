@@ -15,9 +15,20 @@ use Rattle.hearing.proofs.Passes.{growth-two}
 use Rattle.hearing.proofs.word.five.Statement.{statement}
 use Rattle.hearing.proofs.word.five.Tie as tie
 
-next : (l : Line) (n p g s : ℕ) → p ≡ turned (l .phase) (halfTurn (l .odd)) → g ≡ grownBy p (p1Of n) → s ≡ (g + 1) / 2 % 2
+next : (l : Line) (n p g s : ℕ) → p ≡ turned (l .phase) (halfTurn (l .odd)) → g ≡ grownBy p (p1Of n) → s
+    ≡ (g + 1) / 2 % 2
     → Next Five l n (record {
-      past = record { b0 = l .past .b4; b1 = l .past .b5; b2 = l .past .b6; b3 = l .past .b7; b4 = g / 2; b5 = s; b6 = p2Of n / 2; b7 = p4Of n / 2 };
+      past = record {
+        b0 = l .past .b4;
+        b1 = l .past .b5;
+        b2 = l .past .b6;
+        b3 = l .past .b7;
+        b4 = g / 2;
+        b5 = s;
+        b6 =
+            p2Of n / 2;
+        b7 = p4Of n / 2;
+      };
       phase = p1Of n;
       odd = (l .odd % 2 + 1) % 2;
     })
@@ -31,11 +42,13 @@ next l n p g s k e f =
     }
 
 returns : tie.Need-returns
-returns c = next _ _ _ _ _ (c .before .before .before .before .half-turned .ensures .0) (c .before .before .before .grown-by .ensures .0) (c .before .second .ensures)
+returns c = next _ _ _ _ _ (c .before .before .before .before .half-turned .ensures .0)
+    (c .before .before .before .grown-by .ensures .0) (c .before .second .ensures)
 
 pub five-spec : {M : Type 1} → statement M
 five-spec =
     tie.close
     (tie.spec
-    (λ c κs. search needs) (λ c κs. search needs) (λ c κs. search needs) (λ c. search needs) (λ c. search needs) (λ c. search needs) (λ c. search needs)
+    (λ c κs. search needs) (λ c κs. search needs) (λ c κs. search needs) (λ c. search needs) (λ c. search needs)
+    (λ c. search needs) (λ c. search needs)
     returns)

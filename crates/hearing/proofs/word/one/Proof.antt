@@ -14,7 +14,17 @@ use Rattle.hearing.proofs.word.one.Tie as tie
 
 next : (l : Line) (n g : ℕ) → n < 4 → g ≡ grownBy (l .phase) n
     → Next One l n (record {
-      past = record { b0 = l .past .b1; b1 = l .past .b2; b2 = l .past .b3; b3 = l .past .b4; b4 = l .past .b5; b5 = l .past .b6; b6 = l .past .b7; b7 = g / 2 };
+      past = record {
+        b0 = l .past .b1;
+        b1 = l .past .b2;
+        b2 = l .past .b3;
+        b3 = l .past .b4;
+        b4 = l .past .b5;
+        b5 =
+            l .past .b6;
+        b6 = l .past .b7;
+        b7 = g / 2;
+      };
       phase = n;
       odd = (l .odd % 2 + 1) % 2;
     })

@@ -15,13 +15,29 @@ use Rattle.hearing.proofs.word.two.Tie as tie
 
 next : (l : Line) (n g s : ℕ) → n < 4 → g ≡ grownBy (l .phase) n → s ≡ (g + 1) / 2 % 2
     → Next Two l n (record {
-      past = record { b0 = l .past .b2; b1 = l .past .b3; b2 = l .past .b4; b3 = l .past .b5; b4 = l .past .b6; b5 = l .past .b7; b6 = g / 2; b7 = s };
+      past = record {
+        b0 = l .past .b2;
+        b1 = l .past .b3;
+        b2 = l .past .b4;
+        b3 = l .past .b5;
+        b4 = l .past .b6;
+        b5 =
+            l .past .b7;
+        b6 = g / 2;
+        b7 = s;
+      };
       phase = n;
       odd = (l .odd % 2 + 1) % 2;
     })
 unfolding heardBits pastAfter
 next l n g s h e f =
-    record { past = rw (f, e, growth-two (grownBy (l .phase) n) (omega arith)); phase = refl; small = h; odd = omega arith }
+    record {
+      past = rw (f, e, growth-two (grownBy (l .phase) n) (omega arith));
+      phase = refl;
+      small = h;
+      odd = omega
+          arith;
+    }
 
 returns : tie.Need-returns
 returns c =

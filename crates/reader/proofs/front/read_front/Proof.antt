@@ -16,17 +16,23 @@ within a b x e h = omega arith
 
 returns : tie.Need-returns
 returns c =
-    front-short _ _ _ (below _ _ _ _ (c .before .before .chip-count .ensures) (c .before .before .before .front-chips .ensures) (c .before .if1 .taken))
+    front-short _ _ _ (below _ _ _ _ (c .before .before .chip-count .ensures)
+    (c .before .before .before .front-chips .ensures) (c .before .if1 .taken))
     (c .refused .ensures)
 
 returns-2 : tie.Need-returns-2
 returns-2 c =
-    front-unusable _ _ _ _ (c .before .before .before .before .before .before .before .front-chips .ensures) (within _ _ _ (c .before .before .before .before .before .before .chip-count .ensures) (c .before .before .before .before .before .if1 .left))
-    (c .before .before .before .before .first-unusable .ensures) _ _ (c .before .before .bad .given .1) (c .refused2 .ensures)
+    front-unusable _ _ _ _ (c .before .before .before .before .before .before .before .front-chips .ensures)
+    (within _ _ _ (c .before .before .before .before .before .before .chip-count .ensures)
+    (c .before .before .before .before .before .if1 .left))
+    (c .before .before .before .before .first-unusable .ensures) _ _ (c .before .before .bad .given .1)
+    (c .refused2 .ensures)
 
 returns-3 : tie.Need-returns-3
 returns-3 c =
-    front-usable _ _ _ _ (c .before .before .before .before .before .before .front-chips .ensures) (within _ _ _ (c .before .before .before .before .before .chip-count .ensures) (c .before .before .before .before .if1 .left))
+    front-usable _ _ _ _ (c .before .before .before .before .before .before .front-chips .ensures)
+    (within _ _ _ (c .before .before .before .before .before .chip-count .ensures)
+    (c .before .before .before .before .if1 .left))
     (c .before .before .before .first-unusable .ensures) _ (c .before .enum-told .given .1) (c .read-usable .ensures)
 
 pub read-front-spec : {M : Type 1} → statement M

@@ -1,4 +1,5 @@
--- `reader::payload::hear_payload` meets its contract: the octets are heard into the buffer's front, and cleared where a symbol is grown
+-- `reader::payload::hear_payload` meets its contract: the octets are heard into the buffer's front, and cleared where a
+-- symbol is grown
 -- by 1 or 3. Assumes nothing.
 use mathlib.Core.Path.{_≡_, refl, sym, ap, subst, _∙_}
 use mathlib.Core.List.{List, _++_}
@@ -25,49 +26,66 @@ use Rattle.reader.proofs.Payloads.{payload-odd, payload-octets, lent-lo
 use Rattle.reader.proofs.payload.hear_payload.Statement.{statement}
 use Rattle.reader.proofs.payload.hear_payload.Tie as tie
 
-room : (k : Kind) (r : Rate) (n from m all : ℕ) → from ≡ frontChips k → m ≡ n → frameChips k r n ≤ all → from + octetChips r * m ≤ all
+room : (k : Kind) (r : Rate) (n from m all : ℕ) → from ≡ frontChips k → m ≡ n → frameChips k r n ≤ all
+    → from + octetChips r * m ≤ all
 room k r n from m all e f h = rw (e, f) h
 
 module _
     (k : Kind) (r : Rate) (n from : ℕ) (rec : List Taken) (l : Line) (h : Hearing) (d out : List ℕ) (o : Opened k rec l)
     (e : from ≡ frontChips k) (fits : n ≤ length d) (zeros : d ≡ replicate (length d) 0)
-    (x : PartHeard r from (length (take (n - 0) d)) rec (record { past = l .past; phase = l .phase; odd = 0 }) h out) where
-  part : PartHeard r (frontChips k) n rec (record { past = l .past; phase = l .phase; odd = 0 }) h out
-  part =
-      subst (λ (i : ℕ). PartHeard r i n rec (record { past = l .past; phase = l .phase; odd = 0 }) h out) e
-      (subst (λ (i : ℕ). PartHeard r from i rec (record { past = l .past; phase = l .phase; odd = 0 }) h out) (lent-long n d fits) x)
+    (x : PartHeard r from (length (take (n - 0) d)) rec (record { past = l .past; phase = l .phase; odd = 0 }) h out)
+  where
+    part : PartHeard r (frontChips k) n rec (record { past = l .past; phase = l .phase; odd = 0 }) h out
+    part =
+        subst (λ (i : ℕ). PartHeard r i n rec (record { past = l .past; phase = l .phase; odd = 0 }) h out) e
+        (subst (λ (i : ℕ). PartHeard r from i rec (record { past = l .past; phase = l .phase; odd = 0 }) h out)
+        (lent-long n d fits) x)
 
-  odd : (place : ℕ) (z : List ℕ) → h .odd ≡ At place → length out ≡ length (take (n - 0) d) → z ≡ replicate (length (out ++ drop (n - 0) d)) 0
-      → (some place ≡ payloadOdd k r n rec) × (z ≡ replicate (length d) 0)
-  odd place z t kept q =
-      (sym (ap whereFound t) ∙ payload-odd k r n rec l h out o part, q ∙ ap (λ (m : ℕ). replicate m 0) (length-front d out (n - 0) kept))
+    odd : (place : ℕ) (z : List ℕ) → h .odd ≡ At place → length out ≡ length (take (n - 0) d) → z
+        ≡ replicate (length (out ++ drop (n - 0) d)) 0
+        → (some place ≡ payloadOdd k r n rec) × (z ≡ replicate (length d) 0)
+    odd place z t kept q = (
+      sym (ap whereFound t) ∙ payload-odd k r n rec l h out o part,
+      q
+          ∙ ap (λ (m : ℕ). replicate m 0) (length-front d out (n - 0) kept),
+    )
 
-  good : h .odd ≡ Nothing → (none ≡ payloadOdd k r n rec) × (out ++ drop (n - 0) d ≡ payloadOf k r n rec ++ replicate (length d - n) 0)
-  good t =
-      (sym (ap whereFound t) ∙ payload-odd k r n rec l h out o part, octets-back n d out (payloadOf k r n rec) zeros (payload-octets k r n rec l h out o part))
+    good : h .odd ≡ Nothing → (none ≡ payloadOdd k r n rec) ×
+        (out ++ drop (n - 0) d ≡ payloadOf k r n rec ++ replicate (length d - n) 0)
+    good t = (
+      sym (ap whereFound t) ∙ payload-odd k r n rec l h out o part,
+      octets-back n d out (payloadOf k r n rec) zeros
+          (payload-octets k r n rec l h out o part),
+    )
 
 hear-octets-requires : tie.Need-hear-octets-requires
 hear-octets-requires c κs =
-    let start = c .before .before .before .before .before .before .before in (
-      room (start .args .kind) (start .args .rate) (start .args .n) _ _ _ (c .before .front-chips .ensures)
-          (lent-long (start .args .n) (start .args .octets .now) (start .pre .1)) (start .pre .0),
-      start .pre .2 .small,
-    )
+    let start = c .before .before .before .before .before .before .before in
+    let a = start .args in
+    let long = lent-long (a .n) (a .octets .now) (start .pre .1) in
+    (room (a .kind) (a .rate) (a .n) _ _ _ (c .before .front-chips .ensures) long (start .pre .0), start .pre .2 .small)
 
 returns : tie.Need-returns
 returns c =
-    let start = c .before .before .before .before .before .before .before .before .before .before .before .before .before .before .before .before .before in
-    let call = c .before .before .before .before .before .before .before .before .before .hear-octets in
-    odd (start .args .kind) (start .args .rate) (start .args .n) _ _ (start .args .line) _ (start .args .octets .now) (call .last .1 .1 .1 .1 .1 .1 .1 .0)
-    (start .pre .2) (c .before .before .before .before .before .before .before .before .before .before .before .front-chips .ensures) (start .pre .1) (start .pre .3) (call .ensures) _ _ (c .before .before .before .before .before .odd .given .1) (call .kept .1 .1 .1 .1 .1 .1 .1 .0)
-    (c .before .before .clear .ensures)
+    let told = c .before .before .before .before .before .before in
+    let call = told .before .before .before .hear-octets in
+    let start = told .before .before .before .before .before .before .before .before .before .before .before in
+    let a = start .args in
+    odd (a .kind) (a .rate) (a .n) _ _ (a .line) _ (a .octets .now) (call .last .1 .1 .1 .1 .1 .1 .1 .0) (start .pre .2)
+    (told .before .before .before .before .before .front-chips .ensures) (start .pre .1) (start .pre .3) (call .ensures)
+    _ _ (c .before .before .before .before .before .odd .given .1)
+    (call .kept .1 .1 .1 .1 .1 .1 .1 .0) (c .before .before .clear .ensures)
 
 returns-2 : tie.Need-returns-2
 returns-2 c =
-    let start = c .before .before .before .before .before .before .before .before .before .before .before .before in
-    let call = c .before .before .before .before .hear-octets in
-    good (start .args .kind) (start .args .rate) (start .args .n) _ _ (start .args .line) _ (start .args .octets .now) (call .last .1 .1 .1 .1 .1 .1 .1 .0)
-    (start .pre .2) (c .before .before .before .before .before .before .front-chips .ensures) (start .pre .1) (start .pre .3) (call .ensures) (c .enum-told .given .1)
+    let told = c .before in
+    let call = told .before .before .before .hear-octets in
+    let start = told .before .before .before .before .before .before .before .before .before .before .before in
+    let a = start .args in
+    good (a .kind) (a .rate) (a .n) _ _ (a .line) _ (a .octets .now) (call .last .1 .1 .1 .1 .1 .1 .1 .0)
+    (start .pre .2)
+    (told .before .before .before .before .before .front-chips .ensures) (start .pre .1) (start .pre .3) (call .ensures)
+    (c .enum-told .given .1)
 
 pub hear-payload-spec : {M : Type 1} → statement M
 hear-payload-spec =

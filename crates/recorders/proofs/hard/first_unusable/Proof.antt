@@ -1,4 +1,5 @@
--- `recorders::hard::first_unusable` meets its contract. The invariant: what is found from here on is what is found from the start.
+-- `recorders::hard::first_unusable` meets its contract. The invariant: what is found from here on is what is found from
+-- the start.
 -- Assumes nothing.
 use mathlib.Core.Path.{_≡_, refl, sym, _∙_}
 use mathlib.Core.Bool.{true, false}
@@ -6,11 +7,11 @@ use mathlib.Core.List.{List}
 use Prim.Native.Nat.{ℕ, _-_, _≤_, _<_}
 use native.Mathlib.Omega.{arith}
 use lib.ListN.{length, getD, take, drop}
+use borrow.Author.Tests.{le-leb, lt-leb}
 use Rattle.chips.specs.Chips.{unusable, isUnusable, hardRecording}
 use Rattle.frame.specs.Reading.{firstUnusable}
-use Rattle.recorders.proofs.Rows.{length-hard, getD-hard}
+use Rattle.chips.proofs.Recorders.{length-hard, getD-hard, unusable-hard}
 use Rattle.recorders.proofs.Search.{search-on, search-here, search-over}
-use Rattle.recorders.proofs.Gathered.{hard-usable, hard-unusable}
 use Rattle.recorders.proofs.hard.first_unusable.Statement.{statement}
 use Rattle.recorders.proofs.hard.first_unusable.Tie as tie
 
@@ -27,10 +28,10 @@ module _ (xs : List ℕ) (at to : ℕ) (h : at < to) (k : to ≤ length xs) wher
   within = rw length-hard k
 
   good : getD xs at 0 ≤ 4 → isUnusable (getD (hardRecording xs) at unusable) ≡ false
-  good l = rw (getD-hard xs at 0 unusable (omega (arith, within))) (hard-usable _ l)
+  good l = rw (getD-hard xs at unusable 0 (omega arith), unusable-hard, le-leb (getD xs at 0) 4 l)
 
   bad : 4 < getD xs at 0 → isUnusable (getD (hardRecording xs) at unusable) ≡ true
-  bad l = rw (getD-hard xs at 0 unusable (omega (arith, within))) (hard-unusable _ l)
+  bad l = rw (getD-hard xs at unusable 0 (omega arith), unusable-hard, lt-leb (getD xs at 0) 4 l)
 
 returns : tie.Need-returns Inv-loop μ-loop
 returns c =
@@ -39,7 +40,8 @@ returns c =
     let at = c .before .before .before .loop .at in
     let h = c .before .before .loop-test .taken in
     sym (c .before .before .before .loop .inv
-    ∙ search-here (hardRecording xs) at (start .args .to) unusable h (within xs at _ h (start .pre)) (bad xs at _ h (start .pre) (c .if1 .taken)))
+    ∙ search-here (hardRecording xs) at (start .args .to) unusable h (within xs at _ h (start .pre))
+    (bad xs at _ h (start .pre) (c .if1 .taken)))
 
 loop-again : tie.Need-loop-again Inv-loop μ-loop
 loop-again c =
@@ -48,7 +50,8 @@ loop-again c =
     let at = c .before .before .before .loop .at in
     let h = c .before .before .loop-test .taken in
     c .before .before .before .loop .inv
-    ∙ search-on (hardRecording xs) at (start .args .to) unusable h (within xs at _ h (start .pre)) (good xs at _ h (start .pre) (c .if1 .left))
+    ∙ search-on (hardRecording xs) at (start .args .to) unusable h (within xs at _ h (start .pre))
+    (good xs at _ h (start .pre) (c .if1 .left))
 
 returns-2 : tie.Need-returns-2 Inv-loop μ-loop
 returns-2 c = sym (c .before .loop .inv ∙ search-over _ (c .before .loop .at) _ (c .loop-test .left))

@@ -15,7 +15,8 @@ use Rattle.recorders.proofs.soft.eight.Statement.{statement}
 use Rattle.recorders.proofs.soft.eight.Tie as tie
 
 abbrev Inv-loop : tie.InvT-loop
-Inv-loop i q at chips₀ k₀ chips k = Filled (λ j. Soft (record { i = getD i (at + j) nan; q = getD q (at + j) nan })) 8 chips k
+Inv-loop i q at chips₀ k₀ chips k = Filled (λ j. Soft (record { i = getD i (at + j) nan; q = getD q (at + j) nan })) 8
+    chips k
 
 abbrev μ-loop : tie.MeasureT-loop
 μ-loop i q at chips₀ k₀ chips k = 8 - k

@@ -1,4 +1,5 @@
--- `recorders::soft::first_unusable` meets its contract. The invariant: what is found from here on is what is found from the start.
+-- `recorders::soft::first_unusable` meets its contract. The invariant: what is found from here on is what is found from
+-- the start.
 -- Assumes nothing.
 use mathlib.Core.Path.{_≡_, refl, sym, ap, _∙_}
 use mathlib.Core.Bool.{Bool, true, false, not}
@@ -11,9 +12,8 @@ use borrow.Author.Needs.{needs}
 use borrow.Author.Tests.{not-true, not-false}
 use Rattle.chips.specs.Chips.{unusable, isUnusable, usableSample, softRecording}
 use Rattle.frame.specs.Reading.{firstUnusable}
-use Rattle.recorders.proofs.Rows.{length-soft, getD-soft}
+use Rattle.chips.proofs.Recorders.{sample, length-soft, getD-soft, unusable-soft}
 use Rattle.recorders.proofs.Search.{search-on, search-here, search-over}
-use Rattle.recorders.proofs.Gathered.{soft-usable}
 use Rattle.recorders.proofs.soft.first_unusable.Statement.{statement}
 use Rattle.recorders.proofs.soft.first_unusable.Tie as tie
 
@@ -29,9 +29,15 @@ module _ (xs ys : List Float) (at to : ℕ) (h : at < to) (k : (to ≤ length xs
   within : to ≤ length (softRecording xs ys)
   within = omega (arith, length-soft xs ys)
 
-  known : (b : Bool) → usableSample (record { i = getD xs at nan; q = getD ys at nan }) ≡ b
+  known : (b : Bool) → usableSample (sample (getD xs at nan) (getD ys at nan)) ≡ b
       → isUnusable (getD (softRecording xs ys) at unusable) ≡ not b
-  known b e = rw (getD-soft xs ys at nan nan unusable (omega (arith, within))) (soft-usable _ _ b e)
+  known b e =
+      rw (
+        getD-soft xs ys at unusable nan nan (omega arith) (omega arith),
+        unusable-soft (getD xs at nan)
+            (getD ys at nan),
+        e,
+      )
 
 returns : tie.Need-returns Inv-loop μ-loop
 returns c =
@@ -41,8 +47,10 @@ returns c =
     let loop = c .before .before .before .before .before .loop in
     let h = c .before .before .before .before .loop-test .taken in
     sym (loop .inv
-    ∙ search-here (softRecording xs ys) (loop .at) (start .args .to) unusable h (within xs ys (loop .at) _ h (start .pre))
-    (known xs ys (loop .at) _ h (start .pre) false (sym (c .before .usable-sample .ensures) ∙ not-true _ (c .if1 .taken))))
+    ∙ search-here (softRecording xs ys) (loop .at) (start .args .to) unusable h
+    (within xs ys (loop .at) _ h (start .pre))
+    (known xs ys (loop .at) _ h (start .pre) false
+    (sym (c .before .usable-sample .ensures) ∙ not-true _ (c .if1 .taken))))
 
 loop-again : tie.Need-loop-again Inv-loop μ-loop
 loop-again c =
@@ -53,7 +61,8 @@ loop-again c =
     let h = c .before .before .before .before .loop-test .taken in
     loop .inv
     ∙ search-on (softRecording xs ys) (loop .at) (start .args .to) unusable h (within xs ys (loop .at) _ h (start .pre))
-    (known xs ys (loop .at) _ h (start .pre) true (sym (c .before .usable-sample .ensures) ∙ not-false _ (c .if1 .left)))
+    (known xs ys (loop .at) _ h (start .pre) true
+    (sym (c .before .usable-sample .ensures) ∙ not-false _ (c .if1 .left)))
 
 returns-2 : tie.Need-returns-2 Inv-loop μ-loop
 returns-2 c = sym (c .before .loop .inv ∙ search-over _ (c .before .loop .at) _ (c .loop-test .left))
