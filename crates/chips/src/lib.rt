@@ -25,14 +25,6 @@ pub struct Counts {
     pub q: i32,
 }
 
-// A full chip at each phase.
-const FULL: [Counts; 4] = [
-    Counts { i: 1024, q: 0 },
-    Counts { i: 0, q: 1024 },
-    Counts { i: -1024, q: 0 },
-    Counts { i: 0, q: -1024 },
-];
-
 // Whether x is a number from -8 to 8.
 pub fn usable(x: f32) -> bool
     ensures answer { λ r. ⌜ r ≡ floats.usable x ⌝ }
@@ -85,11 +77,12 @@ pub fn hard_chip(x: u8) -> Chip
 pub fn hard_counts(p: u8) -> Counts
     ensures answer { λ r. ⌜ r ≡ fullChip 1024 p ⌝ }
 {
-    let k = p as usize;
-    if k < 4 {
-        FULL[k]
-    } else {
-        Counts { i: 0, q: 0 }
+    match p {
+        0 => Counts { i: 1024, q: 0 },
+        1 => Counts { i: 0, q: 1024 },
+        2 => Counts { i: -1024, q: 0 },
+        3 => Counts { i: 0, q: -1024 },
+        _ => Counts { i: 0, q: 0 },
     }
 }
 
