@@ -56,11 +56,11 @@ def check_machine_paths(path, text):
             faults.append(f'{path}:{number}: a path of a machine')
 
 
-def names_in(folder):
-    """Every name that the sources, definitions and proofs of the tree declare."""
-    found = set()
+def names():
+    """Every name in the sources, definitions, proofs and the header, and every crate's own."""
+    found = set(os.listdir('crates'))
     for path in tracked():
-        if path.startswith(folder) and path.endswith(('.rt', '.antt')):
+        if path.startswith(('crates/', 'include/')) and path.endswith(('.rt', '.antt', '.h')):
             found.update(re.findall(r"[\w\-′₀-₉]+", text_of(path)))
     return found
 
@@ -70,14 +70,14 @@ def check_promises():
     if not os.path.exists(path):
         faults.append(f'{path} is missing')
         return
-    declared = names_in('crates/')
+    declared = names()
     for number, line in enumerate(text_of(path).split('\n'), 1):
         for quoted in re.findall(r'`([^`]+)`', line):
             if '/' in quoted:
                 if not os.path.exists(quoted):
                     faults.append(f'{path}:{number}: no file {quoted}')
             elif re.fullmatch(r"[\w\-′]+", quoted) and quoted not in declared:
-                faults.append(f'{path}:{number}: no name {quoted} in crates/')
+                faults.append(f'{path}:{number}: no name {quoted} in the tree')
 
 
 for p in tracked():

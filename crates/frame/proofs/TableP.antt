@@ -1,68 +1,13 @@
--- Table P (RULES 7): what the definitions compute is what the table prints, one statement over its twelve entries. An entry is a list of rows.
--- Assumes nothing.
-use mathlib.Core.Path.{_≡_, refl}
-use mathlib.Core.List.{List, [], _∷_, _++_, map}
-use Prim.Native.Nat.{ℕ}
-use lib.ListN.{take, replicate}
-use Rattle.rates.specs.declared.Rate.the-variants.{One, Two, Five, Eleven}
-use Rattle.rates.specs.Rates.{lengthField, bit7}
-use Rattle.chips.specs.declared.Chip.the-variants.{Lost}
-use Rattle.chips.specs.Chips.{countsOf}
+-- Table P holds: its twelve entries are computed together. Assumes nothing.
+use mathlib.Core.Path.{refl}
 use Rattle.symbols.specs.Words.{barkerWord, cckWord}
 use Rattle.symbols.specs.Choice.{score, those, going, firstLargest, decided}
 use Rattle.bits.specs.Bits.{bitsOf, octetBits}
 use Rattle.bits.specs.Growths.{growth, symbolOf, symbolsFrom, symbolsOf, chipsFrom, lastPhase}
 use Rattle.bits.specs.Scrambler.{mixed, scramble}
 use Rattle.bits.specs.Crc.{addWhere, crcStep, remainder, crcBits}
-use Rattle.frame.specs.declared.Kind.the-variants.{Long, Short}
-use Rattle.frame.specs.Frame.{start, preambleBits, fieldBits, headerBits, frameBits, sentBits, partsChips, frame}
-
--- the chips of a 5.5 Mbit/s symbol with p1 = 0 and d2 d3 = a b: d0 d1 = 00 grows by 0
-five : ℕ → ℕ → List ℕ
-five a b = chipsFrom Five 0 (symbolOf Five 0 (0 ∷ 0 ∷ a ∷ b ∷ []) ∷ [])
-
-pub computed : List (List (List ℕ))
-unfolding five
-computed =
-    (scramble (start Long) (take 8 (preambleBits Long)) ∷ [])
-    ∷ (scramble (start Short) (take 8 (preambleBits Short)) ∷ [])
-    ∷ (crcBits
-    (0 ∷ 1 ∷ 0 ∷ 1 ∷ 0 ∷ 0 ∷ 0 ∷ 0 ∷ 0 ∷ 0 ∷ 0 ∷ 0 ∷ 0 ∷ 0 ∷ 0 ∷ 0
-    ∷ 0 ∷ 0 ∷ 0 ∷ 0 ∷ 0 ∷ 0 ∷ 1 ∷ 1 ∷ 0 ∷ 0 ∷ 0 ∷ 0 ∷ 0 ∷ 0 ∷ 0 ∷ 0 ∷ [])
-    ∷ [])
-    ∷ (take 22 (frame Long One 0 (0 ∷ [])) ∷ [])
-    ∷ (cckWord 0 0 0 0 ∷ [])
-    ∷ (cckWord 1 1 0 0 ∷ [])
-    ∷ (cckWord 0 1 2 3 ∷ [])
-    ∷ (five 0 0 ∷ five 0 1 ∷ five 1 0 ∷ five 1 1 ∷ [])
-    ∷ ((lengthField Eleven 10 ∷ bit7 Eleven 10 ∷ []) ∷ (lengthField Eleven 11 ∷ bit7 Eleven 11 ∷ []) ∷ [])
-    ∷ ((lengthField Eleven 1026 ∷ bit7 Eleven 1026 ∷ []) ∷ (lengthField Eleven 4095 ∷ bit7 Eleven 4095 ∷ []) ∷ [])
-    ∷ ((lengthField Five 4095 ∷ []) ∷ [])
-    ∷ ((decided Eleven (map countsOf (replicate 8 Lost)) ∷ []) ∷ [])
-    ∷ []
-
-pub printed : List (List (List ℕ))
-printed =
-    ((0 ∷ 1 ∷ 1 ∷ 1 ∷ 1 ∷ 1 ∷ 1 ∷ 0 ∷ []) ∷ [])
-    ∷ ((0 ∷ 0 ∷ 0 ∷ 1 ∷ 1 ∷ 0 ∷ 0 ∷ 1 ∷ []) ∷ [])
-    ∷ ((0 ∷ 1 ∷ 0 ∷ 1 ∷ 1 ∷ 0 ∷ 1 ∷ 1 ∷ 0 ∷ 1 ∷ 0 ∷ 1 ∷ 0 ∷ 1 ∷ 1 ∷ 1 ∷ []) ∷ [])
-    ∷ ((0 ∷ 2 ∷ 0 ∷ 0 ∷ 2 ∷ 0 ∷ 0 ∷ 0 ∷ 2 ∷ 2 ∷ 2 ∷ 2 ∷ 0 ∷ 2 ∷ 2 ∷ 0 ∷ 2 ∷ 2 ∷ 2 ∷ 0 ∷ 0 ∷ 0 ∷ []) ∷ [])
-    ∷ ((0 ∷ 0 ∷ 0 ∷ 2 ∷ 0 ∷ 0 ∷ 2 ∷ 0 ∷ []) ∷ [])
-    ∷ ((2 ∷ 1 ∷ 2 ∷ 3 ∷ 2 ∷ 1 ∷ 0 ∷ 1 ∷ []) ∷ [])
-    ∷ ((2 ∷ 1 ∷ 0 ∷ 1 ∷ 3 ∷ 2 ∷ 3 ∷ 0 ∷ []) ∷ [])
-    ∷ ((1 ∷ 0 ∷ 1 ∷ 2 ∷ 1 ∷ 0 ∷ 3 ∷ 0 ∷ [])
-    ∷ (3 ∷ 2 ∷ 3 ∷ 0 ∷ 1 ∷ 0 ∷ 3 ∷ 0 ∷ [])
-    ∷ (3 ∷ 0 ∷ 3 ∷ 2 ∷ 3 ∷ 0 ∷ 1 ∷ 0 ∷ [])
-    ∷ (1 ∷ 2 ∷ 1 ∷ 0 ∷ 3 ∷ 0 ∷ 1 ∷ 0 ∷ [])
-    ∷ [])
-    ∷ ((8 ∷ 1 ∷ []) ∷ (8 ∷ 0 ∷ []) ∷ [])
-    ∷ ((747 ∷ 1 ∷ []) ∷ (2979 ∷ 1 ∷ []) ∷ [])
-    ∷ ((5957 ∷ []) ∷ [])
-    ∷ ((0 ∷ []) ∷ [])
-    ∷ []
-
-abbrev pub TableP : Type 0
-TableP = computed ≡ printed
+use Rattle.frame.specs.Frame.{preambleBits, fieldBits, headerBits, frameBits, sentBits, partsChips, frame}
+use Rattle.frame.specs.TableP.{TableP, computed, printed, five}
 
 pub table-p : TableP
 unfolding
@@ -70,4 +15,4 @@ unfolding
     barkerWord cckWord score those going firstLargest decided
     bitsOf octetBits growth symbolOf symbolsFrom symbolsOf chipsFrom lastPhase mixed scramble addWhere crcStep remainder crcBits
     preambleBits fieldBits headerBits frameBits sentBits partsChips frame
-table-p = refl
+table-p r payload = refl

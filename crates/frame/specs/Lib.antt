@@ -2,3 +2,4 @@ pub mod Frame
 pub mod Answers
 pub mod Writing
 pub mod Reading
+pub mod TableP

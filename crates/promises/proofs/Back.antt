@@ -32,7 +32,7 @@ use Rattle.frame.specs.Writing.{isKind, kindOf, writingOf, chipsAfter, chipsWri
 use Rattle.frame.specs.Reading.{frontOf, payloadOf, payloadReading, afterFront, readingOf, octetsAfter, octetsFound}
 use Rattle.promises.specs.Clean.{cleanRecording}
 use Rattle.promises.specs.Calls.{Wrote, Found, Sendable, Exactly}
-use Rattle.promises.specs.Promises.{Sent, good, refused, lengthOf, ReadBack, ReadBackSoft, NotReadBack}
+use Rattle.promises.specs.Promises.{Sent, good, refused, lengthOf, WrittenFrame, ReadBack, ReadBackSoft, NotReadBack}
 use Rattle.promises.proofs.Decided.{clean-length}
 use Rattle.promises.proofs.Local.{front-local}
 use Rattle.promises.proofs.Recorded.{hard-recorded, soft-recorded, rows-agree, hard-take}
@@ -195,6 +195,12 @@ module _ (kind rate phase : ℕ) (payload : List ℕ) (w : Written) (chips : Lis
         ends less len = unfold payloadReading in rw (lt-ltb (length rec) c (omega arith))
 
 -- ---- the statements
+pub written-frame : WrittenFrame
+written-frame kind rate phase payload w chips s =
+    (ap (λ (v : Written). v .number) (w-is kind rate phase payload w chips s),
+    w-chips kind rate phase payload w chips s,
+    taken kind rate phase payload w chips s)
+
 pub read-back : ReadBack
 read-back kind rate phase payload w chips s tail room a left f h =
     back kind rate phase payload w chips s (hardRecording tail) _

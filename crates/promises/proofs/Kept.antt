@@ -1,10 +1,11 @@
 -- Every promise is kept. Assumes nothing.
 use mathlib.Core.Path.{_≡_, sym, _∙_}
 use Rattle.frame.proofs.TableP.{table-p}
+use Rattle.chips.proofs.Meaning.{counted}
 use Rattle.choice.proofs.Demand3.{demand-3, demand-3-exact}
 use Rattle.promises.specs.Promises.{OneAnswer, Promised}
 use Rattle.promises.proofs.Fills.{write-fills, read-fills}
-use Rattle.promises.proofs.Back.{read-back, read-back-soft, not-read-back}
+use Rattle.promises.proofs.Back.{written-frame, read-back, read-back-soft, not-read-back}
 use Rattle.promises.proofs.Source.{one-source}
 use Rattle.promises.proofs.Right.{front-right, payload-right}
 
@@ -19,10 +20,12 @@ pub kept : Promised
 kept = (
   write-fills,
   read-fills,
+  written-frame,
   read-back,
   read-back-soft,
   not-read-back,
   one-source,
+  counted,
   demand-3,
   demand-3-exact,
   front-right,

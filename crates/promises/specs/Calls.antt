@@ -1,5 +1,5 @@
--- What the calls promise, word for word as their contracts have it, and what is said of their inputs.
--- Definitions only. Assumes nothing.
+-- What the calls promise: the records that the contracts of crate dsss cite, so that what is proved of them is proved
+-- of the programs; and what is said of their inputs (RULES 1.4, 6, 9.1). Definitions only. Assumes nothing.
 use Prim.Native.Nat.{ℕ, _^_, _≤_, _<_}
 use mathlib.Core.Path.{_≡_}
 use mathlib.Core.Bool.{Bool, true}

@@ -1,27 +1,30 @@
--- What is promised of the calls, beyond each contract (RULES 1.4, 9). Every statement speaks of answers and buffers
--- that the calls' contracts allow (`Wrote`, `Found`: Calls.antt), so it is about the programs. proofs/Kept.antt
--- proves them. Definitions only. Assumes nothing.
+-- What is promised beyond each contract (RULES 1.4, 7, 9). Fills, reading back, one source and one answer speak of answers
+-- and buffers that the contracts of crate dsss allow (`Wrote`, `Found`: Calls.antt), so they are about the programs.
+-- Demand 3 speaks of the lists of words that the definition of reading takes its growths and bits from, the half a count
+-- and Table P of the definitions. proofs/Kept.antt proves all of it. Definitions only. Assumes nothing.
 use Prim.Native.Nat.{ℕ, _+_, _-_, _*_, _/_, _^_, _≤_, _<_}
 use mathlib.Core.Path.{_≡_}
 use mathlib.Core.Bool.{Bool, true}
 use mathlib.Core.List.{List, [], _∷_, _++_}
 use mathlib.Core.Option.{none}
 use lib.ListN.{length, getD, take, drop, replicate}
+use lib.Dec.{T}
 use lib.Ieee.{Float}
 use Rattle.rates.specs.declared.Rate.{Rate}
-use Rattle.rates.specs.declared.Rate.the-variants.{One, Two, Five, Eleven}
+use Rattle.rates.specs.declared.Rate.the-variants.{One}
 use Rattle.rates.specs.Rates.{rateOf, symbolChips, symbolBits, lengthField}
 use Rattle.chips.specs.declared.Chip.{Chip}
 use Rattle.chips.specs.declared.Chip.the-variants.{Soft}
+use Rattle.chips.specs.Floats.{usable, valueOf, countOf, Nearest}
 use Rattle.chips.specs.Chips.{Taken, softRecording}
 use Rattle.choice.specs.Demand3.{chosen, RightUpTo, Demand3, Demand3Exact}
 use Rattle.frame.specs.declared.Kind.{Kind}
 use Rattle.frame.specs.declared.Written.{Written}
 use Rattle.frame.specs.declared.Record.{Record}
-use Rattle.frame.specs.Frame.{headerRate, frontChips, frameChips, preambleLength, headerLength}
+use Rattle.frame.specs.Frame.{headerRate, frontChips, frame, frameChips, preambleLength, headerLength}
 use Rattle.frame.specs.Writing.{kindOf}
 use Rattle.frame.specs.Reading.{firstUnusable, preambleChips, preambleWords, headerWords, payloadWords}
-use Rattle.frame.proofs.TableP.{TableP}
+use Rattle.frame.specs.TableP.{TableP}
 use Rattle.promises.specs.Calls.{Wrote, Found, FoundHard, FoundSoft, Sendable, Exactly}
 
 -- ---- demand 1: fills. The buffers keep their length; after a refusal only the fill, after a good answer the fill
@@ -57,6 +60,14 @@ pub record Sent (kind rate phase : ℕ) (payload : List ℕ) (w : Written) (left
   pub sendable : Sendable kind rate phase payload
   pub holds : frameChips (kindOf kind) (rateOf rate) (length payload) ≤ room
   pub wrote : Wrote kind rate phase payload room w left
+
+-- the chips are the frame's, and a good write says how many
+abbrev pub WrittenFrame : Type 0
+WrittenFrame =
+    (kind rate phase : ℕ) (payload : List ℕ) (w : Written) (chips : List ℕ) → Sent kind rate phase payload w chips
+    → (w .number ≡ 0)
+    × (w .chips ≡ frameChips (kindOf kind) (rateOf rate) (length payload))
+    × (take (w .chips) chips ≡ frame (kindOf kind) (rateOf rate) phase payload)
 
 -- LENGTH of a payload
 abbrev pub lengthOf : ℕ → List ℕ → ℕ
@@ -98,6 +109,10 @@ OneSource =
     (kind rate rate′ phase phase′ : ℕ) (payload payload′ : List ℕ) (w w′ : Written) (chips : List ℕ)
     → Sent kind rate phase payload w chips → Sent kind rate′ phase′ payload′ w′ chips
     → (rate ≡ rate′) × (phase ≡ phase′) × (payload ≡ payload′)
+
+-- ---- counts: the whole number nearest to 1024 times the exact value, so the error is at most half a count
+abbrev pub HalfACount : Type 0
+HalfACount = (x : Float) → T (usable x) → Nearest (valueOf x) (countOf x)
 
 -- ---- demand 3, over a whole soft reading: each word of the very lists that reading takes its growths and bits from
 
@@ -144,5 +159,5 @@ OneAnswer =
 -- ---- all of it
 abbrev pub Promised : Type 0
 Promised =
-    WriteFills × ReadFills × ReadBack × ReadBackSoft × NotReadBack × OneSource
-    × Demand3 × Demand3Exact × FrontRight × PayloadRight × OneAnswer × TableP
+    WriteFills × ReadFills × WrittenFrame × ReadBack × ReadBackSoft × NotReadBack × OneSource
+    × HalfACount × Demand3 × Demand3Exact × FrontRight × PayloadRight × OneAnswer × TableP
