@@ -3,7 +3,6 @@
 --     below-take, below-drop, below-replicate, below-more            parts, repeats, a larger bound
 --     below-eight, below-each                                        eight elements
 -- Each is by the index. Assumes nothing.
-use mathlib.Core.Path.{_≡_, refl, sym, subst}
 use mathlib.Core.List.{List, [], _∷_, _++_}
 use Prim.Native.Nat.{ℕ, zero, suc, _<_, _≤_}
 use native.Mathlib.Omega.{arith}

@@ -1,12 +1,12 @@
 -- Laws of the CRC.
 --     remainder-append                  the remainder runs on from one part to the next
 --     crc-length, crc-below             it is sixteen bits
---     complement-below                  complements are bits
+--     complement-below, complement-eight    complements are bits, and eight of them
 --     crc-is                            the CRC of four octets, octet by octet
 -- By induction on the bits. Assumes nothing.
-use mathlib.Core.Path.{_≡_, refl, sym, ap, _∙_}
-use mathlib.Core.List.{List, [], _∷_, _++_, map, map-append, append-assoc, append-nil}
-use Prim.Native.Nat.{ℕ, zero, suc, _+_, _-_, _%_}
+use mathlib.Core.Path.{_≡_, refl, ap, _∙_}
+use mathlib.Core.List.{List, [], _∷_, _++_, map-append, append-nil}
+use Prim.Native.Nat.{ℕ, zero, suc, _+_, _-_}
 use native.Mathlib.Omega.{arith}
 use lib.ListN.{length, drop, replicate, length-append, length-drop, length-map}
 use Rattle.bits.specs.Bits.{_⊕_, bitsOf, octetBits}
@@ -63,3 +63,9 @@ crc-is a b c d x y ones r1 r2 r3 f g e e1 e2 e3 e4 ex ey =
     e1 ∙ unfold bitsOf in ap (λ (l : List ℕ). remainder (l ++ l) (bitsOf 8 a)) e in
     simp append-nil
     (rw (remainder-append, remainder-append, remainder-append, ← first, ← e2, ← e3, ← e4, map-append, ex, ey))
+
+-- eight bits, each a complement
+pub complement-eight : (x0 x1 x2 x3 x4 x5 x6 x7 b0 b1 b2 b3 b4 b5 b6 b7 : ℕ)
+    → b0 ≡ x0 ⊕ 1 → b1 ≡ x1 ⊕ 1 → b2 ≡ x2 ⊕ 1 → b3 ≡ x3 ⊕ 1 → b4 ≡ x4 ⊕ 1 → b5 ≡ x5 ⊕ 1 → b6 ≡ x6 ⊕ 1 → b7 ≡ x7 ⊕ 1
+    → b0 ∷ b1 ∷ b2 ∷ b3 ∷ b4 ∷ b5 ∷ b6 ∷ b7 ∷ [] ≡ complement (x0 ∷ x1 ∷ x2 ∷ x3 ∷ x4 ∷ x5 ∷ x6 ∷ x7 ∷ [])
+complement-eight x0 x1 x2 x3 x4 x5 x6 x7 b0 b1 b2 b3 b4 b5 b6 b7 e0 e1 e2 e3 e4 e5 e6 e7 = cc

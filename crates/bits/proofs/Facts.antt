@@ -2,9 +2,8 @@
 -- word's phases, the half turn of odd symbols, the scrambler's taps, and the standard's CRC (Table P 3).
 -- Assumes nothing.
 use mathlib.Core.Path.{_≡_, refl}
-use mathlib.Core.List.{List, [], _∷_, _++_, map}
-use Prim.Native.Nat.{ℕ, _+_, _-_}
-use Rattle.rates.specs.declared.Rate.{Rate}
+use mathlib.Core.List.{List, [], _∷_}
+use Prim.Native.Nat.{ℕ}
 use Rattle.rates.specs.declared.Rate.the-variants.{Five, Eleven}
 use Rattle.bits.specs.Bits.{bitsOf}
 use Rattle.bits.specs.Growths.{growth, Symbol, symbolOf, symbolsOf, symbolsFrom}

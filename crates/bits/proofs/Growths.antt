@@ -5,7 +5,7 @@
 -- By cases of the two bits, and by induction on the symbols. Assumes nothing.
 use mathlib.Core.Path.{_≡_, refl, sym, ap, ap₂, _∙_}
 use mathlib.Core.List.{List, [], _∷_, _++_, append-assoc}
-use Prim.Native.Nat.{ℕ, zero, suc, _+_, _-_, _*_, _/_, _%_, _<_, _≤_}
+use Prim.Native.Nat.{ℕ, zero, suc, _+_, _*_, _%_, _<_, _≤_}
 use native.Mathlib.Nat.{zero-add, add-zero, suc-add, add-suc, suc-mul, zero-mul, mul-zero, mul-suc}
 use native.Mathlib.Omega.{arith}
 use lib.ListN.{length, getD, take, drop, length-append, length-drop}
@@ -14,7 +14,6 @@ use Rattle.rates.specs.declared.Rate.{Rate}
 use Rattle.rates.specs.declared.Rate.the-variants.{One, Two, Five, Eleven}
 use Rattle.rates.specs.Rates.{symbolBits, symbolChips}
 use Rattle.chips.specs.Chips.{turned}
-use Rattle.symbols.specs.Words.{barkerWord, cckWord}
 use Rattle.symbols.proofs.Words.{barker-length, cck-length}
 use Rattle.bits.specs.Growths.{
   growth,

@@ -6,22 +6,21 @@
 --     heard-length, heard-below, heard-parity                  as many, and bits; a word's number counts modulo 2
 -- A growth is taken off modulo 4, and a number's phases are its digits. Assumes nothing.
 use mathlib.Core.Path.{_≡_, refl, sym, ap, ap₂, _∙_}
-use mathlib.Core.Bool.{Bool, true, false, _&&_}
+use mathlib.Core.Bool.{true}
 use mathlib.Core.List.{List, [], _∷_, _++_, append-assoc}
-use Prim.Native.Nat.{ℕ, zero, suc, _+_, _-_, _*_, _/_, _%_, _<_, _≤_}
-use native.Mathlib.Nat.{zero-add, add-zero, suc-add, add-suc, suc-mul, zero-mul, mul-zero, mul-suc}
+use Prim.Native.Nat.{ℕ, zero, suc, _+_, _*_, _/_, _%_, _<_}
+use native.Mathlib.Nat.{add-zero, suc-add, add-suc, suc-mul, zero-mul, mul-zero, mul-suc}
 use native.Mathlib.Omega.{arith}
 use borrow.Author.Tests.{eq-eqb}
-use lib.Dec.{eqb}
 use lib.ListN.{length, getD, take, drop, take-append-drop, length-append, length-drop}
 use lib.Seq.{length-take-le}
 use Rattle.base.specs.Tables.{tabulate}
 use Rattle.base.proofs.Tables.{as-table}
 use Rattle.rates.specs.declared.Rate.{Rate}
 use Rattle.rates.specs.declared.Rate.the-variants.{One, Two, Five, Eleven}
-use Rattle.rates.specs.Rates.{symbolBits, symbolChips}
+use Rattle.rates.specs.Rates.{symbolBits}
 use Rattle.chips.specs.Chips.{turned}
-use Rattle.symbols.specs.Words.{barkerWord, cckWord, cckNumber, cckOf, p1Of, p2Of, p3Of, p4Of, wordOf, phaseOf}
+use Rattle.symbols.specs.Words.{cckWord, cckNumber, cckOf, p1Of, p2Of, p3Of, p4Of, wordOf, phaseOf}
 use Rattle.symbols.specs.Choice.{numbers, isAllowed}
 use Rattle.bits.specs.Growths.{
   growth,

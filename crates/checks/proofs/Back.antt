@@ -4,28 +4,26 @@
 --     header-length, header-below    they are 48 bits
 -- The fields are cut out of the bits by computing, and LENGTH and bit 7 give n back. Assumes nothing.
 use mathlib.Core.Path.{_≡_, refl, sym, ap, ap₂, _∙_}
-use mathlib.Core.Bool.{Bool, true, false, cond, not, _&&_}
-use mathlib.Core.List.{List, [], _∷_, _++_}
+use mathlib.Core.Bool.{Bool, true, false, cond, not}
+use mathlib.Core.List.{List}
 use Prim.Native.Nat.{ℕ, _+_, _*_, _/_, _%_, _≤_, _<_}
 use native.Mathlib.Omega.{arith}
 use borrow.Author.Tests.{eq-eqb}
 use lib.Dec.{eqb, leb}
-use lib.IntN.{pos, natAbs}
 use lib.ListN.{length, length-append}
 use Rattle.rates.specs.declared.Rate.{Rate}
 use Rattle.rates.specs.declared.Rate.the-variants.{One, Two, Five, Eleven}
-use Rattle.rates.specs.Rates.{codeOf, isCode, rateOf, lengthField, bit7, octetsRead, lengthHolds}
+use Rattle.rates.specs.Rates.{codeOf, isCode, rateOf, lengthField, bit7}
 use Rattle.rates.proofs.Lengths.{octets-back, length-holds}
 use Rattle.bits.specs.Bits.{bitsOf, numberOf}
 use Rattle.bits.specs.Crc.{crcBits}
 use Rattle.bits.specs.Code.{Below}
 use Rattle.bits.proofs.Below.{below-append}
-use Rattle.bits.proofs.Bits.{bits-length, bits-below, number-bits}
+use Rattle.bits.proofs.Bits.{bits-below, number-bits}
 use Rattle.bits.proofs.Crc.{crc-length, crc-below}
 use Rattle.frame.specs.declared.Kind.{Kind}
 use Rattle.frame.specs.declared.Kind.the-variants.{Long, Short}
-use Rattle.frame.specs.declared.Refusal.the-variants.{Sfd, Crc, Signal, Service, Length}
-use Rattle.frame.specs.declared.Front.{Front}
+use Rattle.frame.specs.declared.Refusal.the-variants.{Sfd, Crc}
 use Rattle.frame.specs.declared.Front.the-variants.{Refused, Fields}
 use Rattle.frame.specs.Frame.{sfdOf, goesWith, serviceField, fieldBits, headerBits}
 use Rattle.frame.specs.Reading.{sameBits, serviceAllowed, fieldsOf, headerOf}
@@ -63,7 +61,11 @@ service-back : (r : Rate) (n : ℕ) → serviceAllowed r (serviceField r n) ≡ 
 service-back One n = refl
 service-back Two n = refl
 service-back Five n = refl
-service-back Eleven n = eq-eqb _ _ (sym (ap (λ (b : ℕ). 128 * b) (seven-back Eleven n)))
+service-back Eleven n = one (leb (8 * n + 8) (11 * lengthField Eleven n))
+  where
+    one : (b : Bool) → serviceAllowed Eleven (128 * cond b 1 0) ≡ true
+    one true = refl
+    one false = refl
 
 module _ (k : Kind) (r : Rate) (n : ℕ) (goes : goesWith k r ≡ true) (low : 1 ≤ n) (high : n ≤ 4095) where
   pub fields-back : fieldsOf k (codeOf r) (serviceField r n) (lengthField r n) ≡ Fields r (lengthField r n) n

@@ -1,33 +1,31 @@
 -- The header's octets and its bits.
---     with-crc                     two octets of CRC after four of fields
---     field-octets, header-is      the writer's four octets are its fields, and with their CRC its header
---     header-of                    what a header of six octets and an SFD of two tell, octet by octet
---     same-bits, other-bits        two rows of bits compared
+--     with-crc                               two octets of CRC after four of fields
+--     field-octets, header-is                the writer's four octets are its fields, and with their CRC its header
+--     same-refl, crc-differs                 two rows of bits compared, and so two rows of octets
+--     two-is, crc-other, crc-same, fields-cut    the six octets of a header: its CRC against the one made, its fields
 -- Octets of eight bits each compute to rows of bits that are cut by computing. Assumes nothing.
 use mathlib.Core.Path.{_≡_, refl, sym, ap, ap₂, _∙_, subst}
-use mathlib.Core.Bool.{Bool, true, false, cond, not, _&&_}
-use mathlib.Core.List.{List, [], _∷_, _++_, append-assoc, append-nil}
-use Prim.Native.Nat.{ℕ, zero, suc, _+_, _*_, _/_, _%_, _≤_, _<_}
+use mathlib.Core.Bool.{Bool, true, false}
+use mathlib.Core.List.{List, [], _∷_, _++_, append-nil}
+use Prim.Native.Nat.{ℕ, _/_, _%_, _<_}
 use native.Mathlib.Omega.{arith}
 use lib.Dec.{T, eqb}
 use lib.ListN.{length, getD, take, drop}
-use borrow.Author.Tests.{eq-eqb, ne-eqb, eqb-true}
+use borrow.Author.Tests.{eq-eqb, eqb-true}
 use Rattle.base.specs.Tables.{tabulate}
 use Rattle.base.proofs.Tables.{as-table}
 use Rattle.rates.specs.declared.Rate.{Rate}
 use Rattle.rates.specs.declared.Rate.the-variants.{One, Two, Five, Eleven}
-use Rattle.rates.specs.Rates.{codeOf, lengthField, bit7}
+use Rattle.rates.specs.Rates.{codeOf, lengthField}
 use Rattle.bits.specs.Bits.{bitsOf, numberOf, octetBits}
 use Rattle.bits.specs.Crc.{crcBits}
 use Rattle.bits.specs.Code.{Below}
 use Rattle.bits.proofs.Bits.{bits-two, octet-bits-append, number-one, octets-same}
 use Rattle.bits.proofs.Below.{below-nil, below-cons}
 use Rattle.frame.specs.declared.Kind.{Kind}
-use Rattle.frame.specs.declared.Refusal.the-variants.{Sfd, Crc}
 use Rattle.frame.specs.declared.Front.{Front}
-use Rattle.frame.specs.declared.Front.the-variants.{Refused}
-use Rattle.frame.specs.Frame.{sfdOf, serviceField, fieldBits, headerBits}
-use Rattle.frame.specs.Reading.{sameBits, fieldsOf, headerOf}
+use Rattle.frame.specs.Frame.{serviceField, fieldBits, headerBits}
+use Rattle.frame.specs.Reading.{sameBits, fieldsOf}
 
 pub two-is : (xs : List ℕ) → length xs ≡ 2 → xs ≡ getD xs 0 0 ∷ getD xs 1 0 ∷ []
 unfolding tabulate

@@ -24,7 +24,12 @@ fn service_allowed(r: Rate, service: u8) -> bool
         Rate::One => service == 0,
         Rate::Two => service == 0,
         Rate::Five => service == 0,
-        Rate::Eleven => service == 128 * (service / 128 % 2),
+        Rate::Eleven => {
+            if service == 0 {
+                return true;
+            }
+            service == 128
+        }
     }
 }
 

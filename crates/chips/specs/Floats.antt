@@ -1,4 +1,4 @@
--- One f32 of a soft sample: its exact value, whether it is usable, its count (RULES 2.3, 2.5, 2.6).
+-- One f32 of a soft sample: its exact value, whether it is usable, its count (RULES 2.3, 2.6, 3.8).
 -- A finite f32 is a whole number of steps of 2^-149, and a count, 1/1024, is 2^139 of them.
 -- Definitions only. Assumes nothing.
 use Prim.Native.Nat.{ℕ, _+_, _*_, _/_, _%_, _^_, _≤_}

@@ -1,6 +1,6 @@
 -- The bits of an i32 and the whole number that they stand for, with a bound: a sum of two such is one.
 -- Assumes nothing.
-use mathlib.Core.Path.{_≡_, sym, ap, _∙_, subst}
+use mathlib.Core.Path.{_≡_, _∙_}
 use Prim.Native.Nat.{ℕ, _+_, _^_, _<_}
 use lib.IntN.{ℤ, _+ℤ_}
 use mir.Syntax.{w32}

@@ -1,8 +1,8 @@
--- The signs of a Barker symbol, seen by what a chip adds: at a plus I and Q for the phases 0 and 1, at a minus their negatives.
--- Computed over the table; and the loop that sums both by them.
+-- The signs of a Barker symbol, seen by what a chip adds: at a plus I and Q for the phases 0 and 1, at a minus their
+-- negatives. Computed over the table; and the loop that sums both by them.
 -- Assumes nothing.
-use mathlib.Core.Path.{_≡_, refl, sym, ap, _∙_, subst}
-use mathlib.Core.Bool.{Bool, true, false, _&&_, not}
+use mathlib.Core.Path.{_≡_, sym, ap, _∙_, subst}
+use mathlib.Core.Bool.{Bool, _&&_, not}
 use mathlib.Core.List.{List}
 use Prim.Native.Nat.{ℕ, _+_, _≤_, _<_}
 use native.Mathlib.Omega.{arith}
@@ -78,7 +78,8 @@ module _ (cs : List Counts) (x y k : ℕ) (both : Both cs x y k) (s : Smalls cs)
 
     one-more : Summed (barkerWord p) cs (ofZ w32 v) (k + 1)
     one-more =
-        summed-made (barkerWord p) cs sum k inv s (omega arith) z (sym is) v made (omega (arith, barker-length p)) (omega arith)
+        summed-made (barkerWord p) cs sum k inv s (omega arith) z (sym is) v made (omega (arith, barker-length p))
+        (omega arith)
 
   plus : (sum : ℕ) (z : ℤ) → Within 8192 z → toZ w32 sum +ℤ toZ w32 (ofZ w32 z) ≡ toZ w32 sum +ℤ z
   plus sum z b = ap (λ (w : ℤ). toZ w32 sum +ℤ w) (small 8192 (lit< tt) z b)
@@ -93,7 +94,8 @@ module _ (cs : List Counts) (x y k : ℕ) (both : Both cs x y k) (s : Smalls cs)
     pub plus-y : SFits w32 (toZ w32 y +ℤ toZ w32 (ofZ w32 (getD cs k nothing .q)))
     plus-y = one-fits 1 y (both .second) _ _ (adds-plus k (getD cs k nothing) h e .second) (plus y _ (s .at k .imag))
 
-    pub plus-both : Both cs (ofZ w32 (toZ w32 x +ℤ toZ w32 (ofZ w32 (getD cs k nothing .i)))) (ofZ w32 (toZ w32 y +ℤ toZ w32 (ofZ w32 (getD cs k nothing .q)))) (k + 1)
+    pub plus-both : Both cs (ofZ w32 (toZ w32 x +ℤ toZ w32 (ofZ w32 (getD cs k nothing .i))))
+        (ofZ w32 (toZ w32 y +ℤ toZ w32 (ofZ w32 (getD cs k nothing .q)))) (k + 1)
     plus-both = record {
       within = omega arith;
       first = one-more 0 x (both .first) _ _ (adds-plus k (getD cs k nothing) h e .first) (plus x _ (s .at k .real));
@@ -105,13 +107,16 @@ module _ (cs : List Counts) (x y k : ℕ) (both : Both cs x y k) (s : Smalls cs)
     minus-x = one-fits 0 x (both .first) _ _ (adds-minus k (getD cs k nothing) h ne .first) (minus x _ (s .at k .real))
 
     pub minus-y : SFits w32 (toZ w32 y -ℤ toZ w32 (ofZ w32 (getD cs k nothing .q)))
-    minus-y = one-fits 1 y (both .second) _ _ (adds-minus k (getD cs k nothing) h ne .second) (minus y _ (s .at k .imag))
+    minus-y = one-fits 1 y (both .second) _ _ (adds-minus k (getD cs k nothing) h ne .second)
+        (minus y _ (s .at k .imag))
 
-    pub minus-both : Both cs (ofZ w32 (toZ w32 x -ℤ toZ w32 (ofZ w32 (getD cs k nothing .i)))) (ofZ w32 (toZ w32 y -ℤ toZ w32 (ofZ w32 (getD cs k nothing .q)))) (k + 1)
+    pub minus-both : Both cs (ofZ w32 (toZ w32 x -ℤ toZ w32 (ofZ w32 (getD cs k nothing .i))))
+        (ofZ w32 (toZ w32 y -ℤ toZ w32 (ofZ w32 (getD cs k nothing .q)))) (k + 1)
     minus-both = record {
       within = omega arith;
       first = one-more 0 x (both .first) _ _ (adds-minus k (getD cs k nothing) h ne .first) (minus x _ (s .at k .real));
-      second = one-more 1 y (both .second) _ _ (adds-minus k (getD cs k nothing) h ne .second) (minus y _ (s .at k .imag));
+      second = one-more 1 y (both .second) _ _ (adds-minus k (getD cs k nothing) h ne .second)
+          (minus y _ (s .at k .imag));
     }
 
 -- ---- at the end: a sum is the score, and its negative may be taken

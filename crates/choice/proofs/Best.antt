@@ -1,5 +1,6 @@
--- Laws of the first largest. It is found by going on from what was best so far, and it is the one allowed number that has
--- no less than every allowed one and more than every smaller one: any two such are equal, so whatever has that is it.
+-- Laws of the first largest. It is found by going on from what was best so far, and it is the one allowed number that
+-- has no less than every allowed one and more than every smaller one: any two such are equal, so whatever has that is
+-- it.
 -- Assumes nothing.
 use mathlib.Core.Path.{_≡_, refl, sym, ap, _∙_, subst}
 use mathlib.Core.Bool.{Bool, true, false, not, cond}
@@ -30,12 +31,14 @@ best-unique {ok} {n} {f} {r} {s} p q = by (decLt r s) (decLt s r)
     by (no h) (no k) = omega arith
 
 -- ---- one number more at the end of a list
-going-snoc : (f : ℕ → ℤ) (best : ℕ) (ns : List ℕ) (n : ℕ) → going f best (ns ++ (n ∷ [])) ≡ cond (ltZ (f (going f best ns)) (f n)) n (going f best ns)
+going-snoc : (f : ℕ → ℤ) (best : ℕ) (ns : List ℕ) (n : ℕ)
+    → going f best (ns ++ (n ∷ [])) ≡ cond (ltZ (f (going f best ns)) (f n)) n (going f best ns)
 unfolding going
 going-snoc f best [] n = refl
 going-snoc f best (m ∷ ns) n = going-snoc f (cond (ltZ (f best) (f m)) m best) ns n
 
-pub first-snoc : (f : ℕ → ℤ) (ns : List ℕ) (n : ℕ) → 0 < length ns → firstLargest f (ns ++ (n ∷ [])) ≡ cond (ltZ (f (firstLargest f ns)) (f n)) n (firstLargest f ns)
+pub first-snoc : (f : ℕ → ℤ) (ns : List ℕ) (n : ℕ) → 0 < length ns
+    → firstLargest f (ns ++ (n ∷ [])) ≡ cond (ltZ (f (firstLargest f ns)) (f n)) n (firstLargest f ns)
 unfolding firstLargest
 first-snoc f [] n h = absurd (not-suc-le-zero h)
 first-snoc f (m ∷ ns) n h = going-snoc f m ns n
@@ -66,7 +69,8 @@ module _ (ok : ℕ → Bool) where
 
   module _ (f : ℕ → ℤ) (n : ℕ) where
     -- the last number below suc n, or one of those below n
-    last : (P : ℕ → Type 0) → ((m : ℕ) → m < n → T (ok m) → P m) → (T (ok n) → P n) → (m : ℕ) → m < suc n → T (ok m) → P m
+    last : (P : ℕ → Type 0) → ((m : ℕ) → m < n → T (ok m) → P m) → (T (ok n) → P n) → (m : ℕ) → m < suc n → T (ok m)
+        → P m
     last P below at m h a = by (decLt m n)
       where
         by : Dec (m < n) → P m
@@ -89,7 +93,8 @@ module _ (ok : ℕ → Bool) where
       first = λ m h a. absurd (omega (arith, some-of n m h a));
     }
 
-    one-more : {r : ℕ} → ok n ≡ true → BestOf ok n f r → (t : Bool) → ltZ (f r) (f n) ≡ t → BestOf ok (suc n) f (cond t n r)
+    one-more : {r : ℕ} → ok n ≡ true → BestOf ok n f r → (t : Bool) → ltZ (f r) (f n) ≡ t
+        → BestOf ok (suc n) f (cond t n r)
     one-more {r} e b true lt =
         let less : f r <ℤ f n = ltZ-yes (subst T (sym lt) tt) in
         let below : (m : ℕ) → m < n → T (ok m) → f m <ℤ f n = λ m h a. ≤-<-trans (b .top m h a) less in
@@ -107,7 +112,8 @@ module _ (ok : ℕ → Bool) where
     }
 
   -- a number that is allowed, after those before it
-  then-best : (f : ℕ → ℤ) (n : ℕ) (ns : List ℕ) → ns ≡ those ok n → ok n ≡ true → (0 < length ns → BestOf ok n f (firstLargest f ns))
+  then-best : (f : ℕ → ℤ) (n : ℕ) (ns : List ℕ) → ns ≡ those ok n → ok n ≡ true
+      → (0 < length ns → BestOf ok n f (firstLargest f ns))
       → BestOf ok (suc n) f (firstLargest f (ns ++ (n ∷ [])))
   unfolding firstLargest going
   then-best f n [] x e before = alone f n e (ap length (sym x))
@@ -119,10 +125,12 @@ module _ (ok : ℕ → Bool) where
   first-best f zero h = absurd (not-suc-le-zero h)
   first-best f (suc n) h = by (ok n) refl h (first-best f n)
     where
-      by : (t : Bool) → ok n ≡ t → 0 < length (those ok n ++ cond t (n ∷ []) []) → (0 < length (those ok n) → BestOf ok n f (firstLargest f (those ok n)))
+      by : (t : Bool) → ok n ≡ t → 0 < length (those ok n ++ cond t (n ∷ []) [])
+          → (0 < length (those ok n) → BestOf ok n f (firstLargest f (those ok n)))
           → BestOf ok (suc n) f (firstLargest f (those ok n ++ cond t (n ∷ []) []))
       by true e k before = then-best f n (those ok n) refl e before
-      by false e k before = rw (append-nil (those ok n)) (not-allowed f n e (before (rw (append-nil (those ok n)) at k)))
+      by false e k before = rw (append-nil (those ok n))
+          (not-allowed f n e (before (rw (append-nil (those ok n)) at k)))
 
 -- ---- among all numbers below n
 length-up : (n : ℕ) → length (upTo n) ≡ n
@@ -134,7 +142,8 @@ pub up-best : (f : ℕ → ℤ) (n : ℕ) → 0 < n → BestOf (λ j. true) n f 
 up-best f n h = first-best (λ j. true) f n (subst (λ (k : ℕ). 0 < k) (sym (length-up n)) h)
 
 -- what f is elsewhere does not matter
-pub first-ext : (f g : ℕ → ℤ) (n : ℕ) → 0 < n → ((j : ℕ) → j < n → f j ≡ g j) → firstLargest f (upTo n) ≡ firstLargest g (upTo n)
+pub first-ext : (f g : ℕ → ℤ) (n : ℕ) → 0 < n → ((j : ℕ) → j < n → f j ≡ g j)
+    → firstLargest f (upTo n) ≡ firstLargest g (upTo n)
 first-ext f g n h e = best-unique over (up-best g n h)
   where
     b : BestOf (λ j. true) n f (firstLargest f (upTo n))
@@ -148,22 +157,27 @@ first-ext f g n h e = best-unique over (up-best g n h)
       first = λ m k a. rw (sym (e m (omega (arith, b .among))), sym (e _ (b .among))) (b .first m k a);
     }
 
-pub place-table : (f : ℕ → ℤ) (n : ℕ) (s : List ℤ) → 0 < n → s ≡ tabulate f n → placeOfLargest s ≡ firstLargest f (upTo n)
+pub place-table : (f : ℕ → ℤ) (n : ℕ) (s : List ℤ) → 0 < n → s ≡ tabulate f n
+    → placeOfLargest s ≡ firstLargest f (upTo n)
 unfolding placeOfLargest
-place-table f n s h e = rw (e, length-tabulate) (first-ext (λ j. getD (tabulate f n) j (pos 0)) f n h (λ j k. getD-tabulate f n j (pos 0) k))
+place-table f n s h e = rw (e, length-tabulate) (first-ext (λ j. getD (tabulate f n) j (pos 0)) f n h
+    (λ j k. getD-tabulate f n j (pos 0) k))
 
 -- ---- a list of numbers that are made of others
-going-map : (f : ℕ → ℤ) (g : ℕ → ℕ) (best : ℕ) (ns : List ℕ) → going f (g best) (map g ns) ≡ g (going (λ k. f (g k)) best ns)
+going-map : (f : ℕ → ℤ) (g : ℕ → ℕ) (best : ℕ) (ns : List ℕ)
+    → going f (g best) (map g ns) ≡ g (going (λ k. f (g k)) best ns)
 unfolding going
 going-map f g best [] = refl
 going-map f g best (n ∷ ns) =
-    ap (λ (b : ℕ). going f b (map g ns)) (either (ltZ (f (g best)) (f (g n)))) ∙ going-map f g (cond (ltZ (f (g best)) (f (g n))) n best) ns
+    ap (λ (b : ℕ). going f b (map g ns)) (either (ltZ (f (g best)) (f (g n))))
+    ∙ going-map f g (cond (ltZ (f (g best)) (f (g n))) n best) ns
   where
     either : (t : Bool) → cond t (g n) (g best) ≡ g (cond t n best)
     either true = refl
     either false = refl
 
-pub first-map : (f : ℕ → ℤ) (g : ℕ → ℕ) (ns : List ℕ) → 0 < length ns → firstLargest f (map g ns) ≡ g (firstLargest (λ k. f (g k)) ns)
+pub first-map : (f : ℕ → ℤ) (g : ℕ → ℕ) (ns : List ℕ) → 0 < length ns
+    → firstLargest f (map g ns) ≡ g (firstLargest (λ k. f (g k)) ns)
 unfolding firstLargest
 first-map f g [] h = absurd (not-suc-le-zero h)
 first-map f g (n ∷ ns) h = going-map f g n ns
@@ -178,7 +192,8 @@ unfolding those firstLargest going
 topped-one f top e = record { some = lit< tt; at = e }
 
 module _ {f : ℕ → ℤ} {top k : ℕ} (x : ℕ) (g : Topped f top k) (e : toZ w32 x ≡ f k) where
-  next : (t : Bool) → ltZ (toZ w32 top) (toZ w32 x) ≡ t → firstLargest f (upTo (suc k)) ≡ cond t k (firstLargest f (upTo k))
+  next : (t : Bool) → ltZ (toZ w32 top) (toZ w32 x) ≡ t
+      → firstLargest f (upTo (suc k)) ≡ cond t k (firstLargest f (upTo k))
   unfolding those
   next t h =
       first-snoc f (upTo k) k (subst (λ (n : ℕ). 0 < n) (sym (length-up k)) (g .some))
@@ -198,7 +213,8 @@ module _ (s : List ℤ) (h : 0 < length s) where
   place-best = up-best (λ j. getD s j (pos 0)) (length s) h
 
   -- one that is smaller stands before the place, and one before the place is smaller
-  pub place-after : (k : ℕ) → k ≤ placeOfLargest s → getD s k (pos 0) <ℤ getD s (placeOfLargest s) (pos 0) → k + 1 ≤ placeOfLargest s
+  pub place-after : (k : ℕ) → k ≤ placeOfLargest s → getD s k (pos 0) <ℤ getD s (placeOfLargest s) (pos 0)
+      → k + 1 ≤ placeOfLargest s
   place-after k le lt = by (decLt k (placeOfLargest s))
     where
       by : Dec (k < placeOfLargest s) → k + 1 ≤ placeOfLargest s
@@ -207,7 +223,8 @@ module _ (s : List ℤ) (h : 0 < length s) where
           let e : k ≡ placeOfLargest s = omega arith in
           clashℤ lt (subst (λ (j : ℕ). getD s (placeOfLargest s) (pos 0) ≤ℤ getD s j (pos 0)) (sym e) (≤ℤ-refl _))
 
-  pub place-here : (k : ℕ) → k ≤ placeOfLargest s → getD s (placeOfLargest s) (pos 0) ≤ℤ getD s k (pos 0) → k ≡ placeOfLargest s
+  pub place-here : (k : ℕ) → k ≤ placeOfLargest s → getD s (placeOfLargest s) (pos 0) ≤ℤ getD s k (pos 0)
+      → k ≡ placeOfLargest s
   place-here k le ge = by (decLt k (placeOfLargest s))
     where
       by : Dec (k < placeOfLargest s) → k ≡ placeOfLargest s

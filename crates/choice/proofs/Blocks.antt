@@ -1,8 +1,8 @@
 -- Loops that fill several places of a table at each step: places that follow each other, or a place in each half.
 -- Assumes nothing.
-use mathlib.Core.Path.{_≡_, sym, ap, _∙_, subst}
+use mathlib.Core.Path.{_≡_, sym, _∙_, subst}
 use mathlib.Core.List.{List}
-use Prim.Native.Nat.{ℕ, zero, suc, _+_, _-_, _≤_, _<_}
+use Prim.Native.Nat.{ℕ, _+_, _-_, _≤_, _<_}
 use native.Mathlib.Nat.{not-suc-le-zero}
 use native.Mathlib.Decide.{decLt}
 use native.Mathlib.Omega.{arith}
@@ -13,7 +13,8 @@ use Rattle.base.proofs.Tables.{filled-more, length-tabulate, getD-tabulate}
 
 module _ {A : Type 0} {f : ℕ → A} {n : ℕ} {out : List A} where
   -- the next place, however its number is written
-  pub filled-then : {j : ℕ} (i : ℕ) (v : A) → Filled f n out j → i ≡ j → i < n → v ≡ f i → Filled f n (set out i v) (i + 1)
+  pub filled-then : {j : ℕ} (i : ℕ) (v : A) → Filled f n out j → i ≡ j → i < n → v ≡ f i
+      → Filled f n (set out i v) (i + 1)
   filled-then i v w e h x = filled-more v (subst (Filled f n out) (sym e) w) h x
 
   pub filled-to : {j : ℕ} (i : ℕ) → Filled f n out j → j ≡ i → Filled f n out i
@@ -54,7 +55,8 @@ module _ {A : Type 0} {f g : ℕ → A} {n : ℕ} {d : A} where
         by (yes p) =
             getD-set-other (set out k v) (n + k) (n + j) w d (λ e. absurd (omega arith))
             ∙ getD-set-other out k (n + j) v d (λ e. absurd (omega arith)) ∙ inv .high j p
-        by (no q) = let e : j ≡ k = omega arith in rw e (getD-set-same (set out k v) (n + k) w d (omega (arith, one-len)) ∙ y)
+        by (no q) = let e : j ≡ k = omega arith in rw e
+            (getD-set-same (set out k v) (n + k) w d (omega (arith, one-len)) ∙ y)
 
     pub halves-more : Halves f g n d (set (set out k v) (n + k) w) (k + 1)
     halves-more = record {

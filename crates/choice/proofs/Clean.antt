@@ -1,30 +1,27 @@
--- A word against the clean chips of another scores a full chip for each chip at which they agree, less one for each at
--- which they are a half turn apart; a quarter turn adds nothing. So a word scores most against its own chips, every other
--- word less, and a clean word is decided as itself.
+-- A word against the clean chips of another scores a full chip for each chip at which they agree, less one for each
+-- at which they are a half turn apart; a quarter turn adds nothing. So a word scores most against its own chips,
+-- every other word less, and a clean word is decided as itself.
 -- Assumes nothing.
-use mathlib.Core.Path.{_≡_, refl, sym, ap, _∙_, subst}
+use mathlib.Core.Path.{_≡_, refl, sym, _∙_, subst}
 use mathlib.Core.Bool.{Bool, true, false}
-use mathlib.Core.List.{List, [], _∷_, map}
+use mathlib.Core.List.{List, [], _∷_}
 use Prim.Native.Nat.{ℕ, zero, suc, _+_, _*_, _≤_, _<_}
-use native.Mathlib.Nat.{not-suc-le-zero, mul-add, mul-lt-mul-of-pos-left}
+use native.Mathlib.Nat.{mul-add, mul-lt-mul-of-pos-left}
 use native.Mathlib.Decide.{decLt}
 use native.Mathlib.Omega.{arith}
 use lib.Dec.{T, lit≤, eqb}
-use borrow.Author.Tests.{eqb-true, eqb-false, eq-eqb}
+use borrow.Author.Tests.{eqb-true, eq-eqb}
 use lib.ListN.{length}
 use lib.IntN.{ℤ, pos, negℤ, _+ℤ_}
 use lib.Signed.{_<ℤ_}
 use Rattle.base.specs.Whole.{up, dn}
 use Rattle.base.proofs.Whole.{up-pos, dn-pos, neg-up, neg-dn, add, lt-of}
 use Rattle.rates.specs.declared.Rate.{Rate}
-use Rattle.rates.specs.Rates.{symbolChips}
-use Rattle.chips.specs.declared.Counts.{Counts}
 use Rattle.chips.specs.Chips.{turned, fullChip}
 use Rattle.symbols.specs.Words.{wordOf}
 use Rattle.symbols.specs.Choice.{term, score, numbers, isAllowed, decided}
 use Rattle.symbols.proofs.Words.{Phases, phases-tail, word-phases, word-length}
 use Rattle.symbols.proofs.Numbers.{word-one}
-use Rattle.choice.specs.Scores.{scoreAt}
 use Rattle.choice.specs.Agreement.{one, agreeing, opposed, clean}
 use Rattle.choice.proofs.Decided.{decided-leads}
 
@@ -51,7 +48,10 @@ module _ (full : ℕ) where
   neg-full {z} {a} {b} h = record { is = omega (arith, h .is, neg-up z, neg-dn z) }
 
   add-full : {y z : ℤ} {a b c d : ℕ} → Full y a b → Full z c d → Full (y +ℤ z) (a + c) (b + d)
-  add-full {y} {z} {a} {b} {c} {d} h k = record { is = rw (mul-add full a c, mul-add full b d) (omega (arith, h .is, k .is, add y z)) }
+  add-full {y} {z} {a} {b} {c} {d} h k = record {
+    is = rw (mul-add full a c, mul-add full b d)
+        (omega (arith, h .is, k .is, add y z));
+  }
 
   -- one chip
   abbrev Chip : ℕ → ℕ → Type 0

@@ -1,7 +1,7 @@
--- What `decided` is, at every rate: the one allowed number whose word no allowed word outscores and each smaller one falls
--- short of. So a word that outscores every other is the one decided.
+-- What `decided` is, at every rate: the one allowed number whose word no allowed word outscores and each smaller one
+-- falls short of. So a word that outscores every other is the one decided.
 -- Assumes nothing.
-use mathlib.Core.Path.{_≡_, refl, sym, subst}
+use mathlib.Core.Path.{_≡_, refl}
 use mathlib.Core.Bool.{Bool}
 use mathlib.Core.List.{List}
 use Prim.Native.Nat.{ℕ, _<_}
@@ -15,7 +15,7 @@ use Rattle.base.proofs.Whole.{le-of, of-lt}
 use Rattle.rates.specs.declared.Rate.{Rate}
 use Rattle.rates.specs.declared.Rate.the-variants.{One, Two, Five, Eleven}
 use Rattle.chips.specs.declared.Counts.{Counts}
-use Rattle.symbols.specs.Choice.{numbers, isAllowed, those, allowed, decided}
+use Rattle.symbols.specs.Choice.{numbers, isAllowed, allowed, decided}
 use Rattle.choice.specs.Scores.{scoreAt, BestOf, DecidedAs}
 use Rattle.choice.proofs.Best.{first-best, some-of, best-unique}
 
@@ -48,7 +48,13 @@ decided-barker cs = refl
 -- a number that leads every other is the best
 pub leads-best : {ok : ℕ → Bool} {n : ℕ} {f : ℕ → ℤ} {r : ℕ} → r < n → T (ok r)
     → ((m : ℕ) → m < n → T (ok m) → (m ≡ r → ⊥) → f m <ℤ f r) → BestOf ok n f r
-leads-best {ok} {n} {f} {r} h a lead = record { among = h; allowed = a; top = top; first = λ m k b. lead m (omega arith) b (λ e. absurd (omega arith)) }
+leads-best {ok} {n} {f} {r} h a lead = record {
+  among = h;
+  allowed = a;
+  top = top;
+  first = λ m k b. lead m
+      (omega arith) b (λ e. absurd (omega arith));
+}
   where
     le : (m : ℕ) → f m <ℤ f r → f m ≤ℤ f r
     le m k = le-of (f m) (f r) (omega (arith, of-lt (f m) (f r) k))

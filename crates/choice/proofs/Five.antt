@@ -35,4 +35,5 @@ pub five-lower : (k : ℕ) → k < 8 → number5 k < 128
 five-lower k h = ltb→lt (number5 k) 128 (all-at (λ j. ltb (number5 j) 128) 8 tt k h)
 
 pub five-upper : (k : ℕ) → k < 8 → 128 + number5 k ≡ number5 (8 + k)
-five-upper k h = eqb→eq (128 + number5 k) (number5 (8 + k)) (all-at (λ j. eqb (128 + number5 j) (number5 (8 + j))) 8 tt k h)
+five-upper k h = eqb→eq (128 + number5 k) (number5 (8 + k))
+    (all-at (λ j. eqb (128 + number5 j) (number5 (8 + j))) 8 tt k h)

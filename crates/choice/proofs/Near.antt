@@ -1,8 +1,8 @@
--- How far a score of counts is from the exact score, where each count is at most b steps from its exact value: at most b for
--- each chip, once for every length and every size u of a count. And what that leaves of the choice: no allowed word's exact
--- score is above the chosen one's by more than both scores' errors together.
+-- How far a score of counts is from the exact score, where each count is at most b steps from its exact value: at
+-- most b for each chip, once for every length and every size u of a count. And what that leaves of the choice: no
+-- allowed word's exact score is above the chosen one's by more than both scores' errors together.
 -- Assumes nothing.
-use mathlib.Core.Path.{_≡_, refl, sym, ap, _∙_, subst}
+use mathlib.Core.Path.{_≡_, refl, sym, ap, _∙_}
 use mathlib.Core.Bool.{Bool}
 use mathlib.Core.List.{List, [], _∷_}
 use Prim.Native.Nat.{ℕ, zero, suc, _+_, _*_, _≤_, _<_}
@@ -49,7 +49,11 @@ module _ (u : ℕ) where
   off-more le h = record { high = omega (arith, h .high); low = omega (arith, h .low) }
 
   off-neg : {b : ℕ} (k m : ℤ) → Off b k m → Off b (negℤ k) (negℤ m)
-  off-neg k m h = record { high = rw (neg-up k, neg-dn k, neg-up m, neg-dn m) (h .low); low = rw (neg-up k, neg-dn k, neg-up m, neg-dn m) (h .high) }
+  off-neg k m h = record {
+    high = rw (neg-up k, neg-dn k, neg-up m, neg-dn m) (h .low);
+    low = rw
+        (neg-up k, neg-dn k, neg-up m, neg-dn m) (h .high);
+  }
 
   -- a sum of counts in steps
   add-steps : (k j : ℤ) → up (k +ℤ j) * u + (dn k * u + dn j * u) ≡ dn (k +ℤ j) * u + (up k * u + up j * u)
@@ -78,7 +82,8 @@ module _ (u : ℕ) where
   off-term (suc (suc (suc zero))) h = off-neg _ _ (h .imag)
   off-term (suc (suc (suc (suc n)))) h = off-none _
 
-  pub off-score : {b : ℕ} (w : List ℕ) {cs es : List Counts} → OffAll b cs es → Off (b * length w) (score w cs) (score w es)
+  pub off-score : {b : ℕ} (w : List ℕ) {cs es : List Counts} → OffAll b cs es
+      → Off (b * length w) (score w cs) (score w es)
   unfolding score
   off-score [] h = off-none _
   off-score (p ∷ w) none = off-none _
@@ -86,7 +91,8 @@ module _ (u : ℕ) where
       off-more (rw (mul-suc b (length w)) (omega arith)) (off-add _ _ _ _ (off-term p h) (off-score w t))
 
 -- ---- the choice by counts, seen by exact scores
-module _ (u e : ℕ) {ok : ℕ → Bool} {n r : ℕ} {f g : ℕ → ℤ} (best : BestOf ok n f r) (off : (m : ℕ) → Off u e (f m) (g m)) where
+module _ (u e : ℕ) {ok : ℕ → Bool} {n r : ℕ} {f g : ℕ → ℤ} (best : BestOf ok n f r)
+    (off : (m : ℕ) → Off u e (f m) (g m)) where
   -- what is no less in counts is no less in steps
   steps : (a b : ℤ) → a ≤ℤ b → up a * u + dn b * u ≤ up b * u + dn a * u
   steps a b h = simp add-mul at (mul-le-mul-right u (of-le a b h))
@@ -96,7 +102,15 @@ module _ (u e : ℕ) {ok : ℕ → Bool} {n r : ℕ} {f g : ℕ → ℤ} (best :
       let le = steps (f m) (f r) (best .top m h a) in
       let x = off m in
       let y = off r in
-      le-of (g m) (g r +ℤ pos (e + e)) (omega (arith, x .low, y .high, add (g r) (pos (e + e)), up-pos (e + e), dn-pos (e + e)))
+      le-of (g m) (g r +ℤ pos (e + e)) (omega (
+        arith,
+        x .low,
+        y .high,
+        add (g r) (pos (e + e)),
+        up-pos (e + e),
+        dn-pos
+            (e + e),
+      ))
 
 -- a number that leads every other by more than that can be no other than the chosen one
 pub leader-chosen : (d : ℕ) (ok : ℕ → Bool) (g : ℕ → ℤ) {n r : ℕ} → r < n → T (ok r) → (m : ℕ)

@@ -1,12 +1,12 @@
 -- How large terms and scores are, where counts are from -b to b: once for every length.
 -- Assumes nothing.
-use mathlib.Core.Path.{_≡_, subst}
+use mathlib.Core.Path.{_≡_}
 use mathlib.Core.List.{List, [], _∷_, map}
-use Prim.Native.Nat.{ℕ, zero, suc, _+_, _*_, _≤_}
+use Prim.Native.Nat.{ℕ, zero, suc, _*_, _≤_}
 use native.Mathlib.Nat.{mul-suc}
 use native.Mathlib.Omega.{arith}
 use lib.ListN.{length, getD, List·getD-eq-default}
-use lib.IntN.{pos, negℤ, _+ℤ_}
+use lib.IntN.{pos, negℤ}
 use Rattle.base.specs.Whole.{Within}
 use Rattle.base.proofs.Whole.{within-zero, within-neg, within-add, within-more}
 use Rattle.chips.specs.declared.Counts.{Counts}

@@ -1,8 +1,9 @@
--- The loop that sums a word's score, once for every length up to 16: the sum so far with the score of the rest is the score.
+-- The loop that sums a word's score, once for every length up to 16: the sum so far with the score of the rest is the
+-- score.
 -- Assumes nothing.
 use mathlib.Core.Path.{_≡_, sym, ap, _∙_, subst}
-use mathlib.Core.List.{List, [], _∷_}
-use Prim.Native.Nat.{ℕ, zero, suc, _+_, _*_, _≤_, _<_}
+use mathlib.Core.List.{List}
+use Prim.Native.Nat.{ℕ, suc, _+_, _*_, _≤_, _<_}
 use native.Mathlib.Numerals.{add-one}
 use native.Mathlib.Omega.{arith}
 use lib.Dec.{lit<}
@@ -64,7 +65,8 @@ module _ (w : List ℕ) (cs : List Counts) (sum k : ℕ) (inv : Summed w cs sum 
   pub summed-more : k < length w → k < length cs → Summed w cs (ofZ w32 (toZ w32 sum +ℤ toZ w32 (ofZ w32 z))) (k + 1)
   summed-more = summed-made _ added
 
-pub summed-all : {w : List ℕ} {cs : List Counts} {sum k : ℕ} → Summed w cs sum k → length w ≤ k → toZ w32 sum ≡ score w cs
+pub summed-all : {w : List ℕ} {cs : List Counts} {sum k : ℕ} → Summed w cs sum k → length w ≤ k
+    → toZ w32 sum ≡ score w cs
 unfolding score
 summed-all {w} {cs} {sum} {k} inv h =
     sym (+ℤ-idr (toZ w32 sum))

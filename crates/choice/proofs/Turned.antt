@@ -13,8 +13,8 @@ use lib.IntN.{ℤ, pos, negℤ, _+ℤ_, negℤ-+ℤ, negℤ-negℤ}
 use mir.Syntax.{w32}
 use mir.Val.{toZ, ofZ}
 use Rattle.base.specs.Tables.{tabulate}
-use Rattle.base.specs.Whole.{up, dn, Within}
-use Rattle.base.proofs.Tables.{getD-tabulate, as-table, tabulate-all}
+use Rattle.base.specs.Whole.{Within}
+use Rattle.base.proofs.Tables.{getD-tabulate, tabulate-all}
 use Rattle.base.proofs.Tests.{all, all-at}
 use Rattle.base.proofs.Whole.{add, same, up-pos, dn-pos, small, within-zero, within-add, within-more}
 use Rattle.chips.specs.declared.Counts.{Counts}
@@ -41,7 +41,8 @@ turn-is cs j k x e h =
 pub row-is : (cs : List Counts) (j k x p : ℕ) → j ≡ 8 * k + x → x < 8 → k < 8 → x % 4 ≡ p
     → getD (row cs) j (pos 0) ≡ term p (getD cs k nothing)
 row-is cs j k x p e h few y =
-    getD-tabulate (turnAt cs) 64 j (pos 0) (omega arith) ∙ turn-is cs j k x e h ∙ ap (λ (q : ℕ). term q (getD cs k nothing)) y
+    getD-tabulate (turnAt cs) 64 j (pos 0) (omega arith) ∙ turn-is cs j k x e h
+    ∙ ap (λ (q : ℕ). term q (getD cs k nothing)) y
 
 pub row-within : {cs : List Counts} → Smalls cs → RowWithin 8192 (row cs)
 row-within {cs} s = record {
@@ -141,7 +142,8 @@ twice s = omega arith
 
 -- what stands a whole turn on is the same: at chip k, on from the phase of s by p, or at that phase itself
 module _ (cs : List Counts) (j k s : ℕ) (few : k < 8) where
-  along : (p x : ℕ) → j ≡ 8 * k + (s % 4 + p) → p < 4 → (s + p) % 4 ≡ x → getD (row cs) j (pos 0) ≡ getD (row cs) (8 * k + x) (pos 0)
+  along : (p x : ℕ) → j ≡ 8 * k + (s % 4 + p) → p < 4 → (s + p) % 4 ≡ x
+      → getD (row cs) j (pos 0) ≡ getD (row cs) (8 * k + x) (pos 0)
   along p x e h y =
       let z : x < 4 = omega arith in
       row-is cs j k (s % 4 + p) x e (omega arith) few (around s p ∙ y)
@@ -175,7 +177,8 @@ module _ (cs : List Counts) (p1 p2 p3 p4 : ℕ) (h1 : p1 < 4) (h4 : p4 < 4) wher
       let c0 = along cs _ 0 (p1 + p2 + p3) (lit< tt) p4 _ (turned-on (p1 + p2 + p3)) h4 refl in
       let c1 = along cs _ 1 (p1 + p3) (lit< tt) p4 _ (after 8 (p1 + p3)) h4 refl in
       let c2 = along cs _ 2 (p1 + p2) (lit< tt) p4 _ (after 16 (p1 + p2)) h4 refl in
-      let c3 = along cs _ 3 (p1 + 2) (lit< tt) p4 ((p1 + p4 + 2) % 4) (after 24 (p1 + 2)) h4 (ap (λ (n : ℕ). n % 4) (omega arith)) in
+      let c3 = along cs _ 3 (p1 + 2) (lit< tt) p4 ((p1 + p4 + 2) % 4) (after 24 (p1 + 2)) h4
+      (ap (λ (n : ℕ). n % 4) (omega arith)) in
       let c4 = along cs _ 4 (p1 + p2 + p3) (lit< tt) 0 _ (still 32 (p1 + p2 + p3)) (lit< tt) (no-turn (p1 + p2 + p3)) in
       let c5 = along cs _ 5 (p1 + p3) (lit< tt) 0 _ (further (p1 + p3)) (lit< tt) (no-turn (p1 + p3)) in
       let c6 = along cs _ 6 (p1 + p2 + 2) (lit< tt) 0 _ (still 48 (p1 + p2 + 2)) (lit< tt) (no-turn (p1 + p2 + 2)) in
@@ -230,7 +233,8 @@ below-64 at t = record { each = λ k. by k (decLt k (length at)) }
     by k (yes p) = ltb→lt (getD at k 0) 64 (all-at (λ j. ltb (getD at j 0) 64) (length at) t k p)
     by k (no q) = rw (List·getD-eq-default at 0 {n = k} (omega arith)) (lit< tt)
 
-pub placed-cck : (t : List ℤ) (p1 p2 p3 p4 : ℕ) → addEight t (placesOf (cckWord p1 p2 p3 p4)) ≡ placed 0 (cckWord p1 p2 p3 p4) t
+pub placed-cck : (t : List ℤ) (p1 p2 p3 p4 : ℕ) → addEight t (placesOf (cckWord p1 p2 p3 p4))
+    ≡ placed 0 (cckWord p1 p2 p3 p4) t
 unfolding placed cckWord
 placed-cck t p1 p2 p3 p4 =
     let w = cckWord p1 p2 p3 p4 in
@@ -254,7 +258,8 @@ cck-within n {cs} s =
 
 -- the same of a row that is known to be these turns
 module _ (cs : List Counts) (t : List ℤ) (e : t ≡ row cs) where
-  pub slid-at : (g p n : ℕ) → g < 32 → p < 4 → 4 * g + p ≡ n → slid t (g / 16) (g / 4 % 4) (g % 4) p ≡ placed 0 (cckOf n) t
+  pub slid-at : (g p n : ℕ) → g < 32 → p < 4 → 4 * g + p ≡ n
+      → slid t (g / 16) (g / 4 % 4) (g % 4) p ≡ placed 0 (cckOf n) t
   slid-at g p n h k y = rw (e, sym y) (slid-number cs g p h k)
 
   pub at-within : Smalls cs → RowWithin 8192 t
@@ -267,6 +272,7 @@ module _ (cs : List Counts) (t : List ℤ) (e : t ≡ row cs) where
   placed-within n l s = rw (placed-at n l) (cck-within n s)
 
   -- a score as it comes back from a call
-  pub placed-read : (n : ℕ) → length cs ≡ 8 → Smalls cs → (z : ℤ) → z ≡ placed 0 (cckOf n) t → toZ w32 (ofZ w32 z) ≡ score (cckOf n) cs
+  pub placed-read : (n : ℕ) → length cs ≡ 8 → Smalls cs → (z : ℤ) → z ≡ placed 0 (cckOf n) t
+      → toZ w32 (ofZ w32 z) ≡ score (cckOf n) cs
   placed-read n l s z x =
       small 65536 (lit< tt) z (subst (Within 65536) (sym x) (placed-within n l s)) ∙ x ∙ placed-at n l

@@ -1,6 +1,6 @@
 -- Demand 3: what deciding by counts does to the exact scores, one statement over the rate.
 -- The same sums as the scores, over exact values in steps of 2^-149; a count is 2^139 of them, 1/1024 of a full chip.
--- Definitions only. Assumes nothing.
+-- RULES 1.4 (3), 3.8. Definitions only. Assumes nothing.
 use Prim.Native.Nat.{ℕ, _*_, _^_, _<_}
 use mathlib.Core.Path.{_≡_}
 use mathlib.Core.Bool.{Bool, true, false, _&&_}
@@ -26,13 +26,15 @@ exactAt r chips n = score (wordOf r n) (map exactOf chips)
 abbrev pub chosen : Rate → List Chip → ℕ
 chosen r chips = decided r (map countsOf chips)
 
--- Up to an error of so many steps the choice is the one by exact scores: (a) no allowed word's exact score is above the
--- chosen one's by more; (b) an allowed word whose exact score is above that of every other allowed one by more is chosen.
+-- The choice is right up to an error of so many steps: (a) no allowed word's exact score is above
+-- the chosen one's by more; (b) an allowed word whose exact score is above that of every other allowed one by more is
+-- chosen.
 pub record RightUpTo (error : ℕ) (r : Rate) (chips : List Chip) : Type 0 where
   pub none-above : (n : ℕ) → n < numbers r → T (isAllowed r n)
       → exactAt r chips n ≤ℤ (exactAt r chips (chosen r chips) +ℤ pos error)
   pub leader-chosen : (n : ℕ) → n < numbers r → T (isAllowed r n)
-      → ((m : ℕ) → m < numbers r → T (isAllowed r m) → (m ≡ n → ⊥) → (exactAt r chips m +ℤ pos error) <ℤ exactAt r chips n)
+      → ((m : ℕ) → m < numbers r → T (isAllowed r m) → (m ≡ n → ⊥)
+      → (exactAt r chips m +ℤ pos error) <ℤ exactAt r chips n)
       → chosen r chips ≡ n
 
 unfoldable pub allChips : (Chip → Bool) → List Chip → Bool
@@ -51,7 +53,7 @@ isExact Lost = true
 isExact (Hard p) = true
 isExact (Soft s) = false
 
--- for these there is no error: the choice is the one by exact scores
+-- for these there is no error: no allowed word scores more exactly, and one that leads all others is chosen
 abbrev pub Demand3Exact : Type 0
 Demand3Exact =
     (r : Rate) (chips : List Chip) → length chips ≡ symbolChips r → T (allChips isExact chips) → RightUpTo 0 r chips

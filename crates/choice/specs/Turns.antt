@@ -30,7 +30,8 @@ addEight t at =
     (addFour (pos 0) t (getD at 4 0) (getD at 5 0) (getD at 6 0) (getD at 7 0))
     t (getD at 0 0) (getD at 1 0) (getD at 2 0) (getD at 3 0)
 
--- what the word of p1 to p4 adds up to in the row: chips 4 to 7 stand where p1 to p3 put them, and chips 0 to 3 go on with p4
+-- what the word of p1 to p4 adds up to in the row: chips 4 to 7 stand where p1 to p3 put them, and chips 0 to 3 go on
+-- with p4
 abbrev pub slid : List ℤ → ℕ → ℕ → ℕ → ℕ → ℤ
 slid t p1 p2 p3 p4 =
     addFour

@@ -1,5 +1,5 @@
-// Scores: what a chip adds to a word's, the sum over a word's chips, and the tables of all words' scores that the choice
-// goes by.
+// Scores: what a chip adds to a word's, the sum over a word's chips, and the tables of all words' scores that the
+// choice goes by.
 use chips::Counts;
 use rates::Rate;
 ghost use mathlib.Core.Path.{_≡_};
@@ -55,7 +55,8 @@ pub fn score11(w: [u8; 11], cs: [Counts; 11]) -> i32
     sum
 }
 
-// What each of eight chips adds by the word's chip there, twice over: chip k turned by p stands at 8 k + p, up to p = 7.
+// What each of eight chips adds by the word's chip there, twice over: chip k turned by p stands at 8 k + p, for p up
+// to 7.
 pub fn turns(cs: [Counts; 8]) -> [i32; 64]
     requires { ⌜ Smalls cs ⌝ }
     ensures answer { λ r. ⌜ r ≡ tabulate (turnAt cs) 64 ⌝ }
@@ -144,8 +145,8 @@ pub fn add_eight(t: &[i32; 64], at: [usize; 8]) -> i32
     add_four(rest, t, at[0], at[1], at[2], at[3])
 }
 
-// The scores of the words of 5.5 Mbit/s with p1 = 0 and p1 = 1, in the order of their numbers. A word's places are 8 k and
-// its chip k: those of the first are 1 0 1 2 1 0 3 0, by 8 more at each.
+// The scores of the words of 5.5 Mbit/s with p1 = 0 and p1 = 1, in the order of their numbers. A word's places are 8
+// k and its chip k: those of the first are 1 0 1 2 1 0 3 0, by 8 more at each.
 pub fn half_five(cs: [Counts; 8]) -> [i32; 8]
     requires { ⌜ Smalls cs ⌝ }
     ensures answer { λ r. ⌜ r ≡ tabulate (λ k. scoreAt Rate.Five cs (number5 k)) 8 ⌝ }
@@ -163,7 +164,8 @@ pub fn half_five(cs: [Counts; 8]) -> [i32; 8]
     ]
 }
 
-// The scores of the sixteen words allowed at 5.5 Mbit/s, in the order of their numbers: a half turn of p1 negates a score.
+// The scores of the sixteen words allowed at 5.5 Mbit/s, in the order of their numbers: a half turn of p1 negates
+// a score.
 pub fn scores_five(cs: [Counts; 8]) -> [i32; 16]
     requires { ⌜ Smalls cs ⌝ }
     ensures answer { λ r. ⌜ r ≡ tabulate (λ k. scoreAt Rate.Five cs (number5 k)) 16 ⌝ }
@@ -178,7 +180,8 @@ pub fn scores_five(cs: [Counts; 8]) -> [i32; 16]
     scores
 }
 
-// The scores of the four phases of a Barker symbol: one sum of I and one of Q by its signs, and a half turn negates a score.
+// The scores of the four phases of a Barker symbol: one sum of I and one of Q by its signs, and a half turn negates a
+// score.
 pub fn scores_barker(cs: [Counts; 11]) -> [i32; 4]
     requires { ⌜ Smalls cs ⌝ }
     ensures answer { λ r. ⌜ r ≡ tabulate (scoreAt Rate.One cs) 4 ⌝ }

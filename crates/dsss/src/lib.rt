@@ -8,7 +8,13 @@ use frame::Written;
 
 // A payload to the chips of its frame; 4s after the frame, or everywhere after a refusal.
 #[no_mangle]
-pub extern "C" fn dsss_write(kind: u64, rate: u64, phase: u64, payload: &[u8], chips: &mut [u8]) -> Written
+pub extern "C" fn dsss_write(
+    kind: u64,
+    rate: u64,
+    phase: u64,
+    payload: &[u8],
+    chips: &mut [u8],
+) -> Written
     ensures wrote { λ w. ⌜ Wrote kind rate phase (now (payload .entry)) (length (now (chips .entry)))
         w (now (chips .exit)) ⌝ }
 {

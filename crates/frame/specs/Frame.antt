@@ -1,15 +1,15 @@
 -- The frame: its two kinds of front, the header, the payload, and all of its chips (RULES 5.1 to 5.13).
 -- Source 002, an earlier draft, has a short header at 5.5 Mbit/s and uses the lowest SERVICE bit: both were given up.
 -- Definitions only. Assumes nothing.
-use Prim.Native.Nat.{ℕ, _+_, _*_, _/_}
+use Prim.Native.Nat.{ℕ, _+_, _*_}
 use mathlib.Core.Bool.{Bool, true, false}
 use mathlib.Core.List.{List, [], _∷_, _++_}
 use lib.ListN.{length, take, drop, replicate}
 use Rattle.rates.specs.declared.Rate.{Rate}
 use Rattle.rates.specs.declared.Rate.the-variants.{One, Two, Five, Eleven}
-use Rattle.rates.specs.Rates.{codeOf, symbolChips, symbolBits, octetChips, lengthField, bit7}
+use Rattle.rates.specs.Rates.{codeOf, octetChips, lengthField, bit7}
 use Rattle.bits.specs.Bits.{bitsOf, octetBits}
-use Rattle.bits.specs.Growths.{Symbol, symbolsOf, chipsFrom, lastPhase}
+use Rattle.bits.specs.Growths.{symbolsOf, chipsFrom, lastPhase}
 use Rattle.bits.specs.Scrambler.{scramble}
 use Rattle.bits.specs.Crc.{crcBits}
 use Rattle.frame.specs.declared.Kind.{Kind}

@@ -1,13 +1,13 @@
--- Reading, once for every recorder: over a list of chips, each unusable or a pair of counts (RULES 2.7, 6.2 to 6.12).
--- The order is 1, 7, 8, then 9 and 10 over the front, 11, 12, 13, 14, 15, 16, 17, then 9 and 10 over the payload;
--- in each part 9 is looked for through the whole part before 10.
+-- Reading, once for every recorder: over a list of chips, each unusable or a pair of counts (RULES 2.7, 6.2 to 6.10,
+-- 6.12). The order is 1, 7, 8, then 9 and 10 over the front, 11, 12, 13, 14, 15, 16, 17, then 9 and 10 over the
+-- payload; in each part 9 is looked for through the whole part before 10.
 -- Definitions only. Assumes nothing.
 use Prim.Native.Nat.{ℕ, zero, suc, _+_, _-_, _*_, _/_, _%_}
-use mathlib.Core.Bool.{Bool, true, false, cond, not, _&&_}
+use mathlib.Core.Bool.{Bool, true, false, cond, not, _&&_, _||_}
 use mathlib.Core.List.{List, [], _∷_, _++_, map}
 use mathlib.Core.Option.{Option, none, some}
 use lib.ListN.{length, getD, take, drop, replicate}
-use lib.Dec.{eqb, ltb, leb}
+use lib.Dec.{eqb, ltb}
 use lib.IntN.{natAbs}
 use Rattle.rates.specs.declared.Rate.{Rate}
 use Rattle.rates.specs.declared.Rate.the-variants.{One, Two, Five, Eleven}
@@ -124,7 +124,7 @@ abbrev pub serviceAllowed : Rate → ℕ → Bool
 serviceAllowed One s = eqb s 0
 serviceAllowed Two s = eqb s 0
 serviceAllowed Five s = eqb s 0
-serviceAllowed Eleven s = eqb s (128 * (s / 128 % 2))
+serviceAllowed Eleven s = eqb s 0 || eqb s 128
 
 -- two rows of bits are the same
 unfoldable pub sameBits : List ℕ → List ℕ → Bool

@@ -1,7 +1,7 @@
 -- Writing: refusals 1 to 6 in this order, the answer, and the chip buffer's final contents (RULES 6.1, 6.4, 6.9, 6.12).
 -- Definitions only. Assumes nothing.
-use Prim.Native.Nat.{ℕ, _+_, _-_}
-use mathlib.Core.Bool.{Bool, true, false, cond, not, _||_}
+use Prim.Native.Nat.{ℕ, _-_}
+use mathlib.Core.Bool.{Bool, cond, not, _||_}
 use mathlib.Core.List.{List, _++_}
 use lib.ListN.{length, replicate}
 use lib.Dec.{eqb, ltb}

@@ -196,10 +196,11 @@ module _ (kind rate phase : ℕ) (payload : List ℕ) (w : Written) (chips : Lis
 
 -- ---- the statements
 pub written-frame : WrittenFrame
-written-frame kind rate phase payload w chips s =
-    (ap (λ (v : Written). v .number) (w-is kind rate phase payload w chips s),
-    w-chips kind rate phase payload w chips s,
-    taken kind rate phase payload w chips s)
+written-frame kind rate phase payload w chips s = (
+  ap (λ (v : Written). v .number) (w-is kind rate phase payload w chips s),
+  w-chips kind rate phase payload w chips s,
+  taken kind rate phase payload w chips s,
+)
 
 pub read-back : ReadBack
 read-back kind rate phase payload w chips s tail room a left f h =

@@ -1,7 +1,7 @@
--- What is promised beyond each contract (RULES 1.4, 7, 9). Fills, reading back, one source and one answer speak of answers
--- and buffers that the contracts of crate dsss allow (`Wrote`, `Found`: Calls.antt), so they are about the programs.
--- Demand 3 speaks of the lists of words that the definition of reading takes its growths and bits from, the half a count
--- and Table P of the definitions. proofs/Kept.antt proves all of it. Definitions only. Assumes nothing.
+-- What is promised beyond each contract (RULES 1.4, 7, 9). Fills, reading back, one source and one answer speak of
+-- answers and buffers that the contracts of crate dsss allow (`Wrote`, `Found`: Calls.antt), so they are about the
+-- programs. Demand 3 speaks of the lists of words that the definition of reading takes its growths and bits from, the
+-- half a count and Table P of the definitions. proofs/Kept.antt proves all of it. Definitions only. Assumes nothing.
 use Prim.Native.Nat.{ℕ, _+_, _-_, _*_, _/_, _^_, _≤_, _<_}
 use mathlib.Core.Path.{_≡_}
 use mathlib.Core.Bool.{Bool, true}

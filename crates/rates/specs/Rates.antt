@@ -1,8 +1,8 @@
--- The four rates: their codes, what a symbol and an octet take, LENGTH and bit 7 (RULES 5.2, 5.8, 5.10 to 5.12).
--- IEEE 802.11b-1999 decides; the draft's lower end of 16 microseconds is not applied.
+-- The four rates: their codes, what a symbol and an octet take (RULES 3.1, 3.2, 4.1 to 4.5, 5.2, 5.8), LENGTH and bit 7
+-- (5.10 to 5.12, 6.4 no. 15). The draft's lower end of 16 microseconds is not applied (1.3).
 -- Definitions only. Assumes nothing.
-use mathlib.Core.Bool.{Bool, true, false, cond, _&&_, _||_}
-use Prim.Native.Nat.{ℕ, _+_, _-_, _*_, _/_}
+use mathlib.Core.Bool.{Bool, cond, _&&_, _||_}
+use Prim.Native.Nat.{ℕ, _+_, _*_, _/_}
 use lib.Dec.{leb, eqb}
 use lib.IntN.{ℤ, pos, _-ℤ_, natAbs}
 use lib.Signed.{leZ}

@@ -54,17 +54,14 @@ fn hear_payload(
 }
 
 // What a payload of usable chips comes to: 10, or the whole answer.
-fn heard(rate: Rate, field: usize, n: usize, used: usize, odd: Found) -> Reading
-    ensures answer { λ r. ⌜ r ≡ afterHeard rate field n used (whereFound odd) ⌝ }
+fn heard(rate: Rate, length: usize, n: usize, used: usize, odd: Found) -> Reading
+    ensures answer { λ r. ⌜ r ≡ afterHeard rate length n used (whereFound odd) ⌝ }
 {
     match odd {
-        Found::At(place) => Reading::Refused(Refusal::OddGrowth {
-            place,
-            length: field,
-        }),
+        Found::At(place) => Reading::Refused(Refusal::OddGrowth { place, length }),
         Found::Nothing => Reading::Good {
             rate,
-            length: field,
+            length,
             n,
             used,
         },
@@ -93,7 +90,8 @@ pub fn read_payload(
         (recordingOf rec (now (hard .entry)) (now (i .entry)) (now (q .entry))) (length (now (octets .entry))) r ⌝ }
 {
     let all = checks::frame_chips(kind, rate, n);
-    if recorders::chip_count(rec, hard, i, q) < all {
+    let count = recorders::chip_count(rec, hard, i, q);
+    if count < all {
         return Reading::Refused(Refusal::Ends { length: field });
     }
     if octets.len() < n {

@@ -95,8 +95,7 @@ unfolding run ran emit step octetBits
 sent r s h k [] a e = record {
   chips = rw (all-nil r h k) nothing;
   phase = rw (all-nil r h k) still;
-  past =
-      λ bs. none bs ∙ a bs;
+  past = λ bs. none bs ∙ a bs;
 }
   where
     none : (bs : List ℕ) → scramble (after h []) bs ≡ scramble h bs

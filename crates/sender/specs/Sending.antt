@@ -37,8 +37,7 @@ step r s x =
     record {
       past = reverse o;
       phase = lastPhase (s .phase) (symbolsAt r (s .odd) o);
-      odd =
-          (s .odd + octetSymbols r) % 2;
+      odd = (s .odd + octetSymbols r) % 2;
     }
 
 -- octets' chips, and what stands after them

@@ -1,2 +1,3 @@
 pub mod Words
 pub mod Numbers
+pub mod Facts

@@ -1,13 +1,12 @@
--- Numbers and words go together one to one: a number's phases make it, phases are those of their number, and two numbers
--- with one word are one, since a word's phases are read off its chips 7, 6, 5 and 3.
+-- Numbers and words go together one to one: a number's phases make it, phases are those of their number, and two
+-- numbers with one word are one, since a word's phases are read off its chips 7, 6, 5 and 3.
 -- Assumes nothing.
-use mathlib.Core.Path.{_≡_, refl, sym, ap, _∙_}
-use mathlib.Core.Bool.{Bool}
+use mathlib.Core.Path.{_≡_, sym, ap, _∙_}
 use mathlib.Core.List.{List}
 use Prim.Native.Nat.{ℕ, _+_, _*_, _/_, _%_, _<_}
 use native.Mathlib.Omega.{arith}
 use lib.ListN.{getD}
-use lib.Dec.{T, eqb, eqb→eq}
+use lib.Dec.{eqb, eqb→eq}
 use Rattle.base.proofs.Tests.{all-at}
 use Rattle.rates.specs.declared.Rate.{Rate}
 use Rattle.rates.specs.declared.Rate.the-variants.{One, Two, Five, Eleven}

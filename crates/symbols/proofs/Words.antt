@@ -1,5 +1,5 @@
--- Laws of the words, for every rate: how long a word is, that its chips are phases, that a turn of its phase turns every
--- chip, what word a number has, and the rules of the two tables, each once over its table.
+-- Laws of the words, for every rate: how long a word is, that its chips are phases, that a turn of its phase turns
+-- every chip, what word a number has, and the rules of the two tables, each once over its table.
 -- Assumes nothing.
 use mathlib.Core.Path.{_≡_, refl, sym, ap, _∙_}
 use mathlib.Core.List.{List, [], _∷_, map}
@@ -13,7 +13,7 @@ use Rattle.rates.specs.declared.Rate.{Rate}
 use Rattle.rates.specs.declared.Rate.the-variants.{One, Two, Five, Eleven}
 use Rattle.rates.specs.Rates.{symbolChips}
 use Rattle.chips.specs.Chips.{turned}
-use Rattle.symbols.specs.Words.{barkerSigns, signChip, barkerWord, cckWord, cckNumber, cckOf, p1Of, p2Of, p3Of, p4Of, wordOf}
+use Rattle.symbols.specs.Words.{barkerWord, cckWord, wordOf}
 
 -- every chip of the list is a phase, and so is what stands for one past its end
 pub record Phases (w : List ℕ) : Type 0 where
@@ -125,7 +125,8 @@ abbrev pub turnedAt : ℕ → List ℕ → ℕ → ℕ
 turnedAt p w j = turned p (getD w j 0)
 
 pub barker-filled : (p : ℕ) → tabulate (turnedAt p barkerTurns) 11 ≡ barkerWord p
-barker-filled p = sym (map-tabulate (turned p) barkerTurns 11 0 refl) ∙ ap (map (turned p)) barker-rule ∙ barker-turned p
+barker-filled p = sym (map-tabulate (turned p) barkerTurns 11 0 refl) ∙ ap (map (turned p)) barker-rule
+    ∙ barker-turned p
 
 pub five-filled : (p d : ℕ) → d < 4 → tabulate (turnedAt p (getD fiveTable d [])) 8 ≡ fiveWord p d
 five-filled p d h =

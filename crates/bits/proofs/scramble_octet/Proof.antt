@@ -2,7 +2,6 @@
 use mathlib.Core.Path.{ap, _∙_}
 use borrow.Author.Needs.{needs}
 use Rattle.bits.specs.Scrambler.{scramble}
-use Rattle.bits.specs.Code.{lastFirst}
 use Rattle.bits.proofs.scramble_octet.Statement.{statement}
 use Rattle.bits.proofs.scramble_octet.Tie as tie
 

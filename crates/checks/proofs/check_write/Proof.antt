@@ -1,14 +1,12 @@
 -- `checks::check_write` meets its contract: at each return the tests before it were passed and its own failed, and the
 -- definition computes to that refusal. Assumes nothing.
 use mathlib.Core.Path.{_≡_, sym, ap₂, _∙_}
-use mathlib.Core.Bool.{Bool, true, false, not, _||_}
-use Prim.Native.Nat.{ℕ, _≤_}
+use mathlib.Core.Bool.{Bool, true, false, _||_}
+use Prim.Native.Nat.{ℕ}
 use lib.Dec.{eqb, ltb}
 use borrow.Author.Needs.{needs}
 use borrow.Author.Tests.{lt-ltb, le-ltb, not-true, not-false}
-use Rattle.rates.specs.declared.Rate.{Rate}
 use Rattle.rates.specs.Rates.{isCode, rateOf}
-use Rattle.frame.specs.declared.Kind.{Kind}
 use Rattle.frame.specs.Frame.{goesWith, frameChips}
 use Rattle.frame.specs.Writing.{isKind, kindOf, writingOf}
 use Rattle.checks.proofs.Tests.{failed, passed}

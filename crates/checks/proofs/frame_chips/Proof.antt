@@ -1,13 +1,9 @@
 -- `checks::frame_chips` meets its contract: at 4,095 octets the frame has 362,472 chips, and no more in any case.
 -- Assumes nothing.
-use mathlib.Core.Path.{_≡_, ap₂}
-use Prim.Native.Nat.{ℕ, _+_, _*_, _≤_}
+use mathlib.Core.Path.{ap₂}
+use Prim.Native.Nat.{ℕ, _+_, _*_}
 use native.Mathlib.Omega.{arith}
 use borrow.Author.Needs.{needs}
-use Rattle.rates.specs.declared.Rate.{Rate}
-use Rattle.rates.specs.Rates.{octetChips}
-use Rattle.frame.specs.declared.Kind.{Kind}
-use Rattle.frame.specs.Frame.{frontChips, frameChips}
 use Rattle.checks.proofs.Sizes.{frame-small}
 use Rattle.checks.proofs.frame_chips.Statement.{statement}
 use Rattle.checks.proofs.frame_chips.Tie as tie

@@ -12,7 +12,8 @@ use Rattle.choice.proofs.choose_eleven.Tie as tie
 
 returns : tie.Need-returns
 unfolding decided
-returns c = c .largest .ensures ∙ place-table (scoreAt Eleven _) 256 _ (lit< tt) (c .before .before .scores-eleven .ensures)
+returns c = c .largest .ensures ∙ place-table (scoreAt Eleven _) 256 _ (lit< tt)
+    (c .before .before .scores-eleven .ensures)
 
 pub choose-eleven-spec : {M : Type 1} → statement M
 choose-eleven-spec =

@@ -1,8 +1,6 @@
 -- `choice::choose_five` meets its contract: the number at the place of the largest of the sixteen scores.
 -- Assumes nothing.
 use mathlib.Core.Path.{_≡_, sym, ap, _∙_}
-use mathlib.Core.List.{List}
-use Prim.Native.Nat.{ℕ}
 use lib.Dec.{lit<}
 use borrow.Author.Needs.{needs}
 use Rattle.rates.specs.declared.Rate.the-variants.{Five}
@@ -13,8 +11,10 @@ use Rattle.choice.proofs.Five.{five-allowed}
 use Rattle.choice.proofs.choose_five.Statement.{statement}
 use Rattle.choice.proofs.choose_five.Tie as tie
 
-place : (c : tie.After-largest) → c .largest .result ≡ firstLargest (λ k. scoreAt Five (c .before .before .before .args .cs) (number5 k)) (upTo 16)
-place c = c .largest .ensures ∙ place-table (λ k. scoreAt Five _ (number5 k)) 16 _ (lit< tt) (c .before .before .scores-five .ensures)
+place : (c : tie.After-largest) → c .largest .result ≡ firstLargest
+    (λ k. scoreAt Five (c .before .before .before .args .cs) (number5 k)) (upTo 16)
+place c = c .largest .ensures ∙ place-table (λ k. scoreAt Five _ (number5 k)) 16 _ (lit< tt)
+    (c .before .before .scores-five .ensures)
 
 number-five-requires : tie.Need-number-five-requires
 number-five-requires c κs = rw (place c) (up-best _ 16 (lit< tt) .among)

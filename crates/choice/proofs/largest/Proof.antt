@@ -1,15 +1,15 @@
--- `choice::largest` meets its contract: every number passed is smaller than the largest, so the place of the first that is
--- not is the place of the largest.
+-- `choice::largest` meets its contract: every number passed is smaller than the largest, so the place of the first
+-- that is not is the place of the largest.
 -- Assumes nothing.
 use mathlib.Core.Path.{_≡_, sym, _∙_, subst}
 use mathlib.Core.Bool.{Bool, true, false, not}
 use mir.Syntax.{w32}
 use mir.Val.{toZ, ofZ}
-use Prim.Native.Nat.{zero-le, _-_, _≤_, _<_}
+use Prim.Native.Nat.{zero-le, _-_, _≤_}
 use native.Mathlib.Omega.{arith}
 use lib.Dec.{T}
 use lib.ListN.{length, getD}
-use lib.IntN.{ℤ, pos}
+use lib.IntN.{pos}
 use lib.Signed.{ltZ, ltZ-yes, ltZ-no}
 use borrow.Author.Needs.{needs}
 use Rattle.choice.specs.Scores.{placeOfLargest}
@@ -54,7 +54,8 @@ loop-again c =
     let r : toZ w32 (ofZ w32 (getD l k (pos 0))) ≡ getD l k (pos 0) = search needs in
     let t : toZ w32 (ofZ w32 (c .before .before .before .top-of .result)) ≡ getD l (placeOfLargest l) (pos 0) =
     search needs ∙ c .before .before .before .top-of .ensures in
-    let lt : ltZ (getD l k (pos 0)) (getD l (placeOfLargest l) (pos 0)) ≡ true = (λ i. ltZ (sym r i) (sym t i)) ∙ c .if1 .taken in
+    let lt : ltZ (getD l k (pos 0)) (getD l (placeOfLargest l) (pos 0)) ≡ true = (λ i. ltZ (sym r i) (sym t i))
+    ∙ c .if1 .taken in
     place-after l (s .pre) k (c .before .before .loop .inv) (ltZ-yes (subst T (sym lt) tt))
 
 returns : tie.Need-returns Inv-loop μ-loop
@@ -65,10 +66,12 @@ returns c =
     let r : toZ w32 (ofZ w32 (getD l k (pos 0))) ≡ getD l k (pos 0) = search needs in
     let t : toZ w32 (ofZ w32 (c .before .before .before .top-of .result)) ≡ getD l (placeOfLargest l) (pos 0) =
     search needs ∙ c .before .before .before .top-of .ensures in
-    let ge : ltZ (getD l k (pos 0)) (getD l (placeOfLargest l) (pos 0)) ≡ false = (λ i. ltZ (sym r i) (sym t i)) ∙ c .if1 .left in
+    let ge : ltZ (getD l k (pos 0)) (getD l (placeOfLargest l) (pos 0)) ≡ false = (λ i. ltZ (sym r i) (sym t i))
+    ∙ c .if1 .left in
     place-here l (s .pre) k (c .before .before .loop .inv) (ltZ-no (subst (λ (b : Bool). T (not b)) (sym ge) tt))
 
 pub largest-spec : {M : Type 1} → statement M
 largest-spec =
     tie.close
-    (tie.spec Inv-loop μ-loop (λ c κs. search needs) loop-holds mul-if1 shared-slice-copy-out-if1 add-k loop-less loop-again returns)
+    (tie.spec Inv-loop μ-loop (λ c κs. search needs) loop-holds mul-if1 shared-slice-copy-out-if1 add-k loop-less
+    loop-again returns)

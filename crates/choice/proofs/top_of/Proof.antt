@@ -27,7 +27,8 @@ loop-holds c = (search needs, topped-one _ _ (search needs))
 loop-again : tie.Need-loop-again Inv-loop μ-loop
 loop-again c =
     let inv = c .before .before .before .loop .inv .1 in
-    let x = getD (c .before .before .before .before .before .args .s .now) (c .before .before .before .loop .k) (pos 0) in
+    let x = getD (c .before .before .before .before .before .args .s .now) (c .before .before .before .loop .k)
+    (pos 0) in
     let e : toZ w32 (ofZ w32 x) ≡ x = search needs in (
       search needs,
       ⊎-elim (λ w. rw (w .1) (topped-up (ofZ w32 x) inv e (w .0 .taken)))
@@ -45,5 +46,5 @@ returns c =
 pub top-of-spec : {M : Type 1} → statement M
 top-of-spec =
     tie.close
-    (tie.spec Inv-loop μ-loop (λ c. search needs) loop-holds (λ c. search needs) (λ c. search needs) (λ c. search needs)
-    (λ c. search needs) loop-again returns)
+    (tie.spec Inv-loop μ-loop (λ c. search needs) loop-holds (λ c. search needs) (λ c. search needs)
+    (λ c. search needs) (λ c. search needs) loop-again returns)

@@ -25,5 +25,6 @@ pub folded-spec : {M : Type 1} → statement M
 folded-spec =
     tie.close
     (tie.spec
-    Inv-loop μ-loop (λ c. omega arith) (λ c. omega arith) (λ c. omega arith) cast-sum add-sum add-sum-2 (λ c. omega arith)
+    Inv-loop μ-loop (λ c. omega arith) (λ c. omega arith) (λ c. omega arith) cast-sum add-sum add-sum-2
+    (λ c. omega arith)
     (λ c. omega arith) (λ c. omega arith) (λ c. search needs))

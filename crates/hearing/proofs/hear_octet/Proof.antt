@@ -38,7 +38,7 @@ loop-holds : tie.Need-loop-holds Inv-loop μ-loop
 loop-holds c = symbols-none _ _ _ _ (c .before .before .before .before .before .pre .1)
 
 decide-requires : tie.Need-decide-requires Inv-loop μ-loop
-decide-requires c κs = within c
+decide-requires c κs = omega (arith, within c, c .before .loop .inv .at-place)
 
 hear-requires : tie.Need-hear-requires Inv-loop μ-loop
 hear-requires c κs = (

@@ -19,11 +19,11 @@ abbrev μ-loop : tie.MeasureT-loop
 loop-holds : tie.Need-loop-holds Inv-loop μ-loop
 loop-holds c = filled-none _ 11 _ refl
 
-add-word : tie.Need-add-word Inv-loop μ-loop
-add-word c = omega (arith, barker-turns-phases .at (c .before .loop .k))
-
 loop-again : tie.Need-loop-again Inv-loop μ-loop
 loop-again c = filled-more _ (c .before .loop .inv) (c .loop-test .taken) refl
+
+add-word : tie.Need-add-word Inv-loop μ-loop
+add-word c = omega (arith, barker-turns-phases .at (c .before .loop .k))
 
 returns : tie.Need-returns Inv-loop μ-loop
 returns c = filled-all (c .before .loop .inv) (c .loop-test .left) ∙ barker-filled _
@@ -31,5 +31,5 @@ returns c = filled-all (c .before .loop .inv) (c .loop-test .left) ∙ barker-fi
 pub barker-word-spec : {M : Type 1} → statement M
 barker-word-spec =
     tie.close
-    (tie.spec Inv-loop μ-loop loop-holds (λ c. search needs) add-word (λ c. search needs) (λ c. search needs) (λ c. search needs) loop-again
-    returns)
+    (tie.spec Inv-loop μ-loop loop-holds (λ c. search needs) add-word (λ c. search needs) (λ c. search needs)
+    (λ c. search needs) loop-again returns)

@@ -19,17 +19,21 @@ abbrev μ-loop : tie.MeasureT-loop
 loop-holds : tie.Need-loop-holds Inv-loop μ-loop
 loop-holds c = filled-none _ 8 _ refl
 
-add-word : tie.Need-add-word Inv-loop μ-loop
-add-word c = omega (arith, five-phases (c .before .before .before .args .d) (c .before .before .before .pre .1) .at (c .before .loop .k))
-
 loop-again : tie.Need-loop-again Inv-loop μ-loop
 loop-again c = filled-more _ (c .before .loop .inv) (c .loop-test .taken) refl
 
 returns : tie.Need-returns Inv-loop μ-loop
 returns c = filled-all (c .before .loop .inv) (c .loop-test .left) ∙ five-filled _ _ (c .before .before .before .pre .1)
 
+add-word : tie.Need-add-word Inv-loop μ-loop
+add-word c = omega (
+  arith,
+  five-phases (c .before .before .before .args .d) (c .before .before .before .pre .1) .at
+      (c .before .loop .k),
+)
+
 pub five-word-spec : {M : Type 1} → statement M
 five-word-spec =
     tie.close
-    (tie.spec Inv-loop μ-loop (λ c. search needs) (λ c. search needs) loop-holds (λ c. search needs) add-word (λ c. search needs)
-    (λ c. search needs) (λ c. search needs) loop-again returns)
+    (tie.spec Inv-loop μ-loop (λ c. search needs) (λ c. search needs) loop-holds (λ c. search needs) add-word
+    (λ c. search needs) (λ c. search needs) (λ c. search needs) loop-again returns)

@@ -1,6 +1,5 @@
 -- `checks::header::both` meets its contract: the number of two octets, each below 256. Assumes nothing.
 use mathlib.Core.Path.{sym}
-use native.Mathlib.Omega.{arith}
 use borrow.Author.Needs.{needs}
 use Rattle.bits.proofs.Bits.{number-two}
 use Rattle.checks.proofs.header.both.Statement.{statement}

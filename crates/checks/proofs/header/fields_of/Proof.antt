@@ -1,8 +1,8 @@
 -- `checks::header::fields_of` meets its contract: at each return the tests before it were passed and its own failed,
 -- and the definition computes to that answer. Assumes nothing.
 use mathlib.Core.Path.{_≡_, ap, _∙_}
-use mathlib.Core.Bool.{Bool, true, false, _&&_}
-use Prim.Native.Nat.{ℕ, _/_, _%_}
+use mathlib.Core.Bool.{true, _&&_}
+use Prim.Native.Nat.{_/_, _%_}
 use borrow.Author.Needs.{needs}
 use Rattle.rates.specs.declared.Rate.{Rate}
 use Rattle.rates.specs.Rates.{isCode, rateOf}

@@ -1,10 +1,9 @@
 -- `checks::header::header_octets` meets its contract: the four octets are the fields, lowest bit first.
 -- Assumes nothing.
-use mathlib.Core.Path.{_≡_, ap, _∙_}
+use mathlib.Core.Path.{ap, _∙_}
 use Prim.Native.Nat.{ℕ, _*_, _/_, _%_}
 use native.Mathlib.Omega.{arith}
 use borrow.Author.Needs.{needs}
-use Rattle.rates.specs.declared.Rate.{Rate}
 use Rattle.checks.proofs.Fields.{code-small, header-is}
 use Rattle.checks.proofs.header.header_octets.Statement.{statement}
 use Rattle.checks.proofs.header.header_octets.Tie as tie

@@ -1,6 +1,6 @@
 -- `checks::header::header_of` meets its contract: at each return the tests before it were passed and its own failed,
 -- and the fields are cut out of the header's octets. Assumes nothing.
-use mathlib.Core.Path.{_≡_, _∙_}
+use mathlib.Core.Path.{_≡_}
 use Prim.Native.Nat.{ℕ}
 use lib.ListN.{length, getD}
 use mir.Syntax.{w8}

@@ -1,6 +1,6 @@
 -- `checks::header::signal_allowed` meets its contract: a code, and then a rate that goes with the kind.
 -- Assumes nothing.
-use mathlib.Core.Path.{_≡_, ap, _∙_}
+use mathlib.Core.Path.{ap, _∙_}
 use borrow.Author.Needs.{needs}
 use Rattle.frame.specs.Frame.{goesWith}
 use Rattle.checks.proofs.Tests.{failed, passed}

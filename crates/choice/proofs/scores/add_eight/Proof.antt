@@ -36,10 +36,11 @@ returns c =
     let at = c .before .before .args .t2 in
     let e : toZ w32 (ofZ w32 (c .before .add-four .result)) ≡ c .before .add-four .result = search needs in
     search needs ∙ c .add-four2 .ensures
-    ∙ ap (λ (z : ℤ). addFour z t (getD at 0 0) (getD at 1 0) (getD at 2 0) (getD at 3 0)) (e ∙ c .before .add-four .ensures)
+    ∙ ap (λ (z : ℤ). addFour z t (getD at 0 0) (getD at 1 0) (getD at 2 0) (getD at 3 0))
+    (e ∙ c .before .add-four .ensures)
 
 pub add-eight-spec : {M : Type 1} → statement M
 add-eight-spec =
     tie.close
-    (tie.spec (λ c. search needs) (λ c. search needs) (λ c. search needs) (λ c. search needs) add-four-requires (λ c. search needs)
-    (λ c. search needs) (λ c. search needs) (λ c. search needs) add-four-requires-2 returns)
+    (tie.spec (λ c. search needs) (λ c. search needs) (λ c. search needs) (λ c. search needs) add-four-requires
+    (λ c. search needs) (λ c. search needs) (λ c. search needs) (λ c. search needs) add-four-requires-2 returns)

@@ -4,9 +4,8 @@ use mathlib.Core.Path.{_≡_, refl, sym, ap, _∙_, subst}
 use mir.Syntax.{w32}
 use mir.Val.{toZ, ofZ}
 use Rattle.base.specs.Whole.{Within}
-use Prim.Native.Nat.{_+_, _-_, _%_, _<_}
-use native.Mathlib.Omega.{arith}
-use lib.IntN.{ℤ, pos}
+use Prim.Native.Nat.{_+_, _-_, _%_}
+use lib.IntN.{ℤ}
 use borrow.Author.Needs.{needs}
 use Rattle.base.specs.Tables.{Filled}
 use Rattle.base.proofs.Tables.{filled-none, filled-more, filled-all}
@@ -32,8 +31,16 @@ add-four-requires-2 : tie.Need-add-four-requires-2 Inv-loop μ-loop
 add-four-requires-2 c κs =
     let s = c .before .before .before in
     let r = c .before .before .add-four .result in
-    let e : toZ w32 (ofZ w32 r) ≡ r = search needs in
-    (subst (Within 32768) (sym (e ∙ c .before .before .add-four .ensures)) (four-within _ _ _ _ (within-zero 0) (s .pre .0)), s .pre .0, search needs, search needs, search needs, search needs)
+    let e : toZ w32 (ofZ w32 r) ≡ r = search needs in (
+      subst (Within 32768) (sym (e ∙ c .before .before .add-four .ensures))
+          (four-within _ _ _ _ (within-zero 0)
+          (s .pre .0)),
+      s .pre .0,
+      search needs,
+      search needs,
+      search needs,
+      search needs,
+    )
 
 loop-again : tie.Need-loop-again Inv-loop μ-loop
 loop-again c =
@@ -47,7 +54,8 @@ loop-again c =
     let e : toZ w32 (ofZ w32 r) ≡ r = search needs in
     filled-more _ (c .before .before .loop .inv) (c .before .loop-test .taken)
     (search needs ∙ c .add-four2 .ensures
-    ∙ ap (λ (z : ℤ). addFour z (s .args .t .now) (a + p) (b + p) (d + p) (f + p)) (e ∙ c .before .before .before .add-four .ensures))
+    ∙ ap (λ (z : ℤ). addFour z (s .args .t .now) (a + p) (b + p) (d + p) (f + p))
+    (e ∙ c .before .before .before .add-four .ensures))
 
 returns : tie.Need-returns Inv-loop μ-loop
 returns c = filled-all (c .before .loop .inv) (c .loop-test .left)
@@ -55,8 +63,9 @@ returns c = filled-all (c .before .loop .inv) (c .loop-test .left)
 pub four-words-spec : {M : Type 1} → statement M
 four-words-spec =
     tie.close
-    (tie.spec Inv-loop μ-loop (λ c. search needs) (λ c. search needs) (λ c. search needs) (λ c. search needs) (λ c. search needs)
-    (λ c. search needs) (λ c. search needs) (λ c. search needs) (λ c. search needs) (λ c. search needs) (λ c. search needs)
-    (λ c. search needs) (λ c. search needs) (λ c. search needs) add-four-requires loop-holds (λ c. search needs)
-    (λ c. search needs) (λ c. search needs) (λ c. search needs) add-four-requires-2 (λ c. search needs) (λ c. search needs)
-    (λ c. search needs) (λ c. search needs) loop-again returns)
+    (tie.spec Inv-loop μ-loop (λ c. search needs) (λ c. search needs) (λ c. search needs) (λ c. search needs)
+    (λ c. search needs) (λ c. search needs) (λ c. search needs) (λ c. search needs) (λ c. search needs)
+    (λ c. search needs) (λ c. search needs) (λ c. search needs) (λ c. search needs) (λ c. search needs)
+    add-four-requires loop-holds (λ c. search needs) (λ c. search needs) (λ c. search needs) (λ c. search needs)
+    add-four-requires-2 (λ c. search needs) (λ c. search needs) (λ c. search needs) (λ c. search needs) loop-again
+    returns)

@@ -1,6 +1,6 @@
 -- `choice::scores::half_eleven` meets its contract: after g groups of four the first 4 g places hold their scores.
 -- Assumes nothing.
-use mathlib.Core.Path.{_≡_, refl, sym, ap, _∙_}
+use mathlib.Core.Path.{_≡_, refl, ap, _∙_}
 use mathlib.Core.List.{List}
 use Prim.Native.Nat.{ℕ, _+_, _-_, _*_, _/_, _%_, _<_}
 use native.Mathlib.Omega.{arith}
@@ -10,7 +10,7 @@ use lib.IntN.{ℤ, pos}
 use mir.Syntax.{w32}
 use mir.Val.{toZ, ofZ}
 use borrow.Author.Needs.{needs}
-use Rattle.base.specs.Tables.{tabulate, Filled}
+use Rattle.base.specs.Tables.{Filled}
 use Rattle.base.proofs.Tables.{filled-none, filled-all, getD-tabulate, tabulate-ext}
 use Rattle.rates.specs.declared.Rate.the-variants.{Eleven}
 use Rattle.symbols.specs.Words.{cckOf}
@@ -32,8 +32,13 @@ loop-holds c = filled-none _ 128 _ refl
 
 four-words-requires : tie.Need-four-words-requires Inv-loop μ-loop
 four-words-requires c κs =
-    let s = c .before .before .before in
-    (at-within (s .before .args .cs) (s .turns .result) (s .turns .ensures) (s .before .pre), search needs, search needs, search needs)
+    let s = c .before .before .before in (
+      at-within (s .before .args .cs) (s .turns .result) (s .turns .ensures)
+          (s .before .pre),
+      search needs,
+      search needs,
+      search needs,
+    )
 
 -- the p-th of four that the call answers is the score of number n = 4 g + p
 answer : (c : tie.After-four-words Inv-loop μ-loop) (p n : ℕ) → p < 4 → 4 * (c .before .before .before .loop .g) + p ≡ n
@@ -55,7 +60,8 @@ loop-again c =
     let r1 : toZ w32 (ofZ w32 (getD f 1 (pos 0))) ≡ getD f 1 (pos 0) = search needs in
     let r2 : toZ w32 (ofZ w32 (getD f 2 (pos 0))) ≡ getD f 2 (pos 0) = search needs in
     let r3 : toZ w32 (ofZ w32 (getD f 3 (pos 0))) ≡ getD f 3 (pos 0) = search needs in
-    let a0 = filled-then (4 * g) _ (w .before .before .before .loop .inv) refl (omega arith) (r0 ∙ answer w 0 (4 * g) (lit< tt) (omega arith)) in
+    let a0 = filled-then (4 * g) _ (w .before .before .before .loop .inv) refl (omega arith)
+    (r0 ∙ answer w 0 (4 * g) (lit< tt) (omega arith)) in
     let a1 = filled-then (4 * g + 1) _ a0 refl (omega arith) (r1 ∙ answer w 1 (4 * g + 1) (lit< tt) refl) in
     let a2 = filled-then (4 * g + 2) _ a1 (omega arith) (omega arith) (r2 ∙ answer w 2 (4 * g + 2) (lit< tt) refl) in
     let a3 = filled-then (4 * g + 3) _ a2 (omega arith) (omega arith) (r3 ∙ answer w 3 (4 * g + 3) (lit< tt) refl) in
@@ -73,8 +79,9 @@ returns c =
 pub half-eleven-spec : {M : Type 1} → statement M
 half-eleven-spec =
     tie.close
-    (tie.spec Inv-loop μ-loop (λ c κs. search needs) loop-holds four-words-requires (λ c. search needs) (λ c. search needs)
-    (λ c. search needs) (λ c. search needs) (λ c. search needs) (λ c. search needs) (λ c. search needs) (λ c. search needs)
-    (λ c. search needs) (λ c. search needs) (λ c. search needs) (λ c. search needs) (λ c. search needs) (λ c. search needs)
-    (λ c. search needs) (λ c. search needs) (λ c. search needs) (λ c. search needs) (λ c. search needs) (λ c. search needs)
-    (λ c. search needs) loop-again returns)
+    (tie.spec Inv-loop μ-loop (λ c κs. search needs) loop-holds four-words-requires (λ c. search needs)
+    (λ c. search needs) (λ c. search needs) (λ c. search needs) (λ c. search needs) (λ c. search needs)
+    (λ c. search needs) (λ c. search needs) (λ c. search needs) (λ c. search needs) (λ c. search needs)
+    (λ c. search needs) (λ c. search needs) (λ c. search needs) (λ c. search needs) (λ c. search needs)
+    (λ c. search needs) (λ c. search needs) (λ c. search needs) (λ c. search needs) (λ c. search needs) loop-again
+    returns)

@@ -1,7 +1,7 @@
 -- `choice::scores::half_five` meets its contract: the places of each call are those of its number's word.
 -- Assumes nothing.
 use mathlib.Core.Path.{_≡_, _∙_}
-use mathlib.Core.List.{List, [], _∷_}
+use mathlib.Core.List.{[], _∷_}
 use Prim.Native.Nat.{ℕ}
 use lib.ListN.{length}
 use lib.IntN.{ℤ}
@@ -50,14 +50,19 @@ returns c =
     ∷ read t 7 _ (c .add-eight8 .ensures) i
     ∷ []
 
+-- from before the fifth call back to where the row was made
+abbrev back : tie.After-t5 → tie.After-turns
+back c = c .before .before .before .before .before .before .before .before .before
+
 pub half-five-spec : {M : Type 1} → statement M
 half-five-spec =
     tie.close
-    (tie.spec (λ c κs. search needs) (λ c κs. (row (c .before), below-64 _ tt)) (λ c κs. (row (c .before .before .before), below-64 _ tt))
+    (tie.spec (λ c κs. search needs) (λ c κs. (row (c .before), below-64 _ tt))
+    (λ c κs. (row (c .before .before .before), below-64 _ tt))
     (λ c κs. (row (c .before .before .before .before .before), below-64 _ tt))
     (λ c κs. (row (c .before .before .before .before .before .before .before), below-64 _ tt))
-    (λ c κs. (row (c .before .before .before .before .before .before .before .before .before), below-64 _ tt))
-    (λ c κs. (row (c .before .before .before .before .before .before .before .before .before .before .before), below-64 _ tt))
-    (λ c κs. (row (c .before .before .before .before .before .before .before .before .before .before .before .before .before), below-64 _ tt))
-    (λ c κs. (row (c .before .before .before .before .before .before .before .before .before .before .before .before .before .before .before), below-64 _ tt))
+    (λ c κs. (row (back c), below-64 _ tt))
+    (λ c κs. (row (back (c .before .before)), below-64 _ tt))
+    (λ c κs. (row (back (c .before .before .before .before)), below-64 _ tt))
+    (λ c κs. (row (back (c .before .before .before .before .before .before)), below-64 _ tt))
     returns)

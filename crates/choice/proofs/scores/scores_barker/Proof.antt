@@ -1,15 +1,14 @@
--- `choice::scores::scores_barker` meets its contract: x and y are the scores so far of the phases 0 and 1, and the two upper
--- phases are the lower ones turned by a half.
+-- `choice::scores::scores_barker` meets its contract: x and y are the scores so far of the phases 0 and 1, and the
+-- two upper phases are the lower ones turned by a half.
 -- Assumes nothing.
-use mathlib.Core.Path.{_≡_, ap, _∙_}
-use mathlib.Core.List.{List, [], _∷_}
+use mathlib.Core.Path.{_≡_, _∙_}
+use mathlib.Core.List.{[], _∷_}
 use mathlib.Core.Logic.{⊎-elim}
 use Prim.Native.Nat.{zero-le, _-_}
 use lib.Dec.{lit<}
 use lib.ListN.{length}
 use borrow.Author.Needs.{needs}
 use Rattle.base.specs.Tables.{tabulate}
-use Rattle.symbols.specs.Words.{barkerWord}
 use Rattle.choice.proofs.Sum.{summed-none}
 use Rattle.choice.proofs.Barker.{
   Both,
@@ -91,5 +90,5 @@ returns c =
 pub scores-barker-spec : {M : Type 1} → statement M
 scores-barker-spec =
     tie.close
-    (tie.spec Inv-loop μ-loop loop-holds (λ c. search needs) (λ c. search needs) (λ c. search needs) add-x add-y sub-x sub-y
-    (λ c. search needs) (λ c. search needs) loop-again sub-t18 sub-t19 returns)
+    (tie.spec Inv-loop μ-loop loop-holds (λ c. search needs) (λ c. search needs) (λ c. search needs) add-x add-y
+    sub-x sub-y (λ c. search needs) (λ c. search needs) loop-again sub-t18 sub-t19 returns)

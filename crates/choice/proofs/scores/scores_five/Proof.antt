@@ -1,5 +1,5 @@
--- `choice::scores::scores_five` meets its contract: the first k places of each half hold the scores of the first k words and
--- their negatives, which are those of the words turned by a half.
+-- `choice::scores::scores_five` meets its contract: the first k places of each half hold the scores of the first k
+-- words and their negatives, which are those of the words turned by a half.
 -- Assumes nothing.
 use mathlib.Core.Path.{refl}
 use Prim.Native.Nat.{_-_}
@@ -23,24 +23,27 @@ loop-holds c = halves-none _ refl
 sub-scores : tie.Need-sub-scores Inv-loop μ-loop
 sub-scores c =
     let s = c .before .before .before in
-    mirror-fits (five-score (s .before .args .cs)) 8 _ (s .half-five .ensures) (λ k h. cck-within (number5 k) (s .before .pre)) _
+    mirror-fits (five-score (s .before .args .cs)) 8 _ (s .half-five .ensures)
+    (λ k h. cck-within (number5 k) (s .before .pre)) _
     (c .before .loop-test .taken)
 
 loop-again : tie.Need-loop-again Inv-loop μ-loop
 loop-again c =
     let s = c .before .before .before in
-    mirror-more (five-score (s .before .args .cs)) 8 _ (s .half-five .ensures) (λ k h. cck-within (number5 k) (s .before .pre))
+    mirror-more (five-score (s .before .args .cs)) 8 _ (s .half-five .ensures)
+    (λ k h. cck-within (number5 k) (s .before .pre))
     (c .before .before .loop .inv) (c .before .loop-test .taken)
 
 returns : tie.Need-returns Inv-loop μ-loop
 returns c =
     let s = c .before .before in
-    mirror-all (five-score (s .before .args .cs)) 8 _ (s .half-five .ensures) (λ k h. cck-within (number5 k) (s .before .pre))
+    mirror-all (five-score (s .before .args .cs)) 8 _ (s .half-five .ensures)
+    (λ k h. cck-within (number5 k) (s .before .pre))
     (c .before .loop .inv) (c .loop-test .left) (five-half (s .before .args .cs))
 
 pub scores-five-spec : {M : Type 1} → statement M
 scores-five-spec =
     tie.close
-    (tie.spec Inv-loop μ-loop (λ c κs. search needs) loop-holds (λ c. search needs) (λ c. search needs) (λ c. search needs)
-    (λ c. search needs) sub-scores (λ c. search needs) (λ c. search needs) (λ c. search needs) (λ c. search needs)
-    (λ c. search needs) loop-again returns)
+    (tie.spec Inv-loop μ-loop (λ c κs. search needs) loop-holds (λ c. search needs) (λ c. search needs)
+    (λ c. search needs) (λ c. search needs) sub-scores (λ c. search needs) (λ c. search needs) (λ c. search needs)
+    (λ c. search needs) (λ c. search needs) loop-again returns)
