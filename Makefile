@@ -2,6 +2,7 @@
 # them there, neither uses the network. The Rattle kit's command `rt` must be on PATH.
 
 LIB := target/staticlib/libdsss.a
+PARTS := target/staticlib/libparts.a
 OUT := target/c
 STRICT := -std=c99 -Wall -Wextra -Wpedantic -Werror -Iinclude
 PREFIX ?= /usr/local
@@ -50,6 +51,10 @@ $(LIB): $(wildcard crates/*/src/*.rt crates/*/specs/*.antt) crates.txt | package
 	echo 'proving and building the library: a few minutes where nothing of it is proved yet'
 	rt staticlib dsss > target/staticlib.log 2>&1 || { cat target/staticlib.log; exit 1; }
 
+$(PARTS): $(wildcard crates/*/src/*.rt crates/*/specs/*.antt) crates.txt | packages
+	mkdir -p target
+	rt staticlib parts > target/parts.log 2>&1 || { cat target/parts.log; exit 1; }
+
 $(OUT)/host: examples/host/host.c include/dsss.h $(LIB)
 	mkdir -p $(OUT)
 	scripts/x86cc $@ examples/host/host.c $(LIB) -- $(STRICT)
@@ -58,9 +63,9 @@ $(OUT)/bridge: tests/bridge/bridge.c include/dsss.h $(LIB)
 	mkdir -p $(OUT)
 	scripts/x86cc $@ tests/bridge/bridge.c $(LIB) -- $(STRICT)
 
-$(OUT)/bench: bench/bench.c bench/plain.c bench/plain.h include/dsss.h $(LIB)
+$(OUT)/bench: bench/bench.c bench/plain.c bench/plain.h bench/parts.h include/dsss.h $(LIB) $(PARTS)
 	mkdir -p $(OUT)
-	scripts/x86cc $@ bench/bench.c bench/plain.c $(LIB) -- $(STRICT) -O3
+	scripts/x86cc $@ bench/bench.c bench/plain.c $(LIB) $(PARTS) -- $(STRICT) -O3
 
 target/peer/peer: $(wildcard tests/peer/src/*.rs tests/peer/src/families/*.rs) | packages
 	mkdir -p target/peer

@@ -10,6 +10,7 @@
  * The variable DSSS_EMULATED, set by scripts/x86run, says that no real processor is timed: chips
  * per second and the multiple of 11 Mchip/s are left out then. */
 #define _POSIX_C_SOURCE 200809L
+#include "parts.h"
 #include "plain.h"
 
 #include <inttypes.h>
@@ -26,11 +27,13 @@ struct library {
     dsss_record (*read_hard)(uint64_t, const uint8_t *, size_t, uint8_t *, size_t);
     dsss_record (*read_soft)(uint64_t, const float *, size_t, const float *, size_t, uint8_t *,
                              size_t);
+    void (*count)(const float *, size_t, int32_t *, size_t);
+    uint64_t (*decide)(uint64_t, const float *, size_t, const float *, size_t);
 };
 
 static const struct library libraries[2] = {
-    {dsss_write, dsss_read_hard, dsss_read_soft},
-    {plain_write, plain_read_hard, plain_read_soft},
+    {dsss_write, dsss_read_hard, dsss_read_soft, parts_count, parts_decide},
+    {plain_write, plain_read_hard, plain_read_soft, plain_count, plain_decide},
 };
 
 static const struct {
@@ -58,7 +61,7 @@ static void fail(const char *message)
 
 /* ---- The calls ------------------------------------------------------------------------------- */
 
-/* One call of a library; plain C's parts, timed alone, leave the library out. */
+/* One call of a library. */
 typedef uint64_t (*task_fn)(const struct library *);
 
 static uint64_t write_task(const struct library *l)
@@ -163,19 +166,19 @@ static int by_size(const void *a, const void *b)
     return (x > y) - (x < y);
 }
 
-/* Nanoseconds a call, for the first `many` libraries. */
-static void measure(task_fn task, double *ns, size_t many)
+/* Nanoseconds a call, for both libraries. */
+static void measure(task_fn task, double ns[2])
 {
     uint64_t count[2] = {1, 1};
     double times[2][ROUNDS];
 
-    for (size_t l = 0; l < many; l++)
+    for (size_t l = 0; l < 2; l++)
         while (time_of(task, &libraries[l], count[l]) < limit)
             count[l] *= 2;
     for (size_t round = 0; round < ROUNDS; round++)
-        for (size_t l = 0; l < many; l++)
+        for (size_t l = 0; l < 2; l++)
             times[l][round] = time_of(task, &libraries[l], count[l]) * 1e9 / (double)count[l];
-    for (size_t l = 0; l < many; l++) {
+    for (size_t l = 0; l < 2; l++) {
         qsort(times[l], ROUNDS, sizeof times[l][0], by_size);
         ns[l] = times[l][ROUNDS / 2];
     }
@@ -201,7 +204,7 @@ static void one_line(const char *name, const char *rate_name, task_fn task)
 {
     double ns[2];
 
-    measure(task, ns, 2);
+    measure(task, ns);
     printf("%-9s  %-5s  %4s  %7zu  %12.0f  %12.0f  %6.2f", name, kinds[kind], rate_name, chips_len,
            ns[0], ns[1], ns[0] / ns[1]);
     if (!emulated) {
@@ -239,7 +242,7 @@ static void growth(void)
         for (size_t s = 0; s < sizeof sizes / sizeof sizes[0]; s++) {
             set_up(DSSS_LONG, rates[r].code, sizes[s]);
             agree();
-            measure(write_task, ns, 2);
+            measure(write_task, ns);
             printf("%4s  %6zu  %7zu  %12.0f  %12.0f  %6.2f", rates[r].name, payload_len, chips_len,
                    ns[0], ns[1], ns[0] / ns[1]);
             if (s == 0)
@@ -252,66 +255,75 @@ static void growth(void)
         }
 }
 
-/* ---- Parts of plain C, to see where a reader's time goes ------------------------------------- */
+/* ---- Parts of reading, to see where a reader's time goes ------------------------------------- */
 
-static int32_t i_counts[DSSS_CHIPS_MAX], q_counts[DSSS_CHIPS_MAX];
+enum { ROW = 4096 }; /* samples of a part's row: the first of the payload */
 
-static uint64_t count_part(const struct library *l)
+static const float *const i_part = i_row + DSSS_FRONT_LONG, *const q_part = q_row + DSSS_FRONT_LONG;
+static int32_t counts[ROW];
+static size_t symbol_chips;
+
+static uint64_t count_task(const struct library *l)
 {
-    (void)l;
-    plain_count(i_row, i_counts, chips_len);
-    return (uint64_t)i_counts[chips_len - 1];
+    l->count(i_part, ROW, counts, ROW);
+    return (uint64_t)counts[ROW - 1];
 }
 
-static uint64_t barker_part(const struct library *l)
+static uint64_t decide_task(const struct library *l)
 {
     uint64_t sum = 0;
 
-    (void)l;
-    for (size_t k = 0; k + 11 <= chips_len; k += 11)
-        sum += plain_choose_barker(i_counts + k, q_counts + k);
+    for (size_t k = 0; k + symbol_chips <= ROW; k += symbol_chips)
+        sum += l->decide(rate, i_part + k, symbol_chips, q_part + k, symbol_chips);
     return sum;
 }
 
-static uint64_t cck55_part(const struct library *l)
+/* Both libraries count each sample the same, and the sums of what is decided agree. */
+static void parts_agree(void)
 {
-    uint64_t sum = 0;
+    static int32_t first[ROW];
 
-    (void)l;
-    for (size_t k = 0; k + 8 <= chips_len; k += 8)
-        sum += plain_choose_cck55(i_counts + k, q_counts + k);
-    return sum;
+    count_task(&libraries[0]);
+    memcpy(first, counts, sizeof first);
+    memset(counts, 0, sizeof counts);
+    count_task(&libraries[1]);
+    if (memcmp(first, counts, sizeof first) != 0)
+        fail("the counts differ");
+    if (decide_task(&libraries[0]) != decide_task(&libraries[1]))
+        fail("the sums of the words chosen differ");
 }
 
-static uint64_t cck11_part(const struct library *l)
+static void part_line(const char *name, task_fn task, size_t many)
 {
-    uint64_t sum = 0;
+    double ns[2];
 
-    (void)l;
-    for (size_t k = 0; k + 8 <= chips_len; k += 8)
-        sum += plain_choose_cck11(i_counts + k, q_counts + k);
-    return sum;
+    measure(task, ns);
+    printf("%-26s  %10.2f  %10.2f  %6.2f\n", name, ns[0] / (double)many, ns[1] / (double)many,
+           ns[0] / ns[1]);
+    fflush(stdout);
 }
 
 static void parts(void)
 {
     static const struct {
         const char *name;
-        task_fn task;
-        size_t chips; /* in one */
-    } all[] = {{"count of a sample", count_part, 1},
-               {"choice of a Barker symbol", barker_part, 11},
-               {"choice at 5.5 Mbit/s", cck55_part, 8},
-               {"choice at 11 Mbit/s", cck11_part, 8}};
-    double ns;
+        uint64_t code;
+        size_t chips;
+    } choices[] = {{"choice of a Barker symbol", DSSS_RATE_1, 11},
+                   {"choice at 5.5 Mbit/s", DSSS_RATE_5_5, 8},
+                   {"choice at 11 Mbit/s", DSSS_RATE_11, 8}};
 
-    printf("\nparts of plain C\n%-26s  %10s\n", "part", "ns each");
-    set_up(DSSS_LONG, DSSS_RATE_11, OCTETS);
-    plain_count(i_row, i_counts, chips_len);
-    plain_count(q_row, q_counts, chips_len);
-    for (size_t p = 0; p < sizeof all / sizeof all[0]; p++) {
-        measure(all[p].task, &ns, 1);
-        printf("%-26s  %10.2f\n", all[p].name, ns / (double)(chips_len / all[p].chips));
+    printf("\nparts of reading, over %d soft samples; a choice counts its samples first\n"
+           "dsss looks whether each sample is usable, plain C here does not\n",
+           ROW);
+    printf("%-26s  %10s  %10s  %6s\n", "part", "dsss ns", "plain ns", "ratio");
+    for (size_t c = 0; c < sizeof choices / sizeof choices[0]; c++) {
+        set_up(DSSS_LONG, choices[c].code, OCTETS);
+        symbol_chips = choices[c].chips;
+        parts_agree();
+        if (c == 0)
+            part_line("count of a sample", count_task, ROW);
+        part_line(choices[c].name, decide_task, ROW / symbol_chips);
     }
 }
 

@@ -610,24 +610,28 @@ dsss_record plain_read_soft(uint64_t kind, const float *i, size_t i_len, const f
 /* ---- The parts, for timing ------------------------------------------------------------------- */
 
 #ifndef PLAIN_AS_DSSS
-void plain_count(const float *samples, int32_t *counts, size_t len)
+void plain_count(const float *samples, size_t samples_len, int32_t *counts, size_t counts_len)
 {
+    size_t len = samples_len < counts_len ? samples_len : counts_len;
+
     for (size_t k = 0; k < len; k++)
         counts[k] = count(samples[k]);
 }
 
-unsigned plain_choose_barker(const int32_t i[11], const int32_t q[11])
+uint64_t plain_decide(uint64_t rate, const float *i, size_t i_len, const float *q, size_t q_len)
 {
-    return choose_barker(i, q);
-}
+    const struct recording from = {NULL, i, q, i_len < q_len ? i_len : q_len};
+    const struct rate *found = rate_of(rate);
+    int32_t i_counts[BARKER], q_counts[BARKER];
 
-unsigned plain_choose_cck55(const int32_t i[8], const int32_t q[8])
-{
-    return choose_cck55(i, q);
-}
-
-unsigned plain_choose_cck11(const int32_t i[8], const int32_t q[8])
-{
-    return choose_cck11(i, q);
+    if (!found || from.len < found->symbol)
+        return 0;
+    if (found->symbol == BARKER) {
+        take(&from, 0, BARKER, i_counts, q_counts);
+        return choose_barker(i_counts, q_counts);
+    }
+    take(&from, 0, CCK, i_counts, q_counts);
+    return rate == DSSS_RATE_5_5 ? choose_cck55(i_counts, q_counts)
+                                 : choose_cck11(i_counts, q_counts);
 }
 #endif

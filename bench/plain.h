@@ -14,12 +14,12 @@ dsss_record plain_read_hard(uint64_t kind, const uint8_t *chips, size_t chips_le
 dsss_record plain_read_soft(uint64_t kind, const float *i, size_t i_len, const float *q,
                             size_t q_len, uint8_t *octets, size_t octets_len);
 
-/* Counts of a row of usable samples: 1024 times each, nearest, halves to even. */
-void plain_count(const float *samples, int32_t *counts, size_t len);
+/* The counts of a row of usable samples, as far as both rows go: 1024 times each, nearest, halves
+ * to even. */
+void plain_count(const float *samples, size_t samples_len, int32_t *counts, size_t counts_len);
 
-/* The word chosen for the counts of one symbol: its number. Of equal scores the smallest number. */
-unsigned plain_choose_barker(const int32_t i[11], const int32_t q[11]);
-unsigned plain_choose_cck55(const int32_t i[8], const int32_t q[8]);
-unsigned plain_choose_cck11(const int32_t i[8], const int32_t q[8]);
+/* The number of the word chosen for the first symbol of rows of usable samples; of equal scores the
+ * smallest. 0 of a rate that is none, and of rows shorter than a symbol. */
+uint64_t plain_decide(uint64_t rate, const float *i, size_t i_len, const float *q, size_t q_len);
 
 #endif

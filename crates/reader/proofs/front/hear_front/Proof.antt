@@ -112,13 +112,15 @@ part-sync-end c = omega (
 hear-octets-requires : tie.Need-hear-octets-requires
 unfolding zeros
 hear-octets-requires c κs =
-    let start = c .before .before .before .before .before .before .before in (
+    let start = c .before .before .before .before .before .before .before in
+    let small : c .before .before .before .decide .result < 4 = below _ _ (c .before .before .before .decide .ensures)
+    in (
       omega (
         arith,
         lent-long (start .args .kind) (c .before .sync-octets .result) (c .before .sync-octets .ensures),
         room start .sync,
       ),
-      rw (c .before .before .first-line .ensures .at-phase) (below _ _ (c .before .before .before .decide .ensures)),
+      omega (arith, c .before .before .first-line .ensures .at-phase),
     )
 
 -- the place of the SFD

@@ -22,6 +22,7 @@ below a b x e h = omega arith
 within : (a b x : ℕ) → a ≡ x → b ≤ a → b ≤ x
 within a b x e h = omega arith
 
+-- 16 and 17 are through, and the payload's chips are searched
 searched : (c : tie.After-first-unusable)
     → let a = c .before .before .before .before .before .before .before .before .before .before .args in
     Searched (a .kind) (a .rate) (a .field) (a .n) (recordingOf (a .rec) (a .hard .now) (a .i .now) (a .q .now))
@@ -31,8 +32,8 @@ searched c =
     let tested = c .before .before .before in
     record {
       whole = tested .before .before .frame-chips .ensures;
-      long = within _ _ _ (tested .before .chip-count .ensures) (tested .if1 .left);
-      fits = c .before .before .if2 .left;
+      long = omega (arith, tested .before .chip-count .ensures);
+      fits = omega arith;
       from = c .before .front-chips .result;
       at-front = c .before .front-chips .ensures;
       is = c .first-unusable .ensures;
