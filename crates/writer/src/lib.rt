@@ -97,7 +97,7 @@ fn put_preamble(k: Kind, l: Line, chips: &mut [u8]) -> Line
 }
 
 // The preamble and a header of six octets.
-fn put_front(k: Kind, p: u8, header: &[u8], chips: &mut [u8]) -> Line
+pub fn put_front(k: Kind, p: u8, header: &[u8], chips: &mut [u8]) -> Line
     requires { ⌜ (length (now header) ≡ 6) × (frontChips k ≤ length (now chips)) ⌝ }
     ensures answer { λ q. ⌜ (state q ≡ afterFront k p (now (header .entry))) × (q .odd < 2) ⌝ }
     ensures chips { λ _. ⌜ now (chips .exit) ≡ over (frontSent k p (now (header .entry))) (now (chips .entry)) ⌝ }

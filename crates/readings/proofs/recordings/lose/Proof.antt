@@ -1,0 +1,17 @@
+-- `readings::recordings::lose` is safe and ends: a chip is lost each turn. Assumes nothing.
+use Prim.Native.Nat.{_-_}
+use borrow.Author.Needs.{needs}
+use Rattle.readings.proofs.recordings.lose.Statement.{statement}
+use Rattle.readings.proofs.recordings.lose.Tie as tie
+
+abbrev Inv-loop : tie.InvT-loop
+Inv-loop chips₀ from to k₀ chips k = Unit {0}
+
+abbrev μ-loop : tie.MeasureT-loop
+μ-loop chips₀ from to k₀ chips k = to - k
+
+pub lose-spec : {M : Type 1} → statement M
+lose-spec =
+    tie.close
+    (tie.spec Inv-loop μ-loop (λ c. search needs) (λ c. search needs) (λ c. search needs) (λ c. search needs)
+    (λ c. search needs) (λ c. search needs))
