@@ -6,17 +6,15 @@
 use mathlib.Core.Path.{_≡_, refl, sym, ap, ap₂, _∙_}
 use mathlib.Core.List.{List, [], _∷_, _++_, append-nil}
 use mathlib.Core.Option.{Option, none, some}
-use Prim.Native.Nat.{ℕ, zero, suc, _+_, _*_, _/_, _%_, _≤_, _<_}
+use Prim.Native.Nat.{ℕ, _+_, _*_, _<_}
 use native.Mathlib.Nat.{add-zero}
 use native.Mathlib.Omega.{arith}
-use lib.ListN.{length, take, drop, length-append}
-use lib.Seq.{take-take}
+use lib.ListN.{length, take, length-append}
 use Rattle.rates.specs.declared.Rate.{Rate}
 use Rattle.rates.specs.declared.Rate.the-variants.{One, Two, Five, Eleven}
 use Rattle.rates.specs.Rates.{symbolChips, symbolBits}
-use Rattle.symbols.specs.Words.{phaseOf}
 use Rattle.bits.specs.declared.Eight.{Eight}
-use Rattle.bits.specs.Growths.{heardBits, heard, growthsOf, lastHeard}
+use Rattle.bits.specs.Growths.{heard, growthsOf, lastHeard}
 use Rattle.bits.specs.Scrambler.{descramble}
 use Rattle.bits.specs.Code.{inTime, lastFirst, pastAfter}
 use Rattle.bits.proofs.Scrambler.{past-append, descramble-append, descramble-length}

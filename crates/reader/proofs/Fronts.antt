@@ -5,15 +5,14 @@
 --     front-known      three parts heard are the front heard
 -- Assumes nothing.
 use mathlib.Core.Path.{_≡_, refl, sym, ap, ap₂, subst, _∙_}
-use mathlib.Core.List.{List, [], _∷_, _++_, append-assoc, map}
+use mathlib.Core.List.{List, _++_, append-assoc, map}
 use mathlib.Core.Option.{Option, some}
-use Prim.Native.Nat.{ℕ, _+_, _*_, _/_, _≤_, _<_}
+use Prim.Native.Nat.{ℕ, _+_, _*_}
 use native.Mathlib.Omega.{arith}
 use lib.ListN.{length, take, drop, length-append}
 use lib.Seq.{take-take, take-all, take-at, drop-at}
 use Rattle.rates.specs.declared.Rate.{Rate}
 use Rattle.rates.specs.declared.Rate.the-variants.{One, Two}
-use Rattle.rates.specs.Rates.{symbolChips, symbolBits}
 use Rattle.chips.specs.Chips.{Taken, takenCounts}
 use Rattle.symbols.specs.Choice.{decided}
 use Rattle.bits.specs.Bits.{octetBits, octetsOf}
@@ -45,7 +44,6 @@ use Rattle.hearing.specs.declared.Hearing.{Hearing}
 use Rattle.hearing.specs.Hearing.{received, sentBits, partWords, Heard, PartHeard}
 use Rattle.hearing.proofs.Passes.{past-take, decidedWords-length, decidedWords-append}
 use Rattle.hearing.proofs.More.{heard-more, sent-more, sent-length}
-use Rattle.reader.specs.declared.FrontHeard.{FrontHeard}
 use Rattle.reader.specs.Openings.{syncOctets, Starts, Opened, FrontKnown}
 
 -- ---- the words of the parts

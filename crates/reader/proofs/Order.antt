@@ -1,13 +1,11 @@
 -- The order of refusals: for each way out of reading a front, a payload and a whole recording, what the definition says
 -- there.
 -- Each follows by the tests that led there. Assumes nothing.
-use mathlib.Core.Path.{_≡_, refl, sym, ap, ap₂, subst, _∙_}
-use mathlib.Core.Bool.{Bool, true, false, not}
-use mathlib.Core.List.{List, [], _∷_, _++_}
-use mathlib.Core.Option.{Option, none, some}
-use Prim.Native.Nat.{ℕ, _+_, _-_, _*_, _≤_, _<_}
+use mathlib.Core.Path.{_≡_, refl, sym, ap, ap₂, _∙_}
+use mathlib.Core.Bool.{Bool, true, false}
+use mathlib.Core.List.{List}
+use Prim.Native.Nat.{ℕ, _-_, _≤_, _<_}
 use native.Mathlib.Omega.{arith}
-use lib.Dec.{ltb}
 use lib.ListN.{length, take, drop, replicate}
 use borrow.Author.Tests.{lt-ltb, le-ltb}
 use Rattle.rates.specs.declared.Rate.{Rate}
@@ -31,15 +29,12 @@ use Rattle.frame.specs.declared.Reading.the-variants as reading
 use Rattle.frame.specs.Frame.{frontChips, frameChips}
 use Rattle.frame.specs.Writing.{isKind, kindOf}
 use Rattle.frame.specs.Reading.{
-  orElse,
   firstUnusable,
   frontOdd,
   frontOf,
   headerOf,
   payloadOdd,
-  payloadOf,
   payloadReading,
-  afterFront,
   readingOf,
   octetsAfter,
   octetsFound,
@@ -49,7 +44,7 @@ use Rattle.recorders.specs.declared.Found.the-variants.{Nothing, At}
 use Rattle.recorders.specs.Rows.{whereFound}
 use Rattle.reader.specs.declared.FrontHeard.{FrontHeard}
 use Rattle.reader.specs.declared.Opening.{Opening}
-use Rattle.reader.specs.Openings.{Opened, FrontKnown, afterUsable, Opens, octetsHeard, afterHeard}
+use Rattle.reader.specs.Openings.{FrontKnown, afterUsable, Opens, octetsHeard, afterHeard}
 
 -- ---- the front
 

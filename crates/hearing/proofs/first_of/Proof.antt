@@ -1,8 +1,5 @@
 -- `hearing::first_of` meets its contract, by cases. Assumes nothing.
-use mathlib.Core.Path.{_≡_, refl, sym, ap, _∙_}
 use borrow.Author.Needs.{needs}
-use Rattle.recorders.specs.declared.Found.{Found}
-use Rattle.recorders.specs.Rows.{whereFound}
 use Rattle.hearing.proofs.first_of.Statement.{statement}
 use Rattle.hearing.proofs.first_of.Tie as tie
 use Rattle.hearing.proofs.first_of.Reads as reads

@@ -1,10 +1,9 @@
 -- `hearing::hear` meets its contract: each rate's word is one word more. Assumes nothing.
 use mathlib.Core.Path.{_≡_, refl, ap, _∙_}
 use mathlib.Core.List.{[], _∷_}
-use mathlib.Core.Option.{Option}
 use Prim.Native.Nat.{ℕ, _<_}
 use Rattle.rates.specs.declared.Rate.{Rate}
-use Rattle.rates.specs.declared.Rate.the-variants.{One, Two, Five, Eleven}
+use Rattle.rates.specs.declared.Rate.the-variants.{One}
 use Rattle.symbols.specs.Choice.{numbers}
 use Rattle.bits.specs.Growths.{grownBy, growthsOf}
 use Rattle.frame.specs.Reading.{oddGrowth}

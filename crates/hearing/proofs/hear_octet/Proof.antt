@@ -1,11 +1,9 @@
 -- `hearing::hear_octet` meets its contract. The invariant: the first j symbols are heard. Assumes nothing.
-use mathlib.Core.Path.{_≡_, refl, sym, ap, subst, _∙_}
-use Prim.Native.Nat.{ℕ, _+_, _*_, _-_, _^_, _≤_, _<_}
+use mathlib.Core.Path.{subst}
+use Prim.Native.Nat.{ℕ, _+_, _-_, _^_, _≤_, _<_}
 use native.Mathlib.Omega.{arith}
 use lib.ListN.{length}
-use Rattle.rates.specs.declared.Rate.{Rate}
 use Rattle.rates.specs.Rates.{symbolChips}
-use Rattle.symbols.specs.Choice.{numbers}
 use Rattle.choice.proofs.Decided.{decided-below}
 use Rattle.recorders.specs.Rows.{recordingOf}
 use Rattle.recorders.proofs.Rows.{recording-fits}

@@ -1,8 +1,8 @@
 -- `reader::read` meets its contract: 1, 7, then what the front tells, then what the payload tells. Assumes nothing.
-use mathlib.Core.Path.{_≡_, refl, sym, ap, subst, _∙_}
-use mathlib.Core.Bool.{Bool, true, false, not}
+use mathlib.Core.Path.{_≡_, sym, ap, subst, _∙_}
+use mathlib.Core.Bool.{true}
 use mathlib.Core.List.{List}
-use Prim.Native.Nat.{ℕ, _≤_, _<_}
+use Prim.Native.Nat.{ℕ, _≤_}
 use lib.ListN.{length, replicate}
 use borrow.Author.Tests.{not-true, not-false}
 use Rattle.rates.specs.declared.Rate.{Rate}

@@ -1,5 +1,5 @@
 -- `reader::read_soft` meets its contract: it is `read` with this recorder, and the answer as numbers. Assumes nothing.
-use mathlib.Core.Path.{_≡_, ap, _∙_}
+use mathlib.Core.Path.{ap, _∙_}
 use Rattle.frame.specs.Answers.{recordOf}
 use borrow.Author.Needs.{needs}
 use Rattle.reader.proofs.read_soft.Statement.{statement}

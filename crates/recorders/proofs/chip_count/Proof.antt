@@ -1,14 +1,7 @@
 -- `recorders::chip_count` meets its contract: a soft recording goes as far as the shorter row. Assumes nothing.
-use mathlib.Core.Path.{_≡_, refl, sym, ap, _∙_}
-use mathlib.Core.List.{List}
-use Prim.Native.Nat.{ℕ, _≤_, _<_}
+use mathlib.Core.Path.{sym}
 use native.Mathlib.Omega.{arith}
-use lib.ListN.{length}
-use lib.Ieee.{Float}
 use borrow.Author.Needs.{needs}
-use Rattle.recorders.specs.declared.Recorder.{Recorder}
-use Rattle.recorders.specs.declared.Recorder.the-variants.{Hard, Soft}
-use Rattle.recorders.specs.Rows.{recordingOf}
 use Rattle.chips.proofs.Recorders.{length-hard, length-soft}
 use Rattle.recorders.proofs.chip_count.Statement.{statement}
 use Rattle.recorders.proofs.chip_count.Tie as tie

@@ -1,9 +1,8 @@
 -- `recorders::decide` meets its contract: the gathered chips count as those recorded, and what is chosen goes by the
 -- counts alone.
 -- Assumes nothing.
-use mathlib.Core.Path.{_≡_, sym, ap, _∙_}
-use mathlib.Core.List.{List}
-use Rattle.rates.specs.declared.Rate.the-variants.{One, Two, Five, Eleven}
+use mathlib.Core.Path.{sym, ap, _∙_}
+use Rattle.rates.specs.declared.Rate.the-variants.{One, Five, Eleven}
 use Rattle.symbols.specs.Choice.{decided}
 use Rattle.choice.proofs.Decided.{decided-barker}
 use borrow.Author.Needs.{needs}

@@ -1,7 +1,6 @@
 -- `hearing::word::eleven` meets its contract: the bits pushed are the word's. Assumes nothing.
-use mathlib.Core.Path.{_≡_, refl, _∙_}
-use mathlib.Core.List.{List, [], _∷_}
-use Prim.Native.Nat.{ℕ, _+_, _*_, _/_, _%_, _<_}
+use mathlib.Core.Path.{_≡_, refl}
+use Prim.Native.Nat.{ℕ, _+_, _/_, _%_}
 use native.Mathlib.Omega.{arith}
 use Rattle.rates.specs.declared.Rate.the-variants.{Eleven}
 use Rattle.chips.specs.Chips.{turned}

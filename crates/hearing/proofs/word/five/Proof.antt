@@ -1,11 +1,10 @@
 -- `hearing::word::five` meets its contract: the bits pushed are the word's. Assumes nothing.
-use mathlib.Core.Path.{_≡_, refl, _∙_}
-use mathlib.Core.List.{List, [], _∷_}
-use Prim.Native.Nat.{ℕ, _+_, _*_, _/_, _%_, _<_}
+use mathlib.Core.Path.{_≡_, refl}
+use Prim.Native.Nat.{ℕ, _+_, _/_, _%_}
 use native.Mathlib.Omega.{arith}
 use Rattle.rates.specs.declared.Rate.the-variants.{Five}
 use Rattle.chips.specs.Chips.{turned}
-use Rattle.symbols.specs.Words.{p1Of, p2Of, p3Of, p4Of}
+use Rattle.symbols.specs.Words.{p1Of, p2Of, p4Of}
 use Rattle.bits.specs.Growths.{heardBits, grownBy, halfTurn}
 use Rattle.bits.specs.Code.{pastAfter}
 use borrow.Author.Needs.{needs}

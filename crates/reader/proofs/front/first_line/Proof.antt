@@ -1,7 +1,6 @@
 -- `reader::front::first_line` meets its contract, by kinds. Assumes nothing.
-use mathlib.Core.Path.{_≡_, refl}
+use mathlib.Core.Path.{refl}
 use borrow.Author.Needs.{needs}
-use Rattle.reader.specs.Openings.{Starts}
 use Rattle.reader.proofs.front.first_line.Statement.{statement}
 use Rattle.reader.proofs.front.first_line.Tie as tie
 

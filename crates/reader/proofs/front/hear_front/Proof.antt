@@ -1,6 +1,6 @@
 -- `reader::front::hear_front` meets its contract: SYNC, the SFD and the header are heard one after the other on one
 -- line. Assumes nothing.
-use mathlib.Core.Path.{_≡_, refl, sym, ap, subst, _∙_}
+use mathlib.Core.Path.{_≡_, refl, ap, subst, _∙_}
 use mathlib.Core.List.{List, [], _∷_, map}
 use mathlib.Core.Option.{some}
 use Prim.Native.Nat.{ℕ, _+_, _*_, _-_, _≤_, _<_}
@@ -16,7 +16,7 @@ use Rattle.choice.proofs.Decided.{decided-below}
 use Rattle.frame.specs.declared.Kind.{Kind}
 use Rattle.frame.specs.declared.Kind.the-variants.{Long, Short}
 use Rattle.frame.specs.Frame.{frontChips, headerRate}
-use Rattle.frame.specs.Reading.{orElse, reference}
+use Rattle.frame.specs.Reading.{orElse}
 use Rattle.recorders.specs.Rows.{recordingOf, whereFound}
 use Rattle.hearing.specs.declared.Line.{Line}
 use Rattle.hearing.specs.declared.Hearing.{Hearing}

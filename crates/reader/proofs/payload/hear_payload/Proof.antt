@@ -1,11 +1,10 @@
 -- `reader::payload::hear_payload` meets its contract: the octets are heard into the buffer's front, and cleared where a
 -- symbol is grown
 -- by 1 or 3. Assumes nothing.
-use mathlib.Core.Path.{_≡_, refl, sym, ap, subst, _∙_}
+use mathlib.Core.Path.{_≡_, sym, ap, subst, _∙_}
 use mathlib.Core.List.{List, _++_}
-use mathlib.Core.Option.{Option, none, some}
-use Prim.Native.Nat.{ℕ, _+_, _-_, _*_, _≤_, _<_}
-use native.Mathlib.Omega.{arith}
+use mathlib.Core.Option.{none, some}
+use Prim.Native.Nat.{ℕ, _+_, _-_, _*_, _≤_}
 use lib.ListN.{length, take, drop, replicate}
 use lib.Seq.{length-front}
 use Rattle.rates.specs.declared.Rate.{Rate}
@@ -14,7 +13,6 @@ use Rattle.chips.specs.Chips.{Taken}
 use Rattle.frame.specs.declared.Kind.{Kind}
 use Rattle.frame.specs.Frame.{frontChips, frameChips}
 use Rattle.frame.specs.Reading.{payloadOdd, payloadOf}
-use Rattle.recorders.specs.declared.Found.{Found}
 use Rattle.recorders.specs.declared.Found.the-variants.{Nothing, At}
 use Rattle.recorders.specs.Rows.{whereFound}
 use Rattle.hearing.specs.declared.Line.{Line}

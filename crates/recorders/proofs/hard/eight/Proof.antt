@@ -1,13 +1,12 @@
 -- `recorders::hard::eight` meets its contract. The invariant: the first k chips are gathered. Assumes nothing.
-use mathlib.Core.Path.{_≡_, refl, sym, ap, _∙_}
-use mathlib.Core.List.{List, map}
-use Prim.Native.Nat.{ℕ, _+_, _-_, _≤_}
+use mathlib.Core.Path.{refl}
+use Prim.Native.Nat.{_+_, _-_}
 use native.Mathlib.Omega.{arith}
-use lib.ListN.{length, getD, take, drop}
+use lib.ListN.{getD}
 use borrow.Author.Needs.{needs}
 use Rattle.base.specs.Tables.{Filled}
 use Rattle.base.proofs.Tables.{filled-none, filled-more, filled-all}
-use Rattle.chips.specs.Chips.{countsOf, hardChip}
+use Rattle.chips.specs.Chips.{hardChip}
 use Rattle.recorders.proofs.Gathered.{gathered-hard}
 use Rattle.recorders.proofs.hard.eight.Statement.{statement}
 use Rattle.recorders.proofs.hard.eight.Tie as tie
