@@ -18,7 +18,8 @@ module _ {A : Type 0} where
   pub length-tabulate : (f : ℕ → A) (n : ℕ) → length (tabulate f n) ≡ n
   unfolding tabulate
   length-tabulate f zero = refl
-  length-tabulate f (suc n) = length-append (tabulate f n) (f n ∷ []) ∙ ap (λ (k : ℕ). k + 1) (length-tabulate f n) ∙ add-one n
+  length-tabulate f (suc n) =
+      length-append (tabulate f n) (f n ∷ []) ∙ ap (λ (k : ℕ). k + 1) (length-tabulate f n) ∙ add-one n
 
   pub getD-tabulate : (f : ℕ → A) (n i : ℕ) (d : A) → i < n → getD (tabulate f n) i d ≡ f i
   unfolding tabulate
@@ -26,7 +27,9 @@ module _ {A : Type 0} where
   getD-tabulate f (suc n) i d h = by (decLt i n) (getD-tabulate f n i d)
     where
       by : Dec (i < n) → (i < n → getD (tabulate f n) i d ≡ f i) → getD (tabulate f n ++ (f n ∷ [])) i d ≡ f i
-      by (yes p) rest = List·getD-append (tabulate f n) (f n ∷ []) d i (subst (λ (k : ℕ). i < k) (sym (length-tabulate f n)) p) ∙ rest p
+      by (yes p) rest =
+          List·getD-append (tabulate f n) (f n ∷ []) d i (subst (λ (k : ℕ). i < k) (sym (length-tabulate f n)) p)
+          ∙ rest p
       by (no q) rest =
           let e : n ≡ i = omega arith in
           getD-at (tabulate f n) (f n) [] d i (length-tabulate f n ∙ e) ∙ ap f e
@@ -39,7 +42,8 @@ module _ {A : Type 0} where
       λ i. t i ++ (e n (omega arith) i ∷ [])
 
   -- what holds of each value and of what stands for one past the end
-  pub tabulate-all : (P : A → Type 0) (f : ℕ → A) (n : ℕ) (d : A) → P d → ((j : ℕ) → P (f j)) → (j : ℕ) → P (getD (tabulate f n) j d)
+  pub tabulate-all : (P : A → Type 0) (f : ℕ → A) (n : ℕ) (d : A) → P d → ((j : ℕ) → P (f j)) → (j : ℕ)
+      → P (getD (tabulate f n) j d)
   tabulate-all P f n d z h j = by (decLt j n)
     where
       by : Dec (j < n) → P (getD (tabulate f n) j d)
@@ -50,12 +54,14 @@ module _ {A : Type 0} where
   unfolding tabulate
   filled-none f n out e = record { within = zero-le; len = e; front = refl }
 
-  pub filled-more : {f : ℕ → A} {n : ℕ} {out : List A} {k : ℕ} (v : A) → Filled f n out k → k < n → v ≡ f k → Filled f n (set out k v) (k + 1)
+  pub filled-more : {f : ℕ → A} {n : ℕ} {out : List A} {k : ℕ} (v : A) → Filled f n out k → k < n → v ≡ f k
+      → Filled f n (set out k v) (k + 1)
   unfolding tabulate
   filled-more {f} {n} {out} {k} v w h e = record {
     within = omega arith;
     len = length-set out k v ∙ w .len;
-    front = rw add-one (take-suc-set out k v (subst (λ (m : ℕ). k < m) (sym (w .len)) h) ∙ (λ i. w .front i ++ (e i ∷ [])));
+    front =
+        rw add-one (take-suc-set out k v (subst (λ (m : ℕ). k < m) (sym (w .len)) h) ∙ (λ i. w .front i ++ (e i ∷ [])));
   }
 
   pub filled-all : {f : ℕ → A} {n : ℕ} {out : List A} {k : ℕ} → Filled f n out k → n ≤ k → out ≡ tabulate f n
@@ -64,7 +70,8 @@ module _ {A : Type 0} where
       sym (take-all k out (omega (arith, w .len))) ∙ w .front ∙ ap (tabulate f) e
 
 -- a list is the table of its elements, and so is what a function makes of each
-pub map-tabulate : {A B : Type 0} (g : A → B) (l : List A) (n : ℕ) (d : A) → length l ≡ n → map g l ≡ tabulate (λ k. g (getD l k d)) n
+pub map-tabulate : {A B : Type 0} (g : A → B) (l : List A) (n : ℕ) (d : A) → length l ≡ n → map g l
+    ≡ tabulate (λ k. g (getD l k d)) n
 map-tabulate g l n d e =
     ext-getD (g d) (map g l) (tabulate (λ k. g (getD l k d)) n) (length-map l g ∙ e ∙ sym (length-tabulate _ n))
     (λ i h. List·getD-map g l i d ∙ sym (getD-tabulate _ n i (g d) (omega (arith, length-map l g))))

@@ -1,7 +1,6 @@
--- Laws of whole numbers for `omega`, which reads naturals alone. Every z is up z - dn z, and one law for each operation says so in ℕ, linearly:
--- `add a b` of a sum, `neg-up a` and `neg-dn a` of a negation. Handed those of the sums that a goal has, `omega` proves what
--- `same`, `le-of` and `lt-of` turn into an equation or an order of ℤ.
--- Assumes nothing.
+-- Laws of whole numbers for `omega`, which reads naturals alone. Every z is up z - dn z, and one law for each operation
+-- says so in ℕ, linearly: `add a b` of a sum, `neg-up a` and `neg-dn a` of a negation. Handed those of the sums that a
+-- goal has, `omega` proves what `same`, `le-of` and `lt-of` turn into an equation or an order of ℤ. Assumes nothing.
 use mathlib.Core.Path.{_≡_, refl, sym, ap, _∙_, subst}
 use mathlib.Core.Bool.{Bool, true, false, not, cond}
 use Prim.Native.Nat.{ℕ, zero, suc, _+_, _-_, _*_, _^_, _≤_, _<_}

@@ -1,4 +1,4 @@
--- What the definitions compute, against document 01, in one statement: the growths of two bits, the order of a CCK
+-- What the definitions compute, against RULES 4, 5 and 7, in one statement: the growths of two bits, the order of a CCK
 -- word's phases, the half turn of odd symbols, the scrambler's taps, and the standard's CRC (Table P 3).
 -- Assumes nothing.
 use mathlib.Core.Path.{_≡_, refl}

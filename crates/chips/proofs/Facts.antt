@@ -1,4 +1,4 @@
--- The worked values of document 01, "Chips", computed from the definitions: each float by its bit pattern, each octet
+-- The worked values of RULES 2.6 and 2.4, computed from the definitions: each float by its bit pattern, each octet
 -- by what it is taken as. One statement a table.
 -- Assumes nothing.
 use mathlib.Core.Path.{_≡_, refl}

@@ -1,6 +1,7 @@
--- Facts that pin down what Table P leaves open, each worked out apart from the definitions: the sixteen SFD bits in sending order; the first
--- two CCK symbols of a payload (order of p2 to p4, half turn of the odd one); scrambled bits just past the header's and the payload's start.
--- The payload is the octets 1Bh C6h, the starting phase 1. Assumes nothing.
+-- Facts that pin down what Table P leaves open, each worked out apart from the definitions: the sixteen SFD bits in
+-- sending order; the first two CCK symbols of a payload (order of p2 to p4, half turn of the odd one); scrambled bits
+-- just past the header's and the payload's start. The payload is the octets 1Bh C6h, the starting phase 1. Assumes
+-- nothing.
 use mathlib.Core.Path.{_≡_, refl}
 use mathlib.Core.List.{List, [], _∷_, _++_}
 use Prim.Native.Nat.{ℕ}

@@ -1,6 +1,7 @@
--- Readings of written and spoilt frames, computed from the definition and compared with what 01 says of each: number, place, rate code,
--- LENGTH, n, chips used, and then the octet buffer. The long frame carries A5h at 1 Mbit/s (LENGTH 8; 2,112 + 88 chips), the short one 3Ch at
--- 11 Mbit/s (LENGTH 1, bit 7 not set; 1,056 + 8 chips). Assumes nothing.
+-- Readings of written and spoilt frames, computed from the definition and compared with what RULES 6 says of each:
+-- number, place, rate code, LENGTH, n, chips used, and then the octet buffer. The long frame carries A5h at 1 Mbit/s
+-- (LENGTH 8; 2,112 + 88 chips), the short one 3Ch at 11 Mbit/s (LENGTH 1, bit 7 not set; 1,056 + 8 chips). Assumes
+-- nothing.
 use mathlib.Core.Path.{_≡_, refl}
 use mathlib.Core.Bool.{Bool, true, false}
 use mathlib.Core.List.{List, [], _∷_, _++_, map}
@@ -60,7 +61,8 @@ fields a = a .number ∷ a .place ∷ a .rate ∷ a .length ∷ a .n ∷ a .used
 read : ℕ → ℕ → List ℕ → List ℕ
 unfolding fields
 read kind room chips =
-    fields (recordOf (readingOf kind true (hardRecording chips) room)) ++ octetsFound kind true (hardRecording chips) room
+    fields (recordOf (readingOf kind true (hardRecording chips) room)) ++ octetsFound kind true
+    (hardRecording chips) room
 
 long : List ℕ
 long = frame Long One 2 (0xA5 ∷ [])

@@ -16,8 +16,10 @@ use Rattle.rates.specs.declared.Rate.{Rate}
 use Rattle.rates.specs.declared.Rate.the-variants.{One, Two, Five, Eleven}
 use Rattle.rates.specs.Rates.{lengthField, bit7, wholeOctets, octetsRead, isPayload, lengthHolds}
 
--- LENGTH and bit 7: 10 and 11 octets; 1,023 to 1,026 octets, from the table of IEEE 802.11b-1999, 18.2.3.5; 4,095 octets; and LENGTH at 5.5 Mbit/s
-pub figures : map (λ (n : ℕ). lengthField Eleven n ∷ bit7 Eleven n ∷ []) (10 ∷ 11 ∷ 1023 ∷ 1024 ∷ 1025 ∷ 1026 ∷ 4095 ∷ [])
+-- LENGTH and bit 7: 10 and 11 octets; 1,023 to 1,026 octets, from the table of IEEE 802.11b-1999, 18.2.3.5; 4,095
+-- octets; and LENGTH at 5.5 Mbit/s
+pub figures : map (λ (n : ℕ). lengthField Eleven n ∷ bit7 Eleven n ∷ [])
+    (10 ∷ 11 ∷ 1023 ∷ 1024 ∷ 1025 ∷ 1026 ∷ 4095 ∷ [])
     ++ map (λ (n : ℕ). lengthField Five n ∷ []) (1 ∷ 4095 ∷ [])
     ≡ (8 ∷ 1 ∷ []) ∷ (8 ∷ 0 ∷ []) ∷ (744 ∷ 0 ∷ []) ∷ (745 ∷ 0 ∷ []) ∷ (746 ∷ 0 ∷ []) ∷ (747 ∷ 1 ∷ []) ∷ (2979 ∷ 1 ∷ [])
     ∷ (2 ∷ []) ∷ (5957 ∷ []) ∷ []
@@ -27,7 +29,19 @@ figures = refl
 pub less : (a b n : ℕ) → a ≡ n + b → pos a -ℤ pos b ≡ pos n
 less a b n e =
     same (pos a -ℤ pos b) (pos n)
-    (omega (arith, add (pos a) (negℤ (pos b)), neg-up (pos b), neg-dn (pos b), up-pos a, dn-pos a, up-pos b, dn-pos b, up-pos n, dn-pos n))
+    (omega (
+      arith,
+      add (pos a) (negℤ (pos b)),
+      neg-up (pos b),
+      neg-dn
+          (pos b),
+      up-pos a,
+      dn-pos a,
+      up-pos b,
+      dn-pos b,
+      up-pos n,
+      dn-pos n,
+    ))
 
 eleven : (n : ℕ) (b : Bool) → leb (8 * n + 8) (11 * ((8 * n + 10) / 11)) ≡ b
     → (8 * n + 10) / 11 * 11 / 8 ≡ n + cond b 1 0
@@ -48,4 +62,10 @@ is-payload n h k = rw (le-leb 1 n h, le-leb n 4095 k)
 
 pub length-holds : (r : Rate) (n : ℕ) → 1 ≤ n → n ≤ 4095 → lengthHolds r (lengthField r n) (bit7 r n) ≡ true
 length-holds r n h k =
-    rw (octets-back r n, is-payload n h k, eq-eqb (lengthField r n) (lengthField r n) refl, eq-eqb (bit7 r n) (bit7 r n) refl)
+    rw (
+      octets-back r n,
+      is-payload n h k,
+      eq-eqb (lengthField r n) (lengthField r n) refl,
+      eq-eqb (bit7 r n)
+          (bit7 r n) refl,
+    )

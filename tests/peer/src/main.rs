@@ -1,5 +1,5 @@
-//! The independent second program: document 01 written again, laid out in its order with its headings, and compared by
-//! running with the library behind a bridge.
+//! The independent second program: the rules (docs/RULES.md) written again, laid out in their order with their
+//! headings, and compared by running with the library behind a bridge.
 //!
 //! # From octets to chips, and which paper decides
 //!
