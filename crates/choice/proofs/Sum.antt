@@ -6,7 +6,6 @@ use mathlib.Core.List.{List}
 use Prim.Native.Nat.{ℕ, suc, _+_, _*_, _≤_, _<_}
 use native.Mathlib.Numerals.{add-one}
 use native.Mathlib.Omega.{arith}
-use lib.Dec.{lit<}
 use lib.ListN.{length, getD, drop, drop-of-length-le}
 use lib.Seq.{drop-cons}
 use lib.IntN.{ℤ, _+ℤ_, +ℤ-idl, +ℤ-idr, +ℤ-assoc}
@@ -14,7 +13,7 @@ use mir.Syntax.{w32}
 use mir.Val.{SFits, toZ, ofZ}
 use mir.Facts.{toZ-ofZ}
 use Rattle.base.specs.Whole.{Within}
-use Rattle.base.proofs.Whole.{within-zero, within-add, within-sfits, small}
+use Rattle.base.proofs.Whole.{within-zero, within-add, within-sfits}
 use Rattle.chips.specs.declared.Counts.{Counts}
 use Rattle.chips.specs.Chips.{nothing}
 use Rattle.symbols.specs.Choice.{term, score}
@@ -55,15 +54,6 @@ module _ (w : List ℕ) (cs : List Counts) (sum k : ℕ) (inv : Summed w cs sum 
               (+ℤ-assoc (toZ w32 sum) z _ ∙ ap (λ (y : ℤ). toZ w32 sum +ℤ y) (sym (rest hw hc)) ∙ inv .done);
           bound = rw read (subst (λ (b : ℕ). Within b (toZ w32 sum +ℤ z)) (omega arith) next);
         }
-
-  added : toZ w32 sum +ℤ toZ w32 (ofZ w32 z) ≡ toZ w32 sum +ℤ z
-  added = ap (λ (y : ℤ). toZ w32 sum +ℤ y) (small 8192 (lit< tt) z z-small)
-
-  pub sum-fits : SFits w32 (toZ w32 sum +ℤ toZ w32 (ofZ w32 z))
-  sum-fits = made-fits _ added
-
-  pub summed-more : k < length w → k < length cs → Summed w cs (ofZ w32 (toZ w32 sum +ℤ toZ w32 (ofZ w32 z))) (k + 1)
-  summed-more = summed-made _ added
 
 pub summed-all : {w : List ℕ} {cs : List Counts} {sum k : ℕ} → Summed w cs sum k → length w ≤ k
     → toZ w32 sum ≡ score w cs

@@ -13,8 +13,6 @@ ghost use Rattle.choice.specs.Scores.{Smalls, placeOfLargest, number5};
 
 mod scores;
 
-pub use scores::score8;
-pub use scores::score11;
 pub use scores::scores_barker;
 pub use scores::scores_eleven;
 pub use scores::scores_five;

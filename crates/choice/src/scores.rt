@@ -1,59 +1,12 @@
-// Scores: what a chip adds to a word's, the sum over a word's chips, and the tables of all words' scores that the
-// choice goes by.
+// Scores: the tables of all words' scores that the choice goes by.
 use chips::Counts;
 use rates::Rate;
 ghost use mathlib.Core.Path.{_≡_};
 ghost use Prim.Native.Nat.{_<_};
 ghost use Rattle.base.specs.Tables.{tabulate};
 ghost use Rattle.base.specs.Whole.{Within};
-ghost use Rattle.chips.specs.Bounds.{Bounded};
-ghost use Rattle.symbols.specs.Choice.{term, score};
 ghost use Rattle.choice.specs.Scores.{Smalls, scoreAt, number5};
 ghost use Rattle.choice.specs.Turns.{RowWithin, Below, turnAt, addFour, addEight, slid};
-
-// What a chip adds to the score of a word whose chip there is p: I, Q, -I or -Q.
-pub fn part(p: u8, c: Counts) -> i32
-    requires { ⌜ Bounded 131072 c ⌝ }
-    ensures answer { λ r. ⌜ r ≡ term p c ⌝ }
-{
-    let i = c.i;
-    let q = c.q;
-    match p {
-        0 => i,
-        1 => q,
-        2 => -i,
-        3 => -q,
-        _ => 0,
-    }
-}
-
-// The score of a word of eight chips.
-pub fn score8(w: [u8; 8], cs: [Counts; 8]) -> i32
-    requires { ⌜ Smalls cs ⌝ }
-    ensures answer { λ r. ⌜ r ≡ score w cs ⌝ }
-{
-    let mut sum: i32 = 0;
-    for k in 0..8 {
-        let p = w[k];
-        let c = cs[k];
-        sum = sum + part(p, c);
-    }
-    sum
-}
-
-// The score of a word of eleven chips.
-pub fn score11(w: [u8; 11], cs: [Counts; 11]) -> i32
-    requires { ⌜ Smalls cs ⌝ }
-    ensures answer { λ r. ⌜ r ≡ score w cs ⌝ }
-{
-    let mut sum: i32 = 0;
-    for k in 0..11 {
-        let p = w[k];
-        let c = cs[k];
-        sum = sum + part(p, c);
-    }
-    sum
-}
 
 // What each of eight chips adds by the word's chip there, twice over: chip k turned by p stands at 8 k + p, for p up
 // to 7.

@@ -24,7 +24,7 @@ use Rattle.recorders.specs.declared.Found.the-variants.{Nothing}
 use Rattle.recorders.specs.Rows.{whereFound}
 use Rattle.hearing.specs.declared.Line.{Line}
 use Rattle.hearing.specs.declared.Hearing.{Hearing}
-use Rattle.hearing.specs.Hearing.{received, sentBits, Next, Heard}
+use Rattle.hearing.specs.Hearing.{received, plainBits, Next, Heard}
 use Rattle.bits.proofs.Heard.{
   heard-append,
   lastHeard-append,
@@ -83,19 +83,19 @@ heard-more r at l a b h g k x y e f =
 
 -- the bits of words after others, unscrambled in one run
 pub sent-more : (r : Rate) (at : ℕ) (l : Line) (a b : List ℕ) (h : Hearing) → Heard r at l a h
-    → sentBits r l (a ++ b) ≡ sentBits r l a ++ sentBits r (h .line) b
+    → plainBits r l (a ++ b) ≡ plainBits r l a ++ plainBits r (h .line) b
 sent-more r at l a b h x =
     let same : received r (h .line) b ≡ heard r (l .odd + length a) (lastHeard r (l .phase) a) b =
     heard-parity r (h .line .odd) (l .odd + length a) (h .line .phase) b (x .odd)
     ∙ ap (λ (p : ℕ). heard r (l .odd + length a) p b) (x .phase) in
     ap (descramble (lastFirst (l .past))) (heard-append r (l .odd) (l .phase) a b)
     ∙ descramble-append (lastFirst (l .past)) (received r l a) _
-    ∙ ap (λ (bs : List ℕ). sentBits r l a ++ bs)
+    ∙ ap (λ (bs : List ℕ). plainBits r l a ++ bs)
     (ap (descramble (pastAfter (lastFirst (l .past)) (received r l a))) (sym same)
     ∙ sym (descramble-take 8 (pastAfter (lastFirst (l .past)) (received r l a)) (received r (h .line) b) (omega arith))
     ∙ ap (λ (p : List ℕ). descramble p (received r (h .line) b)) (sym (x .past)))
 
-pub sent-length : (r : Rate) (l : Line) (ws : List ℕ) → length (sentBits r l ws) ≡ symbolBits r * length ws
+pub sent-length : (r : Rate) (l : Line) (ws : List ℕ) → length (plainBits r l ws) ≡ symbolBits r * length ws
 sent-length r l ws = descramble-length (lastFirst (l .past)) (received r l ws) ∙ heard-length r (l .odd) (l .phase) ws
 
 -- eight bits received are all of the last eight

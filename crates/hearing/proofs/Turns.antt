@@ -33,7 +33,7 @@ use Rattle.hearing.specs.Hearing.{
   octetWords,
   partWords,
   received,
-  sentBits,
+  plainBits,
   Heard,
   OctetHeard,
   PartHeard,
@@ -165,7 +165,7 @@ pub record Octets (r : Rate) (at : ℕ) (rec : List Taken) (l : Line) (d : List 
   pub at-place : place ≡ at + octetChips r * i
   pub long : length out ≡ length d
   pub line : Heard r at l (partWords r at i rec) h
-  pub stored : out ≡ octetsOf i (sentBits r l (partWords r at i rec)) ++ drop i d
+  pub stored : out ≡ octetsOf i (plainBits r l (partWords r at i rec)) ++ drop i d
 
 pub octets-none : (r : Rate) (at : ℕ) (rec : List Taken) (l : Line) (d : List ℕ) → l .phase < 4
     → Octets r at rec l d (record { line = l; odd = Nothing }) at 0 d
@@ -218,17 +218,17 @@ octets-more r at rec l d h k o place i chips out s b y e c =
     (s .at-place) y in
     let there : octetChips r * i ≡ symbolChips r * length ws = sym
     (ap (λ (n : ℕ). symbolChips r * n) (part-length r at i rec) ∙ part-chips r i) in
-    let bits-so-far : length (sentBits r l ws) ≡ 8 * i = sent-length r l ws
+    let bits-so-far : length (plainBits r l ws) ≡ 8 * i = sent-length r l ws
     ∙ ap (λ (n : ℕ). symbolBits r * n) (part-length r at i rec) ∙ part-bits r i in
-    let eight : length (sentBits r (h .line) vs) ≡ 8 =
+    let eight : length (plainBits r (h .line) vs) ≡ 8 =
     sent-length r (h .line) vs ∙ ap (λ (n : ℕ). symbolBits r * n) (decidedWords-length r (octetSymbols r) _)
     ∙ octet-bits r in
-    let octets : octetsOf (i + 1) (sentBits r l (partWords r at (i + 1) rec))
-    ≡ octetsOf i (sentBits r l ws) ++ o .x ∷ [] =
-    ap (λ (us : List ℕ). octetsOf (i + 1) (sentBits r l us)) (octet-more r at i rec)
+    let octets : octetsOf (i + 1) (plainBits r l (partWords r at (i + 1) rec))
+    ≡ octetsOf i (plainBits r l ws) ++ o .x ∷ [] =
+    ap (λ (us : List ℕ). octetsOf (i + 1) (plainBits r l us)) (octet-more r at i rec)
     ∙ ap (octetsOf (i + 1)) (sent-more r at l ws vs h (s .line))
-    ∙ bits.octets-append i 1 (sentBits r l ws) (sentBits r (h .line) vs) bits-so-far
-    ∙ ap (λ (us : List ℕ). octetsOf i (sentBits r l ws) ++ us)
+    ∙ bits.octets-append i 1 (plainBits r l ws) (plainBits r (h .line) vs) bits-so-far
+    ∙ ap (λ (us : List ℕ). octetsOf i (plainBits r l ws) ++ us)
     (one-octet _ eight ∙ ap (λ (n : ℕ). n ∷ []) (sym (put .octet))) in
     record {
       fits = omega arith;
@@ -240,7 +240,7 @@ octets-more r at rec l d h k o place i chips out s b y e c =
           (subst (λ (p : ℕ). Heard r (at + p) (h .line) vs (o .heard)) there (put .line)) (e .0) (e .1));
       stored =
           ap (λ (us : List ℕ). set us i (o .x)) (s .stored)
-          ∙ store (octetsOf i (sentBits r l ws)) d i (o .x) (bits.octets-length i _) b
+          ∙ store (octetsOf i (plainBits r l ws)) d i (o .x) (bits.octets-length i _) b
           ∙ ap (λ (us : List ℕ). us ++ drop (i + 1) d) (sym octets);
     }
 
@@ -253,7 +253,7 @@ octets-all r at rec l d h place i out s b =
       line = subst (λ (n : ℕ). Heard r at l (partWords r at n rec) h) is (s .line);
       octets =
           s .stored
-          ∙ ap (λ (us : List ℕ). octetsOf i (sentBits r l (partWords r at i rec)) ++ us) (drop-of-length-le d {i = i} b)
+          ∙ ap (λ (us : List ℕ). octetsOf i (plainBits r l (partWords r at i rec)) ++ us) (drop-of-length-le d {i = i} b)
           ∙ append-nil _
-          ∙ ap (λ (n : ℕ). octetsOf n (sentBits r l (partWords r at n rec))) is;
+          ∙ ap (λ (n : ℕ). octetsOf n (plainBits r l (partWords r at n rec))) is;
     }

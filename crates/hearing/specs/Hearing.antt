@@ -55,15 +55,15 @@ abbrev pub partWords : Rate → ℕ → ℕ → List Taken → List ℕ
 partWords r at n rec = decidedWords r (8 * n / symbolBits r) (drop at rec)
 
 -- the bits received of words, unscrambled
-abbrev pub sentBits : Rate → Line → List ℕ → List ℕ
-sentBits r l ws = descramble (lastFirst (l .past)) (received r l ws)
+abbrev pub plainBits : Rate → Line → List ℕ → List ℕ
+plainBits r l ws = descramble (lastFirst (l .past)) (received r l ws)
 
 -- an octet heard from place `at`
 pub record OctetHeard (r : Rate) (at : ℕ) (rec : List Taken) (l : Line) (o : Octet) : Type 0 where
   pub line : Heard r at l (octetWords r at rec) (o .heard)
-  pub octet : o .x ≡ numberOf (sentBits r l (octetWords r at rec))
+  pub octet : o .x ≡ numberOf (plainBits r l (octetWords r at rec))
 
 -- n octets heard from place `at`
 pub record PartHeard (r : Rate) (at n : ℕ) (rec : List Taken) (l : Line) (h : Hearing) (out : List ℕ) : Type 0 where
   pub line : Heard r at l (partWords r at n rec) h
-  pub octets : out ≡ octetsOf n (sentBits r l (partWords r at n rec))
+  pub octets : out ≡ octetsOf n (plainBits r l (partWords r at n rec))

@@ -41,7 +41,7 @@ use Rattle.frame.specs.Reading.{
 use Rattle.recorders.specs.Rows.{whereFound}
 use Rattle.hearing.specs.declared.Line.{Line}
 use Rattle.hearing.specs.declared.Hearing.{Hearing}
-use Rattle.hearing.specs.Hearing.{received, sentBits, partWords, Heard, PartHeard}
+use Rattle.hearing.specs.Hearing.{received, plainBits, partWords, Heard, PartHeard}
 use Rattle.hearing.proofs.Passes.{past-take, decidedWords-length, decidedWords-append}
 use Rattle.hearing.proofs.More.{heard-more, sent-more, sent-length}
 use Rattle.reader.specs.Openings.{syncOctets, Starts, Opened, FrontKnown}
@@ -69,16 +69,16 @@ module _ (rec : List Taken) where
   sync-place Long = omega (arith, decidedWords-length One 128 rec)
   sync-place Short = omega (arith, decidedWords-length One 56 rec)
 
-  sync-long : (k : Kind) (l : Line) → length (sentBits One l (partWords One 0 (syncOctets k) rec)) ≡ syncBits k
+  sync-long : (k : Kind) (l : Line) → length (plainBits One l (partWords One 0 (syncOctets k) rec)) ≡ syncBits k
   sync-long Long l = sent-length One l (partWords One 0 16 rec) ∙ omega (arith, decidedWords-length One 128 rec)
   sync-long Short l = sent-length One l (partWords One 0 7 rec) ∙ omega (arith, decidedWords-length One 56 rec)
 
   header-long : (k : Kind) (l : Line)
-      → length (sentBits (headerRate k) l (partWords (headerRate k) (88 * syncOctets k + 176) 6 rec)) ≡ 48
+      → length (plainBits (headerRate k) l (partWords (headerRate k) (88 * syncOctets k + 176) 6 rec)) ≡ 48
   header-long Long l = sent-length One l _ ∙ omega (arith, decidedWords-length One 48 (drop 1584 rec))
   header-long Short l = sent-length Two l _ ∙ omega (arith, decidedWords-length Two 24 (drop 792 rec))
 
-  sfd-long : (at : ℕ) (l : Line) → length (sentBits One l (partWords One at 2 rec)) ≡ 16
+  sfd-long : (at : ℕ) (l : Line) → length (plainBits One l (partWords One at 2 rec)) ≡ 16
   sfd-long at l = sent-length One l (partWords One at 2 rec) ∙ omega (arith, decidedWords-length One 16 (drop at rec))
 
 header-place : (k : Kind) → 88 * syncOctets k + 176 ≡ preambleChips k
@@ -178,7 +178,7 @@ module _
 
   -- the front's bits, part by part
   bits-are : frontBits k rec
-      ≡ (sentBits One l0 A ++ sentBits One (a .line) B) ++ sentBits (headerRate k) l2
+      ≡ (plainBits One l0 A ++ plainBits One (a .line) B) ++ plainBits (headerRate k) l2
       (partWords (headerRate k) (88 * syncOctets k + 176) 6 rec)
   unfolding frontBits
   bits-are =
@@ -188,11 +188,11 @@ module _
       ∙ ap₂ {C = List ℕ} (λ u v. u ++ v)
       (descramble-window (start k) (lastFirst (l0 .past)) (received One l0 (preambleWords k rec))
       (sym (s .past ∙ start-seven k))
-      ∙ ap (sentBits One l0) (sym (preamble-words rec k))
+      ∙ ap (plainBits One l0) (sym (preamble-words rec k))
       ∙ sent-more One 0 l0 A B a (x .line))
       (descramble-window (pastAfter (start k) (received One l0 (preambleWords k rec))) (lastFirst (l2 .past))
       (received (headerRate k) l2 (headerWords k rec)) (sym before-header)
-      ∙ ap (sentBits (headerRate k) l2) (sym (header-words rec k)))
+      ∙ ap (plainBits (headerRate k) l2) (sym (header-words rec k)))
 
   pub front-known : FrontKnown k rec (record { heard = all; sfd = sfd; header = header })
   front-known = record {
@@ -201,14 +201,14 @@ module _
         octets-all 2 16 (lastFirst (a .line .past)) (received One (a .line) B) sfd refl
         (sfd-long rec (88 * syncOctets k) (a .line)) (y .octets)
         ∙ sym (ap (λ (bs : List ℕ). take 16 (drop (syncBits k) bs)) bits-are
-        ∙ cut-middle (sentBits One l0 A) (sentBits One (a .line) B) _ (syncBits k) 16 (sync-long rec k l0)
+        ∙ cut-middle (plainBits One l0 A) (plainBits One (a .line) B) _ (syncBits k) 16 (sync-long rec k l0)
         (sfd-long rec (88 * syncOctets k) (a .line)));
     header =
         octets-all 6 48 (lastFirst (l2 .past))
         (received (headerRate k) l2 (partWords (headerRate k) (88 * syncOctets k + 176) 6 rec)) header refl
         (header-long rec k l2) (z .octets)
         ∙ sym (ap (drop (preambleLength k)) bits-are
-        ∙ cut-last (sentBits One l0 A) (sentBits One (a .line) B) _ (syncBits k) 16 (sync-long rec k l0)
+        ∙ cut-last (plainBits One l0 A) (plainBits One (a .line) B) _ (syncBits k) 16 (sync-long rec k l0)
         (sfd-long rec (88 * syncOctets k) (a .line)));
     line = rw (pc .0) opened;
   }
