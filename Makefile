@@ -31,8 +31,8 @@ bench: $(OUT)/bench
 crc: packages
 	python3 tests/peer/check_crc.py
 
-# The host under valgrind and the sanitizers where the processor allows; elsewhere over plain C.
-faults: $(OUT)/host
+# Host and bridge under valgrind and the sanitizers where the processor allows; elsewhere over plain C.
+faults: $(OUT)/host target/peer/peer
 	scripts/faults.sh
 
 install: $(LIB)
