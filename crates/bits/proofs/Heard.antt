@@ -40,49 +40,29 @@ use Rattle.bits.specs.Growths.{
   growthsOf,
   lastHeard,
 }
+use Rattle.symbols.proofs.Numbers.{number-below, p1-back, p2-back, p3-back, p4-back, cck-of-number}
 use Rattle.bits.specs.Code.{Below, Proper, symbolNumber, numbersFrom, wordsChips}
 use Rattle.bits.proofs.Below.{below-nil, below-cons, below-append, below-take, below-drop}
 use Rattle.bits.proofs.Growths.{growth-lt, growth-bits}
-
--- ---- the digits of a number
-
-module _ (a b c d : ℕ) (ha : a < 4) (hb : b < 4) (hc : c < 4) (hd : d < 4) where
-  digit-1 : p1Of (cckNumber a b c d) ≡ a
-  digit-1 = omega arith
-
-  digit-2 : p2Of (cckNumber a b c d) ≡ b
-  digit-2 = omega arith
-
-  digit-3 : p3Of (cckNumber a b c d) ≡ c
-  digit-3 = omega arith
-
-  digit-4 : p4Of (cckNumber a b c d) ≡ d
-  digit-4 = omega arith
-
-  cck-lt : cckNumber a b c d < 256
-  cck-lt = omega arith
-
-  cck-of : cckOf (cckNumber a b c d) ≡ cckWord a b c d
-  cck-of = rw (digit-1, digit-2, digit-3, digit-4)
 
 module _ (q : ℕ) (s : Symbol) (l : q < 4) (h : Proper s) where
   pub number-phase : (r : Rate) → phaseOf r (symbolNumber r q s) ≡ q
   number-phase One = refl
   number-phase Two = refl
-  number-phase Five = digit-1 q (s .p2) (s .p3) (s .p4) l (h .second) (h .third) (h .fourth)
-  number-phase Eleven = digit-1 q (s .p2) (s .p3) (s .p4) l (h .second) (h .third) (h .fourth)
+  number-phase Five = p1-back q (s .p2) (s .p3) (s .p4) l (h .second) (h .third) (h .fourth)
+  number-phase Eleven = p1-back q (s .p2) (s .p3) (s .p4) l (h .second) (h .third) (h .fourth)
 
   pub number-word : (r : Rate) → wordOf r (symbolNumber r q s) ≡ symbolWord r q s
   number-word One = refl
   number-word Two = refl
-  number-word Five = cck-of q (s .p2) (s .p3) (s .p4) l (h .second) (h .third) (h .fourth)
-  number-word Eleven = cck-of q (s .p2) (s .p3) (s .p4) l (h .second) (h .third) (h .fourth)
+  number-word Five = cck-of-number q (s .p2) (s .p3) (s .p4) l (h .second) (h .third) (h .fourth)
+  number-word Eleven = cck-of-number q (s .p2) (s .p3) (s .p4) l (h .second) (h .third) (h .fourth)
 
   pub number-lt : (r : Rate) → symbolNumber r q s < numbers r
   number-lt One = l
   number-lt Two = l
-  number-lt Five = cck-lt q (s .p2) (s .p3) (s .p4) l (h .second) (h .third) (h .fourth)
-  number-lt Eleven = cck-lt q (s .p2) (s .p3) (s .p4) l (h .second) (h .third) (h .fourth)
+  number-lt Five = number-below q (s .p2) (s .p3) (s .p4) l (h .second) (h .third) (h .fourth)
+  number-lt Eleven = number-below q (s .p2) (s .p3) (s .p4) l (h .second) (h .third) (h .fourth)
 
 -- ---- a symbol of bits
 
@@ -109,9 +89,9 @@ number-allowed Five k q d l h =
     let a = h .at 2 in
     let b = h .at 3 in
     rw (
-      eq-eqb _ 0 (digit-3 q (2 * getD d 2 0 + 1) 0 (2 * getD d 3 0) l (omega arith) (omega arith) (omega arith)),
-      digit-2 q (2 * getD d 2 0 + 1) 0 (2 * getD d 3 0) l (omega arith) (omega arith) (omega arith),
-      digit-4 q (2 * getD d 2 0 + 1) 0 (2 * getD d 3 0) l (omega arith) (omega arith) (omega arith),
+      eq-eqb _ 0 (p3-back q (2 * getD d 2 0 + 1) 0 (2 * getD d 3 0) l (omega arith) (omega arith) (omega arith)),
+      p2-back q (2 * getD d 2 0 + 1) 0 (2 * getD d 3 0) l (omega arith) (omega arith) (omega arith),
+      p4-back q (2 * getD d 2 0 + 1) 0 (2 * getD d 3 0) l (omega arith) (omega arith) (omega arith),
       eq-eqb _ 1 (odd (getD d 2 0)),
       eq-eqb _ 0 (even (getD d 3 0)),
     )
@@ -159,9 +139,9 @@ unfolding heardBits
 heard-five k p a b c d l ha hb hc hd =
     let q = turned p (growth a b + halfTurn k) in
     rw (
-      digit-1 q (2 * c + 1) 0 (2 * d) (omega arith) (omega arith) (omega arith) (omega arith),
-      digit-2 q (2 * c + 1) 0 (2 * d) (omega arith) (omega arith) (omega arith) (omega arith),
-      digit-4 q (2 * c + 1) 0 (2 * d) (omega arith) (omega arith) (omega arith) (omega arith),
+      p1-back q (2 * c + 1) 0 (2 * d) (omega arith) (omega arith) (omega arith) (omega arith),
+      p2-back q (2 * c + 1) 0 (2 * d) (omega arith) (omega arith) (omega arith) (omega arith),
+      p4-back q (2 * c + 1) 0 (2 * d) (omega arith) (omega arith) (omega arith) (omega arith),
     )
     (ap₂ {C = List ℕ} (λ y z. y ++ z) (two-odd p a b k l ha hb)
     (ap₂ {C = List ℕ} (λ y z. y ∷ z ∷ []) (odd-half c) (half d)))
@@ -179,10 +159,10 @@ unfolding heardBits
 heard-eleven k p a b c d e f g h l ha hb hc hd he hf hg hh =
     let q = turned p (growth a b + halfTurn k) in
     rw (
-      digit-1 q (direct c d) (direct e f) (direct g h) (omega arith) (omega arith) (omega arith) (omega arith),
-      digit-2 q (direct c d) (direct e f) (direct g h) (omega arith) (omega arith) (omega arith) (omega arith),
-      digit-3 q (direct c d) (direct e f) (direct g h) (omega arith) (omega arith) (omega arith) (omega arith),
-      digit-4 q (direct c d) (direct e f) (direct g h) (omega arith) (omega arith) (omega arith) (omega arith),
+      p1-back q (direct c d) (direct e f) (direct g h) (omega arith) (omega arith) (omega arith) (omega arith),
+      p2-back q (direct c d) (direct e f) (direct g h) (omega arith) (omega arith) (omega arith) (omega arith),
+      p3-back q (direct c d) (direct e f) (direct g h) (omega arith) (omega arith) (omega arith) (omega arith),
+      p4-back q (direct c d) (direct e f) (direct g h) (omega arith) (omega arith) (omega arith) (omega arith),
     )
     (ap₂ {C = List ℕ} (λ y z. y ++ z) (two-odd p a b k l ha hb)
     (ap₂ {C = List ℕ} (λ y z. y ++ z) (direct-bits c d hd)
