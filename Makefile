@@ -12,7 +12,8 @@ PREFIX ?= /usr/local
 
 # The host: captions written at every kind and rate, one spoilt, one cut short.
 demo: $(OUT)/host
-	scripts/x86run $(OUT)/host | tee $(OUT)/host.stdout
+	scripts/x86run $(OUT)/host > $(OUT)/host.stdout
+	cat $(OUT)/host.stdout
 	diff -u examples/host/stdout $(OUT)/host.stdout
 
 # The gate: proofs, must-fail edits, programs, header, host, faults, second program.

@@ -6,7 +6,8 @@ set -eu
 cd "$(dirname "$0")/.."
 flags='-std=c99 -Wall -Wextra -Wpedantic -Werror -Iinclude -g -fsanitize=address,undefined -fno-sanitize-recover=all'
 if [ "$(uname -m)" = x86_64 ]; then
-    valgrind --quiet --error-exitcode=9 target/c/host | diff -u examples/host/stdout -
+    valgrind --quiet --error-exitcode=9 target/c/host >target/c/faults.stdout
+    diff -u examples/host/stdout target/c/faults.stdout
     library=target/staticlib/libdsss.a
 else
     library='-DPLAIN_AS_DSSS bench/plain.c'
@@ -15,7 +16,8 @@ fi
 for program in examples/host/host tests/bridge/bridge; do
     ${CC:-cc} $flags $program.c $library -o "target/c/$(basename $program).faults"
 done
-target/c/host.faults | diff -u examples/host/stdout -
+target/c/host.faults >target/c/faults.stdout
+diff -u examples/host/stdout target/c/faults.stdout
 for family in empty_rows unusable_octets; do
     target/peer/peer --family $family -- target/c/bridge.faults
 done
