@@ -86,7 +86,7 @@ fn print_length(r: Rate, n: usize)
     io::write_all(STDOUT_FILENO, b"\n");
 }
 
-// IEEE Std 802.11b-1999, 18.2.3.5, has 1023 to 1026 octets at 11 Mbit/s: 744 0, 745 0, 746 0, 747 1.
+// IEEE Std 802.11b-1999, clause 18, has 1023 to 1026 octets at 11 Mbit/s as 744, 745, 746 and 747.
 fn print_lengths(r: Rate) {
     print_length(r, 1);
     print_length(r, 10);
@@ -98,7 +98,7 @@ fn print_lengths(r: Rate) {
     print_length(r, 4095);
 }
 
-// A header's octets as bits, lowest first. IEEE Std 802.11b-1999, 18.2.3.6, has SIGNAL, SERVICE and LENGTH
+// A header's octets as bits, lowest first. IEEE Std 802.11b-1999, clause 18, has SIGNAL, SERVICE and LENGTH
 // 0101 0000 0000 0000 0000 0011 0000 0000, LENGTH 192 at 1 Mbit/s, with the CRC 0101 1011 0101 0111.
 fn print_header(r: Rate, n: usize)
     requires { ⌜ n ≤ 4095 ⌝ }

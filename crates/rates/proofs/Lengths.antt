@@ -16,8 +16,8 @@ use Rattle.rates.specs.declared.Rate.{Rate}
 use Rattle.rates.specs.declared.Rate.the-variants.{One, Two, Five, Eleven}
 use Rattle.rates.specs.Rates.{lengthField, bit7, wholeOctets, octetsRead, isPayload, lengthHolds}
 
--- LENGTH and bit 7: 10 and 11 octets; 1,023 to 1,026 octets, from the table of IEEE 802.11b-1999, 18.2.3.5; 4,095
--- octets; and LENGTH at 5.5 Mbit/s
+-- LENGTH and bit 7: 10 and 11 octets; 1,023 to 1,026 octets, whose LENGTHs IEEE 802.11b-1999 prints; 4,095 octets;
+-- and LENGTH at 5.5 Mbit/s
 pub figures : map (λ (n : ℕ). lengthField Eleven n ∷ bit7 Eleven n ∷ [])
     (10 ∷ 11 ∷ 1023 ∷ 1024 ∷ 1025 ∷ 1026 ∷ 4095 ∷ [])
     ++ map (λ (n : ℕ). lengthField Five n ∷ []) (1 ∷ 4095 ∷ [])
