@@ -1,3 +1,4 @@
 pub mod Tables
 pub mod Whole
 pub mod Over
+pub mod Below

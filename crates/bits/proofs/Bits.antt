@@ -17,8 +17,8 @@ use lib.ListN.{length, take, drop, length-drop, length-take}
 use lib.Pow.{pow-pos}
 use lib.Seq.{take-append-le, drop-append-le, take-at, drop-at, take-add, length-take-le}
 use Rattle.bits.specs.Bits.{bitsOf, numberOf, octetBits, octetsOf}
-use Rattle.bits.specs.Code.{Below}
-use Rattle.bits.proofs.Below.{
+use Rattle.base.specs.Below.{Below}
+use Rattle.base.proofs.Below.{
   below-nil,
   below-cons,
   below-head,

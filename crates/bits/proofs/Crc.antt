@@ -11,8 +11,8 @@ use native.Mathlib.Omega.{arith}
 use lib.ListN.{length, drop, replicate, length-append, length-drop, length-map}
 use Rattle.bits.specs.Bits.{_⊕_, bitsOf, octetBits}
 use Rattle.bits.specs.Crc.{polynomial, addWhere, crcStep, remainder, complement, crcBits}
-use Rattle.bits.specs.Code.{Below}
-use Rattle.bits.proofs.Below.{below-nil, below-cons}
+use Rattle.base.specs.Below.{Below}
+use Rattle.base.proofs.Below.{below-nil, below-cons}
 
 pub remainder-append : (r a b : List ℕ) → remainder r (a ++ b) ≡ remainder (remainder r a) b
 unfolding remainder

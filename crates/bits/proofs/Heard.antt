@@ -41,8 +41,9 @@ use Rattle.bits.specs.Growths.{
   lastHeard,
 }
 use Rattle.symbols.proofs.Numbers.{number-below, p1-back, p2-back, p3-back, p4-back, cck-of-number}
-use Rattle.bits.specs.Code.{Below, Proper, symbolNumber, numbersFrom, wordsChips}
-use Rattle.bits.proofs.Below.{below-nil, below-cons, below-append, below-take, below-drop}
+use Rattle.base.specs.Below.{Below}
+use Rattle.bits.specs.Code.{Proper, symbolNumber, numbersFrom, wordsChips}
+use Rattle.base.proofs.Below.{below-nil, below-cons, below-append, below-take, below-drop}
 use Rattle.bits.proofs.Growths.{growth-lt, growth-bits}
 
 module _ (q : ℕ) (s : Symbol) (l : q < 4) (h : Proper s) where

@@ -18,8 +18,9 @@ use lib.Seq.{getD-take, take-take}
 use Rattle.bits.specs.declared.Eight.{Eight}
 use Rattle.bits.specs.Bits.{_⊕_}
 use Rattle.bits.specs.Scrambler.{mixed, scramble, descramble}
-use Rattle.bits.specs.Code.{inTime, lastFirst, pastAfter, Below}
-use Rattle.bits.proofs.Below.{below-nil, below-cons, below-head, below-tail}
+use Rattle.base.specs.Below.{Below}
+use Rattle.bits.specs.Code.{inTime, lastFirst, pastAfter}
+use Rattle.base.proofs.Below.{below-nil, below-cons, below-head, below-tail}
 
 twice : (past : List ℕ) (b : ℕ) → b < 2 → mixed past (mixed past b) ≡ b
 unfolding mixed

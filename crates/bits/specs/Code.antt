@@ -1,13 +1,12 @@
--- What the code's structs stand for, rows whose elements are all below a number, and the words of symbols by their
--- numbers.
+-- What the code's structs stand for, and the words of symbols by their numbers.
 -- Definitions only. Assumes nothing.
 use Prim.Native.Nat.{ℕ, _<_}
-use mathlib.Core.List.{List, [], _∷_, _++_}
-use lib.ListN.{getD}
+use mathlib.Core.List.{List, [], _∷_, _++_, reverse}
 use Rattle.rates.specs.declared.Rate.{Rate}
 use Rattle.rates.specs.declared.Rate.the-variants.{One, Two, Five, Eleven}
 use Rattle.chips.specs.Chips.{turned}
 use Rattle.symbols.specs.Words.{cckNumber, wordOf}
+use Rattle.bits.specs.Bits.{bitsOf}
 use Rattle.bits.specs.Growths.{Symbol}
 use Rattle.bits.specs.declared.Eight.{Eight}
 use Rattle.bits.specs.declared.Sixteen.{Sixteen}
@@ -20,6 +19,10 @@ inTime e = e .b0 ∷ e .b1 ∷ e .b2 ∷ e .b3 ∷ e .b4 ∷ e .b5 ∷ e .b6 ∷
 abbrev pub lastFirst : Eight → List ℕ
 lastFirst e = e .b7 ∷ e .b6 ∷ e .b5 ∷ e .b4 ∷ e .b3 ∷ e .b2 ∷ e .b1 ∷ e .b0 ∷ []
 
+-- an octet's bits, last first: as the scrambler's past
+abbrev pub pastOf : ℕ → List ℕ
+pastOf x = reverse (bitsOf 8 x)
+
 -- the past once more outputs have been made, first in time first
 unfoldable pub pastAfter : List ℕ → List ℕ → List ℕ
 pastAfter past [] = past
@@ -28,10 +31,6 @@ pastAfter past (o ∷ os) = pastAfter (o ∷ past) os
 -- the CRC register, highest term first
 abbrev pub terms : Sixteen → List ℕ
 terms r = inTime (r .first) ++ inTime (r .second)
-
--- every element is below n, and so is the 0 that stands for one past the end
-pub record Below (n : ℕ) (xs : List ℕ) : Type 0 where
-  pub at : (i : ℕ) → getD xs i 0 < n
 
 -- the number of the word of a symbol whose phase is p
 abbrev pub symbolNumber : Rate → ℕ → Symbol → ℕ

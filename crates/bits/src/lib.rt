@@ -7,7 +7,8 @@ ghost use Rattle.bits.specs.Bits.{_⊕_, bitsOf, numberOf, octetBits};
 ghost use Rattle.bits.specs.Growths.{growth};
 ghost use Rattle.bits.specs.Scrambler.{scramble, descramble};
 ghost use Rattle.bits.specs.Crc.{crcStep, remainder, complement, crcBits};
-ghost use Rattle.bits.specs.Code.{inTime, lastFirst, terms, Below};
+ghost use Rattle.base.specs.Below.{Below};
+ghost use Rattle.bits.specs.Code.{inTime, lastFirst, terms};
 
 // Eight bits, b0 first in time.
 pub struct Eight {
@@ -19,6 +20,13 @@ pub struct Eight {
     pub b5: u8,
     pub b6: u8,
     pub b7: u8,
+}
+
+// What stands between two octets of a frame: the last eight bits sent or received as an octet, the first
+// in time the lowest, and the phase of the last symbol.
+pub struct Line {
+    pub past: u8,
+    pub phase: u8,
 }
 
 // Exclusive or of bits, as a sum: no bound on the arguments is asked.

@@ -17,8 +17,8 @@ use Rattle.rates.specs.Rates.{codeOf, isCode, rateOf, lengthField, bit7}
 use Rattle.rates.proofs.Lengths.{octets-back, length-holds}
 use Rattle.bits.specs.Bits.{bitsOf, numberOf}
 use Rattle.bits.specs.Crc.{crcBits}
-use Rattle.bits.specs.Code.{Below}
-use Rattle.bits.proofs.Below.{below-append}
+use Rattle.base.specs.Below.{Below}
+use Rattle.base.proofs.Below.{below-append}
 use Rattle.bits.proofs.Bits.{bits-below, number-bits}
 use Rattle.bits.proofs.Crc.{crc-length, crc-below}
 use Rattle.frame.specs.declared.Kind.{Kind}

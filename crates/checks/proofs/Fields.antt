@@ -19,9 +19,9 @@ use Rattle.rates.specs.declared.Rate.the-variants.{One, Two, Five, Eleven}
 use Rattle.rates.specs.Rates.{codeOf, lengthField}
 use Rattle.bits.specs.Bits.{bitsOf, numberOf, octetBits}
 use Rattle.bits.specs.Crc.{crcBits}
-use Rattle.bits.specs.Code.{Below}
+use Rattle.base.specs.Below.{Below}
 use Rattle.bits.proofs.Bits.{bits-two, octet-bits-append, number-one, octets-same}
-use Rattle.bits.proofs.Below.{below-nil, below-cons}
+use Rattle.base.proofs.Below.{below-nil, below-cons}
 use Rattle.frame.specs.declared.Kind.{Kind}
 use Rattle.frame.specs.declared.Front.{Front}
 use Rattle.frame.specs.Frame.{serviceField, fieldBits, headerBits}

@@ -14,8 +14,8 @@ use Rattle.rates.specs.declared.Rate.{Rate}
 use Rattle.rates.specs.declared.Rate.the-variants.{One, Two, Five, Eleven}
 use Rattle.rates.specs.Rates.{codeOf, isCode, rateOf, lengthField}
 use Rattle.chips.specs.Chips.{Taken, hardRecording, softRecording}
-use Rattle.bits.specs.Code.{Below}
-use Rattle.bits.proofs.Below.{below-take}
+use Rattle.base.specs.Below.{Below}
+use Rattle.base.proofs.Below.{below-take}
 use Rattle.frame.specs.declared.Kind.{Kind}
 use Rattle.frame.specs.declared.Refusal.the-variants.{ShorterThanFront, Ends, OctetRoom}
 use Rattle.frame.specs.declared.Writing.{Writing}

@@ -12,8 +12,8 @@ use Rattle.rates.specs.declared.Rate.the-variants.{One, Two, Five, Eleven}
 use Rattle.rates.specs.Rates.{symbolChips, symbolBits}
 use Rattle.chips.specs.Chips.{Taken}
 use Rattle.bits.specs.Growths.{symbolsFrom, symbolsOf, chipsFrom, lastPhase, heard, growthsOf, lastHeard}
-use Rattle.bits.specs.Code.{Below}
-use Rattle.bits.proofs.Below.{below-nil, below-append}
+use Rattle.base.specs.Below.{Below}
+use Rattle.base.proofs.Below.{below-nil, below-append}
 use Rattle.symbols.specs.Words.{wordOf}
 use Rattle.symbols.proofs.Words.{word-phases}
 use Rattle.frame.specs.declared.Kind.{Kind}

@@ -30,8 +30,8 @@ use Rattle.bits.specs.Growths.{
   growthsOf,
   lastHeard,
 }
-use Rattle.bits.specs.Code.{Below}
-use Rattle.bits.proofs.Below.{below-take, below-drop}
+use Rattle.base.specs.Below.{Below}
+use Rattle.base.proofs.Below.{below-take, below-drop}
 use Rattle.frame.specs.declared.Kind.{Kind}
 use Rattle.frame.specs.declared.Kind.the-variants.{Long, Short}
 use Rattle.frame.specs.Frame.{headerRate, frontChips, preambleLength, headerLength, partsChips}

@@ -32,8 +32,8 @@ use Rattle.chips.specs.Chips.{
   softRecording,
 }
 use Rattle.chips.proofs.Meaning.{no-other}
-use Rattle.bits.specs.Code.{Below}
-use Rattle.bits.proofs.Below.{below-head, below-tail}
+use Rattle.base.specs.Below.{Below}
+use Rattle.base.proofs.Below.{below-head, below-tail}
 use Rattle.promises.specs.Clean.{cleanTaken, cleanRecording}
 use Rattle.promises.specs.Calls.{Exactly, none, more}
 

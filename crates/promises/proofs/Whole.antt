@@ -18,8 +18,9 @@ use Rattle.chips.specs.Chips.{Taken}
 use Rattle.bits.specs.Bits.{bitsOf, octetBits, octetsOf}
 use Rattle.bits.specs.Growths.{heard}
 use Rattle.bits.specs.Scrambler.{scramble, descramble}
-use Rattle.bits.specs.Code.{Below, pastAfter}
-use Rattle.bits.proofs.Below.{below-append, below-take, below-drop, below-replicate}
+use Rattle.base.specs.Below.{Below}
+use Rattle.bits.specs.Code.{pastAfter}
+use Rattle.base.proofs.Below.{below-append, below-take, below-drop, below-replicate}
 use Rattle.bits.proofs.Bits.{bits-length, bits-below, octet-bits-length, octet-bits-below, octets-back}
 use Rattle.bits.proofs.Scrambler.{
   unscrambled,

@@ -11,7 +11,7 @@ use Rattle.rates.specs.Rates.{isCode, rateOf}
 use Rattle.chips.specs.declared.Sample.{Sample}
 use Rattle.chips.specs.declared.Chip.the-variants.{Soft}
 use Rattle.chips.specs.Chips.{Taken, fullChip, usableSample, exactOf, hardRecording, softRecording}
-use Rattle.bits.specs.Code.{Below}
+use Rattle.base.specs.Below.{Below}
 use Rattle.frame.specs.declared.Written.{Written}
 use Rattle.frame.specs.declared.Record.{Record}
 use Rattle.frame.specs.Frame.{goesWith}

@@ -37,6 +37,13 @@ symbolBits Two = 2
 symbolBits Five = 4
 symbolBits Eleven = 8
 
+-- so an octet is eight, four, two or one symbols
+abbrev pub octetSymbols : Rate → ℕ
+octetSymbols One = 8
+octetSymbols Two = 4
+octetSymbols Five = 2
+octetSymbols Eleven = 1
+
 -- payload of n octets: 88 n, 44 n, 16 n, 8 n chips
 abbrev pub octetChips : Rate → ℕ
 octetChips One = 88

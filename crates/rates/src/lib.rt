@@ -7,7 +7,7 @@ ghost use Rattle.rates.specs.Rates.{
   isCode,
   rateOf,
   symbolChips,
-  symbolBits,
+  octetSymbols,
   octetChips,
   lengthField,
   bit7,
@@ -33,6 +33,14 @@ impl Rate {
     pub const BARKER_CHIPS: usize = 11;
 
     pub const CCK_CHIPS: usize = 8;
+
+    pub const OCTET_CHIPS_ONE: usize = 88;
+
+    pub const OCTET_CHIPS_TWO: usize = 44;
+
+    pub const OCTET_CHIPS_FIVE: usize = 16;
+
+    pub const OCTET_CHIPS_ELEVEN: usize = 8;
 
     // SIGNAL, and the rate code.
     pub fn code(self) -> u64
@@ -61,10 +69,22 @@ impl Rate {
         ensures answer { λ r. ⌜ r ≡ octetChips self ⌝ }
     {
         match self {
-            Rate::One => 8 * Rate::BARKER_CHIPS,
-            Rate::Two => 4 * Rate::BARKER_CHIPS,
-            Rate::Five => 2 * Rate::CCK_CHIPS,
-            Rate::Eleven => Rate::CCK_CHIPS,
+            Rate::One => Rate::OCTET_CHIPS_ONE,
+            Rate::Two => Rate::OCTET_CHIPS_TWO,
+            Rate::Five => Rate::OCTET_CHIPS_FIVE,
+            Rate::Eleven => Rate::OCTET_CHIPS_ELEVEN,
+        }
+    }
+
+    // The symbols of an octet.
+    pub fn octet_symbols(self) -> usize
+        ensures answer { λ r. ⌜ r ≡ octetSymbols self ⌝ }
+    {
+        match self {
+            Rate::One => 8,
+            Rate::Two => 4,
+            Rate::Five => 2,
+            Rate::Eleven => 1,
         }
     }
 

@@ -10,7 +10,8 @@ use native.Mathlib.Omega.{arith}
 use lib.ListN.{length, take}
 use Rattle.rates.specs.declared.Rate.{Rate}
 use Rattle.rates.specs.declared.Rate.the-variants.{One, Two, Five, Eleven}
-use Rattle.rates.specs.Rates.{symbolBits}
+use Rattle.rates.specs.Rates.{symbolBits, octetSymbols}
+use Rattle.rates.proofs.Octets.{part-symbols}
 use Rattle.bits.specs.Bits.{bitsOf, octetBits}
 use Rattle.bits.specs.Growths.{Symbol, symbolOf, symbolsFrom, symbolsOf, chipsFrom, lastPhase}
 use Rattle.bits.specs.Scrambler.{mixed, scramble}
@@ -18,7 +19,7 @@ use Rattle.bits.specs.Code.{pastAfter}
 use Rattle.bits.proofs.Bits.{octet-bits-length}
 use Rattle.bits.proofs.Growths.{symbolsFrom-append, symbolsFrom-parity, chipsFrom-append, lastPhase-append}
 use Rattle.bits.proofs.Scrambler.{scramble-append, scramble-length, scramble-window, past-append}
-use Rattle.sender.specs.Sending.{State, octetSymbols, symbolsAt, emit, step, run, ran}
+use Rattle.sender.specs.Sending.{State, symbolsAt, emit, step, run, ran}
 
 -- the outputs so far, after bits more
 abbrev pub after : List ℕ → List ℕ → List ℕ
@@ -50,15 +51,9 @@ octet-past h x bs = scramble-window _ _ bs (seven h x)
 unfoldable pub allSymbols : Rate → List ℕ → ℕ → List ℕ → List Symbol
 allSymbols r h k xs = symbolsFrom r k (octetSymbols r * length xs) (scramble h (octetBits xs))
 
-whole : (r : Rate) (n : ℕ) → 8 * n / symbolBits r ≡ octetSymbols r * n
-whole One n = omega arith
-whole Two n = omega arith
-whole Five n = omega arith
-whole Eleven n = omega arith
-
 pub symbolsOf-octets : (r : Rate) (h xs : List ℕ) → symbolsOf r (scramble h (octetBits xs)) ≡ allSymbols r h 0 xs
 unfolding symbolsOf allSymbols
-symbolsOf-octets r h xs = rw (scramble-length h (octetBits xs), octet-bits-length xs, whole r (length xs))
+symbolsOf-octets r h xs = rw (scramble-length h (octetBits xs), octet-bits-length xs, part-symbols r (length xs))
 
 pub record Sent (r : Rate) (s : State) (h : List ℕ) (k : ℕ) (xs : List ℕ) : Type 0 where
   pub chips : run r s xs ≡ chipsFrom r (s .phase) (allSymbols r h k xs)

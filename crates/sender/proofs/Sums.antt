@@ -6,8 +6,8 @@ use Prim.Native.Nat.{ℕ, zero, suc, _+_, _*_, _/_, _%_, _<_}
 use native.Mathlib.Omega.{arith}
 use lib.ListN.{length}
 use Rattle.symbols.specs.Words.{cckWord}
-use Rattle.bits.specs.Code.{Below}
-use Rattle.bits.proofs.Below.{below-head, below-tail, below-eight}
+use Rattle.base.specs.Below.{Below}
+use Rattle.base.proofs.Below.{below-head, below-tail, below-eight}
 
 -- the number with the octets of cs, lowest first
 unfoldable together : List ℕ → ℕ

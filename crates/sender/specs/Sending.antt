@@ -4,7 +4,7 @@
 use Prim.Native.Nat.{ℕ, _+_, _%_}
 use mathlib.Core.List.{List, [], _∷_, _++_, reverse}
 use Rattle.rates.specs.declared.Rate.{Rate}
-use Rattle.rates.specs.declared.Rate.the-variants.{One, Two, Five, Eleven}
+use Rattle.rates.specs.Rates.{octetSymbols}
 use Rattle.bits.specs.Bits.{bitsOf}
 use Rattle.bits.specs.Growths.{Symbol, symbolsFrom, chipsFrom, lastPhase}
 use Rattle.bits.specs.Scrambler.{scramble}
@@ -15,13 +15,6 @@ pub record State : Type 0 where
   pub past : List ℕ
   pub phase : ℕ
   pub odd : ℕ
-
--- an octet is eight, four, two or one symbols
-abbrev pub octetSymbols : Rate → ℕ
-octetSymbols One = 8
-octetSymbols Two = 4
-octetSymbols Five = 2
-octetSymbols Eleven = 1
 
 -- the symbols of eight scrambled bits
 unfoldable pub symbolsAt : Rate → ℕ → List ℕ → List Symbol

@@ -5,12 +5,12 @@ ghost use mathlib.Core.List.{reverse};
 ghost use Prim.Native.Nat.{_+_, _*_, _%_, _≤_, _<_};
 ghost use lib.ListN.{length};
 ghost use Rattle.base.specs.Over.{over};
-ghost use Rattle.rates.specs.Rates.{octetChips};
+ghost use Rattle.rates.specs.Rates.{octetSymbols, octetChips};
 ghost use Rattle.chips.specs.Chips.{turned};
 ghost use Rattle.bits.specs.Bits.{bitsOf};
 ghost use Rattle.bits.specs.Scrambler.{scramble};
 ghost use Rattle.bits.specs.Growths.{growth, halfTurn, chipsFrom, lastPhase};
-ghost use Rattle.sender.specs.Sending.{octetSymbols, symbolsAt, emit, step, run, ran};
+ghost use Rattle.sender.specs.Sending.{symbolsAt, emit, step, run, ran};
 ghost use Rattle.sender.specs.Line.{state};
 
 mod words;

@@ -12,10 +12,10 @@ use Rattle.rates.specs.declared.Rate.{Rate}
 use Rattle.rates.specs.declared.Rate.the-variants.{One}
 use Rattle.rates.specs.Rates.{octetChips}
 use Rattle.bits.specs.Bits.{bitsOf, octetBits, octetsOf}
-use Rattle.bits.specs.Code.{Below}
+use Rattle.base.specs.Below.{Below}
 use Rattle.bits.specs.Growths.{chipsFrom, lastPhase}
 use Rattle.bits.specs.Scrambler.{scramble}
-use Rattle.bits.proofs.Below.{below-append}
+use Rattle.base.proofs.Below.{below-append}
 use Rattle.bits.proofs.Bits.{bits-length, bits-below, octet-bits-length, octets-length, octets-bits}
 use Rattle.bits.proofs.Scrambler.{scramble-append, scramble-length, scramble-window}
 use Rattle.bits.proofs.Crc.{crc-length, crc-below}

@@ -3,7 +3,7 @@
 use native.Mathlib.Nat.{add-zero}
 use native.Mathlib.Omega.{arith}
 use Rattle.bits.specs.Bits.{numberOf}
-use Rattle.bits.proofs.Below.{below-each}
+use Rattle.base.proofs.Below.{below-each}
 use Rattle.bits.proofs.pack.Statement.{statement}
 use Rattle.bits.proofs.pack.Tie as tie
 

@@ -6,10 +6,11 @@ use Prim.Native.Nat.{ℕ, _+_, _%_}
 use borrow.Author.Needs.{needs}
 use Rattle.base.specs.Over.{over}
 use Rattle.rates.specs.declared.Rate.{Rate}
+use Rattle.rates.specs.Rates.{octetSymbols}
 use Rattle.bits.specs.Bits.{bitsOf}
 use Rattle.bits.specs.Growths.{chipsFrom, lastPhase}
 use Rattle.bits.specs.Scrambler.{scramble}
-use Rattle.sender.specs.Sending.{State, octetSymbols, symbolsAt, step, emit}
+use Rattle.sender.specs.Sending.{State, symbolsAt, step, emit}
 use Rattle.sender.specs.Line.{state}
 use Rattle.sender.proofs.put_octet.Statement.{statement}
 use Rattle.sender.proofs.put_octet.Tie as tie

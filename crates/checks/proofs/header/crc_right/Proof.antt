@@ -7,7 +7,7 @@ use lib.ListN.{length, getD}
 use mir.Syntax.{w8}
 use mir.Val.{Fits}
 use borrow.Author.Needs.{needs}
-use Rattle.bits.specs.Code.{Below}
+use Rattle.base.specs.Below.{Below}
 use Rattle.checks.proofs.Fields.{two-is, crc-other, crc-same}
 use Rattle.checks.proofs.header.crc_right.Statement.{statement}
 use Rattle.checks.proofs.header.crc_right.Tie as tie

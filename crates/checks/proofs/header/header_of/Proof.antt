@@ -6,7 +6,7 @@ use lib.ListN.{length, getD}
 use mir.Syntax.{w8}
 use mir.Val.{Fits}
 use borrow.Author.Needs.{needs}
-use Rattle.bits.specs.Code.{Below}
+use Rattle.base.specs.Below.{Below}
 use Rattle.frame.specs.Reading.{headerOf}
 use Rattle.checks.proofs.Fields.{fields-cut}
 use Rattle.checks.proofs.Tests.{failed, passed}

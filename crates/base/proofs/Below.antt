@@ -9,7 +9,7 @@ use native.Mathlib.Omega.{arith}
 use native.Mathlib.Nat.{lt-of-lt-of-le}
 use lib.ListN.{getD, take, drop, replicate}
 use lib.Seq.{getD-drop}
-use Rattle.bits.specs.Code.{Below}
+use Rattle.base.specs.Below.{Below}
 
 pub below-nil : (n : ℕ) → 0 < n → Below n []
 below-nil n h = record { at = λ i. h }
