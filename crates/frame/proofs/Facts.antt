@@ -13,7 +13,17 @@ use Rattle.bits.specs.Growths.{growth, symbolOf, symbolsFrom, symbolsOf, chipsF
 use Rattle.bits.specs.Scrambler.{mixed, scramble}
 use Rattle.bits.specs.Crc.{addWhere, crcStep, remainder, crcBits}
 use Rattle.frame.specs.declared.Kind.the-variants.{Long, Short}
-use Rattle.frame.specs.Frame.{preambleBits, fieldBits, headerBits, frameBits, sentBits, partsChips, frame}
+use Rattle.frame.specs.Frame.{
+  preambleBits,
+  fieldBits,
+  headerBits,
+  sentHeader,
+  frameBits,
+  sentBits,
+  partsChips,
+  framed,
+  frame,
+}
 
 some : List ℕ
 some = 0x1B ∷ 0xC6 ∷ []
@@ -26,10 +36,10 @@ computed =
     ∷ take 16 (drop 1056 (frame Short Five 1 some))
     ∷ take 16 (drop 2112 (frame Long Eleven 1 some))
     ∷ take 16 (drop 1056 (frame Short Eleven 1 some))
-    ∷ take 8 (drop 144 (sentBits Long Five some))
-    ∷ take 8 (drop 192 (sentBits Long Five some))
-    ∷ take 8 (drop 72 (sentBits Short Eleven some))
-    ∷ take 8 (drop 120 (sentBits Short Eleven some))
+    ∷ take 8 (drop 144 (sentBits Long (sentHeader Five 2) some))
+    ∷ take 8 (drop 192 (sentBits Long (sentHeader Five 2) some))
+    ∷ take 8 (drop 72 (sentBits Short (sentHeader Eleven 2) some))
+    ∷ take 8 (drop 120 (sentBits Short (sentHeader Eleven 2) some))
     ∷ []
 
 pub expected : List (List ℕ)
@@ -51,5 +61,5 @@ unfolding
     computed expected some
     barkerWord cckWord
     bitsOf octetBits growth symbolOf symbolsFrom symbolsOf chipsFrom lastPhase mixed scramble addWhere crcStep remainder crcBits
-    preambleBits fieldBits headerBits frameBits sentBits partsChips frame
+    preambleBits fieldBits headerBits sentHeader frameBits sentBits partsChips framed frame
 facts = refl

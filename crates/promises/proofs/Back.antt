@@ -17,19 +17,19 @@ use Rattle.chips.specs.Chips.{Taken, hardRecording, softRecording}
 use Rattle.base.specs.Below.{Below}
 use Rattle.base.proofs.Below.{below-take}
 use Rattle.frame.specs.declared.Kind.{Kind}
-use Rattle.frame.specs.declared.Refusal.the-variants.{ShorterThanFront, Ends, OctetRoom}
-use Rattle.frame.specs.declared.Writing.{Writing}
-use Rattle.frame.specs.declared.Writing.the-variants as writing
-use Rattle.frame.specs.declared.Front.{Front}
-use Rattle.frame.specs.declared.Front.the-variants as front
-use Rattle.frame.specs.declared.Reading.{Reading}
-use Rattle.frame.specs.declared.Reading.the-variants as reading
-use Rattle.frame.specs.declared.Written.{Written}
-use Rattle.frame.specs.declared.Record.{Record}
-use Rattle.frame.specs.Frame.{goesWith, frame, frontChips, frameChips}
-use Rattle.frame.specs.Answers.{writtenOf, recordOf}
-use Rattle.frame.specs.Writing.{isKind, kindOf, writingOf, chipsAfter, chipsWritten}
-use Rattle.frame.specs.Reading.{frontOf, payloadOf, payloadReading, afterFront, readingOf, octetsAfter, octetsFound}
+use Rattle.calls.specs.declared.Refusal.the-variants.{ShorterThanFront, Ends, OctetRoom}
+use Rattle.calls.specs.declared.Writing.{Writing}
+use Rattle.calls.specs.declared.Writing.the-variants as writing
+use Rattle.calls.specs.declared.Front.{Front}
+use Rattle.calls.specs.declared.Front.the-variants as front
+use Rattle.calls.specs.declared.Reading.{Reading}
+use Rattle.calls.specs.declared.Reading.the-variants as reading
+use Rattle.calls.specs.declared.Written.{Written}
+use Rattle.calls.specs.declared.Record.{Record}
+use Rattle.frame.specs.Frame.{goesWith, frame, frontChips, frameChips, isKind, kindOf}
+use Rattle.calls.specs.Answers.{writtenOf, recordOf}
+use Rattle.calls.specs.Writing.{writingOf, chipsAfter, chipsWritten}
+use Rattle.calls.specs.Reading.{frontOf, payloadOf, payloadReading, afterFront, readingOf, octetsAfter, octetsFound}
 use Rattle.promises.specs.Clean.{cleanRecording}
 use Rattle.promises.specs.Calls.{Wrote, Found, Sendable, Exactly}
 use Rattle.promises.specs.Promises.{Sent, good, refused, lengthOf, WrittenFrame, ReadBack, ReadBackSoft, NotReadBack}

@@ -18,7 +18,7 @@ use Rattle.symbols.specs.Words.{wordOf}
 use Rattle.symbols.specs.Choice.{isAllowed, numbers, decided}
 use Rattle.symbols.proofs.Words.{word-length}
 use Rattle.choice.proofs.Clean.{decided-clean}
-use Rattle.frame.specs.Reading.{firstUnusable, decidedWords}
+use Rattle.calls.specs.Reading.{firstUnusable, decidedWords}
 use Rattle.bits.specs.Code.{wordsChips}
 use Rattle.promises.specs.Clean.{cleanTaken, cleanRecording}
 use Rattle.promises.proofs.Sent.{Allowed, none, more}

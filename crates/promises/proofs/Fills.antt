@@ -14,8 +14,8 @@ use Rattle.rates.specs.Rates.{isCode, rateOf}
 use Rattle.chips.specs.Chips.{Taken}
 use Rattle.bits.proofs.Bits.{octets-length}
 use Rattle.frame.specs.declared.Kind.{Kind}
-use Rattle.frame.specs.declared.Refusal.{Refusal}
-use Rattle.frame.specs.declared.Refusal.the-variants.{
+use Rattle.calls.specs.declared.Refusal.{Refusal}
+use Rattle.calls.specs.declared.Refusal.the-variants.{
   NoKind,
   NoRate,
   ShortRate,
@@ -34,18 +34,18 @@ use Rattle.frame.specs.declared.Refusal.the-variants.{
   Ends,
   OctetRoom,
 }
-use Rattle.frame.specs.declared.Writing.{Writing}
-use Rattle.frame.specs.declared.Writing.the-variants as writing
-use Rattle.frame.specs.declared.Front.{Front}
-use Rattle.frame.specs.declared.Front.the-variants as front
-use Rattle.frame.specs.declared.Reading.{Reading}
-use Rattle.frame.specs.declared.Reading.the-variants as reading
-use Rattle.frame.specs.declared.Written.{Written}
-use Rattle.frame.specs.declared.Record.{Record}
-use Rattle.frame.specs.Frame.{goesWith, frame, frontChips, frameChips}
-use Rattle.frame.specs.Answers.{numberOf, writtenOf, recordOf}
-use Rattle.frame.specs.Writing.{isKind, kindOf, writingOf, chipsAfter, chipsWritten}
-use Rattle.frame.specs.Reading.{
+use Rattle.calls.specs.declared.Writing.{Writing}
+use Rattle.calls.specs.declared.Writing.the-variants as writing
+use Rattle.calls.specs.declared.Front.{Front}
+use Rattle.calls.specs.declared.Front.the-variants as front
+use Rattle.calls.specs.declared.Reading.{Reading}
+use Rattle.calls.specs.declared.Reading.the-variants as reading
+use Rattle.calls.specs.declared.Written.{Written}
+use Rattle.calls.specs.declared.Record.{Record}
+use Rattle.frame.specs.Frame.{goesWith, frame, frontChips, frameChips, isKind, kindOf}
+use Rattle.calls.specs.Answers.{numberOf, writtenOf, recordOf}
+use Rattle.calls.specs.Writing.{writingOf, chipsAfter, chipsWritten}
+use Rattle.calls.specs.Reading.{
   orElse,
   firstUnusable,
   frontOf,

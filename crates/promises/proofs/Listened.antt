@@ -18,23 +18,8 @@ use Rattle.symbols.specs.Words.{wordOf}
 use Rattle.symbols.proofs.Words.{word-phases}
 use Rattle.frame.specs.declared.Kind.{Kind}
 use Rattle.frame.specs.declared.Kind.the-variants.{Long, Short}
-use Rattle.frame.specs.Frame.{headerRate, frontChips, preambleLength, headerLength, partsChips}
-use Rattle.frame.specs.Reading.{
-  orElse,
-  firstOdd,
-  oddGrowth,
-  decidedWords,
-  preambleChips,
-  preambleWords,
-  headerWords,
-  reference,
-  headerPhase,
-  payloadPhase,
-  frontOdd,
-  frontHeard,
-  payloadWords,
-  payloadOdd,
-}
+use Rattle.frame.specs.Frame.{headerRate, frontChips, preambleLength, headerLength, partsChips, preambleChips}
+use Rattle.calls.specs.Reading.{orElse, firstOdd, oddGrowth, decidedWords, preambleWords, headerWords, reference, headerPhase, payloadPhase, frontOdd, frontHeard, payloadWords, payloadOdd}
 use Rattle.bits.specs.Code.{wordsChips}
 use Rattle.bits.proofs.Growths.{lastPhase-lt}
 use Rattle.promises.specs.Clean.{cleanRecording}

@@ -19,26 +19,11 @@ use Rattle.bits.specs.Growths.{heard, growthsOf, lastHeard}
 use Rattle.bits.specs.Scrambler.{descramble}
 use Rattle.frame.specs.declared.Kind.{Kind}
 use Rattle.frame.specs.declared.Kind.the-variants.{Long, Short}
-use Rattle.frame.specs.declared.Front.{Front}
-use Rattle.frame.specs.declared.Front.the-variants as front
-use Rattle.frame.specs.declared.Refusal.the-variants.{Unusable, OddGrowth}
-use Rattle.frame.specs.Frame.{syncBits, headerRate, start, frontChips, preambleLength, headerLength}
-use Rattle.frame.specs.Reading.{
-  orElse,
-  firstUnusable,
-  oddGrowth,
-  decidedWords,
-  preambleChips,
-  preambleWords,
-  headerWords,
-  reference,
-  headerPhase,
-  frontOdd,
-  frontHeard,
-  frontBits,
-  headerOf,
-  frontOf,
-}
+use Rattle.calls.specs.declared.Front.{Front}
+use Rattle.calls.specs.declared.Front.the-variants as front
+use Rattle.calls.specs.declared.Refusal.the-variants.{Unusable, OddGrowth}
+use Rattle.frame.specs.Frame.{syncBits, headerRate, start, frontChips, preambleLength, headerLength, preambleChips}
+use Rattle.calls.specs.Reading.{orElse, firstUnusable, oddGrowth, decidedWords, preambleWords, headerWords, reference, headerPhase, frontOdd, frontHeard, frontBits, headerOf, frontOf}
 
 pub drop-take : {A : Type 0} (c j : ℕ) (l : List A) → drop c (take j l) ≡ take (j - c) (drop c l)
 drop-take zero j l = ap (λ (n : ℕ). take n l) (all-left j)

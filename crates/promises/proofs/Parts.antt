@@ -34,23 +34,8 @@ use Rattle.base.specs.Below.{Below}
 use Rattle.base.proofs.Below.{below-take, below-drop}
 use Rattle.frame.specs.declared.Kind.{Kind}
 use Rattle.frame.specs.declared.Kind.the-variants.{Long, Short}
-use Rattle.frame.specs.Frame.{headerRate, frontChips, preambleLength, headerLength, partsChips}
-use Rattle.frame.specs.Reading.{
-  orElse,
-  firstOdd,
-  oddGrowth,
-  decidedWords,
-  preambleChips,
-  preambleWords,
-  headerWords,
-  reference,
-  headerPhase,
-  payloadPhase,
-  frontOdd,
-  frontHeard,
-  payloadWords,
-  payloadOdd,
-}
+use Rattle.frame.specs.Frame.{headerRate, frontChips, preambleLength, headerLength, partsChips, preambleChips}
+use Rattle.calls.specs.Reading.{orElse, firstOdd, oddGrowth, decidedWords, preambleWords, headerWords, reference, headerPhase, payloadPhase, frontOdd, frontHeard, payloadWords, payloadOdd}
 use Rattle.bits.specs.Code.{numbersFrom, wordsChips}
 use Rattle.bits.proofs.Growths.{symbolsFrom-length}
 use Rattle.bits.proofs.Heard.{heard-back, chips-words, last-number, numbersFrom-length}

@@ -25,15 +25,8 @@ use Rattle.choice.specs.Demand3.{chosen, RightUpTo, allChips}
 use Rattle.choice.proofs.Demand3.{demand-3}
 use Rattle.frame.specs.declared.Kind.{Kind}
 use Rattle.frame.specs.declared.Kind.the-variants.{Long, Short}
-use Rattle.frame.specs.Frame.{headerRate, frontChips, frameChips, preambleLength, headerLength}
-use Rattle.frame.specs.Reading.{
-  firstUnusable,
-  decidedWords,
-  preambleChips,
-  preambleWords,
-  headerWords,
-  payloadWords,
-}
+use Rattle.frame.specs.Frame.{headerRate, frontChips, frameChips, preambleLength, headerLength, preambleChips}
+use Rattle.calls.specs.Reading.{firstUnusable, decidedWords, preambleWords, headerWords, payloadWords}
 use Rattle.promises.specs.Promises.{softChips, symbolAt, EachRight, Usable, FrontRight, PayloadRight}
 use Rattle.promises.proofs.Local.{drop-take}
 use Rattle.promises.proofs.Whole.{whole-symbols}

@@ -16,12 +16,21 @@ use Rattle.bits.specs.Growths.{growth, symbolOf, symbolsFrom, symbolsOf, chipsF
 use Rattle.bits.specs.Scrambler.{mixed, scramble}
 use Rattle.frame.specs.declared.Kind.{Kind}
 use Rattle.frame.specs.declared.Kind.the-variants.{Long, Short}
-use Rattle.frame.specs.declared.Written.{Written}
-use Rattle.frame.specs.declared.Record.{Record}
-use Rattle.frame.specs.Frame.{preambleBits, headerBits, frameBits, sentBits, partsChips, frame, frameChips, frontChips}
-use Rattle.frame.specs.Answers.{recordOf}
-use Rattle.frame.specs.Writing.{kindOf}
-use Rattle.frame.specs.Reading.{readingOf, octetsFound}
+use Rattle.calls.specs.declared.Written.{Written}
+use Rattle.calls.specs.declared.Record.{Record}
+use Rattle.frame.specs.Frame.{
+  preambleBits,
+  headerBits,
+  frameBits,
+  sentBits,
+  partsChips,
+  frame,
+  frameChips,
+  frontChips,
+  kindOf,
+}
+use Rattle.calls.specs.Answers.{recordOf}
+use Rattle.calls.specs.Reading.{readingOf, octetsFound}
 use Rattle.promises.specs.Calls.{Found}
 use Rattle.promises.specs.Promises.{Sent, good, lengthOf, OneSource}
 use Rattle.promises.proofs.Whole.{frame-length}

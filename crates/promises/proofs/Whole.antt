@@ -33,9 +33,9 @@ use Rattle.bits.proofs.Scrambler.{
 use Rattle.checks.proofs.Back.{header-back, header-length, header-below}
 use Rattle.frame.specs.declared.Kind.{Kind}
 use Rattle.frame.specs.declared.Kind.the-variants.{Long, Short}
-use Rattle.frame.specs.declared.Front.the-variants as front
-use Rattle.frame.specs.declared.Reading.the-variants as reading
-use Rattle.frame.specs.declared.Refusal.the-variants.{Ends, OctetRoom}
+use Rattle.calls.specs.declared.Front.the-variants as front
+use Rattle.calls.specs.declared.Reading.the-variants as reading
+use Rattle.calls.specs.declared.Refusal.the-variants.{Ends, OctetRoom}
 use Rattle.frame.specs.Frame.{
   syncBits,
   syncBit,
@@ -53,7 +53,7 @@ use Rattle.frame.specs.Frame.{
   frame,
   frameChips,
 }
-use Rattle.frame.specs.Reading.{
+use Rattle.calls.specs.Reading.{
   firstUnusable,
   frontOdd,
   frontHeard,

@@ -12,12 +12,12 @@ use Rattle.chips.specs.declared.Sample.{Sample}
 use Rattle.chips.specs.declared.Chip.the-variants.{Soft}
 use Rattle.chips.specs.Chips.{Taken, fullChip, usableSample, exactOf, hardRecording, softRecording}
 use Rattle.base.specs.Below.{Below}
-use Rattle.frame.specs.declared.Written.{Written}
-use Rattle.frame.specs.declared.Record.{Record}
-use Rattle.frame.specs.Frame.{goesWith}
-use Rattle.frame.specs.Answers.{writtenOf, recordOf}
-use Rattle.frame.specs.Writing.{isKind, kindOf, writingOf, chipsWritten}
-use Rattle.frame.specs.Reading.{readingOf, octetsFound}
+use Rattle.calls.specs.declared.Written.{Written}
+use Rattle.calls.specs.declared.Record.{Record}
+use Rattle.frame.specs.Frame.{goesWith, isKind, kindOf}
+use Rattle.calls.specs.Answers.{writtenOf, recordOf}
+use Rattle.calls.specs.Writing.{writingOf, chipsWritten}
+use Rattle.calls.specs.Reading.{readingOf, octetsFound}
 
 -- the writer: its answer, and the chip buffer of `room` chips at the end
 pub record Wrote (kind rate phase : ℕ) (payload : List ℕ) (room : ℕ) (w : Written) (left : List ℕ) : Type 0 where

@@ -19,11 +19,19 @@ use Rattle.chips.specs.Floats.{usable, valueOf, countOf, Nearest}
 use Rattle.chips.specs.Chips.{Taken, softRecording}
 use Rattle.choice.specs.Demand3.{chosen, RightUpTo, Demand3, Demand3Exact}
 use Rattle.frame.specs.declared.Kind.{Kind}
-use Rattle.frame.specs.declared.Written.{Written}
-use Rattle.frame.specs.declared.Record.{Record}
-use Rattle.frame.specs.Frame.{headerRate, frontChips, frame, frameChips, preambleLength, headerLength}
-use Rattle.frame.specs.Writing.{kindOf}
-use Rattle.frame.specs.Reading.{firstUnusable, preambleChips, preambleWords, headerWords, payloadWords}
+use Rattle.calls.specs.declared.Written.{Written}
+use Rattle.calls.specs.declared.Record.{Record}
+use Rattle.frame.specs.Frame.{
+  headerRate,
+  frontChips,
+  frame,
+  frameChips,
+  preambleLength,
+  headerLength,
+  kindOf,
+  preambleChips,
+}
+use Rattle.calls.specs.Reading.{firstUnusable, preambleWords, headerWords, payloadWords}
 use Rattle.frame.specs.TableP.{TableP}
 use Rattle.promises.specs.Calls.{Wrote, Found, FoundHard, FoundSoft, Sendable, Exactly}
 

@@ -13,7 +13,7 @@ use native.Mathlib.Omega.{arith}
 use lib.ListN.{length, getD, take, drop}
 use lib.Seq.{drop-cons}
 use Rattle.chips.specs.Chips.{Taken, isUnusable}
-use Rattle.frame.specs.Reading.{firstUnusable}
+use Rattle.calls.specs.Reading.{firstUnusable}
 
 -- the part of a recording from one place to another begins with the chip at the first
 part-cons : (rec : List Taken) (at to : ℕ) (d : Taken) → at < to → to ≤ length rec

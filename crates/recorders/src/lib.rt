@@ -7,7 +7,7 @@ ghost use lib.ListN.{length, take, drop};
 ghost use Rattle.rates.specs.Rates.{symbolChips};
 ghost use Rattle.chips.specs.Chips.{takenCounts, countsOf};
 ghost use Rattle.symbols.specs.Choice.{decided};
-ghost use Rattle.frame.specs.Reading.{firstUnusable};
+ghost use Rattle.calls.specs.Reading.{firstUnusable};
 ghost use Rattle.recorders.specs.Rows.{recordingOf, whereFound};
 use chips::Chip;
 use rates::Rate;

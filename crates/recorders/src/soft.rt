@@ -4,7 +4,7 @@ ghost use mathlib.Core.List.{map};
 ghost use Prim.Native.Nat.{_+_, _-_, _≤_};
 ghost use lib.ListN.{length, take, drop};
 ghost use Rattle.chips.specs.Chips.{takenCounts, countsOf, softRecording};
-ghost use Rattle.frame.specs.Reading.{firstUnusable};
+ghost use Rattle.calls.specs.Reading.{firstUnusable};
 ghost use Rattle.recorders.specs.Rows.{whereFound};
 use super::Found;
 use chips::Chip;

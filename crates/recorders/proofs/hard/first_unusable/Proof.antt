@@ -9,7 +9,7 @@ use native.Mathlib.Omega.{arith}
 use lib.ListN.{length, getD, take, drop}
 use borrow.Author.Tests.{le-leb, lt-leb}
 use Rattle.chips.specs.Chips.{unusable, isUnusable, hardRecording}
-use Rattle.frame.specs.Reading.{firstUnusable}
+use Rattle.calls.specs.Reading.{firstUnusable}
 use Rattle.chips.proofs.Recorders.{length-hard, getD-hard, unusable-hard}
 use Rattle.recorders.proofs.Search.{search-on, search-here, search-over}
 use Rattle.recorders.proofs.hard.first_unusable.Statement.{statement}

@@ -11,7 +11,7 @@ use lib.Ieee.{Float, nan}
 use borrow.Author.Needs.{needs}
 use borrow.Author.Tests.{not-true, not-false}
 use Rattle.chips.specs.Chips.{unusable, isUnusable, usableSample, softRecording}
-use Rattle.frame.specs.Reading.{firstUnusable}
+use Rattle.calls.specs.Reading.{firstUnusable}
 use Rattle.chips.proofs.Recorders.{sample, length-soft, getD-soft, unusable-soft}
 use Rattle.recorders.proofs.Search.{search-on, search-here, search-over}
 use Rattle.recorders.proofs.soft.first_unusable.Statement.{statement}
