@@ -140,7 +140,7 @@ pub fn hear_octet(
     let before = line.past;
     let l = heard.line;
     let past = l.past;
-    let x = bits::descramble_octet(before, past);
+    let x = bits::descramble_eights(before, past);
     Octet { heard, x }
 }
 

@@ -1,19 +1,22 @@
--- The scrambler on an octet as a number: exclusive or of numbers is exclusive or of their bits, so that an octet's
--- eight outputs
--- are the octet, the octet before it moved by 4 and by 1, and its own first four outputs moved by 4 and its first by 7.
+-- An octet through the scrambler and back, as a number: exclusive or of numbers is exclusive or of their bits, so that
+-- an octet's eight outputs are the octet, the octet before it moved by 4 and by 1, and its first four outputs moved by 4
+-- and its first by 7.
+--     scrambled-octet, unscrambled-number    the two ways
 -- Assumes nothing.
 use mathlib.Core.Path.{_≡_, refl, sym, ap, ap₂, _∙_}
 use mathlib.Core.List.{List, [], _∷_, reverse}
 use Prim.Native.Nat.{ℕ, zero, suc, _+_, _*_, _/_, _%_, _<_}
-use native.Mathlib.Nat.{mod-add-mod, add-mod-mod}
+use native.Mathlib.Nat.{mod-add-mod}
 use native.Mathlib.Omega.{arith}
 use lib.ListN.{getD}
-use lib.Bits.{bitXor, differ, xor-step}
-use Rattle.bits.specs.Bits.{bitsOf}
-use Rattle.bits.specs.Scrambler.{mixed, scramble}
+use lib.Bits.{bitXor, differ, xor-step, xor-lt}
+use Rattle.bits.specs.Bits.{bitsOf, numberOf}
+use Rattle.bits.specs.Scrambler.{mixed, scramble, descramble}
+use Rattle.bits.specs.Code.{pastOf}
+use Rattle.bits.proofs.Bits.{number-bits}
 
 -- bit by bit
-unfoldable pub xorBits : List ℕ → List ℕ → List ℕ
+unfoldable xorBits : List ℕ → List ℕ → List ℕ
 xorBits [] bs = []
 xorBits (a ∷ xs) [] = []
 xorBits (a ∷ xs) (b ∷ bs) = (a + b) % 2 ∷ xorBits xs bs
@@ -31,7 +34,7 @@ xor-is : (a b : ℕ) → bitXor a b ≡ bitXor (a / 2) (b / 2) * 2 + (a % 2 + b 
 xor-is a b = xor-step a b ∙ ap (λ (k : ℕ). bitXor (a / 2) (b / 2) * 2 + k)
     (differ-sum (a % 2) (b % 2) (omega arith) (omega arith))
 
-pub bits-xor : (n a b : ℕ) → bitsOf n (bitXor a b) ≡ xorBits (bitsOf n a) (bitsOf n b)
+bits-xor : (n a b : ℕ) → bitsOf n (bitXor a b) ≡ xorBits (bitsOf n a) (bitsOf n b)
 unfolding bitsOf xorBits
 bits-xor zero a b = refl
 bits-xor (suc n) a b =
@@ -174,7 +177,7 @@ outputs x0 x1 x2 x3 x4 x5 x6 x7 q0 q1 q2 q3 q4 q5 q6 q7 =
 
 -- an octet x after the octet q: t has x and q moved, r has t and its first outputs moved
 pub scrambled-octet : (q x t r : ℕ) → q < 256 → t ≡ bitXor (bitXor x (q / 16)) (q / 2)
-    → r ≡ bitXor (bitXor t (t % 16 * 16)) (t % 2 * 128) → bitsOf 8 r ≡ scramble (reverse (bitsOf 8 q)) (bitsOf 8 x)
+    → r ≡ bitXor (bitXor t (t % 16 * 16)) (t % 2 * 128) → bitsOf 8 r ≡ scramble (pastOf q) (bitsOf 8 x)
 scrambled-octet q x t r l e f = second ∙ ap within first ∙ named
   where
     first : bitsOf 8 t ≡ before (bitsOf 8 x) (bitsOf 8 q)
@@ -185,3 +188,51 @@ scrambled-octet q x t r l e f = second ∙ ap within first ∙ named
 
     named : within (before (bitsOf 8 x) (bitsOf 8 q)) ≡ scramble (reverse (bitsOf 8 q)) (bitsOf 8 x)
     named = unfold bitsOf in outputs _ _ _ _ _ _ _ _ _ _ _ _ _ _ _ _
+
+-- the octet, the octet before it moved by 4 and by 1, and itself moved by 4 and by 7
+unfoldable taps : List ℕ → List ℕ → List ℕ
+taps x q =
+    xorBits
+    (xorBits
+    (xorBits (xorBits x (getD q 4 0 ∷ getD q 5 0 ∷ getD q 6 0 ∷ getD q 7 0 ∷ 0 ∷ 0 ∷ 0 ∷ 0 ∷ []))
+    (getD q 1 0 ∷ getD q 2 0 ∷ getD q 3 0 ∷ getD q 4 0 ∷ getD q 5 0 ∷ getD q 6 0 ∷ getD q 7 0 ∷ 0 ∷ []))
+    (0 ∷ 0 ∷ 0 ∷ 0 ∷ getD x 0 0 ∷ getD x 1 0 ∷ getD x 2 0 ∷ getD x 3 0 ∷ []))
+    (0 ∷ 0 ∷ 0 ∷ 0 ∷ 0 ∷ 0 ∷ 0 ∷ getD x 0 0 ∷ [])
+
+received : (x0 x1 x2 x3 x4 x5 x6 x7 q0 q1 q2 q3 q4 q5 q6 q7 : ℕ)
+    → taps (x0 ∷ x1 ∷ x2 ∷ x3 ∷ x4 ∷ x5 ∷ x6 ∷ x7 ∷ []) (q0 ∷ q1 ∷ q2 ∷ q3 ∷ q4 ∷ q5 ∷ q6 ∷ q7 ∷ [])
+    ≡ descramble (reverse (q0 ∷ q1 ∷ q2 ∷ q3 ∷ q4 ∷ q5 ∷ q6 ∷ q7 ∷ [])) (x0 ∷ x1 ∷ x2 ∷ x3 ∷ x4 ∷ x5 ∷ x6 ∷ x7 ∷ [])
+unfolding taps xorBits mixed descramble
+received x0 x1 x2 x3 x4 x5 x6 x7 q0 q1 q2 q3 q4 q5 q6 q7 =
+    λ i.
+    same ((x0 + q4) % 2 + q1) i ∷ same ((x1 + q5) % 2 + q2) i ∷ same ((x2 + q6) % 2 + q3) i
+    ∷ same ((x3 + q7) % 2 + q4) i ∷ middle x4 x0 q5 i ∷ middle x5 x1 q6 i ∷ middle x6 x2 q7 i ∷ last x7 x3 x0 i ∷ []
+
+-- an octet x received after the octet q
+unscrambled-octet : (q x : ℕ) → q < 256
+    → bitsOf 8 (bitXor (bitXor (bitXor (bitXor x (q / 16)) (q / 2)) (x % 16 * 16)) (x % 2 * 128))
+    ≡ descramble (pastOf q) (bitsOf 8 x)
+unscrambled-octet q x l = moved ∙ named
+  where
+    moved : bitsOf 8 (bitXor (bitXor (bitXor (bitXor x (q / 16)) (q / 2)) (x % 16 * 16)) (x % 2 * 128))
+        ≡ taps (bitsOf 8 x) (bitsOf 8 q)
+    moved = rw (bits-xor, bits-xor, bits-xor, bits-xor, moved-4 q l, moved-1 q l, again-4 x, again-7 x)
+        (unfold taps bitsOf in refl)
+
+    named : taps (bitsOf 8 x) (bitsOf 8 q) ≡ descramble (pastOf q) (bitsOf 8 x)
+    named = unfold bitsOf in received _ _ _ _ _ _ _ _ _ _ _ _ _ _ _ _
+
+sixteenth : (q : ℕ) → q < 256 → q / 16 < 256
+sixteenth q l = omega arith
+
+half : (q : ℕ) → q < 256 → q / 2 < 256
+half q l = omega arith
+
+pub unscrambled-number : (q x : ℕ) → q < 256 → x < 256
+    → bitXor (bitXor (bitXor (bitXor x (q / 16)) (q / 2)) (x % 16 * 16)) (x % 2 * 128)
+    ≡ numberOf (descramble (pastOf q) (bitsOf 8 x))
+unscrambled-number q x l m =
+    sym
+    (number-bits 8 _
+    (xor-lt 8 _ _ (xor-lt 8 _ _ (xor-lt 8 _ _ (xor-lt 8 _ _ m (sixteenth q l)) (half q l)) (omega arith)) (omega arith)))
+    ∙ ap numberOf (unscrambled-octet q x l)
