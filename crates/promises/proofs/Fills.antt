@@ -43,7 +43,7 @@ use Rattle.calls.specs.declared.Reading.the-variants as reading
 use Rattle.calls.specs.declared.Written.{Written}
 use Rattle.calls.specs.declared.Record.{Record}
 use Rattle.frame.specs.Frame.{goesWith, frame, frontChips, frameChips, isKind, kindOf}
-use Rattle.calls.specs.Answers.{numberOf, writtenOf, recordOf}
+use Rattle.calls.specs.Answers.{refusalNumber, writtenOf, recordOf}
 use Rattle.calls.specs.Writing.{writingOf, chipsAfter, chipsWritten}
 use Rattle.calls.specs.Reading.{
   orElse,
@@ -62,7 +62,7 @@ use Rattle.promises.specs.Promises.{WriteFills, ReadFills}
 use Rattle.promises.proofs.Whole.{frame-length}
 
 -- every refusal has a number other than 0
-pub some-number : (e : Refusal) → numberOf e ≡ 0 → ⊥
+pub some-number : (e : Refusal) → refusalNumber e ≡ 0 → ⊥
 some-number NoKind h = omega arith
 some-number NoRate h = omega arith
 some-number ShortRate h = omega arith
