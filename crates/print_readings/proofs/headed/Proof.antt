@@ -19,5 +19,4 @@ put-front-requires c κs =
 pub headed-spec : {M : Type 1} → statement M
 headed-spec =
     tie.close
-    (tie.spec (λ c. search needs) (λ c. search needs) (λ c κs. search needs) (λ c. search needs) (λ c. search needs)
-    put-front-requires (λ c. search needs))
+    (tie.spec (λ c κs. search needs) (λ c. search needs) (λ c. search needs) put-front-requires (λ c. search needs))
