@@ -12,7 +12,7 @@ use lib.Seq.{take-at, take-append-le, take-take, length-take-le}
 use lib.Ieee.{Float}
 use Rattle.rates.specs.declared.Rate.{Rate}
 use Rattle.rates.specs.declared.Rate.the-variants.{One, Two, Five, Eleven}
-use Rattle.rates.specs.Rates.{codeOf, isCode, rateOf, lengthField}
+use Rattle.rates.specs.Rates.{codeOf, isCode, rateOf, octetChips, lengthField}
 use Rattle.chips.specs.Chips.{Taken, hardRecording, softRecording}
 use Rattle.base.specs.Below.{Below}
 use Rattle.base.proofs.Below.{below-take}
@@ -31,28 +31,37 @@ use Rattle.frame.specs.Answers.{writtenOf, recordOf}
 use Rattle.frame.specs.Writing.{isKind, kindOf, writingOf, chipsAfter, chipsWritten}
 use Rattle.frame.specs.Reading.{frontOf, payloadOf, payloadReading, afterFront, readingOf, octetsAfter, octetsFound}
 use Rattle.promises.specs.Clean.{cleanRecording}
-use Rattle.promises.specs.Calls.{Wrote, Found, Sendable, Exactly}
-use Rattle.promises.specs.Promises.{Sent, good, refused, lengthOf, WrittenFrame, ReadBack, ReadBackSoft, NotReadBack}
+use Rattle.promises.specs.Calls.{Read, Goes, long-1, long-2, long-5, long-11, short-2, short-5, short-11, Sent}
+use Rattle.promises.specs.Promises.{good, refused, lengthOf, WrittenFrame, ReadBack, ReadBackSoft, NotReadBack}
 use Rattle.promises.proofs.Decided.{clean-length}
 use Rattle.promises.proofs.Local.{front-local}
 use Rattle.promises.proofs.Recorded.{hard-recorded, soft-recorded, rows-agree, hard-take}
 use Rattle.promises.proofs.Whole.{frame-length, frame-phases, front-read, whole-read, no-room, payload-read, long-enough}
 
-true-is : (b : Bool) → T b → b ≡ true
-true-is true t = refl
-true-is false t = absurd t
+-- what the seven pairs of kind and rate are by the definitions
+pub record Known (kind rate front octet : ℕ) : Type 0 where
+  pub kind-is : isKind kind ≡ true
+  pub rate-is : isCode rate ≡ true
+  pub together : goesWith (kindOf kind) (rateOf rate) ≡ true
+  pub code-back : codeOf (rateOf rate) ≡ rate
+  pub front-is : frontChips (kindOf kind) ≡ front
+  pub octet-is : octetChips (rateOf rate) ≡ octet
 
--- a code is that of its rate
-code-back : (c : ℕ) → T (isCode c) → codeOf (rateOf c) ≡ c
-code-back c t = go (eqb c 10) (eqb c 20) (eqb c 55) (eqb c 110) (eqb→eq c 10) (eqb→eq c 20) (eqb→eq c 55) (eqb→eq c 110) t
-  where
-    go : (p q r s : Bool) → (T p → c ≡ 10) → (T q → c ≡ 20) → (T r → c ≡ 55) → (T s → c ≡ 110) → T (p || q || r || s)
-        → codeOf (cond p One (cond q Two (cond r Five Eleven))) ≡ c
-    go true q r s f g h k u = sym (f tt)
-    go false true r s f g h k u = sym (g tt)
-    go false false true s f g h k u = sym (h tt)
-    go false false false true f g h k u = sym (k tt)
-    go false false false false f g h k u = absurd u
+known : {kind rate front octet : ℕ} → Goes kind rate front octet → Known kind rate front octet
+known long-1 =
+    record { kind-is = refl; rate-is = refl; together = refl; code-back = refl; front-is = refl; octet-is = refl }
+known long-2 =
+    record { kind-is = refl; rate-is = refl; together = refl; code-back = refl; front-is = refl; octet-is = refl }
+known long-5 =
+    record { kind-is = refl; rate-is = refl; together = refl; code-back = refl; front-is = refl; octet-is = refl }
+known long-11 =
+    record { kind-is = refl; rate-is = refl; together = refl; code-back = refl; front-is = refl; octet-is = refl }
+known short-2 =
+    record { kind-is = refl; rate-is = refl; together = refl; code-back = refl; front-is = refl; octet-is = refl }
+known short-5 =
+    record { kind-is = refl; rate-is = refl; together = refl; code-back = refl; front-is = refl; octet-is = refl }
+known short-11 =
+    record { kind-is = refl; rate-is = refl; together = refl; code-back = refl; front-is = refl; octet-is = refl }
 
 module _ (kind rate phase : ℕ) (payload : List ℕ) (w : Written) (chips : List ℕ) (s : Sent kind rate phase payload w chips) where
   abbrev k : Kind
@@ -70,11 +79,12 @@ module _ (kind rate phase : ℕ) (payload : List ℕ) (w : Written) (chips : Lis
   abbrev sent : List ℕ
   sent = frame k r phase payload
 
-  is-kind : isKind kind ≡ true
-  is-kind = true-is (isKind kind) (s .sendable .kind-is)
+  pair : Known kind rate (s .sendable .front) (s .sendable .octet)
+  pair = known (s .sendable .goes)
 
-  goes : goesWith k r ≡ true
-  goes = true-is (goesWith k r) (s .sendable .together)
+  -- the chips of the frame, in the definition's words and in numbers
+  size : c ≡ s .sendable .front + s .sendable .octet * n
+  size = ap₂ {C = ℕ} (λ x y. x + y * n) (pair .front-is) (pair .octet-is)
 
   lp : phase < 4
   lp = s .sendable .phase-is
@@ -89,13 +99,13 @@ module _ (kind rate phase : ℕ) (payload : List ℕ) (w : Written) (chips : Lis
   unfolding writingOf
   written =
       rw (
-        is-kind,
-        true-is (isCode rate) (s .sendable .rate-is),
-        goes,
+        pair .kind-is,
+        pair .rate-is,
+        pair .together,
         ne-eqb n 0 (λ e. omega arith),
         le-ltb 4095 n few,
         le-ltb 3 phase (omega arith),
-        le-ltb (s .room) c (s .holds),
+        le-ltb (s .room) c (omega (arith, size, s .holds)),
       )
 
   w-is : w ≡ record { number = 0; chips = c }
@@ -119,17 +129,17 @@ module _ (kind rate phase : ℕ) (payload : List ℕ) (w : Written) (chips : Lis
   -- a recording of the whole frame, clean, with anything after it
   module _ (rest : List Taken) (rec : List Taken) (e : rec ≡ cleanRecording sent ++ rest) (agree : Bool) (room : ℕ) (a : Record)
       (left : List ℕ)
-      (yes : agree ≡ true) (f : Found kind agree rec room a left) where
+      (yes : agree ≡ true) (f : Read kind agree rec room a left) where
     with-front : (g : Reading) → payloadReading k r (lengthField r n) n (cleanRecording sent ++ rest) room ≡ g
         → readingOf kind agree rec room ≡ g
     with-front g h =
         opened
         ∙ ap (λ (x : List Taken). afterFront k x room (frontOf k x)) e
-        ∙ ap (afterFront k (cleanRecording sent ++ rest) room) (front-read k r phase payload rest lp goes some few)
+        ∙ ap (afterFront k (cleanRecording sent ++ rest) room) (front-read k r phase payload rest lp (pair .together) some few)
         ∙ h
       where
         opened : readingOf kind agree rec room ≡ afterFront k rec room (frontOf k rec)
-        opened = unfold readingOf in rw (is-kind, yes)
+        opened = unfold readingOf in rw (pair .kind-is, yes)
 
     good-reading : n ≤ room → readingOf kind agree rec room ≡ reading.Good r (lengthField r n) n c
     good-reading h = with-front _ (whole-read k r phase payload rest lp room h)
@@ -137,7 +147,7 @@ module _ (kind rate phase : ℕ) (payload : List ℕ) (w : Written) (chips : Lis
     pub back : n ≤ room → (a ≡ good rate (lengthOf rate payload) n (w .chips)) × (left ≡ payload ++ replicate (room - n) 0)
     back h = (
       f .answer ∙ ap recordOf (good-reading h)
-          ∙ ap₂ {C = Record} (λ x y. good x (lengthField r n) n y) (code-back rate (s .sendable .rate-is)) (sym w-chips),
+          ∙ ap₂ {C = Record} (λ x y. good x (lengthField r n) n y) (pair .code-back) (sym w-chips),
       f .octets ∙ found ∙ ap (λ (x : List Taken). payloadOf k r n x ++ replicate (room - n) 0) e
           ∙ ap (λ (x : List ℕ). x ++ replicate (room - n) 0) (payload-read k r phase payload rest lp (s .sendable .octets)),
     )
@@ -153,13 +163,13 @@ module _ (kind rate phase : ℕ) (payload : List ℕ) (w : Written) (chips : Lis
       ap (λ (x : List ℕ). hardRecording (x ++ tail)) taken ∙ hard-recorded sent tail (frame-phases k r phase payload [] lp)
 
   -- ---- cut short
-  module _ (j room : ℕ) (a : Record) (left : List ℕ) (f : Found kind true (hardRecording (take j chips)) room a left) where
+  module _ (j room : ℕ) (a : Record) (left : List ℕ) (f : Read kind true (hardRecording (take j chips)) room a left) where
     abbrev rec : List Taken
     rec = hardRecording (take j chips)
 
     opened : readingOf kind true rec room ≡ afterFront k rec room (frontOf k rec)
     unfolding readingOf
-    opened = rw is-kind
+    opened = rw (pair .kind-is)
 
     within : j ≤ c → take j chips ≡ take j sent
     within h = ap (take j) chips-are ∙ take-append-le j sent (replicate (s .room - c) 4) (omega (arith, sent-length))
@@ -170,13 +180,13 @@ module _ (kind rate phase : ℕ) (payload : List ℕ) (w : Written) (chips : Lis
     rec-length : j ≤ c → length rec ≡ j
     rec-length h = ap length (rec-is h) ∙ length-take-le j (cleanRecording sent) (omega (arith, clean-length sent, sent-length))
 
-    pub in-front : j < frontChips k → a ≡ refused 8 0
+    pub in-front : j < s .sendable .front → a ≡ refused 8 0
     in-front h = f .answer ∙ ap recordOf (opened ∙ ap (afterFront k rec room) short)
       where
         short : frontOf k rec ≡ front.Refused ShorterThanFront
-        short = unfold frontOf in rw (lt-ltb (length rec) (frontChips k) (omega (arith, rec-length (omega arith))))
+        short = unfold frontOf in rw (lt-ltb (length rec) (frontChips k) (omega (arith, pair .front-is, rec-length (omega (arith, pair .front-is)))))
 
-    pub in-payload : frontChips k ≤ j → j < w .chips → a ≡ refused 16 (lengthOf rate payload)
+    pub in-payload : s .sendable .front ≤ j → j < w .chips → a ≡ refused 16 (lengthOf rate payload)
     in-payload h i =
         let less : j < c = subst (λ (x : ℕ). j < x) w-chips i in
         let len : length rec ≡ j = rec-length (omega arith) in
@@ -184,12 +194,12 @@ module _ (kind rate phase : ℕ) (payload : List ℕ) (w : Written) (chips : Lis
       where
         header : j < c → length rec ≡ j → frontOf k rec ≡ front.Fields r (lengthField r n) n
         header less len =
-            sym (front-local k rec (omega arith))
+            sym (front-local k rec (omega (arith, pair .front-is)))
             ∙ ap (frontOf k)
-            (ap (take (frontChips k)) (rec-is (omega arith)) ∙ take-take (frontChips k) j (cleanRecording sent) h
+            (ap (take (frontChips k)) (rec-is (omega arith)) ∙ take-take (frontChips k) j (cleanRecording sent) (omega (arith, pair .front-is))
             ∙ ap (take (frontChips k)) (sym (append-nil (cleanRecording sent))))
             ∙ front-local k (cleanRecording sent ++ []) (omega (arith, long-enough k r phase payload [] lp))
-            ∙ front-read k r phase payload [] lp goes some few
+            ∙ front-read k r phase payload [] lp (pair .together) some few
 
         ends : j < c → length rec ≡ j → payloadReading k r (lengthField r n) n rec room ≡ reading.Refused (Ends (lengthField r n))
         ends less len = unfold payloadReading in rw (lt-ltb (length rec) c (omega arith))
@@ -198,7 +208,7 @@ module _ (kind rate phase : ℕ) (payload : List ℕ) (w : Written) (chips : Lis
 pub written-frame : WrittenFrame
 written-frame kind rate phase payload w chips s = (
   ap (λ (v : Written). v .number) (w-is kind rate phase payload w chips s),
-  w-chips kind rate phase payload w chips s,
+  w-chips kind rate phase payload w chips s ∙ size kind rate phase payload w chips s,
   taken kind rate phase payload w chips s,
 )
 

@@ -57,7 +57,7 @@ use Rattle.frame.specs.Reading.{
   octetsAfter,
   octetsFound,
 }
-use Rattle.promises.specs.Calls.{Wrote, Found}
+use Rattle.promises.specs.Calls.{Wrote, Read}
 use Rattle.promises.specs.Promises.{WriteFills, ReadFills}
 use Rattle.promises.proofs.Whole.{frame-length}
 

@@ -8,5 +8,6 @@ pub mod Local
 pub mod Fills
 pub mod Back
 pub mod Right
+pub mod Rows
 pub mod Source
 pub mod Kept

@@ -22,8 +22,8 @@ use Rattle.frame.specs.Frame.{preambleBits, headerBits, frameBits, sentBits, pa
 use Rattle.frame.specs.Answers.{recordOf}
 use Rattle.frame.specs.Writing.{kindOf}
 use Rattle.frame.specs.Reading.{readingOf, octetsFound}
-use Rattle.promises.specs.Calls.{Found}
-use Rattle.promises.specs.Promises.{Sent, good, lengthOf, OneSource}
+use Rattle.promises.specs.Calls.{Read, Sent}
+use Rattle.promises.specs.Promises.{good, lengthOf, OneSource}
 use Rattle.promises.proofs.Whole.{frame-length}
 use Rattle.promises.proofs.Back.{read-back, taken, chips-are}
 
@@ -55,7 +55,7 @@ module _ (kind rate phase : ℕ) (payload : List ℕ) (w : Written) (chips : Lis
   reads room h =
       read-back kind rate phase payload w chips s (drop (w .chips) chips) room _ _
       (subst
-      (λ (l : List ℕ). Found kind true (hardRecording l) room (recordOf (readingOf kind true (hardRecording chips) room))
+      (λ (l : List ℕ). Read kind true (hardRecording l) room (recordOf (readingOf kind true (hardRecording chips) room))
       (octetsFound kind true (hardRecording chips) room))
       (sym (take-append-drop (w .chips) chips)) (record { answer = refl; octets = refl }))
       h

@@ -1,3 +1,4 @@
 pub mod Clean
 pub mod Calls
+pub mod Right
 pub mod Promises
