@@ -6,7 +6,7 @@
 --     past-seven, past-eight    after so many outputs nothing before them does
 --     scramble-append, descramble-append, past-append    a run goes on from the outputs so far
 --     scramble-length, descramble-length, scramble-below, descramble-below    as many, and bits
---     scramble-eight, descramble-eight    an octet's eight bits, each from its taps
+--     descramble-eight          an octet's eight bits, each from its taps
 -- By induction on the bits. Assumes nothing.
 use mathlib.Core.Path.{_≡_, refl, sym, ap, ap₂, _∙_}
 use mathlib.Core.List.{List, [], _∷_, _++_}
@@ -138,14 +138,6 @@ unfolding descramble
 first-unknown h k x y os = recovers (x ∷ h) (y ∷ k) os
 
 -- ---- an octet's eight bits, each from its taps
-
-pub scramble-eight : (p0 p1 p2 p3 p4 p5 p6 p7 x0 x1 x2 x3 x4 x5 x6 x7 b0 b1 b2 b3 b4 b5 b6 b7 : ℕ)
-    → b0 ≡ x0 ⊕ p4 ⊕ p1 → b1 ≡ x1 ⊕ p5 ⊕ p2 → b2 ≡ x2 ⊕ p6 ⊕ p3 → b3 ≡ x3 ⊕ p7 ⊕ p4
-    → b4 ≡ x4 ⊕ b0 ⊕ p5 → b5 ≡ x5 ⊕ b1 ⊕ p6 → b6 ≡ x6 ⊕ b2 ⊕ p7 → b7 ≡ x7 ⊕ b3 ⊕ b0
-    → b0 ∷ b1 ∷ b2 ∷ b3 ∷ b4 ∷ b5 ∷ b6 ∷ b7 ∷ []
-    ≡ scramble (p7 ∷ p6 ∷ p5 ∷ p4 ∷ p3 ∷ p2 ∷ p1 ∷ p0 ∷ []) (x0 ∷ x1 ∷ x2 ∷ x3 ∷ x4 ∷ x5 ∷ x6 ∷ x7 ∷ [])
-unfolding mixed scramble
-scramble-eight p0 p1 p2 p3 p4 p5 p6 p7 x0 x1 x2 x3 x4 x5 x6 x7 b0 b1 b2 b3 b4 b5 b6 b7 e0 e1 e2 e3 e4 e5 e6 e7 = cc
 
 pub descramble-eight : (p0 p1 p2 p3 p4 p5 p6 p7 x0 x1 x2 x3 x4 x5 x6 x7 b0 b1 b2 b3 b4 b5 b6 b7 : ℕ)
     → b0 ≡ x0 ⊕ p4 ⊕ p1 → b1 ≡ x1 ⊕ p5 ⊕ p2 → b2 ≡ x2 ⊕ p6 ⊕ p3 → b3 ≡ x3 ⊕ p7 ⊕ p4

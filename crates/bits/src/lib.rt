@@ -8,7 +8,7 @@ ghost use Rattle.bits.specs.Growths.{growth};
 ghost use Rattle.bits.specs.Scrambler.{scramble, descramble};
 ghost use Rattle.bits.specs.Crc.{crcStep, remainder, complement, crcBits};
 ghost use Rattle.base.specs.Below.{Below};
-ghost use Rattle.bits.specs.Code.{inTime, lastFirst, terms};
+ghost use Rattle.bits.specs.Code.{inTime, lastFirst, pastOf, terms};
 
 // Eight bits, b0 first in time.
 pub struct Eight {
@@ -79,31 +79,23 @@ pub fn pack(e: Eight) -> u8
     e.b0 + 2 * t1
 }
 
-// Eight bits scrambled after the eight outputs before them.
-fn scramble_eight(past: Eight, x: Eight) -> Eight
-    ensures answer { λ r. ⌜ inTime r ≡ scramble (lastFirst past) (inTime x) ⌝ }
+// An octet scrambled after the one sent before it: the outputs 4 and 7 back come from the octet before,
+// then from this one.
+pub fn scramble_octet(past: u8, x: u8) -> u8
+    ensures answer { λ r. ⌜ bitsOf 8 r ≡ scramble (pastOf past) (bitsOf 8 x) ⌝ }
 {
-    let b0 = xor3(x.b0, past.b4, past.b1);
-    let b1 = xor3(x.b1, past.b5, past.b2);
-    let b2 = xor3(x.b2, past.b6, past.b3);
-    let b3 = xor3(x.b3, past.b7, past.b4);
-    let b4 = xor3(x.b4, b0, past.b5);
-    let b5 = xor3(x.b5, b1, past.b6);
-    let b6 = xor3(x.b6, b2, past.b7);
-    let b7 = xor3(x.b7, b3, b0);
-    Eight {
-        b0,
-        b1,
-        b2,
-        b3,
-        b4,
-        b5,
-        b6,
-        b7,
-    }
+    let t = x ^ (past / 16) ^ (past / 2);
+    t ^ (t % 16 * 16) ^ (t % 2 * 128)
 }
 
-// And back: the outputs are what was received.
+// And back: the octets are what was received.
+pub fn descramble_octet(past: u8, x: u8) -> u8
+    ensures answer { λ r. ⌜ r ≡ numberOf (descramble (pastOf past) (bitsOf 8 x)) ⌝ }
+{
+    x ^ (past / 16) ^ (past / 2) ^ (x % 16 * 16) ^ (x % 2 * 128)
+}
+
+// The same for outputs bit by bit.
 fn descramble_eight(past: Eight, o: Eight) -> Eight
     ensures answer { λ r. ⌜ inTime r ≡ descramble (lastFirst past) (inTime o) ⌝ }
 {
@@ -127,15 +119,8 @@ fn descramble_eight(past: Eight, o: Eight) -> Eight
     }
 }
 
-// An octet scrambled after the eight outputs before it.
-pub fn scramble_octet(past: Eight, x: u8) -> Eight
-    ensures answer { λ r. ⌜ inTime r ≡ scramble (lastFirst past) (bitsOf 8 x) ⌝ }
-{
-    scramble_eight(past, unpack(x))
-}
-
 // The octet of eight outputs, after the eight before them.
-pub fn descramble_octet(past: Eight, o: Eight) -> u8
+pub fn descramble_eights(past: Eight, o: Eight) -> u8
     ensures answer { λ r. ⌜ r ≡ numberOf (descramble (lastFirst past) (inTime o)) ⌝ }
 {
     pack(descramble_eight(past, o))

@@ -1,11 +1,11 @@
 // The answers of the calls as numbers: for each case of an enum its number and values.
-use frame::Reading;
-use frame::Record;
-use frame::Refusal;
-use frame::Writing;
-use frame::Written;
+use calls::Reading;
+use calls::Record;
+use calls::Refusal;
+use calls::Writing;
+use calls::Written;
 ghost use mathlib.Core.Path.{_≡_};
-ghost use Rattle.frame.specs.Answers.{numberOf, placeOf, lengthOf, writtenOf, recordOf};
+ghost use Rattle.calls.specs.Answers.{numberOf, placeOf, lengthOf, writtenOf, recordOf};
 
 // The number of a refusal.
 pub fn number_of(e: Refusal) -> u64
@@ -121,18 +121,16 @@ pub fn record_of(g: Reading) -> Record
             n: 0,
             used: 0,
         },
-        Reading::Good {
-            rate,
-            length,
-            n,
-            used,
-        } => Record {
-            number: 0,
-            place: 0,
-            rate: rate.code(),
-            length: length as u64,
-            n: n as u64,
-            used: used as u64,
-        },
+        Reading::Good { told, used } => {
+            let rate = told.rate;
+            Record {
+                number: 0,
+                place: 0,
+                rate: rate.code(),
+                length: told.length as u64,
+                n: told.n as u64,
+                used: used as u64,
+            }
+        }
     }
 }

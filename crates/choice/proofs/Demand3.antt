@@ -9,7 +9,6 @@ use lib.Dec.{T}
 use lib.IntN.{pos, _+ℤ_}
 use lib.ListN.{length, getD}
 use lib.Signed.{_≤ℤ_}
-use Rattle.rates.specs.declared.Rate.{Rate}
 use Rattle.rates.specs.Rates.{symbolChips}
 use Rattle.chips.specs.declared.Counts.{Counts}
 use Rattle.chips.specs.declared.Chip.{Chip}
@@ -18,7 +17,7 @@ use Rattle.chips.specs.Chips.{nothing, exactOf}
 use Rattle.symbols.specs.Words.{wordOf}
 use Rattle.symbols.specs.Choice.{numbers, isAllowed, decided}
 use Rattle.symbols.proofs.Words.{word-length}
-use Rattle.choice.specs.Demand3.{exactAt, RightUpTo, Apart, Demand3}
+use Rattle.choice.specs.Demand3.{exactAt, Apart, Demand3}
 use Rattle.choice.specs.Scores.{scoreAt, DecidedAs}
 use Rattle.choice.proofs.Decided.{decided-best}
 use Rattle.choice.proofs.Near.{Off, off-within, OffChip, OffAll, none, more, off-score, none-above, leader-chosen}

@@ -3,8 +3,8 @@
 // `answer` and `octets`.
 ghost use lib.ListN.{length};
 ghost use Rattle.promises.specs.Calls.{Wrote, ReadHard, ReadSoft};
-use frame::Record;
-use frame::Written;
+use calls::Record;
+use calls::Written;
 
 // A payload to the chips of its frame; 4s after the frame, or everywhere after a refusal.
 #[no_mangle]

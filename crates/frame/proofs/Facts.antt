@@ -4,7 +4,7 @@
 -- them (RULES 5, 8). The chips were made by a program written apart from these definitions, with starting phase 1.
 -- Assumes nothing.
 use mathlib.Core.Path.{_≡_, refl}
-use mathlib.Core.Bool.{Bool, true, false}
+use mathlib.Core.Bool.{true, false}
 use mathlib.Core.List.{List, [], _∷_, _++_, map}
 use Prim.Native.Nat.{ℕ}
 use lib.ListN.{take, drop}
@@ -29,10 +29,12 @@ use Rattle.frame.specs.Frame.{
   preambleBits,
   fieldBits,
   headerBits,
+  sentHeader,
   frameBits,
   sentBits,
   preambleLength,
   partsChips,
+  framed,
   frame,
   frameChips,
 }
@@ -70,8 +72,8 @@ pub computed : List (List ℕ)
 computed =
     drop 128 (preambleBits Long)
     ∷ drop 56 (preambleBits Short)
-    ∷ headerBits Two 300
-    ∷ headerBits Eleven 3
+    ∷ sentHeader Two 300
+    ∷ sentHeader Eleven 3
     ∷ take 22 (drop 1584 (frame Long One 1 some))
     ∷ take 22 (drop 792 (frame Short Two 1 some))
     ∷ drop 1034 (frame Short Two 1 [])
@@ -82,10 +84,10 @@ computed =
     ∷ take 16 (drop 1056 (frame Short Five 1 some))
     ∷ take 16 (drop 2112 (frame Long Eleven 1 some))
     ∷ take 16 (drop 1056 (frame Short Eleven 1 some))
-    ∷ take 8 (drop 144 (sentBits Long Five some))
-    ∷ take 8 (drop 192 (sentBits Long Five some))
-    ∷ take 8 (drop 72 (sentBits Short Eleven some))
-    ∷ take 8 (drop 120 (sentBits Short Eleven some))
+    ∷ take 8 (drop 144 (sentBits Long (sentHeader Five 2) some))
+    ∷ take 8 (drop 192 (sentBits Long (sentHeader Five 2) some))
+    ∷ take 8 (drop 72 (sentBits Short (sentHeader Eleven 2) some))
+    ∷ take 8 (drop 120 (sentBits Short (sentHeader Eleven 2) some))
     ∷ []
 
 pub expected : List (List ℕ)
@@ -117,5 +119,5 @@ unfolding
     computed expected some
     barkerWord cckWord
     bitsOf octetBits growth symbolOf symbolsFrom symbolsOf chipsFrom lastPhase mixed scramble addWhere crcStep remainder crcBits
-    preambleBits fieldBits headerBits frameBits sentBits partsChips frame
+    preambleBits fieldBits headerBits sentHeader frameBits sentBits partsChips framed frame
 facts = refl

@@ -1,6 +1,5 @@
 pub mod TableP
 pub mod Facts
 pub mod Parity
-pub mod ReadFacts
-pub mod WriteFacts
-pub mod HeaderFacts
+pub mod Sizes
+pub mod Headers

@@ -103,7 +103,7 @@ fn print_lengths(r: Rate) {
 fn print_header(r: Rate, n: usize)
     requires { ⌜ n ≤ 4095 ⌝ }
 {
-    let octets = checks::header_octets(r, n);
+    let octets = header::header_octets(r, n);
     io::write_all(STDOUT_FILENO, b"header");
     let mut i = 0;
     while i < 6 {

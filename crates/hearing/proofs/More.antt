@@ -18,7 +18,7 @@ use Rattle.bits.specs.Growths.{heard, growthsOf, lastHeard}
 use Rattle.bits.specs.Scrambler.{descramble}
 use Rattle.bits.specs.Code.{inTime, lastFirst, pastAfter}
 use Rattle.bits.proofs.Scrambler.{past-append, descramble-append, descramble-length}
-use Rattle.frame.specs.Reading.{orElse, firstOdd, oddGrowth}
+use Rattle.calls.specs.Reading.{orElse, firstOdd, oddGrowth}
 use Rattle.recorders.specs.declared.Found.{Found}
 use Rattle.recorders.specs.declared.Found.the-variants.{Nothing}
 use Rattle.recorders.specs.Rows.{whereFound}

@@ -22,7 +22,7 @@ use Rattle.bits.specs.Growths.{heard}
 use Rattle.bits.specs.Scrambler.{descramble}
 use Rattle.bits.specs.Code.{inTime, lastFirst}
 use Rattle.bits.proofs.Bits as bits
-use Rattle.frame.specs.Reading.{orElse, decidedWords}
+use Rattle.calls.specs.Reading.{orElse, decidedWords}
 use Rattle.recorders.specs.declared.Found.the-variants.{Nothing}
 use Rattle.recorders.specs.Rows.{whereFound}
 use Rattle.hearing.specs.declared.Line.{Line}

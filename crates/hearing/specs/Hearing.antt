@@ -13,7 +13,7 @@ use Rattle.bits.specs.Bits.{numberOf, octetsOf}
 use Rattle.bits.specs.Growths.{heardBits, heard, growthsOf, lastHeard}
 use Rattle.bits.specs.Scrambler.{descramble}
 use Rattle.bits.specs.Code.{lastFirst, pastAfter}
-use Rattle.frame.specs.Reading.{oddGrowth, decidedWords}
+use Rattle.calls.specs.Reading.{oddGrowth, decidedWords}
 use Rattle.recorders.specs.Rows.{whereFound}
 use Rattle.hearing.specs.declared.Line.{Line}
 use Rattle.hearing.specs.declared.Hearing.{Hearing}

@@ -6,7 +6,7 @@ ghost use Prim.Native.Nat.{_+_, _*_, _≤_, _<_};
 ghost use lib.ListN.{length};
 ghost use Rattle.rates.specs.Rates.{octetChips};
 ghost use Rattle.symbols.specs.Choice.{numbers};
-ghost use Rattle.frame.specs.Reading.{orElse, oddGrowth};
+ghost use Rattle.calls.specs.Reading.{orElse, oddGrowth};
 ghost use Rattle.recorders.specs.Rows.{recordingOf, whereFound};
 ghost use Rattle.hearing.specs.Hearing.{octetSymbols, Heard, OctetHeard, PartHeard};
 use bits::Eight;
@@ -140,7 +140,7 @@ pub fn hear_octet(
     let before = line.past;
     let l = heard.line;
     let past = l.past;
-    let x = bits::descramble_octet(before, past);
+    let x = bits::descramble_eights(before, past);
     Octet { heard, x }
 }
 

@@ -1,11 +1,11 @@
 -- Every promise is kept. Assumes nothing.
-use mathlib.Core.Path.{_≡_, sym, _∙_}
+use mathlib.Core.Path.{sym, _∙_}
 use Rattle.frame.proofs.TableP.{table-p}
 use Rattle.chips.proofs.Meaning.{counted}
+use Rattle.clean.proofs.Rows.{soft-rows}
 use Rattle.promises.specs.Promises.{OneAnswer, Promised}
 use Rattle.promises.proofs.Fills.{write-fills, read-fills}
 use Rattle.promises.proofs.Back.{written-frame, read-back, read-back-soft, not-read-back}
-use Rattle.promises.proofs.Rows.{soft-rows}
 use Rattle.promises.proofs.Source.{one-source}
 use Rattle.promises.proofs.Right.{recorded-right, hard-right, soft-right}
 

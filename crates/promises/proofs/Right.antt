@@ -5,7 +5,7 @@ use mathlib.Core.Path.{_≡_, refl, sym, ap, _∙_, subst}
 use mathlib.Core.Bool.{Bool, true, false, not, cond, _&&_}
 use mathlib.Core.List.{List, [], _∷_, map}
 use Prim.Native.Nat.{ℕ, zero, suc, _+_, _-_, _*_, _/_, _^_, _≤_, _<_}
-use native.Mathlib.Nat.{suc-mul, zero-mul, mul-le-mul-right, le-of-suc-le-suc, not-suc-le-zero}
+use native.Mathlib.Nat.{mul-comm, suc-mul, zero-mul, mul-le-mul-right, le-of-suc-le-suc, not-suc-le-zero}
 use native.Mathlib.Omega.{arith}
 use borrow.Author.Tests.{le-leb}
 use lib.Dec.{T, eqb}
@@ -16,6 +16,7 @@ use Rattle.base.proofs.Whole.{within-zero}
 use Rattle.rates.specs.declared.Rate.{Rate}
 use Rattle.rates.specs.declared.Rate.the-variants.{One, Two, Five, Eleven}
 use Rattle.rates.specs.Rates.{symbolChips, symbolBits, octetChips}
+use Rattle.rates.proofs.Octets.{part-symbols, part-chips}
 use Rattle.chips.specs.declared.Chip.{Chip}
 use Rattle.chips.specs.declared.Chip.the-variants.{Lost, Hard, Soft}
 use Rattle.chips.specs.Floats.{usable}
@@ -40,8 +41,8 @@ use Rattle.choice.specs.Demand3.{RightUpTo, Apart}
 use Rattle.choice.proofs.Demand3.{demand-3}
 use Rattle.frame.specs.declared.Kind.{Kind}
 use Rattle.frame.specs.declared.Kind.the-variants.{Long, Short}
-use Rattle.frame.specs.Frame.{headerRate, frontChips, frameChips, preambleLength, headerLength}
-use Rattle.frame.specs.Reading.{decidedWords, preambleChips, preambleWords, headerWords, payloadWords}
+use Rattle.frame.specs.Frame.{headerRate, frontChips, preambleLength, headerLength, preambleChips}
+use Rattle.calls.specs.Reading.{decidedWords, preambleWords, headerWords, payloadWords}
 use Rattle.promises.specs.Right.{
   symbolAt,
   EachRight,
@@ -52,7 +53,6 @@ use Rattle.promises.specs.Right.{
   softChips,
   SoftRight,
 }
-use Rattle.promises.proofs.Whole.{whole-symbols}
 
 -- the j-th of m words
 word-at : (r : Rate) (m j : ℕ) (cs : List Taken) → j < m
@@ -138,6 +138,9 @@ header-in : (k : Kind)
     → preambleChips k + headerLength / symbolBits (headerRate k) * symbolChips (headerRate k) ≤ frontChips k
 header-in Long = omega arith
 header-in Short = omega arith
+
+whole-symbols : (r : Rate) (n : ℕ) → 8 * n / symbolBits r * symbolChips r ≡ octetChips r * n
+whole-symbols r n = mul-comm (8 * n / symbolBits r) (symbolChips r) ∙ rw (part-symbols r n) (part-chips r n)
 
 pub recorded-right : RecordedRight
 unfolding preambleWords headerWords payloadWords

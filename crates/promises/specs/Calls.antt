@@ -1,22 +1,20 @@
 -- What the calls promise: the records that the contracts of crate dsss cite, so that what is proved of them is proved
 -- of the programs; and what is said of their inputs, in plain numbers (RULES 1.4, 5.2, 5.4, 5.8, 6, 9.1).
 -- Definitions only. Assumes nothing.
-use Prim.Native.Nat.{ℕ, _+_, _*_, _^_, _≤_, _<_}
+use Prim.Native.Nat.{ℕ, _+_, _*_, _≤_, _<_}
 use mathlib.Core.Path.{_≡_}
 use mathlib.Core.Bool.{Bool, true}
-use mathlib.Core.List.{List, [], _∷_}
-use lib.Dec.{T, eqb}
-use lib.ListN.{length, getD}
-use lib.Ieee.{Float, binary32, ofBits}
-use Rattle.chips.specs.declared.Sample.{Sample}
-use Rattle.chips.specs.declared.Chip.the-variants.{Soft}
-use Rattle.chips.specs.Chips.{Taken, fullChip, usableSample, exactOf, hardRecording, softRecording}
+use mathlib.Core.List.{List}
+use lib.Dec.{eqb}
+use lib.ListN.{length}
+use lib.Ieee.{Float}
+use Rattle.chips.specs.Chips.{Taken, hardRecording, softRecording}
 use Rattle.base.specs.Below.{Below}
-use Rattle.frame.specs.declared.Written.{Written}
-use Rattle.frame.specs.declared.Record.{Record}
-use Rattle.frame.specs.Answers.{writtenOf, recordOf}
-use Rattle.frame.specs.Writing.{writingOf, chipsWritten}
-use Rattle.frame.specs.Reading.{readingOf, octetsFound}
+use Rattle.calls.specs.declared.Written.{Written}
+use Rattle.calls.specs.declared.Record.{Record}
+use Rattle.calls.specs.Answers.{writtenOf, recordOf}
+use Rattle.calls.specs.Writing.{writingOf, chipsWritten}
+use Rattle.calls.specs.Reading.{readingOf, octetsFound}
 
 -- the writer: its answer, and the chip buffer of `room` chips at the end
 pub record Wrote (kind rate phase : ℕ) (payload : List ℕ) (room : ℕ) (w : Written) (left : List ℕ) : Type 0 where
@@ -61,19 +59,3 @@ pub record Sent (kind rate phase : ℕ) (payload : List ℕ) (w : Written) (left
   pub sendable : Sendable kind rate phase payload
   pub holds : sendable .front + sendable .octet * length payload ≤ room
   pub wrote : Wrote kind rate phase payload room w left
-
-abbrev pub sampleOf : Float → Float → Sample
-sampleOf x y = record { i = x; q = y }
-
--- soft rows that hold chips as exact (I, Q) pairs; either zero stands for 0
-pub data Exactly : List ℕ → List Float → List Float → Type 0 where
-  none : Exactly [] [] []
-  more : {p : ℕ} {ps : List ℕ} {x y : Float} {i q : List Float} → T (usableSample (sampleOf x y))
-      → exactOf (Soft (sampleOf x y)) ≡ fullChip (2 ^ 149) p → Exactly ps i q → Exactly (p ∷ ps) (x ∷ i) (y ∷ q)
-
--- the f32 numbers 1 and -1, and a zero by its bits, as I and as Q of a chip sent with phase p
-abbrev pub softI : ℕ → ℕ → Float
-softI zero p = ofBits binary32 (getD (0x3f80_0000 ∷ zero ∷ 0xbf80_0000 ∷ zero ∷ []) p zero)
-
-abbrev pub softQ : ℕ → ℕ → Float
-softQ zero p = ofBits binary32 (getD (zero ∷ 0x3f80_0000 ∷ zero ∷ 0xbf80_0000 ∷ []) p zero)

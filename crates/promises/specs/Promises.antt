@@ -14,12 +14,12 @@ use Rattle.base.specs.Below.{Below}
 use Rattle.rates.specs.Rates.{rateOf, lengthField}
 use Rattle.chips.specs.Floats.{usable, valueOf, countOf, Nearest}
 use Rattle.chips.specs.Chips.{Taken}
-use Rattle.frame.specs.declared.Written.{Written}
-use Rattle.frame.specs.declared.Record.{Record}
-use Rattle.frame.specs.Frame.{frame}
-use Rattle.frame.specs.Writing.{kindOf}
+use Rattle.calls.specs.declared.Written.{Written}
+use Rattle.calls.specs.declared.Record.{Record}
+use Rattle.frame.specs.Frame.{kindOf, frame}
 use Rattle.frame.specs.TableP.{TableP}
-use Rattle.promises.specs.Calls.{Wrote, Read, ReadHard, ReadSoft, Sent, Exactly, softI, softQ}
+use Rattle.clean.specs.Clean.{Exactly, softI, softQ}
+use Rattle.promises.specs.Calls.{Wrote, Read, ReadHard, ReadSoft, Sent}
 use Rattle.promises.specs.Right.{RecordedRight, HardRight, SoftRight}
 
 -- ---- demand 1: fills. The buffers keep their length; after a refusal only the fill, after a good answer the fill

@@ -26,9 +26,9 @@ use Rattle.chips.specs.Chips.{
 }
 use Rattle.choice.specs.Demand3.{RightUpTo, Apart}
 use Rattle.frame.specs.declared.Kind.{Kind}
-use Rattle.frame.specs.Frame.{headerRate, frontChips, frameChips, preambleLength, headerLength}
-use Rattle.frame.specs.Reading.{preambleChips, preambleWords, headerWords, payloadWords}
-use Rattle.promises.specs.Calls.{sampleOf}
+use Rattle.frame.specs.Frame.{headerRate, frontChips, frameChips, preambleLength, headerLength, preambleChips}
+use Rattle.calls.specs.Reading.{preambleWords, headerWords, payloadWords}
+use Rattle.clean.specs.Clean.{sampleOf}
 
 -- the recorded chips of the j-th symbol of a part that starts at place `at`
 abbrev pub symbolAt : Rate → ℕ → ℕ → List Chip → List Chip

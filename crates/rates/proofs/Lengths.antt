@@ -1,14 +1,15 @@
 -- LENGTH and bit 7 give the octets back.
 --     octets-back     at every rate and for every n, what the reader takes from the writer's LENGTH and bit 7 is n
 --     length-holds    and where n is 1 to 4,095, refusal 15 does not come
+--     is-payload, payload-high    1 to 4,095 octets
 -- Each is linear arithmetic with a division by 8, 4, 11 or 16; at 11 Mbit/s by the two cases of bit 7. Assumes nothing.
-use mathlib.Core.Path.{_≡_, refl, sym, ap, _∙_}
+use mathlib.Core.Path.{_≡_, refl, sym, subst}
 use mathlib.Core.Bool.{Bool, true, false, cond, _&&_}
-use Prim.Native.Nat.{ℕ, zero, suc, _+_, _-_, _*_, _/_, _≤_, _<_}
+use Prim.Native.Nat.{ℕ, _+_, _-_, _*_, _/_, _≤_}
 use native.Mathlib.Omega.{arith}
 use borrow.Author.Tests.{leb-true, leb-false, le-leb, eq-eqb}
-use lib.Dec.{leb, eqb}
-use lib.IntN.{ℤ, pos, negℤ, _-ℤ_}
+use lib.Dec.{T, leb}
+use lib.IntN.{pos, negℤ, _-ℤ_}
 use Rattle.base.proofs.Whole.{add, neg-up, neg-dn, up-pos, dn-pos, same}
 use Rattle.rates.specs.declared.Rate.{Rate}
 use Rattle.rates.specs.declared.Rate.the-variants.{One, Two, Five, Eleven}
@@ -48,6 +49,13 @@ octets-back r n = less (wholeOctets r (lengthField r n)) (bit7 r n) n (whole r n
 
 pub is-payload : (n : ℕ) → 1 ≤ n → n ≤ 4095 → isPayload (pos n) ≡ true
 is-payload n h k = rw (le-leb 1 n h, le-leb n 4095 k)
+
+pub payload-high : (n : ℕ) → isPayload (pos n) ≡ true → n ≤ 4095
+payload-high n e = leb-true n 4095 (second (leb 1 n) (leb n 4095) e)
+  where
+    second : (a b : Bool) → (a && b) ≡ true → b ≡ true
+    second true b e = e
+    second false b e = absurd (subst T (sym e) tt)
 
 pub length-holds : (r : Rate) (n : ℕ) → 1 ≤ n → n ≤ 4095 → lengthHolds r (lengthField r n) (bit7 r n) ≡ true
 length-holds r n h k =

@@ -1,5 +1,5 @@
 // What comes of a recording, read into a buffer that held 99s, as a line of text.
-use frame::Record;
+use calls::Record;
 use libc::STDOUT_FILENO;
 ghost use Prim.Native.Nat.{_≤_};
 

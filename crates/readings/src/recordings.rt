@@ -19,12 +19,7 @@ pub fn written(kind: u64, rate: u64, phase: u64, n: usize) -> [u8; 2400]
 pub fn headed(k: Kind, signal: u8, service: u8, micros: u16) -> [u8; 2400]
     ensures { λ r. ⌜ 2400 ≡ length r ⌝ }
 {
-    let header = checks::octets_with_crc(
-        signal,
-        service,
-        (micros % 256) as u8,
-        (micros / 256) as u8,
-    );
+    let header = header::octets_of(signal, service, micros);
     let mut chips = [0u8; 2400];
     writer::put_front(k, 0, &header, &mut chips);
     chips

@@ -1,14 +1,12 @@
 // Octets as chips: each octet scrambled, cut into symbols at a rate, and written as words over a buffer's front.
 use rates::Rate;
 ghost use mathlib.Core.Path.{_≡_};
-ghost use mathlib.Core.List.{reverse};
 ghost use Prim.Native.Nat.{_+_, _*_, _%_, _≤_, _<_};
 ghost use lib.ListN.{length};
 ghost use Rattle.base.specs.Over.{over};
 ghost use Rattle.rates.specs.Rates.{octetSymbols, octetChips};
 ghost use Rattle.chips.specs.Chips.{turned};
 ghost use Rattle.bits.specs.Bits.{bitsOf};
-ghost use Rattle.bits.specs.Scrambler.{scramble};
 ghost use Rattle.bits.specs.Growths.{growth, halfTurn, chipsFrom, lastPhase};
 ghost use Rattle.sender.specs.Sending.{symbolsAt, emit, step, run, ran};
 ghost use Rattle.sender.specs.Line.{state};
@@ -23,15 +21,6 @@ pub struct Line {
     pub past: u8,
     pub phase: u8,
     pub odd: u8,
-}
-
-// An octet scrambled after the one sent before it: the outputs 4 and 7 back come from the octet before,
-// then from this one.
-fn scramble_after(past: u8, x: u8) -> u8
-    ensures answer { λ r. ⌜ bitsOf 8 r ≡ scramble (reverse (bitsOf 8 past)) (bitsOf 8 x) ⌝ }
-{
-    let t = x ^ (past / 16) ^ (past / 2);
-    t ^ (t % 16 * 16) ^ (t % 2 * 128)
 }
 
 // The phase p grown by two bits, first in time first.
@@ -186,7 +175,7 @@ fn put_octet(r: Rate, line: Line, x: u8, chips: &mut [u8]) -> Line
     ensures answer { λ l. ⌜ state l ≡ step r (state line) x ⌝ }
     ensures chips { λ _. ⌜ now (chips .exit) ≡ over (emit r (state line) x) (now (chips .entry)) ⌝ }
 {
-    let o = scramble_after(line.past, x);
+    let o = bits::scramble_octet(line.past, x);
     let phase = put_bits(r, line.phase, line.odd, o, chips);
     let odd = next_odd(r, line.odd);
     Line {

@@ -6,7 +6,7 @@ use Rattle.rates.specs.declared.Rate.{Rate}
 use Rattle.rates.specs.declared.Rate.the-variants.{One}
 use Rattle.symbols.specs.Choice.{numbers}
 use Rattle.bits.specs.Growths.{grownBy, growthsOf}
-use Rattle.frame.specs.Reading.{oddGrowth}
+use Rattle.calls.specs.Reading.{oddGrowth}
 use Rattle.recorders.specs.declared.Found.{Found}
 use Rattle.recorders.specs.declared.Found.the-variants.{Nothing}
 use Rattle.recorders.specs.Rows.{whereFound}

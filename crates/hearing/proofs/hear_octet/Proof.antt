@@ -71,7 +71,7 @@ returns c =
     let loop = end .before .loop in
     symbols-all _ _ _ _ _ (loop .place) (loop .j) _ (loop .inv)
     (subst (λ (n : ℕ). n ≤ loop .j) (end .before .before .before .octet-symbols .ensures) (end .loop-test .left))
-    (c .descramble-octet .ensures)
+    (c .descramble-eights .ensures)
 
 pub hear-octet-spec : {M : Type 1} → statement M
 hear-octet-spec =

@@ -1,6 +1,6 @@
 -- `hearing::odd_growth` meets its contract, by the test. Assumes nothing.
 use borrow.Author.Tests.{eq-eqb, ne-eqb}
-use Rattle.frame.specs.Reading.{firstOdd}
+use Rattle.calls.specs.Reading.{firstOdd}
 use Rattle.hearing.proofs.odd_growth.Statement.{statement}
 use Rattle.hearing.proofs.odd_growth.Tie as tie
 

@@ -27,7 +27,7 @@ returns : tie.Need-returns
 returns c =
     let start = c .before .before .before .before .before .before .before in
     octet (start .args .r) (state (start .args .line)) _ _ _ _ _ _
-    (c .before .before .before .before .before .scramble-after .ensures)
+    (c .before .before .before .before .before .scramble-octet .ensures)
     (c .before .before .before .put-bits .ensures)
     (c .next-odd .ensures)
 
