@@ -1,20 +1,16 @@
 -- Written chips, recorded hard or as exact soft pairs, are a clean recording. A hard phase and an exact pair come to the counts of a full
 -- chip: the first by computing, the second since only one count is nearest to a value. Assumes nothing.
-use mathlib.Core.Path.{_≡_, refl, sym, ap, ap₂, _∙_, subst}
+use mathlib.Core.Path.{_≡_, refl, sym, ap, ap₂, subst}
 use mathlib.Core.Bool.{Bool, true, false, cond, _&&_}
-use mathlib.Core.List.{List, [], _∷_, _++_, map}
-use Prim.Native.Nat.{ℕ, zero, suc, _+_, _*_, _%_, _^_, _<_, _≤_}
+use mathlib.Core.List.{List, [], _∷_, _++_}
+use Prim.Native.Nat.{ℕ, zero, suc, _+_, _^_, _<_, _≤_}
 use native.Mathlib.Omega.{arith}
 use lib.Dec.{T, lit≤}
-use lib.ListN.{length, getD, take, length-append}
-use lib.IntN.{ℤ, pos, negsuc, negℤ, natAbs, _-ℤ_, _*ℤ_}
+use lib.ListN.{length, take}
+use lib.IntN.{ℤ, pos, negℤ}
 use lib.Ieee.{Float}
-use Rattle.rates.specs.declared.Rate.{Rate}
-use Rattle.rates.specs.declared.Rate.the-variants.{One, Two, Five, Eleven}
-use Rattle.chips.specs.declared.Sample.{Sample}
 use Rattle.chips.specs.declared.Counts.{Counts}
-use Rattle.chips.specs.declared.Chip.{Chip}
-use Rattle.chips.specs.declared.Chip.the-variants.{Lost, Hard, Soft}
+use Rattle.chips.specs.declared.Chip.the-variants.{Soft}
 use Rattle.chips.specs.Floats.{usable, countOf, valueOf, Nearest}
 use Rattle.chips.specs.Chips.{
   Taken,
@@ -25,7 +21,6 @@ use Rattle.chips.specs.Chips.{
   fullChip,
   usableSample,
   exactOf,
-  countsOf,
   hardTaken,
   softTaken,
   hardRecording,
@@ -34,8 +29,8 @@ use Rattle.chips.specs.Chips.{
 use Rattle.chips.proofs.Meaning.{no-other}
 use Rattle.base.specs.Below.{Below}
 use Rattle.base.proofs.Below.{below-head, below-tail}
-use Rattle.promises.specs.Clean.{cleanTaken, cleanRecording}
-use Rattle.promises.specs.Calls.{Exactly, none, more}
+use Rattle.clean.specs.Clean.{cleanTaken, cleanRecording}
+use Rattle.clean.specs.Clean.{Exactly, none, more}
 
 -- ---- hard
 hard-clean : (p : ℕ) → p < 4 → hardTaken p ≡ cleanTaken p

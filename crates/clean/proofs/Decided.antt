@@ -1,27 +1,26 @@
 -- A clean recording is decided as it was sent: word by word, with no unusable chip. The argument goes word by word along the list; that one
 -- clean word is chosen as itself is the choice's law. Assumes nothing.
 use mathlib.Core.Path.{_≡_, refl, sym, ap, ap₂, _∙_, subst}
-use mathlib.Core.Bool.{Bool, true, false}
+use mathlib.Core.Bool.{Bool}
 use mathlib.Core.List.{List, [], _∷_, _++_, map, map-append, append-assoc}
-use mathlib.Core.Option.{Option, none, some}
-use Prim.Native.Nat.{ℕ, zero, suc, _+_, _*_, _<_, _≤_}
-use native.Mathlib.Omega.{arith}
+use mathlib.Core.Option.{none}
+use Prim.Native.Nat.{ℕ, zero, suc, _+_, _<_, _≤_}
 use native.Mathlib.Nat.{le-of-suc-le-suc, not-suc-le-zero}
 use lib.Dec.{T, lit<}
-use lib.ListN.{length, take, drop, length-append, length-map}
+use lib.ListN.{length, take, drop, length-map}
 use lib.Seq.{take-at, drop-at}
 use Rattle.rates.specs.declared.Rate.{Rate}
 use Rattle.rates.specs.Rates.{symbolChips}
 use Rattle.chips.specs.declared.Counts.{Counts}
-use Rattle.chips.specs.Chips.{Taken, counted, takenCounts, fullChip}
+use Rattle.chips.specs.Chips.{Taken, takenCounts, fullChip}
 use Rattle.symbols.specs.Words.{wordOf}
-use Rattle.symbols.specs.Choice.{isAllowed, numbers, decided}
+use Rattle.symbols.specs.Choice.{decided}
 use Rattle.symbols.proofs.Words.{word-length}
 use Rattle.choice.proofs.Clean.{decided-clean}
 use Rattle.calls.specs.Reading.{firstUnusable, decidedWords}
 use Rattle.bits.specs.Code.{wordsChips}
-use Rattle.promises.specs.Clean.{cleanTaken, cleanRecording}
-use Rattle.promises.proofs.Sent.{Allowed, none, more}
+use Rattle.clean.specs.Clean.{cleanTaken, cleanRecording}
+use Rattle.clean.proofs.Sent.{Allowed, none, more}
 
 counts-clean : (w : List ℕ) → map takenCounts (map cleanTaken w) ≡ map (fullChip 1024) w
 counts-clean [] = refl

@@ -3,15 +3,15 @@
 use mathlib.Core.Path.{_≡_, refl, sym, ap, ap₂, _∙_, subst}
 use mathlib.Core.List.{List, [], _∷_, _++_, append-assoc}
 use mathlib.Core.Option.{Option, none, some}
-use Prim.Native.Nat.{ℕ, zero, suc, _+_, _-_, _*_, _/_, _%_, _<_, _≤_}
+use Prim.Native.Nat.{ℕ, _+_, _-_, _*_, _/_, _<_}
 use native.Mathlib.Omega.{arith}
-use lib.ListN.{length, getD, take, drop, length-append}
+use lib.ListN.{length, getD, drop, length-append}
 use lib.Seq.{drop-at, drop-drop}
 use Rattle.rates.specs.declared.Rate.{Rate}
 use Rattle.rates.specs.declared.Rate.the-variants.{One, Two, Five, Eleven}
 use Rattle.rates.specs.Rates.{symbolChips, symbolBits}
 use Rattle.chips.specs.Chips.{Taken}
-use Rattle.bits.specs.Growths.{symbolsFrom, symbolsOf, chipsFrom, lastPhase, heard, growthsOf, lastHeard}
+use Rattle.bits.specs.Growths.{symbolsOf, lastPhase, heard, growthsOf, lastHeard}
 use Rattle.base.specs.Below.{Below}
 use Rattle.base.proofs.Below.{below-nil, below-append}
 use Rattle.symbols.specs.Words.{wordOf}
@@ -22,10 +22,10 @@ use Rattle.frame.specs.Frame.{headerRate, frontChips, preambleLength, headerLen
 use Rattle.calls.specs.Reading.{orElse, firstOdd, oddGrowth, decidedWords, preambleWords, headerWords, reference, headerPhase, payloadPhase, frontOdd, frontHeard, payloadWords, payloadOdd}
 use Rattle.bits.specs.Code.{wordsChips}
 use Rattle.bits.proofs.Growths.{lastPhase-lt}
-use Rattle.promises.specs.Clean.{cleanRecording}
-use Rattle.promises.proofs.Sent.{Allowed}
-use Rattle.promises.proofs.Decided.{clean-append, clean-length, decided-words}
-use Rattle.promises.proofs.Parts.{
+use Rattle.clean.specs.Clean.{cleanRecording}
+use Rattle.clean.proofs.Sent.{Allowed}
+use Rattle.clean.proofs.Decided.{clean-append, clean-length, decided-words}
+use Rattle.clean.proofs.Parts.{
   wordsOf,
   firstPhase,
   allowed-of,

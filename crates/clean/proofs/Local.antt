@@ -1,17 +1,16 @@
 -- The front is read from the front's chips alone: recordings that begin alike are read alike as far as their fronts go, and so a frame cut
 -- inside its payload is still known by its header. Assumes nothing.
 use mathlib.Core.Path.{_≡_, refl, sym, ap, ap₂, _∙_}
-use mathlib.Core.Bool.{Bool, true, false, cond}
 use mathlib.Core.List.{List, [], _∷_, _++_, map}
-use mathlib.Core.Option.{Option, none, some}
-use Prim.Native.Nat.{ℕ, zero, suc, _+_, _-_, _*_, _/_, _≤_, _<_}
+use mathlib.Core.Option.{Option, some}
+use Prim.Native.Nat.{ℕ, zero, suc, _+_, _-_, _*_, _/_, _≤_}
 use native.Mathlib.Nat.{suc-mul, le-refl}
 use native.Mathlib.Omega.{arith}
 use borrow.Author.Tests.{le-ltb}
 use lib.ListN.{length, getD, take, drop}
 use lib.Seq.{take-take, take-nil, length-take-le}
 use Rattle.rates.specs.declared.Rate.{Rate}
-use Rattle.rates.specs.declared.Rate.the-variants.{One, Two, Five, Eleven}
+use Rattle.rates.specs.declared.Rate.the-variants.{One}
 use Rattle.rates.specs.Rates.{symbolChips, symbolBits}
 use Rattle.chips.specs.Chips.{Taken, takenCounts}
 use Rattle.symbols.specs.Choice.{decided}
@@ -19,11 +18,21 @@ use Rattle.bits.specs.Growths.{heard, growthsOf, lastHeard}
 use Rattle.bits.specs.Scrambler.{descramble}
 use Rattle.frame.specs.declared.Kind.{Kind}
 use Rattle.frame.specs.declared.Kind.the-variants.{Long, Short}
-use Rattle.calls.specs.declared.Front.{Front}
 use Rattle.calls.specs.declared.Front.the-variants as front
-use Rattle.calls.specs.declared.Refusal.the-variants.{Unusable, OddGrowth}
-use Rattle.frame.specs.Frame.{syncBits, headerRate, start, frontChips, preambleLength, headerLength, preambleChips}
-use Rattle.calls.specs.Reading.{orElse, firstUnusable, oddGrowth, decidedWords, preambleWords, headerWords, reference, headerPhase, frontOdd, frontHeard, frontBits, headerOf, frontOf}
+use Rattle.frame.specs.Frame.{headerRate, start, frontChips, preambleLength, headerLength, preambleChips}
+use Rattle.calls.specs.Reading.{
+  orElse,
+  oddGrowth,
+  decidedWords,
+  preambleWords,
+  headerWords,
+  reference,
+  headerPhase,
+  frontOdd,
+  frontHeard,
+  frontBits,
+  frontOf,
+}
 
 pub drop-take : {A : Type 0} (c j : ℕ) (l : List A) → drop c (take j l) ≡ take (j - c) (drop c l)
 drop-take zero j l = ap (λ (n : ℕ). take n l) (all-left j)

@@ -1,24 +1,21 @@
 -- A clean recording of three parts of bits, read part by part: the words are those sent, the phases run on, no 1 Mbit/s symbol has grown by
 -- 1 or 3, and the bits heard are the bits sent but for the first, whose symbol serves only as reference. Assumes nothing.
-use mathlib.Core.Path.{_≡_, refl, sym, ap, ap₂, _∙_, subst}
-use mathlib.Core.Bool.{Bool, true, false, cond}
-use mathlib.Core.List.{List, [], _∷_, _++_, append-assoc}
-use mathlib.Core.Option.{Option, none, some}
-use Prim.Native.Nat.{ℕ, zero, suc, _+_, _-_, _*_, _/_, _%_, _<_, _≤_}
+use mathlib.Core.Path.{_≡_, refl, sym, ap, ap₂, _∙_}
+use mathlib.Core.Bool.{Bool, cond}
+use mathlib.Core.List.{List, [], _∷_}
+use mathlib.Core.Option.{none, some}
+use Prim.Native.Nat.{ℕ, zero, suc, _+_, _-_, _*_, _/_, _%_, _<_}
 use native.Mathlib.Nat.{suc-mul, zero-mul}
 use native.Mathlib.Omega.{arith}
 use borrow.Author.Tests.{ne-eqb}
-use lib.Dec.{eqb}
-use lib.ListN.{length, getD, take, drop, length-append, length-drop}
-use lib.Seq.{drop-at, drop-drop}
+use lib.ListN.{length, getD, take, drop, length-append}
 use Rattle.rates.specs.declared.Rate.{Rate}
 use Rattle.rates.specs.declared.Rate.the-variants.{One, Two, Five, Eleven}
 use Rattle.rates.specs.Rates.{symbolChips, symbolBits}
-use Rattle.chips.specs.Chips.{Taken, turned}
-use Rattle.symbols.specs.Words.{wordOf, phaseOf}
+use Rattle.chips.specs.Chips.{turned}
+use Rattle.symbols.specs.Words.{wordOf}
 use Rattle.symbols.proofs.Words.{word-length}
 use Rattle.bits.specs.Growths.{
-  Symbol,
   symbolOf,
   symbolsFrom,
   symbolsOf,
@@ -31,15 +28,12 @@ use Rattle.bits.specs.Growths.{
   lastHeard,
 }
 use Rattle.base.specs.Below.{Below}
-use Rattle.base.proofs.Below.{below-take, below-drop}
-use Rattle.frame.specs.declared.Kind.{Kind}
-use Rattle.frame.specs.declared.Kind.the-variants.{Long, Short}
-use Rattle.frame.specs.Frame.{headerRate, frontChips, preambleLength, headerLength, partsChips, preambleChips}
-use Rattle.calls.specs.Reading.{orElse, firstOdd, oddGrowth, decidedWords, preambleWords, headerWords, reference, headerPhase, payloadPhase, frontOdd, frontHeard, payloadWords, payloadOdd}
+use Rattle.base.proofs.Below.{below-drop}
+use Rattle.calls.specs.Reading.{firstOdd}
 use Rattle.bits.specs.Code.{numbersFrom, wordsChips}
 use Rattle.bits.proofs.Growths.{symbolsFrom-length}
 use Rattle.bits.proofs.Heard.{heard-back, chips-words, last-number, numbersFrom-length}
-use Rattle.promises.proofs.Sent.{Allowed, numbers-allowed}
+use Rattle.clean.proofs.Sent.{Allowed, numbers-allowed}
 
 -- ---- lengths
 pub chips-length : (r : Rate) (ns : List ℕ) → length (wordsChips r ns) ≡ length ns * symbolChips r
