@@ -1,7 +1,7 @@
 /* plain.c: writing and reading a frame in plain C, after docs/RULES.md, as a good C engineer would by hand.
  *
- * It is the measure beside the library in bench.c, so it is meant to be fast where plain C can be: octets to counts by a
- * table, Barker by two sums, the 64 words of 11 Mbit/s by butterflies over rows, eight octets at a time where it helps.
+ * It is the measure beside the library in bench.c, so it is meant to be fast where plain C can be: octets to counts by
+ * a table, Barker by two sums, the words of 11 Mbit/s by butterflies over rows, eight octets at a time where it helps.
  * No allocation, no intrinsics, nothing written for one processor. Nothing here is proved.
  *
  * Compiled with -DPLAIN_AS_DSSS it defines dsss_write, dsss_read_hard and dsss_read_soft itself: a

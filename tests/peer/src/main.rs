@@ -41,18 +41,15 @@ mod bridge;
 mod calls;
 mod families;
 mod figures;
+mod owed;
 mod random;
 
 use bridge::{Bridge, Outcome, Run};
 use families::{Family, FAMILIES};
 use figures::Figures;
-use std::collections::BTreeMap;
 use std::path::PathBuf;
 use std::process::ExitCode;
 use std::time::Instant;
-
-/// The calls that a whole run owes.
-const OWED: u64 = 100_000;
 
 struct Options {
     run: Run,
@@ -126,7 +123,7 @@ fn run() -> Result<(), String> {
     let families = chosen(&options.family)?;
     let mut bridge = Bridge::start(&options.bridge).map_err(|error| format!("the bridge didn't start: {error}"))?;
     println!("{:<32} {:>9} {:>11} {:>8}", "family", "calls", "mismatches", "seconds");
-    let mut total = Outcome::default();
+    let (mut total, mut largest) = (Outcome::default(), (0, ""));
     let start = Instant::now();
     for family in families {
         let began = Instant::now();
@@ -135,40 +132,20 @@ fn run() -> Result<(), String> {
             .map_err(|error| format!("{}: the bridge died or sent no whole answer: {error}", family.name))?;
         let seconds = began.elapsed().as_secs_f64();
         println!("{:<32} {:>9} {:>11} {seconds:>8.1}", family.name, outcome.calls, outcome.mismatches);
+        largest = largest.max((outcome.most_of_a_number(), family.name));
         total.add(&outcome);
     }
-    let Outcome { calls, mismatches, met } = total;
+    let Outcome { calls, mismatches, .. } = total;
     println!("{:<32} {calls:>9} {mismatches:>11} {:>8.1}", "total", start.elapsed().as_secs_f64());
     bridge.end()?;
     if mismatches > 0 {
         return Err(format!("{mismatches} of {calls} calls differ"));
     }
-    let whole = options.family.is_none();
-    let owed = if whole { OWED } else { 1 };
-    if calls < owed {
-        return Err(format!("{calls} calls made, {owed} owed"));
+    if options.family.is_none() {
+        return owed::met(&total, largest);
     }
-    if whole {
-        numbers_met(&met)
-    } else {
-        Ok(())
-    }
-}
-
-/// Shows how often each op answered each number. A number that was never met is a failure.
-fn numbers_met(met: &BTreeMap<(&'static str, u64), u64>) -> Result<(), String> {
-    let can_come = |op, number| match op {
-        "write" => number <= refusals::CHIP_BUFFER,
-        "read hard" => number <= refusals::KIND || number >= refusals::FRONT,
-        _ => number <= refusals::KIND || number >= refusals::ROWS,
-    };
-    for op in ["write", "read hard", "read soft"] {
-        let mut words = Vec::new();
-        for number in (0..=refusals::OCTET_BUFFER).filter(|number| can_come(op, *number)) {
-            let count = met.get(&(op, number)).ok_or(format!("no {op} that answers {number} was made"))?;
-            words.push(format!("{number}: {count}"));
-        }
-        println!("{op} answered {}", words.join(", "));
+    if calls == 0 {
+        return Err("no call was made".to_string());
     }
     Ok(())
 }
