@@ -21,8 +21,8 @@ pub struct Answer {
     pub buffer: Vec<u8>,
 }
 
-/// Where a call's answer is settled. Payloads of more than 300 octets, and places from 65,536 on, count apart: what goes
-/// wrong there only is not seen in short frames.
+/// Where a call's answer is settled. Payloads of more than 300 octets, and places from 65,536 on, count apart: what
+/// goes wrong there only is not seen in short frames.
 #[derive(Clone, Copy, PartialEq, Eq, PartialOrd, Ord)]
 pub enum Part {
     Front,
