@@ -49,7 +49,7 @@ install: $(LIB)
 	    include/dsss.pc.in > $(DESTDIR)$(PREFIX)/lib/pkgconfig/dsss.pc
 
 packages:
-	scripts/packages.sh
+	scripts/packages.sh test
 
 $(LIB): $(wildcard crates/*/src/*.rt crates/*/specs/*.antt) crates.txt | packages
 	mkdir -p target

@@ -9,14 +9,14 @@
 //! # Running it
 //!
 //! ```text
-//! peer [--long] [--singly] [--vectors DIR] [--family NAME] [--replay NAME CASE] -- BRIDGE WORDS..
+//! peer [--long] [--singly] [--brief] [--vectors DIR] [--family NAME,..] [--replay NAME CASE] -- BRIDGE WORDS..
 //! peer --list
 //! ```
 //!
 //! Every run checks this program against Table P and against the published figures in DIR (tests/vectors if not given),
 //! then makes the calls of each family and compares every answer and every buffer. It ends with status 1 on a
 //! difference, on fewer calls than are owed, on a bridge that dies, and on a missing file of figures. A family or a
-//! replayed case alone owes no number of calls. A replay prints the whole call and both answers. Calls go ahead of the
+//! replayed case alone owes no number of calls. In brief, only the families' lines are printed. A replay prints the whole call and both answers. Calls go ahead of the
 //! answers; sent singly, a call at which the bridge dies is known by its case.
 //!
 //! Built with no crates, in the repository's root:
@@ -53,6 +53,7 @@ use std::time::Instant;
 
 struct Options {
     run: Run,
+    brief: bool,
     vectors: PathBuf,
     family: Option<String>,
     bridge: Vec<String>,
@@ -61,12 +62,14 @@ struct Options {
 fn options() -> Result<Option<Options>, String> {
     let mut words = std::env::args().skip(1);
     let run = Run { long: false, singly: false, only_case: None };
-    let mut options = Options { run, vectors: "tests/vectors".into(), family: None, bridge: Vec::new() };
+    let vectors = "tests/vectors".into();
+    let mut options = Options { run, brief: false, vectors, family: None, bridge: Vec::new() };
     while let Some(word) = words.next() {
         let mut value = || words.next().ok_or(format!("{word} needs a value"));
         match word.as_str() {
             "--long" => options.run.long = true,
             "--singly" => options.run.singly = true,
+            "--brief" => options.brief = true,
             "--vectors" => options.vectors = value()?.into(),
             "--family" => options.family = Some(value()?),
             "--replay" => {
@@ -91,14 +94,14 @@ fn list() {
     }
 }
 
-/// The families asked for: all, or the one named.
-fn chosen(name: &Option<String>) -> Result<Vec<&'static Family>, String> {
-    let families: Vec<_> =
-        FAMILIES.iter().filter(|family| name.as_ref().map_or(true, |name| name == family.name)).collect();
-    if families.is_empty() {
-        Err("no such family; --list names them".to_string())
-    } else {
-        Ok(families)
+/// The families asked for: all, or those named.
+fn chosen(names: &Option<String>) -> Result<Vec<&'static Family>, String> {
+    let named = |name: &str| FAMILIES.iter().find(|family| family.name == name);
+    match names {
+        None => Ok(FAMILIES.iter().collect()),
+        Some(names) => {
+            names.split(',').map(|name| named(name).ok_or(format!("no family {name}; --list names them"))).collect()
+        }
     }
 }
 
@@ -114,10 +117,11 @@ fn run() -> Result<(), String> {
     if !differences.is_empty() {
         return Err(format!("this program isn't as the document says: {}", differences.join("; ")));
     }
-    println!("Table P: 12 entries as the document says");
     let figures = Figures::load(&options.vectors)?;
-    for (name, count) in figures.check()? {
-        println!("{name}: {count} agree");
+    let agree = figures.check()?;
+    if !options.brief {
+        println!("Table P: 12 entries as the document says");
+        agree.iter().for_each(|(name, count)| println!("{name}: {count} agree"));
     }
 
     let families = chosen(&options.family)?;
