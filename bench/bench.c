@@ -190,7 +190,7 @@ static void head(void)
 {
     struct utsname system;
 
-    printf("dsss (version %d) beside plain C\n", DSSS_VERSION);
+    printf("dsss (version %d.%d.%d) beside plain C\n", DSSS_VERSION_MAJOR, DSSS_VERSION_MINOR, DSSS_VERSION_PATCH);
     printf("processor time, median of %d, at least %.0f ms each\n", ROUNDS, limit * 1000);
     printf("machine %s, compiler of plain C %s\n", uname(&system) < 0 ? "?" : system.machine,
            __VERSION__);
