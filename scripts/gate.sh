@@ -33,6 +33,9 @@ tests/header/run
 stage 'host'
 make --no-print-directory demo
 
+stage 'install'
+tests/install/run
+
 stage 'host under fault'
 make --no-print-directory faults
 

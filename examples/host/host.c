@@ -2,7 +2,8 @@
  *
  * A visitor turns a skull with one finger, and at each quarter turn the table fetches a caption by
  * radio. Here the frames go from the writer to the reader in memory: at every kind and rate, then
- * spoiled, then cut short. What comes from the air may be any octets, so it is shown escaped. A caption of an earlier exhibition must never be seen again: before each
+ * spoiled, then cut short. What comes from the air may be any octets, so it is shown escaped. A
+ * caption of an earlier exhibition must never be seen again: before each
  * read the octet buffer is full of one, and after it what is left of it is counted. All memory is
  * in the static rows below; the two that are lent for writing stand between guard octets, which
  * must stay as they were. */
