@@ -5,11 +5,11 @@ use calls::Refusal;
 use calls::Writing;
 use calls::Written;
 ghost use mathlib.Core.Path.{_≡_};
-ghost use Rattle.calls.specs.Answers.{numberOf, placeOf, lengthOf, writtenOf, recordOf};
+ghost use Rattle.calls.specs.Answers.{refusalNumber, refusalPlace, refusalLength, writtenOf, recordOf};
 
 // The number of a refusal.
 pub fn number_of(e: Refusal) -> u64
-    ensures answer { λ r. ⌜ r ≡ numberOf e ⌝ }
+    ensures answer { λ r. ⌜ r ≡ refusalNumber e ⌝ }
 {
     match e {
         Refusal::NoKind => 1,
@@ -40,7 +40,7 @@ pub fn number_of(e: Refusal) -> u64
 
 // A place, 0 but for 9 and 10.
 pub fn place_of(e: Refusal) -> u64
-    ensures answer { λ r. ⌜ r ≡ placeOf e ⌝ }
+    ensures answer { λ r. ⌜ r ≡ refusalPlace e ⌝ }
 {
     match e {
         Refusal::NoKind => 0,
@@ -65,7 +65,7 @@ pub fn place_of(e: Refusal) -> u64
 
 // LENGTH, where the refusal tells it.
 pub fn length_of(e: Refusal) -> u64
-    ensures answer { λ r. ⌜ r ≡ lengthOf e ⌝ }
+    ensures answer { λ r. ⌜ r ≡ refusalLength e ⌝ }
 {
     match e {
         Refusal::NoKind => 0,

@@ -1,6 +1,6 @@
 -- LENGTH and bit 7 as a reader takes them, in natural numbers: whole octets, less bit 7 where that leaves one.
 --     told-none                                      nothing is left: none are told
---     told-over, told-length, told-seven, told-all   something is left: it is told exactly when it is at most 4,095 and
+--     told-over, told-length, told-seven, told-all   something is left: it is told exactly when it is a payload and
 --                                                    its own LENGTH and bit 7 are those read
 --     told-fails, told-holds                         LENGTH holds exactly when octets are told, and they are those read
 -- A difference that does not go below 0 is a natural number; one that does is no payload. Assumes nothing.
@@ -47,25 +47,25 @@ module _ (r : Rate) (l s w : ℕ) (e : w ≡ wholeOctets r l) (h : s < w) where
   read : octetsRead r l s ≡ pos (w - s)
   read = rw (← e) (less w s (w - s) (omega arith))
 
-  pub told-over : 4095 < w - s → 0 ≡ octetsTold r l s
+  pub told-over : isPayload (pos (w - s)) ≡ false → 0 ≡ octetsTold r l s
   unfolding octetsTold
-  told-over k = rw (read, le-leb 1 (w - s) (omega arith), lt-leb (w - s) 4095 k)
+  told-over k = rw (read, k)
 
-  pub told-length : w - s ≤ 4095 → (f : ℕ) → f ≡ lengthField r (w - s) → (f ≡ l → ⊥) → 0 ≡ octetsTold r l s
+  pub told-length : isPayload (pos (w - s)) ≡ true → (f : ℕ) → f ≡ lengthField r (w - s) → (f ≡ l → ⊥) → 0 ≡ octetsTold r l s
   unfolding octetsTold
-  told-length k f q n = rw (read, le-leb 1 (w - s) (omega arith), le-leb (w - s) 4095 k, ← q, ne-eqb f l n)
+  told-length k f q n = rw (read, k, ← q, ne-eqb f l n)
 
-  pub told-seven : w - s ≤ 4095 → (f g : ℕ) → f ≡ lengthField r (w - s) → f ≡ l → g ≡ bit7 r (w - s) → (g ≡ s → ⊥)
+  pub told-seven : isPayload (pos (w - s)) ≡ true → (f g : ℕ) → f ≡ lengthField r (w - s) → f ≡ l → g ≡ bit7 r (w - s) → (g ≡ s → ⊥)
       → 0 ≡ octetsTold r l s
   unfolding octetsTold
   told-seven k f g q m p n =
-      rw (read, le-leb 1 (w - s) (omega arith), le-leb (w - s) 4095 k, ← q, eq-eqb f l m, ← p, ne-eqb g s n)
+      rw (read, k, ← q, eq-eqb f l m, ← p, ne-eqb g s n)
 
-  pub told-all : w - s ≤ 4095 → (f g : ℕ) → f ≡ lengthField r (w - s) → f ≡ l → g ≡ bit7 r (w - s) → g ≡ s
+  pub told-all : isPayload (pos (w - s)) ≡ true → (f g : ℕ) → f ≡ lengthField r (w - s) → f ≡ l → g ≡ bit7 r (w - s) → g ≡ s
       → w - s ≡ octetsTold r l s
   unfolding octetsTold
   told-all k f g q m p n =
-      rw (read, le-leb 1 (w - s) (omega arith), le-leb (w - s) 4095 k, ← q, eq-eqb f l m, ← p, eq-eqb g s n)
+      rw (read, k, ← q, eq-eqb f l m, ← p, eq-eqb g s n)
 
 -- a payload is not none
 payload-some : (z : ℤ) → isPayload z ≡ true → natAbs z ≡ 0 → ⊥

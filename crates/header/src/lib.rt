@@ -46,7 +46,7 @@ fn octets_told(r: Rate, length: usize, seven: u8) -> usize
         return 0;
     }
     let n = whole - less;
-    if 4095 < n {
+    if !rates::is_payload(n) {
         return 0;
     }
     if r.length_field(n) != length {

@@ -44,7 +44,7 @@ use Rattle.calls.specs.declared.Written.{Written}
 use Rattle.calls.specs.declared.Record.{Record}
 use Rattle.frame.specs.Frame.{frame, frontChips, frameChips, isKind, kindOf}
 use Rattle.frame.proofs.Sizes.{frame-length}
-use Rattle.calls.specs.Answers.{numberOf, writtenOf, recordOf}
+use Rattle.calls.specs.Answers.{refusalNumber, writtenOf, recordOf}
 use Rattle.calls.specs.Writing.{writingOf, chipsAfter, chipsWritten}
 use Rattle.calls.specs.Reading.{
   orElse,
@@ -63,7 +63,7 @@ use Rattle.calls.proofs.Accepted.{accepted}
 use Rattle.promises.specs.Promises.{WriteFills, ReadFills}
 
 -- every refusal has a number other than 0
-some-number : (e : Refusal) → numberOf e ≡ 0 → ⊥
+some-number : (e : Refusal) → refusalNumber e ≡ 0 → ⊥
 some-number NoKind h = omega arith
 some-number NoRate h = omega arith
 some-number ShortRate h = omega arith

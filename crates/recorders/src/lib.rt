@@ -3,13 +3,13 @@
 ghost use mathlib.Core.Path.{_≡_};
 ghost use mathlib.Core.Bool.{true, not};
 ghost use mathlib.Core.List.{map};
-ghost use Prim.Native.Nat.{_+_, _-_, _≤_, _<_};
+ghost use Prim.Native.Nat.{_+_, _-_, _*_, _≤_, _<_};
 ghost use lib.ListN.{length, getD, take, drop};
 ghost use Rattle.rates.specs.Rates.{symbolChips};
 ghost use Rattle.chips.specs.Chips.{unusable, isUnusable, takenCounts, countsOf};
 ghost use Rattle.symbols.specs.Choice.{decided};
 ghost use Rattle.calls.specs.Reading.{firstUnusable};
-ghost use Rattle.recorders.specs.Rows.{recordingOf, whereFound, AllUsable};
+ghost use Rattle.recorders.specs.Rows.{recordingOf, whereFound, AllUsable, DecidedAt};
 use chips::Chip;
 use rates::Rate;
 
@@ -127,7 +127,14 @@ fn eleven(rec: Recorder, octets: &[u8], i: &[f32], q: &[f32], at: usize) -> [Chi
 }
 
 // The number of the word that a symbol is decided as, from the chips that start at a place.
-pub fn decide(rec: Recorder, octets: &[u8], i: &[f32], q: &[f32], rate: Rate, at: usize) -> usize
+pub fn decide_one(
+    rec: Recorder,
+    octets: &[u8],
+    i: &[f32],
+    q: &[f32],
+    rate: Rate,
+    at: usize,
+) -> usize
     requires { ⌜ at + symbolChips rate ≤ length (recordingOf rec (now octets) (now i) (now q)) ⌝ }
     ensures answer { λ r. ⌜ r ≡ decided rate (map takenCounts (take (symbolChips rate) (drop at
         (recordingOf rec (now (octets .entry)) (now (i .entry)) (now (q .entry)))))) ⌝ }
@@ -137,5 +144,32 @@ pub fn decide(rec: Recorder, octets: &[u8], i: &[f32], q: &[f32], rate: Rate, at
         Rate::Two => choice::decide_barker(eleven(rec, octets, i, q, at)),
         Rate::Five => choice::decide_five(eight(rec, octets, i, q, at)),
         Rate::Eleven => choice::decide_eleven(eight(rec, octets, i, q, at)),
+    }
+}
+
+// The numbers of the words that m symbols are decided as, from the chips that start at a place.
+pub fn decide(
+    rec: Recorder,
+    octets: &[u8],
+    i: &[f32],
+    q: &[f32],
+    rate: Rate,
+    at: usize,
+    m: usize,
+    numbers: &mut [u8; 64],
+)
+    requires { ⌜ (m ≤ 64) × (at + symbolChips rate * m ≤ length (recordingOf rec (now octets) (now i) (now q)))
+        × AllUsable (recordingOf rec (now octets) (now i) (now q)) at (symbolChips rate * m)
+        × (length (now numbers) ≡ 64) ⌝ }
+    ensures numbers { λ _. ⌜ DecidedAt rate
+        (recordingOf rec (now (octets .entry)) (now (i .entry)) (now (q .entry))) at m (now (numbers .exit)) ⌝ }
+{
+    let chips = rate.symbol_chips();
+    let mut place = at;
+    let mut l = 0;
+    while l < m {
+        numbers[l] = decide_one(rec, octets, i, q, rate, place) as u8;
+        place += chips;
+        l += 1;
     }
 }

@@ -8,12 +8,12 @@ use Rattle.calls.specs.declared.Told.{Told}
 use Rattle.calls.specs.declared.Reading.{Reading}
 use Rattle.calls.specs.declared.Reading.the-variants.{Refused, Good}
 use Rattle.calls.specs.declared.Record.{Record}
-use Rattle.calls.specs.Answers.{numberOf, placeOf, lengthOf, recordOf}
+use Rattle.calls.specs.Answers.{refusalNumber, refusalPlace, refusalLength, recordOf}
 use Rattle.checks.proofs.answers.record_of.Statement.{statement}
 use Rattle.checks.proofs.answers.record_of.Tie as tie
 
 refused : (g : Reading) (e : Refusal) (number place length : ℕ) → g ≡ Refused e
-    → number ≡ numberOf e → place ≡ placeOf e → length ≡ lengthOf e
+    → number ≡ refusalNumber e → place ≡ refusalPlace e → length ≡ refusalLength e
     → _≡_ {A = Record} (record { number = number; place = place; rate = 0; length = length; n = 0; used = 0 })
     (recordOf g)
 refused g e number place length q a b c = rw (q, a, b, c)
