@@ -2,6 +2,7 @@
 """tree.py: holds the text of the tree to its own rules.
 
 - lines of Rattle, antt, C, Rust and scripts are at most 120 characters wide (proof files may reach 160);
+  a script is also a file that starts with #!;
 - a Rattle file has at most 250 lines, a definitions file 250, a proof file 400;
 - no tracked file holds a path of a machine;
 - every path and every crate item that docs/PROMISES.md names in `code` exists.
@@ -21,13 +22,13 @@ def tracked():
     return [p for p in out.split('\n') if p and os.path.isfile(p)]
 
 
-def limits(path):
+def limits(path, text):
     """Widest line and most lines allowed, or None."""
     if path.endswith('.rt'):
         return 120, 250
     if path.endswith('.antt'):
         return (120, 250) if '/specs/' in path else (160, 400)
-    if path.endswith(('.c', '.h', '.cpp', '.rs', '.py', '.sh')):
+    if path.endswith(('.c', '.h', '.cpp', '.rs', '.py', '.sh')) or text.startswith('#!'):
         return 120, 1000
     return None
 
@@ -38,7 +39,7 @@ def text_of(path):
 
 
 def check_sizes(path, text):
-    allowed = limits(path)
+    allowed = limits(path, text)
     if not allowed:
         return
     width, most = allowed
