@@ -1,14 +1,14 @@
 // Bits to phases and back, the scrambler and the CRC. A bit is a u8, 0 or 1.
 ghost use mathlib.Core.Path.{_≡_};
 ghost use mathlib.Core.List.{[], _∷_, _++_};
-ghost use Prim.Native.Nat.{_<_};
+ghost use Prim.Native.Nat.{_/_, _%_, _<_};
 ghost use lib.ListN.{length, replicate};
 ghost use Rattle.bits.specs.Bits.{_⊕_, bitsOf, numberOf, octetBits};
 ghost use Rattle.bits.specs.Growths.{growth};
 ghost use Rattle.bits.specs.Scrambler.{scramble, descramble};
 ghost use Rattle.bits.specs.Crc.{crcStep, remainder, complement, crcBits};
 ghost use Rattle.base.specs.Below.{Below};
-ghost use Rattle.bits.specs.Code.{inTime, lastFirst, pastOf, terms};
+ghost use Rattle.bits.specs.Code.{inTime, lastFirst, pastOf, pairsOf, terms};
 
 // Eight bits, b0 first in time.
 pub struct Eight {
@@ -126,14 +126,21 @@ pub fn descramble_eights(past: Eight, o: Eight) -> u8
     pack(descramble_eight(past, o))
 }
 
+// The four pairs of an octet's bits, each with the first in time the higher: what a pair stands for directly.
+pub fn pairs(o: u8) -> u8
+    ensures answer { λ r. ⌜ r ≡ pairsOf o ⌝ }
+{
+    (o & 0x55) * 2 + (o & 0xAA) / 2
+}
+
 // How far two bits turn the phase: 00, 01, 10, 11.
 const GROWTHS: [u8; 4] = [0, 1, 3, 2];
 
-pub fn growth(a: u8, b: u8) -> u8
-    requires { ⌜ (a < 2) × (b < 2) ⌝ }
-    ensures answer { λ r. ⌜ (r ≡ growth a b) × (r < 4) ⌝ }
+// The growth of the lowest of the pairs n.
+pub fn growth(n: u8) -> u8
+    ensures answer { λ r. ⌜ (r ≡ growth (n / 2 % 2) (n % 2)) × (r < 4) ⌝ }
 {
-    GROWTHS[(2 * a + b) as usize]
+    GROWTHS[(n % 4) as usize]
 }
 
 // The CRC register, highest term first.

@@ -5,6 +5,7 @@
 use mathlib.Core.Path.{_≡_, refl, sym, ap, ap₂, _∙_}
 use mathlib.Core.List.{List, [], _∷_, _++_, append-assoc}
 use Prim.Native.Nat.{ℕ, _+_, _*_}
+use native.Mathlib.Nat.{mul-zero}
 use native.Mathlib.Omega.{arith}
 use lib.ListN.{length, take, drop, replicate, length-append}
 use lib.Seq.{take-all, take-at, drop-at, drop-drop}
@@ -36,9 +37,9 @@ use Rattle.frame.specs.Frame.{
   partsChips,
   frame,
 }
-use Rattle.sender.specs.Sending.{State, run, ran, fresh}
+use Rattle.sender.specs.Sending.{run}
 use Rattle.sender.proofs.Run.{length-run}
-use Rattle.sender.proofs.Sent.{after, Agree, Sent, sent, allSymbols, symbolsOf-octets}
+use Rattle.sender.proofs.Sent.{after, Agree, sent, allSymbols, symbolsOf-octets}
 use Rattle.writer.specs.Parts.{preambleOctets, preambleChips, firstState, afterPreamble, frontSent, afterFront}
 
 pub preamble-octets : (k : Kind) → octetBits (preambleOctets k) ≡ preambleBits k
@@ -101,12 +102,12 @@ start-agrees Short bs = scramble-window _ _ bs refl
 
 pub frame-parts : (k : Kind) (r : Rate) (p : ℕ) (header xs : List ℕ) → octetBits header ≡ headerBits r (length xs)
     → length header ≡ 6
-    → frame k r p xs ≡ frontSent k p header ++ run r (afterFront k p header) xs
+    → frame k r p xs ≡ frontSent k p header ++ run r 0 (afterFront k p header) xs
 unfolding firstState afterPreamble frontSent afterFront
 frame-parts k r p header xs e six =
-    let q0 = sent One (firstState k p) (start k) 0 (preambleOctets k) (start-agrees k) refl in
-    let q1 = sent (headerRate k) (afterPreamble k p) _ 0 header (q0 .past) refl in
-    let q2 = sent r (afterFront k p header) _ 0 xs (q1 .past) refl in
+    let q0 = sent One 0 0 (firstState k p) (start k) (preambleOctets k) refl (start-agrees k) in
+    let q1 = sent (headerRate k) 0 0 (afterPreamble k p) _ header (sym (mul-zero _)) (q0 .past) in
+    let q2 = sent r 0 0 (afterFront k p header) _ xs (sym (mul-zero _)) (q1 .past) in
     by-parts k r p header xs e six
     ∙ rw (append-assoc, ← q0 .chips, ← q0 .phase, ← q1 .chips, ← q1 .phase, ← q2 .chips)
 
@@ -115,9 +116,9 @@ pub length-front : (k : Kind) (p : ℕ) (header : List ℕ) → length header �
     → length (frontSent k p header) ≡ frontChips k
 unfolding frontSent
 length-front k p header e =
-    length-append (run One (firstState k p) (preambleOctets k)) (run (headerRate k) (afterPreamble k p) header)
-    ∙ ap₂ {C = ℕ} (λ a b. a + b) (length-run One (firstState k p) (preambleOctets k))
-    (length-run (headerRate k) (afterPreamble k p) header ∙ ap (λ (n : ℕ). octetChips (headerRate k) * n) e)
+    length-append (run One 0 (firstState k p) (preambleOctets k)) (run (headerRate k) 0 (afterPreamble k p) header)
+    ∙ ap₂ {C = ℕ} (λ a b. a + b) (length-run One 0 (firstState k p) (preambleOctets k))
+    (length-run (headerRate k) 0 (afterPreamble k p) header ∙ ap (λ (n : ℕ). octetChips (headerRate k) * n) e)
     ∙ sum k
   where
     sum : (k : Kind) → 88 * length (preambleOctets k) + octetChips (headerRate k) * 6 ≡ frontChips k
@@ -144,5 +145,5 @@ length-frame k r p xs =
     octets-bits 6 bs (omega (arith, header-long r (length xs))) (header-below r (length xs))
     ∙ take-all 48 bs (omega (arith, header-long r (length xs))) in
     ap length (frame-parts k r p header xs whole six)
-    ∙ length-append (frontSent k p header) (run r (afterFront k p header) xs)
-    ∙ ap₂ {C = ℕ} (λ a b. a + b) (length-front k p header six) (length-run r (afterFront k p header) xs)
+    ∙ length-append (frontSent k p header) (run r 0 (afterFront k p header) xs)
+    ∙ ap₂ {C = ℕ} (λ a b. a + b) (length-front k p header six) (length-run r 0 (afterFront k p header) xs)
