@@ -7,7 +7,7 @@ OUT := target/c
 STRICT := -std=c99 -Wall -Wextra -Wpedantic -Werror -Iinclude
 PREFIX ?= /usr/local
 
-.PHONY: demo test compare bench crc faults install packages
+.PHONY: demo test compare wrong bench crc faults install packages
 .SILENT:
 
 # The host: captions written at every kind and rate, one spoilt, one cut short.
@@ -23,6 +23,10 @@ test:
 # The second program's longer run.
 compare: $(OUT)/bridge target/peer/peer
 	target/peer/peer --long -- scripts/x86run $(OUT)/bridge
+
+# Wrong versions of plain C, each of which the second program must refuse.
+wrong: target/peer/peer
+	tests/wrong/run
 
 # Our library beside plain C, in one run; BENCH_MS is the milliseconds of one measurement.
 bench: $(OUT)/bench
@@ -45,7 +49,7 @@ install: $(LIB)
 	    include/dsss.pc.in > $(DESTDIR)$(PREFIX)/lib/pkgconfig/dsss.pc
 
 packages:
-	scripts/packages.sh
+	scripts/packages.sh test
 
 $(LIB): $(wildcard crates/*/src/*.rt crates/*/specs/*.antt) crates.txt | packages
 	mkdir -p target

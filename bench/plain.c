@@ -1,10 +1,11 @@
-/* plain.c: writing and reading a frame in plain C, after docs/RULES.md, as one would by hand.
+/* plain.c: writing and reading a frame in plain C, after docs/RULES.md, as a good C engineer would by hand.
  *
- * It is the measure beside the library in bench.c, so it is meant to be fair: tables where they
- * come naturally, no allocation, nothing written for one processor. Nothing here is proved.
+ * It is the measure beside the library in bench.c, so it is meant to be fast where plain C can be: octets to counts by
+ * a table, Barker by two sums, the words of 11 Mbit/s by butterflies over rows, eight octets at a time where it helps.
+ * No allocation, no intrinsics, nothing written for one processor. Nothing here is proved.
  *
  * Compiled with -DPLAIN_AS_DSSS it defines dsss_write, dsss_read_hard and dsss_read_soft itself: a
- * stand-in for the library, to test the tests (host, bridge, bench) without it.
+ * stand-in for the library, to test the tests (host, bridge, bench, the second program) without it.
  *
  * A row of bits is a number here, the first bit in time being the lowest. */
 #ifdef PLAIN_AS_DSSS
@@ -46,8 +47,6 @@ static const struct rate rates[] = {
     {DSSS_RATE_5_5, 4, CCK},
     {DSSS_RATE_11, 8, CCK},
 };
-
-static const int32_t barker_signs[BARKER] = {1, -1, 1, 1, -1, 1, 1, 1, -1, -1, -1};
 
 static const uint8_t barker_words[4][BARKER] = {
     {0, 2, 0, 0, 2, 0, 0, 0, 2, 2, 2},
@@ -148,71 +147,88 @@ struct writer {
     unsigned history; /* the last 7 scrambled bits, the last being the highest */
 };
 
-/* Scrambles up to four bits: none of them depends on another, as the nearest is 4 back. */
-static unsigned scramble(struct writer *w, unsigned bits, unsigned count)
+/* Scrambles an octet. The nearest bit that a bit depends on is 4 back: four bits at a time. */
+static inline unsigned scramble(struct writer *w, unsigned bits)
 {
-    unsigned out = (bits ^ w->history >> 3 ^ w->history) & ((1u << count) - 1);
+    unsigned low = (bits ^ w->history >> 3 ^ w->history) & 15;
+    unsigned all = w->history | low << 7;
+    unsigned high = (bits >> 4 ^ all >> 7 ^ all >> 4) & 15;
 
-    w->history = (w->history | out << 7) >> count;
-    return out;
+    w->history = (all | high << 11) >> 8;
+    return low | high << 4;
 }
 
-/* Sends `count` bits, `each` (1 or 2) a Barker symbol. */
-static void send_barker(struct writer *w, uint64_t bits, unsigned count, unsigned each)
+/* Sends an octet as Barker symbols, `each` (1 or 2) bits a symbol. */
+static inline void send_barker(struct writer *w, unsigned octet, unsigned each)
 {
-    for (unsigned k = 0; k < count; k += each) {
-        unsigned out = scramble(w, (unsigned)(bits >> k), each);
+    unsigned out = scramble(w, octet);
 
-        w->phase = (w->phase + (each == 1 ? 2 * out : growth_of[out])) & 3;
+    for (unsigned k = 0; k < 8; k += each) {
+        w->phase = (w->phase + (each == 1 ? 2 * (out >> k & 1) : growth_of[out >> k & 3])) & 3;
         memcpy(w->at, barker_words[w->phase], BARKER);
         w->at += BARKER;
     }
 }
 
-/* Sends a CCK symbol: two bits for p1, a word for the rest; `odd` symbols grow by 2 more. */
-static void send_cck(struct writer *w, unsigned two, unsigned word, unsigned odd)
+static void send_octets(struct writer *w, const uint8_t *octets, size_t n, unsigned each)
 {
+    if (each == 1)
+        for (size_t k = 0; k < n; k++)
+            send_barker(w, octets[k], 1);
+    else
+        for (size_t k = 0; k < n; k++)
+            send_barker(w, octets[k], 2);
+}
+
+/* Sends a CCK symbol: two bits for p1, a word for the rest; `odd` symbols grow by 2 more. The eight
+ * chips are turned together, side by side in one number: no sum of theirs reaches its neighbour. */
+static inline void send_cck(struct writer *w, unsigned two, unsigned word, unsigned odd)
+{
+    uint64_t eight;
+
     w->phase = (w->phase + growth_of[two] + 2 * odd) & 3;
-    for (unsigned k = 0; k < CCK; k++)
-        w->at[k] = (uint8_t)((cck_words[word][k] + w->phase) & 3);
+    memcpy(&eight, cck_words[word], CCK);
+    eight = (eight + w->phase * 0x0101010101010101u) & 0x0303030303030303u;
+    memcpy(w->at, &eight, CCK);
     w->at += CCK;
 }
 
 static void send_55(struct writer *w, const uint8_t *payload, size_t n)
 {
-    for (size_t k = 0; k < n; k++)
-        for (unsigned half = 0; half < 2; half++) {
-            unsigned out = scramble(w, payload[k] >> 4 * half, 4);
-            send_cck(w, out & 3, words_55[direct[out >> 2]], half);
-        }
+    for (size_t k = 0; k < n; k++) {
+        unsigned out = scramble(w, payload[k]);
+        send_cck(w, out & 3, words_55[direct[out >> 2 & 3]], 0);
+        send_cck(w, out >> 4 & 3, words_55[direct[out >> 6]], 1);
+    }
 }
 
 static void send_11(struct writer *w, const uint8_t *payload, size_t n)
 {
     for (size_t k = 0; k < n; k++) {
-        unsigned low = scramble(w, payload[k], 4);
-        unsigned high = scramble(w, payload[k] >> 4, 4);
-        unsigned word = 16u * direct[low >> 2] + 4u * direct[high & 3] + direct[high >> 2];
-        send_cck(w, low & 3, word, k & 1);
+        unsigned out = scramble(w, payload[k]);
+        unsigned word = 16u * direct[out >> 2 & 3] + 4u * direct[out >> 4 & 3] + direct[out >> 6];
+        send_cck(w, out & 3, word, k & 1);
     }
 }
 
 static void send_frame(struct writer *w, const struct kind *kind, const struct rate *rate,
                        const uint8_t *payload, size_t n)
 {
-    uint32_t header = rate->code | service_length(rate, (uint32_t)n) << 8;
+    uint32_t header = rate->code | service_length(rate, (uint32_t)n) << 8, crc = crc_of(header);
+    const uint8_t sfd[2] = {(uint8_t)kind->sfd, (uint8_t)(kind->sfd >> 8)};
+    const uint8_t octets[6] = {(uint8_t)header,         (uint8_t)(header >> 8), (uint8_t)(header >> 16),
+                               (uint8_t)(header >> 24), (uint8_t)crc,           (uint8_t)(crc >> 8)};
 
     for (unsigned k = 0; k < kind->sync_bits; k += 8)
-        send_barker(w, kind->sync_octet, 8, 1);
-    send_barker(w, kind->sfd, 16, 1);
-    send_barker(w, header | (uint64_t)crc_of(header) << 32, 48, kind->header_each);
+        send_barker(w, kind->sync_octet, 1);
+    send_octets(w, sfd, 2, 1);
+    send_octets(w, octets, 6, kind->header_each);
     if (rate->code == DSSS_RATE_11)
         send_11(w, payload, n);
     else if (rate->code == DSSS_RATE_5_5)
         send_55(w, payload, n);
     else
-        for (size_t k = 0; k < n; k++)
-            send_barker(w, payload[k], 8, rate->each);
+        send_octets(w, payload, n, rate->each);
 }
 
 static dsss_written written(uint64_t kind, uint64_t code, uint64_t phase, const uint8_t *payload,
@@ -259,32 +275,62 @@ struct recording {
     size_t len;
 };
 
-static const int32_t hard_i[5] = {1024, 0, -1024, 0, 0};
-static const int32_t hard_q[5] = {0, 1024, 0, -1024, 0};
+/* Counts of a hard chip in full chips, not in 1024ths: all scores of a symbol are then smaller by
+ * one factor, and the choice is the same. */
+static const int32_t hard_i[5] = {1, 0, -1, 0, 0};
+static const int32_t hard_q[5] = {0, 1, 0, -1, 0};
+
+/* Both counts in one number, Q in its upper half: sums of them are sums of both. */
+static const int32_t hard_both[5] = {1, 1 << 16, -1, -(1 << 16), 0};
+static const int32_t hard_back[5] = {-(1 << 16), 1, 1 << 16, -1, 0}; /* a quarter turn back */
 
 /* False for a NaN too. */
-static int usable(float sample)
+static inline int usable(float sample)
 {
-    return sample >= -8.0f && sample <= 8.0f;
+    return (sample >= -8.0f) & (sample <= 8.0f);
+}
+
+enum { BLOCK = 64 }; /* chips looked at together for one that is unusable */
+
+static size_t first_unusable_hard(const uint8_t *chips, size_t from, size_t to)
+{
+    size_t k = from;
+
+    for (unsigned bad = 0; k + BLOCK <= to; k += BLOCK) {
+        for (unsigned j = 0; j < BLOCK; j++)
+            bad |= chips[k + j] > DSSS_CHIP_LOST;
+        if (bad)
+            break;
+    }
+    while (k < to && chips[k] <= DSSS_CHIP_LOST)
+        k++;
+    return k;
+}
+
+static size_t first_unusable_soft(const float *i, const float *q, size_t from, size_t to)
+{
+    size_t k = from;
+
+    for (int good = 1; k + BLOCK <= to; k += BLOCK) {
+        for (unsigned j = 0; j < BLOCK; j++)
+            good &= usable(i[k + j]) & usable(q[k + j]);
+        if (!good)
+            break;
+    }
+    while (k < to && usable(i[k]) && usable(q[k]))
+        k++;
+    return k;
 }
 
 /* The first unusable chip from `from` on; `to` if there is none before it. */
 static size_t first_unusable(const struct recording *r, size_t from, size_t to)
 {
-    size_t k = from;
-
-    if (r->i)
-        while (k < to && usable(r->i[k]) && usable(r->q[k]))
-            k++;
-    else
-        while (k < to && r->chips[k] <= DSSS_CHIP_LOST)
-            k++;
-    return k;
+    return r->i ? first_unusable_soft(r->i, r->q, from, to) : first_unusable_hard(r->chips, from, to);
 }
 
 /* Rounds 1024 times a usable sample as lrintf would. The product is exact, and in a sum near
  * 1.5 * 2^23 a float's last place is 1: the addition itself rounds, halves to even. */
-static int32_t count(float sample)
+static inline int32_t count(float sample)
 {
     const float near = 12582912.0f;
 
@@ -292,116 +338,155 @@ static int32_t count(float sample)
 }
 
 /* The counts of `len` (8 or 11) usable chips from `at` on. */
-static void take(const struct recording *r, size_t at, unsigned len, int32_t *i, int32_t *q)
+static inline void take(const struct recording *r, int soft, size_t at, unsigned len, int32_t *i, int32_t *q)
 {
-    if (r->i)
-        for (unsigned k = 0; k < len; k++) {
-            i[k] = count(r->i[at + k]);
-            q[k] = count(r->q[at + k]);
-        }
-    else
-        for (unsigned k = 0; k < len; k++) {
-            i[k] = hard_i[r->chips[at + k]];
-            q[k] = hard_q[r->chips[at + k]];
-        }
+    for (unsigned k = 0; k < len; k++) {
+        i[k] = soft ? count(r->i[at + k]) : hard_i[r->chips[at + k]];
+        q[k] = soft ? count(r->q[at + k]) : hard_q[r->chips[at + k]];
+    }
 }
 
 /* ---- Choosing symbols ------------------------------------------------------------------------ */
 
+static inline int32_t larger(int32_t a, int32_t b)
+{
+    return a > b ? a : b;
+}
+
+static inline int32_t size_of(int32_t a)
+{
+    return a < 0 ? -a : a;
+}
+
 /* A word turned by 0, 1, 2, 3 scores a, b, -a, -b: a is its sum of chips, b that of a quarter turn
- * more. So one pair of sums serves four words. */
-static unsigned choose_barker(const int32_t *i, const int32_t *q)
+ * more. So one pair of sums serves four words.
+ *
+ * The largest score, and of equals the smallest number n out of N: the largest key N score + N - 1 - n. Two
+ * numbers half of N apart have opposite scores, so the larger of their keys is a size and a constant. */
+static inline unsigned phase_of(int32_t a, int32_t b)
 {
-    int32_t a = 0, b = 0;
+    return 3 - ((unsigned)larger(size_of(4 * a + 1) + 2, size_of(4 * b + 1) + 1) & 3);
+}
 
-    for (unsigned k = 0; k < BARKER; k++) {
-        a += barker_signs[k] * i[k];
-        b += barker_signs[k] * q[k];
+/* The largest key of a word (p1 = 0) in its four turns, N being 256. */
+static inline int32_t key_of(int32_t a, int32_t b, int32_t word)
+{
+    return larger(size_of(256 * a + 64) + 64, size_of(256 * b + 64)) + 127 - word;
+}
+
+static inline unsigned number_of(int32_t key)
+{
+    return 255 - ((unsigned)key & 255);
+}
+
+/* The sum with Barker's signs, + - + + - + + + - - -. */
+static inline int32_t barker_sum(const int32_t *x)
+{
+    return x[0] - x[1] + x[2] + x[3] - x[4] + x[5] + x[6] + x[7] - x[8] - x[9] - x[10];
+}
+
+static inline unsigned choose_barker_hard(const uint8_t *chips)
+{
+    int32_t both[BARKER];
+
+    for (unsigned k = 0; k < BARKER; k++)
+        both[k] = hard_both[chips[k]];
+    int32_t sum = barker_sum(both), low = (int16_t)sum;
+    return phase_of(low, (sum - low) / (1 << 16));
+}
+
+/* The phases of up to eight Barker symbols. Soft samples are counted all together first. */
+static inline void choose_barkers(const struct recording *r, int soft, size_t at, unsigned symbols, uint8_t *phases)
+{
+    int32_t i[8 * BARKER], q[8 * BARKER];
+
+    if (soft)
+        take(r, 1, at, symbols * BARKER, i, q);
+    for (unsigned k = 0; k < symbols; k++)
+        phases[k] = (uint8_t)(soft ? phase_of(barker_sum(i + k * BARKER), barker_sum(q + k * BARKER))
+                                   : choose_barker_hard(r->chips + at + k * BARKER));
+}
+
+/* The 16 words: p3 = 0; p2 = 3 is p2 = 1 with chips 0, 2, 4, 6 negated, p4 = 2 is p4 = 0 with the
+ * first four negated. A quarter turn back of (i, q) is (q, -i). Each array: chips 0 and 2, 4 and 6,
+ * those at p2 = 1; 1 and 3; 5 and 7. */
+static inline unsigned choose_of_16(const int32_t a[4], const int32_t b[4])
+{
+    int32_t best = INT32_MIN;
+
+    for (int32_t k = 0; k < 4; k++) {
+        int32_t by2 = k < 2 ? 1 : -1, by4 = k % 2 == 0 ? 1 : -1;
+        best = larger(best, key_of(by2 * (by4 * a[0] + a[1]) + by4 * a[2] + a[3],
+                                   by2 * (by4 * b[0] + b[1]) + by4 * b[2] + b[3], words_55[k]));
     }
-
-    int32_t scores[4] = {a, b, -a, -b};
-    unsigned phase = 0;
-    for (unsigned p = 1; p < 4; p++)
-        if (scores[p] > scores[phase])
-            phase = p;
-    return phase;
+    return number_of(best);
 }
 
-/* What a chip adds to the score of a word whose chip there is 0 to 3; 4 is 0 once more. */
-struct turned {
-    int32_t by[5][CCK];
-};
-
-static inline struct turned turn(const int32_t *i, const int32_t *q)
+static inline unsigned choose_cck55_hard(const uint8_t *c)
 {
-    struct turned turned;
+    const int32_t both[4] = {hard_back[c[0]] + hard_back[c[2]], hard_back[c[4]] - hard_back[c[6]],
+                             hard_both[c[1]] - hard_both[c[3]], hard_both[c[5]] + hard_both[c[7]]};
+    int32_t a[4], b[4];
 
-    for (unsigned k = 0; k < CCK; k++) {
-        turned.by[0][k] = i[k];
-        turned.by[1][k] = q[k];
-        turned.by[2][k] = -i[k];
-        turned.by[3][k] = -q[k];
-        turned.by[4][k] = i[k];
+    for (unsigned k = 0; k < 4; k++) {
+        a[k] = (int16_t)both[k];
+        b[k] = (both[k] - a[k]) / (1 << 16);
     }
-    return turned;
+    return choose_of_16(a, b);
 }
 
-/* For each p1 the best score so far, and the smallest word that has it. */
-struct best {
-    int32_t score[4];
-    unsigned word[4];
-};
-
-static const struct best none = {{INT32_MIN, INT32_MIN, INT32_MIN, INT32_MIN}, {0, 0, 0, 0}};
-
-/* Tries a word in its four turns. Words come in rising order, so a later equal does not win. */
-static inline void try_word(struct best *best, const struct turned *turned, unsigned word)
+static inline unsigned choose_cck55(const struct recording *r, int soft, size_t at)
 {
-    int32_t a = 0, b = 0;
+    int32_t i[CCK], q[CCK];
 
-    for (unsigned k = 0; k < CCK; k++) {
-        a += turned->by[cck_words[word][k]][k];
-        b += turned->by[cck_words[word][k] + 1][k];
+    if (!soft)
+        return choose_cck55_hard(r->chips + at);
+    take(r, 1, at, CCK, i, q);
+    const int32_t a[4] = {q[0] + q[2], q[4] - q[6], i[1] - i[3], i[5] + i[7]};
+    const int32_t b[4] = {-i[0] - i[2], i[6] - i[4], q[1] - q[3], q[5] + q[7]};
+    return choose_of_16(a, b);
+}
+
+/* For each turn p: y and x turned back by p, for rows of `len`; the row of p stands at p * len. */
+static inline void join(const int32_t *xa, const int32_t *xb, const int32_t *ya, const int32_t *yb, unsigned len,
+                        int32_t *restrict a, int32_t *restrict b)
+{
+    for (unsigned k = 0; k < len; k++) {
+        a[k] = ya[k] + xa[k];
+        b[k] = yb[k] + xb[k];
+        a[len + k] = ya[k] + xb[k];
+        b[len + k] = yb[k] - xa[k];
+        a[2 * len + k] = ya[k] - xa[k];
+        b[2 * len + k] = yb[k] - xb[k];
+        a[3 * len + k] = ya[k] - xb[k];
+        b[3 * len + k] = yb[k] + xa[k];
     }
-
-    int32_t scores[4] = {a, b, -a, -b};
-    for (unsigned p1 = 0; p1 < 4; p1++)
-        if (scores[p1] > best->score[p1]) {
-            best->score[p1] = scores[p1];
-            best->word[p1] = word;
-        }
 }
 
-static unsigned number_of(const struct best *best)
-{
-    unsigned p1 = 0;
+/* The words in the order in which the rows of all turns stand: p2 + 4 p3 + 16 p4 counts up. */
+#define TURNS_P2(p3, p4) 4 * (p3) + (p4), 16 + 4 * (p3) + (p4), 32 + 4 * (p3) + (p4), 48 + 4 * (p3) + (p4)
+#define TURNS_P3(p4) TURNS_P2(0, p4), TURNS_P2(1, p4), TURNS_P2(2, p4), TURNS_P2(3, p4)
 
-    for (unsigned p = 1; p < 4; p++)
-        if (best->score[p] > best->score[p1])
-            p1 = p;
-    return 64 * p1 + best->word[p1];
-}
+static const int32_t word_at[64] = {TURNS_P3(0), TURNS_P3(1), TURNS_P3(2), TURNS_P3(3)};
 
-/* Tries the 16 words: 4, each in four turns. Inline, as the sums of four known words unroll. */
-static inline unsigned choose_cck55(const int32_t *i, const int32_t *q)
-{
-    struct turned turned = turn(i, q);
-    struct best best = none;
-
-    for (unsigned k = 0; k < 4; k++)
-        try_word(&best, &turned, words_55[k]);
-    return number_of(&best);
-}
-
-/* Tries the 256 words: 64, each in four turns. */
+/* All 256 words, 64 in four turns: chips joined in pairs for each p2, those for each p3, those for
+ * each p4. Chips 3 and 6 have a half turn of their own. */
 static unsigned choose_cck11(const int32_t *i, const int32_t *q)
 {
-    struct turned turned = turn(i, q);
-    struct best best = none;
+    const int32_t minus[4] = {-i[3], -q[3], -i[6], -q[6]};
+    int32_t a2[4][4], b2[4][4], a3[2][16], b3[2][16], a[64], b[64];
+    int32_t best = INT32_MIN;
 
-    for (unsigned word = 0; word < 64; word++)
-        try_word(&best, &turned, word);
-    return number_of(&best);
+    join(i, q, i + 1, q + 1, 1, a2[0], b2[0]);
+    join(i + 2, q + 2, minus, minus + 1, 1, a2[1], b2[1]);
+    join(i + 4, q + 4, i + 5, q + 5, 1, a2[2], b2[2]);
+    join(minus + 2, minus + 3, i + 7, q + 7, 1, a2[3], b2[3]);
+    join(a2[0], b2[0], a2[1], b2[1], 4, a3[0], b3[0]);
+    join(a2[2], b2[2], a2[3], b2[3], 4, a3[1], b3[1]);
+    join(a3[0], b3[0], a3[1], b3[1], 16, a, b);
+    for (unsigned k = 0; k < 64; k++)
+        best = larger(best, key_of(a[k], b[k], word_at[k]));
+    return number_of(best);
 }
 
 /* ---- Reading --------------------------------------------------------------------------------- */
@@ -413,7 +498,7 @@ struct reader {
     unsigned history; /* the last 7 scrambled bits, the last being the highest */
 };
 
-static unsigned unscramble(struct reader *r, unsigned bits, unsigned count)
+static inline unsigned unscramble(struct reader *r, unsigned bits, unsigned count)
 {
     unsigned all = r->history | bits << 7;
 
@@ -421,8 +506,8 @@ static unsigned unscramble(struct reader *r, unsigned bits, unsigned count)
     return (all >> 7 ^ all >> 3 ^ all) & ((1u << count) - 1);
 }
 
-/* Reads the next symbol and answers by how much it has grown. */
-static unsigned grow(struct reader *r, unsigned phase, unsigned chips)
+/* Passes the next symbol and answers by how much it has grown. */
+static inline unsigned grow(struct reader *r, unsigned phase, unsigned chips)
 {
     unsigned growth = (phase - r->phase) & 3;
 
@@ -431,86 +516,111 @@ static unsigned grow(struct reader *r, unsigned phase, unsigned chips)
     return growth;
 }
 
-static unsigned next_barker(const struct reader *r)
+/* Reads `count` bits, at most 8, `each` (1 or 2) a Barker symbol. False at a 1 Mbit/s symbol grown by 1 or 3; the
+ * reader then stands at that symbol. */
+static inline int read_barker(struct reader *r, int soft, unsigned count, unsigned each, uint8_t *octet)
 {
-    int32_t i[BARKER], q[BARKER];
+    uint8_t phases[8];
+    unsigned in = 0;
 
-    take(r->from, r->at, BARKER, i, q);
-    return choose_barker(i, q);
-}
-
-/* Reads `count` bits, `each` (1 or 2) a Barker symbol. False at a 1 Mbit/s symbol grown by 1 or 3;
- * the reader then stands at that symbol. */
-static int read_barker(struct reader *r, uint64_t *bits, unsigned count, unsigned each)
-{
-    *bits = 0;
-    for (unsigned k = 0; k < count; k += each) {
-        unsigned growth = grow(r, next_barker(r), BARKER);
+    choose_barkers(r->from, soft, r->at, count / each, phases);
+    for (unsigned k = 0; k < count / each; k++) {
+        unsigned growth = grow(r, phases[k], BARKER);
 
         if (each == 1 && growth % 2 == 1) {
             r->at -= BARKER;
             return 0;
         }
-        unsigned in = each == 1 ? growth / 2 : bits_of[growth];
-        *bits |= (uint64_t)unscramble(r, in, each) << k;
+        in |= (each == 1 ? growth / 2 : bits_of[growth]) << k * each;
     }
+    *octet = (uint8_t)unscramble(r, in, count);
     return 1;
 }
 
-static unsigned read_55(struct reader *r)
+static inline int read_barkers(struct reader *r, int soft, unsigned each, uint8_t *octets, size_t n)
 {
-    unsigned octet = 0;
-
-    for (unsigned half = 0; half < 2; half++) {
-        int32_t i[CCK], q[CCK];
-        take(r->from, r->at, CCK, i, q);
-        unsigned word = choose_cck55(i, q);
-        unsigned two = bits_of[(grow(r, word / 64, CCK) + 2 * half) & 3];
-        unsigned in = two | (word >> 5 & 1) << 2 | (word >> 1 & 1) << 3;
-        octet |= unscramble(r, in, 4) << 4 * half;
-    }
-    return octet;
+    for (size_t k = 0; k < n; k++)
+        if (!read_barker(r, soft, 8, each, octets + k))
+            return 0;
+    return 1;
 }
 
-static unsigned read_11(struct reader *r, unsigned odd)
+/* A loop for each recorder and rate, so that neither is asked for at each symbol. */
+static int read_octets(struct reader *r, unsigned each, uint8_t *octets, size_t n)
+{
+    if (r->from->i)
+        return each == 1 ? read_barkers(r, 1, 1, octets, n) : read_barkers(r, 1, 2, octets, n);
+    return each == 1 ? read_barkers(r, 0, 1, octets, n) : read_barkers(r, 0, 2, octets, n);
+}
+
+static inline void read_55(struct reader *r, int soft, uint8_t *octets, size_t n)
+{
+    for (size_t k = 0; k < n; k++) {
+        unsigned in = 0;
+        for (unsigned half = 0; half < 2; half++) {
+            unsigned word = choose_cck55(r->from, soft, r->at);
+            unsigned two = bits_of[(grow(r, word / 64, CCK) + 2 * half) & 3];
+            in |= (two | (word >> 5 & 1) << 2 | (word >> 1 & 1) << 3) << 4 * half;
+        }
+        octets[k] = (uint8_t)unscramble(r, in, 8);
+    }
+}
+
+static inline void read_11(struct reader *r, int soft, uint8_t *octets, size_t n)
 {
     int32_t i[CCK], q[CCK];
 
-    take(r->from, r->at, CCK, i, q);
-    unsigned word = choose_cck11(i, q);
-    unsigned two = bits_of[(grow(r, word / 64, CCK) + 2 * odd) & 3];
-    unsigned in = two | (unsigned)direct[word >> 4 & 3] << 2 | (unsigned)direct[word >> 2 & 3] << 4
-                  | (unsigned)direct[word & 3] << 6;
-    return unscramble(r, in, 8);
+    for (size_t k = 0; k < n; k++) {
+        take(r->from, soft, r->at, CCK, i, q);
+        unsigned word = choose_cck11(i, q);
+        unsigned two = bits_of[(grow(r, word / 64, CCK) + 2 * (k & 1)) & 3];
+        unsigned in = two | (unsigned)direct[word >> 4 & 3] << 2
+                      | (unsigned)direct[word >> 2 & 3] << 4 | (unsigned)direct[word & 3] << 6;
+        octets[k] = (uint8_t)unscramble(r, in, 8);
+    }
 }
 
 /* False at a symbol grown by 1 or 3, as read_barker. */
 static int read_payload(struct reader *r, const struct rate *rate, uint8_t *octets, size_t n)
 {
-    for (size_t k = 0; k < n; k++) {
-        uint64_t bits;
+    int soft = r->from->i != NULL;
 
-        if (rate->code == DSSS_RATE_11)
-            bits = read_11(r, k & 1);
-        else if (rate->code == DSSS_RATE_5_5)
-            bits = read_55(r);
-        else if (!read_barker(r, &bits, 8, rate->each))
-            return 0;
-        octets[k] = (uint8_t)bits;
-    }
+    if (rate->symbol == BARKER)
+        return read_octets(r, rate->each, octets, n);
+    if (rate->code == DSSS_RATE_5_5 && soft)
+        read_55(r, 1, octets, n);
+    else if (rate->code == DSSS_RATE_5_5)
+        read_55(r, 0, octets, n);
+    else if (soft)
+        read_11(r, 1, octets, n);
+    else
+        read_11(r, 0, octets, n);
     return 1;
+}
+
+static uint64_t number_of_octets(const uint8_t *octets, size_t n)
+{
+    uint64_t number = 0;
+
+    for (size_t k = 0; k < n; k++)
+        number |= (uint64_t)octets[k] << 8 * k;
+    return number;
 }
 
 /* SYNC is read for its phases and growths only; the first symbol is the reference of the second. */
 static int read_front(struct reader *r, const struct kind *kind, uint64_t *sfd, uint64_t *header)
 {
-    uint64_t sync;
+    uint8_t sync[16], octets[8];
 
-    grow(r, next_barker(r), BARKER);
-    for (unsigned k = 1; k < kind->sync_bits; k++)
-        if (!read_barker(r, &sync, 1, 1))
-            return 0;
-    return read_barker(r, sfd, 16, 1) && read_barker(r, header, 48, kind->header_each);
+    choose_barkers(r->from, r->from->i != NULL, 0, 1, sync);
+    grow(r, sync[0], BARKER);
+    if (!read_barker(r, r->from->i != NULL, 7, 1, sync)
+        || !read_octets(r, 1, sync, kind->sync_bits / 8 - 1) || !read_octets(r, 1, octets, 2)
+        || !read_octets(r, kind->header_each, octets + 2, 6))
+        return 0;
+    *sfd = number_of_octets(octets, 2);
+    *header = number_of_octets(octets + 2, 6);
+    return 1;
 }
 
 static dsss_record refused(uint64_t number, size_t place, uint64_t length)
@@ -622,16 +732,18 @@ uint64_t plain_decide(uint64_t rate, const float *i, size_t i_len, const float *
 {
     const struct recording from = {NULL, i, q, i_len < q_len ? i_len : q_len};
     const struct rate *found = rate_of(rate);
-    int32_t i_counts[BARKER], q_counts[BARKER];
+    int32_t i_counts[CCK], q_counts[CCK];
+    uint8_t phase;
 
     if (!found || from.len < found->symbol)
         return 0;
     if (found->symbol == BARKER) {
-        take(&from, 0, BARKER, i_counts, q_counts);
-        return choose_barker(i_counts, q_counts);
+        choose_barkers(&from, 1, 0, 1, &phase);
+        return phase;
     }
-    take(&from, 0, CCK, i_counts, q_counts);
-    return rate == DSSS_RATE_5_5 ? choose_cck55(i_counts, q_counts)
-                                 : choose_cck11(i_counts, q_counts);
+    if (rate == DSSS_RATE_5_5)
+        return choose_cck55(&from, 1, 0);
+    take(&from, 1, 0, CCK, i_counts, q_counts);
+    return choose_cck11(i_counts, q_counts);
 }
 #endif

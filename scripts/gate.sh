@@ -8,7 +8,7 @@ cd "$(dirname "$0")/.."
 stage() { printf '\n== %s (%s s)\n' "$1" "$SECONDS"; }
 
 stage 'packages'
-scripts/packages.sh
+scripts/packages.sh test
 
 stage 'layout and text of the tree'
 rt fmt --check
@@ -39,6 +39,15 @@ make --no-print-directory faults
 stage 'second program, over rows between guards'
 make --no-print-directory target/c/bridge target/peer/peer
 target/peer/peer -- scripts/x86run target/c/bridge
+
+stage 'second program, over rows that end where memory ends'
+target/peer/peer --brief --family \
+    empty_rows,write_short_payloads,write_edges,read_rooms,read_long_payloads,cut_recordings,unusable_octets,\
+unusable_values,long_payloads,long_unusable,long_cuts,long_rooms \
+    -- scripts/x86run target/c/bridge pages
+
+stage 'wrong versions of plain C'
+make --no-print-directory wrong
 
 stage 'all passed'
 printf '%s\n' "$verdict"

@@ -1,37 +1,56 @@
 #!/bin/sh
-# packages.sh: installs the Debian packages that the tests, the demo and the benchmarks need.
+# packages.sh demo|test: installs the Debian packages that the demo, or all tests and benchmarks, need.
 #
-# Looks for each tool first; if all are there it installs nothing, uses no network and is done at
-# once. The Rattle kit (rt) is no package and is only looked for.
+# Looks for each tool first; if all are there it installs nothing, uses no network and is done at once. Before it installs
+# anything it says which packages and why. With DSSS_NO_PACKAGES set it only says so and fails. The Rattle kit (rt) is no
+# package and is only looked for.
 set -eu
 
+purpose=${1:-}
+case $purpose in
+demo | test) ;;
+*)
+    echo 'usage: packages.sh demo|test' >&2
+    exit 2
+    ;;
+esac
+
 packages=
-want() { # want PACKAGE: one that is missing
-    case " $packages " in *" $1 "*) ;; *) packages="$packages $1" ;; esac
+want() { # want PACKAGE WHY: one that is missing
+    case " $packages " in
+    *" $1 "*) ;;
+    *)
+        packages="$packages $1"
+        echo "packages.sh: $1 is missing: $2"
+        ;;
+    esac
 }
-tool() { # tool COMMAND PACKAGE
-    command -v "$1" >/dev/null 2>&1 || want "$2"
+tool() { # tool COMMAND PACKAGE WHY
+    command -v "$1" >/dev/null 2>&1 || want "$2" "$3"
 }
 
-tool cc gcc
-tool c++ g++
-tool make make
-tool python3 python3
-tool cargo cargo
-tool rustc rustc
-[ -f /usr/include/stdio.h ] || want libc6-dev
+[ -f /usr/include/stdio.h ] || want libc6-dev 'the headers of the C library, for every C program here'
 if [ "$(uname -m)" = x86_64 ]; then
-    tool valgrind valgrind
+    tool cc gcc 'compiles the C programs'
 else
-    tool clang clang # gcc here builds for this processor only
+    tool clang clang 'compiles the C programs for x86-64 on this processor'
+fi
+if [ "$purpose" = test ]; then
+    tool cc gcc 'compiles the C programs that run on this processor: tests of the header and of the tests'
+    tool c++ g++ 'holds the header to C++'
+    tool make make 'runs the targets'
+    tool python3 python3 'runs the scripts that hold the tree, the header and the vectors to the source'
+    tool rustc rustc 'compiles the second program'
+    tool pkg-config pkg-config 'tries the installed pkg-config file'
+    [ "$(uname -m)" != x86_64 ] || tool valgrind valgrind 'runs the library under fault, and counts instructions'
 fi
 
 command -v rt >/dev/null 2>&1 ||
     echo "packages.sh: rt is not on PATH: install the Rattle kit, which no package has" >&2
 [ -n "$packages" ] || exit 0
 
-if ! command -v apt-get >/dev/null 2>&1; then
-    echo "packages.sh: no apt-get here; install what Debian calls:$packages" >&2
+if [ -n "${DSSS_NO_PACKAGES:-}" ] || ! command -v apt-get >/dev/null 2>&1; then
+    echo "packages.sh: install what Debian calls:$packages" >&2
     exit 1
 fi
 as_root=

@@ -12,7 +12,9 @@
  * The lent buffer holds 0xAA before the call. A row of length 0 is passed as NULL; any other stands
  * between guard octets, octets at odd addresses and floats at multiples of 4 that are none of 16.
  * Called as `bridge pages`, each row ends where memory ends instead: a read past it kills the
- * bridge, on every processor.
+ * bridge, on every processor. Called as `bridge exact`, each row is memory of just its size and the
+ * lent buffer is not set before the call: for valgrind, which then sees every touch beside a row, what
+ * a call makes of the buffer's old contents, and every octet that it leaves unwritten.
  *
  * Answers are flushed when no further input is at hand, so requests may be sent ahead of answers.
  * Status 0 at an end of input between requests; else 1 and a message on stderr. */
@@ -27,7 +29,7 @@
 
 enum { GUARD = 64, GUARD_OCTET = 0x5C, OLD_OCTET = 0xAA };
 
-static int pages; /* rows end where memory ends */
+static enum { GUARDS, PAGES, EXACT } rows; /* how rows are laid */
 
 static void die(const char *message)
 {
@@ -97,11 +99,11 @@ static void find_memory(struct row *row, size_t before, size_t len)
 {
     size_t page = (size_t)sysconf(_SC_PAGESIZE);
 
-    row->from = before;
-    row->to = before + len;
-    row->size = row->to + (pages ? 0 : GUARD);
-    if (!pages) {
-        row->memory = malloc(row->size);
+    row->from = rows == EXACT ? 0 : before;
+    row->to = row->from + len;
+    row->size = row->to + (rows == GUARDS ? GUARD : 0);
+    if (rows != PAGES) {
+        row->memory = malloc(row->size > 0 ? row->size : 1);
         return;
     }
     size_t span = (row->size + page - 1) / page * page;
@@ -121,9 +123,11 @@ static struct row make_row(uint64_t count, size_t width, int lent)
         die("a row is too long");
     row.lent = lent;
     find_memory(&row, width == 1 ? GUARD + 1 : GUARD + 4, (size_t)count * width);
-    row.copy = malloc(row.size);
+    row.copy = malloc(row.size > 0 ? row.size : 1);
     if (!row.memory || !row.copy)
         die("no memory for a row");
+    if (rows == EXACT)
+        return row;
     memset(row.memory, GUARD_OCTET, row.size);
     memset(row.memory + row.from, OLD_OCTET, row.to - row.from);
     return row;
@@ -158,7 +162,7 @@ static uint64_t end_row(struct row *row)
     int changed = memcmp(row->memory, row->copy, from) != 0
                   || memcmp(row->memory + to, row->copy + to, row->size - to) != 0;
 
-    if (pages)
+    if (rows == PAGES)
         munmap(row->memory + row->size + (size_t)sysconf(_SC_PAGESIZE) - row->held, row->held);
     else
         free(row->memory);
@@ -219,9 +223,10 @@ static void call_read_soft(void)
 
 int main(int argc, char **argv)
 {
-    if (argc > 2 || (argc == 2 && strcmp(argv[1], "pages") != 0))
-        die("usage: bridge [pages]");
-    pages = argc == 2;
+    if (argc > 2 || (argc == 2 && strcmp(argv[1], "pages") != 0 && strcmp(argv[1], "exact") != 0))
+        die("usage: bridge [pages | exact]");
+    if (argc == 2)
+        rows = strcmp(argv[1], "pages") == 0 ? PAGES : EXACT;
     while (input_at < input_end || more()) {
         switch (get_number()) {
         case 1:

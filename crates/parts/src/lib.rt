@@ -39,5 +39,5 @@ pub extern "C" fn parts_decide(rate: u64, i: &[f32], q: &[f32]) -> u64
     if recorders::chip_count(Recorder::Soft, row, i, q) < r.symbol_chips() {
         return 0;
     }
-    recorders::decide(Recorder::Soft, row, i, q, r, 0) as u64
+    recorders::decide_one(Recorder::Soft, row, i, q, r, 0) as u64
 }

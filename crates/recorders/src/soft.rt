@@ -1,29 +1,38 @@
 // A soft recording: two rows of f32, I and Q, as far as both go.
 ghost use mathlib.Core.Path.{_≡_};
+ghost use mathlib.Core.Bool.{true, not};
 ghost use mathlib.Core.List.{map};
-ghost use Prim.Native.Nat.{_+_, _-_, _≤_};
-ghost use lib.ListN.{length, take, drop};
-ghost use Rattle.chips.specs.Chips.{takenCounts, countsOf, softRecording};
-ghost use Rattle.frame.specs.Reading.{firstUnusable};
-ghost use Rattle.recorders.specs.Rows.{whereFound};
-use super::Found;
+ghost use Prim.Native.Nat.{_+_, _<_, _≤_};
+ghost use lib.ListN.{length, getD, take, drop};
+ghost use Rattle.chips.specs.Chips.{unusable, isUnusable, takenCounts, countsOf, softRecording};
+ghost use Rattle.recorders.specs.Rows.{AllUsable};
 use chips::Chip;
 use chips::Sample;
 
-pub fn first_unusable(i: &[f32], q: &[f32], from: usize, to: usize) -> Found
-    requires { ⌜ (to ≤ length (now i)) × (to ≤ length (now q)) ⌝ }
-    ensures answer { λ r. ⌜ whereFound r ≡
-        firstUnusable from (take (to - from) (drop from (softRecording (now (i .entry)) (now (q .entry))))) ⌝ }
+// Whether the chip at a place is usable.
+pub fn usable_at(i: &[f32], q: &[f32], at: usize) -> bool
+    requires { ⌜ (at < length (now i)) × (at < length (now q)) ⌝ }
+    ensures answer { λ r. ⌜ r ≡
+        not (isUnusable (getD (softRecording (now (i .entry)) (now (q .entry))) at unusable)) ⌝ }
 {
-    let mut at = from;
-    while at < to {
-        let s = Sample { i: i[at], q: q[at] };
-        if !chips::usable_sample(s) {
-            return Found::At(at);
-        }
-        at += 1;
+    let s = Sample { i: i[at], q: q[at] };
+    chips::usable_sample(s)
+}
+
+// Whether 64 chips from a place are usable: a test for skipping them, so only its yes says something.
+pub fn clean(i: &[f32], q: &[f32], at: usize) -> bool
+    requires { ⌜ (at + 64 ≤ length (now i)) × (at + 64 ≤ length (now q)) ⌝ }
+    ensures answer { λ r. ⌜ (r ≡ true → AllUsable (softRecording (now (i .entry)) (now (q .entry))) at 64) ⌝ }
+{
+    let mut ok = true;
+    for k in 0..64 {
+        let s = Sample {
+            i: i[at + k],
+            q: q[at + k],
+        };
+        ok = ok & chips::usable_sample(s);
     }
-    Found::Nothing
+    ok
 }
 
 pub fn eight(i: &[f32], q: &[f32], at: usize) -> [Chip; 8]

@@ -14,11 +14,6 @@ unfoldable pub preambleOctets : Kind → List ℕ
 preambleOctets Long = replicate 16 255 ++ 0xA0 ∷ 0xF3 ∷ []
 preambleOctets Short = replicate 7 0 ++ 0xCF ∷ 0x05 ∷ []
 
--- the preamble's chips, counted
-abbrev pub preambleChips : Kind → ℕ
-preambleChips Long = 1584
-preambleChips Short = 792
-
 -- before the first bit: the scrambler's start, and an eighth output that nothing depends on
 unfoldable pub firstState : Kind → ℕ → State
 firstState k p = record { past = start k ++ 0 ∷ []; phase = p }

@@ -3,7 +3,7 @@
 //! Requests go ahead of the answers in batches. A batch is handed to the comparing side before it is written, and the
 //! next is handed over only when it is written whole, so neither side waits for the other in a circle.
 
-use crate::calls::Call;
+use crate::calls::{Call, Part};
 use crate::families::{Family, Out};
 use crate::figures::Figures;
 use std::collections::BTreeMap;
@@ -42,8 +42,8 @@ pub struct Bridge {
 pub struct Outcome {
     pub calls: u64,
     pub mismatches: u64,
-    /// How often each number was expected of each op.
-    pub met: BTreeMap<(&'static str, u64), u64>,
+    /// How often each number was expected of each op and part.
+    pub met: BTreeMap<(&'static str, Part, u64), u64>,
 }
 
 impl Outcome {
@@ -53,6 +53,15 @@ impl Outcome {
         for (key, count) in &other.met {
             *self.met.entry(*key).or_default() += count;
         }
+    }
+
+    /// The calls that answer the number met most often, whatever the op and the part.
+    pub fn most_of_a_number(&self) -> u64 {
+        let mut by_number = BTreeMap::<u64, u64>::new();
+        for ((_, _, number), count) in &self.met {
+            *by_number.entry(*number).or_default() += count;
+        }
+        by_number.into_values().max().unwrap_or(0)
     }
 }
 
@@ -84,7 +93,7 @@ impl Bridge {
         thread::scope(|scope| {
             scope.spawn(move || send_family(family, figures, run, requests, sender));
             for (case, call) in batches.into_iter().flatten() {
-                let expected = call.expected();
+                let (expected, part) = call.expected();
                 let (answer, guarded) = match call.answer(answers) {
                     Ok(answered) => answered,
                     Err(error) => {
@@ -106,7 +115,7 @@ impl Bridge {
                 }
                 outcome.calls += 1;
                 outcome.mismatches += u64::from(!equal);
-                *outcome.met.entry((call.op(), expected.numbers[0])).or_default() += 1;
+                *outcome.met.entry((call.op(), part, expected.numbers[0])).or_default() += 1;
             }
             Ok(outcome)
         })

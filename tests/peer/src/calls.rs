@@ -2,6 +2,7 @@
 
 use crate::chips::Recording;
 use crate::reading::read;
+use crate::refusals::CHIP_BUFFER;
 use crate::writing::write;
 use std::fmt::Write as _;
 use std::io::{self, Read};
@@ -18,6 +19,27 @@ pub enum Call {
 pub struct Answer {
     pub numbers: Vec<u64>,
     pub buffer: Vec<u8>,
+}
+
+/// Where a call's answer is settled. Payloads of more than 300 octets, and places from 65,536 on, count apart: what
+/// goes wrong there only is not seen in short frames.
+#[derive(Clone, Copy, PartialEq, Eq, PartialOrd, Ord)]
+pub enum Part {
+    Front,
+    Payload,
+    LongPayload,
+    FarPlace,
+}
+
+impl Part {
+    fn of(told: u64, place: u64) -> Part {
+        match (told, place) {
+            (0, _) => Part::Front,
+            (_, 65_536..) => Part::FarPlace,
+            (301.., _) => Part::LongPayload,
+            _ => Part::Payload,
+        }
+    }
 }
 
 impl Call {
@@ -88,18 +110,20 @@ impl Call {
         Ok((Answer { numbers, buffer }, u64::from_le_bytes(number) == 0))
     }
 
-    /// The answer that the document gives. The buffer starts with other contents than any call leaves.
-    pub fn expected(&self) -> Answer {
+    /// The answer that the document gives, and its part; a write's goes by its payload's length. The buffer starts
+    /// with other contents than any call leaves.
+    pub fn expected(&self) -> (Answer, Part) {
         let mut buffer = vec![0x77; self.buffer_len()];
-        let numbers = match self {
+        let (numbers, part) = match self {
             Call::Write { kind, rate, phase, payload, .. } => {
                 let written = write(*kind, *rate, *phase, payload, &mut buffer);
-                vec![written.number, written.chips]
+                let told = if [0, CHIP_BUFFER].contains(&written.number) { payload.len() as u64 } else { 0 };
+                (vec![written.number, written.chips], Part::of(told, 0))
             }
             Call::ReadHard { kind, chips, .. } => record(read(*kind, Recording::Hard(chips), &mut buffer)),
             Call::ReadSoft { kind, i, q, .. } => record(read(*kind, Recording::Soft(i, q), &mut buffer)),
         };
-        Answer { numbers, buffer }
+        (Answer { numbers, buffer }, part)
     }
 
     /// The call with all its numbers and its rows in hex, each row cut after so many octets.
@@ -150,8 +174,9 @@ impl Call {
     }
 }
 
-fn record(read: crate::reading::Read) -> Vec<u64> {
-    vec![read.number, read.place, read.rate, read.length, read.n, read.used]
+fn record(read: crate::reading::Read) -> (Vec<u64>, Part) {
+    let part = Part::of(read.told, read.place);
+    (vec![read.number, read.place, read.rate, read.length, read.n, read.used], part)
 }
 
 fn hex(octets: &[u8], cut: usize) -> String {

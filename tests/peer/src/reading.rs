@@ -14,6 +14,8 @@ pub struct Read {
     pub length: u64,
     pub n: u64,
     pub used: u64,
+    /// The n of a good header, in refusals of the payload too; no member of the answer's record.
+    pub told: u64,
 }
 
 impl Read {
@@ -81,9 +83,9 @@ fn read_front(kind: u64, recording: Recording) -> Result<Front, Read> {
     Ok(Front { kind, header, scrambled, phase })
 }
 
-/// 13, 14, 15, 16, 17, then 9 and 10 over the payload. LENGTH is added by the caller.
+/// 13, 14, 15, then the payload. LENGTH is added by the caller.
 fn read_payload(front: Front, recording: Recording, octets: &mut [u8]) -> Result<Read, Read> {
-    let Front { kind, header, mut scrambled, mut phase } = front;
+    let Front { kind, header, .. } = front;
     let rate = match Rate::of_code(u64::from(header.signal)) {
         Some(rate) if kind.has(rate) => rate,
         _ => return Err(Read::refused(refusals::SIGNAL)),
@@ -97,6 +99,12 @@ fn read_payload(front: Front, recording: Recording, octets: &mut [u8]) -> Result
         return Err(Read::refused(refusals::LENGTH));
     }
     let n = n as usize;
+    payload_of(front, rate, n, recording, octets).map_err(|refused| Read { told: n as u64, ..refused })
+}
+
+/// 16, 17, then 9 and 10 over the payload of a header that is known to be good.
+fn payload_of(front: Front, rate: Rate, n: usize, recording: Recording, octets: &mut [u8]) -> Result<Read, Read> {
+    let Front { kind, header, mut scrambled, mut phase } = front;
     let used = kind.front_chips() + rate.payload_chips(n);
     if recording.chips() < used {
         return Err(Read::refused(refusals::ENDS));
@@ -113,7 +121,7 @@ fn read_payload(front: Front, recording: Recording, octets: &mut [u8]) -> Result
         *octet = number_of(octet_bits) as u8;
     }
     let (rate, length) = (u64::from(rate.code()), u64::from(header.length));
-    Ok(Read { number: 0, place: 0, rate, length, n: n as u64, used: used as u64 })
+    Ok(Read { number: 0, place: 0, rate, length, n: n as u64, used: used as u64, told: n as u64 })
 }
 
 /// 9: the counts of a part's chips, or the place of its first unusable chip.

@@ -1,9 +1,8 @@
 -- `writer::put_frame` meets its contract: the payload's chips go over the part behind the front's, and the rest is
 -- filled. Assumes nothing.
-use mathlib.Core.Path.{_≡_, refl, sym, ap, ap₂, _∙_}
+use mathlib.Core.Path.{_≡_, sym, ap, ap₂, _∙_}
 use mathlib.Core.List.{List, _++_}
-use Prim.Native.Nat.{ℕ, _+_, _-_, _*_, _≤_}
-use native.Mathlib.Omega.{arith}
+use Prim.Native.Nat.{ℕ, _+_, _-_, _≤_}
 use lib.ListN.{length, take, drop, replicate, length-append}
 use borrow.Author.Needs.{needs}
 use borrow.Rule.Slice.PartMut.{putMid}
@@ -12,7 +11,7 @@ use Rattle.base.proofs.Over.{over-next, over-filled}
 use Rattle.rates.specs.declared.Rate.{Rate}
 use Rattle.bits.specs.Bits.{octetBits}
 use Rattle.frame.specs.declared.Kind.{Kind}
-use Rattle.frame.specs.Frame.{frontChips, frameChips, headerBits, frame}
+use Rattle.frame.specs.Frame.{frontChips, frameChips, sentHeader, frame}
 use Rattle.sender.specs.Sending.{State, run}
 use Rattle.sender.proofs.Run.{length-run}
 use Rattle.writer.specs.Parts.{frontSent, afterFront}
@@ -20,7 +19,7 @@ use Rattle.writer.proofs.Fusion.{frame-parts, length-front}
 use Rattle.writer.proofs.put_frame.Statement.{statement}
 use Rattle.writer.proofs.put_frame.Tie as tie
 
-all : (k : Kind) (r : Rate) (p b e : ℕ) (h xs d o y z : List ℕ) (s : State) → octetBits h ≡ headerBits r (length xs)
+all : (k : Kind) (r : Rate) (p b e : ℕ) (h xs d o y z : List ℕ) (s : State) → octetBits h ≡ sentHeader r (length xs)
     → length h ≡ 6
     → s ≡ afterFront k p h → o ≡ over (frontSent k p h) d → b ≡ frontChips k
     → y ≡ over (run r 0 s xs) (take (length o - b) (drop b o)) → e ≡ frameChips k r (length xs) → e ≤ length d

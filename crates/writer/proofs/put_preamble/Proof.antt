@@ -7,7 +7,8 @@ use Rattle.base.specs.Over.{over}
 use Rattle.rates.specs.declared.Rate.the-variants.{One}
 use Rattle.frame.specs.declared.Kind.{Kind}
 use Rattle.sender.specs.Sending.{State, run, ran}
-use Rattle.writer.specs.Parts.{preambleOctets, preambleChips}
+use Rattle.frame.specs.Frame.{preambleChips}
+use Rattle.writer.specs.Parts.{preambleOctets}
 use Rattle.writer.proofs.put_preamble.Statement.{statement}
 use Rattle.writer.proofs.put_preamble.Tie as tie
 

@@ -32,8 +32,9 @@ pub fn every_signal_and_service(out: &mut Out) {
         for service in 0..=255 {
             let rate = Rate::of_code(u64::from(signal)).unwrap_or(out.random.pick(&Rate::ALL));
             for kind in Kind::BOTH {
-                let all_of_kind = kind == Kind::Short || out.long || signals_of_rates.contains(&signal);
-                if all_of_kind || service % 64 == 0 {
+                // Of a SIGNAL that is no rate one SERVICE in so many: it isn't looked at.
+                let every = if kind == Kind::Short { 4 } else { 32 };
+                if out.long || signals_of_rates.contains(&signal) || service % every == signal % every {
                     let header = Header { signal, service, length: some_length(rate, &mut out.random) };
                     let call = front_call(kind, header, &mut out.random);
                     out.call(call);

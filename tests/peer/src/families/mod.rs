@@ -12,6 +12,7 @@
 
 mod damage;
 mod headers;
+mod long;
 mod published;
 mod refused;
 mod restored;
@@ -50,7 +51,7 @@ families! {
     302 restored::read_long_payloads: "hard and soft recordings of 1,023 to 1,026 and 4,095 octets",
     303 restored::read_rooms: "octet buffers shorter than n, exact and longer",
     304 restored::chips_after_the_frame: "anything after the frame, unusable chips too",
-    401 headers::every_signal_and_service: "each SIGNAL with each SERVICE, many LENGTH, right CRC",
+    401 headers::every_signal_and_service: "each SIGNAL, each SERVICE, all of both in the longer run, right CRC",
     402 headers::every_length: "LENGTH and bit 7 that no n has, and those around the longest payload",
     403 headers::headers_with_payload: "right CRC and chips behind it, LENGTH near the payload's",
     404 headers::sfd_and_crc: "SFD and CRC with bits changed, turned round, of the other kind",
@@ -74,6 +75,13 @@ families! {
     704 soft::exactly_eight: "8 and its neighbours, scores at both ends of their range",
     705 soft::unusable_values: "NaN, infinities and values above 8 at every place",
     706 soft::soft_damage: "soft chips turned, faded and lost",
+    801 long::long_payloads: "65 to 4,094 octets, hard and soft, anything after the frame",
+    802 long::long_unusable: "unusable chips at edges of symbols and blocks, first, last and any, up to 4,095 octets",
+    803 long::long_growths: "payload symbols turned at edges of blocks, first, last and past chip 65,536",
+    804 long::long_cuts: "long recordings that end inside the payload",
+    805 long::long_rooms: "octet buffers shorter than a long payload",
+    806 long::block_edges: "one symbol damaged at an edge of a block of symbols or octets",
+    807 long::long_damage: "damage and noise over payloads of 301 to 1,100 octets",
 }
 
 /// Where a family puts its calls.

@@ -54,8 +54,7 @@ pub fn write_every_n(out: &mut Out) {
             _ => 311,
         };
         for n in (1..=4095).step_by(step) {
-            let (phase, octet) = (out.random.phase(), out.random.below(256) as u8);
-            let payload = (0..n).map(|k| octet.wrapping_add((k * k / 8) as u8)).collect();
+            let (phase, payload) = (out.random.phase(), out.random.octets(n));
             out.call(good_write(kind, rate, phase, payload, 0));
         }
     }

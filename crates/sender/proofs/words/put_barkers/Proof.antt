@@ -1,7 +1,7 @@
 -- `sender::words::put_barkers` meets its contract. The invariant: the words of the first i phases are written.
 -- Assumes nothing.
-use mathlib.Core.Path.{_≡_, refl, sym, ap, _∙_}
-use mathlib.Core.List.{List, [], _∷_, _++_}
+use mathlib.Core.Path.{_≡_, sym, ap, _∙_}
+use mathlib.Core.List.{List, _++_}
 use Prim.Native.Nat.{ℕ, _+_, _*_, _≤_, _<_, _-_}
 use native.Mathlib.Numerals.{add-one}
 use native.Mathlib.Omega.{arith}
@@ -10,7 +10,6 @@ use lib.Seq.{take-length, take-suc}
 use borrow.Rule.Slice.PartMut.{putMid, same-len-mid}
 use borrow.Author.Needs.{needs}
 use Rattle.base.specs.Over.{over}
-use Rattle.base.specs.Tables.{tabulate}
 use Rattle.base.proofs.Over.{over-next}
 use Rattle.symbols.specs.Words.{barkerWord}
 use Rattle.sender.specs.Line.{barkerWords}
