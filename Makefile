@@ -1,13 +1,19 @@
-# The two commands are `make demo` and `make test`. Both install what is missing of Debian's packages, once; with
-# them there, neither uses the network. The Rattle kit's command `rt` must be on PATH.
+# The two commands are `make demo` and `make test`. Before either installs a Debian package that is missing, it says
+# which and why; with all there, neither uses the network. The Rattle kit's command `rt` must be on PATH.
 
 LIB := target/staticlib/libdsss.a
 PARTS := target/staticlib/libparts.a
 OUT := target/c
 STRICT := -std=c99 -Wall -Wextra -Wpedantic -Werror -Iinclude
 PREFIX ?= /usr/local
+INCLUDEDIR ?= $(PREFIX)/include
+LIBDIR ?= $(PREFIX)/lib
+export PREFIX INCLUDEDIR LIBDIR DESTDIR
 
-.PHONY: demo test compare wrong bench crc faults install packages
+# All that is proved: a touched proof is proved again.
+PROVED := crates.txt $(shell find crates -name '*.rt' -o -name '*.antt')
+
+.PHONY: demo test compare wrong bench instructions crc faults install uninstall packages demo-packages
 .SILENT:
 
 # The host: captions written at every kind and rate, one spoilt, one cut short.
@@ -31,6 +37,11 @@ wrong: target/peer/peer
 # Our library beside plain C, in one run; BENCH_MS is the milliseconds of one measurement.
 bench: $(OUT)/bench
 	scripts/x86run $(OUT)/bench $(BENCH_MS)
+	scripts/instructions.sh
+
+# Instructions a chip alone; scripts/instructions.sh takes one call, rate or length.
+instructions: $(LIB) | packages
+	scripts/instructions.sh
 
 # The CRC's published figures, by the CRC of Python's library.
 crc: packages
@@ -40,35 +51,36 @@ crc: packages
 faults: $(OUT)/host target/peer/peer
 	scripts/faults.sh
 
+# Header, archive and pkg-config file, to PREFIX, or INCLUDEDIR and LIBDIR, under DESTDIR.
 install: $(LIB)
-	install -d $(DESTDIR)$(PREFIX)/include $(DESTDIR)$(PREFIX)/lib/pkgconfig
-	install -m 644 include/dsss.h $(DESTDIR)$(PREFIX)/include/dsss.h
-	install -m 644 $(LIB) $(DESTDIR)$(PREFIX)/lib/libdsss.a
-	sed -e 's|@PREFIX@|$(abspath $(PREFIX))|' \
-	    -e "s|@VERSION@|$$(sed -n 's/^#define DSSS_VERSION //p' include/dsss.h)|" \
-	    include/dsss.pc.in > $(DESTDIR)$(PREFIX)/lib/pkgconfig/dsss.pc
+	scripts/install.sh install
+
+uninstall:
+	scripts/install.sh uninstall
 
 packages:
 	scripts/packages.sh test
 
-$(LIB): $(wildcard crates/*/src/*.rt crates/*/specs/*.antt) crates.txt | packages
-	mkdir -p target
-	echo 'proving and building the library: a few minutes where nothing of it is proved yet'
-	rt staticlib dsss > target/staticlib.log 2>&1 || { cat target/staticlib.log; exit 1; }
+demo-packages:
+	scripts/packages.sh demo
 
-$(PARTS): $(wildcard crates/*/src/*.rt crates/*/specs/*.antt) crates.txt | packages
-	mkdir -p target
-	rt staticlib parts > target/parts.log 2>&1 || { cat target/parts.log; exit 1; }
+$(LIB): $(PROVED)
+	scripts/staticlib.sh dsss
+	touch $@
 
-$(OUT)/host: examples/host/host.c include/dsss.h $(LIB)
+$(PARTS): $(PROVED)
+	scripts/staticlib.sh parts
+	touch $@
+
+$(OUT)/host: examples/host/host.c include/dsss.h $(LIB) | demo-packages
 	mkdir -p $(OUT)
 	scripts/x86cc $@ examples/host/host.c $(LIB) -- $(STRICT)
 
-$(OUT)/bridge: tests/bridge/bridge.c include/dsss.h $(LIB)
+$(OUT)/bridge: tests/bridge/bridge.c include/dsss.h $(LIB) | packages
 	mkdir -p $(OUT)
 	scripts/x86cc $@ tests/bridge/bridge.c $(LIB) -- $(STRICT)
 
-$(OUT)/bench: bench/bench.c bench/plain.c bench/plain.h bench/parts.h include/dsss.h $(LIB) $(PARTS)
+$(OUT)/bench: bench/bench.c bench/plain.c bench/plain.h bench/parts.h include/dsss.h $(LIB) $(PARTS) | packages
 	mkdir -p $(OUT)
 	scripts/x86cc $@ bench/bench.c bench/plain.c $(LIB) $(PARTS) -- $(STRICT) -O3
 

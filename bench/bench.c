@@ -1,6 +1,6 @@
 /* bench.c: how long the library takes beside plain C, in one run.
  *
- *   bench [milliseconds]     the least time of one measurement, 100 if not given
+ *   bench [milliseconds]     the least time of one measurement, 20 if not given
  *
  * Each call is first made once by both, and the answers and buffers must agree. The count of calls
  * is then doubled until one measurement lasts long enough; the time shown is the median of five,
@@ -49,7 +49,7 @@ static float i_row[DSSS_CHIPS_MAX], q_row[DSSS_CHIPS_MAX];
 static uint64_t kind, rate;
 static size_t payload_len, chips_len;
 
-static double limit = 0.1; /* seconds */
+static double limit = 0.02; /* seconds */
 static int emulated;
 static volatile uint64_t sink; /* keeps what is computed from being dropped */
 
@@ -190,7 +190,7 @@ static void head(void)
 {
     struct utsname system;
 
-    printf("dsss (version %d) beside plain C\n", DSSS_VERSION);
+    printf("dsss (version %d.%d.%d) beside plain C\n", DSSS_VERSION_MAJOR, DSSS_VERSION_MINOR, DSSS_VERSION_PATCH);
     printf("processor time, median of %d, at least %.0f ms each\n", ROUNDS, limit * 1000);
     printf("machine %s, compiler of plain C %s\n", uname(&system) < 0 ? "?" : system.machine,
            __VERSION__);
@@ -229,30 +229,30 @@ static void all_calls(void)
             }
 }
 
-/* The time of each octet more than the first line's stays as it is if the cost is linear. */
-static void growth(void)
+/* Whole calls by n. The time of each octet more than the line before has stays the same if the cost is
+ * linear. */
+static void by_octets(void)
 {
-    static const size_t sizes[] = {100, 400, 1600, DSSS_PAYLOAD_MAX};
-    double ns[2], first[2] = {0, 0};
+    static const size_t sizes[] = {1, 10, 100, 1000, DSSS_PAYLOAD_MAX};
+    double ns[2] = {0, 0}, last;
 
-    printf("\nwrite, long, from 100 to 4,095 octets; more: ns for each octet above 100\n");
-    printf("%4s  %6s  %7s  %12s  %12s  %6s  %10s  %10s\n", "rate", "octets", "chips", "dsss ns",
-           "plain ns", "ratio", "dsss more", "plain more");
-    for (size_t r = 0; r < 4; r++)
-        for (size_t s = 0; s < sizeof sizes / sizeof sizes[0]; s++) {
-            set_up(DSSS_LONG, rates[r].code, sizes[s]);
-            agree();
-            measure(write_task, ns);
-            printf("%4s  %6zu  %7zu  %12.0f  %12.0f  %6.2f", rates[r].name, payload_len, chips_len,
-                   ns[0], ns[1], ns[0] / ns[1]);
-            if (s == 0)
-                memcpy(first, ns, sizeof first);
-            else
-                printf("  %10.2f  %10.2f", (ns[0] - first[0]) / (double)(sizes[s] - sizes[0]),
-                       (ns[1] - first[1]) / (double)(sizes[s] - sizes[0]));
-            printf("\n");
-            fflush(stdout);
-        }
+    printf("\nwhole calls by octets, long; more: ns of dsss for each octet more than in the line before\n");
+    printf("%-9s  %4s  %6s  %7s  %12s  %12s  %6s  %8s\n", "call", "rate", "octets", "chips", "dsss ns", "plain ns",
+           "ratio", "more");
+    for (size_t t = 0; t < 3; t++)
+        for (size_t r = 0; r < 4; r++)
+            for (size_t s = 0; s < sizeof sizes / sizeof sizes[0]; s++) {
+                last = ns[0];
+                set_up(DSSS_LONG, rates[r].code, sizes[s]);
+                agree();
+                measure(tasks[t].task, ns);
+                printf("%-9s  %4s  %6zu  %7zu  %12.0f  %12.0f  %6.2f", tasks[t].name, rates[r].name, payload_len,
+                       chips_len, ns[0], ns[1], ns[0] / ns[1]);
+                if (s > 0)
+                    printf("  %8.2f", (ns[0] - last) / (double)(sizes[s] - sizes[s - 1]));
+                printf("\n");
+                fflush(stdout);
+            }
 }
 
 /* ---- Parts of reading, to see where a reader's time goes ------------------------------------- */
@@ -338,7 +338,7 @@ int main(int argc, char **argv)
         payload[k] = (uint8_t)noise();
     head();
     all_calls();
-    growth();
+    by_octets();
     parts();
     return 0;
 }

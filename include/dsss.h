@@ -17,6 +17,10 @@
  * Numbers   Numbers are 64 bits wide and compared whole: a kind of 2^32 is refused, not cut to 0.
  * Answers   An answer is a record by value. Its number is 0 if the call did its work, or the number
  *           of the refusal. Where several refusals hold, the first in the call's order is given.
+ *           NUMBER 0 OF A READ IS NOT "THE OCTETS ARE THOSE SENT". It says that a frame with a good
+ *           header was there, whole, and what its chips were decided as. Only the header has a check
+ *           here; the payload's own check sequence is the MAC's, stands in the payload's last octets
+ *           and is not looked at. One spoiled symbol can give number 0 and other octets: check them.
  * Fills     What a lent row held before does not matter. Each call writes every element of it,
  *           refused or not: a chip buffer is 4s but for the frame, an octet buffer is 0s but for
  *           the payload. A refused call leaves nothing else, so nothing old can be shown.
@@ -32,8 +36,13 @@
 extern "C" {
 #endif
 
-/* Raised when a record or a call changes. A program built with another version is built anew. */
-#define DSSS_VERSION 1
+/* The version, in three parts. MAJOR rises when a record or a call changes, MINOR when something is
+ * added, PATCH when neither. A call whose record or parameters change gets a new symbol, which a
+ * macro here stands for: an object built with an older header then does not link, and is built anew. */
+#define DSSS_VERSION_MAJOR 1
+#define DSSS_VERSION_MINOR 0
+#define DSSS_VERSION_PATCH 0
+#define DSSS_VERSION (10000 * DSSS_VERSION_MAJOR + 100 * DSSS_VERSION_MINOR + DSSS_VERSION_PATCH)
 
 /* Chip octets. 0 to 3 are phases in quarter turns counter-clockwise; 5 to 255 are unusable. */
 #define DSSS_CHIP_LOST 4 /* the mark for no chip; also what fills a chip buffer past the frame */
@@ -53,6 +62,15 @@ extern "C" {
 #define DSSS_FRONT_SHORT 1056
 #define DSSS_PAYLOAD_MAX 4095
 #define DSSS_CHIPS_MAX 362472 /* the longest frame: long, 1 Mbit/s, 4,095 octets */
+
+/* The chips of an octet at a rate, and of a frame of n octets: the room that a write needs. Both are
+ * constants where their arguments are; for a kind or rate that is none they mean nothing. A read of
+ * any frame has room in DSSS_PAYLOAD_MAX octets: refusal 17 cannot come then. */
+#define DSSS_OCTET_CHIPS(rate) \
+    ((rate) == DSSS_RATE_1 ? 88 : (rate) == DSSS_RATE_2 ? 44 : (rate) == DSSS_RATE_5_5 ? 16 : 8)
+#define DSSS_FRAME_CHIPS(kind, rate, n)                             \
+    ((size_t)((kind) == DSSS_LONG ? DSSS_FRONT_LONG : DSSS_FRONT_SHORT) \
+     + (size_t)DSSS_OCTET_CHIPS(rate) * (size_t)(n))
 
 /* Refusals. Writing looks for 1 to 6 in this order. Reading looks for 1, 7, 8, then 9 and 10 over
  * the front, 11 to 17, then 9 and 10 over the payload; each 9 through its whole part before 10. */
@@ -74,7 +92,7 @@ extern "C" {
 #define DSSS_REFUSED_CUT 16        /* recording ends inside the payload */
 #define DSSS_REFUSED_OCTET_ROOM 17 /* octet buffer shorter than the payload */
 
-/* The answer of a write. Later versions add members at the end of a record. */
+/* The answer of a write. */
 typedef struct {
     uint64_t number; /* 0, or the refusal */
     uint64_t chips;  /* chips written, the frame's; 0 if refused */
@@ -95,7 +113,7 @@ typedef struct {
  *   rate     one of the four rate codes                                   refusals 2, 3
  *   phase    0 to 3, the phase before the frame's first symbol            refusal 5
  *   payload  1 to 4,095 octets, the PSDU                                  refusal 4
- *   chips    lent, at least the frame's chips                             refusal 6
+ *   chips    lent, at least the frame's chips, DSSS_FRAME_CHIPS           refusal 6
  * Answer:  number 0 and the chips of the frame.
  * Refused: the number; chips 0.
  * Buffer:  chips[] is the frame and then 4s; refused, all 4s.
@@ -107,7 +125,7 @@ dsss_written dsss_write(uint64_t kind, uint64_t rate, uint64_t phase, const uint
  *   kind     DSSS_LONG or DSSS_SHORT                                      refusal 1
  *   chips    the recording, chip octets; it starts at the frame's first chip, and what
  *            stands after the frame is not looked at                      refusals 8 to 16
- *   octets   lent, at least the payload's octets                          refusal 17
+ *   octets   lent, at least the payload's; DSSS_PAYLOAD_MAX always do     refusal 17
  * Answer:  number 0, the rate code, LENGTH, n and the chips used; place 0.
  * Refused: the number; the place of a 9 or 10; LENGTH for 13 to 17 and for a 9 or 10 in the
  *          payload; all else 0.
@@ -121,7 +139,7 @@ dsss_record dsss_read_hard(uint64_t kind, const uint8_t *chips, size_t chips_len
  *   i, q     the recording, two rows of one length; it starts at the frame's first chip, and what
  *            stands after the frame is not looked at. A chip is unusable if its I or Q is a NaN,
  *            an infinity or above 8 in magnitude                          refusals 7 to 16
- *   octets   lent, at least the payload's octets                          refusal 17
+ *   octets   lent, at least the payload's; DSSS_PAYLOAD_MAX always do     refusal 17
  * Samples are rounded to the nearest 1/1024, halves to even, in the default rounding mode.
  * Answer:  number 0, the rate code, LENGTH, n and the chips used; place 0.
  * Refused: the number; the place of a 9 or 10; LENGTH for 13 to 17 and for a 9 or 10 in the

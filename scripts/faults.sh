@@ -2,9 +2,9 @@
 # faults.sh: the host and the bridge under valgrind and the sanitizers. The host's output is held to what is stored, and
 # the second program compares some families over the bridge.
 #
-# Both run what this processor runs: on x86-64 the library itself, elsewhere plain C in its place, and valgrind there
-# only if it is at hand. Under valgrind each row is memory of just its size, so a touch beside a row is an error, and the
-# lent buffer is not set, so that what a call leaves unwritten, or makes of old contents, is one too.
+# Both run what this processor runs: on x86-64 the library itself, elsewhere plain C in its place, and valgrind
+# there only if it is at hand. Under valgrind each row is memory of just its size, so a touch beside a row is an
+# error, and the lent buffer is not set, so that what a call leaves unwritten, or makes of old contents, is one too.
 set -eu
 cd "$(dirname "$0")/.."
 families=empty_rows,read_rooms,write_edges,cut_recordings

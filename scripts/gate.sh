@@ -13,6 +13,7 @@ scripts/packages.sh test
 stage 'layout and text of the tree'
 rt fmt --check
 python3 scripts/tree.py
+python3 scripts/live.py --self-test
 
 stage 'proofs, must-fail edits, programs'
 log=$(mktemp)
@@ -32,6 +33,9 @@ tests/header/run
 
 stage 'host'
 make --no-print-directory demo
+
+stage 'install'
+tests/install/run
 
 stage 'host under fault'
 make --no-print-directory faults

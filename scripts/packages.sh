@@ -1,9 +1,9 @@
 #!/bin/sh
 # packages.sh demo|test: installs the Debian packages that the demo, or all tests and benchmarks, need.
 #
-# Looks for each tool first; if all are there it installs nothing, uses no network and is done at once. Before it installs
-# anything it says which packages and why. With DSSS_NO_PACKAGES set it only says so and fails. The Rattle kit (rt) is no
-# package and is only looked for.
+# Looks for each tool first; if all are there it installs nothing, uses no network and is done at once. Before it
+# installs anything it says which packages and why. With DSSS_NO_PACKAGES set it only says so and fails. The Rattle
+# kit (rt) is no package and is only looked for.
 set -eu
 
 purpose=${1:-}

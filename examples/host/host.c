@@ -2,7 +2,8 @@
  *
  * A visitor turns a skull with one finger, and at each quarter turn the table fetches a caption by
  * radio. Here the frames go from the writer to the reader in memory: at every kind and rate, then
- * spoiled, then cut short. A caption of an earlier exhibition must never be seen again: before each
+ * spoiled, then cut short. What comes from the air may be any octets, so it is shown escaped. A
+ * caption of an earlier exhibition must never be seen again: before each
  * read the octet buffer is full of one, and after it what is left of it is counted. All memory is
  * in the static rows below; the two that are lent for writing stand between guard octets, which
  * must stay as they were. */
@@ -89,11 +90,23 @@ static size_t old_octets(uint64_t n)
     return old;
 }
 
+/* Octets from the air, as text: what is no printable ASCII character, and \ and ", as \xNN. */
+static void show_octets(const uint8_t *row, uint64_t n)
+{
+    for (uint64_t k = 0; k < n; k++)
+        if (row[k] >= ' ' && row[k] <= '~' && row[k] != '\\' && row[k] != '"')
+            putchar(row[k]);
+        else
+            printf("\\x%02X", row[k]);
+}
+
 static void show(const char *what, dsss_record record)
 {
-    if (record.number == 0)
-        printf("%s: \"%.*s\"\n", what, (int)record.n, (const char *)octets.row);
-    else
+    if (record.number == 0) {
+        printf("%s: \"", what);
+        show_octets(octets.row, record.n);
+        puts("\"");
+    } else
         printf("%s: refused, %" PRIu64 ". %s\n", what, record.number,
                dsss_sentence(record.number));
     printf("    place %" PRIu64 ", LENGTH %" PRIu64 ", %" PRIu64 " octets, %" PRIu64
@@ -148,6 +161,19 @@ static void spoiled(void)
     show_hard("the symbol at chip 550 turned by a quarter", DSSS_LONG, len);
 }
 
+/* Number 0 is not "the text is right": only the header has a check, the payload's is the MAC's. */
+static void another_text(void)
+{
+    puts("\nNumber 0 with another text: one symbol of 11 Mbit/s turned by a quarter");
+    uint64_t len = send_caption(DSSS_SHORT, DSSS_RATE_11, captions[0]).chips;
+    for (uint64_t octet = 1; octet < 54; octet += 41) {
+        uint8_t *symbol = chips.row + DSSS_FRAME_CHIPS(DSSS_SHORT, DSSS_RATE_11, octet);
+        for (size_t k = 0; k < 8; k++)
+            symbol[k] = (uint8_t)((symbol[k] + 1) % 4);
+        show_hard(octet == 1 ? "the second" : "the 43rd too", DSSS_SHORT, len);
+    }
+}
+
 static void cut_short(void)
 {
     puts("\nCut short");
@@ -175,6 +201,7 @@ int main(void)
     set_guards(GUARD_OCTET);
     every_way();
     spoiled();
+    another_text();
     cut_short();
     not_written();
     printf("\nGuard octets %s\n", guards_stand() ? "as they were" : "CHANGED");

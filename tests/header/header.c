@@ -21,6 +21,10 @@ HOLDS(record_length, offsetof(dsss_record, length) == 24);
 HOLDS(record_n, offsetof(dsss_record, n) == 32);
 HOLDS(record_used, offsetof(dsss_record, used) == 40);
 HOLDS(longest_frame, DSSS_CHIPS_MAX == DSSS_FRONT_LONG + 88 * DSSS_PAYLOAD_MAX);
+HOLDS(longest_by_macro, DSSS_CHIPS_MAX == DSSS_FRAME_CHIPS(DSSS_LONG, DSSS_RATE_1, DSSS_PAYLOAD_MAX));
+HOLDS(frame_at_2, DSSS_FRAME_CHIPS(DSSS_SHORT, DSSS_RATE_2, 3) == 1056 + 44 * 3);
+HOLDS(frame_at_5_5, DSSS_FRAME_CHIPS(DSSS_LONG, DSSS_RATE_5_5, 1 + 1) == 2112 + 16 * 2);
+HOLDS(frame_at_11, DSSS_FRAME_CHIPS(DSSS_SHORT, DSSS_RATE_11, DSSS_PAYLOAD_MAX) == 1056 + 8 * 4095);
 
 int main(int argc, char **argv)
 {

@@ -8,6 +8,10 @@ name, the same parameters in the same order, and an answer with the same members
 A row in C is a pointer and NAME_len, in Rattle a slice. A record may be declared in another crate.
 Each call's comment must have the fields Answer, Refused, Buffer and Proved, say where the call is
 proved, and name each row and number.
+
+A call's symbol is its name, or what a macro `#define dsss_call dsss_call_2` makes of it. What each
+symbol was published with stands in published.txt: with other parameters or another answer the call
+needs a new symbol, so that objects built with an older header do not link.
 """
 import glob
 import os
@@ -75,6 +79,11 @@ def c_calls(text):
     for answer, name, parameters in re.findall(pattern, text, re.M):
         calls[name] = (c_type(answer), c_parameters(re.sub(r"\s+", " ", parameters)))
     return calls
+
+
+def c_symbols(text):
+    """Call name -> the symbol that a macro makes of it."""
+    return dict(re.findall(r"^#define\s+(dsss_[a-z_0-9]+)\s+(dsss_[a-z_0-9]+)\s*$", text, re.M))
 
 
 def comments(header):
@@ -159,6 +168,19 @@ def compare_call(name, declared, defined, records, sources):
     return faults
 
 
+def compare_published(symbol, declared, records, published):
+    """Whether a symbol stands for what it was published with."""
+    answer, parameters = declared
+    members = rows(records[answer]) if answer in records else answer
+    line = f"{symbol}({rows(parameters)}) -> {members}"
+    if line in published:
+        return []
+    if any(old.startswith(symbol + "(") for old in published):
+        return [f"{symbol} was published with other parameters or members: give the call a symbol of its own, "
+                "by a macro in the header and that name in crates/dsss"]
+    return [f"{symbol} is not in published.txt; its line: {line}"]
+
+
 def compare_comment(name, parameters, comment):
     faults = [f"{name}: its comment has no field {field}" for field in FIELDS
               if field not in comment]
@@ -169,12 +191,14 @@ def compare_comment(name, parameters, comment):
     return faults
 
 
-def compare(header, sources):
-    """All differences between a header and the sources of the crates, by crate name."""
+def compare(header, sources, published):
+    """All differences between a header, the sources of the crates by crate name, and the published lines."""
     sources = {crate: without_line_comments(text) for crate, text in sources.items()}
     text = without_comments(header)
-    declared, records = c_calls(text), c_records(text)
-    defined, said = rattle_calls(sources["dsss"]), comments(header)
+    symbols, records = c_symbols(text), c_records(text)
+    declared = {symbols.get(name, name): call for name, call in c_calls(text).items()}
+    said = {symbols.get(name, name): comment for name, comment in comments(header).items()}
+    defined = rattle_calls(sources["dsss"])
     faults = [f"{name}: in the source, not in the header" for name in defined.keys() - declared]
     faults += [f"{name}: in the header, not in the source" for name in declared.keys() - defined]
     faults += [f"{name}: public in crate dsss and not extern \"C\""
@@ -183,6 +207,7 @@ def compare(header, sources):
         faults.append("the header declares no call")
     for name in declared:
         faults += compare_comment(name, declared[name][1], said.get(name, ""))
+        faults += compare_published(name, declared[name], records, published)
         if name in defined:
             faults += compare_call(name, declared[name], defined[name], records, sources)
     return sorted(faults)
@@ -224,6 +249,16 @@ pub struct Answer {
 """,
     "other": "#[repr(C)] pub struct Answer { pub place: u64, }",
 }
+PUBLISHED = ["dsss_read(kind: u64, chips: &[u8], octets: &mut [u8]) -> number: u64, place: u64"]
+GROWN = [  # a member more in header and source: by the old symbol refused, by a new one not
+    ("header", "uint64_t number, place", "uint64_t number, place, lead"),
+    ("frame", "pub place: u64,", "pub place: u64, pub lead: u64,"),
+]
+RENAMED = [
+    ("header", "typedef", "#define dsss_read dsss_read_2\ntypedef"),
+    ("header", "crates/dsss, dsss_read,", "crates/dsss, dsss_read_2,"),
+    ("dsss", "fn dsss_read", "fn dsss_read_2"),
+]
 SPOILED = [  # which text, what, by what
     ("header", "kind, const uint8_t", "sort, const uint8_t"),
     ("header", "uint64_t kind", "uint32_t kind"),
@@ -245,11 +280,28 @@ SPOILED = [  # which text, what, by what
 ]
 
 
+def self_test_of_growth(texts):
+    """A record that grows is found, unless the call has a new symbol, published with the new record."""
+    for which, old, new in GROWN:
+        texts = dict(texts, **{which: texts[which].replace(old, new, 1)})
+    sources = {crate: texts[crate] for crate in SOURCES}
+    if not any("symbol of its own" in fault for fault in compare(texts["header"], sources, PUBLISHED)):
+        raise Fault("self-test: a record that grows under its old symbol is not found")
+    for which, old, new in RENAMED:
+        texts = dict(texts, **{which: texts[which].replace(old, new, 1)})
+    sources = {crate: texts[crate] for crate in SOURCES}
+    line = PUBLISHED[0].replace("dsss_read(", "dsss_read_2(") + ", lead: u64"
+    faults = compare(texts["header"], sources, PUBLISHED + [line])
+    if faults:
+        raise Fault("self-test: a new symbol for a grown record is refused: " + "; ".join(faults))
+
+
 def self_test():
     texts = dict(SOURCES, header=HEADER)
-    faults = compare(HEADER, SOURCES)
+    faults = compare(HEADER, SOURCES, PUBLISHED)
     if faults:
         raise Fault("self-test: good texts are refused: " + "; ".join(faults))
+    self_test_of_growth(texts)
     for which, old, new in SPOILED:
         spoiled = dict(texts)
         spoiled[which] = texts[which].replace(old, new, 1)
@@ -257,7 +309,7 @@ def self_test():
             raise Fault(f"self-test: '{old}' is not in the {which} text")
         header = spoiled.pop("header")
         try:
-            found = compare(header, spoiled)
+            found = compare(header, spoiled, PUBLISHED)
         except Fault as fault:
             found = [str(fault)]
         if not found:
@@ -273,7 +325,9 @@ def main(arguments):
     with open(os.path.join(root, "include", "dsss.h"), encoding="utf-8") as file:
         header = file.read()
     sources = read_sources(root)
-    faults = compare(header, sources)
+    with open(os.path.join(root, "tests", "header", "published.txt"), encoding="utf-8") as file:
+        published = [line for line in file.read().split("\n") if line and not line.startswith("#")]
+    faults = compare(header, sources, published)
     for fault in faults:
         print(f"header: {fault}", file=sys.stderr)
     if not faults:

@@ -113,7 +113,8 @@ pub good-facts : good
 unfolding
     good read refused fields long short wrong spoilt turned hardRecording
     barkerWord cckWord score those going firstLargest decided
-    bitsOf octetBits numberOf octetsOf growth symbolOf symbolsFrom symbolsOf chipsFrom lastPhase heardBits heard growthsOf
+    bitsOf octetBits numberOf octetsOf growth symbolOf symbolsFrom symbolsOf chipsFrom lastPhase heardBits heard
+    growthsOf
     lastHeard mixed scramble descramble addWhere crcStep remainder crcBits
     preambleBits fieldBits headerBits sentHeader frameBits sentBits partsChips framed frame
     firstUnusable firstOdd decidedWords preambleWords headerWords reference headerPhase payloadPhase frontOdd frontHeard
@@ -182,7 +183,8 @@ pub bad-facts : bad
 unfolding
     bad read refused fields long short wrong spoilt turned hardRecording
     barkerWord cckWord score those going firstLargest decided
-    bitsOf octetBits numberOf octetsOf growth symbolOf symbolsFrom symbolsOf chipsFrom lastPhase heardBits heard growthsOf
+    bitsOf octetBits numberOf octetsOf growth symbolOf symbolsFrom symbolsOf chipsFrom lastPhase heardBits heard
+    growthsOf
     lastHeard mixed scramble descramble addWhere crcStep remainder crcBits
     preambleBits fieldBits headerBits sentHeader frameBits sentBits partsChips framed frame
     firstUnusable firstOdd decidedWords preambleWords headerWords reference headerPhase payloadPhase frontOdd frontHeard

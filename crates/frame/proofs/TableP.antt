@@ -23,6 +23,7 @@ pub table-p : TableP
 unfolding
     computed printed five
     barkerWord cckWord score those going firstLargest decided
-    bitsOf octetBits growth symbolOf symbolsFrom symbolsOf chipsFrom lastPhase mixed scramble addWhere crcStep remainder crcBits
+    bitsOf octetBits growth symbolOf symbolsFrom symbolsOf chipsFrom lastPhase mixed scramble addWhere crcStep
+    remainder crcBits
     preambleBits fieldBits headerBits sentHeader frameBits sentBits partsChips framed frame
 table-p r payload = refl

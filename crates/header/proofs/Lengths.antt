@@ -51,17 +51,20 @@ module _ (r : Rate) (l s w : ℕ) (e : w ≡ wholeOctets r l) (h : s < w) where
   unfolding octetsTold
   told-over k = rw (read, k)
 
-  pub told-length : isPayload (pos (w - s)) ≡ true → (f : ℕ) → f ≡ lengthField r (w - s) → (f ≡ l → ⊥) → 0 ≡ octetsTold r l s
+  pub told-length : isPayload (pos (w - s)) ≡ true → (f : ℕ) → f ≡ lengthField r (w - s) → (f ≡ l → ⊥) → 0
+      ≡ octetsTold r l s
   unfolding octetsTold
   told-length k f q n = rw (read, k, ← q, ne-eqb f l n)
 
-  pub told-seven : isPayload (pos (w - s)) ≡ true → (f g : ℕ) → f ≡ lengthField r (w - s) → f ≡ l → g ≡ bit7 r (w - s) → (g ≡ s → ⊥)
+  pub told-seven : isPayload (pos (w - s)) ≡ true → (f g : ℕ) → f ≡ lengthField r (w - s) → f ≡ l → g ≡ bit7 r (w - s)
+      → (g ≡ s → ⊥)
       → 0 ≡ octetsTold r l s
   unfolding octetsTold
   told-seven k f g q m p n =
       rw (read, k, ← q, eq-eqb f l m, ← p, ne-eqb g s n)
 
-  pub told-all : isPayload (pos (w - s)) ≡ true → (f g : ℕ) → f ≡ lengthField r (w - s) → f ≡ l → g ≡ bit7 r (w - s) → g ≡ s
+  pub told-all : isPayload (pos (w - s)) ≡ true → (f g : ℕ) → f ≡ lengthField r (w - s) → f ≡ l → g ≡ bit7 r (w - s)
+      → g ≡ s
       → w - s ≡ octetsTold r l s
   unfolding octetsTold
   told-all k f g q m p n =

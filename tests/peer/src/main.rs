@@ -13,11 +13,12 @@
 //! peer --list
 //! ```
 //!
-//! Every run checks this program against Table P and against the published figures in DIR (tests/vectors if not given),
-//! then makes the calls of each family and compares every answer and every buffer. It ends with status 1 on a
+//! Every run checks this program against Table P and against the published figures in DIR (tests/vectors if not
+//! given), then makes the calls of each family and compares every answer and every buffer. It ends with status 1 on a
 //! difference, on fewer calls than are owed, on a bridge that dies, and on a missing file of figures. A family or a
-//! replayed case alone owes no number of calls. In brief, only the families' lines are printed. A replay prints the whole call and both answers. Calls go ahead of the
-//! answers; sent singly, a call at which the bridge dies is known by its case.
+//! replayed case alone owes no number of calls. In brief, only the families' lines are printed. A replay prints the
+//! whole call and both answers. Calls go ahead of the answers; sent singly, a call at which the bridge dies is known
+//! by its case.
 //!
 //! Built with no crates, in the repository's root:
 //!
