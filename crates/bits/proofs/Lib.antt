@@ -5,3 +5,4 @@ pub mod Scrambler
 pub mod Crc
 pub mod Facts
 pub mod Mixing
+pub mod PairLaws

@@ -1,4 +1,3 @@
 pub mod Run
 pub mod Sent
-pub mod Sums
 pub mod Barkers

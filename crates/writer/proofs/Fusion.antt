@@ -7,8 +7,9 @@
 use mathlib.Core.Path.{_≡_, refl, sym, ap, ap₂, _∙_}
 use mathlib.Core.List.{List, [], _∷_, _++_, append-assoc}
 use Prim.Native.Nat.{ℕ, _+_, _*_}
+use native.Mathlib.Nat.{mul-zero}
 use native.Mathlib.Omega.{arith}
-use lib.ListN.{length, take, drop, replicate, length-append}
+use lib.ListN.{length, take, drop, length-append}
 use lib.Seq.{take-at, drop-at, drop-drop}
 use Rattle.rates.specs.declared.Rate.{Rate}
 use Rattle.rates.specs.declared.Rate.the-variants.{One}
@@ -26,7 +27,6 @@ use Rattle.frame.specs.Frame.{
   frontChips,
   preambleBits,
   preambleLength,
-  headerLength,
   frameBits,
   sentBits,
   partsChips,
@@ -34,9 +34,9 @@ use Rattle.frame.specs.Frame.{
   frame,
   sentHeader,
 }
-use Rattle.sender.specs.Sending.{State, run, ran, fresh}
+use Rattle.sender.specs.Sending.{run}
 use Rattle.sender.proofs.Run.{length-run}
-use Rattle.sender.proofs.Sent.{after, Agree, Sent, sent, allSymbols, symbolsOf-octets}
+use Rattle.sender.proofs.Sent.{after, Agree, sent, allSymbols, symbolsOf-octets}
 use Rattle.writer.specs.Parts.{preambleOctets, firstState, afterPreamble, frontSent, afterFront}
 
 pub preamble-octets : (k : Kind) → octetBits (preambleOctets k) ≡ preambleBits k
@@ -97,12 +97,12 @@ start-agrees Short bs = scramble-window _ _ bs refl
 
 -- a frame whose header is any six octets
 pub framed-parts : (k : Kind) (r : Rate) (p : ℕ) (header xs : List ℕ) → length header ≡ 6
-    → framed k r p (octetBits header) xs ≡ frontSent k p header ++ run r (afterFront k p header) xs
+    → framed k r p (octetBits header) xs ≡ frontSent k p header ++ run r 0 (afterFront k p header) xs
 unfolding firstState afterPreamble frontSent afterFront
 framed-parts k r p header xs six =
-    let q0 = sent One (firstState k p) (start k) 0 (preambleOctets k) (start-agrees k) refl in
-    let q1 = sent (headerRate k) (afterPreamble k p) _ 0 header (q0 .past) refl in
-    let q2 = sent r (afterFront k p header) _ 0 xs (q1 .past) refl in
+    let q0 = sent One 0 0 (firstState k p) (start k) (preambleOctets k) refl (start-agrees k) in
+    let q1 = sent (headerRate k) 0 0 (afterPreamble k p) _ header (sym (mul-zero _)) (q0 .past) in
+    let q2 = sent r 0 0 (afterFront k p header) _ xs (sym (mul-zero _)) (q1 .past) in
     by-parts k r p header xs six
     ∙ rw (append-assoc, ← q0 .chips, ← q0 .phase, ← q1 .chips, ← q1 .phase, ← q2 .chips)
 
@@ -111,9 +111,9 @@ pub length-front : (k : Kind) (p : ℕ) (header : List ℕ) → length header �
     → length (frontSent k p header) ≡ frontChips k
 unfolding frontSent
 length-front k p header e =
-    length-append (run One (firstState k p) (preambleOctets k)) (run (headerRate k) (afterPreamble k p) header)
-    ∙ ap₂ {C = ℕ} (λ a b. a + b) (length-run One (firstState k p) (preambleOctets k))
-    (length-run (headerRate k) (afterPreamble k p) header ∙ ap (λ (n : ℕ). octetChips (headerRate k) * n) e)
+    length-append (run One 0 (firstState k p) (preambleOctets k)) (run (headerRate k) 0 (afterPreamble k p) header)
+    ∙ ap₂ {C = ℕ} (λ a b. a + b) (length-run One 0 (firstState k p) (preambleOctets k))
+    (length-run (headerRate k) 0 (afterPreamble k p) header ∙ ap (λ (n : ℕ). octetChips (headerRate k) * n) e)
     ∙ sum k
   where
     sum : (k : Kind) → 88 * length (preambleOctets k) + octetChips (headerRate k) * 6 ≡ frontChips k
@@ -123,7 +123,7 @@ length-front k p header e =
 -- the frame that is sent
 pub frame-parts : (k : Kind) (r : Rate) (p : ℕ) (header xs : List ℕ) → octetBits header ≡ sentHeader r (length xs)
     → length header ≡ 6
-    → frame k r p xs ≡ frontSent k p header ++ run r (afterFront k p header) xs
+    → frame k r p xs ≡ frontSent k p header ++ run r 0 (afterFront k p header) xs
 unfolding frame
 frame-parts k r p header xs e six =
     ap (λ (h : List ℕ). framed k r p h xs) (sym e) ∙ framed-parts k r p header xs six
