@@ -22,7 +22,7 @@ use Rattle.rates.specs.Rates.{symbolChips, symbolBits, octetSymbols, octetChips
 use Rattle.rates.proofs.Octets.{part-symbols, part-chips, part-bits}
 use Rattle.chips.specs.Chips.{Taken, takenCounts}
 use Rattle.symbols.specs.Choice.{numbers, decided}
-use Rattle.choice.proofs.Decided.{decided-below}
+use Rattle.choosing.proofs.Decided.{decided-below}
 use Rattle.bits.specs.Bits.{bitsOf, octetsOf}
 use Rattle.bits.specs.Growths.{heard, growthsOf, lastHeard}
 use Rattle.bits.specs.Scrambler.{descramble}

@@ -16,8 +16,8 @@ use Rattle.rates.specs.declared.Rate.{Rate}
 use Rattle.rates.specs.declared.Rate.the-variants.{One, Two, Five, Eleven}
 use Rattle.chips.specs.declared.Counts.{Counts}
 use Rattle.symbols.specs.Choice.{numbers, isAllowed, allowed, decided}
-use Rattle.choice.specs.Scores.{scoreAt, BestOf, DecidedAs}
-use Rattle.choice.proofs.Best.{first-best, some-of, best-unique}
+use Rattle.choosing.specs.Scores.{scoreAt, BestOf, DecidedAs}
+use Rattle.choosing.proofs.Best.{first-best, some-of, best-unique}
 
 -- at every rate some word is allowed
 some-allowed : (r : Rate) → 0 < length (allowed r)

@@ -12,7 +12,7 @@ use lib.ListN.{getD}
 use Rattle.symbols.specs.Words.{cckWord, cckOf}
 use Rattle.symbols.specs.Choice.{those, allowed}
 use Rattle.symbols.proofs.Words.{fiveWord}
-use Rattle.choice.specs.Scores.{upTo, number5}
+use Rattle.choosing.specs.Scores.{upTo, number5}
 
 -- they are the allowed ones, in rising order
 pub five-allowed : allowed Five ≡ map number5 (upTo 16)

@@ -20,7 +20,7 @@ use Rattle.base.specs.Tables.{tabulate}
 use Rattle.base.proofs.Tables.{length-tabulate, getD-tabulate}
 use Rattle.base.proofs.Whole.{le-of, lt-of, of-le, of-lt}
 use Rattle.symbols.specs.Choice.{those, going, firstLargest}
-use Rattle.choice.specs.Scores.{upTo, placeOfLargest, BestOf}
+use Rattle.choosing.specs.Scores.{upTo, placeOfLargest, BestOf}
 
 pub best-unique : {ok : ℕ → Bool} {n : ℕ} {f : ℕ → ℤ} {r s : ℕ} → BestOf ok n f r → BestOf ok n f s → r ≡ s
 best-unique {ok} {n} {f} {r} {s} p q = by (decLt r s) (decLt s r)

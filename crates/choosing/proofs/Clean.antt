@@ -22,8 +22,8 @@ use Rattle.symbols.specs.Words.{wordOf}
 use Rattle.symbols.specs.Choice.{term, score, numbers, isAllowed, decided}
 use Rattle.symbols.proofs.Words.{Phases, phases-tail, word-phases, word-length}
 use Rattle.symbols.proofs.Numbers.{word-one}
-use Rattle.choice.specs.Agreement.{one, agreeing, opposed, clean}
-use Rattle.choice.proofs.Decided.{decided-leads}
+use Rattle.choosing.specs.Agreement.{one, agreeing, opposed, clean}
+use Rattle.choosing.proofs.Decided.{decided-leads}
 
 -- four phases
 pub phase : (P : ℕ → Type 0) → P 0 → P 1 → P 2 → P 3 → (p : ℕ) → p < 4 → P p

@@ -15,7 +15,7 @@ use Rattle.chips.specs.Chips.{nothing, countsOf}
 use Rattle.chips.proofs.Bounds.{counts-within}
 use Rattle.symbols.specs.Choice.{term, score}
 use Rattle.chips.specs.Bounds.{Bounded}
-use Rattle.choice.specs.Scores.{AllBounded, Smalls}
+use Rattle.choosing.specs.Scores.{AllBounded, Smalls}
 
 pub bounded-more : {b d : ℕ} {c : Counts} → Bounded b c → b ≤ d → Bounded d c
 bounded-more s h = record { real = within-more (s .real) h; imag = within-more (s .imag) h }

@@ -17,10 +17,10 @@ use Rattle.chips.specs.Chips.{nothing, exactOf}
 use Rattle.symbols.specs.Words.{wordOf}
 use Rattle.symbols.specs.Choice.{numbers, isAllowed, decided}
 use Rattle.symbols.proofs.Words.{word-length}
-use Rattle.choice.specs.Demand3.{exactAt, Apart, Demand3}
-use Rattle.choice.specs.Scores.{scoreAt, DecidedAs}
-use Rattle.choice.proofs.Decided.{decided-best}
-use Rattle.choice.proofs.Near.{
+use Rattle.choosing.specs.Demand3.{exactAt, Apart, Demand3}
+use Rattle.choosing.specs.Scores.{scoreAt, DecidedAs}
+use Rattle.choosing.proofs.Decided.{decided-best}
+use Rattle.choosing.proofs.Near.{
   Off,
   off-within,
   OffChip,
