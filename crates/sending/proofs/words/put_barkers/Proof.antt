@@ -1,4 +1,4 @@
--- `sender::words::put_barkers` meets its contract. The invariant: the words of the first i phases are written.
+-- `sending::words::put_barkers` meets its contract. The invariant: the words of the first i phases are written.
 -- Assumes nothing.
 use mathlib.Core.Path.{_≡_, sym, ap, _∙_}
 use mathlib.Core.List.{List, _++_}
@@ -12,10 +12,10 @@ use borrow.Author.Needs.{needs}
 use Rattle.base.specs.Over.{over}
 use Rattle.base.proofs.Over.{over-next}
 use Rattle.symbols.specs.Words.{barkerWord}
-use Rattle.sender.specs.Line.{barkerWords}
-use Rattle.sender.proofs.Barkers.{barkers-snoc, length-barkers, barker-entry, length-entry}
-use Rattle.sender.proofs.words.put_barkers.Statement.{statement}
-use Rattle.sender.proofs.words.put_barkers.Tie as tie
+use Rattle.sending.specs.Line.{barkerWords}
+use Rattle.sending.proofs.Barkers.{barkers-snoc, length-barkers, barker-entry, length-entry}
+use Rattle.sending.proofs.words.put_barkers.Statement.{statement}
+use Rattle.sending.proofs.words.put_barkers.Tie as tie
 
 abbrev Inv-loop : tie.InvT-loop
 Inv-loop barkers phases chips₀ i₀ at₀ chips i at =
