@@ -1,4 +1,5 @@
--- `sending::put_two` meets its contract: four phases, each grown from the one before by a pair of bits. Assumes nothing.
+-- `sending::put_two` meets its contract: four phases, each grown from the one before by a pair of bits.
+-- Assumes nothing.
 use mathlib.Core.Path.{_≡_, ap₂, _∙_}
 use mathlib.Core.List.{List, [], _∷_}
 use Prim.Native.Nat.{ℕ, _/_, _%_}

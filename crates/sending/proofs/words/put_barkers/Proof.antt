@@ -47,7 +47,8 @@ element-copy-out-word c = search needs
 slice-aggregate-put : tie.Need-slice-aggregate-put Inv-loop μ-loop
 slice-aggregate-put c =
     let start = c .before .before .before .before .before .before .before in
-    sym (length-entry _ (getD (start .args .phases .now) (c .before .before .before .before .loop .i) 0) (start .pre .0))
+    let i = c .before .before .before .before .loop .i in
+    sym (length-entry _ (getD (start .args .phases .now) i 0) (start .pre .0))
 
 put-requires : tie.Need-put-requires Inv-loop μ-loop
 put-requires c κs =
