@@ -13,7 +13,7 @@ export PREFIX INCLUDEDIR LIBDIR DESTDIR
 # All that is proved: a touched proof is proved again.
 PROVED := crates.txt $(shell find crates -name '*.rt' -o -name '*.antt')
 
-.PHONY: demo test compare wrong bench instructions crc faults install uninstall packages demo-packages
+.PHONY: demo test compare wrong bench instructions crc third-party faults install uninstall packages demo-packages
 .SILENT:
 
 # The host: captions written at every kind and rate, one spoilt, one cut short.
@@ -46,6 +46,10 @@ instructions: $(LIB) | packages
 # The CRC's published figures, by the CRC of Python's library.
 crc: packages
 	python3 tests/peer/check_crc.py
+
+# Rows of bits scrambled by GNU Radio, whose header is downloaded and not installed, held to those in tests/vectors.
+third-party: packages
+	tests/third/run
 
 # Host and bridge under valgrind and the sanitizers where the processor allows; elsewhere over plain C.
 faults: $(OUT)/host target/peer/peer

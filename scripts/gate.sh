@@ -7,8 +7,9 @@ cd "$(dirname "$0")/.."
 
 stage() { printf '\n== %s (%s s)\n' "$1" "$SECONDS"; }
 
-stage 'packages'
+stage 'packages and kit'
 scripts/packages.sh test
+rt version
 
 stage 'layout and text of the tree'
 rt fmt --check

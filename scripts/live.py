@@ -170,9 +170,11 @@ def faults_of(items, imports, dead, silent):
     return sorted(faults)
 
 
-GOOD = {('low', ''): 'mod deep;\npub use deep::passed;\npub const USED: u8 = 1;\npub fn low(x: u8) -> u8\n    ensures a { λ r. ⌜ r ≡ {x} dead ⌝ }\n'
+GOOD = {('low', ''): 'mod deep;\npub use deep::passed;\npub const USED: u8 = 1;\n'
+                     'pub fn low(x: u8) -> u8\n    ensures a { λ r. ⌜ r ≡ {x} dead ⌝ }\n'
                      '{ helper(x) + USED } // dead()\nfn helper(x: u8) -> u8 { match x { _ => b"}dead()"[0] } }\n',
-        ('low', 'deep'): 'pub fn passed() ensures a { b } { }\nimpl Rate { pub fn code(self) -> u8 ensures a { ⌜ b ⌝ } { 1 } }',
+        ('low', 'deep'): 'pub fn passed() ensures a { b } { }\n'
+                         'impl Rate { pub fn code(self) -> u8 ensures a { ⌜ b ⌝ } { 1 } }',
         ('top', ''): 'use low::deep::Rate;\n#[no_mangle]\npub extern "C" fn top() -> u8\n'
                      '    requires { x }\n    ensures a { y }\n{ low::passed(); low::low(3) + Rate::code(4) }\n'}
 WRONG = [

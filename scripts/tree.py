@@ -1,8 +1,8 @@
 #!/usr/bin/env python3
 """tree.py: holds the text of the tree to its own rules.
 
-- lines of Rattle, antt, C, Rust, scripts and documents are at most 120 characters wide (a table of a document may be
-  wider);
+- lines of Rattle, antt, C, Rust, scripts (a file that starts with #! is one) and documents are at most 120 characters
+  wide; a table of a document may be wider;
 - a Rattle file has at most 250 lines, a definitions file 250, a proof file 400;
 - no tracked file holds a path of a machine;
 - crates.txt names just those crates that a crate uses;
@@ -23,13 +23,13 @@ def tracked():
     return [p for p in out.split('\n') if p and os.path.isfile(p)]
 
 
-def limits(path):
+def limits(path, text):
     """Widest line and most lines allowed, or None."""
     if path.endswith('.rt'):
         return 120, 250
     if path.endswith('.antt'):
         return 120, 250 if '/specs/' in path else 400
-    if path.endswith(('.c', '.h', '.cpp', '.rs', '.py', '.sh', '.md')):
+    if path.endswith(('.c', '.h', '.cpp', '.rs', '.py', '.sh', '.md')) or text.startswith('#!'):
         return 120, 1000
     return None
 
@@ -40,7 +40,7 @@ def text_of(path):
 
 
 def check_sizes(path, text):
-    allowed = limits(path)
+    allowed = limits(path, text)
     if not allowed:
         return
     width, most = allowed

@@ -68,7 +68,9 @@ sent =
     ∷ chipsFrom Two 1 (symbolsOf Two (0 ∷ 1 ∷ 1 ∷ 0 ∷ []))
     ∷ chipsFrom Five 1 (symbolsOf Five (bitsOf 8 0x72))
     ∷ chipsFrom Eleven 1 (symbolsOf Eleven (octetBits (0xD9 ∷ 0x02 ∷ [])))
-    ∷ (lastPhase 1 (symbolsOf Two (0 ∷ 1 ∷ 1 ∷ 0 ∷ [])) ∷ lastPhase 1 (symbolsOf Eleven (octetBits (0xD9 ∷ 0x02 ∷ []))) ∷ [])
+    ∷ (lastPhase 1 (symbolsOf Two (0 ∷ 1 ∷ 1 ∷ 0 ∷ []))
+    ∷ lastPhase 1 (symbolsOf Eleven (octetBits (0xD9 ∷ 0x02 ∷ [])))
+    ∷ [])
     ∷ []
 
 abbrev pub chips : List (List ℕ)

@@ -20,7 +20,17 @@ use Rattle.symbols.proofs.Words.{word-length}
 use Rattle.choice.specs.Demand3.{exactAt, Apart, Demand3}
 use Rattle.choice.specs.Scores.{scoreAt, DecidedAs}
 use Rattle.choice.proofs.Decided.{decided-best}
-use Rattle.choice.proofs.Near.{Off, off-within, OffChip, OffAll, none, more, off-score, none-above, leader-chosen}
+use Rattle.choice.proofs.Near.{
+  Off,
+  off-within,
+  OffChip,
+  OffAll,
+  none,
+  more,
+  off-score,
+  none-above,
+  leader-chosen,
+}
 
 -- a count of 2^139 steps
 abbrev count : ℕ

@@ -1,6 +1,6 @@
--- Demand 3: what deciding by counts does to the exact scores, one statement over the rate and over how far counts may be
--- from the exact values. The same sums as the scores, over exact values in steps of 2^-149; a count is 2^139 of them,
--- 1/1024 of a full chip. RULES 1.4 (3), 3.8. Definitions only. Assumes nothing.
+-- Demand 3: what deciding by counts does to the exact scores, one statement over the rate and over how far counts may
+-- be from the exact values. The same sums as the scores, over exact values in steps of 2^-149; a count is 2^139 of
+-- them, 1/1024 of a full chip. RULES 1.4 (3), 3.8. Definitions only. Assumes nothing.
 use Prim.Native.Nat.{ℕ, _*_, _<_}
 use mathlib.Core.Path.{_≡_}
 use mathlib.Core.List.{List, map}
@@ -23,8 +23,9 @@ use Rattle.symbols.specs.Choice.{score, numbers, isAllowed, decided}
 abbrev pub exactAt : Rate → List Chip → ℕ → ℤ
 exactAt r chips n = score (wordOf r n) (map exactOf chips)
 
--- The word with number `w` is right up to an error of so many steps: it is allowed; (a) no allowed word's exact score is
--- above its own by more; (b) an allowed word whose exact score is above that of every other allowed one by more is it.
+-- The word with number `w` is right up to an error of so many steps: it is allowed; (a) no allowed word's exact score
+-- is above its own by more; (b) an allowed word whose exact score is above that of every other allowed one by more is
+-- it.
 pub record RightUpTo (error : ℕ) (r : Rate) (chips : List Chip) (w : ℕ) : Type 0 where
   pub among : w < numbers r
   pub allowed : T (isAllowed r w)

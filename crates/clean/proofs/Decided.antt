@@ -1,5 +1,5 @@
--- A clean recording is decided as it was sent: word by word, with no unusable chip. The argument goes word by word along the list; that one
--- clean word is chosen as itself is the choice's law. Assumes nothing.
+-- A clean recording is decided as it was sent: word by word, with no unusable chip. The argument goes word by word
+-- along the list; that one clean word is chosen as itself is the choice's law. Assumes nothing.
 use mathlib.Core.Path.{_≡_, refl, sym, ap, ap₂, _∙_, subst}
 use mathlib.Core.Bool.{Bool}
 use mathlib.Core.List.{List, [], _∷_, _++_, map, map-append, append-assoc}
@@ -54,7 +54,8 @@ unfolding decidedWords wordsChips
 decided-words r [] rest h = refl
 decided-words r (n ∷ ns) rest (more l a h) =
     let w = wordOf r n in
-    let e : cleanRecording (w ++ wordsChips r ns) ++ rest ≡ cleanRecording w ++ (cleanRecording (wordsChips r ns) ++ rest) =
+    let e : cleanRecording (w ++ wordsChips r ns) ++ rest
+    ≡ cleanRecording w ++ (cleanRecording (wordsChips r ns) ++ rest) =
     ap (λ (x : List Taken). x ++ rest) (clean-append w (wordsChips r ns))
     ∙ append-assoc (cleanRecording w) (cleanRecording (wordsChips r ns)) rest in
     let m : length (cleanRecording w) ≡ symbolChips r = clean-length w ∙ word-length r n in
@@ -64,7 +65,8 @@ decided-words r (n ∷ ns) rest (more l a h) =
       drop-at (cleanRecording w)
           (cleanRecording (wordsChips r ns) ++ rest) (symbolChips r) m,
     )
-    (ap₂ {C = List ℕ} (λ x xs. x ∷ xs) (first w ∙ decided-clean 1024 (lit< tt) r n l (subst (λ (b : Bool). T b) (sym a) tt))
+    (ap₂ {C = List ℕ} (λ x xs. x ∷ xs)
+    (first w ∙ decided-clean 1024 (lit< tt) r n l (subst (λ (b : Bool). T b) (sym a) tt))
     (decided-words r ns rest h))
   where
     first : (w : List ℕ) → decided r (map takenCounts (cleanRecording w)) ≡ decided r (map (fullChip 1024) w)

@@ -1,11 +1,11 @@
--- A clean recording of a preamble, a header and a payload, each a list of bits, read as the definition reads it: words, phases, growths and
--- bits heard, part by part. Assumes nothing.
+-- A clean recording of a preamble, a header and a payload, each a list of bits, read as the definition reads it: words,
+-- phases, growths and bits heard, part by part. Assumes nothing.
 use mathlib.Core.Path.{_≡_, refl, sym, ap, ap₂, _∙_, subst}
 use mathlib.Core.List.{List, [], _∷_, _++_, append-assoc}
 use mathlib.Core.Option.{Option, none, some}
 use Prim.Native.Nat.{ℕ, _+_, _-_, _*_, _/_, _<_}
 use native.Mathlib.Omega.{arith}
-use lib.ListN.{length, getD, drop, length-append}
+use lib.ListN.{length, getD, drop}
 use lib.Seq.{drop-at, drop-drop}
 use Rattle.rates.specs.declared.Rate.{Rate}
 use Rattle.rates.specs.declared.Rate.the-variants.{One, Two, Five, Eleven}
@@ -19,7 +19,21 @@ use Rattle.symbols.proofs.Words.{word-phases}
 use Rattle.frame.specs.declared.Kind.{Kind}
 use Rattle.frame.specs.declared.Kind.the-variants.{Long, Short}
 use Rattle.frame.specs.Frame.{headerRate, frontChips, preambleLength, headerLength, partsChips, preambleChips}
-use Rattle.calls.specs.Reading.{orElse, firstOdd, oddGrowth, decidedWords, preambleWords, headerWords, reference, headerPhase, payloadPhase, frontOdd, frontHeard, payloadWords, payloadOdd}
+use Rattle.calls.specs.Reading.{
+  orElse,
+  firstOdd,
+  oddGrowth,
+  decidedWords,
+  preambleWords,
+  headerWords,
+  reference,
+  headerPhase,
+  payloadPhase,
+  frontOdd,
+  frontHeard,
+  payloadWords,
+  payloadOdd,
+}
 use Rattle.bits.specs.Code.{wordsChips}
 use Rattle.bits.proofs.Growths.{lastPhase-lt}
 use Rattle.clean.specs.Clean.{cleanRecording}
@@ -54,10 +68,8 @@ module _ (r : Rate) (ns : List ℕ) (rest : List Taken) (m : ℕ) (a : Allowed r
       drop-at (cleanRecording (wordsChips r ns)) rest (m * symbolChips r)
       (clean-length (wordsChips r ns) ∙ chips-length r ns ∙ ap (λ (j : ℕ). j * symbolChips r) e)
 
-  pub begun-length : length (cleanRecording (wordsChips r ns)) ≡ m * symbolChips r
-  begun-length = clean-length (wordsChips r ns) ∙ chips-length r ns ∙ ap (λ (j : ℕ). j * symbolChips r) e
-
-front-parts : (k : Kind) → preambleChips k + headerLength / symbolBits (headerRate k) * symbolChips (headerRate k) ≡ frontChips k
+front-parts : (k : Kind) → preambleChips k + headerLength / symbolBits (headerRate k) * symbolChips (headerRate k)
+    ≡ frontChips k
 front-parts Long = refl
 front-parts Short = refl
 
@@ -145,7 +157,8 @@ module _ (k : Kind) (r : Rate) (p n b : ℕ) (bs header payload : List ℕ) (res
   count3 : length words3 ≡ 8 * n / symbolBits r
   count3 = count-words r q2 payload ∙ ap (λ (j : ℕ). j / symbolBits r) ey
 
-  pub parts-are : partsChips k r p preamble header payload ≡ wordsChips One words1 ++ (wordsChips rate words2 ++ wordsChips r words3)
+  pub parts-are : partsChips k r p preamble header payload
+      ≡ wordsChips One words1 ++ (wordsChips rate words2 ++ wordsChips r words3)
   unfolding partsChips
   parts-are =
       let c1 = chips-of One p preamble hp in
@@ -165,7 +178,8 @@ module _ (k : Kind) (r : Rate) (p n b : ℕ) (bs header payload : List ℕ) (res
 
   pub preamble-words : preambleWords k recording ≡ words1
   unfolding preambleWords
-  preamble-words = ap (decidedWords One (preambleLength k)) split ∙ begins One words1 second (preambleLength k) allowed1 count1
+  preamble-words = ap (decidedWords One (preambleLength k)) split
+      ∙ begins One words1 second (preambleLength k) allowed1 count1
 
   dropped1 : drop (preambleChips k) recording ≡ second
   dropped1 = ap (drop (preambleChips k)) split ∙ follows One words1 second (preambleLength k) allowed1 count1
@@ -185,7 +199,8 @@ module _ (k : Kind) (r : Rate) (p n b : ℕ) (bs header payload : List ℕ) (res
 
   pub payload-words : payloadWords k r n recording ≡ words3
   unfolding payloadWords
-  payload-words = ap (decidedWords r (8 * n / symbolBits r)) dropped2 ∙ begins r words3 rest (8 * n / symbolBits r) allowed3 count3
+  payload-words = ap (decidedWords r (8 * n / symbolBits r)) dropped2
+      ∙ begins r words3 rest (8 * n / symbolBits r) allowed3 count3
 
   pub reference-is : reference k recording ≡ firstPhase p b
   unfolding reference
@@ -228,17 +243,6 @@ module _ (k : Kind) (r : Rate) (p n b : ℕ) (bs header payload : List ℕ) (res
   pub payload-heard : heard r 0 (payloadPhase k recording) (payloadWords k r n recording) ≡ payload
   payload-heard =
       ap₂ {C = List ℕ} (λ f w. heard r 0 f w) payload-phase payload-words ∙ heard-of r q2 n payload lq2 hy ey
-
-  pub all-length : length (partsChips k r p preamble header payload) ≡ frontChips k + 8 * n / symbolBits r * symbolChips r
-  all-length =
-      rw (parts-are, length-append, length-append)
-      (omega (
-        arith,
-        front-parts k,
-        chips-length One words1 ∙ ap (λ (j : ℕ). j * symbolChips One) count1,
-        chips-length rate words2 ∙ ap (λ (j : ℕ). j * symbolChips rate) count2,
-        chips-length r words3 ∙ ap (λ (j : ℕ). j * symbolChips r) count3,
-      ))
 
   -- every chip of the frame is a phase
   pub all-phases : Below 4 (partsChips k r p preamble header payload)

@@ -1,5 +1,5 @@
--- The front is read from the front's chips alone: recordings that begin alike are read alike as far as their fronts go, and so a frame cut
--- inside its payload is still known by its header. Assumes nothing.
+-- The front is read from the front's chips alone: recordings that begin alike are read alike as far as their fronts go,
+-- and so a frame cut inside its payload is still known by its header. Assumes nothing.
 use mathlib.Core.Path.{_≡_, refl, sym, ap, ap₂, _∙_}
 use mathlib.Core.List.{List, [], _∷_, _++_, map}
 use mathlib.Core.Option.{Option, some}
@@ -50,7 +50,8 @@ drop-take (suc c) (suc j) (x ∷ l) = drop-take c j l ∙ ap (λ (n : ℕ). take
     same c j = omega arith
 
 -- m symbols are decided from their chips
-pub words-take : (r : Rate) (m j : ℕ) (rec : List Taken) → m * symbolChips r ≤ j → decidedWords r m (take j rec) ≡ decidedWords r m rec
+pub words-take : (r : Rate) (m j : ℕ) (rec : List Taken) → m * symbolChips r ≤ j
+    → decidedWords r m (take j rec) ≡ decidedWords r m rec
 unfolding decidedWords
 words-take r zero j rec h = refl
 words-take r (suc m) j rec h =
@@ -69,7 +70,8 @@ module _ (k : Kind) (rec : List Taken) where
   preamble-fits Long = omega arith
   preamble-fits Short = omega arith
 
-  header-fits : (k : Kind) → headerLength / symbolBits (headerRate k) * symbolChips (headerRate k) ≤ frontChips k - preambleChips k
+  header-fits : (k : Kind)
+      → headerLength / symbolBits (headerRate k) * symbolChips (headerRate k) ≤ frontChips k - preambleChips k
   header-fits Long = omega arith
   header-fits Short = omega arith
 
@@ -80,8 +82,10 @@ module _ (k : Kind) (rec : List Taken) where
   header-local : headerWords k begin ≡ headerWords k rec
   unfolding headerWords
   header-local =
-      ap (decidedWords (headerRate k) (headerLength / symbolBits (headerRate k))) (drop-take (preambleChips k) (frontChips k) rec)
-      ∙ words-take (headerRate k) (headerLength / symbolBits (headerRate k)) (frontChips k - preambleChips k) (drop (preambleChips k) rec)
+      ap (decidedWords (headerRate k) (headerLength / symbolBits (headerRate k)))
+      (drop-take (preambleChips k) (frontChips k) rec)
+      ∙ words-take (headerRate k) (headerLength / symbolBits (headerRate k)) (frontChips k - preambleChips k)
+      (drop (preambleChips k) rec)
       (header-fits k)
 
   reference-local : reference k begin ≡ reference k rec
@@ -97,7 +101,8 @@ module _ (k : Kind) (rec : List Taken) where
   odd-local =
       ap₂ {C = Option ℕ} (λ x y. orElse x (λ place. some place) y)
       (ap₂ {C = Option ℕ} (λ p w. oddGrowth One 0 (growthsOf One p w)) reference-local preamble-local)
-      (ap₂ {C = Option ℕ} (λ p w. oddGrowth (headerRate k) (preambleChips k) (growthsOf (headerRate k) p w)) phase-local header-local)
+      (ap₂ {C = Option ℕ} (λ p w. oddGrowth (headerRate k) (preambleChips k) (growthsOf (headerRate k) p w)) phase-local
+      header-local)
 
   bits-local : frontBits k begin ≡ frontBits k rec
   unfolding frontBits frontHeard

@@ -1,5 +1,6 @@
--- A clean recording of three parts of bits, read part by part: the words are those sent, the phases run on, no 1 Mbit/s symbol has grown by
--- 1 or 3, and the bits heard are the bits sent but for the first, whose symbol serves only as reference. Assumes nothing.
+-- A clean recording of three parts of bits, read part by part: the words are those sent, the phases run on, no 1 Mbit/s
+-- symbol has grown by 1 or 3, and the bits heard are the bits sent but for the first, whose symbol serves only as
+-- reference. Assumes nothing.
 use mathlib.Core.Path.{_≡_, refl, sym, ap, ap₂, _∙_}
 use mathlib.Core.Bool.{Bool, cond}
 use mathlib.Core.List.{List, [], _∷_}
@@ -40,7 +41,8 @@ pub chips-length : (r : Rate) (ns : List ℕ) → length (wordsChips r ns) ≡ l
 unfolding wordsChips
 chips-length r [] = sym (zero-mul (symbolChips r))
 chips-length r (n ∷ ns) =
-    length-append (wordOf r n) (wordsChips r ns) ∙ omega (arith, word-length r n, chips-length r ns, suc-mul (length ns) (symbolChips r))
+    length-append (wordOf r n) (wordsChips r ns)
+    ∙ omega (arith, word-length r n, chips-length r ns, suc-mul (length ns) (symbolChips r))
 
 -- the words of bits, from phase p; how many
 abbrev pub wordsOf : Rate → ℕ → List ℕ → List ℕ
@@ -49,17 +51,20 @@ wordsOf r p bs = numbersFrom r p (symbolsOf r bs)
 pub count-words : (r : Rate) (p : ℕ) (bs : List ℕ) → length (wordsOf r p bs) ≡ length bs / symbolBits r
 unfolding symbolsOf
 count-words r p bs =
-    numbersFrom-length r p (symbolsFrom r 0 (length bs / symbolBits r) bs) ∙ symbolsFrom-length r 0 (length bs / symbolBits r) bs
+    numbersFrom-length r p (symbolsFrom r 0 (length bs / symbolBits r) bs)
+    ∙ symbolsFrom-length r 0 (length bs / symbolBits r) bs
 
 pub allowed-of : (r : Rate) (p : ℕ) (bs : List ℕ) → Below 2 bs → Allowed r (wordsOf r p bs)
 unfolding symbolsOf
 allowed-of r p bs h = numbers-allowed r 0 p (length bs / symbolBits r) bs h
 
-pub chips-of : (r : Rate) (p : ℕ) (bs : List ℕ) → Below 2 bs → chipsFrom r p (symbolsOf r bs) ≡ wordsChips r (wordsOf r p bs)
+pub chips-of : (r : Rate) (p : ℕ) (bs : List ℕ) → Below 2 bs
+    → chipsFrom r p (symbolsOf r bs) ≡ wordsChips r (wordsOf r p bs)
 unfolding symbolsOf
 chips-of r p bs h = chips-words r 0 p (length bs / symbolBits r) bs h
 
-pub last-of : (r : Rate) (p : ℕ) (bs : List ℕ) → Below 2 bs → lastHeard r p (wordsOf r p bs) ≡ lastPhase p (symbolsOf r bs)
+pub last-of : (r : Rate) (p : ℕ) (bs : List ℕ) → Below 2 bs
+    → lastHeard r p (wordsOf r p bs) ≡ lastPhase p (symbolsOf r bs)
 unfolding symbolsOf
 last-of r p bs h = last-number r 0 p (length bs / symbolBits r) bs h
 
@@ -70,7 +75,8 @@ whole Two n = omega arith
 whole Five n = omega arith
 whole Eleven n = omega arith
 
-pub heard-of : (r : Rate) (p n : ℕ) (bs : List ℕ) → p < 4 → Below 2 bs → length bs ≡ 8 * n → heard r 0 p (wordsOf r p bs) ≡ bs
+pub heard-of : (r : Rate) (p n : ℕ) (bs : List ℕ) → p < 4 → Below 2 bs → length bs ≡ 8 * n
+    → heard r 0 p (wordsOf r p bs) ≡ bs
 unfolding symbolsOf
 heard-of r p n bs l h e = heard-back r 0 p (length bs / symbolBits r) bs l h (rw e (whole r n))
 
@@ -81,13 +87,15 @@ even p b l e = absurd (omega arith)
 quarter : (p g : ℕ) → turned p g < 4
 quarter p g = omega arith
 
-pub none-odd : (at k p m : ℕ) (bs : List ℕ) → p < 4 → firstOdd at (growthsOf One p (numbersFrom One p (symbolsFrom One k m bs))) ≡ none
+pub none-odd : (at k p m : ℕ) (bs : List ℕ) → p < 4
+    → firstOdd at (growthsOf One p (numbersFrom One p (symbolsFrom One k m bs))) ≡ none
 unfolding symbolsFrom numbersFrom growthsOf firstOdd symbolOf
 none-odd at k p zero bs l = refl
 none-odd at k p (suc m) bs l =
     let b = getD (take 1 bs) 0 0 in
     let q = turned p (2 * b) in
-    ap (λ (t : Bool). cond t (some at) (firstOdd (at + 11) (growthsOf One q (numbersFrom One q (symbolsFrom One (suc k) m (drop 1 bs))))))
+    ap (λ (t : Bool). cond t (some at) (firstOdd (at + 11)
+    (growthsOf One q (numbersFrom One q (symbolsFrom One (suc k) m (drop 1 bs))))))
     (ne-eqb (grownBy p q % 2) 1 (even p b l))
     ∙ none-odd (at + 11) (suc k) q m (drop 1 bs) (quarter p (2 * b))
 

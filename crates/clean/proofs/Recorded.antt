@@ -1,7 +1,8 @@
--- Written chips, recorded hard or as exact soft pairs, are a clean recording. A hard phase and an exact pair come to the counts of a full
--- chip: the first by computing, the second since only one count is nearest to a value. Assumes nothing.
+-- Written chips, recorded hard or as exact soft pairs, are a clean recording. A hard phase and an exact pair come to
+-- the counts of a full chip: the first by computing, the second since only one count is nearest to a value. Assumes
+-- nothing.
 use mathlib.Core.Path.{_≡_, refl, sym, ap, ap₂, subst}
-use mathlib.Core.Bool.{Bool, true, false, cond, _&&_}
+use mathlib.Core.Bool.{Bool, true, false, cond}
 use mathlib.Core.List.{List, [], _∷_, _++_}
 use Prim.Native.Nat.{ℕ, zero, suc, _+_, _^_, _<_, _≤_}
 use native.Mathlib.Omega.{arith}
@@ -29,6 +30,7 @@ use Rattle.chips.specs.Chips.{
 use Rattle.chips.proofs.Meaning.{no-other}
 use Rattle.base.specs.Below.{Below}
 use Rattle.base.proofs.Below.{below-head, below-tail}
+use Rattle.base.proofs.Tests.{both-left, both-right}
 use Rattle.clean.specs.Clean.{cleanTaken, cleanRecording}
 use Rattle.clean.specs.Clean.{Exactly, none, more}
 
@@ -68,34 +70,29 @@ nearest-plus = record { close = lit≤ tt; even = λ e. refl }
 nearest-minus : Nearest (negℤ (pos (2 ^ 149))) (negℤ (pos 1024))
 nearest-minus = record { close = lit≤ tt; even = λ e. refl }
 
-both-l : (a b : Bool) → T (a && b) → T a
-both-l true b t = tt
-both-l false b t = t
-
-both-r : (a b : Bool) → T (a && b) → T b
-both-r true b t = t
-both-r false b t = absurd t
-
 module _ (x y : Float) (u : T (usableSample (record { i = x; q = y }))) where
   ux : T (usable x)
-  ux = both-l (usable x) (usable y) u
+  ux = both-left (usable x) (usable y) u
 
   uy : T (usable y)
-  uy = both-r (usable x) (usable y) u
+  uy = both-right (usable x) (usable y) u
 
   with-counts : (c d : ℤ) → countOf x ≡ c → countOf y ≡ d → softTaken x y ≡ counted (pair c d)
   with-counts c d e f = go (usableSample (record { i = x; q = y })) u
     where
-      go : (t : Bool) → T t → cond t (counted (cond t (pair (countOf x) (countOf y)) nothing)) unusable ≡ counted (pair c d)
+      go : (t : Bool) → T t → cond t (counted (cond t (pair (countOf x) (countOf y)) nothing)) unusable
+          ≡ counted (pair c d)
       go true tr = ap₂ {C = Taken} (λ a b. counted (pair a b)) e f
       go false tr = absurd tr
 
   from-exact : (m n c d : ℤ) → exactOf (Soft (record { i = x; q = y })) ≡ pair m n → Nearest m c → Nearest n d
       → softTaken x y ≡ counted (pair c d)
   from-exact m n c d e h k =
-      with-counts c d (is-count x m c ux (ap (λ (z : Counts). z .i) e) h) (is-count y n d uy (ap (λ (z : Counts). z .q) e) k)
+      with-counts c d (is-count x m c ux (ap (λ (z : Counts). z .i) e) h)
+      (is-count y n d uy (ap (λ (z : Counts). z .q) e) k)
 
-  pub soft-clean : (p : ℕ) → exactOf (Soft (record { i = x; q = y })) ≡ fullChip (2 ^ 149) p → softTaken x y ≡ cleanTaken p
+  pub soft-clean : (p : ℕ) → exactOf (Soft (record { i = x; q = y })) ≡ fullChip (2 ^ 149) p
+      → softTaken x y ≡ cleanTaken p
   soft-clean zero e = from-exact _ _ _ _ e nearest-plus nearest-zero
   soft-clean (suc zero) e = from-exact _ _ _ _ e nearest-zero nearest-plus
   soft-clean (suc (suc zero)) e = from-exact _ _ _ _ e nearest-minus nearest-zero

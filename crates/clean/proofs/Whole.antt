@@ -88,7 +88,8 @@ some-preamble Long = omega arith
 some-preamble Short = omega arith
 
 -- past the eighth bit the first output is forgotten
-forgotten : (j : ℕ) (h : List ℕ) (x y : ℕ) (os : List ℕ) → 8 ≤ j → drop j (descramble h (x ∷ os)) ≡ drop j (descramble h (y ∷ os))
+forgotten : (j : ℕ) (h : List ℕ) (x y : ℕ) (os : List ℕ) → 8 ≤ j
+    → drop j (descramble h (x ∷ os)) ≡ drop j (descramble h (y ∷ os))
 forgotten j h x y os l =
     let e : 8 + (j - 8) ≡ j = omega arith in
     ap (λ (i : ℕ). drop i (descramble h (x ∷ os))) (sym e)
@@ -142,7 +143,8 @@ module _ (k : Kind) (r : Rate) (p : ℕ) (header xs : List ℕ) (rest : List Tak
 
   joined : x ++ (y ++ z) ≡ s
   joined =
-      ap (λ (t : List ℕ). x ++ (y ++ t)) (sym (drop-drop 48 m s)) ∙ ap (λ (t : List ℕ). x ++ t) (take-append-drop 48 (drop m s))
+      ap (λ (t : List ℕ). x ++ (y ++ t)) (sym (drop-drop 48 m s))
+      ∙ ap (λ (t : List ℕ). x ++ t) (take-append-drop 48 (drop m s))
       ∙ take-append-drop m s
 
   abbrev b : ℕ
@@ -192,7 +194,8 @@ module _ (k : Kind) (r : Rate) (p : ℕ) (header xs : List ℕ) (rest : List Tak
   front-sent =
       sym (take-at (descramble (start k) (b ∷ tail)) (descramble (pastAfter (start k) (b ∷ tail)) z) (m + 48)
       (descramble-length (start k) (b ∷ tail) ∙ tail-length))
-      ∙ ap (take (m + 48)) (sym (descramble-append (start k) (b ∷ tail) z) ∙ ap (descramble (start k)) s-is ∙ whole ∙ parts)
+      ∙ ap (take (m + 48))
+      (sym (descramble-append (start k) (b ∷ tail) z) ∙ ap (descramble (start k)) s-is ∙ whole ∙ parts)
       ∙ take-at (preambleBits k ++ header) (octetBits xs) (m + 48) (both-length k header eh)
     where
       parts : frameBits k header xs ≡ (preambleBits k ++ header) ++ octetBits xs
@@ -230,7 +233,8 @@ module _ (k : Kind) (r : Rate) (p : ℕ) (header xs : List ℕ) (rest : List Tak
       (ap (λ (t : List Taken). heard r 0 (payloadPhase k t) (payloadWords k r n t)) same
       ∙ payload-heard k r p n b bs y z rest l hp hh hy ep y-length z-length)
       ∙ ap (octetsOf n)
-      (forgotten (m + 48) (start k) 0 b (tail ++ z) (omega arith) ∙ ap (λ (t : List ℕ). drop (m + 48) (descramble (start k) t)) s-is
+      (forgotten (m + 48) (start k) 0 b (tail ++ z) (omega arith)
+      ∙ ap (λ (t : List ℕ). drop (m + 48) (descramble (start k) t)) s-is
       ∙ ap (drop (m + 48)) whole ∙ cut)
       ∙ octets-back xs h256
     where
@@ -242,10 +246,17 @@ module _ (k : Kind) (r : Rate) (p : ℕ) (header xs : List ℕ) (rest : List Tak
 
   pub frame-phases : Below 4 (framed k r p header xs)
   frame-phases =
-      subst (λ (c : List ℕ). Below 4 c) (sym frame-is) (all-phases k r p n b bs y z rest l hp hh hy ep y-length z-length)
+      subst (λ (c : List ℕ). Below 4 c) (sym frame-is)
+      (all-phases k r p n b bs y z rest l hp hh hy ep y-length z-length)
 
   pub long-enough : frameChips k r n ≤ length recording
-  long-enough = rw (length-append (cleanRecording (framed k r p header xs)) rest, clean-length (framed k r p header xs), framed-length k r p header xs eh) (omega arith)
+  long-enough =
+      rw (
+        length-append (cleanRecording (framed k r p header xs)) rest,
+        clean-length (framed k r p header xs),
+        framed-length k r p header xs eh,
+      )
+      (omega arith)
 
   -- whatever the header's bits say, they are read
   pub front-read : frontOf k recording ≡ headerOf k (bitsOf 16 (sfdOf k)) header
@@ -263,7 +274,8 @@ module _ (k : Kind) (r : Rate) (p : ℕ) (header xs : List ℕ) (rest : List Tak
       ≡ none
   no-unusable =
       ap (λ (t : List Taken). firstUnusable (frontChips k) (take (frameChips k r n - frontChips k) t)) dropped
-      ∙ none-unusable (frontChips k) (frameChips k r n - frontChips k) (drop (frontChips k) (framed k r p header xs)) rest
+      ∙ none-unusable (frontChips k) (frameChips k r n - frontChips k)
+      (drop (frontChips k) (framed k r p header xs)) rest
       (rw (length-drop, framed-length k r p header xs eh) (omega arith))
     where
       dropped : drop (frontChips k) recording ≡ cleanRecording (drop (frontChips k) (framed k r p header xs)) ++ rest

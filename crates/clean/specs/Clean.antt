@@ -1,5 +1,5 @@
--- Clean recordings: chips as they were sent, whatever recorded them; and soft rows that hold them exactly (RULES 1.4 (2),
--- 2.3, 2.5). Definitions only. Assumes nothing.
+-- Clean recordings: chips as they were sent, whatever recorded them; and soft rows that hold them exactly (RULES 1.4
+-- (2), 2.3, 2.5). Definitions only. Assumes nothing.
 use Prim.Native.Nat.{ℕ, _^_}
 use mathlib.Core.Path.{_≡_}
 use mathlib.Core.List.{List, [], _∷_, map}

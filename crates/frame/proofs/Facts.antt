@@ -1,8 +1,8 @@
 -- Frames of octets 1Bh C6h, computed from the definitions: SFDs as sent, headers, scrambled bits where the header and
 -- the payload begin, chips of a header and of a payload at each rate; and the numbers of the two kinds. A wrong order
--- of bits, a half turn on the wrong symbols, the scrambler started again or the growth order used for p2 to p4
--- changes them (RULES 5, 8). The chips were made by a program written apart from these definitions, with starting
--- phase 1. Assumes nothing.
+-- of bits, a half turn on the wrong symbols, the scrambler started again or the growth order used for p2 to p4 changes
+-- them (RULES 5, 8). The chips were made by a program written apart from these definitions, with starting phase 1.
+-- Assumes nothing.
 use mathlib.Core.Path.{_≡_, refl}
 use mathlib.Core.Bool.{true, false}
 use mathlib.Core.List.{List, [], _∷_, _++_, map}
@@ -118,7 +118,7 @@ pub facts : computed ≡ expected
 unfolding
     computed expected some
     barkerWord cckWord
-    bitsOf octetBits growth symbolOf symbolsFrom symbolsOf chipsFrom lastPhase mixed scramble addWhere crcStep
-    remainder crcBits
+    bitsOf octetBits growth symbolOf symbolsFrom symbolsOf chipsFrom lastPhase mixed scramble addWhere crcStep remainder
+    crcBits
     preambleBits fieldBits headerBits sentHeader frameBits sentBits partsChips framed frame
 facts = refl

@@ -191,11 +191,13 @@ read-back kind rate phase payload w chips s tail room a left f h =
 
 pub read-back-soft : ReadBackSoft
 read-back-soft kind rate phase payload w chips s i q i′ q′ room a left e g f h =
-    let rec : softRecording (i ++ i′) (q ++ q′) ≡ cleanRecording (frame (kindOf kind) (rateOf rate) phase payload) ++ softRecording i′ q′ =
+    let rec : softRecording (i ++ i′) (q ++ q′)
+    ≡ cleanRecording (frame (kindOf kind) (rateOf rate) phase payload) ++ softRecording i′ q′ =
     soft-recorded (take (w .chips) chips) i q i′ q′ e
     ∙ ap (λ (x : List ℕ). cleanRecording x ++ softRecording i′ q′) (taken kind rate phase payload w chips s) in
     let same : length (i ++ i′) ≡ length (q ++ q′) =
-    length-append i i′ ∙ ap₂ {C = ℕ} (λ x y. x + y) (rows-agree (take (w .chips) chips) i q e) g ∙ sym (length-append q q′) in
+    length-append i i′ ∙ ap₂ {C = ℕ} (λ x y. x + y) (rows-agree (take (w .chips) chips) i q e) g
+    ∙ sym (length-append q q′) in
     back kind rate phase payload w chips s (softRecording i′ q′) (softRecording (i ++ i′) (q ++ q′)) rec
     (eqb (length (i ++ i′)) (length (q ++ q′))) room a left (eq-eqb (length (i ++ i′)) (length (q ++ q′)) same) f h
 

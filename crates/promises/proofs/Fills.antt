@@ -146,14 +146,16 @@ after-fits k rec room (front.Fields t) =
     (firstUnusable (frontChips k)
     (take (frameChips k (t .rate) (t .n) - frontChips k) (drop (frontChips k) rec)))
     (λ p. reading.Refused (Unusable p (t .length))) _ (λ p. tt)
-    (elsewise (Fits room) (payloadOdd k (t .rate) (t .n) rec) (λ p. reading.Refused (OddGrowth p (t .length))) _ (λ p. tt)
+    (elsewise (Fits room) (payloadOdd k (t .rate) (t .n) rec) (λ p. reading.Refused (OddGrowth p (t .length))) _
+    (λ p. tt)
     (nltb→le room (t .n) b)))
 
 reading-fits : (kind : ℕ) (agree : Bool) (rec : List Taken) (room : ℕ) → Fits room (readingOf kind agree rec room)
 unfolding readingOf
 reading-fits kind agree rec room =
     branch (Fits room) (not (isKind kind)) _ _ tt
-    (λ a. branch (Fits room) (not agree) _ _ tt (λ b. after-fits (kindOf kind) rec room (wholeOf (kindOf kind) rec (frontOf (kindOf kind) rec))))
+    (λ a. branch (Fits room) (not agree) _ _ tt
+    (λ b. after-fits (kindOf kind) rec room (wholeOf (kindOf kind) rec (frontOf (kindOf kind) rec))))
 
 payload-length : (k : Kind) (r : Rate) (n : ℕ) (rec : List Taken) → length (payloadOf k r n rec) ≡ n
 unfolding payloadOf

@@ -1,6 +1,6 @@
 -- Demand 3 over a whole reading: each word of a part is decided from the counts taken at its place, and those are near
--- the chips recorded there, so demand 3's law of one symbol holds of it. Once for every part and recorder; hard and soft
--- recordings keep their chips. Assumes nothing.
+-- the chips recorded there, so demand 3's law of one symbol holds of it. Once for every part and recorder; hard and
+-- soft recordings keep their chips. Assumes nothing.
 use mathlib.Core.Path.{_≡_, refl, sym, ap, _∙_, subst}
 use mathlib.Core.Bool.{Bool, true, false, not, cond, _&&_}
 use mathlib.Core.List.{List, [], _∷_, map}
@@ -113,7 +113,8 @@ module _ (half : ℕ) (chips : List Chip) (rec : List Taken) (keeps : Keeps half
     chips-at : (i : ℕ) → i < c → getD (take c (drop from chips)) i Lost ≡ getD chips (from + i) Lost
     chips-at i l = getD-take c (drop from chips) i Lost l ∙ getD-drop from chips i Lost
 
-    one-right : RightUpTo (c * (2 * half)) r (symbolAt r at j chips) (decided r (map takenCounts (take c (drop from rec))))
+    one-right : RightUpTo (c * (2 * half)) r (symbolAt r at j chips)
+        (decided r (map takenCounts (take c (drop from rec))))
     one-right =
         demand-3 half r (map takenCounts (take c (drop from rec))) (take c (drop from chips))
         (length-map (take c (drop from rec)) takenCounts
@@ -192,7 +193,8 @@ hard-keeps octets =
 hard-good : (octets : List ℕ) (place : ℕ) → getD octets place 5 ≤ 4 → Usable (hardRecording octets) place
 unfolding hardRecording
 hard-good octets place h =
-    rw (List·getD-map hardTaken octets place 5, unusable-hard (getD octets place 5), le-leb (getD octets place 5) 4 h) tt
+    let x = getD octets place 5 in
+    rw (List·getD-map hardTaken octets place 5, unusable-hard x, le-leb x 4 h) tt
 
 pub hard-right : HardRight
 hard-right octets = where-good (hard-good octets) (recorded-right 0 _ _ (hard-keeps octets))

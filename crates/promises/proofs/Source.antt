@@ -1,5 +1,5 @@
--- The chips of an accepted write have one source: reading them back tells rate and payload, and the first chip tells the starting phase,
--- since the first scrambled bit is the same for every frame of a kind. Assumes nothing.
+-- The chips of an accepted write have one source: reading them back tells rate and payload, and the first chip tells
+-- the starting phase, since the first scrambled bit is the same for every frame of a kind. Assumes nothing.
 use mathlib.Core.Path.{_≡_, refl, sym, ap, ap₂, _∙_, subst}
 use mathlib.Core.Bool.{true}
 use mathlib.Core.List.{List, _++_}
@@ -28,11 +28,14 @@ use Rattle.promises.proofs.Back.{read-back, chips-are}
 
 -- the first scrambled bit is 0 for both kinds, so the first chip is the starting phase
 first-chip : (k : Kind) (r : Rate) (p : ℕ) (xs : List ℕ) → getD (frame k r p xs) 0 0 ≡ turned (turned p 0) 0
-unfolding frame framed partsChips sentBits frameBits preambleBits bitsOf scramble mixed symbolsOf symbolsFrom symbolOf chipsFrom barkerWord
+unfolding
+    frame framed partsChips sentBits frameBits preambleBits
+    bitsOf scramble mixed symbolsOf symbolsFrom symbolOf chipsFrom barkerWord
 first-chip Long r p xs = refl
 first-chip Short r p xs = refl
 
-module _ (kind rate phase : ℕ) (payload : List ℕ) (w : Written) (chips : List ℕ) (s : Sent kind rate phase payload w chips) where
+module _ (kind rate phase : ℕ) (payload : List ℕ) (w : Written) (chips : List ℕ)
+    (s : Sent kind rate phase payload w chips) where
   begins : getD chips 0 0 ≡ phase
   begins =
       ap (λ (l : List ℕ). getD l 0 0) (chips-are kind rate phase payload w chips s)
@@ -49,7 +52,8 @@ module _ (kind rate phase : ℕ) (payload : List ℕ) (w : Written) (chips : Lis
 
   -- what a reading of all the chips answers, with room
   reads : (room : ℕ) → length payload ≤ room
-      → (recordOf (readingOf kind true (hardRecording chips) room) ≡ good rate (lengthOf rate payload) (length payload) (w .chips))
+      → (recordOf (readingOf kind true (hardRecording chips) room)
+      ≡ good rate (lengthOf rate payload) (length payload) (w .chips))
       × (octetsFound kind true (hardRecording chips) room ≡ payload ++ replicate (room - length payload) 0)
   reads room h =
       read-back kind rate phase payload w chips s (drop (w .chips) chips) room _ _

@@ -64,7 +64,9 @@ RecordedRight =
 
 -- a hard recording, where its octets are 0 to 4: with no error at all
 abbrev pub HardRight : Type 0
-HardRight = (octets : List ℕ) → WholeRight 0 (λ place. getD octets place 5 ≤ 4) (map hardChip octets) (hardRecording octets)
+HardRight =
+    (octets : List ℕ)
+    → WholeRight 0 (λ place. getD octets place 5 ≤ 4) (map hardChip octets) (hardRecording octets)
 
 -- a soft recording, where I and Q are usable
 unfoldable pub softChips : List Float → List Float → List Chip

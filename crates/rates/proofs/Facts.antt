@@ -1,5 +1,5 @@
--- What the definitions of the rates compute, against RULES 3.1, 3.2, 4, 5.2, 5.8 and 5.10 to 5.12: tables of inputs, and
--- one equation over each. The LENGTHs of 1,023 to 1,026 octets are printed in IEEE 802.11b-1999. Assumes nothing.
+-- What the definitions of the rates compute, against RULES 3.1, 3.2, 4, 5.2, 5.8 and 5.10 to 5.12: tables of inputs,
+-- and one equation over each. The LENGTHs of 1,023 to 1,026 octets are printed in IEEE 802.11b-1999. Assumes nothing.
 use mathlib.Core.Path.{_≡_, refl}
 use mathlib.Core.Bool.{true, false}
 use mathlib.Core.List.{List, [], _∷_, map}

@@ -6,11 +6,14 @@ use mathlib.Core.Bool.{false}
 use mathlib.Core.List.{List, map}
 use mathlib.Core.Option.{Option, none, some}
 use lib.ListN.{length, getD, take, drop}
-use lib.Ieee.{Float}
+use lib.Ieee.{Float, nan}
+use Rattle.base.specs.Tables.{tabulate}
 use Rattle.rates.specs.declared.Rate.{Rate}
 use Rattle.rates.specs.Rates.{symbolChips}
 use Rattle.chips.specs.declared.Counts.{Counts}
-use Rattle.chips.specs.Chips.{Taken, unusable, isUnusable, takenCounts, hardRecording, softRecording}
+use Rattle.chips.specs.declared.Chip.{Chip}
+use Rattle.chips.specs.declared.Chip.the-variants as chip
+use Rattle.chips.specs.Chips.{Taken, unusable, isUnusable, takenCounts, hardChip, hardRecording, softRecording}
 use Rattle.symbols.specs.Choice.{decided}
 use Rattle.recorders.specs.declared.Recorder.{Recorder}
 use Rattle.recorders.specs.declared.Recorder.the-variants.{Hard, Soft}
@@ -27,6 +30,13 @@ recordingOf Soft octets i q = softRecording i q
 abbrev pub whereFound : Found → Option ℕ
 whereFound Nothing = none
 whereFound (At place) = some place
+
+-- n chips of a row of octets from a place, and of two rows of f32
+abbrev pub hardPart : List ℕ → ℕ → ℕ → List Chip
+hardPart xs at n = tabulate (λ j. hardChip (getD xs (at + j) 0)) n
+
+abbrev pub softPart : List Float → List Float → ℕ → ℕ → List Chip
+softPart xs ys at n = tabulate (λ j. chip.Soft (record { i = getD xs (at + j) nan; q = getD ys (at + j) nan })) n
 
 -- the counts of the symbol whose chips start at a place
 abbrev pub symbolAt : Rate → List Taken → ℕ → List Counts

@@ -3,13 +3,12 @@
 ghost use mathlib.Core.Path.{_≡_};
 ghost use mathlib.Core.Bool.{true, not};
 ghost use mathlib.Core.List.{map};
-ghost use Prim.Native.Nat.{_+_, _-_, _*_, _≤_, _<_};
+ghost use Prim.Native.Nat.{_+_, _*_, _-_, _≤_, _<_};
 ghost use lib.ListN.{length, getD, take, drop};
 ghost use Rattle.rates.specs.Rates.{symbolChips};
-ghost use Rattle.chips.specs.Chips.{unusable, isUnusable, takenCounts, countsOf};
-ghost use Rattle.symbols.specs.Choice.{decided};
+ghost use Rattle.chips.specs.Chips.{unusable, isUnusable, countsOf};
 ghost use Rattle.calls.specs.Reading.{firstUnusable};
-ghost use Rattle.recorders.specs.Rows.{recordingOf, whereFound, AllUsable, DecidedAt};
+ghost use Rattle.recorders.specs.Rows.{recordingOf, whereFound, symbolAt, AllUsable, DecidedAt};
 use chips::Chip;
 use rates::Rate;
 
@@ -105,8 +104,8 @@ pub fn first_unusable(
 // The chips of a CCK symbol.
 fn eight(rec: Recorder, octets: &[u8], i: &[f32], q: &[f32], at: usize) -> [Chip; 8]
     requires { ⌜ at + 8 ≤ length (recordingOf rec (now octets) (now i) (now q)) ⌝ }
-    ensures answer { λ r. ⌜ map countsOf r ≡ map takenCounts (take 8 (drop at
-        (recordingOf rec (now (octets .entry)) (now (i .entry)) (now (q .entry))))) ⌝ }
+    ensures answer { λ r. ⌜ map countsOf r ≡
+        symbolAt Rate.Eleven (recordingOf rec (now (octets .entry)) (now (i .entry)) (now (q .entry))) at ⌝ }
 {
     match rec {
         Recorder::Hard => hard::eight(octets, at),
@@ -114,40 +113,72 @@ fn eight(rec: Recorder, octets: &[u8], i: &[f32], q: &[f32], at: usize) -> [Chip
     }
 }
 
-// The chips of a Barker symbol.
-fn eleven(rec: Recorder, octets: &[u8], i: &[f32], q: &[f32], at: usize) -> [Chip; 11]
-    requires { ⌜ at + 11 ≤ length (recordingOf rec (now octets) (now i) (now q)) ⌝ }
-    ensures answer { λ r. ⌜ map countsOf r ≡ map takenCounts (take 11 (drop at
-        (recordingOf rec (now (octets .entry)) (now (i .entry)) (now (q .entry))))) ⌝ }
-{
-    match rec {
-        Recorder::Hard => hard::eleven(octets, at),
-        Recorder::Soft => soft::eleven(i, q, at),
-    }
-}
-
-// The number of the word that a symbol is decided as, from the chips that start at a place.
-pub fn decide_one(
+// m symbols of 11 Mbit/s from a place: here, where several symbols are at hand, another way of scoring comes in.
+fn elevens(
     rec: Recorder,
     octets: &[u8],
     i: &[f32],
     q: &[f32],
-    rate: Rate,
     at: usize,
-) -> usize
-    requires { ⌜ at + symbolChips rate ≤ length (recordingOf rec (now octets) (now i) (now q)) ⌝ }
-    ensures answer { λ r. ⌜ r ≡ decided rate (map takenCounts (take (symbolChips rate) (drop at
-        (recordingOf rec (now (octets .entry)) (now (i .entry)) (now (q .entry)))))) ⌝ }
+    m: usize,
+    numbers: &mut [u8; 64],
+)
+    requires { ⌜ (m ≤ 64) × (at + 8 * m ≤ length (recordingOf rec (now octets) (now i) (now q)))
+        × (length (now numbers) ≡ 64) ⌝ }
+    ensures numbers { λ _. ⌜ DecidedAt Rate.Eleven
+        (recordingOf rec (now (octets .entry)) (now (i .entry)) (now (q .entry))) at m (now (numbers .exit)) ⌝ }
 {
-    match rate {
-        Rate::One => choice::decide_barker(eleven(rec, octets, i, q, at)),
-        Rate::Two => choice::decide_barker(eleven(rec, octets, i, q, at)),
-        Rate::Five => choice::decide_five(eight(rec, octets, i, q, at)),
-        Rate::Eleven => choice::decide_eleven(eight(rec, octets, i, q, at)),
+    let mut l: usize = 0;
+    while l < m {
+        numbers[l] = choice::decide_eleven(eight(rec, octets, i, q, at + 8 * l));
+        l += 1;
     }
 }
 
-// The numbers of the words that m symbols are decided as, from the chips that start at a place.
+// m symbols of 1 or 2 Mbit/s from a place.
+fn barkers(
+    rec: Recorder,
+    octets: &[u8],
+    i: &[f32],
+    q: &[f32],
+    at: usize,
+    m: usize,
+    numbers: &mut [u8; 64],
+)
+    requires { ⌜ (m ≤ 64) × (at + 11 * m ≤ length (recordingOf rec (now octets) (now i) (now q)))
+        × AllUsable (recordingOf rec (now octets) (now i) (now q)) at (11 * m) × (length (now numbers) ≡ 64) ⌝ }
+    ensures numbers { λ _. ⌜ DecidedAt Rate.One
+        (recordingOf rec (now (octets .entry)) (now (i .entry)) (now (q .entry))) at m (now (numbers .exit)) ⌝ }
+{
+    match rec {
+        Recorder::Hard => hard::barkers(octets, at, m, numbers),
+        Recorder::Soft => soft::barkers(i, q, at, m, numbers),
+    }
+}
+
+// m symbols of 5.5 Mbit/s from a place.
+fn fives(
+    rec: Recorder,
+    octets: &[u8],
+    i: &[f32],
+    q: &[f32],
+    at: usize,
+    m: usize,
+    numbers: &mut [u8; 64],
+)
+    requires { ⌜ (m ≤ 64) × (at + 8 * m ≤ length (recordingOf rec (now octets) (now i) (now q)))
+        × AllUsable (recordingOf rec (now octets) (now i) (now q)) at (8 * m) × (length (now numbers) ≡ 64) ⌝ }
+    ensures numbers { λ _. ⌜ DecidedAt Rate.Five
+        (recordingOf rec (now (octets .entry)) (now (i .entry)) (now (q .entry))) at m (now (numbers .exit)) ⌝ }
+{
+    match rec {
+        Recorder::Hard => hard::fives(octets, at, m, numbers),
+        Recorder::Soft => soft::fives(i, q, at, m, numbers),
+    }
+}
+
+// The numbers of the words that m symbols from a place are decided as, up to 64. Recorder and rate are looked at once
+// for all of them.
 pub fn decide(
     rec: Recorder,
     octets: &[u8],
@@ -164,12 +195,10 @@ pub fn decide(
     ensures numbers { λ _. ⌜ DecidedAt rate
         (recordingOf rec (now (octets .entry)) (now (i .entry)) (now (q .entry))) at m (now (numbers .exit)) ⌝ }
 {
-    let chips = rate.symbol_chips();
-    let mut place = at;
-    let mut l = 0;
-    while l < m {
-        numbers[l] = decide_one(rec, octets, i, q, rate, place) as u8;
-        place += chips;
-        l += 1;
+    match rate {
+        Rate::One => barkers(rec, octets, i, q, at, m, numbers),
+        Rate::Two => barkers(rec, octets, i, q, at, m, numbers),
+        Rate::Five => fives(rec, octets, i, q, at, m, numbers),
+        Rate::Eleven => elevens(rec, octets, i, q, at, m, numbers),
     }
 }

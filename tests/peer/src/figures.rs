@@ -4,7 +4,7 @@
 
 use crate::bits::{growth_of_two, half_turn, Rate};
 use crate::chips::{growth, turned, Phase};
-use crate::frame::crc;
+use crate::frame::{crc, front_bits, lowest_first, scramble, Header, Kind};
 use crate::refusals::MOST_OCTETS;
 use crate::symbols::{barker, cck, ALLOWED_11};
 use std::fs;
@@ -31,6 +31,14 @@ pub struct WordFigure {
     pub chips: Vec<Phase>,
 }
 
+/// Bits before and after scrambling from a kind's start; of a whole frame also its rate and payload.
+pub struct ScrambledFigure {
+    pub kind: Kind,
+    pub frame: Option<(Rate, Vec<u8>)>,
+    pub bits: Vec<u8>,
+    pub scrambled: Vec<u8>,
+}
+
 pub struct Figures {
     pub lengths_1023_to_1026: Vec<LengthFigure>,
     pub lengths_of_every_n: Vec<LengthFigure>,
@@ -40,6 +48,7 @@ pub struct Figures {
     pub barker_negated: Vec<(Phase, Vec<Phase>)>,
     cck_distances: Vec<(usize, usize)>,
     growths: Vec<[u8; 4]>,
+    pub scrambled: Vec<ScrambledFigure>,
 }
 
 const LENGTHS_1023_TO_1026: &str = "length_of_1023_to_1026_octets.txt";
@@ -50,6 +59,7 @@ const CCK_WORDS: &str = "cck_words.txt";
 const BARKER_NEGATED: &str = "barker_symbols_negated.txt";
 const CCK_DISTANCES: &str = "cck_distances.txt";
 const GROWTHS: &str = "growth_of_two_bits.txt";
+const SCRAMBLED: &str = "scrambled_by_gnu_radio.txt";
 
 impl Figures {
     pub fn load(dir: &Path) -> Result<Figures, String> {
@@ -86,6 +96,7 @@ impl Figures {
             barker_negated: rows(dir, BARKER_NEGATED, 4, 2, symbol)?,
             cck_distances: rows(dir, CCK_DISTANCES, 7, 2, distance)?,
             growths: rows(dir, GROWTHS, 4, 4, growths)?,
+            scrambled: rows(dir, SCRAMBLED, 9, 5, scrambled_row)?,
         })
     }
 
@@ -121,8 +132,31 @@ impl Figures {
             (BARKER_NEGATED, all(BARKER_NEGATED, &self.barker_negated, symbol)?),
             (CCK_DISTANCES, all(CCK_DISTANCES, &self.cck_distances, distance)?),
             (GROWTHS, all(GROWTHS, &self.growths, grown)?),
+            (SCRAMBLED, all(SCRAMBLED, &self.scrambled, scrambled_right)?),
         ])
     }
+}
+
+fn scrambled_row(row: &[String]) -> Option<ScrambledFigure> {
+    let octet = |at: usize| u8::from_str_radix(row[2].get(at..at + 2)?, 16).ok();
+    let payload = || (0..row[2].len()).step_by(2).map(octet).collect::<Option<Vec<u8>>>();
+    Some(ScrambledFigure {
+        kind: Kind::of_number(number(&row[0])? as u64)?,
+        frame: if row[1] == "0" { None } else { Some((Rate::of_code(number(&row[1])? as u64)?, payload()?)) },
+        bits: digits(&row[3], row[3].len())?,
+        scrambled: digits(&row[4], row[3].len())?,
+    })
+}
+
+fn scrambled_right(figure: &ScrambledFigure) -> bool {
+    let ScrambledFigure { kind, frame, bits, scrambled } = figure;
+    let of_frame = frame.as_ref().map(|(rate, payload)| {
+        let header = Header::written(*rate, payload.len());
+        let mut bits = front_bits(&kind.sync(), kind.sfd(), &header, header.crc());
+        bits.extend(payload.iter().flat_map(|octet| lowest_first(u16::from(*octet), 8)));
+        bits
+    });
+    of_frame.map_or(true, |of_frame| of_frame == *bits) && scramble(kind.scrambler_start(), bits) == *scrambled
 }
 
 /// Half the squared distance of two words of full chips: 1 a chip turned by 1 or 3, 2 a chip turned by 2.

@@ -4,7 +4,6 @@ use mathlib.Core.Path.{_≡_, refl, _∙_}
 use Prim.Native.Nat.{_-_, _^_}
 use native.Mathlib.Omega.{arith}
 use lib.ListN.{take, drop}
-use borrow.Author.Needs.{needs}
 use borrow.Author.Tests.{leb-true}
 use Rattle.calls.specs.Reading.{firstUnusable}
 use Rattle.recorders.specs.Rows.{recordingOf}

@@ -28,6 +28,14 @@ pub fn published_figures(out: &mut Out) {
             }
         }
     }
+    for figure in &figures.scrambled {
+        if let Some((rate, payload)) = &figure.frame {
+            let chips = Draft::new(figure.kind, *rate, 0, payload.clone()).chips();
+            let (kind, n) = (figure.kind.number(), payload.len());
+            out.call(Call::write(kind, u64::from(rate.code()), 0, payload.clone(), chips.len()));
+            out.call(Call::hard(kind, chips, n));
+        }
+    }
     let words: Vec<&[u8]> = figures.cck_words.iter().map(|figure| figure.chips.as_slice()).collect();
     let symbols: Vec<u8> = figures.barker_negated.iter().flat_map(|(_, chips)| chips.clone()).collect();
     for kind in Kind::BOTH {
