@@ -1,4 +1,4 @@
--- `sender::put_eleven` meets its contract: one word. Assumes nothing.
+-- `sending::put_eleven` meets its contract: one word. Assumes nothing.
 use borrow.Author.Needs.{needs}
 use mathlib.Core.Path.{_≡_, sym, ap, _∙_}
 use mathlib.Core.List.{List, append-nil}
@@ -12,9 +12,9 @@ use Rattle.bits.specs.Bits.{bitsOf}
 use Rattle.bits.specs.Growths.{growth, direct, halfTurn, symbolOf, symbolsFrom, chipsFrom, lastPhase}
 use Rattle.bits.specs.Code.{pairsOf}
 use Rattle.bits.proofs.PairLaws.{pair-bits, pair-phases}
-use Rattle.sender.specs.Sending.{symbolsAt}
-use Rattle.sender.proofs.put_eleven.Statement.{statement}
-use Rattle.sender.proofs.put_eleven.Tie as tie
+use Rattle.sending.specs.Sending.{symbolsAt}
+use Rattle.sending.proofs.put_eleven.Statement.{statement}
+use Rattle.sending.proofs.put_eleven.Tie as tie
 
 -- the symbol of eight bits, and its word
 eleven : (p k o q : ℕ) (w d z : List ℕ)

@@ -11,8 +11,8 @@ ghost use Rattle.chips.specs.Chips.{turned};
 ghost use Rattle.symbols.specs.Words.{barkerWord};
 ghost use Rattle.bits.specs.Bits.{bitsOf};
 ghost use Rattle.bits.specs.Growths.{growth, halfTurn, chipsFrom, lastPhase};
-ghost use Rattle.sender.specs.Sending.{symbolsAt, emit, step, run, ran};
-ghost use Rattle.sender.specs.Line.{state};
+ghost use Rattle.sending.specs.Sending.{symbolsAt, emit, step, run, ran};
+ghost use Rattle.sending.specs.Line.{state};
 
 mod words;
 

@@ -1,4 +1,4 @@
--- `sender::put_octets` meets its contract. The invariant: the first i octets are written, and l is the state after
+-- `sending::put_octets` meets its contract. The invariant: the first i octets are written, and l is the state after
 -- them. Assumes nothing.
 use mathlib.Core.Path.{_≡_, refl, sym, ap, _∙_}
 use mathlib.Core.List.{List, [], _∷_, _++_}
@@ -16,11 +16,11 @@ use Rattle.base.proofs.Over.{over-next}
 use Rattle.rates.specs.declared.Rate.{Rate}
 use Rattle.rates.specs.Rates.{octetChips}
 use Rattle.symbols.specs.Words.{barkerWord}
-use Rattle.sender.specs.Sending.{State, emit, step, run, ran}
-use Rattle.sender.specs.Line.{state}
-use Rattle.sender.proofs.Run.{length-run, run-snoc, ran-snoc, room-run}
-use Rattle.sender.proofs.put_octets.Statement.{statement}
-use Rattle.sender.proofs.put_octets.Tie as tie
+use Rattle.sending.specs.Sending.{State, emit, step, run, ran}
+use Rattle.sending.specs.Line.{state}
+use Rattle.sending.proofs.Run.{length-run, run-snoc, ran-snoc, room-run}
+use Rattle.sending.proofs.put_octets.Statement.{statement}
+use Rattle.sending.proofs.put_octets.Tie as tie
 
 abbrev Inv-loop : tie.InvT-loop
 Inv-loop r octets chips₀ per barkers l₀ i₀ at₀ chips l i at =
@@ -111,5 +111,5 @@ put-octets-spec =
     tie.close
     (tie.spec
     Inv-loop μ-loop (λ c κs. search needs) (λ c κs. search needs) loop-holds (λ c. omega arith)
-    (λ c. omega (arith, within (c .before .before))) (λ c. omega (arith, within (c .before .before))) (λ c. search needs)
-    put-octet-requires add-at (λ c. omega arith) (λ c. omega arith) loop-again (λ c. search needs) returns)
+    (λ c. omega (arith, within (c .before .before))) (λ c. omega (arith, within (c .before .before)))
+    (λ c. search needs) put-octet-requires add-at (λ c. omega arith) (λ c. omega arith) loop-again (λ c. search needs) returns)

@@ -1,11 +1,11 @@
--- `sender::put_one` meets its contract: eight phases, each grown from the one before. Assumes nothing.
+-- `sending::put_one` meets its contract: eight phases, each grown from the one before. Assumes nothing.
 use borrow.Author.Needs.{needs}
 use Rattle.bits.specs.Bits.{bitsOf}
 use Rattle.bits.specs.Growths.{symbolOf, symbolsFrom, chipsFrom, lastPhase}
-use Rattle.sender.specs.Sending.{symbolsAt}
-use Rattle.sender.specs.Line.{barkerWords}
-use Rattle.sender.proofs.put_one.Statement.{statement}
-use Rattle.sender.proofs.put_one.Tie as tie
+use Rattle.sending.specs.Sending.{symbolsAt}
+use Rattle.sending.specs.Line.{barkerWords}
+use Rattle.sending.proofs.put_one.Statement.{statement}
+use Rattle.sending.proofs.put_one.Tie as tie
 
 returns : tie.Need-returns
 unfolding bitsOf symbolOf symbolsFrom symbolsAt chipsFrom lastPhase barkerWords

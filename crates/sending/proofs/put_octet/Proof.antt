@@ -1,4 +1,4 @@
--- `sender::put_octet` meets its contract: the octet is scrambled after the one before it, and its eight bits are
+-- `sending::put_octet` meets its contract: the octet is scrambled after the one before it, and its eight bits are
 -- written. Assumes nothing.
 use mathlib.Core.Path.{_≡_}
 use mathlib.Core.List.{List, reverse}
@@ -10,10 +10,10 @@ use Rattle.rates.specs.Rates.{octetSymbols}
 use Rattle.bits.specs.Bits.{bitsOf}
 use Rattle.bits.specs.Growths.{chipsFrom, lastPhase}
 use Rattle.bits.specs.Scrambler.{scramble}
-use Rattle.sender.specs.Sending.{State, symbolsAt, step, emit}
-use Rattle.sender.specs.Line.{state}
-use Rattle.sender.proofs.put_octet.Statement.{statement}
-use Rattle.sender.proofs.put_octet.Tie as tie
+use Rattle.sending.specs.Sending.{State, symbolsAt, step, emit}
+use Rattle.sending.specs.Line.{state}
+use Rattle.sending.proofs.put_octet.Statement.{statement}
+use Rattle.sending.proofs.put_octet.Tie as tie
 
 octet : (r : Rate) (k : ℕ) (s : State) (x q : ℕ) (bs o d : List ℕ) → bs ≡ scramble (s .past) (bitsOf 8 x)
     → (q ≡ lastPhase (s .phase) (symbolsAt r (octetSymbols r * k) bs))

@@ -1,4 +1,4 @@
--- `sender::put_bits` meets its contract: in each arm the rate is known. Assumes nothing.
+-- `sending::put_bits` meets its contract: in each arm the rate is known. Assumes nothing.
 use mathlib.Core.Path.{_≡_}
 use mathlib.Core.List.{List}
 use Prim.Native.Nat.{ℕ, _*_, _%_, _≤_}
@@ -9,9 +9,9 @@ use Rattle.rates.specs.declared.Rate.{Rate}
 use Rattle.rates.specs.Rates.{octetSymbols, octetChips}
 use Rattle.bits.specs.Growths.{chipsFrom, lastPhase}
 use Rattle.bits.proofs.Growths.{symbolsFrom-parity}
-use Rattle.sender.specs.Sending.{symbolsAt}
-use Rattle.sender.proofs.put_bits.Statement.{statement}
-use Rattle.sender.proofs.put_bits.Tie as tie
+use Rattle.sending.specs.Sending.{symbolsAt}
+use Rattle.sending.proofs.put_bits.Statement.{statement}
+use Rattle.sending.proofs.put_bits.Tie as tie
 
 -- an arm knows the rate
 room : (r s : Rate) (n : ℕ) → r ≡ s → octetChips r ≤ n → octetChips s ≤ n

@@ -1,4 +1,4 @@
--- `sender::words::put_barkers` meets its contract. The invariant: the words of the first i phases are written.
+-- `sending::words::put_barkers` meets its contract. The invariant: the words of the first i phases are written.
 -- Assumes nothing.
 use mathlib.Core.Path.{_≡_, sym, ap, _∙_}
 use mathlib.Core.List.{List, _++_}
@@ -12,10 +12,10 @@ use borrow.Author.Needs.{needs}
 use Rattle.base.specs.Over.{over}
 use Rattle.base.proofs.Over.{over-next}
 use Rattle.symbols.specs.Words.{barkerWord}
-use Rattle.sender.specs.Line.{barkerWords}
-use Rattle.sender.proofs.Barkers.{barkers-snoc, length-barkers, barker-entry, length-entry}
-use Rattle.sender.proofs.words.put_barkers.Statement.{statement}
-use Rattle.sender.proofs.words.put_barkers.Tie as tie
+use Rattle.sending.specs.Line.{barkerWords}
+use Rattle.sending.proofs.Barkers.{barkers-snoc, length-barkers, barker-entry, length-entry}
+use Rattle.sending.proofs.words.put_barkers.Statement.{statement}
+use Rattle.sending.proofs.words.put_barkers.Tie as tie
 
 abbrev Inv-loop : tie.InvT-loop
 Inv-loop barkers phases chips₀ i₀ at₀ chips i at =
@@ -47,7 +47,8 @@ element-copy-out-word c = search needs
 slice-aggregate-put : tie.Need-slice-aggregate-put Inv-loop μ-loop
 slice-aggregate-put c =
     let start = c .before .before .before .before .before .before .before in
-    sym (length-entry _ (getD (start .args .phases .now) (c .before .before .before .before .loop .i) 0) (start .pre .0))
+    let i = c .before .before .before .before .loop .i in
+    sym (length-entry _ (getD (start .args .phases .now) i 0) (start .pre .0))
 
 put-requires : tie.Need-put-requires Inv-loop μ-loop
 put-requires c κs =

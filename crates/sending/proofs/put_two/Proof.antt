@@ -1,4 +1,5 @@
--- `sender::put_two` meets its contract: four phases, each grown from the one before by a pair of bits. Assumes nothing.
+-- `sending::put_two` meets its contract: four phases, each grown from the one before by a pair of bits.
+-- Assumes nothing.
 use mathlib.Core.Path.{_≡_, ap₂, _∙_}
 use mathlib.Core.List.{List, [], _∷_}
 use Prim.Native.Nat.{ℕ, _/_, _%_}
@@ -10,10 +11,10 @@ use Rattle.bits.specs.Bits.{bitsOf}
 use Rattle.bits.specs.Growths.{growth, symbolOf, symbolsFrom, chipsFrom, lastPhase}
 use Rattle.bits.specs.Code.{pairsOf}
 use Rattle.bits.proofs.PairLaws.{pair-bits}
-use Rattle.sender.specs.Sending.{symbolsAt}
-use Rattle.sender.specs.Line.{barkerWords}
-use Rattle.sender.proofs.put_two.Statement.{statement}
-use Rattle.sender.proofs.put_two.Tie as tie
+use Rattle.sending.specs.Sending.{symbolsAt}
+use Rattle.sending.specs.Line.{barkerWords}
+use Rattle.sending.proofs.put_two.Statement.{statement}
+use Rattle.sending.proofs.put_two.Tie as tie
 
 -- growing by the same bits
 same : (p q a b x y : ℕ) → q ≡ turned p (growth a b) → a ≡ x → b ≡ y → q ≡ turned p (growth x y)

@@ -18,7 +18,7 @@ use Rattle.bits.specs.Code.{pastAfter}
 use Rattle.bits.proofs.Bits.{octet-bits-length}
 use Rattle.bits.proofs.Growths.{symbolsFrom-append, chipsFrom-append, lastPhase-append}
 use Rattle.bits.proofs.Scrambler.{scramble-append, scramble-length, scramble-window, past-append}
-use Rattle.sender.specs.Sending.{State, symbolsAt, emit, step, run, ran}
+use Rattle.sending.specs.Sending.{State, symbolsAt, emit, step, run, ran}
 
 -- the outputs so far, after bits more
 abbrev pub after : List ℕ → List ℕ → List ℕ

@@ -4,7 +4,7 @@ use mathlib.Core.List.{List, [], _∷_, _++_}
 use Rattle.symbols.specs.Words.{barkerWord}
 use Rattle.bits.specs.declared.Line.{Line}
 use Rattle.bits.specs.Code.{pastOf}
-use Rattle.sender.specs.Sending.{State}
+use Rattle.sending.specs.Sending.{State}
 
 -- the octet sent last is eight outputs, the first lowest
 abbrev pub state : Line → State

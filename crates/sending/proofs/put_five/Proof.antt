@@ -1,4 +1,4 @@
--- `sender::put_five` meets its contract: two words, the second over the part that starts where the first ends.
+-- `sending::put_five` meets its contract: two words, the second over the part that starts where the first ends.
 -- Assumes nothing.
 use borrow.Author.Needs.{needs}
 use mathlib.Core.Path.{_≡_, refl, sym, ap, _∙_}
@@ -15,9 +15,9 @@ use Rattle.bits.specs.Bits.{bitsOf}
 use Rattle.bits.specs.Code.{pairsOf}
 use Rattle.bits.proofs.PairLaws.{pair-bits}
 use Rattle.bits.specs.Growths.{growth, halfTurn, symbolOf, symbolsFrom, chipsFrom, lastPhase}
-use Rattle.sender.specs.Sending.{symbolsAt}
-use Rattle.sender.proofs.put_five.Statement.{statement}
-use Rattle.sender.proofs.put_five.Tie as tie
+use Rattle.sending.specs.Sending.{symbolsAt}
+use Rattle.sending.proofs.put_five.Statement.{statement}
+use Rattle.sending.proofs.put_five.Tie as tie
 
 -- the two symbols of eight bits, and their words
 five : (p b0 b1 b2 b3 b4 b5 b6 b7 q0 q1 : ℕ) (w v d o y : List ℕ)
