@@ -1,11 +1,12 @@
 #!/usr/bin/env python3
 """tree.py: holds the text of the tree to its own rules.
 
-- lines of Rattle, antt, C, Rust and scripts are at most 120 characters wide (proof files may reach 160);
-  a script is also a file that starts with #!;
+- lines of Rattle, antt, C, Rust, scripts (a file that starts with #! is one) and documents are at most 120 characters
+  wide; a table of a document may be wider;
 - a Rattle file has at most 250 lines, a definitions file 250, a proof file 400;
 - no tracked file holds a path of a machine;
-- every path and every crate item that docs/PROMISES.md names in `code` exists.
+- crates.txt names just those crates that a crate uses;
+- every path and every crate item that docs/PROMISES.md names in `code` exists, and it names every must-fail edit.
 Prints each fault, and ends with status 1 if there is one.
 """
 import os
@@ -27,8 +28,8 @@ def limits(path, text):
     if path.endswith('.rt'):
         return 120, 250
     if path.endswith('.antt'):
-        return (120, 250) if '/specs/' in path else (160, 400)
-    if path.endswith(('.c', '.h', '.cpp', '.rs', '.py', '.sh')) or text.startswith('#!'):
+        return 120, 250 if '/specs/' in path else 400
+    if path.endswith(('.c', '.h', '.cpp', '.rs', '.py', '.sh', '.md')) or text.startswith('#!'):
         return 120, 1000
     return None
 
@@ -45,7 +46,7 @@ def check_sizes(path, text):
     width, most = allowed
     lines = text.split('\n')
     for number, line in enumerate(lines, 1):
-        if len(line) > width:
+        if len(line) > width and not line.startswith('|'):
             faults.append(f'{path}:{number}: {len(line)} characters, more than {width}')
     if len(lines) - 1 > most:
         faults.append(f'{path}: {len(lines) - 1} lines, more than {most}')
@@ -57,9 +58,35 @@ def check_machine_paths(path, text):
             faults.append(f'{path}:{number}: a path of a machine')
 
 
+def stack():
+    """The crates of crates.txt with those that each names."""
+    lines = [line.split(':') for line in text_of('crates.txt').split('\n') if ':' in line and line[0] != '#']
+    return {name.strip(): deps.split() for name, deps in lines}
+
+
+def check_crates():
+    crates = stack()
+    for name, deps in crates.items():
+        own = [p for p in tracked() if p.startswith(f'crates/{name}/') and p.endswith(('.rt', '.antt'))]
+        text = '\n'.join(re.sub(r'(--|//)[^\n]*', '', text_of(p)) for p in own)
+        own_modules = set(re.findall(r'^(?:pub )?mod (\w+);', text, re.M))
+        called = set(re.findall(r'\b([a-z_]+)::', text)) - own_modules
+        used = set(re.findall(r'Rattle·([a-z_]+)\b', text)) | called
+        for dep in deps:
+            if dep not in used:
+                faults.append(f'crates.txt: {name} does not use {dep}')
+        for other in sorted((used & set(crates)) - {name} - set(deps)):
+            faults.append(f'crates.txt: {name} uses {other}')
+
+
+def edits():
+    """Every must-fail edit, by the name of its error."""
+    return [p for p in tracked() if re.fullmatch(r'crates/\w+/must-fail/\w+\.edit', p)]
+
+
 def names():
-    """Every name in the sources, definitions, proofs and the header, and every crate's own."""
-    found = set(os.listdir('crates'))
+    """Every name in the sources, definitions, proofs and the header, every crate's own and every edit's."""
+    found = set(os.listdir('crates')) | {os.path.basename(p)[:-5] for p in edits()}
     for path in tracked():
         if path.startswith(('crates/', 'include/')) and path.endswith(('.rt', '.antt', '.h')):
             found.update(re.findall(r"[\w\-′₀-₉]+", text_of(path)))
@@ -72,7 +99,13 @@ def check_promises():
         faults.append(f'{path} is missing')
         return
     declared = names()
-    for number, line in enumerate(text_of(path).split('\n'), 1):
+    text = text_of(path)
+    for edit in edits():
+        crate, name = edit.split('/')[1], os.path.basename(edit)[:-5]
+        section = re.search(r'^- `%s`: ((?:.|\n  )*)' % crate, text, re.M)
+        if not section or f'`{name}`' not in section.group(1):
+            faults.append(f'{path}: does not name {edit}')
+    for number, line in enumerate(text.split('\n'), 1):
         for quoted in re.findall(r'`([^`]+)`', line):
             if '/' in quoted:
                 if not os.path.exists(quoted):
@@ -88,6 +121,7 @@ for p in tracked():
         continue
     check_sizes(p, content)
     check_machine_paths(p, content)
+check_crates()
 check_promises()
 for fault in faults:
     print('tree.py:', fault)

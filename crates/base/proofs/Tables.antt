@@ -10,7 +10,19 @@ use native.Mathlib.Nat.{le-antisymm, le-of-suc-le-suc, not-suc-le-zero}
 use native.Mathlib.Decide.{decLt}
 use native.Mathlib.Numerals.{add-one}
 use native.Mathlib.Omega.{arith}
-use lib.ListN.{length, getD, take, drop, set, length-append, length-set, length-map, List·getD-append, List·getD-map, List·getD-eq-default}
+use lib.ListN.{
+  length,
+  getD,
+  take,
+  drop,
+  set,
+  length-append,
+  length-set,
+  length-map,
+  List·getD-append,
+  List·getD-map,
+  List·getD-eq-default,
+}
 use lib.Seq.{take-suc-set, take-all, getD-append-seam, ext-getD, getD-at}
 use Rattle.base.specs.Tables.{tabulate, Filled}
 

@@ -1,11 +1,13 @@
--- A rule of all numbers below n, proved by one test that antt computes at each of them.
+-- Tests: a rule of all numbers below n, proved by one test that antt computes at each of them; and what a test that a
+-- function made tells of the definition that its contract cites.
 -- Assumes nothing.
-use mathlib.Core.Path.{_≡_, sym, subst}
-use mathlib.Core.Bool.{Bool, true, false, _&&_}
+use mathlib.Core.Path.{_≡_, sym, subst, _∙_}
+use mathlib.Core.Bool.{Bool, true, false, not, _&&_}
 use Prim.Native.Nat.{ℕ, zero, suc, _<_}
 use native.Mathlib.Nat.{not-suc-le-zero}
 use native.Mathlib.Decide.{decLt}
 use native.Mathlib.Omega.{arith}
+use borrow.Author.Tests.{not-true, not-false}
 use lib.Dec.{T}
 
 abbrev pub implies : Bool → Bool → Bool
@@ -35,3 +37,9 @@ all-at f (suc n) t k h = by (decLt k n) (all-at f n (both-left (all f n) (f n) t
     by : Dec (k < n) → (k < n → T (f k)) → T (f k)
     by (yes p) rest = rest p
     by (no q) rest = let e : n ≡ k = omega arith in subst (λ (m : ℕ). T (f m)) e (both-right (all f n) (f n) t)
+
+pub failed : {a b : Bool} → a ≡ b → not a ≡ true → b ≡ false
+failed e t = sym e ∙ not-true _ t
+
+pub passed : {a b : Bool} → a ≡ b → not a ≡ false → b ≡ true
+passed e t = sym e ∙ not-false _ t

@@ -4,3 +4,5 @@ pub mod Heard
 pub mod Scrambler
 pub mod Crc
 pub mod Facts
+pub mod Mixing
+pub mod PairLaws

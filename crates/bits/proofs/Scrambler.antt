@@ -3,10 +3,9 @@
 --     recovers                  from any other past it gives them back from the eighth on
 --     first-unknown             where the first output is not known either, from the ninth on
 --     scramble-window, descramble-window      only the last seven outputs matter;
---     past-seven, past-eight    after so many outputs nothing before them does
+--     past-seven                after so many outputs nothing before them does
 --     scramble-append, descramble-append, past-append    a run goes on from the outputs so far
 --     scramble-length, descramble-length, scramble-below, descramble-below    as many, and bits
---     scramble-eight, descramble-eight    an octet's eight bits, each from its taps
 -- By induction on the bits. Assumes nothing.
 use mathlib.Core.Path.{_≡_, refl, sym, ap, ap₂, _∙_}
 use mathlib.Core.List.{List, [], _∷_, _++_}
@@ -15,11 +14,10 @@ use native.Mathlib.Nat.{add-zero}
 use native.Mathlib.Omega.{arith}
 use lib.ListN.{length, getD, take, drop}
 use lib.Seq.{getD-take, take-take}
-use Rattle.bits.specs.declared.Eight.{Eight}
 use Rattle.bits.specs.Bits.{_⊕_}
 use Rattle.bits.specs.Scrambler.{mixed, scramble, descramble}
 use Rattle.base.specs.Below.{Below}
-use Rattle.bits.specs.Code.{inTime, lastFirst, pastAfter}
+use Rattle.bits.specs.Code.{pastAfter}
 use Rattle.base.proofs.Below.{below-nil, below-cons, below-head, below-tail}
 
 twice : (past : List ℕ) (b : ℕ) → b < 2 → mixed past (mixed past b) ≡ b
@@ -102,11 +100,6 @@ descramble-window h k (o ∷ os) e =
     ap₂ {B = List ℕ} (λ x xs. x ∷ xs) (mixed-window h k o e)
     (descramble-window (o ∷ h) (o ∷ k) os (window-more h k o e))
 
--- after an octet's eight outputs nothing before them matters
-pub past-eight : (past : List ℕ) (e : Eight) → take 7 (pastAfter past (inTime e)) ≡ take 7 (lastFirst e)
-unfolding pastAfter
-past-eight past e = refl
-
 past-more : (j : ℕ) (h k os : List ℕ) → take j h ≡ take j k
     → take (j + length os) (pastAfter h os) ≡ take (j + length os) (pastAfter k os)
 unfolding pastAfter
@@ -136,21 +129,3 @@ pub first-unknown : (h k : List ℕ) (x y : ℕ) (os : List ℕ)
     → drop 8 (descramble h (x ∷ os)) ≡ drop 8 (descramble k (y ∷ os))
 unfolding descramble
 first-unknown h k x y os = recovers (x ∷ h) (y ∷ k) os
-
--- ---- an octet's eight bits, each from its taps
-
-pub scramble-eight : (p0 p1 p2 p3 p4 p5 p6 p7 x0 x1 x2 x3 x4 x5 x6 x7 b0 b1 b2 b3 b4 b5 b6 b7 : ℕ)
-    → b0 ≡ x0 ⊕ p4 ⊕ p1 → b1 ≡ x1 ⊕ p5 ⊕ p2 → b2 ≡ x2 ⊕ p6 ⊕ p3 → b3 ≡ x3 ⊕ p7 ⊕ p4
-    → b4 ≡ x4 ⊕ b0 ⊕ p5 → b5 ≡ x5 ⊕ b1 ⊕ p6 → b6 ≡ x6 ⊕ b2 ⊕ p7 → b7 ≡ x7 ⊕ b3 ⊕ b0
-    → b0 ∷ b1 ∷ b2 ∷ b3 ∷ b4 ∷ b5 ∷ b6 ∷ b7 ∷ []
-    ≡ scramble (p7 ∷ p6 ∷ p5 ∷ p4 ∷ p3 ∷ p2 ∷ p1 ∷ p0 ∷ []) (x0 ∷ x1 ∷ x2 ∷ x3 ∷ x4 ∷ x5 ∷ x6 ∷ x7 ∷ [])
-unfolding mixed scramble
-scramble-eight p0 p1 p2 p3 p4 p5 p6 p7 x0 x1 x2 x3 x4 x5 x6 x7 b0 b1 b2 b3 b4 b5 b6 b7 e0 e1 e2 e3 e4 e5 e6 e7 = cc
-
-pub descramble-eight : (p0 p1 p2 p3 p4 p5 p6 p7 x0 x1 x2 x3 x4 x5 x6 x7 b0 b1 b2 b3 b4 b5 b6 b7 : ℕ)
-    → b0 ≡ x0 ⊕ p4 ⊕ p1 → b1 ≡ x1 ⊕ p5 ⊕ p2 → b2 ≡ x2 ⊕ p6 ⊕ p3 → b3 ≡ x3 ⊕ p7 ⊕ p4
-    → b4 ≡ x4 ⊕ x0 ⊕ p5 → b5 ≡ x5 ⊕ x1 ⊕ p6 → b6 ≡ x6 ⊕ x2 ⊕ p7 → b7 ≡ x7 ⊕ x3 ⊕ x0
-    → b0 ∷ b1 ∷ b2 ∷ b3 ∷ b4 ∷ b5 ∷ b6 ∷ b7 ∷ []
-    ≡ descramble (p7 ∷ p6 ∷ p5 ∷ p4 ∷ p3 ∷ p2 ∷ p1 ∷ p0 ∷ []) (x0 ∷ x1 ∷ x2 ∷ x3 ∷ x4 ∷ x5 ∷ x6 ∷ x7 ∷ [])
-unfolding mixed descramble
-descramble-eight p0 p1 p2 p3 p4 p5 p6 p7 x0 x1 x2 x3 x4 x5 x6 x7 b0 b1 b2 b3 b4 b5 b6 b7 e0 e1 e2 e3 e4 e5 e6 e7 = cc

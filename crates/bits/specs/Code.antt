@@ -1,13 +1,13 @@
 -- What the code's structs stand for, and the words of symbols by their numbers.
 -- Definitions only. Assumes nothing.
-use Prim.Native.Nat.{ℕ, _<_}
+use Prim.Native.Nat.{ℕ, _+_, _*_, _/_, _%_, _<_}
 use mathlib.Core.List.{List, [], _∷_, _++_, reverse}
 use Rattle.rates.specs.declared.Rate.{Rate}
 use Rattle.rates.specs.declared.Rate.the-variants.{One, Two, Five, Eleven}
 use Rattle.chips.specs.Chips.{turned}
 use Rattle.symbols.specs.Words.{cckNumber, wordOf}
 use Rattle.bits.specs.Bits.{bitsOf}
-use Rattle.bits.specs.Growths.{Symbol}
+use Rattle.bits.specs.Growths.{Symbol, direct}
 use Rattle.bits.specs.declared.Eight.{Eight}
 use Rattle.bits.specs.declared.Sixteen.{Sixteen}
 
@@ -22,6 +22,14 @@ lastFirst e = e .b7 ∷ e .b6 ∷ e .b5 ∷ e .b4 ∷ e .b3 ∷ e .b2 ∷ e .b1 
 -- an octet's bits, last first: as the scrambler's past
 abbrev pub pastOf : ℕ → List ℕ
 pastOf x = reverse (bitsOf 8 x)
+
+-- the pairs of an octet's bits as numbers, the first in time lowest; in a pair the first in time is the higher
+unfoldable pub pairsOf : ℕ → ℕ
+pairsOf o =
+    direct (o % 2) (o / 2 % 2)
+    + 4 * direct (o / 2 / 2 % 2) (o / 2 / 2 / 2 % 2)
+    + 16 * direct (o / 2 / 2 / 2 / 2 % 2) (o / 2 / 2 / 2 / 2 / 2 % 2)
+    + 64 * direct (o / 2 / 2 / 2 / 2 / 2 / 2 % 2) (o / 2 / 2 / 2 / 2 / 2 / 2 / 2 % 2)
 
 -- the past once more outputs have been made, first in time first
 unfoldable pub pastAfter : List ℕ → List ℕ → List ℕ

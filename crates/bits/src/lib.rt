@@ -1,14 +1,14 @@
 // Bits to phases and back, the scrambler and the CRC. A bit is a u8, 0 or 1.
 ghost use mathlib.Core.Path.{_≡_};
-ghost use mathlib.Core.List.{[], _∷_, _++_};
-ghost use Prim.Native.Nat.{_<_};
-ghost use lib.ListN.{length, replicate};
+ghost use mathlib.Core.List.{[], _∷_};
+ghost use Prim.Native.Nat.{_/_, _%_, _<_};
+ghost use lib.ListN.{length};
 ghost use Rattle.bits.specs.Bits.{_⊕_, bitsOf, numberOf, octetBits};
 ghost use Rattle.bits.specs.Growths.{growth};
 ghost use Rattle.bits.specs.Scrambler.{scramble, descramble};
 ghost use Rattle.bits.specs.Crc.{crcStep, remainder, complement, crcBits};
 ghost use Rattle.base.specs.Below.{Below};
-ghost use Rattle.bits.specs.Code.{inTime, lastFirst, terms};
+ghost use Rattle.bits.specs.Code.{inTime, pastOf, pairsOf, terms};
 
 // Eight bits, b0 first in time.
 pub struct Eight {
@@ -36,14 +36,8 @@ fn xor(a: u8, b: u8) -> u8
     (a % 2 + b % 2) % 2
 }
 
-fn xor3(a: u8, b: u8, c: u8) -> u8
-    ensures answer { λ r. ⌜ r ≡ a ⊕ b ⊕ c ⌝ }
-{
-    xor(xor(a, b), c)
-}
-
 // The bits of an octet, lowest first.
-pub fn unpack(x: u8) -> Eight
+fn unpack(x: u8) -> Eight
     ensures answer { λ r. ⌜ inTime r ≡ bitsOf 8 x ⌝ }
 {
     let x1 = x / 2;
@@ -66,7 +60,7 @@ pub fn unpack(x: u8) -> Eight
 }
 
 // The octet of eight bits, lowest first.
-pub fn pack(e: Eight) -> u8
+fn pack(e: Eight) -> u8
     requires { ⌜ Below 2 (inTime e) ⌝ }
     ensures answer { λ r. ⌜ r ≡ numberOf (inTime e) ⌝ }
 {
@@ -79,76 +73,37 @@ pub fn pack(e: Eight) -> u8
     e.b0 + 2 * t1
 }
 
-// Eight bits scrambled after the eight outputs before them.
-fn scramble_eight(past: Eight, x: Eight) -> Eight
-    ensures answer { λ r. ⌜ inTime r ≡ scramble (lastFirst past) (inTime x) ⌝ }
+// An octet scrambled after the one sent before it: the outputs 4 and 7 back come from the octet before,
+// then from this one.
+pub fn scramble_octet(past: u8, x: u8) -> u8
+    ensures answer { λ r. ⌜ bitsOf 8 r ≡ scramble (pastOf past) (bitsOf 8 x) ⌝ }
 {
-    let b0 = xor3(x.b0, past.b4, past.b1);
-    let b1 = xor3(x.b1, past.b5, past.b2);
-    let b2 = xor3(x.b2, past.b6, past.b3);
-    let b3 = xor3(x.b3, past.b7, past.b4);
-    let b4 = xor3(x.b4, b0, past.b5);
-    let b5 = xor3(x.b5, b1, past.b6);
-    let b6 = xor3(x.b6, b2, past.b7);
-    let b7 = xor3(x.b7, b3, b0);
-    Eight {
-        b0,
-        b1,
-        b2,
-        b3,
-        b4,
-        b5,
-        b6,
-        b7,
-    }
+    let t = x ^ (past / 16) ^ (past / 2);
+    t ^ (t % 16 * 16) ^ (t % 2 * 128)
 }
 
-// And back: the outputs are what was received.
-fn descramble_eight(past: Eight, o: Eight) -> Eight
-    ensures answer { λ r. ⌜ inTime r ≡ descramble (lastFirst past) (inTime o) ⌝ }
+// And back: the octets are what was received.
+pub fn descramble_octet(past: u8, x: u8) -> u8
+    ensures answer { λ r. ⌜ r ≡ numberOf (descramble (pastOf past) (bitsOf 8 x)) ⌝ }
 {
-    let b0 = xor3(o.b0, past.b4, past.b1);
-    let b1 = xor3(o.b1, past.b5, past.b2);
-    let b2 = xor3(o.b2, past.b6, past.b3);
-    let b3 = xor3(o.b3, past.b7, past.b4);
-    let b4 = xor3(o.b4, o.b0, past.b5);
-    let b5 = xor3(o.b5, o.b1, past.b6);
-    let b6 = xor3(o.b6, o.b2, past.b7);
-    let b7 = xor3(o.b7, o.b3, o.b0);
-    Eight {
-        b0,
-        b1,
-        b2,
-        b3,
-        b4,
-        b5,
-        b6,
-        b7,
-    }
+    x ^ (past / 16) ^ (past / 2) ^ (x % 16 * 16) ^ (x % 2 * 128)
 }
 
-// An octet scrambled after the eight outputs before it.
-pub fn scramble_octet(past: Eight, x: u8) -> Eight
-    ensures answer { λ r. ⌜ inTime r ≡ scramble (lastFirst past) (bitsOf 8 x) ⌝ }
+// The four pairs of an octet's bits, each with the first in time the higher: what a pair stands for directly.
+pub fn pairs(o: u8) -> u8
+    ensures answer { λ r. ⌜ r ≡ pairsOf o ⌝ }
 {
-    scramble_eight(past, unpack(x))
-}
-
-// The octet of eight outputs, after the eight before them.
-pub fn descramble_octet(past: Eight, o: Eight) -> u8
-    ensures answer { λ r. ⌜ r ≡ numberOf (descramble (lastFirst past) (inTime o)) ⌝ }
-{
-    pack(descramble_eight(past, o))
+    (o & 0x55) * 2 + (o & 0xAA) / 2
 }
 
 // How far two bits turn the phase: 00, 01, 10, 11.
 const GROWTHS: [u8; 4] = [0, 1, 3, 2];
 
-pub fn growth(a: u8, b: u8) -> u8
-    requires { ⌜ (a < 2) × (b < 2) ⌝ }
-    ensures answer { λ r. ⌜ (r ≡ growth a b) × (r < 4) ⌝ }
+// The growth of the lowest of the pairs n.
+pub fn growth(n: u8) -> u8
+    ensures answer { λ r. ⌜ (r ≡ growth (n / 2 % 2) (n % 2)) × (r < 4) ⌝ }
 {
-    GROWTHS[(2 * a + b) as usize]
+    GROWTHS[(n % 4) as usize]
 }
 
 // The CRC register, highest term first.

@@ -1,15 +1,15 @@
 // The answers of the calls as numbers: for each case of an enum its number and values.
-use frame::Reading;
-use frame::Record;
-use frame::Refusal;
-use frame::Writing;
-use frame::Written;
+use calls::Reading;
+use calls::Record;
+use calls::Refusal;
+use calls::Writing;
+use calls::Written;
 ghost use mathlib.Core.Path.{_≡_};
-ghost use Rattle.frame.specs.Answers.{numberOf, placeOf, lengthOf, writtenOf, recordOf};
+ghost use Rattle.calls.specs.Answers.{refusalNumber, refusalPlace, refusalLength, writtenOf, recordOf};
 
 // The number of a refusal.
 pub fn number_of(e: Refusal) -> u64
-    ensures answer { λ r. ⌜ r ≡ numberOf e ⌝ }
+    ensures answer { λ r. ⌜ r ≡ refusalNumber e ⌝ }
 {
     match e {
         Refusal::NoKind => 1,
@@ -40,7 +40,7 @@ pub fn number_of(e: Refusal) -> u64
 
 // A place, 0 but for 9 and 10.
 pub fn place_of(e: Refusal) -> u64
-    ensures answer { λ r. ⌜ r ≡ placeOf e ⌝ }
+    ensures answer { λ r. ⌜ r ≡ refusalPlace e ⌝ }
 {
     match e {
         Refusal::NoKind => 0,
@@ -65,7 +65,7 @@ pub fn place_of(e: Refusal) -> u64
 
 // LENGTH, where the refusal tells it.
 pub fn length_of(e: Refusal) -> u64
-    ensures answer { λ r. ⌜ r ≡ lengthOf e ⌝ }
+    ensures answer { λ r. ⌜ r ≡ refusalLength e ⌝ }
 {
     match e {
         Refusal::NoKind => 0,
@@ -121,18 +121,16 @@ pub fn record_of(g: Reading) -> Record
             n: 0,
             used: 0,
         },
-        Reading::Good {
-            rate,
-            length,
-            n,
-            used,
-        } => Record {
-            number: 0,
-            place: 0,
-            rate: rate.code(),
-            length: length as u64,
-            n: n as u64,
-            used: used as u64,
-        },
+        Reading::Good { told, used } => {
+            let rate = told.rate;
+            Record {
+                number: 0,
+                place: 0,
+                rate: rate.code(),
+                length: told.length as u64,
+                n: told.n as u64,
+                used: used as u64,
+            }
+        }
     }
 }

@@ -1,3 +1,4 @@
 pub mod Floats
 pub mod Chips
 pub mod Bounds
+pub mod Axes

@@ -1,9 +1,18 @@
 // What a chip is: soft samples, recorded chips, and their signed counts.
 ghost use mathlib.Core.Path.{_≡_};
 ghost use mathlib.Core.List.{map};
+ghost use lib.Dec.{T};
 ghost use Rattle.chips.specs.Floats as floats;
 ghost use Rattle.chips.specs.Floats.{countOf};
 ghost use Rattle.chips.specs.Chips.{fullChip, usableSample, countsOf, hardChip};
+ghost use Rattle.chips.specs.Axes.{softUsable, octetOf};
+
+mod rows;
+
+pub use rows::hard_counts8;
+pub use rows::hard_counts11;
+pub use rows::soft_counts8;
+pub use rows::soft_counts11;
 
 // A soft sample: I and Q as recorded.
 pub struct Sample {
@@ -25,32 +34,35 @@ pub struct Counts {
     pub q: i32,
 }
 
-// Whether x is a number from -8 to 8.
+// One of the two numbers of a chip.
+pub enum Axis {
+    I,
+    Q,
+}
+
+// Whether x is a number from -8 to 8. Both tests are made, so that many numbers are looked at side by side.
 pub fn usable(x: f32) -> bool
     ensures answer { λ r. ⌜ r ≡ floats.usable x ⌝ }
 {
-    x >= -8.0 && x <= 8.0
+    (x >= -8.0) & (x <= 8.0)
 }
 
-// The whole number nearest to 1024 times x, ties to the even one; 0 of an x that is not usable.
+// The whole number nearest to 1024 times x, ties to the even one.
 // From 8192 to 16384 an f32 is 1/1024 from the next, so the sum with 12288 is rounded just as the
 // count is, and the bit patterns there go up by one from each value to the next.
 pub fn count(x: f32) -> i32
+    requires { ⌜ T (floats.usable x) ⌝ }
     ensures answer { λ r. ⌜ r ≡ countOf x ⌝ }
 {
-    if usable(x) {
-        let b: u32 = f32::to_bits(x + 12288.0);
-        (b as i32) - 0x4640_0000
-    } else {
-        0
-    }
+    let b: u32 = f32::to_bits(x + 12288.0);
+    (b as i32) - 0x4640_0000
 }
 
 // Whether both I and Q are usable.
 pub fn usable_sample(s: Sample) -> bool
     ensures answer { λ r. ⌜ r ≡ usableSample s ⌝ }
 {
-    usable(s.i) && usable(s.q)
+    usable(s.i) & usable(s.q)
 }
 
 // The counts of a soft sample, field by field; (0, 0) of one that is not usable.
@@ -71,6 +83,29 @@ pub fn hard_chip(x: u8) -> Chip
     ensures answer { λ r. ⌜ r ≡ hardChip x ⌝ }
 {
     if x == 4 { Chip::Lost } else { Chip::Hard(x) }
+}
+
+// The octet of a chip of a hard recording: the inverse of `hard_chip`; 4 of a soft one.
+pub fn octet_of(c: Chip) -> u8
+    ensures answer { λ r. ⌜ r ≡ octetOf c ⌝ }
+{
+    match c {
+        Chip::Lost => 4,
+        Chip::Hard(p) => p,
+        Chip::Soft(_) => 4,
+    }
+}
+
+// The sample of a soft chip.
+pub fn sample_of(c: Chip) -> Sample
+    requires { ⌜ T (softUsable c) ⌝ }
+    ensures answer { λ r. ⌜ c ≡ Chip.Soft r ⌝ }
+{
+    match c {
+        Chip::Lost => Sample { i: 0.0, q: 0.0 },
+        Chip::Hard(_) => Sample { i: 0.0, q: 0.0 },
+        Chip::Soft(s) => s,
+    }
 }
 
 // The counts of a full chip at phase p; (0, 0) of a number that is no phase.
@@ -103,18 +138,6 @@ pub fn counts8(chips: [Chip; 8]) -> [Counts; 8]
 {
     let mut out = [Counts { i: 0, q: 0 }; 8];
     for k in 0..8 {
-        let c = chips[k];
-        out[k] = counts_of(c);
-    }
-    out
-}
-
-// The counts of a Barker symbol's chips.
-pub fn counts11(chips: [Chip; 11]) -> [Counts; 11]
-    ensures answer { λ r. ⌜ r ≡ map countsOf chips ⌝ }
-{
-    let mut out = [Counts { i: 0, q: 0 }; 11];
-    for k in 0..11 {
         let c = chips[k];
         out[k] = counts_of(c);
     }

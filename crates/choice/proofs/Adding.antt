@@ -1,28 +1,108 @@
--- The bits of an i32 and the whole number that they stand for, with a bound: a sum of two such is one.
+-- The bits of a signed number and the whole number that they stand for, with a bound, at every width: sums, differences
+-- and products by a natural number are such again. A number that is natural keeps the natural number.
 -- Assumes nothing.
-use mathlib.Core.Path.{_≡_, _∙_}
-use Prim.Native.Nat.{ℕ, _+_, _^_, _<_}
-use lib.IntN.{ℤ, _+ℤ_}
-use mir.Syntax.{w32}
-use mir.Val.{SFits, toZ, ofZ}
+use mathlib.Core.Path.{_≡_, refl, sym, _∙_, subst}
+use Prim.Native.Nat.{ℕ, suc, _+_, _*_, _-_, _^_, _≤_, _<_}
+use native.Mathlib.Nat.{mul-le-mul-left, mul-add, mul-zero}
+use native.Mathlib.Omega.{arith}
+use lib.IntN.{ℤ, pos, negsuc, negℤ, _+ℤ_, _-ℤ_, _*ℤ_}
+use mir.Syntax.{Width}
+use mir.Val.{SFits, toZ, ofZ, hbits}
 use mir.Facts.{toZ-ofZ}
-use Rattle.base.specs.Whole.{Within}
-use Rattle.base.proofs.Whole.{within-add, within-sfits, small}
+use Rattle.base.specs.Whole.{up, dn, Within}
+use Rattle.base.proofs.Whole.{add, neg-up, neg-dn, up-pos, dn-pos, same, within-add, within-neg}
+
+pub fits-at : (w : Width) {b : ℕ} {z : ℤ} → Within b z → b < 2 ^ hbits w → SFits w z
+unfolding up dn
+fits-at w {z = pos n} h k = record { sfits = omega (arith, h .high) }
+fits-at w {z = negsuc n} h k = record { sfits = omega (arith, h .low) }
 
 -- the bits s stand for z, which is from -b to b
-pub record Reads (b s : ℕ) (z : ℤ) : Type 0 where
-  pub is : toZ w32 s ≡ z
+pub record Reads (w : Width) (b s : ℕ) (z : ℤ) : Type 0 where
+  pub is : toZ w s ≡ z
   pub within : Within b z
 
-pub reads-of : {b : ℕ} {z : ℤ} → b < 2 ^ 31 → Within b z → Reads b (ofZ w32 z) z
-reads-of {b} {z} k h = record { is = small b k z h; within = h }
+-- however it is made
+module _ {w : Width} {b : ℕ} {v z : ℤ} (e : v ≡ z) (h : Within b z) (k : b < 2 ^ hbits w) where
+  pub made-fits : SFits w v
+  made-fits = subst (SFits w) (sym e) (fits-at w h k)
 
-module _ {b d s t : ℕ} {y z : ℤ} (h : Reads b s y) (g : Reads d t z) (k : b + d < 2 ^ 31) where
-  sum : toZ w32 s +ℤ toZ w32 t ≡ y +ℤ z
+  pub made : Reads w b (ofZ w v) z
+  made = record { is = toZ-ofZ made-fits ∙ e; within = h }
+
+pub reads-of : {w : Width} {b : ℕ} {z : ℤ} → b < 2 ^ hbits w → Within b z → Reads w b (ofZ w z) z
+reads-of k h = made refl h k
+
+pub within-pos : (n : ℕ) → Within n (pos n)
+within-pos n = record { high = omega (arith, up-pos n, dn-pos n); low = omega (arith, up-pos n, dn-pos n) }
+
+module _ {w : Width} {b d s t : ℕ} {y z : ℤ} (h : Reads w b s y) (g : Reads w d t z) where
+  sum : toZ w s +ℤ toZ w t ≡ y +ℤ z
   sum = λ i. h .is i +ℤ g .is i
 
-  pub reads-fits : SFits w32 (toZ w32 s +ℤ toZ w32 t)
-  reads-fits = rw sum (within-sfits (within-add (h .within) (g .within)) k)
+  pub reads-fits : b + d < 2 ^ hbits w → SFits w (toZ w s +ℤ toZ w t)
+  reads-fits k = made-fits sum (within-add (h .within) (g .within)) k
 
-  pub reads-add : Reads (b + d) (ofZ w32 (toZ w32 s +ℤ toZ w32 t)) (y +ℤ z)
-  reads-add = record { is = toZ-ofZ reads-fits ∙ sum; within = within-add (h .within) (g .within) }
+  pub reads-add : b + d < 2 ^ hbits w → Reads w (b + d) (ofZ w (toZ w s +ℤ toZ w t)) (y +ℤ z)
+  reads-add k = made sum (within-add (h .within) (g .within)) k
+
+  less : toZ w s -ℤ toZ w t ≡ y -ℤ z
+  less = λ i. h .is i -ℤ g .is i
+
+  pub less-fits : b + d < 2 ^ hbits w → SFits w (toZ w s -ℤ toZ w t)
+  less-fits k = made-fits less (within-add (h .within) (within-neg (g .within))) k
+
+  pub reads-less : b + d < 2 ^ hbits w → Reads w (b + d) (ofZ w (toZ w s -ℤ toZ w t)) (y -ℤ z)
+  reads-less k = made less (within-add (h .within) (within-neg (g .within))) k
+
+-- ---- a natural number times a whole one
+pub times-up : (a : ℕ) (z : ℤ) → up (pos a *ℤ z) ≡ a * up z
+unfolding up
+times-up a (pos n) = refl
+times-up a (negsuc n) = neg-up (pos (a * suc n)) ∙ dn-pos (a * suc n) ∙ sym (mul-zero a)
+
+pub times-dn : (a : ℕ) (z : ℤ) → dn (pos a *ℤ z) ≡ a * dn z
+unfolding dn
+times-dn a (pos n) = sym (mul-zero a)
+times-dn a (negsuc n) = neg-dn (pos (a * suc n)) ∙ up-pos (a * suc n)
+
+within-times : (a : ℕ) {b : ℕ} {z : ℤ} → Within b z → Within (a * b) (pos a *ℤ z)
+within-times a {b} {z} h = record {
+  high = omega (arith, times-up a z, times-dn a z, mul-le-mul-left a (h .high), mul-add a b (dn z));
+  low = omega (arith, times-up a z, times-dn a z, mul-le-mul-left a (h .low), mul-add a b (up z));
+}
+
+module _ {w : Width} {a b d s t : ℕ} {z : ℤ} (h : Reads w d s (pos a)) (g : Reads w b t z) (k : a * b < 2 ^ hbits w) where
+  times : toZ w s *ℤ toZ w t ≡ pos a *ℤ z
+  times = λ i. h .is i *ℤ g .is i
+
+  pub times-fits : SFits w (toZ w s *ℤ toZ w t)
+  times-fits = made-fits times (within-times a (g .within)) k
+
+  pub reads-times : Reads w (a * b) (ofZ w (toZ w s *ℤ toZ w t)) (pos a *ℤ z)
+  reads-times = made times (within-times a (g .within)) k
+
+-- ---- a signed number that is natural
+module _ (w : Width) {z : ℤ} {k : ℕ} (e : z ≡ pos k) (l : k < 2 ^ hbits w) where
+  pub held-fits : SFits w z
+  held-fits = made-fits e (within-pos k) l
+
+  pub held : toZ w (ofZ w z) ≡ pos k
+  held = made e (within-pos k) l .is
+
+pub sub-pos : {y z : ℤ} {j k : ℕ} → y ≡ pos j → z ≡ pos k → k ≤ j → y -ℤ z ≡ pos (j - k)
+sub-pos {j = j} {k} a b h =
+    (λ i. a i -ℤ b i)
+    ∙ same (pos j -ℤ pos k) (pos (j - k))
+    (omega (
+      arith,
+      add (pos j) (negℤ (pos k)),
+      neg-up (pos k),
+      neg-dn (pos k),
+      up-pos j,
+      dn-pos j,
+      up-pos k,
+      dn-pos k,
+      up-pos (j - k),
+      dn-pos (j - k),
+    ))

@@ -37,9 +37,6 @@ decided-is r cs n b = best-unique (decided-best r cs) b
 pub decided-below : (r : Rate) (cs : List Counts) → decided r cs < numbers r
 decided-below r cs = decided-best r cs .among
 
-pub decided-allowed : (r : Rate) (cs : List Counts) → T (isAllowed r (decided r cs))
-decided-allowed r cs = decided-best r cs .allowed
-
 -- at 1 and 2 Mbit/s the same
 pub decided-barker : (cs : List Counts) → decided Two cs ≡ decided One cs
 unfolding decided

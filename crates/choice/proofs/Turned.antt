@@ -1,32 +1,28 @@
 -- What the row of turns holds, and what half a turn does: a score is the sum of what stands in the row at the word's
 -- chips, in any order, and a word turned by a half scores the negative.
 -- Assumes nothing.
-use mathlib.Core.Path.{_≡_, refl, sym, ap, _∙_, subst}
+use mathlib.Core.Path.{_≡_, refl, sym, ap, _∙_}
 use mathlib.Core.List.{List, [], _∷_, map}
 use Prim.Native.Nat.{ℕ, zero, suc, _+_, _*_, _/_, _%_, _≤_, _<_}
 use native.Mathlib.Omega.{arith}
-use native.Mathlib.Decide.{decLt}
-use lib.Dec.{T, lit<, ltb, ltb→lt}
-use lib.ListN.{length, getD, drop, List·getD-eq-default}
+use lib.Dec.{lit<}
+use lib.ListN.{length, getD, drop}
 use lib.Seq.{drop-cons}
 use lib.IntN.{ℤ, pos, negℤ, _+ℤ_, negℤ-+ℤ, negℤ-negℤ}
-use mir.Syntax.{w32}
-use mir.Val.{toZ, ofZ}
 use Rattle.base.specs.Tables.{tabulate}
 use Rattle.base.specs.Whole.{Within}
 use Rattle.base.proofs.Tables.{getD-tabulate, tabulate-all}
-use Rattle.base.proofs.Tests.{all, all-at}
-use Rattle.base.proofs.Whole.{add, same, up-pos, dn-pos, small, within-zero, within-add, within-more}
+use Rattle.base.proofs.Whole.{add, same, up-pos, dn-pos, within-zero, within-add, within-more}
 use Rattle.chips.specs.declared.Counts.{Counts}
 use Rattle.chips.specs.Chips.{nothing, turned}
 use Rattle.symbols.specs.Words.{barkerWord, cckWord, cckOf, p1Of, p2Of, p3Of, p4Of}
 use Rattle.symbols.specs.Choice.{term, score}
 use Rattle.symbols.proofs.Words.{Phases, phases-tail, cck-phases, cck-length, barker-phases}
-use Rattle.choice.specs.Scores.{Smalls, number5}
-use Rattle.choice.specs.Turns.{RowWithin, Below, turnAt, addFour, addEight, slid, placed}
+use Rattle.choice.specs.Scores.{Smalls, RowWithin, number5}
+use Rattle.choice.specs.Turns.{turnAt, addFour, slid, placed}
 use Rattle.choice.proofs.Small.{term-within, score-within}
 use Rattle.choice.proofs.Clean.{phase}
-use Rattle.choice.proofs.Five.{five-lower, five-upper}
+use Rattle.choice.proofs.Sixteen.{five-lower, five-upper}
 
 abbrev row : List Counts → List ℤ
 row cs = tabulate (turnAt cs) 64
@@ -212,38 +208,6 @@ pub four-within : {b : ℕ} {more : ℤ} {t : List ℤ} (i j k l : ℕ) → With
     → Within (b + 8192 + 8192 + 8192 + 8192) (addFour more t i j k l)
 four-within i j k l h r = within-add (within-add (within-add (within-add h (r .at i)) (r .at j)) (r .at k)) (r .at l)
 
--- the places of a word's chips
-abbrev pub placesOf : List ℕ → List ℕ
-placesOf w =
-    getD w 0 0
-    ∷ (8 + getD w 1 0)
-    ∷ (16 + getD w 2 0)
-    ∷ (24 + getD w 3 0)
-    ∷ (32 + getD w 4 0)
-    ∷ (40 + getD w 5 0)
-    ∷ (48 + getD w 6 0)
-    ∷ (56 + getD w 7 0)
-    ∷ []
-
--- places are below 64 where a test of each says so
-pub below-64 : (at : List ℕ) → T (all (λ k. ltb (getD at k 0) 64) (length at)) → Below 64 at
-below-64 at t = record { each = λ k. by k (decLt k (length at)) }
-  where
-    by : (k : ℕ) → Dec (k < length at) → getD at k 0 < 64
-    by k (yes p) = ltb→lt (getD at k 0) 64 (all-at (λ j. ltb (getD at j 0) 64) (length at) t k p)
-    by k (no q) = rw (List·getD-eq-default at 0 {n = k} (omega arith)) (lit< tt)
-
-pub placed-cck : (t : List ℤ) (p1 p2 p3 p4 : ℕ) → addEight t (placesOf (cckWord p1 p2 p3 p4))
-    ≡ placed 0 (cckWord p1 p2 p3 p4) t
-unfolding placed cckWord
-placed-cck t p1 p2 p3 p4 =
-    let w = cckWord p1 p2 p3 p4 in
-    let z : getD w 0 0 ≡ 0 + getD w 0 0 = omega arith in
-    eight (getD t (getD w 0 0) (pos 0)) (getD t (8 + getD w 1 0) (pos 0)) (getD t (16 + getD w 2 0) (pos 0))
-    (getD t (24 + getD w 3 0) (pos 0)) (getD t (32 + getD w 4 0) (pos 0)) (getD t (40 + getD w 5 0) (pos 0))
-    (getD t (48 + getD w 6 0) (pos 0)) (getD t (56 + getD w 7 0) (pos 0))
-    ∙ ap (λ (j : ℕ). getD t j (pos 0) +ℤ placed 1 (drop 1 w) t) z
-
 -- what a CCK word's places in the row add up to is its score
 pub placed-is : (cs : List Counts) (n : ℕ) → length cs ≡ 8 → placed 0 (cckOf n) (row cs) ≡ score (cckOf n) cs
 placed-is cs n e =
@@ -267,12 +231,3 @@ module _ (cs : List Counts) (t : List ℤ) (e : t ≡ row cs) where
 
   pub placed-at : (n : ℕ) → length cs ≡ 8 → placed 0 (cckOf n) t ≡ score (cckOf n) cs
   placed-at n l = rw e (placed-is cs n l)
-
-  pub placed-within : (n : ℕ) → length cs ≡ 8 → Smalls cs → Within 65536 (placed 0 (cckOf n) t)
-  placed-within n l s = rw (placed-at n l) (cck-within n s)
-
-  -- a score as it comes back from a call
-  pub placed-read : (n : ℕ) → length cs ≡ 8 → Smalls cs → (z : ℤ) → z ≡ placed 0 (cckOf n) t
-      → toZ w32 (ofZ w32 z) ≡ score (cckOf n) cs
-  placed-read n l s z x =
-      small 65536 (lit< tt) z (subst (Within 65536) (sym x) (placed-within n l s)) ∙ x ∙ placed-at n l

@@ -2,3 +2,5 @@ pub mod Scores
 pub mod Agreement
 pub mod Demand3
 pub mod Turns
+pub mod Keys
+pub mod Sums

@@ -7,6 +7,7 @@ use lib.ListN.{length, getD}
 use lib.Dec.{T}
 use lib.IntN.{ℤ, pos}
 use lib.Signed.{_≤ℤ_, _<ℤ_}
+use Rattle.base.specs.Whole.{Within}
 use Rattle.rates.specs.declared.Rate.{Rate}
 use Rattle.chips.specs.declared.Counts.{Counts}
 use Rattle.chips.specs.Chips.{nothing}
@@ -21,6 +22,10 @@ pub record AllBounded (b : ℕ) (cs : List Counts) : Type 0 where
 -- as usable chips have them: 8 in magnitude is 8192 counts
 abbrev pub Smalls : List Counts → Type 0
 Smalls cs = AllBounded 8192 cs
+
+-- every number of a row is from -b to b
+pub record RowWithin (b : ℕ) (t : List ℤ) : Type 0 where
+  pub at : (j : ℕ) → Within b (getD t j (pos 0))
 
 -- the score of the word with number n
 abbrev pub scoreAt : Rate → List Counts → ℕ → ℤ

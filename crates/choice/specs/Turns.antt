@@ -1,17 +1,12 @@
 -- What the tables of scores are made from: each chip's four terms, twice over, in one row.
 -- Definitions only. Assumes nothing.
-use Prim.Native.Nat.{ℕ, suc, _+_, _*_, _/_, _%_, _<_}
+use Prim.Native.Nat.{ℕ, suc, _+_, _*_, _/_, _%_}
 use mathlib.Core.List.{List, [], _∷_}
 use lib.ListN.{getD}
 use lib.IntN.{ℤ, pos, _+ℤ_}
-use Rattle.base.specs.Whole.{Within}
 use Rattle.chips.specs.declared.Counts.{Counts}
 use Rattle.chips.specs.Chips.{nothing}
 use Rattle.symbols.specs.Choice.{term}
-
--- every number of a row is from -b to b
-pub record RowWithin (b : ℕ) (t : List ℤ) : Type 0 where
-  pub at : (j : ℕ) → Within b (getD t j (pos 0))
 
 -- chip k turned by p stands at 8 k + p, up to p = 7
 abbrev pub turnAt : List Counts → ℕ → ℤ
@@ -19,16 +14,6 @@ turnAt cs j = term (j % 4) (getD cs (j / 8) nothing)
 
 abbrev pub addFour : ℤ → List ℤ → ℕ → ℕ → ℕ → ℕ → ℤ
 addFour more t a b c d = more +ℤ getD t a (pos 0) +ℤ getD t b (pos 0) +ℤ getD t c (pos 0) +ℤ getD t d (pos 0)
-
--- every place is below n, and so is what stands for one past the end
-pub record Below (n : ℕ) (at : List ℕ) : Type 0 where
-  pub each : (k : ℕ) → getD at k 0 < n
-
-abbrev pub addEight : List ℤ → List ℕ → ℤ
-addEight t at =
-    addFour
-    (addFour (pos 0) t (getD at 4 0) (getD at 5 0) (getD at 6 0) (getD at 7 0))
-    t (getD at 0 0) (getD at 1 0) (getD at 2 0) (getD at 3 0)
 
 -- what the word of p1 to p4 adds up to in the row: chips 4 to 7 stand where p1 to p3 put them, and chips 0 to 3 go on
 -- with p4

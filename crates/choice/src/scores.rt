@@ -5,12 +5,12 @@ ghost use mathlib.Core.Path.{_≡_};
 ghost use Prim.Native.Nat.{_<_};
 ghost use Rattle.base.specs.Tables.{tabulate};
 ghost use Rattle.base.specs.Whole.{Within};
-ghost use Rattle.choice.specs.Scores.{Smalls, scoreAt, number5};
-ghost use Rattle.choice.specs.Turns.{RowWithin, Below, turnAt, addFour, addEight, slid};
+ghost use Rattle.choice.specs.Scores.{Smalls, RowWithin, scoreAt};
+ghost use Rattle.choice.specs.Turns.{turnAt, addFour, slid};
 
 // What each of eight chips adds by the word's chip there, twice over: chip k turned by p stands at 8 k + p, for p up
 // to 7.
-pub fn turns(cs: [Counts; 8]) -> [i32; 64]
+fn turns(cs: [Counts; 8]) -> [i32; 64]
     requires { ⌜ Smalls cs ⌝ }
     ensures answer { λ r. ⌜ r ≡ tabulate (turnAt cs) 64 ⌝ }
 {
@@ -32,7 +32,7 @@ pub fn turns(cs: [Counts; 8]) -> [i32; 64]
 }
 
 // Four numbers of a row, added to one.
-pub fn add_four(more: i32, t: &[i32; 64], a: usize, b: usize, c: usize, d: usize) -> i32
+fn add_four(more: i32, t: &[i32; 64], a: usize, b: usize, c: usize, d: usize) -> i32
     requires { ⌜ Within 32768 more × RowWithin 8192 (now t) × (a < 64) × (b < 64) × (c < 64) × (d < 64) ⌝ }
     ensures answer { λ r. ⌜ r ≡ addFour more (now (t .entry)) a b c d ⌝ }
 {
@@ -41,7 +41,7 @@ pub fn add_four(more: i32, t: &[i32; 64], a: usize, b: usize, c: usize, d: usize
 
 // The scores of the four words that differ in p4 alone: their chips 4 to 7 are the same, and their chips 0 to 3 turn
 // with p4.
-pub fn four_words(t: &[i32; 64], p1: usize, p2: usize, p3: usize) -> [i32; 4]
+fn four_words(t: &[i32; 64], p1: usize, p2: usize, p3: usize) -> [i32; 4]
     requires { ⌜ RowWithin 8192 (now t) × (p1 < 4) × (p2 < 4) × (p3 < 4) ⌝ }
     ensures answer { λ r. ⌜ r ≡ tabulate (slid (now (t .entry)) p1 p2 p3) 4 ⌝ }
 {
@@ -58,7 +58,7 @@ pub fn four_words(t: &[i32; 64], p1: usize, p2: usize, p3: usize) -> [i32; 4]
 }
 
 // The scores of the words with p1 = 0 and p1 = 1, by their numbers.
-pub fn half_eleven(cs: [Counts; 8]) -> [i32; 128]
+fn half_eleven(cs: [Counts; 8]) -> [i32; 128]
     requires { ⌜ Smalls cs ⌝ }
     ensures answer { λ r. ⌜ r ≡ tabulate (scoreAt Rate.Eleven cs) 128 ⌝ }
 {
@@ -87,71 +87,4 @@ pub fn scores_eleven(cs: [Counts; 8]) -> [i32; 256]
         scores[128 + n] = -x;
     }
     scores
-}
-
-// The sum of what stands at eight places of a row.
-pub fn add_eight(t: &[i32; 64], at: [usize; 8]) -> i32
-    requires { ⌜ RowWithin 8192 (now t) × Below 64 at ⌝ }
-    ensures answer { λ r. ⌜ r ≡ addEight (now (t .entry)) at ⌝ }
-{
-    let rest = add_four(0, t, at[4], at[5], at[6], at[7]);
-    add_four(rest, t, at[0], at[1], at[2], at[3])
-}
-
-// The scores of the words of 5.5 Mbit/s with p1 = 0 and p1 = 1, in the order of their numbers. A word's places are 8
-// k and its chip k: those of the first are 1 0 1 2 1 0 3 0, by 8 more at each.
-pub fn half_five(cs: [Counts; 8]) -> [i32; 8]
-    requires { ⌜ Smalls cs ⌝ }
-    ensures answer { λ r. ⌜ r ≡ tabulate (λ k. scoreAt Rate.Five cs (number5 k)) 8 ⌝ }
-{
-    let t = turns(cs);
-    [
-        add_eight(&t, [1, 8, 17, 26, 33, 40, 51, 56]),
-        add_eight(&t, [3, 10, 19, 24, 33, 40, 51, 56]),
-        add_eight(&t, [3, 8, 19, 26, 35, 40, 49, 56]),
-        add_eight(&t, [1, 10, 17, 24, 35, 40, 49, 56]),
-        add_eight(&t, [2, 9, 18, 27, 34, 41, 48, 57]),
-        add_eight(&t, [0, 11, 16, 25, 34, 41, 48, 57]),
-        add_eight(&t, [0, 9, 16, 27, 32, 41, 50, 57]),
-        add_eight(&t, [2, 11, 18, 25, 32, 41, 50, 57]),
-    ]
-}
-
-// The scores of the sixteen words allowed at 5.5 Mbit/s, in the order of their numbers: a half turn of p1 negates
-// a score.
-pub fn scores_five(cs: [Counts; 8]) -> [i32; 16]
-    requires { ⌜ Smalls cs ⌝ }
-    ensures answer { λ r. ⌜ r ≡ tabulate (λ k. scoreAt Rate.Five cs (number5 k)) 16 ⌝ }
-{
-    let half = half_five(cs);
-    let mut scores = [0i32; 16];
-    for k in 0..8 {
-        let x = half[k];
-        scores[k] = x;
-        scores[8 + k] = -x;
-    }
-    scores
-}
-
-// The scores of the four phases of a Barker symbol: one sum of I and one of Q by its signs, and a half turn negates a
-// score.
-pub fn scores_barker(cs: [Counts; 11]) -> [i32; 4]
-    requires { ⌜ Smalls cs ⌝ }
-    ensures answer { λ r. ⌜ r ≡ tabulate (scoreAt Rate.One cs) 4 ⌝ }
-{
-    let mut x: i32 = 0;
-    let mut y: i32 = 0;
-    for k in 0..11 {
-        let c = cs[k];
-        let i = c.i;
-        let q = c.q;
-        if symbols::BARKER[k] == 0 {
-            x = x + i;
-            y = y + q;
-        } else {
-            x = x - i;
-            y = y - q;
-        }
-    }
-    [x, y, -x, -y]
 }

@@ -2,9 +2,9 @@
 // them for C. A contract names the answer and the lent buffer at the end in one record: `answer` and `chips`, or
 // `answer` and `octets`.
 ghost use lib.ListN.{length};
-ghost use Rattle.promises.specs.Calls.{Wrote, FoundHard, FoundSoft};
-use frame::Record;
-use frame::Written;
+ghost use Rattle.promises.specs.Calls.{Wrote, ReadHard, ReadSoft};
+use calls::Record;
+use calls::Written;
 
 // A payload to the chips of its frame; 4s after the frame, or everywhere after a refusal.
 #[no_mangle]
@@ -24,7 +24,7 @@ pub extern "C" fn dsss_write(
 // A hard recording to its payload; zeros after the payload, or everywhere after a refusal.
 #[no_mangle]
 pub extern "C" fn dsss_read_hard(kind: u64, chips: &[u8], octets: &mut [u8]) -> Record
-    ensures found { λ a. ⌜ FoundHard kind (now (chips .entry)) (length (now (octets .entry)))
+    ensures read { λ a. ⌜ ReadHard kind (now (chips .entry)) (length (now (octets .entry)))
         a (now (octets .exit)) ⌝ }
 {
     reader::read_hard(kind, chips, octets)
@@ -33,7 +33,7 @@ pub extern "C" fn dsss_read_hard(kind: u64, chips: &[u8], octets: &mut [u8]) -> 
 // A soft recording, rows I and Q, to its payload; zeros as above.
 #[no_mangle]
 pub extern "C" fn dsss_read_soft(kind: u64, i: &[f32], q: &[f32], octets: &mut [u8]) -> Record
-    ensures found { λ a. ⌜ FoundSoft kind (now (i .entry)) (now (q .entry)) (length (now (octets .entry)))
+    ensures read { λ a. ⌜ ReadSoft kind (now (i .entry)) (now (q .entry)) (length (now (octets .entry)))
         a (now (octets .exit)) ⌝ }
 {
     reader::read_soft(kind, i, q, octets)

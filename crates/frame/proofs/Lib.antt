@@ -1,4 +1,5 @@
 pub mod TableP
 pub mod Facts
 pub mod Parity
-pub mod ReadFacts
+pub mod Sizes
+pub mod Headers

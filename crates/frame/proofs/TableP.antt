@@ -6,13 +6,24 @@ use Rattle.bits.specs.Bits.{bitsOf, octetBits}
 use Rattle.bits.specs.Growths.{growth, symbolOf, symbolsFrom, symbolsOf, chipsFrom, lastPhase}
 use Rattle.bits.specs.Scrambler.{mixed, scramble}
 use Rattle.bits.specs.Crc.{addWhere, crcStep, remainder, crcBits}
-use Rattle.frame.specs.Frame.{preambleBits, fieldBits, headerBits, frameBits, sentBits, partsChips, frame}
+use Rattle.frame.specs.Frame.{
+  preambleBits,
+  fieldBits,
+  headerBits,
+  sentHeader,
+  frameBits,
+  sentBits,
+  partsChips,
+  framed,
+  frame,
+}
 use Rattle.frame.specs.TableP.{TableP, computed, printed, five}
 
 pub table-p : TableP
 unfolding
     computed printed five
     barkerWord cckWord score those going firstLargest decided
-    bitsOf octetBits growth symbolOf symbolsFrom symbolsOf chipsFrom lastPhase mixed scramble addWhere crcStep remainder crcBits
-    preambleBits fieldBits headerBits frameBits sentBits partsChips frame
+    bitsOf octetBits growth symbolOf symbolsFrom symbolsOf chipsFrom lastPhase mixed scramble addWhere crcStep
+    remainder crcBits
+    preambleBits fieldBits headerBits sentHeader frameBits sentBits partsChips framed frame
 table-p r payload = refl

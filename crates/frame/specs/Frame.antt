@@ -2,18 +2,26 @@
 -- Source 002, an earlier draft, has a short header at 5.5 Mbit/s and uses the lowest SERVICE bit: both were given up.
 -- Definitions only. Assumes nothing.
 use Prim.Native.Nat.{ℕ, _+_, _*_}
-use mathlib.Core.Bool.{Bool, true, false}
+use mathlib.Core.Bool.{Bool, true, false, cond}
 use mathlib.Core.List.{List, [], _∷_, _++_}
 use lib.ListN.{length, take, drop, replicate}
+use lib.Dec.{eqb, ltb}
 use Rattle.rates.specs.declared.Rate.{Rate}
 use Rattle.rates.specs.declared.Rate.the-variants.{One, Two, Five, Eleven}
-use Rattle.rates.specs.Rates.{codeOf, octetChips, lengthField, bit7}
+use Rattle.rates.specs.Rates.{codeOf, symbolChips, octetChips, lengthField, bit7}
 use Rattle.bits.specs.Bits.{bitsOf, octetBits}
 use Rattle.bits.specs.Growths.{symbolsOf, chipsFrom, lastPhase}
 use Rattle.bits.specs.Scrambler.{scramble}
 use Rattle.bits.specs.Crc.{crcBits}
 use Rattle.frame.specs.declared.Kind.{Kind}
 use Rattle.frame.specs.declared.Kind.the-variants.{Long, Short}
+
+-- kind is 0 (long) or 1 (short)
+abbrev pub isKind : ℕ → Bool
+isKind kind = ltb kind 2
+
+abbrev pub kindOf : ℕ → Kind
+kindOf kind = cond (eqb kind 0) Long Short
 
 -- SYNC, 1 Mbit/s: 128 ones, or 56 zeros
 abbrev pub syncBits : Kind → ℕ
@@ -56,18 +64,22 @@ goesWith Short Eleven = true
 abbrev pub serviceField : Rate → ℕ → ℕ
 serviceField r n = 128 * bit7 r n
 
--- Parts, as bits: the preamble is SYNC and SFD; the header is its 32 bits of fields and their CRC
+-- Parts, as bits: the preamble is SYNC and SFD; a header is its three fields and their CRC
 unfoldable pub preambleBits : Kind → List ℕ
 preambleBits k = replicate (syncBits k) (syncBit k) ++ bitsOf 16 (sfdOf k)
 
-unfoldable pub fieldBits : Rate → ℕ → List ℕ
-fieldBits r n = bitsOf 8 (codeOf r) ++ (bitsOf 8 (serviceField r n) ++ bitsOf 16 (lengthField r n))
+unfoldable pub fieldBits : ℕ → ℕ → ℕ → List ℕ
+fieldBits signal service l = bitsOf 8 signal ++ (bitsOf 8 service ++ bitsOf 16 l)
 
-unfoldable pub headerBits : Rate → ℕ → List ℕ
-headerBits r n = fieldBits r n ++ crcBits (fieldBits r n)
+unfoldable pub headerBits : ℕ → ℕ → ℕ → List ℕ
+headerBits signal service l = fieldBits signal service l ++ crcBits (fieldBits signal service l)
 
-unfoldable pub frameBits : Kind → Rate → List ℕ → List ℕ
-frameBits k r payload = preambleBits k ++ (headerBits r (length payload) ++ octetBits payload)
+-- the header that is sent for n octets at a rate
+unfoldable pub sentHeader : Rate → ℕ → List ℕ
+sentHeader r n = headerBits (codeOf r) (serviceField r n) (lengthField r n)
+
+unfoldable pub frameBits : Kind → List ℕ → List ℕ → List ℕ
+frameBits k header payload = preambleBits k ++ (header ++ octetBits payload)
 
 -- bits of the preamble and of the header, counted
 abbrev pub preambleLength : Kind → ℕ
@@ -75,6 +87,10 @@ preambleLength k = syncBits k + 16
 
 abbrev pub headerLength : ℕ
 headerLength = 48
+
+-- chips of the preamble, counted
+abbrev pub preambleChips : Kind → ℕ
+preambleChips k = preambleLength k * symbolChips One
 
 -- Three parts of bits as chips: each symbol grows from the one before it, across all changes of rate
 unfoldable pub partsChips : Kind → Rate → ℕ → List ℕ → List ℕ → List ℕ → List ℕ
@@ -86,15 +102,18 @@ partsChips k r p preamble header payload =
     chipsFrom One p a ++ (chipsFrom (headerRate k) q b ++ chipsFrom r (lastPhase q b) c)
 
 -- every bit of the frame is scrambled in one run
-unfoldable pub sentBits : Kind → Rate → List ℕ → List ℕ
-sentBits k r payload = scramble (start k) (frameBits k r payload)
+unfoldable pub sentBits : Kind → List ℕ → List ℕ → List ℕ
+sentBits k header payload = scramble (start k) (frameBits k header payload)
 
--- the chips of the frame, from starting phase p
-unfoldable pub frame : Kind → Rate → ℕ → List ℕ → List ℕ
-frame k r p payload =
-    let s = sentBits k r payload in
+-- the chips of a frame with these header bits, from starting phase p; and with the header that is sent
+unfoldable pub framed : Kind → Rate → ℕ → List ℕ → List ℕ → List ℕ
+framed k r p header payload =
+    let s = sentBits k header payload in
     let m = preambleLength k in
     partsChips k r p (take m s) (take headerLength (drop m s)) (drop (m + headerLength) s)
+
+unfoldable pub frame : Kind → Rate → ℕ → List ℕ → List ℕ
+frame k r p payload = framed k r p (sentHeader r (length payload)) payload
 
 -- how many chips a frame of n octets has
 abbrev pub frameChips : Kind → Rate → ℕ → ℕ

@@ -1,5 +1,2 @@
 pub mod Frame
-pub mod Answers
-pub mod Writing
-pub mod Reading
 pub mod TableP

@@ -1,5 +1,16 @@
-// The frame and its numbers: the two kinds, the refusals, and what the calls answer.
+// The two kinds of frame, and the numbers that go with a kind.
 use rates::Rate;
+ghost use mathlib.Core.Path.{_≡_};
+ghost use Prim.Native.Nat.{_≤_};
+ghost use Rattle.frame.specs.Frame.{
+  isKind,
+  kindOf,
+  headerRate,
+  goesWith,
+  preambleChips,
+  frontChips,
+  frameChips,
+};
 
 // The preamble's kind.
 pub enum Kind {
@@ -7,69 +18,72 @@ pub enum Kind {
     Short,
 }
 
-// Every refusal, in the order of its number, 1 to 17. A place is a chip's index from the recording's
-// start; a length is the LENGTH field, 0 where it is not to be told.
-pub enum Refusal {
-    NoKind,
-    NoRate,
-    ShortRate,
-    PayloadSize,
-    NoPhase,
-    ChipRoom,
-    RowsDiffer,
-    ShorterThanFront,
-    Unusable { place: usize, length: usize },
-    OddGrowth { place: usize, length: usize },
-    Sfd,
-    Crc,
-    Signal { length: usize },
-    Service { length: usize },
-    Length { length: usize },
-    Ends { length: usize },
-    OctetRoom { length: usize },
+// Whether a number is a kind.
+pub fn is_kind(kind: u64) -> bool
+    ensures answer { λ r. ⌜ r ≡ isKind kind ⌝ }
+{
+    kind < 2
 }
 
-// What a write comes to, before a chip is written.
-pub enum Writing {
-    Refused(Refusal),
-    Good {
-        kind: Kind,
-        rate: Rate,
-        chips: usize,
-    },
+// The kind of a number; of one that is none, short.
+pub fn kind_of(kind: u64) -> Kind
+    ensures answer { λ r. ⌜ r ≡ kindOf kind ⌝ }
+{
+    if kind == 0 {
+        return Kind::Long;
+    }
+    Kind::Short
 }
 
-// What a recording's front tells.
-pub enum Front {
-    Refused(Refusal),
-    Fields { rate: Rate, length: usize, n: usize },
+// The rate of a kind's header.
+pub fn header_rate(k: Kind) -> Rate
+    ensures answer { λ r. ⌜ r ≡ headerRate k ⌝ }
+{
+    match k {
+        Kind::Long => Rate::One,
+        Kind::Short => Rate::Two,
+    }
 }
 
-// What a reading comes to.
-pub enum Reading {
-    Refused(Refusal),
-    Good {
-        rate: Rate,
-        length: usize,
-        n: usize,
-        used: usize,
-    },
+// Whether a rate goes with a kind: short excludes 1 Mbit/s.
+pub fn goes_with(k: Kind, r: Rate) -> bool
+    ensures answer { λ b. ⌜ b ≡ goesWith k r ⌝ }
+{
+    match k {
+        Kind::Long => true,
+        Kind::Short => match r {
+            Rate::One => false,
+            Rate::Two => true,
+            Rate::Five => true,
+            Rate::Eleven => true,
+        },
+    }
 }
 
-// The writer's answer.
-#[repr(C)]
-pub struct Written {
-    pub number: u64,
-    pub chips: u64,
+// The chips of a kind's preamble, SYNC and SFD.
+pub fn preamble_chips(k: Kind) -> usize
+    ensures answer { λ n. ⌜ n ≡ preambleChips k ⌝ }
+{
+    match k {
+        Kind::Long => 1584,
+        Kind::Short => 792,
+    }
 }
 
-// The readers' answer.
-#[repr(C)]
-pub struct Record {
-    pub number: u64,
-    pub place: u64,
-    pub rate: u64,
-    pub length: u64,
-    pub n: u64,
-    pub used: u64,
+// The chips of a kind's front.
+pub fn front_chips(k: Kind) -> usize
+    ensures answer { λ n. ⌜ n ≡ frontChips k ⌝ }
+{
+    match k {
+        Kind::Long => 2112,
+        Kind::Short => 1056,
+    }
+}
+
+// The chips of a frame of n octets.
+pub fn frame_chips(k: Kind, r: Rate, n: usize) -> usize
+    requires { ⌜ n ≤ 4095 ⌝ }
+    ensures answer { λ c. ⌜ c ≡ frameChips k r n ⌝ }
+{
+    front_chips(k) + r.octet_chips() * n
 }

@@ -1,3 +1,7 @@
 pub mod Passes
-pub mod More
-pub mod Turns
+pub mod Codes
+pub mod Plain
+pub mod FirstOdd
+pub mod Symbols
+pub mod Hears
+pub mod Parts

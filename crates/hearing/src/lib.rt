@@ -1,28 +1,22 @@
-// Hearing: decided words to octets, one symbol at a time, on a line that goes by value.
+// Hearing: decided words to octets, by blocks of up to 64 symbols, on a line that goes by value.
 ghost use mathlib.Core.Path.{_≡_};
-ghost use mathlib.Core.List.{[], _∷_};
 ghost use mathlib.Core.Option.{some};
 ghost use Prim.Native.Nat.{_+_, _*_, _≤_, _<_};
 ghost use lib.ListN.{length};
-ghost use Rattle.rates.specs.Rates.{octetChips};
-ghost use Rattle.symbols.specs.Choice.{numbers};
-ghost use Rattle.frame.specs.Reading.{orElse, oddGrowth};
-ghost use Rattle.recorders.specs.Rows.{recordingOf, whereFound};
-ghost use Rattle.hearing.specs.Hearing.{octetSymbols, Heard, OctetHeard, PartHeard};
-use bits::Eight;
+ghost use Rattle.base.specs.Over.{over};
+ghost use Rattle.rates.specs.Rates.{octetSymbols, octetChips};
+ghost use Rattle.calls.specs.Reading.{orElse};
+ghost use Rattle.recorders.specs.Rows.{recordingOf, whereFound, AllUsable};
+ghost use Rattle.hearing.specs.Blocks.{BlockOf};
+ghost use Rattle.hearing.specs.Hearing.{plainOctets, partWords, Heard, PartHeard};
+use bits::Line;
 use rates::Rate;
 use recorders::Found;
 use recorders::Recorder;
 
-mod word;
-
-// What stands between two symbols: the last eight bits received, the last phase, and how many symbols there were in
-// this part, modulo 2.
-pub struct Line {
-    pub past: Eight,
-    pub phase: u8,
-    pub odd: u8,
-}
+pub mod block;
+mod odd;
+mod words;
 
 // A line, and the place of the first symbol that is grown by 1 or 3 at 1 Mbit/s.
 pub struct Hearing {
@@ -30,65 +24,8 @@ pub struct Hearing {
     pub odd: Found,
 }
 
-// An octet heard.
-pub struct Octet {
-    pub heard: Hearing,
-    pub x: u8,
-}
-
-// How many symbols an octet is.
-pub fn octet_symbols(rate: Rate) -> usize
-    ensures answer { λ r. ⌜ r ≡ octetSymbols rate ⌝ }
-{
-    match rate {
-        Rate::One => 8,
-        Rate::Two => 4,
-        Rate::Five => 2,
-        Rate::Eleven => 1,
-    }
-}
-
-// Whether a symbol of 1 Mbit/s, whose first chip is at a place, is grown by 1 or 3.
-fn odd_growth(at: usize, grown: u8) -> Found
-    ensures answer { λ r. ⌜ whereFound r ≡ oddGrowth Rate.One at (grown ∷ []) ⌝ }
-{
-    if grown % 2 == 1 {
-        Found::At(at)
-    } else {
-        Found::Nothing
-    }
-}
-
-// One symbol more, decided as the word with number n, whose first chip is at a place.
-pub fn hear(rate: Rate, at: usize, line: Line, n: usize) -> Hearing
-    requires { ⌜ (n < numbers rate) × (line .phase < 4) ⌝ }
-    ensures answer { λ r. ⌜ Heard rate at line (n ∷ []) r ⌝ }
-{
-    match rate {
-        Rate::One => {
-            let odd = odd_growth(at, word::grown_by(line.phase, n));
-            Hearing {
-                line: word::one(line, n),
-                odd,
-            }
-        }
-        Rate::Two => Hearing {
-            line: word::two(line, n),
-            odd: Found::Nothing,
-        },
-        Rate::Five => Hearing {
-            line: word::five(line, n),
-            odd: Found::Nothing,
-        },
-        Rate::Eleven => Hearing {
-            line: word::eleven(line, n),
-            odd: Found::Nothing,
-        },
-    }
-}
-
 // The first of two places.
-pub fn first_of(a: Found, b: Found) -> Found
+fn first_of(a: Found, b: Found) -> Found
     ensures answer { λ r. ⌜ whereFound r ≡ orElse (whereFound a) (λ place. some place) (whereFound b) ⌝ }
 {
     match a {
@@ -110,44 +47,46 @@ pub fn joined(a: Hearing, b: Hearing) -> Hearing
     Hearing { line, odd }
 }
 
-// The octet whose first chip is at a place. Its symbols are all heard, also after one grown by 1 or 3.
-pub fn hear_octet(
+// So many octets of usable chips that start at a place, at most a block, into a buffer's front. The first symbol is
+// even.
+fn hear_block(
     rec: Recorder,
-    hard: &[u8],
+    row: &[u8],
     i: &[f32],
     q: &[f32],
     rate: Rate,
-    at: usize,
+    place: usize,
     line: Line,
-) -> Octet
-    requires { ⌜ (at + octetChips rate ≤ length (recordingOf rec (now hard) (now i) (now q))) × (line .phase < 4) ⌝ }
-    ensures answer { λ r. ⌜ OctetHeard rate at
-        (recordingOf rec (now (hard .entry)) (now (i .entry)) (now (q .entry))) line r ⌝ }
+    count: usize,
+    out: &mut [u8],
+) -> Hearing
+    requires { ⌜ (octetSymbols rate * count ≤ 64) × (count ≤ length (now out))
+        × (place + octetChips rate * count ≤ length (recordingOf rec (now row) (now i) (now q)))
+        × AllUsable (recordingOf rec (now row) (now i) (now q)) place (octetChips rate * count) × (line .phase < 4) ⌝ }
+    ensures answer { λ r. ⌜ Heard rate place line (partWords rate place count
+        (recordingOf rec (now (row .entry)) (now (i .entry)) (now (q .entry)))) r ⌝ }
+    ensures out { λ _. ⌜ now (out .exit) ≡ over (plainOctets rate count line (partWords rate place count
+        (recordingOf rec (now (row .entry)) (now (i .entry)) (now (q .entry))))) (now (out .entry)) ⌝ }
 {
-    let count = octet_symbols(rate);
-    let chips = rate.symbol_chips();
-    let odd = Found::Nothing;
-    let mut heard = Hearing { line, odd };
-    let mut place = at;
-    let mut j = 0;
-    while j < count {
-        let n = recorders::decide(rec, hard, i, q, rate, place);
-        let l = heard.line;
-        heard = joined(heard, hear(rate, place, l, n));
-        place += chips;
-        j += 1;
-    }
-    let before = line.past;
-    let l = heard.line;
-    let past = l.past;
-    let x = bits::descramble_octet(before, past);
-    Octet { heard, x }
+    let mut numbers = [0u8; 64];
+    let symbols = rate.octet_symbols();
+    recorders::decide(rec, row, i, q, rate, place, symbols * count, &mut numbers);
+    block::hear(rate, place, line, numbers, count, out)
 }
 
-// The octets that start at a place, as many as there is room for.
+// How many of so many octets the next block takes.
+fn block_octets(rate: Rate, left: usize) -> usize
+    ensures answer { λ r. ⌜ BlockOf rate left r ⌝ }
+{
+    let whole = 64 / rate.octet_symbols();
+    if left < whole { left } else { whole }
+}
+
+// The octets that start at a place, as many as there is room for, from usable chips. A part's symbols are numbered from
+// 0; a block that another follows has 64, so each block starts with an even one.
 pub fn hear_octets(
     rec: Recorder,
-    hard: &[u8],
+    row: &[u8],
     i: &[f32],
     q: &[f32],
     rate: Rate,
@@ -155,10 +94,11 @@ pub fn hear_octets(
     line: Line,
     out: &mut [u8],
 ) -> Hearing
-    requires { ⌜ (at + octetChips rate * length (now out) ≤ length (recordingOf rec (now hard) (now i) (now q)))
+    requires { ⌜ (at + octetChips rate * length (now out) ≤ length (recordingOf rec (now row) (now i) (now q)))
+        × AllUsable (recordingOf rec (now row) (now i) (now q)) at (octetChips rate * length (now out))
         × (line .phase < 4) ⌝ }
     ensures answer { λ r. ⌜ PartHeard rate at (length (now (out .entry)))
-        (recordingOf rec (now (hard .entry)) (now (i .entry)) (now (q .entry))) line r (now (out .exit)) ⌝ }
+        (recordingOf rec (now (row .entry)) (now (i .entry)) (now (q .entry))) line r (now (out .exit)) ⌝ }
 {
     let chips = rate.octet_chips();
     let odd = Found::Nothing;
@@ -166,13 +106,12 @@ pub fn hear_octets(
     let mut place = at;
     let mut k = 0;
     while k < out.len() {
+        let count = block_octets(rate, out.len() - k);
         let l = heard.line;
-        let octet = hear_octet(rec, hard, i, q, rate, place, l);
-        out[k] = octet.x;
-        let more = octet.heard;
+        let more = hear_block(rec, row, i, q, rate, place, l, count, &mut out[k..]);
         heard = joined(heard, more);
-        place += chips;
-        k += 1;
+        place += chips * count;
+        k += count;
     }
     heard
 }

@@ -1,60 +1,70 @@
--- Demand 2 from the contracts: what the writer left is read back, hard or as exact soft pairs; with too little room, or cut, it is refused
--- as stated; and the chips have one source only. Assumes nothing.
+-- Demand 2 from the contracts: what the writer left is read back, hard or as exact soft pairs; with too little room, or
+-- cut, it is refused as stated. The laws of clean frames (crate `clean`) say how they are read. Assumes nothing.
 use mathlib.Core.Path.{_≡_, refl, sym, ap, ap₂, _∙_, subst}
-use mathlib.Core.Bool.{Bool, true, false, cond, not, _||_}
-use mathlib.Core.List.{List, [], _∷_, _++_, append-nil}
-use Prim.Native.Nat.{ℕ, zero, suc, _+_, _-_, _*_, _%_, _≤_, _<_}
+use mathlib.Core.Bool.{Bool, true}
+use mathlib.Core.List.{List, _++_}
+use Prim.Native.Nat.{ℕ, _+_, _-_, _*_, _≤_, _<_}
 use native.Mathlib.Omega.{arith}
-use borrow.Author.Tests.{eq-eqb, ne-eqb, le-ltb, lt-ltb}
-use lib.Dec.{T, eqb, ltb, eqb→eq}
-use lib.ListN.{length, getD, take, drop, replicate, length-append}
-use lib.Seq.{take-at, take-append-le, take-take, length-take-le}
-use lib.Ieee.{Float}
+use borrow.Author.Tests.{eq-eqb, le-ltb}
+use lib.Dec.{eqb}
+use lib.ListN.{length, take, replicate, length-append}
+use lib.Seq.{take-at, take-append-le}
 use Rattle.rates.specs.declared.Rate.{Rate}
-use Rattle.rates.specs.declared.Rate.the-variants.{One, Two, Five, Eleven}
-use Rattle.rates.specs.Rates.{codeOf, isCode, rateOf, lengthField}
+use Rattle.rates.specs.Rates.{codeOf, isCode, rateOf, octetChips, lengthField}
+use Rattle.rates.proofs.Lengths.{is-payload}
 use Rattle.chips.specs.Chips.{Taken, hardRecording, softRecording}
-use Rattle.base.specs.Below.{Below}
-use Rattle.base.proofs.Below.{below-take}
 use Rattle.frame.specs.declared.Kind.{Kind}
-use Rattle.frame.specs.declared.Refusal.the-variants.{ShorterThanFront, Ends, OctetRoom}
-use Rattle.frame.specs.declared.Writing.{Writing}
-use Rattle.frame.specs.declared.Writing.the-variants as writing
-use Rattle.frame.specs.declared.Front.{Front}
-use Rattle.frame.specs.declared.Front.the-variants as front
-use Rattle.frame.specs.declared.Reading.{Reading}
-use Rattle.frame.specs.declared.Reading.the-variants as reading
-use Rattle.frame.specs.declared.Written.{Written}
-use Rattle.frame.specs.declared.Record.{Record}
-use Rattle.frame.specs.Frame.{goesWith, frame, frontChips, frameChips}
-use Rattle.frame.specs.Answers.{writtenOf, recordOf}
-use Rattle.frame.specs.Writing.{isKind, kindOf, writingOf, chipsAfter, chipsWritten}
-use Rattle.frame.specs.Reading.{frontOf, payloadOf, payloadReading, afterFront, readingOf, octetsAfter, octetsFound}
-use Rattle.promises.specs.Clean.{cleanRecording}
-use Rattle.promises.specs.Calls.{Wrote, Found, Sendable, Exactly}
-use Rattle.promises.specs.Promises.{Sent, good, refused, lengthOf, WrittenFrame, ReadBack, ReadBackSoft, NotReadBack}
-use Rattle.promises.proofs.Decided.{clean-length}
-use Rattle.promises.proofs.Local.{front-local}
-use Rattle.promises.proofs.Recorded.{hard-recorded, soft-recorded, rows-agree, hard-take}
-use Rattle.promises.proofs.Whole.{frame-length, frame-phases, front-read, whole-read, no-room, payload-read, long-enough}
+use Rattle.frame.specs.Frame.{isKind, kindOf, goesWith, frontChips, frame, frameChips}
+use Rattle.frame.proofs.Sizes.{frame-length}
+use Rattle.calls.specs.declared.Writing.the-variants as writing
+use Rattle.calls.specs.declared.Written.{Written}
+use Rattle.calls.specs.declared.Record.{Record}
+use Rattle.calls.specs.Answers.{writtenOf, recordOf}
+use Rattle.calls.specs.Writing.{writingOf, chipsAfter, chipsWritten}
+use Rattle.clean.specs.Clean.{cleanRecording}
+use Rattle.clean.proofs.Recorded.{hard-recorded, soft-recorded, rows-agree, hard-take}
+use Rattle.clean.proofs.Back as clean
+use Rattle.promises.specs.Calls.{
+  Read,
+  Goes,
+  long-1,
+  long-2,
+  long-5,
+  long-11,
+  short-2,
+  short-5,
+  short-11,
+  Sent,
+}
+use Rattle.promises.specs.Promises.{good, refused, lengthOf, WrittenFrame, ReadBack, ReadBackSoft, NotReadBack}
 
-true-is : (b : Bool) → T b → b ≡ true
-true-is true t = refl
-true-is false t = absurd t
+-- what the seven pairs of kind and rate are by the definitions
+pub record Known (kind rate front octet : ℕ) : Type 0 where
+  pub kind-is : isKind kind ≡ true
+  pub rate-is : isCode rate ≡ true
+  pub together : goesWith (kindOf kind) (rateOf rate) ≡ true
+  pub code-back : codeOf (rateOf rate) ≡ rate
+  pub front-is : frontChips (kindOf kind) ≡ front
+  pub octet-is : octetChips (rateOf rate) ≡ octet
 
--- a code is that of its rate
-code-back : (c : ℕ) → T (isCode c) → codeOf (rateOf c) ≡ c
-code-back c t = go (eqb c 10) (eqb c 20) (eqb c 55) (eqb c 110) (eqb→eq c 10) (eqb→eq c 20) (eqb→eq c 55) (eqb→eq c 110) t
-  where
-    go : (p q r s : Bool) → (T p → c ≡ 10) → (T q → c ≡ 20) → (T r → c ≡ 55) → (T s → c ≡ 110) → T (p || q || r || s)
-        → codeOf (cond p One (cond q Two (cond r Five Eleven))) ≡ c
-    go true q r s f g h k u = sym (f tt)
-    go false true r s f g h k u = sym (g tt)
-    go false false true s f g h k u = sym (h tt)
-    go false false false true f g h k u = sym (k tt)
-    go false false false false f g h k u = absurd u
+known : {kind rate front octet : ℕ} → Goes kind rate front octet → Known kind rate front octet
+known long-1 =
+    record { kind-is = refl; rate-is = refl; together = refl; code-back = refl; front-is = refl; octet-is = refl }
+known long-2 =
+    record { kind-is = refl; rate-is = refl; together = refl; code-back = refl; front-is = refl; octet-is = refl }
+known long-5 =
+    record { kind-is = refl; rate-is = refl; together = refl; code-back = refl; front-is = refl; octet-is = refl }
+known long-11 =
+    record { kind-is = refl; rate-is = refl; together = refl; code-back = refl; front-is = refl; octet-is = refl }
+known short-2 =
+    record { kind-is = refl; rate-is = refl; together = refl; code-back = refl; front-is = refl; octet-is = refl }
+known short-5 =
+    record { kind-is = refl; rate-is = refl; together = refl; code-back = refl; front-is = refl; octet-is = refl }
+known short-11 =
+    record { kind-is = refl; rate-is = refl; together = refl; code-back = refl; front-is = refl; octet-is = refl }
 
-module _ (kind rate phase : ℕ) (payload : List ℕ) (w : Written) (chips : List ℕ) (s : Sent kind rate phase payload w chips) where
+module _ (kind rate phase : ℕ) (payload : List ℕ) (w : Written) (chips : List ℕ)
+    (s : Sent kind rate phase payload w chips) where
   abbrev k : Kind
   k = kindOf kind
 
@@ -70,32 +80,26 @@ module _ (kind rate phase : ℕ) (payload : List ℕ) (w : Written) (chips : Lis
   abbrev sent : List ℕ
   sent = frame k r phase payload
 
-  is-kind : isKind kind ≡ true
-  is-kind = true-is (isKind kind) (s .sendable .kind-is)
-
-  goes : goesWith k r ≡ true
-  goes = true-is (goesWith k r) (s .sendable .together)
+  pair : Known kind rate (s .sendable .front) (s .sendable .octet)
+  pair = known (s .sendable .goes)
 
   lp : phase < 4
   lp = s .sendable .phase-is
 
-  some : 1 ≤ n
-  some = s .sendable .some
-
-  few : n ≤ 4095
-  few = s .sendable .few
+  -- the chips of the frame, in the definition's words and in numbers
+  size : c ≡ s .sendable .front + s .sendable .octet * n
+  size = ap₂ {C = ℕ} (λ x y. x + y * n) (pair .front-is) (pair .octet-is)
 
   written : writingOf kind rate phase n (s .room) ≡ writing.Good k r c
   unfolding writingOf
   written =
       rw (
-        is-kind,
-        true-is (isCode rate) (s .sendable .rate-is),
-        goes,
-        ne-eqb n 0 (λ e. omega arith),
-        le-ltb 4095 n few,
-        le-ltb 3 phase (omega arith),
-        le-ltb (s .room) c (s .holds),
+        pair .kind-is,
+        pair .rate-is,
+        pair .together,
+        is-payload n (s .sendable .some) (s .sendable .few),
+        le-ltb 3 phase (omega (arith, lp)),
+        le-ltb (s .room) c (omega (arith, size, s .holds)),
       )
 
   w-is : w ≡ record { number = 0; chips = c }
@@ -111,94 +115,72 @@ module _ (kind rate phase : ℕ) (payload : List ℕ) (w : Written) (chips : Lis
       after = unfold chipsWritten in ap (chipsAfter phase payload (s .room)) written
 
   sent-length : length sent ≡ c
-  sent-length = frame-length k r phase payload [] lp
+  sent-length = frame-length k r phase payload
 
   pub taken : take (w .chips) chips ≡ sent
-  taken = ap₂ {C = List ℕ} (λ j l. take j l) w-chips chips-are ∙ take-at sent (replicate (s .room - c) 4) c sent-length
+  taken =
+      ap₂ {C = List ℕ} (λ j l. take j l) w-chips chips-are ∙ take-at sent (replicate (s .room - c) 4) c sent-length
 
   -- a recording of the whole frame, clean, with anything after it
-  module _ (rest : List Taken) (rec : List Taken) (e : rec ≡ cleanRecording sent ++ rest) (agree : Bool) (room : ℕ) (a : Record)
-      (left : List ℕ)
-      (yes : agree ≡ true) (f : Found kind agree rec room a left) where
-    with-front : (g : Reading) → payloadReading k r (lengthField r n) n (cleanRecording sent ++ rest) room ≡ g
-        → readingOf kind agree rec room ≡ g
-    with-front g h =
-        opened
-        ∙ ap (λ (x : List Taken). afterFront k x room (frontOf k x)) e
-        ∙ ap (afterFront k (cleanRecording sent ++ rest) room) (front-read k r phase payload rest lp goes some few)
-        ∙ h
-      where
-        opened : readingOf kind agree rec room ≡ afterFront k rec room (frontOf k rec)
-        opened = unfold readingOf in rw (is-kind, yes)
+  module _ (rest rec : List Taken) (e : rec ≡ cleanRecording sent ++ rest) (agree : Bool) (room : ℕ) (a : Record)
+      (left : List ℕ) (same : agree ≡ true) (f : Read kind agree rec room a left) where
+    f′ : Read kind agree (cleanRecording sent ++ rest) room a left
+    f′ = subst (λ (x : List Taken). Read kind agree x room a left) e f
 
-    good-reading : n ≤ room → readingOf kind agree rec room ≡ reading.Good r (lengthField r n) n c
-    good-reading h = with-front _ (whole-read k r phase payload rest lp room h)
-
-    pub back : n ≤ room → (a ≡ good rate (lengthOf rate payload) n (w .chips)) × (left ≡ payload ++ replicate (room - n) 0)
+    pub back : n ≤ room
+        → (a ≡ good rate (lengthOf rate payload) n (w .chips)) × (left ≡ payload ++ replicate (room - n) 0)
     back h = (
-      f .answer ∙ ap recordOf (good-reading h)
-          ∙ ap₂ {C = Record} (λ x y. good x (lengthField r n) n y) (code-back rate (s .sendable .rate-is)) (sym w-chips),
-      f .octets ∙ found ∙ ap (λ (x : List Taken). payloadOf k r n x ++ replicate (room - n) 0) e
-          ∙ ap (λ (x : List ℕ). x ++ replicate (room - n) 0) (payload-read k r phase payload rest lp (s .sendable .octets)),
+      f′ .answer
+          ∙ ap recordOf (clean.good-reading kind r phase payload (pair .kind-is) lp (pair .together)
+          (s .sendable .some) (s .sendable .few) rest room agree same h)
+          ∙ ap₂ {C = Record} (λ x y. good x (lengthField r n) n y) (pair .code-back) (sym w-chips),
+      f′ .octets
+          ∙ clean.good-octets kind r phase payload (pair .kind-is) lp (pair .together) (s .sendable .some)
+          (s .sendable .few) rest room agree same h (s .sendable .octets),
     )
-      where
-        found : octetsFound kind agree rec room ≡ payloadOf k r n rec ++ replicate (room - n) 0
-        found = unfold octetsFound in ap (octetsAfter k rec room) (good-reading h)
 
     pub too-small : room < n → a ≡ refused 17 (lengthOf rate payload)
-    too-small h = f .answer ∙ ap recordOf (with-front _ (no-room k r phase payload rest lp room h))
+    too-small h =
+        f′ .answer
+        ∙ ap recordOf (clean.room-refused kind r phase payload (pair .kind-is) lp (pair .together)
+        (s .sendable .some) (s .sendable .few) rest room agree same h)
 
-  pub hard-rec : (tail : List ℕ) → hardRecording (take (w .chips) chips ++ tail) ≡ cleanRecording sent ++ hardRecording tail
+  pub hard-rec : (tail : List ℕ)
+      → hardRecording (take (w .chips) chips ++ tail) ≡ cleanRecording sent ++ hardRecording tail
   hard-rec tail =
-      ap (λ (x : List ℕ). hardRecording (x ++ tail)) taken ∙ hard-recorded sent tail (frame-phases k r phase payload [] lp)
+      ap (λ (x : List ℕ). hardRecording (x ++ tail)) taken
+      ∙ hard-recorded sent tail (clean.phases kind r phase payload (pair .kind-is) lp)
 
   -- ---- cut short
-  module _ (j room : ℕ) (a : Record) (left : List ℕ) (f : Found kind true (hardRecording (take j chips)) room a left) where
-    abbrev rec : List Taken
-    rec = hardRecording (take j chips)
+  module _ (j room : ℕ) (a : Record) (left : List ℕ)
+      (f : Read kind true (hardRecording (take j chips)) room a left) where
+    g : j ≤ c → Read kind true (take j (cleanRecording sent)) room a left
+    g h =
+        subst (λ (x : List Taken). Read kind true x room a left)
+        (ap hardRecording
+        (ap (take j) chips-are ∙ take-append-le j sent (replicate (s .room - c) 4) (omega (arith, sent-length)))
+        ∙ hard-take j sent (clean.phases kind r phase payload (pair .kind-is) lp))
+        f
 
-    opened : readingOf kind true rec room ≡ afterFront k rec room (frontOf k rec)
-    unfolding readingOf
-    opened = rw is-kind
+    pub in-front : j < s .sendable .front → a ≡ refused 8 0
+    in-front h =
+        let less : j < c = omega (arith, size) in
+        g (omega arith) .answer
+        ∙ ap recordOf (clean.front-refused kind r phase payload (pair .kind-is) lp (pair .together)
+        (s .sendable .some) (s .sendable .few) j room less (omega (arith, pair .front-is)))
 
-    within : j ≤ c → take j chips ≡ take j sent
-    within h = ap (take j) chips-are ∙ take-append-le j sent (replicate (s .room - c) 4) (omega (arith, sent-length))
-
-    rec-is : j ≤ c → rec ≡ take j (cleanRecording sent)
-    rec-is h = ap hardRecording (within h) ∙ hard-take j sent (frame-phases k r phase payload [] lp)
-
-    rec-length : j ≤ c → length rec ≡ j
-    rec-length h = ap length (rec-is h) ∙ length-take-le j (cleanRecording sent) (omega (arith, clean-length sent, sent-length))
-
-    pub in-front : j < frontChips k → a ≡ refused 8 0
-    in-front h = f .answer ∙ ap recordOf (opened ∙ ap (afterFront k rec room) short)
-      where
-        short : frontOf k rec ≡ front.Refused ShorterThanFront
-        short = unfold frontOf in rw (lt-ltb (length rec) (frontChips k) (omega (arith, rec-length (omega arith))))
-
-    pub in-payload : frontChips k ≤ j → j < w .chips → a ≡ refused 16 (lengthOf rate payload)
+    pub in-payload : s .sendable .front ≤ j → j < w .chips → a ≡ refused 16 (lengthOf rate payload)
     in-payload h i =
         let less : j < c = subst (λ (x : ℕ). j < x) w-chips i in
-        let len : length rec ≡ j = rec-length (omega arith) in
-        f .answer ∙ ap recordOf (opened ∙ ap (afterFront k rec room) (header less len) ∙ ends less len)
-      where
-        header : j < c → length rec ≡ j → frontOf k rec ≡ front.Fields r (lengthField r n) n
-        header less len =
-            sym (front-local k rec (omega arith))
-            ∙ ap (frontOf k)
-            (ap (take (frontChips k)) (rec-is (omega arith)) ∙ take-take (frontChips k) j (cleanRecording sent) h
-            ∙ ap (take (frontChips k)) (sym (append-nil (cleanRecording sent))))
-            ∙ front-local k (cleanRecording sent ++ []) (omega (arith, long-enough k r phase payload [] lp))
-            ∙ front-read k r phase payload [] lp goes some few
-
-        ends : j < c → length rec ≡ j → payloadReading k r (lengthField r n) n rec room ≡ reading.Refused (Ends (lengthField r n))
-        ends less len = unfold payloadReading in rw (lt-ltb (length rec) c (omega arith))
+        g (omega arith) .answer
+        ∙ ap recordOf (clean.payload-refused kind r phase payload (pair .kind-is) lp (pair .together)
+        (s .sendable .some) (s .sendable .few) j room less (omega (arith, pair .front-is)))
 
 -- ---- the statements
 pub written-frame : WrittenFrame
 written-frame kind rate phase payload w chips s = (
   ap (λ (v : Written). v .number) (w-is kind rate phase payload w chips s),
-  w-chips kind rate phase payload w chips s,
+  w-chips kind rate phase payload w chips s ∙ size kind rate phase payload w chips s,
   taken kind rate phase payload w chips s,
 )
 
@@ -209,11 +191,13 @@ read-back kind rate phase payload w chips s tail room a left f h =
 
 pub read-back-soft : ReadBackSoft
 read-back-soft kind rate phase payload w chips s i q i′ q′ room a left e g f h =
-    let rec : softRecording (i ++ i′) (q ++ q′) ≡ cleanRecording (frame (kindOf kind) (rateOf rate) phase payload) ++ softRecording i′ q′ =
+    let rec : softRecording (i ++ i′) (q ++ q′)
+    ≡ cleanRecording (frame (kindOf kind) (rateOf rate) phase payload) ++ softRecording i′ q′ =
     soft-recorded (take (w .chips) chips) i q i′ q′ e
     ∙ ap (λ (x : List ℕ). cleanRecording x ++ softRecording i′ q′) (taken kind rate phase payload w chips s) in
     let same : length (i ++ i′) ≡ length (q ++ q′) =
-    length-append i i′ ∙ ap₂ {C = ℕ} (λ x y. x + y) (rows-agree (take (w .chips) chips) i q e) g ∙ sym (length-append q q′) in
+    length-append i i′ ∙ ap₂ {C = ℕ} (λ x y. x + y) (rows-agree (take (w .chips) chips) i q e) g
+    ∙ sym (length-append q q′) in
     back kind rate phase payload w chips s (softRecording i′ q′) (softRecording (i ++ i′) (q ++ q′)) rec
     (eqb (length (i ++ i′)) (length (q ++ q′))) room a left (eq-eqb (length (i ++ i′)) (length (q ++ q′)) same) f h
 

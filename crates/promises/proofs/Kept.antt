@@ -1,13 +1,13 @@
 -- Every promise is kept. Assumes nothing.
-use mathlib.Core.Path.{_≡_, sym, _∙_}
+use mathlib.Core.Path.{sym, _∙_}
 use Rattle.frame.proofs.TableP.{table-p}
 use Rattle.chips.proofs.Meaning.{counted}
-use Rattle.choice.proofs.Demand3.{demand-3, demand-3-exact}
+use Rattle.clean.proofs.Rows.{soft-rows}
 use Rattle.promises.specs.Promises.{OneAnswer, Promised}
 use Rattle.promises.proofs.Fills.{write-fills, read-fills}
 use Rattle.promises.proofs.Back.{written-frame, read-back, read-back-soft, not-read-back}
 use Rattle.promises.proofs.Source.{one-source}
-use Rattle.promises.proofs.Right.{front-right, payload-right}
+use Rattle.promises.proofs.Right.{recorded-right, hard-right, soft-right}
 
 -- each contract is an equation with a definition
 pub one-answer : OneAnswer
@@ -25,11 +25,11 @@ kept = (
   read-back-soft,
   not-read-back,
   one-source,
+  soft-rows,
   counted,
-  demand-3,
-  demand-3-exact,
-  front-right,
-  payload-right,
+  recorded-right,
+  hard-right,
+  soft-right,
   one-answer,
   table-p,
 )

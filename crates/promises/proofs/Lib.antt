@@ -1,12 +1,5 @@
-pub mod Sent
-pub mod Decided
-pub mod Parts
-pub mod Listened
-pub mod Whole
-pub mod Recorded
-pub mod Local
 pub mod Fills
 pub mod Back
-pub mod Right
 pub mod Source
+pub mod Right
 pub mod Kept

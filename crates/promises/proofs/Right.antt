@@ -1,65 +1,58 @@
--- Demand 3 over a whole soft reading: each word of a part with no unusable chip is the choice from the chips recorded at its place, and
--- those are usable, so demand 3's law of one symbol holds of it. Once for every part. Assumes nothing.
-use mathlib.Core.Path.{_≡_, refl, sym, ap, ap₂, _∙_, subst}
-use mathlib.Core.Bool.{Bool, true, false, cond, not, _&&_}
+-- Demand 3 over a whole reading: each word of a part is decided from the counts taken at its place, and those are near
+-- the chips recorded there, so demand 3's law of one symbol holds of it. Once for every part and recorder; hard and
+-- soft recordings keep their chips. Assumes nothing.
+use mathlib.Core.Path.{_≡_, refl, sym, ap, _∙_, subst}
+use mathlib.Core.Bool.{Bool, true, false, not, cond, _&&_}
 use mathlib.Core.List.{List, [], _∷_, map}
-use mathlib.Core.Option.{Option, none, some}
 use Prim.Native.Nat.{ℕ, zero, suc, _+_, _-_, _*_, _/_, _^_, _≤_, _<_}
-use native.Mathlib.Nat.{suc-mul, zero-mul, mul-le-mul-right, le-of-suc-le-suc, not-suc-le-zero, le-trans}
+use native.Mathlib.Nat.{mul-comm, suc-mul, zero-mul, mul-le-mul-right, le-of-suc-le-suc, not-suc-le-zero}
 use native.Mathlib.Omega.{arith}
-use lib.Dec.{T}
-use lib.ListN.{length, getD, take, drop, length-drop}
-use lib.Seq.{drop-drop, take-take, length-take-le}
-use lib.Ieee.{Float}
+use borrow.Author.Tests.{le-leb}
+use lib.Dec.{T, eqb}
+use lib.ListN.{length, getD, take, drop, length-drop, length-map, List·getD-map}
+use lib.Seq.{drop-drop, length-take-le, getD-take, getD-drop}
+use lib.Ieee.{Float, nan}
+use Rattle.base.proofs.Whole.{within-zero}
 use Rattle.rates.specs.declared.Rate.{Rate}
 use Rattle.rates.specs.declared.Rate.the-variants.{One, Two, Five, Eleven}
 use Rattle.rates.specs.Rates.{symbolChips, symbolBits, octetChips}
-use Rattle.chips.specs.declared.Counts.{Counts}
+use Rattle.rates.proofs.Octets.{part-symbols, part-chips}
 use Rattle.chips.specs.declared.Chip.{Chip}
-use Rattle.chips.specs.declared.Chip.the-variants.{Soft}
-use Rattle.chips.specs.Chips.{Taken, unusable, counted, isUnusable, takenCounts, usableSample, countsOf, softTaken, softRecording}
-use Rattle.chips.specs.Bounds.{usableChip}
-use Rattle.chips.proofs.Recorders.{sample, taken-soft, unusable-soft}
+use Rattle.chips.specs.declared.Chip.the-variants.{Lost, Hard, Soft}
+use Rattle.chips.specs.Floats.{usable}
+use Rattle.chips.specs.Chips.{
+  Taken,
+  unusable,
+  isUnusable,
+  takenCounts,
+  nothing,
+  usableSample,
+  countsOf,
+  hardChip,
+  hardTaken,
+  hardRecording,
+  softTaken,
+  softRecording,
+}
+use Rattle.chips.proofs.Bounds.{chip-near, hard-exact, lost-exact}
+use Rattle.chips.proofs.Recorders.{sample, taken-hard, taken-soft, unusable-hard, unusable-soft}
 use Rattle.symbols.specs.Choice.{decided}
-use Rattle.choice.specs.Demand3.{chosen, RightUpTo, allChips}
+use Rattle.choice.specs.Demand3.{RightUpTo, Apart}
 use Rattle.choice.proofs.Demand3.{demand-3}
 use Rattle.frame.specs.declared.Kind.{Kind}
 use Rattle.frame.specs.declared.Kind.the-variants.{Long, Short}
-use Rattle.frame.specs.Frame.{headerRate, frontChips, frameChips, preambleLength, headerLength}
-use Rattle.frame.specs.Reading.{
-  firstUnusable,
-  decidedWords,
-  preambleChips,
-  preambleWords,
-  headerWords,
-  payloadWords,
+use Rattle.frame.specs.Frame.{headerRate, frontChips, preambleLength, headerLength, preambleChips}
+use Rattle.calls.specs.Reading.{decidedWords, preambleWords, headerWords, payloadWords}
+use Rattle.promises.specs.Right.{
+  symbolAt,
+  EachRight,
+  WholeRight,
+  Keeps,
+  RecordedRight,
+  HardRight,
+  softChips,
+  SoftRight,
 }
-use Rattle.promises.specs.Promises.{softChips, symbolAt, EachRight, Usable, FrontRight, PayloadRight}
-use Rattle.promises.proofs.Local.{drop-take}
-use Rattle.promises.proofs.Whole.{whole-symbols}
-
--- ---- parts of mapped lists
-map-part : {A B : Type 0} (f : A → B) (c x : ℕ) (l : List A) → map f (take c (drop x l)) ≡ take c (drop x (map f l))
-map-part f zero x l = refl
-map-part f (suc c) x [] = ends x
-  where
-    ends : (x : ℕ) → map f (take (suc c) (drop x [])) ≡ take (suc c) (drop x [])
-    ends zero = refl
-    ends (suc x) = refl
-map-part f (suc c) zero (a ∷ l) = ap (λ t. f a ∷ t) (map-part f c zero l)
-map-part f (suc c) (suc x) (a ∷ l) = map-part f (suc c) x l
-
-same-counts : (i q : List Float) → map takenCounts (softRecording i q) ≡ map countsOf (softChips i q)
-unfolding softRecording softChips
-same-counts [] q = refl
-same-counts (x ∷ i) [] = refl
-same-counts (x ∷ i) (y ∷ q) = ap₂ {C = List Counts} (λ a b. a ∷ b) (taken-soft x y) (same-counts i q)
-
-chips-length : (i q : List Float) → length i ≡ length q → length (softChips i q) ≡ length i
-unfolding softChips
-chips-length [] q e = refl
-chips-length (x ∷ i) [] e = absurd (omega arith)
-chips-length (x ∷ i) (y ∷ q) e = ap suc (chips-length i q (omega arith))
 
 -- the j-th of m words
 word-at : (r : Rate) (m j : ℕ) (cs : List Taken) → j < m
@@ -77,126 +70,178 @@ word-at r (suc m) (suc j) cs h =
     turned : (a b : ℕ) → b + a ≡ a + b
     turned a b = omega arith
 
--- ---- usable parts
-and-l : (a b : Bool) → T (a && b) → T a
-and-l true b t = tt
-and-l false b t = t
-
-and-r : (a b : Bool) → T (a && b) → T b
-and-r true b t = t
-and-r false b t = absurd t
-
-and-of : (a b : Bool) → T a → T b → T (a && b)
-and-of true b s t = t
-and-of false b s t = s
-
-all-usable : (at : ℕ) (i q : List Float) (x m : ℕ) → firstUnusable at (take m (drop x (softRecording i q))) ≡ none
-    → T (allChips usableChip (take m (drop x (softChips i q))))
-unfolding firstUnusable softRecording softChips allChips
-all-usable at i q x zero h = tt
-all-usable at [] q zero (suc m) h = tt
-all-usable at [] q (suc x) (suc m) h = tt
-all-usable at (a ∷ i) [] zero (suc m) h = tt
-all-usable at (a ∷ i) [] (suc x) (suc m) h = tt
-all-usable at (a ∷ i) (b ∷ q) (suc x) (suc m) h = all-usable at i q x (suc m) h
-all-usable at (a ∷ i) (b ∷ q) zero (suc m) h =
-    go (usableSample (sample a b)) (isUnusable (softTaken a b)) (unusable-soft a b) h (all-usable (suc at) i q zero m)
-  where
-    go : (u v : Bool) → v ≡ not u → cond v (some at) (firstUnusable (suc at) (take m (softRecording i q))) ≡ none
-        → (firstUnusable (suc at) (take m (softRecording i q)) ≡ none → T (allChips usableChip (take m (softChips i q))))
-        → T (u && allChips usableChip (take m (softChips i q)))
-    go true v e h rest =
-        rest (ap (λ (t : Bool). cond t (some at) (firstUnusable (suc at) (take m (softRecording i q)))) (sym e) ∙ h)
-    go false v e h rest = never (ap (λ (t : Bool). cond t (some at) (firstUnusable (suc at) (take m (softRecording i q)))) (sym e) ∙ h)
-      where
-        never : some at ≡ none → T false
-        never p = let z : _≡_ {A = ℕ} 0 1 = cc in absurd (omega arith)
-
-all-drop : (x : ℕ) (cs : List Chip) → T (allChips usableChip cs) → T (allChips usableChip (drop x cs))
-unfolding allChips
-all-drop zero cs t = t
-all-drop (suc x) [] t = tt
-all-drop (suc x) (c ∷ cs) t = all-drop x cs (and-r (usableChip c) (allChips usableChip cs) t)
-
-all-take : (x : ℕ) (cs : List Chip) → T (allChips usableChip cs) → T (allChips usableChip (take x cs))
-unfolding allChips
-all-take zero cs t = tt
-all-take (suc x) [] t = tt
-all-take (suc x) (c ∷ cs) t =
-    and-of (usableChip c) (allChips usableChip (take x cs)) (and-l (usableChip c) (allChips usableChip cs) t)
-    (all-take x cs (and-r (usableChip c) (allChips usableChip cs) t))
-
--- a part of a part
-inner : (at j c m : ℕ) (cs : List Chip) → j + c ≤ m → take c (drop j (take m (drop at cs))) ≡ take c (drop (at + j) cs)
-inner at j c m cs h =
-    ap (take c) (drop-take j m (drop at cs)) ∙ take-take c (m - j) (drop j (drop at cs)) (omega arith) ∙ ap (take c) (drop-drop j at cs)
-
 -- ---- a part of m symbols from place `at`, all of it usable
-module _ (r : Rate) (m at from much : ℕ) (i q : List Float) (e : length i ≡ length q) (fits : at + m * symbolChips r ≤ from + much)
-    (starts : from ≤ at) (within : from + much ≤ length i)
-    (tag : ℕ) (ok : firstUnusable tag (take much (drop from (softRecording i q))) ≡ none) where
+abbrev Usable : List Taken → ℕ → Type 0
+Usable rec place = T (not (isUnusable (getD rec place unusable)))
+
+-- a usable chip is one of the recording
+there : (rec : List Taken) (place : ℕ) → Usable rec place → place < length rec
+there [] place t = absurd t
+there (c ∷ rec) zero t = omega arith
+there (c ∷ rec) (suc place) t = let h = there rec place t in omega arith
+
+some-chips : (r : Rate) → 0 < symbolChips r
+some-chips One = omega arith
+some-chips Two = omega arith
+some-chips Five = omega arith
+some-chips Eleven = omega arith
+
+module _ (half : ℕ) (chips : List Chip) (rec : List Taken) (keeps : Keeps half chips rec) (r : Rate) (m at : ℕ)
+    (ok : (place : ℕ) → at ≤ place → place < at + m * symbolChips r → Usable rec place) where
   abbrev c : ℕ
   c = symbolChips r
 
-  room : (j : ℕ) → j < m → at + j * c + c ≤ from + much
-  room j h = omega (arith, suc-mul j c, mul-le-mul-right c h)
+  module _ (j : ℕ) (h : j < m) where
+    abbrev from : ℕ
+    from = at + j * c
 
-  so : (j : ℕ) → j < m → getD (decidedWords r m (drop at (softRecording i q))) j 0 ≡ chosen r (symbolAt r at j i q)
-  so j h =
-      word-at r m j (drop at (softRecording i q)) h
-      ∙ ap (λ (l : List Taken). decided r (map takenCounts (take c l))) (drop-drop (j * c) at (softRecording i q))
-      ∙ ap (decided r)
-      (map-part takenCounts c (at + j * c) (softRecording i q) ∙ ap (λ (l : List Counts). take c (drop (at + j * c) l)) (same-counts i q)
-      ∙ sym (map-part countsOf c (at + j * c) (softChips i q)))
+    within : from + c ≤ at + m * c
+    within = omega (arith, suc-mul j c, mul-le-mul-right c h)
 
-  long : (j : ℕ) → j < m → length (symbolAt r at j i q) ≡ c
-  long j h =
-      length-take-le c (drop (at + j * c) (softChips i q))
-      (rw (length-drop (at + j * c) (softChips i q), chips-length i q e) (omega (arith, room j h)))
+    usable-at : (i : ℕ) → i < c → Usable rec (from + i)
+    usable-at i l = ok (from + i) (omega arith) (omega (arith, within))
 
-  usable : (j : ℕ) → j < m → T (allChips usableChip (symbolAt r at j i q))
-  usable j h =
-      subst (λ (l : List Chip). T (allChips usableChip l)) place
-      (all-take c _ (all-drop (at + j * c - from) (take much (drop from (softChips i q))) (all-usable tag i q from much ok)))
-    where
-      place : take c (drop (at + j * c - from) (take much (drop from (softChips i q)))) ≡ symbolAt r at j i q
-      place =
-          inner from (at + j * c - from) c much (softChips i q) (omega (arith, room j h))
-          ∙ ap (λ (x : ℕ). take c (drop x (softChips i q))) (whole (at + j * c) (omega arith))
-        where
-          whole : (x : ℕ) → from ≤ x → from + (x - from) ≡ x
-          whole x h = omega arith
+    reaches : from + c ≤ length rec
+    reaches = omega (arith, some-chips r, there rec (from + (c - 1)) (usable-at (c - 1) (omega (arith, some-chips r))))
 
-  pub each-right : EachRight r m at (decidedWords r m (drop at (softRecording i q))) i q
-  each-right =
-      record {
-        decided-so = so;
-        right = λ j h. demand-3 r (symbolAt r at j i q) (long j h) (usable j h);
-      }
+    counts-at : (i : ℕ) → i < c
+        → getD (map takenCounts (take c (drop from rec))) i nothing ≡ takenCounts (getD rec (from + i) unusable)
+    counts-at i l =
+        List·getD-map takenCounts (take c (drop from rec)) i unusable
+        ∙ ap takenCounts (getD-take c (drop from rec) i unusable l ∙ getD-drop from rec i unusable)
+
+    chips-at : (i : ℕ) → i < c → getD (take c (drop from chips)) i Lost ≡ getD chips (from + i) Lost
+    chips-at i l = getD-take c (drop from chips) i Lost l ∙ getD-drop from chips i Lost
+
+    one-right : RightUpTo (c * (2 * half)) r (symbolAt r at j chips)
+        (decided r (map takenCounts (take c (drop from rec))))
+    one-right =
+        demand-3 half r (map takenCounts (take c (drop from rec))) (take c (drop from chips))
+        (length-map (take c (drop from rec)) takenCounts
+        ∙ length-take-le c (drop from rec) (rw (length-drop from rec) (omega (arith, reaches))))
+        (length-take-le c (drop from chips)
+        (rw (length-drop from chips, keeps .as-long) (omega (arith, reaches))))
+        (λ i l. rw (counts-at i l, chips-at i l) (keeps .near (from + i) (usable-at i l)))
+
+  pub each-right : EachRight half r m at (decidedWords r m (drop at rec)) chips
+  each-right j h =
+      subst (RightUpTo (c * (2 * half)) r (symbolAt r at j chips))
+      (sym (word-at r m j (drop at rec) h
+      ∙ ap (λ (l : List Taken). decided r (map takenCounts (take c l))) (drop-drop (j * c) at rec)))
+      (one-right j h)
 
 -- ---- the front's two parts, and the payload
-preamble-in : (k : Kind) → 0 + preambleLength k * symbolChips One ≤ 0 + frontChips k
+preamble-in : (k : Kind) → 0 + preambleLength k * symbolChips One ≤ frontChips k
 preamble-in Long = omega arith
 preamble-in Short = omega arith
 
-header-in : (k : Kind) → preambleChips k + headerLength / symbolBits (headerRate k) * symbolChips (headerRate k) ≤ 0 + frontChips k
+header-in : (k : Kind)
+    → preambleChips k + headerLength / symbolBits (headerRate k) * symbolChips (headerRate k) ≤ frontChips k
 header-in Long = omega arith
 header-in Short = omega arith
 
-pub front-right : FrontRight
-unfolding preambleWords headerWords
-front-right k i q u = (
-  each-right One (preambleLength k) 0 0 (frontChips k) i q (u .1) (preamble-in k) (omega arith) (u .0) 0 (u .2),
-  each-right (headerRate k) (headerLength / symbolBits (headerRate k)) (preambleChips k) 0 (frontChips k) i q (u .1) (header-in k)
-      (omega arith) (u .0) 0 (u .2),
-)
+whole-symbols : (r : Rate) (n : ℕ) → 8 * n / symbolBits r * symbolChips r ≡ octetChips r * n
+whole-symbols r n = mul-comm (8 * n / symbolBits r) (symbolChips r) ∙ rw (part-symbols r n) (part-chips r n)
 
-payload-in : (k : Kind) (r : Rate) (n : ℕ)
-    → frontChips k + 8 * n / symbolBits r * symbolChips r ≤ frontChips k + (frameChips k r n - frontChips k)
-payload-in k r n = omega (arith, whole-symbols r n)
+pub recorded-right : RecordedRight
+unfolding preambleWords headerWords payloadWords
+recorded-right half chips rec keeps =
+    record {
+      preamble = λ k ok.
+          each-right half chips rec keeps One (preambleLength k) 0
+          (λ place g h. ok place (omega (arith, preamble-in k)));
+      header = λ k ok.
+          each-right half chips rec keeps (headerRate k) (headerLength / symbolBits (headerRate k)) (preambleChips k)
+          (λ place g h. ok place (omega (arith, header-in k)));
+      payload = λ k r n ok.
+          each-right half chips rec keeps r (8 * n / symbolBits r) (frontChips k)
+          (λ place g h. ok place g (omega (arith, whole-symbols r n)));
+    }
 
-pub payload-right : PayloadRight
-unfolding payloadWords
-payload-right k r n i q u =
-    each-right r (8 * n / symbolBits r) (frontChips k) (frontChips k) (frameChips k r n - frontChips k) i q (u .1) (payload-in k r n)
-    (omega arith) (u .0) (frontChips k) (u .2)
+-- ---- where other words say that chips are good
+where-good : {half : ℕ} {good better : ℕ → Type 0} {chips : List Chip} {rec : List Taken}
+    → ((place : ℕ) → better place → good place) → WholeRight half good chips rec → WholeRight half better chips rec
+where-good f w =
+    record {
+      preamble = λ k ok. w .preamble k (λ place h. f place (ok place h));
+      header = λ k ok. w .header k (λ place h. f place (ok place h));
+      payload = λ k r n ok. w .payload k r n (λ place g h. f place (ok place g h));
+    }
+
+-- ---- hard recordings keep their chips exactly
+hard-apart : (x : ℕ) → Apart 0 (takenCounts (hardTaken x)) (hardChip x)
+hard-apart x = subst (λ t. Apart 0 t (hardChip x)) (sym (taken-hard x)) (go (eqb x 4))
+  where
+    go : (b : Bool) → Apart 0 (countsOf (cond b Lost (Hard x))) (cond b Lost (Hard x))
+    go true = record { real = rw (lost-exact .real) (within-zero 0); imag = rw (lost-exact .imag) (within-zero 0) }
+    go false = record { real = rw (hard-exact x .real) (within-zero 0); imag = rw (hard-exact x .imag) (within-zero 0) }
+
+hard-keeps : (octets : List ℕ) → Keeps 0 (map hardChip octets) (hardRecording octets)
+unfolding hardRecording
+hard-keeps octets =
+    record {
+      as-long = length-map octets hardChip ∙ sym (length-map octets hardTaken);
+      near = near octets;
+    }
+  where
+    near : (octets : List ℕ) (place : ℕ) → Usable (map hardTaken octets) place
+        → Apart 0 (takenCounts (getD (map hardTaken octets) place unusable)) (getD (map hardChip octets) place Lost)
+    near [] place t = absurd t
+    near (x ∷ octets) zero t = hard-apart x
+    near (x ∷ octets) (suc place) t = near octets place t
+
+hard-good : (octets : List ℕ) (place : ℕ) → getD octets place 5 ≤ 4 → Usable (hardRecording octets) place
+unfolding hardRecording
+hard-good octets place h =
+    let x = getD octets place 5 in
+    rw (List·getD-map hardTaken octets place 5, unusable-hard x, le-leb x 4 h) tt
+
+pub hard-right : HardRight
+hard-right octets = where-good (hard-good octets) (recorded-right 0 _ _ (hard-keeps octets))
+
+-- ---- soft recordings keep theirs up to half a count
+soft-used : (x y : Float) → T (not (isUnusable (softTaken x y))) → T (usableSample (sample x y))
+soft-used x y t = go (usableSample (sample x y)) (isUnusable (softTaken x y)) (unusable-soft x y) t
+  where
+    go : (u v : Bool) → v ≡ not u → T (not v) → T u
+    go true v e t = tt
+    go false v e t = subst (λ (b : Bool). T (not b)) e t
+
+soft-apart : (x y : Float) → T (not (isUnusable (softTaken x y)))
+    → Apart (2 ^ 138) (takenCounts (softTaken x y)) (Soft (sample x y))
+soft-apart x y t =
+    let near = chip-near (Soft (sample x y)) (soft-used x y t) in
+    subst (λ t. Apart (2 ^ 138) t (Soft (sample x y))) (sym (taken-soft x y))
+    (record { real = near .real; imag = near .imag })
+
+soft-keeps : (i q : List Float) → Keeps (2 ^ 138) (softChips i q) (softRecording i q)
+unfolding softChips softRecording
+soft-keeps i q = record { as-long = as-long i q; near = near i q }
+  where
+    as-long : (i q : List Float) → length (softChips i q) ≡ length (softRecording i q)
+    as-long [] q = refl
+    as-long (x ∷ i) [] = refl
+    as-long (x ∷ i) (y ∷ q) = ap suc (as-long i q)
+
+    near : (i q : List Float) (place : ℕ) → Usable (softRecording i q) place
+        → Apart (2 ^ 138) (takenCounts (getD (softRecording i q) place unusable)) (getD (softChips i q) place Lost)
+    near [] q place t = absurd t
+    near (x ∷ i) [] place t = absurd t
+    near (x ∷ i) (y ∷ q) zero t = soft-apart x y t
+    near (x ∷ i) (y ∷ q) (suc place) t = near i q place t
+
+soft-good : (i q : List Float) (place : ℕ) → T (usable (getD i place nan)) × T (usable (getD q place nan))
+    → Usable (softRecording i q) place
+unfolding softRecording usable
+soft-good [] q place u = absurd (u .0)
+soft-good (x ∷ i) [] place u = absurd (u .1)
+soft-good (x ∷ i) (y ∷ q) zero u = rw (unusable-soft x y) (twice (usable x) (usable y) (u .0) (u .1))
+  where
+    twice : (a b : Bool) → T a → T b → T (not (not (a && b)))
+    twice true true s t = tt
+    twice true false s t = t
+    twice false b s t = s
+soft-good (x ∷ i) (y ∷ q) (suc place) u = soft-good i q place u
+
+pub soft-right : SoftRight
+soft-right i q = where-good (soft-good i q) (recorded-right (2 ^ 138) _ _ (soft-keeps i q))

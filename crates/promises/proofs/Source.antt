@@ -1,9 +1,9 @@
--- The chips of an accepted write have one source: reading them back tells rate and payload, and the first chip tells the starting phase,
--- since the first scrambled bit is the same for every frame of a kind. Assumes nothing.
+-- The chips of an accepted write have one source: reading them back tells rate and payload, and the first chip tells
+-- the starting phase, since the first scrambled bit is the same for every frame of a kind. Assumes nothing.
 use mathlib.Core.Path.{_≡_, refl, sym, ap, ap₂, _∙_, subst}
 use mathlib.Core.Bool.{true}
-use mathlib.Core.List.{List, [], _∷_, _++_}
-use Prim.Native.Nat.{ℕ, zero, suc, _+_, _-_, _%_, _≤_, _<_}
+use mathlib.Core.List.{List, _++_}
+use Prim.Native.Nat.{ℕ, _+_, _-_, _≤_, _<_}
 use native.Mathlib.Omega.{arith}
 use lib.ListN.{length, getD, take, drop, replicate, take-append-drop, List·getD-append}
 use lib.Seq.{take-at}
@@ -12,33 +12,35 @@ use Rattle.rates.specs.Rates.{rateOf}
 use Rattle.chips.specs.Chips.{turned, hardRecording}
 use Rattle.symbols.specs.Words.{barkerWord}
 use Rattle.bits.specs.Bits.{bitsOf}
-use Rattle.bits.specs.Growths.{growth, symbolOf, symbolsFrom, symbolsOf, chipsFrom}
+use Rattle.bits.specs.Growths.{symbolOf, symbolsFrom, symbolsOf, chipsFrom}
 use Rattle.bits.specs.Scrambler.{mixed, scramble}
 use Rattle.frame.specs.declared.Kind.{Kind}
 use Rattle.frame.specs.declared.Kind.the-variants.{Long, Short}
-use Rattle.frame.specs.declared.Written.{Written}
-use Rattle.frame.specs.declared.Record.{Record}
-use Rattle.frame.specs.Frame.{preambleBits, headerBits, frameBits, sentBits, partsChips, frame, frameChips, frontChips}
-use Rattle.frame.specs.Answers.{recordOf}
-use Rattle.frame.specs.Writing.{kindOf}
-use Rattle.frame.specs.Reading.{readingOf, octetsFound}
-use Rattle.promises.specs.Calls.{Found}
-use Rattle.promises.specs.Promises.{Sent, good, lengthOf, OneSource}
-use Rattle.promises.proofs.Whole.{frame-length}
-use Rattle.promises.proofs.Back.{read-back, taken, chips-are}
+use Rattle.frame.proofs.Sizes.{frame-length}
+use Rattle.calls.specs.declared.Written.{Written}
+use Rattle.calls.specs.declared.Record.{Record}
+use Rattle.frame.specs.Frame.{kindOf, frontChips, preambleBits, frameBits, sentBits, partsChips, framed, frame}
+use Rattle.calls.specs.Answers.{recordOf}
+use Rattle.calls.specs.Reading.{readingOf, octetsFound}
+use Rattle.promises.specs.Calls.{Read, Sent}
+use Rattle.promises.specs.Promises.{good, lengthOf, OneSource}
+use Rattle.promises.proofs.Back.{read-back, chips-are}
 
 -- the first scrambled bit is 0 for both kinds, so the first chip is the starting phase
 first-chip : (k : Kind) (r : Rate) (p : ℕ) (xs : List ℕ) → getD (frame k r p xs) 0 0 ≡ turned (turned p 0) 0
-unfolding frame partsChips sentBits frameBits preambleBits bitsOf scramble mixed symbolsOf symbolsFrom symbolOf chipsFrom barkerWord
+unfolding
+    frame framed partsChips sentBits frameBits preambleBits
+    bitsOf scramble mixed symbolsOf symbolsFrom symbolOf chipsFrom barkerWord
 first-chip Long r p xs = refl
 first-chip Short r p xs = refl
 
-module _ (kind rate phase : ℕ) (payload : List ℕ) (w : Written) (chips : List ℕ) (s : Sent kind rate phase payload w chips) where
+module _ (kind rate phase : ℕ) (payload : List ℕ) (w : Written) (chips : List ℕ)
+    (s : Sent kind rate phase payload w chips) where
   begins : getD chips 0 0 ≡ phase
   begins =
       ap (λ (l : List ℕ). getD l 0 0) (chips-are kind rate phase payload w chips s)
       ∙ List·getD-append (frame (kindOf kind) (rateOf rate) phase payload) _ 0 0
-      (omega (arith, frame-length (kindOf kind) (rateOf rate) phase payload [] (s .sendable .phase-is), some-front (kindOf kind)))
+      (omega (arith, frame-length (kindOf kind) (rateOf rate) phase payload, some-front (kindOf kind)))
       ∙ first-chip (kindOf kind) (rateOf rate) phase payload ∙ itself phase (s .sendable .phase-is)
     where
       itself : (p : ℕ) → p < 4 → turned (turned p 0) 0 ≡ p
@@ -50,12 +52,13 @@ module _ (kind rate phase : ℕ) (payload : List ℕ) (w : Written) (chips : Lis
 
   -- what a reading of all the chips answers, with room
   reads : (room : ℕ) → length payload ≤ room
-      → (recordOf (readingOf kind true (hardRecording chips) room) ≡ good rate (lengthOf rate payload) (length payload) (w .chips))
+      → (recordOf (readingOf kind true (hardRecording chips) room)
+      ≡ good rate (lengthOf rate payload) (length payload) (w .chips))
       × (octetsFound kind true (hardRecording chips) room ≡ payload ++ replicate (room - length payload) 0)
   reads room h =
       read-back kind rate phase payload w chips s (drop (w .chips) chips) room _ _
       (subst
-      (λ (l : List ℕ). Found kind true (hardRecording l) room (recordOf (readingOf kind true (hardRecording chips) room))
+      (λ (l : List ℕ). Read kind true (hardRecording l) room (recordOf (readingOf kind true (hardRecording chips) room))
       (octetsFound kind true (hardRecording chips) room))
       (sym (take-append-drop (w .chips) chips)) (record { answer = refl; octets = refl }))
       h

@@ -1,23 +1,20 @@
 -- What the calls promise: the records that the contracts of crate dsss cite, so that what is proved of them is proved
--- of the programs; and what is said of their inputs (RULES 1.4, 6, 9.1). Definitions only. Assumes nothing.
-use Prim.Native.Nat.{ℕ, _^_, _≤_, _<_}
+-- of the programs; and what is said of their inputs, in plain numbers (RULES 1.4, 5.2, 5.4, 5.8, 6, 9.1).
+-- Definitions only. Assumes nothing.
+use Prim.Native.Nat.{ℕ, _+_, _*_, _≤_, _<_}
 use mathlib.Core.Path.{_≡_}
 use mathlib.Core.Bool.{Bool, true}
-use mathlib.Core.List.{List, [], _∷_}
-use lib.Dec.{T, eqb}
+use mathlib.Core.List.{List}
+use lib.Dec.{eqb}
 use lib.ListN.{length}
 use lib.Ieee.{Float}
-use Rattle.rates.specs.Rates.{isCode, rateOf}
-use Rattle.chips.specs.declared.Sample.{Sample}
-use Rattle.chips.specs.declared.Chip.the-variants.{Soft}
-use Rattle.chips.specs.Chips.{Taken, fullChip, usableSample, exactOf, hardRecording, softRecording}
+use Rattle.chips.specs.Chips.{Taken, hardRecording, softRecording}
 use Rattle.base.specs.Below.{Below}
-use Rattle.frame.specs.declared.Written.{Written}
-use Rattle.frame.specs.declared.Record.{Record}
-use Rattle.frame.specs.Frame.{goesWith}
-use Rattle.frame.specs.Answers.{writtenOf, recordOf}
-use Rattle.frame.specs.Writing.{isKind, kindOf, writingOf, chipsWritten}
-use Rattle.frame.specs.Reading.{readingOf, octetsFound}
+use Rattle.calls.specs.declared.Written.{Written}
+use Rattle.calls.specs.declared.Record.{Record}
+use Rattle.calls.specs.Answers.{writtenOf, recordOf}
+use Rattle.calls.specs.Writing.{writingOf, chipsWritten}
+use Rattle.calls.specs.Reading.{readingOf, octetsFound}
 
 -- the writer: its answer, and the chip buffer of `room` chips at the end
 pub record Wrote (kind rate phase : ℕ) (payload : List ℕ) (room : ℕ) (w : Written) (left : List ℕ) : Type 0 where
@@ -25,32 +22,40 @@ pub record Wrote (kind rate phase : ℕ) (payload : List ℕ) (room : ℕ) (w : 
   pub chips : left ≡ chipsWritten kind rate phase payload room
 
 -- a reader, whatever recorded: its answer, and the octet buffer of `room` octets at the end
-pub record Found (kind : ℕ) (agree : Bool) (rec : List Taken) (room : ℕ) (a : Record) (left : List ℕ) : Type 0 where
+pub record Read (kind : ℕ) (agree : Bool) (rec : List Taken) (room : ℕ) (a : Record) (left : List ℕ) : Type 0 where
   pub answer : a ≡ recordOf (readingOf kind agree rec room)
   pub octets : left ≡ octetsFound kind agree rec room
 
 -- the hard reader, and the soft one
-abbrev pub FoundHard : ℕ → List ℕ → ℕ → Record → List ℕ → Type 0
-FoundHard kind chips room a left = Found kind true (hardRecording chips) room a left
+abbrev pub ReadHard : ℕ → List ℕ → ℕ → Record → List ℕ → Type 0
+ReadHard kind chips room a left = Read kind true (hardRecording chips) room a left
 
-abbrev pub FoundSoft : ℕ → List Float → List Float → ℕ → Record → List ℕ → Type 0
-FoundSoft kind i q room a left = Found kind (eqb (length i) (length q)) (softRecording i q) room a left
+abbrev pub ReadSoft : ℕ → List Float → List Float → ℕ → Record → List ℕ → Type 0
+ReadSoft kind i q room a left = Read kind (eqb (length i) (length q)) (softRecording i q) room a left
+
+-- the kinds and the rates that go with them, each with the chips of its front and of an octet
+pub data Goes : ℕ → ℕ → ℕ → ℕ → Type 0 where
+  long-1 : Goes 0 10 2112 88
+  long-2 : Goes 0 20 2112 44
+  long-5 : Goes 0 55 2112 16
+  long-11 : Goes 0 110 2112 8
+  short-2 : Goes 1 20 1056 44
+  short-5 : Goes 1 55 1056 16
+  short-11 : Goes 1 110 1056 8
 
 -- a kind and a rate that goes with it, 1 to 4,095 octets, a starting phase
 pub record Sendable (kind rate phase : ℕ) (payload : List ℕ) : Type 0 where
-  pub kind-is : T (isKind kind)
-  pub rate-is : T (isCode rate)
-  pub together : T (goesWith (kindOf kind) (rateOf rate))
+  pub front : ℕ
+  pub octet : ℕ
+  pub goes : Goes kind rate front octet
   pub some : 1 ≤ length payload
   pub few : length payload ≤ 4095
   pub phase-is : phase < 4
   pub octets : Below 256 payload
 
-abbrev pub sampleOf : Float → Float → Sample
-sampleOf x y = record { i = x; q = y }
-
--- soft rows that hold chips as exact (I, Q) pairs; either zero stands for 0
-pub data Exactly : List ℕ → List Float → List Float → Type 0 where
-  none : Exactly [] [] []
-  more : {p : ℕ} {ps : List ℕ} {x y : Float} {i q : List Float} → T (usableSample (sampleOf x y))
-      → exactOf (Soft (sampleOf x y)) ≡ fullChip (2 ^ 149) p → Exactly ps i q → Exactly (p ∷ ps) (x ∷ i) (y ∷ q)
+-- a write that a buffer of `room` chips holds, with what it answered and left
+pub record Sent (kind rate phase : ℕ) (payload : List ℕ) (w : Written) (left : List ℕ) : Type 0 where
+  pub room : ℕ
+  pub sendable : Sendable kind rate phase payload
+  pub holds : sendable .front + sendable .octet * length payload ≤ room
+  pub wrote : Wrote kind rate phase payload room w left

@@ -1,3 +1,3 @@
-pub mod Clean
 pub mod Calls
+pub mod Right
 pub mod Promises

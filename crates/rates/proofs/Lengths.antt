@@ -1,29 +1,19 @@
 -- LENGTH and bit 7 give the octets back.
---     figures         the standard's LENGTHs at 11 Mbit/s, and Table P's, as the definitions compute them
 --     octets-back     at every rate and for every n, what the reader takes from the writer's LENGTH and bit 7 is n
 --     length-holds    and where n is 1 to 4,095, refusal 15 does not come
+--     is-payload, payload-high    1 to 4,095 octets
 -- Each is linear arithmetic with a division by 8, 4, 11 or 16; at 11 Mbit/s by the two cases of bit 7. Assumes nothing.
-use mathlib.Core.Path.{_≡_, refl, sym, ap, _∙_}
+use mathlib.Core.Path.{_≡_, refl, sym, subst}
 use mathlib.Core.Bool.{Bool, true, false, cond, _&&_}
-use mathlib.Core.List.{List, [], _∷_, _++_, map}
-use Prim.Native.Nat.{ℕ, zero, suc, _+_, _-_, _*_, _/_, _≤_, _<_}
+use Prim.Native.Nat.{ℕ, _+_, _-_, _*_, _/_, _≤_}
 use native.Mathlib.Omega.{arith}
 use borrow.Author.Tests.{leb-true, leb-false, le-leb, eq-eqb}
-use lib.Dec.{leb, eqb}
-use lib.IntN.{ℤ, pos, negℤ, _-ℤ_}
+use lib.Dec.{T, leb}
+use lib.IntN.{pos, negℤ, _-ℤ_}
 use Rattle.base.proofs.Whole.{add, neg-up, neg-dn, up-pos, dn-pos, same}
 use Rattle.rates.specs.declared.Rate.{Rate}
 use Rattle.rates.specs.declared.Rate.the-variants.{One, Two, Five, Eleven}
 use Rattle.rates.specs.Rates.{lengthField, bit7, wholeOctets, octetsRead, isPayload, lengthHolds}
-
--- LENGTH and bit 7: 10 and 11 octets; 1,023 to 1,026 octets, whose LENGTHs IEEE 802.11b-1999 prints; 4,095 octets;
--- and LENGTH at 5.5 Mbit/s
-pub figures : map (λ (n : ℕ). lengthField Eleven n ∷ bit7 Eleven n ∷ [])
-    (10 ∷ 11 ∷ 1023 ∷ 1024 ∷ 1025 ∷ 1026 ∷ 4095 ∷ [])
-    ++ map (λ (n : ℕ). lengthField Five n ∷ []) (1 ∷ 4095 ∷ [])
-    ≡ (8 ∷ 1 ∷ []) ∷ (8 ∷ 0 ∷ []) ∷ (744 ∷ 0 ∷ []) ∷ (745 ∷ 0 ∷ []) ∷ (746 ∷ 0 ∷ []) ∷ (747 ∷ 1 ∷ []) ∷ (2979 ∷ 1 ∷ [])
-    ∷ (2 ∷ []) ∷ (5957 ∷ []) ∷ []
-figures = refl
 
 -- a difference of naturals that does not go below 0
 pub less : (a b n : ℕ) → a ≡ n + b → pos a -ℤ pos b ≡ pos n
@@ -59,6 +49,13 @@ octets-back r n = less (wholeOctets r (lengthField r n)) (bit7 r n) n (whole r n
 
 pub is-payload : (n : ℕ) → 1 ≤ n → n ≤ 4095 → isPayload (pos n) ≡ true
 is-payload n h k = rw (le-leb 1 n h, le-leb n 4095 k)
+
+pub payload-high : (n : ℕ) → isPayload (pos n) ≡ true → n ≤ 4095
+payload-high n e = leb-true n 4095 (second (leb 1 n) (leb n 4095) e)
+  where
+    second : (a b : Bool) → (a && b) ≡ true → b ≡ true
+    second true b e = e
+    second false b e = absurd (subst T (sym e) tt)
 
 pub length-holds : (r : Rate) (n : ℕ) → 1 ≤ n → n ≤ 4095 → lengthHolds r (lengthField r n) (bit7 r n) ≡ true
 length-holds r n h k =

@@ -2,6 +2,7 @@
 ghost use mathlib.Core.Path.{_≡_};
 ghost use mathlib.Core.Bool.{Bool};
 ghost use Prim.Native.Nat.{_≤_, _<_};
+ghost use lib.IntN.{pos};
 ghost use Rattle.rates.specs.Rates.{
   codeOf,
   isCode,
@@ -12,6 +13,7 @@ ghost use Rattle.rates.specs.Rates.{
   lengthField,
   bit7,
   wholeOctets,
+  isPayload,
 };
 
 pub enum Rate {
@@ -132,6 +134,16 @@ impl Rate {
             Rate::Eleven => length * 11 / 8,
         }
     }
+}
+
+// Whether n octets are a payload: 1 to 4,095.
+pub fn is_payload(n: usize) -> bool
+    ensures answer { λ r. ⌜ r ≡ isPayload (pos n) ⌝ }
+{
+    if n < 1 {
+        return false;
+    }
+    n <= 4095
 }
 
 // Whether a number is a rate's code.

@@ -23,21 +23,8 @@ use Rattle.bits.proofs.Bits.{octets-bits}
 use Rattle.bits.proofs.Scrambler.{past-append, descramble-append, descramble-below, descramble-window}
 use Rattle.frame.specs.declared.Kind.{Kind}
 use Rattle.frame.specs.declared.Kind.the-variants.{Long, Short}
-use Rattle.frame.specs.Frame.{start, syncBits, headerRate, preambleLength}
-use Rattle.frame.specs.Reading.{
-  orElse,
-  oddGrowth,
-  decidedWords,
-  preambleChips,
-  preambleWords,
-  headerWords,
-  reference,
-  headerPhase,
-  payloadPhase,
-  frontOdd,
-  frontHeard,
-  frontBits,
-}
+use Rattle.frame.specs.Frame.{start, syncBits, headerRate, preambleLength, preambleChips}
+use Rattle.calls.specs.Reading.{orElse, oddGrowth, decidedWords, preambleWords, headerWords, reference, headerPhase, payloadPhase, frontOdd, frontHeard, frontBits}
 use Rattle.recorders.specs.Rows.{whereFound}
 use Rattle.hearing.specs.declared.Line.{Line}
 use Rattle.hearing.specs.declared.Hearing.{Hearing}

@@ -12,8 +12,8 @@ use Rattle.rates.specs.declared.Rate.{Rate}
 use Rattle.chips.specs.Chips.{Taken}
 use Rattle.bits.specs.Bits.{octetBits}
 use Rattle.frame.specs.declared.Kind.{Kind}
-use Rattle.frame.specs.declared.Refusal.{Refusal}
-use Rattle.frame.specs.declared.Refusal.the-variants.{
+use Rattle.calls.specs.declared.Refusal.{Refusal}
+use Rattle.calls.specs.declared.Refusal.the-variants.{
   NoKind,
   RowsDiffer,
   ShorterThanFront,
@@ -22,13 +22,12 @@ use Rattle.frame.specs.declared.Refusal.the-variants.{
   Ends,
   OctetRoom,
 }
-use Rattle.frame.specs.declared.Front.{Front}
-use Rattle.frame.specs.declared.Front.the-variants as front
-use Rattle.frame.specs.declared.Reading.{Reading}
-use Rattle.frame.specs.declared.Reading.the-variants as reading
-use Rattle.frame.specs.Frame.{frontChips, frameChips}
-use Rattle.frame.specs.Writing.{isKind, kindOf}
-use Rattle.frame.specs.Reading.{
+use Rattle.calls.specs.declared.Front.{Front}
+use Rattle.calls.specs.declared.Front.the-variants as front
+use Rattle.calls.specs.declared.Reading.{Reading}
+use Rattle.calls.specs.declared.Reading.the-variants as reading
+use Rattle.frame.specs.Frame.{frontChips, frameChips, isKind, kindOf}
+use Rattle.calls.specs.Reading.{
   firstUnusable,
   frontOdd,
   frontOf,

@@ -21,21 +21,8 @@ use Rattle.bits.specs.Code.{lastFirst, pastAfter}
 use Rattle.bits.proofs.Scrambler.{descramble-append, descramble-length, descramble-window}
 use Rattle.frame.specs.declared.Kind.{Kind}
 use Rattle.frame.specs.declared.Kind.the-variants.{Long, Short}
-use Rattle.frame.specs.Frame.{start, headerRate, frontChips, preambleLength, headerLength}
-use Rattle.frame.specs.Reading.{
-  oddGrowth,
-  decidedWords,
-  preambleChips,
-  preambleWords,
-  headerWords,
-  reference,
-  headerPhase,
-  payloadPhase,
-  frontHeard,
-  payloadWords,
-  payloadOdd,
-  payloadOf,
-}
+use Rattle.frame.specs.Frame.{start, headerRate, frontChips, preambleLength, headerLength, preambleChips}
+use Rattle.calls.specs.Reading.{oddGrowth, decidedWords, preambleWords, headerWords, reference, headerPhase, payloadPhase, frontHeard, payloadWords, payloadOdd, payloadOf}
 use Rattle.recorders.specs.Rows.{whereFound}
 use Rattle.hearing.specs.declared.Line.{Line}
 use Rattle.hearing.specs.declared.Hearing.{Hearing}

@@ -17,8 +17,8 @@ use Rattle.chips.specs.Chips.{Taken}
 use Rattle.bits.specs.Bits.{numberOf}
 use Rattle.bits.specs.Crc.{crcBits}
 use Rattle.frame.specs.declared.Kind.{Kind}
-use Rattle.frame.specs.declared.Refusal.{Refusal}
-use Rattle.frame.specs.declared.Refusal.the-variants.{
+use Rattle.calls.specs.declared.Refusal.{Refusal}
+use Rattle.calls.specs.declared.Refusal.the-variants.{
   ShorterThanFront,
   Unusable,
   OddGrowth,
@@ -28,10 +28,10 @@ use Rattle.frame.specs.declared.Refusal.the-variants.{
   Service,
   Length,
 }
-use Rattle.frame.specs.declared.Front.{Front}
-use Rattle.frame.specs.declared.Front.the-variants.{Refused, Fields}
+use Rattle.calls.specs.declared.Front.{Front}
+use Rattle.calls.specs.declared.Front.the-variants.{Refused, Fields}
 use Rattle.frame.specs.Frame.{sfdOf, frontChips, goesWith}
-use Rattle.frame.specs.Reading.{orElse, firstUnusable, frontOdd, serviceAllowed, sameBits, fieldsOf, headerOf, frontOf}
+use Rattle.calls.specs.Reading.{orElse, firstUnusable, frontOdd, serviceAllowed, sameBits, fieldsOf, headerOf, frontOf}
 use Rattle.reader.specs.Openings.{afterUsable}
 
 -- at most 4,095 octets, if any

@@ -11,13 +11,13 @@ use Rattle.bits.specs.Bits.{octetBits}
 use Rattle.bits.specs.Code.{lastFirst, pastAfter}
 use Rattle.frame.specs.declared.Kind.{Kind}
 use Rattle.frame.specs.declared.Kind.the-variants.{Long, Short}
-use Rattle.frame.specs.declared.Refusal.the-variants.{OddGrowth}
-use Rattle.frame.specs.declared.Front.{Front}
-use Rattle.frame.specs.declared.Front.the-variants.{Refused, Fields}
-use Rattle.frame.specs.declared.Reading.{Reading}
-use Rattle.frame.specs.declared.Reading.the-variants as reading
+use Rattle.calls.specs.declared.Refusal.the-variants.{OddGrowth}
+use Rattle.calls.specs.declared.Front.{Front}
+use Rattle.calls.specs.declared.Front.the-variants.{Refused, Fields}
+use Rattle.calls.specs.declared.Reading.{Reading}
+use Rattle.calls.specs.declared.Reading.the-variants as reading
 use Rattle.frame.specs.Frame.{start, syncBits, preambleLength}
-use Rattle.frame.specs.Reading.{orElse, frontOdd, frontHeard, frontBits, headerOf, payloadPhase, payloadOf}
+use Rattle.calls.specs.Reading.{orElse, frontOdd, frontHeard, frontBits, headerOf, payloadPhase, payloadOf}
 use Rattle.recorders.specs.Rows.{whereFound}
 use Rattle.hearing.specs.declared.Line.{Line}
 use Rattle.reader.specs.declared.FrontHeard.{FrontHeard}

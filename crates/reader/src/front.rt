@@ -3,15 +3,15 @@ ghost use mathlib.Core.Path.{_≡_};
 ghost use Prim.Native.Nat.{_≤_, _<_};
 ghost use lib.ListN.{length};
 ghost use Rattle.frame.specs.Frame.{frontChips};
-ghost use Rattle.frame.specs.Reading.{frontOf};
+ghost use Rattle.calls.specs.Reading.{frontOf};
 ghost use Rattle.recorders.specs.Rows.{recordingOf};
 ghost use Rattle.reader.specs.Openings.{syncOctets, Starts, FrontKnown, afterUsable, Opens};
 use super::FrontHeard;
 use super::Opening;
 use bits::Eight;
-use frame::Front;
+use calls::Front;
+use calls::Refusal;
 use frame::Kind;
-use frame::Refusal;
 use hearing::Line;
 use rates::Rate;
 use recorders::Found;
@@ -84,7 +84,7 @@ fn hear_front(rec: Recorder, hard: &[u8], i: &[f32], q: &[f32], kind: Kind) -> F
         odd: 0,
     };
     let mut header = [0u8; 6];
-    let rate = checks::header_rate(kind);
+    let rate = frame::header_rate(kind);
     let c = hearing::hear_octets(rec, hard, i, q, rate, 88 * count + 176, fresh, &mut header);
     let heard = hearing::joined(preamble, c);
     FrontHeard { heard, sfd, header }
@@ -113,7 +113,7 @@ fn read_usable(rec: Recorder, hard: &[u8], i: &[f32], q: &[f32], kind: Kind) -> 
         Found::Nothing => {
             let sfd = known.sfd;
             let header = known.header;
-            let front = checks::header_of(kind, sfd, header);
+            let front = header::header_of(kind, sfd, header);
             let line = heard.line;
             Opening { front, line }
         }
@@ -125,7 +125,7 @@ pub fn read_front(rec: Recorder, hard: &[u8], i: &[f32], q: &[f32], kind: Kind) 
     ensures answer { λ r. ⌜ Opens kind (recordingOf rec (now (hard .entry)) (now (i .entry)) (now (q .entry)))
         (frontOf kind (recordingOf rec (now (hard .entry)) (now (i .entry)) (now (q .entry)))) r ⌝ }
 {
-    let chips = checks::front_chips(kind);
+    let chips = frame::front_chips(kind);
     if recorders::chip_count(rec, hard, i, q) < chips {
         return refused(Refusal::ShorterThanFront);
     }

@@ -4,13 +4,13 @@ ghost use mathlib.Core.Bool.{true};
 ghost use lib.Dec.{eqb};
 ghost use lib.ListN.{length, replicate};
 ghost use Rattle.chips.specs.Chips.{hardRecording, softRecording};
-ghost use Rattle.frame.specs.Answers.{recordOf};
-ghost use Rattle.frame.specs.Reading.{readingOf, octetsFound};
+ghost use Rattle.calls.specs.Answers.{recordOf};
+ghost use Rattle.calls.specs.Reading.{readingOf, octetsFound};
 ghost use Rattle.recorders.specs.Rows.{recordingOf};
-use frame::Front;
-use frame::Reading;
-use frame::Record;
-use frame::Refusal;
+use calls::Front;
+use calls::Reading;
+use calls::Record;
+use calls::Refusal;
 use hearing::Hearing;
 use hearing::Line;
 use recorders::Recorder;
@@ -60,13 +60,13 @@ pub fn read(
         (recordingOf rec (now (hard .entry)) (now (i .entry)) (now (q .entry))) (length (now (octets .entry))) ⌝ }
 {
     clear(octets);
-    if !checks::is_kind(kind) {
+    if !frame::is_kind(kind) {
         return Reading::Refused(Refusal::NoKind);
     }
     if !agree {
         return Reading::Refused(Refusal::RowsDiffer);
     }
-    let k = checks::kind_of(kind);
+    let k = frame::kind_of(kind);
     let opening = front::read_front(rec, hard, i, q, k);
     let told = opening.front;
     match told {

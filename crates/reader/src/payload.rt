@@ -3,12 +3,12 @@ ghost use mathlib.Core.Path.{_≡_};
 ghost use Prim.Native.Nat.{_≤_, _<_};
 ghost use lib.ListN.{length, replicate};
 ghost use Rattle.frame.specs.Frame.{frameChips};
-ghost use Rattle.frame.specs.Reading.{payloadOdd, payloadReading, octetsAfter};
+ghost use Rattle.calls.specs.Reading.{payloadOdd, payloadReading, octetsAfter};
 ghost use Rattle.recorders.specs.Rows.{recordingOf, whereFound};
 ghost use Rattle.reader.specs.Openings.{Opened, octetsHeard, afterHeard};
+use calls::Reading;
+use calls::Refusal;
 use frame::Kind;
-use frame::Reading;
-use frame::Refusal;
 use hearing::Line;
 use rates::Rate;
 use recorders::Found;
@@ -41,7 +41,7 @@ fn hear_payload(
         phase: line.phase,
         odd: 0,
     };
-    let from = checks::front_chips(kind);
+    let from = frame::front_chips(kind);
     let heard = hearing::hear_octets(rec, hard, i, q, rate, from, fresh, &mut octets[0..n]);
     let odd = heard.odd;
     match odd {
@@ -89,7 +89,7 @@ pub fn read_payload(
     ensures octets { λ r. ⌜ now (octets .exit) ≡ octetsAfter kind
         (recordingOf rec (now (hard .entry)) (now (i .entry)) (now (q .entry))) (length (now (octets .entry))) r ⌝ }
 {
-    let all = checks::frame_chips(kind, rate, n);
+    let all = frame::frame_chips(kind, rate, n);
     let count = recorders::chip_count(rec, hard, i, q);
     if count < all {
         return Reading::Refused(Refusal::Ends { length: field });
@@ -97,7 +97,7 @@ pub fn read_payload(
     if octets.len() < n {
         return Reading::Refused(Refusal::OctetRoom { length: field });
     }
-    let from = checks::front_chips(kind);
+    let from = frame::front_chips(kind);
     let bad = recorders::first_unusable(rec, hard, i, q, from, all);
     match bad {
         Found::At(place) => Reading::Refused(Refusal::Unusable {

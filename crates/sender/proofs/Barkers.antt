@@ -1,9 +1,9 @@
--- Laws of Barker words one after the other, and of the table of the four: its rule is one equation. Assumes nothing.
+-- Laws of Barker words one after the other, and of the table of the four. Assumes nothing.
 use mathlib.Core.Path.{_≡_, refl, ap, _∙_}
 use mathlib.Core.List.{List, [], _∷_, _++_, append-assoc, append-nil}
 use Prim.Native.Nat.{ℕ, _+_, _*_, _%_}
 use native.Mathlib.Omega.{arith}
-use lib.ListN.{length, getD, length-append}
+use lib.ListN.{length, getD}
 use Rattle.base.specs.Tables.{tabulate}
 use Rattle.base.proofs.Tables.{getD-tabulate}
 use Rattle.symbols.specs.Words.{barkerWord}
@@ -30,22 +30,10 @@ barker-mod p = λ i. a i ∷ b i ∷ a i ∷ a i ∷ b i ∷ a i ∷ a i ∷ a i
     b : (p % 4 + 2) % 4 ≡ (p + 2) % 4
     b = omega arith
 
--- the code's table of the four words, by their phase; its rule
-abbrev pub barkerTable : List (List ℕ)
-barkerTable =
-    (0 ∷ 2 ∷ 0 ∷ 0 ∷ 2 ∷ 0 ∷ 0 ∷ 0 ∷ 2 ∷ 2 ∷ 2 ∷ [])
-    ∷ (1 ∷ 3 ∷ 1 ∷ 1 ∷ 3 ∷ 1 ∷ 1 ∷ 1 ∷ 3 ∷ 3 ∷ 3 ∷ [])
-    ∷ (2 ∷ 0 ∷ 2 ∷ 2 ∷ 0 ∷ 2 ∷ 2 ∷ 2 ∷ 0 ∷ 0 ∷ 0 ∷ [])
-    ∷ (3 ∷ 1 ∷ 3 ∷ 3 ∷ 1 ∷ 3 ∷ 3 ∷ 3 ∷ 1 ∷ 1 ∷ 1 ∷ [])
-    ∷ []
+-- a word of the table of the four, by its phase
+pub barker-entry : (t : List (List ℕ)) (p : ℕ) → t ≡ tabulate barkerWord 4 → getD t (p % 4) [] ≡ barkerWord p
+barker-entry t p e = rw e (getD-tabulate barkerWord 4 (p % 4) [] (omega arith) ∙ barker-mod p)
 
-rule : tabulate barkerWord 4 ≡ barkerTable
-unfolding tabulate barkerWord
-rule = refl
-
-pub barker-entry : (p : ℕ) → getD barkerTable (p % 4) [] ≡ barkerWord p
-barker-entry p = rw (← rule) (getD-tabulate barkerWord 4 (p % 4) [] (omega arith) ∙ barker-mod p)
-
-pub length-entry : (p : ℕ) → length (getD barkerTable (p % 4) []) ≡ 11
+pub length-entry : (t : List (List ℕ)) (p : ℕ) → t ≡ tabulate barkerWord 4 → length (getD t (p % 4) []) ≡ 11
 unfolding barkerWord
-length-entry p = ap length (barker-entry p)
+length-entry t p e = ap length (barker-entry t p e)

@@ -1,5 +1,3 @@
 pub mod Run
 pub mod Sent
-pub mod Xor
-pub mod Sums
 pub mod Barkers

@@ -1,10 +1,9 @@
 -- Octets sent one after the other are what the passes over all their bits make: `sent`.
--- By induction on the octets: an octet's symbols depend on the last seven outputs and on the number of symbols modulo
--- 2 alone.
+-- By induction on the octets: an octet's symbols depend on the last seven outputs alone.
 -- Assumes nothing.
 use mathlib.Core.Path.{_≡_, refl, ap, _∙_}
 use mathlib.Core.List.{List, [], _∷_, _++_, reverse}
-use Prim.Native.Nat.{ℕ, _+_, _*_, _/_, _%_}
+use Prim.Native.Nat.{ℕ, suc, _+_, _*_}
 use native.Mathlib.Nat.{mul-suc, mul-zero, add-comm}
 use native.Mathlib.Omega.{arith}
 use lib.ListN.{length, take}
@@ -17,7 +16,7 @@ use Rattle.bits.specs.Growths.{Symbol, symbolOf, symbolsFrom, symbolsOf, chipsF
 use Rattle.bits.specs.Scrambler.{mixed, scramble}
 use Rattle.bits.specs.Code.{pastAfter}
 use Rattle.bits.proofs.Bits.{octet-bits-length}
-use Rattle.bits.proofs.Growths.{symbolsFrom-append, symbolsFrom-parity, chipsFrom-append, lastPhase-append}
+use Rattle.bits.proofs.Growths.{symbolsFrom-append, chipsFrom-append, lastPhase-append}
 use Rattle.bits.proofs.Scrambler.{scramble-append, scramble-length, scramble-window, past-append}
 use Rattle.sender.specs.Sending.{State, symbolsAt, emit, step, run, ran}
 
@@ -55,10 +54,11 @@ pub symbolsOf-octets : (r : Rate) (h xs : List ℕ) → symbolsOf r (scramble h 
 unfolding symbolsOf allSymbols
 symbolsOf-octets r h xs = rw (scramble-length h (octetBits xs), octet-bits-length xs, part-symbols r (length xs))
 
-pub record Sent (r : Rate) (s : State) (h : List ℕ) (k : ℕ) (xs : List ℕ) : Type 0 where
-  pub chips : run r s xs ≡ chipsFrom r (s .phase) (allSymbols r h k xs)
-  pub phase : ran r s xs .phase ≡ lastPhase (s .phase) (allSymbols r h k xs)
-  pub past : Agree (after h (octetBits xs)) (ran r s xs .past)
+-- octets from the k-th of a part, whose first symbol is its n-th
+pub record Sent (r : Rate) (k n : ℕ) (s : State) (h xs : List ℕ) : Type 0 where
+  pub chips : run r k s xs ≡ chipsFrom r (s .phase) (allSymbols r h n xs)
+  pub phase : ran r k s xs .phase ≡ lastPhase (s .phase) (allSymbols r h n xs)
+  pub past : Agree (after h (octetBits xs)) (ran r k s xs .past)
 
 all-nil : (r : Rate) (h : List ℕ) (k : ℕ) → allSymbols r h k [] ≡ []
 unfolding allSymbols symbolsFrom symbolOf
@@ -75,21 +75,18 @@ all-cons r h k x xs =
     (symbolsFrom-append r k m (m * length xs) _ _ (octet-bits r h x))
 
 -- an octet's symbols do not depend on which of two agreeing pasts they come from
-first : (r : Rate) (s : State) (h : List ℕ) (k x : ℕ) → Agree h (s .past) → s .odd % 2 ≡ k % 2
-    → symbolsAt r (s .odd) (scramble (s .past) (bitsOf 8 x))
-    ≡ symbolsFrom r k (octetSymbols r) (scramble h (bitsOf 8 x))
+first : (r : Rate) (s : State) (h : List ℕ) (k n x : ℕ) → n ≡ octetSymbols r * k → Agree h (s .past)
+    → symbolsAt r (octetSymbols r * k) (scramble (s .past) (bitsOf 8 x))
+    ≡ symbolsFrom r n (octetSymbols r) (scramble h (bitsOf 8 x))
 unfolding symbolsAt
-first r s h k x a e = rw (a (bitsOf 8 x)) (symbolsFrom-parity r (s .odd) k (octetSymbols r) _ e)
+first r s h k n x e a = rw (e, a (bitsOf 8 x))
 
-parity : (a k n : ℕ) → a % 2 ≡ k % 2 → (a + n) % 2 % 2 ≡ (k + n) % 2
-parity a k n e = omega arith
-
-pub sent : (r : Rate) (s : State) (h : List ℕ) (k : ℕ) (xs : List ℕ) → Agree h (s .past) → s .odd % 2 ≡ k % 2
-    → Sent r s h k xs
+pub sent : (r : Rate) (k n : ℕ) (s : State) (h xs : List ℕ) → n ≡ octetSymbols r * k → Agree h (s .past)
+    → Sent r k n s h xs
 unfolding run ran emit step octetBits
-sent r s h k [] a e = record {
-  chips = rw (all-nil r h k) nothing;
-  phase = rw (all-nil r h k) still;
+sent r k n s h [] e a = record {
+  chips = rw (all-nil r h n) nothing;
+  phase = rw (all-nil r h n) still;
   past = λ bs. none bs ∙ a bs;
 }
   where
@@ -101,13 +98,15 @@ sent r s h k [] a e = record {
 
     still : s .phase ≡ lastPhase (s .phase) []
     still = unfold lastPhase in refl
-sent r s h k (x ∷ xs) a e =
+sent r k n s h (x ∷ xs) e a =
     let o = bitsOf 8 x in
-    let agree : Agree (after h o) (step r s x .past) =
+    let agree : Agree (after h o) (step r k s x .past) =
     λ bs. octet-past h x bs ∙ ap (λ (l : List ℕ). scramble (reverse l) bs) (a o) in
-    let rest = sent r (step r s x) (after h o) (k + octetSymbols r) xs agree (parity (s .odd) k (octetSymbols r) e) in
+    let next : n + octetSymbols r ≡ octetSymbols r * suc k = omega (arith, mul-suc (octetSymbols r) k) in
+    let rest = sent r (suc k) (n + octetSymbols r) (step r k s x) (after h o) xs next agree in
+    let one = first r s h k n x e a in
     record {
-      chips = rw (all-cons r h k x xs, chipsFrom-append, ← first r s h k x a e, rest .chips);
-      phase = rw (all-cons r h k x xs, lastPhase-append, ← first r s h k x a e, rest .phase);
+      chips = rw (all-cons r h n x xs, chipsFrom-append, ← one, rest .chips);
+      phase = rw (all-cons r h n x xs, lastPhase-append, ← one, rest .phase);
       past = λ bs. ap (λ (l : List ℕ). scramble l bs) (after-append h o (octetBits xs)) ∙ rest .past bs;
     }

@@ -1,26 +1,58 @@
--- Worked values: words, the numbers allowed at 5.5 Mbit/s, what nothing is decided as, and a word's score with its
--- own chips. Computed from the definitions. Assumes nothing.
+-- Worked values that pin the definitions: words, numbers and their phases, the numbers allowed at each rate, the four
+-- terms of a score, what nothing and what clean words are decided as, and a tie. Computed. Assumes nothing.
 use mathlib.Core.Path.{_≡_, refl}
 use mathlib.Core.List.{List, [], _∷_, map}
-use lib.ListN.{replicate}
-use lib.IntN.{ℤ, pos}
+use Prim.Native.Nat.{ℕ}
+use lib.ListN.{getD, replicate}
+use lib.IntN.{ℤ, pos, negℤ}
+use Rattle.base.specs.Tables.{tabulate}
 use Rattle.rates.specs.declared.Rate.{Rate}
 use Rattle.rates.specs.declared.Rate.the-variants.{One, Two, Five, Eleven}
 use Rattle.rates.specs.Rates.{symbolChips}
-use Rattle.chips.specs.Chips.{nothing, fullChip}
-use Rattle.symbols.specs.Words.{barkerWord, cckWord, wordOf}
-use Rattle.symbols.specs.Choice.{score, those, allowed, going, firstLargest, decided}
+use Rattle.chips.specs.declared.Counts.{Counts}
+use Rattle.chips.specs.Chips.{pair, nothing, fullChip}
+use Rattle.symbols.specs.Words.{barkerWord, cckWord, cckNumber, p1Of, p2Of, p3Of, p4Of, wordOf, phaseOf}
+use Rattle.symbols.specs.Choice.{term, score, those, allowed, going, firstLargest, decided}
 
--- the words (0,0,0,0), (1,1,0,0) and (0,1,2,3), and the Barker symbol with phase 0
+-- the words (0,0,0,0), (1,1,0,0) and (0,1,2,3); what each phase alone adds to which chips; the Barker symbols
 pub words :
-    cckWord 0 0 0 0 ∷ cckWord 1 1 0 0 ∷ cckWord 0 1 2 3 ∷ barkerWord 0 ∷ []
+    cckWord 0 0 0 0 ∷ cckWord 1 1 0 0 ∷ cckWord 0 1 2 3 ∷ cckWord 1 0 0 0 ∷ cckWord 0 1 0 0 ∷ cckWord 0 0 1 0
+    ∷ cckWord 0 0 0 1 ∷ map barkerWord (0 ∷ 1 ∷ 2 ∷ 3 ∷ [])
     ≡ (0 ∷ 0 ∷ 0 ∷ 2 ∷ 0 ∷ 0 ∷ 2 ∷ 0 ∷ [])
     ∷ (2 ∷ 1 ∷ 2 ∷ 3 ∷ 2 ∷ 1 ∷ 0 ∷ 1 ∷ [])
     ∷ (2 ∷ 1 ∷ 0 ∷ 1 ∷ 3 ∷ 2 ∷ 3 ∷ 0 ∷ [])
+    ∷ (1 ∷ 1 ∷ 1 ∷ 3 ∷ 1 ∷ 1 ∷ 3 ∷ 1 ∷ [])
+    ∷ (1 ∷ 0 ∷ 1 ∷ 2 ∷ 1 ∷ 0 ∷ 3 ∷ 0 ∷ [])
+    ∷ (1 ∷ 1 ∷ 0 ∷ 2 ∷ 1 ∷ 1 ∷ 2 ∷ 0 ∷ [])
+    ∷ (1 ∷ 1 ∷ 1 ∷ 3 ∷ 0 ∷ 0 ∷ 2 ∷ 0 ∷ [])
     ∷ (0 ∷ 2 ∷ 0 ∷ 0 ∷ 2 ∷ 0 ∷ 0 ∷ 0 ∷ 2 ∷ 2 ∷ 2 ∷ [])
+    ∷ (1 ∷ 3 ∷ 1 ∷ 1 ∷ 3 ∷ 1 ∷ 1 ∷ 1 ∷ 3 ∷ 3 ∷ 3 ∷ [])
+    ∷ (2 ∷ 0 ∷ 2 ∷ 2 ∷ 0 ∷ 2 ∷ 2 ∷ 2 ∷ 0 ∷ 0 ∷ 0 ∷ [])
+    ∷ (3 ∷ 1 ∷ 3 ∷ 3 ∷ 1 ∷ 3 ∷ 3 ∷ 3 ∷ 1 ∷ 1 ∷ 1 ∷ [])
     ∷ []
 unfolding barkerWord cckWord
 words = refl
+
+-- the number of phases 3, 0, 1, 2, its phases, and the symbol phase of a number at each rate
+pub numbered :
+    cckNumber 3 0 1 2 ∷ p1Of 198 ∷ p2Of 198 ∷ p3Of 198 ∷ p4Of 198 ∷ phaseOf One 2 ∷ phaseOf Two 3 ∷ phaseOf Five 198
+    ∷ phaseOf Eleven 198 ∷ []
+    ≡ 198 ∷ 3 ∷ 0 ∷ 1 ∷ 2 ∷ 2 ∷ 3 ∷ 3 ∷ 3 ∷ []
+numbered = refl
+
+-- the word of a number at each rate
+pub numbers-words :
+    wordOf One 1 ∷ wordOf Two 3 ∷ wordOf Five 198 ∷ wordOf Eleven 198 ∷ []
+    ≡ barkerWord 1 ∷ barkerWord 3 ∷ cckWord 3 0 1 2 ∷ cckWord 3 0 1 2 ∷ []
+numbers-words = refl
+
+pub barker-numbers : allowed One ∷ allowed Two ∷ [] ≡ (0 ∷ 1 ∷ 2 ∷ 3 ∷ []) ∷ (0 ∷ 1 ∷ 2 ∷ 3 ∷ []) ∷ []
+unfolding those
+barker-numbers = refl
+
+pub eleven-numbers : allowed Eleven ≡ tabulate (λ n. n) 256
+unfolding those tabulate
+eleven-numbers = refl
 
 pub five-numbers :
     allowed Five
@@ -43,3 +75,25 @@ own r = score (wordOf r 0) (map (fullChip 1024) (wordOf r 0))
 pub own-scores : map own rates ≡ pos 11264 ∷ pos 11264 ∷ pos 8192 ∷ pos 8192 ∷ []
 unfolding barkerWord cckWord score
 own-scores = refl
+
+-- I, Q, -I and -Q, as the word's chip is 0, 1, 2 and 3
+pub terms :
+    map (λ p. term p (pair (pos 3) (pos 5))) (0 ∷ 1 ∷ 2 ∷ 3 ∷ [])
+    ≡ pos 3 ∷ pos 5 ∷ negℤ (pos 3) ∷ negℤ (pos 5) ∷ []
+terms = refl
+
+-- clean words are decided as themselves
+abbrev clean : Rate → ℕ → ℕ
+clean r n = decided r (map (fullChip 1024) (wordOf r n))
+
+pub clean-decided : clean One 2 ∷ clean Two 3 ∷ clean Five 178 ∷ clean Eleven 198 ∷ [] ≡ 2 ∷ 3 ∷ 178 ∷ 198 ∷ []
+unfolding barkerWord cckWord score those going firstLargest decided
+clean-decided = refl
+
+-- a Barker symbol halfway between phases 1 and 2: the smaller number
+abbrev between : List Counts
+between = map (λ p. getD (pair (negℤ (pos 1024)) (pos 1024) ∷ []) p (pair (pos 1024) (negℤ (pos 1024)))) (barkerWord 0)
+
+pub tie-decided : decided Two between ≡ 1
+unfolding barkerWord score those going firstLargest decided
+tie-decided = refl

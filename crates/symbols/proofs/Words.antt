@@ -75,6 +75,10 @@ turn-turn p s = omega arith
 one-turn : (p s t : ℕ) → p + s ≡ t → turned p (s % 4) ≡ t % 4
 one-turn p s t e = turn-turn p s ∙ ap (λ (n : ℕ). n % 4) e
 
+-- a phase may be reduced first
+pub turn-mod : (p x : ℕ) → turned (p % 4) x ≡ turned p x
+turn-mod p x = omega arith
+
 pub cck-turned : (p1 p2 p3 p4 : ℕ) → map (turned p1) (cckWord 0 p2 p3 p4) ≡ cckWord p1 p2 p3 p4
 unfolding cckWord
 cck-turned p1 p2 p3 p4 =
@@ -88,6 +92,29 @@ cck-turned p1 p2 p3 p4 =
     ∷ one-turn p1 (0 + p2 + 2) (p1 + p2 + 2) (omega arith) i
     ∷ one-turn p1 0 p1 (omega arith) i
     ∷ []
+
+-- the other phases may be reduced first
+pub cck-mod : (p1 p2 p3 p4 : ℕ) → cckWord p1 (p2 % 4) (p3 % 4) (p4 % 4) ≡ cckWord p1 p2 p3 p4
+unfolding cckWord
+cck-mod p1 p2 p3 p4 =
+    λ i.
+    three p1 p2 p3 p4 i ∷ two p1 p3 p4 i ∷ two p1 p2 p4 i ∷ half p1 p4 i ∷ two p1 p2 p3 i ∷ one p1 p3 i ∷ half p1 p2 i
+    ∷ p1 % 4 ∷ []
+  where
+    one : (x a : ℕ) → (x + a % 4) % 4 ≡ (x + a) % 4
+    one x a = omega arith
+
+    half : (x a : ℕ) → (x + a % 4 + 2) % 4 ≡ (x + a + 2) % 4
+    half x a = omega arith
+
+    two : (x a b : ℕ) → (x + a % 4 + b % 4) % 4 ≡ (x + a + b) % 4
+    two x a b = omega arith
+
+    first : (x a y z : ℕ) → (x + a % 4 + y + z) % 4 ≡ (x + a + y + z) % 4
+    first x a y z = omega arith
+
+    three : (x a b c : ℕ) → (x + a % 4 + b % 4 + c % 4) % 4 ≡ (x + a + b + c) % 4
+    three x a b c = first x a (b % 4) (c % 4) ∙ two (x + a) b c
 
 pub barker-turned : (p : ℕ) → map (turned p) (barkerWord 0) ≡ barkerWord p
 unfolding barkerWord
@@ -120,7 +147,7 @@ five-rule = refl
 pub five-at : (d : ℕ) → d < 4 → getD fiveTable d [] ≡ fiveWord 0 d
 five-at d h = ap (λ (t : List (List ℕ)). getD t d []) five-rule ∙ getD-tabulate (fiveWord 0) 4 d [] h
 
--- ---- a loop that turns every chip of a row has made the word
+-- ---- a loop that turns every sign has made the word
 abbrev pub turnedAt : ℕ → List ℕ → ℕ → ℕ
 turnedAt p w j = turned p (getD w j 0)
 
@@ -128,12 +155,5 @@ pub barker-filled : (p : ℕ) → tabulate (turnedAt p barkerTurns) 11 ≡ barke
 barker-filled p = sym (map-tabulate (turned p) barkerTurns 11 0 refl) ∙ ap (map (turned p)) barker-rule
     ∙ barker-turned p
 
-pub five-filled : (p d : ℕ) → d < 4 → tabulate (turnedAt p (getD fiveTable d [])) 8 ≡ fiveWord p d
-five-filled p d h =
-    rw (five-at d h) (sym (map-tabulate (turned p) (fiveWord 0 d) 8 0 (cck-length _ _ _ _)) ∙ cck-turned p _ _ _)
-
 pub barker-turns-phases : Phases barkerTurns
 barker-turns-phases = rw barker-rule (barker-phases 0)
-
-pub five-phases : (d : ℕ) → d < 4 → Phases (getD fiveTable d [])
-five-phases d h = rw (five-at d h) (cck-phases _ _ _ _)

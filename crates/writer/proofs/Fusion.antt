@@ -1,45 +1,43 @@
 -- The frame's definition makes passes over all of its bits; the code sends octets, part by part. They are the same:
--- `frame-parts`.
---     length-frame    a frame of n octets has frontChips k + octetChips r · n chips
+-- `framed-parts`.
+--     framed-parts    for any six header octets
+--     frame-parts     for those that are sent
+--     length-front    the front's chips
 -- The scrambler's one run is cut where the parts end, and each part is `sent`. Assumes nothing.
 use mathlib.Core.Path.{_≡_, refl, sym, ap, ap₂, _∙_}
 use mathlib.Core.List.{List, [], _∷_, _++_, append-assoc}
 use Prim.Native.Nat.{ℕ, _+_, _*_}
+use native.Mathlib.Nat.{mul-zero}
 use native.Mathlib.Omega.{arith}
-use lib.ListN.{length, take, drop, replicate, length-append}
-use lib.Seq.{take-all, take-at, drop-at, drop-drop}
+use lib.ListN.{length, take, drop, length-append}
+use lib.Seq.{take-at, drop-at, drop-drop}
 use Rattle.rates.specs.declared.Rate.{Rate}
 use Rattle.rates.specs.declared.Rate.the-variants.{One}
 use Rattle.rates.specs.Rates.{octetChips}
-use Rattle.bits.specs.Bits.{bitsOf, octetBits, octetsOf}
-use Rattle.base.specs.Below.{Below}
+use Rattle.bits.specs.Bits.{bitsOf, octetBits}
 use Rattle.bits.specs.Growths.{chipsFrom, lastPhase}
 use Rattle.bits.specs.Scrambler.{scramble}
-use Rattle.base.proofs.Below.{below-append}
-use Rattle.bits.proofs.Bits.{bits-length, bits-below, octet-bits-length, octets-length, octets-bits}
+use Rattle.bits.proofs.Bits.{octet-bits-length}
 use Rattle.bits.proofs.Scrambler.{scramble-append, scramble-length, scramble-window}
-use Rattle.bits.proofs.Crc.{crc-length, crc-below}
 use Rattle.frame.specs.declared.Kind.{Kind}
 use Rattle.frame.specs.declared.Kind.the-variants.{Long, Short}
 use Rattle.frame.specs.Frame.{
   start,
   headerRate,
   frontChips,
-  frameChips,
   preambleBits,
   preambleLength,
-  fieldBits,
-  headerBits,
-  headerLength,
   frameBits,
   sentBits,
   partsChips,
+  framed,
   frame,
+  sentHeader,
 }
-use Rattle.sender.specs.Sending.{State, run, ran, fresh}
+use Rattle.sender.specs.Sending.{run}
 use Rattle.sender.proofs.Run.{length-run}
-use Rattle.sender.proofs.Sent.{after, Agree, Sent, sent, allSymbols, symbolsOf-octets}
-use Rattle.writer.specs.Parts.{preambleOctets, preambleChips, firstState, afterPreamble, frontSent, afterFront}
+use Rattle.sender.proofs.Sent.{after, Agree, sent, allSymbols, symbolsOf-octets}
+use Rattle.writer.specs.Parts.{preambleOctets, firstState, afterPreamble, frontSent, afterFront}
 
 pub preamble-octets : (k : Kind) → octetBits (preambleOctets k) ≡ preambleBits k
 unfolding preambleOctets octetBits bitsOf preambleBits
@@ -67,16 +65,15 @@ scramble-three h a b c = scramble-append h a (b ++ c)
     ∙ ap (λ (l : List ℕ). scramble h a ++ l) (scramble-append (after h a) b c)
 
 -- the frame, from the symbols of its three parts
-by-parts : (k : Kind) (r : Rate) (p : ℕ) (header xs : List ℕ) → octetBits header ≡ headerBits r (length xs)
-    → length header ≡ 6
+by-parts : (k : Kind) (r : Rate) (p : ℕ) (header xs : List ℕ) → length header ≡ 6
     → (let h1 = after (start k) (octetBits (preambleOctets k)) in
     let a = allSymbols One (start k) 0 (preambleOctets k) in
     let b = allSymbols (headerRate k) h1 0 header in
     let c = allSymbols r (after h1 (octetBits header)) 0 xs in
-    frame k r p xs
+    framed k r p (octetBits header) xs
     ≡ chipsFrom One p a ++ (chipsFrom (headerRate k) (lastPhase p a) b ++ chipsFrom r (lastPhase (lastPhase p a) b) c))
-unfolding frame frameBits sentBits partsChips
-by-parts k r p header xs e six =
+unfolding framed frameBits sentBits partsChips
+by-parts k r p header xs six =
     let x = scramble (start k) (octetBits (preambleOctets k)) in
     let h1 = after (start k) (octetBits (preambleOctets k)) in
     let y = scramble h1 (octetBits header) in
@@ -84,7 +81,6 @@ by-parts k r p header xs e six =
     let m : length x ≡ preambleLength k = scramble-length _ _ ∙ preamble-long k in
     let n : length y ≡ 48 = scramble-length _ _ ∙ octet-bits-length header ∙ omega arith in
     rw (
-      ← e,
       ← preamble-octets k,
       scramble-three,
       cut-0 x y z _ m,
@@ -99,15 +95,15 @@ start-agrees : (k : Kind) → Agree (start k) (start k ++ 0 ∷ [])
 start-agrees Long bs = scramble-window _ _ bs refl
 start-agrees Short bs = scramble-window _ _ bs refl
 
-pub frame-parts : (k : Kind) (r : Rate) (p : ℕ) (header xs : List ℕ) → octetBits header ≡ headerBits r (length xs)
-    → length header ≡ 6
-    → frame k r p xs ≡ frontSent k p header ++ run r (afterFront k p header) xs
+-- a frame whose header is any six octets
+pub framed-parts : (k : Kind) (r : Rate) (p : ℕ) (header xs : List ℕ) → length header ≡ 6
+    → framed k r p (octetBits header) xs ≡ frontSent k p header ++ run r 0 (afterFront k p header) xs
 unfolding firstState afterPreamble frontSent afterFront
-frame-parts k r p header xs e six =
-    let q0 = sent One (firstState k p) (start k) 0 (preambleOctets k) (start-agrees k) refl in
-    let q1 = sent (headerRate k) (afterPreamble k p) _ 0 header (q0 .past) refl in
-    let q2 = sent r (afterFront k p header) _ 0 xs (q1 .past) refl in
-    by-parts k r p header xs e six
+framed-parts k r p header xs six =
+    let q0 = sent One 0 0 (firstState k p) (start k) (preambleOctets k) refl (start-agrees k) in
+    let q1 = sent (headerRate k) 0 0 (afterPreamble k p) _ header (sym (mul-zero _)) (q0 .past) in
+    let q2 = sent r 0 0 (afterFront k p header) _ xs (sym (mul-zero _)) (q1 .past) in
+    by-parts k r p header xs six
     ∙ rw (append-assoc, ← q0 .chips, ← q0 .phase, ← q1 .chips, ← q1 .phase, ← q2 .chips)
 
 -- the front's chips are counted by the kind
@@ -115,34 +111,19 @@ pub length-front : (k : Kind) (p : ℕ) (header : List ℕ) → length header �
     → length (frontSent k p header) ≡ frontChips k
 unfolding frontSent
 length-front k p header e =
-    length-append (run One (firstState k p) (preambleOctets k)) (run (headerRate k) (afterPreamble k p) header)
-    ∙ ap₂ {C = ℕ} (λ a b. a + b) (length-run One (firstState k p) (preambleOctets k))
-    (length-run (headerRate k) (afterPreamble k p) header ∙ ap (λ (n : ℕ). octetChips (headerRate k) * n) e)
+    length-append (run One 0 (firstState k p) (preambleOctets k)) (run (headerRate k) 0 (afterPreamble k p) header)
+    ∙ ap₂ {C = ℕ} (λ a b. a + b) (length-run One 0 (firstState k p) (preambleOctets k))
+    (length-run (headerRate k) 0 (afterPreamble k p) header ∙ ap (λ (n : ℕ). octetChips (headerRate k) * n) e)
     ∙ sum k
   where
     sum : (k : Kind) → 88 * length (preambleOctets k) + octetChips (headerRate k) * 6 ≡ frontChips k
     sum Long = unfold preambleOctets in refl
     sum Short = unfold preambleOctets in refl
 
--- any header's bits are six octets
-header-below : (r : Rate) (n : ℕ) → Below 2 (headerBits r n)
-unfolding headerBits fieldBits
-header-below r n =
-    below-append (below-append (bits-below 8 _) (below-append (bits-below 8 _) (bits-below 16 _))) (crc-below _)
-
-header-long : (r : Rate) (n : ℕ) → length (headerBits r n) ≡ 48
-unfolding headerBits fieldBits
-header-long r n =
-    simp (length-append, bits-length, crc-length)
-
-pub length-frame : (k : Kind) (r : Rate) (p : ℕ) (xs : List ℕ) → length (frame k r p xs) ≡ frameChips k r (length xs)
-length-frame k r p xs =
-    let bs = headerBits r (length xs) in
-    let header = octetsOf 6 bs in
-    let six : length header ≡ 6 = octets-length 6 bs in
-    let whole : octetBits header ≡ bs =
-    octets-bits 6 bs (omega (arith, header-long r (length xs))) (header-below r (length xs))
-    ∙ take-all 48 bs (omega (arith, header-long r (length xs))) in
-    ap length (frame-parts k r p header xs whole six)
-    ∙ length-append (frontSent k p header) (run r (afterFront k p header) xs)
-    ∙ ap₂ {C = ℕ} (λ a b. a + b) (length-front k p header six) (length-run r (afterFront k p header) xs)
+-- the frame that is sent
+pub frame-parts : (k : Kind) (r : Rate) (p : ℕ) (header xs : List ℕ) → octetBits header ≡ sentHeader r (length xs)
+    → length header ≡ 6
+    → frame k r p xs ≡ frontSent k p header ++ run r 0 (afterFront k p header) xs
+unfolding frame
+frame-parts k r p header xs e six =
+    ap (λ (h : List ℕ). framed k r p h xs) (sym e) ∙ framed-parts k r p header xs six

@@ -7,29 +7,24 @@ use Rattle.rates.specs.declared.Rate.the-variants.{One}
 use Rattle.frame.specs.declared.Kind.{Kind}
 use Rattle.frame.specs.declared.Kind.the-variants.{Long, Short}
 use Rattle.frame.specs.Frame.{start, headerRate}
-use Rattle.sender.specs.Sending.{State, run, ran, fresh}
+use Rattle.sender.specs.Sending.{State, run, ran}
 
 -- SYNC and SFD as octets
 unfoldable pub preambleOctets : Kind → List ℕ
 preambleOctets Long = replicate 16 255 ++ 0xA0 ∷ 0xF3 ∷ []
 preambleOctets Short = replicate 7 0 ++ 0xCF ∷ 0x05 ∷ []
 
--- the preamble's chips, counted
-abbrev pub preambleChips : Kind → ℕ
-preambleChips Long = 1584
-preambleChips Short = 792
-
 -- before the first bit: the scrambler's start, and an eighth output that nothing depends on
 unfoldable pub firstState : Kind → ℕ → State
-firstState k p = record { past = start k ++ 0 ∷ []; phase = p; odd = 0 }
+firstState k p = record { past = start k ++ 0 ∷ []; phase = p }
 
 -- after the preamble, at the header's start
 unfoldable pub afterPreamble : Kind → ℕ → State
-afterPreamble k p = fresh (ran One (firstState k p) (preambleOctets k))
+afterPreamble k p = ran One 0 (firstState k p) (preambleOctets k)
 
 -- the chips of the preamble and of a header of six octets, and what stands after them, at the payload's start
 unfoldable pub frontSent : Kind → ℕ → List ℕ → List ℕ
-frontSent k p h = run One (firstState k p) (preambleOctets k) ++ run (headerRate k) (afterPreamble k p) h
+frontSent k p h = run One 0 (firstState k p) (preambleOctets k) ++ run (headerRate k) 0 (afterPreamble k p) h
 
 unfoldable pub afterFront : Kind → ℕ → List ℕ → State
-afterFront k p h = fresh (ran (headerRate k) (afterPreamble k p) h)
+afterFront k p h = ran (headerRate k) 0 (afterPreamble k p) h

@@ -1,21 +1,21 @@
 // The writer: payload, rate, kind and starting phase to the chips of a frame. Every argument is checked
 // first; whatever comes of it, the whole chip buffer is written.
+use bits::Line;
+use calls::Writing;
+use calls::Written;
 use frame::Kind;
-use frame::Writing;
-use frame::Written;
 use rates::Rate;
-use sender::Line;
 ghost use mathlib.Core.Path.{_≡_};
 ghost use mathlib.Core.List.{_++_};
-ghost use Prim.Native.Nat.{_-_, _≤_, _<_};
+ghost use Prim.Native.Nat.{_-_, _≤_};
 ghost use lib.ListN.{length, replicate};
 ghost use Rattle.base.specs.Over.{over};
-ghost use Rattle.frame.specs.Frame.{frontChips, frameChips, frame};
-ghost use Rattle.frame.specs.Writing.{writingOf, chipsWritten};
-ghost use Rattle.frame.specs.Answers.{writtenOf};
-ghost use Rattle.sender.specs.Sending.{fresh, run, ran};
+ghost use Rattle.frame.specs.Frame.{preambleChips, frontChips, frameChips, frame};
+ghost use Rattle.calls.specs.Writing.{writingOf, chipsWritten};
+ghost use Rattle.calls.specs.Answers.{writtenOf};
+ghost use Rattle.sender.specs.Sending.{run, ran};
 ghost use Rattle.sender.specs.Line.{state};
-ghost use Rattle.writer.specs.Parts.{preambleOctets, preambleChips, firstState, frontSent, afterFront};
+ghost use Rattle.writer.specs.Parts.{preambleOctets, firstState, frontSent, afterFront};
 
 // The preambles' octets: SYNC, then SFD.
 const LONG: [u8; 18] = [
@@ -49,40 +49,19 @@ fn first_line(k: Kind, p: u8) -> Line
         Kind::Long => Line {
             past: 0b11011000,
             phase: p,
-            odd: 0,
         },
         Kind::Short => Line {
             past: 0b00110110,
             phase: p,
-            odd: 0,
         },
     }
 }
 
-// At a part's start the symbols are numbered from 0.
-fn again(l: Line) -> Line
-    ensures answer { λ q. ⌜ (state q ≡ fresh (state l)) × (q .odd < 2) ⌝ }
-{
-    Line {
-        past: l.past,
-        phase: l.phase,
-        odd: 0,
-    }
-}
-
-fn preamble_chips(k: Kind) -> usize
-    ensures answer { λ n. ⌜ n ≡ preambleChips k ⌝ }
-{
-    match k {
-        Kind::Long => 1584,
-        Kind::Short => 792,
-    }
-}
-
 fn put_preamble(k: Kind, l: Line, chips: &mut [u8]) -> Line
-    requires { ⌜ (l .odd < 2) × (preambleChips k ≤ length (now chips)) ⌝ }
-    ensures answer { λ q. ⌜ state q ≡ ran Rate.One (state l) (preambleOctets k) ⌝ }
-    ensures chips { λ _. ⌜ now (chips .exit) ≡ over (run Rate.One (state l) (preambleOctets k)) (now (chips .entry)) ⌝ }
+    requires { ⌜ preambleChips k ≤ length (now chips) ⌝ }
+    ensures answer { λ q. ⌜ state q ≡ ran Rate.One 0 (state l) (preambleOctets k) ⌝ }
+    ensures chips { λ _. ⌜ now (chips .exit) ≡ over (run Rate.One 0 (state l) (preambleOctets k))
+        (now (chips .entry)) ⌝ }
 {
     match k {
         Kind::Long => {
@@ -99,14 +78,13 @@ fn put_preamble(k: Kind, l: Line, chips: &mut [u8]) -> Line
 // The preamble and a header of six octets.
 pub fn put_front(k: Kind, p: u8, header: &[u8], chips: &mut [u8]) -> Line
     requires { ⌜ (length (now header) ≡ 6) × (frontChips k ≤ length (now chips)) ⌝ }
-    ensures answer { λ q. ⌜ (state q ≡ afterFront k p (now (header .entry))) × (q .odd < 2) ⌝ }
+    ensures answer { λ q. ⌜ state q ≡ afterFront k p (now (header .entry)) ⌝ }
     ensures chips { λ _. ⌜ now (chips .exit) ≡ over (frontSent k p (now (header .entry))) (now (chips .entry)) ⌝ }
 {
     let l0 = first_line(k, p);
     let l1 = put_preamble(k, l0, chips);
-    let at = preamble_chips(k);
-    let l2 = sender::put_octets(checks::header_rate(k), again(l1), header, &mut chips[at..]);
-    again(l2)
+    let at = frame::preamble_chips(k);
+    sender::put_octets(frame::header_rate(k), l1, header, &mut chips[at..])
 }
 
 // The whole frame, and 4s to the buffer's end.
@@ -116,11 +94,11 @@ fn put_frame(k: Kind, r: Rate, p: u8, payload: &[u8], count: usize, chips: &mut 
     ensures chips { λ _. ⌜ now (chips .exit)
         ≡ frame k r p (now (payload .entry)) ++ replicate (length (now (chips .entry)) - count) 4 ⌝ }
 {
-    let header = checks::header_octets(r, payload.len());
+    let header = header::header_octets(r, payload.len());
     let l = put_front(k, p, &header, chips);
-    let at = checks::front_chips(k);
+    let at = frame::front_chips(k);
     sender::put_octets(r, l, payload, &mut chips[at..]);
-    sender::fill(&mut chips[count..], 4);
+    rows::fill(&mut chips[count..], 4);
 }
 
 // A frame's chips from its payload; the answer tells the refusal, or how many chips were written.
@@ -134,7 +112,7 @@ pub fn write(kind: u64, rate: u64, phase: u64, payload: &[u8], chips: &mut [u8])
     let written = checks::written_of(writing);
     match writing {
         Writing::Refused(_) => {
-            sender::fill(chips, 4);
+            rows::fill(chips, 4);
             written
         }
         Writing::Good {

@@ -1,16 +1,12 @@
--- `bits::descramble_octet` meets its contract: what comes out of the scrambler is bits, so it packs. Assumes nothing.
-use mathlib.Core.Path.{ap, _∙_}
+-- `bits::descramble_octet` meets its contract: `unscrambled-number`. Assumes nothing.
+use native.Mathlib.Omega.{arith}
 use borrow.Author.Needs.{needs}
-use Rattle.bits.specs.Bits.{numberOf}
-use Rattle.bits.proofs.Scrambler.{descramble-below}
+use Rattle.bits.proofs.Mixing.{unscrambled-number}
 use Rattle.bits.proofs.descramble_octet.Statement.{statement}
 use Rattle.bits.proofs.descramble_octet.Tie as tie
 
-pack-requires : tie.Need-pack-requires
-pack-requires c κs = rw (c .descramble-eight .ensures) (descramble-below _ _)
-
 returns : tie.Need-returns
-returns c = c .pack .ensures ∙ ap numberOf (c .before .descramble-eight .ensures)
+returns c = unscrambled-number (c .args .past) (c .args .x) (omega arith) (omega arith)
 
 pub descramble-octet-spec : {M : Type 1} → statement M
-descramble-octet-spec = tie.close (tie.spec (λ c κs. search needs) pack-requires returns)
+descramble-octet-spec = tie.close (tie.spec (λ c. search needs) (λ c. search needs) returns)

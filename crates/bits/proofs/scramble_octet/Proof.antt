@@ -1,12 +1,13 @@
--- `bits::scramble_octet` meets its contract: the eight bits of an octet, scrambled. Assumes nothing.
-use mathlib.Core.Path.{ap, _∙_}
+-- `bits::scramble_octet` meets its contract: `scrambled-octet`. Assumes nothing.
+use mathlib.Core.Path.{refl}
+use native.Mathlib.Omega.{arith}
 use borrow.Author.Needs.{needs}
-use Rattle.bits.specs.Scrambler.{scramble}
+use Rattle.bits.proofs.Mixing.{scrambled-octet}
 use Rattle.bits.proofs.scramble_octet.Statement.{statement}
 use Rattle.bits.proofs.scramble_octet.Tie as tie
 
 returns : tie.Need-returns
-returns c = c .scramble-eight .ensures ∙ ap (scramble _) (c .before .unpack .ensures)
+returns c = scrambled-octet (c .args .past) (c .args .x) _ _ (omega arith) refl refl
 
 pub scramble-octet-spec : {M : Type 1} → statement M
-scramble-octet-spec = tie.close (tie.spec (λ c κs. search needs) (λ c κs. search needs) returns)
+scramble-octet-spec = tie.close (tie.spec (λ c. search needs) (λ c. search needs) returns)

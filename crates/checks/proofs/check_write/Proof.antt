@@ -1,16 +1,16 @@
 -- `checks::check_write` meets its contract: at each return the tests before it were passed and its own failed, and the
 -- definition computes to that refusal. Assumes nothing.
 use mathlib.Core.Path.{_≡_, sym, ap₂, _∙_}
-use mathlib.Core.Bool.{Bool, true, false, _||_}
+use mathlib.Core.Bool.{Bool, true}
 use Prim.Native.Nat.{ℕ}
-use lib.Dec.{eqb, ltb}
+use lib.IntN.{pos}
 use borrow.Author.Needs.{needs}
-use borrow.Author.Tests.{lt-ltb, le-ltb, not-true, not-false}
-use Rattle.rates.specs.Rates.{isCode, rateOf}
-use Rattle.frame.specs.Frame.{goesWith, frameChips}
-use Rattle.frame.specs.Writing.{isKind, kindOf, writingOf}
-use Rattle.checks.proofs.Tests.{failed, passed}
-use Rattle.checks.proofs.Sizes.{payload-high}
+use borrow.Author.Tests.{lt-ltb, le-ltb}
+use Rattle.rates.specs.Rates.{isCode, rateOf, isPayload}
+use Rattle.frame.specs.Frame.{goesWith, frameChips, isKind, kindOf}
+use Rattle.calls.specs.Writing.{writingOf}
+use Rattle.base.proofs.Tests.{failed, passed}
+use Rattle.rates.proofs.Lengths.{payload-high}
 use Rattle.checks.proofs.check_write.Statement.{statement}
 use Rattle.checks.proofs.check_write.Tie as tie
 
@@ -48,8 +48,8 @@ goes c = passed (goes-is (c .before .before .before)) (c .if3 .left)
 
 sized : (c : tie.Else4)
     → (let start = c .before .before .before .before .before .before .before .before .before .before in
-    (eqb (start .args .n) 0 || ltb 4095 (start .args .n)) ≡ false)
-sized c = not-true _ (passed (c .before .before .before .before .is-payload .ensures) (c .if4 .left))
+    isPayload (pos (start .args .n)) ≡ true)
+sized c = passed (c .before .before .before .before .is-payload .ensures) (c .if4 .left)
 
 returns : tie.Need-returns
 unfolding writingOf
@@ -68,10 +68,12 @@ returns-3 c =
 returns-4 : tie.Need-returns-4
 unfolding writingOf
 returns-4 c =
-    let n = c .before .before .before .before .before .before .before .before .before .before .args .n in
-    let other : (eqb n 0 || ltb 4095 n) ≡ true =
-    not-false _ (failed (c .before .before .before .before .is-payload .ensures) (c .if4 .taken)) in
-    rw (known (c .before .before .before), coded (c .before .before), goes (c .before), other)
+    rw (
+      known (c .before .before .before),
+      coded (c .before .before),
+      goes (c .before),
+      failed (c .before .before .before .before .is-payload .ensures) (c .if4 .taken),
+    )
 
 returns-5 : tie.Need-returns-5
 unfolding writingOf

@@ -17,7 +17,7 @@ use mir.ValLaws.{toZ-pos, toZ-ofZ}
 use Rattle.base.specs.Whole.{up, dn, Within}
 use Rattle.base.proofs.Whole.{add, neg-up, neg-dn, up-pos, dn-pos, within-sfits}
 use Rattle.chips.specs.Floats.{steps, negative, usable, nearest, signed, countOf}
-use Rattle.chips.proofs.Sum.{moved, Summed, summed}
+use Rattle.chips.proofs.Sum.{cond-yes, moved, Summed, summed}
 use Rattle.chips.proofs.count.Statement.{statement}
 use Rattle.chips.proofs.count.Tie as tie
 
@@ -58,36 +58,24 @@ module _ (x : Float) (y : Summed x) where
       ∙ ap (λ (z : ℤ). z -ℤ pos 1178599424) (toZ-pos w32 (1166016512 + moved s 12582912 k) (small s k (y .few)))
       ∙ pattern-less s k (y .few)
 
--- ---- in the first arm x is usable
-abbrev x-of : tie.Then1 → Float
-x-of c = c .before .before .args .x
-
-taken : (c : tie.Then1) → usable (x-of c) ≡ true
-taken c = sym (c .before .usable .ensures) ∙ c .if1 .taken
-
-have : (c : tie.Then1) → Summed (x-of c)
-have c = summed (x-of c) (subst T (sym (c .before .before .good .0 .1)) tt) (subst⁻¹ T (taken c) tt)
+have : (c : tie.Start) → Summed (c .args .x)
+have c = summed (c .args .x) (subst T (sym (c .good .0 .1)) tt) (c .pre)
 
 float-to-bits-b : tie.Need-float-to-bits-b
 unfolding ofBits
 float-to-bits-b c = have c .no-nan
 
 cast-result : tie.Need-cast-result
-cast-result c = record { sfits = fits-bits (x-of c) (have c) }
+cast-result c = record { sfits = fits-bits (c .args .x) (have c) }
 
 sub-result : tie.Need-sub-result
-sub-result c = search (needs, sub-fits (code (x-of c)), fits-bits (x-of c) (have c))
+sub-result c = search (needs, sub-fits (code (c .args .x)), fits-bits (c .args .x) (have c))
 
 returns : tie.Need-returns
 unfolding countOf
 returns c =
-    toZ-ofZ w32 (toZ w32 (code (x-of c)) -ℤ pos 1178599424) (sub-result c) ∙ difference (x-of c) (have c) ∙ rw (taken c)
-
-returns-2 : tie.Need-returns-2
-unfolding countOf
-returns-2 c = rw (sym (c .before .usable .ensures) ∙ c .if1 .left)
+    toZ-ofZ w32 (toZ w32 (code (c .args .x)) -ℤ pos 1178599424) (sub-result c) ∙ difference (c .args .x) (have c)
+    ∙ sym (cond-yes (usable (c .args .x)) _ (pos 0) (c .pre))
 
 pub count-spec : {M : Type 1} → statement M
-count-spec =
-    tie.close
-    (tie.spec (λ c κs. search needs) float-to-bits-b cast-result sub-result returns returns-2)
+count-spec = tie.close (tie.spec float-to-bits-b cast-result sub-result returns)

@@ -1,13 +1,29 @@
 -- `chips::quantise` meets its contract: in each arm the definition's test is known, and each field is a count.
 -- Assumes nothing.
-use mathlib.Core.Path.{_≡_, sym, _∙_}
+use mathlib.Core.Path.{_≡_, sym, _∙_, subst}
 use borrow.Author.Needs.{needs}
+use lib.Dec.{T}
 use mir.Syntax.{w32}
 use mir.Val.{toZ, ofZ}
-use Rattle.chips.specs.Floats.{countOf}
-use Rattle.chips.specs.Chips.{pair}
+use Rattle.base.proofs.Tests.{both-left, both-right}
+use Rattle.chips.specs.Floats.{usable, countOf}
+use Rattle.chips.specs.Chips.{pair, usableSample}
 use Rattle.chips.proofs.quantise.Statement.{statement}
 use Rattle.chips.proofs.quantise.Tie as tie
+
+-- in the first arm both fields are usable
+taken : (c : tie.Then1) → T (usableSample (c .before .before .args .s))
+taken c = subst T (sym (c .if1 .taken) ∙ c .before .usable-sample .ensures) tt
+
+count-requires : tie.Need-count-requires
+count-requires c κs =
+    let s = c .before .before .args .s in
+    both-left (usable (s .i)) (usable (s .q)) (taken c)
+
+count-requires-2 : tie.Need-count-requires-2
+count-requires-2 c κs =
+    let s = c .before .before .before .args .s in
+    both-right (usable (s .i)) (usable (s .q)) (taken (c .before))
 
 returns : tie.Need-returns
 returns c =
@@ -22,4 +38,4 @@ returns-2 c = rw (sym (c .before .usable-sample .ensures) ∙ c .if1 .left)
 pub quantise-spec : {M : Type 1} → statement M
 quantise-spec =
     tie.close
-    (tie.spec (λ c κs. search needs) (λ c κs. search needs) (λ c κs. search needs) returns returns-2)
+    (tie.spec (λ c κs. search needs) count-requires count-requires-2 returns returns-2)

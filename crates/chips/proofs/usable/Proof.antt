@@ -1,7 +1,7 @@
 -- `chips::usable` meets its contract: `usable-is` says what the two comparisons find, with -8 and 8 by their values,
 -- which the program has by their bit patterns.
 -- Assumes nothing.
-use mathlib.Core.Path.{sym, _∙_, subst}
+use mathlib.Core.Path.{sym, subst}
 use lib.Dec.{T}
 use lib.Ieee.{binary32, fits, ofBits, neg}
 use Rattle.chips.proofs.Steps.{usable-is}
@@ -14,11 +14,7 @@ held c = subst T (sym (c .good .0 .1)) tt
 
 returns : tie.Need-returns
 unfolding ofBits neg
-returns c = sym (usable-is (c .before .args .x) (held (c .before)) ∙ rw (c .if1 .taken))
-
-returns-2 : tie.Need-returns-2
-unfolding ofBits neg
-returns-2 c = c .if1 .left ∙ sym (usable-is (c .before .args .x) (held (c .before)) ∙ rw (c .if1 .left))
+returns c = sym (usable-is (c .args .x) (held c))
 
 pub usable-spec : {M : Type 1} → statement M
-usable-spec = tie.close (tie.spec returns returns-2)
+usable-spec = tie.close (tie.spec returns)

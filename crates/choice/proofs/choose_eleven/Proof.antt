@@ -1,21 +1,25 @@
 -- `choice::choose_eleven` meets its contract: the place of the largest score is the number.
 -- Assumes nothing.
-use mathlib.Core.Path.{_∙_}
+use mathlib.Core.Path.{_≡_, _∙_}
+use native.Mathlib.Omega.{arith}
 use lib.Dec.{lit<}
 use borrow.Author.Needs.{needs}
 use Rattle.rates.specs.declared.Rate.the-variants.{Eleven}
 use Rattle.symbols.specs.Choice.{decided}
 use Rattle.choice.specs.Scores.{scoreAt}
 use Rattle.choice.proofs.Best.{place-table}
+use Rattle.choice.proofs.Decided.{decided-below}
 use Rattle.choice.proofs.choose_eleven.Statement.{statement}
 use Rattle.choice.proofs.choose_eleven.Tie as tie
 
-returns : tie.Need-returns
+found : (c : tie.After-largest) → c .largest .result ≡ decided Eleven (c .before .before .before .args .cs)
 unfolding decided
-returns c = c .largest .ensures ∙ place-table (scoreAt Eleven _) 256 _ (lit< tt)
-    (c .before .before .scores-eleven .ensures)
+found c = c .largest .ensures ∙ place-table (scoreAt Eleven _) 256 _ (lit< tt) (c .before .before .scores-eleven .ensures)
+
+cast-result : tie.Need-cast-result
+cast-result c = record { fits = omega (arith, found c, decided-below Eleven (c .before .before .before .args .cs)) }
 
 pub choose-eleven-spec : {M : Type 1} → statement M
 choose-eleven-spec =
     tie.close
-    (tie.spec (λ c κs. search needs) (λ c. search needs) (λ c κs. search needs) returns)
+    (tie.spec (λ c κs. search needs) (λ c. search needs) (λ c κs. search needs) cast-result found)

@@ -2,8 +2,6 @@
 use borrow.Author.Needs.{needs}
 use Rattle.hearing.proofs.first_of.Statement.{statement}
 use Rattle.hearing.proofs.first_of.Tie as tie
-use Rattle.hearing.proofs.first_of.Reads as reads
-use Rattle.hearing.proofs.first_of.Lts as lts
 
 returns : tie.Need-returns
 returns c = rw (c .before .a .given .1)

@@ -29,11 +29,11 @@ abbrev μ-loop : tie.MeasureT-loop
 loop-holds : tie.Need-loop-holds Inv-loop μ-loop
 loop-holds c = (refl, omega arith, below-none _, λ j h. refl)
 
-mul-count : tie.Need-mul-count Inv-loop μ-loop
-mul-count c = omega (arith, c .before .before .before .before .good .0 .1)
+mul-count-of : tie.Need-mul-count-of Inv-loop μ-loop
+mul-count-of c = omega (arith, c .before .before .before .before .good .0 .1)
 
-shared-slice-read-count : tie.Need-shared-slice-read-count Inv-loop μ-loop
-shared-slice-read-count c = omega arith
+shared-slice-read-count-of : tie.Need-shared-slice-read-count-of Inv-loop μ-loop
+shared-slice-read-count-of c = omega arith
 
 mul-t12 : tie.Need-mul-t12 Inv-loop μ-loop
 mul-t12 c = omega (arith, c .before .before .before .before .before .before .good .0 .1)
@@ -47,9 +47,9 @@ loop-again c =
     let counts = at-loop .loop .counts in
     let k = at-loop .loop .k in
     let xs = at-loop .before .before .before .args .xs .now in
-    let v = toZ w32 (ofZ w32 (c .count .result)) in
+    let v = toZ w32 (ofZ w32 (c .count-of .result)) in
     let e : v ≡ countOf (getD xs k nan) =
-    toZ-ofZ w32 (c .count .result) (record { sfits = c .count .ok }) ∙ c .count .ensures in (
+    toZ-ofZ w32 (c .count-of .result) (record { sfits = c .count-of .ok }) ∙ c .count-of .ensures in (
       simp length-set (omega arith),
       omega arith,
       below-more (λ (j : ℕ). getD (set counts k v) j (pos 0) ≡ countOf (getD xs j nan)) k
@@ -69,6 +69,6 @@ returns c = let i = c .before .loop .inv in
 pub parts-count-spec : {M : Type 1} → statement M
 parts-count-spec =
     tie.close
-    (tie.spec Inv-loop μ-loop (λ c κs. search needs) loop-holds mul-count shared-slice-read-count
+    (tie.spec Inv-loop μ-loop (λ c κs. search needs) loop-holds mul-count-of shared-slice-read-count-of
     (λ c κs. search needs) mul-t12 slice-set-from-counts (λ c. search needs) (λ c. search needs) loop-again
     (λ c. omega arith) returns)

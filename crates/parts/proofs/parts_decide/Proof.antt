@@ -4,17 +4,16 @@
 use Prim.Native.Nat.{ℕ, _≤_, _<_}
 use mathlib.Core.Path.{_≡_, refl, sym, ap, _∙_}
 use mathlib.Core.Bool.{Bool, true, false, _&&_}
-use mathlib.Core.List.{List, map}
+use mathlib.Core.List.{List}
 use native.Mathlib.Omega.{arith}
-use lib.ListN.{length, take}
+use lib.ListN.{length}
 use lib.Ieee.{Float}
 use borrow.Author.Needs.{needs}
 use borrow.Author.Tests.{le-leb, lt-leb, not-true, not-false}
 use Rattle.rates.specs.declared.Rate.{Rate}
 use Rattle.rates.specs.Rates.{isCode, rateOf, symbolChips}
-use Rattle.chips.specs.Chips.{takenCounts, softRecording}
-use Rattle.symbols.specs.Choice.{decided}
-use Rattle.parts.specs.Parts.{decidedSoft}
+use Rattle.chips.specs.Chips.{softRecording}
+use Rattle.parts.specs.Parts.{firstWord, decidedSoft}
 use Rattle.parts.proofs.parts_decide.Statement.{statement}
 use Rattle.parts.proofs.parts_decide.Tie as tie
 
@@ -32,8 +31,7 @@ too-short n i q h = rw (lt-leb (symbolChips (rateOf n)) (length (softRecording i
 
 -- the rate r of the code n, and the number d that the first symbol is decided as
 whole : (n : ℕ) (r : Rate) (d : ℕ) (i q : List Float) → r ≡ rateOf n → isCode n ≡ true
-    → symbolChips r ≤ length (softRecording i q)
-    → d ≡ decided r (map takenCounts (take (symbolChips r) (softRecording i q))) → d ≡ decidedSoft n i q
+    → symbolChips r ≤ length (softRecording i q) → d ≡ firstWord r (softRecording i q) → d ≡ decidedSoft n i q
 unfolding decidedSoft
 whole n r d i q e c h t = t ∙ rw (← e, c, le-leb (symbolChips r) (length (softRecording i q)) h)
 
@@ -50,7 +48,7 @@ returns-3 c =
     let rated = c .before .before .before .before in
     whole _ _ _ _ _ (rated .rate-of .ensures)
     (sym (rated .before .before .is-code .ensures) ∙ not-false _ (rated .before .if1 .left)) (omega arith)
-    (c .decide .ensures)
+    (c .first-word .ensures)
 
 pub parts-decide-spec : {M : Type 1} → statement M
 parts-decide-spec =

@@ -8,10 +8,10 @@ use borrow.Author.Tests.{not-true, not-false}
 use Rattle.rates.specs.declared.Rate.{Rate}
 use Rattle.chips.specs.Chips.{Taken}
 use Rattle.frame.specs.declared.Kind.{Kind}
-use Rattle.frame.specs.declared.Reading.{Reading}
-use Rattle.frame.specs.declared.Front.the-variants.{Fields}
-use Rattle.frame.specs.Writing.{isKind}
-use Rattle.frame.specs.Reading.{frontOf, payloadReading, octetsAfter}
+use Rattle.calls.specs.declared.Reading.{Reading}
+use Rattle.calls.specs.declared.Front.the-variants.{Fields}
+use Rattle.frame.specs.Frame.{isKind}
+use Rattle.calls.specs.Reading.{frontOf, payloadReading, octetsAfter}
 use borrow.Author.Needs.{needs}
 use Rattle.reader.specs.declared.Opening.{Opening}
 use Rattle.reader.specs.Openings.{Opened, Opens}

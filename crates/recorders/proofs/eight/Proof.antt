@@ -1,7 +1,12 @@
--- `recorders::eight` meets its contract: each recorder's own function does. Assumes nothing.
+-- `recorders::eight` meets its contract: each recorder's own function gathers the chips.
+-- Assumes nothing.
+use mathlib.Core.Path.{ap, _∙_}
+use mathlib.Core.List.{map}
 use Prim.Native.Nat.{_+_}
 use borrow.Author.Needs.{needs}
+use Rattle.chips.specs.Chips.{countsOf}
 use Rattle.recorders.proofs.Rows.{room-hard, room-soft}
+use Rattle.recorders.proofs.Gathered.{gathered-hard, gathered-soft}
 use Rattle.recorders.proofs.eight.Statement.{statement}
 use Rattle.recorders.proofs.eight.Tie as tie
 
@@ -14,10 +19,21 @@ eight-requires-2 c κs = let start = c .before .before .before .before .before i
     (c .enum-told2 .given .1) (start .pre)
 
 returns : tie.Need-returns
-returns c = rw (c .before .enum-told .given .1) (c .eight .ensures)
+returns c =
+    let start = c .before .before .before .before .before .before in
+    let e = c .before .enum-told .given .1 in
+    rw e
+    (ap (map countsOf) (c .eight .ensures)
+    ∙ gathered-hard 8 (start .args .octets .now) (start .args .at) (room-hard _ _ _ (start .args .at + 8) e (start .pre)))
 
 returns-2 : tie.Need-returns-2
-returns-2 c = rw (c .before .enum-told2 .given .1) (c .eight2 .ensures)
+returns-2 c =
+    let start = c .before .before .before .before .before .before in
+    let e = c .before .enum-told2 .given .1 in
+    rw e
+    (ap (map countsOf) (c .eight2 .ensures)
+    ∙ gathered-soft 8 (start .args .i .now) (start .args .q .now) (start .args .at)
+    (room-soft _ _ _ (start .args .at + 8) e (start .pre)))
 
 pub eight-spec : {M : Type 1} → statement M
 eight-spec =

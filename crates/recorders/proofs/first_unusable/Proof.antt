@@ -1,24 +1,53 @@
--- `recorders::first_unusable` meets its contract: each recorder's own function does. Assumes nothing.
+-- `recorders::first_unusable` meets its contract. The invariant: what is found from here on is what is found from the
+-- start.
+-- Assumes nothing.
+use mathlib.Core.Path.{_≡_, sym, _∙_}
+use Prim.Native.Nat.{_-_}
+use native.Mathlib.Omega.{arith}
+use lib.ListN.{take, drop}
 use borrow.Author.Needs.{needs}
-use Rattle.recorders.proofs.Rows.{room-hard, room-soft}
+use borrow.Author.Tests.{not-true, not-false}
+use Rattle.chips.specs.Chips.{unusable}
+use Rattle.calls.specs.Reading.{firstUnusable}
+use Rattle.recorders.specs.Rows.{recordingOf}
+use Rattle.recorders.proofs.Search.{search-on, search-here, search-over}
 use Rattle.recorders.proofs.first_unusable.Statement.{statement}
 use Rattle.recorders.proofs.first_unusable.Tie as tie
 
-first-unusable-requires : tie.Need-first-unusable-requires
-first-unusable-requires c κs = let start = c .before .before .before .before .before in room-hard _ _ _
-    (start .args .to) (c .enum-told .given .1) (start .pre)
+abbrev Inv-loop : tie.InvT-loop
+Inv-loop rec octets i q from to at₀ at =
+    let chips = recordingOf rec octets i q in
+    firstUnusable from (take (to - from) (drop from chips)) ≡ firstUnusable at (take (to - at) (drop at chips))
 
-first-unusable-requires-2 : tie.Need-first-unusable-requires-2
-first-unusable-requires-2 c κs = let start = c .before .before .before .before .before in room-soft _ _ _
-    (start .args .to) (c .enum-told2 .given .1) (start .pre)
+abbrev μ-loop : tie.MeasureT-loop
+μ-loop rec octets i q from to at₀ at = to - at
 
-returns : tie.Need-returns
-returns c = rw (c .before .enum-told .given .1) (c .first-unusable .ensures)
+returns : tie.Need-returns Inv-loop μ-loop
+returns c =
+    let start = c .before .before .before .before .before .before .before .before in
+    let a = start .args in
+    let loop = c .before .before .before .loop in
+    sym (loop .inv
+    ∙ search-here (recordingOf (a .rec) (a .octets .now) (a .i .now) (a .q .now)) (loop .at) (a .to) unusable
+    (c .before .before .loop-test .taken) (start .pre)
+    (not-false _ (sym (c .before .usable-at .ensures) ∙ not-true _ (c .if1 .taken))))
 
-returns-2 : tie.Need-returns-2
-returns-2 c = rw (c .before .enum-told2 .given .1) (c .first-unusable2 .ensures)
+loop-again : tie.Need-loop-again Inv-loop μ-loop
+loop-again c =
+    let start = c .before .before .before .before .before .before .before .before in
+    let a = start .args in
+    let loop = c .before .before .before .loop in
+    loop .inv
+    ∙ search-on (recordingOf (a .rec) (a .octets .now) (a .i .now) (a .q .now)) (loop .at) (a .to) unusable
+    (c .before .before .loop-test .taken) (start .pre)
+    (not-true _ (sym (c .before .usable-at .ensures) ∙ not-false _ (c .if1 .left)))
+
+returns-2 : tie.Need-returns-2 Inv-loop μ-loop
+returns-2 c = sym (c .before .loop .inv ∙ search-over _ (c .before .loop .at) _ (c .loop-test .left))
 
 pub first-unusable-spec : {M : Type 1} → statement M
 first-unusable-spec =
-    tie.close (tie.spec (λ c. search needs) first-unusable-requires (λ c. search needs) first-unusable-requires-2
-    returns returns-2)
+    tie.close
+    (tie.spec
+    Inv-loop μ-loop (λ c κs. search needs) (λ c. c .skip-clean .ensures) (λ c κs. search needs) returns
+    (λ c. omega arith) (λ c. omega arith) loop-again returns-2)

@@ -10,4 +10,5 @@ returns c = omega arith
 pub grown-cck-spec : {M : Type 1} → statement M
 grown-cck-spec =
     tie.close
-    (tie.spec (λ c κs. search needs) (λ c. search needs) (λ c. search needs) (λ c. search needs) returns)
+    (tie.spec (λ c κs. search needs) (λ c. search needs) (λ c. search needs) (λ c. search needs) (λ c. search needs)
+    returns)

@@ -1,8 +1,8 @@
 -- `sender::put_octet` meets its contract: the octet is scrambled after the one before it, and its eight bits are
 -- written. Assumes nothing.
-use mathlib.Core.Path.{_≡_, ap, _∙_}
+use mathlib.Core.Path.{_≡_}
 use mathlib.Core.List.{List, reverse}
-use Prim.Native.Nat.{ℕ, _+_, _%_}
+use Prim.Native.Nat.{ℕ, _*_}
 use borrow.Author.Needs.{needs}
 use Rattle.base.specs.Over.{over}
 use Rattle.rates.specs.declared.Rate.{Rate}
@@ -15,23 +15,18 @@ use Rattle.sender.specs.Line.{state}
 use Rattle.sender.proofs.put_octet.Statement.{statement}
 use Rattle.sender.proofs.put_octet.Tie as tie
 
-octet : (r : Rate) (s : State) (x q e : ℕ) (bs o d : List ℕ) → bs ≡ scramble (s .past) (bitsOf 8 x)
-    → (q ≡ lastPhase (s .phase) (symbolsAt r (s .odd) bs))
-    × (o ≡ over (chipsFrom r (s .phase) (symbolsAt r (s .odd) bs)) d)
-    → e ≡ (s .odd + octetSymbols r) % 2
-    → (record { past = reverse bs; phase = q; odd = e } ≡ step r s x) × (o ≡ over (emit r s x) d)
+octet : (r : Rate) (k : ℕ) (s : State) (x q : ℕ) (bs o d : List ℕ) → bs ≡ scramble (s .past) (bitsOf 8 x)
+    → (q ≡ lastPhase (s .phase) (symbolsAt r (octetSymbols r * k) bs))
+    × (o ≡ over (chipsFrom r (s .phase) (symbolsAt r (octetSymbols r * k) bs)) d)
+    → (record { past = reverse bs; phase = q } ≡ step r k s x) × (o ≡ over (emit r k s x) d)
 unfolding step emit
-octet r s x q e bs o d b h k = (cc, cc)
+octet r k s x q bs o d b h = (cc, cc)
 
 returns : tie.Need-returns
 returns c =
-    let start = c .before .before .before .before .before .before .before in
-    octet (start .args .r) (state (start .args .line)) _ _ _ _ _ _
-    (c .before .before .before .before .before .scramble-after .ensures)
-    (c .before .before .before .put-bits .ensures)
-    (c .next-odd .ensures)
+    let start = c .before .before .before .before .before .before in
+    octet (start .args .r) _ (state (start .args .line)) _ _ _ _ _
+    (c .before .before .before .before .scramble-octet .ensures) (c .before .before .put-bits .ensures)
 
 pub put-octet-spec : {M : Type 1} → statement M
-put-octet-spec =
-    tie.close
-    (tie.spec (λ c κs. search needs) (λ c κs. search needs) (λ c κs. search needs) (λ c. search needs) returns)
+put-octet-spec = tie.close (tie.spec (λ c κs. search needs) (λ c κs. search needs) (λ c. search needs) returns)

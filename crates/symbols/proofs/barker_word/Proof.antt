@@ -6,7 +6,7 @@ use native.Mathlib.Omega.{arith}
 use borrow.Author.Needs.{needs}
 use Rattle.base.specs.Tables.{Filled}
 use Rattle.base.proofs.Tables.{filled-none, filled-more, filled-all}
-use Rattle.symbols.proofs.Words.{barkerTurns, turnedAt, barker-filled, barker-turns-phases}
+use Rattle.symbols.proofs.Words.{barkerTurns, turnedAt, turn-mod, barker-filled, barker-turns-phases}
 use Rattle.symbols.proofs.barker_word.Statement.{statement}
 use Rattle.symbols.proofs.barker_word.Tie as tie
 
@@ -20,7 +20,7 @@ loop-holds : tie.Need-loop-holds Inv-loop μ-loop
 loop-holds c = filled-none _ 11 _ refl
 
 loop-again : tie.Need-loop-again Inv-loop μ-loop
-loop-again c = filled-more _ (c .before .loop .inv) (c .loop-test .taken) refl
+loop-again c = filled-more _ (c .before .loop .inv) (c .loop-test .taken) (turn-mod _ _)
 
 add-word : tie.Need-add-word Inv-loop μ-loop
 add-word c = omega (arith, barker-turns-phases .at (c .before .loop .k))

@@ -1,11 +1,11 @@
 -- `writer::put_front` meets its contract: the header's chips go over the part that starts where the preamble's end.
 -- Assumes nothing.
-use mathlib.Core.Path.{_≡_, refl, sym, ap, subst, _∙_}
+use mathlib.Core.Path.{_≡_, refl, sym, _∙_}
 use mathlib.Core.List.{List}
-use Prim.Native.Nat.{ℕ, _-_, _*_, _≤_, _<_}
+use Prim.Native.Nat.{ℕ, _-_, _*_, _≤_}
 use native.Mathlib.Nat.{le-trans}
 use native.Mathlib.Omega.{arith}
-use lib.Dec.{lit<, lit≤}
+use lib.Dec.{lit≤}
 use lib.ListN.{length, take, drop, length-take, length-drop}
 use borrow.Author.Needs.{needs}
 use borrow.Rule.Slice.PartMut.{putMid}
@@ -16,16 +16,12 @@ use Rattle.rates.specs.declared.Rate.the-variants.{One}
 use Rattle.rates.specs.Rates.{octetChips}
 use Rattle.frame.specs.declared.Kind.{Kind}
 use Rattle.frame.specs.declared.Kind.the-variants.{Long, Short}
-use Rattle.frame.specs.Frame.{headerRate, frontChips}
-use Rattle.sender.specs.Sending.{State, run, ran, fresh}
+use Rattle.frame.specs.Frame.{preambleChips, headerRate, frontChips}
+use Rattle.sender.specs.Sending.{State, run, ran}
 use Rattle.sender.proofs.Run.{length-run}
-use Rattle.writer.specs.Parts.{preambleOctets, preambleChips, firstState, afterPreamble, frontSent, afterFront}
+use Rattle.writer.specs.Parts.{preambleOctets, firstState, afterPreamble, frontSent, afterFront}
 use Rattle.writer.proofs.put_front.Statement.{statement}
 use Rattle.writer.proofs.put_front.Tie as tie
-
-first-odd : (k : Kind) (p : ℕ) (s : State) → s ≡ firstState k p → s .odd < 2
-unfolding firstState
-first-odd k p s e = subst (λ (t : State). t .odd < 2) (sym e) (lit< tt)
 
 shorter : (k : Kind) → preambleChips k ≤ frontChips k
 shorter Long = lit≤ tt
@@ -43,63 +39,54 @@ header-room : (k : Kind) (r : Rate) (n a : ℕ) (o : List ℕ) → r ≡ headerR
 header-room Long r n a o e f g h = rw (e, f, g, length-take, length-drop) (omega arith)
 header-room Short r n a o e f g h = rw (e, f, g, length-take, length-drop) (omega arith)
 
-front : (k : Kind) (p n : ℕ) (r : Rate) (h d o y : List ℕ) (s0 s1 s2 s3 s4 : State) → s0 ≡ firstState k p
-    → (s1 ≡ ran One s0 (preambleOctets k)) × (o ≡ over (run One s0 (preambleOctets k)) d) → n ≡ preambleChips k
-    → r ≡ headerRate k
-    → s2 ≡ fresh s1 → (s3 ≡ ran r s2 h) × (y ≡ over (run r s2 h) (take (length o - n) (drop n o))) → s4 ≡ fresh s3
-    → (s4 ≡ afterFront k p h) × (putMid n (length o - n) o y ≡ over (frontSent k p h) d)
+front : (k : Kind) (p n : ℕ) (r : Rate) (h d o y : List ℕ) (s0 s1 s2 : State) → s0 ≡ firstState k p
+    → (s1 ≡ ran One 0 s0 (preambleOctets k)) × (o ≡ over (run One 0 s0 (preambleOctets k)) d) → n ≡ preambleChips k
+    → r ≡ headerRate k → (s2 ≡ ran r 0 s1 h) × (y ≡ over (run r 0 s1 h) (take (length o - n) (drop n o)))
+    → (s2 ≡ afterFront k p h) × (putMid n (length o - n) o y ≡ over (frontSent k p h) d)
 unfolding afterFront afterPreamble frontSent
-front k p n r h d o y s0 s1 s2 s3 s4 e0 e1 en er e2 e3 e4 =
-    let count : length (run One s0 (preambleOctets k)) ≡ n = length-run One s0 (preambleOctets k) ∙ preamble-count k
-    ∙ sym en in
-    (cc, over-next (run One s0 (preambleOctets k)) (run r s2 h) d o y n (e1 .1) count (e3 .1) ∙ cc)
+front k p n r h d o y s0 s1 s2 e0 e1 en er e2 =
+    let count : length (run One 0 s0 (preambleOctets k)) ≡ n = length-run One 0 s0 (preambleOctets k)
+    ∙ preamble-count k ∙ sym en in
+    (cc, over-next (run One 0 s0 (preambleOctets k)) (run r 0 s1 h) d o y n (e1 .1) count (e2 .1) ∙ cc)
 
 -- the buffer keeps its length, and the preamble is within
-long : (c : tie.After-again)
-    → frontChips (c .before .before .before .before .before .before .before .before .before .before .args .k) ≤
-    length (c .before .before .before .before .before .put-preamble .last .1 .1 .0)
+long : (c : tie.After-header-rate)
+    → frontChips (c .before .before .before .before .before .before .before .before .before .args .k) ≤
+    length (c .before .before .before .before .put-preamble .last .1 .1 .0)
 long c =
-    rw (c .before .before .before .before .before .put-preamble .kept .1 .1 .0)
-    (c .before .before .before .before .before .before .before .before .before .before .pre .1)
+    rw (c .before .before .before .before .put-preamble .kept .1 .1 .0)
+    (c .before .before .before .before .before .before .before .before .before .pre .1)
 
-inside : (c : tie.After-again) → c .before .before .preamble-chips
-    .result ≤ length (c .before .before .before .before .before .put-preamble .last .1 .1 .0)
+inside : (c : tie.After-header-rate) → c .before .preamble-chips .result ≤ length (c .before .before .before .before
+    .put-preamble .last .1 .1 .0)
 inside c =
-    rw (c .before .before .preamble-chips .ensures)
-    (le-trans (shorter (c .before .before .before .before .before .before .before .before .before .before .args .k))
-    (long c))
+    rw (c .before .preamble-chips .ensures)
+    (le-trans (shorter (c .before .before .before .before .before .before .before .before .before .args .k)) (long c))
 
 put-preamble-requires : tie.Need-put-preamble-requires
 put-preamble-requires c κs =
-    let start = c .before .before .before .before in
-    (first-odd _ _ _ (c .before .first-line .ensures), le-trans (shorter (start .args .k)) (start .pre .1))
+    let start = c .before .before .before .before in le-trans (shorter (start .args .k)) (start .pre .1)
 
 put-octets-requires : tie.Need-put-octets-requires
 put-octets-requires c κs =
-    let again = c .before in
-    let start = again .before .before .before .before .before .before .before .before .before .before in (
-      again .again .ensures .1,
-      header-room (start .args .k) _ _ _ (again .before .before .before .before .before .put-preamble .last .1 .1 .0)
-          (again .before .header-rate .ensures) (start .pre .0) (again .before .before .preamble-chips .ensures)
-          (long again),
-    )
+    let at = c .before in
+    let start = at .before .before .before .before .before .before .before .before .before in
+    header-room (start .args .k) _ _ _ (at .before .before .before .before .put-preamble .last .1 .1 .0)
+    (at .header-rate .ensures) (start .pre .0) (at .before .preamble-chips .ensures) (long at)
 
 returns : tie.Need-returns
 returns c =
-    let again = c .before .before .before .before .before in
-    let start = again .before .before .before .before .before .before .before .before .before .before in
-    let first = again .before .before .before .before .before .put-preamble in
-    let rest = c .before .before .before .put-octets in
-    let both = front (start .args .k) _ _ _ _ _ (first .last .1 .1 .0) (rest .last .1 .1 .1 .0) _ _ _ _ _
-    (again .before .before .before .before .before .before .before .first-line .ensures) (first .ensures)
-    (again .before .before .preamble-chips .ensures) (again .before .header-rate .ensures) (again .again .ensures .0)
-    (rest .ensures) (c .again2 .ensures .0) in
-    ((both .0, c .again2 .ensures .1), both .1)
+    let at = c .before .before .before .before in
+    let start = at .before .before .before .before .before .before .before .before .before in
+    let first = at .before .before .before .before .put-preamble in
+    let rest = c .before .before .put-octets in
+    front (start .args .k) _ _ _ _ _ (first .last .1 .1 .0) (rest .last .1 .1 .1 .0) _ _ _
+    (at .before .before .before .before .before .before .first-line .ensures) (first .ensures)
+    (at .before .preamble-chips .ensures) (at .header-rate .ensures) (rest .ensures)
 
 pub put-front-spec : {M : Type 1} → statement M
 put-front-spec =
     tie.close
     (tie.spec
-    (λ c κs. search needs) put-preamble-requires (λ c κs. search needs) (λ c κs. search needs) (λ c κs. search needs)
-    (λ c. inside c) (λ c. inside c) (λ c. search needs) put-octets-requires (λ c κs. search needs) (λ c. search needs)
-    returns)
+    (λ c κs. search needs) put-preamble-requires (λ c κs. search needs) (λ c κs. search needs)
+    (λ c. inside c) (λ c. inside c) (λ c. search needs) put-octets-requires (λ c. search needs) returns)

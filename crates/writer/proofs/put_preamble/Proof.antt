@@ -7,7 +7,8 @@ use Rattle.base.specs.Over.{over}
 use Rattle.rates.specs.declared.Rate.the-variants.{One}
 use Rattle.frame.specs.declared.Kind.{Kind}
 use Rattle.sender.specs.Sending.{State, run, ran}
-use Rattle.writer.specs.Parts.{preambleOctets, preambleChips}
+use Rattle.frame.specs.Frame.{preambleChips}
+use Rattle.writer.specs.Parts.{preambleOctets}
 use Rattle.writer.proofs.put_preamble.Statement.{statement}
 use Rattle.writer.proofs.put_preamble.Tie as tie
 
@@ -16,19 +17,17 @@ room : (k j : Kind) (n : ℕ) → k ≡ j → preambleChips k ≤ n → preamble
 room k j n e h = rw e at h
 
 with-kind : (k j : Kind) (s u : State) (o d : List ℕ) → k ≡ j
-    → (u ≡ ran One s (preambleOctets j)) × (o ≡ over (run One s (preambleOctets j)) d)
-    → (u ≡ ran One s (preambleOctets k)) × (o ≡ over (run One s (preambleOctets k)) d)
+    → (u ≡ ran One 0 s (preambleOctets j)) × (o ≡ over (run One 0 s (preambleOctets j)) d)
+    → (u ≡ ran One 0 s (preambleOctets k)) × (o ≡ over (run One 0 s (preambleOctets k)) d)
 with-kind k j s u o d e h = rw e h
 
 put-octets-requires : tie.Need-put-octets-requires
 put-octets-requires c κs =
-    let start = c .before .before .before .before .before in
-    (start .pre .0, room _ _ _ (c .before .before .enum-told .given .1) (start .pre .1))
+    room _ _ _ (c .before .before .enum-told .given .1) (c .before .before .before .before .before .pre)
 
 put-octets-requires-2 : tie.Need-put-octets-requires-2
 put-octets-requires-2 c κs =
-    let start = c .before .before .before .before .before in
-    (start .pre .0, room _ _ _ (c .before .before .enum-told2 .given .1) (start .pre .1))
+    room _ _ _ (c .before .before .enum-told2 .given .1) (c .before .before .before .before .before .pre)
 
 returns : tie.Need-returns
 unfolding preambleOctets

@@ -2,25 +2,26 @@
 use mathlib.Core.Path.{_≡_}
 use Prim.Native.Nat.{ℕ}
 use borrow.Author.Needs.{needs}
-use Rattle.rates.specs.declared.Rate.{Rate}
 use Rattle.rates.specs.Rates.{codeOf}
-use Rattle.frame.specs.declared.Refusal.{Refusal}
-use Rattle.frame.specs.declared.Reading.{Reading}
-use Rattle.frame.specs.declared.Reading.the-variants.{Refused, Good}
-use Rattle.frame.specs.declared.Record.{Record}
-use Rattle.frame.specs.Answers.{numberOf, placeOf, lengthOf, recordOf}
+use Rattle.calls.specs.declared.Refusal.{Refusal}
+use Rattle.calls.specs.declared.Told.{Told}
+use Rattle.calls.specs.declared.Reading.{Reading}
+use Rattle.calls.specs.declared.Reading.the-variants.{Refused, Good}
+use Rattle.calls.specs.declared.Record.{Record}
+use Rattle.calls.specs.Answers.{refusalNumber, refusalPlace, refusalLength, recordOf}
 use Rattle.checks.proofs.answers.record_of.Statement.{statement}
 use Rattle.checks.proofs.answers.record_of.Tie as tie
 
 refused : (g : Reading) (e : Refusal) (number place length : ℕ) → g ≡ Refused e
-    → number ≡ numberOf e → place ≡ placeOf e → length ≡ lengthOf e
+    → number ≡ refusalNumber e → place ≡ refusalPlace e → length ≡ refusalLength e
     → _≡_ {A = Record} (record { number = number; place = place; rate = 0; length = length; n = 0; used = 0 })
     (recordOf g)
 refused g e number place length q a b c = rw (q, a, b, c)
 
-good : (g : Reading) (r : Rate) (code l n u : ℕ) → g ≡ Good r l n u → code ≡ codeOf r
-    → _≡_ {A = Record} (record { number = 0; place = 0; rate = code; length = l; n = n; used = u }) (recordOf g)
-good g r code l n u q a = rw (q, a)
+good : (g : Reading) (t : Told) (code used : ℕ) → g ≡ Good t used → code ≡ codeOf (t .rate)
+    → _≡_ {A = Record}
+    (record { number = 0; place = 0; rate = code; length = t .length; n = t .n; used = used }) (recordOf g)
+good g t code used q a = rw (q, a)
 
 returns : tie.Need-returns
 returns c =
@@ -28,7 +29,7 @@ returns c =
     (c .before .place-of .ensures) (c .length-of .ensures)
 
 returns-2 : tie.Need-returns-2
-returns-2 c = good _ _ _ _ _ _ (c .before .before .g2 .given .1) (c .code .ensures)
+returns-2 c = good _ _ _ _ (c .before .before .g2 .given .1) (c .code .ensures)
 
 pub record-of-spec : {M : Type 1} → statement M
 record-of-spec =

@@ -11,11 +11,11 @@ use Rattle.choice.proofs.Adding.{Reads, reads-of, reads-fits, reads-add
 use Rattle.choice.proofs.scores.add_four.Statement.{statement}
 use Rattle.choice.proofs.scores.add_four.Tie as tie
 
-at : (c : tie.Start) (j : ℕ) → Reads 8192 (ofZ w32 (getD (c .args .t .now) j (pos 0)))
+at : (c : tie.Start) (j : ℕ) → Reads w32 8192 (ofZ w32 (getD (c .args .t .now) j (pos 0)))
     (getD (c .args .t .now) j (pos 0))
 at c j = reads-of (lit< tt) (c .pre .1 .at j)
 
-more : (c : tie.Start) → Reads 32768 (ofZ w32 (c .args .more)) (c .args .more)
+more : (c : tie.Start) → Reads w32 32768 (ofZ w32 (c .args .more)) (c .args .more)
 more c = reads-of (lit< tt) (c .pre .0)
 
 add-result : tie.Need-add-result

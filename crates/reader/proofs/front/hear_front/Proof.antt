@@ -16,7 +16,7 @@ use Rattle.choice.proofs.Decided.{decided-below}
 use Rattle.frame.specs.declared.Kind.{Kind}
 use Rattle.frame.specs.declared.Kind.the-variants.{Long, Short}
 use Rattle.frame.specs.Frame.{frontChips, headerRate}
-use Rattle.frame.specs.Reading.{orElse}
+use Rattle.calls.specs.Reading.{orElse}
 use Rattle.recorders.specs.Rows.{recordingOf, whereFound}
 use Rattle.hearing.specs.declared.Line.{Line}
 use Rattle.hearing.specs.declared.Hearing.{Hearing}

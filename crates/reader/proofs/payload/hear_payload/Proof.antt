@@ -12,7 +12,7 @@ use Rattle.rates.specs.Rates.{octetChips}
 use Rattle.chips.specs.Chips.{Taken}
 use Rattle.frame.specs.declared.Kind.{Kind}
 use Rattle.frame.specs.Frame.{frontChips, frameChips}
-use Rattle.frame.specs.Reading.{payloadOdd, payloadOf}
+use Rattle.calls.specs.Reading.{payloadOdd, payloadOf}
 use Rattle.recorders.specs.declared.Found.the-variants.{Nothing, At}
 use Rattle.recorders.specs.Rows.{whereFound}
 use Rattle.hearing.specs.declared.Line.{Line}

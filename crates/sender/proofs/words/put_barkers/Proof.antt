@@ -1,7 +1,7 @@
 -- `sender::words::put_barkers` meets its contract. The invariant: the words of the first i phases are written.
 -- Assumes nothing.
-use mathlib.Core.Path.{_≡_, refl, sym, ap, _∙_}
-use mathlib.Core.List.{List, [], _∷_, _++_}
+use mathlib.Core.Path.{_≡_, sym, ap, _∙_}
+use mathlib.Core.List.{List, _++_}
 use Prim.Native.Nat.{ℕ, _+_, _*_, _≤_, _<_, _-_}
 use native.Mathlib.Numerals.{add-one}
 use native.Mathlib.Omega.{arith}
@@ -10,7 +10,6 @@ use lib.Seq.{take-length, take-suc}
 use borrow.Rule.Slice.PartMut.{putMid, same-len-mid}
 use borrow.Author.Needs.{needs}
 use Rattle.base.specs.Over.{over}
-use Rattle.base.specs.Tables.{tabulate}
 use Rattle.base.proofs.Over.{over-next}
 use Rattle.symbols.specs.Words.{barkerWord}
 use Rattle.sender.specs.Line.{barkerWords}
@@ -19,12 +18,12 @@ use Rattle.sender.proofs.words.put_barkers.Statement.{statement}
 use Rattle.sender.proofs.words.put_barkers.Tie as tie
 
 abbrev Inv-loop : tie.InvT-loop
-Inv-loop phases chips₀ words i₀ at₀ chips i at =
+Inv-loop barkers phases chips₀ i₀ at₀ chips i at =
     (i ≤ length phases) × (at ≡ 11 * i) × (length chips ≡ length chips₀)
     × (chips ≡ over (barkerWords (take i phases)) chips₀)
 
 abbrev μ-loop : tie.MeasureT-loop
-μ-loop phases chips₀ words i₀ at₀ chips i at = length phases - i
+μ-loop barkers phases chips₀ i₀ at₀ chips i at = length phases - i
 
 -- one word more
 turn : (ps w d o y : List ℕ) (i n : ℕ) → o ≡ over (barkerWords (take i ps)) d → n ≡ 11 * i → i < length ps
@@ -42,62 +41,33 @@ loop-holds : tie.Need-loop-holds Inv-loop μ-loop
 unfolding over barkerWords
 loop-holds c = search needs
 
-shared-slice-read-p : tie.Need-shared-slice-read-p Inv-loop μ-loop
-shared-slice-read-p c = omega arith
-
-cast-word : tie.Need-cast-word Inv-loop μ-loop
-cast-word c = search needs
-
-mul-word : tie.Need-mul-word Inv-loop μ-loop
-mul-word c = search needs
-
-array-copy-out-word : tie.Need-array-copy-out-word Inv-loop μ-loop
-array-copy-out-word c = search needs
+element-copy-out-word : tie.Need-element-copy-out-word Inv-loop μ-loop
+element-copy-out-word c = search needs
 
 slice-aggregate-put : tie.Need-slice-aggregate-put Inv-loop μ-loop
-slice-aggregate-put c = sym (length-entry
-    (getD (c .before .before .before .before .before .before .before .args .phases .now)
-    (c .before .before .before .before .loop .i) 0))
-
-sub-put : tie.Need-sub-put Inv-loop μ-loop
-sub-put c = omega arith
-
-part-put-start : tie.Need-part-put-start Inv-loop μ-loop
-part-put-start c = omega arith
-
-part-put-end : tie.Need-part-put-end Inv-loop μ-loop
-part-put-end c = search needs
+slice-aggregate-put c =
+    let start = c .before .before .before .before .before .before .before in
+    sym (length-entry _ (getD (start .args .phases .now) (c .before .before .before .before .loop .i) 0) (start .pre .0))
 
 put-requires : tie.Need-put-requires Inv-loop μ-loop
 put-requires c κs =
-    rw (length-entry (getD (c .before .before .before .before .before .before .before .before .args .phases .now)
-    (c .before .before .before .before .before .loop .i) 0))
+    let start = c .before .before .before .before .before .before .before .before in
+    rw (length-entry _ (getD (start .args .phases .now) (c .before .before .before .before .before .loop .i) 0)
+    (start .pre .0))
     (simp (length-take, length-drop) (omega arith))
-
-add-at : tie.Need-add-at Inv-loop μ-loop
-add-at c = omega arith
-
-add-i : tie.Need-add-i Inv-loop μ-loop
-add-i c = omega arith
-
-loop-less : tie.Need-loop-less Inv-loop μ-loop
-loop-less c = omega arith
 
 loop-again : tie.Need-loop-again Inv-loop μ-loop
 loop-again c =
     let l = c .before .before .before .before .before .before .before .before .loop in
-    let phases = c .before .before .before .before .before .before .before .before .before .before .before .args
-    .phases .now in
+    let start = c .before .before .before .before .before .before .before .before .before .before .before in
+    let phases = start .args .phases .now in
     let call = c .before .before .put in (
       omega arith,
       omega arith,
       same-len-mid (l .at) (length (l .chips) - l .at) (l .chips) (call .last .1 .0) (call .kept .1 .0) ∙ l .inv .2,
-      turn phases _ _ _ _ (l .i) _ (l .inv .3) (l .inv .1) (omega arith) (barker-entry (getD phases (l .i) 0))
-          (call .ensures),
+      turn phases _ _ _ _ (l .i) _ (l .inv .3) (l .inv .1) (omega arith)
+          (barker-entry _ (getD phases (l .i) 0) (start .pre .0)) (call .ensures),
     )
-
-same-length : tie.Need-same-length Inv-loop μ-loop
-same-length c = search needs
 
 returns : tie.Need-returns Inv-loop μ-loop
 returns c = whole _ _ _ (c .before .loop .i) (c .before .loop .inv .3) (omega arith)
@@ -106,6 +76,6 @@ pub put-barkers-spec : {M : Type 1} → statement M
 put-barkers-spec =
     tie.close
     (tie.spec
-    Inv-loop μ-loop loop-holds shared-slice-read-p cast-word mul-word array-copy-out-word slice-aggregate-put sub-put
-    part-put-start
-    part-put-end put-requires add-at add-i loop-less loop-again same-length returns)
+    Inv-loop μ-loop loop-holds (λ c. omega arith) (λ c. search needs) (λ c. search needs) element-copy-out-word
+    slice-aggregate-put (λ c. omega arith) (λ c. omega arith) (λ c. search needs) put-requires (λ c. omega arith)
+    (λ c. omega arith) (λ c. omega arith) loop-again (λ c. search needs) returns)

@@ -1,0 +1,111 @@
+-- Headers, computed from the definition and compared with what RULES 5.8 to 5.12 and 6.4 say of each: refusals 11 to 15
+-- with number, place and LENGTH, at their limits and where two hold together, and what a good header tells. Assumes
+-- nothing.
+use mathlib.Core.Path.{_≡_, refl}
+use mathlib.Core.List.{List, [], _∷_, map}
+use Prim.Native.Nat.{ℕ}
+use lib.ListN.{set}
+use Rattle.rates.specs.Rates.{codeOf}
+use Rattle.bits.specs.Bits.{bitsOf, numberOf}
+use Rattle.bits.specs.Crc.{addWhere, crcStep, remainder, crcBits}
+use Rattle.frame.specs.Frame.{fieldBits, headerBits}
+use Rattle.frame.specs.declared.Kind.the-variants.{Long, Short}
+use Rattle.calls.specs.declared.Record.{Record}
+use Rattle.calls.specs.declared.Front.{Front}
+use Rattle.calls.specs.declared.Front.the-variants as front
+use Rattle.calls.specs.declared.Reading.the-variants as reading
+use Rattle.calls.specs.Answers.{recordOf}
+use Rattle.calls.specs.Reading.{sameBits, fieldsOf, headerOf}
+
+-- a refusal's number, place and LENGTH; or what a good header tells: 0, rate code, LENGTH, n
+abbrev refused : Record → List ℕ
+refused a = a .number ∷ a .place ∷ a .length ∷ []
+
+abbrev told : Front → List ℕ
+told (front.Refused e) = refused (recordOf (reading.Refused e))
+told (front.Fields t) = 0 ∷ codeOf (t .rate) ∷ t .length ∷ t .n ∷ []
+
+-- SIGNAL: the four codes of a long header, the three of a short one. LENGTH 8 with SERVICE 0 is 1, 2, 5 or 11 octets
+pub signals-long : map (λ (s : ℕ). told (fieldsOf Long s 0 8)) (10 ∷ 20 ∷ 55 ∷ 110 ∷ 0 ∷ 11 ∷ 21 ∷ 138 ∷ [])
+    ≡ (0 ∷ 10 ∷ 8 ∷ 1 ∷ []) ∷ (0 ∷ 20 ∷ 8 ∷ 2 ∷ []) ∷ (0 ∷ 55 ∷ 8 ∷ 5 ∷ []) ∷ (0 ∷ 110 ∷ 8 ∷ 11 ∷ [])
+    ∷ (13 ∷ 0 ∷ 8 ∷ []) ∷ (13 ∷ 0 ∷ 8 ∷ []) ∷ (13 ∷ 0 ∷ 8 ∷ []) ∷ (13 ∷ 0 ∷ 8 ∷ []) ∷ []
+unfolding fieldsOf
+signals-long = refl
+
+pub signals-short : map (λ (s : ℕ). told (fieldsOf Short s 0 8)) (10 ∷ 20 ∷ 55 ∷ 110 ∷ 111 ∷ [])
+    ≡ (13 ∷ 0 ∷ 8 ∷ []) ∷ (0 ∷ 20 ∷ 8 ∷ 2 ∷ []) ∷ (0 ∷ 55 ∷ 8 ∷ 5 ∷ []) ∷ (0 ∷ 110 ∷ 8 ∷ 11 ∷ [])
+    ∷ (13 ∷ 0 ∷ 8 ∷ []) ∷ []
+unfolding fieldsOf
+signals-short = refl
+
+-- SERVICE, each bit: none but 0 at 1, 2 and 5.5 Mbit/s; 0 and 128 at 11
+abbrev services : ℕ → List (List ℕ)
+services signal =
+    map (λ (s : ℕ). told (fieldsOf Long signal s 8))
+    (1 ∷ 2 ∷ 4 ∷ 8 ∷ 16 ∷ 32 ∷ 64 ∷ 128 ∷ 129 ∷ 136 ∷ [])
+
+abbrev ten : List ℕ → List ℕ → List (List ℕ)
+ten x eighth = x ∷ x ∷ x ∷ x ∷ x ∷ x ∷ x ∷ eighth ∷ x ∷ x ∷ []
+
+pub services-each : services 10 ∷ services 20 ∷ services 55 ∷ services 110 ∷ []
+    ≡ ten (14 ∷ 0 ∷ 8 ∷ []) (14 ∷ 0 ∷ 8 ∷ []) ∷ ten (14 ∷ 0 ∷ 8 ∷ []) (14 ∷ 0 ∷ 8 ∷ [])
+    ∷ ten (14 ∷ 0 ∷ 8 ∷ []) (14 ∷ 0 ∷ 8 ∷ []) ∷ ten (14 ∷ 0 ∷ 8 ∷ []) (0 ∷ 110 ∷ 8 ∷ 10 ∷ []) ∷ []
+unfolding fieldsOf
+services-each = refl
+
+-- LENGTH at the limits of 1 to 4,095 octets, and of no number of octets, at each rate; at 11 Mbit/s also with bit 7
+pub lengths : map (λ (l : ℕ). told (fieldsOf Long 10 0 l)) (0 ∷ 8 ∷ 9 ∷ 32760 ∷ 32768 ∷ [])
+    ∷ map (λ (l : ℕ). told (fieldsOf Long 20 0 l)) (0 ∷ 4 ∷ 5 ∷ 16380 ∷ 16384 ∷ [])
+    ∷ map (λ (l : ℕ). told (fieldsOf Long 55 0 l)) (0 ∷ 2 ∷ 4 ∷ 5957 ∷ 5958 ∷ [])
+    ∷ map (λ (l : ℕ). told (fieldsOf Long 110 0 l)) (0 ∷ 1 ∷ 7 ∷ 2978 ∷ 2979 ∷ [])
+    ∷ map (λ (l : ℕ). told (fieldsOf Long 110 128 l)) (0 ∷ 1 ∷ 3 ∷ 2979 ∷ 2980 ∷ [])
+    ∷ []
+    ≡ ((15 ∷ 0 ∷ 0 ∷ []) ∷ (0 ∷ 10 ∷ 8 ∷ 1 ∷ []) ∷ (15 ∷ 0 ∷ 9 ∷ []) ∷ (0 ∷ 10 ∷ 32760 ∷ 4095 ∷ [])
+    ∷ (15 ∷ 0 ∷ 32768 ∷ []) ∷ [])
+    ∷ ((15 ∷ 0 ∷ 0 ∷ []) ∷ (0 ∷ 20 ∷ 4 ∷ 1 ∷ []) ∷ (15 ∷ 0 ∷ 5 ∷ []) ∷ (0 ∷ 20 ∷ 16380 ∷ 4095 ∷ [])
+    ∷ (15 ∷ 0 ∷ 16384 ∷ []) ∷ [])
+    ∷ ((15 ∷ 0 ∷ 0 ∷ []) ∷ (0 ∷ 55 ∷ 2 ∷ 1 ∷ []) ∷ (15 ∷ 0 ∷ 4 ∷ []) ∷ (0 ∷ 55 ∷ 5957 ∷ 4095 ∷ [])
+    ∷ (15 ∷ 0 ∷ 5958 ∷ []) ∷ [])
+    ∷ ((15 ∷ 0 ∷ 0 ∷ []) ∷ (0 ∷ 110 ∷ 1 ∷ 1 ∷ []) ∷ (0 ∷ 110 ∷ 7 ∷ 9 ∷ []) ∷ (0 ∷ 110 ∷ 2978 ∷ 4094 ∷ [])
+    ∷ (15 ∷ 0 ∷ 2979 ∷ []) ∷ [])
+    ∷ ((15 ∷ 0 ∷ 0 ∷ []) ∷ (15 ∷ 0 ∷ 1 ∷ []) ∷ (0 ∷ 110 ∷ 3 ∷ 3 ∷ []) ∷ (0 ∷ 110 ∷ 2979 ∷ 4095 ∷ [])
+    ∷ (15 ∷ 0 ∷ 2980 ∷ []) ∷ [])
+    ∷ []
+unfolding fieldsOf
+lengths = refl
+
+-- headers whole: good; the other kind's SFD, and one with a bit changed; a changed bit of SIGNAL, SERVICE, LENGTH and
+-- CRC; then two at a time, the earlier one given: 11 and 12, 12 and 13, 13 and 14, 14 and 15
+pub headers : List (List ℕ)
+headers =
+    map told
+    (headerOf Long (bitsOf 16 0xF3A0) (headerBits 10 0 8)
+    ∷ headerOf Short (bitsOf 16 0x05CF) (headerBits 110 128 3)
+    ∷ headerOf Long (bitsOf 16 0x05CF) (headerBits 10 0 8)
+    ∷ headerOf Short (bitsOf 16 0x85CF) (headerBits 20 0 8)
+    ∷ headerOf Long (bitsOf 16 0xF3A0) (set (headerBits 10 0 8) 0 1)
+    ∷ headerOf Long (bitsOf 16 0xF3A0) (set (headerBits 10 0 8) 8 1)
+    ∷ headerOf Long (bitsOf 16 0xF3A0) (set (headerBits 10 0 8) 31 1)
+    ∷ headerOf Long (bitsOf 16 0xF3A0) (set (headerBits 10 0 8) 47 0)
+    ∷ headerOf Long (bitsOf 16 0xF3A1) (set (headerBits 10 0 8) 31 1)
+    ∷ headerOf Long (bitsOf 16 0xF3A0) (set (headerBits 11 0 8) 31 1)
+    ∷ headerOf Long (bitsOf 16 0xF3A0) (headerBits 11 1 8)
+    ∷ headerOf Long (bitsOf 16 0xF3A0) (headerBits 10 1 9)
+    ∷ [])
+
+pub headers-facts : headers
+    ≡ (0 ∷ 10 ∷ 8 ∷ 1 ∷ [])
+    ∷ (0 ∷ 110 ∷ 3 ∷ 3 ∷ [])
+    ∷ (11 ∷ 0 ∷ 0 ∷ [])
+    ∷ (11 ∷ 0 ∷ 0 ∷ [])
+    ∷ (12 ∷ 0 ∷ 0 ∷ [])
+    ∷ (12 ∷ 0 ∷ 0 ∷ [])
+    ∷ (12 ∷ 0 ∷ 0 ∷ [])
+    ∷ (12 ∷ 0 ∷ 0 ∷ [])
+    ∷ (11 ∷ 0 ∷ 0 ∷ [])
+    ∷ (12 ∷ 0 ∷ 0 ∷ [])
+    ∷ (13 ∷ 0 ∷ 8 ∷ [])
+    ∷ (14 ∷ 0 ∷ 9 ∷ [])
+    ∷ []
+unfolding headers fieldBits headerBits bitsOf numberOf addWhere crcStep remainder crcBits sameBits fieldsOf headerOf
+headers-facts = refl

@@ -1,0 +1,4 @@
+pub mod ReadFacts
+pub mod WriteFacts
+pub mod HeaderFacts
+pub mod Accepted

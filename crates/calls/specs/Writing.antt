@@ -1,0 +1,34 @@
+-- Writing: refusals 1 to 6 in this order, the answer, and the chip buffer's final contents (RULES 6.1, 6.4, 6.9, 6.12).
+-- Definitions only. Assumes nothing.
+use Prim.Native.Nat.{ℕ, _-_}
+use mathlib.Core.Bool.{cond, not}
+use mathlib.Core.List.{List, _++_}
+use lib.ListN.{length, replicate}
+use lib.Dec.{ltb}
+use lib.IntN.{pos}
+use Rattle.rates.specs.Rates.{isCode, rateOf, isPayload}
+use Rattle.calls.specs.declared.Refusal.the-variants.{NoKind, NoRate, ShortRate, PayloadSize, NoPhase, ChipRoom}
+use Rattle.calls.specs.declared.Writing.{Writing}
+use Rattle.calls.specs.declared.Writing.the-variants.{Refused, Good}
+use Rattle.frame.specs.Frame.{isKind, kindOf, goesWith, frame, frameChips}
+
+-- kind, rate code and starting phase as numbers; n octets of payload; room for so many chips
+unfoldable pub writingOf : ℕ → ℕ → ℕ → ℕ → ℕ → Writing
+writingOf kind rate phase n room =
+    cond (not (isKind kind)) (Refused NoKind)
+    (cond (not (isCode rate)) (Refused NoRate)
+    (cond (not (goesWith (kindOf kind) (rateOf rate))) (Refused ShortRate)
+    (cond (not (isPayload (pos n))) (Refused PayloadSize)
+    (cond (ltb 3 phase) (Refused NoPhase)
+    (cond (ltb room (frameChips (kindOf kind) (rateOf rate) n)) (Refused ChipRoom)
+    (Good (kindOf kind) (rateOf rate) (frameChips (kindOf kind) (rateOf rate) n)))))))
+
+-- chips past the frame are 4; after a refusal the chip buffer is 4s
+abbrev pub chipsAfter : ℕ → List ℕ → ℕ → Writing → List ℕ
+chipsAfter phase payload room (Refused e) = replicate room 4
+chipsAfter phase payload room (Good k r c) = frame k r phase payload ++ replicate (room - c) 4
+
+-- what a write leaves in the chip buffer
+unfoldable pub chipsWritten : ℕ → ℕ → ℕ → List ℕ → ℕ → List ℕ
+chipsWritten kind rate phase payload room =
+    chipsAfter phase payload room (writingOf kind rate phase (length payload) room)

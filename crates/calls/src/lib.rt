@@ -1,0 +1,72 @@
+// The calls and their numbers: the refusals, and what writing and reading answer. Types only.
+use frame::Kind;
+use rates::Rate;
+
+// Every refusal, in the order of its number, 1 to 17. A place is a chip's index from the recording's
+// start; a length is the LENGTH field, 0 where it is not to be told.
+pub enum Refusal {
+    NoKind,
+    NoRate,
+    ShortRate,
+    PayloadSize,
+    NoPhase,
+    ChipRoom,
+    RowsDiffer,
+    ShorterThanFront,
+    Unusable { place: usize, length: usize },
+    OddGrowth { place: usize, length: usize },
+    Sfd,
+    Crc,
+    Signal { length: usize },
+    Service { length: usize },
+    Length { length: usize },
+    Ends { length: usize },
+    OctetRoom { length: usize },
+}
+
+// What a write comes to, before a chip is written.
+pub enum Writing {
+    Refused(Refusal),
+    Good {
+        kind: Kind,
+        rate: Rate,
+        chips: usize,
+    },
+}
+
+// What a good header tells: the rate, LENGTH, and the payload's octets.
+pub struct Told {
+    pub rate: Rate,
+    pub length: usize,
+    pub n: usize,
+}
+
+// What a recording's front tells.
+pub enum Front {
+    Refused(Refusal),
+    Fields(Told),
+}
+
+// What a reading comes to: what its header tells, and the chips of the whole frame.
+pub enum Reading {
+    Refused(Refusal),
+    Good { told: Told, used: usize },
+}
+
+// The writer's answer.
+#[repr(C)]
+pub struct Written {
+    pub number: u64,
+    pub chips: u64,
+}
+
+// The readers' answer.
+#[repr(C)]
+pub struct Record {
+    pub number: u64,
+    pub place: u64,
+    pub rate: u64,
+    pub length: u64,
+    pub n: u64,
+    pub used: u64,
+}

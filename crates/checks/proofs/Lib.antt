@@ -1,5 +1,0 @@
-pub mod Sizes
-pub mod Tests
-pub mod Lengths
-pub mod Fields
-pub mod Back

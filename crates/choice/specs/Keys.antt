@@ -1,0 +1,30 @@
+-- Keys: of h + h words, the words n and n + h opposite, the better of the two has the key (h + h) s + (h + h - 1 -
+-- number). The largest key is the word that is chosen.
+-- Definitions only. Assumes nothing.
+use Prim.Native.Nat.{ℕ, suc, _+_, _*_, _-_, _≤_, _<_}
+use mathlib.Core.Path.{_≡_}
+use mathlib.Core.Bool.{cond}
+use lib.IntN.{ℤ, pos, negsuc}
+use lib.Signed.{ltZ}
+
+abbrev pub larger : ℤ → ℤ → ℤ
+larger a b = cond (ltZ a b) b a
+
+-- the key of the better of words n and n + h, whose scores are z and -z
+unfoldable pub keyOf : ℕ → ℕ → ℤ → ℕ
+keyOf h n (pos s) = (h + h) * s + (h + h - 1 - n)
+keyOf h n (negsuc s) = (h + h) * suc s + (h + h - 1 - (n + h))
+
+-- x is the largest of the keys from a to before b: that of p
+pub record Largest (k : ℕ → ℕ) (a b x : ℕ) : Type 0 where
+  pub p : ℕ
+  pub from : a ≤ p
+  pub to : p < b
+  pub is : x ≡ k p
+  pub top : (j : ℕ) → a ≤ j → j < b → k j ≤ x
+
+-- a whole number is the largest of them
+pub record HoldsLargest (k : ℕ → ℕ) (a b : ℕ) (z : ℤ) : Type 0 where
+  pub x : ℕ
+  pub is-x : z ≡ pos x
+  pub largest : Largest k a b x

@@ -1,0 +1,134 @@
+-- The header's octets and its bits.
+--     with-crc                               two octets of CRC after four of fields
+--     field-octets, header-is                four octets are their fields, and with their CRC a header
+--     same-refl, crc-differs                 two rows of bits compared, and so two rows of octets
+--     two-is, crc-other, crc-same, fields-cut    the six octets of a header: its CRC against the one made, its fields
+-- Octets of eight bits each compute to rows of bits that are cut by computing. Assumes nothing.
+use mathlib.Core.Path.{_≡_, refl, sym, ap, ap₂, _∙_, subst}
+use mathlib.Core.Bool.{Bool, true, false}
+use mathlib.Core.List.{List, [], _∷_, _++_, append-nil}
+use Prim.Native.Nat.{ℕ, _/_, _%_, _<_}
+use native.Mathlib.Omega.{arith}
+use lib.Dec.{T, eqb}
+use lib.ListN.{length, getD, take, drop}
+use borrow.Author.Tests.{eq-eqb, eqb-true}
+use Rattle.base.specs.Tables.{tabulate}
+use Rattle.base.proofs.Tables.{as-table}
+use Rattle.bits.specs.Bits.{bitsOf, numberOf, octetBits}
+use Rattle.bits.specs.Crc.{crcBits}
+use Rattle.base.specs.Below.{Below}
+use Rattle.bits.proofs.Bits.{bits-two, octet-bits-append, number-one, octets-same}
+use Rattle.base.proofs.Below.{below-nil, below-cons}
+use Rattle.frame.specs.declared.Kind.{Kind}
+use Rattle.calls.specs.declared.Front.{Front}
+use Rattle.frame.specs.Frame.{fieldBits, headerBits}
+use Rattle.calls.specs.Reading.{sameBits, fieldsOf}
+
+pub two-is : (xs : List ℕ) → length xs ≡ 2 → xs ≡ getD xs 0 0 ∷ getD xs 1 0 ∷ []
+unfolding tabulate
+two-is xs e = as-table xs 2 0 e
+
+pub with-crc : (a b c d : ℕ) (crc : List ℕ) → length crc ≡ 2 → octetBits crc ≡ crcBits (octetBits (a ∷ b ∷ c ∷ d ∷ []))
+    → octetBits (a ∷ b ∷ c ∷ d ∷ getD crc 0 0 ∷ getD crc 1 0 ∷ [])
+    ≡ octetBits (a ∷ b ∷ c ∷ d ∷ []) ++ crcBits (octetBits (a ∷ b ∷ c ∷ d ∷ []))
+with-crc a b c d crc e q =
+    octet-bits-append (a ∷ b ∷ c ∷ d ∷ []) (getD crc 0 0 ∷ getD crc 1 0 ∷ [])
+    ∙ ap (λ (l : List ℕ). octetBits (a ∷ b ∷ c ∷ d ∷ []) ++ l) (sym (ap octetBits (two-is crc e)) ∙ q)
+
+pub field-octets : (s v l : ℕ) → octetBits (s ∷ v ∷ l % 256 ∷ l / 256 ∷ []) ≡ fieldBits s v l
+unfolding octetBits fieldBits
+field-octets s v l = rw (append-nil, bits-two l)
+
+pub header-is : (s v l : ℕ)
+    → octetBits (s ∷ v ∷ l % 256 ∷ l / 256 ∷ []) ++ crcBits (octetBits (s ∷ v ∷ l % 256 ∷ l / 256 ∷ []))
+    ≡ headerBits s v l
+unfolding headerBits
+header-is s v l = ap (λ (x : List ℕ). x ++ crcBits x) (field-octets s v l)
+
+-- ---- two rows of bits compared
+
+pub same-refl : (xs : List ℕ) → sameBits xs xs ≡ true
+unfolding sameBits
+same-refl [] = refl
+same-refl (x ∷ xs) = rw (eq-eqb x x refl) (same-refl xs)
+
+same-eq : (xs ys : List ℕ) → sameBits xs ys ≡ true → xs ≡ ys
+unfolding sameBits
+same-eq [] [] e = refl
+same-eq [] (y ∷ ys) e = absurd (subst T (sym e) tt)
+same-eq (x ∷ xs) [] e = absurd (subst T (sym e) tt)
+same-eq (x ∷ xs) (y ∷ ys) e = by (eqb x y) refl (same-eq xs ys)
+  where
+    by : (b : Bool) → eqb x y ≡ b → (sameBits xs ys ≡ true → xs ≡ ys) → x ∷ xs ≡ y ∷ ys
+    by true q rest = ap₂ {C = List ℕ} (λ z zs. z ∷ zs) (eqb-true x y q) (rest (rw q at e))
+    by false q rest = absurd (subst T (sym (rw q at e)) tt)
+
+-- two octets of CRC, as made and as read
+pub crc-differs : (crc read : List ℕ) → length crc ≡ length read → Below 256 crc → Below 256 read → (crc ≡ read → ⊥)
+    → sameBits (octetBits crc) (octetBits read) ≡ false
+crc-differs crc read e h k other = by (sameBits (octetBits crc) (octetBits read)) refl
+  where
+    by : (b : Bool) → sameBits (octetBits crc) (octetBits read) ≡ b → b ≡ false
+    by true q = absurd (other (octets-same crc read e h k (same-eq (octetBits crc) (octetBits read) q)))
+    by false q = refl
+
+-- ---- what a header of six octets tells
+
+six-is : (xs : List ℕ) → length xs ≡ 6
+    → xs ≡ getD xs 0 0 ∷ getD xs 1 0 ∷ getD xs 2 0 ∷ getD xs 3 0 ∷ getD xs 4 0 ∷ getD xs 5 0 ∷ []
+unfolding tabulate
+six-is xs e = as-table xs 6 0 e
+
+-- its bits, cut
+module _ (xs : List ℕ) (e : length xs ≡ 6) where
+  front : take 32 (octetBits xs) ≡ octetBits (getD xs 0 0 ∷ getD xs 1 0 ∷ getD xs 2 0 ∷ getD xs 3 0 ∷ [])
+  front = ap (λ (l : List ℕ). take 32 (octetBits l)) (six-is xs e) ∙ unfold octetBits bitsOf in refl
+
+  back : drop 32 (octetBits xs) ≡ octetBits (getD xs 4 0 ∷ getD xs 5 0 ∷ [])
+  back = ap (λ (l : List ℕ). drop 32 (octetBits l)) (six-is xs e) ∙ unfold octetBits bitsOf in refl
+
+  first : take 8 (octetBits xs) ≡ octetBits (getD xs 0 0 ∷ [])
+  first = ap (λ (l : List ℕ). take 8 (octetBits l)) (six-is xs e) ∙ unfold octetBits bitsOf in refl
+
+  second : take 8 (drop 8 (octetBits xs)) ≡ octetBits (getD xs 1 0 ∷ [])
+  second = ap (λ (l : List ℕ). take 8 (drop 8 (octetBits l))) (six-is xs e) ∙ unfold octetBits bitsOf in refl
+
+  third : take 16 (drop 16 (octetBits xs)) ≡ octetBits (getD xs 2 0 ∷ getD xs 3 0 ∷ [])
+  third = ap (λ (l : List ℕ). take 16 (drop 16 (octetBits l))) (six-is xs e) ∙ unfold octetBits bitsOf in refl
+
+-- the CRC of four octets, as made and as read
+module _
+    (header : List ℕ) (six : length header ≡ 6) (octets : Below 256 header) (crc : List ℕ) (long : length crc ≡ 2)
+    (crcs : Below 256 crc)
+    (e : octetBits crc
+    ≡ crcBits (octetBits (getD header 0 0 ∷ getD header 1 0 ∷ getD header 2 0 ∷ getD header 3 0 ∷ []))) where
+  pub crc-other : (crc ≡ getD header 4 0 ∷ getD header 5 0 ∷ [] → ⊥)
+      → false ≡ sameBits (crcBits (take 32 (octetBits header))) (drop 32 (octetBits header))
+  crc-other other =
+      let read = getD header 4 0 ∷ getD header 5 0 ∷ [] in
+      let below : Below 256 read =
+      below-cons (octets .at 4) (below-cons (octets .at 5) (below-nil 256 (omega arith))) in
+      rw (front header six, back header six, ← e) (sym (crc-differs crc read long crcs below other))
+
+pub crc-same : (header : List ℕ) → length header ≡ 6 → (crc : List ℕ)
+    → octetBits crc ≡ crcBits (octetBits (getD header 0 0 ∷ getD header 1 0 ∷ getD header 2 0 ∷ getD header 3 0 ∷ []))
+    → crc ≡ getD header 4 0 ∷ getD header 5 0 ∷ []
+    → true ≡ sameBits (crcBits (take 32 (octetBits header))) (drop 32 (octetBits header))
+crc-same header six crc e same = rw (front header six, back header six, ← e, ← same) (sym (same-refl (octetBits crc)))
+
+-- the three fields
+pub fields-cut : (k : Kind) (header : List ℕ) → length header ≡ 6 → Below 256 header → (l : ℕ) (f : Front)
+    → l ≡ numberOf (octetBits (getD header 2 0 ∷ getD header 3 0 ∷ []))
+    → f ≡ fieldsOf k (getD header 0 0) (getD header 1 0) l
+    → f
+    ≡ fieldsOf k (numberOf (take 8 (octetBits header))) (numberOf (take 8 (drop 8 (octetBits header))))
+    (numberOf (take 16 (drop 16 (octetBits header))))
+fields-cut k header six octets l f el ef =
+    rw (
+      first header six,
+      second header six,
+      third header six,
+      number-one (getD header 0 0) (octets .at 0),
+      number-one (getD header 1 0) (octets .at 1),
+      ← el,
+    ) ef

@@ -1,0 +1,287 @@
+-- Blocks after blocks: what is heard of them is what is heard of all their words.
+--     block-words, block-are-words     the numbers decided for a block are its words
+--     blocks-more, blocks-bits         the line behind two parts, and their bits
+--     block-room, block-usable         a block has its chips, and they are usable
+--     Parts, parts-none, parts-more, parts-all    the loop over blocks: before it, a block more, after it
+-- Assumes nothing.
+use mathlib.Core.Path.{_≡_, refl, sym, ap, ap₂, subst, _∙_}
+use mathlib.Core.List.{List, [], _++_, append-nil, map}
+use mathlib.Core.Option.{Option, none, some}
+use Prim.Native.Nat.{ℕ, zero, suc, _+_, _-_, _*_, _/_, _%_, _≤_, _<_}
+use native.Mathlib.Nat.{mul-zero, add-zero, le-antisymm, le-of-suc-le-suc, not-suc-le-zero}
+use native.Mathlib.Omega.{arith}
+use lib.ListN.{length, getD, take, drop, drop-of-length-le}
+use lib.Seq.{getD-take, length-take-le, ext-getD, drop-drop}
+use borrow.Rule.Slice.PartMut.{putMid}
+use Rattle.base.specs.Over.{over}
+use Rattle.base.proofs.Below.{below-nil, below-cons}
+use Rattle.base.proofs.Over.{length-over, over-next}
+use Rattle.rates.specs.declared.Rate.{Rate}
+use Rattle.rates.specs.declared.Rate.the-variants.{One, Two, Five, Eleven}
+use Rattle.rates.specs.Rates.{symbolChips, symbolBits, octetSymbols, octetChips}
+use Rattle.rates.proofs.Octets.{part-symbols, part-chips, part-bits}
+use Rattle.chips.specs.Chips.{Taken, takenCounts}
+use Rattle.symbols.specs.Choice.{numbers, decided}
+use Rattle.choice.proofs.Decided.{decided-below}
+use Rattle.bits.specs.Bits.{bitsOf, octetsOf}
+use Rattle.bits.specs.Growths.{heard, growthsOf, lastHeard}
+use Rattle.bits.specs.Scrambler.{descramble}
+use Rattle.bits.specs.Code.{pastOf, pastAfter}
+use Rattle.bits.specs.declared.Line.{Line}
+use Rattle.bits.proofs.Bits.{octets-append, octets-length}
+use Rattle.bits.proofs.Scrambler.{past-append, descramble-append, descramble-length}
+use Rattle.bits.proofs.Heard.{heard-append, lastHeard-append, growthsOf-append, growthsOf-length, heard-length, heard-parity}
+use Rattle.calls.specs.Reading.{orElse, firstOdd, oddGrowth, decidedWords}
+use Rattle.recorders.specs.declared.Found.the-variants.{Nothing}
+use Rattle.recorders.specs.Rows.{whereFound, symbolAt, AllUsable, DecidedAt}
+use Rattle.recorders.proofs.Search.{usable-part}
+use Rattle.hearing.specs.declared.Hearing.{Hearing}
+use Rattle.hearing.specs.Blocks.{AreWords, BlockOf}
+use Rattle.hearing.specs.Hearing.{received, plainBits, plainOctets, partWords, Heard, PartHeard}
+use Rattle.hearing.proofs.Passes.{past-take, descramble-take, oddGrowth-append, decidedWords-length, decidedWords-append}
+
+-- ---- the words of a block
+
+words-at : (r : Rate) (m : ℕ) (cs : List Taken) (l : ℕ) → l < m
+    → getD (decidedWords r m cs) l 0 ≡ decided r (symbolAt r cs (symbolChips r * l))
+unfolding decidedWords
+words-at r zero cs l h = absurd (not-suc-le-zero h)
+words-at r (suc m) cs zero h = rw mul-zero
+words-at r (suc m) cs (suc l) h =
+    words-at r m (drop (symbolChips r) cs) l (le-of-suc-le-suc h)
+    ∙ ap (λ (us : List Taken). decided r (map takenCounts (take (symbolChips r) us)))
+    (drop-drop (symbolChips r * l) (symbolChips r) cs ∙ ap (λ (k : ℕ). drop k cs) (next r l))
+  where
+    next : (r : Rate) (l : ℕ) → symbolChips r + symbolChips r * l ≡ symbolChips r * suc l
+    next One l = omega arith
+    next Two l = omega arith
+    next Five l = omega arith
+    next Eleven l = omega arith
+
+decided-row : (r : Rate) (rec : List Taken) (at m : ℕ) (ns : List ℕ) → DecidedAt r rec at m ns → m ≤ 64
+    → take m ns ≡ decidedWords r m (drop at rec)
+decided-row r rec at m ns d h =
+    let long : length (take m ns) ≡ m = length-take-le m ns (omega (arith, d .long)) in
+    ext-getD 0 (take m ns) (decidedWords r m (drop at rec)) (long ∙ sym (decidedWords-length r m (drop at rec)))
+    (λ l k. let b : l < m = omega (arith, long) in
+    getD-take m ns l 0 b
+    ∙ d .number l b
+    ∙ ap (λ (us : List Taken). decided r (map takenCounts (take (symbolChips r) us)))
+    (sym (drop-drop (symbolChips r * l) at rec))
+    ∙ sym (words-at r m (drop at rec) l b))
+
+words-below : (r : Rate) (m : ℕ) (cs : List Taken) → AreWords r (decidedWords r m cs)
+unfolding decidedWords
+words-below r zero cs = below-nil (numbers r) (some r)
+  where
+    some : (r : Rate) → 0 < numbers r
+    some One = omega arith
+    some Two = omega arith
+    some Five = omega arith
+    some Eleven = omega arith
+words-below r (suc m) cs = below-cons (decided-below r _) (words-below r m (drop (symbolChips r) cs))
+
+pub part-length : (r : Rate) (at n : ℕ) (rec : List Taken) → length (partWords r at n rec) ≡ octetSymbols r * n
+part-length r at n rec = decidedWords-length r (8 * n / symbolBits r) (drop at rec) ∙ part-symbols r n
+
+part-row : (r : Rate) (at n : ℕ) (rec : List Taken)
+    → decidedWords r (octetSymbols r * n) (drop at rec) ≡ partWords r at n rec
+part-row r at n rec = rw (part-symbols r n)
+
+-- the numbers decided for n octets, with the symbols as the code counts them
+module _
+    (r : Rate) (s n : ℕ) (e : s ≡ octetSymbols r) (rec : List Taken) (at : ℕ) (ns : List ℕ)
+    (d : DecidedAt r rec at (s * n) ns) (h : octetSymbols r * n ≤ 64) where
+  pub block-words : take (octetSymbols r * n) ns ≡ partWords r at n rec
+  block-words = decided-row r rec at (octetSymbols r * n) ns (rw e at d) h ∙ part-row r at n rec
+
+  pub block-are-words : AreWords r (take (octetSymbols r * n) ns)
+  block-are-words = rw block-words (words-below r (8 * n / symbolBits r) (drop at rec))
+
+sum : (r : Rate) (i j : ℕ) → octetSymbols r * (i + j) ≡ octetSymbols r * i + octetSymbols r * j
+sum One i j = omega arith
+sum Two i j = omega arith
+sum Five i j = omega arith
+sum Eleven i j = omega arith
+
+part-more : (r : Rate) (at i j : ℕ) (rec : List Taken)
+    → partWords r at (i + j) rec ≡ partWords r at i rec ++ partWords r (at + octetChips r * i) j rec
+part-more r at i j rec =
+    rw (
+      part-symbols r (i + j),
+      part-symbols r i,
+      part-symbols r j,
+      sum r i j,
+      decidedWords-append r (octetSymbols r * i) (octetSymbols r * j) (drop at rec),
+      drop-drop,
+      part-chips r i,
+    )
+
+pub plain-length : (r : Rate) (l : Line) (ws : List ℕ) → length (plainBits r l ws) ≡ symbolBits r * length ws
+plain-length r l ws = descramble-length (pastOf (l .past)) (received r l ws) ∙ heard-length r 0 (l .phase) ws
+
+-- ---- two parts
+
+module _ (r : Rate) (at : ℕ) (l : Line) (a b : List ℕ) (h : Hearing) (even : length a % 2 ≡ 0) (x : Heard r at l a h) where
+  -- the bits of words behind an even number of others
+  same : received r (h .line) b ≡ heard r (0 + length a) (lastHeard r (l .phase) a) b
+  same =
+      heard-parity r 0 (0 + length a) (h .line .phase) b (omega arith)
+      ∙ ap (λ (p : ℕ). heard r (0 + length a) p b) (x .phase)
+
+  pub blocks-more : (g k : Hearing) → Heard r (at + symbolChips r * length a) (h .line) b g → k .line ≡ g .line
+      → whereFound (k .odd) ≡ orElse (whereFound (h .odd)) (λ place. some place) (whereFound (g .odd))
+      → Heard r at l (a ++ b) k
+  blocks-more g k y e f = record {
+    past =
+        ap (λ (m : Line). pastOf (m .past)) e
+        ∙ y .past
+        ∙ ap₂ {C = List ℕ} (λ p bs. take 8 (pastAfter p bs)) (x .past) same
+        ∙ past-take 8 _ _
+        ∙ ap (take 8) (sym (past-append (pastOf (l .past)) (received r l a) _))
+        ∙ ap (λ (bs : List ℕ). take 8 (pastAfter (pastOf (l .past)) bs)) (sym (heard-append r 0 (l .phase) a b));
+    phase = ap (λ (m : Line). m .phase) e ∙ y .phase ∙ ap (λ (p : ℕ). lastHeard r p b) (x .phase)
+        ∙ sym (lastHeard-append r (l .phase) a b);
+    small = rw e (y .small);
+    place = f ∙ ap₂ {C = Option ℕ} (λ o p. orElse o (λ place. some place) p) (x .place)
+        (y .place ∙ ap (λ (p : ℕ). oddGrowth r (at + symbolChips r * length a) (growthsOf r p b)) (x .phase)
+        ∙ ap (λ (n : ℕ). oddGrowth r (at + symbolChips r * n) (growthsOf r (lastHeard r (l .phase) a) b))
+        (sym (growthsOf-length r (l .phase) a)))
+        ∙ sym (oddGrowth-append r at (growthsOf r (l .phase) a) _)
+        ∙ ap (oddGrowth r at) (sym (growthsOf-append r (l .phase) a b));
+  }
+
+  pub blocks-bits : plainBits r l (a ++ b) ≡ plainBits r l a ++ plainBits r (h .line) b
+  blocks-bits =
+      let p = pastOf (l .past) in
+      ap (descramble p) (heard-append r 0 (l .phase) a b)
+      ∙ descramble-append p (received r l a) _
+      ∙ ap (λ (cs : List ℕ). plainBits r l a ++ cs)
+      (ap (descramble (pastAfter p (received r l a))) (sym same)
+      ∙ sym (descramble-take 8 (pastAfter p (received r l a)) (received r (h .line) b) (omega arith))
+      ∙ ap (λ (q : List ℕ). descramble q (received r (h .line) b)) (sym (x .past)))
+
+  blocks-octets : (i j : ℕ) → length a ≡ octetSymbols r * i
+      → plainOctets r (i + j) l (a ++ b) ≡ plainOctets r i l a ++ plainOctets r j (h .line) b
+  blocks-octets i j size =
+      ap (octetsOf (i + j)) blocks-bits
+      ∙ octets-append i j (plainBits r l a) (plainBits r (h .line) b)
+      (plain-length r l a ∙ ap (λ (n : ℕ). symbolBits r * n) size ∙ part-bits r i)
+
+-- ---- the loop over blocks
+
+pub record Parts (r : Rate) (at : ℕ) (rec : List Taken) (l : Line) (d : List ℕ) (h : Hearing) (place k : ℕ)
+    (out : List ℕ) : Type 0 where
+  pub fits : k ≤ length d
+  pub at-place : place ≡ at + octetChips r * k
+  pub even : k < length d → (octetSymbols r * k) % 2 ≡ 0
+  pub line : Heard r at l (partWords r at k rec) h
+  pub stored : out ≡ over (plainOctets r k l (partWords r at k rec)) d
+
+heard-none : (r : Rate) (at : ℕ) (l : Line) → l .phase < 4 → Heard r at l [] (record { line = l; odd = Nothing })
+unfolding bitsOf heard lastHeard growthsOf firstOdd pastAfter
+heard-none r at l h = record { past = refl; phase = refl; small = h; place = by r }
+  where
+    by : (r : Rate) → none ≡ oddGrowth r at []
+    by One = refl
+    by Two = refl
+    by Five = refl
+    by Eleven = refl
+
+pub parts-none : (r : Rate) (at : ℕ) (rec : List Taken) (l : Line) (d : List ℕ) → l .phase < 4
+    → Parts r at rec l d (record { line = l; odd = Nothing }) at 0 d
+parts-none r at rec l d h = record {
+  fits = omega arith;
+  at-place = rw (mul-zero, add-zero);
+  even = λ k. rw mul-zero;
+  line = rw (part-symbols r 0, mul-zero) (unfold decidedWords in heard-none r at l h);
+  stored = unfold over octetsOf in refl;
+}
+
+pub parts-long : {r : Rate} {at : ℕ} {rec : List Taken} {l : Line} {d : List ℕ} {h : Hearing} {place k : ℕ}
+    {out : List ℕ} → Parts r at rec l d h place k out → length out ≡ length d
+parts-long {r} {at} {rec} {l} {d} {k = k} s =
+    ap length (s .stored) ∙ length-over _ d (rw octets-length (s .fits))
+
+parity : (r : Rate) (k n : ℕ) → (octetSymbols r * k) % 2 ≡ 0 → octetSymbols r * n ≡ 64
+    → (octetSymbols r * (k + n)) % 2 ≡ 0
+parity One k n e f = omega arith
+parity Two k n e f = omega arith
+parity Five k n e f = omega arith
+parity Eleven k n e f = omega arith
+
+chips-sum : (r : Rate) (k n : ℕ) → octetChips r * (k + n) ≡ octetChips r * k + octetChips r * n
+chips-sum One k n = omega arith
+chips-sum Two k n = omega arith
+chips-sum Five k n = omega arith
+chips-sum Eleven k n = omega arith
+
+module _
+    (r : Rate) (at : ℕ) (rec : List Taken) (l : Line) (d : List ℕ) (h : Hearing) (place k n : ℕ) (out : List ℕ)
+    (s : Parts r at rec l d h place k out) (b : k < length d) (w : BlockOf r (length out - k) n) where
+  -- a block that fits what is left has its chips
+  pub block-room : (m : ℕ) → at + octetChips r * length d ≤ m → place + octetChips r * n ≤ m
+  block-room m e = rw (s .at-place) (by r (omega (arith, w .within, parts-long s)) e)
+    where
+      by : (r : Rate) → k + n ≤ length d → at + octetChips r * length d ≤ m → at + octetChips r * k + octetChips r * n ≤ m
+      by One p q = omega arith
+      by Two p q = omega arith
+      by Five p q = omega arith
+      by Eleven p q = omega arith
+
+  pub block-usable : AllUsable rec at (octetChips r * length d) → AllUsable rec place (octetChips r * n)
+  block-usable u = rw (s .at-place)
+      (usable-part (octetChips r * k) (octetChips r * n) u (by r (omega (arith, w .within, parts-long s))))
+    where
+      by : (r : Rate) → k + n ≤ length d → octetChips r * k + octetChips r * n ≤ octetChips r * length d
+      by One p = omega arith
+      by Two p = omega arith
+      by Five p = omega arith
+      by Eleven p = omega arith
+
+  pub parts-more : (g m : Hearing) (y : List ℕ) (chips : ℕ) → Heard r place (h .line) (partWords r place n rec) g
+      → y ≡ over (plainOctets r n (h .line) (partWords r place n rec)) (take (length out - k) (drop k out))
+      → (m .line ≡ g .line) × (whereFound (m .odd)
+      ≡ orElse (whereFound (h .odd)) (λ place. some place) (whereFound (g .odd)))
+      → chips ≡ octetChips r
+      → Parts r at rec l d m (place + chips * n) (k + n) (putMid k (length out - k) out y)
+  parts-more g m y chips x z j e =
+      let ws = partWords r at k rec in
+      let vs = partWords r place n rec in
+      let there : place ≡ at + symbolChips r * length ws =
+      s .at-place
+      ∙ ap (λ (i : ℕ). at + i) (sym (ap (λ (i : ℕ). symbolChips r * i) (part-length r at k rec) ∙ part-chips r k)) in
+      let ev : length ws % 2 ≡ 0 = ap (λ (i : ℕ). i % 2) (part-length r at k rec) ∙ s .even b in
+      let words : partWords r at (k + n) rec ≡ ws ++ vs =
+      part-more r at k n rec ∙ ap (λ (p : ℕ). ws ++ partWords r p n rec) (sym (s .at-place)) in
+      record {
+        fits = omega (arith, w .within, parts-long s);
+        at-place = ap₂ {C = ℕ} (λ p c. p + c * n) (s .at-place) e ∙ omega (arith, chips-sum r k n);
+        even = λ q. parity r k n (s .even b) (w .full (omega (arith, parts-long s)));
+        line =
+            rw words
+            (blocks-more r at l ws vs h ev (s .line) g m (subst (λ (p : ℕ). Heard r p (h .line) vs g) there x) (j .0)
+            (j .1));
+        stored =
+            over-next (plainOctets r k l ws) (plainOctets r n (h .line) vs) d out y k (s .stored)
+            (octets-length k (plainBits r l ws)) z
+            ∙ ap (λ (u : List ℕ). over u d)
+            (sym (ap (plainOctets r (k + n) l) words
+            ∙ blocks-octets r at l ws vs h ev (s .line) k n (part-length r at k rec)));
+      }
+
+over-all : (w d : List ℕ) → length d ≤ length w → over w d ≡ w
+unfolding over
+over-all w d h = ap (λ (u : List ℕ). w ++ u) (drop-of-length-le d {i = length w} h) ∙ append-nil w
+
+pub parts-all : {r : Rate} {at : ℕ} {rec : List Taken} {l : Line} {d : List ℕ} {h : Hearing} {place k : ℕ}
+    {out : List ℕ} → Parts r at rec l d h place k out → length d ≤ k → PartHeard r at (length d) rec l h out
+parts-all {r} {at} {rec} {l} {d} {h} {place} {k} {out} s b =
+    let is : k ≡ length d = le-antisymm (s .fits) b in
+    record {
+      line = subst (λ (n : ℕ). Heard r at l (partWords r at n rec) h) is (s .line);
+      octets =
+          s .stored
+          ∙ over-all (plainOctets r k l (partWords r at k rec)) d (rw octets-length b)
+          ∙ ap (λ (n : ℕ). plainOctets r n l (partWords r at n rec)) is;
+    }

@@ -1,0 +1,81 @@
+-- `hearing::hear_block` meets its contract: the numbers decided are the words of the octets. Assumes nothing.
+use mathlib.Core.Path.{_≡_, refl, ap, subst, _∙_}
+use mathlib.Core.List.{List}
+use Prim.Native.Nat.{ℕ, _+_, _*_, _^_, _≤_}
+use native.Mathlib.Omega.{arith}
+use Rattle.base.specs.Over.{over}
+use Rattle.rates.specs.declared.Rate.{Rate}
+use Rattle.rates.specs.Rates.{symbolChips, octetSymbols, octetChips}
+use Rattle.rates.proofs.Octets.{part-chips}
+use Rattle.chips.specs.Chips.{Taken}
+use Rattle.recorders.specs.Rows.{recordingOf, AllUsable}
+use Rattle.recorders.proofs.Rows.{recording-fits}
+use borrow.Author.Needs.{needs}
+use Rattle.hearing.specs.Hearing.{plainOctets, Heard}
+use Rattle.hearing.proofs.Parts.{block-words, block-are-words}
+use Rattle.hearing.proofs.hear_block.Statement.{statement}
+use Rattle.hearing.proofs.hear_block.Tie as tie
+
+-- the symbols as the code counts them
+module _ (r : Rate) (s n : ℕ) (e : s ≡ octetSymbols r) where
+  within : octetSymbols r * n ≤ 64 → s * n ≤ 64
+  within h = rw e h
+
+  room : (place m : ℕ) → place + octetChips r * n ≤ m → place + symbolChips r * (s * n) ≤ m
+  room place m h = rw (e, part-chips r n) h
+
+  usable : (rec : List Taken) (place : ℕ) → AllUsable rec place (octetChips r * n)
+      → AllUsable rec place (symbolChips r * (s * n))
+  usable rec place h = rw (e, part-chips r n) h
+
+mul-decide : tie.Need-mul-decide
+mul-decide c =
+    let start = c .before .before .before .before .before in
+    let h = within (start .args .rate) _ (start .args .count) (c .octet-symbols .ensures) (start .pre .0) in
+    record { fits = omega arith }
+
+decide-requires : tie.Need-decide-requires
+decide-requires c κs =
+    let start = c .before .before .before .before .before .before in
+    let e = c .before .octet-symbols .ensures in (
+      within (start .args .rate) _ (start .args .count) e (start .pre .0),
+      room (start .args .rate) _ (start .args .count) e (start .args .place) _ (start .pre .2),
+      usable (start .args .rate) _ (start .args .count) e _ (start .args .place) (start .pre .3),
+      refl,
+    )
+
+hear-requires : tie.Need-hear-requires
+hear-requires c κs =
+    let start = c .before .before .before .before .before .before .before .before in
+    let a = start .args in
+    let d = c .before .decide .ensures in (
+      start .pre .0,
+      start .pre .1,
+      omega (
+        arith,
+        start .pre .2,
+        recording-fits (a .rec) (a .row .now) (a .i .now) (a .q .now) (2 ^ 64) (start .good .1 .0 .0)
+            (start .good .1 .1 .0 .0),
+      ),
+      start .pre .4,
+      d .long,
+      block-are-words (a .rate) _ (a .count) (c .before .before .before .octet-symbols .ensures)
+          (recordingOf (a .rec) (a .row .now) (a .i .now) (a .q .now)) (a .place) _ d (start .pre .0),
+    )
+
+returns : tie.Need-returns
+returns c =
+    let start = c .before .before .before .before .before .before .before .before .before .before .before in
+    let a = start .args in
+    let call = c .before .before .hear in
+    let words = block-words (a .rate) _ (a .count) (c .before .before .before .before .before .before .octet-symbols .ensures)
+    (recordingOf (a .rec) (a .row .now) (a .i .now) (a .q .now)) (a .place) _
+    (c .before .before .before .before .decide .ensures) (start .pre .0) in (
+      subst (λ (ws : List ℕ). Heard (a .rate) (a .place) (a .line) ws (call .result)) words (call .ensures .0),
+      call .ensures .1 ∙ ap (λ (ws : List ℕ). over (plainOctets (a .rate) (a .count) (a .line) ws) (a .out .now)) words,
+    )
+
+pub hear-block-spec : {M : Type 1} → statement M
+hear-block-spec =
+    tie.close
+    (tie.spec (λ c κs. search needs) mul-decide decide-requires hear-requires (λ c. search needs) returns)

@@ -1,0 +1,16 @@
+-- `hearing::words::of_four` meets its contract, by arithmetic. Assumes nothing.
+use borrow.Author.Needs.{needs}
+use Rattle.hearing.specs.Blocks.{packed}
+use Rattle.hearing.proofs.words.of_four.Statement.{statement}
+use Rattle.hearing.proofs.words.of_four.Tie as tie
+
+returns : tie.Need-returns
+unfolding packed
+returns c = search needs
+
+pub of-four-spec : {M : Type 1} → statement M
+of-four-spec =
+    tie.close
+    (tie.spec
+    (λ c. search needs) (λ c. search needs) (λ c. search needs) (λ c. search needs) (λ c. search needs)
+    (λ c. search needs) returns)

@@ -1,0 +1,17 @@
+-- `symbols::together` meets its contract: it computes. Assumes nothing.
+use native.Mathlib.Nat.{add-zero}
+use borrow.Author.Needs.{needs}
+use Rattle.symbols.specs.Sums.{together}
+use Rattle.symbols.proofs.together.Statement.{statement}
+use Rattle.symbols.proofs.together.Tie as tie
+
+returns : tie.Need-returns
+unfolding together
+returns c = rw add-zero
+
+pub together-spec : {M : Type 1} → statement M
+together-spec =
+    tie.close
+    (tie.spec (λ c. search needs) (λ c. search needs) (λ c. search needs) (λ c. search needs) (λ c. search needs)
+    (λ c. search needs) (λ c. search needs) (λ c. search needs) (λ c. search needs) (λ c. search needs)
+    (λ c. search needs) (λ c. search needs) (λ c. search needs) (λ c. search needs) returns)
