@@ -1,0 +1,3 @@
+pub mod Preambles
+pub mod Whole
+pub mod Order
