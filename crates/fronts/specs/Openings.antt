@@ -2,8 +2,8 @@
 -- Assumes nothing.
 use mathlib.Core.Path.{_≡_}
 use mathlib.Core.List.{List}
-use Prim.Native.Nat.{ℕ, _+_, _<_}
-use lib.ListN.{take, drop}
+use Prim.Native.Nat.{ℕ, _+_, _≤_, _<_}
+use lib.ListN.{length, take, drop}
 use Rattle.rates.specs.declared.Rate.the-variants.{One}
 use Rattle.chips.specs.Chips.{Taken}
 use Rattle.bits.specs.Bits.{octetBits, octetsOf}
@@ -13,7 +13,7 @@ use Rattle.bits.specs.Code.{pastOf, pastAfter}
 use Rattle.bits.specs.declared.Line.{Line}
 use Rattle.frame.specs.declared.Kind.{Kind}
 use Rattle.frame.specs.declared.Kind.the-variants.{Long, Short}
-use Rattle.frame.specs.Frame.{start, syncBits, preambleLength}
+use Rattle.frame.specs.Frame.{start, syncBits, preambleLength, frameChips}
 use Rattle.calls.specs.declared.Refusal.the-variants.{OddGrowth}
 use Rattle.calls.specs.declared.Told.{Told}
 use Rattle.calls.specs.declared.Front.{Front}
@@ -29,6 +29,8 @@ use Rattle.calls.specs.Reading.{
   frontHeard,
   frontBits,
   headerOf,
+  frontOf,
+  wholeOf,
 }
 use Rattle.recorders.specs.Rows.{whereFound}
 use Rattle.hearing.specs.declared.Hearing.{Hearing}
@@ -91,3 +93,11 @@ afterUsable k rec =
 pub record Opens (k : Kind) (rec : List Taken) (f : Front) (o : Opening) : Type 0 where
   pub told : o .front ≡ f
   pub line : (t : Told) → o .front ≡ Fields t → Opened k rec (o .line)
+
+-- an opening that tells what a recording's front does, refusal 16 included: where that is fields, the recording has the
+-- whole frame
+pub record OpensWhole (k : Kind) (rec : List Taken) (o : Opening) : Type 0 where
+  pub told : o .front ≡ wholeOf k rec (frontOf k rec)
+  pub line : (t : Told) → o .front ≡ Fields t → Opened k rec (o .line)
+  pub few : (t : Told) → o .front ≡ Fields t → t .n ≤ 4095
+  pub chips : (t : Told) → o .front ≡ Fields t → frameChips k (t .rate) (t .n) ≤ length rec

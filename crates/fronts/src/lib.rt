@@ -14,6 +14,7 @@ ghost use Rattle.fronts.specs.Openings.{
   FrontKnown,
   afterUsable,
   Opens,
+  OpensWhole,
 };
 use bits::Line;
 use calls::Front;
@@ -172,5 +173,26 @@ pub fn read_front(rec: Recorder, row: &[u8], i: &[f32], q: &[f32], kind: Kind) -
     match bad {
         Found::At(place) => refused(Refusal::Unusable { place, length: 0 }),
         Found::Nothing => read_usable(rec, row, i, q, kind),
+    }
+}
+
+// The same, and 16: whether the recording has the chips of the frame that its front tells of.
+pub fn read_whole(rec: Recorder, row: &[u8], i: &[f32], q: &[f32], kind: Kind) -> Opening
+    ensures answer { λ r. ⌜ OpensWhole kind
+        (recordingOf rec (now (row .entry)) (now (i .entry)) (now (q .entry))) r ⌝ }
+{
+    let opening = read_front(rec, row, i, q, kind);
+    let told = opening.front;
+    match told {
+        Front::Refused(e) => refused(e),
+        Front::Fields(t) => {
+            let rate = t.rate;
+            let length = t.length;
+            let chips = frame::frame_chips(kind, rate, t.n);
+            if recorders::chip_count(rec, row, i, q) < chips {
+                return refused(Refusal::Ends { length });
+            }
+            opening
+        }
     }
 }
