@@ -1,15 +1,16 @@
--- A front that tells fields tells at most 4,095 octets: refusal 15 has refused all others. Assumes nothing.
-use mathlib.Core.Path.{_≡_, refl, sym, subst}
+-- Sizes that a front tells: at most 4,095 octets, refusal 15 having refused all others; and refusal 16, whether the
+-- recording has the frame's chips. Assumes nothing.
+use mathlib.Core.Path.{_≡_, refl, sym, subst, _∙_}
 use mathlib.Core.Bool.{Bool, true, false, not, cond, _&&_}
 use mathlib.Core.List.{List}
 use mathlib.Core.Option.{Option, none, some}
-use Prim.Native.Nat.{ℕ, _/_, _%_, _≤_}
+use Prim.Native.Nat.{ℕ, _/_, _%_, _≤_, _<_}
 use native.Mathlib.Omega.{arith}
 use lib.Dec.{T, leb→le, eqb, ltb}
 use lib.IntN.{ℤ, pos, negsuc, natAbs}
 use lib.ListN.{length, take, drop}
 use lib.Signed.{leZ}
-use borrow.Author.Tests.{not-false}
+use borrow.Author.Tests.{not-false, lt-ltb, le-ltb}
 use Rattle.base.proofs.Tests.{both-left, both-right}
 use Rattle.rates.specs.declared.Rate.{Rate}
 use Rattle.rates.specs.Rates.{isCode, rateOf, isPayload, octetsRead, lengthHolds, lengthField, bit7}
@@ -27,22 +28,25 @@ use Rattle.calls.specs.declared.Refusal.the-variants.{
   Signal,
   Service,
   Length,
+  Ends,
 }
+use Rattle.calls.specs.declared.Told.{Told}
 use Rattle.calls.specs.declared.Front.{Front}
 use Rattle.calls.specs.declared.Front.the-variants.{Refused, Fields}
-use Rattle.frame.specs.Frame.{sfdOf, frontChips, goesWith}
-use Rattle.calls.specs.Reading.{orElse, firstUnusable, frontOdd, serviceAllowed, sameBits, fieldsOf, headerOf, frontOf}
-use Rattle.reader.specs.Openings.{afterUsable}
+use Rattle.frame.specs.Frame.{sfdOf, frontChips, goesWith, frameChips}
+use Rattle.calls.specs.Reading.{orElse, firstUnusable, frontOdd, serviceAllowed, sameBits, told, fieldsOf, headerOf, frontOf, wholeOf}
+use Rattle.fronts.specs.Openings.{afterUsable, Opens, OpensWhole}
+use Rattle.fronts.specs.declared.Opening.{Opening}
 
 -- at most 4,095 octets, if any
 record Small (f : Front) : Type 0 where
-  bound : (r : Rate) (l n : ℕ) → f ≡ Fields r l n → n ≤ 4095
+  bound : (t : Told) → f ≡ Fields t → t .n ≤ 4095
 
 refused-small : (e : Refusal) → Small (Refused e)
-refused-small e = record { bound = λ r l n t. let z : _≡_ {A = ℕ} 0 1 = cc in absurd (omega arith) }
+refused-small e = record { bound = λ t w. let z : _≡_ {A = ℕ} 0 1 = cc in absurd (omega arith) }
 
-told-small : (r : Rate) (l n : ℕ) → n ≤ 4095 → Small (Fields r l n)
-told-small r l n h = record { bound = λ s m o t. let e : n ≡ o = cc in omega arith }
+told-small : (t : Told) → t .n ≤ 4095 → Small (Fields t)
+told-small t h = record { bound = λ u w. let e : t ≡ u = cc in subst (λ (v : Told). v .n ≤ 4095) e h }
 
 cond-small : (b : Bool) (e : Refusal) (y : Front) → (b ≡ false → Small y) → Small (cond b (Refused e) y)
 cond-small true e y t = refused-small e
@@ -68,14 +72,14 @@ unfolding fieldsOf
 fields-small k signal service l =
     let r = rateOf signal in
     let seven = service / 128 % 2 in
-    let told = Fields r l (natAbs (octetsRead r l seven)) in
+    let good = told r l (natAbs (octetsRead r l seven)) in
     cond-small (not (isCode signal && goesWith k r)) (Signal l)
     (cond (not (serviceAllowed r service)) (Refused (Service l))
-    (cond (not (lengthHolds r l seven)) (Refused (Length l)) told))
+    (cond (not (lengthHolds r l seven)) (Refused (Length l)) (Fields good)))
     (λ a. cond-small (not (serviceAllowed r service)) (Service l)
-    (cond (not (lengthHolds r l seven)) (Refused (Length l)) told)
-    (λ b. cond-small (not (lengthHolds r l seven)) (Length l) told
-    (λ c. told-small r l (natAbs (octetsRead r l seven))
+    (cond (not (lengthHolds r l seven)) (Refused (Length l)) (Fields good))
+    (λ b. cond-small (not (lengthHolds r l seven)) (Length l) (Fields good)
+    (λ c. told-small good
     (holds-small r l seven (not-false (lengthHolds r l seven) c)))))
 
 header-small : (k : Kind) (sfd header : List ℕ) → Small (headerOf k sfd header)
@@ -95,5 +99,34 @@ front-small k rec =
     (λ a. found-small (firstUnusable 0 (take (frontChips k) rec)) (λ place. Unusable place 0) (afterUsable k rec)
     (found-small (frontOdd k rec) (λ place. OddGrowth place 0) _ (header-small k _ _)))
 
-pub front-bound : (k : Kind) (rec : List Taken) (r : Rate) (l n : ℕ) → frontOf k rec ≡ Fields r l n → n ≤ 4095
-front-bound k rec r l n e = front-small k rec .bound r l n e
+-- ---- 16
+
+-- an opening that refuses needs neither line nor sizes
+opens-none : (k : Kind) (rec : List Taken) (o : Opening) (e : Refusal) → o .front ≡ Refused e
+    → wholeOf k rec (frontOf k rec) ≡ Refused e → OpensWhole k rec o
+opens-none k rec o e p q =
+    let none : (A : Type 0) (t : Told) → o .front ≡ Fields t → A =
+    λ A t w. let z : _≡_ {A = ℕ} 0 1 = cc in absurd (omega arith) in
+    record { told = p ∙ sym q; line = λ t. none _ t; few = λ t. none _ t; chips = λ t. none _ t }
+
+module _ (k : Kind) (rec : List Taken) (a : Opening) (x : Opens k rec (frontOf k rec) a) where
+  pub whole-refused : (o : Opening) (e : Refusal) → a .front ≡ Refused e → o .front ≡ Refused e → OpensWhole k rec o
+  whole-refused o e f p = opens-none k rec o e p (rw (← x .told, f))
+
+  module _ (t : Told) (f : a .front ≡ Fields t) where
+    pub whole-few : t .n ≤ 4095
+    whole-few = front-small k rec .bound t (sym (x .told) ∙ f)
+
+    pub whole-ends : (o : Opening) → length rec < frameChips k (t .rate) (t .n) → o .front ≡ Refused (Ends (t .length))
+        → OpensWhole k rec o
+    whole-ends o h p =
+        opens-none k rec o (Ends (t .length)) p
+        (rw (← x .told, f, lt-ltb (length rec) (frameChips k (t .rate) (t .n)) h))
+
+    pub whole-kept : frameChips k (t .rate) (t .n) ≤ length rec → OpensWhole k rec a
+    whole-kept h = record {
+      told = f ∙ sym (rw (← x .told, f, le-ltb (length rec) (frameChips k (t .rate) (t .n)) h));
+      line = x .line;
+      few = λ u w. let e : t ≡ u = cc in subst (λ (v : Told). v .n ≤ 4095) e whole-few;
+      chips = λ u w. let e : t ≡ u = cc in subst (λ (v : Told). frameChips k (v .rate) (v .n) ≤ length rec) e h;
+    }
