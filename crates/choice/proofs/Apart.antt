@@ -16,7 +16,7 @@ use Rattle.chips.specs.Chips.{pair, countsOf}
 use Rattle.chips.specs.Axes.{along, countsAlong}
 use Rattle.chips.proofs.Bounds.{counts-within}
 use Rattle.symbols.specs.Choice.{decided}
-use Rattle.choice.specs.Scores.{RowWithin}
+use Rattle.choosing.specs.Scores.{RowWithin}
 use Rattle.choice.specs.Sums.{bySigns, bestOfSums, rows}
 use Rattle.choice.proofs.Signs.{sums-decided}
 

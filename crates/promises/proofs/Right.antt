@@ -37,8 +37,8 @@ use Rattle.chips.specs.Chips.{
 use Rattle.chips.proofs.Bounds.{soft-near, hard-exact, lost-exact}
 use Rattle.chips.proofs.Recorders.{sample, taken-hard, taken-soft, unusable-hard, unusable-soft}
 use Rattle.symbols.specs.Choice.{decided}
-use Rattle.choice.specs.Demand3.{RightUpTo, Apart}
-use Rattle.choice.proofs.Demand3.{demand-3}
+use Rattle.choosing.specs.Demand3.{RightUpTo, Apart}
+use Rattle.choosing.proofs.Demand3.{demand-3}
 use Rattle.frame.specs.declared.Kind.{Kind}
 use Rattle.frame.specs.declared.Kind.the-variants.{Long, Short}
 use Rattle.frame.specs.Frame.{headerRate, frontChips, preambleLength, headerLength, preambleChips}

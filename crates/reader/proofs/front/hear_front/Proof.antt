@@ -12,7 +12,7 @@ use Rattle.rates.specs.declared.Rate.the-variants.{One}
 use Rattle.rates.specs.Rates.{octetChips}
 use Rattle.chips.specs.Chips.{Taken, takenCounts}
 use Rattle.symbols.specs.Choice.{decided}
-use Rattle.choice.proofs.Decided.{decided-below}
+use Rattle.choosing.proofs.Decided.{decided-below}
 use Rattle.frame.specs.declared.Kind.{Kind}
 use Rattle.frame.specs.declared.Kind.the-variants.{Long, Short}
 use Rattle.frame.specs.Frame.{frontChips, headerRate}
