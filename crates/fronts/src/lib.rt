@@ -78,7 +78,14 @@ fn behind_sync(kind: Kind, preamble: [u8; 18]) -> [u8; 2]
 
 // SYNC and the SFD, heard to their end into a row. The first block of 64 symbols is decided before the line starts: its
 // first symbol is the reference.
-fn hear_sync(rec: Recorder, row: &[u8], i: &[f32], q: &[f32], kind: Kind, octets: &mut [u8]) -> Hearing
+fn hear_sync(
+    rec: Recorder,
+    row: &[u8],
+    i: &[f32],
+    q: &[f32],
+    kind: Kind,
+    octets: &mut [u8],
+) -> Hearing
     requires { ⌜ (frontChips kind ≤ length (recordingOf rec (now row) (now i) (now q)))
         × AllUsable (recordingOf rec (now row) (now i) (now q)) 0 (frontChips kind)
         × (length (now octets) ≡ 18) ⌝ }
@@ -188,8 +195,8 @@ pub fn read_whole(rec: Recorder, row: &[u8], i: &[f32], q: &[f32], kind: Kind) -
         Front::Fields(t) => {
             let rate = t.rate;
             let length = t.length;
-            let chips = frame::frame_chips(kind, rate, t.n);
-            if recorders::chip_count(rec, row, i, q) < chips {
+            let all = frame::frame_chips(kind, rate, t.n);
+            if recorders::chip_count(rec, row, i, q) < all {
                 return refused(Refusal::Ends { length });
             }
             opening

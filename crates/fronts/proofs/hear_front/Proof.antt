@@ -1,7 +1,7 @@
 -- `fronts::hear_front` meets its contract: the preamble and the header are heard one after the other on one line.
 -- Assumes nothing.
 use mathlib.Core.Path.{_≡_, refl, subst}
-use Prim.Native.Nat.{ℕ, _+_, _*_, _≤_}
+use Prim.Native.Nat.{ℕ, _+_, _*_}
 use native.Mathlib.Nat.{zero-add}
 use native.Mathlib.Omega.{arith}
 use Rattle.rates.specs.declared.Rate.{Rate}
@@ -10,7 +10,7 @@ use Rattle.chips.specs.Chips.{Taken}
 use Rattle.frame.specs.declared.Kind.{Kind}
 use Rattle.frame.specs.declared.Kind.the-variants.{Long, Short}
 use Rattle.frame.specs.Frame.{frontChips, headerRate, preambleChips}
-use Rattle.recorders.specs.Rows.{recordingOf, AllUsable}
+use Rattle.recorders.specs.Rows.{AllUsable}
 use Rattle.recorders.proofs.Search.{usable-part}
 use Rattle.hearing.specs.declared.Hearing.{Hearing}
 use Rattle.hearing.specs.Hearing.{PartHeard}
@@ -54,7 +54,8 @@ returns : tie.Need-returns
 returns c =
     let start = c .before .before .before .before .before .before .before .before .before .before .before .before .before in
     front-known (start .args .kind) _ _ _ _ _ (c .before .before .before .before .before .before .before .before .before .hear-preamble .ensures)
-    (part (start .args .kind) _ _ (c .before .before .before .before .before .before .header-rate .ensures) (c .before .before .before .before .before .preamble-chips .ensures) _ _ _ _
+    (part (start .args .kind) _ _ (c .before .before .before .before .before .before .header-rate .ensures)
+    (c .before .before .before .before .before .preamble-chips .ensures) _ _ _ _
     (c .before .before .before .hear-octets .ensures))
     (c .before .joined .ensures)
 

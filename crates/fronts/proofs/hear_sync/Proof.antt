@@ -1,15 +1,14 @@
 -- `fronts::hear_sync` meets its contract: the first block and the rest are heard one after the other on one line.
 -- Assumes nothing.
-use mathlib.Core.Path.{_≡_, refl, subst, _∙_}
-use Prim.Native.Nat.{ℕ, _+_, _-_, _*_, _≤_, _<_}
+use mathlib.Core.Path.{_≡_, refl, _∙_}
+use Prim.Native.Nat.{ℕ, _+_, _-_, _≤_}
 use native.Mathlib.Omega.{arith}
-use lib.ListN.{length, take, drop}
+use lib.ListN.{length}
 use Rattle.rates.specs.declared.Rate.the-variants.{One}
-use Rattle.chips.specs.Chips.{Taken}
 use Rattle.frame.specs.declared.Kind.{Kind}
 use Rattle.frame.specs.declared.Kind.the-variants.{Long, Short}
 use Rattle.frame.specs.Frame.{frontChips}
-use Rattle.recorders.specs.Rows.{recordingOf, AllUsable}
+use Rattle.recorders.specs.Rows.{recordingOf}
 use Rattle.recorders.proofs.Search.{usable-part}
 use Rattle.hearing.proofs.Parts.{block-are-words}
 use borrow.Author.Needs.{needs}
@@ -51,13 +50,15 @@ hear-requires c κs =
 
 -- the rest of the row
 within : (c : tie.After-l) → (8 ≤ c .before .preamble-octets .result) × (c .before .preamble-octets .result ≤ 18)
-within c = counted (c .before .before .before .before .before .before .before .before .before .before .before .before .before .args .kind) _ (c .before .preamble-octets .ensures)
+within c =
+    let heard = c .before .before .before .before in
+    counted (heard .before .before .before .before .before .before .before .before .before .args .kind) _ (c .before .preamble-octets .ensures)
 
 hear-octets-requires : tie.Need-hear-octets-requires
 hear-octets-requires c κs =
-    let start = c .before .before .before .before .before .before .before .before .before .before .before .before .before .before in
-    let a = start .args in
     let heard = c .before .before .before .before .before in
+    let start = heard .before .before .before .before .before .before .before .before .before in
+    let a = start .args in
     let rest = rest-lent (a .kind) (heard .hear .last .1 .1 .1 .1 .1 .0) _ (long heard)
     (c .before .before .preamble-octets .ensures) in (
       rest-room (a .kind) _ _ rest (start .pre .0),
@@ -67,12 +68,13 @@ hear-octets-requires c κs =
 
 returns : tie.Need-returns
 returns c =
-    let start = c .before .before .before .before .before .before .before .before .before .before .before .before .before .before .before .before .before .before in
     let heard = c .before .before .before .before .before .before .before .before .before in
+    let start = heard .before .before .before .before .before .before .before .before .before in
     let a = start .args in
     let count = c .before .before .before .before .before .before .preamble-octets .ensures in
     sync-heard (a .kind) (recordingOf (a .rec) (a .row .now) (a .i .now) (a .q .now)) _ _ _ _ _ _ _ _ _ _
-    (heard .before .before .before .decide .ensures) (heard .before .before .first-line .ensures) (heard .hear .ensures .0)
+    (heard .before .before .before .decide .ensures) (heard .before .before .first-line .ensures)
+    (heard .hear .ensures .0)
     (heard .hear .ensures .1) (rest-lent (a .kind) (heard .hear .last .1 .1 .1 .1 .1 .0) _ (long heard) count) count
     (c .before .before .before .hear-octets .ensures)
     (c .joined .ensures)
@@ -82,5 +84,6 @@ hear-sync-spec =
     tie.close
     (tie.spec
     decide-requires (λ c. search needs) (λ c κs. search needs) hear-requires (λ c κs. search needs)
-    (λ c. within c .0) (λ c. omega (arith, within c)) (λ c. omega (arith, within c, long (c .before .before .before .before)))
+    (λ c. within c .0) (λ c. omega (arith, within c))
+    (λ c. omega (arith, within c, long (c .before .before .before .before)))
     hear-octets-requires (λ c κs. search needs) (λ c. search needs) returns)

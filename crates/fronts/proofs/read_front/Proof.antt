@@ -22,21 +22,24 @@ returns c =
 
 read-usable-requires : tie.Need-read-usable-requires
 read-usable-requires c κs =
-    all-usable (c .before .before .before .before .before .before .before .before .before .args .kind) _ _ _ (c .before .before .before .before .before .front-chips .ensures)
-    (within _ _ _ (c .before .before .before .before .chip-count .ensures) (c .before .before .before .if1 .left))
+    let told = c .before .before .before .before in
+    all-usable (told .before .before .before .before .before .args .kind) _ _ _ (told .before .front-chips .ensures)
+    (within _ _ _ (told .chip-count .ensures) (c .before .before .before .if1 .left))
     (c .before .before .first-unusable .ensures) (c .enum-told .given .1)
 
 returns-2 : tie.Need-returns-2
 returns-2 c =
     front-unusable _ _ _ _ (c .before .before .before .before .before .before .before .front-chips .ensures)
-    (within _ _ _ (c .before .before .before .before .before .before .chip-count .ensures) (c .before .before .before .before .before .if1 .left))
+    (within _ _ _ (c .before .before .before .before .before .before .chip-count .ensures)
+    (c .before .before .before .before .before .if1 .left))
     (c .before .before .before .before .first-unusable .ensures) _ _ (c .before .before .bad .given .1)
     (c .refused2 .ensures)
 
 returns-3 : tie.Need-returns-3
 returns-3 c =
     front-usable _ _ _ _ (c .before .before .before .before .before .before .front-chips .ensures)
-    (within _ _ _ (c .before .before .before .before .before .chip-count .ensures) (c .before .before .before .before .if1 .left))
+    (within _ _ _ (c .before .before .before .before .before .chip-count .ensures)
+    (c .before .before .before .before .if1 .left))
     (c .before .before .before .first-unusable .ensures) _ (c .before .enum-told .given .1) (c .read-usable .ensures)
 
 pub read-front-spec : {M : Type 1} → statement M

@@ -1,6 +1,5 @@
--- The payload, heard on the line that the front left with its symbols numbered anew: its odd growths and its octets are
--- those that the
--- definition finds in all of the frame's bits at once.
+-- The payload, heard on the line that the front left: its odd growths and its octets are those that the definition
+-- finds in all of the frame's bits at once.
 --     payload-odd, payload-octets    of n octets heard
 --     octets-back                    the part of the buffer that was lent for them, back in its place
 -- Assumes nothing.
@@ -17,19 +16,31 @@ use Rattle.chips.specs.Chips.{Taken}
 use Rattle.bits.specs.Bits.{octetsOf}
 use Rattle.bits.specs.Growths.{heard, growthsOf}
 use Rattle.bits.specs.Scrambler.{descramble}
-use Rattle.bits.specs.Code.{lastFirst, pastAfter}
+use Rattle.bits.specs.Code.{pastOf, pastAfter}
 use Rattle.bits.proofs.Scrambler.{descramble-append, descramble-length, descramble-window}
 use Rattle.frame.specs.declared.Kind.{Kind}
 use Rattle.frame.specs.declared.Kind.the-variants.{Long, Short}
 use Rattle.frame.specs.Frame.{start, headerRate, frontChips, preambleLength, headerLength, preambleChips}
-use Rattle.calls.specs.Reading.{oddGrowth, decidedWords, preambleWords, headerWords, reference, headerPhase, payloadPhase, frontHeard, payloadWords, payloadOdd, payloadOf}
+use Rattle.calls.specs.Reading.{
+  oddGrowth,
+  decidedWords,
+  preambleWords,
+  headerWords,
+  reference,
+  headerPhase,
+  payloadPhase,
+  frontHeard,
+  payloadWords,
+  payloadOdd,
+  payloadOf,
+}
 use Rattle.recorders.specs.Rows.{whereFound}
-use Rattle.hearing.specs.declared.Line.{Line}
+use Rattle.bits.specs.declared.Line.{Line}
 use Rattle.hearing.specs.declared.Hearing.{Hearing}
 use Rattle.hearing.specs.Hearing.{PartHeard}
 use Rattle.bits.proofs.Heard.{heard-length}
 use Rattle.hearing.proofs.Passes.{decidedWords-length}
-use Rattle.reader.specs.Openings.{Opened}
+use Rattle.fronts.specs.Openings.{Opened}
 
 -- how many bits the front has
 header-bits : (k : Kind) (rec : List Taken) → symbolBits (headerRate k) * length (headerWords k rec) ≡ headerLength
@@ -52,7 +63,7 @@ front-length k rec =
 
 module _
     (k : Kind) (r : Rate) (n : ℕ) (rec : List Taken) (l : Line) (h : Hearing) (out : List ℕ) (o : Opened k rec l)
-    (x : PartHeard r (frontChips k) n rec (record { past = l .past; phase = l .phase; odd = 0 }) h out) where
+    (x : PartHeard r (frontChips k) n rec l h out) where
   pub payload-odd : whereFound (h .odd) ≡ payloadOdd k r n rec
   unfolding payloadOdd payloadWords
   payload-odd =
@@ -66,9 +77,9 @@ module _
       let ws = decidedWords r (8 * n / symbolBits r) (drop (frontChips k) rec) in
       let bits = heard r 0 (payloadPhase k rec) ws in
       x .octets
-      ∙ ap (λ (p : ℕ). octetsOf n (descramble (lastFirst (l .past)) (heard r 0 p ws))) (o .at-phase)
+      ∙ ap (λ (p : ℕ). octetsOf n (descramble (pastOf (l .past)) (heard r 0 p ws))) (o .at-phase)
       ∙ ap (octetsOf n)
-      (descramble-window (lastFirst (l .past)) (pastAfter (start k) (frontHeard k rec)) bits (o .past)
+      (descramble-window (pastOf (l .past)) (pastAfter (start k) (frontHeard k rec)) bits (o .past)
       ∙ sym (ap (drop (preambleLength k + headerLength)) (descramble-append (start k) (frontHeard k rec) bits)
       ∙ drop-at (descramble (start k) (frontHeard k rec)) (descramble (pastAfter (start k) (frontHeard k rec)) bits)
       (preambleLength k + headerLength)
