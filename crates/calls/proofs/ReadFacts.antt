@@ -95,13 +95,17 @@ turned : ℕ → ℕ → List ℕ → List ℕ
 turned at by chips =
     take at chips ++ (map (λ (p : ℕ). (p + by) % 4) (take 11 (drop at chips)) ++ drop (at + 11) chips)
 
--- good, at each rate; chips after the frame are not looked at
+-- good, at each rate; chips after the frame are not looked at; nor are SYNC bits compared, of a first symbol and of a
+-- sixth one turned by half; payloads of 00h to 03h, so that CCK symbols grow by anything
 pub good : List (List ℕ)
 good =
     read 0 2 (long ++ (9 ∷ 9 ∷ []))
     ∷ read 1 1 short
     ∷ read 1 1 (frame Short Two 0 (0x5A ∷ []))
     ∷ read 1 2 (frame Short Five 0 (0x5A ∷ 1 ∷ []))
+    ∷ read 1 1 (turned 0 2 short)
+    ∷ read 1 1 (turned 55 2 short)
+    ∷ read 1 4 (frame Short Eleven 0 (0 ∷ 1 ∷ 2 ∷ 3 ∷ []))
     ∷ []
 
 pub good-facts : good
@@ -109,6 +113,9 @@ pub good-facts : good
     ∷ (0 ∷ 0 ∷ 110 ∷ 1 ∷ 1 ∷ 1064 ∷ 60 ∷ [])
     ∷ (0 ∷ 0 ∷ 20 ∷ 4 ∷ 1 ∷ 1100 ∷ 90 ∷ [])
     ∷ (0 ∷ 0 ∷ 55 ∷ 3 ∷ 2 ∷ 1088 ∷ 90 ∷ 1 ∷ [])
+    ∷ (0 ∷ 0 ∷ 110 ∷ 1 ∷ 1 ∷ 1064 ∷ 60 ∷ [])
+    ∷ (0 ∷ 0 ∷ 110 ∷ 1 ∷ 1 ∷ 1064 ∷ 60 ∷ [])
+    ∷ (0 ∷ 0 ∷ 110 ∷ 3 ∷ 4 ∷ 1088 ∷ 0 ∷ 1 ∷ 2 ∷ 3 ∷ [])
     ∷ []
 unfolding
     good read refused fields long short wrong spoilt turned hardRecording
@@ -122,7 +129,7 @@ unfolding
 good-facts = refl
 
 -- refused, in the order of the checks, each alone and with its neighbour: 1; 1 and 7; 7; 7 and 8; 8 and 9; 8; 9 and 10,
--- the 9 at the part's end; 9 at chip 0; 10 in the preamble (a first symbol turned is seen in the second), in its last
+-- the 9 at the part's end; 9 at chip 0; two 9s; 10 in the preamble (a first symbol turned is seen in the second), in its last
 -- symbol, in an SFD that is then wrong, at the first symbol of a long header; 11; 12, of a short header whose
 -- first symbol grew by an odd step; 13, 14 and 15 of a recording that ends with its front; 16 and 17; 17 and 9; the
 -- payload's 9, its 9 and 10, and its 10
@@ -137,6 +144,7 @@ bad =
     ∷ refused 1 true 1 (take 1055 short)
     ∷ refused 0 true 1 (spoilt 2111 5 (turned 55 1 long))
     ∷ refused 1 true 1 (spoilt 0 5 short)
+    ∷ refused 1 true 1 (spoilt 700 5 (spoilt 900 255 short))
     ∷ refused 1 true 1 (turned 0 1 short)
     ∷ refused 1 true 1 (turned 55 3 short)
     ∷ refused 1 true 1 (turned 781 1 short)
@@ -164,6 +172,7 @@ pub bad-facts : bad
     ∷ (8 ∷ 0 ∷ 0 ∷ 0 ∷ 0 ∷ 0 ∷ [])
     ∷ (9 ∷ 2111 ∷ 0 ∷ 0 ∷ 0 ∷ 0 ∷ [])
     ∷ (9 ∷ 0 ∷ 0 ∷ 0 ∷ 0 ∷ 0 ∷ [])
+    ∷ (9 ∷ 700 ∷ 0 ∷ 0 ∷ 0 ∷ 0 ∷ [])
     ∷ (10 ∷ 11 ∷ 0 ∷ 0 ∷ 0 ∷ 0 ∷ [])
     ∷ (10 ∷ 55 ∷ 0 ∷ 0 ∷ 0 ∷ 0 ∷ [])
     ∷ (10 ∷ 781 ∷ 0 ∷ 0 ∷ 0 ∷ 0 ∷ [])
