@@ -129,8 +129,8 @@ unfolding
 good-facts = refl
 
 -- refused, in the order of the checks, each alone and with its neighbour: 1; 1 and 7; 7; 7 and 8; 8 and 9; 8; 9 and 10,
--- the 9 at the part's end; 9 at chip 0; two 9s; 10 in the preamble (a first symbol turned is seen in the second), in its last
--- symbol, in an SFD that is then wrong, at the first symbol of a long header; 11; 12, of a short header whose
+-- the 9 at the part's end; 9 at chip 0; two 9s; 10 in the preamble (a first symbol turned is seen in the second), in
+-- its last symbol, in an SFD that is then wrong, at the first symbol of a long header; 11; 12, of a short header whose
 -- first symbol grew by an odd step; 13, 14 and 15 of a recording that ends with its front; 16 and 17; 17 and 9; the
 -- payload's 9, its 9 and 10, and its 10
 pub bad : List (List ℕ)
