@@ -1,7 +1,7 @@
 -- Recordings read, computed from the definition and compared with what RULES 6 says of each: number, place, rate code,
 -- LENGTH, n, chips used. Each refusal, and each two neighbours in the order of checks that can be met together; the
 -- octet buffer after good and refused reads. The long frame carries A5h at 1 Mbit/s (LENGTH 8; 2,112 + 88 chips), the
--- short one 3Ch at 11 Mbit/s (LENGTH 1, bit 7 not set; 1,056 + 8 chips). Assumes nothing.
+-- short one 3Dh at 11 Mbit/s (LENGTH 1, bit 7 not set; 1,056 + 8 chips). Assumes nothing.
 use mathlib.Core.Path.{_≡_, refl}
 use mathlib.Core.Bool.{Bool, true, false}
 use mathlib.Core.List.{List, [], _∷_, _++_, map}
@@ -81,7 +81,7 @@ long : List ℕ
 long = frame Long One 2 (0xA5 ∷ [])
 
 short : List ℕ
-short = frame Short Eleven 3 (0x3C ∷ [])
+short = frame Short Eleven 3 (0x3D ∷ [])
 
 -- a short front with SIGNAL, SERVICE and LENGTH as given and a CRC that holds
 wrong : ℕ → ℕ → ℕ → List ℕ
@@ -95,27 +95,21 @@ turned : ℕ → ℕ → List ℕ → List ℕ
 turned at by chips =
     take at chips ++ (map (λ (p : ℕ). (p + by) % 4) (take 11 (drop at chips)) ++ drop (at + 11) chips)
 
--- good, at each rate; chips after the frame are not looked at; nor are SYNC bits compared, of a first symbol and of a
--- sixth one turned by half; payloads of 00h to 03h, so that CCK symbols grow by anything
+-- good, at each rate; chips after the frame are not looked at, nor are SYNC bits compared: the first and the sixth
+-- symbol of the short one are turned by half. Its payload symbol grows by an odd step, as CCK symbols may
 pub good : List (List ℕ)
 good =
     read 0 2 (long ++ (9 ∷ 9 ∷ []))
-    ∷ read 1 1 short
+    ∷ read 1 1 (turned 0 2 (turned 55 2 short))
     ∷ read 1 1 (frame Short Two 0 (0x5A ∷ []))
     ∷ read 1 2 (frame Short Five 0 (0x5A ∷ 1 ∷ []))
-    ∷ read 1 1 (turned 0 2 short)
-    ∷ read 1 1 (turned 55 2 short)
-    ∷ read 1 4 (frame Short Eleven 0 (0 ∷ 1 ∷ 2 ∷ 3 ∷ []))
     ∷ []
 
 pub good-facts : good
     ≡ (0 ∷ 0 ∷ 10 ∷ 8 ∷ 1 ∷ 2200 ∷ 165 ∷ 0 ∷ [])
-    ∷ (0 ∷ 0 ∷ 110 ∷ 1 ∷ 1 ∷ 1064 ∷ 60 ∷ [])
+    ∷ (0 ∷ 0 ∷ 110 ∷ 1 ∷ 1 ∷ 1064 ∷ 61 ∷ [])
     ∷ (0 ∷ 0 ∷ 20 ∷ 4 ∷ 1 ∷ 1100 ∷ 90 ∷ [])
     ∷ (0 ∷ 0 ∷ 55 ∷ 3 ∷ 2 ∷ 1088 ∷ 90 ∷ 1 ∷ [])
-    ∷ (0 ∷ 0 ∷ 110 ∷ 1 ∷ 1 ∷ 1064 ∷ 60 ∷ [])
-    ∷ (0 ∷ 0 ∷ 110 ∷ 1 ∷ 1 ∷ 1064 ∷ 60 ∷ [])
-    ∷ (0 ∷ 0 ∷ 110 ∷ 3 ∷ 4 ∷ 1088 ∷ 0 ∷ 1 ∷ 2 ∷ 3 ∷ [])
     ∷ []
 unfolding
     good read refused fields long short wrong spoilt turned hardRecording
