@@ -5,7 +5,7 @@ use mathlib.Core.Bool.{Bool, true, false, not, _&&_}
 use mathlib.Core.List.{List}
 use Prim.Native.Nat.{ℕ, zero, suc, _-_, _/_, _%_, _≤_}
 use native.Mathlib.Omega.{arith}
-use borrow.Author.Tests.{leb-true, eqb-true, le-ltb}
+use borrow.Author.Tests.{leb-true, eqb-true, lt-ltb, le-ltb, ne-eqb}
 use lib.Dec.{T, ltb, leb, eqb, nltb→le}
 use lib.ListN.{length, take, drop}
 use lib.IntN.{ℤ, pos, negsuc, natAbs}
@@ -65,7 +65,7 @@ use Rattle.promises.specs.Calls.{
   short-11,
   Sent,
 }
-use Rattle.promises.specs.Only.{OnlySent, Readable, OnlyReadable}
+use Rattle.promises.specs.Only.{OnlySent, Readable, OnlyReadable, RowsRefused}
 use Rattle.promises.proofs.Fills.{some-number, branch, elsewise}
 
 -- ---- tests
@@ -279,3 +279,9 @@ only-readable kind agree rec room a left read zero-is =
         → (agree ≡ true) × Readable kind (length rec) room (recordOf g)
     go (reading.Refused e) p z = absurd (some-number e z)
     go (reading.Good t used) p z = p
+
+-- ---- soft rows that differ
+pub rows-refused : RowsRefused
+unfolding readingOf
+rows-refused kind i q room a left h differ read =
+    read .answer ∙ simp (lt-ltb kind 2 h, ne-eqb (length i) (length q) differ)

@@ -1,17 +1,18 @@
 -- Nothing else is accepted: an answer with number 0 is given only where RULES 5.2, 5.8, 5.10 and 6.4 allow it, said in
 -- plain numbers. A kind, a code, a length or a phase more that writer and reader agreed on would break this.
 -- Definitions only. Assumes nothing.
-use Prim.Native.Nat.{ℕ, _+_, _*_, _≤_}
+use Prim.Native.Nat.{ℕ, _+_, _*_, _≤_, _<_}
 use mathlib.Core.Path.{_≡_}
 use mathlib.Core.Bool.{Bool, true}
 use mathlib.Core.List.{List}
 use lib.ListN.{length}
+use lib.Ieee.{Float}
 use Rattle.base.specs.Below.{Below}
 use Rattle.rates.specs.Rates.{rateOf, lengthField}
 use Rattle.chips.specs.Chips.{Taken}
 use Rattle.calls.specs.declared.Written.{Written}
 use Rattle.calls.specs.declared.Record.{Record}
-use Rattle.promises.specs.Calls.{Wrote, Read, Goes, Sent}
+use Rattle.promises.specs.Calls.{Wrote, Read, ReadSoft, Goes, Sent}
 
 -- a write that answers 0 had a kind and a rate that goes with it, 1 to 4,095 octets, a phase, and room for the frame
 abbrev pub OnlySent : Type 0
@@ -36,3 +37,10 @@ abbrev pub OnlyReadable : Type 0
 OnlyReadable =
     (kind : ℕ) (agree : Bool) (rec : List Taken) (room : ℕ) (a : Record) (left : List ℕ)
     → Read kind agree rec room a left → a .number ≡ 0 → (agree ≡ true) × Readable kind (length rec) room a
+
+-- soft rows that differ in length are refused with 7 under either kind, whatever is in them
+abbrev pub RowsRefused : Type 0
+RowsRefused =
+    (kind : ℕ) (i q : List Float) (room : ℕ) (a : Record) (left : List ℕ) → kind < 2
+    → (length i ≡ length q → ⊥) → ReadSoft kind i q room a left
+    → a ≡ record { number = 7; place = 0; rate = 0; length = 0; n = 0; used = 0 }

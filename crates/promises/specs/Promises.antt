@@ -22,7 +22,7 @@ use Rattle.frame.specs.TableP.{TableP}
 use Rattle.clean.specs.Clean.{Exactly, softI, softQ}
 use Rattle.promises.specs.Calls.{Wrote, Read, ReadHard, ReadSoft, Sent}
 use Rattle.promises.specs.Right.{RecordedRight, HardRight, SoftRight}
-use Rattle.promises.specs.Only.{OnlySent, OnlyReadable}
+use Rattle.promises.specs.Only.{OnlySent, OnlyReadable, RowsRefused}
 
 -- ---- demand 1: fills. The buffers keep their length; after a refusal only the fill, after a good answer the fill
 -- to the end
@@ -123,5 +123,6 @@ OneAnswer =
 -- ---- all of it
 abbrev pub Promised : Type 0
 Promised =
-    WriteFills × ReadFills × OnlySent × OnlyReadable × WrittenFrame × ReadBack × ReadBackSoft × NotReadBack × OneSource
+    WriteFills × ReadFills × OnlySent × OnlyReadable × RowsRefused
+    × WrittenFrame × ReadBack × ReadBackSoft × NotReadBack × OneSource
     × SoftRows × HalfACount × RecordedRight × HardRight × SoftRight × OneAnswer × TableP
