@@ -14,6 +14,8 @@ pub mod Signs
 pub mod Eight
 pub mod Crossed
 pub mod Wide
+pub mod Four
+pub mod Scaled
 pub mod Apart
 pub mod Demand3
 pub mod Facts
