@@ -282,7 +282,6 @@ static const int32_t hard_q[5] = {0, 1, 0, -1, 0};
 
 /* Both counts in one number, Q in its upper half: sums of them are sums of both. */
 static const int32_t hard_both[5] = {1, 1 << 16, -1, -(1 << 16), 0};
-static const int32_t hard_back[5] = {-(1 << 16), 1, 1 << 16, -1, 0}; /* a quarter turn back */
 
 /* False for a NaN too. */
 static inline int usable(float sample)
@@ -422,29 +421,40 @@ static inline unsigned choose_of_16(const int32_t a[4], const int32_t b[4])
     return number_of(best);
 }
 
-static inline unsigned choose_cck55_hard(const uint8_t *c)
+/* The choice from counts: chips 0 and 2, 4 and 6 are turned back for p2 = 1. */
+static inline uint8_t word_of_16(const int32_t *i, const int32_t *q)
 {
-    const int32_t both[4] = {hard_back[c[0]] + hard_back[c[2]], hard_back[c[4]] - hard_back[c[6]],
-                             hard_both[c[1]] - hard_both[c[3]], hard_both[c[5]] + hard_both[c[7]]};
-    int32_t a[4], b[4];
-
-    for (unsigned k = 0; k < 4; k++) {
-        a[k] = (int16_t)both[k];
-        b[k] = (both[k] - a[k]) / (1 << 16);
-    }
-    return choose_of_16(a, b);
-}
-
-static inline unsigned choose_cck55(const struct recording *r, int soft, size_t at)
-{
-    int32_t i[CCK], q[CCK];
-
-    if (!soft)
-        return choose_cck55_hard(r->chips + at);
-    take(r, 1, at, CCK, i, q);
     const int32_t a[4] = {q[0] + q[2], q[4] - q[6], i[1] - i[3], i[5] + i[7]};
     const int32_t b[4] = {-i[0] - i[2], i[6] - i[4], q[1] - q[3], q[5] + q[7]};
-    return choose_of_16(a, b);
+
+    return (uint8_t)choose_of_16(a, b);
+}
+
+/* The words of several symbols: a loop with nothing but sums and keys in it, so that compilers do several at once. A
+ * chip's counts are two comparisons here for the same reason, not a table. */
+static void choose_cck55_hard(const uint8_t *restrict chips, size_t symbols, uint8_t *restrict words)
+{
+    for (size_t s = 0; s < symbols; s++) {
+        int32_t i[CCK], q[CCK];
+        for (unsigned k = 0; k < CCK; k++) {
+            i[k] = (chips[CCK * s + k] == 0) - (chips[CCK * s + k] == 2);
+            q[k] = (chips[CCK * s + k] == 1) - (chips[CCK * s + k] == 3);
+        }
+        words[s] = word_of_16(i, q);
+    }
+}
+
+static void choose_cck55_soft(const float *restrict is, const float *restrict qs, size_t symbols,
+                              uint8_t *restrict words)
+{
+    for (size_t s = 0; s < symbols; s++) {
+        int32_t i[CCK], q[CCK];
+        for (unsigned k = 0; k < CCK; k++) {
+            i[k] = count(is[CCK * s + k]);
+            q[k] = count(qs[CCK * s + k]);
+        }
+        words[s] = word_of_16(i, q);
+    }
 }
 
 /* For each turn p: y and x turned back by p, for rows of `len`; the row of p stands at p * len. */
@@ -553,12 +563,24 @@ static int read_octets(struct reader *r, unsigned each, uint8_t *octets, size_t 
     return each == 1 ? read_barkers(r, 0, 1, octets, n) : read_barkers(r, 0, 2, octets, n);
 }
 
-static inline void read_55(struct reader *r, int soft, uint8_t *octets, size_t n)
+static void choose_cck55(const struct recording *r, size_t at, size_t symbols, uint8_t *words)
 {
+    if (r->i)
+        choose_cck55_soft(r->i + at, r->q + at, symbols, words);
+    else
+        choose_cck55_hard(r->chips + at, symbols, words);
+}
+
+static inline void read_55(struct reader *r, uint8_t *octets, size_t n)
+{
+    uint8_t words[2 * 32];
+
     for (size_t k = 0; k < n; k++) {
         unsigned in = 0;
+        if (k % 32 == 0)
+            choose_cck55(r->from, r->at, n - k < 32 ? 2 * (n - k) : 2 * 32, words);
         for (unsigned half = 0; half < 2; half++) {
-            unsigned word = choose_cck55(r->from, soft, r->at);
+            unsigned word = words[k % 32 * 2 + half];
             unsigned two = bits_of[(grow(r, word / 64, CCK) + 2 * half) & 3];
             in |= (two | (word >> 5 & 1) << 2 | (word >> 1 & 1) << 3) << 4 * half;
         }
@@ -587,10 +609,8 @@ static int read_payload(struct reader *r, const struct rate *rate, uint8_t *octe
 
     if (rate->symbol == BARKER)
         return read_octets(r, rate->each, octets, n);
-    if (rate->code == DSSS_RATE_5_5 && soft)
-        read_55(r, 1, octets, n);
-    else if (rate->code == DSSS_RATE_5_5)
-        read_55(r, 0, octets, n);
+    if (rate->code == DSSS_RATE_5_5)
+        read_55(r, octets, n);
     else if (soft)
         read_11(r, 1, octets, n);
     else
@@ -741,8 +761,10 @@ uint64_t plain_decide(uint64_t rate, const float *i, size_t i_len, const float *
         choose_barkers(&from, 1, 0, 1, &phase);
         return phase;
     }
-    if (rate == DSSS_RATE_5_5)
-        return choose_cck55(&from, 1, 0);
+    if (rate == DSSS_RATE_5_5) {
+        choose_cck55_soft(i, q, 1, &phase);
+        return phase;
+    }
     take(&from, 1, 0, CCK, i_counts, q_counts);
     return choose_cck11(i_counts, q_counts);
 }

@@ -1,6 +1,6 @@
 -- An octet through the scrambler and back, as a number: exclusive or of numbers is exclusive or of their bits, so that
--- an octet's eight outputs are the octet, the octet before it moved by 4 and by 1, and its first four outputs moved by 4
--- and its first by 7.
+-- an octet's eight outputs are the octet, the octet before it moved by 4 and by 1, and its first four outputs moved
+-- by 4 and its first by 7.
 --     scrambled-octet, unscrambled-number    the two ways
 -- Assumes nothing.
 use mathlib.Core.Path.{_≡_, refl, sym, ap, ap₂, _∙_}
@@ -234,5 +234,6 @@ pub unscrambled-number : (q x : ℕ) → q < 256 → x < 256
 unscrambled-number q x l m =
     sym
     (number-bits 8 _
-    (xor-lt 8 _ _ (xor-lt 8 _ _ (xor-lt 8 _ _ (xor-lt 8 _ _ m (sixteenth q l)) (half q l)) (omega arith)) (omega arith)))
+    (xor-lt 8 _ _ (xor-lt 8 _ _ (xor-lt 8 _ _ (xor-lt 8 _ _ m (sixteenth q l)) (half q l)) (omega arith))
+    (omega arith)))
     ∙ ap numberOf (unscrambled-octet q x l)

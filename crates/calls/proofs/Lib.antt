@@ -1,4 +1,4 @@
 pub mod ReadFacts
 pub mod WriteFacts
 pub mod HeaderFacts
-pub mod Accepted
+pub mod WriteGood

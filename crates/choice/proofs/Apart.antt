@@ -22,7 +22,7 @@ use Rattle.chips.specs.Axes.{along, unitOf, octetOf, AllHard}
 use Rattle.chips.proofs.Bounds.{counts-within}
 use Rattle.chips.proofs.Axes.{hard-counts}
 use Rattle.symbols.specs.Choice.{decided}
-use Rattle.choice.specs.Scores.{RowWithin}
+use Rattle.choosing.specs.Scores.{RowWithin}
 use Rattle.choice.specs.Sums.{bySigns, bestOfSums, rows}
 use Rattle.choice.proofs.Signs.{sums-decided}
 use Rattle.choice.proofs.Scaled.{Times, decided-times}

@@ -10,7 +10,7 @@ use lib.IntN.{ℤ, pos, negℤ, _+ℤ_, _-ℤ_, negℤ-+ℤ, negℤ-negℤ}
 use mir.Syntax.{Width}
 use mir.Val.{SFits, toZ, ofZ, hbits}
 use Rattle.base.proofs.Whole.{add, same, up-pos, dn-pos}
-use Rattle.choice.specs.Scores.{RowWithin}
+use Rattle.choosing.specs.Scores.{RowWithin}
 use Rattle.choice.proofs.Adding.{Reads, reads-of, reads-fits, reads-add, less-fits, reads-less}
 
 -- ---- sums of two, four and eight

@@ -19,13 +19,13 @@ use Rattle.chips.specs.declared.Counts.{Counts}
 use Rattle.chips.specs.Chips.{pair, nothing}
 use Rattle.chips.specs.Bounds.{Bounded}
 use Rattle.symbols.specs.Choice.{those, firstLargest, decided}
-use Rattle.choice.specs.Scores.{upTo, number5, scoreAt, AllBounded, RowWithin}
-use Rattle.choice.specs.Keys.{Largest}
+use Rattle.choosing.specs.Scores.{upTo, number5, scoreAt, AllBounded, RowWithin}
+use Rattle.choosing.specs.Keys.{Largest}
 use Rattle.choice.specs.Sums.{rows, sixteen, bestOfEight, keyAt}
-use Rattle.choice.proofs.Best.{first-map, first-ext}
-use Rattle.choice.proofs.Sixteen.{five-allowed}
+use Rattle.choosing.proofs.Best.{first-map, first-ext}
+use Rattle.choosing.proofs.Sixteen.{five-allowed}
 use Rattle.choice.proofs.Turned.{five-half, cck-within}
-use Rattle.choice.proofs.KeyLaws.{better, number-by}
+use Rattle.choosing.proofs.KeyLaws.{better, number-by}
 
 lower-is : (h : List ℤ) (j : ℕ) → j < 8 → sixteen h j ≡ getD h j (pos 0)
 lower-is h j l = ap (λ (b : Bool). cond b (getD h j (pos 0)) (negℤ (getD h (j - 8) (pos 0)))) (lt-ltb j 8 l)

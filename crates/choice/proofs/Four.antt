@@ -4,9 +4,9 @@ use mathlib.Core.Path.{_≡_, refl}
 use Prim.Native.Nat.{ℕ, zero, suc, _-_, _%_, _<_}
 use native.Mathlib.Omega.{arith}
 use lib.IntN.{ℤ}
-use Rattle.choice.specs.Keys.{keyOf, Largest}
+use Rattle.choosing.specs.Keys.{keyOf, Largest}
 use Rattle.choice.specs.Sums.{fourOf, bestOfSums}
-use Rattle.choice.proofs.KeyLaws.{Better, better, number-by}
+use Rattle.choosing.proofs.KeyLaws.{Better, better, number-by}
 
 module _ (i q : ℤ) where
   -- the keys of the phases 0 and 1, each the better of it and its opposite

@@ -7,7 +7,7 @@ use native.Mathlib.Decide.{decLt}
 use native.Mathlib.Omega.{arith}
 use lib.Dec.{T, ltb, ltb→lt, nltb→le}
 use lib.IntN.{ℤ, pos}
-use Rattle.choice.specs.Keys.{larger, bigger, Largest, HoldsLargest}
+use Rattle.choosing.specs.Keys.{larger, bigger, Largest, HoldsLargest}
 
 pub largest-one : (k : ℕ → ℕ) (a : ℕ) → Largest k a (suc a) (k a)
 largest-one k a = record {

@@ -1,14 +1,7 @@
-pub mod Small
 pub mod Adding
 pub mod Blocks
 pub mod Mirror
-pub mod Best
-pub mod Sixteen
-pub mod Decided
-pub mod Clean
-pub mod Near
 pub mod Turned
-pub mod KeyLaws
 pub mod KeyTops
 pub mod Signs
 pub mod Eight
@@ -17,5 +10,3 @@ pub mod Wide
 pub mod Four
 pub mod Scaled
 pub mod Apart
-pub mod Demand3
-pub mod Facts

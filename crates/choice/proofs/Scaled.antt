@@ -14,7 +14,7 @@ use Rattle.rates.specs.declared.Rate.{Rate}
 use Rattle.chips.specs.declared.Counts.{Counts}
 use Rattle.symbols.specs.Words.{wordOf}
 use Rattle.symbols.specs.Choice.{term, score, going, firstLargest, allowed, decided}
-use Rattle.choice.specs.Scores.{scoreAt}
+use Rattle.choosing.specs.Scores.{scoreAt}
 use Rattle.choice.proofs.Adding.{times-up, times-dn}
 
 abbrev pub k : ℤ → ℤ

@@ -26,10 +26,10 @@ use Rattle.chips.specs.Axes.{along, phaseOn}
 use Rattle.symbols.specs.Words.{barkerSigns, signChip, barkerWord}
 use Rattle.symbols.specs.Choice.{score, decided}
 use Rattle.symbols.proofs.Words.{barkerTurns}
-use Rattle.choice.specs.Scores.{RowWithin, scoreAt}
+use Rattle.choosing.specs.Scores.{RowWithin, scoreAt}
 use Rattle.choice.specs.Sums.{bySign, signed, bySigns, fourOf, bestOfSums}
 use Rattle.choice.proofs.Adding.{fits-at, reads-of}
-use Rattle.choice.proofs.Best.{first-ext}
+use Rattle.choosing.proofs.Best.{first-ext}
 use Rattle.choice.proofs.Turned.{barker-half}
 
 -- ---- the scores of the phases 0 and 1 are the sums of I and of Q

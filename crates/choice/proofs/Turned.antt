@@ -18,11 +18,11 @@ use Rattle.chips.specs.Chips.{nothing, turned}
 use Rattle.symbols.specs.Words.{barkerWord, cckWord, cckOf, p1Of, p2Of, p3Of, p4Of}
 use Rattle.symbols.specs.Choice.{term, score}
 use Rattle.symbols.proofs.Words.{Phases, phases-tail, cck-phases, cck-length, barker-phases}
-use Rattle.choice.specs.Scores.{AllBounded, Smalls, RowWithin, number5}
+use Rattle.choosing.specs.Scores.{AllBounded, Smalls, RowWithin, number5}
 use Rattle.choice.specs.Turns.{turnAt, addFour, slid, placed}
-use Rattle.choice.proofs.Small.{term-within, score-within}
-use Rattle.choice.proofs.Clean.{phase}
-use Rattle.choice.proofs.Sixteen.{five-lower, five-upper}
+use Rattle.choosing.proofs.Small.{term-within, score-within}
+use Rattle.choosing.proofs.Clean.{phase}
+use Rattle.choosing.proofs.Sixteen.{five-lower, five-upper}
 
 abbrev row : List Counts → List ℤ
 row cs = tabulate (turnAt cs) 64

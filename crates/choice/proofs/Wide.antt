@@ -11,7 +11,7 @@ use lib.IntN.{ℤ, pos, negsuc, negℤ, natAbs, _+ℤ_, _*ℤ_}
 use lib.Signed.{ltZ}
 use Rattle.base.specs.Whole.{up, dn, Within}
 use Rattle.base.proofs.Whole.{add}
-use Rattle.choice.specs.Keys.{keyOf}
+use Rattle.choosing.specs.Keys.{keyOf}
 use Rattle.choice.proofs.Adding.{times-up, times-dn}
 
 pub abs-below : (z : ℤ) → ltZ z (pos 0) ≡ true → negℤ z ≡ pos (natAbs z)

@@ -1,6 +1,2 @@
-pub mod Scores
-pub mod Agreement
-pub mod Demand3
 pub mod Turns
-pub mod Keys
 pub mod Sums

@@ -11,8 +11,8 @@ use Rattle.chips.specs.declared.Counts.{Counts}
 use Rattle.chips.specs.Chips.{pair}
 use Rattle.symbols.specs.Words.{barkerSigns}
 use Rattle.symbols.specs.Choice.{term, firstLargest}
-use Rattle.choice.specs.Scores.{upTo}
-use Rattle.choice.specs.Keys.{keyOf}
+use Rattle.choosing.specs.Scores.{upTo}
+use Rattle.choosing.specs.Keys.{keyOf}
 
 abbrev pub bySign : Bool → ℤ → ℤ
 bySign true z = z

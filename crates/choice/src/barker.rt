@@ -2,7 +2,7 @@
 use super::keys;
 ghost use mathlib.Core.Path.{_≡_};
 ghost use Rattle.base.specs.Whole.{Within};
-ghost use Rattle.choice.specs.Scores.{RowWithin};
+ghost use Rattle.choosing.specs.Scores.{RowWithin};
 ghost use Rattle.choice.specs.Sums.{bySigns, bestOfSums};
 
 // The sum of eleven counts by the signs of a Barker symbol.

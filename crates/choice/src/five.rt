@@ -6,8 +6,8 @@ ghost use mathlib.Core.Path.{_≡_};
 ghost use Prim.Native.Nat.{_<_};
 ghost use Rattle.base.specs.Tables.{tabulate};
 ghost use Rattle.symbols.specs.Choice.{decided};
-ghost use Rattle.choice.specs.Scores.{RowWithin, scoreAt, number5};
-ghost use Rattle.choice.specs.Keys.{HoldsLargest};
+ghost use Rattle.choosing.specs.Scores.{RowWithin, scoreAt, number5};
+ghost use Rattle.choosing.specs.Keys.{HoldsLargest};
 ghost use Rattle.choice.specs.Sums.{rows, keyAt, bestOfEight};
 
 // The scores of the first eight allowed words, in the order of their numbers.

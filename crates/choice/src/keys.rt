@@ -7,7 +7,7 @@ ghost use lib.Dec.{T};
 ghost use lib.IntN.{pos, natAbs};
 ghost use lib.Signed.{nonNeg};
 ghost use Rattle.base.specs.Whole.{Within};
-ghost use Rattle.choice.specs.Keys.{larger, keyOf};
+ghost use Rattle.choosing.specs.Keys.{larger, keyOf};
 
 // The magnitude of s.
 fn abs(s: i32) -> i32

@@ -9,7 +9,7 @@ ghost use lib.ListN.{length, getD};
 ghost use lib.IntN.{pos};
 ghost use Rattle.chips.specs.Chips.{countsOf};
 ghost use Rattle.symbols.specs.Choice.{decided};
-ghost use Rattle.choice.specs.Scores.{Smalls, placeOfLargest};
+ghost use Rattle.choosing.specs.Scores.{Smalls, placeOfLargest};
 
 mod barker;
 mod five;

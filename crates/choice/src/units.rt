@@ -7,8 +7,8 @@ ghost use Prim.Native.Nat.{_+_, _*_, _-_, _%_, _<_, _≤_};
 ghost use Rattle.base.specs.Whole.{Within};
 ghost use Rattle.base.specs.Tables.{tabulate};
 ghost use Rattle.symbols.specs.Choice.{decided};
-ghost use Rattle.choice.specs.Scores.{RowWithin, scoreAt, number5};
-ghost use Rattle.choice.specs.Keys.{bigger, keyOf, Largest};
+ghost use Rattle.choosing.specs.Scores.{RowWithin, scoreAt, number5};
+ghost use Rattle.choosing.specs.Keys.{bigger, keyOf, Largest};
 ghost use Rattle.choice.specs.Sums.{bySigns, bestOfSums, rows, keyAt};
 
 // The larger of two.

@@ -16,7 +16,7 @@ use Rattle.chips.specs.Chips.{Taken, takenCounts, fullChip}
 use Rattle.symbols.specs.Words.{wordOf}
 use Rattle.symbols.specs.Choice.{decided}
 use Rattle.symbols.proofs.Words.{word-length}
-use Rattle.choice.proofs.Clean.{decided-clean}
+use Rattle.choosing.proofs.Clean.{decided-clean}
 use Rattle.calls.specs.Reading.{firstUnusable, decidedWords}
 use Rattle.bits.specs.Code.{wordsChips}
 use Rattle.clean.specs.Clean.{cleanTaken, cleanRecording}

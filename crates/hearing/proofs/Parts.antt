@@ -22,7 +22,7 @@ use Rattle.rates.specs.Rates.{symbolChips, symbolBits, octetSymbols, octetChips
 use Rattle.rates.proofs.Octets.{part-symbols, part-chips, part-bits}
 use Rattle.chips.specs.Chips.{Taken, takenCounts}
 use Rattle.symbols.specs.Choice.{numbers, decided}
-use Rattle.choice.proofs.Decided.{decided-below}
+use Rattle.choosing.proofs.Decided.{decided-below}
 use Rattle.bits.specs.Bits.{bitsOf, octetsOf}
 use Rattle.bits.specs.Growths.{heard, growthsOf, lastHeard}
 use Rattle.bits.specs.Scrambler.{descramble}
@@ -104,7 +104,7 @@ sum Two i j = omega arith
 sum Five i j = omega arith
 sum Eleven i j = omega arith
 
-part-more : (r : Rate) (at i j : ℕ) (rec : List Taken)
+pub part-more : (r : Rate) (at i j : ℕ) (rec : List Taken)
     → partWords r at (i + j) rec ≡ partWords r at i rec ++ partWords r (at + octetChips r * i) j rec
 part-more r at i j rec =
     rw (
@@ -161,7 +161,7 @@ module _ (r : Rate) (at : ℕ) (l : Line) (a b : List ℕ) (h : Hearing) (even :
       ∙ sym (descramble-take 8 (pastAfter p (received r l a)) (received r (h .line) b) (omega arith))
       ∙ ap (λ (q : List ℕ). descramble q (received r (h .line) b)) (sym (x .past)))
 
-  blocks-octets : (i j : ℕ) → length a ≡ octetSymbols r * i
+  pub blocks-octets : (i j : ℕ) → length a ≡ octetSymbols r * i
       → plainOctets r (i + j) l (a ++ b) ≡ plainOctets r i l a ++ plainOctets r j (h .line) b
   blocks-octets i j size =
       ap (octetsOf (i + j)) blocks-bits

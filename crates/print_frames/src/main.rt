@@ -1,5 +1,6 @@
 // Frames of both kinds at every rate, LENGTH and bit 7, and a header's CRC, printed. Nothing is proved of
 // what a program writes but that it is safe and ends; what it writes is compared with the file stdout.
+use calls::Written;
 use libc::STDOUT_FILENO;
 use rates::Rate;
 ghost use Prim.Native.Nat.{_≤_};
@@ -51,11 +52,11 @@ fn print_given(kind: u64, rate: u64, phase: u64) {
     io::print_decimal(STDOUT_FILENO, phase);
 }
 
-fn print_answer(number: u64, chips: u64, all: u64) {
+fn print_answer(written: Written, all: u64) {
     io::write_all(STDOUT_FILENO, b": number ");
-    io::print_decimal(STDOUT_FILENO, number);
+    io::print_decimal(STDOUT_FILENO, written.number);
     io::write_all(STDOUT_FILENO, b", chips ");
-    io::print_decimal(STDOUT_FILENO, chips);
+    io::print_decimal(STDOUT_FILENO, written.chips);
     io::write_all(STDOUT_FILENO, b", all ");
     io::print_decimal(STDOUT_FILENO, all);
     io::write_all(STDOUT_FILENO, b"\n");
@@ -67,7 +68,7 @@ fn print_frame(kind: u64, rate: u64, phase: u64) {
     let mut chips = [0u8; 4300];
     let written = writer::write(kind, rate, phase, &payload, &mut chips);
     print_given(kind, rate, phase);
-    print_answer(written.number, written.chips, folded(&chips));
+    print_answer(written, folded(&chips));
     print_chips(kind, &chips);
 }
 

@@ -59,7 +59,7 @@ use Rattle.calls.specs.Reading.{
   octetsAfter,
   octetsFound,
 }
-use Rattle.calls.proofs.Accepted.{accepted}
+use Rattle.calls.proofs.WriteGood.{accepted}
 use Rattle.promises.specs.Promises.{WriteFills, ReadFills}
 
 -- every refusal has a number other than 0

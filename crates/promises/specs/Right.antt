@@ -24,7 +24,7 @@ use Rattle.chips.specs.Chips.{
   hardRecording,
   softRecording,
 }
-use Rattle.choice.specs.Demand3.{RightUpTo, Apart}
+use Rattle.choosing.specs.Demand3.{RightUpTo, Apart}
 use Rattle.frame.specs.declared.Kind.{Kind}
 use Rattle.frame.specs.Frame.{headerRate, frontChips, frameChips, preambleLength, headerLength, preambleChips}
 use Rattle.calls.specs.Reading.{preambleWords, headerWords, payloadWords}

@@ -1,4 +1,2 @@
-pub mod Fronts
-pub mod Payloads
+pub mod Behind
 pub mod Order
-pub mod Sizes

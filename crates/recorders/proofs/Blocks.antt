@@ -13,7 +13,7 @@ use Rattle.rates.specs.Rates.{symbolChips}
 use Rattle.chips.specs.declared.Chip.{Chip}
 use Rattle.chips.specs.Chips.{countsOf, Taken}
 use Rattle.symbols.specs.Choice.{decided}
-use Rattle.choice.proofs.Decided.{decided-barker}
+use Rattle.choosing.proofs.Decided.{decided-barker}
 use Rattle.recorders.specs.Rows.{symbolAt, DecidedAt}
 
 module _ (r : Rate) (rec : List Taken) (at m : ℕ) where

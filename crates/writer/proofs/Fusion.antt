@@ -34,9 +34,9 @@ use Rattle.frame.specs.Frame.{
   frame,
   sentHeader,
 }
-use Rattle.sender.specs.Sending.{run}
-use Rattle.sender.proofs.Run.{length-run}
-use Rattle.sender.proofs.Sent.{after, Agree, sent, allSymbols, symbolsOf-octets}
+use Rattle.sending.specs.Sending.{run}
+use Rattle.sending.proofs.Run.{length-run}
+use Rattle.sending.proofs.Sent.{after, Agree, sent, allSymbols, symbolsOf-octets}
 use Rattle.writer.specs.Parts.{preambleOctets, firstState, afterPreamble, frontSent, afterFront}
 
 pub preamble-octets : (k : Kind) → octetBits (preambleOctets k) ≡ preambleBits k

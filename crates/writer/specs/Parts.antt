@@ -7,7 +7,7 @@ use Rattle.rates.specs.declared.Rate.the-variants.{One}
 use Rattle.frame.specs.declared.Kind.{Kind}
 use Rattle.frame.specs.declared.Kind.the-variants.{Long, Short}
 use Rattle.frame.specs.Frame.{start, headerRate}
-use Rattle.sender.specs.Sending.{State, run, ran}
+use Rattle.sending.specs.Sending.{State, run, ran}
 
 -- SYNC and SFD as octets
 unfoldable pub preambleOctets : Kind → List ℕ

@@ -13,8 +13,8 @@ ghost use Rattle.base.specs.Over.{over};
 ghost use Rattle.frame.specs.Frame.{preambleChips, frontChips, frameChips, frame};
 ghost use Rattle.calls.specs.Writing.{writingOf, chipsWritten};
 ghost use Rattle.calls.specs.Answers.{writtenOf};
-ghost use Rattle.sender.specs.Sending.{run, ran};
-ghost use Rattle.sender.specs.Line.{state};
+ghost use Rattle.sending.specs.Sending.{run, ran};
+ghost use Rattle.sending.specs.Line.{state};
 ghost use Rattle.writer.specs.Parts.{preambleOctets, firstState, frontSent, afterFront};
 
 // The preambles' octets: SYNC, then SFD.
@@ -66,11 +66,11 @@ fn put_preamble(k: Kind, l: Line, chips: &mut [u8]) -> Line
     match k {
         Kind::Long => {
             let octets = LONG;
-            sender::put_octets(Rate::One, l, &octets, chips)
+            sending::put_octets(Rate::One, l, &octets, chips)
         }
         Kind::Short => {
             let octets = SHORT;
-            sender::put_octets(Rate::One, l, &octets, chips)
+            sending::put_octets(Rate::One, l, &octets, chips)
         }
     }
 }
@@ -84,7 +84,7 @@ pub fn put_front(k: Kind, p: u8, header: &[u8], chips: &mut [u8]) -> Line
     let l0 = first_line(k, p);
     let l1 = put_preamble(k, l0, chips);
     let at = frame::preamble_chips(k);
-    sender::put_octets(frame::header_rate(k), l1, header, &mut chips[at..])
+    sending::put_octets(frame::header_rate(k), l1, header, &mut chips[at..])
 }
 
 // The whole frame, and 4s to the buffer's end.
@@ -97,7 +97,7 @@ fn put_frame(k: Kind, r: Rate, p: u8, payload: &[u8], count: usize, chips: &mut 
     let header = header::header_octets(r, payload.len());
     let l = put_front(k, p, &header, chips);
     let at = frame::front_chips(k);
-    sender::put_octets(r, l, payload, &mut chips[at..]);
+    sending::put_octets(r, l, payload, &mut chips[at..]);
     rows::fill(&mut chips[count..], 4);
 }
 

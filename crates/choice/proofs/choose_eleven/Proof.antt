@@ -6,9 +6,9 @@ use lib.Dec.{lit<}
 use borrow.Author.Needs.{needs}
 use Rattle.rates.specs.declared.Rate.the-variants.{Eleven}
 use Rattle.symbols.specs.Choice.{decided}
-use Rattle.choice.specs.Scores.{scoreAt}
-use Rattle.choice.proofs.Best.{place-table}
-use Rattle.choice.proofs.Decided.{decided-below}
+use Rattle.choosing.specs.Scores.{scoreAt}
+use Rattle.choosing.proofs.Best.{place-table}
+use Rattle.choosing.proofs.Decided.{decided-below}
 use Rattle.choice.proofs.choose_eleven.Statement.{statement}
 use Rattle.choice.proofs.choose_eleven.Tie as tie
 

@@ -4,7 +4,7 @@ use mathlib.Core.Path.{ap, _∙_}
 use borrow.Author.Needs.{needs}
 use Rattle.rates.specs.declared.Rate.the-variants.{Eleven}
 use Rattle.symbols.specs.Choice.{decided}
-use Rattle.choice.proofs.Small.{chips-small}
+use Rattle.choosing.proofs.Small.{chips-small}
 use Rattle.choice.proofs.decide_eleven.Statement.{statement}
 use Rattle.choice.proofs.decide_eleven.Tie as tie
 

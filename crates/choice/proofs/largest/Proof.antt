@@ -12,8 +12,8 @@ use lib.ListN.{length, getD}
 use lib.IntN.{pos}
 use lib.Signed.{ltZ, ltZ-yes, ltZ-no}
 use borrow.Author.Needs.{needs}
-use Rattle.choice.specs.Scores.{placeOfLargest}
-use Rattle.choice.proofs.Best.{place-best, place-after, place-here}
+use Rattle.choosing.specs.Scores.{placeOfLargest}
+use Rattle.choosing.proofs.Best.{place-best, place-after, place-here}
 use Rattle.choice.proofs.largest.Statement.{statement}
 use Rattle.choice.proofs.largest.Tie as tie
 

@@ -10,8 +10,8 @@ use lib.IntN.{pos}
 use native.Mathlib.Omega.{arith}
 use borrow.Author.Needs.{needs}
 use Rattle.symbols.specs.Choice.{firstLargest}
-use Rattle.choice.specs.Scores.{upTo, placeOfLargest}
-use Rattle.choice.proofs.Best.{Topped, topped-one, topped-up, topped-on}
+use Rattle.choosing.specs.Scores.{upTo, placeOfLargest}
+use Rattle.choosing.proofs.Best.{Topped, topped-one, topped-up, topped-on}
 use Rattle.choice.proofs.top_of.Statement.{statement}
 use Rattle.choice.proofs.top_of.Tie as tie
 

@@ -5,39 +5,38 @@ use mathlib.Core.List.{List}
 use Prim.Native.Nat.{ℕ, _≤_}
 use lib.ListN.{length, replicate}
 use borrow.Author.Tests.{not-true, not-false}
-use Rattle.rates.specs.declared.Rate.{Rate}
 use Rattle.chips.specs.Chips.{Taken}
 use Rattle.frame.specs.declared.Kind.{Kind}
+use Rattle.frame.specs.Frame.{isKind, frameChips}
+use Rattle.calls.specs.declared.Told.{Told}
 use Rattle.calls.specs.declared.Reading.{Reading}
 use Rattle.calls.specs.declared.Front.the-variants.{Fields}
-use Rattle.frame.specs.Frame.{isKind}
-use Rattle.calls.specs.Reading.{frontOf, payloadReading, octetsAfter}
+use Rattle.calls.specs.Reading.{payloadReading, octetsAfter}
+use Rattle.fronts.specs.declared.Opening.{Opening}
+use Rattle.fronts.specs.Openings.{Opened, OpensWhole}
 use borrow.Author.Needs.{needs}
-use Rattle.reader.specs.declared.Opening.{Opening}
-use Rattle.reader.specs.Openings.{Opened, Opens}
 use Rattle.reader.proofs.Order.{read-no-kind, read-rows, read-refused, read-told}
-use Rattle.reader.proofs.Sizes.{front-bound}
 use Rattle.reader.proofs.read.Statement.{statement}
 use Rattle.reader.proofs.read.Tie as tie
 
 -- what a front that tells fields hands on to the payload
-handed : (k : Kind) (rec : List Taken) (o : Opening) (r : Rate) (l n : ℕ) (d z : List ℕ) → Opens k rec (frontOf k rec) o
-    → o .front ≡ Fields r l n
-    → z ≡ replicate (length d) 0 → length z ≡ length d
-    → (n ≤ 4095) × (Opened k rec (o .line)) × (z ≡ replicate (length z) 0)
-handed k rec o r l n d z x t e f =
-    (front-bound k rec r l n (sym (x .told) ∙ t), x .line r l n t, e ∙ ap (λ (m : ℕ). replicate m 0) (sym f))
+handed : (k : Kind) (rec : List Taken) (o : Opening) (t : Told) (d z : List ℕ) → OpensWhole k rec o
+    → o .front ≡ Fields t → z ≡ replicate (length d) 0 → length z ≡ length d
+    → (t .n ≤ 4095) × (frameChips k (t .rate) (t .n) ≤ length rec) × (Opened k rec (o .line))
+    × (z ≡ replicate (length z) 0)
+handed k rec o t d z x w e f =
+    (x .few t w, x .chips t w, x .line t w, e ∙ ap (λ (m : ℕ). replicate m 0) (sym f))
 
 -- the buffer is as long as it was
-as-long : (k : Kind) (r : Rate) (l n : ℕ) (rec : List Taken) (g : Reading) (out : List ℕ) (m room : ℕ) → m ≡ room
-    → (g ≡ payloadReading k r l n rec m) × (out ≡ octetsAfter k rec m g)
-    → (g ≡ payloadReading k r l n rec room) × (out ≡ octetsAfter k rec room g)
-as-long k r l n rec g out m room e h =
-    subst (λ (i : ℕ). (g ≡ payloadReading k r l n rec i) × (out ≡ octetsAfter k rec i g)) e h
+as-long : (k : Kind) (t : Told) (rec : List Taken) (g : Reading) (out : List ℕ) (m room : ℕ) → m ≡ room
+    → (g ≡ payloadReading k t rec m) × (out ≡ octetsAfter k rec m g)
+    → (g ≡ payloadReading k t rec room) × (out ≡ octetsAfter k rec room g)
+as-long k t rec g out m room e h =
+    subst (λ (i : ℕ). (g ≡ payloadReading k t rec i) × (out ≡ octetsAfter k rec i g)) e h
 
 returns : tie.Need-returns
 returns c = read-no-kind _ _ _ _ _ (sym (c .before .is-kind .ensures) ∙ not-true _ (c .if1 .taken))
-    (c .before .before .before .before .clear .ensures)
+    (c .before .before .before .before .fill .ensures)
 
 -- past refusal 1
 kind-holds : (c : tie.Else1) → isKind
@@ -48,15 +47,15 @@ returns-2 : tie.Need-returns-2
 returns-2 c =
     let first = c .before in
     read-rows _ _ _ _ _ (kind-holds first) (not-true _ (c .if2 .taken))
-    (first .before .before .before .before .clear .ensures)
+    (first .before .before .before .before .fill .ensures)
 
 read-payload-requires : tie.Need-read-payload-requires
 read-payload-requires c κs =
     let opened = c .before .before .before .before .before in
     let cleared = opened .before .before .before .before .before .before .before in
-    handed _ _ _ _ _ _ (cleared .before .before .before .before .before .before .args .octets .now) _
-    (opened .read-front .ensures) (c .before .before .before .told2 .given .1)
-    (cleared .clear .ensures) (cleared .clear .kept .0)
+    handed _ _ _ _ (cleared .before .before .before .before .before .before .args .octets .now) _
+    (opened .read-whole .ensures) (c .before .before .before .told2 .given .1)
+    (cleared .fill .ensures) (cleared .fill .kept .0)
 
 returns-3 : tie.Need-returns-3
 returns-3 c =
@@ -64,19 +63,19 @@ returns-3 c =
     let second = opened .before .before in
     read-refused _ _ _ _ (kind-holds (second .before)) (not-false _ (second .if2 .left)) _
     (opened .before .kind-of .ensures) _
-    (opened .read-front .ensures) _ _ (c .before .told .given .1)
-    (opened .before .before .before .before .before .before .before .clear .ensures)
+    (opened .read-whole .ensures) _ _ (c .before .told .given .1)
+    (opened .before .before .before .before .before .before .before .fill .ensures)
 
 returns-4 : tie.Need-returns-4
 returns-4 c =
     let opened = c .before .before .before .before .before .before .before .before in
     let second = opened .before .before in
-    let left = as-long _ _ _ _ _ _ _ _ _
-    (opened .before .before .before .before .before .before .before .clear .kept .0)
+    let left = as-long _ _ _ _ _ _ _
+    (opened .before .before .before .before .before .before .before .fill .kept .0)
     (c .before .before .read-payload .ensures) in
     read-told _ _ _ _ (kind-holds (second .before)) (not-false _ (second .if2 .left)) _
     (opened .before .kind-of .ensures) _
-    (opened .read-front .ensures) _ _ _ _ _ (c .before .before .before .before .before .before .told2 .given .1)
+    (opened .read-whole .ensures) _ _ _ (c .before .before .before .before .before .before .told2 .given .1)
     (left .0) (left .1)
 
 pub read-spec : {M : Type 1} → statement M

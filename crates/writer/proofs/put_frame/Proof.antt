@@ -12,8 +12,8 @@ use Rattle.rates.specs.declared.Rate.{Rate}
 use Rattle.bits.specs.Bits.{octetBits}
 use Rattle.frame.specs.declared.Kind.{Kind}
 use Rattle.frame.specs.Frame.{frontChips, frameChips, sentHeader, frame}
-use Rattle.sender.specs.Sending.{State, run}
-use Rattle.sender.proofs.Run.{length-run}
+use Rattle.sending.specs.Sending.{State, run}
+use Rattle.sending.proofs.Run.{length-run}
 use Rattle.writer.specs.Parts.{frontSent, afterFront}
 use Rattle.writer.proofs.Fusion.{frame-parts, length-front}
 use Rattle.writer.proofs.put_frame.Statement.{statement}

@@ -17,8 +17,8 @@ use Rattle.rates.specs.Rates.{octetChips}
 use Rattle.frame.specs.declared.Kind.{Kind}
 use Rattle.frame.specs.declared.Kind.the-variants.{Long, Short}
 use Rattle.frame.specs.Frame.{preambleChips, headerRate, frontChips}
-use Rattle.sender.specs.Sending.{State, run, ran}
-use Rattle.sender.proofs.Run.{length-run}
+use Rattle.sending.specs.Sending.{State, run, ran}
+use Rattle.sending.proofs.Run.{length-run}
 use Rattle.writer.specs.Parts.{preambleOctets, firstState, afterPreamble, frontSent, afterFront}
 use Rattle.writer.proofs.put_front.Statement.{statement}
 use Rattle.writer.proofs.put_front.Tie as tie

@@ -6,7 +6,7 @@ use borrow.Author.Needs.{needs}
 use Rattle.base.specs.Over.{over}
 use Rattle.rates.specs.declared.Rate.the-variants.{One}
 use Rattle.frame.specs.declared.Kind.{Kind}
-use Rattle.sender.specs.Sending.{State, run, ran}
+use Rattle.sending.specs.Sending.{State, run, ran}
 use Rattle.frame.specs.Frame.{preambleChips}
 use Rattle.writer.specs.Parts.{preambleOctets}
 use Rattle.writer.proofs.put_preamble.Statement.{statement}

@@ -14,7 +14,7 @@ use Rattle.calls.specs.declared.Written.{Written}
 use Rattle.frame.specs.Frame.{frame}
 use Rattle.calls.specs.Writing.{writingOf, chipsWritten}
 use Rattle.calls.specs.Answers.{writtenOf}
-use Rattle.calls.proofs.Accepted.{accepted}
+use Rattle.calls.proofs.WriteGood.{accepted}
 use Rattle.writer.proofs.write.Statement.{statement}
 use Rattle.writer.proofs.write.Tie as tie
 

@@ -10,7 +10,7 @@ use mir.Val.{toZ, ofZ}
 use borrow.Author.Needs.{needs}
 use Rattle.base.specs.Whole.{Within}
 use Rattle.base.proofs.Whole.{small}
-use Rattle.choice.specs.Keys.{larger, keyOf, HoldsLargest}
+use Rattle.choosing.specs.Keys.{larger, keyOf, HoldsLargest}
 use Rattle.choice.proofs.Four.{sumKey, phase-by}
 use Rattle.choice.proofs.KeyTops.{holds-one, holds-both}
 use Rattle.choice.proofs.barker.choose.Statement.{statement}

@@ -11,8 +11,8 @@ use mir.Val.{toZ, ofZ}
 use borrow.Author.Needs.{needs}
 use Rattle.base.specs.Whole.{Within}
 use Rattle.base.proofs.Whole.{small, within-more}
-use Rattle.choice.specs.Scores.{RowWithin}
-use Rattle.choice.specs.Keys.{larger, keyOf, HoldsLargest}
+use Rattle.choosing.specs.Scores.{RowWithin}
+use Rattle.choosing.specs.Keys.{larger, keyOf, HoldsLargest}
 use Rattle.choice.specs.Sums.{keyAt}
 use Rattle.choice.proofs.KeyTops.{holds-one, holds-both}
 use Rattle.choice.proofs.five.largest.Statement.{statement}

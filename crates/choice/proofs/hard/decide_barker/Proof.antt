@@ -4,7 +4,7 @@ use mathlib.Core.Path.{_≡_, sym, _∙_, subst}
 use lib.ListN.{length}
 use borrow.Author.Needs.{needs}
 use Rattle.chips.specs.declared.Axis.the-variants.{I, Q}
-use Rattle.choice.specs.Scores.{RowWithin}
+use Rattle.choosing.specs.Scores.{RowWithin}
 use Rattle.choice.specs.Sums.{bySigns, bestOfSums}
 use Rattle.choice.proofs.Apart.{units-small, units-barker}
 use Rattle.choice.proofs.hard.decide_barker.Statement.{statement}

@@ -6,7 +6,7 @@ use borrow.Author.Needs.{needs}
 use Rattle.rates.specs.declared.Rate.the-variants.{Five}
 use Rattle.chips.specs.declared.Axis.the-variants.{I, Q}
 use Rattle.symbols.specs.Choice.{decided}
-use Rattle.choice.specs.Scores.{RowWithin}
+use Rattle.choosing.specs.Scores.{RowWithin}
 use Rattle.choice.specs.Sums.{rows}
 use Rattle.choice.proofs.Apart.{units-small, units-five}
 use Rattle.choice.proofs.hard.decide_five.Statement.{statement}

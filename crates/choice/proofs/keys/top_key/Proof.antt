@@ -10,7 +10,7 @@ use mir.Val.{toZ, ofZ}
 use borrow.Author.Needs.{needs}
 use Rattle.base.specs.Whole.{Within}
 use Rattle.base.proofs.Whole.{small}
-use Rattle.choice.specs.Keys.{larger, keyOf}
+use Rattle.choosing.specs.Keys.{larger, keyOf}
 use Rattle.choice.proofs.Adding.{held}
 use Rattle.choice.proofs.Wide.{key-small}
 use Rattle.choice.proofs.keys.top_key.Statement.{statement}

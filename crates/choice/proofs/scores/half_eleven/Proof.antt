@@ -14,7 +14,7 @@ use Rattle.base.specs.Tables.{Filled}
 use Rattle.base.proofs.Tables.{filled-none, filled-all, getD-tabulate, tabulate-ext}
 use Rattle.rates.specs.declared.Rate.the-variants.{Eleven}
 use Rattle.symbols.specs.Words.{cckOf}
-use Rattle.choice.specs.Scores.{scoreAt}
+use Rattle.choosing.specs.Scores.{scoreAt}
 use Rattle.choice.specs.Turns.{slid, placed}
 use Rattle.choice.proofs.Blocks.{filled-then, filled-to}
 use Rattle.choice.proofs.Turned.{at-within, slid-at, placed-at}

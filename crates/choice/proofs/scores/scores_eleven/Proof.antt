@@ -5,7 +5,7 @@ use mathlib.Core.Path.{refl}
 use Prim.Native.Nat.{_-_}
 use borrow.Author.Needs.{needs}
 use Rattle.rates.specs.declared.Rate.the-variants.{Eleven}
-use Rattle.choice.specs.Scores.{scoreAt}
+use Rattle.choosing.specs.Scores.{scoreAt}
 use Rattle.choice.proofs.Blocks.{halves-none}
 use Rattle.choice.proofs.Mirror.{Mirrored, mirror-fits, mirror-more, mirror-all}
 use Rattle.choice.proofs.Turned.{cck-half, cck-within}

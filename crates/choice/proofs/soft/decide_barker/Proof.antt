@@ -3,7 +3,7 @@
 use mathlib.Core.Path.{sym, _∙_, subst}
 use borrow.Author.Needs.{needs}
 use Rattle.chips.specs.declared.Axis.the-variants.{I, Q}
-use Rattle.choice.specs.Scores.{RowWithin}
+use Rattle.choosing.specs.Scores.{RowWithin}
 use Rattle.choice.specs.Sums.{bySigns, bestOfSums}
 use Rattle.choice.proofs.Apart.{counts-small, counts-barker}
 use Rattle.choice.proofs.soft.decide_barker.Statement.{statement}

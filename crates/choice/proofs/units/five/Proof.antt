@@ -3,7 +3,7 @@
 use mathlib.Core.Path.{sym, ap, _∙_}
 use native.Mathlib.Omega.{arith}
 use borrow.Author.Needs.{needs}
-use Rattle.choice.specs.Scores.{number5}
+use Rattle.choosing.specs.Scores.{number5}
 use Rattle.choice.proofs.Eight.{place-by, decided-is, eight-within}
 use Rattle.choice.proofs.units.five.Statement.{statement}
 use Rattle.choice.proofs.units.five.Tie as tie

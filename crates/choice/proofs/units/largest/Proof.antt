@@ -11,8 +11,8 @@ use mir.Val.{toZ, ofZ}
 use borrow.Author.Needs.{needs}
 use Rattle.base.specs.Whole.{Within}
 use Rattle.base.proofs.Whole.{within-more}
-use Rattle.choice.specs.Scores.{RowWithin}
-use Rattle.choice.specs.Keys.{bigger, keyOf, Largest}
+use Rattle.choosing.specs.Scores.{RowWithin}
+use Rattle.choosing.specs.Keys.{bigger, keyOf, Largest}
 use Rattle.choice.specs.Sums.{keyAt}
 use Rattle.choice.proofs.Adding.{reads-of}
 use Rattle.choice.proofs.KeyTops.{largest-one, largest-both}

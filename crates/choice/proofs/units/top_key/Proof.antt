@@ -9,7 +9,7 @@ use mir.Syntax.{w8}
 use mir.Val.{toZ, ofZ}
 use borrow.Author.Needs.{needs}
 use Rattle.base.specs.Whole.{Within}
-use Rattle.choice.specs.Keys.{bigger, keyOf}
+use Rattle.choosing.specs.Keys.{bigger, keyOf}
 use Rattle.choice.proofs.Adding.{reads-of}
 use Rattle.choice.proofs.units.top_key.Statement.{statement}
 use Rattle.choice.proofs.units.top_key.Tie as tie

@@ -1,6 +1,5 @@
 -- `reader::payload::hear_payload` meets its contract: the octets are heard into the buffer's front, and cleared where a
--- symbol is grown
--- by 1 or 3. Assumes nothing.
+-- symbol is grown by 1 or 3. Assumes nothing.
 use mathlib.Core.Path.{_≡_, sym, ap, subst, _∙_}
 use mathlib.Core.List.{List, _++_}
 use mathlib.Core.Option.{none, some}
@@ -10,17 +9,17 @@ use lib.Seq.{length-front}
 use Rattle.rates.specs.declared.Rate.{Rate}
 use Rattle.rates.specs.Rates.{octetChips}
 use Rattle.chips.specs.Chips.{Taken}
+use Rattle.bits.specs.declared.Line.{Line}
 use Rattle.frame.specs.declared.Kind.{Kind}
 use Rattle.frame.specs.Frame.{frontChips, frameChips}
 use Rattle.calls.specs.Reading.{payloadOdd, payloadOf}
 use Rattle.recorders.specs.declared.Found.the-variants.{Nothing, At}
-use Rattle.recorders.specs.Rows.{whereFound}
-use Rattle.hearing.specs.declared.Line.{Line}
+use Rattle.recorders.specs.Rows.{whereFound, AllUsable}
 use Rattle.hearing.specs.declared.Hearing.{Hearing}
 use Rattle.hearing.specs.Hearing.{PartHeard}
+use Rattle.fronts.specs.Openings.{Opened}
 use borrow.Author.Needs.{needs}
-use Rattle.reader.specs.Openings.{Opened}
-use Rattle.reader.proofs.Payloads.{payload-odd, payload-octets, lent-long, octets-back}
+use Rattle.reader.proofs.Behind.{payload-odd, payload-octets, lent-long, octets-back}
 use Rattle.reader.proofs.payload.hear_payload.Statement.{statement}
 use Rattle.reader.proofs.payload.hear_payload.Tie as tie
 
@@ -28,15 +27,19 @@ room : (k : Kind) (r : Rate) (n from m all : ℕ) → from ≡ frontChips k → 
     → from + octetChips r * m ≤ all
 room k r n from m all e f h = rw (e, f) h
 
+usable : (k : Kind) (r : Rate) (n from m : ℕ) (rec : List Taken) → from ≡ frontChips k → m ≡ n
+    → AllUsable rec (frontChips k) (octetChips r * n) → AllUsable rec from (octetChips r * m)
+usable k r n from m rec e f u = rw (e, f) u
+
 module _
     (k : Kind) (r : Rate) (n from : ℕ) (rec : List Taken) (l : Line) (h : Hearing) (d out : List ℕ) (o : Opened k rec l)
     (e : from ≡ frontChips k) (fits : n ≤ length d) (zeros : d ≡ replicate (length d) 0)
-    (x : PartHeard r from (length (take (n - 0) d)) rec (record { past = l .past; phase = l .phase; odd = 0 }) h out)
+    (x : PartHeard r from (length (take (n - 0) d)) rec l h out)
   where
-    part : PartHeard r (frontChips k) n rec (record { past = l .past; phase = l .phase; odd = 0 }) h out
+    part : PartHeard r (frontChips k) n rec l h out
     part =
-        subst (λ (i : ℕ). PartHeard r i n rec (record { past = l .past; phase = l .phase; odd = 0 }) h out) e
-        (subst (λ (i : ℕ). PartHeard r from i rec (record { past = l .past; phase = l .phase; odd = 0 }) h out)
+        subst (λ (i : ℕ). PartHeard r i n rec l h out) e
+        (subst (λ (i : ℕ). PartHeard r from i rec l h out)
         (lent-long n d fits) x)
 
     odd : (place : ℕ) (z : List ℕ) → h .odd ≡ At place → length out ≡ length (take (n - 0) d) → z
@@ -58,31 +61,34 @@ module _
 
 hear-octets-requires : tie.Need-hear-octets-requires
 hear-octets-requires c κs =
-    let start = c .before .before .before .before .before .before .before in
+    let start = c .before .before .before .before .before .before in
     let a = start .args in
-    let long = lent-long (a .n) (a .octets .now) (start .pre .1) in
-    (room (a .kind) (a .rate) (a .n) _ _ _ (c .before .front-chips .ensures) long (start .pre .0), start .pre .2 .small)
+    let long = lent-long (a .n) (a .octets .now) (start .pre .2) in
+    let from = c .before .front-chips .ensures in (
+      room (a .kind) (a .rate) (a .n) _ _ _ from long (start .pre .0),
+      usable (a .kind) (a .rate) (a .n) _ _ _ from long (start .pre .1),
+      start .pre .3 .small,
+    )
 
 returns : tie.Need-returns
 returns c =
     let told = c .before .before .before .before .before .before in
     let call = told .before .before .before .hear-octets in
-    let start = told .before .before .before .before .before .before .before .before .before .before .before in
+    let start = told .before .before .before .before .before .before .before .before .before .before in
     let a = start .args in
-    odd (a .kind) (a .rate) (a .n) _ _ (a .line) _ (a .octets .now) (call .last .1 .1 .1 .1 .1 .1 .1 .0) (start .pre .2)
-    (told .before .before .before .before .before .front-chips .ensures) (start .pre .1) (start .pre .3) (call .ensures)
+    odd (a .kind) (a .rate) (a .n) _ _ (a .line) _ (a .octets .now) (call .last .1 .1 .1 .1 .1 .1 .1 .0) (start .pre .3)
+    (told .before .before .before .before .before .front-chips .ensures) (start .pre .2) (start .pre .4) (call .ensures)
     _ _ (c .before .before .before .before .before .odd .given .1)
-    (call .kept .1 .1 .1 .1 .1 .1 .1 .0) (c .before .before .clear .ensures)
+    (call .kept .1 .1 .1 .1 .1 .1 .1 .0) (c .before .before .fill .ensures)
 
 returns-2 : tie.Need-returns-2
 returns-2 c =
     let told = c .before in
     let call = told .before .before .before .hear-octets in
-    let start = told .before .before .before .before .before .before .before .before .before .before .before in
+    let start = told .before .before .before .before .before .before .before .before .before .before in
     let a = start .args in
     good (a .kind) (a .rate) (a .n) _ _ (a .line) _ (a .octets .now) (call .last .1 .1 .1 .1 .1 .1 .1 .0)
-    (start .pre .2)
-    (told .before .before .before .before .before .front-chips .ensures) (start .pre .1) (start .pre .3) (call .ensures)
+    (start .pre .3) (told .before .before .before .before .before .front-chips .ensures) (start .pre .2) (start .pre .4) (call .ensures)
     (c .enum-told .given .1)
 
 pub hear-payload-spec : {M : Type 1} → statement M

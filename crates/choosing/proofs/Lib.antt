@@ -1,0 +1,9 @@
+pub mod Small
+pub mod Best
+pub mod Sixteen
+pub mod Decided
+pub mod Clean
+pub mod Near
+pub mod KeyLaws
+pub mod Demand3
+pub mod Facts

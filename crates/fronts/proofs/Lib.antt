@@ -1,0 +1,4 @@
+pub mod Preambles
+pub mod Whole
+pub mod Order
+pub mod Sizes

@@ -1,0 +1,140 @@
+-- The front: a preamble heard, and the header on the same line. What the definition says of all its bits at once is
+-- what the two say one after the other.
+--     front-known    the two heard are the front heard
+-- Assumes nothing.
+use mathlib.Core.Path.{_≡_, refl, sym, ap, ap₂, subst, _∙_}
+use mathlib.Core.List.{List, _++_, append-assoc}
+use mathlib.Core.Option.{Option, some}
+use Prim.Native.Nat.{ℕ, _+_}
+use native.Mathlib.Omega.{arith}
+use lib.ListN.{length, take, drop, take-append-drop, length-drop}
+use lib.Seq.{take-all, take-at, drop-at, length-take-le}
+use Rattle.rates.specs.declared.Rate.the-variants.{One, Two}
+use Rattle.chips.specs.Chips.{Taken}
+use Rattle.bits.specs.Bits.{octetBits, octetsOf}
+use Rattle.bits.specs.Growths.{heard, growthsOf, lastHeard}
+use Rattle.bits.specs.Scrambler.{descramble}
+use Rattle.bits.specs.Code.{pastOf, pastAfter}
+use Rattle.bits.specs.declared.Line.{Line}
+use Rattle.bits.proofs.Bits.{octets-bits}
+use Rattle.bits.proofs.Scrambler.{past-append, descramble-append, descramble-below, descramble-length, descramble-window}
+use Rattle.bits.proofs.Heard.{heard-length}
+use Rattle.frame.specs.declared.Kind.{Kind}
+use Rattle.frame.specs.declared.Kind.the-variants.{Long, Short}
+use Rattle.frame.specs.Frame.{start, syncBits, headerRate, preambleLength, preambleChips}
+use Rattle.calls.specs.Reading.{
+  orElse,
+  oddGrowth,
+  preambleWords,
+  headerWords,
+  reference,
+  headerPhase,
+  payloadPhase,
+  frontOdd,
+  frontHeard,
+  frontBits,
+}
+use Rattle.recorders.specs.Rows.{whereFound}
+use Rattle.hearing.specs.declared.Hearing.{Hearing}
+use Rattle.hearing.specs.Hearing.{received, plainBits, partWords, Heard, PartHeard}
+use Rattle.hearing.proofs.Passes.{decidedWords-length}
+use Rattle.hearing.proofs.Parts.{plain-length}
+use Rattle.fronts.specs.declared.Preamble.{Preamble}
+use Rattle.fronts.specs.Openings.{preambleHeard, PreambleKnown, Opened, FrontKnown}
+use Rattle.fronts.proofs.Preambles.{preamble-length, goes-on}
+
+header-words : (k : Kind) (rec : List Taken) → partWords (headerRate k) (preambleChips k) 6 rec ≡ headerWords k rec
+unfolding headerWords
+header-words Long rec = refl
+header-words Short rec = refl
+
+header-bits : (k : Kind) (rec : List Taken) (l : Line) → length (plainBits (headerRate k) l (headerWords k rec)) ≡ 48
+unfolding headerWords
+header-bits Long rec l = plain-length One l _ ∙ omega (arith, decidedWords-length One 48 (drop (preambleChips Long) rec))
+header-bits Short rec l = plain-length Two l _ ∙ omega (arith, decidedWords-length Two 24 (drop (preambleChips Short) rec))
+
+-- the first n bits behind the first m of a row, with more behind them
+cut : (a b : List ℕ) (m n : ℕ) → length a ≡ m + n → take n (drop m (a ++ b)) ≡ drop m a
+cut a b m n e =
+    let left : length (drop m a) ≡ n = length-drop m a ∙ omega arith in
+    let whole : a ++ b ≡ take m a ++ (drop m a ++ b) =
+    ap (λ (l : List ℕ). l ++ b) (sym (take-append-drop m a)) ∙ append-assoc (take m a) (drop m a) b in
+    ap (λ (l : List ℕ). take n (drop m l)) whole
+    ∙ ap (take n) (drop-at (take m a) (drop m a ++ b) m (length-take-le m a (omega arith)))
+    ∙ take-at (drop m a) b n left
+
+module _
+    (k : Kind) (rec : List Taken) (p : Preamble) (c all : Hearing) (header : List ℕ)
+    (x : PreambleKnown k rec p)
+    (z : PartHeard (headerRate k) (preambleChips k) 6 rec (p .heard .line) c header)
+    (pc : (all .line ≡ c .line) × (whereFound (all .odd)
+    ≡ orElse (whereFound (p .heard .odd)) (λ place. some place) (whereFound (c .odd)))) where
+  header-part : Heard (headerRate k) (preambleChips k) (p .heard .line) (headerWords k rec) c
+  header-part =
+      subst (λ (ws : List ℕ). Heard (headerRate k) (preambleChips k) (p .heard .line) ws c) (header-words k rec) (z .line)
+
+  header-heard : received (headerRate k) (p .heard .line) (headerWords k rec)
+      ≡ heard (headerRate k) 0 (headerPhase k rec) (headerWords k rec)
+  header-heard = ap (λ (q : ℕ). heard (headerRate k) 0 q (headerWords k rec)) (x .line .at-phase)
+
+  all-heard : frontHeard k rec ≡ preambleHeard k rec ++ received (headerRate k) (p .heard .line) (headerWords k rec)
+  unfolding frontHeard
+  all-heard = sym (ap (λ (bs : List ℕ). preambleHeard k rec ++ bs) header-heard)
+
+  -- the front's bits, part by part
+  bits-are : frontBits k rec
+      ≡ descramble (start k) (preambleHeard k rec) ++ plainBits (headerRate k) (p .heard .line) (headerWords k rec)
+  unfolding frontBits
+  bits-are =
+      ap (descramble (start k)) all-heard
+      ∙ descramble-append (start k) (preambleHeard k rec) (received (headerRate k) (p .heard .line) (headerWords k rec))
+      ∙ ap (λ (bs : List ℕ). descramble (start k) (preambleHeard k rec) ++ bs)
+      (descramble-window (pastAfter (start k) (preambleHeard k rec)) (pastOf (p .heard .line .past))
+      (received (headerRate k) (p .heard .line) (headerWords k rec)) (sym (x .line .past)))
+
+  preamble-bits : length (descramble (start k) (preambleHeard k rec)) ≡ syncBits k + 16
+  preamble-bits =
+      descramble-length (start k) (preambleHeard k rec)
+      ∙ heard-length One 0 (reference k rec) (preambleWords k rec) ∙ omega (arith, preamble-length k rec)
+
+  header-octets : octetBits header ≡ plainBits (headerRate k) (p .heard .line) (headerWords k rec)
+  header-octets =
+      let bs = plainBits (headerRate k) (p .heard .line) (headerWords k rec) in
+      let long = header-bits k rec (p .heard .line) in
+      ap octetBits
+      (z .octets ∙ ap (λ (ws : List ℕ). octetsOf 6 (plainBits (headerRate k) (p .heard .line) ws)) (header-words k rec))
+      ∙ octets-bits 6 bs (omega arith) (descramble-below _ _)
+      ∙ take-all 48 bs (omega arith)
+
+  opened : Opened k rec (c .line)
+  opened = record {
+    at-phase = header-part .phase ∙ ap (λ (q : ℕ). lastHeard (headerRate k) q (headerWords k rec)) (x .line .at-phase)
+        ∙ (unfold payloadPhase in refl);
+    small = header-part .small;
+    past =
+        goes-on (pastAfter (start k) (preambleHeard k rec)) (headerRate k) (preambleChips k) (p .heard .line)
+        (headerWords k rec) c (x .line .past) header-part
+        ∙ ap (take 7) (sym (past-append (start k) (preambleHeard k rec)
+        (received (headerRate k) (p .heard .line) (headerWords k rec))))
+        ∙ ap (λ (bs : List ℕ). take 7 (pastAfter (start k) bs)) (sym all-heard);
+  }
+
+  pub front-known : FrontKnown k rec (record { heard = all; sfd = p .sfd; header = header })
+  front-known = record {
+    odd =
+        pc .1
+        ∙ ap₂ {C = Option ℕ} (λ o q. orElse o (λ place. some place) q) (x .line .odd)
+        (header-part .place
+        ∙ ap (λ (q : ℕ). oddGrowth (headerRate k) (preambleChips k) (growthsOf (headerRate k) q (headerWords k rec)))
+        (x .line .at-phase))
+        ∙ (unfold frontOdd in refl);
+    sfd =
+        x .sfd
+        ∙ sym (ap (λ (bs : List ℕ). take 16 (drop (syncBits k) bs)) bits-are
+        ∙ cut (descramble (start k) (preambleHeard k rec)) _ (syncBits k) 16 preamble-bits);
+    header =
+        header-octets
+        ∙ sym (ap (drop (preambleLength k)) bits-are
+        ∙ drop-at (descramble (start k) (preambleHeard k rec)) _ (preambleLength k) preamble-bits);
+    line = rw (pc .0) opened;
+  }

@@ -1,0 +1,103 @@
+-- What is known of a line once a preamble and a front are heard, and of a front once it is read. Definitions only.
+-- Assumes nothing.
+use mathlib.Core.Path.{_≡_}
+use mathlib.Core.List.{List}
+use Prim.Native.Nat.{ℕ, _+_, _≤_, _<_}
+use lib.ListN.{length, take, drop}
+use Rattle.rates.specs.declared.Rate.the-variants.{One}
+use Rattle.chips.specs.Chips.{Taken}
+use Rattle.bits.specs.Bits.{octetBits, octetsOf}
+use Rattle.bits.specs.Growths.{heard, growthsOf}
+use Rattle.bits.specs.Scrambler.{descramble}
+use Rattle.bits.specs.Code.{pastOf, pastAfter}
+use Rattle.bits.specs.declared.Line.{Line}
+use Rattle.frame.specs.declared.Kind.{Kind}
+use Rattle.frame.specs.declared.Kind.the-variants.{Long, Short}
+use Rattle.frame.specs.Frame.{start, syncBits, preambleLength, frameChips}
+use Rattle.calls.specs.declared.Refusal.the-variants.{OddGrowth}
+use Rattle.calls.specs.declared.Told.{Told}
+use Rattle.calls.specs.declared.Front.{Front}
+use Rattle.calls.specs.declared.Front.the-variants.{Refused, Fields}
+use Rattle.calls.specs.Reading.{
+  orElse,
+  oddGrowth,
+  preambleWords,
+  reference,
+  headerPhase,
+  payloadPhase,
+  frontOdd,
+  frontHeard,
+  frontBits,
+  headerOf,
+  frontOf,
+  wholeOf,
+}
+use Rattle.recorders.specs.Rows.{whereFound}
+use Rattle.hearing.specs.declared.Hearing.{Hearing}
+use Rattle.fronts.specs.declared.Preamble.{Preamble}
+use Rattle.fronts.specs.declared.FrontHeard.{FrontHeard}
+use Rattle.fronts.specs.declared.Opening.{Opening}
+
+-- SYNC is so many octets
+abbrev pub syncOctets : Kind → ℕ
+syncOctets Long = 16
+syncOctets Short = 7
+
+-- the line before the first symbol: the scrambler's start, and the first symbol's own phase
+pub record Starts (k : Kind) (phase : ℕ) (l : Line) : Type 0 where
+  pub at-phase : l .phase ≡ phase
+  pub past : take 7 (pastOf (l .past)) ≡ start k
+
+-- the preamble's bits as they were received
+abbrev pub preambleHeard : Kind → List Taken → List ℕ
+preambleHeard k rec = heard One 0 (reference k rec) (preambleWords k rec)
+
+-- and its octets as they were sent
+abbrev pub preambleOctets : Kind → List Taken → List ℕ
+preambleOctets k rec = octetsOf (syncOctets k + 2) (descramble (start k) (preambleHeard k rec))
+
+-- the line once the preamble is heard: the header's first symbol grows from its phase, and its bits are unscrambled
+-- after the preamble's
+pub record PreambleLine (k : Kind) (rec : List Taken) (h : Hearing) : Type 0 where
+  pub odd : whereFound (h .odd) ≡ oddGrowth One 0 (growthsOf One (reference k rec) (preambleWords k rec))
+  pub at-phase : h .line .phase ≡ headerPhase k rec
+  pub small : h .line .phase < 4
+  pub past : take 7 (pastOf (h .line .past)) ≡ take 7 (pastAfter (start k) (preambleHeard k rec))
+
+-- a preamble heard
+pub record PreambleKnown (k : Kind) (rec : List Taken) (p : Preamble) : Type 0 where
+  pub line : PreambleLine k rec (p .heard)
+  pub sfd : octetBits (p .sfd) ≡ drop (syncBits k) (descramble (start k) (preambleHeard k rec))
+
+-- the line once the front is heard: the payload's first symbol grows from its phase, and its bits are unscrambled after
+-- the front's
+pub record Opened (k : Kind) (rec : List Taken) (l : Line) : Type 0 where
+  pub at-phase : l .phase ≡ payloadPhase k rec
+  pub small : l .phase < 4
+  pub past : take 7 (pastOf (l .past)) ≡ take 7 (pastAfter (start k) (frontHeard k rec))
+
+-- a front heard
+pub record FrontKnown (k : Kind) (rec : List Taken) (f : FrontHeard) : Type 0 where
+  pub odd : whereFound (f .heard .odd) ≡ frontOdd k rec
+  pub sfd : octetBits (f .sfd) ≡ take 16 (drop (syncBits k) (frontBits k rec))
+  pub header : octetBits (f .header) ≡ drop (preambleLength k) (frontBits k rec)
+  pub line : Opened k rec (f .heard .line)
+
+-- what a front of usable chips tells: 10, then 11 to 15
+abbrev pub afterUsable : Kind → List Taken → Front
+afterUsable k rec =
+    orElse (frontOdd k rec) (λ place. Refused (OddGrowth place 0))
+    (headerOf k (take 16 (drop (syncBits k) (frontBits k rec))) (drop (preambleLength k) (frontBits k rec)))
+
+-- an opening that tells f: where that is fields, the line goes on from the front
+pub record Opens (k : Kind) (rec : List Taken) (f : Front) (o : Opening) : Type 0 where
+  pub told : o .front ≡ f
+  pub line : (t : Told) → o .front ≡ Fields t → Opened k rec (o .line)
+
+-- an opening that tells what a recording's front does, refusal 16 included: where that is fields, the recording has the
+-- whole frame
+pub record OpensWhole (k : Kind) (rec : List Taken) (o : Opening) : Type 0 where
+  pub told : o .front ≡ wholeOf k rec (frontOf k rec)
+  pub line : (t : Told) → o .front ≡ Fields t → Opened k rec (o .line)
+  pub few : (t : Told) → o .front ≡ Fields t → t .n ≤ 4095
+  pub chips : (t : Told) → o .front ≡ Fields t → frameChips k (t .rate) (t .n) ≤ length rec

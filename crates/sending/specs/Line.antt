@@ -1,0 +1,16 @@
+-- What the code's line stands for, and words one after the other. Definitions only. Assumes nothing.
+use Prim.Native.Nat.{ℕ}
+use mathlib.Core.List.{List, [], _∷_, _++_}
+use Rattle.symbols.specs.Words.{barkerWord}
+use Rattle.bits.specs.declared.Line.{Line}
+use Rattle.bits.specs.Code.{pastOf}
+use Rattle.sending.specs.Sending.{State}
+
+-- the octet sent last is eight outputs, the first lowest
+abbrev pub state : Line → State
+state l = record { past = pastOf (l .past); phase = l .phase }
+
+-- the Barker words of phases, one after the other
+unfoldable pub barkerWords : List ℕ → List ℕ
+barkerWords [] = []
+barkerWords (p ∷ ps) = barkerWord p ++ barkerWords ps
