@@ -23,7 +23,8 @@ use Rattle.parts.proofs.first_word.Tie as tie
 module _ (r : Rate) (rec : List Taken) (n : ℕ) (f : Found) (e : n ≡ symbolChips r)
     (g : whereFound f ≡ firstUnusable 0 (take (n - 0) (drop 0 rec))) where
   searched : firstUnusable 0 (take (symbolChips r) rec) ≡ whereFound f
-  searched = let k : n - 0 ≡ symbolChips r = omega (arith, e) in sym (g ∙ ap (λ (m : ℕ). firstUnusable 0 (take m rec)) k)
+  searched = let k : n - 0 ≡ symbolChips r = omega (arith, e) in
+      sym (g ∙ ap (λ (m : ℕ). firstUnusable 0 (take m rec)) k)
 
   bad : (place : ℕ) → f ≡ At place → 0 ≡ firstWord r rec
   unfolding firstWord
@@ -70,7 +71,8 @@ returns-2 : tie.Need-returns-2
 returns-2 c =
     let found = c .before .before .before .before .before in
     c .wide .ensures
-    ∙ good (start found .args .r) (rec found) _ _ (found .before .symbol-chips .ensures) (found .first-unusable .ensures)
+    ∙ good (start found .args .r) (rec found) _ _ (found .before .symbol-chips .ensures)
+    (found .first-unusable .ensures)
     (c .before .before .before .enum-told2 .given .1) _ (c .before .decide .ensures)
 
 pub first-word-spec : {M : Type 1} → statement M
@@ -78,4 +80,5 @@ first-word-spec =
     tie.close
     (tie.spec (λ c. search needs) (λ c. search needs) (λ c. search needs) (λ c κs. search needs)
     (λ c κs. omega (arith, c .symbol-chips .ensures, c .before .before .before .before .before .pre))
-    (λ c. search needs) (λ c. search needs) decide-requires (λ c. search needs) (λ c κs. search needs) returns returns-2)
+    (λ c. search needs) (λ c. search needs) decide-requires (λ c. search needs)
+    (λ c κs. search needs) returns returns-2)

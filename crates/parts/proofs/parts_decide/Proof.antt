@@ -1,5 +1,5 @@
--- `parts_decide` meets its contract: a number that is no code and rows shorter than a symbol give 0, and else the symbol
--- at place 0 is decided.
+-- `parts_decide` meets its contract: a number that is no code and rows shorter than a symbol give 0, and else the
+-- symbol at place 0 is decided.
 -- Assumes nothing.
 use Prim.Native.Nat.{ℕ, _≤_, _<_}
 use mathlib.Core.Path.{_≡_, refl, sym, ap, _∙_}
