@@ -1,22 +1,21 @@
--- The counts of every chip are from -8192 to 8192; those of a usable one are at most half a count from its exact value,
--- and those of a hard or a lost one are the value itself. Hard chips are computed at each phase; soft ones go by the
--- laws of their two fields.
+-- The counts of every chip are from -8192 to 8192; those of a usable soft one are at most half a count from its exact
+-- value, and those of a hard or a lost one are the value itself. Hard chips are computed at each phase; soft ones go by
+-- the laws of their two fields.
 -- Assumes nothing.
 use mathlib.Core.Path.{refl}
 use mathlib.Core.Bool.{Bool, true, false, cond}
 use mathlib.Core.List.{List, map}
-use Prim.Native.Nat.{ℕ, zero, suc, _^_, _≤_}
+use Prim.Native.Nat.{ℕ, zero, suc, _≤_}
 use lib.Dec.{T, lit≤}
 use lib.ListN.{getD, List·getD-map}
 use lib.IntN.{ℤ, pos, negsuc, natAbs}
-use Rattle.base.proofs.Whole.{within-zero}
 use Rattle.base.proofs.Tests.{both-left, both-right}
-use Rattle.chips.specs.declared.Counts.{Counts}
+use Rattle.chips.specs.declared.Sample.{Sample}
 use Rattle.chips.specs.declared.Chip.{Chip}
 use Rattle.chips.specs.declared.Chip.the-variants.{Lost, Hard, Soft}
 use Rattle.chips.specs.Floats.{usable, countOf}
 use Rattle.chips.specs.Chips.{pair, nothing, usableSample, countsOf, exactOf}
-use Rattle.chips.specs.Bounds.{Bounded, Near, Exact, usableChip}
+use Rattle.chips.specs.Bounds.{Bounded, Near, Exact}
 use Rattle.chips.proofs.Sum.{cond-yes}
 use Rattle.chips.proofs.Meaning.{abs-within, count-within, count-near}
 
@@ -52,13 +51,8 @@ hard-exact (suc (suc (suc (suc p)))) = record { real = refl; imag = refl }
 pub lost-exact : Exact (countsOf Lost) (exactOf Lost)
 lost-exact = record { real = refl; imag = refl }
 
-exact-near : (c e : Counts) → Exact c e → Near c e
-exact-near c e h = record { real = rw (h .real) (within-zero (2 ^ 138)); imag = rw (h .imag) (within-zero (2 ^ 138)) }
-
-pub chip-near : (c : Chip) → T (usableChip c) → Near (countsOf c) (exactOf c)
-chip-near Lost u = exact-near (countsOf Lost) (exactOf Lost) lost-exact
-chip-near (Hard p) u = exact-near (countsOf (Hard p)) (exactOf (Hard p)) (hard-exact p)
-chip-near (Soft s) u =
+pub soft-near : (s : Sample) → T (usableSample s) → Near (countsOf (Soft s)) (exactOf (Soft s))
+soft-near s u =
     rw (cond-yes (usableSample s) (pair (countOf (s .i)) (countOf (s .q))) nothing u)
     (record {
       real = count-near (s .i) (both-left (usable (s .i)) (usable (s .q)) u);

@@ -2,14 +2,9 @@
 -- Definitions only. Assumes nothing.
 use Prim.Native.Nat.{ℕ, _^_}
 use mathlib.Core.Path.{_≡_}
-use mathlib.Core.Bool.{Bool, true}
-use lib.Dec.{ltb}
 use lib.IntN.{ℤ, pos, _-ℤ_, _*ℤ_}
 use Rattle.base.specs.Whole.{Within}
 use Rattle.chips.specs.declared.Counts.{Counts}
-use Rattle.chips.specs.declared.Chip.{Chip}
-use Rattle.chips.specs.declared.Chip.the-variants.{Lost, Hard, Soft}
-use Rattle.chips.specs.Chips.{usableSample}
 
 -- I and Q are from -b to b
 pub record Bounded (b : ℕ) (c : Counts) : Type 0 where
@@ -29,9 +24,3 @@ pub record Near (c e : Counts) : Type 0 where
 pub record Exact (c e : Counts) : Type 0 where
   pub real : offBy (c .i) (e .i) ≡ pos 0
   pub imag : offBy (c .q) (e .q) ≡ pos 0
-
--- a chip that a recording may have: lost, a phase, or a usable sample
-abbrev pub usableChip : Chip → Bool
-usableChip Lost = true
-usableChip (Hard p) = ltb p 4
-usableChip (Soft s) = usableSample s

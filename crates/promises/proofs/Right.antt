@@ -34,7 +34,7 @@ use Rattle.chips.specs.Chips.{
   softTaken,
   softRecording,
 }
-use Rattle.chips.proofs.Bounds.{chip-near, hard-exact, lost-exact}
+use Rattle.chips.proofs.Bounds.{hard-exact, lost-exact, soft-near}
 use Rattle.chips.proofs.Recorders.{sample, taken-hard, taken-soft, unusable-hard, unusable-soft}
 use Rattle.symbols.specs.Choice.{decided}
 use Rattle.choosing.specs.Demand3.{RightUpTo, Apart}
@@ -210,7 +210,7 @@ soft-used x y t = go (usableSample (sample x y)) (isUnusable (softTaken x y)) (u
 soft-apart : (x y : Float) → T (not (isUnusable (softTaken x y)))
     → Apart (2 ^ 138) (takenCounts (softTaken x y)) (Soft (sample x y))
 soft-apart x y t =
-    let near = chip-near (Soft (sample x y)) (soft-used x y t) in
+    let near = soft-near (sample x y) (soft-used x y t) in
     subst (λ t. Apart (2 ^ 138) t (Soft (sample x y))) (sym (taken-soft x y))
     (record { real = near .real; imag = near .imag })
 
