@@ -5,7 +5,7 @@ ghost use lib.ListN.{length};
 ghost use Rattle.rates.specs.Rates.{symbolChips};
 ghost use Rattle.chips.specs.Floats.{countOf};
 ghost use Rattle.chips.specs.Chips.{softRecording};
-ghost use Rattle.parts.specs.Parts.{firstWord, decidedSoft, Counted};
+ghost use Rattle.timed_leaves.specs.Leaves.{firstWord, decidedSoft, Counted};
 use rates::Rate;
 use recorders::Found;
 use recorders::Recorder;
@@ -26,7 +26,7 @@ fn count_of(x: f32) -> i32
 
 // The counts of a row of f32, as far as both rows go.
 #[no_mangle]
-pub extern "C" fn parts_count(xs: &[f32], counts: &mut [i32])
+pub extern "C" fn timed_count(xs: &[f32], counts: &mut [i32])
     ensures counts { λ _. ⌜ Counted (now (xs .entry)) (now (counts .entry)) (now (counts .exit)) ⌝ }
 {
     let n = shorter(xs.len(), counts.len());
@@ -64,7 +64,7 @@ fn first_word(r: Rate, i: &[f32], q: &[f32]) -> u64
 
 // The number of the word that the first symbol of soft rows is decided as.
 #[no_mangle]
-pub extern "C" fn parts_decide(rate: u64, i: &[f32], q: &[f32]) -> u64
+pub extern "C" fn timed_decide(rate: u64, i: &[f32], q: &[f32]) -> u64
     ensures answer { λ r. ⌜ r ≡ decidedSoft rate (now (i .entry)) (now (q .entry)) ⌝ }
 {
     let none = [0u8; 1];

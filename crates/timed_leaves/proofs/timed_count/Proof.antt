@@ -1,4 +1,4 @@
--- `parts_count` meets its contract. The invariant: the rows of counts are equally long, each element below k is a
+-- `timed_count` meets its contract. The invariant: the rows of counts are equally long, each element below k is a
 -- count, and each from k on is as before.
 -- Assumes nothing.
 use Prim.Native.Nat.{ℕ, _≤_, _<_, _-_}
@@ -15,8 +15,8 @@ use lib.Ieee.{nan}
 use borrow.Author.Needs.{needs}
 use borrow.Author.Count.{below-more, below-none}
 use Rattle.chips.specs.Floats.{countOf}
-use Rattle.parts.proofs.parts_count.Statement.{statement}
-use Rattle.parts.proofs.parts_count.Tie as tie
+use Rattle.timed_leaves.proofs.timed_count.Statement.{statement}
+use Rattle.timed_leaves.proofs.timed_count.Tie as tie
 
 abbrev Inv-loop : tie.InvT-loop
 Inv-loop xs counts₀ n k₀ counts k =
@@ -66,8 +66,8 @@ returns c = let i = c .before .loop .inv in
       kept = λ k h. i .3 k (omega arith);
     }
 
-pub parts-count-spec : {M : Type 1} → statement M
-parts-count-spec =
+pub timed-count-spec : {M : Type 1} → statement M
+timed-count-spec =
     tie.close
     (tie.spec Inv-loop μ-loop (λ c κs. search needs) loop-holds mul-count-of shared-slice-read-count-of
     (λ c κs. search needs) mul-t12 slice-set-from-counts (λ c. search needs) (λ c. search needs) loop-again

@@ -1,4 +1,4 @@
--- `parts_decide` meets its contract: a number that is no code and rows shorter than a symbol give 0, and else the
+-- `timed_decide` meets its contract: a number that is no code and rows shorter than a symbol give 0, and else the
 -- symbol at place 0 is decided.
 -- Assumes nothing.
 use Prim.Native.Nat.{ℕ, _≤_, _<_}
@@ -13,9 +13,9 @@ use borrow.Author.Tests.{le-leb, lt-leb, not-true, not-false}
 use Rattle.rates.specs.declared.Rate.{Rate}
 use Rattle.rates.specs.Rates.{isCode, rateOf, symbolChips}
 use Rattle.chips.specs.Chips.{softRecording}
-use Rattle.parts.specs.Parts.{firstWord, decidedSoft}
-use Rattle.parts.proofs.parts_decide.Statement.{statement}
-use Rattle.parts.proofs.parts_decide.Tie as tie
+use Rattle.timed_leaves.specs.Leaves.{firstWord, decidedSoft}
+use Rattle.timed_leaves.proofs.timed_decide.Statement.{statement}
+use Rattle.timed_leaves.proofs.timed_decide.Tie as tie
 
 no-code : (n : ℕ) (i q : List Float) → isCode n ≡ false → 0 ≡ decidedSoft n i q
 unfolding decidedSoft
@@ -50,8 +50,8 @@ returns-3 c =
     (sym (rated .before .before .is-code .ensures) ∙ not-false _ (rated .before .if1 .left)) (omega arith)
     (c .first-word .ensures)
 
-pub parts-decide-spec : {M : Type 1} → statement M
-parts-decide-spec =
+pub timed-decide-spec : {M : Type 1} → statement M
+timed-decide-spec =
     tie.close
     (tie.spec (λ c. search needs) (λ c. search needs) (λ c. search needs) (λ c κs. search needs) returns
     (λ c κs. search needs) (λ c κs. search needs) (λ c κs. search needs) returns-2 (λ c κs. search needs) returns-3)

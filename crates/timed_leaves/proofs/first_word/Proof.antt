@@ -1,5 +1,5 @@
--- `parts::first_word` meets its contract: a search that found nothing leaves usable chips, and those are decided.
--- Assumes nothing.
+-- `timed_leaves::first_word` meets its contract: a search that found nothing leaves usable chips, and those are
+-- decided. Assumes nothing.
 use mathlib.Core.Path.{_≡_, sym, ap, _∙_}
 use mathlib.Core.List.{List, map}
 use Prim.Native.Nat.{ℕ, _+_, _*_, _-_, _≤_}
@@ -16,9 +16,9 @@ use Rattle.recorders.specs.declared.Found.{Found}
 use Rattle.recorders.specs.declared.Found.the-variants.{Nothing, At}
 use Rattle.recorders.specs.Rows.{whereFound, AllUsable, DecidedAt}
 use Rattle.recorders.proofs.Search.{none-usable}
-use Rattle.parts.specs.Parts.{firstWord}
-use Rattle.parts.proofs.first_word.Statement.{statement}
-use Rattle.parts.proofs.first_word.Tie as tie
+use Rattle.timed_leaves.specs.Leaves.{firstWord}
+use Rattle.timed_leaves.proofs.first_word.Statement.{statement}
+use Rattle.timed_leaves.proofs.first_word.Tie as tie
 
 module _ (r : Rate) (rec : List Taken) (n : ℕ) (f : Found) (e : n ≡ symbolChips r)
     (g : whereFound f ≡ firstUnusable 0 (take (n - 0) (drop 0 rec))) where
