@@ -2,7 +2,7 @@
 # which and why; with all there, neither uses the network. The Rattle kit's command `rt` must be on PATH.
 
 LIB := target/staticlib/libdsss.a
-PARTS := target/staticlib/libparts.a
+LEAVES := target/staticlib/libtimed_leaves.a
 OUT := target/c
 STRICT := -std=c99 -Wall -Wextra -Wpedantic -Werror -Iinclude
 PREFIX ?= /usr/local
@@ -72,8 +72,8 @@ $(LIB): $(PROVED)
 	scripts/staticlib.sh dsss
 	touch $@
 
-$(PARTS): $(PROVED)
-	scripts/staticlib.sh parts
+$(LEAVES): $(PROVED)
+	scripts/staticlib.sh timed_leaves
 	touch $@
 
 $(OUT)/host: examples/host/host.c include/dsss.h $(LIB) | demo-packages
@@ -84,9 +84,9 @@ $(OUT)/bridge: tests/bridge/bridge.c include/dsss.h $(LIB) | packages
 	mkdir -p $(OUT)
 	scripts/x86cc $@ tests/bridge/bridge.c $(LIB) -- $(STRICT)
 
-$(OUT)/bench: bench/bench.c bench/plain.c bench/plain.h bench/parts.h include/dsss.h $(LIB) $(PARTS) | packages
+$(OUT)/bench: bench/bench.c bench/plain.c bench/plain.h bench/timed_leaves.h include/dsss.h $(LIB) $(LEAVES) | packages
 	mkdir -p $(OUT)
-	scripts/x86cc $@ bench/bench.c bench/plain.c $(LIB) $(PARTS) -- $(STRICT) -O3
+	scripts/x86cc $@ bench/bench.c bench/plain.c $(LIB) $(LEAVES) -- $(STRICT) -O3
 
 target/peer/peer: $(wildcard tests/peer/src/*.rs tests/peer/src/families/*.rs) | packages
 	mkdir -p target/peer

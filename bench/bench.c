@@ -10,7 +10,7 @@
  * The variable DSSS_EMULATED, set by scripts/x86run, says that no real processor is timed: chips
  * per second and the multiple of 11 Mchip/s are left out then. */
 #define _POSIX_C_SOURCE 200809L
-#include "parts.h"
+#include "timed_leaves.h"
 #include "plain.h"
 
 #include <inttypes.h>
@@ -32,7 +32,7 @@ struct library {
 };
 
 static const struct library libraries[2] = {
-    {dsss_write, dsss_read_hard, dsss_read_soft, parts_count, parts_decide},
+    {dsss_write, dsss_read_hard, dsss_read_soft, timed_count, timed_decide},
     {plain_write, plain_read_hard, plain_read_soft, plain_count, plain_decide},
 };
 

@@ -6,15 +6,13 @@
 use mathlib.Core.Path.{_≡_, refl, sym, ap, _∙_, subst}
 use mathlib.Core.List.{List, [], _∷_, _++_, map}
 use Prim.Native.Nat.{ℕ, zero, suc, _+_, _-_, _≤_, _<_, zero-le}
-use native.Mathlib.Nat.{le-antisymm, le-of-suc-le-suc, not-suc-le-zero}
+use native.Mathlib.Nat.{le-antisymm, not-suc-le-zero}
 use native.Mathlib.Decide.{decLt}
 use native.Mathlib.Numerals.{add-one}
 use native.Mathlib.Omega.{arith}
 use lib.ListN.{
   length,
   getD,
-  take,
-  drop,
   set,
   length-append,
   length-set,
@@ -23,7 +21,7 @@ use lib.ListN.{
   List·getD-map,
   List·getD-eq-default,
 }
-use lib.Seq.{take-suc-set, take-all, getD-append-seam, ext-getD, getD-at}
+use lib.Seq.{take-suc-set, take-all, ext-getD, getD-at}
 use Rattle.base.specs.Tables.{tabulate, Filled}
 
 module _ {A : Type 0} where

@@ -10,12 +10,17 @@ use Rattle.chips.specs.declared.Axis.the-variants.{I, Q}
 use Rattle.chips.specs.declared.Counts.{Counts}
 use Rattle.chips.specs.declared.Chip.{Chip}
 use Rattle.chips.specs.declared.Chip.the-variants.{Lost, Hard, Soft}
-use Rattle.chips.specs.Chips.{usableSample, countsOf}
+use Rattle.chips.specs.Chips.{fullChip, usableSample, countsOf}
 
 -- the number on an axis
 abbrev pub along : Axis → Counts → ℤ
 along I c = c .i
 along Q c = c .q
+
+-- the phase of a chip of 1 on an axis; a half turn on it is -1
+abbrev pub phaseOn : Axis → ℕ
+phaseOn I = 0
+phaseOn Q = 1
 
 -- the counts of a row of chips on an axis
 abbrev pub countsAlong : Axis → List Chip → List ℤ
@@ -38,6 +43,13 @@ abbrev pub octetOf : Chip → ℕ
 octetOf Lost = 4
 octetOf (Hard p) = p
 octetOf (Soft s) = 4
+
+-- a chip of a hard recording in full chips, and a row of them on an axis
+abbrev pub unitOf : Chip → Counts
+unitOf c = fullChip 1 (octetOf c)
+
+abbrev pub unitsAlong : Axis → List Chip → List ℤ
+unitsAlong x chips = map (λ c. along x (unitOf c)) chips
 
 -- the first n chips are a soft recording's, and usable
 pub record AllSoft (n : ℕ) (chips : List Chip) : Type 0 where

@@ -9,8 +9,8 @@ ghost use Rattle.chips.specs.Axes.{softUsable, octetOf};
 
 mod rows;
 
-pub use rows::hard_counts8;
-pub use rows::hard_counts11;
+pub use rows::hard_units8;
+pub use rows::hard_units11;
 pub use rows::soft_counts8;
 pub use rows::soft_counts11;
 

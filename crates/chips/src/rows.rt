@@ -1,9 +1,10 @@
 // Counts of a symbol's chips, I and Q apart: arrays of chips by value to arrays of whole numbers by value. A recorder's
-// chips are all of its own kind, so each takes its own variant apart, and in a loop over symbols the chips dissolve.
+// chips are all of its own kind, so each takes its own variant apart, and in a loop over symbols the chips dissolve. Of
+// hard chips full chips are counted, not 1024ths of one: in octets sixteen symbols go side by side.
 ghost use mathlib.Core.Path.{_≡_};
 ghost use lib.Dec.{T};
 ghost use Rattle.chips.specs.Chips.{countsOf};
-ghost use Rattle.chips.specs.Axes.{along, countsAlong, softUsable, hardUsable, AllSoft, AllHard};
+ghost use Rattle.chips.specs.Axes.{along, phaseOn, countsAlong, unitOf, unitsAlong, softUsable, AllSoft};
 use super::Axis;
 use super::Chip;
 
@@ -45,40 +46,49 @@ pub fn soft_counts11(chips: [Chip; 11], axis: Axis) -> [i32; 11]
     out
 }
 
-// The count of a hard chip on an axis.
-fn hard_count(c: Chip, axis: Axis) -> i32
-    requires { ⌜ T (hardUsable c) ⌝ }
-    ensures answer { λ r. ⌜ r ≡ along axis (countsOf c) ⌝ }
+// The phase of a chip of 1 on an axis.
+fn phase_on(axis: Axis) -> u8
+    ensures answer { λ r. ⌜ r ≡ phaseOn axis ⌝ }
 {
-    let k = super::hard_counts(super::octet_of(c));
     match axis {
-        Axis::I => k.i,
-        Axis::Q => k.q,
+        Axis::I => 0,
+        Axis::Q => 1,
     }
 }
 
-// The counts of a CCK symbol's hard chips on an axis.
-pub fn hard_counts8(chips: [Chip; 8], axis: Axis) -> [i32; 8]
-    requires { ⌜ AllHard 8 chips ⌝ }
-    ensures answer { λ r. ⌜ r ≡ countsAlong axis chips ⌝ }
+// The unit of a hard chip on an axis: a full chip is 1.
+fn hard_unit(c: Chip, axis: Axis) -> i8
+    ensures answer { λ r. ⌜ r ≡ along axis (unitOf c) ⌝ }
 {
-    let mut out = [0i32; 8];
+    let x = super::octet_of(c);
+    let plus = phase_on(axis);
+    if x == plus {
+        1
+    } else {
+        if x == plus + 2 { -1 } else { 0 }
+    }
+}
+
+// The units of a CCK symbol's hard chips on an axis.
+pub fn hard_units8(chips: [Chip; 8], axis: Axis) -> [i8; 8]
+    ensures answer { λ r. ⌜ r ≡ unitsAlong axis chips ⌝ }
+{
+    let mut out = [0i8; 8];
     for k in 0..8 {
         let c = chips[k];
-        out[k] = hard_count(c, axis);
+        out[k] = hard_unit(c, axis);
     }
     out
 }
 
-// The counts of a Barker symbol's hard chips on an axis.
-pub fn hard_counts11(chips: [Chip; 11], axis: Axis) -> [i32; 11]
-    requires { ⌜ AllHard 11 chips ⌝ }
-    ensures answer { λ r. ⌜ r ≡ countsAlong axis chips ⌝ }
+// The units of a Barker symbol's hard chips on an axis.
+pub fn hard_units11(chips: [Chip; 11], axis: Axis) -> [i8; 11]
+    ensures answer { λ r. ⌜ r ≡ unitsAlong axis chips ⌝ }
 {
-    let mut out = [0i32; 11];
+    let mut out = [0i8; 11];
     for k in 0..11 {
         let c = chips[k];
-        out[k] = hard_count(c, axis);
+        out[k] = hard_unit(c, axis);
     }
     out
 }

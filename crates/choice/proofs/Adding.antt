@@ -72,7 +72,8 @@ within-times a {b} {z} h = record {
   low = omega (arith, times-up a z, times-dn a z, mul-le-mul-left a (h .low), mul-add a b (up z));
 }
 
-module _ {w : Width} {a b d s t : ℕ} {z : ℤ} (h : Reads w d s (pos a)) (g : Reads w b t z) (k : a * b < 2 ^ hbits w) where
+module _ {w : Width} {a b d s t : ℕ} {z : ℤ} (h : Reads w d s (pos a)) (g : Reads w b t z)
+    (k : a * b < 2 ^ hbits w) where
   times : toZ w s *ℤ toZ w t ≡ pos a *ℤ z
   times = λ i. h .is i *ℤ g .is i
 

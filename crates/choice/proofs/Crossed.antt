@@ -1,5 +1,5 @@
--- The sums that give the eight scores of 5.5 Mbit/s, at every width. s is the row whose chips 1, 3, 5, 7 are taken, t the
--- one whose chips 0, 2, 4, 6 are: I and Q for the first four words, Q and I for the others.
+-- The sums that give the eight scores of 5.5 Mbit/s, at every width. s is the row whose chips 1, 3, 5, 7 are taken,
+-- t the one whose chips 0, 2, 4, 6 are: I and Q for the first four words, Q and I for the others.
 -- Assumes nothing.
 use mathlib.Core.Path.{_≡_, ap, _∙_}
 use mathlib.Core.List.{List}

@@ -3,7 +3,7 @@
 use mathlib.Core.Path.{_≡_, sym, ap, _∙_, subst}
 use mathlib.Core.Bool.{Bool, cond}
 use mathlib.Core.List.{List}
-use Prim.Native.Nat.{ℕ, _+_, _-_, _%_, _<_}
+use Prim.Native.Nat.{ℕ, _+_, _*_, _-_, _%_, _<_}
 use native.Mathlib.Decide.{decLt}
 use native.Mathlib.Omega.{arith}
 use borrow.Author.Tests.{lt-ltb, le-ltb}
@@ -32,14 +32,16 @@ lower-is h j l = ap (λ (b : Bool). cond b (getD h j (pos 0)) (negℤ (getD h (j
 
 upper-is : (h : List ℤ) (j : ℕ) → sixteen h (j + 8) ≡ negℤ (getD h j (pos 0))
 upper-is h j =
-    ap (λ (b : Bool). cond b (getD h (j + 8) (pos 0)) (negℤ (getD h (j + 8 - 8) (pos 0)))) (le-ltb (j + 8) 8 (omega arith))
+    ap (λ (b : Bool). cond b (getD h (j + 8) (pos 0)) (negℤ (getD h (j + 8 - 8) (pos 0))))
+    (le-ltb (j + 8) 8 (omega arith))
     ∙ ap (λ (n : ℕ). negℤ (getD h n (pos 0))) (omega arith)
 
 -- the largest of the eight keys gives the place
 pub place-by : (h : List ℤ) {x : ℕ} → Largest (keyAt h) 0 8 x → bestOfEight h ≡ 15 - x % 16
 unfolding those
 place-by h t =
-    number-by 8 (sixteen h) (keyAt h) (λ j l. better 8 (sixteen h) j (getD h j (pos 0)) l (lower-is h j l) (upper-is h j)) t
+    number-by 8 (sixteen h) (keyAt h) (λ j l. better 8 (sixteen h) j (getD h j (pos 0)) l (lower-is h j l)
+    (upper-is h j)) t
 
 -- eight scores make the choice
 module _ (cs : List Counts) (h : List ℤ) (e : h ≡ tabulate (λ k. scoreAt Five cs (number5 k)) 8) where
@@ -66,19 +68,20 @@ module _ (cs : List Counts) (h : List ℤ) (e : h ≡ tabulate (λ k. scoreAt Fi
 
   pub decided-is : number5 (bestOfEight h) ≡ decided Five cs
   unfolding decided those
-  decided-is = ap number5 best-same ∙ sym (first-map f number5 (upTo 16) (lit< tt)) ∙ ap (firstLargest f) (sym five-allowed)
+  decided-is = ap number5 best-same ∙ sym (first-map f number5 (upTo 16) (lit< tt))
+      ∙ ap (firstLargest f) (sym five-allowed)
 
 -- eight scores of small counts are small
-pub eight-within : (i q h : List ℤ) → h ≡ tabulate (λ k. scoreAt Five (rows i q) (number5 k)) 8 → RowWithin 8192 i
-    → RowWithin 8192 q → RowWithin 65536 h
-eight-within i q h e wi wq = record {
-  at = λ k. subst (λ (l : List ℤ). Within 65536 (getD l k (pos 0))) (sym e)
-      (tabulate-all (Within 65536) (λ j. scoreAt Five (rows i q) (number5 j)) 8 (pos 0) (within-zero _)
-      (λ j. cck-within (number5 j) small-rows) k);
+pub eight-within : (b : ℕ) (i q h : List ℤ) → h ≡ tabulate (λ k. scoreAt Five (rows i q) (number5 k)) 8 → RowWithin b i
+    → RowWithin b q → RowWithin (b * 8) h
+eight-within b i q h e wi wq = record {
+  at = λ k. subst (λ (l : List ℤ). Within (b * 8) (getD l k (pos 0))) (sym e)
+      (tabulate-all (Within (b * 8)) (λ j. scoreAt Five (rows i q) (number5 j)) 8 (pos 0) (within-zero _)
+      (λ j. cck-within b (number5 j) small-rows) k);
 }
   where
-    small-rows : AllBounded 8192 (rows i q)
+    small-rows : AllBounded b (rows i q)
     small-rows = record {
-      at = tabulate-all (Bounded 8192) (λ k. pair (getD i k (pos 0)) (getD q k (pos 0))) 8 nothing
+      at = tabulate-all (Bounded b) (λ k. pair (getD i k (pos 0)) (getD q k (pos 0))) 8 nothing
           (record { real = within-zero _; imag = within-zero _ }) (λ j. record { real = wi .at j; imag = wq .at j });
     }

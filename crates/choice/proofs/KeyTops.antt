@@ -7,7 +7,7 @@ use native.Mathlib.Decide.{decLt}
 use native.Mathlib.Omega.{arith}
 use lib.Dec.{T, ltb, ltb→lt, nltb→le}
 use lib.IntN.{ℤ, pos}
-use Rattle.choosing.specs.Keys.{larger, Largest, HoldsLargest}
+use Rattle.choosing.specs.Keys.{larger, bigger, Largest, HoldsLargest}
 
 pub largest-one : (k : ℕ → ℕ) (a : ℕ) → Largest k a (suc a) (k a)
 largest-one k a = record {
@@ -27,7 +27,7 @@ module _ {k : ℕ → ℕ} {a b c x y : ℕ} (t : Largest k a b x) (s : Largest 
       by (yes h) = omega (arith, t .top j l h)
       by (no h) = omega (arith, s .top j (omega arith) m)
 
-  pub largest-both : Largest k a c (cond (ltb x y) y x)
+  pub largest-both : Largest k a c (bigger x y)
   largest-both = by (ltb x y) (ltb→lt x y) (nltb→le x y)
     where
       by : (u : Bool) → (T u → x < y) → (T (not u) → y ≤ x) → Largest k a c (cond u y x)
@@ -47,7 +47,7 @@ module _ {k : ℕ → ℕ} {a b c x y : ℕ} (t : Largest k a b x) (s : Largest 
       }
 
 -- ---- the whole numbers that hold them
-pub larger-held : {u v : ℤ} {x y : ℕ} → u ≡ pos x → v ≡ pos y → larger u v ≡ pos (cond (ltb x y) y x)
+pub larger-held : {u v : ℤ} {x y : ℕ} → u ≡ pos x → v ≡ pos y → larger u v ≡ pos (bigger x y)
 larger-held {u} {v} {x} {y} d e = (λ i. larger (d i) (e i)) ∙ by (ltb x y)
   where
     by : (t : Bool) → cond t (pos y) (pos x) ≡ pos (cond t y x)
@@ -60,7 +60,7 @@ holds-one k a e = record { x = k a; is-x = e; largest = largest-one k a }
 pub holds-both : {k : ℕ → ℕ} {a b c : ℕ} {u v z : ℤ} → HoldsLargest k a b u → HoldsLargest k b c v → z ≡ larger u v
     → HoldsLargest k a c z
 holds-both t s e = record {
-  x = cond (ltb (t .x) (s .x)) (s .x) (t .x);
+  x = bigger (t .x) (s .x);
   is-x = e ∙ larger-held (t .is-x) (s .is-x);
   largest = largest-both (t .largest) (s .largest);
 }

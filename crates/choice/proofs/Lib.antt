@@ -7,4 +7,6 @@ pub mod Signs
 pub mod Eight
 pub mod Crossed
 pub mod Wide
+pub mod Four
+pub mod Scaled
 pub mod Apart

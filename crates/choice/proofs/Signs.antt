@@ -3,39 +3,36 @@
 use mathlib.Core.Path.{_≡_, refl, sym, ap, _∙_, subst}
 use mathlib.Core.Bool.{Bool, true, false, not}
 use mathlib.Core.List.{List, [], _∷_, map}
-use Prim.Native.Nat.{ℕ, zero, suc, _+_, _*_, _-_, _≤_, _<_}
+use Prim.Native.Nat.{ℕ, zero, suc, _+_, _*_, _^_, _≤_, _<_}
 use native.Mathlib.Numerals.{add-one}
 use native.Mathlib.Omega.{arith}
 use lib.Dec.{T, lit<, lit≤, eqb}
-use native.Mathlib.Nat.{mul-suc}
+use native.Mathlib.Nat.{mul-suc, mul-le-mul-left}
 use borrow.Author.Tests.{eq-eqb, ne-eqb}
 use lib.ListN.{length, getD, drop, drop-of-length-le}
 use lib.Seq.{drop-cons}
 use lib.IntN.{ℤ, pos, negℤ, _+ℤ_, _-ℤ_, +ℤ-idl, +ℤ-idr, +ℤ-assoc}
-use mir.Syntax.{w32}
-use mir.Val.{SFits, toZ, ofZ}
+use mir.Syntax.{Width}
+use mir.Val.{SFits, toZ, ofZ, hbits}
 use mir.Facts.{toZ-ofZ}
 use Rattle.base.specs.Whole.{Within}
-use Rattle.base.proofs.Whole.{small, within-add, within-neg, within-zero, within-sfits, within-more}
+use Rattle.base.proofs.Whole.{within-add, within-neg, within-zero, within-more}
 use Rattle.base.proofs.Tests.{all-at, implies, implied}
 use Rattle.rates.specs.declared.Rate.the-variants.{One}
 use Rattle.chips.specs.declared.Counts.{Counts}
 use Rattle.chips.specs.declared.Axis.{Axis}
 use Rattle.chips.specs.declared.Axis.the-variants.{I, Q}
-use Rattle.chips.specs.Axes.{along}
+use Rattle.chips.specs.Axes.{along, phaseOn}
 use Rattle.symbols.specs.Words.{barkerSigns, signChip, barkerWord}
 use Rattle.symbols.specs.Choice.{score, decided}
 use Rattle.symbols.proofs.Words.{barkerTurns}
 use Rattle.choosing.specs.Scores.{RowWithin, scoreAt}
 use Rattle.choice.specs.Sums.{bySign, signed, bySigns, fourOf, bestOfSums}
+use Rattle.choice.proofs.Adding.{fits-at, reads-of}
 use Rattle.choosing.proofs.Best.{first-ext}
 use Rattle.choice.proofs.Turned.{barker-half}
 
 -- ---- the scores of the phases 0 and 1 are the sums of I and of Q
-abbrev pub phaseOn : Axis → ℕ
-phaseOn I = 0
-phaseOn Q = 1
-
 score-signed : (x : Axis) (ss : List Bool) (cs : List Counts) → score (map (signChip (phaseOn x)) ss) cs
     ≡ signed ss (map (along x) cs)
 unfolding score signed
@@ -66,14 +63,19 @@ module _ (cs : List Counts) where
   unfolding decided
   sums-decided = sym (first-ext (scoreAt One cs) (fourOf (sumOn I) (sumOn Q)) 4 (lit< tt) four-is)
 
--- ---- the loop: the sum so far with that of the rest is the whole
-pub record Summed (zs : List ℤ) (sum k : ℕ) : Type 0 where
+-- ---- the loop: the sum so far with that of the rest is the whole. The row's numbers are from -b to b, and the sum is
+-- kept in w
+pub record Summed (w : Width) (b : ℕ) (zs : List ℤ) (sum k : ℕ) : Type 0 where
   pub within : k ≤ 11
-  pub done : toZ w32 sum +ℤ signed (drop k barkerSigns) (drop k zs) ≡ bySigns zs
-  pub bound : Within (8192 * k) (toZ w32 sum)
+  pub done : toZ w sum +ℤ signed (drop k barkerSigns) (drop k zs) ≡ bySigns zs
+  pub bound : Within (b * k) (toZ w sum)
 
-pub summed-none : (zs : List ℤ) → Summed zs 0 0
-summed-none zs = record { within = lit≤ tt; done = +ℤ-idl (bySigns zs); bound = within-zero 0 }
+pub summed-none : (w : Width) (b : ℕ) (zs : List ℤ) → toZ w 0 ≡ pos 0 → Summed w b zs 0 0
+summed-none w b zs e = record {
+  within = lit≤ tt;
+  done = ap (λ (z : ℤ). z +ℤ bySigns zs) e ∙ +ℤ-idl (bySigns zs);
+  bound = rw e (within-zero _);
+}
 
 -- the signs as the code has them, no turn for a plus
 abbrev isPlus : ℕ → Bool
@@ -100,12 +102,16 @@ sign-within : {b : ℕ} (s : Bool) {z : ℤ} → Within b z → Within b (bySign
 sign-within true w = w
 sign-within false w = within-neg w
 
-module _ (zs : List ℤ) (sum k : ℕ) (inv : Summed zs sum k) (s : RowWithin 8192 zs) (l : length zs ≡ 11) (h : k < 11) where
+module _ {w : Width} {b : ℕ} (room : b * 11 < 2 ^ hbits w) {zs : List ℤ} {sum k : ℕ} (inv : Summed w b zs sum k)
+    (s : RowWithin b zs) (l : length zs ≡ 11) (h : k < 11) where
   abbrev z : ℤ
   z = getD zs k (pos 0)
 
-  next : Within (8192 * k + 8192) (toZ w32 sum +ℤ bySign (sign k) z)
-  next = within-add (inv .bound) (sign-within (sign k) (s .at k))
+  next : Within (b * suc k) (toZ w sum +ℤ bySign (sign k) z)
+  next = rw (mul-suc b k) (within-add (inv .bound) (sign-within (sign k) (s .at k)))
+
+  few : b * suc k < 2 ^ hbits w
+  few = omega (arith, mul-le-mul-left b h)
 
   rest : signed (drop k barkerSigns) (drop k zs)
       ≡ bySign (sign k) z +ℤ signed (drop (suc k) barkerSigns) (drop (suc k) zs)
@@ -113,54 +119,54 @@ module _ (zs : List ℤ) (sum k : ℕ) (inv : Summed zs sum k) (s : RowWithin 81
   rest = λ i. signed (drop-cons barkerSigns k true h i) (drop-cons zs k (pos 0) (subst (λ (n : ℕ). k < n) (sym l) h) i)
 
   -- however the next sum is made
-  module _ (v : ℤ) (made : v ≡ toZ w32 sum +ℤ bySign (sign k) z) where
-    made-fits : SFits w32 v
-    made-fits = rw made (within-sfits next (omega arith))
+  module _ (v : ℤ) (made : v ≡ toZ w sum +ℤ bySign (sign k) z) where
+    made-fits : SFits w v
+    made-fits = rw made (fits-at w next few)
 
-    made-sum : Summed zs (ofZ w32 v) (k + 1)
+    made-sum : Summed w b zs (ofZ w v) (k + 1)
     made-sum =
-        let read : toZ w32 (ofZ w32 v) ≡ toZ w32 sum +ℤ bySign (sign k) z = toZ-ofZ made-fits ∙ made in
+        let read : toZ w (ofZ w v) ≡ toZ w sum +ℤ bySign (sign k) z = toZ-ofZ made-fits ∙ made in
         record {
           within = omega arith;
           done = rw (add-one k, read)
-              (+ℤ-assoc (toZ w32 sum) (bySign (sign k) z) _ ∙ ap (λ (y : ℤ). toZ w32 sum +ℤ y) (sym rest) ∙ inv .done);
-          bound = rw read (subst (λ (b : ℕ). Within b (toZ w32 sum +ℤ bySign (sign k) z)) (omega arith) next);
+              (+ℤ-assoc (toZ w sum) (bySign (sign k) z) _ ∙ ap (λ (y : ℤ). toZ w sum +ℤ y) (sym rest) ∙ inv .done);
+          bound = rw (add-one k, read) next;
         }
 
-  is : toZ w32 (ofZ w32 z) ≡ z
-  is = small 8192 (lit< tt) z (s .at k)
+  is : toZ w (ofZ w z) ≡ z
+  is = reads-of {w = w} (omega (arith, mul-le-mul-left b h)) (s .at k) .is
 
   module _ (e : getD barkerTurns k 0 ≡ 0) where
-    plus-is : toZ w32 sum +ℤ toZ w32 (ofZ w32 z) ≡ toZ w32 sum +ℤ bySign (sign k) z
+    plus-is : toZ w sum +ℤ toZ w (ofZ w z) ≡ toZ w sum +ℤ bySign (sign k) z
     plus-is =
-        ap (λ (y : ℤ). toZ w32 sum +ℤ y)
+        ap (λ (y : ℤ). toZ w sum +ℤ y)
         (is ∙ sym (by-plus (sign k) z (implied (isPlus k) _ (pluses k h) (subst T (sym (eq-eqb _ _ e)) tt))))
 
-    pub plus-fits : SFits w32 (toZ w32 sum +ℤ toZ w32 (ofZ w32 z))
+    pub plus-fits : SFits w (toZ w sum +ℤ toZ w (ofZ w z))
     plus-fits = made-fits _ plus-is
 
-    pub plus-sum : Summed zs (ofZ w32 (toZ w32 sum +ℤ toZ w32 (ofZ w32 z))) (k + 1)
+    pub plus-sum : Summed w b zs (ofZ w (toZ w sum +ℤ toZ w (ofZ w z))) (k + 1)
     plus-sum = made-sum _ plus-is
 
   module _ (ne : getD barkerTurns k 0 ≡ 0 → ⊥) where
-    minus-is : toZ w32 sum -ℤ toZ w32 (ofZ w32 z) ≡ toZ w32 sum +ℤ bySign (sign k) z
+    minus-is : toZ w sum -ℤ toZ w (ofZ w z) ≡ toZ w sum +ℤ bySign (sign k) z
     minus-is =
-        ap (λ (y : ℤ). toZ w32 sum -ℤ y) is
-        ∙ ap (λ (y : ℤ). toZ w32 sum +ℤ y)
+        ap (λ (y : ℤ). toZ w sum -ℤ y) is
+        ∙ ap (λ (y : ℤ). toZ w sum +ℤ y)
         (sym (by-minus (sign k) z
         (implied (not (isPlus k)) _ (minuses k h) (subst (λ (b : Bool). T (not b)) (sym (ne-eqb _ _ ne)) tt))))
 
-    pub minus-fits : SFits w32 (toZ w32 sum -ℤ toZ w32 (ofZ w32 z))
+    pub minus-fits : SFits w (toZ w sum -ℤ toZ w (ofZ w z))
     minus-fits = made-fits _ minus-is
 
-    pub minus-sum : Summed zs (ofZ w32 (toZ w32 sum -ℤ toZ w32 (ofZ w32 z))) (k + 1)
+    pub minus-sum : Summed w b zs (ofZ w (toZ w sum -ℤ toZ w (ofZ w z))) (k + 1)
     minus-sum = made-sum _ minus-is
 
-pub summed-all : {zs : List ℤ} {sum k : ℕ} → Summed zs sum k → 11 ≤ k → toZ w32 sum ≡ bySigns zs
+pub summed-all : {w : Width} {b : ℕ} {zs : List ℤ} {sum k : ℕ} → Summed w b zs sum k → 11 ≤ k → toZ w sum ≡ bySigns zs
 unfolding signed
-summed-all {zs} {sum} {k} inv h =
-    sym (+ℤ-idr (toZ w32 sum))
-    ∙ ap (λ (l : List Bool). toZ w32 sum +ℤ signed l (drop k zs)) (sym (drop-of-length-le barkerSigns h))
+summed-all {w} {b} {zs} {sum} {k} inv h =
+    sym (+ℤ-idr (toZ w sum))
+    ∙ ap (λ (l : List Bool). toZ w sum +ℤ signed l (drop k zs)) (sym (drop-of-length-le barkerSigns h))
     ∙ inv .done
 
 -- a sum of eleven is within eleven times the bound
@@ -172,5 +178,5 @@ signed-within {b} (p ∷ ss) (z ∷ zs) s =
     within-more (within-add (sign-within p (s .at 0)) (signed-within ss zs (record { at = λ k. s .at (suc k) })))
     (rw (mul-suc b (length ss)) (omega arith))
 
-pub by-signs-within : (zs : List ℤ) → RowWithin 8192 zs → Within 90112 (bySigns zs)
-by-signs-within zs s = signed-within barkerSigns zs s
+pub by-signs-within : (b : ℕ) (zs : List ℤ) → RowWithin b zs → Within (b * 11) (bySigns zs)
+by-signs-within b zs s = signed-within barkerSigns zs s

@@ -1,7 +1,7 @@
 -- What the row of turns holds, and what half a turn does: a score is the sum of what stands in the row at the word's
 -- chips, in any order, and a word turned by a half scores the negative.
 -- Assumes nothing.
-use mathlib.Core.Path.{_≡_, refl, sym, ap, _∙_}
+use mathlib.Core.Path.{_≡_, refl, sym, ap, _∙_, subst}
 use mathlib.Core.List.{List, [], _∷_, map}
 use Prim.Native.Nat.{ℕ, zero, suc, _+_, _*_, _/_, _%_, _≤_, _<_}
 use native.Mathlib.Omega.{arith}
@@ -12,13 +12,13 @@ use lib.IntN.{ℤ, pos, negℤ, _+ℤ_, negℤ-+ℤ, negℤ-negℤ}
 use Rattle.base.specs.Tables.{tabulate}
 use Rattle.base.specs.Whole.{Within}
 use Rattle.base.proofs.Tables.{getD-tabulate, tabulate-all}
-use Rattle.base.proofs.Whole.{add, same, up-pos, dn-pos, within-zero, within-add, within-more}
+use Rattle.base.proofs.Whole.{add, same, up-pos, dn-pos, within-zero, within-add}
 use Rattle.chips.specs.declared.Counts.{Counts}
 use Rattle.chips.specs.Chips.{nothing, turned}
 use Rattle.symbols.specs.Words.{barkerWord, cckWord, cckOf, p1Of, p2Of, p3Of, p4Of}
 use Rattle.symbols.specs.Choice.{term, score}
 use Rattle.symbols.proofs.Words.{Phases, phases-tail, cck-phases, cck-length, barker-phases}
-use Rattle.choosing.specs.Scores.{Smalls, RowWithin, number5}
+use Rattle.choosing.specs.Scores.{AllBounded, Smalls, RowWithin, number5}
 use Rattle.choice.specs.Turns.{turnAt, addFour, slid, placed}
 use Rattle.choosing.proofs.Small.{term-within, score-within}
 use Rattle.choosing.proofs.Clean.{phase}
@@ -215,10 +215,10 @@ placed-is cs n e =
     placed-score cs 0 (cckOf n) (cck-phases (p1Of n) (p2Of n) (p3Of n) (p4Of n)) e (omega arith)
 
 -- how large a CCK word's score is
-pub cck-within : (n : ℕ) {cs : List Counts} → Smalls cs → Within 65536 (score (cckOf n) cs)
-cck-within n {cs} s =
-    let w = cck-length (p1Of n) (p2Of n) (p3Of n) (p4Of n) in
-    within-more (score-within (cckOf n) cs s) (omega arith)
+pub cck-within : (b n : ℕ) {cs : List Counts} → AllBounded b cs → Within (b * 8) (score (cckOf n) cs)
+cck-within b n {cs} s =
+    subst (λ (l : ℕ). Within (b * l) (score (cckOf n) cs)) (cck-length (p1Of n) (p2Of n) (p3Of n) (p4Of n))
+    (score-within (cckOf n) cs s)
 
 -- the same of a row that is known to be these turns
 module _ (cs : List Counts) (t : List ℤ) (e : t ≡ row cs) where

@@ -56,3 +56,16 @@ key-small h n (pos s) {b} w =
 key-small h n (negsuc s) {b} w =
     let l : suc s ≤ b = omega (arith, w .low) in
     omega (arith, mul-le-mul-left (h + h) l)
+
+-- the same with a test
+pub key-below : (w n : ℕ) (z : ℤ) → ltZ z (pos 0) ≡ true → n < w + w → 4 * w * natAbs z + (2 * w - 1 - n)
+    ≡ keyOf (w + w) n z
+unfolding keyOf
+key-below w n (pos s) t l = absurd (omega (arith, ltb-true s 0 t))
+key-below w n (negsuc s) t l = let e : w + w + (w + w) ≡ 4 * w = omega arith in rw e (omega arith)
+
+pub key-above : (w n : ℕ) (z : ℤ) → ltZ z (pos 0) ≡ false → n < w + w → 4 * w * natAbs z + (4 * w - 1 - n)
+    ≡ keyOf (w + w) n z
+unfolding keyOf
+key-above w n (pos s) t l = let e : w + w + (w + w) ≡ 4 * w = omega arith in rw e (omega arith)
+key-above w n (negsuc s) t l = absurd (let x : _≡_ {A = ℕ} 0 1 = ap (λ (b : Bool). cond b 0 1) t in omega arith)

@@ -56,7 +56,7 @@ fn largest(h: [i32; 8]) -> i32
 }
 
 // The number of the k-th allowed word.
-fn number(k: u8) -> u8
+pub fn number(k: u8) -> u8
     requires { ⌜ k < 16 ⌝ }
     ensures answer { λ r. ⌜ r ≡ number5 k ⌝ }
 {

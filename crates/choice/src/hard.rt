@@ -1,6 +1,5 @@
 // Symbols of hard chips. Each function is called from one loop over symbols, in which its array of chips dissolves.
-use super::barker;
-use super::five;
+use super::units;
 use chips::Axis;
 use chips::Chip;
 use rates::Rate;
@@ -15,9 +14,9 @@ pub fn decide_barker(chips: [Chip; 11]) -> u8
     requires { ⌜ AllHard 11 chips ⌝ }
     ensures answer { λ r. ⌜ r ≡ decided Rate.One (map countsOf chips) ⌝ }
 {
-    barker::decide(
-        chips::hard_counts11(chips, Axis::I),
-        chips::hard_counts11(chips, Axis::Q),
+    units::barker(
+        chips::hard_units11(chips, Axis::I),
+        chips::hard_units11(chips, Axis::Q),
     )
 }
 
@@ -26,8 +25,8 @@ pub fn decide_five(chips: [Chip; 8]) -> u8
     requires { ⌜ AllHard 8 chips ⌝ }
     ensures answer { λ r. ⌜ r ≡ decided Rate.Five (map countsOf chips) ⌝ }
 {
-    five::decide(
-        chips::hard_counts8(chips, Axis::I),
-        chips::hard_counts8(chips, Axis::Q),
+    units::five(
+        chips::hard_units8(chips, Axis::I),
+        chips::hard_units8(chips, Axis::Q),
     )
 }

@@ -17,6 +17,7 @@ pub mod hard;
 mod keys;
 mod scores;
 pub mod soft;
+mod units;
 
 use scores::scores_eleven;
 

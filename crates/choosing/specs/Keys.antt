@@ -6,9 +6,13 @@ use mathlib.Core.Path.{_≡_}
 use mathlib.Core.Bool.{cond}
 use lib.IntN.{ℤ, pos, negsuc}
 use lib.Signed.{ltZ}
+use lib.Dec.{ltb}
 
 abbrev pub larger : ℤ → ℤ → ℤ
 larger a b = cond (ltZ a b) b a
+
+abbrev pub bigger : ℕ → ℕ → ℕ
+bigger x y = cond (ltb x y) y x
 
 -- the key of the better of words n and n + h, whose scores are z and -z
 unfoldable pub keyOf : ℕ → ℕ → ℤ → ℕ

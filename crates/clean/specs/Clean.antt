@@ -28,7 +28,7 @@ pub data Exactly : List ℕ → List Float → List Float → Type 0 where
 
 -- the f32 numbers 1 and -1, and a zero by its bits, as I and as Q of a chip sent with phase p
 abbrev pub softI : ℕ → ℕ → Float
-softI zero p = ofBits binary32 (getD (0x3f80_0000 ∷ zero ∷ 0xbf80_0000 ∷ zero ∷ []) p zero)
+softI z p = ofBits binary32 (getD (0x3f80_0000 ∷ z ∷ 0xbf80_0000 ∷ z ∷ []) p z)
 
 abbrev pub softQ : ℕ → ℕ → Float
-softQ zero p = ofBits binary32 (getD (zero ∷ 0x3f80_0000 ∷ zero ∷ 0xbf80_0000 ∷ []) p zero)
+softQ z p = ofBits binary32 (getD (z ∷ 0x3f80_0000 ∷ z ∷ 0xbf80_0000 ∷ []) p z)

@@ -1,8 +1,8 @@
 -- The half turn of odd CCK symbols, counted from the header or from the frame's start, would give the same chips:
 -- headers have 48 or 24 symbols and fronts 192 or 96, all even numbers. So that error cannot be seen, and no edit
 -- stands for it. Assumes nothing.
-use mathlib.Core.Path.{_≡_, refl}
-use Prim.Native.Nat.{ℕ, _+_, _/_, _%_}
+use mathlib.Core.Path.{_≡_}
+use Prim.Native.Nat.{ℕ, _+_, _/_}
 use native.Mathlib.Omega.{arith}
 use Rattle.rates.specs.Rates.{symbolBits}
 use Rattle.bits.specs.Growths.{halfTurn}

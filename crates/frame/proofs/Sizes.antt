@@ -3,7 +3,7 @@
 --     framed-length, frame-length                    chips: the front's, and 88, 44, 16 or 8 for each octet
 --     frame-small                                    no frame has more than 362,472
 -- A symbol is as many chips as its rate says, and each part is a whole number of symbols. Assumes nothing.
-use mathlib.Core.Path.{_≡_, refl, sym, ap, ap₂, _∙_}
+use mathlib.Core.Path.{_≡_, ap, ap₂, _∙_}
 use mathlib.Core.List.{List, _++_}
 use Prim.Native.Nat.{ℕ, _+_, _*_, _/_, _≤_}
 use native.Mathlib.Omega.{arith}
@@ -11,7 +11,7 @@ use lib.ListN.{length, take, drop, replicate, length-append, length-replicate, l
 use lib.Seq.{length-take-le}
 use Rattle.rates.specs.declared.Rate.{Rate}
 use Rattle.rates.specs.declared.Rate.the-variants.{One, Two, Five, Eleven}
-use Rattle.rates.specs.Rates.{symbolChips, symbolBits, octetSymbols, octetChips}
+use Rattle.rates.specs.Rates.{symbolChips, symbolBits, octetChips}
 use Rattle.rates.proofs.Octets.{part-symbols, part-chips}
 use Rattle.bits.specs.Bits.{bitsOf}
 use Rattle.bits.specs.Growths.{symbolsOf, chipsFrom, lastPhase}

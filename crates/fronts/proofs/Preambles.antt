@@ -80,7 +80,8 @@ goes-on s r at l ws h e x =
 
 -- ---- the last octets of bits
 
-last-octets : (m n : ℕ) (bs : List ℕ) → length bs ≡ 8 * m + 8 * n → drop m (octetsOf (m + n) bs) ≡ octetsOf n (drop (8 * m) bs)
+last-octets : (m n : ℕ) (bs : List ℕ) → length bs ≡ 8 * m + 8 * n → drop m (octetsOf (m + n) bs)
+    ≡ octetsOf n (drop (8 * m) bs)
 last-octets m n bs e =
     ap (drop m)
     (ap (octetsOf (m + n)) (sym (take-append-drop (8 * m) bs))
@@ -149,7 +150,8 @@ module _
   both =
       subst (λ (ws : List ℕ). Heard One 0 l ws p) both-words
       (blocks-more One 0 l A B a even first b p
-      (subst (λ (n : ℕ). Heard One n (a .line) B b) (ap (λ (n : ℕ). 0 + 11 * n) (sym (part-length One 0 8 rec))) (z .line))
+      (subst (λ (n : ℕ). Heard One n (a .line) B b) (ap (λ (n : ℕ). 0 + 11 * n) (sym (part-length One 0 8 rec)))
+      (z .line))
       (ab .0) (ab .1))
 
   reference-phase : l .phase ≡ reference k rec

@@ -17,7 +17,13 @@ use Rattle.bits.specs.Scrambler.{descramble}
 use Rattle.bits.specs.Code.{pastOf, pastAfter}
 use Rattle.bits.specs.declared.Line.{Line}
 use Rattle.bits.proofs.Bits.{octets-bits}
-use Rattle.bits.proofs.Scrambler.{past-append, descramble-append, descramble-below, descramble-length, descramble-window}
+use Rattle.bits.proofs.Scrambler.{
+  past-append,
+  descramble-append,
+  descramble-below,
+  descramble-length,
+  descramble-window,
+}
 use Rattle.bits.proofs.Heard.{heard-length}
 use Rattle.frame.specs.declared.Kind.{Kind}
 use Rattle.frame.specs.declared.Kind.the-variants.{Long, Short}
@@ -50,8 +56,10 @@ header-words Short rec = refl
 
 header-bits : (k : Kind) (rec : List Taken) (l : Line) → length (plainBits (headerRate k) l (headerWords k rec)) ≡ 48
 unfolding headerWords
-header-bits Long rec l = plain-length One l _ ∙ omega (arith, decidedWords-length One 48 (drop (preambleChips Long) rec))
-header-bits Short rec l = plain-length Two l _ ∙ omega (arith, decidedWords-length Two 24 (drop (preambleChips Short) rec))
+header-bits Long rec l = plain-length One l _
+    ∙ omega (arith, decidedWords-length One 48 (drop (preambleChips Long) rec))
+header-bits Short rec l = plain-length Two l _
+    ∙ omega (arith, decidedWords-length Two 24 (drop (preambleChips Short) rec))
 
 -- the first n bits behind the first m of a row, with more behind them
 cut : (a b : List ℕ) (m n : ℕ) → length a ≡ m + n → take n (drop m (a ++ b)) ≡ drop m a
@@ -71,7 +79,8 @@ module _
     ≡ orElse (whereFound (p .heard .odd)) (λ place. some place) (whereFound (c .odd)))) where
   header-part : Heard (headerRate k) (preambleChips k) (p .heard .line) (headerWords k rec) c
   header-part =
-      subst (λ (ws : List ℕ). Heard (headerRate k) (preambleChips k) (p .heard .line) ws c) (header-words k rec) (z .line)
+      subst (λ (ws : List ℕ). Heard (headerRate k) (preambleChips k) (p .heard .line) ws c) (header-words k rec)
+      (z .line)
 
   header-heard : received (headerRate k) (p .heard .line) (headerWords k rec)
       ≡ heard (headerRate k) 0 (headerPhase k rec) (headerWords k rec)

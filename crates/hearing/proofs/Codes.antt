@@ -167,7 +167,13 @@ count-fits Eleven n h = omega arith
 -- what the next block takes of the octets left
 module _ (s left : ℕ) where
   pub block-rest : (r : Rate) → s ≡ octetSymbols r → left < 64 / s → BlockOf r left left
-  block-rest r e h = record { within = omega arith; fits = by r (rw e at h); some = λ k. k; full = λ k. absurd (omega arith) }
+  block-rest r e h = record {
+    within = omega arith;
+    fits = by r (rw e at h);
+    some = λ k. k;
+    full =
+        λ k. absurd (omega arith);
+  }
     where
       by : (r : Rate) → left < 64 / octetSymbols r → octetSymbols r * left ≤ 64
       by One k = omega arith

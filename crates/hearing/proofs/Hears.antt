@@ -71,7 +71,10 @@ quarter x = omega arith
 
 module _ (r : Rate) (p : ℕ) (ns : List ℕ) (h : p < 4) where
   pub phases-low : (ps : List ℕ) → ps ≡ tabulate (phaseBefore r p ns) 65 → Below 4 ps
-  phases-low ps e = record { at = λ i. rw e (tabulate-all (λ (x : ℕ). x < 4) (phaseBefore r p ns) 65 0 (omega arith) by i) }
+  phases-low ps e = record {
+    at =
+        λ i. rw e (tabulate-all (λ (x : ℕ). x < 4) (phaseBefore r p ns) 65 0 (omega arith) by i);
+  }
     where
       by : (j : ℕ) → phaseBefore r p ns j < 4
       by zero = h
@@ -200,7 +203,8 @@ module _
             length-tabulate (λ (j : ℕ). grownFor r j (getD ps j 0) (getD ps (j + 1) 0)) 64,
           )))
           (λ j h. getD-take m g j 0 h ∙ grown-at j h
-          ∙ subst (λ (s : Rate). grownFor s j (getD ps j 0) (getD ps (j + 1) 0) ≡ grownBy (getD ps j 0) (getD ps (j + 1) 0))
+          ∙ subst (λ (s : Rate). grownFor s j (getD ps j 0) (getD ps (j + 1) 0)
+          ≡ grownBy (getD ps j 0) (getD ps (j + 1) 0))
           e refl))
       by Two e = refl
       by Five e = refl

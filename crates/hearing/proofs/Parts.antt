@@ -30,7 +30,14 @@ use Rattle.bits.specs.Code.{pastOf, pastAfter}
 use Rattle.bits.specs.declared.Line.{Line}
 use Rattle.bits.proofs.Bits.{octets-append, octets-length}
 use Rattle.bits.proofs.Scrambler.{past-append, descramble-append, descramble-length}
-use Rattle.bits.proofs.Heard.{heard-append, lastHeard-append, growthsOf-append, growthsOf-length, heard-length, heard-parity}
+use Rattle.bits.proofs.Heard.{
+  heard-append,
+  lastHeard-append,
+  growthsOf-append,
+  growthsOf-length,
+  heard-length,
+  heard-parity,
+}
 use Rattle.calls.specs.Reading.{orElse, firstOdd, oddGrowth, decidedWords}
 use Rattle.recorders.specs.declared.Found.the-variants.{Nothing}
 use Rattle.recorders.specs.Rows.{whereFound, symbolAt, AllUsable, DecidedAt}
@@ -38,7 +45,13 @@ use Rattle.recorders.proofs.Search.{usable-part}
 use Rattle.hearing.specs.declared.Hearing.{Hearing}
 use Rattle.hearing.specs.Blocks.{AreWords, BlockOf}
 use Rattle.hearing.specs.Hearing.{received, plainBits, plainOctets, partWords, Heard, PartHeard}
-use Rattle.hearing.proofs.Passes.{past-take, descramble-take, oddGrowth-append, decidedWords-length, decidedWords-append}
+use Rattle.hearing.proofs.Passes.{
+  past-take,
+  descramble-take,
+  oddGrowth-append,
+  decidedWords-length,
+  decidedWords-append,
+}
 
 -- ---- the words of a block
 
@@ -122,51 +135,52 @@ plain-length r l ws = descramble-length (pastOf (l .past)) (received r l ws) ∙
 
 -- ---- two parts
 
-module _ (r : Rate) (at : ℕ) (l : Line) (a b : List ℕ) (h : Hearing) (even : length a % 2 ≡ 0) (x : Heard r at l a h) where
-  -- the bits of words behind an even number of others
-  same : received r (h .line) b ≡ heard r (0 + length a) (lastHeard r (l .phase) a) b
-  same =
-      heard-parity r 0 (0 + length a) (h .line .phase) b (omega arith)
-      ∙ ap (λ (p : ℕ). heard r (0 + length a) p b) (x .phase)
+module _ (r : Rate) (at : ℕ) (l : Line) (a b : List ℕ) (h : Hearing) (even : length a % 2 ≡ 0) (x : Heard r at l a h)
+  where
+    -- the bits of words behind an even number of others
+    same : received r (h .line) b ≡ heard r (0 + length a) (lastHeard r (l .phase) a) b
+    same =
+        heard-parity r 0 (0 + length a) (h .line .phase) b (omega arith)
+        ∙ ap (λ (p : ℕ). heard r (0 + length a) p b) (x .phase)
 
-  pub blocks-more : (g k : Hearing) → Heard r (at + symbolChips r * length a) (h .line) b g → k .line ≡ g .line
-      → whereFound (k .odd) ≡ orElse (whereFound (h .odd)) (λ place. some place) (whereFound (g .odd))
-      → Heard r at l (a ++ b) k
-  blocks-more g k y e f = record {
-    past =
-        ap (λ (m : Line). pastOf (m .past)) e
-        ∙ y .past
-        ∙ ap₂ {C = List ℕ} (λ p bs. take 8 (pastAfter p bs)) (x .past) same
-        ∙ past-take 8 _ _
-        ∙ ap (take 8) (sym (past-append (pastOf (l .past)) (received r l a) _))
-        ∙ ap (λ (bs : List ℕ). take 8 (pastAfter (pastOf (l .past)) bs)) (sym (heard-append r 0 (l .phase) a b));
-    phase = ap (λ (m : Line). m .phase) e ∙ y .phase ∙ ap (λ (p : ℕ). lastHeard r p b) (x .phase)
-        ∙ sym (lastHeard-append r (l .phase) a b);
-    small = rw e (y .small);
-    place = f ∙ ap₂ {C = Option ℕ} (λ o p. orElse o (λ place. some place) p) (x .place)
-        (y .place ∙ ap (λ (p : ℕ). oddGrowth r (at + symbolChips r * length a) (growthsOf r p b)) (x .phase)
-        ∙ ap (λ (n : ℕ). oddGrowth r (at + symbolChips r * n) (growthsOf r (lastHeard r (l .phase) a) b))
-        (sym (growthsOf-length r (l .phase) a)))
-        ∙ sym (oddGrowth-append r at (growthsOf r (l .phase) a) _)
-        ∙ ap (oddGrowth r at) (sym (growthsOf-append r (l .phase) a b));
-  }
+    pub blocks-more : (g k : Hearing) → Heard r (at + symbolChips r * length a) (h .line) b g → k .line ≡ g .line
+        → whereFound (k .odd) ≡ orElse (whereFound (h .odd)) (λ place. some place) (whereFound (g .odd))
+        → Heard r at l (a ++ b) k
+    blocks-more g k y e f = record {
+      past =
+          ap (λ (m : Line). pastOf (m .past)) e
+          ∙ y .past
+          ∙ ap₂ {C = List ℕ} (λ p bs. take 8 (pastAfter p bs)) (x .past) same
+          ∙ past-take 8 _ _
+          ∙ ap (take 8) (sym (past-append (pastOf (l .past)) (received r l a) _))
+          ∙ ap (λ (bs : List ℕ). take 8 (pastAfter (pastOf (l .past)) bs)) (sym (heard-append r 0 (l .phase) a b));
+      phase = ap (λ (m : Line). m .phase) e ∙ y .phase ∙ ap (λ (p : ℕ). lastHeard r p b) (x .phase)
+          ∙ sym (lastHeard-append r (l .phase) a b);
+      small = rw e (y .small);
+      place = f ∙ ap₂ {C = Option ℕ} (λ o p. orElse o (λ place. some place) p) (x .place)
+          (y .place ∙ ap (λ (p : ℕ). oddGrowth r (at + symbolChips r * length a) (growthsOf r p b)) (x .phase)
+          ∙ ap (λ (n : ℕ). oddGrowth r (at + symbolChips r * n) (growthsOf r (lastHeard r (l .phase) a) b))
+          (sym (growthsOf-length r (l .phase) a)))
+          ∙ sym (oddGrowth-append r at (growthsOf r (l .phase) a) _)
+          ∙ ap (oddGrowth r at) (sym (growthsOf-append r (l .phase) a b));
+    }
 
-  pub blocks-bits : plainBits r l (a ++ b) ≡ plainBits r l a ++ plainBits r (h .line) b
-  blocks-bits =
-      let p = pastOf (l .past) in
-      ap (descramble p) (heard-append r 0 (l .phase) a b)
-      ∙ descramble-append p (received r l a) _
-      ∙ ap (λ (cs : List ℕ). plainBits r l a ++ cs)
-      (ap (descramble (pastAfter p (received r l a))) (sym same)
-      ∙ sym (descramble-take 8 (pastAfter p (received r l a)) (received r (h .line) b) (omega arith))
-      ∙ ap (λ (q : List ℕ). descramble q (received r (h .line) b)) (sym (x .past)))
+    pub blocks-bits : plainBits r l (a ++ b) ≡ plainBits r l a ++ plainBits r (h .line) b
+    blocks-bits =
+        let p = pastOf (l .past) in
+        ap (descramble p) (heard-append r 0 (l .phase) a b)
+        ∙ descramble-append p (received r l a) _
+        ∙ ap (λ (cs : List ℕ). plainBits r l a ++ cs)
+        (ap (descramble (pastAfter p (received r l a))) (sym same)
+        ∙ sym (descramble-take 8 (pastAfter p (received r l a)) (received r (h .line) b) (omega arith))
+        ∙ ap (λ (q : List ℕ). descramble q (received r (h .line) b)) (sym (x .past)))
 
-  pub blocks-octets : (i j : ℕ) → length a ≡ octetSymbols r * i
-      → plainOctets r (i + j) l (a ++ b) ≡ plainOctets r i l a ++ plainOctets r j (h .line) b
-  blocks-octets i j size =
-      ap (octetsOf (i + j)) blocks-bits
-      ∙ octets-append i j (plainBits r l a) (plainBits r (h .line) b)
-      (plain-length r l a ∙ ap (λ (n : ℕ). symbolBits r * n) size ∙ part-bits r i)
+    pub blocks-octets : (i j : ℕ) → length a ≡ octetSymbols r * i
+        → plainOctets r (i + j) l (a ++ b) ≡ plainOctets r i l a ++ plainOctets r j (h .line) b
+    blocks-octets i j size =
+        ap (octetsOf (i + j)) blocks-bits
+        ∙ octets-append i j (plainBits r l a) (plainBits r (h .line) b)
+        (plain-length r l a ∙ ap (λ (n : ℕ). symbolBits r * n) size ∙ part-bits r i)
 
 -- ---- the loop over blocks
 
@@ -223,7 +237,8 @@ module _
   pub block-room : (m : ℕ) → at + octetChips r * length d ≤ m → place + octetChips r * n ≤ m
   block-room m e = rw (s .at-place) (by r (omega (arith, w .within, parts-long s)) e)
     where
-      by : (r : Rate) → k + n ≤ length d → at + octetChips r * length d ≤ m → at + octetChips r * k + octetChips r * n ≤ m
+      by : (r : Rate) → k + n ≤ length d → at + octetChips r * length d ≤ m
+          → at + octetChips r * k + octetChips r * n ≤ m
       by One p q = omega arith
       by Two p q = omega arith
       by Five p q = omega arith

@@ -85,4 +85,5 @@ plain-more raw d out n i v e h l f =
     ∙ ap₂ {C = ℕ} (λ a b. numberOf (descramble (pastOf a) (bitsOf 8 b)))
     (sym (from-first raw n i (omega arith))) (sym (getD-tabulate (λ j. getD raw (j + 1) 0) n i 0 h))
     ∙ sym (plain-at n (getD raw 0 0) (behind raw n) i (sym (length-tabulate _ n)) h) in
-    ap (set out i) is ∙ over-more out w d i e (omega (arith, plain-length n (getD raw 0 0) (behind raw n))) (omega arith)
+    ap (set out i) is ∙ over-more out w d i e (omega (arith, plain-length n (getD raw 0 0) (behind raw n)))
+    (omega arith)

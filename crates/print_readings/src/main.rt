@@ -1,6 +1,6 @@
-// Recordings and what comes of them, printed: good ones, and one for every refusal. A frame is written, spoilt, and read
-// into a buffer that held 99s; a case that begins with "and" spoils the one before it further. Nothing is proved of
-// what a program writes but that it is safe and ends; what it writes is compared with the file stdout.
+// Recordings and what comes of them, printed: good ones, and one for every refusal. A frame is written, spoilt, and
+// read into a buffer that held 99s; a case that begins with "and" spoils the one before it further. Nothing is
+// proved of what a program writes but that it is safe and ends; what it writes is compared with the file stdout.
 use calls::Record;
 use frame::Kind;
 use libc::STDOUT_FILENO;

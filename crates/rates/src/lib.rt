@@ -1,6 +1,5 @@
 // What a rate is: 1, 2, 5.5 or 11 Mbit/s, its code, the chips of an octet, LENGTH and bit 7.
 ghost use mathlib.Core.Path.{_≡_};
-ghost use mathlib.Core.Bool.{Bool};
 ghost use Prim.Native.Nat.{_≤_, _<_};
 ghost use lib.IntN.{pos};
 ghost use Rattle.rates.specs.Rates.{

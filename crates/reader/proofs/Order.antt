@@ -55,7 +55,8 @@ module _ (k : Kind) (t : Told) (rec : List Taken) (room : ℕ) where
 
   -- what hearing left is what reading leaves
   left : (all : ℕ) (o : Found)
-      → octetsHeard k (t .rate) (t .n) rec room (whereFound o) ≡ octetsAfter k rec room (afterHeard t all (whereFound o))
+      → octetsHeard k (t .rate) (t .n) rec room (whereFound o)
+      ≡ octetsAfter k rec room (afterHeard t all (whereFound o))
   left all Nothing = refl
   left all (At place) = refl
 
@@ -92,7 +93,8 @@ module _ (kind : ℕ) (agree : Bool) (rec : List Taken) (room : ℕ) where
         → (Refused w ≡ readingOf kind agree rec room) × (out ≡ octetsFound kind agree rec room)
     read-refused w out t z = both (Refused w) out (unfold readingOf in rw (e, a, ← c, ← x .told, t)) z
 
-    pub read-told : (t : Told) (g : Reading) (out : List ℕ) → o .front ≡ front.Fields t → g ≡ payloadReading k t rec room
+    pub read-told : (t : Told) (g : Reading) (out : List ℕ) → o .front ≡ front.Fields t → g
+        ≡ payloadReading k t rec room
         → out ≡ octetsAfter k rec room g → (g ≡ readingOf kind agree rec room) × (out ≡ octetsFound kind agree rec room)
     read-told t g out w p q =
         both g out (p ∙ (unfold readingOf in rw (e, a, ← c, ← x .told, w)))

@@ -45,7 +45,8 @@ unfolding firstUnusable
 search-over rec at to h = let e : to - at ≡ 0 = omega arith in rw e
 
 pub search-past : (rec : List Taken) (at to n : ℕ) → at + n ≤ to → to ≤ length rec → AllUsable rec at n
-    → firstUnusable at (take (to - at) (drop at rec)) ≡ firstUnusable (at + n) (take (to - (at + n)) (drop (at + n) rec))
+    → firstUnusable at (take (to - at) (drop at rec))
+    ≡ firstUnusable (at + n) (take (to - (at + n)) (drop (at + n) rec))
 search-past rec at to zero h l u = rw add-zero refl
 search-past rec at to (suc n) h l u =
     let e : at + suc n ≡ at + n + 1 = omega arith in

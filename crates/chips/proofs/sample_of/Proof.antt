@@ -17,4 +17,5 @@ returns-2 c =
     absurd (subst (λ (d : Chip). T (softUsable d)) (c .enum-told2 .given .1) (c .before .before .pre))
 
 pub sample-of-spec : {M : Type 1} → statement M
-sample-of-spec = tie.close (tie.spec (λ c. search needs) (λ c. search needs) (λ c. search needs) returns returns-2 (λ c. search needs))
+sample-of-spec = tie.close (tie.spec (λ c. search needs) (λ c. search needs) (λ c. search needs) returns returns-2
+    (λ c. search needs))

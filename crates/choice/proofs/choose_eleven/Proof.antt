@@ -14,7 +14,8 @@ use Rattle.choice.proofs.choose_eleven.Tie as tie
 
 found : (c : tie.After-largest) → c .largest .result ≡ decided Eleven (c .before .before .before .args .cs)
 unfolding decided
-found c = c .largest .ensures ∙ place-table (scoreAt Eleven _) 256 _ (lit< tt) (c .before .before .scores-eleven .ensures)
+found c = c .largest .ensures ∙ place-table (scoreAt Eleven _) 256 _ (lit< tt)
+    (c .before .before .scores-eleven .ensures)
 
 cast-result : tie.Need-cast-result
 cast-result c = record { fits = omega (arith, found c, decided-below Eleven (c .before .before .before .args .cs)) }

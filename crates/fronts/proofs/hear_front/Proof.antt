@@ -52,8 +52,10 @@ hear-octets-requires c κs =
 
 returns : tie.Need-returns
 returns c =
-    let start = c .before .before .before .before .before .before .before .before .before .before .before .before .before in
-    front-known (start .args .kind) _ _ _ _ _ (c .before .before .before .before .before .before .before .before .before .hear-preamble .ensures)
+    let start = c .before .before .before .before .before .before .before .before .before .before .before .before
+    .before in
+    front-known (start .args .kind) _ _ _ _ _
+    (c .before .before .before .before .before .before .before .before .before .hear-preamble .ensures)
     (part (start .args .kind) _ _ (c .before .before .before .before .before .before .header-rate .ensures)
     (c .before .before .before .before .before .preamble-chips .ensures) _ _ _ _
     (c .before .before .before .hear-octets .ensures))

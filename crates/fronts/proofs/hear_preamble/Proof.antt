@@ -9,7 +9,8 @@ returns c =
     let call = c .before .before .hear-sync in
     record {
       line = call .ensures .0;
-      sfd = preamble-sfd (c .before .before .before .before .before .before .before .args .kind) _ _ _ (call .ensures .1) (c .behind-sync .ensures);
+      sfd = preamble-sfd (c .before .before .before .before .before .before .before .args .kind) _ _ _
+          (call .ensures .1) (c .behind-sync .ensures);
     }
 
 pub hear-preamble-spec : {M : Type 1} → statement M

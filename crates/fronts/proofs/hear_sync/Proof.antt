@@ -27,7 +27,8 @@ counted Short n e = (omega arith, omega arith)
 
 -- how long the row is once the first block is heard
 long : (c : tie.After-hear) → length (c .hear .last .1 .1 .1 .1 .1 .0) ≡ 18
-long c = c .hear .kept .1 .1 .1 .1 .1 .0 ∙ c .before .before .before .before .before .before .before .before .before .pre .2
+long c = c .hear .kept .1 .1 .1 .1 .1 .0
+    ∙ c .before .before .before .before .before .before .before .before .before .pre .2
 
 decide-requires : tie.Need-decide-requires
 decide-requires c κs =
@@ -52,7 +53,8 @@ hear-requires c κs =
 within : (c : tie.After-l) → (8 ≤ c .before .preamble-octets .result) × (c .before .preamble-octets .result ≤ 18)
 within c =
     let heard = c .before .before .before .before in
-    counted (heard .before .before .before .before .before .before .before .before .before .args .kind) _ (c .before .preamble-octets .ensures)
+    counted (heard .before .before .before .before .before .before .before .before .before .args .kind) _
+    (c .before .preamble-octets .ensures)
 
 hear-octets-requires : tie.Need-hear-octets-requires
 hear-octets-requires c κs =

@@ -5,7 +5,8 @@ use Rattle.fronts.proofs.read_usable.Statement.{statement}
 use Rattle.fronts.proofs.read_usable.Tie as tie
 
 returns : tie.Need-returns
-returns c = usable-odd _ _ _ _ _ (c .before .before .odd .given .1) (c .before .before .before .before .before .hear-front .ensures .odd)
+returns c = usable-odd _ _ _ _ _ (c .before .before .odd .given .1)
+    (c .before .before .before .before .before .hear-front .ensures .odd)
     (c .refused .ensures)
 
 returns-2 : tie.Need-returns-2

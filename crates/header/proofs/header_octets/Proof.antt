@@ -1,6 +1,5 @@
 -- `header::header_octets` meets its contract: SIGNAL, SERVICE and LENGTH are those that are sent. Assumes nothing.
 use mathlib.Core.Path.{_≡_, ap, _∙_}
-use mathlib.Core.List.{List}
 use Prim.Native.Nat.{ℕ, _*_}
 use native.Mathlib.Omega.{arith}
 use borrow.Author.Needs.{needs}

@@ -1,12 +1,8 @@
 -- `header::octets_told` meets its contract: each return is a case of the law of LENGTH in natural numbers.
 -- Assumes nothing.
-use mathlib.Core.Path.{_≡_}
-use mathlib.Core.Bool.{true}
 use Prim.Native.Nat.{_-_}
-use lib.IntN.{pos}
 use borrow.Author.Needs.{needs}
 use Rattle.base.proofs.Tests.{failed, passed}
-use Rattle.rates.specs.Rates.{isPayload}
 use Rattle.rates.proofs.Lengths.{payload-high}
 use Rattle.header.proofs.Lengths.{told-none, told-over, told-length, told-seven, told-all}
 use Rattle.header.proofs.octets_told.Statement.{statement}

@@ -68,7 +68,8 @@ returns c =
     let start = c .before .before .before .before .before .before .before .before .before .before .before in
     let a = start .args in
     let call = c .before .before .hear in
-    let words = block-words (a .rate) _ (a .count) (c .before .before .before .before .before .before .octet-symbols .ensures)
+    let words = block-words (a .rate) _ (a .count)
+    (c .before .before .before .before .before .before .octet-symbols .ensures)
     (recordingOf (a .rec) (a .row .now) (a .i .now) (a .q .now)) (a .place) _
     (c .before .before .before .before .decide .ensures) (start .pre .0) in (
       subst (λ (ws : List ℕ). Heard (a .rate) (a .place) (a .line) ws (call .result)) words (call .ensures .0),

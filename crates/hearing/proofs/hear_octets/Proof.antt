@@ -19,7 +19,8 @@ abbrev μ-loop : tie.MeasureT-loop
 μ-loop rec row i q rate at out₀ chips heard₀ place₀ k₀ out heard place k = length out₀ - k
 
 -- in a turn there are octets left
-left : (c : tie.In-loop Inv-loop μ-loop) → c .before .loop .k < length (c .before .before .before .before .before .before .before .args .out .now)
+left : (c : tie.In-loop Inv-loop μ-loop)
+    → c .before .loop .k < length (c .before .before .before .before .before .before .before .args .out .now)
 left c = omega (arith, parts-long (c .before .loop .inv))
 
 -- what the block asks of the recording
@@ -77,7 +78,13 @@ add-k c =
     let w = turn c .block-octets .ensures in
     let b = left (turn c .before) in
     let long = parts-long (turn c .before .before .loop .inv) in
-    record { fits = omega (arith, w .within, turn c .before .before .before .before .before .before .before .before .good .1 .1 .1 .1 .1 .1 .1 .0 .0) }
+    record {
+      fits = omega (
+        arith,
+        w .within,
+        turn c .before .before .before .before .before .before .before .before .good .1 .1 .1 .1 .1 .1 .1 .0 .0,
+      );
+    }
 
 loop-less : tie.Need-loop-less Inv-loop μ-loop
 loop-less c =

@@ -1,7 +1,5 @@
 -- `print_frames::print_header` is safe and ends. Assumes nothing.
 use Prim.Native.Nat.{_≤_, _-_}
-use native.Mathlib.Omega.{arith}
-use lib.ListN.{length}
 use borrow.Author.Needs.{needs}
 use Rattle.print_frames.proofs.print_header.Statement.{statement}
 use Rattle.print_frames.proofs.print_header.Tie as tie

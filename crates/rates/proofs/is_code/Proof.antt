@@ -1,4 +1,5 @@
--- `rates::is_code` meets its contract: each return knows which codes the number is not, and which it is. Assumes nothing.
+-- `rates::is_code` meets its contract: each return knows which codes the number is not, and which it is. Assumes
+-- nothing.
 use borrow.Author.Tests.{eq-eqb, ne-eqb}
 use Rattle.rates.proofs.is_code.Statement.{statement}
 use Rattle.rates.proofs.is_code.Tie as tie

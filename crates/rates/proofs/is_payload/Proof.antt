@@ -1,5 +1,4 @@
 -- `rates::is_payload` meets its contract: each return's tests are the definition's. Assumes nothing.
-use mathlib.Core.Path.{refl}
 use borrow.Author.Tests.{lt-leb, le-leb}
 use Rattle.rates.proofs.is_payload.Statement.{statement}
 use Rattle.rates.proofs.is_payload.Tie as tie

@@ -1,4 +1,5 @@
--- `rates::rate_of` meets its contract: each return knows which codes the number is not, and which it is. Assumes nothing.
+-- `rates::rate_of` meets its contract: each return knows which codes the number is not, and which it is. Assumes
+-- nothing.
 use borrow.Author.Tests.{eq-eqb, ne-eqb}
 use Rattle.rates.proofs.rate_of.Statement.{statement}
 use Rattle.rates.proofs.rate_of.Tie as tie

@@ -24,7 +24,8 @@ returns c =
     let e = c .before .enum-told .given .1 in
     rw e
     (ap (map countsOf) (c .eight .ensures)
-    ∙ gathered-hard 8 (start .args .octets .now) (start .args .at) (room-hard _ _ _ (start .args .at + 8) e (start .pre)))
+    ∙ gathered-hard 8 (start .args .octets .now) (start .args .at)
+    (room-hard _ _ _ (start .args .at + 8) e (start .pre)))
 
 returns-2 : tie.Need-returns-2
 returns-2 c =

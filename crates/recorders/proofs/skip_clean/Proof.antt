@@ -1,4 +1,5 @@
--- `recorders::skip_clean` meets its contract. The invariant: what is found from here on is what is found from the start.
+-- `recorders::skip_clean` meets its contract. The invariant: what is found from here on is what is found from the
+-- start.
 -- Assumes nothing.
 use mathlib.Core.Path.{_≡_, refl, _∙_}
 use Prim.Native.Nat.{_-_, _^_}

@@ -112,4 +112,5 @@ put-octets-spec =
     (tie.spec
     Inv-loop μ-loop (λ c κs. search needs) (λ c κs. search needs) loop-holds (λ c. omega arith)
     (λ c. omega (arith, within (c .before .before))) (λ c. omega (arith, within (c .before .before)))
-    (λ c. search needs) put-octet-requires add-at (λ c. omega arith) (λ c. omega arith) loop-again (λ c. search needs) returns)
+    (λ c. search needs) put-octet-requires add-at (λ c. omega arith) (λ c. omega arith) loop-again (λ c. search needs)
+    returns)

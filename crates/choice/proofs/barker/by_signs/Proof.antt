@@ -1,16 +1,18 @@
 -- `choice::barker::by_signs` meets its contract. The invariant: x is the sum so far.
 -- Assumes nothing.
-use mathlib.Core.Path.{_≡_}
+use mathlib.Core.Path.{_≡_, refl}
 use mathlib.Core.Logic.{⊎-elim}
 use Prim.Native.Nat.{_-_}
+use lib.Dec.{lit<}
 use lib.ListN.{length}
+use mir.Syntax.{w32}
 use borrow.Author.Needs.{needs}
 use Rattle.choice.proofs.Signs.{Summed, summed-none, plus-fits, plus-sum, minus-fits, minus-sum, summed-all}
 use Rattle.choice.proofs.barker.by_signs.Statement.{statement}
 use Rattle.choice.proofs.barker.by_signs.Tie as tie
 
 abbrev Inv-loop : tie.InvT-loop
-Inv-loop c turns x₀ k₀ x k = Summed c x k
+Inv-loop c turns x₀ k₀ x k = Summed w32 8192 c x k
 
 abbrev μ-loop : tie.MeasureT-loop
 μ-loop c turns x₀ k₀ x k = 11 - k
@@ -19,20 +21,20 @@ add-x : tie.Need-add-x Inv-loop μ-loop
 add-x c =
     let a = c .before .before .before in
     let l : length (a .before .args .t1) ≡ 11 = search needs in
-    plus-fits _ _ _ (a .loop .inv) (a .before .pre) l (search needs) (c .before .if1 .taken)
+    plus-fits (lit< tt) (a .loop .inv) (a .before .pre) l (search needs) (c .before .if1 .taken)
 
 sub-x : tie.Need-sub-x Inv-loop μ-loop
 sub-x c =
     let a = c .before .before .before in
     let l : length (a .before .args .t1) ≡ 11 = search needs in
-    minus-fits _ _ _ (a .loop .inv) (a .before .pre) l (search needs) (c .before .if1 .left)
+    minus-fits (lit< tt) (a .loop .inv) (a .before .pre) l (search needs) (c .before .if1 .left)
 
 loop-again : tie.Need-loop-again Inv-loop μ-loop
 loop-again c =
     let a = c .before .before in
     let l : length (a .before .args .t1) ≡ 11 = search needs in
-    ⊎-elim (λ w. rw (w .2) (plus-sum _ _ _ (a .loop .inv) (a .before .pre) l (search needs) (w .0 .taken)))
-    (λ w. rw (w .2) (minus-sum _ _ _ (a .loop .inv) (a .before .pre) l (search needs) (w .0 .left)))
+    ⊎-elim (λ w. rw (w .2) (plus-sum (lit< tt) (a .loop .inv) (a .before .pre) l (search needs) (w .0 .taken)))
+    (λ w. rw (w .2) (minus-sum (lit< tt) (a .loop .inv) (a .before .pre) l (search needs) (w .0 .left)))
     (c .if1 .came)
 
 returns : tie.Need-returns Inv-loop μ-loop
@@ -41,5 +43,6 @@ returns c = summed-all (c .before .loop .inv) (c .loop-test .left)
 pub by-signs-spec : {M : Type 1} → statement M
 by-signs-spec =
     tie.close
-    (tie.spec Inv-loop μ-loop (λ c. summed-none _) (λ c. search needs) (λ c. search needs) (λ c. search needs) add-x
+    (tie.spec Inv-loop μ-loop (λ c. summed-none w32 8192 _ refl) (λ c. search needs) (λ c. search needs)
+    (λ c. search needs) add-x
     (λ c. search needs) (λ c. search needs) sub-x (λ c. search needs) (λ c. search needs) loop-again returns)

@@ -1,8 +1,7 @@
 -- `choice::barker::choose` meets its contract: the larger of two keys has the phase.
 -- Assumes nothing.
 use mathlib.Core.Path.{_≡_, refl, sym, ap, _∙_, subst}
-use Prim.Native.Nat.{ℕ, zero, suc, _-_, _%_, _<_}
-use native.Mathlib.Omega.{arith}
+use Prim.Native.Nat.{_-_, _%_, _<_}
 use lib.Dec.{T, lit<, lit≤}
 use lib.IntN.{ℤ, pos, natAbs}
 use lib.Signed.{nonNeg}
@@ -12,24 +11,10 @@ use borrow.Author.Needs.{needs}
 use Rattle.base.specs.Whole.{Within}
 use Rattle.base.proofs.Whole.{small}
 use Rattle.choosing.specs.Keys.{larger, keyOf, HoldsLargest}
-use Rattle.choice.specs.Sums.{fourOf, bestOfSums}
-use Rattle.choosing.proofs.KeyLaws.{Better, better, number-by}
+use Rattle.choice.proofs.Four.{sumKey, phase-by}
 use Rattle.choice.proofs.KeyTops.{holds-one, holds-both}
 use Rattle.choice.proofs.barker.choose.Statement.{statement}
 use Rattle.choice.proofs.barker.choose.Tie as tie
-
-module _ (i q : ℤ) where
-  abbrev keyAt : ℕ → ℕ
-  keyAt zero = keyOf 2 0 i
-  keyAt (suc n) = keyOf 2 1 q
-
-  keys : (j : ℕ) → j < 2 → Better 2 (fourOf i q) j (keyAt j)
-  keys zero l = better 2 (fourOf i q) 0 i l refl refl
-  keys (suc zero) l = better 2 (fourOf i q) 1 q l refl refl
-  keys (suc (suc j)) l = absurd (omega arith)
-
-  phase-by : {z : ℤ} → (t : HoldsLargest keyAt 0 2 z) → bestOfSums i q ≡ 3 - t .x % 4
-  phase-by t = number-by 2 (fourOf i q) keyAt keys (t .largest)
 
 module _ (c : tie.After-top-key) where
   abbrev i : ℤ
@@ -44,10 +29,11 @@ module _ (c : tie.After-top-key) where
   score : (s : ℤ) → Within 90112 s → toZ w32 (ofZ w32 s) ≡ s
   score s h = small 90112 (lit< tt) s h
 
-  top : HoldsLargest (keyAt i q) 0 2 (toZ w32 (ofZ w32 (c .top-key .result)))
-  top = holds-both (holds-one (keyAt i q) 0 refl) (holds-one (keyAt i q) 1 refl)
+  top : HoldsLargest (sumKey i q) 0 2 (toZ w32 (ofZ w32 (c .top-key .result)))
+  top = holds-both (holds-one (sumKey i q) 0 refl) (holds-one (sumKey i q) 1 refl)
       (read ∙ c .top-key .ensures
-      ∙ (λ j. larger (pos (keyOf 2 0 (score i (c .before .pre .0) j))) (pos (keyOf 2 1 (score q (c .before .pre .1) j)))))
+      ∙ (λ j. larger (pos (keyOf 2 0 (score i (c .before .pre .0) j)))
+      (pos (keyOf 2 1 (score q (c .before .pre .1) j)))))
 
 number-of-requires : tie.Need-number-of-requires
 number-of-requires c κs = (lit< tt, lit≤ tt, subst (λ (z : ℤ). T (nonNeg z)) (sym (top c .is-x)) tt)
@@ -55,7 +41,7 @@ number-of-requires c κs = (lit< tt, lit≤ tt, subst (λ (z : ℤ). T (nonNeg z
 returns : tie.Need-returns
 returns c =
     let m = c .before in
-    c .number-of .ensures ∙ ap (λ (z : ℤ). 3 - natAbs z % 4) (top m .is-x) ∙ sym (phase-by (i m) (q m) (top m))
+    c .number-of .ensures ∙ ap (λ (z : ℤ). 3 - natAbs z % 4) (top m .is-x) ∙ sym (phase-by (i m) (q m) (top m .largest))
 
 pub choose-spec : {M : Type 1} → statement M
 choose-spec = tie.close (tie.spec (λ c κs. search needs) number-of-requires returns)

@@ -10,7 +10,8 @@ use Rattle.choice.proofs.barker.decide.Statement.{statement}
 use Rattle.choice.proofs.barker.decide.Tie as tie
 
 -- both sums, as they are read back
-sum-i : (c : tie.After-by-signs2) → toZ w32 (ofZ w32 (c .before .by-signs .result)) ≡ bySigns (c .before .before .args .i)
+sum-i : (c : tie.After-by-signs2) → toZ w32 (ofZ w32 (c .before .by-signs .result))
+    ≡ bySigns (c .before .before .args .i)
 sum-i c = search needs ∙ c .before .by-signs .ensures
 
 sum-q : (c : tie.After-by-signs2) → toZ w32 (ofZ w32 (c .by-signs2 .result)) ≡ bySigns (c .before .before .args .q)
@@ -19,7 +20,7 @@ sum-q c = search needs ∙ c .by-signs2 .ensures
 choose-requires : tie.Need-choose-requires
 choose-requires c κs =
     let pre = c .before .before .pre in
-    (rw (sum-i c) (by-signs-within _ (pre .0)), rw (sum-q c) (by-signs-within _ (pre .1)))
+    (rw (sum-i c) (by-signs-within 8192 _ (pre .0)), rw (sum-q c) (by-signs-within 8192 _ (pre .1)))
 
 returns : tie.Need-returns
 returns c = c .choose .ensures ∙ (λ j. bestOfSums (sum-i (c .before) j) (sum-q (c .before) j))

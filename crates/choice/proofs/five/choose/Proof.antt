@@ -18,7 +18,12 @@ read : (c : tie.After-largest) → toZ w32 (ofZ w32 (c .largest .result)) ≡ c 
 read c = search needs
 
 number-of-requires : tie.Need-number-of-requires
-number-of-requires c κs = (lit< tt, lit≤ tt, subst (λ (z : ℤ). T (nonNeg z)) (sym (read c ∙ c .largest .ensures .is-x)) tt)
+number-of-requires c κs = (
+  lit< tt,
+  lit≤ tt,
+  subst (λ (z : ℤ). T (nonNeg z))
+      (sym (read c ∙ c .largest .ensures .is-x)) tt,
+)
 
 number-requires : tie.Need-number-requires
 number-requires c κs = omega (arith, c .number-of .ensures)

@@ -9,7 +9,7 @@ use Rattle.choice.proofs.five.decide.Tie as tie
 choose-requires : tie.Need-choose-requires
 choose-requires c κs =
     let start = c .before in
-    eight-within (start .args .i) (start .args .q) _ (c .halves .ensures) (start .pre .0) (start .pre .1)
+    eight-within 8192 (start .args .i) (start .args .q) _ (c .halves .ensures) (start .pre .0) (start .pre .1)
 
 returns : tie.Need-returns
 returns c = c .choose .ensures ∙ decided-is _ _ (c .before .halves .ensures)

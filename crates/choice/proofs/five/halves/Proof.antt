@@ -1,4 +1,5 @@
--- `choice::five::halves` meets its contract: its sums are those of the two crossed pairs of rows, I with Q and Q with I.
+-- `choice::five::halves` meets its contract: its sums are those of the two crossed pairs of rows, I with Q and Q with
+-- I.
 -- Assumes nothing.
 use mathlib.Core.List.{[], _∷_}
 use lib.Dec.{lit<}
@@ -35,10 +36,12 @@ add-aq : tie.Need-add-aq
 add-aq c = let s = c .before .before .before .before in a-fits w32 8192 (lit< tt) _ _ (s .pre .0) (s .pre .1)
 
 sub-bi : tie.Need-sub-bi
-sub-bi c = let s = c .before .before .before .before .before .before in b-fits w32 8192 (lit< tt) _ _ (s .pre .0) (s .pre .1)
+sub-bi c = let s = c .before .before .before .before .before .before in
+    b-fits w32 8192 (lit< tt) _ _ (s .pre .0) (s .pre .1)
 
 sub-bq : tie.Need-sub-bq
-sub-bq c = let s = c .before .before .before .before .before .before .before .before in b-fits w32 8192 (lit< tt) _ _ (s .pre .1) (s .pre .0)
+sub-bq c = let s = c .before .before .before .before .before .before .before .before in
+    b-fits w32 8192 (lit< tt) _ _ (s .pre .1) (s .pre .0)
 
 sub-ci : tie.Need-sub-ci
 sub-ci c =
@@ -52,12 +55,14 @@ sub-cq c =
 
 add-di : tie.Need-add-di
 add-di c =
-    let s = c .before .before .before .before .before .before .before .before .before .before .before .before .before .before in
+    let s = c .before .before .before .before .before .before .before .before .before .before .before .before .before
+    .before in
     d-fits w32 8192 (lit< tt) _ _ (s .pre .0) (s .pre .1)
 
 -- where all chips have been read
 abbrev from : tie.After-dq2 → tie.Start
-from c = c .before .before .before .before .before .before .before .before .before .before .before .before .before .before
+from c = c .before .before .before .before .before .before .before .before .before .before .before .before .before
+    .before
     .before .before
 
 add-dq : tie.Need-add-dq

@@ -1,28 +1,31 @@
--- `choice::hard::decide_barker` meets its contract: the counts on both axes decide.
+-- `choice::hard::decide_barker` meets its contract: full chips on both axes decide as the counts do.
 -- Assumes nothing.
-use mathlib.Core.Path.{sym, _∙_, subst}
+use mathlib.Core.Path.{_≡_, sym, _∙_, subst}
+use lib.ListN.{length}
 use borrow.Author.Needs.{needs}
 use Rattle.chips.specs.declared.Axis.the-variants.{I, Q}
 use Rattle.choosing.specs.Scores.{RowWithin}
 use Rattle.choice.specs.Sums.{bySigns, bestOfSums}
-use Rattle.choice.proofs.Apart.{counts-small, barker-chips}
+use Rattle.choice.proofs.Apart.{units-small, units-barker}
 use Rattle.choice.proofs.hard.decide_barker.Statement.{statement}
 use Rattle.choice.proofs.hard.decide_barker.Tie as tie
 
-decide-requires : tie.Need-decide-requires
-decide-requires c κs =
+barker-requires : tie.Need-barker-requires
+barker-requires c κs =
     let chips = c .before .before .args .chips in (
-      subst (RowWithin 8192) (sym (c .before .hard-counts11 .ensures)) (counts-small I chips),
-      subst (RowWithin 8192) (sym (c .hard-counts112 .ensures)) (counts-small Q chips),
+      subst (RowWithin 1) (sym (c .before .hard-units11 .ensures)) (units-small I chips),
+      subst (RowWithin 1) (sym (c .hard-units112 .ensures)) (units-small Q chips),
     )
 
 returns : tie.Need-returns
 returns c =
     let second = c .before in
-    c .decide .ensures
-    ∙ (λ i. bestOfSums (bySigns (second .before .hard-counts11 .ensures i)) (bySigns (second .hard-counts112 .ensures i)))
-    ∙ barker-chips (second .before .before .args .chips)
+    let start = second .before .before in
+    let long : length (start .args .chips) ≡ 11 = search needs in
+    c .barker .ensures
+    ∙ (λ i. bestOfSums (bySigns (second .before .hard-units11 .ensures i)) (bySigns (second .hard-units112 .ensures i)))
+    ∙ units-barker (start .args .chips) long (start .pre)
 
 pub decide-barker-spec : {M : Type 1} → statement M
 decide-barker-spec =
-    tie.close (tie.spec (λ c κs. search needs) (λ c κs. search needs) decide-requires returns)
+    tie.close (tie.spec (λ c κs. search needs) (λ c κs. search needs) barker-requires returns)

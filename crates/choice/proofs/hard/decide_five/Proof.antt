@@ -1,6 +1,6 @@
--- `choice::hard::decide_five` meets its contract: the counts on both axes decide.
+-- `choice::hard::decide_five` meets its contract: full chips on both axes decide as the counts do.
 -- Assumes nothing.
-use mathlib.Core.Path.{_≡_, sym, ap, _∙_, subst}
+use mathlib.Core.Path.{_≡_, sym, _∙_, subst}
 use lib.ListN.{length}
 use borrow.Author.Needs.{needs}
 use Rattle.rates.specs.declared.Rate.the-variants.{Five}
@@ -8,26 +8,26 @@ use Rattle.chips.specs.declared.Axis.the-variants.{I, Q}
 use Rattle.symbols.specs.Choice.{decided}
 use Rattle.choosing.specs.Scores.{RowWithin}
 use Rattle.choice.specs.Sums.{rows}
-use Rattle.choice.proofs.Apart.{counts-small, eight-chips}
+use Rattle.choice.proofs.Apart.{units-small, units-five}
 use Rattle.choice.proofs.hard.decide_five.Statement.{statement}
 use Rattle.choice.proofs.hard.decide_five.Tie as tie
 
-decide-requires : tie.Need-decide-requires
-decide-requires c κs =
+five-requires : tie.Need-five-requires
+five-requires c κs =
     let chips = c .before .before .args .chips in (
-      subst (RowWithin 8192) (sym (c .before .hard-counts8 .ensures)) (counts-small I chips),
-      subst (RowWithin 8192) (sym (c .hard-counts82 .ensures)) (counts-small Q chips),
+      subst (RowWithin 1) (sym (c .before .hard-units8 .ensures)) (units-small I chips),
+      subst (RowWithin 1) (sym (c .hard-units82 .ensures)) (units-small Q chips),
     )
 
 returns : tie.Need-returns
 returns c =
     let second = c .before in
-    let chips = second .before .before .args .chips in
-    let eight : length chips ≡ 8 = search needs in
-    c .decide .ensures
-    ∙ (λ i. decided Five (rows (second .before .hard-counts8 .ensures i) (second .hard-counts82 .ensures i)))
-    ∙ ap (decided Five) (eight-chips chips eight)
+    let start = second .before .before in
+    let long : length (start .args .chips) ≡ 8 = search needs in
+    c .five .ensures
+    ∙ (λ i. decided Five (rows (second .before .hard-units8 .ensures i) (second .hard-units82 .ensures i)))
+    ∙ units-five (start .args .chips) long (start .pre)
 
 pub decide-five-spec : {M : Type 1} → statement M
 decide-five-spec =
-    tie.close (tie.spec (λ c κs. search needs) (λ c κs. search needs) decide-requires returns)
+    tie.close (tie.spec (λ c κs. search needs) (λ c κs. search needs) five-requires returns)

@@ -83,7 +83,8 @@ module _ (c : tie.After-abs) where
 
   sum-is : toZ w32 (ofZ w32 (c .abs .result)) +ℤ toZ w32 rest
       ≡ pos (natAbs (raised (w (c .before)) (s (c .before))) + rest)
-  sum-is = λ i. held w32 abs-is (omega (arith, sum-small)) i +ℤ toZ-pos w32 {n = rest} (omega (arith, c .before .pre .0)) i
+  sum-is = λ i. held w32 abs-is (omega (arith, sum-small)) i +ℤ toZ-pos w32 {n = rest}
+      (omega (arith, c .before .pre .0)) i
 
 add-result : tie.Need-add-result
 add-result c = held-fits w32 (sum-is c) (sum-small c)

@@ -32,5 +32,10 @@ pub number-of-spec : {M : Type 1} → statement M
 number-of-spec =
     tie.close
     (tie.spec (λ c. omega (arith, c .pre .1)) (λ c. omega (arith, c .pre .0)) cast-result
-    (λ c. omega (arith, c .pre .0)) (λ c. omega (arith, mod-lt (natAbs (toZ w32 (ofZ w32 (c .args .key)))) {m = 4 * c .args .w} (omega (arith, c .pre .0))))
+    (λ c. omega (arith, c .pre .0))
+    (λ c. omega (
+      arith,
+      mod-lt (natAbs (toZ w32 (ofZ w32 (c .args .key)))) {m = 4 * c .args .w}
+          (omega (arith, c .pre .0)),
+    ))
     (λ c. omega (arith, c .pre .1)) returns)

@@ -25,21 +25,21 @@ sub-scores : tie.Need-sub-scores Inv-loop μ-loop
 sub-scores c =
     let s = c .before .before .before in
     mirror-fits (scoreAt Eleven (s .before .args .cs)) 128 _ (s .half-eleven .ensures)
-    (λ n h. cck-within n (s .before .pre)) _
+    (λ n h. cck-within 8192 n (s .before .pre)) _
     (c .before .loop-test .taken)
 
 loop-again : tie.Need-loop-again Inv-loop μ-loop
 loop-again c =
     let s = c .before .before .before in
     mirror-more (scoreAt Eleven (s .before .args .cs)) 128 _ (s .half-eleven .ensures)
-    (λ n h. cck-within n (s .before .pre))
+    (λ n h. cck-within 8192 n (s .before .pre))
     (c .before .before .loop .inv) (c .before .loop-test .taken)
 
 returns : tie.Need-returns Inv-loop μ-loop
 returns c =
     let s = c .before .before in
     mirror-all (scoreAt Eleven (s .before .args .cs)) 128 _ (s .half-eleven .ensures)
-    (λ n h. cck-within n (s .before .pre))
+    (λ n h. cck-within 8192 n (s .before .pre))
     (c .before .loop .inv) (c .loop-test .left) (cck-half (s .before .args .cs))
 
 pub scores-eleven-spec : {M : Type 1} → statement M

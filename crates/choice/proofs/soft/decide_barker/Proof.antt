@@ -5,7 +5,7 @@ use borrow.Author.Needs.{needs}
 use Rattle.chips.specs.declared.Axis.the-variants.{I, Q}
 use Rattle.choosing.specs.Scores.{RowWithin}
 use Rattle.choice.specs.Sums.{bySigns, bestOfSums}
-use Rattle.choice.proofs.Apart.{counts-small, barker-chips}
+use Rattle.choice.proofs.Apart.{counts-small, counts-barker}
 use Rattle.choice.proofs.soft.decide_barker.Statement.{statement}
 use Rattle.choice.proofs.soft.decide_barker.Tie as tie
 
@@ -20,8 +20,9 @@ returns : tie.Need-returns
 returns c =
     let second = c .before in
     c .decide .ensures
-    ∙ (λ i. bestOfSums (bySigns (second .before .soft-counts11 .ensures i)) (bySigns (second .soft-counts112 .ensures i)))
-    ∙ barker-chips (second .before .before .args .chips)
+    ∙ (λ i. bestOfSums (bySigns (second .before .soft-counts11 .ensures i))
+    (bySigns (second .soft-counts112 .ensures i)))
+    ∙ counts-barker (second .before .before .args .chips)
 
 pub decide-barker-spec : {M : Type 1} → statement M
 decide-barker-spec =

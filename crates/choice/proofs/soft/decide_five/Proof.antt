@@ -8,7 +8,7 @@ use Rattle.chips.specs.declared.Axis.the-variants.{I, Q}
 use Rattle.symbols.specs.Choice.{decided}
 use Rattle.choosing.specs.Scores.{RowWithin}
 use Rattle.choice.specs.Sums.{rows}
-use Rattle.choice.proofs.Apart.{counts-small, eight-chips}
+use Rattle.choice.proofs.Apart.{counts-small, counts-eight}
 use Rattle.choice.proofs.soft.decide_five.Statement.{statement}
 use Rattle.choice.proofs.soft.decide_five.Tie as tie
 
@@ -26,7 +26,7 @@ returns c =
     let eight : length chips ≡ 8 = search needs in
     c .decide .ensures
     ∙ (λ i. decided Five (rows (second .before .soft-counts8 .ensures i) (second .soft-counts82 .ensures i)))
-    ∙ ap (decided Five) (eight-chips chips eight)
+    ∙ ap (decided Five) (counts-eight chips eight)
 
 pub decide-five-spec : {M : Type 1} → statement M
 decide-five-spec =

@@ -75,7 +75,8 @@ array-read-phase : tie.Need-array-read-phase
 array-read-phase c =
     let start = c .before .before .before .before .before .before .before .before .before .before .before in
     let h = within (start .args .rate) _ (start .args .count)
-    (c .before .before .before .before .before .before .before .before .before .octet-symbols .ensures) (start .pre .0) in
+    (c .before .before .before .before .before .before .before .before .before .octet-symbols .ensures)
+    (start .pre .0) in
     omega arith
 
 returns : tie.Need-returns

@@ -36,7 +36,8 @@ loop-holds c = (omega arith, record { within = omega arith; len = refl; front = 
 mul-octet : tie.Need-mul-octet Inv-loop μ-loop
 mul-octet c =
     let start = c .before .before .before .before in
-    let h = room (start .args .rate) _ (c .before .before .loop .o) _ (c .before .before .before .octet-symbols .ensures)
+    let h = room (start .args .rate) _ (c .before .before .loop .o) _
+    (c .before .before .before .octet-symbols .ensures)
     (c .before .loop-test .taken) (start .pre .0) in
     record { fits = omega arith }
 

@@ -23,7 +23,8 @@ loop-again c =
     let start = c .before .before .before .before in (
       omega arith,
       length-set (loop .out) _ _ ∙ loop .inv .1,
-      plain-more (start .args .t1) (start .args .out .now) _ (start .args .count) (loop .o) _ (loop .inv .2) (omega arith)
+      plain-more (start .args .t1) (start .args .out .now) _ (start .args .count) (loop .o) _ (loop .inv .2)
+          (omega arith)
           (start .pre .1) (c .descramble-octet .ensures),
     )
 

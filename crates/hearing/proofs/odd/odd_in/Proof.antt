@@ -23,5 +23,6 @@ pub odd-in-spec : {M : Type 1} → statement M
 odd-in-spec =
     tie.close
     (tie.spec
-    (λ c. search needs) odd-of-one-requires (λ c. search needs) (λ c. search needs) (λ c. search needs) returns returns-2
+    (λ c. search needs) odd-of-one-requires (λ c. search needs) (λ c. search needs) (λ c. search needs) returns
+    returns-2
     returns-3 returns-4)

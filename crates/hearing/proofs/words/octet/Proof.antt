@@ -27,7 +27,8 @@ returns-4 : tie.Need-returns-4
 returns-4 c =
     let start = c .before .before .before in
     let room = rw (c .before .enum-told4 .given .1) at (start .pre .0) in
-    rw (c .before .enum-told4 .given .1) (one-from (start .args .c .now) (start .args .k) (omega (arith, start .pre .1)))
+    rw (c .before .enum-told4 .given .1)
+    (one-from (start .args .c .now) (start .args .k) (omega (arith, start .pre .1)))
 
 element-copy-out-result : tie.Need-element-copy-out-result
 element-copy-out-result c = let room = rw (c .enum-told4 .given .1) at (c .before .before .pre .0) in omega arith

@@ -1,4 +1,5 @@
--- `rates::Rate::bit7` meets its contract, rate by rate; at 11 Mbit/s by the test that the definition makes. Assumes nothing.
+-- `rates::Rate::bit7` meets its contract, rate by rate; at 11 Mbit/s by the test that the definition makes. Assumes
+-- nothing.
 use mathlib.Core.Path.{refl}
 use lib.Dec.{lit<}
 use borrow.Author.Tests.{le-leb, lt-leb}

@@ -88,7 +88,8 @@ returns-2 c =
     let start = told .before .before .before .before .before .before .before .before .before .before in
     let a = start .args in
     good (a .kind) (a .rate) (a .n) _ _ (a .line) _ (a .octets .now) (call .last .1 .1 .1 .1 .1 .1 .1 .0)
-    (start .pre .3) (told .before .before .before .before .before .front-chips .ensures) (start .pre .2) (start .pre .4) (call .ensures)
+    (start .pre .3) (told .before .before .before .before .before .front-chips .ensures) (start .pre .2)
+    (start .pre .4) (call .ensures)
     (c .enum-told .given .1)
 
 pub hear-payload-spec : {M : Type 1} → statement M

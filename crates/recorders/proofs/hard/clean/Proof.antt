@@ -31,7 +31,8 @@ loop-again : tie.Need-loop-again Inv-loop μ-loop
 loop-again c =
     let loop = c .before .before .before .loop in
     let start = c .before .before .before .before in
-    let step = raised (start .args .octets .now) (start .args .at) (loop .k) (loop .top) (c .if1 .top) (loop .inv .1) in (
+    let step = raised (start .args .octets .now) (start .args .at) (loop .k) (loop .top) (c .if1 .top)
+    (loop .inv .1) in (
       omega arith,
       step (⊎-elim (λ w. omega arith) (λ w. omega arith) (c .if1 .came))
           (⊎-elim (λ w. omega arith) (λ w. omega arith) (c .if1 .came)),

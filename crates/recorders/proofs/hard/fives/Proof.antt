@@ -20,7 +20,8 @@ abbrev μ-loop : tie.MeasureT-loop
 μ-loop octets at m numbers₀ l₀ numbers l = m - l
 
 loop-holds : tie.Need-loop-holds Inv-loop μ-loop
-loop-holds c = let s = c .before in decided-none Five (hardRecording (s .args .octets .now)) (s .args .at) (s .args .m) _ (s .pre .3)
+loop-holds c = let s = c .before in
+    decided-none Five (hardRecording (s .args .octets .now)) (s .args .at) (s .args .m) _ (s .pre .3)
 
 eight-requires : tie.Need-eight-requires Inv-loop μ-loop
 eight-requires c κs = let s = c .before .before .before in (omega (arith, s .pre .1))
@@ -41,7 +42,8 @@ loop-again c =
     let s = turn .before .before in
     let l = turn .loop .l in
     let h = c .before .before .loop-test .taken in
-    decided-more Five (hardRecording (s .args .octets .now)) (s .args .at) (s .args .m) l _ _ (c .before .eight .result) (s .pre .0) h
+    decided-more Five (hardRecording (s .args .octets .now)) (s .args .at) (s .args .m) l _ _
+    (c .before .eight .result) (s .pre .0) h
     (turn .loop .inv) (c .decide-five .ensures)
     (ap (map countsOf) (c .before .eight .ensures)
     ∙ gathered-hard 8 (s .args .octets .now) (s .args .at + 8 * l) (omega (arith, s .pre .1)))
@@ -49,7 +51,8 @@ loop-again c =
 returns : tie.Need-returns Inv-loop μ-loop
 returns c =
     let s = c .before .before .before in
-    decided-all Five (hardRecording (s .args .octets .now)) (s .args .at) (s .args .m) _ _ (c .before .loop .inv) (c .loop-test .left)
+    decided-all Five (hardRecording (s .args .octets .now)) (s .args .at) (s .args .m) _ _ (c .before .loop .inv)
+    (c .loop-test .left)
 
 pub fives-spec : {M : Type 1} → statement M
 fives-spec =

@@ -20,7 +20,8 @@ abbrev μ-loop : tie.MeasureT-loop
 μ-loop i q at m numbers₀ l₀ numbers l = m - l
 
 loop-holds : tie.Need-loop-holds Inv-loop μ-loop
-loop-holds c = let s = c .before .before in decided-none One (softRecording (s .args .i .now) (s .args .q .now)) (s .args .at) (s .args .m) _ (s .pre .4)
+loop-holds c = let s = c .before .before in
+    decided-none One (softRecording (s .args .i .now) (s .args .q .now)) (s .args .at) (s .args .m) _ (s .pre .4)
 
 eleven-requires : tie.Need-eleven-requires Inv-loop μ-loop
 eleven-requires c κs = let s = c .before .before .before .before in (omega (arith, s .pre .1), omega (arith, s .pre .2))
@@ -32,7 +33,8 @@ decide-barker-requires c κs =
     let l = turn .loop .l in
     let h = c .before .loop-test .taken in
     rw (c .eleven .ensures)
-    (usable-soft 11 (s .args .i .now) (s .args .q .now) (s .args .at + 11 * l) (omega (arith, s .pre .1), omega (arith, s .pre .2))
+    (usable-soft 11 (s .args .i .now) (s .args .q .now) (s .args .at + 11 * l)
+    (omega (arith, s .pre .1), omega (arith, s .pre .2))
     (usable-part (11 * l) 11 (s .pre .3) (omega arith)))
 
 loop-again : tie.Need-loop-again Inv-loop μ-loop
@@ -41,15 +43,18 @@ loop-again c =
     let s = turn .before .before .before in
     let l = turn .loop .l in
     let h = c .before .before .loop-test .taken in
-    decided-more One (softRecording (s .args .i .now) (s .args .q .now)) (s .args .at) (s .args .m) l _ _ (c .before .eleven .result) (s .pre .0) h
+    decided-more One (softRecording (s .args .i .now) (s .args .q .now)) (s .args .at) (s .args .m) l _ _
+    (c .before .eleven .result) (s .pre .0) h
     (turn .loop .inv) (c .decide-barker .ensures)
     (ap (map countsOf) (c .before .eleven .ensures)
-    ∙ gathered-soft 11 (s .args .i .now) (s .args .q .now) (s .args .at + 11 * l) (omega (arith, s .pre .1), omega (arith, s .pre .2)))
+    ∙ gathered-soft 11 (s .args .i .now) (s .args .q .now) (s .args .at + 11 * l)
+    (omega (arith, s .pre .1), omega (arith, s .pre .2)))
 
 returns : tie.Need-returns Inv-loop μ-loop
 returns c =
     let s = c .before .before .before .before in
-    decided-all One (softRecording (s .args .i .now) (s .args .q .now)) (s .args .at) (s .args .m) _ _ (c .before .loop .inv) (c .loop-test .left)
+    decided-all One (softRecording (s .args .i .now) (s .args .q .now)) (s .args .at) (s .args .m) _ _
+    (c .before .loop .inv) (c .loop-test .left)
 
 pub barkers-spec : {M : Type 1} → statement M
 barkers-spec =

@@ -11,7 +11,8 @@ returns : tie.Need-returns
 returns c =
     let start = c .before .before .before .before .before in
     c .usable-sample .ensures
-    ∙ sym (ap not (soft-at (start .args .i .now) (start .args .q .now) (start .args .at) (start .pre .0) (start .pre .1))
+    ∙ sym (ap not (soft-at (start .args .i .now) (start .args .q .now) (start .args .at) (start .pre .0)
+    (start .pre .1))
     ∙ Bool·not-not _)
 
 pub usable-at-spec : {M : Type 1} → statement M

@@ -1,0 +1,16 @@
+/* timed_leaves.h: leaves of reading that the crate `timed_leaves` exports for bench.c; no part of dsss.h. */
+#ifndef PARTS_H
+#define PARTS_H
+
+#include <stddef.h>
+#include <stdint.h>
+
+/* The counts of a row of samples, as far as both rows go: 1024 times each, nearest, halves to even;
+ * 0 of one that is not usable. */
+void timed_count(const float *xs, size_t n, int32_t *counts, size_t m);
+
+/* The number of the word that the first symbol of the rows is decided as; 0 of a rate that is none,
+ * and of rows shorter than a symbol. */
+uint64_t timed_decide(uint64_t rate, const float *i, size_t i_len, const float *q, size_t q_len);
+
+#endif

@@ -1,0 +1,84 @@
+-- `timed_leaves::first_word` meets its contract: a search that found nothing leaves usable chips, and those are
+-- decided. Assumes nothing.
+use mathlib.Core.Path.{_≡_, sym, ap, _∙_}
+use mathlib.Core.List.{List, map}
+use Prim.Native.Nat.{ℕ, _+_, _*_, _-_, _≤_}
+use native.Mathlib.Omega.{arith}
+use lib.Dec.{lit≤, lit<}
+use lib.ListN.{length, getD, take, drop}
+use borrow.Author.Needs.{needs}
+use Rattle.rates.specs.declared.Rate.{Rate}
+use Rattle.rates.specs.Rates.{symbolChips}
+use Rattle.chips.specs.Chips.{Taken, takenCounts, softRecording}
+use Rattle.symbols.specs.Choice.{decided}
+use Rattle.calls.specs.Reading.{firstUnusable}
+use Rattle.recorders.specs.declared.Found.{Found}
+use Rattle.recorders.specs.declared.Found.the-variants.{Nothing, At}
+use Rattle.recorders.specs.Rows.{whereFound, AllUsable, DecidedAt}
+use Rattle.recorders.proofs.Search.{none-usable}
+use Rattle.timed_leaves.specs.Leaves.{firstWord}
+use Rattle.timed_leaves.proofs.first_word.Statement.{statement}
+use Rattle.timed_leaves.proofs.first_word.Tie as tie
+
+module _ (r : Rate) (rec : List Taken) (n : ℕ) (f : Found) (e : n ≡ symbolChips r)
+    (g : whereFound f ≡ firstUnusable 0 (take (n - 0) (drop 0 rec))) where
+  searched : firstUnusable 0 (take (symbolChips r) rec) ≡ whereFound f
+  searched = let k : n - 0 ≡ symbolChips r = omega (arith, e) in
+      sym (g ∙ ap (λ (m : ℕ). firstUnusable 0 (take m rec)) k)
+
+  bad : (place : ℕ) → f ≡ At place → 0 ≡ firstWord r rec
+  unfolding firstWord
+  bad place h = rw (searched ∙ ap whereFound h)
+
+  usable : f ≡ Nothing → symbolChips r ≤ length rec → AllUsable rec 0 (symbolChips r * 1)
+  usable h l =
+      let k : symbolChips r * 1 ≡ symbolChips r = omega arith in
+      rw k (none-usable rec 0 (symbolChips r) (omega arith) (searched ∙ ap whereFound h))
+
+  good : f ≡ Nothing → (ns : List ℕ) → DecidedAt r rec 0 1 ns → getD ns 0 0 ≡ firstWord r rec
+  unfolding firstWord
+  good h ns d =
+      let k : 0 + symbolChips r * 0 ≡ 0 = omega arith in
+      d .number 0 (lit< tt)
+      ∙ ap (λ (m : ℕ). decided r (map takenCounts (take (symbolChips r) (drop m rec)))) k
+      ∙ rw (searched ∙ ap whereFound h)
+
+-- what the search tells, and where it began
+abbrev start : tie.After-first-unusable → tie.Start
+start c = c .before .before .before .before .before .before
+
+abbrev rec : tie.After-first-unusable → List Taken
+rec c = softRecording (start c .args .i .now) (start c .args .q .now)
+
+returns : tie.Need-returns
+returns c =
+    let found = c .before .before in
+    bad (start found .args .r) (rec found) _ _ (found .before .symbol-chips .ensures) (found .first-unusable .ensures) _
+    (c .enum-told .given .1)
+
+decide-requires : tie.Need-decide-requires
+decide-requires c κs =
+    let found = c .before .before .before in
+    let l = start found .pre in (
+      lit≤ tt,
+      omega arith,
+      usable (start found .args .r) (rec found) _ _ (found .before .symbol-chips .ensures)
+          (found .first-unusable .ensures) (c .before .enum-told2 .given .1) l,
+      search needs,
+    )
+
+returns-2 : tie.Need-returns-2
+returns-2 c =
+    let found = c .before .before .before .before .before in
+    c .wide .ensures
+    ∙ good (start found .args .r) (rec found) _ _ (found .before .symbol-chips .ensures)
+    (found .first-unusable .ensures)
+    (c .before .before .before .enum-told2 .given .1) _ (c .before .decide .ensures)
+
+pub first-word-spec : {M : Type 1} → statement M
+first-word-spec =
+    tie.close
+    (tie.spec (λ c. search needs) (λ c. search needs) (λ c. search needs) (λ c κs. search needs)
+    (λ c κs. omega (arith, c .symbol-chips .ensures, c .before .before .before .before .before .pre))
+    (λ c. search needs) (λ c. search needs) decide-requires (λ c. search needs)
+    (λ c κs. search needs) returns returns-2)

@@ -1,0 +1,80 @@
+// Leaves of reading, exported so that bench/ times them beside plain C. No part of the board's interface.
+ghost use mathlib.Core.Path.{_≡_};
+ghost use Prim.Native.Nat.{min, _≤_};
+ghost use lib.ListN.{length};
+ghost use Rattle.rates.specs.Rates.{symbolChips};
+ghost use Rattle.chips.specs.Floats.{countOf};
+ghost use Rattle.chips.specs.Chips.{softRecording};
+ghost use Rattle.timed_leaves.specs.Leaves.{firstWord, decidedSoft, Counted};
+use rates::Rate;
+use recorders::Found;
+use recorders::Recorder;
+
+// The smaller of two lengths.
+fn shorter(a: usize, b: usize) -> usize
+    ensures answer { λ r. ⌜ r ≡ min a b ⌝ }
+{
+    if a < b { a } else { b }
+}
+
+// The count of x; 0 of an x that is not usable.
+fn count_of(x: f32) -> i32
+    ensures answer { λ r. ⌜ r ≡ countOf x ⌝ }
+{
+    if chips::usable(x) { chips::count(x) } else { 0 }
+}
+
+// The counts of a row of f32, as far as both rows go.
+#[no_mangle]
+pub extern "C" fn timed_count(xs: &[f32], counts: &mut [i32])
+    ensures counts { λ _. ⌜ Counted (now (xs .entry)) (now (counts .entry)) (now (counts .exit)) ⌝ }
+{
+    let n = shorter(xs.len(), counts.len());
+    let mut k = 0;
+    while k < n {
+        counts[k] = count_of(xs[k]);
+        k += 1;
+    }
+}
+
+// An octet as a wider number.
+fn wide(x: u8) -> u64
+    ensures answer { λ r. ⌜ r ≡ x ⌝ }
+{
+    x as u64
+}
+
+// The number of the word that the first symbol of soft rows is decided as, where all its chips are usable.
+fn first_word(r: Rate, i: &[f32], q: &[f32]) -> u64
+    requires { ⌜ symbolChips r ≤ length (softRecording (now i) (now q)) ⌝ }
+    ensures answer { λ a. ⌜ a ≡ firstWord r (softRecording (now (i .entry)) (now (q .entry))) ⌝ }
+{
+    let none = [0u8; 1];
+    let row = &none[0..0];
+    let bad = recorders::first_unusable(Recorder::Soft, row, i, q, 0, r.symbol_chips());
+    match bad {
+        Found::At(_) => 0,
+        Found::Nothing => {
+            let mut numbers = [0u8; 64];
+            recorders::decide(Recorder::Soft, row, i, q, r, 0, 1, &mut numbers);
+            wide(numbers[0])
+        }
+    }
+}
+
+// The number of the word that the first symbol of soft rows is decided as.
+#[no_mangle]
+pub extern "C" fn timed_decide(rate: u64, i: &[f32], q: &[f32]) -> u64
+    ensures answer { λ r. ⌜ r ≡ decidedSoft rate (now (i .entry)) (now (q .entry)) ⌝ }
+{
+    let none = [0u8; 1];
+    let row = &none[0..0];
+    if !rates::is_code(rate) {
+        return 0;
+    }
+    let r = rates::rate_of(rate);
+    if recorders::chip_count(Recorder::Soft, row, i, q) < r.symbol_chips() {
+        return 0;
+    }
+    first_word(r, i, q)
+}
