@@ -1,7 +1,7 @@
 -- Recordings read, computed from the definition and compared with what RULES 6 says of each: number, place, rate code,
 -- LENGTH, n, chips used. Each refusal, and each two neighbours in the order of checks that can be met together; the
 -- octet buffer after good and refused reads. The long frame carries A5h at 1 Mbit/s (LENGTH 8; 2,112 + 88 chips), the
--- short one 3Ch at 11 Mbit/s (LENGTH 1, bit 7 not set; 1,056 + 8 chips). Assumes nothing.
+-- short one 3Dh at 11 Mbit/s (LENGTH 1, bit 7 not set; 1,056 + 8 chips). Assumes nothing.
 use mathlib.Core.Path.{_≡_, refl}
 use mathlib.Core.Bool.{Bool, true, false}
 use mathlib.Core.List.{List, [], _∷_, _++_, map}
@@ -81,7 +81,7 @@ long : List ℕ
 long = frame Long One 2 (0xA5 ∷ [])
 
 short : List ℕ
-short = frame Short Eleven 3 (0x3C ∷ [])
+short = frame Short Eleven 3 (0x3D ∷ [])
 
 -- a short front with SIGNAL, SERVICE and LENGTH as given and a CRC that holds
 wrong : ℕ → ℕ → ℕ → List ℕ
@@ -95,18 +95,19 @@ turned : ℕ → ℕ → List ℕ → List ℕ
 turned at by chips =
     take at chips ++ (map (λ (p : ℕ). (p + by) % 4) (take 11 (drop at chips)) ++ drop (at + 11) chips)
 
--- good, at each rate; chips after the frame are not looked at
+-- good, at each rate; chips after the frame are not looked at, nor are SYNC bits compared: the first and the sixth
+-- symbol of the short one are turned by half. Its payload symbol grows by an odd step, as CCK symbols may
 pub good : List (List ℕ)
 good =
     read 0 2 (long ++ (9 ∷ 9 ∷ []))
-    ∷ read 1 1 short
+    ∷ read 1 1 (turned 0 2 (turned 55 2 short))
     ∷ read 1 1 (frame Short Two 0 (0x5A ∷ []))
     ∷ read 1 2 (frame Short Five 0 (0x5A ∷ 1 ∷ []))
     ∷ []
 
 pub good-facts : good
     ≡ (0 ∷ 0 ∷ 10 ∷ 8 ∷ 1 ∷ 2200 ∷ 165 ∷ 0 ∷ [])
-    ∷ (0 ∷ 0 ∷ 110 ∷ 1 ∷ 1 ∷ 1064 ∷ 60 ∷ [])
+    ∷ (0 ∷ 0 ∷ 110 ∷ 1 ∷ 1 ∷ 1064 ∷ 61 ∷ [])
     ∷ (0 ∷ 0 ∷ 20 ∷ 4 ∷ 1 ∷ 1100 ∷ 90 ∷ [])
     ∷ (0 ∷ 0 ∷ 55 ∷ 3 ∷ 2 ∷ 1088 ∷ 90 ∷ 1 ∷ [])
     ∷ []
@@ -122,8 +123,8 @@ unfolding
 good-facts = refl
 
 -- refused, in the order of the checks, each alone and with its neighbour: 1; 1 and 7; 7; 7 and 8; 8 and 9; 8; 9 and 10,
--- the 9 at the part's end; 9 at chip 0; 10 in the preamble (a first symbol turned is seen in the second), in its last
--- symbol, in an SFD that is then wrong, at the first symbol of a long header; 11; 12, of a short header whose
+-- the 9 at the part's end; 9 at chip 0; two 9s; 10 in the preamble (a first symbol turned is seen in the second), in
+-- its last symbol, in an SFD that is then wrong, at the first symbol of a long header; 11; 12, of a short header whose
 -- first symbol grew by an odd step; 13, 14 and 15 of a recording that ends with its front; 16 and 17; 17 and 9; the
 -- payload's 9, its 9 and 10, and its 10
 pub bad : List (List ℕ)
@@ -137,6 +138,7 @@ bad =
     ∷ refused 1 true 1 (take 1055 short)
     ∷ refused 0 true 1 (spoilt 2111 5 (turned 55 1 long))
     ∷ refused 1 true 1 (spoilt 0 5 short)
+    ∷ refused 1 true 1 (spoilt 700 5 (spoilt 900 255 short))
     ∷ refused 1 true 1 (turned 0 1 short)
     ∷ refused 1 true 1 (turned 55 3 short)
     ∷ refused 1 true 1 (turned 781 1 short)
@@ -164,6 +166,7 @@ pub bad-facts : bad
     ∷ (8 ∷ 0 ∷ 0 ∷ 0 ∷ 0 ∷ 0 ∷ [])
     ∷ (9 ∷ 2111 ∷ 0 ∷ 0 ∷ 0 ∷ 0 ∷ [])
     ∷ (9 ∷ 0 ∷ 0 ∷ 0 ∷ 0 ∷ 0 ∷ [])
+    ∷ (9 ∷ 700 ∷ 0 ∷ 0 ∷ 0 ∷ 0 ∷ [])
     ∷ (10 ∷ 11 ∷ 0 ∷ 0 ∷ 0 ∷ 0 ∷ [])
     ∷ (10 ∷ 55 ∷ 0 ∷ 0 ∷ 0 ∷ 0 ∷ [])
     ∷ (10 ∷ 781 ∷ 0 ∷ 0 ∷ 0 ∷ 0 ∷ [])

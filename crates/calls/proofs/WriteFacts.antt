@@ -1,9 +1,12 @@
 -- Writes, computed from the definition and compared with what RULES 6.1 and 6.4 say of each: the answer for every kind
--- and rate, every refusal at its limit, every two neighbours that can be met together, and the chip buffer of a refused
--- write. Assumes nothing.
+-- and rate, every refusal at its limit, every two neighbours that can be met together, and the chip buffer after
+-- good and refused writes. Assumes nothing.
 use mathlib.Core.Path.{_≡_, refl}
-use mathlib.Core.List.{List, [], _∷_}
+use mathlib.Core.List.{List, [], _∷_, _++_}
 use Prim.Native.Nat.{ℕ}
+use Rattle.rates.specs.declared.Rate.the-variants.{Two, Eleven}
+use Rattle.frame.specs.declared.Kind.the-variants.{Long, Short}
+use Rattle.frame.specs.Frame.{frame}
 use Rattle.calls.specs.declared.Written.{Written}
 use Rattle.calls.specs.Answers.{writtenOf}
 use Rattle.calls.specs.Writing.{writingOf, chipsWritten}
@@ -51,3 +54,9 @@ pub left : chipsWritten 2 20 0 (7 ∷ []) 3 ∷ chipsWritten 0 20 0 (7 ∷ []) 5
     ≡ (4 ∷ 4 ∷ 4 ∷ []) ∷ (4 ∷ 4 ∷ 4 ∷ 4 ∷ 4 ∷ []) ∷ []
 unfolding chipsWritten writingOf
 left = refl
+
+-- good, it is the frame from the starting phase, and 4s after it
+pub kept : chipsWritten 0 20 1 (7 ∷ []) 2158 ∷ chipsWritten 1 110 3 (7 ∷ []) 1064 ∷ []
+    ≡ (frame Long Two 1 (7 ∷ []) ++ (4 ∷ 4 ∷ [])) ∷ (frame Short Eleven 3 (7 ∷ []) ++ []) ∷ []
+unfolding chipsWritten writingOf
+kept = refl

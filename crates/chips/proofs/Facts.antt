@@ -3,12 +3,23 @@
 -- Assumes nothing.
 use mathlib.Core.Path.{_≡_, refl}
 use mathlib.Core.Bool.{Bool, true, false}
-use mathlib.Core.List.{List, [], _∷_, map}
-use Prim.Native.Nat.{ℕ}
+use mathlib.Core.List.{List, [], _∷_, _++_, map}
+use Prim.Native.Nat.{ℕ, _^_}
+use lib.ListN.{replicate}
 use lib.IntN.{ℤ, pos, negℤ}
-use lib.Ieee.{binary32, ofBits}
-use Rattle.chips.specs.Floats.{usable, countOf}
-use Rattle.chips.specs.Chips.{pair, nothing, unusable, counted, hardTaken}
+use lib.Ieee.{Float, binary32, ofBits}
+use Rattle.base.specs.Tables.{tabulate}
+use Rattle.chips.specs.declared.Chip.the-variants.{Soft}
+use Rattle.chips.specs.Floats.{steps, usable, nearest, countOf}
+use Rattle.chips.specs.Chips.{
+  pair,
+  nothing,
+  exactOf,
+  unusable,
+  counted,
+  hardTaken,
+  softRecording,
+}
 
 -- the count of a bit pattern, and whether it is usable
 unfoldable pub patternCount : ℕ → ℤ
@@ -44,18 +55,42 @@ pub edges : Edges
 unfolding patternUsable patternCount
 edges = (refl, refl)
 
--- octets 0 to 3 are phases, 4 is lost, 5 and 255 are unusable
+-- all 256 octets: 0 to 3 are phases, 4 is lost, 5 to 255 are unusable
 abbrev pub Octets : Type 0
 Octets =
-    map hardTaken (0 ∷ 1 ∷ 2 ∷ 3 ∷ 4 ∷ 5 ∷ 255 ∷ [])
-    ≡ counted (pair (pos 1024) (pos 0))
+    map hardTaken (tabulate (λ x. x) 256)
+    ≡ (counted (pair (pos 1024) (pos 0))
     ∷ counted (pair (pos 0) (pos 1024))
     ∷ counted (pair (negℤ (pos 1024)) (pos 0))
     ∷ counted (pair (pos 0) (negℤ (pos 1024)))
     ∷ counted nothing
-    ∷ unusable
-    ∷ unusable
-    ∷ []
+    ∷ [])
+    ++ replicate 251 unusable
 
 pub octets : Octets
+unfolding tabulate
 octets = refl
+
+-- soft rows, chip by chip: (1, -3·2^-11), (2^-11, 8), (1, NaN), (an infinity, 0), and a fifth I without its Q
+abbrev floats : List ℕ → List Float
+floats bs = map (ofBits binary32) bs
+
+abbrev pub SoftRows : Type 0
+SoftRows =
+    softRecording (floats (0x3f80_0000 ∷ 0x3a00_0000 ∷ 0x3f80_0000 ∷ 0x7f80_0000 ∷ 0 ∷ []))
+    (floats (0xbac0_0000 ∷ 0x4100_0000 ∷ 0x7fc0_0000 ∷ 0 ∷ []))
+    ≡ counted (pair (pos 1024) (negℤ (pos 2))) ∷ counted (pair (pos 0) (pos 8192)) ∷ unusable ∷ unusable ∷ []
+
+pub soft-rows : SoftRows
+unfolding ofBits steps usable nearest countOf softRecording
+soft-rows = refl
+
+-- the exact value of the soft chip (1, -2^-149), in steps of 2^-149
+abbrev pub SoftExact : Type 0
+SoftExact =
+    exactOf (Soft (record { i = ofBits binary32 0x3f80_0000; q = ofBits binary32 0x8000_0001 }))
+    ≡ pair (pos (2 ^ 149)) (negℤ (pos 1))
+
+pub soft-exact : SoftExact
+unfolding ofBits steps
+soft-exact = refl

@@ -19,6 +19,8 @@ use Rattle.bits.specs.Crc.{addWhere, crcStep, remainder, crcBits}
 use Rattle.frame.specs.declared.Kind.{Kind}
 use Rattle.frame.specs.declared.Kind.the-variants.{Long, Short}
 use Rattle.frame.specs.Frame.{
+  isKind,
+  kindOf,
   syncBits,
   syncBit,
   sfdOf,
@@ -38,6 +40,13 @@ use Rattle.frame.specs.Frame.{
   frame,
   frameChips,
 }
+
+-- the numbers of the kinds: 0 long, 1 short, no other
+pub numbered : map kindOf (0 ∷ 1 ∷ []) ≡ Long ∷ Short ∷ []
+numbered = refl
+
+pub no-kinds : map isKind (0 ∷ 1 ∷ 2 ∷ 3 ∷ 256 ∷ []) ≡ true ∷ true ∷ false ∷ false ∷ false ∷ []
+no-kinds = refl
 
 -- of each kind: SYNC's bits and their value, SFD, bits of SYNC and SFD, chips of the front, the header's rate
 pub kinds : map

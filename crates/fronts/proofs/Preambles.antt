@@ -1,7 +1,7 @@
 -- The preamble, heard in two parts on one line: the first block, whose first symbol is the reference, and the rest.
 --     goes-on           unscrambling goes on from the bits received
 --     sync-heard, preamble-sfd    the two parts heard are the preamble heard
---     rest-lent, rest-room, first-small    what the second part asks
+--     rest-lent, rest-room, decided-small    what the second part asks
 -- Assumes nothing.
 use mathlib.Core.Path.{_≡_, refl, sym, ap, ap₂, subst, _∙_}
 use mathlib.Core.List.{List, [], _∷_, _++_, append-assoc}
@@ -210,8 +210,8 @@ pub rest-room : (k : Kind) (n m : ℕ) → n ≡ syncOctets k - 6 → frontChips
 rest-room Long n m e h = omega arith
 rest-room Short n m e h = omega arith
 
-pub first-small : (rec : List Taken) (ns : List ℕ) → DecidedAt One rec 0 64 ns → getD ns 0 0 < 4
-first-small rec ns d = rw (d .number 0 (omega arith)) (decided-below One _)
+pub decided-small : (rec : List Taken) (ns : List ℕ) → DecidedAt One rec 0 64 ns → (l : ℕ) → l < 64 → getD ns l 0 < 4
+decided-small rec ns d l h = rw (d .number l h) (decided-below One _)
 
 -- the octets behind SYNC
 pub preamble-sfd : (k : Kind) (rec : List Taken) (xs os : List ℕ) → take (syncOctets k + 2) os ≡ preambleOctets k rec

@@ -63,7 +63,7 @@ use Rattle.calls.proofs.WriteGood.{accepted}
 use Rattle.promises.specs.Promises.{WriteFills, ReadFills}
 
 -- every refusal has a number other than 0
-some-number : (e : Refusal) → refusalNumber e ≡ 0 → ⊥
+pub some-number : (e : Refusal) → refusalNumber e ≡ 0 → ⊥
 some-number NoKind h = omega arith
 some-number NoRate h = omega arith
 some-number ShortRate h = omega arith
@@ -83,7 +83,7 @@ some-number (Ends l) h = omega arith
 some-number (OctetRoom l) h = omega arith
 
 -- a test, and what holds where it fails
-branch : {A : Type 0} (P : A → Type 0) (t : Bool) (x y : A) → P x → (T (not t) → P y) → P (cond t x y)
+pub branch : {A : Type 0} (P : A → Type 0) (t : Bool) (x y : A) → P x → (T (not t) → P y) → P (cond t x y)
 branch P true x y h k = h
 branch P false x y h k = k tt
 
@@ -132,7 +132,7 @@ abbrev Fits : ℕ → Reading → Type 0
 Fits room (reading.Refused e) = Unit {0}
 Fits room (reading.Good t used) = t .n ≤ room
 
-elsewise : (P : Reading → Type 0) (o : Option ℕ) (f : ℕ → Reading) (y : Reading) → ((p : ℕ) → P (f p)) → P y
+pub elsewise : {A : Type 0} (P : A → Type 0) (o : Option ℕ) (f : ℕ → A) (y : A) → ((p : ℕ) → P (f p)) → P y
     → P (orElse o f y)
 elsewise P none f y h k = k
 elsewise P (some p) f y h k = h p

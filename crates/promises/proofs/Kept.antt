@@ -5,6 +5,7 @@ use Rattle.chips.proofs.Meaning.{counted}
 use Rattle.clean.proofs.Rows.{soft-rows}
 use Rattle.promises.specs.Promises.{OneAnswer, Promised}
 use Rattle.promises.proofs.Fills.{write-fills, read-fills}
+use Rattle.promises.proofs.Only.{only-sent, only-readable, rows-refused}
 use Rattle.promises.proofs.Back.{written-frame, read-back, read-back-soft, not-read-back}
 use Rattle.promises.proofs.Source.{one-source}
 use Rattle.promises.proofs.Right.{recorded-right, hard-right, soft-right}
@@ -20,6 +21,9 @@ pub kept : Promised
 kept = (
   write-fills,
   read-fills,
+  only-sent,
+  only-readable,
+  rows-refused,
   written-frame,
   read-back,
   read-back-soft,

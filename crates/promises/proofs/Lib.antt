@@ -1,4 +1,5 @@
 pub mod Fills
+pub mod Only
 pub mod Back
 pub mod Source
 pub mod Right

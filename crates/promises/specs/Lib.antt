@@ -1,3 +1,4 @@
 pub mod Calls
 pub mod Right
+pub mod Only
 pub mod Promises

@@ -1,7 +1,8 @@
--- What is promised beyond each contract (RULES 1.4, 7, 9). Fills, reading back, one source and one answer speak of
--- answers and buffers that the contracts of crate dsss allow (`Wrote`, `Read`: Calls.antt), so they are about the
--- programs. Demand 3 (Right.antt) speaks of the lists of words that the definition of reading takes its growths and
--- bits from, the half a count and Table P of the definitions. proofs/Kept.antt proves all of it.
+-- What is promised beyond each contract (RULES 1.4, 7, 9). Fills, what is accepted (Only.antt), reading back, one
+-- source and one answer speak of answers and buffers that the contracts of crate dsss allow (`Wrote`, `Read`:
+-- Calls.antt), so they are about the programs. Demand 3 (Right.antt) speaks of the lists of words that the definition
+-- of reading takes its growths and bits from, the half a count and Table P of the definitions. proofs/Kept.antt proves
+-- all of it.
 -- Definitions only. Assumes nothing.
 use Prim.Native.Nat.{ℕ, _+_, _-_, _*_, _≤_, _<_}
 use mathlib.Core.Path.{_≡_}
@@ -21,6 +22,7 @@ use Rattle.frame.specs.TableP.{TableP}
 use Rattle.clean.specs.Clean.{Exactly, softI, softQ}
 use Rattle.promises.specs.Calls.{Wrote, Read, ReadHard, ReadSoft, Sent}
 use Rattle.promises.specs.Right.{RecordedRight, HardRight, SoftRight}
+use Rattle.promises.specs.Only.{OnlySent, OnlyReadable, RowsRefused}
 
 -- ---- demand 1: fills. The buffers keep their length; after a refusal only the fill, after a good answer the fill
 -- to the end
@@ -121,5 +123,6 @@ OneAnswer =
 -- ---- all of it
 abbrev pub Promised : Type 0
 Promised =
-    WriteFills × ReadFills × WrittenFrame × ReadBack × ReadBackSoft × NotReadBack × OneSource
+    WriteFills × ReadFills × OnlySent × OnlyReadable × RowsRefused
+    × WrittenFrame × ReadBack × ReadBackSoft × NotReadBack × OneSource
     × SoftRows × HalfACount × RecordedRight × HardRight × SoftRight × OneAnswer × TableP

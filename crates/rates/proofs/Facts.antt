@@ -1,9 +1,11 @@
 -- What the definitions of the rates compute, against RULES 3.1, 3.2, 4, 5.2, 5.8 and 5.10 to 5.12: tables of inputs,
 -- and one equation over each. The LENGTHs of 1,023 to 1,026 octets are printed in IEEE 802.11b-1999. Assumes nothing.
 use mathlib.Core.Path.{_≡_, refl}
-use mathlib.Core.Bool.{true, false}
+use mathlib.Core.Bool.{Bool, true, false, cond, _||_}
 use mathlib.Core.List.{List, [], _∷_, map}
 use Prim.Native.Nat.{ℕ}
+use borrow.Author.Tests.{eqb-true}
+use lib.Dec.{eqb}
 use lib.IntN.{pos, negsuc}
 use Rattle.rates.specs.declared.Rate.{Rate}
 use Rattle.rates.specs.declared.Rate.the-variants.{One, Two, Five, Eleven}
@@ -45,6 +47,18 @@ no-codes = refl
 
 pub their-rates : map rateOf (10 ∷ 20 ∷ 55 ∷ 110 ∷ []) ≡ rates
 their-rates = refl
+
+-- and no other number is a code
+pub no-other-code : (c : ℕ) → isCode c ≡ true → c ≡ codeOf (rateOf c)
+no-other-code c =
+    go (eqb c 10) (eqb c 20) (eqb c 55) (eqb c 110) (eqb-true c 10) (eqb-true c 20) (eqb-true c 55) (eqb-true c 110)
+  where
+    go : (a b d e : Bool) → (a ≡ true → c ≡ 10) → (b ≡ true → c ≡ 20) → (d ≡ true → c ≡ 55) → (e ≡ true → c ≡ 110)
+        → (a || b || d || e) ≡ true → c ≡ codeOf (cond a One (cond b Two (cond d Five Eleven)))
+    go true b d e f g h i t = f refl
+    go false true d e f g h i t = g refl
+    go false false true e f g h i t = h refl
+    go false false false e f g h i t = i t
 
 -- LENGTH and bit 7 of n octets at a rate
 abbrev fields : Rate → ℕ → List ℕ

@@ -13,7 +13,7 @@ use Rattle.recorders.proofs.Search.{usable-part}
 use Rattle.hearing.proofs.Parts.{block-are-words}
 use borrow.Author.Needs.{needs}
 use Rattle.fronts.specs.Openings.{syncOctets}
-use Rattle.fronts.proofs.Preambles.{sync-heard, rest-lent, rest-room, first-small}
+use Rattle.fronts.proofs.Preambles.{sync-heard, rest-lent, rest-room, decided-small}
 use Rattle.fronts.proofs.hear_sync.Statement.{statement}
 use Rattle.fronts.proofs.hear_sync.Tie as tie
 
@@ -43,7 +43,7 @@ hear-requires c κs =
       omega arith,
       omega (arith, start .pre .2),
       omega arith,
-      rw (c .before .first-line .ensures .at-phase) (first-small _ _ d),
+      rw (c .before .first-line .ensures .at-phase) (decided-small _ _ d _ (omega arith)),
       d .long,
       block-are-words One 8 8 refl (recordingOf (a .rec) (a .row .now) (a .i .now) (a .q .now)) 0 _ d (omega arith),
     )

@@ -1,0 +1,287 @@
+-- Nothing else is accepted: the tests of writing and reading, followed to a good answer. By the cases of each test;
+-- what holds where a refusal is not given is carried to the end. Assumes nothing.
+use mathlib.Core.Path.{_≡_, refl, sym, ap, _∙_, subst}
+use mathlib.Core.Bool.{Bool, true, false, not, _&&_}
+use mathlib.Core.List.{List}
+use Prim.Native.Nat.{ℕ, zero, suc, _-_, _/_, _%_, _≤_}
+use native.Mathlib.Omega.{arith}
+use borrow.Author.Tests.{leb-true, eqb-true, lt-ltb, le-ltb, ne-eqb}
+use lib.Dec.{T, ltb, leb, eqb, nltb→le}
+use lib.ListN.{length, take, drop}
+use lib.IntN.{ℤ, pos, negsuc, natAbs}
+use Rattle.base.specs.Below.{Below}
+use Rattle.rates.specs.declared.Rate.{Rate}
+use Rattle.rates.specs.declared.Rate.the-variants.{One, Two, Five, Eleven}
+use Rattle.rates.specs.Rates.{
+  codeOf,
+  isCode,
+  rateOf,
+  octetChips,
+  lengthField,
+  bit7,
+  octetsRead,
+  isPayload,
+  lengthHolds,
+}
+use Rattle.rates.proofs.Facts.{no-other-code}
+use Rattle.chips.specs.Chips.{Taken}
+use Rattle.bits.specs.Bits.{numberOf}
+use Rattle.bits.specs.Crc.{crcBits}
+use Rattle.frame.specs.declared.Kind.{Kind}
+use Rattle.frame.specs.Frame.{isKind, kindOf, sfdOf, goesWith, frontChips, frameChips}
+use Rattle.calls.specs.declared.Refusal.the-variants.{Unusable, OddGrowth}
+use Rattle.calls.specs.declared.Writing.{Writing}
+use Rattle.calls.specs.declared.Writing.the-variants as writing
+use Rattle.calls.specs.declared.Front.{Front}
+use Rattle.calls.specs.declared.Front.the-variants as front
+use Rattle.calls.specs.declared.Reading.{Reading}
+use Rattle.calls.specs.declared.Reading.the-variants as reading
+use Rattle.calls.specs.declared.Written.{Written}
+use Rattle.calls.specs.declared.Record.{Record}
+use Rattle.calls.specs.Answers.{writtenOf, recordOf}
+use Rattle.calls.specs.Writing.{writingOf}
+use Rattle.calls.specs.Reading.{
+  firstUnusable,
+  frontOdd,
+  serviceAllowed,
+  sameBits,
+  fieldsOf,
+  headerOf,
+  frontOf,
+  payloadOdd,
+  wholeOf,
+  payloadReading,
+  afterFront,
+  readingOf,
+}
+use Rattle.promises.specs.Calls.{
+  Goes,
+  long-1,
+  long-2,
+  long-5,
+  long-11,
+  short-2,
+  short-5,
+  short-11,
+  Sent,
+}
+use Rattle.promises.specs.Only.{OnlySent, Readable, OnlyReadable, RowsRefused}
+use Rattle.promises.proofs.Fills.{some-number, branch, elsewise}
+
+-- ---- tests
+yes : (b : Bool) → T (not (not b)) → b ≡ true
+yes true t = refl
+yes false t = absurd t
+
+left-is : (a b : Bool) → (a && b) ≡ true → a ≡ true
+left-is true b h = refl
+left-is false b h = h
+
+right-is : (a b : Bool) → (a && b) ≡ true → b ≡ true
+right-is true b h = h
+right-is false b h = absurd (subst T (sym h) tt)
+
+-- ---- the kinds and the rates that go with them
+goes : (kind : ℕ) (r : Rate) → isKind kind ≡ true → goesWith (kindOf kind) r ≡ true
+    → Goes kind (codeOf r) (frontChips (kindOf kind)) (octetChips r)
+goes zero One a b = long-1
+goes zero Two a b = long-2
+goes zero Five a b = long-5
+goes zero Eleven a b = long-11
+goes (suc zero) One a b = absurd (subst T (sym b) tt)
+goes (suc zero) Two a b = short-2
+goes (suc zero) Five a b = short-5
+goes (suc zero) Eleven a b = short-11
+goes (suc (suc k)) r a b = absurd (subst T (sym a ∙ le-ltb (suc (suc k)) 2 (omega arith)) tt)
+
+-- ---- writing
+module _ (kind rate phase : ℕ) (payload : List ℕ) (room : ℕ) (octets : Below 256 payload) where
+  abbrev n : ℕ
+  n = length payload
+
+  abbrev Sendable-in : Writing → Type 0
+  Sendable-in (writing.Refused e) = Unit {0}
+  Sendable-in (writing.Good k r c) =
+      Goes kind rate (frontChips (kindOf kind)) (octetChips (rateOf rate))
+      × (1 ≤ n) × (n ≤ 4095) × (phase ≤ 3) × (frameChips (kindOf kind) (rateOf rate) n ≤ room)
+
+  sendable-in : Sendable-in (writingOf kind rate phase n room)
+  unfolding writingOf
+  sendable-in =
+      branch Sendable-in (not (isKind kind)) _ _ tt
+      (λ a. branch Sendable-in (not (isCode rate)) _ _ tt
+      (λ b. branch Sendable-in (not (goesWith (kindOf kind) (rateOf rate))) _ _ tt
+      (λ c. branch Sendable-in (not (isPayload (pos n))) _ _ tt
+      (λ d. branch Sendable-in (ltb 3 phase) _ _ tt
+      (λ e. branch Sendable-in (ltb room (frameChips (kindOf kind) (rateOf rate) n)) _ _ tt
+      (λ f. (
+        subst (λ (x : ℕ). Goes kind x (frontChips (kindOf kind)) (octetChips (rateOf rate)))
+            (sym (no-other-code rate (yes _ b)))
+            (goes kind (rateOf rate) (yes _ a) (yes _ c)),
+        leb-true 1 n (left-is _ _ (yes _ d)),
+        leb-true n 4095 (right-is (leb 1 n) _ (yes _ d)),
+        nltb→le 3 phase e,
+        nltb→le room (frameChips (kindOf kind) (rateOf rate) n) f,
+      )))))))
+
+pub only-sent : OnlySent
+only-sent kind rate phase payload room w left octets wrote zero-is =
+    go (writingOf kind rate phase (length payload) room) (sendable-in kind rate phase payload room octets)
+    (ap (λ (v : Written). v .number) (sym (wrote .answer)) ∙ zero-is)
+  where
+    go : (g : Writing) → Sendable-in kind rate phase payload room octets g → writtenOf g .number ≡ 0
+        → Sent kind rate phase payload w left
+    go (writing.Refused e) p z = absurd (some-number e z)
+    go (writing.Good k r c) p z = record {
+      room = room;
+      sendable = record {
+        front = frontChips (kindOf kind);
+        octet = octetChips (rateOf rate);
+        goes = p .0;
+        some = p .1;
+        few = p .2;
+        phase-is = omega (arith, p .3);
+        octets = octets;
+      };
+      holds = p .4;
+      wrote = wrote;
+    }
+
+-- ---- reading: what a header tells, then that the recording has the frame's chips, then room
+abbrev Told-in : Kind → Front → Type 0
+Told-in k (front.Refused e) = Unit {0}
+Told-in k (front.Fields t) =
+    (goesWith k (t .rate) ≡ true) × (1 ≤ t .n) × (t .n ≤ 4095) × (t .length ≡ lengthField (t .rate) (t .n))
+
+sized : (z : ℤ) → isPayload z ≡ true → (1 ≤ natAbs z) × (natAbs z ≤ 4095)
+sized (pos m) h = (leb-true 1 m (left-is _ _ h), leb-true m 4095 (right-is (leb 1 m) _ h))
+sized (negsuc m) h = absurd (subst T (sym h) tt)
+
+told-fields : (k : Kind) (signal service l : ℕ) → Told-in k (fieldsOf k signal service l)
+unfolding fieldsOf
+told-fields k signal service l =
+    let r = rateOf signal in
+    let seven = service / 128 % 2 in
+    let z = octetsRead r l seven in
+    let n = natAbs z in
+    branch (Told-in k) (not (isCode signal && goesWith k r)) _ _ tt
+    (λ a. branch (Told-in k) (not (serviceAllowed r service)) _ _ tt
+    (λ b. branch (Told-in k) (not (lengthHolds r l seven)) _ _ tt
+    (λ c. let h : lengthHolds r l seven ≡ true = yes (lengthHolds r l seven) c in
+    let s = sized z (first (isPayload z) (eqb (lengthField r n) l) (eqb (bit7 r n) seven) h) in (
+      right-is (isCode signal) (goesWith k r) (yes (isCode signal && goesWith k r) a),
+      s .0,
+      s .1,
+      sym (eqb-true (lengthField r n) l (second (isPayload z) (eqb (lengthField r n) l) (eqb (bit7 r n) seven) h)),
+    ))))
+  where
+    first : (a b c : Bool) → (a && b && c) ≡ true → a ≡ true
+    first true b c h = refl
+    first false b c h = h
+
+    second : (a b c : Bool) → (a && b && c) ≡ true → b ≡ true
+    second true true c h = refl
+    second true false c h = h
+    second false b c h = absurd (subst T (sym h) tt)
+
+told-header : (k : Kind) (sfd header : List ℕ) → Told-in k (headerOf k sfd header)
+unfolding headerOf
+told-header k sfd header =
+    branch (Told-in k) (not (eqb (numberOf sfd) (sfdOf k))) _ _ tt
+    (λ a. branch (Told-in k) (not (sameBits (crcBits (take 32 header)) (drop 32 header))) _ _ tt
+    (λ b. told-fields k (numberOf (take 8 header)) (numberOf (take 8 (drop 8 header)))
+    (numberOf (take 16 (drop 16 header)))))
+
+told-front : (k : Kind) (rec : List Taken) → Told-in k (frontOf k rec)
+unfolding frontOf
+told-front k rec =
+    branch (Told-in k) (ltb (length rec) (frontChips k)) _ _ tt
+    (λ a. elsewise (Told-in k) (firstUnusable 0 (take (frontChips k) rec)) (λ p. front.Refused (Unusable p 0)) _
+    (λ p. tt)
+    (elsewise (Told-in k) (frontOdd k rec) (λ p. front.Refused (OddGrowth p 0)) _ (λ p. tt) (told-header k _ _)))
+
+module _ (kind : ℕ) (rec : List Taken) (room : ℕ) (kind-is : isKind kind ≡ true) where
+  abbrev k : Kind
+  k = kindOf kind
+
+  abbrev Whole-in : Front → Type 0
+  Whole-in (front.Refused e) = Unit {0}
+  Whole-in (front.Fields t) = Told-in k (front.Fields t) × (frameChips k (t .rate) (t .n) ≤ length rec)
+
+  whole-in : (f : Front) → Told-in k f → Whole-in (wholeOf k rec f)
+  whole-in (front.Refused e) h = tt
+  whole-in (front.Fields t) h =
+      let all = frameChips k (t .rate) (t .n) in
+      branch Whole-in (ltb (length rec) all) _ _ tt (λ a. (h, nltb→le (length rec) all a))
+
+  abbrev Readable-in : Reading → Type 0
+  Readable-in (reading.Refused e) = Unit {0}
+  Readable-in (reading.Good t used) = Readable kind (length rec) room (recordOf (reading.Good t used))
+
+  code-back : (r : Rate) → rateOf (codeOf r) ≡ r
+  code-back One = refl
+  code-back Two = refl
+  code-back Five = refl
+  code-back Eleven = refl
+
+  readable-in : (f : Front) → Whole-in f → Readable-in (afterFront k rec room f)
+  unfolding payloadReading
+  readable-in (front.Refused e) h = tt
+  readable-in (front.Fields t) h =
+      let r = t .rate in
+      let all = frameChips k r (t .n) in
+      branch Readable-in (ltb room (t .n)) _ _ tt
+      (λ b. elsewise Readable-in (firstUnusable (frontChips k) (take (all - frontChips k) (drop (frontChips k) rec)))
+      (λ p. reading.Refused (Unusable p (t .length))) _ (λ p. tt)
+      (elsewise Readable-in (payloadOdd k r (t .n) rec) (λ p. reading.Refused (OddGrowth p (t .length))) _ (λ p. tt)
+      (record {
+        front = frontChips k;
+        octet = octetChips r;
+        goes = goes kind r kind-is (h .0 .0);
+        some = h .0 .1;
+        few = h .0 .2;
+        length-is = h .0 .3 ∙ ap (λ (x : Rate). lengthField x (t .n)) (sym (code-back r));
+        used-is = refl;
+        there = h .1;
+        fits = nltb→le room (t .n) b;
+      })))
+
+-- a whole reading, where kind and rows pass
+abbrev Agreed : ℕ → Bool → List Taken → ℕ → Reading → Type 0
+Agreed kind agree rec room (reading.Refused e) = Unit {0}
+Agreed kind agree rec room (reading.Good t used) =
+    (agree ≡ true) × Readable kind (length rec) room (recordOf (reading.Good t used))
+
+agreed : (kind : ℕ) (agree : Bool) (rec : List Taken) (room : ℕ)
+    → Agreed kind agree rec room (readingOf kind agree rec room)
+unfolding readingOf
+agreed kind agree rec room =
+    branch (Agreed kind agree rec room) (not (isKind kind)) _ _ tt
+    (λ a. branch (Agreed kind agree rec room) (not agree) _ _ tt
+    (λ b. let f = frontOf (kindOf kind) rec in
+    let known = yes (isKind kind) a in
+    with-rows known (yes agree b) (afterFront (kindOf kind) rec room (wholeOf (kindOf kind) rec f))
+    (readable-in kind rec room known (wholeOf (kindOf kind) rec f)
+    (whole-in kind rec room known f (told-front (kindOf kind) rec)))))
+  where
+    with-rows : (known : isKind kind ≡ true) → agree ≡ true → (g : Reading) → Readable-in kind rec room known g
+        → Agreed kind agree rec room g
+    with-rows known e (reading.Refused x) h = tt
+    with-rows known e (reading.Good t used) h = (e, h)
+
+pub only-readable : OnlyReadable
+only-readable kind agree rec room a left read zero-is =
+    subst (λ (v : Record). (agree ≡ true) × Readable kind (length rec) room v) (sym (read .answer))
+    (go (readingOf kind agree rec room) (agreed kind agree rec room)
+    (ap (λ (v : Record). v .number) (sym (read .answer)) ∙ zero-is))
+  where
+    go : (g : Reading) → Agreed kind agree rec room g → recordOf g .number ≡ 0
+        → (agree ≡ true) × Readable kind (length rec) room (recordOf g)
+    go (reading.Refused e) p z = absurd (some-number e z)
+    go (reading.Good t used) p z = p
+
+-- ---- soft rows that differ
+pub rows-refused : RowsRefused
+unfolding readingOf
+rows-refused kind i q room a left h differ read =
+    read .answer ∙ simp (lt-ltb kind 2 h, ne-eqb (length i) (length q) differ)

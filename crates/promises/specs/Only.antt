@@ -1,0 +1,46 @@
+-- Nothing else is accepted: an answer with number 0 is given only where RULES 5.2, 5.8, 5.10 and 6.4 allow it, said in
+-- plain numbers. A kind, a code, a length or a phase more that writer and reader agreed on would break this.
+-- Definitions only. Assumes nothing.
+use Prim.Native.Nat.{ℕ, _+_, _*_, _≤_, _<_}
+use mathlib.Core.Path.{_≡_}
+use mathlib.Core.Bool.{Bool, true}
+use mathlib.Core.List.{List}
+use lib.ListN.{length}
+use lib.Ieee.{Float}
+use Rattle.base.specs.Below.{Below}
+use Rattle.rates.specs.Rates.{rateOf, lengthField}
+use Rattle.chips.specs.Chips.{Taken}
+use Rattle.calls.specs.declared.Written.{Written}
+use Rattle.calls.specs.declared.Record.{Record}
+use Rattle.promises.specs.Calls.{Wrote, Read, ReadSoft, Goes, Sent}
+
+-- a write that answers 0 had a kind and a rate that goes with it, 1 to 4,095 octets, a phase, and room for the frame
+abbrev pub OnlySent : Type 0
+OnlySent =
+    (kind rate phase : ℕ) (payload : List ℕ) (room : ℕ) (w : Written) (left : List ℕ) → Below 256 payload
+    → Wrote kind rate phase payload room w left → w .number ≡ 0 → Sent kind rate phase payload w left
+
+-- what a read that answers 0 tells: a rate of its kind, 1 to 4,095 octets and their LENGTH, room for them, and the
+-- chips of a frame that the recording has
+pub record Readable (kind : ℕ) (chips room : ℕ) (a : Record) : Type 0 where
+  pub front : ℕ
+  pub octet : ℕ
+  pub goes : Goes kind (a .rate) front octet
+  pub some : 1 ≤ a .n
+  pub few : a .n ≤ 4095
+  pub length-is : a .length ≡ lengthField (rateOf (a .rate)) (a .n)
+  pub used-is : a .used ≡ front + octet * a .n
+  pub there : a .used ≤ chips
+  pub fits : a .n ≤ room
+
+abbrev pub OnlyReadable : Type 0
+OnlyReadable =
+    (kind : ℕ) (agree : Bool) (rec : List Taken) (room : ℕ) (a : Record) (left : List ℕ)
+    → Read kind agree rec room a left → a .number ≡ 0 → (agree ≡ true) × Readable kind (length rec) room a
+
+-- soft rows that differ in length are refused with 7 under either kind, whatever is in them
+abbrev pub RowsRefused : Type 0
+RowsRefused =
+    (kind : ℕ) (i q : List Float) (room : ℕ) (a : Record) (left : List ℕ) → kind < 2
+    → (length i ≡ length q → ⊥) → ReadSoft kind i q room a left
+    → a ≡ record { number = 7; place = 0; rate = 0; length = 0; n = 0; used = 0 }
