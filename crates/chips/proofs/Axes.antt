@@ -1,9 +1,14 @@
 -- Chips that are all of one recorder: what a chip of each counts on an axis.
 -- Assumes nothing.
+use mathlib.Core.Bool.{Bool, true, false}
 use mathlib.Core.Path.{_≡_, refl, ap, _∙_, subst}
-use Prim.Native.Nat.{ℕ, zero, suc, _+_}
-use lib.Dec.{T}
-use lib.IntN.{pos, negsuc}
+use Prim.Native.Nat.{ℕ, zero, suc, _+_, _≤_}
+use native.Mathlib.Omega.{arith}
+use lib.Dec.{T, lit<, lit≤, eqb}
+use lib.IntN.{ℤ, pos, _-ℤ_}
+use mir.Syntax.{w8}
+use mir.Val.{SFits, toZ, ofZ, boolByte}
+use borrow.Author.Tests.{ne-eqb}
 use Rattle.base.proofs.Tests.{both-left, both-right}
 use Rattle.chips.specs.declared.Axis.{Axis}
 use Rattle.chips.specs.declared.Axis.the-variants.{I, Q}
@@ -35,23 +40,27 @@ hard-counts Lost t = refl
 hard-counts (Hard p) t = refl
 hard-counts (Soft s) t = absurd t
 
--- in full chips it counts a 1024th
-pub unit-plus : (x : Axis) → along x (fullChip 1 (phaseOn x)) ≡ pos 1
-unit-plus I = refl
-unit-plus Q = refl
+-- ---- its unit on an axis as the code makes it: whether it is the phase of 1 less whether it is that of -1
+pub unit-fits : (a b : Bool) → SFits w8 (toZ w8 (boolByte a) -ℤ toZ w8 (boolByte b))
+unit-fits true true = record { sfits = lit< tt }
+unit-fits true false = record { sfits = lit< tt }
+unit-fits false true = record { sfits = lit< tt }
+unit-fits false false = record { sfits = lit< tt }
 
-pub unit-minus : (x : Axis) → along x (fullChip 1 (phaseOn x + 2)) ≡ negsuc 0
-unit-minus I = refl
-unit-minus Q = refl
+abbrev pub made : ℕ → ℕ → ℤ
+made p plus = toZ w8 (ofZ w8 (toZ w8 (boolByte (eqb p plus)) -ℤ toZ w8 (boolByte (eqb p (plus + 2)))))
 
-pub unit-none : (x : Axis) (p : ℕ) → (p ≡ phaseOn x → ⊥) → (p ≡ phaseOn x + 2 → ⊥) → along x (fullChip 1 p) ≡ pos 0
-unit-none I zero f g = absurd (f refl)
-unit-none I (suc zero) f g = refl
-unit-none I (suc (suc zero)) f g = absurd (g refl)
-unit-none I (suc (suc (suc zero))) f g = refl
-unit-none I (suc (suc (suc (suc p)))) f g = refl
-unit-none Q zero f g = refl
-unit-none Q (suc zero) f g = absurd (f refl)
-unit-none Q (suc (suc zero)) f g = refl
-unit-none Q (suc (suc (suc zero))) f g = absurd (g refl)
-unit-none Q (suc (suc (suc (suc p)))) f g = refl
+past : (p plus : ℕ) → 4 ≤ p → plus ≤ 1 → made p plus ≡ pos 0
+past p plus h l = rw (ne-eqb p plus (λ e. omega arith), ne-eqb p (plus + 2) (λ e. omega arith)) refl
+
+pub unit-made : (x : Axis) (p : ℕ) → made p (phaseOn x) ≡ along x (fullChip 1 p)
+unit-made I zero = refl
+unit-made I (suc zero) = refl
+unit-made I (suc (suc zero)) = refl
+unit-made I (suc (suc (suc zero))) = refl
+unit-made I (suc (suc (suc (suc p)))) = past (suc (suc (suc (suc p)))) 0 (omega arith) (lit≤ tt)
+unit-made Q zero = refl
+unit-made Q (suc zero) = refl
+unit-made Q (suc (suc zero)) = refl
+unit-made Q (suc (suc (suc zero))) = refl
+unit-made Q (suc (suc (suc (suc p)))) = past (suc (suc (suc (suc p)))) 1 (omega arith) (lit≤ tt)

@@ -62,11 +62,7 @@ fn hard_unit(c: Chip, axis: Axis) -> i8
 {
     let x = super::octet_of(c);
     let plus = phase_on(axis);
-    if x == plus {
-        1
-    } else {
-        if x == plus + 2 { -1 } else { 0 }
-    }
+    (x == plus) as i8 - (x == plus + 2) as i8
 }
 
 // The units of a CCK symbol's hard chips on an axis.
