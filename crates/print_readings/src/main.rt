@@ -1,6 +1,7 @@
 // Recordings and what comes of them, printed: good ones, and one for every refusal. A frame is written, spoilt, and
 // read into a buffer that held 99s; a case that begins with "and" spoils the one before it further. Nothing is
 // proved of what a program writes but that it is safe and ends; what it writes is compared with the file stdout.
+use bits::Line;
 use calls::Record;
 use frame::Kind;
 use libc::STDOUT_FILENO;
@@ -33,7 +34,7 @@ fn headed(k: Kind, signal: u8, service: u8, micros: u16) -> [u8; 2400]
 {
     let header = header::octets_of(signal, service, micros);
     let mut chips = [0u8; 2400];
-    writer::put_front(k, 0, &header, &mut chips);
+    let _: Line = writer::put_front(k, 0, &header, &mut chips);
     chips
 }
 

@@ -17,6 +17,8 @@ use Rattle.calls.specs.declared.Told.{Told}
 use Rattle.calls.specs.declared.Front.the-variants as front
 use Rattle.calls.specs.declared.Reading.{Reading}
 use Rattle.calls.specs.declared.Reading.the-variants.{Refused}
+use Rattle.calls.specs.declared.Record.{Record}
+use Rattle.calls.specs.Answers.{recordOf}
 use Rattle.calls.specs.Reading.{firstUnusable, payloadOdd, payloadReading, readingOf, octetsAfter, octetsFound}
 use Rattle.recorders.specs.declared.Found.{Found}
 use Rattle.recorders.specs.declared.Found.the-variants.{Nothing, At}
@@ -99,3 +101,8 @@ module _ (kind : ℕ) (agree : Bool) (rec : List Taken) (room : ℕ) where
     read-told t g out w p q =
         both g out (p ∙ (unfold readingOf in rw (e, a, ← c, ← x .told, w)))
         (q ∙ ap (λ (i : Kind). octetsAfter i rec room g) c)
+
+-- a call answers the numbers of what reading comes to, and leaves what it leaves
+pub in-numbers : {g h : Reading} {r : Record} {out w : List ℕ} → r ≡ recordOf g → (g ≡ h) × (out ≡ w)
+    → (r ≡ recordOf h) × (out ≡ w)
+in-numbers e p = (e ∙ ap recordOf (p .0), p .1)

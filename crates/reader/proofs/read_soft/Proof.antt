@@ -1,16 +1,11 @@
 -- `reader::read_soft` meets its contract: it is `read` with this recorder, and the answer as numbers. Assumes nothing.
-use mathlib.Core.Path.{ap, _∙_}
-use Rattle.calls.specs.Answers.{recordOf}
 use borrow.Author.Needs.{needs}
+use Rattle.reader.proofs.Order.{in-numbers}
 use Rattle.reader.proofs.read_soft.Statement.{statement}
 use Rattle.reader.proofs.read_soft.Tie as tie
 
 returns : tie.Need-returns
-returns c = (
-  c .record-of .ensures
-      ∙ ap recordOf (c .before .before .before .read .ensures .0),
-  c .before .before .before .read .ensures .1,
-)
+returns c = in-numbers (c .record-of .ensures) (c .before .before .before .read .ensures)
 
 pub read-soft-spec : {M : Type 1} → statement M
 read-soft-spec =
