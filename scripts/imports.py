@@ -3,6 +3,7 @@
 
 A name counts as used where it stands in the file outside its import; an operator, as _+_, where its sign stands.
 """
+import os
 import re
 import subprocess
 import sys
@@ -13,7 +14,7 @@ IMPORT = re.compile(r'^((?:ghost )?use )([^\s{;]+)\.\{([^}]*)\}(;?)\n', re.M)
 def files():
     command = ['git', 'ls-files', '-co', '--exclude-standard', 'crates/*.antt', 'crates/*.rt']
     out = subprocess.run(command, capture_output=True, text=True, check=True).stdout
-    return [p for p in out.split('\n') if p]
+    return [p for p in out.split('\n') if p and os.path.isfile(p)]
 
 
 def rest_of(text):

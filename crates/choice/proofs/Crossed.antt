@@ -11,7 +11,7 @@ use mir.Syntax.{Width}
 use mir.Val.{SFits, toZ, ofZ, hbits}
 use Rattle.base.proofs.Whole.{add, same, up-pos, dn-pos}
 use Rattle.choosing.specs.Scores.{RowWithin}
-use Rattle.choice.proofs.Adding.{Reads, reads-of, reads-fits, reads-add, less-fits, reads-less}
+use Rattle.choosing.proofs.Adding.{Reads, reads-of, reads-fits, reads-add, less-fits, reads-less}
 
 -- ---- sums of two, four and eight
 sum8 : (a b c d e f g h : ℤ) → ((f +ℤ h) +ℤ (e +ℤ g)) +ℤ ((b +ℤ d) +ℤ (a +ℤ c))

@@ -24,7 +24,7 @@ use Rattle.choosing.specs.Keys.{Largest}
 use Rattle.choice.specs.Sums.{rows, sixteen, bestOfEight, keyAt}
 use Rattle.choosing.proofs.Best.{first-map, first-ext}
 use Rattle.choosing.proofs.Sixteen.{five-allowed}
-use Rattle.choice.proofs.Turned.{five-half, cck-within}
+use Rattle.choosing.proofs.HalfTurns.{five-half, cck-within}
 use Rattle.choosing.proofs.KeyLaws.{better, number-by}
 
 lower-is : (h : List ℤ) (j : ℕ) → j < 8 → sixteen h j ≡ getD h j (pos 0)

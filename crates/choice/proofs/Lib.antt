@@ -1,7 +1,3 @@
-pub mod Adding
-pub mod Blocks
-pub mod Mirror
-pub mod Turned
 pub mod KeyTops
 pub mod Signs
 pub mod Eight

@@ -15,7 +15,7 @@ use Rattle.chips.specs.declared.Counts.{Counts}
 use Rattle.symbols.specs.Words.{wordOf}
 use Rattle.symbols.specs.Choice.{term, score, going, firstLargest, allowed, decided}
 use Rattle.choosing.specs.Scores.{scoreAt}
-use Rattle.choice.proofs.Adding.{times-up, times-dn}
+use Rattle.choosing.proofs.Adding.{times-up, times-dn}
 
 abbrev pub k : ℤ → ℤ
 k z = pos 1024 *ℤ z

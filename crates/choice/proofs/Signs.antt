@@ -28,9 +28,9 @@ use Rattle.symbols.specs.Choice.{score, decided}
 use Rattle.symbols.proofs.Words.{barkerTurns}
 use Rattle.choosing.specs.Scores.{RowWithin, scoreAt}
 use Rattle.choice.specs.Sums.{bySign, signed, bySigns, fourOf, bestOfSums}
-use Rattle.choice.proofs.Adding.{fits-at, reads-of}
+use Rattle.choosing.proofs.Adding.{fits-at, reads-of}
 use Rattle.choosing.proofs.Best.{first-ext}
-use Rattle.choice.proofs.Turned.{barker-half}
+use Rattle.choosing.proofs.HalfTurns.{barker-half}
 
 -- ---- the scores of the phases 0 and 1 are the sums of I and of Q
 score-signed : (x : Axis) (ss : List Bool) (cs : List Counts) → score (map (signChip (phaseOn x)) ss) cs

@@ -12,7 +12,7 @@ use lib.Signed.{ltZ}
 use Rattle.base.specs.Whole.{up, dn, Within}
 use Rattle.base.proofs.Whole.{add}
 use Rattle.choosing.specs.Keys.{keyOf}
-use Rattle.choice.proofs.Adding.{times-up, times-dn}
+use Rattle.choosing.proofs.Adding.{times-up, times-dn}
 
 pub abs-below : (z : ℤ) → ltZ z (pos 0) ≡ true → negℤ z ≡ pos (natAbs z)
 abs-below (pos n) e = absurd (omega (arith, ltb-true n 0 e))

@@ -7,3 +7,5 @@ pub mod Near
 pub mod KeyLaws
 pub mod Demand3
 pub mod Facts
+pub mod HalfTurns
+pub mod Adding

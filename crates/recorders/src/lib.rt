@@ -130,7 +130,7 @@ fn elevens(
 {
     let mut l: usize = 0;
     while l < m {
-        numbers[l] = choice::decide_eleven(eight(rec, octets, i, q, at + 8 * l));
+        numbers[l] = direct::decide_eleven(eight(rec, octets, i, q, at + 8 * l));
         l += 1;
     }
 }

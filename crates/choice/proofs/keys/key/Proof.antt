@@ -10,7 +10,7 @@ use mir.Val.{toZ, ofZ}
 use mir.Facts.{toZ-pos}
 use borrow.Author.Needs.{needs}
 use Rattle.base.proofs.Whole.{within-more}
-use Rattle.choice.proofs.Adding.{
+use Rattle.choosing.proofs.Adding.{
   Reads,
   reads-of,
   within-pos,

@@ -11,7 +11,7 @@ use borrow.Author.Needs.{needs}
 use Rattle.base.specs.Whole.{Within}
 use Rattle.base.proofs.Whole.{small}
 use Rattle.choosing.specs.Keys.{larger, keyOf}
-use Rattle.choice.proofs.Adding.{held}
+use Rattle.choosing.proofs.Adding.{held}
 use Rattle.choice.proofs.Wide.{key-small}
 use Rattle.choice.proofs.keys.top_key.Statement.{statement}
 use Rattle.choice.proofs.keys.top_key.Tie as tie

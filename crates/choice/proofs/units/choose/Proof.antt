@@ -9,7 +9,7 @@ use mir.Val.{toZ, ofZ}
 use borrow.Author.Needs.{needs}
 use Rattle.base.specs.Whole.{Within}
 use Rattle.choosing.specs.Keys.{bigger, keyOf, Largest}
-use Rattle.choice.proofs.Adding.{reads-of}
+use Rattle.choosing.proofs.Adding.{reads-of}
 use Rattle.choice.proofs.Four.{sumKey, phase-by}
 use Rattle.choice.proofs.KeyTops.{largest-one, largest-both}
 use Rattle.choice.proofs.units.choose.Statement.{statement}

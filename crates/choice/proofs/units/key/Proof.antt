@@ -9,7 +9,7 @@ use lib.IntN.{ℤ, pos, negℤ, natAbs, _-ℤ_, +ℤ-idl}
 use mir.Syntax.{w8}
 use mir.Val.{toZ, ofZ}
 use Rattle.base.proofs.Whole.{within-neg}
-use Rattle.choice.proofs.Adding.{reads-of, made, made-fits}
+use Rattle.choosing.proofs.Adding.{reads-of, made, made-fits}
 use Rattle.choice.proofs.Wide.{abs-below, abs-above, abs-le, key-below, key-above}
 use Rattle.choice.proofs.units.key.Statement.{statement}
 use Rattle.choice.proofs.units.key.Tie as tie

@@ -14,7 +14,7 @@ use Rattle.base.proofs.Whole.{within-more}
 use Rattle.choosing.specs.Scores.{RowWithin}
 use Rattle.choosing.specs.Keys.{bigger, keyOf, Largest}
 use Rattle.choice.specs.Sums.{keyAt}
-use Rattle.choice.proofs.Adding.{reads-of}
+use Rattle.choosing.proofs.Adding.{reads-of}
 use Rattle.choice.proofs.KeyTops.{largest-one, largest-both}
 use Rattle.choice.proofs.units.largest.Statement.{statement}
 use Rattle.choice.proofs.units.largest.Tie as tie

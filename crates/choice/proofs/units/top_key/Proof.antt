@@ -10,7 +10,7 @@ use mir.Val.{toZ, ofZ}
 use borrow.Author.Needs.{needs}
 use Rattle.base.specs.Whole.{Within}
 use Rattle.choosing.specs.Keys.{bigger, keyOf}
-use Rattle.choice.proofs.Adding.{reads-of}
+use Rattle.choosing.proofs.Adding.{reads-of}
 use Rattle.choice.proofs.units.top_key.Statement.{statement}
 use Rattle.choice.proofs.units.top_key.Tie as tie
 

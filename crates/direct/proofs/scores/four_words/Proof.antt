@@ -1,4 +1,4 @@
--- `choice::scores::four_words` meets its contract: the first p places hold the scores of the first p words.
+-- `direct::scores::four_words` meets its contract: the first p places hold the scores of the first p words.
 -- Assumes nothing.
 use mathlib.Core.Path.{_≡_, refl, sym, ap, _∙_, subst}
 use mir.Syntax.{w32}
@@ -10,10 +10,10 @@ use borrow.Author.Needs.{needs}
 use Rattle.base.specs.Tables.{Filled}
 use Rattle.base.proofs.Tables.{filled-none, filled-more, filled-all}
 use Rattle.base.proofs.Whole.{within-zero}
-use Rattle.choice.specs.Turns.{slid, addFour}
-use Rattle.choice.proofs.Turned.{four-within}
-use Rattle.choice.proofs.scores.four_words.Statement.{statement}
-use Rattle.choice.proofs.scores.four_words.Tie as tie
+use Rattle.direct.specs.Turns.{slid, addFour}
+use Rattle.direct.proofs.Turned.{four-within}
+use Rattle.direct.proofs.scores.four_words.Statement.{statement}
+use Rattle.direct.proofs.scores.four_words.Tie as tie
 
 abbrev Inv-loop : tie.InvT-loop
 Inv-loop t p1 p2 p3 a b c d rest four₀ p₀ four p = Filled (slid t p1 p2 p3) 4 four p

@@ -1,4 +1,4 @@
--- `choice::scores::turns` meets its contract: after k chips the first 8 k places hold what the first k chips add.
+-- `direct::scores::turns` meets its contract: after k chips the first 8 k places hold what the first k chips add.
 -- Assumes nothing.
 use mathlib.Core.Path.{refl, sym, _∙_}
 use Prim.Native.Nat.{_+_, _-_, _*_}
@@ -10,11 +10,11 @@ use Rattle.base.specs.Tables.{Filled}
 use Rattle.base.proofs.Tables.{filled-none, filled-all}
 use Rattle.base.proofs.Whole.{small, neg-fits, neg-read}
 use Rattle.chips.specs.Chips.{nothing}
-use Rattle.choice.specs.Turns.{turnAt}
-use Rattle.choice.proofs.Blocks.{filled-then, filled-to}
-use Rattle.choice.proofs.Turned.{turn-is}
-use Rattle.choice.proofs.scores.turns.Statement.{statement}
-use Rattle.choice.proofs.scores.turns.Tie as tie
+use Rattle.direct.specs.Turns.{turnAt}
+use Rattle.direct.proofs.Blocks.{filled-then, filled-to}
+use Rattle.direct.proofs.Turned.{turn-is}
+use Rattle.direct.proofs.scores.turns.Statement.{statement}
+use Rattle.direct.proofs.scores.turns.Tie as tie
 
 abbrev Inv-loop : tie.InvT-loop
 Inv-loop cs t₀ k₀ t k = Filled (turnAt cs) 64 t (8 * k)

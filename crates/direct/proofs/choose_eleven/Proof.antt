@@ -1,4 +1,4 @@
--- `choice::choose_eleven` meets its contract: the place of the largest score is the number.
+-- `direct::choose_eleven` meets its contract: the place of the largest score is the number.
 -- Assumes nothing.
 use mathlib.Core.Path.{_≡_, _∙_}
 use native.Mathlib.Omega.{arith}
@@ -9,8 +9,8 @@ use Rattle.symbols.specs.Choice.{decided}
 use Rattle.choosing.specs.Scores.{scoreAt}
 use Rattle.choosing.proofs.Best.{place-table}
 use Rattle.choosing.proofs.Decided.{decided-below}
-use Rattle.choice.proofs.choose_eleven.Statement.{statement}
-use Rattle.choice.proofs.choose_eleven.Tie as tie
+use Rattle.direct.proofs.choose_eleven.Statement.{statement}
+use Rattle.direct.proofs.choose_eleven.Tie as tie
 
 found : (c : tie.After-largest) → c .largest .result ≡ decided Eleven (c .before .before .before .args .cs)
 unfolding decided

@@ -13,7 +13,7 @@ use Rattle.base.specs.Tables.{tabulate}
 use Rattle.base.specs.Whole.{Within}
 use Rattle.base.proofs.Tables.{getD-tabulate}
 use Rattle.base.proofs.Whole.{small, neg-fits, neg-read}
-use Rattle.choice.proofs.Blocks.{Halves, halves-more, halves-all}
+use Rattle.direct.proofs.Blocks.{Halves, halves-more, halves-all}
 
 -- the first k places of each half hold those of the lower half and their negatives
 abbrev pub Mirrored : ℕ → List ℤ → List ℤ → ℕ → Type 0

@@ -1,4 +1,4 @@
--- `choice::scores::half_eleven` meets its contract: after g groups of four the first 4 g places hold their scores.
+-- `direct::scores::half_eleven` meets its contract: after g groups of four the first 4 g places hold their scores.
 -- Assumes nothing.
 use mathlib.Core.Path.{_≡_, refl, ap, _∙_}
 use mathlib.Core.List.{List}
@@ -15,11 +15,11 @@ use Rattle.base.proofs.Tables.{filled-none, filled-all, getD-tabulate, tabulate
 use Rattle.rates.specs.declared.Rate.the-variants.{Eleven}
 use Rattle.symbols.specs.Words.{cckOf}
 use Rattle.choosing.specs.Scores.{scoreAt}
-use Rattle.choice.specs.Turns.{slid, placed}
-use Rattle.choice.proofs.Blocks.{filled-then, filled-to}
-use Rattle.choice.proofs.Turned.{at-within, slid-at, placed-at}
-use Rattle.choice.proofs.scores.half_eleven.Statement.{statement}
-use Rattle.choice.proofs.scores.half_eleven.Tie as tie
+use Rattle.direct.specs.Turns.{slid, placed}
+use Rattle.direct.proofs.Blocks.{filled-then, filled-to}
+use Rattle.direct.proofs.Turned.{at-within, slid-at, placed-at}
+use Rattle.direct.proofs.scores.half_eleven.Statement.{statement}
+use Rattle.direct.proofs.scores.half_eleven.Tie as tie
 
 abbrev Inv-loop : tie.InvT-loop
 Inv-loop t scores₀ g₀ scores g = Filled (λ n. placed 0 (cckOf n) t) 128 scores (4 * g)

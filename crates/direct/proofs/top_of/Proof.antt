@@ -1,4 +1,4 @@
--- `choice::top_of` meets its contract: after k numbers `top` is the largest of them.
+-- `direct::top_of` meets its contract: after k numbers `top` is the largest of them.
 -- Assumes nothing.
 use mir.Syntax.{w32}
 use mir.Val.{toZ, ofZ}
@@ -12,8 +12,8 @@ use borrow.Author.Needs.{needs}
 use Rattle.symbols.specs.Choice.{firstLargest}
 use Rattle.choosing.specs.Scores.{upTo, placeOfLargest}
 use Rattle.choosing.proofs.Best.{Topped, topped-one, topped-up, topped-on}
-use Rattle.choice.proofs.top_of.Statement.{statement}
-use Rattle.choice.proofs.top_of.Tie as tie
+use Rattle.direct.proofs.top_of.Statement.{statement}
+use Rattle.direct.proofs.top_of.Tie as tie
 
 abbrev Inv-loop : tie.InvT-loop
 Inv-loop s top₀ k₀ top k = (k ≤ length s) × Topped (λ j. getD s j (pos 0)) top k

@@ -1,4 +1,4 @@
--- `choice::largest` meets its contract: every number passed is smaller than the largest, so the place of the first
+-- `direct::largest` meets its contract: every number passed is smaller than the largest, so the place of the first
 -- that is not is the place of the largest.
 -- Assumes nothing.
 use mathlib.Core.Path.{_≡_, sym, _∙_, subst}
@@ -14,8 +14,8 @@ use lib.Signed.{ltZ, ltZ-yes, ltZ-no}
 use borrow.Author.Needs.{needs}
 use Rattle.choosing.specs.Scores.{placeOfLargest}
 use Rattle.choosing.proofs.Best.{place-best, place-after, place-here}
-use Rattle.choice.proofs.largest.Statement.{statement}
-use Rattle.choice.proofs.largest.Tie as tie
+use Rattle.direct.proofs.largest.Statement.{statement}
+use Rattle.direct.proofs.largest.Tie as tie
 
 abbrev Inv-loop : tie.InvT-loop
 Inv-loop s top k₀ k = k ≤ placeOfLargest s

@@ -1,4 +1,4 @@
--- `choice::scores::scores_eleven` meets its contract: the first n places of each half hold the scores of the first n
+-- `direct::scores::scores_eleven` meets its contract: the first n places of each half hold the scores of the first n
 -- words and their negatives, which are those of the words turned by a half.
 -- Assumes nothing.
 use mathlib.Core.Path.{refl}
@@ -6,11 +6,11 @@ use Prim.Native.Nat.{_-_}
 use borrow.Author.Needs.{needs}
 use Rattle.rates.specs.declared.Rate.the-variants.{Eleven}
 use Rattle.choosing.specs.Scores.{scoreAt}
-use Rattle.choice.proofs.Blocks.{halves-none}
-use Rattle.choice.proofs.Mirror.{Mirrored, mirror-fits, mirror-more, mirror-all}
-use Rattle.choice.proofs.Turned.{cck-half, cck-within}
-use Rattle.choice.proofs.scores.scores_eleven.Statement.{statement}
-use Rattle.choice.proofs.scores.scores_eleven.Tie as tie
+use Rattle.direct.proofs.Blocks.{halves-none}
+use Rattle.direct.proofs.Mirror.{Mirrored, mirror-fits, mirror-more, mirror-all}
+use Rattle.choosing.proofs.HalfTurns.{cck-half, cck-within}
+use Rattle.direct.proofs.scores.scores_eleven.Statement.{statement}
+use Rattle.direct.proofs.scores.scores_eleven.Tie as tie
 
 abbrev Inv-loop : tie.InvT-loop
 Inv-loop half scores₀ n₀ scores n = Mirrored 128 half scores n

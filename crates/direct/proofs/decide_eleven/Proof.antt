@@ -1,12 +1,12 @@
--- `choice::decide_eleven` meets its contract: the counts of recorded chips are small, so they may be chosen by.
+-- `direct::decide_eleven` meets its contract: the counts of recorded chips are small, so they may be chosen by.
 -- Assumes nothing.
 use mathlib.Core.Path.{ap, _∙_}
 use borrow.Author.Needs.{needs}
 use Rattle.rates.specs.declared.Rate.the-variants.{Eleven}
 use Rattle.symbols.specs.Choice.{decided}
 use Rattle.choosing.proofs.Small.{chips-small}
-use Rattle.choice.proofs.decide_eleven.Statement.{statement}
-use Rattle.choice.proofs.decide_eleven.Tie as tie
+use Rattle.direct.proofs.decide_eleven.Statement.{statement}
+use Rattle.direct.proofs.decide_eleven.Tie as tie
 
 choose-eleven-requires : tie.Need-choose-eleven-requires
 choose-eleven-requires c κs = rw (c .counts8 .ensures) (chips-small (c .before .args .chips))

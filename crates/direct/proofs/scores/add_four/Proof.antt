@@ -1,4 +1,4 @@
--- `choice::scores::add_four` meets its contract: one number after the other is added, each sum within its bound.
+-- `direct::scores::add_four` meets its contract: one number after the other is added, each sum within its bound.
 -- Assumes nothing.
 use Prim.Native.Nat.{ℕ}
 use lib.Dec.{lit<}
@@ -7,9 +7,9 @@ use lib.IntN.{pos}
 use mir.Syntax.{w32}
 use mir.Val.{ofZ}
 use borrow.Author.Needs.{needs}
-use Rattle.choice.proofs.Adding.{Reads, reads-of, reads-fits, reads-add}
-use Rattle.choice.proofs.scores.add_four.Statement.{statement}
-use Rattle.choice.proofs.scores.add_four.Tie as tie
+use Rattle.choosing.proofs.Adding.{Reads, reads-of, reads-fits, reads-add}
+use Rattle.direct.proofs.scores.add_four.Statement.{statement}
+use Rattle.direct.proofs.scores.add_four.Tie as tie
 
 at : (c : tie.Start) (j : ℕ) → Reads w32 8192 (ofZ w32 (getD (c .args .t .now) j (pos 0)))
     (getD (c .args .t .now) j (pos 0))

@@ -6,7 +6,7 @@ ghost use Prim.Native.Nat.{_<_};
 ghost use Rattle.base.specs.Tables.{tabulate};
 ghost use Rattle.base.specs.Whole.{Within};
 ghost use Rattle.choosing.specs.Scores.{Smalls, RowWithin, scoreAt};
-ghost use Rattle.choice.specs.Turns.{turnAt, addFour, slid};
+ghost use Rattle.direct.specs.Turns.{turnAt, addFour, slid};
 
 // What each of eight chips adds by the word's chip there, twice over: chip k turned by p stands at 8 k + p, for p up
 // to 7.
