@@ -130,7 +130,7 @@ dsss_written dsss_write(uint64_t kind, uint64_t rate, uint64_t phase, const uint
  * Refused: the number; the place of a 9 or 10; LENGTH for 13 to 17 and for a 9 or 10 in the
  *          payload; all else 0.
  * Buffer:  octets[] is the payload and then 0s; refused, all 0s.
- * Proved:  crates/dsss, dsss_read_hard, record FoundHard: answer and octets. */
+ * Proved:  crates/dsss, dsss_read_hard, record ReadHard: answer and octets. */
 dsss_record dsss_read_hard(uint64_t kind, const uint8_t *chips, size_t chips_len, uint8_t *octets,
                            size_t octets_len);
 
@@ -145,7 +145,7 @@ dsss_record dsss_read_hard(uint64_t kind, const uint8_t *chips, size_t chips_len
  * Refused: the number; the place of a 9 or 10; LENGTH for 13 to 17 and for a 9 or 10 in the
  *          payload; all else 0.
  * Buffer:  octets[] is the payload and then 0s; refused, all 0s.
- * Proved:  crates/dsss, dsss_read_soft, record FoundSoft: answer and octets. */
+ * Proved:  crates/dsss, dsss_read_soft, record ReadSoft: answer and octets. */
 dsss_record dsss_read_soft(uint64_t kind, const float *i, size_t i_len, const float *q,
                            size_t q_len, uint8_t *octets, size_t octets_len);
 
