@@ -16,9 +16,6 @@ import sys
 
 faults = []
 
-# crates that another must name although its text does not: a value of a type of theirs is reached
-REACHED = {('print_readings', 'bits'): 'put_front of the writer answers a Line'}
-
 
 def tracked():
     command = ['git', 'ls-files', '-co', '--exclude-standard']
@@ -76,7 +73,7 @@ def check_crates():
         called = set(re.findall(r'\b([a-z_]+)::', text)) - own_modules
         used = set(re.findall(r'Rattle·([a-z_]+)\b', text)) | called
         for dep in deps:
-            if dep not in used and (name, dep) not in REACHED:
+            if dep not in used:
                 faults.append(f'crates.txt: {name} does not use {dep}')
         for other in sorted((used & set(crates)) - {name} - set(deps)):
             faults.append(f'crates.txt: {name} uses {other}')
