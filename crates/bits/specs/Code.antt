@@ -15,10 +15,6 @@ use Rattle.bits.specs.declared.Sixteen.{Sixteen}
 abbrev pub inTime : Eight → List ℕ
 inTime e = e .b0 ∷ e .b1 ∷ e .b2 ∷ e .b3 ∷ e .b4 ∷ e .b5 ∷ e .b6 ∷ e .b7 ∷ []
 
--- the same, last first: as the scrambler's past
-abbrev pub lastFirst : Eight → List ℕ
-lastFirst e = e .b7 ∷ e .b6 ∷ e .b5 ∷ e .b4 ∷ e .b3 ∷ e .b2 ∷ e .b1 ∷ e .b0 ∷ []
-
 -- an octet's bits, last first: as the scrambler's past
 abbrev pub pastOf : ℕ → List ℕ
 pastOf x = reverse (bitsOf 8 x)
