@@ -6,6 +6,7 @@
 - a Rattle file has at most 250 lines, a definitions file 250, a proof file 400;
 - no tracked file holds a path of a machine;
 - crates.txt names just those crates that a crate uses;
+- the first line of a function's proof names the function by its path;
 - every path and every crate item that docs/PROMISES.md names in `code` exists, and it names every must-fail edit.
 Prints each fault, and ends with status 1 if there is one.
 """
@@ -56,6 +57,15 @@ def check_machine_paths(path, text):
     for number, line in enumerate(text.split('\n'), 1):
         if re.search(r'(^|[^A-Za-z0-9_.$}])/(work|tmp|root|home|farm|opt)/[a-z]', line):
             faults.append(f'{path}:{number}: a path of a machine')
+
+
+def check_proof_head(path, text):
+    """crates/NAME/proofs/../FUNCTION/Proof.antt starts with the function's path."""
+    match = re.fullmatch(r'crates/(\w+)/proofs/(.+)/Proof\.antt', path)
+    if match:
+        function = '::'.join([match[1]] + match[2].split('/'))
+        if not text.startswith(f'-- `{function}` '):
+            faults.append(f'{path}:1: does not start with `{function}`')
 
 
 def stack():
@@ -121,6 +131,7 @@ for p in tracked():
         continue
     check_sizes(p, content)
     check_machine_paths(p, content)
+    check_proof_head(p, content)
 check_crates()
 check_promises()
 for fault in faults:

@@ -3,3 +3,4 @@ pub mod Whole
 pub mod Tests
 pub mod Over
 pub mod Below
+pub mod Lists

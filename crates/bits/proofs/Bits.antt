@@ -18,15 +18,7 @@ use lib.Pow.{pow-pos}
 use lib.Seq.{take-append-le, drop-append-le, take-at, drop-at, take-add, length-take-le}
 use Rattle.bits.specs.Bits.{bitsOf, numberOf, octetBits, octetsOf}
 use Rattle.base.specs.Below.{Below}
-use Rattle.base.proofs.Below.{
-  below-nil,
-  below-cons,
-  below-head,
-  below-tail,
-  below-append,
-  below-take,
-  below-drop,
-}
+use Rattle.base.proofs.Below.{below-nil, below-cons, below-head, below-tail, below-append, below-take, below-drop}
 
 -- a bit put below a number
 pub bits-push : (n c t : ℕ) → c < 2 → bitsOf (suc n) (c + 2 * t) ≡ c ∷ bitsOf n t

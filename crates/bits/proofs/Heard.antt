@@ -3,7 +3,7 @@
 --     chips-words, last-number                                 chips and last phase of symbols, by numbers
 --     heard-symbol, heard-back                                 a symbol's bits from its word, all bits from all words
 --     heard-append, growthsOf-append, lastHeard-append         words after words
---     heard-length, heard-below, heard-parity                  as many, and bits; a word's number counts modulo 2
+--     heard-row, heard-length, heard-below, heard-parity       as many, and bits; a word's number counts modulo 2
 -- A growth is taken off modulo 4, and a number's phases are its digits. Assumes nothing.
 use mathlib.Core.Path.{_≡_, refl, sym, ap, ap₂, _∙_}
 use mathlib.Core.Bool.{true}
@@ -279,7 +279,8 @@ growth-row (suc (suc (suc (suc g)))) h = absurd (omega arith)
 direct-row : (p : ℕ) → p < 4 → Below 2 (directBits p)
 direct-row p h = below-cons (omega arith) (below-cons (omega arith) (below-nil 2 (omega arith)))
 
-heard-row : (r : Rate) (k p n : ℕ) → (length (heardBits r k p n) ≡ symbolBits r) × Below 2 (heardBits r k p n)
+-- the bits of one word: as many as the rate carries, each below 2
+pub heard-row : (r : Rate) (k p n : ℕ) → (length (heardBits r k p n) ≡ symbolBits r) × Below 2 (heardBits r k p n)
 unfolding heardBits
 heard-row One k p n = (refl, below-cons (omega arith) (below-nil 2 (omega arith)))
 heard-row Two k p n = growth-row (grownBy p n) (omega arith)

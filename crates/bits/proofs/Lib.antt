@@ -4,5 +4,4 @@ pub mod Heard
 pub mod Scrambler
 pub mod Crc
 pub mod Facts
-pub mod Mixing
 pub mod PairLaws

@@ -1,4 +1,4 @@
--- What the code's structs stand for, and the words of symbols by their numbers.
+-- The past as an octet, pairs of bits as numbers, and the words of symbols by their numbers.
 -- Definitions only. Assumes nothing.
 use Prim.Native.Nat.{ℕ, _+_, _*_, _/_, _%_, _<_}
 use mathlib.Core.List.{List, [], _∷_, _++_, reverse}
@@ -8,12 +8,6 @@ use Rattle.chips.specs.Chips.{turned}
 use Rattle.symbols.specs.Words.{cckNumber, wordOf}
 use Rattle.bits.specs.Bits.{bitsOf}
 use Rattle.bits.specs.Growths.{Symbol, direct}
-use Rattle.bits.specs.declared.Eight.{Eight}
-use Rattle.bits.specs.declared.Sixteen.{Sixteen}
-
--- eight bits, first in time first
-abbrev pub inTime : Eight → List ℕ
-inTime e = e .b0 ∷ e .b1 ∷ e .b2 ∷ e .b3 ∷ e .b4 ∷ e .b5 ∷ e .b6 ∷ e .b7 ∷ []
 
 -- an octet's bits, last first: as the scrambler's past
 abbrev pub pastOf : ℕ → List ℕ
@@ -31,10 +25,6 @@ pairsOf o =
 unfoldable pub pastAfter : List ℕ → List ℕ → List ℕ
 pastAfter past [] = past
 pastAfter past (o ∷ os) = pastAfter (o ∷ past) os
-
--- the CRC register, highest term first
-abbrev pub terms : Sixteen → List ℕ
-terms r = inTime (r .first) ++ inTime (r .second)
 
 -- the number of the word of a symbol whose phase is p
 abbrev pub symbolNumber : Rate → ℕ → Symbol → ℕ

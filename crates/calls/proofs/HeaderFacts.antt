@@ -3,8 +3,8 @@
 -- nothing.
 use mathlib.Core.Path.{_≡_, refl}
 use mathlib.Core.List.{List, [], _∷_, map}
-use Prim.Native.Nat.{ℕ}
-use lib.ListN.{set}
+use Prim.Native.Nat.{ℕ, _-_}
+use lib.ListN.{set, getD}
 use Rattle.rates.specs.Rates.{codeOf}
 use Rattle.bits.specs.Bits.{bitsOf, numberOf}
 use Rattle.bits.specs.Crc.{addWhere, crcStep, remainder, crcBits}
@@ -15,7 +15,7 @@ use Rattle.calls.specs.declared.Front.{Front}
 use Rattle.calls.specs.declared.Front.the-variants as front
 use Rattle.calls.specs.declared.Reading.the-variants as reading
 use Rattle.calls.specs.Answers.{recordOf}
-use Rattle.calls.specs.Reading.{sameBits, fieldsOf, headerOf}
+use Rattle.calls.specs.Headers.{sameBits, fieldsOf, headerOf}
 
 -- a refusal's number, place and LENGTH; or what a good header tells: 0, rate code, LENGTH, n
 abbrev refused : Record → List ℕ
@@ -109,3 +109,18 @@ pub headers-facts : headers
     ∷ []
 unfolding headers fieldBits headerBits bitsOf numberOf addWhere crcStep remainder crcBits sameBits fieldsOf headerOf
 headers-facts = refl
+
+-- 13 and 14 tell all sixteen bits of LENGTH
+pub long-lengths : told (fieldsOf Long 11 0 65535) ∷ told (fieldsOf Long 10 1 65535) ∷ []
+    ≡ (13 ∷ 0 ∷ 65535 ∷ []) ∷ (14 ∷ 0 ∷ 65535 ∷ []) ∷ []
+unfolding fieldsOf
+long-lengths = refl
+
+-- each bit of the CRC
+pub crc-each : map
+    (λ (i : ℕ). told (headerOf Long (bitsOf 16 0xF3A0) (set (headerBits 10 0 8) i (1 - getD (headerBits 10 0 8) i 0))))
+    (32 ∷ 33 ∷ 34 ∷ 35 ∷ 36 ∷ 37 ∷ 38 ∷ 39 ∷ 40 ∷ 47 ∷ [])
+    ≡ (12 ∷ 0 ∷ 0 ∷ []) ∷ (12 ∷ 0 ∷ 0 ∷ []) ∷ (12 ∷ 0 ∷ 0 ∷ []) ∷ (12 ∷ 0 ∷ 0 ∷ []) ∷ (12 ∷ 0 ∷ 0 ∷ [])
+    ∷ (12 ∷ 0 ∷ 0 ∷ []) ∷ (12 ∷ 0 ∷ 0 ∷ []) ∷ (12 ∷ 0 ∷ 0 ∷ []) ∷ (12 ∷ 0 ∷ 0 ∷ []) ∷ (12 ∷ 0 ∷ 0 ∷ []) ∷ []
+unfolding fieldBits headerBits bitsOf numberOf addWhere crcStep remainder crcBits sameBits fieldsOf headerOf
+crc-each = refl

@@ -1,4 +1,5 @@
-pub mod ReadFacts
+pub mod AnswerFacts
 pub mod WriteFacts
 pub mod HeaderFacts
 pub mod WriteGood
+pub mod ReadBack

@@ -1,31 +1,18 @@
-// The order of checks before a chip is written, and the numbers of answers.
+// The order of checks before a chip is written.
 use calls::Refusal;
 use calls::Writing;
 ghost use mathlib.Core.Path.{_≡_};
-ghost use lib.Dec.{ltb};
 ghost use Rattle.calls.specs.Writing.{writingOf};
-
-mod answers;
-
-pub use answers::record_of;
-pub use answers::written_of;
-
-// Whether the room is short of so many chips.
-fn is_short(room: usize, chips: usize) -> bool
-    ensures answer { λ b. ⌜ b ≡ ltb room chips ⌝ }
-{
-    room < chips
-}
 
 // What a write of n octets into room for so many chips comes to: refusals 1 to 6, in this order.
 pub fn check_write(kind: u64, rate: u64, phase: u64, n: usize, room: usize) -> Writing
     ensures answer { λ r. ⌜ r ≡ writingOf kind rate phase n room ⌝ }
 {
-    let known = frame::is_kind(kind);
+    let known = kinds::is_kind(kind);
     let coded = rates::is_code(rate);
-    let k = frame::kind_of(kind);
+    let k = kinds::kind_of(kind);
     let r = rates::rate_of(rate);
-    let goes = frame::goes_with(k, r);
+    let goes = kinds::goes_with(k, r);
     let sized = rates::is_payload(n);
     if !known {
         return Writing::Refused(Refusal::NoKind);
@@ -42,8 +29,8 @@ pub fn check_write(kind: u64, rate: u64, phase: u64, n: usize, room: usize) -> W
     if 3 < phase {
         return Writing::Refused(Refusal::NoPhase);
     }
-    let chips = frame::frame_chips(k, r, n);
-    if is_short(room, chips) {
+    let chips = kinds::frame_chips(k, r, n);
+    if room < chips {
         return Writing::Refused(Refusal::ChipRoom);
     }
     Writing::Good {

@@ -11,15 +11,7 @@ use lib.Ieee.{Float, binary32, ofBits}
 use Rattle.base.specs.Tables.{tabulate}
 use Rattle.chips.specs.declared.Chip.the-variants.{Soft}
 use Rattle.chips.specs.Floats.{steps, usable, nearest, countOf}
-use Rattle.chips.specs.Chips.{
-  pair,
-  nothing,
-  exactOf,
-  unusable,
-  counted,
-  hardTaken,
-  softRecording,
-}
+use Rattle.chips.specs.Chips.{pair, nothing, exactOf, unusable, counted, hardTaken, softRecording}
 
 -- the count of a bit pattern, and whether it is usable
 unfoldable pub patternCount : ℕ → ℤ

@@ -6,4 +6,3 @@ pub mod Meaning
 pub mod Bounds
 pub mod Recorders
 pub mod Facts
-pub mod Axes

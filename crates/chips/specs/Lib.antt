@@ -1,4 +1,3 @@
 pub mod Floats
 pub mod Chips
 pub mod Bounds
-pub mod Axes

@@ -1,16 +1,15 @@
 // Barker symbols, at 1 and at 2 Mbit/s: a sum over I and one over Q; the four scores are these and their negatives.
-use super::keys;
 ghost use mathlib.Core.Path.{_≡_};
 ghost use Rattle.base.specs.Whole.{Within};
 ghost use Rattle.choosing.specs.Scores.{RowWithin};
-ghost use Rattle.choice.specs.Sums.{bySigns, bestOfSums};
+ghost use Rattle.sums.specs.Sums.{bySigns, bestOfSums};
 
 // The sum of eleven counts by the signs of a Barker symbol.
 fn by_signs(c: [i32; 11]) -> i32
     requires { ⌜ RowWithin 8192 c ⌝ }
     ensures answer { λ r. ⌜ r ≡ bySigns c ⌝ }
 {
-    let turns = symbols::BARKER;
+    let turns = words::BARKER;
     let mut x: i32 = 0;
     for k in 0..11 {
         if turns[k] == 0 {

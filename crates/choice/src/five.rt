@@ -1,46 +1,41 @@
 // 5.5 Mbit/s: sixteen words in eight opposite pairs. Sums of two chips, of four and of eight give the eight scores; no
 // word's chips are added up by themselves.
-use super::keys;
 use rates::Rate;
 ghost use mathlib.Core.Path.{_≡_};
-ghost use Prim.Native.Nat.{_<_};
 ghost use Rattle.base.specs.Tables.{tabulate};
 ghost use Rattle.symbols.specs.Choice.{decided};
 ghost use Rattle.choosing.specs.Scores.{RowWithin, scoreAt, number5};
 ghost use Rattle.choosing.specs.Keys.{HoldsLargest};
-ghost use Rattle.choice.specs.Sums.{rows, keyAt, bestOfEight};
+ghost use Rattle.sums.specs.Sums.{rows, crossed, keyAt, bestOfEight};
+
+// The sums of four words over two rows: chips 1, 3, 5, 7 of s, and 0, 2, 4, 6 of t.
+fn crossed(s: [i32; 8], t: [i32; 8]) -> [i32; 4]
+    requires { ⌜ RowWithin 8192 s × RowWithin 8192 t ⌝ }
+    ensures answer { λ r. ⌜ r ≡ crossed s t ⌝ }
+{
+    let a = t[0] + t[2];
+    let b = s[1] - s[3];
+    let c = t[4] - t[6];
+    let d = s[5] + s[7];
+    let u = b + a;
+    let x = b - a;
+    let v = d + c;
+    let y = d - c;
+    let r0 = v + u;
+    let r1 = v - u;
+    let r2 = y + x;
+    let r3 = y - x;
+    [r0, r1, r2, r3]
+}
 
 // The scores of the first eight allowed words, in the order of their numbers.
 fn halves(i: [i32; 8], q: [i32; 8]) -> [i32; 8]
     requires { ⌜ RowWithin 8192 i × RowWithin 8192 q ⌝ }
     ensures answer { λ r. ⌜ r ≡ tabulate (λ k. scoreAt Rate.Five (rows i q) (number5 k)) 8 ⌝ }
 {
-    let ai = i[0] + i[2];
-    let aq = q[0] + q[2];
-    let bi = i[1] - i[3];
-    let bq = q[1] - q[3];
-    let ci = i[4] - i[6];
-    let cq = q[4] - q[6];
-    let di = i[5] + i[7];
-    let dq = q[5] + q[7];
-    let ui = bi + aq;
-    let uq = bq - ai;
-    let vi = di + cq;
-    let vq = dq - ci;
-    let xi = bi - aq;
-    let xq = bq + ai;
-    let yi = di - cq;
-    let yq = dq + ci;
-    [
-        vi + ui,
-        vi - ui,
-        yi + xi,
-        yi - xi,
-        vq + uq,
-        vq - uq,
-        yq + xq,
-        yq - xq,
-    ]
+    let m = crossed(i, q);
+    let n = crossed(q, i);
+    [m[0], m[1], m[2], m[3], n[2], n[3], n[0], n[1]]
 }
 
 // The largest key of the eight.
@@ -55,20 +50,12 @@ fn largest(h: [i32; 8]) -> i32
     keys::max(keys::max(a, b), keys::max(c, d))
 }
 
-// The number of the k-th allowed word.
-pub fn number(k: u8) -> u8
-    requires { ⌜ k < 16 ⌝ }
-    ensures answer { λ r. ⌜ r ≡ number5 k ⌝ }
-{
-    64 * (k / 4) + 16 * (2 * (k / 2 % 2) + 1) + 2 * (k % 2)
-}
-
 // The word chosen by eight scores.
 fn choose(h: [i32; 8]) -> u8
     requires { ⌜ RowWithin 65536 h ⌝ }
     ensures answer { λ r. ⌜ r ≡ number5 (bestOfEight h) ⌝ }
 {
-    number(keys::number_of(4, largest(h)))
+    keys::number(keys::number_of(4, largest(h)))
 }
 
 // The word decided by eight chips' counts, I and Q apart.

@@ -16,15 +16,15 @@ use Rattle.frame.specs.declared.Kind.{Kind}
 use Rattle.frame.specs.Frame.{isKind, kindOf, goesWith, frontChips, sentHeader, frame, frameChips}
 use Rattle.frame.proofs.Headers.{sent-length, sent-below}
 use Rattle.frame.proofs.Sizes.{frame-length}
-use Rattle.header.proofs.Back.{header-back}
+use Rattle.calls.proofs.ReadBack.{header-back}
 use Rattle.calls.specs.declared.Told.{Told}
 use Rattle.calls.specs.declared.Refusal.the-variants.{ShorterThanFront, Ends, OctetRoom}
 use Rattle.calls.specs.declared.Front.the-variants as front
 use Rattle.calls.specs.declared.Reading.the-variants as reading
-use Rattle.calls.specs.Reading.{
+use Rattle.calls.specs.Headers.{told}
+use Rattle.reading.specs.Reading.{
   frontOf,
   payloadOf,
-  told,
   wholeOf,
   payloadReading,
   afterFront,

@@ -17,7 +17,7 @@ use Rattle.symbols.specs.Words.{wordOf}
 use Rattle.symbols.specs.Choice.{decided}
 use Rattle.symbols.proofs.Words.{word-length}
 use Rattle.choosing.proofs.Clean.{decided-clean}
-use Rattle.calls.specs.Reading.{firstUnusable, decidedWords}
+use Rattle.reading.specs.Reading.{firstUnusable, decidedWords}
 use Rattle.bits.specs.Code.{wordsChips}
 use Rattle.clean.specs.Clean.{cleanTaken, cleanRecording}
 use Rattle.clean.proofs.Sent.{Allowed, none, more}

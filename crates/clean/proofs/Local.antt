@@ -20,7 +20,7 @@ use Rattle.frame.specs.declared.Kind.{Kind}
 use Rattle.frame.specs.declared.Kind.the-variants.{Long, Short}
 use Rattle.calls.specs.declared.Front.the-variants as front
 use Rattle.frame.specs.Frame.{headerRate, start, frontChips, preambleLength, headerLength, preambleChips}
-use Rattle.calls.specs.Reading.{
+use Rattle.reading.specs.Reading.{
   orElse,
   oddGrowth,
   decidedWords,

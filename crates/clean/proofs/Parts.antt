@@ -30,7 +30,7 @@ use Rattle.bits.specs.Growths.{
 }
 use Rattle.base.specs.Below.{Below}
 use Rattle.base.proofs.Below.{below-drop}
-use Rattle.calls.specs.Reading.{firstOdd}
+use Rattle.reading.specs.Reading.{firstOdd}
 use Rattle.bits.specs.Code.{numbersFrom, wordsChips}
 use Rattle.bits.proofs.Growths.{symbolsFrom-length}
 use Rattle.bits.proofs.Heard.{heard-back, chips-words, last-number, numbersFrom-length}

@@ -42,18 +42,17 @@ use Rattle.calls.specs.declared.Told.{Told}
 use Rattle.calls.specs.declared.Front.the-variants as front
 use Rattle.calls.specs.declared.Reading.the-variants as reading
 use Rattle.calls.specs.declared.Refusal.the-variants.{OctetRoom}
-use Rattle.calls.specs.Reading.{
+use Rattle.calls.specs.Headers.{headerOf, told}
+use Rattle.reading.specs.Reading.{
   firstUnusable,
   frontOdd,
   frontHeard,
   frontBits,
-  headerOf,
   frontOf,
   payloadPhase,
   payloadWords,
   payloadOdd,
   payloadOf,
-  told,
   wholeOf,
   payloadReading,
 }

@@ -58,5 +58,5 @@ fn choose_eleven(cs: [Counts; 8]) -> u8
 pub fn decide_eleven(chips: [Chip; 8]) -> u8
     ensures answer { λ r. ⌜ r ≡ decided Rate.Eleven (map countsOf chips) ⌝ }
 {
-    choose_eleven(chips::counts8(chips))
+    choose_eleven(counts::counts8(chips))
 }

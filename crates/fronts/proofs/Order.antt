@@ -14,11 +14,12 @@ use Rattle.calls.specs.declared.Refusal.{Refusal}
 use Rattle.calls.specs.declared.Refusal.the-variants.{ShorterThanFront, Unusable, OddGrowth}
 use Rattle.calls.specs.declared.Front.{Front}
 use Rattle.calls.specs.declared.Front.the-variants.{Refused}
-use Rattle.calls.specs.Reading.{firstUnusable, frontOdd, frontOf, headerOf}
-use Rattle.recorders.specs.declared.Found.{Found}
-use Rattle.recorders.specs.declared.Found.the-variants.{Nothing, At}
-use Rattle.recorders.specs.Rows.{whereFound, AllUsable}
-use Rattle.recorders.proofs.Search.{none-usable}
+use Rattle.calls.specs.Headers.{headerOf}
+use Rattle.reading.specs.Reading.{firstUnusable, frontOdd, frontOf}
+use Rattle.recorded.specs.declared.Found.{Found}
+use Rattle.recorded.specs.declared.Found.the-variants.{Nothing, At}
+use Rattle.recorded.specs.Recorded.{whereFound, AllUsable}
+use Rattle.recorded.proofs.Search.{none-usable}
 use Rattle.fronts.specs.declared.FrontHeard.{FrontHeard}
 use Rattle.fronts.specs.declared.Opening.{Opening}
 use Rattle.fronts.specs.Openings.{FrontKnown, afterUsable, Opens}

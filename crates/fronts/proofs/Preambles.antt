@@ -23,20 +23,22 @@ use Rattle.bits.specs.Bits.{octetBits, octetsOf}
 use Rattle.bits.specs.Growths.{heard, growthsOf, lastHeard}
 use Rattle.bits.specs.Scrambler.{descramble}
 use Rattle.bits.specs.Code.{pastOf, pastAfter}
-use Rattle.bits.specs.declared.Line.{Line}
+use Rattle.lines.specs.declared.Line.{Line}
 use Rattle.bits.proofs.Bits.{octets-append, octets-bits, octets-length}
 use Rattle.bits.proofs.Scrambler.{descramble-below, descramble-length, descramble-window}
 use Rattle.bits.proofs.Heard.{heard-length}
 use Rattle.frame.specs.declared.Kind.{Kind}
 use Rattle.frame.specs.declared.Kind.the-variants.{Long, Short}
 use Rattle.frame.specs.Frame.{start, syncBits, preambleLength, frontChips}
-use Rattle.calls.specs.Reading.{orElse, oddGrowth, decidedWords, preambleWords, reference, headerPhase}
-use Rattle.recorders.specs.Rows.{whereFound, symbolAt, DecidedAt}
-use Rattle.hearing.specs.declared.Hearing.{Hearing}
-use Rattle.hearing.specs.Hearing.{received, plainBits, plainOctets, partWords, Heard, PartHeard}
-use Rattle.hearing.proofs.Passes.{past-take, decidedWords-length}
+use Rattle.reading.specs.Reading.{orElse, oddGrowth, decidedWords, preambleWords, reference, headerPhase}
+use Rattle.recorded.specs.Recorded.{whereFound, symbolAt, DecidedAt}
+use Rattle.blocks.specs.declared.Hearing.{Hearing}
+use Rattle.blocks.specs.Heard.{received, plainBits, plainOctets, Heard}
+use Rattle.hearing.specs.Hearing.{partWords, PartHeard}
+use Rattle.codes.proofs.Passes.{past-take, decidedWords-length}
 use Rattle.hearing.proofs.Parts.{block-words, part-length, part-more, blocks-more, blocks-octets}
-use Rattle.fronts.specs.Openings.{syncOctets, Starts, preambleHeard, preambleOctets, PreambleLine}
+use Rattle.kinds.specs.Starts.{Starts}
+use Rattle.fronts.specs.Openings.{syncOctets, preambleHeard, preambleOctets, PreambleLine}
 
 -- ---- the words
 
@@ -58,7 +60,7 @@ sync-bits : (k : Kind) → syncBits k ≡ 8 * syncOctets k
 sync-bits Long = refl
 sync-bits Short = refl
 
-start-seven : (k : Kind) → start k ≡ take 7 (start k)
+start-seven : (k : Kind) → take 7 (start k ++ 0 ∷ []) ≡ take 7 (start k)
 start-seven Long = refl
 start-seven Short = refl
 
@@ -161,7 +163,7 @@ module _
   bits = ap (λ (q : ℕ). heard One 0 q (preambleWords k rec)) reference-phase
 
   from-start : take 7 (pastOf (l .past)) ≡ take 7 (start k)
-  from-start = s .past ∙ start-seven k
+  from-start = ap (take 7) (s .past) ∙ start-seven k
 
   preamble-octets : take (syncOctets k + 2) (putMid 8 (syncOctets k - 6) o y) ≡ preambleOctets k rec
   preamble-octets =

@@ -34,18 +34,8 @@ use Rattle.calls.specs.declared.Told.{Told}
 use Rattle.calls.specs.declared.Front.{Front}
 use Rattle.calls.specs.declared.Front.the-variants.{Refused, Fields}
 use Rattle.frame.specs.Frame.{sfdOf, frontChips, goesWith, frameChips}
-use Rattle.calls.specs.Reading.{
-  orElse,
-  firstUnusable,
-  frontOdd,
-  serviceAllowed,
-  sameBits,
-  told,
-  fieldsOf,
-  headerOf,
-  frontOf,
-  wholeOf,
-}
+use Rattle.calls.specs.Headers.{serviceAllowed, sameBits, told, fieldsOf, headerOf}
+use Rattle.reading.specs.Reading.{orElse, firstUnusable, frontOdd, frontOf, wholeOf}
 use Rattle.fronts.specs.Openings.{afterUsable, Opens, OpensWhole}
 use Rattle.fronts.specs.declared.Opening.{Opening}
 

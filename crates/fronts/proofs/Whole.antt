@@ -15,7 +15,7 @@ use Rattle.bits.specs.Bits.{octetBits, octetsOf}
 use Rattle.bits.specs.Growths.{heard, growthsOf, lastHeard}
 use Rattle.bits.specs.Scrambler.{descramble}
 use Rattle.bits.specs.Code.{pastOf, pastAfter}
-use Rattle.bits.specs.declared.Line.{Line}
+use Rattle.lines.specs.declared.Line.{Line}
 use Rattle.bits.proofs.Bits.{octets-bits}
 use Rattle.bits.proofs.Scrambler.{
   past-append,
@@ -28,7 +28,7 @@ use Rattle.bits.proofs.Heard.{heard-length}
 use Rattle.frame.specs.declared.Kind.{Kind}
 use Rattle.frame.specs.declared.Kind.the-variants.{Long, Short}
 use Rattle.frame.specs.Frame.{start, syncBits, headerRate, preambleLength, preambleChips}
-use Rattle.calls.specs.Reading.{
+use Rattle.reading.specs.Reading.{
   orElse,
   oddGrowth,
   preambleWords,
@@ -40,10 +40,11 @@ use Rattle.calls.specs.Reading.{
   frontHeard,
   frontBits,
 }
-use Rattle.recorders.specs.Rows.{whereFound}
-use Rattle.hearing.specs.declared.Hearing.{Hearing}
-use Rattle.hearing.specs.Hearing.{received, plainBits, partWords, Heard, PartHeard}
-use Rattle.hearing.proofs.Passes.{decidedWords-length}
+use Rattle.recorded.specs.Recorded.{whereFound}
+use Rattle.blocks.specs.declared.Hearing.{Hearing}
+use Rattle.blocks.specs.Heard.{received, plainBits, Heard}
+use Rattle.hearing.specs.Hearing.{partWords, PartHeard}
+use Rattle.codes.proofs.Passes.{decidedWords-length}
 use Rattle.hearing.proofs.Parts.{plain-length}
 use Rattle.fronts.specs.declared.Preamble.{Preamble}
 use Rattle.fronts.specs.Openings.{preambleHeard, PreambleKnown, Opened, FrontKnown}

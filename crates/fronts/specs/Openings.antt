@@ -10,7 +10,7 @@ use Rattle.bits.specs.Bits.{octetBits, octetsOf}
 use Rattle.bits.specs.Growths.{heard, growthsOf}
 use Rattle.bits.specs.Scrambler.{descramble}
 use Rattle.bits.specs.Code.{pastOf, pastAfter}
-use Rattle.bits.specs.declared.Line.{Line}
+use Rattle.lines.specs.declared.Line.{Line}
 use Rattle.frame.specs.declared.Kind.{Kind}
 use Rattle.frame.specs.declared.Kind.the-variants.{Long, Short}
 use Rattle.frame.specs.Frame.{start, syncBits, preambleLength, frameChips}
@@ -18,7 +18,8 @@ use Rattle.calls.specs.declared.Refusal.the-variants.{OddGrowth}
 use Rattle.calls.specs.declared.Told.{Told}
 use Rattle.calls.specs.declared.Front.{Front}
 use Rattle.calls.specs.declared.Front.the-variants.{Refused, Fields}
-use Rattle.calls.specs.Reading.{
+use Rattle.calls.specs.Headers.{headerOf}
+use Rattle.reading.specs.Reading.{
   orElse,
   oddGrowth,
   preambleWords,
@@ -28,12 +29,11 @@ use Rattle.calls.specs.Reading.{
   frontOdd,
   frontHeard,
   frontBits,
-  headerOf,
   frontOf,
   wholeOf,
 }
-use Rattle.recorders.specs.Rows.{whereFound}
-use Rattle.hearing.specs.declared.Hearing.{Hearing}
+use Rattle.recorded.specs.Recorded.{whereFound}
+use Rattle.blocks.specs.declared.Hearing.{Hearing}
 use Rattle.fronts.specs.declared.Preamble.{Preamble}
 use Rattle.fronts.specs.declared.FrontHeard.{FrontHeard}
 use Rattle.fronts.specs.declared.Opening.{Opening}
@@ -42,11 +42,6 @@ use Rattle.fronts.specs.declared.Opening.{Opening}
 abbrev pub syncOctets : Kind → ℕ
 syncOctets Long = 16
 syncOctets Short = 7
-
--- the line before the first symbol: the scrambler's start, and the first symbol's own phase
-pub record Starts (k : Kind) (phase : ℕ) (l : Line) : Type 0 where
-  pub at-phase : l .phase ≡ phase
-  pub past : take 7 (pastOf (l .past)) ≡ start k
 
 -- the preamble's bits as they were received
 abbrev pub preambleHeard : Kind → List Taken → List ℕ

@@ -3,12 +3,12 @@ ghost use mathlib.Core.Path.{_≡_};
 ghost use Prim.Native.Nat.{_+_, _≤_};
 ghost use lib.ListN.{length, take, drop};
 ghost use Rattle.frame.specs.Frame.{frontChips};
-ghost use Rattle.calls.specs.Reading.{frontOf};
-ghost use Rattle.recorders.specs.Rows.{recordingOf, AllUsable};
+ghost use Rattle.reading.specs.Reading.{frontOf};
+ghost use Rattle.recorders.specs.Rows.{recordingOf};
+ghost use Rattle.recorded.specs.Recorded.{AllUsable};
 ghost use Rattle.fronts.specs.Openings.{
   syncOctets,
   preambleOctets,
-  Starts,
   PreambleLine,
   PreambleKnown,
   FrontKnown,
@@ -16,13 +16,13 @@ ghost use Rattle.fronts.specs.Openings.{
   Opens,
   OpensWhole,
 };
-use bits::Line;
+use blocks::Hearing;
 use calls::Front;
 use calls::Refusal;
 use frame::Kind;
-use hearing::Hearing;
+use lines::Line;
 use rates::Rate;
-use recorders::Found;
+use recorded::Found;
 use recorders::Recorder;
 
 // A preamble heard: the line at its end, the place of the first symbol grown by 1 or 3, and the SFD's octets.
@@ -42,18 +42,6 @@ pub struct FrontHeard {
 pub struct Opening {
     pub front: Front,
     pub line: Line,
-}
-
-// The line before the first symbol, which serves only as reference: it counts as grown by 0 from its own phase. The
-// scrambler's start, last output first, is 1101100, or 0011011; it stands highest.
-fn first_line(kind: Kind, phase: u8) -> Line
-    ensures answer { λ r. ⌜ Starts kind phase r ⌝ }
-{
-    let past = match kind {
-        Kind::Long => 0b11011000,
-        Kind::Short => 0b00110110,
-    };
-    Line { past, phase }
 }
 
 // How many octets SYNC and the SFD are.
@@ -96,8 +84,9 @@ fn hear_sync(
 {
     let mut numbers = [0u8; 64];
     recorders::decide(rec, row, i, q, Rate::One, 0, 64, &mut numbers);
-    let line = first_line(kind, numbers[0]);
-    let first = hearing::block::hear(Rate::One, 0, line, numbers, 8, octets);
+    // the first symbol serves only as reference: it counts as grown by 0 from its own phase
+    let line = kinds::first_line(kind, numbers[0]);
+    let first = blocks::hear(Rate::One, 0, line, numbers, 8, octets);
     let count = preamble_octets(kind);
     let l = first.line;
     let rest = hearing::hear_octets(rec, row, i, q, Rate::One, 704, l, &mut octets[8..count]);
@@ -127,8 +116,8 @@ fn hear_front(rec: Recorder, row: &[u8], i: &[f32], q: &[f32], kind: Kind) -> Fr
     let preamble = hear_preamble(rec, row, i, q, kind);
     let before = preamble.heard;
     let line = before.line;
-    let rate = frame::header_rate(kind);
-    let from = frame::preamble_chips(kind);
+    let rate = kinds::header_rate(kind);
+    let from = kinds::preamble_chips(kind);
     let mut header = [0u8; 6];
     let behind = hearing::hear_octets(rec, row, i, q, rate, from, line, &mut header);
     let heard = hearing::joined(before, behind);
@@ -141,7 +130,7 @@ fn refused(e: Refusal) -> Opening
     ensures answer { λ r. ⌜ r .front ≡ Front.Refused e ⌝ }
 {
     let front = Front::Refused(e);
-    let line = first_line(Kind::Long, 0);
+    let line = kinds::first_line(Kind::Long, 0);
     Opening { front, line }
 }
 
@@ -172,7 +161,7 @@ pub fn read_front(rec: Recorder, row: &[u8], i: &[f32], q: &[f32], kind: Kind) -
     ensures answer { λ r. ⌜ Opens kind (recordingOf rec (now (row .entry)) (now (i .entry)) (now (q .entry)))
         (frontOf kind (recordingOf rec (now (row .entry)) (now (i .entry)) (now (q .entry)))) r ⌝ }
 {
-    let chips = frame::front_chips(kind);
+    let chips = kinds::front_chips(kind);
     if recorders::chip_count(rec, row, i, q) < chips {
         return refused(Refusal::ShorterThanFront);
     }
@@ -195,7 +184,7 @@ pub fn read_whole(rec: Recorder, row: &[u8], i: &[f32], q: &[f32], kind: Kind) -
         Front::Fields(t) => {
             let rate = t.rate;
             let length = t.length;
-            let all = frame::frame_chips(kind, rate, t.n);
+            let all = kinds::frame_chips(kind, rate, t.n);
             if recorders::chip_count(rec, row, i, q) < all {
                 return refused(Refusal::Ends { length });
             }

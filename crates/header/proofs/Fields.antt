@@ -1,7 +1,7 @@
 -- The header's octets and its bits.
 --     with-crc                               two octets of CRC after four of fields
 --     field-octets, header-is                four octets are their fields, and with their CRC a header
---     same-refl, crc-differs                 two rows of bits compared, and so two rows of octets
+--     crc-differs                            two rows of bits compared, and so two rows of octets
 --     two-is, crc-other, crc-same, fields-cut    the six octets of a header: its CRC against the one made, its fields
 -- Octets of eight bits each compute to rows of bits that are cut by computing. Assumes nothing.
 use mathlib.Core.Path.{_≡_, refl, sym, ap, ap₂, _∙_, subst}
@@ -11,7 +11,7 @@ use Prim.Native.Nat.{ℕ, _/_, _%_}
 use native.Mathlib.Omega.{arith}
 use lib.Dec.{T, eqb}
 use lib.ListN.{length, getD, take, drop}
-use borrow.Author.Tests.{eq-eqb, eqb-true}
+use borrow.Author.Tests.{eqb-true}
 use Rattle.base.specs.Tables.{tabulate}
 use Rattle.base.proofs.Tables.{as-table}
 use Rattle.bits.specs.Bits.{bitsOf, numberOf, octetBits}
@@ -22,7 +22,8 @@ use Rattle.base.proofs.Below.{below-nil, below-cons}
 use Rattle.frame.specs.declared.Kind.{Kind}
 use Rattle.calls.specs.declared.Front.{Front}
 use Rattle.frame.specs.Frame.{fieldBits, headerBits}
-use Rattle.calls.specs.Reading.{sameBits, fieldsOf}
+use Rattle.calls.specs.Headers.{sameBits, fieldsOf}
+use Rattle.calls.proofs.ReadBack.{same-refl}
 
 pub two-is : (xs : List ℕ) → length xs ≡ 2 → xs ≡ getD xs 0 0 ∷ getD xs 1 0 ∷ []
 unfolding tabulate
@@ -46,11 +47,6 @@ unfolding headerBits
 header-is s v l = ap (λ (x : List ℕ). x ++ crcBits x) (field-octets s v l)
 
 -- ---- two rows of bits compared
-
-pub same-refl : (xs : List ℕ) → sameBits xs xs ≡ true
-unfolding sameBits
-same-refl [] = refl
-same-refl (x ∷ xs) = rw (eq-eqb x x refl) (same-refl xs)
 
 same-eq : (xs ys : List ℕ) → sameBits xs ys ≡ true → xs ≡ ys
 unfolding sameBits

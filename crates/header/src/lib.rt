@@ -14,7 +14,7 @@ ghost use Rattle.rates.specs.Rates.{isCode, rateOf};
 ghost use Rattle.bits.specs.Bits.{numberOf, octetBits};
 ghost use Rattle.bits.specs.Crc.{crcBits};
 ghost use Rattle.frame.specs.Frame.{sfdOf, goesWith, headerBits, sentHeader};
-ghost use Rattle.calls.specs.Reading.{serviceAllowed, sameBits, fieldsOf, headerOf};
+ghost use Rattle.calls.specs.Headers.{serviceAllowed, sameBits, fieldsOf, headerOf};
 ghost use Rattle.header.specs.Code.{octetsTold};
 
 // Whether SERVICE is one that a rate allows.
@@ -65,7 +65,7 @@ fn signal_allowed(k: Kind, code: u64) -> bool
     if !rates::is_code(code) {
         return false;
     }
-    frame::goes_with(k, rates::rate_of(code))
+    kinds::goes_with(k, rates::rate_of(code))
 }
 
 // What the three fields tell: refusals 13, 14 and 15, in this order.
@@ -119,7 +119,7 @@ fn sfd_right(k: Kind, sfd: [u8; 2]) -> bool
 fn crc_right(header: [u8; 6]) -> bool
     ensures answer { λ b. ⌜ b ≡ sameBits (crcBits (take 32 (octetBits header))) (drop 32 (octetBits header)) ⌝ }
 {
-    let crc = bits::crc_octets(header[0], header[1], header[2], header[3]);
+    let crc = crc::crc_octets(header[0], header[1], header[2], header[3]);
     if crc[0] != header[4] {
         return false;
     }
@@ -150,7 +150,7 @@ pub fn octets_of(signal: u8, service: u8, micros: u16) -> [u8; 6]
 {
     let low = (micros % 256) as u8;
     let high = (micros / 256) as u8;
-    let crc = bits::crc_octets(signal, service, low, high);
+    let crc = crc::crc_octets(signal, service, low, high);
     [signal, service, low, high, crc[0], crc[1]]
 }
 

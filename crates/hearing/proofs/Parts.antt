@@ -27,7 +27,7 @@ use Rattle.bits.specs.Bits.{bitsOf, octetsOf}
 use Rattle.bits.specs.Growths.{heard, growthsOf, lastHeard}
 use Rattle.bits.specs.Scrambler.{descramble}
 use Rattle.bits.specs.Code.{pastOf, pastAfter}
-use Rattle.bits.specs.declared.Line.{Line}
+use Rattle.lines.specs.declared.Line.{Line}
 use Rattle.bits.proofs.Bits.{octets-append, octets-length}
 use Rattle.bits.proofs.Scrambler.{past-append, descramble-append, descramble-length}
 use Rattle.bits.proofs.Heard.{
@@ -38,20 +38,15 @@ use Rattle.bits.proofs.Heard.{
   heard-length,
   heard-parity,
 }
-use Rattle.calls.specs.Reading.{orElse, firstOdd, oddGrowth, decidedWords}
-use Rattle.recorders.specs.declared.Found.the-variants.{Nothing}
-use Rattle.recorders.specs.Rows.{whereFound, symbolAt, AllUsable, DecidedAt}
-use Rattle.recorders.proofs.Search.{usable-part}
-use Rattle.hearing.specs.declared.Hearing.{Hearing}
-use Rattle.hearing.specs.Blocks.{AreWords, BlockOf}
-use Rattle.hearing.specs.Hearing.{received, plainBits, plainOctets, partWords, Heard, PartHeard}
-use Rattle.hearing.proofs.Passes.{
-  past-take,
-  descramble-take,
-  oddGrowth-append,
-  decidedWords-length,
-  decidedWords-append,
-}
+use Rattle.reading.specs.Reading.{orElse, firstOdd, oddGrowth, decidedWords}
+use Rattle.recorded.specs.declared.Found.the-variants.{Nothing}
+use Rattle.recorded.specs.Recorded.{whereFound, symbolAt, AllUsable, DecidedAt}
+use Rattle.recorded.proofs.Search.{usable-part}
+use Rattle.blocks.specs.declared.Hearing.{Hearing}
+use Rattle.codes.specs.Codes.{AreWords, BlockOf}
+use Rattle.blocks.specs.Heard.{received, plainBits, plainOctets, Heard}
+use Rattle.hearing.specs.Hearing.{partWords, PartHeard}
+use Rattle.codes.proofs.Passes.{past-take, descramble-take, oddGrowth-append, decidedWords-length, decidedWords-append}
 
 -- ---- the words of a block
 

@@ -1,28 +1,21 @@
-// Hearing: decided words to octets, by blocks of up to 64 symbols, on a line that goes by value.
+// Hearing: octets of a recording, block after block of up to 64 symbols, on a line that goes by value.
 ghost use mathlib.Core.Path.{_≡_};
 ghost use mathlib.Core.Option.{some};
 ghost use Prim.Native.Nat.{_+_, _*_, _≤_, _<_};
 ghost use lib.ListN.{length};
 ghost use Rattle.base.specs.Over.{over};
 ghost use Rattle.rates.specs.Rates.{octetSymbols, octetChips};
-ghost use Rattle.calls.specs.Reading.{orElse};
-ghost use Rattle.recorders.specs.Rows.{recordingOf, whereFound, AllUsable};
-ghost use Rattle.hearing.specs.Blocks.{BlockOf};
-ghost use Rattle.hearing.specs.Hearing.{plainOctets, partWords, Heard, PartHeard};
-use bits::Line;
+ghost use Rattle.reading.specs.Reading.{orElse};
+ghost use Rattle.recorders.specs.Rows.{recordingOf};
+ghost use Rattle.recorded.specs.Recorded.{whereFound, AllUsable};
+ghost use Rattle.codes.specs.Codes.{BlockOf};
+ghost use Rattle.blocks.specs.Heard.{plainOctets, Heard};
+ghost use Rattle.hearing.specs.Hearing.{partWords, PartHeard};
+use blocks::Hearing;
+use lines::Line;
 use rates::Rate;
-use recorders::Found;
+use recorded::Found;
 use recorders::Recorder;
-
-pub mod block;
-mod odd;
-mod words;
-
-// A line, and the place of the first symbol that is grown by 1 or 3 at 1 Mbit/s.
-pub struct Hearing {
-    pub line: Line,
-    pub odd: Found,
-}
 
 // The first of two places.
 fn first_of(a: Found, b: Found) -> Found
@@ -71,7 +64,7 @@ fn hear_block(
     let mut numbers = [0u8; 64];
     let symbols = rate.octet_symbols();
     recorders::decide(rec, row, i, q, rate, place, symbols * count, &mut numbers);
-    block::hear(rate, place, line, numbers, count, out)
+    blocks::hear(rate, place, line, numbers, count, out)
 }
 
 // How many of so many octets the next block takes.

@@ -1,19 +1,15 @@
 // Recordings and what comes of them, printed: good ones, and one for every refusal. A frame is written, spoilt, and
 // read into a buffer that held 99s; a case that begins with "and" spoils the one before it further. Nothing is
 // proved of what a program writes but that it is safe and ends; what it writes is compared with the file stdout.
-use bits::Line;
 use calls::Record;
 use frame::Kind;
 use libc::STDOUT_FILENO;
+use lines::Line;
 ghost use mathlib.Core.Path.{_≡_};
 ghost use Prim.Native.Nat.{_≤_};
 ghost use lib.ListN.{length};
 
-mod fronts;
-mod good;
-mod headers;
-mod payloads;
-mod soft_rows;
+mod cases;
 
 // ---- recordings
 
@@ -45,17 +41,6 @@ fn turn(chips: &mut [u8; 2400], from: usize, to: usize, by: u8)
     let mut k = from;
     while k < to {
         chips[k] = (chips[k] % 4 + by % 4) % 4;
-        k += 1;
-    }
-}
-
-// Chips from one place to before another lost.
-fn lose(chips: &mut [u8; 2400], from: usize, to: usize)
-    requires { ⌜ to ≤ 2400 ⌝ }
-{
-    let mut k = from;
-    while k < to {
-        chips[k] = 4;
         k += 1;
     }
 }
@@ -160,7 +145,6 @@ fn main() {
         STDOUT_FILENO,
         b"case: number place rate LENGTH n used | octets\n",
     );
-    let cases = good::all() + fronts::all() + headers::all() + payloads::all() + soft_rows::all();
-    io::print_decimal(STDOUT_FILENO, cases);
+    io::print_decimal(STDOUT_FILENO, cases::all());
     io::write_all(STDOUT_FILENO, b" cases\n");
 }

@@ -24,18 +24,7 @@ use Rattle.calls.specs.Writing.{writingOf, chipsAfter, chipsWritten}
 use Rattle.clean.specs.Clean.{cleanRecording}
 use Rattle.clean.proofs.Recorded.{hard-recorded, soft-recorded, rows-agree, hard-take}
 use Rattle.clean.proofs.Back as clean
-use Rattle.promises.specs.Calls.{
-  Read,
-  Goes,
-  long-1,
-  long-2,
-  long-5,
-  long-11,
-  short-2,
-  short-5,
-  short-11,
-  Sent,
-}
+use Rattle.promises.specs.Calls.{Read, Goes, long-1, long-2, long-5, long-11, short-2, short-5, short-11, Sent}
 use Rattle.promises.specs.Promises.{good, refused, lengthOf, WrittenFrame, ReadBack, ReadBackSoft, NotReadBack}
 
 -- what the seven pairs of kind and rate are by the definitions

@@ -46,7 +46,7 @@ use Rattle.frame.specs.Frame.{frame, frontChips, frameChips, isKind, kindOf}
 use Rattle.frame.proofs.Sizes.{frame-length}
 use Rattle.calls.specs.Answers.{refusalNumber, writtenOf, recordOf}
 use Rattle.calls.specs.Writing.{writingOf, chipsAfter, chipsWritten}
-use Rattle.calls.specs.Reading.{
+use Rattle.reading.specs.Reading.{
   orElse,
   firstUnusable,
   frontOf,

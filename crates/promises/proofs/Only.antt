@@ -12,17 +12,7 @@ use lib.IntN.{ℤ, pos, negsuc, natAbs}
 use Rattle.base.specs.Below.{Below}
 use Rattle.rates.specs.declared.Rate.{Rate}
 use Rattle.rates.specs.declared.Rate.the-variants.{One, Two, Five, Eleven}
-use Rattle.rates.specs.Rates.{
-  codeOf,
-  isCode,
-  rateOf,
-  octetChips,
-  lengthField,
-  bit7,
-  octetsRead,
-  isPayload,
-  lengthHolds,
-}
+use Rattle.rates.specs.Rates.{codeOf, isCode, rateOf, octetChips, lengthField, bit7, octetsRead, isPayload, lengthHolds}
 use Rattle.rates.proofs.Facts.{no-other-code}
 use Rattle.chips.specs.Chips.{Taken}
 use Rattle.bits.specs.Bits.{numberOf}
@@ -40,13 +30,10 @@ use Rattle.calls.specs.declared.Written.{Written}
 use Rattle.calls.specs.declared.Record.{Record}
 use Rattle.calls.specs.Answers.{writtenOf, recordOf}
 use Rattle.calls.specs.Writing.{writingOf}
-use Rattle.calls.specs.Reading.{
+use Rattle.calls.specs.Headers.{serviceAllowed, sameBits, fieldsOf, headerOf}
+use Rattle.reading.specs.Reading.{
   firstUnusable,
   frontOdd,
-  serviceAllowed,
-  sameBits,
-  fieldsOf,
-  headerOf,
   frontOf,
   payloadOdd,
   wholeOf,
@@ -54,17 +41,7 @@ use Rattle.calls.specs.Reading.{
   afterFront,
   readingOf,
 }
-use Rattle.promises.specs.Calls.{
-  Goes,
-  long-1,
-  long-2,
-  long-5,
-  long-11,
-  short-2,
-  short-5,
-  short-11,
-  Sent,
-}
+use Rattle.promises.specs.Calls.{Goes, long-1, long-2, long-5, long-11, short-2, short-5, short-11, Sent}
 use Rattle.promises.specs.Only.{OnlySent, Readable, OnlyReadable, RowsRefused}
 use Rattle.promises.proofs.Fills.{some-number, branch, elsewise}
 

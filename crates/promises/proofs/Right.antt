@@ -42,7 +42,7 @@ use Rattle.choosing.proofs.Demand3.{demand-3}
 use Rattle.frame.specs.declared.Kind.{Kind}
 use Rattle.frame.specs.declared.Kind.the-variants.{Long, Short}
 use Rattle.frame.specs.Frame.{headerRate, frontChips, preambleLength, headerLength, preambleChips}
-use Rattle.calls.specs.Reading.{decidedWords, preambleWords, headerWords, payloadWords}
+use Rattle.reading.specs.Reading.{decidedWords, preambleWords, headerWords, payloadWords}
 use Rattle.promises.specs.Right.{
   symbolAt,
   EachRight,

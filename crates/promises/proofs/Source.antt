@@ -21,7 +21,7 @@ use Rattle.calls.specs.declared.Written.{Written}
 use Rattle.calls.specs.declared.Record.{Record}
 use Rattle.frame.specs.Frame.{kindOf, frontChips, preambleBits, frameBits, sentBits, partsChips, framed, frame}
 use Rattle.calls.specs.Answers.{recordOf}
-use Rattle.calls.specs.Reading.{readingOf, octetsFound}
+use Rattle.reading.specs.Reading.{readingOf, octetsFound}
 use Rattle.promises.specs.Calls.{Read, Sent}
 use Rattle.promises.specs.Promises.{good, lengthOf, OneSource}
 use Rattle.promises.proofs.Back.{read-back, chips-are}

@@ -14,7 +14,7 @@ use Rattle.calls.specs.declared.Written.{Written}
 use Rattle.calls.specs.declared.Record.{Record}
 use Rattle.calls.specs.Answers.{writtenOf, recordOf}
 use Rattle.calls.specs.Writing.{writingOf, chipsWritten}
-use Rattle.calls.specs.Reading.{readingOf, octetsFound}
+use Rattle.reading.specs.Reading.{readingOf, octetsFound}
 
 -- the writer: its answer, and the chip buffer of `room` chips at the end
 pub record Wrote (kind rate phase : ℕ) (payload : List ℕ) (room : ℕ) (w : Written) (left : List ℕ) : Type 0 where

@@ -15,19 +15,11 @@ use Rattle.rates.specs.Rates.{symbolChips, symbolBits}
 use Rattle.chips.specs.declared.Chip.{Chip}
 use Rattle.chips.specs.declared.Chip.the-variants.{Lost, Soft}
 use Rattle.chips.specs.Floats.{usable}
-use Rattle.chips.specs.Chips.{
-  Taken,
-  unusable,
-  isUnusable,
-  takenCounts,
-  hardChip,
-  hardRecording,
-  softRecording,
-}
+use Rattle.chips.specs.Chips.{Taken, unusable, isUnusable, takenCounts, hardChip, hardRecording, softRecording}
 use Rattle.choosing.specs.Demand3.{RightUpTo, Apart}
 use Rattle.frame.specs.declared.Kind.{Kind}
 use Rattle.frame.specs.Frame.{headerRate, frontChips, frameChips, preambleLength, headerLength, preambleChips}
-use Rattle.calls.specs.Reading.{preambleWords, headerWords, payloadWords}
+use Rattle.reading.specs.Reading.{preambleWords, headerWords, payloadWords}
 use Rattle.clean.specs.Clean.{sampleOf}
 
 -- the recorded chips of the j-th symbol of a part that starts at place `at`

@@ -21,7 +21,7 @@ use Rattle.bits.proofs.Scrambler.{descramble-append, descramble-length, descram
 use Rattle.frame.specs.declared.Kind.{Kind}
 use Rattle.frame.specs.declared.Kind.the-variants.{Long, Short}
 use Rattle.frame.specs.Frame.{start, headerRate, frontChips, preambleLength, headerLength, preambleChips}
-use Rattle.calls.specs.Reading.{
+use Rattle.reading.specs.Reading.{
   oddGrowth,
   decidedWords,
   preambleWords,
@@ -34,12 +34,12 @@ use Rattle.calls.specs.Reading.{
   payloadOdd,
   payloadOf,
 }
-use Rattle.recorders.specs.Rows.{whereFound}
-use Rattle.bits.specs.declared.Line.{Line}
-use Rattle.hearing.specs.declared.Hearing.{Hearing}
+use Rattle.recorded.specs.Recorded.{whereFound}
+use Rattle.lines.specs.declared.Line.{Line}
+use Rattle.blocks.specs.declared.Hearing.{Hearing}
 use Rattle.hearing.specs.Hearing.{PartHeard}
 use Rattle.bits.proofs.Heard.{heard-length}
-use Rattle.hearing.proofs.Passes.{decidedWords-length}
+use Rattle.codes.proofs.Passes.{decidedWords-length}
 use Rattle.fronts.specs.Openings.{Opened}
 
 -- how many bits the front has

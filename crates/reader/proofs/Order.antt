@@ -19,11 +19,11 @@ use Rattle.calls.specs.declared.Reading.{Reading}
 use Rattle.calls.specs.declared.Reading.the-variants.{Refused}
 use Rattle.calls.specs.declared.Record.{Record}
 use Rattle.calls.specs.Answers.{recordOf}
-use Rattle.calls.specs.Reading.{firstUnusable, payloadOdd, payloadReading, readingOf, octetsAfter, octetsFound}
-use Rattle.recorders.specs.declared.Found.{Found}
-use Rattle.recorders.specs.declared.Found.the-variants.{Nothing, At}
-use Rattle.recorders.specs.Rows.{whereFound, AllUsable}
-use Rattle.recorders.proofs.Search.{none-usable}
+use Rattle.reading.specs.Reading.{firstUnusable, payloadOdd, payloadReading, readingOf, octetsAfter, octetsFound}
+use Rattle.recorded.specs.declared.Found.{Found}
+use Rattle.recorded.specs.declared.Found.the-variants.{Nothing, At}
+use Rattle.recorded.specs.Recorded.{whereFound, AllUsable}
+use Rattle.recorded.proofs.Search.{none-usable}
 use Rattle.fronts.specs.declared.Opening.{Opening}
 use Rattle.fronts.specs.Openings.{OpensWhole}
 use Rattle.reader.specs.Payloads.{octetsHeard, afterHeard}

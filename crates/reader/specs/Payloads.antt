@@ -10,7 +10,7 @@ use Rattle.calls.specs.declared.Refusal.the-variants.{OddGrowth}
 use Rattle.calls.specs.declared.Told.{Told}
 use Rattle.calls.specs.declared.Reading.{Reading}
 use Rattle.calls.specs.declared.Reading.the-variants.{Refused, Good}
-use Rattle.calls.specs.Reading.{orElse, payloadOf}
+use Rattle.reading.specs.Reading.{orElse, payloadOf}
 
 -- what a payload leaves in room for so many octets: zeros where a symbol is grown by 1 or 3
 abbrev pub octetsHeard : Kind → Rate → ℕ → List Taken → ℕ → Option ℕ → List ℕ

@@ -5,7 +5,7 @@ ghost use lib.Dec.{eqb};
 ghost use lib.ListN.{length};
 ghost use Rattle.chips.specs.Chips.{hardRecording, softRecording};
 ghost use Rattle.calls.specs.Answers.{recordOf};
-ghost use Rattle.calls.specs.Reading.{readingOf, octetsFound};
+ghost use Rattle.reading.specs.Reading.{readingOf, octetsFound};
 ghost use Rattle.recorders.specs.Rows.{recordingOf};
 use calls::Front;
 use calls::Reading;
@@ -32,13 +32,13 @@ pub fn read(
         (recordingOf rec (now (row .entry)) (now (i .entry)) (now (q .entry))) (length (now (octets .entry))) ⌝ }
 {
     rows::fill(octets, 0);
-    if !frame::is_kind(kind) {
+    if !kinds::is_kind(kind) {
         return Reading::Refused(Refusal::NoKind);
     }
     if !agree {
         return Reading::Refused(Refusal::RowsDiffer);
     }
-    let k = frame::kind_of(kind);
+    let k = kinds::kind_of(kind);
     let opening = fronts::read_whole(rec, row, i, q, k);
     let told = opening.front;
     match told {
@@ -60,7 +60,7 @@ pub fn read_hard(kind: u64, chips: &[u8], octets: &mut [u8]) -> Record
     let none = [0.0f32; 1];
     let row = &none[0..0];
     let reading = read(kind, true, Recorder::Hard, chips, row, row, octets);
-    checks::record_of(reading)
+    answers::record_of(reading)
 }
 
 // A soft recording: two rows of f32, I and Q.
@@ -74,5 +74,5 @@ pub fn read_soft(kind: u64, i: &[f32], q: &[f32], octets: &mut [u8]) -> Record
     let none = [0u8; 1];
     let row = &none[0..0];
     let reading = read(kind, i.len() == q.len(), Recorder::Soft, row, i, q, octets);
-    checks::record_of(reading)
+    answers::record_of(reading)
 }

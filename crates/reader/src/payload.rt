@@ -4,17 +4,18 @@ ghost use Prim.Native.Nat.{_*_, _≤_};
 ghost use lib.ListN.{length, replicate};
 ghost use Rattle.rates.specs.Rates.{octetChips};
 ghost use Rattle.frame.specs.Frame.{frontChips, frameChips};
-ghost use Rattle.calls.specs.Reading.{payloadOdd, payloadReading, octetsAfter};
-ghost use Rattle.recorders.specs.Rows.{recordingOf, whereFound, AllUsable};
+ghost use Rattle.reading.specs.Reading.{payloadOdd, payloadReading, octetsAfter};
+ghost use Rattle.recorders.specs.Rows.{recordingOf};
+ghost use Rattle.recorded.specs.Recorded.{whereFound, AllUsable};
 ghost use Rattle.fronts.specs.Openings.{Opened};
 ghost use Rattle.reader.specs.Payloads.{octetsHeard, afterHeard};
-use bits::Line;
 use calls::Reading;
 use calls::Refusal;
 use calls::Told;
 use frame::Kind;
+use lines::Line;
 use rates::Rate;
-use recorders::Found;
+use recorded::Found;
 use recorders::Recorder;
 
 // The payload's octets into a buffer of zeros, or the place of its first symbol grown by 1 or 3 at 1 Mbit/s, and zeros.
@@ -39,7 +40,7 @@ fn hear_payload(
         (recordingOf rec (now (row .entry)) (now (i .entry)) (now (q .entry)))
         (length (now (octets .entry))) (whereFound r) ⌝ }
 {
-    let from = frame::front_chips(kind);
+    let from = kinds::front_chips(kind);
     let heard = hearing::hear_octets(rec, row, i, q, rate, from, line, &mut octets[0..n]);
     let odd = heard.odd;
     match odd {
@@ -90,8 +91,8 @@ pub fn read_payload(
     if octets.len() < n {
         return Reading::Refused(Refusal::OctetRoom { length });
     }
-    let from = frame::front_chips(kind);
-    let all = frame::frame_chips(kind, rate, n);
+    let from = kinds::front_chips(kind);
+    let all = kinds::frame_chips(kind, rate, n);
     let bad = recorders::first_unusable(rec, row, i, q, from, all);
     match bad {
         Found::At(place) => Reading::Refused(Refusal::Unusable { place, length }),

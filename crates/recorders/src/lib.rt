@@ -1,5 +1,5 @@
 // Recorders: what reading asks of rows that are lent, whatever recorded them. A recorder is a variant here, its
-// chips in a module of its own, and an arm in the functions below.
+// chips in a crate of its own, and an arm in the functions below.
 ghost use mathlib.Core.Path.{_≡_};
 ghost use mathlib.Core.Bool.{true, not};
 ghost use mathlib.Core.List.{map};
@@ -7,25 +7,18 @@ ghost use Prim.Native.Nat.{_+_, _*_, _-_, _≤_, _<_};
 ghost use lib.ListN.{length, getD, take, drop};
 ghost use Rattle.rates.specs.Rates.{symbolChips};
 ghost use Rattle.chips.specs.Chips.{unusable, isUnusable, countsOf};
-ghost use Rattle.calls.specs.Reading.{firstUnusable};
-ghost use Rattle.recorders.specs.Rows.{recordingOf, whereFound, symbolAt, AllUsable, DecidedAt};
+ghost use Rattle.reading.specs.Reading.{firstUnusable};
+ghost use Rattle.recorders.specs.Rows.{recordingOf};
+ghost use Rattle.recorded.specs.Recorded.{whereFound, symbolAt, AllUsable, DecidedAt};
 use chips::Chip;
 use rates::Rate;
-
-mod hard;
-mod soft;
+use recorded::Found;
 
 // What recorded the chips. A hard recording is the row of octets; a soft one is two rows of f32. The rows that a
 // recorder does not use are empty.
 pub enum Recorder {
     Hard,
     Soft,
-}
-
-// A place in a recording, or none.
-pub enum Found {
-    Nothing,
-    At(usize),
 }
 
 // How many chips a recording has.

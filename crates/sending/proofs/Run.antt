@@ -4,8 +4,8 @@
 -- Assumes nothing.
 use mathlib.Core.Path.{_≡_, refl, sym, _∙_}
 use mathlib.Core.List.{List, [], _∷_, _++_, append-assoc, append-nil}
-use Prim.Native.Nat.{ℕ, suc, _+_, _*_, _≤_, _<_}
-use native.Mathlib.Nat.{mul-suc, mul-zero, mul-le-mul-left, le-trans, add-zero}
+use Prim.Native.Nat.{ℕ, suc, _+_, _*_}
+use native.Mathlib.Nat.{mul-suc, mul-zero, add-zero}
 use native.Mathlib.Omega.{arith}
 use lib.ListN.{length, length-append}
 use Rattle.rates.specs.declared.Rate.{Rate}
@@ -46,7 +46,3 @@ ran-snoc r k s [] x = rw add-zero
 ran-snoc r k s (y ∷ xs) x =
     let n : suc k + length xs ≡ k + suc (length xs) = omega arith in
     ran-snoc r (suc k) (step r k s y) xs x ∙ rw n
-
--- the i-th of n runs of k chips has room where n have
-pub room-run : (k i n m : ℕ) → i < n → k * n ≤ m → k * i + k ≤ m
-room-run k i n m h le = omega (arith, mul-suc k i, le-trans (mul-le-mul-left k h) le)

@@ -2,7 +2,7 @@
 use Prim.Native.Nat.{ℕ}
 use mathlib.Core.List.{List, [], _∷_, _++_}
 use Rattle.symbols.specs.Words.{barkerWord}
-use Rattle.bits.specs.declared.Line.{Line}
+use Rattle.lines.specs.declared.Line.{Line}
 use Rattle.bits.specs.Code.{pastOf}
 use Rattle.sending.specs.Sending.{State}
 

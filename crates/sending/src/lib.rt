@@ -1,5 +1,5 @@
 // Octets as chips: each octet scrambled, cut into symbols at a rate, and written as words over a buffer's front.
-use bits::Line;
+use lines::Line;
 use rates::Rate;
 ghost use mathlib.Core.Path.{_≡_};
 ghost use Prim.Native.Nat.{_+_, _*_, _/_, _%_, _≤_};
@@ -14,7 +14,7 @@ ghost use Rattle.bits.specs.Growths.{growth, halfTurn, chipsFrom, lastPhase};
 ghost use Rattle.sending.specs.Sending.{symbolsAt, emit, step, run, ran};
 ghost use Rattle.sending.specs.Line.{state};
 
-mod words;
+mod puts;
 
 // The phase p grown by one bit.
 fn grown_one(p: u8, b: u8) -> u8
@@ -27,14 +27,14 @@ fn grown_one(p: u8, b: u8) -> u8
 fn grown(p: u8, n: u8) -> u8
     ensures answer { λ r. ⌜ r ≡ turned p (growth (n / 2 % 2) (n % 2)) ⌝ }
 {
-    (p % 4 + bits::growth(n)) % 4
+    (p % 4 + lines::growth(n)) % 4
 }
 
 // The phase p1 of the k-th CCK symbol: odd ones grow by 2 more.
 fn grown_cck(p: u8, k: usize, n: u8) -> u8
     ensures answer { λ r. ⌜ r ≡ turned p (growth (n / 2 % 2) (n % 2) + halfTurn k) ⌝ }
 {
-    (p % 4 + bits::growth(n) + (k % 2) as u8 * 2) % 4
+    (p % 4 + lines::growth(n) + (k % 2) as u8 * 2) % 4
 }
 
 // Eight scrambled bits as chips, at each rate; the answer is the last symbol's phase. `barkers` are the Barker words.
@@ -60,7 +60,7 @@ fn put_one(barkers: &[[u8; 11]; 4], p: u8, o: u8, chips: &mut [u8]) -> u8
     let p6 = grown_one(p5, o6 % 2);
     let p7 = grown_one(p6, o7 % 2);
     let phases = [p0, p1, p2, p3, p4, p5, p6, p7];
-    words::put_barkers(barkers, &phases, chips);
+    puts::put_barkers(barkers, &phases, chips);
     p7
 }
 
@@ -70,13 +70,13 @@ fn put_two(barkers: &[[u8; 11]; 4], p: u8, o: u8, chips: &mut [u8]) -> u8
     ensures chips { λ _. ⌜ now (chips .exit) ≡ over (chipsFrom Rate.Two p (symbolsAt Rate.Two 0 (bitsOf 8 o)))
         (now (chips .entry)) ⌝ }
 {
-    let s = bits::pairs(o);
+    let s = lines::pairs(o);
     let p0 = grown(p, s);
     let p1 = grown(p0, s / 4);
     let p2 = grown(p1, s / 16);
     let p3 = grown(p2, s / 64);
     let phases = [p0, p1, p2, p3];
-    words::put_barkers(barkers, &phases, chips);
+    puts::put_barkers(barkers, &phases, chips);
     p3
 }
 
@@ -86,13 +86,13 @@ fn put_five(p: u8, o: u8, chips: &mut [u8]) -> u8
     ensures chips { λ _. ⌜ now (chips .exit) ≡ over (chipsFrom Rate.Five p (symbolsAt Rate.Five 0 (bitsOf 8 o)))
         (now (chips .entry)) ⌝ }
 {
-    let s = bits::pairs(o);
+    let s = lines::pairs(o);
     let p0 = grown_cck(p, 0, s);
     let p1 = grown_cck(p0, 1, s / 16);
-    let first = symbols::five_word(p0, s / 4);
-    let second = symbols::five_word(p1, s / 64);
-    words::put(&first, chips);
-    words::put(&second, &mut chips[8..]);
+    let first = words::five_word(p0, s / 4);
+    let second = words::five_word(p1, s / 64);
+    puts::put(&first, chips);
+    puts::put(&second, &mut chips[8..]);
     p1
 }
 
@@ -103,10 +103,10 @@ fn put_eleven(p: u8, k: usize, o: u8, chips: &mut [u8]) -> u8
     ensures chips { λ _. ⌜ now (chips .exit) ≡ over (chipsFrom Rate.Eleven p (symbolsAt Rate.Eleven k (bitsOf 8 o)))
         (now (chips .entry)) ⌝ }
 {
-    let s = bits::pairs(o);
+    let s = lines::pairs(o);
     let p1 = grown_cck(p, k, s);
-    let word = symbols::cck_word(p1, s / 4, s / 16, s / 64);
-    words::put(&word, chips);
+    let word = words::cck_word(p1, s / 4, s / 16, s / 64);
+    puts::put(&word, chips);
     p1
 }
 
@@ -138,7 +138,7 @@ fn put_octet(
     ensures answer { λ l. ⌜ state l ≡ step r k (state line) x ⌝ }
     ensures chips { λ _. ⌜ now (chips .exit) ≡ over (emit r k (state line) x) (now (chips .entry)) ⌝ }
 {
-    let o = bits::scramble_octet(line.past, x);
+    let o = lines::scramble_octet(line.past, x);
     let phase = put_bits(barkers, r, line.phase, k, o, chips);
     Line { past: o, phase }
 }
@@ -151,7 +151,7 @@ pub fn put_octets(r: Rate, line: Line, octets: &[u8], chips: &mut [u8]) -> Line
         ≡ over (run r 0 (state line) (now (octets .entry))) (now (chips .entry)) ⌝ }
 {
     let per = r.octet_chips();
-    let barkers = symbols::barker_words();
+    let barkers = words::barker_words();
     let mut l = line;
     let mut i = 0;
     let mut at = 0;

@@ -1,4 +1,3 @@
 pub mod Words
-pub mod Sums
 pub mod Numbers
 pub mod Facts

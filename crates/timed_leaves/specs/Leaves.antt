@@ -12,7 +12,7 @@ use Rattle.rates.specs.Rates.{isCode, rateOf, symbolChips}
 use Rattle.chips.specs.Floats.{countOf}
 use Rattle.chips.specs.Chips.{Taken, takenCounts, softRecording}
 use Rattle.symbols.specs.Choice.{decided}
-use Rattle.calls.specs.Reading.{orElse, firstUnusable}
+use Rattle.reading.specs.Reading.{orElse, firstUnusable}
 
 -- the number of the word that the first symbol of a recording is decided as; 0 where a chip of it is not usable
 unfoldable pub firstWord : Rate → List Taken → ℕ

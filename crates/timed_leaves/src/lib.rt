@@ -7,7 +7,7 @@ ghost use Rattle.chips.specs.Floats.{countOf};
 ghost use Rattle.chips.specs.Chips.{softRecording};
 ghost use Rattle.timed_leaves.specs.Leaves.{firstWord, decidedSoft, Counted};
 use rates::Rate;
-use recorders::Found;
+use recorded::Found;
 use recorders::Recorder;
 
 // The smaller of two lengths.
@@ -21,7 +21,11 @@ fn shorter(a: usize, b: usize) -> usize
 fn count_of(x: f32) -> i32
     ensures answer { λ r. ⌜ r ≡ countOf x ⌝ }
 {
-    if chips::usable(x) { chips::count(x) } else { 0 }
+    if counts::usable(x) {
+        counts::count(x)
+    } else {
+        0
+    }
 }
 
 // The counts of a row of f32, as far as both rows go.

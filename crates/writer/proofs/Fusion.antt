@@ -9,8 +9,9 @@ use mathlib.Core.List.{List, [], _∷_, _++_, append-assoc}
 use Prim.Native.Nat.{ℕ, _+_, _*_}
 use native.Mathlib.Nat.{mul-zero}
 use native.Mathlib.Omega.{arith}
-use lib.ListN.{length, take, drop, length-append}
-use lib.Seq.{take-at, drop-at, drop-drop}
+use lib.ListN.{length, length-append}
+use lib.Seq.{take-at}
+use Rattle.base.proofs.Lists.{part-second, part-third}
 use Rattle.rates.specs.declared.Rate.{Rate}
 use Rattle.rates.specs.declared.Rate.the-variants.{One}
 use Rattle.rates.specs.Rates.{octetChips}
@@ -44,16 +45,6 @@ unfolding preambleOctets octetBits bitsOf preambleBits
 preamble-octets Long = refl
 preamble-octets Short = refl
 
--- three parts, cut by their lengths
-cut-0 : (x y z : List ℕ) (m : ℕ) → length x ≡ m → take m (x ++ (y ++ z)) ≡ x
-cut-0 x y z m e = take-at x (y ++ z) m e
-
-cut-1 : (x y z : List ℕ) (m n : ℕ) → length x ≡ m → length y ≡ n → take n (drop m (x ++ (y ++ z))) ≡ y
-cut-1 x y z m n e f = rw (drop-at x (y ++ z) m e) (take-at y z n f)
-
-cut-2 : (x y z : List ℕ) (m n : ℕ) → length x ≡ m → length y ≡ n → drop (m + n) (x ++ (y ++ z)) ≡ z
-cut-2 x y z m n e f = rw (← drop-drop n m (x ++ (y ++ z)), drop-at x (y ++ z) m e) (drop-at y z n f)
-
 preamble-long : (k : Kind) → length (octetBits (preambleOctets k)) ≡ preambleLength k
 unfolding preambleOctets octetBits bitsOf
 preamble-long Long = refl
@@ -83,9 +74,9 @@ by-parts k r p header xs six =
     rw (
       ← preamble-octets k,
       scramble-three,
-      cut-0 x y z _ m,
-      cut-1 x y z _ 48 m n,
-      cut-2 x y z _ 48 m n,
+      take-at x (y ++ z) _ m,
+      part-second x y z _ 48 m n,
+      part-third x y z _ 48 m n,
       symbolsOf-octets,
       symbolsOf-octets,
       symbolsOf-octets,

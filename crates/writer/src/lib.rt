@@ -1,9 +1,9 @@
 // The writer: payload, rate, kind and starting phase to the chips of a frame. Every argument is checked
 // first; whatever comes of it, the whole chip buffer is written.
-use bits::Line;
 use calls::Writing;
 use calls::Written;
 use frame::Kind;
+use lines::Line;
 use rates::Rate;
 ghost use mathlib.Core.Path.{_≡_};
 ghost use mathlib.Core.List.{_++_};
@@ -15,7 +15,7 @@ ghost use Rattle.calls.specs.Writing.{writingOf, chipsWritten};
 ghost use Rattle.calls.specs.Answers.{writtenOf};
 ghost use Rattle.sending.specs.Sending.{run, ran};
 ghost use Rattle.sending.specs.Line.{state};
-ghost use Rattle.writer.specs.Parts.{preambleOctets, firstState, frontSent, afterFront};
+ghost use Rattle.writer.specs.Parts.{preambleOctets, frontSent, afterFront};
 
 // The preambles' octets: SYNC, then SFD.
 const LONG: [u8; 18] = [
@@ -41,22 +41,6 @@ const LONG: [u8; 18] = [
 
 const SHORT: [u8; 9] = [0, 0, 0, 0, 0, 0, 0, 0xCF, 0x05];
 
-// Before the first bit: the scrambler's start as the octet sent last, and the starting phase.
-fn first_line(k: Kind, p: u8) -> Line
-    ensures answer { λ l. ⌜ state l ≡ firstState k p ⌝ }
-{
-    match k {
-        Kind::Long => Line {
-            past: 0b11011000,
-            phase: p,
-        },
-        Kind::Short => Line {
-            past: 0b00110110,
-            phase: p,
-        },
-    }
-}
-
 fn put_preamble(k: Kind, l: Line, chips: &mut [u8]) -> Line
     requires { ⌜ preambleChips k ≤ length (now chips) ⌝ }
     ensures answer { λ q. ⌜ state q ≡ ran Rate.One 0 (state l) (preambleOctets k) ⌝ }
@@ -81,10 +65,10 @@ pub fn put_front(k: Kind, p: u8, header: &[u8], chips: &mut [u8]) -> Line
     ensures answer { λ q. ⌜ state q ≡ afterFront k p (now (header .entry)) ⌝ }
     ensures chips { λ _. ⌜ now (chips .exit) ≡ over (frontSent k p (now (header .entry))) (now (chips .entry)) ⌝ }
 {
-    let l0 = first_line(k, p);
+    let l0 = kinds::first_line(k, p);
     let l1 = put_preamble(k, l0, chips);
-    let at = frame::preamble_chips(k);
-    sending::put_octets(frame::header_rate(k), l1, header, &mut chips[at..])
+    let at = kinds::preamble_chips(k);
+    sending::put_octets(kinds::header_rate(k), l1, header, &mut chips[at..])
 }
 
 // The whole frame, and 4s to the buffer's end.
@@ -96,7 +80,7 @@ fn put_frame(k: Kind, r: Rate, p: u8, payload: &[u8], count: usize, chips: &mut 
 {
     let header = header::header_octets(r, payload.len());
     let l = put_front(k, p, &header, chips);
-    let at = frame::front_chips(k);
+    let at = kinds::front_chips(k);
     sending::put_octets(r, l, payload, &mut chips[at..]);
     rows::fill(&mut chips[count..], 4);
 }
@@ -109,7 +93,7 @@ pub fn write(kind: u64, rate: u64, phase: u64, payload: &[u8], chips: &mut [u8])
         ≡ chipsWritten kind rate phase (now (payload .entry)) (length (now (chips .entry))) ⌝ }
 {
     let writing = checks::check_write(kind, rate, phase, payload.len(), chips.len());
-    let written = checks::written_of(writing);
+    let written = answers::written_of(writing);
     match writing {
         Writing::Refused(_) => {
             rows::fill(chips, 4);

@@ -1,6 +1,6 @@
 -- `checks::check_write` meets its contract: at each return the tests before it were passed and its own failed, and the
 -- definition computes to that refusal. Assumes nothing.
-use mathlib.Core.Path.{_≡_, sym, ap₂, _∙_}
+use mathlib.Core.Path.{_≡_, ap₂, _∙_}
 use mathlib.Core.Bool.{Bool, true}
 use Prim.Native.Nat.{ℕ}
 use lib.IntN.{pos}
@@ -92,21 +92,21 @@ frame-chips-requires c κs = payload-high _ (sized (c .before))
 returns-6 : tie.Need-returns-6
 unfolding writingOf
 returns-6 c =
-    let five = c .before .before .before in
+    let five = c .before .before in
     rw (
       known (five .before .before .before .before),
       coded (five .before .before .before),
       goes (five .before .before),
       sized (five .before),
       le-ltb _ _ (five .if5 .left),
-      ← frames (c .before .before),
-      sym (c .before .is-short .ensures) ∙ c .if6 .taken,
+      ← frames (c .before),
+      lt-ltb _ _ (c .if6 .taken),
     )
 
 returns-7 : tie.Need-returns-7
 unfolding writingOf
 returns-7 c =
-    let five = c .before .before .before in
+    let five = c .before .before in
     let all = five .before .before .before .before .before in
     rw (
       known (five .before .before .before .before),
@@ -114,8 +114,8 @@ returns-7 c =
       goes (five .before .before),
       sized (five .before),
       le-ltb _ _ (five .if5 .left),
-      ← frames (c .before .before),
-      sym (c .before .is-short .ensures) ∙ c .if6 .left,
+      ← frames (c .before),
+      le-ltb _ _ (c .if6 .left),
       ← all .before .before .before .kind-of .ensures,
       ← all .before .before .rate-of .ensures,
     )
@@ -125,5 +125,4 @@ check-write-spec =
     tie.close
     (tie.spec
     (λ c κs. search needs) (λ c κs. search needs) (λ c κs. search needs) (λ c κs. search needs) (λ c κs. search needs)
-    (λ c κs. search needs) returns returns-2 returns-3 returns-4 returns-5 frame-chips-requires (λ c κs. search needs)
-    returns-6 returns-7)
+    (λ c κs. search needs) returns returns-2 returns-3 returns-4 returns-5 frame-chips-requires returns-6 returns-7)

@@ -10,11 +10,11 @@ use Rattle.chips.specs.Chips.{Taken}
 use Rattle.frame.specs.declared.Kind.{Kind}
 use Rattle.frame.specs.declared.Kind.the-variants.{Long, Short}
 use Rattle.frame.specs.Frame.{frontChips, headerRate, preambleChips}
-use Rattle.recorders.specs.Rows.{AllUsable}
-use Rattle.recorders.proofs.Search.{usable-part}
-use Rattle.hearing.specs.declared.Hearing.{Hearing}
+use Rattle.recorded.specs.Recorded.{AllUsable}
+use Rattle.recorded.proofs.Search.{usable-part}
+use Rattle.blocks.specs.declared.Hearing.{Hearing}
 use Rattle.hearing.specs.Hearing.{PartHeard}
-use Rattle.bits.specs.declared.Line.{Line}
+use Rattle.lines.specs.declared.Line.{Line}
 use mathlib.Core.List.{List}
 use borrow.Author.Needs.{needs}
 use Rattle.fronts.proofs.Whole.{front-known}

@@ -7,7 +7,7 @@ use borrow.Author.Needs.{needs}
 use Rattle.rates.specs.declared.Rate.{Rate}
 use Rattle.rates.specs.Rates.{isCode, rateOf}
 use Rattle.frame.specs.Frame.{goesWith}
-use Rattle.calls.specs.Reading.{serviceAllowed, fieldsOf}
+use Rattle.calls.specs.Headers.{serviceAllowed, fieldsOf}
 use Rattle.header.specs.Code.{octetsTold}
 use Rattle.header.proofs.Lengths.{told-fails, told-holds}
 use Rattle.base.proofs.Tests.{failed, passed}

@@ -6,7 +6,7 @@ use borrow.Author.Needs.{needs}
 use Rattle.rates.specs.declared.Rate.{Rate}
 use Rattle.rates.specs.Rates.{codeOf, lengthField}
 use Rattle.frame.specs.Frame.{serviceField, headerBits, sentHeader}
-use Rattle.header.proofs.Back.{code-small}
+use Rattle.calls.proofs.ReadBack.{code-small}
 use Rattle.header.proofs.header_octets.Statement.{statement}
 use Rattle.header.proofs.header_octets.Tie as tie
 

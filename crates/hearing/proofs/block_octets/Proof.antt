@@ -5,7 +5,7 @@ use Rattle.rates.specs.declared.Rate.{Rate}
 use Rattle.rates.specs.declared.Rate.the-variants.{One, Two, Five, Eleven}
 use Rattle.rates.specs.Rates.{octetSymbols}
 use borrow.Author.Needs.{needs}
-use Rattle.hearing.proofs.Codes.{block-rest, block-whole}
+use Rattle.codes.proofs.Codes.{block-rest, block-whole}
 use Rattle.hearing.proofs.block_octets.Statement.{statement}
 use Rattle.hearing.proofs.block_octets.Tie as tie
 

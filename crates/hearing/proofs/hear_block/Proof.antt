@@ -8,10 +8,11 @@ use Rattle.rates.specs.declared.Rate.{Rate}
 use Rattle.rates.specs.Rates.{symbolChips, octetSymbols, octetChips}
 use Rattle.rates.proofs.Octets.{part-chips}
 use Rattle.chips.specs.Chips.{Taken}
-use Rattle.recorders.specs.Rows.{recordingOf, AllUsable}
+use Rattle.recorders.specs.Rows.{recordingOf}
+use Rattle.recorded.specs.Recorded.{AllUsable}
 use Rattle.recorders.proofs.Rows.{recording-fits}
 use borrow.Author.Needs.{needs}
-use Rattle.hearing.specs.Hearing.{plainOctets, Heard}
+use Rattle.blocks.specs.Heard.{plainOctets, Heard}
 use Rattle.hearing.proofs.Parts.{block-words, block-are-words}
 use Rattle.hearing.proofs.hear_block.Statement.{statement}
 use Rattle.hearing.proofs.hear_block.Tie as tie

@@ -11,7 +11,7 @@ use Rattle.frame.specs.Frame.{isKind, frameChips}
 use Rattle.calls.specs.declared.Told.{Told}
 use Rattle.calls.specs.declared.Reading.{Reading}
 use Rattle.calls.specs.declared.Front.the-variants.{Fields}
-use Rattle.calls.specs.Reading.{payloadReading, octetsAfter}
+use Rattle.reading.specs.Reading.{payloadReading, octetsAfter}
 use Rattle.fronts.specs.declared.Opening.{Opening}
 use Rattle.fronts.specs.Openings.{Opened, OpensWhole}
 use borrow.Author.Needs.{needs}

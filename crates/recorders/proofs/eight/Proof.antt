@@ -6,7 +6,7 @@ use Prim.Native.Nat.{_+_}
 use borrow.Author.Needs.{needs}
 use Rattle.chips.specs.Chips.{countsOf}
 use Rattle.recorders.proofs.Rows.{room-hard, room-soft}
-use Rattle.recorders.proofs.Gathered.{gathered-hard, gathered-soft}
+use Rattle.recorded.proofs.Gathered.{gathered-hard, gathered-soft}
 use Rattle.recorders.proofs.eight.Statement.{statement}
 use Rattle.recorders.proofs.eight.Tie as tie
 

@@ -8,7 +8,7 @@ use Rattle.rates.specs.declared.Rate.the-variants.{Eleven}
 use Rattle.chips.specs.Chips.{Taken}
 use Rattle.recorders.specs.Rows.{recordingOf}
 use Rattle.recorders.proofs.Rows.{recording-fits}
-use Rattle.recorders.proofs.Blocks.{Decided, decided-none, decided-more, decided-all}
+use Rattle.recorded.proofs.Blocks.{Decided, decided-none, decided-more, decided-all}
 use Rattle.recorders.proofs.elevens.Statement.{statement}
 use Rattle.recorders.proofs.elevens.Tie as tie
 

@@ -8,9 +8,9 @@ use lib.ListN.{take, drop}
 use borrow.Author.Needs.{needs}
 use borrow.Author.Tests.{not-true, not-false}
 use Rattle.chips.specs.Chips.{unusable}
-use Rattle.calls.specs.Reading.{firstUnusable}
+use Rattle.reading.specs.Reading.{firstUnusable}
 use Rattle.recorders.specs.Rows.{recordingOf}
-use Rattle.recorders.proofs.Search.{search-on, search-here, search-over}
+use Rattle.recorded.proofs.Search.{search-on, search-here, search-over}
 use Rattle.recorders.proofs.first_unusable.Statement.{statement}
 use Rattle.recorders.proofs.first_unusable.Tie as tie
 

@@ -6,10 +6,10 @@ use Prim.Native.Nat.{_-_, _^_}
 use native.Mathlib.Omega.{arith}
 use lib.ListN.{take, drop}
 use borrow.Author.Tests.{leb-true}
-use Rattle.calls.specs.Reading.{firstUnusable}
+use Rattle.reading.specs.Reading.{firstUnusable}
 use Rattle.recorders.specs.Rows.{recordingOf}
 use Rattle.recorders.proofs.Rows.{recording-fits}
-use Rattle.recorders.proofs.Search.{search-past}
+use Rattle.recorded.proofs.Search.{search-past}
 use Rattle.recorders.proofs.skip_clean.Statement.{statement}
 use Rattle.recorders.proofs.skip_clean.Tie as tie
 

@@ -18,7 +18,8 @@ use Rattle.rates.specs.Rates.{octetChips}
 use Rattle.symbols.specs.Words.{barkerWord}
 use Rattle.sending.specs.Sending.{State, emit, step, run, ran}
 use Rattle.sending.specs.Line.{state}
-use Rattle.sending.proofs.Run.{length-run, run-snoc, ran-snoc, room-run}
+use Rattle.base.proofs.Lists.{run-room}
+use Rattle.sending.proofs.Run.{length-run, run-snoc, ran-snoc}
 use Rattle.sending.proofs.put_octets.Statement.{statement}
 use Rattle.sending.proofs.put_octets.Tie as tie
 
@@ -36,7 +37,7 @@ within : (c : tie.In-loop Inv-loop μ-loop)
     → c .before .loop .at + c .before .before .before .octet-chips .result ≤ length (c .before .loop .chips)
 within c =
     let start = c .before .before .before .before .before .before in
-    let enough : _ = room-run _ (c .before .loop .i) _ _ (c .loop-test .taken) (start .pre) in
+    let enough : _ = run-room _ (c .before .loop .i) _ _ (c .loop-test .taken) (start .pre) in
     omega (arith, c .before .loop .inv .3)
 
 more : (k i n p : ℕ) → n ≡ k * i → p ≡ k → n + p ≡ k * (i + 1)

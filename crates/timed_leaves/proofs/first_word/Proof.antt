@@ -11,11 +11,11 @@ use Rattle.rates.specs.declared.Rate.{Rate}
 use Rattle.rates.specs.Rates.{symbolChips}
 use Rattle.chips.specs.Chips.{Taken, takenCounts, softRecording}
 use Rattle.symbols.specs.Choice.{decided}
-use Rattle.calls.specs.Reading.{firstUnusable}
-use Rattle.recorders.specs.declared.Found.{Found}
-use Rattle.recorders.specs.declared.Found.the-variants.{Nothing, At}
-use Rattle.recorders.specs.Rows.{whereFound, AllUsable, DecidedAt}
-use Rattle.recorders.proofs.Search.{none-usable}
+use Rattle.reading.specs.Reading.{firstUnusable}
+use Rattle.recorded.specs.declared.Found.{Found}
+use Rattle.recorded.specs.declared.Found.the-variants.{Nothing, At}
+use Rattle.recorded.specs.Recorded.{whereFound, AllUsable, DecidedAt}
+use Rattle.recorded.proofs.Search.{none-usable}
 use Rattle.timed_leaves.specs.Leaves.{firstWord}
 use Rattle.timed_leaves.proofs.first_word.Statement.{statement}
 use Rattle.timed_leaves.proofs.first_word.Tie as tie

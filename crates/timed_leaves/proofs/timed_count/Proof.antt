@@ -1,6 +1,5 @@
--- `timed_count` meets its contract. The invariant: the rows of counts are equally long, each element below k is a
--- count, and each from k on is as before.
--- Assumes nothing.
+-- `timed_leaves::timed_count` meets its contract. The invariant: the rows of counts are equally long, each element
+-- below k is a count, and each from k on is as before. Assumes nothing.
 use Prim.Native.Nat.{ℕ, _≤_, _<_, _-_}
 use mathlib.Core.Path.{_≡_, refl, _∙_}
 use native.Mathlib.Nat.{ne-of-lt}

@@ -1,6 +1,5 @@
--- `timed_decide` meets its contract: a number that is no code and rows shorter than a symbol give 0, and else the
--- symbol at place 0 is decided.
--- Assumes nothing.
+-- `timed_leaves::timed_decide` meets its contract: a number that is no code and rows shorter than a symbol give 0,
+-- and else the symbol at place 0 is decided. Assumes nothing.
 use Prim.Native.Nat.{ℕ, _≤_, _<_}
 use mathlib.Core.Path.{_≡_, refl, sym, ap, _∙_}
 use mathlib.Core.Bool.{Bool, true, false, _&&_}

@@ -1,6 +1,6 @@
 -- `writer::put_front` meets its contract: the header's chips go over the part that starts where the preamble's end.
 -- Assumes nothing.
-use mathlib.Core.Path.{_≡_, refl, sym, _∙_}
+use mathlib.Core.Path.{_≡_, refl, sym, ap₂, _∙_}
 use mathlib.Core.List.{List}
 use Prim.Native.Nat.{ℕ, _-_, _*_, _≤_}
 use native.Mathlib.Nat.{le-trans}
@@ -19,6 +19,9 @@ use Rattle.frame.specs.declared.Kind.the-variants.{Long, Short}
 use Rattle.frame.specs.Frame.{preambleChips, headerRate, frontChips}
 use Rattle.sending.specs.Sending.{State, run, ran}
 use Rattle.sending.proofs.Run.{length-run}
+use Rattle.kinds.specs.Starts.{Starts}
+use Rattle.lines.specs.declared.Line.{Line}
+use Rattle.sending.specs.Line.{state}
 use Rattle.writer.specs.Parts.{preambleOctets, firstState, afterPreamble, frontSent, afterFront}
 use Rattle.writer.proofs.put_front.Statement.{statement}
 use Rattle.writer.proofs.put_front.Tie as tie
@@ -48,6 +51,10 @@ front k p n r h d o y s0 s1 s2 e0 e1 en er e2 =
     let count : length (run One 0 s0 (preambleOctets k)) ≡ n = length-run One 0 s0 (preambleOctets k)
     ∙ preamble-count k ∙ sym en in
     (cc, over-next (run One 0 s0 (preambleOctets k)) (run r 0 s1 h) d o y n (e1 .1) count (e2 .1) ∙ cc)
+
+starts : (k : Kind) (p : ℕ) (l : Line) → Starts k p l → state l ≡ firstState k p
+unfolding firstState
+starts k p l s = ap₂ {C = State} (λ a b. record { past = a; phase = b }) (s .past) (s .at-phase)
 
 -- the buffer keeps its length, and the preamble is within
 long : (c : tie.After-header-rate)
@@ -81,7 +88,7 @@ returns c =
     let first = at .before .before .before .before .put-preamble in
     let rest = c .before .before .put-octets in
     front (start .args .k) _ _ _ _ _ (first .last .1 .1 .0) (rest .last .1 .1 .1 .0) _ _ _
-    (at .before .before .before .before .before .before .first-line .ensures) (first .ensures)
+    (starts _ _ _ (at .before .before .before .before .before .before .first-line .ensures)) (first .ensures)
     (at .before .preamble-chips .ensures) (at .header-rate .ensures) (rest .ensures)
 
 pub put-front-spec : {M : Type 1} → statement M

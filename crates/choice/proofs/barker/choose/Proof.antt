@@ -11,8 +11,8 @@ use borrow.Author.Needs.{needs}
 use Rattle.base.specs.Whole.{Within}
 use Rattle.base.proofs.Whole.{small}
 use Rattle.choosing.specs.Keys.{larger, keyOf, HoldsLargest}
-use Rattle.choice.proofs.Four.{sumKey, phase-by}
-use Rattle.choice.proofs.KeyTops.{holds-one, holds-both}
+use Rattle.sums.proofs.Four.{sumKey, phase-by}
+use Rattle.sums.proofs.KeyTops.{holds-one, holds-both}
 use Rattle.choice.proofs.barker.choose.Statement.{statement}
 use Rattle.choice.proofs.barker.choose.Tie as tie
 

@@ -4,8 +4,8 @@ use mathlib.Core.Path.{_≡_, _∙_}
 use mir.Syntax.{w32}
 use mir.Val.{toZ, ofZ}
 use borrow.Author.Needs.{needs}
-use Rattle.choice.specs.Sums.{bySigns, bestOfSums}
-use Rattle.choice.proofs.Signs.{by-signs-within}
+use Rattle.sums.specs.Sums.{bySigns, bestOfSums}
+use Rattle.sums.proofs.Signs.{by-signs-within}
 use Rattle.choice.proofs.barker.decide.Statement.{statement}
 use Rattle.choice.proofs.barker.decide.Tie as tie
 

@@ -10,7 +10,7 @@ use mir.Syntax.{w32}
 use mir.Val.{toZ, ofZ}
 use borrow.Author.Needs.{needs}
 use Rattle.choosing.specs.Scores.{number5}
-use Rattle.choice.proofs.Eight.{place-by}
+use Rattle.sums.proofs.Eight.{place-by}
 use Rattle.choice.proofs.five.choose.Statement.{statement}
 use Rattle.choice.proofs.five.choose.Tie as tie
 

@@ -2,7 +2,7 @@
 -- Assumes nothing.
 use mathlib.Core.Path.{_∙_}
 use borrow.Author.Needs.{needs}
-use Rattle.choice.proofs.Eight.{decided-is, eight-within}
+use Rattle.sums.proofs.Eight.{decided-is, eight-within}
 use Rattle.choice.proofs.five.decide.Statement.{statement}
 use Rattle.choice.proofs.five.decide.Tie as tie
 

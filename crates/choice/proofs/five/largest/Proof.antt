@@ -13,8 +13,8 @@ use Rattle.base.specs.Whole.{Within}
 use Rattle.base.proofs.Whole.{small, within-more}
 use Rattle.choosing.specs.Scores.{RowWithin}
 use Rattle.choosing.specs.Keys.{larger, keyOf, HoldsLargest}
-use Rattle.choice.specs.Sums.{keyAt}
-use Rattle.choice.proofs.KeyTops.{holds-one, holds-both}
+use Rattle.sums.specs.Sums.{keyAt}
+use Rattle.sums.proofs.KeyTops.{holds-one, holds-both}
 use Rattle.choice.proofs.five.largest.Statement.{statement}
 use Rattle.choice.proofs.five.largest.Tie as tie
 

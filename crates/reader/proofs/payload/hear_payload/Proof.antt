@@ -9,13 +9,13 @@ use lib.Seq.{length-front}
 use Rattle.rates.specs.declared.Rate.{Rate}
 use Rattle.rates.specs.Rates.{octetChips}
 use Rattle.chips.specs.Chips.{Taken}
-use Rattle.bits.specs.declared.Line.{Line}
+use Rattle.lines.specs.declared.Line.{Line}
 use Rattle.frame.specs.declared.Kind.{Kind}
 use Rattle.frame.specs.Frame.{frontChips, frameChips}
-use Rattle.calls.specs.Reading.{payloadOdd, payloadOf}
-use Rattle.recorders.specs.declared.Found.the-variants.{Nothing, At}
-use Rattle.recorders.specs.Rows.{whereFound, AllUsable}
-use Rattle.hearing.specs.declared.Hearing.{Hearing}
+use Rattle.reading.specs.Reading.{payloadOdd, payloadOf}
+use Rattle.recorded.specs.declared.Found.the-variants.{Nothing, At}
+use Rattle.recorded.specs.Recorded.{whereFound, AllUsable}
+use Rattle.blocks.specs.declared.Hearing.{Hearing}
 use Rattle.hearing.specs.Hearing.{PartHeard}
 use Rattle.fronts.specs.Openings.{Opened}
 use borrow.Author.Needs.{needs}

@@ -3,13 +3,7 @@
 use lib.ListN.{length}
 use Rattle.recorders.specs.Rows.{recordingOf}
 use borrow.Author.Needs.{needs}
-use Rattle.reader.proofs.Order.{
-  Searched,
-  payload-room,
-  payload-unusable,
-  payload-usable,
-  payload-heard,
-}
+use Rattle.reader.proofs.Order.{Searched, payload-room, payload-unusable, payload-usable, payload-heard}
 use Rattle.reader.proofs.payload.read_payload.Statement.{statement}
 use Rattle.reader.proofs.payload.read_payload.Tie as tie
 

@@ -1,0 +1,20 @@
+-- Laws of lists cut by their parts' lengths.
+--     part-second, part-third    the second and the third of three parts
+--     run-room                   the i-th of n runs of k elements has room where n have
+-- Assumes nothing.
+use mathlib.Core.Path.{_≡_}
+use mathlib.Core.List.{List, _++_}
+use Prim.Native.Nat.{ℕ, _+_, _*_, _≤_, _<_}
+use native.Mathlib.Nat.{mul-suc, mul-le-mul-left, le-trans}
+use native.Mathlib.Omega.{arith}
+use lib.ListN.{length, take, drop}
+use lib.Seq.{take-at, drop-at, drop-drop}
+
+pub part-second : (x y z : List ℕ) (m n : ℕ) → length x ≡ m → length y ≡ n → take n (drop m (x ++ (y ++ z))) ≡ y
+part-second x y z m n e f = rw (drop-at x (y ++ z) m e) (take-at y z n f)
+
+pub part-third : (x y z : List ℕ) (m n : ℕ) → length x ≡ m → length y ≡ n → drop (m + n) (x ++ (y ++ z)) ≡ z
+part-third x y z m n e f = rw (← drop-drop n m (x ++ (y ++ z)), drop-at x (y ++ z) m e) (drop-at y z n f)
+
+pub run-room : (k i n m : ℕ) → i < n → k * n ≤ m → k * i + k ≤ m
+run-room k i n m h le = omega (arith, mul-suc k i, le-trans (mul-le-mul-left k h) le)

@@ -1,0 +1,4 @@
+pub mod FirstOdd
+pub mod Hears
+pub mod Plain
+pub mod Symbols

@@ -1,0 +1,123 @@
+-- The writer's header is read back.
+--     same-refl        a row of bits is the same as itself
+--     fields-back      the writer's SIGNAL, SERVICE and LENGTH for n octets tell the rate and n
+--     fields-read      any three fields with their CRC and the SFD of the kind are the fields read
+--     header-back      so the 48 bits of the writer's header tell the rate and n
+-- The fields are cut out of the bits by computing, and LENGTH and bit 7 give n back. Assumes nothing.
+use mathlib.Core.Path.{_≡_, refl, _∙_}
+use mathlib.Core.Bool.{Bool, true, false, cond, not}
+use mathlib.Core.List.{List, [], _∷_}
+use Prim.Native.Nat.{ℕ, _+_, _*_, _/_, _%_, _≤_, _<_}
+use native.Mathlib.Omega.{arith}
+use borrow.Author.Tests.{eq-eqb}
+use lib.Dec.{eqb, leb}
+use Rattle.rates.specs.declared.Rate.{Rate}
+use Rattle.rates.specs.declared.Rate.the-variants.{One, Two, Five, Eleven}
+use Rattle.rates.specs.Rates.{codeOf, isCode, rateOf, lengthField, bit7}
+use Rattle.rates.proofs.Lengths.{octets-back, length-holds}
+use Rattle.bits.specs.Bits.{bitsOf, numberOf}
+use Rattle.bits.specs.Crc.{crcBits}
+use Rattle.bits.proofs.Bits.{number-bits}
+use Rattle.frame.specs.declared.Kind.{Kind}
+use Rattle.frame.specs.declared.Kind.the-variants.{Long, Short}
+use Rattle.calls.specs.declared.Refusal.the-variants.{Sfd, Crc}
+use Rattle.calls.specs.declared.Front.the-variants.{Refused, Fields}
+use Rattle.frame.specs.Frame.{sfdOf, goesWith, serviceField, fieldBits, headerBits, sentHeader}
+use Rattle.calls.specs.Headers.{told, sameBits, serviceAllowed, fieldsOf, headerOf}
+
+pub same-refl : (xs : List ℕ) → sameBits xs xs ≡ true
+unfolding sameBits
+same-refl [] = refl
+same-refl (x ∷ xs) = rw (eq-eqb x x refl) (same-refl xs)
+
+pub code-small : (r : Rate) → codeOf r < 256
+code-small One = omega arith
+code-small Two = omega arith
+code-small Five = omega arith
+code-small Eleven = omega arith
+
+code-is : (r : Rate) → isCode (codeOf r) ≡ true
+code-is One = refl
+code-is Two = refl
+code-is Five = refl
+code-is Eleven = refl
+
+rate-back : (r : Rate) → rateOf (codeOf r) ≡ r
+rate-back One = refl
+rate-back Two = refl
+rate-back Five = refl
+rate-back Eleven = refl
+
+bit7-lt : (r : Rate) (n : ℕ) → bit7 r n < 2
+bit7-lt One n = omega arith
+bit7-lt Two n = omega arith
+bit7-lt Five n = omega arith
+bit7-lt Eleven n = one (leb (8 * n + 8) (11 * lengthField Eleven n))
+  where
+    one : (b : Bool) → cond b 1 0 < 2
+    one true = omega arith
+    one false = omega arith
+
+seven-back : (r : Rate) (n : ℕ) → serviceField r n / 128 % 2 ≡ bit7 r n
+seven-back r n = back (bit7 r n) (bit7-lt r n)
+  where
+    back : (b : ℕ) → b < 2 → 128 * b / 128 % 2 ≡ b
+    back b h = omega arith
+
+service-back : (r : Rate) (n : ℕ) → serviceAllowed r (serviceField r n) ≡ true
+service-back One n = refl
+service-back Two n = refl
+service-back Five n = refl
+service-back Eleven n = one (leb (8 * n + 8) (11 * lengthField Eleven n))
+  where
+    one : (b : Bool) → serviceAllowed Eleven (128 * cond b 1 0) ≡ true
+    one true = refl
+    one false = refl
+
+module _ (k : Kind) (r : Rate) (n : ℕ) (goes : goesWith k r ≡ true) (low : 1 ≤ n) (high : n ≤ 4095) where
+  pub fields-back : fieldsOf k (codeOf r) (serviceField r n) (lengthField r n) ≡ Fields (told r (lengthField r n) n)
+  unfolding fieldsOf
+  fields-back =
+      rw (code-is r, rate-back r, goes, service-back r n, seven-back r n, length-holds r n low high, octets-back r n)
+
+-- the header's bits, cut
+cut : (k : Kind) (s v l : ℕ) (sfd : List ℕ)
+    → headerOf k sfd (headerBits s v l)
+    ≡ cond (not (eqb (numberOf sfd) (sfdOf k))) (Refused Sfd)
+    (cond (not (sameBits (crcBits (fieldBits s v l)) (crcBits (fieldBits s v l)))) (Refused Crc)
+    (fieldsOf k (numberOf (bitsOf 8 s)) (numberOf (bitsOf 8 v)) (numberOf (bitsOf 16 l))))
+unfolding headerOf headerBits fieldBits bitsOf
+cut k s v l sfd = refl
+
+sfd-back : (k : Kind) → numberOf (bitsOf 16 (sfdOf k)) ≡ sfdOf k
+sfd-back Long = number-bits 16 0xF3A0 (omega arith)
+sfd-back Short = number-bits 16 0x05CF (omega arith)
+
+-- any three fields that fit, with their CRC and the SFD of the kind, are the fields read
+pub fields-read : (k : Kind) (s v l : ℕ) → s < 256 → v < 256 → l < 65536
+    → headerOf k (bitsOf 16 (sfdOf k)) (headerBits s v l) ≡ fieldsOf k s v l
+fields-read k s v l hs hv hl =
+    cut k s v l (bitsOf 16 (sfdOf k))
+    ∙ rw (
+      eq-eqb _ _ (sfd-back k),
+      same-refl (crcBits (fieldBits s v l)),
+      number-bits 8 s hs,
+      number-bits 8 v hv,
+      number-bits 16 l hl,
+    )
+
+length-lt : (r : Rate) (n : ℕ) → n ≤ 4095 → lengthField r n < 65536
+length-lt One n h = omega arith
+length-lt Two n h = omega arith
+length-lt Five n h = omega arith
+length-lt Eleven n h = omega arith
+
+service-lt : (r : Rate) (n : ℕ) → serviceField r n < 256
+service-lt r n = omega (arith, bit7-lt r n)
+
+pub header-back : (k : Kind) (r : Rate) (n : ℕ) → goesWith k r ≡ true → 1 ≤ n → n ≤ 4095
+    → headerOf k (bitsOf 16 (sfdOf k)) (sentHeader r n) ≡ Fields (told r (lengthField r n) n)
+unfolding sentHeader
+header-back k r n goes low high =
+    fields-read k (codeOf r) (serviceField r n) (lengthField r n) (code-small r) (service-lt r n) (length-lt r n high)
+    ∙ fields-back k r n goes low high

@@ -1,0 +1,54 @@
+-- What a header tells, from its bits: refusals 11 to 15, in this order (RULES 5.8 to 5.12, 6.4).
+-- Definitions only. Assumes nothing.
+use Prim.Native.Nat.{ℕ, _/_, _%_}
+use mathlib.Core.Bool.{Bool, true, false, cond, not, _&&_, _||_}
+use mathlib.Core.List.{List, [], _∷_}
+use lib.ListN.{take, drop}
+use lib.Dec.{eqb}
+use lib.IntN.{natAbs}
+use Rattle.rates.specs.declared.Rate.{Rate}
+use Rattle.rates.specs.declared.Rate.the-variants.{One, Two, Five, Eleven}
+use Rattle.rates.specs.Rates.{isCode, rateOf, octetsRead, lengthHolds}
+use Rattle.bits.specs.Bits.{numberOf}
+use Rattle.bits.specs.Crc.{crcBits}
+use Rattle.frame.specs.declared.Kind.{Kind}
+use Rattle.frame.specs.Frame.{sfdOf, goesWith}
+use Rattle.calls.specs.declared.Refusal.the-variants.{Sfd, Crc, Signal, Service, Length}
+use Rattle.calls.specs.declared.Told.{Told}
+use Rattle.calls.specs.declared.Front.{Front}
+use Rattle.calls.specs.declared.Front.the-variants as front
+
+-- 14: at 11 Mbit/s SERVICE is 0 or 128; at the other rates it is 0
+abbrev pub serviceAllowed : Rate → ℕ → Bool
+serviceAllowed One s = eqb s 0
+serviceAllowed Two s = eqb s 0
+serviceAllowed Five s = eqb s 0
+serviceAllowed Eleven s = eqb s 0 || eqb s 128
+
+-- two rows of bits are the same
+unfoldable pub sameBits : List ℕ → List ℕ → Bool
+sameBits [] [] = true
+sameBits [] (y ∷ ys) = false
+sameBits (x ∷ xs) [] = false
+sameBits (x ∷ xs) (y ∷ ys) = eqb x y && sameBits xs ys
+
+-- what a good header tells
+abbrev pub told : Rate → ℕ → ℕ → Told
+told r l n = record { rate = r; length = l; n = n }
+
+-- 13, 14, 15: from the three fields
+unfoldable pub fieldsOf : Kind → ℕ → ℕ → ℕ → Front
+fieldsOf k signal service l =
+    let r = rateOf signal in
+    let seven = service / 128 % 2 in
+    cond (not (isCode signal && goesWith k r)) (front.Refused (Signal l))
+    (cond (not (serviceAllowed r service)) (front.Refused (Service l))
+    (cond (not (lengthHolds r l seven)) (front.Refused (Length l))
+    (front.Fields (told r l (natAbs (octetsRead r l seven))))))
+
+-- 11 to 15: from the header's 48 bits and the SFD's sixteen. SYNC bits are not compared
+unfoldable pub headerOf : Kind → List ℕ → List ℕ → Front
+headerOf k sfd header =
+    cond (not (eqb (numberOf sfd) (sfdOf k))) (front.Refused Sfd)
+    (cond (not (sameBits (crcBits (take 32 header)) (drop 32 header))) (front.Refused Crc)
+    (fieldsOf k (numberOf (take 8 header)) (numberOf (take 8 (drop 8 header))) (numberOf (take 16 (drop 16 header)))))

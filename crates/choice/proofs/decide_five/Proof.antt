@@ -1,0 +1,33 @@
+-- `choice::decide_five` meets its contract: the counts on both axes decide.
+-- Assumes nothing.
+use mathlib.Core.Path.{_≡_, sym, ap, _∙_, subst}
+use lib.ListN.{length}
+use borrow.Author.Needs.{needs}
+use Rattle.rates.specs.declared.Rate.the-variants.{Five}
+use Rattle.axes.specs.declared.Axis.the-variants.{I, Q}
+use Rattle.symbols.specs.Choice.{decided}
+use Rattle.choosing.specs.Scores.{RowWithin}
+use Rattle.sums.specs.Sums.{rows}
+use Rattle.sums.proofs.Apart.{counts-small, counts-eight}
+use Rattle.choice.proofs.decide_five.Statement.{statement}
+use Rattle.choice.proofs.decide_five.Tie as tie
+
+decide-requires : tie.Need-decide-requires
+decide-requires c κs =
+    let chips = c .before .before .args .chips in (
+      subst (RowWithin 8192) (sym (c .before .soft-counts8 .ensures)) (counts-small I chips),
+      subst (RowWithin 8192) (sym (c .soft-counts82 .ensures)) (counts-small Q chips),
+    )
+
+returns : tie.Need-returns
+returns c =
+    let second = c .before in
+    let chips = second .before .before .args .chips in
+    let eight : length chips ≡ 8 = search needs in
+    c .decide .ensures
+    ∙ (λ i. decided Five (rows (second .before .soft-counts8 .ensures i) (second .soft-counts82 .ensures i)))
+    ∙ ap (decided Five) (counts-eight chips eight)
+
+pub decide-five-spec : {M : Type 1} → statement M
+decide-five-spec =
+    tie.close (tie.spec (λ c κs. search needs) (λ c κs. search needs) decide-requires returns)

@@ -1,0 +1,81 @@
+// A hard recording: a row of octets, 0 to 3 a phase, 4 lost, 5 to 255 unusable. Each loop over symbols gathers a
+// symbol's chips in an array that dissolves in it.
+ghost use mathlib.Core.Path.{_≡_};
+ghost use mathlib.Core.Bool.{true, not};
+ghost use Prim.Native.Nat.{_+_, _*_, _<_, _≤_};
+ghost use lib.ListN.{length, getD};
+ghost use Rattle.chips.specs.Chips.{unusable, isUnusable, hardRecording};
+ghost use Rattle.recorded.specs.Recorded.{hardPart, AllUsable, DecidedAt};
+use chips::Chip;
+use rates::Rate;
+
+// Whether the chip at a place is usable.
+pub fn usable_at(octets: &[u8], at: usize) -> bool
+    requires { ⌜ at < length (now octets) ⌝ }
+    ensures answer { λ r. ⌜ r ≡ not (isUnusable (getD (hardRecording (now (octets .entry))) at unusable)) ⌝ }
+{
+    octets[at] <= 4
+}
+
+// Whether 64 chips from a place are usable: a test for skipping them, so only its yes says something.
+pub fn clean(octets: &[u8], at: usize) -> bool
+    requires { ⌜ at + 64 ≤ length (now octets) ⌝ }
+    ensures answer { λ r. ⌜ (r ≡ true → AllUsable (hardRecording (now (octets .entry))) at 64) ⌝ }
+{
+    let mut top: u8 = 0;
+    for k in 0..64 {
+        let x = octets[at + k];
+        top = if top < x { x } else { top };
+    }
+    top < 5
+}
+
+// The chips of a CCK symbol.
+pub fn eight(octets: &[u8], at: usize) -> [Chip; 8]
+    requires { ⌜ at + 8 ≤ length (now octets) ⌝ }
+    ensures answer { λ r. ⌜ r ≡ hardPart (now (octets .entry)) at 8 ⌝ }
+{
+    let mut chips = [Chip::Lost; 8];
+    for k in 0..8 {
+        chips[k] = counts::hard_chip(octets[at + k]);
+    }
+    chips
+}
+
+// The chips of a Barker symbol.
+fn eleven(octets: &[u8], at: usize) -> [Chip; 11]
+    requires { ⌜ at + 11 ≤ length (now octets) ⌝ }
+    ensures answer { λ r. ⌜ r ≡ hardPart (now (octets .entry)) at 11 ⌝ }
+{
+    let mut chips = [Chip::Lost; 11];
+    for k in 0..11 {
+        chips[k] = counts::hard_chip(octets[at + k]);
+    }
+    chips
+}
+
+// m Barker symbols from a place.
+pub fn barkers(octets: &[u8], at: usize, m: usize, numbers: &mut [u8; 64])
+    requires { ⌜ (m ≤ 64) × (at + 11 * m ≤ length (now octets))
+        × AllUsable (hardRecording (now octets)) at (11 * m) × (length (now numbers) ≡ 64) ⌝ }
+    ensures numbers { λ _. ⌜ DecidedAt Rate.One (hardRecording (now (octets .entry))) at m (now (numbers .exit)) ⌝ }
+{
+    let mut l: usize = 0;
+    while l < m {
+        numbers[l] = units::decide_barker(eleven(octets, at + 11 * l));
+        l += 1;
+    }
+}
+
+// m symbols of 5.5 Mbit/s from a place.
+pub fn fives(octets: &[u8], at: usize, m: usize, numbers: &mut [u8; 64])
+    requires { ⌜ (m ≤ 64) × (at + 8 * m ≤ length (now octets))
+        × AllUsable (hardRecording (now octets)) at (8 * m) × (length (now numbers) ≡ 64) ⌝ }
+    ensures numbers { λ _. ⌜ DecidedAt Rate.Five (hardRecording (now (octets .entry))) at m (now (numbers .exit)) ⌝ }
+{
+    let mut l: usize = 0;
+    while l < m {
+        numbers[l] = units::decide_five(eight(octets, at + 8 * l));
+        l += 1;
+    }
+}

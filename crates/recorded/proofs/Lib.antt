@@ -1,0 +1,4 @@
+pub mod Blocks
+pub mod Gathered
+pub mod Search
+pub mod Usable

@@ -1,0 +1,44 @@
+-- A place found or not, parts of rows, chips that are usable, and symbols decided in blocks of up to 64.
+-- Definitions only. Assumes nothing.
+use Prim.Native.Nat.{ℕ, _+_, _*_, _<_}
+use mathlib.Core.Path.{_≡_}
+use mathlib.Core.Bool.{false}
+use mathlib.Core.List.{List, map}
+use mathlib.Core.Option.{Option, none, some}
+use lib.ListN.{length, getD, take, drop}
+use lib.Ieee.{Float, nan}
+use Rattle.base.specs.Tables.{tabulate}
+use Rattle.rates.specs.declared.Rate.{Rate}
+use Rattle.rates.specs.Rates.{symbolChips}
+use Rattle.chips.specs.declared.Counts.{Counts}
+use Rattle.chips.specs.declared.Chip.{Chip}
+use Rattle.chips.specs.declared.Chip.the-variants as chip
+use Rattle.chips.specs.Chips.{Taken, unusable, isUnusable, takenCounts, hardChip}
+use Rattle.symbols.specs.Choice.{decided}
+use Rattle.recorded.specs.declared.Found.{Found}
+use Rattle.recorded.specs.declared.Found.the-variants.{Nothing, At}
+
+-- a place found, as the definitions of reading have it
+abbrev pub whereFound : Found → Option ℕ
+whereFound Nothing = none
+whereFound (At place) = some place
+
+-- n chips of a row of octets from a place, and of two rows of f32
+abbrev pub hardPart : List ℕ → ℕ → ℕ → List Chip
+hardPart xs at n = tabulate (λ j. hardChip (getD xs (at + j) 0)) n
+
+abbrev pub softPart : List Float → List Float → ℕ → ℕ → List Chip
+softPart xs ys at n = tabulate (λ j. chip.Soft (record { i = getD xs (at + j) nan; q = getD ys (at + j) nan })) n
+
+-- the counts of the symbol whose chips start at a place
+abbrev pub symbolAt : Rate → List Taken → ℕ → List Counts
+symbolAt r rec at = map takenCounts (take (symbolChips r) (drop at rec))
+
+-- the n chips from a place are usable
+pub record AllUsable (rec : List Taken) (at n : ℕ) : Type 0 where
+  pub each : (k : ℕ) → k < n → isUnusable (getD rec (at + k) unusable) ≡ false
+
+-- the first m of 64 numbers are those that m symbols from a place are decided as; of the others nothing is said
+pub record DecidedAt (r : Rate) (rec : List Taken) (at m : ℕ) (numbers : List ℕ) : Type 0 where
+  pub long : length numbers ≡ 64
+  pub number : (l : ℕ) → l < m → getD numbers l 0 ≡ decided r (symbolAt r rec (at + symbolChips r * l))

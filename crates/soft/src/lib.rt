@@ -1,0 +1,97 @@
+// A soft recording: two rows of f32, I and Q, as far as both go. Each loop over symbols gathers a symbol's chips in an
+// array that dissolves in it.
+ghost use mathlib.Core.Path.{_≡_};
+ghost use mathlib.Core.Bool.{true, not};
+ghost use Prim.Native.Nat.{_+_, _*_, _<_, _≤_};
+ghost use lib.ListN.{length, getD};
+ghost use Rattle.chips.specs.Chips.{unusable, isUnusable, softRecording};
+ghost use Rattle.recorded.specs.Recorded.{softPart, AllUsable, DecidedAt};
+use chips::Chip;
+use chips::Sample;
+use rates::Rate;
+
+// Whether the chip at a place is usable.
+pub fn usable_at(i: &[f32], q: &[f32], at: usize) -> bool
+    requires { ⌜ (at < length (now i)) × (at < length (now q)) ⌝ }
+    ensures answer { λ r. ⌜ r ≡
+        not (isUnusable (getD (softRecording (now (i .entry)) (now (q .entry))) at unusable)) ⌝ }
+{
+    let s = Sample { i: i[at], q: q[at] };
+    counts::usable_sample(s)
+}
+
+// Whether 64 chips from a place are usable: a test for skipping them, so only its yes says something.
+pub fn clean(i: &[f32], q: &[f32], at: usize) -> bool
+    requires { ⌜ (at + 64 ≤ length (now i)) × (at + 64 ≤ length (now q)) ⌝ }
+    ensures answer { λ r. ⌜ (r ≡ true → AllUsable (softRecording (now (i .entry)) (now (q .entry))) at 64) ⌝ }
+{
+    let mut ok = true;
+    for k in 0..64 {
+        let s = Sample {
+            i: i[at + k],
+            q: q[at + k],
+        };
+        ok = ok & counts::usable_sample(s);
+    }
+    ok
+}
+
+// The chips of a CCK symbol.
+pub fn eight(i: &[f32], q: &[f32], at: usize) -> [Chip; 8]
+    requires { ⌜ (at + 8 ≤ length (now i)) × (at + 8 ≤ length (now q)) ⌝ }
+    ensures answer { λ r. ⌜ r ≡ softPart (now (i .entry)) (now (q .entry)) at 8 ⌝ }
+{
+    let mut chips = [Chip::Lost; 8];
+    for k in 0..8 {
+        let s = Sample {
+            i: i[at + k],
+            q: q[at + k],
+        };
+        chips[k] = Chip::Soft(s);
+    }
+    chips
+}
+
+// The chips of a Barker symbol.
+fn eleven(i: &[f32], q: &[f32], at: usize) -> [Chip; 11]
+    requires { ⌜ (at + 11 ≤ length (now i)) × (at + 11 ≤ length (now q)) ⌝ }
+    ensures answer { λ r. ⌜ r ≡ softPart (now (i .entry)) (now (q .entry)) at 11 ⌝ }
+{
+    let mut chips = [Chip::Lost; 11];
+    for k in 0..11 {
+        let s = Sample {
+            i: i[at + k],
+            q: q[at + k],
+        };
+        chips[k] = Chip::Soft(s);
+    }
+    chips
+}
+
+// m Barker symbols from a place.
+pub fn barkers(i: &[f32], q: &[f32], at: usize, m: usize, numbers: &mut [u8; 64])
+    requires { ⌜ (m ≤ 64) × (at + 11 * m ≤ length (now i)) × (at + 11 * m ≤ length (now q))
+        × AllUsable (softRecording (now i) (now q)) at (11 * m) × (length (now numbers) ≡ 64) ⌝ }
+    ensures numbers { λ _. ⌜ DecidedAt Rate.One (softRecording (now (i .entry)) (now (q .entry))) at m
+        (now (numbers .exit)) ⌝ }
+{
+    let mut l: usize = 0;
+    while l < m {
+        numbers[l] = choice::decide_barker(eleven(i, q, at + 11 * l));
+        l += 1;
+    }
+}
+
+// m symbols of 5.5 Mbit/s from a place.
+pub fn fives(i: &[f32], q: &[f32], at: usize, m: usize, numbers: &mut [u8; 64])
+    requires { ⌜ (m ≤ 64) × (at + 8 * m ≤ length (now i)) × (at + 8 * m ≤ length (now q))
+        × AllUsable (softRecording (now i) (now q)) at (8 * m) × (length (now numbers) ≡ 64) ⌝ }
+    ensures numbers { λ _. ⌜ DecidedAt Rate.Five (softRecording (now (i .entry)) (now (q .entry))) at m
+        (now (numbers .exit)) ⌝ }
+{
+    let mut l: usize = 0;
+    while l < m {
+        numbers[l] = choice::decide_five(eight(i, q, at + 8 * l));
+        l += 1;
+    }
+}

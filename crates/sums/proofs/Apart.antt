@@ -1,0 +1,125 @@
+-- A symbol's chips on each axis: how large their counts are, and what is decided by them; the same of hard chips in
+-- full chips, which decide as their counts do.
+-- Assumes nothing.
+use mathlib.Core.Path.{_≡_, refl, sym, ap, _∙_}
+use mathlib.Core.List.{List, [], _∷_, map}
+use Prim.Native.Nat.{ℕ, zero, suc}
+use lib.Dec.{lit≤}
+use lib.ListN.{length, getD, List·getD-map}
+use lib.IntN.{ℤ, pos}
+use Rattle.base.specs.Whole.{up, dn, Within}
+use Rattle.base.proofs.Tables.{tabulate-ext, map-tabulate}
+use Rattle.rates.specs.declared.Rate.{Rate}
+use Rattle.rates.specs.declared.Rate.the-variants.{One, Five}
+use Rattle.axes.specs.declared.Axis.{Axis}
+use Rattle.axes.specs.declared.Axis.the-variants.{I, Q}
+use Rattle.chips.specs.declared.Counts.{Counts}
+use Rattle.chips.specs.declared.Chip.{Chip}
+use Rattle.chips.specs.declared.Chip.the-variants.{Lost}
+use Rattle.chips.specs.Chips.{pair, nothing, fullChip, countsOf}
+use Rattle.chips.specs.Bounds.{Bounded}
+use Rattle.axes.specs.Axes.{along, unitOf, octetOf, AllHard}
+use Rattle.chips.proofs.Bounds.{counts-within}
+use Rattle.axes.proofs.Axes.{hard-counts}
+use Rattle.symbols.specs.Choice.{decided}
+use Rattle.choosing.specs.Scores.{RowWithin}
+use Rattle.sums.specs.Sums.{bySigns, bestOfSums, rows}
+use Rattle.sums.proofs.Signs.{sums-decided}
+use Rattle.sums.proofs.Scaled.{Times, decided-times}
+
+-- ---- whatever is counted of a chip, nothing of a lost one
+module _ (f : Chip → Counts) (none : f Lost ≡ nothing) where
+  abbrev rowOn : Axis → List Chip → List ℤ
+  rowOn x chips = map (λ c. along x (f c)) chips
+
+  along-none : (x : Axis) → along x (f Lost) ≡ pos 0
+  along-none I = ap (λ (c : Counts). c .i) none
+  along-none Q = ap (λ (c : Counts). c .q) none
+
+  count-at : (x : Axis) (chips : List Chip) (k : ℕ) → getD (rowOn x chips) k (pos 0) ≡ along x (f (getD chips k Lost))
+  count-at x chips k =
+      ap (λ (z : ℤ). getD (rowOn x chips) k z) (sym (along-none x)) ∙ List·getD-map (λ c. along x (f c)) chips k Lost
+
+  row-small : (b : ℕ) → ((c : Chip) → Bounded b (f c)) → (x : Axis) (chips : List Chip) → RowWithin b (rowOn x chips)
+  row-small b h x chips = record { at = λ k. rw (count-at x chips k) (one x (getD chips k Lost)) }
+    where
+      one : (y : Axis) (c : Chip) → Within b (along y (f c))
+      one I c = h c .real
+      one Q c = h c .imag
+
+  map-along : (x : Axis) (chips : List Chip) → rowOn x chips ≡ map (along x) (map f chips)
+  map-along x [] = refl
+  map-along x (c ∷ chips) = ap (λ (r : List ℤ). along x (f c) ∷ r) (map-along x chips)
+
+  -- a Barker symbol by its two sums
+  by-sums : (chips : List Chip)
+      → bestOfSums (bySigns (rowOn I chips)) (bySigns (rowOn Q chips)) ≡ decided One (map f chips)
+  by-sums chips =
+      (λ i. bestOfSums (bySigns (map-along I chips i)) (bySigns (map-along Q chips i))) ∙ sums-decided (map f chips)
+
+  -- eight chips by their two rows
+  by-rows : (chips : List Chip) → length chips ≡ 8 → rows (rowOn I chips) (rowOn Q chips) ≡ map f chips
+  by-rows chips e =
+      tabulate-ext (λ k. pair (getD (rowOn I chips) k (pos 0)) (getD (rowOn Q chips) k (pos 0)))
+      (λ k. f (getD chips k Lost)) 8 (λ k l i. pair (count-at I chips k i) (count-at Q chips k i))
+      ∙ sym (map-tabulate f chips 8 Lost e)
+
+-- ---- counts
+pub counts-small : (x : Axis) (chips : List Chip) → RowWithin 8192 (rowOn countsOf refl x chips)
+counts-small = row-small countsOf refl 8192 counts-within
+
+pub counts-barker : (chips : List Chip)
+    → bestOfSums (bySigns (rowOn countsOf refl I chips)) (bySigns (rowOn countsOf refl Q chips))
+    ≡ decided One (map countsOf chips)
+counts-barker = by-sums countsOf refl
+
+pub counts-eight : (chips : List Chip) → length chips ≡ 8
+    → rows (rowOn countsOf refl I chips) (rowOn countsOf refl Q chips) ≡ map countsOf chips
+counts-eight = by-rows countsOf refl
+
+-- ---- full chips
+unit-within : (p : ℕ) → Bounded 1 (fullChip 1 p)
+unfolding up dn
+unit-within zero = record {
+  real = record { high = lit≤ tt; low = lit≤ tt };
+  imag =
+      record { high = lit≤ tt; low = lit≤ tt };
+}
+unit-within (suc zero) =
+    record { real = record { high = lit≤ tt; low = lit≤ tt }; imag = record { high = lit≤ tt; low = lit≤ tt } }
+unit-within (suc (suc zero)) =
+    record { real = record { high = lit≤ tt; low = lit≤ tt }; imag = record { high = lit≤ tt; low = lit≤ tt } }
+unit-within (suc (suc (suc zero))) =
+    record { real = record { high = lit≤ tt; low = lit≤ tt }; imag = record { high = lit≤ tt; low = lit≤ tt } }
+unit-within (suc (suc (suc (suc p)))) =
+    record { real = record { high = lit≤ tt; low = lit≤ tt }; imag = record { high = lit≤ tt; low = lit≤ tt } }
+
+pub units-small : (x : Axis) (chips : List Chip) → RowWithin 1 (rowOn unitOf refl x chips)
+units-small = row-small unitOf refl 1 (λ c. unit-within (octetOf c))
+
+full-times : (p : ℕ) → Times (fullChip 1024 p) (fullChip 1 p)
+full-times zero = record { real = refl; imag = refl }
+full-times (suc zero) = record { real = refl; imag = refl }
+full-times (suc (suc zero)) = record { real = refl; imag = refl }
+full-times (suc (suc (suc zero))) = record { real = refl; imag = refl }
+full-times (suc (suc (suc (suc p)))) = record { real = refl; imag = refl }
+
+-- usable hard chips decide by full chips what they decide by counts
+units-decided : (n : ℕ) (r : Rate) (chips : List Chip) → length chips ≡ n → AllHard n chips
+    → decided r (map unitOf chips) ≡ decided r (map countsOf chips)
+units-decided n r chips e h =
+    sym (decided-times (λ c. fullChip 1024 (octetOf c)) unitOf (λ c. full-times (octetOf c)) r chips)
+    ∙ ap (decided r)
+    (map-tabulate (λ c. fullChip 1024 (octetOf c)) chips n Lost e
+    ∙ tabulate-ext (λ k. fullChip 1024 (octetOf (getD chips k Lost))) (λ k. countsOf (getD chips k Lost)) n
+    (λ k l. hard-counts (getD chips k Lost) (h .at k l))
+    ∙ sym (map-tabulate countsOf chips n Lost e))
+
+pub units-barker : (chips : List Chip) → length chips ≡ 11 → AllHard 11 chips
+    → bestOfSums (bySigns (rowOn unitOf refl I chips)) (bySigns (rowOn unitOf refl Q chips))
+    ≡ decided One (map countsOf chips)
+units-barker chips e h = by-sums unitOf refl chips ∙ units-decided 11 One chips e h
+
+pub units-five : (chips : List Chip) → length chips ≡ 8 → AllHard 8 chips
+    → decided Five (rows (rowOn unitOf refl I chips) (rowOn unitOf refl Q chips)) ≡ decided Five (map countsOf chips)
+units-five chips e h = ap (decided Five) (by-rows unitOf refl chips e) ∙ units-decided 8 Five chips e h

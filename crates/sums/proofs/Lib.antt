@@ -1,0 +1,8 @@
+pub mod Apart
+pub mod Crossed
+pub mod Eight
+pub mod Four
+pub mod KeyTops
+pub mod Scaled
+pub mod Signs
+pub mod Wide

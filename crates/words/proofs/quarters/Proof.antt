@@ -1,0 +1,16 @@
+-- `words::quarters` meets its contract: it computes. Assumes nothing.
+use mathlib.Core.Path.{refl}
+use borrow.Author.Needs.{needs}
+use Rattle.words.specs.Octets.{quarters}
+use Rattle.words.proofs.quarters.Statement.{statement}
+use Rattle.words.proofs.quarters.Tie as tie
+
+returns : tie.Need-returns
+unfolding quarters
+returns c = refl
+
+pub quarters-spec : {M : Type 1} → statement M
+quarters-spec =
+    tie.close
+    (tie.spec (λ c. search needs) (λ c. search needs) (λ c. search needs) (λ c. search needs) (λ c. search needs)
+    (λ c. search needs) (λ c. search needs) (λ c. search needs) returns)
