@@ -15,7 +15,7 @@ pub enum Axis {
 }
 
 // The octet of a chip of a hard recording: the inverse of `hard_chip`; 4 of a soft one.
-pub fn octet_of(c: Chip) -> u8
+fn octet_of(c: Chip) -> u8
     ensures answer { λ r. ⌜ r ≡ octetOf c ⌝ }
 {
     match c {
@@ -26,7 +26,7 @@ pub fn octet_of(c: Chip) -> u8
 }
 
 // The sample of a soft chip.
-pub fn sample_of(c: Chip) -> Sample
+fn sample_of(c: Chip) -> Sample
     requires { ⌜ T (softUsable c) ⌝ }
     ensures answer { λ r. ⌜ c ≡ Chip.Soft r ⌝ }
 {

@@ -35,7 +35,7 @@ pub fn usable_sample(s: Sample) -> bool
 }
 
 // The counts of a soft sample, field by field; (0, 0) of one that is not usable.
-pub fn quantise(s: Sample) -> Counts
+fn quantise(s: Sample) -> Counts
     ensures answer { λ r. ⌜ r ≡ countsOf (Chip.Soft s) ⌝ }
 {
     if usable_sample(s) {
@@ -55,7 +55,7 @@ pub fn hard_chip(x: u8) -> Chip
 }
 
 // The counts of a full chip at phase p; (0, 0) of a number that is no phase.
-pub fn hard_counts(p: u8) -> Counts
+fn hard_counts(p: u8) -> Counts
     ensures answer { λ r. ⌜ r ≡ fullChip 1024 p ⌝ }
 {
     match p {
@@ -68,7 +68,7 @@ pub fn hard_counts(p: u8) -> Counts
 }
 
 // The counts of a recorded chip.
-pub fn counts_of(c: Chip) -> Counts
+fn counts_of(c: Chip) -> Counts
     ensures answer { λ r. ⌜ r ≡ countsOf c ⌝ }
 {
     match c {

@@ -17,7 +17,7 @@ pub mod payload;
 
 // A recording of any recorder, whose rows agree or not: 1, 7, 8, then 9 and 10 over the front, 11 to 17, then 9 and 10
 // over the payload. Octets past the payload, and all after a refusal, are 0.
-pub fn read(
+fn read(
     kind: u64,
     agree: bool,
     rec: Recorder,

@@ -77,7 +77,7 @@ fn choose(i: i8, q: i8) -> u8
 }
 
 // The phase decided by eleven chips, I and Q apart.
-pub fn barker(i: [i8; 11], q: [i8; 11]) -> u8
+fn barker(i: [i8; 11], q: [i8; 11]) -> u8
     requires { ⌜ RowWithin 1 i × RowWithin 1 q ⌝ }
     ensures answer { λ r. ⌜ r ≡ bestOfSums (bySigns i) (bySigns q) ⌝ }
 {
@@ -127,7 +127,7 @@ fn largest(h: [i8; 8]) -> u8
 }
 
 // The word decided by eight chips, I and Q apart.
-pub fn five(i: [i8; 8], q: [i8; 8]) -> u8
+fn five(i: [i8; 8], q: [i8; 8]) -> u8
     requires { ⌜ RowWithin 1 i × RowWithin 1 q ⌝ }
     ensures answer { λ r. ⌜ r ≡ decided Rate.Five (rows i q) ⌝ }
 {

@@ -18,7 +18,7 @@ pub const FIVE: [[u8; 8]; 4] = [
 ];
 
 // The Barker symbol with phase p.
-pub fn barker_word(p: u8) -> [u8; 11]
+fn barker_word(p: u8) -> [u8; 11]
     ensures answer { λ r. ⌜ r ≡ barkerWord p ⌝ }
 {
     let mut word = [0u8; 11];
