@@ -1,17 +1,28 @@
--- The worked values of RULES 2.6 and 2.4, computed from the definitions: each float by its bit pattern, each octet
--- by what it is taken as. One statement a table.
+-- The worked values of RULES 2.6, 2.4 and 2.8, computed from the definitions: each float by its bit pattern, each octet
+-- and byte by what it is taken as. One statement a table.
 -- Assumes nothing.
 use mathlib.Core.Path.{_≡_, refl}
 use mathlib.Core.Bool.{Bool, true, false}
 use mathlib.Core.List.{List, [], _∷_, _++_, map}
-use Prim.Native.Nat.{ℕ, _^_}
+use Prim.Native.Nat.{ℕ, _*_, _^_}
 use lib.ListN.{replicate}
-use lib.IntN.{ℤ, pos, negℤ}
+use lib.IntN.{ℤ, pos, negℤ, _-ℤ_}
 use lib.Ieee.{Float, binary32, ofBits}
 use Rattle.base.specs.Tables.{tabulate}
 use Rattle.chips.specs.declared.Chip.the-variants.{Soft}
 use Rattle.chips.specs.Floats.{steps, usable, nearest, countOf}
-use Rattle.chips.specs.Chips.{pair, nothing, exactOf, unusable, counted, hardTaken, softRecording}
+use Rattle.chips.specs.Chips.{
+  pair,
+  nothing,
+  exactOf,
+  unusable,
+  counted,
+  hardTaken,
+  softRecording,
+  byteCounts,
+  byteExact,
+  byteRecording,
+}
 
 -- the count of a bit pattern, and whether it is usable
 unfoldable pub patternCount : ℕ → ℤ
@@ -86,3 +97,34 @@ SoftExact =
 pub soft-exact : SoftExact
 unfolding ofBits steps
 soft-exact = refl
+
+-- a row of bytes: I first, 16 times, down to -128; the seventh byte is no chip
+abbrev pub ByteRow : Type 0
+ByteRow =
+    byteRecording
+    (pos 64 ∷ negℤ (pos 128) ∷ pos 1 ∷ negℤ (pos 1) ∷ pos 127 ∷ pos 0 ∷ negℤ (pos 64) ∷ [])
+    ≡ counted (pair (pos 1024) (negℤ (pos 2048)))
+    ∷ counted (pair (pos 16) (negℤ (pos 16)))
+    ∷ counted (pair (pos 2032) (pos 0))
+    ∷ []
+
+pub byte-row : ByteRow
+unfolding byteRecording
+byte-row = refl
+
+-- every byte, from -128 to 127: as I and as Q 16 times itself
+abbrev pub ByteTable : Type 0
+ByteTable =
+    tabulate (λ k. byteCounts (pos k -ℤ pos 128) (pos 127 -ℤ pos k)) 256
+    ≡ tabulate (λ k. pair (pos (16 * k) -ℤ pos 2048) (pos 2032 -ℤ pos (16 * k))) 256
+
+pub byte-table : ByteTable
+unfolding tabulate
+byte-table = refl
+
+-- the exact value of the bytes 64 and -1, in steps of 2^-149
+abbrev pub ByteExactly : Type 0
+ByteExactly = byteExact (pos 64) (negℤ (pos 1)) ≡ pair (pos (2 ^ 149)) (negℤ (pos (2 ^ 143)))
+
+pub byte-exactly : ByteExactly
+byte-exactly = refl

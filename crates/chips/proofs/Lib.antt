@@ -6,3 +6,4 @@ pub mod Meaning
 pub mod Bounds
 pub mod Recorders
 pub mod Facts
+pub mod Bytes

@@ -131,18 +131,27 @@ drop-soft (suc n) [] ys = refl
 drop-soft (suc n) (x ∷ xs) [] = sym (soft-none (drop n xs))
 drop-soft (suc n) (x ∷ xs) (y ∷ ys) = drop-soft n xs ys
 
--- ---- a part of w chips from a place: its counts are those of the chips recorded there
+-- ---- a part of w chips from a place: its counts are those that stand there
+pub part-counts : (rec : List Taken) (counts : ℕ → Counts) (place w : ℕ) → place + w ≤ length rec
+    → ((k : ℕ) → k < length rec → takenCounts (getD rec k unusable) ≡ counts k)
+    → map takenCounts (take w (drop place rec)) ≡ tabulate (λ j. counts (place + j)) w
+part-counts rec counts place w h f =
+    map-tabulate takenCounts (take w (drop place rec)) w unusable
+    (length-take-le w (drop place rec) (omega (arith, length-drop place rec)))
+    ∙ tabulate-ext (λ k. takenCounts (getD (take w (drop place rec)) k unusable)) (λ k. counts (place + k)) w
+    (λ k l. ap takenCounts (getD-take w (drop place rec) k unusable l ∙ getD-drop place rec k unusable)
+    ∙ f (place + k) (omega arith))
+
+-- those of the chips recorded there
 pub part : (rec : List Taken) (chip : ℕ → Chip) (place w : ℕ) → place + w ≤ length rec
     → ((k : ℕ) → k < length rec → takenCounts (getD rec k unusable) ≡ countsOf (chip k))
     → map takenCounts (take w (drop place rec)) ≡ map countsOf (tabulate (λ j. chip (place + j)) w)
 part rec chip place w h f =
     let cs = tabulate (λ j. chip (place + j)) w in
-    map-tabulate takenCounts (take w (drop place rec)) w unusable
-    (length-take-le w (drop place rec) (omega (arith, length-drop place rec)))
-    ∙ tabulate-ext (λ k. takenCounts (getD (take w (drop place rec)) k unusable)) (λ k. countsOf (getD cs k Lost)) w
-    (λ k l. ap takenCounts (getD-take w (drop place rec) k unusable l ∙ getD-drop place rec k unusable)
-    ∙ f (place + k) (omega arith) ∙ ap countsOf (sym (getD-tabulate (λ j. chip (place + j)) w k Lost l)))
-    ∙ sym (map-tabulate countsOf cs w Lost (length-tabulate (λ j. chip (place + j)) w))
+    part-counts rec (λ k. countsOf (chip k)) place w h f
+    ∙ sym (map-tabulate countsOf cs w Lost (length-tabulate (λ j. chip (place + j)) w)
+    ∙ tabulate-ext (λ k. countsOf (getD cs k Lost)) (λ k. countsOf (chip (place + k))) w
+    (λ k l. ap countsOf (getD-tabulate (λ j. chip (place + j)) w k Lost l)))
 
 pub part-hard : (xs : List ℕ) (place w : ℕ) → place + w ≤ length xs
     → map takenCounts (take w (drop place (hardRecording xs)))

@@ -1,11 +1,11 @@
--- Recorded chips, their counts and exact values, and what a recorder makes of its rows (RULES 2.1 to 2.7).
+-- Recorded chips, their counts and exact values, and what a recorder makes of its rows (RULES 2.1 to 2.8).
 -- Definitions only. Assumes nothing.
 use Prim.Native.Nat.{ℕ, _+_, _%_, _^_}
 use mathlib.Core.Bool.{Bool, true, false, cond, _&&_}
 use mathlib.Core.List.{List, [], _∷_, map}
 use lib.ListN.{getD}
 use lib.Dec.{leb, eqb}
-use lib.IntN.{ℤ, pos, negℤ}
+use lib.IntN.{ℤ, pos, negℤ, _*ℤ_}
 use lib.Ieee.{Float}
 use Rattle.chips.specs.declared.Sample.{Sample}
 use Rattle.chips.specs.declared.Counts.{Counts}
@@ -83,3 +83,18 @@ unfoldable pub softRecording : List Float → List Float → List Taken
 softRecording [] ys = []
 softRecording (x ∷ xs) [] = []
 softRecording (x ∷ xs) (y ∷ ys) = softTaken x y ∷ softRecording xs ys
+
+-- A byte recording is signed bytes, I and Q in turn, I first; a full chip is 64. A byte counts exactly 16 times, and no
+-- chip is unusable
+abbrev pub byteCounts : ℤ → ℤ → Counts
+byteCounts x y = pair (pos 16 *ℤ x) (pos 16 *ℤ y)
+
+-- its exact value: a 64th of a full chip is 2^143 steps
+abbrev pub byteExact : ℤ → ℤ → Counts
+byteExact x y = pair (pos (2 ^ 143) *ℤ x) (pos (2 ^ 143) *ℤ y)
+
+-- two bytes are a chip, as far as whole chips go: an odd number of bytes is refused before any chip is looked at
+unfoldable pub byteRecording : List ℤ → List Taken
+byteRecording [] = []
+byteRecording (x ∷ []) = []
+byteRecording (x ∷ y ∷ bytes) = counted (byteCounts x y) ∷ byteRecording bytes

@@ -10,12 +10,7 @@ use mir.Syntax.{Width}
 use mir.Val.{SFits, toZ, ofZ, hbits}
 use mir.Facts.{toZ-ofZ}
 use Rattle.base.specs.Whole.{up, dn, Within}
-use Rattle.base.proofs.Whole.{add, neg-up, neg-dn, up-pos, dn-pos, same, within-add, within-neg}
-
-pub fits-at : (w : Width) {b : ℕ} {z : ℤ} → Within b z → b < 2 ^ hbits w → SFits w z
-unfolding up dn
-fits-at w {z = pos n} h k = record { sfits = omega (arith, h .high) }
-fits-at w {z = negsuc n} h k = record { sfits = omega (arith, h .low) }
+use Rattle.base.proofs.Whole.{add, neg-up, neg-dn, up-pos, dn-pos, same, fits-at, within-add, within-neg}
 
 -- the bits s stand for z, which is from -b to b
 pub record Reads (w : Width) (b s : ℕ) (z : ℤ) : Type 0 where

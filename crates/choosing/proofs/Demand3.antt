@@ -1,7 +1,7 @@
 -- Demand 3. Where each count of a symbol is at most so many steps from the exact value, a score is at most as many for
 -- each chip from the exact score, and two scores are off by at most twice that together. Assumes nothing.
 use mathlib.Core.Path.{_≡_, sym, ap, _∙_, subst}
-use mathlib.Core.List.{List, [], _∷_, map}
+use mathlib.Core.List.{List, [], _∷_}
 use Prim.Native.Nat.{ℕ, zero, suc, _+_, _*_, _^_, _<_}
 use native.Mathlib.Nat.{mul-add, mul-comm}
 use native.Mathlib.Omega.{arith}
@@ -11,9 +11,7 @@ use lib.ListN.{length, getD}
 use lib.Signed.{_≤ℤ_}
 use Rattle.rates.specs.Rates.{symbolChips}
 use Rattle.chips.specs.declared.Counts.{Counts}
-use Rattle.chips.specs.declared.Chip.{Chip}
-use Rattle.chips.specs.declared.Chip.the-variants.{Lost}
-use Rattle.chips.specs.Chips.{nothing, exactOf}
+use Rattle.chips.specs.Chips.{nothing}
 use Rattle.symbols.specs.Words.{wordOf}
 use Rattle.symbols.specs.Choice.{numbers, isAllowed, decided}
 use Rattle.symbols.proofs.Words.{word-length}
@@ -36,31 +34,30 @@ use Rattle.choosing.proofs.Near.{
 abbrev count : ℕ
 count = 2 ^ 139
 
-off-chip : {half : ℕ} {c : Counts} {chip : Chip} → Apart half c chip → OffChip count half c (exactOf chip)
+off-chip : {half : ℕ} {c e : Counts} → Apart half c e → OffChip count half c e
 off-chip a = record { real = off-within count _ _ (a .real); imag = off-within count _ _ (a .imag) }
 
-off-all : {half : ℕ} (m : ℕ) (counts : List Counts) (chips : List Chip) → length counts ≡ m → length chips ≡ m
-    → ((j : ℕ) → j < m → Apart half (getD counts j nothing) (getD chips j Lost))
-    → OffAll count half counts (map exactOf chips)
+off-all : {half : ℕ} (m : ℕ) (counts exact : List Counts) → length counts ≡ m → length exact ≡ m
+    → ((j : ℕ) → j < m → Apart half (getD counts j nothing) (getD exact j nothing)) → OffAll count half counts exact
 off-all m [] [] d e a = none
-off-all m [] (x ∷ chips) d e a = absurd (omega arith)
+off-all m [] (x ∷ exact) d e a = absurd (omega arith)
 off-all m (c ∷ counts) [] d e a = absurd (omega arith)
-off-all zero (c ∷ counts) (x ∷ chips) d e a = absurd (omega arith)
-off-all (suc m) (c ∷ counts) (x ∷ chips) d e a =
+off-all zero (c ∷ counts) (x ∷ exact) d e a = absurd (omega arith)
+off-all (suc m) (c ∷ counts) (x ∷ exact) d e a =
     more (off-chip (a 0 (omega arith)))
-    (off-all m counts chips (omega arith) (omega arith) (λ j h. a (suc j) (omega arith)))
+    (off-all m counts exact (omega arith) (omega arith) (λ j h. a (suc j) (omega arith)))
 
 -- an error for each chip, twice
 twice : (h n : ℕ) → h * n + h * n ≡ n * (2 * h)
 twice h n = (λ i. mul-comm h n i + mul-comm h n i) ∙ sym (mul-add n h h) ∙ ap (λ (x : ℕ). n * x) (omega arith)
 
 pub demand-3 : Demand3
-demand-3 half r counts chips d e a = record {
+demand-3 half r counts exact d e a = record {
   among = best .among;
   allowed = best .allowed;
   none-above = above;
   leader-chosen = λ n h t lead.
-      leader-chosen error (isAllowed r) (exactAt r chips) (best .among) (best .allowed) n (above n h t) lead;
+      leader-chosen error (isAllowed r) (exactAt r exact) (best .among) (best .allowed) n (above n h t) lead;
 }
   where
     error : ℕ
@@ -69,13 +66,13 @@ demand-3 half r counts chips d e a = record {
     best : DecidedAs r counts (decided r counts)
     best = decided-best r counts
 
-    off : (n : ℕ) → Off count (half * symbolChips r) (scoreAt r counts n) (exactAt r chips n)
+    off : (n : ℕ) → Off count (half * symbolChips r) (scoreAt r counts n) (exactAt r exact n)
     off n =
-        subst (λ (l : ℕ). Off count (half * l) (scoreAt r counts n) (exactAt r chips n)) (word-length r n)
-        (off-score count (wordOf r n) (off-all (symbolChips r) counts chips d e a))
+        subst (λ (l : ℕ). Off count (half * l) (scoreAt r counts n) (exactAt r exact n)) (word-length r n)
+        (off-score count (wordOf r n) (off-all (symbolChips r) counts exact d e a))
 
     above : (n : ℕ) → n < numbers r → T (isAllowed r n)
-        → exactAt r chips n ≤ℤ (exactAt r chips (decided r counts) +ℤ pos error)
+        → exactAt r exact n ≤ℤ (exactAt r exact (decided r counts) +ℤ pos error)
     above n h t =
-        subst (λ (x : ℕ). exactAt r chips n ≤ℤ (exactAt r chips (decided r counts) +ℤ pos x))
+        subst (λ (x : ℕ). exactAt r exact n ≤ℤ (exactAt r exact (decided r counts) +ℤ pos x))
         (twice half (symbolChips r)) (none-above count (half * symbolChips r) best off n h t)

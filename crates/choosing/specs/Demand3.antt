@@ -3,7 +3,7 @@
 -- them, 1/1024 of a full chip. RULES 1.4 (3), 3.8. Definitions only. Assumes nothing.
 use Prim.Native.Nat.{ℕ, _*_, _<_}
 use mathlib.Core.Path.{_≡_}
-use mathlib.Core.List.{List, map}
+use mathlib.Core.List.{List}
 use lib.ListN.{length, getD}
 use lib.Dec.{T}
 use lib.IntN.{ℤ, pos, _+ℤ_}
@@ -12,40 +12,38 @@ use Rattle.base.specs.Whole.{Within}
 use Rattle.rates.specs.declared.Rate.{Rate}
 use Rattle.rates.specs.Rates.{symbolChips}
 use Rattle.chips.specs.declared.Counts.{Counts}
-use Rattle.chips.specs.declared.Chip.{Chip}
-use Rattle.chips.specs.declared.Chip.the-variants.{Lost}
-use Rattle.chips.specs.Chips.{nothing, exactOf}
+use Rattle.chips.specs.Chips.{nothing}
 use Rattle.chips.specs.Bounds.{offBy}
 use Rattle.symbols.specs.Words.{wordOf}
 use Rattle.symbols.specs.Choice.{score, numbers, isAllowed, decided}
 
--- the exact score of the word with number n
-abbrev pub exactAt : Rate → List Chip → ℕ → ℤ
-exactAt r chips n = score (wordOf r n) (map exactOf chips)
+-- the exact score of the word with number n, over chips' exact values
+abbrev pub exactAt : Rate → List Counts → ℕ → ℤ
+exactAt r exact n = score (wordOf r n) exact
 
 -- The word with number `w` is right up to an error of so many steps: it is allowed; (a) no allowed word's exact score
 -- is above its own by more; (b) an allowed word whose exact score is above that of every other allowed one by more is
 -- it.
-pub record RightUpTo (error : ℕ) (r : Rate) (chips : List Chip) (w : ℕ) : Type 0 where
+pub record RightUpTo (error : ℕ) (r : Rate) (exact : List Counts) (w : ℕ) : Type 0 where
   pub among : w < numbers r
   pub allowed : T (isAllowed r w)
   pub none-above : (n : ℕ) → n < numbers r → T (isAllowed r n)
-      → exactAt r chips n ≤ℤ (exactAt r chips w +ℤ pos error)
+      → exactAt r exact n ≤ℤ (exactAt r exact w +ℤ pos error)
   pub leader-chosen : (n : ℕ) → n < numbers r → T (isAllowed r n)
       → ((m : ℕ) → m < numbers r → T (isAllowed r m) → (m ≡ n → ⊥)
-      → (exactAt r chips m +ℤ pos error) <ℤ exactAt r chips n)
+      → (exactAt r exact m +ℤ pos error) <ℤ exactAt r exact n)
       → w ≡ n
 
 -- counts are at most `half` steps from a recorded chip's exact value, in I and in Q
-pub record Apart (half : ℕ) (c : Counts) (chip : Chip) : Type 0 where
-  pub real : Within half (offBy (c .i) (exactOf chip .i))
-  pub imag : Within half (offBy (c .q) (exactOf chip .q))
+pub record Apart (half : ℕ) (c e : Counts) : Type 0 where
+  pub real : Within half (offBy (c .i) (e .i))
+  pub imag : Within half (offBy (c .q) (e .q))
 
 -- where the counts of a symbol are so, the word decided from them is right up to twice `half` for each chip: half a
 -- count makes it 8/1024, or 11/1024 for Barker; no error of the counts leaves none
 abbrev pub Demand3 : Type 0
 Demand3 =
-    (half : ℕ) (r : Rate) (counts : List Counts) (chips : List Chip) → length counts ≡ symbolChips r
-    → length chips ≡ symbolChips r
-    → ((j : ℕ) → j < symbolChips r → Apart half (getD counts j nothing) (getD chips j Lost))
-    → RightUpTo (symbolChips r * (2 * half)) r chips (decided r counts)
+    (half : ℕ) (r : Rate) (counts exact : List Counts) → length counts ≡ symbolChips r
+    → length exact ≡ symbolChips r
+    → ((j : ℕ) → j < symbolChips r → Apart half (getD counts j nothing) (getD exact j nothing))
+    → RightUpTo (symbolChips r * (2 * half)) r exact (decided r counts)

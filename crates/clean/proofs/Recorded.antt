@@ -1,10 +1,10 @@
--- Written chips, recorded hard or as exact soft pairs, are a clean recording. A hard phase and an exact pair come to
--- the counts of a full chip: the first by computing, the second since only one count is nearest to a value. Assumes
--- nothing.
+-- Written chips, recorded hard, as exact soft pairs or as bytes, are a clean recording. A hard phase, two bytes and an
+-- exact pair come to the counts of a full chip: the first two by computing, the last since only one count is nearest to
+-- a value. Assumes nothing.
 use mathlib.Core.Path.{_≡_, refl, sym, ap, ap₂, subst}
 use mathlib.Core.Bool.{Bool, true, false, cond}
 use mathlib.Core.List.{List, [], _∷_, _++_}
-use Prim.Native.Nat.{ℕ, zero, suc, _+_, _^_, _<_, _≤_}
+use Prim.Native.Nat.{ℕ, zero, suc, _+_, _*_, _^_, _<_, _≤_}
 use native.Mathlib.Omega.{arith}
 use lib.Dec.{T, lit≤}
 use lib.ListN.{length, take}
@@ -24,15 +24,16 @@ use Rattle.chips.specs.Chips.{
   exactOf,
   hardTaken,
   softTaken,
+  byteCounts,
   hardRecording,
   softRecording,
+  byteRecording,
 }
 use Rattle.chips.proofs.Meaning.{no-other}
 use Rattle.base.specs.Below.{Below}
 use Rattle.base.proofs.Below.{below-head, below-tail}
 use Rattle.base.proofs.Tests.{both-left, both-right}
-use Rattle.clean.specs.Clean.{cleanTaken, cleanRecording}
-use Rattle.clean.specs.Clean.{Exactly, none, more}
+use Rattle.clean.specs.Clean.{cleanTaken, cleanRecording, Exactly, none, more, byteRow}
 
 -- ---- hard
 hard-clean : (p : ℕ) → p < 4 → hardTaken p ≡ cleanTaken p
@@ -56,6 +57,27 @@ hard-take zero chips h = refl
 hard-take (suc j) [] h = refl
 hard-take (suc j) (p ∷ chips) h =
     ap₂ {C = List Taken} (λ x xs. x ∷ xs) (hard-clean p (below-head h)) (hard-take j chips (below-tail h))
+
+-- ---- bytes
+byte-clean : (p : ℕ) → counted (byteCounts (fullChip 64 p .i) (fullChip 64 p .q)) ≡ cleanTaken p
+byte-clean zero = refl
+byte-clean (suc zero) = refl
+byte-clean (suc (suc zero)) = refl
+byte-clean (suc (suc (suc zero))) = refl
+byte-clean (suc (suc (suc (suc p)))) = refl
+
+pub byte-recorded : (chips : List ℕ) (tail : List ℤ)
+    → byteRecording (byteRow chips ++ tail) ≡ cleanRecording chips ++ byteRecording tail
+unfolding byteRow byteRecording cleanRecording
+byte-recorded [] tail = refl
+byte-recorded (p ∷ chips) tail =
+    ap₂ {C = List Taken} (λ x xs. x ∷ xs) (byte-clean p) (byte-recorded chips tail)
+
+-- two bytes a chip
+pub byte-row-length : (chips : List ℕ) → length (byteRow chips) ≡ 2 * length chips
+unfolding byteRow
+byte-row-length [] = refl
+byte-row-length (p ∷ chips) = let h = byte-row-length chips in omega arith
 
 -- ---- soft
 is-count : (x : Float) (m k : ℤ) → T (usable x) → valueOf x ≡ m → Nearest m k → countOf x ≡ k

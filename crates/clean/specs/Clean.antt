@@ -1,10 +1,11 @@
--- Clean recordings: chips as they were sent, whatever recorded them; and soft rows that hold them exactly (RULES 1.4
--- (2), 2.3, 2.5). Definitions only. Assumes nothing.
+-- Clean recordings: chips as they were sent, whatever recorded them; and soft rows and bytes that hold them exactly
+-- (RULES 1.4 (2), 2.3, 2.5, 2.8). Definitions only. Assumes nothing.
 use Prim.Native.Nat.{ℕ, _^_}
 use mathlib.Core.Path.{_≡_}
 use mathlib.Core.List.{List, [], _∷_, map}
 use lib.Dec.{T}
 use lib.ListN.{getD}
+use lib.IntN.{ℤ}
 use lib.Ieee.{Float, binary32, ofBits}
 use Rattle.chips.specs.declared.Sample.{Sample}
 use Rattle.chips.specs.declared.Chip.the-variants.{Soft}
@@ -32,3 +33,8 @@ softI z p = ofBits binary32 (getD (0x3f80_0000 ∷ z ∷ 0xbf80_0000 ∷ z ∷ [
 
 abbrev pub softQ : ℕ → ℕ → Float
 softQ z p = ofBits binary32 (getD (z ∷ 0x3f80_0000 ∷ z ∷ 0xbf80_0000 ∷ []) p z)
+
+-- bytes that hold chips as 64, -64 and 0, I first
+unfoldable pub byteRow : List ℕ → List ℤ
+byteRow [] = []
+byteRow (p ∷ ps) = fullChip 64 p .i ∷ fullChip 64 p .q ∷ byteRow ps

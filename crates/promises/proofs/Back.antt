@@ -1,9 +1,10 @@
--- Demand 2 from the contracts: what the writer left is read back, hard or as exact soft pairs; with too little room, or
--- cut, it is refused as stated. The laws of clean frames (crate `clean`) say how they are read. Assumes nothing.
+-- Demand 2 from the contracts: what the writer left is read back, hard, as exact soft pairs or as bytes; with too
+-- little room, or cut, it is refused as stated. The laws of clean frames (crate `clean`) say how they are read.
+-- Assumes nothing.
 use mathlib.Core.Path.{_≡_, refl, sym, ap, ap₂, _∙_, subst}
 use mathlib.Core.Bool.{Bool, true}
 use mathlib.Core.List.{List, _++_}
-use Prim.Native.Nat.{ℕ, _+_, _-_, _*_, _≤_, _<_}
+use Prim.Native.Nat.{ℕ, _+_, _-_, _*_, _%_, _≤_, _<_}
 use native.Mathlib.Omega.{arith}
 use borrow.Author.Tests.{eq-eqb, le-ltb}
 use lib.Dec.{eqb}
@@ -12,7 +13,7 @@ use lib.Seq.{take-at, take-append-le}
 use Rattle.rates.specs.declared.Rate.{Rate}
 use Rattle.rates.specs.Rates.{codeOf, isCode, rateOf, octetChips, lengthField}
 use Rattle.rates.proofs.Lengths.{is-payload}
-use Rattle.chips.specs.Chips.{Taken, hardRecording, softRecording}
+use Rattle.chips.specs.Chips.{Taken, hardRecording, softRecording, byteRecording}
 use Rattle.frame.specs.declared.Kind.{Kind}
 use Rattle.frame.specs.Frame.{isKind, kindOf, goesWith, frontChips, frame, frameChips}
 use Rattle.frame.proofs.Sizes.{frame-length}
@@ -21,11 +22,20 @@ use Rattle.calls.specs.declared.Written.{Written}
 use Rattle.calls.specs.declared.Record.{Record}
 use Rattle.calls.specs.Answers.{writtenOf, recordOf}
 use Rattle.calls.specs.Writing.{writingOf, chipsAfter, chipsWritten}
-use Rattle.clean.specs.Clean.{cleanRecording}
-use Rattle.clean.proofs.Recorded.{hard-recorded, soft-recorded, rows-agree, hard-take}
+use Rattle.clean.specs.Clean.{cleanRecording, byteRow}
+use Rattle.clean.proofs.Recorded.{hard-recorded, soft-recorded, rows-agree, byte-recorded, byte-row-length, hard-take}
 use Rattle.clean.proofs.Back as clean
 use Rattle.promises.specs.Calls.{Read, Goes, long-1, long-2, long-5, long-11, short-2, short-5, short-11, Sent}
-use Rattle.promises.specs.Promises.{good, refused, lengthOf, WrittenFrame, ReadBack, ReadBackSoft, NotReadBack}
+use Rattle.promises.specs.Promises.{
+  good,
+  refused,
+  lengthOf,
+  WrittenFrame,
+  ReadBack,
+  ReadBackSoft,
+  ReadBackBytes,
+  NotReadBack,
+}
 
 -- what the seven pairs of kind and rate are by the definitions
 pub record Known (kind rate front octet : ℕ) : Type 0 where
@@ -189,6 +199,18 @@ read-back-soft kind rate phase payload w chips s i q i′ q′ room a left e g f
     ∙ sym (length-append q q′) in
     back kind rate phase payload w chips s (softRecording i′ q′) (softRecording (i ++ i′) (q ++ q′)) rec
     (eqb (length (i ++ i′)) (length (q ++ q′))) room a left (eq-eqb (length (i ++ i′)) (length (q ++ q′)) same) f h
+
+pub read-back-bytes : ReadBackBytes
+read-back-bytes kind rate phase payload w chips s tail room a left even f h =
+    let row = byteRow (take (w .chips) chips) in
+    let rec : byteRecording (row ++ tail)
+    ≡ cleanRecording (frame (kindOf kind) (rateOf rate) phase payload) ++ byteRecording tail =
+    byte-recorded (take (w .chips) chips) tail
+    ∙ ap (λ (x : List ℕ). cleanRecording x ++ byteRecording tail) (taken kind rate phase payload w chips s) in
+    let same : length (row ++ tail) % 2 ≡ 0 =
+    omega (arith, length-append row tail, byte-row-length (take (w .chips) chips), even) in
+    back kind rate phase payload w chips s (byteRecording tail) (byteRecording (row ++ tail)) rec
+    (eqb (length (row ++ tail) % 2) 0) room a left (eq-eqb (length (row ++ tail) % 2) 0 same) f h
 
 pub not-read-back : NotReadBack
 not-read-back kind rate phase payload w chips s room a left = (

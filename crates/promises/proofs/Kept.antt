@@ -5,10 +5,11 @@ use Rattle.chips.proofs.Meaning.{counted}
 use Rattle.clean.proofs.Rows.{soft-rows}
 use Rattle.promises.specs.Promises.{OneAnswer, Promised}
 use Rattle.promises.proofs.Fills.{write-fills, read-fills}
-use Rattle.promises.proofs.Only.{only-sent, only-readable, rows-refused}
-use Rattle.promises.proofs.Back.{written-frame, read-back, read-back-soft, not-read-back}
+use Rattle.promises.proofs.Only.{only-sent, only-readable, rows-refused, odd-bytes-refused}
+use Rattle.promises.proofs.Never.{seven-only, no-byte-unusable}
+use Rattle.promises.proofs.Back.{written-frame, read-back, read-back-soft, read-back-bytes, not-read-back}
 use Rattle.promises.proofs.Source.{one-source}
-use Rattle.promises.proofs.Right.{recorded-right, hard-right, soft-right}
+use Rattle.promises.proofs.Right.{recorded-right, hard-right, soft-right, bytes-right}
 
 -- each contract is an equation with a definition
 pub one-answer : OneAnswer
@@ -24,9 +25,13 @@ kept = (
   only-sent,
   only-readable,
   rows-refused,
+  odd-bytes-refused,
+  seven-only,
+  no-byte-unusable,
   written-frame,
   read-back,
   read-back-soft,
+  read-back-bytes,
   not-read-back,
   one-source,
   soft-rows,
@@ -34,6 +39,7 @@ kept = (
   recorded-right,
   hard-right,
   soft-right,
+  bytes-right,
   one-answer,
   table-p,
 )

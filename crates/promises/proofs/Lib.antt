@@ -1,6 +1,9 @@
 pub mod Fills
 pub mod Only
+pub mod Never
 pub mod Back
 pub mod Source
 pub mod Right
+pub mod Answered
+pub mod Uses
 pub mod Kept

@@ -42,7 +42,7 @@ use Rattle.reading.specs.Reading.{
   readingOf,
 }
 use Rattle.promises.specs.Calls.{Goes, long-1, long-2, long-5, long-11, short-2, short-5, short-11, Sent}
-use Rattle.promises.specs.Only.{OnlySent, Readable, OnlyReadable, RowsRefused}
+use Rattle.promises.specs.Only.{OnlySent, Readable, OnlyReadable, RowsRefused, OddBytesRefused}
 use Rattle.promises.proofs.Fills.{some-number, branch, elsewise}
 
 -- ---- tests
@@ -262,3 +262,9 @@ pub rows-refused : RowsRefused
 unfolding readingOf
 rows-refused kind i q room a left h differ read =
     read .answer ∙ simp (lt-ltb kind 2 h, ne-eqb (length i) (length q) differ)
+
+-- ---- bytes of an odd number
+pub odd-bytes-refused : OddBytesRefused
+unfolding readingOf
+odd-bytes-refused kind bytes room a left h odd read =
+    read .answer ∙ simp (lt-ltb kind 2 h, ne-eqb (length bytes % 2) 0 (λ e. omega arith))

@@ -1,6 +1,6 @@
 -- Demand 3 over a whole reading: each word of a part is decided from the counts taken at its place, and those are near
--- the chips recorded there, so demand 3's law of one symbol holds of it. Once for every part and recorder; hard and
--- soft recordings keep their chips. Assumes nothing.
+-- the exact values recorded there, so demand 3's law of one symbol holds of it. Once for every part and recorder; hard,
+-- soft and byte recordings keep their chips. Assumes nothing.
 use mathlib.Core.Path.{_≡_, refl, sym, ap, _∙_, subst}
 use mathlib.Core.Bool.{Bool, true, false, not, cond, _&&_}
 use mathlib.Core.List.{List, [], _∷_, map}
@@ -11,13 +11,14 @@ use borrow.Author.Tests.{le-leb}
 use lib.Dec.{T, eqb}
 use lib.ListN.{length, getD, take, drop, length-drop, length-map, List·getD-map}
 use lib.Seq.{drop-drop, length-take-le, getD-take, getD-drop}
+use lib.IntN.{ℤ}
 use lib.Ieee.{Float, nan}
 use Rattle.base.proofs.Whole.{within-zero}
 use Rattle.rates.specs.declared.Rate.{Rate}
 use Rattle.rates.specs.declared.Rate.the-variants.{One, Two, Five, Eleven}
 use Rattle.rates.specs.Rates.{symbolChips, symbolBits, octetChips}
 use Rattle.rates.proofs.Octets.{part-symbols, part-chips}
-use Rattle.chips.specs.declared.Chip.{Chip}
+use Rattle.chips.specs.declared.Counts.{Counts}
 use Rattle.chips.specs.declared.Chip.the-variants.{Lost, Hard, Soft}
 use Rattle.chips.specs.Floats.{usable}
 use Rattle.chips.specs.Chips.{
@@ -28,13 +29,17 @@ use Rattle.chips.specs.Chips.{
   nothing,
   usableSample,
   countsOf,
+  exactOf,
   hardChip,
   hardTaken,
   hardRecording,
   softTaken,
   softRecording,
+  byteRecording,
 }
+use Rattle.chips.specs.Bounds.{Exact}
 use Rattle.chips.proofs.Bounds.{soft-near, hard-exact, lost-exact}
+use Rattle.chips.proofs.Bytes.{bytes-usable, byte-exact}
 use Rattle.chips.proofs.Recorders.{sample, taken-hard, taken-soft, unusable-hard, unusable-soft}
 use Rattle.symbols.specs.Choice.{decided}
 use Rattle.choosing.specs.Demand3.{RightUpTo, Apart}
@@ -49,9 +54,12 @@ use Rattle.promises.specs.Right.{
   WholeRight,
   Keeps,
   RecordedRight,
+  exactHard,
   HardRight,
-  softChips,
+  exactSoft,
   SoftRight,
+  exactBytes,
+  BytesRight,
 }
 
 -- the j-th of m words
@@ -86,7 +94,7 @@ some-chips Two = omega arith
 some-chips Five = omega arith
 some-chips Eleven = omega arith
 
-module _ (half : ℕ) (chips : List Chip) (rec : List Taken) (keeps : Keeps half chips rec) (r : Rate) (m at : ℕ)
+module _ (half : ℕ) (exact : List Counts) (rec : List Taken) (keeps : Keeps half exact rec) (r : Rate) (m at : ℕ)
     (ok : (place : ℕ) → at ≤ place → place < at + m * symbolChips r → Usable rec place) where
   abbrev c : ℕ
   c = symbolChips r
@@ -110,22 +118,22 @@ module _ (half : ℕ) (chips : List Chip) (rec : List Taken) (keeps : Keeps half
         List·getD-map takenCounts (take c (drop from rec)) i unusable
         ∙ ap takenCounts (getD-take c (drop from rec) i unusable l ∙ getD-drop from rec i unusable)
 
-    chips-at : (i : ℕ) → i < c → getD (take c (drop from chips)) i Lost ≡ getD chips (from + i) Lost
-    chips-at i l = getD-take c (drop from chips) i Lost l ∙ getD-drop from chips i Lost
+    exact-at : (i : ℕ) → i < c → getD (take c (drop from exact)) i nothing ≡ getD exact (from + i) nothing
+    exact-at i l = getD-take c (drop from exact) i nothing l ∙ getD-drop from exact i nothing
 
-    one-right : RightUpTo (c * (2 * half)) r (symbolAt r at j chips)
+    one-right : RightUpTo (c * (2 * half)) r (symbolAt r at j exact)
         (decided r (map takenCounts (take c (drop from rec))))
     one-right =
-        demand-3 half r (map takenCounts (take c (drop from rec))) (take c (drop from chips))
+        demand-3 half r (map takenCounts (take c (drop from rec))) (take c (drop from exact))
         (length-map (take c (drop from rec)) takenCounts
         ∙ length-take-le c (drop from rec) (rw (length-drop from rec) (omega (arith, reaches))))
-        (length-take-le c (drop from chips)
-        (rw (length-drop from chips, keeps .as-long) (omega (arith, reaches))))
-        (λ i l. rw (counts-at i l, chips-at i l) (keeps .near (from + i) (usable-at i l)))
+        (length-take-le c (drop from exact)
+        (rw (length-drop from exact, keeps .as-long) (omega (arith, reaches))))
+        (λ i l. rw (counts-at i l, exact-at i l) (keeps .near (from + i) (usable-at i l)))
 
-  pub each-right : EachRight half r m at (decidedWords r m (drop at rec)) chips
+  pub each-right : EachRight half r m at (decidedWords r m (drop at rec)) exact
   each-right j h =
-      subst (RightUpTo (c * (2 * half)) r (symbolAt r at j chips))
+      subst (RightUpTo (c * (2 * half)) r (symbolAt r at j exact))
       (sym (word-at r m j (drop at rec) h
       ∙ ap (λ (l : List Taken). decided r (map takenCounts (take c l))) (drop-drop (j * c) at rec)))
       (one-right j h)
@@ -145,22 +153,22 @@ whole-symbols r n = mul-comm (8 * n / symbolBits r) (symbolChips r) ∙ rw (part
 
 pub recorded-right : RecordedRight
 unfolding preambleWords headerWords payloadWords
-recorded-right half chips rec keeps =
+recorded-right half exact rec keeps =
     record {
       preamble = λ k ok.
-          each-right half chips rec keeps One (preambleLength k) 0
+          each-right half exact rec keeps One (preambleLength k) 0
           (λ place g h. ok place (omega (arith, preamble-in k)));
       header = λ k ok.
-          each-right half chips rec keeps (headerRate k) (headerLength / symbolBits (headerRate k)) (preambleChips k)
+          each-right half exact rec keeps (headerRate k) (headerLength / symbolBits (headerRate k)) (preambleChips k)
           (λ place g h. ok place (omega (arith, header-in k)));
       payload = λ k r n ok.
-          each-right half chips rec keeps r (8 * n / symbolBits r) (frontChips k)
+          each-right half exact rec keeps r (8 * n / symbolBits r) (frontChips k)
           (λ place g h. ok place g (omega (arith, whole-symbols r n)));
     }
 
 -- ---- where other words say that chips are good
-where-good : {half : ℕ} {good better : ℕ → Type 0} {chips : List Chip} {rec : List Taken}
-    → ((place : ℕ) → better place → good place) → WholeRight half good chips rec → WholeRight half better chips rec
+where-good : {half : ℕ} {good better : ℕ → Type 0} {exact : List Counts} {rec : List Taken}
+    → ((place : ℕ) → better place → good place) → WholeRight half good exact rec → WholeRight half better exact rec
 where-good f w =
     record {
       preamble = λ k ok. w .preamble k (λ place h. f place (ok place h));
@@ -168,24 +176,28 @@ where-good f w =
       payload = λ k r n ok. w .payload k r n (λ place g h. f place (ok place g h));
     }
 
--- ---- hard recordings keep their chips exactly
-hard-apart : (x : ℕ) → Apart 0 (takenCounts (hardTaken x)) (hardChip x)
-hard-apart x = subst (λ t. Apart 0 t (hardChip x)) (sym (taken-hard x)) (go (eqb x 4))
-  where
-    go : (b : Bool) → Apart 0 (countsOf (cond b Lost (Hard x))) (cond b Lost (Hard x))
-    go true = record { real = rw (lost-exact .real) (within-zero 0); imag = rw (lost-exact .imag) (within-zero 0) }
-    go false = record { real = rw (hard-exact x .real) (within-zero 0); imag = rw (hard-exact x .imag) (within-zero 0) }
+-- ---- exact counts are no step apart
+exact-apart : {c e : Counts} → Exact c e → Apart 0 c e
+exact-apart e = record { real = rw (e .real) (within-zero 0); imag = rw (e .imag) (within-zero 0) }
 
-hard-keeps : (octets : List ℕ) → Keeps 0 (map hardChip octets) (hardRecording octets)
+-- ---- hard recordings keep their chips exactly
+hard-apart : (x : ℕ) → Apart 0 (takenCounts (hardTaken x)) (exactOf (hardChip x))
+hard-apart x = subst (λ t. Apart 0 t (exactOf (hardChip x))) (sym (taken-hard x)) (go (eqb x 4))
+  where
+    go : (b : Bool) → Apart 0 (countsOf (cond b Lost (Hard x))) (exactOf (cond b Lost (Hard x)))
+    go true = exact-apart lost-exact
+    go false = exact-apart (hard-exact x)
+
+hard-keeps : (octets : List ℕ) → Keeps 0 (exactHard octets) (hardRecording octets)
 unfolding hardRecording
 hard-keeps octets =
     record {
-      as-long = length-map octets hardChip ∙ sym (length-map octets hardTaken);
+      as-long = length-map octets (λ x. exactOf (hardChip x)) ∙ sym (length-map octets hardTaken);
       near = near octets;
     }
   where
     near : (octets : List ℕ) (place : ℕ) → Usable (map hardTaken octets) place
-        → Apart 0 (takenCounts (getD (map hardTaken octets) place unusable)) (getD (map hardChip octets) place Lost)
+        → Apart 0 (takenCounts (getD (map hardTaken octets) place unusable)) (getD (exactHard octets) place nothing)
     near [] place t = absurd t
     near (x ∷ octets) zero t = hard-apart x
     near (x ∷ octets) (suc place) t = near octets place t
@@ -208,23 +220,23 @@ soft-used x y t = go (usableSample (sample x y)) (isUnusable (softTaken x y)) (u
     go false v e t = subst (λ (b : Bool). T (not b)) e t
 
 soft-apart : (x y : Float) → T (not (isUnusable (softTaken x y)))
-    → Apart (2 ^ 138) (takenCounts (softTaken x y)) (Soft (sample x y))
+    → Apart (2 ^ 138) (takenCounts (softTaken x y)) (exactOf (Soft (sample x y)))
 soft-apart x y t =
     let near = soft-near (sample x y) (soft-used x y t) in
-    subst (λ t. Apart (2 ^ 138) t (Soft (sample x y))) (sym (taken-soft x y))
+    subst (λ t. Apart (2 ^ 138) t (exactOf (Soft (sample x y)))) (sym (taken-soft x y))
     (record { real = near .real; imag = near .imag })
 
-soft-keeps : (i q : List Float) → Keeps (2 ^ 138) (softChips i q) (softRecording i q)
-unfolding softChips softRecording
+soft-keeps : (i q : List Float) → Keeps (2 ^ 138) (exactSoft i q) (softRecording i q)
+unfolding exactSoft softRecording
 soft-keeps i q = record { as-long = as-long i q; near = near i q }
   where
-    as-long : (i q : List Float) → length (softChips i q) ≡ length (softRecording i q)
+    as-long : (i q : List Float) → length (exactSoft i q) ≡ length (softRecording i q)
     as-long [] q = refl
     as-long (x ∷ i) [] = refl
     as-long (x ∷ i) (y ∷ q) = ap suc (as-long i q)
 
     near : (i q : List Float) (place : ℕ) → Usable (softRecording i q) place
-        → Apart (2 ^ 138) (takenCounts (getD (softRecording i q) place unusable)) (getD (softChips i q) place Lost)
+        → Apart (2 ^ 138) (takenCounts (getD (softRecording i q) place unusable)) (getD (exactSoft i q) place nothing)
     near [] q place t = absurd t
     near (x ∷ i) [] place t = absurd t
     near (x ∷ i) (y ∷ q) zero t = soft-apart x y t
@@ -245,3 +257,26 @@ soft-good (x ∷ i) (y ∷ q) (suc place) u = soft-good i q place u
 
 pub soft-right : SoftRight
 soft-right i q = where-good (soft-good i q) (recorded-right (2 ^ 138) _ _ (soft-keeps i q))
+
+-- ---- byte recordings keep theirs exactly
+bytes-keep : (bytes : List ℤ) → Keeps 0 (exactBytes bytes) (byteRecording bytes)
+unfolding exactBytes byteRecording
+bytes-keep bytes = record { as-long = as-long bytes; near = near bytes }
+  where
+    as-long : (bytes : List ℤ) → length (exactBytes bytes) ≡ length (byteRecording bytes)
+    as-long [] = refl
+    as-long (x ∷ []) = refl
+    as-long (x ∷ y ∷ bytes) = ap suc (as-long bytes)
+
+    near : (bytes : List ℤ) (place : ℕ) → Usable (byteRecording bytes) place
+        → Apart 0 (takenCounts (getD (byteRecording bytes) place unusable)) (getD (exactBytes bytes) place nothing)
+    near [] place t = absurd t
+    near (x ∷ []) place t = absurd t
+    near (x ∷ y ∷ bytes) zero t = exact-apart (byte-exact x y)
+    near (x ∷ y ∷ bytes) (suc place) t = near bytes place t
+
+bytes-good : (bytes : List ℤ) (place : ℕ) → 2 * place + 1 < length bytes → Usable (byteRecording bytes) place
+bytes-good bytes place h = rw (bytes-usable bytes place (omega arith)) tt
+
+pub bytes-right : BytesRight
+bytes-right bytes = where-good (bytes-good bytes) (recorded-right 0 _ _ (bytes-keep bytes))

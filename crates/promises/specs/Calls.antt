@@ -1,14 +1,15 @@
 -- What the calls promise: the records that the contracts of crate dsss cite, so that what is proved of them is proved
 -- of the programs; and what is said of their inputs, in plain numbers (RULES 1.4, 5.2, 5.4, 5.8, 6, 9.1).
 -- Definitions only. Assumes nothing.
-use Prim.Native.Nat.{ℕ, _+_, _*_, _≤_, _<_}
+use Prim.Native.Nat.{ℕ, _+_, _*_, _%_, _≤_, _<_}
 use mathlib.Core.Path.{_≡_}
 use mathlib.Core.Bool.{Bool, true}
 use mathlib.Core.List.{List}
 use lib.Dec.{eqb}
 use lib.ListN.{length}
+use lib.IntN.{ℤ}
 use lib.Ieee.{Float}
-use Rattle.chips.specs.Chips.{Taken, hardRecording, softRecording}
+use Rattle.chips.specs.Chips.{Taken, hardRecording, softRecording, byteRecording}
 use Rattle.base.specs.Below.{Below}
 use Rattle.calls.specs.declared.Written.{Written}
 use Rattle.calls.specs.declared.Record.{Record}
@@ -26,12 +27,15 @@ pub record Read (kind : ℕ) (agree : Bool) (rec : List Taken) (room : ℕ) (a :
   pub answer : a ≡ recordOf (readingOf kind agree rec room)
   pub octets : left ≡ octetsFound kind agree rec room
 
--- the hard reader, and the soft one
+-- the hard reader, the soft one, and that of bytes
 abbrev pub ReadHard : ℕ → List ℕ → ℕ → Record → List ℕ → Type 0
 ReadHard kind chips room a left = Read kind true (hardRecording chips) room a left
 
 abbrev pub ReadSoft : ℕ → List Float → List Float → ℕ → Record → List ℕ → Type 0
 ReadSoft kind i q room a left = Read kind (eqb (length i) (length q)) (softRecording i q) room a left
+
+abbrev pub ReadBytes : ℕ → List ℤ → ℕ → Record → List ℕ → Type 0
+ReadBytes kind bytes room a left = Read kind (eqb (length bytes % 2) 0) (byteRecording bytes) room a left
 
 -- the kinds and the rates that go with them, each with the chips of its front and of an octet
 pub data Goes : ℕ → ℕ → ℕ → ℕ → Type 0 where

@@ -1,18 +1,19 @@
 -- Nothing else is accepted: an answer with number 0 is given only where RULES 5.2, 5.8, 5.10 and 6.4 allow it, said in
 -- plain numbers. A kind, a code, a length or a phase more that writer and reader agreed on would break this.
 -- Definitions only. Assumes nothing.
-use Prim.Native.Nat.{ℕ, _+_, _*_, _≤_, _<_}
+use Prim.Native.Nat.{ℕ, _+_, _*_, _%_, _≤_, _<_}
 use mathlib.Core.Path.{_≡_}
 use mathlib.Core.Bool.{Bool, true}
 use mathlib.Core.List.{List}
 use lib.ListN.{length}
+use lib.IntN.{ℤ}
 use lib.Ieee.{Float}
 use Rattle.base.specs.Below.{Below}
 use Rattle.rates.specs.Rates.{rateOf, lengthField}
 use Rattle.chips.specs.Chips.{Taken}
 use Rattle.calls.specs.declared.Written.{Written}
 use Rattle.calls.specs.declared.Record.{Record}
-use Rattle.promises.specs.Calls.{Wrote, Read, ReadSoft, Goes, Sent}
+use Rattle.promises.specs.Calls.{Wrote, Read, ReadHard, ReadSoft, ReadBytes, Goes, Sent}
 
 -- a write that answers 0 had a kind and a rate that goes with it, 1 to 4,095 octets, a phase, and room for the frame
 abbrev pub OnlySent : Type 0
@@ -38,9 +39,33 @@ OnlyReadable =
     (kind : ℕ) (agree : Bool) (rec : List Taken) (room : ℕ) (a : Record) (left : List ℕ)
     → Read kind agree rec room a left → a .number ≡ 0 → (agree ≡ true) × Readable kind (length rec) room a
 
--- soft rows that differ in length are refused with 7 under either kind, whatever is in them
+-- soft rows that differ in length, and bytes of an odd number, are refused with 7 under either kind, whatever is in
+-- them
+abbrev pub seven : Record
+seven = record { number = 7; place = 0; rate = 0; length = 0; n = 0; used = 0 }
+
 abbrev pub RowsRefused : Type 0
 RowsRefused =
     (kind : ℕ) (i q : List Float) (room : ℕ) (a : Record) (left : List ℕ) → kind < 2
-    → (length i ≡ length q → ⊥) → ReadSoft kind i q room a left
-    → a ≡ record { number = 7; place = 0; rate = 0; length = 0; n = 0; used = 0 }
+    → (length i ≡ length q → ⊥) → ReadSoft kind i q room a left → a ≡ seven
+
+abbrev pub OddBytesRefused : Type 0
+OddBytesRefused =
+    (kind : ℕ) (bytes : List ℤ) (room : ℕ) (a : Record) (left : List ℕ) → kind < 2
+    → length bytes % 2 ≡ 1 → ReadBytes kind bytes room a left → a ≡ seven
+
+-- and 7 is given there only: never for rows of one length, nor for an even number of bytes, nor for hard chips
+abbrev pub SevenOnly : Type 0
+SevenOnly =
+    ((kind : ℕ) (i q : List Float) (room : ℕ) (a : Record) (left : List ℕ) → ReadSoft kind i q room a left
+    → a .number ≡ 7 → length i ≡ length q → ⊥)
+    × ((kind : ℕ) (bytes : List ℤ) (room : ℕ) (a : Record) (left : List ℕ) → ReadBytes kind bytes room a left
+    → a .number ≡ 7 → length bytes % 2 ≡ 0 → ⊥)
+    × ((kind : ℕ) (chips : List ℕ) (room : ℕ) (a : Record) (left : List ℕ) → ReadHard kind chips room a left
+    → a .number ≡ 7 → ⊥)
+
+-- no reading of bytes answers 9
+abbrev pub NoByteUnusable : Type 0
+NoByteUnusable =
+    (kind : ℕ) (bytes : List ℤ) (room : ℕ) (a : Record) (left : List ℕ) → ReadBytes kind bytes room a left
+    → a .number ≡ 9 → ⊥

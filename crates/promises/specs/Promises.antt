@@ -4,12 +4,13 @@
 -- of reading takes its growths and bits from, the half a count and Table P of the definitions. proofs/Kept.antt proves
 -- all of it.
 -- Definitions only. Assumes nothing.
-use Prim.Native.Nat.{ℕ, _+_, _-_, _*_, _≤_, _<_}
+use Prim.Native.Nat.{ℕ, _+_, _-_, _*_, _%_, _≤_, _<_}
 use mathlib.Core.Path.{_≡_}
 use mathlib.Core.Bool.{Bool}
 use mathlib.Core.List.{List, _++_, map}
 use lib.ListN.{length, take, drop, replicate}
 use lib.Dec.{T}
+use lib.IntN.{ℤ}
 use lib.Ieee.{Float}
 use Rattle.base.specs.Below.{Below}
 use Rattle.rates.specs.Rates.{rateOf, lengthField}
@@ -19,10 +20,10 @@ use Rattle.calls.specs.declared.Written.{Written}
 use Rattle.calls.specs.declared.Record.{Record}
 use Rattle.frame.specs.Frame.{kindOf, frame}
 use Rattle.frame.specs.TableP.{TableP}
-use Rattle.clean.specs.Clean.{Exactly, softI, softQ}
-use Rattle.promises.specs.Calls.{Wrote, Read, ReadHard, ReadSoft, Sent}
-use Rattle.promises.specs.Right.{RecordedRight, HardRight, SoftRight}
-use Rattle.promises.specs.Only.{OnlySent, OnlyReadable, RowsRefused}
+use Rattle.clean.specs.Clean.{Exactly, softI, softQ, byteRow}
+use Rattle.promises.specs.Calls.{Wrote, Read, ReadHard, ReadSoft, ReadBytes, Sent}
+use Rattle.promises.specs.Right.{RecordedRight, HardRight, SoftRight, BytesRight}
+use Rattle.promises.specs.Only.{OnlySent, OnlyReadable, RowsRefused, OddBytesRefused, SevenOnly, NoByteUnusable}
 
 -- ---- demand 1: fills. The buffers keep their length; after a refusal only the fill, after a good answer the fill
 -- to the end
@@ -89,6 +90,15 @@ SoftRows =
     → Exactly phases (map (softI 0) phases) (map (softQ 0) phases)
     × Exactly phases (map (softI 0x8000_0000) phases) (map (softQ 0x8000_0000) phases)
 
+-- the same from bytes that hold the written chips as 64, -64 and 0, whatever chips follow
+abbrev pub ReadBackBytes : Type 0
+ReadBackBytes =
+    (kind rate phase : ℕ) (payload : List ℕ) (w : Written) (chips : List ℕ) → Sent kind rate phase payload w chips
+    → (tail : List ℤ) (room : ℕ) (a : Record) (left : List ℕ) → length tail % 2 ≡ 0
+    → ReadBytes kind (byteRow (take (w .chips) chips) ++ tail) room a left → length payload ≤ room
+    → (a ≡ good rate (lengthOf rate payload) (length payload) (w .chips))
+    × (left ≡ payload ++ replicate (room - length payload) 0)
+
 -- with too little room: 17; cut inside the payload: 16, whatever the room; cut inside the front: 8
 abbrev pub NotReadBack : Type 0
 NotReadBack =
@@ -123,6 +133,6 @@ OneAnswer =
 -- ---- all of it
 abbrev pub Promised : Type 0
 Promised =
-    WriteFills × ReadFills × OnlySent × OnlyReadable × RowsRefused
-    × WrittenFrame × ReadBack × ReadBackSoft × NotReadBack × OneSource
-    × SoftRows × HalfACount × RecordedRight × HardRight × SoftRight × OneAnswer × TableP
+    WriteFills × ReadFills × OnlySent × OnlyReadable × RowsRefused × OddBytesRefused × SevenOnly × NoByteUnusable
+    × WrittenFrame × ReadBack × ReadBackSoft × ReadBackBytes × NotReadBack × OneSource
+    × SoftRows × HalfACount × RecordedRight × HardRight × SoftRight × BytesRight × OneAnswer × TableP

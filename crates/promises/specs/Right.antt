@@ -1,6 +1,7 @@
 -- Demand 3 over a whole reading, once for every recorder (RULES 1.4 (3), 2.3 to 2.6): every word that the front and the
 -- payload are read from is right up to twice what a count may be off, for each chip of its symbol. Soft counts are off
--- by at most half a count, which is 2^138 steps of 2^-149: 8/1024 in all, 11/1024 for Barker. Hard ones are exact.
+-- by at most half a count, which is 2^138 steps of 2^-149: 8/1024 in all, 11/1024 for Barker. Hard ones and those of
+-- bytes are exact.
 -- Definitions only. Assumes nothing.
 use Prim.Native.Nat.{ℕ, _+_, _*_, _/_, _^_, _≤_, _<_}
 use mathlib.Core.Path.{_≡_}
@@ -8,66 +9,93 @@ use mathlib.Core.Bool.{not}
 use mathlib.Core.List.{List, [], _∷_, map}
 use lib.ListN.{length, getD, take, drop}
 use lib.Dec.{T}
+use lib.IntN.{ℤ}
 use lib.Ieee.{Float, nan}
 use Rattle.rates.specs.declared.Rate.{Rate}
 use Rattle.rates.specs.declared.Rate.the-variants.{One}
 use Rattle.rates.specs.Rates.{symbolChips, symbolBits}
-use Rattle.chips.specs.declared.Chip.{Chip}
-use Rattle.chips.specs.declared.Chip.the-variants.{Lost, Soft}
+use Rattle.chips.specs.declared.Counts.{Counts}
+use Rattle.chips.specs.declared.Chip.the-variants.{Soft}
 use Rattle.chips.specs.Floats.{usable}
-use Rattle.chips.specs.Chips.{Taken, unusable, isUnusable, takenCounts, hardChip, hardRecording, softRecording}
+use Rattle.chips.specs.Chips.{
+  nothing,
+  exactOf,
+  Taken,
+  unusable,
+  isUnusable,
+  takenCounts,
+  hardChip,
+  hardRecording,
+  softRecording,
+  byteExact,
+  byteRecording,
+}
 use Rattle.choosing.specs.Demand3.{RightUpTo, Apart}
 use Rattle.frame.specs.declared.Kind.{Kind}
 use Rattle.frame.specs.Frame.{headerRate, frontChips, frameChips, preambleLength, headerLength, preambleChips}
 use Rattle.reading.specs.Reading.{preambleWords, headerWords, payloadWords}
 use Rattle.clean.specs.Clean.{sampleOf}
 
--- the recorded chips of the j-th symbol of a part that starts at place `at`
-abbrev pub symbolAt : Rate → ℕ → ℕ → List Chip → List Chip
-symbolAt r at j chips = take (symbolChips r) (drop (at + j * symbolChips r) chips)
+-- the exact values of the chips of the j-th symbol of a part that starts at place `at`
+abbrev pub symbolAt : Rate → ℕ → ℕ → List Counts → List Counts
+symbolAt r at j exact = take (symbolChips r) (drop (at + j * symbolChips r) exact)
 
 -- each of m words of a part that starts at place `at` is right
-abbrev pub EachRight : ℕ → Rate → ℕ → ℕ → List ℕ → List Chip → Type 0
-EachRight half r m at words chips =
-    (j : ℕ) → j < m → RightUpTo (symbolChips r * (2 * half)) r (symbolAt r at j chips) (getD words j 0)
+abbrev pub EachRight : ℕ → Rate → ℕ → ℕ → List ℕ → List Counts → Type 0
+EachRight half r m at words exact =
+    (j : ℕ) → j < m → RightUpTo (symbolChips r * (2 * half)) r (symbolAt r at j exact) (getD words j 0)
 
 -- wherever the chips of a part are good ones, each word of the very lists that reading takes its growths and bits from
-pub record WholeRight (half : ℕ) (good : ℕ → Type 0) (chips : List Chip) (rec : List Taken) : Type 0 where
+pub record WholeRight (half : ℕ) (good : ℕ → Type 0) (exact : List Counts) (rec : List Taken) : Type 0 where
   pub preamble : (k : Kind) → ((place : ℕ) → place < frontChips k → good place)
-      → EachRight half One (preambleLength k) 0 (preambleWords k rec) chips
+      → EachRight half One (preambleLength k) 0 (preambleWords k rec) exact
   pub header : (k : Kind) → ((place : ℕ) → place < frontChips k → good place)
       → EachRight half (headerRate k) (headerLength / symbolBits (headerRate k)) (preambleChips k) (headerWords k rec)
-      chips
+      exact
   pub payload : (k : Kind) (r : Rate) (n : ℕ)
       → ((place : ℕ) → frontChips k ≤ place → place < frameChips k r n → good place)
-      → EachRight half r (8 * n / symbolBits r) (frontChips k) (payloadWords k r n rec) chips
+      → EachRight half r (8 * n / symbolBits r) (frontChips k) (payloadWords k r n rec) exact
 
--- recorded chips and what reading takes of them: the counts of a usable one are at most `half` steps off
-pub record Keeps (half : ℕ) (chips : List Chip) (rec : List Taken) : Type 0 where
-  pub as-long : length chips ≡ length rec
+-- the exact values of recorded chips and what reading takes of them: the counts of a usable one are at most `half`
+-- steps off
+pub record Keeps (half : ℕ) (exact : List Counts) (rec : List Taken) : Type 0 where
+  pub as-long : length exact ≡ length rec
   pub near : (place : ℕ) → T (not (isUnusable (getD rec place unusable)))
-      → Apart half (takenCounts (getD rec place unusable)) (getD chips place Lost)
+      → Apart half (takenCounts (getD rec place unusable)) (getD exact place nothing)
 
--- any recorder that keeps its chips up to `half` steps is read right, where chips are usable
+-- any recorder that keeps its chips up to `half` steps is read right, where they are usable
 abbrev pub RecordedRight : Type 0
 RecordedRight =
-    (half : ℕ) (chips : List Chip) (rec : List Taken) → Keeps half chips rec
-    → WholeRight half (λ place. T (not (isUnusable (getD rec place unusable)))) chips rec
+    (half : ℕ) (exact : List Counts) (rec : List Taken) → Keeps half exact rec
+    → WholeRight half (λ place. T (not (isUnusable (getD rec place unusable)))) exact rec
 
 -- a hard recording, where its octets are 0 to 4: with no error at all
+abbrev pub exactHard : List ℕ → List Counts
+exactHard octets = map (λ x. exactOf (hardChip x)) octets
+
 abbrev pub HardRight : Type 0
 HardRight =
-    (octets : List ℕ)
-    → WholeRight 0 (λ place. getD octets place 5 ≤ 4) (map hardChip octets) (hardRecording octets)
+    (octets : List ℕ) → WholeRight 0 (λ place. getD octets place 5 ≤ 4) (exactHard octets) (hardRecording octets)
 
 -- a soft recording, where I and Q are usable
-unfoldable pub softChips : List Float → List Float → List Chip
-softChips [] q = []
-softChips (x ∷ i) [] = []
-softChips (x ∷ i) (y ∷ q) = Soft (sampleOf x y) ∷ softChips i q
+unfoldable pub exactSoft : List Float → List Float → List Counts
+exactSoft [] q = []
+exactSoft (x ∷ i) [] = []
+exactSoft (x ∷ i) (y ∷ q) = exactOf (Soft (sampleOf x y)) ∷ exactSoft i q
 
 abbrev pub SoftRight : Type 0
 SoftRight =
     (i q : List Float)
-    → WholeRight (2 ^ 138) (λ place. T (usable (getD i place nan)) × T (usable (getD q place nan))) (softChips i q)
+    → WholeRight (2 ^ 138) (λ place. T (usable (getD i place nan)) × T (usable (getD q place nan))) (exactSoft i q)
     (softRecording i q)
+
+-- a byte recording, wherever it has both bytes of a chip: with no error at all
+unfoldable pub exactBytes : List ℤ → List Counts
+exactBytes [] = []
+exactBytes (x ∷ []) = []
+exactBytes (x ∷ y ∷ bytes) = byteExact x y ∷ exactBytes bytes
+
+abbrev pub BytesRight : Type 0
+BytesRight =
+    (bytes : List ℤ)
+    → WholeRight 0 (λ place. 2 * place + 1 < length bytes) (exactBytes bytes) (byteRecording bytes)
