@@ -1,6 +1,7 @@
 -- Laws of tables, once for every length and element.
 --     getD-tabulate, tabulate-ext, tabulate-all    an entry, two tables with the same entries, what all entries share
 --     filled-none, filled-more, filled-all         a loop that fills an array: before it, one more, after it
+--     filled-with                                  what all of its entries share
 --     map-tabulate, as-table                       a list is the table of its elements
 -- Assumes nothing.
 use mathlib.Core.Path.{_≡_, refl, sym, ap, _∙_, subst}
@@ -78,6 +79,15 @@ module _ {A : Type 0} where
   filled-all {f} {n} {out} {k} w h =
       let e : k ≡ n = le-antisymm (w .within) h in
       sym (take-all k out (omega (arith, w .len))) ∙ w .front ∙ ap (tabulate f) e
+
+  -- what holds of each value filled in holds of all of the array
+  pub filled-with : (P : A → Type 0) {f : ℕ → A} {n : ℕ} {out : List A} {k : ℕ} (d : A) → P d → Filled f n out k
+      → ((j : ℕ) → j < k → P (f j)) → n ≤ k → (j : ℕ) → P (getD out j d)
+  filled-with P {f} {n} {out} {k} d z w h l j = rw (filled-all w l) (by (decLt j n))
+    where
+      by : Dec (j < n) → P (getD (tabulate f n) j d)
+      by (yes p) = rw (getD-tabulate f n j d p) (h j (omega arith))
+      by (no q) = rw (List·getD-eq-default (tabulate f n) d {n = j} (omega (arith, length-tabulate f n))) z
 
 -- a list is the table of its elements, and so is what a function makes of each
 pub map-tabulate : {A B : Type 0} (g : A → B) (l : List A) (n : ℕ) (d : A) → length l ≡ n → map g l

@@ -8,8 +8,8 @@ use native.Mathlib.Omega.{arith}
 use lib.Dec.{T, leb, ltb, leb→le, le→leb, ltb→lt, lt→ltb, nltb→le}
 use lib.IntN.{ℤ, pos, negsuc, negℤ, subℕ, _+ℤ_, _-ℤ_, +ℤ-idl}
 use lib.Signed.{_≤ℤ_, _<ℤ_}
-use mir.Syntax.{w32}
-use mir.Val.{SFits, toZ, ofZ}
+use mir.Syntax.{Width}
+use mir.Val.{SFits, toZ, ofZ, hbits}
 use mir.Facts.{toZ-ofZ}
 use Rattle.base.specs.Whole.{up, dn, Within}
 
@@ -92,10 +92,10 @@ lt-of (pos a) (negsuc b) h = absurd (omega arith)
 lt-of (negsuc a) (pos b) h = record { lt = tt }
 lt-of (negsuc a) (negsuc b) h = record { lt = lt→ltb b a (omega arith) }
 
-pub within-sfits : {b : ℕ} {z : ℤ} → Within b z → b < 2 ^ 31 → SFits w32 z
+pub fits-at : (w : Width) {b : ℕ} {z : ℤ} → Within b z → b < 2 ^ hbits w → SFits w z
 unfolding up dn
-within-sfits {b} {z = pos n} h k = record { sfits = omega (arith, h .high) }
-within-sfits {b} {z = negsuc n} h k = record { sfits = omega (arith, h .low) }
+fits-at w {z = pos n} h k = record { sfits = omega (arith, h .high) }
+fits-at w {z = negsuc n} h k = record { sfits = omega (arith, h .low) }
 
 pub within-zero : (b : ℕ) → Within b (pos 0)
 unfolding up dn
@@ -110,35 +110,16 @@ within-add {b} {d} {y} {z} h k = record { high = omega (arith, add y z); low = o
 pub within-neg : {b : ℕ} {z : ℤ} → Within b z → Within b (negℤ z)
 within-neg {b} {z} h = record { high = omega (arith, neg-up z, neg-dn z); low = omega (arith, neg-up z, neg-dn z) }
 
--- ---- an i32: its bits read back, a negation, a sum
-pub small : (b : ℕ) → b < 2 ^ 31 → (z : ℤ) → Within b z → toZ w32 (ofZ w32 z) ≡ z
-small b k z h = toZ-ofZ (within-sfits h k)
+-- ---- a signed number of any width: its bits read back, a negation
+pub small : (w : Width) (b : ℕ) → b < 2 ^ hbits w → (z : ℤ) → Within b z → toZ w (ofZ w z) ≡ z
+small w b k z h = toZ-ofZ (fits-at w h k)
 
-module _ (b : ℕ) (k : b < 2 ^ 31) (z : ℤ) (h : Within b z) where
-  is-neg : pos 0 -ℤ toZ w32 (ofZ w32 z) ≡ negℤ z
-  is-neg = ap (λ (y : ℤ). pos 0 -ℤ y) (small b k z h) ∙ +ℤ-idl (negℤ z)
+module _ (w : Width) (b : ℕ) (k : b < 2 ^ hbits w) (z : ℤ) (h : Within b z) where
+  is-neg : pos 0 -ℤ toZ w (ofZ w z) ≡ negℤ z
+  is-neg = ap (λ (y : ℤ). pos 0 -ℤ y) (small w b k z h) ∙ +ℤ-idl (negℤ z)
 
-  pub neg-fits : SFits w32 (pos 0 -ℤ toZ w32 (ofZ w32 z))
-  neg-fits = rw is-neg (within-sfits (within-neg h) k)
+  pub neg-fits : SFits w (pos 0 -ℤ toZ w (ofZ w z))
+  neg-fits = rw is-neg (fits-at w (within-neg h) k)
 
-  pub neg-read : toZ w32 (ofZ w32 (pos 0 -ℤ toZ w32 (ofZ w32 z))) ≡ negℤ z
+  pub neg-read : toZ w (ofZ w (pos 0 -ℤ toZ w (ofZ w z))) ≡ negℤ z
   neg-read = toZ-ofZ neg-fits ∙ is-neg
-
-module _ (b : ℕ) (k : b + b < 2 ^ 31) (y z : ℤ) (hy : Within b y) (hz : Within b z) where
-  is-sub : toZ w32 (ofZ w32 y) -ℤ toZ w32 (ofZ w32 z) ≡ y -ℤ z
-  is-sub = λ i. small b (omega arith) y hy i -ℤ small b (omega arith) z hz i
-
-  pub sub-fits : SFits w32 (toZ w32 (ofZ w32 y) -ℤ toZ w32 (ofZ w32 z))
-  sub-fits = rw is-sub (within-sfits (within-add hy (within-neg hz)) k)
-
-  pub sub-read : toZ w32 (ofZ w32 (toZ w32 (ofZ w32 y) -ℤ toZ w32 (ofZ w32 z))) ≡ y -ℤ z
-  sub-read = toZ-ofZ sub-fits ∙ is-sub
-
-  is-add : toZ w32 (ofZ w32 y) +ℤ toZ w32 (ofZ w32 z) ≡ y +ℤ z
-  is-add = λ i. small b (omega arith) y hy i +ℤ small b (omega arith) z hz i
-
-  pub add-fits : SFits w32 (toZ w32 (ofZ w32 y) +ℤ toZ w32 (ofZ w32 z))
-  add-fits = rw is-add (within-sfits (within-add hy hz) k)
-
-  pub add-read : toZ w32 (ofZ w32 (toZ w32 (ofZ w32 y) +ℤ toZ w32 (ofZ w32 z))) ≡ y +ℤ z
-  add-read = toZ-ofZ add-fits ∙ is-add

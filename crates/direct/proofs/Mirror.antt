@@ -28,7 +28,7 @@ module _ (f : ℕ → ℤ) (n : ℕ) (half : List ℤ) (e : half ≡ tabulate f 
   bound k h = subst (Within 65536) (sym (lower k h)) (few k h)
 
   pub mirror-fits : (k : ℕ) → k < n → SFits w32 (pos 0 -ℤ toZ w32 (ofZ w32 (getD half k (pos 0))))
-  mirror-fits k h = neg-fits 65536 (lit< tt) (getD half k (pos 0)) (bound k h)
+  mirror-fits k h = neg-fits w32 65536 (lit< tt) (getD half k (pos 0)) (bound k h)
 
   pub mirror-more : {out : List ℤ} {k : ℕ} → Mirrored n half out k → k < n
       → Mirrored n half
@@ -36,8 +36,8 @@ module _ (f : ℕ → ℤ) (n : ℕ) (half : List ℤ) (e : half ≡ tabulate f 
       (toZ w32 (ofZ w32 (pos 0 -ℤ toZ w32 (ofZ w32 (getD half k (pos 0)))))))
       (k + 1)
   mirror-more {out} {k} inv h =
-      halves-more _ _ inv h (small 65536 (lit< tt) (getD half k (pos 0)) (bound k h))
-      (neg-read 65536 (lit< tt) (getD half k (pos 0)) (bound k h))
+      halves-more _ _ inv h (small w32 65536 (lit< tt) (getD half k (pos 0)) (bound k h))
+      (neg-read w32 65536 (lit< tt) (getD half k (pos 0)) (bound k h))
 
   pub mirror-all : {out : List ℤ} {k : ℕ} → Mirrored n half out k → n ≤ k → ((j : ℕ) → j < n → negℤ (f j) ≡ f (n + j))
       → out ≡ tabulate f (n + n)

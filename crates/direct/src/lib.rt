@@ -1,13 +1,10 @@
 // 11 Mbit/s, decided directly: the 256 words are tried; the largest score wins, among equals the smallest number.
-use chips::Chip;
 use chips::Counts;
 use rates::Rate;
 ghost use mathlib.Core.Path.{_≡_};
-ghost use mathlib.Core.List.{map};
 ghost use Prim.Native.Nat.{_<_};
 ghost use lib.ListN.{length, getD};
 ghost use lib.IntN.{pos};
-ghost use Rattle.chips.specs.Chips.{countsOf};
 ghost use Rattle.symbols.specs.Choice.{decided};
 ghost use Rattle.choosing.specs.Scores.{Smalls, placeOfLargest};
 
@@ -46,17 +43,10 @@ fn largest(s: &[i32]) -> usize
 }
 
 // The number of the word that eight chips' counts are decided as at 11 Mbit/s.
-fn choose_eleven(cs: [Counts; 8]) -> u8
+pub fn decide_eleven(cs: [Counts; 8]) -> u8
     requires { ⌜ Smalls cs ⌝ }
     ensures answer { λ r. ⌜ r ≡ decided Rate.Eleven cs ⌝ }
 {
     let s = scores_eleven(cs);
     largest(&s) as u8
-}
-
-// The number of the word that eight recorded chips are decided as at 11 Mbit/s.
-pub fn decide_eleven(chips: [Chip; 8]) -> u8
-    ensures answer { λ r. ⌜ r ≡ decided Rate.Eleven (map countsOf chips) ⌝ }
-{
-    choose_eleven(counts::counts8(chips))
 }

@@ -2,7 +2,7 @@
 // them for C. A contract names the answer and the lent buffer at the end in one record: `answer` and `chips`, or
 // `answer` and `octets`.
 ghost use lib.ListN.{length};
-ghost use Rattle.promises.specs.Calls.{Wrote, ReadHard, ReadSoft};
+ghost use Rattle.promises.specs.Calls.{Wrote, ReadHard, ReadSoft, ReadBytes};
 use calls::Record;
 use calls::Written;
 
@@ -37,4 +37,13 @@ pub extern "C" fn dsss_read_soft(kind: u64, i: &[f32], q: &[f32], octets: &mut [
         a (now (octets .exit)) ⌝ }
 {
     reader::read_soft(kind, i, q, octets)
+}
+
+// A byte recording, I and Q in turn, to its payload; zeros as above.
+#[no_mangle]
+pub extern "C" fn dsss_read_bytes(kind: u64, bytes: &[i8], octets: &mut [u8]) -> Record
+    ensures read { λ a. ⌜ ReadBytes kind (now (bytes .entry)) (length (now (octets .entry)))
+        a (now (octets .exit)) ⌝ }
+{
+    reader::read_bytes(kind, bytes, octets)
 }

@@ -6,7 +6,7 @@ ghost use lib.ListN.{length};
 ghost use Rattle.base.specs.Over.{over};
 ghost use Rattle.rates.specs.Rates.{octetSymbols, octetChips};
 ghost use Rattle.reading.specs.Reading.{orElse};
-ghost use Rattle.recorders.specs.Rows.{recordingOf};
+ghost use Rattle.recorders.specs.Rows.{lent};
 ghost use Rattle.recorded.specs.Recorded.{whereFound, AllUsable};
 ghost use Rattle.codes.specs.Codes.{BlockOf};
 ghost use Rattle.blocks.specs.Heard.{plainOctets, Heard};
@@ -45,6 +45,7 @@ pub fn joined(a: Hearing, b: Hearing) -> Hearing
 fn hear_block(
     rec: Recorder,
     row: &[u8],
+    bytes: &[i8],
     i: &[f32],
     q: &[f32],
     rate: Rate,
@@ -54,16 +55,26 @@ fn hear_block(
     out: &mut [u8],
 ) -> Hearing
     requires { ⌜ (octetSymbols rate * count ≤ 64) × (count ≤ length (now out))
-        × (place + octetChips rate * count ≤ length (recordingOf rec (now row) (now i) (now q)))
-        × AllUsable (recordingOf rec (now row) (now i) (now q)) place (octetChips rate * count) × (line .phase < 4) ⌝ }
+        × (place + octetChips rate * count ≤ length (lent rec row bytes i q))
+        × AllUsable (lent rec row bytes i q) place (octetChips rate * count) × (line .phase < 4) ⌝ }
     ensures answer { λ r. ⌜ Heard rate place line (partWords rate place count
-        (recordingOf rec (now (row .entry)) (now (i .entry)) (now (q .entry)))) r ⌝ }
+        (lent rec (row .entry) (bytes .entry) (i .entry) (q .entry))) r ⌝ }
     ensures out { λ _. ⌜ now (out .exit) ≡ over (plainOctets rate count line (partWords rate place count
-        (recordingOf rec (now (row .entry)) (now (i .entry)) (now (q .entry))))) (now (out .entry)) ⌝ }
+        (lent rec (row .entry) (bytes .entry) (i .entry) (q .entry)))) (now (out .entry)) ⌝ }
 {
     let mut numbers = [0u8; 64];
     let symbols = rate.octet_symbols();
-    recorders::decide(rec, row, i, q, rate, place, symbols * count, &mut numbers);
+    recorders::decide(
+        rec,
+        row,
+        bytes,
+        i,
+        q,
+        rate,
+        place,
+        symbols * count,
+        &mut numbers,
+    );
     blocks::hear(rate, place, line, numbers, count, out)
 }
 
@@ -80,6 +91,7 @@ fn block_octets(rate: Rate, left: usize) -> usize
 pub fn hear_octets(
     rec: Recorder,
     row: &[u8],
+    bytes: &[i8],
     i: &[f32],
     q: &[f32],
     rate: Rate,
@@ -87,11 +99,11 @@ pub fn hear_octets(
     line: Line,
     out: &mut [u8],
 ) -> Hearing
-    requires { ⌜ (at + octetChips rate * length (now out) ≤ length (recordingOf rec (now row) (now i) (now q)))
-        × AllUsable (recordingOf rec (now row) (now i) (now q)) at (octetChips rate * length (now out))
+    requires { ⌜ (at + octetChips rate * length (now out) ≤ length (lent rec row bytes i q))
+        × AllUsable (lent rec row bytes i q) at (octetChips rate * length (now out))
         × (line .phase < 4) ⌝ }
     ensures answer { λ r. ⌜ PartHeard rate at (length (now (out .entry)))
-        (recordingOf rec (now (row .entry)) (now (i .entry)) (now (q .entry))) line r (now (out .exit)) ⌝ }
+        (lent rec (row .entry) (bytes .entry) (i .entry) (q .entry)) line r (now (out .exit)) ⌝ }
 {
     let chips = rate.octet_chips();
     let odd = Found::Nothing;
@@ -101,7 +113,7 @@ pub fn hear_octets(
     while k < out.len() {
         let count = block_octets(rate, out.len() - k);
         let l = heard.line;
-        let more = hear_block(rec, row, i, q, rate, place, l, count, &mut out[k..]);
+        let more = hear_block(rec, row, bytes, i, q, rate, place, l, count, &mut out[k..]);
         heard = joined(heard, more);
         place += chips * count;
         k += count;

@@ -1,12 +1,13 @@
 // Reading: recordings to payloads, with every refusal in its order.
 ghost use mathlib.Core.Path.{_≡_};
 ghost use mathlib.Core.Bool.{true};
+ghost use Prim.Native.Nat.{_%_};
 ghost use lib.Dec.{eqb};
 ghost use lib.ListN.{length};
-ghost use Rattle.chips.specs.Chips.{hardRecording, softRecording};
+ghost use Rattle.chips.specs.Chips.{hardRecording, softRecording, byteRecording};
 ghost use Rattle.calls.specs.Answers.{recordOf};
 ghost use Rattle.reading.specs.Reading.{readingOf, octetsFound};
-ghost use Rattle.recorders.specs.Rows.{recordingOf};
+ghost use Rattle.recorders.specs.Rows.{lent};
 use calls::Front;
 use calls::Reading;
 use calls::Record;
@@ -22,14 +23,15 @@ fn read(
     agree: bool,
     rec: Recorder,
     row: &[u8],
+    bytes: &[i8],
     i: &[f32],
     q: &[f32],
     octets: &mut [u8],
 ) -> Reading
     ensures answer { λ r. ⌜ r ≡ readingOf kind agree
-        (recordingOf rec (now (row .entry)) (now (i .entry)) (now (q .entry))) (length (now (octets .entry))) ⌝ }
+        (lent rec (row .entry) (bytes .entry) (i .entry) (q .entry)) (length (now (octets .entry))) ⌝ }
     ensures octets { λ _. ⌜ now (octets .exit) ≡ octetsFound kind agree
-        (recordingOf rec (now (row .entry)) (now (i .entry)) (now (q .entry))) (length (now (octets .entry))) ⌝ }
+        (lent rec (row .entry) (bytes .entry) (i .entry) (q .entry)) (length (now (octets .entry))) ⌝ }
 {
     rows::fill(octets, 0);
     if !kinds::is_kind(kind) {
@@ -39,13 +41,13 @@ fn read(
         return Reading::Refused(Refusal::RowsDiffer);
     }
     let k = kinds::kind_of(kind);
-    let opening = fronts::read_whole(rec, row, i, q, k);
+    let opening = fronts::read_whole(rec, row, bytes, i, q, k);
     let told = opening.front;
     match told {
         Front::Refused(e) => Reading::Refused(e),
         Front::Fields(t) => {
             let line = opening.line;
-            payload::read_payload(rec, row, i, q, k, t, line, octets)
+            payload::read_payload(rec, row, bytes, i, q, k, t, line, octets)
         }
     }
 }
@@ -57,9 +59,11 @@ pub fn read_hard(kind: u64, chips: &[u8], octets: &mut [u8]) -> Record
     ensures octets { λ _. ⌜ now (octets .exit) ≡
         octetsFound kind true (hardRecording (now (chips .entry))) (length (now (octets .entry))) ⌝ }
 {
-    let none = [0.0f32; 1];
-    let row = &none[0..0];
-    let reading = read(kind, true, Recorder::Hard, chips, row, row, octets);
+    let byte = [0i8; 1];
+    let bytes = &byte[0..0];
+    let sample = [0.0f32; 1];
+    let row = &sample[0..0];
+    let reading = read(kind, true, Recorder::Hard, chips, bytes, row, row, octets);
     answers::record_of(reading)
 }
 
@@ -71,8 +75,27 @@ pub fn read_soft(kind: u64, i: &[f32], q: &[f32], octets: &mut [u8]) -> Record
         octetsFound kind (eqb (length (now (i .entry))) (length (now (q .entry))))
         (softRecording (now (i .entry)) (now (q .entry))) (length (now (octets .entry))) ⌝ }
 {
-    let none = [0u8; 1];
-    let row = &none[0..0];
-    let reading = read(kind, i.len() == q.len(), Recorder::Soft, row, i, q, octets);
+    let octet = [0u8; 1];
+    let chips = &octet[0..0];
+    let byte = [0i8; 1];
+    let bytes = &byte[0..0];
+    let agree = i.len() == q.len();
+    let reading = read(kind, agree, Recorder::Soft, chips, bytes, i, q, octets);
+    answers::record_of(reading)
+}
+
+// A byte recording: signed bytes, I and Q in turn.
+pub fn read_bytes(kind: u64, bytes: &[i8], octets: &mut [u8]) -> Record
+    ensures answer { λ r. ⌜ r ≡ recordOf (readingOf kind (eqb (length (now (bytes .entry)) % 2) 0)
+        (byteRecording (now (bytes .entry))) (length (now (octets .entry)))) ⌝ }
+    ensures octets { λ _. ⌜ now (octets .exit) ≡ octetsFound kind (eqb (length (now (bytes .entry)) % 2) 0)
+        (byteRecording (now (bytes .entry))) (length (now (octets .entry))) ⌝ }
+{
+    let octet = [0u8; 1];
+    let chips = &octet[0..0];
+    let sample = [0.0f32; 1];
+    let row = &sample[0..0];
+    let agree = bytes.len() % 2 == 0;
+    let reading = read(kind, agree, Recorder::Bytes, chips, bytes, row, row, octets);
     answers::record_of(reading)
 }

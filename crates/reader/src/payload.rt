@@ -5,7 +5,7 @@ ghost use lib.ListN.{length, replicate};
 ghost use Rattle.rates.specs.Rates.{octetChips};
 ghost use Rattle.frame.specs.Frame.{frontChips, frameChips};
 ghost use Rattle.reading.specs.Reading.{payloadOdd, payloadReading, octetsAfter};
-ghost use Rattle.recorders.specs.Rows.{recordingOf};
+ghost use Rattle.recorders.specs.Rows.{lent};
 ghost use Rattle.recorded.specs.Recorded.{whereFound, AllUsable};
 ghost use Rattle.fronts.specs.Openings.{Opened};
 ghost use Rattle.reader.specs.Payloads.{octetsHeard, afterHeard};
@@ -22,6 +22,7 @@ use recorders::Recorder;
 fn hear_payload(
     rec: Recorder,
     row: &[u8],
+    bytes: &[i8],
     i: &[f32],
     q: &[f32],
     kind: Kind,
@@ -30,18 +31,18 @@ fn hear_payload(
     line: Line,
     octets: &mut [u8],
 ) -> Found
-    requires { ⌜ (frameChips kind rate n ≤ length (recordingOf rec (now row) (now i) (now q)))
-        × AllUsable (recordingOf rec (now row) (now i) (now q)) (frontChips kind) (octetChips rate * n)
-        × (n ≤ length (now octets)) × (Opened kind (recordingOf rec (now row) (now i) (now q)) line)
+    requires { ⌜ (frameChips kind rate n ≤ length (lent rec row bytes i q))
+        × AllUsable (lent rec row bytes i q) (frontChips kind) (octetChips rate * n)
+        × (n ≤ length (now octets)) × (Opened kind (lent rec row bytes i q) line)
         × (now octets ≡ replicate (length (now octets)) 0) ⌝ }
     ensures answer { λ r. ⌜ whereFound r ≡
-        payloadOdd kind rate n (recordingOf rec (now (row .entry)) (now (i .entry)) (now (q .entry))) ⌝ }
+        payloadOdd kind rate n (lent rec (row .entry) (bytes .entry) (i .entry) (q .entry)) ⌝ }
     ensures octets { λ r. ⌜ now (octets .exit) ≡ octetsHeard kind rate n
-        (recordingOf rec (now (row .entry)) (now (i .entry)) (now (q .entry)))
+        (lent rec (row .entry) (bytes .entry) (i .entry) (q .entry))
         (length (now (octets .entry))) (whereFound r) ⌝ }
 {
     let from = kinds::front_chips(kind);
-    let heard = hearing::hear_octets(rec, row, i, q, rate, from, line, &mut octets[0..n]);
+    let heard = hearing::hear_octets(rec, row, bytes, i, q, rate, from, line, &mut octets[0..n]);
     let odd = heard.odd;
     match odd {
         Found::At(place) => {
@@ -69,6 +70,7 @@ fn heard(told: Told, used: usize, odd: Found) -> Reading
 pub fn read_payload(
     rec: Recorder,
     row: &[u8],
+    bytes: &[i8],
     i: &[f32],
     q: &[f32],
     kind: Kind,
@@ -77,13 +79,13 @@ pub fn read_payload(
     octets: &mut [u8],
 ) -> Reading
     requires { ⌜ (told .n ≤ 4095)
-        × (frameChips kind (told .rate) (told .n) ≤ length (recordingOf rec (now row) (now i) (now q)))
-        × (Opened kind (recordingOf rec (now row) (now i) (now q)) line)
+        × (frameChips kind (told .rate) (told .n) ≤ length (lent rec row bytes i q))
+        × (Opened kind (lent rec row bytes i q) line)
         × (now octets ≡ replicate (length (now octets)) 0) ⌝ }
     ensures answer { λ r. ⌜ r ≡ payloadReading kind told
-        (recordingOf rec (now (row .entry)) (now (i .entry)) (now (q .entry))) (length (now (octets .entry))) ⌝ }
+        (lent rec (row .entry) (bytes .entry) (i .entry) (q .entry)) (length (now (octets .entry))) ⌝ }
     ensures octets { λ r. ⌜ now (octets .exit) ≡ octetsAfter kind
-        (recordingOf rec (now (row .entry)) (now (i .entry)) (now (q .entry))) (length (now (octets .entry))) r ⌝ }
+        (lent rec (row .entry) (bytes .entry) (i .entry) (q .entry)) (length (now (octets .entry))) r ⌝ }
 {
     let n = told.n;
     let rate = told.rate;
@@ -93,11 +95,11 @@ pub fn read_payload(
     }
     let from = kinds::front_chips(kind);
     let all = kinds::frame_chips(kind, rate, n);
-    let bad = recorders::first_unusable(rec, row, i, q, from, all);
+    let bad = recorders::first_unusable(rec, row, bytes, i, q, from, all);
     match bad {
         Found::At(place) => Reading::Refused(Refusal::Unusable { place, length }),
         Found::Nothing => {
-            let odd = hear_payload(rec, row, i, q, kind, rate, n, line, octets);
+            let odd = hear_payload(rec, row, bytes, i, q, kind, rate, n, line, octets);
             heard(told, all, odd)
         }
     }

@@ -1,7 +1,7 @@
 -- A block of up to 64 symbols, decided one after the other, once for every recorder and rate.
 -- Assumes nothing.
 use mathlib.Core.Path.{_≡_, sym, ap, _∙_, subst}
-use mathlib.Core.List.{List, map}
+use mathlib.Core.List.{List}
 use Prim.Native.Nat.{ℕ, _+_, _*_, _≤_, _<_}
 use native.Mathlib.Decide.{decLt}
 use native.Mathlib.Omega.{arith}
@@ -10,8 +10,8 @@ use lib.Seq.{getD-set-same, getD-set-other}
 use Rattle.rates.specs.declared.Rate.{Rate}
 use Rattle.rates.specs.declared.Rate.the-variants.{One, Two}
 use Rattle.rates.specs.Rates.{symbolChips}
-use Rattle.chips.specs.declared.Chip.{Chip}
-use Rattle.chips.specs.Chips.{countsOf, Taken}
+use Rattle.chips.specs.declared.Counts.{Counts}
+use Rattle.chips.specs.Chips.{Taken}
 use Rattle.symbols.specs.Choice.{decided}
 use Rattle.choosing.proofs.Decided.{decided-barker}
 use Rattle.recorded.specs.Recorded.{symbolAt, DecidedAt}
@@ -24,11 +24,10 @@ module _ (r : Rate) (rec : List Taken) (at m : ℕ) where
   pub decided-none : (ns : List ℕ) → length ns ≡ 64 → Decided ns 0
   decided-none ns e = (omega arith, record { long = e; number = λ l h. absurd (omega arith) })
 
-  -- one symbol more, from chips that count as the recording's do
-  pub decided-more : (l : ℕ) (ns : List ℕ) (v : ℕ) (chips : List Chip) → m ≤ 64 → l < m → Decided ns l
-      → v ≡ decided r (map countsOf chips) → map countsOf chips ≡ symbolAt r rec (at + symbolChips r * l)
-      → Decided (set ns l v) (l + 1)
-  decided-more l ns v chips few h d e g =
+  -- one symbol more, from counts that are the recording's
+  pub decided-more : (l : ℕ) (ns : List ℕ) (v : ℕ) (cs : List Counts) → m ≤ 64 → l < m → Decided ns l
+      → v ≡ decided r cs → cs ≡ symbolAt r rec (at + symbolChips r * l) → Decided (set ns l v) (l + 1)
+  decided-more l ns v cs few h d e g =
       (omega arith, record { long = length-set ns l v ∙ d .1 .long; number = next })
     where
       next : (j : ℕ) → j < l + 1 → getD (set ns l v) j 0 ≡ decided r (symbolAt r rec (at + symbolChips r * j))

@@ -2,14 +2,20 @@
 -- Definitions only. Assumes nothing.
 use Prim.Native.Nat.{ℕ}
 use mathlib.Core.List.{List}
+use lib.IntN.{ℤ}
 use lib.Ieee.{Float}
-use Rattle.chips.specs.declared.Chip.the-variants as chip
-use Rattle.chips.specs.Chips.{Taken, hardRecording, softRecording}
+use denote.Ref.{RefT, now}
+use Rattle.chips.specs.Chips.{Taken, hardRecording, softRecording, byteRecording}
 use Rattle.recorders.specs.declared.Recorder.{Recorder}
-use Rattle.recorders.specs.declared.Recorder.the-variants.{Hard, Soft}
+use Rattle.recorders.specs.declared.Recorder.the-variants.{Hard, Soft, Bytes}
 
--- a hard recording is its octets; a soft one its two rows of f32. The rows that a recorder does not use are not looked
--- at
-abbrev pub recordingOf : Recorder → List ℕ → List Float → List Float → List Taken
-recordingOf Hard octets i q = hardRecording octets
-recordingOf Soft octets i q = softRecording i q
+-- a hard recording is its octets, a soft one its two rows of f32, one of bytes its signed bytes. The rows that a
+-- recorder does not use are not looked at
+abbrev pub recordingOf : Recorder → List ℕ → List ℤ → List Float → List Float → List Taken
+recordingOf Hard octets bytes i q = hardRecording octets
+recordingOf Soft octets bytes i q = softRecording i q
+recordingOf Bytes octets bytes i q = byteRecording bytes
+
+-- the same of rows as they are lent
+abbrev pub lent : Recorder → RefT (List ℕ) → RefT (List ℤ) → RefT (List Float) → RefT (List Float) → List Taken
+lent rec octets bytes i q = recordingOf rec (now octets) (now bytes) (now i) (now q)

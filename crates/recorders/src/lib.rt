@@ -2,70 +2,82 @@
 // chips in a crate of its own, and an arm in the functions below.
 ghost use mathlib.Core.Path.{_≡_};
 ghost use mathlib.Core.Bool.{true, not};
-ghost use mathlib.Core.List.{map};
 ghost use Prim.Native.Nat.{_+_, _*_, _-_, _≤_, _<_};
 ghost use lib.ListN.{length, getD, take, drop};
 ghost use Rattle.rates.specs.Rates.{symbolChips};
-ghost use Rattle.chips.specs.Chips.{unusable, isUnusable, countsOf};
+ghost use Rattle.chips.specs.Chips.{unusable, isUnusable};
+ghost use Rattle.choosing.specs.Scores.{Smalls};
 ghost use Rattle.reading.specs.Reading.{firstUnusable};
-ghost use Rattle.recorders.specs.Rows.{recordingOf};
+ghost use Rattle.recorders.specs.Rows.{lent};
 ghost use Rattle.recorded.specs.Recorded.{whereFound, symbolAt, AllUsable, DecidedAt};
-use chips::Chip;
+use chips::Counts;
 use rates::Rate;
 use recorded::Found;
 
-// What recorded the chips. A hard recording is the row of octets; a soft one is two rows of f32. The rows that a
-// recorder does not use are empty.
+// What recorded the chips. A hard recording is the row of octets, a soft one two rows of f32, one of bytes the row of
+// signed bytes. The rows that a recorder does not use are empty.
 pub enum Recorder {
     Hard,
     Soft,
+    Bytes,
 }
 
 // How many chips a recording has.
-pub fn chip_count(rec: Recorder, octets: &[u8], i: &[f32], q: &[f32]) -> usize
-    ensures answer { λ r. ⌜ r ≡ length (recordingOf rec (now (octets .entry)) (now (i .entry)) (now (q .entry))) ⌝ }
+pub fn chip_count(rec: Recorder, octets: &[u8], bytes: &[i8], i: &[f32], q: &[f32]) -> usize
+    ensures answer { λ r. ⌜ r ≡ length (lent rec (octets .entry) (bytes .entry) (i .entry) (q .entry)) ⌝ }
 {
     match rec {
         Recorder::Hard => octets.len(),
         Recorder::Soft => { if i.len() < q.len() { i.len() } else { q.len() } }
+        Recorder::Bytes => bytes.len() / 2,
     }
 }
 
 // Whether the chip at a place is usable.
-fn usable_at(rec: Recorder, octets: &[u8], i: &[f32], q: &[f32], at: usize) -> bool
-    requires { ⌜ at < length (recordingOf rec (now octets) (now i) (now q)) ⌝ }
+fn usable_at(rec: Recorder, octets: &[u8], bytes: &[i8], i: &[f32], q: &[f32], at: usize) -> bool
+    requires { ⌜ at < length (lent rec octets bytes i q) ⌝ }
     ensures answer { λ r. ⌜ r ≡ not (isUnusable (getD
-        (recordingOf rec (now (octets .entry)) (now (i .entry)) (now (q .entry))) at unusable)) ⌝ }
+        (lent rec (octets .entry) (bytes .entry) (i .entry) (q .entry)) at unusable)) ⌝ }
 {
     match rec {
         Recorder::Hard => hard::usable_at(octets, at),
         Recorder::Soft => soft::usable_at(i, q, at),
+        Recorder::Bytes => true,
     }
 }
 
 // Whether 64 chips from a place are usable, as far as a yes.
-fn clean(rec: Recorder, octets: &[u8], i: &[f32], q: &[f32], at: usize) -> bool
-    requires { ⌜ at + 64 ≤ length (recordingOf rec (now octets) (now i) (now q)) ⌝ }
+fn clean(rec: Recorder, octets: &[u8], bytes: &[i8], i: &[f32], q: &[f32], at: usize) -> bool
+    requires { ⌜ at + 64 ≤ length (lent rec octets bytes i q) ⌝ }
     ensures answer { λ r. ⌜ (r ≡ true →
-        AllUsable (recordingOf rec (now (octets .entry)) (now (i .entry)) (now (q .entry))) at 64) ⌝ }
+        AllUsable (lent rec (octets .entry) (bytes .entry) (i .entry) (q .entry)) at 64) ⌝ }
 {
     match rec {
         Recorder::Hard => hard::clean(octets, at),
         Recorder::Soft => soft::clean(i, q, at),
+        Recorder::Bytes => true,
     }
 }
 
 // Over clean blocks of 64 chips: what is found from there on is what is found from the start.
-fn skip_clean(rec: Recorder, octets: &[u8], i: &[f32], q: &[f32], from: usize, to: usize) -> usize
-    requires { ⌜ to ≤ length (recordingOf rec (now octets) (now i) (now q)) ⌝ }
+fn skip_clean(
+    rec: Recorder,
+    octets: &[u8],
+    bytes: &[i8],
+    i: &[f32],
+    q: &[f32],
+    from: usize,
+    to: usize,
+) -> usize
+    requires { ⌜ to ≤ length (lent rec octets bytes i q) ⌝ }
     ensures answer { λ r. ⌜
         firstUnusable from (take (to - from) (drop from
-        (recordingOf rec (now (octets .entry)) (now (i .entry)) (now (q .entry)))))
+        (lent rec (octets .entry) (bytes .entry) (i .entry) (q .entry))))
         ≡ firstUnusable r (take (to - r) (drop r
-        (recordingOf rec (now (octets .entry)) (now (i .entry)) (now (q .entry))))) ⌝ }
+        (lent rec (octets .entry) (bytes .entry) (i .entry) (q .entry)))) ⌝ }
 {
     let mut at = from;
-    while at < to && 64 <= to - at && clean(rec, octets, i, q, at) {
+    while at < to && 64 <= to - at && clean(rec, octets, bytes, i, q, at) {
         at += 64;
     }
     at
@@ -75,18 +87,19 @@ fn skip_clean(rec: Recorder, octets: &[u8], i: &[f32], q: &[f32], from: usize, t
 pub fn first_unusable(
     rec: Recorder,
     octets: &[u8],
+    bytes: &[i8],
     i: &[f32],
     q: &[f32],
     from: usize,
     to: usize,
 ) -> Found
-    requires { ⌜ to ≤ length (recordingOf rec (now octets) (now i) (now q)) ⌝ }
+    requires { ⌜ to ≤ length (lent rec octets bytes i q) ⌝ }
     ensures answer { λ r. ⌜ whereFound r ≡ firstUnusable from (take (to - from) (drop from
-        (recordingOf rec (now (octets .entry)) (now (i .entry)) (now (q .entry))))) ⌝ }
+        (lent rec (octets .entry) (bytes .entry) (i .entry) (q .entry)))) ⌝ }
 {
-    let mut at = skip_clean(rec, octets, i, q, from, to);
+    let mut at = skip_clean(rec, octets, bytes, i, q, from, to);
     while at < to {
-        if !usable_at(rec, octets, i, q, at) {
+        if !usable_at(rec, octets, bytes, i, q, at) {
             return Found::At(at);
         }
         at += 1;
@@ -94,15 +107,17 @@ pub fn first_unusable(
     Found::Nothing
 }
 
-// The chips of a CCK symbol.
-fn eight(rec: Recorder, octets: &[u8], i: &[f32], q: &[f32], at: usize) -> [Chip; 8]
-    requires { ⌜ at + 8 ≤ length (recordingOf rec (now octets) (now i) (now q)) ⌝ }
-    ensures answer { λ r. ⌜ map countsOf r ≡
-        symbolAt Rate.Eleven (recordingOf rec (now (octets .entry)) (now (i .entry)) (now (q .entry))) at ⌝ }
+// The counts of a CCK symbol's chips.
+fn eight(rec: Recorder, octets: &[u8], bytes: &[i8], i: &[f32], q: &[f32], at: usize) -> [Counts; 8]
+    requires { ⌜ at + 8 ≤ length (lent rec octets bytes i q) ⌝ }
+    ensures answer { λ r. ⌜ r ≡
+        symbolAt Rate.Eleven (lent rec (octets .entry) (bytes .entry) (i .entry) (q .entry)) at ⌝ }
+    ensures small { λ r. ⌜ Smalls r ⌝ }
 {
     match rec {
-        Recorder::Hard => hard::eight(octets, at),
-        Recorder::Soft => soft::eight(i, q, at),
+        Recorder::Hard => counts::counts8(hard::eight(octets, at)),
+        Recorder::Soft => counts::counts8(soft::eight(i, q, at)),
+        Recorder::Bytes => signed_bytes::counts8(bytes, at),
     }
 }
 
@@ -110,20 +125,21 @@ fn eight(rec: Recorder, octets: &[u8], i: &[f32], q: &[f32], at: usize) -> [Chip
 fn elevens(
     rec: Recorder,
     octets: &[u8],
+    bytes: &[i8],
     i: &[f32],
     q: &[f32],
     at: usize,
     m: usize,
     numbers: &mut [u8; 64],
 )
-    requires { ⌜ (m ≤ 64) × (at + 8 * m ≤ length (recordingOf rec (now octets) (now i) (now q)))
+    requires { ⌜ (m ≤ 64) × (at + 8 * m ≤ length (lent rec octets bytes i q))
         × (length (now numbers) ≡ 64) ⌝ }
     ensures numbers { λ _. ⌜ DecidedAt Rate.Eleven
-        (recordingOf rec (now (octets .entry)) (now (i .entry)) (now (q .entry))) at m (now (numbers .exit)) ⌝ }
+        (lent rec (octets .entry) (bytes .entry) (i .entry) (q .entry)) at m (now (numbers .exit)) ⌝ }
 {
     let mut l: usize = 0;
     while l < m {
-        numbers[l] = direct::decide_eleven(eight(rec, octets, i, q, at + 8 * l));
+        numbers[l] = direct::decide_eleven(eight(rec, octets, bytes, i, q, at + 8 * l));
         l += 1;
     }
 }
@@ -132,20 +148,22 @@ fn elevens(
 fn barkers(
     rec: Recorder,
     octets: &[u8],
+    bytes: &[i8],
     i: &[f32],
     q: &[f32],
     at: usize,
     m: usize,
     numbers: &mut [u8; 64],
 )
-    requires { ⌜ (m ≤ 64) × (at + 11 * m ≤ length (recordingOf rec (now octets) (now i) (now q)))
-        × AllUsable (recordingOf rec (now octets) (now i) (now q)) at (11 * m) × (length (now numbers) ≡ 64) ⌝ }
+    requires { ⌜ (m ≤ 64) × (at + 11 * m ≤ length (lent rec octets bytes i q))
+        × AllUsable (lent rec octets bytes i q) at (11 * m) × (length (now numbers) ≡ 64) ⌝ }
     ensures numbers { λ _. ⌜ DecidedAt Rate.One
-        (recordingOf rec (now (octets .entry)) (now (i .entry)) (now (q .entry))) at m (now (numbers .exit)) ⌝ }
+        (lent rec (octets .entry) (bytes .entry) (i .entry) (q .entry)) at m (now (numbers .exit)) ⌝ }
 {
     match rec {
         Recorder::Hard => hard::barkers(octets, at, m, numbers),
         Recorder::Soft => soft::barkers(i, q, at, m, numbers),
+        Recorder::Bytes => signed_bytes::barkers(bytes, at, m, numbers),
     }
 }
 
@@ -153,20 +171,22 @@ fn barkers(
 fn fives(
     rec: Recorder,
     octets: &[u8],
+    bytes: &[i8],
     i: &[f32],
     q: &[f32],
     at: usize,
     m: usize,
     numbers: &mut [u8; 64],
 )
-    requires { ⌜ (m ≤ 64) × (at + 8 * m ≤ length (recordingOf rec (now octets) (now i) (now q)))
-        × AllUsable (recordingOf rec (now octets) (now i) (now q)) at (8 * m) × (length (now numbers) ≡ 64) ⌝ }
+    requires { ⌜ (m ≤ 64) × (at + 8 * m ≤ length (lent rec octets bytes i q))
+        × AllUsable (lent rec octets bytes i q) at (8 * m) × (length (now numbers) ≡ 64) ⌝ }
     ensures numbers { λ _. ⌜ DecidedAt Rate.Five
-        (recordingOf rec (now (octets .entry)) (now (i .entry)) (now (q .entry))) at m (now (numbers .exit)) ⌝ }
+        (lent rec (octets .entry) (bytes .entry) (i .entry) (q .entry)) at m (now (numbers .exit)) ⌝ }
 {
     match rec {
         Recorder::Hard => hard::fives(octets, at, m, numbers),
         Recorder::Soft => soft::fives(i, q, at, m, numbers),
+        Recorder::Bytes => signed_bytes::fives(bytes, at, m, numbers),
     }
 }
 
@@ -175,6 +195,7 @@ fn fives(
 pub fn decide(
     rec: Recorder,
     octets: &[u8],
+    bytes: &[i8],
     i: &[f32],
     q: &[f32],
     rate: Rate,
@@ -182,16 +203,16 @@ pub fn decide(
     m: usize,
     numbers: &mut [u8; 64],
 )
-    requires { ⌜ (m ≤ 64) × (at + symbolChips rate * m ≤ length (recordingOf rec (now octets) (now i) (now q)))
-        × AllUsable (recordingOf rec (now octets) (now i) (now q)) at (symbolChips rate * m)
+    requires { ⌜ (m ≤ 64) × (at + symbolChips rate * m ≤ length (lent rec octets bytes i q))
+        × AllUsable (lent rec octets bytes i q) at (symbolChips rate * m)
         × (length (now numbers) ≡ 64) ⌝ }
     ensures numbers { λ _. ⌜ DecidedAt rate
-        (recordingOf rec (now (octets .entry)) (now (i .entry)) (now (q .entry))) at m (now (numbers .exit)) ⌝ }
+        (lent rec (octets .entry) (bytes .entry) (i .entry) (q .entry)) at m (now (numbers .exit)) ⌝ }
 {
     match rate {
-        Rate::One => barkers(rec, octets, i, q, at, m, numbers),
-        Rate::Two => barkers(rec, octets, i, q, at, m, numbers),
-        Rate::Five => fives(rec, octets, i, q, at, m, numbers),
-        Rate::Eleven => elevens(rec, octets, i, q, at, m, numbers),
+        Rate::One => barkers(rec, octets, bytes, i, q, at, m, numbers),
+        Rate::Two => barkers(rec, octets, bytes, i, q, at, m, numbers),
+        Rate::Five => fives(rec, octets, bytes, i, q, at, m, numbers),
+        Rate::Eleven => elevens(rec, octets, bytes, i, q, at, m, numbers),
     }
 }

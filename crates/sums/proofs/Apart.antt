@@ -97,7 +97,7 @@ unit-within (suc (suc (suc (suc p)))) =
 pub units-small : (x : Axis) (chips : List Chip) → RowWithin 1 (rowOn unitOf refl x chips)
 units-small = row-small unitOf refl 1 (λ c. unit-within (octetOf c))
 
-full-times : (p : ℕ) → Times (fullChip 1024 p) (fullChip 1 p)
+full-times : (p : ℕ) → Times 1024 (fullChip 1024 p) (fullChip 1 p)
 full-times zero = record { real = refl; imag = refl }
 full-times (suc zero) = record { real = refl; imag = refl }
 full-times (suc (suc zero)) = record { real = refl; imag = refl }
@@ -108,7 +108,7 @@ full-times (suc (suc (suc (suc p)))) = record { real = refl; imag = refl }
 units-decided : (n : ℕ) (r : Rate) (chips : List Chip) → length chips ≡ n → AllHard n chips
     → decided r (map unitOf chips) ≡ decided r (map countsOf chips)
 units-decided n r chips e h =
-    sym (decided-times (λ c. fullChip 1024 (octetOf c)) unitOf (λ c. full-times (octetOf c)) r chips)
+    sym (decided-times 1024 (lit≤ tt) (λ c. fullChip 1024 (octetOf c)) unitOf (λ c. full-times (octetOf c)) r chips)
     ∙ ap (decided r)
     (map-tabulate (λ c. fullChip 1024 (octetOf c)) chips n Lost e
     ∙ tabulate-ext (λ k. fullChip 1024 (octetOf (getD chips k Lost))) (λ k. countsOf (getD chips k Lost)) n

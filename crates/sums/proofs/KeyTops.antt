@@ -2,12 +2,19 @@
 -- Assumes nothing.
 use mathlib.Core.Path.{_≡_, refl, _∙_, subst}
 use mathlib.Core.Bool.{Bool, true, false, not, cond}
-use Prim.Native.Nat.{ℕ, suc, _≤_, _<_}
+use mathlib.Core.List.{List}
+use Prim.Native.Nat.{ℕ, suc, _^_, _≤_, _<_}
 use native.Mathlib.Decide.{decLt}
 use native.Mathlib.Omega.{arith}
 use lib.Dec.{T, ltb, ltb→lt, nltb→le}
+use lib.ListN.{getD}
 use lib.IntN.{ℤ, pos}
-use Rattle.choosing.specs.Keys.{larger, bigger, Largest, HoldsLargest}
+use mir.Syntax.{Width}
+use mir.Val.{toZ, ofZ, hbits}
+use Rattle.base.proofs.Whole.{small}
+use Rattle.choosing.specs.Scores.{RowWithin}
+use Rattle.choosing.specs.Keys.{larger, bigger, keyOf, Largest, HoldsLargest}
+use Rattle.sums.specs.Sums.{keyAt}
 
 pub largest-one : (k : ℕ → ℕ) (a : ℕ) → Largest k a (suc a) (k a)
 largest-one k a = record {
@@ -64,3 +71,14 @@ holds-both t s e = record {
   is-x = e ∙ larger-held (t .is-x) (s .is-x);
   largest = largest-both (t .largest) (s .largest);
 }
+
+-- ---- two neighbours of eight scores, in signed numbers of any width
+pub holds-two : (w : Width) {b : ℕ} → b < 2 ^ hbits w → (h : List ℤ) (j : ℕ) → RowWithin b h → {z : ℤ}
+    → z ≡ larger (pos (keyOf 8 j (toZ w (ofZ w (getD h j (pos 0))))))
+    (pos (keyOf 8 (suc j) (toZ w (ofZ w (getD h (suc j) (pos 0))))))
+    → HoldsLargest (keyAt h) j (suc (suc j)) z
+holds-two w {b} k h j r e = holds-both (holds-one (keyAt h) j refl) (holds-one (keyAt h) (suc j) refl)
+    (e ∙ (λ i. larger (pos (keyOf 8 j (same j i))) (pos (keyOf 8 (suc j) (same (suc j) i)))))
+  where
+    same : (n : ℕ) → toZ w (ofZ w (getD h n (pos 0))) ≡ getD h n (pos 0)
+    same n = small w b k _ (r .at n)

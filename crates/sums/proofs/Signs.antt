@@ -16,7 +16,7 @@ use mir.Syntax.{Width}
 use mir.Val.{SFits, toZ, ofZ, hbits}
 use mir.Facts.{toZ-ofZ}
 use Rattle.base.specs.Whole.{Within}
-use Rattle.base.proofs.Whole.{within-add, within-neg, within-zero, within-more}
+use Rattle.base.proofs.Whole.{fits-at, within-add, within-neg, within-zero, within-more}
 use Rattle.base.proofs.Tests.{all-at, implies, implied}
 use Rattle.rates.specs.declared.Rate.the-variants.{One}
 use Rattle.chips.specs.declared.Counts.{Counts}
@@ -28,7 +28,7 @@ use Rattle.symbols.specs.Choice.{score, decided}
 use Rattle.symbols.proofs.Words.{barkerTurns}
 use Rattle.choosing.specs.Scores.{RowWithin, scoreAt}
 use Rattle.sums.specs.Sums.{bySign, signed, bySigns, fourOf, bestOfSums}
-use Rattle.choosing.proofs.Adding.{fits-at, reads-of}
+use Rattle.choosing.proofs.Adding.{reads-of}
 use Rattle.choosing.proofs.Best.{first-ext}
 use Rattle.choosing.proofs.HalfTurns.{barker-half}
 

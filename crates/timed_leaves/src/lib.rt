@@ -53,14 +53,16 @@ fn first_word(r: Rate, i: &[f32], q: &[f32]) -> u64
     requires { ⌜ symbolChips r ≤ length (softRecording (now i) (now q)) ⌝ }
     ensures answer { λ a. ⌜ a ≡ firstWord r (softRecording (now (i .entry)) (now (q .entry))) ⌝ }
 {
-    let none = [0u8; 1];
-    let row = &none[0..0];
-    let bad = recorders::first_unusable(Recorder::Soft, row, i, q, 0, r.symbol_chips());
+    let octet = [0u8; 1];
+    let row = &octet[0..0];
+    let byte = [0i8; 1];
+    let bytes = &byte[0..0];
+    let bad = recorders::first_unusable(Recorder::Soft, row, bytes, i, q, 0, r.symbol_chips());
     match bad {
         Found::At(_) => 0,
         Found::Nothing => {
             let mut numbers = [0u8; 64];
-            recorders::decide(Recorder::Soft, row, i, q, r, 0, 1, &mut numbers);
+            recorders::decide(Recorder::Soft, row, bytes, i, q, r, 0, 1, &mut numbers);
             wide(numbers[0])
         }
     }
@@ -71,13 +73,15 @@ fn first_word(r: Rate, i: &[f32], q: &[f32]) -> u64
 pub extern "C" fn timed_decide(rate: u64, i: &[f32], q: &[f32]) -> u64
     ensures answer { λ r. ⌜ r ≡ decidedSoft rate (now (i .entry)) (now (q .entry)) ⌝ }
 {
-    let none = [0u8; 1];
-    let row = &none[0..0];
+    let octet = [0u8; 1];
+    let row = &octet[0..0];
+    let byte = [0i8; 1];
+    let bytes = &byte[0..0];
     if !rates::is_code(rate) {
         return 0;
     }
     let r = rates::rate_of(rate);
-    if recorders::chip_count(Recorder::Soft, row, i, q) < r.symbol_chips() {
+    if recorders::chip_count(Recorder::Soft, row, bytes, i, q) < r.symbol_chips() {
         return 0;
     }
     first_word(r, i, q)

@@ -40,5 +40,3 @@ soft-counts8-spec =
     (tie.spec Inv-loop μ-loop (λ c. filled-none _ 8 _ refl) (λ c. search needs) (λ c. search needs)
     count-requires (λ c. search needs) (λ c. search needs) (λ c. search needs) (λ c. search needs)
     loop-again returns)
-
--- touched

@@ -15,7 +15,7 @@ use mir.Syntax.{w32}
 use mir.Val.{SFits, toZ}
 use mir.ValLaws.{toZ-pos, toZ-ofZ}
 use Rattle.base.specs.Whole.{up, dn, Within}
-use Rattle.base.proofs.Whole.{add, neg-up, neg-dn, up-pos, dn-pos, within-sfits}
+use Rattle.base.proofs.Whole.{add, neg-up, neg-dn, up-pos, dn-pos, fits-at}
 use Rattle.chips.specs.Floats.{steps, negative, usable, nearest, signed, countOf}
 use Rattle.chips.proofs.Sum.{cond-yes, moved, Summed, summed}
 use Rattle.counts.proofs.count.Statement.{statement}
@@ -39,7 +39,7 @@ sub-fits a b h k =
     let e : up (pos a -ℤ pos b) + b ≡ dn (pos a -ℤ pos b) + a =
     omega (arith, add (pos a) (negℤ (pos b)), neg-up (pos b), neg-dn (pos b), up-pos a, dn-pos a, up-pos b, dn-pos b) in
     let w : Within 2147483647 (pos a -ℤ pos b) = record { high = omega arith; low = omega arith } in
-    rw (toZ-pos w32 a h) (within-sfits w (omega arith))
+    rw (toZ-pos w32 a h) (fits-at w32 w (omega arith))
 
 abbrev code : Float → ℕ
 code x = toBits binary32 (ieee.add binary32 x (ofBits binary32 1178599424))

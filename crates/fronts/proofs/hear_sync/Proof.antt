@@ -46,7 +46,8 @@ hear-requires c κs =
       omega arith,
       rw (c .before .first-line .ensures .at-phase) (decided-small _ _ d _ (omega arith)),
       d .long,
-      block-are-words One 8 8 refl (recordingOf (a .rec) (a .row .now) (a .i .now) (a .q .now)) 0 _ d (omega arith),
+      block-are-words One 8 8 refl
+          (recordingOf (a .rec) (a .row .now) (a .bytes .now) (a .i .now) (a .q .now)) 0 _ d (omega arith),
     )
 
 -- the rest of the row
@@ -74,7 +75,8 @@ returns c =
     let start = heard .before .before .before .before .before .before .before .before .before in
     let a = start .args in
     let count = c .before .before .before .before .before .before .preamble-octets .ensures in
-    sync-heard (a .kind) (recordingOf (a .rec) (a .row .now) (a .i .now) (a .q .now)) _ _ _ _ _ _ _ _ _ _
+    sync-heard (a .kind) (recordingOf (a .rec) (a .row .now) (a .bytes .now) (a .i .now) (a .q .now))
+    _ _ _ _ _ _ _ _ _ _
     (heard .before .before .before .decide .ensures) (heard .before .before .first-line .ensures)
     (heard .hear .ensures .0)
     (heard .hear .ensures .1) (rest-lent (a .kind) (heard .hear .last .1 .1 .1 .1 .1 .0) _ (long heard) count) count

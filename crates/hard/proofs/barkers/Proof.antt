@@ -43,7 +43,7 @@ loop-again c =
     let l = turn .loop .l in
     let h = c .before .before .loop-test .taken in
     decided-more One (hardRecording (s .args .octets .now)) (s .args .at) (s .args .m) l _ _
-    (c .before .eleven .result) (s .pre .0) h
+    _ (s .pre .0) h
     (turn .loop .inv) (c .decide-barker .ensures)
     (ap (map countsOf) (c .before .eleven .ensures)
     ∙ gathered-hard 11 (s .args .octets .now) (s .args .at + 11 * l) (omega (arith, s .pre .1)))

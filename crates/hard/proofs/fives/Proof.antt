@@ -43,7 +43,7 @@ loop-again c =
     let l = turn .loop .l in
     let h = c .before .before .loop-test .taken in
     decided-more Five (hardRecording (s .args .octets .now)) (s .args .at) (s .args .m) l _ _
-    (c .before .eight .result) (s .pre .0) h
+    _ (s .pre .0) h
     (turn .loop .inv) (c .decide-five .ensures)
     (ap (map countsOf) (c .before .eight .ensures)
     ∙ gathered-hard 8 (s .args .octets .now) (s .args .at + 8 * l) (omega (arith, s .pre .1)))

@@ -55,13 +55,13 @@ hear-requires c κs =
       omega (
         arith,
         start .pre .2,
-        recording-fits (a .rec) (a .row .now) (a .i .now) (a .q .now) (2 ^ 64) (start .good .1 .0 .0)
-            (start .good .1 .1 .0 .0),
+        recording-fits (a .rec) (a .row .now) (a .bytes .now) (a .i .now) (a .q .now) (2 ^ 64) (start .good .1 .0 .0)
+            (start .good .1 .1 .0 .0) (start .good .1 .1 .1 .0 .0),
       ),
       start .pre .4,
       d .long,
       block-are-words (a .rate) _ (a .count) (c .before .before .before .octet-symbols .ensures)
-          (recordingOf (a .rec) (a .row .now) (a .i .now) (a .q .now)) (a .place) _ d (start .pre .0),
+          (recordingOf (a .rec) (a .row .now) (a .bytes .now) (a .i .now) (a .q .now)) (a .place) _ d (start .pre .0),
     )
 
 returns : tie.Need-returns
@@ -71,7 +71,7 @@ returns c =
     let call = c .before .before .hear in
     let words = block-words (a .rate) _ (a .count)
     (c .before .before .before .before .before .before .octet-symbols .ensures)
-    (recordingOf (a .rec) (a .row .now) (a .i .now) (a .q .now)) (a .place) _
+    (recordingOf (a .rec) (a .row .now) (a .bytes .now) (a .i .now) (a .q .now)) (a .place) _
     (c .before .before .before .before .decide .ensures) (start .pre .0) in (
       subst (λ (ws : List ℕ). Heard (a .rate) (a .place) (a .line) ws (call .result)) words (call .ensures .0),
       call .ensures .1 ∙ ap (λ (ws : List ℕ). over (plainOctets (a .rate) (a .count) (a .line) ws) (a .out .now)) words,

@@ -12,11 +12,11 @@ use Rattle.hearing.proofs.hear_octets.Statement.{statement}
 use Rattle.hearing.proofs.hear_octets.Tie as tie
 
 abbrev Inv-loop : tie.InvT-loop
-Inv-loop rec row i q rate at out₀ chips heard₀ place₀ k₀ out heard place k =
-    Parts rate at (recordingOf rec row i q) (heard₀ .line) out₀ heard place k out
+Inv-loop rec row bytes i q rate at out₀ chips heard₀ place₀ k₀ out heard place k =
+    Parts rate at (recordingOf rec row bytes i q) (heard₀ .line) out₀ heard place k out
 
 abbrev μ-loop : tie.MeasureT-loop
-μ-loop rec row i q rate at out₀ chips heard₀ place₀ k₀ out heard place k = length out₀ - k
+μ-loop rec row bytes i q rate at out₀ chips heard₀ place₀ k₀ out heard place k = length out₀ - k
 
 -- in a turn there are octets left
 left : (c : tie.In-loop Inv-loop μ-loop)
@@ -27,7 +27,7 @@ left c = omega (arith, parts-long (c .before .loop .inv))
 held : (c : tie.After-block-octets Inv-loop μ-loop)
     → let a = c .before .before .before .before .before .before .before .before .args in
     c .before .before .loop .place + octetChips (a .rate) * c .block-octets .result
-    ≤ length (recordingOf (a .rec) (a .row .now) (a .i .now) (a .q .now))
+    ≤ length (recordingOf (a .rec) (a .row .now) (a .bytes .now) (a .i .now) (a .q .now))
 held c =
     let start = c .before .before .before .before .before .before .before .before in
     block-room _ _ _ _ _ _ _ _ _ _ (c .before .before .loop .inv) (left (c .before)) (c .block-octets .ensures) _
@@ -44,8 +44,8 @@ ends c =
     (omega (
       arith,
       h,
-      recording-fits (a .rec) (a .row .now) (a .i .now) (a .q .now) (2 ^ 64) (start .good .1 .0 .0)
-          (start .good .1 .1 .0 .0),
+      recording-fits (a .rec) (a .row .now) (a .bytes .now) (a .i .now) (a .q .now) (2 ^ 64) (start .good .1 .0 .0)
+          (start .good .1 .1 .0 .0) (start .good .1 .1 .1 .0 .0),
     ))
 
 loop-holds : tie.Need-loop-holds Inv-loop μ-loop
@@ -82,7 +82,7 @@ add-k c =
       fits = omega (
         arith,
         w .within,
-        turn c .before .before .before .before .before .before .before .before .good .1 .1 .1 .1 .1 .1 .1 .0 .0,
+        turn c .before .before .before .before .before .before .before .before .good .1 .1 .1 .1 .1 .1 .1 .1 .0 .0,
       );
     }
 

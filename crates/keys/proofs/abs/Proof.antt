@@ -2,21 +2,22 @@
 -- Assumes nothing.
 use mathlib.Core.Path.{_∙_}
 use lib.Dec.{lit<}
+use mir.Syntax.{w32}
 use Rattle.base.proofs.Whole.{small, neg-fits, neg-read}
 use Rattle.sums.proofs.Wide.{abs-below, abs-above}
 use Rattle.keys.proofs.abs.Statement.{statement}
 use Rattle.keys.proofs.abs.Tie as tie
 
 sub-result : tie.Need-sub-result
-sub-result c = neg-fits 2147483647 (lit< tt) _ (c .before .pre)
+sub-result c = neg-fits w32 2147483647 (lit< tt) _ (c .before .pre)
 
 returns : tie.Need-returns
-returns c = neg-read 2147483647 (lit< tt) _ (c .before .pre)
-    ∙ abs-below (c .before .args .s) (rw (small 2147483647 (lit< tt) _ (c .before .pre)) at (c .if1 .taken))
+returns c = neg-read w32 2147483647 (lit< tt) _ (c .before .pre)
+    ∙ abs-below (c .before .args .s) (rw (small w32 2147483647 (lit< tt) _ (c .before .pre)) at (c .if1 .taken))
 
 returns-2 : tie.Need-returns-2
 returns-2 c =
-    let e = small 2147483647 (lit< tt) _ (c .before .pre) in
+    let e = small w32 2147483647 (lit< tt) _ (c .before .pre) in
     e ∙ abs-above (c .before .args .s) (rw e at (c .if1 .left))
 
 pub abs-spec : {M : Type 1} → statement M

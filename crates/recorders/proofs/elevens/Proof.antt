@@ -13,13 +13,15 @@ use Rattle.recorders.proofs.elevens.Statement.{statement}
 use Rattle.recorders.proofs.elevens.Tie as tie
 
 abbrev Inv-loop : tie.InvT-loop
-Inv-loop rec octets i q at m numbers₀ l₀ numbers l = Decided Eleven (recordingOf rec octets i q) at m numbers l
+Inv-loop rec octets bytes i q at m numbers₀ l₀ numbers l =
+    Decided Eleven (recordingOf rec octets bytes i q) at m numbers l
 
 abbrev μ-loop : tie.MeasureT-loop
-μ-loop rec octets i q at m numbers₀ l₀ numbers l = m - l
+μ-loop rec octets bytes i q at m numbers₀ l₀ numbers l = m - l
 
 abbrev recording : tie.Start Inv-loop μ-loop → List Taken
-recording s = recordingOf (s .args .rec) (s .args .octets .now) (s .args .i .now) (s .args .q .now)
+recording s =
+    recordingOf (s .args .rec) (s .args .octets .now) (s .args .bytes .now) (s .args .i .now) (s .args .q .now)
 
 loop-holds : tie.Need-loop-holds Inv-loop μ-loop
 loop-holds c =
@@ -30,8 +32,9 @@ add-eight : tie.Need-add-eight Inv-loop μ-loop
 add-eight c =
     let s = c .before .before .before .before .before in
     let h = c .loop-test .taken in
-    let fits = recording-fits (s .args .rec) (s .args .octets .now) (s .args .i .now) (s .args .q .now) (2 ^ 64)
-    (omega arith) (omega arith) in
+    let a = s .args in
+    let fits = recording-fits (a .rec) (a .octets .now) (a .bytes .now) (a .i .now) (a .q .now) (2 ^ 64)
+    (omega arith) (omega arith) (omega arith) in
     omega (arith, s .pre .1)
 
 loop-again : tie.Need-loop-again Inv-loop μ-loop
@@ -40,7 +43,7 @@ loop-again c =
     let s = turn .before .before .before .before in
     decided-more Eleven (recording s) (s .args .at) (s .args .m) (turn .loop .l) _ _ (c .before .eight .result)
     (s .pre .0) (c .before .before .loop-test .taken) (turn .loop .inv) (c .decide-eleven .ensures)
-    (c .before .eight .ensures)
+    (c .before .eight .ensures .0)
 
 returns : tie.Need-returns Inv-loop μ-loop
 returns c =

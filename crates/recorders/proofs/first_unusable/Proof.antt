@@ -15,12 +15,12 @@ use Rattle.recorders.proofs.first_unusable.Statement.{statement}
 use Rattle.recorders.proofs.first_unusable.Tie as tie
 
 abbrev Inv-loop : tie.InvT-loop
-Inv-loop rec octets i q from to at₀ at =
-    let chips = recordingOf rec octets i q in
+Inv-loop rec octets bytes i q from to at₀ at =
+    let chips = recordingOf rec octets bytes i q in
     firstUnusable from (take (to - from) (drop from chips)) ≡ firstUnusable at (take (to - at) (drop at chips))
 
 abbrev μ-loop : tie.MeasureT-loop
-μ-loop rec octets i q from to at₀ at = to - at
+μ-loop rec octets bytes i q from to at₀ at = to - at
 
 returns : tie.Need-returns Inv-loop μ-loop
 returns c =
@@ -28,8 +28,8 @@ returns c =
     let a = start .args in
     let loop = c .before .before .before .loop in
     sym (loop .inv
-    ∙ search-here (recordingOf (a .rec) (a .octets .now) (a .i .now) (a .q .now)) (loop .at) (a .to) unusable
-    (c .before .before .loop-test .taken) (start .pre)
+    ∙ search-here (recordingOf (a .rec) (a .octets .now) (a .bytes .now) (a .i .now) (a .q .now)) (loop .at) (a .to)
+    unusable (c .before .before .loop-test .taken) (start .pre)
     (not-false _ (sym (c .before .usable-at .ensures) ∙ not-true _ (c .if1 .taken))))
 
 loop-again : tie.Need-loop-again Inv-loop μ-loop
@@ -38,8 +38,8 @@ loop-again c =
     let a = start .args in
     let loop = c .before .before .before .loop in
     loop .inv
-    ∙ search-on (recordingOf (a .rec) (a .octets .now) (a .i .now) (a .q .now)) (loop .at) (a .to) unusable
-    (c .before .before .loop-test .taken) (start .pre)
+    ∙ search-on (recordingOf (a .rec) (a .octets .now) (a .bytes .now) (a .i .now) (a .q .now)) (loop .at) (a .to)
+    unusable (c .before .before .loop-test .taken) (start .pre)
     (not-true _ (sym (c .before .usable-at .ensures) ∙ not-false _ (c .if1 .left)))
 
 returns-2 : tie.Need-returns-2 Inv-loop μ-loop

@@ -14,12 +14,12 @@ use Rattle.recorders.proofs.skip_clean.Statement.{statement}
 use Rattle.recorders.proofs.skip_clean.Tie as tie
 
 abbrev Inv-loop : tie.InvT-loop
-Inv-loop rec octets i q from to at₀ at =
-    let chips = recordingOf rec octets i q in
+Inv-loop rec octets bytes i q from to at₀ at =
+    let chips = recordingOf rec octets bytes i q in
     firstUnusable from (take (to - from) (drop from chips)) ≡ firstUnusable at (take (to - at) (drop at chips))
 
 abbrev μ-loop : tie.MeasureT-loop
-μ-loop rec octets i q from to at₀ at = to - at
+μ-loop rec octets bytes i q from to at₀ at = to - at
 
 loop-again : tie.Need-loop-again Inv-loop μ-loop
 loop-again c =
@@ -27,7 +27,7 @@ loop-again c =
     let a = start .args in
     let loop = c .before .before .before .before .loop in
     loop .inv
-    ∙ search-past (recordingOf (a .rec) (a .octets .now) (a .i .now) (a .q .now)) (loop .at) (a .to) 64
+    ∙ search-past (recordingOf (a .rec) (a .octets .now) (a .bytes .now) (a .i .now) (a .q .now)) (loop .at) (a .to) 64
     (omega (arith, leb-true 64 (a .to - loop .at) (c .before .before .if1 .taken))) (start .pre)
     (c .before .clean .ensures (c .if2 .taken))
 
@@ -49,7 +49,8 @@ add-at : tie.Need-add-at Inv-loop μ-loop
 add-at c =
     let start = c .before .before .before .before .before .before .before .before in
     let a = start .args in
-    let l = recording-fits (a .rec) (a .octets .now) (a .i .now) (a .q .now) (2 ^ 64) (omega arith) (omega arith) in
+    let l = recording-fits (a .rec) (a .octets .now) (a .bytes .now) (a .i .now) (a .q .now) (2 ^ 64)
+    (omega arith) (omega arith) (omega arith) in
     omega (arith, leb-true 64 (a .to - c .before .before .before .before .loop .at) (c .before .before .if1 .taken))
 
 pub skip-clean-spec : {M : Type 1} → statement M

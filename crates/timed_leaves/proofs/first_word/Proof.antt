@@ -45,7 +45,7 @@ module _ (r : Rate) (rec : List Taken) (n : ℕ) (f : Found) (e : n ≡ symbolCh
 
 -- what the search tells, and where it began
 abbrev start : tie.After-first-unusable → tie.Start
-start c = c .before .before .before .before .before .before
+start c = c .before .before .before .before .before .before .before .before
 
 abbrev rec : tie.After-first-unusable → List Taken
 rec c = softRecording (start c .args .i .now) (start c .args .q .now)
@@ -78,7 +78,8 @@ returns-2 c =
 pub first-word-spec : {M : Type 1} → statement M
 first-word-spec =
     tie.close
-    (tie.spec (λ c. search needs) (λ c. search needs) (λ c. search needs) (λ c κs. search needs)
-    (λ c κs. omega (arith, c .symbol-chips .ensures, c .before .before .before .before .before .pre))
+    (tie.spec (λ c. search needs) (λ c. search needs) (λ c. search needs) (λ c. search needs) (λ c. search needs)
+    (λ c. search needs) (λ c κs. search needs)
+    (λ c κs. omega (arith, c .symbol-chips .ensures, c .before .before .before .before .before .before .before .pre))
     (λ c. search needs) (λ c. search needs) decide-requires (λ c. search needs)
     (λ c κs. search needs) returns returns-2)

@@ -29,5 +29,3 @@ returns c =
 pub decide-barker-spec : {M : Type 1} → statement M
 decide-barker-spec =
     tie.close (tie.spec (λ c κs. search needs) (λ c κs. search needs) barker-requires returns)
-
--- touched

@@ -27,7 +27,7 @@ module _ (c : tie.After-top-key) where
   read = search needs
 
   score : (s : ℤ) → Within 90112 s → toZ w32 (ofZ w32 s) ≡ s
-  score s h = small 90112 (lit< tt) s h
+  score s h = small w32 90112 (lit< tt) s h
 
   top : HoldsLargest (sumKey i q) 0 2 (toZ w32 (ofZ w32 (c .top-key .result)))
   top = holds-both (holds-one (sumKey i q) 0 refl) (holds-one (sumKey i q) 1 refl)

@@ -1,6 +1,6 @@
 -- `choice::five::largest` meets its contract: the larger of each two, then of each four, then of all eight.
 -- Assumes nothing.
-use mathlib.Core.Path.{_≡_, refl, _∙_}
+use mathlib.Core.Path.{_≡_, _∙_}
 use mathlib.Core.List.{List}
 use Prim.Native.Nat.{ℕ, suc, _≤_, _<_}
 use lib.Dec.{lit<, lit≤}
@@ -12,17 +12,14 @@ use borrow.Author.Needs.{needs}
 use Rattle.base.specs.Whole.{Within}
 use Rattle.base.proofs.Whole.{small, within-more}
 use Rattle.choosing.specs.Scores.{RowWithin}
-use Rattle.choosing.specs.Keys.{larger, keyOf, HoldsLargest}
+use Rattle.choosing.specs.Keys.{larger, HoldsLargest}
 use Rattle.sums.specs.Sums.{keyAt}
-use Rattle.sums.proofs.KeyTops.{holds-one, holds-both}
+use Rattle.sums.proofs.KeyTops.{holds-two, holds-both}
 use Rattle.choice.proofs.five.largest.Statement.{statement}
 use Rattle.choice.proofs.five.largest.Tie as tie
 
 abbrev read : ℤ → ℤ
 read z = toZ w32 (ofZ w32 z)
-
-same : (h : List ℤ) (j : ℕ) → RowWithin 65536 h → read (getD h j (pos 0)) ≡ getD h j (pos 0)
-same h j r = small 65536 (lit< tt) _ (r .at j)
 
 -- what is asked of the places j and j + 1
 asks : (h : List ℤ) (j : ℕ) → suc j < 8 → RowWithin 65536 h
@@ -30,14 +27,7 @@ asks : (h : List ℤ) (j : ℕ) → suc j < 8 → RowWithin 65536 h
 asks h j l r = (lit≤ tt, asked j, asked (suc j), l)
   where
     asked : (k : ℕ) → Within 90112 (read (getD h k (pos 0)))
-    asked k = rw (same h k r) (within-more (r .at k) (lit≤ tt))
-
--- the larger key of the places j and j + 1
-two : (h : List ℤ) (j : ℕ) → RowWithin 65536 h → {z : ℤ}
-    → z ≡ larger (pos (keyOf 8 j (read (getD h j (pos 0))))) (pos (keyOf 8 (suc j) (read (getD h (suc j) (pos 0)))))
-    → HoldsLargest (keyAt h) j (suc (suc j)) z
-two h j r e = holds-both (holds-one (keyAt h) j refl) (holds-one (keyAt h) (suc j) refl)
-    (e ∙ (λ i. larger (pos (keyOf 8 j (same h j r i))) (pos (keyOf 8 (suc j) (same h (suc j) r i)))))
+    asked k = rw (small w32 65536 (lit< tt) _ (r .at k)) (within-more (r .at k) (lit≤ tt))
 
 module _ (c : tie.After-max3) where
   abbrev k4 : tie.After-top-key4
@@ -59,7 +49,8 @@ module _ (c : tie.After-max3) where
   within = k1 .before .before .before .pre
 
   low : HoldsLargest (keyAt row) 0 4 (c .before .before .max .result)
-  low = holds-both (two row 0 within (k1 .top-key .ensures)) (two row 2 within (k2 .top-key2 .ensures))
+  low = holds-both (holds-two w32 (lit< tt) row 0 within (k1 .top-key .ensures))
+      (holds-two w32 (lit< tt) row 2 within (k2 .top-key2 .ensures))
       (c .before .before .max .ensures ∙ (λ i. larger (read1 i) (read2 i)))
     where
       read1 : read (k1 .top-key .result) ≡ k1 .top-key .result
@@ -69,7 +60,8 @@ module _ (c : tie.After-max3) where
       read2 = search needs
 
   high : HoldsLargest (keyAt row) 4 8 (c .before .max2 .result)
-  high = holds-both (two row 4 within (k3 .top-key3 .ensures)) (two row 6 within (k4 .top-key4 .ensures))
+  high = holds-both (holds-two w32 (lit< tt) row 4 within (k3 .top-key3 .ensures))
+      (holds-two w32 (lit< tt) row 6 within (k4 .top-key4 .ensures))
       (c .before .max2 .ensures ∙ (λ i. larger (read3 i) (read4 i)))
     where
       read3 : read (k3 .top-key3 .result) ≡ k3 .top-key3 .result

@@ -5,6 +5,7 @@ use Prim.Native.Nat.{_+_, _-_, _*_}
 use native.Mathlib.Omega.{arith}
 use lib.Dec.{lit<}
 use lib.ListN.{getD}
+use mir.Syntax.{w32}
 use borrow.Author.Needs.{needs}
 use Rattle.base.specs.Tables.{Filled}
 use Rattle.base.proofs.Tables.{filled-none, filled-all}
@@ -26,11 +27,11 @@ loop-holds : tie.Need-loop-holds Inv-loop μ-loop
 loop-holds c = filled-none _ 64 _ refl
 
 sub-t : tie.Need-sub-t Inv-loop μ-loop
-sub-t c = let at = c .before .before .before .before in neg-fits 8192 (lit< tt) _
+sub-t c = let at = c .before .before .before .before in neg-fits w32 8192 (lit< tt) _
     (at .before .pre .at (at .loop .k) .real)
 
 sub-t-2 : tie.Need-sub-t-2 Inv-loop μ-loop
-sub-t-2 c = let at = c .before .before .before .before in neg-fits 8192 (lit< tt) _
+sub-t-2 c = let at = c .before .before .before .before in neg-fits w32 8192 (lit< tt) _
     (at .before .pre .at (at .loop .k) .imag)
 
 loop-again : tie.Need-loop-again Inv-loop μ-loop
@@ -39,10 +40,10 @@ loop-again c =
     let k = at .loop .k in
     let cs = at .before .args .t1 in
     let b = at .before .pre .at k in
-    let i = small 8192 (lit< tt) (getD cs k nothing .i) (b .real) in
-    let q = small 8192 (lit< tt) (getD cs k nothing .q) (b .imag) in
-    let ni = neg-read 8192 (lit< tt) (getD cs k nothing .i) (b .real) in
-    let nq = neg-read 8192 (lit< tt) (getD cs k nothing .q) (b .imag) in
+    let i = small w32 8192 (lit< tt) (getD cs k nothing .i) (b .real) in
+    let q = small w32 8192 (lit< tt) (getD cs k nothing .q) (b .imag) in
+    let ni = neg-read w32 8192 (lit< tt) (getD cs k nothing .i) (b .real) in
+    let nq = neg-read w32 8192 (lit< tt) (getD cs k nothing .q) (b .imag) in
     let a0 = filled-then (8 * k) _ (at .loop .inv) refl (omega arith)
     (i ∙ sym (turn-is cs (8 * k) k 0 (omega arith) (lit< tt))) in
     let a1 = filled-then (8 * k + 1) _ a0 refl (omega arith) (q ∙ sym (turn-is cs (8 * k + 1) k 1 refl (lit< tt))) in

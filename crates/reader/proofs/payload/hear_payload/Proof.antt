@@ -76,10 +76,11 @@ returns c =
     let call = told .before .before .before .hear-octets in
     let start = told .before .before .before .before .before .before .before .before .before .before in
     let a = start .args in
-    odd (a .kind) (a .rate) (a .n) _ _ (a .line) _ (a .octets .now) (call .last .1 .1 .1 .1 .1 .1 .1 .0) (start .pre .3)
+    odd (a .kind) (a .rate) (a .n) _ _ (a .line) _ (a .octets .now) (call .last .1 .1 .1 .1 .1 .1 .1 .1 .0)
+    (start .pre .3)
     (told .before .before .before .before .before .front-chips .ensures) (start .pre .2) (start .pre .4) (call .ensures)
     _ _ (c .before .before .before .before .before .odd .given .1)
-    (call .kept .1 .1 .1 .1 .1 .1 .1 .0) (c .before .before .fill .ensures)
+    (call .kept .1 .1 .1 .1 .1 .1 .1 .1 .0) (c .before .before .fill .ensures)
 
 returns-2 : tie.Need-returns-2
 returns-2 c =
@@ -87,7 +88,7 @@ returns-2 c =
     let call = told .before .before .before .hear-octets in
     let start = told .before .before .before .before .before .before .before .before .before .before in
     let a = start .args in
-    good (a .kind) (a .rate) (a .n) _ _ (a .line) _ (a .octets .now) (call .last .1 .1 .1 .1 .1 .1 .1 .0)
+    good (a .kind) (a .rate) (a .n) _ _ (a .line) _ (a .octets .now) (call .last .1 .1 .1 .1 .1 .1 .1 .1 .0)
     (start .pre .3) (told .before .before .before .before .before .front-chips .ensures) (start .pre .2)
     (start .pre .4) (call .ensures)
     (c .enum-told .given .1)

@@ -10,7 +10,7 @@ use Rattle.reader.proofs.payload.read_payload.Tie as tie
 -- 17 is through, and the payload's chips are searched
 searched : (c : tie.After-first-unusable)
     → let a = c .before .before .before .before .before .before .before .before .args in
-    Searched (a .kind) (a .told) (recordingOf (a .rec) (a .row .now) (a .i .now) (a .q .now))
+    Searched (a .kind) (a .told) (recordingOf (a .rec) (a .row .now) (a .bytes .now) (a .i .now) (a .q .now))
     (length (a .octets .now)) (c .before .frame-chips .result) (c .first-unusable .result)
 searched c = record {
   whole = c .before .frame-chips .ensures;

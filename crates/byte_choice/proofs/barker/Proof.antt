@@ -1,0 +1,29 @@
+-- `byte_choice::barker` meets its contract: the sums of both rows choose.
+-- Assumes nothing.
+use mathlib.Core.Path.{_≡_, _∙_}
+use mir.Syntax.{w16}
+use mir.Val.{toZ, ofZ}
+use borrow.Author.Needs.{needs}
+use Rattle.sums.specs.Sums.{bySigns, bestOfSums}
+use Rattle.sums.proofs.Signs.{by-signs-within}
+use Rattle.byte_choice.proofs.barker.Statement.{statement}
+use Rattle.byte_choice.proofs.barker.Tie as tie
+
+-- both sums, as they are read back
+sum-i : (c : tie.After-by-signs2) → toZ w16 (ofZ w16 (c .before .by-signs .result))
+    ≡ bySigns (c .before .before .args .i)
+sum-i c = search needs ∙ c .before .by-signs .ensures
+
+sum-q : (c : tie.After-by-signs2) → toZ w16 (ofZ w16 (c .by-signs2 .result)) ≡ bySigns (c .before .before .args .q)
+sum-q c = search needs ∙ c .by-signs2 .ensures
+
+choose-requires : tie.Need-choose-requires
+choose-requires c κs =
+    let pre = c .before .before .pre in
+    (rw (sum-i c) (by-signs-within 128 _ (pre .0)), rw (sum-q c) (by-signs-within 128 _ (pre .1)))
+
+returns : tie.Need-returns
+returns c = c .choose .ensures ∙ (λ j. bestOfSums (sum-i (c .before) j) (sum-q (c .before) j))
+
+pub barker-spec : {M : Type 1} → statement M
+barker-spec = tie.close (tie.spec (λ c κs. search needs) (λ c κs. search needs) choose-requires returns)

@@ -1,0 +1,64 @@
+-- Numbers put sixteen at a time: those of a block of up to 64 symbols, of which the last sixteen may be fewer.
+-- Assumes nothing.
+use mathlib.Core.Path.{_≡_, refl, _∙_, subst}
+use mathlib.Core.List.{List}
+use Prim.Native.Nat.{ℕ, _+_, _*_, _-_, _%_, _≤_, _<_}
+use native.Mathlib.Decide.{decLt}
+use native.Mathlib.Omega.{arith}
+use lib.ListN.{length, getD, set, length-set}
+use lib.Seq.{getD-set-same, getD-set-other}
+use Rattle.rates.specs.declared.Rate.{Rate}
+use Rattle.rates.specs.Rates.{symbolChips}
+use Rattle.chips.specs.Chips.{Taken}
+use Rattle.symbols.specs.Choice.{decided}
+use Rattle.recorded.specs.Recorded.{symbolAt, DecidedAt}
+use Rattle.signed_bytes.specs.Rows.{Put}
+
+-- ---- one number more
+pub put-none : {f : ℕ → ℕ} {l : ℕ} (ns : List ℕ) → length ns ≡ 64 → Put f l ns ns 0
+put-none ns e = record { long = e; kept = λ j h. refl; each = λ s h. absurd (omega arith) }
+
+pub put-more : {f : ℕ → ℕ} {l : ℕ} {before after : List ℕ} {s : ℕ} (v : ℕ) → l + s < 64 → v ≡ f s
+    → Put f l before after s → Put f l before (set after (l + s) v) (s + 1)
+put-more {f} {l} {before} {after} {s} v h e p = record {
+  long = length-set after (l + s) v ∙ p .long;
+  kept = λ j g. getD-set-other after (l + s) j v 0 (λ q. omega arith) ∙ p .kept j g;
+  each = λ t g. by t g (decLt t s);
+}
+  where
+    by : (t : ℕ) → t < s + 1 → Dec (t < s) → getD (set after (l + s) v) (l + t) 0 ≡ f t
+    by t g (yes q) = getD-set-other after (l + s) (l + t) v 0 (λ r. omega arith) ∙ p .each t q
+    by t g (no q) =
+        let r : s ≡ t = omega arith in
+        subst (λ (n : ℕ). getD (set after (l + s) v) (l + n) 0 ≡ f n) r
+        (getD-set-same after (l + s) v 0 (omega (arith, p .long)) ∙ e)
+
+-- ---- the first l of m symbols are decided, and l is so many sixteens
+module _ (r : Rate) (rec : List Taken) (at m : ℕ) where
+  pub record Upto (ns : List ℕ) (l : ℕ) : Type 0 where
+    pub long : length ns ≡ 64
+    pub sixteens : l % 16 ≡ 0
+    pub number : (j : ℕ) → j < l → j < m → getD ns j 0 ≡ decided r (symbolAt r rec (at + symbolChips r * j))
+
+  pub upto-none : (ns : List ℕ) → length ns ≡ 64 → Upto ns 0
+  upto-none ns e = record { long = e; sixteens = refl; number = λ j h g. absurd (omega arith) }
+
+  pub upto-more : (f : ℕ → ℕ) (before after : List ℕ) (l : ℕ) → Upto before l → Put f l before after 16
+      → ((s : ℕ) → s < 16 → l + s < m → f s ≡ decided r (symbolAt r rec (at + symbolChips r * (l + s))))
+      → Upto after (l + 16)
+  upto-more f before after l u p e = record {
+    long = p .long;
+    sixteens = omega (arith, u .sixteens);
+    number = λ j h g. by j h g (decLt j l);
+  }
+    where
+      by : (j : ℕ) → j < l + 16 → j < m → Dec (j < l)
+          → getD after j 0 ≡ decided r (symbolAt r rec (at + symbolChips r * j))
+      by j h g (yes q) = p .kept j q ∙ u .number j q g
+      by j h g (no q) =
+          let d : l + (j - l) ≡ j = omega arith in
+          subst (λ (n : ℕ). getD after n 0 ≡ decided r (symbolAt r rec (at + symbolChips r * n))) d
+          (p .each (j - l) (omega arith) ∙ e (j - l) (omega arith) (omega arith))
+
+  pub upto-all : (ns : List ℕ) (l : ℕ) → Upto ns l → m ≤ l → DecidedAt r rec at m ns
+  upto-all ns l u h = record { long = u .long; number = λ j g. u .number j (omega arith) g }
