@@ -27,13 +27,14 @@ struct library {
     dsss_record (*read_hard)(uint64_t, const uint8_t *, size_t, uint8_t *, size_t);
     dsss_record (*read_soft)(uint64_t, const float *, size_t, const float *, size_t, uint8_t *,
                              size_t);
+    dsss_record (*read_bytes)(uint64_t, const int8_t *, size_t, uint8_t *, size_t);
     void (*count)(const float *, size_t, int32_t *, size_t);
     uint64_t (*decide)(uint64_t, const float *, size_t, const float *, size_t);
 };
 
 static const struct library libraries[2] = {
-    {dsss_write, dsss_read_hard, dsss_read_soft, timed_count, timed_decide},
-    {plain_write, plain_read_hard, plain_read_soft, plain_count, plain_decide},
+    {dsss_write, dsss_read_hard, dsss_read_soft, dsss_read_bytes, timed_count, timed_decide},
+    {plain_write, plain_read_hard, plain_read_soft, plain_read_bytes, plain_count, plain_decide},
 };
 
 static const struct {
@@ -46,6 +47,7 @@ static const char *const kinds[] = {"long", "short"};
 /* The rows of the call under measurement. */
 static uint8_t payload[DSSS_PAYLOAD_MAX], chips[DSSS_CHIPS_MAX], octets[DSSS_PAYLOAD_MAX];
 static float i_row[DSSS_CHIPS_MAX], q_row[DSSS_CHIPS_MAX];
+static int8_t bytes[2 * DSSS_CHIPS_MAX];
 static uint64_t kind, rate;
 static size_t payload_len, chips_len;
 
@@ -79,10 +81,20 @@ static uint64_t read_soft_task(const struct library *l)
     return l->read_soft(kind, i_row, chips_len, q_row, chips_len, octets, payload_len).used;
 }
 
+static uint64_t read_bytes_task(const struct library *l)
+{
+    return l->read_bytes(kind, bytes, 2 * chips_len, octets, payload_len).used;
+}
+
+enum { TASKS = 4 };
+
 static const struct {
     const char *name;
     task_fn task;
-} tasks[] = {{"write", write_task}, {"read hard", read_hard_task}, {"read soft", read_soft_task}};
+} tasks[TASKS] = {{"write", write_task},
+                  {"read hard", read_hard_task},
+                  {"read soft", read_soft_task},
+                  {"read bytes", read_bytes_task}};
 
 /* Noise, the same in every run: xorshift. */
 static uint32_t noise(void)
@@ -106,6 +118,17 @@ static void record_soft(void)
     }
 }
 
+/* A recording of signed bytes of the frame: each chip 58 strong, a full one being 64, with noise of up to 16. */
+static void record_bytes(void)
+{
+    static const int level[4] = {58, 0, -58, 0};
+
+    for (size_t k = 0; k < chips_len; k++) {
+        bytes[2 * k] = (int8_t)(level[chips[k]] + (int)(noise() % 32) - 16);
+        bytes[2 * k + 1] = (int8_t)(level[(chips[k] + 3) % 4] + (int)(noise() % 32) - 16);
+    }
+}
+
 /* Sets the rows up for one frame. */
 static void set_up(uint64_t new_kind, uint64_t new_rate, size_t n)
 {
@@ -116,6 +139,7 @@ static void set_up(uint64_t new_kind, uint64_t new_rate, size_t n)
     if (chips_len == 0)
         fail("plain C refuses to write");
     record_soft();
+    record_bytes();
 }
 
 /* Both libraries answer the same, and the payload comes back. */
@@ -130,7 +154,7 @@ static void agree(void)
             memcpy(first, chips, chips_len);
         if (memcmp(first, chips, chips_len) != 0)
             fail("the frames differ");
-        for (size_t t = 1; t < 3; t++) {
+        for (size_t t = 1; t < TASKS; t++) {
             memset(octets, 0, sizeof octets);
             if (tasks[t].task(&libraries[l]) != chips_len
                 || memcmp(payload, octets, payload_len) != 0)
@@ -205,7 +229,7 @@ static void one_line(const char *name, const char *rate_name, task_fn task)
     double ns[2];
 
     measure(task, ns);
-    printf("%-9s  %-5s  %4s  %7zu  %12.0f  %12.0f  %6.2f", name, kinds[kind], rate_name, chips_len,
+    printf("%-10s  %-5s  %4s  %7zu  %12.0f  %12.0f  %6.2f", name, kinds[kind], rate_name, chips_len,
            ns[0], ns[1], ns[0] / ns[1]);
     if (!emulated) {
         double rate_of_chips = (double)chips_len * 1e9 / ns[0];
@@ -218,9 +242,9 @@ static void one_line(const char *name, const char *rate_name, task_fn task)
 static void all_calls(void)
 {
     printf("\nframes of %d octets\n", OCTETS);
-    printf("%-9s  %-5s  %4s  %7s  %12s  %12s  %6s%s\n", "call", "kind", "rate", "chips", "dsss ns",
+    printf("%-10s  %-5s  %4s  %7s  %12s  %12s  %6s%s\n", "call", "kind", "rate", "chips", "dsss ns",
            "plain ns", "ratio", emulated ? "" : "    Mchip/s  x 11 M/s");
-    for (size_t t = 0; t < 3; t++)
+    for (size_t t = 0; t < TASKS; t++)
         for (uint64_t k = DSSS_LONG; k <= DSSS_SHORT; k++)
             for (size_t r = k == DSSS_SHORT ? 1 : 0; r < 4; r++) {
                 set_up(k, rates[r].code, OCTETS);
@@ -237,16 +261,16 @@ static void by_octets(void)
     double ns[2] = {0, 0}, last;
 
     printf("\nwhole calls by octets, long; more: ns of dsss for each octet more than in the line before\n");
-    printf("%-9s  %4s  %6s  %7s  %12s  %12s  %6s  %8s\n", "call", "rate", "octets", "chips", "dsss ns", "plain ns",
+    printf("%-10s  %4s  %6s  %7s  %12s  %12s  %6s  %8s\n", "call", "rate", "octets", "chips", "dsss ns", "plain ns",
            "ratio", "more");
-    for (size_t t = 0; t < 3; t++)
+    for (size_t t = 0; t < TASKS; t++)
         for (size_t r = 0; r < 4; r++)
             for (size_t s = 0; s < sizeof sizes / sizeof sizes[0]; s++) {
                 last = ns[0];
                 set_up(DSSS_LONG, rates[r].code, sizes[s]);
                 agree();
                 measure(tasks[t].task, ns);
-                printf("%-9s  %4s  %6zu  %7zu  %12.0f  %12.0f  %6.2f", tasks[t].name, rates[r].name, payload_len,
+                printf("%-10s  %4s  %6zu  %7zu  %12.0f  %12.0f  %6.2f", tasks[t].name, rates[r].name, payload_len,
                        chips_len, ns[0], ns[1], ns[0] / ns[1]);
                 if (s > 0)
                     printf("  %8.2f", (ns[0] - last) / (double)(sizes[s] - sizes[s - 1]));

@@ -1,17 +1,19 @@
 /* plain.c: writing and reading a frame in plain C, after docs/RULES.md, as a good C engineer would by hand.
  *
  * It is the measure beside the library in bench.c, so it is meant to be fast where plain C can be: octets to counts by
- * a table, Barker by two sums, the words of 11 Mbit/s by butterflies over rows, eight octets at a time where it helps.
- * No allocation, no intrinsics, nothing written for one processor. Nothing here is proved.
+ * a table, Barker by two sums, the words of 11 Mbit/s by butterflies over rows, eight octets at a time where it helps,
+ * sixteen symbols of signed bytes side by side. No allocation, no intrinsics, nothing written for one processor.
+ * Nothing here is proved.
  *
- * Compiled with -DPLAIN_AS_DSSS it defines dsss_write, dsss_read_hard and dsss_read_soft itself: a
- * stand-in for the library, to test the tests (host, bridge, bench, the second program) without it.
+ * Compiled with -DPLAIN_AS_DSSS it defines the calls of dsss.h itself: a stand-in for the library, to test the tests
+ * (host, bridge, bench, the second program) without it.
  *
  * A row of bits is a number here, the first bit in time being the lowest. */
 #ifdef PLAIN_AS_DSSS
 #define plain_write dsss_write
 #define plain_read_hard dsss_read_hard
 #define plain_read_soft dsss_read_soft
+#define plain_read_bytes dsss_read_bytes
 #endif
 
 #include "plain.h"
@@ -71,8 +73,7 @@ static const uint8_t words_55[4] = {16 * 1 + 0, 16 * 1 + 2, 16 * 3 + 0, 16 * 3 +
 static const uint8_t growth_of[4] = {0, 3, 1, 2};
 static const uint8_t bits_of[4] = {0, 2, 3, 1};
 
-/* Two bits, and the phase they are for p2 to p4: 01 is 1, 10 is 2, first bit lowest. Its own
- * inverse. */
+/* Two bits, and the phase they are for p2 to p4: 01 is 1, 10 is 2, first bit lowest. Its own inverse. */
 static const uint8_t direct[4] = {0, 2, 1, 3};
 
 /* ---- The frame ------------------------------------------------------------------------------- */
@@ -271,8 +272,9 @@ dsss_written plain_write(uint64_t kind, uint64_t rate, uint64_t phase, const uin
 
 struct recording {
     const uint8_t *chips; /* hard, or */
-    const float *i, *q;   /* soft if i is there */
-    size_t len;
+    const float *i, *q;   /* soft if i is there, or */
+    const int8_t *bytes;  /* signed bytes, I and Q in turn, if they are there */
+    size_t len;           /* in chips */
 };
 
 /* Counts of a hard chip in full chips, not in 1024ths: all scores of a symbol are then smaller by
@@ -321,9 +323,11 @@ static size_t first_unusable_soft(const float *i, const float *q, size_t from, s
     return k;
 }
 
-/* The first unusable chip from `from` on; `to` if there is none before it. */
+/* The first unusable chip from `from` on; `to` if there is none before it. Every byte is usable. */
 static size_t first_unusable(const struct recording *r, size_t from, size_t to)
 {
+    if (r->bytes)
+        return to;
     return r->i ? first_unusable_soft(r->i, r->q, from, to) : first_unusable_hard(r->chips, from, to);
 }
 
@@ -406,9 +410,8 @@ static inline void choose_barkers(const struct recording *r, int soft, size_t at
                                    : choose_barker_hard(r->chips + at + k * BARKER));
 }
 
-/* The 16 words: p3 = 0; p2 = 3 is p2 = 1 with chips 0, 2, 4, 6 negated, p4 = 2 is p4 = 0 with the
- * first four negated. A quarter turn back of (i, q) is (q, -i). Each array: chips 0 and 2, 4 and 6,
- * those at p2 = 1; 1 and 3; 5 and 7. */
+/* The 16 words: p3 = 0; p2 = 3 is p2 = 1 with chips 0, 2, 4, 6 negated, p4 = 2 is p4 = 0 with the first four negated. A
+ * quarter turn back of (i, q) is (q, -i). Each array: chips 0 and 2, 4 and 6, those at p2 = 1; 1 and 3; 5 and 7. */
 static inline unsigned choose_of_16(const int32_t a[4], const int32_t b[4])
 {
     int32_t best = INT32_MIN;
@@ -499,6 +502,174 @@ static unsigned choose_cck11(const int32_t *i, const int32_t *q)
     return number_of(best);
 }
 
+/* ---- Choosing symbols from bytes -------------------------------------------------------------
+ *
+ * A count is 16 times its byte: in bytes all scores of a symbol are smaller by that factor, and the choice is the same.
+ * No score is above 11 * 128, so 16 bits do, and compilers do eight symbols at once. */
+enum { LANES = 16 }; /* symbols side by side */
+
+typedef int16_t row[LANES]; /* a number of each */
+
+/* The two halves of a row of bytes in turn: the first byte of each, the second of each, and so on. */
+static inline void merge(const int8_t *restrict bytes, unsigned half, int8_t *restrict to)
+{
+    for (unsigned k = 0; k < half; k++) {
+        to[2 * k] = bytes[k];
+        to[2 * k + 1] = bytes[half + k];
+    }
+}
+
+/* The bytes of sixteen symbols, `each` a symbol, side by side: the first byte of every symbol, then the second of every
+ * symbol, and so on. Merged once, a symbol stands beside the one eight further on; four times, beside the next. Zeros
+ * stand for symbols that are not there. */
+static inline void side_by_side(const int8_t *bytes, size_t symbols, unsigned each, int8_t *to)
+{
+    int8_t padded[LANES * 2 * BARKER], merged[LANES * 2 * BARKER];
+
+    if (symbols < LANES) {
+        memcpy(padded, bytes, symbols * each);
+        memset(padded + symbols * each, 0, (LANES - symbols) * each);
+        bytes = padded;
+    }
+    merge(bytes, LANES / 2 * each, merged);
+    merge(merged, LANES / 2 * each, to);
+    merge(to, LANES / 2 * each, merged);
+    merge(merged, LANES / 2 * each, to);
+}
+
+static inline int16_t larger16(int16_t a, int16_t b)
+{
+    return a > b ? a : b;
+}
+
+static inline int16_t size16(int16_t a)
+{
+    return larger16(a, (int16_t)-a);
+}
+
+/* a where the mask is all bits, b where it is none. */
+static inline int16_t either(int16_t mask, int16_t a, int16_t b)
+{
+    return (int16_t)((a & mask) | (b & ~mask));
+}
+
+/* From 4 a + 1 and 4 b + 1, as in phase_of: 4 times the largest score of a word in its four turns, and 3 less the
+ * first turn that has it. */
+static inline int16_t turn_key(int a, int b)
+{
+    return larger16((int16_t)(size16((int16_t)a) + 2), (int16_t)(size16((int16_t)b) + 1));
+}
+
+/* The phases of up to sixteen Barker symbols. All sixteen are written, here and below. */
+static void choose_barkers_bytes(const int8_t *bytes, size_t symbols, uint8_t *phases)
+{
+    int8_t x[2 * BARKER][LANES];
+
+    side_by_side(bytes, symbols, 2 * BARKER, x[0]);
+    for (unsigned s = 0; s < LANES; s++) {
+        int16_t a = (int16_t)(x[0][s] - x[2][s] + x[4][s] + x[6][s] - x[8][s] + x[10][s] + x[12][s] + x[14][s]
+                              - x[16][s] - x[18][s] - x[20][s]);
+        int16_t b = (int16_t)(x[1][s] - x[3][s] + x[5][s] + x[7][s] - x[9][s] + x[11][s] + x[13][s] + x[15][s]
+                              - x[17][s] - x[19][s] - x[21][s]);
+        phases[s] = (uint8_t)(3 - (turn_key(4 * a + 1, 4 * b + 1) & 3));
+    }
+}
+
+/* The words of up to sixteen symbols of 5.5 Mbit/s, as choose_of_16 and word_of_16. The key is 16 times the score, and
+ * 15 less the word's place among the 16. */
+static void choose_cck55_bytes(const int8_t *bytes, size_t symbols, uint8_t *words)
+{
+    int8_t x[2 * CCK][LANES];
+
+    side_by_side(bytes, symbols, 2 * CCK, x[0]);
+    for (unsigned s = 0; s < LANES; s++) {
+        const int16_t a[4] = {(int16_t)(x[1][s] + x[5][s]), (int16_t)(x[9][s] - x[13][s]),
+                              (int16_t)(x[2][s] - x[6][s]), (int16_t)(x[10][s] + x[14][s])};
+        const int16_t b[4] = {(int16_t)(-x[0][s] - x[4][s]), (int16_t)(x[12][s] - x[8][s]),
+                              (int16_t)(x[3][s] - x[7][s]), (int16_t)(x[11][s] + x[15][s])};
+        int16_t best = 0;
+
+        for (int k = 0; k < 4; k++) {
+            int by2 = k < 2 ? 1 : -1, by4 = k % 2 == 0 ? 1 : -1;
+            int16_t key = turn_key(4 * (by2 * (by4 * a[0] + a[1]) + by4 * a[2] + a[3]) + 1,
+                                   4 * (by2 * (by4 * b[0] + b[1]) + by4 * b[2] + b[3]) + 1);
+            best = larger16(best, (int16_t)(4 * key + 3 - k));
+        }
+        best = (int16_t)(15 - (best & 15));
+        words[s] = (uint8_t)((best & 12) << 4 | 16 | (best & 2) << 4 | (best & 1) << 1);
+    }
+}
+
+/* As join, of rows. */
+static inline void join16(const int16_t *xa, const int16_t *xb, const int16_t *ya, const int16_t *yb, row *restrict a,
+                          row *restrict b)
+{
+    for (unsigned s = 0; s < LANES; s++) {
+        a[0][s] = (int16_t)(ya[s] + xa[s]);
+        b[0][s] = (int16_t)(yb[s] + xb[s]);
+        a[1][s] = (int16_t)(ya[s] + xb[s]);
+        b[1][s] = (int16_t)(yb[s] - xa[s]);
+        a[2][s] = (int16_t)(ya[s] - xa[s]);
+        b[2][s] = (int16_t)(yb[s] - xb[s]);
+        a[3][s] = (int16_t)(ya[s] - xb[s]);
+        b[3][s] = (int16_t)(yb[s] + xa[s]);
+    }
+}
+
+/* A word's sums (p1 = 0) are y, those of chips 4 to 7, and x, those of chips 0 to 3, turned back by p4. Rows of both
+ * for each p2 and p3, by 4 p2 + p3: 4 times the sums, and in y 1 more, by way of chip 7, as turn_key wants it. */
+struct halves {
+    row xa[16], xb[16], ya[16], yb[16];
+};
+
+static void halve(const int8_t *bytes, size_t symbols, struct halves *to)
+{
+    int8_t x[2 * CCK][LANES];
+    row i[CCK], q[CCK], a[4][4], b[4][4];
+
+    side_by_side(bytes, symbols, 2 * CCK, x[0]);
+    for (unsigned k = 0; k < CCK; k++) {
+        int16_t by = k == 3 || k == 6 ? -4 : 4, more = k == 7;
+        for (unsigned s = 0; s < LANES; s++) {
+            i[k][s] = (int16_t)(by * x[2 * k][s] + more);
+            q[k][s] = (int16_t)(by * x[2 * k + 1][s] + more);
+        }
+    }
+    for (unsigned k = 0; k < 4; k++)
+        join16(i[2 * k], q[2 * k], i[2 * k + 1], q[2 * k + 1], a[k], b[k]);
+    for (unsigned k = 0; k < 4; k++) {
+        join16(a[0][k], b[0][k], a[1][k], b[1][k], to->xa + 4 * k, to->xb + 4 * k);
+        join16(a[2][k], b[2][k], a[3][k], b[3][k], to->ya + 4 * k, to->yb + 4 * k);
+    }
+}
+
+/* The words of up to sixteen symbols of 11 Mbit/s. With p2 and p3 given, the largest score is that of y in its four
+ * turns and that of x in its four: y's turn is p1, and p4 is how much further x is turned. Of equal scores the larger
+ * key has the smaller p1, and of equal keys the first stays, its p2 and p3 being the smallest. */
+static void choose_cck11_bytes(const int8_t *bytes, size_t symbols, uint8_t *words)
+{
+    struct halves h;
+    row best = {0}, at = {0}, xa = {0}, xb = {0};
+
+    halve(bytes, symbols, &h);
+    for (int16_t k = 0; k < 16; k++)
+        for (unsigned s = 0; s < LANES; s++) {
+            int16_t a = h.xa[k][s], b = h.xb[k][s];
+            int16_t key = (int16_t)(turn_key(h.ya[k][s], h.yb[k][s]) + larger16(size16(a), size16(b)));
+            int16_t better = (int16_t)-(key > best[s]); /* all bits, or none */
+            at[s] = either(better, k, at[s]);
+            xa[s] = either(better, a, xa[s]);
+            xb[s] = either(better, b, xb[s]);
+            best[s] = larger16(key, best[s]);
+        }
+    for (unsigned s = 0; s < LANES; s++) {
+        int p1 = 3 - (best[s] & 3);
+        int16_t a = p1 & 1 ? xb[s] : xa[s], b = (int16_t)(p1 & 1 ? -xa[s] : xb[s]);
+        int16_t key = p1 & 2 ? turn_key(1 - a, 1 - b) : turn_key(1 + a, 1 + b);
+        words[s] = (uint8_t)(64 * p1 + 4 * at[s] + 3 - (key & 3));
+    }
+}
+
 /* ---- Reading --------------------------------------------------------------------------------- */
 
 struct reader {
@@ -526,14 +697,12 @@ static inline unsigned grow(struct reader *r, unsigned phase, unsigned chips)
     return growth;
 }
 
-/* Reads `count` bits, at most 8, `each` (1 or 2) a Barker symbol. False at a 1 Mbit/s symbol grown by 1 or 3; the
- * reader then stands at that symbol. */
-static inline int read_barker(struct reader *r, int soft, unsigned count, unsigned each, uint8_t *octet)
+/* Reads `count` bits, at most 8, `each` (1 or 2) a Barker symbol, from the symbols' phases. False at a 1 Mbit/s symbol
+ * grown by 1 or 3; the reader then stands at that symbol. */
+static inline int pass_barker(struct reader *r, const uint8_t *phases, unsigned count, unsigned each, uint8_t *octet)
 {
-    uint8_t phases[8];
     unsigned in = 0;
 
-    choose_barkers(r->from, soft, r->at, count / each, phases);
     for (unsigned k = 0; k < count / each; k++) {
         unsigned growth = grow(r, phases[k], BARKER);
 
@@ -547,6 +716,14 @@ static inline int read_barker(struct reader *r, int soft, unsigned count, unsign
     return 1;
 }
 
+static inline int read_barker(struct reader *r, int soft, unsigned count, unsigned each, uint8_t *octet)
+{
+    uint8_t phases[8];
+
+    choose_barkers(r->from, soft, r->at, count / each, phases);
+    return pass_barker(r, phases, count, each, octet);
+}
+
 static inline int read_barkers(struct reader *r, int soft, unsigned each, uint8_t *octets, size_t n)
 {
     for (size_t k = 0; k < n; k++)
@@ -555,9 +732,25 @@ static inline int read_barkers(struct reader *r, int soft, unsigned each, uint8_
     return 1;
 }
 
+static inline int read_barkers_bytes(struct reader *r, unsigned each, uint8_t *octets, size_t n)
+{
+    const size_t many = LANES * each / 8; /* octets at a time */
+    uint8_t phases[LANES];
+
+    for (size_t k = 0; k < n; k++) {
+        if (k % many == 0)
+            choose_barkers_bytes(r->from->bytes + 2 * r->at, (n - k < many ? n - k : many) * 8 / each, phases);
+        if (!pass_barker(r, phases + k % many * 8 / each, 8, each, octets + k))
+            return 0;
+    }
+    return 1;
+}
+
 /* A loop for each recorder and rate, so that neither is asked for at each symbol. */
 static int read_octets(struct reader *r, unsigned each, uint8_t *octets, size_t n)
 {
+    if (r->from->bytes)
+        return each == 1 ? read_barkers_bytes(r, 1, octets, n) : read_barkers_bytes(r, 2, octets, n);
     if (r->from->i)
         return each == 1 ? read_barkers(r, 1, 1, octets, n) : read_barkers(r, 1, 2, octets, n);
     return each == 1 ? read_barkers(r, 0, 1, octets, n) : read_barkers(r, 0, 2, octets, n);
@@ -565,7 +758,10 @@ static int read_octets(struct reader *r, unsigned each, uint8_t *octets, size_t 
 
 static void choose_cck55(const struct recording *r, size_t at, size_t symbols, uint8_t *words)
 {
-    if (r->i)
+    if (r->bytes)
+        for (size_t s = 0; s < symbols; s += LANES)
+            choose_cck55_bytes(r->bytes + 2 * (at + CCK * s), symbols - s < LANES ? symbols - s : LANES, words + s);
+    else if (r->i)
         choose_cck55_soft(r->i + at, r->q + at, symbols, words);
     else
         choose_cck55_hard(r->chips + at, symbols, words);
@@ -588,6 +784,16 @@ static inline void read_55(struct reader *r, uint8_t *octets, size_t n)
     }
 }
 
+/* The octet of symbol k of 11 Mbit/s. */
+static inline uint8_t pass_11(struct reader *r, unsigned word, size_t k)
+{
+    unsigned two = bits_of[(grow(r, word / 64, CCK) + 2 * (k & 1)) & 3];
+    unsigned in = two | (unsigned)direct[word >> 4 & 3] << 2
+                  | (unsigned)direct[word >> 2 & 3] << 4 | (unsigned)direct[word & 3] << 6;
+
+    return (uint8_t)unscramble(r, in, 8);
+}
+
 static inline void read_11(struct reader *r, int soft, uint8_t *octets, size_t n)
 {
     int32_t i[CCK], q[CCK];
@@ -595,10 +801,18 @@ static inline void read_11(struct reader *r, int soft, uint8_t *octets, size_t n
     for (size_t k = 0; k < n; k++) {
         take(r->from, soft, r->at, CCK, i, q);
         unsigned word = choose_cck11(i, q);
-        unsigned two = bits_of[(grow(r, word / 64, CCK) + 2 * (k & 1)) & 3];
-        unsigned in = two | (unsigned)direct[word >> 4 & 3] << 2
-                      | (unsigned)direct[word >> 2 & 3] << 4 | (unsigned)direct[word & 3] << 6;
-        octets[k] = (uint8_t)unscramble(r, in, 8);
+        octets[k] = pass_11(r, word, k);
+    }
+}
+
+static void read_11_bytes(struct reader *r, uint8_t *octets, size_t n)
+{
+    uint8_t words[LANES];
+
+    for (size_t k = 0; k < n; k++) {
+        if (k % LANES == 0)
+            choose_cck11_bytes(r->from->bytes + 2 * r->at, n - k < LANES ? n - k : LANES, words);
+        octets[k] = pass_11(r, words[k % LANES], k);
     }
 }
 
@@ -611,6 +825,8 @@ static int read_payload(struct reader *r, const struct rate *rate, uint8_t *octe
         return read_octets(r, rate->each, octets, n);
     if (rate->code == DSSS_RATE_5_5)
         read_55(r, octets, n);
+    else if (r->from->bytes)
+        read_11_bytes(r, octets, n);
     else if (soft)
         read_11(r, 1, octets, n);
     else
@@ -632,9 +848,12 @@ static int read_front(struct reader *r, const struct kind *kind, uint64_t *sfd, 
 {
     uint8_t sync[16], octets[8];
 
-    choose_barkers(r->from, r->from->i != NULL, 0, 1, sync);
+    if (r->from->bytes)
+        choose_barkers_bytes(r->from->bytes, 8, sync);
+    else
+        choose_barkers(r->from, r->from->i != NULL, 0, 8, sync);
     grow(r, sync[0], BARKER);
-    if (!read_barker(r, r->from->i != NULL, 7, 1, sync)
+    if (!pass_barker(r, sync + 1, 7, 1, sync)
         || !read_octets(r, 1, sync, kind->sync_bits / 8 - 1) || !read_octets(r, 1, octets, 2)
         || !read_octets(r, kind->header_each, octets + 2, 6))
         return 0;
@@ -670,8 +889,7 @@ static dsss_record accept(struct reader *r, const struct kind *kind, const struc
 }
 
 /* The header's 32 bits, once the CRC is known to be right. */
-static dsss_record judge(struct reader *r, uint64_t kind, uint32_t header, uint8_t *octets,
-                         size_t room)
+static dsss_record judge(struct reader *r, uint64_t kind, uint32_t header, uint8_t *octets, size_t room)
 {
     const struct rate *rate = rate_of(header & 0xFF);
     uint32_t service = header >> 8 & 0xFF, length = header >> 16;
@@ -686,8 +904,7 @@ static dsss_record judge(struct reader *r, uint64_t kind, uint32_t header, uint8
     return accept(r, &kinds[kind], rate, length, (size_t)n, octets, room);
 }
 
-static dsss_record read_frame(uint64_t kind, const struct recording *from, uint8_t *octets,
-                              size_t room)
+static dsss_record read_frame(uint64_t kind, const struct recording *from, uint8_t *octets, size_t room)
 {
     size_t front = kinds[kind].front;
     struct reader r = {from, 0, 0, 0};
@@ -715,10 +932,9 @@ static dsss_record cleared(dsss_record record, uint8_t *octets, size_t room)
     return record;
 }
 
-dsss_record plain_read_hard(uint64_t kind, const uint8_t *chips, size_t chips_len, uint8_t *octets,
-                            size_t octets_len)
+dsss_record plain_read_hard(uint64_t kind, const uint8_t *chips, size_t chips_len, uint8_t *octets, size_t octets_len)
 {
-    struct recording from = {chips, NULL, NULL, chips_len};
+    struct recording from = {chips, NULL, NULL, NULL, chips_len};
 
     if (kind > DSSS_SHORT)
         return cleared(refused(DSSS_REFUSED_KIND, 0, 0), octets, octets_len);
@@ -728,11 +944,23 @@ dsss_record plain_read_hard(uint64_t kind, const uint8_t *chips, size_t chips_le
 dsss_record plain_read_soft(uint64_t kind, const float *i, size_t i_len, const float *q,
                             size_t q_len, uint8_t *octets, size_t octets_len)
 {
-    struct recording from = {NULL, i, q, i_len};
+    struct recording from = {NULL, i, q, NULL, i_len};
 
     if (kind > DSSS_SHORT)
         return cleared(refused(DSSS_REFUSED_KIND, 0, 0), octets, octets_len);
     if (i_len != q_len)
+        return cleared(refused(DSSS_REFUSED_ROWS, 0, 0), octets, octets_len);
+    return cleared(read_frame(kind, &from, octets, octets_len), octets, octets_len);
+}
+
+dsss_record plain_read_bytes(uint64_t kind, const int8_t *bytes, size_t bytes_len, uint8_t *octets,
+                             size_t octets_len)
+{
+    struct recording from = {NULL, NULL, NULL, bytes, bytes_len / 2};
+
+    if (kind > DSSS_SHORT)
+        return cleared(refused(DSSS_REFUSED_KIND, 0, 0), octets, octets_len);
+    if (bytes_len % 2 != 0)
         return cleared(refused(DSSS_REFUSED_ROWS, 0, 0), octets, octets_len);
     return cleared(read_frame(kind, &from, octets, octets_len), octets, octets_len);
 }
@@ -750,7 +978,7 @@ void plain_count(const float *samples, size_t samples_len, int32_t *counts, size
 
 uint64_t plain_decide(uint64_t rate, const float *i, size_t i_len, const float *q, size_t q_len)
 {
-    const struct recording from = {NULL, i, q, i_len < q_len ? i_len : q_len};
+    const struct recording from = {NULL, i, q, NULL, i_len < q_len ? i_len : q_len};
     const struct rate *found = rate_of(rate);
     int32_t i_counts[CCK], q_counts[CCK];
     uint8_t phase;

@@ -1,7 +1,7 @@
-/* plain.h: the three calls of dsss.h in plain C, and the parts of them that are worth timing alone.
+/* plain.h: the four calls of dsss.h in plain C, and the parts of them that are worth timing alone.
  *
- * The calls take, answer and fill what dsss_write, dsss_read_hard and dsss_read_soft do. Nothing
- * here is proved; tests compare it with the second program. */
+ * The calls take, answer and fill what dsss_write, dsss_read_hard, dsss_read_soft and
+ * dsss_read_bytes do. Nothing here is proved; tests compare it with the second program. */
 #ifndef PLAIN_H
 #define PLAIN_H
 
@@ -13,6 +13,8 @@ dsss_record plain_read_hard(uint64_t kind, const uint8_t *chips, size_t chips_le
                             size_t octets_len);
 dsss_record plain_read_soft(uint64_t kind, const float *i, size_t i_len, const float *q,
                             size_t q_len, uint8_t *octets, size_t octets_len);
+dsss_record plain_read_bytes(uint64_t kind, const int8_t *bytes, size_t bytes_len, uint8_t *octets,
+                             size_t octets_len);
 
 /* The counts of a row of usable samples, as far as both rows go: 1024 times each, nearest, halves
  * to even. */

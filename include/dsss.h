@@ -1,6 +1,6 @@
 /* dsss.h: frames of IEEE Std 802.11b-1999, from payload octets to chips and back.
  *
- * The library writes a frame as chips, and reads a hard or soft recording of chips back to the
+ * The library writes a frame as chips, and reads a hard, soft or byte recording of chips back to the
  * payload. What it answers is fixed by docs/RULES.md and proved for every input; docs/PROMISES.md
  * says where. No proof covers this header: it is written by hand and held to the source by a test.
  *
@@ -40,7 +40,7 @@ extern "C" {
  * added, PATCH when neither. A call whose record or parameters change gets a new symbol, which a
  * macro here stands for: an object built with an older header then does not link, and is built anew. */
 #define DSSS_VERSION_MAJOR 1
-#define DSSS_VERSION_MINOR 0
+#define DSSS_VERSION_MINOR 1
 #define DSSS_VERSION_PATCH 0
 #define DSSS_VERSION (10000 * DSSS_VERSION_MAJOR + 100 * DSSS_VERSION_MINOR + DSSS_VERSION_PATCH)
 
@@ -80,7 +80,7 @@ extern "C" {
 #define DSSS_REFUSED_PAYLOAD 4     /* payload is 0 octets or above 4,095 */
 #define DSSS_REFUSED_PHASE 5       /* starting phase above 3 */
 #define DSSS_REFUSED_CHIP_ROOM 6   /* chip buffer shorter than the frame */
-#define DSSS_REFUSED_ROWS 7        /* I and Q rows differ in length */
+#define DSSS_REFUSED_ROWS 7        /* I and Q rows differ in length; an odd number of signed bytes */
 #define DSSS_REFUSED_FRONT 8       /* recording shorter than the front */
 #define DSSS_REFUSED_CHIP 9        /* an unusable chip; place: the first such chip of the part */
 #define DSSS_REFUSED_GROWTH 10     /* a 1 Mbit/s symbol grown by 1 or 3; place: its first chip */
@@ -149,6 +149,22 @@ dsss_record dsss_read_hard(uint64_t kind, const uint8_t *chips, size_t chips_len
 dsss_record dsss_read_soft(uint64_t kind, const float *i, size_t i_len, const float *q,
                            size_t q_len, uint8_t *octets, size_t octets_len);
 
+/* Reads the payload of one frame from a recording of signed bytes, a full chip being 64.
+ *   kind     DSSS_LONG or DSSS_SHORT                                      refusal 1
+ *   bytes    the recording, I and Q in turn: bytes[2k] is I of chip k, bytes[2k + 1] its Q. It
+ *            starts at the frame's first chip, and what stands after the frame is not looked at.
+ *            An odd number of bytes is refused; no chip is unusable: refusal 9 does not come
+ *                                                                         refusals 7, 8, 10 to 16
+ *   octets   lent, at least the payload's; DSSS_PAYLOAD_MAX always do     refusal 17
+ * Each byte is taken as it is, in 64ths of a full chip: nothing is rounded, and -128 is not clamped.
+ * Answer:  number 0, the rate code, LENGTH, n and the chips used; place 0.
+ * Refused: the number; the place of a 10, in chips; LENGTH for 13 to 17 and for a 10 in the
+ *          payload; all else 0.
+ * Buffer:  octets[] is the payload and then 0s; refused, all 0s.
+ * Proved:  crates/dsss, dsss_read_bytes, record ReadBytes: answer and octets. */
+dsss_record dsss_read_bytes(uint64_t kind, const int8_t *bytes, size_t bytes_len, uint8_t *octets,
+                            size_t octets_len);
+
 /* The sentence of an answer's number, to show to people. A number that is neither 0 nor a refusal
  * gets the last sentence.
  * NOT PROVED: plain C, held to the table of refusals by tests/header. */
@@ -170,7 +186,7 @@ static inline const char *dsss_sentence(uint64_t number)
     case DSSS_REFUSED_CHIP_ROOM:
         return "The chip buffer is shorter than the frame.";
     case DSSS_REFUSED_ROWS:
-        return "The I and Q rows differ in length.";
+        return "The I and Q rows differ in length, or the number of signed bytes is odd.";
     case DSSS_REFUSED_FRONT:
         return "The recording is shorter than the front of a frame.";
     case DSSS_REFUSED_CHIP:

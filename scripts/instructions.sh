@@ -1,5 +1,5 @@
 #!/bin/sh
-# instructions.sh [-l dsss|plain|both] [-c write|hard|soft|all] [-k long|short] [-r RATE|all] [-n OCTETS]
+# instructions.sh [-l dsss|plain|both] [-c write|hard|soft|bytes|all] [-k long|short] [-r RATE|all] [-n OCTETS]
 #
 # Instructions a chip of whole calls, of the library and of plain C: one line a call and rate. Each figure is the
 # difference of two runs, without the call and with it. On x86-64 valgrind counts (callgrind); elsewhere the emulator
@@ -20,7 +20,7 @@ while getopts l:c:k:r:n: option; do
     esac
 done
 [ "$library" != both ] || library='dsss plain'
-[ "$call" != all ] || call='write hard soft'
+[ "$call" != all ] || call='write hard soft bytes'
 [ "$rate" != all ] || rate='10 20 55 110'
 
 archive=target/staticlib/libdsss.a

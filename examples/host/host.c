@@ -1,12 +1,12 @@
 /* host.c: the program of one gallery table, over the library of dsss.h.
  *
  * A visitor turns a skull with one finger, and at each quarter turn the table fetches a caption by
- * radio. Here the frames go from the writer to the reader in memory: at every kind and rate, then
- * spoiled, then cut short. What comes from the air may be any octets, so it is shown escaped. A
- * caption of an earlier exhibition must never be seen again: before each
- * read the octet buffer is full of one, and after it what is left of it is counted. All memory is
- * in the static rows below; the two that are lent for writing stand between guard octets, which
- * must stay as they were. */
+ * radio. Here the frames go from the writer to the reader in memory: at every kind and rate, from
+ * other recorders, then spoiled, then cut short. What comes from the air may be any octets, so it
+ * is shown escaped. A caption of an earlier exhibition must never be seen again: before each read
+ * the octet buffer is full of one, and after it what is left of it is counted. All memory is in the
+ * static rows below; the two that are lent for writing stand between guard octets, which must stay
+ * as they were. */
 #include "dsss.h"
 
 #include <inttypes.h>
@@ -45,6 +45,7 @@ static struct {
 } octets;
 
 static float i_row[CHIPS_MAX], q_row[CHIPS_MAX];
+static int8_t bytes[2 * CHIPS_MAX];
 
 static void set_guards(int octet)
 {
@@ -133,6 +134,25 @@ static void show_soft(const char *what, uint64_t kind, uint64_t len)
     show(what, dsss_read_soft(kind, i_row, len, q_row, len, octets.row, CAPTION_MAX));
 }
 
+/* The same frame as the spare board records it: signed bytes, I and Q in turn, chips of 40 where a
+ * full one is 64, and each a little off. */
+static void record_bytes(uint64_t len)
+{
+    static const int level[4] = {40, 0, -40, 0};
+
+    for (size_t k = 0; k < len; k++) {
+        int off = (int)(k * 7 % 13) - 6;
+        bytes[2 * k] = (int8_t)(level[chips.row[k]] + off);
+        bytes[2 * k + 1] = (int8_t)(level[(chips.row[k] + 3) % 4] - off);
+    }
+}
+
+static void show_bytes(const char *what, uint64_t kind, uint64_t len)
+{
+    fill_with_old();
+    show(what, dsss_read_bytes(kind, bytes, len, octets.row, CAPTION_MAX));
+}
+
 static void every_way(void)
 {
     puts("Every kind and rate");
@@ -143,6 +163,15 @@ static void every_way(void)
     puts("\nA soft recording");
     show_soft("short, 11 Mbit/s, weak", DSSS_SHORT,
               send_caption(DSSS_SHORT, DSSS_RATE_11, captions[3]).chips);
+}
+
+static void spare_board(void)
+{
+    puts("\nThe spare board, which records signed bytes");
+    uint64_t len = send_caption(DSSS_LONG, DSSS_RATE_5_5, captions[1]).chips;
+    record_bytes(len);
+    show_bytes("long, 5.5 Mbit/s, weak", DSSS_LONG, 2 * len);
+    show_bytes("without its last byte", DSSS_LONG, 2 * len - 1);
 }
 
 static void spoiled(void)
@@ -200,6 +229,7 @@ int main(void)
 {
     set_guards(GUARD_OCTET);
     every_way();
+    spare_board();
     spoiled();
     another_text();
     cut_short();

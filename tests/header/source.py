@@ -266,6 +266,7 @@ SPOILED = [  # which text, what, by what
     ("header", "uint64_t number, place", "uint64_t number"),
     ("header", "uint64_t number, place", "uint32_t number, place"),
     ("header", "const uint8_t *chips", "uint8_t *chips"),
+    ("header", "const uint8_t *chips", "const int8_t *chips"),
     ("header", "size_t chips_len", "uint32_t chips_len"),
     ("header", "dsss_read(", "dsss_reads("),
     ("header", "Buffer:", ""),
