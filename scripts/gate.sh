@@ -48,8 +48,8 @@ target/peer/peer -- scripts/x86run target/c/bridge
 
 stage 'second program, over rows that end where memory ends'
 target/peer/peer --brief --family \
-    empty_rows,write_short_payloads,write_edges,read_rooms,read_long_payloads,cut_recordings,unusable_octets,\
-unusable_values,long_payloads,long_unusable,long_cuts,long_rooms \
+    empty_rows,odd_rows,write_short_payloads,write_edges,read_rooms,read_long_payloads,cut_recordings,unusable_octets,\
+unusable_values,random_bytes,long_payloads,long_unusable,long_cuts,long_rooms \
     -- scripts/x86run target/c/bridge pages
 
 stage 'wrong versions of plain C'

@@ -5,12 +5,13 @@
  *   1, write      u64 kind, rate, phase, payload_len, chips_len; the payload
  *   2, read hard  u64 kind, chips_len, octets_len; the chips
  *   3, read soft  u64 kind, i_len, q_len, octets_len; i_len f32, q_len f32, raw bits
- * An answer is the record (1: number, chips; 2 and 3: number, place, rate, length, n, used; u64
+ *   4, read bytes u64 kind, bytes_len, octets_len; the bytes
+ * An answer is the record (1: number, chips; 2 to 4: number, place, rate, length, n, used; u64
  * each), every octet of the lent buffer as the call left it, and a u64 guard: 0 if all is as it was
  * around the rows and in those lent for reading only, else 1.
  *
  * The lent buffer holds 0xAA before the call. A row of length 0 is passed as NULL; any other stands
- * between guard octets, octets at odd addresses and floats at multiples of 4 that are none of 16.
+ * between guard octets, octets and bytes at odd addresses, floats at multiples of 4 that are none of 16.
  * Called as `bridge pages`, each row ends where memory ends instead: a read past it kills the
  * bridge, on every processor. Called as `bridge exact`, each row is memory of just its size and the
  * lent buffer is not set before the call: for valgrind, which then sees every touch beside a row, what
@@ -221,6 +222,18 @@ static void call_read_soft(void)
     put_guard(end_row(&i) | end_row(&q) | end_row(&octets));
 }
 
+static void call_read_bytes(void)
+{
+    uint64_t kind = get_number(), bytes_len = get_number(), octets_len = get_number();
+    struct row bytes = read_row(bytes_len, sizeof(int8_t)), octets = lent_row(octets_len);
+
+    dsss_record record = dsss_read_bytes(kind, pointer(&bytes), (size_t)bytes_len, pointer(&octets),
+                                         (size_t)octets_len);
+    put(&record, sizeof record);
+    put_lent(&octets);
+    put_guard(end_row(&bytes) | end_row(&octets));
+}
+
 int main(int argc, char **argv)
 {
     if (argc > 2 || (argc == 2 && strcmp(argv[1], "pages") != 0 && strcmp(argv[1], "exact") != 0))
@@ -238,8 +251,11 @@ int main(int argc, char **argv)
         case 3:
             call_read_soft();
             break;
+        case 4:
+            call_read_bytes();
+            break;
         default:
-            die("an op that is not 1, 2 or 3");
+            die("an op that is not 1 to 4");
         }
     }
     return 0;

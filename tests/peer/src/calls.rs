@@ -4,7 +4,7 @@ use crate::chips::Recording;
 use crate::reading::read;
 use crate::refusals::CHIP_BUFFER;
 use crate::writing::write;
-use std::fmt::Write as _;
+use std::fmt::{LowerHex, Write as _};
 use std::io::{self, Read};
 
 /// A call with its numbers and lent rows. Buffers lent for writing are given by their length alone.
@@ -12,6 +12,7 @@ pub enum Call {
     Write { kind: u64, rate: u64, phase: u64, payload: Vec<u8>, chips_len: usize },
     ReadHard { kind: u64, chips: Vec<u8>, octets_len: usize },
     ReadSoft { kind: u64, i: Vec<f32>, q: Vec<f32>, octets_len: usize },
+    ReadBytes { kind: u64, bytes: Vec<i8>, octets_len: usize },
 }
 
 /// What a call answers: its numbers in the order of the record, and the lent buffer after the call.
@@ -55,11 +56,16 @@ impl Call {
         Call::ReadSoft { kind, i, q, octets_len }
     }
 
+    pub fn bytes(kind: u64, bytes: Vec<i8>, octets_len: usize) -> Call {
+        Call::ReadBytes { kind, bytes, octets_len }
+    }
+
     pub fn op(&self) -> &'static str {
         match self {
             Call::Write { .. } => "write",
             Call::ReadHard { .. } => "read hard",
             Call::ReadSoft { .. } => "read soft",
+            Call::ReadBytes { .. } => "read bytes",
         }
     }
 
@@ -73,7 +79,9 @@ impl Call {
     fn buffer_len(&self) -> usize {
         match self {
             Call::Write { chips_len, .. } => *chips_len,
-            Call::ReadHard { octets_len, .. } | Call::ReadSoft { octets_len, .. } => *octets_len,
+            Call::ReadHard { octets_len, .. }
+            | Call::ReadSoft { octets_len, .. }
+            | Call::ReadBytes { octets_len, .. } => *octets_len,
         }
     }
 
@@ -92,6 +100,10 @@ impl Call {
             Call::ReadSoft { kind, i, q, octets_len } => {
                 numbers(&[3, *kind, i.len() as u64, q.len() as u64, *octets_len as u64]);
                 to.extend(i.iter().chain(q).flat_map(|x| x.to_bits().to_le_bytes()));
+            }
+            Call::ReadBytes { kind, bytes, octets_len } => {
+                numbers(&[4, *kind, bytes.len() as u64, *octets_len as u64]);
+                to.extend(bytes.iter().map(|byte| *byte as u8));
             }
         }
     }
@@ -122,6 +134,7 @@ impl Call {
             }
             Call::ReadHard { kind, chips, .. } => record(read(*kind, Recording::Hard(chips), &mut buffer)),
             Call::ReadSoft { kind, i, q, .. } => record(read(*kind, Recording::Soft(i, q), &mut buffer)),
+            Call::ReadBytes { kind, bytes, .. } => record(read(*kind, Recording::Bytes(bytes), &mut buffer)),
         };
         (Answer { numbers, buffer }, part)
     }
@@ -136,6 +149,7 @@ impl Call {
                 lines.push(format!("  i, the bits of each f32: {}", hex_row(i, cut)));
                 lines.push(format!("  q, the bits of each f32: {}", hex_row(q, cut)));
             }
+            Call::ReadBytes { bytes, .. } => lines.push(format!("  bytes {}", hex(bytes, cut))),
         }
         lines.join("\n")
     }
@@ -165,6 +179,9 @@ impl Call {
             Call::ReadSoft { kind, i, q, octets_len } => {
                 format!("kind {kind}, i_len {}, q_len {}, octets_len {octets_len}", i.len(), q.len())
             }
+            Call::ReadBytes { kind, bytes, octets_len } => {
+                format!("kind {kind}, bytes_len {}, octets_len {octets_len}", bytes.len())
+            }
         }
     }
 
@@ -179,12 +196,12 @@ fn record(read: crate::reading::Read) -> (Vec<u64>, Part) {
     (vec![read.number, read.place, read.rate, read.length, read.n, read.used], part)
 }
 
-fn hex(octets: &[u8], cut: usize) -> String {
+fn hex(row: &[impl LowerHex], cut: usize) -> String {
     let mut text = String::new();
-    for octet in octets.iter().take(cut) {
+    for octet in row.iter().take(cut) {
         write!(text, "{octet:02x}").expect("a String takes all");
     }
-    text + rest(octets.len(), cut)
+    text + rest(row.len(), cut)
 }
 
 fn hex_row(row: &[f32], cut: usize) -> String {

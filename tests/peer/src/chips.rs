@@ -18,10 +18,11 @@ pub fn growth(before: Phase, after: Phase) -> Phase {
 /// The mark for no chip. It also fills a lent chip buffer past the frame, and all of it on a refusal.
 pub const LOST: u8 = 4;
 
-/// A recorded chip is one of three things.
+/// A recorded chip is one of four things.
 #[derive(Clone, Copy)]
 pub enum Chip {
     Soft { i: f32, q: f32 },
+    Bytes { i: i8, q: i8 },
     Hard(Phase),
     Lost,
 }
@@ -30,10 +31,12 @@ pub enum Chip {
 pub type Counts = (i32, i32);
 
 impl Chip {
-    /// A full chip is 1: 1024 counts. A lost chip counts as (0, 0).
+    /// A full chip is 1, or 64 in bytes: 1024 counts. A byte counts 16 times itself, -128 too. A lost chip counts as
+    /// (0, 0).
     pub fn counts(self) -> Counts {
         match self {
             Chip::Soft { i, q } => (count(i), count(q)),
+            Chip::Bytes { i, q } => (16 * i32::from(i), 16 * i32::from(q)),
             Chip::Hard(0) => (1024, 0),
             Chip::Hard(1) => (0, 1024),
             Chip::Hard(2) => (-1024, 0),
@@ -66,18 +69,22 @@ pub fn count(x: f32) -> i32 {
     }
 }
 
-/// A lent recording. The rows of a soft one may differ in length, which is refused before a chip is looked at.
+/// A lent recording. Bytes are I and Q in turn, I first. An I without its Q, or a Q without its I, is refused before a
+/// chip is looked at.
 #[derive(Clone, Copy)]
 pub enum Recording<'a> {
     Hard(&'a [u8]),
     Soft(&'a [f32], &'a [f32]),
+    Bytes(&'a [i8]),
 }
 
 impl Recording<'_> {
-    pub fn rows_differ(&self) -> bool {
+    /// Soft rows that differ in length, or an odd number of bytes.
+    pub fn unpaired(&self) -> bool {
         match self {
             Recording::Hard(_) => false,
             Recording::Soft(i, q) => i.len() != q.len(),
+            Recording::Bytes(bytes) => bytes.len() % 2 == 1,
         }
     }
 
@@ -85,10 +92,11 @@ impl Recording<'_> {
         match self {
             Recording::Hard(octets) => octets.len(),
             Recording::Soft(i, _) => i.len(),
+            Recording::Bytes(bytes) => bytes.len() / 2,
         }
     }
 
-    /// The chip at a place, or none if it is unusable.
+    /// The chip at a place, or none if it is unusable; no chip of bytes is.
     pub fn chip(&self, place: usize) -> Option<Chip> {
         match self {
             Recording::Hard(octets) => match octets[place] {
@@ -100,6 +108,7 @@ impl Recording<'_> {
                 let (i, q) = (i[place], q[place]);
                 (usable(i) && usable(q)).then_some(Chip::Soft { i, q })
             }
+            Recording::Bytes(bytes) => Some(Chip::Bytes { i: bytes[2 * place], q: bytes[2 * place + 1] }),
         }
     }
 }

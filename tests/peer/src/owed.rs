@@ -1,10 +1,10 @@
-//! What a whole run owes: so many calls, each number of each op and part at least so often, and no family that spends a
-//! third of all calls on one number.
+//! What a whole run owes: so many calls, each number of each op and part at least so often and no other number at all,
+//! and no family that spends a third of all calls on one number.
 
 use crate::bridge::Outcome;
 use crate::calls::Part;
 
-const CALLS: u64 = 100_000;
+const CALLS: u64 = 120_000;
 
 struct Owed {
     op: &'static str,
@@ -18,7 +18,7 @@ const fn owed(op: &'static str, part: Part, shown: &'static str, least: &'static
     Owed { op, part, shown, least }
 }
 
-const OWED: [Owed; 11] = [
+const OWED: [Owed; 15] = [
     owed("write", Part::Front, "before the frame", &[(1, 10_000), (2, 2_000), (3, 30), (4, 200), (5, 150)]),
     owed("write", Part::Payload, "to 300 octets", &[(0, 3_000), (6, 400)]),
     owed("write", Part::LongPayload, "above 300 octets", &[(0, 800), (6, 30)]),
@@ -55,6 +55,16 @@ const OWED: [Owed; 11] = [
     owed("read soft", Part::Payload, "payload to 300 octets", &[(0, 3_500), (9, 150), (10, 180), (16, 200), (17, 100)]),
     owed("read soft", Part::LongPayload, "payload above 300", &[(0, 120), (9, 100), (10, 10), (16, 70), (17, 40)]),
     owed("read soft", Part::FarPlace, "places from 65,536", &[(9, 12), (10, 5)]),
+    // No 9: no byte is unusable.
+    owed(
+        "read bytes",
+        Part::Front,
+        "front",
+        &[(1, 1_200), (7, 800), (8, 600), (10, 1_300), (11, 700), (12, 700), (13, 800), (14, 800), (15, 600)],
+    ),
+    owed("read bytes", Part::Payload, "payload to 300 octets", &[(0, 8_000), (10, 650), (16, 700), (17, 150)]),
+    owed("read bytes", Part::LongPayload, "payload above 300", &[(0, 100), (10, 14), (16, 500), (17, 60)]),
+    owed("read bytes", Part::FarPlace, "places from 65,536", &[(10, 7)]),
 ];
 
 /// Shows how often each number came, and whether what is owed was met. `largest` is the family that answered one number
@@ -70,7 +80,14 @@ pub fn met(total: &Outcome, largest: (u64, &str)) -> Result<(), String> {
                 short.push(format!("{op}, {shown}, answered {number} {count} times, {least} owed"));
             }
         }
-        println!("{op:<9}  {shown:<21}  {}", words.join(", "));
+        println!("{op:<10}  {shown:<21}  {}", words.join(", "));
+    }
+    for ((op, part, number), count) in &total.met {
+        let owes = |owed: &&Owed| owed.op == *op && owed.part == *part;
+        let listed = OWED.iter().find(owes).is_some_and(|owed| owed.least.iter().any(|(owed, _)| owed == number));
+        if !listed {
+            short.push(format!("{op} answered {number} {count} times where it can't"));
+        }
     }
     if total.calls < CALLS {
         short.push(format!("{} calls made, {CALLS} owed", total.calls));

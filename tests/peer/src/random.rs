@@ -44,6 +44,10 @@ impl Random {
         (0..n).map(|_| self.below(256) as u8).collect()
     }
 
+    pub fn byte(&mut self) -> i8 {
+        self.below(256) as u8 as i8
+    }
+
     /// Noise of about the given spread: a sum of even steps, so that no machine's arithmetic matters.
     pub fn noise(&mut self, spread: f32) -> f32 {
         let sum: i64 = (0..4).map(|_| self.below(1 << 16) as i64 - (1 << 15)).sum();

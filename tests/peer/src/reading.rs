@@ -54,7 +54,7 @@ struct Front {
 /// 1, 7, 8, then 9 and 10 over the front, 11, 12.
 fn read_front(kind: u64, recording: Recording) -> Result<Front, Read> {
     let kind = Kind::of_number(kind).ok_or(Read::refused(refusals::KIND))?;
-    if recording.rows_differ() {
+    if recording.unpaired() {
         return Err(Read::refused(refusals::ROWS));
     }
     if recording.chips() < kind.front_chips() {

@@ -15,7 +15,7 @@ pub const PAYLOAD: u64 = 4;
 pub const PHASE: u64 = 5;
 /// chip buffer shorter than the frame
 pub const CHIP_BUFFER: u64 = 6;
-/// I and Q rows differ in length
+/// I and Q rows differ in length, or an odd number of bytes
 pub const ROWS: u64 = 7;
 /// recording shorter than the front
 pub const FRONT: u64 = 8;

@@ -65,9 +65,11 @@ fn figures_in_the_text() -> Vec<(&'static str, bool)> {
         (8.0, 8192),
         (-8.0, -8192),
     ];
+    let bytes = [(64, 1024), (1, 16), (0, 0), (-1, -16), (127, 2032), (-127, -2032), (-128, -2048)];
     let lost = decide(Rate::Mbit5_5, &[Chip::Lost.counts(); 8]);
     vec![
         ("counts", counts.iter().all(|(x, whole)| count(*x) == *whole)),
+        ("counts of bytes", bytes.iter().all(|(i, whole)| Chip::Bytes { i: *i, q: -64 }.counts() == (*whole, -1024))),
         ("growths", [(0, 0), (0, 1), (1, 1), (1, 0)].map(|(d0, d1)| growth_of_two(d0, d1)) == [0, 1, 2, 3]),
         ("direct phases", [(0, 0), (0, 1), (1, 0), (1, 1)].map(|(d0, d1)| direct(d0, d1)) == [0, 1, 2, 3]),
         ("smallest allowed word at 5.5 Mbit/s", lost == 16),

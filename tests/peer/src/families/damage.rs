@@ -1,4 +1,4 @@
-//! Unusable, turned, damaged and lost chips in hard recordings.
+//! Unusable, turned, damaged and lost chips, in hard recordings and in some of bytes.
 
 use super::{any_pair, pairs, turn, Draft, Out};
 use crate::bits::Rate;
@@ -43,10 +43,10 @@ pub fn odd_growths(out: &mut Out) {
             for by in 1..4 {
                 let mut alone = chips.clone();
                 turn(&mut alone[at..at + 11], by);
-                out.call(Call::hard(kind.number(), alone.clone(), 2));
+                out.hard_and_bytes(3, kind.number(), alone.clone(), 2);
                 let mut onward = chips.clone();
                 turn(&mut onward[at..], by);
-                out.call(Call::hard(kind.number(), onward, 2));
+                out.hard_and_bytes(3, kind.number(), onward, 2);
                 // An unusable chip later in the same part comes first, one in the other part doesn't.
                 if out.random.once_in(2) {
                     let first = out.random.pick(&[0, at]);
@@ -56,7 +56,7 @@ pub fn odd_growths(out: &mut Out) {
             }
             let mut lost = chips.clone();
             lost[at..at + 11].fill(LOST);
-            out.call(Call::hard(kind.number(), lost, 2));
+            out.hard_and_bytes(3, kind.number(), lost, 2);
         }
     }
     for _ in 0..out.cases(600) {
@@ -68,7 +68,7 @@ pub fn odd_growths(out: &mut Out) {
             let by = out.random.phase();
             turn(&mut chips[at..at + 11], by);
         }
-        out.call(Call::hard(kind.number(), chips, n));
+        out.hard_and_bytes(3, kind.number(), chips, n);
     }
 }
 
@@ -93,7 +93,7 @@ pub fn damaged_chips(out: &mut Out) {
                 *chip = out.random.phase();
             }
         }
-        out.call(Call::hard(kind.number(), chips, n));
+        out.hard_and_bytes(4, kind.number(), chips, n);
     }
 }
 
@@ -125,12 +125,12 @@ pub fn lost_chips(out: &mut Out) {
                 }
             }
         }
-        out.call(Call::hard(kind.number(), chips, n));
+        out.hard_and_bytes(4, kind.number(), chips, n);
     }
 }
 
 /// The chips of an allowed word at a rate.
-fn some_word(rate: Rate, random: &mut Random) -> Vec<u8> {
+pub fn some_word(rate: Rate, random: &mut Random) -> Vec<u8> {
     match rate {
         Rate::Mbit1 | Rate::Mbit2 => barker(random.phase()).to_vec(),
         Rate::Mbit5_5 => random.pick(&ALLOWED_5_5).1.to_vec(),
@@ -172,7 +172,7 @@ pub fn tied_words(out: &mut Out) {
                 _ => symbol.iter_mut().for_each(|chip| *chip = out.random.below(5) as u8),
             }
         }
-        out.call(Call::hard(kind.number(), chips, n));
+        out.hard_and_bytes(4, kind.number(), chips, n);
     }
 }
 

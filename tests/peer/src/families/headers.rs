@@ -1,8 +1,7 @@
 //! Headers of every SIGNAL, SERVICE and many LENGTH, and what stands before them.
 
-use super::{any_pair, pairs, soft_rows, Draft, Out};
+use super::{any_pair, pairs, Draft, Out, Recorder};
 use crate::bits::Rate;
-use crate::calls::Call;
 use crate::frame::{Header, Kind};
 use crate::random::Random;
 
@@ -18,12 +17,12 @@ fn some_length(rate: Rate, random: &mut Random) -> u16 {
     }
 }
 
-fn front_call(kind: Kind, header: Header, random: &mut Random) -> Call {
+fn front_with(kind: Kind, header: Header, random: &mut Random) -> Vec<u8> {
     let mut chips = Draft::random(kind, Rate::Mbit11, 1, random).with_header(header).front();
     // A few chips behind the front, never enough for more than a few octets.
     let behind = random.pick(&[0, 0, 8, 20]);
     chips.extend((0..behind).map(|_| random.phase()));
-    Call::hard(kind.number(), chips, random.within(0, 3))
+    chips
 }
 
 pub fn every_signal_and_service(out: &mut Out) {
@@ -36,8 +35,8 @@ pub fn every_signal_and_service(out: &mut Out) {
                 let every = if kind == Kind::Short { 4 } else { 32 };
                 if out.long || signals_of_rates.contains(&signal) || service % every == signal % every {
                     let header = Header { signal, service, length: some_length(rate, &mut out.random) };
-                    let call = front_call(kind, header, &mut out.random);
-                    out.call(call);
+                    let (chips, room) = (front_with(kind, header, &mut out.random), out.random.within(0, 3));
+                    out.hard_and_bytes(16, kind.number(), chips, room);
                 }
             }
         }
@@ -48,7 +47,7 @@ pub fn every_signal_and_service(out: &mut Out) {
             let n = out.random.within(1, 4);
             let draft = Draft::random(kind, rate, n, &mut out.random);
             let header = Header { service, ..draft.header };
-            out.call(Call::hard(kind.number(), draft.with_header(header).chips(), n));
+            out.hard_and_bytes(3, kind.number(), draft.with_header(header).chips(), n);
         }
     }
 }
@@ -68,14 +67,14 @@ pub fn every_length(out: &mut Out) {
             for service in if rate == Rate::Mbit11 { &[0, 128][..] } else { &[0][..] } {
                 let header = Header { signal: rate.code(), service: *service, length: length as u16 };
                 let front = Draft::new(kind, rate, 3, vec![]).with_header(header).front();
-                out.call(Call::hard(kind.number(), front, 0));
+                out.hard_and_bytes(12, kind.number(), front, 0);
             }
         }
     }
 }
 
 pub fn headers_with_payload(out: &mut Out) {
-    for _ in 0..out.cases(3000) {
+    for _ in 0..out.cases(3600) {
         let (kind, rate) = any_pair(&mut out.random);
         let n = out.random.within(1, 20);
         let mut draft = Draft::random(kind, rate, n, &mut out.random);
@@ -93,11 +92,8 @@ pub fn headers_with_payload(out: &mut Out) {
         let mut chips = draft.chips();
         chips.extend((0..out.random.below(30)).map(|_| out.random.phase()));
         let room = out.random.within(n.saturating_sub(1), n + 4);
-        if out.random.once_in(4) {
-            out.call(Call::soft(kind.number(), soft_rows(&chips, 1.0), room));
-        } else {
-            out.call(Call::hard(kind.number(), chips, room));
-        }
+        let recorder = out.random.pick(&Recorder::HARD_TWICE);
+        out.call(recorder.reading(kind.number(), chips, room));
     }
 }
 
@@ -124,8 +120,9 @@ pub fn sfd_and_crc(out: &mut Out) {
             drafts.push(Draft { header: Header::of_bits(&bits), ..draft.clone() });
         }
         for draft in drafts {
-            out.call(Call::hard(kind.number(), draft.chips(), 2));
-            out.call(Call::soft(kind.number(), soft_rows(&draft.chips(), 0.75), 2));
+            for recorder in Recorder::ALL {
+                out.call(recorder.reading(kind.number(), draft.chips(), 2));
+            }
         }
         for _ in 0..out.cases(600) {
             let mut draft = Draft::random(kind, Rate::Mbit11, 1, &mut out.random);
@@ -134,7 +131,7 @@ pub fn sfd_and_crc(out: &mut Out) {
                 1 => draft.crc = out.random.below(1 << 16) as u16,
                 _ => draft.crc ^= 1 << out.random.below(16) | 1 << out.random.below(16),
             }
-            out.call(Call::hard(kind.number(), draft.chips(), 1));
+            out.hard_and_bytes(4, kind.number(), draft.chips(), 1);
         }
     }
 }
@@ -147,6 +144,6 @@ pub fn sync_not_compared(out: &mut Out) {
         for bit in &mut draft.sync {
             *bit = out.random.below(2) as u8;
         }
-        out.call(Call::hard(kind.number(), draft.chips(), n));
+        out.hard_and_bytes(4, kind.number(), draft.chips(), n);
     }
 }

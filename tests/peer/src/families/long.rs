@@ -1,7 +1,7 @@
 //! Long frames: payloads up to 4,095 octets, places above 65,536, refusals at first, last and inner symbols, and damage
 //! where a reader that goes by blocks of symbols, octets or chips would pass from one block to the next.
 
-use super::{pairs, soft_rows, turn, Draft, Out};
+use super::{bytes_of, pairs, soft_rows, turn, Draft, Out, Recorder};
 use crate::bits::Rate;
 use crate::calls::Call;
 use crate::chips::LOST;
@@ -25,19 +25,10 @@ fn edges(count: usize, random: &mut Random) -> BTreeSet<usize> {
     all.filter(|at| *at < count).collect()
 }
 
-/// The same recording, hard or soft.
-fn reading(kind: Kind, chips: Vec<u8>, soft: bool, room: usize) -> Call {
-    if soft {
-        Call::soft(kind.number(), soft_rows(&chips, 1.0), room)
-    } else {
-        Call::hard(kind.number(), chips, room)
-    }
-}
-
 pub fn long_payloads(out: &mut Out) {
     let ranges = [(65, 127), (128, 300), (301, 600), (601, 1022), (1027, 2000), (2001, 4094)];
     for (kind, rate) in pairs() {
-        for soft in [false, true] {
+        for recorder in Recorder::ALL {
             for _ in 0..out.cases(1) {
                 for n in some_of_each(&ranges, &mut out.random) {
                     let mut chips = Draft::random(kind, rate, n, &mut out.random).chips();
@@ -45,7 +36,7 @@ pub fn long_payloads(out: &mut Out) {
                     let after = out.random.below(70);
                     chips.extend(out.random.octets(after));
                     let room = n + out.random.pick(&[0, 0, 1, 70]);
-                    out.call(reading(kind, chips, soft, room));
+                    out.call(recorder.reading(kind.number(), chips, room));
                 }
             }
         }
@@ -81,8 +72,9 @@ pub fn long_unusable(out: &mut Out) {
                     let second = out.random.within(place, chips.len() - 1);
                     spoiled[second] = 0xFF;
                 }
-                let soft = out.random.once_in(4);
-                out.call(reading(kind, spoiled, soft, n));
+                // No byte is unusable.
+                let recorder = if out.random.once_in(4) { Recorder::Soft } else { Recorder::Hard };
+                out.call(recorder.reading(kind.number(), spoiled, n));
             }
         }
     }
@@ -92,19 +84,19 @@ pub fn long_unusable(out: &mut Out) {
 const FAR: usize = 5766;
 
 pub fn long_growths(out: &mut Out) {
-    for (n, most) in [(9, 40), (17, 40), (65, 40), (301, 24), (900, 40), (4095, 8)] {
+    for (n, most) in [(9, 50), (17, 50), (65, 50), (301, 30), (500, 40), (900, 52), (4095, 9)] {
         let n = n + out.random.below(4) * usize::from(n < 4095);
         let chips = Draft::random(Kind::Long, Rate::Mbit1, n, &mut out.random).chips();
         let mut symbols = vec![8 * n - 1, 0];
         if 8 * n > FAR {
             symbols.extend([FAR, FAR + 1]);
-            symbols.extend((0..20).map(|_| out.random.within(FAR, 8 * n - 2)));
+            symbols.extend((0..30).map(|_| out.random.within(FAR, 8 * n - 2)));
         }
         symbols.extend(edges(8 * n, &mut out.random));
         for (case, symbol) in symbols.into_iter().take(out.cases(most)).enumerate() {
-            let soft = case % 3 == 0;
+            let recorder = Recorder::HARD_TWICE[(case + n) % 4];
             let turned = turned_at(symbol, n, &chips, &mut out.random);
-            out.call(reading(Kind::Long, turned, soft, n));
+            out.call(recorder.reading(Kind::Long.number(), turned, n));
         }
     }
 }
@@ -136,12 +128,12 @@ pub fn long_cuts(out: &mut Out) {
                 chips[at] = 200;
             }
             let fixed = [front, front + 1, front + 64, 65_535, 65_536, 65_537, frame - 65, frame - 11, frame - 2];
-            let any: Vec<usize> = (0..4).map(|_| out.random.within(front, frame - 1)).collect();
+            let any: Vec<usize> = (0..8).map(|_| out.random.within(front, frame - 1)).collect();
             let lens: BTreeSet<usize> = fixed.into_iter().chain(any).chain([frame - 1]).collect();
             for len in lens.into_iter().filter(|len| (front..frame).contains(len)) {
                 let room = out.random.pick(&[n, n, n - 1, 0]);
-                let soft = out.random.once_in(3);
-                out.call(reading(kind, chips[..len].to_vec(), soft, room));
+                let recorder = out.random.pick(&Recorder::HARD_TWICE);
+                out.call(recorder.reading(kind.number(), chips[..len].to_vec(), room));
             }
         }
     }
@@ -155,11 +147,11 @@ pub fn long_rooms(out: &mut Out) {
                 let at = out.random.within(kind.front_chips(), chips.len() - 1);
                 chips[at] = 66;
             }
-            let any = out.random.below(n);
-            let rooms: BTreeSet<usize> = [0, 1, 64, 255, 256, 300, n / 2, n - 1, any].into_iter().collect();
+            let any = [(); 4].map(|()| out.random.below(n));
+            let rooms: BTreeSet<usize> = [0, 1, 64, 255, 256, 300, n / 2, n - 1].into_iter().chain(any).collect();
             for room in rooms.into_iter().filter(|room| *room < n) {
-                let soft = out.random.once_in(3);
-                out.call(reading(kind, chips.clone(), soft, room));
+                let recorder = out.random.pick(&Recorder::HARD_TWICE);
+                out.call(recorder.reading(kind.number(), chips.clone(), room));
             }
         }
     }
@@ -189,8 +181,8 @@ pub fn block_edges(out: &mut Out) {
                 let mut spoiled = chips.clone();
                 let at = front + each * symbol;
                 damage(&mut spoiled[at..at + each], rate, &mut out.random);
-                let soft = out.random.once_in(3);
-                out.call(reading(kind, spoiled, soft, n));
+                let recorder = out.random.pick(&Recorder::HARD_TWICE);
+                out.call(recorder.reading(kind.number(), spoiled, n));
             }
         }
     }
@@ -198,7 +190,7 @@ pub fn block_edges(out: &mut Out) {
 
 pub fn long_damage(out: &mut Out) {
     for (kind, rate) in pairs() {
-        for case in 0..out.cases(6) {
+        for case in 0..out.cases(9) {
             let n = out.random.within(301, 1100);
             let mut chips = Draft::random(kind, rate, n, &mut out.random).chips();
             let one_in = out.random.pick(&[400, 40, 10, 5, 3]);
@@ -207,7 +199,7 @@ pub fn long_damage(out: &mut Out) {
                     *chip = out.random.below(5) as u8;
                 }
             }
-            if case % 2 == 0 {
+            if case % 3 == 0 {
                 out.call(Call::hard(kind.number(), chips, n));
                 continue;
             }
@@ -216,7 +208,10 @@ pub fn long_damage(out: &mut Out) {
             for x in i[kind.front_chips()..].iter_mut().chain(&mut q[kind.front_chips()..]) {
                 *x = (*x + out.random.noise(spread)).clamp(-8.0, 8.0);
             }
-            out.call(Call::soft(kind.number(), (i, q), n));
+            out.call(match case % 3 {
+                1 => Call::soft(kind.number(), (i, q), n),
+                _ => Call::bytes(kind.number(), bytes_of(&i, &q), n),
+            });
         }
     }
 }

@@ -10,6 +10,7 @@
 //! - SFD sent highest bit first: `write_short_payloads`, and every read of a good front.
 //! - Halves of a count always rounded up: `halves_of_a_count`, `tiny_values`.
 
+mod bytes;
 mod damage;
 mod headers;
 mod long;
@@ -47,8 +48,8 @@ families! {
     203 written::write_every_n: "a sweep of n at each rate; every n in the longer run, but at 1 and 2 Mbit/s",
     204 written::write_numbers: "kind, rate, phase, payload and buffer out of range, alone and together",
     205 written::write_edges: "payload of 0, 4,095 and 4,096 octets, buffers a chip short, exact and longer",
-    301 restored::read_short_payloads: "hard and soft recordings of 1 to 64 octets, all kinds, rates and phases",
-    302 restored::read_long_payloads: "hard and soft recordings of 1,023 to 1,026 and 4,095 octets",
+    301 restored::read_short_payloads: "recordings of 1 to 64 octets, all kinds, rates and phases",
+    302 restored::read_long_payloads: "recordings of 1,023 to 1,026 and 4,095 octets",
     303 restored::read_rooms: "octet buffers shorter than n, exact and longer",
     304 restored::chips_after_the_frame: "anything after the frame, unusable chips too",
     401 headers::every_signal_and_service: "each SIGNAL, each SERVICE, all of both in the longer run, right CRC",
@@ -60,9 +61,10 @@ families! {
     502 refused::rows_that_differ: "I and Q rows of different length",
     503 refused::empty_rows: "every row empty, alone and together",
     504 refused::every_set_of_refusals: "each set of refusals that can be asked for at once",
-    505 refused::pairs_of_refusals: "each refusal alone and with each other one, hard and soft",
+    505 refused::pairs_of_refusals: "each refusal alone and with each other one, by each recorder",
     506 refused::cut_recordings: "recordings cut at every length about the front's and the frame's end",
     507 refused::kinds_crossed: "long frames read as short and the other way",
+    508 refused::odd_rows: "odd numbers of bytes, about the fronts, the frame's end and powers of 2",
     601 damage::unusable_octets: "one or two unusable octets at every place",
     602 damage::odd_growths: "symbols turned by 1 to 3, alone or with all that follow",
     603 damage::damaged_chips: "chips changed to other phases, few to most",
@@ -75,13 +77,17 @@ families! {
     704 soft::exactly_eight: "8 and its neighbours, scores at both ends of their range",
     705 soft::unusable_values: "NaN, infinities and values above 8 at every place",
     706 soft::soft_damage: "soft chips turned, faded and lost",
-    801 long::long_payloads: "65 to 4,094 octets, hard and soft, anything after the frame",
+    801 long::long_payloads: "65 to 4,094 octets by each recorder, anything after the frame",
     802 long::long_unusable: "unusable chips at edges of symbols and blocks, first, last and any, up to 4,095 octets",
     803 long::long_growths: "payload symbols turned at edges of blocks, first, last and past chip 65,536",
     804 long::long_cuts: "long recordings that end inside the payload",
     805 long::long_rooms: "octet buffers shorter than a long payload",
     806 long::block_edges: "one symbol damaged at an edge of a block of symbols or octets",
     807 long::long_damage: "damage and noise over payloads of 301 to 1,100 octets",
+    901 bytes::every_byte: "symbols decided otherwise if one byte, each of the 256, is 1 more or 1 less",
+    902 bytes::equal_bytes: "bytes equal in size, so that words tie, in symbols and over all of a recording",
+    903 bytes::exchanged_bytes: "I and Q exchanged, negated, a byte late, and frames turned by an eighth",
+    904 bytes::random_bytes: "bytes at random over all of the recording, the header or the payload",
 }
 
 /// Where a family puts its calls.
@@ -99,6 +105,14 @@ impl<'a> Out<'a> {
 
     pub fn call(&mut self, call: Call) {
         (self.take)(call);
+    }
+
+    /// A hard reading and, once in so many times, the same chips read as bytes.
+    pub fn hard_and_bytes(&mut self, times: usize, kind: u64, chips: Vec<u8>, room: usize) {
+        if self.random.once_in(times) {
+            self.call(Recorder::Bytes.reading(kind, chips.clone(), room));
+        }
+        self.call(Call::hard(kind, chips, room));
     }
 
     /// So many cases, or ten times as many in the longer run.
@@ -177,6 +191,30 @@ impl Draft {
     }
 }
 
+/// What recorded the chips.
+#[derive(Clone, Copy)]
+pub enum Recorder {
+    Hard,
+    Soft,
+    Bytes,
+}
+
+impl Recorder {
+    pub const ALL: [Recorder; 3] = [Recorder::Hard, Recorder::Soft, Recorder::Bytes];
+
+    /// To pick from: half of them hard, which takes the least time.
+    pub const HARD_TWICE: [Recorder; 4] = [Recorder::Hard, Recorder::Soft, Recorder::Hard, Recorder::Bytes];
+
+    /// The reading of a hard recording's chips as this recorder has them, full ones.
+    pub fn reading(self, kind: u64, chips: Vec<u8>, room: usize) -> Call {
+        match self {
+            Recorder::Hard => Call::hard(kind, chips, room),
+            Recorder::Soft => Call::soft(kind, soft_rows(&chips, 1.0), room),
+            Recorder::Bytes => Call::bytes(kind, byte_row(&chips, 1.0), room),
+        }
+    }
+}
+
 /// A hard recording as a soft one of the given size; lost chips become (0, 0), unusable octets NaN on I.
 pub fn soft_rows(chips: &[u8], size: f32) -> (Vec<f32>, Vec<f32>) {
     let i = |chip: &u8| match *chip {
@@ -191,6 +229,19 @@ pub fn soft_rows(chips: &[u8], size: f32) -> (Vec<f32>, Vec<f32>) {
         _ => 0.0,
     };
     (chips.iter().map(i).collect(), chips.iter().map(q).collect())
+}
+
+/// Soft rows as a row of bytes: 64 times each value, cut to a whole number and clipped at -128 and 127. A NaN, which no
+/// byte is, becomes -128.
+pub fn bytes_of(i: &[f32], q: &[f32]) -> Vec<i8> {
+    let byte = |x: &f32| if x.is_nan() { i8::MIN } else { (64.0 * x) as i8 };
+    i.iter().zip(q).flat_map(|(i, q)| [byte(i), byte(q)]).collect()
+}
+
+/// A hard recording as a row of bytes, as its soft rows are.
+pub fn byte_row(chips: &[u8], size: f32) -> Vec<i8> {
+    let (i, q) = soft_rows(chips, size);
+    bytes_of(&i, &q)
 }
 
 /// Turns the chips of a row by quarter turns; a lost chip stays lost.

@@ -1,6 +1,6 @@
 //! Calls made from the figures from outside.
 
-use super::{Draft, Out};
+use super::{Draft, Out, Recorder};
 use crate::bits::Rate;
 use crate::calls::Call;
 use crate::frame::{Header, Kind};
@@ -24,7 +24,7 @@ pub fn published_figures(out: &mut Out) {
             for phase in 0..4 {
                 let mut draft = Draft::new(kind, Rate::Mbit11, phase, vec![]);
                 (draft.header, draft.crc) = (Header::of_bits(&figure.bits), figure.crc);
-                out.call(Call::hard(kind.number(), draft.front(), 4));
+                out.hard_and_bytes(4, kind.number(), draft.front(), 4);
             }
         }
     }
@@ -33,7 +33,9 @@ pub fn published_figures(out: &mut Out) {
             let chips = Draft::new(figure.kind, *rate, 0, payload.clone()).chips();
             let (kind, n) = (figure.kind.number(), payload.len());
             out.call(Call::write(kind, u64::from(rate.code()), 0, payload.clone(), chips.len()));
-            out.call(Call::hard(kind, chips, n));
+            for recorder in Recorder::ALL {
+                out.call(recorder.reading(kind, chips.clone(), n));
+            }
         }
     }
     let words: Vec<&[u8]> = figures.cck_words.iter().map(|figure| figure.chips.as_slice()).collect();
@@ -54,5 +56,7 @@ fn payload_of(out: &mut Out, kind: Kind, rate: Rate, phase: u8, payload_chips: &
     let mut chips = Draft::new(kind, rate, phase, vec![0]).chips();
     chips.truncate(kind.front_chips());
     chips.extend(payload_chips);
-    out.call(Call::hard(kind.number(), chips, 1));
+    for recorder in Recorder::ALL {
+        out.call(recorder.reading(kind.number(), chips.clone(), 1));
+    }
 }

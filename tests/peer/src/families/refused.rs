@@ -1,6 +1,6 @@
 //! Refusals of the readers, at their edges and several at once.
 
-use super::{any_pair, pairs, soft_rows, turn, Draft, Out};
+use super::{any_pair, byte_row, bytes_of, pairs, soft_rows, turn, Draft, Out, Recorder};
 use crate::bits::Rate;
 use crate::calls::Call;
 use crate::frame::Kind;
@@ -25,8 +25,9 @@ pub fn read_numbers(out: &mut Out) {
                 if out.random.once_in(3) && len > 0 {
                     chips[out.random.below(len)] = 5;
                 }
-                out.call(Call::soft(kind, soft_rows(&chips, 1.0), room));
-                out.call(Call::hard(kind, chips, room));
+                for recorder in Recorder::ALL {
+                    out.call(recorder.reading(kind, chips.clone(), room));
+                }
             }
         }
     }
@@ -59,12 +60,42 @@ pub fn rows_that_differ(out: &mut Out) {
     }
 }
 
+/// The lengths themselves too, so that what is refused is the odd number and nothing near it.
+pub fn odd_rows(out: &mut Out) {
+    for kind in KINDS {
+        for len in [0, 2, 10, 22, 1056, 2112, 2114, 4224, 4226, 4600] {
+            for len in [len, len + 1] {
+                let mut bytes = byte_row(&first_chips(2400, &mut out.random), 1.0);
+                bytes.truncate(len);
+                let room = out.random.pick(&[0, 31, 32, 40]);
+                out.call(Call::bytes(kind, bytes, room));
+            }
+        }
+    }
+    // About the end of a frame, and about lengths that are 0 in their lowest octet or 16 bits.
+    for (kind, rate) in pairs() {
+        let long = out.random.within(301, 1000);
+        for n in [1, 2, 9, long] {
+            let bytes = byte_row(&Draft::random(kind, rate, n, &mut out.random).chips(), 1.0);
+            for len in (bytes.len() - 3..=bytes.len() + 3).chain([255, 257, 65_535, 65_537, 131_073]) {
+                let mut row = bytes.clone();
+                row.resize(len, 64);
+                let room = out.random.pick(&[n, n, n + 1, 0]);
+                out.call(Call::bytes(kind.number(), row, room));
+            }
+        }
+    }
+}
+
 pub fn empty_rows(out: &mut Out) {
     for kind in [0, 1, 2] {
         for room in [0, 1, 100] {
             out.call(Call::hard(kind, vec![], room));
             for (i_len, q_len) in [(0, 0), (0, 1), (1, 0), (0, 2112), (2112, 0)] {
                 out.call(Call::soft(kind, (vec![0.0; i_len], vec![0.0; q_len]), room));
+            }
+            for len in [0, 1, 2, 3] {
+                out.call(Call::bytes(kind, vec![0; len], room));
             }
         }
         for rate in [10, 20, 55, 110, 0] {
@@ -75,8 +106,9 @@ pub fn empty_rows(out: &mut Out) {
     }
     for (kind, rate) in pairs() {
         let chips = Draft::random(kind, rate, 1, &mut out.random).chips();
-        out.call(Call::soft(kind.number(), soft_rows(&chips, 1.0), 0));
-        out.call(Call::hard(kind.number(), chips, 0));
+        for recorder in Recorder::ALL {
+            out.call(recorder.reading(kind.number(), chips.clone(), 0));
+        }
     }
 }
 
@@ -98,7 +130,7 @@ const PAYLOAD_UNUSABLE: usize = 12;
 const PAYLOAD_GROWTH: usize = 13;
 
 /// A reading with the wrongs of a set (bit k for wrong k), the places and values at random.
-fn wrong_reading(set: usize, soft: bool, random: &mut Random) -> Call {
+fn wrong_reading(set: usize, recorder: Recorder, random: &mut Random) -> Call {
     let wrong = |k: usize| set >> k & 1 == 1;
     let (kind, rate) = if wrong(PAYLOAD_GROWTH) { (Kind::Long, Rate::Mbit1) } else { any_pair(random) };
     let n = random.within(1, 6);
@@ -143,32 +175,50 @@ fn wrong_reading(set: usize, soft: bool, random: &mut Random) -> Call {
     }
     let room = if wrong(ROOM) { random.below(n) } else { random.within(n, n + 2) };
     let number = if wrong(KIND) { random.pick(&KINDS[2..]) } else { kind.number() };
-    if !soft {
-        return Call::hard(number, chips, room);
+    match recorder {
+        Recorder::Hard => Call::hard(number, chips, room),
+        Recorder::Soft => Call::soft(number, wrong_rows(&chips, wrong(ROWS), random), room),
+        Recorder::Bytes => {
+            let (i, q) = wrong_rows(&chips, false, random);
+            let mut bytes = bytes_of(&i, &q);
+            if wrong(ROWS) {
+                resize_by_one(&mut bytes, 32, random);
+            }
+            Call::bytes(number, bytes, room)
+        }
     }
-    let (mut i, mut q) = soft_rows(&chips, 1.0);
+}
+
+/// Soft rows with any unusable values where the hard chips are unusable, of different length if so asked.
+fn wrong_rows(chips: &[u8], differ: bool, random: &mut Random) -> (Vec<f32>, Vec<f32>) {
+    let (mut i, mut q) = soft_rows(chips, 1.0);
     for at in (0..chips.len()).filter(|at| chips[*at] > 4) {
         let value = random.pick(&[f32::NAN, f32::INFINITY, f32::NEG_INFINITY, 8.000_001, -9.0, f32::MAX]);
         (i[at], q[at]) = random.pick(&[(value, 0.0), (0.0, value), (value, value)]);
     }
-    if wrong(ROWS) {
-        let row = if random.once_in(2) { &mut i } else { &mut q };
-        let len = random.pick(&[row.len() + 1, row.len().saturating_sub(1)]);
-        row.resize(len, 0.5);
+    if differ {
+        resize_by_one(if random.once_in(2) { &mut i } else { &mut q }, 0.5, random);
     }
-    Call::soft(number, (i, q), room)
+    (i, q)
+}
+
+fn resize_by_one<T: Clone>(row: &mut Vec<T>, value: T, random: &mut Random) {
+    let len = if row.is_empty() || random.once_in(2) { row.len() + 1 } else { row.len() - 1 };
+    row.resize(len, value);
 }
 
 pub fn every_set_of_refusals(out: &mut Out) {
     for set in 0..1 << WRONGS {
         let rows_differ = set >> ROWS & 1 == 1;
         if !rows_differ {
-            let call = wrong_reading(set, false, &mut out.random);
+            let call = wrong_reading(set, Recorder::Hard, &mut out.random);
             out.call(call);
         }
-        if out.long || out.random.once_in(8) {
-            let call = wrong_reading(set, true, &mut out.random);
-            out.call(call);
+        for recorder in [Recorder::Soft, Recorder::Bytes] {
+            if out.long || out.random.once_in(8) {
+                let call = wrong_reading(set, recorder, &mut out.random);
+                out.call(call);
+            }
         }
     }
 }
@@ -177,10 +227,11 @@ pub fn pairs_of_refusals(out: &mut Out) {
     for first in 0..WRONGS {
         for second in first..WRONGS {
             let set = 1 << first | 1 << second;
-            for case in 0..out.cases(20) {
-                // The rows of a hard recording can't differ.
-                let soft = case % 4 == 0 || set >> ROWS & 1 == 1;
-                let call = wrong_reading(set, soft, &mut out.random);
+            // The rows of a hard recording can't differ.
+            let two = [Recorder::Soft, Recorder::Bytes];
+            let recorders = if set >> ROWS & 1 == 1 { &two[..] } else { &Recorder::HARD_TWICE[..] };
+            for case in 0..out.cases(24) {
+                let call = wrong_reading(set, recorders[case % recorders.len()], &mut out.random);
                 out.call(call);
             }
         }
@@ -207,9 +258,9 @@ pub fn cut_recordings(out: &mut Out) {
                 }
                 let room = out.random.within(n - 1, n + 1);
                 if out.random.once_in(3) {
-                    out.call(Call::soft(kind.number(), soft_rows(&cut, 1.0), room));
+                    out.call(Recorder::Soft.reading(kind.number(), cut.clone(), room));
                 }
-                out.call(Call::hard(kind.number(), cut, room));
+                out.hard_and_bytes(1, kind.number(), cut, room);
             }
         }
     }
@@ -221,6 +272,6 @@ pub fn kinds_crossed(out: &mut Out) {
         let other = if kind == Kind::Long { Kind::Short } else { Kind::Long };
         let n = out.random.within(1, 140);
         let draft = Draft::random(kind, rate, n, &mut out.random);
-        out.call(Call::hard(other.number(), draft.chips(), n));
+        out.hard_and_bytes(4, other.number(), draft.chips(), n);
     }
 }

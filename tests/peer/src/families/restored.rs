@@ -1,6 +1,6 @@
-//! Reading back what was written, hard and soft.
+//! Reading back what was written, by each recorder.
 
-use super::{any_pair, pairs, soft_rows, Draft, Out};
+use super::{any_pair, byte_row, pairs, soft_rows, Draft, Out, Recorder};
 use crate::calls::Call;
 
 pub fn read_short_payloads(out: &mut Out) {
@@ -13,12 +13,17 @@ pub fn read_short_payloads(out: &mut Out) {
                 if out.long || n % 4 == usize::from(phase) {
                     out.call(Call::soft(kind.number(), soft_rows(&chips, size), room));
                 }
+                // From a byte of 1 to clipped ones.
+                let size = out.random.pick(&[1.0, 1.0, 0.5, 0.016, 0.047, 1.99, 2.0]);
+                if out.long || n % 4 == usize::from(3 - phase) {
+                    out.call(Call::bytes(kind.number(), byte_row(&chips, size), room));
+                }
                 out.call(Call::hard(kind.number(), chips, room));
             }
         }
         for octet in 0..=255 {
             let chips = Draft::new(kind, rate, out.random.phase(), vec![octet]).chips();
-            out.call(Call::hard(kind.number(), chips, 1));
+            out.hard_and_bytes(4, kind.number(), chips, 1);
         }
     }
 }
@@ -27,12 +32,15 @@ pub fn read_long_payloads(out: &mut Out) {
     for (kind, rate) in pairs() {
         for n in [1023, 1024, 1025, 1026, 4095] {
             let chips = Draft::random(kind, rate, n, &mut out.random).chips();
-            out.call(Call::soft(kind.number(), soft_rows(&chips, 1.0), n));
-            out.call(Call::hard(kind.number(), chips, n + 3));
+            for (recorder, spare) in [(Recorder::Soft, 0), (Recorder::Bytes, 1), (Recorder::Hard, 3)] {
+                out.call(recorder.reading(kind.number(), chips.clone(), n + spare));
+            }
         }
         let chips = Draft::random(kind, rate, 4095, &mut out.random).chips();
-        out.call(Call::hard(kind.number(), chips.clone(), 4094));
-        out.call(Call::hard(kind.number(), chips[..chips.len() - 1].to_vec(), 4095));
+        for recorder in [Recorder::Hard, Recorder::Bytes] {
+            out.call(recorder.reading(kind.number(), chips.clone(), 4094));
+            out.call(recorder.reading(kind.number(), chips[..chips.len() - 1].to_vec(), 4095));
+        }
     }
 }
 
@@ -45,34 +53,46 @@ pub fn read_rooms(out: &mut Out) {
                 out.call(Call::hard(kind.number(), chips.clone(), room));
             }
             for room in [0, n - 1, n, n + 1, 256, 5000] {
-                out.call(Call::soft(kind.number(), soft_rows(&chips, 1.0), room));
+                out.call(Recorder::Soft.reading(kind.number(), chips.clone(), room));
+                out.call(Recorder::Bytes.reading(kind.number(), chips.clone(), room));
             }
         }
     }
 }
 
 pub fn chips_after_the_frame(out: &mut Out) {
-    for _ in 0..out.cases(800) {
+    for _ in 0..out.cases(1100) {
         let (kind, rate) = any_pair(&mut out.random);
         let n = out.random.within(1, 8);
         let mut chips = Draft::random(kind, rate, n, &mut out.random).chips();
         let after = out.random.within(1, 40);
-        if !out.random.once_in(4) {
-            chips.extend(out.random.octets(after));
-            out.call(Call::hard(kind.number(), chips, n));
-        } else {
-            let (mut i, mut q) = soft_rows(&chips, 1.0);
-            for _ in 0..after {
-                i.push(out.random.pick(&[f32::NAN, f32::INFINITY, 9.0, -8.5, 1.0, 0.0]));
-                q.push(out.random.pick(&[f32::NAN, f32::NEG_INFINITY, 1.0, -1.0, 0.0]));
+        match out.random.pick(&Recorder::HARD_TWICE) {
+            Recorder::Hard => {
+                chips.extend(out.random.octets(after));
+                out.call(Call::hard(kind.number(), chips, n));
             }
-            out.call(Call::soft(kind.number(), (i, q), n));
+            Recorder::Soft => {
+                let (mut i, mut q) = soft_rows(&chips, 1.0);
+                for _ in 0..after {
+                    i.push(out.random.pick(&[f32::NAN, f32::INFINITY, 9.0, -8.5, 1.0, 0.0]));
+                    q.push(out.random.pick(&[f32::NAN, f32::NEG_INFINITY, 1.0, -1.0, 0.0]));
+                }
+                out.call(Call::soft(kind.number(), (i, q), n));
+            }
+            Recorder::Bytes => {
+                let mut bytes = byte_row(&chips, 1.0);
+                bytes.extend((0..2 * after).map(|_| out.random.byte()));
+                out.call(Call::bytes(kind.number(), bytes, n));
+            }
         }
     }
-    // Recordings whose length is below the frame's in its lowest 16 bits.
+    // Recordings whose length, in chips or in bytes, is below the frame's in its lowest 16 bits.
     for (kind, rate) in pairs() {
         let mut chips = Draft::random(kind, rate, 2, &mut out.random).chips();
-        chips.resize((1 << 16) + out.random.below(2000), 9);
-        out.call(Call::hard(kind.number(), chips, 2));
+        let more = out.random.below(1000);
+        for (recorder, len) in [(Recorder::Bytes, 1 << 15), (Recorder::Bytes, 1 << 16), (Recorder::Hard, 1 << 16)] {
+            chips.resize(len + more, 9);
+            out.call(recorder.reading(kind.number(), chips.clone(), 2));
+        }
     }
 }

@@ -1,6 +1,6 @@
-//! Soft recordings: noise, halves of a count, tiny values, 8 and beyond.
+//! Soft recordings: noise, halves of a count, tiny values, 8 and beyond. Noise and damage go over bytes too.
 
-use super::{any_pair, pairs, soft_rows, Draft, Out};
+use super::{any_pair, bytes_of, pairs, soft_rows, Draft, Out};
 use crate::bits::Rate;
 use crate::calls::Call;
 use crate::frame::Kind;
@@ -35,6 +35,12 @@ impl SoftFrame {
     fn call(self) -> Call {
         Call::soft(self.kind.number(), (self.i, self.q), self.n)
     }
+
+    /// Calls with the frame as bytes and as it is.
+    fn call_both(self, out: &mut Out) {
+        out.call(Call::bytes(self.kind.number(), bytes_of(&self.i, &self.q), self.n));
+        out.call(self.call());
+    }
 }
 
 /// The first chip of the frame or of the payload.
@@ -53,7 +59,7 @@ pub fn noise(out: &mut Out) {
         let spread = size * out.random.pick(&[0.05, 0.2, 0.35, 0.5, 0.7, 1.0, 1.5]);
         let from = some_start(&frame, &mut out.random);
         frame.each(from, |x| (x + out.random.noise(spread)).clamp(-8.0, 8.0));
-        out.call(frame.call());
+        frame.call_both(out);
     }
 }
 
@@ -236,6 +242,6 @@ pub fn soft_damage(out: &mut Out) {
                 (frame.i[at], frame.q[at]) = out.random.pick(&[(-q, i), (-i, -q), (q, -i), (0.0, 0.0), (i + q, i - q)]);
             }
         }
-        out.call(frame.call());
+        frame.call_both(out);
     }
 }
