@@ -7,6 +7,7 @@
 - no tracked file holds a path of a machine;
 - crates.txt names just those crates that a crate uses;
 - the first line of a function's proof names the function by its path;
+- each old text of a must-fail edit stands just once in its file;
 - every path and every crate item that docs/PROMISES.md names in `code` exists, and it names every must-fail edit.
 Prints each fault, and ends with status 1 if there is one.
 """
@@ -94,6 +95,22 @@ def edits():
     return [p for p in tracked() if re.fullmatch(r'crates/\w+/must-fail/\w+\.edit', p)]
 
 
+def check_edit(path):
+    """Each old text of an edit stands just once in its file, once those before it are replaced."""
+    file, old, texts = None, None, {}
+    for line in text_of(path).split('\n'):
+        word, _, rest = line.partition(': ')
+        if word == 'file':
+            file = os.path.join(os.path.dirname(os.path.dirname(path)), rest)
+            texts.setdefault(file, text_of(file))
+        elif word == 'old':
+            old = rest
+            if texts[file].count(old) != 1:
+                faults.append(f'{path}: its old text stands {texts[file].count(old)} times in {file}: {old}')
+        elif word == 'new':
+            texts[file] = texts[file].replace(old, rest)
+
+
 def names():
     """Every name in the sources, definitions, proofs and the header, every crate's own and every edit's."""
     found = set(os.listdir('crates')) | {os.path.basename(p)[:-5] for p in edits()}
@@ -133,6 +150,8 @@ for p in tracked():
     check_machine_paths(p, content)
     check_proof_head(p, content)
 check_crates()
+for p in edits():
+    check_edit(p)
 check_promises()
 for fault in faults:
     print('tree.py:', fault)
