@@ -31,16 +31,16 @@ length-bytes [] = refl
 length-bytes (x ∷ []) = refl
 length-bytes (x ∷ y ∷ bytes) = let h = length-bytes bytes in omega arith
 
--- the two bytes of a chip
-abbrev pub byteAt : List ℤ → ℕ → Counts
-byteAt bytes k = byteCounts (getD bytes (2 * k) (pos 0)) (getD bytes (2 * k + 1) (pos 0))
+-- the counts of chip k, from its two bytes
+abbrev pub countsAt : List ℤ → ℕ → Counts
+countsAt bytes k = byteCounts (getD bytes (2 * k) (pos 0)) (getD bytes (2 * k + 1) (pos 0))
 
 two-on : (x y : ℤ) (bytes : List ℤ) (j k : ℕ) → k ≡ suc (suc j)
     → getD (x ∷ y ∷ bytes) k (pos 0) ≡ getD bytes j (pos 0)
 two-on x y bytes j k e = ap (λ (n : ℕ). getD (x ∷ y ∷ bytes) n (pos 0)) e
 
 pub getD-bytes : (bytes : List ℤ) (k : ℕ) → k < length bytes / 2
-    → getD (byteRecording bytes) k unusable ≡ counted (byteAt bytes k)
+    → getD (byteRecording bytes) k unusable ≡ counted (countsAt bytes k)
 unfolding byteRecording
 getD-bytes [] k h = absurd (omega arith)
 getD-bytes (x ∷ []) k h = absurd (omega arith)
@@ -56,9 +56,9 @@ bytes-usable bytes k h = ap isUnusable (getD-bytes bytes k h)
 
 -- a part of w chips from a place
 pub part-bytes : (bytes : List ℤ) (place w : ℕ) → place + w ≤ length bytes / 2
-    → map takenCounts (take w (drop place (byteRecording bytes))) ≡ tabulate (λ j. byteAt bytes (place + j)) w
+    → map takenCounts (take w (drop place (byteRecording bytes))) ≡ tabulate (λ j. countsAt bytes (place + j)) w
 part-bytes bytes place w h =
-    part-counts (byteRecording bytes) (byteAt bytes) place w (omega (arith, length-bytes bytes))
+    part-counts (byteRecording bytes) (countsAt bytes) place w (omega (arith, length-bytes bytes))
     (λ k l. ap takenCounts (getD-bytes bytes k (omega (arith, length-bytes bytes))))
 
 -- ---- the counts are exact: 16 times so many steps as a count is are 2^143

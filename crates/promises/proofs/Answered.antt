@@ -1,7 +1,7 @@
--- Facts: answers that the reader of bytes may give, computed from its contract: number, place, rate code, LENGTH, n,
--- chips used. 1 before 7, 7 before 8; chips and places counted in pairs of bytes. The frame is the short one that
--- carries 3Dh at 11 Mbit/s: 1,056 + 8 chips. Assumes nothing.
-use mathlib.Core.Path.{_≡_, refl, ap, _∙_}
+-- Facts: answers that the reader of bytes may give, computed from its contract. 1 before 7, 7 before 8; chips and
+-- places counted in pairs of bytes. The frame is the short one that carries 3Dh at 11 Mbit/s: 1,056 + 8 chips.
+-- Assumes nothing.
+use mathlib.Core.Path.{_≡_, refl, _∙_}
 use mathlib.Core.List.{List, [], _∷_, _++_, map}
 use Prim.Native.Nat.{ℕ, _+_, _%_}
 use lib.ListN.{take, drop}
@@ -58,34 +58,31 @@ use Rattle.reading.specs.Reading.{
   readingOf,
 }
 use Rattle.clean.specs.Clean.{byteRow}
-use Rattle.promises.specs.Calls.{ReadBytes}
-
-pub fields : Record → List ℕ
-fields a = a .number ∷ a .place ∷ a .rate ∷ a .length ∷ a .n ∷ a .used ∷ []
+use Rattle.promises.specs.Calls.{ReadBytes, good, refused}
 
 -- what every answer to a row of bytes is
-abbrev pub Answers : ℕ → List ℤ → List ℕ → Type 0
-Answers kind bytes answer = (a : Record) (left : List ℕ) → ReadBytes kind bytes 4 a left → fields a ≡ answer
+abbrev pub Answers : ℕ → List ℤ → Record → Type 0
+Answers kind bytes answer = (a : Record) (left : List ℕ) → ReadBytes kind bytes 4 a left → a ≡ answer
 
 -- ---- the order of 1, 7 and 8
 abbrev pub three : List ℤ
 three = pos 64 ∷ negℤ (pos 128) ∷ pos 1 ∷ []
 
-pub no-kind : Answers 2 three (1 ∷ 0 ∷ 0 ∷ 0 ∷ 0 ∷ 0 ∷ [])
-unfolding fields readingOf
-no-kind a left r = ap fields (r .answer) ∙ refl
+pub no-kind : Answers 2 three (refused 1 0)
+unfolding readingOf
+no-kind a left r = r .answer ∙ refl
 
-pub odd-row : Answers 0 three (7 ∷ 0 ∷ 0 ∷ 0 ∷ 0 ∷ 0 ∷ [])
-unfolding fields readingOf
-odd-row a left r = ap fields (r .answer) ∙ refl
+pub odd-row : Answers 0 three (refused 7 0)
+unfolding readingOf
+odd-row a left r = r .answer ∙ refl
 
-pub no-bytes : Answers 0 [] (8 ∷ 0 ∷ 0 ∷ 0 ∷ 0 ∷ 0 ∷ [])
-unfolding fields readingOf frontOf byteRecording
-no-bytes a left r = ap fields (r .answer) ∙ refl
+pub no-bytes : Answers 0 [] (refused 8 0)
+unfolding readingOf frontOf byteRecording
+no-bytes a left r = r .answer ∙ refl
 
-pub two-bytes : Answers 0 (take 2 three) (8 ∷ 0 ∷ 0 ∷ 0 ∷ 0 ∷ 0 ∷ [])
-unfolding fields readingOf frontOf byteRecording
-two-bytes a left r = ap fields (r .answer) ∙ refl
+pub two-bytes : Answers 0 (take 2 three) (refused 8 0)
+unfolding readingOf frontOf byteRecording
+two-bytes a left r = r .answer ∙ refl
 
 -- ---- a frame, one chip short of its front, and with its second symbol turned by 1
 pub short : List ℕ
@@ -94,28 +91,29 @@ short = frame Short Eleven 0 (0x3D ∷ [])
 pub turned : List ℕ
 turned = take 11 short ++ map (λ p. (p + 1) % 4) (take 11 (drop 11 short)) ++ drop 22 short
 
-pub read-back : Answers 1 (byteRow short) (0 ∷ 0 ∷ 110 ∷ 1 ∷ 1 ∷ 1064 ∷ [])
+pub read-back : Answers 1 (byteRow short) (good 110 1 1 1064)
 unfolding
-    fields short byteRow byteRecording barkerWord cckWord bitsOf octetBits growth symbolOf symbolsFrom symbolsOf
+    short byteRow byteRecording barkerWord cckWord bitsOf octetBits growth symbolOf symbolsFrom symbolsOf
     chipsFrom lastPhase mixed scramble addWhere crcStep remainder crcBits preambleBits fieldBits headerBits sentHeader
     frameBits sentBits partsChips framed frame score those going firstLargest decided numberOf octetsOf heardBits heard
     growthsOf lastHeard descramble sameBits fieldsOf headerOf firstUnusable firstOdd decidedWords preambleWords
     headerWords reference headerPhase payloadPhase frontOdd frontHeard frontBits frontOf payloadWords payloadOdd
     payloadReading readingOf
-read-back a left r = ap fields (r .answer) ∙ refl
+read-back a left r = r .answer ∙ refl
 
-pub cut-in-front : Answers 1 (byteRow (take 1055 short)) (8 ∷ 0 ∷ 0 ∷ 0 ∷ 0 ∷ 0 ∷ [])
+pub cut-in-front : Answers 1 (byteRow (take 1055 short)) (refused 8 0)
 unfolding
-    fields short byteRow byteRecording barkerWord cckWord bitsOf octetBits growth symbolOf symbolsFrom symbolsOf
+    short byteRow byteRecording barkerWord cckWord bitsOf octetBits growth symbolOf symbolsFrom symbolsOf
     chipsFrom lastPhase mixed scramble addWhere crcStep remainder crcBits preambleBits fieldBits headerBits sentHeader
     frameBits sentBits partsChips framed frame frontOf readingOf
-cut-in-front a left r = ap fields (r .answer) ∙ refl
+cut-in-front a left r = r .answer ∙ refl
 
-pub place-of-ten : Answers 1 (byteRow turned) (10 ∷ 11 ∷ 0 ∷ 0 ∷ 0 ∷ 0 ∷ [])
+pub place-of-ten : Answers 1 (byteRow turned)
+    (record { number = 10; place = 11; rate = 0; length = 0; n = 0; used = 0 })
 unfolding
-    fields short turned byteRow byteRecording barkerWord cckWord bitsOf octetBits growth symbolOf symbolsFrom symbolsOf
+    short turned byteRow byteRecording barkerWord cckWord bitsOf octetBits growth symbolOf symbolsFrom symbolsOf
     chipsFrom lastPhase mixed scramble addWhere crcStep remainder crcBits preambleBits fieldBits headerBits sentHeader
     frameBits sentBits partsChips framed frame score those going firstLargest decided heardBits heard growthsOf
     lastHeard firstUnusable firstOdd decidedWords preambleWords headerWords reference headerPhase frontOdd frontOf
     readingOf
-place-of-ten a left r = ap fields (r .answer) ∙ refl
+place-of-ten a left r = r .answer ∙ refl

@@ -25,17 +25,21 @@ use Rattle.calls.specs.Writing.{writingOf, chipsAfter, chipsWritten}
 use Rattle.clean.specs.Clean.{cleanRecording, byteRow}
 use Rattle.clean.proofs.Recorded.{hard-recorded, soft-recorded, rows-agree, byte-recorded, byte-row-length, hard-take}
 use Rattle.clean.proofs.Back as clean
-use Rattle.promises.specs.Calls.{Read, Goes, long-1, long-2, long-5, long-11, short-2, short-5, short-11, Sent}
-use Rattle.promises.specs.Promises.{
+use Rattle.promises.specs.Calls.{
+  Read,
+  Goes,
+  long-1,
+  long-2,
+  long-5,
+  long-11,
+  short-2,
+  short-5,
+  short-11,
+  Sent,
   good,
   refused,
-  lengthOf,
-  WrittenFrame,
-  ReadBack,
-  ReadBackSoft,
-  ReadBackBytes,
-  NotReadBack,
 }
+use Rattle.promises.specs.Promises.{lengthOf, WrittenFrame, ReadBack, ReadBackSoft, ReadBackBytes, NotReadBack}
 
 -- what the seven pairs of kind and rate are by the definitions
 pub record Known (kind rate front octet : ℕ) : Type 0 where

@@ -5,10 +5,10 @@ use mathlib.Core.Path.{_≡_, refl, sym, ap, _∙_, subst}
 use mathlib.Core.Bool.{Bool, true, false, cond, not, _&&_}
 use mathlib.Core.List.{List, [], _∷_}
 use mathlib.Core.Option.{Option, none, some}
-use Prim.Native.Nat.{ℕ, zero, suc, _-_, _/_, _%_}
+use Prim.Native.Nat.{ℕ, zero, suc, _-_, _/_, _%_, _≤_}
 use native.Mathlib.Omega.{arith}
 use borrow.Author.Tests.{eq-eqb}
-use lib.Dec.{T, ltb, eqb}
+use lib.Dec.{T, lit≤, ltb, eqb}
 use lib.ListN.{length, take, drop}
 use lib.IntN.{ℤ}
 use Rattle.rates.specs.Rates.{isCode, rateOf, lengthHolds}
@@ -55,30 +55,30 @@ use Rattle.promises.specs.Only.{SevenOnly, NoByteUnusable}
 use Rattle.promises.proofs.Fills.{branch, elsewise}
 
 -- ---- a list of chips that are all usable, and its parts
-data Usable : List Taken → Type 0 where
-  none-left : Usable []
-  one-more : {c : Taken} {cs : List Taken} → isUnusable c ≡ false → Usable cs → Usable (c ∷ cs)
+data NoneUnusable : List Taken → Type 0 where
+  none-left : NoneUnusable []
+  one-more : {c : Taken} {cs : List Taken} → isUnusable c ≡ false → NoneUnusable cs → NoneUnusable (c ∷ cs)
 
-usable-take : (n : ℕ) {cs : List Taken} → Usable cs → Usable (take n cs)
+usable-take : (n : ℕ) {cs : List Taken} → NoneUnusable cs → NoneUnusable (take n cs)
 usable-take zero u = none-left
 usable-take (suc n) none-left = none-left
 usable-take (suc n) (one-more e u) = one-more e (usable-take n u)
 
-usable-drop : (n : ℕ) {cs : List Taken} → Usable cs → Usable (drop n cs)
+usable-drop : (n : ℕ) {cs : List Taken} → NoneUnusable cs → NoneUnusable (drop n cs)
 usable-drop zero u = u
 usable-drop (suc n) none-left = none-left
 usable-drop (suc n) (one-more e u) = usable-drop n u
 
-none-found : (at : ℕ) {cs : List Taken} → Usable cs → firstUnusable at cs ≡ none
+none-found : (at : ℕ) {cs : List Taken} → NoneUnusable cs → firstUnusable at cs ≡ none
 unfolding firstUnusable
 none-found at none-left = refl
 none-found at (one-more e u) = rw e (none-found (suc at) u)
 
-bytes-usable : (bytes : List ℤ) → Usable (byteRecording bytes)
+bytes-all : (bytes : List ℤ) → NoneUnusable (byteRecording bytes)
 unfolding byteRecording
-bytes-usable [] = none-left
-bytes-usable (x ∷ []) = none-left
-bytes-usable (x ∷ y ∷ bytes) = one-more refl (bytes-usable bytes)
+bytes-all [] = none-left
+bytes-all (x ∷ []) = none-left
+bytes-all (x ∷ y ∷ bytes) = one-more refl (bytes-all bytes)
 
 -- ---- a property of every refusal that a recording can meet
 record Each (P : Refusal → Type 0) : Type 0 where
@@ -181,21 +181,9 @@ unanswered n no-good rec each found kind agree room a left read no-kind differ e
     by (reading.Refused x) h z = h z
     by (reading.Good t used) h z = no-good z
 
-not-nine : Each (Not 9)
-not-nine = record {
-  short = λ z. omega arith;
-  odd = λ p l z. omega arith;
-  sfd = λ z. omega arith;
-  crc = λ z. omega arith;
-  signal = λ l z. omega arith;
-  service = λ l z. omega arith;
-  length-is = λ l z. omega arith;
-  ends = λ l z. omega arith;
-  room = λ l z. omega arith;
-}
-
-not-seven : Each (Not 7)
-not-seven = record {
+-- of 7 and 9
+not-such : (n : ℕ) → 7 ≤ n → n ≤ 9 → (n ≡ 8 → ⊥) → Each (Not n)
+not-such n low high other = record {
   short = λ z. omega arith;
   odd = λ p l z. omega arith;
   sfd = λ z. omega arith;
@@ -218,15 +206,16 @@ no-some {p} e f = subst T (ap is-none (sym e ∙ f)) tt
 pub no-byte-unusable : NoByteUnusable
 no-byte-unusable kind bytes room a left read =
     let rec = byteRecording bytes in
-    unanswered 9 (λ z. omega arith) rec not-nine
-    (λ from at n p l e z. no-some (none-found at (usable-take n (usable-drop from (bytes-usable bytes)))) e)
+    unanswered 9 (λ z. omega arith) rec (not-such 9 (lit≤ tt) (lit≤ tt) (λ e. omega arith))
+    (λ from at n p l e z. no-some (none-found at (usable-take n (usable-drop from (bytes-all bytes)))) e)
     kind (eqb (length bytes % 2) 0) room a left read (λ z. omega arith) (λ d z. omega arith)
 
 -- ---- 7 where the rows agree
 agreeing : (rec : List Taken) (kind : ℕ) (agree : Bool) (room : ℕ) (a : Record) (left : List ℕ)
     → Read kind agree rec room a left → agree ≡ true → a .number ≡ 7 → ⊥
 agreeing rec kind agree room a left read same =
-    unanswered 7 (λ z. omega arith) rec not-seven (λ from at n p l e z. omega arith) kind agree room a left read
+    unanswered 7 (λ z. omega arith) rec (not-such 7 (lit≤ tt) (lit≤ tt) (λ e. omega arith))
+    (λ from at n p l e z. omega arith) kind agree room a left read
     (λ z. omega arith) (λ d z. subst T (sym same ∙ d) tt)
 
 pub seven-only : SevenOnly

@@ -49,7 +49,7 @@ use Rattle.frame.specs.declared.Kind.the-variants.{Long, Short}
 use Rattle.frame.specs.Frame.{headerRate, frontChips, preambleLength, headerLength, preambleChips}
 use Rattle.reading.specs.Reading.{decidedWords, preambleWords, headerWords, payloadWords}
 use Rattle.promises.specs.Right.{
-  symbolAt,
+  exactSymbol,
   EachRight,
   WholeRight,
   Keeps,
@@ -121,7 +121,7 @@ module _ (half : ℕ) (exact : List Counts) (rec : List Taken) (keeps : Keeps ha
     exact-at : (i : ℕ) → i < c → getD (take c (drop from exact)) i nothing ≡ getD exact (from + i) nothing
     exact-at i l = getD-take c (drop from exact) i nothing l ∙ getD-drop from exact i nothing
 
-    one-right : RightUpTo (c * (2 * half)) r (symbolAt r at j exact)
+    one-right : RightUpTo (c * (2 * half)) r (exactSymbol r at j exact)
         (decided r (map takenCounts (take c (drop from rec))))
     one-right =
         demand-3 half r (map takenCounts (take c (drop from rec))) (take c (drop from exact))
@@ -133,7 +133,7 @@ module _ (half : ℕ) (exact : List Counts) (rec : List Taken) (keeps : Keeps ha
 
   pub each-right : EachRight half r m at (decidedWords r m (drop at rec)) exact
   each-right j h =
-      subst (RightUpTo (c * (2 * half)) r (symbolAt r at j exact))
+      subst (RightUpTo (c * (2 * half)) r (exactSymbol r at j exact))
       (sym (word-at r m j (drop at rec) h
       ∙ ap (λ (l : List Taken). decided r (map takenCounts (take c l))) (drop-drop (j * c) at rec)))
       (one-right j h)

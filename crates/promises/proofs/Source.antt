@@ -22,8 +22,8 @@ use Rattle.calls.specs.declared.Record.{Record}
 use Rattle.frame.specs.Frame.{kindOf, frontChips, preambleBits, frameBits, sentBits, partsChips, framed, frame}
 use Rattle.calls.specs.Answers.{recordOf}
 use Rattle.reading.specs.Reading.{readingOf, octetsFound}
-use Rattle.promises.specs.Calls.{Read, Sent}
-use Rattle.promises.specs.Promises.{good, lengthOf, OneSource}
+use Rattle.promises.specs.Calls.{Read, Sent, good}
+use Rattle.promises.specs.Promises.{lengthOf, OneSource}
 use Rattle.promises.proofs.Back.{read-back, chips-are}
 
 -- the first scrambled bit is 0 for both kinds, so the first chip is the starting phase

@@ -19,8 +19,8 @@ use Rattle.calls.specs.Answers.{refusalNumber}
 use Rattle.calls.specs.declared.Written.{Written}
 use Rattle.calls.specs.declared.Record.{Record}
 use Rattle.clean.specs.Clean.{byteRow}
-use Rattle.promises.specs.Calls.{ReadBytes, Sent}
-use Rattle.promises.specs.Promises.{good, lengthOf}
+use Rattle.promises.specs.Calls.{ReadBytes, Sent, good}
+use Rattle.promises.specs.Promises.{lengthOf}
 use Rattle.promises.specs.Right.{EachRight, exactHard, exactSoft, exactBytes}
 use Rattle.promises.proofs.Back.{read-back-bytes}
 use Rattle.promises.proofs.Never.{no-byte-unusable}

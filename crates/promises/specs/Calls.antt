@@ -37,6 +37,13 @@ ReadSoft kind i q room a left = Read kind (eqb (length i) (length q)) (softRecor
 abbrev pub ReadBytes : ℕ → List ℤ → ℕ → Record → List ℕ → Type 0
 ReadBytes kind bytes room a left = Read kind (eqb (length bytes % 2) 0) (byteRecording bytes) room a left
 
+-- a good read's answer, and a refused one's without a place
+abbrev pub good : ℕ → ℕ → ℕ → ℕ → Record
+good rate l n used = record { number = 0; place = 0; rate = rate; length = l; n = n; used = used }
+
+abbrev pub refused : ℕ → ℕ → Record
+refused number l = record { number = number; place = 0; rate = 0; length = l; n = 0; used = 0 }
+
 -- the kinds and the rates that go with them, each with the chips of its front and of an octet
 pub data Goes : ℕ → ℕ → ℕ → ℕ → Type 0 where
   long-1 : Goes 0 10 2112 88

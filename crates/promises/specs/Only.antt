@@ -13,7 +13,7 @@ use Rattle.rates.specs.Rates.{rateOf, lengthField}
 use Rattle.chips.specs.Chips.{Taken}
 use Rattle.calls.specs.declared.Written.{Written}
 use Rattle.calls.specs.declared.Record.{Record}
-use Rattle.promises.specs.Calls.{Wrote, Read, ReadHard, ReadSoft, ReadBytes, Goes, Sent}
+use Rattle.promises.specs.Calls.{Wrote, Read, ReadHard, ReadSoft, ReadBytes, refused, Goes, Sent}
 
 -- a write that answers 0 had a kind and a rate that goes with it, 1 to 4,095 octets, a phase, and room for the frame
 abbrev pub OnlySent : Type 0
@@ -41,18 +41,15 @@ OnlyReadable =
 
 -- soft rows that differ in length, and bytes of an odd number, are refused with 7 under either kind, whatever is in
 -- them
-abbrev pub seven : Record
-seven = record { number = 7; place = 0; rate = 0; length = 0; n = 0; used = 0 }
-
 abbrev pub RowsRefused : Type 0
 RowsRefused =
     (kind : ℕ) (i q : List Float) (room : ℕ) (a : Record) (left : List ℕ) → kind < 2
-    → (length i ≡ length q → ⊥) → ReadSoft kind i q room a left → a ≡ seven
+    → (length i ≡ length q → ⊥) → ReadSoft kind i q room a left → a ≡ refused 7 0
 
 abbrev pub OddBytesRefused : Type 0
 OddBytesRefused =
     (kind : ℕ) (bytes : List ℤ) (room : ℕ) (a : Record) (left : List ℕ) → kind < 2
-    → length bytes % 2 ≡ 1 → ReadBytes kind bytes room a left → a ≡ seven
+    → length bytes % 2 ≡ 1 → ReadBytes kind bytes room a left → a ≡ refused 7 0
 
 -- and 7 is given there only: never for rows of one length, nor for an even number of bytes, nor for hard chips
 abbrev pub SevenOnly : Type 0

@@ -21,7 +21,7 @@ use Rattle.calls.specs.declared.Record.{Record}
 use Rattle.frame.specs.Frame.{kindOf, frame}
 use Rattle.frame.specs.TableP.{TableP}
 use Rattle.clean.specs.Clean.{Exactly, softI, softQ, byteRow}
-use Rattle.promises.specs.Calls.{Wrote, Read, ReadHard, ReadSoft, ReadBytes, Sent}
+use Rattle.promises.specs.Calls.{Wrote, Read, ReadHard, ReadSoft, ReadBytes, good, refused, Sent}
 use Rattle.promises.specs.Right.{RecordedRight, HardRight, SoftRight, BytesRight}
 use Rattle.promises.specs.Only.{OnlySent, OnlyReadable, RowsRefused, OddBytesRefused, SevenOnly, NoByteUnusable}
 
@@ -44,13 +44,6 @@ ReadFills =
     × (a .number ≡ 0 → drop (a .n) left ≡ replicate (room - a .n) 0)
 
 -- ---- demand 2: reading back
-
--- the answers
-abbrev pub good : ℕ → ℕ → ℕ → ℕ → Record
-good rate l n used = record { number = 0; place = 0; rate = rate; length = l; n = n; used = used }
-
-abbrev pub refused : ℕ → ℕ → Record
-refused number l = record { number = number; place = 0; rate = 0; length = l; n = 0; used = 0 }
 
 -- the chips are the frame's, and a good write says how many
 abbrev pub WrittenFrame : Type 0

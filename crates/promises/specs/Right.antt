@@ -37,13 +37,13 @@ use Rattle.reading.specs.Reading.{preambleWords, headerWords, payloadWords}
 use Rattle.clean.specs.Clean.{sampleOf}
 
 -- the exact values of the chips of the j-th symbol of a part that starts at place `at`
-abbrev pub symbolAt : Rate → ℕ → ℕ → List Counts → List Counts
-symbolAt r at j exact = take (symbolChips r) (drop (at + j * symbolChips r) exact)
+abbrev pub exactSymbol : Rate → ℕ → ℕ → List Counts → List Counts
+exactSymbol r at j exact = take (symbolChips r) (drop (at + j * symbolChips r) exact)
 
 -- each of m words of a part that starts at place `at` is right
 abbrev pub EachRight : ℕ → Rate → ℕ → ℕ → List ℕ → List Counts → Type 0
 EachRight half r m at words exact =
-    (j : ℕ) → j < m → RightUpTo (symbolChips r * (2 * half)) r (symbolAt r at j exact) (getD words j 0)
+    (j : ℕ) → j < m → RightUpTo (symbolChips r * (2 * half)) r (exactSymbol r at j exact) (getD words j 0)
 
 -- wherever the chips of a part are good ones, each word of the very lists that reading takes its growths and bits from
 pub record WholeRight (half : ℕ) (good : ℕ → Type 0) (exact : List Counts) (rec : List Taken) : Type 0 where

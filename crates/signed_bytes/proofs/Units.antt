@@ -19,7 +19,7 @@ use Rattle.axes.specs.declared.Axis.the-variants.{I, Q}
 use Rattle.axes.specs.Axes.{along}
 use Rattle.chips.specs.declared.Counts.{Counts}
 use Rattle.chips.specs.Chips.{pair, nothing, takenCounts, byteCounts, byteRecording}
-use Rattle.chips.proofs.Bytes.{byteAt, part-bytes}
+use Rattle.chips.proofs.Bytes.{countsAt, part-bytes}
 use Rattle.symbols.specs.Choice.{decided}
 use Rattle.sums.specs.Sums.{bySigns, bestOfSums, rows}
 use Rattle.sums.proofs.Signs.{sums-decided}
@@ -50,7 +50,7 @@ module _ (bytes : List ℤ) (at n : ℕ) where
   times c = byteCounts (c .i) (c .q)
 
   -- they are those of the recording's chip there
-  place : (j : ℕ) → times (unit j) ≡ byteAt bytes (at + j)
+  place : (j : ℕ) → times (unit j) ≡ countsAt bytes (at + j)
   place j = λ i. byteCounts (getD bytes (first i) (pos 0)) (getD bytes (second i) (pos 0))
     where
       first : 2 * at + 2 * j ≡ 2 * (at + j)
@@ -65,7 +65,7 @@ module _ (bytes : List ℤ) (at n : ℕ) where
       ap (decided r) (sym (mapped (λ c. c)))
       ∙ sym (decided-times 16 (lit≤ tt) times (λ c. c) (λ c. record { real = refl; imag = refl }) r units)
       ∙ ap (decided r)
-      (mapped times ∙ tabulate-ext (λ j. times (unit j)) (λ j. byteAt bytes (at + j)) n (λ j l. place j)
+      (mapped times ∙ tabulate-ext (λ j. times (unit j)) (λ j. countsAt bytes (at + j)) n (λ j l. place j)
       ∙ sym (part-bytes bytes at n h))
 
 pub barker-units : (bytes : List ℤ) (at : ℕ) → at + 11 ≤ length bytes / 2

@@ -16,13 +16,13 @@ use Rattle.base.proofs.Tables.{filled-none, filled-more, filled-all, filled-wit
 use Rattle.base.proofs.Whole.{within-zero, within-more}
 use Rattle.chips.specs.Chips.{pair, nothing}
 use Rattle.chips.specs.Bounds.{Bounded}
-use Rattle.chips.proofs.Bytes.{byteAt, part-bytes}
+use Rattle.chips.proofs.Bytes.{countsAt, part-bytes}
 use Rattle.signed_bytes.proofs.counts8.Statement.{statement}
 use Rattle.signed_bytes.proofs.counts8.Tie as tie
 
 abbrev Inv-loop : tie.InvT-loop
 Inv-loop bytes at row₀ k₀ row k =
-    Filled (λ j. byteAt bytes (at + j)) 8 row k × ((j : ℕ) → j < k → Bounded 8192 (byteAt bytes (at + j)))
+    Filled (λ j. countsAt bytes (at + j)) 8 row k × ((j : ℕ) → j < k → Bounded 8192 (countsAt bytes (at + j)))
 
 abbrev μ-loop : tie.MeasureT-loop
 μ-loop bytes at row₀ k₀ row k = 8 - k
