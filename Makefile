@@ -3,6 +3,7 @@
 
 LIB := target/staticlib/libdsss.a
 LEAVES := target/staticlib/libtimed_leaves.a
+PLAIN := bench/plain_write.c bench/plain_read.c
 OUT := target/c
 STRICT := -std=c99 -Wall -Wextra -Wpedantic -Werror -Iinclude
 PREFIX ?= /usr/local
@@ -84,9 +85,9 @@ $(OUT)/bridge: tests/bridge/bridge.c include/dsss.h $(LIB) | packages
 	mkdir -p $(OUT)
 	scripts/x86cc $@ tests/bridge/bridge.c $(LIB) -- $(STRICT)
 
-$(OUT)/bench: bench/bench.c bench/plain.c bench/plain.h bench/timed_leaves.h include/dsss.h $(LIB) $(LEAVES) | packages
+$(OUT)/bench: bench/bench.c $(PLAIN) $(wildcard bench/*.h) include/dsss.h $(LIB) $(LEAVES) | packages
 	mkdir -p $(OUT)
-	scripts/x86cc $@ bench/bench.c bench/plain.c $(LIB) $(LEAVES) -- $(STRICT) -O3
+	scripts/x86cc $@ bench/bench.c $(PLAIN) $(LIB) $(LEAVES) -- $(STRICT) -O3
 
 target/peer/peer: $(wildcard tests/peer/src/*.rs tests/peer/src/families/*.rs) | packages
 	mkdir -p target/peer

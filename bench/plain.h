@@ -1,11 +1,21 @@
 /* plain.h: the four calls of dsss.h in plain C, and the parts of them that are worth timing alone.
  *
  * The calls take, answer and fill what dsss_write, dsss_read_hard, dsss_read_soft and
- * dsss_read_bytes do. Nothing here is proved; tests compare it with the second program. */
+ * dsss_read_bytes do. Nothing here is proved; tests compare it with the second program.
+ *
+ * Compiled with -DPLAIN_AS_DSSS, plain_write.c and plain_read.c define the calls of dsss.h themselves: a stand-in for
+ * the library, to test the tests (host, bridge, bench, the second program) without it. */
 #ifndef PLAIN_H
 #define PLAIN_H
 
 #include "dsss.h"
+
+#ifdef PLAIN_AS_DSSS
+#define plain_write dsss_write
+#define plain_read_hard dsss_read_hard
+#define plain_read_soft dsss_read_soft
+#define plain_read_bytes dsss_read_bytes
+#endif
 
 dsss_written plain_write(uint64_t kind, uint64_t rate, uint64_t phase, const uint8_t *payload,
                          size_t payload_len, uint8_t *chips, size_t chips_len);

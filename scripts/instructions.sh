@@ -31,7 +31,7 @@ mkdir -p target/c
     exit 2
 }
 if [ ! -f $program ] || [ -n "$(find $archive bench include -newer $program)" ]; then
-    scripts/x86cc $program bench/count.c bench/plain.c $archive -- -std=c99 -Iinclude -O3
+    scripts/x86cc $program bench/count.c bench/plain_write.c bench/plain_read.c $archive -- -std=c99 -Iinclude -O3
 fi
 work=$(mktemp -d)
 trap 'rm -rf "$work"' EXIT
