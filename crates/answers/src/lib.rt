@@ -122,6 +122,7 @@ pub fn record_of(g: Reading) -> Record
             length: length_of(e),
             n: 0,
             used: 0,
+            clock: 0,
         },
         Reading::Good { told, used } => {
             let rate = told.rate;
@@ -132,6 +133,7 @@ pub fn record_of(g: Reading) -> Record
                 length: told.length as u64,
                 n: told.n as u64,
                 used: used as u64,
+                clock: told.clock as u64,
             }
         }
     }

@@ -1,8 +1,8 @@
--- Tests: a rule of all numbers below n, proved by one test that antt computes at each of them; and what a test that a
--- function made tells of the definition that its contract cites.
+-- Tests: a rule of all numbers below n, proved by one test that antt computes at each of them; what a test that a
+-- function made tells of the definition that its contract cites; and what is known on either side of a test.
 -- Assumes nothing.
-use mathlib.Core.Path.{_≡_, sym, subst, _∙_}
-use mathlib.Core.Bool.{Bool, true, false, not, _&&_}
+use mathlib.Core.Path.{_≡_, refl, sym, subst, _∙_}
+use mathlib.Core.Bool.{Bool, true, false, cond, not, _&&_}
 use Prim.Native.Nat.{ℕ, zero, suc, _<_}
 use native.Mathlib.Nat.{not-suc-le-zero}
 use native.Mathlib.Decide.{decLt}
@@ -43,3 +43,20 @@ failed e t = sym e ∙ not-true _ t
 
 pub passed : {a b : Bool} → a ≡ b → not a ≡ false → b ≡ true
 passed e t = sym e ∙ not-false _ t
+
+pub held : (b : Bool) → T (not (not b)) → b ≡ true
+held true t = refl
+held false t = absurd t
+
+pub left-is : (a b : Bool) → (a && b) ≡ true → a ≡ true
+left-is true b h = refl
+left-is false b h = h
+
+pub right-is : (a b : Bool) → (a && b) ≡ true → b ≡ true
+right-is true b h = h
+right-is false b h = absurd (subst T (sym h) tt)
+
+-- a test, and what holds where it fails
+pub branch : {A : Type 0} (P : A → Type 0) (t : Bool) (x y : A) → P x → (T (not t) → P y) → P (cond t x y)
+branch P true x y h k = h
+branch P false x y h k = k tt

@@ -1,7 +1,12 @@
--- Every refusal's number, place and LENGTH, computed from the definition and compared with RULES 6.4: numbers 1 to 17,
--- a place with 9 and 10 alone, LENGTH with what is asked after the header. Assumes nothing.
+-- Answers to a read, computed from the definition and compared with RULES 6.4, 6.8 and 6.10: every refusal's number, 1
+-- to 17, a place with 9 and 10 alone, LENGTH with what is asked after the header, and nothing else; what a good read
+-- shows. Assumes nothing.
 use mathlib.Core.Path.{_≡_, refl}
+use mathlib.Core.Bool.{Bool, true, false}
 use mathlib.Core.List.{List, [], _∷_, map}
+use Prim.Native.Nat.{ℕ}
+use lib.ListN.{replicate}
+use Rattle.rates.specs.declared.Rate.the-variants.{Five}
 use Rattle.calls.specs.declared.Refusal.{Refusal}
 use Rattle.calls.specs.declared.Refusal.the-variants.{
   NoKind,
@@ -25,6 +30,7 @@ use Rattle.calls.specs.declared.Refusal.the-variants.{
 use Rattle.calls.specs.declared.Reading.the-variants as reading
 use Rattle.calls.specs.declared.Record.{Record}
 use Rattle.calls.specs.Answers.{recordOf}
+use Rattle.calls.specs.Headers.{told}
 
 -- at place 362,471 and LENGTH 65,535 where a refusal tells them
 abbrev every : List Refusal
@@ -47,3 +53,19 @@ places = refl
 pub lengths : map (λ (e : Refusal). answer e .length) every
     ≡ 0 ∷ 0 ∷ 0 ∷ 0 ∷ 0 ∷ 0 ∷ 0 ∷ 0 ∷ 65535 ∷ 65535 ∷ 0 ∷ 0 ∷ 65535 ∷ 65535 ∷ 65535 ∷ 65535 ∷ 65535 ∷ []
 lengths = refl
+
+-- a refusal shows no rate, no octets, no chips used and no clock bit
+pub no-more : map
+    (λ (e : Refusal). answer e .rate ∷ answer e .n ∷ answer e .used ∷ answer e .clock ∷ []) every
+    ≡ replicate 17 (0 ∷ 0 ∷ 0 ∷ 0 ∷ [])
+no-more = refl
+
+-- a good read shows what its header tells, and the chips used; the clock bit as 0 or 1
+abbrev answered : Bool → List ℕ
+answered clock =
+    let a = recordOf (reading.Good (told Five 6 4 clock) 2176) in
+    a .number ∷ a .place ∷ a .rate ∷ a .length ∷ a .n ∷ a .used ∷ a .clock ∷ []
+
+pub goods : answered false ∷ answered true ∷ []
+    ≡ (0 ∷ 0 ∷ 55 ∷ 6 ∷ 4 ∷ 2176 ∷ 0 ∷ []) ∷ (0 ∷ 0 ∷ 55 ∷ 6 ∷ 4 ∷ 2176 ∷ 1 ∷ []) ∷ []
+goods = refl

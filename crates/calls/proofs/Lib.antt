@@ -3,3 +3,4 @@ pub mod WriteFacts
 pub mod HeaderFacts
 pub mod WriteGood
 pub mod ReadBack
+pub mod HeaderOnly

@@ -1,10 +1,10 @@
 -- The writer's header is read back.
 --     same-refl        a row of bits is the same as itself
---     fields-back      the writer's SIGNAL, SERVICE and LENGTH for n octets tell the rate and n
+--     fields-back      the writer's SIGNAL, SERVICE and LENGTH for n octets tell the rate, n and the clock bit
 --     fields-read      any three fields with their CRC and the SFD of the kind are the fields read
---     header-back      so the 48 bits of the writer's header tell the rate and n
+--     header-back      so the 48 bits of the writer's header tell them
 -- The fields are cut out of the bits by computing, and LENGTH and bit 7 give n back. Assumes nothing.
-use mathlib.Core.Path.{_≡_, refl, _∙_}
+use mathlib.Core.Path.{_≡_, refl, ap, _∙_}
 use mathlib.Core.Bool.{Bool, true, false, cond, not}
 use mathlib.Core.List.{List, [], _∷_}
 use Prim.Native.Nat.{ℕ, _+_, _*_, _/_, _%_, _≤_, _<_}
@@ -19,10 +19,11 @@ use Rattle.bits.specs.Bits.{bitsOf, numberOf}
 use Rattle.bits.specs.Crc.{crcBits}
 use Rattle.bits.proofs.Bits.{number-bits}
 use Rattle.frame.specs.declared.Kind.{Kind}
+use Rattle.frame.proofs.Headers.{clock-lt}
 use Rattle.frame.specs.declared.Kind.the-variants.{Long, Short}
 use Rattle.calls.specs.declared.Refusal.the-variants.{Sfd, Crc}
 use Rattle.calls.specs.declared.Front.the-variants.{Refused, Fields}
-use Rattle.frame.specs.Frame.{sfdOf, goesWith, serviceField, fieldBits, headerBits, sentHeader}
+use Rattle.frame.specs.Frame.{sfdOf, goesWith, clockBit, serviceField, fieldBits, headerBits, sentHeader}
 use Rattle.calls.specs.Headers.{told, sameBits, serviceAllowed, fieldsOf, headerOf}
 
 pub same-refl : (xs : List ℕ) → sameBits xs xs ≡ true
@@ -58,27 +59,54 @@ bit7-lt Eleven n = one (leb (8 * n + 8) (11 * lengthField Eleven n))
     one true = omega arith
     one false = omega arith
 
-seven-back : (r : Rate) (n : ℕ) → serviceField r n / 128 % 2 ≡ bit7 r n
-seven-back r n = back (bit7 r n) (bit7-lt r n)
+-- the bits of SERVICE
+seven-back : (r : Rate) (clock : Bool) (n : ℕ) → serviceField r clock n / 128 % 2 ≡ bit7 r n
+seven-back r clock n = back (clockBit clock) (bit7 r n) (clock-lt clock) (bit7-lt r n)
   where
-    back : (b : ℕ) → b < 2 → 128 * b / 128 % 2 ≡ b
-    back b h = omega arith
+    back : (c b : ℕ) → c < 2 → b < 2 → (4 * c + 128 * b) / 128 % 2 ≡ b
+    back c b i h = omega arith
 
-service-back : (r : Rate) (n : ℕ) → serviceAllowed r (serviceField r n) ≡ true
-service-back One n = refl
-service-back Two n = refl
-service-back Five n = refl
-service-back Eleven n = one (leb (8 * n + 8) (11 * lengthField Eleven n))
+clock-back : (r : Rate) (clock : Bool) (n : ℕ) → eqb (serviceField r clock n / 4 % 2) 1 ≡ clock
+clock-back r clock n =
+    ap (λ (c : ℕ). eqb c 1) (back (clockBit clock) (bit7 r n) (clock-lt clock)) ∙ told-bit clock
   where
-    one : (b : Bool) → serviceAllowed Eleven (128 * cond b 1 0) ≡ true
-    one true = refl
-    one false = refl
+    back : (c b : ℕ) → c < 2 → (4 * c + 128 * b) / 4 % 2 ≡ c
+    back c b i = omega arith
 
-module _ (k : Kind) (r : Rate) (n : ℕ) (goes : goesWith k r ≡ true) (low : 1 ≤ n) (high : n ≤ 4095) where
-  pub fields-back : fieldsOf k (codeOf r) (serviceField r n) (lengthField r n) ≡ Fields (told r (lengthField r n) n)
+    told-bit : (clock : Bool) → eqb (clockBit clock) 1 ≡ clock
+    told-bit true = refl
+    told-bit false = refl
+
+service-back : (r : Rate) (clock : Bool) (n : ℕ) → serviceAllowed r (serviceField r clock n) ≡ true
+service-back One true n = refl
+service-back One false n = refl
+service-back Two true n = refl
+service-back Two false n = refl
+service-back Five true n = refl
+service-back Five false n = refl
+service-back Eleven clock n = one clock (leb (8 * n + 8) (11 * lengthField Eleven n))
+  where
+    one : (clock b : Bool) → serviceAllowed Eleven (4 * clockBit clock + 128 * cond b 1 0) ≡ true
+    one true true = refl
+    one true false = refl
+    one false true = refl
+    one false false = refl
+
+module _ (k : Kind) (r : Rate) (clock : Bool) (n : ℕ) (goes : goesWith k r ≡ true) (low : 1 ≤ n) (high : n ≤ 4095) where
+  pub fields-back : fieldsOf k (codeOf r) (serviceField r clock n) (lengthField r n)
+      ≡ Fields (told r (lengthField r n) n clock)
   unfolding fieldsOf
   fields-back =
-      rw (code-is r, rate-back r, goes, service-back r n, seven-back r n, length-holds r n low high, octets-back r n)
+      rw (
+        code-is r,
+        rate-back r,
+        goes,
+        service-back r clock n,
+        seven-back r clock n,
+        clock-back r clock n,
+        length-holds r n low high,
+        octets-back r n,
+      )
 
 -- the header's bits, cut
 cut : (k : Kind) (s v l : ℕ) (sfd : List ℕ)
@@ -112,12 +140,13 @@ length-lt Two n h = omega arith
 length-lt Five n h = omega arith
 length-lt Eleven n h = omega arith
 
-service-lt : (r : Rate) (n : ℕ) → serviceField r n < 256
-service-lt r n = omega (arith, bit7-lt r n)
+service-lt : (r : Rate) (clock : Bool) (n : ℕ) → serviceField r clock n < 256
+service-lt r clock n = omega (arith, clock-lt clock, bit7-lt r n)
 
-pub header-back : (k : Kind) (r : Rate) (n : ℕ) → goesWith k r ≡ true → 1 ≤ n → n ≤ 4095
-    → headerOf k (bitsOf 16 (sfdOf k)) (sentHeader r n) ≡ Fields (told r (lengthField r n) n)
+pub header-back : (k : Kind) (r : Rate) (clock : Bool) (n : ℕ) → goesWith k r ≡ true → 1 ≤ n → n ≤ 4095
+    → headerOf k (bitsOf 16 (sfdOf k)) (sentHeader r clock n) ≡ Fields (told r (lengthField r n) n clock)
 unfolding sentHeader
-header-back k r n goes low high =
-    fields-read k (codeOf r) (serviceField r n) (lengthField r n) (code-small r) (service-lt r n) (length-lt r n high)
-    ∙ fields-back k r n goes low high
+header-back k r clock n goes low high =
+    fields-read k (codeOf r) (serviceField r clock n) (lengthField r n) (code-small r) (service-lt r clock n)
+    (length-lt r n high)
+    ∙ fields-back k r clock n goes low high

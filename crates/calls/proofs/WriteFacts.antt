@@ -2,8 +2,9 @@
 -- and rate, every refusal at its limit, every two neighbours that can be met together, and the chip buffer after
 -- good and refused writes. Assumes nothing.
 use mathlib.Core.Path.{_≡_, refl}
+use mathlib.Core.Bool.{true, false}
 use mathlib.Core.List.{List, [], _∷_, _++_}
-use Prim.Native.Nat.{ℕ}
+use Prim.Native.Nat.{ℕ, _^_}
 use Rattle.rates.specs.declared.Rate.the-variants.{Two, Eleven}
 use Rattle.frame.specs.declared.Kind.the-variants.{Long, Short}
 use Rattle.frame.specs.Frame.{frame}
@@ -50,13 +51,17 @@ unfolding writingOf
 together = refl
 
 -- refused, the chip buffer is 4s, the whole of it
-pub left : chipsWritten 2 20 0 (7 ∷ []) 3 ∷ chipsWritten 0 20 0 (7 ∷ []) 5 ∷ []
-    ≡ (4 ∷ 4 ∷ 4 ∷ []) ∷ (4 ∷ 4 ∷ 4 ∷ 4 ∷ 4 ∷ []) ∷ []
+pub left : chipsWritten 2 20 0 0 (7 ∷ []) 3 ∷ chipsWritten 0 20 0 0 (7 ∷ []) 5 ∷ chipsWritten 0 20 0 1 (7 ∷ []) 2 ∷ []
+    ≡ (4 ∷ 4 ∷ 4 ∷ []) ∷ (4 ∷ 4 ∷ 4 ∷ 4 ∷ 4 ∷ []) ∷ (4 ∷ 4 ∷ []) ∷ []
 unfolding chipsWritten writingOf
 left = refl
 
--- good, it is the frame from the starting phase, and 4s after it
-pub kept : chipsWritten 0 20 1 (7 ∷ []) 2158 ∷ chipsWritten 1 110 3 (7 ∷ []) 1064 ∷ []
-    ≡ (frame Long Two 1 (7 ∷ []) ++ (4 ∷ 4 ∷ [])) ∷ (frame Short Eleven 3 (7 ∷ []) ++ []) ∷ []
+-- good, it is the frame from the starting phase, and 4s after it; the clock bit is set for any number but 0
+pub kept : chipsWritten 0 20 1 0 (7 ∷ []) 2158 ∷ chipsWritten 1 110 3 0 (7 ∷ []) 1064
+    ∷ chipsWritten 0 20 1 1 (7 ∷ []) 2158 ∷ chipsWritten 1 110 3 256 (7 ∷ []) 1064
+    ∷ chipsWritten 1 110 3 (2 ^ 40) (7 ∷ []) 1064 ∷ []
+    ≡ (frame Long Two 1 false (7 ∷ []) ++ (4 ∷ 4 ∷ [])) ∷ (frame Short Eleven 3 false (7 ∷ []) ++ [])
+    ∷ (frame Long Two 1 true (7 ∷ []) ++ (4 ∷ 4 ∷ [])) ∷ (frame Short Eleven 3 true (7 ∷ []) ++ [])
+    ∷ (frame Short Eleven 3 true (7 ∷ []) ++ []) ∷ []
 unfolding chipsWritten writingOf
 kept = refl

@@ -2,6 +2,7 @@
 -- Definitions only. Assumes nothing.
 use Prim.Native.Nat.{ℕ}
 use Rattle.rates.specs.Rates.{codeOf}
+use Rattle.frame.specs.Frame.{clockBit}
 use Rattle.calls.specs.declared.Refusal.{Refusal}
 use Rattle.calls.specs.declared.Refusal.the-variants.{
   NoKind,
@@ -94,10 +95,26 @@ abbrev pub writtenOf : Writing → Written
 writtenOf (writing.Refused e) = record { number = refusalNumber e; chips = 0 }
 writtenOf (writing.Good k r c) = record { number = 0; chips = c }
 
--- a good read answers number 0, the rate code, LENGTH, n and chips used;
+-- a good read answers number 0, the rate code, LENGTH, n, chips used and the clock bit;
 -- a refusal its number, place and LENGTH, all else 0
 abbrev pub recordOf : Reading → Record
 recordOf (reading.Refused e) =
-    record { number = refusalNumber e; place = refusalPlace e; rate = 0; length = refusalLength e; n = 0; used = 0 }
+    record {
+      number = refusalNumber e;
+      place = refusalPlace e;
+      rate = 0;
+      length = refusalLength e;
+      n = 0;
+      used = 0;
+      clock = 0;
+    }
 recordOf (reading.Good t used) =
-    record { number = 0; place = 0; rate = codeOf (t .rate); length = t .length; n = t .n; used = used }
+    record {
+      number = 0;
+      place = 0;
+      rate = codeOf (t .rate);
+      length = t .length;
+      n = t .n;
+      used = used;
+      clock = clockBit (t .clock);
+    }

@@ -1,4 +1,4 @@
--- What a header tells, from its bits: refusals 11 to 15, in this order (RULES 5.8 to 5.12, 6.4).
+-- What a header tells, from its bits: refusals 11 to 15, in this order (RULES 5.8 to 5.14, 6.4).
 -- Definitions only. Assumes nothing.
 use Prim.Native.Nat.{ℕ, _/_, _%_}
 use mathlib.Core.Bool.{Bool, true, false, cond, not, _&&_, _||_}
@@ -18,12 +18,12 @@ use Rattle.calls.specs.declared.Told.{Told}
 use Rattle.calls.specs.declared.Front.{Front}
 use Rattle.calls.specs.declared.Front.the-variants as front
 
--- 14: at 11 Mbit/s SERVICE is 0 or 128; at the other rates it is 0
+-- 14: SERVICE is 0 or 4, its bit 2 being the clock bit; at 11 Mbit/s, where bit 7 may be set, also 128 or 132
 abbrev pub serviceAllowed : Rate → ℕ → Bool
-serviceAllowed One s = eqb s 0
-serviceAllowed Two s = eqb s 0
-serviceAllowed Five s = eqb s 0
-serviceAllowed Eleven s = eqb s 0 || eqb s 128
+serviceAllowed One s = eqb s 0 || eqb s 4
+serviceAllowed Two s = eqb s 0 || eqb s 4
+serviceAllowed Five s = eqb s 0 || eqb s 4
+serviceAllowed Eleven s = eqb s 0 || eqb s 4 || eqb s 128 || eqb s 132
 
 -- two rows of bits are the same
 unfoldable pub sameBits : List ℕ → List ℕ → Bool
@@ -33,18 +33,19 @@ sameBits (x ∷ xs) [] = false
 sameBits (x ∷ xs) (y ∷ ys) = eqb x y && sameBits xs ys
 
 -- what a good header tells
-abbrev pub told : Rate → ℕ → ℕ → Told
-told r l n = record { rate = r; length = l; n = n }
+abbrev pub told : Rate → ℕ → ℕ → Bool → Told
+told r l n clock = record { rate = r; length = l; n = n; clock = clock }
 
 -- 13, 14, 15: from the three fields
 unfoldable pub fieldsOf : Kind → ℕ → ℕ → ℕ → Front
 fieldsOf k signal service l =
     let r = rateOf signal in
     let seven = service / 128 % 2 in
+    let clock = eqb (service / 4 % 2) 1 in
     cond (not (isCode signal && goesWith k r)) (front.Refused (Signal l))
     (cond (not (serviceAllowed r service)) (front.Refused (Service l))
     (cond (not (lengthHolds r l seven)) (front.Refused (Length l))
-    (front.Fields (told r l (natAbs (octetsRead r l seven))))))
+    (front.Fields (told r l (natAbs (octetsRead r l seven)) clock))))
 
 -- 11 to 15: from the header's 48 bits and the SFD's sixteen. SYNC bits are not compared
 unfoldable pub headerOf : Kind → List ℕ → List ℕ → Front

@@ -34,11 +34,12 @@ pub enum Writing {
     },
 }
 
-// What a good header tells: the rate, LENGTH, and the payload's octets.
+// What a good header tells: the rate, LENGTH, the payload's octets, and whether the clock bit is set.
 pub struct Told {
     pub rate: Rate,
     pub length: usize,
     pub n: usize,
+    pub clock: bool,
 }
 
 // What a recording's front tells.
@@ -69,4 +70,5 @@ pub struct Record {
     pub length: u64,
     pub n: u64,
     pub used: u64,
+    pub clock: u64,
 }

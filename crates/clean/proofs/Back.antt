@@ -1,6 +1,6 @@
 -- Readings of a clean frame with the header that is sent: good with room, 17 without, 16 where it is cut in the payload
 -- and 8 where it is cut in the front, whatever follows a whole one. Assumes nothing.
-use mathlib.Core.Path.{_≡_, refl, sym, ap, _∙_}
+use mathlib.Core.Path.{_≡_, sym, ap, _∙_}
 use mathlib.Core.Bool.{Bool, true}
 use mathlib.Core.List.{List, _++_, [], append-nil}
 use Prim.Native.Nat.{ℕ, _-_, _≤_, _<_}
@@ -37,7 +37,7 @@ use Rattle.clean.proofs.Decided.{clean-length}
 use Rattle.clean.proofs.Local.{front-local}
 use Rattle.clean.proofs.Whole as whole
 
-module _ (kind : ℕ) (r : Rate) (p : ℕ) (xs : List ℕ) (is-kind : isKind kind ≡ true) (l : p < 4) where
+module _ (kind : ℕ) (r : Rate) (p : ℕ) (clock : Bool) (xs : List ℕ) (is-kind : isKind kind ≡ true) (l : p < 4) where
   abbrev k : Kind
   k = kindOf kind
 
@@ -45,17 +45,17 @@ module _ (kind : ℕ) (r : Rate) (p : ℕ) (xs : List ℕ) (is-kind : isKind kin
   n = length xs
 
   abbrev header : List ℕ
-  header = sentHeader r n
+  header = sentHeader r clock n
 
   abbrev t : Told
-  t = told r (lengthField r n) n
+  t = told r (lengthField r n) n clock
 
   abbrev clean : List Taken
-  clean = cleanRecording (frame k r p xs)
+  clean = cleanRecording (frame k r p clock xs)
 
-  pub phases : Below 4 (frame k r p xs)
+  pub phases : Below 4 (frame k r p clock xs)
   unfolding frame
-  phases = whole.frame-phases k r p header xs [] l (sent-length r n) (sent-below r n)
+  phases = whole.frame-phases k r p header xs [] l (sent-length r clock n) (sent-below r clock n)
 
   opened : (agree : Bool) (rec : List Taken) (room : ℕ) → agree ≡ true
       → readingOf kind agree rec room ≡ afterFront k rec room (wholeOf k rec (frontOf k rec))
@@ -66,7 +66,8 @@ module _ (kind : ℕ) (r : Rate) (p : ℕ) (xs : List ℕ) (is-kind : isKind kin
     front-is : (rest : List Taken) → frontOf k (clean ++ rest) ≡ front.Fields t
     unfolding frame
     front-is rest =
-        whole.front-read k r p header xs rest l (sent-length r n) (sent-below r n) ∙ header-back k r n goes some few
+        whole.front-read k r p header xs rest l (sent-length r clock n) (sent-below r clock n)
+        ∙ header-back k r clock n goes some few
 
     -- ---- whole, with anything after it
     module _ (rest : List Taken) (room : ℕ) where
@@ -77,14 +78,16 @@ module _ (kind : ℕ) (r : Rate) (p : ℕ) (xs : List ℕ) (is-kind : isKind kin
           opened agree (clean ++ rest) room e
           ∙ ap (λ f. afterFront k (clean ++ rest) room (wholeOf k (clean ++ rest) f)) (front-is rest)
           ∙ ap (afterFront k (clean ++ rest) room)
-          (whole.whole-there k r p header xs rest l (sent-length r n) (sent-below r n) (lengthField r n))
+          (whole.whole-there k r p header xs rest l (sent-length r clock n) (sent-below r clock n)
+          (lengthField r n) clock)
 
       pub good-reading : (agree : Bool) → agree ≡ true → n ≤ room
           → readingOf kind agree (clean ++ rest) room ≡ reading.Good t (frameChips k r n)
       unfolding frame
       good-reading agree e h =
           rec-is agree e
-          ∙ whole.payload-good k r p header xs rest l (sent-length r n) (sent-below r n) (lengthField r n) room h
+          ∙ whole.payload-good k r p header xs rest l (sent-length r clock n) (sent-below r clock n)
+          (lengthField r n) clock room h
 
       pub good-octets : (agree : Bool) → agree ≡ true → n ≤ room → Below 256 xs
           → octetsFound kind agree (clean ++ rest) room ≡ xs ++ replicate (room - n) 0
@@ -96,39 +99,42 @@ module _ (kind : ℕ) (r : Rate) (p : ℕ) (xs : List ℕ) (is-kind : isKind kin
           found = unfold octetsFound in ap (octetsAfter k (clean ++ rest) room) (good-reading agree e h)
 
           read : payloadOf k r n (clean ++ rest) ≡ xs
-          read = unfold frame in whole.payload-read k r p header xs rest l (sent-length r n) (sent-below r n) o
+          read =
+              unfold frame in
+              whole.payload-read k r p header xs rest l (sent-length r clock n) (sent-below r clock n) o
 
       pub room-refused : (agree : Bool) → agree ≡ true → room < n
           → readingOf kind agree (clean ++ rest) room ≡ reading.Refused (OctetRoom (lengthField r n))
       unfolding frame
       room-refused agree e h =
           rec-is agree e
-          ∙ whole.no-room k r p header xs rest l (sent-length r n) (sent-below r n) (lengthField r n) room h
+          ∙ whole.no-room k r p header xs rest l (sent-length r clock n) (sent-below r clock n)
+          (lengthField r n) clock room h
 
     -- ---- cut after j chips
-    module _ (j room : ℕ) (less : j < frameChips k r n) where
+    module _ (j room : ℕ) (less : j < frameChips k r n) (agree : Bool) (e : agree ≡ true) where
       abbrev cut : List Taken
       cut = take j clean
 
       cut-length : length cut ≡ j
       cut-length =
-          length-take-le j clean (omega (arith, clean-length (frame k r p xs), frame-length k r p xs))
+          length-take-le j clean (omega (arith, clean-length (frame k r p clock xs), frame-length k r p clock xs))
 
-      pub front-refused : j < frontChips k → readingOf kind true cut room ≡ reading.Refused ShorterThanFront
+      pub front-refused : j < frontChips k → readingOf kind agree cut room ≡ reading.Refused ShorterThanFront
       front-refused h =
-          opened true cut room refl ∙ ap (λ f. afterFront k cut room (wholeOf k cut f)) short
+          opened agree cut room e ∙ ap (λ f. afterFront k cut room (wholeOf k cut f)) short
         where
           short : frontOf k cut ≡ front.Refused ShorterThanFront
           short = unfold frontOf in rw (lt-ltb (length cut) (frontChips k) (omega (arith, cut-length)))
 
       pub payload-refused : frontChips k ≤ j
-          → readingOf kind true cut room ≡ reading.Refused (Ends (lengthField r n))
+          → readingOf kind agree cut room ≡ reading.Refused (Ends (lengthField r n))
       payload-refused h =
-          opened true cut room refl ∙ ap (λ f. afterFront k cut room (wholeOf k cut f)) known
+          opened agree cut room e ∙ ap (λ f. afterFront k cut room (wholeOf k cut f)) known
           ∙ ap (afterFront k cut room) ends
         where
           long : frontChips k ≤ length (clean ++ [])
-          long = rw append-nil (omega (arith, clean-length (frame k r p xs), frame-length k r p xs))
+          long = rw append-nil (omega (arith, clean-length (frame k r p clock xs), frame-length k r p clock xs))
 
           known : frontOf k cut ≡ front.Fields t
           known =

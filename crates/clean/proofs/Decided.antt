@@ -40,6 +40,12 @@ clean-drop zero a = refl
 clean-drop (suc j) [] = refl
 clean-drop (suc j) (p ∷ a) = clean-drop j a
 
+pub clean-take : (j : ℕ) (a : List ℕ) → take j (cleanRecording a) ≡ cleanRecording (take j a)
+unfolding cleanRecording
+clean-take zero a = refl
+clean-take (suc j) [] = refl
+clean-take (suc j) (p ∷ a) = ap (λ (l : List Taken). cleanTaken p ∷ l) (clean-take j a)
+
 -- no chip of a clean recording is unusable
 pub none-unusable : (at m : ℕ) (chips : List ℕ) (rest : List Taken) → m ≤ length chips
     → firstUnusable at (take m (cleanRecording chips ++ rest)) ≡ none

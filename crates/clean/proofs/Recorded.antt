@@ -7,7 +7,7 @@ use mathlib.Core.List.{List, [], _∷_, _++_}
 use Prim.Native.Nat.{ℕ, zero, suc, _+_, _*_, _^_, _<_, _≤_}
 use native.Mathlib.Omega.{arith}
 use lib.Dec.{T, lit≤}
-use lib.ListN.{length, take}
+use lib.ListN.{length}
 use lib.IntN.{ℤ, pos, negℤ}
 use lib.Ieee.{Float}
 use Rattle.chips.specs.declared.Counts.{Counts}
@@ -49,14 +49,6 @@ unfolding hardRecording cleanRecording
 hard-recorded [] tail h = refl
 hard-recorded (p ∷ chips) tail h =
     ap₂ {C = List Taken} (λ x xs. x ∷ xs) (hard-clean p (below-head h)) (hard-recorded chips tail (below-tail h))
-
--- a cut of it
-pub hard-take : (j : ℕ) (chips : List ℕ) → Below 4 chips → hardRecording (take j chips) ≡ take j (cleanRecording chips)
-unfolding hardRecording cleanRecording
-hard-take zero chips h = refl
-hard-take (suc j) [] h = refl
-hard-take (suc j) (p ∷ chips) h =
-    ap₂ {C = List Taken} (λ x xs. x ∷ xs) (hard-clean p (below-head h)) (hard-take j chips (below-tail h))
 
 -- ---- bytes
 byte-clean : (p : ℕ) → counted (byteCounts (fullChip 64 p .i) (fullChip 64 p .q)) ≡ cleanTaken p

@@ -2,6 +2,7 @@
 -- The sent bits are cut into the three parts; all but the first are heard (`Listened`), and unscrambling forgets the
 -- first after eight bits. Assumes nothing.
 use mathlib.Core.Path.{_≡_, refl, sym, ap, ap₂, _∙_, subst}
+use mathlib.Core.Bool.{Bool}
 use mathlib.Core.List.{List, [], _∷_, _++_, append-assoc}
 use mathlib.Core.Option.{none}
 use Prim.Native.Nat.{ℕ, _+_, _-_, _*_, _<_, _≤_}
@@ -284,9 +285,9 @@ module _ (k : Kind) (r : Rate) (p : ℕ) (header xs : List ℕ) (rest : List Tak
           ∙ ap (λ (t : List Taken). t ++ rest) (clean-drop (frontChips k) (framed k r p header xs))
 
   -- what comes of a header that tells this rate and so many octets
-  module _ (lf : ℕ) where
+  module _ (lf : ℕ) (clock : Bool) where
     abbrev t : Told
-    t = told r lf n
+    t = told r lf n clock
 
     pub whole-there : wholeOf k recording (front.Fields t) ≡ front.Fields t
     whole-there = rw (le-ltb _ (frameChips k r n) long-enough)

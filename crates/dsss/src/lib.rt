@@ -1,6 +1,6 @@
 // The board's C interface: each call is one of the proved functions below it, exported. include/dsss.h declares
-// them for C. A contract names the answer and the lent buffer at the end in one record: `answer` and `chips`, or
-// `answer` and `octets`.
+// them for C, by their names without the number: a symbol keeps its parameters and its record for ever. A contract
+// names the answer and the lent buffer at the end in one record: `answer` and `chips`, or `answer` and `octets`.
 ghost use lib.ListN.{length};
 ghost use Rattle.promises.specs.Calls.{Wrote, ReadHard, ReadSoft, ReadBytes};
 use calls::Record;
@@ -8,22 +8,23 @@ use calls::Written;
 
 // A payload to the chips of its frame; 4s after the frame, or everywhere after a refusal.
 #[no_mangle]
-pub extern "C" fn dsss_write(
+pub extern "C" fn dsss_write_2(
     kind: u64,
     rate: u64,
     phase: u64,
+    clock: u64,
     payload: &[u8],
     chips: &mut [u8],
 ) -> Written
-    ensures wrote { λ w. ⌜ Wrote kind rate phase (now (payload .entry)) (length (now (chips .entry)))
+    ensures wrote { λ w. ⌜ Wrote kind rate phase clock (now (payload .entry)) (length (now (chips .entry)))
         w (now (chips .exit)) ⌝ }
 {
-    writer::write(kind, rate, phase, payload, chips)
+    writer::write(kind, rate, phase, clock, payload, chips)
 }
 
 // A hard recording to its payload; zeros after the payload, or everywhere after a refusal.
 #[no_mangle]
-pub extern "C" fn dsss_read_hard(kind: u64, chips: &[u8], octets: &mut [u8]) -> Record
+pub extern "C" fn dsss_read_hard_2(kind: u64, chips: &[u8], octets: &mut [u8]) -> Record
     ensures read { λ a. ⌜ ReadHard kind (now (chips .entry)) (length (now (octets .entry)))
         a (now (octets .exit)) ⌝ }
 {
@@ -32,7 +33,7 @@ pub extern "C" fn dsss_read_hard(kind: u64, chips: &[u8], octets: &mut [u8]) -> 
 
 // A soft recording, rows I and Q, to its payload; zeros as above.
 #[no_mangle]
-pub extern "C" fn dsss_read_soft(kind: u64, i: &[f32], q: &[f32], octets: &mut [u8]) -> Record
+pub extern "C" fn dsss_read_soft_2(kind: u64, i: &[f32], q: &[f32], octets: &mut [u8]) -> Record
     ensures read { λ a. ⌜ ReadSoft kind (now (i .entry)) (now (q .entry)) (length (now (octets .entry)))
         a (now (octets .exit)) ⌝ }
 {
@@ -41,7 +42,7 @@ pub extern "C" fn dsss_read_soft(kind: u64, i: &[f32], q: &[f32], octets: &mut [
 
 // A byte recording, I and Q in turn, to its payload; zeros as above.
 #[no_mangle]
-pub extern "C" fn dsss_read_bytes(kind: u64, bytes: &[i8], octets: &mut [u8]) -> Record
+pub extern "C" fn dsss_read_bytes_2(kind: u64, bytes: &[i8], octets: &mut [u8]) -> Record
     ensures read { λ a. ⌜ ReadBytes kind (now (bytes .entry)) (length (now (octets .entry)))
         a (now (octets .exit)) ⌝ }
 {

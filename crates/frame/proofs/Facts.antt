@@ -6,7 +6,7 @@
 use mathlib.Core.Path.{_≡_, refl}
 use mathlib.Core.Bool.{true, false}
 use mathlib.Core.List.{List, [], _∷_, _++_, map}
-use Prim.Native.Nat.{ℕ}
+use Prim.Native.Nat.{ℕ, _-_, _^_}
 use lib.ListN.{take, drop}
 use Rattle.rates.specs.declared.Rate.{Rate}
 use Rattle.rates.specs.declared.Rate.the-variants.{One, Two, Five, Eleven}
@@ -27,6 +27,8 @@ use Rattle.frame.specs.Frame.{
   headerRate,
   frontChips,
   goesWith,
+  clockOf,
+  clockBit,
   serviceField,
   preambleBits,
   fieldBits,
@@ -69,34 +71,45 @@ pub sizes : map (λ (r : Rate). frameChips Long r 2 ∷ frameChips Short r 2 ∷
     ∷ (2128 ∷ 1072 ∷ 2112 ∷ []) ∷ []
 sizes = refl
 
--- SERVICE of 3 and of 4 octets
-pub services : map (λ (r : Rate). serviceField r 3 ∷ serviceField r 4 ∷ []) rates
-    ≡ (0 ∷ 0 ∷ []) ∷ (0 ∷ 0 ∷ []) ∷ (0 ∷ 0 ∷ []) ∷ (128 ∷ 0 ∷ []) ∷ []
+-- the clock: 0 is no, any other number yes
+pub clocks : map clockOf (0 ∷ 1 ∷ 2 ∷ 4 ∷ 255 ∷ 256 ∷ (2 ^ 32) ∷ (2 ^ 40) ∷ (2 ^ 64 - 1) ∷ [])
+    ≡ false ∷ true ∷ true ∷ true ∷ true ∷ true ∷ true ∷ true ∷ true ∷ []
+clocks = refl
+
+pub clock-bits : map clockBit (false ∷ true ∷ []) ≡ 0 ∷ 1 ∷ []
+clock-bits = refl
+
+-- SERVICE of 3 and of 4 octets, the clock bit not set and set
+pub services : map
+    (λ (r : Rate).
+    serviceField r false 3 ∷ serviceField r true 3 ∷ serviceField r false 4 ∷ serviceField r true 4 ∷ []) rates
+    ≡ (0 ∷ 4 ∷ 0 ∷ 4 ∷ []) ∷ (0 ∷ 4 ∷ 0 ∷ 4 ∷ []) ∷ (0 ∷ 4 ∷ 0 ∷ 4 ∷ []) ∷ (128 ∷ 132 ∷ 0 ∷ 4 ∷ []) ∷ []
 services = refl
 
 some : List ℕ
 some = 0x1B ∷ 0xC6 ∷ []
 
+-- the clock bit not set
 pub computed : List (List ℕ)
 computed =
     drop 128 (preambleBits Long)
     ∷ drop 56 (preambleBits Short)
-    ∷ sentHeader Two 300
-    ∷ sentHeader Eleven 3
-    ∷ take 22 (drop 1584 (frame Long One 1 some))
-    ∷ take 22 (drop 792 (frame Short Two 1 some))
-    ∷ drop 1034 (frame Short Two 1 [])
-    ∷ take 22 (drop 2112 (frame Long One 1 some))
-    ∷ take 22 (drop 2112 (frame Long Two 1 some))
-    ∷ take 22 (drop 1056 (frame Short Two 1 some))
-    ∷ take 16 (drop 2112 (frame Long Five 1 some))
-    ∷ take 16 (drop 1056 (frame Short Five 1 some))
-    ∷ take 16 (drop 2112 (frame Long Eleven 1 some))
-    ∷ take 16 (drop 1056 (frame Short Eleven 1 some))
-    ∷ take 8 (drop 144 (sentBits Long (sentHeader Five 2) some))
-    ∷ take 8 (drop 192 (sentBits Long (sentHeader Five 2) some))
-    ∷ take 8 (drop 72 (sentBits Short (sentHeader Eleven 2) some))
-    ∷ take 8 (drop 120 (sentBits Short (sentHeader Eleven 2) some))
+    ∷ sentHeader Two false 300
+    ∷ sentHeader Eleven false 3
+    ∷ take 22 (drop 1584 (frame Long One 1 false some))
+    ∷ take 22 (drop 792 (frame Short Two 1 false some))
+    ∷ drop 1034 (frame Short Two 1 false [])
+    ∷ take 22 (drop 2112 (frame Long One 1 false some))
+    ∷ take 22 (drop 2112 (frame Long Two 1 false some))
+    ∷ take 22 (drop 1056 (frame Short Two 1 false some))
+    ∷ take 16 (drop 2112 (frame Long Five 1 false some))
+    ∷ take 16 (drop 1056 (frame Short Five 1 false some))
+    ∷ take 16 (drop 2112 (frame Long Eleven 1 false some))
+    ∷ take 16 (drop 1056 (frame Short Eleven 1 false some))
+    ∷ take 8 (drop 144 (sentBits Long (sentHeader Five false 2) some))
+    ∷ take 8 (drop 192 (sentBits Long (sentHeader Five false 2) some))
+    ∷ take 8 (drop 72 (sentBits Short (sentHeader Eleven false 2) some))
+    ∷ take 8 (drop 120 (sentBits Short (sentHeader Eleven false 2) some))
     ∷ []
 
 pub expected : List (List ℕ)
@@ -131,3 +144,38 @@ unfolding
     crcBits
     preambleBits fieldBits headerBits sentHeader frameBits sentBits partsChips framed frame
 facts = refl
+
+-- the clock bit set: SERVICE and CRC of two headers; from the bit's own symbol on the chips of a long and of a short
+-- header; the end of the CRC; payloads, which the scrambler carries it into
+pub computed-clock : List (List ℕ)
+computed-clock =
+    sentHeader Two true 300
+    ∷ sentHeader Eleven true 3
+    ∷ take 22 (drop 1694 (frame Long One 1 true some))
+    ∷ take 22 (drop 847 (frame Short Two 1 true some))
+    ∷ take 22 (drop 1034 (frame Short Two 1 true some))
+    ∷ take 16 (drop 2112 (frame Long Five 1 true some))
+    ∷ take 16 (drop 1056 (frame Short Eleven 1 true some))
+    ∷ []
+
+pub expected-clock : List (List ℕ)
+expected-clock =
+    (0 ∷ 0 ∷ 1 ∷ 0 ∷ 1 ∷ 0 ∷ 0 ∷ 0 ∷ 0 ∷ 0 ∷ 1 ∷ 0 ∷ 0 ∷ 0 ∷ 0 ∷ 0 ∷ 0 ∷ 0 ∷ 0 ∷ 0 ∷ 1 ∷ 1 ∷ 0 ∷ 1 ∷ 0 ∷ 0 ∷ 1 ∷ 0 ∷ 0
+    ∷ 0 ∷ 0 ∷ 0 ∷ 0 ∷ 0 ∷ 0 ∷ 1 ∷ 1 ∷ 1 ∷ 0 ∷ 1 ∷ 0 ∷ 1 ∷ 0 ∷ 0 ∷ 1 ∷ 0 ∷ 1 ∷ 0 ∷ [])
+    ∷ (0 ∷ 1 ∷ 1 ∷ 1 ∷ 0 ∷ 1 ∷ 1 ∷ 0 ∷ 0 ∷ 0 ∷ 1 ∷ 0 ∷ 0 ∷ 0 ∷ 0 ∷ 1 ∷ 1 ∷ 1 ∷ 0 ∷ 0 ∷ 0 ∷ 0 ∷ 0 ∷ 0 ∷ 0 ∷ 0 ∷ 0 ∷ 0
+    ∷ 0 ∷ 0 ∷ 0 ∷ 0 ∷ 1 ∷ 0 ∷ 1 ∷ 1 ∷ 1 ∷ 0 ∷ 0 ∷ 1 ∷ 0 ∷ 1 ∷ 1 ∷ 1 ∷ 0 ∷ 0 ∷ 0 ∷ 1 ∷ [])
+    ∷ (1 ∷ 3 ∷ 1 ∷ 1 ∷ 3 ∷ 1 ∷ 1 ∷ 1 ∷ 3 ∷ 3 ∷ 3 ∷ 3 ∷ 1 ∷ 3 ∷ 3 ∷ 1 ∷ 3 ∷ 3 ∷ 3 ∷ 1 ∷ 1 ∷ 1 ∷ [])
+    ∷ (2 ∷ 0 ∷ 2 ∷ 2 ∷ 0 ∷ 2 ∷ 2 ∷ 2 ∷ 0 ∷ 0 ∷ 0 ∷ 1 ∷ 3 ∷ 1 ∷ 1 ∷ 3 ∷ 1 ∷ 1 ∷ 1 ∷ 3 ∷ 3 ∷ 3 ∷ [])
+    ∷ (0 ∷ 2 ∷ 0 ∷ 0 ∷ 2 ∷ 0 ∷ 0 ∷ 0 ∷ 2 ∷ 2 ∷ 2 ∷ 0 ∷ 2 ∷ 0 ∷ 0 ∷ 2 ∷ 0 ∷ 0 ∷ 0 ∷ 2 ∷ 2 ∷ 2 ∷ [])
+    ∷ (2 ∷ 1 ∷ 2 ∷ 3 ∷ 2 ∷ 1 ∷ 0 ∷ 1 ∷ 2 ∷ 1 ∷ 2 ∷ 3 ∷ 0 ∷ 3 ∷ 2 ∷ 3 ∷ [])
+    ∷ (0 ∷ 0 ∷ 2 ∷ 0 ∷ 0 ∷ 0 ∷ 0 ∷ 2 ∷ 1 ∷ 2 ∷ 0 ∷ 3 ∷ 1 ∷ 2 ∷ 2 ∷ 1 ∷ [])
+    ∷ []
+
+pub facts-clock : computed-clock ≡ expected-clock
+unfolding
+    computed-clock expected-clock some
+    barkerWord cckWord
+    bitsOf octetBits growth symbolOf symbolsFrom symbolsOf chipsFrom lastPhase mixed scramble addWhere crcStep remainder
+    crcBits
+    preambleBits fieldBits headerBits sentHeader frameBits sentBits partsChips framed frame
+facts-clock = refl

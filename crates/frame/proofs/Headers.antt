@@ -1,10 +1,16 @@
 -- A header is 48 bits, whatever its three fields.
 --     header-length, header-below    of any fields
 --     sent-length, sent-below        of the header that is sent
+--     clock-some                     a clock is yes for every number but 0
+--     clock-lt, clock-byte           its bit is a bit, and the octet that stands for a yes or no
 -- Assumes nothing.
-use mathlib.Core.Path.{_≡_, refl, ap₂, _∙_}
-use Prim.Native.Nat.{ℕ, _+_}
+use mathlib.Core.Path.{_≡_, refl, ap, ap₂, _∙_}
+use mathlib.Core.Bool.{Bool, true, false, not}
+use Prim.Native.Nat.{ℕ, suc, _+_, _<_}
+use native.Mathlib.Omega.{arith}
+use borrow.Author.Tests.{ne-eqb}
 use lib.ListN.{length, length-append}
+use mir.Val.{boolByte}
 use Rattle.base.specs.Below.{Below}
 use Rattle.base.proofs.Below.{below-append}
 use Rattle.rates.specs.declared.Rate.{Rate}
@@ -12,7 +18,18 @@ use Rattle.bits.specs.Bits.{bitsOf}
 use Rattle.bits.specs.Crc.{crcBits}
 use Rattle.bits.proofs.Bits.{bits-below}
 use Rattle.bits.proofs.Crc.{crc-length, crc-below}
-use Rattle.frame.specs.Frame.{fieldBits, headerBits, sentHeader}
+use Rattle.frame.specs.Frame.{clockOf, clockBit, fieldBits, headerBits, sentHeader}
+
+pub clock-some : (clock : ℕ) → clockOf (suc clock) ≡ true
+clock-some clock = ap not (ne-eqb (suc clock) 0 (λ e. omega arith))
+
+pub clock-lt : (clock : Bool) → clockBit clock < 2
+clock-lt true = omega arith
+clock-lt false = omega arith
+
+pub clock-byte : (clock : Bool) → boolByte clock ≡ clockBit clock
+clock-byte true = refl
+clock-byte false = refl
 
 module _ (s v l : ℕ) where
   fields-length : length (fieldBits s v l) ≡ 32
@@ -33,10 +50,10 @@ module _ (s v l : ℕ) where
   unfolding headerBits
   header-below = below-append fields-below (crc-below (fieldBits s v l))
 
-pub sent-length : (r : Rate) (n : ℕ) → length (sentHeader r n) ≡ 48
+pub sent-length : (r : Rate) (clock : Bool) (n : ℕ) → length (sentHeader r clock n) ≡ 48
 unfolding sentHeader
-sent-length r n = header-length _ _ _
+sent-length r clock n = header-length _ _ _
 
-pub sent-below : (r : Rate) (n : ℕ) → Below 2 (sentHeader r n)
+pub sent-below : (r : Rate) (clock : Bool) (n : ℕ) → Below 2 (sentHeader r clock n)
 unfolding sentHeader
-sent-below r n = header-below _ _ _
+sent-below r clock n = header-below _ _ _

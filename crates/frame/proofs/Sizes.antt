@@ -4,6 +4,7 @@
 --     frame-small                                    no frame has more than 362,472
 -- A symbol is as many chips as its rate says, and each part is a whole number of symbols. Assumes nothing.
 use mathlib.Core.Path.{_≡_, ap, ap₂, _∙_}
+use mathlib.Core.Bool.{Bool}
 use mathlib.Core.List.{List, _++_}
 use Prim.Native.Nat.{ℕ, _+_, _*_, _/_, _≤_}
 use native.Mathlib.Omega.{arith}
@@ -104,9 +105,10 @@ framed-length k r p header xs e =
     (length-take-le headerLength (drop m s) (rw length-drop (omega (arith, all))))
     (length-drop (m + headerLength) s ∙ omega (arith, all))
 
-pub frame-length : (k : Kind) (r : Rate) (p : ℕ) (xs : List ℕ) → length (frame k r p xs) ≡ frameChips k r (length xs)
+pub frame-length : (k : Kind) (r : Rate) (p : ℕ) (clock : Bool) (xs : List ℕ)
+    → length (frame k r p clock xs) ≡ frameChips k r (length xs)
 unfolding frame
-frame-length k r p xs = framed-length k r p _ xs (sent-length r (length xs))
+frame-length k r p clock xs = framed-length k r p _ xs (sent-length r clock (length xs))
 
 pub frame-small : (k : Kind) (r : Rate) (n : ℕ) → n ≤ 4095 → frameChips k r n ≤ 362472
 frame-small Long One n h = omega arith

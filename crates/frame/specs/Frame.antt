@@ -1,8 +1,8 @@
--- The frame: its two kinds of front, the header, the payload, and all of its chips (RULES 5.1 to 5.13).
+-- The frame: its two kinds of front, the header, the payload, and all of its chips (RULES 5.1 to 5.14).
 -- Source 002, an earlier draft, has a short header at 5.5 Mbit/s and uses the lowest SERVICE bit: both were given up.
 -- Definitions only. Assumes nothing.
 use Prim.Native.Nat.{ℕ, _+_, _*_}
-use mathlib.Core.Bool.{Bool, true, false, cond}
+use mathlib.Core.Bool.{Bool, true, false, cond, not}
 use mathlib.Core.List.{List, [], _∷_, _++_}
 use lib.ListN.{length, take, drop, replicate}
 use lib.Dec.{eqb, ltb}
@@ -60,9 +60,17 @@ goesWith Short Two = true
 goesWith Short Five = true
 goesWith Short Eleven = true
 
--- SERVICE is 0 but for bit 7
-abbrev pub serviceField : Rate → ℕ → ℕ
-serviceField r n = 128 * bit7 r n
+-- clock is a yes or no: 0 is no, any other number yes
+abbrev pub clockOf : ℕ → Bool
+clockOf clock = not (eqb clock 0)
+
+-- the clock bit
+abbrev pub clockBit : Bool → ℕ
+clockBit clock = cond clock 1 0
+
+-- SERVICE is 0 but for bit 2, the clock bit, and bit 7
+abbrev pub serviceField : Rate → Bool → ℕ → ℕ
+serviceField r clock n = 4 * clockBit clock + 128 * bit7 r n
 
 -- Parts, as bits: the preamble is SYNC and SFD; a header is its three fields and their CRC
 unfoldable pub preambleBits : Kind → List ℕ
@@ -74,9 +82,9 @@ fieldBits signal service l = bitsOf 8 signal ++ (bitsOf 8 service ++ bitsOf 16 l
 unfoldable pub headerBits : ℕ → ℕ → ℕ → List ℕ
 headerBits signal service l = fieldBits signal service l ++ crcBits (fieldBits signal service l)
 
--- the header that is sent for n octets at a rate
-unfoldable pub sentHeader : Rate → ℕ → List ℕ
-sentHeader r n = headerBits (codeOf r) (serviceField r n) (lengthField r n)
+-- the header that is sent for n octets at a rate, the clock bit set or not
+unfoldable pub sentHeader : Rate → Bool → ℕ → List ℕ
+sentHeader r clock n = headerBits (codeOf r) (serviceField r clock n) (lengthField r n)
 
 unfoldable pub frameBits : Kind → List ℕ → List ℕ → List ℕ
 frameBits k header payload = preambleBits k ++ (header ++ octetBits payload)
@@ -112,8 +120,8 @@ framed k r p header payload =
     let m = preambleLength k in
     partsChips k r p (take m s) (take headerLength (drop m s)) (drop (m + headerLength) s)
 
-unfoldable pub frame : Kind → Rate → ℕ → List ℕ → List ℕ
-frame k r p payload = framed k r p (sentHeader r (length payload)) payload
+unfoldable pub frame : Kind → Rate → ℕ → Bool → List ℕ → List ℕ
+frame k r p clock payload = framed k r p (sentHeader r clock (length payload)) payload
 
 -- how many chips a frame of n octets has
 abbrev pub frameChips : Kind → Rate → ℕ → ℕ

@@ -1,6 +1,7 @@
 -- Table P (RULES 7): what the definitions compute is what the table prints, one statement over its twelve entries. An
 -- entry is a list of rows. Definitions only. Assumes nothing.
 use mathlib.Core.Path.{_≡_}
+use mathlib.Core.Bool.{false}
 use mathlib.Core.List.{List, [], _∷_, map}
 use Prim.Native.Nat.{ℕ}
 use lib.ListN.{take, replicate}
@@ -21,7 +22,7 @@ use Rattle.frame.specs.Frame.{start, preambleBits, frame}
 unfoldable pub five : ℕ → ℕ → List ℕ
 five a b = chipsFrom Five 0 (symbolOf Five 0 (0 ∷ 0 ∷ a ∷ b ∷ []) ∷ [])
 
--- what the definitions compute; entry 4 is the same for every rate and payload
+-- what the definitions compute, the clock bit not set; entry 4, in SYNC, is the same for every rate, clock and payload
 unfoldable pub computed : Rate → List ℕ → List (List (List ℕ))
 computed r payload =
     (scramble (start Long) (take 8 (preambleBits Long)) ∷ [])
@@ -30,7 +31,7 @@ computed r payload =
     (0 ∷ 1 ∷ 0 ∷ 1 ∷ 0 ∷ 0 ∷ 0 ∷ 0 ∷ 0 ∷ 0 ∷ 0 ∷ 0 ∷ 0 ∷ 0 ∷ 0 ∷ 0
     ∷ 0 ∷ 0 ∷ 0 ∷ 0 ∷ 0 ∷ 0 ∷ 1 ∷ 1 ∷ 0 ∷ 0 ∷ 0 ∷ 0 ∷ 0 ∷ 0 ∷ 0 ∷ 0 ∷ [])
     ∷ [])
-    ∷ (take 22 (frame Long r 0 payload) ∷ [])
+    ∷ (take 22 (frame Long r 0 false payload) ∷ [])
     ∷ (cckWord 0 0 0 0 ∷ [])
     ∷ (cckWord 1 1 0 0 ∷ [])
     ∷ (cckWord 0 1 2 3 ∷ [])

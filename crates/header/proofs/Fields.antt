@@ -4,14 +4,12 @@
 --     crc-differs                            two rows of bits compared, and so two rows of octets
 --     two-is, crc-other, crc-same, fields-cut    the six octets of a header: its CRC against the one made, its fields
 -- Octets of eight bits each compute to rows of bits that are cut by computing. Assumes nothing.
-use mathlib.Core.Path.{_≡_, refl, sym, ap, ap₂, _∙_, subst}
+use mathlib.Core.Path.{_≡_, refl, sym, ap, _∙_}
 use mathlib.Core.Bool.{Bool, true, false}
 use mathlib.Core.List.{List, [], _∷_, _++_, append-nil}
 use Prim.Native.Nat.{ℕ, _/_, _%_}
 use native.Mathlib.Omega.{arith}
-use lib.Dec.{T, eqb}
 use lib.ListN.{length, getD, take, drop}
-use borrow.Author.Tests.{eqb-true}
 use Rattle.base.specs.Tables.{tabulate}
 use Rattle.base.proofs.Tables.{as-table}
 use Rattle.bits.specs.Bits.{bitsOf, numberOf, octetBits}
@@ -24,6 +22,7 @@ use Rattle.calls.specs.declared.Front.{Front}
 use Rattle.frame.specs.Frame.{fieldBits, headerBits}
 use Rattle.calls.specs.Headers.{sameBits, fieldsOf}
 use Rattle.calls.proofs.ReadBack.{same-refl}
+use Rattle.calls.proofs.HeaderOnly.{same-eq}
 
 pub two-is : (xs : List ℕ) → length xs ≡ 2 → xs ≡ getD xs 0 0 ∷ getD xs 1 0 ∷ []
 unfolding tabulate
@@ -45,19 +44,6 @@ pub header-is : (s v l : ℕ)
     ≡ headerBits s v l
 unfolding headerBits
 header-is s v l = ap (λ (x : List ℕ). x ++ crcBits x) (field-octets s v l)
-
--- ---- two rows of bits compared
-
-same-eq : (xs ys : List ℕ) → sameBits xs ys ≡ true → xs ≡ ys
-unfolding sameBits
-same-eq [] [] e = refl
-same-eq [] (y ∷ ys) e = absurd (subst T (sym e) tt)
-same-eq (x ∷ xs) [] e = absurd (subst T (sym e) tt)
-same-eq (x ∷ xs) (y ∷ ys) e = by (eqb x y) refl (same-eq xs ys)
-  where
-    by : (b : Bool) → eqb x y ≡ b → (sameBits xs ys ≡ true → xs ≡ ys) → x ∷ xs ≡ y ∷ ys
-    by true q rest = ap₂ {C = List ℕ} (λ z zs. z ∷ zs) (eqb-true x y q) (rest (rw q at e))
-    by false q rest = absurd (subst T (sym (rw q at e)) tt)
 
 -- two octets of CRC, as made and as read
 pub crc-differs : (crc read : List ℕ) → length crc ≡ length read → Below 256 crc → Below 256 read → (crc ≡ read → ⊥)

@@ -17,19 +17,25 @@ ghost use Rattle.frame.specs.Frame.{sfdOf, goesWith, headerBits, sentHeader};
 ghost use Rattle.calls.specs.Headers.{serviceAllowed, sameBits, fieldsOf, headerOf};
 ghost use Rattle.header.specs.Code.{octetsTold};
 
-// Whether SERVICE is one that a rate allows.
+// Whether SERVICE is one that a rate allows: 0 or 4, and at 11 Mbit/s 128 or 132.
 fn service_allowed(r: Rate, service: u8) -> bool
     ensures answer { λ b. ⌜ b ≡ serviceAllowed r service ⌝ }
 {
+    if service == 0 {
+        return true;
+    }
+    if service == 4 {
+        return true;
+    }
     match r {
-        Rate::One => service == 0,
-        Rate::Two => service == 0,
-        Rate::Five => service == 0,
+        Rate::One => false,
+        Rate::Two => false,
+        Rate::Five => false,
         Rate::Eleven => {
-            if service == 0 {
+            if service == 128 {
                 return true;
             }
-            service == 128
+            service == 132
         }
     }
 }
@@ -87,7 +93,13 @@ fn fields_of(k: Kind, signal: u8, service: u8, length: usize) -> Front
     if n == 0 {
         return Front::Refused(Refusal::Length { length });
     }
-    let told = Told { rate: r, length, n };
+    let clock = service / 4 % 2 == 1;
+    let told = Told {
+        rate: r,
+        length,
+        n,
+        clock,
+    };
     Front::Fields(told)
 }
 
@@ -154,13 +166,13 @@ pub fn octets_of(signal: u8, service: u8, micros: u16) -> [u8; 6]
     [signal, service, low, high, crc[0], crc[1]]
 }
 
-// The header of a frame of n octets.
-pub fn header_octets(r: Rate, n: usize) -> [u8; 6]
+// The header of a frame of n octets, the clock bit set or not.
+pub fn header_octets(r: Rate, clock: bool, n: usize) -> [u8; 6]
     requires { ⌜ n ≤ 4095 ⌝ }
-    ensures answer { λ h. ⌜ (octetBits h ≡ sentHeader r n) × (length h ≡ 6) ⌝ }
+    ensures answer { λ h. ⌜ (octetBits h ≡ sentHeader r clock n) × (length h ≡ 6) ⌝ }
 {
     let signal = r.code() as u8;
-    let service = 128 * r.bit7(n);
+    let service = 4 * (clock as u8) + 128 * r.bit7(n);
     let micros = r.length_field(n) as u16;
     octets_of(signal, service, micros)
 }

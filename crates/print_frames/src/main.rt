@@ -43,13 +43,18 @@ fn print_chips(kind: u64, chips: &[u8]) {
     io::write_all(STDOUT_FILENO, b"\n");
 }
 
-fn print_given(kind: u64, rate: u64, phase: u64) {
+// The clock is named where it is set.
+fn print_given(kind: u64, rate: u64, phase: u64, clock: u64) {
     io::write_all(STDOUT_FILENO, b"kind ");
     io::print_decimal(STDOUT_FILENO, kind);
     io::write_all(STDOUT_FILENO, b" rate ");
     io::print_decimal(STDOUT_FILENO, rate);
     io::write_all(STDOUT_FILENO, b" phase ");
     io::print_decimal(STDOUT_FILENO, phase);
+    if clock != 0 {
+        io::write_all(STDOUT_FILENO, b" clock ");
+        io::print_decimal(STDOUT_FILENO, clock);
+    }
 }
 
 fn print_answer(written: Written, all: u64) {
@@ -63,11 +68,11 @@ fn print_answer(written: Written, all: u64) {
 }
 
 // A frame of 24 octets: the answer, all of the buffer as one number, and chips.
-fn print_frame(kind: u64, rate: u64, phase: u64) {
+fn print_frame(kind: u64, rate: u64, phase: u64, clock: u64) {
     let payload = *b"The frame's 24 octets ..";
     let mut chips = [0u8; 4300];
-    let written = writer::write(kind, rate, phase, &payload, &mut chips);
-    print_given(kind, rate, phase);
+    let written = writer::write(kind, rate, phase, clock, &payload, &mut chips);
+    print_given(kind, rate, phase, clock);
     print_answer(written, folded(&chips));
     print_chips(kind, &chips);
 }
@@ -101,10 +106,10 @@ fn print_lengths(r: Rate) {
 
 // A header's octets as bits, lowest first. IEEE Std 802.11b-1999, clause 18, has SIGNAL, SERVICE and LENGTH
 // 0101 0000 0000 0000 0000 0011 0000 0000, LENGTH 192 at 1 Mbit/s, with the CRC 0101 1011 0101 0111.
-fn print_header(r: Rate, n: usize)
+fn print_header(r: Rate, clock: bool, n: usize)
     requires { ⌜ n ≤ 4095 ⌝ }
 {
-    let octets = header::header_octets(r, n);
+    let octets = header::header_octets(r, clock, n);
     io::write_all(STDOUT_FILENO, b"header");
     let mut i = 0;
     while i < 6 {
@@ -127,17 +132,20 @@ fn print_header(r: Rate, n: usize)
 }
 
 fn main() {
-    print_frame(0, 10, 0);
-    print_frame(0, 20, 1);
-    print_frame(0, 55, 2);
-    print_frame(0, 110, 3);
-    print_frame(1, 10, 0);
-    print_frame(1, 20, 0);
-    print_frame(1, 55, 1);
-    print_frame(1, 110, 2);
+    print_frame(0, 10, 0, 0);
+    print_frame(0, 20, 1, 0);
+    print_frame(0, 55, 2, 0);
+    print_frame(0, 110, 3, 0);
+    print_frame(1, 10, 0, 0);
+    print_frame(1, 20, 0, 0);
+    print_frame(1, 55, 1, 0);
+    print_frame(1, 110, 2, 0);
     print_lengths(Rate::One);
     print_lengths(Rate::Two);
     print_lengths(Rate::Five);
     print_lengths(Rate::Eleven);
-    print_header(Rate::One, 24);
+    print_header(Rate::One, false, 24);
+    print_header(Rate::One, true, 24);
+    print_frame(0, 10, 0, 1);
+    print_frame(1, 110, 2, 256);
 }

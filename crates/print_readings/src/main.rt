@@ -14,13 +14,13 @@ mod cases;
 // ---- recordings
 
 // The frame of the first n of twelve octets, and 4s after it.
-fn written(kind: u64, rate: u64, phase: u64, n: usize) -> [u8; 2400]
+fn written(kind: u64, rate: u64, phase: u64, clock: u64, n: usize) -> [u8; 2400]
     requires { ⌜ n ≤ 12 ⌝ }
     ensures { λ r. ⌜ 2400 ≡ length r ⌝ }
 {
     let payload = [27, 198, 85, 255, 0, 2, 4, 8, 16, 32, 64, 128];
     let mut chips = [0u8; 2400];
-    writer::write(kind, rate, phase, &payload[..n], &mut chips);
+    writer::write(kind, rate, phase, clock, &payload[..n], &mut chips);
     chips
 }
 
@@ -91,7 +91,7 @@ fn print_octets(octets: &[u8]) {
     }
 }
 
-// A line: the case, the record's six numbers, and the octet buffer.
+// A line: the case, the record's numbers, the last of them named where it is not 0, and the octet buffer.
 fn print_answer(name: &[u8], record: Record, octets: &[u8]) {
     io::write_all(STDOUT_FILENO, name);
     io::write_all(STDOUT_FILENO, b":");
@@ -101,6 +101,10 @@ fn print_answer(name: &[u8], record: Record, octets: &[u8]) {
     print_number(record.length);
     print_number(record.n);
     print_number(record.used);
+    if record.clock != 0 {
+        io::write_all(STDOUT_FILENO, b" clock");
+        print_number(record.clock);
+    }
     io::write_all(STDOUT_FILENO, b" |");
     print_octets(octets);
     io::write_all(STDOUT_FILENO, b"\n");

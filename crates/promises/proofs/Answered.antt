@@ -1,11 +1,13 @@
--- Facts: answers that the reader of bytes may give, computed from its contract. 1 before 7, 7 before 8; chips and
--- places counted in pairs of bytes. The frame is the short one that carries 3Dh at 11 Mbit/s: 1,056 + 8 chips.
--- Assumes nothing.
+-- Facts: answers that the reader of bytes, and that of soft rows that differ, may give, computed from their contracts.
+-- 1 before 7, 7 before 8; chips and places counted in pairs of bytes. The frame is the short one that carries 3Dh at 11
+-- Mbit/s with the clock bit set: 1,056 + 8 chips. Assumes nothing.
 use mathlib.Core.Path.{_≡_, refl, _∙_}
+use mathlib.Core.Bool.{true}
 use mathlib.Core.List.{List, [], _∷_, _++_, map}
 use Prim.Native.Nat.{ℕ, _+_, _%_}
 use lib.ListN.{take, drop}
 use lib.IntN.{ℤ, pos, negℤ}
+use lib.Ieee.{nan}
 use Rattle.rates.specs.declared.Rate.the-variants.{Eleven}
 use Rattle.chips.specs.Chips.{byteRecording}
 use Rattle.symbols.specs.Words.{barkerWord, cckWord}
@@ -58,7 +60,7 @@ use Rattle.reading.specs.Reading.{
   readingOf,
 }
 use Rattle.clean.specs.Clean.{byteRow}
-use Rattle.promises.specs.Calls.{ReadBytes, good, refused}
+use Rattle.promises.specs.Calls.{ReadSoft, ReadBytes, good, refused}
 
 -- what every answer to a row of bytes is
 abbrev pub Answers : ℕ → List ℤ → Record → Type 0
@@ -84,14 +86,23 @@ pub two-bytes : Answers 0 (take 2 three) (refused 8 0)
 unfolding readingOf frontOf byteRecording
 two-bytes a left r = r .answer ∙ refl
 
+-- soft rows of which either is longer: 7 too, before 8
+pub longer-q : (a : Record) (left : List ℕ) → ReadSoft 0 [] (nan ∷ []) 4 a left → a ≡ refused 7 0
+unfolding readingOf
+longer-q a left r = r .answer ∙ refl
+
+pub longer-i : (a : Record) (left : List ℕ) → ReadSoft 0 (nan ∷ []) [] 4 a left → a ≡ refused 7 0
+unfolding readingOf
+longer-i a left r = r .answer ∙ refl
+
 -- ---- a frame, one chip short of its front, and with its second symbol turned by 1
 pub short : List ℕ
-short = frame Short Eleven 0 (0x3D ∷ [])
+short = frame Short Eleven 0 true (0x3D ∷ [])
 
 pub turned : List ℕ
 turned = take 11 short ++ map (λ p. (p + 1) % 4) (take 11 (drop 11 short)) ++ drop 22 short
 
-pub read-back : Answers 1 (byteRow short) (good 110 1 1 1064)
+pub read-back : Answers 1 (byteRow short) (good 110 1 1 1064 1)
 unfolding
     short byteRow byteRecording barkerWord cckWord bitsOf octetBits growth symbolOf symbolsFrom symbolsOf
     chipsFrom lastPhase mixed scramble addWhere crcStep remainder crcBits preambleBits fieldBits headerBits sentHeader
@@ -109,7 +120,7 @@ unfolding
 cut-in-front a left r = r .answer ∙ refl
 
 pub place-of-ten : Answers 1 (byteRow turned)
-    (record { number = 10; place = 11; rate = 0; length = 0; n = 0; used = 0 })
+    (record { number = 10; place = 11; rate = 0; length = 0; n = 0; used = 0; clock = 0 })
 unfolding
     short turned byteRow byteRecording barkerWord cckWord bitsOf octetBits growth symbolOf symbolsFrom symbolsOf
     chipsFrom lastPhase mixed scramble addWhere crcStep remainder crcBits preambleBits fieldBits headerBits sentHeader

@@ -1,10 +1,11 @@
 -- Demand 2 from the contracts: what the writer left is read back, hard, as exact soft pairs or as bytes; with too
--- little room, or cut, it is refused as stated. The laws of clean frames (crate `clean`) say how they are read.
+-- little room, or cut, it is refused as stated. A read of any of the three is one of a clean recording (`cleanly`); the
+-- laws of clean frames (crate `clean`) say how they are read.
 -- Assumes nothing.
 use mathlib.Core.Path.{_≡_, refl, sym, ap, ap₂, _∙_, subst}
 use mathlib.Core.Bool.{Bool, true}
-use mathlib.Core.List.{List, _++_}
-use Prim.Native.Nat.{ℕ, _+_, _-_, _*_, _%_, _≤_, _<_}
+use mathlib.Core.List.{List, [], _∷_, _++_, append-nil}
+use Prim.Native.Nat.{ℕ, zero, suc, _+_, _-_, _*_, _%_, _≤_, _<_}
 use native.Mathlib.Omega.{arith}
 use borrow.Author.Tests.{eq-eqb, le-ltb}
 use lib.Dec.{eqb}
@@ -13,9 +14,14 @@ use lib.Seq.{take-at, take-append-le}
 use Rattle.rates.specs.declared.Rate.{Rate}
 use Rattle.rates.specs.Rates.{codeOf, isCode, rateOf, octetChips, lengthField}
 use Rattle.rates.proofs.Lengths.{is-payload}
+use Rattle.base.specs.Below.{Below}
+use Rattle.base.proofs.Below.{below-take}
 use Rattle.chips.specs.Chips.{Taken, hardRecording, softRecording, byteRecording}
+use Rattle.chips.proofs.Recorders.{length-hard, length-soft-same}
+use Rattle.chips.proofs.Bytes.{length-bytes}
 use Rattle.frame.specs.declared.Kind.{Kind}
-use Rattle.frame.specs.Frame.{isKind, kindOf, goesWith, frontChips, frame, frameChips}
+use Rattle.frame.specs.Frame.{isKind, kindOf, clockOf, clockBit, goesWith, frontChips, frame, frameChips}
+use Rattle.frame.proofs.Headers.{clock-some}
 use Rattle.frame.proofs.Sizes.{frame-length}
 use Rattle.calls.specs.declared.Writing.the-variants as writing
 use Rattle.calls.specs.declared.Written.{Written}
@@ -23,7 +29,8 @@ use Rattle.calls.specs.declared.Record.{Record}
 use Rattle.calls.specs.Answers.{writtenOf, recordOf}
 use Rattle.calls.specs.Writing.{writingOf, chipsAfter, chipsWritten}
 use Rattle.clean.specs.Clean.{cleanRecording, byteRow}
-use Rattle.clean.proofs.Recorded.{hard-recorded, soft-recorded, rows-agree, byte-recorded, byte-row-length, hard-take}
+use Rattle.clean.proofs.Recorded.{hard-recorded, soft-recorded, rows-agree, byte-recorded, byte-row-length}
+use Rattle.clean.proofs.Decided.{clean-take}
 use Rattle.clean.proofs.Back as clean
 use Rattle.promises.specs.Calls.{
   Read,
@@ -36,10 +43,15 @@ use Rattle.promises.specs.Calls.{
   short-5,
   short-11,
   Sent,
+  ReadOf,
+  of-hard,
+  of-soft,
+  of-bytes,
   good,
   refused,
+  shown,
 }
-use Rattle.promises.specs.Promises.{lengthOf, WrittenFrame, ReadBack, ReadBackSoft, ReadBackBytes, NotReadBack}
+use Rattle.promises.specs.Promises.{lengthOf, WrittenFrame, ReadBack, NotReadBack}
 
 -- what the seven pairs of kind and rate are by the definitions
 pub record Known (kind rate front octet : ℕ) : Type 0 where
@@ -66,8 +78,57 @@ known short-5 =
 known short-11 =
     record { kind-is = refl; rate-is = refl; together = refl; code-back = refl; front-is = refl; octet-is = refl }
 
-module _ (kind rate phase : ℕ) (payload : List ℕ) (w : Written) (chips : List ℕ)
-    (s : Sent kind rate phase payload w chips) where
+-- a clock as it is shown
+shown-is : (clock : ℕ) → clockBit (clockOf clock) ≡ shown clock
+shown-is zero = refl
+shown-is (suc clock) = ap clockBit (clock-some clock)
+
+-- a read of chips that something recorded clean, with so many after them
+record Cleanly (kind : ℕ) (sent : List ℕ) (after room : ℕ) (a : Record) (left : List ℕ) : Type 0 where
+  agree : Bool
+  same : agree ≡ true
+  rest : List Taken
+  rest-is : length rest ≡ after
+  read : Read kind agree (cleanRecording sent ++ rest) room a left
+
+cleanly : {kind : ℕ} {sent : List ℕ} {after room : ℕ} {a : Record} {left : List ℕ} → Below 4 sent
+    → ReadOf kind sent after room a left → Cleanly kind sent after room a left
+cleanly {kind} {sent} {after} {room} {a} {left} phases (of-hard tail e f) = record {
+  agree = true;
+  same = refl;
+  rest = hardRecording tail;
+  rest-is = length-hard tail ∙ e;
+  read = subst (λ (x : List Taken). Read kind true x room a left) (hard-recorded sent tail phases) f;
+}
+cleanly {kind} {sent} {after} {room} {a} {left} phases (of-soft i q i′ q′ h e e′ f) = record {
+  agree = eqb (length (i ++ i′)) (length (q ++ q′));
+  same =
+      eq-eqb (length (i ++ i′)) (length (q ++ q′))
+      (omega (arith, length-append i i′, length-append q q′, rows-agree sent i q h, e, e′));
+  rest = softRecording i′ q′;
+  rest-is = length-soft-same i′ q′ (e ∙ sym e′) ∙ e;
+  read =
+      subst (λ (x : List Taken). Read kind (eqb (length (i ++ i′)) (length (q ++ q′))) x room a left)
+      (soft-recorded sent i q i′ q′ h) f;
+}
+cleanly {kind} {sent} {after} {room} {a} {left} phases (of-bytes tail e f) = record {
+  agree = eqb (length (byteRow sent ++ tail) % 2) 0;
+  same =
+      eq-eqb (length (byteRow sent ++ tail) % 2) 0
+      (omega (arith, length-append (byteRow sent) tail, byte-row-length sent, e));
+  rest = byteRecording tail;
+  rest-is = length-bytes tail ∙ omega (arith, e);
+  read =
+      subst (λ (x : List Taken). Read kind (eqb (length (byteRow sent ++ tail) % 2) 0) x room a left)
+      (byte-recorded sent tail) f;
+}
+
+nothing : (xs : List Taken) → length xs ≡ 0 → xs ≡ []
+nothing [] e = refl
+nothing (x ∷ xs) e = absurd (omega arith)
+
+module _ (kind rate phase clock : ℕ) (payload : List ℕ) (w : Written) (chips : List ℕ)
+    (s : Sent kind rate phase clock payload w chips) where
   abbrev k : Kind
   k = kindOf kind
 
@@ -81,7 +142,7 @@ module _ (kind rate phase : ℕ) (payload : List ℕ) (w : Written) (chips : Lis
   c = frameChips k r n
 
   abbrev sent : List ℕ
-  sent = frame k r phase payload
+  sent = frame k r phase (clockOf clock) payload
 
   pair : Known kind rate (s .sendable .front) (s .sendable .octet)
   pair = known (s .sendable .goes)
@@ -114,112 +175,96 @@ module _ (kind rate phase : ℕ) (payload : List ℕ) (w : Written) (chips : Lis
   pub chips-are : chips ≡ sent ++ replicate (s .room - c) 4
   chips-are = s .wrote .chips ∙ after
     where
-      after : chipsWritten kind rate phase payload (s .room) ≡ sent ++ replicate (s .room - c) 4
-      after = unfold chipsWritten in ap (chipsAfter phase payload (s .room)) written
+      after : chipsWritten kind rate phase clock payload (s .room) ≡ sent ++ replicate (s .room - c) 4
+      after = unfold chipsWritten in ap (chipsAfter phase (clockOf clock) payload (s .room)) written
 
   sent-length : length sent ≡ c
-  sent-length = frame-length k r phase payload
+  sent-length = frame-length k r phase (clockOf clock) payload
 
   pub taken : take (w .chips) chips ≡ sent
   taken =
       ap₂ {C = List ℕ} (λ j l. take j l) w-chips chips-are ∙ take-at sent (replicate (s .room - c) 4) c sent-length
 
-  -- a recording of the whole frame, clean, with anything after it
-  module _ (rest rec : List Taken) (e : rec ≡ cleanRecording sent ++ rest) (agree : Bool) (room : ℕ) (a : Record)
-      (left : List ℕ) (same : agree ≡ true) (f : Read kind agree rec room a left) where
-    f′ : Read kind agree (cleanRecording sent ++ rest) room a left
-    f′ = subst (λ (x : List Taken). Read kind agree x room a left) e f
+  phases : Below 4 sent
+  phases = clean.phases kind r phase (clockOf clock) payload (pair .kind-is) lp
+
+  -- ---- whole, with anything after it
+  module _ (after room : ℕ) (a : Record) (left : List ℕ)
+      (f : ReadOf kind (take (w .chips) chips) after room a left) where
+    f′ : Cleanly kind sent after room a left
+    f′ = cleanly phases (subst (λ (x : List ℕ). ReadOf kind x after room a left) taken f)
 
     pub back : n ≤ room
-        → (a ≡ good rate (lengthOf rate payload) n (w .chips)) × (left ≡ payload ++ replicate (room - n) 0)
+        → (a ≡ good rate (lengthOf rate payload) n (w .chips) (shown clock))
+        × (left ≡ payload ++ replicate (room - n) 0)
     back h = (
-      f′ .answer
-          ∙ ap recordOf (clean.good-reading kind r phase payload (pair .kind-is) lp (pair .together)
-          (s .sendable .some) (s .sendable .few) rest room agree same h)
-          ∙ ap₂ {C = Record} (λ x y. good x (lengthField r n) n y) (pair .code-back) (sym w-chips),
-      f′ .octets
-          ∙ clean.good-octets kind r phase payload (pair .kind-is) lp (pair .together) (s .sendable .some)
-          (s .sendable .few) rest room agree same h (s .sendable .octets),
+      f′ .read .answer
+          ∙ ap recordOf (clean.good-reading kind r phase (clockOf clock) payload (pair .kind-is) lp (pair .together)
+          (s .sendable .some) (s .sendable .few) (f′ .rest) room (f′ .agree) (f′ .same) h)
+          ∙ as-shown,
+      f′ .read .octets
+          ∙ clean.good-octets kind r phase (clockOf clock) payload (pair .kind-is) lp (pair .together)
+          (s .sendable .some) (s .sendable .few) (f′ .rest) room (f′ .agree) (f′ .same) h (s .sendable .octets),
     )
+      where
+        as-shown : good (codeOf r) (lengthField r n) n c (clockBit (clockOf clock))
+            ≡ good rate (lengthField r n) n (w .chips) (shown clock)
+        as-shown =
+            ap₂ {C = Record} (λ x y. good x (lengthField r n) n y (clockBit (clockOf clock))) (pair .code-back)
+            (sym w-chips)
+            ∙ ap (good rate (lengthField r n) n (w .chips)) (shown-is clock)
 
     pub too-small : room < n → a ≡ refused 17 (lengthOf rate payload)
     too-small h =
-        f′ .answer
-        ∙ ap recordOf (clean.room-refused kind r phase payload (pair .kind-is) lp (pair .together)
-        (s .sendable .some) (s .sendable .few) rest room agree same h)
-
-  pub hard-rec : (tail : List ℕ)
-      → hardRecording (take (w .chips) chips ++ tail) ≡ cleanRecording sent ++ hardRecording tail
-  hard-rec tail =
-      ap (λ (x : List ℕ). hardRecording (x ++ tail)) taken
-      ∙ hard-recorded sent tail (clean.phases kind r phase payload (pair .kind-is) lp)
+        f′ .read .answer
+        ∙ ap recordOf (clean.room-refused kind r phase (clockOf clock) payload (pair .kind-is) lp (pair .together)
+        (s .sendable .some) (s .sendable .few) (f′ .rest) room (f′ .agree) (f′ .same) h)
 
   -- ---- cut short
-  module _ (j room : ℕ) (a : Record) (left : List ℕ)
-      (f : Read kind true (hardRecording (take j chips)) room a left) where
-    g : j ≤ c → Read kind true (take j (cleanRecording sent)) room a left
-    g h =
-        subst (λ (x : List Taken). Read kind true x room a left)
-        (ap hardRecording
-        (ap (take j) chips-are ∙ take-append-le j sent (replicate (s .room - c) 4) (omega (arith, sent-length)))
-        ∙ hard-take j sent (clean.phases kind r phase payload (pair .kind-is) lp))
-        f
+  module _ (j room : ℕ) (a : Record) (left : List ℕ) (f : ReadOf kind (take j chips) 0 room a left) (less : j < c) where
+    g : Cleanly kind (take j sent) 0 room a left
+    g =
+        cleanly (below-take j phases)
+        (subst (λ (x : List ℕ). ReadOf kind x 0 room a left)
+        (ap (take j) chips-are ∙ take-append-le j sent (replicate (s .room - c) 4) (omega (arith, sent-length))) f)
+
+    -- with nothing after it
+    g′ : Read kind (g .agree) (take j (cleanRecording sent)) room a left
+    g′ =
+        subst (λ (x : List Taken). Read kind (g .agree) x room a left)
+        (ap (λ (x : List Taken). cleanRecording (take j sent) ++ x) (nothing (g .rest) (g .rest-is))
+        ∙ append-nil (cleanRecording (take j sent)) ∙ sym (clean-take j sent))
+        (g .read)
 
     pub in-front : j < s .sendable .front → a ≡ refused 8 0
     in-front h =
-        let less : j < c = omega (arith, size) in
-        g (omega arith) .answer
-        ∙ ap recordOf (clean.front-refused kind r phase payload (pair .kind-is) lp (pair .together)
-        (s .sendable .some) (s .sendable .few) j room less (omega (arith, pair .front-is)))
+        g′ .answer
+        ∙ ap recordOf (clean.front-refused kind r phase (clockOf clock) payload (pair .kind-is) lp (pair .together)
+        (s .sendable .some) (s .sendable .few) j room less (g .agree) (g .same) (omega (arith, pair .front-is)))
 
-    pub in-payload : s .sendable .front ≤ j → j < w .chips → a ≡ refused 16 (lengthOf rate payload)
-    in-payload h i =
-        let less : j < c = subst (λ (x : ℕ). j < x) w-chips i in
-        g (omega arith) .answer
-        ∙ ap recordOf (clean.payload-refused kind r phase payload (pair .kind-is) lp (pair .together)
-        (s .sendable .some) (s .sendable .few) j room less (omega (arith, pair .front-is)))
+    pub in-payload : s .sendable .front ≤ j → a ≡ refused 16 (lengthOf rate payload)
+    in-payload h =
+        g′ .answer
+        ∙ ap recordOf (clean.payload-refused kind r phase (clockOf clock) payload (pair .kind-is) lp (pair .together)
+        (s .sendable .some) (s .sendable .few) j room less (g .agree) (g .same) (omega (arith, pair .front-is)))
 
 -- ---- the statements
 pub written-frame : WrittenFrame
-written-frame kind rate phase payload w chips s = (
-  ap (λ (v : Written). v .number) (w-is kind rate phase payload w chips s),
-  w-chips kind rate phase payload w chips s ∙ size kind rate phase payload w chips s,
-  taken kind rate phase payload w chips s,
+written-frame kind rate phase clock payload w chips s = (
+  ap (λ (v : Written). v .number) (w-is kind rate phase clock payload w chips s),
+  w-chips kind rate phase clock payload w chips s ∙ size kind rate phase clock payload w chips s,
+  taken kind rate phase clock payload w chips s,
 )
 
 pub read-back : ReadBack
-read-back kind rate phase payload w chips s tail room a left f h =
-    back kind rate phase payload w chips s (hardRecording tail) _
-    (hard-rec kind rate phase payload w chips s tail) true room a left refl f h
-
-pub read-back-soft : ReadBackSoft
-read-back-soft kind rate phase payload w chips s i q i′ q′ room a left e g f h =
-    let rec : softRecording (i ++ i′) (q ++ q′)
-    ≡ cleanRecording (frame (kindOf kind) (rateOf rate) phase payload) ++ softRecording i′ q′ =
-    soft-recorded (take (w .chips) chips) i q i′ q′ e
-    ∙ ap (λ (x : List ℕ). cleanRecording x ++ softRecording i′ q′) (taken kind rate phase payload w chips s) in
-    let same : length (i ++ i′) ≡ length (q ++ q′) =
-    length-append i i′ ∙ ap₂ {C = ℕ} (λ x y. x + y) (rows-agree (take (w .chips) chips) i q e) g
-    ∙ sym (length-append q q′) in
-    back kind rate phase payload w chips s (softRecording i′ q′) (softRecording (i ++ i′) (q ++ q′)) rec
-    (eqb (length (i ++ i′)) (length (q ++ q′))) room a left (eq-eqb (length (i ++ i′)) (length (q ++ q′)) same) f h
-
-pub read-back-bytes : ReadBackBytes
-read-back-bytes kind rate phase payload w chips s tail room a left even f h =
-    let row = byteRow (take (w .chips) chips) in
-    let rec : byteRecording (row ++ tail)
-    ≡ cleanRecording (frame (kindOf kind) (rateOf rate) phase payload) ++ byteRecording tail =
-    byte-recorded (take (w .chips) chips) tail
-    ∙ ap (λ (x : List ℕ). cleanRecording x ++ byteRecording tail) (taken kind rate phase payload w chips s) in
-    let same : length (row ++ tail) % 2 ≡ 0 =
-    omega (arith, length-append row tail, byte-row-length (take (w .chips) chips), even) in
-    back kind rate phase payload w chips s (byteRecording tail) (byteRecording (row ++ tail)) rec
-    (eqb (length (row ++ tail) % 2) 0) room a left (eq-eqb (length (row ++ tail) % 2) 0 same) f h
+read-back kind rate phase clock payload w chips s after room a left f h =
+    back kind rate phase clock payload w chips s after room a left f h
 
 pub not-read-back : NotReadBack
-not-read-back kind rate phase payload w chips s room a left = (
-  (λ tail f h. too-small kind rate phase payload w chips s (hardRecording tail) _
-      (hard-rec kind rate phase payload w chips s tail) true room a left refl f h),
-  (λ j f h i. in-payload kind rate phase payload w chips s j room a left f h i),
-  λ j f h. in-front kind rate phase payload w chips s j room a left f h,
+not-read-back kind rate phase clock payload w chips s room a left = (
+  (λ after f h. too-small kind rate phase clock payload w chips s after room a left f h),
+  (λ j f h i. in-payload kind rate phase clock payload w chips s j room a left f
+      (subst (λ (x : ℕ). j < x) (w-chips kind rate phase clock payload w chips s) i) h),
+  λ j f h. in-front kind rate phase clock payload w chips s j room a left f
+      (omega (arith, size kind rate phase clock payload w chips s)) h,
 )

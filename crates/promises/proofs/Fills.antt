@@ -2,14 +2,14 @@
 -- refusal. By the cases of the enum answer; a good one holds the frame, or the payload, within its buffer. Assumes
 -- nothing.
 use mathlib.Core.Path.{_≡_, refl, sym, ap, ap₂, _∙_}
-use mathlib.Core.Bool.{Bool, true, false, cond, not}
+use mathlib.Core.Bool.{Bool, not}
 use mathlib.Core.List.{List}
-use mathlib.Core.Option.{Option, none, some}
 use Prim.Native.Nat.{ℕ, _-_, _≤_}
 use native.Mathlib.Omega.{arith}
-use lib.Dec.{T, ltb, nltb→le}
+use lib.Dec.{ltb, nltb→le}
 use lib.ListN.{length, take, drop, replicate, length-append, length-replicate}
 use lib.Seq.{drop-at}
+use Rattle.base.proofs.Tests.{branch}
 use Rattle.rates.specs.declared.Rate.{Rate}
 use Rattle.chips.specs.Chips.{Taken}
 use Rattle.bits.proofs.Bits.{octets-length}
@@ -42,12 +42,11 @@ use Rattle.calls.specs.declared.Reading.{Reading}
 use Rattle.calls.specs.declared.Reading.the-variants as reading
 use Rattle.calls.specs.declared.Written.{Written}
 use Rattle.calls.specs.declared.Record.{Record}
-use Rattle.frame.specs.Frame.{frame, frontChips, frameChips, isKind, kindOf}
+use Rattle.frame.specs.Frame.{frame, frontChips, frameChips, isKind, kindOf, clockOf}
 use Rattle.frame.proofs.Sizes.{frame-length}
 use Rattle.calls.specs.Answers.{refusalNumber, writtenOf, recordOf}
 use Rattle.calls.specs.Writing.{writingOf, chipsAfter, chipsWritten}
 use Rattle.reading.specs.Reading.{
-  orElse,
   firstUnusable,
   frontOf,
   payloadOdd,
@@ -59,6 +58,7 @@ use Rattle.reading.specs.Reading.{
   octetsAfter,
   octetsFound,
 }
+use Rattle.reading.proofs.Telling.{elsewise}
 use Rattle.calls.proofs.WriteGood.{accepted}
 use Rattle.promises.specs.Promises.{WriteFills, ReadFills}
 
@@ -82,11 +82,6 @@ some-number (Length l) h = omega arith
 some-number (Ends l) h = omega arith
 some-number (OctetRoom l) h = omega arith
 
--- a test, and what holds where it fails
-pub branch : {A : Type 0} (P : A → Type 0) (t : Bool) (x y : A) → P x → (T (not t) → P y) → P (cond t x y)
-branch P true x y h k = h
-branch P false x y h k = k tt
-
 -- ---- writing
 abbrev Fitting : ℕ → ℕ → Writing → Type 0
 Fitting n room (writing.Refused e) = Unit {0}
@@ -99,26 +94,26 @@ fitting kind rate phase n room = go (writingOf kind rate phase n room) refl
     go (writing.Refused e) h = tt
     go (writing.Good k r c) h = let a = accepted kind rate phase n room k r c h in (a .2, a .3)
 
-filled-chips : (phase : ℕ) (payload : List ℕ) (room : ℕ) (g : Writing) → Fitting (length payload) room g
-    → (length (chipsAfter phase payload room g) ≡ room)
-    × ((writtenOf g .number ≡ 0 → ⊥) → chipsAfter phase payload room g ≡ replicate room 4)
+filled-chips : (phase : ℕ) (clock : Bool) (payload : List ℕ) (room : ℕ) (g : Writing) → Fitting (length payload) room g
+    → (length (chipsAfter phase clock payload room g) ≡ room)
+    × ((writtenOf g .number ≡ 0 → ⊥) → chipsAfter phase clock payload room g ≡ replicate room 4)
     × (writtenOf g .number ≡ 0
-    → drop (writtenOf g .chips) (chipsAfter phase payload room g) ≡ replicate (room - writtenOf g .chips) 4)
-filled-chips phase payload room (writing.Refused e) h =
+    → drop (writtenOf g .chips) (chipsAfter phase clock payload room g) ≡ replicate (room - writtenOf g .chips) 4)
+filled-chips phase clock payload room (writing.Refused e) h =
     (length-replicate room 4, (λ z. refl), λ z. absurd (some-number e z))
-filled-chips phase payload room (writing.Good k r c) h =
-    let e : length (frame k r phase payload) ≡ c = frame-length k r phase payload ∙ sym (h .0) in
+filled-chips phase clock payload room (writing.Good k r c) h =
+    let e : length (frame k r phase clock payload) ≡ c = frame-length k r phase clock payload ∙ sym (h .0) in
     let within : c ≤ room = h .1 in (
-      length-append (frame k r phase payload) (replicate (room - c) 4)
+      length-append (frame k r phase clock payload) (replicate (room - c) 4)
           ∙ omega (arith, length-replicate {A = ℕ} (room - c) 4),
       (λ z. absurd (z refl)),
-      λ z. drop-at (frame k r phase payload) (replicate (room - c) 4) c e,
+      λ z. drop-at (frame k r phase clock payload) (replicate (room - c) 4) c e,
     )
 
 pub write-fills : WriteFills
 unfolding chipsWritten
-write-fills kind rate phase payload room w left h =
-    let f = filled-chips phase payload room (writingOf kind rate phase (length payload) room)
+write-fills kind rate phase clock payload room w left h =
+    let f = filled-chips phase (clockOf clock) payload room (writingOf kind rate phase (length payload) room)
     (fitting kind rate phase (length payload) room) in (
       ap length (h .chips) ∙ f .0,
       (λ z. h .chips ∙ f .1 (λ y. z (ap (λ (v : Written). v .number) (h .answer) ∙ y))),
@@ -131,11 +126,6 @@ write-fills kind rate phase payload room w left h =
 abbrev Fits : ℕ → Reading → Type 0
 Fits room (reading.Refused e) = Unit {0}
 Fits room (reading.Good t used) = t .n ≤ room
-
-pub elsewise : {A : Type 0} (P : A → Type 0) (o : Option ℕ) (f : ℕ → A) (y : A) → ((p : ℕ) → P (f p)) → P y
-    → P (orElse o f y)
-elsewise P none f y h k = k
-elsewise P (some p) f y h k = h p
 
 after-fits : (k : Kind) (rec : List Taken) (room : ℕ) (f : Front) → Fits room (afterFront k rec room f)
 unfolding payloadReading

@@ -5,41 +5,40 @@ use Rattle.chips.proofs.Meaning.{counted}
 use Rattle.clean.proofs.Rows.{soft-rows}
 use Rattle.promises.specs.Promises.{OneAnswer, Promised}
 use Rattle.promises.proofs.Fills.{write-fills, read-fills}
-use Rattle.promises.proofs.Only.{only-sent, only-readable, rows-refused, odd-bytes-refused}
+use Rattle.promises.proofs.Only.{only-sent, only-readable, refused-shows, rows-refused, odd-bytes-refused}
 use Rattle.promises.proofs.Never.{seven-only, no-byte-unusable}
-use Rattle.promises.proofs.Back.{written-frame, read-back, read-back-soft, read-back-bytes, not-read-back}
+use Rattle.promises.proofs.Back.{written-frame, read-back, not-read-back}
 use Rattle.promises.proofs.Source.{one-source}
 use Rattle.promises.proofs.Right.{recorded-right, hard-right, soft-right, bytes-right}
 
 -- each contract is an equation with a definition
-pub one-answer : OneAnswer
+one-answer : OneAnswer
 one-answer = (
-  (λ kind rate phase payload room w w′ left left′ f g. (f .answer ∙ sym (g .answer), f .chips ∙ sym (g .chips))),
+  (λ kind rate phase clock payload room w w′ left left′ f g. (f .answer ∙ sym (g .answer), f .chips ∙ sym (g .chips))),
   λ kind agree rec room a a′ left left′ f g. (f .answer ∙ sym (g .answer), f .octets ∙ sym (g .octets)),
 )
 
 pub kept : Promised
-kept = (
-  write-fills,
-  read-fills,
-  only-sent,
-  only-readable,
-  rows-refused,
-  odd-bytes-refused,
-  seven-only,
-  no-byte-unusable,
-  written-frame,
-  read-back,
-  read-back-soft,
-  read-back-bytes,
-  not-read-back,
-  one-source,
-  soft-rows,
-  counted,
-  recorded-right,
-  hard-right,
-  soft-right,
-  bytes-right,
-  one-answer,
-  table-p,
-)
+kept = record {
+  write-fills = write-fills;
+  read-fills = read-fills;
+  only-sent = only-sent;
+  only-readable = only-readable;
+  refused-shows = refused-shows;
+  rows-refused = rows-refused;
+  odd-bytes-refused = odd-bytes-refused;
+  seven-only = seven-only;
+  no-byte-unusable = no-byte-unusable;
+  written-frame = written-frame;
+  read-back = read-back;
+  not-read-back = not-read-back;
+  one-source = one-source;
+  soft-rows = soft-rows;
+  half-a-count = counted;
+  recorded-right = recorded-right;
+  hard-right = hard-right;
+  soft-right = soft-right;
+  bytes-right = bytes-right;
+  one-answer = one-answer;
+  table-p = table-p;
+}

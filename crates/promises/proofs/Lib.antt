@@ -5,5 +5,7 @@ pub mod Back
 pub mod Source
 pub mod Right
 pub mod Answered
-pub mod Uses
 pub mod Kept
+pub mod Uses
+pub mod UsesBack
+pub mod UsesRight

@@ -11,6 +11,7 @@ use borrow.Author.Tests.{eq-eqb}
 use lib.Dec.{T, lit≤, ltb, eqb}
 use lib.ListN.{length, take, drop}
 use lib.IntN.{ℤ}
+use Rattle.base.proofs.Tests.{branch}
 use Rattle.rates.specs.Rates.{isCode, rateOf, lengthHolds}
 use Rattle.chips.specs.Chips.{Taken, isUnusable, byteRecording}
 use Rattle.bits.specs.Bits.{numberOf}
@@ -52,7 +53,7 @@ use Rattle.reading.specs.Reading.{
 }
 use Rattle.promises.specs.Calls.{Read}
 use Rattle.promises.specs.Only.{SevenOnly, NoByteUnusable}
-use Rattle.promises.proofs.Fills.{branch, elsewise}
+use Rattle.reading.proofs.Telling.{elsewise}
 
 -- ---- a list of chips that are all usable, and its parts
 data NoneUnusable : List Taken → Type 0 where

@@ -1,24 +1,24 @@
 -- Nothing else is accepted: the tests of writing and reading, followed to a good answer. By the cases of each test;
 -- what holds where a refusal is not given is carried to the end. Assumes nothing.
 use mathlib.Core.Path.{_≡_, refl, sym, ap, _∙_, subst}
-use mathlib.Core.Bool.{Bool, true, false, not, _&&_}
+use mathlib.Core.Bool.{Bool, true, not}
 use mathlib.Core.List.{List}
-use Prim.Native.Nat.{ℕ, zero, suc, _-_, _/_, _%_, _≤_}
+use Prim.Native.Nat.{ℕ, zero, suc, _-_, _%_, _≤_}
 use native.Mathlib.Omega.{arith}
-use borrow.Author.Tests.{leb-true, eqb-true, lt-ltb, le-ltb, ne-eqb}
-use lib.Dec.{T, ltb, leb, eqb, nltb→le}
+use borrow.Author.Tests.{leb-true, lt-ltb, le-ltb, ne-eqb}
+use lib.Dec.{T, ltb, leb, nltb→le}
 use lib.ListN.{length, take, drop}
-use lib.IntN.{ℤ, pos, negsuc, natAbs}
+use lib.IntN.{pos}
 use Rattle.base.specs.Below.{Below}
+use Rattle.base.proofs.Tests.{held, left-is, right-is, branch}
 use Rattle.rates.specs.declared.Rate.{Rate}
 use Rattle.rates.specs.declared.Rate.the-variants.{One, Two, Five, Eleven}
-use Rattle.rates.specs.Rates.{codeOf, isCode, rateOf, octetChips, lengthField, bit7, octetsRead, isPayload, lengthHolds}
+use Rattle.rates.specs.Rates.{codeOf, isCode, rateOf, octetChips, lengthField, isPayload}
 use Rattle.rates.proofs.Facts.{no-other-code}
 use Rattle.chips.specs.Chips.{Taken}
-use Rattle.bits.specs.Bits.{numberOf}
-use Rattle.bits.specs.Crc.{crcBits}
 use Rattle.frame.specs.declared.Kind.{Kind}
-use Rattle.frame.specs.Frame.{isKind, kindOf, sfdOf, goesWith, frontChips, frameChips}
+use Rattle.frame.specs.Frame.{isKind, kindOf, goesWith, frontChips, frameChips}
+use Rattle.frame.proofs.Headers.{clock-lt}
 use Rattle.calls.specs.declared.Refusal.the-variants.{Unusable, OddGrowth}
 use Rattle.calls.specs.declared.Writing.{Writing}
 use Rattle.calls.specs.declared.Writing.the-variants as writing
@@ -30,33 +30,11 @@ use Rattle.calls.specs.declared.Written.{Written}
 use Rattle.calls.specs.declared.Record.{Record}
 use Rattle.calls.specs.Answers.{writtenOf, recordOf}
 use Rattle.calls.specs.Writing.{writingOf}
-use Rattle.calls.specs.Headers.{serviceAllowed, sameBits, fieldsOf, headerOf}
-use Rattle.reading.specs.Reading.{
-  firstUnusable,
-  frontOdd,
-  frontOf,
-  payloadOdd,
-  wholeOf,
-  payloadReading,
-  afterFront,
-  readingOf,
-}
+use Rattle.reading.specs.Reading.{firstUnusable, frontOf, payloadOdd, wholeOf, payloadReading, afterFront, readingOf}
 use Rattle.promises.specs.Calls.{Goes, long-1, long-2, long-5, long-11, short-2, short-5, short-11, Sent}
-use Rattle.promises.specs.Only.{OnlySent, Readable, OnlyReadable, RowsRefused, OddBytesRefused}
-use Rattle.promises.proofs.Fills.{some-number, branch, elsewise}
-
--- ---- tests
-yes : (b : Bool) → T (not (not b)) → b ≡ true
-yes true t = refl
-yes false t = absurd t
-
-left-is : (a b : Bool) → (a && b) ≡ true → a ≡ true
-left-is true b h = refl
-left-is false b h = h
-
-right-is : (a b : Bool) → (a && b) ≡ true → b ≡ true
-right-is true b h = h
-right-is false b h = absurd (subst T (sym h) tt)
+use Rattle.promises.specs.Only.{OnlySent, Readable, OnlyReadable, RefusedShows, RowsRefused, OddBytesRefused}
+use Rattle.reading.proofs.Telling.{elsewise, Telling, TellingIf, front-telling}
+use Rattle.promises.proofs.Fills.{some-number}
 
 -- ---- the kinds and the rates that go with them
 goes : (kind : ℕ) (r : Rate) → isKind kind ≡ true → goesWith (kindOf kind) r ≡ true
@@ -93,21 +71,21 @@ module _ (kind rate phase : ℕ) (payload : List ℕ) (room : ℕ) (octets : Bel
       (λ e. branch Sendable-in (ltb room (frameChips (kindOf kind) (rateOf rate) n)) _ _ tt
       (λ f. (
         subst (λ (x : ℕ). Goes kind x (frontChips (kindOf kind)) (octetChips (rateOf rate)))
-            (sym (no-other-code rate (yes _ b)))
-            (goes kind (rateOf rate) (yes _ a) (yes _ c)),
-        leb-true 1 n (left-is _ _ (yes _ d)),
-        leb-true n 4095 (right-is (leb 1 n) _ (yes _ d)),
+            (sym (no-other-code rate (held _ b)))
+            (goes kind (rateOf rate) (held _ a) (held _ c)),
+        leb-true 1 n (left-is _ _ (held _ d)),
+        leb-true n 4095 (right-is (leb 1 n) _ (held _ d)),
         nltb→le 3 phase e,
         nltb→le room (frameChips (kindOf kind) (rateOf rate) n) f,
       )))))))
 
 pub only-sent : OnlySent
-only-sent kind rate phase payload room w left octets wrote zero-is =
+only-sent kind rate phase clock payload room w left octets wrote zero-is =
     go (writingOf kind rate phase (length payload) room) (sendable-in kind rate phase payload room octets)
     (ap (λ (v : Written). v .number) (sym (wrote .answer)) ∙ zero-is)
   where
     go : (g : Writing) → Sendable-in kind rate phase payload room octets g → writtenOf g .number ≡ 0
-        → Sent kind rate phase payload w left
+        → Sent kind rate phase clock payload w left
     go (writing.Refused e) p z = absurd (some-number e z)
     go (writing.Good k r c) p z = record {
       room = room;
@@ -124,68 +102,16 @@ only-sent kind rate phase payload room w left octets wrote zero-is =
       wrote = wrote;
     }
 
--- ---- reading: what a header tells, then that the recording has the frame's chips, then room
-abbrev Told-in : Kind → Front → Type 0
-Told-in k (front.Refused e) = Unit {0}
-Told-in k (front.Fields t) =
-    (goesWith k (t .rate) ≡ true) × (1 ≤ t .n) × (t .n ≤ 4095) × (t .length ≡ lengthField (t .rate) (t .n))
-
-sized : (z : ℤ) → isPayload z ≡ true → (1 ≤ natAbs z) × (natAbs z ≤ 4095)
-sized (pos m) h = (leb-true 1 m (left-is _ _ h), leb-true m 4095 (right-is (leb 1 m) _ h))
-sized (negsuc m) h = absurd (subst T (sym h) tt)
-
-told-fields : (k : Kind) (signal service l : ℕ) → Told-in k (fieldsOf k signal service l)
-unfolding fieldsOf
-told-fields k signal service l =
-    let r = rateOf signal in
-    let seven = service / 128 % 2 in
-    let z = octetsRead r l seven in
-    let n = natAbs z in
-    branch (Told-in k) (not (isCode signal && goesWith k r)) _ _ tt
-    (λ a. branch (Told-in k) (not (serviceAllowed r service)) _ _ tt
-    (λ b. branch (Told-in k) (not (lengthHolds r l seven)) _ _ tt
-    (λ c. let h : lengthHolds r l seven ≡ true = yes (lengthHolds r l seven) c in
-    let s = sized z (first (isPayload z) (eqb (lengthField r n) l) (eqb (bit7 r n) seven) h) in (
-      right-is (isCode signal) (goesWith k r) (yes (isCode signal && goesWith k r) a),
-      s .0,
-      s .1,
-      sym (eqb-true (lengthField r n) l (second (isPayload z) (eqb (lengthField r n) l) (eqb (bit7 r n) seven) h)),
-    ))))
-  where
-    first : (a b c : Bool) → (a && b && c) ≡ true → a ≡ true
-    first true b c h = refl
-    first false b c h = h
-
-    second : (a b c : Bool) → (a && b && c) ≡ true → b ≡ true
-    second true true c h = refl
-    second true false c h = h
-    second false b c h = absurd (subst T (sym h) tt)
-
-told-header : (k : Kind) (sfd header : List ℕ) → Told-in k (headerOf k sfd header)
-unfolding headerOf
-told-header k sfd header =
-    branch (Told-in k) (not (eqb (numberOf sfd) (sfdOf k))) _ _ tt
-    (λ a. branch (Told-in k) (not (sameBits (crcBits (take 32 header)) (drop 32 header))) _ _ tt
-    (λ b. told-fields k (numberOf (take 8 header)) (numberOf (take 8 (drop 8 header)))
-    (numberOf (take 16 (drop 16 header)))))
-
-told-front : (k : Kind) (rec : List Taken) → Told-in k (frontOf k rec)
-unfolding frontOf
-told-front k rec =
-    branch (Told-in k) (ltb (length rec) (frontChips k)) _ _ tt
-    (λ a. elsewise (Told-in k) (firstUnusable 0 (take (frontChips k) rec)) (λ p. front.Refused (Unusable p 0)) _
-    (λ p. tt)
-    (elsewise (Told-in k) (frontOdd k rec) (λ p. front.Refused (OddGrowth p 0)) _ (λ p. tt) (told-header k _ _)))
-
+-- ---- reading: what a front tells, then that the recording has the frame's chips, then room
 module _ (kind : ℕ) (rec : List Taken) (room : ℕ) (kind-is : isKind kind ≡ true) where
   abbrev k : Kind
   k = kindOf kind
 
   abbrev Whole-in : Front → Type 0
   Whole-in (front.Refused e) = Unit {0}
-  Whole-in (front.Fields t) = Told-in k (front.Fields t) × (frameChips k (t .rate) (t .n) ≤ length rec)
+  Whole-in (front.Fields t) = Telling k t × (frameChips k (t .rate) (t .n) ≤ length rec)
 
-  whole-in : (f : Front) → Told-in k f → Whole-in (wholeOf k rec f)
+  whole-in : (f : Front) → TellingIf k f → Whole-in (wholeOf k rec f)
   whole-in (front.Refused e) h = tt
   whole-in (front.Fields t) h =
       let all = frameChips k (t .rate) (t .n) in
@@ -214,13 +140,14 @@ module _ (kind : ℕ) (rec : List Taken) (room : ℕ) (kind-is : isKind kind ≡
       (record {
         front = frontChips k;
         octet = octetChips r;
-        goes = goes kind r kind-is (h .0 .0);
-        some = h .0 .1;
-        few = h .0 .2;
-        length-is = h .0 .3 ∙ ap (λ (x : Rate). lengthField x (t .n)) (sym (code-back r));
+        goes = goes kind r kind-is (h .0 .goes);
+        some = h .0 .some-octets;
+        few = h .0 .few;
+        length-is = h .0 .length-is ∙ ap (λ (x : Rate). lengthField x (t .n)) (sym (code-back r));
         used-is = refl;
         there = h .1;
         fits = nltb→le room (t .n) b;
+        clock-is = clock-lt (t .clock);
       })))
 
 -- a whole reading, where kind and rows pass
@@ -236,10 +163,10 @@ agreed kind agree rec room =
     branch (Agreed kind agree rec room) (not (isKind kind)) _ _ tt
     (λ a. branch (Agreed kind agree rec room) (not agree) _ _ tt
     (λ b. let f = frontOf (kindOf kind) rec in
-    let known = yes (isKind kind) a in
-    with-rows known (yes agree b) (afterFront (kindOf kind) rec room (wholeOf (kindOf kind) rec f))
+    let known = held (isKind kind) a in
+    with-rows known (held agree b) (afterFront (kindOf kind) rec room (wholeOf (kindOf kind) rec f))
     (readable-in kind rec room known (wholeOf (kindOf kind) rec f)
-    (whole-in kind rec room known f (told-front (kindOf kind) rec)))))
+    (whole-in kind rec room known f (front-telling (kindOf kind) rec)))))
   where
     with-rows : (known : isKind kind ≡ true) → agree ≡ true → (g : Reading) → Readable-in kind rec room known g
         → Agreed kind agree rec room g
@@ -256,6 +183,17 @@ only-readable kind agree rec room a left read zero-is =
         → (agree ≡ true) × Readable kind (length rec) room (recordOf g)
     go (reading.Refused e) p z = absurd (some-number e z)
     go (reading.Good t used) p z = p
+
+-- ---- a refused record
+pub refused-shows : RefusedShows
+refused-shows kind agree rec room a left read some-is =
+    subst (λ (v : Record). (v .number ≡ 0 → ⊥) → (v .rate ≡ 0) × (v .n ≡ 0) × (v .used ≡ 0) × (v .clock ≡ 0))
+    (sym (read .answer)) (go (readingOf kind agree rec room)) some-is
+  where
+    go : (g : Reading) → (recordOf g .number ≡ 0 → ⊥)
+        → (recordOf g .rate ≡ 0) × (recordOf g .n ≡ 0) × (recordOf g .used ≡ 0) × (recordOf g .clock ≡ 0)
+    go (reading.Refused e) h = (refl, refl, refl, refl)
+    go (reading.Good t used) h = absurd (h refl)
 
 -- ---- soft rows that differ
 pub rows-refused : RowsRefused

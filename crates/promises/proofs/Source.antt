@@ -1,7 +1,7 @@
--- The chips of an accepted write have one source: reading them back tells rate and payload, and the first chip tells
--- the starting phase, since the first scrambled bit is the same for every frame of a kind. Assumes nothing.
+-- The chips of an accepted write have one source: reading them back tells rate, clock bit and payload, and the first
+-- chip tells the starting phase, since the first scrambled bit is the same for every frame of a kind. Assumes nothing.
 use mathlib.Core.Path.{_≡_, refl, sym, ap, ap₂, _∙_, subst}
-use mathlib.Core.Bool.{true}
+use mathlib.Core.Bool.{Bool, true}
 use mathlib.Core.List.{List, _++_}
 use Prim.Native.Nat.{ℕ, _+_, _-_, _≤_, _<_}
 use native.Mathlib.Omega.{arith}
@@ -19,29 +19,30 @@ use Rattle.frame.specs.declared.Kind.the-variants.{Long, Short}
 use Rattle.frame.proofs.Sizes.{frame-length}
 use Rattle.calls.specs.declared.Written.{Written}
 use Rattle.calls.specs.declared.Record.{Record}
-use Rattle.frame.specs.Frame.{kindOf, frontChips, preambleBits, frameBits, sentBits, partsChips, framed, frame}
+use Rattle.frame.specs.Frame.{kindOf, clockOf, frontChips, preambleBits, frameBits, sentBits, partsChips, framed, frame}
 use Rattle.calls.specs.Answers.{recordOf}
 use Rattle.reading.specs.Reading.{readingOf, octetsFound}
-use Rattle.promises.specs.Calls.{Read, Sent, good}
+use Rattle.promises.specs.Calls.{Read, Sent, of-hard, good, shown}
 use Rattle.promises.specs.Promises.{lengthOf, OneSource}
 use Rattle.promises.proofs.Back.{read-back, chips-are}
 
 -- the first scrambled bit is 0 for both kinds, so the first chip is the starting phase
-first-chip : (k : Kind) (r : Rate) (p : ℕ) (xs : List ℕ) → getD (frame k r p xs) 0 0 ≡ turned (turned p 0) 0
+first-chip : (k : Kind) (r : Rate) (p : ℕ) (clock : Bool) (xs : List ℕ)
+    → getD (frame k r p clock xs) 0 0 ≡ turned (turned p 0) 0
 unfolding
     frame framed partsChips sentBits frameBits preambleBits
     bitsOf scramble mixed symbolsOf symbolsFrom symbolOf chipsFrom barkerWord
-first-chip Long r p xs = refl
-first-chip Short r p xs = refl
+first-chip Long r p clock xs = refl
+first-chip Short r p clock xs = refl
 
-module _ (kind rate phase : ℕ) (payload : List ℕ) (w : Written) (chips : List ℕ)
-    (s : Sent kind rate phase payload w chips) where
+module _ (kind rate phase clock : ℕ) (payload : List ℕ) (w : Written) (chips : List ℕ)
+    (s : Sent kind rate phase clock payload w chips) where
   begins : getD chips 0 0 ≡ phase
   begins =
-      ap (λ (l : List ℕ). getD l 0 0) (chips-are kind rate phase payload w chips s)
-      ∙ List·getD-append (frame (kindOf kind) (rateOf rate) phase payload) _ 0 0
-      (omega (arith, frame-length (kindOf kind) (rateOf rate) phase payload, some-front (kindOf kind)))
-      ∙ first-chip (kindOf kind) (rateOf rate) phase payload ∙ itself phase (s .sendable .phase-is)
+      ap (λ (l : List ℕ). getD l 0 0) (chips-are kind rate phase clock payload w chips s)
+      ∙ List·getD-append (frame (kindOf kind) (rateOf rate) phase (clockOf clock) payload) _ 0 0
+      (omega (arith, frame-length (kindOf kind) (rateOf rate) phase (clockOf clock) payload, some-front (kindOf kind)))
+      ∙ first-chip (kindOf kind) (rateOf rate) phase (clockOf clock) payload ∙ itself phase (s .sendable .phase-is)
     where
       itself : (p : ℕ) → p < 4 → turned (turned p 0) 0 ≡ p
       itself p h = omega arith
@@ -53,26 +54,28 @@ module _ (kind rate phase : ℕ) (payload : List ℕ) (w : Written) (chips : Lis
   -- what a reading of all the chips answers, with room
   reads : (room : ℕ) → length payload ≤ room
       → (recordOf (readingOf kind true (hardRecording chips) room)
-      ≡ good rate (lengthOf rate payload) (length payload) (w .chips))
+      ≡ good rate (lengthOf rate payload) (length payload) (w .chips) (shown clock))
       × (octetsFound kind true (hardRecording chips) room ≡ payload ++ replicate (room - length payload) 0)
   reads room h =
-      read-back kind rate phase payload w chips s (drop (w .chips) chips) room _ _
+      read-back kind rate phase clock payload w chips s (length (drop (w .chips) chips)) room _ _
+      (of-hard (drop (w .chips) chips) refl
       (subst
       (λ (l : List ℕ). Read kind true (hardRecording l) room (recordOf (readingOf kind true (hardRecording chips) room))
       (octetsFound kind true (hardRecording chips) room))
-      (sym (take-append-drop (w .chips) chips)) (record { answer = refl; octets = refl }))
+      (sym (take-append-drop (w .chips) chips)) (record { answer = refl; octets = refl })))
       h
 
 pub one-source : OneSource
-one-source kind rate rate′ phase phase′ payload payload′ w w′ chips s t =
+one-source kind rate rate′ phase phase′ clock clock′ payload payload′ w w′ chips s t =
     let room = length payload + length payload′ in
-    let a = reads kind rate phase payload w chips s room (omega arith) in
-    let b = reads kind rate′ phase′ payload′ w′ chips t room (omega arith) in
-    let both : good rate (lengthOf rate payload) (length payload) (w .chips)
-    ≡ good rate′ (lengthOf rate′ payload′) (length payload′) (w′ .chips) = sym (a .0) ∙ b .0 in
+    let a = reads kind rate phase clock payload w chips s room (omega arith) in
+    let b = reads kind rate′ phase′ clock′ payload′ w′ chips t room (omega arith) in
+    let both : good rate (lengthOf rate payload) (length payload) (w .chips) (shown clock)
+    ≡ good rate′ (lengthOf rate′ payload′) (length payload′) (w′ .chips) (shown clock′) = sym (a .0) ∙ b .0 in
     let n : length payload ≡ length payload′ = ap (λ (x : Record). x .n) both in (
       ap (λ (x : Record). x .rate) both,
-      sym (begins kind rate phase payload w chips s) ∙ begins kind rate′ phase′ payload′ w′ chips t,
+      sym (begins kind rate phase clock payload w chips s) ∙ begins kind rate′ phase′ clock′ payload′ w′ chips t,
+      ap (λ (x : Record). x .clock) both,
       sym (take-at payload (replicate (room - length payload) 0) (length payload) refl)
           ∙ ap₂ {C = List ℕ} (λ j l. take j l) n (sym (a .1) ∙ b .1)
           ∙ take-at payload′ (replicate (room - length payload′) 0) (length payload′) refl,

@@ -1,68 +1,148 @@
--- Uses of the statements, so that none of them can be said of nothing; and exact values, in steps. Assumes nothing.
-use mathlib.Core.Path.{_≡_, refl, sym}
-use mathlib.Core.List.{List, [], _∷_, _++_}
-use Prim.Native.Nat.{ℕ, _+_, _*_, _/_, _^_, _≤_, _<_}
+-- Uses of demand 1's statements, of one answer and of Table P, as they are kept, so that none of them can be said of
+-- nothing and none can lose a part. Assumes nothing.
+use mathlib.Core.Path.{_≡_, refl, sym, ap}
+use mathlib.Core.Bool.{Bool, true, false}
+use mathlib.Core.List.{List, [], _∷_}
+use Prim.Native.Nat.{ℕ, suc, _+_, _-_, _*_, _≤_, _<_}
 use native.Mathlib.Omega.{arith}
-use lib.ListN.{length, getD, take}
-use lib.IntN.{ℤ, pos, negℤ}
-use lib.Ieee.{binary32, ofBits}
+use lib.ListN.{length, getD, take, drop, replicate}
+use lib.IntN.{ℤ}
+use lib.Ieee.{Float}
+use Rattle.base.specs.Below.{Below}
 use Rattle.rates.specs.declared.Rate.{Rate}
-use Rattle.rates.specs.declared.Rate.the-variants.{One}
-use Rattle.rates.specs.Rates.{symbolBits}
-use Rattle.chips.specs.Floats.{steps}
-use Rattle.chips.specs.Chips.{pair, nothing, hardRecording, byteRecording}
-use Rattle.frame.specs.declared.Kind.{Kind}
-use Rattle.frame.specs.Frame.{frontChips, frameChips, preambleLength}
-use Rattle.reading.specs.Reading.{preambleWords, payloadWords}
+use Rattle.rates.specs.Rates.{rateOf, lengthField}
+use Rattle.chips.specs.Chips.{Taken}
+use Rattle.frame.specs.declared.Kind.the-variants.{Long}
+use Rattle.frame.specs.Frame.{frame}
+use Rattle.frame.specs.TableP.{computed, printed}
 use Rattle.calls.specs.declared.Refusal.the-variants.{Unusable}
 use Rattle.calls.specs.Answers.{refusalNumber}
 use Rattle.calls.specs.declared.Written.{Written}
 use Rattle.calls.specs.declared.Record.{Record}
-use Rattle.clean.specs.Clean.{byteRow}
-use Rattle.promises.specs.Calls.{ReadBytes, Sent, good}
-use Rattle.promises.specs.Promises.{lengthOf}
-use Rattle.promises.specs.Right.{EachRight, exactHard, exactSoft, exactBytes}
-use Rattle.promises.proofs.Back.{read-back-bytes}
-use Rattle.promises.proofs.Never.{no-byte-unusable}
-use Rattle.promises.proofs.Right.{hard-right, bytes-right}
+use Rattle.promises.specs.Calls.{
+  Wrote,
+  Read,
+  ReadHard,
+  ReadSoft,
+  ReadBytes,
+  refused,
+  Goes,
+  long-1,
+  long-2,
+  long-5,
+  long-11,
+  short-2,
+  short-5,
+  short-11,
+  Sendable,
+}
+use Rattle.promises.proofs.Kept.{kept}
 
-pub exact-hard : exactHard (0 ∷ 1 ∷ 2 ∷ 3 ∷ 4 ∷ [])
-    ≡ pair (pos (2 ^ 149)) (pos 0) ∷ pair (pos 0) (pos (2 ^ 149)) ∷ pair (negℤ (pos (2 ^ 149))) (pos 0)
-    ∷ pair (pos 0) (negℤ (pos (2 ^ 149))) ∷ nothing ∷ []
-exact-hard = refl
+-- what the pairs of kind and rate say: two kinds, and 1 Mbit/s with the long one
+goes-kind : {kind rate front octet : ℕ} → Goes kind rate front octet → kind < 2
+goes-kind long-1 = omega arith
+goes-kind long-2 = omega arith
+goes-kind long-5 = omega arith
+goes-kind long-11 = omega arith
+goes-kind short-2 = omega arith
+goes-kind short-5 = omega arith
+goes-kind short-11 = omega arith
 
--- 2^-11, half a count, and a little more than it below 0
-pub exact-soft : exactSoft (ofBits binary32 0x3a00_0000 ∷ []) (ofBits binary32 0xba00_0001 ∷ [])
-    ≡ pair (pos (2 ^ 138)) (negℤ (pos (2 ^ 138 + 2 ^ 115))) ∷ []
-unfolding ofBits steps exactSoft
-exact-soft = refl
+pub goes-1 : {kind rate front octet : ℕ} → Goes kind rate front octet → rate ≡ 10
+    → (kind ≡ 0) × (front ≡ 2112) × (octet ≡ 88)
+goes-1 long-1 e = (refl, refl, refl)
+goes-1 long-2 e = absurd (omega arith)
+goes-1 long-5 e = absurd (omega arith)
+goes-1 long-11 e = absurd (omega arith)
+goes-1 short-2 e = absurd (omega arith)
+goes-1 short-5 e = absurd (omega arith)
+goes-1 short-11 e = absurd (omega arith)
 
-pub exact-bytes : exactBytes (pos 64 ∷ negℤ (pos 1) ∷ pos 5 ∷ [])
-    ≡ pair (pos (2 ^ 149)) (negℤ (pos (2 ^ 143))) ∷ []
-unfolding exactBytes
-exact-bytes = refl
+-- ---- a write: its buffer keeps its length and is 4s where refused; not refused, it could be sent, whatever the clock
+module _ (kind rate phase clock : ℕ) (payload : List ℕ) (room : ℕ) (w : Written) (left : List ℕ)
+    (f : Wrote kind rate phase clock payload room w left) where
+  pub chip-room-kept : length left ≡ room
+  chip-room-kept = kept .write-fills kind rate phase clock payload room w left f .0
 
-pub front-right : (k : Kind) (bytes : List ℤ) → 2 * frontChips k ≤ length bytes
-    → EachRight 0 One (preambleLength k) 0 (preambleWords k (byteRecording bytes)) (exactBytes bytes)
-front-right k bytes h = bytes-right bytes .preamble k (λ place l. omega arith)
+  pub refused-leaves-fours : (m : ℕ) → w .number ≡ suc m → left ≡ replicate room 4
+  refused-leaves-fours m e =
+      kept .write-fills kind rate phase clock payload room w left f .1 (λ z. omega (arith, z, e))
 
-pub payload-right : (k : Kind) (r : Rate) (n : ℕ) (bytes : List ℤ) → 2 * frameChips k r n ≤ length bytes
-    → EachRight 0 r (8 * n / symbolBits r) (frontChips k) (payloadWords k r n (byteRecording bytes)) (exactBytes bytes)
-payload-right k r n bytes h = bytes-right bytes .payload k r n (λ place g l. omega arith)
+  pub fours-follow : w .number ≡ 0 → drop (w .chips) left ≡ replicate (room - w .chips) 4
+  fours-follow e = kept .write-fills kind rate phase clock payload room w left f .2 e
 
-pub followed : (kind rate phase : ℕ) (payload : List ℕ) (w : Written) (chips : List ℕ)
-    → Sent kind rate phase payload w chips → (room : ℕ) (a : Record) (left : List ℕ)
-    → ReadBytes kind (byteRow (take (w .chips) chips) ++ (pos 127 ∷ negℤ (pos 128) ∷ [])) room a left
-    → length payload ≤ room → a ≡ good rate (lengthOf rate payload) (length payload) (w .chips)
-followed kind rate phase payload w chips s room a left f h =
-    read-back-bytes kind rate phase payload w chips s (pos 127 ∷ negℤ (pos 128) ∷ []) room a left refl f h .0
+  pub sendable-if-written : Below 256 payload → w .number ≡ 0 → Sendable kind rate phase payload
+  sendable-if-written octets e = kept .only-sent kind rate phase clock payload room w left octets f e .sendable
 
--- hard chips are good up to 4
-pub hard-front-right : (k : Kind) (octets : List ℕ) → ((place : ℕ) → place < frontChips k → getD octets place 5 ≤ 4)
-    → EachRight 0 One (preambleLength k) 0 (preambleWords k (hardRecording octets)) (exactHard octets)
-hard-front-right k octets h = hard-right octets .preamble k h
+  pub written-once : (w′ : Written) (left′ : List ℕ) → Wrote kind rate phase clock payload room w′ left′
+      → (w ≡ w′) × (left ≡ left′)
+  written-once w′ left′ g = kept .one-answer .0 kind rate phase clock payload room w w′ left left′ f g
+
+-- ---- a read, whatever recorded
+module _ (kind : ℕ) (agree : Bool) (rec : List Taken) (room : ℕ) (a : Record) (left : List ℕ)
+    (f : Read kind agree rec room a left) where
+  pub octet-room-kept : length left ≡ room
+  octet-room-kept = kept .read-fills kind agree rec room a left f .0
+
+  pub refused-leaves-zeros : (m : ℕ) → a .number ≡ suc m → left ≡ replicate room 0
+  refused-leaves-zeros m e = kept .read-fills kind agree rec room a left f .1 (λ z. omega (arith, z, e))
+
+  pub zeros-follow : a .number ≡ 0 → drop (a .n) left ≡ replicate (room - a .n) 0
+  zeros-follow e = kept .read-fills kind agree rec room a left f .2 e
+
+  pub refused-shows-none : (m : ℕ) → a .number ≡ suc m
+      → (a .rate ≡ 0) × (a .n ≡ 0) × (a .used ≡ 0) × (a .clock ≡ 0)
+  refused-shows-none m e = kept .refused-shows kind agree rec room a left f (λ z. omega (arith, z, e))
+
+  pub numbers-if-read : a .number ≡ 0
+      → (agree ≡ true) × (kind < 2) × (1 ≤ a .n) × (a .n ≤ 4095) × (a .n ≤ room) × (a .used ≤ length rec)
+      × (a .length ≡ lengthField (rateOf (a .rate)) (a .n)) × (a .clock < 2)
+  numbers-if-read e =
+      let o = kept .only-readable kind agree rec room a left f e in
+      let r = o .1 in
+      (o .0, goes-kind (r .goes), r .some, r .few, r .fits, r .there, r .length-is, r .clock-is)
+
+  pub used-at-1 : a .number ≡ 0 → a .rate ≡ 10 → (kind ≡ 0) × (a .used ≡ 2112 + 88 * a .n)
+  used-at-1 e ten =
+      let r = kept .only-readable kind agree rec room a left f e .1 in
+      let g = goes-1 (r .goes) ten in
+      (g .0, rw (sym (g .1), sym (g .2)) (r .used-is))
+
+  pub read-once : (a′ : Record) (left′ : List ℕ) → Read kind agree rec room a′ left′ → (a ≡ a′) × (left ≡ left′)
+  read-once a′ left′ g = kept .one-answer .1 kind agree rec room a a′ left left′ f g
+
+-- ---- 7: rows that differ, under either kind; and nowhere else
+pub shorter-i-refused : (kind : ℕ) (i q : List Float) (room : ℕ) (a : Record) (left : List ℕ) → kind < 2
+    → length i < length q → ReadSoft kind i q room a left → a ≡ refused 7 0
+shorter-i-refused kind i q room a left k l f =
+    kept .rows-refused kind i q room a left k (λ z. omega (arith, z, l)) f
+
+pub odd-refused : (kind : ℕ) (bytes : List ℤ) (n room : ℕ) (a : Record) (left : List ℕ) → kind < 2
+    → length bytes ≡ 2 * n + 1 → ReadBytes kind bytes room a left → a ≡ refused 7 0
+odd-refused kind bytes n room a left k e f =
+    kept .odd-bytes-refused kind bytes room a left k (omega (arith, e)) f
+
+pub no-seven : (kind : ℕ) (chips : List ℕ) (room : ℕ) (a : Record) (left : List ℕ) → ReadHard kind chips room a left
+    → a .number ≡ 7 → ⊥
+no-seven kind chips room a left f e = kept .seven-only .2 kind chips room a left f e
+
+pub no-seven-same : (kind : ℕ) (i : List Float) (room : ℕ) (a : Record) (left : List ℕ)
+    → ReadSoft kind i i room a left → a .number ≡ 7 → ⊥
+no-seven-same kind i room a left f e = kept .seven-only .0 kind i i room a left f e refl
+
+pub no-seven-even : (kind n : ℕ) (bytes : List ℤ) (room : ℕ) (a : Record) (left : List ℕ)
+    → ReadBytes kind bytes room a left → a .number ≡ 7 → length bytes ≡ 2 * n → ⊥
+no-seven-even kind n bytes room a left f e even =
+    kept .seven-only .1 kind bytes room a left f e (omega (arith, even))
 
 -- the number that never comes is 9
 pub never-nine : (kind : ℕ) (bytes : List ℤ) (room : ℕ) (a : Record) (left : List ℕ)
     → ReadBytes kind bytes room a left → refusalNumber (Unusable 0 0) ≡ a .number → ⊥
-never-nine kind bytes room a left f e = no-byte-unusable kind bytes room a left f (sym e)
+never-nine kind bytes room a left f e = kept .no-byte-unusable kind bytes room a left f (sym e)
+
+-- ---- Table P, entry 4
+pub entry-4 : (r : Rate) (payload : List ℕ)
+    → take 22 (frame Long r 0 false payload)
+    ≡ 0 ∷ 2 ∷ 0 ∷ 0 ∷ 2 ∷ 0 ∷ 0 ∷ 0 ∷ 2 ∷ 2 ∷ 2 ∷ 2 ∷ 0 ∷ 2 ∷ 2 ∷ 0 ∷ 2 ∷ 2 ∷ 2 ∷ 0 ∷ 0 ∷ 0 ∷ []
+unfolding computed printed
+entry-4 r payload = ap (λ (t : List (List (List ℕ))). getD (getD t 3 []) 0 []) (kept .table-p r payload)

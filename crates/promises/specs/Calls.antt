@@ -1,10 +1,10 @@
 -- What the calls promise: the records that the contracts of crate dsss cite, so that what is proved of them is proved
 -- of the programs; and what is said of their inputs, in plain numbers (RULES 1.4, 5.2, 5.4, 5.8, 6, 9.1).
 -- Definitions only. Assumes nothing.
-use Prim.Native.Nat.{ℕ, _+_, _*_, _%_, _≤_, _<_}
+use Prim.Native.Nat.{ℕ, zero, suc, _+_, _*_, _%_, _≤_, _<_}
 use mathlib.Core.Path.{_≡_}
 use mathlib.Core.Bool.{Bool, true}
-use mathlib.Core.List.{List}
+use mathlib.Core.List.{List, _++_}
 use lib.Dec.{eqb}
 use lib.ListN.{length}
 use lib.IntN.{ℤ}
@@ -16,11 +16,12 @@ use Rattle.calls.specs.declared.Record.{Record}
 use Rattle.calls.specs.Answers.{writtenOf, recordOf}
 use Rattle.calls.specs.Writing.{writingOf, chipsWritten}
 use Rattle.reading.specs.Reading.{readingOf, octetsFound}
+use Rattle.clean.specs.Clean.{Exactly, byteRow}
 
 -- the writer: its answer, and the chip buffer of `room` chips at the end
-pub record Wrote (kind rate phase : ℕ) (payload : List ℕ) (room : ℕ) (w : Written) (left : List ℕ) : Type 0 where
+pub record Wrote (kind rate phase clock : ℕ) (payload : List ℕ) (room : ℕ) (w : Written) (left : List ℕ) : Type 0 where
   pub answer : w ≡ writtenOf (writingOf kind rate phase (length payload) room)
-  pub chips : left ≡ chipsWritten kind rate phase payload room
+  pub chips : left ≡ chipsWritten kind rate phase clock payload room
 
 -- a reader, whatever recorded: its answer, and the octet buffer of `room` octets at the end
 pub record Read (kind : ℕ) (agree : Bool) (rec : List Taken) (room : ℕ) (a : Record) (left : List ℕ) : Type 0 where
@@ -38,11 +39,17 @@ abbrev pub ReadBytes : ℕ → List ℤ → ℕ → Record → List ℕ → Type
 ReadBytes kind bytes room a left = Read kind (eqb (length bytes % 2) 0) (byteRecording bytes) room a left
 
 -- a good read's answer, and a refused one's without a place
-abbrev pub good : ℕ → ℕ → ℕ → ℕ → Record
-good rate l n used = record { number = 0; place = 0; rate = rate; length = l; n = n; used = used }
+abbrev pub good : ℕ → ℕ → ℕ → ℕ → ℕ → Record
+good rate l n used clock =
+    record { number = 0; place = 0; rate = rate; length = l; n = n; used = used; clock = clock }
 
 abbrev pub refused : ℕ → ℕ → Record
-refused number l = record { number = number; place = 0; rate = 0; length = l; n = 0; used = 0 }
+refused number l = record { number = number; place = 0; rate = 0; length = l; n = 0; used = 0; clock = 0 }
+
+-- the clock bit that is shown of a clock handed to the writer: 0 is no, any other number yes
+abbrev pub shown : ℕ → ℕ
+shown zero = 0
+shown (suc clock) = 1
 
 -- the kinds and the rates that go with them, each with the chips of its front and of an octet
 pub data Goes : ℕ → ℕ → ℕ → ℕ → Type 0 where
@@ -65,8 +72,18 @@ pub record Sendable (kind rate phase : ℕ) (payload : List ℕ) : Type 0 where
   pub octets : Below 256 payload
 
 -- a write that a buffer of `room` chips holds, with what it answered and left
-pub record Sent (kind rate phase : ℕ) (payload : List ℕ) (w : Written) (left : List ℕ) : Type 0 where
+pub record Sent (kind rate phase clock : ℕ) (payload : List ℕ) (w : Written) (left : List ℕ) : Type 0 where
   pub room : ℕ
   pub sendable : Sendable kind rate phase payload
   pub holds : sendable .front + sendable .octet * length payload ≤ room
-  pub wrote : Wrote kind rate phase payload room w left
+  pub wrote : Wrote kind rate phase clock payload room w left
+
+-- a read of chips held by hard octets, by exact soft pairs or by bytes of 64, -64 and 0, and of so many chips of
+-- anything after them
+pub data ReadOf (kind : ℕ) (chips : List ℕ) (after room : ℕ) (a : Record) (left : List ℕ) : Type 0 where
+  of-hard : (tail : List ℕ) → length tail ≡ after → ReadHard kind (chips ++ tail) room a left
+      → ReadOf kind chips after room a left
+  of-soft : (i q i′ q′ : List Float) → Exactly chips i q → length i′ ≡ after → length q′ ≡ after
+      → ReadSoft kind (i ++ i′) (q ++ q′) room a left → ReadOf kind chips after room a left
+  of-bytes : (tail : List ℤ) → length tail ≡ 2 * after → ReadBytes kind (byteRow chips ++ tail) room a left
+      → ReadOf kind chips after room a left

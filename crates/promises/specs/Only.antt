@@ -18,11 +18,11 @@ use Rattle.promises.specs.Calls.{Wrote, Read, ReadHard, ReadSoft, ReadBy
 -- a write that answers 0 had a kind and a rate that goes with it, 1 to 4,095 octets, a phase, and room for the frame
 abbrev pub OnlySent : Type 0
 OnlySent =
-    (kind rate phase : ℕ) (payload : List ℕ) (room : ℕ) (w : Written) (left : List ℕ) → Below 256 payload
-    → Wrote kind rate phase payload room w left → w .number ≡ 0 → Sent kind rate phase payload w left
+    (kind rate phase clock : ℕ) (payload : List ℕ) (room : ℕ) (w : Written) (left : List ℕ) → Below 256 payload
+    → Wrote kind rate phase clock payload room w left → w .number ≡ 0 → Sent kind rate phase clock payload w left
 
--- what a read that answers 0 tells: a rate of its kind, 1 to 4,095 octets and their LENGTH, room for them, and the
--- chips of a frame that the recording has
+-- what a read that answers 0 tells: a rate of its kind, 1 to 4,095 octets and their LENGTH, room for them, the chips of
+-- a frame that the recording has, and a clock bit
 pub record Readable (kind : ℕ) (chips room : ℕ) (a : Record) : Type 0 where
   pub front : ℕ
   pub octet : ℕ
@@ -33,11 +33,19 @@ pub record Readable (kind : ℕ) (chips room : ℕ) (a : Record) : Type 0 where
   pub used-is : a .used ≡ front + octet * a .n
   pub there : a .used ≤ chips
   pub fits : a .n ≤ room
+  pub clock-is : a .clock < 2
 
 abbrev pub OnlyReadable : Type 0
 OnlyReadable =
     (kind : ℕ) (agree : Bool) (rec : List Taken) (room : ℕ) (a : Record) (left : List ℕ)
     → Read kind agree rec room a left → a .number ≡ 0 → (agree ≡ true) × Readable kind (length rec) room a
+
+-- one that answers another number shows no rate, no octets, no chips used and no clock bit
+abbrev pub RefusedShows : Type 0
+RefusedShows =
+    (kind : ℕ) (agree : Bool) (rec : List Taken) (room : ℕ) (a : Record) (left : List ℕ)
+    → Read kind agree rec room a left → (a .number ≡ 0 → ⊥)
+    → (a .rate ≡ 0) × (a .n ≡ 0) × (a .used ≡ 0) × (a .clock ≡ 0)
 
 -- soft rows that differ in length, and bytes of an odd number, are refused with 7 under either kind, whatever is in
 -- them

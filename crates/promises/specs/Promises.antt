@@ -4,13 +4,12 @@
 -- of reading takes its growths and bits from, the half a count and Table P of the definitions. proofs/Kept.antt proves
 -- all of it.
 -- Definitions only. Assumes nothing.
-use Prim.Native.Nat.{ℕ, _+_, _-_, _*_, _%_, _≤_, _<_}
+use Prim.Native.Nat.{ℕ, _+_, _-_, _*_, _≤_, _<_}
 use mathlib.Core.Path.{_≡_}
 use mathlib.Core.Bool.{Bool}
 use mathlib.Core.List.{List, _++_, map}
 use lib.ListN.{length, take, drop, replicate}
 use lib.Dec.{T}
-use lib.IntN.{ℤ}
 use lib.Ieee.{Float}
 use Rattle.base.specs.Below.{Below}
 use Rattle.rates.specs.Rates.{rateOf, lengthField}
@@ -18,19 +17,27 @@ use Rattle.chips.specs.Floats.{usable, valueOf, countOf, Nearest}
 use Rattle.chips.specs.Chips.{Taken}
 use Rattle.calls.specs.declared.Written.{Written}
 use Rattle.calls.specs.declared.Record.{Record}
-use Rattle.frame.specs.Frame.{kindOf, frame}
+use Rattle.frame.specs.Frame.{kindOf, clockOf, frame}
 use Rattle.frame.specs.TableP.{TableP}
-use Rattle.clean.specs.Clean.{Exactly, softI, softQ, byteRow}
-use Rattle.promises.specs.Calls.{Wrote, Read, ReadHard, ReadSoft, ReadBytes, good, refused, Sent}
+use Rattle.clean.specs.Clean.{Exactly, softI, softQ}
+use Rattle.promises.specs.Calls.{Wrote, Read, good, refused, shown, Sent, ReadOf}
 use Rattle.promises.specs.Right.{RecordedRight, HardRight, SoftRight, BytesRight}
-use Rattle.promises.specs.Only.{OnlySent, OnlyReadable, RowsRefused, OddBytesRefused, SevenOnly, NoByteUnusable}
+use Rattle.promises.specs.Only.{
+  OnlySent,
+  OnlyReadable,
+  RefusedShows,
+  RowsRefused,
+  OddBytesRefused,
+  SevenOnly,
+  NoByteUnusable,
+}
 
 -- ---- demand 1: fills. The buffers keep their length; after a refusal only the fill, after a good answer the fill
 -- to the end
 abbrev pub WriteFills : Type 0
 WriteFills =
-    (kind rate phase : ℕ) (payload : List ℕ) (room : ℕ) (w : Written) (left : List ℕ)
-    → Wrote kind rate phase payload room w left
+    (kind rate phase clock : ℕ) (payload : List ℕ) (room : ℕ) (w : Written) (left : List ℕ)
+    → Wrote kind rate phase clock payload room w left
     → (length left ≡ room)
     × ((w .number ≡ 0 → ⊥) → left ≡ replicate room 4)
     × (w .number ≡ 0 → drop (w .chips) left ≡ replicate (room - w .chips) 4)
@@ -48,67 +55,51 @@ ReadFills =
 -- the chips are the frame's, and a good write says how many
 abbrev pub WrittenFrame : Type 0
 WrittenFrame =
-    (kind rate phase : ℕ) (payload : List ℕ) (w : Written) (chips : List ℕ) (s : Sent kind rate phase payload w chips)
+    (kind rate phase clock : ℕ) (payload : List ℕ) (w : Written) (chips : List ℕ)
+    (s : Sent kind rate phase clock payload w chips)
     → (w .number ≡ 0)
     × (w .chips ≡ s .sendable .front + s .sendable .octet * length payload)
-    × (take (w .chips) chips ≡ frame (kindOf kind) (rateOf rate) phase payload)
+    × (take (w .chips) chips ≡ frame (kindOf kind) (rateOf rate) phase (clockOf clock) payload)
 
 -- LENGTH of a payload
 abbrev pub lengthOf : ℕ → List ℕ → ℕ
 lengthOf rate payload = lengthField (rateOf rate) (length payload)
 
--- what was written and whatever follows it, read under its kind with room: rate, LENGTH, n, chips used, payload
+-- what was written and whatever follows it, whatever recorded it, read under its kind with room: rate, LENGTH, n, chips
+-- used, the clock bit, payload
 abbrev pub ReadBack : Type 0
 ReadBack =
-    (kind rate phase : ℕ) (payload : List ℕ) (w : Written) (chips : List ℕ) → Sent kind rate phase payload w chips
-    → (tail : List ℕ) (room : ℕ) (a : Record) (left : List ℕ)
-    → ReadHard kind (take (w .chips) chips ++ tail) room a left
+    (kind rate phase clock : ℕ) (payload : List ℕ) (w : Written) (chips : List ℕ)
+    → Sent kind rate phase clock payload w chips
+    → (after room : ℕ) (a : Record) (left : List ℕ) → ReadOf kind (take (w .chips) chips) after room a left
     → length payload ≤ room
-    → (a ≡ good rate (lengthOf rate payload) (length payload) (w .chips))
+    → (a ≡ good rate (lengthOf rate payload) (length payload) (w .chips) (shown clock))
     × (left ≡ payload ++ replicate (room - length payload) 0)
 
--- the same from soft rows that hold the written chips as exact pairs
-abbrev pub ReadBackSoft : Type 0
-ReadBackSoft =
-    (kind rate phase : ℕ) (payload : List ℕ) (w : Written) (chips : List ℕ) → Sent kind rate phase payload w chips
-    → (i q i′ q′ : List Float) (room : ℕ) (a : Record) (left : List ℕ) → Exactly (take (w .chips) chips) i q
-    → length i′ ≡ length q′ → ReadSoft kind (i ++ i′) (q ++ q′) room a left → length payload ≤ room
-    → (a ≡ good rate (lengthOf rate payload) (length payload) (w .chips))
-    × (left ≡ payload ++ replicate (room - length payload) 0)
-
--- any phases can be held so, with either zero
+-- any phases can be held by exact pairs, with either zero
 abbrev pub SoftRows : Type 0
 SoftRows =
     (phases : List ℕ) → Below 4 phases
     → Exactly phases (map (softI 0) phases) (map (softQ 0) phases)
     × Exactly phases (map (softI 0x8000_0000) phases) (map (softQ 0x8000_0000) phases)
 
--- the same from bytes that hold the written chips as 64, -64 and 0, whatever chips follow
-abbrev pub ReadBackBytes : Type 0
-ReadBackBytes =
-    (kind rate phase : ℕ) (payload : List ℕ) (w : Written) (chips : List ℕ) → Sent kind rate phase payload w chips
-    → (tail : List ℤ) (room : ℕ) (a : Record) (left : List ℕ) → length tail % 2 ≡ 0
-    → ReadBytes kind (byteRow (take (w .chips) chips) ++ tail) room a left → length payload ≤ room
-    → (a ≡ good rate (lengthOf rate payload) (length payload) (w .chips))
-    × (left ≡ payload ++ replicate (room - length payload) 0)
-
 -- with too little room: 17; cut inside the payload: 16, whatever the room; cut inside the front: 8
 abbrev pub NotReadBack : Type 0
 NotReadBack =
-    (kind rate phase : ℕ) (payload : List ℕ) (w : Written) (chips : List ℕ) (s : Sent kind rate phase payload w chips)
-    (room : ℕ) (a : Record) (left : List ℕ)
-    → ((tail : List ℕ) → ReadHard kind (take (w .chips) chips ++ tail) room a left → room < length payload
+    (kind rate phase clock : ℕ) (payload : List ℕ) (w : Written) (chips : List ℕ)
+    (s : Sent kind rate phase clock payload w chips) (room : ℕ) (a : Record) (left : List ℕ)
+    → ((after : ℕ) → ReadOf kind (take (w .chips) chips) after room a left → room < length payload
     → a ≡ refused 17 (lengthOf rate payload))
-    × ((j : ℕ) → ReadHard kind (take j chips) room a left → s .sendable .front ≤ j → j < w .chips
+    × ((j : ℕ) → ReadOf kind (take j chips) 0 room a left → s .sendable .front ≤ j → j < w .chips
     → a ≡ refused 16 (lengthOf rate payload))
-    × ((j : ℕ) → ReadHard kind (take j chips) room a left → j < s .sendable .front → a ≡ refused 8 0)
+    × ((j : ℕ) → ReadOf kind (take j chips) 0 room a left → j < s .sendable .front → a ≡ refused 8 0)
 
--- two accepted writes of one kind that leave the same chips had the same rate, phase and payload
+-- two accepted writes of one kind that leave the same chips had the same rate, phase, clock and payload
 abbrev pub OneSource : Type 0
 OneSource =
-    (kind rate rate′ phase phase′ : ℕ) (payload payload′ : List ℕ) (w w′ : Written) (chips : List ℕ)
-    → Sent kind rate phase payload w chips → Sent kind rate′ phase′ payload′ w′ chips
-    → (rate ≡ rate′) × (phase ≡ phase′) × (payload ≡ payload′)
+    (kind rate rate′ phase phase′ clock clock′ : ℕ) (payload payload′ : List ℕ) (w w′ : Written) (chips : List ℕ)
+    → Sent kind rate phase clock payload w chips → Sent kind rate′ phase′ clock′ payload′ w′ chips
+    → (rate ≡ rate′) × (phase ≡ phase′) × (shown clock ≡ shown clock′) × (payload ≡ payload′)
 
 -- ---- counts: the whole number nearest to 1024 times the exact value, so the error is at most half a count
 abbrev pub HalfACount : Type 0
@@ -117,15 +108,32 @@ HalfACount = (x : Float) → T (usable x) → Nearest (valueOf x) (countOf x)
 -- ---- any two answers that a contract allows for one input are equal, and so are the buffers
 abbrev pub OneAnswer : Type 0
 OneAnswer =
-    ((kind rate phase : ℕ) (payload : List ℕ) (room : ℕ) (w w′ : Written) (left left′ : List ℕ)
-    → Wrote kind rate phase payload room w left → Wrote kind rate phase payload room w′ left′
+    ((kind rate phase clock : ℕ) (payload : List ℕ) (room : ℕ) (w w′ : Written) (left left′ : List ℕ)
+    → Wrote kind rate phase clock payload room w left → Wrote kind rate phase clock payload room w′ left′
     → (w ≡ w′) × (left ≡ left′))
     × ((kind : ℕ) (agree : Bool) (rec : List Taken) (room : ℕ) (a a′ : Record) (left left′ : List ℕ)
     → Read kind agree rec room a left → Read kind agree rec room a′ left′ → (a ≡ a′) × (left ≡ left′))
 
 -- ---- all of it
-abbrev pub Promised : Type 0
-Promised =
-    WriteFills × ReadFills × OnlySent × OnlyReadable × RowsRefused × OddBytesRefused × SevenOnly × NoByteUnusable
-    × WrittenFrame × ReadBack × ReadBackSoft × ReadBackBytes × NotReadBack × OneSource
-    × SoftRows × HalfACount × RecordedRight × HardRight × SoftRight × BytesRight × OneAnswer × TableP
+pub record Promised : Type 0 where
+  pub write-fills : WriteFills
+  pub read-fills : ReadFills
+  pub only-sent : OnlySent
+  pub only-readable : OnlyReadable
+  pub refused-shows : RefusedShows
+  pub rows-refused : RowsRefused
+  pub odd-bytes-refused : OddBytesRefused
+  pub seven-only : SevenOnly
+  pub no-byte-unusable : NoByteUnusable
+  pub written-frame : WrittenFrame
+  pub read-back : ReadBack
+  pub not-read-back : NotReadBack
+  pub one-source : OneSource
+  pub soft-rows : SoftRows
+  pub half-a-count : HalfACount
+  pub recorded-right : RecordedRight
+  pub hard-right : HardRight
+  pub soft-right : SoftRight
+  pub bytes-right : BytesRight
+  pub one-answer : OneAnswer
+  pub table-p : TableP

@@ -1,1 +1,3 @@
 pub mod ReadFacts
+pub mod Payloads
+pub mod Telling

@@ -1,8 +1,8 @@
 -- Recordings read, computed from the definition and compared with what RULES 6 says of each: number, place, rate code,
--- LENGTH, n, chips used. Each refusal, and each two neighbours in the order of checks that can be met together; the
--- octet buffer after good and refused reads. The long frame carries A5h and 3Ch at 1 Mbit/s (LENGTH 16; 2,112 + 176
--- chips), the short one 3Dh at 11 Mbit/s (LENGTH 1, bit 7 not set; 1,056 + 8 chips). What a header with a right CRC is
--- refused for stands in calls, HeaderFacts. Assumes nothing.
+-- LENGTH, n, chips used, the clock bit. Each refusal, and each two neighbours in the order of checks that can be met
+-- together; the octet buffer after good and refused reads. The long frame carries A5h and 3Ch at 1 Mbit/s and has the
+-- clock bit set (LENGTH 16; 2,112 + 176 chips), the short one 3Dh at 11 Mbit/s and has neither bit set (LENGTH 1;
+-- 1,056 + 8 chips). What a header with a right CRC is refused for stands in calls, HeaderFacts. Assumes nothing.
 use mathlib.Core.Path.{_≡_, refl}
 use mathlib.Core.Bool.{Bool, true, false}
 use mathlib.Core.Option.{none, some}
@@ -68,17 +68,17 @@ use Rattle.reading.specs.Reading.{
 }
 
 pub fields : Record → List ℕ
-fields a = a .number ∷ a .place ∷ a .rate ∷ a .length ∷ a .n ∷ a .used ∷ []
+fields a = a .number ∷ a .place ∷ a .rate ∷ a .length ∷ a .n ∷ a .used ∷ a .clock ∷ []
 
 -- the answer to a hard recording under a kind, its rows agreeing or not, with room for so many octets
 pub refused : ℕ → Bool → ℕ → List ℕ → List ℕ
 refused kind agree room chips = fields (recordOf (readingOf kind agree (hardRecording chips) room))
 
 pub long : List ℕ
-long = frame Long One 2 (0xA5 ∷ 0x3C ∷ [])
+long = frame Long One 2 true (0xA5 ∷ 0x3C ∷ [])
 
 pub short : List ℕ
-short = frame Short Eleven 3 (0x3D ∷ [])
+short = frame Short Eleven 3 false (0x3D ∷ [])
 
 -- a chip set to a value; eleven chips from a place turned by quarters
 pub spoilt : ℕ → ℕ → List ℕ → List ℕ
@@ -105,7 +105,7 @@ parts = refl
 -- refused, in the order of the checks, each alone and with its neighbour: 1; 1 and 7; 7; 7 and 8; 8 and 9; 8; 9 and
 -- 10, the 9 at the part's end; two 9s; 9 at chip 0; 10 in the preamble (a first symbol turned is seen in the
 -- second), at its last symbol, at the first and the last of a long header; 11; 12, of a short header whose first
--- symbol grew by an odd step; 16, 17 and 9; the payload's 10 at its first and its last symbol
+-- symbol grew by an odd step; 16, 17 and 9; 16; the payload's 10 at its first and its last symbol
 pub bad : refused 2 true 1 long ∷ refused 2 false 1 long ∷ refused 256 true 1 long
     ∷ refused 0 false 1 long ∷ refused 1 false 1 []
     ∷ refused 0 true 1 (take 2111 (spoilt 0 5 long)) ∷ refused 1 true 1 (take 1055 short)
@@ -115,18 +115,18 @@ pub bad : refused 2 true 1 long ∷ refused 2 false 1 long ∷ refused 256 true 
     ∷ refused 0 true 1 (turned 0 1 long) ∷ refused 0 true 1 (turned 1573 1 long)
     ∷ refused 0 true 1 (turned 1584 1 long) ∷ refused 0 true 1 (turned 2101 1 long)
     ∷ refused 1 true 1 (turned 682 2 short) ∷ refused 1 true 1 (turned 792 1 short)
-    ∷ refused 1 true 0 (take 1063 (spoilt 1060 5 short))
+    ∷ refused 1 true 0 (take 1063 (spoilt 1060 5 short)) ∷ refused 0 true 1 (take 2287 long)
     ∷ refused 0 true 2 (turned 2112 1 long) ∷ refused 0 true 2 (turned 2277 1 long) ∷ []
-    ≡ (1 ∷ 0 ∷ 0 ∷ 0 ∷ 0 ∷ 0 ∷ []) ∷ (1 ∷ 0 ∷ 0 ∷ 0 ∷ 0 ∷ 0 ∷ []) ∷ (1 ∷ 0 ∷ 0 ∷ 0 ∷ 0 ∷ 0 ∷ [])
-    ∷ (7 ∷ 0 ∷ 0 ∷ 0 ∷ 0 ∷ 0 ∷ []) ∷ (7 ∷ 0 ∷ 0 ∷ 0 ∷ 0 ∷ 0 ∷ [])
-    ∷ (8 ∷ 0 ∷ 0 ∷ 0 ∷ 0 ∷ 0 ∷ []) ∷ (8 ∷ 0 ∷ 0 ∷ 0 ∷ 0 ∷ 0 ∷ [])
-    ∷ (9 ∷ 2111 ∷ 0 ∷ 0 ∷ 0 ∷ 0 ∷ []) ∷ (9 ∷ 700 ∷ 0 ∷ 0 ∷ 0 ∷ 0 ∷ []) ∷ (9 ∷ 0 ∷ 0 ∷ 0 ∷ 0 ∷ 0 ∷ [])
-    ∷ (10 ∷ 11 ∷ 0 ∷ 0 ∷ 0 ∷ 0 ∷ []) ∷ (10 ∷ 781 ∷ 0 ∷ 0 ∷ 0 ∷ 0 ∷ [])
-    ∷ (10 ∷ 11 ∷ 0 ∷ 0 ∷ 0 ∷ 0 ∷ []) ∷ (10 ∷ 1573 ∷ 0 ∷ 0 ∷ 0 ∷ 0 ∷ [])
-    ∷ (10 ∷ 1584 ∷ 0 ∷ 0 ∷ 0 ∷ 0 ∷ []) ∷ (10 ∷ 2101 ∷ 0 ∷ 0 ∷ 0 ∷ 0 ∷ [])
-    ∷ (11 ∷ 0 ∷ 0 ∷ 0 ∷ 0 ∷ 0 ∷ []) ∷ (12 ∷ 0 ∷ 0 ∷ 0 ∷ 0 ∷ 0 ∷ [])
-    ∷ (16 ∷ 0 ∷ 0 ∷ 1 ∷ 0 ∷ 0 ∷ [])
-    ∷ (10 ∷ 2112 ∷ 0 ∷ 16 ∷ 0 ∷ 0 ∷ []) ∷ (10 ∷ 2277 ∷ 0 ∷ 16 ∷ 0 ∷ 0 ∷ []) ∷ []
+    ≡ (1 ∷ 0 ∷ 0 ∷ 0 ∷ 0 ∷ 0 ∷ 0 ∷ []) ∷ (1 ∷ 0 ∷ 0 ∷ 0 ∷ 0 ∷ 0 ∷ 0 ∷ []) ∷ (1 ∷ 0 ∷ 0 ∷ 0 ∷ 0 ∷ 0 ∷ 0 ∷ [])
+    ∷ (7 ∷ 0 ∷ 0 ∷ 0 ∷ 0 ∷ 0 ∷ 0 ∷ []) ∷ (7 ∷ 0 ∷ 0 ∷ 0 ∷ 0 ∷ 0 ∷ 0 ∷ [])
+    ∷ (8 ∷ 0 ∷ 0 ∷ 0 ∷ 0 ∷ 0 ∷ 0 ∷ []) ∷ (8 ∷ 0 ∷ 0 ∷ 0 ∷ 0 ∷ 0 ∷ 0 ∷ [])
+    ∷ (9 ∷ 2111 ∷ 0 ∷ 0 ∷ 0 ∷ 0 ∷ 0 ∷ []) ∷ (9 ∷ 700 ∷ 0 ∷ 0 ∷ 0 ∷ 0 ∷ 0 ∷ []) ∷ (9 ∷ 0 ∷ 0 ∷ 0 ∷ 0 ∷ 0 ∷ 0 ∷ [])
+    ∷ (10 ∷ 11 ∷ 0 ∷ 0 ∷ 0 ∷ 0 ∷ 0 ∷ []) ∷ (10 ∷ 781 ∷ 0 ∷ 0 ∷ 0 ∷ 0 ∷ 0 ∷ [])
+    ∷ (10 ∷ 11 ∷ 0 ∷ 0 ∷ 0 ∷ 0 ∷ 0 ∷ []) ∷ (10 ∷ 1573 ∷ 0 ∷ 0 ∷ 0 ∷ 0 ∷ 0 ∷ [])
+    ∷ (10 ∷ 1584 ∷ 0 ∷ 0 ∷ 0 ∷ 0 ∷ 0 ∷ []) ∷ (10 ∷ 2101 ∷ 0 ∷ 0 ∷ 0 ∷ 0 ∷ 0 ∷ [])
+    ∷ (11 ∷ 0 ∷ 0 ∷ 0 ∷ 0 ∷ 0 ∷ 0 ∷ []) ∷ (12 ∷ 0 ∷ 0 ∷ 0 ∷ 0 ∷ 0 ∷ 0 ∷ [])
+    ∷ (16 ∷ 0 ∷ 0 ∷ 1 ∷ 0 ∷ 0 ∷ 0 ∷ []) ∷ (16 ∷ 0 ∷ 0 ∷ 16 ∷ 0 ∷ 0 ∷ 0 ∷ [])
+    ∷ (10 ∷ 2112 ∷ 0 ∷ 16 ∷ 0 ∷ 0 ∷ 0 ∷ []) ∷ (10 ∷ 2277 ∷ 0 ∷ 16 ∷ 0 ∷ 0 ∷ 0 ∷ []) ∷ []
 unfolding
     fields refused long short spoilt turned hardRecording
     barkerWord cckWord score those going firstLargest decided
@@ -143,12 +143,12 @@ bad = refl
 abbrev behind : Kind → Told → ℕ → List ℕ → List ℕ
 behind k t room chips = fields (recordOf (payloadReading k t (hardRecording chips) room))
 
-pub payloads : behind Long (told One 16 2) 0 (spoilt 2199 5 long)
-    ∷ behind Long (told One 16 2) 2 (spoilt 2287 5 (turned 2112 1 long))
-    ∷ behind Long (told One 16 2) 2 (spoilt 2112 5 (spoilt 2200 5 long))
-    ∷ behind Short (told Eleven 1 1) 1 (spoilt 1063 77 short) ∷ []
-    ≡ (17 ∷ 0 ∷ 0 ∷ 16 ∷ 0 ∷ 0 ∷ []) ∷ (9 ∷ 2287 ∷ 0 ∷ 16 ∷ 0 ∷ 0 ∷ [])
-    ∷ (9 ∷ 2112 ∷ 0 ∷ 16 ∷ 0 ∷ 0 ∷ []) ∷ (9 ∷ 1063 ∷ 0 ∷ 1 ∷ 0 ∷ 0 ∷ []) ∷ []
+pub payloads : behind Long (told One 16 2 true) 0 (spoilt 2199 5 long)
+    ∷ behind Long (told One 16 2 true) 2 (spoilt 2287 5 (turned 2112 1 long))
+    ∷ behind Long (told One 16 2 true) 2 (spoilt 2112 5 (spoilt 2200 5 long))
+    ∷ behind Short (told Eleven 1 1 false) 1 (spoilt 1063 77 short) ∷ []
+    ≡ (17 ∷ 0 ∷ 0 ∷ 16 ∷ 0 ∷ 0 ∷ 0 ∷ []) ∷ (9 ∷ 2287 ∷ 0 ∷ 16 ∷ 0 ∷ 0 ∷ 0 ∷ [])
+    ∷ (9 ∷ 2112 ∷ 0 ∷ 16 ∷ 0 ∷ 0 ∷ 0 ∷ []) ∷ (9 ∷ 1063 ∷ 0 ∷ 1 ∷ 0 ∷ 0 ∷ 0 ∷ []) ∷ []
 unfolding
     fields long short spoilt turned hardRecording barkerWord cckWord bitsOf octetBits growth symbolOf symbolsFrom
     symbolsOf chipsFrom lastPhase mixed scramble addWhere crcStep remainder crcBits
@@ -159,7 +159,7 @@ payloads = refl
 -- half, of the short one the first, the sixth and the 48th. Its payload symbol grows by an odd step, as CCK symbols may
 pub good : refused 0 true 2 (turned 1309 2 (long ++ (9 ∷ 9 ∷ [])))
     ∷ refused 1 true 2 (turned 0 2 (turned 55 2 (turned 517 2 short))) ∷ []
-    ≡ (0 ∷ 0 ∷ 10 ∷ 16 ∷ 2 ∷ 2288 ∷ []) ∷ (0 ∷ 0 ∷ 110 ∷ 1 ∷ 1 ∷ 1064 ∷ []) ∷ []
+    ≡ (0 ∷ 0 ∷ 10 ∷ 16 ∷ 2 ∷ 2288 ∷ 1 ∷ []) ∷ (0 ∷ 0 ∷ 110 ∷ 1 ∷ 1 ∷ 1064 ∷ 0 ∷ []) ∷ []
 unfolding
     fields refused long short spoilt turned hardRecording
     barkerWord cckWord score those going firstLargest decided

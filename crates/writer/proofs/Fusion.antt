@@ -5,6 +5,7 @@
 --     length-front    the front's chips
 -- The scrambler's one run is cut where the parts end, and each part is `sent`. Assumes nothing.
 use mathlib.Core.Path.{_≡_, refl, sym, ap, ap₂, _∙_}
+use mathlib.Core.Bool.{Bool}
 use mathlib.Core.List.{List, [], _∷_, _++_, append-assoc}
 use Prim.Native.Nat.{ℕ, _+_, _*_}
 use native.Mathlib.Nat.{mul-zero}
@@ -112,9 +113,10 @@ length-front k p header e =
     sum Short = unfold preambleOctets in refl
 
 -- the frame that is sent
-pub frame-parts : (k : Kind) (r : Rate) (p : ℕ) (header xs : List ℕ) → octetBits header ≡ sentHeader r (length xs)
+pub frame-parts : (k : Kind) (r : Rate) (p : ℕ) (clock : Bool) (header xs : List ℕ)
+    → octetBits header ≡ sentHeader r clock (length xs)
     → length header ≡ 6
-    → frame k r p xs ≡ frontSent k p header ++ run r 0 (afterFront k p header) xs
+    → frame k r p clock xs ≡ frontSent k p header ++ run r 0 (afterFront k p header) xs
 unfolding frame
-frame-parts k r p header xs e six =
+frame-parts k r p clock header xs e six =
     ap (λ (h : List ℕ). framed k r p h xs) (sym e) ∙ framed-parts k r p header xs six

@@ -1,4 +1,4 @@
-// The writer: payload, rate, kind and starting phase to the chips of a frame. Every argument is checked
+// The writer: payload, rate, kind, starting phase and clock to the chips of a frame. Every argument is checked
 // first; whatever comes of it, the whole chip buffer is written.
 use calls::Writing;
 use calls::Written;
@@ -72,25 +72,33 @@ pub fn put_front(k: Kind, p: u8, header: &[u8], chips: &mut [u8]) -> Line
 }
 
 // The whole frame, and 4s to the buffer's end.
-fn put_frame(k: Kind, r: Rate, p: u8, payload: &[u8], count: usize, chips: &mut [u8])
+fn put_frame(k: Kind, r: Rate, p: u8, clock: bool, payload: &[u8], count: usize, chips: &mut [u8])
     requires { ⌜ (length (now payload) ≤ 4095) × (count ≡ frameChips k r (length (now payload)))
         × (count ≤ length (now chips)) ⌝ }
     ensures chips { λ _. ⌜ now (chips .exit)
-        ≡ frame k r p (now (payload .entry)) ++ replicate (length (now (chips .entry)) - count) 4 ⌝ }
+        ≡ frame k r p clock (now (payload .entry)) ++ replicate (length (now (chips .entry)) - count) 4 ⌝ }
 {
-    let header = header::header_octets(r, payload.len());
+    let header = header::header_octets(r, clock, payload.len());
     let l = put_front(k, p, &header, chips);
     let at = kinds::front_chips(k);
     sending::put_octets(r, l, payload, &mut chips[at..]);
     rows::fill(&mut chips[count..], 4);
 }
 
-// A frame's chips from its payload; the answer tells the refusal, or how many chips were written.
-pub fn write(kind: u64, rate: u64, phase: u64, payload: &[u8], chips: &mut [u8]) -> Written
+// A frame's chips from its payload; the answer tells the refusal, or how many chips were written. A clock of 0 is no,
+// any other yes.
+pub fn write(
+    kind: u64,
+    rate: u64,
+    phase: u64,
+    clock: u64,
+    payload: &[u8],
+    chips: &mut [u8],
+) -> Written
     ensures answer { λ w. ⌜ w ≡ writtenOf
         (writingOf kind rate phase (length (now (payload .entry))) (length (now (chips .entry)))) ⌝ }
     ensures chips { λ _. ⌜ now (chips .exit)
-        ≡ chipsWritten kind rate phase (now (payload .entry)) (length (now (chips .entry))) ⌝ }
+        ≡ chipsWritten kind rate phase clock (now (payload .entry)) (length (now (chips .entry))) ⌝ }
 {
     let writing = checks::check_write(kind, rate, phase, payload.len(), chips.len());
     let written = answers::written_of(writing);
@@ -104,7 +112,7 @@ pub fn write(kind: u64, rate: u64, phase: u64, payload: &[u8], chips: &mut [u8])
             rate: r,
             chips: count,
         } => {
-            put_frame(k, r, phase as u8, payload, count, chips);
+            put_frame(k, r, phase as u8, clock != 0, payload, count, chips);
             written
         }
     }

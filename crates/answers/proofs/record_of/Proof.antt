@@ -1,8 +1,10 @@
 -- `answers::record_of` meets its contract: the two cases are the definition's. Assumes nothing.
 use mathlib.Core.Path.{_≡_}
 use Prim.Native.Nat.{ℕ}
+use mir.Val.{boolByte}
 use borrow.Author.Needs.{needs}
 use Rattle.rates.specs.Rates.{codeOf}
+use Rattle.frame.proofs.Headers.{clock-byte}
 use Rattle.calls.specs.declared.Refusal.{Refusal}
 use Rattle.calls.specs.declared.Told.{Told}
 use Rattle.calls.specs.declared.Reading.{Reading}
@@ -14,14 +16,23 @@ use Rattle.answers.proofs.record_of.Tie as tie
 
 refused : (g : Reading) (e : Refusal) (number place length : ℕ) → g ≡ Refused e
     → number ≡ refusalNumber e → place ≡ refusalPlace e → length ≡ refusalLength e
-    → _≡_ {A = Record} (record { number = number; place = place; rate = 0; length = length; n = 0; used = 0 })
-    (recordOf g)
+    → _≡_ {A = Record}
+    (record { number = number; place = place; rate = 0; length = length; n = 0; used = 0; clock = 0 }) (recordOf g)
 refused g e number place length q a b c = rw (q, a, b, c)
 
 good : (g : Reading) (t : Told) (code used : ℕ) → g ≡ Good t used → code ≡ codeOf (t .rate)
     → _≡_ {A = Record}
-    (record { number = 0; place = 0; rate = code; length = t .length; n = t .n; used = used }) (recordOf g)
-good g t code used q a = rw (q, a)
+    (record {
+      number = 0;
+      place = 0;
+      rate = code;
+      length = t .length;
+      n = t .n;
+      used = used;
+      clock = boolByte (t .clock);
+    })
+    (recordOf g)
+good g t code used q a = rw (q, a, clock-byte (t .clock))
 
 returns : tie.Need-returns
 returns c =
@@ -29,11 +40,11 @@ returns c =
     (c .before .place-of .ensures) (c .length-of .ensures)
 
 returns-2 : tie.Need-returns-2
-returns-2 c = good _ _ _ _ (c .before .before .g2 .given .1) (c .code .ensures)
+returns-2 c = good _ _ _ _ (c .before .before .before .g2 .given .1) (c .before .code .ensures)
 
 pub record-of-spec : {M : Type 1} → statement M
 record-of-spec =
     tie.close
     (tie.spec
     (λ c. search needs) (λ c κs. search needs) (λ c κs. search needs) (λ c κs. search needs) (λ c. search needs)
-    (λ c κs. search needs) returns returns-2)
+    (λ c κs. search needs) (λ c. search needs) returns returns-2)

@@ -5,10 +5,10 @@ use Rattle.print_frames.proofs.print_header.Statement.{statement}
 use Rattle.print_frames.proofs.print_header.Tie as tie
 
 abbrev Inv-loop : tie.InvT-loop
-Inv-loop n octets i₀ t8 t9 i = i ≤ 6
+Inv-loop clock n octets i₀ t8 t9 i = i ≤ 6
 
 abbrev μ-loop : tie.MeasureT-loop
-μ-loop n octets i₀ t8 t9 i = 6 - i
+μ-loop clock n octets i₀ t8 t9 i = 6 - i
 
 pub print-header-spec : {M : Type 1} → statement M
 print-header-spec =

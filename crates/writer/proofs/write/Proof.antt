@@ -11,25 +11,25 @@ use Rattle.calls.specs.declared.Refusal.{Refusal}
 use Rattle.calls.specs.declared.Writing.{Writing}
 use Rattle.calls.specs.declared.Writing.the-variants.{Refused, Good}
 use Rattle.calls.specs.declared.Written.{Written}
-use Rattle.frame.specs.Frame.{frame}
+use Rattle.frame.specs.Frame.{clockOf, frame}
 use Rattle.calls.specs.Writing.{writingOf, chipsWritten}
 use Rattle.calls.specs.Answers.{writtenOf}
 use Rattle.calls.proofs.WriteGood.{accepted}
 use Rattle.writer.proofs.write.Statement.{statement}
 use Rattle.writer.proofs.write.Tie as tie
 
-refused : (kind rate phase m : ℕ) (xs z : List ℕ) (w : Writing) (a : Written) (e : Refusal)
+refused : (kind rate phase clock m : ℕ) (xs z : List ℕ) (w : Writing) (a : Written) (e : Refusal)
     → w ≡ writingOf kind rate phase (length xs) m → a ≡ writtenOf w → w ≡ Refused e → z ≡ replicate m 4
-    → (a ≡ writtenOf (writingOf kind rate phase (length xs) m)) × (z ≡ chipsWritten kind rate phase xs m)
+    → (a ≡ writtenOf (writingOf kind rate phase (length xs) m)) × (z ≡ chipsWritten kind rate phase clock xs m)
 unfolding chipsWritten
-refused kind rate phase m xs z w a e ew ea ee ez = (rw (← ew) ea, rw (← ew, ee) ez)
+refused kind rate phase clock m xs z w a e ew ea ee ez = (rw (← ew) ea, rw (← ew, ee) ez)
 
-framed : (kind rate phase m : ℕ) (xs z : List ℕ) (w : Writing) (a : Written) (k : Kind) (r : Rate) (c : ℕ)
+framed : (kind rate phase clock m : ℕ) (xs z : List ℕ) (w : Writing) (a : Written) (k : Kind) (r : Rate) (c : ℕ)
     → w ≡ writingOf kind rate phase (length xs) m → a ≡ writtenOf w → w ≡ Good k r c
-    → z ≡ frame k r phase xs ++ replicate (m - c) 4
-    → (a ≡ writtenOf (writingOf kind rate phase (length xs) m)) × (z ≡ chipsWritten kind rate phase xs m)
+    → z ≡ frame k r phase (clockOf clock) xs ++ replicate (m - c) 4
+    → (a ≡ writtenOf (writingOf kind rate phase (length xs) m)) × (z ≡ chipsWritten kind rate phase clock xs m)
 unfolding chipsWritten
-framed kind rate phase m xs z w a k r c ew ea ee ez = (rw (← ew) ea, rw (← ew, ee) ez)
+framed kind rate phase clock m xs z w a k r c ew ea ee ez = (rw (← ew) ea, rw (← ew, ee) ez)
 
 cast-put-frame : tie.Need-cast-put-frame
 cast-put-frame c =
@@ -45,14 +45,14 @@ put-frame-requires c κs =
 
 returns : tie.Need-returns
 returns c =
-    refused _ _ _ _ _ _ _ _ _ (c .before .before .before .before .before .before .before .check-write .ensures)
+    refused _ _ _ _ _ _ _ _ _ _ (c .before .before .before .before .before .before .before .check-write .ensures)
     (c .before .before .before .before .before .before .written-of .ensures)
     (c .before .before .before .before .enum-told .given .1)
     (c .before .before .fill .ensures)
 
 returns-2 : tie.Need-returns-2
 returns-2 c =
-    framed _ _ _ _ _ _ _ _ _ _ _ (c .before .before .before .before .before .before .before .before .check-write
+    framed _ _ _ _ _ _ _ _ _ _ _ _ (c .before .before .before .before .before .before .before .before .check-write
     .ensures) (c .before .before .before .before .before .before .before .written-of .ensures)
     (c .before .before .before .before .before .writing .given .1)
     (c .before .before .put-frame .ensures)

@@ -1,0 +1,143 @@
+-- Uses of demand 2's statements, as they are kept, so that none of them can be said of nothing and none can lose a
+-- part. Assumes nothing.
+use mathlib.Core.Path.{_≡_, refl, sym, subst}
+use mathlib.Core.Bool.{true, false}
+use mathlib.Core.List.{List, [], _∷_, _++_, append-nil, map}
+use Prim.Native.Nat.{ℕ, _+_, _-_, _*_, _/_, _%_, _^_, _≤_, _<_}
+use native.Mathlib.Omega.{arith}
+use lib.ListN.{length, take, replicate}
+use lib.IntN.{ℤ, pos, negℤ}
+use lib.Ieee.{Float}
+use Rattle.base.specs.Below.{Below}
+use Rattle.rates.specs.Rates.{rateOf}
+use Rattle.frame.specs.Frame.{kindOf, frame}
+use Rattle.calls.specs.declared.Written.{Written}
+use Rattle.calls.specs.declared.Record.{Record}
+use Rattle.clean.specs.Clean.{Exactly, softI, softQ, byteRow}
+use Rattle.promises.specs.Calls.{
+  ReadHard,
+  ReadSoft,
+  ReadBytes,
+  Sent,
+  of-hard,
+  of-soft,
+  of-bytes,
+  good,
+  refused,
+  shown,
+}
+use Rattle.promises.specs.Promises.{lengthOf}
+use Rattle.promises.proofs.Kept.{kept}
+use Rattle.promises.proofs.Uses.{goes-1}
+
+-- ---- reading back, by recorder: the rows that hold the chips, and what stands after them
+module _ (kind rate phase clock : ℕ) (payload : List ℕ) (w : Written) (chips : List ℕ)
+    (s : Sent kind rate phase clock payload w chips) (room : ℕ) (a : Record) (left : List ℕ) where
+  abbrev whole : List ℕ
+  whole = take (w .chips) chips
+
+  abbrev Back : Type 0
+  Back =
+      (a ≡ good rate (lengthOf rate payload) (length payload) (w .chips) (shown clock))
+      × (left ≡ payload ++ replicate (room - length payload) 0)
+
+  pub back-hard : (tail : List ℕ) → ReadHard kind (whole ++ tail) room a left → length payload ≤ room → Back
+  back-hard tail f h =
+      kept .read-back kind rate phase clock payload w chips s (length tail) room a left (of-hard tail refl f) h
+
+  pub back-soft : (i q i′ q′ : List Float) → Exactly whole i q → length i′ ≡ length q′
+      → ReadSoft kind (i ++ i′) (q ++ q′) room a left → length payload ≤ room → Back
+  back-soft i q i′ q′ e g f h =
+      kept .read-back kind rate phase clock payload w chips s (length i′) room a left
+      (of-soft i q i′ q′ e refl (sym g) f) h
+
+  pub back-bytes : (tail : List ℤ) → length tail % 2 ≡ 0 → ReadBytes kind (byteRow whole ++ tail) room a left
+      → length payload ≤ room → Back
+  back-bytes tail even f h =
+      kept .read-back kind rate phase clock payload w chips s (length tail / 2) room a left
+      (of-bytes tail (omega (arith, even)) f) h
+
+  -- short of room, whatever stands after it
+  pub no-room-soft : (i q : List Float) → Exactly whole i q → (x y : Float)
+      → ReadSoft kind (i ++ (x ∷ [])) (q ++ (y ∷ [])) room a left → room < length payload
+      → a ≡ refused 17 (lengthOf rate payload)
+  no-room-soft i q e x y f h =
+      kept .not-read-back kind rate phase clock payload w chips s room a left .0 1
+      (of-soft i q (x ∷ []) (y ∷ []) e refl refl f) h
+
+  pub no-room-bytes : ReadBytes kind (byteRow whole ++ (pos 127 ∷ negℤ (pos 128) ∷ [])) room a left
+      → room < length payload → a ≡ refused 17 (lengthOf rate payload)
+  no-room-bytes f h =
+      kept .not-read-back kind rate phase clock payload w chips s room a left .0 1
+      (of-bytes (pos 127 ∷ negℤ (pos 128) ∷ []) refl f) h
+
+  -- cut after j chips
+  module _ (j : ℕ) where
+    pub cut-hard : ReadHard kind (take j chips) room a left → j < s .sendable .front → a ≡ refused 8 0
+    cut-hard f h =
+        kept .not-read-back kind rate phase clock payload w chips s room a left .2 j
+        (of-hard [] refl (subst (λ (l : List ℕ). ReadHard kind l room a left) (sym (append-nil _)) f)) h
+
+    pub cut-soft : (i q : List Float) → Exactly (take j chips) i q → ReadSoft kind i q room a left
+        → s .sendable .front ≤ j → j < w .chips → a ≡ refused 16 (lengthOf rate payload)
+    cut-soft i q e f h l =
+        kept .not-read-back kind rate phase clock payload w chips s room a left .1 j
+        (of-soft i q [] [] e refl refl
+        (subst (λ (l : List Float). ReadSoft kind l (q ++ []) room a left) (sym (append-nil i))
+        (subst (λ (l : List Float). ReadSoft kind i l room a left) (sym (append-nil q)) f)))
+        h l
+
+    pub cut-bytes : ReadBytes kind (byteRow (take j chips)) room a left
+        → s .sendable .front ≤ j → j < w .chips → a ≡ refused 16 (lengthOf rate payload)
+    cut-bytes f h l =
+        kept .not-read-back kind rate phase clock payload w chips s room a left .1 j
+        (of-bytes [] refl (subst (λ (l : List ℤ). ReadBytes kind l room a left) (sym (append-nil _)) f))
+        h l
+
+-- a clock of 2^40 is shown as 1
+pub shown-yes : shown 0 ∷ shown 1 ∷ shown 256 ∷ shown (2 ^ 40) ∷ [] ≡ 0 ∷ 1 ∷ 1 ∷ 1 ∷ []
+shown-yes = refl
+
+-- ---- the frame: its chips in plain numbers; with a clock of 2^40 the bit is set
+module _ (kind rate phase clock : ℕ) (payload : List ℕ) (w : Written) (chips : List ℕ)
+    (s : Sent kind rate phase clock payload w chips) where
+  pub chips-at-1 : rate ≡ 10 → (w .number ≡ 0) × (w .chips ≡ 2112 + 88 * length payload)
+  chips-at-1 ten =
+      let e = kept .written-frame kind rate phase clock payload w chips s in
+      let g = goes-1 (s .sendable .goes) ten in
+      (e .0, rw (sym (g .1), sym (g .2)) (e .1))
+
+pub frame-without-clock : (kind rate phase : ℕ) (payload : List ℕ) (w : Written) (chips : List ℕ)
+    → Sent kind rate phase 0 payload w chips
+    → take (w .chips) chips ≡ frame (kindOf kind) (rateOf rate) phase false payload
+frame-without-clock kind rate phase payload w chips s = kept .written-frame kind rate phase 0 payload w chips s .2
+
+pub frame-with-clock : (kind rate phase : ℕ) (payload : List ℕ) (w : Written) (chips : List ℕ)
+    → Sent kind rate phase (2 ^ 40) payload w chips
+    → take (w .chips) chips ≡ frame (kindOf kind) (rateOf rate) phase true payload
+frame-with-clock kind rate phase payload w chips s =
+    kept .written-frame kind rate phase (2 ^ 40) payload w chips s .2
+
+-- ---- one source: with the clock bit and without it no two writes leave the same chips; with either, rate, phase and
+-- payload are one
+pub clocks-differ : (kind rate phase : ℕ) (payload : List ℕ) (w w′ : Written) (chips : List ℕ)
+    → Sent kind rate phase 0 payload w chips → Sent kind rate phase 256 payload w′ chips → ⊥
+clocks-differ kind rate phase payload w w′ chips s t =
+    let e : _≡_ {A = ℕ} 0 1 =
+    kept .one-source kind rate rate phase phase 0 256 payload payload w w′ chips s t .2 in
+    omega (arith, e)
+
+pub one-payload : (kind rate rate′ phase phase′ clock clock′ : ℕ) (payload payload′ : List ℕ) (w w′ : Written)
+    (chips : List ℕ) → Sent kind rate phase clock payload w chips → Sent kind rate′ phase′ clock′ payload′ w′ chips
+    → (rate ≡ rate′) × (phase ≡ phase′) × (payload ≡ payload′)
+one-payload kind rate rate′ phase phase′ clock clock′ payload payload′ w w′ chips s t =
+    let e = kept .one-source kind rate rate′ phase phase′ clock clock′ payload payload′ w w′ chips s t in
+    (e .0, e .1, e .3)
+
+-- ---- soft rows that hold the chips there are, with either zero
+pub plus-zeros : (phases : List ℕ) → Below 4 phases → Exactly phases (map (softI 0) phases) (map (softQ 0) phases)
+plus-zeros phases h = kept .soft-rows phases h .0
+
+pub minus-zeros : (phases : List ℕ) → Below 4 phases
+    → Exactly phases (map (softI 0x8000_0000) phases) (map (softQ 0x8000_0000) phases)
+minus-zeros phases h = kept .soft-rows phases h .1

@@ -1,0 +1,40 @@
+-- What any payload comes to, whatever its front told: 17, then 9, then 10, or good. Assumes nothing.
+use mathlib.Core.Path.{_≡_}
+use mathlib.Core.List.{List}
+use mathlib.Core.Option.{Option, none, some}
+use Prim.Native.Nat.{ℕ, _-_, _≤_, _<_}
+use borrow.Author.Tests.{lt-ltb, le-ltb}
+use lib.ListN.{take, drop}
+use Rattle.chips.specs.Chips.{Taken}
+use Rattle.frame.specs.declared.Kind.{Kind}
+use Rattle.frame.specs.Frame.{frontChips, frameChips}
+use Rattle.calls.specs.declared.Refusal.the-variants.{Unusable, OddGrowth, OctetRoom}
+use Rattle.calls.specs.declared.Told.{Told}
+use Rattle.calls.specs.declared.Reading.the-variants.{Refused, Good}
+use Rattle.reading.specs.Reading.{firstUnusable, payloadOdd, payloadReading}
+
+module _ (k : Kind) (t : Told) (rec : List Taken) (room : ℕ) where
+  abbrev all : ℕ
+  all = frameChips k (t .rate) (t .n)
+
+  abbrev found : Option ℕ
+  found = firstUnusable (frontChips k) (take (all - frontChips k) (drop (frontChips k) rec))
+
+  pub room-refused : room < t .n → payloadReading k t rec room ≡ Refused (OctetRoom (t .length))
+  unfolding payloadReading
+  room-refused h = rw (lt-ltb room (t .n) h)
+
+  pub unusable-refused : (p : ℕ) → t .n ≤ room → found ≡ some p
+      → payloadReading k t rec room ≡ Refused (Unusable p (t .length))
+  unfolding payloadReading
+  unusable-refused p h e = rw (le-ltb room (t .n) h, e)
+
+  pub odd-refused : (p : ℕ) → t .n ≤ room → found ≡ none → payloadOdd k (t .rate) (t .n) rec ≡ some p
+      → payloadReading k t rec room ≡ Refused (OddGrowth p (t .length))
+  unfolding payloadReading
+  odd-refused p h e o = rw (le-ltb room (t .n) h, e, o)
+
+  pub payload-good : t .n ≤ room → found ≡ none → payloadOdd k (t .rate) (t .n) rec ≡ none
+      → payloadReading k t rec room ≡ Good t all
+  unfolding payloadReading
+  payload-good h e o = rw (le-ltb room (t .n) h, e, o)
