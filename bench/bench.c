@@ -23,7 +23,7 @@
 enum { OCTETS = 1500, ROUNDS = 5 };
 
 struct library {
-    dsss_written (*write)(uint64_t, uint64_t, uint64_t, const uint8_t *, size_t, uint8_t *, size_t);
+    dsss_written (*write)(uint64_t, uint64_t, uint64_t, uint64_t, const uint8_t *, size_t, uint8_t *, size_t);
     dsss_record (*read_hard)(uint64_t, const uint8_t *, size_t, uint8_t *, size_t);
     dsss_record (*read_soft)(uint64_t, const float *, size_t, const float *, size_t, uint8_t *,
                              size_t);
@@ -68,7 +68,7 @@ typedef uint64_t (*task_fn)(const struct library *);
 
 static uint64_t write_task(const struct library *l)
 {
-    return l->write(kind, rate, 0, payload, payload_len, chips, chips_len).chips;
+    return l->write(kind, rate, 0, 0, payload, payload_len, chips, chips_len).chips;
 }
 
 static uint64_t read_hard_task(const struct library *l)
@@ -135,7 +135,7 @@ static void set_up(uint64_t new_kind, uint64_t new_rate, size_t n)
     kind = new_kind;
     rate = new_rate;
     payload_len = n;
-    chips_len = plain_write(kind, rate, 0, payload, n, chips, DSSS_CHIPS_MAX).chips;
+    chips_len = plain_write(kind, rate, 0, 0, payload, n, chips, DSSS_CHIPS_MAX).chips;
     if (chips_len == 0)
         fail("plain C refuses to write");
     record_soft();

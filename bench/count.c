@@ -43,7 +43,7 @@ static void record_bytes(size_t len)
 static uint64_t call(int plain, const char *name, uint64_t kind, uint64_t rate, size_t n, size_t len)
 {
     if (strcmp(name, "write") == 0)
-        return (plain ? plain_write : dsss_write)(kind, rate, 0, payload, n, chips, len).chips;
+        return (plain ? plain_write : dsss_write)(kind, rate, 0, 0, payload, n, chips, len).chips;
     if (strcmp(name, "hard") == 0)
         return (plain ? plain_read_hard : dsss_read_hard)(kind, chips, len, octets, n).used;
     if (strcmp(name, "bytes") == 0)
@@ -53,7 +53,7 @@ static uint64_t call(int plain, const char *name, uint64_t kind, uint64_t rate, 
 
 static uint64_t set_up(const char *name, uint64_t kind, uint64_t rate, size_t n)
 {
-    uint64_t len = plain_write(kind, rate, 0, payload, n, chips, sizeof chips).chips;
+    uint64_t len = plain_write(kind, rate, 0, 0, payload, n, chips, sizeof chips).chips;
 
     if (strcmp(name, "soft") == 0)
         record_soft(len);

@@ -17,8 +17,8 @@
 #define plain_read_bytes dsss_read_bytes
 #endif
 
-dsss_written plain_write(uint64_t kind, uint64_t rate, uint64_t phase, const uint8_t *payload,
-                         size_t payload_len, uint8_t *chips, size_t chips_len);
+dsss_written plain_write(uint64_t kind, uint64_t rate, uint64_t phase, uint64_t clock,
+                         const uint8_t *payload, size_t payload_len, uint8_t *chips, size_t chips_len);
 dsss_record plain_read_hard(uint64_t kind, const uint8_t *chips, size_t chips_len, uint8_t *octets,
                             size_t octets_len);
 dsss_record plain_read_soft(uint64_t kind, const float *i, size_t i_len, const float *q,

@@ -1,4 +1,4 @@
-/* plain_frame.h: the frame in plain C: what plain_write.c and plain_read.c share, and nothing else includes.
+/* plain_frame.h: the frame in plain C, its tables and steps, for plain_write.c and plain_read.c alone.
  *
  * A row of bits is a number here, the first bit in time being the lowest. */
 #ifndef PLAIN_FRAME_H
@@ -61,8 +61,8 @@ static inline size_t frame_chips(const struct kind *kind, const struct rate *rat
     return kind->front + n * (8 / rate->each * rate->symbol);
 }
 
-/* SERVICE (low octet) and LENGTH of n octets, as the header has them from its bit 8 on. */
-static inline uint32_t service_length(const struct rate *rate, uint32_t n)
+/* SERVICE (low octet) and LENGTH of n octets and a clock bit, as the header has them from its bit 8 on. */
+static inline uint32_t service_length(const struct rate *rate, uint32_t n, uint32_t clock)
 {
     uint32_t length, bit7 = 0;
 
@@ -80,7 +80,7 @@ static inline uint32_t service_length(const struct rate *rate, uint32_t n)
         length = (8 * n + 10) / 11;
         bit7 = 11 * length - 8 * n >= 8;
     }
-    return length << 8 | bit7 << 7;
+    return length << 8 | bit7 << 7 | clock << 2;
 }
 
 /* Octets that LENGTH and bit 7 stand for; -1 for LENGTH 0 with bit 7. */

@@ -605,14 +605,14 @@ static int read_front(struct reader *r, const struct kind *kind, uint64_t *sfd, 
 
 static dsss_record refused(uint64_t number, size_t place, uint64_t length)
 {
-    dsss_record record = {number, place, 0, length, 0, 0};
+    dsss_record record = {number, place, 0, length, 0, 0, 0};
 
     return record;
 }
 
 /* The payload, once the header is known to be good. */
-static dsss_record accept(struct reader *r, const struct kind *kind, const struct rate *rate,
-                          uint64_t length, size_t n, uint8_t *octets, size_t room)
+static dsss_record accept(struct reader *r, const struct kind *kind, const struct rate *rate, uint64_t length,
+                          uint64_t clock, size_t n, uint8_t *octets, size_t room)
 {
     size_t end = frame_chips(kind, rate, n);
 
@@ -625,7 +625,7 @@ static dsss_record accept(struct reader *r, const struct kind *kind, const struc
         return refused(DSSS_REFUSED_CHIP, bad, length);
     if (!read_payload(r, rate, octets, n))
         return refused(DSSS_REFUSED_GROWTH, r->at, length);
-    dsss_record record = {0, 0, rate->code, length, n, end};
+    dsss_record record = {0, 0, rate->code, length, n, end, clock};
     return record;
 }
 
@@ -633,16 +633,16 @@ static dsss_record accept(struct reader *r, const struct kind *kind, const struc
 static dsss_record judge(struct reader *r, uint64_t kind, uint32_t header, uint8_t *octets, size_t room)
 {
     const struct rate *rate = rate_of(header & 0xFF);
-    uint32_t service = header >> 8 & 0xFF, length = header >> 16;
+    uint32_t service = header >> 8 & 0xFF, length = header >> 16, clock = service >> 2 & 1;
 
     if (!rate || (kind == DSSS_SHORT && rate->code == DSSS_RATE_1))
         return refused(DSSS_REFUSED_SIGNAL, 0, length);
-    if ((service & ~(rate->code == DSSS_RATE_11 ? 0x80u : 0)) != 0)
+    if ((service & ~(rate->code == DSSS_RATE_11 ? 0x84u : 0x04u)) != 0)
         return refused(DSSS_REFUSED_SERVICE, 0, length);
     int32_t n = octets_of(rate, length, service >> 7);
-    if (n < 1 || n > DSSS_PAYLOAD_MAX || service_length(rate, (uint32_t)n) != header >> 8)
+    if (n < 1 || n > DSSS_PAYLOAD_MAX || service_length(rate, (uint32_t)n, clock) != header >> 8)
         return refused(DSSS_REFUSED_LENGTH, 0, length);
-    return accept(r, &kinds[kind], rate, length, (size_t)n, octets, room);
+    return accept(r, &kinds[kind], rate, length, clock, (size_t)n, octets, room);
 }
 
 static dsss_record read_frame(uint64_t kind, const struct recording *from, uint8_t *octets, size_t room)

@@ -97,10 +97,10 @@ static void send_11(struct writer *w, const uint8_t *payload, size_t n)
     }
 }
 
-static void send_frame(struct writer *w, const struct kind *kind, const struct rate *rate,
+static void send_frame(struct writer *w, const struct kind *kind, const struct rate *rate, uint32_t clock,
                        const uint8_t *payload, size_t n)
 {
-    uint32_t header = rate->code | service_length(rate, (uint32_t)n) << 8, crc = crc_of(header);
+    uint32_t header = rate->code | service_length(rate, (uint32_t)n, clock) << 8, crc = crc_of(header);
     const uint8_t sfd[2] = {(uint8_t)kind->sfd, (uint8_t)(kind->sfd >> 8)};
     const uint8_t octets[6] = {(uint8_t)header,         (uint8_t)(header >> 8), (uint8_t)(header >> 16),
                                (uint8_t)(header >> 24), (uint8_t)crc,           (uint8_t)(crc >> 8)};
@@ -117,8 +117,8 @@ static void send_frame(struct writer *w, const struct kind *kind, const struct r
         send_octets(w, payload, n, rate->each);
 }
 
-static dsss_written written(uint64_t kind, uint64_t code, uint64_t phase, const uint8_t *payload,
-                            size_t n, uint8_t *chips, size_t room)
+static dsss_written written(uint64_t kind, uint64_t code, uint64_t phase, uint64_t clock,
+                            const uint8_t *payload, size_t n, uint8_t *chips, size_t room)
 {
     const struct rate *rate = rate_of(code);
     dsss_written answer = {0, 0};
@@ -137,16 +137,16 @@ static dsss_written written(uint64_t kind, uint64_t code, uint64_t phase, const 
         answer.number = DSSS_REFUSED_CHIP_ROOM;
     else {
         struct writer w = {chips, (unsigned)phase, kinds[kind].start};
-        send_frame(&w, &kinds[kind], rate, payload, n);
+        send_frame(&w, &kinds[kind], rate, clock != 0, payload, n);
         answer.chips = frame_chips(&kinds[kind], rate, n);
     }
     return answer;
 }
 
-dsss_written plain_write(uint64_t kind, uint64_t rate, uint64_t phase, const uint8_t *payload,
-                         size_t payload_len, uint8_t *chips, size_t chips_len)
+dsss_written plain_write(uint64_t kind, uint64_t rate, uint64_t phase, uint64_t clock,
+                         const uint8_t *payload, size_t payload_len, uint8_t *chips, size_t chips_len)
 {
-    dsss_written answer = written(kind, rate, phase, payload, payload_len, chips, chips_len);
+    dsss_written answer = written(kind, rate, phase, clock, payload, payload_len, chips, chips_len);
 
     if (chips_len > answer.chips)
         memset(chips + answer.chips, DSSS_CHIP_LOST, chips_len - answer.chips);

@@ -14,7 +14,8 @@
  *           other row of the call. Const rows may overlap each other.
  * Memory    Nothing is allocated and nothing is kept: no state, no lock, no file. Calls at the same
  *           time are safe if no row that one of them writes is used by another.
- * Numbers   Numbers are 64 bits wide and compared whole: a kind of 2^32 is refused, not cut to 0.
+ * Numbers   Numbers are 64 bits wide and compared whole: a kind of 2^32 is refused, not cut to 0. A
+ *           yes or no is 0 for no and any other number for yes, 256 and 2^40 too.
  * Answers   An answer is a record by value. Its number is 0 if the call did its work, or the number
  *           of the refusal. Where several refusals hold, the first in the call's order is given.
  *           NUMBER 0 OF A READ IS NOT "THE OCTETS ARE THOSE SENT". It says that a frame with a good
@@ -39,10 +40,17 @@ extern "C" {
 /* The version, in three parts. MAJOR rises when a record or a call changes, MINOR when something is
  * added, PATCH when neither. A call whose record or parameters change gets a new symbol, which a
  * macro here stands for: an object built with an older header then does not link, and is built anew. */
-#define DSSS_VERSION_MAJOR 1
-#define DSSS_VERSION_MINOR 1
+#define DSSS_VERSION_MAJOR 2
+#define DSSS_VERSION_MINOR 0
 #define DSSS_VERSION_PATCH 0
 #define DSSS_VERSION (10000 * DSSS_VERSION_MAJOR + 100 * DSSS_VERSION_MINOR + DSSS_VERSION_PATCH)
+
+/* The symbols of the calls. C and C++ write the plain names; what goes by symbols, as another language
+ * or a debugger does, finds these. */
+#define dsss_write dsss_write_2
+#define dsss_read_hard dsss_read_hard_2
+#define dsss_read_soft dsss_read_soft_2
+#define dsss_read_bytes dsss_read_bytes_2
 
 /* Chip octets. 0 to 3 are phases in quarter turns counter-clockwise; 5 to 255 are unusable. */
 #define DSSS_CHIP_LOST 4 /* the mark for no chip; also what fills a chip buffer past the frame */
@@ -87,7 +95,7 @@ extern "C" {
 #define DSSS_REFUSED_SFD 11        /* unscrambled SFD differs */
 #define DSSS_REFUSED_CRC 12        /* CRC differs */
 #define DSSS_REFUSED_SIGNAL 13     /* SIGNAL not a rate of this kind */
-#define DSSS_REFUSED_SERVICE 14    /* SERVICE not 0, nor 128 at 11 Mbit/s */
+#define DSSS_REFUSED_SERVICE 14    /* SERVICE not 0 or 4, nor 128 or 132 at 11 Mbit/s */
 #define DSSS_REFUSED_LENGTH 15     /* LENGTH and bit 7 not those of 1 to 4,095 octets */
 #define DSSS_REFUSED_CUT 16        /* recording ends inside the payload */
 #define DSSS_REFUSED_OCTET_ROOM 17 /* octet buffer shorter than the payload */
@@ -106,31 +114,34 @@ typedef struct {
     uint64_t length; /* LENGTH in microseconds; if refused, 0 before 13 in the reading order */
     uint64_t n;      /* payload octets; 0 if refused */
     uint64_t used;   /* chips of the frame, front and payload; 0 if refused */
+    uint64_t clock;  /* the clock bit, SERVICE bit 2, as 0 or 1; 0 if refused, also behind a good header */
 } dsss_record;
 
 /* Writes one frame as chips.
  *   kind     DSSS_LONG or DSSS_SHORT                                      refusals 1, 3
  *   rate     one of the four rate codes                                   refusals 2, 3
  *   phase    0 to 3, the phase before the frame's first symbol            refusal 5
+ *   clock    whether chip clock and carrier share an oscillator, 0 for no and any other number
+ *            for yes: the clock bit, SERVICE bit 2                        no refusal
  *   payload  1 to 4,095 octets, the PSDU                                  refusal 4
  *   chips    lent, at least the frame's chips, DSSS_FRAME_CHIPS           refusal 6
  * Answer:  number 0 and the chips of the frame.
  * Refused: the number; chips 0.
  * Buffer:  chips[] is the frame and then 4s; refused, all 4s.
- * Proved:  crates/dsss, dsss_write, record Wrote: answer and chips. */
-dsss_written dsss_write(uint64_t kind, uint64_t rate, uint64_t phase, const uint8_t *payload,
-                        size_t payload_len, uint8_t *chips, size_t chips_len);
+ * Proved:  crates/dsss, dsss_write_2, record Wrote: answer and chips. */
+dsss_written dsss_write(uint64_t kind, uint64_t rate, uint64_t phase, uint64_t clock,
+                        const uint8_t *payload, size_t payload_len, uint8_t *chips, size_t chips_len);
 
 /* Reads the payload of one frame from a hard recording.
  *   kind     DSSS_LONG or DSSS_SHORT                                      refusal 1
  *   chips    the recording, chip octets; it starts at the frame's first chip, and what
  *            stands after the frame is not looked at                      refusals 8 to 16
  *   octets   lent, at least the payload's; DSSS_PAYLOAD_MAX always do     refusal 17
- * Answer:  number 0, the rate code, LENGTH, n and the chips used; place 0.
+ * Answer:  number 0, the rate code, LENGTH, n, the chips used and the clock bit; place 0.
  * Refused: the number; the place of a 9 or 10; LENGTH for 13 to 17 and for a 9 or 10 in the
- *          payload; all else 0.
+ *          payload; all else 0, the clock bit too.
  * Buffer:  octets[] is the payload and then 0s; refused, all 0s.
- * Proved:  crates/dsss, dsss_read_hard, record ReadHard: answer and octets. */
+ * Proved:  crates/dsss, dsss_read_hard_2, record ReadHard: answer and octets. */
 dsss_record dsss_read_hard(uint64_t kind, const uint8_t *chips, size_t chips_len, uint8_t *octets,
                            size_t octets_len);
 
@@ -141,11 +152,11 @@ dsss_record dsss_read_hard(uint64_t kind, const uint8_t *chips, size_t chips_len
  *            an infinity or above 8 in magnitude                          refusals 7 to 16
  *   octets   lent, at least the payload's; DSSS_PAYLOAD_MAX always do     refusal 17
  * Samples are rounded to the nearest 1/1024, halves to even, in the default rounding mode.
- * Answer:  number 0, the rate code, LENGTH, n and the chips used; place 0.
+ * Answer:  number 0, the rate code, LENGTH, n, the chips used and the clock bit; place 0.
  * Refused: the number; the place of a 9 or 10; LENGTH for 13 to 17 and for a 9 or 10 in the
- *          payload; all else 0.
+ *          payload; all else 0, the clock bit too.
  * Buffer:  octets[] is the payload and then 0s; refused, all 0s.
- * Proved:  crates/dsss, dsss_read_soft, record ReadSoft: answer and octets. */
+ * Proved:  crates/dsss, dsss_read_soft_2, record ReadSoft: answer and octets. */
 dsss_record dsss_read_soft(uint64_t kind, const float *i, size_t i_len, const float *q,
                            size_t q_len, uint8_t *octets, size_t octets_len);
 
@@ -157,11 +168,11 @@ dsss_record dsss_read_soft(uint64_t kind, const float *i, size_t i_len, const fl
  *                                                                         refusals 7, 8, 10 to 16
  *   octets   lent, at least the payload's; DSSS_PAYLOAD_MAX always do     refusal 17
  * Each byte is taken as it is, in 64ths of a full chip: nothing is rounded, and -128 is not clamped.
- * Answer:  number 0, the rate code, LENGTH, n and the chips used; place 0.
+ * Answer:  number 0, the rate code, LENGTH, n, the chips used and the clock bit; place 0.
  * Refused: the number; the place of a 10, in chips; LENGTH for 13 to 17 and for a 10 in the
- *          payload; all else 0.
+ *          payload; all else 0, the clock bit too.
  * Buffer:  octets[] is the payload and then 0s; refused, all 0s.
- * Proved:  crates/dsss, dsss_read_bytes, record ReadBytes: answer and octets. */
+ * Proved:  crates/dsss, dsss_read_bytes_2, record ReadBytes: answer and octets. */
 dsss_record dsss_read_bytes(uint64_t kind, const int8_t *bytes, size_t bytes_len, uint8_t *octets,
                             size_t octets_len);
 
@@ -200,7 +211,7 @@ static inline const char *dsss_sentence(uint64_t number)
     case DSSS_REFUSED_SIGNAL:
         return "SIGNAL is not a rate of this kind.";
     case DSSS_REFUSED_SERVICE:
-        return "SERVICE is not 0, nor 128 at 11 Mbit/s.";
+        return "SERVICE is not 0 or 4, nor 128 or 132 at 11 Mbit/s.";
     case DSSS_REFUSED_LENGTH:
         return "LENGTH is not one that a writer makes for 1 to 4,095 octets.";
     case DSSS_REFUSED_CUT:

@@ -29,6 +29,7 @@ case $verdict in
     exit 1
     ;;
 esac
+python3 scripts/edits.py
 
 stage 'header'
 tests/header/run

@@ -1,12 +1,12 @@
 /* host.c: the program of one gallery table, over the library of dsss.h.
  *
- * A visitor turns a skull with one finger, and at each quarter turn the table fetches a caption by
- * radio. Here the frames go from the writer to the reader in memory: at every kind and rate, from
- * other recorders, then spoiled, then cut short. What comes from the air may be any octets, so it
- * is shown escaped. A caption of an earlier exhibition must never be seen again: before each read
- * the octet buffer is full of one, and after it what is left of it is counted. All memory is in the
- * static rows below; the two that are lent for writing stand between guard octets, which must stay
- * as they were. */
+ * A visitor turns a skull with one finger, and at each quarter turn the table fetches a caption
+ * by radio. Here the frames go from the writer to the reader in memory: at every kind and rate,
+ * from other recorders, with the clock bit, then spoiled, then cut short. What comes from the air
+ * may be any octets, so it is shown escaped. A caption of an earlier exhibition must never be
+ * seen again: before each read the octet buffer is full of one, and after it what is left of it
+ * is counted. All memory is in the static rows below; the two that are lent for writing stand
+ * between guard octets, which must stay as they were. */
 #include "dsss.h"
 
 #include <inttypes.h>
@@ -65,12 +65,13 @@ static int guards_stand(void)
     return !changed;
 }
 
-/* Writes a caption's frame to the chip row. */
-static dsss_written send_caption(uint64_t kind, uint64_t rate, const char *caption)
+/* Writes a caption's frame to the chip row; `clock` is 0 if its sender's chip clock and carrier do not
+ * share an oscillator. */
+static dsss_written send_caption(uint64_t kind, uint64_t rate, uint64_t clock, const char *caption)
 {
     const uint8_t *payload = (const uint8_t *)caption;
 
-    return dsss_write(kind, rate, 0, payload, strlen(caption), chips.row, CHIPS_MAX);
+    return dsss_write(kind, rate, 0, clock, payload, strlen(caption), chips.row, CHIPS_MAX);
 }
 
 static void fill_with_old(void)
@@ -111,8 +112,11 @@ static void show(const char *what, dsss_record record)
         printf("%s: refused, %" PRIu64 ". %s\n", what, record.number,
                dsss_sentence(record.number));
     printf("    place %" PRIu64 ", LENGTH %" PRIu64 ", %" PRIu64 " octets, %" PRIu64
-           " chips used, %zu old octets left\n",
+           " chips used, %zu old octets left",
            record.place, record.length, record.n, record.used, old_octets(record.n));
+    if (record.clock != 0)
+        printf(", clock %" PRIu64, record.clock);
+    puts("");
 }
 
 static void show_hard(const char *what, uint64_t kind, uint64_t len)
@@ -157,34 +161,47 @@ static void every_way(void)
 {
     puts("Every kind and rate");
     for (size_t k = 0; k < sizeof ways / sizeof ways[0]; k++) {
-        dsss_written frame = send_caption(ways[k].kind, ways[k].rate, captions[k % 4]);
+        dsss_written frame = send_caption(ways[k].kind, ways[k].rate, 0, captions[k % 4]);
         show_hard(ways[k].name, ways[k].kind, frame.chips);
     }
     puts("\nA soft recording");
     show_soft("short, 11 Mbit/s, weak", DSSS_SHORT,
-              send_caption(DSSS_SHORT, DSSS_RATE_11, captions[3]).chips);
+              send_caption(DSSS_SHORT, DSSS_RATE_11, 0, captions[3]).chips);
 }
 
 static void spare_board(void)
 {
     puts("\nThe spare board, which records signed bytes");
-    uint64_t len = send_caption(DSSS_LONG, DSSS_RATE_5_5, captions[1]).chips;
+    uint64_t len = send_caption(DSSS_LONG, DSSS_RATE_5_5, 0, captions[1]).chips;
     record_bytes(len);
     show_bytes("long, 5.5 Mbit/s, weak", DSSS_LONG, 2 * len);
     show_bytes("without its last byte", DSSS_LONG, 2 * len - 1);
 }
 
+/* The clock bit comes back with the text; a refused read tells nothing of it. Any number but 0 is a yes. */
+static void locked_clocks(void)
+{
+    puts("\nChip clock and carrier from one oscillator");
+    uint64_t len = send_caption(DSSS_LONG, DSSS_RATE_2, 1, captions[2]).chips;
+    show_hard("long, 2 Mbit/s", DSSS_LONG, len);
+    len = send_caption(DSSS_SHORT, DSSS_RATE_11, 256, captions[0]).chips;
+    show_soft("short, 11 Mbit/s, weak", DSSS_SHORT, len);
+    record_bytes(len);
+    show_bytes("the same by the spare board", DSSS_SHORT, 2 * len);
+    show_hard("the same without its last chip", DSSS_SHORT, len - 1);
+}
+
 static void spoiled(void)
 {
     puts("\nSpoiled recordings");
-    uint64_t len = send_caption(DSSS_SHORT, DSSS_RATE_11, captions[3]).chips;
+    uint64_t len = send_caption(DSSS_SHORT, DSSS_RATE_11, 0, captions[3]).chips;
     for (uint64_t k = 0; k < len; k += 11)
         chips.row[k] = DSSS_CHIP_LOST;
     show_hard("every eleventh chip lost", DSSS_SHORT, len);
     chips.row[1234] = 200;
     show_hard("an unusable octet at chip 1234", DSSS_SHORT, len);
 
-    len = send_caption(DSSS_LONG, DSSS_RATE_2, captions[1]).chips;
+    len = send_caption(DSSS_LONG, DSSS_RATE_2, 0, captions[1]).chips;
     for (uint64_t k = 550; k < 561; k++)
         chips.row[k] = (uint8_t)((chips.row[k] + 1) % 4);
     show_hard("the symbol at chip 550 turned by a quarter", DSSS_LONG, len);
@@ -194,7 +211,7 @@ static void spoiled(void)
 static void another_text(void)
 {
     puts("\nNumber 0 with another text: one symbol of 11 Mbit/s turned by a quarter");
-    uint64_t len = send_caption(DSSS_SHORT, DSSS_RATE_11, captions[0]).chips;
+    uint64_t len = send_caption(DSSS_SHORT, DSSS_RATE_11, 0, captions[0]).chips;
     for (uint64_t octet = 1; octet < 54; octet += 41) {
         uint8_t *symbol = chips.row + DSSS_FRAME_CHIPS(DSSS_SHORT, DSSS_RATE_11, octet);
         for (size_t k = 0; k < 8; k++)
@@ -206,7 +223,7 @@ static void another_text(void)
 static void cut_short(void)
 {
     puts("\nCut short");
-    uint64_t len = send_caption(DSSS_LONG, DSSS_RATE_5_5, captions[2]).chips;
+    uint64_t len = send_caption(DSSS_LONG, DSSS_RATE_5_5, 0, captions[2]).chips;
     show_hard("whole", DSSS_LONG, len);
     show_hard("without its last chip", DSSS_LONG, len - 1);
     show_hard("only its first 1,500 chips", DSSS_LONG, 1500);
@@ -215,7 +232,7 @@ static void cut_short(void)
 static void not_written(void)
 {
     puts("\nA frame that cannot be written");
-    dsss_written refused = send_caption(DSSS_SHORT, DSSS_RATE_1, captions[0]);
+    dsss_written refused = send_caption(DSSS_SHORT, DSSS_RATE_1, 0, captions[0]);
     size_t lost = 0;
     while (lost < CHIPS_MAX && chips.row[lost] == DSSS_CHIP_LOST)
         lost++;
@@ -230,6 +247,7 @@ int main(void)
     set_guards(GUARD_OCTET);
     every_way();
     spare_board();
+    locked_clocks();
     spoiled();
     another_text();
     cut_short();

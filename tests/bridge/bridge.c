@@ -2,13 +2,13 @@
  *
  * Requests on stdin, one answer each on stdout, both binary and little-endian. A request is a u64
  * op and then
- *   1, write      u64 kind, rate, phase, payload_len, chips_len; the payload
+ *   1, write      u64 kind, rate, phase, clock, payload_len, chips_len; the payload
  *   2, read hard  u64 kind, chips_len, octets_len; the chips
  *   3, read soft  u64 kind, i_len, q_len, octets_len; i_len f32, q_len f32, raw bits
  *   4, read bytes u64 kind, bytes_len, octets_len; the bytes
- * An answer is the record (1: number, chips; 2 to 4: number, place, rate, length, n, used; u64
- * each), every octet of the lent buffer as the call left it, and a u64 guard: 0 if all is as it was
- * around the rows and in those lent for reading only, else 1.
+ * An answer is the record (1: number, chips; 2 to 4: number, place, rate, length, n, used, clock;
+ * u64 each), every octet of the lent buffer as the call left it, and a u64 guard: 0 if all is as it
+ * was around the rows and in those lent for reading only, else 1.
  *
  * The lent buffer holds 0xAA before the call. A row of length 0 is passed as NULL; any other stands
  * between guard octets, octets and bytes at odd addresses, floats at multiples of 4 that are none of 16.
@@ -185,11 +185,11 @@ static void put_guard(uint64_t guard)
 
 static void call_write(void)
 {
-    uint64_t kind = get_number(), rate = get_number(), phase = get_number();
+    uint64_t kind = get_number(), rate = get_number(), phase = get_number(), clock = get_number();
     uint64_t payload_len = get_number(), chips_len = get_number();
     struct row payload = read_row(payload_len, 1), chips = lent_row(chips_len);
 
-    dsss_written written = dsss_write(kind, rate, phase, pointer(&payload), (size_t)payload_len,
+    dsss_written written = dsss_write(kind, rate, phase, clock, pointer(&payload), (size_t)payload_len,
                                       pointer(&chips), (size_t)chips_len);
     put(&written, sizeof written);
     put_lent(&chips);

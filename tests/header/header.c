@@ -14,12 +14,13 @@
 HOLDS(number_is_64_bits, sizeof(uint64_t) == 8 && sizeof(size_t) == 8 && sizeof(float) == 4);
 HOLDS(written_has_2, sizeof(dsss_written) == 16);
 HOLDS(written_chips, offsetof(dsss_written, chips) == 8);
-HOLDS(record_has_6, sizeof(dsss_record) == 48);
+HOLDS(record_has_7, sizeof(dsss_record) == 56);
 HOLDS(record_place, offsetof(dsss_record, place) == 8);
 HOLDS(record_rate, offsetof(dsss_record, rate) == 16);
 HOLDS(record_length, offsetof(dsss_record, length) == 24);
 HOLDS(record_n, offsetof(dsss_record, n) == 32);
 HOLDS(record_used, offsetof(dsss_record, used) == 40);
+HOLDS(record_clock, offsetof(dsss_record, clock) == 48);
 HOLDS(longest_frame, DSSS_CHIPS_MAX == DSSS_FRONT_LONG + 88 * DSSS_PAYLOAD_MAX);
 HOLDS(longest_by_macro, DSSS_CHIPS_MAX == DSSS_FRAME_CHIPS(DSSS_LONG, DSSS_RATE_1, DSSS_PAYLOAD_MAX));
 HOLDS(frame_at_2, DSSS_FRAME_CHIPS(DSSS_SHORT, DSSS_RATE_2, 3) == 1056 + 44 * 3);

@@ -1,15 +1,22 @@
 // header.cpp: dsss.h as C++. Each call is made once with empty rows, so the names must be C's:
-// linked with a library built as C, this fails if they are not.
+// linked with a library built as C, this fails if they are not. The calls' names are macros: they must
+// stand wherever C++ has a function's name, as in a namespace, behind :: and where it is taken as a value.
 #include "dsss.h"
 
 #include <cstdio>
 
+namespace radio {
+using ::dsss_write;
+typedef dsss_record (*hard_reader)(uint64_t, const uint8_t *, size_t, uint8_t *, size_t);
+static const hard_reader read_hard = &dsss_read_hard;
+}
+
 int main()
 {
-    dsss_written written = dsss_write(DSSS_LONG, DSSS_RATE_11, 0, NULL, 0, NULL, 0);
-    dsss_record hard = dsss_read_hard(DSSS_SHORT, NULL, 0, NULL, 0);
+    dsss_written written = radio::dsss_write(DSSS_LONG, DSSS_RATE_11, 0, 1, NULL, 0, NULL, 0);
+    dsss_record hard = radio::read_hard(DSSS_SHORT, NULL, 0, NULL, 0);
     dsss_record soft = dsss_read_soft(DSSS_SHORT + 1, NULL, 0, NULL, 0, NULL, 0);
-    dsss_record bytes = dsss_read_bytes(DSSS_LONG, NULL, 0, NULL, 0);
+    dsss_record bytes = ::dsss_read_bytes(DSSS_LONG, NULL, 0, NULL, 0);
 
     if (written.number != DSSS_REFUSED_PAYLOAD || hard.number != DSSS_REFUSED_FRONT
         || soft.number != DSSS_REFUSED_KIND || bytes.number != DSSS_REFUSED_FRONT) {

@@ -199,7 +199,8 @@ def compare(header, sources, published):
     declared = {symbols.get(name, name): call for name, call in c_calls(text).items()}
     said = {symbols.get(name, name): comment for name, comment in comments(header).items()}
     defined = rattle_calls(sources["dsss"])
-    faults = [f"{name}: in the source, not in the header" for name in defined.keys() - declared]
+    faults = [f"{name}: a macro that stands for no call" for name in symbols.keys() - c_calls(text)]
+    faults += [f"{name}: in the source, not in the header" for name in defined.keys() - declared]
     faults += [f"{name}: in the header, not in the source" for name in declared.keys() - defined]
     faults += [f"{name}: public in crate dsss and not extern \"C\""
                for name in re.findall(r"\bpub\s+fn\s+(\w+)", sources["dsss"])]
@@ -260,6 +261,8 @@ RENAMED = [
     ("dsss", "fn dsss_read", "fn dsss_read_2"),
 ]
 SPOILED = [  # which text, what, by what
+    ("header", "typedef", "#define dsss_read dsss_read_2\ntypedef"),
+    ("header", "typedef", "#define dsss_write dsss_write_2\ntypedef"),
     ("header", "kind, const uint8_t", "sort, const uint8_t"),
     ("header", "uint64_t kind", "uint32_t kind"),
     ("header", "number, place", "place, number"),

@@ -3,7 +3,7 @@
 //! Requests go ahead of the answers in batches. A batch is handed to the comparing side before it is written, and the
 //! next is handed over only when it is written whole, so neither side waits for the other in a circle.
 
-use crate::calls::{Call, Part};
+use crate::calls::{Call, Met};
 use crate::families::{Family, Out};
 use crate::figures::Figures;
 use std::collections::BTreeMap;
@@ -42,8 +42,8 @@ pub struct Bridge {
 pub struct Outcome {
     pub calls: u64,
     pub mismatches: u64,
-    /// How often each number was expected of each op and part.
-    pub met: BTreeMap<(&'static str, Part, u64), u64>,
+    /// How often each number was expected of each op and part, with the clock bit and without it.
+    pub met: BTreeMap<Met, u64>,
 }
 
 impl Outcome {
@@ -58,8 +58,8 @@ impl Outcome {
     /// The calls that answer the number met most often, whatever the op and the part.
     pub fn most_of_a_number(&self) -> u64 {
         let mut by_number = BTreeMap::<u64, u64>::new();
-        for ((_, _, number), count) in &self.met {
-            *by_number.entry(*number).or_default() += count;
+        for (met, count) in &self.met {
+            *by_number.entry(met.number).or_default() += count;
         }
         by_number.into_values().max().unwrap_or(0)
     }
@@ -93,7 +93,7 @@ impl Bridge {
         thread::scope(|scope| {
             scope.spawn(move || send_family(family, figures, run, requests, sender));
             for (case, call) in batches.into_iter().flatten() {
-                let (expected, part) = call.expected();
+                let (expected, met) = call.expected();
                 let (answer, guarded) = match call.answer(answers) {
                     Ok(answered) => answered,
                     Err(error) => {
@@ -115,7 +115,7 @@ impl Bridge {
                 }
                 outcome.calls += 1;
                 outcome.mismatches += u64::from(!equal);
-                *outcome.met.entry((call.op(), part, expected.numbers[0])).or_default() += 1;
+                *outcome.met.entry(met).or_default() += 1;
             }
             Ok(outcome)
         })

@@ -9,7 +9,7 @@ use std::io::{self, Read};
 
 /// A call with its numbers and lent rows. Buffers lent for writing are given by their length alone.
 pub enum Call {
-    Write { kind: u64, rate: u64, phase: u64, payload: Vec<u8>, chips_len: usize },
+    Write { kind: u64, rate: u64, phase: u64, clock: u64, payload: Vec<u8>, chips_len: usize },
     ReadHard { kind: u64, chips: Vec<u8>, octets_len: usize },
     ReadSoft { kind: u64, i: Vec<f32>, q: Vec<f32>, octets_len: usize },
     ReadBytes { kind: u64, bytes: Vec<i8>, octets_len: usize },
@@ -32,6 +32,16 @@ pub enum Part {
     FarPlace,
 }
 
+/// What is counted of a call: its op, the part that settles its answer, the number answered, and whether the clock bit
+/// was asked for or stood in the header that was read.
+#[derive(Clone, Copy, PartialEq, Eq, PartialOrd, Ord)]
+pub struct Met {
+    pub op: &'static str,
+    pub part: Part,
+    pub number: u64,
+    pub clock: bool,
+}
+
 impl Part {
     fn of(told: u64, place: u64) -> Part {
         match (told, place) {
@@ -44,8 +54,8 @@ impl Part {
 }
 
 impl Call {
-    pub fn write(kind: u64, rate: u64, phase: u64, payload: Vec<u8>, chips_len: usize) -> Call {
-        Call::Write { kind, rate, phase, payload, chips_len }
+    pub fn write(kind: u64, rate: u64, phase: u64, clock: u64, payload: Vec<u8>, chips_len: usize) -> Call {
+        Call::Write { kind, rate, phase, clock, payload, chips_len }
     }
 
     pub fn hard(kind: u64, chips: Vec<u8>, octets_len: usize) -> Call {
@@ -72,7 +82,7 @@ impl Call {
     fn names(&self) -> &'static [&'static str] {
         match self {
             Call::Write { .. } => &["number", "chips"],
-            _ => &["number", "place", "rate", "length", "n", "used"],
+            _ => &["number", "place", "rate", "length", "n", "used", "clock"],
         }
     }
 
@@ -89,8 +99,8 @@ impl Call {
     pub fn request(&self, to: &mut Vec<u8>) {
         let mut numbers = |list: &[u64]| list.iter().for_each(|number| to.extend(number.to_le_bytes()));
         match self {
-            Call::Write { kind, rate, phase, payload, chips_len } => {
-                numbers(&[1, *kind, *rate, *phase, payload.len() as u64, *chips_len as u64]);
+            Call::Write { kind, rate, phase, clock, payload, chips_len } => {
+                numbers(&[1, *kind, *rate, *phase, *clock, payload.len() as u64, *chips_len as u64]);
                 to.extend(payload);
             }
             Call::ReadHard { kind, chips, octets_len } => {
@@ -122,21 +132,22 @@ impl Call {
         Ok((Answer { numbers, buffer }, u64::from_le_bytes(number) == 0))
     }
 
-    /// The answer that the document gives, and its part; a write's goes by its payload's length. The buffer starts
-    /// with other contents than any call leaves.
-    pub fn expected(&self) -> (Answer, Part) {
+    /// The answer that the document gives, and what is counted of it; a write's part goes by its payload's length. The
+    /// buffer starts with other contents than any call leaves.
+    pub fn expected(&self) -> (Answer, Met) {
         let mut buffer = vec![0x77; self.buffer_len()];
-        let (numbers, part) = match self {
-            Call::Write { kind, rate, phase, payload, .. } => {
-                let written = write(*kind, *rate, *phase, payload, &mut buffer);
+        let (numbers, part, clock) = match self {
+            Call::Write { kind, rate, phase, clock, payload, .. } => {
+                let written = write(*kind, *rate, *phase, *clock, payload, &mut buffer);
                 let told = if [0, CHIP_BUFFER].contains(&written.number) { payload.len() as u64 } else { 0 };
-                (vec![written.number, written.chips], Part::of(told, 0))
+                (vec![written.number, written.chips], Part::of(told, 0), *clock != 0)
             }
             Call::ReadHard { kind, chips, .. } => record(read(*kind, Recording::Hard(chips), &mut buffer)),
             Call::ReadSoft { kind, i, q, .. } => record(read(*kind, Recording::Soft(i, q), &mut buffer)),
             Call::ReadBytes { kind, bytes, .. } => record(read(*kind, Recording::Bytes(bytes), &mut buffer)),
         };
-        (Answer { numbers, buffer }, part)
+        let met = Met { op: self.op(), part, number: numbers[0], clock };
+        (Answer { numbers, buffer }, met)
     }
 
     /// The call with all its numbers and its rows in hex, each row cut after so many octets.
@@ -169,9 +180,9 @@ impl Call {
 
     fn shown_numbers(&self) -> String {
         match self {
-            Call::Write { kind, rate, phase, payload, chips_len } => {
-                let len = payload.len();
-                format!("kind {kind}, rate {rate}, phase {phase}, payload_len {len}, chips_len {chips_len}")
+            Call::Write { kind, rate, phase, clock, payload, chips_len } => {
+                let numbers = format!("kind {kind}, rate {rate}, phase {phase}, clock {clock}");
+                format!("{numbers}, payload_len {}, chips_len {chips_len}", payload.len())
             }
             Call::ReadHard { kind, chips, octets_len } => {
                 format!("kind {kind}, chips_len {}, octets_len {octets_len}", chips.len())
@@ -191,9 +202,9 @@ impl Call {
     }
 }
 
-fn record(read: crate::reading::Read) -> (Vec<u64>, Part) {
+fn record(read: crate::reading::Read) -> (Vec<u64>, Part, bool) {
     let part = Part::of(read.told, read.place);
-    (vec![read.number, read.place, read.rate, read.length, read.n, read.used], part)
+    (vec![read.number, read.place, read.rate, read.length, read.n, read.used, read.clock], part, read.clock_read)
 }
 
 fn hex(row: &[impl LowerHex], cut: usize) -> String {

@@ -151,7 +151,7 @@ fn scrambled_row(row: &[String]) -> Option<ScrambledFigure> {
 fn scrambled_right(figure: &ScrambledFigure) -> bool {
     let ScrambledFigure { kind, frame, bits, scrambled } = figure;
     let of_frame = frame.as_ref().map(|(rate, payload)| {
-        let header = Header::written(*rate, payload.len());
+        let header = Header::written(*rate, payload.len(), false);
         let mut bits = front_bits(&kind.sync(), kind.sfd(), &header, header.crc());
         bits.extend(payload.iter().flat_map(|octet| lowest_first(u16::from(*octet), 8)));
         bits

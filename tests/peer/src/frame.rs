@@ -158,10 +158,20 @@ pub struct Header {
 }
 
 impl Header {
-    /// What the writer makes for n octets. SERVICE is 0 but for bit 7.
-    pub fn written(rate: Rate, n: usize) -> Header {
+    /// What the writer makes for n octets. SERVICE is 0 but for bit 2, the clock bit, and bit 7.
+    pub fn written(rate: Rate, n: usize, clock: bool) -> Header {
         let (length, bit7) = rate.length_of(n);
-        Header { signal: rate.code(), service: if bit7 { 128 } else { 0 }, length: length as u16 }
+        let service = u8::from(clock) << 2 | u8::from(bit7) << 7;
+        Header { signal: rate.code(), service, length: length as u16 }
+    }
+
+    /// Bit 2 of SERVICE.
+    pub fn clock(&self) -> bool {
+        self.service >> 2 & 1 == 1
+    }
+
+    pub fn bit7(&self) -> bool {
+        self.service >> 7 == 1
     }
 
     /// The 32 header bits in sending order.

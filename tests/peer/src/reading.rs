@@ -14,8 +14,12 @@ pub struct Read {
     pub length: u64,
     pub n: u64,
     pub used: u64,
+    /// The clock bit of a good read.
+    pub clock: u64,
     /// The n of a good header, in refusals of the payload too; no member of the answer's record.
     pub told: u64,
+    /// Whether the clock bit stood in a header with a right CRC, whatever came of it; no member either.
+    pub clock_read: bool,
 }
 
 impl Read {
@@ -36,10 +40,10 @@ pub fn read(kind: u64, recording: Recording, octets: &mut [u8]) -> Read {
         Err(refused) => return refused,
     };
     // From refusal 13 on, in the reading order, a refusal shows the LENGTH field.
-    let length = u64::from(front.header.length);
+    let (length, clock_read) = (u64::from(front.header.length), front.header.clock());
     match read_payload(front, recording, octets) {
-        Ok(read) => read,
-        Err(refused) => Read { length, ..refused },
+        Ok(read) => Read { clock_read, ..read },
+        Err(refused) => Read { length, clock_read, ..refused },
     }
 }
 
@@ -90,12 +94,12 @@ fn read_payload(front: Front, recording: Recording, octets: &mut [u8]) -> Result
         Some(rate) if kind.has(rate) => rate,
         _ => return Err(Read::refused(refusals::SIGNAL)),
     };
-    let allowed: &[u8] = if rate == Rate::Mbit11 { &[0, 128] } else { &[0] };
+    let allowed: &[u8] = if rate == Rate::Mbit11 { &[0, 4, 128, 132] } else { &[0, 4] };
     if !allowed.contains(&header.service) {
         return Err(Read::refused(refusals::SERVICE));
     }
-    let n = rate.octets_of(header.length, header.service == 128);
-    if n < 1 || n > refusals::MOST_OCTETS as i64 || Header::written(rate, n as usize) != header {
+    let n = rate.octets_of(header.length, header.bit7());
+    if n < 1 || n > refusals::MOST_OCTETS as i64 || Header::written(rate, n as usize, header.clock()) != header {
         return Err(Read::refused(refusals::LENGTH));
     }
     let n = n as usize;
@@ -120,8 +124,8 @@ fn payload_of(front: Front, rate: Rate, n: usize, recording: Recording, octets: 
     for (octet, octet_bits) in octets.iter_mut().zip(bits[front_bits..].chunks(8)) {
         *octet = number_of(octet_bits) as u8;
     }
-    let (rate, length) = (u64::from(rate.code()), u64::from(header.length));
-    Ok(Read { number: 0, place: 0, rate, length, n: n as u64, used: used as u64, told: n as u64 })
+    let (rate, length, clock) = (u64::from(rate.code()), u64::from(header.length), u64::from(header.clock()));
+    Ok(Read { rate, length, n: n as u64, used: used as u64, clock, told: n as u64, ..Read::default() })
 }
 
 /// 9: the counts of a part's chips, or the place of its first unusable chip.

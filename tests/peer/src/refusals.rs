@@ -29,7 +29,7 @@ pub const SFD: u64 = 11;
 pub const CRC: u64 = 12;
 /// SIGNAL not a rate of this kind
 pub const SIGNAL: u64 = 13;
-/// at 11 Mbit/s SERVICE is neither 0 nor 128; at the other rates it isn't 0
+/// at 11 Mbit/s SERVICE is none of 0, 4, 128 and 132; at the other rates it is neither 0 nor 4
 pub const SERVICE: u64 = 14;
 /// n outside 1 to 4,095, or the writer's LENGTH and bit 7 for n differ from those read
 pub const LENGTH: u64 = 15;

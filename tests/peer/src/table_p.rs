@@ -22,7 +22,7 @@ fn word_5_5(d2: u8, d3: u8) -> Vec<Phase> {
 
 fn first_chips_of_a_long_frame() -> Vec<Phase> {
     let mut chips = vec![0xAA; 2112 + 8];
-    write(0, 110, 0, &[0x5A], &mut chips);
+    write(0, 110, 0, 0, &[0x5A], &mut chips);
     chips.truncate(22);
     chips
 }

@@ -13,9 +13,9 @@ pub struct Written {
 }
 
 /// A good write leaves 4s past the frame, a refusal leaves the chip buffer all 4s.
-pub fn write(kind: u64, rate: u64, phase: u64, payload: &[u8], chips: &mut [u8]) -> Written {
+pub fn write(kind: u64, rate: u64, phase: u64, clock: u64, payload: &[u8], chips: &mut [u8]) -> Written {
     chips.fill(LOST);
-    match frame_of(kind, rate, phase, payload, chips.len()) {
+    match frame_of(kind, rate, phase, clock, payload, chips.len()) {
         Ok(frame) => {
             chips[..frame.len()].copy_from_slice(&frame);
             Written { number: 0, chips: frame.len() as u64 }
@@ -24,7 +24,7 @@ pub fn write(kind: u64, rate: u64, phase: u64, payload: &[u8], chips: &mut [u8])
     }
 }
 
-fn frame_of(kind: u64, rate: u64, phase: u64, payload: &[u8], room: usize) -> Result<Vec<Phase>, u64> {
+fn frame_of(kind: u64, rate: u64, phase: u64, clock: u64, payload: &[u8], room: usize) -> Result<Vec<Phase>, u64> {
     let kind = Kind::of_number(kind).ok_or(refusals::KIND)?;
     let rate = Rate::of_code(rate).ok_or(refusals::RATE)?;
     if !kind.has(rate) {
@@ -39,7 +39,8 @@ fn frame_of(kind: u64, rate: u64, phase: u64, payload: &[u8], room: usize) -> Re
     if room < kind.front_chips() + rate.payload_chips(payload.len()) {
         return Err(refusals::CHIP_BUFFER);
     }
-    let header = Header::written(rate, payload.len());
+    // A yes or no is 0 for no, any other number for yes.
+    let header = Header::written(rate, payload.len(), clock != 0);
     let front = front_bits(&kind.sync(), kind.sfd(), &header, header.crc());
     Ok(frame_chips(kind, rate, phase as Phase, &front, payload))
 }

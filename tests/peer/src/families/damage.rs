@@ -12,22 +12,23 @@ pub fn unusable_octets(out: &mut Out) {
     const UNUSABLE: [u8; 9] = [5, 6, 8, 16, 127, 128, 131, 254, 255];
     for (kind, rate) in pairs() {
         let n = 1;
-        let mut chips = Draft::random(kind, rate, n, &mut out.random).chips();
-        chips.extend([0, 1, 2]);
+        let frames = Draft::random(kind, rate, n, &mut out.random).both_clocks();
+        let frames = frames.map(|chips| [chips, vec![0, 1, 2]].concat());
+        let len = frames[0].len();
         let step = if kind == Kind::Long { out.step(5) } else { out.step(2) };
         // The front in steps, its last chip, all of the payload and the chips after it.
-        for place in (0..kind.front_chips() - 1).step_by(step).chain(kind.front_chips() - 1..chips.len()) {
-            let mut spoiled = chips.clone();
+        for place in (0..kind.front_chips() - 1).step_by(step).chain(kind.front_chips() - 1..len) {
+            let mut spoiled = out.random.one_of(&frames).clone();
             spoiled[place] = out.random.pick(&UNUSABLE);
             if out.random.once_in(3) {
-                let second = out.random.below(chips.len());
+                let second = out.random.below(len);
                 spoiled[second] = out.random.pick(&UNUSABLE);
             }
             out.call(Call::hard(kind.number(), spoiled, n));
         }
         for octet in 4..=255 {
-            let mut spoiled = chips.clone();
-            let place = out.random.below(chips.len());
+            let mut spoiled = out.random.one_of(&frames).clone();
+            let place = out.random.below(len);
             spoiled[place] = octet;
             out.call(Call::hard(kind.number(), spoiled, n));
         }
@@ -37,9 +38,10 @@ pub fn unusable_octets(out: &mut Out) {
 pub fn odd_growths(out: &mut Out) {
     for kind in Kind::BOTH {
         let rate = if kind == Kind::Long { Rate::Mbit1 } else { Rate::Mbit2 };
-        let chips = Draft::random(kind, rate, 2, &mut out.random).chips();
-        for symbol in 0..chips.len() / 11 {
+        let frames = Draft::random(kind, rate, 2, &mut out.random).both_clocks();
+        for symbol in 0..frames[0].len() / 11 {
             let at = 11 * symbol;
+            let chips = out.random.one_of(&frames);
             for by in 1..4 {
                 let mut alone = chips.clone();
                 turn(&mut alone[at..at + 11], by);

@@ -1,7 +1,8 @@
 //! Headers of every SIGNAL, SERVICE and many LENGTH, and what stands before them.
 
-use super::{any_pair, pairs, Draft, Out, Recorder};
+use super::{any_pair, pairs, turn, Draft, Out, Recorder};
 use crate::bits::Rate;
+use crate::calls::Call;
 use crate::frame::{Header, Kind};
 use crate::random::Random;
 
@@ -63,9 +64,13 @@ pub fn every_length(out: &mut Out) {
         };
         let around_most = most - 20..=most + 40;
         let far = (most + 41..1 << 16).step_by(out.step(997));
-        for length in (0..200).chain((200..most - 20).step_by(step)).chain(around_most).chain(far) {
-            for service in if rate == Rate::Mbit11 { &[0, 128][..] } else { &[0][..] } {
-                let header = Header { signal: rate.code(), service: *service, length: length as u16 };
+        for length in (0..200).chain((200..most - 20).step_by(step)).chain(around_most.clone()).chain(far) {
+            let bits7 = if rate == Rate::Mbit11 { &[0, 128][..] } else { &[0][..] };
+            // Both clock bits of the first LENGTHs and of those around the most, one of them of the others.
+            let any = [out.random.pick(&[0, 4])];
+            let clocks = if length < 20 || around_most.contains(&length) { &[0, 4][..] } else { &any[..] };
+            for service in bits7.iter().flat_map(|bit7| clocks.iter().map(move |clock| bit7 | clock)) {
+                let header = Header { signal: rate.code(), service, length: length as u16 };
                 let front = Draft::new(kind, rate, 3, vec![]).with_header(header).front();
                 out.hard_and_bytes(12, kind.number(), front, 0);
             }
@@ -85,7 +90,7 @@ pub fn headers_with_payload(out: &mut Out) {
             2 => header.length -= 1,
             3 => header.service ^= 1 << out.random.below(8),
             4 => header.length = some_length(rate, &mut out.random),
-            5 => header = Header::written(out.random.pick(&Rate::ALL), n),
+            5 => header = Header::written(out.random.pick(&Rate::ALL), n, out.random.once_in(2)),
             _ => {}
         }
         draft = draft.with_header(header);
@@ -98,9 +103,9 @@ pub fn headers_with_payload(out: &mut Out) {
 }
 
 pub fn sfd_and_crc(out: &mut Out) {
-    for kind in Kind::BOTH {
+    for (kind, clock) in Kind::BOTH.into_iter().flat_map(|kind| [(kind, false), (kind, true)]) {
         let other = if kind == Kind::Long { Kind::Short } else { Kind::Long };
-        let draft = Draft::random(kind, Rate::Mbit11, 2, &mut out.random);
+        let draft = Draft::random(kind, Rate::Mbit11, 2, &mut out.random).with_clock(clock);
         let mut drafts = Vec::new();
         for bit in 0..16 {
             drafts.push(Draft { sfd: draft.sfd ^ 1 << bit, ..draft.clone() });
@@ -124,8 +129,8 @@ pub fn sfd_and_crc(out: &mut Out) {
                 out.call(recorder.reading(kind.number(), draft.chips(), 2));
             }
         }
-        for _ in 0..out.cases(600) {
-            let mut draft = Draft::random(kind, Rate::Mbit11, 1, &mut out.random);
+        for _ in 0..out.cases(300) {
+            let mut draft = Draft::random(kind, Rate::Mbit11, 1, &mut out.random).with_clock(clock);
             match out.random.below(3) {
                 0 => draft.sfd = out.random.below(1 << 16) as u16,
                 1 => draft.crc = out.random.below(1 << 16) as u16,
@@ -145,5 +150,56 @@ pub fn sync_not_compared(out: &mut Out) {
             *bit = out.random.below(2) as u8;
         }
         out.hard_and_bytes(4, kind.number(), draft.chips(), n);
+    }
+}
+
+/// A reading of a draft by a recorder with room for its payload.
+fn reading(draft: &Draft, recorder: Recorder) -> Call {
+    recorder.reading(draft.kind.number(), draft.chips(), draft.payload.len())
+}
+
+/// Readings of a draft that are refused behind its good header, by each number that can be, the draft itself between.
+fn refused_behind(draft: &Draft, recorder: Recorder, out: &mut Out) {
+    let (kind, n, chips) = (draft.kind.number(), draft.payload.len(), draft.chips());
+    let (front, each) = (draft.kind.front_chips(), draft.rate.chips_per_symbol());
+    for length in [0, draft.header.length + 1, 0xFFFF] {
+        let header = Header { length, ..draft.header };
+        out.call(reading(&draft.clone().with_header(header), recorder));
+    }
+    for (len, room) in [(front, n), (chips.len() - 1, n), (chips.len(), 0), (chips.len(), n - 1), (front, 0)] {
+        out.call(recorder.reading(kind, chips[..len].to_vec(), room));
+        out.call(reading(draft, recorder));
+    }
+    let symbols = (chips.len() - front) / each;
+    for symbol in [0, out.random.below(symbols), symbols - 1] {
+        let at = front + each * symbol;
+        let (mut unusable, mut turned) = (chips.clone(), chips.clone());
+        unusable[at] = 200;
+        turn(&mut turned[at..at + each], 1);
+        out.call(recorder.reading(kind, unusable, n));
+        out.call(recorder.reading(kind, turned, n));
+    }
+}
+
+pub fn clock_bits(out: &mut Out) {
+    const SERVICES: [u8; 13] = [0, 4, 128, 132, 1, 2, 6, 8, 12, 64, 68, 136, 255];
+    for (kind, rate) in pairs() {
+        // Eleven octets more have the same bit 7.
+        for n in 1..=11 {
+            let draft = Draft::random(kind, rate, n, &mut out.random);
+            for service in SERVICES {
+                let header = Header { service, ..draft.header };
+                for recorder in Recorder::ALL {
+                    out.call(reading(&draft.clone().with_header(header), recorder));
+                }
+            }
+        }
+        let (few, many) = (out.random.within(2, 40), out.random.within(301, 600));
+        for n in [1, 3, few, many] {
+            for (recorder, clock) in Recorder::ALL.into_iter().flat_map(|one| [(one, false), (one, true)]) {
+                let draft = Draft::random(kind, rate, n, &mut out.random).with_clock(clock);
+                refused_behind(&draft, recorder, out);
+            }
+        }
     }
 }

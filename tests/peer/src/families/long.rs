@@ -59,17 +59,18 @@ fn edge_places(kind: Kind, rate: Rate, n: usize, random: &mut Random) -> BTreeSe
 pub fn long_unusable(out: &mut Out) {
     for (kind, rate) in pairs() {
         for n in some_of_each(&[(9, 64), (301, 1022), (1300, 4095), (4095, 4095)], &mut out.random) {
-            let chips = Draft::random(kind, rate, n, &mut out.random).chips();
-            let always = [kind.front_chips(), 65_535, 65_536, chips.len() - 1];
+            let frames = Draft::random(kind, rate, n, &mut out.random).both_clocks();
+            let last = frames[0].len() - 1;
+            let always = [kind.front_chips(), 65_535, 65_536, last];
             for place in edge_places(kind, rate, n, &mut out.random) {
                 // Of the longest frames a third of the places, as each call takes long.
                 if n > 1022 && !out.long && !always.contains(&place) && !out.random.once_in(3) {
                     continue;
                 }
-                let mut spoiled = chips.clone();
+                let mut spoiled = out.random.one_of(&frames).clone();
                 spoiled[place] = out.random.within(5, 255) as u8;
                 if out.random.once_in(3) {
-                    let second = out.random.within(place, chips.len() - 1);
+                    let second = out.random.within(place, last);
                     spoiled[second] = 0xFF;
                 }
                 // No byte is unusable.
@@ -86,7 +87,7 @@ const FAR: usize = 5766;
 pub fn long_growths(out: &mut Out) {
     for (n, most) in [(9, 50), (17, 50), (65, 50), (301, 30), (500, 40), (900, 52), (4095, 9)] {
         let n = n + out.random.below(4) * usize::from(n < 4095);
-        let chips = Draft::random(Kind::Long, Rate::Mbit1, n, &mut out.random).chips();
+        let frames = Draft::random(Kind::Long, Rate::Mbit1, n, &mut out.random).both_clocks();
         let mut symbols = vec![8 * n - 1, 0];
         if 8 * n > FAR {
             symbols.extend([FAR, FAR + 1]);
@@ -95,7 +96,8 @@ pub fn long_growths(out: &mut Out) {
         symbols.extend(edges(8 * n, &mut out.random));
         for (case, symbol) in symbols.into_iter().take(out.cases(most)).enumerate() {
             let recorder = Recorder::HARD_TWICE[(case + n) % 4];
-            let turned = turned_at(symbol, n, &chips, &mut out.random);
+            let chips = out.random.one_of(&frames);
+            let turned = turned_at(symbol, n, chips, &mut out.random);
             out.call(recorder.reading(Kind::Long.number(), turned, n));
         }
     }
@@ -121,11 +123,11 @@ fn turned_at(symbol: usize, n: usize, chips: &[u8], random: &mut Random) -> Vec<
 pub fn long_cuts(out: &mut Out) {
     for (kind, rate) in pairs() {
         for n in some_of_each(&[(65, 300), (301, 1022), (1300, 4094), (4095, 4095)], &mut out.random) {
-            let mut chips = Draft::random(kind, rate, n, &mut out.random).chips();
-            let (front, frame) = (kind.front_chips(), chips.len());
+            let mut frames = Draft::random(kind, rate, n, &mut out.random).both_clocks();
+            let (front, frame) = (kind.front_chips(), frames[0].len());
             if out.random.once_in(2) {
                 let at = out.random.within(front, frame - 1);
-                chips[at] = 200;
+                frames.iter_mut().for_each(|chips| chips[at] = 200);
             }
             let fixed = [front, front + 1, front + 64, 65_535, 65_536, 65_537, frame - 65, frame - 11, frame - 2];
             let any: Vec<usize> = (0..8).map(|_| out.random.within(front, frame - 1)).collect();
@@ -133,7 +135,8 @@ pub fn long_cuts(out: &mut Out) {
             for len in lens.into_iter().filter(|len| (front..frame).contains(len)) {
                 let room = out.random.pick(&[n, n, n - 1, 0]);
                 let recorder = out.random.pick(&Recorder::HARD_TWICE);
-                out.call(recorder.reading(kind.number(), chips[..len].to_vec(), room));
+                let cut = out.random.one_of(&frames)[..len].to_vec();
+                out.call(recorder.reading(kind.number(), cut, room));
             }
         }
     }
@@ -142,16 +145,17 @@ pub fn long_cuts(out: &mut Out) {
 pub fn long_rooms(out: &mut Out) {
     for (kind, rate) in pairs() {
         for n in some_of_each(&[(65, 300), (301, 600), (601, 1022), (1300, 4095)], &mut out.random) {
-            let mut chips = Draft::random(kind, rate, n, &mut out.random).chips();
+            let mut frames = Draft::random(kind, rate, n, &mut out.random).both_clocks();
             if out.random.once_in(2) {
-                let at = out.random.within(kind.front_chips(), chips.len() - 1);
-                chips[at] = 66;
+                let at = out.random.within(kind.front_chips(), frames[0].len() - 1);
+                frames.iter_mut().for_each(|chips| chips[at] = 66);
             }
             let any = [(); 4].map(|()| out.random.below(n));
             let rooms: BTreeSet<usize> = [0, 1, 64, 255, 256, 300, n / 2, n - 1].into_iter().chain(any).collect();
             for room in rooms.into_iter().filter(|room| *room < n) {
                 let recorder = out.random.pick(&Recorder::HARD_TWICE);
-                out.call(recorder.reading(kind.number(), chips.clone(), room));
+                let chips = out.random.one_of(&frames).clone();
+                out.call(recorder.reading(kind.number(), chips, room));
             }
         }
     }
@@ -172,13 +176,13 @@ pub fn block_edges(out: &mut Out) {
         // At least 130 symbols, and about 20 octets and 300.
         let least = (130 * rate.bits_per_symbol()).div_ceil(8);
         for n in [least + out.random.below(3), 20, 301 + out.random.below(60)] {
-            let chips = Draft::random(kind, rate, n, &mut out.random).chips();
+            let frames = Draft::random(kind, rate, n, &mut out.random).both_clocks();
             let (front, each) = (kind.front_chips(), rate.chips_per_symbol());
             let by_octet = edges(n, &mut out.random).into_iter().map(|octet| octet * 8 / rate.bits_per_symbol());
-            let by_symbol = edges((chips.len() - front) / each, &mut out.random);
+            let by_symbol = edges((frames[0].len() - front) / each, &mut out.random);
             let symbols: BTreeSet<usize> = by_octet.chain(by_symbol).collect();
             for symbol in symbols {
-                let mut spoiled = chips.clone();
+                let mut spoiled = out.random.one_of(&frames).clone();
                 let at = front + each * symbol;
                 damage(&mut spoiled[at..at + each], rate, &mut out.random);
                 let recorder = out.random.pick(&Recorder::HARD_TWICE);

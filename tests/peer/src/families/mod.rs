@@ -9,6 +9,8 @@
 //! - The scrambler started again at the header or payload: the same.
 //! - SFD sent highest bit first: `write_short_payloads`, and every read of a good front.
 //! - Halves of a count always rounded up: `halves_of_a_count`, `tiny_values`.
+//! - A yes of the clock taken as no, or the clock bit lost: `write_clocks`, every read of a good frame.
+//! - The clock bit shown in a refusal, or refused itself: `clock_bits`, `every_signal_and_service`.
 
 mod bytes;
 mod damage;
@@ -48,6 +50,7 @@ families! {
     203 written::write_every_n: "a sweep of n at each rate; every n in the longer run, but at 1 and 2 Mbit/s",
     204 written::write_numbers: "kind, rate, phase, payload and buffer out of range, alone and together",
     205 written::write_edges: "payload of 0, 4,095 and 4,096 octets, buffers a chip short, exact and longer",
+    206 written::write_clocks: "each of many clock numbers, at every kind, rate and phase, and beside each refusal",
     301 restored::read_short_payloads: "recordings of 1 to 64 octets, all kinds, rates and phases",
     302 restored::read_long_payloads: "recordings of 1,023 to 1,026 and 4,095 octets",
     303 restored::read_rooms: "octet buffers shorter than n, exact and longer",
@@ -57,6 +60,7 @@ families! {
     403 headers::headers_with_payload: "right CRC and chips behind it, LENGTH near the payload's",
     404 headers::sfd_and_crc: "SFD and CRC with bits changed, turned round, of the other kind",
     405 headers::sync_not_compared: "any SYNC bits at all",
+    406 headers::clock_bits: "each SERVICE with and without the clock bit, whole, cut, short of room and spoiled",
     501 refused::read_numbers: "kinds, lengths and buffers out of range, alone and together",
     502 refused::rows_that_differ: "I and Q rows of different length",
     503 refused::empty_rows: "every row empty, alone and together",
@@ -148,6 +152,18 @@ pub fn any_pair(random: &mut Random) -> (Kind, Rate) {
     random.pick(&all)
 }
 
+/// Clock numbers: 0 is no, all others are yes, whatever a narrower number would make of them.
+pub const CLOCKS: [u64; 11] = [0, 1, 2, 3, 4, 255, 256, 1 << 32, 1 << 40, 1 << 63, u64::MAX];
+
+/// No, or any yes.
+pub fn any_clock(random: &mut Random) -> u64 {
+    if random.once_in(2) {
+        0
+    } else {
+        random.pick(&CLOCKS[1..])
+    }
+}
+
 /// A frame whose parts can be set apart from what the writer would make.
 #[derive(Clone)]
 pub struct Draft {
@@ -162,16 +178,23 @@ pub struct Draft {
 }
 
 impl Draft {
-    /// As the writer makes it.
+    /// As the writer makes it, without the clock bit.
     pub fn new(kind: Kind, rate: Rate, phase: u8, payload: Vec<u8>) -> Draft {
-        let header = Header::written(rate, payload.len());
+        let header = Header::written(rate, payload.len(), false);
         Draft { kind, rate, phase, sync: kind.sync(), sfd: kind.sfd(), header, crc: header.crc(), payload }
     }
 
-    /// Of n random octets and any phase.
+    /// Of n random octets, any phase and either clock bit.
     pub fn random(kind: Kind, rate: Rate, n: usize, random: &mut Random) -> Draft {
-        let phase = random.phase();
-        Draft::new(kind, rate, phase, random.octets(n))
+        let (phase, clock) = (random.phase(), random.once_in(2));
+        Draft::new(kind, rate, phase, random.octets(n)).with_clock(clock)
+    }
+
+    /// The clock bit set or not, with the right CRC.
+    pub fn with_clock(self, clock: bool) -> Draft {
+        let service = self.header.service & !4 | u8::from(clock) << 2;
+        let header = Header { service, ..self.header };
+        self.with_header(header)
     }
 
     /// Another header with its right CRC.
@@ -182,6 +205,11 @@ impl Draft {
     pub fn chips(&self) -> Vec<u8> {
         let front = front_bits(&self.sync, self.sfd, &self.header, self.crc);
         frame_chips(self.kind, self.rate, self.phase, &front, &self.payload)
+    }
+
+    /// The chips without the clock bit and with it, for calls that are made of one frame.
+    pub fn both_clocks(&self) -> [Vec<u8>; 2] {
+        [false, true].map(|clock| self.clone().with_clock(clock).chips())
     }
 
     pub fn front(&self) -> Vec<u8> {

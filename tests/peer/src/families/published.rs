@@ -32,7 +32,7 @@ pub fn published_figures(out: &mut Out) {
         if let Some((rate, payload)) = &figure.frame {
             let chips = Draft::new(figure.kind, *rate, 0, payload.clone()).chips();
             let (kind, n) = (figure.kind.number(), payload.len());
-            out.call(Call::write(kind, u64::from(rate.code()), 0, payload.clone(), chips.len()));
+            out.call(Call::write(kind, u64::from(rate.code()), 0, 0, payload.clone(), chips.len()));
             for recorder in Recorder::ALL {
                 out.call(recorder.reading(kind, chips.clone(), n));
             }

@@ -1,6 +1,6 @@
 //! Refusals of the readers, at their edges and several at once.
 
-use super::{any_pair, byte_row, bytes_of, pairs, soft_rows, turn, Draft, Out, Recorder};
+use super::{any_clock, any_pair, byte_row, bytes_of, pairs, soft_rows, turn, Draft, Out, Recorder};
 use crate::bits::Rate;
 use crate::calls::Call;
 use crate::frame::Kind;
@@ -100,7 +100,8 @@ pub fn empty_rows(out: &mut Out) {
         }
         for rate in [10, 20, 55, 110, 0] {
             for (n, chips_len) in [(0, 0), (0, 3000), (1, 0), (4096, 0)] {
-                out.call(Call::write(kind, rate, 0, vec![0xC3; n], chips_len));
+                let clock = any_clock(&mut out.random);
+                out.call(Call::write(kind, rate, 0, clock, vec![0xC3; n], chips_len));
             }
         }
     }
@@ -140,7 +141,7 @@ fn wrong_reading(set: usize, recorder: Recorder, random: &mut Random) -> Call {
         draft.header.signal = random.pick(&others);
     }
     if wrong(SERVICE) {
-        draft.header.service ^= 1 << random.below(7);
+        draft.header.service ^= 1 << random.pick(&[0, 1, 3, 4, 5, 6]);
     }
     if wrong(LENGTH) {
         draft.header.length = random.pick(&[0, draft.header.length + 1, draft.header.length | 0x8000, 0xFFFF]);
@@ -241,9 +242,9 @@ pub fn pairs_of_refusals(out: &mut Out) {
 pub fn cut_recordings(out: &mut Out) {
     for (kind, rate) in pairs() {
         for n in [1, 2, 5] {
-            let mut chips = Draft::random(kind, rate, n, &mut out.random).chips();
-            let (front, frame) = (kind.front_chips(), chips.len());
-            chips.extend([3, 2, 1]);
+            let frames = Draft::random(kind, rate, n, &mut out.random).both_clocks();
+            let (front, frame) = (kind.front_chips(), frames[0].len());
+            let frames = frames.map(|chips| [chips, vec![3, 2, 1]].concat());
             let lens: BTreeSet<usize> = (0..front)
                 .step_by(out.step(131))
                 .chain((front..frame).step_by(out.step(7)))
@@ -251,7 +252,7 @@ pub fn cut_recordings(out: &mut Out) {
                 .chain(frame - 13..=frame + 3)
                 .collect();
             for len in lens {
-                let mut cut = chips[..len].to_vec();
+                let mut cut = out.random.one_of(&frames)[..len].to_vec();
                 if len > 0 && out.random.once_in(4) {
                     let at = out.random.below(len);
                     cut[at] = 200;

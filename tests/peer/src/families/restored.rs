@@ -7,7 +7,8 @@ pub fn read_short_payloads(out: &mut Out) {
     for (kind, rate) in pairs() {
         for phase in 0..4 {
             for n in 1..=64 {
-                let chips = Draft::new(kind, rate, phase, out.random.octets(n)).chips();
+                let draft = Draft::new(kind, rate, phase, out.random.octets(n));
+                let chips = draft.with_clock(out.random.once_in(2)).chips();
                 let room = n + out.random.pick(&[0, 0, 1, 9]);
                 let size = out.random.pick(&[1.0, 1.0, 0.5, 8.0, 3.3, 0.002, 0.01]);
                 if out.long || n % 4 == usize::from(phase) {
@@ -22,7 +23,8 @@ pub fn read_short_payloads(out: &mut Out) {
             }
         }
         for octet in 0..=255 {
-            let chips = Draft::new(kind, rate, out.random.phase(), vec![octet]).chips();
+            let draft = Draft::new(kind, rate, out.random.phase(), vec![octet]);
+            let chips = draft.with_clock(out.random.once_in(2)).chips();
             out.hard_and_bytes(4, kind.number(), chips, 1);
         }
     }
@@ -47,12 +49,14 @@ pub fn read_long_payloads(out: &mut Out) {
 pub fn read_rooms(out: &mut Out) {
     for (kind, rate) in pairs() {
         for n in [1, 2, 3, 7, 16] {
-            let chips = Draft::random(kind, rate, n, &mut out.random).chips();
+            let frames = Draft::random(kind, rate, n, &mut out.random).both_clocks();
             // Rooms that are below n in their lowest octet or 16 bits are long enough.
             for room in (0..=n + 3).chain([255, 256, 4095, 4096, 65_535, 65_536]) {
-                out.call(Call::hard(kind.number(), chips.clone(), room));
+                let chips = out.random.one_of(&frames).clone();
+                out.call(Call::hard(kind.number(), chips, room));
             }
             for room in [0, n - 1, n, n + 1, 256, 5000] {
+                let chips = out.random.one_of(&frames);
                 out.call(Recorder::Soft.reading(kind.number(), chips.clone(), room));
                 out.call(Recorder::Bytes.reading(kind.number(), chips.clone(), room));
             }

@@ -194,11 +194,12 @@ const UNUSABLE: [u32; 14] = [
 pub fn unusable_values(out: &mut Out) {
     for (kind, rate) in pairs() {
         let n = 1;
-        let (i, q) = soft_rows(&Draft::random(kind, rate, n, &mut out.random).chips(), 1.0);
+        let frames = Draft::random(kind, rate, n, &mut out.random).both_clocks();
         let step = if kind == Kind::Long { out.step(13) } else { out.step(7) };
         // The front in steps, its last chip and all of the payload.
-        for place in (0..kind.front_chips() - 1).step_by(step).chain(kind.front_chips() - 1..i.len()) {
-            let (mut i, mut q) = (i.clone(), q.clone());
+        for place in (0..kind.front_chips() - 1).step_by(step).chain(kind.front_chips() - 1..frames[0].len()) {
+            let chips = out.random.one_of(&frames);
+            let (mut i, mut q) = soft_rows(chips, 1.0);
             for place in [place, out.random.below(i.len())] {
                 let value = f32::from_bits(out.random.pick(&UNUSABLE));
                 match out.random.below(3) {
