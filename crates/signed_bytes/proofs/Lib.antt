@@ -2,3 +2,4 @@ pub mod Units
 pub mod Abreast
 pub mod Sixteen
 pub mod Groups
+pub mod Gathered

@@ -11,7 +11,8 @@ use lib.ListN.{getD}
 use lib.IntN.{ℤ, pos}
 use mir.Syntax.{Width}
 use mir.Val.{toZ, ofZ, hbits}
-use Rattle.base.proofs.Whole.{small}
+use Rattle.base.specs.Whole.{Within}
+use Rattle.base.proofs.Whole.{small, within-more}
 use Rattle.choosing.specs.Scores.{RowWithin}
 use Rattle.choosing.specs.Keys.{larger, bigger, keyOf, Largest, HoldsLargest}
 use Rattle.sums.specs.Sums.{keyAt}
@@ -82,3 +83,33 @@ holds-two w {b} k h j r e = holds-both (holds-one (keyAt h) j refl) (holds-one (
   where
     same : (n : ℕ) → toZ w (ofZ w (getD h n (pos 0))) ≡ getD h n (pos 0)
     same n = small w b k _ (r .at n)
+
+-- ---- eight scores: the larger of each two, of each four, of all
+module _ (w : Width) {b : ℕ} (room : b < 2 ^ hbits w) (h : List ℤ) (r : RowWithin b h) where
+  abbrev read : ℤ → ℤ
+  read z = toZ w (ofZ w z)
+
+  pub within-two : (m j : ℕ) → b ≤ m → Within m (read (getD h j (pos 0))) × Within m (read (getD h (suc j) (pos 0)))
+  within-two m j l = (one j, one (suc j))
+    where
+      one : (k : ℕ) → Within m (read (getD h k (pos 0)))
+      one k = rw (small w b room _ (r .at k)) (within-more (r .at k) l)
+
+  -- the larger key of two neighbours, and of two that are read back
+  abbrev OfTwo : ℕ → ℤ → Type 0
+  OfTwo j z =
+      z ≡ larger (pos (keyOf 8 j (read (getD h j (pos 0))))) (pos (keyOf 8 (suc j) (read (getD h (suc j) (pos 0)))))
+
+  abbrev OfBoth : ℤ → ℤ → ℤ → Type 0
+  OfBoth u v z = (z ≡ larger (read u) (read v)) × (read u ≡ u) × (read v ≡ v)
+
+  both-read : {k : ℕ → ℕ} {a c d : ℕ} {u v z : ℤ} → HoldsLargest k a c u → HoldsLargest k c d v → OfBoth u v z
+      → HoldsLargest k a d z
+  both-read t s e = holds-both t s (e .0 ∙ (λ i. larger (e .1 i) (e .2 i)))
+
+  pub holds-eight : {x y u v m n z : ℤ} → OfTwo 0 x → OfTwo 2 y → OfTwo 4 u → OfTwo 6 v → OfBoth x y m → OfBoth u v n
+      → OfBoth m n z → read z ≡ z → HoldsLargest (keyAt h) 0 8 (read z)
+  holds-eight ex ey eu ev em en ez is =
+      let low = both-read (holds-two w room h 0 r ex) (holds-two w room h 2 r ey) em in
+      let high = both-read (holds-two w room h 4 r eu) (holds-two w room h 6 r ev) en in
+      holds-both low high (is ∙ ez .0 ∙ (λ i. larger (ez .1 i) (ez .2 i)))
