@@ -34,7 +34,7 @@ use Rattle.reading.specs.Reading.{
 }
 use Rattle.clean.specs.Clean.{cleanRecording}
 use Rattle.clean.proofs.Decided.{clean-length}
-use Rattle.clean.proofs.Local.{front-local}
+use Rattle.reading.proofs.Local.{front-same}
 use Rattle.clean.proofs.Whole as whole
 
 module _ (kind : ℕ) (r : Rate) (p : ℕ) (clock : Bool) (xs : List ℕ) (is-kind : isKind kind ≡ true) (l : p < 4) where
@@ -63,7 +63,7 @@ module _ (kind : ℕ) (r : Rate) (p : ℕ) (clock : Bool) (xs : List ℕ) (is-ki
   opened agree rec room e = rw (is-kind, e)
 
   module _ (goes : goesWith k r ≡ true) (some : 1 ≤ n) (few : n ≤ 4095) where
-    front-is : (rest : List Taken) → frontOf k (clean ++ rest) ≡ front.Fields t
+    pub front-is : (rest : List Taken) → frontOf k (clean ++ rest) ≡ front.Fields t
     unfolding frame
     front-is rest =
         whole.front-read k r p header xs rest l (sent-length r clock n) (sent-below r clock n)
@@ -133,15 +133,11 @@ module _ (kind : ℕ) (r : Rate) (p : ℕ) (clock : Bool) (xs : List ℕ) (is-ki
           opened agree cut room e ∙ ap (λ f. afterFront k cut room (wholeOf k cut f)) known
           ∙ ap (afterFront k cut room) ends
         where
-          long : frontChips k ≤ length (clean ++ [])
-          long = rw append-nil (omega (arith, clean-length (frame k r p clock xs), frame-length k r p clock xs))
-
           known : frontOf k cut ≡ front.Fields t
           known =
-              sym (front-local k cut (omega (arith, cut-length)))
-              ∙ ap (frontOf k)
+              front-same k cut (clean ++ [])
               (take-take (frontChips k) j clean h ∙ ap (take (frontChips k)) (sym (append-nil clean)))
-              ∙ front-local k (clean ++ []) long ∙ front-is []
+              ∙ front-is []
 
           ends : wholeOf k cut (front.Fields t) ≡ front.Refused (Ends (lengthField r n))
           ends = rw (lt-ltb (length cut) (frameChips k r n) (omega (arith, cut-length)))

@@ -3,7 +3,6 @@ pub mod Decided
 pub mod Parts
 pub mod Listened
 pub mod Whole
-pub mod Local
 pub mod Recorded
 pub mod Rows
 pub mod Back

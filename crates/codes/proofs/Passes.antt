@@ -3,7 +3,7 @@
 --     descramble-take                       only the last seven of them matter
 --     growth-two                            a growth as two bits
 --     oddGrowth-append                      the first odd growth of two parts
---     decidedWords-append, -length          the words of two parts of a recording
+--     decidedWords-append                   the words of two parts of a recording
 -- Assumes nothing.
 use mathlib.Core.Path.{_≡_, refl, sym, ap, _∙_}
 use mathlib.Core.Bool.{Bool, true, false, cond}
@@ -82,11 +82,6 @@ oddGrowth-append Five at a b = refl
 oddGrowth-append Eleven at a b = refl
 
 -- ---- decided words
-
-pub decidedWords-length : (r : Rate) (m : ℕ) (cs : List Taken) → length (decidedWords r m cs) ≡ m
-unfolding decidedWords
-decidedWords-length r zero cs = refl
-decidedWords-length r (suc m) cs = ap suc (decidedWords-length r m (drop (symbolChips r) cs))
 
 pub decidedWords-append : (r : Rate) (m n : ℕ) (cs : List Taken)
     → decidedWords r (m + n) cs ≡ decidedWords r m cs ++ decidedWords r n (drop (symbolChips r * m) cs)

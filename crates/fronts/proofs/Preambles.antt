@@ -35,7 +35,8 @@ use Rattle.recorded.specs.Recorded.{whereFound, symbolAt, DecidedAt}
 use Rattle.blocks.specs.declared.Hearing.{Hearing}
 use Rattle.blocks.specs.Heard.{received, plainBits, plainOctets, Heard}
 use Rattle.hearing.specs.Hearing.{partWords, PartHeard}
-use Rattle.codes.proofs.Passes.{past-take, decidedWords-length}
+use Rattle.reading.proofs.Places.{decidedWords-length}
+use Rattle.codes.proofs.Passes.{past-take}
 use Rattle.hearing.proofs.Parts.{block-words, part-length, part-more, blocks-more, blocks-octets}
 use Rattle.kinds.specs.Starts.{Starts}
 use Rattle.fronts.specs.Openings.{syncOctets, preambleHeard, preambleOctets, PreambleLine}

@@ -44,7 +44,7 @@ use Rattle.recorded.specs.Recorded.{whereFound}
 use Rattle.blocks.specs.declared.Hearing.{Hearing}
 use Rattle.blocks.specs.Heard.{received, plainBits, Heard}
 use Rattle.hearing.specs.Hearing.{partWords, PartHeard}
-use Rattle.codes.proofs.Passes.{decidedWords-length}
+use Rattle.reading.proofs.Places.{decidedWords-length}
 use Rattle.hearing.proofs.Parts.{plain-length}
 use Rattle.fronts.specs.declared.Preamble.{Preamble}
 use Rattle.fronts.specs.Openings.{preambleHeard, PreambleKnown, Opened, FrontKnown}

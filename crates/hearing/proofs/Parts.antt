@@ -46,7 +46,8 @@ use Rattle.blocks.specs.declared.Hearing.{Hearing}
 use Rattle.codes.specs.Codes.{AreWords, BlockOf}
 use Rattle.blocks.specs.Heard.{received, plainBits, plainOctets, Heard}
 use Rattle.hearing.specs.Hearing.{partWords, PartHeard}
-use Rattle.codes.proofs.Passes.{past-take, descramble-take, oddGrowth-append, decidedWords-length, decidedWords-append}
+use Rattle.reading.proofs.Places.{decidedWords-length}
+use Rattle.codes.proofs.Passes.{past-take, descramble-take, oddGrowth-append, decidedWords-append}
 
 -- ---- the words of a block
 

@@ -1,13 +1,12 @@
 -- Demand 1's fills, from the contracts alone: what a write or a read leaves after its last chip or octet, and after a
 -- refusal. By the cases of the enum answer; a good one holds the frame, or the payload, within its buffer. Assumes
 -- nothing.
-use mathlib.Core.Path.{_≡_, refl, sym, ap, ap₂, _∙_}
+use mathlib.Core.Path.{_≡_, refl, sym, ap, ap₂, _∙_, subst}
 use mathlib.Core.Bool.{Bool, not}
 use mathlib.Core.List.{List}
 use Prim.Native.Nat.{ℕ, _-_, _≤_}
 use native.Mathlib.Omega.{arith}
-use lib.Dec.{ltb, nltb→le}
-use lib.ListN.{length, take, drop, replicate, length-append, length-replicate}
+use lib.ListN.{length, drop, replicate, length-append, length-replicate}
 use lib.Seq.{drop-at}
 use Rattle.base.proofs.Tests.{branch}
 use Rattle.rates.specs.declared.Rate.{Rate}
@@ -36,20 +35,19 @@ use Rattle.calls.specs.declared.Refusal.the-variants.{
 }
 use Rattle.calls.specs.declared.Writing.{Writing}
 use Rattle.calls.specs.declared.Writing.the-variants as writing
+use Rattle.calls.specs.declared.Told.{Told}
 use Rattle.calls.specs.declared.Front.{Front}
 use Rattle.calls.specs.declared.Front.the-variants as front
 use Rattle.calls.specs.declared.Reading.{Reading}
 use Rattle.calls.specs.declared.Reading.the-variants as reading
 use Rattle.calls.specs.declared.Written.{Written}
 use Rattle.calls.specs.declared.Record.{Record}
-use Rattle.frame.specs.Frame.{frame, frontChips, frameChips, isKind, kindOf, clockOf}
+use Rattle.frame.specs.Frame.{frame, frameChips, isKind, kindOf, clockOf}
 use Rattle.frame.proofs.Sizes.{frame-length}
 use Rattle.calls.specs.Answers.{refusalNumber, writtenOf, recordOf}
 use Rattle.calls.specs.Writing.{writingOf, chipsAfter, chipsWritten}
 use Rattle.reading.specs.Reading.{
-  firstUnusable,
   frontOf,
-  payloadOdd,
   payloadOf,
   wholeOf,
   payloadReading,
@@ -58,7 +56,7 @@ use Rattle.reading.specs.Reading.{
   octetsAfter,
   octetsFound,
 }
-use Rattle.reading.proofs.Telling.{elsewise}
+use Rattle.reading.proofs.Refusals.{PayloadIf, payload-comes}
 use Rattle.calls.proofs.WriteGood.{accepted}
 use Rattle.promises.specs.Promises.{WriteFills, ReadFills}
 
@@ -128,17 +126,12 @@ Fits room (reading.Refused e) = Unit {0}
 Fits room (reading.Good t used) = t .n ≤ room
 
 after-fits : (k : Kind) (rec : List Taken) (room : ℕ) (f : Front) → Fits room (afterFront k rec room f)
-unfolding payloadReading
 after-fits k rec room (front.Refused e) = tt
-after-fits k rec room (front.Fields t) =
-    branch (Fits room) (ltb room (t .n)) _ _ tt
-    (λ b. elsewise (Fits room)
-    (firstUnusable (frontChips k)
-    (take (frameChips k (t .rate) (t .n) - frontChips k) (drop (frontChips k) rec)))
-    (λ p. reading.Refused (Unusable p (t .length))) _ (λ p. tt)
-    (elsewise (Fits room) (payloadOdd k (t .rate) (t .n) rec) (λ p. reading.Refused (OddGrowth p (t .length))) _
-    (λ p. tt)
-    (nltb→le room (t .n) b)))
+after-fits k rec room (front.Fields t) = go (payloadReading k t rec room) (payload-comes k t rec room)
+  where
+    go : (g : Reading) → PayloadIf k t rec room g → Fits room g
+    go (reading.Refused e) p = tt
+    go (reading.Good u used) p = subst (λ (v : Told). v .n ≤ room) (sym (p .1)) (p .0)
 
 reading-fits : (kind : ℕ) (agree : Bool) (rec : List Taken) (room : ℕ) → Fits room (readingOf kind agree rec room)
 unfolding readingOf

@@ -3,11 +3,11 @@
 use mathlib.Core.Path.{_≡_, refl, sym, ap, _∙_, subst}
 use mathlib.Core.Bool.{Bool, true, not}
 use mathlib.Core.List.{List}
-use Prim.Native.Nat.{ℕ, zero, suc, _-_, _%_, _≤_}
+use Prim.Native.Nat.{ℕ, zero, suc, _%_, _≤_}
 use native.Mathlib.Omega.{arith}
 use borrow.Author.Tests.{leb-true, lt-ltb, le-ltb, ne-eqb}
 use lib.Dec.{T, ltb, leb, nltb→le}
-use lib.ListN.{length, take, drop}
+use lib.ListN.{length}
 use lib.IntN.{pos}
 use Rattle.base.specs.Below.{Below}
 use Rattle.base.proofs.Tests.{held, left-is, right-is, branch}
@@ -19,9 +19,9 @@ use Rattle.chips.specs.Chips.{Taken}
 use Rattle.frame.specs.declared.Kind.{Kind}
 use Rattle.frame.specs.Frame.{isKind, kindOf, goesWith, frontChips, frameChips}
 use Rattle.frame.proofs.Headers.{clock-lt}
-use Rattle.calls.specs.declared.Refusal.the-variants.{Unusable, OddGrowth}
 use Rattle.calls.specs.declared.Writing.{Writing}
 use Rattle.calls.specs.declared.Writing.the-variants as writing
+use Rattle.calls.specs.declared.Told.{Told}
 use Rattle.calls.specs.declared.Front.{Front}
 use Rattle.calls.specs.declared.Front.the-variants as front
 use Rattle.calls.specs.declared.Reading.{Reading}
@@ -30,14 +30,15 @@ use Rattle.calls.specs.declared.Written.{Written}
 use Rattle.calls.specs.declared.Record.{Record}
 use Rattle.calls.specs.Answers.{writtenOf, recordOf}
 use Rattle.calls.specs.Writing.{writingOf}
-use Rattle.reading.specs.Reading.{firstUnusable, frontOf, payloadOdd, wholeOf, payloadReading, afterFront, readingOf}
+use Rattle.reading.specs.Reading.{frontOf, wholeOf, payloadReading, afterFront, readingOf}
 use Rattle.promises.specs.Calls.{Goes, long-1, long-2, long-5, long-11, short-2, short-5, short-11, Sent}
 use Rattle.promises.specs.Only.{OnlySent, Readable, OnlyReadable, RefusedShows, RowsRefused, OddBytesRefused}
-use Rattle.reading.proofs.Telling.{elsewise, Telling, TellingIf, front-telling}
+use Rattle.reading.proofs.Telling.{TellingWhole, TellingWholeIf, whole-telling}
+use Rattle.reading.proofs.Refusals.{PayloadIf, payload-comes}
 use Rattle.promises.proofs.Fills.{some-number}
 
 -- ---- the kinds and the rates that go with them
-goes : (kind : ℕ) (r : Rate) → isKind kind ≡ true → goesWith (kindOf kind) r ≡ true
+pub goes : (kind : ℕ) (r : Rate) → isKind kind ≡ true → goesWith (kindOf kind) r ≡ true
     → Goes kind (codeOf r) (frontChips (kindOf kind)) (octetChips r)
 goes zero One a b = long-1
 goes zero Two a b = long-2
@@ -48,6 +49,12 @@ goes (suc zero) Two a b = short-2
 goes (suc zero) Five a b = short-5
 goes (suc zero) Eleven a b = short-11
 goes (suc (suc k)) r a b = absurd (subst T (sym a ∙ le-ltb (suc (suc k)) 2 (omega arith)) tt)
+
+pub code-back : (r : Rate) → rateOf (codeOf r) ≡ r
+code-back One = refl
+code-back Two = refl
+code-back Five = refl
+code-back Eleven = refl
 
 -- ---- writing
 module _ (kind rate phase : ℕ) (payload : List ℕ) (room : ℕ) (octets : Below 256 payload) where
@@ -107,48 +114,36 @@ module _ (kind : ℕ) (rec : List Taken) (room : ℕ) (kind-is : isKind kind ≡
   abbrev k : Kind
   k = kindOf kind
 
-  abbrev Whole-in : Front → Type 0
-  Whole-in (front.Refused e) = Unit {0}
-  Whole-in (front.Fields t) = Telling k t × (frameChips k (t .rate) (t .n) ≤ length rec)
-
-  whole-in : (f : Front) → TellingIf k f → Whole-in (wholeOf k rec f)
-  whole-in (front.Refused e) h = tt
-  whole-in (front.Fields t) h =
-      let all = frameChips k (t .rate) (t .n) in
-      branch Whole-in (ltb (length rec) all) _ _ tt (λ a. (h, nltb→le (length rec) all a))
-
   abbrev Readable-in : Reading → Type 0
   Readable-in (reading.Refused e) = Unit {0}
   Readable-in (reading.Good t used) = Readable kind (length rec) room (recordOf (reading.Good t used))
 
-  code-back : (r : Rate) → rateOf (codeOf r) ≡ r
-  code-back One = refl
-  code-back Two = refl
-  code-back Five = refl
-  code-back Eleven = refl
-
-  readable-in : (f : Front) → Whole-in f → Readable-in (afterFront k rec room f)
-  unfolding payloadReading
-  readable-in (front.Refused e) h = tt
-  readable-in (front.Fields t) h =
+  readable : (t : Told) → TellingWhole k rec t → t .n ≤ room
+      → Readable-in (reading.Good t (frameChips k (t .rate) (t .n)))
+  readable t h b =
       let r = t .rate in
-      let all = frameChips k r (t .n) in
-      branch Readable-in (ltb room (t .n)) _ _ tt
-      (λ b. elsewise Readable-in (firstUnusable (frontChips k) (take (all - frontChips k) (drop (frontChips k) rec)))
-      (λ p. reading.Refused (Unusable p (t .length))) _ (λ p. tt)
-      (elsewise Readable-in (payloadOdd k r (t .n) rec) (λ p. reading.Refused (OddGrowth p (t .length))) _ (λ p. tt)
-      (record {
+      record {
         front = frontChips k;
         octet = octetChips r;
-        goes = goes kind r kind-is (h .0 .goes);
-        some = h .0 .some-octets;
-        few = h .0 .few;
-        length-is = h .0 .length-is ∙ ap (λ (x : Rate). lengthField x (t .n)) (sym (code-back r));
+        goes = goes kind r kind-is (h .telling .goes);
+        some = h .telling .some-octets;
+        few = h .telling .few;
+        length-is = h .telling .length-is ∙ ap (λ (x : Rate). lengthField x (t .n)) (sym (code-back r));
         used-is = refl;
-        there = h .1;
-        fits = nltb→le room (t .n) b;
+        there = h .there;
+        fits = b;
         clock-is = clock-lt (t .clock);
-      })))
+      }
+
+  readable-in : (f : Front) → TellingWholeIf k rec f → Readable-in (afterFront k rec room f)
+  readable-in (front.Refused e) h = tt
+  readable-in (front.Fields t) h = go (payloadReading k t rec room) (payload-comes k t rec room)
+    where
+      go : (g : Reading) → PayloadIf k t rec room g → Readable-in g
+      go (reading.Refused e) p = tt
+      go (reading.Good u used) p =
+          subst (λ (v : Told). Readable-in (reading.Good v used)) (sym (p .1))
+          (subst (λ (m : ℕ). Readable-in (reading.Good t m)) (sym (p .2)) (readable t h (p .0)))
 
 -- a whole reading, where kind and rows pass
 abbrev Agreed : ℕ → Bool → List Taken → ℕ → Reading → Type 0
@@ -162,11 +157,10 @@ unfolding readingOf
 agreed kind agree rec room =
     branch (Agreed kind agree rec room) (not (isKind kind)) _ _ tt
     (λ a. branch (Agreed kind agree rec room) (not agree) _ _ tt
-    (λ b. let f = frontOf (kindOf kind) rec in
+    (λ b. let f = wholeOf (kindOf kind) rec (frontOf (kindOf kind) rec) in
     let known = held (isKind kind) a in
-    with-rows known (held agree b) (afterFront (kindOf kind) rec room (wholeOf (kindOf kind) rec f))
-    (readable-in kind rec room known (wholeOf (kindOf kind) rec f)
-    (whole-in kind rec room known f (front-telling (kindOf kind) rec)))))
+    with-rows known (held agree b) (afterFront (kindOf kind) rec room f)
+    (readable-in kind rec room known f (whole-telling (kindOf kind) rec))))
   where
     with-rows : (known : isKind kind ≡ true) → agree ≡ true → (g : Reading) → Readable-in kind rec room known g
         → Agreed kind agree rec room g

@@ -39,7 +39,7 @@ use Rattle.promises.specs.Calls.{
 use Rattle.promises.proofs.Kept.{kept}
 
 -- what the pairs of kind and rate say: two kinds, and 1 Mbit/s with the long one
-goes-kind : {kind rate front octet : ℕ} → Goes kind rate front octet → kind < 2
+pub goes-kind : {kind rate front octet : ℕ} → Goes kind rate front octet → kind < 2
 goes-kind long-1 = omega arith
 goes-kind long-2 = omega arith
 goes-kind long-5 = omega arith

@@ -39,7 +39,7 @@ use Rattle.lines.specs.declared.Line.{Line}
 use Rattle.blocks.specs.declared.Hearing.{Hearing}
 use Rattle.hearing.specs.Hearing.{PartHeard}
 use Rattle.bits.proofs.Heard.{heard-length}
-use Rattle.codes.proofs.Passes.{decidedWords-length}
+use Rattle.reading.proofs.Places.{decidedWords-length}
 use Rattle.fronts.specs.Openings.{Opened}
 
 -- how many bits the front has

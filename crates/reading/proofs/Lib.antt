@@ -1,3 +1,6 @@
-pub mod ReadFacts
+pub mod Facts
 pub mod Payloads
 pub mod Telling
+pub mod Refusals
+pub mod Places
+pub mod Local

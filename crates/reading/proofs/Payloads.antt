@@ -13,28 +13,28 @@ use Rattle.calls.specs.declared.Told.{Told}
 use Rattle.calls.specs.declared.Reading.the-variants.{Refused, Good}
 use Rattle.reading.specs.Reading.{firstUnusable, payloadOdd, payloadReading}
 
+-- the first unusable chip of a payload
+abbrev pub foundUnusable : Kind → Told → List Taken → Option ℕ
+foundUnusable k t rec =
+    let from = frontChips k in
+    firstUnusable from (take (frameChips k (t .rate) (t .n) - from) (drop from rec))
+
 module _ (k : Kind) (t : Told) (rec : List Taken) (room : ℕ) where
-  abbrev all : ℕ
-  all = frameChips k (t .rate) (t .n)
-
-  abbrev found : Option ℕ
-  found = firstUnusable (frontChips k) (take (all - frontChips k) (drop (frontChips k) rec))
-
   pub room-refused : room < t .n → payloadReading k t rec room ≡ Refused (OctetRoom (t .length))
   unfolding payloadReading
   room-refused h = rw (lt-ltb room (t .n) h)
 
-  pub unusable-refused : (p : ℕ) → t .n ≤ room → found ≡ some p
+  pub unusable-refused : (p : ℕ) → t .n ≤ room → foundUnusable k t rec ≡ some p
       → payloadReading k t rec room ≡ Refused (Unusable p (t .length))
   unfolding payloadReading
   unusable-refused p h e = rw (le-ltb room (t .n) h, e)
 
-  pub odd-refused : (p : ℕ) → t .n ≤ room → found ≡ none → payloadOdd k (t .rate) (t .n) rec ≡ some p
+  pub odd-refused : (p : ℕ) → t .n ≤ room → foundUnusable k t rec ≡ none → payloadOdd k (t .rate) (t .n) rec ≡ some p
       → payloadReading k t rec room ≡ Refused (OddGrowth p (t .length))
   unfolding payloadReading
   odd-refused p h e o = rw (le-ltb room (t .n) h, e, o)
 
-  pub payload-good : t .n ≤ room → found ≡ none → payloadOdd k (t .rate) (t .n) rec ≡ none
-      → payloadReading k t rec room ≡ Good t all
+  pub payload-good : t .n ≤ room → foundUnusable k t rec ≡ none → payloadOdd k (t .rate) (t .n) rec ≡ none
+      → payloadReading k t rec room ≡ Good t (frameChips k (t .rate) (t .n))
   unfolding payloadReading
   payload-good h e o = rw (le-ltb room (t .n) h, e, o)

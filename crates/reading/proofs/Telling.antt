@@ -1,30 +1,31 @@
--- What a front tells, where it is not refused: a rate of the kind, 1 to 4,095 octets, and their LENGTH. It is the
--- header's own law (`header-only` of calls), behind the tests before it. Assumes nothing.
-use mathlib.Core.Path.{_≡_, _∙_}
+-- What a front tells, where it is not refused: a rate of the kind, 1 to 4,095 octets, and their LENGTH; and where 16 is
+-- not given either, that the recording has the frame's chips. It is the header's own law (`header-only` of calls),
+-- behind the tests before it. Assumes nothing.
+use mathlib.Core.Path.{_≡_, refl, _∙_}
 use mathlib.Core.Bool.{true}
 use mathlib.Core.List.{List}
 use mathlib.Core.Option.{Option, none, some}
 use Prim.Native.Nat.{ℕ, _≤_}
-use lib.Dec.{ltb}
+use lib.Dec.{ltb, nltb→le}
 use lib.ListN.{length, take}
 use Rattle.base.proofs.Tests.{branch}
 use Rattle.rates.specs.Rates.{lengthField}
 use Rattle.chips.specs.Chips.{Taken}
 use Rattle.frame.specs.declared.Kind.{Kind}
-use Rattle.frame.specs.Frame.{frontChips, goesWith}
+use Rattle.frame.specs.Frame.{goesWith, frontChips, frameChips}
 use Rattle.calls.specs.declared.Refusal.the-variants.{Unusable, OddGrowth}
 use Rattle.calls.specs.declared.Told.{Told}
 use Rattle.calls.specs.declared.Front.{Front}
 use Rattle.calls.specs.declared.Front.the-variants.{Refused, Fields}
 use Rattle.calls.specs.Headers.{headerOf}
 use Rattle.calls.proofs.HeaderOnly.{HeaderSends, header-only}
-use Rattle.reading.specs.Reading.{orElse, firstUnusable, frontOdd, frontOf}
+use Rattle.reading.specs.Reading.{orElse, firstUnusable, frontOdd, frontOf, wholeOf}
 
--- a place found, and what holds where none is
-pub elsewise : {A : Type 0} (P : A → Type 0) (o : Option ℕ) (f : ℕ → A) (y : A) → ((p : ℕ) → P (f p)) → P y
+-- a search, with what it found, and what holds where it found nothing
+pub searched : {A : Type 0} (P : A → Type 0) (o : Option ℕ) (f : ℕ → A) (y : A) → ((p : ℕ) → o ≡ some p → P (f p)) → P y
     → P (orElse o f y)
-elsewise P none f y h k = k
-elsewise P (some p) f y h k = h p
+searched P none f y h k = k
+searched P (some p) f y h k = h p refl
 
 pub record Telling (k : Kind) (t : Told) : Type 0 where
   pub goes : goesWith k (t .rate) ≡ true
@@ -49,6 +50,25 @@ pub front-telling : (k : Kind) (rec : List Taken) → TellingIf k (frontOf k rec
 unfolding frontOf
 front-telling k rec =
     branch (TellingIf k) (ltb (length rec) (frontChips k)) _ _ tt
-    (λ a. elsewise (TellingIf k) (firstUnusable 0 (take (frontChips k) rec)) (λ p. Refused (Unusable p 0)) _
-    (λ p. tt)
-    (elsewise (TellingIf k) (frontOdd k rec) (λ p. Refused (OddGrowth p 0)) _ (λ p. tt) (header-telling k _ _)))
+    (λ a. searched (TellingIf k) (firstUnusable 0 (take (frontChips k) rec)) (λ p. Refused (Unusable p 0)) _
+    (λ p e. tt)
+    (searched (TellingIf k) (frontOdd k rec) (λ p. Refused (OddGrowth p 0)) _ (λ p e. tt) (header-telling k _ _)))
+
+-- and behind refusal 16, that the recording has the frame's chips
+pub record TellingWhole (k : Kind) (rec : List Taken) (t : Told) : Type 0 where
+  pub telling : Telling k t
+  pub there : frameChips k (t .rate) (t .n) ≤ length rec
+
+abbrev pub TellingWholeIf : Kind → List Taken → Front → Type 0
+TellingWholeIf k rec (Refused e) = Unit {0}
+TellingWholeIf k rec (Fields t) = TellingWhole k rec t
+
+pub whole-telling : (k : Kind) (rec : List Taken) → TellingWholeIf k rec (wholeOf k rec (frontOf k rec))
+whole-telling k rec = go (frontOf k rec) (front-telling k rec)
+  where
+    go : (f : Front) → TellingIf k f → TellingWholeIf k rec (wholeOf k rec f)
+    go (Refused e) h = tt
+    go (Fields t) h =
+        let all = frameChips k (t .rate) (t .n) in
+        branch (TellingWholeIf k rec) (ltb (length rec) all) _ _ tt
+        (λ a. record { telling = h; there = nltb→le (length rec) all a })

@@ -1,14 +1,18 @@
--- The front is read from the front's chips alone: recordings that begin alike are read alike as far as their fronts go,
--- and so a frame cut inside its payload is still known by its header. Assumes nothing.
+-- The front is read from the front's chips alone: recordings that begin alike tell the same.
+--     preamble-fits, header-fits    the symbols of a front are in it
+--     front-same                    recordings that begin alike, however they go on
+-- Assumes nothing.
 use mathlib.Core.Path.{_≡_, refl, sym, ap, ap₂, _∙_}
-use mathlib.Core.List.{List, [], _∷_, _++_, map}
+use mathlib.Core.List.{List, _∷_, _++_, map}
 use mathlib.Core.Option.{Option, some}
-use Prim.Native.Nat.{ℕ, zero, suc, _+_, _-_, _*_, _/_, _≤_}
-use native.Mathlib.Nat.{suc-mul, le-refl}
+use Prim.Native.Nat.{ℕ, zero, suc, _+_, _-_, _*_, _/_, _≤_, _<_}
+use native.Mathlib.Nat.{mul-suc, le-refl}
+use native.Mathlib.Decide.{decLe}
 use native.Mathlib.Omega.{arith}
-use borrow.Author.Tests.{le-ltb}
+use borrow.Author.Tests.{lt-ltb, le-ltb}
 use lib.ListN.{length, getD, take, drop}
-use lib.Seq.{take-take, take-nil, length-take-le}
+use lib.Seq.{take-take, take-all, length-take-le}
+use Rattle.base.proofs.Lists.{drop-take}
 use Rattle.rates.specs.declared.Rate.{Rate}
 use Rattle.rates.specs.declared.Rate.the-variants.{One}
 use Rattle.rates.specs.Rates.{symbolChips, symbolBits}
@@ -18,9 +22,8 @@ use Rattle.bits.specs.Growths.{heard, growthsOf, lastHeard}
 use Rattle.bits.specs.Scrambler.{descramble}
 use Rattle.frame.specs.declared.Kind.{Kind}
 use Rattle.frame.specs.declared.Kind.the-variants.{Long, Short}
-use Rattle.calls.specs.declared.Front.the-variants as front
 use Rattle.frame.specs.Frame.{headerRate, start, frontChips, preambleLength, headerLength, preambleChips}
 use Rattle.reading.specs.Reading.{
   orElse,
   oddGrowth,
   decidedWords,
@@ -34,46 +37,31 @@ use Rattle.reading.specs.Reading.{
   frontOf,
 }
 
-pub drop-take : {A : Type 0} (c j : ℕ) (l : List A) → drop c (take j l) ≡ take (j - c) (drop c l)
-drop-take zero j l = ap (λ (n : ℕ). take n l) (all-left j)
-  where
-    all-left : (j : ℕ) → j ≡ j - 0
-    all-left j = omega arith
-drop-take (suc c) zero l = ap (λ (n : ℕ). take n (drop (suc c) l)) (none-left c)
-  where
-    none-left : (c : ℕ) → 0 ≡ 0 - suc c
-    none-left c = omega arith
-drop-take (suc c) (suc j) [] = sym (take-nil (suc j - suc c))
-drop-take (suc c) (suc j) (x ∷ l) = drop-take c j l ∙ ap (λ (n : ℕ). take n (drop c l)) (same c j)
-  where
-    same : (c j : ℕ) → j - c ≡ suc j - suc c
-    same c j = omega arith
-
 -- m symbols are decided from their chips
-pub words-take : (r : Rate) (m j : ℕ) (rec : List Taken) → m * symbolChips r ≤ j
+words-take : (r : Rate) (m j : ℕ) (rec : List Taken) → symbolChips r * m ≤ j
     → decidedWords r m (take j rec) ≡ decidedWords r m rec
 unfolding decidedWords
 words-take r zero j rec h = refl
 words-take r (suc m) j rec h =
     let c = symbolChips r in
-    let e : suc m * c ≡ m * c + c = suc-mul m c in
+    let e : c * suc m ≡ c * m + c = mul-suc c m in
     let first : take c (take j rec) ≡ take c rec = take-take c j rec (omega arith) in
     let rest : decidedWords r m (drop c (take j rec)) ≡ decidedWords r m (drop c rec) =
     ap (decidedWords r m) (drop-take c j rec) ∙ words-take r m (j - c) (drop c rec) (omega arith) in
     ap₂ {C = List ℕ} (λ (x : List Taken) (ws : List ℕ). decided r (map takenCounts x) ∷ ws) first rest
 
+pub preamble-fits : (k : Kind) → symbolChips One * preambleLength k ≤ frontChips k
+preamble-fits Long = omega arith
+preamble-fits Short = omega arith
+
+pub header-fits : (k : Kind)
+    → preambleChips k + symbolChips (headerRate k) * (headerLength / symbolBits (headerRate k)) ≤ frontChips k
+header-fits Long = omega arith
+header-fits Short = omega arith
+
 module _ (k : Kind) (rec : List Taken) where
   abbrev begin : List Taken
   begin = take (frontChips k) rec
-
-  preamble-fits : (k : Kind) → preambleLength k * symbolChips One ≤ frontChips k
-  preamble-fits Long = omega arith
-  preamble-fits Short = omega arith
-
-  header-fits : (k : Kind)
-      → headerLength / symbolBits (headerRate k) * symbolChips (headerRate k) ≤ frontChips k - preambleChips k
-  header-fits Long = omega arith
-  header-fits Short = omega arith
 
   preamble-local : preambleWords k begin ≡ preambleWords k rec
   unfolding preambleWords
@@ -86,7 +74,7 @@ module _ (k : Kind) (rec : List Taken) where
       (drop-take (preambleChips k) (frontChips k) rec)
       ∙ words-take (headerRate k) (headerLength / symbolBits (headerRate k)) (frontChips k - preambleChips k)
       (drop (preambleChips k) rec)
-      (header-fits k)
+      (omega (arith, header-fits k))
 
   reference-local : reference k begin ≡ reference k rec
   unfolding reference
@@ -111,7 +99,7 @@ module _ (k : Kind) (rec : List Taken) where
       (ap₂ {C = List ℕ} (λ p w. heard One 0 p w) reference-local preamble-local)
       (ap₂ {C = List ℕ} (λ p w. heard (headerRate k) 0 p w) phase-local header-local)
 
-  pub front-local : frontChips k ≤ length rec → frontOf k begin ≡ frontOf k rec
+  front-local : frontChips k ≤ length rec → frontOf k begin ≡ frontOf k rec
   unfolding frontOf
   front-local h =
       rw (
@@ -121,3 +109,24 @@ module _ (k : Kind) (rec : List Taken) where
         odd-local,
         bits-local,
       )
+
+-- recordings that begin alike tell the same, however they go on; one that is shorter than a front is refused whatever
+-- it holds
+module _ (k : Kind) (rec rec′ : List Taken) (e : take (frontChips k) rec ≡ take (frontChips k) rec′) where
+  abbrev f : ℕ
+  f = frontChips k
+
+  long-enough : (a b : List Taken) → take f a ≡ take f b → f ≤ length a → length b < f → ⊥
+  long-enough a b e h l =
+      let same : length (take f a) ≡ length (take f b) = ap length e in
+      omega (arith, same, length-take-le f a h, ap length (take-all f b (omega arith)))
+
+  pub front-same : frontOf k rec ≡ frontOf k rec′
+  front-same = by (decLe f (length rec)) (decLe f (length rec′))
+    where
+      by : Dec (f ≤ length rec) → Dec (f ≤ length rec′) → frontOf k rec ≡ frontOf k rec′
+      by (yes a) (yes b) = sym (front-local k rec a) ∙ ap (frontOf k) e ∙ front-local k rec′ b
+      by (yes a) (no b) = absurd (long-enough rec rec′ e a (omega (arith, b)))
+      by (no a) (yes b) = absurd (long-enough rec′ rec (sym e) b (omega (arith, a)))
+      by (no a) (no b) =
+          unfold frontOf in rw (lt-ltb (length rec) f (omega (arith, a)), lt-ltb (length rec′) f (omega (arith, b)))

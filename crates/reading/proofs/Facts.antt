@@ -74,17 +74,17 @@ fields a = a .number ∷ a .place ∷ a .rate ∷ a .length ∷ a .n ∷ a .used
 pub refused : ℕ → Bool → ℕ → List ℕ → List ℕ
 refused kind agree room chips = fields (recordOf (readingOf kind agree (hardRecording chips) room))
 
-pub long : List ℕ
+unfoldable pub long : List ℕ
 long = frame Long One 2 true (0xA5 ∷ 0x3C ∷ [])
 
-pub short : List ℕ
+unfoldable pub short : List ℕ
 short = frame Short Eleven 3 false (0x3D ∷ [])
 
 -- a chip set to a value; eleven chips from a place turned by quarters
-pub spoilt : ℕ → ℕ → List ℕ → List ℕ
+unfoldable pub spoilt : ℕ → ℕ → List ℕ → List ℕ
 spoilt at x chips = set chips at x
 
-pub turned : ℕ → ℕ → List ℕ → List ℕ
+unfoldable pub turned : ℕ → ℕ → List ℕ → List ℕ
 turned at by chips =
     take at chips ++ (map (λ (p : ℕ). (p + by) % 4) (take 11 (drop at chips)) ++ drop (at + 11) chips)
 

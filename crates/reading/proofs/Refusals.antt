@@ -1,0 +1,132 @@
+-- What a recording is refused with, past its kind and its rows: each refusal that its front can meet, 16 included, and
+-- each that its payload can, with the search that found a place.
+--     whole-refuses, whole-number      fronts, and the numbers of their refusals
+--     payload-comes, payload-number    payloads, and that a good one had room
+-- By the tests of the definitions, followed to their ends. Assumes nothing.
+use mathlib.Core.Path.{_≡_, refl}
+use mathlib.Core.Bool.{not, _&&_}
+use mathlib.Core.List.{List}
+use mathlib.Core.Option.{some}
+use Prim.Native.Nat.{ℕ, _/_, _%_, _≤_}
+use native.Mathlib.Omega.{arith}
+use lib.Dec.{ltb, eqb, nltb→le}
+use lib.ListN.{length, take, drop}
+use Rattle.base.proofs.Tests.{branch}
+use Rattle.rates.specs.Rates.{isCode, rateOf, lengthHolds}
+use Rattle.chips.specs.Chips.{Taken}
+use Rattle.bits.specs.Bits.{numberOf}
+use Rattle.bits.specs.Crc.{crcBits}
+use Rattle.frame.specs.declared.Kind.{Kind}
+use Rattle.frame.specs.Frame.{sfdOf, goesWith, frontChips, frameChips}
+use Rattle.calls.specs.declared.Refusal.{Refusal}
+use Rattle.calls.specs.declared.Refusal.the-variants.{
+  ShorterThanFront,
+  Unusable,
+  OddGrowth,
+  Sfd,
+  Crc,
+  Signal,
+  Service,
+  Length,
+  Ends,
+  OctetRoom,
+}
+use Rattle.calls.specs.declared.Told.{Told}
+use Rattle.calls.specs.declared.Front.{Front}
+use Rattle.calls.specs.declared.Front.the-variants as front
+use Rattle.calls.specs.declared.Reading.{Reading}
+use Rattle.calls.specs.declared.Reading.the-variants as reading
+use Rattle.calls.specs.Answers.{refusalNumber}
+use Rattle.calls.specs.Headers.{serviceAllowed, sameBits, fieldsOf, headerOf}
+use Rattle.reading.specs.Reading.{firstUnusable, frontOdd, frontOf, payloadOdd, wholeOf, payloadReading}
+use Rattle.reading.proofs.Payloads.{foundUnusable}
+use Rattle.reading.proofs.Telling.{searched}
+
+-- ---- fronts
+
+pub data WholeRefusal (k : Kind) (rec : List Taken) : Refusal → Type 0 where
+  front-short : WholeRefusal k rec ShorterThanFront
+  front-unusable : (p : ℕ) → firstUnusable 0 (take (frontChips k) rec) ≡ some p → WholeRefusal k rec (Unusable p 0)
+  front-odd : (p : ℕ) → frontOdd k rec ≡ some p → WholeRefusal k rec (OddGrowth p 0)
+  sfd-differs : WholeRefusal k rec Sfd
+  crc-differs : WholeRefusal k rec Crc
+  no-signal : (l : ℕ) → WholeRefusal k rec (Signal l)
+  no-service : (l : ℕ) → WholeRefusal k rec (Service l)
+  no-length : (l : ℕ) → WholeRefusal k rec (Length l)
+  frame-ends : (l : ℕ) → WholeRefusal k rec (Ends l)
+
+module _ (k : Kind) (rec : List Taken) where
+  abbrev pub RefusesIf : Front → Type 0
+  RefusesIf (front.Refused e) = WholeRefusal k rec e
+  RefusesIf (front.Fields t) = Unit {0}
+
+  fields-refuse : (signal service l : ℕ) → RefusesIf (fieldsOf k signal service l)
+  unfolding fieldsOf
+  fields-refuse signal service l =
+      let r = rateOf signal in
+      branch RefusesIf (not (isCode signal && goesWith k r)) _ _ (no-signal l)
+      (λ a. branch RefusesIf (not (serviceAllowed r service)) _ _ (no-service l)
+      (λ b. branch RefusesIf (not (lengthHolds r l (service / 128 % 2))) _ _ (no-length l) (λ c. tt)))
+
+  header-refuses : (sfd header : List ℕ) → RefusesIf (headerOf k sfd header)
+  unfolding headerOf
+  header-refuses sfd header =
+      branch RefusesIf (not (eqb (numberOf sfd) (sfdOf k))) _ _ sfd-differs
+      (λ a. branch RefusesIf (not (sameBits (crcBits (take 32 header)) (drop 32 header))) _ _ crc-differs
+      (λ b. fields-refuse _ _ _))
+
+  front-refuses : RefusesIf (frontOf k rec)
+  unfolding frontOf
+  front-refuses =
+      branch RefusesIf (ltb (length rec) (frontChips k)) _ _ front-short
+      (λ a. searched RefusesIf (firstUnusable 0 (take (frontChips k) rec)) (λ p. front.Refused (Unusable p 0)) _
+      front-unusable
+      (searched RefusesIf (frontOdd k rec) (λ p. front.Refused (OddGrowth p 0)) _ front-odd (header-refuses _ _)))
+
+  pub whole-refuses : RefusesIf (wholeOf k rec (frontOf k rec))
+  whole-refuses = go (frontOf k rec) front-refuses
+    where
+      go : (f : Front) → RefusesIf f → RefusesIf (wholeOf k rec f)
+      go (front.Refused e) h = h
+      go (front.Fields t) h =
+          branch RefusesIf (ltb (length rec) (frameChips k (t .rate) (t .n))) _ _ (frame-ends (t .length)) (λ a. tt)
+
+-- their numbers
+pub whole-number : {k : Kind} {rec : List Taken} {e : Refusal} → WholeRefusal k rec e
+    → (8 ≤ refusalNumber e) × (refusalNumber e ≤ 16)
+whole-number front-short = (omega arith, omega arith)
+whole-number (front-unusable p f) = (omega arith, omega arith)
+whole-number (front-odd p f) = (omega arith, omega arith)
+whole-number sfd-differs = (omega arith, omega arith)
+whole-number crc-differs = (omega arith, omega arith)
+whole-number (no-signal l) = (omega arith, omega arith)
+whole-number (no-service l) = (omega arith, omega arith)
+whole-number (no-length l) = (omega arith, omega arith)
+whole-number (frame-ends l) = (omega arith, omega arith)
+
+-- ---- payloads
+
+pub data PayloadRefusal (k : Kind) (t : Told) (rec : List Taken) : Refusal → Type 0 where
+  no-room : PayloadRefusal k t rec (OctetRoom (t .length))
+  payload-unusable : (p : ℕ) → foundUnusable k t rec ≡ some p → PayloadRefusal k t rec (Unusable p (t .length))
+  payload-odd : (p : ℕ) → payloadOdd k (t .rate) (t .n) rec ≡ some p → PayloadRefusal k t rec (OddGrowth p (t .length))
+
+pub payload-number : {k : Kind} {t : Told} {rec : List Taken} {e : Refusal} → PayloadRefusal k t rec e
+    → 9 ≤ refusalNumber e
+payload-number no-room = omega arith
+payload-number (payload-unusable p f) = omega arith
+payload-number (payload-odd p f) = omega arith
+
+module _ (k : Kind) (t : Told) (rec : List Taken) (room : ℕ) where
+  abbrev pub PayloadIf : Reading → Type 0
+  PayloadIf (reading.Refused e) = PayloadRefusal k t rec e
+  PayloadIf (reading.Good u used) = (t .n ≤ room) × (u ≡ t) × (used ≡ frameChips k (t .rate) (t .n))
+
+  pub payload-comes : PayloadIf (payloadReading k t rec room)
+  unfolding payloadReading
+  payload-comes =
+      branch PayloadIf (ltb room (t .n)) _ _ no-room
+      (λ a. searched PayloadIf (foundUnusable k t rec) (λ p. reading.Refused (Unusable p (t .length))) _
+      payload-unusable
+      (searched PayloadIf (payloadOdd k (t .rate) (t .n) rec) (λ p. reading.Refused (OddGrowth p (t .length))) _
+      payload-odd (nltb→le room (t .n) a, refl, refl)))
