@@ -10,7 +10,7 @@ ghost use mathlib.Core.Path.{_≡_};
 ghost use Rattle.calls.specs.Answers.{refusalNumber, refusalPlace, refusalLength, writtenOf, recordOf};
 
 // The number of a refusal.
-fn number_of(e: Refusal) -> u64
+pub fn number_of(e: Refusal) -> u64
     ensures answer { λ r. ⌜ r ≡ refusalNumber e ⌝ }
 {
     match e {
@@ -41,7 +41,7 @@ fn number_of(e: Refusal) -> u64
 }
 
 // A place, 0 but for 9 and 10.
-fn place_of(e: Refusal) -> u64
+pub fn place_of(e: Refusal) -> u64
     ensures answer { λ r. ⌜ r ≡ refusalPlace e ⌝ }
 {
     match e {
@@ -66,7 +66,7 @@ fn place_of(e: Refusal) -> u64
 }
 
 // LENGTH, where the refusal tells it.
-fn length_of(e: Refusal) -> u64
+pub fn length_of(e: Refusal) -> u64
     ensures answer { λ r. ⌜ r ≡ refusalLength e ⌝ }
 {
     match e {

@@ -1,10 +1,12 @@
 // The board's C interface: each call is one of the proved functions below it, exported. include/dsss.h declares
-// them for C, by their names without the number: a symbol keeps its parameters and its record for ever. A contract
-// names the answer and the lent buffer at the end in one record: `answer` and `chips`, or `answer` and `octets`.
+// them for C, by their names without a number: a symbol keeps its parameters and its record for ever. A contract
+// names the answer, and the lent buffer at the end where there is one, in one record: `answer` and `chips`, or `answer`
+// and `octets`.
 ghost use lib.ListN.{length};
-ghost use Rattle.promises.specs.Calls.{Wrote, ReadHard, ReadSoft, ReadBytes};
+ghost use Rattle.promises.specs.Calls.{Wrote, ReadHard, ReadSoft, ReadBytes, ReadFront};
 use calls::Record;
 use calls::Written;
+use coming::Coming;
 
 // A payload to the chips of its frame; 4s after the frame, or everywhere after a refusal.
 #[no_mangle]
@@ -47,4 +49,13 @@ pub extern "C" fn dsss_read_bytes_2(kind: u64, bytes: &[i8], octets: &mut [u8]) 
         a (now (octets .exit)) ⌝ }
 {
     reader::read_bytes(kind, bytes, octets)
+}
+
+// What is coming, from the front of a hard recording: what its header tells, the whole frame's chips, and where in the
+// recording the payload's are. No buffer is lent.
+#[no_mangle]
+pub extern "C" fn dsss_read_front(kind: u64, chips: &[u8]) -> Coming
+    ensures read { λ c. ⌜ ReadFront kind (now (chips .entry)) c ⌝ }
+{
+    front_only::read_front(kind, chips)
 }

@@ -1,6 +1,7 @@
-// Recordings and what comes of them, printed: good ones, and one for every refusal. A frame is written, spoilt, and
-// read into a buffer that held 99s; a case that begins with "and" spoils the one before it further. Nothing is
-// proved of what a program writes but that it is safe and ends; what it writes is compared with the file stdout.
+// Recordings and what comes of them, printed: good ones, and one for every refusal; then fronts asked what is coming. A
+// frame is written, spoilt, and read into a buffer that held 99s; a case that begins with "and" spoils the one before
+// it further. Nothing is proved of what a program writes but that it is safe and ends; what it writes is compared with
+// the file stdout.
 use calls::Record;
 use frame::Kind;
 use libc::STDOUT_FILENO;
@@ -10,6 +11,7 @@ ghost use Prim.Native.Nat.{_≤_};
 ghost use lib.ListN.{length};
 
 mod cases;
+mod told;
 
 // ---- recordings
 
@@ -150,5 +152,11 @@ fn main() {
         b"case: number place rate LENGTH n used | octets\n",
     );
     io::print_decimal(STDOUT_FILENO, cases::all());
+    io::write_all(STDOUT_FILENO, b" cases\n");
+    io::write_all(
+        STDOUT_FILENO,
+        b"coming: number place rate LENGTH clock n used at count | part\n",
+    );
+    io::print_decimal(STDOUT_FILENO, told::all());
     io::write_all(STDOUT_FILENO, b" cases\n");
 }

@@ -1,15 +1,15 @@
--- Facts: answers that the reader of bytes, and that of soft rows that differ, may give, computed from their contracts.
--- 1 before 7, 7 before 8; chips and places counted in pairs of bytes. The frame is the short one that carries 3Dh at 11
--- Mbit/s with the clock bit set: 1,056 + 8 chips. Assumes nothing.
+-- Facts: answers that the reader of bytes, that of soft rows that differ, and that of fronts may give, computed from
+-- their contracts. 1 before 7, 7 before 8; chips and places counted in pairs of bytes. The frame is the short one that
+-- carries 3Dh at 11 Mbit/s with the clock bit set: 1,056 + 8 chips. Assumes nothing.
 use mathlib.Core.Path.{_≡_, refl, _∙_}
 use mathlib.Core.Bool.{true}
 use mathlib.Core.List.{List, [], _∷_, _++_, map}
 use Prim.Native.Nat.{ℕ, _+_, _%_}
-use lib.ListN.{take, drop}
+use lib.ListN.{take, drop, replicate}
 use lib.IntN.{ℤ, pos, negℤ}
 use lib.Ieee.{nan}
 use Rattle.rates.specs.declared.Rate.the-variants.{Eleven}
-use Rattle.chips.specs.Chips.{byteRecording}
+use Rattle.chips.specs.Chips.{hardRecording, byteRecording}
 use Rattle.symbols.specs.Words.{barkerWord, cckWord}
 use Rattle.symbols.specs.Choice.{score, those, going, firstLargest, decided}
 use Rattle.bits.specs.Bits.{bitsOf, octetBits, numberOf, octetsOf}
@@ -60,7 +60,10 @@ use Rattle.reading.specs.Reading.{
   readingOf,
 }
 use Rattle.clean.specs.Clean.{byteRow}
-use Rattle.promises.specs.Calls.{ReadSoft, ReadBytes, good, refused}
+use Rattle.coming.specs.declared.Coming.{Coming}
+use Rattle.coming.specs.Coming.{frontReading}
+use Rattle.promises.specs.Calls.{ReadSoft, ReadBytes, ReadFront, good, refused}
+use Rattle.promises.specs.Coming.{refusedComing, toldComing}
 
 -- what every answer to a row of bytes is
 abbrev pub Answers : ℕ → List ℤ → Record → Type 0
@@ -128,3 +131,33 @@ unfolding
     lastHeard firstUnusable firstOdd decidedWords preambleWords headerWords reference headerPhase frontOdd frontOf
     readingOf
 place-of-ten a left r = r .answer ∙ refl
+
+-- ---- what is coming: 1 before 8, a frame told by its front whatever its payload's chips are, and without them 16
+abbrev pub Tells : ℕ → List ℕ → Coming → Type 0
+Tells kind chips answer = (c : Coming) → ReadFront kind chips c → c ≡ answer
+
+pub front-no-kind : Tells 2 [] (refusedComing 1 0 0)
+unfolding frontReading
+front-no-kind c r = r .answer ∙ refl
+
+pub front-none : Tells 1 [] (refusedComing 8 0 0)
+unfolding frontReading frontOf hardRecording
+front-none c r = r .answer ∙ refl
+
+pub front-told : Tells 1 (take 1056 short ++ replicate 9 9) (toldComing 110 1 1 1 1056 8)
+unfolding
+    short hardRecording barkerWord cckWord bitsOf octetBits growth symbolOf symbolsFrom symbolsOf
+    chipsFrom lastPhase mixed scramble addWhere crcStep remainder crcBits preambleBits fieldBits headerBits sentHeader
+    frameBits sentBits partsChips framed frame score those going firstLargest decided numberOf heardBits heard
+    growthsOf lastHeard descramble sameBits fieldsOf headerOf firstUnusable firstOdd decidedWords preambleWords
+    headerWords reference headerPhase frontOdd frontHeard frontBits frontOf frontReading
+front-told c r = r .answer ∙ refl
+
+pub front-cut : Tells 1 (take 1063 short) (refusedComing 16 0 1)
+unfolding
+    short hardRecording barkerWord cckWord bitsOf octetBits growth symbolOf symbolsFrom symbolsOf
+    chipsFrom lastPhase mixed scramble addWhere crcStep remainder crcBits preambleBits fieldBits headerBits sentHeader
+    frameBits sentBits partsChips framed frame score those going firstLargest decided numberOf heardBits heard
+    growthsOf lastHeard descramble sameBits fieldsOf headerOf firstUnusable firstOdd decidedWords preambleWords
+    headerWords reference headerPhase frontOdd frontHeard frontBits frontOf frontReading
+front-cut c r = r .answer ∙ refl

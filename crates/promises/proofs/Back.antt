@@ -79,7 +79,7 @@ known short-11 =
     record { kind-is = refl; rate-is = refl; together = refl; code-back = refl; front-is = refl; octet-is = refl }
 
 -- a clock as it is shown
-shown-is : (clock : ℕ) → clockBit (clockOf clock) ≡ shown clock
+pub shown-is : (clock : ℕ) → clockBit (clockOf clock) ≡ shown clock
 shown-is zero = refl
 shown-is (suc clock) = ap clockBit (clock-some clock)
 
@@ -141,17 +141,17 @@ module _ (kind rate phase clock : ℕ) (payload : List ℕ) (w : Written) (chips
   abbrev c : ℕ
   c = frameChips k r n
 
-  abbrev sent : List ℕ
+  abbrev pub sent : List ℕ
   sent = frame k r phase (clockOf clock) payload
 
-  pair : Known kind rate (s .sendable .front) (s .sendable .octet)
+  pub pair : Known kind rate (s .sendable .front) (s .sendable .octet)
   pair = known (s .sendable .goes)
 
   lp : phase < 4
   lp = s .sendable .phase-is
 
   -- the chips of the frame, in the definition's words and in numbers
-  size : c ≡ s .sendable .front + s .sendable .octet * n
+  pub size : c ≡ s .sendable .front + s .sendable .octet * n
   size = ap₂ {C = ℕ} (λ x y. x + y * n) (pair .front-is) (pair .octet-is)
 
   written : writingOf kind rate phase n (s .room) ≡ writing.Good k r c
@@ -178,14 +178,14 @@ module _ (kind rate phase clock : ℕ) (payload : List ℕ) (w : Written) (chips
       after : chipsWritten kind rate phase clock payload (s .room) ≡ sent ++ replicate (s .room - c) 4
       after = unfold chipsWritten in ap (chipsAfter phase (clockOf clock) payload (s .room)) written
 
-  sent-length : length sent ≡ c
+  pub sent-length : length sent ≡ c
   sent-length = frame-length k r phase (clockOf clock) payload
 
   pub taken : take (w .chips) chips ≡ sent
   taken =
       ap₂ {C = List ℕ} (λ j l. take j l) w-chips chips-are ∙ take-at sent (replicate (s .room - c) 4) c sent-length
 
-  phases : Below 4 sent
+  pub phases : Below 4 sent
   phases = clean.phases kind r phase (clockOf clock) payload (pair .kind-is) lp
 
   -- ---- whole, with anything after it

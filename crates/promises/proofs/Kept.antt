@@ -9,6 +9,16 @@ use Rattle.promises.proofs.Only.{only-sent, only-readable, refused-show
 use Rattle.promises.proofs.Never.{seven-only, no-byte-unusable}
 use Rattle.promises.proofs.Back.{written-frame, read-back, not-read-back}
 use Rattle.promises.proofs.Source.{one-source}
+use Rattle.promises.proofs.Coming.{
+  front-refused,
+  refused-alike,
+  front-told,
+  told-alike,
+  front-only,
+  handed-part,
+  one-coming,
+}
+use Rattle.promises.proofs.SentTold.{sent-told}
 use Rattle.promises.proofs.Right.{recorded-right, hard-right, soft-right, bytes-right}
 
 -- each contract is an equation with a definition
@@ -40,5 +50,13 @@ kept = record {
   soft-right = soft-right;
   bytes-right = bytes-right;
   one-answer = one-answer;
+  front-refused = front-refused;
+  refused-alike = refused-alike;
+  front-told = front-told;
+  told-alike = told-alike;
+  front-only = front-only;
+  sent-told = sent-told;
+  handed-part = handed-part;
+  one-coming = one-coming;
   table-p = table-p;
 }

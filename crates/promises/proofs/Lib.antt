@@ -3,9 +3,12 @@ pub mod Only
 pub mod Never
 pub mod Back
 pub mod Source
+pub mod Coming
+pub mod SentTold
 pub mod Right
 pub mod Answered
 pub mod Kept
 pub mod Uses
 pub mod UsesBack
 pub mod UsesRight
+pub mod UsesComing

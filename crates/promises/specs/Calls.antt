@@ -1,5 +1,6 @@
--- What the calls promise: the records that the contracts of crate dsss cite, so that what is proved of them is proved
--- of the programs; and what is said of their inputs, in plain numbers (RULES 1.4, 5.2, 5.4, 5.8, 6, 9.1).
+-- What the calls promise: the records that the contracts of crate dsss cite, and that of `part` of front_only, so that
+-- what is proved of them is proved of the programs; and what is said of their inputs, in plain numbers (RULES 1.4, 5.2,
+-- 5.4, 5.8, 6, 9.1).
 -- Definitions only. Assumes nothing.
 use Prim.Native.Nat.{ℕ, zero, suc, _+_, _*_, _%_, _≤_, _<_}
 use mathlib.Core.Path.{_≡_}
@@ -11,11 +12,14 @@ use lib.IntN.{ℤ}
 use lib.Ieee.{Float}
 use Rattle.chips.specs.Chips.{Taken, hardRecording, softRecording, byteRecording}
 use Rattle.base.specs.Below.{Below}
+use Rattle.frame.specs.Frame.{kindOf}
 use Rattle.calls.specs.declared.Written.{Written}
 use Rattle.calls.specs.declared.Record.{Record}
 use Rattle.calls.specs.Answers.{writtenOf, recordOf}
 use Rattle.calls.specs.Writing.{writingOf, chipsWritten}
 use Rattle.reading.specs.Reading.{readingOf, octetsFound}
+use Rattle.coming.specs.declared.Coming.{Coming}
+use Rattle.coming.specs.Coming.{frontReading, comingOf, partOf}
 use Rattle.clean.specs.Clean.{Exactly, byteRow}
 
 -- the writer: its answer, and the chip buffer of `room` chips at the end
@@ -38,13 +42,25 @@ ReadSoft kind i q room a left = Read kind (eqb (length i) (length q)) (softRecor
 abbrev pub ReadBytes : ℕ → List ℤ → ℕ → Record → List ℕ → Type 0
 ReadBytes kind bytes room a left = Read kind (eqb (length bytes % 2) 0) (byteRecording bytes) room a left
 
--- a good read's answer, and a refused one's without a place
+-- the reader of the front only: its answer, which says where the payload's chips are
+pub record ReadFront (kind : ℕ) (chips : List ℕ) (c : Coming) : Type 0 where
+  pub answer : c ≡ comingOf (kindOf kind) (frontReading kind (hardRecording chips))
+
+-- the part of a recording that is handed back for such an answer; in C it is the two numbers
+pub record Handed (c : Coming) (chips part : List ℕ) : Type 0 where
+  pub chips-are : part ≡ partOf (c .at) (c .count) chips
+
+-- a good read's answer, and a refused one's with a place and without
 abbrev pub good : ℕ → ℕ → ℕ → ℕ → ℕ → Record
 good rate l n used clock =
     record { number = 0; place = 0; rate = rate; length = l; n = n; used = used; clock = clock }
 
+abbrev pub refusedAt : ℕ → ℕ → ℕ → Record
+refusedAt number place l =
+    record { number = number; place = place; rate = 0; length = l; n = 0; used = 0; clock = 0 }
+
 abbrev pub refused : ℕ → ℕ → Record
-refused number l = record { number = number; place = 0; rate = 0; length = l; n = 0; used = 0; clock = 0 }
+refused number l = refusedAt number 0 l
 
 -- the clock bit that is shown of a clock handed to the writer: 0 is no, any other number yes
 abbrev pub shown : ℕ → ℕ

@@ -1,4 +1,5 @@
 pub mod Calls
 pub mod Right
 pub mod Only
+pub mod Coming
 pub mod Promises

@@ -1,8 +1,8 @@
--- What is promised beyond each contract (RULES 1.4, 7, 9). Fills, what is accepted (Only.antt), reading back, one
--- source and one answer speak of answers and buffers that the contracts of crate dsss allow (`Wrote`, `Read`:
--- Calls.antt), so they are about the programs. Demand 3 (Right.antt) speaks of the lists of words that the definition
--- of reading takes its growths and bits from, the half a count and Table P of the definitions. proofs/Kept.antt proves
--- all of it.
+-- What is promised beyond each contract (RULES 1.4, 6.15, 7, 9). Fills, what is accepted (Only.antt), reading back, one
+-- source, one answer and what is coming (Coming.antt) speak of answers, buffers and parts that the contracts allow
+-- (`Wrote`, `Read`, `ReadFront`, `Handed`: Calls.antt), so they are about the programs. Demand 3 (Right.antt) speaks of
+-- the lists of words that the definition of reading takes its growths and bits from, the half a count and Table P of
+-- the definitions. proofs/Kept.antt proves all of it.
 -- Definitions only. Assumes nothing.
 use Prim.Native.Nat.{ℕ, _+_, _-_, _*_, _≤_, _<_}
 use mathlib.Core.Path.{_≡_}
@@ -30,6 +30,16 @@ use Rattle.promises.specs.Only.{
   OddBytesRefused,
   SevenOnly,
   NoByteUnusable,
+}
+use Rattle.promises.specs.Coming.{
+  FrontRefused,
+  RefusedAlike,
+  FrontTold,
+  ToldAlike,
+  FrontOnly,
+  SentTold,
+  HandedPart,
+  OneComing,
 }
 
 -- ---- demand 1: fills. The buffers keep their length; after a refusal only the fill, after a good answer the fill
@@ -136,4 +146,12 @@ pub record Promised : Type 0 where
   pub soft-right : SoftRight
   pub bytes-right : BytesRight
   pub one-answer : OneAnswer
+  pub front-refused : FrontRefused
+  pub refused-alike : RefusedAlike
+  pub front-told : FrontTold
+  pub told-alike : ToldAlike
+  pub front-only : FrontOnly
+  pub sent-told : SentTold
+  pub handed-part : HandedPart
+  pub one-coming : OneComing
   pub table-p : TableP

@@ -1,0 +1,133 @@
+-- A frame that was written is told of by its front, whatever follows it. Its front is that of the clean frame
+-- (`front-is` of clean), since a front is read from its own chips (`front-same` of reading). Assumes nothing.
+use mathlib.Core.Path.{_≡_, sym, ap, ap₂, _∙_}
+use mathlib.Core.List.{List, [], _++_, append-nil}
+use Prim.Native.Nat.{ℕ, _+_, _-_, _*_, _≤_, _<_}
+use native.Mathlib.Omega.{arith}
+use lib.ListN.{length, take, replicate, length-append}
+use lib.Seq.{take-at, drop-at, take-append-le, length-take-le}
+use Rattle.rates.specs.declared.Rate.{Rate}
+use Rattle.rates.specs.Rates.{codeOf, rateOf, octetChips, lengthField}
+use Rattle.chips.specs.Chips.{hardRecording}
+use Rattle.chips.proofs.Recorders.{length-hard, take-hard}
+use Rattle.frame.specs.declared.Kind.{Kind}
+use Rattle.frame.specs.Frame.{kindOf, clockOf, clockBit, frontChips, frameChips}
+use Rattle.calls.specs.declared.Written.{Written}
+use Rattle.calls.specs.declared.Told.{Told}
+use Rattle.calls.specs.declared.Front.the-variants.{Fields}
+use Rattle.calls.specs.Headers.{told}
+use Rattle.reading.specs.Reading.{frontOf}
+use Rattle.reading.proofs.Local.{front-same}
+use Rattle.clean.proofs.Recorded.{hard-recorded}
+use Rattle.clean.proofs.Back as clean
+use Rattle.coming.specs.declared.Coming.{Coming}
+use Rattle.coming.specs.Coming.{comingOf, partOf}
+use Rattle.coming.proofs.Laws.{coming-told, coming-ends, part-there}
+use Rattle.promises.specs.Calls.{ReadFront, Handed, shown, Sent}
+use Rattle.promises.specs.Coming.{refusedComing, toldComing, SentTold}
+use Rattle.promises.proofs.Back as back
+
+-- the answer in numbers
+in-numbers : (k : Kind) (t : Told) (rate clock front octet : ℕ) → codeOf (t .rate) ≡ rate → clockBit (t .clock) ≡ clock
+    → frontChips k ≡ front → octetChips (t .rate) ≡ octet
+    → comingOf k (Fields t) ≡ toldComing rate (t .length) clock (t .n) front (octet * t .n)
+in-numbers k t rate clock front octet a b c d =
+    let e : frontChips k + octetChips (t .rate) * t .n - frontChips k ≡ octetChips (t .rate) * t .n = omega arith in
+    rw (e, a, b, c, d)
+
+module _ (kind rate phase clock : ℕ) (payload : List ℕ) (w : Written) (chips : List ℕ)
+    (s : Sent kind rate phase clock payload w chips) (tail : List ℕ) where
+  abbrev k : Kind
+  k = kindOf kind
+
+  abbrev r : Rate
+  r = rateOf rate
+
+  abbrev n : ℕ
+  n = length payload
+
+  abbrev t : Told
+  t = told r (lengthField r n) n (clockOf clock)
+
+  abbrev sent : List ℕ
+  sent = back.sent kind rate phase clock payload w chips s
+
+  abbrev front : ℕ
+  front = s .sendable .front
+
+  abbrev count : ℕ
+  count = s .sendable .octet * n
+
+  abbrev begin : List ℕ
+  begin = take front chips
+
+  pair : back.Known kind rate front (s .sendable .octet)
+  pair = back.pair kind rate phase clock payload w chips s
+
+  long : front + count ≡ length sent
+  long =
+      sym (back.sent-length kind rate phase clock payload w chips s ∙ back.size kind rate phase clock payload w chips s)
+
+  begin-is : begin ≡ take front sent
+  begin-is =
+      ap (take front) (back.chips-are kind rate phase clock payload w chips s)
+      ∙ take-append-le front sent (replicate (s .room - frameChips k r n) 4) (omega (arith, long))
+
+  begin-long : length begin ≡ front
+  begin-long = ap length begin-is ∙ length-take-le front sent (omega (arith, long))
+
+  recorded-long : length (hardRecording (begin ++ tail)) ≡ front + length tail
+  recorded-long = length-hard (begin ++ tail) ∙ omega (arith, length-append begin tail, begin-long)
+
+  all-is : frameChips k r n ≡ front + count
+  all-is = back.size kind rate phase clock payload w chips s
+
+  begins : take (frontChips k) (hardRecording (begin ++ tail)) ≡ take (frontChips k) (hardRecording (sent ++ []))
+  begins =
+      let f = frontChips k in
+      take-hard f (begin ++ tail)
+      ∙ ap hardRecording
+      (ap (λ (m : ℕ). take m (begin ++ tail)) (pair .front-is) ∙ take-at begin tail front begin-long ∙ begin-is
+      ∙ ap₂ {C = List ℕ} (λ m l. take m l) (sym (pair .front-is)) (sym (append-nil sent)))
+      ∙ sym (take-hard f (sent ++ []))
+
+  told-is : frontOf k (hardRecording (begin ++ tail)) ≡ Fields t
+  told-is =
+      front-same k (hardRecording (begin ++ tail)) (hardRecording (sent ++ [])) begins
+      ∙ ap (frontOf k) (hard-recorded sent [] (back.phases kind rate phase clock payload w chips s))
+      ∙ clean.front-is kind r phase (clockOf clock) payload (pair .kind-is) (s .sendable .phase-is) (pair .together)
+      (s .sendable .some) (s .sendable .few) (hardRecording [])
+
+  module _ (c : Coming) (f : ReadFront kind (begin ++ tail) c) where
+    told-whole : count ≤ length tail
+        → c ≡ toldComing rate (lengthField r n) (shown clock) n front count
+    told-whole h =
+        f .answer
+        ∙ ap (comingOf k)
+        (coming-told kind (hardRecording (begin ++ tail)) (pair .kind-is) t told-is
+        (omega (arith, recorded-long, all-is)))
+        ∙ in-numbers k t rate (shown clock) front (s .sendable .octet) (pair .code-back) (back.shown-is clock)
+        (pair .front-is) (pair .octet-is)
+
+    handed-back : count ≤ length tail → (part : List ℕ) → Handed c (begin ++ tail) part → part ≡ take count tail
+    handed-back h part g =
+        g .chips-are
+        ∙ ap (λ (v : Coming). partOf (v .at) (v .count) (begin ++ tail)) (told-whole h)
+        ∙ part-there front count (begin ++ tail) (omega (arith, length-append begin tail, begin-long))
+        ∙ ap (take count) (drop-at begin tail front begin-long)
+
+    cut : length tail < count → c ≡ refusedComing 16 0 (lengthField r n)
+    cut h =
+        f .answer
+        ∙ ap (comingOf k)
+        (coming-ends kind (hardRecording (begin ++ tail)) (pair .kind-is) t told-is
+        (omega (arith, recorded-long, all-is)))
+
+pub sent-told : SentTold
+sent-told kind rate phase clock payload w chips s tail c f = (
+  (λ h. (
+    told-whole kind rate phase clock payload w chips s tail c f h,
+    handed-back kind rate phase clock payload w chips s tail c f h,
+  )),
+  λ h. cut kind rate phase clock payload w chips s tail c f h,
+)
