@@ -28,13 +28,14 @@ struct library {
     dsss_record (*read_soft)(uint64_t, const float *, size_t, const float *, size_t, uint8_t *,
                              size_t);
     dsss_record (*read_bytes)(uint64_t, const int8_t *, size_t, uint8_t *, size_t);
+    dsss_coming (*read_front)(uint64_t, const uint8_t *, size_t);
     void (*count)(const float *, size_t, int32_t *, size_t);
     uint64_t (*decide)(uint64_t, const float *, size_t, const float *, size_t);
 };
 
 static const struct library libraries[2] = {
-    {dsss_write, dsss_read_hard, dsss_read_soft, dsss_read_bytes, timed_count, timed_decide},
-    {plain_write, plain_read_hard, plain_read_soft, plain_read_bytes, plain_count, plain_decide},
+    {dsss_write, dsss_read_hard, dsss_read_soft, dsss_read_bytes, dsss_read_front, timed_count, timed_decide},
+    {plain_write, plain_read_hard, plain_read_soft, plain_read_bytes, plain_read_front, plain_count, plain_decide},
 };
 
 static const struct {
@@ -84,6 +85,11 @@ static uint64_t read_soft_task(const struct library *l)
 static uint64_t read_bytes_task(const struct library *l)
 {
     return l->read_bytes(kind, bytes, 2 * chips_len, octets, payload_len).used;
+}
+
+static uint64_t read_front_task(const struct library *l)
+{
+    return l->read_front(kind, chips, chips_len).used;
 }
 
 enum { TASKS = 4 };
@@ -279,6 +285,38 @@ static void by_octets(void)
             }
 }
 
+/* Both libraries tell the same of the front, and what they tell is the frame. */
+static void fronts_agree(void)
+{
+    dsss_coming first = libraries[0].read_front(kind, chips, chips_len);
+    dsss_coming second = libraries[1].read_front(kind, chips, chips_len);
+
+    if (memcmp(&first, &second, sizeof first) != 0)
+        fail("what is coming differs");
+    if (first.n != payload_len || first.used != chips_len || first.at + first.count != chips_len)
+        fail("what is coming is not the frame");
+}
+
+/* What is coming, by n. The time is the same for all, as no payload chip is looked at. */
+static void fronts(void)
+{
+    static const size_t sizes[] = {10, DSSS_PAYLOAD_MAX};
+    double ns[2];
+
+    printf("\nreads of the front, which look at no payload chip, by octets, long\n");
+    printf("%-10s  %4s  %6s  %7s  %12s  %12s  %6s\n", "call", "rate", "octets", "chips", "dsss ns", "plain ns",
+           "ratio");
+    for (size_t r = 0; r < 4; r += 3)
+        for (size_t s = 0; s < sizeof sizes / sizeof sizes[0]; s++) {
+            set_up(DSSS_LONG, rates[r].code, sizes[s]);
+            fronts_agree();
+            measure(read_front_task, ns);
+            printf("%-10s  %4s  %6zu  %7zu  %12.0f  %12.0f  %6.2f\n", "read front", rates[r].name, payload_len,
+                   chips_len, ns[0], ns[1], ns[0] / ns[1]);
+            fflush(stdout);
+        }
+}
+
 /* ---- Parts of reading, to see where a reader's time goes ------------------------------------- */
 
 enum { ROW = 4096 }; /* samples of a part's row: the first of the payload */
@@ -363,6 +401,7 @@ int main(int argc, char **argv)
     head();
     all_calls();
     by_octets();
+    fronts();
     parts();
     return 0;
 }

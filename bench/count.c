@@ -2,9 +2,10 @@
  *
  *   count LIBRARY CALL KIND RATE OCTETS TIMES
  *
- * LIBRARY is dsss or plain, CALL is write, hard, soft or bytes, KIND is long or short, RATE a rate code. The rows are
- * made and one frame of one octet is handled first, whatever TIMES is: the difference of two runs with TIMES 0 and 1 is
- * the instructions of one call, with nothing of the program's start. scripts/instructions.sh makes the two runs. */
+ * LIBRARY is dsss or plain, CALL is write, hard, soft, bytes or front, KIND is long or short, RATE a rate code. The
+ * rows are made and one frame of one octet is handled first, whatever TIMES is: the difference of two runs with TIMES 0
+ * and 1 is the instructions of one call, with nothing of the program's start. scripts/instructions.sh makes the two
+ * runs. */
 #include "plain.h"
 
 #include <stdio.h>
@@ -46,6 +47,8 @@ static uint64_t call(int plain, const char *name, uint64_t kind, uint64_t rate, 
         return (plain ? plain_write : dsss_write)(kind, rate, 0, 0, payload, n, chips, len).chips;
     if (strcmp(name, "hard") == 0)
         return (plain ? plain_read_hard : dsss_read_hard)(kind, chips, len, octets, n).used;
+    if (strcmp(name, "front") == 0)
+        return (plain ? plain_read_front : dsss_read_front)(kind, chips, len).used;
     if (strcmp(name, "bytes") == 0)
         return (plain ? plain_read_bytes : dsss_read_bytes)(kind, bytes, 2 * len, octets, n).used;
     return (plain ? plain_read_soft : dsss_read_soft)(kind, i_row, len, q_row, len, octets, n).used;
@@ -65,7 +68,7 @@ static uint64_t set_up(const char *name, uint64_t kind, uint64_t rate, size_t n)
 int main(int argc, char **argv)
 {
     if (argc != 7) {
-        fputs("usage: count dsss|plain write|hard|soft|bytes long|short RATE OCTETS TIMES\n", stderr);
+        fputs("usage: count dsss|plain write|hard|soft|bytes|front long|short RATE OCTETS TIMES\n", stderr);
         return 2;
     }
     int plain = strcmp(argv[1], "plain") == 0;

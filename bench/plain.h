@@ -1,7 +1,7 @@
-/* plain.h: the four calls of dsss.h in plain C, and the parts of them that are worth timing alone.
+/* plain.h: the five calls of dsss.h in plain C, and the parts of them that are worth timing alone.
  *
- * The calls take, answer and fill what dsss_write, dsss_read_hard, dsss_read_soft and
- * dsss_read_bytes do. Nothing here is proved; tests compare it with the second program.
+ * The calls take, answer and fill what dsss_write, dsss_read_hard, dsss_read_soft, dsss_read_bytes
+ * and dsss_read_front do. Nothing here is proved; tests compare it with the second program.
  *
  * Compiled with -DPLAIN_AS_DSSS, plain_write.c and plain_read.c define the calls of dsss.h themselves: a stand-in for
  * the library, to test the tests (host, bridge, bench, the second program) without it. */
@@ -15,6 +15,7 @@
 #define plain_read_hard dsss_read_hard
 #define plain_read_soft dsss_read_soft
 #define plain_read_bytes dsss_read_bytes
+#define plain_read_front dsss_read_front
 #endif
 
 dsss_written plain_write(uint64_t kind, uint64_t rate, uint64_t phase, uint64_t clock,
@@ -25,6 +26,7 @@ dsss_record plain_read_soft(uint64_t kind, const float *i, size_t i_len, const f
                             size_t q_len, uint8_t *octets, size_t octets_len);
 dsss_record plain_read_bytes(uint64_t kind, const int8_t *bytes, size_t bytes_len, uint8_t *octets,
                              size_t octets_len);
+dsss_coming plain_read_front(uint64_t kind, const uint8_t *chips, size_t chips_len);
 
 /* The counts of a row of usable samples, as far as both rows go: 1024 times each, nearest, halves
  * to even. */

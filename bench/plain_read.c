@@ -610,27 +610,8 @@ static dsss_record refused(uint64_t number, size_t place, uint64_t length)
     return record;
 }
 
-/* The payload, once the header is known to be good. */
-static dsss_record accept(struct reader *r, const struct kind *kind, const struct rate *rate, uint64_t length,
-                          uint64_t clock, size_t n, uint8_t *octets, size_t room)
-{
-    size_t end = frame_chips(kind, rate, n);
-
-    if (r->from->len < end)
-        return refused(DSSS_REFUSED_CUT, 0, length);
-    if (room < n)
-        return refused(DSSS_REFUSED_OCTET_ROOM, 0, length);
-    size_t bad = first_unusable(r->from, kind->front, end);
-    if (bad < end)
-        return refused(DSSS_REFUSED_CHIP, bad, length);
-    if (!read_payload(r, rate, octets, n))
-        return refused(DSSS_REFUSED_GROWTH, r->at, length);
-    dsss_record record = {0, 0, rate->code, length, n, end, clock};
-    return record;
-}
-
-/* The header's 32 bits, once the CRC is known to be right. */
-static dsss_record judge(struct reader *r, uint64_t kind, uint32_t header, uint8_t *octets, size_t room)
+/* What the header's 32 bits tell, once the CRC is known to be right: the answer of a good read, or 13 to 16. */
+static dsss_record judge(const struct recording *from, uint64_t kind, uint32_t header)
 {
     const struct rate *rate = rate_of(header & 0xFF);
     uint32_t service = header >> 8 & 0xFF, length = header >> 16, clock = service >> 2 & 1;
@@ -642,13 +623,19 @@ static dsss_record judge(struct reader *r, uint64_t kind, uint32_t header, uint8
     int32_t n = octets_of(rate, length, service >> 7);
     if (n < 1 || n > DSSS_PAYLOAD_MAX || service_length(rate, (uint32_t)n, clock) != header >> 8)
         return refused(DSSS_REFUSED_LENGTH, 0, length);
-    return accept(r, &kinds[kind], rate, length, clock, (size_t)n, octets, room);
+    size_t end = frame_chips(&kinds[kind], rate, (size_t)n);
+    if (from->len < end)
+        return refused(DSSS_REFUSED_CUT, 0, length);
+    dsss_record record = {0, 0, rate->code, length, (uint64_t)n, end, clock};
+    return record;
 }
 
-static dsss_record read_frame(uint64_t kind, const struct recording *from, uint8_t *octets, size_t room)
+/* What the front tells: the answer of a good read, or 8 to 16. The reader then stands behind the front, and no chip
+ * there is looked at. */
+static dsss_record front_tells(struct reader *r, uint64_t kind)
 {
+    const struct recording *from = r->from;
     size_t front = kinds[kind].front;
-    struct reader r = {from, 0, 0, 0};
     uint64_t sfd, header;
 
     if (from->len < front)
@@ -656,13 +643,31 @@ static dsss_record read_frame(uint64_t kind, const struct recording *from, uint8
     size_t bad = first_unusable(from, 0, front);
     if (bad < front)
         return refused(DSSS_REFUSED_CHIP, bad, 0);
-    if (!read_front(&r, &kinds[kind], &sfd, &header))
-        return refused(DSSS_REFUSED_GROWTH, r.at, 0);
+    if (!read_front(r, &kinds[kind], &sfd, &header))
+        return refused(DSSS_REFUSED_GROWTH, r->at, 0);
     if (sfd != kinds[kind].sfd)
         return refused(DSSS_REFUSED_SFD, 0, 0);
     if (crc_of((uint32_t)header) != header >> 32)
         return refused(DSSS_REFUSED_CRC, 0, 0);
-    return judge(&r, kind, (uint32_t)header, octets, room);
+    return judge(from, kind, (uint32_t)header);
+}
+
+/* All of a frame: what the front tells, then 17, then the payload with its 9 and 10. */
+static dsss_record read_frame(uint64_t kind, const struct recording *from, uint8_t *octets, size_t room)
+{
+    struct reader r = {from, 0, 0, 0};
+    dsss_record told = front_tells(&r, kind);
+
+    if (told.number != 0)
+        return told;
+    if (room < told.n)
+        return refused(DSSS_REFUSED_OCTET_ROOM, 0, told.length);
+    size_t bad = first_unusable(from, r.at, told.used);
+    if (bad < told.used)
+        return refused(DSSS_REFUSED_CHIP, bad, told.length);
+    if (!read_payload(&r, rate_of(told.rate), octets, told.n))
+        return refused(DSSS_REFUSED_GROWTH, r.at, told.length);
+    return told;
 }
 
 /* Clears what is not payload: all of the buffer if refused, n being 0 then. */
@@ -704,6 +709,18 @@ dsss_record plain_read_bytes(uint64_t kind, const int8_t *bytes, size_t bytes_le
     if (bytes_len % 2 != 0)
         return cleared(refused(DSSS_REFUSED_ROWS, 0, 0), octets, octets_len);
     return cleared(read_frame(kind, &from, octets, octets_len), octets, octets_len);
+}
+
+dsss_coming plain_read_front(uint64_t kind, const uint8_t *chips, size_t chips_len)
+{
+    struct recording from = {chips, NULL, NULL, NULL, chips_len};
+    struct reader r = {&from, 0, 0, 0};
+    dsss_record told = kind > DSSS_SHORT ? refused(DSSS_REFUSED_KIND, 0, 0) : front_tells(&r, kind);
+    size_t at = told.number == 0 ? r.at : 0;
+    dsss_coming coming = {told.number, told.place, told.rate, told.length, told.clock,
+                          told.n, told.used, at, told.used - at};
+
+    return coming;
 }
 
 /* ---- The parts, for timing ------------------------------------------------------------------- */

@@ -1,8 +1,9 @@
 /* dsss.h: frames of IEEE Std 802.11b-1999, from payload octets to chips and back.
  *
  * The library writes a frame as chips, and reads a hard, soft or byte recording of chips back to the
- * payload. What it answers is fixed by docs/RULES.md and proved for every input; docs/PROMISES.md
- * says where. No proof covers this header: it is written by hand and held to the source by a test.
+ * payload; of a hard one it tells from the front alone what is coming. What it answers is fixed by
+ * docs/RULES.md and proved for every input; docs/PROMISES.md says where. No proof covers this header:
+ * it is written by hand and held to the source by a test.
  *
  * CONVENTIONS, the same for every call
  *
@@ -22,6 +23,8 @@
  *           header was there, whole, and what its chips were decided as. Only the header has a check
  *           here; the payload's own check sequence is the MAC's, stands in the payload's last octets
  *           and is not looked at. One spoiled symbol can give number 0 and other octets: check them.
+ *           Of a read of the front alone it says no more than that the header is good and that the
+ *           recording is as long as the frame.
  * Fills     What a lent row held before does not matter. Each call writes every element of it,
  *           refused or not: a chip buffer is 4s but for the frame, an octet buffer is 0s but for
  *           the payload. A refused call leaves nothing else, so nothing old can be shown.
@@ -41,12 +44,12 @@ extern "C" {
  * added, PATCH when neither. A call whose record or parameters change gets a new symbol, which a
  * macro here stands for: an object built with an older header then does not link, and is built anew. */
 #define DSSS_VERSION_MAJOR 2
-#define DSSS_VERSION_MINOR 0
+#define DSSS_VERSION_MINOR 1
 #define DSSS_VERSION_PATCH 0
 #define DSSS_VERSION (10000 * DSSS_VERSION_MAJOR + 100 * DSSS_VERSION_MINOR + DSSS_VERSION_PATCH)
 
 /* The symbols of the calls. C and C++ write the plain names; what goes by symbols, as another language
- * or a debugger does, finds these. */
+ * or a debugger does, finds these. dsss_read_front is its own symbol. */
 #define dsss_write dsss_write_2
 #define dsss_read_hard dsss_read_hard_2
 #define dsss_read_soft dsss_read_soft_2
@@ -73,7 +76,8 @@ extern "C" {
 
 /* The chips of an octet at a rate, and of a frame of n octets: the room that a write needs. Both are
  * constants where their arguments are; for a kind or rate that is none they mean nothing. A read of
- * any frame has room in DSSS_PAYLOAD_MAX octets: refusal 17 cannot come then. */
+ * any frame has room in DSSS_PAYLOAD_MAX octets, or in the n that dsss_read_front tells of it: refusal
+ * 17 cannot come then. */
 #define DSSS_OCTET_CHIPS(rate) \
     ((rate) == DSSS_RATE_1 ? 88 : (rate) == DSSS_RATE_2 ? 44 : (rate) == DSSS_RATE_5_5 ? 16 : 8)
 #define DSSS_FRAME_CHIPS(kind, rate, n)                             \
@@ -81,7 +85,8 @@ extern "C" {
      + (size_t)DSSS_OCTET_CHIPS(rate) * (size_t)(n))
 
 /* Refusals. Writing looks for 1 to 6 in this order. Reading looks for 1, 7, 8, then 9 and 10 over
- * the front, 11 to 17, then 9 and 10 over the payload; each 9 through its whole part before 10. */
+ * the front, 11 to 17, then 9 and 10 over the payload; each 9 through its whole part before 10. A
+ * read of the front looks for 1, 8, then 9 and 10 over the front, 11 to 16, and for nothing more. */
 #define DSSS_REFUSED_KIND 1        /* kind is neither 0 (long) nor 1 (short) */
 #define DSSS_REFUSED_RATE 2        /* rate code isn't one of the four */
 #define DSSS_REFUSED_SHORT_RATE 3  /* rate code 10 with the short kind */
@@ -116,6 +121,20 @@ typedef struct {
     uint64_t used;   /* chips of the frame, front and payload; 0 if refused */
     uint64_t clock;  /* the clock bit, SERVICE bit 2, as 0 or 1; 0 if refused, also behind a good header */
 } dsss_record;
+
+/* The answer of a read of the front: what is coming. The clock bit stands before n, not last as in
+ * dsss_record. */
+typedef struct {
+    uint64_t number; /* 0, or the refusal */
+    uint64_t place;  /* of refusals 9 and 10; else 0 */
+    uint64_t rate;   /* rate code; 0 if refused */
+    uint64_t length; /* LENGTH in microseconds; if refused, 0 before 13 in the reading order */
+    uint64_t clock;  /* the clock bit, SERVICE bit 2, as 0 or 1; 0 if refused, also behind a good header */
+    uint64_t n;      /* payload octets; 0 if refused */
+    uint64_t used;   /* chips of the whole frame, front and payload; 0 if refused */
+    uint64_t at;     /* where the payload's chips begin in the recording, the front's chips; 0 if refused */
+    uint64_t count;  /* the payload's chips, used - at; 0 if refused */
+} dsss_coming;
 
 /* Writes one frame as chips.
  *   kind     DSSS_LONG or DSSS_SHORT                                      refusals 1, 3
@@ -175,6 +194,24 @@ dsss_record dsss_read_soft(uint64_t kind, const float *i, size_t i_len, const fl
  * Proved:  crates/dsss, dsss_read_bytes_2, record ReadBytes: answer and octets. */
 dsss_record dsss_read_bytes(uint64_t kind, const int8_t *bytes, size_t bytes_len, uint8_t *octets,
                             size_t octets_len);
+
+/* Tells from the front of a hard recording what is coming: how many octets, at which rate, and which
+ * chips of the recording are the payload's. The answer hangs on no payload chip, which is proved; none
+ * is looked at, and the time does not grow with n, which is tested and measured.
+ *   kind     DSSS_LONG or DSSS_SHORT                                      refusal 1
+ *   chips    the recording, chip octets; it starts at the frame's first chip. Behind the front only
+ *            its length counts: it holds the whole frame, or refusal 16   refusals 8 to 16
+ * Answer:  number 0, the rate code, LENGTH, the clock bit, n, the chips used by the whole frame, and
+ *          the part of the recording that holds the payload's chips, just those: chips + at, count
+ *          chips; place 0.
+ * Refused: number, place (of a 9 or 10) and LENGTH (for 13 to 16) are those of dsss_read_hard over the
+ *          same recording; all else 0, at and count too: the part is empty.
+ * Buffer:  none is lent. The part handed back is chips + at, count chips, never a copy; it is good as
+ *          long as chips is. Look at count first: after a refusal of no chips, chips may be NULL.
+ * NUMBER 0 SAYS NOTHING OF THE PAYLOAD'S CHIPS: a full read may still refuse with 9 or 10 there. With
+ * room for n octets it never refuses with 17.
+ * Proved:  crates/dsss, dsss_read_front, record ReadFront: answer. */
+dsss_coming dsss_read_front(uint64_t kind, const uint8_t *chips, size_t chips_len);
 
 /* The sentence of an answer's number, to show to people. A number that is neither 0 nor a refusal
  * gets the last sentence.

@@ -19,7 +19,8 @@ python3 scripts/live.py --self-test
 
 stage 'proofs, must-fail edits, programs'
 log=$(mktemp)
-trap 'rm -f "$log"' EXIT
+faults=$(mktemp)
+trap 'rm -f "$log" "$faults"' EXIT
 rt ci 2>&1 | tee "$log"
 verdict=$(tail -n 1 "$log")
 case $verdict in
@@ -40,17 +41,21 @@ make --no-print-directory demo
 stage 'install'
 tests/install/run
 
-stage 'host under fault'
-make --no-print-directory faults
-
-stage 'second program, over rows between guards'
+stage 'second program, over rows between guards; beside it, host and bridge under fault'
 make --no-print-directory target/c/bridge target/peer/peer
+make --no-print-directory faults >"$faults" 2>&1 &
 target/peer/peer -- scripts/x86run target/c/bridge
+wait $! || {
+    cat "$faults" >&2
+    exit 1
+}
+cat "$faults"
 
 stage 'second program, over rows that end where memory ends'
 target/peer/peer --brief --family \
     empty_rows,odd_rows,write_short_payloads,write_edges,read_rooms,read_long_payloads,cut_recordings,unusable_octets,\
-unusable_values,random_bytes,long_payloads,long_unusable,long_cuts,long_rooms \
+unusable_values,random_bytes,long_payloads,long_unusable,long_cuts,long_rooms,long_refused,coming_rooms,\
+payloads_not_looked_at \
     -- scripts/x86run target/c/bridge pages
 
 stage 'wrong versions of plain C'

@@ -1,14 +1,16 @@
 #!/bin/sh
-# instructions.sh [-l dsss|plain|both] [-c write|hard|soft|bytes|all] [-k long|short] [-r RATE|all] [-n OCTETS]
+# instructions.sh [-l dsss|plain|both] [-c write|hard|soft|bytes|front|all] [-k long|short] [-r RATE|all] [-n OCTETS]
 #
-# Instructions a chip of whole calls, of the library and of plain C: one line a call and rate. Each figure is the
-# difference of two runs, without the call and with it. On x86-64 valgrind counts (callgrind); elsewhere the emulator
-# of the kit logs each instruction that it runs, about a million a second, and the lines of its log are counted. The
-# archive is target/staticlib/libdsss.a as it stands: `rt staticlib dsss` makes it.
+# Instructions a chip of whole calls, of the library and of plain C: one line a call and rate. A read of the front looks
+# at no payload chip: its instructions are counted with few octets and with most, at 1 and 11 Mbit/s, if none are asked
+# for, and should not differ. Each figure is the difference of two runs, without the call and with it. On x86-64
+# valgrind counts (callgrind); elsewhere the emulator of the kit logs each instruction that it runs, about a million a
+# second, and the lines of its log are counted. The archive is target/staticlib/libdsss.a as it stands: `rt staticlib
+# dsss` makes it.
 set -eu
 cd "$(dirname "$0")/.."
 
-library=both call=all kind=long rate=all octets=1500
+library=both call=all kind=long rate=all octets=
 while getopts l:c:k:r:n: option; do
     case $option in
     l) library=$OPTARG ;;
@@ -20,8 +22,7 @@ while getopts l:c:k:r:n: option; do
     esac
 done
 [ "$library" != both ] || library='dsss plain'
-[ "$call" != all ] || call='write hard soft bytes'
-[ "$rate" != all ] || rate='10 20 55 110'
+[ "$call" != all ] || call='write hard soft bytes front'
 
 archive=target/staticlib/libdsss.a
 program=target/c/count
@@ -51,16 +52,28 @@ counted() { # counted WORDS..: the instructions of one run of the program
 }
 
 printf '%-5s  %-5s  %-5s  %4s  %6s  %7s  %12s  %8s\n' of call kind rate octets chips instructions 'a chip'
+line() { # line LIBRARY CALL RATE OCTETS
+    without=$(counted "$1" "$2" "$kind" "$3" "$4" 0)
+    with=$(counted "$1" "$2" "$kind" "$3" "$4" 1)
+    chips=$(cat "$work/chips")
+    each=$(awk "BEGIN { printf \"%.2f\", ($with - $without) / $chips }")
+    printf '%-5s  %-5s  %-5s  %4s  %6s  %7s  %12s  %8s\n' \
+        "$1" "$2" "$kind" "$3" "$4" "$chips" $((with - without)) "$each"
+}
+
 for c in $call; do
-    for r in $rate; do
+    if [ "$c" = front ]; then
+        rates='10 110' sizes='10 4095'
+    else
+        rates='10 20 55 110' sizes=1500
+    fi
+    [ "$rate" = all ] || rates=$rate
+    for r in $rates; do
         [ "$kind $r" != 'short 10' ] || continue
-        for l in $library; do
-            without=$(counted "$l" "$c" "$kind" "$r" "$octets" 0)
-            with=$(counted "$l" "$c" "$kind" "$r" "$octets" 1)
-            chips=$(cat "$work/chips")
-            each=$(awk "BEGIN { printf \"%.2f\", ($with - $without) / $chips }")
-            printf '%-5s  %-5s  %-5s  %4s  %6s  %7s  %12s  %8s\n' \
-                "$l" "$c" "$kind" "$r" "$octets" "$chips" $((with - without)) "$each"
+        for n in ${octets:-$sizes}; do
+            for l in $library; do
+                line "$l" "$c" "$r" "$n"
+            done
         done
     done
 done

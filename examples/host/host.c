@@ -2,18 +2,20 @@
  *
  * A visitor turns a skull with one finger, and at each quarter turn the table fetches a caption
  * by radio. Here the frames go from the writer to the reader in memory: at every kind and rate,
- * from other recorders, with the clock bit, then spoiled, then cut short. What comes from the air
- * may be any octets, so it is shown escaped. A caption of an earlier exhibition must never be
- * seen again: before each read the octet buffer is full of one, and after it what is left of it
- * is counted. All memory is in the static rows below; the two that are lent for writing stand
- * between guard octets, which must stay as they were. */
+ * from other recorders, with the clock bit, then spoiled, then cut short. Then the host does as it
+ * does at the table: it asks what is coming, tells the fitter of it and of how the payload's chips came
+ * through, sets aside just as many octets, and only then reads. What comes from the air may be any
+ * octets, so it is shown escaped. A caption of an earlier exhibition must never be seen again: before
+ * each read the octet buffer is full of one, and after it what is left of it is counted. All memory is
+ * in the static rows below; those that are lent for writing stand between guard octets, which must
+ * stay as they were. */
 #include "dsss.h"
 
 #include <inttypes.h>
 #include <stdio.h>
 #include <string.h>
 
-enum { CAPTION_MAX = 64, CHIPS_MAX = DSSS_FRONT_LONG + 88 * CAPTION_MAX };
+enum { CAPTION_MAX = 64, CHIPS_MAX = DSSS_FRONT_LONG + 88 * CAPTION_MAX, ASIDE_MAX = 224 };
 enum { GUARD = 32, GUARD_OCTET = 0x5C };
 
 static const char *const captions[4] = {
@@ -44,6 +46,13 @@ static struct {
     uint8_t before[GUARD], row[CAPTION_MAX], after[GUARD];
 } octets;
 
+/* Captions one behind the other, each in just the octets that were set aside for it. */
+static struct {
+    uint8_t before[GUARD], row[ASIDE_MAX], after[GUARD];
+} aside;
+
+static size_t aside_used;
+
 static float i_row[CHIPS_MAX], q_row[CHIPS_MAX];
 static int8_t bytes[2 * CHIPS_MAX];
 
@@ -53,6 +62,8 @@ static void set_guards(int octet)
     memset(chips.after, octet, GUARD);
     memset(octets.before, octet, GUARD);
     memset(octets.after, octet, GUARD);
+    memset(aside.before, octet, GUARD);
+    memset(aside.after, octet, GUARD);
 }
 
 static int guards_stand(void)
@@ -61,7 +72,8 @@ static int guards_stand(void)
 
     for (size_t k = 0; k < GUARD; k++)
         changed |= (chips.before[k] ^ GUARD_OCTET) | (chips.after[k] ^ GUARD_OCTET)
-                   | (octets.before[k] ^ GUARD_OCTET) | (octets.after[k] ^ GUARD_OCTET);
+                   | (octets.before[k] ^ GUARD_OCTET) | (octets.after[k] ^ GUARD_OCTET)
+                   | (aside.before[k] ^ GUARD_OCTET) | (aside.after[k] ^ GUARD_OCTET);
     return !changed;
 }
 
@@ -229,6 +241,99 @@ static void cut_short(void)
     show_hard("only its first 1,500 chips", DSSS_LONG, 1500);
 }
 
+static const char *in_mbit(uint64_t rate)
+{
+    switch (rate) {
+    case DSSS_RATE_1:
+        return "1";
+    case DSSS_RATE_2:
+        return "2";
+    case DSSS_RATE_5_5:
+        return "5.5";
+    default:
+        return "11";
+    }
+}
+
+/* What is coming, in words for the fitter. */
+static void tell(const char *what, dsss_coming coming)
+{
+    if (coming.number != 0) {
+        printf("%s: nothing to read, %" PRIu64 ". %s\n    place %" PRIu64 ", LENGTH %" PRIu64 "\n", what,
+               coming.number, dsss_sentence(coming.number), coming.place, coming.length);
+        return;
+    }
+    printf("%s: %" PRIu64 " octets are coming at %s Mbit/s, for %" PRIu64 " microseconds%s\n", what, coming.n,
+           in_mbit(coming.rate), coming.length,
+           coming.clock ? ", chip clock and carrier from one oscillator" : "");
+    printf("    in chips %" PRIu64 " to %" PRIu64 " of the recording, %" PRIu64 " of them\n", coming.at,
+           coming.at + coming.count - 1, coming.count);
+}
+
+/* How the payload's chips came through, in words for the fitter: many lost, and the aerial is moved; one
+ * unusable, and a read will be refused. The part of a refusal has no chip: count comes first. */
+static void tell_part(const uint8_t *recording, dsss_coming coming)
+{
+    uint64_t lost = 0, unusable = 0;
+
+    if (coming.count == 0)
+        return;
+    const uint8_t *part = recording + coming.at;
+    for (uint64_t k = 0; k < coming.count; k++) {
+        lost += part[k] == DSSS_CHIP_LOST;
+        unusable += part[k] > DSSS_CHIP_LOST;
+    }
+    printf("    of these %" PRIu64 " are lost and %" PRIu64 " unusable\n", lost, unusable);
+}
+
+/* Asks what is coming, looks over its chips, sets aside just its octets, and only then reads. A refused
+ * read gives them back. */
+static void ask_and_read(const char *what, uint64_t kind, uint64_t len)
+{
+    dsss_coming coming = dsss_read_front(kind, chips.row, len);
+
+    tell(what, coming);
+    tell_part(chips.row, coming);
+    if (coming.number != 0)
+        return;
+    if (coming.n > ASIDE_MAX - aside_used) {
+        printf("    left unread: %zu octets are free\n", ASIDE_MAX - aside_used);
+        return;
+    }
+    uint8_t *row = aside.row + aside_used;
+    dsss_record record = dsss_read_hard(kind, chips.row, len, row, coming.n);
+    if (record.number != 0) {
+        printf("    refused, %" PRIu64 ", at chip %" PRIu64 ". %s\n", record.number, record.place,
+               dsss_sentence(record.number));
+        return;
+    }
+    aside_used += coming.n;
+    printf("    \"");
+    show_octets(row, coming.n);
+    puts("\"");
+}
+
+/* What the front tells is no word on the payload's chips: the read behind it may still be refused. */
+static void what_is_coming(void)
+{
+    puts("\nWhat is coming, asked before it is read");
+    ask_and_read("first", DSSS_LONG, send_caption(DSSS_LONG, DSSS_RATE_1, 0, captions[0]).chips);
+    uint64_t len = send_caption(DSSS_SHORT, DSSS_RATE_11, 1, captions[1]).chips;
+    for (uint64_t k = 0; k < len; k += 11)
+        chips.row[k] = DSSS_CHIP_LOST;
+    ask_and_read("second, chips lost", DSSS_SHORT, len);
+    len = send_caption(DSSS_LONG, DSSS_RATE_5_5, 0, captions[2]).chips;
+    ask_and_read("third, without its last chip", DSSS_LONG, len - 1);
+    chips.row[DSSS_FRONT_LONG + 100] = 200;
+    ask_and_read("third, a chip unusable", DSSS_LONG, len);
+    chips.row[100] = 200;
+    ask_and_read("third, a chip of its front too", DSSS_LONG, len);
+    ask_and_read("third, once more", DSSS_LONG, send_caption(DSSS_LONG, DSSS_RATE_5_5, 0, captions[2]).chips);
+    ask_and_read("fourth", DSSS_SHORT, send_caption(DSSS_SHORT, DSSS_RATE_2, 0, captions[3]).chips);
+    ask_and_read("first again", DSSS_LONG, send_caption(DSSS_LONG, DSSS_RATE_11, 0, captions[0]).chips);
+    printf("%zu of %d octets set aside\n", aside_used, (int)ASIDE_MAX);
+}
+
 static void not_written(void)
 {
     puts("\nA frame that cannot be written");
@@ -251,6 +356,7 @@ int main(void)
     spoiled();
     another_text();
     cut_short();
+    what_is_coming();
     not_written();
     printf("\nGuard octets %s\n", guards_stand() ? "as they were" : "CHANGED");
     return guards_stand() ? 0 : 1;

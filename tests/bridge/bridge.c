@@ -6,16 +6,20 @@
  *   2, read hard  u64 kind, chips_len, octets_len; the chips
  *   3, read soft  u64 kind, i_len, q_len, octets_len; i_len f32, q_len f32, raw bits
  *   4, read bytes u64 kind, bytes_len, octets_len; the bytes
- * An answer is the record (1: number, chips; 2 to 4: number, place, rate, length, n, used, clock;
- * u64 each), every octet of the lent buffer as the call left it, and a u64 guard: 0 if all is as it
- * was around the rows and in those lent for reading only, else 1.
+ *   5, read front u64 kind, chips_len; the chips
+ * An answer is the record (1: number, chips; 2 to 4: number, place, rate, length, n, used, clock; 5:
+ * number, place, rate, length, clock, n, used, at, count; u64 each), every octet of the lent buffer as
+ * the call left it, and a u64 guard: 0 if all is as it was around the rows and in those lent for reading
+ * only, else 1. 5 has no lent buffer: its part stands there instead, `count` chips from the recording's
+ * own chips + at on, as far as they are in the recording.
  *
  * The lent buffer holds 0xAA before the call. A row of length 0 is passed as NULL; any other stands
  * between guard octets, octets and bytes at odd addresses, floats at multiples of 4 that are none of 16.
- * Called as `bridge pages`, each row ends where memory ends instead: a read past it kills the
- * bridge, on every processor. Called as `bridge exact`, each row is memory of just its size and the
- * lent buffer is not set before the call: for valgrind, which then sees every touch beside a row, what
- * a call makes of the buffer's old contents, and every octet that it leaves unwritten.
+ * Called as `bridge pages`, each row ends where memory ends instead: a read past it kills the bridge, on
+ * every processor; so does a look at a chip behind the front in 5. Called as `bridge exact`, each row is
+ * memory of just its size and the lent buffer is not set before the call: for valgrind, which then sees
+ * every touch beside a row, what a call makes of the buffer's old contents, and every octet that it
+ * leaves unwritten.
  *
  * Answers are flushed when no further input is at hand, so requests may be sent ahead of answers.
  * Status 0 at an end of input between requests; else 1 and a message on stderr. */
@@ -91,15 +95,29 @@ struct row {
     uint8_t *memory, *copy; /* guard, row and guard; the copy from before the call */
     size_t size;            /* of the memory, in octets */
     size_t from, to;        /* where the row stands in it */
-    size_t held;            /* what must be given back */
+    uint8_t *all, *edge;    /* with pages: what must be given back, and where the closed pages begin */
+    size_t held, closed;    /* the sizes of both */
     int lent;               /* for writing */
 };
 
-/* Memory for a row that begins `before` octets into it and, with pages, ends where it ends. */
-static void find_memory(struct row *row, size_t before, size_t len)
+/* Whole pages for so many octets. */
+static size_t in_pages(size_t len)
 {
     size_t page = (size_t)sysconf(_SC_PAGESIZE);
 
+    return (len + page - 1) / page * page;
+}
+
+static void set_access(const struct row *row, int access)
+{
+    if (rows == PAGES && mprotect(row->edge, row->closed, access) != 0)
+        die("cannot open or close a row");
+}
+
+/* Memory for a row that begins `before` octets into it and of whose octets the first `open`, or all, may be
+ * looked at. With pages those end where a page ends, and the pages from there on can be closed. */
+static void find_memory(struct row *row, size_t before, size_t len, size_t open)
+{
     row->from = rows == EXACT ? 0 : before;
     row->to = row->from + len;
     row->size = row->to + (rows == GUARDS ? GUARD : 0);
@@ -107,23 +125,26 @@ static void find_memory(struct row *row, size_t before, size_t len)
         row->memory = malloc(row->size > 0 ? row->size : 1);
         return;
     }
-    size_t span = (row->size + page - 1) / page * page;
-    row->held = span + page;
-    void *all = mmap(NULL, row->held, PROT_READ | PROT_WRITE, MAP_PRIVATE | MAP_ANONYMOUS, -1, 0);
-    if (all == MAP_FAILED || mprotect((uint8_t *)all + span, page, PROT_NONE) != 0)
+    size_t span = in_pages(row->from + open);
+    row->closed = in_pages(len - open + 1);
+    row->held = span + row->closed;
+    row->all = mmap(NULL, row->held, PROT_READ | PROT_WRITE, MAP_PRIVATE | MAP_ANONYMOUS, -1, 0);
+    if (row->all == MAP_FAILED)
         die("no memory for a row");
-    row->memory = (uint8_t *)all + span - row->size;
+    row->edge = row->all + span;
+    row->memory = row->edge - open - row->from;
 }
 
-/* A row of `count` elements of `width` octets, guards around it, and OLD_OCTET within. */
-static struct row make_row(uint64_t count, size_t width, int lent)
+/* A row of `count` elements of `width` octets, the first `open` to be looked at, guards around it, and
+ * OLD_OCTET within. */
+static struct row make_row(uint64_t count, size_t width, uint64_t open, int lent)
 {
     struct row row = {0};
 
     if (count > (1u << 30) / width)
         die("a row is too long");
     row.lent = lent;
-    find_memory(&row, width == 1 ? GUARD + 1 : GUARD + 4, (size_t)count * width);
+    find_memory(&row, width == 1 ? GUARD + 1 : GUARD + 4, (size_t)count * width, (size_t)open * width);
     row.copy = malloc(row.size > 0 ? row.size : 1);
     if (!row.memory || !row.copy)
         die("no memory for a row");
@@ -134,20 +155,28 @@ static struct row make_row(uint64_t count, size_t width, int lent)
     return row;
 }
 
-static struct row read_row(uint64_t count, size_t width)
+/* A row of which only the first `open` elements may be looked at. */
+static struct row read_row_to(uint64_t count, size_t width, uint64_t open)
 {
-    struct row row = make_row(count, width, 0);
+    struct row row = make_row(count, width, open, 0);
 
     get(row.memory + row.from, row.to - row.from);
     memcpy(row.copy, row.memory, row.size);
+    set_access(&row, PROT_NONE);
     return row;
+}
+
+static struct row read_row(uint64_t count, size_t width)
+{
+    return read_row_to(count, width, count);
 }
 
 static struct row lent_row(uint64_t count)
 {
-    struct row row = make_row(count, 1, 1);
+    struct row row = make_row(count, 1, count, 1);
 
     memcpy(row.copy, row.memory, row.size);
+    set_access(&row, PROT_NONE);
     return row;
 }
 
@@ -164,7 +193,7 @@ static uint64_t end_row(struct row *row)
                   || memcmp(row->memory + to, row->copy + to, row->size - to) != 0;
 
     if (rows == PAGES)
-        munmap(row->memory + row->size + (size_t)sysconf(_SC_PAGESIZE) - row->held, row->held);
+        munmap(row->all, row->held);
     else
         free(row->memory);
     free(row->copy);
@@ -174,6 +203,15 @@ static uint64_t end_row(struct row *row)
 static void put_lent(const struct row *row)
 {
     put(row->memory + row->from, row->to - row->from);
+}
+
+/* `count` octets of a row from `at` on, by their pointer, as far as they are in the row. */
+static void put_part(const struct row *row, uint64_t at, uint64_t count)
+{
+    uint64_t len = row->to - row->from, rest = at < len ? len - at : 0;
+
+    if (rest > 0)
+        put((const uint8_t *)pointer(row) + at, (size_t)(count < rest ? count : rest));
 }
 
 static void put_guard(uint64_t guard)
@@ -234,6 +272,19 @@ static void call_read_bytes(void)
     put_guard(end_row(&bytes) | end_row(&octets));
 }
 
+static void call_read_front(void)
+{
+    uint64_t kind = get_number(), chips_len = get_number();
+    uint64_t front = kind == DSSS_LONG ? DSSS_FRONT_LONG : DSSS_FRONT_SHORT;
+    struct row chips = read_row_to(chips_len, 1, chips_len < front ? chips_len : front);
+
+    dsss_coming coming = dsss_read_front(kind, pointer(&chips), (size_t)chips_len);
+    set_access(&chips, PROT_READ);
+    put(&coming, sizeof coming);
+    put_part(&chips, coming.at, coming.count);
+    put_guard(end_row(&chips));
+}
+
 int main(int argc, char **argv)
 {
     if (argc > 2 || (argc == 2 && strcmp(argv[1], "pages") != 0 && strcmp(argv[1], "exact") != 0))
@@ -254,8 +305,11 @@ int main(int argc, char **argv)
         case 4:
             call_read_bytes();
             break;
+        case 5:
+            call_read_front();
+            break;
         default:
-            die("an op that is not 1 to 4");
+            die("an op that is not 1 to 5");
         }
     }
     return 0;

@@ -1,6 +1,6 @@
 // header.cpp: dsss.h as C++. Each call is made once with empty rows, so the names must be C's:
-// linked with a library built as C, this fails if they are not. The calls' names are macros: they must
-// stand wherever C++ has a function's name, as in a namespace, behind :: and where it is taken as a value.
+// linked with a library built as C, this fails if they are not. The names of all but one are macros: they
+// must stand wherever C++ has a function's name, as in a namespace, behind :: and where it is taken as a value.
 #include "dsss.h"
 
 #include <cstdio>
@@ -9,6 +9,8 @@ namespace radio {
 using ::dsss_write;
 typedef dsss_record (*hard_reader)(uint64_t, const uint8_t *, size_t, uint8_t *, size_t);
 static const hard_reader read_hard = &dsss_read_hard;
+typedef dsss_coming (*front_reader)(uint64_t, const uint8_t *, size_t);
+static const front_reader read_front = &dsss_read_front;
 }
 
 int main()
@@ -17,9 +19,11 @@ int main()
     dsss_record hard = radio::read_hard(DSSS_SHORT, NULL, 0, NULL, 0);
     dsss_record soft = dsss_read_soft(DSSS_SHORT + 1, NULL, 0, NULL, 0, NULL, 0);
     dsss_record bytes = ::dsss_read_bytes(DSSS_LONG, NULL, 0, NULL, 0);
+    dsss_coming coming = radio::read_front(DSSS_SHORT, NULL, 0);
 
     if (written.number != DSSS_REFUSED_PAYLOAD || hard.number != DSSS_REFUSED_FRONT
-        || soft.number != DSSS_REFUSED_KIND || bytes.number != DSSS_REFUSED_FRONT) {
+        || soft.number != DSSS_REFUSED_KIND || bytes.number != DSSS_REFUSED_FRONT
+        || coming.number != DSSS_REFUSED_FRONT || coming.at != 0 || coming.count != 0) {
         std::puts("header.cpp: a refusal is not the one expected");
         return 1;
     }

@@ -6,6 +6,7 @@
 use crate::calls::{Call, Met};
 use crate::families::{Family, Out};
 use crate::figures::Figures;
+use crate::relations::{Held, Relations};
 use std::collections::BTreeMap;
 use std::io::{self, BufReader, Write};
 use std::process::{Child, ChildStdin, ChildStdout, Command, Stdio};
@@ -44,6 +45,8 @@ pub struct Outcome {
     pub mismatches: u64,
     /// How often each number was expected of each op and part, with the clock bit and without it.
     pub met: BTreeMap<Met, u64>,
+    /// How often answers were seen to go together.
+    pub held: BTreeMap<Held, u64>,
 }
 
 impl Outcome {
@@ -52,6 +55,9 @@ impl Outcome {
         self.mismatches += other.mismatches;
         for (key, count) in &other.met {
             *self.met.entry(*key).or_default() += count;
+        }
+        for (key, count) in &other.held {
+            *self.held.entry(*key).or_default() += count;
         }
     }
 
@@ -89,7 +95,7 @@ impl Bridge {
     pub fn compare(&mut self, family: &Family, figures: &Figures, run: Run) -> io::Result<Outcome> {
         let Bridge { requests, answers, last_answer, .. } = self;
         let (sender, batches) = sync_channel::<Vec<(u64, Call)>>(if run.singly { 0 } else { AHEAD });
-        let mut outcome = Outcome::default();
+        let (mut outcome, mut relations) = (Outcome::default(), Relations::default());
         thread::scope(|scope| {
             scope.spawn(move || send_family(family, figures, run, requests, sender));
             for (case, call) in batches.into_iter().flatten() {
@@ -104,13 +110,17 @@ impl Bridge {
                     }
                 };
                 *last_answer.lock().expect("no panic") = Instant::now();
-                let equal = answer == expected && guarded;
+                let related = relations.hold(&call, &answer, &mut outcome.held);
+                let equal = answer == expected && guarded && related.is_ok();
                 if !equal && outcome.mismatches < SHOWN || run.only_case.is_some() {
                     let cut = if run.only_case.is_some() { usize::MAX } else { CUT };
                     head(if equal { "equal" } else { "MISMATCH" }, family, case, run);
                     println!("{}\n{}", call.shown(cut), call.compared(&expected, &answer, cut));
                     if !guarded {
                         println!("  the octets around the lent rows, or rows lent for reading, were changed");
+                    }
+                    if let Err(fault) = related {
+                        println!("  beside the calls before it: {fault}");
                     }
                 }
                 outcome.calls += 1;

@@ -1,6 +1,7 @@
 //! One call of the library: its request to the bridge, the answer this program expects, and how both are shown.
 
 use crate::chips::Recording;
+use crate::coming::{coming, Coming};
 use crate::reading::read;
 use crate::refusals::CHIP_BUFFER;
 use crate::writing::write;
@@ -13,20 +14,23 @@ pub enum Call {
     ReadHard { kind: u64, chips: Vec<u8>, octets_len: usize },
     ReadSoft { kind: u64, i: Vec<f32>, q: Vec<f32>, octets_len: usize },
     ReadBytes { kind: u64, bytes: Vec<i8>, octets_len: usize },
+    ReadFront { kind: u64, chips: Vec<u8> },
 }
 
-/// What a call answers: its numbers in the order of the record, and the lent buffer after the call.
+/// What a call answers: its numbers in the order of the record, and the lent buffer after the call, or the part that it
+/// hands back.
 #[derive(PartialEq, Eq)]
 pub struct Answer {
     pub numbers: Vec<u64>,
     pub buffer: Vec<u8>,
 }
 
-/// Where a call's answer is settled. Payloads of more than 300 octets, and places from 65,536 on, count apart: what
-/// goes wrong there only is not seen in short frames.
+/// Where a call's answer is settled. Fronts of recordings above 6,000 chips, payloads of more than 300 octets, and
+/// places from 65,536 on, count apart: what goes wrong there only is not seen in short frames.
 #[derive(Clone, Copy, PartialEq, Eq, PartialOrd, Ord)]
 pub enum Part {
     Front,
+    LongFront,
     Payload,
     LongPayload,
     FarPlace,
@@ -43,11 +47,12 @@ pub struct Met {
 }
 
 impl Part {
-    fn of(told: u64, place: u64) -> Part {
-        match (told, place) {
-            (0, _) => Part::Front,
-            (_, 65_536..) => Part::FarPlace,
-            (301.., _) => Part::LongPayload,
+    fn of(told: u64, place: u64, recorded: usize) -> Part {
+        match (told, place, recorded) {
+            (0, _, 6_001..) => Part::LongFront,
+            (0, _, _) => Part::Front,
+            (_, 65_536.., _) => Part::FarPlace,
+            (301.., _, _) => Part::LongPayload,
             _ => Part::Payload,
         }
     }
@@ -70,28 +75,45 @@ impl Call {
         Call::ReadBytes { kind, bytes, octets_len }
     }
 
+    pub fn front(kind: u64, chips: Vec<u8>) -> Call {
+        Call::ReadFront { kind, chips }
+    }
+
     pub fn op(&self) -> &'static str {
         match self {
             Call::Write { .. } => "write",
             Call::ReadHard { .. } => "read hard",
             Call::ReadSoft { .. } => "read soft",
             Call::ReadBytes { .. } => "read bytes",
+            Call::ReadFront { .. } => "read front",
         }
     }
 
     fn names(&self) -> &'static [&'static str] {
         match self {
             Call::Write { .. } => &["number", "chips"],
+            Call::ReadFront { .. } => &["number", "place", "rate", "length", "clock", "n", "used", "at", "count"],
             _ => &["number", "place", "rate", "length", "n", "used", "clock"],
         }
     }
 
-    fn buffer_len(&self) -> usize {
+    fn lent_len(&self) -> usize {
         match self {
             Call::Write { chips_len, .. } => *chips_len,
             Call::ReadHard { octets_len, .. }
             | Call::ReadSoft { octets_len, .. }
             | Call::ReadBytes { octets_len, .. } => *octets_len,
+            Call::ReadFront { .. } => 0,
+        }
+    }
+
+    /// The octets that follow an answer's numbers: the lent buffer, or the part as far as it is in the recording.
+    fn following(&self, numbers: &[u64]) -> usize {
+        match (self, numbers) {
+            (Call::ReadFront { chips, .. }, [.., at, count]) => {
+                (chips.len() as u64).saturating_sub(*at).min(*count) as usize
+            }
+            _ => self.lent_len(),
         }
     }
 
@@ -115,6 +137,10 @@ impl Call {
                 numbers(&[4, *kind, bytes.len() as u64, *octets_len as u64]);
                 to.extend(bytes.iter().map(|byte| *byte as u8));
             }
+            Call::ReadFront { kind, chips } => {
+                numbers(&[5, *kind, chips.len() as u64]);
+                to.extend(chips);
+            }
         }
     }
 
@@ -126,7 +152,7 @@ impl Call {
             from.read_exact(&mut number)?;
             numbers.push(u64::from_le_bytes(number));
         }
-        let mut buffer = vec![0; self.buffer_len()];
+        let mut buffer = vec![0; self.following(&numbers)];
         from.read_exact(&mut buffer)?;
         from.read_exact(&mut number)?;
         Ok((Answer { numbers, buffer }, u64::from_le_bytes(number) == 0))
@@ -135,16 +161,23 @@ impl Call {
     /// The answer that the document gives, and what is counted of it; a write's part goes by its payload's length. The
     /// buffer starts with other contents than any call leaves.
     pub fn expected(&self) -> (Answer, Met) {
-        let mut buffer = vec![0x77; self.buffer_len()];
+        let mut buffer = vec![0x77; self.lent_len()];
         let (numbers, part, clock) = match self {
             Call::Write { kind, rate, phase, clock, payload, .. } => {
                 let written = write(*kind, *rate, *phase, *clock, payload, &mut buffer);
                 let told = if [0, CHIP_BUFFER].contains(&written.number) { payload.len() as u64 } else { 0 };
-                (vec![written.number, written.chips], Part::of(told, 0), *clock != 0)
+                (vec![written.number, written.chips], Part::of(told, 0, 0), *clock != 0)
             }
-            Call::ReadHard { kind, chips, .. } => record(read(*kind, Recording::Hard(chips), &mut buffer)),
-            Call::ReadSoft { kind, i, q, .. } => record(read(*kind, Recording::Soft(i, q), &mut buffer)),
-            Call::ReadBytes { kind, bytes, .. } => record(read(*kind, Recording::Bytes(bytes), &mut buffer)),
+            Call::ReadHard { kind, chips, .. } => record(read(*kind, Recording::Hard(chips), &mut buffer), chips.len()),
+            Call::ReadSoft { kind, i, q, .. } => record(read(*kind, Recording::Soft(i, q), &mut buffer), i.len()),
+            Call::ReadBytes { kind, bytes, .. } => {
+                record(read(*kind, Recording::Bytes(bytes), &mut buffer), bytes.len() / 2)
+            }
+            Call::ReadFront { kind, chips } => {
+                let front = coming(*kind, chips);
+                buffer.extend(front.part);
+                front_record(front, chips.len())
+            }
         };
         let met = Met { op: self.op(), part, number: numbers[0], clock };
         (Answer { numbers, buffer }, met)
@@ -155,7 +188,9 @@ impl Call {
         let mut lines = vec![format!("  {}: {}", self.op(), self.shown_numbers())];
         match self {
             Call::Write { payload, .. } => lines.push(format!("  payload {}", hex(payload, cut))),
-            Call::ReadHard { chips, .. } => lines.push(format!("  chips {}", hex(chips, cut))),
+            Call::ReadHard { chips, .. } | Call::ReadFront { chips, .. } => {
+                lines.push(format!("  chips {}", hex(chips, cut)));
+            }
             Call::ReadSoft { i, q, .. } => {
                 lines.push(format!("  i, the bits of each f32: {}", hex_row(i, cut)));
                 lines.push(format!("  q, the bits of each f32: {}", hex_row(q, cut)));
@@ -173,7 +208,8 @@ impl Call {
         ];
         let both = expected.buffer.iter().zip(&answer.buffer).enumerate();
         for (at, (right, found)) in both.filter(|(_, (right, found))| right != found).take(1) {
-            lines.push(format!("  buffer differs first at {at}: expected {right:02x}, library {found:02x}"));
+            let buffer = self.buffer_name();
+            lines.push(format!("  {buffer} differs first at {at}: expected {right:02x}, library {found:02x}"));
         }
         lines.join("\n")
     }
@@ -193,18 +229,33 @@ impl Call {
             Call::ReadBytes { kind, bytes, octets_len } => {
                 format!("kind {kind}, bytes_len {}, octets_len {octets_len}", bytes.len())
             }
+            Call::ReadFront { kind, chips } => format!("kind {kind}, chips_len {}", chips.len()),
+        }
+    }
+
+    fn buffer_name(&self) -> &'static str {
+        match self {
+            Call::ReadFront { .. } => "part",
+            _ => "buffer",
         }
     }
 
     fn shown_answer(&self, answer: &Answer, cut: usize) -> String {
         let named = self.names().iter().zip(&answer.numbers).map(|(name, number)| format!("{name} {number}"));
-        format!("{}; buffer {}", named.collect::<Vec<_>>().join(", "), hex(&answer.buffer, cut))
+        let (named, buffer) = (named.collect::<Vec<_>>().join(", "), self.buffer_name());
+        format!("{named}; {buffer} {}", hex(&answer.buffer, cut))
     }
 }
 
-fn record(read: crate::reading::Read) -> (Vec<u64>, Part, bool) {
-    let part = Part::of(read.told, read.place);
+fn record(read: crate::reading::Read, recorded: usize) -> (Vec<u64>, Part, bool) {
+    let part = Part::of(read.told, read.place, recorded);
     (vec![read.number, read.place, read.rate, read.length, read.n, read.used, read.clock], part, read.clock_read)
+}
+
+fn front_record(front: Coming, recorded: usize) -> (Vec<u64>, Part, bool) {
+    let Coming { number, place, rate, length, clock, n, used, at, part, told, clock_read } = front;
+    let numbers = vec![number, place, rate, length, clock, n, used, at, part.len() as u64];
+    (numbers, Part::of(told, place, recorded), clock_read)
 }
 
 fn hex(row: &[impl LowerHex], cut: usize) -> String {

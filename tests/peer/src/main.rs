@@ -14,7 +14,8 @@
 //! ```
 //!
 //! Every run checks this program against Table P and against the published figures in DIR (tests/vectors if not
-//! given), then makes the calls of each family and compares every answer and every buffer. It ends with status 1 on a
+//! given), then makes the calls of each family and compares every answer and every buffer. Before a hard recording is
+//! read, its front is asked what is coming, and the two answers must go together. It ends with status 1 on a
 //! difference, on fewer calls than are owed, on a bridge that dies, and on a missing file of figures. A family or a
 //! replayed case alone owes no number of calls. In brief, only the families' lines are printed. A replay prints the
 //! whole call and both answers. Calls go ahead of the answers; sent singly, a call at which the bridge dies is known
@@ -35,6 +36,7 @@ mod frame;
 mod refusals;
 mod writing;
 mod reading;
+mod coming;
 mod table_p;
 
 // The comparison.
@@ -44,6 +46,7 @@ mod families;
 mod figures;
 mod owed;
 mod random;
+mod relations;
 
 use bridge::{Bridge, Outcome, Run};
 use families::{Family, FAMILIES};

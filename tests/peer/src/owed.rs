@@ -1,10 +1,14 @@
 //! What a whole run owes: so many calls, each number of each op and part at least so often, with the clock bit and
-//! without it, and no other number at all, and no family that spends a third of all calls on one number.
+//! without it, and no other number at all; fronts that tell of each kind and rate, recordings alike in the front that
+//! are refused with each number, and full reads that go together with fronts in each way; and no family that spends a
+//! third of all calls on one number.
 
 use crate::bridge::Outcome;
 use crate::calls::{Met, Part};
+use crate::families::pairs;
+use crate::relations::Held;
 
-const CALLS: u64 = 125_000;
+const CALLS: u64 = 200_000;
 
 struct Owed {
     op: &'static str,
@@ -21,7 +25,7 @@ const fn owed(op: &'static str, part: Part, shown: &'static str, least: &'static
     Owed { op, part, shown, least }
 }
 
-const OWED: [Owed; 15] = [
+const OWED: [Owed; 22] = [
     owed(
         "write",
         Part::Front,
@@ -35,8 +39,8 @@ const OWED: [Owed; 15] = [
         Part::Front,
         "front",
         &[
-            (1, 3_400, 0),
-            (8, 2_100, 0),
+            (1, 4_500, 0),
+            (8, 2_200, 0),
             (9, 5_000, 0),
             (10, 2_600, 0),
             (11, 1_200, 0),
@@ -48,15 +52,21 @@ const OWED: [Owed; 15] = [
     ),
     owed(
         "read hard",
+        Part::LongFront,
+        "front, 6,001 and more",
+        &[(1, 16, 0), (9, 16, 0), (10, 26, 0), (11, 70, 0), (12, 16, 0), (13, 10, 6), (14, 6, 10), (15, 22, 16)],
+    ),
+    owed(
+        "read hard",
         Part::Payload,
         "payload to 300 octets",
-        &[(0, 5_000, 5_000), (9, 190, 210), (10, 230, 240), (16, 1_500, 600), (17, 170, 200)],
+        &[(0, 5_100, 5_000), (9, 1_200, 1_100), (10, 230, 240), (16, 1_500, 660), (17, 230, 250)],
     ),
     owed(
         "read hard",
         Part::LongPayload,
         "payload above 300",
-        &[(0, 120, 100), (9, 160, 150), (10, 10, 10), (16, 14_000, 3_000), (17, 50, 50)],
+        &[(0, 140, 130), (9, 200, 200), (10, 10, 10), (16, 14_000, 3_000), (17, 80, 80)],
     ),
     owed("read hard", Part::FarPlace, "places from 65,536", &[(9, 20, 10), (10, 4, 5)]),
     owed(
@@ -74,6 +84,22 @@ const OWED: [Owed; 15] = [
             (13, 20, 20),
             (14, 380, 320),
             (15, 140, 130),
+        ],
+    ),
+    owed(
+        "read soft",
+        Part::LongFront,
+        "front, 6,001 and more",
+        &[
+            (1, 20, 0),
+            (7, 10, 0),
+            (9, 16, 0),
+            (10, 16, 0),
+            (11, 16, 0),
+            (12, 16, 0),
+            (13, 10, 6),
+            (14, 6, 10),
+            (15, 22, 16),
         ],
     ),
     owed(
@@ -108,6 +134,12 @@ const OWED: [Owed; 15] = [
     ),
     owed(
         "read bytes",
+        Part::LongFront,
+        "front, 6,001 and more",
+        &[(1, 16, 0), (7, 75, 0), (10, 19, 0), (11, 34, 0), (12, 16, 0), (13, 10, 6), (14, 6, 12), (15, 22, 16)],
+    ),
+    owed(
+        "read bytes",
         Part::Payload,
         "payload to 300 octets",
         &[(0, 4_300, 4_400), (10, 350, 360), (16, 410, 400), (17, 100, 110)],
@@ -119,7 +151,78 @@ const OWED: [Owed; 15] = [
         &[(0, 100, 110), (10, 8, 7), (16, 310, 310), (17, 30, 30)],
     ),
     owed("read bytes", Part::FarPlace, "places from 65,536", &[(10, 3, 4)]),
+    // No 7 and no 17, and of the payload no 9 and no 10.
+    owed(
+        "read front",
+        Part::Front,
+        "front",
+        &[
+            (1, 4_500, 0),
+            (8, 2_200, 0),
+            (9, 5_000, 0),
+            (10, 2_700, 0),
+            (11, 1_300, 0),
+            (12, 1_200, 0),
+            (13, 6_500, 6_500),
+            (14, 1_700, 1_700),
+            (15, 2_700, 2_800),
+        ],
+    ),
+    owed(
+        "read front",
+        Part::LongFront,
+        "front, 6,001 and more",
+        &[(1, 16, 0), (9, 16, 0), (10, 26, 0), (11, 70, 0), (12, 16, 0), (13, 10, 6), (14, 6, 10), (15, 22, 16)],
+    ),
+    owed("read front", Part::Payload, "payload to 300 octets", &[(0, 6_500, 6_500), (16, 1_500, 700)]),
+    owed("read front", Part::LongPayload, "payload above 300", &[(0, 1_100, 1_100), (16, 14_000, 3_600)]),
 ];
+
+/// How often a front must tell of each kind and rate, without the clock bit and with it.
+const TELLS: u64 = 900;
+
+/// How often each way in which answers go together must be seen.
+const HELD: [(Held, &str, u64); 6] = [
+    (Held::AlikeInFront, "alike in the front", 3_100),
+    (Held::AlikeCut, "alike and cut", 960),
+    (Held::RefusedAlike, "refused alike", 57_000),
+    (Held::ReadAlike, "read alike", 10_500),
+    (Held::SpoiledInPart, "spoiled in the part", 3_300),
+    (Held::ShortOfRoom, "short of room", 660),
+];
+
+/// How often two recordings alike in the front must be refused alike, with each number.
+const ALIKE: [(u64, u64); 9] =
+    [(1, 1_500), (8, 570), (9, 16), (10, 18), (11, 70), (12, 20), (13, 16), (14, 16), (15, 14)];
+
+/// Shows how often fronts told of each kind and rate and how often answers went together; what is short of it.
+fn held(total: &Outcome) -> Vec<String> {
+    let count = |held: Held| total.held.get(&held).copied().unwrap_or(0);
+    let (mut words, mut short) = (Vec::new(), Vec::new());
+    for (kind, rate) in pairs() {
+        let (kind, rate) = (kind.number(), u64::from(rate.code()));
+        let counts = [0, 1].map(|clock| count(Held::Tells { kind, rate, clock }));
+        words.push(format!("{kind} {rate}: {} {}", counts[0], counts[1]));
+        if counts.iter().any(|count| *count < TELLS) {
+            short.push(format!("fronts told of kind {kind}, rate {rate} {counts:?} times, {TELLS} owed each"));
+        }
+    }
+    println!("read front  kinds and rates told   {}", words.join(", "));
+    let alike = |number: u64| count(Held::AlikeRefused { number });
+    println!(
+        "read front  alike and refused      {}",
+        ALIKE.map(|(number, _)| format!("{number}: {}", alike(number))).join(", ")
+    );
+    let rare = ALIKE.into_iter().filter(|(number, least)| alike(*number) < *least);
+    short.extend(
+        rare.map(|(number, least)| format!("alike and refused with {number} {} times, {least} owed", alike(number))),
+    );
+    let seen = HELD.map(|(held, shown, _)| format!("{shown}: {}", count(held)));
+    println!("read front  beside other reads     {}", seen.join(", "));
+    let rare = HELD.into_iter().filter(|(held, _, least)| count(*held) < *least);
+    short.extend(rare.map(|(held, shown, least)| format!("{shown} {} times, {least} owed", count(held))));
+    short
+}
 
 /// Shows how often each number came, and whether what is owed was met. `largest` is the family that answered one number
 /// most often, with how often.
@@ -148,6 +251,7 @@ pub fn met(total: &Outcome, largest: (u64, &str)) -> Result<(), String> {
             short.push(format!("{op} answered {number} {count} times where it can't"));
         }
     }
+    short.extend(held(total));
     if total.calls < CALLS {
         short.push(format!("{} calls made, {CALLS} owed", total.calls));
     }

@@ -47,16 +47,16 @@ pub fn read(kind: u64, recording: Recording, octets: &mut [u8]) -> Read {
     }
 }
 
-/// What the payload needs of the front.
-struct Front {
-    kind: Kind,
-    header: Header,
+/// What a front with a right CRC holds, and what the payload needs of it.
+pub struct Front {
+    pub kind: Kind,
+    pub header: Header,
     scrambled: Vec<u8>,
     phase: Phase,
 }
 
 /// 1, 7, 8, then 9 and 10 over the front, 11, 12.
-fn read_front(kind: u64, recording: Recording) -> Result<Front, Read> {
+pub fn read_front(kind: u64, recording: Recording) -> Result<Front, Read> {
     let kind = Kind::of_number(kind).ok_or(Read::refused(refusals::KIND))?;
     if recording.unpaired() {
         return Err(Read::refused(refusals::ROWS));
@@ -87,22 +87,27 @@ fn read_front(kind: u64, recording: Recording) -> Result<Front, Read> {
     Ok(Front { kind, header, scrambled, phase })
 }
 
-/// 13, 14, 15, then the payload. LENGTH is added by the caller.
-fn read_payload(front: Front, recording: Recording, octets: &mut [u8]) -> Result<Read, Read> {
-    let Front { kind, header, .. } = front;
+/// 13, 14, 15: the rate and the octets that the front tells, or the refusal's number.
+pub fn told_by(front: &Front) -> Result<(Rate, usize), u64> {
+    let Front { kind, header, .. } = *front;
     let rate = match Rate::of_code(u64::from(header.signal)) {
         Some(rate) if kind.has(rate) => rate,
-        _ => return Err(Read::refused(refusals::SIGNAL)),
+        _ => return Err(refusals::SIGNAL),
     };
     let allowed: &[u8] = if rate == Rate::Mbit11 { &[0, 4, 128, 132] } else { &[0, 4] };
     if !allowed.contains(&header.service) {
-        return Err(Read::refused(refusals::SERVICE));
+        return Err(refusals::SERVICE);
     }
     let n = rate.octets_of(header.length, header.bit7());
     if n < 1 || n > refusals::MOST_OCTETS as i64 || Header::written(rate, n as usize, header.clock()) != header {
-        return Err(Read::refused(refusals::LENGTH));
+        return Err(refusals::LENGTH);
     }
-    let n = n as usize;
+    Ok((rate, n as usize))
+}
+
+/// 13, 14, 15, then the payload. LENGTH is added by the caller.
+fn read_payload(front: Front, recording: Recording, octets: &mut [u8]) -> Result<Read, Read> {
+    let (rate, n) = told_by(&front).map_err(Read::refused)?;
     payload_of(front, rate, n, recording, octets).map_err(|refused| Read { told: n as u64, ..refused })
 }
 

@@ -1,7 +1,8 @@
 //! # What is refused, in this order
 //!
 //! Writing: 1, 2, 3, 4, 5, 6. Reading: 1, 7, 8, then 9 and 10 over the front, 11, 12, 13, 14, 15, 16, 17, then 9 and
-//! 10 over the payload. In each part, 9 is looked for through the whole part before 10.
+//! 10 over the payload. In each part, 9 is looked for through the whole part before 10. Telling what is coming: 1, 8,
+//! then 9 and 10 over the front, 11, 12, 13, 14, 15, 16.
 
 /// kind is neither 0 (long) nor 1 (short)
 pub const KIND: u64 = 1;

@@ -11,8 +11,12 @@
 //! - Halves of a count always rounded up: `halves_of_a_count`, `tiny_values`.
 //! - A yes of the clock taken as no, or the clock bit lost: `write_clocks`, every read of a good frame.
 //! - The clock bit shown in a refusal, or refused itself: `clock_bits`, `every_signal_and_service`.
+//! - A payload chip looked at to tell what is coming: `payloads_not_looked_at`, rows ending where memory ends.
+//! - What is coming told of a frame that isn't whole: `coming_every_n`, `cut_recordings`.
+//! - A front refused otherwise where much stands behind it: `long_refused`.
 
 mod bytes;
+mod coming;
 mod damage;
 mod headers;
 mod long;
@@ -69,6 +73,7 @@ families! {
     506 refused::cut_recordings: "recordings cut at every length about the front's and the frame's end",
     507 refused::kinds_crossed: "long frames read as short and the other way",
     508 refused::odd_rows: "odd numbers of bytes, about the fronts, the frame's end and powers of 2",
+    509 refused::long_refused: "what the front refuses, in recordings of up to 71,000 chips that are alike there",
     601 damage::unusable_octets: "one or two unusable octets at every place",
     602 damage::odd_growths: "symbols turned by 1 to 3, alone or with all that follow",
     603 damage::damaged_chips: "chips changed to other phases, few to most",
@@ -92,6 +97,10 @@ families! {
     902 bytes::equal_bytes: "bytes equal in size, so that words tie, in symbols and over all of a recording",
     903 bytes::exchanged_bytes: "I and Q exchanged, negated, a byte late, and frames turned by an eighth",
     904 bytes::random_bytes: "bytes at random over all of the recording, the header or the payload",
+    1001 coming::coming_rooms: "what is coming beside full reads with room 0, n - 1, n and 4,095, refused and not",
+    1002 coming::payloads_not_looked_at: "recordings alike in the front, with any octets as the payload's chips",
+    1003 coming::coming_every_n: "what is coming up to 4,095 octets, whole, cut and with chips behind",
+    1004 coming::coming_any_octets: "what is coming in octets at random and in frames cut anywhere, by any kind",
 }
 
 /// Where a family puts its calls.
@@ -107,7 +116,11 @@ impl<'a> Out<'a> {
         Out { long, random: Random::new(seed), figures, take }
     }
 
+    /// A call; before each reading of a hard recording what is coming in it, asked of the same chips.
     pub fn call(&mut self, call: Call) {
+        if let Call::ReadHard { kind, chips, .. } = &call {
+            (self.take)(Call::front(*kind, chips.clone()));
+        }
         (self.take)(call);
     }
 
@@ -151,6 +164,10 @@ pub fn any_pair(random: &mut Random) -> (Kind, Rate) {
     let all: Vec<_> = pairs().collect();
     random.pick(&all)
 }
+
+/// Kinds, the two and others, whatever a narrower number would make of them.
+pub const KINDS: [u64; 14] =
+    [0, 1, 2, 3, 255, 256, 257, 1 << 32, (1 << 32) + 1, 1 << 40, (1 << 40) + 1, 1 << 63, u64::MAX - 1, u64::MAX];
 
 /// Clock numbers: 0 is no, all others are yes, whatever a narrower number would make of them.
 pub const CLOCKS: [u64; 11] = [0, 1, 2, 3, 4, 255, 256, 1 << 32, 1 << 40, 1 << 63, u64::MAX];

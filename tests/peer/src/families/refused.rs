@@ -1,13 +1,11 @@
 //! Refusals of the readers, at their edges and several at once.
 
-use super::{any_clock, any_pair, byte_row, bytes_of, pairs, soft_rows, turn, Draft, Out, Recorder};
+use super::{any_clock, any_pair, byte_row, bytes_of, pairs, soft_rows, turn, Draft, Out, Recorder, KINDS};
 use crate::bits::Rate;
 use crate::calls::Call;
 use crate::frame::Kind;
 use crate::random::Random;
 use std::collections::BTreeSet;
-
-const KINDS: [u64; 12] = [0, 1, 2, 3, 255, 256, 257, 1 << 32, (1 << 32) + 1, 1 << 63, u64::MAX - 1, u64::MAX];
 
 /// The first chips of a long or a short frame that is longer than both fronts.
 fn first_chips(len: usize, random: &mut Random) -> Vec<u8> {
@@ -29,6 +27,13 @@ pub fn read_numbers(out: &mut Out) {
                     out.call(recorder.reading(kind, chips.clone(), room));
                 }
             }
+        }
+    }
+    // A good frame by its kind with one bit more.
+    for (bit, kind) in (1..64).flat_map(|bit| Kind::BOTH.map(|kind| (bit, kind))) {
+        let chips = Draft::random(kind, Rate::Mbit11, 2, &mut out.random).chips();
+        for recorder in Recorder::ALL {
+            out.call(recorder.reading(kind.number() | 1 << bit, chips.clone(), 2));
         }
     }
 }
@@ -114,9 +119,9 @@ pub fn empty_rows(out: &mut Out) {
 }
 
 /// What can be wrong with a reading, in the order of the refusals.
-const WRONGS: usize = 14;
+pub const WRONGS: usize = 14;
 const KIND: usize = 0;
-const ROWS: usize = 1;
+pub const ROWS: usize = 1;
 const FRONT: usize = 2;
 const FRONT_UNUSABLE: usize = 3;
 const FRONT_GROWTH: usize = 4;
@@ -131,7 +136,7 @@ const PAYLOAD_UNUSABLE: usize = 12;
 const PAYLOAD_GROWTH: usize = 13;
 
 /// A reading with the wrongs of a set (bit k for wrong k), the places and values at random.
-fn wrong_reading(set: usize, recorder: Recorder, random: &mut Random) -> Call {
+pub fn wrong_reading(set: usize, recorder: Recorder, random: &mut Random) -> Call {
     let wrong = |k: usize| set >> k & 1 == 1;
     let (kind, rate) = if wrong(PAYLOAD_GROWTH) { (Kind::Long, Rate::Mbit1) } else { any_pair(random) };
     let n = random.within(1, 6);
@@ -235,6 +240,43 @@ pub fn pairs_of_refusals(out: &mut Out) {
                 let call = wrong_reading(set, recorders[case % recorders.len()], &mut out.random);
                 out.call(call);
             }
+        }
+    }
+}
+
+/// What is settled by the front, but for its length.
+const IN_FRONT: [usize; 8] = [KIND, FRONT_UNUSABLE, FRONT_GROWTH, SFD, CRC, SIGNAL, SERVICE, LENGTH];
+
+/// Reads a recording as it is and then with any octets behind it, up to lengths about 2^16 and past it: all of them are
+/// alike in the front.
+fn with_octets_behind(out: &mut Out, kind: u64, mut chips: Vec<u8>, room: usize) {
+    let some = out.random.within(6_001, 30_000);
+    for len in [chips.len(), some, 65_536 + out.random.below(1000), 70_000 + out.random.below(1000)] {
+        let behind = out.random.octets(len - chips.len());
+        chips.extend(behind);
+        for recorder in Recorder::ALL {
+            out.call(recorder.reading(kind, chips.clone(), room));
+        }
+    }
+}
+
+pub fn long_refused(out: &mut Out) {
+    for (at, first) in IN_FRONT.into_iter().enumerate() {
+        for case in 0..out.cases(8) {
+            // Alone, and before another.
+            let second = if case % 2 == 0 { first } else { out.random.pick(&IN_FRONT[at..]) };
+            let call = wrong_reading(1 << first | 1 << second, Recorder::Hard, &mut out.random);
+            if let Call::ReadHard { kind, chips, octets_len } = call {
+                with_octets_behind(out, kind, chips, octets_len);
+            }
+        }
+    }
+    for len in [6_001, 12_345, 20_000, 65_535, 65_536, 70_000] {
+        for kind in [0, 1, 2] {
+            let mut chips = first_chips(2400, &mut out.random);
+            chips.resize(len, 3);
+            let rows = wrong_rows(&chips, true, &mut out.random);
+            out.call(Call::soft(kind, rows, 40));
         }
     }
 }

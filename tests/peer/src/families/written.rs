@@ -1,6 +1,6 @@
 //! Writing.
 
-use super::{any_clock, any_pair, pairs, Out, CLOCKS};
+use super::{any_clock, any_pair, pairs, Out, CLOCKS, KINDS};
 use crate::bits::Rate;
 use crate::calls::Call;
 use crate::frame::Kind;
@@ -73,13 +73,12 @@ fn beside(good: u64) -> [u64; 8] {
 }
 
 pub fn write_numbers(out: &mut Out) {
-    let kinds = [0, 1, 2, 3, 255, 256, 257, 1 << 32, (1 << 32) + 1, 1 << 63, u64::MAX - 1, u64::MAX];
     let mut rates = vec![0, 1, 9, 11, 54, 56, 109, 111, 254, 255, 256];
     for rate in Rate::ALL {
         rates.extend(beside(u64::from(rate.code())));
     }
     let phases = [0, 3, 4, 5, 255, 256, 1 << 32, (1 << 32) + 3, u64::MAX];
-    for kind in kinds {
+    for kind in KINDS {
         for rate in &rates {
             for phase in phases {
                 // Each refusal of the payload and of the buffer beside the numbers', and neither.

@@ -1,0 +1,132 @@
+//! How the answers over one hard recording go together, whatever this program expects of each: what its front tells,
+//! and what full reads answer.
+
+use crate::calls::{Answer, Call};
+use crate::frame::Kind;
+use crate::refusals::{ENDS, GROWTH, OCTET_BUFFER, UNUSABLE};
+use std::collections::BTreeMap;
+
+/// What was seen to hold.
+#[derive(Clone, Copy, PartialEq, Eq, PartialOrd, Ord)]
+pub enum Held {
+    /// A front tells of this kind and rate, without the clock bit or with it, and of a part that isn't empty.
+    Tells { kind: u64, rate: u64, clock: u64 },
+    /// Two recordings alike in the front, both long enough, have one answer.
+    AlikeInFront,
+    /// Two recordings alike in a front that is refused with this number have one answer, whatever stands behind it.
+    AlikeRefused { number: u64 },
+    /// Two recordings alike in the front, one ending in the payload and the other no longer, have one answer.
+    AlikeCut,
+    /// A full read is refused as the front is, with the same place and LENGTH.
+    RefusedAlike,
+    /// A full read answers what the front told.
+    ReadAlike,
+    /// A full read refuses a chip or a symbol of the part.
+    SpoiledInPart,
+    /// A full read with room for less than n octets is refused with 17.
+    ShortOfRoom,
+}
+
+/// What the front of a recording told.
+struct Told {
+    kind: u64,
+    chips: Vec<u8>,
+    numbers: [u64; 9],
+}
+
+/// The last read of a front, to which those calls are held that follow it.
+#[derive(Default)]
+pub struct Relations {
+    last: Option<Told>,
+}
+
+impl Relations {
+    /// Holds an answer to the one before it and counts what held, or says what doesn't go together.
+    pub fn hold(&mut self, call: &Call, answer: &Answer, held: &mut BTreeMap<Held, u64>) -> Result<(), &'static str> {
+        let mut count = |what: Option<Held>| what.into_iter().for_each(|what| *held.entry(what).or_default() += 1);
+        match call {
+            Call::ReadFront { kind, chips } => {
+                let numbers = answer.numbers[..].try_into().expect("nine numbers");
+                let told = Told { kind: *kind, chips: chips.clone(), numbers };
+                let alone = told.alone(&answer.buffer);
+                let beside = self.last.as_ref().map_or(Ok(None), |last| last.beside(&told));
+                self.last = Some(told);
+                count(alone?);
+                count(beside?);
+            }
+            Call::ReadHard { kind, chips, octets_len } => {
+                if let Some(told) = self.last.as_ref().filter(|told| told.kind == *kind && told.chips == *chips) {
+                    count(Some(told.read(&answer.numbers, *octets_len as u64)?));
+                }
+            }
+            _ => {}
+        }
+        Ok(())
+    }
+}
+
+impl Told {
+    /// A refusal tells number, place and LENGTH alone. Else the part is the recording's chips from `at` to `used`, and
+    /// never empty.
+    fn alone(&self, part: &[u8]) -> Result<Option<Held>, &'static str> {
+        let [number, _, rate, _, clock, n, used, at, count] = self.numbers;
+        if number != 0 {
+            let nothing = [rate, clock, n, used, at, count] == [0; 6] && part.is_empty();
+            return if nothing { Ok(None) } else { Err("a refusal tells more than number, place and LENGTH") };
+        }
+        if part.is_empty() || part.len() as u64 != count || self.chips.get(at as usize..used as usize) != Some(part) {
+            return Err("the part isn't the recording's chips from at to used");
+        }
+        Ok(Some(Held::Tells { kind: self.kind, rate, clock }))
+    }
+
+    /// The chips of the front; none if the recording is shorter. A kind that is none has an empty front.
+    fn front(&self) -> Option<&[u8]> {
+        self.chips.get(..Kind::of_number(self.kind).map_or(0, Kind::front_chips))
+    }
+
+    /// What must be one answer, of this recording and of another that is alike in the front: a good one if the other is
+    /// as long as the frame, a 16 if the other is no longer, and any other refusal.
+    fn settles(&self, other: &Told) -> Option<Held> {
+        let [number, .., used, _, _] = self.numbers;
+        match number {
+            0 => (other.chips.len() as u64 >= used).then_some(Held::AlikeInFront),
+            ENDS => (other.chips.len() <= self.chips.len()).then_some(Held::AlikeCut),
+            _ => Some(Held::AlikeRefused { number }),
+        }
+    }
+
+    /// Two recordings of one kind, alike in the front or both shorter: if one answer settles the other, they are equal.
+    fn beside(&self, other: &Told) -> Result<Option<Held>, &'static str> {
+        if self.kind != other.kind || self.front() != other.front() {
+            return Ok(None);
+        }
+        let settled = self.settles(other).or(other.settles(self));
+        if settled.is_some() && self.numbers != other.numbers {
+            return Err("another answer than of a recording alike in the front");
+        }
+        Ok(settled.filter(|_| self.chips != other.chips))
+    }
+
+    /// A full read of the same recording, by its numbers and its room.
+    fn read(&self, numbers: &[u64], room: u64) -> Result<Held, &'static str> {
+        let [number, place, rate, length, clock, n, used, at, _] = self.numbers;
+        let refused = |number: u64, place: u64| numbers == [number, place, 0, length, 0, 0, 0];
+        if number != 0 {
+            let same = refused(number, place);
+            return if same { Ok(Held::RefusedAlike) } else { Err("a full read isn't refused as the front is") };
+        }
+        if room < n {
+            let same = refused(OCTET_BUFFER, 0);
+            return if same { Ok(Held::ShortOfRoom) } else { Err("less room than n isn't refused with 17") };
+        }
+        let in_part = (at..used).contains(&numbers[1]);
+        if numbers == [0, 0, rate, length, n, used, clock] {
+            Ok(Held::ReadAlike)
+        } else if in_part && (refused(UNUSABLE, numbers[1]) || refused(GROWTH, numbers[1])) {
+            Ok(Held::SpoiledInPart)
+        } else {
+            Err("a full read is neither as the front told nor refused in the part")
+        }
+    }
+}
