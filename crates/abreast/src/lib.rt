@@ -1,9 +1,16 @@
 // Symbols abreast: sixteen symbols of bytes, one after the other, become rows of sixteen, in which the same byte of all
 // sixteen stands side by side. Then one step does for all of them what it did for one.
 ghost use mathlib.Core.Path.{_≡_};
-ghost use Prim.Native.Nat.{_+_, _*_, _%_, _≤_};
+ghost use Prim.Native.Nat.{_+_, _*_, _%_, _≤_, min};
 ghost use lib.ListN.{length};
 ghost use Rattle.abreast.specs.Abreast.{Begins, Merged, Turned};
+
+// How many of so many symbols the next sixteen take.
+pub fn at_most_16(left: usize) -> usize
+    ensures answer { λ r. ⌜ r ≡ min left 16 ⌝ }
+{
+    if left < 16 { left } else { 16 }
+}
 
 // Bytes from a place on, into a row's front.
 pub fn take_in(bytes: &[i8], from: usize, count: usize, row: &mut [i8])

@@ -7,7 +7,7 @@ use Prim.Native.Nat.{ℕ, zero, suc, _+_, _-_, _^_, _≤_, _<_}
 use native.Mathlib.Omega.{arith}
 use lib.Dec.{T, leb, ltb, leb→le, le→leb, ltb→lt, lt→ltb, nltb→le}
 use lib.IntN.{ℤ, pos, negsuc, negℤ, subℕ, _+ℤ_, _-ℤ_, +ℤ-idl}
-use lib.Signed.{_≤ℤ_, _<ℤ_}
+use lib.Signed.{mag, _≤ℤ_, _<ℤ_}
 use mir.Syntax.{Width}
 use mir.Val.{SFits, toZ, ofZ, hbits}
 use mir.Facts.{toZ-ofZ}
@@ -110,9 +110,18 @@ within-add {b} {d} {y} {z} h k = record { high = omega (arith, add y z); low = o
 pub within-neg : {b : ℕ} {z : ℤ} → Within b z → Within b (negℤ z)
 within-neg {b} {z} h = record { high = omega (arith, neg-up z, neg-dn z); low = omega (arith, neg-up z, neg-dn z) }
 
+-- a byte is from -128 to 127
+pub byte-within : (z : ℤ) → mag z < 128 → Within 128 z
+unfolding up dn
+byte-within (pos n) h = record { high = omega arith; low = omega arith }
+byte-within (negsuc n) h = record { high = omega arith; low = omega arith }
+
 -- ---- a signed number of any width: its bits read back, a negation
 pub small : (w : Width) (b : ℕ) → b < 2 ^ hbits w → (z : ℤ) → Within b z → toZ w (ofZ w z) ≡ z
 small w b k z h = toZ-ofZ (fits-at w h k)
+
+pub within-read : (w : Width) {b : ℕ} {z : ℤ} → b < 2 ^ hbits w → Within b z → Within b (toZ w (ofZ w z))
+within-read w {b} {z} k h = rw (small w b k z h) h
 
 module _ (w : Width) (b : ℕ) (k : b < 2 ^ hbits w) (z : ℤ) (h : Within b z) where
   is-neg : pos 0 -ℤ toZ w (ofZ w z) ≡ negℤ z

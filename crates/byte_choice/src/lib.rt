@@ -15,7 +15,7 @@ ghost use Rattle.choosing.specs.Keys.{larger, keyOf, HoldsLargest};
 ghost use Rattle.sums.specs.Sums.{bySigns, bestOfSums, rows, crossed, keyAt};
 
 // The magnitude of s.
-fn abs(s: i16) -> i16
+pub fn abs(s: i16) -> i16
     requires { ⌜ Within 32767 s ⌝ }
     ensures answer { λ r. ⌜ r ≡ pos (natAbs s) ⌝ }
 {
@@ -23,7 +23,7 @@ fn abs(s: i16) -> i16
 }
 
 // The larger of two.
-fn max(a: i16, b: i16) -> i16
+pub fn max(a: i16, b: i16) -> i16
     ensures answer { λ r. ⌜ r ≡ larger a b ⌝ }
 {
     if a < b { b } else { a }

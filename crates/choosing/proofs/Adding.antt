@@ -1,16 +1,16 @@
 -- The bits of a signed number and the whole number that they stand for, with a bound, at every width: sums, differences
 -- and products by a natural number are such again. A number that is natural keeps the natural number.
 -- Assumes nothing.
-use mathlib.Core.Path.{_≡_, refl, sym, _∙_, subst}
+use mathlib.Core.Path.{_≡_, refl, sym, ap, _∙_, subst}
 use Prim.Native.Nat.{ℕ, suc, _+_, _*_, _-_, _^_, _≤_, _<_}
-use native.Mathlib.Nat.{mul-le-mul-left, mul-add, mul-zero}
+use native.Mathlib.Nat.{mul-le-mul-left, mul-le-mul-right, mul-add, mul-zero}
 use native.Mathlib.Omega.{arith}
-use lib.IntN.{ℤ, pos, negsuc, negℤ, _+ℤ_, _-ℤ_, _*ℤ_}
+use lib.IntN.{ℤ, pos, negsuc, negℤ, _+ℤ_, _-ℤ_, _*ℤ_, *ℤ-comm, *ℤ-negsuc}
 use mir.Syntax.{Width}
 use mir.Val.{SFits, toZ, ofZ, hbits}
 use mir.Facts.{toZ-ofZ}
 use Rattle.base.specs.Whole.{up, dn, Within}
-use Rattle.base.proofs.Whole.{add, neg-up, neg-dn, up-pos, dn-pos, same, fits-at, within-add, within-neg}
+use Rattle.base.proofs.Whole.{add, neg-up, neg-dn, up-pos, dn-pos, same, fits-at, within-more, within-add, within-neg}
 
 -- the bits s stand for z, which is from -b to b
 pub record Reads (w : Width) (b s : ℕ) (z : ℤ) : Type 0 where
@@ -66,6 +66,15 @@ within-times a {b} {z} h = record {
   high = omega (arith, times-up a z, times-dn a z, mul-le-mul-left a (h .high), mul-add a b (dn z));
   low = omega (arith, times-up a z, times-dn a z, mul-le-mul-left a (h .low), mul-add a b (up z));
 }
+
+-- a whole number, too
+pub within-mul : {a b : ℕ} {y z : ℤ} → Within a y → Within b z → Within (a * b) (y *ℤ z)
+unfolding up dn
+within-mul {a} {b} {y = pos n} {z} h k =
+    within-more (within-times n k) (mul-le-mul-right b (omega (arith, h .high)))
+within-mul {a} {b} {y = negsuc n} {z} h k =
+    subst (Within (a * b)) (ap negℤ (*ℤ-comm (pos (suc n)) z) ∙ sym (*ℤ-negsuc z n) ∙ *ℤ-comm z (negsuc n))
+    (within-neg (within-more (within-times (suc n) k) (mul-le-mul-right b (omega (arith, h .low)))))
 
 module _ {w : Width} {a b d s t : ℕ} {z : ℤ} (h : Reads w d s (pos a)) (g : Reads w b t z)
     (k : a * b < 2 ^ hbits w) where

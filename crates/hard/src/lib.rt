@@ -1,11 +1,13 @@
 // A hard recording: a row of octets, 0 to 3 a phase, 4 lost, 5 to 255 unusable. Each loop over symbols gathers a
-// symbol's chips in an array that dissolves in it.
+// symbol's chips in an array that dissolves in it; at 11 Mbit/s sixteen symbols stand abreast, as columns of a row.
 ghost use mathlib.Core.Path.{_≡_};
 ghost use mathlib.Core.Bool.{true, not};
 ghost use Prim.Native.Nat.{_+_, _*_, _<_, _≤_};
 ghost use lib.ListN.{length, getD};
 ghost use Rattle.chips.specs.Chips.{unusable, isUnusable, hardRecording};
+ghost use Rattle.recorded.specs.Columns.{ColumnSet, Columns, hardColumn};
 ghost use Rattle.recorded.specs.Recorded.{hardPart, AllUsable, DecidedAt};
+use axes::Axis;
 use chips::Chip;
 use rates::Rate;
 
@@ -77,5 +79,54 @@ pub fn fives(octets: &[u8], at: usize, m: usize, numbers: &mut [u8; 64])
     while l < m {
         numbers[l] = units::decide_five(eight(octets, at + 8 * l));
         l += 1;
+    }
+}
+
+// A symbol's eight chips as column l of a row of sixteen symbols.
+fn put_column(i: [i8; 8], q: [i8; 8], l: usize, row: &mut [i8])
+    requires { ⌜ (l < 16) × (length (now row) ≡ 256) ⌝ }
+    ensures row { λ _. ⌜ ColumnSet i q l (now (row .entry)) 8 (now (row .exit)) ⌝ }
+{
+    for k in 0..8 {
+        let at = 32 * k + l;
+        row[at] = i[k];
+        row[at + 16] = q[k];
+    }
+}
+
+// Up to sixteen symbols of 11 Mbit/s as columns of a row, in full chips.
+fn columns(octets: &[u8], at: usize, count: usize, row: &mut [i8])
+    requires { ⌜ (count ≤ 16) × (at + 8 * count ≤ length (now octets)) × (length (now row) ≡ 256) ⌝ }
+    ensures row { λ _. ⌜ Columns (hardColumn Axis.I (now (octets .entry)) at)
+        (hardColumn Axis.Q (now (octets .entry)) at) (now (row .exit)) count ⌝ }
+{
+    let mut l: usize = 0;
+    while l < count {
+        let chips = eight(octets, at + 8 * l);
+        put_column(
+            axes::hard_units8(chips, Axis::I),
+            axes::hard_units8(chips, Axis::Q),
+            l,
+            row,
+        );
+        l += 1;
+    }
+}
+
+// m symbols of 11 Mbit/s from a place, sixteen abreast.
+pub fn elevens(octets: &[u8], at: usize, m: usize, numbers: &mut [u8; 64])
+    requires { ⌜ (m ≤ 64) × (at + 8 * m ≤ length (now octets))
+        × AllUsable (hardRecording (now octets)) at (8 * m) × (length (now numbers) ≡ 64) ⌝ }
+    ensures numbers { λ _. ⌜ DecidedAt Rate.Eleven (hardRecording (now (octets .entry))) at m (now (numbers .exit)) ⌝ }
+{
+    let mut row = [0i8; 256];
+    let mut z = [0i16; 256];
+    let mut a = [0i16; 512];
+    let mut l: usize = 0;
+    while l < m {
+        let count = abreast::at_most_16(m - l);
+        columns(octets, at + 8 * l, count, &mut row);
+        byte_walsh::sixteen(&row, &mut z, &mut a, l, numbers);
+        l += 16;
     }
 }

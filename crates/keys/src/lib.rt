@@ -11,7 +11,7 @@ ghost use Rattle.choosing.specs.Scores.{number5};
 ghost use Rattle.choosing.specs.Keys.{larger, keyOf};
 
 // The magnitude of s.
-fn abs(s: i32) -> i32
+pub fn abs(s: i32) -> i32
     requires { ⌜ Within 2147483647 s ⌝ }
     ensures answer { λ r. ⌜ r ≡ pos (natAbs s) ⌝ }
 {

@@ -42,3 +42,9 @@ pub record AllUsable (rec : List Taken) (at n : ℕ) : Type 0 where
 pub record DecidedAt (r : Rate) (rec : List Taken) (at m : ℕ) (numbers : List ℕ) : Type 0 where
   pub long : length numbers ≡ 64
   pub number : (l : ℕ) → l < m → getD numbers l 0 ≡ decided r (symbolAt r rec (at + symbolChips r * l))
+
+-- n numbers put into 64, from place l on; those before it are kept
+pub record Put (f : ℕ → ℕ) (l : ℕ) (before after : List ℕ) (n : ℕ) : Type 0 where
+  pub long : length after ≡ 64
+  pub kept : (j : ℕ) → j < l → getD after j 0 ≡ getD before j 0
+  pub each : (s : ℕ) → s < n → getD after (l + s) 0 ≡ f s

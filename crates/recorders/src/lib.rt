@@ -6,11 +6,9 @@ ghost use Prim.Native.Nat.{_+_, _*_, _-_, _≤_, _<_};
 ghost use lib.ListN.{length, getD, take, drop};
 ghost use Rattle.rates.specs.Rates.{symbolChips};
 ghost use Rattle.chips.specs.Chips.{unusable, isUnusable};
-ghost use Rattle.choosing.specs.Scores.{Smalls};
 ghost use Rattle.reading.specs.Reading.{firstUnusable};
 ghost use Rattle.recorders.specs.Rows.{lent};
-ghost use Rattle.recorded.specs.Recorded.{whereFound, symbolAt, AllUsable, DecidedAt};
-use chips::Counts;
+ghost use Rattle.recorded.specs.Recorded.{whereFound, AllUsable, DecidedAt};
 use rates::Rate;
 use recorded::Found;
 
@@ -107,43 +105,6 @@ pub fn first_unusable(
     Found::Nothing
 }
 
-// The counts of a CCK symbol's chips.
-fn eight(rec: Recorder, octets: &[u8], bytes: &[i8], i: &[f32], q: &[f32], at: usize) -> [Counts; 8]
-    requires { ⌜ at + 8 ≤ length (lent rec octets bytes i q) ⌝ }
-    ensures answer { λ r. ⌜ r ≡
-        symbolAt Rate.Eleven (lent rec (octets .entry) (bytes .entry) (i .entry) (q .entry)) at ⌝ }
-    ensures small { λ r. ⌜ Smalls r ⌝ }
-{
-    match rec {
-        Recorder::Hard => counts::counts8(hard::eight(octets, at)),
-        Recorder::Soft => counts::counts8(soft::eight(i, q, at)),
-        Recorder::Bytes => signed_bytes::counts8(bytes, at),
-    }
-}
-
-// m symbols of 11 Mbit/s from a place: here, where several symbols are at hand, another way of scoring comes in.
-fn elevens(
-    rec: Recorder,
-    octets: &[u8],
-    bytes: &[i8],
-    i: &[f32],
-    q: &[f32],
-    at: usize,
-    m: usize,
-    numbers: &mut [u8; 64],
-)
-    requires { ⌜ (m ≤ 64) × (at + 8 * m ≤ length (lent rec octets bytes i q))
-        × (length (now numbers) ≡ 64) ⌝ }
-    ensures numbers { λ _. ⌜ DecidedAt Rate.Eleven
-        (lent rec (octets .entry) (bytes .entry) (i .entry) (q .entry)) at m (now (numbers .exit)) ⌝ }
-{
-    let mut l: usize = 0;
-    while l < m {
-        numbers[l] = direct::decide_eleven(eight(rec, octets, bytes, i, q, at + 8 * l));
-        l += 1;
-    }
-}
-
 // m symbols of 1 or 2 Mbit/s from a place.
 fn barkers(
     rec: Recorder,
@@ -187,6 +148,29 @@ fn fives(
         Recorder::Hard => hard::fives(octets, at, m, numbers),
         Recorder::Soft => soft::fives(i, q, at, m, numbers),
         Recorder::Bytes => signed_bytes::fives(bytes, at, m, numbers),
+    }
+}
+
+// m symbols of 11 Mbit/s from a place.
+fn elevens(
+    rec: Recorder,
+    octets: &[u8],
+    bytes: &[i8],
+    i: &[f32],
+    q: &[f32],
+    at: usize,
+    m: usize,
+    numbers: &mut [u8; 64],
+)
+    requires { ⌜ (m ≤ 64) × (at + 8 * m ≤ length (lent rec octets bytes i q))
+        × AllUsable (lent rec octets bytes i q) at (8 * m) × (length (now numbers) ≡ 64) ⌝ }
+    ensures numbers { λ _. ⌜ DecidedAt Rate.Eleven
+        (lent rec (octets .entry) (bytes .entry) (i .entry) (q .entry)) at m (now (numbers .exit)) ⌝ }
+{
+    match rec {
+        Recorder::Hard => hard::elevens(octets, at, m, numbers),
+        Recorder::Soft => soft::elevens(i, q, at, m, numbers),
+        Recorder::Bytes => signed_bytes::elevens(bytes, at, m, numbers),
     }
 }
 

@@ -1,21 +1,22 @@
 -- Sixteen symbols abreast are decided as the recording's symbols there: by the law of turned rows and that of bytes as
--- they are, for both lengths of a symbol.
+-- they are, for both lengths of a symbol, at any rate of eight chips.
 -- Assumes nothing.
 use mathlib.Core.Path.{_≡_, ap, _∙_}
-use mathlib.Core.List.{List}
+use mathlib.Core.List.{List, map}
 use Prim.Native.Nat.{ℕ, _+_, _*_, _/_, _≤_, _<_}
 use native.Mathlib.Omega.{arith}
 use lib.Dec.{lit≤}
-use lib.ListN.{length}
+use lib.ListN.{length, take, drop}
 use lib.IntN.{ℤ}
-use Rattle.rates.specs.declared.Rate.the-variants.{One, Five}
-use Rattle.chips.specs.Chips.{byteRecording}
+use Rattle.rates.specs.declared.Rate.{Rate}
+use Rattle.rates.specs.declared.Rate.the-variants.{One}
+use Rattle.chips.specs.Chips.{takenCounts, byteRecording}
 use Rattle.symbols.specs.Choice.{decided}
-use Rattle.sums.specs.Sums.{bySigns, bestOfSums, rows}
+use Rattle.sums.specs.Sums.{bySigns, bestOfSums, rows, everyRow}
 use Rattle.recorded.specs.Recorded.{symbolAt}
 use Rattle.abreast.specs.Abreast.{Begins, Turned}
-use Rattle.signed_bytes.specs.Rows.{everySecond, barkerAt, fiveAt}
-use Rattle.signed_bytes.proofs.Units.{barker-units, five-units}
+use Rattle.signed_bytes.specs.Rows.{everySecond, barkerAt}
+use Rattle.signed_bytes.proofs.Units.{barker-units, eight-units}
 use Rattle.signed_bytes.proofs.Abreast.{stood-barker, stood-five, first-axis, second-axis}
 
 module _ (bytes before after : List ℤ) (at l count s : ℕ) (turned : Turned before after) (few : s < 16)
@@ -32,14 +33,15 @@ module _ (bytes before after : List ℤ) (at l count s : ℕ) (turned : Turned b
       ∙ ap (λ (f : ℕ). bestOfSums (bySigns (everySecond bytes f 11)) (bySigns (everySecond bytes (f + 1) 11))) e
       ∙ barker-units bytes (at + 11 * (l + s)) room
 
-  pub five-group : length before ≡ 256 → Begins bytes (2 * (at + 8 * l)) (16 * count) before
+  pub eight-group : (r : Rate) → length before ≡ 256 → Begins bytes (2 * (at + 8 * l)) (16 * count) before
       → at + 8 * (l + s) + 8 ≤ length bytes / 2
-      → fiveAt after s ≡ decided Five (symbolAt Five (byteRecording bytes) (at + 8 * (l + s)))
-  five-group long begins room =
+      → decided r (rows (everyRow after s 8) (everyRow after (16 + s) 8))
+      ≡ decided r (map takenCounts (take 8 (drop (at + 8 * (l + s)) (byteRecording bytes))))
+  eight-group r long begins room =
       let from = 2 * (at + 8 * l) in
       let i = first-axis 16 8 bytes before after from count (lit≤ tt) long stood-five begins turned s few there in
       let q = second-axis 16 8 bytes before after from count (lit≤ tt) long stood-five begins turned s few there in
       let e : from + 16 * s ≡ 2 * (at + 8 * (l + s)) = omega arith in
-      (λ k. decided Five (rows (i k) (q k)))
-      ∙ ap (λ (f : ℕ). decided Five (rows (everySecond bytes f 8) (everySecond bytes (f + 1) 8))) e
-      ∙ five-units bytes (at + 8 * (l + s)) room
+      (λ k. decided r (rows (i k) (q k)))
+      ∙ ap (λ (f : ℕ). decided r (rows (everySecond bytes f 8) (everySecond bytes (f + 1) 8))) e
+      ∙ eight-units r bytes (at + 8 * (l + s)) room

@@ -1,5 +1,4 @@
 pub mod Units
 pub mod Abreast
-pub mod Sixteen
 pub mod Groups
 pub mod Gathered

@@ -1,20 +1,18 @@
 -- A symbol's bytes as they are, in 64ths of a full chip, decide what its counts do, which are 16 times as large: once
--- for every place, and for the two choices that go by rows of I and of Q.
+-- for every place: of a Barker symbol by two sums, of a CCK symbol by its rows of I and of Q, at any rate.
 -- Assumes nothing.
 use mathlib.Core.Path.{_≡_, refl, sym, ap, _∙_}
 use mathlib.Core.List.{List, map}
-use Prim.Native.Nat.{ℕ, _+_, _*_, _/_, _≤_, _<_}
+use Prim.Native.Nat.{ℕ, _+_, _*_, _/_, _≤_}
 use native.Mathlib.Nat.{mul-add}
 use native.Mathlib.Omega.{arith}
 use lib.Dec.{lit≤}
 use lib.ListN.{length, getD, take, drop}
-use lib.IntN.{ℤ, pos, negsuc}
-use lib.Signed.{mag}
+use lib.IntN.{ℤ, pos}
 use Rattle.base.specs.Tables.{tabulate}
-use Rattle.base.specs.Whole.{up, dn, Within}
 use Rattle.base.proofs.Tables.{length-tabulate, getD-tabulate, tabulate-ext, map-tabulate}
 use Rattle.rates.specs.declared.Rate.{Rate}
-use Rattle.rates.specs.declared.Rate.the-variants.{One, Five}
+use Rattle.rates.specs.declared.Rate.the-variants.{One}
 use Rattle.axes.specs.declared.Axis.the-variants.{I, Q}
 use Rattle.axes.specs.Axes.{along}
 use Rattle.chips.specs.declared.Counts.{Counts}
@@ -25,12 +23,6 @@ use Rattle.sums.specs.Sums.{bySigns, bestOfSums, rows}
 use Rattle.sums.proofs.Signs.{sums-decided}
 use Rattle.sums.proofs.Scaled.{decided-times}
 use Rattle.signed_bytes.specs.Rows.{everySecond}
-
--- a byte is from -128 to 127
-pub byte-within : (z : ℤ) → mag z < 128 → Within 128 z
-unfolding up dn
-byte-within (pos n) h = record { high = omega arith; low = omega arith }
-byte-within (negsuc n) h = record { high = omega arith; low = omega arith }
 
 module _ (bytes : List ℤ) (at n : ℕ) where
   -- the two bytes of the symbol's chip j
@@ -75,12 +67,12 @@ barker-units bytes at h =
     sym (λ i. bestOfSums (bySigns (mapped bytes at 11 (along I) i)) (bySigns (mapped bytes at 11 (along Q) i)))
     ∙ sums-decided (units bytes at 11) ∙ units-decided bytes at 11 One h
 
-pub five-units : (bytes : List ℤ) (at : ℕ) → at + 8 ≤ length bytes / 2
-    → decided Five (rows (everySecond bytes (2 * at) 8) (everySecond bytes (2 * at + 1) 8))
-    ≡ decided Five (map takenCounts (take 8 (drop at (byteRecording bytes))))
-five-units bytes at h =
-    ap (decided Five)
+pub eight-units : (r : Rate) (bytes : List ℤ) (at : ℕ) → at + 8 ≤ length bytes / 2
+    → decided r (rows (everySecond bytes (2 * at) 8) (everySecond bytes (2 * at + 1) 8))
+    ≡ decided r (map takenCounts (take 8 (drop at (byteRecording bytes))))
+eight-units r bytes at h =
+    ap (decided r)
     (tabulate-ext _ (unit bytes at 8) 8 (λ k l i. pair
     (getD-tabulate (λ j. getD bytes (2 * at + 2 * j) (pos 0)) 8 k (pos 0) l i)
     (getD-tabulate (λ j. getD bytes (2 * at + 1 + 2 * j) (pos 0)) 8 k (pos 0) l i)))
-    ∙ units-decided bytes at 8 Five h
+    ∙ units-decided bytes at 8 r h

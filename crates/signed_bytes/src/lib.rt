@@ -1,15 +1,15 @@
-// A byte recording: signed bytes, I and Q in turn, a full chip being 64; no chip is unusable. Symbols of 1, 2 and 5.5
-// Mbit/s are decided sixteen abreast, from bytes as they are: counts are 16 times as large, all of them, and choose the
-// same word.
+// A byte recording: signed bytes, I and Q in turn, a full chip being 64; no chip is unusable. Symbols are decided
+// sixteen abreast, from bytes as they are: counts are 16 times as large, all of them, and choose the same word.
 ghost use mathlib.Core.Path.{_≡_};
-ghost use Prim.Native.Nat.{_+_, _*_, _/_, _<_, _≤_, min};
+ghost use Prim.Native.Nat.{_+_, _*_, _/_, _<_, _≤_};
 ghost use lib.ListN.{length};
 ghost use lib.IntN.{pos, _*ℤ_};
 ghost use Rattle.base.specs.Whole.{Within};
 ghost use Rattle.chips.specs.Chips.{byteRecording};
 ghost use Rattle.choosing.specs.Scores.{RowWithin, Smalls};
-ghost use Rattle.recorded.specs.Recorded.{symbolAt, DecidedAt};
-ghost use Rattle.signed_bytes.specs.Rows.{everyRow, barkerAt, fiveAt, Put};
+ghost use Rattle.sums.specs.Sums.{everyRow};
+ghost use Rattle.recorded.specs.Recorded.{symbolAt, DecidedAt, Put};
+ghost use Rattle.signed_bytes.specs.Rows.{barkerAt, fiveAt};
 use chips::Counts;
 use rates::Rate;
 
@@ -67,13 +67,6 @@ fn sixteen_fives(row: &[i8], l: usize, numbers: &mut [u8; 64])
     }
 }
 
-// How many of so many symbols the next sixteen take.
-fn at_most_16(left: usize) -> usize
-    ensures answer { λ r. ⌜ r ≡ min left 16 ⌝ }
-{
-    if left < 16 { left } else { 16 }
-}
-
 // m Barker symbols from a place.
 pub fn barkers(bytes: &[i8], at: usize, m: usize, numbers: &mut [u8; 64])
     requires { ⌜ (m ≤ 64) × (at + 11 * m ≤ length (now bytes) / 2) × (length (now numbers) ≡ 64) ⌝ }
@@ -83,7 +76,7 @@ pub fn barkers(bytes: &[i8], at: usize, m: usize, numbers: &mut [u8; 64])
     let mut other = [0i8; 352];
     let mut l: usize = 0;
     while l < m {
-        let count = at_most_16(m - l);
+        let count = abreast::at_most_16(m - l);
         abreast::take_in(bytes, 2 * (at + 11 * l), 22 * count, &mut row);
         abreast::turn(&mut row, &mut other);
         sixteen_barkers(&row, l, numbers);
@@ -100,10 +93,29 @@ pub fn fives(bytes: &[i8], at: usize, m: usize, numbers: &mut [u8; 64])
     let mut other = [0i8; 256];
     let mut l: usize = 0;
     while l < m {
-        let count = at_most_16(m - l);
+        let count = abreast::at_most_16(m - l);
         abreast::take_in(bytes, 2 * (at + 8 * l), 16 * count, &mut row);
         abreast::turn(&mut row, &mut other);
         sixteen_fives(&row, l, numbers);
+        l += 16;
+    }
+}
+
+// m symbols of 11 Mbit/s from a place.
+pub fn elevens(bytes: &[i8], at: usize, m: usize, numbers: &mut [u8; 64])
+    requires { ⌜ (m ≤ 64) × (at + 8 * m ≤ length (now bytes) / 2) × (length (now numbers) ≡ 64) ⌝ }
+    ensures numbers { λ _. ⌜ DecidedAt Rate.Eleven (byteRecording (now (bytes .entry))) at m (now (numbers .exit)) ⌝ }
+{
+    let mut row = [0i8; 256];
+    let mut other = [0i8; 256];
+    let mut z = [0i16; 256];
+    let mut a = [0i16; 512];
+    let mut l: usize = 0;
+    while l < m {
+        let count = abreast::at_most_16(m - l);
+        abreast::take_in(bytes, 2 * (at + 8 * l), 16 * count, &mut row);
+        abreast::turn(&mut row, &mut other);
+        byte_walsh::sixteen(&row, &mut z, &mut a, l, numbers);
         l += 16;
     }
 }

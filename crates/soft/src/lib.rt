@@ -1,11 +1,14 @@
 // A soft recording: two rows of f32, I and Q, as far as both go. Each loop over symbols gathers a symbol's chips in an
-// array that dissolves in it.
+// array that dissolves in it; at 11 Mbit/s sixteen symbols stand abreast, as columns of a row.
 ghost use mathlib.Core.Path.{_≡_};
 ghost use mathlib.Core.Bool.{true, not};
 ghost use Prim.Native.Nat.{_+_, _*_, _<_, _≤_};
 ghost use lib.ListN.{length, getD};
 ghost use Rattle.chips.specs.Chips.{unusable, isUnusable, softRecording};
+ghost use Rattle.choosing.specs.Scores.{RowWithin};
+ghost use Rattle.recorded.specs.Columns.{ColumnSet, Columns, softColumn};
 ghost use Rattle.recorded.specs.Recorded.{softPart, AllUsable, DecidedAt};
+use axes::Axis;
 use chips::Chip;
 use chips::Sample;
 use rates::Rate;
@@ -93,5 +96,58 @@ pub fn fives(i: &[f32], q: &[f32], at: usize, m: usize, numbers: &mut [u8; 64])
     while l < m {
         numbers[l] = choice::decide_five(eight(i, q, at + 8 * l));
         l += 1;
+    }
+}
+
+// A symbol's eight chips as column l of a row of sixteen symbols.
+fn put_column(i: [i32; 8], q: [i32; 8], l: usize, row: &mut [i32])
+    requires { ⌜ (l < 16) × (length (now row) ≡ 256) ⌝ }
+    ensures row { λ _. ⌜ ColumnSet i q l (now (row .entry)) 8 (now (row .exit)) ⌝ }
+{
+    for k in 0..8 {
+        let at = 32 * k + l;
+        row[at] = i[k];
+        row[at + 16] = q[k];
+    }
+}
+
+// Up to sixteen symbols of 11 Mbit/s as columns of a row, in counts.
+fn columns(i: &[f32], q: &[f32], at: usize, count: usize, row: &mut [i32])
+    requires { ⌜ (count ≤ 16) × (at + 8 * count ≤ length (now i)) × (at + 8 * count ≤ length (now q))
+        × AllUsable (softRecording (now i) (now q)) at (8 * count) × (length (now row) ≡ 256)
+        × RowWithin 8192 (now row) ⌝ }
+    ensures row { λ _. ⌜ Columns (softColumn Axis.I (now (i .entry)) (now (q .entry)) at)
+        (softColumn Axis.Q (now (i .entry)) (now (q .entry)) at) (now (row .exit)) count ⌝ }
+    ensures small { λ _. ⌜ RowWithin 8192 (now (row .exit)) ⌝ }
+{
+    let mut l: usize = 0;
+    while l < count {
+        let chips = eight(i, q, at + 8 * l);
+        put_column(
+            axes::soft_counts8(chips, Axis::I),
+            axes::soft_counts8(chips, Axis::Q),
+            l,
+            row,
+        );
+        l += 1;
+    }
+}
+
+// m symbols of 11 Mbit/s from a place, sixteen abreast.
+pub fn elevens(i: &[f32], q: &[f32], at: usize, m: usize, numbers: &mut [u8; 64])
+    requires { ⌜ (m ≤ 64) × (at + 8 * m ≤ length (now i)) × (at + 8 * m ≤ length (now q))
+        × AllUsable (softRecording (now i) (now q)) at (8 * m) × (length (now numbers) ≡ 64) ⌝ }
+    ensures numbers { λ _. ⌜ DecidedAt Rate.Eleven (softRecording (now (i .entry)) (now (q .entry))) at m
+        (now (numbers .exit)) ⌝ }
+{
+    let mut row = [0i32; 256];
+    let mut z = [0i32; 256];
+    let mut a = [0i32; 512];
+    let mut l: usize = 0;
+    while l < m {
+        let count = abreast::at_most_16(m - l);
+        columns(i, q, at + 8 * l, count, &mut row);
+        count_walsh::sixteen(&row, &mut z, &mut a, l, numbers);
+        l += 16;
     }
 }

@@ -10,7 +10,7 @@ use lib.IntN.{ℤ, pos}
 use Rattle.base.specs.Whole.{up, dn, Within}
 use Rattle.base.proofs.Tables.{tabulate-ext, map-tabulate}
 use Rattle.rates.specs.declared.Rate.{Rate}
-use Rattle.rates.specs.declared.Rate.the-variants.{One, Five}
+use Rattle.rates.specs.declared.Rate.the-variants.{One}
 use Rattle.axes.specs.declared.Axis.{Axis}
 use Rattle.axes.specs.declared.Axis.the-variants.{I, Q}
 use Rattle.chips.specs.declared.Counts.{Counts}
@@ -120,6 +120,6 @@ pub units-barker : (chips : List Chip) → length chips ≡ 11 → AllHard 11 ch
     ≡ decided One (map countsOf chips)
 units-barker chips e h = by-sums unitOf refl chips ∙ units-decided 11 One chips e h
 
-pub units-five : (chips : List Chip) → length chips ≡ 8 → AllHard 8 chips
-    → decided Five (rows (rowOn unitOf refl I chips) (rowOn unitOf refl Q chips)) ≡ decided Five (map countsOf chips)
-units-five chips e h = ap (decided Five) (by-rows unitOf refl chips e) ∙ units-decided 8 Five chips e h
+pub units-eight : (r : Rate) (chips : List Chip) → length chips ≡ 8 → AllHard 8 chips
+    → decided r (rows (rowOn unitOf refl I chips) (rowOn unitOf refl Q chips)) ≡ decided r (map countsOf chips)
+units-eight r chips e h = ap (decided r) (by-rows unitOf refl chips e) ∙ units-decided 8 r chips e h

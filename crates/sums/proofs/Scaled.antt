@@ -38,7 +38,7 @@ pub record Times (t : ℕ) (c u : Counts) : Type 0 where
   pub imag : c .q ≡ pos t *ℤ u .q
 
 module _ (t : ℕ) (some : 0 < t) where
-  abbrev k : ℤ → ℤ
+  abbrev pub k : ℤ → ℤ
   k z = pos t *ℤ z
 
   k-neg : (z : ℤ) → negℤ (k z) ≡ k (negℤ z)
@@ -54,7 +54,7 @@ module _ (t : ℕ) (some : 0 < t) where
     times-dn t (negℤ z),
   ))
 
-  k-add : (a b : ℤ) → k a +ℤ k b ≡ k (a +ℤ b)
+  pub k-add : (a b : ℤ) → k a +ℤ k b ≡ k (a +ℤ b)
   k-add a b = same (k a +ℤ k b) (k (a +ℤ b)) (omega (
     arith,
     add (k a) (k b),
@@ -102,7 +102,7 @@ module _ (t : ℕ) (some : 0 < t) where
           )
 
   -- ---- scores
-  term-times : (p : ℕ) {c u : Counts} → Times t c u → term p c ≡ k (term p u)
+  pub term-times : (p : ℕ) {c u : Counts} → Times t c u → term p c ≡ k (term p u)
   term-times zero h = h .real
   term-times (suc zero) h = h .imag
   term-times (suc (suc zero)) {c} {u} h = ap negℤ (h .real) ∙ k-neg (u .i)

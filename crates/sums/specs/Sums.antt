@@ -1,6 +1,6 @@
 -- Scores by sums of I and of Q apart: a Barker symbol's four by two sums, the sixteen of 5.5 Mbit/s by eight.
 -- Definitions only. Assumes nothing.
-use Prim.Native.Nat.{ℕ, _-_}
+use Prim.Native.Nat.{ℕ, _+_, _*_, _-_}
 use mathlib.Core.Bool.{Bool, true, false, cond}
 use mathlib.Core.List.{List, [], _∷_}
 use lib.Dec.{ltb}
@@ -66,3 +66,11 @@ bestOfEight h = firstLargest (sixteen h) (upTo 16)
 -- the better key of pair j
 abbrev pub keyAt : List ℤ → ℕ → ℕ
 keyAt h j = keyOf 8 j (getD h j (pos 0))
+
+-- n numbers of a row from a place on, so many apart; of sixteen symbols abreast, whose rows are sixteen of I and then
+-- sixteen of Q, those of one axis
+abbrev pub spaced : ℕ → List ℤ → ℕ → ℕ → List ℤ
+spaced apart row from n = tabulate (λ j. getD row (from + apart * j) (pos 0)) n
+
+abbrev pub everyRow : List ℤ → ℕ → ℕ → List ℤ
+everyRow row from n = spaced 32 row from n

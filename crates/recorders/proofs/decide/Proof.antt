@@ -27,7 +27,7 @@ elevens-requires : tie.Need-elevens-requires
 elevens-requires c κs =
     let s = c .before .before .before .before .before .before in
     let p = rw (c .before .enum-told4 .given .1) at (s .pre) in
-    (p .0, p .1, p .3)
+    (p .0, p .1, p .2, p .3)
 
 returns : tie.Need-returns
 returns c = rw (c .before .before .enum-told .given .1) (c .barkers .ensures)

@@ -8,7 +8,7 @@ use borrow.Author.Needs.{needs}
 use Rattle.rates.specs.declared.Rate.the-variants.{One}
 use Rattle.chips.specs.Chips.{byteRecording}
 use Rattle.signed_bytes.specs.Rows.{barkerAt}
-use Rattle.signed_bytes.proofs.Sixteen.{Upto, upto-none, upto-more, upto-all}
+use Rattle.recorded.proofs.Sixteen.{Upto, upto-none, upto-more, upto-all}
 use Rattle.signed_bytes.proofs.Groups.{barker-group}
 use Rattle.signed_bytes.proofs.barkers.Statement.{statement}
 use Rattle.signed_bytes.proofs.barkers.Tie as tie

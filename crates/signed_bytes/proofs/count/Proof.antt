@@ -8,9 +8,8 @@ use mir.Syntax.{w8, w32}
 use mir.Val.{SFits, toZ, ofZ}
 use mir.ValLaws.{toZ-ofZ}
 use Rattle.base.specs.Whole.{Within}
-use Rattle.base.proofs.Whole.{fits-at}
+use Rattle.base.proofs.Whole.{fits-at, byte-within}
 use Rattle.choosing.proofs.Adding.{times-up, times-dn}
-use Rattle.signed_bytes.proofs.Units.{byte-within}
 use Rattle.signed_bytes.proofs.count.Statement.{statement}
 use Rattle.signed_bytes.proofs.count.Tie as tie
 

@@ -8,8 +8,8 @@ use borrow.Author.Needs.{needs}
 use Rattle.rates.specs.declared.Rate.the-variants.{Five}
 use Rattle.chips.specs.Chips.{byteRecording}
 use Rattle.signed_bytes.specs.Rows.{fiveAt}
-use Rattle.signed_bytes.proofs.Sixteen.{Upto, upto-none, upto-more, upto-all}
-use Rattle.signed_bytes.proofs.Groups.{five-group}
+use Rattle.recorded.proofs.Sixteen.{Upto, upto-none, upto-more, upto-all}
+use Rattle.signed_bytes.proofs.Groups.{eight-group}
 use Rattle.signed_bytes.proofs.fives.Statement.{statement}
 use Rattle.signed_bytes.proofs.fives.Tie as tie
 
@@ -44,9 +44,9 @@ loop-again c =
     let h = counted .before .loop-test .taken in (
       upto-more Five (byteRecording (s .args .bytes .now)) (s .args .at) (s .args .m) (fiveAt (turned .turn .last .0))
           (turn .loop .numbers) (c .sixteen-fives .last .1 .1 .0) l (turn .loop .inv .0) (c .sixteen-fives .ensures)
-          (λ j few there. five-group (s .args .bytes .now) (taken .take-in .last .1 .1 .1 .0) (turned .turn .last .0)
+          (λ j few there. eight-group (s .args .bytes .now) (taken .take-in .last .1 .1 .1 .0) (turned .turn .last .0)
           (s .args .at) l (counted .at-most-16 .result) j (turned .turn .ensures) few
-          (omega (arith, counted .at-most-16 .ensures)) (search needs) (taken .take-in .ensures)
+          (omega (arith, counted .at-most-16 .ensures)) Five (search needs) (taken .take-in .ensures)
           (omega (arith, s .pre .1))),
       search needs,
       search needs,

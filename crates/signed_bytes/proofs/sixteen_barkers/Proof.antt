@@ -4,8 +4,9 @@ use mathlib.Core.Path.{_≡_, _∙_, subst}
 use Prim.Native.Nat.{_-_, _≤_}
 use native.Mathlib.Omega.{arith}
 use Rattle.sums.specs.Sums.{bySigns, bestOfSums}
-use Rattle.signed_bytes.specs.Rows.{barkerAt, Put}
-use Rattle.signed_bytes.proofs.Sixteen.{put-none, put-more}
+use Rattle.recorded.specs.Recorded.{Put}
+use Rattle.signed_bytes.specs.Rows.{barkerAt}
+use Rattle.recorded.proofs.Sixteen.{put-none, put-more}
 use Rattle.signed_bytes.proofs.sixteen_barkers.Statement.{statement}
 use Rattle.signed_bytes.proofs.sixteen_barkers.Tie as tie
 

@@ -6,8 +6,9 @@ use native.Mathlib.Omega.{arith}
 use Rattle.rates.specs.declared.Rate.the-variants.{Five}
 use Rattle.symbols.specs.Choice.{decided}
 use Rattle.sums.specs.Sums.{rows}
-use Rattle.signed_bytes.specs.Rows.{fiveAt, Put}
-use Rattle.signed_bytes.proofs.Sixteen.{put-none, put-more}
+use Rattle.recorded.specs.Recorded.{Put}
+use Rattle.signed_bytes.specs.Rows.{fiveAt}
+use Rattle.recorded.proofs.Sixteen.{put-none, put-more}
 use Rattle.signed_bytes.proofs.sixteen_fives.Statement.{statement}
 use Rattle.signed_bytes.proofs.sixteen_fives.Tie as tie
 

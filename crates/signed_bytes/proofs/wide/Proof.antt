@@ -6,7 +6,7 @@ use mir.Syntax.{w8, w16}
 use mir.Val.{SFits, toZ, ofZ}
 use mir.ValLaws.{toZ-ofZ}
 use Rattle.base.specs.Whole.{Within}
-use Rattle.signed_bytes.proofs.Units.{byte-within}
+use Rattle.base.proofs.Whole.{byte-within}
 use Rattle.signed_bytes.proofs.wide.Statement.{statement}
 use Rattle.signed_bytes.proofs.wide.Tie as tie
 

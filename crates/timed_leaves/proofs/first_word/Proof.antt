@@ -1,6 +1,6 @@
 -- `timed_leaves::first_word` meets its contract: a search that found nothing leaves usable chips, and those are
 -- decided. Assumes nothing.
-use mathlib.Core.Path.{_≡_, sym, ap, _∙_}
+use mathlib.Core.Path.{_≡_, ap, _∙_}
 use mathlib.Core.List.{List, map}
 use Prim.Native.Nat.{ℕ, _+_, _*_, _-_, _≤_}
 use native.Mathlib.Omega.{arith}
@@ -15,33 +15,31 @@ use Rattle.reading.specs.Reading.{firstUnusable}
 use Rattle.recorded.specs.declared.Found.{Found}
 use Rattle.recorded.specs.declared.Found.the-variants.{Nothing, At}
 use Rattle.recorded.specs.Recorded.{whereFound, AllUsable, DecidedAt}
-use Rattle.recorded.proofs.Search.{none-usable}
 use Rattle.timed_leaves.specs.Leaves.{firstWord}
+use Rattle.timed_leaves.proofs.Searched.{bad, good, usable}
 use Rattle.timed_leaves.proofs.first_word.Statement.{statement}
 use Rattle.timed_leaves.proofs.first_word.Tie as tie
 
 module _ (r : Rate) (rec : List Taken) (n : ℕ) (f : Found) (e : n ≡ symbolChips r)
     (g : whereFound f ≡ firstUnusable 0 (take (n - 0) (drop 0 rec))) where
-  searched : firstUnusable 0 (take (symbolChips r) rec) ≡ whereFound f
-  searched = let k : n - 0 ≡ symbolChips r = omega (arith, e) in
-      sym (g ∙ ap (λ (m : ℕ). firstUnusable 0 (take m rec)) k)
+  of-symbol : whereFound f ≡ firstUnusable 0 (take (symbolChips r - 0) (drop 0 rec))
+  of-symbol = g ∙ ap (λ (m : ℕ). firstUnusable 0 (take (m - 0) rec)) e
 
-  bad : (place : ℕ) → f ≡ At place → 0 ≡ firstWord r rec
+  none : (place : ℕ) → f ≡ At place → 0 ≡ firstWord r rec
   unfolding firstWord
-  bad place h = rw (searched ∙ ap whereFound h)
+  none place h = bad rec (symbolChips r) f of-symbol _ place h
 
-  usable : f ≡ Nothing → symbolChips r ≤ length rec → AllUsable rec 0 (symbolChips r * 1)
-  usable h l =
-      let k : symbolChips r * 1 ≡ symbolChips r = omega arith in
-      rw k (none-usable rec 0 (symbolChips r) (omega arith) (searched ∙ ap whereFound h))
+  clean : f ≡ Nothing → symbolChips r ≤ length rec → AllUsable rec 0 (symbolChips r * 1)
+  clean h l = let k : symbolChips r * 1 ≡ symbolChips r = omega arith in
+      rw k (usable rec (symbolChips r) f of-symbol h l)
 
-  good : f ≡ Nothing → (ns : List ℕ) → DecidedAt r rec 0 1 ns → getD ns 0 0 ≡ firstWord r rec
+  word : f ≡ Nothing → (ns : List ℕ) → DecidedAt r rec 0 1 ns → getD ns 0 0 ≡ firstWord r rec
   unfolding firstWord
-  good h ns d =
+  word h ns d =
       let k : 0 + symbolChips r * 0 ≡ 0 = omega arith in
       d .number 0 (lit< tt)
       ∙ ap (λ (m : ℕ). decided r (map takenCounts (take (symbolChips r) (drop m rec)))) k
-      ∙ rw (searched ∙ ap whereFound h)
+      ∙ good rec (symbolChips r) f of-symbol _ h
 
 -- what the search tells, and where it began
 abbrev start : tie.After-first-unusable → tie.Start
@@ -53,8 +51,8 @@ rec c = softRecording (start c .args .i .now) (start c .args .q .now)
 returns : tie.Need-returns
 returns c =
     let found = c .before .before in
-    bad (start found .args .r) (rec found) _ _ (found .before .symbol-chips .ensures) (found .first-unusable .ensures) _
-    (c .enum-told .given .1)
+    none (start found .args .r) (rec found) _ _ (found .before .symbol-chips .ensures)
+    (found .first-unusable .ensures) _ (c .enum-told .given .1)
 
 decide-requires : tie.Need-decide-requires
 decide-requires c κs =
@@ -62,7 +60,7 @@ decide-requires c κs =
     let l = start found .pre in (
       lit≤ tt,
       omega arith,
-      usable (start found .args .r) (rec found) _ _ (found .before .symbol-chips .ensures)
+      clean (start found .args .r) (rec found) _ _ (found .before .symbol-chips .ensures)
           (found .first-unusable .ensures) (c .before .enum-told2 .given .1) l,
       search needs,
     )
@@ -71,7 +69,7 @@ returns-2 : tie.Need-returns-2
 returns-2 c =
     let found = c .before .before .before .before .before in
     c .wide .ensures
-    ∙ good (start found .args .r) (rec found) _ _ (found .before .symbol-chips .ensures)
+    ∙ word (start found .args .r) (rec found) _ _ (found .before .symbol-chips .ensures)
     (found .first-unusable .ensures)
     (c .before .before .before .enum-told2 .given .1) _ (c .before .decide .ensures)
 

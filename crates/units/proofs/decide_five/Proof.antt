@@ -8,7 +8,7 @@ use Rattle.axes.specs.declared.Axis.the-variants.{I, Q}
 use Rattle.symbols.specs.Choice.{decided}
 use Rattle.choosing.specs.Scores.{RowWithin}
 use Rattle.sums.specs.Sums.{rows}
-use Rattle.sums.proofs.Apart.{units-small, units-five}
+use Rattle.sums.proofs.Apart.{units-small, units-eight}
 use Rattle.units.proofs.decide_five.Statement.{statement}
 use Rattle.units.proofs.decide_five.Tie as tie
 
@@ -26,7 +26,7 @@ returns c =
     let long : length (start .args .chips) ≡ 8 = search needs in
     c .five .ensures
     ∙ (λ i. decided Five (rows (second .before .hard-units8 .ensures i) (second .hard-units82 .ensures i)))
-    ∙ units-five (start .args .chips) long (start .pre)
+    ∙ units-eight Five (start .args .chips) long (start .pre)
 
 pub decide-five-spec : {M : Type 1} → statement M
 decide-five-spec =

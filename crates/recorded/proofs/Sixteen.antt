@@ -11,8 +11,7 @@ use Rattle.rates.specs.declared.Rate.{Rate}
 use Rattle.rates.specs.Rates.{symbolChips}
 use Rattle.chips.specs.Chips.{Taken}
 use Rattle.symbols.specs.Choice.{decided}
-use Rattle.recorded.specs.Recorded.{symbolAt, DecidedAt}
-use Rattle.signed_bytes.specs.Rows.{Put}
+use Rattle.recorded.specs.Recorded.{symbolAt, DecidedAt, Put}
 
 -- ---- one number more
 pub put-none : {f : ℕ → ℕ} {l : ℕ} (ns : List ℕ) → length ns ≡ 64 → Put f l ns ns 0
@@ -32,6 +31,11 @@ put-more {f} {l} {before} {after} {s} v h e p = record {
         let r : s ≡ t = omega arith in
         subst (λ (n : ℕ). getD (set after (l + s) v) (l + n) 0 ≡ f n) r
         (getD-set-same after (l + s) v 0 (omega (arith, p .long)) ∙ e)
+
+-- by another rule that answers the same
+pub put-ext : {f g : ℕ → ℕ} {l : ℕ} {before after : List ℕ} {n : ℕ} → Put f l before after n
+    → ((s : ℕ) → s < n → f s ≡ g s) → Put g l before after n
+put-ext p e = record { long = p .long; kept = p .kept; each = λ s h. p .each s h ∙ e s h }
 
 -- ---- the first l of m symbols are decided, and l is so many sixteens
 module _ (r : Rate) (rec : List Taken) (at m : ℕ) where

@@ -1,0 +1,53 @@
+-- `count_stages::pairs` meets its contract: each butterfly finds its rows, and leaves those before it alone.
+-- Assumes nothing.
+use mathlib.Core.Path.{refl, _∙_}
+use lib.Dec.{lit<, lit≤}
+use borrow.Author.Needs.{needs}
+use Rattle.walsh.proofs.Stages.{asked, paired}
+use Rattle.count_stages.proofs.pairs.Statement.{statement}
+use Rattle.count_stages.proofs.pairs.Tie as tie
+
+butterfly-requires : tie.Need-butterfly-requires
+butterfly-requires c κs =
+    let pre = c .before .pre in
+    asked (pre .2) (lit≤ tt) (pre .0) 0 2 (lit< tt) (lit< tt) refl refl (pre .1) (lit≤ tt)
+
+butterfly-requires-2 : tie.Need-butterfly-requires-2
+butterfly-requires-2 c κs =
+    let one = c .before .before in
+    let pre = one .before .before .pre in
+    asked (pre .2) (lit≤ tt) (pre .0) 1 3 (lit< tt) (lit< tt) refl refl (one .butterfly .ensures .long ∙ pre .1)
+    (lit≤ tt)
+
+butterfly-requires-3 : tie.Need-butterfly-requires-3
+butterfly-requires-3 c κs =
+    let two = c .before .before in
+    let one = two .before .before .before in
+    let pre = one .before .before .pre in
+    asked (pre .2) (lit≤ tt) (pre .0) 4 6 (lit< tt) (lit< tt) refl refl
+    (two .butterfly2 .ensures .long ∙ one .butterfly .ensures .long ∙ pre .1) (lit≤ tt)
+
+butterfly-requires-4 : tie.Need-butterfly-requires-4
+butterfly-requires-4 c κs =
+    let three = c .before .before in
+    let two = three .before .before .before in
+    let one = two .before .before .before in
+    let pre = one .before .before .pre in
+    asked (pre .2) (lit≤ tt) (pre .0) 5 7 (lit< tt) (lit< tt) refl refl
+    (three .butterfly3 .ensures .long ∙ two .butterfly2 .ensures .long ∙ one .butterfly .ensures .long ∙ pre .1)
+    (lit≤ tt)
+
+returns : tie.Need-returns
+returns c =
+    let four = c .before in
+    let three = four .before .before .before in
+    let two = three .before .before .before in
+    let one = two .before .before .before in
+    paired (one .before .before .pre .1) (one .butterfly .ensures) (two .butterfly2 .ensures)
+    (three .butterfly3 .ensures) (four .butterfly4 .ensures)
+
+pub pairs-spec : {M : Type 1} → statement M
+pairs-spec =
+    tie.close
+    (tie.spec butterfly-requires butterfly-requires-2 butterfly-requires-3 butterfly-requires-4 (λ c. search needs)
+    returns)

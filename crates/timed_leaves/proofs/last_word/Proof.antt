@@ -1,0 +1,45 @@
+-- `timed_leaves::last_word` meets its contract: a search that found nothing leaves usable chips, and those are
+-- decided. Assumes nothing.
+use mathlib.Core.Path.{_∙_}
+use mathlib.Core.List.{List}
+use lib.Dec.{lit<}
+use borrow.Author.Needs.{needs}
+use Rattle.chips.specs.Chips.{Taken}
+use Rattle.recorders.specs.Rows.{recordingOf}
+use Rattle.timed_leaves.specs.Leaves.{lastWord}
+use Rattle.timed_leaves.proofs.Searched.{bad, good, usable}
+use Rattle.timed_leaves.proofs.last_word.Statement.{statement}
+use Rattle.timed_leaves.proofs.last_word.Tie as tie
+
+abbrev rec : tie.Start → List Taken
+rec s = recordingOf (s .args .rec) (s .args .octets .now) (s .args .bytes .now) (s .args .i .now) (s .args .q .now)
+
+returns : tie.Need-returns
+unfolding lastWord
+returns c =
+    let found = c .before .before in
+    let s = found .before .before .before .before in
+    bad (rec s) 512 _ (found .first-unusable .ensures) _ _ (c .enum-told .given .1)
+
+decide-64-requires : tie.Need-decide-64-requires
+decide-64-requires c κs =
+    let found = c .before .before .before in
+    let s = found .before .before .before .before in (
+      s .pre,
+      usable (rec s) 512 _ (found .first-unusable .ensures) (c .before .enum-told2 .given .1) (s .pre),
+      search needs,
+    )
+
+returns-2 : tie.Need-returns-2
+unfolding lastWord
+returns-2 c =
+    let found = c .before .before .before .before .before in
+    let s = found .before .before .before .before in
+    c .wide .ensures ∙ c .before .decide-64 .ensures .number 63 (lit< tt)
+    ∙ good (rec s) 512 _ (found .first-unusable .ensures) _ (c .before .before .before .enum-told2 .given .1)
+
+pub last-word-spec : {M : Type 1} → statement M
+last-word-spec =
+    tie.close
+    (tie.spec (λ c κs. search needs) (λ c. search needs) (λ c. search needs) decide-64-requires (λ c. search needs)
+    (λ c κs. search needs) returns returns-2)

@@ -1,0 +1,17 @@
+-- `timed_leaves::recorder_of` meets its contract: each number's recorder, past the tests before it.
+-- Assumes nothing.
+use borrow.Author.Tests.{eq-eqb, ne-eqb}
+use Rattle.timed_leaves.proofs.recorder_of.Statement.{statement}
+use Rattle.timed_leaves.proofs.recorder_of.Tie as tie
+
+returns : tie.Need-returns
+returns c = rw (eq-eqb _ 0 (c .if1 .taken))
+
+returns-2 : tie.Need-returns-2
+returns-2 c = rw (ne-eqb _ 0 (c .before .if1 .left), eq-eqb _ 1 (c .if2 .taken))
+
+returns-3 : tie.Need-returns-3
+returns-3 c = rw (ne-eqb _ 0 (c .before .if1 .left), ne-eqb _ 1 (c .if2 .left))
+
+pub recorder-of-spec : {M : Type 1} → statement M
+recorder-of-spec = tie.close (tie.spec returns returns-2 returns-3)

@@ -1,0 +1,9 @@
+pub mod Turns
+pub mod Puts
+pub mod Flights
+pub mod Stages
+pub mod Tops
+pub mod Search
+pub mod Scores
+pub mod Chosen
+pub mod Machine

@@ -1,0 +1,296 @@
+-- What enters the stages and what they leave, from what their calls do, and how large the numbers grow.
+--     product-fits, raised-fits, raised-is      one number times a factor, and more
+--     plain-within, minus-within, last-within   what a chip is multiplied by, and what is added
+--     entered-none, entered-eight               a loop over columns: before it, one more
+--     columns-none, columns-more, columns-all   numbers that are seen to be small on the way
+--     paired, halved                            four butterflies are the first stage, two the second
+--     entered-rows, paired-rows, halved-rows    numbers from -b to b grow to 16 b + 4, and then to 2 b
+--     asked                                     what a butterfly asks of the rows that it is lent
+-- Assumes nothing.
+use mathlib.Core.Path.{_≡_, refl, sym, ap, _∙_, subst}
+use mathlib.Core.List.{List, [], _∷_}
+use Prim.Native.Nat.{ℕ, zero, suc, _+_, _-_, _*_, _^_, _/_, _%_, _≤_, _<_}
+use native.Mathlib.Decide.{decLt}
+use native.Mathlib.Omega.{arith}
+use lib.Dec.{lit<, lit≤}
+use lib.ListN.{length, getD, set, List·getD-eq-default}
+use borrow.Author.Count.{below-more}
+use lib.IntN.{ℤ, pos, negsuc, _+ℤ_, _*ℤ_}
+use mir.Syntax.{Width}
+use mir.Val.{SFits, toZ, ofZ, hbits}
+use Rattle.base.specs.Tables.{tabulate}
+use Rattle.base.specs.Whole.{Within}
+use Rattle.base.proofs.Tables.{length-tabulate, getD-tabulate}
+use Rattle.base.proofs.Whole.{small, within-zero, within-neg, within-more, within-add}
+use Rattle.chips.specs.declared.Counts.{Counts}
+use Rattle.chips.specs.Chips.{pair}
+use Rattle.chips.specs.Bounds.{Bounded}
+use Rattle.choosing.specs.Scores.{RowWithin}
+use Rattle.choosing.proofs.Adding.{
+  Reads,
+  made-fits,
+  made,
+  reads-of,
+  reads-fits,
+  reads-add,
+  within-pos,
+  within-mul,
+}
+use Rattle.choosing.proofs.Clean.{phase}
+use Rattle.walsh.specs.Turns.{fly}
+use Rattle.walsh.specs.Rows.{
+  rowAt,
+  RowBounded,
+  RowsBounded,
+  factors,
+  quarters,
+  entering,
+  ColumnsWithin,
+  Entered,
+  Flown,
+  Joined,
+  Paired,
+  Halved,
+}
+use Rattle.walsh.proofs.Puts.{puts, length-puts, puts-other, puts-at}
+use Rattle.walsh.proofs.Turns.{turn, fly-bounded}
+
+-- ---- chips that enter
+-- a number of any width times a factor, and more
+module _ (w : Width) {b s : ℕ} {v times more : ℤ} (wide : 16 < 2 ^ hbits w) (room : 16 * b + 4 < 2 ^ hbits w)
+    (h : Reads w b s v) (ht : Within 16 times) (hm : Within 4 more) where
+  abbrev product : ℤ
+  product = toZ w (ofZ w times) *ℤ toZ w s
+
+  multiplied : product ≡ times *ℤ v
+  multiplied = λ i. small w 16 wide times ht i *ℤ h .is i
+
+  pub product-fits : SFits w product
+  product-fits = made-fits multiplied (within-mul ht (h .within)) (omega arith)
+
+  number : Reads w (16 * b) (ofZ w product) (times *ℤ v)
+  number = made multiplied (within-mul ht (h .within)) (omega arith)
+
+  quarter : Reads w 4 (ofZ w more) more
+  quarter = reads-of (omega arith) hm
+
+  pub raised-fits : SFits w (toZ w (ofZ w product) +ℤ toZ w (ofZ w more))
+  raised-fits = reads-fits number quarter room
+
+  pub raised-is : toZ w (ofZ w (toZ w (ofZ w product) +ℤ toZ w (ofZ w more))) ≡ (times *ℤ v) +ℤ more
+  raised-is = reads-add number quarter room .is
+
+-- what a chip is multiplied by, and what is added: plain, with the minus put in, and chip 7
+pub plain-within : Within 16 (pos 16) × Within 4 (pos 0)
+plain-within = (within-pos 16, within-zero 4)
+
+pub minus-within : Within 16 (negsuc 15) × Within 4 (pos 0)
+minus-within = (within-neg (within-pos 16), within-zero 4)
+
+pub last-within : Within 16 (pos 16) × Within 4 (pos 4)
+last-within = (within-pos 16, within-pos 4)
+
+-- ---- one column more, the eight as the code writes them
+pub entered-none : (row z : List ℤ) → length z ≡ 256 → Entered row 0 z
+entered-none row z e = record { long = e; each = λ k l h b. absurd (omega arith) }
+
+-- what the chips of column l enter as
+abbrev ins : List ℤ → ℕ → List ℤ
+ins row l = tabulate (λ k. entering k (getD row (32 * k + l) (pos 0))) 8
+
+entered-more : (row : List ℤ) (l : ℕ) (z vs : List ℤ) → Entered row l z → l < 32 → vs ≡ ins row l
+    → Entered row (l + 1) (puts z (λ k. 32 * k + l) 0 vs)
+entered-more row l z vs h few e = record {
+  long = length-puts to vs z 0 ∙ h .long;
+  each = λ k j hk hj. by k j hk hj (decLt j l);
+}
+  where
+    to : ℕ → ℕ
+    to k = 32 * k + l
+
+    one : (i k : ℕ) → 32 * i + l ≡ 32 * k + l → i ≡ k
+    one i k q = omega arith
+
+    eight : length vs ≡ 8
+    eight = ap length e ∙ length-tabulate (λ k. entering k (getD row (32 * k + l) (pos 0))) 8
+
+    by : (k j : ℕ) → k < 8 → j < l + 1 → Dec (j < l)
+        → getD (puts z (λ k. 32 * k + l) 0 vs) (32 * k + j) (pos 0) ≡ entering k (getD row (32 * k + j) (pos 0))
+    by k j hk hj (yes p) =
+        puts-other to vs z 0 (32 * k + j) (λ i hi q. off i (omega (arith, eight)) q) ∙ h .each k j hk p
+      where
+        off : (i : ℕ) → i < 8 → 32 * k + j ≡ 32 * (0 + i) + l → ⊥
+        off i hi q = omega arith
+    by k j hk hj (no p) =
+        let q : l ≡ j = omega arith in
+        subst (λ (j : ℕ). getD (puts z (λ k. 32 * k + l) 0 vs) (32 * k + j) (pos 0)
+        ≡ entering k (getD row (32 * k + j) (pos 0))) q
+        (ap (λ (n : ℕ). getD (puts z (λ k. 32 * k + l) 0 vs) n (pos 0)) from-none
+        ∙ puts-at to one vs z 0 k (omega (arith, eight)) (λ i b. omega (arith, eight, h .long))
+        ∙ ap (λ (vs : List ℤ). getD vs k (pos 0)) e
+        ∙ getD-tabulate (λ k. entering k (getD row (32 * k + l) (pos 0))) 8 k (pos 0) hk)
+      where
+        from-none : 32 * k + l ≡ 32 * (0 + k) + l
+        from-none = omega arith
+
+pub entered-eight : {row : List ℤ} {l : ℕ} {z : List ℤ} {v0 v1 v2 v3 v4 v5 v6 v7 : ℤ} → Entered row l z → l < 32
+    → v0 ∷ v1 ∷ v2 ∷ v3 ∷ v4 ∷ v5 ∷ v6 ∷ v7 ∷ [] ≡ ins row l
+    → Entered row (l + 1)
+    (set (set (set (set (set (set (set (set z (0 + l) v0) (32 + l) v1) (64 + l) v2) (96 + l) v3) (128 + l) v4)
+    (160 + l) v5) (192 + l) v6) (224 + l) v7)
+entered-eight {row} {l} {z} {v0} {v1} {v2} {v3} {v4} {v5} {v6} {v7} h few e =
+    entered-more row l z (v0 ∷ v1 ∷ v2 ∷ v3 ∷ v4 ∷ v5 ∷ v6 ∷ v7 ∷ []) h few e
+
+-- ---- numbers that are seen to be small on the way, as bytes are
+pub columns-none : {b : ℕ} {row : List ℤ} → ColumnsWithin b row 0
+columns-none = record { at = λ k l h g. absurd (omega arith) }
+
+pub columns-more : {b : ℕ} {row : List ℤ} {n : ℕ} → ColumnsWithin b row n
+    → ((k : ℕ) → k < 8 → Within b (getD row (32 * k + n) (pos 0))) → ColumnsWithin b row (n + 1)
+columns-more s h = record { at = λ k l b. below-more _ _ (λ j. s .at k j b) (h k b) l }
+
+pub columns-all : {b : ℕ} {row : List ℤ} → ColumnsWithin b row 32 → length row ≡ 256 → RowWithin b row
+columns-all {b} {row} s e = record { at = λ j. by j (decLt j 256) }
+  where
+    by : (j : ℕ) → Dec (j < 256) → Within b (getD row j (pos 0))
+    by j (yes p) =
+        let q : 32 * (j / 32) + j % 32 ≡ j = omega arith in
+        subst (λ (k : ℕ). Within b (getD row k (pos 0))) q (s .at (j / 32) (j % 32) (omega arith) (omega arith))
+    by j (no p) = rw (List·getD-eq-default row (pos 0) {n = j} (omega arith)) (within-zero b)
+
+-- ---- factors and what is added are small, so what has entered is
+within-cons : {b : ℕ} {v : ℤ} {t : List ℤ} → Within b v → RowWithin b t → RowWithin b (v ∷ t)
+within-cons {b} {v} {t} h r = record { at = by }
+  where
+    by : (k : ℕ) → Within b (getD (v ∷ t) k (pos 0))
+    by zero = h
+    by (suc k) = r .at k
+
+within-none : {b : ℕ} → RowWithin b []
+within-none = record { at = λ k. within-zero _ }
+
+factors-within : RowWithin 16 factors
+factors-within =
+    let plus : Within 16 (pos 16) = within-pos 16 in
+    let minus : Within 16 (negsuc 15) = within-neg plus in
+    within-cons plus (within-cons plus (within-cons plus (within-cons minus (within-cons plus
+    (within-cons plus (within-cons minus (within-cons plus within-none)))))))
+
+quarters-within : RowWithin 4 quarters
+quarters-within =
+    let none : Within 4 (pos 0) = within-zero 4 in
+    within-cons none (within-cons none (within-cons none (within-cons none (within-cons none
+    (within-cons none (within-cons none (within-cons (within-pos 4) within-none)))))))
+
+pub entered-rows : {b : ℕ} {row z : List ℤ} → Entered row 32 z → RowWithin b row → RowsBounded (16 * b + 4) 8 z
+entered-rows {b} {row} {z} h r = record {
+  row = λ k hk. record {
+    at = λ l hl. record {
+      real = one k l hk (omega arith);
+      imag = subst (λ (j : ℕ). Within (16 * b + 4) (getD z j (pos 0))) (on k l) (one k (l + 16) hk (omega arith));
+    };
+  };
+}
+  where
+    on : (k l : ℕ) → 32 * k + (l + 16) ≡ 32 * k + l + 16
+    on k l = omega arith
+
+    one : (k l : ℕ) → k < 8 → l < 32 → Within (16 * b + 4) (getD z (32 * k + l) (pos 0))
+    one k l hk hl =
+        subst (Within (16 * b + 4)) (sym (h .each k l hk hl))
+        (within-add (within-mul (factors-within .at k) (r .at (32 * k + l))) (quarters-within .at k))
+
+-- ---- rows that a butterfly leaves alone
+kept : {s : List ℤ} {x y : ℕ} {o : List ℤ} {z n : ℕ} {o' : List ℤ} → Flown s x y o z n o'
+    → (w l : ℕ) → w + 32 ≤ z → l < 16 → rowAt o' w l ≡ rowAt o w l
+kept f w l h g = λ i. pair (f .below (w + l) (omega arith) i) (f .below (w + l + 16) (omega arith) i)
+
+stays : {s : List ℤ} {x y : ℕ} {o : List ℤ} {v n : ℕ} {o' z : List ℤ} {u w : ℕ} → Joined z o u w
+    → Flown s x y o v n o' → w + 128 ≤ v → Joined z o' u w
+stays {w = w} j f h = record { at = λ p l hp hl. kept f (w + 32 * p) l (omega arith) hl ∙ j .at p l hp hl }
+
+-- ---- the first stage
+pub paired : {z o₀ o₁ o₂ o₃ o₄ : List ℤ} → length o₀ ≡ 512 → Flown z 0 64 o₀ 0 16 o₁ → Flown z 32 96 o₁ 128 16 o₂
+    → Flown z 128 192 o₂ 256 16 o₃ → Flown z 160 224 o₃ 384 16 o₄ → Paired z o₄
+paired e f₁ f₂ f₃ f₄ = record {
+  long = f₄ .long ∙ f₃ .long ∙ f₂ .long ∙ f₁ .long ∙ e;
+  first = stays (stays (stays (record { at = f₁ .each }) f₂ (lit≤ tt)) f₃ (lit≤ tt)) f₄ (lit≤ tt);
+  second = stays (stays (record { at = f₂ .each }) f₃ (lit≤ tt)) f₄ (lit≤ tt);
+  third = stays (record { at = f₃ .each }) f₄ (lit≤ tt);
+  fourth = record { at = f₄ .each };
+}
+
+-- ---- the second
+pub halved : {a : List ℤ} {p3 : ℕ} {b₀ b₁ b₂ : List ℤ} → length b₀ ≡ 256
+    → Flown a (0 + 32 * p3) (256 + 32 * p3) b₀ 0 16 b₁ → Flown a (128 + 32 * p3) (384 + 32 * p3) b₁ 128 16 b₂
+    → Halved a p3 b₂
+halved e f₁ f₂ = record {
+  long = f₂ .long ∙ f₁ .long ∙ e;
+  even = λ p l hp hl. kept f₂ (0 + 32 * p) l (omega arith) hl ∙ f₁ .each p l hp hl;
+  odd = f₂ .each;
+}
+
+-- ---- bounds
+row-more : {b d : ℕ} {t : List ℤ} {x : ℕ} → RowBounded b t x → b ≤ d → RowBounded d t x
+row-more h l = record {
+  at = λ k g.
+      let c = h .at k g in record { real = within-more (c .real) l; imag = within-more (c .imag) l };
+}
+
+pub row-at : {b n : ℕ} {t : List ℤ} {x : ℕ} (k : ℕ) → RowsBounded b n t → k < n → 32 * k ≡ x → RowBounded b t x
+row-at {b} {n} {t} k h l e = subst (λ (x : ℕ). RowBounded b t x) e (h .row k l)
+
+flies : {b : ℕ} {s t : List ℤ} {x y w : ℕ} (p : ℕ)
+    → ((l : ℕ) → l < 16 → rowAt t w l ≡ fly (rowAt s y l) (rowAt s x l) p) → RowBounded b s y → RowBounded b s x
+    → RowBounded (b + b) t w
+flies {b} p e hy hx = record {
+  at = λ l hl.
+      subst (λ (c : Counts). Bounded (b + b) c) (sym (e l hl)) (fly-bounded p (hy .at l hl) (hx .at l hl));
+}
+
+pub paired-rows : {b : ℕ} {z a : List ℤ} → Paired z a → RowsBounded b 8 z → RowsBounded (b + b) 16 a
+paired-rows {b} {z} {a} h r = record {
+  row = λ k hk.
+      subst (λ (x : ℕ). RowBounded (b + b) a x) (four k)
+      (phase (λ j. RowBounded (b + b) a (128 * j + 32 * (k % 4)))
+      (one (h .first) 0 2 (lit< tt) (lit< tt) refl refl (k % 4) (turn k))
+      (one (h .second) 1 3 (lit< tt) (lit< tt) refl refl (k % 4) (turn k))
+      (one (h .third) 4 6 (lit< tt) (lit< tt) refl refl (k % 4) (turn k))
+      (one (h .fourth) 5 7 (lit< tt) (lit< tt) refl refl (k % 4) (turn k))
+      (k / 4) (omega arith));
+}
+  where
+    four : (k : ℕ) → 128 * (k / 4) + 32 * (k % 4) ≡ 32 * k
+    four k = omega arith
+
+    one : {x w : ℕ} → Joined z a x w → (i j : ℕ) → i < 8 → j < 8 → 32 * i ≡ x → 32 * j ≡ x + 64 → (p : ℕ) → p < 4
+        → RowBounded (b + b) a (w + 32 * p)
+    one f i j hi hj ei ej p hp = flies p (λ l hl. f .at p l hp hl) (row-at j r hj ej) (row-at i r hi ei)
+
+pub halved-rows : {b : ℕ} {a : List ℤ} {p3 : ℕ} {t : List ℤ} → p3 < 4 → Halved a p3 t → RowsBounded b 16 a
+    → RowsBounded (b + b) 8 t
+halved-rows {b} {a} {p3} {t} h3 h r = record { row = λ k hk. by k hk (decLt k 4) }
+  where
+    by : (k : ℕ) → k < 8 → Dec (k < 4) → RowBounded (b + b) t (32 * k)
+    by k hk (yes p) =
+        let e : 0 + 32 * k ≡ 32 * k = omega arith in
+        subst (λ (x : ℕ). RowBounded (b + b) t x) e
+        (flies k (λ l hl. h .even k l p hl) (row-at (8 + p3) r (omega arith) (omega arith))
+        (row-at p3 r (omega arith) (omega arith)))
+    by k hk (no p) =
+        let e : 128 + 32 * (k - 4) ≡ 32 * k = omega arith in
+        subst (λ (x : ℕ). RowBounded (b + b) t x) e
+        (flies (k - 4) (λ l hl. h .odd (k - 4) l (omega arith) hl) (row-at (12 + p3) r (omega arith) (omega arith))
+        (row-at (4 + p3) r (omega arith) (omega arith)))
+
+-- ---- what a butterfly asks of the rows j and k of s, and of the length of what it writes to
+pub asked : {b d n m u v : ℕ} {s : List ℤ} {x y : ℕ} → RowsBounded b n s → b ≤ d → length s ≡ 32 * n → (j k : ℕ) → j < n
+    → k < n → 32 * j ≡ x → 32 * k ≡ y → v ≡ m → u ≤ m
+    → (x + 32 ≤ length s) × (y + 32 ≤ length s) × (u ≤ v) × RowBounded d s x × RowBounded d s y
+asked r more e j k hj hk ej ek em h = (
+  omega arith,
+  omega arith,
+  omega arith,
+  row-more (row-at j r hj ej) more,
+  row-more (row-at k r hk ek) more,
+)
