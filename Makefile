@@ -3,6 +3,7 @@
 
 LIB := target/staticlib/libdsss.a
 LEAVES := target/staticlib/libtimed_leaves.a
+DIRECT := target/direct/libdirect.a
 PLAIN := bench/plain_write.c bench/plain_read.c
 OUT := target/c
 STRICT := -std=c99 -Wall -Wextra -Wpedantic -Werror -Iinclude
@@ -14,7 +15,8 @@ export PREFIX INCLUDEDIR LIBDIR DESTDIR
 # All that is proved: a touched proof is proved again.
 PROVED := crates.txt $(shell find crates -name '*.rt' -o -name '*.antt')
 
-.PHONY: demo test compare wrong bench instructions crc third-party faults install uninstall packages demo-packages
+.PHONY: demo test compare wrong bench instructions archives crc third-party faults install uninstall packages
+.PHONY: demo-packages
 .SILENT:
 
 # The host: captions written at every kind and rate, one spoilt, one cut short.
@@ -35,14 +37,17 @@ compare: $(OUT)/bridge target/peer/peer
 wrong: target/peer/peer
 	tests/wrong/run
 
-# Our library beside plain C, in one run; BENCH_MS is the milliseconds of one measurement.
+# Our library beside the direct way and plain C, in one run; BENCH_MS is the milliseconds of one measurement.
 bench: $(OUT)/bench
 	scripts/x86run $(OUT)/bench $(BENCH_MS)
 	scripts/instructions.sh
 
-# Instructions a chip alone; scripts/instructions.sh takes one call, rate or length.
-instructions: $(LIB) | packages
+# Instructions a chip alone; scripts/instructions.sh takes one library, call, rate or length.
+instructions: archives | packages
 	scripts/instructions.sh
+
+# What is timed and counted beside plain C.
+archives: $(LIB) $(LEAVES) $(DIRECT)
 
 # The CRC's published figures, by the CRC of Python's library.
 crc: packages
@@ -77,6 +82,10 @@ $(LEAVES): $(PROVED)
 	scripts/staticlib.sh timed_leaves
 	touch $@
 
+$(DIRECT): $(PROVED) scripts/direct.sh | $(LIB) $(LEAVES)
+	scripts/direct.sh
+	touch $@
+
 $(OUT)/host: examples/host/host.c include/dsss.h $(LIB) | demo-packages
 	mkdir -p $(OUT)
 	scripts/x86cc $@ examples/host/host.c $(LIB) -- $(STRICT)
@@ -85,9 +94,9 @@ $(OUT)/bridge: tests/bridge/bridge.c include/dsss.h $(LIB) | packages
 	mkdir -p $(OUT)
 	scripts/x86cc $@ tests/bridge/bridge.c $(LIB) -- $(STRICT)
 
-$(OUT)/bench: bench/bench.c $(PLAIN) $(wildcard bench/*.h) include/dsss.h $(LIB) $(LEAVES) | packages
+$(OUT)/bench: bench/bench.c $(PLAIN) $(wildcard bench/*.h) include/dsss.h $(LIB) $(LEAVES) $(DIRECT) | packages
 	mkdir -p $(OUT)
-	scripts/x86cc $@ bench/bench.c $(PLAIN) $(LIB) $(LEAVES) -- $(STRICT) -O3
+	scripts/x86cc $@ bench/bench.c $(PLAIN) $(LIB) $(LEAVES) $(DIRECT) -- $(STRICT) -O3
 
 target/peer/peer: $(wildcard tests/peer/src/*.rs tests/peer/src/families/*.rs) | packages
 	mkdir -p target/peer

@@ -1,17 +1,18 @@
-/* bench.c: how long the library takes beside plain C, in one run.
+/* bench.c: how long the library takes beside plain C, and at 11 Mbit/s beside itself by the direct way, in one run.
  *
  *   bench [milliseconds]     the least time of one measurement, 20 if not given
  *
- * Each call is first made once by both, and the answers and buffers must agree. The count of calls
- * is then doubled until one measurement lasts long enough; the time shown is the median of five,
- * the library and plain C measured in turn. Buffers have just the size needed, and each call fills
- * them, as in use. Both are built with the same optimisation.
+ * Each call is first made once by all that are timed, and the answers and buffers must agree. The count
+ * of calls is then doubled until one measurement lasts long enough; the time shown is the median of
+ * five, the libraries measured in turn. Buffers have just the size needed, and each call fills them,
+ * as in use. All are built with the same optimisation.
  *
  * The variable DSSS_EMULATED, set by scripts/x86run, says that no real processor is timed: chips
  * per second and the multiple of 11 Mchip/s are left out then. */
 #define _POSIX_C_SOURCE 200809L
-#include "timed_leaves.h"
+#include "direct.h"
 #include "plain.h"
+#include "timed_leaves.h"
 
 #include <inttypes.h>
 #include <stdio.h>
@@ -31,11 +32,31 @@ struct library {
     dsss_coming (*read_front)(uint64_t, const uint8_t *, size_t);
     void (*count)(const float *, size_t, int32_t *, size_t);
     uint64_t (*decide)(uint64_t, const float *, size_t, const float *, size_t);
+    uint64_t (*eleven)(uint64_t, const uint8_t *, size_t, const int8_t *, size_t, const float *, size_t, const float *,
+                       size_t);
 };
 
-static const struct library libraries[2] = {
-    {dsss_write, dsss_read_hard, dsss_read_soft, dsss_read_bytes, dsss_read_front, timed_count, timed_decide},
-    {plain_write, plain_read_hard, plain_read_soft, plain_read_bytes, plain_read_front, plain_count, plain_decide},
+static uint64_t fast_eleven(uint64_t recorder, const uint8_t *chips, size_t chips_len, const int8_t *bytes,
+                            size_t bytes_len, const float *i, size_t i_len, const float *q, size_t q_len)
+{
+    return timed_eleven(0, recorder, chips, chips_len, bytes, bytes_len, i, i_len, q, q_len);
+}
+
+static uint64_t direct_eleven(uint64_t recorder, const uint8_t *chips, size_t chips_len, const int8_t *bytes,
+                              size_t bytes_len, const float *i, size_t i_len, const float *q, size_t q_len)
+{
+    return timed_eleven(1, recorder, chips, chips_len, bytes, bytes_len, i, i_len, q, q_len);
+}
+
+enum { DSSS, PLAIN, BOTH, DIRECT = BOTH, ALL }; /* the direct way is timed at 11 Mbit/s only, where it is another */
+
+static const struct library libraries[ALL] = {
+    {dsss_write, dsss_read_hard, dsss_read_soft, dsss_read_bytes, dsss_read_front, timed_count, timed_decide,
+     fast_eleven},
+    {plain_write, plain_read_hard, plain_read_soft, plain_read_bytes, plain_read_front, plain_count, plain_decide,
+     plain_eleven},
+    {direct_write, direct_read_hard, direct_read_soft, direct_read_bytes, direct_read_front, timed_count, timed_decide,
+     direct_eleven},
 };
 
 static const struct {
@@ -148,12 +169,12 @@ static void set_up(uint64_t new_kind, uint64_t new_rate, size_t n)
     record_bytes();
 }
 
-/* Both libraries answer the same, and the payload comes back. */
-static void agree(void)
+/* The first so many libraries answer the same, and the payload comes back. */
+static void agree(size_t many)
 {
     static uint8_t first[DSSS_CHIPS_MAX];
 
-    for (size_t l = 0; l < 2; l++) {
+    for (size_t l = 0; l < many; l++) {
         if (write_task(&libraries[l]) != chips_len)
             fail("a write is refused");
         if (l == 0)
@@ -196,19 +217,19 @@ static int by_size(const void *a, const void *b)
     return (x > y) - (x < y);
 }
 
-/* Nanoseconds a call, for both libraries. */
-static void measure(task_fn task, double ns[2])
+/* Nanoseconds a call, for the first so many libraries. */
+static void measure(task_fn task, size_t many, double *ns)
 {
-    uint64_t count[2] = {1, 1};
-    double times[2][ROUNDS];
+    uint64_t count[ALL] = {1, 1, 1};
+    double times[ALL][ROUNDS];
 
-    for (size_t l = 0; l < 2; l++)
+    for (size_t l = 0; l < many; l++)
         while (time_of(task, &libraries[l], count[l]) < limit)
             count[l] *= 2;
     for (size_t round = 0; round < ROUNDS; round++)
-        for (size_t l = 0; l < 2; l++)
+        for (size_t l = 0; l < many; l++)
             times[l][round] = time_of(task, &libraries[l], count[l]) * 1e9 / (double)count[l];
-    for (size_t l = 0; l < 2; l++) {
+    for (size_t l = 0; l < many; l++) {
         qsort(times[l], ROUNDS, sizeof times[l][0], by_size);
         ns[l] = times[l][ROUNDS / 2];
     }
@@ -227,14 +248,15 @@ static void head(void)
     if (emulated)
         printf("UNDER AN EMULATOR: times are the emulator's; chips per second and the multiple of\n"
                "11 Mchip/s are not printed\n");
-    printf("ratio: time of dsss / time of plain C, below 1 if dsss is faster\n");
+    printf("ratio: time of dsss / time of plain C, below 1 if dsss is faster\n"
+           "fast and direct: dsss, which goes by butterflies at 11 Mbit/s, and with the 256 words tried there\n");
 }
 
 static void one_line(const char *name, const char *rate_name, task_fn task)
 {
-    double ns[2];
+    double ns[BOTH];
 
-    measure(task, ns);
+    measure(task, BOTH, ns);
     printf("%-10s  %-5s  %4s  %7zu  %12.0f  %12.0f  %6.2f", name, kinds[kind], rate_name, chips_len,
            ns[0], ns[1], ns[0] / ns[1]);
     if (!emulated) {
@@ -254,7 +276,7 @@ static void all_calls(void)
         for (uint64_t k = DSSS_LONG; k <= DSSS_SHORT; k++)
             for (size_t r = k == DSSS_SHORT ? 1 : 0; r < 4; r++) {
                 set_up(k, rates[r].code, OCTETS);
-                agree();
+                agree(BOTH);
                 one_line(tasks[t].name, rates[r].name, tasks[t].task);
             }
 }
@@ -264,7 +286,7 @@ static void all_calls(void)
 static void by_octets(void)
 {
     static const size_t sizes[] = {1, 10, 100, 1000, DSSS_PAYLOAD_MAX};
-    double ns[2] = {0, 0}, last;
+    double ns[BOTH] = {0, 0}, last;
 
     printf("\nwhole calls by octets, long; more: ns of dsss for each octet more than in the line before\n");
     printf("%-10s  %4s  %6s  %7s  %12s  %12s  %6s  %8s\n", "call", "rate", "octets", "chips", "dsss ns", "plain ns",
@@ -274,8 +296,8 @@ static void by_octets(void)
             for (size_t s = 0; s < sizeof sizes / sizeof sizes[0]; s++) {
                 last = ns[0];
                 set_up(DSSS_LONG, rates[r].code, sizes[s]);
-                agree();
-                measure(tasks[t].task, ns);
+                agree(BOTH);
+                measure(tasks[t].task, BOTH, ns);
                 printf("%-10s  %4s  %6zu  %7zu  %12.0f  %12.0f  %6.2f", tasks[t].name, rates[r].name, payload_len,
                        chips_len, ns[0], ns[1], ns[0] / ns[1]);
                 if (s > 0)
@@ -288,8 +310,8 @@ static void by_octets(void)
 /* Both libraries tell the same of the front, and what they tell is the frame. */
 static void fronts_agree(void)
 {
-    dsss_coming first = libraries[0].read_front(kind, chips, chips_len);
-    dsss_coming second = libraries[1].read_front(kind, chips, chips_len);
+    dsss_coming first = libraries[DSSS].read_front(kind, chips, chips_len);
+    dsss_coming second = libraries[PLAIN].read_front(kind, chips, chips_len);
 
     if (memcmp(&first, &second, sizeof first) != 0)
         fail("what is coming differs");
@@ -301,7 +323,7 @@ static void fronts_agree(void)
 static void fronts(void)
 {
     static const size_t sizes[] = {10, DSSS_PAYLOAD_MAX};
-    double ns[2];
+    double ns[BOTH];
 
     printf("\nreads of the front, which look at no payload chip, by octets, long\n");
     printf("%-10s  %4s  %6s  %7s  %12s  %12s  %6s\n", "call", "rate", "octets", "chips", "dsss ns", "plain ns",
@@ -310,11 +332,100 @@ static void fronts(void)
         for (size_t s = 0; s < sizeof sizes / sizeof sizes[0]; s++) {
             set_up(DSSS_LONG, rates[r].code, sizes[s]);
             fronts_agree();
-            measure(read_front_task, ns);
+            measure(read_front_task, BOTH, ns);
             printf("%-10s  %4s  %6zu  %7zu  %12.0f  %12.0f  %6.2f\n", "read front", rates[r].name, payload_len,
                    chips_len, ns[0], ns[1], ns[0] / ns[1]);
             fflush(stdout);
         }
+}
+
+/* ---- 11 Mbit/s, by butterflies and by the direct way ----------------------------------------- */
+
+/* The times of a line divided by `each`, and two ratios. */
+static void three_times(const double *ns, double each, int places)
+{
+    printf("  %11.*f  %11.*f  %11.*f  %11.2f  %10.2f\n", places, ns[DSSS] / each, places, ns[DIRECT] / each, places,
+           ns[PLAIN] / each, ns[DIRECT] / ns[DSSS], ns[DSSS] / ns[PLAIN]);
+    fflush(stdout);
+}
+
+static void three_heads(void)
+{
+    printf("  %11s  %11s  %11s  %11s  %10s\n", "fast ns", "direct ns", "plain ns", "direct/fast", "fast/plain");
+}
+
+static void read_line(const char *name, task_fn task, uint64_t new_kind, size_t n)
+{
+    double ns[ALL];
+
+    set_up(new_kind, DSSS_RATE_11, n);
+    agree(ALL);
+    measure(task, ALL, ns);
+    printf("%-10s  %-5s  %6zu  %7zu", name, kinds[kind], payload_len, chips_len);
+    three_times(ns, 1, 0);
+}
+
+static void reads_at_11(void)
+{
+    static const size_t sizes[] = {1, 10, 100, 1000, DSSS_PAYLOAD_MAX};
+
+    printf("\nreads at 11 Mbit/s, and the same by the direct way\n%-10s  %-5s  %6s  %7s", "call", "kind", "octets",
+           "chips");
+    three_heads();
+    for (size_t t = 1; t < TASKS; t++) {
+        for (uint64_t k = DSSS_LONG; k <= DSSS_SHORT; k++)
+            read_line(tasks[t].name, tasks[t].task, k, OCTETS);
+        for (size_t s = 0; s < sizeof sizes / sizeof sizes[0]; s++)
+            read_line(tasks[t].name, tasks[t].task, DSSS_LONG, sizes[s]);
+    }
+}
+
+enum { BLOCK = 64, CCK = 8, RECORDERS = 3 }; /* symbols, chips */
+
+static uint64_t recorder;
+
+/* The word of the last symbol of the block that starts at a payload's symbol. */
+static uint64_t eleven_at(const struct library *l, size_t symbol)
+{
+    size_t at = DSSS_FRONT_LONG + CCK * symbol, len = CCK * BLOCK;
+
+    return l->eleven(recorder, chips + at, len, bytes + 2 * at, 2 * len, i_row + at, len, q_row + at, len);
+}
+
+static uint64_t eleven_task(const struct library *l)
+{
+    uint64_t sum = 0;
+
+    for (size_t s = 0; s + BLOCK <= OCTETS; s += BLOCK)
+        sum += eleven_at(l, s);
+    return sum;
+}
+
+/* All choose the same words: the last one of the blocks that start at every symbol. */
+static void elevens_agree(void)
+{
+    for (size_t s = 0; s + BLOCK <= OCTETS; s++) {
+        uint64_t word = eleven_at(&libraries[DSSS], s);
+
+        if (word != eleven_at(&libraries[DIRECT], s) || word != eleven_at(&libraries[PLAIN], s))
+            fail("the words chosen differ");
+    }
+}
+
+static void choices_at_11(void)
+{
+    static const char *const names[RECORDERS] = {"hard", "soft", "bytes"};
+    double ns[ALL];
+
+    printf("\nthe choice at 11 Mbit/s alone, a symbol, over blocks of %d\n%-8s", BLOCK, "recorder");
+    three_heads();
+    set_up(DSSS_LONG, DSSS_RATE_11, OCTETS);
+    for (recorder = 0; recorder < RECORDERS; recorder++) {
+        elevens_agree();
+        measure(eleven_task, ALL, ns);
+        printf("%-8s", names[recorder]);
+        three_times(ns, OCTETS / BLOCK * BLOCK, 1);
+    }
 }
 
 /* ---- Parts of reading, to see where a reader's time goes ------------------------------------- */
@@ -345,21 +456,21 @@ static void parts_agree(void)
 {
     static int32_t first[ROW];
 
-    count_task(&libraries[0]);
+    count_task(&libraries[DSSS]);
     memcpy(first, counts, sizeof first);
     memset(counts, 0, sizeof counts);
-    count_task(&libraries[1]);
+    count_task(&libraries[PLAIN]);
     if (memcmp(first, counts, sizeof first) != 0)
         fail("the counts differ");
-    if (decide_task(&libraries[0]) != decide_task(&libraries[1]))
+    if (decide_task(&libraries[DSSS]) != decide_task(&libraries[PLAIN]))
         fail("the sums of the words chosen differ");
 }
 
 static void part_line(const char *name, task_fn task, size_t many)
 {
-    double ns[2];
+    double ns[BOTH];
 
-    measure(task, ns);
+    measure(task, BOTH, ns);
     printf("%-26s  %10.2f  %10.2f  %6.2f\n", name, ns[0] / (double)many, ns[1] / (double)many,
            ns[0] / ns[1]);
     fflush(stdout);
@@ -372,8 +483,7 @@ static void parts(void)
         uint64_t code;
         size_t chips;
     } choices[] = {{"choice of a Barker symbol", DSSS_RATE_1, 11},
-                   {"choice at 5.5 Mbit/s", DSSS_RATE_5_5, 8},
-                   {"choice at 11 Mbit/s", DSSS_RATE_11, 8}};
+                   {"choice at 5.5 Mbit/s", DSSS_RATE_5_5, 8}};
 
     printf("\nparts of reading, over %d soft samples; a choice counts its samples first\n"
            "dsss looks whether each sample is usable, plain C here does not\n",
@@ -402,6 +512,8 @@ int main(int argc, char **argv)
     all_calls();
     by_octets();
     fronts();
+    reads_at_11();
+    choices_at_11();
     parts();
     return 0;
 }

@@ -1,18 +1,32 @@
 /* count.c: one call, made as often as asked, so that its instructions can be counted from outside.
  *
- *   count LIBRARY CALL KIND RATE OCTETS TIMES
+ *   count CALL KIND RATE OCTETS TIMES
  *
- * LIBRARY is dsss or plain, CALL is write, hard, soft, bytes or front, KIND is long or short, RATE a rate code. The
- * rows are made and one frame of one octet is handled first, whatever TIMES is: the difference of two runs with TIMES 0
- * and 1 is the instructions of one call, with nothing of the program's start. scripts/instructions.sh makes the two
- * runs. */
+ * CALL is write, hard, soft, bytes or front, KIND is long or short, RATE a rate code. The calls are those of the
+ * library, or with -DOF_DIRECT or -DOF_PLAIN of that one. With -DCHOICE a call is the choice alone, of a block of 64
+ * symbols of 11 Mbit/s, by the recorder hard, soft or bytes. The rows are made and a call for one octet, or the choice,
+ * is made first, whatever TIMES is: the difference of two runs with TIMES 0 and 1 is the instructions of one call, with
+ * nothing of the program's start. scripts/instructions.sh builds what it needs and makes the two runs. */
+#include "direct.h"
 #include "plain.h"
+#include "timed_leaves.h"
 
 #include <stdio.h>
 #include <stdlib.h>
 #include <string.h>
 
-static uint8_t payload[DSSS_PAYLOAD_MAX], chips[DSSS_CHIPS_MAX], octets[DSSS_PAYLOAD_MAX];
+#if defined OF_PLAIN
+#define OF(call) plain_##call
+#define ELEVEN(...) plain_eleven(__VA_ARGS__)
+#elif defined OF_DIRECT
+#define OF(call) direct_##call
+#define ELEVEN(...) timed_eleven(1, __VA_ARGS__)
+#else
+#define OF(call) dsss_##call
+#define ELEVEN(...) timed_eleven(0, __VA_ARGS__)
+#endif
+
+static uint8_t payload[DSSS_PAYLOAD_MAX], chips[DSSS_CHIPS_MAX];
 static float i_row[DSSS_CHIPS_MAX], q_row[DSSS_CHIPS_MAX];
 static int8_t bytes[2 * DSSS_CHIPS_MAX];
 
@@ -40,19 +54,57 @@ static void record_bytes(size_t len)
     }
 }
 
-/* One call; the chips of its frame. */
-static uint64_t call(int plain, const char *name, uint64_t kind, uint64_t rate, size_t n, size_t len)
+#ifdef CHOICE
+enum { LEAST = 64, BLOCK = 8 * LEAST }; /* octets, and the chips looked at */
+
+static uint64_t chips_of(size_t len)
+{
+    (void)len;
+    return BLOCK;
+}
+
+/* One choice; whether the frame has a block and a word was chosen. */
+static int call(const char *name, uint64_t kind, uint64_t rate, size_t n, size_t len)
+{
+    volatile uint64_t word; /* keeps what is computed from being dropped */
+    size_t at = kind == DSSS_SHORT ? DSSS_FRONT_SHORT : DSSS_FRONT_LONG, left = len - at;
+    uint64_t recorder = strcmp(name, "bytes") == 0 ? 2 : strcmp(name, "soft") == 0;
+
+    if (rate != DSSS_RATE_11 || n < LEAST)
+        return 0;
+    word = ELEVEN(recorder, chips + at, left, bytes + 2 * at, 2 * left, i_row + at, left, q_row + at, left);
+    return word < 256;
+}
+#else
+enum { LEAST = 1 };
+
+static uint8_t octets[DSSS_PAYLOAD_MAX];
+
+/* The chips that one call says it handled. */
+static uint64_t handled(const char *name, uint64_t kind, uint64_t rate, size_t n, size_t len)
 {
     if (strcmp(name, "write") == 0)
-        return (plain ? plain_write : dsss_write)(kind, rate, 0, 0, payload, n, chips, len).chips;
+        return OF(write)(kind, rate, 0, 0, payload, n, chips, len).chips;
     if (strcmp(name, "hard") == 0)
-        return (plain ? plain_read_hard : dsss_read_hard)(kind, chips, len, octets, n).used;
+        return OF(read_hard)(kind, chips, len, octets, n).used;
     if (strcmp(name, "front") == 0)
-        return (plain ? plain_read_front : dsss_read_front)(kind, chips, len).used;
+        return OF(read_front)(kind, chips, len).used;
     if (strcmp(name, "bytes") == 0)
-        return (plain ? plain_read_bytes : dsss_read_bytes)(kind, bytes, 2 * len, octets, n).used;
-    return (plain ? plain_read_soft : dsss_read_soft)(kind, i_row, len, q_row, len, octets, n).used;
+        return OF(read_bytes)(kind, bytes, 2 * len, octets, n).used;
+    return OF(read_soft)(kind, i_row, len, q_row, len, octets, n).used;
 }
+
+static uint64_t chips_of(size_t len)
+{
+    return len;
+}
+
+/* One call; whether it handled the whole frame. */
+static int call(const char *name, uint64_t kind, uint64_t rate, size_t n, size_t len)
+{
+    return handled(name, kind, rate, n, len) == len;
+}
+#endif
 
 static uint64_t set_up(const char *name, uint64_t kind, uint64_t rate, size_t n)
 {
@@ -67,24 +119,23 @@ static uint64_t set_up(const char *name, uint64_t kind, uint64_t rate, size_t n)
 
 int main(int argc, char **argv)
 {
-    if (argc != 7) {
-        fputs("usage: count dsss|plain write|hard|soft|bytes|front long|short RATE OCTETS TIMES\n", stderr);
+    if (argc != 6) {
+        fputs("usage: count write|hard|soft|bytes|front long|short RATE OCTETS TIMES\n", stderr);
         return 2;
     }
-    int plain = strcmp(argv[1], "plain") == 0;
-    uint64_t kind = strcmp(argv[3], "short") == 0 ? DSSS_SHORT : DSSS_LONG;
-    uint64_t rate = (uint64_t)atoi(argv[4]);
-    size_t n = (size_t)atoi(argv[5]);
+    uint64_t kind = strcmp(argv[2], "short") == 0 ? DSSS_SHORT : DSSS_LONG;
+    uint64_t rate = (uint64_t)atoi(argv[3]);
+    size_t n = (size_t)atoi(argv[4]);
 
     for (size_t k = 0; k < sizeof payload; k++)
         payload[k] = (uint8_t)(k * k / 7 + 91 * k);
-    uint64_t len = set_up(argv[2], kind, rate, 1);
-    if (len == 0 || call(plain, argv[2], kind, rate, 1, len) != len)
+    uint64_t len = set_up(argv[1], kind, rate, LEAST);
+    if (len == 0 || !call(argv[1], kind, rate, LEAST, len))
         return 1;
-    len = set_up(argv[2], kind, rate, n);
-    for (int times = atoi(argv[6]); times > 0; times--)
-        if (len == 0 || call(plain, argv[2], kind, rate, n, len) != len)
+    len = set_up(argv[1], kind, rate, n);
+    for (int times = atoi(argv[5]); times > 0; times--)
+        if (len == 0 || !call(argv[1], kind, rate, n, len))
             return 1;
-    printf("%llu\n", (unsigned long long)len);
+    printf("%llu\n", (unsigned long long)chips_of(len));
     return 0;
 }

@@ -1,10 +1,10 @@
 /* plain_read.c: reading a frame in plain C, after docs/RULES.md, as a good C engineer would by hand.
  *
  * With plain_write.c it is the measure beside the library in bench.c, so it is meant to be fast where plain C can be:
- * octets to counts by a table, Barker by two sums, the words of 11 Mbit/s by butterflies over rows, eight octets at a
- * time where it helps, sixteen symbols of signed bytes side by side. What is called for each symbol stands in this one
- * file, so that compilers dissolve it. No allocation, no intrinsics, nothing written for one processor. Nothing here is
- * proved. */
+ * octets to counts by a table, Barker by two sums, sixteen symbols of 11 Mbit/s or of signed bytes side by side, the
+ * words of 11 Mbit/s by butterflies over such rows, eight octets and more at a time where it helps. What is called for
+ * each symbol stands in this one file, so that compilers dissolve it. No allocation, no intrinsics, nothing written for
+ * one processor. Nothing here is proved. */
 #include "plain_frame.h"
 
 #include <string.h>
@@ -18,12 +18,8 @@ struct recording {
     size_t len;           /* in chips */
 };
 
-/* Counts of a hard chip in full chips, not in 1024ths: all scores of a symbol are then smaller by
- * one factor, and the choice is the same. */
-static const int32_t hard_i[5] = {1, 0, -1, 0, 0};
-static const int32_t hard_q[5] = {0, 1, 0, -1, 0};
-
-/* Both counts in one number, Q in its upper half: sums of them are sums of both. */
+/* Both counts of a hard chip in one number, Q in its upper half: sums of them are sums of both. In full chips, not in
+ * 1024ths: all scores of a symbol are then smaller by one factor, and the choice is the same. */
 static const int32_t hard_both[5] = {1, 1 << 16, -1, -(1 << 16), 0};
 
 /* False for a NaN too. */
@@ -81,12 +77,12 @@ static inline int32_t count(float sample)
     return (int32_t)(sample * 1024.0f + near - near);
 }
 
-/* The counts of `len` (8 or 11) usable chips from `at` on. */
-static inline void take(const struct recording *r, int soft, size_t at, unsigned len, int32_t *i, int32_t *q)
+/* The counts of `len` usable samples from `at` on. */
+static inline void take(const struct recording *r, size_t at, unsigned len, int32_t *i, int32_t *q)
 {
     for (unsigned k = 0; k < len; k++) {
-        i[k] = soft ? count(r->i[at + k]) : hard_i[r->chips[at + k]];
-        q[k] = soft ? count(r->q[at + k]) : hard_q[r->chips[at + k]];
+        i[k] = count(r->i[at + k]);
+        q[k] = count(r->q[at + k]);
     }
 }
 
@@ -145,7 +141,7 @@ static inline void choose_barkers(const struct recording *r, int soft, size_t at
     int32_t i[8 * BARKER], q[8 * BARKER];
 
     if (soft)
-        take(r, 1, at, symbols * BARKER, i, q);
+        take(r, at, symbols * BARKER, i, q);
     for (unsigned k = 0; k < symbols; k++)
         phases[k] = (uint8_t)(soft ? phase_of(barker_sum(i + k * BARKER), barker_sum(q + k * BARKER))
                                    : choose_barker_hard(r->chips + at + k * BARKER));
@@ -199,48 +195,6 @@ static void choose_cck55_soft(const float *restrict is, const float *restrict qs
         }
         words[s] = word_of_16(i, q);
     }
-}
-
-/* For each turn p: y and x turned back by p, for rows of `len`; the row of p stands at p * len. */
-static inline void join(const int32_t *xa, const int32_t *xb, const int32_t *ya, const int32_t *yb, unsigned len,
-                        int32_t *restrict a, int32_t *restrict b)
-{
-    for (unsigned k = 0; k < len; k++) {
-        a[k] = ya[k] + xa[k];
-        b[k] = yb[k] + xb[k];
-        a[len + k] = ya[k] + xb[k];
-        b[len + k] = yb[k] - xa[k];
-        a[2 * len + k] = ya[k] - xa[k];
-        b[2 * len + k] = yb[k] - xb[k];
-        a[3 * len + k] = ya[k] - xb[k];
-        b[3 * len + k] = yb[k] + xa[k];
-    }
-}
-
-/* The words in the order in which the rows of all turns stand: p2 + 4 p3 + 16 p4 counts up. */
-#define TURNS_P2(p3, p4) 4 * (p3) + (p4), 16 + 4 * (p3) + (p4), 32 + 4 * (p3) + (p4), 48 + 4 * (p3) + (p4)
-#define TURNS_P3(p4) TURNS_P2(0, p4), TURNS_P2(1, p4), TURNS_P2(2, p4), TURNS_P2(3, p4)
-
-static const int32_t word_at[64] = {TURNS_P3(0), TURNS_P3(1), TURNS_P3(2), TURNS_P3(3)};
-
-/* All 256 words, 64 in four turns: chips joined in pairs for each p2, those for each p3, those for
- * each p4. Chips 3 and 6 have a half turn of their own. */
-static unsigned choose_cck11(const int32_t *i, const int32_t *q)
-{
-    const int32_t minus[4] = {-i[3], -q[3], -i[6], -q[6]};
-    int32_t a2[4][4], b2[4][4], a3[2][16], b3[2][16], a[64], b[64];
-    int32_t best = INT32_MIN;
-
-    join(i, q, i + 1, q + 1, 1, a2[0], b2[0]);
-    join(i + 2, q + 2, minus, minus + 1, 1, a2[1], b2[1]);
-    join(i + 4, q + 4, i + 5, q + 5, 1, a2[2], b2[2]);
-    join(minus + 2, minus + 3, i + 7, q + 7, 1, a2[3], b2[3]);
-    join(a2[0], b2[0], a2[1], b2[1], 4, a3[0], b3[0]);
-    join(a2[2], b2[2], a2[3], b2[3], 4, a3[1], b3[1]);
-    join(a3[0], b3[0], a3[1], b3[1], 16, a, b);
-    for (unsigned k = 0; k < 64; k++)
-        best = larger(best, key_of(a[k], b[k], word_at[k]));
-    return number_of(best);
 }
 
 /* ---- Choosing symbols from bytes -------------------------------------------------------------
@@ -341,7 +295,7 @@ static void choose_cck55_bytes(const int8_t *bytes, size_t symbols, uint8_t *wor
     }
 }
 
-/* As join, of rows. */
+/* For each turn p, in row p: y, and x turned back by p quarter turns. */
 static inline void join16(const int16_t *xa, const int16_t *xb, const int16_t *ya, const int16_t *yb, row *restrict a,
                           row *restrict b)
 {
@@ -409,6 +363,139 @@ static void choose_cck11_bytes(const int8_t *bytes, size_t symbols, uint8_t *wor
         int16_t key = p1 & 2 ? turn_key(1 - a, 1 - b) : turn_key(1 + a, 1 + b);
         words[s] = (uint8_t)(64 * p1 + 4 * at[s] + 3 - (key & 3));
     }
+}
+
+/* ---- Choosing symbols of 11 Mbit/s -----------------------------------------------------------
+ *
+ * Hard and soft symbols, sixteen side by side, by butterflies: chips are joined in pairs for each p3, those for each
+ * p4, and those for each p2. With p3 and p4 given, a group, the 16 words left are m = 4 p1 + p2, and the key of one is
+ * 16 score + 15 - m. Chips count 16 times, and chip 7, which no stage turns, 4 more: a sum t of all is 16 score + 4,
+ * so the larger key of m and m + 8, whose scores are opposite, is |t| - m + 11. The 11 is added at the end; a group's
+ * key is above 0 without it. */
+
+/* The chips of up to sixteen hard symbols. Chips 3 and 6 have a half turn of their own. */
+static inline void rows_hard(const uint8_t *chips, size_t symbols, row *restrict i, row *restrict q)
+{
+    int8_t x[CCK][LANES];
+
+    side_by_side((const int8_t *)chips, symbols, CCK, x[0]);
+    for (unsigned k = 0; k < CCK; k++) {
+        int16_t by = k == 3 || k == 6 ? -16 : 16, more = k == 7 ? 4 : 0;
+        for (unsigned s = 0; s < LANES; s++) {
+            i[k][s] = (int16_t)(by * ((x[k][s] == 0) - (x[k][s] == 2)) + more);
+            q[k][s] = (int16_t)(by * ((x[k][s] == 1) - (x[k][s] == 3)) + more);
+        }
+    }
+}
+
+/* A group's largest key, less 11, where a word's sums are y and x turned back by p2: x is that of chips 0, 2, 4, 6. */
+static inline int16_t group_key16(int16_t xa, int16_t xb, int16_t ya, int16_t yb)
+{
+    int16_t key = size16((int16_t)(ya + xa));
+
+    key = larger16(key, (int16_t)(size16((int16_t)(ya + xb)) - 1));
+    key = larger16(key, (int16_t)(size16((int16_t)(ya - xa)) - 2));
+    key = larger16(key, (int16_t)(size16((int16_t)(ya - xb)) - 3));
+    key = larger16(key, (int16_t)(size16((int16_t)(yb + xb)) - 4));
+    key = larger16(key, (int16_t)(size16((int16_t)(yb - xa)) - 5));
+    key = larger16(key, (int16_t)(size16((int16_t)(yb - xb)) - 6));
+    return larger16(key, (int16_t)(size16((int16_t)(yb + xa)) - 7));
+}
+
+/* The words of up to sixteen hard symbols. Of groups with equal keys the first stays: 4 p3 + p4 is the smallest. */
+static void choose_cck11_hard(const uint8_t *chips, size_t symbols, uint8_t *words)
+{
+    row i[CCK], q[CCK], a[4][4], b[4][4], xa[16], xb[16], ya[16], yb[16], best = {0}, at = {0};
+
+    rows_hard(chips, symbols, i, q);
+    for (unsigned k = 0; k < 4; k++) {
+        unsigned x = k + (k & 2); /* chips 0, 1, 4, 5 */
+        join16(i[x], q[x], i[x + 2], q[x + 2], a[k], b[k]);
+    }
+    for (unsigned k = 0; k < 4; k++) {
+        join16(a[0][k], b[0][k], a[2][k], b[2][k], xa + 4 * k, xb + 4 * k);
+        join16(a[1][k], b[1][k], a[3][k], b[3][k], ya + 4 * k, yb + 4 * k);
+    }
+    for (int16_t g = 0; g < 16; g++)
+        for (unsigned s = 0; s < LANES; s++) {
+            int16_t key = group_key16(xa[g][s], xb[g][s], ya[g][s], yb[g][s]);
+            at[s] = best[s] < key ? g : at[s];
+            best[s] = larger16(best[s], key);
+        }
+    for (unsigned s = 0; s < LANES; s++)
+        words[s] = (uint8_t)(16 * (15 - ((best[s] + 11) & 15)) + at[s]);
+}
+
+typedef int32_t row32[LANES];
+
+/* As join16. */
+static inline void join32(const int32_t *xa, const int32_t *xb, const int32_t *ya, const int32_t *yb,
+                          row32 *restrict a, row32 *restrict b)
+{
+    for (unsigned s = 0; s < LANES; s++) {
+        a[0][s] = ya[s] + xa[s];
+        b[0][s] = yb[s] + xb[s];
+        a[1][s] = ya[s] + xb[s];
+        b[1][s] = yb[s] - xa[s];
+        a[2][s] = ya[s] - xa[s];
+        b[2][s] = yb[s] - xb[s];
+        a[3][s] = ya[s] - xb[s];
+        b[3][s] = yb[s] + xa[s];
+    }
+}
+
+/* The counts of up to sixteen soft symbols, as rows_hard; zeros stand for symbols that are not there. */
+static inline void rows_soft(const float *samples, size_t symbols, row32 *restrict to)
+{
+    float padded[LANES * CCK];
+
+    if (symbols < LANES) {
+        memcpy(padded, samples, symbols * CCK * sizeof padded[0]);
+        memset(padded + symbols * CCK, 0, (LANES - symbols) * CCK * sizeof padded[0]);
+        samples = padded;
+    }
+    for (unsigned s = 0; s < LANES; s++)
+        for (unsigned k = 0; k < CCK; k++)
+            to[k][s] = (k == 3 || k == 6 ? -16 : 16) * count(samples[CCK * s + k]) + (k == 7 ? 4 : 0);
+}
+
+/* As group_key16. */
+static inline int32_t group_key32(int32_t xa, int32_t xb, int32_t ya, int32_t yb)
+{
+    int32_t key = size_of(ya + xa);
+
+    key = larger(key, size_of(ya + xb) - 1);
+    key = larger(key, size_of(ya - xa) - 2);
+    key = larger(key, size_of(ya - xb) - 3);
+    key = larger(key, size_of(yb + xb) - 4);
+    key = larger(key, size_of(yb - xa) - 5);
+    key = larger(key, size_of(yb - xb) - 6);
+    return larger(key, size_of(yb + xa) - 7);
+}
+
+/* The words of up to sixteen soft symbols, as choose_cck11_hard. */
+static void choose_cck11_soft(const float *is, const float *qs, size_t symbols, uint8_t *words)
+{
+    row32 i[CCK], q[CCK], a[4][4], b[4][4], xa[16], xb[16], ya[16], yb[16], best = {0}, at = {0};
+
+    rows_soft(is, symbols, i);
+    rows_soft(qs, symbols, q);
+    for (unsigned k = 0; k < 4; k++) {
+        unsigned x = k + (k & 2);
+        join32(i[x], q[x], i[x + 2], q[x + 2], a[k], b[k]);
+    }
+    for (unsigned k = 0; k < 4; k++) {
+        join32(a[0][k], b[0][k], a[2][k], b[2][k], xa + 4 * k, xb + 4 * k);
+        join32(a[1][k], b[1][k], a[3][k], b[3][k], ya + 4 * k, yb + 4 * k);
+    }
+    for (int32_t g = 0; g < 16; g++)
+        for (unsigned s = 0; s < LANES; s++) {
+            int32_t key = group_key32(xa[g][s], xb[g][s], ya[g][s], yb[g][s]);
+            at[s] = best[s] < key ? g : at[s];
+            best[s] = larger(best[s], key);
+        }
+    for (unsigned s = 0; s < LANES; s++)
+        words[s] = (uint8_t)(16 * (15 - ((best[s] + 11) & 15)) + at[s]);
 }
 
 /* ---- Reading --------------------------------------------------------------------------------- */
@@ -525,53 +612,65 @@ static inline void read_55(struct reader *r, uint8_t *octets, size_t n)
     }
 }
 
-/* The octet of symbol k of 11 Mbit/s. */
-static inline uint8_t pass_11(struct reader *r, unsigned word, size_t k)
+static void choose_cck11(const struct recording *r, size_t at, size_t symbols, uint8_t *words)
 {
-    unsigned two = bits_of[(grow(r, word / 64, CCK) + 2 * (k & 1)) & 3];
-    unsigned in = two | (unsigned)direct[word >> 4 & 3] << 2
-                  | (unsigned)direct[word >> 2 & 3] << 4 | (unsigned)direct[word & 3] << 6;
-
-    return (uint8_t)unscramble(r, in, 8);
+    if (r->bytes)
+        choose_cck11_bytes(r->bytes + 2 * at, symbols, words);
+    else if (r->i)
+        choose_cck11_soft(r->i + at, r->q + at, symbols, words);
+    else
+        choose_cck11_hard(r->chips + at, symbols, words);
 }
 
-static inline void read_11(struct reader *r, int soft, uint8_t *octets, size_t n)
+/* The bits of a symbol of 11 Mbit/s that has grown: as bits_of and direct have them, without a table, so that compilers
+ * do sixteen at once. Those of p2, p3 and p4 are the word's lowest six, the last first. */
+static inline uint8_t bits_11(unsigned word, unsigned grown)
 {
-    int32_t i[CCK], q[CCK];
-
-    for (size_t k = 0; k < n; k++) {
-        take(r->from, soft, r->at, CCK, i, q);
-        unsigned word = choose_cck11(i, q);
-        octets[k] = pass_11(r, word, k);
-    }
+    return (uint8_t)((grown >> 1 & 1) | ((grown ^ grown >> 1) & 1) << 1 | (word >> 3 & 4) | (word >> 1 & 8)
+                     | (word << 1 & 16) | (word << 3 & 32) | (word << 5 & 64) | (word << 7 & 128));
 }
 
-static void read_11_bytes(struct reader *r, uint8_t *octets, size_t n)
-{
-    uint8_t words[LANES];
+enum { MANY = 4 * LANES }; /* symbols heard at a time */
 
-    for (size_t k = 0; k < n; k++) {
-        if (k % LANES == 0)
-            choose_cck11_bytes(r->from->bytes + 2 * r->at, n - k < LANES ? n - k : LANES, words);
-        octets[k] = pass_11(r, words[k % LANES], k);
+/* The octets of up to 64 symbols of 11 Mbit/s, the first of which is even; words[0] is for the phase before them. Each
+ * word stands beside the one before it, and so do the bits. */
+static void pass_11(struct reader *r, uint8_t *restrict words, size_t symbols, uint8_t *restrict octets)
+{
+    uint8_t last[MANY], in[1 + MANY];
+
+    words[0] = (uint8_t)(64 * r->phase);
+    memcpy(last, words, symbols);
+    in[0] = (uint8_t)(r->history << 1);
+    for (size_t s = 0; s < symbols; s++)
+        in[s + 1] = bits_11(words[s + 1], words[s + 1] / 64u - last[s] / 64u + 2 * (s & 1));
+    for (size_t s = 0; s < symbols; s++)
+        octets[s] = (uint8_t)(in[s + 1] ^ (in[s + 1] << 4 | in[s] >> 4) ^ (in[s + 1] << 7 | in[s] >> 1));
+    r->phase = words[symbols] / 64;
+    r->history = in[symbols] >> 1;
+    r->at += CCK * symbols;
+}
+
+static void read_11(struct reader *r, uint8_t *octets, size_t n)
+{
+    uint8_t words[1 + MANY];
+
+    for (size_t k = 0; k < n; k += MANY) {
+        size_t symbols = n - k < MANY ? n - k : MANY;
+        for (size_t s = 0; s < symbols; s += LANES)
+            choose_cck11(r->from, r->at + CCK * s, symbols - s < LANES ? symbols - s : LANES, words + 1 + s);
+        pass_11(r, words, symbols, octets + k);
     }
 }
 
 /* False at a symbol grown by 1 or 3, as read_barker. */
 static int read_payload(struct reader *r, const struct rate *rate, uint8_t *octets, size_t n)
 {
-    int soft = r->from->i != NULL;
-
     if (rate->symbol == BARKER)
         return read_octets(r, rate->each, octets, n);
     if (rate->code == DSSS_RATE_5_5)
         read_55(r, octets, n);
-    else if (r->from->bytes)
-        read_11_bytes(r, octets, n);
-    else if (soft)
-        read_11(r, 1, octets, n);
     else
-        read_11(r, 0, octets, n);
+        read_11(r, octets, n);
     return 1;
 }
 
@@ -738,20 +837,34 @@ uint64_t plain_decide(uint64_t rate, const float *i, size_t i_len, const float *
 {
     const struct recording from = {NULL, i, q, NULL, i_len < q_len ? i_len : q_len};
     const struct rate *found = rate_of(rate);
-    int32_t i_counts[CCK], q_counts[CCK];
-    uint8_t phase;
+    uint8_t words[LANES];
 
     if (!found || from.len < found->symbol)
         return 0;
-    if (found->symbol == BARKER) {
-        choose_barkers(&from, 1, 0, 1, &phase);
-        return phase;
-    }
-    if (rate == DSSS_RATE_5_5) {
-        choose_cck55_soft(i, q, 1, &phase);
-        return phase;
-    }
-    take(&from, 1, 0, CCK, i_counts, q_counts);
-    return choose_cck11(i_counts, q_counts);
+    if (found->symbol == BARKER)
+        choose_barkers(&from, 1, 0, 1, words);
+    else if (rate == DSSS_RATE_5_5)
+        choose_cck55_soft(i, q, 1, words);
+    else
+        choose_cck11_soft(i, q, 1, words);
+    return words[0];
+}
+
+/* The words of a block. They are seen from outside of this file, so that no compiler leaves one of them out. */
+uint8_t plain_block[64];
+
+uint64_t plain_eleven(uint64_t recorder, const uint8_t *octets, size_t octets_len, const int8_t *bytes,
+                      size_t bytes_len, const float *i, size_t i_len, const float *q, size_t q_len)
+{
+    const struct recording rows[3] = {{octets, NULL, NULL, NULL, octets_len},
+                                      {NULL, i, q, NULL, i_len < q_len ? i_len : q_len},
+                                      {NULL, NULL, NULL, bytes, bytes_len / 2}};
+    const size_t chips = CCK * sizeof plain_block;
+
+    if (recorder > 2 || rows[recorder].len < chips || first_unusable(&rows[recorder], 0, chips) < chips)
+        return 0;
+    for (size_t s = 0; s < sizeof plain_block; s += LANES)
+        choose_cck11(&rows[recorder], CCK * s, LANES, plain_block + s);
+    return plain_block[sizeof plain_block - 1];
 }
 #endif

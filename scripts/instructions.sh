@@ -1,16 +1,18 @@
 #!/bin/sh
-# instructions.sh [-l dsss|plain|both] [-c write|hard|soft|bytes|front|all] [-k long|short] [-r RATE|all] [-n OCTETS]
+# instructions.sh [-l dsss|direct|plain|all] [-c write|hard|soft|bytes|front|choice|all] [-k long|short]
+#                 [-r RATE|all] [-n OCTETS]
 #
-# Instructions a chip of whole calls, of the library and of plain C: one line a call and rate. A read of the front looks
-# at no payload chip: its instructions are counted with few octets and with most, at 1 and 11 Mbit/s, if none are asked
-# for, and should not differ. Each figure is the difference of two runs, without the call and with it. On x86-64
-# valgrind counts (callgrind); elsewhere the emulator of the kit logs each instruction that it runs, about a million a
-# second, and the lines of its log are counted. The archive is target/staticlib/libdsss.a as it stands: `rt staticlib
-# dsss` makes it.
+# Instructions a chip of whole calls: one line a call, rate and library. These are the library, the same by the direct
+# way where that differs, in reads at 11 Mbit/s, and plain C. A read of the front looks at no payload chip: its
+# instructions are counted with few octets and with most, at 1 and 11 Mbit/s, if none are asked for, and should not
+# differ. A choice is that of a block of 64 symbols of 11 Mbit/s alone. Each figure is the difference of two runs,
+# without the call and with it. On x86-64 valgrind counts (callgrind); elsewhere the emulator of the kit logs each
+# instruction that it runs, about a million a second, and the lines of its log are counted. The archives of target/ are
+# taken as they stand, and only those asked for: `make archives` makes all.
 set -eu
 cd "$(dirname "$0")/.."
 
-library=both call=all kind=long rate=all octets=
+library=all call=all kind=long rate=all octets=
 while getopts l:c:k:r:n: option; do
     case $option in
     l) library=$OPTARG ;;
@@ -21,59 +23,95 @@ while getopts l:c:k:r:n: option; do
     *) exit 2 ;;
     esac
 done
-[ "$library" != both ] || library='dsss plain'
-[ "$call" != all ] || call='write hard soft bytes front'
-
-archive=target/staticlib/libdsss.a
-program=target/c/count
+[ "$library" != all ] || library='dsss direct plain'
+[ "$call" != all ] || call='write hard soft bytes front choice'
 mkdir -p target/c
-[ -f $archive ] || {
-    echo 'instructions.sh: no archive: run rt staticlib dsss' >&2
-    exit 2
-}
-if [ ! -f $program ] || [ -n "$(find $archive bench include -newer $program)" ]; then
-    scripts/x86cc $program bench/count.c bench/plain_write.c bench/plain_read.c $archive -- -std=c99 -Iinclude -O3
-fi
 work=$(mktemp -d)
 trap 'rm -rf "$work"' EXIT
 
+build() { # build LIBRARY [choice]: $program counts its calls, or its choice, and is not older than what it is made of
+    program=target/c/count.$1${2:+.choice}
+    case $1$2 in
+    plain*) archive='' of=-DOF_PLAIN ;;
+    direct) archive=target/direct/libdirect.a of=-DOF_DIRECT ;;
+    dsss) archive=target/staticlib/libdsss.a of='' ;;
+    direct*) archive=target/staticlib/libtimed_leaves.a of=-DOF_DIRECT ;;
+    dsss*) archive=target/staticlib/libtimed_leaves.a of='' ;;
+    *)
+        echo "instructions.sh: no library $1" >&2
+        exit 2
+        ;;
+    esac
+    [ -z "$archive" ] || [ -f "$archive" ] || {
+        echo "instructions.sh: no archive $archive: run make archives" >&2
+        exit 2
+    }
+    # shellcheck disable=SC2086 # words that may be missing
+    if [ ! -f $program ] || [ -n "$(find $archive bench include -newer $program)" ]; then
+        scripts/x86cc $program bench/count.c bench/plain_write.c bench/plain_read.c $archive -- \
+            -std=c99 -Iinclude -O3 $of ${2:+-DCHOICE}
+    fi
+}
+
 counted() { # counted WORDS..: the instructions of one run of the program
     if [ "$(uname -m)" = x86_64 ]; then
-        valgrind --tool=callgrind --callgrind-out-file="$work/out" $program "$@" >"$work/chips" 2>"$work/said"
+        valgrind --tool=callgrind --callgrind-out-file="$work/out" "$program" "$@" >"$work/chips" 2>"$work/said"
         sed -n 's/.*Collected : *\([0-9]*\).*/\1/p' "$work/said"
         return
     fi
     [ -p "$work/log" ] || mkfifo "$work/log"
     wc -l <"$work/log" >"$work/lines" &
     QEMU_ONE_INSN_PER_TB=1 QEMU_LOG=exec,nochain QEMU_LOG_FILENAME="$work/log" \
-        scripts/x86run $program "$@" >"$work/chips"
+        scripts/x86run "$program" "$@" >"$work/chips"
     wait $!
     cat "$work/lines"
 }
 
-printf '%-5s  %-5s  %-5s  %4s  %6s  %7s  %12s  %8s\n' of call kind rate octets chips instructions 'a chip'
-line() { # line LIBRARY CALL RATE OCTETS
-    without=$(counted "$1" "$2" "$kind" "$3" "$4" 0)
-    with=$(counted "$1" "$2" "$kind" "$3" "$4" 1)
-    chips=$(cat "$work/chips")
-    each=$(awk "BEGIN { printf \"%.2f\", ($with - $without) / $chips }")
-    printf '%-5s  %-5s  %-5s  %4s  %6s  %7s  %12s  %8s\n' \
-        "$1" "$2" "$kind" "$3" "$4" "$chips" $((with - without)) "$each"
+row() { # row OF CALL KIND RATE OCTETS CHIPS INSTRUCTIONS EACH
+    printf '%-6s  %-12s  %-5s  %4s  %6s  %7s  %12s  %8s\n' "$@"
 }
 
-for c in $call; do
-    if [ "$c" = front ]; then
-        rates='10 110' sizes='10 4095'
-    else
-        rates='10 20 55 110' sizes=1500
-    fi
-    [ "$rate" = all ] || rates=$rate
-    for r in $rates; do
+line() { # line LIBRARY CALL RATE OCTETS [choice]
+    build "$1" "${5:-}"
+    without=$(counted "$2" "$kind" "$3" "$4" 0)
+    with=$(counted "$2" "$kind" "$3" "$4" 1)
+    chips=$(cat "$work/chips")
+    each=$(awk "BEGIN { printf \"%.2f\", ($with - $without) / $chips }")
+    row "$1" "${5:+choice }$2" "$kind" "$3" "$4" "$chips" $((with - without)) "$each"
+}
+
+rates_or() { # rates_or RATES: those asked for, or these
+    if [ "$rate" = all ]; then echo "$1"; else echo "$rate"; fi
+}
+
+differs() { # differs LIBRARY CALL RATE: whether its code there is not that of the library
+    [ "$1" != direct ] || [ "$library" = direct ] || { [ "$2" != write ] && [ "$2" != front ] && [ "$3" = 110 ]; }
+}
+
+lines() { # lines CALL RATES SIZES [choice]: a choice is that of a block, whatever OCTETS says
+    sizes=${octets:-$3}
+    [ -z "${4:-}" ] || sizes=$3
+    for r in $2; do
         [ "$kind $r" != 'short 10' ] || continue
-        for n in ${octets:-$sizes}; do
+        for n in $sizes; do
             for l in $library; do
-                line "$l" "$c" "$r" "$n"
+                if differs "$l" "$1" "$r"; then
+                    line "$l" "$1" "$r" "$n" "${4:-}"
+                fi
             done
         done
     done
+}
+
+row of call kind rate octets chips instructions 'a chip'
+for c in $call; do
+    case $c in
+    choice)
+        for recorder in hard soft bytes; do
+            lines $recorder 110 1500 choice
+        done
+        ;;
+    front) lines front "$(rates_or '10 110')" '10 4095' ;;
+    *) lines "$c" "$(rates_or '10 20 55 110')" 1500 ;;
+    esac
 done
