@@ -4,6 +4,7 @@
 //! next is handed over only when it is written whole, so neither side waits for the other in a circle.
 
 use crate::calls::{Call, Met};
+use crate::decided::{self, Seen};
 use crate::families::{Family, Out};
 use crate::figures::Figures;
 use crate::relations::{Held, Relations};
@@ -47,6 +48,8 @@ pub struct Outcome {
     pub met: BTreeMap<Met, u64>,
     /// How often answers were seen to go together.
     pub held: BTreeMap<Held, u64>,
+    /// How often symbols of 11 Mbit/s were to be decided in each way.
+    pub seen: Seen,
 }
 
 impl Outcome {
@@ -58,6 +61,9 @@ impl Outcome {
         }
         for (key, count) in &other.held {
             *self.held.entry(*key).or_default() += count;
+        }
+        for (key, count) in &other.seen {
+            *self.seen.entry(*key).or_default() += count;
         }
     }
 
@@ -72,11 +78,12 @@ impl Outcome {
 }
 
 /// What is run: the longer or the shorter form of each family, each call sent only after the answer to the one before
-/// it, and one case alone when it is run again.
+/// it, no more than up to the first difference, and one case alone when it is run again.
 #[derive(Clone, Copy)]
 pub struct Run {
     pub long: bool,
     pub singly: bool,
+    pub until_first: bool,
     pub only_case: Option<u64>,
 }
 
@@ -93,7 +100,7 @@ impl Bridge {
 
     /// Runs a family and compares every answer and every buffer. An error is a bridge that doesn't answer.
     pub fn compare(&mut self, family: &Family, figures: &Figures, run: Run) -> io::Result<Outcome> {
-        let Bridge { requests, answers, last_answer, .. } = self;
+        let Bridge { child, requests, answers, last_answer } = self;
         let (sender, batches) = sync_channel::<Vec<(u64, Call)>>(if run.singly { 0 } else { AHEAD });
         let (mut outcome, mut relations) = (Outcome::default(), Relations::default());
         thread::scope(|scope| {
@@ -116,16 +123,15 @@ impl Bridge {
                     let cut = if run.only_case.is_some() { usize::MAX } else { CUT };
                     head(if equal { "equal" } else { "MISMATCH" }, family, case, run);
                     println!("{}\n{}", call.shown(cut), call.compared(&expected, &answer, cut));
-                    if !guarded {
-                        println!("  the octets around the lent rows, or rows lent for reading, were changed");
-                    }
-                    if let Err(fault) = related {
-                        println!("  beside the calls before it: {fault}");
-                    }
+                    say_beside(guarded, related);
+                }
+                if !equal && run.until_first {
+                    end_at_first(child, family);
                 }
                 outcome.calls += 1;
                 outcome.mismatches += u64::from(!equal);
                 *outcome.met.entry(met).or_default() += 1;
+                decided::count(&call, &expected, &mut outcome.seen);
             }
             Ok(outcome)
         })
@@ -145,6 +151,24 @@ impl Bridge {
             thread::sleep(Duration::from_millis(10));
         }
     }
+}
+
+/// Says what else is wrong with an answer.
+fn say_beside(guarded: bool, related: Result<(), &str>) {
+    if !guarded {
+        println!("  the octets around the lent rows, or rows lent for reading, were changed");
+    }
+    if let Err(fault) = related {
+        println!("  beside the calls before it: {fault}");
+    }
+}
+
+/// Ends the bridge and this program at the first difference of a family: nothing else ends the making of its calls.
+fn end_at_first(child: &Mutex<Child>, family: &Family) -> ! {
+    let mut child = child.lock().expect("no panic");
+    let _ = child.kill().and_then(|()| child.wait());
+    println!("FAILED: a call of {} differs, and none was made after it", family.name);
+    std::process::exit(1);
 }
 
 /// Says what a case came to, and the words that run it alone.

@@ -158,6 +158,16 @@ impl Call {
         Ok((Answer { numbers, buffer }, u64::from_le_bytes(number) == 0))
     }
 
+    /// The recording of which a full read is asked.
+    pub fn recording(&self) -> Option<Recording<'_>> {
+        match self {
+            Call::Write { .. } | Call::ReadFront { .. } => None,
+            Call::ReadHard { chips, .. } => Some(Recording::Hard(chips)),
+            Call::ReadSoft { i, q, .. } => Some(Recording::Soft(i, q)),
+            Call::ReadBytes { bytes, .. } => Some(Recording::Bytes(bytes)),
+        }
+    }
+
     /// The answer that the document gives, and what is counted of it; a write's part goes by its payload's length. The
     /// buffer starts with other contents than any call leaves.
     pub fn expected(&self) -> (Answer, Met) {

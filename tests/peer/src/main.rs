@@ -9,7 +9,8 @@
 //! # Running it
 //!
 //! ```text
-//! peer [--long] [--singly] [--brief] [--vectors DIR] [--family NAME,..] [--replay NAME CASE] -- BRIDGE WORDS..
+//! peer [--long] [--singly] [--brief] [--until-first] [--vectors DIR] [--family NAME,..] [--replay NAME CASE]
+//!     -- BRIDGE WORDS..
 //! peer --list
 //! ```
 //!
@@ -17,9 +18,9 @@
 //! given), then makes the calls of each family and compares every answer and every buffer. Before a hard recording is
 //! read, its front is asked what is coming, and the two answers must go together. It ends with status 1 on a
 //! difference, on fewer calls than are owed, on a bridge that dies, and on a missing file of figures. A family or a
-//! replayed case alone owes no number of calls. In brief, only the families' lines are printed. A replay prints the
-//! whole call and both answers. Calls go ahead of the answers; sent singly, a call at which the bridge dies is known
-//! by its case.
+//! replayed case alone owes no number of calls. In brief, only the families' lines are printed. Run until the first
+//! difference, it shows that one and ends there. A replay prints the whole call and both answers. Calls go ahead of the
+//! answers; sent singly, a call at which the bridge dies is known by its case.
 //!
 //! Built with no crates, in the repository's root:
 //!
@@ -42,6 +43,7 @@ mod table_p;
 // The comparison.
 mod bridge;
 mod calls;
+mod decided;
 mod families;
 mod figures;
 mod owed;
@@ -65,7 +67,7 @@ struct Options {
 
 fn options() -> Result<Option<Options>, String> {
     let mut words = std::env::args().skip(1);
-    let run = Run { long: false, singly: false, only_case: None };
+    let run = Run { long: false, singly: false, until_first: false, only_case: None };
     let vectors = "tests/vectors".into();
     let mut options = Options { run, brief: false, vectors, family: None, bridge: Vec::new() };
     while let Some(word) = words.next() {
@@ -74,6 +76,7 @@ fn options() -> Result<Option<Options>, String> {
             "--long" => options.run.long = true,
             "--singly" => options.run.singly = true,
             "--brief" => options.brief = true,
+            "--until-first" => options.run.until_first = true,
             "--vectors" => options.vectors = value()?.into(),
             "--family" => options.family = Some(value()?),
             "--replay" => {

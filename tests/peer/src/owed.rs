@@ -1,10 +1,11 @@
 //! What a whole run owes: so many calls, each number of each op and part at least so often, with the clock bit and
 //! without it, and no other number at all; fronts that tell of each kind and rate, recordings alike in the front that
-//! are refused with each number, and full reads that go together with fronts in each way; and no family that spends a
-//! third of all calls on one number.
+//! are refused with each number, and full reads that go together with fronts in each way; symbols of 11 Mbit/s that are
+//! decided among words of one score, in each way; and no family that spends a third of all calls on one number.
 
 use crate::bridge::Outcome;
 use crate::calls::{Met, Part};
+use crate::decided::Decided::{self, Against, Among, ApartIn, At, Beside, ByPhase, OfEnds};
 use crate::families::pairs;
 use crate::relations::Held;
 
@@ -224,6 +225,56 @@ fn held(total: &Outcome) -> Vec<String> {
     short
 }
 
+/// The full reads, in the order of the numbers below.
+const READS: [&str; 3] = ["read hard", "read soft", "read bytes"];
+
+/// How often symbols of 11 Mbit/s must be decided in each way, by each full read.
+const DECIDED: [(Decided, &str, [u64; 3]); 21] = [
+    (Among(2), "of 2", [2_400, 6_100, 6_600]),
+    (Among(3), "of 3", [460, 410, 590]),
+    (Among(4), "of 4", [5_600, 4_700, 5_000]),
+    (Among(256), "of 256", [2_300, 1_900, 2_300]),
+    (ByPhase(1), "by p1", [4_900, 2_200, 2_900]),
+    (ByPhase(2), "by p2", [1_300, 3_000, 3_100]),
+    (ByPhase(3), "by p3", [850, 2_500, 2_600]),
+    (ByPhase(4), "by p4", [720, 2_300, 2_400]),
+    (ApartIn(1), "p1 apart", [2_800, 3_300, 3_700]),
+    (ApartIn(2), "p2 apart", [7_400, 8_100, 8_300]),
+    (ApartIn(3), "p3 apart", [6_200, 7_300, 7_800]),
+    (ApartIn(4), "p4 apart", [5_600, 6_900, 7_400]),
+    (Against(1, 2), "p1 against p2", [4_300, 2_900, 3_100]),
+    (Against(1, 3), "p1 against p3", [6_100, 3_700, 4_100]),
+    (Against(1, 4), "p1 against p4", [7_200, 3_800, 4_100]),
+    (Against(2, 3), "p2 against p3", [2_600, 1_600, 1_700]),
+    (Against(2, 4), "p2 against p4", [3_100, 1_500, 1_600]),
+    (Against(3, 4), "p3 against p4", [1_600, 780, 800]),
+    (OfEnds, "of largest values", [17_000, 3_700, 2_600]),
+    (Beside { smaller: false }, "a step before", [2_600, 750, 710]),
+    (Beside { smaller: true }, "a step behind", [2_500, 690, 980]),
+];
+
+/// How often words must tie at each place among 64 symbols, by each full read.
+const AT_EACH: u64 = 79;
+
+/// Shows how often symbols of 11 Mbit/s were decided in each way; what is short of it.
+fn decided(total: &Outcome) -> Vec<String> {
+    let mut short = Vec::new();
+    for (at, op) in READS.into_iter().enumerate() {
+        let count = |what: Decided| total.seen.get(&(op, what)).copied().unwrap_or(0);
+        let rarest = (0..64).map(|place| count(At(place))).min().unwrap_or(0);
+        let words = DECIDED.map(|(what, shown, _)| format!("{shown}: {}", count(what)));
+        println!("{op:<10}  words that tie         {}, at each of 64 places: {rarest}", words.join(", "));
+        let rare = DECIDED.into_iter().filter(|(what, _, least)| count(*what) < least[at]);
+        short.extend(rare.map(|(what, shown, least)| {
+            format!("{op}, words tied, {shown}: {} times, {} owed", count(what), least[at])
+        }));
+        if rarest < AT_EACH {
+            short.push(format!("{op}, words tied {rarest} times at a place among 64, {AT_EACH} owed"));
+        }
+    }
+    short
+}
+
 /// Shows how often each number came, and whether what is owed was met. `largest` is the family that answered one number
 /// most often, with how often.
 pub fn met(total: &Outcome, largest: (u64, &str)) -> Result<(), String> {
@@ -252,6 +303,7 @@ pub fn met(total: &Outcome, largest: (u64, &str)) -> Result<(), String> {
         }
     }
     short.extend(held(total));
+    short.extend(decided(total));
     if total.calls < CALLS {
         short.push(format!("{} calls made, {CALLS} owed", total.calls));
     }

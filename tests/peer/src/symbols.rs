@@ -69,17 +69,29 @@ pub static ALLOWED_5_5: [Numbered<8>; 16] = {
     words
 };
 
-/// Deciding a symbol: each allowed word scores the sum over its chips of I, Q, -I or -Q counts, as the word's chip is
-/// 0, 1, 2 or 3. The largest score wins; among equals, the smallest number.
-pub fn choose<const N: usize>(allowed: &[Numbered<N>], chips: &[Counts; N]) -> u8 {
+/// What each allowed word scores: the sum over its chips of I, Q, -I or -Q counts, as the word's chip is 0, 1, 2 or 3.
+pub fn scores<'a, const N: usize>(
+    allowed: &'a [Numbered<N>],
+    chips: &[Counts; N],
+) -> impl Iterator<Item = (u8, i32)> + 'a {
     let parts = chips.map(|(i, q)| [i, q, -i, -q]);
-    let score = |word: &[Phase; N]| -> i32 { (0..N).map(|k| parts[k][usize::from(word[k])]).sum() };
-    let mut winner = (allowed[0].0, score(&allowed[0].1));
-    for (number, word) in &allowed[1..] {
-        let reached = score(word);
+    let score = move |word: &[Phase; N]| -> i32 { (0..N).map(|k| parts[k][usize::from(word[k])]).sum() };
+    allowed.iter().map(move |(number, word)| (*number, score(word)))
+}
+
+/// Deciding a symbol: the largest score wins; among equals, the smallest number.
+pub fn choose<const N: usize>(allowed: &[Numbered<N>], chips: &[Counts; N]) -> u8 {
+    let mut winner = (0, i32::MIN);
+    for (number, reached) in scores(allowed, chips) {
         if reached > winner.1 {
-            winner = (*number, reached);
+            winner = (number, reached);
         }
     }
     winner.0
+}
+
+/// All words that share the largest score, in the order of their numbers: the first of them is the one that wins.
+pub fn tied<const N: usize>(allowed: &[Numbered<N>], chips: &[Counts; N]) -> Vec<u8> {
+    let most = scores(allowed, chips).map(|(_, reached)| reached).max();
+    scores(allowed, chips).filter(|(_, reached)| Some(*reached) == most).map(|(number, _)| number).collect()
 }

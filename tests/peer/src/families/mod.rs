@@ -14,6 +14,9 @@
 //! - A payload chip looked at to tell what is coming: `payloads_not_looked_at`, rows ending where memory ends.
 //! - What is coming told of a frame that isn't whole: `coming_every_n`, `cut_recordings`.
 //! - A front refused otherwise where much stands behind it: `long_refused`.
+//! - Words of one score chosen otherwise than by the smallest number: `ties_eleven`, `ties_eleven_largest`.
+//! - A symbol's word taken from the one beside it, or left from sixteen before: `ties_eleven`.
+//! - Words of two scores taken for a tie, a count or a byte lost on the way: `ties_eleven_broken`.
 
 mod bytes;
 mod coming;
@@ -24,6 +27,7 @@ mod published;
 mod refused;
 mod restored;
 mod soft;
+mod ties;
 mod written;
 
 use crate::bits::Rate;
@@ -101,6 +105,9 @@ families! {
     1002 coming::payloads_not_looked_at: "recordings alike in the front, with any octets as the payload's chips",
     1003 coming::coming_every_n: "what is coming up to 4,095 octets, whole, cut and with chips behind",
     1004 coming::coming_any_octets: "what is coming in octets at random and in frames cut anywhere, by any kind",
+    1101 ties::ties_eleven: "words that tie at 11 Mbit/s, by each recorder, payloads of each length to 70 and longer",
+    1102 ties::ties_eleven_largest: "words that tie at 11 Mbit/s in values of 8 and -8, 127 and -128",
+    1103 ties::ties_eleven_broken: "words that tie at 11 Mbit/s, and the same a step beside the tie, either way",
 }
 
 /// Where a family puts its calls.
