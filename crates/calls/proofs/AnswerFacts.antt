@@ -54,18 +54,19 @@ pub lengths : map (λ (e : Refusal). answer e .length) every
     ≡ 0 ∷ 0 ∷ 0 ∷ 0 ∷ 0 ∷ 0 ∷ 0 ∷ 0 ∷ 65535 ∷ 65535 ∷ 0 ∷ 0 ∷ 65535 ∷ 65535 ∷ 65535 ∷ 65535 ∷ 65535 ∷ []
 lengths = refl
 
--- a refusal shows no rate, no octets, no chips used and no clock bit
+-- a refusal shows no rate, no octets, no chips used, no clock bit, no lead and no symbol
 pub no-more : map
-    (λ (e : Refusal). answer e .rate ∷ answer e .n ∷ answer e .used ∷ answer e .clock ∷ []) every
-    ≡ replicate 17 (0 ∷ 0 ∷ 0 ∷ 0 ∷ [])
+    (λ (e : Refusal).
+    answer e .rate ∷ answer e .n ∷ answer e .used ∷ answer e .clock ∷ answer e .lead ∷ answer e .symbol ∷ []) every
+    ≡ replicate 17 (0 ∷ 0 ∷ 0 ∷ 0 ∷ 0 ∷ 0 ∷ [])
 no-more = refl
 
--- a good read shows what its header tells, and the chips used; the clock bit as 0 or 1
+-- a good read shows what its header tells, the chips used, the smallest lead and its symbol; the clock bit as 0 or 1
 abbrev answered : Bool → List ℕ
 answered clock =
-    let a = recordOf (reading.Good (told Five 6 4 clock) 2176) in
-    a .number ∷ a .place ∷ a .rate ∷ a .length ∷ a .n ∷ a .used ∷ a .clock ∷ []
+    let a = recordOf (reading.Good (told Five 6 4 clock) 2176 (record { lead = 5120; symbol = 193 })) in
+    a .number ∷ a .place ∷ a .rate ∷ a .length ∷ a .n ∷ a .used ∷ a .clock ∷ a .lead ∷ a .symbol ∷ []
 
 pub goods : answered false ∷ answered true ∷ []
-    ≡ (0 ∷ 0 ∷ 55 ∷ 6 ∷ 4 ∷ 2176 ∷ 0 ∷ []) ∷ (0 ∷ 0 ∷ 55 ∷ 6 ∷ 4 ∷ 2176 ∷ 1 ∷ []) ∷ []
+    ≡ (0 ∷ 0 ∷ 55 ∷ 6 ∷ 4 ∷ 2176 ∷ 0 ∷ 5120 ∷ 193 ∷ []) ∷ (0 ∷ 0 ∷ 55 ∷ 6 ∷ 4 ∷ 2176 ∷ 1 ∷ 5120 ∷ 193 ∷ []) ∷ []
 goods = refl

@@ -95,7 +95,7 @@ abbrev pub writtenOf : Writing → Written
 writtenOf (writing.Refused e) = record { number = refusalNumber e; chips = 0 }
 writtenOf (writing.Good k r c) = record { number = 0; chips = c }
 
--- a good read answers number 0, the rate code, LENGTH, n, chips used and the clock bit;
+-- a good read answers number 0, the rate code, LENGTH, n, chips used, the clock bit, the smallest lead and its symbol;
 -- a refusal its number, place and LENGTH, all else 0
 abbrev pub recordOf : Reading → Record
 recordOf (reading.Refused e) =
@@ -107,8 +107,10 @@ recordOf (reading.Refused e) =
       n = 0;
       used = 0;
       clock = 0;
+      lead = 0;
+      symbol = 0;
     }
-recordOf (reading.Good t used) =
+recordOf (reading.Good t used least) =
     record {
       number = 0;
       place = 0;
@@ -117,4 +119,6 @@ recordOf (reading.Good t used) =
       n = t .n;
       used = used;
       clock = clockBit (t .clock);
+      lead = least .lead;
+      symbol = least .symbol;
     }

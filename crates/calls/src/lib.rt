@@ -48,10 +48,20 @@ pub enum Front {
     Fields(Told),
 }
 
-// What a reading comes to: what its header tells, and the chips of the whole frame.
+// The smallest lead of symbols, in counts, and the number of the first symbol that has it.
+pub struct Least {
+    pub lead: usize,
+    pub symbol: usize,
+}
+
+// What a reading comes to: what its header tells, the chips of the whole frame, and the smallest lead in it.
 pub enum Reading {
     Refused(Refusal),
-    Good { told: Told, used: usize },
+    Good {
+        told: Told,
+        used: usize,
+        least: Least,
+    },
 }
 
 // The writer's answer.
@@ -71,4 +81,6 @@ pub struct Record {
     pub n: u64,
     pub used: u64,
     pub clock: u64,
+    pub lead: u64,
+    pub symbol: u64,
 }

@@ -10,17 +10,13 @@ use native.Mathlib.Nat.{not-suc-le-zero}
 use native.Mathlib.Decide.{decLt}
 use native.Mathlib.Numerals.{add-one}
 use native.Mathlib.Omega.{arith}
-use lib.Dec.{T, lit<}
-use lib.ListN.{length, getD, length-append}
-use lib.IntN.{ℤ, pos}
+use lib.Dec.{T}
+use lib.ListN.{length, length-append}
+use lib.IntN.{ℤ}
 use lib.Signed.{ltZ, _≤ℤ_, _<ℤ_, ltZ-yes, ltZ-no, clashℤ, ≤ℤ-refl}
-use mir.Syntax.{w32}
-use mir.Val.{toZ}
-use Rattle.base.specs.Tables.{tabulate}
-use Rattle.base.proofs.Tables.{length-tabulate, getD-tabulate}
 use Rattle.base.proofs.Whole.{le-of, lt-of, of-le, of-lt}
 use Rattle.symbols.specs.Choice.{those, going, firstLargest}
-use Rattle.choosing.specs.Scores.{upTo, placeOfLargest, BestOf}
+use Rattle.choosing.specs.Scores.{upTo, BestOf}
 
 pub best-unique : {ok : ℕ → Bool} {n : ℕ} {f : ℕ → ℤ} {r s : ℕ} → BestOf ok n f r → BestOf ok n f s → r ≡ s
 best-unique {ok} {n} {f} {r} {s} p q = by (decLt r s) (decLt s r)
@@ -141,28 +137,6 @@ length-up (suc n) = length-append (upTo n) (n ∷ []) ∙ ap (λ (k : ℕ). k + 
 pub up-best : (f : ℕ → ℤ) (n : ℕ) → 0 < n → BestOf (λ j. true) n f (firstLargest f (upTo n))
 up-best f n h = first-best (λ j. true) f n (subst (λ (k : ℕ). 0 < k) (sym (length-up n)) h)
 
--- what f is elsewhere does not matter
-pub first-ext : (f g : ℕ → ℤ) (n : ℕ) → 0 < n → ((j : ℕ) → j < n → f j ≡ g j)
-    → firstLargest f (upTo n) ≡ firstLargest g (upTo n)
-first-ext f g n h e = best-unique over (up-best g n h)
-  where
-    b : BestOf (λ j. true) n f (firstLargest f (upTo n))
-    b = up-best f n h
-
-    over : BestOf (λ j. true) n g (firstLargest f (upTo n))
-    over = record {
-      among = b .among;
-      allowed = tt;
-      top = λ m k a. rw (sym (e m k), sym (e _ (b .among))) (b .top m k a);
-      first = λ m k a. rw (sym (e m (omega (arith, b .among))), sym (e _ (b .among))) (b .first m k a);
-    }
-
-pub place-table : (f : ℕ → ℤ) (n : ℕ) (s : List ℤ) → 0 < n → s ≡ tabulate f n
-    → placeOfLargest s ≡ firstLargest f (upTo n)
-unfolding placeOfLargest
-place-table f n s h e = rw (e, length-tabulate) (first-ext (λ j. getD (tabulate f n) j (pos 0)) f n h
-    (λ j k. getD-tabulate f n j (pos 0) k))
-
 -- ---- a list of numbers that are made of others
 going-map : (f : ℕ → ℤ) (g : ℕ → ℕ) (best : ℕ) (ns : List ℕ)
     → going f (g best) (map g ns) ≡ g (going (λ k. f (g k)) best ns)
@@ -181,52 +155,3 @@ pub first-map : (f : ℕ → ℤ) (g : ℕ → ℕ) (ns : List ℕ) → 0 < leng
 unfolding firstLargest
 first-map f g [] h = absurd (not-suc-le-zero h)
 first-map f g (n ∷ ns) h = going-map f g n ns
-
--- ---- the loop that keeps the largest so far
-pub record Topped (f : ℕ → ℤ) (top k : ℕ) : Type 0 where
-  pub some : 0 < k
-  pub at : toZ w32 top ≡ f (firstLargest f (upTo k))
-
-pub topped-one : (f : ℕ → ℤ) (top : ℕ) → toZ w32 top ≡ f 0 → Topped f top 1
-unfolding those firstLargest going
-topped-one f top e = record { some = lit< tt; at = e }
-
-module _ {f : ℕ → ℤ} {top k : ℕ} (x : ℕ) (g : Topped f top k) (e : toZ w32 x ≡ f k) where
-  next : (t : Bool) → ltZ (toZ w32 top) (toZ w32 x) ≡ t
-      → firstLargest f (upTo (suc k)) ≡ cond t k (firstLargest f (upTo k))
-  unfolding those
-  next t h =
-      first-snoc f (upTo k) k (subst (λ (n : ℕ). 0 < n) (sym (length-up k)) (g .some))
-      ∙ (λ i. cond (ltZ (sym (g .at) i) (sym e i)) k (firstLargest f (upTo k)))
-      ∙ ap (λ (b : Bool). cond b k (firstLargest f (upTo k))) h
-
-  pub topped-up : ltZ (toZ w32 top) (toZ w32 x) ≡ true → Topped f x (k + 1)
-  topped-up h = record { some = omega arith; at = rw (add-one k) (e ∙ ap f (sym (next true h))) }
-
-  pub topped-on : ltZ (toZ w32 top) (toZ w32 x) ≡ false → Topped f top (k + 1)
-  topped-on h = record { some = omega arith; at = rw (add-one k) (g .at ∙ ap f (sym (next false h))) }
-
--- ---- the loop that looks for it
-module _ (s : List ℤ) (h : 0 < length s) where
-  pub place-best : BestOf (λ j. true) (length s) (λ j. getD s j (pos 0)) (placeOfLargest s)
-  unfolding placeOfLargest
-  place-best = up-best (λ j. getD s j (pos 0)) (length s) h
-
-  -- one that is smaller stands before the place, and one before the place is smaller
-  pub place-after : (k : ℕ) → k ≤ placeOfLargest s → getD s k (pos 0) <ℤ getD s (placeOfLargest s) (pos 0)
-      → k + 1 ≤ placeOfLargest s
-  place-after k le lt = by (decLt k (placeOfLargest s))
-    where
-      by : Dec (k < placeOfLargest s) → k + 1 ≤ placeOfLargest s
-      by (yes p) = omega arith
-      by (no q) =
-          let e : k ≡ placeOfLargest s = omega arith in
-          clashℤ lt (subst (λ (j : ℕ). getD s (placeOfLargest s) (pos 0) ≤ℤ getD s j (pos 0)) (sym e) (≤ℤ-refl _))
-
-  pub place-here : (k : ℕ) → k ≤ placeOfLargest s → getD s (placeOfLargest s) (pos 0) ≤ℤ getD s k (pos 0)
-      → k ≡ placeOfLargest s
-  place-here k le ge = by (decLt k (placeOfLargest s))
-    where
-      by : Dec (k < placeOfLargest s) → k ≡ placeOfLargest s
-      by (yes p) = clashℤ (place-best .first k p tt) ge
-      by (no q) = omega arith

@@ -1,5 +1,6 @@
 -- Demand 3. Where each count of a symbol is at most so many steps from the exact value, a score is at most as many for
--- each chip from the exact score, and two scores are off by at most twice that together. Assumes nothing.
+-- each chip from the exact score, and two scores are off by at most twice that together: the lead of a word that is
+-- above that is a lead in the exact scores. Assumes nothing.
 use mathlib.Core.Path.{_≡_, sym, ap, _∙_, subst}
 use mathlib.Core.List.{List, [], _∷_}
 use Prim.Native.Nat.{ℕ, zero, suc, _+_, _*_, _^_, _<_}
@@ -13,11 +14,13 @@ use Rattle.rates.specs.Rates.{symbolChips}
 use Rattle.chips.specs.declared.Counts.{Counts}
 use Rattle.chips.specs.Chips.{nothing}
 use Rattle.symbols.specs.Words.{wordOf}
-use Rattle.symbols.specs.Choice.{numbers, isAllowed, decided}
+use Rattle.symbols.specs.Choice.{numbers, isAllowed, decided, leadOf}
 use Rattle.symbols.proofs.Words.{word-length}
-use Rattle.choosing.specs.Demand3.{exactAt, Apart, Demand3}
+use Rattle.choosing.specs.Demand3.{exactAt, Apart, Demand3, LeadSays}
 use Rattle.choosing.specs.Scores.{scoreAt, DecidedAs}
+use Rattle.rates.specs.declared.Rate.{Rate}
 use Rattle.choosing.proofs.Decided.{decided-best}
+use Rattle.choosing.proofs.Leads.{lead-behind}
 use Rattle.choosing.proofs.Near.{
   Off,
   off-within,
@@ -27,6 +30,7 @@ use Rattle.choosing.proofs.Near.{
   more,
   off-score,
   none-above,
+  behind-exact,
   leader-chosen,
 }
 
@@ -51,6 +55,23 @@ off-all (suc m) (c ∷ counts) (x ∷ exact) d e a =
 twice : (h n : ℕ) → h * n + h * n ≡ n * (2 * h)
 twice h n = (λ i. mul-comm h n i + mul-comm h n i) ∙ sym (mul-add n h h) ∙ ap (λ (x : ℕ). n * x) (omega arith)
 
+-- each word's score
+off-each : (half : ℕ) (r : Rate) (counts exact : List Counts) → length counts ≡ symbolChips r
+    → length exact ≡ symbolChips r
+    → ((j : ℕ) → j < symbolChips r → Apart half (getD counts j nothing) (getD exact j nothing))
+    → (n : ℕ) → Off count (half * symbolChips r) (scoreAt r counts n) (exactAt r exact n)
+off-each half r counts exact d e a n =
+    subst (λ (l : ℕ). Off count (half * l) (scoreAt r counts n) (exactAt r exact n)) (word-length r n)
+    (off-score count (wordOf r n) (off-all (symbolChips r) counts exact d e a))
+
+pub lead-says : LeadSays
+lead-says half r counts exact d e a above n h t ne =
+    behind-exact count (half * symbolChips r) (leadOf r counts)
+    (scoreAt r counts n) (scoreAt r counts (decided r counts)) (exactAt r exact n) (exactAt r exact (decided r counts))
+    (off-each half r counts exact d e a n) (off-each half r counts exact d e a (decided r counts))
+    (lead-behind r counts n h t ne)
+    (subst (λ (x : ℕ). x < leadOf r counts * count) (sym (twice half (symbolChips r))) above)
+
 pub demand-3 : Demand3
 demand-3 half r counts exact d e a = record {
   among = best .among;
@@ -66,13 +87,9 @@ demand-3 half r counts exact d e a = record {
     best : DecidedAs r counts (decided r counts)
     best = decided-best r counts
 
-    off : (n : ℕ) → Off count (half * symbolChips r) (scoreAt r counts n) (exactAt r exact n)
-    off n =
-        subst (λ (l : ℕ). Off count (half * l) (scoreAt r counts n) (exactAt r exact n)) (word-length r n)
-        (off-score count (wordOf r n) (off-all (symbolChips r) counts exact d e a))
-
     above : (n : ℕ) → n < numbers r → T (isAllowed r n)
         → exactAt r exact n ≤ℤ (exactAt r exact (decided r counts) +ℤ pos error)
     above n h t =
         subst (λ (x : ℕ). exactAt r exact n ≤ℤ (exactAt r exact (decided r counts) +ℤ pos x))
-        (twice half (symbolChips r)) (none-above count (half * symbolChips r) best off n h t)
+        (twice half (symbolChips r))
+        (none-above count (half * symbolChips r) best (off-each half r counts exact d e a) n h t)

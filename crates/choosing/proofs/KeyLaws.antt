@@ -1,19 +1,19 @@
 -- Keys, once for every number of words. Of h + h words, n and n + h opposite, the better of each two has a key, and
--- the largest key is that of the best word.
+-- the largest key is that of the best word, the second largest that of the word next to it: both give the lead.
 -- Assumes nothing.
 use mathlib.Core.Path.{_≡_, refl, sym, ap, _∙_, subst}
 use mathlib.Core.Bool.{true}
 use mathlib.Core.Logic.{_⊎_, inl, inr, ⊎-elim}
-use Prim.Native.Nat.{ℕ, zero, suc, _+_, _*_, _-_, _%_, _≤_, _<_}
-use native.Mathlib.Nat.{mul-le-mul-left, mul-suc, mul-add-mod-self-left, mod-eq-of-lt}
+use Prim.Native.Nat.{ℕ, zero, suc, _+_, _*_, _-_, _/_, _%_, _≤_, _<_}
+use native.Mathlib.Nat.{mul-le-mul-left, mul-suc, mul-add-mod-self-left, mod-eq-of-lt, mul-add-div, div-eq-of-lt}
 use native.Mathlib.Decide.{decLt}
 use native.Mathlib.Omega.{arith}
 use lib.IntN.{ℤ, pos, negsuc, negℤ}
 use lib.Signed.{_≤ℤ_, _<ℤ_, ≤ℤ-refl}
 use Rattle.base.proofs.Whole.{le-of, lt-of, of-le, of-lt, up-pos, dn-pos}
 use Rattle.symbols.specs.Choice.{firstLargest}
-use Rattle.choosing.specs.Scores.{upTo, BestOf}
-use Rattle.choosing.specs.Keys.{keyOf, Largest}
+use Rattle.choosing.specs.Scores.{upTo, BestOf, NextTo}
+use Rattle.choosing.specs.Keys.{keyOf, Largest, TwoLargest}
 use Rattle.choosing.proofs.Best.{best-unique, up-best}
 
 module _ (h : ℕ) (f : ℕ → ℤ) where
@@ -103,10 +103,14 @@ module _ (h : ℕ) (f : ℕ → ℤ) (k : ℕ → ℕ) (b : (j : ℕ) → j < h 
   top : (j : ℕ) → j < h → k j ≤ k (t .p)
   top j l = omega (arith, t .top j (omega arith) l, t .is)
 
+  -- of two keys, one not above the other
+  size-le : (i j : ℕ) (li : i < h) (lj : j < h) → k i ≤ k j → b i li .size ≤ b j lj .size
+  size-le i j li lj le =
+      sizes (h + h) (b i li .size) (b j lj .size) (h + h - 1 - b i li .number) (h + h - 1 - b j lj .number)
+      (omega arith) (omega arith) (omega (arith, b i li .is, b j lj .is))
+
   size-top : (j : ℕ) (l : j < h) → b j l .size ≤ bp .size
-  size-top j l =
-      sizes (h + h) (b j l .size) (bp .size) (h + h - 1 - b j l .number) (h + h - 1 - bp .number) (omega arith)
-      (omega arith) (omega (arith, b j l .is, bp .is, top j l))
+  size-top j l = size-le j (t .p) l (t .to) (top j l)
 
   ties : (j : ℕ) (l : j < h) → b j l .size ≡ bp .size → bp .number ≤ b j l .number
   ties j l e =
@@ -153,12 +157,89 @@ module _ (h : ℕ) (f : ℕ → ℤ) (k : ℕ → ℕ) (b : (j : ℕ) → j < h 
               let e : bj .size ≡ bp .size = omega (arith, size-top (o .n) (o .low)) in
               under m (bp .size) (bj .less m (o .side) (omega (arith, ties (o .n) (o .low) e)))
 
-  -- the number of the word is read off the largest key
+  -- the number of the word and its score are read off a key
+  module _ {n y : ℕ} (l : n < h) (e : y ≡ k n) where
+    few : h + h - 1 - b n l .number < h + h
+    few = let m = number-below h f l (b n l) in omega arith
+
+    number-is : b n l .number ≡ h + h - 1 - y % (h + h)
+    number-is =
+        let m = number-below h f l (b n l) in
+        let rest : y % (h + h) ≡ h + h - 1 - b n l .number =
+        ap (λ (z : ℕ). z % (h + h)) (e ∙ b n l .is)
+        ∙ mul-add-mod-self-left (h + h) (b n l .size) (h + h - 1 - b n l .number)
+        ∙ mod-eq-of-lt few in
+        omega arith
+
+    size-is : b n l .size ≡ y / (h + h)
+    size-is =
+        sym (ap (λ (z : ℕ). z / (h + h)) (e ∙ b n l .is)
+        ∙ mul-add-div (omega arith) (b n l .size) (h + h - 1 - b n l .number)
+        ∙ ap (λ (z : ℕ). b n l .size + z) (div-eq-of-lt few) ∙ omega arith)
+
   pub number-by : firstLargest f (upTo (h + h)) ≡ h + h - 1 - x % (h + h)
   number-by =
-      let few = number-below h f (t .to) bp in
-      let rest : x % (h + h) ≡ h + h - 1 - bp .number =
-      ap (λ (y : ℕ). y % (h + h)) (t .is ∙ bp .is)
-      ∙ mul-add-mod-self-left (h + h) (bp .size) (h + h - 1 - bp .number)
-      ∙ mod-eq-of-lt (omega arith) in
-      best-unique (up-best f (h + h) (omega arith)) keys-best ∙ omega arith
+      best-unique (up-best f (h + h) (omega (arith, t .to))) keys-best ∙ number-is (t .to) (t .is)
+
+-- the words of the two largest keys: the best, the one next to it, and their scores
+pub record Ranked (h : ℕ) (f : ℕ → ℤ) (x y : ℕ) : Type 0 where
+  pub second : ℕ
+  pub best : BestOf (λ j. true) (h + h) f (h + h - 1 - x % (h + h))
+  pub next : NextTo (λ j. true) (h + h) f (h + h - 1 - x % (h + h)) second
+  pub score : f (h + h - 1 - x % (h + h)) ≡ pos (x / (h + h))
+  pub score-next : f second ≡ pos (y / (h + h))
+
+module _ (h : ℕ) (f : ℕ → ℤ) (k : ℕ → ℕ) (b : (j : ℕ) → j < h → Better h f j (k j)) {x y : ℕ}
+    (t : TwoLargest k 0 h x y) where
+  abbrev p : ℕ
+  p = t .largest .p
+
+  abbrev first : Better h f p (k p)
+  first = b p (t .largest .to)
+
+  abbrev second : Better h f (t .q) (k (t .q))
+  second = b (t .q) (t .to)
+
+  keys-next : NextTo (λ j. true) (h + h) f (first .number) (second .number)
+  keys-next = record {
+    among = number-below h f (t .to) second;
+    allowed = tt;
+    other = λ e. apart e (first .one-of) (second .one-of);
+    top = λ m l a d. rw (second .score) (rest m d (pair-of h f m l));
+  }
+    where
+      apart : second .number ≡ first .number → (first .number ≡ p) ⊎ (first .number ≡ p + h)
+          → (second .number ≡ t .q) ⊎ (second .number ≡ t .q + h) → ⊥
+      apart e (inl u) (inl v) = t .other (omega arith)
+      apart e (inl u) (inr v) = omega (arith, t .largest .to)
+      apart e (inr u) (inl v) = omega (arith, t .to)
+      apart e (inr u) (inr v) = t .other (omega arith)
+
+      rest : (m : ℕ) → (m ≡ first .number → ⊥) → PairOf h f m → f m ≤ℤ pos (second .size)
+      rest m d o = by (decLt (o .n) p) (decLt p (o .n))
+        where
+          others : (o .n ≡ p → ⊥) → f m ≤ℤ pos (second .size)
+          others ne = upto h f k b (t .largest) m (b (o .n) (o .low) .size) (second .size)
+              (at-most h f (o .low) (b (o .n) (o .low)) m (o .side))
+              (size-le h f k b (t .largest) (o .n) (t .q) (o .low) (t .to)
+              (omega (arith, t .next (o .n) (omega arith) (o .low) ne, t .is)))
+
+          by : Dec (o .n < p) → Dec (p < o .n) → f m ≤ℤ pos (second .size)
+          by (yes u) v = others (λ e. omega arith)
+          by (no u) (yes v) = others (λ e. omega arith)
+          by (no u) (no v) =
+              let e : o .n ≡ p = omega arith in
+              upto h f k b (t .largest) m 0 (second .size)
+              (first .worse m (subst (λ (n : ℕ). (m ≡ n) ⊎ (m ≡ n + h)) e (o .side)) d) (omega arith)
+
+  pub ranked : Ranked h f x y
+  ranked =
+      let e = number-is h f k b (t .largest) (t .largest .to) (t .largest .is) in
+      record {
+        second = second .number;
+        best = subst (BestOf (λ j. true) (h + h) f) e (keys-best h f k b (t .largest));
+        next = subst (λ (n : ℕ). NextTo (λ j. true) (h + h) f n (second .number)) e keys-next;
+        score = ap f (sym e) ∙ first .score
+            ∙ ap pos (size-is h f k b (t .largest) (t .largest .to) (t .largest .is));
+        score-next = second .score ∙ ap pos (size-is h f k b (t .largest) (t .to) (t .is));
+      }

@@ -2,7 +2,11 @@ pub mod Small
 pub mod Best
 pub mod Sixteen
 pub mod Decided
+pub mod Leads
+pub mod Chosen
 pub mod Clean
+pub mod Differences
+pub mod CleanLeads
 pub mod Near
 pub mod KeyLaws
 pub mod Demand3

@@ -14,7 +14,7 @@ use lib.ListN.{length}
 use lib.IntN.{ℤ, pos, negsuc, negℤ, _+ℤ_, _-ℤ_, _*ℤ_}
 use lib.Signed.{_≤ℤ_, _<ℤ_}
 use Rattle.base.specs.Whole.{up, dn, Within}
-use Rattle.base.proofs.Whole.{add, neg-up, neg-dn, up-pos, dn-pos, le-of, of-le, of-lt}
+use Rattle.base.proofs.Whole.{add, neg-up, neg-dn, up-pos, dn-pos, le-of, of-le, of-lt, lt-of}
 use Rattle.chips.specs.declared.Counts.{Counts}
 use Rattle.symbols.specs.Choice.{term, score}
 use Rattle.choosing.specs.Scores.{BestOf}
@@ -111,6 +111,21 @@ module _ (u e : ℕ) {ok : ℕ → Bool} {n r : ℕ} {f g : ℕ → ℤ} (best :
         dn-pos
             (e + e),
       ))
+
+-- a number that is behind by so many counts that they are more steps than both errors is behind in the exact scores
+pub behind-exact : (u e l : ℕ) (a b x y : ℤ) → Off u e a x → Off u e b y → (a +ℤ pos l) ≤ℤ b → e + e < l * u → x <ℤ y
+behind-exact u e l a b x y oa ob le above =
+    lt-of x y (omega (
+      arith,
+      oa .low,
+      ob .high,
+      above,
+      simp add-mul at (mul-le-mul-right u (of-le (a +ℤ pos l) b le)),
+      simp add-mul at (ap (λ (n : ℕ). n * u) (add a (pos l))),
+      ap (λ (n : ℕ). n * u) (up-pos l),
+      ap (λ (n : ℕ). n * u) (dn-pos l),
+      zero-mul u,
+    ))
 
 -- a number that leads every other by more than that can be no other than the chosen one
 pub leader-chosen : (d : ℕ) (ok : ℕ → Bool) (g : ℕ → ℤ) {n r : ℕ} → r < n → T (ok r) → (m : ℕ)

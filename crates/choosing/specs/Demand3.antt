@@ -1,7 +1,8 @@
 -- Demand 3: what deciding by counts does to the exact scores, one statement over the rate and over how far counts may
 -- be from the exact values. The same sums as the scores, over exact values in steps of 2^-149; a count is 2^139 of
--- them, 1/1024 of a full chip. RULES 1.4 (3), 3.8. Definitions only. Assumes nothing.
-use Prim.Native.Nat.{ℕ, _*_, _<_}
+-- them, 1/1024 of a full chip. And what a lead says of the exact scores. RULES 1.4 (3), 3.8, 3.9. Definitions only.
+-- Assumes nothing.
+use Prim.Native.Nat.{ℕ, _*_, _^_, _<_}
 use mathlib.Core.Path.{_≡_}
 use mathlib.Core.List.{List}
 use lib.ListN.{length, getD}
@@ -15,7 +16,7 @@ use Rattle.chips.specs.declared.Counts.{Counts}
 use Rattle.chips.specs.Chips.{nothing}
 use Rattle.chips.specs.Bounds.{offBy}
 use Rattle.symbols.specs.Words.{wordOf}
-use Rattle.symbols.specs.Choice.{score, numbers, isAllowed, decided}
+use Rattle.symbols.specs.Choice.{score, numbers, isAllowed, decided, leadOf}
 
 -- the exact score of the word with number n, over chips' exact values
 abbrev pub exactAt : Rate → List Counts → ℕ → ℤ
@@ -47,3 +48,18 @@ Demand3 =
     → length exact ≡ symbolChips r
     → ((j : ℕ) → j < symbolChips r → Apart half (getD counts j nothing) (getD exact j nothing))
     → RightUpTo (symbolChips r * (2 * half)) r exact (decided r counts)
+
+-- the word with number `w` leads in the exact numbers: every other allowed word's exact score is below its own
+abbrev pub LeadsExactly : Rate → List Counts → ℕ → Type 0
+LeadsExactly r exact w =
+    (n : ℕ) → n < numbers r → T (isAllowed r n) → (n ≡ w → ⊥) → exactAt r exact n <ℤ exactAt r exact w
+
+-- where the counts of a symbol are so, and its lead is above that error, the word decided does. From half a count the
+-- lead must be above 8 counts, or 11 for Barker; with no error of the counts above 0
+abbrev pub LeadSays : Type 0
+LeadSays =
+    (half : ℕ) (r : Rate) (counts exact : List Counts) → length counts ≡ symbolChips r
+    → length exact ≡ symbolChips r
+    → ((j : ℕ) → j < symbolChips r → Apart half (getD counts j nothing) (getD exact j nothing))
+    → symbolChips r * (2 * half) < leadOf r counts * 2 ^ 139
+    → LeadsExactly r exact (decided r counts)

@@ -1,11 +1,12 @@
 -- What the functions of the choice answer: tables of scores, and the place of the largest (RULES 3.5 to 3.7).
 -- Definitions only. Assumes nothing.
 use Prim.Native.Nat.{ℕ, _+_, _*_, _/_, _%_, _<_}
+use mathlib.Core.Path.{_≡_}
 use mathlib.Core.Bool.{Bool, true}
 use mathlib.Core.List.{List}
-use lib.ListN.{length, getD}
+use lib.ListN.{getD}
 use lib.Dec.{T}
-use lib.IntN.{ℤ, pos}
+use lib.IntN.{ℤ, pos, _+ℤ_}
 use lib.Signed.{_≤ℤ_, _<ℤ_}
 use Rattle.base.specs.Whole.{Within}
 use Rattle.rates.specs.declared.Rate.{Rate}
@@ -13,15 +14,11 @@ use Rattle.chips.specs.declared.Counts.{Counts}
 use Rattle.chips.specs.Chips.{nothing}
 use Rattle.chips.specs.Bounds.{Bounded}
 use Rattle.symbols.specs.Words.{wordOf, cckNumber}
-use Rattle.symbols.specs.Choice.{score, numbers, isAllowed, those, firstLargest}
+use Rattle.symbols.specs.Choice.{score, numbers, isAllowed, those, decided, leadOf}
 
 -- counts that are all from -b to b
 pub record AllBounded (b : ℕ) (cs : List Counts) : Type 0 where
   pub at : (k : ℕ) → Bounded b (getD cs k nothing)
-
--- as usable chips have them: 8 in magnitude is 8192 counts
-abbrev pub Smalls : List Counts → Type 0
-Smalls cs = AllBounded 8192 cs
 
 -- every number of a row is from -b to b
 pub record RowWithin (b : ℕ) (t : List ℤ) : Type 0 where
@@ -34,10 +31,6 @@ scoreAt r cs n = score (wordOf r n) cs
 -- the numbers below n, rising
 abbrev pub upTo : ℕ → List ℕ
 upTo n = those (λ j. true) n
-
--- the place of the largest of a row, the first of several
-unfoldable pub placeOfLargest : List ℤ → ℕ
-placeOfLargest s = firstLargest (λ j. getD s j (pos 0)) (upTo (length s))
 
 -- the k-th of the sixteen numbers allowed at 5.5 Mbit/s: p3 = 0, p2 odd, p4 even
 abbrev pub number5 : ℕ → ℕ
@@ -53,3 +46,29 @@ pub record BestOf (ok : ℕ → Bool) (n : ℕ) (f : ℕ → ℤ) (r : ℕ) : Ty
 -- the number of the word that counts are to be decided as
 abbrev pub DecidedAs : Rate → List Counts → ℕ → Type 0
 DecidedAs r cs n = BestOf (isAllowed r) (numbers r) (scoreAt r cs) n
+
+-- m is another allowed number than r, and of the others none has more
+pub record NextTo (ok : ℕ → Bool) (n : ℕ) (f : ℕ → ℤ) (r m : ℕ) : Type 0 where
+  pub among : m < n
+  pub allowed : T (ok m)
+  pub other : m ≡ r → ⊥
+  pub top : (j : ℕ) → j < n → T (ok j) → (j ≡ r → ⊥) → f j ≤ℤ f m
+
+-- the word next to the one decided
+abbrev pub NextAs : Rate → List Counts → ℕ → ℕ → Type 0
+NextAs r cs n m = NextTo (isAllowed r) (numbers r) (scoreAt r cs) n m
+
+-- the word with number w leads by so much: every other allowed word scores at least so much less, and one, `next`, just
+-- so much
+pub record LeadsBy (r : Rate) (cs : List Counts) (w lead : ℕ) : Type 0 where
+  pub behind : (n : ℕ) → n < numbers r → T (isAllowed r n) → (n ≡ w → ⊥)
+      → (scoreAt r cs n +ℤ pos lead) ≤ℤ scoreAt r cs w
+  pub next : ℕ
+  pub among : next < numbers r
+  pub allowed : T (isAllowed r next)
+  pub other : next ≡ w → ⊥
+  pub by : scoreAt r cs next +ℤ pos lead ≡ scoreAt r cs w
+
+-- n and t are the number of the word that counts are decided as, and its lead
+abbrev pub ChosenAs : Rate → List Counts → ℕ → ℕ → Type 0
+ChosenAs r cs n t = (n ≡ decided r cs) × (t ≡ leadOf r cs)

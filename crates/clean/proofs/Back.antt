@@ -32,7 +32,7 @@ use Rattle.reading.specs.Reading.{
   octetsAfter,
   octetsFound,
 }
-use Rattle.clean.specs.Clean.{cleanRecording}
+use Rattle.clean.specs.Clean.{cleanRecording, cleanLeast}
 use Rattle.clean.proofs.Decided.{clean-length}
 use Rattle.reading.proofs.Local.{front-same}
 use Rattle.clean.proofs.Whole as whole
@@ -82,12 +82,12 @@ module _ (kind : ℕ) (r : Rate) (p : ℕ) (clock : Bool) (xs : List ℕ) (is-ki
           (lengthField r n) clock)
 
       pub good-reading : (agree : Bool) → agree ≡ true → n ≤ room
-          → readingOf kind agree (clean ++ rest) room ≡ reading.Good t (frameChips k r n)
+          → readingOf kind agree (clean ++ rest) room ≡ reading.Good t (frameChips k r n) (cleanLeast k r)
       unfolding frame
       good-reading agree e h =
           rec-is agree e
           ∙ whole.payload-good k r p header xs rest l (sent-length r clock n) (sent-below r clock n)
-          (lengthField r n) clock room h
+          (lengthField r n) clock room some h
 
       pub good-octets : (agree : Bool) → agree ≡ true → n ≤ room → Below 256 xs
           → octetsFound kind agree (clean ++ rest) room ≡ xs ++ replicate (room - n) 0

@@ -1,22 +1,26 @@
--- A clean recording is decided as it was sent: word by word, with no unusable chip. The argument goes word by word
--- along the list; that one clean word is chosen as itself is the choice's law. Assumes nothing.
+-- A clean recording is decided as it was sent: word by word, each with the lead of a clean symbol, and with no unusable
+-- chip. The argument goes word by word along the list; that one clean word is chosen as itself, and by how much, are
+-- laws of the choice. Assumes nothing.
 use mathlib.Core.Path.{_≡_, refl, sym, ap, ap₂, _∙_, subst}
 use mathlib.Core.Bool.{Bool}
 use mathlib.Core.List.{List, [], _∷_, _++_, map, map-append, append-assoc}
 use mathlib.Core.Option.{none}
-use Prim.Native.Nat.{ℕ, zero, suc, _+_, _<_, _≤_}
+use Prim.Native.Nat.{ℕ, zero, suc, _*_, _≤_}
 use native.Mathlib.Nat.{le-of-suc-le-suc, not-suc-le-zero}
 use lib.Dec.{T, lit<}
-use lib.ListN.{length, take, drop, length-map}
+use lib.ListN.{length, take, drop, replicate, length-map}
 use lib.Seq.{take-at, drop-at}
 use Rattle.rates.specs.declared.Rate.{Rate}
 use Rattle.rates.specs.Rates.{symbolChips}
 use Rattle.chips.specs.declared.Counts.{Counts}
 use Rattle.chips.specs.Chips.{Taken, takenCounts, fullChip}
 use Rattle.symbols.specs.Words.{wordOf}
-use Rattle.symbols.specs.Choice.{decided}
+use Rattle.symbols.specs.Choice.{decided, leadOf}
 use Rattle.symbols.proofs.Words.{word-length}
+use Rattle.choosing.specs.Agreement.{cleanLead}
 use Rattle.choosing.proofs.Clean.{decided-clean}
+use Rattle.choosing.proofs.CleanLeads.{lead-clean}
+use Rattle.reading.specs.Leads.{decidedLeads}
 use Rattle.reading.specs.Reading.{firstUnusable, decidedWords}
 use Rattle.bits.specs.Code.{wordsChips}
 use Rattle.clean.specs.Clean.{cleanTaken, cleanRecording}
@@ -54,26 +58,46 @@ none-unusable at zero chips rest h = refl
 none-unusable at (suc m) [] rest h = absurd (not-suc-le-zero h)
 none-unusable at (suc m) (p ∷ chips) rest h = none-unusable (suc at) m chips rest (le-of-suc-le-suc h)
 
+-- words that begin a recording: the first of them, and the rest
+module _ (r : Rate) (n : ℕ) (ns : List ℕ) (rest : List Taken) where
+  abbrev later : List Taken
+  later = cleanRecording (wordsChips r ns) ++ rest
+
+  cut : cleanRecording (wordOf r n ++ wordsChips r ns) ++ rest ≡ cleanRecording (wordOf r n) ++ later
+  cut =
+      ap (λ (x : List Taken). x ++ rest) (clean-append (wordOf r n) (wordsChips r ns))
+      ∙ append-assoc (cleanRecording (wordOf r n)) (cleanRecording (wordsChips r ns)) rest
+
+  word-chips : length (cleanRecording (wordOf r n)) ≡ symbolChips r
+  word-chips = clean-length (wordOf r n) ∙ word-length r n
+
+  first-counts : map takenCounts (take (symbolChips r) (cleanRecording (wordOf r n ++ wordsChips r ns) ++ rest))
+      ≡ map (fullChip 1024) (wordOf r n)
+  first-counts =
+      ap (λ (x : List Taken). map takenCounts (take (symbolChips r) x)) cut
+      ∙ ap (map takenCounts) (take-at (cleanRecording (wordOf r n)) later (symbolChips r) word-chips)
+      ∙ (unfold cleanRecording in counts-clean (wordOf r n))
+
+  then : drop (symbolChips r) (cleanRecording (wordOf r n ++ wordsChips r ns) ++ rest) ≡ later
+  then = ap (drop (symbolChips r)) cut ∙ drop-at (cleanRecording (wordOf r n)) later (symbolChips r) word-chips
+
 pub decided-words : (r : Rate) (ns : List ℕ) (rest : List Taken) → Allowed r ns
     → decidedWords r (length ns) (cleanRecording (wordsChips r ns) ++ rest) ≡ ns
 unfolding decidedWords wordsChips
 decided-words r [] rest h = refl
 decided-words r (n ∷ ns) rest (more l a h) =
-    let w = wordOf r n in
-    let e : cleanRecording (w ++ wordsChips r ns) ++ rest
-    ≡ cleanRecording w ++ (cleanRecording (wordsChips r ns) ++ rest) =
-    ap (λ (x : List Taken). x ++ rest) (clean-append w (wordsChips r ns))
-    ∙ append-assoc (cleanRecording w) (cleanRecording (wordsChips r ns)) rest in
-    let m : length (cleanRecording w) ≡ symbolChips r = clean-length w ∙ word-length r n in
-    rw (
-      e,
-      take-at (cleanRecording w) (cleanRecording (wordsChips r ns) ++ rest) (symbolChips r) m,
-      drop-at (cleanRecording w)
-          (cleanRecording (wordsChips r ns) ++ rest) (symbolChips r) m,
-    )
-    (ap₂ {C = List ℕ} (λ x xs. x ∷ xs)
-    (first w ∙ decided-clean 1024 (lit< tt) r n l (subst (λ (b : Bool). T b) (sym a) tt))
-    (decided-words r ns rest h))
-  where
-    first : (w : List ℕ) → decided r (map takenCounts (cleanRecording w)) ≡ decided r (map (fullChip 1024) w)
-    first w = unfold cleanRecording in ap (decided r) (counts-clean w)
+    ap₂ {C = List ℕ} (λ x xs. x ∷ xs)
+    (ap (decided r) (first-counts r n ns rest)
+    ∙ decided-clean 1024 (lit< tt) r n l (subst (λ (b : Bool). T b) (sym a) tt))
+    (ap (decidedWords r (length ns)) (then r n ns rest) ∙ decided-words r ns rest h)
+
+pub decided-leads : (r : Rate) (ns : List ℕ) (rest : List Taken) → Allowed r ns
+    → decidedLeads r (length ns) (cleanRecording (wordsChips r ns) ++ rest)
+    ≡ replicate (length ns) (1024 * cleanLead r)
+unfolding decidedLeads wordsChips
+decided-leads r [] rest h = refl
+decided-leads r (n ∷ ns) rest (more l a h) =
+    ap₂ {C = List ℕ} (λ x xs. x ∷ xs)
+    (ap (leadOf r) (first-counts r n ns rest)
+    ∙ lead-clean 1024 (lit< tt) r n l (subst (λ (b : Bool). T b) (sym a) tt))
+    (ap (decidedLeads r (length ns)) (then r n ns rest) ∙ decided-leads r ns rest h)

@@ -2,6 +2,7 @@ pub mod Sent
 pub mod Decided
 pub mod Parts
 pub mod Listened
+pub mod Leads
 pub mod Whole
 pub mod Recorded
 pub mod Rows

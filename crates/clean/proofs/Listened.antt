@@ -1,11 +1,11 @@
--- A clean recording of a preamble, a header and a payload, each a list of bits, read as the definition reads it: words,
--- phases, growths and bits heard, part by part. Assumes nothing.
+-- A clean recording of a preamble, a header and a payload, each a list of bits, read as the definition reads it: words
+-- and leads, phases, growths and bits heard, part by part. Assumes nothing.
 use mathlib.Core.Path.{_≡_, refl, sym, ap, ap₂, _∙_, subst}
 use mathlib.Core.List.{List, [], _∷_, _++_, append-assoc}
 use mathlib.Core.Option.{Option, none, some}
 use Prim.Native.Nat.{ℕ, _+_, _-_, _*_, _/_, _<_}
 use native.Mathlib.Omega.{arith}
-use lib.ListN.{length, getD, drop}
+use lib.ListN.{length, getD, drop, replicate}
 use lib.Seq.{drop-at, drop-drop}
 use Rattle.rates.specs.declared.Rate.{Rate}
 use Rattle.rates.specs.declared.Rate.the-variants.{One, Two, Five, Eleven}
@@ -19,6 +19,8 @@ use Rattle.symbols.proofs.Words.{word-phases}
 use Rattle.frame.specs.declared.Kind.{Kind}
 use Rattle.frame.specs.declared.Kind.the-variants.{Long, Short}
 use Rattle.frame.specs.Frame.{headerRate, frontChips, preambleLength, headerLength, partsChips, preambleChips}
+use Rattle.choosing.specs.Agreement.{cleanLead}
+use Rattle.reading.specs.Leads.{decidedLeads, frontLeads, payloadLeads}
 use Rattle.reading.specs.Reading.{
   orElse,
   firstOdd,
@@ -38,7 +40,7 @@ use Rattle.bits.specs.Code.{wordsChips}
 use Rattle.bits.proofs.Growths.{lastPhase-lt}
 use Rattle.clean.specs.Clean.{cleanRecording}
 use Rattle.clean.proofs.Sent.{Allowed}
-use Rattle.clean.proofs.Decided.{clean-append, clean-length, decided-words}
+use Rattle.clean.proofs.Decided.{clean-append, clean-length, decided-words, decided-leads}
 use Rattle.clean.proofs.Parts.{
   wordsOf,
   firstPhase,
@@ -62,6 +64,11 @@ module _ (r : Rate) (ns : List ℕ) (rest : List Taken) (m : ℕ) (a : Allowed r
 
   pub begins : decidedWords r m begun ≡ ns
   begins = ap (λ (j : ℕ). decidedWords r j begun) (sym e) ∙ decided-words r ns rest a
+
+  pub begins-leads : decidedLeads r m begun ≡ replicate m (1024 * cleanLead r)
+  begins-leads =
+      ap (λ (j : ℕ). decidedLeads r j begun) (sym e) ∙ decided-leads r ns rest a
+      ∙ ap (λ (j : ℕ). replicate j (1024 * cleanLead r)) e
 
   pub follows : drop (m * symbolChips r) begun ≡ rest
   follows =
@@ -92,6 +99,11 @@ payload-none One at p bs l = none-odd at 0 p (length bs / 1) bs l
 payload-none Two at p bs l = refl
 payload-none Five at p bs l = refl
 payload-none Eleven at p bs l = refl
+
+-- a header's symbols are Barker symbols
+header-lead : (k : Kind) → 1024 * cleanLead (headerRate k) ≡ 11264
+header-lead Long = refl
+header-lead Short = refl
 
 eighteen : (k : Kind) → preambleLength k ≡ 8 * (preambleLength k / 8)
 eighteen Long = refl
@@ -201,6 +213,23 @@ module _ (k : Kind) (r : Rate) (p n b : ℕ) (bs header payload : List ℕ) (res
   unfolding payloadWords
   payload-words = ap (decidedWords r (8 * n / symbolBits r)) dropped2
       ∙ begins r words3 rest (8 * n / symbolBits r) allowed3 count3
+
+  -- the leads of the front and of the payload
+  pub front-leads : frontLeads k recording
+      ≡ replicate (preambleLength k) 11264 ++ replicate (headerLength / symbolBits rate) 11264
+  unfolding frontLeads
+  front-leads =
+      ap₂ {C = List ℕ} (λ x y. x ++ y)
+      (ap (decidedLeads One (preambleLength k)) split
+      ∙ begins-leads One words1 second (preambleLength k) allowed1 count1)
+      (ap (decidedLeads rate (headerLength / symbolBits rate)) dropped1
+      ∙ begins-leads rate words2 third (headerLength / symbolBits rate) allowed2 count2
+      ∙ ap (replicate (headerLength / symbolBits rate)) (header-lead k))
+
+  pub payload-leads : payloadLeads k r n recording ≡ replicate (8 * n / symbolBits r) (1024 * cleanLead r)
+  unfolding payloadLeads
+  payload-leads = ap (decidedLeads r (8 * n / symbolBits r)) dropped2
+      ∙ begins-leads r words3 rest (8 * n / symbolBits r) allowed3 count3
 
   pub reference-is : reference k recording ≡ firstPhase p b
   unfolding reference

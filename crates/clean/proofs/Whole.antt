@@ -44,6 +44,7 @@ use Rattle.calls.specs.declared.Front.the-variants as front
 use Rattle.calls.specs.declared.Reading.the-variants as reading
 use Rattle.calls.specs.declared.Refusal.the-variants.{OctetRoom}
 use Rattle.calls.specs.Headers.{headerOf, told}
+use Rattle.reading.specs.Leads.{frontLeads, payloadLeads, frameLeads, leastOf}
 use Rattle.reading.specs.Reading.{
   firstUnusable,
   frontOdd,
@@ -57,9 +58,18 @@ use Rattle.reading.specs.Reading.{
   wholeOf,
   payloadReading,
 }
-use Rattle.clean.specs.Clean.{cleanRecording}
+use Rattle.clean.specs.Clean.{cleanRecording, cleanLeast}
 use Rattle.clean.proofs.Decided.{none-unusable, clean-length, clean-drop}
-use Rattle.clean.proofs.Listened.{front-none, payload-odd, front-heard, payload-heard, all-phases}
+use Rattle.clean.proofs.Listened.{
+  front-leads,
+  payload-leads,
+  front-none,
+  payload-odd,
+  front-heard,
+  payload-heard,
+  all-phases,
+}
+use Rattle.clean.proofs.Leads.{clean-least}
 
 -- ---- the frame's bits: how many, and each a bit
 both-length : (k : Kind) (header : List ℕ) → length header ≡ headerLength
@@ -284,6 +294,12 @@ module _ (k : Kind) (r : Rate) (p : ℕ) (header xs : List ℕ) (rest : List Tak
           (rw (clean-length, framed-length k r p header xs eh) (omega arith))
           ∙ ap (λ (t : List Taken). t ++ rest) (clean-drop (frontChips k) (framed k r p header xs))
 
+  smallest : 1 ≤ n → leastOf (frameLeads k r n recording) ≡ cleanLeast k r
+  smallest some =
+      clean-least k r n recording some
+      (ap (frontLeads k) same ∙ front-leads k r p n b bs y z rest l hp hh hy ep y-length z-length)
+      (ap (payloadLeads k r n) same ∙ payload-leads k r p n b bs y z rest l hp hh hy ep y-length z-length)
+
   -- what comes of a header that tells this rate and so many octets
   module _ (lf : ℕ) (clock : Bool) where
     abbrev t : Told
@@ -292,13 +308,15 @@ module _ (k : Kind) (r : Rate) (p : ℕ) (header xs : List ℕ) (rest : List Tak
     pub whole-there : wholeOf k recording (front.Fields t) ≡ front.Fields t
     whole-there = rw (le-ltb _ (frameChips k r n) long-enough)
 
-    pub payload-good : (room : ℕ) → n ≤ room → payloadReading k t recording room ≡ reading.Good t (frameChips k r n)
+    pub payload-good : (room : ℕ) → 1 ≤ n → n ≤ room
+        → payloadReading k t recording room ≡ reading.Good t (frameChips k r n) (cleanLeast k r)
     unfolding payloadReading
-    payload-good room h =
+    payload-good room some h =
         rw (
           le-ltb room n h,
           no-unusable,
           ap (payloadOdd k r n) same ∙ payload-odd k r p n b bs y z rest l hp hh hy ep y-length z-length,
+          smallest some,
         )
 
     pub no-room : (room : ℕ) → room < n → payloadReading k t recording room ≡ reading.Refused (OctetRoom lf)

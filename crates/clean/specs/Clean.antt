@@ -1,5 +1,5 @@
--- Clean recordings: chips as they were sent, whatever recorded them; and soft rows and bytes that hold them exactly
--- (RULES 1.4 (2), 2.3, 2.5, 2.8). Definitions only. Assumes nothing.
+-- Clean recordings: chips as they were sent, whatever recorded them; soft rows and bytes that hold them exactly; and
+-- their smallest lead (RULES 1.4 (2), 2.3, 2.5, 2.8, 6.16). Definitions only. Assumes nothing.
 use Prim.Native.Nat.{ℕ, _^_}
 use mathlib.Core.Path.{_≡_}
 use mathlib.Core.List.{List, [], _∷_, map}
@@ -7,9 +7,15 @@ use lib.Dec.{T}
 use lib.ListN.{getD}
 use lib.IntN.{ℤ}
 use lib.Ieee.{Float, binary32, ofBits}
+use Rattle.rates.specs.declared.Rate.{Rate}
+use Rattle.rates.specs.declared.Rate.the-variants.{One, Two, Five, Eleven}
 use Rattle.chips.specs.declared.Sample.{Sample}
 use Rattle.chips.specs.declared.Chip.the-variants.{Soft}
 use Rattle.chips.specs.Chips.{Taken, counted, fullChip, usableSample, exactOf}
+use Rattle.frame.specs.declared.Kind.{Kind}
+use Rattle.frame.specs.Frame.{frontSymbols}
+use Rattle.calls.specs.declared.Least.{Least}
+use Rattle.reading.specs.Leads.{leadAt}
 
 -- a chip sent with phase p and recorded as a full chip at p
 abbrev pub cleanTaken : ℕ → Taken
@@ -38,3 +44,12 @@ softQ z p = ofBits binary32 (getD (z ∷ 0x3f80_0000 ∷ z ∷ 0xbf80_0000 ∷ [
 unfoldable pub byteRow : List ℕ → List ℤ
 byteRow [] = []
 byteRow (p ∷ ps) = fullChip 64 p .i ∷ fullChip 64 p .q ∷ byteRow ps
+
+-- the smallest lead of a clean frame and the first symbol that has it: at 1 and 2 Mbit/s every symbol's is 11 full
+-- chips; at 5.5 and 11 Mbit/s the payload's are smaller, 8 and 4 full chips, and the first of them is the first behind
+-- the front's
+abbrev pub cleanLeast : Kind → Rate → Least
+cleanLeast k One = leadAt 11264 0
+cleanLeast k Two = leadAt 11264 0
+cleanLeast k Five = leadAt 8192 (frontSymbols k)
+cleanLeast k Eleven = leadAt 4096 (frontSymbols k)

@@ -1,20 +1,22 @@
 -- The half turn of odd CCK symbols, counted from the header or from the frame's start, would give the same chips:
 -- headers have 48 or 24 symbols and fronts 192 or 96, all even numbers. So that error cannot be seen, and no edit
 -- stands for it. Assumes nothing.
-use mathlib.Core.Path.{_≡_}
+use mathlib.Core.Path.{_≡_, refl}
 use Prim.Native.Nat.{ℕ, _+_, _/_}
 use native.Mathlib.Omega.{arith}
 use Rattle.rates.specs.Rates.{symbolBits}
 use Rattle.bits.specs.Growths.{halfTurn}
 use Rattle.frame.specs.declared.Kind.{Kind}
 use Rattle.frame.specs.declared.Kind.the-variants.{Long, Short}
-use Rattle.frame.specs.Frame.{preambleLength, headerLength, headerRate}
+use Rattle.frame.specs.Frame.{preambleLength, headerLength, headerRate, frontSymbols}
 
 abbrev pub headerSymbols : Kind → ℕ
 headerSymbols k = headerLength / symbolBits (headerRate k)
 
-abbrev pub frontSymbols : Kind → ℕ
-frontSymbols k = preambleLength k + headerSymbols k
+-- a front's symbols are the preamble's and the header's
+pub front-symbols : (k : Kind) → preambleLength k + headerSymbols k ≡ frontSymbols k
+front-symbols Long = refl
+front-symbols Short = refl
 
 pub from-header : (k : Kind) (j : ℕ) → halfTurn (headerSymbols k + j) ≡ halfTurn j
 from-header Long j = omega arith

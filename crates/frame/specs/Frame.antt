@@ -52,6 +52,11 @@ abbrev pub frontChips : Kind → ℕ
 frontChips Long = 2112
 frontChips Short = 1056
 
+-- and front symbols, all of 11 chips: 192, or 96
+abbrev pub frontSymbols : Kind → ℕ
+frontSymbols Long = 192
+frontSymbols Short = 96
+
 -- short excludes 10
 abbrev pub goesWith : Kind → Rate → Bool
 goesWith Long r = true

@@ -11,7 +11,7 @@ use lib.Ieee.{nan}
 use Rattle.rates.specs.declared.Rate.the-variants.{Eleven}
 use Rattle.chips.specs.Chips.{hardRecording, byteRecording}
 use Rattle.symbols.specs.Words.{barkerWord, cckWord}
-use Rattle.symbols.specs.Choice.{score, those, going, firstLargest, decided}
+use Rattle.symbols.specs.Choice.{score, those, going, firstLargest, decided, others, leadOf}
 use Rattle.bits.specs.Bits.{bitsOf, octetBits, numberOf, octetsOf}
 use Rattle.bits.specs.Growths.{
   growth,
@@ -41,6 +41,7 @@ use Rattle.frame.specs.Frame.{
 }
 use Rattle.calls.specs.declared.Record.{Record}
 use Rattle.calls.specs.Headers.{sameBits, fieldsOf, headerOf}
+use Rattle.reading.specs.Leads.{decidedLeads, frontLeads, payloadLeads, leastFrom, leastOf}
 use Rattle.reading.specs.Reading.{
   firstUnusable,
   firstOdd,
@@ -105,11 +106,12 @@ short = frame Short Eleven 0 true (0x3D ∷ [])
 pub turned : List ℕ
 turned = take 11 short ++ map (λ p. (p + 1) % 4) (take 11 (drop 11 short)) ++ drop 22 short
 
-pub read-back : Answers 1 (byteRow short) (good 110 1 1 1064 1)
+pub read-back : Answers 1 (byteRow short) (good 110 1 1 1064 1 4096 96)
 unfolding
     short byteRow byteRecording barkerWord cckWord bitsOf octetBits growth symbolOf symbolsFrom symbolsOf
     chipsFrom lastPhase mixed scramble addWhere crcStep remainder crcBits preambleBits fieldBits headerBits sentHeader
-    frameBits sentBits partsChips framed frame score those going firstLargest decided numberOf octetsOf heardBits heard
+    frameBits sentBits partsChips framed frame score those going firstLargest decided others leadOf decidedLeads
+    frontLeads payloadLeads leastFrom leastOf numberOf octetsOf heardBits heard
     growthsOf lastHeard descramble sameBits fieldsOf headerOf firstUnusable firstOdd decidedWords preambleWords
     headerWords reference headerPhase payloadPhase frontOdd frontHeard frontBits frontOf payloadWords payloadOdd
     payloadReading readingOf
@@ -123,7 +125,7 @@ unfolding
 cut-in-front a left r = r .answer ∙ refl
 
 pub place-of-ten : Answers 1 (byteRow turned)
-    (record { number = 10; place = 11; rate = 0; length = 0; n = 0; used = 0; clock = 0 })
+    (record { number = 10; place = 11; rate = 0; length = 0; n = 0; used = 0; clock = 0; lead = 0; symbol = 0 })
 unfolding
     short turned byteRow byteRecording barkerWord cckWord bitsOf octetBits growth symbolOf symbolsFrom symbolsOf
     chipsFrom lastPhase mixed scramble addWhere crcStep remainder crcBits preambleBits fieldBits headerBits sentHeader

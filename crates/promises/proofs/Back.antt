@@ -25,10 +25,12 @@ use Rattle.frame.proofs.Headers.{clock-some}
 use Rattle.frame.proofs.Sizes.{frame-length}
 use Rattle.calls.specs.declared.Writing.the-variants as writing
 use Rattle.calls.specs.declared.Written.{Written}
+use Rattle.calls.specs.declared.Least.{Least}
 use Rattle.calls.specs.declared.Record.{Record}
+use Rattle.reading.specs.Leads.{leadAt}
 use Rattle.calls.specs.Answers.{writtenOf, recordOf}
 use Rattle.calls.specs.Writing.{writingOf, chipsAfter, chipsWritten}
-use Rattle.clean.specs.Clean.{cleanRecording, byteRow}
+use Rattle.clean.specs.Clean.{cleanRecording, cleanLeast, byteRow}
 use Rattle.clean.proofs.Recorded.{hard-recorded, soft-recorded, rows-agree, byte-recorded, byte-row-length}
 use Rattle.clean.proofs.Decided.{clean-take}
 use Rattle.clean.proofs.Back as clean
@@ -48,6 +50,8 @@ use Rattle.promises.specs.Calls.{
   of-soft,
   of-bytes,
   good,
+  sentLead,
+  sentSymbol,
   refused,
   shown,
 }
@@ -61,22 +65,79 @@ pub record Known (kind rate front octet : ℕ) : Type 0 where
   pub code-back : codeOf (rateOf rate) ≡ rate
   pub front-is : frontChips (kindOf kind) ≡ front
   pub octet-is : octetChips (rateOf rate) ≡ octet
+  pub lead-is : cleanLeast (kindOf kind) (rateOf rate) ≡ leadAt (sentLead rate) (sentSymbol kind rate)
 
 known : {kind rate front octet : ℕ} → Goes kind rate front octet → Known kind rate front octet
 known long-1 =
-    record { kind-is = refl; rate-is = refl; together = refl; code-back = refl; front-is = refl; octet-is = refl }
+    record {
+      kind-is = refl;
+      rate-is = refl;
+      together = refl;
+      code-back = refl;
+      front-is = refl;
+      octet-is = refl;
+      lead-is = refl;
+    }
 known long-2 =
-    record { kind-is = refl; rate-is = refl; together = refl; code-back = refl; front-is = refl; octet-is = refl }
+    record {
+      kind-is = refl;
+      rate-is = refl;
+      together = refl;
+      code-back = refl;
+      front-is = refl;
+      octet-is = refl;
+      lead-is = refl;
+    }
 known long-5 =
-    record { kind-is = refl; rate-is = refl; together = refl; code-back = refl; front-is = refl; octet-is = refl }
+    record {
+      kind-is = refl;
+      rate-is = refl;
+      together = refl;
+      code-back = refl;
+      front-is = refl;
+      octet-is = refl;
+      lead-is = refl;
+    }
 known long-11 =
-    record { kind-is = refl; rate-is = refl; together = refl; code-back = refl; front-is = refl; octet-is = refl }
+    record {
+      kind-is = refl;
+      rate-is = refl;
+      together = refl;
+      code-back = refl;
+      front-is = refl;
+      octet-is = refl;
+      lead-is = refl;
+    }
 known short-2 =
-    record { kind-is = refl; rate-is = refl; together = refl; code-back = refl; front-is = refl; octet-is = refl }
+    record {
+      kind-is = refl;
+      rate-is = refl;
+      together = refl;
+      code-back = refl;
+      front-is = refl;
+      octet-is = refl;
+      lead-is = refl;
+    }
 known short-5 =
-    record { kind-is = refl; rate-is = refl; together = refl; code-back = refl; front-is = refl; octet-is = refl }
+    record {
+      kind-is = refl;
+      rate-is = refl;
+      together = refl;
+      code-back = refl;
+      front-is = refl;
+      octet-is = refl;
+      lead-is = refl;
+    }
 known short-11 =
-    record { kind-is = refl; rate-is = refl; together = refl; code-back = refl; front-is = refl; octet-is = refl }
+    record {
+      kind-is = refl;
+      rate-is = refl;
+      together = refl;
+      code-back = refl;
+      front-is = refl;
+      octet-is = refl;
+      lead-is = refl;
+    }
 
 -- a clock as it is shown
 pub shown-is : (clock : ℕ) → clockBit (clockOf clock) ≡ shown clock
@@ -188,6 +249,9 @@ module _ (kind rate phase clock : ℕ) (payload : List ℕ) (w : Written) (chips
   pub phases : Below 4 sent
   phases = clean.phases kind r phase (clockOf clock) payload (pair .kind-is) lp
 
+  abbrev with-lead : ℕ → ℕ → ℕ → Least → Record
+  with-lead code used bit least = good code (lengthField r n) n used bit (least .lead) (least .symbol)
+
   -- ---- whole, with anything after it
   module _ (after room : ℕ) (a : Record) (left : List ℕ)
       (f : ReadOf kind (take (w .chips) chips) after room a left) where
@@ -195,7 +259,7 @@ module _ (kind rate phase clock : ℕ) (payload : List ℕ) (w : Written) (chips
     f′ = cleanly phases (subst (λ (x : List ℕ). ReadOf kind x after room a left) taken f)
 
     pub back : n ≤ room
-        → (a ≡ good rate (lengthOf rate payload) n (w .chips) (shown clock))
+        → (a ≡ good rate (lengthOf rate payload) n (w .chips) (shown clock) (sentLead rate) (sentSymbol kind rate))
         × (left ≡ payload ++ replicate (room - n) 0)
     back h = (
       f′ .read .answer
@@ -207,12 +271,10 @@ module _ (kind rate phase clock : ℕ) (payload : List ℕ) (w : Written) (chips
           (s .sendable .some) (s .sendable .few) (f′ .rest) room (f′ .agree) (f′ .same) h (s .sendable .octets),
     )
       where
-        as-shown : good (codeOf r) (lengthField r n) n c (clockBit (clockOf clock))
-            ≡ good rate (lengthField r n) n (w .chips) (shown clock)
+        as-shown : with-lead (codeOf r) c (clockBit (clockOf clock)) (cleanLeast k r)
+            ≡ with-lead rate (w .chips) (shown clock) (leadAt (sentLead rate) (sentSymbol kind rate))
         as-shown =
-            ap₂ {C = Record} (λ x y. good x (lengthField r n) n y (clockBit (clockOf clock))) (pair .code-back)
-            (sym w-chips)
-            ∙ ap (good rate (lengthField r n) n (w .chips)) (shown-is clock)
+            λ i. with-lead (pair .code-back i) (sym w-chips i) (shown-is clock i) (pair .lead-is i)
 
     pub too-small : room < n → a ≡ refused 17 (lengthOf rate payload)
     too-small h =

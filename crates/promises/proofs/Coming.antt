@@ -168,7 +168,7 @@ module _ (kind : ℕ) (chips : List ℕ) where
       by none e (some p) d =
           let w = payload-odd-place k rec p t d in
           to _ (odd-refused k t rec room p h e d) (comes-10 p (ap codeOf (payload-odd-rate k rec p t d)) (w .0) (w .1))
-      by none e none d = to _ (payload-good k t rec room h e d) comes-good
+      by none e none d = to _ (payload-good k t rec room h e d) (comes-good _ _)
 
   alike-told : (room : ℕ) (g : Front) → comingOf k g .number ≡ 0
       → (comingOf k g .n ≤ room → ComesTo (comingOf k g) (recordOf (afterFront k rec room g)))

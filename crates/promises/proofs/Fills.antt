@@ -123,7 +123,7 @@ write-fills kind rate phase clock payload room w left h =
 -- ---- reading
 abbrev Fits : ℕ → Reading → Type 0
 Fits room (reading.Refused e) = Unit {0}
-Fits room (reading.Good t used) = t .n ≤ room
+Fits room (reading.Good t used least) = t .n ≤ room
 
 after-fits : (k : Kind) (rec : List Taken) (room : ℕ) (f : Front) → Fits room (afterFront k rec room f)
 after-fits k rec room (front.Refused e) = tt
@@ -131,7 +131,7 @@ after-fits k rec room (front.Fields t) = go (payloadReading k t rec room) (paylo
   where
     go : (g : Reading) → PayloadIf k t rec room g → Fits room g
     go (reading.Refused e) p = tt
-    go (reading.Good u used) p = subst (λ (v : Told). v .n ≤ room) (sym (p .1)) (p .0)
+    go (reading.Good u used least) p = subst (λ (v : Told). v .n ≤ room) (sym (p .1)) (p .0)
 
 reading-fits : (kind : ℕ) (agree : Bool) (rec : List Taken) (room : ℕ) → Fits room (readingOf kind agree rec room)
 unfolding readingOf
@@ -149,7 +149,7 @@ filled-octets : (k : Kind) (rec : List Taken) (room : ℕ) (g : Reading) → Fit
     × ((recordOf g .number ≡ 0 → ⊥) → octetsAfter k rec room g ≡ replicate room 0)
     × (recordOf g .number ≡ 0 → drop (recordOf g .n) (octetsAfter k rec room g) ≡ replicate (room - recordOf g .n) 0)
 filled-octets k rec room (reading.Refused e) h = (length-replicate room 0, (λ z. refl), λ z. absurd (some-number e z))
-filled-octets k rec room (reading.Good t used) h =
+filled-octets k rec room (reading.Good t used least) h =
     let octets = payloadOf k (t .rate) (t .n) rec in
     let e : length octets ≡ t .n = payload-length k (t .rate) (t .n) rec in (
       length-append octets (replicate (room - t .n) 0)

@@ -20,6 +20,7 @@ use Rattle.promises.proofs.Coming.{
 }
 use Rattle.promises.proofs.SentTold.{sent-told}
 use Rattle.promises.proofs.Right.{recorded-right, hard-right, soft-right, bytes-right}
+use Rattle.promises.proofs.Leads.{least-told, hard-sure, soft-sure, bytes-sure}
 
 -- each contract is an equation with a definition
 one-answer : OneAnswer
@@ -49,6 +50,10 @@ kept = record {
   hard-right = hard-right;
   soft-right = soft-right;
   bytes-right = bytes-right;
+  least-told = least-told;
+  hard-sure = hard-sure;
+  soft-sure = soft-sure;
+  bytes-sure = bytes-sure;
   one-answer = one-answer;
   front-refused = front-refused;
   refused-alike = refused-alike;

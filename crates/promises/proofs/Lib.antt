@@ -6,9 +6,12 @@ pub mod Source
 pub mod Coming
 pub mod SentTold
 pub mod Right
+pub mod Leads
+pub mod Frames
 pub mod Answered
 pub mod Kept
 pub mod Uses
 pub mod UsesBack
 pub mod UsesRight
+pub mod UsesLeads
 pub mod UsesComing

@@ -84,7 +84,7 @@ data ReadingRefusal (k : Kind) (agree : Bool) (rec : List Taken) : Refusal → T
 
 abbrev RefusesReading : Kind → Bool → List Taken → Reading → Type 0
 RefusesReading k agree rec (reading.Refused e) = ReadingRefusal k agree rec e
-RefusesReading k agree rec (reading.Good t used) = Unit {0}
+RefusesReading k agree rec (reading.Good t used least) = Unit {0}
 
 reading-refuses : (kind : ℕ) (agree : Bool) (rec : List Taken) (room : ℕ)
     → RefusesReading (kindOf kind) agree rec (readingOf kind agree rec room)
@@ -96,7 +96,7 @@ reading-refuses kind agree rec room =
   where
     told : (t : Told) (g : Reading) → PayloadIf (kindOf kind) t rec room g → RefusesReading (kindOf kind) agree rec g
     told t (reading.Refused e) h = by-payload t h
-    told t (reading.Good u used) h = tt
+    told t (reading.Good u used least) h = tt
 
     after : (f : Front) → RefusesIf (kindOf kind) rec f
         → RefusesReading (kindOf kind) agree rec (afterFront (kindOf kind) rec room f)
@@ -121,7 +121,7 @@ unanswered n no-good kind agree rec room a left read never e =
   where
     by : (g : Reading) → RefusesReading (kindOf kind) agree rec g → recordOf g .number ≡ n → ⊥
     by (reading.Refused x) h z = never x h z
-    by (reading.Good t used) h z = no-good z
+    by (reading.Good t used least) h z = no-good z
 
 -- ---- 9 of bytes
 no-some : {p : ℕ} {o : Option ℕ} → o ≡ none → o ≡ some p → ⊥

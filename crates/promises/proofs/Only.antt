@@ -27,6 +27,7 @@ use Rattle.calls.specs.declared.Front.the-variants as front
 use Rattle.calls.specs.declared.Reading.{Reading}
 use Rattle.calls.specs.declared.Reading.the-variants as reading
 use Rattle.calls.specs.declared.Written.{Written}
+use Rattle.calls.specs.declared.Least.{Least}
 use Rattle.calls.specs.declared.Record.{Record}
 use Rattle.calls.specs.Answers.{writtenOf, recordOf}
 use Rattle.calls.specs.Writing.{writingOf}
@@ -116,11 +117,11 @@ module _ (kind : ℕ) (rec : List Taken) (room : ℕ) (kind-is : isKind kind ≡
 
   abbrev Readable-in : Reading → Type 0
   Readable-in (reading.Refused e) = Unit {0}
-  Readable-in (reading.Good t used) = Readable kind (length rec) room (recordOf (reading.Good t used))
+  Readable-in (reading.Good t used least) = Readable kind (length rec) room (recordOf (reading.Good t used least))
 
   readable : (t : Told) → TellingWhole k rec t → t .n ≤ room
-      → Readable-in (reading.Good t (frameChips k (t .rate) (t .n)))
-  readable t h b =
+      → (least : Least) → Readable-in (reading.Good t (frameChips k (t .rate) (t .n)) least)
+  readable t h b least =
       let r = t .rate in
       record {
         front = frontChips k;
@@ -141,15 +142,15 @@ module _ (kind : ℕ) (rec : List Taken) (room : ℕ) (kind-is : isKind kind ≡
     where
       go : (g : Reading) → PayloadIf k t rec room g → Readable-in g
       go (reading.Refused e) p = tt
-      go (reading.Good u used) p =
-          subst (λ (v : Told). Readable-in (reading.Good v used)) (sym (p .1))
-          (subst (λ (m : ℕ). Readable-in (reading.Good t m)) (sym (p .2)) (readable t h (p .0)))
+      go (reading.Good u used least) p =
+          subst (λ (v : Told). Readable-in (reading.Good v used least)) (sym (p .1))
+          (subst (λ (m : ℕ). Readable-in (reading.Good t m least)) (sym (p .2)) (readable t h (p .0) least))
 
 -- a whole reading, where kind and rows pass
 abbrev Agreed : ℕ → Bool → List Taken → ℕ → Reading → Type 0
 Agreed kind agree rec room (reading.Refused e) = Unit {0}
-Agreed kind agree rec room (reading.Good t used) =
-    (agree ≡ true) × Readable kind (length rec) room (recordOf (reading.Good t used))
+Agreed kind agree rec room (reading.Good t used least) =
+    (agree ≡ true) × Readable kind (length rec) room (recordOf (reading.Good t used least))
 
 agreed : (kind : ℕ) (agree : Bool) (rec : List Taken) (room : ℕ)
     → Agreed kind agree rec room (readingOf kind agree rec room)
@@ -165,7 +166,7 @@ agreed kind agree rec room =
     with-rows : (known : isKind kind ≡ true) → agree ≡ true → (g : Reading) → Readable-in kind rec room known g
         → Agreed kind agree rec room g
     with-rows known e (reading.Refused x) h = tt
-    with-rows known e (reading.Good t used) h = (e, h)
+    with-rows known e (reading.Good t used least) h = (e, h)
 
 pub only-readable : OnlyReadable
 only-readable kind agree rec room a left read zero-is =
@@ -176,18 +177,20 @@ only-readable kind agree rec room a left read zero-is =
     go : (g : Reading) → Agreed kind agree rec room g → recordOf g .number ≡ 0
         → (agree ≡ true) × Readable kind (length rec) room (recordOf g)
     go (reading.Refused e) p z = absurd (some-number e z)
-    go (reading.Good t used) p z = p
+    go (reading.Good t used least) p z = p
 
 -- ---- a refused record
+abbrev Nothing : Record → Type 0
+Nothing v = (v .rate ≡ 0) × (v .n ≡ 0) × (v .used ≡ 0) × (v .clock ≡ 0) × (v .lead ≡ 0) × (v .symbol ≡ 0)
+
 pub refused-shows : RefusedShows
 refused-shows kind agree rec room a left read some-is =
-    subst (λ (v : Record). (v .number ≡ 0 → ⊥) → (v .rate ≡ 0) × (v .n ≡ 0) × (v .used ≡ 0) × (v .clock ≡ 0))
-    (sym (read .answer)) (go (readingOf kind agree rec room)) some-is
+    subst (λ (v : Record). (v .number ≡ 0 → ⊥) → Nothing v) (sym (read .answer)) (go (readingOf kind agree rec room))
+    some-is
   where
-    go : (g : Reading) → (recordOf g .number ≡ 0 → ⊥)
-        → (recordOf g .rate ≡ 0) × (recordOf g .n ≡ 0) × (recordOf g .used ≡ 0) × (recordOf g .clock ≡ 0)
-    go (reading.Refused e) h = (refl, refl, refl, refl)
-    go (reading.Good t used) h = absurd (h refl)
+    go : (g : Reading) → (recordOf g .number ≡ 0 → ⊥) → Nothing (recordOf g)
+    go (reading.Refused e) h = (refl, refl, refl, refl, refl, refl)
+    go (reading.Good t used least) h = absurd (h refl)
 
 -- ---- soft rows that differ
 pub rows-refused : RowsRefused

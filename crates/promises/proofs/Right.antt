@@ -41,9 +41,9 @@ use Rattle.chips.specs.Bounds.{Exact}
 use Rattle.chips.proofs.Bounds.{soft-near, hard-exact, lost-exact}
 use Rattle.chips.proofs.Bytes.{bytes-usable, byte-exact}
 use Rattle.chips.proofs.Recorders.{sample, taken-hard, taken-soft, unusable-hard, unusable-soft}
-use Rattle.symbols.specs.Choice.{decided}
-use Rattle.choosing.specs.Demand3.{RightUpTo, Apart}
-use Rattle.choosing.proofs.Demand3.{demand-3}
+use Rattle.symbols.specs.Choice.{decided, leadOf}
+use Rattle.choosing.specs.Demand3.{RightUpTo, Apart, LeadsExactly}
+use Rattle.choosing.proofs.Demand3.{demand-3, lead-says}
 use Rattle.frame.specs.declared.Kind.{Kind}
 use Rattle.frame.specs.declared.Kind.the-variants.{Long, Short}
 use Rattle.frame.specs.Frame.{headerRate, frontChips, preambleLength, headerLength, preambleChips}
@@ -63,7 +63,7 @@ use Rattle.promises.specs.Right.{
 }
 
 -- the j-th of m words
-word-at : (r : Rate) (m j : ℕ) (cs : List Taken) → j < m
+pub word-at : (r : Rate) (m j : ℕ) (cs : List Taken) → j < m
     → getD (decidedWords r m cs) j 0 ≡ decided r (map takenCounts (take (symbolChips r) (drop (j * symbolChips r) cs)))
 unfolding decidedWords
 word-at r zero j cs h = absurd (not-suc-le-zero h)
@@ -78,8 +78,17 @@ word-at r (suc m) (suc j) cs h =
     turned : (a b : ℕ) → b + a ≡ a + b
     turned a b = omega arith
 
--- ---- a part of m symbols from place `at`, all of it usable
-abbrev Usable : List Taken → ℕ → Type 0
+-- and of a part that starts at place `at`
+pub word-from : (r : Rate) (m at j : ℕ) (rec : List Taken) → j < m
+    → getD (decidedWords r m (drop at rec)) j 0
+    ≡ decided r (map takenCounts (take (symbolChips r) (drop (at + j * symbolChips r) rec)))
+word-from r m at j rec h =
+    word-at r m j (drop at rec) h
+    ∙ ap (λ (l : List Taken). decided r (map takenCounts (take (symbolChips r) l)))
+    (drop-drop (j * symbolChips r) at rec)
+
+-- ---- usable chips
+abbrev pub Usable : List Taken → ℕ → Type 0
 Usable rec place = T (not (isUnusable (getD rec place unusable)))
 
 -- a usable chip is one of the recording
@@ -94,49 +103,57 @@ some-chips Two = omega arith
 some-chips Five = omega arith
 some-chips Eleven = omega arith
 
-module _ (half : ℕ) (exact : List Counts) (rec : List Taken) (keeps : Keeps half exact rec) (r : Rate) (m at : ℕ)
-    (ok : (place : ℕ) → at ≤ place → place < at + m * symbolChips r → Usable rec place) where
+-- one symbol, whose chips are usable
+module _ (half : ℕ) (exact : List Counts) (rec : List Taken) (keeps : Keeps half exact rec) (r : Rate) (from : ℕ)
+    (ok : (i : ℕ) → i < symbolChips r → Usable rec (from + i)) where
   abbrev c : ℕ
   c = symbolChips r
 
-  module _ (j : ℕ) (h : j < m) where
-    abbrev from : ℕ
-    from = at + j * c
+  abbrev counts : List Counts
+  counts = map takenCounts (take c (drop from rec))
 
-    within : from + c ≤ at + m * c
-    within = omega (arith, suc-mul j c, mul-le-mul-right c h)
+  reaches : from + c ≤ length rec
+  reaches = omega (arith, some-chips r, there rec (from + (c - 1)) (ok (c - 1) (omega (arith, some-chips r))))
 
-    usable-at : (i : ℕ) → i < c → Usable rec (from + i)
-    usable-at i l = ok (from + i) (omega arith) (omega (arith, within))
+  counts-length : length counts ≡ c
+  counts-length =
+      length-map (take c (drop from rec)) takenCounts
+      ∙ length-take-le c (drop from rec) (rw (length-drop from rec) (omega (arith, reaches)))
 
-    reaches : from + c ≤ length rec
-    reaches = omega (arith, some-chips r, there rec (from + (c - 1)) (usable-at (c - 1) (omega (arith, some-chips r))))
+  exact-length : length (take c (drop from exact)) ≡ c
+  exact-length =
+      length-take-le c (drop from exact) (rw (length-drop from exact, keeps .as-long) (omega (arith, reaches)))
 
-    counts-at : (i : ℕ) → i < c
-        → getD (map takenCounts (take c (drop from rec))) i nothing ≡ takenCounts (getD rec (from + i) unusable)
-    counts-at i l =
-        List·getD-map takenCounts (take c (drop from rec)) i unusable
-        ∙ ap takenCounts (getD-take c (drop from rec) i unusable l ∙ getD-drop from rec i unusable)
+  counts-at : (i : ℕ) → i < c → getD counts i nothing ≡ takenCounts (getD rec (from + i) unusable)
+  counts-at i l =
+      List·getD-map takenCounts (take c (drop from rec)) i unusable
+      ∙ ap takenCounts (getD-take c (drop from rec) i unusable l ∙ getD-drop from rec i unusable)
 
-    exact-at : (i : ℕ) → i < c → getD (take c (drop from exact)) i nothing ≡ getD exact (from + i) nothing
-    exact-at i l = getD-take c (drop from exact) i nothing l ∙ getD-drop from exact i nothing
+  exact-at : (i : ℕ) → i < c → getD (take c (drop from exact)) i nothing ≡ getD exact (from + i) nothing
+  exact-at i l = getD-take c (drop from exact) i nothing l ∙ getD-drop from exact i nothing
 
-    one-right : RightUpTo (c * (2 * half)) r (exactSymbol r at j exact)
-        (decided r (map takenCounts (take c (drop from rec))))
-    one-right =
-        demand-3 half r (map takenCounts (take c (drop from rec))) (take c (drop from exact))
-        (length-map (take c (drop from rec)) takenCounts
-        ∙ length-take-le c (drop from rec) (rw (length-drop from rec) (omega (arith, reaches))))
-        (length-take-le c (drop from exact)
-        (rw (length-drop from exact, keeps .as-long) (omega (arith, reaches))))
-        (λ i l. rw (counts-at i l, exact-at i l) (keeps .near (from + i) (usable-at i l)))
+  near : (i : ℕ) → i < c → Apart half (getD counts i nothing) (getD (take c (drop from exact)) i nothing)
+  near i l = rw (counts-at i l, exact-at i l) (keeps .near (from + i) (ok i l))
+
+  symbol-right : RightUpTo (c * (2 * half)) r (take c (drop from exact)) (decided r counts)
+  symbol-right = demand-3 half r counts (take c (drop from exact)) counts-length exact-length near
+
+  pub symbol-sure : c * (2 * half) < leadOf r counts * 2 ^ 139
+      → LeadsExactly r (take c (drop from exact)) (decided r counts)
+  symbol-sure l = lead-says half r counts (take c (drop from exact)) counts-length exact-length near l
+
+module _ (half : ℕ) (exact : List Counts) (rec : List Taken) (keeps : Keeps half exact rec) (r : Rate) (m at : ℕ)
+    (ok : (place : ℕ) → at ≤ place → place < at + m * symbolChips r → Usable rec place) where
+  usable-at : (j : ℕ) → j < m → (i : ℕ) → i < symbolChips r → Usable rec (at + j * symbolChips r + i)
+  usable-at j h i l =
+      ok (at + j * symbolChips r + i) (omega arith)
+      (omega (arith, suc-mul j (symbolChips r), mul-le-mul-right (symbolChips r) h))
 
   pub each-right : EachRight half r m at (decidedWords r m (drop at rec)) exact
   each-right j h =
-      subst (RightUpTo (c * (2 * half)) r (exactSymbol r at j exact))
-      (sym (word-at r m j (drop at rec) h
-      ∙ ap (λ (l : List Taken). decided r (map takenCounts (take c l))) (drop-drop (j * c) at rec)))
-      (one-right j h)
+      subst (RightUpTo (symbolChips r * (2 * half)) r (exactSymbol r at j exact))
+      (sym (word-from r m at j rec h))
+      (symbol-right half exact rec keeps r (at + j * symbolChips r) (usable-at j h))
 
 -- ---- the front's two parts, and the payload
 preamble-in : (k : Kind) → 0 + preambleLength k * symbolChips One ≤ frontChips k
@@ -188,7 +205,7 @@ hard-apart x = subst (λ t. Apart 0 t (exactOf (hardChip x))) (sym (taken-hard x
     go true = exact-apart lost-exact
     go false = exact-apart (hard-exact x)
 
-hard-keeps : (octets : List ℕ) → Keeps 0 (exactHard octets) (hardRecording octets)
+pub hard-keeps : (octets : List ℕ) → Keeps 0 (exactHard octets) (hardRecording octets)
 unfolding hardRecording
 hard-keeps octets =
     record {
@@ -202,7 +219,7 @@ hard-keeps octets =
     near (x ∷ octets) zero t = hard-apart x
     near (x ∷ octets) (suc place) t = near octets place t
 
-hard-good : (octets : List ℕ) (place : ℕ) → getD octets place 5 ≤ 4 → Usable (hardRecording octets) place
+pub hard-good : (octets : List ℕ) (place : ℕ) → getD octets place 5 ≤ 4 → Usable (hardRecording octets) place
 unfolding hardRecording
 hard-good octets place h =
     let x = getD octets place 5 in
@@ -212,7 +229,7 @@ pub hard-right : HardRight
 hard-right octets = where-good (hard-good octets) (recorded-right 0 _ _ (hard-keeps octets))
 
 -- ---- soft recordings keep theirs up to half a count
-soft-used : (x y : Float) → T (not (isUnusable (softTaken x y))) → T (usableSample (sample x y))
+pub soft-used : (x y : Float) → T (not (isUnusable (softTaken x y))) → T (usableSample (sample x y))
 soft-used x y t = go (usableSample (sample x y)) (isUnusable (softTaken x y)) (unusable-soft x y) t
   where
     go : (u v : Bool) → v ≡ not u → T (not v) → T u
@@ -226,7 +243,7 @@ soft-apart x y t =
     subst (λ t. Apart (2 ^ 138) t (exactOf (Soft (sample x y)))) (sym (taken-soft x y))
     (record { real = near .real; imag = near .imag })
 
-soft-keeps : (i q : List Float) → Keeps (2 ^ 138) (exactSoft i q) (softRecording i q)
+pub soft-keeps : (i q : List Float) → Keeps (2 ^ 138) (exactSoft i q) (softRecording i q)
 unfolding exactSoft softRecording
 soft-keeps i q = record { as-long = as-long i q; near = near i q }
   where
@@ -242,7 +259,7 @@ soft-keeps i q = record { as-long = as-long i q; near = near i q }
     near (x ∷ i) (y ∷ q) zero t = soft-apart x y t
     near (x ∷ i) (y ∷ q) (suc place) t = near i q place t
 
-soft-good : (i q : List Float) (place : ℕ) → T (usable (getD i place nan)) × T (usable (getD q place nan))
+pub soft-good : (i q : List Float) (place : ℕ) → T (usable (getD i place nan)) × T (usable (getD q place nan))
     → Usable (softRecording i q) place
 unfolding softRecording usable
 soft-good [] q place u = absurd (u .0)
@@ -259,7 +276,7 @@ pub soft-right : SoftRight
 soft-right i q = where-good (soft-good i q) (recorded-right (2 ^ 138) _ _ (soft-keeps i q))
 
 -- ---- byte recordings keep theirs exactly
-bytes-keep : (bytes : List ℤ) → Keeps 0 (exactBytes bytes) (byteRecording bytes)
+pub bytes-keep : (bytes : List ℤ) → Keeps 0 (exactBytes bytes) (byteRecording bytes)
 unfolding exactBytes byteRecording
 bytes-keep bytes = record { as-long = as-long bytes; near = near bytes }
   where
@@ -275,7 +292,7 @@ bytes-keep bytes = record { as-long = as-long bytes; near = near bytes }
     near (x ∷ y ∷ bytes) zero t = exact-apart (byte-exact x y)
     near (x ∷ y ∷ bytes) (suc place) t = near bytes place t
 
-bytes-good : (bytes : List ℤ) (place : ℕ) → 2 * place + 1 < length bytes → Usable (byteRecording bytes) place
+pub bytes-good : (bytes : List ℤ) (place : ℕ) → 2 * place + 1 < length bytes → Usable (byteRecording bytes) place
 bytes-good bytes place h = rw (bytes-usable bytes place (omega arith)) tt
 
 pub bytes-right : BytesRight

@@ -22,7 +22,7 @@ use Rattle.calls.specs.declared.Record.{Record}
 use Rattle.frame.specs.Frame.{kindOf, clockOf, frontChips, preambleBits, frameBits, sentBits, partsChips, framed, frame}
 use Rattle.calls.specs.Answers.{recordOf}
 use Rattle.reading.specs.Reading.{readingOf, octetsFound}
-use Rattle.promises.specs.Calls.{Read, Sent, of-hard, good, shown}
+use Rattle.promises.specs.Calls.{Read, Sent, of-hard, good, shown, sentLead, sentSymbol}
 use Rattle.promises.specs.Promises.{lengthOf, OneSource}
 use Rattle.promises.proofs.Back.{read-back, chips-are}
 
@@ -54,7 +54,8 @@ module _ (kind rate phase clock : ℕ) (payload : List ℕ) (w : Written) (chips
   -- what a reading of all the chips answers, with room
   reads : (room : ℕ) → length payload ≤ room
       → (recordOf (readingOf kind true (hardRecording chips) room)
-      ≡ good rate (lengthOf rate payload) (length payload) (w .chips) (shown clock))
+      ≡ good rate (lengthOf rate payload) (length payload) (w .chips) (shown clock) (sentLead rate)
+      (sentSymbol kind rate))
       × (octetsFound kind true (hardRecording chips) room ≡ payload ++ replicate (room - length payload) 0)
   reads room h =
       read-back kind rate phase clock payload w chips s (length (drop (w .chips) chips)) room _ _
@@ -70,8 +71,10 @@ one-source kind rate rate′ phase phase′ clock clock′ payload payload′ w 
     let room = length payload + length payload′ in
     let a = reads kind rate phase clock payload w chips s room (omega arith) in
     let b = reads kind rate′ phase′ clock′ payload′ w′ chips t room (omega arith) in
-    let both : good rate (lengthOf rate payload) (length payload) (w .chips) (shown clock)
-    ≡ good rate′ (lengthOf rate′ payload′) (length payload′) (w′ .chips) (shown clock′) = sym (a .0) ∙ b .0 in
+    let both : good rate (lengthOf rate payload) (length payload) (w .chips) (shown clock) (sentLead rate)
+    (sentSymbol kind rate)
+    ≡ good rate′ (lengthOf rate′ payload′) (length payload′) (w′ .chips) (shown clock′) (sentLead rate′)
+    (sentSymbol kind rate′) = sym (a .0) ∙ b .0 in
     let n : length payload ≡ length payload′ = ap (λ (x : Record). x .n) both in (
       ap (λ (x : Record). x .rate) both,
       sym (begins kind rate phase clock payload w chips s) ∙ begins kind rate′ phase′ clock′ payload′ w′ chips t,

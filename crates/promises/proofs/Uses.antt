@@ -91,7 +91,7 @@ module _ (kind : ℕ) (agree : Bool) (rec : List Taken) (room : ℕ) (a : Record
   zeros-follow e = kept .read-fills kind agree rec room a left f .2 e
 
   pub refused-shows-none : (m : ℕ) → a .number ≡ suc m
-      → (a .rate ≡ 0) × (a .n ≡ 0) × (a .used ≡ 0) × (a .clock ≡ 0)
+      → (a .rate ≡ 0) × (a .n ≡ 0) × (a .used ≡ 0) × (a .clock ≡ 0) × (a .lead ≡ 0) × (a .symbol ≡ 0)
   refused-shows-none m e = kept .refused-shows kind agree rec room a left f (λ z. omega (arith, z, e))
 
   pub numbers-if-read : a .number ≡ 0

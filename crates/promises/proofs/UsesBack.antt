@@ -25,6 +25,8 @@ use Rattle.promises.specs.Calls.{
   good,
   refused,
   shown,
+  sentLead,
+  sentSymbol,
 }
 use Rattle.promises.specs.Promises.{lengthOf}
 use Rattle.promises.proofs.Kept.{kept}
@@ -38,7 +40,9 @@ module _ (kind rate phase clock : ℕ) (payload : List ℕ) (w : Written) (chips
 
   abbrev Back : Type 0
   Back =
-      (a ≡ good rate (lengthOf rate payload) (length payload) (w .chips) (shown clock))
+      (a
+      ≡ good rate (lengthOf rate payload) (length payload) (w .chips) (shown clock) (sentLead rate)
+      (sentSymbol kind rate))
       × (left ≡ payload ++ replicate (room - length payload) 0)
 
   pub back-hard : (tail : List ℕ) → ReadHard kind (whole ++ tail) room a left → length payload ≤ room → Back

@@ -137,19 +137,19 @@ module _ (kind : ℕ) (chips : List ℕ) (c : Coming) (f : ReadFront kind chips 
 -- what such an answer is
 pub comes-numbers : (c : Coming) (a : Record) → ComesTo c a → (a .number ≡ 0 → ⊥)
     → (a .length ≡ c .length) × (c .at ≤ a .place) × (a .place < c .used) × (9 ≤ a .number) × (a .number ≤ 10)
-comes-numbers c a comes-good z = absurd (z refl)
+comes-numbers c a (comes-good lead symbol) z = absurd (z refl)
 comes-numbers c a (comes-9 place h l) z = (refl, h, l, omega arith, omega arith)
 comes-numbers c a (comes-10 place r h l) z = (refl, h, l, omega arith, omega arith)
 
 pub comes-refused : (c : Coming) (a : Record) → ComesTo c a → (a .number ≡ 0 → ⊥)
     → (a ≡ refusedAt (a .number) (a .place) (c .length)) × (a .number ≡ 10 → c .rate ≡ 10)
-comes-refused c a comes-good z = absurd (z refl)
+comes-refused c a (comes-good lead symbol) z = absurd (z refl)
 comes-refused c a (comes-9 place h l) z = (refl, λ y. absurd (omega (arith, y)))
 comes-refused c a (comes-10 place r h l) z = (refl, λ y. r)
 
 pub comes-same : (c : Coming) (a : Record) → ComesTo c a → a .number ≡ 0
-    → a ≡ good (c .rate) (c .length) (c .n) (c .used) (c .clock)
-comes-same c a comes-good z = refl
+    → a ≡ good (c .rate) (c .length) (c .n) (c .used) (c .clock) (a .lead) (a .symbol)
+comes-same c a (comes-good lead symbol) z = refl
 comes-same c a (comes-9 place h l) z = absurd (omega (arith, z))
 comes-same c a (comes-10 place r h l) z = absurd (omega (arith, z))
 

@@ -7,11 +7,12 @@ use Prim.Native.Nat.{ℕ, _+_, _*_, _/_, _^_, _≤_, _<_}
 use native.Mathlib.Omega.{arith}
 use lib.Dec.{T}
 use lib.ListN.{length, getD}
-use lib.IntN.{ℤ, pos, negℤ}
+use lib.IntN.{ℤ, pos, negℤ, _+ℤ_}
+use lib.Signed.{_≤ℤ_, _<ℤ_}
 use lib.Ieee.{Float, nan, binary32, ofBits}
 use Rattle.rates.specs.declared.Rate.{Rate}
 use Rattle.rates.specs.declared.Rate.the-variants.{One}
-use Rattle.rates.specs.Rates.{symbolBits}
+use Rattle.rates.specs.Rates.{symbolChips, symbolBits}
 use Rattle.chips.specs.declared.Counts.{Counts}
 use Rattle.chips.specs.Floats.{steps, usable, valueOf, countOf, Nearest}
 use Rattle.chips.specs.Chips.{
@@ -25,11 +26,12 @@ use Rattle.chips.specs.Chips.{
   softRecording,
   byteRecording,
 }
-use Rattle.choosing.specs.Demand3.{Apart}
+use Rattle.symbols.specs.Choice.{numbers, isAllowed}
+use Rattle.choosing.specs.Demand3.{exactAt, Apart}
 use Rattle.frame.specs.declared.Kind.{Kind}
 use Rattle.frame.specs.Frame.{headerRate, headerLength, preambleChips, frontChips, frameChips, preambleLength}
 use Rattle.reading.specs.Reading.{preambleWords, headerWords, payloadWords}
-use Rattle.promises.specs.Right.{EachRight, exactHard, exactSoft, exactBytes}
+use Rattle.promises.specs.Right.{exactSymbol, EachRight, exactHard, exactSoft, exactBytes}
 use Rattle.promises.proofs.Kept.{kept}
 
 pub exact-hard : exactHard (0 ∷ 1 ∷ 2 ∷ 3 ∷ 4 ∷ [])
@@ -80,3 +82,28 @@ near-front-right k half exact rec l near h =
 -- every usable number is counted
 pub counted-near : (x : Float) → T (usable x) → Nearest (valueOf x) (countOf x)
 counted-near x u = kept .half-a-count x u
+
+-- word by word: the one of a payload symbol is allowed, no other is above it by more than the error, and one that leads
+-- all others by more is it
+module _ (k : Kind) (r : Rate) (n j : ℕ) (i q : List Float) (h : j < 8 * n / symbolBits r)
+    (ok : (place : ℕ) → frontChips k ≤ place → place < frameChips k r n
+    → T (usable (getD i place nan)) × T (usable (getD q place nan))) where
+  abbrev word : ℕ
+  word = getD (payloadWords k r n (softRecording i q)) j 0
+
+  abbrev exactly : ℕ → ℤ
+  exactly = exactAt r (exactSymbol r (frontChips k) j (exactSoft i q))
+
+  abbrev error : ℤ
+  error = pos (symbolChips r * (2 * 2 ^ 138))
+
+  pub word-allowed : (word < numbers r) × T (isAllowed r word)
+  word-allowed = let x = kept .soft-right i q .payload k r n ok j h in (x .among, x .allowed)
+
+  pub none-above-word : (m : ℕ) → m < numbers r → T (isAllowed r m) → exactly m ≤ℤ (exactly word +ℤ error)
+  none-above-word m l t = kept .soft-right i q .payload k r n ok j h .none-above m l t
+
+  pub leader-is-word : (m : ℕ) → m < numbers r → T (isAllowed r m)
+      → ((p : ℕ) → p < numbers r → T (isAllowed r p) → (p ≡ m → ⊥) → (exactly p +ℤ error) <ℤ exactly m)
+      → word ≡ m
+  leader-is-word m l t leads = kept .soft-right i q .payload k r n ok j h .leader-chosen m l t leads

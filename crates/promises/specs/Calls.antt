@@ -4,7 +4,7 @@
 -- Definitions only. Assumes nothing.
 use Prim.Native.Nat.{ℕ, zero, suc, _+_, _*_, _%_, _≤_, _<_}
 use mathlib.Core.Path.{_≡_}
-use mathlib.Core.Bool.{Bool, true}
+use mathlib.Core.Bool.{Bool, true, cond, _||_}
 use mathlib.Core.List.{List, _++_}
 use lib.Dec.{eqb}
 use lib.ListN.{length}
@@ -51,13 +51,33 @@ pub record Handed (c : Coming) (chips part : List ℕ) : Type 0 where
   pub chips-are : part ≡ partOf (c .at) (c .count) chips
 
 -- a good read's answer, and a refused one's with a place and without
-abbrev pub good : ℕ → ℕ → ℕ → ℕ → ℕ → Record
-good rate l n used clock =
-    record { number = 0; place = 0; rate = rate; length = l; n = n; used = used; clock = clock }
+abbrev pub good : ℕ → ℕ → ℕ → ℕ → ℕ → ℕ → ℕ → Record
+good rate l n used clock lead symbol =
+    record {
+      number = 0;
+      place = 0;
+      rate = rate;
+      length = l;
+      n = n;
+      used = used;
+      clock = clock;
+      lead = lead;
+      symbol = symbol;
+    }
 
 abbrev pub refusedAt : ℕ → ℕ → ℕ → Record
 refusedAt number place l =
-    record { number = number; place = place; rate = 0; length = l; n = 0; used = 0; clock = 0 }
+    record {
+      number = number;
+      place = place;
+      rate = 0;
+      length = l;
+      n = 0;
+      used = 0;
+      clock = 0;
+      lead = 0;
+      symbol = 0;
+    }
 
 abbrev pub refused : ℕ → ℕ → Record
 refused number l = refusedAt number 0 l
@@ -66,6 +86,14 @@ refused number l = refusedAt number 0 l
 abbrev pub shown : ℕ → ℕ
 shown zero = 0
 shown (suc clock) = 1
+
+-- the smallest lead of a frame as it was sent, in counts, and the first symbol that has it: 11 full chips at 1 and 2
+-- Mbit/s, the frame's first; 8 at 5.5 and 4 at 11 Mbit/s, the payload's first
+abbrev pub sentLead : ℕ → ℕ
+sentLead rate = cond (eqb rate 110) 4096 (cond (eqb rate 55) 8192 11264)
+
+abbrev pub sentSymbol : ℕ → ℕ → ℕ
+sentSymbol kind rate = cond (eqb rate 110 || eqb rate 55) (cond (eqb kind 0) 192 96) 0
 
 -- the kinds and the rates that go with them, each with the chips of its front and of an octet
 pub data Goes : ℕ → ℕ → ℕ → ℕ → Type 0 where

@@ -86,10 +86,10 @@ abbrev pub FrontTold : Type 0
 FrontTold =
     (kind : ℕ) (chips : List ℕ) (c : Coming) → ReadFront kind chips c → c .number ≡ 0 → WhenTold kind chips c
 
--- the full reader, with room for n octets: good with the same rate, LENGTH, n, chips used and clock bit, or a 9 or 10
--- in the payload with the same LENGTH, a 10 at 1 Mbit/s only
+-- the full reader, with room for n octets: good with the same rate, LENGTH, n, chips used and clock bit, and a lead
+-- that the front does not tell, or a 9 or 10 in the payload with the same LENGTH, a 10 at 1 Mbit/s only
 pub data ComesTo (c : Coming) : Record → Type 0 where
-  comes-good : ComesTo c (good (c .rate) (c .length) (c .n) (c .used) (c .clock))
+  comes-good : (lead symbol : ℕ) → ComesTo c (good (c .rate) (c .length) (c .n) (c .used) (c .clock) lead symbol)
   comes-9 : (place : ℕ) → c .at ≤ place → place < c .used → ComesTo c (refusedAt 9 place (c .length))
   comes-10 : (place : ℕ) → c .rate ≡ 10 → c .at ≤ place → place < c .used
       → ComesTo c (refusedAt 10 place (c .length))

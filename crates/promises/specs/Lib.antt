@@ -1,5 +1,6 @@
 pub mod Calls
 pub mod Right
+pub mod Leads
 pub mod Only
 pub mod Coming
 pub mod Promises

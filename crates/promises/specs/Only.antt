@@ -40,12 +40,12 @@ OnlyReadable =
     (kind : ℕ) (agree : Bool) (rec : List Taken) (room : ℕ) (a : Record) (left : List ℕ)
     → Read kind agree rec room a left → a .number ≡ 0 → (agree ≡ true) × Readable kind (length rec) room a
 
--- one that answers another number shows no rate, no octets, no chips used and no clock bit
+-- one that answers another number shows no rate, no octets, no chips used, no clock bit, no lead and no symbol
 abbrev pub RefusedShows : Type 0
 RefusedShows =
     (kind : ℕ) (agree : Bool) (rec : List Taken) (room : ℕ) (a : Record) (left : List ℕ)
     → Read kind agree rec room a left → (a .number ≡ 0 → ⊥)
-    → (a .rate ≡ 0) × (a .n ≡ 0) × (a .used ≡ 0) × (a .clock ≡ 0)
+    → (a .rate ≡ 0) × (a .n ≡ 0) × (a .used ≡ 0) × (a .clock ≡ 0) × (a .lead ≡ 0) × (a .symbol ≡ 0)
 
 -- soft rows that differ in length, and bytes of an odd number, are refused with 7 under either kind, whatever is in
 -- them

@@ -1,8 +1,9 @@
 -- What is promised beyond each contract (RULES 1.4, 6.15, 7, 9). Fills, what is accepted (Only.antt), reading back, one
 -- source, one answer and what is coming (Coming.antt) speak of answers, buffers and parts that the contracts allow
--- (`Wrote`, `Read`, `ReadFront`, `Handed`: Calls.antt), so they are about the programs. Demand 3 (Right.antt) speaks of
--- the lists of words that the definition of reading takes its growths and bits from, the half a count and Table P of
--- the definitions. proofs/Kept.antt proves all of it.
+-- (`Wrote`, `Read`, `ReadFront`, `Handed`: Calls.antt), so they are about the programs, and so does the smallest lead
+-- (Leads.antt). Demand 3 (Right.antt), and what a lead says of the exact numbers, speak of the lists of words that the
+-- definition of reading takes its growths and bits from, the half a count and Table P of the definitions.
+-- proofs/Kept.antt proves all of it.
 -- Definitions only. Assumes nothing.
 use Prim.Native.Nat.{ℕ, _+_, _-_, _*_, _≤_, _<_}
 use mathlib.Core.Path.{_≡_}
@@ -20,8 +21,9 @@ use Rattle.calls.specs.declared.Record.{Record}
 use Rattle.frame.specs.Frame.{kindOf, clockOf, frame}
 use Rattle.frame.specs.TableP.{TableP}
 use Rattle.clean.specs.Clean.{Exactly, softI, softQ}
-use Rattle.promises.specs.Calls.{Wrote, Read, good, refused, shown, Sent, ReadOf}
+use Rattle.promises.specs.Calls.{Wrote, Read, good, refused, shown, sentLead, sentSymbol, Sent, ReadOf}
 use Rattle.promises.specs.Right.{RecordedRight, HardRight, SoftRight, BytesRight}
+use Rattle.promises.specs.Leads.{LeastTold, HardSure, SoftSure, BytesSure}
 use Rattle.promises.specs.Only.{
   OnlySent,
   OnlyReadable,
@@ -76,14 +78,16 @@ abbrev pub lengthOf : ℕ → List ℕ → ℕ
 lengthOf rate payload = lengthField (rateOf rate) (length payload)
 
 -- what was written and whatever follows it, whatever recorded it, read under its kind with room: rate, LENGTH, n, chips
--- used, the clock bit, payload
+-- used, the clock bit, the smallest lead and its symbol, payload
 abbrev pub ReadBack : Type 0
 ReadBack =
     (kind rate phase clock : ℕ) (payload : List ℕ) (w : Written) (chips : List ℕ)
     → Sent kind rate phase clock payload w chips
     → (after room : ℕ) (a : Record) (left : List ℕ) → ReadOf kind (take (w .chips) chips) after room a left
     → length payload ≤ room
-    → (a ≡ good rate (lengthOf rate payload) (length payload) (w .chips) (shown clock))
+    → (a
+    ≡ good rate (lengthOf rate payload) (length payload) (w .chips) (shown clock) (sentLead rate)
+    (sentSymbol kind rate))
     × (left ≡ payload ++ replicate (room - length payload) 0)
 
 -- any phases can be held by exact pairs, with either zero
@@ -145,6 +149,10 @@ pub record Promised : Type 0 where
   pub hard-right : HardRight
   pub soft-right : SoftRight
   pub bytes-right : BytesRight
+  pub least-told : LeastTold
+  pub hard-sure : HardSure
+  pub soft-sure : SoftSure
+  pub bytes-sure : BytesSure
   pub one-answer : OneAnswer
   pub front-refused : FrontRefused
   pub refused-alike : RefusedAlike

@@ -1,18 +1,19 @@
 -- Recordings read, computed from the definition and compared with what RULES 6 says of each: number, place, rate code,
--- LENGTH, n, chips used, the clock bit. Each refusal, and each two neighbours in the order of checks that can be met
--- together; the octet buffer after good and refused reads. The long frame carries A5h and 3Ch at 1 Mbit/s and has the
--- clock bit set (LENGTH 16; 2,112 + 176 chips), the short one 3Dh at 11 Mbit/s and has neither bit set (LENGTH 1;
--- 1,056 + 8 chips). What a header with a right CRC is refused for stands in calls, HeaderFacts. Assumes nothing.
+-- LENGTH, n, chips used, the clock bit, the smallest lead and its symbol. Each refusal, and each two neighbours in the
+-- order of checks that can be met together; the octet buffer after good and refused reads. The long frame carries A5h
+-- and 3Ch at 1 Mbit/s and has the clock bit set (LENGTH 16; 2,112 + 176 chips), the short one 3Dh at 11 Mbit/s and has
+-- neither bit set (LENGTH 1; 1,056 + 8 chips). What a header with a right CRC is refused for stands in calls,
+-- HeaderFacts. Assumes nothing.
 use mathlib.Core.Path.{_≡_, refl}
 use mathlib.Core.Bool.{Bool, true, false}
 use mathlib.Core.Option.{none, some}
 use mathlib.Core.List.{List, [], _∷_, _++_, map}
 use Prim.Native.Nat.{ℕ, _+_, _%_}
-use lib.ListN.{take, drop, set}
+use lib.ListN.{take, drop, set, replicate}
 use Rattle.rates.specs.declared.Rate.the-variants.{One, Two, Five, Eleven}
 use Rattle.chips.specs.Chips.{hardRecording}
 use Rattle.symbols.specs.Words.{barkerWord, cckWord}
-use Rattle.symbols.specs.Choice.{score, those, going, firstLargest, decided}
+use Rattle.symbols.specs.Choice.{score, those, going, firstLargest, decided, others, leadOf}
 use Rattle.bits.specs.Bits.{bitsOf, octetBits, numberOf, octetsOf}
 use Rattle.bits.specs.Growths.{
   growth,
@@ -45,6 +46,7 @@ use Rattle.frame.specs.Frame.{
 }
 use Rattle.calls.specs.Answers.{recordOf}
 use Rattle.calls.specs.Headers.{told, sameBits, fieldsOf, headerOf}
+use Rattle.reading.specs.Leads.{decidedLeads, frontLeads, payloadLeads, leadAt, leastFrom, leastOf}
 use Rattle.reading.specs.Reading.{
   firstUnusable,
   firstOdd,
@@ -68,7 +70,7 @@ use Rattle.reading.specs.Reading.{
 }
 
 pub fields : Record → List ℕ
-fields a = a .number ∷ a .place ∷ a .rate ∷ a .length ∷ a .n ∷ a .used ∷ a .clock ∷ []
+fields a = a .number ∷ a .place ∷ a .rate ∷ a .length ∷ a .n ∷ a .used ∷ a .clock ∷ a .lead ∷ a .symbol ∷ []
 
 -- the answer to a hard recording under a kind, its rows agreeing or not, with room for so many octets
 pub refused : ℕ → Bool → ℕ → List ℕ → List ℕ
@@ -80,9 +82,12 @@ long = frame Long One 2 true (0xA5 ∷ 0x3C ∷ [])
 unfoldable pub short : List ℕ
 short = frame Short Eleven 3 false (0x3D ∷ [])
 
--- a chip set to a value; eleven chips from a place turned by quarters
+-- a chip set to a value; so many chips from a place lost; eleven chips from a place turned by quarters
 unfoldable pub spoilt : ℕ → ℕ → List ℕ → List ℕ
 spoilt at x chips = set chips at x
+
+unfoldable pub lost : ℕ → ℕ → List ℕ → List ℕ
+lost at m chips = take at chips ++ (replicate m 4 ++ drop (at + m) chips)
 
 unfoldable pub turned : ℕ → ℕ → List ℕ → List ℕ
 turned at by chips =
@@ -99,6 +104,15 @@ pub parts : (firstUnusable 7 (hardRecording (0 ∷ 4 ∷ 5 ∷ 255 ∷ [])) ∷ 
     ≡ (some 9 ∷ none ∷ some 44 ∷ some 22 ∷ none ∷ some 22 ∷ none ∷ none ∷ none ∷ [])
 unfolding hardRecording firstUnusable firstOdd
 parts = refl
+
+-- the smallest of some leads, the first of several; of none 0 at 0. Leads of the symbols from 96 on, after a smaller,
+-- an equal and a larger one before
+pub leasts : leastOf [] ∷ leastOf (7 ∷ []) ∷ leastOf (5 ∷ 3 ∷ 4 ∷ 3 ∷ []) ∷ leastOf (2 ∷ 2 ∷ []) ∷ leastOf (9 ∷ 0 ∷ [])
+    ∷ leastFrom 96 (leadAt 3 7) (4 ∷ 3 ∷ []) ∷ leastFrom 96 (leadAt 5 7) (5 ∷ 4 ∷ 4 ∷ []) ∷ leastFrom 96 (leadAt 1 7) []
+    ∷ []
+    ≡ leadAt 0 0 ∷ leadAt 7 0 ∷ leadAt 3 1 ∷ leadAt 2 0 ∷ leadAt 0 1 ∷ leadAt 3 7 ∷ leadAt 4 97 ∷ leadAt 1 7 ∷ []
+unfolding leastFrom leastOf
+leasts = refl
 
 -- ---- whole readings
 
@@ -117,16 +131,18 @@ pub bad : refused 2 true 1 long ∷ refused 2 false 1 long ∷ refused 256 true 
     ∷ refused 1 true 1 (turned 682 2 short) ∷ refused 1 true 1 (turned 792 1 short)
     ∷ refused 1 true 0 (take 1063 (spoilt 1060 5 short)) ∷ refused 0 true 1 (take 2287 long)
     ∷ refused 0 true 2 (turned 2112 1 long) ∷ refused 0 true 2 (turned 2277 1 long) ∷ []
-    ≡ (1 ∷ 0 ∷ 0 ∷ 0 ∷ 0 ∷ 0 ∷ 0 ∷ []) ∷ (1 ∷ 0 ∷ 0 ∷ 0 ∷ 0 ∷ 0 ∷ 0 ∷ []) ∷ (1 ∷ 0 ∷ 0 ∷ 0 ∷ 0 ∷ 0 ∷ 0 ∷ [])
-    ∷ (7 ∷ 0 ∷ 0 ∷ 0 ∷ 0 ∷ 0 ∷ 0 ∷ []) ∷ (7 ∷ 0 ∷ 0 ∷ 0 ∷ 0 ∷ 0 ∷ 0 ∷ [])
-    ∷ (8 ∷ 0 ∷ 0 ∷ 0 ∷ 0 ∷ 0 ∷ 0 ∷ []) ∷ (8 ∷ 0 ∷ 0 ∷ 0 ∷ 0 ∷ 0 ∷ 0 ∷ [])
-    ∷ (9 ∷ 2111 ∷ 0 ∷ 0 ∷ 0 ∷ 0 ∷ 0 ∷ []) ∷ (9 ∷ 700 ∷ 0 ∷ 0 ∷ 0 ∷ 0 ∷ 0 ∷ []) ∷ (9 ∷ 0 ∷ 0 ∷ 0 ∷ 0 ∷ 0 ∷ 0 ∷ [])
-    ∷ (10 ∷ 11 ∷ 0 ∷ 0 ∷ 0 ∷ 0 ∷ 0 ∷ []) ∷ (10 ∷ 781 ∷ 0 ∷ 0 ∷ 0 ∷ 0 ∷ 0 ∷ [])
-    ∷ (10 ∷ 11 ∷ 0 ∷ 0 ∷ 0 ∷ 0 ∷ 0 ∷ []) ∷ (10 ∷ 1573 ∷ 0 ∷ 0 ∷ 0 ∷ 0 ∷ 0 ∷ [])
-    ∷ (10 ∷ 1584 ∷ 0 ∷ 0 ∷ 0 ∷ 0 ∷ 0 ∷ []) ∷ (10 ∷ 2101 ∷ 0 ∷ 0 ∷ 0 ∷ 0 ∷ 0 ∷ [])
-    ∷ (11 ∷ 0 ∷ 0 ∷ 0 ∷ 0 ∷ 0 ∷ 0 ∷ []) ∷ (12 ∷ 0 ∷ 0 ∷ 0 ∷ 0 ∷ 0 ∷ 0 ∷ [])
-    ∷ (16 ∷ 0 ∷ 0 ∷ 1 ∷ 0 ∷ 0 ∷ 0 ∷ []) ∷ (16 ∷ 0 ∷ 0 ∷ 16 ∷ 0 ∷ 0 ∷ 0 ∷ [])
-    ∷ (10 ∷ 2112 ∷ 0 ∷ 16 ∷ 0 ∷ 0 ∷ 0 ∷ []) ∷ (10 ∷ 2277 ∷ 0 ∷ 16 ∷ 0 ∷ 0 ∷ 0 ∷ []) ∷ []
+    ≡ (1 ∷ 0 ∷ 0 ∷ 0 ∷ 0 ∷ 0 ∷ 0 ∷ 0 ∷ 0 ∷ []) ∷ (1 ∷ 0 ∷ 0 ∷ 0 ∷ 0 ∷ 0 ∷ 0 ∷ 0 ∷ 0 ∷ [])
+    ∷ (1 ∷ 0 ∷ 0 ∷ 0 ∷ 0 ∷ 0 ∷ 0 ∷ 0 ∷ 0 ∷ [])
+    ∷ (7 ∷ 0 ∷ 0 ∷ 0 ∷ 0 ∷ 0 ∷ 0 ∷ 0 ∷ 0 ∷ []) ∷ (7 ∷ 0 ∷ 0 ∷ 0 ∷ 0 ∷ 0 ∷ 0 ∷ 0 ∷ 0 ∷ [])
+    ∷ (8 ∷ 0 ∷ 0 ∷ 0 ∷ 0 ∷ 0 ∷ 0 ∷ 0 ∷ 0 ∷ []) ∷ (8 ∷ 0 ∷ 0 ∷ 0 ∷ 0 ∷ 0 ∷ 0 ∷ 0 ∷ 0 ∷ [])
+    ∷ (9 ∷ 2111 ∷ 0 ∷ 0 ∷ 0 ∷ 0 ∷ 0 ∷ 0 ∷ 0 ∷ []) ∷ (9 ∷ 700 ∷ 0 ∷ 0 ∷ 0 ∷ 0 ∷ 0 ∷ 0 ∷ 0 ∷ [])
+    ∷ (9 ∷ 0 ∷ 0 ∷ 0 ∷ 0 ∷ 0 ∷ 0 ∷ 0 ∷ 0 ∷ [])
+    ∷ (10 ∷ 11 ∷ 0 ∷ 0 ∷ 0 ∷ 0 ∷ 0 ∷ 0 ∷ 0 ∷ []) ∷ (10 ∷ 781 ∷ 0 ∷ 0 ∷ 0 ∷ 0 ∷ 0 ∷ 0 ∷ 0 ∷ [])
+    ∷ (10 ∷ 11 ∷ 0 ∷ 0 ∷ 0 ∷ 0 ∷ 0 ∷ 0 ∷ 0 ∷ []) ∷ (10 ∷ 1573 ∷ 0 ∷ 0 ∷ 0 ∷ 0 ∷ 0 ∷ 0 ∷ 0 ∷ [])
+    ∷ (10 ∷ 1584 ∷ 0 ∷ 0 ∷ 0 ∷ 0 ∷ 0 ∷ 0 ∷ 0 ∷ []) ∷ (10 ∷ 2101 ∷ 0 ∷ 0 ∷ 0 ∷ 0 ∷ 0 ∷ 0 ∷ 0 ∷ [])
+    ∷ (11 ∷ 0 ∷ 0 ∷ 0 ∷ 0 ∷ 0 ∷ 0 ∷ 0 ∷ 0 ∷ []) ∷ (12 ∷ 0 ∷ 0 ∷ 0 ∷ 0 ∷ 0 ∷ 0 ∷ 0 ∷ 0 ∷ [])
+    ∷ (16 ∷ 0 ∷ 0 ∷ 1 ∷ 0 ∷ 0 ∷ 0 ∷ 0 ∷ 0 ∷ []) ∷ (16 ∷ 0 ∷ 0 ∷ 16 ∷ 0 ∷ 0 ∷ 0 ∷ 0 ∷ 0 ∷ [])
+    ∷ (10 ∷ 2112 ∷ 0 ∷ 16 ∷ 0 ∷ 0 ∷ 0 ∷ 0 ∷ 0 ∷ []) ∷ (10 ∷ 2277 ∷ 0 ∷ 16 ∷ 0 ∷ 0 ∷ 0 ∷ 0 ∷ 0 ∷ []) ∷ []
 unfolding
     fields refused long short spoilt turned hardRecording
     barkerWord cckWord score those going firstLargest decided
@@ -147,8 +163,8 @@ pub payloads : behind Long (told One 16 2 true) 0 (spoilt 2199 5 long)
     ∷ behind Long (told One 16 2 true) 2 (spoilt 2287 5 (turned 2112 1 long))
     ∷ behind Long (told One 16 2 true) 2 (spoilt 2112 5 (spoilt 2200 5 long))
     ∷ behind Short (told Eleven 1 1 false) 1 (spoilt 1063 77 short) ∷ []
-    ≡ (17 ∷ 0 ∷ 0 ∷ 16 ∷ 0 ∷ 0 ∷ 0 ∷ []) ∷ (9 ∷ 2287 ∷ 0 ∷ 16 ∷ 0 ∷ 0 ∷ 0 ∷ [])
-    ∷ (9 ∷ 2112 ∷ 0 ∷ 16 ∷ 0 ∷ 0 ∷ 0 ∷ []) ∷ (9 ∷ 1063 ∷ 0 ∷ 1 ∷ 0 ∷ 0 ∷ 0 ∷ []) ∷ []
+    ≡ (17 ∷ 0 ∷ 0 ∷ 16 ∷ 0 ∷ 0 ∷ 0 ∷ 0 ∷ 0 ∷ []) ∷ (9 ∷ 2287 ∷ 0 ∷ 16 ∷ 0 ∷ 0 ∷ 0 ∷ 0 ∷ 0 ∷ [])
+    ∷ (9 ∷ 2112 ∷ 0 ∷ 16 ∷ 0 ∷ 0 ∷ 0 ∷ 0 ∷ 0 ∷ []) ∷ (9 ∷ 1063 ∷ 0 ∷ 1 ∷ 0 ∷ 0 ∷ 0 ∷ 0 ∷ 0 ∷ []) ∷ []
 unfolding
     fields long short spoilt turned hardRecording barkerWord cckWord bitsOf octetBits growth symbolOf symbolsFrom
     symbolsOf chipsFrom lastPhase mixed scramble addWhere crcStep remainder crcBits
@@ -156,13 +172,21 @@ unfolding
 payloads = refl
 
 -- good: chips after the frame are not looked at, nor are SYNC bits compared: of the long one a symbol is turned by
--- half, of the short one the first, the sixth and the 48th. Its payload symbol grows by an odd step, as CCK symbols may
+-- half, of the short one the first, the sixth and the 48th. Its payload symbol grows by an odd step, as CCK symbols
+-- may. The smallest lead is 11 full chips at symbol 0, and 4 at symbol 96, the payload's first; with a chip lost in
+-- symbols 145 and 207, and in 0 and 200, it is 10 at the first of the two; with a wrong chip in the payload's 2. With
+-- eight chips lost in symbol 80, of the short header, it is 3 there
 pub good : refused 0 true 2 (turned 1309 2 (long ++ (9 ∷ 9 ∷ [])))
-    ∷ refused 1 true 2 (turned 0 2 (turned 55 2 (turned 517 2 short))) ∷ []
-    ≡ (0 ∷ 0 ∷ 10 ∷ 16 ∷ 2 ∷ 2288 ∷ 1 ∷ []) ∷ (0 ∷ 0 ∷ 110 ∷ 1 ∷ 1 ∷ 1064 ∷ 0 ∷ []) ∷ []
+    ∷ refused 1 true 2 (turned 0 2 (turned 55 2 (turned 517 2 short)))
+    ∷ refused 0 true 2 (spoilt 2277 4 (spoilt 1600 4 long)) ∷ refused 0 true 2 (spoilt 3 4 (spoilt 2200 4 long))
+    ∷ refused 1 true 1 (spoilt 1057 2 short) ∷ refused 1 true 1 (lost 880 8 short) ∷ []
+    ≡ (0 ∷ 0 ∷ 10 ∷ 16 ∷ 2 ∷ 2288 ∷ 1 ∷ 11264 ∷ 0 ∷ []) ∷ (0 ∷ 0 ∷ 110 ∷ 1 ∷ 1 ∷ 1064 ∷ 0 ∷ 4096 ∷ 96 ∷ [])
+    ∷ (0 ∷ 0 ∷ 10 ∷ 16 ∷ 2 ∷ 2288 ∷ 1 ∷ 10240 ∷ 145 ∷ []) ∷ (0 ∷ 0 ∷ 10 ∷ 16 ∷ 2 ∷ 2288 ∷ 1 ∷ 10240 ∷ 0 ∷ [])
+    ∷ (0 ∷ 0 ∷ 110 ∷ 1 ∷ 1 ∷ 1064 ∷ 0 ∷ 2048 ∷ 96 ∷ []) ∷ (0 ∷ 0 ∷ 110 ∷ 1 ∷ 1 ∷ 1064 ∷ 0 ∷ 3072 ∷ 80 ∷ []) ∷ []
 unfolding
-    fields refused long short spoilt turned hardRecording
-    barkerWord cckWord score those going firstLargest decided
+    fields refused long short spoilt lost turned hardRecording
+    barkerWord cckWord score those going firstLargest decided others leadOf decidedLeads
+    frontLeads payloadLeads leastFrom leastOf
     bitsOf octetBits numberOf octetsOf growth symbolOf symbolsFrom symbolsOf chipsFrom lastPhase heardBits heard
     growthsOf
     lastHeard mixed scramble descramble addWhere crcStep remainder crcBits

@@ -4,3 +4,4 @@ pub mod Telling
 pub mod Refusals
 pub mod Places
 pub mod Local
+pub mod Leads

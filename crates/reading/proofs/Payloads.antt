@@ -11,6 +11,7 @@ use Rattle.frame.specs.Frame.{frontChips, frameChips}
 use Rattle.calls.specs.declared.Refusal.the-variants.{Unusable, OddGrowth, OctetRoom}
 use Rattle.calls.specs.declared.Told.{Told}
 use Rattle.calls.specs.declared.Reading.the-variants.{Refused, Good}
+use Rattle.reading.specs.Leads.{frameLeads, leastOf}
 use Rattle.reading.specs.Reading.{firstUnusable, payloadOdd, payloadReading}
 
 -- the first unusable chip of a payload
@@ -35,6 +36,7 @@ module _ (k : Kind) (t : Told) (rec : List Taken) (room : ℕ) where
   odd-refused p h e o = rw (le-ltb room (t .n) h, e, o)
 
   pub payload-good : t .n ≤ room → foundUnusable k t rec ≡ none → payloadOdd k (t .rate) (t .n) rec ≡ none
-      → payloadReading k t rec room ≡ Good t (frameChips k (t .rate) (t .n))
+      → payloadReading k t rec room
+      ≡ Good t (frameChips k (t .rate) (t .n)) (leastOf (frameLeads k (t .rate) (t .n) rec))
   unfolding payloadReading
   payload-good h e o = rw (le-ltb room (t .n) h, e, o)

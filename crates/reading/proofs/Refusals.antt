@@ -38,6 +38,7 @@ use Rattle.calls.specs.declared.Reading.{Reading}
 use Rattle.calls.specs.declared.Reading.the-variants as reading
 use Rattle.calls.specs.Answers.{refusalNumber}
 use Rattle.calls.specs.Headers.{serviceAllowed, sameBits, fieldsOf, headerOf}
+use Rattle.reading.specs.Leads.{frameLeads, leastOf}
 use Rattle.reading.specs.Reading.{firstUnusable, frontOdd, frontOf, payloadOdd, wholeOf, payloadReading}
 use Rattle.reading.proofs.Payloads.{foundUnusable}
 use Rattle.reading.proofs.Telling.{searched}
@@ -120,7 +121,10 @@ payload-number (payload-odd p f) = omega arith
 module _ (k : Kind) (t : Told) (rec : List Taken) (room : ℕ) where
   abbrev pub PayloadIf : Reading → Type 0
   PayloadIf (reading.Refused e) = PayloadRefusal k t rec e
-  PayloadIf (reading.Good u used) = (t .n ≤ room) × (u ≡ t) × (used ≡ frameChips k (t .rate) (t .n))
+  PayloadIf (reading.Good u used least) =
+      (t .n ≤ room) × (u ≡ t)
+      × (used ≡ frameChips k (t .rate) (t .n))
+      × (least ≡ leastOf (frameLeads k (t .rate) (t .n) rec))
 
   pub payload-comes : PayloadIf (payloadReading k t rec room)
   unfolding payloadReading
@@ -129,4 +133,4 @@ module _ (k : Kind) (t : Told) (rec : List Taken) (room : ℕ) where
       (λ a. searched PayloadIf (foundUnusable k t rec) (λ p. reading.Refused (Unusable p (t .length))) _
       payload-unusable
       (searched PayloadIf (payloadOdd k (t .rate) (t .n) rec) (λ p. reading.Refused (OddGrowth p (t .length))) _
-      payload-odd (nltb→le room (t .n) a, refl, refl)))
+      payload-odd (nltb→le room (t .n) a, refl, refl, refl)))

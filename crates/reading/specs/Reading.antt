@@ -32,6 +32,7 @@ use Rattle.calls.specs.declared.Front.the-variants as front
 use Rattle.calls.specs.declared.Reading.{Reading}
 use Rattle.calls.specs.declared.Reading.the-variants as reading
 use Rattle.calls.specs.Headers.{headerOf}
+use Rattle.reading.specs.Leads.{frameLeads, leastOf}
 use Rattle.frame.specs.Frame.{
   isKind,
   kindOf,
@@ -140,7 +141,7 @@ wholeOf k rec (front.Refused e) = front.Refused e
 wholeOf k rec (front.Fields t) =
     cond (ltb (length rec) (frameChips k (t .rate) (t .n))) (front.Refused (Ends (t .length))) (front.Fields t)
 
--- 17, then 9 and 10 over the payload; chips after the frame are not looked at
+-- 17, then 9 and 10 over the payload; chips after the frame are not looked at. A good reading has the smallest lead
 unfoldable pub payloadReading : Kind → Told → List Taken → ℕ → Reading
 payloadReading k t rec room =
     let all = frameChips k (t .rate) (t .n) in
@@ -148,7 +149,7 @@ payloadReading k t rec room =
     cond (ltb room (t .n)) (reading.Refused (OctetRoom (t .length)))
     (orElse (firstUnusable from (take (all - from) (drop from rec))) (λ p. reading.Refused (Unusable p (t .length)))
     (orElse (payloadOdd k (t .rate) (t .n) rec) (λ p. reading.Refused (OddGrowth p (t .length)))
-    (reading.Good t all)))
+    (reading.Good t all (leastOf (frameLeads k (t .rate) (t .n) rec)))))
 
 abbrev pub afterFront : Kind → List Taken → ℕ → Front → Reading
 afterFront k rec room (front.Refused e) = reading.Refused e
@@ -166,7 +167,7 @@ readingOf kind agree rec room =
 -- octets past n are 0; after a refusal the octet buffer is zeros
 abbrev pub octetsAfter : Kind → List Taken → ℕ → Reading → List ℕ
 octetsAfter k rec room (reading.Refused e) = replicate room 0
-octetsAfter k rec room (reading.Good t used) = payloadOf k (t .rate) (t .n) rec ++ replicate (room - t .n) 0
+octetsAfter k rec room (reading.Good t used least) = payloadOf k (t .rate) (t .n) rec ++ replicate (room - t .n) 0
 
 -- what a read leaves in the octet buffer
 unfoldable pub octetsFound : ℕ → Bool → List Taken → ℕ → List ℕ

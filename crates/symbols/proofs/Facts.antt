@@ -1,5 +1,5 @@
 -- Worked values that pin the definitions: words, numbers and their phases, the numbers allowed at each rate, the four
--- terms of a score, what nothing and what clean words are decided as, and a tie. Computed. Assumes nothing.
+-- terms of a score, what nothing and what clean words are decided as, a tie, and leads. Computed. Assumes nothing.
 use mathlib.Core.Path.{_≡_, refl}
 use mathlib.Core.List.{List, [], _∷_, map}
 use Prim.Native.Nat.{ℕ}
@@ -12,7 +12,7 @@ use Rattle.rates.specs.Rates.{symbolChips}
 use Rattle.chips.specs.declared.Counts.{Counts}
 use Rattle.chips.specs.Chips.{pair, nothing, fullChip}
 use Rattle.symbols.specs.Words.{barkerWord, cckWord, cckNumber, p1Of, p2Of, p3Of, p4Of, wordOf, phaseOf}
-use Rattle.symbols.specs.Choice.{term, score, those, allowed, going, firstLargest, decided}
+use Rattle.symbols.specs.Choice.{term, score, those, allowed, going, firstLargest, decided, others, leadOf}
 
 -- the words (0,0,0,0), (1,1,0,0) and (0,1,2,3); what each phase alone adds to which chips; the Barker symbols
 pub words :
@@ -97,3 +97,41 @@ between = map (λ p. getD (pair (negℤ (pos 1024)) (pos 1024) ∷ []) p (pair (
 pub tie-decided : decided Two between ≡ 1
 unfolding barkerWord score those going firstLargest decided
 tie-decided = refl
+
+-- ---- leads
+-- a list without one number, which is in it once, not, or more often
+pub others-left :
+    others 3 (1 ∷ 3 ∷ 5 ∷ []) ∷ others 4 (1 ∷ 3 ∷ 5 ∷ []) ∷ others 0 (0 ∷ []) ∷ others 3 (3 ∷ 1 ∷ 3 ∷ []) ∷ []
+    ≡ (1 ∷ 5 ∷ []) ∷ (1 ∷ 3 ∷ 5 ∷ []) ∷ [] ∷ (1 ∷ []) ∷ []
+unfolding others
+others-left = refl
+
+-- no lead where nothing was recorded, nor halfway between two phases: two words score alike, and one is left out
+pub ties-lead : map (λ r. leadOf r (replicate (symbolChips r) nothing)) rates ≡ 0 ∷ 0 ∷ 0 ∷ 0 ∷ []
+unfolding barkerWord cckWord score those going firstLargest decided others leadOf
+ties-lead = refl
+
+pub between-lead : leadOf Two between ≡ 0
+unfolding barkerWord score those going firstLargest decided others leadOf
+between-lead = refl
+
+-- clean words lead by 11 full chips of 11, by 8 of 8 among the sixteen of 5.5 Mbit/s, and by 4 of 8 among all
+pub clean-lead :
+    map (λ r. leadOf r (map (fullChip 1024) (wordOf r 178))) (Five ∷ Eleven ∷ [])
+    ∷ map (λ r. leadOf r (map (fullChip 1024) (wordOf r 3))) (One ∷ Two ∷ [])
+    ∷ []
+    ≡ (8192 ∷ 4096 ∷ []) ∷ (11264 ∷ 11264 ∷ []) ∷ []
+unfolding barkerWord cckWord score those going firstLargest decided others leadOf
+clean-lead = refl
+
+-- the best of the others may have a smaller number than the word decided, or a larger: phases 1, 3, 0 and 0 of one
+-- Barker symbol, I and Q of each chip being 3 and 5, 3 and -5, 5 and 3, 5 and 0
+abbrev mixed : ℤ → ℤ → List Counts
+mixed i q = map (λ p. getD (pair i q ∷ []) p (pair (negℤ i) (negℤ q))) (barkerWord 0)
+
+pub mixed-leads :
+    leadOf One (mixed (pos 3) (pos 5)) ∷ leadOf One (mixed (pos 3) (negℤ (pos 5))) ∷ leadOf One (mixed (pos 5) (pos 3))
+    ∷ leadOf One (mixed (pos 5) (pos 0)) ∷ []
+    ≡ 22 ∷ 22 ∷ 22 ∷ 55 ∷ []
+unfolding barkerWord score those going firstLargest decided others leadOf
+mixed-leads = refl

@@ -1,12 +1,13 @@
--- Deciding a symbol (RULES 3.5 to 3.8): each allowed word scores; the largest score wins, among equals the smallest
--- number. Scores are whole numbers of any sign; the same sums over exact values serve demand 3.
+-- Deciding a symbol (RULES 3.5 to 3.9): each allowed word scores; the largest score wins, among equals the smallest
+-- number, and its lead says how clearly. Scores are whole numbers of any sign; the same sums over exact values serve
+-- demand 3.
 -- Definitions only. Assumes nothing.
 use Prim.Native.Nat.{ℕ, zero, suc, _%_}
 use mathlib.Core.Bool.{Bool, true, cond, _&&_}
 use mathlib.Core.List.{List, [], _∷_, _++_}
 use lib.ListN.{getD}
 use lib.Dec.{eqb}
-use lib.IntN.{ℤ, pos, negℤ, _+ℤ_}
+use lib.IntN.{ℤ, pos, negℤ, natAbs, _+ℤ_, _-ℤ_}
 use lib.Signed.{ltZ}
 use Rattle.rates.specs.declared.Rate.{Rate}
 use Rattle.rates.specs.declared.Rate.the-variants.{One, Two, Five, Eleven}
@@ -57,3 +58,15 @@ firstLargest f (n ∷ ns) = going f n ns
 -- the number of the word that a symbol's counts are decided as
 unfoldable pub decided : Rate → List Counts → ℕ
 decided r cs = firstLargest (λ n. score (wordOf r n) cs) (allowed r)
+
+-- the numbers of a list but one
+unfoldable pub others : ℕ → List ℕ → List ℕ
+others w [] = []
+others w (n ∷ ns) = cond (eqb n w) (others w ns) (n ∷ others w ns)
+
+-- the lead of the word decided: its score less the best score among the other allowed words, in counts; 0 at a tie.
+-- No other scores more, so the difference is never below 0 (choosing: lead-is)
+unfoldable pub leadOf : Rate → List Counts → ℕ
+leadOf r cs =
+    let f : ℕ → ℤ = λ n. score (wordOf r n) cs in
+    natAbs (f (decided r cs) -ℤ f (firstLargest f (others (decided r cs) (allowed r))))
