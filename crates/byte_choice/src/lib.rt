@@ -3,16 +3,27 @@
 // function is called from one loop over symbols.
 use rates::Rate;
 ghost use mathlib.Core.Path.{_≡_};
-ghost use Prim.Native.Nat.{_+_, _*_, _-_, _%_, _<_, _≤_};
+ghost use Prim.Native.Nat.{_+_, _*_, _-_, _/_, _%_, _<_, _≤_};
 ghost use lib.Dec.{T};
 ghost use lib.IntN.{pos, natAbs};
 ghost use lib.Signed.{nonNeg};
 ghost use Rattle.base.specs.Whole.{Within};
 ghost use Rattle.base.specs.Tables.{tabulate};
-ghost use Rattle.symbols.specs.Choice.{decided};
-ghost use Rattle.choosing.specs.Scores.{RowWithin, scoreAt, number5};
-ghost use Rattle.choosing.specs.Keys.{larger, keyOf, HoldsLargest};
-ghost use Rattle.sums.specs.Sums.{bySigns, bestOfSums, rows, crossed, keyAt};
+ghost use Rattle.choosing.specs.Scores.{RowWithin, scoreAt, number5, ChosenAs};
+ghost use Rattle.choosing.specs.Keys.{larger, smaller, keyOf, HoldsTwo};
+ghost use Rattle.sums.specs.Sums.{bySigns, asChip, rows, crossed, keyAt};
+
+// Two keys, the larger first.
+struct Two {
+    first: i16,
+    second: i16,
+}
+
+// The number of the word decided, and its lead in 64ths of a full chip, as bytes are.
+pub struct Choice {
+    pub number: u8,
+    pub lead: u16,
+}
 
 // The magnitude of s.
 pub fn abs(s: i16) -> i16
@@ -29,6 +40,13 @@ pub fn max(a: i16, b: i16) -> i16
     if a < b { b } else { a }
 }
 
+// The smaller of two.
+pub fn min(a: i16, b: i16) -> i16
+    ensures answer { λ r. ⌜ r ≡ smaller a b ⌝ }
+{
+    if a < b { a } else { b }
+}
+
 // The better key of the words n and n + 2 w, whose scores are s and -s.
 fn key(w: u8, s: i16, n: u8) -> i16
     requires { ⌜ (w ≤ 4) × Within 1408 s × (n < w + w) ⌝ }
@@ -38,12 +56,31 @@ fn key(w: u8, s: i16, n: u8) -> i16
     abs(4 * m * s + m) + ((3 * w - 1 - n) as i16)
 }
 
-// The larger key of two neighbours: the words n and n + 1, whose scores are s and t, and their opposites.
-fn top_key(w: u8, s: i16, n: u8, t: i16) -> i16
+// The keys of two neighbours, the larger first: the words n and n + 1, whose scores are s and t, and their opposites.
+fn two_keys(w: u8, s: i16, n: u8, t: i16) -> Two
     requires { ⌜ (w ≤ 4) × Within 1408 s × Within 1408 t × (n + 1 < w + w) ⌝ }
-    ensures answer { λ r. ⌜ r ≡ larger (pos (keyOf (w + w) n s)) (pos (keyOf (w + w) (n + 1) t)) ⌝ }
+    ensures answer { λ r. ⌜ (r .first ≡ larger (pos (keyOf (w + w) n s)) (pos (keyOf (w + w) (n + 1) t)))
+        × (r .second ≡ smaller (pos (keyOf (w + w) n s)) (pos (keyOf (w + w) (n + 1) t))) ⌝ }
 {
-    max(key(w, s, n), key(w, t, n + 1))
+    let a = key(w, s, n);
+    let b = key(w, t, n + 1);
+    Two {
+        first: max(a, b),
+        second: min(a, b),
+    }
+}
+
+// The two largest of what a and b are the two largest of.
+fn merge(a: Two, b: Two) -> Two
+    ensures answer { λ r. ⌜ (r .first ≡ larger (a .first) (b .first))
+        × (r .second ≡ larger (smaller (a .first) (b .first)) (larger (a .second) (b .second))) ⌝ }
+{
+    let low = min(a.first, b.first);
+    let other = max(a.second, b.second);
+    Two {
+        first: max(a.first, b.first),
+        second: max(low, other),
+    }
 }
 
 // The number of the word that has a key.
@@ -53,6 +90,16 @@ fn number_of(w: u8, key: i16) -> u8
 {
     let m = 4 * (w as u16);
     (m - 1 - (key as u16) % m) as u8
+}
+
+// The lead of the word that has the first of two keys.
+fn lead_of(w: u8, keys: Two) -> u16
+    requires { ⌜ (0 < w) × (w ≤ 4) × T (nonNeg (keys .first)) × T (nonNeg (keys .second))
+        × (natAbs (keys .second) ≤ natAbs (keys .first)) ⌝ }
+    ensures answer { λ r. ⌜ r ≡ natAbs (keys .first) / (4 * w) - natAbs (keys .second) / (4 * w) ⌝ }
+{
+    let m = 4 * (w as u16);
+    (keys.first as u16) / m - (keys.second as u16) / m
 }
 
 // The sum of eleven bytes by the signs of a Barker symbol.
@@ -72,18 +119,22 @@ fn by_signs(c: [i16; 11]) -> i16
     x
 }
 
-// The phase chosen by the sums over I and Q.
-fn choose(i: i16, q: i16) -> u8
+// The choice by the sums over I and Q.
+fn choose(i: i16, q: i16) -> Choice
     requires { ⌜ Within 1408 i × Within 1408 q ⌝ }
-    ensures answer { λ r. ⌜ r ≡ bestOfSums i q ⌝ }
+    ensures answer { λ r. ⌜ ChosenAs Rate.One (asChip i q) (r .number) (r .lead) ⌝ }
 {
-    number_of(1, top_key(1, i, 0, q))
+    let top = two_keys(1, i, 0, q);
+    Choice {
+        number: number_of(1, top.first),
+        lead: lead_of(1, top),
+    }
 }
 
-// The phase decided by eleven chips' bytes, I and Q apart.
-pub fn barker(i: [i16; 11], q: [i16; 11]) -> u8
+// The choice by eleven chips' bytes, I and Q apart.
+pub fn barker(i: [i16; 11], q: [i16; 11]) -> Choice
     requires { ⌜ RowWithin 128 i × RowWithin 128 q ⌝ }
-    ensures answer { λ r. ⌜ r ≡ bestOfSums (bySigns i) (bySigns q) ⌝ }
+    ensures answer { λ r. ⌜ ChosenAs Rate.One (asChip (bySigns i) (bySigns q)) (r .number) (r .lead) ⌝ }
 {
     choose(by_signs(i), by_signs(q))
 }
@@ -118,22 +169,26 @@ fn halves(i: [i16; 8], q: [i16; 8]) -> [i16; 8]
     [m[0], m[1], m[2], m[3], n[2], n[3], n[0], n[1]]
 }
 
-// The largest key of the eight.
-fn largest(h: [i16; 8]) -> i16
+// The two largest keys of the eight.
+fn two_largest(h: [i16; 8]) -> Two
     requires { ⌜ RowWithin 1024 h ⌝ }
-    ensures answer { λ r. ⌜ HoldsLargest (keyAt h) 0 8 r ⌝ }
+    ensures answer { λ r. ⌜ HoldsTwo (keyAt h) 0 8 (r .first) (r .second) ⌝ }
 {
-    let a = top_key(4, h[0], 0, h[1]);
-    let b = top_key(4, h[2], 2, h[3]);
-    let c = top_key(4, h[4], 4, h[5]);
-    let d = top_key(4, h[6], 6, h[7]);
-    max(max(a, b), max(c, d))
+    let a = two_keys(4, h[0], 0, h[1]);
+    let b = two_keys(4, h[2], 2, h[3]);
+    let c = two_keys(4, h[4], 4, h[5]);
+    let d = two_keys(4, h[6], 6, h[7]);
+    merge(merge(a, b), merge(c, d))
 }
 
-// The word decided by eight chips' bytes, I and Q apart.
-pub fn five(i: [i16; 8], q: [i16; 8]) -> u8
+// The choice by eight chips' bytes, I and Q apart.
+pub fn five(i: [i16; 8], q: [i16; 8]) -> Choice
     requires { ⌜ RowWithin 128 i × RowWithin 128 q ⌝ }
-    ensures answer { λ r. ⌜ r ≡ decided Rate.Five (rows i q) ⌝ }
+    ensures answer { λ r. ⌜ ChosenAs Rate.Five (rows i q) (r .number) (r .lead) ⌝ }
 {
-    keys::number(number_of(4, largest(halves(i, q))))
+    let top = two_largest(halves(i, q));
+    Choice {
+        number: keys::number(number_of(4, top.first)),
+        lead: lead_of(4, top),
+    }
 }

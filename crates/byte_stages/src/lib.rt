@@ -1,13 +1,13 @@
-// The first two stages of butterflies, over sixteen symbols of small numbers abreast: signed bytes, or hard chips in
+// The first stage of butterflies, over sixteen symbols of small numbers abreast: signed bytes, or hard chips in
 // full chips. A complex row is sixteen numbers of I and then sixteen of Q; each loop goes over the columns of rows, and
 // the compiler does eight of them at once. Rows to work in are lent.
 ghost use mathlib.Core.Path.{_≡_};
-ghost use Prim.Native.Nat.{_+_, _*_, _≤_, _<_};
+ghost use Prim.Native.Nat.{_+_, _*_, _≤_};
 ghost use lib.ListN.{length};
 ghost use lib.IntN.{_+ℤ_, _*ℤ_};
 ghost use Rattle.base.specs.Whole.{Within};
 ghost use Rattle.choosing.specs.Scores.{RowWithin};
-ghost use Rattle.walsh.specs.Rows.{RowBounded, RowsBounded, Entered, Flown, Paired, Halved};
+ghost use Rattle.walsh.specs.Rows.{RowBounded, RowsBounded, Entered, Flown, Paired};
 
 // A byte times a factor, and more.
 fn scaled(b: i8, times: i16, more: i16) -> i16
@@ -78,13 +78,4 @@ pub fn pairs(z: &[i16], a: &mut [i16])
     butterfly(z, 32, 96, a, 128);
     butterfly(z, 128, 192, a, 256);
     butterfly(z, 160, 224, a, 384);
-}
-
-// The second stage, by p4, two of its eight butterflies: those of one p3.
-pub fn halves(a: &[i16], p3: usize, b: &mut [i16])
-    requires { ⌜ (length (now a) ≡ 512) × (p3 < 4) × (length (now b) ≡ 256) × RowsBounded 4104 16 (now a) ⌝ }
-    ensures b { λ _. ⌜ Halved (now (a .entry)) p3 (now (b .exit)) ⌝ }
-{
-    butterfly(a, 0 + 32 * p3, 256 + 32 * p3, b, 0);
-    butterfly(a, 128 + 32 * p3, 384 + 32 * p3, b, 128);
 }

@@ -1,98 +1,66 @@
 // The choice at 11 Mbit/s, from sixteen symbols of small numbers abreast: signed bytes, or hard chips in full chips.
-// The third stage's sixteen butterflies, by p2, give the sums of the 64 words with p1 = 0, and the four turns of each
-// those of the others. The words of a group share p3 and p4; a group's butterfly comes to the key of its best word, and
-// groups are gone through in their order, so that of equal keys the first stays: the smallest number.
+// For one p3 after the other, the loop over columns reads a column's eight numbers of the first stage and goes through
+// the four groups of that p3, in their order, so that of equal keys the first stays: the smallest number.
+use crate::groups::Best;
 ghost use mathlib.Core.Path.{_≡_};
-ghost use mathlib.Core.Bool.{cond};
-ghost use Prim.Native.Nat.{_+_, _*_, _≤_, _<_};
+ghost use Prim.Native.Nat.{_+_, _*_, _-_, _≤_, _<_};
 ghost use lib.Dec.{T};
 ghost use lib.ListN.{length, getD};
-ghost use lib.IntN.{pos};
-ghost use lib.Signed.{ltZ, nonNeg};
-ghost use Rattle.base.specs.Whole.{Within};
-ghost use Rattle.chips.specs.Chips.{pair};
+ghost use lib.IntN.{pos, negsuc};
+ghost use lib.Signed.{nonNeg, _≤ℤ_};
 ghost use Rattle.recorded.specs.Recorded.{Put};
-ghost use Rattle.walsh.specs.Turns.{twoTop, fourTop, topOf};
-ghost use Rattle.walsh.specs.Rows.{elevenAt, RowBounded, RowsBounded};
-ghost use Rattle.walsh.specs.Search.{Passed, Sought, Keyed, wordOfKey};
+ghost use Rattle.walsh.specs.Rows.{elevenAt, elevenLead, RowsBounded};
+ghost use Rattle.walsh.specs.Search.{Sought, Keyed, wordOfKey, leadOfKeys};
 
-// The larger key of the words whose sums are y + a and y - a, and of their opposites.
-fn two_top(y: i16, a: i16) -> i16
-    requires { ⌜ Within 8208 y × Within 8208 a ⌝ }
-    ensures answer { λ r. ⌜ r ≡ twoTop y a ⌝ }
-{
-    byte_choice::max(byte_choice::abs(y + a), byte_choice::abs(y - a) - 2)
-}
+mod groups;
 
-// The largest key of the words whose sums are y + a, y + b, y - a, y - b, and of their opposites.
-fn four_top(y: i16, a: i16, b: i16) -> i16
-    requires { ⌜ Within 8208 y × Within 8208 a × Within 8208 b ⌝ }
-    ensures answer { λ r. ⌜ r ≡ fourTop y a b ⌝ }
+// The four groups of one p3 in all columns.
+fn quarter(a: &[i16], p3: usize, first: &mut [i16], second: &mut [i16], at: &mut [u16])
+    requires { ⌜ (length (now a) ≡ 512) × (p3 < 4) × RowsBounded 4104 16 (now a)
+        × Sought (now a) (4 * p3) (now first) (now second) (now at) ⌝ }
+    ensures rows { λ _. ⌜ Sought (now (a .entry)) (4 * p3 + 4) (now (first .exit)) (now (second .exit))
+        (now (at .exit)) ⌝ }
 {
-    byte_choice::max(two_top(y, a), two_top(y, b) - 1)
-}
-
-// The largest key of a group's words in one column.
-fn top(yr: i16, yi: i16, xr: i16, xi: i16) -> i16
-    requires { ⌜ Within 8208 yr × Within 8208 yi × Within 8208 xr × Within 8208 xi ⌝ }
-    ensures answer { λ r. ⌜ r ≡ topOf (pair yr yi) (pair xr xi) ⌝ }
-{
-    byte_choice::max(four_top(yr, xr, xi), four_top(yi, xi, -xr) - 4)
-}
-
-// The place g if a key is above the best so far, else the place that was.
-fn place(best: i16, key: i16, g: u16, was: u16) -> u16
-    ensures answer { λ r. ⌜ r ≡ cond (ltZ best key) g was ⌝ }
-{
-    if best < key { g } else { was }
-}
-
-// A last butterfly, of the rows x and y: the group g in all columns.
-fn pass(s: &[i16], x: usize, y: usize, g: u16, best: &mut [i16], at: &mut [u16])
-    requires { ⌜ (x + 32 ≤ length (now s)) × (y + 32 ≤ length (now s)) × (length (now best) ≡ 16)
-        × (length (now at) ≡ 16) × RowBounded 8208 (now s) x × RowBounded 8208 (now s) y ⌝ }
-    ensures rows { λ _. ⌜ Passed (now (s .entry)) x y g (now (best .entry)) (now (at .entry)) 16
-        (now (best .exit)) (now (at .exit)) ⌝ }
-{
+    let e = 0 + 32 * p3;
+    let p = 128 + 32 * p3;
+    let f = 256 + 32 * p3;
+    let q = 384 + 32 * p3;
+    let g = (4 * p3) as u16;
     for l in 0..16 {
-        let a = x + l;
-        let b = y + l;
-        let key = top(s[b], s[b + 16], s[a], s[a + 16]);
-        let old = best[l];
-        best[l] = byte_choice::max(old, key);
-        at[l] = place(old, key, g, at[l]);
-    }
-}
-
-// The four groups of one p3: its part of the second stage, and the last four butterflies of it.
-fn quarter(a: &[i16], p3: usize, b: &mut [i16], best: &mut [i16], at: &mut [u16])
-    requires { ⌜ (length (now a) ≡ 512) × (p3 < 4) × (length (now b) ≡ 256) × RowsBounded 4104 16 (now a)
-        × Sought (now a) (4 * p3) (now best) (now at) ⌝ }
-    ensures b { λ _. ⌜ length (now (b .exit)) ≡ 256 ⌝ }
-    ensures rows { λ _. ⌜ Sought (now (a .entry)) (4 * p3 + 4) (now (best .exit)) (now (at .exit)) ⌝ }
-{
-    byte_stages::halves(a, p3, b);
-    for p4 in 0..4 {
-        pass(
+        let b = Best {
+            first: first[l],
+            second: second[l],
+            group: at[l],
+        };
+        let c = groups::column(
             b,
-            0 + 32 * p4,
-            128 + 32 * p4,
-            (4 * p3 + p4) as u16,
-            best,
-            at,
+            a[q + l],
+            a[q + l + 16],
+            a[p + l],
+            a[p + l + 16],
+            a[f + l],
+            a[f + l + 16],
+            a[e + l],
+            a[e + l + 16],
+            g,
         );
+        let v = c.first;
+        let t = c.second;
+        let w = c.group;
+        first[l] = v;
+        second[l] = t;
+        at[l] = w;
     }
 }
 
 // All sixteen groups.
-fn search(a: &[i16], b: &mut [i16], best: &mut [i16], at: &mut [u16])
-    requires { ⌜ (length (now a) ≡ 512) × (length (now b) ≡ 256) × RowsBounded 4104 16 (now a)
-        × Sought (now a) 0 (now best) (now at) ⌝ }
-    ensures b { λ _. ⌜ length (now (b .exit)) ≡ 256 ⌝ }
-    ensures rows { λ _. ⌜ Sought (now (a .entry)) 16 (now (best .exit)) (now (at .exit)) ⌝ }
+fn search(a: &[i16], first: &mut [i16], second: &mut [i16], at: &mut [u16])
+    requires { ⌜ (length (now a) ≡ 512) × RowsBounded 4104 16 (now a)
+        × Sought (now a) 0 (now first) (now second) (now at) ⌝ }
+    ensures rows { λ _. ⌜ Sought (now (a .entry)) 16 (now (first .exit)) (now (second .exit)) (now (at .exit)) ⌝ }
 {
     for p3 in 0..4 {
-        quarter(a, p3, b, best, at);
+        quarter(a, p3, first, second, at);
     }
 }
 
@@ -105,29 +73,63 @@ fn word_of(key: i16, g: u16) -> u8
     (16 * m + g) as u8
 }
 
-// The numbers of sixteen words, from place l on.
-fn put(best: &[i16], at: &[u16], l: usize, numbers: &mut [u8; 64])
-    requires { ⌜ Keyed (now best) (now at) × (l + 16 ≤ 64) × (length (now numbers) ≡ 64) ⌝ }
-    ensures numbers { λ _. ⌜ Put (λ s. wordOfKey (getD (now (best .entry)) s (pos 0)) (getD (now (at .entry)) s 0)) l
+// The lead of the word that has the first of two keys, in counts: so many to one of what its chips are told in.
+fn lead_of(unit: u32, first: i16, second: i16) -> u32
+    requires { ⌜ (unit ≤ 1024) × T (nonNeg first) × (negsuc 1 ≤ℤ second) × (second ≤ℤ first) ⌝ }
+    ensures answer { λ r. ⌜ r ≡ unit * leadOfKeys first second ⌝ }
+{
+    let next = byte_choice::max(second, 0);
+    let lead = (first as u16 + 11) / 16 - (next as u16 + 11) / 16;
+    unit * (lead as u32)
+}
+
+// The numbers of sixteen words and their leads, from place l on.
+fn put(
+    first: &[i16],
+    second: &[i16],
+    at: &[u16],
+    unit: u32,
+    l: usize,
+    numbers: &mut [u8; 64],
+    leads: &mut [u32; 64],
+)
+    requires { ⌜ Keyed (now first) (now second) (now at) × (unit ≤ 1024) × (l + 16 ≤ 64)
+        × (length (now numbers) ≡ 64) × (length (now leads) ≡ 64) ⌝ }
+    ensures numbers { λ _. ⌜ Put (λ s. wordOfKey (getD (now (first .entry)) s (pos 0)) (getD (now (at .entry)) s 0)) l
         (now (numbers .entry)) (now (numbers .exit)) 16 ⌝ }
+    ensures leads { λ _. ⌜ Put
+        (λ s. unit * leadOfKeys (getD (now (first .entry)) s (pos 0)) (getD (now (second .entry)) s (pos 0))) l
+        (now (leads .entry)) (now (leads .exit)) 16 ⌝ }
 {
     for s in 0..16 {
-        numbers[l + s] = word_of(best[s], at[s]);
+        numbers[l + s] = word_of(first[s], at[s]);
+        leads[l + s] = lead_of(unit, first[s], second[s]);
     }
 }
 
-// Sixteen symbols abreast, decided; their numbers from place l on. The rows z and a are to work in: z has the chips as
-// they enter, and then, for one p3 after the other, the second stage.
-pub fn sixteen(row: &[i8], z: &mut [i16], a: &mut [i16], l: usize, numbers: &mut [u8; 64])
-    requires { ⌜ (length (now row) ≡ 256) × (length (now z) ≡ 256) × (length (now a) ≡ 512)
-        × (l + 16 ≤ 64) × (length (now numbers) ≡ 64) ⌝ }
+// Sixteen symbols abreast, decided; their numbers and leads from place l on, the leads in counts: unit is how many
+// counts are one of the row's numbers. The rows z and a are to work in: chips as they enter, and the first stage.
+pub fn sixteen(
+    row: &[i8],
+    z: &mut [i16],
+    a: &mut [i16],
+    unit: u32,
+    l: usize,
+    numbers: &mut [u8; 64],
+    leads: &mut [u32; 64],
+)
+    requires { ⌜ (length (now row) ≡ 256) × (length (now z) ≡ 256) × (length (now a) ≡ 512) × (unit ≤ 1024)
+        × (l + 16 ≤ 64) × (length (now numbers) ≡ 64) × (length (now leads) ≡ 64) ⌝ }
     ensures lengths { λ _. ⌜ (length (now (z .exit)) ≡ 256) × (length (now (a .exit)) ≡ 512) ⌝ }
     ensures numbers { λ _. ⌜ Put (elevenAt (now (row .entry))) l (now (numbers .entry)) (now (numbers .exit)) 16 ⌝ }
+    ensures leads { λ _. ⌜ Put (λ s. unit * elevenLead (now (row .entry)) s) l (now (leads .entry)) (now (leads .exit))
+        16 ⌝ }
 {
-    let mut best = [-1i16; 16];
+    let mut first = [-2i16; 16];
+    let mut second = [-2i16; 16];
     let mut at = [0u16; 16];
     byte_stages::enter(row, z);
     byte_stages::pairs(z, a);
-    search(a, z, &mut best, &mut at);
-    put(&best, &at, l, numbers);
+    search(a, &mut first, &mut second, &mut at);
+    put(&first, &second, &at, unit, l, numbers, leads);
 }

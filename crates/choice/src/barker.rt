@@ -1,8 +1,11 @@
 // Barker symbols, at 1 and at 2 Mbit/s: a sum over I and one over Q; the four scores are these and their negatives.
+use crate::Choice;
+use keys::Two;
+use rates::Rate;
 ghost use mathlib.Core.Path.{_≡_};
 ghost use Rattle.base.specs.Whole.{Within};
-ghost use Rattle.choosing.specs.Scores.{RowWithin};
-ghost use Rattle.sums.specs.Sums.{bySigns, bestOfSums};
+ghost use Rattle.choosing.specs.Scores.{RowWithin, ChosenAs};
+ghost use Rattle.sums.specs.Sums.{bySigns, asChip};
 
 // The sum of eleven counts by the signs of a Barker symbol.
 fn by_signs(c: [i32; 11]) -> i32
@@ -21,18 +24,24 @@ fn by_signs(c: [i32; 11]) -> i32
     x
 }
 
-// The phase chosen by the sums over I and Q.
-fn choose(i: i32, q: i32) -> u8
+// The choice by the sums over I and Q.
+fn choose(i: i32, q: i32) -> Choice
     requires { ⌜ Within 90112 i × Within 90112 q ⌝ }
-    ensures answer { λ r. ⌜ r ≡ bestOfSums i q ⌝ }
+    ensures answer { λ r. ⌜ ChosenAs Rate.One (asChip i q) (r .number) (r .lead) ⌝ }
 {
-    keys::number_of(1, keys::top_key(1, i, 0, q))
+    let top = keys::two_keys(1, i, 0, q);
+    let first = keys::key_of(top.first);
+    let second = keys::key_of(top.second);
+    Choice {
+        number: keys::number_of(1, first),
+        lead: keys::lead_of(1, first, second),
+    }
 }
 
-// The phase decided by eleven chips' counts, I and Q apart.
-pub fn decide(i: [i32; 11], q: [i32; 11]) -> u8
+// The choice by eleven chips' counts, I and Q apart.
+pub fn decide(i: [i32; 11], q: [i32; 11]) -> Choice
     requires { ⌜ RowWithin 8192 i × RowWithin 8192 q ⌝ }
-    ensures answer { λ r. ⌜ r ≡ bestOfSums (bySigns i) (bySigns q) ⌝ }
+    ensures answer { λ r. ⌜ ChosenAs Rate.One (asChip (bySigns i) (bySigns q)) (r .number) (r .lead) ⌝ }
 {
     choose(by_signs(i), by_signs(q))
 }

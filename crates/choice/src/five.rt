@@ -1,12 +1,13 @@
 // 5.5 Mbit/s: sixteen words in eight opposite pairs. Sums of two chips, of four and of eight give the eight scores; no
 // word's chips are added up by themselves.
+use crate::Choice;
+use keys::Two;
 use rates::Rate;
 ghost use mathlib.Core.Path.{_≡_};
 ghost use Rattle.base.specs.Tables.{tabulate};
-ghost use Rattle.symbols.specs.Choice.{decided};
-ghost use Rattle.choosing.specs.Scores.{RowWithin, scoreAt, number5};
-ghost use Rattle.choosing.specs.Keys.{HoldsLargest};
-ghost use Rattle.sums.specs.Sums.{rows, crossed, keyAt, bestOfEight};
+ghost use Rattle.choosing.specs.Scores.{RowWithin, scoreAt, number5, ChosenAs};
+ghost use Rattle.keys.specs.Floats.{FloatTwo};
+ghost use Rattle.sums.specs.Sums.{rows, crossed, keyAt};
 
 // The sums of four words over two rows: chips 1, 3, 5, 7 of s, and 0, 2, 4, 6 of t.
 fn crossed(s: [i32; 8], t: [i32; 8]) -> [i32; 4]
@@ -38,30 +39,28 @@ fn halves(i: [i32; 8], q: [i32; 8]) -> [i32; 8]
     [m[0], m[1], m[2], m[3], n[2], n[3], n[0], n[1]]
 }
 
-// The largest key of the eight.
-fn largest(h: [i32; 8]) -> i32
+// The two largest keys of the eight.
+fn two_largest(h: [i32; 8]) -> Two
     requires { ⌜ RowWithin 65536 h ⌝ }
-    ensures answer { λ r. ⌜ HoldsLargest (keyAt h) 0 8 r ⌝ }
+    ensures answer { λ r. ⌜ FloatTwo (keyAt h) 0 8 (r .first) (r .second) ⌝ }
 {
-    let a = keys::top_key(4, h[0], 0, h[1]);
-    let b = keys::top_key(4, h[2], 2, h[3]);
-    let c = keys::top_key(4, h[4], 4, h[5]);
-    let d = keys::top_key(4, h[6], 6, h[7]);
-    keys::max(keys::max(a, b), keys::max(c, d))
+    let a = keys::two_keys(4, h[0], 0, h[1]);
+    let b = keys::two_keys(4, h[2], 2, h[3]);
+    let c = keys::two_keys(4, h[4], 4, h[5]);
+    let d = keys::two_keys(4, h[6], 6, h[7]);
+    keys::merge(keys::merge(a, b), keys::merge(c, d))
 }
 
-// The word chosen by eight scores.
-fn choose(h: [i32; 8]) -> u8
-    requires { ⌜ RowWithin 65536 h ⌝ }
-    ensures answer { λ r. ⌜ r ≡ number5 (bestOfEight h) ⌝ }
-{
-    keys::number(keys::number_of(4, largest(h)))
-}
-
-// The word decided by eight chips' counts, I and Q apart.
-pub fn decide(i: [i32; 8], q: [i32; 8]) -> u8
+// The choice by eight chips' counts, I and Q apart.
+pub fn decide(i: [i32; 8], q: [i32; 8]) -> Choice
     requires { ⌜ RowWithin 8192 i × RowWithin 8192 q ⌝ }
-    ensures answer { λ r. ⌜ r ≡ decided Rate.Five (rows i q) ⌝ }
+    ensures answer { λ r. ⌜ ChosenAs Rate.Five (rows i q) (r .number) (r .lead) ⌝ }
 {
-    choose(halves(i, q))
+    let top = two_largest(halves(i, q));
+    let first = keys::key_of(top.first);
+    let second = keys::key_of(top.second);
+    Choice {
+        number: keys::number(keys::number_of(4, first)),
+        lead: keys::lead_of(4, first, second),
+    }
 }

@@ -1,13 +1,13 @@
-// The first two stages of butterflies, over sixteen symbols of counts abreast: what `byte_stages` does with small
+// The first stage of butterflies, over sixteen symbols of counts abreast: what `byte_stages` does with small
 // numbers. A complex row is sixteen numbers of I and then sixteen of Q; each loop goes over the columns of rows, and
 // the compiler does four of them at once. Rows to work in are lent.
 ghost use mathlib.Core.Path.{_≡_};
-ghost use Prim.Native.Nat.{_+_, _*_, _≤_, _<_};
+ghost use Prim.Native.Nat.{_+_, _*_, _≤_};
 ghost use lib.ListN.{length};
 ghost use lib.IntN.{_+ℤ_, _*ℤ_};
 ghost use Rattle.base.specs.Whole.{Within};
 ghost use Rattle.choosing.specs.Scores.{RowWithin};
-ghost use Rattle.walsh.specs.Rows.{RowBounded, RowsBounded, Entered, Flown, Paired, Halved};
+ghost use Rattle.walsh.specs.Rows.{RowBounded, RowsBounded, Entered, Flown, Paired};
 
 // A count times a factor, and more.
 fn scaled(c: i32, times: i32, more: i32) -> i32
@@ -76,13 +76,4 @@ pub fn pairs(z: &[i32], a: &mut [i32])
     butterfly(z, 32, 96, a, 128);
     butterfly(z, 128, 192, a, 256);
     butterfly(z, 160, 224, a, 384);
-}
-
-// The second stage, by p4, two of its eight butterflies: those of one p3.
-pub fn halves(a: &[i32], p3: usize, b: &mut [i32])
-    requires { ⌜ (length (now a) ≡ 512) × (p3 < 4) × (length (now b) ≡ 256) × RowsBounded 262152 16 (now a) ⌝ }
-    ensures b { λ _. ⌜ Halved (now (a .entry)) p3 (now (b .exit)) ⌝ }
-{
-    butterfly(a, 0 + 32 * p3, 256 + 32 * p3, b, 0);
-    butterfly(a, 128 + 32 * p3, 384 + 32 * p3, b, 128);
 }

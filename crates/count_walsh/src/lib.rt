@@ -1,96 +1,65 @@
 // The choice at 11 Mbit/s, from sixteen symbols of counts abreast: what `byte_walsh` does with small numbers.
+use crate::groups::Best;
 ghost use mathlib.Core.Path.{_≡_};
-ghost use mathlib.Core.Bool.{cond};
-ghost use Prim.Native.Nat.{_+_, _*_, _≤_, _<_};
+ghost use Prim.Native.Nat.{_+_, _*_, _-_, _≤_, _<_};
 ghost use lib.Dec.{T};
 ghost use lib.ListN.{length, getD};
-ghost use lib.IntN.{pos};
-ghost use lib.Signed.{ltZ, nonNeg};
-ghost use Rattle.base.specs.Whole.{Within};
-ghost use Rattle.chips.specs.Chips.{pair};
+ghost use lib.IntN.{pos, negsuc};
+ghost use lib.Signed.{nonNeg, _≤ℤ_};
 ghost use Rattle.choosing.specs.Scores.{RowWithin};
 ghost use Rattle.recorded.specs.Recorded.{Put};
-ghost use Rattle.walsh.specs.Turns.{twoTop, fourTop, topOf};
-ghost use Rattle.walsh.specs.Rows.{elevenAt, RowBounded, RowsBounded};
-ghost use Rattle.walsh.specs.Search.{Passed, Sought, Keyed, wordOfKey};
+ghost use Rattle.walsh.specs.Rows.{elevenAt, elevenLead, RowsBounded};
+ghost use Rattle.walsh.specs.Search.{Sought, Keyed, wordOfKey, leadOfKeys};
 
-// The larger key of the words whose sums are y + a and y - a, and of their opposites.
-fn two_top(y: i32, a: i32) -> i32
-    requires { ⌜ Within 524304 y × Within 524304 a ⌝ }
-    ensures answer { λ r. ⌜ r ≡ twoTop y a ⌝ }
-{
-    keys::max(keys::abs(y + a), keys::abs(y - a) - 2)
-}
+mod groups;
 
-// The largest key of the words whose sums are y + a, y + b, y - a, y - b, and of their opposites.
-fn four_top(y: i32, a: i32, b: i32) -> i32
-    requires { ⌜ Within 524304 y × Within 524304 a × Within 524304 b ⌝ }
-    ensures answer { λ r. ⌜ r ≡ fourTop y a b ⌝ }
+// The four groups of one p3 in all columns.
+fn quarter(a: &[i32], p3: usize, first: &mut [i32], second: &mut [i32], at: &mut [u32])
+    requires { ⌜ (length (now a) ≡ 512) × (p3 < 4) × RowsBounded 262152 16 (now a)
+        × Sought (now a) (4 * p3) (now first) (now second) (now at) ⌝ }
+    ensures rows { λ _. ⌜ Sought (now (a .entry)) (4 * p3 + 4) (now (first .exit)) (now (second .exit))
+        (now (at .exit)) ⌝ }
 {
-    keys::max(two_top(y, a), two_top(y, b) - 1)
-}
-
-// The largest key of a group's words in one column.
-fn top(yr: i32, yi: i32, xr: i32, xi: i32) -> i32
-    requires { ⌜ Within 524304 yr × Within 524304 yi × Within 524304 xr × Within 524304 xi ⌝ }
-    ensures answer { λ r. ⌜ r ≡ topOf (pair yr yi) (pair xr xi) ⌝ }
-{
-    keys::max(four_top(yr, xr, xi), four_top(yi, xi, -xr) - 4)
-}
-
-// The place g if a key is above the best so far, else the place that was.
-fn place(best: i32, key: i32, g: u32, was: u32) -> u32
-    ensures answer { λ r. ⌜ r ≡ cond (ltZ best key) g was ⌝ }
-{
-    if best < key { g } else { was }
-}
-
-// A last butterfly, of the rows x and y: the group g in all columns.
-fn pass(s: &[i32], x: usize, y: usize, g: u32, best: &mut [i32], at: &mut [u32])
-    requires { ⌜ (x + 32 ≤ length (now s)) × (y + 32 ≤ length (now s)) × (length (now best) ≡ 16)
-        × (length (now at) ≡ 16) × RowBounded 524304 (now s) x × RowBounded 524304 (now s) y ⌝ }
-    ensures rows { λ _. ⌜ Passed (now (s .entry)) x y g (now (best .entry)) (now (at .entry)) 16
-        (now (best .exit)) (now (at .exit)) ⌝ }
-{
+    let e = 0 + 32 * p3;
+    let p = 128 + 32 * p3;
+    let f = 256 + 32 * p3;
+    let q = 384 + 32 * p3;
+    let g = (4 * p3) as u32;
     for l in 0..16 {
-        let a = x + l;
-        let b = y + l;
-        let key = top(s[b], s[b + 16], s[a], s[a + 16]);
-        let old = best[l];
-        best[l] = keys::max(old, key);
-        at[l] = place(old, key, g, at[l]);
-    }
-}
-
-// The four groups of one p3: its part of the second stage, and the last four butterflies of it.
-fn quarter(a: &[i32], p3: usize, b: &mut [i32], best: &mut [i32], at: &mut [u32])
-    requires { ⌜ (length (now a) ≡ 512) × (p3 < 4) × (length (now b) ≡ 256) × RowsBounded 262152 16 (now a)
-        × Sought (now a) (4 * p3) (now best) (now at) ⌝ }
-    ensures b { λ _. ⌜ length (now (b .exit)) ≡ 256 ⌝ }
-    ensures rows { λ _. ⌜ Sought (now (a .entry)) (4 * p3 + 4) (now (best .exit)) (now (at .exit)) ⌝ }
-{
-    count_stages::halves(a, p3, b);
-    for p4 in 0..4 {
-        pass(
+        let b = Best {
+            first: first[l],
+            second: second[l],
+            group: at[l],
+        };
+        let c = groups::column(
             b,
-            0 + 32 * p4,
-            128 + 32 * p4,
-            (4 * p3 + p4) as u32,
-            best,
-            at,
+            a[q + l],
+            a[q + l + 16],
+            a[p + l],
+            a[p + l + 16],
+            a[f + l],
+            a[f + l + 16],
+            a[e + l],
+            a[e + l + 16],
+            g,
         );
+        let v = c.first;
+        let t = c.second;
+        let w = c.group;
+        first[l] = v;
+        second[l] = t;
+        at[l] = w;
     }
 }
 
 // All sixteen groups.
-fn search(a: &[i32], b: &mut [i32], best: &mut [i32], at: &mut [u32])
-    requires { ⌜ (length (now a) ≡ 512) × (length (now b) ≡ 256) × RowsBounded 262152 16 (now a)
-        × Sought (now a) 0 (now best) (now at) ⌝ }
-    ensures b { λ _. ⌜ length (now (b .exit)) ≡ 256 ⌝ }
-    ensures rows { λ _. ⌜ Sought (now (a .entry)) 16 (now (best .exit)) (now (at .exit)) ⌝ }
+fn search(a: &[i32], first: &mut [i32], second: &mut [i32], at: &mut [u32])
+    requires { ⌜ (length (now a) ≡ 512) × RowsBounded 262152 16 (now a)
+        × Sought (now a) 0 (now first) (now second) (now at) ⌝ }
+    ensures rows { λ _. ⌜ Sought (now (a .entry)) 16 (now (first .exit)) (now (second .exit)) (now (at .exit)) ⌝ }
 {
     for p3 in 0..4 {
-        quarter(a, p3, b, best, at);
+        quarter(a, p3, first, second, at);
     }
 }
 
@@ -103,30 +72,60 @@ fn word_of(key: i32, g: u32) -> u8
     (16 * m + g) as u8
 }
 
-// The numbers of sixteen words, from place l on.
-fn put(best: &[i32], at: &[u32], l: usize, numbers: &mut [u8; 64])
-    requires { ⌜ Keyed (now best) (now at) × (l + 16 ≤ 64) × (length (now numbers) ≡ 64) ⌝ }
-    ensures numbers { λ _. ⌜ Put (λ s. wordOfKey (getD (now (best .entry)) s (pos 0)) (getD (now (at .entry)) s 0)) l
+// The lead of the word that has the first of two keys.
+fn lead_of(first: i32, second: i32) -> u32
+    requires { ⌜ T (nonNeg first) × (negsuc 1 ≤ℤ second) × (second ≤ℤ first) ⌝ }
+    ensures answer { λ r. ⌜ r ≡ leadOfKeys first second ⌝ }
+{
+    let next = keys::max(second, 0);
+    (first as u32 + 11) / 16 - (next as u32 + 11) / 16
+}
+
+// The numbers of sixteen words and their leads, from place l on.
+fn put(
+    first: &[i32],
+    second: &[i32],
+    at: &[u32],
+    l: usize,
+    numbers: &mut [u8; 64],
+    leads: &mut [u32; 64],
+)
+    requires { ⌜ Keyed (now first) (now second) (now at) × (l + 16 ≤ 64)
+        × (length (now numbers) ≡ 64) × (length (now leads) ≡ 64) ⌝ }
+    ensures numbers { λ _. ⌜ Put (λ s. wordOfKey (getD (now (first .entry)) s (pos 0)) (getD (now (at .entry)) s 0)) l
         (now (numbers .entry)) (now (numbers .exit)) 16 ⌝ }
+    ensures leads { λ _. ⌜ Put
+        (λ s. leadOfKeys (getD (now (first .entry)) s (pos 0)) (getD (now (second .entry)) s (pos 0))) l
+        (now (leads .entry)) (now (leads .exit)) 16 ⌝ }
 {
     for s in 0..16 {
-        numbers[l + s] = word_of(best[s], at[s]);
+        numbers[l + s] = word_of(first[s], at[s]);
+        leads[l + s] = lead_of(first[s], second[s]);
     }
 }
 
-// Sixteen symbols abreast, decided; their numbers from place l on. The rows z and a are to work in: z has the chips as
-// they enter, and then, for one p3 after the other, the second stage.
-pub fn sixteen(row: &[i32], z: &mut [i32], a: &mut [i32], l: usize, numbers: &mut [u8; 64])
+// Sixteen symbols abreast, decided; their numbers and leads from place l on. The rows z and a are to work in: chips as
+// they enter, and the first stage.
+pub fn sixteen(
+    row: &[i32],
+    z: &mut [i32],
+    a: &mut [i32],
+    l: usize,
+    numbers: &mut [u8; 64],
+    leads: &mut [u32; 64],
+)
     requires { ⌜ (length (now row) ≡ 256) × (length (now z) ≡ 256) × (length (now a) ≡ 512)
-        × (l + 16 ≤ 64) × (length (now numbers) ≡ 64)
-        × RowWithin 8192 (now row) ⌝ }
+        × (l + 16 ≤ 64) × (length (now numbers) ≡ 64) × (length (now leads) ≡ 64) × RowWithin 8192 (now row) ⌝ }
     ensures lengths { λ _. ⌜ (length (now (z .exit)) ≡ 256) × (length (now (a .exit)) ≡ 512) ⌝ }
     ensures numbers { λ _. ⌜ Put (elevenAt (now (row .entry))) l (now (numbers .entry)) (now (numbers .exit)) 16 ⌝ }
+    ensures leads { λ _. ⌜ Put (elevenLead (now (row .entry))) l (now (leads .entry)) (now (leads .exit))
+        16 ⌝ }
 {
-    let mut best = [-1i32; 16];
+    let mut first = [-2i32; 16];
+    let mut second = [-2i32; 16];
     let mut at = [0u32; 16];
     count_stages::enter(row, z);
     count_stages::pairs(z, a);
-    search(a, z, &mut best, &mut at);
-    put(&best, &at, l, numbers);
+    search(a, &mut first, &mut second, &mut at);
+    put(&first, &second, &at, l, numbers, leads);
 }

@@ -1,9 +1,9 @@
 -- A symbol's chips on each axis: how large their counts are, and what is decided by them; the same of hard chips in
 -- full chips, which decide as their counts do.
 -- Assumes nothing.
-use mathlib.Core.Path.{_≡_, refl, sym, ap, _∙_}
+use mathlib.Core.Path.{_≡_, refl, sym, ap, _∙_, subst}
 use mathlib.Core.List.{List, [], _∷_, map}
-use Prim.Native.Nat.{ℕ, zero, suc}
+use Prim.Native.Nat.{ℕ, zero, suc, _*_}
 use lib.Dec.{lit≤}
 use lib.ListN.{length, getD, List·getD-map}
 use lib.IntN.{ℤ, pos}
@@ -21,11 +21,11 @@ use Rattle.chips.specs.Bounds.{Bounded}
 use Rattle.axes.specs.Axes.{along, unitOf, octetOf, AllHard}
 use Rattle.chips.proofs.Bounds.{counts-within}
 use Rattle.axes.proofs.Axes.{hard-counts}
-use Rattle.symbols.specs.Choice.{decided}
-use Rattle.choosing.specs.Scores.{RowWithin}
-use Rattle.sums.specs.Sums.{bySigns, bestOfSums, rows}
-use Rattle.sums.proofs.Signs.{sums-decided}
-use Rattle.sums.proofs.Scaled.{Times, decided-times}
+use Rattle.symbols.specs.Choice.{decided, leadOf}
+use Rattle.choosing.specs.Scores.{RowWithin, ChosenAs}
+use Rattle.sums.specs.Sums.{bySigns, asChip, rows}
+use Rattle.sums.proofs.Signs.{sums-chosen}
+use Rattle.sums.proofs.Scaled.{Times, decided-times, lead-times}
 
 -- ---- whatever is counted of a chip, nothing of a lost one
 module _ (f : Chip → Counts) (none : f Lost ≡ nothing) where
@@ -52,10 +52,13 @@ module _ (f : Chip → Counts) (none : f Lost ≡ nothing) where
   map-along x (c ∷ chips) = ap (λ (r : List ℤ). along x (f c) ∷ r) (map-along x chips)
 
   -- a Barker symbol by its two sums
-  by-sums : (chips : List Chip)
-      → bestOfSums (bySigns (rowOn I chips)) (bySigns (rowOn Q chips)) ≡ decided One (map f chips)
-  by-sums chips =
-      (λ i. bestOfSums (bySigns (map-along I chips i)) (bySigns (map-along Q chips i))) ∙ sums-decided (map f chips)
+  by-sums : (chips : List Chip) {w t : ℕ}
+      → ChosenAs One (asChip (bySigns (rowOn I chips)) (bySigns (rowOn Q chips))) w t
+      → ChosenAs One (map f chips) w t
+  by-sums chips {w} {t} h =
+      sums-chosen (map f chips)
+      (subst (λ (cs : List Counts). ChosenAs One cs w t)
+      (λ i. asChip (bySigns (map-along I chips i)) (bySigns (map-along Q chips i))) h)
 
   -- eight chips by their two rows
   by-rows : (chips : List Chip) → length chips ≡ 8 → rows (rowOn I chips) (rowOn Q chips) ≡ map f chips
@@ -68,9 +71,9 @@ module _ (f : Chip → Counts) (none : f Lost ≡ nothing) where
 pub counts-small : (x : Axis) (chips : List Chip) → RowWithin 8192 (rowOn countsOf refl x chips)
 counts-small = row-small countsOf refl 8192 counts-within
 
-pub counts-barker : (chips : List Chip)
-    → bestOfSums (bySigns (rowOn countsOf refl I chips)) (bySigns (rowOn countsOf refl Q chips))
-    ≡ decided One (map countsOf chips)
+pub counts-barker : (chips : List Chip) {w t : ℕ}
+    → ChosenAs One (asChip (bySigns (rowOn countsOf refl I chips)) (bySigns (rowOn countsOf refl Q chips))) w t
+    → ChosenAs One (map countsOf chips) w t
 counts-barker = by-sums countsOf refl
 
 pub counts-eight : (chips : List Chip) → length chips ≡ 8
@@ -104,22 +107,30 @@ full-times (suc (suc zero)) = record { real = refl; imag = refl }
 full-times (suc (suc (suc zero))) = record { real = refl; imag = refl }
 full-times (suc (suc (suc (suc p)))) = record { real = refl; imag = refl }
 
--- usable hard chips decide by full chips what they decide by counts
-units-decided : (n : ℕ) (r : Rate) (chips : List Chip) → length chips ≡ n → AllHard n chips
-    → decided r (map unitOf chips) ≡ decided r (map countsOf chips)
-units-decided n r chips e h =
-    sym (decided-times 1024 (lit≤ tt) (λ c. fullChip 1024 (octetOf c)) unitOf (λ c. full-times (octetOf c)) r chips)
-    ∙ ap (decided r)
-    (map-tabulate (λ c. fullChip 1024 (octetOf c)) chips n Lost e
-    ∙ tabulate-ext (λ k. fullChip 1024 (octetOf (getD chips k Lost))) (λ k. countsOf (getD chips k Lost)) n
-    (λ k l. hard-counts (getD chips k Lost) (h .at k l))
-    ∙ sym (map-tabulate countsOf chips n Lost e))
+-- usable hard chips decide by full chips what they decide by counts, and their lead is 1024 times as large
+module _ (n : ℕ) (r : Rate) (chips : List Chip) (e : length chips ≡ n) (h : AllHard n chips) where
+  counts-are : map (λ c. fullChip 1024 (octetOf c)) chips ≡ map countsOf chips
+  counts-are =
+      map-tabulate (λ c. fullChip 1024 (octetOf c)) chips n Lost e
+      ∙ tabulate-ext (λ k. fullChip 1024 (octetOf (getD chips k Lost))) (λ k. countsOf (getD chips k Lost)) n
+      (λ k l. hard-counts (getD chips k Lost) (h .at k l))
+      ∙ sym (map-tabulate countsOf chips n Lost e)
 
-pub units-barker : (chips : List Chip) → length chips ≡ 11 → AllHard 11 chips
-    → bestOfSums (bySigns (rowOn unitOf refl I chips)) (bySigns (rowOn unitOf refl Q chips))
-    ≡ decided One (map countsOf chips)
-units-barker chips e h = by-sums unitOf refl chips ∙ units-decided 11 One chips e h
+  pub units-decided : decided r (map unitOf chips) ≡ decided r (map countsOf chips)
+  units-decided =
+      sym (decided-times 1024 (lit≤ tt) (λ c. fullChip 1024 (octetOf c)) unitOf (λ c. full-times (octetOf c)) r chips)
+      ∙ ap (decided r) counts-are
 
-pub units-eight : (r : Rate) (chips : List Chip) → length chips ≡ 8 → AllHard 8 chips
-    → decided r (rows (rowOn unitOf refl I chips) (rowOn unitOf refl Q chips)) ≡ decided r (map countsOf chips)
-units-eight r chips e h = ap (decided r) (by-rows unitOf refl chips e) ∙ units-decided 8 r chips e h
+  pub units-lead : 1024 * leadOf r (map unitOf chips) ≡ leadOf r (map countsOf chips)
+  units-lead =
+      sym (lead-times 1024 (lit≤ tt) (λ c. fullChip 1024 (octetOf c)) unitOf (λ c. full-times (octetOf c)) r chips)
+      ∙ ap (leadOf r) counts-are
+
+pub units-barker : (chips : List Chip) {w t : ℕ}
+    → ChosenAs One (asChip (bySigns (rowOn unitOf refl I chips)) (bySigns (rowOn unitOf refl Q chips))) w t
+    → ChosenAs One (map unitOf chips) w t
+units-barker = by-sums unitOf refl
+
+pub units-rows : (chips : List Chip) → length chips ≡ 8
+    → rows (rowOn unitOf refl I chips) (rowOn unitOf refl Q chips) ≡ map unitOf chips
+units-rows = by-rows unitOf refl

@@ -1,6 +1,7 @@
--- Counts that are so many times others, all of them, decide the same word, at every rate.
+-- Counts that are so many times others, all of them, decide the same word, at every rate, and its lead is so many times
+-- theirs.
 -- Assumes nothing.
-use mathlib.Core.Path.{_≡_, refl, sym, ap, _∙_}
+use mathlib.Core.Path.{_≡_, refl, sym, ap, _∙_, subst}
 use mathlib.Core.Bool.{Bool, true, false, cond}
 use mathlib.Core.List.{List, [], _∷_, map}
 use Prim.Native.Nat.{ℕ, zero, suc, _+_, _*_, _≤_, _<_}
@@ -16,15 +17,16 @@ use native.Mathlib.Nat.{
 use native.Mathlib.Omega.{arith}
 use lib.Dec.{T}
 use lib.IntN.{ℤ, pos, negℤ, _+ℤ_, _*ℤ_}
-use lib.Signed.{ltZ}
+use lib.Signed.{ltZ, _≤ℤ_}
 use Rattle.base.specs.Whole.{up, dn}
-use Rattle.base.proofs.Whole.{add, neg-up, neg-dn, same, of-lt, lt-of}
+use Rattle.base.proofs.Whole.{add, neg-up, neg-dn, up-pos, dn-pos, same, of-lt, lt-of, of-le, le-of}
 use Rattle.rates.specs.declared.Rate.{Rate}
 use Rattle.chips.specs.declared.Counts.{Counts}
 use Rattle.symbols.specs.Words.{wordOf}
-use Rattle.symbols.specs.Choice.{term, score, going, firstLargest, allowed, decided}
-use Rattle.choosing.specs.Scores.{scoreAt}
+use Rattle.symbols.specs.Choice.{term, score, going, firstLargest, allowed, decided, leadOf}
+use Rattle.choosing.specs.Scores.{scoreAt, NextAs}
 use Rattle.choosing.proofs.Adding.{times-up, times-dn}
+use Rattle.choosing.proofs.Leads.{runnerUp, runner-next, lead-is}
 
 iff : (a b : Bool) → (T a → T b) → (T b → T a) → a ≡ b
 iff true true f g = refl
@@ -101,6 +103,19 @@ module _ (t : ℕ) (some : 0 < t) where
             times-dn t b,
           )
 
+  k-le : (a b : ℤ) → a ≤ℤ b → k a ≤ℤ k b
+  k-le a b h =
+      le-of (k a) (k b) (omega (
+        arith,
+        mul-le-mul-left t (of-le a b h),
+        mul-add t (up a) (dn b),
+        mul-add t (up b) (dn a),
+        times-up t a,
+        times-dn t a,
+        times-up t b,
+        times-dn t b,
+      ))
+
   -- ---- scores
   pub term-times : (p : ℕ) {c u : Counts} → Times t c u → term p c ≡ k (term p u)
   term-times zero h = h .real
@@ -140,3 +155,49 @@ module _ (t : ℕ) (some : 0 < t) where
     pub decided-times : decided r (map f l) ≡ decided r (map g l)
     unfolding decided
     decided-times = first-same (scoreAt r (map f l)) (scoreAt r (map g l)) scores (allowed r)
+
+    abbrev few : List Counts
+    few = map g l
+
+    abbrev many : List Counts
+    many = map f l
+
+    -- the word next to it is the same
+    next-times : NextAs r many (decided r many) (runnerUp r few)
+    next-times = subst (λ (w : ℕ). NextAs r many w (runnerUp r few)) (sym decided-times) (record {
+      among = x .among;
+      allowed = x .allowed;
+      other = x .other;
+      top = λ j h a d. rw (scores j, scores (runnerUp r few))
+          (k-le (scoreAt r few j) (scoreAt r few (runnerUp r few)) (x .top j h a d));
+    })
+      where
+        x : NextAs r few (decided r few) (runnerUp r few)
+        x = runner-next r few
+
+    pub lead-times : leadOf r many ≡ t * leadOf r few
+    lead-times =
+        let m = scoreAt r few (runnerUp r few) in
+        let w = scoreAt r few (decided r few) in
+        let mine : k m +ℤ pos (leadOf r many) ≡ k w =
+        ap (λ (z : ℤ). z +ℤ pos (leadOf r many)) (sym (scores (runnerUp r few)))
+        ∙ lead-is r many (runnerUp r few) next-times
+        ∙ ap (scoreAt r many) decided-times
+        ∙ scores (decided r few) in
+        let theirs : k m +ℤ k (pos (leadOf r few)) ≡ k w =
+        k-add m (pos (leadOf r few)) ∙ ap k (lead-is r few (runnerUp r few) (runner-next r few)) in
+        omega (
+          arith,
+          ap up mine,
+          ap dn mine,
+          ap up theirs,
+          ap dn theirs,
+          add (k m) (pos (leadOf r many)),
+          add (k m) (k (pos (leadOf r few))),
+          up-pos (leadOf r many),
+          dn-pos (leadOf r many),
+          times-up t (pos (leadOf r few)),
+          times-dn t (pos (leadOf r few)),
+          ap (λ (x : ℕ). t * x) (up-pos (leadOf r few)),
+          ap (λ (x : ℕ). t * x) (dn-pos (leadOf r few)),
+        )

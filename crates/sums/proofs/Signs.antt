@@ -1,4 +1,4 @@
--- The sum of a row by signs: the loop that makes it, the Barker scores by it, and the phase that they choose.
+-- The sum of a row by signs: the loop that makes it, the Barker scores by it, and the choice by two sums.
 -- Assumes nothing.
 use mathlib.Core.Path.{_≡_, refl, sym, ap, _∙_, subst}
 use mathlib.Core.Bool.{Bool, true, false, not}
@@ -20,17 +20,19 @@ use Rattle.base.proofs.Whole.{fits-at, within-add, within-neg, within-zero, wit
 use Rattle.base.proofs.Tests.{all-at, implies, implied}
 use Rattle.rates.specs.declared.Rate.the-variants.{One}
 use Rattle.chips.specs.declared.Counts.{Counts}
+use Rattle.chips.specs.Chips.{pair}
 use Rattle.axes.specs.declared.Axis.{Axis}
 use Rattle.axes.specs.declared.Axis.the-variants.{I, Q}
 use Rattle.axes.specs.Axes.{along, phaseOn}
 use Rattle.symbols.specs.Words.{barkerSigns, signChip, barkerWord}
-use Rattle.symbols.specs.Choice.{score, decided}
+use Rattle.symbols.specs.Choice.{score, term}
 use Rattle.symbols.proofs.Words.{barkerTurns}
-use Rattle.choosing.specs.Scores.{RowWithin, scoreAt}
-use Rattle.sums.specs.Sums.{bySign, signed, bySigns, fourOf, bestOfSums}
+use Rattle.choosing.specs.Scores.{RowWithin, scoreAt, ChosenAs}
+use Rattle.sums.specs.Sums.{bySign, signed, bySigns, asChip}
 use Rattle.choosing.proofs.Adding.{reads-of}
-use Rattle.choosing.proofs.Best.{first-ext}
+use Rattle.choosing.proofs.Chosen.{chosen-alike}
 use Rattle.choosing.proofs.HalfTurns.{barker-half}
+use Rattle.sums.proofs.Four.{score-chip}
 
 -- ---- the scores of the phases 0 and 1 are the sums of I and of Q
 score-signed : (x : Axis) (ss : List Bool) (cs : List Counts) → score (map (signChip (phaseOn x)) ss) cs
@@ -47,21 +49,23 @@ barker-along : (x : Axis) (cs : List Counts) → score (barkerWord (phaseOn x)) 
 unfolding barkerWord
 barker-along x cs = score-signed x barkerSigns cs
 
--- ---- so the sums choose what the scores do
+-- ---- so the chip of the sums is chosen as the symbol is
 module _ (cs : List Counts) where
   abbrev sumOn : Axis → ℤ
   sumOn x = bySigns (map (along x) cs)
 
-  four-is : (n : ℕ) → n < 4 → scoreAt One cs n ≡ fourOf (sumOn I) (sumOn Q) n
-  four-is zero l = barker-along I cs
-  four-is (suc zero) l = barker-along Q cs
-  four-is (suc (suc zero)) l = sym (barker-half cs 0 (lit< tt)) ∙ ap negℤ (barker-along I cs)
-  four-is (suc (suc (suc zero))) l = sym (barker-half cs 1 (lit< tt)) ∙ ap negℤ (barker-along Q cs)
-  four-is (suc (suc (suc (suc n)))) l = absurd (omega arith)
+  sums-score : (n : ℕ) → n < 4 → scoreAt One (asChip (sumOn I) (sumOn Q)) n ≡ scoreAt One cs n
+  sums-score n l = score-chip (sumOn I) (sumOn Q) n l ∙ sym (four-is n l)
+    where
+      four-is : (n : ℕ) → n < 4 → scoreAt One cs n ≡ term n (pair (sumOn I) (sumOn Q))
+      four-is zero l = barker-along I cs
+      four-is (suc zero) l = barker-along Q cs
+      four-is (suc (suc zero)) l = sym (barker-half cs 0 (lit< tt)) ∙ ap negℤ (barker-along I cs)
+      four-is (suc (suc (suc zero))) l = sym (barker-half cs 1 (lit< tt)) ∙ ap negℤ (barker-along Q cs)
+      four-is (suc (suc (suc (suc n)))) l = absurd (omega arith)
 
-  pub sums-decided : bestOfSums (sumOn I) (sumOn Q) ≡ decided One cs
-  unfolding decided
-  sums-decided = sym (first-ext (scoreAt One cs) (fourOf (sumOn I) (sumOn Q)) 4 (lit< tt) four-is)
+  pub sums-chosen : {w t : ℕ} → ChosenAs One (asChip (sumOn I) (sumOn Q)) w t → ChosenAs One cs w t
+  sums-chosen = chosen-alike One (asChip (sumOn I) (sumOn Q)) cs sums-score
 
 -- ---- the loop: the sum so far with that of the rest is the whole. The row's numbers are from -b to b, and the sum is
 -- kept in w

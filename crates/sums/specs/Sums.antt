@@ -1,17 +1,14 @@
 -- Scores by sums of I and of Q apart: a Barker symbol's four by two sums, the sixteen of 5.5 Mbit/s by eight.
 -- Definitions only. Assumes nothing.
-use Prim.Native.Nat.{ℕ, _+_, _*_, _-_}
-use mathlib.Core.Bool.{Bool, true, false, cond}
+use Prim.Native.Nat.{ℕ, _+_, _*_}
+use mathlib.Core.Bool.{Bool, true, false}
 use mathlib.Core.List.{List, [], _∷_}
-use lib.Dec.{ltb}
 use lib.ListN.{getD}
 use lib.IntN.{ℤ, pos, negℤ, _+ℤ_}
 use Rattle.base.specs.Tables.{tabulate}
 use Rattle.chips.specs.declared.Counts.{Counts}
 use Rattle.chips.specs.Chips.{pair}
 use Rattle.symbols.specs.Words.{barkerSigns}
-use Rattle.symbols.specs.Choice.{term, firstLargest}
-use Rattle.choosing.specs.Scores.{upTo}
 use Rattle.choosing.specs.Keys.{keyOf}
 
 abbrev pub bySign : Bool → ℤ → ℤ
@@ -27,12 +24,9 @@ signed (s ∷ ss) (z ∷ zs) = bySign s z +ℤ signed ss zs
 abbrev pub bySigns : List ℤ → ℤ
 bySigns zs = signed barkerSigns zs
 
--- the four scores of a Barker symbol by the sums over I and Q, and the first that is largest
-abbrev pub fourOf : ℤ → ℤ → ℕ → ℤ
-fourOf i q n = term n (pair i q)
-
-abbrev pub bestOfSums : ℤ → ℤ → ℕ
-bestOfSums i q = firstLargest (fourOf i q) (upTo 4)
+-- a Barker symbol's sums over I and Q as the counts of one chip: it scores what the symbol does
+abbrev pub asChip : ℤ → ℤ → List Counts
+asChip i q = pair i q ∷ []
 
 -- eight chips' counts of their rows of I and of Q
 abbrev pub rows : List ℤ → List ℤ → List Counts
@@ -55,13 +49,6 @@ crossed s t =
     ∷ (at t 0 +ℤ (negℤ (at s 1) +ℤ (at t 2 +ℤ (at s 3
     +ℤ (negℤ (at t 4) +ℤ (at s 5 +ℤ (at t 6 +ℤ (at s 7 +ℤ pos 0))))))))
     ∷ []
-
--- the sixteen scores by the first eight, and the first that is largest
-abbrev pub sixteen : List ℤ → ℕ → ℤ
-sixteen h n = cond (ltb n 8) (getD h n (pos 0)) (negℤ (getD h (n - 8) (pos 0)))
-
-abbrev pub bestOfEight : List ℤ → ℕ
-bestOfEight h = firstLargest (sixteen h) (upTo 16)
 
 -- the better key of pair j
 abbrev pub keyAt : List ℤ → ℕ → ℕ

@@ -1,26 +1,44 @@
 // The choice of a word from full chips, in octets, at 1, 2 and 5.5 Mbit/s: what `choice` does with counts. A full chip
-// of a hard recording counts 1024, so the same word is chosen, and sixteen symbols go side by side where counts have
-// room for four. Arrays of chips dissolve in the one loop over symbols that calls `decide_barker` or `decide_five`.
+// of a hard recording counts 1024, so the same word is chosen, its lead in counts is 1024 times as large, and sixteen
+// symbols go side by side where counts have room for four. Arrays of chips dissolve in the one loop over symbols that
+// calls `decide_barker` or `decide_five`.
 use axes::Axis;
 use chips::Chip;
 use rates::Rate;
 ghost use mathlib.Core.Path.{_≡_};
-ghost use Prim.Native.Nat.{_+_, _*_, _-_, _%_, _<_, _≤_};
+ghost use Prim.Native.Nat.{_+_, _*_, _-_, _/_, _%_, _<_, _≤_};
 ghost use mathlib.Core.List.{map};
-ghost use Rattle.chips.specs.Chips.{countsOf};
-ghost use Rattle.axes.specs.Axes.{AllHard};
+ghost use Rattle.axes.specs.Axes.{unitOf};
 ghost use Rattle.base.specs.Whole.{Within};
 ghost use Rattle.base.specs.Tables.{tabulate};
-ghost use Rattle.symbols.specs.Choice.{decided};
-ghost use Rattle.choosing.specs.Scores.{RowWithin, scoreAt, number5};
-ghost use Rattle.choosing.specs.Keys.{bigger, keyOf, Largest};
-ghost use Rattle.sums.specs.Sums.{bySigns, bestOfSums, rows, crossed, keyAt};
+ghost use Rattle.choosing.specs.Scores.{RowWithin, scoreAt, number5, ChosenAs};
+ghost use Rattle.choosing.specs.Keys.{bigger, lesser, keyOf, TwoLargest};
+ghost use Rattle.sums.specs.Sums.{bySigns, asChip, rows, crossed, keyAt};
+
+// Two keys, the larger first.
+struct Two {
+    first: u8,
+    second: u8,
+}
+
+// The number of the word decided, and its lead in full chips.
+pub struct Choice {
+    pub number: u8,
+    pub lead: u8,
+}
 
 // The larger of two.
 fn max(a: u8, b: u8) -> u8
     ensures answer { λ r. ⌜ r ≡ bigger a b ⌝ }
 {
     if a < b { b } else { a }
+}
+
+// The smaller of two.
+fn min(a: u8, b: u8) -> u8
+    ensures answer { λ r. ⌜ r ≡ lesser a b ⌝ }
+{
+    if a < b { a } else { b }
 }
 
 // The better key of the words n and n + 2 w, whose scores are s and -s.
@@ -35,12 +53,31 @@ fn key(w: u8, s: i8, n: u8) -> u8
     }
 }
 
-// The larger key of two neighbours: the words n and n + 1, whose scores are s and t, and their opposites.
-fn top_key(w: u8, s: i8, n: u8, t: i8) -> u8
+// The keys of two neighbours, the larger first: the words n and n + 1, whose scores are s and t, and their opposites.
+fn two_keys(w: u8, s: i8, n: u8, t: i8) -> Two
     requires { ⌜ (w ≤ 4) × Within 11 s × Within 11 t × (n + 1 < w + w) ⌝ }
-    ensures answer { λ r. ⌜ r ≡ bigger (keyOf (w + w) n s) (keyOf (w + w) (n + 1) t) ⌝ }
+    ensures answer { λ r. ⌜ (r .first ≡ bigger (keyOf (w + w) n s) (keyOf (w + w) (n + 1) t))
+        × (r .second ≡ lesser (keyOf (w + w) n s) (keyOf (w + w) (n + 1) t)) ⌝ }
 {
-    max(key(w, s, n), key(w, t, n + 1))
+    let a = key(w, s, n);
+    let b = key(w, t, n + 1);
+    Two {
+        first: max(a, b),
+        second: min(a, b),
+    }
+}
+
+// The two largest of what a and b are the two largest of.
+fn merge(a: Two, b: Two) -> Two
+    ensures answer { λ r. ⌜ (r .first ≡ bigger (a .first) (b .first))
+        × (r .second ≡ bigger (lesser (a .first) (b .first)) (bigger (a .second) (b .second))) ⌝ }
+{
+    let low = min(a.first, b.first);
+    let other = max(a.second, b.second);
+    Two {
+        first: max(a.first, b.first),
+        second: max(low, other),
+    }
 }
 
 // The number of the word that has a key.
@@ -49,6 +86,14 @@ fn number_of(w: u8, key: u8) -> u8
     ensures answer { λ r. ⌜ r ≡ 4 * w - 1 - key % (4 * w) ⌝ }
 {
     4 * w - 1 - key % (4 * w)
+}
+
+// The lead of the word that has the first of two keys.
+fn lead_of(w: u8, keys: Two) -> u8
+    requires { ⌜ (0 < w) × (w ≤ 4) × (keys .second ≤ keys .first) ⌝ }
+    ensures answer { λ r. ⌜ r ≡ keys .first / (4 * w) - keys .second / (4 * w) ⌝ }
+{
+    keys.first / (4 * w) - keys.second / (4 * w)
 }
 
 // The sum of eleven chips by the signs of a Barker symbol.
@@ -68,18 +113,22 @@ fn by_signs(c: [i8; 11]) -> i8
     x
 }
 
-// The phase chosen by the sums over I and Q.
-fn choose(i: i8, q: i8) -> u8
+// The choice by the sums over I and Q.
+fn choose(i: i8, q: i8) -> Choice
     requires { ⌜ Within 11 i × Within 11 q ⌝ }
-    ensures answer { λ r. ⌜ r ≡ bestOfSums i q ⌝ }
+    ensures answer { λ r. ⌜ ChosenAs Rate.One (asChip i q) (r .number) (r .lead) ⌝ }
 {
-    number_of(1, top_key(1, i, 0, q))
+    let top = two_keys(1, i, 0, q);
+    Choice {
+        number: number_of(1, top.first),
+        lead: lead_of(1, top),
+    }
 }
 
-// The phase decided by eleven chips, I and Q apart.
-fn barker(i: [i8; 11], q: [i8; 11]) -> u8
+// The choice by eleven chips, I and Q apart.
+fn barker(i: [i8; 11], q: [i8; 11]) -> Choice
     requires { ⌜ RowWithin 1 i × RowWithin 1 q ⌝ }
-    ensures answer { λ r. ⌜ r ≡ bestOfSums (bySigns i) (bySigns q) ⌝ }
+    ensures answer { λ r. ⌜ ChosenAs Rate.One (asChip (bySigns i) (bySigns q)) (r .number) (r .lead) ⌝ }
 {
     choose(by_signs(i), by_signs(q))
 }
@@ -114,30 +163,33 @@ fn halves(i: [i8; 8], q: [i8; 8]) -> [i8; 8]
     [m[0], m[1], m[2], m[3], n[2], n[3], n[0], n[1]]
 }
 
-// The largest key of the eight.
-fn largest(h: [i8; 8]) -> u8
+// The two largest keys of the eight.
+fn two_largest(h: [i8; 8]) -> Two
     requires { ⌜ RowWithin 8 h ⌝ }
-    ensures answer { λ r. ⌜ Largest (keyAt h) 0 8 r ⌝ }
+    ensures answer { λ r. ⌜ TwoLargest (keyAt h) 0 8 (r .first) (r .second) ⌝ }
 {
-    let a = top_key(4, h[0], 0, h[1]);
-    let b = top_key(4, h[2], 2, h[3]);
-    let c = top_key(4, h[4], 4, h[5]);
-    let d = top_key(4, h[6], 6, h[7]);
-    max(max(a, b), max(c, d))
+    let a = two_keys(4, h[0], 0, h[1]);
+    let b = two_keys(4, h[2], 2, h[3]);
+    let c = two_keys(4, h[4], 4, h[5]);
+    let d = two_keys(4, h[6], 6, h[7]);
+    merge(merge(a, b), merge(c, d))
 }
 
-// The word decided by eight chips, I and Q apart.
-fn five(i: [i8; 8], q: [i8; 8]) -> u8
+// The choice by eight chips, I and Q apart.
+fn five(i: [i8; 8], q: [i8; 8]) -> Choice
     requires { ⌜ RowWithin 1 i × RowWithin 1 q ⌝ }
-    ensures answer { λ r. ⌜ r ≡ decided Rate.Five (rows i q) ⌝ }
+    ensures answer { λ r. ⌜ ChosenAs Rate.Five (rows i q) (r .number) (r .lead) ⌝ }
 {
-    keys::number(number_of(4, largest(halves(i, q))))
+    let top = two_largest(halves(i, q));
+    Choice {
+        number: keys::number(number_of(4, top.first)),
+        lead: lead_of(4, top),
+    }
 }
 
-// The phase that a Barker symbol is decided as, at 1 and at 2 Mbit/s.
-pub fn decide_barker(chips: [Chip; 11]) -> u8
-    requires { ⌜ AllHard 11 chips ⌝ }
-    ensures answer { λ r. ⌜ r ≡ decided Rate.One (map countsOf chips) ⌝ }
+// The phase that a Barker symbol is decided as, at 1 and at 2 Mbit/s, and its lead.
+pub fn decide_barker(chips: [Chip; 11]) -> Choice
+    ensures answer { λ r. ⌜ ChosenAs Rate.One (map unitOf chips) (r .number) (r .lead) ⌝ }
 {
     barker(
         axes::hard_units11(chips, Axis::I),
@@ -145,10 +197,9 @@ pub fn decide_barker(chips: [Chip; 11]) -> u8
     )
 }
 
-// The number of the word that a symbol of 5.5 Mbit/s is decided as.
-pub fn decide_five(chips: [Chip; 8]) -> u8
-    requires { ⌜ AllHard 8 chips ⌝ }
-    ensures answer { λ r. ⌜ r ≡ decided Rate.Five (map countsOf chips) ⌝ }
+// The word that a symbol of 5.5 Mbit/s is decided as, and its lead.
+pub fn decide_five(chips: [Chip; 8]) -> Choice
+    ensures answer { λ r. ⌜ ChosenAs Rate.Five (map unitOf chips) (r .number) (r .lead) ⌝ }
 {
     five(
         axes::hard_units8(chips, Axis::I),

@@ -3,7 +3,9 @@ pub mod Puts
 pub mod Flights
 pub mod Stages
 pub mod Tops
+pub mod Groups
 pub mod Search
 pub mod Scores
+pub mod Pairs
 pub mod Chosen
 pub mod Machine

@@ -1,149 +1,208 @@
--- The keys of a last butterfly in signed numbers of any width: of numbers from -b to b all that is made fits, and the
--- ends are twoTop, fourTop and topOf.
+-- The keys of a last butterfly in signed numbers of any width: what is made of numbers from -b to b fits, and is read
+-- back as what it is in whole numbers.
+--     reads-abs, reads-larger, reads-smaller      a magnitude, and the larger and the smaller of two
+--     reads-sided, two-minus-fits, reads-credit   what a number adds to the magnitude of y
+--     credit-by, left-over                        credit and smaller where SSE2 has no instruction for them
+--     reads-four, reads-four-next                 two keys of four words
+--     size-of-first, size-of-next, next-natural, next-under      what is read off two keys
+--     met-as                                      a group met, from numbers read back
 -- Assumes nothing.
-use mathlib.Core.Path.{_≡_, ap, _∙_}
-use mathlib.Core.Bool.{Bool, true, false, cond}
-use Prim.Native.Nat.{ℕ, _+_, _^_, _≤_, _<_}
+use mathlib.Core.Path.{_≡_, refl, ap, _∙_}
+use mathlib.Core.Bool.{Bool, true, false, not, cond}
+use Prim.Native.Nat.{ℕ, zero, suc, _+_, _/_, _^_, _≤_, _<_}
 use native.Mathlib.Omega.{arith}
-use lib.IntN.{ℤ, pos, negℤ, natAbs, _+ℤ_, _-ℤ_}
-use lib.Signed.{ltZ}
+use lib.IntN.{ℤ, pos, negsuc, negℤ, natAbs, _+ℤ_, _-ℤ_}
+use lib.Dec.{T, leb→le}
+use lib.Signed.{ltZ, nonNeg, _≤ℤ_, _<ℤ_, ltZ-yes, ltZ-no}
 use mir.Syntax.{Width}
 use mir.Val.{SFits, toZ, ofZ, hbits}
 use mir.Facts.{toZ-pos}
-use Rattle.base.specs.Whole.{Within}
-use Rattle.base.proofs.Whole.{small, neg-fits, neg-read, within-add, within-neg, within-more}
-use Rattle.chips.specs.Chips.{pair}
-use Rattle.choosing.specs.Keys.{larger}
-use Rattle.choosing.proofs.Adding.{Reads, made, reads-of, within-pos, reads-fits, reads-add, less-fits, reads-less}
+use Rattle.base.specs.Whole.{up, dn, Within}
+use Rattle.base.proofs.Whole.{
+  add,
+  neg-up,
+  neg-dn,
+  up-pos,
+  dn-pos,
+  same,
+  of-lt,
+  of-le,
+  within-add,
+  within-neg,
+  within-more,
+}
+use Rattle.chips.specs.declared.Counts.{Counts}
+use Rattle.choosing.specs.Keys.{larger, smaller}
+use Rattle.choosing.proofs.Adding.{Reads, made-fits, made, within-pos}
 use Rattle.sums.proofs.Wide.{abs-le}
-use Rattle.walsh.specs.Turns.{twoTop, fourTop, topOf}
+use Rattle.walsh.specs.Turns.{sided, credit, fourTop, fourNext}
+use Rattle.walsh.specs.Search.{Held, met, sizeOf}
 
-within-larger : {c : ℕ} {u v : ℤ} → Within c u → Within c v → Within c (larger u v)
-within-larger {c} {u} {v} h k = by (ltZ u v)
-  where
-    by : (t : Bool) → Within c (cond t v u)
-    by true = k
-    by false = h
+within-one : {c : ℕ} {u v : ℤ} (t : Bool) → Within c u → Within c v → Within c (cond t u v)
+within-one true h k = h
+within-one false h k = k
 
-reads-more : {w : Width} {b d s : ℕ} {z : ℤ} → Reads w b s z → b ≤ d → Reads w d s z
+pub reads-more : {w : Width} {b d s : ℕ} {z : ℤ} → Reads w b s z → b ≤ d → Reads w d s z
 reads-more h l = record { is = h .is; within = within-more (h .within) l }
 
--- a magnitude, a constant, and the larger of two, as the code has them
+-- a magnitude, a constant, and one of two, as the code has them
 module _ {w : Width} {c : ℕ} (few : c < 2 ^ hbits w) where
-  reads-abs : {s : ℕ} {z r : ℤ} → Reads w c s z → r ≡ pos (natAbs (toZ w s)) → Reads w c (ofZ w r) (pos (natAbs z))
+  pub reads-abs : {s : ℕ} {z r : ℤ} → Reads w c s z → r ≡ pos (natAbs (toZ w s))
+      → Reads w c (ofZ w r) (pos (natAbs z))
   reads-abs {s} {z} h e =
       made (e ∙ ap (λ (x : ℤ). pos (natAbs x)) (h .is)) (within-more (within-pos (natAbs z)) (abs-le (h .within))) few
 
-  reads-const : Reads w c c (pos c)
+  pub reads-const : Reads w c c (pos c)
   reads-const = record { is = toZ-pos w few; within = within-pos c }
 
-  reads-larger : {s t : ℕ} {y z r : ℤ} → Reads w c s y → Reads w c t z → r ≡ larger (toZ w s) (toZ w t)
+  pub reads-larger : {s t : ℕ} {y z r : ℤ} → Reads w c s y → Reads w c t z → r ≡ larger (toZ w s) (toZ w t)
       → Reads w c (ofZ w r) (larger y z)
-  reads-larger h g e = made (e ∙ (λ i. larger (h .is i) (g .is i))) (within-larger (h .within) (g .within)) few
+  reads-larger {y = y} {z} h g e =
+      made (e ∙ (λ i. larger (h .is i) (g .is i))) (within-one (ltZ y z) (g .within) (h .within)) few
 
-module _ (w : Width) (b : ℕ) (room : b + b + 7 < 2 ^ hbits w) where
-  abbrev read : ℤ → ℤ
-  read z = toZ w (ofZ w z)
+  pub reads-smaller : {s t : ℕ} {y z r : ℤ} → Reads w c s y → Reads w c t z → r ≡ smaller (toZ w s) (toZ w t)
+      → Reads w c (ofZ w r) (smaller y z)
+  reads-smaller {y = y} {z} h g e =
+      made (e ∙ (λ i. smaller (h .is i) (g .is i))) (within-one (ltZ y z) (h .within) (g .within)) few
 
-  -- a number as it is read back
-  same : {z : ℤ} → Within b z → read z ≡ z
-  same {z} h = small w b (omega arith) z h
+  pub reads-sided : {s t : ℕ} {y a r : ℤ} → Reads w c s y → Reads w c t a → r ≡ sided (toZ w s) (toZ w t)
+      → Reads w c (ofZ w r) (sided y a)
+  unfolding sided
+  reads-sided {y = y} {a} g h d =
+      made (d ∙ (λ i. sided (g .is i) (h .is i))) (within-one (ltZ y (pos 0)) (within-neg (h .within)) (h .within)) few
 
-  -- ---- two
-  module _ (y a : ℤ) (hy : Within b y) (ha : Within b a) where
-    one : {z : ℤ} → Within b z → Reads w b (ofZ w z) z
-    one h = reads-of (omega arith) h
+within-two : Within 2 (negsuc 1)
+within-two = within-neg (within-pos 2)
 
-    sum : Reads w (b + b) (ofZ w (read y +ℤ read a)) (y +ℤ a)
-    sum = reads-add (one hy) (one ha) (omega arith)
+credit-within : {b : ℕ} (u : ℤ) → Within b u → Within (2 + b) (credit u)
+unfolding credit
+credit-within {b} u h =
+    within-one (ltZ u (negsuc 1 -ℤ u)) (within-add within-two (within-neg h)) (within-more h (omega arith))
 
-    difference : Reads w (b + b) (ofZ w (read y -ℤ read a)) (y -ℤ a)
-    difference = reads-less (one hy) (one ha) (omega arith)
+module _ {w : Width} {b : ℕ} (few : 2 + b < 2 ^ hbits w) {s : ℕ} {u : ℤ} (h : Reads w b s u) where
+  pub two-minus-fits : SFits w (negsuc 1 -ℤ toZ w s)
+  two-minus-fits =
+      made-fits (ap (λ (z : ℤ). negsuc 1 -ℤ z) (h .is)) (within-add within-two (within-neg (h .within))) few
 
-    pub sum-fits : SFits w (read y +ℤ read a)
-    sum-fits = reads-fits (one hy) (one ha) (omega arith)
+  -- as the code makes it
+  pub credit-is : {r : ℤ} → r ≡ larger (toZ w s) (toZ w (ofZ w (negsuc 1 -ℤ toZ w s))) → toZ w (ofZ w r) ≡ credit u
+  unfolding credit
+  credit-is {r} e =
+      made (e ∙ (λ i. larger (h .is i) (minus .is i))) (credit-within u (h .within)) few .is
+    where
+      minus : Reads w (2 + b) (ofZ w (negsuc 1 -ℤ toZ w s)) (negsuc 1 -ℤ u)
+      minus =
+          made (ap (λ (z : ℤ). negsuc 1 -ℤ z) (h .is)) (within-add within-two (within-neg (h .within))) few
 
-    pub difference-fits : SFits w (read y -ℤ read a)
-    difference-fits = less-fits (one hy) (one ha) (omega arith)
+  -- as it is called
+  pub reads-credit : {r : ℤ} → r ≡ credit (toZ w s) → Reads w (2 + b) (ofZ w r) (credit u)
+  reads-credit e = made (e ∙ ap credit (h .is)) (credit-within u (h .within)) few
 
-    pub sum-within : (d : ℕ) → b + b ≤ d → Within d (toZ w (ofZ w (read y +ℤ read a)))
-    sum-within d l = rw (sum .is) (within-more (sum .within) l)
+-- the other way to a credit: the complement, and 1 less, where it is below 0
+pub credit-by : (u : ℤ) → cond (ltZ u (pos 0)) (negsuc 0 -ℤ u) u +ℤ cond (ltZ u (pos 0)) (negsuc 0) (pos 0) ≡ credit u
+unfolding credit up dn
+credit-by u =
+    by (ltZ u (pos 0)) (ltZ u (negsuc 1 -ℤ u)) (ltZ-yes {a = u} {b = pos 0}) (ltZ-no {a = u} {b = pos 0})
+    (ltZ-yes {a = u} {b = negsuc 1 -ℤ u}) (ltZ-no {a = u} {b = negsuc 1 -ℤ u})
+  where
+    two : up (negsuc 1 -ℤ u) + (2 + up u) ≡ dn (negsuc 1 -ℤ u) + dn u
+    two = omega (arith, add (negsuc 1) (negℤ u), neg-up u, neg-dn u)
 
-    pub difference-within : (d : ℕ) → b + b ≤ d → Within d (toZ w (ofZ w (read y -ℤ read a)))
-    difference-within d l = rw (difference .is) (within-more (difference .within) l)
+    one : up (negsuc 0 -ℤ u) + (1 + up u) ≡ dn (negsuc 0 -ℤ u) + dn u
+    one = omega (arith, add (negsuc 0) (negℤ u), neg-up u, neg-dn u)
 
-    module _ {r s : ℤ} (e : r ≡ pos (natAbs (toZ w (ofZ w (read y +ℤ read a)))))
-        (f : s ≡ pos (natAbs (toZ w (ofZ w (read y -ℤ read a))))) where
-      second : Reads w (b + b) (ofZ w s) (pos (natAbs (y -ℤ a)))
-      second = reads-abs (omega arith) difference f
+    by : (b d : Bool) → (T b → u <ℤ pos 0) → (T (not b) → pos 0 ≤ℤ u) → (T d → u <ℤ (negsuc 1 -ℤ u))
+        → (T (not d) → (negsuc 1 -ℤ u) ≤ℤ u)
+        → cond b (negsuc 0 -ℤ u) u +ℤ cond b (negsuc 0) (pos 0) ≡ cond d (negsuc 1 -ℤ u) u
+    by true true f g h k = same _ _ (omega (arith, one, two, add (negsuc 0 -ℤ u) (negsuc 0)))
+    by true false f g h k =
+        same _ _ (omega (
+          arith,
+          one,
+          two,
+          add (negsuc 0 -ℤ u) (negsuc 0),
+          of-lt u (pos 0) (f tt),
+          of-le (negsuc 1 -ℤ u) u (k tt),
+        ))
+    by false true f g h k =
+        absurd (omega (arith, two, of-le (pos 0) u (g tt), of-lt u (negsuc 1 -ℤ u) (h tt)))
+    by false false f g h k = same _ _ (omega (arith, add u (pos 0)))
 
-      pub two-less-fits : SFits w (read s -ℤ toZ w 2)
-      two-less-fits = less-fits second (reads-const (omega arith)) (omega arith)
+-- what the larger of two leaves of their sum is the smaller
+pub left-over : (a b : ℤ) → (a +ℤ b) -ℤ larger a b ≡ smaller a b
+left-over a b = by (ltZ a b)
+  where
+    by : (t : Bool) → (a +ℤ b) -ℤ cond t b a ≡ cond t a b
+    by true = same _ _ (omega (arith, add a b, add (a +ℤ b) (negℤ b), neg-up b, neg-dn b))
+    by false = same _ _ (omega (arith, add a b, add (a +ℤ b) (negℤ a), neg-up a, neg-dn a))
 
-      two-reads : {t : ℤ} → t ≡ larger (read r) (toZ w (ofZ w (read s -ℤ toZ w 2)))
-          → Reads w (b + b + 2) (ofZ w t) (twoTop y a)
-      two-reads g =
-          reads-larger (omega arith) (reads-more (reads-abs (omega arith) sum e) (omega arith))
-          (reads-less second (reads-const (omega arith)) (omega arith)) g
+-- the two keys of four words, as they are called
+module _ {w : Width} {b : ℕ} (few : b + (2 + b + 1) < 2 ^ hbits w) {y a c : ℤ} {s t u : ℕ} (hy : Reads w b s y)
+    (ha : Reads w b t a) (hc : Reads w b u c) where
+  size-within : Within b (pos (natAbs y))
+  size-within = within-more (within-pos (natAbs y)) (abs-le (hy .within))
 
-      pub two-is : {t : ℤ} → t ≡ larger (read r) (toZ w (ofZ w (read s -ℤ toZ w 2))) → read t ≡ twoTop y a
-      two-is g = two-reads g .is
+  sided-within : {z : ℤ} → Within b z → Within b (sided y z)
+  unfolding sided
+  sided-within h = within-one (ltZ y (pos 0)) (within-neg h) h
 
-  -- ---- four
-  two-within : {y a : ℤ} → Within b y → Within b a → Within (b + b + 2) (twoTop y a)
-  two-within {y} {a} hy ha =
-      within-larger (within-more (within-pos (natAbs (y +ℤ a))) (omega (arith, abs-le (within-add hy ha))))
-      (within-add (within-more (within-pos (natAbs (y -ℤ a))) (abs-le (within-add hy (within-neg ha))))
-      (within-neg (within-pos 2)))
+  first-within : Within (2 + b + 1) (credit (sided y a))
+  first-within = within-more (credit-within (sided y a) (sided-within (ha .within))) (omega arith)
 
-  module _ (y a c : ℤ) (hy : Within b y) (ha : Within b a) (hc : Within b c) where
-    module _ {r s : ℤ} (e : r ≡ twoTop (read y) (read a)) (f : s ≡ twoTop (read y) (read c)) where
-      first-two : Reads w (b + b + 2) (ofZ w r) (twoTop y a)
-      first-two = made (e ∙ (λ i. twoTop (same hy i) (same ha i))) (two-within hy ha) (omega arith)
+  other-within : Within (2 + b + 1) (credit (sided y c) -ℤ pos 1)
+  other-within = within-add (credit-within (sided y c) (sided-within (hc .within))) (within-neg (within-pos 1))
 
-      second-two : Reads w (b + b + 2) (ofZ w s) (twoTop y c)
-      second-two = made (f ∙ (λ i. twoTop (same hy i) (same hc i))) (two-within hy hc) (omega arith)
+  pub reads-four : {r : ℤ} → r ≡ fourTop (toZ w s) (toZ w t) (toZ w u)
+      → Reads w (b + (2 + b + 1)) (ofZ w r) (fourTop y a c)
+  unfolding fourTop
+  reads-four e =
+      made (e ∙ (λ i. fourTop (hy .is i) (ha .is i) (hc .is i)))
+      (within-add size-within
+      (within-one (ltZ (credit (sided y a)) (credit (sided y c) -ℤ pos 1)) other-within first-within)) few
 
-      pub four-less-fits : SFits w (read s -ℤ toZ w 1)
-      four-less-fits = less-fits second-two (reads-const (omega arith)) (omega arith)
+  pub reads-four-next : {r : ℤ} → r ≡ fourNext (toZ w s) (toZ w t) (toZ w u)
+      → Reads w (b + (2 + b + 1)) (ofZ w r) (fourNext y a c)
+  unfolding fourNext
+  reads-four-next e =
+      made (e ∙ (λ i. fourNext (hy .is i) (ha .is i) (hc .is i)))
+      (within-add size-within
+      (within-one (ltZ (credit (sided y a)) (credit (sided y c) -ℤ pos 1)) first-within other-within)) few
 
-      pub four-is : {t : ℤ} → t ≡ larger (read r) (toZ w (ofZ w (read s -ℤ toZ w 1))) → read t ≡ fourTop y a c
-      four-is g =
-          reads-larger (omega arith) (reads-more first-two (omega arith))
-          (reads-less second-two (reads-const (omega arith)) (omega arith)) g .is
+-- ---- what is read off two keys: the next as 0 where it is below
+pub size-of-first : (v : ℤ) → T (nonNeg v) → (natAbs v + 11) / 16 ≡ sizeOf v
+size-of-first (pos n) t = refl
+size-of-first (negsuc n) t = absurd t
 
-  -- ---- all eight
-  four-within : {y a c : ℤ} → Within b y → Within b a → Within b c → Within (b + b + 3) (fourTop y a c)
-  four-within hy ha hc =
-      within-larger (within-more (two-within hy ha) (omega arith))
-      (within-more (within-add (two-within hy hc) (within-neg (within-pos 1))) (omega arith))
+by-sign : (P : ℤ → Type 0) (t : ℤ) → (pos 0 ≤ℤ t → P t) → (t <ℤ pos 0 → P (pos 0)) → P (larger t (pos 0))
+by-sign P t f g = by (ltZ t (pos 0)) (ltZ-yes {a = t} {b = pos 0}) (ltZ-no {a = t} {b = pos 0})
+  where
+    by : (b : Bool) → (T b → t <ℤ pos 0) → (T (not b) → pos 0 ≤ℤ t) → P (cond b (pos 0) t)
+    by true h k = g (h tt)
+    by false h k = f (k tt)
 
-  module _ (yr yi xr xi : ℤ) (hyr : Within b yr) (hyi : Within b yi) (hxr : Within b xr) (hxi : Within b xi) where
-    pub turned-fits : SFits w (pos 0 -ℤ read xr)
-    turned-fits = neg-fits w b (omega arith) xr hxr
+natural : (z : ℤ) → pos 0 ≤ℤ z → T (nonNeg z)
+natural (pos n) k = tt
+natural (negsuc n) k = absurd (k .le)
 
-    turned-is : toZ w (ofZ w (pos 0 -ℤ read xr)) ≡ negℤ xr
-    turned-is = neg-read w b (omega arith) xr hxr
+pub size-of-next : (t : ℤ) → negsuc 1 ≤ℤ t → (natAbs (larger t (pos 0)) + 11) / 16 ≡ sizeOf t
+size-of-next t low = by-sign (λ z. (natAbs z + 11) / 16 ≡ sizeOf t) t (λ h. size-of-first t (natural t h)) (few t low)
+  where
+    few : (t : ℤ) → negsuc 1 ≤ℤ t → t <ℤ pos 0 → 11 / 16 ≡ sizeOf t
+    few (pos n) l h = absurd (omega (arith, of-lt (pos n) (pos 0) h, up-pos n, dn-pos n, up-pos 0, dn-pos 0))
+    few (negsuc zero) l h = refl
+    few (negsuc (suc zero)) l h = refl
+    few (negsuc (suc (suc n))) l h = absurd (omega (arith, leb→le (suc (suc n)) 1 (l .le)))
 
-    pub turned-within : Within b (toZ w (ofZ w (pos 0 -ℤ read xr)))
-    turned-within = rw turned-is (within-neg hxr)
+pub next-natural : (t : ℤ) → T (nonNeg (larger t (pos 0)))
+next-natural t = by-sign (λ z. T (nonNeg z)) t (natural t) (λ h. tt)
 
-    module _ {r s : ℤ} (e : r ≡ fourTop (read yr) (read xr) (read xi))
-        (f : s ≡ fourTop (read yi) (read xi) (toZ w (ofZ w (pos 0 -ℤ read xr)))) where
-      first-four : Reads w (b + b + 3) (ofZ w r) (fourTop yr xr xi)
-      first-four =
-          made (e ∙ (λ i. fourTop (same hyr i) (same hxr i) (same hxi i))) (four-within hyr hxr hxi) (omega arith)
+pub next-under : (t v : ℤ) → T (nonNeg v) → t ≤ℤ v → natAbs (larger t (pos 0)) ≤ natAbs v
+next-under t v n l = by-sign (λ z. natAbs z ≤ natAbs v) t (λ h. among t v (natural t h) n l) (λ h. omega arith)
+  where
+    among : (t v : ℤ) → T (nonNeg t) → T (nonNeg v) → t ≤ℤ v → natAbs t ≤ natAbs v
+    among (pos m) (pos n) a b l = omega (arith, of-le (pos m) (pos n) l, up-pos m, dn-pos m, up-pos n, dn-pos n)
+    among (negsuc m) v a b l = absurd a
+    among (pos m) (negsuc n) a b l = absurd b
 
-      second-four : Reads w (b + b + 3) (ofZ w s) (fourTop yi xi (negℤ xr))
-      second-four =
-          made (f ∙ (λ i. fourTop (same hyi i) (same hxi i) (turned-is i))) (four-within hyi hxi (within-neg hxr))
-          (omega arith)
-
-      pub top-less-fits : SFits w (read s -ℤ toZ w 4)
-      top-less-fits = less-fits second-four (reads-const (omega arith)) (omega arith)
-
-      pub top-is : {t : ℤ} → t ≡ larger (read r) (toZ w (ofZ w (read s -ℤ toZ w 4)))
-          → read t ≡ topOf (pair yr yi) (pair xr xi)
-      top-is g =
-          reads-larger (omega arith) (reads-more first-four (omega arith))
-          (reads-less second-four (reads-const (omega arith)) (omega arith)) g .is
+pub met-as : {r h k : Held} {y z x v : Counts} (g : ℕ) → r ≡ met h y x g → h ≡ k → y ≡ z → x ≡ v → r ≡ met k z v g
+met-as g e a b c = e ∙ (λ i. met (a i) (b i) (c i) g)

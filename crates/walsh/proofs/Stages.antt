@@ -3,8 +3,8 @@
 --     plain-within, minus-within, last-within   what a chip is multiplied by, and what is added
 --     entered-none, entered-eight               a loop over columns: before it, one more
 --     columns-none, columns-more, columns-all   numbers that are seen to be small on the way
---     paired, halved                            four butterflies are the first stage, two the second
---     entered-rows, paired-rows, halved-rows    numbers from -b to b grow to 16 b + 4, and then to 2 b
+--     paired                                    four butterflies are the first stage
+--     entered-rows, paired-rows                 numbers from -b to b grow to 16 b + 4, and then to 2 b
 --     asked                                     what a butterfly asks of the rows that it is lent
 -- Assumes nothing.
 use mathlib.Core.Path.{_≡_, refl, sym, ap, _∙_, subst}
@@ -50,7 +50,6 @@ use Rattle.walsh.specs.Rows.{
   Flown,
   Joined,
   Paired,
-  Halved,
 }
 use Rattle.walsh.proofs.Puts.{puts, length-puts, puts-other, puts-at}
 use Rattle.walsh.proofs.Turns.{turn, fly-bounded}
@@ -220,16 +219,6 @@ paired e f₁ f₂ f₃ f₄ = record {
   fourth = record { at = f₄ .each };
 }
 
--- ---- the second
-pub halved : {a : List ℤ} {p3 : ℕ} {b₀ b₁ b₂ : List ℤ} → length b₀ ≡ 256
-    → Flown a (0 + 32 * p3) (256 + 32 * p3) b₀ 0 16 b₁ → Flown a (128 + 32 * p3) (384 + 32 * p3) b₁ 128 16 b₂
-    → Halved a p3 b₂
-halved e f₁ f₂ = record {
-  long = f₂ .long ∙ f₁ .long ∙ e;
-  even = λ p l hp hl. kept f₂ (0 + 32 * p) l (omega arith) hl ∙ f₁ .each p l hp hl;
-  odd = f₂ .each;
-}
-
 -- ---- bounds
 row-more : {b d : ℕ} {t : List ℤ} {x : ℕ} → RowBounded b t x → b ≤ d → RowBounded d t x
 row-more h l = record {
@@ -266,22 +255,6 @@ paired-rows {b} {z} {a} h r = record {
     one : {x w : ℕ} → Joined z a x w → (i j : ℕ) → i < 8 → j < 8 → 32 * i ≡ x → 32 * j ≡ x + 64 → (p : ℕ) → p < 4
         → RowBounded (b + b) a (w + 32 * p)
     one f i j hi hj ei ej p hp = flies p (λ l hl. f .at p l hp hl) (row-at j r hj ej) (row-at i r hi ei)
-
-pub halved-rows : {b : ℕ} {a : List ℤ} {p3 : ℕ} {t : List ℤ} → p3 < 4 → Halved a p3 t → RowsBounded b 16 a
-    → RowsBounded (b + b) 8 t
-halved-rows {b} {a} {p3} {t} h3 h r = record { row = λ k hk. by k hk (decLt k 4) }
-  where
-    by : (k : ℕ) → k < 8 → Dec (k < 4) → RowBounded (b + b) t (32 * k)
-    by k hk (yes p) =
-        let e : 0 + 32 * k ≡ 32 * k = omega arith in
-        subst (λ (x : ℕ). RowBounded (b + b) t x) e
-        (flies k (λ l hl. h .even k l p hl) (row-at (8 + p3) r (omega arith) (omega arith))
-        (row-at p3 r (omega arith) (omega arith)))
-    by k hk (no p) =
-        let e : 128 + 32 * (k - 4) ≡ 32 * k = omega arith in
-        subst (λ (x : ℕ). RowBounded (b + b) t x) e
-        (flies (k - 4) (λ l hl. h .odd (k - 4) l (omega arith) hl) (row-at (12 + p3) r (omega arith) (omega arith))
-        (row-at (4 + p3) r (omega arith) (omega arith)))
 
 -- ---- what a butterfly asks of the rows j and k of s, and of the length of what it writes to
 pub asked : {b d n m u v : ℕ} {s : List ℤ} {x y : ℕ} → RowsBounded b n s → b ≤ d → length s ≡ 32 * n → (j k : ℕ) → j < n

@@ -11,13 +11,17 @@ use Rattle.chips.specs.declared.Counts.{Counts}
 use Rattle.chips.specs.Chips.{pair}
 use Rattle.chips.specs.Bounds.{Bounded}
 use Rattle.rates.specs.declared.Rate.the-variants.{Eleven}
-use Rattle.symbols.specs.Choice.{decided}
+use Rattle.symbols.specs.Choice.{decided, leadOf}
 use Rattle.sums.specs.Sums.{rows, everyRow}
 use Rattle.walsh.specs.Turns.{fly}
 
 -- what symbol l of sixteen abreast is decided as
 abbrev pub elevenAt : List ℤ → ℕ → ℕ
 elevenAt row l = decided Eleven (rows (everyRow row l 8) (everyRow row (16 + l) 8))
+
+-- and the lead of that choice
+abbrev pub elevenLead : List ℤ → ℕ → ℕ
+elevenLead row l = leadOf Eleven (rows (everyRow row l 8) (everyRow row (16 + l) 8))
 
 -- the number in column l of the complex row that begins at x
 abbrev pub rowAt : List ℤ → ℕ → ℕ → Counts
@@ -76,8 +80,3 @@ evens a l p3 p4 = fly (rowAt a (256 + 32 * p3) l) (rowAt a (0 + 32 * p3) l) p4
 
 abbrev pub odds : List ℤ → ℕ → ℕ → ℕ → Counts
 odds a l p3 p4 = fly (rowAt a (384 + 32 * p3) l) (rowAt a (128 + 32 * p3) l) p4
-
-pub record Halved (a : List ℤ) (p3 : ℕ) (b : List ℤ) : Type 0 where
-  pub long : length b ≡ 256
-  pub even : (p l : ℕ) → p < 4 → l < 16 → rowAt b (0 + 32 * p) l ≡ evens a l p3 p
-  pub odd : (p l : ℕ) → p < 4 → l < 16 → rowAt b (128 + 32 * p) l ≡ odds a l p3 p

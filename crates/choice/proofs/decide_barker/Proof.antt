@@ -1,10 +1,13 @@
 -- `choice::decide_barker` meets its contract: the counts on both axes decide.
 -- Assumes nothing.
-use mathlib.Core.Path.{sym, _∙_, subst}
+use mathlib.Core.Path.{sym, subst}
+use mathlib.Core.List.{List}
 use borrow.Author.Needs.{needs}
+use Rattle.rates.specs.declared.Rate.the-variants.{One}
 use Rattle.axes.specs.declared.Axis.the-variants.{I, Q}
-use Rattle.choosing.specs.Scores.{RowWithin}
-use Rattle.sums.specs.Sums.{bySigns, bestOfSums}
+use Rattle.chips.specs.declared.Counts.{Counts}
+use Rattle.choosing.specs.Scores.{RowWithin, ChosenAs}
+use Rattle.sums.specs.Sums.{bySigns, asChip}
 use Rattle.sums.proofs.Apart.{counts-small, counts-barker}
 use Rattle.choice.proofs.decide_barker.Statement.{statement}
 use Rattle.choice.proofs.decide_barker.Tie as tie
@@ -19,10 +22,10 @@ decide-requires c κs =
 returns : tie.Need-returns
 returns c =
     let second = c .before in
-    c .decide .ensures
-    ∙ (λ i. bestOfSums (bySigns (second .before .soft-counts11 .ensures i))
-    (bySigns (second .soft-counts112 .ensures i)))
-    ∙ counts-barker (second .before .before .args .chips)
+    counts-barker (second .before .before .args .chips)
+    (subst (λ (cs : List Counts). ChosenAs One cs (c .decide .result .number) (c .decide .result .lead))
+    (λ i. asChip (bySigns (second .before .soft-counts11 .ensures i)) (bySigns (second .soft-counts112 .ensures i)))
+    (c .decide .ensures))
 
 pub decide-barker-spec : {M : Type 1} → statement M
 decide-barker-spec =

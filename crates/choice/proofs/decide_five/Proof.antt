@@ -1,12 +1,13 @@
 -- `choice::decide_five` meets its contract: the counts on both axes decide.
 -- Assumes nothing.
-use mathlib.Core.Path.{_≡_, sym, ap, _∙_, subst}
+use mathlib.Core.Path.{_≡_, sym, _∙_, subst}
+use mathlib.Core.List.{List}
 use lib.ListN.{length}
 use borrow.Author.Needs.{needs}
 use Rattle.rates.specs.declared.Rate.the-variants.{Five}
 use Rattle.axes.specs.declared.Axis.the-variants.{I, Q}
-use Rattle.symbols.specs.Choice.{decided}
-use Rattle.choosing.specs.Scores.{RowWithin}
+use Rattle.chips.specs.declared.Counts.{Counts}
+use Rattle.choosing.specs.Scores.{RowWithin, ChosenAs}
 use Rattle.sums.specs.Sums.{rows}
 use Rattle.sums.proofs.Apart.{counts-small, counts-eight}
 use Rattle.choice.proofs.decide_five.Statement.{statement}
@@ -24,9 +25,9 @@ returns c =
     let second = c .before in
     let chips = second .before .before .args .chips in
     let eight : length chips ≡ 8 = search needs in
-    c .decide .ensures
-    ∙ (λ i. decided Five (rows (second .before .soft-counts8 .ensures i) (second .soft-counts82 .ensures i)))
-    ∙ ap (decided Five) (counts-eight chips eight)
+    subst (λ (cs : List Counts). ChosenAs Five cs (c .decide .result .number) (c .decide .result .lead))
+    ((λ i. rows (second .before .soft-counts8 .ensures i) (second .soft-counts82 .ensures i))
+    ∙ counts-eight chips eight) (c .decide .ensures)
 
 pub decide-five-spec : {M : Type 1} → statement M
 decide-five-spec =

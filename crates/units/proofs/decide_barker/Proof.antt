@@ -1,11 +1,13 @@
--- `units::decide_barker` meets its contract: full chips on both axes decide as the counts do.
+-- `units::decide_barker` meets its contract: the full chips on both axes decide.
 -- Assumes nothing.
-use mathlib.Core.Path.{_≡_, sym, _∙_, subst}
-use lib.ListN.{length}
+use mathlib.Core.Path.{sym, subst}
+use mathlib.Core.List.{List}
 use borrow.Author.Needs.{needs}
+use Rattle.rates.specs.declared.Rate.the-variants.{One}
 use Rattle.axes.specs.declared.Axis.the-variants.{I, Q}
-use Rattle.choosing.specs.Scores.{RowWithin}
-use Rattle.sums.specs.Sums.{bySigns, bestOfSums}
+use Rattle.chips.specs.declared.Counts.{Counts}
+use Rattle.choosing.specs.Scores.{RowWithin, ChosenAs}
+use Rattle.sums.specs.Sums.{bySigns, asChip}
 use Rattle.sums.proofs.Apart.{units-small, units-barker}
 use Rattle.units.proofs.decide_barker.Statement.{statement}
 use Rattle.units.proofs.decide_barker.Tie as tie
@@ -20,11 +22,10 @@ barker-requires c κs =
 returns : tie.Need-returns
 returns c =
     let second = c .before in
-    let start = second .before .before in
-    let long : length (start .args .chips) ≡ 11 = search needs in
-    c .barker .ensures
-    ∙ (λ i. bestOfSums (bySigns (second .before .hard-units11 .ensures i)) (bySigns (second .hard-units112 .ensures i)))
-    ∙ units-barker (start .args .chips) long (start .pre)
+    units-barker (second .before .before .args .chips)
+    (subst (λ (cs : List Counts). ChosenAs One cs (c .barker .result .number) (c .barker .result .lead))
+    (λ i. asChip (bySigns (second .before .hard-units11 .ensures i)) (bySigns (second .hard-units112 .ensures i)))
+    (c .barker .ensures))
 
 pub decide-barker-spec : {M : Type 1} → statement M
 decide-barker-spec =

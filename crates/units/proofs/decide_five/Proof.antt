@@ -1,14 +1,15 @@
--- `units::decide_five` meets its contract: full chips on both axes decide as the counts do.
+-- `units::decide_five` meets its contract: the full chips on both axes decide.
 -- Assumes nothing.
 use mathlib.Core.Path.{_≡_, sym, _∙_, subst}
+use mathlib.Core.List.{List}
 use lib.ListN.{length}
 use borrow.Author.Needs.{needs}
 use Rattle.rates.specs.declared.Rate.the-variants.{Five}
 use Rattle.axes.specs.declared.Axis.the-variants.{I, Q}
-use Rattle.symbols.specs.Choice.{decided}
-use Rattle.choosing.specs.Scores.{RowWithin}
+use Rattle.chips.specs.declared.Counts.{Counts}
+use Rattle.choosing.specs.Scores.{RowWithin, ChosenAs}
 use Rattle.sums.specs.Sums.{rows}
-use Rattle.sums.proofs.Apart.{units-small, units-eight}
+use Rattle.sums.proofs.Apart.{units-small, units-rows}
 use Rattle.units.proofs.decide_five.Statement.{statement}
 use Rattle.units.proofs.decide_five.Tie as tie
 
@@ -22,11 +23,11 @@ five-requires c κs =
 returns : tie.Need-returns
 returns c =
     let second = c .before in
-    let start = second .before .before in
-    let long : length (start .args .chips) ≡ 8 = search needs in
-    c .five .ensures
-    ∙ (λ i. decided Five (rows (second .before .hard-units8 .ensures i) (second .hard-units82 .ensures i)))
-    ∙ units-eight Five (start .args .chips) long (start .pre)
+    let chips = second .before .before .args .chips in
+    let eight : length chips ≡ 8 = search needs in
+    subst (λ (cs : List Counts). ChosenAs Five cs (c .five .result .number) (c .five .result .lead))
+    ((λ i. rows (second .before .hard-units8 .ensures i) (second .hard-units82 .ensures i)) ∙ units-rows chips eight)
+    (c .five .ensures)
 
 pub decide-five-spec : {M : Type 1} → statement M
 decide-five-spec =

@@ -1,0 +1,14 @@
+-- `keys::lead_of` meets its contract.
+-- Assumes nothing.
+use Prim.Native.Nat.{_*_}
+use native.Mathlib.Omega.{arith}
+use borrow.Author.Needs.{needs}
+use Rattle.sums.proofs.KeyTops.{quotients}
+use Rattle.keys.proofs.lead_of.Statement.{statement}
+use Rattle.keys.proofs.lead_of.Tie as tie
+
+pub lead-of-spec : {M : Type 1} → statement M
+lead-of-spec =
+    tie.close
+    (tie.spec (λ c. search needs) (λ c. search needs) (λ c. search needs)
+    (λ c. quotients (4 * c .args .w) (omega (arith, c .pre .0)) (c .pre .2)) (λ c. search needs))
