@@ -123,8 +123,10 @@ pub fn record_of(g: Reading) -> Record
             n: 0,
             used: 0,
             clock: 0,
+            lead: 0,
+            symbol: 0,
         },
-        Reading::Good { told, used } => {
+        Reading::Good { told, used, least } => {
             let rate = told.rate;
             Record {
                 number: 0,
@@ -134,6 +136,8 @@ pub fn record_of(g: Reading) -> Record
                 n: told.n as u64,
                 used: used as u64,
                 clock: told.clock as u64,
+                lead: least.lead as u64,
+                symbol: least.symbol as u64,
             }
         }
     }

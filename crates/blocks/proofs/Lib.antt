@@ -2,3 +2,4 @@ pub mod FirstOdd
 pub mod Hears
 pub mod Plain
 pub mod Symbols
+pub mod Lowest

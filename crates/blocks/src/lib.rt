@@ -14,6 +14,7 @@ use lines::Line;
 use rates::Rate;
 use recorded::Found;
 
+pub mod least;
 mod odd;
 
 // A line, and the place of the first symbol that is grown by 1 or 3 at 1 Mbit/s.

@@ -26,7 +26,7 @@ pub extern "C" fn dsss_write_2(
 
 // A hard recording to its payload; zeros after the payload, or everywhere after a refusal.
 #[no_mangle]
-pub extern "C" fn dsss_read_hard_2(kind: u64, chips: &[u8], octets: &mut [u8]) -> Record
+pub extern "C" fn dsss_read_hard_3(kind: u64, chips: &[u8], octets: &mut [u8]) -> Record
     ensures read { λ a. ⌜ ReadHard kind (now (chips .entry)) (length (now (octets .entry)))
         a (now (octets .exit)) ⌝ }
 {
@@ -35,7 +35,7 @@ pub extern "C" fn dsss_read_hard_2(kind: u64, chips: &[u8], octets: &mut [u8]) -
 
 // A soft recording, rows I and Q, to its payload; zeros as above.
 #[no_mangle]
-pub extern "C" fn dsss_read_soft_2(kind: u64, i: &[f32], q: &[f32], octets: &mut [u8]) -> Record
+pub extern "C" fn dsss_read_soft_3(kind: u64, i: &[f32], q: &[f32], octets: &mut [u8]) -> Record
     ensures read { λ a. ⌜ ReadSoft kind (now (i .entry)) (now (q .entry)) (length (now (octets .entry)))
         a (now (octets .exit)) ⌝ }
 {
@@ -44,7 +44,7 @@ pub extern "C" fn dsss_read_soft_2(kind: u64, i: &[f32], q: &[f32], octets: &mut
 
 // A byte recording, I and Q in turn, to its payload; zeros as above.
 #[no_mangle]
-pub extern "C" fn dsss_read_bytes_2(kind: u64, bytes: &[i8], octets: &mut [u8]) -> Record
+pub extern "C" fn dsss_read_bytes_3(kind: u64, bytes: &[i8], octets: &mut [u8]) -> Record
     ensures read { λ a. ⌜ ReadBytes kind (now (bytes .entry)) (length (now (octets .entry)))
         a (now (octets .exit)) ⌝ }
 {

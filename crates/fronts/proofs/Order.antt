@@ -24,12 +24,13 @@ use Rattle.fronts.specs.declared.FrontHeard.{FrontHeard}
 use Rattle.fronts.specs.declared.Opening.{Opening}
 use Rattle.fronts.specs.Openings.{FrontKnown, afterUsable, Opens}
 
--- an opening that refuses needs no line
+-- an opening that refuses needs neither line nor lead
 opens-refused : (k : Kind) (rec : List Taken) (f : Front) (e : Refusal) (o : Opening) → o .front ≡ Refused e → f
     ≡ Refused e → Opens k rec f o
 opens-refused k rec f e o p q = record {
   told = p ∙ sym q;
   line = λ t w. let z : _≡_ {A = ℕ} 0 1 = cc in absurd (omega arith);
+  least = λ t w. let z : _≡_ {A = ℕ} 0 1 = cc in absurd (omega arith);
 }
 
 module _ (k : Kind) (rec : List Taken) where
@@ -37,12 +38,13 @@ module _ (k : Kind) (rec : List Taken) where
       → o .front ≡ Refused (OddGrowth place 0) → Opens k rec (afterUsable k rec) o
   usable-odd o f place e g p = opens-refused k rec (afterUsable k rec) (OddGrowth place 0) o p (rw (← g, e))
 
-  pub usable-header : (f : FrontHeard) (told : Front) → FrontKnown k rec f → f .heard .odd ≡ Nothing
+  pub usable-header : (f : FrontHeard) (told : Front) → FrontKnown k rec f → f .part .heard .odd ≡ Nothing
       → told ≡ headerOf k (octetBits (f .sfd)) (octetBits (f .header))
-      → Opens k rec (afterUsable k rec) (record { front = told; line = f .heard .line })
+      → Opens k rec (afterUsable k rec) (record { front = told; line = f .part .heard .line; least = f .part .least })
   usable-header f told x e p = record {
     told = rw (← x .odd, e) (p ∙ ap₂ {C = Front} (headerOf k) (x .sfd) (x .header));
     line = λ t w. x .line;
+    least = λ t w. x .least;
   }
 
   pub front-short : (o : Opening) → length rec < frontChips k → o .front ≡ Refused ShorterThanFront
@@ -73,4 +75,5 @@ module _ (k : Kind) (rec : List Taken) where
     front-usable o t x = record {
       told = x .told ∙ (unfold frontOf in rw (le-ltb (length rec) (frontChips k) enough, searched, t));
       line = x .line;
+      least = x .least;
     }

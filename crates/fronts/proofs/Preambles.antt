@@ -31,15 +31,28 @@ use Rattle.frame.specs.declared.Kind.{Kind}
 use Rattle.frame.specs.declared.Kind.the-variants.{Long, Short}
 use Rattle.frame.specs.Frame.{start, syncBits, preambleLength, frontChips}
 use Rattle.reading.specs.Reading.{orElse, oddGrowth, decidedWords, preambleWords, reference, headerPhase}
-use Rattle.recorded.specs.Recorded.{whereFound, symbolAt, DecidedAt}
+use Rattle.calls.specs.declared.Least.{Least}
+use Rattle.reading.specs.Leads.{leastFrom, leastOf}
+use Rattle.recorded.specs.Recorded.{whereFound, symbolAt, DecidedAt, LeadsAt}
 use Rattle.blocks.specs.declared.Hearing.{Hearing}
 use Rattle.blocks.specs.Heard.{received, plainBits, plainOctets, Heard}
-use Rattle.hearing.specs.Hearing.{partWords, PartHeard}
+use Rattle.hearing.specs.declared.Part.{Part}
+use Rattle.hearing.specs.Hearing.{partWords, partLeads, PartHeard}
 use Rattle.reading.proofs.Places.{decidedWords-length}
+use Rattle.reading.proofs.Leads.{leastOf-joined}
 use Rattle.codes.proofs.Passes.{past-take}
-use Rattle.hearing.proofs.Parts.{block-words, part-length, part-more, blocks-more, blocks-octets}
+use Rattle.hearing.proofs.Parts.{
+  block-words,
+  block-leads,
+  part-length,
+  part-more,
+  part-leads,
+  part-leads-length,
+  blocks-more,
+  blocks-octets,
+}
 use Rattle.kinds.specs.Starts.{Starts}
-use Rattle.fronts.specs.Openings.{syncOctets, preambleHeard, preambleOctets, PreambleLine}
+use Rattle.fronts.specs.Openings.{syncOctets, preambleHeard, preambleOctets, preambleLeads, PreambleLine}
 
 -- ---- the words
 
@@ -47,6 +60,10 @@ preamble-words : (k : Kind) (rec : List Taken) → partWords One 0 (syncOctets k
 unfolding preambleWords
 preamble-words Long rec = refl
 preamble-words Short rec = refl
+
+preamble-leads : (k : Kind) (rec : List Taken) → partLeads One 0 (syncOctets k + 2) rec ≡ preambleLeads k rec
+preamble-leads Long rec = refl
+preamble-leads Short rec = refl
 
 reference-is : (k : Kind) (rec : List Taken) → decided One (symbolAt One rec 0) ≡ reference k rec
 unfolding reference preambleWords decidedWords
@@ -122,13 +139,13 @@ take-drop (suc m) n (x ∷ l) = take-drop m n l ∙ ap (λ (k : ℕ). drop (suc 
 -- ---- the two parts
 
 module _
-    (k : Kind) (rec : List Taken) (ns : List ℕ) (l : Line) (a b p : Hearing) (d o y : List ℕ)
-    (dec : DecidedAt One rec 0 64 ns)
+    (k : Kind) (rec : List Taken) (ns ls : List ℕ) (l : Line) (f : Least) (a : Hearing) (b p : Part) (d o y : List ℕ)
+    (dec : DecidedAt One rec 0 64 ns) (lead : LeadsAt One rec 0 64 ls) (lo : f ≡ leastOf (take 64 ls))
     (s : Starts k (getD ns 0 0) l)
     (x : Heard One 0 l (take 64 ns) a) (ox : o ≡ over (plainOctets One 8 l (take 64 ns)) d)
-    (z : PartHeard One 704 (syncOctets k - 6) rec (a .line) b y)
-    (ab : (p .line ≡ b .line) × (whereFound (p .odd)
-    ≡ orElse (whereFound (a .odd)) (λ place. some place) (whereFound (b .odd)))) where
+    (z : PartHeard One 704 (syncOctets k - 6) rec (a .line) 64 f b y)
+    (ab : (p .heard .line ≡ b .heard .line) × ((whereFound (p .heard .odd)
+    ≡ orElse (whereFound (a .odd)) (λ place. some place) (whereFound (b .heard .odd))) × (p .least ≡ b .least))) where
   abbrev A : List ℕ
   A = partWords One 0 8 rec
 
@@ -149,13 +166,13 @@ module _
       sym (part-more One 0 8 (syncOctets k - 6) rec)
       ∙ ap (λ (n : ℕ). partWords One 0 n rec) (rest k) ∙ preamble-words k rec
 
-  both : Heard One 0 l (preambleWords k rec) p
+  both : Heard One 0 l (preambleWords k rec) (p .heard)
   both =
-      subst (λ (ws : List ℕ). Heard One 0 l ws p) both-words
-      (blocks-more One 0 l A B a even first b p
-      (subst (λ (n : ℕ). Heard One n (a .line) B b) (ap (λ (n : ℕ). 0 + 11 * n) (sym (part-length One 0 8 rec)))
-      (z .line))
-      (ab .0) (ab .1))
+      subst (λ (ws : List ℕ). Heard One 0 l ws (p .heard)) both-words
+      (blocks-more One 0 l A B a even first (b .heard) (p .heard)
+      (subst (λ (n : ℕ). Heard One n (a .line) B (b .heard))
+      (ap (λ (n : ℕ). 0 + 11 * n) (sym (part-length One 0 8 rec))) (z .line))
+      (ab .0) (ab .1 .0))
 
   reference-phase : l .phase ≡ reference k rec
   reference-phase = s .at-phase ∙ dec .number 0 (omega arith) ∙ reference-is k rec
@@ -178,31 +195,48 @@ module _
       (descramble-window (pastOf (l .past)) (start k) (received One l (preambleWords k rec)) from-start
       ∙ ap (descramble (start k)) bits)
 
-  preamble-line : PreambleLine k rec p
+  preamble-line : PreambleLine k rec (p .heard)
   preamble-line = record {
     odd = both .place ∙ ap (λ (q : ℕ). oddGrowth One 0 (growthsOf One q (preambleWords k rec))) reference-phase;
     at-phase = both .phase ∙ ap (λ (q : ℕ). lastHeard One q (preambleWords k rec)) reference-phase
         ∙ (unfold headerPhase in refl);
     small = both .small;
-    past = goes-on (start k) One 0 l (preambleWords k rec) p from-start both
+    past = goes-on (start k) One 0 l (preambleWords k rec) (p .heard) from-start both
         ∙ ap (λ (bs : List ℕ). take 7 (pastAfter (start k) bs)) bits;
   }
 
+  preamble-least : p .least ≡ leastOf (preambleLeads k rec)
+  preamble-least =
+      let C = partLeads One 0 8 rec in
+      let D = partLeads One 704 (syncOctets k - 6) rec in
+      ab .1 .1 ∙ z .least
+      ∙ ap (λ (x : Least). leastFrom 64 x D) (lo ∙ ap leastOf (block-leads One 8 8 refl rec 0 ls lead (omega arith)))
+      ∙ ap (λ (n : ℕ). leastFrom n (leastOf C) D) (sym (part-leads-length One 0 8 rec))
+      ∙ sym (leastOf-joined C D (rw (part-leads-length One 0 8 rec) (omega arith)))
+      ∙ ap leastOf (sym (part-leads One 0 8 (syncOctets k - 6) rec)
+      ∙ ap (λ (n : ℕ). partLeads One 0 n rec) (rest k) ∙ preamble-leads k rec)
+
 -- the same, as the code counts the rest
-pub sync-heard : (k : Kind) (rec : List Taken) (ns : List ℕ) (l : Line) (a b p : Hearing) (d o y : List ℕ) (count n : ℕ)
-    → DecidedAt One rec 0 64 ns → Starts k (getD ns 0 0) l → Heard One 0 l (take 64 ns) a
+pub sync-heard : (k : Kind) (rec : List Taken) (ns ls : List ℕ) (l : Line) (f : Least) (a : Hearing) (b p : Part)
+    (d o y : List ℕ) (count n : ℕ)
+    → DecidedAt One rec 0 64 ns → LeadsAt One rec 0 64 ls → f ≡ leastOf (take 64 ls)
+    → Starts k (getD ns 0 0) l → Heard One 0 l (take 64 ns) a
     → o ≡ over (plainOctets One 8 l (take 64 ns)) d → n ≡ syncOctets k - 6 → count ≡ syncOctets k + 2
-    → PartHeard One 704 n rec (a .line) b y
-    → (p .line ≡ b .line) × (whereFound (p .odd)
-    ≡ orElse (whereFound (a .odd)) (λ place. some place) (whereFound (b .odd)))
-    → PreambleLine k rec p × (take (syncOctets k + 2) (putMid 8 (count - 8) o y) ≡ preambleOctets k rec)
-sync-heard k rec ns l a b p d o y count n dec s x ox en ec z ab =
-    let z : PartHeard One 704 (syncOctets k - 6) rec (a .line) b y =
-    subst (λ (i : ℕ). PartHeard One 704 i rec (a .line) b y) en z in
+    → PartHeard One 704 n rec (a .line) 64 f b y
+    → (p .heard .line ≡ b .heard .line) × ((whereFound (p .heard .odd)
+    ≡ orElse (whereFound (a .odd)) (λ place. some place) (whereFound (b .heard .odd))) × (p .least ≡ b .least))
+    → PreambleLine k rec (p .heard) × ((p .least ≡ leastOf (preambleLeads k rec))
+    × (take (syncOctets k + 2) (putMid 8 (count - 8) o y) ≡ preambleOctets k rec))
+sync-heard k rec ns ls l f a b p d o y count n dec lead lo s x ox en ec z ab =
+    let z : PartHeard One 704 (syncOctets k - 6) rec (a .line) 64 f b y =
+    subst (λ (i : ℕ). PartHeard One 704 i rec (a .line) 64 f b y) en z in
     let left : count - 8 ≡ syncOctets k - 6 = omega arith in (
-      preamble-line k rec ns l a b p d o y dec s x ox z ab,
-      ap (λ (i : ℕ). take (syncOctets k + 2) (putMid 8 i o y)) left
-          ∙ preamble-octets k rec ns l a b p d o y dec s x ox z ab,
+      preamble-line k rec ns ls l f a b p d o y dec lead lo s x ox z ab,
+      (
+        preamble-least k rec ns ls l f a b p d o y dec lead lo s x ox z ab,
+        ap (λ (i : ℕ). take (syncOctets k + 2) (putMid 8 i o y)) left
+            ∙ preamble-octets k rec ns ls l f a b p d o y dec lead lo s x ox z ab,
+      ),
     )
 
 -- the part of the row that the rest is heard into, and the chips that it asks for

@@ -20,13 +20,19 @@ use Rattle.reading.proofs.Telling.{TellingIf, front-telling}
 use Rattle.fronts.specs.Openings.{Opens, OpensWhole}
 use Rattle.fronts.specs.declared.Opening.{Opening}
 
--- an opening that refuses needs neither line nor sizes
+-- an opening that refuses needs neither line nor lead nor sizes
 opens-none : (k : Kind) (rec : List Taken) (o : Opening) (e : Refusal) → o .front ≡ Refused e
     → wholeOf k rec (frontOf k rec) ≡ Refused e → OpensWhole k rec o
 opens-none k rec o e p q =
     let none : (A : Type 0) (t : Told) → o .front ≡ Fields t → A =
     λ A t w. let z : _≡_ {A = ℕ} 0 1 = cc in absurd (omega arith) in
-    record { told = p ∙ sym q; line = λ t. none _ t; few = λ t. none _ t; chips = λ t. none _ t }
+    record {
+      told = p ∙ sym q;
+      line = λ t. none _ t;
+      least = λ t. none _ t;
+      few = λ t. none _ t;
+      chips = λ t. none _ t;
+    }
 
 module _ (k : Kind) (rec : List Taken) (a : Opening) (x : Opens k rec (frontOf k rec) a) where
   pub whole-refused : (o : Opening) (e : Refusal) → a .front ≡ Refused e → o .front ≡ Refused e → OpensWhole k rec o
@@ -46,6 +52,7 @@ module _ (k : Kind) (rec : List Taken) (a : Opening) (x : Opens k rec (frontOf k
     whole-kept h = record {
       told = f ∙ sym (rw (← x .told, f, le-ltb (length rec) (frameChips k (t .rate) (t .n)) h));
       line = x .line;
+      least = x .least;
       few = λ u w. let e : t ≡ u = cc in subst (λ (v : Told). v .n ≤ 4095) e whole-few;
       chips = λ u w. let e : t ≡ u = cc in subst (λ (v : Told). frameChips k (v .rate) (v .n) ≤ length rec) e h;
     }

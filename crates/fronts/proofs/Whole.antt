@@ -5,11 +5,12 @@
 use mathlib.Core.Path.{_≡_, refl, sym, ap, ap₂, subst, _∙_}
 use mathlib.Core.List.{List, _++_, append-assoc}
 use mathlib.Core.Option.{Option, some}
-use Prim.Native.Nat.{ℕ, _+_}
+use Prim.Native.Nat.{ℕ, _+_, _/_}
 use native.Mathlib.Omega.{arith}
 use lib.ListN.{length, take, drop, take-append-drop, length-drop}
 use lib.Seq.{take-all, take-at, drop-at, length-take-le}
 use Rattle.rates.specs.declared.Rate.the-variants.{One, Two}
+use Rattle.rates.specs.Rates.{symbolBits}
 use Rattle.chips.specs.Chips.{Taken}
 use Rattle.bits.specs.Bits.{octetBits, octetsOf}
 use Rattle.bits.specs.Growths.{heard, growthsOf, lastHeard}
@@ -27,7 +28,7 @@ use Rattle.bits.proofs.Scrambler.{
 use Rattle.bits.proofs.Heard.{heard-length}
 use Rattle.frame.specs.declared.Kind.{Kind}
 use Rattle.frame.specs.declared.Kind.the-variants.{Long, Short}
-use Rattle.frame.specs.Frame.{start, syncBits, headerRate, preambleLength, preambleChips}
+use Rattle.frame.specs.Frame.{start, syncBits, headerRate, preambleLength, headerLength, preambleChips}
 use Rattle.reading.specs.Reading.{
   orElse,
   oddGrowth,
@@ -40,10 +41,13 @@ use Rattle.reading.specs.Reading.{
   frontHeard,
   frontBits,
 }
+use Rattle.calls.specs.declared.Least.{Least}
+use Rattle.reading.specs.Leads.{decidedLeads, leastFrom}
+use Rattle.reading.proofs.Leads.{front-least}
 use Rattle.recorded.specs.Recorded.{whereFound}
-use Rattle.blocks.specs.declared.Hearing.{Hearing}
+use Rattle.hearing.specs.declared.Part.{Part}
 use Rattle.blocks.specs.Heard.{received, plainBits, Heard}
-use Rattle.hearing.specs.Hearing.{partWords, PartHeard}
+use Rattle.hearing.specs.Hearing.{partWords, partLeads, PartHeard}
 use Rattle.reading.proofs.Places.{decidedWords-length}
 use Rattle.hearing.proofs.Parts.{plain-length}
 use Rattle.fronts.specs.declared.Preamble.{Preamble}
@@ -54,6 +58,11 @@ header-words : (k : Kind) (rec : List Taken) → partWords (headerRate k) (pream
 unfolding headerWords
 header-words Long rec = refl
 header-words Short rec = refl
+
+header-leads : (k : Kind) (rec : List Taken) → partLeads (headerRate k) (preambleChips k) 6 rec
+    ≡ decidedLeads (headerRate k) (headerLength / symbolBits (headerRate k)) (drop (preambleChips k) rec)
+header-leads Long rec = refl
+header-leads Short rec = refl
 
 header-bits : (k : Kind) (rec : List Taken) (l : Line) → length (plainBits (headerRate k) l (headerWords k rec)) ≡ 48
 unfolding headerWords
@@ -73,66 +82,72 @@ cut a b m n e =
     ∙ take-at (drop m a) b n left
 
 module _
-    (k : Kind) (rec : List Taken) (p : Preamble) (c all : Hearing) (header : List ℕ)
+    (k : Kind) (rec : List Taken) (p : Preamble) (c all : Part) (header : List ℕ)
     (x : PreambleKnown k rec p)
-    (z : PartHeard (headerRate k) (preambleChips k) 6 rec (p .heard .line) c header)
-    (pc : (all .line ≡ c .line) × (whereFound (all .odd)
-    ≡ orElse (whereFound (p .heard .odd)) (λ place. some place) (whereFound (c .odd)))) where
-  header-part : Heard (headerRate k) (preambleChips k) (p .heard .line) (headerWords k rec) c
-  header-part =
-      subst (λ (ws : List ℕ). Heard (headerRate k) (preambleChips k) (p .heard .line) ws c) (header-words k rec)
-      (z .line)
+    (z : PartHeard (headerRate k) (preambleChips k) 6 rec (p .part .heard .line) (preambleChips k / 11)
+    (p .part .least) c header)
+    (pc : (all .heard .line ≡ c .heard .line) × ((whereFound (all .heard .odd)
+    ≡ orElse (whereFound (p .part .heard .odd)) (λ place. some place) (whereFound (c .heard .odd)))
+    × (all .least ≡ c .least))) where
+  -- the line that the header is heard on
+  abbrev L : Line
+  L = p .part .heard .line
 
-  header-heard : received (headerRate k) (p .heard .line) (headerWords k rec)
+  header-part : Heard (headerRate k) (preambleChips k) L (headerWords k rec) (c .heard)
+  header-part =
+      subst (λ (ws : List ℕ). Heard (headerRate k) (preambleChips k) L ws (c .heard))
+      (header-words k rec) (z .line)
+
+  header-heard : received (headerRate k) L (headerWords k rec)
       ≡ heard (headerRate k) 0 (headerPhase k rec) (headerWords k rec)
   header-heard = ap (λ (q : ℕ). heard (headerRate k) 0 q (headerWords k rec)) (x .line .at-phase)
 
-  all-heard : frontHeard k rec ≡ preambleHeard k rec ++ received (headerRate k) (p .heard .line) (headerWords k rec)
+  all-heard : frontHeard k rec ≡ preambleHeard k rec ++ received (headerRate k) L (headerWords k rec)
   unfolding frontHeard
   all-heard = sym (ap (λ (bs : List ℕ). preambleHeard k rec ++ bs) header-heard)
 
   -- the front's bits, part by part
   bits-are : frontBits k rec
-      ≡ descramble (start k) (preambleHeard k rec) ++ plainBits (headerRate k) (p .heard .line) (headerWords k rec)
+      ≡ descramble (start k) (preambleHeard k rec) ++ plainBits (headerRate k) L (headerWords k rec)
   unfolding frontBits
   bits-are =
       ap (descramble (start k)) all-heard
-      ∙ descramble-append (start k) (preambleHeard k rec) (received (headerRate k) (p .heard .line) (headerWords k rec))
+      ∙ descramble-append (start k) (preambleHeard k rec) (received (headerRate k) L (headerWords k rec))
       ∙ ap (λ (bs : List ℕ). descramble (start k) (preambleHeard k rec) ++ bs)
-      (descramble-window (pastAfter (start k) (preambleHeard k rec)) (pastOf (p .heard .line .past))
-      (received (headerRate k) (p .heard .line) (headerWords k rec)) (sym (x .line .past)))
+      (descramble-window (pastAfter (start k) (preambleHeard k rec)) (pastOf (L .past))
+      (received (headerRate k) L (headerWords k rec)) (sym (x .line .past)))
 
   preamble-bits : length (descramble (start k) (preambleHeard k rec)) ≡ syncBits k + 16
   preamble-bits =
       descramble-length (start k) (preambleHeard k rec)
       ∙ heard-length One 0 (reference k rec) (preambleWords k rec) ∙ omega (arith, preamble-length k rec)
 
-  header-octets : octetBits header ≡ plainBits (headerRate k) (p .heard .line) (headerWords k rec)
+  header-octets : octetBits header ≡ plainBits (headerRate k) L (headerWords k rec)
   header-octets =
-      let bs = plainBits (headerRate k) (p .heard .line) (headerWords k rec) in
-      let long = header-bits k rec (p .heard .line) in
+      let bs = plainBits (headerRate k) L (headerWords k rec) in
+      let long = header-bits k rec L in
       ap octetBits
-      (z .octets ∙ ap (λ (ws : List ℕ). octetsOf 6 (plainBits (headerRate k) (p .heard .line) ws)) (header-words k rec))
+      (z .octets ∙ ap (λ (ws : List ℕ). octetsOf 6 (plainBits (headerRate k) L ws)) (header-words k rec))
       ∙ octets-bits 6 bs (omega arith) (descramble-below _ _)
       ∙ take-all 48 bs (omega arith)
 
-  opened : Opened k rec (c .line)
+  opened : Opened k rec (c .heard .line)
   opened = record {
     at-phase = header-part .phase ∙ ap (λ (q : ℕ). lastHeard (headerRate k) q (headerWords k rec)) (x .line .at-phase)
         ∙ (unfold payloadPhase in refl);
     small = header-part .small;
     past =
-        goes-on (pastAfter (start k) (preambleHeard k rec)) (headerRate k) (preambleChips k) (p .heard .line)
-        (headerWords k rec) c (x .line .past) header-part
+        goes-on (pastAfter (start k) (preambleHeard k rec)) (headerRate k) (preambleChips k) L
+        (headerWords k rec) (c .heard) (x .line .past) header-part
         ∙ ap (take 7) (sym (past-append (start k) (preambleHeard k rec)
-        (received (headerRate k) (p .heard .line) (headerWords k rec))))
+        (received (headerRate k) L (headerWords k rec))))
         ∙ ap (λ (bs : List ℕ). take 7 (pastAfter (start k) bs)) (sym all-heard);
   }
 
-  pub front-known : FrontKnown k rec (record { heard = all; sfd = p .sfd; header = header })
+  pub front-known : FrontKnown k rec (record { part = all; sfd = p .sfd; header = header })
   front-known = record {
     odd =
-        pc .1
+        pc .1 .0
         ∙ ap₂ {C = Option ℕ} (λ o q. orElse o (λ place. some place) q) (x .line .odd)
         (header-part .place
         ∙ ap (λ (q : ℕ). oddGrowth (headerRate k) (preambleChips k) (growthsOf (headerRate k) q (headerWords k rec)))
@@ -147,4 +162,7 @@ module _
         ∙ sym (ap (drop (preambleLength k)) bits-are
         ∙ drop-at (descramble (start k) (preambleHeard k rec)) _ (preambleLength k) preamble-bits);
     line = rw (pc .0) opened;
+    least =
+        pc .1 .1 ∙ z .least
+        ∙ ap₂ {C = Least} (leastFrom (preambleChips k / 11)) (x .least) (header-leads k rec) ∙ sym (front-least k rec);
   }

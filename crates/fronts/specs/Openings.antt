@@ -1,5 +1,5 @@
--- What is known of a line once a preamble and a front are heard, and of a front once it is read. Definitions only.
--- Assumes nothing.
+-- What is known of a line and of leads once a preamble and a front are heard, and of a front once it is read.
+-- Definitions only. Assumes nothing.
 use mathlib.Core.Path.{_≡_}
 use mathlib.Core.List.{List}
 use Prim.Native.Nat.{ℕ, _+_, _≤_, _<_}
@@ -32,6 +32,7 @@ use Rattle.reading.specs.Reading.{
   frontOf,
   wholeOf,
 }
+use Rattle.reading.specs.Leads.{decidedLeads, frontLeads, leastOf}
 use Rattle.recorded.specs.Recorded.{whereFound}
 use Rattle.blocks.specs.declared.Hearing.{Hearing}
 use Rattle.fronts.specs.declared.Preamble.{Preamble}
@@ -51,6 +52,10 @@ preambleHeard k rec = heard One 0 (reference k rec) (preambleWords k rec)
 abbrev pub preambleOctets : Kind → List Taken → List ℕ
 preambleOctets k rec = octetsOf (syncOctets k + 2) (descramble (start k) (preambleHeard k rec))
 
+-- the leads of the preamble's symbols
+abbrev pub preambleLeads : Kind → List Taken → List ℕ
+preambleLeads k rec = decidedLeads One (preambleLength k) rec
+
 -- the line once the preamble is heard: the header's first symbol grows from its phase, and its bits are unscrambled
 -- after the preamble's
 pub record PreambleLine (k : Kind) (rec : List Taken) (h : Hearing) : Type 0 where
@@ -61,8 +66,9 @@ pub record PreambleLine (k : Kind) (rec : List Taken) (h : Hearing) : Type 0 whe
 
 -- a preamble heard
 pub record PreambleKnown (k : Kind) (rec : List Taken) (p : Preamble) : Type 0 where
-  pub line : PreambleLine k rec (p .heard)
+  pub line : PreambleLine k rec (p .part .heard)
   pub sfd : octetBits (p .sfd) ≡ drop (syncBits k) (descramble (start k) (preambleHeard k rec))
+  pub least : p .part .least ≡ leastOf (preambleLeads k rec)
 
 -- the line once the front is heard: the payload's first symbol grows from its phase, and its bits are unscrambled after
 -- the front's
@@ -73,10 +79,11 @@ pub record Opened (k : Kind) (rec : List Taken) (l : Line) : Type 0 where
 
 -- a front heard
 pub record FrontKnown (k : Kind) (rec : List Taken) (f : FrontHeard) : Type 0 where
-  pub odd : whereFound (f .heard .odd) ≡ frontOdd k rec
+  pub odd : whereFound (f .part .heard .odd) ≡ frontOdd k rec
   pub sfd : octetBits (f .sfd) ≡ take 16 (drop (syncBits k) (frontBits k rec))
   pub header : octetBits (f .header) ≡ drop (preambleLength k) (frontBits k rec)
-  pub line : Opened k rec (f .heard .line)
+  pub line : Opened k rec (f .part .heard .line)
+  pub least : f .part .least ≡ leastOf (frontLeads k rec)
 
 -- what a front of usable chips tells: 10, then 11 to 15
 abbrev pub afterUsable : Kind → List Taken → Front
@@ -84,15 +91,17 @@ afterUsable k rec =
     orElse (frontOdd k rec) (λ place. Refused (OddGrowth place 0))
     (headerOf k (take 16 (drop (syncBits k) (frontBits k rec))) (drop (preambleLength k) (frontBits k rec)))
 
--- an opening that tells f: where that is fields, the line goes on from the front
+-- an opening that tells f: where that is fields, the line goes on from the front, and so does the smallest lead
 pub record Opens (k : Kind) (rec : List Taken) (f : Front) (o : Opening) : Type 0 where
   pub told : o .front ≡ f
   pub line : (t : Told) → o .front ≡ Fields t → Opened k rec (o .line)
+  pub least : (t : Told) → o .front ≡ Fields t → o .least ≡ leastOf (frontLeads k rec)
 
 -- an opening that tells what a recording's front does, refusal 16 included: where that is fields, the recording has the
 -- whole frame
 pub record OpensWhole (k : Kind) (rec : List Taken) (o : Opening) : Type 0 where
   pub told : o .front ≡ wholeOf k rec (frontOf k rec)
   pub line : (t : Told) → o .front ≡ Fields t → Opened k rec (o .line)
+  pub least : (t : Told) → o .front ≡ Fields t → o .least ≡ leastOf (frontLeads k rec)
   pub few : (t : Told) → o .front ≡ Fields t → t .n ≤ 4095
   pub chips : (t : Told) → o .front ≡ Fields t → frameChips k (t .rate) (t .n) ≤ length rec

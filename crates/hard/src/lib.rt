@@ -4,12 +4,14 @@ ghost use mathlib.Core.Path.{_≡_};
 ghost use mathlib.Core.Bool.{true, not};
 ghost use Prim.Native.Nat.{_+_, _*_, _<_, _≤_};
 ghost use lib.ListN.{length, getD};
+ghost use Rattle.base.specs.Tables.{tabulate};
 ghost use Rattle.chips.specs.Chips.{unusable, isUnusable, hardRecording};
 ghost use Rattle.recorded.specs.Columns.{ColumnSet, Columns, hardColumn};
-ghost use Rattle.recorded.specs.Recorded.{hardPart, AllUsable, DecidedAt};
+ghost use Rattle.recorded.specs.Recorded.{hardPart, AllUsable, DecidedAt, LeadsAt};
 use axes::Axis;
 use chips::Chip;
 use rates::Rate;
+use units::Choice;
 
 // Whether the chip at a place is usable.
 pub fn usable_at(octets: &[u8], at: usize) -> bool
@@ -33,7 +35,7 @@ pub fn clean(octets: &[u8], at: usize) -> bool
 }
 
 // The chips of a CCK symbol.
-pub fn eight(octets: &[u8], at: usize) -> [Chip; 8]
+fn eight(octets: &[u8], at: usize) -> [Chip; 8]
     requires { ⌜ at + 8 ≤ length (now octets) ⌝ }
     ensures answer { λ r. ⌜ r ≡ hardPart (now (octets .entry)) at 8 ⌝ }
 {
@@ -56,30 +58,57 @@ fn eleven(octets: &[u8], at: usize) -> [Chip; 11]
     chips
 }
 
-// m Barker symbols from a place.
-pub fn barkers(octets: &[u8], at: usize, m: usize, numbers: &mut [u8; 64])
-    requires { ⌜ (m ≤ 64) × (at + 11 * m ≤ length (now octets))
-        × AllUsable (hardRecording (now octets)) at (11 * m) × (length (now numbers) ≡ 64) ⌝ }
-    ensures numbers { λ _. ⌜ DecidedAt Rate.One (hardRecording (now (octets .entry))) at m (now (numbers .exit)) ⌝ }
+// A lead of so many full chips, in counts.
+fn lead_counts(full: u8) -> u32
+    ensures answer { λ r. ⌜ r ≡ 1024 * full ⌝ }
 {
-    let mut l: usize = 0;
-    while l < m {
-        numbers[l] = units::decide_barker(eleven(octets, at + 11 * l));
-        l += 1;
+    1024 * (full as u32)
+}
+
+// Leads in full chips, in counts: a loop of its own, since four counts take the room of sixteen octets.
+fn in_counts(full: &[u8; 64], leads: &mut [u32; 64])
+    requires { ⌜ (length (now full) ≡ 64) × (length (now leads) ≡ 64) ⌝ }
+    ensures leads { λ _. ⌜ now (leads .exit) ≡ tabulate (λ l. 1024 * getD (now (full .entry)) l 0) 64 ⌝ }
+{
+    for l in 0..64 {
+        leads[l] = lead_counts(full[l]);
     }
 }
 
-// m symbols of 5.5 Mbit/s from a place.
-pub fn fives(octets: &[u8], at: usize, m: usize, numbers: &mut [u8; 64])
-    requires { ⌜ (m ≤ 64) × (at + 8 * m ≤ length (now octets))
-        × AllUsable (hardRecording (now octets)) at (8 * m) × (length (now numbers) ≡ 64) ⌝ }
-    ensures numbers { λ _. ⌜ DecidedAt Rate.Five (hardRecording (now (octets .entry))) at m (now (numbers .exit)) ⌝ }
+// m Barker symbols from a place.
+pub fn barkers(octets: &[u8], at: usize, m: usize, numbers: &mut [u8; 64], leads: &mut [u32; 64])
+    requires { ⌜ (m ≤ 64) × (at + 11 * m ≤ length (now octets)) × AllUsable (hardRecording (now octets)) at (11 * m)
+        × (length (now numbers) ≡ 64) × (length (now leads) ≡ 64) ⌝ }
+    ensures numbers { λ _. ⌜ DecidedAt Rate.One (hardRecording (now (octets .entry))) at m (now (numbers .exit)) ⌝ }
+    ensures leads { λ _. ⌜ LeadsAt Rate.One (hardRecording (now (octets .entry))) at m (now (leads .exit)) ⌝ }
 {
+    let mut full = [0u8; 64];
     let mut l: usize = 0;
     while l < m {
-        numbers[l] = units::decide_five(eight(octets, at + 8 * l));
+        let c = units::decide_barker(eleven(octets, at + 11 * l));
+        numbers[l] = c.number;
+        full[l] = c.lead;
         l += 1;
     }
+    in_counts(&full, leads);
+}
+
+// m symbols of 5.5 Mbit/s from a place.
+pub fn fives(octets: &[u8], at: usize, m: usize, numbers: &mut [u8; 64], leads: &mut [u32; 64])
+    requires { ⌜ (m ≤ 64) × (at + 8 * m ≤ length (now octets)) × AllUsable (hardRecording (now octets)) at (8 * m)
+        × (length (now numbers) ≡ 64) × (length (now leads) ≡ 64) ⌝ }
+    ensures numbers { λ _. ⌜ DecidedAt Rate.Five (hardRecording (now (octets .entry))) at m (now (numbers .exit)) ⌝ }
+    ensures leads { λ _. ⌜ LeadsAt Rate.Five (hardRecording (now (octets .entry))) at m (now (leads .exit)) ⌝ }
+{
+    let mut full = [0u8; 64];
+    let mut l: usize = 0;
+    while l < m {
+        let c = units::decide_five(eight(octets, at + 8 * l));
+        numbers[l] = c.number;
+        full[l] = c.lead;
+        l += 1;
+    }
+    in_counts(&full, leads);
 }
 
 // A symbol's eight chips as column l of a row of sixteen symbols.
@@ -114,10 +143,11 @@ fn columns(octets: &[u8], at: usize, count: usize, row: &mut [i8])
 }
 
 // m symbols of 11 Mbit/s from a place, sixteen abreast.
-pub fn elevens(octets: &[u8], at: usize, m: usize, numbers: &mut [u8; 64])
-    requires { ⌜ (m ≤ 64) × (at + 8 * m ≤ length (now octets))
-        × AllUsable (hardRecording (now octets)) at (8 * m) × (length (now numbers) ≡ 64) ⌝ }
+pub fn elevens(octets: &[u8], at: usize, m: usize, numbers: &mut [u8; 64], leads: &mut [u32; 64])
+    requires { ⌜ (m ≤ 64) × (at + 8 * m ≤ length (now octets)) × AllUsable (hardRecording (now octets)) at (8 * m)
+        × (length (now numbers) ≡ 64) × (length (now leads) ≡ 64) ⌝ }
     ensures numbers { λ _. ⌜ DecidedAt Rate.Eleven (hardRecording (now (octets .entry))) at m (now (numbers .exit)) ⌝ }
+    ensures leads { λ _. ⌜ LeadsAt Rate.Eleven (hardRecording (now (octets .entry))) at m (now (leads .exit)) ⌝ }
 {
     let mut row = [0i8; 256];
     let mut z = [0i16; 256];
@@ -126,7 +156,7 @@ pub fn elevens(octets: &[u8], at: usize, m: usize, numbers: &mut [u8; 64])
     while l < m {
         let count = abreast::at_most_16(m - l);
         columns(octets, at + 8 * l, count, &mut row);
-        byte_walsh::sixteen(&row, &mut z, &mut a, l, numbers);
+        byte_walsh::sixteen(&row, &mut z, &mut a, 1024, l, numbers, leads);
         l += 16;
     }
 }

@@ -1,7 +1,10 @@
 -- Blocks after blocks: what is heard of them is what is heard of all their words.
 --     block-words, block-are-words     the numbers decided for a block are its words
+--     block-leads                      and its leads theirs
+--     part-leads, part-leads-length    the leads of two parts, and how many
 --     blocks-more, blocks-bits         the line behind two parts, and their bits
 --     block-room, block-usable         a block has its chips, and they are usable
+--     few-symbols, block-symbol        there are more chips than symbols, so that symbols' numbers are below places
 --     Parts, parts-none, parts-more, parts-all    the loop over blocks: before it, a block more, after it
 -- Assumes nothing.
 use mathlib.Core.Path.{_≡_, refl, sym, ap, ap₂, subst, _∙_}
@@ -21,7 +24,7 @@ use Rattle.rates.specs.declared.Rate.the-variants.{One, Two, Five, Eleven}
 use Rattle.rates.specs.Rates.{symbolChips, symbolBits, octetSymbols, octetChips}
 use Rattle.rates.proofs.Octets.{part-symbols, part-chips, part-bits}
 use Rattle.chips.specs.Chips.{Taken, takenCounts}
-use Rattle.symbols.specs.Choice.{numbers, decided}
+use Rattle.symbols.specs.Choice.{numbers, decided, leadOf}
 use Rattle.choosing.proofs.Decided.{decided-below}
 use Rattle.bits.specs.Bits.{bitsOf, octetsOf}
 use Rattle.bits.specs.Growths.{heard, growthsOf, lastHeard}
@@ -38,15 +41,19 @@ use Rattle.bits.proofs.Heard.{
   heard-length,
   heard-parity,
 }
+use Rattle.calls.specs.declared.Least.{Least}
 use Rattle.reading.specs.Reading.{orElse, firstOdd, oddGrowth, decidedWords}
+use Rattle.reading.specs.Leads.{decidedLeads, leastFrom}
 use Rattle.recorded.specs.declared.Found.the-variants.{Nothing}
-use Rattle.recorded.specs.Recorded.{whereFound, symbolAt, AllUsable, DecidedAt}
+use Rattle.recorded.specs.Recorded.{whereFound, symbolAt, AllUsable, DecidedAt, LeadsAt}
 use Rattle.recorded.proofs.Search.{usable-part}
 use Rattle.blocks.specs.declared.Hearing.{Hearing}
 use Rattle.codes.specs.Codes.{AreWords, BlockOf}
 use Rattle.blocks.specs.Heard.{received, plainBits, plainOctets, Heard}
-use Rattle.hearing.specs.Hearing.{partWords, PartHeard}
+use Rattle.hearing.specs.declared.Part.{Part}
+use Rattle.hearing.specs.Hearing.{partWords, partLeads, PartHeard}
 use Rattle.reading.proofs.Places.{decidedWords-length}
+use Rattle.reading.proofs.Leads.{leads-length, leads-at, leads-append, least-joined}
 use Rattle.codes.proofs.Passes.{past-take, descramble-take, oddGrowth-append, decidedWords-append}
 
 -- ---- the words of a block
@@ -79,6 +86,18 @@ decided-row r rec at m ns d h =
     (sym (drop-drop (symbolChips r * l) at rec))
     ∙ sym (words-at r m (drop at rec) l b))
 
+leads-row : (r : Rate) (rec : List Taken) (at m : ℕ) (ls : List ℕ) → LeadsAt r rec at m ls → m ≤ 64
+    → take m ls ≡ decidedLeads r m (drop at rec)
+leads-row r rec at m ls d h =
+    let long : length (take m ls) ≡ m = length-take-le m ls (omega (arith, d .long)) in
+    ext-getD 0 (take m ls) (decidedLeads r m (drop at rec)) (long ∙ sym (leads-length r m (drop at rec)))
+    (λ l k. let b : l < m = omega (arith, long) in
+    getD-take m ls l 0 b
+    ∙ d .lead l b
+    ∙ ap (λ (us : List Taken). leadOf r (map takenCounts (take (symbolChips r) us)))
+    (sym (drop-drop (symbolChips r * l) at rec))
+    ∙ sym (leads-at r m (drop at rec) l b))
+
 words-below : (r : Rate) (m : ℕ) (cs : List Taken) → AreWords r (decidedWords r m cs)
 unfolding decidedWords
 words-below r zero cs = below-nil (numbers r) (some r)
@@ -107,6 +126,13 @@ module _
   pub block-are-words : AreWords r (take (octetSymbols r * n) ns)
   block-are-words = rw block-words (words-below r (8 * n / symbolBits r) (drop at rec))
 
+-- and their leads
+pub block-leads : (r : Rate) (s n : ℕ) → s ≡ octetSymbols r → (rec : List Taken) (at : ℕ) (ls : List ℕ)
+    → LeadsAt r rec at (s * n) ls → octetSymbols r * n ≤ 64 → take (s * n) ls ≡ partLeads r at n rec
+block-leads r s n e rec at ls d h =
+    leads-row r rec at (s * n) ls d (rw e h)
+    ∙ ap (λ (m : ℕ). decidedLeads r m (drop at rec)) (ap (λ (k : ℕ). k * n) e ∙ sym (part-symbols r n))
+
 sum : (r : Rate) (i j : ℕ) → octetSymbols r * (i + j) ≡ octetSymbols r * i + octetSymbols r * j
 sum One i j = omega arith
 sum Two i j = omega arith
@@ -125,6 +151,34 @@ part-more r at i j rec =
       drop-drop,
       part-chips r i,
     )
+
+pub part-leads-length : (r : Rate) (at n : ℕ) (rec : List Taken) → length (partLeads r at n rec) ≡ octetSymbols r * n
+part-leads-length r at n rec = leads-length r (8 * n / symbolBits r) (drop at rec) ∙ part-symbols r n
+
+pub part-leads : (r : Rate) (at i j : ℕ) (rec : List Taken)
+    → partLeads r at (i + j) rec ≡ partLeads r at i rec ++ partLeads r (at + octetChips r * i) j rec
+part-leads r at i j rec =
+    rw (
+      part-symbols r (i + j),
+      part-symbols r i,
+      part-symbols r j,
+      sum r i j,
+      leads-append r (octetSymbols r * i) (octetSymbols r * j) (drop at rec),
+      drop-drop,
+      part-chips r i,
+    )
+
+-- the smallest lead of two parts, with the first one's symbols as the code counts them
+part-least : (r : Rate) (at i j s k : ℕ) (b : Least) (rec : List Taken) → s ≡ octetSymbols r
+    → leastFrom k b (partLeads r at (i + j) rec)
+    ≡ leastFrom (k + s * i) (leastFrom k b (partLeads r at i rec)) (partLeads r (at + octetChips r * i) j rec)
+part-least r at i j s k b rec e =
+    let first = partLeads r at i rec in
+    let then = partLeads r (at + octetChips r * i) j rec in
+    ap (leastFrom k b) (part-leads r at i j rec)
+    ∙ least-joined k b first then
+    ∙ ap (λ (n : ℕ). leastFrom (k + n) (leastFrom k b first) then)
+    (part-leads-length r at i rec ∙ ap (λ (n : ℕ). n * i) (sym e))
 
 pub plain-length : (r : Rate) (l : Line) (ws : List ℕ) → length (plainBits r l ws) ≡ symbolBits r * length ws
 plain-length r l ws = descramble-length (pastOf (l .past)) (received r l ws) ∙ heard-length r 0 (l .phase) ws
@@ -180,13 +234,14 @@ module _ (r : Rate) (at : ℕ) (l : Line) (a b : List ℕ) (h : Hearing) (even :
 
 -- ---- the loop over blocks
 
-pub record Parts (r : Rate) (at : ℕ) (rec : List Taken) (l : Line) (d : List ℕ) (h : Hearing) (place k : ℕ)
-    (out : List ℕ) : Type 0 where
+pub record Parts (r : Rate) (at : ℕ) (rec : List Taken) (l : Line) (f : ℕ) (b : Least) (d : List ℕ) (p : Part)
+    (place k : ℕ) (out : List ℕ) : Type 0 where
   pub fits : k ≤ length d
   pub at-place : place ≡ at + octetChips r * k
   pub even : k < length d → (octetSymbols r * k) % 2 ≡ 0
-  pub line : Heard r at l (partWords r at k rec) h
+  pub line : Heard r at l (partWords r at k rec) (p .heard)
   pub stored : out ≡ over (plainOctets r k l (partWords r at k rec)) d
+  pub least : p .least ≡ leastFrom f b (partLeads r at k rec)
 
 heard-none : (r : Rate) (at : ℕ) (l : Line) → l .phase < 4 → Heard r at l [] (record { line = l; odd = Nothing })
 unfolding bitsOf heard lastHeard growthsOf firstOdd pastAfter
@@ -198,19 +253,20 @@ heard-none r at l h = record { past = refl; phase = refl; small = h; place = by 
     by Five = refl
     by Eleven = refl
 
-pub parts-none : (r : Rate) (at : ℕ) (rec : List Taken) (l : Line) (d : List ℕ) → l .phase < 4
-    → Parts r at rec l d (record { line = l; odd = Nothing }) at 0 d
-parts-none r at rec l d h = record {
+pub parts-none : (r : Rate) (at : ℕ) (rec : List Taken) (l : Line) (f : ℕ) (b : Least) (d : List ℕ) → l .phase < 4
+    → Parts r at rec l f b d (record { heard = record { line = l; odd = Nothing }; least = b }) at 0 d
+parts-none r at rec l f b d h = record {
   fits = omega arith;
   at-place = rw (mul-zero, add-zero);
   even = λ k. rw mul-zero;
   line = rw (part-symbols r 0, mul-zero) (unfold decidedWords in heard-none r at l h);
   stored = unfold over octetsOf in refl;
+  least = rw (part-symbols r 0, mul-zero) (unfold decidedLeads leastFrom in refl);
 }
 
-pub parts-long : {r : Rate} {at : ℕ} {rec : List Taken} {l : Line} {d : List ℕ} {h : Hearing} {place k : ℕ}
-    {out : List ℕ} → Parts r at rec l d h place k out → length out ≡ length d
-parts-long {r} {at} {rec} {l} {d} {k = k} s =
+pub parts-long : {r : Rate} {at : ℕ} {rec : List Taken} {l : Line} {f : ℕ} {b : Least} {d : List ℕ} {p : Part}
+    {place k : ℕ} {out : List ℕ} → Parts r at rec l f b d p place k out → length out ≡ length d
+parts-long {r} {at} {rec} {l} {d = d} {k = k} s =
     ap length (s .stored) ∙ length-over _ d (rw octets-length (s .fits))
 
 parity : (r : Rate) (k n : ℕ) → (octetSymbols r * k) % 2 ≡ 0 → octetSymbols r * n ≡ 64
@@ -226,73 +282,93 @@ chips-sum Two k n = omega arith
 chips-sum Five k n = omega arith
 chips-sum Eleven k n = omega arith
 
+pub few-symbols : (r : Rate) (n : ℕ) → octetSymbols r * n ≤ octetChips r * n
+few-symbols One n = omega arith
+few-symbols Two n = omega arith
+few-symbols Five n = omega arith
+few-symbols Eleven n = omega arith
+
 module _
-    (r : Rate) (at : ℕ) (rec : List Taken) (l : Line) (d : List ℕ) (h : Hearing) (place k n : ℕ) (out : List ℕ)
-    (s : Parts r at rec l d h place k out) (b : k < length d) (w : BlockOf r (length out - k) n) where
-  -- a block that fits what is left has its chips
-  pub block-room : (m : ℕ) → at + octetChips r * length d ≤ m → place + octetChips r * n ≤ m
-  block-room m e = rw (s .at-place) (by r (omega (arith, w .within, parts-long s)) e)
-    where
-      by : (r : Rate) → k + n ≤ length d → at + octetChips r * length d ≤ m
-          → at + octetChips r * k + octetChips r * n ≤ m
-      by One p q = omega arith
-      by Two p q = omega arith
-      by Five p q = omega arith
-      by Eleven p q = omega arith
+    (r : Rate) (at : ℕ) (rec : List Taken) (l : Line) (f : ℕ) (a : Least) (d : List ℕ) (p : Part) (place k n : ℕ)
+    (out : List ℕ) (s : Parts r at rec l f a d p place k out) (b : k < length d) (w : BlockOf r (length out - k) n)
+  where
+    -- a block that fits what is left has its chips
+    pub block-room : (m : ℕ) → at + octetChips r * length d ≤ m → place + octetChips r * n ≤ m
+    block-room m e = rw (s .at-place) (by r (omega (arith, w .within, parts-long s)) e)
+      where
+        by : (r : Rate) → k + n ≤ length d → at + octetChips r * length d ≤ m
+            → at + octetChips r * k + octetChips r * n ≤ m
+        by One p q = omega arith
+        by Two p q = omega arith
+        by Five p q = omega arith
+        by Eleven p q = omega arith
 
-  pub block-usable : AllUsable rec at (octetChips r * length d) → AllUsable rec place (octetChips r * n)
-  block-usable u = rw (s .at-place)
-      (usable-part (octetChips r * k) (octetChips r * n) u (by r (omega (arith, w .within, parts-long s))))
-    where
-      by : (r : Rate) → k + n ≤ length d → octetChips r * k + octetChips r * n ≤ octetChips r * length d
-      by One p = omega arith
-      by Two p = omega arith
-      by Five p = omega arith
-      by Eleven p = omega arith
+    pub block-usable : AllUsable rec at (octetChips r * length d) → AllUsable rec place (octetChips r * n)
+    block-usable u = rw (s .at-place)
+        (usable-part (octetChips r * k) (octetChips r * n) u (by r (omega (arith, w .within, parts-long s))))
+      where
+        by : (r : Rate) → k + n ≤ length d → octetChips r * k + octetChips r * n ≤ octetChips r * length d
+        by One p = omega arith
+        by Two p = omega arith
+        by Five p = omega arith
+        by Eleven p = omega arith
 
-  pub parts-more : (g m : Hearing) (y : List ℕ) (chips : ℕ) → Heard r place (h .line) (partWords r place n rec) g
-      → y ≡ over (plainOctets r n (h .line) (partWords r place n rec)) (take (length out - k) (drop k out))
-      → (m .line ≡ g .line) × (whereFound (m .odd)
-      ≡ orElse (whereFound (h .odd)) (λ place. some place) (whereFound (g .odd)))
-      → chips ≡ octetChips r
-      → Parts r at rec l d m (place + chips * n) (k + n) (putMid k (length out - k) out y)
-  parts-more g m y chips x z j e =
-      let ws = partWords r at k rec in
-      let vs = partWords r place n rec in
-      let there : place ≡ at + symbolChips r * length ws =
-      s .at-place
-      ∙ ap (λ (i : ℕ). at + i) (sym (ap (λ (i : ℕ). symbolChips r * i) (part-length r at k rec) ∙ part-chips r k)) in
-      let ev : length ws % 2 ≡ 0 = ap (λ (i : ℕ). i % 2) (part-length r at k rec) ∙ s .even b in
-      let words : partWords r at (k + n) rec ≡ ws ++ vs =
-      part-more r at k n rec ∙ ap (λ (p : ℕ). ws ++ partWords r p n rec) (sym (s .at-place)) in
-      record {
-        fits = omega (arith, w .within, parts-long s);
-        at-place = ap₂ {C = ℕ} (λ p c. p + c * n) (s .at-place) e ∙ omega (arith, chips-sum r k n);
-        even = λ q. parity r k n (s .even b) (w .full (omega (arith, parts-long s)));
-        line =
-            rw words
-            (blocks-more r at l ws vs h ev (s .line) g m (subst (λ (p : ℕ). Heard r p (h .line) vs g) there x) (j .0)
-            (j .1));
-        stored =
-            over-next (plainOctets r k l ws) (plainOctets r n (h .line) vs) d out y k (s .stored)
-            (octets-length k (plainBits r l ws)) z
-            ∙ ap (λ (u : List ℕ). over u d)
-            (sym (ap (plainOctets r (k + n) l) words
-            ∙ blocks-octets r at l ws vs h ev (s .line) k n (part-length r at k rec)));
-      }
+    pub block-symbol : (symbols : ℕ) → symbols ≡ octetSymbols r → f ≤ at → f + symbols * k ≤ place
+    block-symbol symbols e h = rw (e, s .at-place) (omega (arith, few-symbols r k))
+
+    pub parts-more : (g m : Part) (y : List ℕ) (chips symbols : ℕ)
+        → Heard r place (p .heard .line) (partWords r place n rec) (g .heard)
+        → g .least ≡ leastFrom (f + symbols * k) (p .least) (partLeads r place n rec)
+        → y ≡ over (plainOctets r n (p .heard .line) (partWords r place n rec)) (take (length out - k) (drop k out))
+        → (m .heard .line ≡ g .heard .line) × ((whereFound (m .heard .odd)
+        ≡ orElse (whereFound (p .heard .odd)) (λ place. some place) (whereFound (g .heard .odd)))
+        × (m .least ≡ g .least))
+        → chips ≡ octetChips r → symbols ≡ octetSymbols r
+        → Parts r at rec l f a d m (place + chips * n) (k + n) (putMid k (length out - k) out y)
+    parts-more g m y chips symbols x o z j e i =
+        let h = p .heard in
+        let ws = partWords r at k rec in
+        let vs = partWords r place n rec in
+        let there : place ≡ at + symbolChips r * length ws =
+        s .at-place
+        ∙ ap (λ (i : ℕ). at + i) (sym (ap (λ (i : ℕ). symbolChips r * i) (part-length r at k rec) ∙ part-chips r k)) in
+        let ev : length ws % 2 ≡ 0 = ap (λ (i : ℕ). i % 2) (part-length r at k rec) ∙ s .even b in
+        let words : partWords r at (k + n) rec ≡ ws ++ vs =
+        part-more r at k n rec ∙ ap (λ (p : ℕ). ws ++ partWords r p n rec) (sym (s .at-place)) in
+        record {
+          fits = omega (arith, w .within, parts-long s);
+          at-place = ap₂ {C = ℕ} (λ p c. p + c * n) (s .at-place) e ∙ omega (arith, chips-sum r k n);
+          even = λ q. parity r k n (s .even b) (w .full (omega (arith, parts-long s)));
+          line =
+              rw words
+              (blocks-more r at l ws vs h ev (s .line) (g .heard) (m .heard)
+              (subst (λ (q : ℕ). Heard r q (h .line) vs (g .heard)) there x) (j .0) (j .1 .0));
+          stored =
+              over-next (plainOctets r k l ws) (plainOctets r n (h .line) vs) d out y k (s .stored)
+              (octets-length k (plainBits r l ws)) z
+              ∙ ap (λ (u : List ℕ). over u d)
+              (sym (ap (plainOctets r (k + n) l) words
+              ∙ blocks-octets r at l ws vs h ev (s .line) k n (part-length r at k rec)));
+          least =
+              j .1 .1 ∙ o
+              ∙ ap₂ {C = Least} (λ q c. leastFrom (f + symbols * k) c (partLeads r q n rec)) (s .at-place) (s .least)
+              ∙ sym (part-least r at k n symbols f a rec i);
+        }
 
 over-all : (w d : List ℕ) → length d ≤ length w → over w d ≡ w
 unfolding over
 over-all w d h = ap (λ (u : List ℕ). w ++ u) (drop-of-length-le d {i = length w} h) ∙ append-nil w
 
-pub parts-all : {r : Rate} {at : ℕ} {rec : List Taken} {l : Line} {d : List ℕ} {h : Hearing} {place k : ℕ}
-    {out : List ℕ} → Parts r at rec l d h place k out → length d ≤ k → PartHeard r at (length d) rec l h out
-parts-all {r} {at} {rec} {l} {d} {h} {place} {k} {out} s b =
+pub parts-all : {r : Rate} {at : ℕ} {rec : List Taken} {l : Line} {f : ℕ} {a : Least} {d : List ℕ} {p : Part}
+    {place k : ℕ} {out : List ℕ} → Parts r at rec l f a d p place k out → length d ≤ k
+    → PartHeard r at (length d) rec l f a p out
+parts-all {r} {at} {rec} {l} {f} {a} {d} {p} {place} {k} {out} s b =
     let is : k ≡ length d = le-antisymm (s .fits) b in
     record {
-      line = subst (λ (n : ℕ). Heard r at l (partWords r at n rec) h) is (s .line);
+      line = subst (λ (n : ℕ). Heard r at l (partWords r at n rec) (p .heard)) is (s .line);
       octets =
           s .stored
           ∙ over-all (plainOctets r k l (partWords r at k rec)) d (rw octets-length b)
           ∙ ap (λ (n : ℕ). plainOctets r n l (partWords r at n rec)) is;
+      least = s .least ∙ ap (λ (n : ℕ). leastFrom f a (partLeads r at n rec)) is;
     }

@@ -1,4 +1,5 @@
--- What is known of a line once octets of a recording were heard on it. Definitions only. Assumes nothing.
+-- What is known of a line once octets of a recording were heard on it, and of their leads. Definitions only. Assumes
+-- nothing.
 use mathlib.Core.Path.{_≡_}
 use mathlib.Core.List.{List}
 use Prim.Native.Nat.{ℕ, _*_, _/_}
@@ -7,15 +8,22 @@ use Rattle.rates.specs.declared.Rate.{Rate}
 use Rattle.rates.specs.Rates.{symbolBits}
 use Rattle.chips.specs.Chips.{Taken}
 use Rattle.lines.specs.declared.Line.{Line}
+use Rattle.calls.specs.declared.Least.{Least}
 use Rattle.reading.specs.Reading.{decidedWords}
-use Rattle.blocks.specs.declared.Hearing.{Hearing}
+use Rattle.reading.specs.Leads.{decidedLeads, leastFrom}
 use Rattle.blocks.specs.Heard.{Heard, plainOctets}
+use Rattle.hearing.specs.declared.Part.{Part}
 
--- the words of n octets from place `at` of a recording
+-- the words of n octets from place `at` of a recording, and their leads
 abbrev pub partWords : Rate → ℕ → ℕ → List Taken → List ℕ
 partWords r at n rec = decidedWords r (8 * n / symbolBits r) (drop at rec)
 
--- n octets heard from place `at`
-pub record PartHeard (r : Rate) (at n : ℕ) (rec : List Taken) (l : Line) (h : Hearing) (out : List ℕ) : Type 0 where
-  pub line : Heard r at l (partWords r at n rec) h
+abbrev pub partLeads : Rate → ℕ → ℕ → List Taken → List ℕ
+partLeads r at n rec = decidedLeads r (8 * n / symbolBits r) (drop at rec)
+
+-- n octets heard from place `at`, whose first symbol is number k of the frame and before which b was the smallest lead
+pub record PartHeard (r : Rate) (at n : ℕ) (rec : List Taken) (l : Line) (k : ℕ) (b : Least) (p : Part) (out : List ℕ)
+    : Type 0 where
+  pub line : Heard r at l (partWords r at n rec) (p .heard)
   pub octets : out ≡ plainOctets r n l (partWords r at n rec)
+  pub least : p .least ≡ leastFrom k b (partLeads r at n rec)

@@ -1,4 +1,5 @@
-// Hearing: octets of a recording, block after block of up to 64 symbols, on a line that goes by value.
+// Hearing: octets of a recording, block after block of up to 64 symbols, on a line that goes by value; and the smallest
+// lead of their symbols.
 ghost use mathlib.Core.Path.{_≡_};
 ghost use mathlib.Core.Option.{some};
 ghost use Prim.Native.Nat.{_+_, _*_, _≤_, _<_};
@@ -6,16 +7,24 @@ ghost use lib.ListN.{length};
 ghost use Rattle.base.specs.Over.{over};
 ghost use Rattle.rates.specs.Rates.{octetSymbols, octetChips};
 ghost use Rattle.reading.specs.Reading.{orElse};
+ghost use Rattle.reading.specs.Leads.{leastFrom};
 ghost use Rattle.recorders.specs.Rows.{lent};
 ghost use Rattle.recorded.specs.Recorded.{whereFound, AllUsable};
 ghost use Rattle.codes.specs.Codes.{BlockOf};
 ghost use Rattle.blocks.specs.Heard.{plainOctets, Heard};
-ghost use Rattle.hearing.specs.Hearing.{partWords, PartHeard};
+ghost use Rattle.hearing.specs.Hearing.{partWords, partLeads, PartHeard};
 use blocks::Hearing;
+use calls::Least;
 use lines::Line;
 use rates::Rate;
 use recorded::Found;
 use recorders::Recorder;
+
+// A part heard: the line behind it with the place of the first symbol grown by 1 or 3, and the smallest lead so far.
+pub struct Part {
+    pub heard: Hearing,
+    pub least: Least,
+}
 
 // The first of two places.
 fn first_of(a: Found, b: Found) -> Found
@@ -27,17 +36,21 @@ fn first_of(a: Found, b: Found) -> Found
     }
 }
 
-// What was heard first, and then more.
-pub fn joined(a: Hearing, b: Hearing) -> Hearing
-    ensures line { λ r. ⌜ r .line ≡ b .line ⌝ }
-    ensures odd { λ r. ⌜ whereFound (r .odd) ≡
-        orElse (whereFound (a .odd)) (λ place. some place) (whereFound (b .odd)) ⌝ }
+// What was heard first, and then a part.
+pub fn joined(a: Hearing, b: Part) -> Part
+    ensures line { λ r. ⌜ r .heard .line ≡ b .heard .line ⌝ }
+    ensures odd { λ r. ⌜ whereFound (r .heard .odd) ≡
+        orElse (whereFound (a .odd)) (λ place. some place) (whereFound (b .heard .odd)) ⌝ }
+    ensures least { λ r. ⌜ r .least ≡ b .least ⌝ }
 {
-    let line = b.line;
+    let more = b.heard;
+    let line = more.line;
     let before = a.odd;
-    let then = b.odd;
+    let then = more.odd;
     let odd = first_of(before, then);
-    Hearing { line, odd }
+    let heard = Hearing { line, odd };
+    let least = b.least;
+    Part { heard, least }
 }
 
 // So many octets of usable chips that start at a place, at most a block, into a buffer's front. The first symbol is
@@ -50,20 +63,27 @@ fn hear_block(
     q: &[f32],
     rate: Rate,
     place: usize,
+    symbol: usize,
     line: Line,
+    least: Least,
     count: usize,
     out: &mut [u8],
-) -> Hearing
+) -> Part
     requires { ⌜ (octetSymbols rate * count ≤ 64) × (count ≤ length (now out))
         × (place + octetChips rate * count ≤ length (lent rec row bytes i q))
-        × AllUsable (lent rec row bytes i q) place (octetChips rate * count) × (line .phase < 4) ⌝ }
+        × AllUsable (lent rec row bytes i q) place (octetChips rate * count) × (line .phase < 4)
+        × (symbol ≤ place) ⌝ }
     ensures answer { λ r. ⌜ Heard rate place line (partWords rate place count
-        (lent rec (row .entry) (bytes .entry) (i .entry) (q .entry))) r ⌝ }
+        (lent rec (row .entry) (bytes .entry) (i .entry) (q .entry))) (r .heard) ⌝ }
+    ensures least { λ r. ⌜ r .least ≡ leastFrom symbol least (partLeads rate place count
+        (lent rec (row .entry) (bytes .entry) (i .entry) (q .entry))) ⌝ }
     ensures out { λ _. ⌜ now (out .exit) ≡ over (plainOctets rate count line (partWords rate place count
         (lent rec (row .entry) (bytes .entry) (i .entry) (q .entry)))) (now (out .entry)) ⌝ }
 {
     let mut numbers = [0u8; 64];
+    let mut leads = [0u32; 64];
     let symbols = rate.octet_symbols();
+    let m = symbols * count;
     recorders::decide(
         rec,
         row,
@@ -72,10 +92,13 @@ fn hear_block(
         q,
         rate,
         place,
-        symbols * count,
+        m,
         &mut numbers,
+        &mut leads,
     );
-    blocks::hear(rate, place, line, numbers, count, out)
+    let heard = blocks::hear(rate, place, line, numbers, count, out);
+    let least = blocks::least::least_after(least, symbol, &leads, m);
+    Part { heard, least }
 }
 
 // How many of so many octets the next block takes.
@@ -86,8 +109,9 @@ fn block_octets(rate: Rate, left: usize) -> usize
     if left < whole { left } else { whole }
 }
 
-// The octets that start at a place, as many as there is room for, from usable chips. A part's symbols are numbered from
-// 0; a block that another follows has 64, so each block starts with an even one.
+// The octets that start at a place, as many as there is room for, from usable chips, and the smallest lead after them,
+// with symbols of the frame numbered on from one. In a part they are numbered from 0; a block that another follows has
+// 64, so each block starts with an even one.
 pub fn hear_octets(
     rec: Recorder,
     row: &[u8],
@@ -96,27 +120,47 @@ pub fn hear_octets(
     q: &[f32],
     rate: Rate,
     at: usize,
+    symbol: usize,
     line: Line,
+    least: Least,
     out: &mut [u8],
-) -> Hearing
+) -> Part
     requires { ⌜ (at + octetChips rate * length (now out) ≤ length (lent rec row bytes i q))
         × AllUsable (lent rec row bytes i q) at (octetChips rate * length (now out))
-        × (line .phase < 4) ⌝ }
+        × (line .phase < 4) × (symbol ≤ at) ⌝ }
     ensures answer { λ r. ⌜ PartHeard rate at (length (now (out .entry)))
-        (lent rec (row .entry) (bytes .entry) (i .entry) (q .entry)) line r (now (out .exit)) ⌝ }
+        (lent rec (row .entry) (bytes .entry) (i .entry) (q .entry)) line symbol least r (now (out .exit)) ⌝ }
 {
     let chips = rate.octet_chips();
+    let symbols = rate.octet_symbols();
     let odd = Found::Nothing;
-    let mut heard = Hearing { line, odd };
+    let heard = Hearing { line, odd };
+    let mut part = Part { heard, least };
     let mut place = at;
     let mut k = 0;
     while k < out.len() {
         let count = block_octets(rate, out.len() - k);
-        let l = heard.line;
-        let more = hear_block(rec, row, bytes, i, q, rate, place, l, count, &mut out[k..]);
-        heard = joined(heard, more);
+        let number = symbol + symbols * k;
+        let before = part.heard;
+        let l = before.line;
+        let low = part.least;
+        let more = hear_block(
+            rec,
+            row,
+            bytes,
+            i,
+            q,
+            rate,
+            place,
+            number,
+            l,
+            low,
+            count,
+            &mut out[k..],
+        );
+        part = joined(before, more);
         place += chips * count;
         k += count;
     }
-    heard
+    part
 }

@@ -93,7 +93,7 @@ fn print_octets(octets: &[u8]) {
     }
 }
 
-// A line: the case, the record's numbers, the last of them named where it is not 0, and the octet buffer.
+// A line: the case, the record's numbers, the clock's last, named and where it is not 0, and the octet buffer.
 fn print_answer(name: &[u8], record: Record, octets: &[u8]) {
     io::write_all(STDOUT_FILENO, name);
     io::write_all(STDOUT_FILENO, b":");
@@ -103,6 +103,8 @@ fn print_answer(name: &[u8], record: Record, octets: &[u8]) {
     print_number(record.length);
     print_number(record.n);
     print_number(record.used);
+    print_number(record.lead);
+    print_number(record.symbol);
     if record.clock != 0 {
         io::write_all(STDOUT_FILENO, b" clock");
         print_number(record.clock);
@@ -149,7 +151,7 @@ fn soft(
 fn main() {
     io::write_all(
         STDOUT_FILENO,
-        b"case: number place rate LENGTH n used | octets\n",
+        b"case: number place rate LENGTH n used lead symbol | octets\n",
     );
     io::print_decimal(STDOUT_FILENO, cases::all());
     io::write_all(STDOUT_FILENO, b" cases\n");

@@ -1,6 +1,6 @@
 -- The payload, heard on the line that the front left: its odd growths and its octets are those that the definition
--- finds in all of the frame's bits at once.
---     payload-odd, payload-octets    of n octets heard
+-- finds in all of the frame's bits at once, and the smallest lead that of all of the frame's symbols.
+--     payload-odd, payload-octets, payload-least    of n octets heard
 --     octets-back                    the part of the buffer that was lent for them, back in its place
 -- Assumes nothing.
 use mathlib.Core.Path.{_≡_, sym, ap, ap₂, _∙_}
@@ -34,12 +34,15 @@ use Rattle.reading.specs.Reading.{
   payloadOdd,
   payloadOf,
 }
+use Rattle.calls.specs.declared.Least.{Least}
+use Rattle.reading.specs.Leads.{frontLeads, frameLeads, leastFrom, leastOf}
 use Rattle.recorded.specs.Recorded.{whereFound}
 use Rattle.lines.specs.declared.Line.{Line}
-use Rattle.blocks.specs.declared.Hearing.{Hearing}
-use Rattle.hearing.specs.Hearing.{PartHeard}
+use Rattle.hearing.specs.declared.Part.{Part}
+use Rattle.hearing.specs.Hearing.{partLeads, PartHeard}
 use Rattle.bits.proofs.Heard.{heard-length}
 use Rattle.reading.proofs.Places.{decidedWords-length}
+use Rattle.reading.proofs.Leads.{frame-least}
 use Rattle.fronts.specs.Openings.{Opened}
 
 -- how many bits the front has
@@ -62,9 +65,9 @@ front-length k rec =
     (heard-length (headerRate k) 0 (headerPhase k rec) (headerWords k rec) ∙ header-bits k rec)
 
 module _
-    (k : Kind) (r : Rate) (n : ℕ) (rec : List Taken) (l : Line) (h : Hearing) (out : List ℕ) (o : Opened k rec l)
-    (x : PartHeard r (frontChips k) n rec l h out) where
-  pub payload-odd : whereFound (h .odd) ≡ payloadOdd k r n rec
+    (k : Kind) (r : Rate) (n : ℕ) (rec : List Taken) (l : Line) (b : Least) (p : Part) (out : List ℕ)
+    (o : Opened k rec l) (x : PartHeard r (frontChips k) n rec l (frontChips k / 11) b p out) where
+  pub payload-odd : whereFound (p .heard .odd) ≡ payloadOdd k r n rec
   unfolding payloadOdd payloadWords
   payload-odd =
       x .line .place
@@ -84,6 +87,12 @@ module _
       ∙ drop-at (descramble (start k) (frontHeard k rec)) (descramble (pastAfter (start k) (frontHeard k rec)) bits)
       (preambleLength k + headerLength)
       (descramble-length (start k) (frontHeard k rec) ∙ front-length k rec)))
+
+  pub payload-least : b ≡ leastOf (frontLeads k rec) → p .least ≡ leastOf (frameLeads k r n rec)
+  payload-least e =
+      x .least
+      ∙ ap (λ (y : Least). leastFrom (frontChips k / 11) y (partLeads r (frontChips k) n rec)) e
+      ∙ sym (frame-least k rec r n)
 
 -- the first n octets of a buffer, as they are lent
 pub lent-long : (n : ℕ) (d : List ℕ) → n ≤ length d → length (take (n - 0) d) ≡ n

@@ -14,12 +14,14 @@ use Rattle.frame.specs.Frame.{isKind, kindOf, frontChips, frameChips}
 use Rattle.calls.specs.declared.Refusal.{Refusal}
 use Rattle.calls.specs.declared.Refusal.the-variants.{NoKind, RowsDiffer, Unusable, OctetRoom}
 use Rattle.calls.specs.declared.Told.{Told}
+use Rattle.calls.specs.declared.Least.{Least}
 use Rattle.calls.specs.declared.Front.the-variants as front
 use Rattle.calls.specs.declared.Reading.{Reading}
 use Rattle.calls.specs.declared.Reading.the-variants.{Refused}
 use Rattle.calls.specs.declared.Record.{Record}
 use Rattle.calls.specs.Answers.{recordOf}
 use Rattle.reading.specs.Reading.{firstUnusable, payloadOdd, payloadReading, readingOf, octetsAfter, octetsFound}
+use Rattle.reading.specs.Leads.{frameLeads, leastOf}
 use Rattle.recorded.specs.declared.Found.{Found}
 use Rattle.recorded.specs.declared.Found.the-variants.{Nothing, At}
 use Rattle.recorded.specs.Recorded.{whereFound, AllUsable}
@@ -56,21 +58,22 @@ module _ (k : Kind) (t : Told) (rec : List Taken) (room : ℕ) where
       (rw (← part, ← s .at-front) (sym (s .is) ∙ ap whereFound e))
 
   -- what hearing left is what reading leaves
-  left : (all : ℕ) (o : Found)
+  left : (all : ℕ) (b : Least) (o : Found)
       → octetsHeard k (t .rate) (t .n) rec room (whereFound o)
-      ≡ octetsAfter k rec room (afterHeard t all (whereFound o))
-  left all Nothing = refl
-  left all (At place) = refl
+      ≡ octetsAfter k rec room (afterHeard t all b (whereFound o))
+  left all b Nothing = refl
+  left all b (At place) = refl
 
-  pub payload-heard : {all : ℕ} {f : Found} (o : Found) (g : Reading) (out : List ℕ) → Searched all f → f ≡ Nothing
-      → whereFound o ≡ payloadOdd k (t .rate) (t .n) rec
+  pub payload-heard : {all : ℕ} {f : Found} (o : Found) (b : Least) (g : Reading) (out : List ℕ) → Searched all f
+      → f ≡ Nothing → whereFound o ≡ payloadOdd k (t .rate) (t .n) rec
+      → b ≡ leastOf (frameLeads k (t .rate) (t .n) rec)
       → out ≡ octetsHeard k (t .rate) (t .n) rec room (whereFound o)
-      → g ≡ afterHeard t all (whereFound o) → (g ≡ payloadReading k t rec room) × (out ≡ octetsAfter k rec room g)
+      → g ≡ afterHeard t all b (whereFound o) → (g ≡ payloadReading k t rec room) × (out ≡ octetsAfter k rec room g)
   unfolding payloadReading
-  payload-heard {all} o g out s e p q w =
-      let tests : afterHeard t all (whereFound o) ≡ payloadReading k t rec room =
-      rw (← s .whole, ← s .at-front, le-ltb room (t .n) (s .fits), ← s .is, e, ← p) in
-      (w ∙ tests, rw w (q ∙ left all o))
+  payload-heard {all} o b g out s e p l q w =
+      let tests : afterHeard t all b (whereFound o) ≡ payloadReading k t rec room =
+      rw (← s .whole, ← s .at-front, le-ltb room (t .n) (s .fits), ← s .is, e, ← p, ← l) in
+      (w ∙ tests, rw w (q ∙ left all b o))
 
 -- ---- the whole
 

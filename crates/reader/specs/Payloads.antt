@@ -8,6 +8,7 @@ use Rattle.chips.specs.Chips.{Taken}
 use Rattle.frame.specs.declared.Kind.{Kind}
 use Rattle.calls.specs.declared.Refusal.the-variants.{OddGrowth}
 use Rattle.calls.specs.declared.Told.{Told}
+use Rattle.calls.specs.declared.Least.{Least}
 use Rattle.calls.specs.declared.Reading.{Reading}
 use Rattle.calls.specs.declared.Reading.the-variants.{Refused, Good}
 use Rattle.reading.specs.Reading.{orElse, payloadOf}
@@ -18,5 +19,5 @@ octetsHeard k r n rec room none = payloadOf k r n rec ++ replicate (room - n) 0
 octetsHeard k r n rec room (some place) = replicate room 0
 
 -- what a payload of usable chips comes to: 10, or the whole answer
-abbrev pub afterHeard : Told → ℕ → Option ℕ → Reading
-afterHeard t used odd = orElse odd (λ place. Refused (OddGrowth place (t .length))) (Good t used)
+abbrev pub afterHeard : Told → ℕ → Least → Option ℕ → Reading
+afterHeard t used least odd = orElse odd (λ place. Refused (OddGrowth place (t .length))) (Good t used least)

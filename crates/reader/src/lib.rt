@@ -47,7 +47,8 @@ fn read(
         Front::Refused(e) => Reading::Refused(e),
         Front::Fields(t) => {
             let line = opening.line;
-            payload::read_payload(rec, row, bytes, i, q, k, t, line, octets)
+            let least = opening.least;
+            payload::read_payload(rec, row, bytes, i, q, k, t, line, least, octets)
         }
     }
 }

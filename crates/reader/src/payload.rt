@@ -5,18 +5,28 @@ ghost use lib.ListN.{length, replicate};
 ghost use Rattle.rates.specs.Rates.{octetChips};
 ghost use Rattle.frame.specs.Frame.{frontChips, frameChips};
 ghost use Rattle.reading.specs.Reading.{payloadOdd, payloadReading, octetsAfter};
+ghost use Rattle.reading.specs.Leads.{frontLeads, frameLeads, leastOf};
 ghost use Rattle.recorders.specs.Rows.{lent};
 ghost use Rattle.recorded.specs.Recorded.{whereFound, AllUsable};
 ghost use Rattle.fronts.specs.Openings.{Opened};
 ghost use Rattle.reader.specs.Payloads.{octetsHeard, afterHeard};
+use blocks::Hearing;
+use calls::Least;
 use calls::Reading;
 use calls::Refusal;
 use calls::Told;
 use frame::Kind;
+use hearing::Part;
 use lines::Line;
 use rates::Rate;
 use recorded::Found;
 use recorders::Recorder;
+
+// A payload heard: the place of its first symbol grown by 1 or 3 at 1 Mbit/s, and the frame's smallest lead.
+pub struct Payload {
+    pub odd: Found,
+    pub least: Least,
+}
 
 // The payload's octets into a buffer of zeros, or the place of its first symbol grown by 1 or 3 at 1 Mbit/s, and zeros.
 fn hear_payload(
@@ -29,44 +39,69 @@ fn hear_payload(
     rate: Rate,
     n: usize,
     line: Line,
+    least: Least,
     octets: &mut [u8],
-) -> Found
+) -> Payload
     requires { ⌜ (frameChips kind rate n ≤ length (lent rec row bytes i q))
         × AllUsable (lent rec row bytes i q) (frontChips kind) (octetChips rate * n)
         × (n ≤ length (now octets)) × (Opened kind (lent rec row bytes i q) line)
-        × (now octets ≡ replicate (length (now octets)) 0) ⌝ }
-    ensures answer { λ r. ⌜ whereFound r ≡
+        × (now octets ≡ replicate (length (now octets)) 0)
+        × (least ≡ leastOf (frontLeads kind (lent rec row bytes i q))) ⌝ }
+    ensures answer { λ r. ⌜ whereFound (r .odd) ≡
         payloadOdd kind rate n (lent rec (row .entry) (bytes .entry) (i .entry) (q .entry)) ⌝ }
+    ensures least { λ r. ⌜ r .least ≡ leastOf
+        (frameLeads kind rate n (lent rec (row .entry) (bytes .entry) (i .entry) (q .entry))) ⌝ }
     ensures octets { λ r. ⌜ now (octets .exit) ≡ octetsHeard kind rate n
         (lent rec (row .entry) (bytes .entry) (i .entry) (q .entry))
-        (length (now (octets .entry))) (whereFound r) ⌝ }
+        (length (now (octets .entry))) (whereFound (r .odd)) ⌝ }
 {
     let from = kinds::front_chips(kind);
-    let heard = hearing::hear_octets(rec, row, bytes, i, q, rate, from, line, &mut octets[0..n]);
+    // each symbol of the front is 11 chips
+    let symbol = from / 11;
+    let part = hearing::hear_octets(
+        rec,
+        row,
+        bytes,
+        i,
+        q,
+        rate,
+        from,
+        symbol,
+        line,
+        least,
+        &mut octets[0..n],
+    );
+    let heard = part.heard;
+    let least = part.least;
     let odd = heard.odd;
     match odd {
         Found::At(place) => {
             rows::fill(octets, 0);
-            Found::At(place)
+            let odd = Found::At(place);
+            Payload { odd, least }
         }
-        Found::Nothing => Found::Nothing,
+        Found::Nothing => {
+            let odd = Found::Nothing;
+            Payload { odd, least }
+        }
     }
 }
 
 // What a payload of usable chips comes to: 10, or the whole answer.
-fn heard(told: Told, used: usize, odd: Found) -> Reading
-    ensures answer { λ r. ⌜ r ≡ afterHeard told used (whereFound odd) ⌝ }
+fn heard(told: Told, used: usize, least: Least, odd: Found) -> Reading
+    ensures answer { λ r. ⌜ r ≡ afterHeard told used least (whereFound odd) ⌝ }
 {
     match odd {
         Found::At(place) => {
             let length = told.length;
             Reading::Refused(Refusal::OddGrowth { place, length })
         }
-        Found::Nothing => Reading::Good { told, used },
+        Found::Nothing => Reading::Good { told, used, least },
     }
 }
 
-// The payload that a front tells of, in a recording that has it, into a buffer of zeros: 17, then 9 and 10 over it.
+// The payload that a front tells of, in a recording that has it, into a buffer of zeros: 17, then 9 and 10 over it. The
+// smallest lead goes on from the front's.
 pub fn read_payload(
     rec: Recorder,
     row: &[u8],
@@ -76,12 +111,14 @@ pub fn read_payload(
     kind: Kind,
     told: Told,
     line: Line,
+    least: Least,
     octets: &mut [u8],
 ) -> Reading
     requires { ⌜ (told .n ≤ 4095)
         × (frameChips kind (told .rate) (told .n) ≤ length (lent rec row bytes i q))
         × (Opened kind (lent rec row bytes i q) line)
-        × (now octets ≡ replicate (length (now octets)) 0) ⌝ }
+        × (now octets ≡ replicate (length (now octets)) 0)
+        × (least ≡ leastOf (frontLeads kind (lent rec row bytes i q))) ⌝ }
     ensures answer { λ r. ⌜ r ≡ payloadReading kind told
         (lent rec (row .entry) (bytes .entry) (i .entry) (q .entry)) (length (now (octets .entry))) ⌝ }
     ensures octets { λ r. ⌜ now (octets .exit) ≡ octetsAfter kind
@@ -99,8 +136,10 @@ pub fn read_payload(
     match bad {
         Found::At(place) => Reading::Refused(Refusal::Unusable { place, length }),
         Found::Nothing => {
-            let odd = hear_payload(rec, row, bytes, i, q, kind, rate, n, line, octets);
-            heard(told, all, odd)
+            let payload = hear_payload(rec, row, bytes, i, q, kind, rate, n, line, least, octets);
+            let odd = payload.odd;
+            let low = payload.least;
+            heard(told, all, low, odd)
         }
     }
 }

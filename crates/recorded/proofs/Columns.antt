@@ -2,7 +2,7 @@
 --     column-none, column-more      the chips of a column: before the loop, one chip more
 --     columns-none, columns-more    the symbols of a row: before the loop, one column more
 --     zeros-within, column-within   a row of zeros has small numbers, and a row that has stays so
---     hard-column, soft-column      a column is decided as the recording's symbol is
+--     hard-column, soft-column      a column is the recording's symbol: in full chips, in counts
 -- Assumes nothing.
 use mathlib.Core.Path.{_≡_, refl, sym, ap, _∙_, subst}
 use mathlib.Core.List.{List, map}
@@ -27,17 +27,15 @@ use lib.Ieee.{Float}
 use Rattle.base.specs.Whole.{Within}
 use Rattle.base.proofs.Whole.{within-zero}
 use Rattle.base.proofs.Tables.{length-tabulate, tabulate-ext, as-table}
-use Rattle.rates.specs.declared.Rate.{Rate}
 use Rattle.axes.specs.declared.Axis.the-variants.{I, Q}
-use Rattle.chips.specs.Chips.{Taken, takenCounts, hardRecording, softRecording}
-use Rattle.symbols.specs.Choice.{decided}
+use Rattle.axes.specs.Axes.{unitOf}
+use Rattle.chips.specs.Chips.{takenCounts, softRecording}
 use Rattle.choosing.specs.Scores.{RowWithin}
 use Rattle.sums.specs.Sums.{rows, everyRow}
-use Rattle.sums.proofs.Apart.{counts-eight, units-eight}
-use Rattle.recorded.specs.Recorded.{hardPart, softPart, AllUsable}
+use Rattle.sums.proofs.Apart.{counts-eight, units-rows}
+use Rattle.recorded.specs.Recorded.{hardPart, softPart}
 use Rattle.recorded.specs.Columns.{ColumnSet, Columns, hardColumn, softColumn}
-use Rattle.recorded.proofs.Search.{usable-part}
-use Rattle.recorded.proofs.Gathered.{gathered-hard, gathered-soft, usable-hard}
+use Rattle.recorded.proofs.Gathered.{gathered-soft}
 
 abbrev at : List ℤ → ℕ → ℤ
 at row j = getD row j (pos 0)
@@ -165,41 +163,30 @@ module _ {b : ℕ} {x y : List ℤ} {l : ℕ} {before after : List ℤ} (all : l
   pub column-within : RowWithin b after
   column-within = record { at = λ j. small-at j (decLt j 256) (decLt (j % 16) l) (decLt l (j % 16)) }
 
--- ---- what a column is decided as: n symbols stand in a row, the first being the recording's symbol l from a place
-module _ (r : Rate) (at l n s : ℕ) (there : s < n) where
+-- ---- what a column is: n symbols stand in a row, the first being the recording's symbol l from a place
+module _ (at l n s : ℕ) (there : s < n) where
   -- symbol s of the row is the recording's symbol l + s
-  symbol-of : (rec : List Taken) → decided r (map takenCounts (take 8 (drop (at + 8 * l + 8 * s) rec)))
-      ≡ decided r (map takenCounts (take 8 (drop (at + 8 * (l + s)) rec)))
-  symbol-of rec =
-      let e : at + 8 * l + 8 * s ≡ at + 8 * (l + s) = omega arith in
-      ap (λ (m : ℕ). decided r (map takenCounts (take 8 (drop m rec)))) e
+  on : at + 8 * l + 8 * s ≡ at + 8 * (l + s)
+  on = omega arith
 
   column-is : {x y : ℕ → List ℤ} {row : List ℤ} → Columns x y row n
-      → decided r (rows (everyRow row s 8) (everyRow row (16 + s) 8)) ≡ decided r (rows (x s) (y s))
-  column-is c = λ i. decided r (rows (c .first s there i) (c .second s there i))
+      → rows (everyRow row s 8) (everyRow row (16 + s) 8) ≡ rows (x s) (y s)
+  column-is c = λ i. rows (c .first s there i) (c .second s there i)
 
   pub hard-column : {row : List ℤ} (xs : List ℕ)
-      → Columns (hardColumn I xs (at + 8 * l)) (hardColumn Q xs (at + 8 * l)) row n → at + 8 * l + 8 * n ≤ length xs
-      → AllUsable (hardRecording xs) (at + 8 * l) (8 * n)
-      → decided r (rows (everyRow row s 8) (everyRow row (16 + s) 8))
-      ≡ decided r (map takenCounts (take 8 (drop (at + 8 * (l + s)) (hardRecording xs))))
-  hard-column xs c h u =
-      let from = at + 8 * l + 8 * s in
-      let room : from + 8 ≤ length xs = omega arith in
-      column-is c
-      ∙ units-eight r (hardPart xs from 8) (length-tabulate _ 8)
-      (usable-hard 8 xs from room (usable-part (8 * s) 8 u (omega arith)))
-      ∙ ap (decided r) (gathered-hard 8 xs from room) ∙ symbol-of (hardRecording xs)
+      → Columns (hardColumn I xs (at + 8 * l)) (hardColumn Q xs (at + 8 * l)) row n
+      → rows (everyRow row s 8) (everyRow row (16 + s) 8) ≡ map unitOf (hardPart xs (at + 8 * (l + s)) 8)
+  hard-column xs c =
+      column-is c ∙ units-rows (hardPart xs (at + 8 * l + 8 * s) 8) (length-tabulate _ 8)
+      ∙ ap (λ (m : ℕ). map unitOf (hardPart xs m 8)) on
 
   pub soft-column : {row : List ℤ} (xs ys : List Float)
       → Columns (softColumn I xs ys (at + 8 * l)) (softColumn Q xs ys (at + 8 * l)) row n
       → at + 8 * l + 8 * n ≤ length xs → at + 8 * l + 8 * n ≤ length ys
-      → decided r (rows (everyRow row s 8) (everyRow row (16 + s) 8))
-      ≡ decided r (map takenCounts (take 8 (drop (at + 8 * (l + s)) (softRecording xs ys))))
+      → rows (everyRow row s 8) (everyRow row (16 + s) 8)
+      ≡ map takenCounts (take 8 (drop (at + 8 * (l + s)) (softRecording xs ys)))
   soft-column xs ys c h k =
       let from = at + 8 * l + 8 * s in
-      column-is c
-      ∙ ap (decided r)
-      (counts-eight (softPart xs ys from 8) (length-tabulate _ 8)
-      ∙ gathered-soft 8 xs ys from (omega arith, omega arith))
-      ∙ symbol-of (softRecording xs ys)
+      column-is c ∙ counts-eight (softPart xs ys from 8) (length-tabulate _ 8)
+      ∙ gathered-soft 8 xs ys from (omega arith, omega arith)
+      ∙ ap (λ (m : ℕ). map takenCounts (take 8 (drop m (softRecording xs ys)))) on

@@ -1,6 +1,7 @@
-pub mod Blocks
 pub mod Columns
+pub mod Firsts
 pub mod Gathered
+pub mod HardLeads
 pub mod Search
 pub mod Sixteen
 pub mod Usable

@@ -2,16 +2,12 @@
 -- Assumes nothing.
 use mathlib.Core.Path.{_≡_, refl, _∙_, subst}
 use mathlib.Core.List.{List}
-use Prim.Native.Nat.{ℕ, _+_, _*_, _-_, _%_, _≤_, _<_}
+use Prim.Native.Nat.{ℕ, _+_, _<_}
 use native.Mathlib.Decide.{decLt}
 use native.Mathlib.Omega.{arith}
 use lib.ListN.{length, getD, set, length-set}
 use lib.Seq.{getD-set-same, getD-set-other}
-use Rattle.rates.specs.declared.Rate.{Rate}
-use Rattle.rates.specs.Rates.{symbolChips}
-use Rattle.chips.specs.Chips.{Taken}
-use Rattle.symbols.specs.Choice.{decided}
-use Rattle.recorded.specs.Recorded.{symbolAt, DecidedAt, Put}
+use Rattle.recorded.specs.Recorded.{Put}
 
 -- ---- one number more
 pub put-none : {f : ℕ → ℕ} {l : ℕ} (ns : List ℕ) → length ns ≡ 64 → Put f l ns ns 0
@@ -36,33 +32,3 @@ put-more {f} {l} {before} {after} {s} v h e p = record {
 pub put-ext : {f g : ℕ → ℕ} {l : ℕ} {before after : List ℕ} {n : ℕ} → Put f l before after n
     → ((s : ℕ) → s < n → f s ≡ g s) → Put g l before after n
 put-ext p e = record { long = p .long; kept = p .kept; each = λ s h. p .each s h ∙ e s h }
-
--- ---- the first l of m symbols are decided, and l is so many sixteens
-module _ (r : Rate) (rec : List Taken) (at m : ℕ) where
-  pub record Upto (ns : List ℕ) (l : ℕ) : Type 0 where
-    pub long : length ns ≡ 64
-    pub sixteens : l % 16 ≡ 0
-    pub number : (j : ℕ) → j < l → j < m → getD ns j 0 ≡ decided r (symbolAt r rec (at + symbolChips r * j))
-
-  pub upto-none : (ns : List ℕ) → length ns ≡ 64 → Upto ns 0
-  upto-none ns e = record { long = e; sixteens = refl; number = λ j h g. absurd (omega arith) }
-
-  pub upto-more : (f : ℕ → ℕ) (before after : List ℕ) (l : ℕ) → Upto before l → Put f l before after 16
-      → ((s : ℕ) → s < 16 → l + s < m → f s ≡ decided r (symbolAt r rec (at + symbolChips r * (l + s))))
-      → Upto after (l + 16)
-  upto-more f before after l u p e = record {
-    long = p .long;
-    sixteens = omega (arith, u .sixteens);
-    number = λ j h g. by j h g (decLt j l);
-  }
-    where
-      by : (j : ℕ) → j < l + 16 → j < m → Dec (j < l)
-          → getD after j 0 ≡ decided r (symbolAt r rec (at + symbolChips r * j))
-      by j h g (yes q) = p .kept j q ∙ u .number j q g
-      by j h g (no q) =
-          let d : l + (j - l) ≡ j = omega arith in
-          subst (λ (n : ℕ). getD after n 0 ≡ decided r (symbolAt r rec (at + symbolChips r * n))) d
-          (p .each (j - l) (omega arith) ∙ e (j - l) (omega arith) (omega arith))
-
-  pub upto-all : (ns : List ℕ) (l : ℕ) → Upto ns l → m ≤ l → DecidedAt r rec at m ns
-  upto-all ns l u h = record { long = u .long; number = λ j g. u .number j (omega arith) g }

@@ -14,7 +14,7 @@ use Rattle.chips.specs.declared.Counts.{Counts}
 use Rattle.chips.specs.declared.Chip.{Chip}
 use Rattle.chips.specs.declared.Chip.the-variants as chip
 use Rattle.chips.specs.Chips.{Taken, unusable, isUnusable, takenCounts, hardChip}
-use Rattle.symbols.specs.Choice.{decided}
+use Rattle.symbols.specs.Choice.{decided, leadOf}
 use Rattle.recorded.specs.declared.Found.{Found}
 use Rattle.recorded.specs.declared.Found.the-variants.{Nothing, At}
 
@@ -42,6 +42,11 @@ pub record AllUsable (rec : List Taken) (at n : ℕ) : Type 0 where
 pub record DecidedAt (r : Rate) (rec : List Taken) (at m : ℕ) (numbers : List ℕ) : Type 0 where
   pub long : length numbers ≡ 64
   pub number : (l : ℕ) → l < m → getD numbers l 0 ≡ decided r (symbolAt r rec (at + symbolChips r * l))
+
+-- and the first m of 64 leads theirs
+pub record LeadsAt (r : Rate) (rec : List Taken) (at m : ℕ) (leads : List ℕ) : Type 0 where
+  pub long : length leads ≡ 64
+  pub lead : (l : ℕ) → l < m → getD leads l 0 ≡ leadOf r (symbolAt r rec (at + symbolChips r * l))
 
 -- n numbers put into 64, from place l on; those before it are kept
 pub record Put (f : ℕ → ℕ) (l : ℕ) (before after : List ℕ) (n : ℕ) : Type 0 where

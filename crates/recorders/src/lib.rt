@@ -8,7 +8,7 @@ ghost use Rattle.rates.specs.Rates.{symbolChips};
 ghost use Rattle.chips.specs.Chips.{unusable, isUnusable};
 ghost use Rattle.reading.specs.Reading.{firstUnusable};
 ghost use Rattle.recorders.specs.Rows.{lent};
-ghost use Rattle.recorded.specs.Recorded.{whereFound, AllUsable, DecidedAt};
+ghost use Rattle.recorded.specs.Recorded.{whereFound, AllUsable, DecidedAt, LeadsAt};
 use rates::Rate;
 use recorded::Found;
 
@@ -115,16 +115,20 @@ fn barkers(
     at: usize,
     m: usize,
     numbers: &mut [u8; 64],
+    leads: &mut [u32; 64],
 )
     requires { ⌜ (m ≤ 64) × (at + 11 * m ≤ length (lent rec octets bytes i q))
-        × AllUsable (lent rec octets bytes i q) at (11 * m) × (length (now numbers) ≡ 64) ⌝ }
+        × AllUsable (lent rec octets bytes i q) at (11 * m) × (length (now numbers) ≡ 64)
+        × (length (now leads) ≡ 64) ⌝ }
     ensures numbers { λ _. ⌜ DecidedAt Rate.One
         (lent rec (octets .entry) (bytes .entry) (i .entry) (q .entry)) at m (now (numbers .exit)) ⌝ }
+    ensures leads { λ _. ⌜ LeadsAt Rate.One
+        (lent rec (octets .entry) (bytes .entry) (i .entry) (q .entry)) at m (now (leads .exit)) ⌝ }
 {
     match rec {
-        Recorder::Hard => hard::barkers(octets, at, m, numbers),
-        Recorder::Soft => soft::barkers(i, q, at, m, numbers),
-        Recorder::Bytes => signed_bytes::barkers(bytes, at, m, numbers),
+        Recorder::Hard => hard::barkers(octets, at, m, numbers, leads),
+        Recorder::Soft => soft::barkers(i, q, at, m, numbers, leads),
+        Recorder::Bytes => signed_bytes::barkers(bytes, at, m, numbers, leads),
     }
 }
 
@@ -138,16 +142,20 @@ fn fives(
     at: usize,
     m: usize,
     numbers: &mut [u8; 64],
+    leads: &mut [u32; 64],
 )
     requires { ⌜ (m ≤ 64) × (at + 8 * m ≤ length (lent rec octets bytes i q))
-        × AllUsable (lent rec octets bytes i q) at (8 * m) × (length (now numbers) ≡ 64) ⌝ }
+        × AllUsable (lent rec octets bytes i q) at (8 * m) × (length (now numbers) ≡ 64)
+        × (length (now leads) ≡ 64) ⌝ }
     ensures numbers { λ _. ⌜ DecidedAt Rate.Five
         (lent rec (octets .entry) (bytes .entry) (i .entry) (q .entry)) at m (now (numbers .exit)) ⌝ }
+    ensures leads { λ _. ⌜ LeadsAt Rate.Five
+        (lent rec (octets .entry) (bytes .entry) (i .entry) (q .entry)) at m (now (leads .exit)) ⌝ }
 {
     match rec {
-        Recorder::Hard => hard::fives(octets, at, m, numbers),
-        Recorder::Soft => soft::fives(i, q, at, m, numbers),
-        Recorder::Bytes => signed_bytes::fives(bytes, at, m, numbers),
+        Recorder::Hard => hard::fives(octets, at, m, numbers, leads),
+        Recorder::Soft => soft::fives(i, q, at, m, numbers, leads),
+        Recorder::Bytes => signed_bytes::fives(bytes, at, m, numbers, leads),
     }
 }
 
@@ -161,21 +169,25 @@ fn elevens(
     at: usize,
     m: usize,
     numbers: &mut [u8; 64],
+    leads: &mut [u32; 64],
 )
     requires { ⌜ (m ≤ 64) × (at + 8 * m ≤ length (lent rec octets bytes i q))
-        × AllUsable (lent rec octets bytes i q) at (8 * m) × (length (now numbers) ≡ 64) ⌝ }
+        × AllUsable (lent rec octets bytes i q) at (8 * m) × (length (now numbers) ≡ 64)
+        × (length (now leads) ≡ 64) ⌝ }
     ensures numbers { λ _. ⌜ DecidedAt Rate.Eleven
         (lent rec (octets .entry) (bytes .entry) (i .entry) (q .entry)) at m (now (numbers .exit)) ⌝ }
+    ensures leads { λ _. ⌜ LeadsAt Rate.Eleven
+        (lent rec (octets .entry) (bytes .entry) (i .entry) (q .entry)) at m (now (leads .exit)) ⌝ }
 {
     match rec {
-        Recorder::Hard => hard::elevens(octets, at, m, numbers),
-        Recorder::Soft => soft::elevens(i, q, at, m, numbers),
-        Recorder::Bytes => signed_bytes::elevens(bytes, at, m, numbers),
+        Recorder::Hard => hard::elevens(octets, at, m, numbers, leads),
+        Recorder::Soft => soft::elevens(i, q, at, m, numbers, leads),
+        Recorder::Bytes => signed_bytes::elevens(bytes, at, m, numbers, leads),
     }
 }
 
-// The numbers of the words that m symbols from a place are decided as, up to 64. Recorder and rate are looked at once
-// for all of them.
+// The numbers of the words that m symbols from a place are decided as, up to 64, and their leads. Recorder and rate are
+// looked at once for all of them.
 pub fn decide(
     rec: Recorder,
     octets: &[u8],
@@ -186,17 +198,20 @@ pub fn decide(
     at: usize,
     m: usize,
     numbers: &mut [u8; 64],
+    leads: &mut [u32; 64],
 )
     requires { ⌜ (m ≤ 64) × (at + symbolChips rate * m ≤ length (lent rec octets bytes i q))
         × AllUsable (lent rec octets bytes i q) at (symbolChips rate * m)
-        × (length (now numbers) ≡ 64) ⌝ }
+        × (length (now numbers) ≡ 64) × (length (now leads) ≡ 64) ⌝ }
     ensures numbers { λ _. ⌜ DecidedAt rate
         (lent rec (octets .entry) (bytes .entry) (i .entry) (q .entry)) at m (now (numbers .exit)) ⌝ }
+    ensures leads { λ _. ⌜ LeadsAt rate
+        (lent rec (octets .entry) (bytes .entry) (i .entry) (q .entry)) at m (now (leads .exit)) ⌝ }
 {
     match rate {
-        Rate::One => barkers(rec, octets, bytes, i, q, at, m, numbers),
-        Rate::Two => barkers(rec, octets, bytes, i, q, at, m, numbers),
-        Rate::Five => fives(rec, octets, bytes, i, q, at, m, numbers),
-        Rate::Eleven => elevens(rec, octets, bytes, i, q, at, m, numbers),
+        Rate::One => barkers(rec, octets, bytes, i, q, at, m, numbers, leads),
+        Rate::Two => barkers(rec, octets, bytes, i, q, at, m, numbers, leads),
+        Rate::Five => fives(rec, octets, bytes, i, q, at, m, numbers, leads),
+        Rate::Eleven => elevens(rec, octets, bytes, i, q, at, m, numbers, leads),
     }
 }

@@ -2,46 +2,34 @@
 -- they are, for both lengths of a symbol, at any rate of eight chips.
 -- Assumes nothing.
 use mathlib.Core.Path.{_≡_, ap, _∙_}
-use mathlib.Core.List.{List, map}
-use Prim.Native.Nat.{ℕ, _+_, _*_, _/_, _≤_, _<_}
+use mathlib.Core.List.{List}
+use Prim.Native.Nat.{ℕ, _+_, _*_, _≤_, _<_}
 use native.Mathlib.Omega.{arith}
 use lib.Dec.{lit≤}
-use lib.ListN.{length, take, drop}
+use lib.ListN.{length}
 use lib.IntN.{ℤ}
-use Rattle.rates.specs.declared.Rate.{Rate}
-use Rattle.rates.specs.declared.Rate.the-variants.{One}
-use Rattle.chips.specs.Chips.{takenCounts, byteRecording}
-use Rattle.symbols.specs.Choice.{decided}
-use Rattle.sums.specs.Sums.{bySigns, bestOfSums, rows, everyRow}
-use Rattle.recorded.specs.Recorded.{symbolAt}
+use Rattle.sums.specs.Sums.{bySigns, asChip, rows}
 use Rattle.abreast.specs.Abreast.{Begins, Turned}
-use Rattle.signed_bytes.specs.Rows.{everySecond, barkerAt}
-use Rattle.signed_bytes.proofs.Units.{barker-units, eight-units}
+use Rattle.signed_bytes.specs.Rows.{everySecond, barkerAt, fiveAt, barkerBytes, fiveBytes}
 use Rattle.signed_bytes.proofs.Abreast.{stood-barker, stood-five, first-axis, second-axis}
 
 module _ (bytes before after : List ℤ) (at l count s : ℕ) (turned : Turned before after) (few : s < 16)
     (there : s < count) where
   pub barker-group : length before ≡ 352 → Begins bytes (2 * (at + 11 * l)) (22 * count) before
-      → at + 11 * (l + s) + 11 ≤ length bytes / 2
-      → barkerAt after s ≡ decided One (symbolAt One (byteRecording bytes) (at + 11 * (l + s)))
-  barker-group long begins room =
+      → barkerAt after s ≡ barkerBytes bytes (at + 11 * (l + s))
+  barker-group long begins =
       let from = 2 * (at + 11 * l) in
       let i = first-axis 22 11 bytes before after from count (lit≤ tt) long stood-barker begins turned s few there in
       let q = second-axis 22 11 bytes before after from count (lit≤ tt) long stood-barker begins turned s few there in
       let e : from + 22 * s ≡ 2 * (at + 11 * (l + s)) = omega arith in
-      (λ k. bestOfSums (bySigns (i k)) (bySigns (q k)))
-      ∙ ap (λ (f : ℕ). bestOfSums (bySigns (everySecond bytes f 11)) (bySigns (everySecond bytes (f + 1) 11))) e
-      ∙ barker-units bytes (at + 11 * (l + s)) room
+      (λ k. asChip (bySigns (i k)) (bySigns (q k)))
+      ∙ ap (λ (f : ℕ). asChip (bySigns (everySecond bytes f 11)) (bySigns (everySecond bytes (f + 1) 11))) e
 
-  pub eight-group : (r : Rate) → length before ≡ 256 → Begins bytes (2 * (at + 8 * l)) (16 * count) before
-      → at + 8 * (l + s) + 8 ≤ length bytes / 2
-      → decided r (rows (everyRow after s 8) (everyRow after (16 + s) 8))
-      ≡ decided r (map takenCounts (take 8 (drop (at + 8 * (l + s)) (byteRecording bytes))))
-  eight-group r long begins room =
+  pub five-group : length before ≡ 256 → Begins bytes (2 * (at + 8 * l)) (16 * count) before
+      → fiveAt after s ≡ fiveBytes bytes (at + 8 * (l + s))
+  five-group long begins =
       let from = 2 * (at + 8 * l) in
       let i = first-axis 16 8 bytes before after from count (lit≤ tt) long stood-five begins turned s few there in
       let q = second-axis 16 8 bytes before after from count (lit≤ tt) long stood-five begins turned s few there in
       let e : from + 16 * s ≡ 2 * (at + 8 * (l + s)) = omega arith in
-      (λ k. decided r (rows (i k) (q k)))
-      ∙ ap (λ (f : ℕ). decided r (rows (everySecond bytes f 8) (everySecond bytes (f + 1) 8))) e
-      ∙ eight-units r bytes (at + 8 * (l + s)) room
+      (λ k. rows (i k) (q k)) ∙ ap (λ (f : ℕ). rows (everySecond bytes f 8) (everySecond bytes (f + 1) 8)) e

@@ -1,7 +1,8 @@
--- A symbol's bytes as they are, in 64ths of a full chip, decide what its counts do, which are 16 times as large: once
--- for every place: of a Barker symbol by two sums, of a CCK symbol by its rows of I and of Q, at any rate.
+-- A symbol's bytes as they are, in 64ths of a full chip, decide what its counts do, which are 16 times as large, and so
+-- is the lead: once for every place, of a Barker symbol by two sums, of a CCK symbol by its rows of I and of Q, at any
+-- rate.
 -- Assumes nothing.
-use mathlib.Core.Path.{_≡_, refl, sym, ap, _∙_}
+use mathlib.Core.Path.{_≡_, refl, sym, ap, _∙_, subst}
 use mathlib.Core.List.{List, map}
 use Prim.Native.Nat.{ℕ, _+_, _*_, _/_, _≤_}
 use native.Mathlib.Nat.{mul-add}
@@ -18,11 +19,16 @@ use Rattle.axes.specs.Axes.{along}
 use Rattle.chips.specs.declared.Counts.{Counts}
 use Rattle.chips.specs.Chips.{pair, nothing, takenCounts, byteCounts, byteRecording}
 use Rattle.chips.proofs.Bytes.{countsAt, part-bytes}
-use Rattle.symbols.specs.Choice.{decided}
-use Rattle.sums.specs.Sums.{bySigns, bestOfSums, rows}
-use Rattle.sums.proofs.Signs.{sums-decided}
-use Rattle.sums.proofs.Scaled.{decided-times}
-use Rattle.signed_bytes.specs.Rows.{everySecond}
+use Rattle.symbols.specs.Choice.{decided, leadOf}
+use Rattle.choosing.specs.Scores.{ChosenAs}
+use Rattle.sums.specs.Sums.{bySigns, asChip}
+use Rattle.sums.proofs.Signs.{sums-chosen}
+use Rattle.sums.proofs.Scaled.{decided-times, lead-times}
+use Rattle.signed_bytes.specs.Rows.{barkerBytes, fiveBytes}
+
+-- cs decide what ds do, with a 16th of the lead
+abbrev pub Sixteenth : Rate → List Counts → List Counts → Type 0
+Sixteenth r cs ds = (decided r cs ≡ decided r ds) × (16 * leadOf r cs ≡ leadOf r ds)
 
 module _ (bytes : List ℤ) (at n : ℕ) where
   -- the two bytes of the symbol's chip j
@@ -51,28 +57,44 @@ module _ (bytes : List ℤ) (at n : ℕ) where
       second : 2 * at + 1 + 2 * j ≡ 2 * (at + j) + 1
       second = omega (arith, mul-add 2 at j)
 
-  pub units-decided : (r : Rate) → at + n ≤ length bytes / 2
-      → decided r units ≡ decided r (map takenCounts (take n (drop at (byteRecording bytes))))
-  units-decided r h =
-      ap (decided r) (sym (mapped (λ c. c)))
-      ∙ sym (decided-times 16 (lit≤ tt) times (λ c. c) (λ c. record { real = refl; imag = refl }) r units)
-      ∙ ap (decided r)
-      (mapped times ∙ tabulate-ext (λ j. times (unit j)) (λ j. countsAt bytes (at + j)) n (λ j l. place j)
-      ∙ sym (part-bytes bytes at n h))
+  counts-are : at + n ≤ length bytes / 2 → map times units ≡ map takenCounts (take n (drop at (byteRecording bytes)))
+  counts-are h =
+      mapped times ∙ tabulate-ext (λ j. times (unit j)) (λ j. countsAt bytes (at + j)) n (λ j l. place j)
+      ∙ sym (part-bytes bytes at n h)
+
+  -- counts 16 times as large decide the same word, with 16 times the lead
+  pub units-chosen : (r : Rate) → at + n ≤ length bytes / 2
+      → Sixteenth r units (map takenCounts (take n (drop at (byteRecording bytes))))
+  units-chosen r h = (
+    ap (decided r) (sym (mapped (λ c. c)))
+        ∙ sym (decided-times 16 (lit≤ tt) times (λ c. c) (λ c. record { real = refl; imag = refl }) r units)
+        ∙ ap (decided r) (counts-are h),
+    ap (λ (cs : List Counts). 16 * leadOf r cs) (sym (mapped (λ c. c)))
+        ∙ sym (lead-times 16 (lit≤ tt) times (λ c. c) (λ c. record { real = refl; imag = refl }) r units)
+        ∙ ap (leadOf r) (counts-are h),
+  )
 
 pub barker-units : (bytes : List ℤ) (at : ℕ) → at + 11 ≤ length bytes / 2
-    → bestOfSums (bySigns (everySecond bytes (2 * at) 11)) (bySigns (everySecond bytes (2 * at + 1) 11))
-    ≡ decided One (map takenCounts (take 11 (drop at (byteRecording bytes))))
+    → Sixteenth One (barkerBytes bytes at) (map takenCounts (take 11 (drop at (byteRecording bytes))))
 barker-units bytes at h =
-    sym (λ i. bestOfSums (bySigns (mapped bytes at 11 (along I) i)) (bySigns (mapped bytes at 11 (along Q) i)))
-    ∙ sums-decided (units bytes at 11) ∙ units-decided bytes at 11 One h
+    subst (λ (cs : List Counts). Sixteenth One cs (map takenCounts (take 11 (drop at (byteRecording bytes)))))
+    (λ i. asChip (bySigns (mapped bytes at 11 (along I) i)) (bySigns (mapped bytes at 11 (along Q) i)))
+    (alike .0 ∙ all .0, ap (λ (t : ℕ). 16 * t) (alike .1) ∙ all .1)
+  where
+    sums : List Counts
+    sums = asChip (bySigns (map (along I) (units bytes at 11))) (bySigns (map (along Q) (units bytes at 11)))
+
+    alike : ChosenAs One (units bytes at 11) (decided One sums) (leadOf One sums)
+    alike = sums-chosen (units bytes at 11) (refl, refl)
+
+    all : Sixteenth One (units bytes at 11) (map takenCounts (take 11 (drop at (byteRecording bytes))))
+    all = units-chosen bytes at 11 One h
 
 pub eight-units : (r : Rate) (bytes : List ℤ) (at : ℕ) → at + 8 ≤ length bytes / 2
-    → decided r (rows (everySecond bytes (2 * at) 8) (everySecond bytes (2 * at + 1) 8))
-    ≡ decided r (map takenCounts (take 8 (drop at (byteRecording bytes))))
+    → Sixteenth r (fiveBytes bytes at) (map takenCounts (take 8 (drop at (byteRecording bytes))))
 eight-units r bytes at h =
-    ap (decided r)
-    (tabulate-ext _ (unit bytes at 8) 8 (λ k l i. pair
+    subst (λ (cs : List Counts). Sixteenth r cs (map takenCounts (take 8 (drop at (byteRecording bytes)))))
+    (sym (tabulate-ext _ (unit bytes at 8) 8 (λ k l i. pair
     (getD-tabulate (λ j. getD bytes (2 * at + 2 * j) (pos 0)) 8 k (pos 0) l i)
-    (getD-tabulate (λ j. getD bytes (2 * at + 1 + 2 * j) (pos 0)) 8 k (pos 0) l i)))
-    ∙ units-decided bytes at 8 r h
+    (getD-tabulate (λ j. getD bytes (2 * at + 1 + 2 * j) (pos 0)) 8 k (pos 0) l i))))
+    (units-chosen bytes at 8 r h)

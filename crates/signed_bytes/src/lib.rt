@@ -1,16 +1,18 @@
 // A byte recording: signed bytes, I and Q in turn, a full chip being 64; no chip is unusable. Symbols are decided
-// sixteen abreast, from bytes as they are: counts are 16 times as large, all of them, and choose the same word.
+// sixteen abreast, from bytes as they are: counts are 16 times as large, all of them, and choose the same word, by a
+// lead 16 times as large.
 ghost use mathlib.Core.Path.{_≡_};
 ghost use Prim.Native.Nat.{_+_, _*_, _/_, _<_, _≤_};
-ghost use lib.ListN.{length};
-ghost use lib.IntN.{pos, _*ℤ_};
+ghost use lib.ListN.{length, getD};
+ghost use Rattle.base.specs.Tables.{tabulate};
 ghost use Rattle.base.specs.Whole.{Within};
 ghost use Rattle.chips.specs.Chips.{byteRecording};
-ghost use Rattle.choosing.specs.Scores.{RowWithin, Smalls};
+ghost use Rattle.symbols.specs.Choice.{decided, leadOf};
+ghost use Rattle.choosing.specs.Scores.{RowWithin};
 ghost use Rattle.sums.specs.Sums.{everyRow};
-ghost use Rattle.recorded.specs.Recorded.{symbolAt, DecidedAt, Put};
+ghost use Rattle.recorded.specs.Recorded.{DecidedAt, LeadsAt, Put};
 ghost use Rattle.signed_bytes.specs.Rows.{barkerAt, fiveAt};
-use chips::Counts;
+use byte_choice::Choice;
 use rates::Rate;
 
 // A byte as a wider number.
@@ -47,64 +49,103 @@ fn eleven(row: &[i8], from: usize) -> [i16; 11]
     out
 }
 
-// Sixteen Barker symbols abreast.
-fn sixteen_barkers(row: &[i8], l: usize, numbers: &mut [u8; 64])
-    requires { ⌜ (length (now row) ≡ 352) × (l + 16 ≤ 64) × (length (now numbers) ≡ 64) ⌝ }
-    ensures numbers { λ _. ⌜ Put (barkerAt (now (row .entry))) l (now (numbers .entry)) (now (numbers .exit)) 16 ⌝ }
+// Sixteen Barker symbols abreast, their leads as bytes have them.
+fn sixteen_barkers(row: &[i8], l: usize, numbers: &mut [u8; 64], raw: &mut [u16; 64])
+    requires { ⌜ (length (now row) ≡ 352) × (l + 16 ≤ 64) × (length (now numbers) ≡ 64)
+        × (length (now raw) ≡ 64) ⌝ }
+    ensures numbers { λ _. ⌜ Put (λ s. decided Rate.One (barkerAt (now (row .entry)) s)) l (now (numbers .entry))
+        (now (numbers .exit)) 16 ⌝ }
+    ensures raw { λ _. ⌜ Put (λ s. leadOf Rate.One (barkerAt (now (row .entry)) s)) l (now (raw .entry))
+        (now (raw .exit)) 16 ⌝ }
 {
     for s in 0..16 {
-        numbers[l + s] = byte_choice::barker(eleven(row, s), eleven(row, 16 + s));
+        let c = byte_choice::barker(eleven(row, s), eleven(row, 16 + s));
+        numbers[l + s] = c.number;
+        raw[l + s] = c.lead;
     }
 }
 
-// Sixteen symbols of 5.5 Mbit/s abreast.
-fn sixteen_fives(row: &[i8], l: usize, numbers: &mut [u8; 64])
-    requires { ⌜ (length (now row) ≡ 256) × (l + 16 ≤ 64) × (length (now numbers) ≡ 64) ⌝ }
-    ensures numbers { λ _. ⌜ Put (fiveAt (now (row .entry))) l (now (numbers .entry)) (now (numbers .exit)) 16 ⌝ }
+// Sixteen symbols of 5.5 Mbit/s abreast, their leads as bytes have them.
+fn sixteen_fives(row: &[i8], l: usize, numbers: &mut [u8; 64], raw: &mut [u16; 64])
+    requires { ⌜ (length (now row) ≡ 256) × (l + 16 ≤ 64) × (length (now numbers) ≡ 64)
+        × (length (now raw) ≡ 64) ⌝ }
+    ensures numbers { λ _. ⌜ Put (λ s. decided Rate.Five (fiveAt (now (row .entry)) s)) l (now (numbers .entry))
+        (now (numbers .exit)) 16 ⌝ }
+    ensures raw { λ _. ⌜ Put (λ s. leadOf Rate.Five (fiveAt (now (row .entry)) s)) l (now (raw .entry))
+        (now (raw .exit)) 16 ⌝ }
 {
     for s in 0..16 {
-        numbers[l + s] = byte_choice::five(eight(row, s), eight(row, 16 + s));
+        let c = byte_choice::five(eight(row, s), eight(row, 16 + s));
+        numbers[l + s] = c.number;
+        raw[l + s] = c.lead;
+    }
+}
+
+// A lead as bytes have it, in counts.
+fn lead_counts(lead: u16) -> u32
+    ensures answer { λ r. ⌜ r ≡ 16 * lead ⌝ }
+{
+    16 * (lead as u32)
+}
+
+// Leads as bytes have them, in counts: a loop of its own, since four counts take the room of eight numbers of 16 bits.
+fn in_counts(raw: &[u16; 64], leads: &mut [u32; 64])
+    requires { ⌜ (length (now raw) ≡ 64) × (length (now leads) ≡ 64) ⌝ }
+    ensures leads { λ _. ⌜ now (leads .exit) ≡ tabulate (λ l. 16 * getD (now (raw .entry)) l 0) 64 ⌝ }
+{
+    for l in 0..64 {
+        leads[l] = lead_counts(raw[l]);
     }
 }
 
 // m Barker symbols from a place.
-pub fn barkers(bytes: &[i8], at: usize, m: usize, numbers: &mut [u8; 64])
-    requires { ⌜ (m ≤ 64) × (at + 11 * m ≤ length (now bytes) / 2) × (length (now numbers) ≡ 64) ⌝ }
+pub fn barkers(bytes: &[i8], at: usize, m: usize, numbers: &mut [u8; 64], leads: &mut [u32; 64])
+    requires { ⌜ (m ≤ 64) × (at + 11 * m ≤ length (now bytes) / 2) × (length (now numbers) ≡ 64)
+        × (length (now leads) ≡ 64) ⌝ }
     ensures numbers { λ _. ⌜ DecidedAt Rate.One (byteRecording (now (bytes .entry))) at m (now (numbers .exit)) ⌝ }
+    ensures leads { λ _. ⌜ LeadsAt Rate.One (byteRecording (now (bytes .entry))) at m (now (leads .exit)) ⌝ }
 {
     let mut row = [0i8; 352];
     let mut other = [0i8; 352];
+    let mut raw = [0u16; 64];
     let mut l: usize = 0;
     while l < m {
         let count = abreast::at_most_16(m - l);
         abreast::take_in(bytes, 2 * (at + 11 * l), 22 * count, &mut row);
         abreast::turn(&mut row, &mut other);
-        sixteen_barkers(&row, l, numbers);
+        sixteen_barkers(&row, l, numbers, &mut raw);
         l += 16;
     }
+    in_counts(&raw, leads);
 }
 
 // m symbols of 5.5 Mbit/s from a place.
-pub fn fives(bytes: &[i8], at: usize, m: usize, numbers: &mut [u8; 64])
-    requires { ⌜ (m ≤ 64) × (at + 8 * m ≤ length (now bytes) / 2) × (length (now numbers) ≡ 64) ⌝ }
+pub fn fives(bytes: &[i8], at: usize, m: usize, numbers: &mut [u8; 64], leads: &mut [u32; 64])
+    requires { ⌜ (m ≤ 64) × (at + 8 * m ≤ length (now bytes) / 2) × (length (now numbers) ≡ 64)
+        × (length (now leads) ≡ 64) ⌝ }
     ensures numbers { λ _. ⌜ DecidedAt Rate.Five (byteRecording (now (bytes .entry))) at m (now (numbers .exit)) ⌝ }
+    ensures leads { λ _. ⌜ LeadsAt Rate.Five (byteRecording (now (bytes .entry))) at m (now (leads .exit)) ⌝ }
 {
     let mut row = [0i8; 256];
     let mut other = [0i8; 256];
+    let mut raw = [0u16; 64];
     let mut l: usize = 0;
     while l < m {
         let count = abreast::at_most_16(m - l);
         abreast::take_in(bytes, 2 * (at + 8 * l), 16 * count, &mut row);
         abreast::turn(&mut row, &mut other);
-        sixteen_fives(&row, l, numbers);
+        sixteen_fives(&row, l, numbers, &mut raw);
         l += 16;
     }
+    in_counts(&raw, leads);
 }
 
 // m symbols of 11 Mbit/s from a place.
-pub fn elevens(bytes: &[i8], at: usize, m: usize, numbers: &mut [u8; 64])
-    requires { ⌜ (m ≤ 64) × (at + 8 * m ≤ length (now bytes) / 2) × (length (now numbers) ≡ 64) ⌝ }
+pub fn elevens(bytes: &[i8], at: usize, m: usize, numbers: &mut [u8; 64], leads: &mut [u32; 64])
+    requires { ⌜ (m ≤ 64) × (at + 8 * m ≤ length (now bytes) / 2) × (length (now numbers) ≡ 64)
+        × (length (now leads) ≡ 64) ⌝ }
     ensures numbers { λ _. ⌜ DecidedAt Rate.Eleven (byteRecording (now (bytes .entry))) at m (now (numbers .exit)) ⌝ }
+    ensures leads { λ _. ⌜ LeadsAt Rate.Eleven (byteRecording (now (bytes .entry))) at m (now (leads .exit)) ⌝ }
 {
     let mut row = [0i8; 256];
     let mut other = [0i8; 256];
@@ -115,30 +156,7 @@ pub fn elevens(bytes: &[i8], at: usize, m: usize, numbers: &mut [u8; 64])
         let count = abreast::at_most_16(m - l);
         abreast::take_in(bytes, 2 * (at + 8 * l), 16 * count, &mut row);
         abreast::turn(&mut row, &mut other);
-        byte_walsh::sixteen(&row, &mut z, &mut a, l, numbers);
+        byte_walsh::sixteen(&row, &mut z, &mut a, 16, l, numbers, leads);
         l += 16;
     }
-}
-
-// The count of a byte.
-fn count(b: i8) -> i32
-    ensures answer { λ r. ⌜ r ≡ pos 16 *ℤ b ⌝ }
-    ensures small { λ r. ⌜ Within 2048 r ⌝ }
-{
-    16 * (b as i32)
-}
-
-// The counts of a CCK symbol's chips.
-pub fn counts8(bytes: &[i8], at: usize) -> [Counts; 8]
-    requires { ⌜ at + 8 ≤ length (now bytes) / 2 ⌝ }
-    ensures answer { λ r. ⌜ r ≡ symbolAt Rate.Eleven (byteRecording (now (bytes .entry))) at ⌝ }
-    ensures small { λ r. ⌜ Smalls r ⌝ }
-{
-    let mut row = [Counts { i: 0, q: 0 }; 8];
-    for k in 0..8 {
-        let i = count(bytes[2 * (at + k)]);
-        let q = count(bytes[2 * (at + k) + 1]);
-        row[k] = Counts { i, q };
-    }
-    row
 }

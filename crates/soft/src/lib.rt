@@ -7,10 +7,11 @@ ghost use lib.ListN.{length, getD};
 ghost use Rattle.chips.specs.Chips.{unusable, isUnusable, softRecording};
 ghost use Rattle.choosing.specs.Scores.{RowWithin};
 ghost use Rattle.recorded.specs.Columns.{ColumnSet, Columns, softColumn};
-ghost use Rattle.recorded.specs.Recorded.{softPart, AllUsable, DecidedAt};
+ghost use Rattle.recorded.specs.Recorded.{softPart, AllUsable, DecidedAt, LeadsAt};
 use axes::Axis;
 use chips::Chip;
 use chips::Sample;
+use choice::Choice;
 use rates::Rate;
 
 // Whether the chip at a place is usable.
@@ -40,7 +41,7 @@ pub fn clean(i: &[f32], q: &[f32], at: usize) -> bool
 }
 
 // The chips of a CCK symbol.
-pub fn eight(i: &[f32], q: &[f32], at: usize) -> [Chip; 8]
+fn eight(i: &[f32], q: &[f32], at: usize) -> [Chip; 8]
     requires { ⌜ (at + 8 ≤ length (now i)) × (at + 8 ≤ length (now q)) ⌝ }
     ensures answer { λ r. ⌜ r ≡ softPart (now (i .entry)) (now (q .entry)) at 8 ⌝ }
 {
@@ -72,29 +73,53 @@ fn eleven(i: &[f32], q: &[f32], at: usize) -> [Chip; 11]
 }
 
 // m Barker symbols from a place.
-pub fn barkers(i: &[f32], q: &[f32], at: usize, m: usize, numbers: &mut [u8; 64])
+pub fn barkers(
+    i: &[f32],
+    q: &[f32],
+    at: usize,
+    m: usize,
+    numbers: &mut [u8; 64],
+    leads: &mut [u32; 64],
+)
     requires { ⌜ (m ≤ 64) × (at + 11 * m ≤ length (now i)) × (at + 11 * m ≤ length (now q))
-        × AllUsable (softRecording (now i) (now q)) at (11 * m) × (length (now numbers) ≡ 64) ⌝ }
+        × AllUsable (softRecording (now i) (now q)) at (11 * m) × (length (now numbers) ≡ 64)
+        × (length (now leads) ≡ 64) ⌝ }
     ensures numbers { λ _. ⌜ DecidedAt Rate.One (softRecording (now (i .entry)) (now (q .entry))) at m
         (now (numbers .exit)) ⌝ }
+    ensures leads { λ _. ⌜ LeadsAt Rate.One (softRecording (now (i .entry)) (now (q .entry))) at m
+        (now (leads .exit)) ⌝ }
 {
     let mut l: usize = 0;
     while l < m {
-        numbers[l] = choice::decide_barker(eleven(i, q, at + 11 * l));
+        let c = choice::decide_barker(eleven(i, q, at + 11 * l));
+        numbers[l] = c.number;
+        leads[l] = c.lead;
         l += 1;
     }
 }
 
 // m symbols of 5.5 Mbit/s from a place.
-pub fn fives(i: &[f32], q: &[f32], at: usize, m: usize, numbers: &mut [u8; 64])
+pub fn fives(
+    i: &[f32],
+    q: &[f32],
+    at: usize,
+    m: usize,
+    numbers: &mut [u8; 64],
+    leads: &mut [u32; 64],
+)
     requires { ⌜ (m ≤ 64) × (at + 8 * m ≤ length (now i)) × (at + 8 * m ≤ length (now q))
-        × AllUsable (softRecording (now i) (now q)) at (8 * m) × (length (now numbers) ≡ 64) ⌝ }
+        × AllUsable (softRecording (now i) (now q)) at (8 * m) × (length (now numbers) ≡ 64)
+        × (length (now leads) ≡ 64) ⌝ }
     ensures numbers { λ _. ⌜ DecidedAt Rate.Five (softRecording (now (i .entry)) (now (q .entry))) at m
         (now (numbers .exit)) ⌝ }
+    ensures leads { λ _. ⌜ LeadsAt Rate.Five (softRecording (now (i .entry)) (now (q .entry))) at m
+        (now (leads .exit)) ⌝ }
 {
     let mut l: usize = 0;
     while l < m {
-        numbers[l] = choice::decide_five(eight(i, q, at + 8 * l));
+        let c = choice::decide_five(eight(i, q, at + 8 * l));
+        numbers[l] = c.number;
+        leads[l] = c.lead;
         l += 1;
     }
 }
@@ -134,11 +159,21 @@ fn columns(i: &[f32], q: &[f32], at: usize, count: usize, row: &mut [i32])
 }
 
 // m symbols of 11 Mbit/s from a place, sixteen abreast.
-pub fn elevens(i: &[f32], q: &[f32], at: usize, m: usize, numbers: &mut [u8; 64])
+pub fn elevens(
+    i: &[f32],
+    q: &[f32],
+    at: usize,
+    m: usize,
+    numbers: &mut [u8; 64],
+    leads: &mut [u32; 64],
+)
     requires { ⌜ (m ≤ 64) × (at + 8 * m ≤ length (now i)) × (at + 8 * m ≤ length (now q))
-        × AllUsable (softRecording (now i) (now q)) at (8 * m) × (length (now numbers) ≡ 64) ⌝ }
+        × AllUsable (softRecording (now i) (now q)) at (8 * m) × (length (now numbers) ≡ 64)
+        × (length (now leads) ≡ 64) ⌝ }
     ensures numbers { λ _. ⌜ DecidedAt Rate.Eleven (softRecording (now (i .entry)) (now (q .entry))) at m
         (now (numbers .exit)) ⌝ }
+    ensures leads { λ _. ⌜ LeadsAt Rate.Eleven (softRecording (now (i .entry)) (now (q .entry))) at m
+        (now (leads .exit)) ⌝ }
 {
     let mut row = [0i32; 256];
     let mut z = [0i32; 256];
@@ -147,7 +182,7 @@ pub fn elevens(i: &[f32], q: &[f32], at: usize, m: usize, numbers: &mut [u8; 64]
     while l < m {
         let count = abreast::at_most_16(m - l);
         columns(i, q, at + 8 * l, count, &mut row);
-        count_walsh::sixteen(&row, &mut z, &mut a, l, numbers);
+        count_walsh::sixteen(&row, &mut z, &mut a, l, numbers, leads);
         l += 16;
     }
 }

@@ -5,7 +5,6 @@ ghost use lib.ListN.{length};
 ghost use Rattle.rates.specs.Rates.{symbolChips};
 ghost use Rattle.chips.specs.Floats.{countOf};
 ghost use Rattle.chips.specs.Chips.{softRecording};
-ghost use Rattle.recorded.specs.Recorded.{AllUsable, DecidedAt};
 ghost use Rattle.recorders.specs.Rows.{lent};
 ghost use Rattle.timed_leaves.specs.Leaves.{firstWord, decidedSoft, lastWord, recorderOf, decidedLast, Counted};
 use rates::Rate;
@@ -64,7 +63,19 @@ fn first_word(r: Rate, i: &[f32], q: &[f32]) -> u64
         Found::At(_) => 0,
         Found::Nothing => {
             let mut numbers = [0u8; 64];
-            recorders::decide(Recorder::Soft, row, bytes, i, q, r, 0, 1, &mut numbers);
+            let mut leads = [0u32; 64];
+            recorders::decide(
+                Recorder::Soft,
+                row,
+                bytes,
+                i,
+                q,
+                r,
+                0,
+                1,
+                &mut numbers,
+                &mut leads,
+            );
             wide(numbers[0])
         }
     }
@@ -89,30 +100,8 @@ pub extern "C" fn timed_decide(rate: u64, i: &[f32], q: &[f32]) -> u64
     first_word(r, i, q)
 }
 
-// 64 symbols of 11 Mbit/s from the start, by the library's way or the direct one.
-fn decide_64(
-    direct: u64,
-    rec: Recorder,
-    octets: &[u8],
-    bytes: &[i8],
-    i: &[f32],
-    q: &[f32],
-    numbers: &mut [u8; 64],
-)
-    requires { ⌜ (512 ≤ length (lent rec octets bytes i q)) × AllUsable (lent rec octets bytes i q) 0 512
-        × (length (now numbers) ≡ 64) ⌝ }
-    ensures numbers { λ _. ⌜ DecidedAt Rate.Eleven
-        (lent rec (octets .entry) (bytes .entry) (i .entry) (q .entry)) 0 64 (now (numbers .exit)) ⌝ }
-{
-    if direct == 0 {
-        recorders::decide(rec, octets, bytes, i, q, Rate::Eleven, 0, 64, numbers);
-    } else {
-        direct_blocks::decide(rec, octets, bytes, i, q, Rate::Eleven, 0, 64, numbers);
-    }
-}
-
 // The number of the word that the last of 64 symbols is decided as, where all their chips are usable.
-fn last_word(direct: u64, rec: Recorder, octets: &[u8], bytes: &[i8], i: &[f32], q: &[f32]) -> u64
+fn last_word(rec: Recorder, octets: &[u8], bytes: &[i8], i: &[f32], q: &[f32]) -> u64
     requires { ⌜ 512 ≤ length (lent rec octets bytes i q) ⌝ }
     ensures answer { λ a. ⌜ a ≡ lastWord (lent rec (octets .entry) (bytes .entry) (i .entry) (q .entry)) ⌝ }
 {
@@ -121,7 +110,19 @@ fn last_word(direct: u64, rec: Recorder, octets: &[u8], bytes: &[i8], i: &[f32],
         Found::At(_) => 0,
         Found::Nothing => {
             let mut numbers = [0u8; 64];
-            decide_64(direct, rec, octets, bytes, i, q, &mut numbers);
+            let mut leads = [0u32; 64];
+            recorders::decide(
+                rec,
+                octets,
+                bytes,
+                i,
+                q,
+                Rate::Eleven,
+                0,
+                64,
+                &mut numbers,
+                &mut leads,
+            );
             wide(numbers[63])
         }
     }
@@ -140,11 +141,9 @@ fn recorder_of(number: u64) -> Recorder
     Recorder::Bytes
 }
 
-// The number of the word that the last of the first 64 symbols of 11 Mbit/s is decided as, by the library's way or, if
-// direct is not 0, by the direct one.
+// The number of the word that the last of the first 64 symbols of 11 Mbit/s is decided as.
 #[no_mangle]
 pub extern "C" fn timed_eleven(
-    direct: u64,
     recorder: u64,
     octets: &[u8],
     bytes: &[i8],
@@ -161,5 +160,5 @@ pub extern "C" fn timed_eleven(
     if recorders::chip_count(rec, octets, bytes, i, q) < 512 {
         return 0;
     }
-    last_word(direct, rec, octets, bytes, i, q)
+    last_word(rec, octets, bytes, i, q)
 }

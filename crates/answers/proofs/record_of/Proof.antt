@@ -7,6 +7,7 @@ use Rattle.rates.specs.Rates.{codeOf}
 use Rattle.frame.proofs.Headers.{clock-byte}
 use Rattle.calls.specs.declared.Refusal.{Refusal}
 use Rattle.calls.specs.declared.Told.{Told}
+use Rattle.calls.specs.declared.Least.{Least}
 use Rattle.calls.specs.declared.Reading.{Reading}
 use Rattle.calls.specs.declared.Reading.the-variants.{Refused, Good}
 use Rattle.calls.specs.declared.Record.{Record}
@@ -17,10 +18,21 @@ use Rattle.answers.proofs.record_of.Tie as tie
 refused : (g : Reading) (e : Refusal) (number place length : ℕ) → g ≡ Refused e
     → number ≡ refusalNumber e → place ≡ refusalPlace e → length ≡ refusalLength e
     → _≡_ {A = Record}
-    (record { number = number; place = place; rate = 0; length = length; n = 0; used = 0; clock = 0 }) (recordOf g)
+    (record {
+      number = number;
+      place = place;
+      rate = 0;
+      length = length;
+      n = 0;
+      used = 0;
+      clock = 0;
+      lead = 0;
+      symbol = 0;
+    })
+    (recordOf g)
 refused g e number place length q a b c = rw (q, a, b, c)
 
-good : (g : Reading) (t : Told) (code used : ℕ) → g ≡ Good t used → code ≡ codeOf (t .rate)
+good : (g : Reading) (t : Told) (code used : ℕ) (least : Least) → g ≡ Good t used least → code ≡ codeOf (t .rate)
     → _≡_ {A = Record}
     (record {
       number = 0;
@@ -30,9 +42,11 @@ good : (g : Reading) (t : Told) (code used : ℕ) → g ≡ Good t used → code
       n = t .n;
       used = used;
       clock = boolByte (t .clock);
+      lead = least .lead;
+      symbol = least .symbol;
     })
     (recordOf g)
-good g t code used q a = rw (q, a, clock-byte (t .clock))
+good g t code used least q a = rw (q, a, clock-byte (t .clock))
 
 returns : tie.Need-returns
 returns c =
@@ -40,7 +54,7 @@ returns c =
     (c .before .place-of .ensures) (c .length-of .ensures)
 
 returns-2 : tie.Need-returns-2
-returns-2 c = good _ _ _ _ (c .before .before .before .g2 .given .1) (c .before .code .ensures)
+returns-2 c = good _ _ _ _ _ (c .before .before .before .g2 .given .1) (c .before .code .ensures)
 
 pub record-of-spec : {M : Type 1} → statement M
 record-of-spec =

@@ -1,48 +1,64 @@
 -- `hard::elevens` meets its contract. The invariant: the symbols of so many sixteens are decided.
 -- Assumes nothing.
-use mathlib.Core.Path.{_≡_, refl}
-use Prim.Native.Nat.{_+_, _*_, _-_, _≤_}
+use mathlib.Core.Path.{_≡_, refl, ap, _∙_}
+use mathlib.Core.List.{List}
+use Prim.Native.Nat.{ℕ, _+_, _*_, _-_, _%_, _≤_, _<_}
 use native.Mathlib.Omega.{arith}
+use lib.Dec.{lit≤}
 use lib.ListN.{length}
 use borrow.Author.Needs.{needs}
 use Rattle.rates.specs.declared.Rate.the-variants.{Eleven}
 use Rattle.chips.specs.Chips.{hardRecording}
-use Rattle.recorded.proofs.Search.{usable-part}
-use Rattle.recorded.proofs.Sixteen.{Upto, upto-none, upto-more, upto-all}
+use Rattle.chips.specs.declared.Counts.{Counts}
+use Rattle.symbols.specs.Choice.{decided, leadOf}
+use Rattle.sums.specs.Sums.{rows, everyRow}
+use Rattle.recorded.proofs.Firsts.{
+  Firsts,
+  firsts-none,
+  firsts-sixteen,
+  numberAt,
+  leadAt,
+  all-decided,
+  all-leads,
+}
+use Rattle.recorded.proofs.HardLeads.{unitsAt, number-hard, lead-hard}
 use Rattle.recorded.proofs.Columns.{hard-column}
-use Rattle.walsh.specs.Rows.{elevenAt}
 use Rattle.hard.proofs.elevens.Statement.{statement}
 use Rattle.hard.proofs.elevens.Tie as tie
 
 abbrev Inv-loop : tie.InvT-loop
-Inv-loop octets at m numbers₀ row₀ z₀ a₀ l₀ numbers row z a l =
-    Upto Eleven (hardRecording octets) at m numbers l × (length row ≡ 256) × (length z ≡ 256) × (length a ≡ 512)
+Inv-loop octets at m numbers₀ leads₀ row₀ z₀ a₀ l₀ numbers leads row z a l =
+    Firsts (numberAt Eleven (hardRecording octets) at) m numbers l
+    × Firsts (leadAt Eleven (hardRecording octets) at) m leads l × (l % 16 ≡ 0)
+    × (length row ≡ 256) × (length z ≡ 256) × (length a ≡ 512)
 
 abbrev μ-loop : tie.MeasureT-loop
-μ-loop octets at m numbers₀ row₀ z₀ a₀ l₀ numbers row z a l = m - l
+μ-loop octets at m numbers₀ leads₀ row₀ z₀ a₀ l₀ numbers leads row z a l = m - l
 
 columns-requires : tie.Need-columns-requires Inv-loop μ-loop
 columns-requires c κs =
     let turn = c .before .before .before in
     let few = c .before .at-most-16 .ensures in
-    (omega (arith, few), omega (arith, few, turn .before .before .pre .1), turn .loop .inv .1)
+    (omega (arith, few), omega (arith, few, turn .before .before .pre .1), turn .loop .inv .3)
 
 sixteen-requires : tie.Need-sixteen-requires Inv-loop μ-loop
 sixteen-requires c κs =
-    let set = c .before .before .before .before .before in
+    let set = c .before .before .before .before .before .before in
     let turn = set .before .before .before .before in
     let h = set .before .before .before .loop-test .taken in (
       set .columns .ensures .long,
-      turn .loop .inv .2,
-      turn .loop .inv .3,
-      omega (arith, turn .loop .inv .0 .sixteens, turn .before .before .pre .0),
+      turn .loop .inv .4,
+      turn .loop .inv .5,
+      lit≤ tt,
+      omega (arith, turn .loop .inv .2, turn .before .before .pre .0),
       turn .loop .inv .0 .long,
+      turn .loop .inv .1 .long,
     )
 
 loop-again : tie.Need-loop-again Inv-loop μ-loop
 loop-again c =
-    let decided = c .before .before in
-    let set = decided .before .before .before .before .before .before in
+    let decided-sixteen = c .before .before in
+    let set = decided-sixteen .before .before .before .before .before .before .before in
     let counted = set .before .before in
     let turn = counted .before .before in
     let s = turn .before .before in
@@ -51,26 +67,36 @@ loop-again c =
     let l = turn .loop .l in
     let n = counted .at-most-16 .result in
     let h = counted .before .loop-test .taken in
-    let few : l + n ≤ s .args .m = omega (arith, counted .at-most-16 .ensures) in (
-      upto-more Eleven (hardRecording octets) (s .args .at) (s .args .m) (elevenAt row) (turn .loop .numbers)
-          (decided .sixteen .last .1 .1 .1 .1 .0) l (turn .loop .inv .0) (decided .sixteen .ensures .1)
-          (λ j small there. hard-column Eleven (s .args .at) l n j (omega (arith, counted .at-most-16 .ensures)) octets
-          (set .columns .ensures) (omega (arith, s .pre .1)) (usable-part (8 * l) (8 * n) (s .pre .2) (omega arith))),
+    let units : (j : ℕ) → j < 16 → l + j < s .args .m
+    → rows (everyRow row j 8) (everyRow row (16 + j) 8) ≡ unitsAt Eleven octets (s .args .at) (l + j) =
+    λ j few there. hard-column (s .args .at) l n j (omega (arith, counted .at-most-16 .ensures)) octets
+    (set .columns .ensures) in (
+      firsts-sixteen _ _ _ (turn .loop .inv .0) (decided-sixteen .sixteen .ensures .1 .0)
+          (λ j few there. ap (decided Eleven) (units j few there)
+          ∙ number-hard Eleven octets (s .args .at) (s .args .m) (s .pre .1) (s .pre .2) (l + j) there),
+      firsts-sixteen _ _ _ (turn .loop .inv .1) (decided-sixteen .sixteen .ensures .1 .1)
+          (λ j few there. ap (λ (cs : List Counts). 1024 * leadOf Eleven cs) (units j few there)
+          ∙ lead-hard Eleven octets (s .args .at) (s .args .m) (s .pre .1) (s .pre .2) (l + j) there),
+      omega (arith, turn .loop .inv .2),
       set .columns .ensures .long,
-      decided .sixteen .ensures .0 .0,
-      decided .sixteen .ensures .0 .1,
+      decided-sixteen .sixteen .ensures .0 .0,
+      decided-sixteen .sixteen .ensures .0 .1,
     )
 
 returns : tie.Need-returns Inv-loop μ-loop
 returns c =
-    let s = c .before .before .before in
-    upto-all Eleven (hardRecording (s .args .octets .now)) (s .args .at) (s .args .m) _ _ (c .before .loop .inv .0)
-    (c .loop-test .left)
+    let turn = c .before in
+    let s = turn .before .before in
+    let rec = hardRecording (s .args .octets .now) in (
+      all-decided Eleven rec (s .args .at) (turn .loop .inv .0) (c .loop-test .left),
+      all-leads Eleven rec (s .args .at) (turn .loop .inv .1) (c .loop-test .left),
+    )
 
 pub elevens-spec : {M : Type 1} → statement M
 elevens-spec =
     tie.close
-    (tie.spec Inv-loop μ-loop (λ c. (upto-none Eleven _ _ _ _ (c .before .pre .3), refl, refl, refl))
+    (tie.spec Inv-loop μ-loop
+    (λ c. (firsts-none _ _ _ (c .before .pre .3), firsts-none _ _ _ (c .before .pre .4), refl, refl, refl, refl))
     (λ c. omega arith) (λ c κs. search needs) (λ c. omega arith) (λ c. omega arith) (λ c. search needs) columns-requires
     (λ c. search needs) (λ c. search needs) (λ c. search needs) sixteen-requires (λ c. omega arith)
     (λ c. omega arith) loop-again returns)

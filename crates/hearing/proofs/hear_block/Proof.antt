@@ -1,19 +1,21 @@
--- `hearing::hear_block` meets its contract: the numbers decided are the words of the octets. Assumes nothing.
+-- `hearing::hear_block` meets its contract: the numbers decided are the words of the octets, and the leads theirs.
+-- Assumes nothing.
 use mathlib.Core.Path.{_≡_, refl, ap, subst, _∙_}
 use mathlib.Core.List.{List}
-use Prim.Native.Nat.{ℕ, _+_, _*_, _^_, _≤_}
+use Prim.Native.Nat.{ℕ, _+_, _*_, _^_, _≤_, _<_}
 use native.Mathlib.Omega.{arith}
 use Rattle.base.specs.Over.{over}
 use Rattle.rates.specs.declared.Rate.{Rate}
 use Rattle.rates.specs.Rates.{symbolChips, octetSymbols, octetChips}
 use Rattle.rates.proofs.Octets.{part-chips}
 use Rattle.chips.specs.Chips.{Taken}
+use Rattle.reading.specs.Leads.{leastFrom}
 use Rattle.recorders.specs.Rows.{recordingOf}
 use Rattle.recorded.specs.Recorded.{AllUsable}
 use Rattle.recorders.proofs.Rows.{recording-fits}
 use borrow.Author.Needs.{needs}
 use Rattle.blocks.specs.Heard.{plainOctets, Heard}
-use Rattle.hearing.proofs.Parts.{block-words, block-are-words}
+use Rattle.hearing.proofs.Parts.{block-words, block-are-words, block-leads, few-symbols}
 use Rattle.hearing.proofs.hear_block.Statement.{statement}
 use Rattle.hearing.proofs.hear_block.Tie as tie
 
@@ -29,55 +31,86 @@ module _ (r : Rate) (s n : ℕ) (e : s ≡ octetSymbols r) where
       → AllUsable rec place (symbolChips r * (s * n))
   usable rec place h = rw (e, part-chips r n) h
 
-mul-decide : tie.Need-mul-decide
-mul-decide c =
+  numbered : (symbol place : ℕ) → symbol ≤ place → place + octetChips r * n < 2 ^ 64 → symbol + s * n < 2 ^ 64
+  numbered symbol place h l = rw e (omega (arith, few-symbols r n))
+
+mul-m : tie.Need-mul-m
+mul-m c =
     let start = c .before .before .before .before .before in
     let h = within (start .args .rate) _ (start .args .count) (c .octet-symbols .ensures) (start .pre .0) in
     record { fits = omega arith }
 
 decide-requires : tie.Need-decide-requires
 decide-requires c κs =
-    let start = c .before .before .before .before .before .before in
-    let e = c .before .octet-symbols .ensures in (
+    let start = c .before .before .before .before .before .before .before in
+    let e = c .before .before .octet-symbols .ensures in (
       within (start .args .rate) _ (start .args .count) e (start .pre .0),
       room (start .args .rate) _ (start .args .count) e (start .args .place) _ (start .pre .2),
       usable (start .args .rate) _ (start .args .count) e _ (start .args .place) (start .pre .3),
       refl,
+      refl,
+    )
+
+-- the block's last chip
+ends : (c : tie.After-decide) → let a = c .before .before .before .before .before .before .before .before .args in
+    a .place + octetChips (a .rate) * a .count < 2 ^ 64
+ends c =
+    let start = c .before .before .before .before .before .before .before .before in
+    let a = start .args in
+    omega (
+      arith,
+      start .pre .2,
+      recording-fits (a .rec) (a .row .now) (a .bytes .now) (a .i .now) (a .q .now) (2 ^ 64) (start .good .1 .0 .0)
+          (start .good .1 .1 .0 .0) (start .good .1 .1 .1 .0 .0),
     )
 
 hear-requires : tie.Need-hear-requires
 hear-requires c κs =
-    let start = c .before .before .before .before .before .before .before .before in
+    let start = c .before .before .before .before .before .before .before .before .before in
     let a = start .args in
-    let d = c .before .decide .ensures in (
+    let d = c .before .decide .ensures .0 in (
       start .pre .0,
       start .pre .1,
-      omega (
-        arith,
-        start .pre .2,
-        recording-fits (a .rec) (a .row .now) (a .bytes .now) (a .i .now) (a .q .now) (2 ^ 64) (start .good .1 .0 .0)
-            (start .good .1 .1 .0 .0) (start .good .1 .1 .1 .0 .0),
-      ),
+      ends (c .before),
       start .pre .4,
       d .long,
-      block-are-words (a .rate) _ (a .count) (c .before .before .before .octet-symbols .ensures)
+      block-are-words (a .rate) _ (a .count) (c .before .before .before .before .octet-symbols .ensures)
           (recordingOf (a .rec) (a .row .now) (a .bytes .now) (a .i .now) (a .q .now)) (a .place) _ d (start .pre .0),
+    )
+
+least-after-requires : tie.Need-least-after-requires
+least-after-requires c κs =
+    let decided = c .before .before .before .before .before in
+    let start = decided .before .before .before .before .before .before .before .before in
+    let a = start .args in
+    let e = decided .before .before .before .octet-symbols .ensures in (
+      within (a .rate) _ (a .count) e (start .pre .0),
+      numbered (a .rate) _ (a .count) e (a .symbol) (a .place) (start .pre .5) (ends decided),
+      decided .decide .ensures .1 .long,
     )
 
 returns : tie.Need-returns
 returns c =
-    let start = c .before .before .before .before .before .before .before .before .before .before .before in
+    let heard = c .before .before .before .before in
+    let decided = heard .before .before in
+    let start = decided .before .before .before .before .before .before .before .before in
     let a = start .args in
-    let call = c .before .before .hear in
-    let words = block-words (a .rate) _ (a .count)
-    (c .before .before .before .before .before .before .octet-symbols .ensures)
-    (recordingOf (a .rec) (a .row .now) (a .bytes .now) (a .i .now) (a .q .now)) (a .place) _
-    (c .before .before .before .before .decide .ensures) (start .pre .0) in (
-      subst (λ (ws : List ℕ). Heard (a .rate) (a .place) (a .line) ws (call .result)) words (call .ensures .0),
-      call .ensures .1 ∙ ap (λ (ws : List ℕ). over (plainOctets (a .rate) (a .count) (a .line) ws) (a .out .now)) words,
+    let e = decided .before .before .before .octet-symbols .ensures in
+    let rec = recordingOf (a .rec) (a .row .now) (a .bytes .now) (a .i .now) (a .q .now) in
+    let words = block-words (a .rate) _ (a .count) e rec (a .place) _ (decided .decide .ensures .0) (start .pre .0) in (
+      subst (λ (ws : List ℕ). Heard (a .rate) (a .place) (a .line) ws (heard .hear .result)) words
+          (heard .hear .ensures .0),
+      (
+        c .least-after .ensures
+            ∙ ap (leastFrom (a .symbol) (a .least))
+            (block-leads (a .rate) _ (a .count) e rec (a .place) _ (decided .decide .ensures .1) (start .pre .0)),
+        heard .hear .ensures .1
+            ∙ ap (λ (ws : List ℕ). over (plainOctets (a .rate) (a .count) (a .line) ws) (a .out .now)) words,
+      ),
     )
 
 pub hear-block-spec : {M : Type 1} → statement M
 hear-block-spec =
     tie.close
-    (tie.spec (λ c κs. search needs) mul-decide decide-requires hear-requires (λ c. search needs) returns)
+    (tie.spec
+    (λ c κs. search needs) mul-m decide-requires hear-requires least-after-requires (λ c. search needs) returns)

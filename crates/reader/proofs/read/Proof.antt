@@ -12,6 +12,7 @@ use Rattle.calls.specs.declared.Told.{Told}
 use Rattle.calls.specs.declared.Reading.{Reading}
 use Rattle.calls.specs.declared.Front.the-variants.{Fields}
 use Rattle.reading.specs.Reading.{payloadReading, octetsAfter}
+use Rattle.reading.specs.Leads.{frontLeads, leastOf}
 use Rattle.fronts.specs.declared.Opening.{Opening}
 use Rattle.fronts.specs.Openings.{Opened, OpensWhole}
 use borrow.Author.Needs.{needs}
@@ -23,9 +24,9 @@ use Rattle.reader.proofs.read.Tie as tie
 handed : (k : Kind) (rec : List Taken) (o : Opening) (t : Told) (d z : List ℕ) → OpensWhole k rec o
     → o .front ≡ Fields t → z ≡ replicate (length d) 0 → length z ≡ length d
     → (t .n ≤ 4095) × (frameChips k (t .rate) (t .n) ≤ length rec) × (Opened k rec (o .line))
-    × (z ≡ replicate (length z) 0)
+    × (z ≡ replicate (length z) 0) × (o .least ≡ leastOf (frontLeads k rec))
 handed k rec o t d z x w e f =
-    (x .few t w, x .chips t w, x .line t w, e ∙ ap (λ (m : ℕ). replicate m 0) (sym f))
+    (x .few t w, x .chips t w, x .line t w, e ∙ ap (λ (m : ℕ). replicate m 0) (sym f), x .least t w)
 
 -- the buffer is as long as it was
 as-long : (k : Kind) (t : Told) (rec : List Taken) (g : Reading) (out : List ℕ) (m room : ℕ) → m ≡ room
@@ -51,10 +52,10 @@ returns-2 c =
 
 read-payload-requires : tie.Need-read-payload-requires
 read-payload-requires c κs =
-    let opened = c .before .before .before .before .before in
+    let opened = c .before .before .before .before .before .before in
     let cleared = opened .before .before .before .before .before .before .before in
     handed _ _ _ _ (cleared .before .before .before .before .before .before .args .octets .now) _
-    (opened .read-whole .ensures) (c .before .before .before .told2 .given .1)
+    (opened .read-whole .ensures) (c .before .before .before .before .told2 .given .1)
     (cleared .fill .ensures) (cleared .fill .kept .0)
 
 returns-3 : tie.Need-returns-3
@@ -68,14 +69,14 @@ returns-3 c =
 
 returns-4 : tie.Need-returns-4
 returns-4 c =
-    let opened = c .before .before .before .before .before .before .before .before in
+    let opened = c .before .before .before .before .before .before .before .before .before in
     let second = opened .before .before in
     let left = as-long _ _ _ _ _ _ _
     (opened .before .before .before .before .before .before .before .fill .kept .0)
     (c .before .before .read-payload .ensures) in
     read-told _ _ _ _ (kind-holds (second .before)) (not-false _ (second .if2 .left)) _
     (opened .before .kind-of .ensures) _
-    (opened .read-whole .ensures) _ _ _ (c .before .before .before .before .before .before .told2 .given .1)
+    (opened .read-whole .ensures) _ _ _ (c .before .before .before .before .before .before .before .told2 .given .1)
     (left .0) (left .1)
 
 pub read-spec : {M : Type 1} → statement M

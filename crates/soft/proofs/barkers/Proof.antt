@@ -1,27 +1,26 @@
--- `soft::barkers` meets its contract. The invariant: the first l symbols are decided.
+-- `soft::barkers` meets its contract. The invariant: the first l symbols are decided, with their leads.
 -- Assumes nothing.
-use mathlib.Core.Path.{ap, _∙_}
+use mathlib.Core.Path.{_≡_, ap, _∙_}
 use mathlib.Core.List.{map}
 use Prim.Native.Nat.{_+_, _*_, _-_}
 use native.Mathlib.Omega.{arith}
 use borrow.Author.Needs.{needs}
 use Rattle.rates.specs.declared.Rate.the-variants.{One}
 use Rattle.chips.specs.Chips.{countsOf, softRecording}
+use Rattle.symbols.specs.Choice.{decided, leadOf}
+use Rattle.recorded.specs.Recorded.{symbolAt}
 use Rattle.recorded.proofs.Search.{usable-part}
 use Rattle.recorded.proofs.Gathered.{gathered-soft, usable-soft}
-use Rattle.recorded.proofs.Blocks.{Decided, decided-none, decided-more, decided-all}
+use Rattle.recorded.proofs.Firsts.{Firsts, firsts-none, firsts-more, numberAt, leadAt, all-decided, all-leads}
 use Rattle.soft.proofs.barkers.Statement.{statement}
 use Rattle.soft.proofs.barkers.Tie as tie
 
 abbrev Inv-loop : tie.InvT-loop
-Inv-loop i q at m numbers₀ l₀ numbers l = Decided One (softRecording i q) at m numbers l
+Inv-loop i q at m numbers₀ leads₀ l₀ numbers leads l =
+    Firsts (numberAt One (softRecording i q) at) m numbers l × Firsts (leadAt One (softRecording i q) at) m leads l
 
 abbrev μ-loop : tie.MeasureT-loop
-μ-loop i q at m numbers₀ l₀ numbers l = m - l
-
-loop-holds : tie.Need-loop-holds Inv-loop μ-loop
-loop-holds c = let s = c .before .before in
-    decided-none One (softRecording (s .args .i .now) (s .args .q .now)) (s .args .at) (s .args .m) _ (s .pre .4)
+μ-loop i q at m numbers₀ leads₀ l₀ numbers leads l = m - l
 
 eleven-requires : tie.Need-eleven-requires Inv-loop μ-loop
 eleven-requires c κs = let s = c .before .before .before .before in (omega (arith, s .pre .1), omega (arith, s .pre .2))
@@ -43,21 +42,29 @@ loop-again c =
     let s = turn .before .before .before in
     let l = turn .loop .l in
     let h = c .before .before .loop-test .taken in
-    decided-more One (softRecording (s .args .i .now) (s .args .q .now)) (s .args .at) (s .args .m) l _ _
-    _ (s .pre .0) h
-    (turn .loop .inv) (c .decide-barker .ensures)
-    (ap (map countsOf) (c .before .eleven .ensures)
+    let chosen = c .decide-barker .ensures in
+    let symbol : map countsOf (c .before .eleven .result)
+    ≡ symbolAt One (softRecording (s .args .i .now) (s .args .q .now)) (s .args .at + 11 * l) =
+    ap (map countsOf) (c .before .eleven .ensures)
     ∙ gathered-soft 11 (s .args .i .now) (s .args .q .now) (s .args .at + 11 * l)
-    (omega (arith, s .pre .1), omega (arith, s .pre .2)))
+    (omega (arith, s .pre .1), omega (arith, s .pre .2)) in (
+      firsts-more _ _ _ (omega (arith, s .pre .0)) (chosen .0 ∙ ap (decided One) symbol) (turn .loop .inv .0),
+      firsts-more _ _ _ (omega (arith, s .pre .0)) (chosen .1 ∙ ap (leadOf One) symbol) (turn .loop .inv .1),
+    )
 
 returns : tie.Need-returns Inv-loop μ-loop
 returns c =
-    let s = c .before .before .before .before in
-    decided-all One (softRecording (s .args .i .now) (s .args .q .now)) (s .args .at) (s .args .m) _ _
-    (c .before .loop .inv) (c .loop-test .left)
+    let turn = c .before in
+    let s = turn .before .before .before in
+    let rec = softRecording (s .args .i .now) (s .args .q .now) in (
+      all-decided One rec (s .args .at) (turn .loop .inv .0) (c .loop-test .left),
+      all-leads One rec (s .args .at) (turn .loop .inv .1) (c .loop-test .left),
+    )
 
 pub barkers-spec : {M : Type 1} → statement M
 barkers-spec =
     tie.close
-    (tie.spec Inv-loop μ-loop loop-holds (λ c. omega arith) (λ c. omega arith) eleven-requires decide-barker-requires
+    (tie.spec Inv-loop μ-loop
+    (λ c. (firsts-none _ _ _ (c .before .before .pre .4), firsts-none _ _ _ (c .before .before .pre .5)))
+    (λ c. omega arith) (λ c. omega arith) eleven-requires decide-barker-requires (λ c. search needs) (λ c. search needs)
     (λ c. search needs) (λ c. search needs) (λ c. search needs) loop-again returns)

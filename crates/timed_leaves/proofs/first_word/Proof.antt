@@ -56,22 +56,23 @@ returns c =
 
 decide-requires : tie.Need-decide-requires
 decide-requires c κs =
-    let found = c .before .before .before in
+    let found = c .before .before .before .before in
     let l = start found .pre in (
       lit≤ tt,
       omega arith,
       clean (start found .args .r) (rec found) _ _ (found .before .symbol-chips .ensures)
-          (found .first-unusable .ensures) (c .before .enum-told2 .given .1) l,
+          (found .first-unusable .ensures) (c .before .before .enum-told2 .given .1) l,
+      search needs,
       search needs,
     )
 
 returns-2 : tie.Need-returns-2
 returns-2 c =
-    let found = c .before .before .before .before .before in
+    let found = c .before .before .before .before .before .before in
     c .wide .ensures
     ∙ word (start found .args .r) (rec found) _ _ (found .before .symbol-chips .ensures)
     (found .first-unusable .ensures)
-    (c .before .before .before .enum-told2 .given .1) _ (c .before .decide .ensures)
+    (c .before .before .before .before .enum-told2 .given .1) _ (c .before .decide .ensures .0)
 
 pub first-word-spec : {M : Type 1} → statement M
 first-word-spec =

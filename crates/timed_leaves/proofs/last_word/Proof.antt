@@ -2,7 +2,7 @@
 -- decided. Assumes nothing.
 use mathlib.Core.Path.{_∙_}
 use mathlib.Core.List.{List}
-use lib.Dec.{lit<}
+use lib.Dec.{lit≤, lit<}
 use borrow.Author.Needs.{needs}
 use Rattle.chips.specs.Chips.{Taken}
 use Rattle.recorders.specs.Rows.{recordingOf}
@@ -21,25 +21,27 @@ returns c =
     let s = found .before .before .before .before in
     bad (rec s) 512 _ (found .first-unusable .ensures) _ _ (c .enum-told .given .1)
 
-decide-64-requires : tie.Need-decide-64-requires
-decide-64-requires c κs =
-    let found = c .before .before .before in
+decide-requires : tie.Need-decide-requires
+decide-requires c κs =
+    let found = c .before .before .before .before in
     let s = found .before .before .before .before in (
+      lit≤ tt,
       s .pre,
-      usable (rec s) 512 _ (found .first-unusable .ensures) (c .before .enum-told2 .given .1) (s .pre),
+      usable (rec s) 512 _ (found .first-unusable .ensures) (c .before .before .enum-told2 .given .1) (s .pre),
+      search needs,
       search needs,
     )
 
 returns-2 : tie.Need-returns-2
 unfolding lastWord
 returns-2 c =
-    let found = c .before .before .before .before .before in
+    let found = c .before .before .before .before .before .before in
     let s = found .before .before .before .before in
-    c .wide .ensures ∙ c .before .decide-64 .ensures .number 63 (lit< tt)
-    ∙ good (rec s) 512 _ (found .first-unusable .ensures) _ (c .before .before .before .enum-told2 .given .1)
+    c .wide .ensures ∙ c .before .decide .ensures .0 .number 63 (lit< tt)
+    ∙ good (rec s) 512 _ (found .first-unusable .ensures) _ (c .before .before .before .before .enum-told2 .given .1)
 
 pub last-word-spec : {M : Type 1} → statement M
 last-word-spec =
     tie.close
-    (tie.spec (λ c κs. search needs) (λ c. search needs) (λ c. search needs) decide-64-requires (λ c. search needs)
+    (tie.spec (λ c κs. search needs) (λ c. search needs) (λ c. search needs) decide-requires (λ c. search needs)
     (λ c κs. search needs) returns returns-2)

@@ -3,7 +3,8 @@
 use mathlib.Core.Path.{_≡_, sym, ap, subst, _∙_}
 use mathlib.Core.List.{List, _++_}
 use mathlib.Core.Option.{none, some}
-use Prim.Native.Nat.{ℕ, _+_, _-_, _*_, _≤_}
+use Prim.Native.Nat.{ℕ, _+_, _-_, _*_, _/_, _≤_}
+use native.Mathlib.Omega.{arith}
 use lib.ListN.{length, take, drop, replicate}
 use lib.Seq.{length-front}
 use Rattle.rates.specs.declared.Rate.{Rate}
@@ -13,13 +14,15 @@ use Rattle.lines.specs.declared.Line.{Line}
 use Rattle.frame.specs.declared.Kind.{Kind}
 use Rattle.frame.specs.Frame.{frontChips, frameChips}
 use Rattle.reading.specs.Reading.{payloadOdd, payloadOf}
+use Rattle.calls.specs.declared.Least.{Least}
+use Rattle.reading.specs.Leads.{frontLeads, frameLeads, leastOf}
 use Rattle.recorded.specs.declared.Found.the-variants.{Nothing, At}
 use Rattle.recorded.specs.Recorded.{whereFound, AllUsable}
-use Rattle.blocks.specs.declared.Hearing.{Hearing}
+use Rattle.hearing.specs.declared.Part.{Part}
 use Rattle.hearing.specs.Hearing.{PartHeard}
 use Rattle.fronts.specs.Openings.{Opened}
 use borrow.Author.Needs.{needs}
-use Rattle.reader.proofs.Behind.{payload-odd, payload-octets, lent-long, octets-back}
+use Rattle.reader.proofs.Behind.{payload-odd, payload-octets, payload-least, lent-long, octets-back}
 use Rattle.reader.proofs.payload.hear_payload.Statement.{statement}
 use Rattle.reader.proofs.payload.hear_payload.Tie as tie
 
@@ -32,31 +35,38 @@ usable : (k : Kind) (r : Rate) (n from m : ℕ) (rec : List Taken) → from ≡ 
 usable k r n from m rec e f u = rw (e, f) u
 
 module _
-    (k : Kind) (r : Rate) (n from : ℕ) (rec : List Taken) (l : Line) (h : Hearing) (d out : List ℕ) (o : Opened k rec l)
-    (e : from ≡ frontChips k) (fits : n ≤ length d) (zeros : d ≡ replicate (length d) 0)
-    (x : PartHeard r from (length (take (n - 0) d)) rec l h out)
+    (k : Kind) (r : Rate) (n from : ℕ) (rec : List Taken) (l : Line) (b : Least) (p : Part) (d out : List ℕ)
+    (o : Opened k rec l) (e : from ≡ frontChips k) (fits : n ≤ length d) (zeros : d ≡ replicate (length d) 0)
+    (first : b ≡ leastOf (frontLeads k rec))
+    (x : PartHeard r from (length (take (n - 0) d)) rec l (from / 11) b p out)
   where
-    part : PartHeard r (frontChips k) n rec l h out
+    part : PartHeard r (frontChips k) n rec l (frontChips k / 11) b p out
     part =
-        subst (λ (i : ℕ). PartHeard r i n rec l h out) e
-        (subst (λ (i : ℕ). PartHeard r from i rec l h out)
+        subst (λ (i : ℕ). PartHeard r i n rec l (i / 11) b p out) e
+        (subst (λ (i : ℕ). PartHeard r from i rec l (from / 11) b p out)
         (lent-long n d fits) x)
 
-    odd : (place : ℕ) (z : List ℕ) → h .odd ≡ At place → length out ≡ length (take (n - 0) d) → z
-        ≡ replicate (length (out ++ drop (n - 0) d)) 0
-        → (some place ≡ payloadOdd k r n rec) × (z ≡ replicate (length d) 0)
+    odd : (place : ℕ) (z : List ℕ) → p .heard .odd ≡ At place → length out ≡ length (take (n - 0) d)
+        → z ≡ replicate (length (out ++ drop (n - 0) d)) 0
+        → (some place ≡ payloadOdd k r n rec)
+        × ((p .least ≡ leastOf (frameLeads k r n rec)) × (z ≡ replicate (length d) 0))
     odd place z t kept q = (
-      sym (ap whereFound t) ∙ payload-odd k r n rec l h out o part,
-      q
-          ∙ ap (λ (m : ℕ). replicate m 0) (length-front d out (n - 0) kept),
+      sym (ap whereFound t) ∙ payload-odd k r n rec l b p out o part,
+      (
+        payload-least k r n rec l b p out o part first,
+        q ∙ ap (λ (m : ℕ). replicate m 0) (length-front d out (n - 0) kept),
+      ),
     )
 
-    good : h .odd ≡ Nothing → (none ≡ payloadOdd k r n rec) ×
-        (out ++ drop (n - 0) d ≡ payloadOf k r n rec ++ replicate (length d - n) 0)
+    good : p .heard .odd ≡ Nothing → (none ≡ payloadOdd k r n rec)
+        × ((p .least ≡ leastOf (frameLeads k r n rec))
+        × (out ++ drop (n - 0) d ≡ payloadOf k r n rec ++ replicate (length d - n) 0))
     good t = (
-      sym (ap whereFound t) ∙ payload-odd k r n rec l h out o part,
-      octets-back n d out (payloadOf k r n rec) zeros
-          (payload-octets k r n rec l h out o part),
+      sym (ap whereFound t) ∙ payload-odd k r n rec l b p out o part,
+      (
+        payload-least k r n rec l b p out o part first,
+        octets-back n d out (payloadOf k r n rec) zeros (payload-octets k r n rec l b p out o part),
+      ),
     )
 
 hear-octets-requires : tie.Need-hear-octets-requires
@@ -68,29 +78,32 @@ hear-octets-requires c κs =
       room (a .kind) (a .rate) (a .n) _ _ _ from long (start .pre .0),
       usable (a .kind) (a .rate) (a .n) _ _ _ from long (start .pre .1),
       start .pre .3 .small,
+      omega arith,
     )
 
 returns : tie.Need-returns
 returns c =
     let told = c .before .before .before .before .before .before in
-    let call = told .before .before .before .hear-octets in
-    let start = told .before .before .before .before .before .before .before .before .before .before in
+    let call = told .before .before .before .before .before .hear-octets in
+    let start = told .before .before .before .before .before .before .before .before .before .before .before .before in
     let a = start .args in
-    odd (a .kind) (a .rate) (a .n) _ _ (a .line) _ (a .octets .now) (call .last .1 .1 .1 .1 .1 .1 .1 .1 .0)
-    (start .pre .3)
-    (told .before .before .before .before .before .front-chips .ensures) (start .pre .2) (start .pre .4) (call .ensures)
+    odd (a .kind) (a .rate) (a .n) _ _ (a .line) (a .least) _ (a .octets .now)
+    (call .last .1 .1 .1 .1 .1 .1 .1 .1 .1 .1 .0) (start .pre .3)
+    (told .before .before .before .before .before .before .before .front-chips .ensures)
+    (start .pre .2) (start .pre .4) (start .pre .5) (call .ensures)
     _ _ (c .before .before .before .before .before .odd .given .1)
-    (call .kept .1 .1 .1 .1 .1 .1 .1 .1 .0) (c .before .before .fill .ensures)
+    (call .kept .1 .1 .1 .1 .1 .1 .1 .1 .1 .1 .0) (c .before .before .fill .ensures)
 
 returns-2 : tie.Need-returns-2
 returns-2 c =
     let told = c .before in
-    let call = told .before .before .before .hear-octets in
-    let start = told .before .before .before .before .before .before .before .before .before .before in
+    let call = told .before .before .before .before .before .hear-octets in
+    let start = told .before .before .before .before .before .before .before .before .before .before .before .before in
     let a = start .args in
-    good (a .kind) (a .rate) (a .n) _ _ (a .line) _ (a .octets .now) (call .last .1 .1 .1 .1 .1 .1 .1 .1 .0)
-    (start .pre .3) (told .before .before .before .before .before .front-chips .ensures) (start .pre .2)
-    (start .pre .4) (call .ensures)
+    good (a .kind) (a .rate) (a .n) _ _ (a .line) (a .least) _ (a .octets .now)
+    (call .last .1 .1 .1 .1 .1 .1 .1 .1 .1 .1 .0) (start .pre .3)
+    (told .before .before .before .before .before .before .before .front-chips .ensures)
+    (start .pre .2) (start .pre .4) (start .pre .5) (call .ensures)
     (c .enum-told .given .1)
 
 pub hear-payload-spec : {M : Type 1} → statement M

@@ -31,6 +31,7 @@ hear-payload-requires c κs =
       c .before .before .before .before .before .before .if1 .left,
       start .pre .2,
       start .pre .3,
+      start .pre .4,
     )
 
 returns-2 : tie.Need-returns-2
@@ -41,10 +42,10 @@ returns-2 c = (
 
 returns-3 : tie.Need-returns-3
 returns-3 c =
-    let call = c .before .before .before .hear-payload in
-    let told = c .before .before .before .before .before in
-    payload-heard _ _ _ _ (call .result) _ _ (searched (told .before .before)) (told .enum-told .given .1)
-    (call .ensures .0) (call .ensures .1) (c .heard .ensures)
+    let call = c .before .before .before .before .hear-payload in
+    let told = c .before .before .before .before .before .before in
+    payload-heard _ _ _ _ (call .result .odd) (call .result .least) _ _ (searched (told .before .before))
+    (told .enum-told .given .1) (call .ensures .0) (call .ensures .1 .0) (call .ensures .1 .1) (c .heard .ensures)
 
 pub read-payload-spec : {M : Type 1} → statement M
 read-payload-spec =
