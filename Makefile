@@ -3,8 +3,7 @@
 
 LIB := target/staticlib/libdsss.a
 LEAVES := target/staticlib/libtimed_leaves.a
-DIRECT := target/direct/libdirect.a
-PLAIN := bench/plain_write.c bench/plain_read.c
+PLAIN := bench/plain_write.c bench/plain_choose.c bench/plain_read.c
 OUT := target/c
 STRICT := -std=c99 -Wall -Wextra -Wpedantic -Werror -Iinclude
 PREFIX ?= /usr/local
@@ -37,7 +36,7 @@ compare: $(OUT)/bridge target/peer/peer
 wrong: target/peer/peer
 	tests/wrong/run
 
-# Our library beside the direct way and plain C, in one run; BENCH_MS is the milliseconds of one measurement.
+# Our library beside plain C, in one run; BENCH_MS is the milliseconds of one measurement.
 bench: $(OUT)/bench
 	scripts/x86run $(OUT)/bench $(BENCH_MS)
 	scripts/instructions.sh
@@ -47,7 +46,7 @@ instructions: archives | packages
 	scripts/instructions.sh
 
 # What is timed and counted beside plain C.
-archives: $(LIB) $(LEAVES) $(DIRECT)
+archives: $(LIB) $(LEAVES)
 
 # The CRC's published figures, by the CRC of Python's library.
 crc: packages
@@ -82,10 +81,6 @@ $(LEAVES): $(PROVED)
 	scripts/staticlib.sh timed_leaves
 	touch $@
 
-$(DIRECT): $(PROVED) scripts/direct.sh | $(LIB) $(LEAVES)
-	scripts/direct.sh
-	touch $@
-
 $(OUT)/host: examples/host/host.c include/dsss.h $(LIB) | demo-packages
 	mkdir -p $(OUT)
 	scripts/x86cc $@ examples/host/host.c $(LIB) -- $(STRICT)
@@ -94,9 +89,9 @@ $(OUT)/bridge: tests/bridge/bridge.c include/dsss.h $(LIB) | packages
 	mkdir -p $(OUT)
 	scripts/x86cc $@ tests/bridge/bridge.c $(LIB) -- $(STRICT)
 
-$(OUT)/bench: bench/bench.c $(PLAIN) $(wildcard bench/*.h) include/dsss.h $(LIB) $(LEAVES) $(DIRECT) | packages
+$(OUT)/bench: bench/bench.c $(PLAIN) $(wildcard bench/*.h) include/dsss.h $(LIB) $(LEAVES) | packages
 	mkdir -p $(OUT)
-	scripts/x86cc $@ bench/bench.c $(PLAIN) $(LIB) $(LEAVES) $(DIRECT) -- $(STRICT) -O3
+	scripts/x86cc $@ bench/bench.c $(PLAIN) $(LIB) $(LEAVES) -- $(STRICT) -O3 -fno-trapping-math
 
 target/peer/peer: $(wildcard tests/peer/src/*.rs tests/peer/src/families/*.rs) | packages
 	mkdir -p target/peer

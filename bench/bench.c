@@ -1,16 +1,15 @@
-/* bench.c: how long the library takes beside plain C, and at 11 Mbit/s beside itself by the direct way, in one run.
+/* bench.c: how long the library takes beside plain C, in one run.
  *
  *   bench [milliseconds]     the least time of one measurement, 20 if not given
  *
- * Each call is first made once by all that are timed, and the answers and buffers must agree. The count
- * of calls is then doubled until one measurement lasts long enough; the time shown is the median of
- * five, the libraries measured in turn. Buffers have just the size needed, and each call fills them,
- * as in use. All are built with the same optimisation.
+ * Each call is first made once by both, and the answers and buffers must agree, leads too. The count of
+ * calls is then doubled until one measurement lasts long enough; the time shown is the median of five,
+ * the two measured in turn. Buffers have just the size needed, and each call fills them, as in use. Both
+ * are built with the same optimisation.
  *
  * The variable DSSS_EMULATED, set by scripts/x86run, says that no real processor is timed: chips
  * per second and the multiple of 11 Mchip/s are left out then. */
 #define _POSIX_C_SOURCE 200809L
-#include "direct.h"
 #include "plain.h"
 #include "timed_leaves.h"
 
@@ -36,27 +35,13 @@ struct library {
                        size_t);
 };
 
-static uint64_t fast_eleven(uint64_t recorder, const uint8_t *chips, size_t chips_len, const int8_t *bytes,
-                            size_t bytes_len, const float *i, size_t i_len, const float *q, size_t q_len)
-{
-    return timed_eleven(0, recorder, chips, chips_len, bytes, bytes_len, i, i_len, q, q_len);
-}
+enum { DSSS, PLAIN, BOTH };
 
-static uint64_t direct_eleven(uint64_t recorder, const uint8_t *chips, size_t chips_len, const int8_t *bytes,
-                              size_t bytes_len, const float *i, size_t i_len, const float *q, size_t q_len)
-{
-    return timed_eleven(1, recorder, chips, chips_len, bytes, bytes_len, i, i_len, q, q_len);
-}
-
-enum { DSSS, PLAIN, BOTH, DIRECT = BOTH, ALL }; /* the direct way is timed at 11 Mbit/s only, where it is another */
-
-static const struct library libraries[ALL] = {
+static const struct library libraries[BOTH] = {
     {dsss_write, dsss_read_hard, dsss_read_soft, dsss_read_bytes, dsss_read_front, timed_count, timed_decide,
-     fast_eleven},
+     timed_eleven},
     {plain_write, plain_read_hard, plain_read_soft, plain_read_bytes, plain_read_front, plain_count, plain_decide,
      plain_eleven},
-    {direct_write, direct_read_hard, direct_read_soft, direct_read_bytes, direct_read_front, timed_count, timed_decide,
-     direct_eleven},
 };
 
 static const struct {
@@ -76,6 +61,7 @@ static size_t payload_len, chips_len;
 static double limit = 0.02; /* seconds */
 static int emulated;
 static volatile uint64_t sink; /* keeps what is computed from being dropped */
+static dsss_record told;       /* the answer of the last read */
 
 static void fail(const char *message)
 {
@@ -95,17 +81,20 @@ static uint64_t write_task(const struct library *l)
 
 static uint64_t read_hard_task(const struct library *l)
 {
-    return l->read_hard(kind, chips, chips_len, octets, payload_len).used;
+    told = l->read_hard(kind, chips, chips_len, octets, payload_len);
+    return told.used;
 }
 
 static uint64_t read_soft_task(const struct library *l)
 {
-    return l->read_soft(kind, i_row, chips_len, q_row, chips_len, octets, payload_len).used;
+    told = l->read_soft(kind, i_row, chips_len, q_row, chips_len, octets, payload_len);
+    return told.used;
 }
 
 static uint64_t read_bytes_task(const struct library *l)
 {
-    return l->read_bytes(kind, bytes, 2 * chips_len, octets, payload_len).used;
+    told = l->read_bytes(kind, bytes, 2 * chips_len, octets, payload_len);
+    return told.used;
 }
 
 static uint64_t read_front_task(const struct library *l)
@@ -169,12 +158,13 @@ static void set_up(uint64_t new_kind, uint64_t new_rate, size_t n)
     record_bytes();
 }
 
-/* The first so many libraries answer the same, and the payload comes back. */
-static void agree(size_t many)
+/* Both answer the same, and the payload comes back. */
+static void agree(void)
 {
     static uint8_t first[DSSS_CHIPS_MAX];
+    dsss_record answers[TASKS];
 
-    for (size_t l = 0; l < many; l++) {
+    for (size_t l = 0; l < BOTH; l++) {
         if (write_task(&libraries[l]) != chips_len)
             fail("a write is refused");
         if (l == 0)
@@ -186,6 +176,10 @@ static void agree(size_t many)
             if (tasks[t].task(&libraries[l]) != chips_len
                 || memcmp(payload, octets, payload_len) != 0)
                 fail("a payload does not come back");
+            if (l == 0)
+                answers[t] = told;
+            if (memcmp(&answers[t], &told, sizeof told) != 0)
+                fail("the answers differ");
         }
     }
 }
@@ -217,19 +211,19 @@ static int by_size(const void *a, const void *b)
     return (x > y) - (x < y);
 }
 
-/* Nanoseconds a call, for the first so many libraries. */
-static void measure(task_fn task, size_t many, double *ns)
+/* Nanoseconds a call, of both. */
+static void measure(task_fn task, double *ns)
 {
-    uint64_t count[ALL] = {1, 1, 1};
-    double times[ALL][ROUNDS];
+    uint64_t count[BOTH] = {1, 1};
+    double times[BOTH][ROUNDS];
 
-    for (size_t l = 0; l < many; l++)
+    for (size_t l = 0; l < BOTH; l++)
         while (time_of(task, &libraries[l], count[l]) < limit)
             count[l] *= 2;
     for (size_t round = 0; round < ROUNDS; round++)
-        for (size_t l = 0; l < many; l++)
+        for (size_t l = 0; l < BOTH; l++)
             times[l][round] = time_of(task, &libraries[l], count[l]) * 1e9 / (double)count[l];
-    for (size_t l = 0; l < many; l++) {
+    for (size_t l = 0; l < BOTH; l++) {
         qsort(times[l], ROUNDS, sizeof times[l][0], by_size);
         ns[l] = times[l][ROUNDS / 2];
     }
@@ -248,63 +242,48 @@ static void head(void)
     if (emulated)
         printf("UNDER AN EMULATOR: times are the emulator's; chips per second and the multiple of\n"
                "11 Mchip/s are not printed\n");
-    printf("ratio: time of dsss / time of plain C, below 1 if dsss is faster\n"
-           "fast and direct: dsss, which goes by butterflies at 11 Mbit/s, and with the 256 words tried there\n");
+    printf("ratio: time of dsss / time of plain C, below 1 if dsss is faster\n");
 }
 
-static void one_line(const char *name, const char *rate_name, task_fn task)
+/* A line of whole calls, for a frame. Answers the time of dsss. `more` is the time for each octet more than the line
+ * before has: it stays the same if the cost is linear. */
+static double one_line(size_t t, uint64_t new_kind, size_t r, size_t n, size_t n_before, double before)
 {
     double ns[BOTH];
 
-    measure(task, BOTH, ns);
-    printf("%-10s  %-5s  %4s  %7zu  %12.0f  %12.0f  %6.2f", name, kinds[kind], rate_name, chips_len,
-           ns[0], ns[1], ns[0] / ns[1]);
+    set_up(new_kind, rates[r].code, n);
+    agree();
+    measure(tasks[t].task, ns);
+    printf("%-10s  %-5s  %4s  %6zu  %7zu  %12.0f  %12.0f  %6.2f", tasks[t].name, kinds[kind], rates[r].name,
+           payload_len, chips_len, ns[DSSS], ns[PLAIN], ns[DSSS] / ns[PLAIN]);
+    if (n_before > 0)
+        printf("  %8.2f", (ns[DSSS] - before) / (double)(n - n_before));
+    else
+        printf("  %8s", "");
     if (!emulated) {
-        double rate_of_chips = (double)chips_len * 1e9 / ns[0];
+        double rate_of_chips = (double)chips_len * 1e9 / ns[DSSS];
         printf("  %9.1f  %8.2f", rate_of_chips / 1e6, rate_of_chips / 11e6);
     }
     printf("\n");
     fflush(stdout);
+    return ns[DSSS];
 }
 
-static void all_calls(void)
+static void whole_calls(void)
 {
-    printf("\nframes of %d octets\n", OCTETS);
-    printf("%-10s  %-5s  %4s  %7s  %12s  %12s  %6s%s\n", "call", "kind", "rate", "chips", "dsss ns",
-           "plain ns", "ratio", emulated ? "" : "    Mchip/s  x 11 M/s");
-    for (size_t t = 0; t < TASKS; t++)
-        for (uint64_t k = DSSS_LONG; k <= DSSS_SHORT; k++)
-            for (size_t r = k == DSSS_SHORT ? 1 : 0; r < 4; r++) {
-                set_up(k, rates[r].code, OCTETS);
-                agree(BOTH);
-                one_line(tasks[t].name, rates[r].name, tasks[t].task);
-            }
-}
+    static const size_t sizes[] = {1, 10, 100, OCTETS, DSSS_PAYLOAD_MAX};
+    double last = 0;
 
-/* Whole calls by n. The time of each octet more than the line before has stays the same if the cost is
- * linear. */
-static void by_octets(void)
-{
-    static const size_t sizes[] = {1, 10, 100, 1000, DSSS_PAYLOAD_MAX};
-    double ns[BOTH] = {0, 0}, last;
-
-    printf("\nwhole calls by octets, long; more: ns of dsss for each octet more than in the line before\n");
-    printf("%-10s  %4s  %6s  %7s  %12s  %12s  %6s  %8s\n", "call", "rate", "octets", "chips", "dsss ns", "plain ns",
-           "ratio", "more");
+    printf("\nwhole calls; more: ns of dsss for each octet more than in the line before\n");
+    printf("%-10s  %-5s  %4s  %6s  %7s  %12s  %12s  %6s  %8s%s\n", "call", "kind", "rate", "octets", "chips", "dsss ns",
+           "plain ns", "ratio", "more", emulated ? "" : "    Mchip/s  x 11 M/s");
     for (size_t t = 0; t < TASKS; t++)
-        for (size_t r = 0; r < 4; r++)
-            for (size_t s = 0; s < sizeof sizes / sizeof sizes[0]; s++) {
-                last = ns[0];
-                set_up(DSSS_LONG, rates[r].code, sizes[s]);
-                agree(BOTH);
-                measure(tasks[t].task, BOTH, ns);
-                printf("%-10s  %4s  %6zu  %7zu  %12.0f  %12.0f  %6.2f", tasks[t].name, rates[r].name, payload_len,
-                       chips_len, ns[0], ns[1], ns[0] / ns[1]);
-                if (s > 0)
-                    printf("  %8.2f", (ns[0] - last) / (double)(sizes[s] - sizes[s - 1]));
-                printf("\n");
-                fflush(stdout);
-            }
+        for (size_t r = 0; r < 4; r++) {
+            for (size_t s = 0; s < sizeof sizes / sizeof sizes[0]; s++)
+                last = one_line(t, DSSS_LONG, r, sizes[s], s > 0 ? sizes[s - 1] : 0, last);
+            if (r > 0)
+                one_line(t, DSSS_SHORT, r, OCTETS, 0, 0);
+        }
 }
 
 /* Both libraries tell the same of the front, and what they tell is the frame. */
@@ -332,52 +311,23 @@ static void fronts(void)
         for (size_t s = 0; s < sizeof sizes / sizeof sizes[0]; s++) {
             set_up(DSSS_LONG, rates[r].code, sizes[s]);
             fronts_agree();
-            measure(read_front_task, BOTH, ns);
+            measure(read_front_task, ns);
             printf("%-10s  %4s  %6zu  %7zu  %12.0f  %12.0f  %6.2f\n", "read front", rates[r].name, payload_len,
                    chips_len, ns[0], ns[1], ns[0] / ns[1]);
             fflush(stdout);
         }
 }
 
-/* ---- 11 Mbit/s, by butterflies and by the direct way ----------------------------------------- */
+/* ---- Parts of reading, to see where a reader's time goes ------------------------------------- */
 
-/* The times of a line divided by `each`, and two ratios. */
-static void three_times(const double *ns, double each, int places)
+static void part_line(const char *name, task_fn task, size_t many)
 {
-    printf("  %11.*f  %11.*f  %11.*f  %11.2f  %10.2f\n", places, ns[DSSS] / each, places, ns[DIRECT] / each, places,
-           ns[PLAIN] / each, ns[DIRECT] / ns[DSSS], ns[DSSS] / ns[PLAIN]);
+    double ns[BOTH];
+
+    measure(task, ns);
+    printf("%-26s  %10.2f  %10.2f  %6.2f\n", name, ns[DSSS] / (double)many, ns[PLAIN] / (double)many,
+           ns[DSSS] / ns[PLAIN]);
     fflush(stdout);
-}
-
-static void three_heads(void)
-{
-    printf("  %11s  %11s  %11s  %11s  %10s\n", "fast ns", "direct ns", "plain ns", "direct/fast", "fast/plain");
-}
-
-static void read_line(const char *name, task_fn task, uint64_t new_kind, size_t n)
-{
-    double ns[ALL];
-
-    set_up(new_kind, DSSS_RATE_11, n);
-    agree(ALL);
-    measure(task, ALL, ns);
-    printf("%-10s  %-5s  %6zu  %7zu", name, kinds[kind], payload_len, chips_len);
-    three_times(ns, 1, 0);
-}
-
-static void reads_at_11(void)
-{
-    static const size_t sizes[] = {1, 10, 100, 1000, DSSS_PAYLOAD_MAX};
-
-    printf("\nreads at 11 Mbit/s, and the same by the direct way\n%-10s  %-5s  %6s  %7s", "call", "kind", "octets",
-           "chips");
-    three_heads();
-    for (size_t t = 1; t < TASKS; t++) {
-        for (uint64_t k = DSSS_LONG; k <= DSSS_SHORT; k++)
-            read_line(tasks[t].name, tasks[t].task, k, OCTETS);
-        for (size_t s = 0; s < sizeof sizes / sizeof sizes[0]; s++)
-            read_line(tasks[t].name, tasks[t].task, DSSS_LONG, sizes[s]);
-    }
 }
 
 enum { BLOCK = 64, CCK = 8, RECORDERS = 3 }; /* symbols, chips */
@@ -401,34 +351,25 @@ static uint64_t eleven_task(const struct library *l)
     return sum;
 }
 
-/* All choose the same words: the last one of the blocks that start at every symbol. */
+/* Both choose the same words: the last one of the blocks that start at every symbol. */
 static void elevens_agree(void)
 {
-    for (size_t s = 0; s + BLOCK <= OCTETS; s++) {
-        uint64_t word = eleven_at(&libraries[DSSS], s);
-
-        if (word != eleven_at(&libraries[DIRECT], s) || word != eleven_at(&libraries[PLAIN], s))
+    for (size_t s = 0; s + BLOCK <= OCTETS; s++)
+        if (eleven_at(&libraries[DSSS], s) != eleven_at(&libraries[PLAIN], s))
             fail("the words chosen differ");
-    }
 }
 
 static void choices_at_11(void)
 {
-    static const char *const names[RECORDERS] = {"hard", "soft", "bytes"};
-    double ns[ALL];
+    static const char *const names[RECORDERS] = {"choice at 11 Mbit/s, hard", "choice at 11 Mbit/s, soft",
+                                                 "choice at 11 Mbit/s, bytes"};
 
-    printf("\nthe choice at 11 Mbit/s alone, a symbol, over blocks of %d\n%-8s", BLOCK, "recorder");
-    three_heads();
     set_up(DSSS_LONG, DSSS_RATE_11, OCTETS);
     for (recorder = 0; recorder < RECORDERS; recorder++) {
         elevens_agree();
-        measure(eleven_task, ALL, ns);
-        printf("%-8s", names[recorder]);
-        three_times(ns, OCTETS / BLOCK * BLOCK, 1);
+        part_line(names[recorder], eleven_task, OCTETS / BLOCK * BLOCK);
     }
 }
-
-/* ---- Parts of reading, to see where a reader's time goes ------------------------------------- */
 
 enum { ROW = 4096 }; /* samples of a part's row: the first of the payload */
 
@@ -466,16 +407,6 @@ static void parts_agree(void)
         fail("the sums of the words chosen differ");
 }
 
-static void part_line(const char *name, task_fn task, size_t many)
-{
-    double ns[BOTH];
-
-    measure(task, BOTH, ns);
-    printf("%-26s  %10.2f  %10.2f  %6.2f\n", name, ns[0] / (double)many, ns[1] / (double)many,
-           ns[0] / ns[1]);
-    fflush(stdout);
-}
-
 static void parts(void)
 {
     static const struct {
@@ -485,9 +416,9 @@ static void parts(void)
     } choices[] = {{"choice of a Barker symbol", DSSS_RATE_1, 11},
                    {"choice at 5.5 Mbit/s", DSSS_RATE_5_5, 8}};
 
-    printf("\nparts of reading, over %d soft samples; a choice counts its samples first\n"
-           "dsss looks whether each sample is usable, plain C here does not\n",
-           ROW);
+    printf("\nparts of reading: a choice is that of one soft symbol, its samples counted first, by dsss looked at\n"
+           "too, or at 11 Mbit/s of a symbol in blocks of %d, looked at by both\n",
+           BLOCK);
     printf("%-26s  %10s  %10s  %6s\n", "part", "dsss ns", "plain ns", "ratio");
     for (size_t c = 0; c < sizeof choices / sizeof choices[0]; c++) {
         set_up(DSSS_LONG, choices[c].code, OCTETS);
@@ -497,6 +428,7 @@ static void parts(void)
             part_line("count of a sample", count_task, ROW);
         part_line(choices[c].name, decide_task, ROW / symbol_chips);
     }
+    choices_at_11();
 }
 
 int main(int argc, char **argv)
@@ -509,11 +441,8 @@ int main(int argc, char **argv)
     for (size_t k = 0; k < sizeof payload; k++)
         payload[k] = (uint8_t)noise();
     head();
-    all_calls();
-    by_octets();
+    whole_calls();
     fronts();
-    reads_at_11();
-    choices_at_11();
     parts();
     return 0;
 }

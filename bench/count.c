@@ -3,11 +3,10 @@
  *   count CALL KIND RATE OCTETS TIMES
  *
  * CALL is write, hard, soft, bytes or front, KIND is long or short, RATE a rate code. The calls are those of the
- * library, or with -DOF_DIRECT or -DOF_PLAIN of that one. With -DCHOICE a call is the choice alone, of a block of 64
+ * library, or with -DOF_PLAIN those of plain C. With -DCHOICE a call is the choice alone, of a block of 64
  * symbols of 11 Mbit/s, by the recorder hard, soft or bytes. The rows are made and a call for one octet, or the choice,
  * is made first, whatever TIMES is: the difference of two runs with TIMES 0 and 1 is the instructions of one call, with
  * nothing of the program's start. scripts/instructions.sh builds what it needs and makes the two runs. */
-#include "direct.h"
 #include "plain.h"
 #include "timed_leaves.h"
 
@@ -18,12 +17,9 @@
 #if defined OF_PLAIN
 #define OF(call) plain_##call
 #define ELEVEN(...) plain_eleven(__VA_ARGS__)
-#elif defined OF_DIRECT
-#define OF(call) direct_##call
-#define ELEVEN(...) timed_eleven(1, __VA_ARGS__)
 #else
 #define OF(call) dsss_##call
-#define ELEVEN(...) timed_eleven(0, __VA_ARGS__)
+#define ELEVEN(...) timed_eleven(__VA_ARGS__)
 #endif
 
 static uint8_t payload[DSSS_PAYLOAD_MAX], chips[DSSS_CHIPS_MAX];

@@ -3,8 +3,8 @@
  * The calls take, answer and fill what dsss_write, dsss_read_hard, dsss_read_soft, dsss_read_bytes
  * and dsss_read_front do. Nothing here is proved; tests compare it with the second program.
  *
- * Compiled with -DPLAIN_AS_DSSS, plain_write.c and plain_read.c define the calls of dsss.h themselves: a stand-in for
- * the library, to test the tests (host, bridge, bench, the second program) without it. */
+ * Compiled with -DPLAIN_AS_DSSS, plain_write.c, plain_choose.c and plain_read.c define the calls of dsss.h themselves:
+ * a stand-in for the library, to test the tests (host, bridge, bench, the second program) without it. */
 #ifndef PLAIN_H
 #define PLAIN_H
 

@@ -1,4 +1,4 @@
-/* plain_frame.h: the frame in plain C, its tables and steps, for plain_write.c and plain_read.c alone.
+/* plain_frame.h: the frame in plain C, its tables and steps, for the files of plain C alone.
  *
  * A row of bits is a number here, the first bit in time being the lowest. */
 #ifndef PLAIN_FRAME_H
@@ -41,7 +41,6 @@ static const uint8_t words_55[4] = {16 * 1 + 0, 16 * 1 + 2, 16 * 3 + 0, 16 * 3 +
 
 /* Two bits, and the growth they make: 00 is 0, 01 is 1, 11 is 2, 10 is 3, first bit lowest. */
 static const uint8_t growth_of[4] = {0, 3, 1, 2};
-static const uint8_t bits_of[4] = {0, 2, 3, 1};
 
 /* Two bits, and the phase they are for p2 to p4: 01 is 1, 10 is 2, first bit lowest. Its own inverse. */
 static const uint8_t direct[4] = {0, 2, 1, 3};

@@ -1,6 +1,6 @@
 /* plain_write.c: writing a frame in plain C, after docs/RULES.md, as a good C engineer would by hand.
  *
- * With plain_read.c it is the measure beside the library in bench.c, so it is meant to be fast where plain C can be:
+ * With the readers it is the measure beside the library in bench.c, so it is meant to be fast where plain C can be:
  * four bits are scrambled at a time, and the eight chips of a word turned together. No allocation, no intrinsics,
  * nothing written for one processor. Nothing here is proved. */
 #include "plain_frame.h"

@@ -13,12 +13,10 @@ void timed_count(const float *xs, size_t n, int32_t *counts, size_t m);
  * and of rows shorter than a symbol. */
 uint64_t timed_decide(uint64_t rate, const float *i, size_t i_len, const float *q, size_t q_len);
 
-/* The number of the word that the last of the first 64 symbols of 11 Mbit/s of a recording is decided as: by
- * butterflies, or with the 256 words tried if direct is not 0. Recorder 0 is hard (octets), 1 soft (i and q), 2 bytes;
- * a recorder looks at its own rows only. 0 of another recorder, of fewer than 512 chips, and where one of these is
- * unusable. */
-uint64_t timed_eleven(uint64_t direct, uint64_t recorder, const uint8_t *octets, size_t octets_len,
-                      const int8_t *bytes, size_t bytes_len, const float *i, size_t i_len, const float *q,
-                      size_t q_len);
+/* The number of the word that the last of the first 64 symbols of 11 Mbit/s of a recording is decided as. Recorder 0 is
+ * hard (octets), 1 soft (i and q), 2 bytes; a recorder looks at its own rows only. 0 of another recorder, of fewer than
+ * 512 chips, and where one of these is unusable. */
+uint64_t timed_eleven(uint64_t recorder, const uint8_t *octets, size_t octets_len, const int8_t *bytes,
+                      size_t bytes_len, const float *i, size_t i_len, const float *q, size_t q_len);
 
 #endif

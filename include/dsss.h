@@ -43,20 +43,23 @@ extern "C" {
 /* The version, in three parts. MAJOR rises when a record or a call changes, MINOR when something is
  * added, PATCH when neither. A call whose record or parameters change gets a new symbol, which a
  * macro here stands for: an object built with an older header then does not link, and is built anew. */
-#define DSSS_VERSION_MAJOR 2
-#define DSSS_VERSION_MINOR 1
+#define DSSS_VERSION_MAJOR 3
+#define DSSS_VERSION_MINOR 0
 #define DSSS_VERSION_PATCH 0
 #define DSSS_VERSION (10000 * DSSS_VERSION_MAJOR + 100 * DSSS_VERSION_MINOR + DSSS_VERSION_PATCH)
 
 /* The symbols of the calls. C and C++ write the plain names; what goes by symbols, as another language
  * or a debugger does, finds these. dsss_read_front is its own symbol. */
 #define dsss_write dsss_write_2
-#define dsss_read_hard dsss_read_hard_2
-#define dsss_read_soft dsss_read_soft_2
-#define dsss_read_bytes dsss_read_bytes_2
+#define dsss_read_hard dsss_read_hard_3
+#define dsss_read_soft dsss_read_soft_3
+#define dsss_read_bytes dsss_read_bytes_3
 
 /* Chip octets. 0 to 3 are phases in quarter turns counter-clockwise; 5 to 255 are unusable. */
 #define DSSS_CHIP_LOST 4 /* the mark for no chip; also what fills a chip buffer past the frame */
+
+/* Leads are told in counts: so many are a full chip. */
+#define DSSS_FULL_CHIP 1024
 
 /* Kinds of preamble. */
 #define DSSS_LONG 0
@@ -71,6 +74,7 @@ extern "C" {
 /* Sizes. A frame is its front (SYNC, SFD and header) and then the payload's chips. */
 #define DSSS_FRONT_LONG 2112
 #define DSSS_FRONT_SHORT 1056
+#define DSSS_FRONT_SYMBOLS(kind) ((kind) == DSSS_LONG ? 192 : 96) /* of 11 chips each */
 #define DSSS_PAYLOAD_MAX 4095
 #define DSSS_CHIPS_MAX 362472 /* the longest frame: long, 1 Mbit/s, 4,095 octets */
 
@@ -111,7 +115,16 @@ typedef struct {
     uint64_t chips;  /* chips written, the frame's; 0 if refused */
 } dsss_written;
 
-/* The answer of a read. */
+/* The answer of a read.
+ * The lead says how clearly a symbol was won. A symbol is decided as the allowed word that scores most;
+ * its lead is that score less the best score among the other allowed words. 0 is a tie: another word
+ * scored as much, and the one with the smallest number was taken. Full chips as they were sent have
+ * leads of 11 full chips in the front and at 1 and 2 Mbit/s, of 8 at 5.5 and of 4 at 11 Mbit/s. Of hard
+ * chips and bytes a lead above 0 says that no other allowed word scores as much; of soft samples, which
+ * are rounded, a lead above 11 counts says it for their exact values, and above 8 for a payload symbol
+ * at 5.5 and 11 Mbit/s, but not for the front's. A large lead is no check of the octets either: a
+ * symbol that is spoiled whole may be won clearly.
+ * Symbols are counted from 0 at the frame's first; payload symbol k is DSSS_FRONT_SYMBOLS(kind) + k. */
 typedef struct {
     uint64_t number; /* 0, or the refusal */
     uint64_t place;  /* of refusals 9 and 10; else 0 */
@@ -120,10 +133,12 @@ typedef struct {
     uint64_t n;      /* payload octets; 0 if refused */
     uint64_t used;   /* chips of the frame, front and payload; 0 if refused */
     uint64_t clock;  /* the clock bit, SERVICE bit 2, as 0 or 1; 0 if refused, also behind a good header */
+    uint64_t lead;   /* the smallest lead in the frame, front included, in counts; 0 if refused */
+    uint64_t symbol; /* the first symbol that has it, front included; 0 if refused */
 } dsss_record;
 
-/* The answer of a read of the front: what is coming. The clock bit stands before n, not last as in
- * dsss_record. */
+/* The answer of a read of the front: what is coming. The clock bit stands before n, not behind used as
+ * in dsss_record; no lead is told. */
 typedef struct {
     uint64_t number; /* 0, or the refusal */
     uint64_t place;  /* of refusals 9 and 10; else 0 */
@@ -156,11 +171,12 @@ dsss_written dsss_write(uint64_t kind, uint64_t rate, uint64_t phase, uint64_t c
  *   chips    the recording, chip octets; it starts at the frame's first chip, and what
  *            stands after the frame is not looked at                      refusals 8 to 16
  *   octets   lent, at least the payload's; DSSS_PAYLOAD_MAX always do     refusal 17
- * Answer:  number 0, the rate code, LENGTH, n, the chips used and the clock bit; place 0.
+ * Answer:  number 0, the rate code, LENGTH, n, the chips used, the clock bit, and the smallest lead
+ *          with its symbol; place 0.
  * Refused: the number; the place of a 9 or 10; LENGTH for 13 to 17 and for a 9 or 10 in the
- *          payload; all else 0, the clock bit too.
+ *          payload; all else 0, the clock bit, the lead and its symbol too.
  * Buffer:  octets[] is the payload and then 0s; refused, all 0s.
- * Proved:  crates/dsss, dsss_read_hard_2, record ReadHard: answer and octets. */
+ * Proved:  crates/dsss, dsss_read_hard_3, record ReadHard: answer and octets. */
 dsss_record dsss_read_hard(uint64_t kind, const uint8_t *chips, size_t chips_len, uint8_t *octets,
                            size_t octets_len);
 
@@ -171,11 +187,12 @@ dsss_record dsss_read_hard(uint64_t kind, const uint8_t *chips, size_t chips_len
  *            an infinity or above 8 in magnitude                          refusals 7 to 16
  *   octets   lent, at least the payload's; DSSS_PAYLOAD_MAX always do     refusal 17
  * Samples are rounded to the nearest 1/1024, halves to even, in the default rounding mode.
- * Answer:  number 0, the rate code, LENGTH, n, the chips used and the clock bit; place 0.
+ * Answer:  number 0, the rate code, LENGTH, n, the chips used, the clock bit, and the smallest lead
+ *          with its symbol; place 0.
  * Refused: the number; the place of a 9 or 10; LENGTH for 13 to 17 and for a 9 or 10 in the
- *          payload; all else 0, the clock bit too.
+ *          payload; all else 0, the clock bit, the lead and its symbol too.
  * Buffer:  octets[] is the payload and then 0s; refused, all 0s.
- * Proved:  crates/dsss, dsss_read_soft_2, record ReadSoft: answer and octets. */
+ * Proved:  crates/dsss, dsss_read_soft_3, record ReadSoft: answer and octets. */
 dsss_record dsss_read_soft(uint64_t kind, const float *i, size_t i_len, const float *q,
                            size_t q_len, uint8_t *octets, size_t octets_len);
 
@@ -187,11 +204,12 @@ dsss_record dsss_read_soft(uint64_t kind, const float *i, size_t i_len, const fl
  *                                                                         refusals 7, 8, 10 to 16
  *   octets   lent, at least the payload's; DSSS_PAYLOAD_MAX always do     refusal 17
  * Each byte is taken as it is, in 64ths of a full chip: nothing is rounded, and -128 is not clamped.
- * Answer:  number 0, the rate code, LENGTH, n, the chips used and the clock bit; place 0.
+ * Answer:  number 0, the rate code, LENGTH, n, the chips used, the clock bit, and the smallest lead
+ *          with its symbol; place 0.
  * Refused: the number; the place of a 10, in chips; LENGTH for 13 to 17 and for a 10 in the
- *          payload; all else 0, the clock bit too.
+ *          payload; all else 0, the clock bit, the lead and its symbol too.
  * Buffer:  octets[] is the payload and then 0s; refused, all 0s.
- * Proved:  crates/dsss, dsss_read_bytes_2, record ReadBytes: answer and octets. */
+ * Proved:  crates/dsss, dsss_read_bytes_3, record ReadBytes: answer and octets. */
 dsss_record dsss_read_bytes(uint64_t kind, const int8_t *bytes, size_t bytes_len, uint8_t *octets,
                             size_t octets_len);
 

@@ -7,13 +7,13 @@
 # error, and the lent buffer is not set, so that what a call leaves unwritten, or makes of old contents, is one too.
 set -eu
 cd "$(dirname "$0")/.."
-families=empty_rows,read_rooms,write_edges,cut_recordings,long_refused,coming_rooms
+families=empty_rows,read_rooms,write_edges,cut_recordings,long_refused,coming_rooms,leads_as_sent
 flags='-std=c99 -Wall -Wextra -Wpedantic -Werror -Iinclude -g'
 sanitized='-fsanitize=address,undefined -fno-sanitize-recover=all'
 if [ "$(uname -m)" = x86_64 ]; then
     library=target/staticlib/libdsss.a
 else
-    library='-DPLAIN_AS_DSSS bench/plain_write.c bench/plain_read.c'
+    library='-DPLAIN_AS_DSSS bench/plain_write.c bench/plain_choose.c bench/plain_read.c'
 fi
 mkdir -p target/c
 # shellcheck disable=SC2086 # lists of words

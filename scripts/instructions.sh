@@ -1,14 +1,13 @@
 #!/bin/sh
-# instructions.sh [-l dsss|direct|plain|all] [-c write|hard|soft|bytes|front|choice|all] [-k long|short]
+# instructions.sh [-l dsss|plain|all] [-c write|hard|soft|bytes|front|choice|all] [-k long|short]
 #                 [-r RATE|all] [-n OCTETS]
 #
-# Instructions a chip of whole calls: one line a call, rate and library. These are the library, the same by the direct
-# way where that differs, in reads at 11 Mbit/s, and plain C. A read of the front looks at no payload chip: its
-# instructions are counted with few octets and with most, at 1 and 11 Mbit/s, if none are asked for, and should not
-# differ. A choice is that of a block of 64 symbols of 11 Mbit/s alone. Each figure is the difference of two runs,
-# without the call and with it. On x86-64 valgrind counts (callgrind); elsewhere the emulator of the kit logs each
-# instruction that it runs, about a million a second, and the lines of its log are counted. The archives of target/ are
-# taken as they stand, and only those asked for: `make archives` makes all.
+# Instructions a chip of whole calls: one line a call, rate and library, that is the library and plain C. A read of the
+# front looks at no payload chip: its instructions are counted with few octets and with most, at 1 and 11 Mbit/s, if
+# none are asked for, and should not differ. A choice is that of a block of 64 symbols of 11 Mbit/s alone. Each figure
+# is the difference of two runs, without the call and with it. On x86-64 valgrind counts (callgrind); elsewhere the
+# emulator of the kit logs each instruction that it runs, about a million a second, and the lines of its log are
+# counted. The archives of target/ are taken as they stand, and only those asked for: `make archives` makes all.
 set -eu
 cd "$(dirname "$0")/.."
 
@@ -23,7 +22,7 @@ while getopts l:c:k:r:n: option; do
     *) exit 2 ;;
     esac
 done
-[ "$library" != all ] || library='dsss direct plain'
+[ "$library" != all ] || library='dsss plain'
 [ "$call" != all ] || call='write hard soft bytes front choice'
 mkdir -p target/c
 work=$(mktemp -d)
@@ -33,9 +32,7 @@ build() { # build LIBRARY [choice]: $program counts its calls, or its choice, an
     program=target/c/count.$1${2:+.choice}
     case $1$2 in
     plain*) archive='' of=-DOF_PLAIN ;;
-    direct) archive=target/direct/libdirect.a of=-DOF_DIRECT ;;
     dsss) archive=target/staticlib/libdsss.a of='' ;;
-    direct*) archive=target/staticlib/libtimed_leaves.a of=-DOF_DIRECT ;;
     dsss*) archive=target/staticlib/libtimed_leaves.a of='' ;;
     *)
         echo "instructions.sh: no library $1" >&2
@@ -48,8 +45,8 @@ build() { # build LIBRARY [choice]: $program counts its calls, or its choice, an
     }
     # shellcheck disable=SC2086 # words that may be missing
     if [ ! -f $program ] || [ -n "$(find $archive bench include -newer $program)" ]; then
-        scripts/x86cc $program bench/count.c bench/plain_write.c bench/plain_read.c $archive -- \
-            -std=c99 -Iinclude -O3 $of ${2:+-DCHOICE}
+        scripts/x86cc $program bench/count.c bench/plain_write.c bench/plain_choose.c bench/plain_read.c $archive -- \
+            -std=c99 -Iinclude -O3 -fno-trapping-math $of ${2:+-DCHOICE}
     fi
 }
 
@@ -84,10 +81,6 @@ rates_or() { # rates_or RATES: those asked for, or these
     if [ "$rate" = all ]; then echo "$1"; else echo "$rate"; fi
 }
 
-differs() { # differs LIBRARY CALL RATE: whether its code there is not that of the library
-    [ "$1" != direct ] || [ "$library" = direct ] || { [ "$2" != write ] && [ "$2" != front ] && [ "$3" = 110 ]; }
-}
-
 lines() { # lines CALL RATES SIZES [choice]: a choice is that of a block, whatever OCTETS says
     sizes=${octets:-$3}
     [ -z "${4:-}" ] || sizes=$3
@@ -95,9 +88,7 @@ lines() { # lines CALL RATES SIZES [choice]: a choice is that of a block, whatev
         [ "$kind $r" != 'short 10' ] || continue
         for n in $sizes; do
             for l in $library; do
-                if differs "$l" "$1" "$r"; then
-                    line "$l" "$1" "$r" "$n" "${4:-}"
-                fi
+                line "$l" "$1" "$r" "$n" "${4:-}"
             done
         done
     done

@@ -4,10 +4,11 @@
  * by radio. Here the frames go from the writer to the reader in memory: at every kind and rate,
  * from other recorders, with the clock bit, then spoiled, then cut short. Then the host does as it
  * does at the table: it asks what is coming, tells the fitter of it and of how the payload's chips came
- * through, sets aside just as many octets, and only then reads. What comes from the air may be any
- * octets, so it is shown escaped. A caption of an earlier exhibition must never be seen again: before
- * each read the octet buffer is full of one, and after it what is left of it is counted. All memory is
- * in the static rows below; those that are lent for writing stand between guard octets, which must
+ * through, sets aside just as many octets, and only then reads. Of each caption the fitter is told how
+ * clearly its symbols were won, so that an aerial is moved before captions fail. What comes from the air
+ * may be any octets, so it is shown escaped. A caption of an earlier exhibition must never be seen again:
+ * before each read the octet buffer is full of one, and after it what is left of it is counted. All memory
+ * is in the static rows below; those that are lent for writing stand between guard octets, which must
  * stay as they were. */
 #include "dsss.h"
 
@@ -17,6 +18,9 @@
 
 enum { CAPTION_MAX = 64, CHIPS_MAX = DSSS_FRONT_LONG + 88 * CAPTION_MAX, ASIDE_MAX = 224 };
 enum { GUARD = 32, GUARD_OCTET = 0x5C };
+
+/* A lead of two full chips or less: one more chip lost may give another caption. */
+enum { LEAD_LOW = 2 * DSSS_FULL_CHIP };
 
 static const char *const captions[4] = {
     "Cave bear, from the front. The canines are worn blunt.",
@@ -114,7 +118,16 @@ static void show_octets(const uint8_t *row, uint64_t n)
             printf("\\x%02X", row[k]);
 }
 
-static void show(const char *what, dsss_record record)
+/* How clearly the symbol was won that came closest to another, in words for the fitter. */
+static void show_lead(uint64_t kind, dsss_record record)
+{
+    printf("    smallest lead %.2f chips, at symbol %" PRIu64 ", in the %s%s\n",
+           (double)record.lead / DSSS_FULL_CHIP, record.symbol,
+           record.symbol < DSSS_FRONT_SYMBOLS(kind) ? "front" : "payload",
+           record.lead <= LEAD_LOW ? ": move the aerial" : "");
+}
+
+static void show(const char *what, uint64_t kind, dsss_record record)
 {
     if (record.number == 0) {
         printf("%s: \"", what);
@@ -129,12 +142,14 @@ static void show(const char *what, dsss_record record)
     if (record.clock != 0)
         printf(", clock %" PRIu64, record.clock);
     puts("");
+    if (record.number == 0)
+        show_lead(kind, record);
 }
 
 static void show_hard(const char *what, uint64_t kind, uint64_t len)
 {
     fill_with_old();
-    show(what, dsss_read_hard(kind, chips.row, len, octets.row, CAPTION_MAX));
+    show(what, kind, dsss_read_hard(kind, chips.row, len, octets.row, CAPTION_MAX));
 }
 
 /* The same frame as a soft recorder gives it: weak, and with an offset on I. */
@@ -147,7 +162,7 @@ static void show_soft(const char *what, uint64_t kind, uint64_t len)
         q_row[k] = level[(chips.row[k] + 3) % 4];
     }
     fill_with_old();
-    show(what, dsss_read_soft(kind, i_row, len, q_row, len, octets.row, CAPTION_MAX));
+    show(what, kind, dsss_read_soft(kind, i_row, len, q_row, len, octets.row, CAPTION_MAX));
 }
 
 /* The same frame as the spare board records it: signed bytes, I and Q in turn, chips of 40 where a
@@ -166,7 +181,7 @@ static void record_bytes(uint64_t len)
 static void show_bytes(const char *what, uint64_t kind, uint64_t len)
 {
     fill_with_old();
-    show(what, dsss_read_bytes(kind, bytes, len, octets.row, CAPTION_MAX));
+    show(what, kind, dsss_read_bytes(kind, bytes, len, octets.row, CAPTION_MAX));
 }
 
 static void every_way(void)
@@ -219,7 +234,22 @@ static void spoiled(void)
     show_hard("the symbol at chip 550 turned by a quarter", DSSS_LONG, len);
 }
 
-/* Number 0 is not "the text is right": only the header has a check, the payload's is the MAC's. */
+/* The lead falls while the caption is still right, and is 0 where it no longer is. */
+static void aerial_out_of_place(void)
+{
+    static const char *const lost[4] = {"one chip of each symbol lost", "two", "three", "four"};
+
+    puts("\nAn aerial out of place");
+    uint64_t len = send_caption(DSSS_SHORT, DSSS_RATE_11, 0, captions[2]).chips;
+    for (size_t more = 0; more < 4; more++) {
+        for (uint64_t k = DSSS_FRONT_SHORT + 2 * more; k < len; k += 8)
+            chips.row[k] = DSSS_CHIP_LOST;
+        show_hard(lost[more], DSSS_SHORT, len);
+    }
+}
+
+/* Number 0 is not "the text is right", nor is a large lead: only the header has a check, the payload's is
+ * the MAC's. */
 static void another_text(void)
 {
     puts("\nNumber 0 with another text: one symbol of 11 Mbit/s turned by a quarter");
@@ -311,6 +341,7 @@ static void ask_and_read(const char *what, uint64_t kind, uint64_t len)
     printf("    \"");
     show_octets(row, coming.n);
     puts("\"");
+    show_lead(kind, record);
 }
 
 /* What the front tells is no word on the payload's chips: the read behind it may still be refused. */
@@ -354,6 +385,7 @@ int main(void)
     spare_board();
     locked_clocks();
     spoiled();
+    aerial_out_of_place();
     another_text();
     cut_short();
     what_is_coming();

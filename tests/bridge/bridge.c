@@ -7,11 +7,11 @@
  *   3, read soft  u64 kind, i_len, q_len, octets_len; i_len f32, q_len f32, raw bits
  *   4, read bytes u64 kind, bytes_len, octets_len; the bytes
  *   5, read front u64 kind, chips_len; the chips
- * An answer is the record (1: number, chips; 2 to 4: number, place, rate, length, n, used, clock; 5:
- * number, place, rate, length, clock, n, used, at, count; u64 each), every octet of the lent buffer as
- * the call left it, and a u64 guard: 0 if all is as it was around the rows and in those lent for reading
- * only, else 1. 5 has no lent buffer: its part stands there instead, `count` chips from the recording's
- * own chips + at on, as far as they are in the recording.
+ * An answer is the record (1: number, chips; 2 to 4: number, place, rate, length, n, used, clock, lead,
+ * symbol; 5: number, place, rate, length, clock, n, used, at, count; u64 each), every octet of the lent
+ * buffer as the call left it, and a u64 guard: 0 if all is as it was around the rows and in those lent for
+ * reading only, else 1. 5 has no lent buffer: its part stands there instead, `count` chips from the
+ * recording's own chips + at on, as far as they are in the recording.
  *
  * The lent buffer holds 0xAA before the call. A row of length 0 is passed as NULL; any other stands
  * between guard octets, octets and bytes at odd addresses, floats at multiples of 4 that are none of 16.

@@ -23,7 +23,8 @@ int main()
 
     if (written.number != DSSS_REFUSED_PAYLOAD || hard.number != DSSS_REFUSED_FRONT
         || soft.number != DSSS_REFUSED_KIND || bytes.number != DSSS_REFUSED_FRONT
-        || coming.number != DSSS_REFUSED_FRONT || coming.at != 0 || coming.count != 0) {
+        || coming.number != DSSS_REFUSED_FRONT || coming.at != 0 || coming.count != 0
+        || hard.lead != 0 || soft.symbol != 0 || bytes.lead != 0) {
         std::puts("header.cpp: a refusal is not the one expected");
         return 1;
     }

@@ -252,8 +252,8 @@ pub struct Answer {
 }
 PUBLISHED = ["dsss_read(kind: u64, chips: &[u8], octets: &mut [u8]) -> number: u64, place: u64"]
 GROWN = [  # a member more in header and source: by the old symbol refused, by a new one not
-    ("header", "uint64_t number, place", "uint64_t number, place, lead"),
-    ("frame", "pub place: u64,", "pub place: u64, pub lead: u64,"),
+    ("header", "uint64_t number, place", "uint64_t number, place, more"),
+    ("frame", "pub place: u64,", "pub place: u64, pub more: u64,"),
 ]
 RENAMED = [
     ("header", "typedef", "#define dsss_read dsss_read_2\ntypedef"),
@@ -294,7 +294,7 @@ def self_test_of_growth(texts):
     for which, old, new in RENAMED:
         texts = dict(texts, **{which: texts[which].replace(old, new, 1)})
     sources = {crate: texts[crate] for crate in SOURCES}
-    line = PUBLISHED[0].replace("dsss_read(", "dsss_read_2(") + ", lead: u64"
+    line = PUBLISHED[0].replace("dsss_read(", "dsss_read_2(") + ", more: u64"
     faults = compare(texts["header"], sources, PUBLISHED + [line])
     if faults:
         raise Fault("self-test: a new symbol for a grown record is refused: " + "; ".join(faults))

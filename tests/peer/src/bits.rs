@@ -3,7 +3,7 @@
 //! What a symbol's bits do to the phase, at each rate, and the way back.
 
 use crate::chips::{growth, turned, Counts, Phase};
-use crate::symbols::{barker, cck, cck_phases, choose, ALLOWED_11, ALLOWED_5_5, ALLOWED_BARKER};
+use crate::symbols::{barker, cck, cck_phases, choose, Choice, ALLOWED_11, ALLOWED_5_5, ALLOWED_BARKER};
 
 #[derive(Clone, Copy, PartialEq, Eq, Debug)]
 pub enum Rate {
@@ -86,8 +86,8 @@ pub fn send(rate: Rate, symbol: usize, bits: &[u8], phase: &mut Phase, chips: &m
     }
 }
 
-/// The number of the symbol decided among the words allowed at the rate.
-pub fn decide(rate: Rate, chips: &[Counts]) -> u8 {
+/// The symbol decided among the words allowed at the rate, and its lead.
+pub fn decide(rate: Rate, chips: &[Counts]) -> Choice {
     let eleven = || chips.try_into().expect("a Barker symbol has 11 chips");
     let eight = || chips.try_into().expect("a CCK symbol has 8 chips");
     match rate {

@@ -3,10 +3,11 @@
 //! Requests go ahead of the answers in batches. A batch is handed to the comparing side before it is written, and the
 //! next is handed over only when it is written whole, so neither side waits for the other in a circle.
 
-use crate::calls::{Call, Met};
+use crate::calls::{Call, Expected, Met};
 use crate::decided::{self, Seen};
 use crate::families::{Family, Out};
 use crate::figures::Figures;
+use crate::leads::{self, Won};
 use crate::relations::{Held, Relations};
 use std::collections::BTreeMap;
 use std::io::{self, BufReader, Write};
@@ -50,6 +51,8 @@ pub struct Outcome {
     pub held: BTreeMap<Held, u64>,
     /// How often symbols of 11 Mbit/s were to be decided in each way.
     pub seen: Seen,
+    /// How often the smallest leads were to stand in each way.
+    pub won: Won,
 }
 
 impl Outcome {
@@ -64,6 +67,9 @@ impl Outcome {
         }
         for (key, count) in &other.seen {
             *self.seen.entry(*key).or_default() += count;
+        }
+        for (key, count) in &other.won {
+            *self.won.entry(*key).or_default() += count;
         }
     }
 
@@ -106,7 +112,7 @@ impl Bridge {
         thread::scope(|scope| {
             scope.spawn(move || send_family(family, figures, run, requests, sender));
             for (case, call) in batches.into_iter().flatten() {
-                let (expected, met) = call.expected();
+                let Expected { answer: expected, met, leads } = call.expected();
                 let (answer, guarded) = match call.answer(answers) {
                     Ok(answered) => answered,
                     Err(error) => {
@@ -132,6 +138,7 @@ impl Bridge {
                 outcome.mismatches += u64::from(!equal);
                 *outcome.met.entry(met).or_default() += 1;
                 decided::count(&call, &expected, &mut outcome.seen);
+                leads::count(&call, &expected, &leads, &mut outcome.won);
             }
             Ok(outcome)
         })

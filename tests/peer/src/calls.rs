@@ -25,6 +25,14 @@ pub struct Answer {
     pub buffer: Vec<u8>,
 }
 
+/// What this program expects of a call: the answer that the document gives, what is counted of it, and the leads of the
+/// symbols that a full read decides, refused or not.
+pub struct Expected {
+    pub answer: Answer,
+    pub met: Met,
+    pub leads: Vec<i32>,
+}
+
 /// Where a call's answer is settled. Fronts of recordings above 6,000 chips, payloads of more than 300 octets, and
 /// places from 65,536 on, count apart: what goes wrong there only is not seen in short frames.
 #[derive(Clone, Copy, PartialEq, Eq, PartialOrd, Ord)]
@@ -93,7 +101,7 @@ impl Call {
         match self {
             Call::Write { .. } => &["number", "chips"],
             Call::ReadFront { .. } => &["number", "place", "rate", "length", "clock", "n", "used", "at", "count"],
-            _ => &["number", "place", "rate", "length", "n", "used", "clock"],
+            _ => &["number", "place", "rate", "length", "n", "used", "clock", "lead", "symbol"],
         }
     }
 
@@ -168,29 +176,31 @@ impl Call {
         }
     }
 
-    /// The answer that the document gives, and what is counted of it; a write's part goes by its payload's length. The
-    /// buffer starts with other contents than any call leaves.
-    pub fn expected(&self) -> (Answer, Met) {
+    /// What is expected of the call; a write's part goes by its payload's length. The buffer starts with other contents
+    /// than any call leaves.
+    pub fn expected(&self) -> Expected {
         let mut buffer = vec![0x77; self.lent_len()];
+        let mut leads = Vec::new();
         let (numbers, part, clock) = match self {
             Call::Write { kind, rate, phase, clock, payload, .. } => {
                 let written = write(*kind, *rate, *phase, *clock, payload, &mut buffer);
                 let told = if [0, CHIP_BUFFER].contains(&written.number) { payload.len() as u64 } else { 0 };
                 (vec![written.number, written.chips], Part::of(told, 0, 0), *clock != 0)
             }
-            Call::ReadHard { kind, chips, .. } => record(read(*kind, Recording::Hard(chips), &mut buffer), chips.len()),
-            Call::ReadSoft { kind, i, q, .. } => record(read(*kind, Recording::Soft(i, q), &mut buffer), i.len()),
-            Call::ReadBytes { kind, bytes, .. } => {
-                record(read(*kind, Recording::Bytes(bytes), &mut buffer), bytes.len() / 2)
-            }
             Call::ReadFront { kind, chips } => {
                 let front = coming(*kind, chips);
                 buffer.extend(front.part);
                 front_record(front, chips.len())
             }
+            Call::ReadHard { kind, .. } | Call::ReadSoft { kind, .. } | Call::ReadBytes { kind, .. } => {
+                let recording = self.recording().expect("a full read has one");
+                let mut read = read(*kind, recording, &mut buffer);
+                leads = std::mem::take(&mut read.leads);
+                record(read, recording.chips())
+            }
         };
         let met = Met { op: self.op(), part, number: numbers[0], clock };
-        (Answer { numbers, buffer }, met)
+        Expected { answer: Answer { numbers, buffer }, met, leads }
     }
 
     /// The call with all its numbers and its rows in hex, each row cut after so many octets.
@@ -258,8 +268,9 @@ impl Call {
 }
 
 fn record(read: crate::reading::Read, recorded: usize) -> (Vec<u64>, Part, bool) {
-    let part = Part::of(read.told, read.place, recorded);
-    (vec![read.number, read.place, read.rate, read.length, read.n, read.used, read.clock], part, read.clock_read)
+    let crate::reading::Read { number, place, rate, length, n, used, clock, lead, symbol, .. } = read;
+    let numbers = vec![number, place, rate, length, n, used, clock, lead, symbol];
+    (numbers, Part::of(read.told, place, recorded), read.clock_read)
 }
 
 fn front_record(front: Coming, recorded: usize) -> (Vec<u64>, Part, bool) {

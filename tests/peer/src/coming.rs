@@ -4,7 +4,7 @@
 //! without the payload's 9 and 10. No chip behind the front is looked at.
 
 use crate::chips::Recording;
-use crate::reading::{read_front, told_by, Read};
+use crate::reading::{read_front, told_by, Heard, Read};
 use crate::refusals;
 
 /// What is told. Of a refusal the part is empty, and all but number, place and LENGTH is 0.
@@ -28,7 +28,7 @@ pub struct Coming<'a> {
 
 /// What is coming in a hard recording. 16 compares the recording's length with the chips of the whole frame.
 pub fn coming(kind: u64, chips: &[u8]) -> Coming<'_> {
-    let front = match read_front(kind, Recording::Hard(chips)) {
+    let front = match read_front(kind, Recording::Hard(chips), &mut Heard::default()) {
         Ok(front) => front,
         Err(Read { number, place, .. }) => return Coming { number, place, ..Coming::default() },
     };

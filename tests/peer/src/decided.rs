@@ -33,7 +33,7 @@ pub type Seen = BTreeMap<(&'static str, Decided), u64>;
 /// Counts how the symbols of a good read were decided, by what is expected of it.
 pub fn count(call: &Call, expected: &Answer, seen: &mut Seen) {
     let Some(recording) = call.recording() else { return };
-    let [0, _, rate, _, n, used, _] = expected.numbers[..] else { return };
+    let [0, _, rate, _, n, used, ..] = expected.numbers[..] else { return };
     if rate != u64::from(Rate::Mbit11.code()) {
         return;
     }

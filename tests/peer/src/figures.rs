@@ -3,10 +3,10 @@
 //! A missing file, a file without a source, or one with fewer cases than it should have is a failure, never a skip.
 
 use crate::bits::{growth_of_two, half_turn, Rate};
-use crate::chips::{growth, turned, Phase};
+use crate::chips::{growth, turned, Chip, Phase};
 use crate::frame::{crc, front_bits, lowest_first, scramble, Header, Kind};
 use crate::refusals::MOST_OCTETS;
-use crate::symbols::{barker, cck, ALLOWED_11};
+use crate::symbols::{barker, cck, choose, ALLOWED_11};
 use std::fs;
 use std::path::Path;
 
@@ -100,8 +100,18 @@ impl Figures {
         })
     }
 
+    /// A word as it was sent leads by its distance from the nearest other one, in full chips.
+    fn leads_are_distances(&self) -> bool {
+        let nearest = self.cck_distances.iter().map(|(distance, _)| *distance).filter(|distance| *distance > 0).min();
+        let lead = |word: &[Phase; 8]| choose(&ALLOWED_11, &word.map(|phase| Chip::Hard(phase).counts())).lead;
+        ALLOWED_11.iter().all(|(_, word)| nearest == Some(lead(word) as usize / 1024))
+    }
+
     /// Compares this program with each file; answers how many figures each gave.
     pub fn check(&self) -> Result<Vec<(&'static str, usize)>, String> {
+        if !self.leads_are_distances() {
+            return Err(format!("{CCK_DISTANCES}: the smallest isn't the lead that this program finds"));
+        }
         let length = |figure: &LengthFigure| {
             figure.rate.length_of(figure.n) == (figure.length, figure.bit7)
                 && figure.rate.octets_of(figure.length as u16, figure.bit7) == figure.n as i64

@@ -46,6 +46,7 @@ mod calls;
 mod decided;
 mod families;
 mod figures;
+mod leads;
 mod owed;
 mod random;
 mod relations;

@@ -1,12 +1,17 @@
 //! What a whole run owes: so many calls, each number of each op and part at least so often, with the clock bit and
 //! without it, and no other number at all; fronts that tell of each kind and rate, recordings alike in the front that
 //! are refused with each number, and full reads that go together with fronts in each way; symbols of 11 Mbit/s that are
-//! decided among words of one score, in each way; and no family that spends a third of all calls on one number.
+//! decided among words of one score, in each way; smallest leads in each part at each rate, shared ones, ties and those
+//! that refused reads keep; and no family that spends a third of all calls on one number.
 
 use crate::bridge::Outcome;
 use crate::calls::{Met, Part};
 use crate::decided::Decided::{self, Against, Among, ApartIn, At, Beside, ByPhase, OfEnds};
 use crate::families::pairs;
+use crate::leads::Lead::{
+    self, Above, Alone, At as LeadAt, From, InBoth, InFront, Kept, Next, OfAllowed, Shared, Tied,
+};
+use crate::leads::Stands::{First, Header, Payload, Preamble};
 use crate::relations::Held;
 
 const CALLS: u64 = 200_000;
@@ -256,21 +261,108 @@ const DECIDED: [(Decided, &str, [u64; 3]); 21] = [
 /// How often words must tie at each place among 64 symbols, by each full read.
 const AT_EACH: u64 = 79;
 
+/// A way that is owed, by its name, how often it was seen, and how often it must be.
+type Way = (&'static str, u64, u64);
+
+/// Shows how often each way was seen; what is short of it.
+fn ways(op: &str, title: &str, ways: &[Way]) -> Vec<String> {
+    let words: Vec<String> = ways.iter().map(|(shown, count, _)| format!("{shown}: {count}")).collect();
+    println!("{op:<10}  {title:<21}  {}", words.join(", "));
+    let rare = ways.iter().filter(|(_, count, least)| count < least);
+    rare.map(|(shown, count, least)| format!("{op}, {title}, {shown}: {count} times, {least} owed")).collect()
+}
+
 /// Shows how often symbols of 11 Mbit/s were decided in each way; what is short of it.
 fn decided(total: &Outcome) -> Vec<String> {
     let mut short = Vec::new();
     for (at, op) in READS.into_iter().enumerate() {
         let count = |what: Decided| total.seen.get(&(op, what)).copied().unwrap_or(0);
+        let mut seen = DECIDED.map(|(what, shown, least)| (shown, count(what), least[at])).to_vec();
         let rarest = (0..64).map(|place| count(At(place))).min().unwrap_or(0);
-        let words = DECIDED.map(|(what, shown, _)| format!("{shown}: {}", count(what)));
-        println!("{op:<10}  words that tie         {}, at each of 64 places: {rarest}", words.join(", "));
-        let rare = DECIDED.into_iter().filter(|(what, _, least)| count(*what) < least[at]);
-        short.extend(rare.map(|(what, shown, least)| {
-            format!("{op}, words tied, {shown}: {} times, {} owed", count(what), least[at])
-        }));
-        if rarest < AT_EACH {
-            short.push(format!("{op}, words tied {rarest} times at a place among 64, {AT_EACH} owed"));
-        }
+        seen.push(("at each of 64 places", rarest, AT_EACH));
+        short.extend(ways(op, "words that tie", &seen));
+    }
+    short
+}
+
+/// How often the smallest leads must stand in each way, by each full read; a rate code is the payload's. Hard chips and
+/// bytes are too small for the largest leads, hard words of 11 Mbit/s have several next, and no byte is unusable.
+const LEADS: [(Lead, &str, [u64; 3]); 49] = [
+    (Alone(First, 10), "first at 10", [7, 5, 7]),
+    (Alone(First, 20), "first at 20", [14, 13, 16]),
+    (Alone(First, 55), "first at 55", [14, 12, 15]),
+    (Alone(First, 110), "first at 110", [16, 16, 16]),
+    (Alone(Preamble, 10), "preamble at 10", [150, 81, 100]),
+    (Alone(Preamble, 20), "preamble at 20", [170, 190, 140]),
+    (Alone(Preamble, 55), "preamble at 55", [96, 80, 72]),
+    (Alone(Preamble, 110), "preamble at 110", [240, 220, 280]),
+    (Alone(Header, 10), "header at 10", [37, 42, 43]),
+    (Alone(Header, 20), "header at 20", [66, 82, 81]),
+    (Alone(Header, 55), "header at 55", [56, 46, 59]),
+    (Alone(Header, 110), "header at 110", [95, 93, 200]),
+    (Alone(Payload, 10), "payload at 10", [290, 210, 600]),
+    (Alone(Payload, 20), "payload at 20", [530, 630, 1_200]),
+    (Alone(Payload, 55), "payload at 55", [500, 790, 1_400]),
+    (Alone(Payload, 110), "payload at 110", [1_000, 1_100, 1_900]),
+    (Shared(First), "shared from the first", [2_400, 690, 1_100]),
+    (Shared(Preamble), "from the preamble", [480, 160, 210]),
+    (Shared(Header), "from the header", [44, 39, 49]),
+    (Shared(Payload), "in the payload", [5_900, 2_300, 3_600]),
+    (InBoth, "in front and payload", [2_500, 780, 1_100]),
+    (Tied(First), "0 in the first", [17, 14, 53]),
+    (Tied(Preamble), "0 in the preamble", [240, 91, 140]),
+    (Tied(Header), "0 in the header", [51, 58, 82]),
+    (Tied(Payload), "0 in the payload", [3_400, 1_500, 3_900]),
+    (OfAllowed, "of allowed words", [2_300, 1_400, 1_800]),
+    (Next(10, 1), "next a quarter on", [740, 690, 820]),
+    (Next(10, 3), "three quarters on", [590, 660, 1_000]),
+    (Next(55, 1), "next in p1 at 55", [2, 84, 140]),
+    (Next(55, 2), "in p2 at 55", [21, 45, 36]),
+    (Next(55, 4), "in p4 at 55", [28, 46, 46]),
+    (Next(55, 0), "in some at 55", [93, 430, 640]),
+    (Next(110, 2), "in p2 at 110", [0, 43, 46]),
+    (Next(110, 3), "in p3 at 110", [0, 43, 46]),
+    (Next(110, 4), "in p4 at 110", [0, 43, 45]),
+    (Next(110, 0), "in some at 110", [0, 730, 930]),
+    (From(256), "from symbol 256", [130, 110, 130]),
+    (From(32_768), "from symbol 32,768", [2, 2, 2]),
+    (Above(32_767), "above 32,767", [0, 290, 0]),
+    (Above(65_535), "above 65,535", [0, 68, 0]),
+    (Kept(9), "kept by 9", [2_700, 380, 0]),
+    (Kept(10), "by 10", [3_100, 640, 2_000]),
+    (Kept(11), "by 11", [1_200, 200, 460]),
+    (Kept(12), "by 12", [1_200, 240, 770]),
+    (Kept(13), "by 13", [13_100, 78, 880]),
+    (Kept(14), "by 14", [3_400, 720, 1_200]),
+    (Kept(15), "by 15", [5_600, 290, 720]),
+    (Kept(16), "by 16", [18_800, 450, 1_400]),
+    (Kept(17), "by 17", [670, 250, 290]),
+];
+
+/// How often one symbol alone must have the smallest lead, for each symbol of a front, and for each place among 64 in
+/// payloads of Barker symbols and of 5.5 and 11 Mbit/s.
+const LEAD_AT_EACH: [u64; 5] = [1, 1, 3, 2, 2];
+
+/// The rarest of them.
+fn lead_at_each(count: &impl Fn(Lead) -> u64) -> [Way; 5] {
+    let rarest =
+        |places: usize, of: &dyn Fn(usize) -> Lead| (0..places).map(|place| count(of(place))).min().unwrap_or(0);
+    [
+        ("each of a long front", rarest(192, &|symbol| InFront(0, symbol)), LEAD_AT_EACH[0]),
+        ("of a short front", rarest(96, &|symbol| InFront(1, symbol)), LEAD_AT_EACH[1]),
+        ("each of 64 Barker", rarest(64, &|place| LeadAt(10, place)), LEAD_AT_EACH[2]),
+        ("of 64 at 55", rarest(64, &|place| LeadAt(55, place)), LEAD_AT_EACH[3]),
+        ("of 64 at 110", rarest(64, &|place| LeadAt(110, place)), LEAD_AT_EACH[4]),
+    ]
+}
+
+/// Shows how often the smallest leads stood in each way; what is short of it.
+fn leads(total: &Outcome) -> Vec<String> {
+    let mut short = Vec::new();
+    for (at, op) in READS.into_iter().enumerate() {
+        let count = |what: Lead| total.won.get(&(op, what)).copied().unwrap_or(0);
+        short.extend(ways(op, "smallest leads", &LEADS.map(|(what, shown, least)| (shown, count(what), least[at]))));
+        short.extend(ways(op, "smallest lead alone", &lead_at_each(&count)));
     }
     short
 }
@@ -304,6 +396,7 @@ pub fn met(total: &Outcome, largest: (u64, &str)) -> Result<(), String> {
     }
     short.extend(held(total));
     short.extend(decided(total));
+    short.extend(leads(total));
     if total.calls < CALLS {
         short.push(format!("{} calls made, {CALLS} owed", total.calls));
     }

@@ -4,6 +4,7 @@ use crate::bits::{decide, receive, symbol_phase, Rate};
 use crate::chips::{Counts, Phase, Recording};
 use crate::frame::{number_of, unscramble, Header, Kind};
 use crate::refusals;
+use crate::symbols::Choice;
 
 /// The answer of a read. A refusal sets number, place and LENGTH as the table says; all else is 0.
 #[derive(Default, PartialEq, Eq, Debug)]
@@ -16,10 +17,16 @@ pub struct Read {
     pub used: u64,
     /// The clock bit of a good read.
     pub clock: u64,
+    /// The smallest lead in the frame of a good read, in counts.
+    pub lead: u64,
+    /// The first symbol that has it, counted from 0 at the frame's first.
+    pub symbol: u64,
     /// The n of a good header, in refusals of the payload too; no member of the answer's record.
     pub told: u64,
     /// Whether the clock bit stood in a header with a right CRC, whatever came of it; no member either.
     pub clock_read: bool,
+    /// The leads of the symbols that were decided, from the frame's first on, refused or not; no member either.
+    pub leads: Vec<i32>,
 }
 
 impl Read {
@@ -35,28 +42,52 @@ impl Read {
 /// A good read leaves 0 past the n octets, a refusal leaves the octet buffer zeros.
 pub fn read(kind: u64, recording: Recording, octets: &mut [u8]) -> Read {
     octets.fill(0);
-    let front = match read_front(kind, recording) {
-        Ok(front) => front,
-        Err(refused) => return refused,
+    let mut heard = Heard::default();
+    let read = match read_front(kind, recording, &mut heard) {
+        Ok(front) => read_behind(front, recording, &mut heard, octets),
+        Err(refused) => refused,
     };
-    // From refusal 13 on, in the reading order, a refusal shows the LENGTH field.
-    let (length, clock_read) = (u64::from(front.header.length), front.header.clock());
-    match read_payload(front, recording, octets) {
-        Ok(read) => Read { clock_read, ..read },
-        Err(refused) => Read { length, clock_read, ..refused },
+    Read { leads: heard.leads, ..read }
+}
+
+/// What is heard of the symbols so far: their scrambled bits in sending order, the last one's phase, their leads.
+#[derive(Default)]
+pub struct Heard {
+    scrambled: Vec<u8>,
+    phase: Phase,
+    leads: Vec<i32>,
+}
+
+impl Heard {
+    /// 10: decides a run of symbols at one rate that starts at a place.
+    fn symbols(&mut self, rate: Rate, counts: &[Counts], start: usize) -> Result<(), Read> {
+        for (symbol, chips) in counts.chunks(rate.chips_per_symbol()).enumerate() {
+            let Choice { number, lead } = decide(rate, chips);
+            let place = start + symbol * rate.chips_per_symbol();
+            let bits = receive(rate, symbol, self.phase, number, &mut self.scrambled);
+            bits.ok_or(Read::refused_at((refusals::GROWTH, place)))?;
+            self.phase = symbol_phase(rate, number);
+            self.leads.push(lead);
+        }
+        Ok(())
     }
 }
 
-/// What a front with a right CRC holds, and what the payload needs of it.
+/// The smallest of a frame's leads, and the number of the first symbol that has it.
+pub fn smallest(leads: &[i32]) -> (u64, u64) {
+    let smallest = leads.iter().min().expect("a frame has symbols");
+    let first = leads.iter().position(|lead| lead == smallest).expect("one has it");
+    (*smallest as u64, first as u64)
+}
+
+/// What a front with a right CRC holds.
 pub struct Front {
     pub kind: Kind,
     pub header: Header,
-    scrambled: Vec<u8>,
-    phase: Phase,
 }
 
 /// 1, 7, 8, then 9 and 10 over the front, 11, 12.
-pub fn read_front(kind: u64, recording: Recording) -> Result<Front, Read> {
+pub fn read_front(kind: u64, recording: Recording, heard: &mut Heard) -> Result<Front, Read> {
     let kind = Kind::of_number(kind).ok_or(Read::refused(refusals::KIND))?;
     if recording.unpaired() {
         return Err(Read::refused(refusals::ROWS));
@@ -67,14 +98,13 @@ pub fn read_front(kind: u64, recording: Recording) -> Result<Front, Read> {
     let counts = usable_counts(recording, 0, kind.front_chips()).map_err(Read::refused_at)?;
 
     // The first symbol serves only as reference: taken as grown by 0, its bit reaches SYNC bits only.
-    let mut phase = decide(Rate::Mbit1, &counts[..11]);
-    let mut scrambled = Vec::new();
+    heard.phase = decide(Rate::Mbit1, &counts[..11]).number;
     let (before_header, header) = counts.split_at(11 * kind.bits_before_header());
-    symbols(Rate::Mbit1, before_header, 0, &mut phase, &mut scrambled)?;
-    symbols(kind.header_rate(), header, before_header.len(), &mut phase, &mut scrambled)?;
+    heard.symbols(Rate::Mbit1, before_header, 0)?;
+    heard.symbols(kind.header_rate(), header, before_header.len())?;
 
     // SYNC bits aren't compared.
-    let bits = unscramble(&scrambled);
+    let bits = unscramble(&heard.scrambled);
     let (before_header, header_bits) = bits.split_at(kind.bits_before_header());
     if number_of(&before_header[before_header.len() - 16..]) != kind.sfd() {
         return Err(Read::refused(refusals::SFD));
@@ -84,12 +114,12 @@ pub fn read_front(kind: u64, recording: Recording) -> Result<Front, Read> {
     if crc_read != header.crc() {
         return Err(Read::refused(refusals::CRC));
     }
-    Ok(Front { kind, header, scrambled, phase })
+    Ok(Front { kind, header })
 }
 
 /// 13, 14, 15: the rate and the octets that the front tells, or the refusal's number.
 pub fn told_by(front: &Front) -> Result<(Rate, usize), u64> {
-    let Front { kind, header, .. } = *front;
+    let Front { kind, header } = *front;
     let rate = match Rate::of_code(u64::from(header.signal)) {
         Some(rate) if kind.has(rate) => rate,
         _ => return Err(refusals::SIGNAL),
@@ -105,15 +135,33 @@ pub fn told_by(front: &Front) -> Result<(Rate, usize), u64> {
     Ok((rate, n as usize))
 }
 
-/// 13, 14, 15, then the payload. LENGTH is added by the caller.
-fn read_payload(front: Front, recording: Recording, octets: &mut [u8]) -> Result<Read, Read> {
-    let (rate, n) = told_by(&front).map_err(Read::refused)?;
-    payload_of(front, rate, n, recording, octets).map_err(|refused| Read { told: n as u64, ..refused })
+/// 13, 14, 15, then the payload. From 13 on, in the reading order, a refusal shows the LENGTH field.
+fn read_behind(front: Front, recording: Recording, heard: &mut Heard, octets: &mut [u8]) -> Read {
+    let (length, clock) = (u64::from(front.header.length), front.header.clock());
+    let (rate, n) = match told_by(&front) {
+        Ok(told) => told,
+        Err(number) => return Read { length, clock_read: clock, ..Read::refused(number) },
+    };
+    let read = match read_payload(front.kind, rate, n, recording, heard, octets) {
+        Ok(used) => {
+            let (lead, symbol) = smallest(&heard.leads);
+            let (rate, n, clock) = (u64::from(rate.code()), n as u64, u64::from(clock));
+            Read { rate, n, used: used as u64, clock, lead, symbol, ..Read::default() }
+        }
+        Err(refused) => refused,
+    };
+    Read { length, told: n as u64, clock_read: clock, ..read }
 }
 
-/// 16, 17, then 9 and 10 over the payload of a header that is known to be good.
-fn payload_of(front: Front, rate: Rate, n: usize, recording: Recording, octets: &mut [u8]) -> Result<Read, Read> {
-    let Front { kind, header, mut scrambled, mut phase } = front;
+/// 16, 17, then 9 and 10 over the payload of a header that is known to be good; the frame's chips.
+fn read_payload(
+    kind: Kind,
+    rate: Rate,
+    n: usize,
+    recording: Recording,
+    heard: &mut Heard,
+    octets: &mut [u8],
+) -> Result<usize, Read> {
     let used = kind.front_chips() + rate.payload_chips(n);
     if recording.chips() < used {
         return Err(Read::refused(refusals::ENDS));
@@ -122,36 +170,18 @@ fn payload_of(front: Front, rate: Rate, n: usize, recording: Recording, octets: 
         return Err(Read::refused(refusals::OCTET_BUFFER));
     }
     let counts = usable_counts(recording, kind.front_chips(), used).map_err(Read::refused_at)?;
-    let front_bits = scrambled.len();
-    symbols(rate, &counts, kind.front_chips(), &mut phase, &mut scrambled)?;
+    let front_bits = heard.scrambled.len();
+    heard.symbols(rate, &counts, kind.front_chips())?;
 
-    let bits = unscramble(&scrambled);
+    let bits = unscramble(&heard.scrambled);
     for (octet, octet_bits) in octets.iter_mut().zip(bits[front_bits..].chunks(8)) {
         *octet = number_of(octet_bits) as u8;
     }
-    let (rate, length, clock) = (u64::from(rate.code()), u64::from(header.length), u64::from(header.clock()));
-    Ok(Read { rate, length, n: n as u64, used: used as u64, clock, told: n as u64, ..Read::default() })
+    Ok(used)
 }
 
 /// 9: the counts of a part's chips, or the place of its first unusable chip.
 fn usable_counts(recording: Recording, from: usize, to: usize) -> Result<Vec<Counts>, (u64, usize)> {
     let counts = |place| recording.chip(place).map(|chip| chip.counts()).ok_or((refusals::UNUSABLE, place));
     (from..to).map(counts).collect()
-}
-
-/// 10: decides a run of symbols at one rate that starts at a place; their scrambled bits are added in sending order.
-fn symbols(
-    rate: Rate,
-    counts: &[Counts],
-    start: usize,
-    phase: &mut Phase,
-    scrambled: &mut Vec<u8>,
-) -> Result<(), Read> {
-    for (symbol, chips) in counts.chunks(rate.chips_per_symbol()).enumerate() {
-        let number = decide(rate, chips);
-        let place = start + symbol * rate.chips_per_symbol();
-        receive(rate, symbol, *phase, number, scrambled).ok_or(Read::refused_at((refusals::GROWTH, place)))?;
-        *phase = symbol_phase(rate, number);
-    }
-    Ok(())
 }

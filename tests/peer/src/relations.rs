@@ -1,6 +1,7 @@
 //! How the answers over one hard recording go together, whatever this program expects of each: what its front tells,
 //! and what full reads answer.
 
+use crate::bits::Rate;
 use crate::calls::{Answer, Call};
 use crate::frame::Kind;
 use crate::refusals::{ENDS, GROWTH, OCTET_BUFFER, UNUSABLE};
@@ -111,7 +112,7 @@ impl Told {
     /// A full read of the same recording, by its numbers and its room.
     fn read(&self, numbers: &[u64], room: u64) -> Result<Held, &'static str> {
         let [number, place, rate, length, clock, n, used, at, _] = self.numbers;
-        let refused = |number: u64, place: u64| numbers == [number, place, 0, length, 0, 0, 0];
+        let refused = |number: u64, place: u64| numbers == [number, place, 0, length, 0, 0, 0, 0, 0];
         if number != 0 {
             let same = refused(number, place);
             return if same { Ok(Held::RefusedAlike) } else { Err("a full read isn't refused as the front is") };
@@ -121,12 +122,29 @@ impl Told {
             return if same { Ok(Held::ShortOfRoom) } else { Err("less room than n isn't refused with 17") };
         }
         let in_part = (at..used).contains(&numbers[1]);
-        if numbers == [0, 0, rate, length, n, used, clock] {
-            Ok(Held::ReadAlike)
+        if numbers[..7] == [0, 0, rate, length, n, used, clock] {
+            self.led(numbers[7], numbers[8])
         } else if in_part && (refused(UNUSABLE, numbers[1]) || refused(GROWTH, numbers[1])) {
             Ok(Held::SpoiledInPart)
         } else {
             Err("a full read is neither as the front told nor refused in the part")
+        }
+    }
+
+    /// The smallest lead of a good read: whole chips, no more than those of the rate's words as they were sent, at a
+    /// symbol of the frame.
+    fn led(&self, lead: u64, symbol: u64) -> Result<Held, &'static str> {
+        let [_, _, rate, _, _, _, _, at, count] = self.numbers;
+        let (most, each) = match Rate::of_code(rate) {
+            Some(Rate::Mbit11) => (4, 8),
+            Some(Rate::Mbit5_5) => (8, 8),
+            _ => (11, 11),
+        };
+        let can_be = lead % 1024 == 0 && lead <= 1024 * most && symbol < at / 11 + count / each;
+        if can_be {
+            Ok(Held::ReadAlike)
+        } else {
+            Err("a lead or a symbol that no hard recording has")
         }
     }
 }

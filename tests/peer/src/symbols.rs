@@ -1,6 +1,6 @@
 //! # Symbols
 //!
-//! Barker symbols of 11 chips, CCK words of 8 chips, their numbers, and the choice among the allowed ones.
+//! Barker symbols of 11 chips, CCK words of 8 chips, their numbers, the choice among the allowed ones, and its lead.
 
 use crate::chips::{Counts, Phase};
 
@@ -79,15 +79,31 @@ pub fn scores<'a, const N: usize>(
     allowed.iter().map(move |(number, word)| (*number, score(word)))
 }
 
-/// Deciding a symbol: the largest score wins; among equals, the smallest number.
-pub fn choose<const N: usize>(allowed: &[Numbered<N>], chips: &[Counts; N]) -> u8 {
+/// What a symbol is decided as: the number of the word that wins, and its lead in counts.
+#[derive(Clone, Copy, PartialEq, Eq, Debug)]
+pub struct Choice {
+    pub number: u8,
+    pub lead: i32,
+}
+
+/// Deciding a symbol: the largest score wins; among equals, the smallest number. The lead is that score less the best
+/// among the other allowed words: the winner alone is left out, so that it is 0 where another word scores the same.
+pub fn choose<const N: usize>(allowed: &[Numbered<N>], chips: &[Counts; N]) -> Choice {
+    let (number, most) = winner(allowed, chips);
+    let others = scores(allowed, chips).filter(|(other, _)| *other != number);
+    let best = others.map(|(_, reached)| reached).max().expect("several words are allowed");
+    Choice { number, lead: most - best }
+}
+
+/// The word that wins, and its score.
+fn winner<const N: usize>(allowed: &[Numbered<N>], chips: &[Counts; N]) -> (u8, i32) {
     let mut winner = (0, i32::MIN);
     for (number, reached) in scores(allowed, chips) {
         if reached > winner.1 {
             winner = (number, reached);
         }
     }
-    winner.0
+    winner
 }
 
 /// All words that share the largest score, in the order of their numbers: the first of them is the one that wins.

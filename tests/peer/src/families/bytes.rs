@@ -16,7 +16,7 @@ fn byte_frame(kind: Kind, rate: Rate, n: usize, random: &mut Random) -> Vec<i8> 
 /// The word decided from a symbol's bytes.
 fn decided(rate: Rate, symbol: &[i8]) -> u8 {
     let counts = |chip: &[i8]| Chip::Bytes { i: chip[0], q: chip[1] }.counts();
-    decide(rate, &symbol.chunks(2).map(counts).collect::<Vec<Counts>>())
+    decide(rate, &symbol.chunks(2).map(counts).collect::<Vec<Counts>>()).number
 }
 
 /// What a symbol's byte adds to a word's score, in bytes: I stands at even places, Q at odd ones.

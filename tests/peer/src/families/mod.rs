@@ -17,16 +17,26 @@
 //! - Words of one score chosen otherwise than by the smallest number: `ties_eleven`, `ties_eleven_largest`.
 //! - A symbol's word taken from the one beside it, or left from sixteen before: `ties_eleven`.
 //! - Words of two scores taken for a tie, a count or a byte lost on the way: `ties_eleven_broken`.
+//! - A tie's lead taken to the next lower score, all words of the winner's score left out: `leads_of_ties`.
+//! - A word that comes next lost on the way, beside the winner or behind another: `leads_of_next_words`.
+//! - At 5.5 Mbit/s the lead taken over all 256 words: `leads_as_sent`, `leads_of_allowed_words`.
+//! - The last of several symbols told, or the frame's first left out: `leads_shared`, `leads_of_one_symbol`.
+//! - A symbol's lead taken from the one beside it, or left from sixteen before: `leads_at_each_place`.
+//! - Symbols counted from the payload, or by a narrower number: `leads_of_one_symbol`, `leads_of_long_frames`.
+//! - A lead in full chips, or cut to 16 bits: `leads_as_sent`.
+//! - A lead shown in a refusal: `leads_kept`.
 
 mod bytes;
 mod coming;
 mod damage;
 mod headers;
+mod leads;
 mod long;
 mod published;
 mod refused;
 mod restored;
 mod soft;
+mod steps;
 mod ties;
 mod written;
 
@@ -108,6 +118,16 @@ families! {
     1101 ties::ties_eleven: "words that tie at 11 Mbit/s, by each recorder, payloads of each length to 70 and longer",
     1102 ties::ties_eleven_largest: "words that tie at 11 Mbit/s in values of 8 and -8, 127 and -128",
     1103 ties::ties_eleven_broken: "words that tie at 11 Mbit/s, and the same a step beside the tie, either way",
+    1201 leads::leads_as_sent: "chips as sent, of every size that a recorder has: 11, 8 and 4 of them",
+    1202 leads::leads_of_one_symbol: "the smallest lead in a chosen symbol of the preamble, the header or the payload",
+    1203 leads::leads_at_each_place: "the smallest lead in each symbol of the front and of a block of 64 behind it",
+    1204 leads::leads_shared: "several symbols of one smallest lead, and others of a little more",
+    1205 leads::leads_of_ties: "words that tie in a chosen symbol of the preamble, the header or the payload",
+    1206 leads::leads_of_allowed_words: "words beside a symbol of 5.5 Mbit/s that aren't allowed there",
+    1207 leads::leads_of_next_words: "each word that can come next behind another, alone, at 5.5 and 11 Mbit/s",
+    1208 leads::leads_in_noise: "noise over all of a frame, front included",
+    1209 leads::leads_of_long_frames: "the smallest lead in far symbols, at edges of blocks and last of 4,095 octets",
+    1210 leads::leads_kept: "refused reads, 10 and more, with symbols of small leads",
 }
 
 /// Where a family puts its calls.

@@ -1,10 +1,11 @@
 //! Ties at 11 Mbit/s, made on purpose: payload symbols in which several words share the largest score, and symbols one
 //! step beside those. They stand behind clean fronts, so that the octets tell which words were chosen.
 
+use super::steps::{hard_chip, least, most, sample, some_size, unit};
 use super::{byte_row, soft_rows, Draft, Out, Recorder};
 use crate::bits::Rate;
 use crate::calls::Call;
-use crate::chips::{Chip, Counts, LOST};
+use crate::chips::Counts;
 use crate::frame::Kind;
 use crate::random::Random;
 use crate::symbols::{choose, tied, ALLOWED_11};
@@ -20,36 +21,9 @@ fn lengths() -> impl Iterator<Item = usize> + Clone {
     (1..=70).chain([127, 128, 129, 1000])
 }
 
-/// The largest value of a recorder, in its steps.
-fn most(recorder: Recorder) -> i32 {
-    match recorder {
-        Recorder::Hard => 1,
-        Recorder::Soft => 8 * 1024,
-        Recorder::Bytes => 127,
-    }
-}
-
-/// The least value of a recorder, in its steps.
-fn least(recorder: Recorder) -> i32 {
-    match recorder {
-        Recorder::Bytes => -128,
-        _ => -most(recorder),
-    }
-}
-
-/// A size by which values of so many units are within what a recorder has: the least, the most, a full chip, any.
-fn some_size(recorder: Recorder, units: i32, random: &mut Random) -> i32 {
-    let most = most(recorder) / units;
-    let any = random.within(1, most as usize) as i32;
-    random.pick(&[1, most, most.min(64), most.min(1024), any])
-}
-
 /// A word's full chips, in units.
 fn full(number: u8) -> Symbol {
-    ALLOWED_11[usize::from(number)].1.map(|phase| {
-        let (i, q) = Chip::Hard(phase).counts();
-        (i / 1024, q / 1024)
-    })
+    ALLOWED_11[usize::from(number)].1.map(unit)
 }
 
 fn sized(symbol: Symbol, size: i32) -> Symbol {
@@ -157,7 +131,7 @@ fn is_new(word: u8, words: &[u8]) -> bool {
 fn laid(symbols: &[Symbol], random: &mut Random) -> Vec<Symbol> {
     let (mut row, mut words) = (Vec::new(), Vec::new());
     for symbol in symbols {
-        let word = choose(&ALLOWED_11, symbol);
+        let word = choose(&ALLOWED_11, symbol).number;
         while !is_new(word, &words) {
             let any = random.below(256) as u8;
             if is_new(any, &words) {
@@ -169,26 +143,6 @@ fn laid(symbols: &[Symbol], random: &mut Random) -> Vec<Symbol> {
         words.push(word);
     }
     row
-}
-
-/// A soft sample that counts as the given number: just that, a quarter of a count beside it, or a half that goes to it.
-fn sample(count: i32, random: &mut Random) -> f32 {
-    let quarters = match (count.abs(), count % 2) {
-        (8192, _) => 0,
-        (_, 0) => random.pick(&[0, 0, 0, 1, -1, 2, -2]),
-        _ => random.pick(&[0, 0, 0, 1, -1]),
-    };
-    let value = (4 * count + quarters) as f32 / 4096.0;
-    if value == 0.0 && random.once_in(2) {
-        -0.0
-    } else {
-        value
-    }
-}
-
-/// A phase, or lost.
-fn hard_chip(chip: &Counts) -> u8 {
-    (0..4).find(|phase| Chip::Hard(*phase).counts() == (1024 * chip.0, 1024 * chip.1)).unwrap_or(LOST)
 }
 
 /// The symbols behind a clean front as a recorder has them.
