@@ -2,7 +2,7 @@
 -- and products by a natural number are such again. A number that is natural keeps the natural number.
 -- Assumes nothing.
 use mathlib.Core.Path.{_≡_, refl, sym, ap, _∙_, subst}
-use Prim.Native.Nat.{ℕ, suc, _+_, _*_, _-_, _^_, _≤_, _<_}
+use Prim.Native.Nat.{ℕ, suc, _+_, _*_, _-_, _^_, _<_}
 use native.Mathlib.Nat.{mul-le-mul-left, mul-le-mul-right, mul-add, mul-zero}
 use native.Mathlib.Omega.{arith}
 use lib.IntN.{ℤ, pos, negsuc, negℤ, _+ℤ_, _-ℤ_, _*ℤ_, *ℤ-comm, *ℤ-negsuc}
@@ -10,7 +10,7 @@ use mir.Syntax.{Width}
 use mir.Val.{SFits, toZ, ofZ, hbits}
 use mir.Facts.{toZ-ofZ}
 use Rattle.base.specs.Whole.{up, dn, Within}
-use Rattle.base.proofs.Whole.{add, neg-up, neg-dn, up-pos, dn-pos, same, fits-at, within-more, within-add, within-neg}
+use Rattle.base.proofs.Whole.{neg-up, neg-dn, up-pos, dn-pos, fits-at, within-more, within-add, within-neg}
 
 -- the bits s stand for z, which is from -b to b
 pub record Reads (w : Width) (b s : ℕ) (z : ℤ) : Type 0 where
@@ -94,20 +94,3 @@ module _ (w : Width) {z : ℤ} {k : ℕ} (e : z ≡ pos k) (l : k < 2 ^ hbits w)
 
   pub held : toZ w (ofZ w z) ≡ pos k
   held = made e (within-pos k) l .is
-
-pub sub-pos : {y z : ℤ} {j k : ℕ} → y ≡ pos j → z ≡ pos k → k ≤ j → y -ℤ z ≡ pos (j - k)
-sub-pos {j = j} {k} a b h =
-    (λ i. a i -ℤ b i)
-    ∙ same (pos j -ℤ pos k) (pos (j - k))
-    (omega (
-      arith,
-      add (pos j) (negℤ (pos k)),
-      neg-up (pos k),
-      neg-dn (pos k),
-      up-pos j,
-      dn-pos j,
-      up-pos k,
-      dn-pos k,
-      up-pos (j - k),
-      dn-pos (j - k),
-    ))
