@@ -20,6 +20,8 @@ use Rattle.calls.specs.Writing.{writingOf, chipsWritten}
 use Rattle.reading.specs.Reading.{readingOf, octetsFound}
 use Rattle.coming.specs.declared.Coming.{Coming}
 use Rattle.coming.specs.Coming.{frontReading, comingOf, partOf}
+use Rattle.finding.specs.declared.Found.{Found}
+use Rattle.finding.specs.Finding.{findingOf, foundOf}
 use Rattle.clean.specs.Clean.{Exactly, byteRow}
 
 -- the writer: its answer, and the chip buffer of `room` chips at the end
@@ -49,6 +51,10 @@ pub record ReadFront (kind : ℕ) (chips : List ℕ) (c : Coming) : Type 0 where
 -- the part of a recording that is handed back for such an answer; in C it is the two numbers
 pub record Handed (c : Coming) (chips part : List ℕ) : Type 0 where
   pub chips-are : part ≡ partOf (c .at) (c .count) chips
+
+-- the call that finds a start in a recording, of so many offsets to try: its answer
+pub record Finds (kind offsets : ℕ) (chips : List ℕ) (f : Found) : Type 0 where
+  pub answer : f ≡ foundOf (findingOf kind offsets (hardRecording chips))
 
 -- a good read's answer, and a refused one's with a place and without
 abbrev pub good : ℕ → ℕ → ℕ → ℕ → ℕ → ℕ → ℕ → Record

@@ -3,4 +3,5 @@ pub mod Right
 pub mod Leads
 pub mod Only
 pub mod Coming
+pub mod Finding
 pub mod Promises
