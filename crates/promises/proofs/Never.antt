@@ -27,7 +27,6 @@ use Rattle.reading.specs.Reading.{firstUnusable, frontOf, wholeOf, payloadReadi
 use Rattle.promises.specs.Calls.{Read}
 use Rattle.promises.specs.Only.{SevenOnly, NoByteUnusable}
 use Rattle.reading.proofs.Refusals.{
-  WholeRefusal,
   front-short,
   front-unusable,
   front-odd,
@@ -36,6 +35,8 @@ use Rattle.reading.proofs.Refusals.{
   no-signal,
   no-service,
   no-length,
+  WholeRefusal,
+  met-in-front,
   frame-ends,
   RefusesIf,
   whole-refuses,
@@ -135,14 +136,15 @@ not-nine : (k : Kind) (agree : Bool) (rec : List Taken) (e : Refusal) → NoneUn
     → refusalNumber e ≡ 9 → ⊥
 not-nine k agree rec e u no-kind z = omega arith
 not-nine k agree rec e u (rows-differ d) z = omega arith
-not-nine k agree rec e u (by-front front-short) z = omega arith
-not-nine k agree rec e u (by-front (front-unusable p f)) z = no-some (none-found 0 (usable-take (frontChips k) u)) f
-not-nine k agree rec e u (by-front (front-odd p f)) z = omega arith
-not-nine k agree rec e u (by-front sfd-differs) z = omega arith
-not-nine k agree rec e u (by-front crc-differs) z = omega arith
-not-nine k agree rec e u (by-front (no-signal l)) z = omega arith
-not-nine k agree rec e u (by-front (no-service l)) z = omega arith
-not-nine k agree rec e u (by-front (no-length l)) z = omega arith
+not-nine k agree rec e u (by-front (met-in-front front-short)) z = omega arith
+not-nine k agree rec e u (by-front (met-in-front (front-unusable p f))) z =
+    no-some (none-found 0 (usable-take (frontChips k) u)) f
+not-nine k agree rec e u (by-front (met-in-front (front-odd p f))) z = omega arith
+not-nine k agree rec e u (by-front (met-in-front sfd-differs)) z = omega arith
+not-nine k agree rec e u (by-front (met-in-front crc-differs)) z = omega arith
+not-nine k agree rec e u (by-front (met-in-front (no-signal l))) z = omega arith
+not-nine k agree rec e u (by-front (met-in-front (no-service l))) z = omega arith
+not-nine k agree rec e u (by-front (met-in-front (no-length l))) z = omega arith
 not-nine k agree rec e u (by-front (frame-ends l)) z = omega arith
 not-nine k agree rec e u (by-payload t no-room) z = omega arith
 not-nine k agree rec e u (by-payload t (payload-unusable p f)) z =

@@ -1,5 +1,5 @@
 -- Places lie in the part that they are found in: those of 9 and 10 in a front, and in a payload.
---     whole-place    a front's
+--     front-place, whole-place    a front's
 --     payload-unusable-place, payload-odd-place    a payload's
 --     payload-odd-rate       a 10 comes at 1 Mbit/s only
 --     decidedWords-length    as many words as symbols
@@ -42,7 +42,7 @@ use Rattle.reading.proofs.Local.{preamble-fits, header-fits}
 use Rattle.reading.proofs.Payloads.{foundUnusable}
 use Rattle.reading.proofs.Telling.{searched}
 use Rattle.reading.proofs.Refusals.{
-  WholeRefusal,
+  FrontRefusal,
   front-short,
   front-unusable,
   front-odd,
@@ -51,6 +51,8 @@ use Rattle.reading.proofs.Refusals.{
   no-signal,
   no-service,
   no-length,
+  WholeRefusal,
+  met-in-front,
   frame-ends,
 }
 
@@ -131,15 +133,18 @@ module _ (k : Kind) (rec : List Taken) (p : ℕ) where
   front-odd-place e = within-at odd-in-front e .1
 
 -- whatever a front is refused with
+pub front-place : (k : Kind) (rec : List Taken) {e : Refusal} → FrontRefusal k rec e → refusalPlace e < frontChips k
+front-place k rec front-short = some-chips k
+front-place k rec (front-unusable p f) = front-unusable-place k rec p f
+front-place k rec (front-odd p f) = front-odd-place k rec p f
+front-place k rec sfd-differs = some-chips k
+front-place k rec crc-differs = some-chips k
+front-place k rec (no-signal l) = some-chips k
+front-place k rec (no-service l) = some-chips k
+front-place k rec (no-length l) = some-chips k
+
 pub whole-place : (k : Kind) (rec : List Taken) {e : Refusal} → WholeRefusal k rec e → refusalPlace e < frontChips k
-whole-place k rec front-short = some-chips k
-whole-place k rec (front-unusable p f) = front-unusable-place k rec p f
-whole-place k rec (front-odd p f) = front-odd-place k rec p f
-whole-place k rec sfd-differs = some-chips k
-whole-place k rec crc-differs = some-chips k
-whole-place k rec (no-signal l) = some-chips k
-whole-place k rec (no-service l) = some-chips k
-whole-place k rec (no-length l) = some-chips k
+whole-place k rec (met-in-front h) = front-place k rec h
 whole-place k rec (frame-ends l) = some-chips k
 
 -- ---- payloads

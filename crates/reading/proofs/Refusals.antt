@@ -1,6 +1,7 @@
--- What a recording is refused with, past its kind and its rows: each refusal that its front can meet, 16 included, and
+-- What a recording is refused with, past its kind and its rows: each refusal that its front can meet, 16 besides, and
 -- each that its payload can, with the search that found a place.
---     whole-refuses, whole-number      fronts, and the numbers of their refusals
+--     front-refuses, front-number      fronts, whatever follows them: 8 to 15
+--     whole-refuses, whole-number      fronts, and recordings that end in the payload: 8 to 16
 --     payload-comes, payload-number    payloads, and that a good one had room
 -- By the tests of the definitions, followed to their ends. Assumes nothing.
 use mathlib.Core.Path.{_≡_, refl}
@@ -45,64 +46,75 @@ use Rattle.reading.proofs.Telling.{searched}
 
 -- ---- fronts
 
+pub data FrontRefusal (k : Kind) (rec : List Taken) : Refusal → Type 0 where
+  front-short : FrontRefusal k rec ShorterThanFront
+  front-unusable : (p : ℕ) → firstUnusable 0 (take (frontChips k) rec) ≡ some p → FrontRefusal k rec (Unusable p 0)
+  front-odd : (p : ℕ) → frontOdd k rec ≡ some p → FrontRefusal k rec (OddGrowth p 0)
+  sfd-differs : FrontRefusal k rec Sfd
+  crc-differs : FrontRefusal k rec Crc
+  no-signal : (l : ℕ) → FrontRefusal k rec (Signal l)
+  no-service : (l : ℕ) → FrontRefusal k rec (Service l)
+  no-length : (l : ℕ) → FrontRefusal k rec (Length l)
+
 pub data WholeRefusal (k : Kind) (rec : List Taken) : Refusal → Type 0 where
-  front-short : WholeRefusal k rec ShorterThanFront
-  front-unusable : (p : ℕ) → firstUnusable 0 (take (frontChips k) rec) ≡ some p → WholeRefusal k rec (Unusable p 0)
-  front-odd : (p : ℕ) → frontOdd k rec ≡ some p → WholeRefusal k rec (OddGrowth p 0)
-  sfd-differs : WholeRefusal k rec Sfd
-  crc-differs : WholeRefusal k rec Crc
-  no-signal : (l : ℕ) → WholeRefusal k rec (Signal l)
-  no-service : (l : ℕ) → WholeRefusal k rec (Service l)
-  no-length : (l : ℕ) → WholeRefusal k rec (Length l)
+  met-in-front : {e : Refusal} → FrontRefusal k rec e → WholeRefusal k rec e
   frame-ends : (l : ℕ) → WholeRefusal k rec (Ends l)
 
 module _ (k : Kind) (rec : List Taken) where
+  abbrev pub FrontIf : Front → Type 0
+  FrontIf (front.Refused e) = FrontRefusal k rec e
+  FrontIf (front.Fields t) = Unit {0}
+
   abbrev pub RefusesIf : Front → Type 0
   RefusesIf (front.Refused e) = WholeRefusal k rec e
   RefusesIf (front.Fields t) = Unit {0}
 
-  fields-refuse : (signal service l : ℕ) → RefusesIf (fieldsOf k signal service l)
+  fields-refuse : (signal service l : ℕ) → FrontIf (fieldsOf k signal service l)
   unfolding fieldsOf
   fields-refuse signal service l =
       let r = rateOf signal in
-      branch RefusesIf (not (isCode signal && goesWith k r)) _ _ (no-signal l)
-      (λ a. branch RefusesIf (not (serviceAllowed r service)) _ _ (no-service l)
-      (λ b. branch RefusesIf (not (lengthHolds r l (service / 128 % 2))) _ _ (no-length l) (λ c. tt)))
+      branch FrontIf (not (isCode signal && goesWith k r)) _ _ (no-signal l)
+      (λ a. branch FrontIf (not (serviceAllowed r service)) _ _ (no-service l)
+      (λ b. branch FrontIf (not (lengthHolds r l (service / 128 % 2))) _ _ (no-length l) (λ c. tt)))
 
-  header-refuses : (sfd header : List ℕ) → RefusesIf (headerOf k sfd header)
+  header-refuses : (sfd header : List ℕ) → FrontIf (headerOf k sfd header)
   unfolding headerOf
   header-refuses sfd header =
-      branch RefusesIf (not (eqb (numberOf sfd) (sfdOf k))) _ _ sfd-differs
-      (λ a. branch RefusesIf (not (sameBits (crcBits (take 32 header)) (drop 32 header))) _ _ crc-differs
+      branch FrontIf (not (eqb (numberOf sfd) (sfdOf k))) _ _ sfd-differs
+      (λ a. branch FrontIf (not (sameBits (crcBits (take 32 header)) (drop 32 header))) _ _ crc-differs
       (λ b. fields-refuse _ _ _))
 
-  front-refuses : RefusesIf (frontOf k rec)
+  pub front-refuses : FrontIf (frontOf k rec)
   unfolding frontOf
   front-refuses =
-      branch RefusesIf (ltb (length rec) (frontChips k)) _ _ front-short
-      (λ a. searched RefusesIf (firstUnusable 0 (take (frontChips k) rec)) (λ p. front.Refused (Unusable p 0)) _
+      branch FrontIf (ltb (length rec) (frontChips k)) _ _ front-short
+      (λ a. searched FrontIf (firstUnusable 0 (take (frontChips k) rec)) (λ p. front.Refused (Unusable p 0)) _
       front-unusable
-      (searched RefusesIf (frontOdd k rec) (λ p. front.Refused (OddGrowth p 0)) _ front-odd (header-refuses _ _)))
+      (searched FrontIf (frontOdd k rec) (λ p. front.Refused (OddGrowth p 0)) _ front-odd (header-refuses _ _)))
 
   pub whole-refuses : RefusesIf (wholeOf k rec (frontOf k rec))
   whole-refuses = go (frontOf k rec) front-refuses
     where
-      go : (f : Front) → RefusesIf f → RefusesIf (wholeOf k rec f)
-      go (front.Refused e) h = h
+      go : (f : Front) → FrontIf f → RefusesIf (wholeOf k rec f)
+      go (front.Refused e) h = met-in-front h
       go (front.Fields t) h =
           branch RefusesIf (ltb (length rec) (frameChips k (t .rate) (t .n))) _ _ (frame-ends (t .length)) (λ a. tt)
 
 -- their numbers
+pub front-number : {k : Kind} {rec : List Taken} {e : Refusal} → FrontRefusal k rec e
+    → (8 ≤ refusalNumber e) × (refusalNumber e ≤ 15)
+front-number front-short = (omega arith, omega arith)
+front-number (front-unusable p f) = (omega arith, omega arith)
+front-number (front-odd p f) = (omega arith, omega arith)
+front-number sfd-differs = (omega arith, omega arith)
+front-number crc-differs = (omega arith, omega arith)
+front-number (no-signal l) = (omega arith, omega arith)
+front-number (no-service l) = (omega arith, omega arith)
+front-number (no-length l) = (omega arith, omega arith)
+
 pub whole-number : {k : Kind} {rec : List Taken} {e : Refusal} → WholeRefusal k rec e
     → (8 ≤ refusalNumber e) × (refusalNumber e ≤ 16)
-whole-number front-short = (omega arith, omega arith)
-whole-number (front-unusable p f) = (omega arith, omega arith)
-whole-number (front-odd p f) = (omega arith, omega arith)
-whole-number sfd-differs = (omega arith, omega arith)
-whole-number crc-differs = (omega arith, omega arith)
-whole-number (no-signal l) = (omega arith, omega arith)
-whole-number (no-service l) = (omega arith, omega arith)
-whole-number (no-length l) = (omega arith, omega arith)
+whole-number (met-in-front h) = let n = front-number h in (n .0, omega (arith, n .1))
 whole-number (frame-ends l) = (omega arith, omega arith)
 
 -- ---- payloads
