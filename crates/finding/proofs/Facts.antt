@@ -25,7 +25,6 @@ use Rattle.bits.specs.Growths.{
 }
 use Rattle.bits.specs.Scrambler.{mixed, scramble, descramble}
 use Rattle.bits.specs.Crc.{addWhere, crcStep, remainder, crcBits}
-use Rattle.frame.specs.declared.Kind.the-variants.{Short}
 use Rattle.frame.specs.Frame.{
   preambleBits,
   fieldBits,
@@ -75,8 +74,8 @@ unfolding fields
 answered = refl
 
 -- ---- the offsets to try: 1 to 4,096
-pub offsets : isOffsets 0 ∷ isOffsets 1 ∷ isOffsets 2 ∷ isOffsets 4095 ∷ isOffsets 4096 ∷ isOffsets 4097 ∷ isOffsets 4352
-    ∷ isOffsets 65537 ∷ isOffsets 4294967297 ∷ []
+pub offsets : isOffsets 0 ∷ isOffsets 1 ∷ isOffsets 2 ∷ isOffsets 4095 ∷ isOffsets 4096 ∷ isOffsets 4097
+    ∷ isOffsets 4352 ∷ isOffsets 65537 ∷ isOffsets 4294967297 ∷ []
     ≡ false ∷ true ∷ true ∷ true ∷ true ∷ false ∷ false ∷ false ∷ false ∷ []
 offsets = refl
 
@@ -110,10 +109,11 @@ unfolding
     frontBits sameBits fieldsOf headerOf frontOf firstStart findingOf
 starts = refl
 
--- THE LETTER AND THE TRUTH: behind 12 lost chips a clean frame is found at offset 2, 10 chips before it starts. Barker's
--- side values decide every symbol there as its opposite, which growths do not see, and the front meets none of 8 to 15
-pub early : find 1 2 (replicate 12 4 ++ short) ∷ find 1 3 (replicate 12 4 ++ short) ∷ find 1 4096 (replicate 12 4 ++ short)
-    ∷ []
+-- THE LETTER AND THE TRUTH: behind 12 lost chips a clean frame is found at offset 2, 10 chips before it starts.
+-- Barker's side values decide every symbol there as its opposite, which growths do not see, and the front meets none of
+-- 8 to 15
+pub early : find 1 2 (replicate 12 4 ++ short) ∷ find 1 3 (replicate 12 4 ++ short)
+    ∷ find 1 4096 (replicate 12 4 ++ short) ∷ []
     ≡ Refused NoStart ∷ Start 2 (told Eleven 1 1 false) ∷ Start 2 (told Eleven 1 1 false) ∷ []
 unfolding
     find short spoilt hardRecording

@@ -3,17 +3,22 @@
 --     start-comes                the search ends at the first that tells, or none of them does
 --     start-found, start-none    and back
 --     start-joined               a search goes on behind one that found nothing
---     short-missed               a recording shorter than a front
+--     short-missed, start-there  a recording shorter than a front; one that tells has a front's chips
+--     offsets-are, offsets-tried, offsets-many              the numbers of offsets to try
 --     finding-no-kind, finding-no-offsets, finding-first    1, 18, and the search
+--     finding-comes              what all of it comes to: a refusal or a start, with what is then known
 -- Assumes nothing.
 use mathlib.Core.Path.{_≡_, refl, sym, ap, _∙_, subst}
-use mathlib.Core.Bool.{true, false}
+use mathlib.Core.Bool.{Bool, true, false}
 use mathlib.Core.List.{List}
-use Prim.Native.Nat.{ℕ, zero, suc, _+_, _-_, _<_}
+use Prim.Native.Nat.{ℕ, zero, suc, _+_, _-_, _≤_, _<_}
+use native.Mathlib.Decide.{decLe}
 use native.Mathlib.Omega.{arith}
-use borrow.Author.Tests.{lt-ltb}
-use lib.ListN.{length, drop}
+use borrow.Author.Tests.{leb-true, lt-ltb, le-leb, lt-leb}
+use lib.Dec.{leb}
+use lib.ListN.{length, drop, length-drop}
 use lib.Seq.{drop-drop}
+use Rattle.base.proofs.Tests.{left-is, right-is}
 use Rattle.chips.specs.Chips.{Taken}
 use Rattle.frame.specs.declared.Kind.{Kind}
 use Rattle.frame.specs.Frame.{isKind, kindOf, frontChips}
@@ -21,6 +26,8 @@ use Rattle.calls.specs.declared.Told.{Told}
 use Rattle.calls.specs.declared.Front.{Front}
 use Rattle.calls.specs.declared.Front.the-variants as front
 use Rattle.reading.specs.Reading.{frontOf}
+use Rattle.reading.proofs.Places.{some-chips}
+use Rattle.finding.specs.declared.NotFound.{NotFound}
 use Rattle.finding.specs.declared.NotFound.the-variants.{NoKind, NoOffsets, NoStart}
 use Rattle.finding.specs.declared.Finding.{Finding}
 use Rattle.finding.specs.declared.Finding.the-variants.{Refused, Start}
@@ -54,7 +61,8 @@ module _ (k : Kind) where
   AllMissed n rec = (j : ℕ) → j < n → Missed (frontOf k (drop j rec))
 
   missed-behind : (n : ℕ) (rec : List Taken) → AllMissed (suc n) rec → AllMissed n (drop 1 rec)
-  missed-behind n rec h j l = subst (λ (r : List Taken). Missed (frontOf k r)) (sym (drop-one j rec)) (h (suc j) (omega arith))
+  missed-behind n rec h j l =
+      subst (λ (r : List Taken). Missed (frontOf k r)) (sym (drop-one j rec)) (h (suc j) (omega arith))
 
   pub start-past : (at n m : ℕ) (rec : List Taken) → AllMissed n rec
       → firstStart k at (n + m) rec ≡ firstStart k (at + n) m (drop n rec)
@@ -93,7 +101,8 @@ module _ (k : Kind) where
   pub start-comes : (at m : ℕ) (rec : List Taken) → StartIf at m rec (firstStart k at m rec)
   unfolding firstStart
   start-comes at zero rec = (refl, λ j l. absurd (omega arith))
-  start-comes at (suc m) rec = by (frontOf k rec) refl (firstStart k (suc at) m (drop 1 rec)) (start-comes (suc at) m (drop 1 rec))
+  start-comes at (suc m) rec =
+      by (frontOf k rec) refl (firstStart k (suc at) m (drop 1 rec)) (start-comes (suc at) m (drop 1 rec))
     where
       later : (f : Finding) → Missed (frontOf k rec) → StartIf (suc at) m (drop 1 rec) f → StartIf at (suc m) rec f
       later (Refused e) h g = (g .0, missed-here m rec h (g .1))
@@ -152,17 +161,64 @@ module _ (k : Kind) where
   unfolding frontOf
   short-missed rec h = rw (lt-ltb (length rec) (frontChips k) h) tt
 
+  pub start-there : (i : ℕ) (rec : List Taken) (t : Told) → frontOf k (drop i rec) ≡ front.Fields t
+      → i + frontChips k ≤ length rec
+  start-there i rec t e = by (decLe (frontChips k) (length (drop i rec)))
+    where
+      by : Dec (frontChips k ≤ length (drop i rec)) → i + frontChips k ≤ length rec
+      by (yes h) = omega (arith, h, length-drop i rec, some-chips k)
+      by (no h) = absurd (subst Missed e (short-missed (drop i rec) (omega (arith, h))))
+
 -- ---- the whole
+
+-- 1 to 4,096 offsets to try, and none else
+pub offsets-are : (n : ℕ) → isOffsets n ≡ true → (1 ≤ n) × (n ≤ 4096)
+offsets-are n e = (leb-true 1 n (left-is _ _ e), leb-true n 4096 (right-is (leb 1 n) _ e))
+
+pub offsets-tried : (n : ℕ) → 1 ≤ n → n ≤ 4096 → isOffsets n ≡ true
+offsets-tried n some few = rw (le-leb 1 n some, le-leb n 4096 few)
+
+pub offsets-many : (n : ℕ) → 4096 < n → isOffsets n ≡ false
+offsets-many n h = rw (le-leb 1 n (omega arith), lt-leb n 4096 h)
+
+-- a kind, and so many offsets to try
+abbrev pub IsSearch : ℕ → ℕ → Type 0
+IsSearch kind offsets = (isKind kind ≡ true) × (isOffsets offsets ≡ true)
+
 module _ (kind offsets : ℕ) (rec : List Taken) where
+  abbrev k′ : Kind
+  k′ = kindOf kind
+
   pub finding-no-kind : isKind kind ≡ false → findingOf kind offsets rec ≡ Refused NoKind
   unfolding findingOf
   finding-no-kind e = rw e
 
-  pub finding-no-offsets : isKind kind ≡ true → isOffsets offsets ≡ false → findingOf kind offsets rec ≡ Refused NoOffsets
+  pub finding-no-offsets : isKind kind ≡ true → isOffsets offsets ≡ false
+      → findingOf kind offsets rec ≡ Refused NoOffsets
   unfolding findingOf
   finding-no-offsets e f = rw (e, f)
 
   pub finding-first : isKind kind ≡ true → isOffsets offsets ≡ true
-      → findingOf kind offsets rec ≡ firstStart (kindOf kind) 0 offsets rec
+      → findingOf kind offsets rec ≡ firstStart k′ 0 offsets rec
   unfolding findingOf
   finding-first e f = rw (e, f)
+
+  abbrev pub FindingIf : Finding → Type 0
+  FindingIf (Refused NoKind) = isKind kind ≡ false
+  FindingIf (Refused NoOffsets) = (isKind kind ≡ true) × (isOffsets offsets ≡ false)
+  FindingIf (Refused NoStart) = IsSearch kind offsets × AllMissed k′ offsets rec
+  FindingIf (Start offset t) = IsSearch kind offsets × StartsAt k′ 0 offsets rec offset t
+
+  pub finding-comes : FindingIf (findingOf kind offsets rec)
+  finding-comes = by (isKind kind) refl (isOffsets offsets) refl
+    where
+      searched : IsSearch kind offsets → (g : Finding) → StartIf k′ 0 offsets rec g → FindingIf g
+      searched s (Refused e) h = subst (λ (x : NotFound). FindingIf (Refused x)) (sym (h .0)) (s, h .1)
+      searched s (Start offset t) h = (s, h)
+
+      by : (a : Bool) → isKind kind ≡ a → (b : Bool) → isOffsets offsets ≡ b → FindingIf (findingOf kind offsets rec)
+      by false e b f = subst FindingIf (sym (finding-no-kind e)) e
+      by true e false f = subst FindingIf (sym (finding-no-offsets e f)) (e, f)
+      by true e true f =
+          subst FindingIf (sym (finding-first e f))
+          (searched (e, f) (firstStart k′ 0 offsets rec) (start-comes k′ 0 offsets rec))

@@ -68,7 +68,7 @@ use Rattle.promises.proofs.Fills.{some-number}
 use Rattle.promises.proofs.Only.{goes, code-back}
 
 -- a kind's front, in the definition's words
-front-of : {kind front : ℕ} → FrontOf kind front → (isKind kind ≡ true) × (frontChips (kindOf kind) ≡ front)
+pub front-of : {kind front : ℕ} → FrontOf kind front → (isKind kind ≡ true) × (frontChips (kindOf kind) ≡ front)
 front-of long-front = (refl, refl)
 front-of short-front = (refl, refl)
 
@@ -177,7 +177,7 @@ module _ (kind : ℕ) (chips : List ℕ) where
   alike-told room (Fields t) z = (comes t room, λ h. ap recordOf (room-refused k t rec room h))
 
   -- the full reader goes on from the front
-  goes-on : (room : ℕ) (a : Record) (left : List ℕ) → ReadHard kind chips room a left
+  pub goes-on : (room : ℕ) (a : Record) (left : List ℕ) → ReadHard kind chips room a left
       → a ≡ recordOf (afterFront k rec room (frontReading kind rec))
   goes-on room a left f = f .answer ∙ ap recordOf (reads-on kind rec room)
 

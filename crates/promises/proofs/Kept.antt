@@ -19,6 +19,8 @@ use Rattle.promises.proofs.Coming.{
   one-coming,
 }
 use Rattle.promises.proofs.SentTold.{sent-told}
+use Rattle.promises.proofs.Finding.{not-tried, start-found, none-found, one-found}
+use Rattle.promises.proofs.SentFound.{sent-found}
 use Rattle.promises.proofs.Right.{recorded-right, hard-right, soft-right, bytes-right}
 use Rattle.promises.proofs.Leads.{least-told, hard-sure, soft-sure, bytes-sure}
 
@@ -63,5 +65,10 @@ kept = record {
   sent-told = sent-told;
   handed-part = handed-part;
   one-coming = one-coming;
+  not-tried = not-tried;
+  start-found = start-found;
+  none-found = none-found;
+  sent-found = sent-found;
+  one-found = one-found;
   table-p = table-p;
 }

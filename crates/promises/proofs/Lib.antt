@@ -5,6 +5,8 @@ pub mod Back
 pub mod Source
 pub mod Coming
 pub mod SentTold
+pub mod Finding
+pub mod SentFound
 pub mod Right
 pub mod Leads
 pub mod Frames

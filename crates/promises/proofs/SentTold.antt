@@ -28,8 +28,8 @@ use Rattle.promises.specs.Coming.{refusedComing, toldComing, SentTold}
 use Rattle.promises.proofs.Back as back
 
 -- the answer in numbers
-in-numbers : (k : Kind) (t : Told) (rate clock front octet : ℕ) → codeOf (t .rate) ≡ rate → clockBit (t .clock) ≡ clock
-    → frontChips k ≡ front → octetChips (t .rate) ≡ octet
+pub in-numbers : (k : Kind) (t : Told) (rate clock front octet : ℕ) → codeOf (t .rate) ≡ rate
+    → clockBit (t .clock) ≡ clock → frontChips k ≡ front → octetChips (t .rate) ≡ octet
     → comingOf k (Fields t) ≡ toldComing rate (t .length) clock (t .n) front (octet * t .n)
 in-numbers k t rate clock front octet a b c d =
     let e : frontChips k + octetChips (t .rate) * t .n - frontChips k ≡ octetChips (t .rate) * t .n = omega arith in
@@ -91,7 +91,7 @@ module _ (kind rate phase clock : ℕ) (payload : List ℕ) (w : Written) (chips
       ∙ ap₂ {C = List ℕ} (λ m l. take m l) (sym (pair .front-is)) (sym (append-nil sent)))
       ∙ sym (take-hard f (sent ++ []))
 
-  told-is : frontOf k (hardRecording (begin ++ tail)) ≡ Fields t
+  pub told-is : frontOf k (hardRecording (begin ++ tail)) ≡ Fields t
   told-is =
       front-same k (hardRecording (begin ++ tail)) (hardRecording (sent ++ [])) begins
       ∙ ap (frontOf k) (hard-recorded sent [] (back.phases kind rate phase clock payload w chips s))

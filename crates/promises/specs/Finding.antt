@@ -2,7 +2,7 @@
 -- 6.17). Each statement speaks of answers that the contracts of the three calls allow (`Finds`, `ReadFront`,
 -- `ReadHard`: Calls.antt); what stands in a recording from an offset on is `drop offset chips`.
 -- Definitions only. Assumes nothing.
-use Prim.Native.Nat.{ℕ, _+_, _≤_, _<_}
+use Prim.Native.Nat.{ℕ, _+_, _*_, _≤_, _<_}
 use mathlib.Core.Path.{_≡_}
 use mathlib.Core.List.{List, _++_}
 use lib.ListN.{length, take, drop}
@@ -56,22 +56,26 @@ pub record Meets (kind : ℕ) (chips : List ℕ) : Type 0 where
 
 -- ---- neither does: the header-only reader tells the rate, LENGTH, clock bit and n, or that the recording ends in the
 -- payload
-pub data FrontTells (rate l clock n : ℕ) : Coming → Type 0 where
-  front-told : (front count : ℕ) → FrontTells rate l clock n (toldComing rate l clock n front count)
-  front-cut : FrontTells rate l clock n (refusedComing 16 0 l)
+pub data FrontTells (front octet rate l clock n : ℕ) : Coming → Type 0 where
+  front-told : FrontTells front octet rate l clock n (toldComing rate l clock n front (octet * n))
+  front-cut : FrontTells front octet rate l clock n (refusedComing 16 0 l)
 
 -- the full reader tells them too, or refuses with 16 or 17, or with 9 or 10 in the payload, at 1 Mbit/s only the 10;
 -- with this LENGTH
-pub data ReaderTells (front rate l clock n : ℕ) : Record → Type 0 where
-  reads-good : (used lead symbol : ℕ) → ReaderTells front rate l clock n (good rate l n used clock lead symbol)
-  reads-16 : ReaderTells front rate l clock n (refused 16 l)
-  reads-17 : ReaderTells front rate l clock n (refused 17 l)
-  reads-9 : (place : ℕ) → front ≤ place → ReaderTells front rate l clock n (refusedAt 9 place l)
-  reads-10 : (place : ℕ) → rate ≡ 10 → front ≤ place → ReaderTells front rate l clock n (refusedAt 10 place l)
+pub data ReaderTells (front octet rate l clock n : ℕ) : Record → Type 0 where
+  reads-good : (lead symbol : ℕ)
+      → ReaderTells front octet rate l clock n (good rate l n (front + octet * n) clock lead symbol)
+  reads-16 : ReaderTells front octet rate l clock n (refused 16 l)
+  reads-17 : ReaderTells front octet rate l clock n (refused 17 l)
+  reads-9 : (place : ℕ) → front ≤ place → place < front + octet * n
+      → ReaderTells front octet rate l clock n (refusedAt 9 place l)
+  reads-10 : (place : ℕ) → rate ≡ 10 → front ≤ place → place < front + octet * n
+      → ReaderTells front octet rate l clock n (refusedAt 10 place l)
 
--- ---- an answer with number 0: a rate of the kind, 1 to 4,095 octets and their LENGTH, a clock bit, and an offset below
--- the number asked for, with a front's chips behind it. From there both readers meet none of 8 to 15 and tell the same;
--- from every smaller offset they meet one
+-- ---- an answer with number 0: a rate of the kind, 1 to 4,095 octets and their LENGTH, a clock bit, and an offset
+-- below the number asked for, with a front's chips behind it. From there both readers meet none of 8 to 15 and tell the
+-- same; and where the recording ends in the payload, that front with a payload's chips behind it does. From every
+-- smaller offset both readers meet one
 pub record WhenFound (kind offsets : ℕ) (chips : List ℕ) (f : Found) : Type 0 where
   pub front : ℕ
   pub octet : ℕ
@@ -84,9 +88,12 @@ pub record WhenFound (kind offsets : ℕ) (chips : List ℕ) (f : Found) : Type 
   pub below : f .offset < offsets
   pub there : f .offset + front ≤ length chips
   pub front-tells : (c : Coming) → ReadFront kind (drop (f .offset) chips) c
-      → FrontTells (f .rate) (f .length) (f .clock) (f .n) c
+      → FrontTells front octet (f .rate) (f .length) (f .clock) (f .n) c
   pub reader-tells : (room : ℕ) (a : Record) (left : List ℕ) → ReadHard kind (drop (f .offset) chips) room a left
-      → ReaderTells front (f .rate) (f .length) (f .clock) (f .n) a
+      → ReaderTells front octet (f .rate) (f .length) (f .clock) (f .n) a
+  pub with-payload : (tail : List ℕ) (c : Coming) → octet * f .n ≤ length tail
+      → ReadFront kind (take front (drop (f .offset) chips) ++ tail) c
+      → c ≡ toldComing (f .rate) (f .length) (f .clock) (f .n) front (octet * f .n)
   pub before : (o : ℕ) → o < f .offset → Meets kind (drop o chips)
 
 abbrev pub StartFound : Type 0

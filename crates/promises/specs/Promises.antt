@@ -1,9 +1,9 @@
--- What is promised beyond each contract (RULES 1.4, 6.15, 7, 9). Fills, what is accepted (Only.antt), reading back, one
--- source, one answer and what is coming (Coming.antt) speak of answers, buffers and parts that the contracts allow
--- (`Wrote`, `Read`, `ReadFront`, `Handed`: Calls.antt), so they are about the programs, and so does the smallest lead
--- (Leads.antt). Demand 3 (Right.antt), and what a lead says of the exact numbers, speak of the lists of words that the
--- definition of reading takes its growths and bits from, the half a count and Table P of the definitions.
--- proofs/Kept.antt proves all of it.
+-- What is promised beyond each contract (RULES 1.4, 6.15, 6.17, 7, 9). Fills, what is accepted (Only.antt), reading
+-- back, one source, one answer, what is coming (Coming.antt) and the start found (Finding.antt) speak of answers,
+-- buffers and parts that the contracts allow (`Wrote`, `Read`, `ReadFront`, `Handed`, `Finds`: Calls.antt), so they are
+-- about the programs, and so does the smallest lead (Leads.antt). Demand 3 (Right.antt), and what a lead says of the
+-- exact numbers, speak of the lists of words that the definition of reading takes its growths and bits from, the half a
+-- count and Table P of the definitions. proofs/Kept.antt proves all of it.
 -- Definitions only. Assumes nothing.
 use Prim.Native.Nat.{ℕ, _+_, _-_, _*_, _≤_, _<_}
 use mathlib.Core.Path.{_≡_}
@@ -43,6 +43,7 @@ use Rattle.promises.specs.Coming.{
   HandedPart,
   OneComing,
 }
+use Rattle.promises.specs.Finding.{NotTried, StartFound, NoneFound, SentFound, OneFound}
 
 -- ---- demand 1: fills. The buffers keep their length; after a refusal only the fill, after a good answer the fill
 -- to the end
@@ -162,4 +163,9 @@ pub record Promised : Type 0 where
   pub sent-told : SentTold
   pub handed-part : HandedPart
   pub one-coming : OneComing
+  pub not-tried : NotTried
+  pub start-found : StartFound
+  pub none-found : NoneFound
+  pub sent-found : SentFound
+  pub one-found : OneFound
   pub table-p : TableP

@@ -1,5 +1,5 @@
 -- Places lie in the part that they are found in: those of 9 and 10 in a front, and in a payload.
---     front-place, whole-place    a front's
+--     front-place, whole-place    a front's, which has some chips (some-chips)
 --     payload-unusable-place, payload-odd-place    a payload's
 --     payload-odd-rate       a 10 comes at 1 Mbit/s only
 --     decidedWords-length    as many words as symbols
@@ -107,7 +107,7 @@ growths-within Eleven at p m cs = tt
 
 -- ---- fronts
 
-some-chips : (k : Kind) → 0 < frontChips k
+pub some-chips : (k : Kind) → 0 < frontChips k
 some-chips Long = omega arith
 some-chips Short = omega arith
 
