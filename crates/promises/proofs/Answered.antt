@@ -1,6 +1,7 @@
--- Facts: answers that the reader of bytes, that of soft rows that differ, and that of fronts may give, computed from
--- their contracts. 1 before 7, 7 before 8; chips and places counted in pairs of bytes. The frame is the short one that
--- carries 3Dh at 11 Mbit/s with the clock bit set: 1,056 + 8 chips. Assumes nothing.
+-- Facts: answers that the reader of bytes, that of soft rows that differ, that of fronts and the search for a start may
+-- give, computed from their contracts. 1 before 7, 7 before 8; 1 before 18, 18 before 19; chips and places counted in
+-- pairs of bytes. The frame is the short one that carries 3Dh at 11 Mbit/s with the clock bit set: 1,056 + 8 chips.
+-- Assumes nothing.
 use mathlib.Core.Path.{_≡_, refl, _∙_}
 use mathlib.Core.Bool.{true}
 use mathlib.Core.List.{List, [], _∷_, _++_, map}
@@ -63,8 +64,11 @@ use Rattle.reading.specs.Reading.{
 use Rattle.clean.specs.Clean.{byteRow}
 use Rattle.coming.specs.declared.Coming.{Coming}
 use Rattle.coming.specs.Coming.{frontReading}
-use Rattle.promises.specs.Calls.{ReadSoft, ReadBytes, ReadFront, good, refused}
+use Rattle.finding.specs.declared.Found.{Found}
+use Rattle.finding.specs.Finding.{firstStart, findingOf}
+use Rattle.promises.specs.Calls.{ReadSoft, ReadBytes, ReadFront, Finds, good, refused}
 use Rattle.promises.specs.Coming.{refusedComing, toldComing}
+use Rattle.promises.specs.Finding.{refusedFound}
 
 -- what every answer to a row of bytes is
 abbrev pub Answers : ℕ → List ℤ → Record → Type 0
@@ -163,3 +167,23 @@ unfolding
     growthsOf lastHeard descramble sameBits fieldsOf headerOf firstUnusable firstOdd decidedWords preambleWords
     headerWords reference headerPhase frontOdd frontHeard frontBits frontOf frontReading
 front-cut c r = r .answer ∙ refl
+
+-- ---- a start looked for where there is no chip: 1 before 18, 18 before 19, at both ends of the offsets
+abbrev pub Searches : ℕ → ℕ → ℕ → Type 0
+Searches kind offsets number = (f : Found) → Finds kind offsets [] f → f ≡ refusedFound number
+
+pub find-no-kind : Searches 2 0 1
+unfolding findingOf
+find-no-kind f r = r .answer ∙ refl
+
+pub find-no-offsets : Searches 1 0 18
+unfolding findingOf
+find-no-offsets f r = r .answer ∙ refl
+
+pub find-many-offsets : Searches 0 4097 18
+unfolding findingOf
+find-many-offsets f r = r .answer ∙ refl
+
+pub find-nothing : Searches 1 1 19
+unfolding findingOf firstStart frontOf hardRecording
+find-nothing f r = r .answer ∙ refl

@@ -17,3 +17,4 @@ pub mod UsesBack
 pub mod UsesRight
 pub mod UsesLeads
 pub mod UsesComing
+pub mod UsesFinding
