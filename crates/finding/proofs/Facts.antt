@@ -36,6 +36,8 @@ use Rattle.frame.specs.Frame.{
   framed,
   frame,
 }
+use Rattle.calls.specs.declared.Refusal.the-variants.{Crc}
+use Rattle.calls.specs.declared.Front.the-variants as front
 use Rattle.calls.specs.Headers.{told, sameBits, fieldsOf, headerOf}
 use Rattle.reading.specs.Reading.{
   firstUnusable,
@@ -55,7 +57,7 @@ use Rattle.finding.specs.declared.NotFound.the-variants.{NoKind, NoOffse
 use Rattle.finding.specs.declared.Finding.{Finding}
 use Rattle.finding.specs.declared.Finding.the-variants.{Refused, Start}
 use Rattle.finding.specs.declared.Found.{Found}
-use Rattle.finding.specs.Finding.{isOffsets, firstStart, findingOf, foundOf}
+use Rattle.finding.specs.Finding.{isOffsets, startOr, firstStart, findingOf, foundOf}
 
 pub fields : Found → List ℕ
 fields f = f .number ∷ f .offset ∷ f .rate ∷ f .length ∷ f .clock ∷ f .n ∷ []
@@ -78,6 +80,17 @@ pub offsets : isOffsets 0 ∷ isOffsets 1 ∷ isOffsets 2 ∷ isOffsets 4095 ∷
     ∷ isOffsets 4352 ∷ isOffsets 65537 ∷ isOffsets 4294967297 ∷ []
     ≡ false ∷ true ∷ true ∷ true ∷ true ∷ false ∷ false ∷ false ∷ false ∷ []
 offsets = refl
+
+-- ---- of several starts the smallest: a front that tells, whatever is found behind it, and what is found behind one
+-- that does not
+abbrev found : Finding
+found = Start 8 (told Two 5 1 false)
+
+pub smallest : startOr 7 (front.Fields (told Eleven 8 11 true)) found ∷ startOr 7 (front.Refused Crc) found
+    ∷ startOr 7 (front.Fields (told Eleven 8 11 true)) (Refused NoStart)
+    ∷ startOr 7 (front.Refused Crc) (Refused NoStart) ∷ []
+    ≡ Start 7 (told Eleven 8 11 true) ∷ found ∷ Start 7 (told Eleven 8 11 true) ∷ Refused NoStart ∷ []
+smallest = refl
 
 -- ---- recordings
 
@@ -111,10 +124,8 @@ starts = refl
 
 -- THE LETTER AND THE TRUTH: behind 12 lost chips a clean frame is found at offset 2, 10 chips before it starts.
 -- Barker's side values decide every symbol there as its opposite, which growths do not see, and the front meets none of
--- 8 to 15
-pub early : find 1 2 (replicate 12 4 ++ short) ∷ find 1 3 (replicate 12 4 ++ short)
-    ∷ find 1 4096 (replicate 12 4 ++ short) ∷ []
-    ≡ Refused NoStart ∷ Start 2 (told Eleven 1 1 false) ∷ Start 2 (told Eleven 1 1 false) ∷ []
+-- 8 to 15. More offsets change nothing (`start-found`)
+pub early : find 1 3 (replicate 12 4 ++ short) ≡ Start 2 (told Eleven 1 1 false)
 unfolding
     find short spoilt hardRecording
     barkerWord cckWord score those going firstLargest decided

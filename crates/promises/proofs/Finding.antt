@@ -92,17 +92,16 @@ use Rattle.promises.proofs.Only.{goes, code-back}
 use Rattle.promises.proofs.Coming.{front-of, goes-on}
 use Rattle.promises.proofs.SentTold.{in-numbers}
 
--- ---- 1 and 18
+-- ---- 1 and 18, whatever the recording
 pub not-tried : NotTried
 not-tried kind offsets chips f x = record {
-  no-kind = λ h. x .answer ∙ ap foundOf (finding-no-kind kind offsets (hardRecording chips) (le-ltb kind 2 h));
+  no-kind = λ h. x .answer ∙ ap foundOf (finding-no-kind kind offsets _ (le-ltb kind 2 h));
   no-offsets = λ h z. none h (ap isOffsets z);
   many-offsets = λ h l. none h (offsets-many offsets l);
 }
   where
     none : kind < 2 → isOffsets offsets ≡ false → f ≡ refusedFound 18
-    none h e =
-        x .answer ∙ ap foundOf (finding-no-offsets kind offsets (hardRecording chips) (lt-ltb kind 2 h) e)
+    none h e = x .answer ∙ ap foundOf (finding-no-offsets kind offsets _ (lt-ltb kind 2 h) e)
 
 -- ---- one recording, read from its start
 module _ (kind : ℕ) (chips : List ℕ) (b : isKind kind ≡ true) where
@@ -285,63 +284,59 @@ module _ (kind offsets : ℕ) (chips : List ℕ) where
     none-at : AllMissed (kindOf kind) offsets all → WhenNone kind offsets chips (refusedFound 19)
     none-at h = record { only = refl; tried = tried-is; all = λ o l. meets-at o (h o (omega (arith, l))) }
 
--- what the answer's number says
+    all-missed : ((o : ℕ) → o < offsets → Missed (frontOf (kindOf kind) (drop o all)))
+        → foundOf (findingOf kind offsets all) ≡ refusedFound 19
+    all-missed h =
+        ap foundOf (finding-first kind offsets all (s .0) (s .1) ∙ start-none (kindOf kind) 0 offsets all h)
+
+    -- a number but 19
+    no-other : (g : Finding) → FindingIf kind offsets all g → (foundOf g .number ≡ 19 → ⊥) → foundOf g .number ≡ 0
+    no-other (Refused NoKind) w z = absurd (subst T (sym (s .0) ∙ w) tt)
+    no-other (Refused NoOffsets) w z = absurd (subst T (sym (s .1) ∙ w .1) tt)
+    no-other (Refused NoStart) w z = absurd (z refl)
+    no-other (Start offset t) w z = refl
+
+  -- by its number
+  when-none : (g : Finding) → FindingIf kind offsets all g → foundOf g .number ≡ 19
+      → WhenNone kind offsets chips (foundOf g)
+  when-none (Refused NoKind) h e = absurd (omega (arith, e))
+  when-none (Refused NoOffsets) h e = absurd (omega (arith, e))
+  when-none (Refused NoStart) h e = none-at (h .0) (h .1)
+  when-none (Start offset t) h e = absurd (omega (arith, e))
+
+  when-found : (g : Finding) → FindingIf kind offsets all g → foundOf g .number ≡ 0
+      → WhenFound kind offsets chips (foundOf g)
+  when-found (Refused NoKind) h e = absurd (omega (arith, e))
+  when-found (Refused NoOffsets) h e = absurd (omega (arith, e))
+  when-found (Refused NoStart) h e = absurd (omega (arith, e))
+  when-found (Start offset t) h e = found-at (h .0) offset t (h .1)
+
+  number-is : (f : Found) → Finds kind offsets chips f → f .number ≡ foundOf (findingOf kind offsets all) .number
+  number-is f x = ap (λ (v : Found). v .number) (x .answer)
+
+pub none-found : NoneFound
+none-found = (
+  (λ kind offsets chips f x z.
+      let g = findingOf kind offsets (hardRecording chips) in
+      subst (WhenNone kind offsets chips) (sym (x .answer))
+      (when-none kind offsets chips g (finding-comes kind offsets (hardRecording chips))
+      (sym (number-is kind offsets chips f x) ∙ z))),
+  (λ kind offsets chips f x h m.
+      let s = search-is kind offsets chips h in
+      x .answer
+      ∙ all-missed kind offsets chips s (λ o l. missed-at kind offsets chips s o (m o (omega (arith, l))))),
+  λ kind offsets chips f x h z.
+      let e = number-is kind offsets chips f x in
+      e
+      ∙ no-other kind offsets chips (search-is kind offsets chips h) (findingOf kind offsets (hardRecording chips))
+      (finding-comes kind offsets (hardRecording chips)) (λ y. z (e ∙ y)),
+)
+
 pub start-found : StartFound
 start-found kind offsets chips f x z =
     subst (WhenFound kind offsets chips) (sym (x .answer))
-    (by (findingOf kind offsets (hardRecording chips)) (finding-comes kind offsets (hardRecording chips))
-    (ap (λ (v : Found). v .number) (sym (x .answer)) ∙ z))
-  where
-    by : (g : Finding) → FindingIf kind offsets (hardRecording chips) g → foundOf g .number ≡ 0
-        → WhenFound kind offsets chips (foundOf g)
-    by (Refused NoKind) h e = absurd (omega (arith, e))
-    by (Refused NoOffsets) h e = absurd (omega (arith, e))
-    by (Refused NoStart) h e = absurd (omega (arith, e))
-    by (Start offset t) h e = found-at kind offsets chips (h .0) offset t (h .1)
-
-pub none-found : NoneFound
-none-found = (only-there, there, no-other)
-  where
-    only-there : (kind offsets : ℕ) (chips : List ℕ) (f : Found) → Finds kind offsets chips f → f .number ≡ 19
-        → WhenNone kind offsets chips f
-    only-there kind offsets chips f x z =
-        subst (WhenNone kind offsets chips) (sym (x .answer))
-        (by (findingOf kind offsets (hardRecording chips)) (finding-comes kind offsets (hardRecording chips))
-        (ap (λ (v : Found). v .number) (sym (x .answer)) ∙ z))
-      where
-        by : (g : Finding) → FindingIf kind offsets (hardRecording chips) g → foundOf g .number ≡ 19
-            → WhenNone kind offsets chips (foundOf g)
-        by (Refused NoKind) h e = absurd (omega (arith, e))
-        by (Refused NoOffsets) h e = absurd (omega (arith, e))
-        by (Refused NoStart) h e = none-at kind offsets chips (h .0) (h .1)
-        by (Start offset t) h e = absurd (omega (arith, e))
-
-    there : (kind offsets : ℕ) (chips : List ℕ) (f : Found) → Finds kind offsets chips f → Tried kind offsets
-        → ((o : ℕ) → o < offsets → Meets kind (drop o chips)) → f ≡ refusedFound 19
-    there kind offsets chips f x h m =
-        let s = search-is kind offsets chips h in
-        x .answer
-        ∙ ap foundOf
-        (finding-first kind offsets (hardRecording chips) (s .0) (s .1)
-        ∙ start-none (kindOf kind) 0 offsets (hardRecording chips)
-        (λ o l. missed-at kind offsets chips s o (m o (omega (arith, l)))))
-
-    no-other : (kind offsets : ℕ) (chips : List ℕ) (f : Found) → Finds kind offsets chips f → Tried kind offsets
-        → (f .number ≡ 19 → ⊥) → f .number ≡ 0
-    no-other kind offsets chips f x h z =
-        let s = search-is kind offsets chips h in
-        e ∙ by s (findingOf kind offsets (hardRecording chips)) (finding-comes kind offsets (hardRecording chips))
-        (λ y. z (e ∙ y))
-      where
-        e : f .number ≡ foundOf (findingOf kind offsets (hardRecording chips)) .number
-        e = ap (λ (v : Found). v .number) (x .answer)
-
-        by : IsSearch kind offsets → (g : Finding) → FindingIf kind offsets (hardRecording chips) g
-            → (foundOf g .number ≡ 19 → ⊥) → foundOf g .number ≡ 0
-        by s (Refused NoKind) w y = absurd (subst T (sym (s .0) ∙ w) tt)
-        by s (Refused NoOffsets) w y = absurd (subst T (sym (s .1) ∙ w .1) tt)
-        by s (Refused NoStart) w y = absurd (y refl)
-        by s (Start offset t) w y = refl
+    (when-found kind offsets chips (findingOf kind offsets (hardRecording chips))
+    (finding-comes kind offsets (hardRecording chips)) (sym (number-is kind offsets chips f x) ∙ z))
 
 -- the contract is an equation with a definition
 pub one-found : OneFound
