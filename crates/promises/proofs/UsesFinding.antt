@@ -1,6 +1,7 @@
 -- Uses of the statements about the start that is found, as they are kept, so that none of them can be said of nothing
 -- and none can lose a part. Assumes nothing.
 use mathlib.Core.Path.{_≡_, refl, sym, ap, ap₂, subst, _∙_}
+use mathlib.Core.Bool.{true}
 use mathlib.Core.List.{List, [], _++_}
 use Prim.Native.Nat.{ℕ, _+_, _*_, _≤_, _<_}
 use native.Mathlib.Decide.{decLe, decLt, ℕ-discrete}
@@ -9,6 +10,8 @@ use lib.ListN.{length, take, drop, replicate, length-replicate}
 use Rattle.rates.specs.Rates.{rateOf, lengthField}
 use Rattle.calls.specs.declared.Written.{Written}
 use Rattle.calls.specs.declared.Record.{Record}
+use Rattle.calls.specs.Answers.{recordOf}
+use Rattle.reading.specs.Reading.{readingOf, octetsFound}
 use Rattle.chips.specs.Chips.{hardRecording}
 use Rattle.frame.specs.Frame.{kindOf}
 use Rattle.coming.specs.declared.Coming.{Coming}
@@ -54,10 +57,15 @@ use Rattle.promises.proofs.Kept.{kept}
 use Rattle.promises.proofs.UsesComing.{front-answered}
 
 -- ---- there is an answer for every kind, number of offsets and recording: with one answer only, the contract is its
--- definition
+-- definition. So it is with the full reader, whose answers the statements name beside it
 pub find-answered : (kind offsets : ℕ) (chips : List ℕ)
     → Finds kind offsets chips (foundOf (findingOf kind offsets (hardRecording chips)))
 find-answered kind offsets chips = record { answer = refl }
+
+pub hard-answered : (kind : ℕ) (chips : List ℕ) (room : ℕ)
+    → ReadHard kind chips room (recordOf (readingOf kind true (hardRecording chips) room))
+    (octetsFound kind true (hardRecording chips) room)
+hard-answered kind chips room = record { answer = refl; octets = refl }
 
 -- ---- a kind has one front, and with a rate one octet
 pub front-of-kind : {kind rate front octet : ℕ} → Goes kind rate front octet → FrontOf kind front
@@ -72,10 +80,6 @@ front-of-kind short-11 = short-front
 pub one-front : {kind front front′ : ℕ} → FrontOf kind front → FrontOf kind front′ → front ≡ front′
 one-front long-front long-front = refl
 one-front short-front short-front = refl
-
-least-front : {kind front : ℕ} → FrontOf kind front → 1056 ≤ front
-least-front long-front = omega arith
-least-front short-front = omega arith
 
 pub one-octet : {kind rate front octet front′ octet′ : ℕ} → Goes kind rate front octet → Goes kind rate front′ octet′
     → octet ≡ octet′
@@ -269,15 +273,15 @@ module _ (kind offsets : ℕ) (chips : List ℕ) (f : Found) (x : Finds kind off
           let w = kept .front-refused kind (drop o chips) c answered not-0 in
           rw e (n .0, n .1, λ front g. w .in-front front g)
 
-  -- and where there are fewer chips than the shorter front has
-  pub none-if-short : length chips < 1056 → f ≡ refusedFound 19
-  none-if-short l = by (ℕ-discrete (f .number) 19)
+  -- and where there are fewer chips than a front has
+  pub none-if-short : (front : ℕ) → FrontOf kind front → length chips < front → f ≡ refusedFound 19
+  none-if-short front g l = by (ℕ-discrete (f .number) 19)
     where
       by : Dec (f .number ≡ 19) → f ≡ refusedFound 19
       by (yes e) = kept .none-found .0 kind offsets chips f x e .only
       by (no e) =
           let w = kept .start-found kind offsets chips f x (start-or-none e) in
-          absurd (omega (arith, l, w .there, least-front (front-of-kind (w .goes))))
+          absurd (omega (arith, l, w .there, one-front (front-of-kind (w .goes)) g))
 
 -- ---- what is said of a start leaves none other: two searches of one recording, whatever the offsets, tell the same
 module _ (kind : ℕ) (chips : List ℕ) where
