@@ -17,7 +17,7 @@ use Rattle.chips.specs.declared.Chip.{Chip}
 use Rattle.chips.specs.declared.Chip.the-variants.{Lost, Hard, Soft}
 use Rattle.chips.specs.Floats.{usable, countOf}
 use Rattle.chips.specs.Chips.{pair, nothing, fullChip, usableSample, countsOf}
-use Rattle.axes.specs.Axes.{along, phaseOn, softUsable, hardUsable, octetOf}
+use Rattle.axes.specs.Axes.{along, phaseOn, softUsable, isHard, octetOf}
 use Rattle.chips.proofs.Sum.{cond-yes}
 
 -- ---- a soft chip that is usable
@@ -34,8 +34,8 @@ module _ {c : Chip} {s : Sample} (e : c ≡ Soft s) (t : T (softUsable c)) where
   pub soft-counts : countsOf c ≡ pair (countOf (s .i)) (countOf (s .q))
   soft-counts = ap countsOf e ∙ cond-yes (usableSample s) (pair (countOf (s .i)) (countOf (s .q))) nothing usable-s
 
--- ---- a hard chip that is usable
-pub hard-counts : (c : Chip) → T (hardUsable c) → fullChip 1024 (octetOf c) ≡ countsOf c
+-- ---- a hard chip
+pub hard-counts : (c : Chip) → T (isHard c) → fullChip 1024 (octetOf c) ≡ countsOf c
 hard-counts Lost t = refl
 hard-counts (Hard p) t = refl
 hard-counts (Soft s) t = absurd t

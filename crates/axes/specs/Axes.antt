@@ -2,7 +2,7 @@
 use Prim.Native.Nat.{ℕ, _<_}
 use mathlib.Core.Bool.{Bool, true, false}
 use mathlib.Core.List.{List, map}
-use lib.Dec.{T, ltb}
+use lib.Dec.{T}
 use lib.ListN.{getD}
 use lib.IntN.{ℤ}
 use Rattle.axes.specs.declared.Axis.{Axis}
@@ -32,11 +32,11 @@ softUsable Lost = false
 softUsable (Hard p) = false
 softUsable (Soft s) = usableSample s
 
--- a chip of a hard recording that is usable
-abbrev pub hardUsable : Chip → Bool
-hardUsable Lost = true
-hardUsable (Hard p) = ltb p 4
-hardUsable (Soft s) = false
+-- a chip of a hard recording, usable or not: an octet that is none of the phases counts as nothing
+abbrev pub isHard : Chip → Bool
+isHard Lost = true
+isHard (Hard p) = true
+isHard (Soft s) = false
 
 -- the octet that a chip of a hard recording is; a soft one is taken for lost
 abbrev pub octetOf : Chip → ℕ
@@ -55,6 +55,6 @@ unitsAlong x chips = map (λ c. along x (unitOf c)) chips
 pub record AllSoft (n : ℕ) (chips : List Chip) : Type 0 where
   pub at : (k : ℕ) → k < n → T (softUsable (getD chips k Lost))
 
--- the first n chips are a hard recording's, and usable
+-- the first n chips are a hard recording's
 pub record AllHard (n : ℕ) (chips : List Chip) : Type 0 where
-  pub at : (k : ℕ) → k < n → T (hardUsable (getD chips k Lost))
+  pub at : (k : ℕ) → k < n → T (isHard (getD chips k Lost))

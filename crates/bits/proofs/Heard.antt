@@ -4,6 +4,7 @@
 --     heard-symbol, heard-back                                 a symbol's bits from its word, all bits from all words
 --     heard-append, growthsOf-append, lastHeard-append         words after words
 --     heard-row, heard-length, heard-below, heard-parity       as many, and bits; a word's number counts modulo 2
+--     heard-at                                                 one bit of 1 Mbit/s, by its word and the one before it
 -- A growth is taken off modulo 4, and a number's phases are its digits. Assumes nothing.
 use mathlib.Core.Path.{_≡_, refl, sym, ap, ap₂, _∙_}
 use mathlib.Core.Bool.{true}
@@ -327,3 +328,14 @@ pub numbersFrom-length : (r : Rate) (p : ℕ) (ss : List Symbol) → length (num
 unfolding numbersFrom
 numbersFrom-length r p [] = refl
 numbersFrom-length r p (s ∷ ss) = ap suc (numbersFrom-length r (turned p (s .grows)) ss)
+
+-- the bit of a word of 1 Mbit/s behind the first, by how far it grew from the word before it
+pub heard-at : (k p : ℕ) (ns : List ℕ) (n : ℕ) → n + 1 < length ns
+    → getD (heard One k p ns) (n + 1) 0 ≡ grownBy (getD ns n 0) (getD ns (n + 1) 0) / 2
+unfolding heard heardBits
+heard-at k p [] n h = absurd (omega arith)
+heard-at k p (a ∷ []) n h = absurd (omega arith)
+heard-at k p (a ∷ b ∷ ns) zero h = refl
+heard-at k p (a ∷ b ∷ ns) (suc n) h =
+    let e : suc n + 1 ≡ suc (n + 1) = omega arith in
+    rw e (heard-at (suc k) a (b ∷ ns) n (omega arith))

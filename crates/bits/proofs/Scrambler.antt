@@ -5,11 +5,12 @@
 --     scramble-window, descramble-window      only the last seven outputs matter;
 --     past-seven                after so many outputs nothing before them does
 --     scramble-append, descramble-append, past-append    a run goes on from the outputs so far
+--     descramble-at             a bit from the eighth on, by the outputs 4 and 7 before it
 --     scramble-length, descramble-length, scramble-below, descramble-below    as many, and bits
 -- By induction on the bits. Assumes nothing.
 use mathlib.Core.Path.{_≡_, refl, sym, ap, ap₂, _∙_}
 use mathlib.Core.List.{List, [], _∷_, _++_}
-use Prim.Native.Nat.{ℕ, suc, _+_, _<_, _≤_}
+use Prim.Native.Nat.{ℕ, zero, suc, _+_, _<_, _≤_}
 use native.Mathlib.Nat.{add-zero}
 use native.Mathlib.Omega.{arith}
 use lib.ListN.{length, getD, take, drop}
@@ -129,3 +130,21 @@ pub first-unknown : (h k : List ℕ) (x y : ℕ) (os : List ℕ)
     → drop 8 (descramble h (x ∷ os)) ≡ drop 8 (descramble k (y ∷ os))
 unfolding descramble
 first-unknown h k x y os = recovers (x ∷ h) (y ∷ k) os
+
+-- ---- one bit, by the outputs that it is unscrambled with
+pub descramble-at : (past os : List ℕ) (n : ℕ) → n + 7 < length os
+    → getD (descramble past os) (n + 7) 0 ≡ getD os (n + 7) 0 ⊕ getD os (n + 3) 0 ⊕ getD os n 0
+unfolding descramble mixed
+descramble-at past [] n h = absurd (omega arith)
+descramble-at past (a ∷ []) zero h = absurd (omega arith)
+descramble-at past (a ∷ b ∷ []) zero h = absurd (omega arith)
+descramble-at past (a ∷ b ∷ c ∷ []) zero h = absurd (omega arith)
+descramble-at past (a ∷ b ∷ c ∷ d ∷ []) zero h = absurd (omega arith)
+descramble-at past (a ∷ b ∷ c ∷ d ∷ e ∷ []) zero h = absurd (omega arith)
+descramble-at past (a ∷ b ∷ c ∷ d ∷ e ∷ f ∷ []) zero h = absurd (omega arith)
+descramble-at past (a ∷ b ∷ c ∷ d ∷ e ∷ f ∷ g ∷ []) zero h = absurd (omega arith)
+descramble-at past (a ∷ b ∷ c ∷ d ∷ e ∷ f ∷ g ∷ o ∷ os) zero h = refl
+descramble-at past (o ∷ os) (suc n) h =
+    let e : suc n + 7 ≡ suc (n + 7) = omega arith in
+    let f : suc n + 3 ≡ suc (n + 3) = omega arith in
+    rw (e, f) (descramble-at (o ∷ past) os n (omega arith))

@@ -38,7 +38,7 @@ abbrev pub Missed : Front → Type 0
 Missed (front.Refused e) = Unit {0}
 Missed (front.Fields t) = ⊥
 
-missed-or : (at : ℕ) (f : Front) (next : Finding) → Missed f → startOr at f next ≡ next
+pub missed-or : (at : ℕ) (f : Front) (next : Finding) → Missed f → startOr at f next ≡ next
 missed-or at (front.Refused e) next h = refl
 missed-or at (front.Fields t) next h = absurd h
 

@@ -104,7 +104,7 @@ fn fields_of(k: Kind, signal: u8, service: u8, length: usize) -> Front
 }
 
 // The SFD of a kind, as a number.
-fn sfd_of(k: Kind) -> usize
+pub fn sfd_of(k: Kind) -> usize
     ensures answer { λ s. ⌜ s ≡ sfdOf k ⌝ }
 {
     match k {

@@ -5,3 +5,4 @@ pub mod Refusals
 pub mod Places
 pub mod Local
 pub mod Leads
+pub mod Sfd

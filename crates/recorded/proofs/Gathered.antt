@@ -13,7 +13,7 @@ use borrow.Author.Tests.{leb-true, not-false, eqb-false}
 use Rattle.base.proofs.Tables.{getD-tabulate}
 use Rattle.chips.specs.declared.Chip.the-variants.{Lost, Hard, Soft}
 use Rattle.chips.specs.Chips.{usableSample, countsOf, unusable, takenCounts, hardChip, hardRecording, softRecording}
-use Rattle.axes.specs.Axes.{hardUsable, AllSoft, AllHard}
+use Rattle.axes.specs.Axes.{isHard, AllSoft, AllHard}
 use Rattle.chips.proofs.Recorders.{sample, taken-soft, length-soft, getD-soft, part, part-hard}
 use Rattle.recorded.specs.Recorded.{hardPart, softPart, AllUsable}
 use Rattle.recorded.proofs.Usable.{hard-at, soft-at}
@@ -33,21 +33,18 @@ gathered-soft n xs ys at h =
     (getD-soft xs ys k unusable nan nan (omega (arith, length-soft xs ys)) (omega (arith, length-soft xs ys)))
     ∙ taken-soft (getD xs k nan) (getD ys k nan)))
 
--- ---- usable
-pub usable-hard : (n : ℕ) (xs : List ℕ) (at : ℕ) → at + n ≤ length xs → AllUsable (hardRecording xs) at n
-    → AllHard n (hardPart xs at n)
-usable-hard n xs at h u = record {
-  at = λ k l. rw (getD-tabulate (λ j. hardChip (getD xs (at + j) 0)) n k Lost l)
-      (hard-one (getD xs (at + k) 0)
-      (leb-true (getD xs (at + k) 0) 4 (not-false _ (sym (hard-at xs (at + k) (omega arith)) ∙ u .each k l))));
+-- ---- of their recorder
+pub all-hard : (n : ℕ) (xs : List ℕ) (at : ℕ) → AllHard n (hardPart xs at n)
+all-hard n xs at = record {
+  at = λ k l. rw (getD-tabulate (λ j. hardChip (getD xs (at + j) 0)) n k Lost l) (hard-one (getD xs (at + k) 0));
 }
   where
-    hard-one : (x : ℕ) → x ≤ 4 → T (hardUsable (hardChip x))
-    hard-one x few = by (eqb x 4) (eqb-false x 4)
+    hard-one : (x : ℕ) → T (isHard (hardChip x))
+    hard-one x = by (eqb x 4)
       where
-        by : (b : Bool) → (b ≡ false → x ≡ 4 → ⊥) → T (hardUsable (cond b Lost (Hard x)))
-        by true f = tt
-        by false f = let g = f refl in lt→ltb x 4 (omega arith)
+        by : (b : Bool) → T (isHard (cond b Lost (Hard x)))
+        by true = tt
+        by false = tt
 
 is-true : (b : Bool) → not b ≡ false → T b
 is-true true e = tt

@@ -14,14 +14,12 @@ use Rattle.chips.specs.Chips.{takenCounts, hardChip, hardRecording}
 use Rattle.axes.specs.Axes.{unitOf}
 use Rattle.symbols.specs.Choice.{decided, leadOf}
 use Rattle.sums.proofs.Apart.{units-decided, units-lead}
-use Rattle.recorded.specs.Recorded.{hardPart, AllUsable}
-use Rattle.recorded.proofs.Search.{usable-part}
-use Rattle.recorded.proofs.Gathered.{gathered-hard, usable-hard}
+use Rattle.recorded.specs.Recorded.{hardPart}
+use Rattle.recorded.proofs.Gathered.{gathered-hard, all-hard}
 use Rattle.recorded.proofs.Firsts.{numberAt, leadAt}
 
 -- ---- one symbol
-module _ (n : ℕ) (r : Rate) (xs : List ℕ) (at : ℕ) (h : at + n ≤ length xs)
-    (u : AllUsable (hardRecording xs) at n) where
+module _ (n : ℕ) (r : Rate) (xs : List ℕ) (at : ℕ) (h : at + n ≤ length xs) where
   abbrev units : List Counts
   units = map unitOf (hardPart xs at n)
 
@@ -31,20 +29,19 @@ module _ (n : ℕ) (r : Rate) (xs : List ℕ) (at : ℕ) (h : at + n ≤ length 
   long : length (hardPart xs at n) ≡ n
   long = length-tabulate (λ j. hardChip (getD xs (at + j) 0)) n
 
-  hard-decided : decided r units ≡ decided r symbol
+  pub hard-decided : decided r units ≡ decided r symbol
   hard-decided =
-      units-decided n r (hardPart xs at n) long (usable-hard n xs at h u) ∙ ap (decided r) (gathered-hard n xs at h)
+      units-decided n r (hardPart xs at n) long (all-hard n xs at) ∙ ap (decided r) (gathered-hard n xs at h)
 
   hard-lead : 1024 * leadOf r units ≡ leadOf r symbol
-  hard-lead = units-lead n r (hardPart xs at n) long (usable-hard n xs at h u) ∙ ap (leadOf r) (gathered-hard n xs at h)
+  hard-lead = units-lead n r (hardPart xs at n) long (all-hard n xs at) ∙ ap (leadOf r) (gathered-hard n xs at h)
 
 -- ---- m symbols from a place
 -- symbol l in full chips
 abbrev pub unitsAt : Rate → List ℕ → ℕ → ℕ → List Counts
 unitsAt r xs at l = map unitOf (hardPart xs (at + symbolChips r * l) (symbolChips r))
 
-module _ (r : Rate) (xs : List ℕ) (at m : ℕ) (h : at + symbolChips r * m ≤ length xs)
-    (u : AllUsable (hardRecording xs) at (symbolChips r * m)) where
+module _ (r : Rate) (xs : List ℕ) (at m : ℕ) (h : at + symbolChips r * m ≤ length xs) where
   abbrev n : ℕ
   n = symbolChips r
 
@@ -52,8 +49,7 @@ module _ (r : Rate) (xs : List ℕ) (at m : ℕ) (h : at + symbolChips r * m ≤
   room l b = omega (arith, mul-le-mul-left n b, mul-suc n l)
 
   pub number-hard : (l : ℕ) → l < m → decided r (unitsAt r xs at l) ≡ numberAt r (hardRecording xs) at l
-  number-hard l b =
-      hard-decided n r xs (at + n * l) (omega (arith, room l b)) (usable-part (n * l) n u (room l b))
+  number-hard l b = hard-decided n r xs (at + n * l) (omega (arith, room l b))
 
   pub lead-hard : (l : ℕ) → l < m → 1024 * leadOf r (unitsAt r xs at l) ≡ leadAt r (hardRecording xs) at l
-  lead-hard l b = hard-lead n r xs (at + n * l) (omega (arith, room l b)) (usable-part (n * l) n u (room l b))
+  lead-hard l b = hard-lead n r xs (at + n * l) (omega (arith, room l b))

@@ -107,7 +107,7 @@ full-times (suc (suc zero)) = record { real = refl; imag = refl }
 full-times (suc (suc (suc zero))) = record { real = refl; imag = refl }
 full-times (suc (suc (suc (suc p)))) = record { real = refl; imag = refl }
 
--- usable hard chips decide by full chips what they decide by counts, and their lead is 1024 times as large
+-- hard chips decide by full chips what they decide by counts, and their lead is 1024 times as large
 module _ (n : ℕ) (r : Rate) (chips : List Chip) (e : length chips ≡ n) (h : AllHard n chips) where
   counts-are : map (λ c. fullChip 1024 (octetOf c)) chips ≡ map countsOf chips
   counts-are =

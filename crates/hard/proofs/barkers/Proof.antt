@@ -32,7 +32,7 @@ loop-again c =
     let chosen = c .decide-barker .ensures in (
       firsts-more _ _ _ (omega (arith, s .pre .0))
           (chosen .0 ∙ ap (λ (x : List Chip). decided One (map unitOf x)) chips
-          ∙ number-hard One (s .args .octets .now) (s .args .at) (s .args .m) (s .pre .1) (s .pre .2)
+          ∙ number-hard One (s .args .octets .now) (s .args .at) (s .args .m) (s .pre .1)
           (turn .loop .l) h) (turn .loop .inv .0),
       firsts-more _ _ _ (omega (arith, s .pre .0))
           (chosen .1 ∙ ap (λ (x : List Chip). leadOf One (map unitOf x)) chips) (turn .loop .inv .1),
@@ -46,7 +46,7 @@ returns c =
       all-decided One (hardRecording (s .args .octets .now)) (s .args .at) (turn .loop .inv .0) (end .loop-test .left),
       leads-times One (hardRecording (s .args .octets .now)) (s .args .at) 1024 (turn .loop .inv .1)
           (end .loop-test .left) (s .pre .0) (c .in-counts .ensures)
-          (lead-hard One (s .args .octets .now) (s .args .at) (s .args .m) (s .pre .1) (s .pre .2)),
+          (lead-hard One (s .args .octets .now) (s .args .at) (s .args .m) (s .pre .1)),
     )
 
 pub barkers-spec : {M : Type 1} → statement M

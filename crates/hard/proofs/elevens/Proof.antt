@@ -73,10 +73,10 @@ loop-again c =
     (set .columns .ensures) in (
       firsts-sixteen _ _ _ (turn .loop .inv .0) (decided-sixteen .sixteen .ensures .1 .0)
           (λ j few there. ap (decided Eleven) (units j few there)
-          ∙ number-hard Eleven octets (s .args .at) (s .args .m) (s .pre .1) (s .pre .2) (l + j) there),
+          ∙ number-hard Eleven octets (s .args .at) (s .args .m) (s .pre .1) (l + j) there),
       firsts-sixteen _ _ _ (turn .loop .inv .1) (decided-sixteen .sixteen .ensures .1 .1)
           (λ j few there. ap (λ (cs : List Counts). 1024 * leadOf Eleven cs) (units j few there)
-          ∙ lead-hard Eleven octets (s .args .at) (s .args .m) (s .pre .1) (s .pre .2) (l + j) there),
+          ∙ lead-hard Eleven octets (s .args .at) (s .args .m) (s .pre .1) (l + j) there),
       omega (arith, turn .loop .inv .2),
       set .columns .ensures .long,
       decided-sixteen .sixteen .ensures .0 .0,

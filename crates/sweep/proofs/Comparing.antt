@@ -1,0 +1,47 @@
+-- Octets compared with the two of an SFD, entry by entry.
+-- Assumes nothing.
+use mathlib.Core.Path.{_≡_, refl, sym, _∙_, subst}
+use mathlib.Core.List.{List}
+use Prim.Native.Nat.{ℕ, _+_, _≤_, _<_}
+use native.Mathlib.Decide.{decLt}
+use native.Mathlib.Omega.{arith}
+use lib.ListN.{length, getD, set, length-set}
+use lib.Seq.{getD-set-same, getD-set-other}
+use Rattle.sweep.specs.Sweep.{MarkedOf}
+
+-- the first l entries are marks of a row as it was, the others as they were
+pub record Comparing (low high : ℕ) (before : List ℕ) (l : ℕ) (row : List ℕ) : Type 0 where
+  pub marked : MarkedOf low high before l row
+  pub kept : (j : ℕ) → l ≤ j → getD row j 0 ≡ getD before j 0
+
+pub comparing-none : (low high : ℕ) (row : List ℕ) → length row ≡ 512 → Comparing low high row 0 row
+comparing-none low high row e = record {
+  marked = record { long = e; each = λ j l. absurd (omega arith) };
+  kept = λ j l. refl;
+}
+
+pub comparing-more : {low high : ℕ} {before row : List ℕ} {l : ℕ} (v : ℕ) → l < 512
+    → (getD row l 0 ≡ low → getD row (l + 88) 0 ≡ high → v ≡ 0 → ⊥) → Comparing low high before l row
+    → Comparing low high before (l + 1) (set row l v)
+comparing-more {low} {high} {before} {row} {l} v h e w = record {
+  marked = record { long = length-set row l v ∙ w .marked .long; each = λ j k. by j k (decLt j l) };
+  kept = λ j k. getD-set-other row l j v 0 (λ q. omega arith) ∙ w .kept j (omega arith);
+}
+  where
+    here : getD before l 0 ≡ low → getD before (l + 88) 0 ≡ high → getD (set row l v) l 0 ≡ 0 → ⊥
+    here a b z =
+        e (w .kept l (omega arith) ∙ a) (w .kept (l + 88) (omega arith) ∙ b)
+        (sym (getD-set-same row l v 0 (omega (arith, w .marked .long))) ∙ z)
+
+    by : (j : ℕ) → j < l + 1 → Dec (j < l) → getD before j 0 ≡ low → getD before (j + 88) 0 ≡ high
+        → getD (set row l v) j 0 ≡ 0 → ⊥
+    by j k (yes p) a b z = w .marked .each j p a b (sym (getD-set-other row l j v 0 (λ q. omega arith)) ∙ z)
+    by j k (no p) a b z =
+        let q : l ≡ j = omega arith in
+        subst
+        (λ (n : ℕ). getD before n 0 ≡ low → getD before (n + 88) 0 ≡ high → getD (set row l v) n 0 ≡ 0 → ⊥)
+        q here a b z
+
+pub comparing-all : {low high : ℕ} {before row : List ℕ} {l n : ℕ} → n ≤ l → Comparing low high before l row
+    → MarkedOf low high before n row
+comparing-all h w = record { long = w .marked .long; each = λ j k. w .marked .each j (omega arith) }

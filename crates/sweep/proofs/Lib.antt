@@ -1,0 +1,5 @@
+pub mod Rows
+pub mod Units
+pub mod Comparing
+pub mod Chain
+pub mod Sfd
