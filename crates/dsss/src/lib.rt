@@ -3,10 +3,11 @@
 // names the answer, and the lent buffer at the end where there is one, in one record: `answer` and `chips`, or `answer`
 // and `octets`.
 ghost use lib.ListN.{length};
-ghost use Rattle.promises.specs.Calls.{Wrote, ReadHard, ReadSoft, ReadBytes, ReadFront};
+ghost use Rattle.promises.specs.Calls.{Wrote, ReadHard, ReadSoft, ReadBytes, ReadFront, Finds};
 use calls::Record;
 use calls::Written;
 use coming::Coming;
+use finding::Found;
 
 // A payload to the chips of its frame; 4s after the frame, or everywhere after a refusal.
 #[no_mangle]
@@ -58,4 +59,13 @@ pub extern "C" fn dsss_read_front(kind: u64, chips: &[u8]) -> Coming
     ensures read { λ c. ⌜ ReadFront kind (now (chips .entry)) c ⌝ }
 {
     front_only::read_front(kind, chips)
+}
+
+// The smallest of so many offsets from which a read of a hard recording meets none of 8 to 15, and what the header there
+// tells. No buffer is lent.
+#[no_mangle]
+pub extern "C" fn dsss_find(kind: u64, chips: &[u8], offsets: u64) -> Found
+    ensures found { λ f. ⌜ Finds kind offsets (now (chips .entry)) f ⌝ }
+{
+    finder::find(kind, chips, offsets)
 }

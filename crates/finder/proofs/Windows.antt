@@ -15,6 +15,7 @@ use Rattle.calls.specs.declared.Told.{Told}
 use Rattle.calls.specs.declared.Front.{Front}
 use Rattle.calls.specs.declared.Front.the-variants as front
 use Rattle.reading.specs.Reading.{frontOf}
+use Rattle.reading.proofs.Places.{some-chips}
 use Rattle.finding.specs.declared.NotFound.{NotFound}
 use Rattle.finding.specs.declared.NotFound.the-variants.{NoStart}
 use Rattle.finding.specs.declared.Finding.{Finding}
@@ -98,7 +99,8 @@ module _ (kind : Kind) (rec : List Taken) where
       by : (j : ℕ) → j < offsets → Dec (j < tried) → Missed (frontOf kind (drop j rec))
       by j l (yes p) = missed j (omega arith) p
       by j l (no p) =
-          short-missed kind (drop j rec) (omega (arith, length-drop j rec, short j (omega arith) l))
+          short-missed kind (drop j rec)
+          (omega (arith, length-drop j rec, short j (omega arith) l, some-chips kind))
 
 -- the phases that the next 256 offsets begin with
 pub carried : (rec : List Taken) (from at count : ℕ) (phases after : List ℕ) → 256 ≤ count

@@ -1,17 +1,9 @@
 -- `finder::tries` meets its contract: an offset has a front behind it just below the chips less a front's, and one.
 -- Assumes nothing.
 use native.Mathlib.Omega.{arith}
-use borrow.Author.Needs.{needs}
-use Rattle.frame.specs.declared.Kind.{Kind}
-use Rattle.frame.specs.declared.Kind.the-variants.{Long, Short}
-use Rattle.frame.specs.Frame.{frontChips}
-use Prim.Native.Nat.{_<_}
+use Rattle.reading.proofs.Places.{some-chips}
 use Rattle.finder.proofs.tries.Statement.{statement}
 use Rattle.finder.proofs.tries.Tie as tie
-
-some-chips : (k : Kind) → 0 < frontChips k
-some-chips Long = omega arith
-some-chips Short = omega arith
 
 pub tries-spec : {M : Type 1} → statement M
 tries-spec =
