@@ -1,10 +1,11 @@
-/* plain.h: the five calls of dsss.h in plain C, and the parts of them that are worth timing alone.
+/* plain.h: the six calls of dsss.h in plain C, and the parts of them that are worth timing alone.
  *
- * The calls take, answer and fill what dsss_write, dsss_read_hard, dsss_read_soft, dsss_read_bytes
- * and dsss_read_front do. Nothing here is proved; tests compare it with the second program.
+ * The calls take, answer and fill what dsss_write, dsss_read_hard, dsss_read_soft, dsss_read_bytes,
+ * dsss_read_front and dsss_find do. Nothing here is proved; tests compare it with the second program.
  *
- * Compiled with -DPLAIN_AS_DSSS, plain_write.c, plain_choose.c and plain_read.c define the calls of dsss.h themselves:
- * a stand-in for the library, to test the tests (host, bridge, bench, the second program) without it. */
+ * Compiled with -DPLAIN_AS_DSSS, plain_write.c, plain_choose.c, plain_read.c and plain_find.c define the calls of
+ * dsss.h themselves: a stand-in for the library, to test the tests (host, bridge, bench, the second program) without
+ * it. */
 #ifndef PLAIN_H
 #define PLAIN_H
 
@@ -16,6 +17,7 @@
 #define plain_read_soft dsss_read_soft
 #define plain_read_bytes dsss_read_bytes
 #define plain_read_front dsss_read_front
+#define plain_find dsss_find
 #endif
 
 dsss_written plain_write(uint64_t kind, uint64_t rate, uint64_t phase, uint64_t clock,
@@ -27,6 +29,7 @@ dsss_record plain_read_soft(uint64_t kind, const float *i, size_t i_len, const f
 dsss_record plain_read_bytes(uint64_t kind, const int8_t *bytes, size_t bytes_len, uint8_t *octets,
                              size_t octets_len);
 dsss_coming plain_read_front(uint64_t kind, const uint8_t *chips, size_t chips_len);
+dsss_found plain_find(uint64_t kind, const uint8_t *chips, size_t chips_len, uint64_t offsets);
 
 /* The counts of a row of usable samples, as far as both rows go: 1024 times each, nearest, halves
  * to even. */

@@ -1,9 +1,10 @@
 /* dsss.h: frames of IEEE Std 802.11b-1999, from payload octets to chips and back.
  *
  * The library writes a frame as chips, and reads a hard, soft or byte recording of chips back to the
- * payload; of a hard one it tells from the front alone what is coming. What it answers is fixed by
- * docs/RULES.md and proved for every input; docs/PROMISES.md says where. No proof covers this header:
- * it is written by hand and held to the source by a test.
+ * payload; of a hard one it tells from the front alone what is coming, and finds the first offset at
+ * which a front can be read. What it answers is fixed by docs/RULES.md and proved for every input;
+ * docs/PROMISES.md says where. No proof covers this header: it is written by hand and held to the
+ * source by a test.
  *
  * CONVENTIONS, the same for every call
  *
@@ -24,11 +25,12 @@
  *           here; the payload's own check sequence is the MAC's, stands in the payload's last octets
  *           and is not looked at. One spoiled symbol can give number 0 and other octets: check them.
  *           Of a read of the front alone it says no more than that the header is good and that the
- *           recording is as long as the frame.
+ *           recording is as long as the frame. Of a find it says no more than that a read accepts the
+ *           front at the offset told: not that the frame starts there, nor that it is whole.
  * Fills     What a lent row held before does not matter. Each call writes every element of it,
  *           refused or not: a chip buffer is 4s but for the frame, an octet buffer is 0s but for
  *           the payload. A refused call leaves nothing else, so nothing old can be shown.
- * Places    Places are chip indexes from the recording's start, which is 0.
+ * Places    Places and offsets are chip indexes from the recording's start, which is 0.
  */
 #ifndef DSSS_H
 #define DSSS_H
@@ -44,12 +46,12 @@ extern "C" {
  * added, PATCH when neither. A call whose record or parameters change gets a new symbol, which a
  * macro here stands for: an object built with an older header then does not link, and is built anew. */
 #define DSSS_VERSION_MAJOR 3
-#define DSSS_VERSION_MINOR 0
+#define DSSS_VERSION_MINOR 1
 #define DSSS_VERSION_PATCH 0
 #define DSSS_VERSION (10000 * DSSS_VERSION_MAJOR + 100 * DSSS_VERSION_MINOR + DSSS_VERSION_PATCH)
 
 /* The symbols of the calls. C and C++ write the plain names; what goes by symbols, as another language
- * or a debugger does, finds these. dsss_read_front is its own symbol. */
+ * or a debugger does, finds these. dsss_read_front and dsss_find are their own symbols. */
 #define dsss_write dsss_write_2
 #define dsss_read_hard dsss_read_hard_3
 #define dsss_read_soft dsss_read_soft_3
@@ -77,6 +79,7 @@ extern "C" {
 #define DSSS_FRONT_SYMBOLS(kind) ((kind) == DSSS_LONG ? 192 : 96) /* of 11 chips each */
 #define DSSS_PAYLOAD_MAX 4095
 #define DSSS_CHIPS_MAX 362472 /* the longest frame: long, 1 Mbit/s, 4,095 octets */
+#define DSSS_OFFSETS_MAX 4096 /* offsets that one find tries, at most */
 
 /* The chips of an octet at a rate, and of a frame of n octets: the room that a write needs. Both are
  * constants where their arguments are; for a kind or rate that is none they mean nothing. A read of
@@ -90,7 +93,8 @@ extern "C" {
 
 /* Refusals. Writing looks for 1 to 6 in this order. Reading looks for 1, 7, 8, then 9 and 10 over
  * the front, 11 to 17, then 9 and 10 over the payload; each 9 through its whole part before 10. A
- * read of the front looks for 1, 8, then 9 and 10 over the front, 11 to 16, and for nothing more. */
+ * read of the front looks for 1, 8, then 9 and 10 over the front, 11 to 16, and for nothing more. A
+ * find looks for 1 and 18, then for a front, and answers 19 if there is none. */
 #define DSSS_REFUSED_KIND 1        /* kind is neither 0 (long) nor 1 (short) */
 #define DSSS_REFUSED_RATE 2        /* rate code isn't one of the four */
 #define DSSS_REFUSED_SHORT_RATE 3  /* rate code 10 with the short kind */
@@ -108,6 +112,8 @@ extern "C" {
 #define DSSS_REFUSED_LENGTH 15     /* LENGTH and bit 7 not those of 1 to 4,095 octets */
 #define DSSS_REFUSED_CUT 16        /* recording ends inside the payload */
 #define DSSS_REFUSED_OCTET_ROOM 17 /* octet buffer shorter than the payload */
+#define DSSS_REFUSED_OFFSETS 18    /* number of offsets to try is 0 or above 4,096 */
+#define DSSS_REFUSED_NO_START 19   /* none of the offsets has a front that a read accepts */
 
 /* The answer of a write. */
 typedef struct {
@@ -150,6 +156,17 @@ typedef struct {
     uint64_t at;     /* where the payload's chips begin in the recording, the front's chips; 0 if refused */
     uint64_t count;  /* the payload's chips, used - at; 0 if refused */
 } dsss_coming;
+
+/* The answer of a find: where a front can be read, and what it tells. There is no place, and a refusal
+ * tells no LENGTH. */
+typedef struct {
+    uint64_t number; /* 0, or the refusal */
+    uint64_t offset; /* the smallest whose front a read accepts, NOT ALWAYS THE FRAME'S; 0 if refused */
+    uint64_t rate;   /* rate code; 0 if refused */
+    uint64_t length; /* LENGTH in microseconds; 0 if refused */
+    uint64_t clock;  /* the clock bit, SERVICE bit 2, as 0 or 1; 0 if refused */
+    uint64_t n;      /* payload octets; 0 if refused */
+} dsss_found;
 
 /* Writes one frame as chips.
  *   kind     DSSS_LONG or DSSS_SHORT                                      refusals 1, 3
@@ -231,6 +248,27 @@ dsss_record dsss_read_bytes(uint64_t kind, const int8_t *bytes, size_t bytes_len
  * Proved:  crates/dsss, dsss_read_front, record ReadFront: answer. */
 dsss_coming dsss_read_front(uint64_t kind, const uint8_t *chips, size_t chips_len);
 
+/* Finds a front in a hard recording that begins anywhere: the smallest offset, below the number of
+ * offsets to try, from which a read meets none of refusals 8 to 15, 9 and 10 over the front only.
+ *   kind     DSSS_LONG or DSSS_SHORT                                      refusal 1
+ *   chips    the recording, chip octets. Those before the offset may be anything, unusable too; from
+ *            it on a whole front must be there, and of the payload nothing: a frame that is cut or
+ *            unusable behind its front is found                           refusal 19
+ *   offsets  how many to try, 0 to offsets - 1: 1 to DSSS_OFFSETS_MAX, whatever the recording's
+ *            length; those past its end have no front                     refusal 18
+ * Answer:  number 0, the offset, and the rate code, LENGTH, clock bit and n that the front there tells.
+ * Refused: the number; all else 0. Of an empty recording, or one shorter than a front, it is 19.
+ * Buffer:  none is lent.
+ * THE OFFSET FOUND IS SELDOM THE FRAME'S FIRST CHIP, AND A READ FROM IT MAY GIVE NUMBER 0 AND OTHER
+ * OCTETS. Barker symbols can be read beside their grid too, at a lead of one chip: the front of a clean
+ * frame is accepted from 10, 8, 6, 4 and 2 chips before its first chip as it is from that chip. So after
+ * lost chips it is found exactly 10 chips early, after others mostly 2 to 10; the cleaner the recording,
+ * the surer. What the front tells is the frame's all the same. But a full read from there gives number 0
+ * and other octets at 5.5 and 11 Mbit/s, and those sent at 1 and 2 Mbit/s only while no chip is spoiled.
+ * Which chip is the frame's first this call does not tell.
+ * Proved:  crates/dsss, dsss_find, record Finds: answer. */
+dsss_found dsss_find(uint64_t kind, const uint8_t *chips, size_t chips_len, uint64_t offsets);
+
 /* The sentence of an answer's number, to show to people. A number that is neither 0 nor a refusal
  * gets the last sentence.
  * NOT PROVED: plain C, held to the table of refusals by tests/header. */
@@ -273,6 +311,10 @@ static inline const char *dsss_sentence(uint64_t number)
         return "The recording ends inside the payload.";
     case DSSS_REFUSED_OCTET_ROOM:
         return "The octet buffer is shorter than the payload.";
+    case DSSS_REFUSED_OFFSETS:
+        return "The number of offsets to try is 0 or above 4,096.";
+    case DSSS_REFUSED_NO_START:
+        return "None of the offsets has a front that a read accepts.";
     default:
         return "This number is no refusal of this library.";
     }

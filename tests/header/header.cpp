@@ -1,5 +1,5 @@
 // header.cpp: dsss.h as C++. Each call is made once with empty rows, so the names must be C's:
-// linked with a library built as C, this fails if they are not. The names of all but one are macros: they
+// linked with a library built as C, this fails if they are not. The names of all but two are macros: they
 // must stand wherever C++ has a function's name, as in a namespace, behind :: and where it is taken as a value.
 #include "dsss.h"
 
@@ -20,10 +20,12 @@ int main()
     dsss_record soft = dsss_read_soft(DSSS_SHORT + 1, NULL, 0, NULL, 0, NULL, 0);
     dsss_record bytes = ::dsss_read_bytes(DSSS_LONG, NULL, 0, NULL, 0);
     dsss_coming coming = radio::read_front(DSSS_SHORT, NULL, 0);
+    dsss_found none = ::dsss_find(DSSS_SHORT, NULL, 0, 0), found = dsss_find(DSSS_LONG, NULL, 0, DSSS_OFFSETS_MAX);
 
     if (written.number != DSSS_REFUSED_PAYLOAD || hard.number != DSSS_REFUSED_FRONT
         || soft.number != DSSS_REFUSED_KIND || bytes.number != DSSS_REFUSED_FRONT
         || coming.number != DSSS_REFUSED_FRONT || coming.at != 0 || coming.count != 0
+        || none.number != DSSS_REFUSED_OFFSETS || found.number != DSSS_REFUSED_NO_START || found.offset != 0
         || hard.lead != 0 || soft.symbol != 0 || bytes.lead != 0) {
         std::puts("header.cpp: a refusal is not the one expected");
         return 1;
