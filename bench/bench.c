@@ -10,7 +10,7 @@
  * The variable DSSS_EMULATED, set by scripts/x86run, says that no real processor is timed: chips
  * per second and the multiple of 11 Mchip/s are left out then. */
 #define _POSIX_C_SOURCE 200809L
-#include "plain.h"
+#include "recordings.h"
 #include "timed_leaves.h"
 
 #include <inttypes.h>
@@ -29,6 +29,7 @@ struct library {
                              size_t);
     dsss_record (*read_bytes)(uint64_t, const int8_t *, size_t, uint8_t *, size_t);
     dsss_coming (*read_front)(uint64_t, const uint8_t *, size_t);
+    dsss_found (*find)(uint64_t, const uint8_t *, size_t, uint64_t);
     void (*count)(const float *, size_t, int32_t *, size_t);
     uint64_t (*decide)(uint64_t, const float *, size_t, const float *, size_t);
     uint64_t (*eleven)(uint64_t, const uint8_t *, size_t, const int8_t *, size_t, const float *, size_t, const float *,
@@ -38,10 +39,10 @@ struct library {
 enum { DSSS, PLAIN, BOTH };
 
 static const struct library libraries[BOTH] = {
-    {dsss_write, dsss_read_hard, dsss_read_soft, dsss_read_bytes, dsss_read_front, timed_count, timed_decide,
-     timed_eleven},
-    {plain_write, plain_read_hard, plain_read_soft, plain_read_bytes, plain_read_front, plain_count, plain_decide,
-     plain_eleven},
+    {dsss_write, dsss_read_hard, dsss_read_soft, dsss_read_bytes, dsss_read_front, dsss_find, timed_count,
+     timed_decide, timed_eleven},
+    {plain_write, plain_read_hard, plain_read_soft, plain_read_bytes, plain_read_front, plain_find, plain_count,
+     plain_decide, plain_eleven},
 };
 
 static const struct {
@@ -56,7 +57,7 @@ static uint8_t payload[DSSS_PAYLOAD_MAX], chips[DSSS_CHIPS_MAX], octets[DSSS_PAY
 static float i_row[DSSS_CHIPS_MAX], q_row[DSSS_CHIPS_MAX];
 static int8_t bytes[2 * DSSS_CHIPS_MAX];
 static uint64_t kind, rate;
-static size_t payload_len, chips_len;
+static size_t payload_len, chips_len, offsets;
 
 static double limit = 0.02; /* seconds */
 static int emulated;
@@ -100,6 +101,11 @@ static uint64_t read_bytes_task(const struct library *l)
 static uint64_t read_front_task(const struct library *l)
 {
     return l->read_front(kind, chips, chips_len).used;
+}
+
+static uint64_t find_task(const struct library *l)
+{
+    return l->find(kind, chips, chips_len, offsets).offset;
 }
 
 enum { TASKS = 4 };
@@ -318,6 +324,65 @@ static void fronts(void)
         }
 }
 
+/* ---- Finds ----------------------------------------------------------------------------------- */
+
+/* Both libraries find the same, and what they must. */
+static void finds_agree(size_t which)
+{
+    dsss_found first = libraries[DSSS].find(kind, chips, chips_len, offsets);
+    dsss_found second = libraries[PLAIN].find(kind, chips, chips_len, offsets);
+
+    if (memcmp(&first, &second, sizeof first) != 0)
+        fail("what is found differs");
+    if (!finds_right(which, offsets, first))
+        fail("what is found is not the frame");
+}
+
+/* A line of finds in a recording, by both, and how many reads of a long front each takes. `each` is the time for an
+ * offset: it does not rise with their number. */
+static void find_line(size_t which, uint64_t new_kind, size_t most, const double *front)
+{
+    double ns[BOTH];
+
+    kind = new_kind;
+    offsets = most;
+    chips_len = lay_recording(which, kind, offsets, chips);
+    finds_agree(which);
+    measure(find_task, ns);
+    printf("%-10s  %-8s  %-5s  %7zu  %12.0f  %12.0f  %6.2f  %8.2f  %11.2f  %12.2f\n", "find", recordings[which],
+           kinds[kind], offsets, ns[DSSS], ns[PLAIN], ns[DSSS] / ns[PLAIN], ns[DSSS] / (double)offsets,
+           ns[DSSS] / front[DSSS], ns[PLAIN] / front[PLAIN]);
+    fflush(stdout);
+}
+
+static void finds(void)
+{
+    static const struct {
+        size_t in;
+        uint64_t kind;
+        size_t offsets;
+    } lines[] = {{IN_NOISE, DSSS_LONG, 1},
+                 {IN_NOISE, DSSS_LONG, 64},
+                 {IN_NOISE, DSSS_LONG, 512},
+                 {IN_NOISE, DSSS_LONG, DSSS_OFFSETS_MAX},
+                 {IN_LOST, DSSS_LONG, DSSS_OFFSETS_MAX},
+                 {IN_LAST, DSSS_LONG, DSSS_OFFSETS_MAX},
+                 {IN_UNUSABLE, DSSS_LONG, DSSS_OFFSETS_MAX},
+                 {IN_NOISE, DSSS_SHORT, DSSS_OFFSETS_MAX},
+                 {IN_LAST, DSSS_SHORT, DSSS_OFFSETS_MAX}};
+    double front[BOTH];
+
+    set_up(DSSS_LONG, DSSS_RATE_1, 10);
+    measure(read_front_task, front);
+    printf("\nfinds in noise, in lost chips, of a frame at the last offset, in noise with an unusable chip in %d;\n"
+           "each: ns of dsss for an offset; fronts: time by that of a read of a long front, by the same\n",
+           EACH);
+    printf("%-10s  %-8s  %-5s  %7s  %12s  %12s  %6s  %8s  %11s  %12s\n", "call", "in", "kind", "offsets", "dsss ns",
+           "plain ns", "ratio", "each", "dsss fronts", "plain fronts");
+    for (size_t k = 0; k < sizeof lines / sizeof lines[0]; k++)
+        find_line(lines[k].in, lines[k].kind, lines[k].offsets, front);
+}
+
 /* ---- Parts of reading, to see where a reader's time goes ------------------------------------- */
 
 static void part_line(const char *name, task_fn task, size_t many)
@@ -443,6 +508,7 @@ int main(int argc, char **argv)
     head();
     whole_calls();
     fronts();
+    finds();
     parts();
     return 0;
 }

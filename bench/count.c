@@ -3,11 +3,13 @@
  *   count CALL KIND RATE OCTETS TIMES
  *
  * CALL is write, hard, soft, bytes or front, KIND is long or short, RATE a rate code. The calls are those of the
- * library, or with -DOF_PLAIN those of plain C. With -DCHOICE a call is the choice alone, of a block of 64
- * symbols of 11 Mbit/s, by the recorder hard, soft or bytes. The rows are made and a call for one octet, or the choice,
- * is made first, whatever TIMES is: the difference of two runs with TIMES 0 and 1 is the instructions of one call, with
- * nothing of the program's start. scripts/instructions.sh builds what it needs and makes the two runs. */
-#include "plain.h"
+ * library, or with -DOF_PLAIN those of plain C. With -DFIND a call is a find in one of the recordings of recordings.h,
+ * which CALL names, and OCTETS are the offsets to try, RATE being of no use. With -DCHOICE a call is the choice alone,
+ * of a block of 64 symbols of 11 Mbit/s, by the recorder hard, soft or bytes. The rows are made and a call for one
+ * octet or offset, or the choice, is made first, whatever TIMES is: the difference of two runs with TIMES 0 and 1 is
+ * the instructions of one call, with nothing of the program's start. scripts/instructions.sh builds what it needs and
+ * makes the two runs. */
+#include "recordings.h"
 #include "timed_leaves.h"
 
 #include <stdio.h>
@@ -23,6 +25,38 @@
 #endif
 
 static uint8_t payload[DSSS_PAYLOAD_MAX], chips[DSSS_CHIPS_MAX];
+
+#ifdef FIND
+enum { LEAST = 1 };
+
+static uint64_t chips_of(size_t len)
+{
+    return len;
+}
+
+/* The recording that a call names; RECORDINGS if it names none. */
+static size_t which(const char *name)
+{
+    size_t k = 0;
+
+    while (k < RECORDINGS && strcmp(name, recordings[k]) != 0)
+        k++;
+    return k;
+}
+
+/* One find; whether it answers as it must. */
+static int call(const char *name, uint64_t kind, uint64_t rate, size_t offsets, size_t len)
+{
+    (void)rate;
+    return finds_right(which(name), offsets, OF(find)(kind, chips, len, offsets));
+}
+
+static uint64_t set_up(const char *name, uint64_t kind, uint64_t rate, size_t offsets)
+{
+    (void)rate;
+    return which(name) < RECORDINGS ? lay_recording(which(name), kind, offsets, chips) : 0;
+}
+#else
 static float i_row[DSSS_CHIPS_MAX], q_row[DSSS_CHIPS_MAX];
 static int8_t bytes[2 * DSSS_CHIPS_MAX];
 
@@ -112,11 +146,12 @@ static uint64_t set_up(const char *name, uint64_t kind, uint64_t rate, size_t n)
         record_bytes(len);
     return len;
 }
+#endif
 
 int main(int argc, char **argv)
 {
     if (argc != 6) {
-        fputs("usage: count write|hard|soft|bytes|front long|short RATE OCTETS TIMES\n", stderr);
+        fputs("usage: count CALL long|short RATE OCTETS TIMES\n", stderr);
         return 2;
     }
     uint64_t kind = strcmp(argv[2], "short") == 0 ? DSSS_SHORT : DSSS_LONG;

@@ -3,11 +3,11 @@
  * A front is read only at an offset where its SFD is right, and the SFD is looked for at all offsets side by side: at
  * each chip a symbol is decided once, whatever offsets it serves, and only as far as an SFD asks. In a front that is
  * accepted all growths at 1 Mbit/s are even, and an even growth is bit 1 exactly where it leads from phases 0 and 1 to
- * phases 2 and 3 or back. With sums a of I and b of Q the phases 0 to 3 score a, b, -a and -b: one of the last two wins,
- * by the rule for equal scores too, exactly when a + b is below 0. So one sum of eleven small numbers is all that is
- * asked of a symbol. Where a growth is odd the bits may be right by chance; the front is refused then.
+ * phases 2 and 3 or back. With sums a of I and b of Q the phases 0 to 3 score a, b, -a and -b: one of the last two
+ * wins, by the rule for equal scores too, exactly when a + b is below 0. So one sum of eleven small numbers is all that
+ * is asked of a symbol. Where a growth is odd the bits may be right by chance; the front is refused then.
  *
- * An SFD does not overlap itself, so at most one offset in sixteen has its front read, whatever is recorded.
+ * An SFD does not overlap itself, so that at most one offset in sixteen has its front read, whatever is recorded.
  *
  * The loops go over chips one beside the other, with nothing but sums and comparisons of octets in them, so that
  * compilers do sixteen at once. No allocation, no intrinsics, nothing written for one processor. Nothing here is

@@ -1,11 +1,13 @@
 #!/bin/sh
-# instructions.sh [-l dsss|plain|all] [-c write|hard|soft|bytes|front|choice|all] [-k long|short]
+# instructions.sh [-l dsss|plain|all] [-c write|hard|soft|bytes|front|choice|find|all] [-k long|short]
 #                 [-r RATE|all] [-n OCTETS]
 #
 # Instructions a chip of whole calls: one line a call, rate and library, that is the library and plain C. A read of the
 # front looks at no payload chip: its instructions are counted with few octets and with most, at 1 and 11 Mbit/s, if
-# none are asked for, and should not differ. A choice is that of a block of 64 symbols of 11 Mbit/s alone. Each figure
-# is the difference of two runs, without the call and with it. On x86-64 valgrind counts (callgrind); elsewhere the
+# none are asked for, and should not differ. A choice is that of a block of 64 symbols of 11 Mbit/s alone. A find is
+# made in each recording of bench/recordings.h, with 4,096 offsets, in noise with fewer too, or with as many as -n says;
+# its figure is not instructions a chip, but how many reads of a long front by the same library they are. Each figure is
+# the difference of two runs, without the call and with it. On x86-64 valgrind counts (callgrind); elsewhere the
 # emulator of the kit logs each instruction that it runs, about a million a second, and the lines of its log are
 # counted. The archives of target/ are taken as they stand, and only those asked for: `make archives` makes all.
 set -eu
@@ -23,17 +25,17 @@ while getopts l:c:k:r:n: option; do
     esac
 done
 [ "$library" != all ] || library='dsss plain'
-[ "$call" != all ] || call='write hard soft bytes front choice'
+[ "$call" != all ] || call='write hard soft bytes front choice find'
 mkdir -p target/c
 work=$(mktemp -d)
 trap 'rm -rf "$work"' EXIT
 
-build() { # build LIBRARY [choice]: $program counts its calls, or its choice, and is not older than what it is made of
-    program=target/c/count.$1${2:+.choice}
-    case $1$2 in
-    plain*) archive='' of=-DOF_PLAIN ;;
-    dsss) archive=target/staticlib/libdsss.a of='' ;;
-    dsss*) archive=target/staticlib/libtimed_leaves.a of='' ;;
+build() { # build LIBRARY [CHOICE|FIND]: $program counts its calls, or these, and is not older than what it is made of
+    program=target/c/count.$1${2:+.$2}
+    case $1.$2 in
+    plain.*) archive='' of=-DOF_PLAIN ;;
+    dsss.CHOICE) archive=target/staticlib/libtimed_leaves.a of='' ;;
+    dsss.*) archive=target/staticlib/libdsss.a of='' ;;
     *)
         echo "instructions.sh: no library $1" >&2
         exit 2
@@ -45,8 +47,8 @@ build() { # build LIBRARY [choice]: $program counts its calls, or its choice, an
     }
     # shellcheck disable=SC2086 # words that may be missing
     if [ ! -f $program ] || [ -n "$(find $archive bench include -newer $program)" ]; then
-        scripts/x86cc $program bench/count.c bench/plain_write.c bench/plain_choose.c bench/plain_read.c $archive -- \
-            -std=c99 -Iinclude -O3 -fno-trapping-math $of ${2:+-DCHOICE}
+        scripts/x86cc $program bench/count.c bench/plain_*.c $archive -- -std=c99 -Iinclude -O3 -fno-trapping-math \
+            $of ${2:+-D$2}
     fi
 }
 
@@ -65,23 +67,48 @@ counted() { # counted WORDS..: the instructions of one run of the program
 }
 
 row() { # row OF CALL KIND RATE OCTETS CHIPS INSTRUCTIONS EACH
-    printf '%-6s  %-12s  %-5s  %4s  %6s  %7s  %12s  %8s\n' "$@"
+    printf '%-6s  %-13s  %-5s  %4s  %7s  %7s  %12s  %8s\n' "$@"
 }
 
-line() { # line LIBRARY CALL RATE OCTETS [choice]
+spent() { # spent CALL KIND RATE OCTETS: the instructions of one call; $work/chips says of how many chips
+    without=$(counted "$@" 0)
+    with=$(counted "$@" 1)
+    echo $((with - without))
+}
+
+by() { # by NUMBER NUMBER: the first by the second
+    awk "BEGIN { printf \"%.2f\", $1 / $2 }"
+}
+
+line() { # line LIBRARY CALL RATE OCTETS [CHOICE]
     build "$1" "${5:-}"
-    without=$(counted "$2" "$kind" "$3" "$4" 0)
-    with=$(counted "$2" "$kind" "$3" "$4" 1)
+    taken=$(spent "$2" "$kind" "$3" "$4")
     chips=$(cat "$work/chips")
-    each=$(awk "BEGIN { printf \"%.2f\", ($with - $without) / $chips }")
-    row "$1" "${5:+choice }$2" "$kind" "$3" "$4" "$chips" $((with - without)) "$each"
+    row "$1" "${5:+choice }$2" "$kind" "$3" "$4" "$chips" "$taken" "$(by "$taken" "$chips")"
+}
+
+find_line() { # find_line LIBRARY RECORDING OFFSETS FRONT: FRONT is the instructions of a front's read
+    build "$1" FIND
+    taken=$(spent "$2" "$kind" - "$3")
+    row "$1" "find $2" "$kind" - "$3" "$(cat "$work/chips")" "$taken" "$(by "$taken" "$4")"
+}
+
+find_lines() { # find_lines LIBRARY: the recordings, by most offsets, and noise by fewer; or all by those asked for
+    build "$1" ''
+    front=$(spent front long 10 10)
+    for n in ${octets:-1 64 512 4096}; do
+        find_line "$1" noise "$n" "$front"
+    done
+    for recording in lost last unusable; do
+        find_line "$1" $recording "${octets:-4096}" "$front"
+    done
 }
 
 rates_or() { # rates_or RATES: those asked for, or these
     if [ "$rate" = all ]; then echo "$1"; else echo "$rate"; fi
 }
 
-lines() { # lines CALL RATES SIZES [choice]: a choice is that of a block, whatever OCTETS says
+lines() { # lines CALL RATES SIZES [CHOICE]: a choice is that of a block, whatever OCTETS says
     sizes=${octets:-$3}
     [ -z "${4:-}" ] || sizes=$3
     for r in $2; do
@@ -94,12 +121,18 @@ lines() { # lines CALL RATES SIZES [choice]: a choice is that of a block, whatev
     done
 }
 
-row of call kind rate octets chips instructions 'a chip'
+[ "$call" = find ] || row of call kind rate octets chips instructions 'a chip'
 for c in $call; do
     case $c in
     choice)
         for recorder in hard soft bytes; do
-            lines $recorder 110 1500 choice
+            lines $recorder 110 1500 CHOICE
+        done
+        ;;
+    find)
+        row of call kind rate offsets chips instructions fronts
+        for l in $library; do
+            find_lines "$l"
         done
         ;;
     front) lines front "$(rates_or '10 110')" '10 4095' ;;

@@ -1,0 +1,46 @@
+/* recordings.h: what bench.c and count.c look for a front in. */
+#ifndef RECORDINGS_H
+#define RECORDINGS_H
+
+#include "plain.h"
+
+#include <string.h>
+
+enum { IN_NOISE, IN_LOST, IN_LAST, IN_UNUSABLE, RECORDINGS };
+
+enum { UNUSABLE = 200, EACH = 500 }; /* an octet that is no chip, and how often it comes */
+
+/* Random phases; lost chips, as silence is recorded; random phases and a frame at the last offset; random phases with
+ * unusable chips in them. */
+static const char *const recordings[RECORDINGS] = {"noise", "lost", "last", "unusable"};
+
+/* Lays a recording out that has a whole front's chips at each of so many offsets and no chip more, but for the payload
+ * of a frame, and answers its chips. There is room for them. */
+static inline size_t lay_recording(size_t which, uint64_t kind, size_t offsets, uint8_t *chips)
+{
+    const uint8_t payload[1] = {0xA5};
+    size_t last = offsets - 1, len = last + DSSS_FRAME_CHIPS(kind, DSSS_RATE_2, which == IN_LAST ? sizeof payload : 0);
+    uint32_t state = 2463534242u; /* of an xorshift */
+
+    for (size_t k = 0; k < len; k++) {
+        state ^= state << 13;
+        state ^= state >> 17;
+        state ^= state << 5;
+        chips[k] = which == IN_LOST ? DSSS_CHIP_LOST : state >> 8 & 3;
+        if (which == IN_UNUSABLE && k % EACH == 0)
+            chips[k] = UNUSABLE;
+    }
+    if (which == IN_LAST)
+        plain_write(kind, DSSS_RATE_2, 0, 0, payload, sizeof payload, chips + last, len - last);
+    return len;
+}
+
+/* Whether a find answers what it must: the frame at the last offset, or up to 10 chips before it, or 19. */
+static inline int finds_right(size_t which, size_t offsets, dsss_found found)
+{
+    if (which != IN_LAST)
+        return found.number == DSSS_REFUSED_NO_START;
+    return found.number == 0 && found.offset < offsets && found.offset + 10 >= offsets - 1 && found.n == 1;
+}
+
+#endif
