@@ -16,11 +16,7 @@
 
 #include <string.h>
 
-enum {
-    LANES = 16,          /* chips side by side */
-    WINDOW = 256,        /* chips at which symbols are decided before SFDs are compared */
-    REACH = 23 * BARKER, /* from the first symbol that the SFD's bits hang on, 8 before it, to its last */
-};
+enum { LANES = 16, WINDOW = 256 }; /* chips side by side; chips, and offsets, at a time */
 
 /* What is known at each chip of a window. An octet has a bit of the symbol that begins there, its lowest, and of those
  * two, four and so on up to fourteen symbols before: an SFD is two such octets, a symbol apart, and no octet is made of
@@ -78,6 +74,20 @@ static inline void unscramble(struct window *w)
         w->bits[BARKER + k] = w->grown[7 * BARKER + k] ^ w->grown[3 * BARKER + k] ^ w->grown[k];
 }
 
+static inline void compare(struct window *w, uint8_t last, uint8_t before)
+{
+    for (unsigned k = 0; k < WINDOW; k++)
+        w->wrong[k] = (w->bits[BARKER + k] ^ last) | (w->bits[k] ^ before);
+}
+
+/* Rows begin with what was their end. */
+static inline void move_on(struct window *w)
+{
+    memcpy(w->halves, w->halves + WINDOW, 2 * BARKER);
+    memcpy(w->grown, w->grown + WINDOW, 7 * BARKER);
+    memcpy(w->bits, w->bits + WINDOW, BARKER);
+}
+
 /* Every second bit of an SFD, down from `last`, in the order of a window's octets. */
 static inline uint8_t octet_of(unsigned sfd, unsigned last)
 {
@@ -88,20 +98,15 @@ static inline uint8_t octet_of(unsigned sfd, unsigned last)
     return (uint8_t)octet;
 }
 
-static inline void compare(struct window *w, unsigned sfd)
+/* All that is known of the next window, which begins with the first of these chips, but for the SFD. */
+static void pass(struct window *w, const uint8_t *chips)
 {
-    const uint8_t last = octet_of(sfd, 15), before = octet_of(sfd, 14);
-
-    for (unsigned k = 0; k < WINDOW; k++)
-        w->wrong[k] = (w->bits[BARKER + k] ^ last) | (w->bits[k] ^ before);
-}
-
-/* The next window's rows begin with the end of these. */
-static inline void move_on(struct window *w)
-{
-    memcpy(w->halves, w->halves + WINDOW, 2 * BARKER);
-    memcpy(w->grown, w->grown + WINDOW, 7 * BARKER);
-    memcpy(w->bits, w->bits + WINDOW, BARKER);
+    move_on(w);
+    take_sides(w, chips);
+    take_pairs(w);
+    decide(w);
+    grow(w);
+    unscramble(w);
 }
 
 static dsss_found not_found(uint64_t number)
@@ -111,15 +116,14 @@ static dsss_found not_found(uint64_t number)
     return found;
 }
 
-/* The first front that is accepted, of those whose SFD ends in the window that begins `at` chips behind the first; or
- * 19. The recording is said to hold the longest frame, so that 16 is not met: no chip behind a front is looked at. */
+/* The first front that is accepted, of those at up to a window's offsets from `at` on, or 19. The recording is said to
+ * hold the longest frame, so that 16 is not met: no chip behind a front is looked at. */
 static dsss_found read_fronts(uint64_t kind, const uint8_t *chips, const uint8_t *wrong, size_t at, size_t offsets)
 {
-    const uint8_t *next = wrong + (at < REACH ? REACH - at : 0);
-    const uint8_t *end = wrong + (offsets + REACH - at < WINDOW ? offsets + REACH - at : WINDOW);
+    const uint8_t *end = wrong + (offsets < WINDOW ? offsets : WINDOW);
 
-    for (; (next = memchr(next, 0, (size_t)(end - next))) != NULL; next++) {
-        size_t offset = at + (size_t)(next - wrong) - REACH;
+    for (const uint8_t *next = wrong; (next = memchr(next, 0, (size_t)(end - next))) != NULL; next++) {
+        size_t offset = at + (size_t)(next - wrong);
         dsss_coming told = plain_read_front(kind, chips + offset, DSSS_CHIPS_MAX);
         dsss_found found = {0, offset, told.rate, told.length, told.clock, told.n};
         if (told.number == 0)
@@ -128,24 +132,22 @@ static dsss_found read_fronts(uint64_t kind, const uint8_t *chips, const uint8_t
     return not_found(DSSS_REFUSED_NO_START);
 }
 
-/* The first of so many offsets, each of which has a whole front. The last window may end behind the last SFD, but not
- * behind the header. */
+/* The first of so many offsets, each of which has a whole front. A window stands where the SFDs of its offsets have
+ * their last symbols; their bits hang on the 23 symbols before, which are less than a window. The last window may end
+ * behind the last SFD, but not behind the header. */
 static dsss_found find(uint64_t kind, const uint8_t *chips, size_t offsets)
 {
-    const uint8_t *first = chips + (kinds[kind].sync_bits - 8) * BARKER;
+    const uint8_t last = octet_of(kinds[kind].sfd, 15), before = octet_of(kinds[kind].sfd, 14);
+    const uint8_t *ends = chips + (kinds[kind].sync_bits + 15) * BARKER;
     dsss_found found = not_found(DSSS_REFUSED_NO_START);
     struct window w;
 
     memset(&w, 0, sizeof w);
-    for (size_t at = 0; at < offsets + REACH && found.number != 0; at += WINDOW) {
-        take_sides(&w, first + at);
-        take_pairs(&w);
-        decide(&w);
-        grow(&w);
-        unscramble(&w);
-        compare(&w, kinds[kind].sfd);
-        found = read_fronts(kind, chips, w.wrong, at, offsets);
-        move_on(&w);
+    pass(&w, ends - WINDOW);
+    for (size_t at = 0; at < offsets && found.number != 0; at += WINDOW) {
+        pass(&w, ends + at);
+        compare(&w, last, before);
+        found = read_fronts(kind, chips, w.wrong, at, offsets - at);
     }
     return found;
 }
