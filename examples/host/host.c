@@ -5,11 +5,12 @@
  * from other recorders, with the clock bit, then spoiled, then cut short. Then the host does as it
  * does at the table: it asks what is coming, tells the fitter of it and of how the payload's chips came
  * through, sets aside just as many octets, and only then reads. Of each caption the fitter is told how
- * clearly its symbols were won, so that an aerial is moved before captions fail. What comes from the air
- * may be any octets, so it is shown escaped. A caption of an earlier exhibition must never be seen again:
- * before each read the octet buffer is full of one, and after it what is left of it is counted. All memory
- * is in the static rows below; those that are lent for writing stand between guard octets, which must
- * stay as they were. */
+ * clearly its symbols were won, so that an aerial is moved before captions fail. In recordings that begin
+ * anywhere it has the front found, and shows what a read from the offset found is worth. What comes from
+ * the air may be any octets, so it is shown escaped. A caption of an earlier exhibition must never be seen
+ * again: before each read the octet buffer is full of one, and after it what is left of it is counted. All
+ * memory is in the static rows below; those that are lent for writing stand between guard octets, which
+ * must stay as they were. */
 #include "dsss.h"
 
 #include <inttypes.h>
@@ -21,6 +22,9 @@ enum { GUARD = 32, GUARD_OCTET = 0x5C };
 
 /* A lead of two full chips or less: one more chip lost may give another caption. */
 enum { LEAD_LOW = 2 * DSSS_FULL_CHIP };
+
+/* Lost chips before a frame, where a recording begins anywhere. */
+enum { LOST = 345 };
 
 static const char *const captions[4] = {
     "Cave bear, from the front. The canines are worn blunt.",
@@ -81,13 +85,19 @@ static int guards_stand(void)
     return !changed;
 }
 
-/* Writes a caption's frame to the chip row; `clock` is 0 if its sender's chip clock and carrier do not
- * share an oscillator. */
-static dsss_written send_caption(uint64_t kind, uint64_t rate, uint64_t clock, const char *caption)
+/* Writes a caption's frame to the chip row behind so many lost chips; `clock` is 0 if its sender's chip
+ * clock and carrier do not share an oscillator. */
+static dsss_written send_behind(size_t lost, uint64_t kind, uint64_t rate, uint64_t clock, const char *caption)
 {
     const uint8_t *payload = (const uint8_t *)caption;
 
-    return dsss_write(kind, rate, 0, clock, payload, strlen(caption), chips.row, CHIPS_MAX);
+    memset(chips.row, DSSS_CHIP_LOST, lost);
+    return dsss_write(kind, rate, 0, clock, payload, strlen(caption), chips.row + lost, CHIPS_MAX - lost);
+}
+
+static dsss_written send_caption(uint64_t kind, uint64_t rate, uint64_t clock, const char *caption)
+{
+    return send_behind(0, kind, rate, clock, caption);
 }
 
 static void fill_with_old(void)
@@ -146,10 +156,16 @@ static void show(const char *what, uint64_t kind, dsss_record record)
         show_lead(kind, record);
 }
 
-static void show_hard(const char *what, uint64_t kind, uint64_t len)
+/* What is read from a chip of the row on. */
+static void show_from(const char *what, uint64_t kind, uint64_t from, uint64_t len)
 {
     fill_with_old();
-    show(what, kind, dsss_read_hard(kind, chips.row, len, octets.row, CAPTION_MAX));
+    show(what, kind, dsss_read_hard(kind, chips.row + from, len - from, octets.row, CAPTION_MAX));
+}
+
+static void show_hard(const char *what, uint64_t kind, uint64_t len)
+{
+    show_from(what, kind, 0, len);
 }
 
 /* The same frame as a soft recorder gives it: weak, and with an offset on I. */
@@ -365,6 +381,46 @@ static void what_is_coming(void)
     printf("%zu of %d octets set aside\n", aside_used, (int)ASIDE_MAX);
 }
 
+/* What a find answers, in words for the fitter, who knows which chip is the frame's first. */
+static void tell_found(const char *what, uint64_t first, dsss_found found)
+{
+    if (found.number != 0) {
+        printf("%s: none found, %" PRIu64 ". %s\n", what, found.number, dsss_sentence(found.number));
+        return;
+    }
+    printf("%s: a front that tells of %" PRIu64 " octets at %s Mbit/s, LENGTH %" PRIu64 "%s\n", what, found.n,
+           in_mbit(found.rate), found.length,
+           found.clock ? ", chip clock and carrier from one oscillator" : "");
+    printf("    found at chip %" PRIu64 ", %" PRIu64 " before the frame's first\n", found.offset,
+           first - found.offset);
+}
+
+/* Finds a front behind lost chips, and reads from the offset found and from the frame's first chip. */
+static uint64_t find_and_read(const char *what, uint64_t rate, uint64_t clock, const char *caption)
+{
+    uint64_t len = LOST + send_behind(LOST, DSSS_LONG, rate, clock, caption).chips;
+    dsss_found found = dsss_find(DSSS_LONG, chips.row, len, DSSS_OFFSETS_MAX);
+
+    tell_found(what, LOST, found);
+    if (found.number == 0)
+        show_from("read from there", DSSS_LONG, found.offset, len);
+    show_from("read from the frame's first chip", DSSS_LONG, LOST, len);
+    return len;
+}
+
+/* The offset found is not the frame's first chip: it is where a front can be read. At 2 Mbit/s the caption
+ * is right from there too, at a lead of one chip; at 11 Mbit/s number 0 comes with other octets. */
+static void begun_anywhere(void)
+{
+    printf("\nRecordings that begin anywhere: %d lost chips, then a frame\n", (int)LOST);
+    find_and_read("long, 2 Mbit/s", DSSS_RATE_2, 1, captions[1]);
+    uint64_t len = find_and_read("long, 11 Mbit/s", DSSS_RATE_11, 0, captions[3]);
+    tell_found("cut in its payload", LOST, dsss_find(DSSS_LONG, chips.row, len - 8, DSSS_OFFSETS_MAX));
+    tell_found("within 300 chips", LOST, dsss_find(DSSS_LONG, chips.row, len, 300));
+    tell_found("in no chips", LOST, dsss_find(DSSS_LONG, NULL, 0, 300));
+    tell_found("within no chips", LOST, dsss_find(DSSS_LONG, chips.row, len, 0));
+}
+
 static void not_written(void)
 {
     puts("\nA frame that cannot be written");
@@ -389,6 +445,7 @@ int main(void)
     another_text();
     cut_short();
     what_is_coming();
+    begun_anywhere();
     not_written();
     printf("\nGuard octets %s\n", guards_stand() ? "as they were" : "CHANGED");
     return guards_stand() ? 0 : 1;
