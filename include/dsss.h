@@ -161,7 +161,7 @@ typedef struct {
  * tells no LENGTH. */
 typedef struct {
     uint64_t number; /* 0, or the refusal */
-    uint64_t offset; /* the smallest whose front a read accepts, NOT ALWAYS THE FRAME'S; 0 if refused */
+    uint64_t offset; /* the smallest whose front a read accepts, SELDOM THE FRAME'S FIRST CHIP; 0 if refused */
     uint64_t rate;   /* rate code; 0 if refused */
     uint64_t length; /* LENGTH in microseconds; 0 if refused */
     uint64_t clock;  /* the clock bit, SERVICE bit 2, as 0 or 1; 0 if refused */
@@ -261,11 +261,11 @@ dsss_coming dsss_read_front(uint64_t kind, const uint8_t *chips, size_t chips_le
  * Buffer:  none is lent.
  * THE OFFSET FOUND IS SELDOM THE FRAME'S FIRST CHIP, AND A READ FROM IT MAY GIVE NUMBER 0 AND OTHER
  * OCTETS. Barker symbols can be read beside their grid too, at a lead of one chip: the front of a clean
- * frame is accepted from 10, 8, 6, 4 and 2 chips before its first chip as it is from that chip. So after
- * lost chips it is found exactly 10 chips early, after others mostly 2 to 10; the cleaner the recording,
- * the surer. What the front tells is the frame's all the same. But a full read from there gives number 0
- * and other octets at 5.5 and 11 Mbit/s, and those sent at 1 and 2 Mbit/s only while no chip is spoiled.
- * Which chip is the frame's first this call does not tell.
+ * frame may be accepted from 10, 8, 6, 4 or 2 chips before its first chip already. So after ten or more
+ * lost chips it is found exactly 10 chips early, after other chips mostly 2 to 10; the cleaner the
+ * recording, the surer. What the front tells is the frame's all the same. But a full read from there
+ * gives number 0 and other octets at 5.5 and 11 Mbit/s, and those sent at 1 and 2 Mbit/s only while no
+ * chip is spoiled. Which chip is the frame's first, this call does not tell.
  * Proved:  crates/dsss, dsss_find, record Finds: answer. */
 dsss_found dsss_find(uint64_t kind, const uint8_t *chips, size_t chips_len, uint64_t offsets);
 

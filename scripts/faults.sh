@@ -7,7 +7,7 @@
 # error, and the lent buffer is not set, so that what a call leaves unwritten, or makes of old contents, is one too.
 set -eu
 cd "$(dirname "$0")/.."
-families=empty_rows,read_rooms,write_edges,cut_recordings,long_refused,coming_rooms,leads_as_sent
+families=empty_rows,read_rooms,write_edges,cut_recordings,long_refused,coming_rooms,leads_as_sent,find_edges
 flags='-std=c99 -Wall -Wextra -Wpedantic -Werror -Iinclude -g'
 sanitized='-fsanitize=address,undefined -fno-sanitize-recover=all'
 if [ "$(uname -m)" = x86_64 ]; then
