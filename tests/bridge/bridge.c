@@ -7,19 +7,22 @@
  *   3, read soft  u64 kind, i_len, q_len, octets_len; i_len f32, q_len f32, raw bits
  *   4, read bytes u64 kind, bytes_len, octets_len; the bytes
  *   5, read front u64 kind, chips_len; the chips
+ *   6, find       u64 kind, chips_len, offsets; the chips
  * An answer is the record (1: number, chips; 2 to 4: number, place, rate, length, n, used, clock, lead,
- * symbol; 5: number, place, rate, length, clock, n, used, at, count; u64 each), every octet of the lent
- * buffer as the call left it, and a u64 guard: 0 if all is as it was around the rows and in those lent for
- * reading only, else 1. 5 has no lent buffer: its part stands there instead, `count` chips from the
- * recording's own chips + at on, as far as they are in the recording.
+ * symbol; 5: number, place, rate, length, clock, n, used, at, count; 6: number, offset, rate, length, clock,
+ * n; u64 each), every octet of the lent buffer as the call left it, and a u64 guard: 0 if all is as it was
+ * around the rows and in those lent for reading only, else 1. 5 and 6 have no lent buffer: of 5 its part
+ * stands there instead, `count` chips from the recording's own chips + at on, as far as they are in the
+ * recording.
  *
  * The lent buffer holds 0xAA before the call. A row of length 0 is passed as NULL; any other stands
  * between guard octets, octets and bytes at odd addresses, floats at multiples of 4 that are none of 16.
  * Called as `bridge pages`, each row ends where memory ends instead: a read past it kills the bridge, on
- * every processor; so does a look at a chip behind the front in 5. Called as `bridge exact`, each row is
- * memory of just its size and the lent buffer is not set before the call: for valgrind, which then sees
- * every touch beside a row, what a call makes of the buffer's old contents, and every octet that it
- * leaves unwritten.
+ * every processor; so does a look at a chip behind the front in 5, and one at any chip in 6 where the kind
+ * or the number of offsets is refused. 6 is then called once more, with a row that begins where memory
+ * begins; the guard is 1 too if that call answers otherwise. Called as `bridge exact`, each row is memory of
+ * just its size and the lent buffer is not set before the call: for valgrind, which then sees every touch
+ * beside a row, what a call makes of the buffer's old contents, and every octet that it leaves unwritten.
  *
  * Answers are flushed when no further input is at hand, so requests may be sent ahead of answers.
  * Status 0 at an end of input between requests; else 1 and a message on stderr. */
@@ -285,6 +288,40 @@ static void call_read_front(void)
     put_guard(end_row(&chips));
 }
 
+/* A find over chips that begin where memory begins: a look before them kills the bridge. */
+static dsss_found find_from_edge(uint64_t kind, const struct row *chips, uint64_t offsets)
+{
+    size_t len = chips->to - chips->from, before = in_pages(1), size = before + in_pages(len);
+    uint8_t *all = mmap(NULL, size, PROT_READ | PROT_WRITE, MAP_PRIVATE | MAP_ANONYMOUS, -1, 0);
+
+    if (all == MAP_FAILED)
+        die("no memory for a row");
+    memcpy(all + before, chips->memory + chips->from, len);
+    if (mprotect(all, before, PROT_NONE) != 0)
+        die("cannot close a row");
+    dsss_found found = dsss_find(kind, len > 0 ? all + before : NULL, len, offsets);
+    munmap(all, size);
+    return found;
+}
+
+/* Of a kind or a number of offsets that is refused no chip may be looked at. */
+static void call_find(void)
+{
+    uint64_t kind = get_number(), chips_len = get_number(), offsets = get_number();
+    int refused = kind > DSSS_SHORT || offsets < 1 || offsets > DSSS_OFFSETS_MAX;
+    struct row chips = read_row_to(chips_len, 1, refused ? 0 : chips_len);
+    uint64_t differs = 0;
+
+    dsss_found found = dsss_find(kind, pointer(&chips), (size_t)chips_len, offsets);
+    set_access(&chips, PROT_READ);
+    if (rows == PAGES) {
+        dsss_found again = find_from_edge(kind, &chips, offsets);
+        differs = memcmp(&found, &again, sizeof found) != 0;
+    }
+    put(&found, sizeof found);
+    put_guard(end_row(&chips) | differs);
+}
+
 int main(int argc, char **argv)
 {
     if (argc > 2 || (argc == 2 && strcmp(argv[1], "pages") != 0 && strcmp(argv[1], "exact") != 0))
@@ -308,8 +345,11 @@ int main(int argc, char **argv)
         case 5:
             call_read_front();
             break;
+        case 6:
+            call_find();
+            break;
         default:
-            die("an op that is not 1 to 5");
+            die("an op that is not 1 to 6");
         }
     }
     return 0;

@@ -2,6 +2,7 @@
 
 use crate::chips::Recording;
 use crate::coming::{coming, Coming};
+use crate::finding::{find, Found};
 use crate::reading::read;
 use crate::refusals::CHIP_BUFFER;
 use crate::writing::write;
@@ -15,6 +16,7 @@ pub enum Call {
     ReadSoft { kind: u64, i: Vec<f32>, q: Vec<f32>, octets_len: usize },
     ReadBytes { kind: u64, bytes: Vec<i8>, octets_len: usize },
     ReadFront { kind: u64, chips: Vec<u8> },
+    Find { kind: u64, chips: Vec<u8>, offsets: u64 },
 }
 
 /// What a call answers: its numbers in the order of the record, and the lent buffer after the call, or the part that it
@@ -87,6 +89,10 @@ impl Call {
         Call::ReadFront { kind, chips }
     }
 
+    pub fn find(kind: u64, chips: Vec<u8>, offsets: u64) -> Call {
+        Call::Find { kind, chips, offsets }
+    }
+
     pub fn op(&self) -> &'static str {
         match self {
             Call::Write { .. } => "write",
@@ -94,6 +100,7 @@ impl Call {
             Call::ReadSoft { .. } => "read soft",
             Call::ReadBytes { .. } => "read bytes",
             Call::ReadFront { .. } => "read front",
+            Call::Find { .. } => "find",
         }
     }
 
@@ -101,6 +108,7 @@ impl Call {
         match self {
             Call::Write { .. } => &["number", "chips"],
             Call::ReadFront { .. } => &["number", "place", "rate", "length", "clock", "n", "used", "at", "count"],
+            Call::Find { .. } => &["number", "offset", "rate", "length", "clock", "n"],
             _ => &["number", "place", "rate", "length", "n", "used", "clock", "lead", "symbol"],
         }
     }
@@ -111,7 +119,7 @@ impl Call {
             Call::ReadHard { octets_len, .. }
             | Call::ReadSoft { octets_len, .. }
             | Call::ReadBytes { octets_len, .. } => *octets_len,
-            Call::ReadFront { .. } => 0,
+            Call::ReadFront { .. } | Call::Find { .. } => 0,
         }
     }
 
@@ -149,6 +157,10 @@ impl Call {
                 numbers(&[5, *kind, chips.len() as u64]);
                 to.extend(chips);
             }
+            Call::Find { kind, chips, offsets } => {
+                numbers(&[6, *kind, chips.len() as u64, *offsets]);
+                to.extend(chips);
+            }
         }
     }
 
@@ -169,7 +181,7 @@ impl Call {
     /// The recording of which a full read is asked.
     pub fn recording(&self) -> Option<Recording<'_>> {
         match self {
-            Call::Write { .. } | Call::ReadFront { .. } => None,
+            Call::Write { .. } | Call::ReadFront { .. } | Call::Find { .. } => None,
             Call::ReadHard { chips, .. } => Some(Recording::Hard(chips)),
             Call::ReadSoft { i, q, .. } => Some(Recording::Soft(i, q)),
             Call::ReadBytes { bytes, .. } => Some(Recording::Bytes(bytes)),
@@ -192,6 +204,7 @@ impl Call {
                 buffer.extend(front.part);
                 front_record(front, chips.len())
             }
+            Call::Find { kind, chips, offsets } => found_record(find(*kind, chips, *offsets), chips.len()),
             Call::ReadHard { kind, .. } | Call::ReadSoft { kind, .. } | Call::ReadBytes { kind, .. } => {
                 let recording = self.recording().expect("a full read has one");
                 let mut read = read(*kind, recording, &mut buffer);
@@ -208,7 +221,7 @@ impl Call {
         let mut lines = vec![format!("  {}: {}", self.op(), self.shown_numbers())];
         match self {
             Call::Write { payload, .. } => lines.push(format!("  payload {}", hex(payload, cut))),
-            Call::ReadHard { chips, .. } | Call::ReadFront { chips, .. } => {
+            Call::ReadHard { chips, .. } | Call::ReadFront { chips, .. } | Call::Find { chips, .. } => {
                 lines.push(format!("  chips {}", hex(chips, cut)));
             }
             Call::ReadSoft { i, q, .. } => {
@@ -250,6 +263,7 @@ impl Call {
                 format!("kind {kind}, bytes_len {}, octets_len {octets_len}", bytes.len())
             }
             Call::ReadFront { kind, chips } => format!("kind {kind}, chips_len {}", chips.len()),
+            Call::Find { kind, chips, offsets } => format!("kind {kind}, chips_len {}, offsets {offsets}", chips.len()),
         }
     }
 
@@ -277,6 +291,11 @@ fn front_record(front: Coming, recorded: usize) -> (Vec<u64>, Part, bool) {
     let Coming { number, place, rate, length, clock, n, used, at, part, told, clock_read } = front;
     let numbers = vec![number, place, rate, length, clock, n, used, at, part.len() as u64];
     (numbers, Part::of(told, place, recorded), clock_read)
+}
+
+fn found_record(found: Found, recorded: usize) -> (Vec<u64>, Part, bool) {
+    let Found { number, offset, rate, length, clock, n } = found;
+    (vec![number, offset, rate, length, clock, n], Part::of(n, 0, recorded), clock == 1)
 }
 
 fn hex(row: &[impl LowerHex], cut: usize) -> String {

@@ -38,6 +38,7 @@ mod refusals;
 mod writing;
 mod reading;
 mod coming;
+mod finding;
 mod table_p;
 
 // The comparison.

@@ -103,16 +103,20 @@ pub fn read_front(kind: u64, recording: Recording, heard: &mut Heard) -> Result<
     heard.symbols(Rate::Mbit1, before_header, 0)?;
     heard.symbols(kind.header_rate(), header, before_header.len())?;
 
-    // SYNC bits aren't compared.
-    let bits = unscramble(&heard.scrambled);
+    front_of(kind, &heard.scrambled).map_err(Read::refused)
+}
+
+/// 11, 12: what the front's scrambled bits hold, or the refusal's number. SYNC bits aren't compared.
+pub fn front_of(kind: Kind, scrambled: &[u8]) -> Result<Front, u64> {
+    let bits = unscramble(scrambled);
     let (before_header, header_bits) = bits.split_at(kind.bits_before_header());
     if number_of(&before_header[before_header.len() - 16..]) != kind.sfd() {
-        return Err(Read::refused(refusals::SFD));
+        return Err(refusals::SFD);
     }
     let header = Header::of_bits(header_bits);
     let crc_read = header_bits[32..].iter().fold(0, |value: u16, bit| value << 1 | u16::from(*bit));
     if crc_read != header.crc() {
-        return Err(Read::refused(refusals::CRC));
+        return Err(refusals::CRC);
     }
     Ok(Front { kind, header })
 }

@@ -2,7 +2,7 @@
 //!
 //! Writing: 1, 2, 3, 4, 5, 6. Reading: 1, 7, 8, then 9 and 10 over the front, 11, 12, 13, 14, 15, 16, 17, then 9 and
 //! 10 over the payload. In each part, 9 is looked for through the whole part before 10. Telling what is coming: 1, 8,
-//! then 9 and 10 over the front, 11, 12, 13, 14, 15, 16.
+//! then 9 and 10 over the front, 11, 12, 13, 14, 15, 16. Finding the start: 1, 18, 19.
 
 /// kind is neither 0 (long) nor 1 (short)
 pub const KIND: u64 = 1;
@@ -38,6 +38,13 @@ pub const LENGTH: u64 = 15;
 pub const ENDS: u64 = 16;
 /// octet buffer shorter than n
 pub const OCTET_BUFFER: u64 = 17;
+/// number of offsets to try isn't 1 to 4,096
+pub const OFFSETS: u64 = 18;
+/// no offset to try from which a read meets none of 8 to 15, 9 and 10 over the front only
+pub const NO_START: u64 = 19;
 
 /// The longest payload in octets.
 pub const MOST_OCTETS: usize = 4095;
+
+/// The most offsets to try.
+pub const MOST_OFFSETS: u64 = 4096;
