@@ -1,10 +1,11 @@
 //! How the answers over one hard recording go together, whatever this program expects of each: what its front tells,
-//! and what full reads answer.
+//! what full reads answer, and what is found in it.
 
 use crate::bits::Rate;
 use crate::calls::{Answer, Call};
 use crate::frame::Kind;
 use crate::refusals::{ENDS, GROWTH, OCTET_BUFFER, UNUSABLE};
+use crate::starts::{Sought, Start};
 use std::collections::BTreeMap;
 
 /// What was seen to hold.
@@ -26,6 +27,8 @@ pub enum Held {
     SpoiledInPart,
     /// A full read with room for less than n octets is refused with 17.
     ShortOfRoom,
+    /// This, of a find or of a read behind it.
+    Finds(Start),
 }
 
 /// What the front of a recording told.
@@ -35,10 +38,11 @@ struct Told {
     numbers: [u64; 9],
 }
 
-/// The last read of a front, to which those calls are held that follow it.
+/// The last read of a front and the last find, to which those calls are held that follow them.
 #[derive(Default)]
 pub struct Relations {
     last: Option<Told>,
+    sought: Option<Sought>,
 }
 
 impl Relations {
@@ -62,7 +66,18 @@ impl Relations {
             }
             _ => {}
         }
+        self.starts(call, answer)?.into_iter().for_each(|start| count(Some(Held::Finds(start))));
         Ok(())
+    }
+
+    /// What holds of a find, or of a read behind one.
+    fn starts(&mut self, call: &Call, answer: &Answer) -> Result<Vec<Start>, &'static str> {
+        if let Call::Find { kind, chips, offsets } = call {
+            let (sought, holds) = Sought::new(*kind, chips, *offsets, &answer.numbers, self.sought.take());
+            self.sought = Some(sought);
+            return holds;
+        }
+        self.sought.as_mut().map_or(Ok(Vec::new()), |sought| sought.read(call, answer))
     }
 }
 
@@ -135,16 +150,22 @@ impl Told {
     /// symbol of the frame.
     fn led(&self, lead: u64, symbol: u64) -> Result<Held, &'static str> {
         let [_, _, rate, _, _, _, _, at, count] = self.numbers;
-        let (most, each) = match Rate::of_code(rate) {
-            Some(Rate::Mbit11) => (4, 8),
-            Some(Rate::Mbit5_5) => (8, 8),
-            _ => (11, 11),
-        };
-        let can_be = lead % 1024 == 0 && lead <= 1024 * most && symbol < at / 11 + count / each;
+        let each = Rate::of_code(rate).map_or(11, Rate::chips_per_symbol) as u64;
+        let can_be = lead % 1024 == 0 && lead <= lead_as_sent(rate) && symbol < at / 11 + count / each;
         if can_be {
             Ok(Held::ReadAlike)
         } else {
             Err("a lead or a symbol that no hard recording has")
         }
     }
+}
+
+/// The smallest lead of a frame whose chips are full and as they were sent, by its rate code.
+pub fn lead_as_sent(rate: u64) -> u64 {
+    let chips = match Rate::of_code(rate) {
+        Some(Rate::Mbit11) => 4,
+        Some(Rate::Mbit5_5) => 8,
+        _ => 11,
+    };
+    1024 * chips
 }
