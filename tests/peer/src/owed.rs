@@ -2,8 +2,10 @@
 //! without it, and no other number at all; fronts that tell of each kind and rate, recordings alike in the front that
 //! are refused with each number, and full reads that go together with fronts in each way; symbols of 11 Mbit/s that are
 //! decided among words of one score, in each way; smallest leads in each part at each rate, shared ones, ties and those
-//! that refused reads keep; and no family that spends a third of all calls on one number.
+//! that refused reads keep; starts found of each kind and rate, at each remainder of 512, early and not, behind offsets
+//! refused with each number; and no family that spends a third of all calls on one number.
 
+use crate::bits::Rate;
 use crate::bridge::Outcome;
 use crate::calls::{Met, Part};
 use crate::decided::Decided::{self, Against, Among, ApartIn, At, Beside, ByPhase, OfEnds};
@@ -13,6 +15,7 @@ use crate::leads::Lead::{
 };
 use crate::leads::Stands::{First, Header, Payload, Preamble};
 use crate::relations::Held;
+use crate::starts::Start::{self, Early, Found, Missed, Passed, ReadRefused};
 
 const CALLS: u64 = 200_000;
 
@@ -31,7 +34,7 @@ const fn owed(op: &'static str, part: Part, shown: &'static str, least: &'static
     Owed { op, part, shown, least }
 }
 
-const OWED: [Owed; 22] = [
+const OWED: [Owed; 26] = [
     owed(
         "write",
         Part::Front,
@@ -182,6 +185,11 @@ const OWED: [Owed; 22] = [
     ),
     owed("read front", Part::Payload, "payload to 300 octets", &[(0, 6_500, 6_500), (16, 1_500, 700)]),
     owed("read front", Part::LongPayload, "payload above 300", &[(0, 1_100, 1_100), (16, 14_000, 3_600)]),
+    // No 8 to 17: a find tells of none of them.
+    owed("find", Part::Front, "none found", &[(1, 100, 0), (18, 70, 0), (19, 700, 0)]),
+    owed("find", Part::LongFront, "none in 6,001 or more", &[(19, 38, 0)]),
+    owed("find", Part::Payload, "to 300 octets", &[(0, 500, 560)]),
+    owed("find", Part::LongPayload, "above 300 octets", &[(0, 8, 4)]),
 ];
 
 /// How often a front must tell of each kind and rate, without the clock bit and with it.
@@ -201,19 +209,26 @@ const HELD: [(Held, &str, u64); 6] = [
 const ALIKE: [(u64, u64); 9] =
     [(1, 1_500), (8, 570), (9, 16), (10, 18), (11, 70), (12, 20), (13, 16), (14, 16), (15, 14)];
 
-/// Shows how often fronts told of each kind and rate and how often answers went together; what is short of it.
-fn held(total: &Outcome) -> Vec<String> {
-    let count = |held: Held| total.held.get(&held).copied().unwrap_or(0);
+/// Shows how often something was seen of each kind and rate, without the clock bit and with it; what is short of it.
+fn of_each_pair(op: &str, title: &str, least: u64, count: impl Fn(u64, u64, u64) -> u64) -> Vec<String> {
     let (mut words, mut short) = (Vec::new(), Vec::new());
     for (kind, rate) in pairs() {
         let (kind, rate) = (kind.number(), u64::from(rate.code()));
-        let counts = [0, 1].map(|clock| count(Held::Tells { kind, rate, clock }));
+        let counts = [0, 1].map(|clock| count(kind, rate, clock));
         words.push(format!("{kind} {rate}: {} {}", counts[0], counts[1]));
-        if counts.iter().any(|count| *count < TELLS) {
-            short.push(format!("fronts told of kind {kind}, rate {rate} {counts:?} times, {TELLS} owed each"));
+        if counts.iter().any(|count| *count < least) {
+            short.push(format!("{op}, {title}, kind {kind}, rate {rate}: {counts:?} times, {least} owed each"));
         }
     }
-    println!("read front  kinds and rates told   {}", words.join(", "));
+    println!("{op:<10}  {title:<21}  {}", words.join(", "));
+    short
+}
+
+/// Shows how often fronts told of each kind and rate and how often answers went together; what is short of it.
+fn held(total: &Outcome) -> Vec<String> {
+    let count = |held: Held| total.held.get(&held).copied().unwrap_or(0);
+    let tells = |kind: u64, rate: u64, clock: u64| count(Held::Tells { kind, rate, clock });
+    let mut short = of_each_pair("read front", "kinds and rates told", TELLS, tells);
     let alike = |number: u64| count(Held::AlikeRefused { number });
     println!(
         "read front  alike and refused      {}",
@@ -367,6 +382,77 @@ fn leads(total: &Outcome) -> Vec<String> {
     short
 }
 
+/// How often each must be seen of finds, and of reads behind them.
+const STARTS: [(Start, &str, u64); 42] = [
+    (Start::First, "offset 0", 40),
+    (Start::Last, "last offset", 500),
+    (Start::Far, "above 4,000", 35),
+    (Start::BehindUnusable, "behind unusable", 540),
+    (Start::FrontLast, "front last", 39),
+    (Start::SameStart, "same start", 270),
+    (Start::FewerOffsets, "fewer offsets", 150),
+    (Start::NoneTwice, "none twice", 300),
+    (Start::Told, "told", 370),
+    (Start::ToldCut, "cut", 70),
+    (Start::Read, "read", 260),
+    (ReadRefused(9), "refused with 9", 37),
+    (ReadRefused(10), "with 10", 1),
+    (ReadRefused(16), "with 16", 60),
+    (ReadRefused(17), "with 17", 65),
+    (Passed(9), "passed over by 9", 130),
+    (Passed(10), "by 10", 160),
+    (Passed(11), "by 11", 110),
+    (Passed(12), "by 12", 7),
+    (Passed(13), "by 13", 7),
+    (Passed(14), "by 14", 6),
+    (Passed(15), "by 15", 3),
+    (Start::ReadPassed, "in full too", 130),
+    (Start::EachPassed, "each before it", 120),
+    (Missed(8), "none, by 8", 76),
+    (Missed(9), "by 9", 75),
+    (Missed(10), "by 10", 150),
+    (Missed(11), "by 11", 100),
+    (Missed(12), "by 12", 5),
+    (Missed(13), "by 13", 4),
+    (Missed(14), "by 14", 4),
+    (Missed(15), "by 15", 3),
+    (Start::EachMissed, "each tried", 260),
+    (Start::AsSent { rate: 10 }, "as sent at 10", 8),
+    (Start::AsSent { rate: 20 }, "at 20", 18),
+    (Start::AsSent { rate: 55 }, "at 55", 19),
+    (Start::AsSent { rate: 110 }, "at 110", 15),
+    (Early { rate: 10, by: 10, same: true }, "10 early at 10, same payload", 5),
+    (Early { rate: 20, by: 10, same: true }, "at 20, same", 9),
+    (Early { rate: 55, by: 10, same: false }, "at 55, another", 10),
+    (Early { rate: 110, by: 10, same: false }, "at 110, another", 11),
+    (Start::EarlyBehindLost, "10 early behind lost chips", 12),
+];
+
+/// How often a start must be found so many chips early, at any rate.
+const EARLY: [(u64, &str, u64); 4] = [(2, "2 early", 10), (4, "4 early", 3), (6, "6 early", 2), (8, "8 early", 6)];
+
+/// How often a start must be found of each kind and rate, without the clock bit and with it, and at each remainder of
+/// 512.
+const FOUND: u64 = 60;
+const FOUND_AT_EACH: u64 = 1;
+
+/// Shows how often starts were found in each way; what is short of it.
+fn starts(total: &Outcome) -> Vec<String> {
+    let count = |start: Start| total.held.get(&Held::Finds(start)).copied().unwrap_or(0);
+    let found = |kind: u64, rate: u64, clock: u64| count(Found { kind, rate, clock });
+    let mut short = of_each_pair("find", "kinds and rates found", FOUND, found);
+    let mut seen = STARTS.map(|(start, shown, least)| (shown, count(start), least)).to_vec();
+    for (by, shown, least) in EARLY {
+        let early = |rate: Rate, same: bool| count(Early { rate: u64::from(rate.code()), by, same });
+        let each = Rate::ALL.into_iter().map(|rate| early(rate, false) + early(rate, true));
+        seen.push((shown, each.sum(), least));
+    }
+    let rarest = (0..512).map(|rest| count(Start::At(rest))).min().unwrap_or(0);
+    seen.push(("at each remainder of 512", rarest, FOUND_AT_EACH));
+    short.extend(ways("find", "beside other calls", &seen));
+    short
+}
+
 /// Shows how often each number came, and whether what is owed was met. `largest` is the family that answered one number
 /// most often, with how often.
 pub fn met(total: &Outcome, largest: (u64, &str)) -> Result<(), String> {
@@ -394,9 +480,9 @@ pub fn met(total: &Outcome, largest: (u64, &str)) -> Result<(), String> {
             short.push(format!("{op} answered {number} {count} times where it can't"));
         }
     }
-    short.extend(held(total));
-    short.extend(decided(total));
-    short.extend(leads(total));
+    for of_total in [held, decided, leads, starts] {
+        short.extend(of_total(total));
+    }
     if total.calls < CALLS {
         short.push(format!("{} calls made, {CALLS} owed", total.calls));
     }

@@ -25,10 +25,19 @@
 //! - Symbols counted from the payload, or by a narrower number: `leads_of_one_symbol`, `leads_of_long_frames`.
 //! - A lead in full chips, or cut to 16 bits: `leads_as_sent`.
 //! - A lead shown in a refusal: `leads_kept`.
+//! - Of several starts the largest told, or the one with the largest lead, where the frame does start: `find_clean`.
+//! - One offset too many tried, or one too few; 18 before 1; 8 for no chips: `find_edges`.
+//! - An offset left out where one block of offsets ends and the next begins: `find_edges`.
+//! - A frame cut or unusable in its payload, or behind unusable chips, passed over: `find_damage`.
+//! - A start left out behind a front that is refused, or among fronts that overlap: `find_damage`.
+//! - What a front that was refused tells, shown with 19: `find_damage`.
 
 mod bytes;
 mod coming;
 mod damage;
+mod finding;
+mod finding_damage;
+mod finding_edges;
 mod headers;
 mod leads;
 mod long;
@@ -128,6 +137,11 @@ families! {
     1208 leads::leads_in_noise: "noise over all of a frame, front included",
     1209 leads::leads_of_long_frames: "the smallest lead in far symbols, at edges of blocks and last of 4,095 octets",
     1210 leads::leads_kept: "refused reads, 10 and more, with symbols of small leads",
+    1301 finding::find_clean: "frames as sent, behind lost chips, phases, one phase, another frame, an unusable chip",
+    1302 finding_edges::find_edges: "numbers of offsets, kinds and lengths at their edges, starts at each remainder",
+    1303 finding_damage::find_damage: "fronts with chips spoiled, cut off and turned, behind wrong ones and others",
+    1304 finding::find_noise: "recordings without a frame or with one behind much else, up to 4,096 offsets",
+    1305 finding::find_all: "every number of offsets from 1 on, and the front from each offset, one by one",
 }
 
 /// Where a family puts its calls.
