@@ -61,7 +61,7 @@ pub extern "C" fn dsss_read_front(kind: u64, chips: &[u8]) -> Coming
     front_only::read_front(kind, chips)
 }
 
-// The smallest of so many offsets from which a read of a hard recording meets none of 8 to 15, and what the header there
+// The smallest of so many offsets from which a read of a hard recording meets none of 8 to 15, and what the front there
 // tells. No buffer is lent.
 #[no_mangle]
 pub extern "C" fn dsss_find(kind: u64, chips: &[u8], offsets: u64) -> Found

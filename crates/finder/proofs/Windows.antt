@@ -68,7 +68,8 @@ module _ (kind : Kind) (rec : List Taken) where
         ∙ start-past kind 0 at (count + rest) rec (λ j k. missed j k (omega arith))
         ∙ ap (λ (n : ℕ). firstStart kind n (count + rest) (drop at rec)) (zero-add at)
         ∙ start-joined kind at count rest (drop at rec)
-        ∙ ap {B = Finding} (λ (g : Finding). orElsewhere kind g (firstStart kind (at + count) rest (drop count (drop at rec))))
+        ∙ ap {B = Finding}
+        (λ (g : Finding). orElsewhere kind g (firstStart kind (at + count) rest (drop count (drop at rec))))
         (sym found ∙ e))
 
     -- no start: the next offsets meet one of 8 to 15 too

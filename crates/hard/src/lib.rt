@@ -1,5 +1,6 @@
 // A hard recording: a row of octets, 0 to 3 a phase, 4 lost, 5 to 255 unusable. Each loop over symbols gathers a
-// symbol's chips in an array that dissolves in it; at 11 Mbit/s sixteen symbols stand abreast, as columns of a row.
+// symbol's chips in an array that dissolves in it; at 11 Mbit/s sixteen symbols stand abreast, as columns of a row. An
+// octet that is none of the phases counts as nothing, so symbols are decided whatever their chips are.
 ghost use mathlib.Core.Path.{_≡_};
 ghost use mathlib.Core.Bool.{true, not};
 ghost use Prim.Native.Nat.{_+_, _*_, _<_, _≤_};
@@ -77,7 +78,7 @@ fn in_counts(full: &[u8; 64], leads: &mut [u32; 64])
 
 // m Barker symbols from a place.
 pub fn barkers(octets: &[u8], at: usize, m: usize, numbers: &mut [u8; 64], leads: &mut [u32; 64])
-    requires { ⌜ (m ≤ 64) × (at + 11 * m ≤ length (now octets)) × AllUsable (hardRecording (now octets)) at (11 * m)
+    requires { ⌜ (m ≤ 64) × (at + 11 * m ≤ length (now octets))
         × (length (now numbers) ≡ 64) × (length (now leads) ≡ 64) ⌝ }
     ensures numbers { λ _. ⌜ DecidedAt Rate.One (hardRecording (now (octets .entry))) at m (now (numbers .exit)) ⌝ }
     ensures leads { λ _. ⌜ LeadsAt Rate.One (hardRecording (now (octets .entry))) at m (now (leads .exit)) ⌝ }
@@ -95,7 +96,7 @@ pub fn barkers(octets: &[u8], at: usize, m: usize, numbers: &mut [u8; 64], leads
 
 // m symbols of 5.5 Mbit/s from a place.
 pub fn fives(octets: &[u8], at: usize, m: usize, numbers: &mut [u8; 64], leads: &mut [u32; 64])
-    requires { ⌜ (m ≤ 64) × (at + 8 * m ≤ length (now octets)) × AllUsable (hardRecording (now octets)) at (8 * m)
+    requires { ⌜ (m ≤ 64) × (at + 8 * m ≤ length (now octets))
         × (length (now numbers) ≡ 64) × (length (now leads) ≡ 64) ⌝ }
     ensures numbers { λ _. ⌜ DecidedAt Rate.Five (hardRecording (now (octets .entry))) at m (now (numbers .exit)) ⌝ }
     ensures leads { λ _. ⌜ LeadsAt Rate.Five (hardRecording (now (octets .entry))) at m (now (leads .exit)) ⌝ }
@@ -144,7 +145,7 @@ fn columns(octets: &[u8], at: usize, count: usize, row: &mut [i8])
 
 // m symbols of 11 Mbit/s from a place, sixteen abreast.
 pub fn elevens(octets: &[u8], at: usize, m: usize, numbers: &mut [u8; 64], leads: &mut [u32; 64])
-    requires { ⌜ (m ≤ 64) × (at + 8 * m ≤ length (now octets)) × AllUsable (hardRecording (now octets)) at (8 * m)
+    requires { ⌜ (m ≤ 64) × (at + 8 * m ≤ length (now octets))
         × (length (now numbers) ≡ 64) × (length (now leads) ≡ 64) ⌝ }
     ensures numbers { λ _. ⌜ DecidedAt Rate.Eleven (hardRecording (now (octets .entry))) at m (now (numbers .exit)) ⌝ }
     ensures leads { λ _. ⌜ LeadsAt Rate.Eleven (hardRecording (now (octets .entry))) at m (now (leads .exit)) ⌝ }

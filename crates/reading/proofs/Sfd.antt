@@ -3,8 +3,8 @@
 --     front-sfd    the sixteen bits are the kind's
 --     sfd-bit      each by the bits of three symbols, and those by the words of two
 -- Assumes nothing.
-use mathlib.Core.Path.{_≡_, refl, sym, ap, _∙_, subst}
-use mathlib.Core.List.{List, _++_, map}
+use mathlib.Core.Path.{_≡_, sym, ap, _∙_, subst}
+use mathlib.Core.List.{List, map}
 use Prim.Native.Nat.{ℕ, zero, suc, _+_, _*_, _/_, _≤_, _<_}
 use native.Mathlib.Nat.{mul-suc}
 use native.Mathlib.Omega.{arith}
@@ -59,7 +59,8 @@ words-at r (suc m) (suc n) rec h =
     let c = symbolChips r in
     let e : c + c * n ≡ c * suc n = omega (arith, mul-suc c n) in
     words-at r m n (drop c rec) (omega arith)
-    ∙ ap (λ (x : List Taken). decided r (map takenCounts (take c x))) (drop-drop (c * n) c rec ∙ ap (λ (i : ℕ). drop i rec) e)
+    ∙ ap (λ (x : List Taken). decided r (map takenCounts (take c x)))
+    (drop-drop (c * n) c rec ∙ ap (λ (i : ℕ). drop i rec) e)
 
 module _ (k : Kind) (rec : List Taken) where
   abbrev sfd : List ℕ
@@ -103,7 +104,9 @@ module _ (k : Kind) (rec : List Taken) where
 
   heard-long : syncBits k + 16 ≤ length (frontHeard k rec)
   unfolding frontHeard
-  heard-long = omega (arith, sent-length, length-append sent (heard (headerRate k) 0 (headerPhase k rec) (headerWords k rec)))
+  heard-long =
+      let rest = heard (headerRate k) 0 (headerPhase k rec) (headerWords k rec) in
+      omega (arith, sent-length, length-append sent rest)
 
   abbrev bit : ℕ → ℕ
   bit n = grownBy (wordAt One rec n) (wordAt One rec (n + 1)) / 2
@@ -142,7 +145,9 @@ module _ (k : Kind) (rec : List Taken) where
   sfd-bits : numberOf sfd ≡ sfdOf k → sfd ≡ bitsOf 16 (sfdOf k)
   unfolding frontBits
   sfd-bits e =
-      sym (bits-number 16 sfd long (below-take 16 (below-drop (syncBits k) (descramble-below (start k) (frontHeard k rec)))))
+      sym
+      (bits-number 16 sfd long
+      (below-take 16 (below-drop (syncBits k) (descramble-below (start k) (frontHeard k rec)))))
       ∙ ap (bitsOf 16) e
     where
       long : length sfd ≡ 16

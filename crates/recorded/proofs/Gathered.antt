@@ -1,22 +1,21 @@
 -- A symbol's chips as each recorder gathers them, once for both lengths of a symbol: they count as the recording's do,
 -- and where the recording's are usable they are usable chips of their recorder.
 -- Assumes nothing.
-use mathlib.Core.Path.{_≡_, refl, sym, ap, _∙_, subst}
+use mathlib.Core.Path.{_≡_, sym, ap, _∙_, subst}
 use mathlib.Core.Bool.{Bool, true, false, not, cond}
 use mathlib.Core.List.{List, map}
 use Prim.Native.Nat.{ℕ, _+_, _≤_}
 use native.Mathlib.Omega.{arith}
-use lib.Dec.{T, eqb, lt→ltb}
+use lib.Dec.{T, eqb}
 use lib.ListN.{length, getD, take, drop}
 use lib.Ieee.{Float, nan}
-use borrow.Author.Tests.{leb-true, not-false, eqb-false}
 use Rattle.base.proofs.Tables.{getD-tabulate}
 use Rattle.chips.specs.declared.Chip.the-variants.{Lost, Hard, Soft}
 use Rattle.chips.specs.Chips.{usableSample, countsOf, unusable, takenCounts, hardChip, hardRecording, softRecording}
 use Rattle.axes.specs.Axes.{isHard, AllSoft, AllHard}
 use Rattle.chips.proofs.Recorders.{sample, taken-soft, length-soft, getD-soft, part, part-hard}
 use Rattle.recorded.specs.Recorded.{hardPart, softPart, AllUsable}
-use Rattle.recorded.proofs.Usable.{hard-at, soft-at}
+use Rattle.recorded.proofs.Usable.{soft-at}
 
 -- ---- the counts
 pub gathered-hard : (n : ℕ) (xs : List ℕ) (at : ℕ) → at + n ≤ length xs

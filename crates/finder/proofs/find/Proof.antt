@@ -50,14 +50,14 @@ returns c =
 returns-2 : tie.Need-returns-2
 returns-2 c =
     let asked = c .before .before in
-    not-tried _ _ _ _ (passed (asked .before .is-kind .ensures) (asked .if1 .left)) (no-offsets _ (c .before .if2 .taken))
-    (c .refused2 .ensures)
+    not-tried _ _ _ _ (passed (asked .before .is-kind .ensures) (asked .if1 .left))
+    (no-offsets _ (c .before .if2 .taken)) (c .refused2 .ensures)
 
 returns-3 : tie.Need-returns-3
 returns-3 c =
     let asked = c .before .before .before in
-    not-tried _ _ _ _ (passed (asked .before .is-kind .ensures) (asked .if1 .left)) (offsets-many _ (c .before .if3 .taken))
-    (c .refused3 .ensures)
+    not-tried _ _ _ _ (passed (asked .before .is-kind .ensures) (asked .if1 .left))
+    (offsets-many _ (c .before .if3 .taken)) (c .refused3 .ensures)
 
 returns-4 : tie.Need-returns-4
 returns-4 c =

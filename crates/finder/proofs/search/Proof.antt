@@ -1,11 +1,10 @@
 -- `finder::search` meets its contract. The invariant: the fronts from the offsets before this one meet one of 8 to 15,
 -- and the first phases from here on are known.
 -- Assumes nothing.
-use mathlib.Core.Path.{_≡_, refl, sym, ap, _∙_, subst}
-use mathlib.Core.List.{List}
+use mathlib.Core.Path.{_≡_, refl, ap}
 use Prim.Native.Nat.{ℕ, _+_, _-_, _/_, _%_, _≤_, _<_, min}
 use native.Mathlib.Omega.{arith}
-use lib.ListN.{length, drop}
+use lib.ListN.{length}
 use borrow.Author.Needs.{needs}
 use Rattle.chips.specs.Chips.{hardRecording}
 use Rattle.chips.proofs.Recorders.{length-hard}
@@ -148,8 +147,8 @@ returns-2 : tie.Need-returns-2 Inv-loop μ-loop
 returns-2 c =
     let tried = c .before .before .before .before in
     let s = tried .before .before in
-    window-end (s .args .kind) (hardRecording (s .args .chips .now)) _ _ _ (c .loop-test .left) (c .before .loop .inv .2)
-    (rw (length-hard (s .args .chips .now)) (tried .tries .ensures .2))
+    window-end (s .args .kind) (hardRecording (s .args .chips .now)) _ _ _ (c .loop-test .left)
+    (c .before .loop .inv .2) (rw (length-hard (s .args .chips .now)) (tried .tries .ensures .2))
 
 pub search-spec : {M : Type 1} → statement M
 search-spec =

@@ -1,8 +1,7 @@
 -- `finder::seek` meets its contract. The invariant: the fronts from the first j offsets meet one of 8 to 15.
 -- Assumes nothing.
-use mathlib.Core.Path.{_≡_, refl, sym, ap, _∙_, subst}
-use mathlib.Core.List.{List}
-use Prim.Native.Nat.{ℕ, _+_, _-_, _≤_, _<_}
+use mathlib.Core.Path.{sym}
+use Prim.Native.Nat.{_-_, _≤_}
 use native.Mathlib.Omega.{arith}
 use lib.ListN.{drop}
 use borrow.Author.Needs.{needs}
@@ -35,8 +34,9 @@ returns-2 c =
     let tried = c .before .before .before in
     let turn = tried .before .before in
     let s = turn .before .before .before .before .before in
-    seek-hit (s .args .kind) (hardRecording (s .args .chips .now)) (s .args .at) (turn .before .loop .j) (s .args .count)
-    (turn .loop-test .taken) (turn .before .loop .inv .1) _ _ _ (c .before .found .given .1) (tried .try-at .ensures)
+    seek-hit (s .args .kind) (hardRecording (s .args .chips .now)) (s .args .at) (turn .before .loop .j)
+    (s .args .count) (turn .loop-test .taken) (turn .before .loop .inv .1) _ _ _ (c .before .found .given .1)
+    (tried .try-at .ensures)
 
 loop-again : tie.Need-loop-again Inv-loop μ-loop
 loop-again c =

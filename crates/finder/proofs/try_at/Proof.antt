@@ -1,5 +1,5 @@
 -- `finder::try_at` meets its contract: a front without a mark meets one of 8 to 15. Assumes nothing.
-use mathlib.Core.Path.{_≡_, refl, sym, ap, _∙_, subst}
+use mathlib.Core.Path.{sym, ap, _∙_}
 use Prim.Native.Nat.{ℕ}
 use lib.ListN.{drop}
 use borrow.Author.Needs.{needs}
@@ -9,7 +9,7 @@ use Rattle.calls.specs.declared.Front.the-variants as front
 use Rattle.reading.specs.Reading.{frontOf}
 use Rattle.finding.specs.declared.NotFound.the-variants.{NoStart}
 use Rattle.finding.specs.declared.Finding.{Finding}
-use Rattle.finding.specs.declared.Finding.the-variants.{Refused, Start}
+use Rattle.finding.specs.declared.Finding.the-variants.{Refused}
 use Rattle.finding.specs.Finding.{startOr}
 use Rattle.finding.proofs.Laws.{missed-or}
 use Rattle.finder.proofs.try_at.Statement.{statement}
@@ -28,7 +28,8 @@ returns c =
 returns-2 : tie.Need-returns-2
 returns-2 c =
     let told = c .before .before in
-    ap {B = Finding} (try (told .before .before .before .args .at)) (sym (c .enum-told .given .1) ∙ told .front-at .ensures)
+    ap {B = Finding} (try (told .before .before .before .args .at))
+    (sym (c .enum-told .given .1) ∙ told .front-at .ensures)
 
 returns-3 : tie.Need-returns-3
 returns-3 c =

@@ -53,7 +53,7 @@ pub barkers-spec : {M : Type 1} → statement M
 barkers-spec =
     tie.close
     (tie.spec Inv-loop μ-loop
-    (λ c. (firsts-none _ _ _ (c .before .pre .3), firsts-none _ _ _ (search needs))) (λ c. omega arith)
+    (λ c. (firsts-none _ _ _ (c .before .pre .2), firsts-none _ _ _ (search needs))) (λ c. omega arith)
     (λ c. omega arith)
     (λ c κs. let s = c .before .before .before in omega (arith, s .pre .1)) (λ c κs. search needs) (λ c. search needs)
     (λ c. search needs) (λ c. omega arith) (λ c. omega arith) loop-again

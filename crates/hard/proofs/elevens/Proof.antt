@@ -96,7 +96,7 @@ pub elevens-spec : {M : Type 1} → statement M
 elevens-spec =
     tie.close
     (tie.spec Inv-loop μ-loop
-    (λ c. (firsts-none _ _ _ (c .before .pre .3), firsts-none _ _ _ (c .before .pre .4), refl, refl, refl, refl))
+    (λ c. (firsts-none _ _ _ (c .before .pre .2), firsts-none _ _ _ (c .before .pre .3), refl, refl, refl, refl))
     (λ c. omega arith) (λ c κs. search needs) (λ c. omega arith) (λ c. omega arith) (λ c. search needs) columns-requires
     (λ c. search needs) (λ c. search needs) (λ c. search needs) sixteen-requires (λ c. omega arith)
     (λ c. omega arith) loop-again returns)
