@@ -2,8 +2,8 @@
 use frame::Kind;
 use rates::Rate;
 
-// Every refusal, in the order of its number, 1 to 17. A place is a chip's index from the recording's
-// start; a length is the LENGTH field, 0 where it is not to be told.
+// Every refusal of writing and reading, in the order of its number, 1 to 17. A place is a chip's index from the
+// recording's start; a length is the LENGTH field, 0 where it is not to be told.
 pub enum Refusal {
     NoKind,
     NoRate,
