@@ -3,7 +3,7 @@
 // hard chips full chips are counted, not 1024ths of one: in octets sixteen symbols go side by side.
 ghost use mathlib.Core.Path.{_≡_};
 ghost use lib.Dec.{T};
-ghost use Rattle.chips.specs.Chips.{fullChip, countsOf};
+ghost use Rattle.chips.specs.Chips.{countsOf};
 ghost use Rattle.axes.specs.Axes.{along, phaseOn, countsAlong, unitOf, unitsAlong, softUsable, octetOf, AllSoft};
 use chips::Chip;
 use chips::Sample;
@@ -85,19 +85,13 @@ fn phase_on(axis: Axis) -> u8
     }
 }
 
-// The unit of an octet on an axis: a full chip is 1, and what is none of the phases is nothing.
-pub fn unit(octet: u8, axis: Axis) -> i8
-    ensures answer { λ r. ⌜ r ≡ along axis (fullChip 1 octet) ⌝ }
-{
-    let plus = phase_on(axis);
-    (octet == plus) as i8 - (octet == plus + 2) as i8
-}
-
-// The unit of a hard chip on an axis.
+// The unit of a hard chip on an axis: a full chip is 1.
 fn hard_unit(c: Chip, axis: Axis) -> i8
     ensures answer { λ r. ⌜ r ≡ along axis (unitOf c) ⌝ }
 {
-    unit(octet_of(c), axis)
+    let x = octet_of(c);
+    let plus = phase_on(axis);
+    (x == plus) as i8 - (x == plus + 2) as i8
 }
 
 // The units of a CCK symbol's hard chips on an axis.

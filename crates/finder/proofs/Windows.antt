@@ -1,4 +1,4 @@
--- 256 offsets after 256: what the marks say of fronts, where the search ends, and the phases that are carried on.
+-- 256 offsets after 256: what the marks say of fronts, where the search ends, and the halves that are carried on.
 -- Assumes nothing.
 use mathlib.Core.Path.{_≡_, refl, sym, ap, _∙_, subst}
 use mathlib.Core.List.{List}
@@ -32,7 +32,7 @@ use Rattle.finding.proofs.Laws.{
   start-joined,
   short-missed,
 }
-use Rattle.sweep.specs.Sweep.{phaseAt, octetAt, sfdFrom, Row, Marked}
+use Rattle.sweep.specs.Sweep.{halfAt, octetAt, sfdFrom, Row, Marked}
 use Rattle.sweep.proofs.Sfd.{sfd-low, sfd-high}
 use Rattle.finder.proofs.Seeks.{not-both}
 
@@ -103,13 +103,13 @@ module _ (kind : Kind) (rec : List Taken) where
           short-missed kind (drop j rec)
           (omega (arith, length-drop j rec, short j (omega arith) l, some-chips kind))
 
--- the phases that the next 256 offsets begin with
-pub carried : (rec : List Taken) (from at count : ℕ) (phases after : List ℕ) → 256 ≤ count
-    → Row (λ j. phaseAt rec (from + at + j)) (count + 253) phases → Row (λ j. getD phases (j + 256) 0) 256 after
-    → Row (λ j. phaseAt rec (from + (at + 256) + j)) 253 after
-carried rec from at count phases after h p a = record {
+-- the halves that the next 256 offsets begin with
+pub carried : (rec : List Taken) (from at count : ℕ) (halves after : List ℕ) → 256 ≤ count
+    → Row (λ j. halfAt rec (from + at + j)) (count + 253) halves → Row (λ j. getD halves (j + 256) 0) 256 after
+    → Row (λ j. halfAt rec (from + (at + 256) + j)) 253 after
+carried rec from at count halves after h p a = record {
   long = a .long;
   each = λ j l.
       let e : from + at + (j + 256) ≡ from + (at + 256) + j = omega arith in
-      a .each j (omega arith) ∙ p .each (j + 256) (omega arith) ∙ ap (phaseAt rec) e;
+      a .each j (omega arith) ∙ p .each (j + 256) (omega arith) ∙ ap (halfAt rec) e;
 }

@@ -1,7 +1,7 @@
 // Finds the start of a front in a hard recording: the smallest of so many offsets from which a read meets none of 8 to
 // 15. An SFD is looked for at 256 offsets at once, and a whole front is read only where one is right.
 ghost use mathlib.Core.Path.{_≡_};
-ghost use Prim.Native.Nat.{ℕ, _+_, _≤_, _<_, min};
+ghost use Prim.Native.Nat.{ℕ, _+_, _≤_, _<_};
 ghost use lib.ListN.{length, getD, drop};
 ghost use Rattle.chips.specs.Chips.{hardRecording};
 ghost use Rattle.frame.specs.Frame.{frontChips};
@@ -127,13 +127,6 @@ fn tries(kind: Kind, chips: usize, offsets: usize) -> usize
     if most < offsets { most } else { offsets }
 }
 
-// How many of the offsets that are left go at once.
-fn at_once(left: usize) -> usize
-    ensures answer { λ r. ⌜ r ≡ min left 256 ⌝ }
-{
-    if left < 256 { left } else { 256 }
-}
-
 // The search over all of them, 256 at once.
 fn search(kind: Kind, chips: &[u8], offsets: usize) -> Finding
     requires { ⌜ offsets ≤ 4096 ⌝ }
@@ -144,19 +137,19 @@ fn search(kind: Kind, chips: &[u8], offsets: usize) -> Finding
     let sfd = header::sfd_of(kind);
     let low = (sfd % 256) as u8;
     let high = (sfd / 256) as u8;
-    let mut phases = [0u8; 512];
+    let mut halves = [0u8; 512];
     let mut marks = [0u8; 512];
     let mut known: usize = 0;
     let mut at: usize = 0;
     while at < tried {
-        let count = at_once(tried - at);
-        sweep::decide(chips, from + at, known, count + 253, &mut phases);
-        sweep::marks(low, high, &phases, &mut marks);
+        let count = sweep::at_once(tried - at);
+        sweep::decide(chips, from + at, known, count + 253, &mut halves);
+        sweep::marks(low, high, &halves, &mut marks);
         let found = seek(kind, chips, at, count, &marks);
         if let Finding::Start { offset, told } = found {
             return Finding::Start { offset, told };
         }
-        sweep::advance(&mut phases);
+        sweep::advance(&mut halves);
         known = 253;
         at += 256;
     }

@@ -1,8 +1,8 @@
--- Octets compared with the two of an SFD, entry by entry.
+-- Numbers below 16 compared with those of an SFD's two octets, entry by entry.
 -- Assumes nothing.
 use mathlib.Core.Path.{_≡_, refl, sym, _∙_, subst}
 use mathlib.Core.List.{List}
-use Prim.Native.Nat.{ℕ, _+_, _≤_, _<_}
+use Prim.Native.Nat.{ℕ, _+_, _/_, _%_, _≤_, _<_}
 use native.Mathlib.Decide.{decLt}
 use native.Mathlib.Omega.{arith}
 use lib.ListN.{length, getD, set, length-set}
@@ -20,27 +20,30 @@ comparing-none low high row e = record {
   kept = λ j l. refl;
 }
 
-pub comparing-more : {low high : ℕ} {before row : List ℕ} {l : ℕ} (v : ℕ) → l < 512
-    → (getD row l 0 ≡ low → getD row (l + 88) 0 ≡ high → v ≡ 0 → ⊥) → Comparing low high before l row
-    → Comparing low high before (l + 1) (set row l v)
+-- what is claimed of a mark v at entry j
+abbrev Right : ℕ → ℕ → List ℕ → ℕ → ℕ → Type 0
+Right low high xs j v =
+    getD xs j 0 ≡ low % 16 → getD xs (j + 44) 0 ≡ low / 16 → getD xs (j + 88) 0 ≡ high % 16
+    → getD xs (j + 132) 0 ≡ high / 16 → v ≡ 0 → ⊥
+
+pub comparing-more : {low high : ℕ} {before row : List ℕ} {l : ℕ} (v : ℕ) → l < 512 → Right low high row l v
+    → Comparing low high before l row → Comparing low high before (l + 1) (set row l v)
 comparing-more {low} {high} {before} {row} {l} v h e w = record {
   marked = record { long = length-set row l v ∙ w .marked .long; each = λ j k. by j k (decLt j l) };
   kept = λ j k. getD-set-other row l j v 0 (λ q. omega arith) ∙ w .kept j (omega arith);
 }
   where
-    here : getD before l 0 ≡ low → getD before (l + 88) 0 ≡ high → getD (set row l v) l 0 ≡ 0 → ⊥
-    here a b z =
-        e (w .kept l (omega arith) ∙ a) (w .kept (l + 88) (omega arith) ∙ b)
-        (sym (getD-set-same row l v 0 (omega (arith, w .marked .long))) ∙ z)
+    here : Right low high before l (getD (set row l v) l 0)
+    here a b c d z =
+        e (w .kept l (omega arith) ∙ a) (w .kept (l + 44) (omega arith) ∙ b) (w .kept (l + 88) (omega arith) ∙ c)
+        (w .kept (l + 132) (omega arith) ∙ d) (sym (getD-set-same row l v 0 (omega (arith, w .marked .long))) ∙ z)
 
-    by : (j : ℕ) → j < l + 1 → Dec (j < l) → getD before j 0 ≡ low → getD before (j + 88) 0 ≡ high
-        → getD (set row l v) j 0 ≡ 0 → ⊥
-    by j k (yes p) a b z = w .marked .each j p a b (sym (getD-set-other row l j v 0 (λ q. omega arith)) ∙ z)
-    by j k (no p) a b z =
+    by : (j : ℕ) → j < l + 1 → Dec (j < l) → Right low high before j (getD (set row l v) j 0)
+    by j k (yes p) a b c d z =
+        w .marked .each j p a b c d (sym (getD-set-other row l j v 0 (λ q. omega arith)) ∙ z)
+    by j k (no p) a b c d z =
         let q : l ≡ j = omega arith in
-        subst
-        (λ (n : ℕ). getD before n 0 ≡ low → getD before (n + 88) 0 ≡ high → getD (set row l v) n 0 ≡ 0 → ⊥)
-        q here a b z
+        subst (λ (n : ℕ). Right low high before n (getD (set row l v) n 0)) q here a b c d z
 
 pub comparing-all : {low high : ℕ} {before row : List ℕ} {l n : ℕ} → n ≤ l → Comparing low high before l row
     → MarkedOf low high before n row

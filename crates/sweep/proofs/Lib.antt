@@ -1,5 +1,7 @@
 pub mod Rows
 pub mod Units
+pub mod Halves
 pub mod Comparing
 pub mod Chain
+pub mod Even
 pub mod Sfd

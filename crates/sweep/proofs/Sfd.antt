@@ -21,47 +21,49 @@ use Rattle.calls.specs.declared.Told.{Told}
 use Rattle.calls.specs.declared.Front.the-variants.{Fields}
 use Rattle.reading.specs.Reading.{frontOf}
 use Rattle.reading.proofs.Sfd.{wordAt, sfd-bit}
-use Rattle.sweep.specs.Sweep.{phaseAt, bitAt, plainAt, octetAt, sfdFrom}
+use Rattle.sweep.specs.Sweep.{halfAt, bitAt, plainAt, octetAt, sfdFrom}
+use Rattle.sweep.proofs.Even.{front-bit}
 
 module _ (rec : List Taken) (o : ℕ) where
   abbrev from : List Taken
   from = drop o rec
 
-  phase-there : (n : ℕ) → wordAt One from n ≡ phaseAt rec (o + 11 * n)
-  unfolding phaseAt
-  phase-there n = ap (λ (x : List Taken). decided One (map takenCounts (take 11 x))) (drop-drop (11 * n) o rec)
-
-  bit-there : (n : ℕ) → grownBy (wordAt One from n) (wordAt One from (n + 1)) / 2 ≡ bitAt rec (o + 11 * n)
-  unfolding bitAt
-  bit-there n =
-      let e : o + 11 * (n + 1) ≡ o + 11 * n + 11 = omega arith in
-      let next = phase-there (n + 1) ∙ ap (phaseAt rec) e in
-      λ i. grownBy (phase-there n i) (next i) / 2
-
-  abbrev bit : ℕ → ℕ
-  bit n = grownBy (wordAt One from n) (wordAt One from (n + 1)) / 2
-
-  plain-there : (n : ℕ) → bit (n + 7) ⊕ bit (n + 3) ⊕ bit n ≡ plainAt rec (o + 11 * n)
-  unfolding plainAt
-  plain-there n =
-      let e : o + 11 * (n + 7) ≡ o + 11 * n + 77 = omega arith in
-      let f : o + 11 * (n + 3) ≡ o + 11 * n + 33 = omega arith in
-      let last = bit-there (n + 7) ∙ ap (bitAt rec) e in
-      let four = bit-there (n + 3) ∙ ap (bitAt rec) f in
-      λ i. last i ⊕ four i ⊕ bit-there n i
+  half-there : (n : ℕ) → wordAt One from n / 2 ≡ halfAt rec (o + 11 * n)
+  unfolding halfAt
+  half-there n = ap (λ (x : List Taken). decided One (map takenCounts (take 11 x)) / 2) (drop-drop (11 * n) o rec)
 
   some-sync : (k : Kind) → 8 ≤ syncBits k
   some-sync Long = omega arith
   some-sync Short = omega arith
 
+  abbrev bit : ℕ → ℕ
+  bit n = grownBy (wordAt One from n) (wordAt One from (n + 1)) / 2
+
   module _ (k : Kind) (t : Told) (told : frontOf k from ≡ Fields t) where
+    bit-there : (n : ℕ) → n + 1 < syncBits k + 16 → bit n ≡ bitAt rec (o + 11 * n)
+    unfolding bitAt
+    bit-there n h =
+        let e : o + 11 * (n + 1) ≡ o + 11 * n + 11 = omega arith in
+        let next = half-there (n + 1) ∙ ap (halfAt rec) e in
+        front-bit k from t told n h ∙ (λ i. half-there n i ⊕ next i)
+
+    plain-there : (n : ℕ) → n + 8 < syncBits k + 16 → bit (n + 7) ⊕ bit (n + 3) ⊕ bit n ≡ plainAt rec (o + 11 * n)
+    unfolding plainAt
+    plain-there n h =
+        let e : o + 11 * (n + 7) ≡ o + 11 * n + 77 = omega arith in
+        let f : o + 11 * (n + 3) ≡ o + 11 * n + 33 = omega arith in
+        let last = bit-there (n + 7) (omega arith) ∙ ap (bitAt rec) e in
+        let four = bit-there (n + 3) (omega arith) ∙ ap (bitAt rec) f in
+        let seven = bit-there n (omega arith) in
+        λ i. last i ⊕ four i ⊕ seven i
+
     -- the SFD's bit i, b of which stand before the place
     plain-is : (b j : ℕ) → b + j < 16
         → plainAt rec (o + sfdFrom k + 11 * b + 11 * j) ≡ getD (bitsOf 16 (sfdOf k)) (b + j) 0
     plain-is b j h =
         let n : ℕ = syncBits k - 8 + (b + j) in
         let e : o + sfdFrom k + 11 * b + 11 * j ≡ o + 11 * n = omega (arith, some-sync k) in
-        ap (plainAt rec) e ∙ sym (plain-there n)
+        ap (plainAt rec) e ∙ sym (plain-there n (omega (arith, some-sync k)))
         ∙ sfd-bit k from t told n (b + j) (omega (arith, some-sync k)) h
 
     octet-is : (b : ℕ) → b + 7 < 16

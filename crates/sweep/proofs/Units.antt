@@ -1,13 +1,11 @@
 -- The units of hard chips from a place, on an axis: each is that of its octet. Assumes nothing.
 use mathlib.Core.Path.{_≡_, refl, ap, _∙_}
 use mathlib.Core.Bool.{Bool, true, false, cond}
-use mathlib.Core.List.{map}
 use mathlib.Core.List.{List}
 use Prim.Native.Nat.{ℕ, _+_}
 use lib.Dec.{eqb}
 use lib.ListN.{getD}
 use borrow.Author.Tests.{eqb-true}
-use lib.IntN.{ℤ}
 use Rattle.base.specs.Tables.{tabulate}
 use Rattle.base.proofs.Tables.{tabulate-ext, map-tabulate, length-tabulate, getD-tabulate}
 use Rattle.axes.specs.declared.Axis.{Axis}

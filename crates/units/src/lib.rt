@@ -126,7 +126,7 @@ fn choose(i: i8, q: i8) -> Choice
 }
 
 // The choice by eleven chips, I and Q apart.
-pub fn barker(i: [i8; 11], q: [i8; 11]) -> Choice
+fn barker(i: [i8; 11], q: [i8; 11]) -> Choice
     requires { ⌜ RowWithin 1 i × RowWithin 1 q ⌝ }
     ensures answer { λ r. ⌜ ChosenAs Rate.One (asChip (bySigns i) (bySigns q)) (r .number) (r .lead) ⌝ }
 {

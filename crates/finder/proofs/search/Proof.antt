@@ -1,5 +1,5 @@
 -- `finder::search` meets its contract. The invariant: the fronts from the offsets before this one meet one of 8 to 15,
--- and the first phases from here on are known.
+-- and the first halves from here on are known.
 -- Assumes nothing.
 use mathlib.Core.Path.{_≡_, refl, ap}
 use Prim.Native.Nat.{ℕ, _+_, _-_, _/_, _%_, _≤_, _<_, min}
@@ -11,26 +11,26 @@ use Rattle.chips.proofs.Recorders.{length-hard}
 use Rattle.frame.specs.declared.Kind.{Kind}
 use Rattle.frame.specs.declared.Kind.the-variants.{Long, Short}
 use Rattle.frame.specs.Frame.{sfdOf, preambleChips, frontChips}
-use Rattle.sweep.specs.Sweep.{phaseAt, Row}
+use Rattle.sweep.specs.Sweep.{halfAt, Row}
 use Rattle.sweep.proofs.Rows.{row-none}
 use Rattle.finder.proofs.Windows.{MissedBelow, unmarked, window-hit, window-miss, window-end, carried}
 use Rattle.finder.proofs.search.Statement.{statement}
 use Rattle.finder.proofs.search.Tie as tie
 
 abbrev Inv-loop : tie.InvT-loop
-Inv-loop kind chips offsets tried from sfd low high phases₀ marks₀ known₀ at₀ phases marks known at =
-    (length phases ≡ 512) × (length marks ≡ 512)
+Inv-loop kind chips offsets tried from sfd low high halves₀ marks₀ known₀ at₀ halves marks known at =
+    (length halves ≡ 512) × (length marks ≡ 512)
     × MissedBelow kind (hardRecording chips) at tried
-    × (at < tried → Row (λ j. phaseAt (hardRecording chips) (from + at + j)) known phases)
+    × (at < tried → Row (λ j. halfAt (hardRecording chips) (from + at + j)) known halves)
 
 abbrev μ-loop : tie.MeasureT-loop
-μ-loop kind chips offsets tried from sfd low high phases₀ marks₀ known₀ at₀ phases marks known at = tried - at
+μ-loop kind chips offsets tried from sfd low high halves₀ marks₀ known₀ at₀ halves marks known at = tried - at
 
 few-high : (k : Kind) (s : ℕ) → s ≡ sfdOf k → s / 256 < 256
 few-high Long s e = omega (arith, e)
 few-high Short s e = omega (arith, e)
 
-enough : (k : Kind) → (264 ≤ preambleChips k) × (preambleChips k ≤ frontChips k) × (frontChips k ≤ 2112)
+enough : (k : Kind) → (264 ≤ preambleChips k) × (preambleChips k + 264 ≤ frontChips k) × (frontChips k ≤ 2112)
 enough Long = (omega arith, omega arith, omega arith)
 enough Short = (omega arith, omega arith, omega arith)
 
@@ -40,7 +40,7 @@ module _ (k : Kind) (chips tried at preamble count : ℕ) (left : at < tried) (p
   within : at + count ≤ tried
   within = omega (arith, n, left)
 
-  room : preamble - 264 + at + (count + 253) + 10 ≤ chips
+  room : preamble - 264 + at + (count + 253) + 16 ≤ chips
   room = omega (arith, within, left, p, enough k, there (omega arith))
 
   inside : at + count ≤ chips

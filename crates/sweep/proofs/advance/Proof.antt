@@ -1,8 +1,6 @@
 -- `sweep::advance` meets its contract. The invariant: the first l entries are those 256 on. Assumes nothing.
-use mathlib.Core.Path.{_≡_, refl, ap, _∙_}
-use Prim.Native.Nat.{ℕ, _+_, _-_}
+use Prim.Native.Nat.{_+_, _-_}
 use native.Mathlib.Omega.{arith}
-use borrow.Author.Needs.{needs}
 use lib.ListN.{getD}
 use Rattle.sweep.specs.Sweep.{Worked}
 use Rattle.sweep.proofs.Rows.{worked-none, worked-more, worked-row}
@@ -10,10 +8,10 @@ use Rattle.sweep.proofs.advance.Statement.{statement}
 use Rattle.sweep.proofs.advance.Tie as tie
 
 abbrev Inv-loop : tie.InvT-loop
-Inv-loop phases₀ l₀ phases l = Worked (λ j. getD phases₀ (j + 256) 0) phases₀ l phases
+Inv-loop halves₀ l₀ halves l = Worked (λ j. getD halves₀ (j + 256) 0) halves₀ l halves
 
 abbrev μ-loop : tie.MeasureT-loop
-μ-loop phases₀ l₀ phases l = 256 - l
+μ-loop halves₀ l₀ halves l = 256 - l
 
 loop-again : tie.Need-loop-again Inv-loop μ-loop
 loop-again c =
@@ -26,4 +24,5 @@ returns c = worked-row _ (c .loop-test .left) (c .before .loop .inv)
 pub advance-spec : {M : Type 1} → statement M
 advance-spec =
     tie.close
-    (tie.spec Inv-loop μ-loop (λ c. worked-none _ _ (c .pre)) (λ c. omega arith) (λ c. omega arith) (λ c. omega arith) (λ c. omega arith) (λ c. omega arith) loop-again returns)
+    (tie.spec Inv-loop μ-loop (λ c. worked-none _ _ (c .pre)) (λ c. omega arith) (λ c. omega arith)
+    (λ c. omega arith) (λ c. omega arith) (λ c. omega arith) loop-again returns)

@@ -1,49 +1,53 @@
--- `sweep::any` meets its contract. The invariant: the first l marks are at most the largest so far.
+-- `sweep::any` meets its contract. The invariant: if what is gathered so far is nothing, the first l marks are 0.
 -- Assumes nothing.
-use mathlib.Core.Path.{_≡_}
+use mathlib.Core.Path.{_≡_, refl, _∙_}
 use mathlib.Core.List.{List}
-use mathlib.Core.Logic.{⊎-elim}
-use Prim.Native.Nat.{ℕ, _+_, _-_, _≤_, _<_}
-use native.Mathlib.Decide.{decLt}
+use Prim.Native.Nat.{ℕ, _+_, _-_, _/_, _%_, _≤_, _<_}
 use native.Mathlib.Omega.{arith}
 use lib.ListN.{getD}
-use borrow.Author.Tests.{ltb-false}
+use native.Mathlib.Decide.{decLt}
+use native.Mathlib.Nat.{le-max-left}
+use lib.Arith.{bin-ind}
+use lib.Bits.{bitOr, or-step, or-comm}
+use borrow.Author.Tests.{not-false, eqb-true}
 use Rattle.sweep.proofs.any.Statement.{statement}
 use Rattle.sweep.proofs.any.Tie as tie
 
+-- what is gathered is nothing only where nothing was
+or-none : (a b : ℕ) → bitOr a b ≡ 0 → a ≡ 0
+or-none =
+    bin-ind (λ (n : ℕ). (b : ℕ) → bitOr n b ≡ 0 → n ≡ 0) (λ b e. refl)
+    (λ n ih b e.
+    let low = ih (b / 2) (omega (arith, or-step n b)) in
+    omega (arith, or-step n b, le-max-left (n % 2) (b % 2)))
+
+below-next : (xs : List ℕ) (l a : ℕ) → (a ≡ 0 → (j : ℕ) → j < l → getD xs j 0 ≡ 0) → bitOr a (getD xs l 0) ≡ 0
+    → (j : ℕ) → j < l + 1 → getD xs j 0 ≡ 0
+below-next xs l a h e j k = by (decLt j l)
+  where
+    by : Dec (j < l) → getD xs j 0 ≡ 0
+    by (yes p) = h (or-none a (getD xs l 0) e) j p
+    by (no p) =
+        let q : j ≡ l = omega arith in
+        rw q (or-none (getD xs l 0) a (or-comm (getD xs l 0) a ∙ e))
+
 abbrev Inv-loop : tie.InvT-loop
-Inv-loop marks top₀ l₀ top l = (l ≤ 256) × ((j : ℕ) → j < l → getD marks j 0 ≤ top)
+Inv-loop marks all₀ l₀ all l = (l ≤ 256) × (all ≡ 0 → (j : ℕ) → j < l → getD marks j 0 ≡ 0)
 
 abbrev μ-loop : tie.MeasureT-loop
-μ-loop marks top₀ l₀ top l = 256 - l
-
--- a bound of the first l, raised to bound the next
-raised : (xs : List ℕ) (l a b : ℕ) → ((j : ℕ) → j < l → getD xs j 0 ≤ a) → a ≤ b → getD xs l 0 ≤ b
-    → (j : ℕ) → j < l + 1 → getD xs j 0 ≤ b
-raised xs l a b h k m j i = by (decLt j l)
-  where
-    by : Dec (j < l) → getD xs j 0 ≤ b
-    by (yes p) = omega (arith, h j p)
-    by (no q) = let e : j ≡ l = omega arith in rw e m
+μ-loop marks all₀ l₀ all l = 256 - l
 
 loop-again : tie.Need-loop-again Inv-loop μ-loop
 loop-again c =
-    let loop = c .before .before .before .loop in
-    let start = c .before .before .before .before in
-    let step = raised (start .args .marks .now) (loop .l) (loop .top) (c .if1 .top) (loop .inv .1) in (
-      omega arith,
-      step (⊎-elim (λ w. omega arith) (λ w. omega arith) (c .if1 .came))
-          (⊎-elim (λ w. omega arith) (λ w. omega arith) (c .if1 .came)),
-    )
+    let turn = c .before .before in
+    let marks = turn .before .args .marks .now in
+    (omega arith, λ e. below-next marks (turn .loop .l) (turn .loop .all) (turn .loop .inv .1) e)
 
 returns : tie.Need-returns Inv-loop μ-loop
-returns c e j h =
-    let loop = c .before .loop in
-    omega (arith, loop .inv .1 j (omega arith), ltb-false 0 (loop .top) e)
+returns c e j h = c .before .loop .inv .1 (eqb-true _ _ (not-false _ e)) j (omega arith)
 
 pub any-spec : {M : Type 1} → statement M
 any-spec =
     tie.close
-    (tie.spec
-    Inv-loop μ-loop (λ c. (omega arith, λ j h. absurd (omega arith))) (λ c. omega arith) (λ c. omega arith)
-    (λ c. omega arith) loop-again returns)
+    (tie.spec Inv-loop μ-loop (λ c. (omega arith, λ e j h. absurd (omega arith))) (λ c. omega arith)
+    (λ c. omega arith) (λ c. omega arith) loop-again returns)

@@ -1,9 +1,7 @@
 -- `sweep::compare` meets its contract. The invariant: the first l entries are marks, the others as they were.
 -- Assumes nothing.
-use mathlib.Core.Path.{_≡_, sym, _∙_}
-use Prim.Native.Nat.{_+_, _-_}
+use Prim.Native.Nat.{_-_}
 use native.Mathlib.Omega.{arith}
-use borrow.Author.Needs.{needs}
 use Rattle.sweep.proofs.Comparing.{Comparing, comparing-none, comparing-more, comparing-all}
 use Rattle.sweep.proofs.compare.Statement.{statement}
 use Rattle.sweep.proofs.compare.Tie as tie
@@ -16,7 +14,7 @@ abbrev μ-loop : tie.MeasureT-loop
 
 loop-again : tie.Need-loop-again Inv-loop μ-loop
 loop-again c =
-    let turn = c .before .before .before .before in
+    let turn = c .before .before .before .before .before .before in
     comparing-more _ (omega arith) (c .mark .ensures) (turn .loop .inv)
 
 returns : tie.Need-returns Inv-loop μ-loop
@@ -25,5 +23,6 @@ returns c = comparing-all (c .loop-test .left) (c .before .loop .inv)
 pub compare-spec : {M : Type 1} → statement M
 compare-spec =
     tie.close
-    (tie.spec Inv-loop μ-loop (λ c. comparing-none _ _ _ (c .pre)) (λ c. omega arith) (λ c. omega arith) (λ c. omega arith)
-    (λ c. omega arith) (λ c. omega arith) (λ c. omega arith) (λ c. omega arith) loop-again returns)
+    (tie.spec Inv-loop μ-loop (λ c. comparing-none _ _ _ (c .pre)) (λ c. omega arith) (λ c. omega arith)
+    (λ c. omega arith) (λ c. omega arith) (λ c. omega arith) (λ c. omega arith) (λ c. omega arith)
+    (λ c κs. omega arith) (λ c. omega arith) (λ c. omega arith) (λ c. omega arith) loop-again returns)

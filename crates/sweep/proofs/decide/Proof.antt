@@ -1,24 +1,38 @@
--- `sweep::decide` meets its contract. The invariant: the phases below l are known. Assumes nothing.
+-- `sweep::decide` meets its contract. The invariant: the halves below l are known. Assumes nothing.
+use mathlib.Core.Path.{_≡_, ap}
 use Prim.Native.Nat.{_+_, _-_}
 use native.Mathlib.Omega.{arith}
-use borrow.Author.Needs.{needs}
 use Rattle.chips.specs.Chips.{hardRecording}
-use Rattle.sweep.specs.Sweep.{phaseAt, Row}
-use Rattle.sweep.proofs.Rows.{row-less, row-more}
+use Rattle.sweep.specs.Sweep.{halfAt, Row}
+use Rattle.sweep.proofs.Rows.{row-less, row-added}
 use Rattle.sweep.proofs.decide.Statement.{statement}
 use Rattle.sweep.proofs.decide.Tie as tie
 
 abbrev Inv-loop : tie.InvT-loop
-Inv-loop octets at known count phases₀ l₀ phases l = Row (λ j. phaseAt (hardRecording octets) (at + j)) l phases
+Inv-loop octets at known count halves₀ l₀ halves l = Row (λ j. halfAt (hardRecording octets) (at + j)) l halves
 
 abbrev μ-loop : tie.MeasureT-loop
-μ-loop octets at known count phases₀ l₀ phases l = count - l
+μ-loop octets at known count halves₀ l₀ halves l = count - l
+
+part-requires : tie.Need-part-requires Inv-loop μ-loop
+part-requires c κs =
+    let s = c .before .before .before .before .before in
+    let n = c .before .at-once .ensures in (
+      omega (arith, n),
+      omega (arith, n, s .pre .0),
+      omega (arith, n, s .pre .1),
+      c .before .before .before .loop .inv .long,
+    )
 
 loop-again : tie.Need-loop-again Inv-loop μ-loop
 loop-again c =
-    let turn = c .before .before in
+    let turn = c .before .before .before .before in
     let s = turn .before .before in
-    row-more _ (omega (arith, s .pre .0)) (c .phase .ensures) (turn .loop .inv)
+    let l = turn .loop .l in
+    row-added
+    (λ j. let e : s .args .at + l + j ≡ s .args .at + (l + j) = omega arith in
+    ap (halfAt (hardRecording (s .args .octets .now))) e)
+    (turn .loop .inv) (c .part .ensures)
 
 returns : tie.Need-returns Inv-loop μ-loop
 returns c = row-less _ (c .loop-test .left) (c .before .loop .inv)
@@ -26,7 +40,7 @@ returns c = row-less _ (c .loop-test .left) (c .before .loop .inv)
 pub decide-spec : {M : Type 1} → statement M
 decide-spec =
     tie.close
-    (tie.spec Inv-loop μ-loop (λ c. c .before .pre .2) (λ c. omega (arith, c .before .before .before .pre .1))
-    (λ c κs. omega (arith, c .before .before .before .pre .1))
-    (λ c. omega (arith, c .before .before .before .before .pre .0)) (λ c. omega arith) (λ c. omega arith)
-    loop-again returns)
+    (tie.spec Inv-loop μ-loop (λ c. c .before .pre .2) (λ c. omega arith) (λ c κs. tt)
+    (λ c. omega (arith, c .before .before .before .before .pre .1)) part-requires
+    (λ c. omega (arith, c .before .before .at-once .ensures, c .before .before .before .before .before .before .pre .0))
+    (λ c. omega (arith, c .before .before .at-once .ensures)) loop-again returns)

@@ -1,5 +1,5 @@
--- `sweep::mark` meets its contract: two octets that are these give 1. Assumes nothing.
-use mathlib.Core.Path.{_≡_, sym, _∙_}
+-- `sweep::mark` meets its contract: four numbers that are these give 1. Assumes nothing.
+use Prim.Native.Nat.{_-_}
 use native.Mathlib.Omega.{arith}
 use borrow.Author.Needs.{needs}
 use borrow.Author.Tests.{eq-eqb}
@@ -7,7 +7,8 @@ use Rattle.sweep.proofs.mark.Statement.{statement}
 use Rattle.sweep.proofs.mark.Tie as tie
 
 returns : tie.Need-returns
-returns c e f = rw (eq-eqb _ _ e, eq-eqb _ _ f) (λ z. omega (arith, z))
+returns c = λ a b d e. rw (eq-eqb _ _ a, eq-eqb _ _ b, eq-eqb _ _ d, eq-eqb _ _ e) (λ z. omega (arith, z))
 
 pub mark-spec : {M : Type 1} → statement M
-mark-spec = tie.close (tie.spec (λ c. search needs) returns)
+mark-spec =
+    tie.close (tie.spec (λ c. search needs) returns)

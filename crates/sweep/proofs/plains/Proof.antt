@@ -1,9 +1,8 @@
--- `sweep::plains` meets its contract. The invariant: the first l bits are unscrambled, the others as they were. Assumes nothing.
-use mathlib.Core.Path.{_≡_, refl, ap, _∙_}
+-- `sweep::plains` meets its contract. The invariant: the first l bits are unscrambled, the others as they were.
+-- Assumes nothing.
 use Prim.Native.Nat.{_+_, _-_, _%_}
 use native.Mathlib.Omega.{arith}
-use borrow.Author.Needs.{needs}
-use Rattle.bits.specs.Bits.{_⊕_}
+use lib.Bits.{bitXor}
 use Rattle.sweep.specs.Sweep.{Worked, plainOf}
 use Rattle.sweep.proofs.Rows.{worked-none, worked-more, worked-row}
 use Rattle.sweep.proofs.plains.Statement.{statement}
@@ -17,12 +16,13 @@ abbrev μ-loop : tie.MeasureT-loop
 
 loop-again : tie.Need-loop-again Inv-loop μ-loop
 loop-again c =
-    let turn = c .before .before .before .before .before in
+    let turn = c .before .before .before .before in
     let was = turn .loop .inv .kept in
-    let seven = was (turn .loop .l) (omega arith) in
-    let four = was (turn .loop .l + 33) (omega arith) in
-    let last = was (turn .loop .l + 77) (omega arith) in
-    worked-more _ (omega arith) (c .plain .ensures ∙ (λ i. (last i % 2) ⊕ (four i % 2) ⊕ (seven i % 2))) (turn .loop .inv)
+    let l = turn .loop .l in
+    let last = was (l + 77) (omega arith) in
+    let four = was (l + 33) (omega arith) in
+    let seven = was l (omega arith) in
+    worked-more _ (omega arith) (λ i. bitXor (bitXor (last i) (four i)) (seven i) % 2) (turn .loop .inv)
 
 returns : tie.Need-returns Inv-loop μ-loop
 returns c = worked-row _ (c .loop-test .left) (c .before .loop .inv)
@@ -30,4 +30,6 @@ returns c = worked-row _ (c .loop-test .left) (c .before .loop .inv)
 pub plains-spec : {M : Type 1} → statement M
 plains-spec =
     tie.close
-    (tie.spec Inv-loop μ-loop (λ c. worked-none _ _ (c .pre)) (λ c. omega arith) (λ c. omega arith) (λ c. omega arith) (λ c. omega arith) (λ c. omega arith) (λ c. omega arith) (λ c. omega arith) (λ c. omega arith) (λ c. omega arith) loop-again returns)
+    (tie.spec Inv-loop μ-loop (λ c. worked-none _ _ (c .pre)) (λ c. omega arith) (λ c. omega arith)
+    (λ c. omega arith) (λ c. omega arith) (λ c. omega arith) (λ c. omega arith) (λ c. omega arith) (λ c. omega arith)
+    loop-again returns)
