@@ -368,14 +368,16 @@ static void finds(void)
                  {IN_LOST, DSSS_LONG, DSSS_OFFSETS_MAX},
                  {IN_LAST, DSSS_LONG, DSSS_OFFSETS_MAX},
                  {IN_UNUSABLE, DSSS_LONG, DSSS_OFFSETS_MAX},
+                 {IN_SFDS, DSSS_LONG, DSSS_OFFSETS_MAX},
                  {IN_NOISE, DSSS_SHORT, DSSS_OFFSETS_MAX},
                  {IN_LAST, DSSS_SHORT, DSSS_OFFSETS_MAX}};
     double front[BOTH];
 
     set_up(DSSS_LONG, DSSS_RATE_1, 10);
     measure(read_front_task, front);
-    printf("\nfinds in noise, in lost chips, of a frame at the last offset, in noise with an unusable chip in %d;\n"
-           "each: ns of dsss for an offset; fronts: time by that of a read of a long front, by the same\n",
+    printf("\nfinds in noise, in lost chips, of a frame at the last offset, in noise with an unusable chip in %d, and\n"
+           "in SFDs one after the other; each: ns of dsss for an offset; fronts: time by that of a read of a long\n"
+           "front, by the same\n",
            EACH);
     printf("%-10s  %-8s  %-5s  %7s  %12s  %12s  %6s  %8s  %11s  %12s\n", "call", "in", "kind", "offsets", "dsss ns",
            "plain ns", "ratio", "each", "dsss fronts", "plain fronts");

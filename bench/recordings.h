@@ -6,13 +6,28 @@
 
 #include <string.h>
 
-enum { IN_NOISE, IN_LOST, IN_LAST, IN_UNUSABLE, RECORDINGS };
+enum { IN_NOISE, IN_LOST, IN_LAST, IN_UNUSABLE, IN_SFDS, RECORDINGS };
 
 enum { UNUSABLE = 200, EACH = 500 }; /* an octet that is no chip, and how often it comes */
 
 /* Random phases; lost chips, as silence is recorded; random phases and a frame at the last offset; random phases with
- * unusable chips in them. */
-static const char *const recordings[RECORDINGS] = {"noise", "lost", "last", "unusable"};
+ * unusable chips in them; one SFD after the other, which has most fronts read. */
+static const char *const recordings[RECORDINGS] = {"noise", "lost", "last", "unusable", "sfds"};
+
+enum { SFDS = 256 }; /* octets of SFDs, more than any recording here has room for */
+
+/* SFDs of a kind, one after the other, as the payload of a frame at 1 Mbit/s: scrambled in one run, and no front. */
+static inline void lay_sfds(uint64_t kind, size_t len, uint8_t *chips)
+{
+    uint8_t payload[SFDS];
+
+    for (size_t k = 0; k < SFDS; k += 2) {
+        payload[k] = kind == DSSS_LONG ? 0xA0 : 0xCF;
+        payload[k + 1] = kind == DSSS_LONG ? 0xF3 : 0x05;
+    }
+    plain_write(DSSS_LONG, DSSS_RATE_1, 0, 0, payload, SFDS, chips, DSSS_FRAME_CHIPS(DSSS_LONG, DSSS_RATE_1, SFDS));
+    memmove(chips, chips + DSSS_FRONT_LONG, len);
+}
 
 /* Lays a recording out that has a whole front's chips at each of so many offsets and no chip more, but for the payload
  * of a frame, and answers its chips. There is room for them. */
@@ -30,6 +45,8 @@ static inline size_t lay_recording(size_t which, uint64_t kind, size_t offsets, 
         if (which == IN_UNUSABLE && k % EACH == 0)
             chips[k] = UNUSABLE;
     }
+    if (which == IN_SFDS)
+        lay_sfds(kind, len, chips);
     if (which == IN_LAST)
         plain_write(kind, DSSS_RATE_2, 0, 0, payload, sizeof payload, chips + last, len - last);
     return len;

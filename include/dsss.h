@@ -249,23 +249,26 @@ dsss_record dsss_read_bytes(uint64_t kind, const int8_t *bytes, size_t bytes_len
 dsss_coming dsss_read_front(uint64_t kind, const uint8_t *chips, size_t chips_len);
 
 /* Finds a front in a hard recording that begins anywhere: the smallest offset, below the number of
- * offsets to try, from which a read meets none of refusals 8 to 15, 9 and 10 over the front only.
+ * offsets to try, from which a read, as if the recording started there, meets none of refusals 8 to
+ * 15, 9 and 10 over the front only.
  *   kind     DSSS_LONG or DSSS_SHORT                                      refusal 1
  *   chips    the recording, chip octets. Those before the offset may be anything, unusable too; from
- *            it on a whole front must be there, and of the payload nothing: a frame that is cut or
- *            unusable behind its front is found                           refusal 19
- *   offsets  how many to try, 0 to offsets - 1: 1 to DSSS_OFFSETS_MAX, whatever the recording's
- *            length; those past its end have no front                     refusal 18
+ *            it on a whole front must be there, but none of the payload need be: a frame that is cut
+ *            or unusable behind its front is found                        refusal 19
+ *   offsets  how many to try, 1 to DSSS_OFFSETS_MAX: the offsets 0 to offsets - 1, whatever the
+ *            recording's length; those past its end have no front         refusal 18
  * Answer:  number 0, the offset, and the rate code, LENGTH, clock bit and n that the front there tells.
- * Refused: the number; all else 0. Of an empty recording, or one shorter than a front, it is 19.
+ * Refused: the number; all else 0. An empty recording, or one shorter than a front, is 19, never 8; 1
+ *          and then 18 come first.
  * Buffer:  none is lent.
  * THE OFFSET FOUND IS SELDOM THE FRAME'S FIRST CHIP, AND A READ FROM IT MAY GIVE NUMBER 0 AND OTHER
  * OCTETS. Barker symbols can be read beside their grid too, at a lead of one chip: the front of a clean
- * frame may be accepted from 10, 8, 6, 4 or 2 chips before its first chip already. So after ten or more
- * lost chips it is found exactly 10 chips early, after other chips mostly 2 to 10; the cleaner the
- * recording, the surer. What the front tells is the frame's all the same. But a full read from there
- * gives number 0 and other octets at 5.5 and 11 Mbit/s, and those sent at 1 and 2 Mbit/s only while no
- * chip is spoiled. Which chip is the frame's first, this call does not tell.
+ * frame may be accepted from 10, 8, 6, 4 or 2 chips before its first chip already, and as far behind
+ * it. So after ten or more lost chips it is found exactly 10 chips early, after other chips mostly 2 to
+ * 10; the cleaner the recording, the surer. Where its first chips are unusable or were not recorded, it
+ * is found 2 to 10 chips late. What the front tells is the frame's all the same. But a full read from
+ * there gives number 0 and, as a rule, other octets at 5.5 and 11 Mbit/s, and those sent at 1 and 2
+ * Mbit/s only while no chip is spoiled. Which chip is the frame's first, this call does not tell.
  * Proved:  crates/dsss, dsss_find, record Finds: answer. */
 dsss_found dsss_find(uint64_t kind, const uint8_t *chips, size_t chips_len, uint64_t offsets);
 

@@ -99,7 +99,7 @@ find_lines() { # find_lines LIBRARY: the recordings, by most offsets, and noise 
     for n in ${octets:-1 64 512 4096}; do
         find_line "$1" noise "$n" "$front"
     done
-    for recording in lost last unusable; do
+    for recording in lost last unusable sfds; do
         find_line "$1" $recording "${octets:-4096}" "$front"
     done
 }

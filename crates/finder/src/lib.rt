@@ -142,7 +142,7 @@ fn search(kind: Kind, chips: &[u8], offsets: usize) -> Finding
     let mut known: usize = 0;
     let mut at: usize = 0;
     while at < tried {
-        let count = sweep::at_once(tried - at);
+        let count = sweep::at_most(tried - at, 256);
         sweep::decide(chips, from + at, known, count + 253, &mut halves);
         sweep::marks(low, high, &halves, &mut marks);
         let found = seek(kind, chips, at, count, &marks);

@@ -7,6 +7,7 @@ use mathlib.Core.List.{List, [], _∷_, _++_}
 use Prim.Native.Nat.{ℕ}
 use lib.ListN.{take, replicate}
 use Rattle.rates.specs.declared.Rate.the-variants.{One, Two, Five, Eleven}
+use Rattle.rates.specs.Rates.{codeOf}
 use Rattle.chips.specs.Chips.{hardRecording}
 use Rattle.symbols.specs.Words.{barkerWord, cckWord}
 use Rattle.symbols.specs.Choice.{score, those, going, firstLargest, decided}
@@ -26,6 +27,7 @@ use Rattle.bits.specs.Growths.{
 use Rattle.bits.specs.Scrambler.{mixed, scramble, descramble}
 use Rattle.bits.specs.Crc.{addWhere, crcStep, remainder, crcBits}
 use Rattle.frame.specs.Frame.{
+  clockBit,
   preambleBits,
   fieldBits,
   headerBits,
@@ -38,6 +40,7 @@ use Rattle.frame.specs.Frame.{
 }
 use Rattle.calls.specs.declared.Refusal.the-variants.{Crc}
 use Rattle.calls.specs.declared.Front.the-variants as front
+use Rattle.calls.specs.declared.Told.{Told}
 use Rattle.calls.specs.Headers.{told, sameBits, fieldsOf, headerOf}
 use Rattle.reading.specs.Reading.{
   firstUnusable,
@@ -74,6 +77,12 @@ pub answered : answers
     ∷ (0 ∷ 4095 ∷ 55 ∷ 5957 ∷ 0 ∷ 4095 ∷ []) ∷ (0 ∷ 7 ∷ 110 ∷ 8 ∷ 1 ∷ 11 ∷ []) ∷ (0 ∷ 256 ∷ 20 ∷ 5 ∷ 0 ∷ 1 ∷ []) ∷ []
 unfolding fields
 answered = refl
+
+-- and every start, whatever its offset and its header
+pub started : (at : ℕ) (t : Told)
+    → fields (foundOf (Start at t)) ≡ 0 ∷ at ∷ codeOf (t .rate) ∷ t .length ∷ clockBit (t .clock) ∷ t .n ∷ []
+unfolding fields
+started at t = refl
 
 -- ---- the offsets to try: 1 to 4,096
 pub offsets : isOffsets 0 ∷ isOffsets 1 ∷ isOffsets 2 ∷ isOffsets 4095 ∷ isOffsets 4096 ∷ isOffsets 4097
@@ -124,7 +133,7 @@ starts = refl
 
 -- THE LETTER AND THE TRUTH: behind 12 lost chips a clean frame is found at offset 2, 10 chips before it starts.
 -- Barker's side values decide every symbol there as its opposite, which growths do not see, and the front meets none of
--- 8 to 15. More offsets change nothing (`start-found`)
+-- 8 to 15. More offsets change nothing (`start-found` of Laws.antt)
 pub early : find 1 3 (replicate 12 4 ++ short) ≡ Start 2 (told Eleven 1 1 false)
 unfolding
     find short spoilt hardRecording

@@ -1,5 +1,5 @@
 -- What a search for a front comes to.
---     start-here, start-past     a front that tells, and any number that do not
+--     start-past                 behind any number of fronts that do not tell
 --     start-comes                the search ends at the first that tells, or none of them does
 --     start-found, start-none    and back
 --     start-joined               a search goes on behind one that found nothing
@@ -46,7 +46,7 @@ drop-one : {A : Type 0} (n : ℕ) (xs : List A) → drop n (drop 1 xs) ≡ drop 
 drop-one n xs = let e : 1 + n ≡ suc n = omega arith in drop-drop n 1 xs ∙ ap (λ (m : ℕ). drop m xs) e
 
 module _ (k : Kind) where
-  pub start-here : (at m : ℕ) (rec : List Taken) (t : Told) → frontOf k rec ≡ front.Fields t
+  start-here : (at m : ℕ) (rec : List Taken) (t : Told) → frontOf k rec ≡ front.Fields t
       → firstStart k at (suc m) rec ≡ Start at t
   unfolding firstStart
   start-here at m rec t e = rw e

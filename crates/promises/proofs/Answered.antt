@@ -172,17 +172,17 @@ front-cut c r = r .answer ∙ refl
 abbrev pub Searches : ℕ → ℕ → ℕ → Type 0
 Searches kind offsets number = (f : Found) → Finds kind offsets [] f → f ≡ refusedFound number
 
-pub find-no-kind : Searches 2 0 1
+pub no-kind-found : Searches 2 0 1
 unfolding findingOf
-find-no-kind f r = r .answer ∙ refl
+no-kind-found f r = r .answer ∙ refl
 
-pub find-no-offsets : Searches 1 0 18
+pub no-offsets-found : Searches 1 0 18
 unfolding findingOf
-find-no-offsets f r = r .answer ∙ refl
+no-offsets-found f r = r .answer ∙ refl
 
-pub find-many-offsets : Searches 0 4097 18
+pub many-offsets-found : Searches 0 4097 18
 unfolding findingOf
-find-many-offsets f r = r .answer ∙ refl
+many-offsets-found f r = r .answer ∙ refl
 
 pub find-nothing : Searches 1 1 19
 unfolding findingOf firstStart frontOf hardRecording

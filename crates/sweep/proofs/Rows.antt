@@ -1,6 +1,6 @@
 -- Rows of 512 filled or worked over entry by entry: those below l are by a rule.
 --     row-none, row-less                      filled
---     sides-none, sides-more                  sides, in rows of 272
+--     sides-none, sides-more                  sides, in rows of 144
 --     added-none, added-more, row-added       filled from a place on
 --     worked-none, worked-more, worked-row    worked over: the others are as they were
 -- Assumes nothing.
@@ -30,10 +30,10 @@ put-more {f} row {l} v h e r j k = by (decLt j l)
         let q : l ≡ j = omega arith in
         subst (λ (n : ℕ). getD (set row l v) n 0 ≡ f n) q (getD-set-same row l v 0 h ∙ e)
 
-pub sides-none : (octets : List ℕ) (at : ℕ) (row : List ℕ) → length row ≡ 272 → Sides octets at 0 row
+pub sides-none : (octets : List ℕ) (at : ℕ) (row : List ℕ) → length row ≡ 144 → Sides octets at 0 row
 sides-none octets at row e = record { long = e; each = λ j l. absurd (omega arith) }
 
-pub sides-more : {octets row : List ℕ} {at k : ℕ} (v : ℕ) → k < 272 → v ≡ sideOf (getD octets (at + k) 0)
+pub sides-more : {octets row : List ℕ} {at k : ℕ} (v : ℕ) → k < 144 → v ≡ sideOf (getD octets (at + k) 0)
     → Sides octets at k row → Sides octets at (k + 1) (set row k v)
 sides-more {octets} {row} {at} {k} v h e s = record {
   long = length-set row k v ∙ s .long;

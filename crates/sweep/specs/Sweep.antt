@@ -49,9 +49,9 @@ sideOf x = getD (2 ∷ 2 ∷ 0 ∷ 0 ∷ []) x 1
 abbrev pub halfOfEleven : ℕ → ℕ → ℕ → ℕ → ℕ → ℕ → ℕ → ℕ → ℕ → ℕ → ℕ → ℕ
 halfOfEleven a b c d e f g h i j k = boolByte (leb (a + c + d + f + g + h) (b + e + i + j + k))
 
--- the first m of a row of 272 are the sides of the octets from a place
+-- the first m of a row of 144 are the sides of the octets from a place
 pub record Sides (octets : List ℕ) (at m : ℕ) (row : List ℕ) : Type 0 where
-  pub long : length row ≡ 272
+  pub long : length row ≡ 144
   pub each : (j : ℕ) → j < m → getD row j 0 ≡ sideOf (getD octets (at + j) 0)
 
 -- ---- rows of 512

@@ -29,11 +29,12 @@ fn half(a: u8, b: u8, c: u8, d: u8, e: u8, f: u8, g: u8, h: u8, i: u8, j: u8, k:
     (a + c + d + f + g + h <= b + e + i + j + k) as u8
 }
 
-// The sides of so many octets from a place on, in two rows: a loop that looked at neighbours in one row would keep them
-// from turn to turn, and take one place at a time.
-fn sides(octets: &[u8], at: usize, count: usize, evens: &mut [u8; 272], odds: &mut [u8; 272])
-    requires { ⌜ (count ≤ 272) × (at + count ≤ length (now octets)) × (length (now evens) ≡ 272)
-        × (length (now odds) ≡ 272) ⌝ }
+// The sides of so many octets from a place on, the same in two rows, of which one is read at even distances and the
+// other at odd ones: a loop that looked at neighbours in one row would keep them from turn to turn, and take one place
+// at a time.
+fn sides(octets: &[u8], at: usize, count: usize, evens: &mut [u8; 144], odds: &mut [u8; 144])
+    requires { ⌜ (count ≤ 144) × (at + count ≤ length (now octets)) × (length (now evens) ≡ 144)
+        × (length (now odds) ≡ 144) ⌝ }
     ensures evens { λ _. ⌜ Sides (now (octets .entry)) at count (now (evens .exit)) ⌝ }
     ensures odds { λ _. ⌜ Sides (now (octets .entry)) at count (now (odds .exit)) ⌝ }
 {
@@ -47,8 +48,8 @@ fn sides(octets: &[u8], at: usize, count: usize, evens: &mut [u8; 272], odds: &m
 }
 
 // The halves by two rows of sides, into entries of a row from l on.
-fn fill(evens: &[u8; 272], odds: &[u8; 272], l: usize, count: usize, halves: &mut [u8; 512])
-    requires { ⌜ (count ≤ 256) × (l + count ≤ 512) × (length (now evens) ≡ 272) × (length (now odds) ≡ 272)
+fn fill(evens: &[u8; 144], odds: &[u8; 144], l: usize, count: usize, halves: &mut [u8; 512])
+    requires { ⌜ (count ≤ 128) × (l + count ≤ 512) × (length (now evens) ≡ 144) × (length (now odds) ≡ 144)
         × (length (now halves) ≡ 512) × ((j : ℕ) → j < count + 10 → getD (now evens) j 0 ≤ 2)
         × ((j : ℕ) → j < count + 10 → getD (now odds) j 0 ≤ 2) ⌝ }
     ensures halves { λ _. ⌜ Added (halfOf (now (evens .entry)) (now (odds .entry))) l (now (halves .entry))
@@ -73,25 +74,25 @@ fn fill(evens: &[u8; 272], odds: &[u8; 272], l: usize, count: usize, halves: &mu
     }
 }
 
-// The halves at up to 256 chips from a place on, into entries of a row from l on. Six chips more are looked at than
+// The halves at up to 128 chips from a place on, into entries of a row from l on. Six chips more are looked at than
 // they need, so that the rows of sides are whole sixteens.
 fn part(octets: &[u8], at: usize, l: usize, count: usize, halves: &mut [u8; 512])
-    requires { ⌜ (count ≤ 256) × (l + count ≤ 512) × (at + count + 16 ≤ length (now octets))
+    requires { ⌜ (count ≤ 128) × (l + count ≤ 512) × (at + count + 16 ≤ length (now octets))
         × (length (now halves) ≡ 512) ⌝ }
     ensures halves { λ _. ⌜ Added (λ s. halfAt (hardRecording (now (octets .entry))) (at + s)) l (now (halves .entry))
         (now (halves .exit)) count ⌝ }
 {
-    let mut evens = [0u8; 272];
-    let mut odds = [0u8; 272];
+    let mut evens = [0u8; 144];
+    let mut odds = [0u8; 144];
     sides(octets, at, count + 16, &mut evens, &mut odds);
     fill(&evens, &odds, l, count, halves);
 }
 
 // How many of the places or offsets that are left go at once.
-pub fn at_once(left: usize) -> usize
-    ensures answer { λ r. ⌜ r ≡ min left 256 ⌝ }
+pub fn at_most(left: usize, most: usize) -> usize
+    ensures answer { λ r. ⌜ r ≡ min left most ⌝ }
 {
-    if left < 256 { left } else { 256 }
+    if left < most { left } else { most }
 }
 
 // The halves at every chip from a place on, count of them, of which the first so many are known.
@@ -103,7 +104,7 @@ pub fn decide(octets: &[u8], at: usize, known: usize, count: usize, halves: &mut
 {
     let mut l = known;
     while l < count {
-        let n = at_once(count - l);
+        let n = at_most(count - l, 128);
         part(octets, at + l, l, n, halves);
         l += n;
     }

@@ -69,9 +69,9 @@ decide-requires c κs =
     let turn = once .before in
     let chips = turn .before .before .before in
     let s = chips .before .before .before in (
-      omega (arith, once .at-once .ensures),
+      omega (arith, once .at-most .ensures),
       room (s .args .kind) (length (s .args .chips .now)) _ _ _ _ (turn .loop-test .taken)
-          (chips .preamble-chips .ensures) (once .at-once .ensures) (chips .before .tries .ensures .1),
+          (chips .preamble-chips .ensures) (once .at-most .ensures) (chips .before .tries .ensures .1),
       turn .before .loop .inv .3 (turn .loop-test .taken),
     )
 
@@ -84,10 +84,10 @@ seek-requires c κs =
     let sfd = turn .before .before in
     let chips = sfd .before in
     let s = chips .before .before .before in
-    let few : once .at-once .result ≤ 256 = omega (arith, once .at-once .ensures) in (
+    let few : once .at-most .result ≤ 256 = omega (arith, once .at-most .ensures) in (
       few,
       inside (s .args .kind) (length (s .args .chips .now)) _ _ _ _ (turn .loop-test .taken)
-          (chips .preamble-chips .ensures) (once .at-once .ensures) (chips .before .tries .ensures .1),
+          (chips .preamble-chips .ensures) (once .at-most .ensures) (chips .before .tries .ensures .1),
       unmarked (s .args .kind) (hardRecording (s .args .chips .now)) _ _ _ _ _ _
           (marked .marks2 .ensures _ _ _ few (decided .decide .ensures))
           (ap (λ (n : ℕ). n - 264) (chips .preamble-chips .ensures))
@@ -104,7 +104,7 @@ returns c =
     window-hit (s .args .kind) (hardRecording (s .args .chips .now)) _ _ _ _ _ (sought .seek .ensures)
     (turn .before .loop .inv .2)
     (within (s .args .kind) (length (s .args .chips .now)) _ _ _ _ (turn .loop-test .taken)
-    (chips .preamble-chips .ensures) (once .at-once .ensures) (chips .before .tries .ensures .1))
+    (chips .preamble-chips .ensures) (once .at-most .ensures) (chips .before .tries .ensures .1))
     (chips .before .tries .ensures .0) _ _ (c .before .found .given .1)
 
 advance-requires : tie.Need-advance-requires Inv-loop μ-loop
@@ -134,12 +134,12 @@ loop-again c =
     let once = decided .before .before in
     let turn = once .before in
     let s = turn .before .before .before .before .before .before in
-    let few : once .at-once .result ≤ 256 = omega (arith, once .at-once .ensures) in (
+    let few : once .at-most .result ≤ 256 = omega (arith, once .at-most .ensures) in (
       c .advance .ensures .long,
       marked .marks2 .ensures _ _ _ few (decided .decide .ensures) .long,
       window-miss (s .args .kind) (hardRecording (s .args .chips .now)) _ _ 0 _ _ (sought .seek .ensures)
-          (turn .before .loop .inv .2) (once .at-once .ensures) _ (missed .enum-told .given .1),
-      λ l. carried (hardRecording (s .args .chips .now)) _ _ _ _ _ (omega (arith, once .at-once .ensures))
+          (turn .before .loop .inv .2) (once .at-most .ensures) _ (missed .enum-told .given .1),
+      λ l. carried (hardRecording (s .args .chips .now)) _ _ _ _ _ (omega (arith, once .at-most .ensures))
           (decided .decide .ensures) (c .advance .ensures),
     )
 
@@ -157,7 +157,7 @@ search-spec =
     (λ c. omega (arith, few-high (c .before .before .before .before .args .kind) _ (c .sfd-of .ensures)))
     (λ c. (refl, refl, (λ j h l. absurd (omega arith)), λ h. row-none _ _ refl))
     (λ c. omega (arith, c .loop-test .taken)) (λ c κs. tt) from-fits
-    (λ c. omega (arith, c .at-once .ensures)) decide-requires
+    (λ c. omega (arith, c .at-most .ensures)) decide-requires
     (λ c κs. let decided = c .before .before in
     (decided .decide .ensures .long, decided .before .before .before .before .loop .inv .1))
     seek-requires (λ c. search needs) returns (λ c. search needs) advance-requires at-fits

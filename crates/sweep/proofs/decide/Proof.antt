@@ -17,7 +17,7 @@ abbrev μ-loop : tie.MeasureT-loop
 part-requires : tie.Need-part-requires Inv-loop μ-loop
 part-requires c κs =
     let s = c .before .before .before .before .before in
-    let n = c .before .at-once .ensures in (
+    let n = c .before .at-most .ensures in (
       omega (arith, n),
       omega (arith, n, s .pre .0),
       omega (arith, n, s .pre .1),
@@ -42,5 +42,5 @@ decide-spec =
     tie.close
     (tie.spec Inv-loop μ-loop (λ c. c .before .pre .2) (λ c. omega arith) (λ c κs. tt)
     (λ c. omega (arith, c .before .before .before .before .pre .1)) part-requires
-    (λ c. omega (arith, c .before .before .at-once .ensures, c .before .before .before .before .before .before .pre .0))
-    (λ c. omega (arith, c .before .before .at-once .ensures)) loop-again returns)
+    (λ c. omega (arith, c .before .before .at-most .ensures, c .before .before .before .before .before .before .pre .0))
+    (λ c. omega (arith, c .before .before .at-most .ensures)) loop-again returns)
