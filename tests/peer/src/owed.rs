@@ -2,8 +2,8 @@
 //! without it, and no other number at all; fronts that tell of each kind and rate, recordings alike in the front that
 //! are refused with each number, and full reads that go together with fronts in each way; symbols of 11 Mbit/s that are
 //! decided among words of one score, in each way; smallest leads in each part at each rate, shared ones, ties and those
-//! that refused reads keep; starts found of each kind and rate, at each remainder of 512, early and not, behind offsets
-//! refused with each number; and no family that spends a third of all calls on one number.
+//! that refused reads keep; starts found of each kind and rate, at each remainder of 512, early, late and neither,
+//! behind offsets refused with each number; and no family that spends a third of all calls on one number.
 
 use crate::bits::Rate;
 use crate::bridge::Outcome;
@@ -15,7 +15,7 @@ use crate::leads::Lead::{
 };
 use crate::leads::Stands::{First, Header, Payload, Preamble};
 use crate::relations::Held;
-use crate::starts::Start::{self, Early, Found, Missed, Passed, ReadRefused};
+use crate::starts::Start::{self, Early, Found, Late, Missed, Passed, ReadRefused};
 
 const CALLS: u64 = 200_000;
 
@@ -431,6 +431,11 @@ const STARTS: [(Start, &str, u64); 42] = [
 /// How often a start must be found so many chips early, at any rate.
 const EARLY: [(u64, &str, u64); 4] = [(2, "2 early", 10), (4, "4 early", 3), (6, "6 early", 2), (8, "8 early", 6)];
 
+/// How often a start must be found so many chips late: at 1 and 2 Mbit/s, whose payloads are Barker symbols too, and at
+/// 5.5 and 11 Mbit/s.
+const LATE: [(u64, &str, u64, u64); 5] =
+    [(2, "2 late", 6, 4), (4, "4 late", 4, 10), (6, "6 late", 4, 2), (8, "8 late", 4, 8), (10, "10 late", 4, 3)];
+
 /// How often a start must be found of each kind and rate, without the clock bit and with it, and at each remainder of
 /// 512.
 const FOUND: u64 = 60;
@@ -446,6 +451,11 @@ fn starts(total: &Outcome) -> Vec<String> {
         let early = |rate: Rate, same: bool| count(Early { rate: u64::from(rate.code()), by, same });
         let each = Rate::ALL.into_iter().map(|rate| early(rate, false) + early(rate, true));
         seen.push((shown, each.sum(), least));
+    }
+    for (by, shown, barker, cck) in LATE {
+        let late = |rates: [u64; 2]| rates.map(|rate| count(Late { rate, by })).iter().sum();
+        seen.push((shown, late([10, 20]), barker));
+        seen.push(("at 55 and 110", late([55, 110]), cck));
     }
     let rarest = (0..512).map(|rest| count(Start::At(rest))).min().unwrap_or(0);
     seen.push(("at each remainder of 512", rarest, FOUND_AT_EACH));

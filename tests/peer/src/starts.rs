@@ -58,6 +58,9 @@ pub enum Start {
     Early { rate: u64, by: u64, same: bool },
     /// The same, with nothing but lost chips before the frame, ten or more.
     EarlyBehindLost,
+    /// So many chips before the start a frame of this rate starts, its chips before the start spoiled or not recorded,
+    /// those of its front from there on as they were sent.
+    Late { rate: u64, by: u64 },
 }
 
 /// The last find, the offsets of its recording from which fronts were refused, and the octets read from its start.
@@ -138,7 +141,21 @@ impl Sought {
             (offset + self.front() == self.chips.len() as u64, Start::FrontLast),
         ];
         let always = [Start::Found { kind: self.kind, rate, clock }, Start::At(offset % 512)];
-        always.into_iter().chain(seen.into_iter().filter(|(seen, _)| *seen).map(|(_, start)| start)).collect()
+        let late = self.late().map(|by| Start::Late { rate, by });
+        let seen = seen.into_iter().filter(|(seen, _)| *seen).map(|(_, start)| start);
+        always.into_iter().chain(seen).chain(late).collect()
+    }
+
+    /// How many chips behind a frame's first, less than a symbol, the start is, by the rest of the front's symbols. An
+    /// odd number behind one symbol's first chip is an even number before the next one's: that start is early.
+    fn late(&self) -> Option<u64> {
+        let (start, front) = (self.numbers[1] as usize, self.front() as usize);
+        let late = |by: &usize| {
+            let (first, others) = self.chips[start..start + front - by].split_at(11 - by);
+            let begun = (0..4).any(|phase| barker(phase)[*by..] == *first);
+            begun && others.chunks(11).all(|symbol| symbol == barker(symbol[0] % 4))
+        };
+        (2..11).step_by(2).find(late).map(|by| by as u64)
     }
 
     /// Two finds over one recording: a start is that of every find with more offsets than it, and of no other.

@@ -112,6 +112,23 @@ fn about_front(out: &mut Out) {
     }
 }
 
+/// Frames without their first chips: behind 30 lost ones, one of a frame's first chips unusable, and recordings that
+/// begin so many chips into the frame. They are found late.
+fn begun(out: &mut Out) {
+    for (kind, rate) in pairs() {
+        for first in [1, 2, 4, 6, 8, 10] {
+            let mut scene = Scene::new(kind, rate, Before::Lost, 30, &mut out.random);
+            scene.chips[30 + first - 1] = if first == 1 { 5 } else { unusable(&mut out.random) };
+            scene.seek(out, 60);
+            if first > 1 {
+                let mut scene = Scene::new(kind, rate, Before::Lost, 0, &mut out.random);
+                scene.chips.drain(..first);
+                scene.seek(out, 30);
+            }
+        }
+    }
+}
+
 /// Recordings that end in the front's last symbol or in the payload, and payloads that a full read refuses.
 fn behind_front(out: &mut Out) {
     for (kind, rate) in pairs() {
@@ -217,6 +234,7 @@ pub fn find_damage(out: &mut Out) {
     headers(out);
     any_sync(out);
     about_front(out);
+    begun(out);
     behind_front(out);
     wrong_before(out);
     overlapping(out);

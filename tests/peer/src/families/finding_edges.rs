@@ -117,13 +117,31 @@ fn blocks(out: &mut Out) {
     }
 }
 
-/// Recordings whose length is short of a front in its lowest 16 bits, with a frame and without.
+/// Recordings whose length is short of a front in its lowest 16 bits, with a frame and without; and of 2^20 chips and
+/// more, above the longest frame and all offsets before it, whose length is short of the front in its lowest 20 bits.
 fn widths(out: &mut Out) {
     for kind in Kind::BOTH {
         for (len, start) in [(1 << 16, 0), ((1 << 16) + 1000, 300), ((1 << 17) + 5, 4095), (1 << 16, 4096)] {
             let mut scene = Scene::new(kind, Rate::Mbit5_5, Before::Stopped, start, &mut out.random);
             scene.chips.resize(len, 9);
             scene.seek(out, ALL);
+        }
+        for (len, start) in [((1 << 20) + 5, 3), ((1 << 20) + 5, 4095), ((1 << 20) + kind.front_chips() + 99, 100)] {
+            let mut scene = Scene::new(kind, Rate::Mbit11, Before::Stopped, start, &mut out.random);
+            scene.chips.resize(len, 9);
+            out.call(scene.find(ALL));
+        }
+    }
+}
+
+/// A start at each multiple of 256 and before it, of either kind, found as the last offset tried.
+fn multiples(out: &mut Out) {
+    for kind in Kind::BOTH {
+        for multiple in (256..ALL).step_by(256) {
+            for offset in [multiple - 1, multiple] {
+                let scene = Scene::new(kind, Rate::Mbit11, Before::Stopped, offset, &mut out.random);
+                out.call(scene.find(offset + 1));
+            }
         }
     }
 }
@@ -134,4 +152,5 @@ pub fn find_edges(out: &mut Out) {
     remainders(out);
     blocks(out);
     widths(out);
+    multiples(out);
 }

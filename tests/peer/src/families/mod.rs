@@ -28,6 +28,7 @@
 //! - Of several starts the largest told, or the one with the largest lead, where the frame does start: `find_clean`.
 //! - One offset too many tried, or one too few; 18 before 1; 8 for no chips: `find_edges`.
 //! - An offset left out where one block of offsets ends and the next begins: `find_edges`.
+//! - The recording's length cut to fewer bits, or held to the longest frame's: `find_edges`.
 //! - A frame cut or unusable in its payload, or behind unusable chips, passed over: `find_damage`.
 //! - A start left out behind a front that is refused, or among fronts that overlap: `find_damage`.
 //! - What a front that was refused tells, shown with 19: `find_damage`.
