@@ -4,7 +4,7 @@
 --     heard-symbol, heard-back                                 a symbol's bits from its word, all bits from all words
 --     heard-append, growthsOf-append, lastHeard-append         words after words
 --     heard-row, heard-length, heard-below, heard-parity       as many, and bits; a word's number counts modulo 2
---     heard-at                                                 one bit of 1 Mbit/s, by its word and the one before it
+--     heard-at, growth-at                                      one bit of 1 Mbit/s, one growth, by two words
 -- A growth is taken off modulo 4, and a number's phases are its digits. Assumes nothing.
 use mathlib.Core.Path.{_≡_, refl, sym, ap, ap₂, _∙_}
 use mathlib.Core.Bool.{true}
@@ -339,3 +339,14 @@ heard-at k p (a ∷ b ∷ ns) zero h = refl
 heard-at k p (a ∷ b ∷ ns) (suc n) h =
     let e : suc n + 1 ≡ suc (n + 1) = omega arith in
     rw e (heard-at (suc k) a (b ∷ ns) n (omega arith))
+
+-- and how far it grew
+pub growth-at : (p : ℕ) (ns : List ℕ) (n : ℕ) → n + 1 < length ns
+    → getD (growthsOf One p ns) (n + 1) 0 ≡ grownBy (getD ns n 0) (getD ns (n + 1) 0)
+unfolding growthsOf
+growth-at p [] n h = absurd (omega arith)
+growth-at p (a ∷ []) n h = absurd (omega arith)
+growth-at p (a ∷ b ∷ ns) zero h = refl
+growth-at p (a ∷ b ∷ ns) (suc n) h =
+    let e : suc n + 1 ≡ suc (n + 1) = omega arith in
+    rw e (growth-at a (b ∷ ns) n (omega arith))

@@ -6,3 +6,4 @@ pub mod Places
 pub mod Local
 pub mod Leads
 pub mod Sfd
+pub mod Even

@@ -84,13 +84,13 @@ module _ (k : Kind) (rec : List Taken) where
       (λ a. searched SfdIf (firstUnusable 0 (take (frontChips k) rec)) (λ p. Refused (Unusable p 0)) _ (λ p e. tt)
       (searched SfdIf (frontOdd k rec) (λ p. Refused (OddGrowth p 0)) _ (λ p e. tt) (header-sfd _)))
 
-  abbrev words : List ℕ
+  abbrev pub words : List ℕ
   words = preambleWords k rec
 
   abbrev sent : List ℕ
   sent = heard One 0 (reference k rec) words
 
-  words-length : length words ≡ syncBits k + 16
+  pub words-length : length words ≡ syncBits k + 16
   unfolding preambleWords
   words-length = decidedWords-length One (syncBits k + 16) rec
 
@@ -111,7 +111,7 @@ module _ (k : Kind) (rec : List Taken) where
   abbrev bit : ℕ → ℕ
   bit n = grownBy (wordAt One rec n) (wordAt One rec (n + 1)) / 2
 
-  word-here : (n : ℕ) → n < syncBits k + 16 → getD words n 0 ≡ wordAt One rec n
+  pub word-here : (n : ℕ) → n < syncBits k + 16 → getD words n 0 ≡ wordAt One rec n
   unfolding preambleWords
   word-here n h = words-at One (syncBits k + 16) n rec h
 
