@@ -116,7 +116,7 @@ unfolding find hardRecording firstStart findingOf frontOf
 bad = refl
 
 -- a clean frame of the short kind: its front alone, whatever the payload's chips and whether they are there; behind two
--- chips that are unusable, of which the first n offsets are tried; and not where a chip of the front is unusable
+-- chips that are unusable, with two offsets tried and with three; and not where a chip of the front is unusable
 pub starts : find 1 1 (take 1056 short) ∷ find 1 4096 (spoilt 1056 5 short)
     ∷ find 1 2 (5 ∷ 255 ∷ short) ∷ find 1 3 (5 ∷ 255 ∷ short) ∷ find 1 2 (spoilt 1055 5 short) ∷ []
     ≡ Start 0 (told Eleven 1 1 false) ∷ Start 0 (told Eleven 1 1 false) ∷ Refused NoStart
