@@ -1,0 +1,126 @@
+-- Calls one after the other: 31 exactly where 1,000 were seen; and the report of a list grows by one recording.
+--     takes-more      a report of fewer than 1,000 recordings takes one more
+--     counted-next    then the answer is 0, and the report is that of the list with it
+--     counted-full    a report that has seen 1,000 or more stays as it stood, whatever it holds
+-- Assumes nothing.
+use mathlib.Core.Path.{_≡_, refl, sym, ap, _∙_, subst}
+use mathlib.Core.Bool.{Bool, true, false, cond, not, _&&_}
+use mathlib.Core.List.{List, [], _∷_, _++_, map}
+use Prim.Native.Nat.{ℕ, zero, suc, _+_, _*_, _≤_, _<_}
+use native.Mathlib.Nat.{le-refl}
+use native.Mathlib.Omega.{arith}
+use borrow.Author.Tests.{lt-ltb, le-ltb, le-leb, eqb-true}
+use lib.Dec.{eqb, ltb, leb, lit≤}
+use lib.ListN.{length, length-map}
+use Rattle.base.specs.Tables.{tabulate}
+use Rattle.base.proofs.Tests.{left-is, right-is}
+use Rattle.report.specs.Totals.{
+  Recording,
+  Outcome,
+  outcomeOf,
+  total,
+  accepted,
+  acceptedAt,
+  framesAt,
+  octetsAt,
+  refusedWith,
+  frontTime,
+  airtimeOf,
+}
+use Rattle.report.specs.Report.{codes, reportOf, added, atMost, takesMore, countedOf}
+use Rattle.report.specs.declared.Report.{Report}
+use Rattle.report.specs.declared.Counted.{Counted}
+use Rattle.report.proofs.Outcomes.{Fair, fair}
+use Rattle.report.proofs.Laws.{total-most}
+use Rattle.report.proofs.Added.{added-more}
+
+-- ---- what totals come to
+
+one-most : (t : Bool) (n m : ℕ) → (t ≡ true → n ≤ m) → cond t n 0 ≤ m
+one-most true n m h = h refl
+one-most false n m h = omega arith
+
+front-time : (kind : ℕ) → frontTime kind ≤ 192
+front-time kind = by (eqb kind 0)
+  where
+    by : (t : Bool) → cond t 192 96 ≤ 192
+    by true = lit≤ tt
+    by false = lit≤ tt
+
+module _ (rs : List Recording) where
+  frames-most : (code : ℕ) → framesAt code (map outcomeOf rs) ≤ 1 * length rs
+  frames-most code =
+      total-most _ 1 (λ r. one-most (acceptedAt code (outcomeOf r)) 1 1 (λ e. le-refl 1)) rs
+
+  octets-most : (code : ℕ) → octetsAt code (map outcomeOf rs) ≤ 4095 * length rs
+  octets-most code =
+      total-most _ 4095 (λ r. one-most (acceptedAt code (outcomeOf r)) (outcomeOf r .answer .n) 4095 (λ e. fair r .few))
+      rs
+
+  refused-most : (number : ℕ) → refusedWith number (map outcomeOf rs) ≤ 1 * length rs
+  refused-most number =
+      total-most _ 1
+      (λ r. one-most (not (accepted (outcomeOf r)) && eqb (outcomeOf r .answer .number) number) 1 1 (λ e. le-refl 1)) rs
+
+  airtime-most : airtimeOf (map outcomeOf rs) ≤ 32952 * length rs
+  airtime-most =
+      total-most _ 32952
+      (λ r. let o = outcomeOf r in
+      one-most (accepted o) (frontTime (o .kind) + o .answer .length) 32952
+      (λ e. omega (arith, front-time (r .kind), fair r .brief (eqb-true (o .answer .number) 0 e)))) rs
+
+-- ---- 31
+
+at-most-joined : (m : ℕ) (xs ys : List ℕ) → atMost m xs ≡ true → atMost m ys ≡ true → atMost m (xs ++ ys) ≡ true
+unfolding atMost
+at-most-joined m [] ys a b = b
+at-most-joined m (x ∷ xs) ys a b =
+    rw (left-is (leb x m) (atMost m xs) a) (at-most-joined m xs ys (right-is (leb x m) (atMost m xs) a) b)
+
+at-most-table : (m : ℕ) (f : ℕ → ℕ) (n : ℕ) → ((k : ℕ) → f k ≤ m) → atMost m (tabulate f n) ≡ true
+unfolding atMost tabulate
+at-most-table m f zero h = refl
+at-most-table m f (suc n) h =
+    at-most-joined m (tabulate f n) (f n ∷ []) (at-most-table m f n h) (simp (le-leb (f n) m (h n)))
+
+pub takes-more : (rs : List Recording) → length rs < 1000 → takesMore (reportOf (map outcomeOf rs)) ≡ true
+unfolding reportOf takesMore atMost
+takes-more rs h =
+    let os = map outcomeOf rs in
+    let frames : (code : ℕ) → framesAt code os ≤ 1000 = λ code. omega (arith, frames-most rs code) in
+    let octets : (code : ℕ) → octetsAt code os ≤ 4095000 = λ code. omega (arith, octets-most rs code) in
+    let refused : (number : ℕ) → refusedWith number os ≤ 1000 = λ number. omega (arith, refused-most rs number) in
+    simp (
+      lt-ltb (length os) 1000 (omega (arith, length-map rs outcomeOf)),
+      le-leb (framesAt 10 os) 1000 (frames 10),
+      le-leb (framesAt 20 os) 1000 (frames 20),
+      le-leb (framesAt 55 os) 1000 (frames 55),
+      le-leb (framesAt 110 os) 1000 (frames 110),
+      le-leb (octetsAt 10 os) 4095000 (octets 10),
+      le-leb (octetsAt 20 os) 4095000 (octets 20),
+      le-leb (octetsAt 55 os) 4095000 (octets 55),
+      le-leb (octetsAt 110 os) 4095000 (octets 110),
+      at-most-table 1000 (λ number. refusedWith number os) 18 refused,
+      le-leb (airtimeOf os) 32952000 (omega (arith, airtime-most rs)),
+    )
+
+map-more : (rs : List Recording) (r : Recording)
+    → map outcomeOf rs ++ (outcomeOf r ∷ []) ≡ map outcomeOf (rs ++ (r ∷ []))
+map-more [] r = refl
+map-more (q ∷ rs) r = ap (λ (os : List Outcome). outcomeOf q ∷ os) (map-more rs r)
+
+-- ---- a call
+
+abbrev counts : ℕ → Report → Counted
+counts number p = record { number = number; report = p }
+
+pub counted-next : (rs : List Recording) (r : Recording) → length rs < 1000
+    → countedOf (reportOf (map outcomeOf rs)) r ≡ counts 0 (reportOf (map outcomeOf (rs ++ (r ∷ []))))
+unfolding countedOf
+counted-next rs r h =
+    rw (takes-more rs h)
+    (ap (counts 0) (added-more (map outcomeOf rs) (outcomeOf r) (fair r) ∙ ap reportOf (map-more rs r)))
+
+pub counted-full : (p : Report) (r : Recording) → 1000 ≤ p .seen → countedOf p r ≡ counts 31 p
+unfolding countedOf takesMore
+counted-full p r h = simp (le-ltb (p .seen) 1000 h)
