@@ -1,14 +1,14 @@
 -- One reading more: what is added to a report kept is what the list's totals grow by.
 --     added-more    a report of a list, with one reading more, is that of the list with it
 -- Assumes nothing.
-use mathlib.Core.Path.{_≡_, refl, sym, ap, _∙_, subst}
-use mathlib.Core.Bool.{Bool, true, false, cond, not, _&&_, _||_}
+use mathlib.Core.Path.{_≡_, refl, sym, ap, _∙_}
+use mathlib.Core.Bool.{Bool, true, false, cond, _||_}
 use mathlib.Core.List.{List, [], _∷_, _++_, map}
 use mathlib.Core.Option.{Option, none, some}
 use Prim.Native.Nat.{ℕ, zero, suc, _+_, _<_, compare·suc-suc}
 use native.Mathlib.Nat.{add-zero, not-suc-le-zero, le-of-suc-le-suc, zero-add}
 use native.Mathlib.Omega.{arith}
-use borrow.Author.Tests.{eq-eqb, ne-eqb, eqb-true}
+use borrow.Author.Tests.{ne-eqb, eqb-true}
 use lib.Dec.{eqb, ltb}
 use lib.ListN.{length, getD, length-append}
 use lib.Seq.{ext-getD}
@@ -36,12 +36,10 @@ use Rattle.report.specs.Report.{
   reportOf,
   more,
   entryOf,
-  isCloser,
   withFrame,
   withRefusal,
   added,
 }
-use Rattle.report.specs.declared.Report.{Report}
 use Rattle.report.proofs.Outcomes.{Fair}
 use Rattle.report.proofs.Laws.{total-more, behind, closest-more}
 

@@ -3,14 +3,14 @@
 --     counted-next    then the answer is 0, and the report is that of the list with it
 --     counted-full    a report that has seen 1,000 or more stays as it stood, whatever it holds
 -- Assumes nothing.
-use mathlib.Core.Path.{_≡_, refl, sym, ap, _∙_, subst}
+use mathlib.Core.Path.{_≡_, refl, ap, _∙_}
 use mathlib.Core.Bool.{Bool, true, false, cond, not, _&&_}
 use mathlib.Core.List.{List, [], _∷_, _++_, map}
 use Prim.Native.Nat.{ℕ, zero, suc, _+_, _*_, _≤_, _<_}
 use native.Mathlib.Nat.{le-refl}
 use native.Mathlib.Omega.{arith}
 use borrow.Author.Tests.{lt-ltb, le-ltb, le-leb, eqb-true}
-use lib.Dec.{eqb, ltb, leb, lit≤}
+use lib.Dec.{eqb, leb, lit≤}
 use lib.ListN.{length, length-map}
 use Rattle.base.specs.Tables.{tabulate}
 use Rattle.base.proofs.Tests.{left-is, right-is}
@@ -18,7 +18,6 @@ use Rattle.report.specs.Totals.{
   Recording,
   Outcome,
   outcomeOf,
-  total,
   accepted,
   acceptedAt,
   framesAt,
@@ -27,16 +26,16 @@ use Rattle.report.specs.Totals.{
   frontTime,
   airtimeOf,
 }
-use Rattle.report.specs.Report.{codes, reportOf, added, atMost, takesMore, countedOf}
+use Rattle.report.specs.Report.{reportOf, atMost, takesMore, countedOf}
 use Rattle.report.specs.declared.Report.{Report}
 use Rattle.report.specs.declared.Counted.{Counted}
-use Rattle.report.proofs.Outcomes.{Fair, fair}
+use Rattle.report.proofs.Outcomes.{fair}
 use Rattle.report.proofs.Laws.{total-most}
 use Rattle.report.proofs.Added.{added-more}
 
 -- ---- what totals come to
 
-one-most : (t : Bool) (n m : ℕ) → (t ≡ true → n ≤ m) → cond t n 0 ≤ m
+pub one-most : (t : Bool) (n m : ℕ) → (t ≡ true → n ≤ m) → cond t n 0 ≤ m
 one-most true n m h = h refl
 one-most false n m h = omega arith
 
@@ -104,7 +103,7 @@ takes-more rs h =
       le-leb (airtimeOf os) 32952000 (omega (arith, airtime-most rs)),
     )
 
-map-more : (rs : List Recording) (r : Recording)
+pub map-more : (rs : List Recording) (r : Recording)
     → map outcomeOf rs ++ (outcomeOf r ∷ []) ≡ map outcomeOf (rs ++ (r ∷ []))
 map-more [] r = refl
 map-more (q ∷ rs) r = ap (λ (os : List Outcome). outcomeOf q ∷ os) (map-more rs r)

@@ -4,36 +4,18 @@
 --     added-more                   a report with one reading more is the report of the list with it
 --     takes-fewer, takes-no-more   31 exactly from the 1,001st on
 -- Assumes nothing.
-use mathlib.Core.Path.{_≡_, refl, sym, ap, _∙_, subst}
-use mathlib.Core.Bool.{Bool, true, false, cond, not, _&&_, _||_}
+use mathlib.Core.Path.{_≡_, refl, sym, ap, _∙_}
+use mathlib.Core.Bool.{Bool, true, false, cond}
 use mathlib.Core.List.{List, [], _∷_, _++_, map}
 use mathlib.Core.Option.{Option, none, some}
-use Prim.Native.Nat.{ℕ, zero, suc, _+_, _*_, _≤_, _<_}
-use native.Mathlib.Nat.{add-zero, add-suc, zero-add, mul-suc, mul-zero, add-assoc}
+use Prim.Native.Nat.{ℕ, suc, _+_, _*_, _≤_, _<_}
+use native.Mathlib.Nat.{add-zero, mul-suc, mul-zero, add-assoc}
 use native.Mathlib.Decide.{decLt}
-use native.Mathlib.Numerals.{add-one}
 use native.Mathlib.Omega.{arith}
 use borrow.Author.Tests.{lt-ltb, le-ltb}
-use lib.Dec.{eqb, ltb, leb}
-use lib.ListN.{length, getD, length-append}
-use Rattle.base.specs.Tables.{tabulate}
-use Rattle.base.proofs.Tables.{length-tabulate, getD-tabulate}
-use Rattle.report.specs.Totals.{
-  Recording,
-  Outcome,
-  outcomeOf,
-  total,
-  accepted,
-  acceptedAt,
-  framesAt,
-  octetsAt,
-  refusedWith,
-  frontTime,
-  airtimeOf,
-  Closest,
-  closer,
-  closestFrom,
-}
+use lib.Dec.{ltb}
+use lib.ListN.{length}
+use Rattle.report.specs.Totals.{Recording, Outcome, outcomeOf, total, accepted, Closest, closer, closestFrom}
 
 -- ---- totals
 

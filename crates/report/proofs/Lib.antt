@@ -1,4 +1,5 @@
 pub mod Outcomes
+pub mod Facts
 pub mod Laws
 pub mod Added
 pub mod Counting

@@ -1,0 +1,232 @@
+-- Every promise of the month's report is kept. A report kept between calls is the report of the first 1,000 recordings,
+-- by induction over the calls; all else follows from that and from the totals. Assumes nothing.
+use mathlib.Core.Path.{_≡_, refl, sym, ap, _∙_, subst}
+use mathlib.Core.Bool.{Bool, true, false, cond, _&&_}
+use mathlib.Core.List.{List, [], _∷_, _++_, map}
+use Prim.Native.Nat.{ℕ, zero, suc, _+_, _≤_, _<_}
+use native.Mathlib.Nat.{not-suc-le-zero}
+use native.Mathlib.Decide.{decLt}
+use native.Mathlib.Omega.{arith}
+use borrow.Author.Tests.{lt-ltb, le-leb, lt-leb, leb-true, ltb-true, eq-eqb, ne-eqb}
+use lib.Dec.{ltb, leb}
+use lib.ListN.{length, getD, take, length-map, length-append, length-take}
+use lib.Seq.{take-all}
+use Rattle.base.proofs.Tests.{left-is, right-is}
+use Rattle.base.specs.Tables.{tabulate}
+use Rattle.report.specs.declared.Report.{Report}
+use Rattle.report.specs.declared.Counted.{Counted}
+use Rattle.report.specs.Totals.{Recording, Outcome, outcomeOf, total, accepted, closestFrom}
+use Rattle.report.specs.Report.{
+  reportOf,
+  withFrame,
+  withRefusal,
+  added,
+  atMost,
+  takesMore,
+  countedOf,
+  recordings,
+  listOf,
+}
+use Rattle.report.proofs.Counting.{counted-next, counted-full}
+use Rattle.report_promises.specs.Calls.{empty, Kept, nothing-yet, one-more, Readings, none-read, one-read}
+use Rattle.report_promises.specs.Promises.{
+  TotalsOf,
+  ReportKept,
+  KeptAnswers,
+  Within,
+  AnyReport,
+  ListAlike,
+  OneReport,
+}
+use Rattle.report_promises.proofs.Totals.{seen-of, totals-of}
+
+-- ---- the readings of a list are what its outcomes are by definition
+readings-are : (rs : List Recording) (os : List Outcome) → Readings rs os → os ≡ map outcomeOf rs
+readings-are _ _ none-read = refl
+readings-are _ _ (one-read kind chips a left rs os read more) =
+    λ i. record { kind = kind; answer = read .answer i } ∷ readings-are rs os more i
+
+-- ---- beginnings of 1,000
+take-map : (n : ℕ) (rs : List Recording) → take n (map outcomeOf rs) ≡ map outcomeOf (take n rs)
+take-map zero rs = refl
+take-map (suc n) [] = refl
+take-map (suc n) (r ∷ rs) = ap (λ (os : List Outcome). outcomeOf r ∷ os) (take-map n rs)
+
+take-long : (n : ℕ) (rs qs : List Recording) → n ≤ length rs → take n (rs ++ qs) ≡ take n rs
+take-long zero rs qs h = refl
+take-long (suc n) [] qs h = absurd (not-suc-le-zero h)
+take-long (suc n) (r ∷ rs) qs h = ap (λ (l : List Recording). r ∷ l) (take-long n rs qs (omega arith))
+
+abbrev firsts : List Recording → Report
+firsts rs = reportOf (map outcomeOf (take 1000 rs))
+
+none-counted : empty ≡ reportOf []
+unfolding reportOf total closestFrom tabulate
+none-counted = refl
+
+-- ---- one call more
+module _ (rs : List Recording) (r : Recording) (c : Counted) (answer : c ≡ countedOf (firsts rs) r) where
+  few : length rs < 1000 → c ≡ record { number = 0; report = firsts (rs ++ (r ∷ [])) }
+  few h =
+      let all : take 1000 rs ≡ rs = take-all 1000 rs (omega arith) in
+      let with-it : take 1000 (rs ++ (r ∷ [])) ≡ rs ++ (r ∷ []) =
+      take-all 1000 (rs ++ (r ∷ [])) (omega (arith, length-append rs (r ∷ []))) in
+      answer
+      ∙ ap (λ (l : List Recording). countedOf (reportOf (map outcomeOf l)) r) all
+      ∙ counted-next rs r h
+      ∙ ap (λ (l : List Recording). record { number = 0; report = reportOf (map outcomeOf l) }) (sym with-it)
+
+  many : 1000 ≤ length rs → c ≡ record { number = 31; report = firsts rs }
+  many h =
+      answer
+      ∙ counted-full (firsts rs) r
+      (omega (arith, seen-of (map outcomeOf (take 1000 rs)), length-map (take 1000 rs) outcomeOf, cut))
+    where
+      cut : length (take 1000 rs) ≡ 1000
+      cut = omega (arith, length-take 1000 rs)
+
+  grown : c .report ≡ firsts (rs ++ (r ∷ []))
+  grown = by (decLt (length rs) 1000)
+    where
+      by : Dec (length rs < 1000) → c .report ≡ firsts (rs ++ (r ∷ []))
+      by (yes p) = ap (λ (v : Counted). v .report) (few p)
+      by (no q) =
+          ap (λ (v : Counted). v .report) (many (omega arith))
+          ∙ ap (λ (l : List Recording). reportOf (map outcomeOf l)) (sym (take-long 1000 rs (r ∷ []) (omega arith)))
+
+-- what a report kept is
+is-kept : (rs : List Recording) (p : Report) → Kept rs p → p ≡ firsts rs
+is-kept _ _ nothing-yet = none-counted
+is-kept _ _ (one-more rs p kind chips c k a) =
+    grown rs (record { kind = kind; chips = chips }) c
+    (a .answer ∙ ap (λ (q : Report). countedOf q (record { kind = kind; chips = chips })) (is-kept rs p k))
+
+report-kept : ReportKept
+report-kept rs os p reads k =
+    let same : take 1000 os ≡ map outcomeOf (take 1000 rs) =
+    ap (take 1000) (readings-are rs os reads) ∙ take-map 1000 rs in
+    subst (TotalsOf (take 1000 os)) (sym (is-kept rs p k))
+    (subst (λ (l : List Outcome). TotalsOf l (firsts rs)) (sym same) (totals-of (take 1000 rs)))
+
+kept-answers : KeptAnswers
+kept-answers rs p kind chips c k a =
+    let r : Recording = record { kind = kind; chips = chips } in
+    let e : p ≡ firsts rs = is-kept rs p k in
+    let answer : c ≡ countedOf (firsts rs) r = a .answer ∙ ap (λ (q : Report). countedOf q r) e in (
+      (λ h. ap (λ (v : Counted). v .number) (few rs r c answer h)),
+      λ h. many rs r c answer h ∙ ap (λ (q : Report). record { number = 31; report = q }) (sym e),
+    )
+
+-- ---- any report whatever
+
+row-within : (m : ℕ) (l : List ℕ) → atMost m l ≡ true → (j : ℕ) → getD l j 0 ≤ m
+unfolding atMost
+row-within m [] h zero = omega arith
+row-within m [] h (suc j) = omega arith
+row-within m (x ∷ l) h zero = leb-true x m (left-is (leb x m) (atMost m l) h)
+row-within m (x ∷ l) h (suc j) = row-within m l (right-is (leb x m) (atMost m l) h) j
+
+within-row : (m : ℕ) (l : List ℕ) → ((j : ℕ) → getD l j 0 ≤ m) → atMost m l ≡ true
+unfolding atMost
+within-row m [] h = refl
+within-row m (x ∷ l) h = rw (le-leb x m (h 0)) (within-row m l (λ j. h (suc j)))
+
+within-takes : (p : Report) → Within p → takesMore p ≡ true
+unfolding takesMore
+within-takes p w =
+    simp (
+      lt-ltb (p .seen) 1000 (w .seen-below),
+      within-row 1000 (p .frames) (w .frames-within),
+      within-row 4095000 (p .octets) (w .octets-within),
+      within-row 1000 (p .refused) (w .refused-within),
+      le-leb (p .airtime) 32952000 (w .airtime-within),
+    )
+
+takes-within : (p : Report) → takesMore p ≡ true → Within p
+unfolding takesMore
+takes-within p h =
+    let four = left-is _ (leb (p .airtime) 32952000) h in
+    let three = left-is _ (atMost 1000 (p .refused)) four in
+    let two = left-is _ (atMost 4095000 (p .octets)) three in
+    record {
+      seen-below = ltb-true (p .seen) 1000 (left-is _ (atMost 1000 (p .frames)) two);
+      frames-within = row-within 1000 (p .frames) (right-is (ltb (p .seen) 1000) _ two);
+      octets-within = row-within 4095000 (p .octets) (right-is (ltb (p .seen) 1000 && atMost 1000 (p .frames)) _ three);
+      refused-within =
+          row-within 1000 (p .refused)
+          (right-is (ltb (p .seen) 1000 && atMost 1000 (p .frames) && atMost 4095000 (p .octets)) _ four);
+      airtime-within =
+          leb-true (p .airtime) 32952000
+          (right-is
+          (ltb (p .seen) 1000 && atMost 1000 (p .frames) && atMost 4095000 (p .octets) && atMost 1000 (p .refused))
+          _ h);
+    }
+
+seen-more : (p : Report) (o : Outcome) → added p o .seen ≡ p .seen + 1
+unfolding added
+seen-more p o = by (accepted o)
+  where
+    by : (t : Bool) → cond t (withFrame p o) (withRefusal p o) .seen ≡ p .seen + 1
+    by true = refl
+    by false = refl
+
+taken : (p : Report) (r : Recording) → takesMore p ≡ true
+    → countedOf p r ≡ record { number = 0; report = added p (outcomeOf r) }
+unfolding countedOf
+taken p r e = rw e
+
+as-it-stood : (p : Report) (r : Recording) (t : Bool) → takesMore p ≡ t → (Within p → ⊥)
+    → countedOf p r ≡ record { number = 31; report = p }
+unfolding countedOf
+as-it-stood p r true e n = absurd (n (takes-within p e))
+as-it-stood p r false e n = rw e
+
+any-report : AnyReport
+any-report p kind chips c a =
+    let r : Recording = record { kind = kind; chips = chips } in (
+      (λ w. let answer = a .answer ∙ taken p r (within-takes p w) in (
+        ap (λ (v : Counted). v .number) answer,
+        ap (λ (v : Counted). v .report .seen) answer ∙ seen-more p (outcomeOf r),
+      )),
+      λ n. a .answer ∙ as-it-stood p r (takesMore p) refl n,
+    )
+
+-- ---- a whole list
+
+module _ (kinds : List ℕ) (list : List (List ℕ)) where
+  rows-differ : (length kinds ≡ length list → ⊥) → listOf kinds list ≡ record { number = 7; report = empty }
+  unfolding listOf
+  rows-differ n =
+      rw (ne-eqb (length kinds) (length list) n) (ap (λ (p : Report). record { number = 7; report = p }) (sym none-counted))
+
+  rows-agree : length kinds ≡ length list
+      → listOf kinds list ≡ record {
+        number = cond (leb (length list) 1000) 0 31;
+        report = firsts (recordings kinds list);
+      }
+  unfolding listOf
+  rows-agree e = rw (eq-eqb (length kinds) (length list) e)
+
+list-alike : ListAlike
+list-alike kinds list c l = (
+  (λ n. l .answer ∙ rows-differ kinds list n),
+  λ e. let answer = l .answer ∙ rows-agree kinds list e in
+      let report-is : c .report ≡ firsts (recordings kinds list) = ap (λ (v : Counted). v .report) answer in (
+        (λ h. ap (λ (v : Counted). v .number) answer ∙ ap (λ (t : Bool). cond t 0 31) (le-leb (length list) 1000 h)),
+        (λ h. ap (λ (v : Counted). v .number) answer ∙ ap (λ (t : Bool). cond t 0 31) (lt-leb (length list) 1000 h)),
+        (λ p k. report-is ∙ sym (is-kept (recordings kinds list) p k)),
+        λ os reads. let same : take 1000 os ≡ map outcomeOf (take 1000 (recordings kinds list)) =
+            ap (take 1000) (readings-are (recordings kinds list) os reads) ∙ take-map 1000 (recordings kinds list) in
+            subst (TotalsOf (take 1000 os)) (sym report-is)
+            (subst (λ (m : List Outcome). TotalsOf m (firsts (recordings kinds list))) (sym same)
+            (totals-of (take 1000 (recordings kinds list)))),
+      ),
+)
+
+-- ---- each contract is an equation with a definition
+one-report : OneReport
+one-report = (
+  (λ p kind chips c c′ f g. f .answer ∙ sym (g .answer)),
+  (λ kinds list c c′ f g. f .answer ∙ sym (g .answer)),
+  λ p room s s′ left left′ f g. (f .answer ∙ sym (g .answer), f .octets ∙ sym (g .octets)),
+)

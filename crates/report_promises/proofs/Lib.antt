@@ -1,0 +1,3 @@
+pub mod Lead
+pub mod Totals
+pub mod Kept

@@ -1,0 +1,56 @@
+-- What the calls of the month's report promise: the records that their contracts in crate dsss cite, so that what is
+-- proved of them is proved of the programs; and calls one after the other (RULES 6.19, 6.20, 9.1).
+-- Definitions only. Assumes nothing.
+use Prim.Native.Nat.{ℕ}
+use mathlib.Core.Path.{_≡_}
+use mathlib.Core.List.{List, [], _∷_, _++_}
+use lib.ListN.{replicate}
+use Rattle.calls.specs.declared.Record.{Record}
+use Rattle.promises.specs.Calls.{ReadHard}
+use Rattle.report.specs.declared.Report.{Report}
+use Rattle.report.specs.declared.Counted.{Counted}
+use Rattle.report.specs.declared.Spelled.{Spelled}
+use Rattle.report.specs.Totals.{Recording, Outcome}
+use Rattle.report.specs.Report.{countedOf, listOf}
+use Rattle.report.specs.Text.{spelledOf, textLeft}
+
+-- one recording more: its answer
+pub record Adds (report : Report) (kind : ℕ) (chips : List ℕ) (c : Counted) : Type 0 where
+  pub answer : c ≡ countedOf report (record { kind = kind; chips = chips })
+
+-- a whole list: its answer
+pub record Lists (kinds : List ℕ) (list : List (List ℕ)) (c : Counted) : Type 0 where
+  pub answer : c ≡ listOf kinds list
+
+-- the text: its answer, and the octet buffer of `room` octets at the end
+pub record Spells (report : Report) (room : ℕ) (s : Spelled) (left : List ℕ) : Type 0 where
+  pub answer : s ≡ spelledOf report room
+  pub octets : left ≡ textLeft report room
+
+-- the report at first: all zeros
+abbrev pub empty : Report
+empty =
+    record {
+      seen = 0;
+      frames = replicate 4 0;
+      octets = replicate 4 0;
+      refused = replicate 18 0;
+      airtime = 0;
+      some = 0;
+      lead = 0;
+      recording = 0;
+    }
+
+-- calls one after the other, each with the report as the last one left it, the first with all zeros; the recordings
+-- that were handed in
+pub data Kept : List Recording → Report → Type 0 where
+  nothing-yet : Kept [] empty
+  one-more : (rs : List Recording) (p : Report) (kind : ℕ) (chips : List ℕ) (c : Counted)
+      → Kept rs p → Adds p kind chips c → Kept (rs ++ (record { kind = kind; chips = chips } ∷ [])) (c .report)
+
+-- what the hard reader answers on each recording of a list, with room for 4,095 octets
+pub data Readings : List Recording → List Outcome → Type 0 where
+  none-read : Readings [] []
+  one-read : (kind : ℕ) (chips : List ℕ) (a : Record) (left : List ℕ) (rs : List Recording) (os : List Outcome)
+      → ReadHard kind chips 4095 a left → Readings rs os
+      → Readings (record { kind = kind; chips = chips } ∷ rs) (record { kind = kind; answer = a } ∷ os)

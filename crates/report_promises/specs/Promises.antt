@@ -1,0 +1,116 @@
+-- What is promised of the month's report beyond each contract (RULES 6.19, 6.20): that a report kept between calls has
+-- the totals of the list of readings, each by its own definition; which numbers are answered; that a whole list gives
+-- the same; and the text. Statements speak of answers that the contracts allow (Calls.antt) and of the hard reader's own
+-- answers on the recordings (`Readings`), so they are about the programs.
+-- Definitions only. Assumes nothing.
+use Prim.Native.Nat.{ℕ, _+_, _-_, _≤_, _<_}
+use mathlib.Core.Path.{_≡_}
+use mathlib.Core.List.{List, [], _∷_}
+use lib.ListN.{length, getD, take, drop, replicate}
+use Rattle.report.specs.declared.Report.{Report}
+use Rattle.report.specs.declared.Counted.{Counted}
+use Rattle.report.specs.declared.Spelled.{Spelled}
+use Rattle.report.specs.Totals.{Recording, Outcome, framesAt, octetsAt, refusedWith, airtimeOf}
+use Rattle.report.specs.Report.{recordings}
+use Rattle.report.specs.Text.{textOf}
+use Rattle.promises.specs.Calls.{refused}
+use Rattle.report_promises.specs.Calls.{Adds, Lists, Spells, empty, Kept, Readings}
+
+-- ---- the smallest lead
+
+-- reading j of a list was accepted, with this lead
+pub record FrameAt (os : List Outcome) (j lead : ℕ) : Type 0 where
+  pub there : j < length os
+  pub good : getD os j (record { kind = 0; answer = refused 1 0 }) .answer .number ≡ 0
+  pub lead-is : getD os j (record { kind = 0; answer = refused 1 0 }) .answer .lead ≡ lead
+
+-- none, if no frame was accepted; else the smallest lead, 0 too, of the first recording that has it
+pub data LeadTold (os : List Outcome) : ℕ → ℕ → ℕ → Type 0 where
+  no-frame : ((j lead : ℕ) → FrameAt os j lead → ⊥) → LeadTold os 0 0 0
+  smallest : (lead recording : ℕ) → FrameAt os recording lead
+      → ((j other : ℕ) → FrameAt os j other → lead ≤ other)
+      → ((j other : ℕ) → FrameAt os j other → j < recording → lead < other)
+      → LeadTold os 1 lead recording
+
+-- ---- the totals of a list of readings
+
+unfoldable pub sumOf : List ℕ → ℕ
+sumOf [] = 0
+sumOf (x ∷ xs) = x + sumOf xs
+
+pub record TotalsOf (os : List Outcome) (p : Report) : Type 0 where
+  pub seen-is : p .seen ≡ length os
+  pub frames-are : p .frames ≡ framesAt 10 os ∷ framesAt 20 os ∷ framesAt 55 os ∷ framesAt 110 os ∷ []
+  pub octets-are : p .octets ≡ octetsAt 10 os ∷ octetsAt 20 os ∷ octetsAt 55 os ∷ octetsAt 110 os ∷ []
+  pub numbers : length (p .refused) ≡ 18
+  pub refused-are : (number : ℕ) → number < 18 → getD (p .refused) number 0 ≡ refusedWith number os
+  pub airtime-is : p .airtime ≡ airtimeOf os
+  pub lead-is : LeadTold os (p .some) (p .lead) (p .recording)
+  -- frames and refusals together are the recordings counted; only 1 and 8 to 16 are met
+  pub together : sumOf (p .frames) + sumOf (p .refused) ≡ p .seen
+  pub never : (number : ℕ) → (number ≡ 1 → ⊥) → (8 ≤ number → 16 < number) → getD (p .refused) number 0 ≡ 0
+
+-- ---- a report kept, each call with it as the last one left it, has the totals of the first 1,000 readings
+abbrev pub ReportKept : Type 0
+ReportKept = (rs : List Recording) (os : List Outcome) (p : Report) → Readings rs os → Kept rs p → TotalsOf (take 1000 os) p
+
+-- ---- the numbers answered: 0 for each of the first 1,000, whatever its reading; then 31, and the report as it stood
+abbrev pub KeptAnswers : Type 0
+KeptAnswers =
+    (rs : List Recording) (p : Report) (kind : ℕ) (chips : List ℕ) (c : Counted) → Kept rs p → Adds p kind chips c
+    → (length rs < 1000 → c .number ≡ 0) × (1000 ≤ length rs → c ≡ record { number = 31; report = p })
+
+-- ---- any report whatever, in plain numbers: it is within the limits, or not
+pub record Within (p : Report) : Type 0 where
+  pub seen-below : p .seen < 1000
+  pub frames-within : (j : ℕ) → getD (p .frames) j 0 ≤ 1000
+  pub octets-within : (j : ℕ) → getD (p .octets) j 0 ≤ 4095000
+  pub refused-within : (j : ℕ) → getD (p .refused) j 0 ≤ 1000
+  pub airtime-within : p .airtime ≤ 32952000
+
+-- one that is within takes one more: 0, and one more was seen. Of any other 31, and it stays as it stood. 31 comes of no
+-- other, and no other number is answered
+abbrev pub AnyReport : Type 0
+AnyReport =
+    (p : Report) (kind : ℕ) (chips : List ℕ) (c : Counted) → Adds p kind chips c
+    → (Within p → (c .number ≡ 0) × (c .report .seen ≡ p .seen + 1))
+    × ((Within p → ⊥) → c ≡ record { number = 31; report = p })
+
+-- ---- a whole list: as calls one after the other, and the number of its last one; 7 where rows differ in length
+abbrev pub ListAlike : Type 0
+ListAlike =
+    (kinds : List ℕ) (list : List (List ℕ)) (c : Counted) → Lists kinds list c
+    → ((length kinds ≡ length list → ⊥) → c ≡ record { number = 7; report = empty })
+    × (length kinds ≡ length list
+    → (length list ≤ 1000 → c .number ≡ 0) × (1000 < length list → c .number ≡ 31)
+    × ((p : Report) → Kept (recordings kinds list) p → c .report ≡ p)
+    × ((os : List Outcome) → Readings (recordings kinds list) os → TotalsOf (take 1000 os) (c .report)))
+
+-- ---- the text: 980 octets hold any; the buffer keeps its length, and what follows the text, or all after a refusal, is
+-- zeros
+abbrev pub TextFills : Type 0
+TextFills =
+    (p : Report) (room : ℕ) (s : Spelled) (left : List ℕ) → Spells p room s left
+    → (length left ≡ room)
+    × (length (textOf p) ≤ room
+    → (s .number ≡ 0) × (s .octets ≡ length (textOf p)) × (take (s .octets) left ≡ textOf p)
+    × (drop (s .octets) left ≡ replicate (room - s .octets) 0))
+    × (room < length (textOf p) → (s ≡ record { number = 17; octets = 0 }) × (left ≡ replicate room 0))
+    × (980 ≤ room → s .number ≡ 0)
+
+-- ---- any two answers that a contract allows are equal, and so are the buffers
+abbrev pub OneReport : Type 0
+OneReport =
+    ((p : Report) (kind : ℕ) (chips : List ℕ) (c c′ : Counted) → Adds p kind chips c → Adds p kind chips c′ → c ≡ c′)
+    × ((kinds : List ℕ) (list : List (List ℕ)) (c c′ : Counted) → Lists kinds list c → Lists kinds list c′ → c ≡ c′)
+    × ((p : Report) (room : ℕ) (s s′ : Spelled) (left left′ : List ℕ) → Spells p room s left → Spells p room s′ left′
+    → (s ≡ s′) × (left ≡ left′))
+
+-- ---- all of it
+pub record ReportPromised : Type 0 where
+  pub report-kept : ReportKept
+  pub kept-answers : KeptAnswers
+  pub any-report : AnyReport
+  pub list-alike : ListAlike
+  pub text-fills : TextFills
+  pub one-report : OneReport
