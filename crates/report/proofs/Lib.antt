@@ -2,4 +2,4 @@ pub mod Outcomes
 pub mod Facts
 pub mod Laws
 pub mod Added
-pub mod Counting
+pub mod Taking

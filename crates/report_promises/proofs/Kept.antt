@@ -27,7 +27,7 @@ use Rattle.report.specs.Report.{
   recordings,
   listOf,
 }
-use Rattle.report.proofs.Counting.{counted-next, counted-full}
+use Rattle.report.proofs.Taking.{counted-next, counted-full}
 use Rattle.report_promises.specs.Calls.{empty, Kept, nothing-yet, one-more, Readings, none-read, one-read}
 use Rattle.report_promises.specs.Promises.{
   TotalsOf,

@@ -19,7 +19,7 @@ use Rattle.report.specs.Report.{reportOf, more, entryOf, withFrame, withRefusal
 use Rattle.report.proofs.Outcomes.{Fair, fair}
 use Rattle.report.proofs.Laws.{total-most}
 use Rattle.report.proofs.Added.{length-more, added-more}
-use Rattle.report.proofs.Counting.{map-more, one-most}
+use Rattle.report.proofs.Taking.{map-more, one-most}
 use Rattle.report_promises.specs.Promises.{LeadTold, sumOf, TotalsOf}
 use Rattle.report_promises.proofs.Lead.{lead-told}
 

@@ -39,12 +39,12 @@ pub one-most : (t : Bool) (n m : ℕ) → (t ≡ true → n ≤ m) → cond t n 
 one-most true n m h = h refl
 one-most false n m h = omega arith
 
+either-most : (t : Bool) (a b m : ℕ) → a ≤ m → b ≤ m → cond t a b ≤ m
+either-most true a b m h k = h
+either-most false a b m h k = k
+
 front-time : (kind : ℕ) → frontTime kind ≤ 192
-front-time kind = by (eqb kind 0)
-  where
-    by : (t : Bool) → cond t 192 96 ≤ 192
-    by true = lit≤ tt
-    by false = lit≤ tt
+front-time kind = either-most (eqb kind 0) _ _ 192 (lit≤ tt) (lit≤ tt)
 
 module _ (rs : List Recording) where
   frames-most : (code : ℕ) → framesAt code (map outcomeOf rs) ≤ 1 * length rs
