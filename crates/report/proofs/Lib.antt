@@ -3,3 +3,5 @@ pub mod Facts
 pub mod Laws
 pub mod Added
 pub mod Taking
+pub mod Spelling
+pub mod TextFacts
