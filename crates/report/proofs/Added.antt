@@ -78,7 +78,8 @@ row-same g os o e = simp (total-more, e, add-zero)
 -- ---- refusals by number
 
 refused-more : (os : List Outcome) (o : Outcome) → accepted o ≡ false
-    → more (o .answer .number) 1 (tabulate (λ k. refusedWith k os) 18) ≡ tabulate (λ k. refusedWith k (os ++ (o ∷ []))) 18
+    → more (o .answer .number) 1 (tabulate (λ k. refusedWith k os) 18)
+    ≡ tabulate (λ k. refusedWith k (os ++ (o ∷ []))) 18
 refused-more os o e =
     let l = tabulate (λ k. refusedWith k os) 18 in
     let long : length l ≡ 18 = length-tabulate _ 18 in

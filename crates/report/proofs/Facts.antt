@@ -1,5 +1,5 @@
--- Reports computed from the definitions and compared with RULES 6.19. Outcomes are made up: kind, then number 0, rate, n,
--- LENGTH and lead of a frame, or number and LENGTH of a refusal.
+-- Reports computed from the definitions and compared with RULES 6.19. Outcomes are made up: kind, then rate, n, LENGTH
+-- and lead of a frame, or number and LENGTH of a refusal.
 -- Assumes nothing.
 use mathlib.Core.Path.{_≡_, refl}
 use mathlib.Core.Bool.{true, false}
@@ -72,8 +72,9 @@ report seen frames octets refused airtime there lead recording =
 -- smallest lead twice, behind refused ones and behind larger ones
 abbrev month : List Outcome
 month =
-    refusal 2 1 0 ∷ refusal 0 16 40 ∷ frame 0 10 3 24 9000 ∷ frame 1 110 11 8 500 ∷ refusal 1 12 0 ∷ frame 0 110 10 8 400
-    ∷ frame 1 55 3 5 400 ∷ refusal 1 12 0 ∷ frame 1 20 7 28 8000 ∷ frame 0 20 1 4 401 ∷ frame 0 110 2 2 4096
+    refusal 2 1 0 ∷ refusal 0 16 40 ∷ frame 0 10 3 24 9000 ∷ frame 1 110 11 8 500 ∷ refusal 1 12 0
+    ∷ frame 0 110 10 8 400 ∷ frame 1 55 3 5 400 ∷ refusal 1 12 0 ∷ frame 1 20 7 28 8000
+    ∷ frame 0 20 1 4 401 ∷ frame 0 110 2 2 4096
     ∷ refusal 1 17 9 ∷ frame 1 55 1 2 4000 ∷ refusal 0 8 0 ∷ frame 0 110 1 1 4095 ∷ frame 0 55 4 6 4001 ∷ []
 
 pub month-is : reportOf month
@@ -112,7 +113,8 @@ odd there lead = report 3 (100 ∷ 200 ∷ 300 ∷ 400 ∷ []) (1 ∷ 2 ∷ 3 �
 -- each rate; a lead that is equal, smaller, larger, and the first, where one is kept that is no lead; some may be any
 -- number but 0
 pub frames-more : added (odd 1 7) (frame 0 10 5 40 7) ∷ added (odd 1 7) (frame 1 20 6 24 6)
-    ∷ added (odd 7 7) (frame 1 55 8 12 8) ∷ added (odd 0 7) (frame 0 110 9 7 9) ∷ added (odd 256 7) (frame 0 10 1 8 0) ∷ []
+    ∷ added (odd 7 7) (frame 1 55 8 12 8) ∷ added (odd 0 7) (frame 0 110 9 7 9)
+    ∷ added (odd 256 7) (frame 0 10 1 8 0) ∷ []
     ≡ report 4 (101 ∷ 200 ∷ 300 ∷ 400 ∷ []) (6 ∷ 2 ∷ 3 ∷ 4 ∷ []) (tabulate (λ k. k) 18) 282 1 7 9
     ∷ report 4 (100 ∷ 201 ∷ 300 ∷ 400 ∷ []) (1 ∷ 8 ∷ 3 ∷ 4 ∷ []) (tabulate (λ k. k) 18) 170 1 6 3
     ∷ report 4 (100 ∷ 200 ∷ 301 ∷ 400 ∷ []) (1 ∷ 2 ∷ 11 ∷ 4 ∷ []) (tabulate (λ k. k) 18) 158 7 7 9

@@ -1,5 +1,5 @@
--- The report as text (RULES 6.20): lines of words and decimal numbers, as octets; and what the call that makes it answers
--- and leaves in the octet buffer.
+-- The report as text (RULES 6.20): lines of words and decimal numbers, as octets; and what the call that makes it
+-- answers and leaves in the octet buffer.
 -- Definitions only. Assumes nothing.
 use Prim.Native.Nat.{ℕ, zero, suc, _+_, _-_, _/_, _%_}
 use Prim.Native.Char.{code}

@@ -1,8 +1,8 @@
 // The month's report: what the calls that count recordings, and the one that makes their text, answer. Types only.
 
-// What was counted. Rows of rates go by rate code, rising: 10, 20, 55, 110; `refused` goes by the refusal's number, up to
-// 17. `lead` is the smallest of all frames, `recording` the first one that has it, and `some` 1; with no frame all three
-// are 0.
+// What was counted. Rows of rates go by rate code, rising: 10, 20, 55, 110; `refused` goes by the refusal's number, up
+// to 17. `lead` is the smallest of all frames, `recording` the first that has it, and `some` is 1; with no frame all
+// three are 0.
 #[repr(C)]
 pub struct Report {
     pub seen: u64,

@@ -3,18 +3,19 @@
 use mathlib.Core.Path.{_≡_, refl, sym, ap, _∙_, subst}
 use mathlib.Core.Bool.{Bool, true, false, cond, _&&_}
 use mathlib.Core.List.{List, [], _∷_, _++_, map}
-use Prim.Native.Nat.{ℕ, zero, suc, _+_, _≤_, _<_}
-use native.Mathlib.Nat.{not-suc-le-zero}
+use Prim.Native.Nat.{ℕ, zero, suc, _+_, _-_, _≤_, _<_}
+use native.Mathlib.Nat.{not-suc-le-zero, le-trans}
 use native.Mathlib.Decide.{decLt}
 use native.Mathlib.Omega.{arith}
-use borrow.Author.Tests.{lt-ltb, le-leb, lt-leb, leb-true, ltb-true, eq-eqb, ne-eqb}
+use borrow.Author.Tests.{lt-ltb, le-ltb, le-leb, lt-leb, leb-true, ltb-true, eq-eqb, ne-eqb}
 use lib.Dec.{ltb, leb}
-use lib.ListN.{length, getD, take, length-map, length-append, length-take}
-use lib.Seq.{take-all}
+use lib.ListN.{length, getD, take, replicate, length-map, length-append, length-take, length-replicate}
+use lib.Seq.{take-all, take-append-seam, drop-append-seam}
 use Rattle.base.proofs.Tests.{left-is, right-is}
 use Rattle.base.specs.Tables.{tabulate}
 use Rattle.report.specs.declared.Report.{Report}
 use Rattle.report.specs.declared.Counted.{Counted}
+use Rattle.report.specs.declared.Spelled.{Spelled}
 use Rattle.report.specs.Totals.{Recording, Outcome, outcomeOf, total, accepted, closestFrom}
 use Rattle.report.specs.Report.{
   reportOf,
@@ -27,7 +28,9 @@ use Rattle.report.specs.Report.{
   recordings,
   listOf,
 }
+use Rattle.report.specs.Text.{textOf, spelledOf, textLeft}
 use Rattle.report.proofs.Taking.{counted-next, counted-full}
+use Rattle.report.proofs.Spelling.{text-most}
 use Rattle.report_promises.specs.Calls.{empty, Kept, nothing-yet, one-more, Readings, none-read, one-read}
 use Rattle.report_promises.specs.Promises.{
   TotalsOf,
@@ -36,7 +39,9 @@ use Rattle.report_promises.specs.Promises.{
   Within,
   AnyReport,
   ListAlike,
+  TextFills,
   OneReport,
+  ReportPromised,
 }
 use Rattle.report_promises.proofs.Totals.{seen-of, totals-of}
 
@@ -197,7 +202,8 @@ module _ (kinds : List ℕ) (list : List (List ℕ)) where
   rows-differ : (length kinds ≡ length list → ⊥) → listOf kinds list ≡ record { number = 7; report = empty }
   unfolding listOf
   rows-differ n =
-      rw (ne-eqb (length kinds) (length list) n) (ap (λ (p : Report). record { number = 7; report = p }) (sym none-counted))
+      rw (ne-eqb (length kinds) (length list) n)
+      (ap (λ (p : Report). record { number = 7; report = p }) (sym none-counted))
 
   rows-agree : length kinds ≡ length list
       → listOf kinds list ≡ record {
@@ -223,6 +229,53 @@ list-alike kinds list c l = (
       ),
 )
 
+-- ---- the text
+
+module _ (p : Report) (room : ℕ) where
+  abbrev text : List ℕ
+  text = textOf p
+
+  fits : length text ≤ room
+      → (spelledOf p room ≡ record { number = 0; octets = length text })
+      × (textLeft p room ≡ text ++ replicate (room - length text) 0)
+  unfolding spelledOf textLeft
+  fits h = (rw (le-ltb room (length text) h), rw (le-ltb room (length text) h))
+
+  no-room : room < length text
+      → (spelledOf p room ≡ record { number = 17; octets = 0 }) × (textLeft p room ≡ replicate room 0)
+  unfolding spelledOf textLeft
+  no-room h = (rw (lt-ltb room (length text) h), rw (lt-ltb room (length text) h))
+
+  left-length : length (textLeft p room) ≡ room
+  left-length = by (decLt room (length text))
+    where
+      again : (n : ℕ) → n ≤ room → n + (room - n) ≡ room
+      again n h = omega arith
+
+      by : Dec (room < length text) → length (textLeft p room) ≡ room
+      by (yes h) = ap length (no-room h .1) ∙ length-replicate room 0
+      by (no h) =
+          ap length (fits (omega arith) .1)
+          ∙ length-append text (replicate (room - length text) 0)
+          ∙ ap (λ (n : ℕ). length text + n) (length-replicate (room - length text) 0)
+          ∙ again (length text) (omega arith)
+
+text-fills : TextFills
+text-fills p room s left f =
+    let t = textOf p in (
+      ap length (f .octets) ∙ left-length p room,
+      (λ h. let e = f .answer ∙ fits p room h .0 in
+          let count : s .octets ≡ length t = ap (λ (v : Spelled). v .octets) e in
+          let all = f .octets ∙ fits p room h .1 in (
+            ap (λ (v : Spelled). v .number) e,
+            count,
+            rw (all, count) (take-append-seam t (replicate (room - length t) 0)),
+            rw (all, count) (drop-append-seam t (replicate (room - length t) 0)),
+          )),
+      (λ h. (f .answer ∙ no-room p room h .0, f .octets ∙ no-room p room h .1)),
+      λ h. ap (λ (v : Spelled). v .number) (f .answer ∙ fits p room (le-trans (text-most p) h) .0),
+    )
+
 -- ---- each contract is an equation with a definition
 one-report : OneReport
 one-report = (
@@ -230,3 +283,13 @@ one-report = (
   (λ kinds list c c′ f g. f .answer ∙ sym (g .answer)),
   λ p room s s′ left left′ f g. (f .answer ∙ sym (g .answer), f .octets ∙ sym (g .octets)),
 )
+
+pub kept-report : ReportPromised
+kept-report = record {
+  report-kept = report-kept;
+  kept-answers = kept-answers;
+  any-report = any-report;
+  list-alike = list-alike;
+  text-fills = text-fills;
+  one-report = one-report;
+}

@@ -79,7 +79,8 @@ module _ (at : ℕ) (o : Outcome) (os : List Outcome) where
     where
       by : Dec (c .lead < o .answer .lead) → Led at (o ∷ os) (closer (o .answer .lead) at (some c))
       by (yes p) = rw (lt-ltb (c .lead) (o .answer .lead) p) (later c (λ z. p) h)
-      by (no q) = rw (le-ltb (c .lead) (o .answer .lead) (omega arith)) (here z (λ j other f. omega (arith, h .low j other f)))
+      by (no q) =
+          rw (le-ltb (c .lead) (o .answer .lead) (omega arith)) (here z (λ j other f. omega (arith, h .low j other f)))
 
   refused-one : (o .answer .number ≡ 0 → ⊥) → (c : Option Closest) → LedIf (suc at) os c → LedIf at (o ∷ os) c
   refused-one n none h = none-is

@@ -1,3 +1,4 @@
 pub mod Lead
 pub mod Totals
 pub mod Kept
+pub mod Uses

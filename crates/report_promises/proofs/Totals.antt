@@ -71,7 +71,7 @@ next-whole p o f w = by (accepted o)
     }
 
 -- what holds of no recordings, and of one more, holds of any
-by-more : (P : List Recording → Type 0) → ((rs : List Recording) (r : Recording) → P rs → P (rs ++ (r ∷ [])))
+pub by-more : (P : List Recording → Type 0) → ((rs : List Recording) (r : Recording) → P rs → P (rs ++ (r ∷ [])))
     → (rs qs : List Recording) → P rs → P (rs ++ qs)
 by-more P h rs [] w = subst P (sym (append-nil rs)) w
 by-more P h rs (q ∷ qs) w = subst P (append-assoc rs (q ∷ []) qs) (by-more P h (rs ++ (q ∷ [])) qs (h rs q w))
@@ -93,7 +93,8 @@ never-met rs number not-1 outside =
     met : (n : ℕ) → n ≡ number → (n ≡ 0 → ⊥) → (2 ≤ n → 8 ≤ n) → n ≤ 16 → ⊥
     met zero e a b c = a refl
     met (suc zero) e a b c = not-1 (sym e)
-    met (suc (suc n)) e a b c = omega (arith, e, b (omega arith), c, outside (subst (λ (k : ℕ). 8 ≤ k) e (b (omega arith))))
+    met (suc (suc n)) e a b c =
+        let from-8 = b (omega arith) in omega (arith, e, c, outside (subst (λ (k : ℕ). 8 ≤ k) e from-8))
 
     one : (r : Recording) → cond (not (accepted (outcomeOf r)) && eqb (outcomeOf r .answer .number) number) 1 0 ≤ 0
     one r =

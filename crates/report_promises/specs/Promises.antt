@@ -1,7 +1,7 @@
 -- What is promised of the month's report beyond each contract (RULES 6.19, 6.20): that a report kept between calls has
 -- the totals of the list of readings, each by its own definition; which numbers are answered; that a whole list gives
--- the same; and the text. Statements speak of answers that the contracts allow (Calls.antt) and of the hard reader's own
--- answers on the recordings (`Readings`), so they are about the programs.
+-- the same; and the text. Statements speak of answers that the contracts allow (Calls.antt) and of the hard reader's
+-- own answers on the recordings (`Readings`), so they are about the programs.
 -- Definitions only. Assumes nothing.
 use Prim.Native.Nat.{ℕ, _+_, _-_, _≤_, _<_}
 use mathlib.Core.Path.{_≡_}
@@ -52,7 +52,8 @@ pub record TotalsOf (os : List Outcome) (p : Report) : Type 0 where
 
 -- ---- a report kept, each call with it as the last one left it, has the totals of the first 1,000 readings
 abbrev pub ReportKept : Type 0
-ReportKept = (rs : List Recording) (os : List Outcome) (p : Report) → Readings rs os → Kept rs p → TotalsOf (take 1000 os) p
+ReportKept =
+    (rs : List Recording) (os : List Outcome) (p : Report) → Readings rs os → Kept rs p → TotalsOf (take 1000 os) p
 
 -- ---- the numbers answered: 0 for each of the first 1,000, whatever its reading; then 31, and the report as it stood
 abbrev pub KeptAnswers : Type 0
@@ -68,8 +69,7 @@ pub record Within (p : Report) : Type 0 where
   pub refused-within : (j : ℕ) → getD (p .refused) j 0 ≤ 1000
   pub airtime-within : p .airtime ≤ 32952000
 
--- one that is within takes one more: 0, and one more was seen. Of any other 31, and it stays as it stood. 31 comes of no
--- other, and no other number is answered
+-- one that is within takes one more: 0, and one more was seen. Of any other 31, and it stays as it stood
 abbrev pub AnyReport : Type 0
 AnyReport =
     (p : Report) (kind : ℕ) (chips : List ℕ) (c : Counted) → Adds p kind chips c
@@ -86,8 +86,7 @@ ListAlike =
     × ((p : Report) → Kept (recordings kinds list) p → c .report ≡ p)
     × ((os : List Outcome) → Readings (recordings kinds list) os → TotalsOf (take 1000 os) (c .report)))
 
--- ---- the text: 980 octets hold any; the buffer keeps its length, and what follows the text, or all after a refusal, is
--- zeros
+-- ---- the text: 980 octets hold any; the buffer keeps its length; zeros follow the text, and are all after a refusal
 abbrev pub TextFills : Type 0
 TextFills =
     (p : Report) (room : ℕ) (s : Spelled) (left : List ℕ) → Spells p room s left
