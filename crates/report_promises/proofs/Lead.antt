@@ -111,4 +111,4 @@ lead-told os = by (closestFrom 0 os) (closest-is 0 os)
     by (some c) h =
         let e : h .i ≡ c .recording = sym (h .recording-is ∙ zero-add (h .i)) in
         smallest (c .lead) (c .recording) (subst (λ (n : ℕ). FrameAt os n (c .lead)) e (h .frame)) (h .low)
-        (subst (λ (n : ℕ). (j other : ℕ) → FrameAt os j other → j < n → c .lead < other) e (h .first))
+        (λ j other f l. h .first j other f (omega (arith, e)))

@@ -5,6 +5,7 @@ use mathlib.Core.Bool.{true}
 use mathlib.Core.List.{List, [], _∷_, _++_, map}
 use Prim.Native.Nat.{ℕ, zero, suc, _+_, _-_, _≤_, _<_}
 use native.Mathlib.Nat.{add-zero, not-suc-le-zero, le-of-suc-le-suc}
+use native.Mathlib.Decide.{decLt}
 use native.Mathlib.Omega.{arith}
 use lib.Dec.{lit≤}
 use lib.ListN.{length, getD, set, take, drop, replicate}
@@ -63,7 +64,7 @@ use Rattle.report_promises.specs.Calls.{
   none-read,
   one-read,
 }
-use Rattle.report_promises.specs.Promises.{LeadTold, no-frame, smallest, sumOf, TotalsOf}
+use Rattle.report_promises.specs.Promises.{FrameAt, LeadTold, no-frame, smallest, sumOf, TotalsOf}
 use Rattle.report_promises.proofs.Kept.{kept-report}
 use Rattle.report_promises.proofs.Totals.{by-more}
 
@@ -239,6 +240,30 @@ alike os p t = record {
 pub month-counted : (rs : List Recording) (os : List Outcome) (p : Report) → Readings rs os → Kept rs p
     → Alike (take 1000 os) p
 month-counted rs os p r k = alike (take 1000 os) p (kept-report .report-kept rs os p r k)
+
+-- the lead told is a frame's, none has a smaller one, and none before it has the same; a lead of 0 is told
+pub lead-first : (os : List Outcome) (p : Report) → TotalsOf os p → (j lead : ℕ) → FrameAt os j lead
+    → (p .some ≡ 1) × (p .lead ≤ lead) × (p .lead ≡ lead → p .recording ≤ j) × FrameAt os (p .recording) (p .lead)
+lead-first os p t j lead f = by (p .some) (p .lead) (p .recording) (t .lead-is)
+  where
+    by : (there told recording : ℕ) → LeadTold os there told recording
+        → (there ≡ 1) × (told ≤ lead) × (told ≡ lead → recording ≤ j) × FrameAt os recording told
+    by _ _ _ (no-frame none) = absurd (none j lead f)
+    by _ told recording (smallest _ _ g low first) =
+        (refl, low j lead f, (λ e. not-before (decLt j recording) e), g)
+      where
+        not-before : Dec (j < recording) → told ≡ lead → recording ≤ j
+        not-before (yes h) e = absurd (omega (arith, first j lead f h))
+        not-before (no n) e = omega arith
+
+pub no-lead : (os : List Outcome) (p : Report) → TotalsOf os p → p .some ≡ 0
+    → (p .lead ≡ 0) × (p .recording ≡ 0) × ((j lead : ℕ) → FrameAt os j lead → ⊥)
+no-lead os p t e = by (p .some) (p .lead) (p .recording) e (t .lead-is)
+  where
+    by : (there told recording : ℕ) → there ≡ 0 → LeadTold os there told recording
+        → (told ≡ 0) × (recording ≡ 0) × ((j lead : ℕ) → FrameAt os j lead → ⊥)
+    by _ _ _ e (no-frame none) = (refl, refl, none)
+    by _ told recording e (smallest _ _ g low first) = absurd (omega (arith, e))
 
 -- ---- whatever was handed in before, the 1,000th is answered with 0, the next with 31
 pub one-answered : (rs : List Recording) (r : Recording) (c : Counted)
