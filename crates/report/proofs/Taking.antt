@@ -43,7 +43,7 @@ either-most : (t : Bool) (a b m : ℕ) → a ≤ m → b ≤ m → cond t a b �
 either-most true a b m h k = h
 either-most false a b m h k = k
 
-front-time : (kind : ℕ) → frontTime kind ≤ 192
+pub front-time : (kind : ℕ) → frontTime kind ≤ 192
 front-time kind = either-most (eqb kind 0) _ _ 192 (lit≤ tt) (lit≤ tt)
 
 module _ (rs : List Recording) where
