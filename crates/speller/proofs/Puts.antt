@@ -1,0 +1,39 @@
+-- Laws of putting octets into a row.
+--     put-none, put-more      nothing put; one octet more
+--     put-next                what is put where the first ended is one with it
+--     put-pair                and so is a word and its number
+--     four-long               how long four lists are together
+-- Assumes nothing.
+use mathlib.Core.Path.{_≡_, refl, sym, ap, _∙_}
+use mathlib.Core.List.{List, [], _∷_, _++_, append-nil, append-assoc}
+use Prim.Native.Nat.{ℕ, _+_, _≤_, _<_}
+use native.Mathlib.Numerals.{add-one}
+use native.Mathlib.Omega.{arith}
+use lib.ListN.{length, take, set, length-append}
+use lib.Seq.{take-suc-set}
+use Rattle.speller.specs.Put.{Put}
+
+pub put-none : (at n : ℕ) (d : List ℕ) → n ≡ at → Put [] at d n d
+put-none at n d e = record { stop = omega arith; front = rw e (sym (append-nil (take at d))) }
+
+pub put-more : {w : List ℕ} {at : ℕ} {d : List ℕ} {n : ℕ} {e : List ℕ} (v : ℕ) → Put w at d n e → n < length e
+    → Put (w ++ (v ∷ [])) at d (n + 1) (set e n v)
+put-more {w} {at} {d} {n} {e} v p h = record {
+  stop = rw length-append (omega (arith, p .stop));
+  front =
+      rw (add-one, take-suc-set e n v h, p .front) (append-assoc (take at d) w (v ∷ []));
+}
+
+pub put-next : {a b : List ℕ} {at : ℕ} {d : List ℕ} {n : ℕ} {e : List ℕ} {m : ℕ} {f : List ℕ} → Put a at d n e
+    → Put b n e m f → Put (a ++ b) at d m f
+put-next {a} {b} {at} {d} {n} {e} {m} {f} p q = record {
+  stop = rw length-append (omega (arith, p .stop, q .stop));
+  front = q .front ∙ rw (p .front) (append-assoc (take at d) a b);
+}
+
+pub put-pair : {w : List ℕ} (a b : List ℕ) {at : ℕ} {d : List ℕ} {n : ℕ} {e : List ℕ} {m : ℕ} {f : List ℕ}
+    → Put w at d n e → Put (a ++ b) n e m f → Put (w ++ a ++ b) at d m f
+put-pair {w} a b p q = rw (append-assoc w a b) (put-next p q)
+
+pub four-long : (a b c d : List ℕ) → length (a ++ b ++ c ++ d) ≡ length a + length b + length c + length d
+four-long a b c d = simp length-append

@@ -1,0 +1,65 @@
+-- `speller::put_line` meets its contract.
+-- Assumes nothing.
+use mathlib.Core.Path.{_≡_}
+use mathlib.Core.List.{List}
+use Prim.Native.Nat.{ℕ, suc, _+_}
+use native.Mathlib.Omega.{arith}
+use lib.ListN.{length, length-append}
+use borrow.Author.Needs.{needs}
+use denote.Ref.{now}
+use Rattle.report.specs.Text.{word, decimal}
+use Rattle.speller.specs.Put.{pairLine}
+use Rattle.speller.proofs.Puts.{put-next, put-pair}
+use Rattle.speller.proofs.put_line.Statement.{statement}
+use Rattle.speller.proofs.put_line.Tie as tie
+
+size : (f s : List ℕ) (x y : ℕ) → length (pairLine f x s y)
+    ≡ suc (length f + length (decimal x) + (length s + length (decimal y)))
+unfolding word
+size f s x y = simp length-append (omega arith)
+
+put-both-requires : tie.Need-put-both-requires
+put-both-requires c κs =
+    let start = c .before .before .before .before .args in
+    omega (
+      arith,
+      size (now (start .first)) (now (start .second)) (start .x) (start .y),
+      length-append (now (start .first)) (decimal (start .x)),
+    )
+
+put-both-requires-2 : tie.Need-put-both-requires-2
+put-both-requires-2 c κs =
+    let start = c .before .before .before .before .before .before .before .before .args in
+    omega (
+      arith,
+      size (now (start .first)) (now (start .second)) (start .x) (start .y),
+      length-append (now (start .first)) (decimal (start .x)),
+      length-append (now (start .second)) (decimal (start .y)),
+    )
+
+put-word-requires : tie.Need-put-word-requires
+put-word-requires c κs =
+    let start = c .before .before .before .before .before .before .before .before .before .before .before .before .before .args in
+    omega (
+      arith,
+      size (now (start .first)) (now (start .second)) (start .x) (start .y),
+      length-append (now (start .first)) (decimal (start .x)),
+      length-append (now (start .second)) (decimal (start .y)),
+    )
+
+returns : tie.Need-returns
+unfolding word
+returns c =
+    let last = c .before .before in
+    let second = last .before .before .before .before .before in
+    let first = second .before .before .before .before in
+    let start = first .before .before .before .before .before .args in
+    put-next
+    (put-pair (now (start .second)) (decimal (start .y)) (first .put-both .ensures) (second .put-both2 .ensures))
+    (last .put-word .ensures)
+
+pub put-line-spec : {M : Type 1} → statement M
+put-line-spec =
+    tie.close
+    (tie.spec
+    put-both-requires put-both-requires-2 (λ c. search needs) put-word-requires (λ c. search needs) returns)
