@@ -2,12 +2,17 @@
 // them for C, by their names without a number: a symbol keeps its parameters and its record for ever. A contract
 // names the answer, and the lent buffer at the end where there is one, in one record: `answer` and `chips`, or `answer`
 // and `octets`.
+ghost use mathlib.Core.List.{map};
 ghost use lib.ListN.{length};
 ghost use Rattle.promises.specs.Calls.{Wrote, ReadHard, ReadSoft, ReadBytes, ReadFront, Finds};
+ghost use Rattle.report_promises.specs.Calls.{Adds, Lists, Spells};
 use calls::Record;
 use calls::Written;
 use coming::Coming;
 use finding::Found;
+use report::Counted;
+use report::Report;
+use report::Spelled;
 
 // A payload to the chips of its frame; 4s after the frame, or everywhere after a refusal.
 #[no_mangle]
@@ -68,4 +73,28 @@ pub extern "C" fn dsss_find(kind: u64, chips: &[u8], offsets: u64) -> Found
     ensures found { λ f. ⌜ Finds kind offsets (now (chips .entry)) f ⌝ }
 {
     finder::find(kind, chips, offsets)
+}
+
+// A hard recording more, read and counted in a report, which comes back by value. No buffer is lent.
+#[no_mangle]
+pub extern "C" fn dsss_report_add(report: Report, kind: u64, chips: &[u8]) -> Counted
+    ensures counted { λ c. ⌜ Adds report kind (now (chips .entry)) c ⌝ }
+{
+    reporter::add(report, kind, chips)
+}
+
+// A whole list of hard recordings, each with its kind, counted from nothing. No buffer is lent.
+#[no_mangle]
+pub extern "C" fn dsss_report_list(kinds: &[u64], list: &[&[u8]]) -> Counted
+    ensures counted { λ c. ⌜ Lists (now (kinds .entry)) (map (λ r. now r) (now (list .entry))) c ⌝ }
+{
+    reporter::of_list(kinds, list)
+}
+
+// A report's text; zeros after the text, or everywhere after a refusal.
+#[no_mangle]
+pub extern "C" fn dsss_report_text(report: Report, octets: &mut [u8]) -> Spelled
+    ensures spelled { λ s. ⌜ Spells report (length (now (octets .entry))) s (now (octets .exit)) ⌝ }
+{
+    speller::text(report, octets)
 }
