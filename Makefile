@@ -3,7 +3,7 @@
 
 LIB := target/staticlib/libdsss.a
 LEAVES := target/staticlib/libtimed_leaves.a
-PLAIN := bench/plain_write.c bench/plain_choose.c bench/plain_read.c bench/plain_find.c
+PLAIN := bench/plain_write.c bench/plain_choose.c bench/plain_read.c bench/plain_find.c bench/plain_report.c
 OUT := target/c
 STRICT := -std=c99 -Wall -Wextra -Wpedantic -Werror -Iinclude
 PREFIX ?= /usr/local

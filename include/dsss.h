@@ -2,20 +2,22 @@
  *
  * The library writes a frame as chips, and reads a hard, soft or byte recording of chips back to the
  * payload; of a hard one it tells from the front alone what is coming, and finds the first offset at
- * which a front can be read. What it answers is fixed by docs/RULES.md and proved for every input;
- * docs/PROMISES.md says where. No proof covers this header: it is written by hand and held to the
- * source by a test.
+ * which a front can be read. Of many hard ones it keeps a report, and spells it out as text. What it
+ * answers is fixed by docs/RULES.md and proved for every input; docs/PROMISES.md says where. No proof
+ * covers this header: it is written by hand and held to the source by a test.
  *
  * CONVENTIONS, the same for every call
  *
  * Rows      A row is a pointer and a length in elements: chips and chips_len. A row of length 0
  *           may be NULL. Any other row is that many elements of memory that may be used, and floats
- *           stand where C puts them, at a multiple of 4 octets. A NULL with a length, or a length
- *           above the memory behind it, is the caller's fault; no promise covers it.
+ *           and wider elements stand where C puts them, floats at a multiple of 4 octets. A NULL with
+ *           a length, or a length above the memory behind it, is the caller's fault; no promise
+ *           covers it. A list is a row whose elements are rows, and all of this holds for each.
  * Overlap   A const row is only read. A row without const is lent for writing and overlaps no
- *           other row of the call. Const rows may overlap each other.
- * Memory    Nothing is allocated and nothing is kept: no state, no lock, no file. Calls at the same
- *           time are safe if no row that one of them writes is used by another.
+ *           other row of the call. Const rows may overlap each other; a list may name a row twice.
+ * Memory    Nothing is allocated and nothing is kept: no state, no lock, no file. A report is the
+ *           caller's, handed in and back by value. Calls at the same time are safe if no row that one
+ *           of them writes is used by another.
  * Numbers   Numbers are 64 bits wide and compared whole: a kind of 2^32 is refused, not cut to 0. A
  *           yes or no is 0 for no and any other number for yes, 256 and 2^40 too.
  * Answers   An answer is a record by value. Its number is 0 if the call did its work, or the number
@@ -26,10 +28,12 @@
  *           and is not looked at. One spoiled symbol can give number 0 and other octets: check them.
  *           Of a read of the front alone it says no more than that the header is good and that the
  *           recording is as long as the frame. Of a find it says no more than that a read accepts the
- *           front at the offset told: not that the frame starts there, nor that it is whole.
+ *           front at the offset told: not that the frame starts there, nor that it is whole. Of a
+ *           recording added to a report it says no more than that it was counted: its read may have
+ *           been refused, and is counted as refused then.
  * Fills     What a lent row held before does not matter. Each call writes every element of it,
  *           refused or not: a chip buffer is 4s but for the frame, an octet buffer is 0s but for
- *           the payload. A refused call leaves nothing else, so nothing old can be shown.
+ *           the payload or the text. A refused call leaves nothing else, so nothing old can be shown.
  * Places    Places and offsets are chip indexes from the recording's start, which is 0.
  */
 #ifndef DSSS_H
@@ -46,12 +50,13 @@ extern "C" {
  * added, PATCH when neither. A call whose record or parameters change gets a new symbol, which a
  * macro here stands for: an object built with an older header then does not link, and is built anew. */
 #define DSSS_VERSION_MAJOR 3
-#define DSSS_VERSION_MINOR 1
+#define DSSS_VERSION_MINOR 2
 #define DSSS_VERSION_PATCH 0
 #define DSSS_VERSION (10000 * DSSS_VERSION_MAJOR + 100 * DSSS_VERSION_MINOR + DSSS_VERSION_PATCH)
 
 /* The symbols of the calls. C and C++ write the plain names; what goes by symbols, as another language
- * or a debugger does, finds these. dsss_read_front and dsss_find are their own symbols. */
+ * or a debugger does, finds these. dsss_read_front, dsss_find and the three calls of the report are their
+ * own symbols. */
 #define dsss_write dsss_write_2
 #define dsss_read_hard dsss_read_hard_3
 #define dsss_read_soft dsss_read_soft_3
@@ -80,6 +85,8 @@ extern "C" {
 #define DSSS_PAYLOAD_MAX 4095
 #define DSSS_CHIPS_MAX 362472 /* the longest frame: long, 1 Mbit/s, 4,095 octets */
 #define DSSS_OFFSETS_MAX 4096 /* offsets that one find tries, at most */
+#define DSSS_RECORDINGS_MAX 1000 /* recordings that one report counts, at most */
+#define DSSS_TEXT_MAX 980 /* octets of the longest text that any report has */
 
 /* The chips of an octet at a rate, and of a frame of n octets: the room that a write needs. Both are
  * constants where their arguments are; for a kind or rate that is none they mean nothing. A read of
@@ -94,14 +101,16 @@ extern "C" {
 /* Refusals. Writing looks for 1 to 6 in this order. Reading looks for 1, 7, 8, then 9 and 10 over
  * the front, 11 to 17, then 9 and 10 over the payload; each 9 through its whole part before 10. A
  * read of the front looks for 1, 8, then 9 and 10 over the front, 11 to 16, and for nothing more. A
- * find looks for 1 and 18, then for a front, and answers 19 if there is none. */
+ * find looks for 1 and 18, then for a front, and answers 19 if there is none. A report's calls answer 31,
+ * of a list 7 before it, and its text 17; what the recordings are refused with is counted, not answered. */
 #define DSSS_REFUSED_KIND 1        /* kind is neither 0 (long) nor 1 (short) */
 #define DSSS_REFUSED_RATE 2        /* rate code isn't one of the four */
 #define DSSS_REFUSED_SHORT_RATE 3  /* rate code 10 with the short kind */
 #define DSSS_REFUSED_PAYLOAD 4     /* payload is 0 octets or above 4,095 */
 #define DSSS_REFUSED_PHASE 5       /* starting phase above 3 */
 #define DSSS_REFUSED_CHIP_ROOM 6   /* chip buffer shorter than the frame */
-#define DSSS_REFUSED_ROWS 7        /* I and Q rows differ in length; an odd number of signed bytes */
+#define DSSS_REFUSED_ROWS 7        /* I and Q rows differ in length; an odd number of signed bytes; a list
+                                      without as many kinds as recordings */
 #define DSSS_REFUSED_FRONT 8       /* recording shorter than the front */
 #define DSSS_REFUSED_CHIP 9        /* an unusable chip; place: the first such chip of the part */
 #define DSSS_REFUSED_GROWTH 10     /* a 1 Mbit/s symbol grown by 1 or 3; place: its first chip */
@@ -111,9 +120,10 @@ extern "C" {
 #define DSSS_REFUSED_SERVICE 14    /* SERVICE not 0 or 4, nor 128 or 132 at 11 Mbit/s */
 #define DSSS_REFUSED_LENGTH 15     /* LENGTH and bit 7 not those of 1 to 4,095 octets */
 #define DSSS_REFUSED_CUT 16        /* recording ends inside the payload */
-#define DSSS_REFUSED_OCTET_ROOM 17 /* octet buffer shorter than the payload */
+#define DSSS_REFUSED_OCTET_ROOM 17 /* octet buffer shorter than the payload, or than a report's text */
 #define DSSS_REFUSED_OFFSETS 18    /* number of offsets to try is 0 or above 4,096 */
 #define DSSS_REFUSED_NO_START 19   /* none of the offsets has a front that a read accepts */
+#define DSSS_REFUSED_REPORT 31     /* report has seen 1,000, or holds more than 1,000 come to; list above 1,000 */
 
 /* The answer of a write. */
 typedef struct {
@@ -167,6 +177,39 @@ typedef struct {
     uint64_t clock;  /* the clock bit, SERVICE bit 2, as 0 or 1; 0 if refused */
     uint64_t n;      /* payload octets; 0 if refused */
 } dsss_found;
+
+/* The month's report: what was counted of the hard recordings that it has seen, each read under its own
+ * kind and with room for DSSS_PAYLOAD_MAX octets, so that 17 does not come. It begins with all zeros,
+ * dsss_report report = {0}, and is then kept by its calls alone. Rows of rates go by rate code, rising:
+ * 10, 20, 55, 110. A frame is accepted if its read answers 0. */
+typedef struct {
+    uint64_t seen;        /* recordings counted, refused ones too; at most DSSS_RECORDINGS_MAX */
+    uint64_t frames[4];   /* frames accepted, by rate */
+    uint64_t octets[4];   /* their payload octets, by rate: the sum of n, not of LENGTH */
+    uint64_t refused[18]; /* recordings refused, by the number of the refusal: 1 and 8 to 16 can come */
+    uint64_t airtime;     /* microseconds of the frames accepted: 192 each, 96 if short, and LENGTH */
+    uint64_t some;        /* 1 if a frame was accepted, else 0: lead 0 is a lead, and recording 0 one */
+    uint64_t lead;        /* the smallest lead of the frames accepted, in counts; 0 if there is none */
+    uint64_t recording;   /* the first that has it, counted from 0 over all seen; 0 if there is none */
+} dsss_report;
+
+/* The answer of a call that counts. */
+typedef struct {
+    uint64_t number;    /* 0, or the refusal: 31, of a list also 7 */
+    dsss_report report; /* with what was counted */
+} dsss_counted;
+
+/* One recording of a list. */
+typedef struct {
+    const uint8_t *chips; /* chip octets */
+    size_t chips_len;
+} dsss_chips;
+
+/* The answer of the call that makes the text. */
+typedef struct {
+    uint64_t number; /* 0, or 17 */
+    uint64_t octets; /* octets of the text; 0 if refused */
+} dsss_text;
 
 /* Writes one frame as chips.
  *   kind     DSSS_LONG or DSSS_SHORT                                      refusals 1, 3
@@ -272,6 +315,52 @@ dsss_coming dsss_read_front(uint64_t kind, const uint8_t *chips, size_t chips_le
  * Proved:  crates/dsss, dsss_find, record Finds: answer. */
 dsss_found dsss_find(uint64_t kind, const uint8_t *chips, size_t chips_len, uint64_t offsets);
 
+/* Counts one hard recording more into a report.
+ *   report   the report so far, all zeros at first                        refusal 31
+ *   kind     as for dsss_read_hard; one that is none is counted under 1   no refusal
+ *   chips    the recording as for dsss_read_hard, empty too; what its read is refused with is
+ *            counted, not answered                                        no refusal
+ * Answer:  number 0 and the report with the recording, accepted or refused. A frame accepted counts in
+ *          frames, octets, airtime and, if its smallest lead is the first or below the one kept, in some,
+ *          lead and recording; a recording refused counts under its number. Both count in seen.
+ * Refused: 31 and the report as it stood, to the last number: the recording is not counted. The report
+ *          has seen DSSS_RECORDINGS_MAX or more, or it cannot be one that these calls kept: an entry of
+ *          frames or of refused is above 1,000, one of octets above 4,095,000, or airtime is above
+ *          32,952,000. Below these limits nothing wraps round, whatever the numbers. some is a yes or no,
+ *          and lead and recording may be any: they are not refused.
+ * Buffer:  none is lent.
+ * Keep the report of every answer, refused or not: report = dsss_report_add(report, ..).report.
+ * Proved:  crates/dsss, dsss_report_add, record Adds: answer. */
+dsss_counted dsss_report_add(dsss_report report, uint64_t kind, const uint8_t *chips, size_t chips_len);
+
+/* Counts a whole list of hard recordings into a report that begins with all zeros.
+ *   kinds    the kind of each recording                                   refusal 7
+ *   list     the recordings: list[k] is read as kind kinds[k] says, as dsss_report_add does it; at
+ *            most DSSS_RECORDINGS_MAX                                     refusals 7, 31
+ * Answer:  number 0 and the report of all of them, the one that dsss_report_add comes to over the same
+ *          recordings in their order.
+ * Refused: 7 and a report of all zeros if kinds_len and list_len differ. 31 if there are more than
+ *          DSSS_RECORDINGS_MAX recordings, and then the report of the first 1,000.
+ * Buffer:  none is lent.
+ * Proved:  crates/dsss, dsss_report_list, record Lists: answer. */
+dsss_counted dsss_report_list(const uint64_t *kinds, size_t kinds_len, const dsss_chips *list,
+                              size_t list_len);
+
+/* Spells a report out as text, one fact a line, each line ended by a line feed (10):
+ *     rate 10 frames 0 octets 0            for each of the four rate codes, rising
+ *     refused 12 count 3                   for each number 1 to 17 whose count is not 0, rising
+ *     airtime 0                            in microseconds
+ *     lead 5 recording 0                   or "lead none" where some is 0
+ * Numbers are decimal, with no zero before them.
+ *   report   any report, also one that dsss_report_add refuses            no refusal
+ *   text     lent, at least the text's octets; DSSS_TEXT_MAX always do    refusal 17
+ * Answer:  number 0 and the octets of the text. THE TEXT IS NO C STRING: it has no 0 at its end where the
+ *          buffer is just as long; write octets octets of it.
+ * Refused: 17, and octets 0.
+ * Buffer:  text[] is the text and then 0s; refused, all 0s.
+ * Proved:  crates/dsss, dsss_report_text, record Spells: answer and text. */
+dsss_text dsss_report_text(dsss_report report, uint8_t *text, size_t text_len);
+
 /* The sentence of an answer's number, to show to people. A number that is neither 0 nor a refusal
  * gets the last sentence.
  * NOT PROVED: plain C, held to the table of refusals by tests/header. */
@@ -293,7 +382,8 @@ static inline const char *dsss_sentence(uint64_t number)
     case DSSS_REFUSED_CHIP_ROOM:
         return "The chip buffer is shorter than the frame.";
     case DSSS_REFUSED_ROWS:
-        return "The I and Q rows differ in length, or the number of signed bytes is odd.";
+        return "The I and Q rows differ in length, the number of signed bytes is odd, or a list has not as many "
+               "kinds as recordings.";
     case DSSS_REFUSED_FRONT:
         return "The recording is shorter than the front of a frame.";
     case DSSS_REFUSED_CHIP:
@@ -313,11 +403,14 @@ static inline const char *dsss_sentence(uint64_t number)
     case DSSS_REFUSED_CUT:
         return "The recording ends inside the payload.";
     case DSSS_REFUSED_OCTET_ROOM:
-        return "The octet buffer is shorter than the payload.";
+        return "The octet buffer is shorter than the payload, or than the text of the report.";
     case DSSS_REFUSED_OFFSETS:
         return "The number of offsets to try is 0 or above 4,096.";
     case DSSS_REFUSED_NO_START:
         return "None of the offsets has a front that a read accepts.";
+    case DSSS_REFUSED_REPORT:
+        return "The report has seen 1,000 recordings or holds a number above what 1,000 come to, or the list has more "
+               "than 1,000.";
     default:
         return "This number is no refusal of this library.";
     }

@@ -13,7 +13,8 @@ sanitized='-fsanitize=address,undefined -fno-sanitize-recover=all'
 if [ "$(uname -m)" = x86_64 ]; then
     library=target/staticlib/libdsss.a
 else
-    library='-DPLAIN_AS_DSSS bench/plain_write.c bench/plain_choose.c bench/plain_read.c bench/plain_find.c'
+    library='-DPLAIN_AS_DSSS bench/plain_write.c bench/plain_choose.c bench/plain_read.c bench/plain_find.c
+        bench/plain_report.c'
 fi
 mkdir -p target/c
 # shellcheck disable=SC2086 # lists of words

@@ -8,15 +8,20 @@
  *   4, read bytes u64 kind, bytes_len, octets_len; the bytes
  *   5, read front u64 kind, chips_len; the chips
  *   6, find       u64 kind, chips_len, offsets; the chips
+ *   7, add        the report, 31 u64: seen, frames (4), octets (4), refused (18), airtime, some, lead,
+ *                 recording; u64 kind, chips_len; the chips
+ *   8, list       u64 kinds_len; kinds_len u64; u64 list_len; of each recording u64 chips_len; its chips
+ *   9, text       the report, 31 u64 as above; u64 text_len
  * An answer is the record (1: number, chips; 2 to 4: number, place, rate, length, n, used, clock, lead,
  * symbol; 5: number, place, rate, length, clock, n, used, at, count; 6: number, offset, rate, length, clock,
- * n; u64 each), every octet of the lent buffer as the call left it, and a u64 guard: 0 if all is as it was
- * around the rows and in those lent for reading only, else 1. 5 and 6 have no lent buffer: of 5 its part
- * stands there instead, `count` chips from the recording's own chips + at on, as far as they are in the
- * recording.
+ * n; 7 and 8: number, the report as above, 32 in all; 9: number, octets; u64 each), every octet of the lent
+ * buffer as the call left it, and a u64 guard: 0 if all is as it was around the rows and in those lent for
+ * reading only, else 1. 5 to 8 have no lent buffer: of 5 its part stands there instead, `count` chips from
+ * the recording's own chips + at on, as far as they are in the recording.
  *
  * The lent buffer holds 0xAA before the call. A row of length 0 is passed as NULL; any other stands
- * between guard octets, octets and bytes at odd addresses, floats at multiples of 4 that are none of 16.
+ * between guard octets, octets and bytes at odd addresses, floats at multiples of 4 and wider elements at
+ * multiples of 8 that are none of 16. The list of 8 is such a row, and so is each of its recordings.
  * Called as `bridge pages`, each row ends where memory ends instead: a read past it kills the bridge, on
  * every processor; so does a look at a chip behind the front in 5, and one at any chip in 6 where the kind
  * or the number of offsets is refused. 6 is then called once more, with a row that begins where memory
@@ -36,6 +41,7 @@
 #include <unistd.h>
 
 enum { GUARD = 64, GUARD_OCTET = 0x5C, OLD_OCTET = 0xAA };
+enum { LIST_MAX = 1 << 14 }; /* recordings of a list; with pages each has two mappings of its own */
 
 static enum { GUARDS, PAGES, EXACT } rows; /* how rows are laid */
 
@@ -84,6 +90,14 @@ static uint64_t get_number(void)
 
     get(&number, sizeof number);
     return number;
+}
+
+static dsss_report get_report(void)
+{
+    dsss_report report;
+
+    get(&report, sizeof report);
+    return report;
 }
 
 static void put(const void *from, size_t len)
@@ -147,7 +161,7 @@ static struct row make_row(uint64_t count, size_t width, uint64_t open, int lent
     if (count > (1u << 30) / width)
         die("a row is too long");
     row.lent = lent;
-    find_memory(&row, width == 1 ? GUARD + 1 : GUARD + 4, (size_t)count * width, (size_t)open * width);
+    find_memory(&row, GUARD + (width < 8 ? width : 8), (size_t)count * width, (size_t)open * width);
     row.copy = malloc(row.size > 0 ? row.size : 1);
     if (!row.memory || !row.copy)
         die("no memory for a row");
@@ -156,6 +170,11 @@ static struct row make_row(uint64_t count, size_t width, uint64_t open, int lent
     memset(row.memory, GUARD_OCTET, row.size);
     memset(row.memory + row.from, OLD_OCTET, row.to - row.from);
     return row;
+}
+
+static void *pointer(const struct row *row)
+{
+    return row->to > row->from ? row->memory + row->from : NULL;
 }
 
 /* A row of which only the first `open` elements may be looked at. */
@@ -174,6 +193,20 @@ static struct row read_row(uint64_t count, size_t width)
     return read_row_to(count, width, count);
 }
 
+/* A row of so many recordings, each a row of its own. */
+static struct row list_row(uint64_t count, const struct row *recordings)
+{
+    struct row row = make_row(count, sizeof(dsss_chips), count, 0);
+
+    for (size_t k = 0; k < count; k++) {
+        dsss_chips one = {pointer(&recordings[k]), recordings[k].to - recordings[k].from};
+        memcpy(row.memory + row.from + k * sizeof one, &one, sizeof one);
+    }
+    memcpy(row.copy, row.memory, row.size);
+    set_access(&row, PROT_NONE);
+    return row;
+}
+
 static struct row lent_row(uint64_t count)
 {
     struct row row = make_row(count, 1, count, 1);
@@ -181,11 +214,6 @@ static struct row lent_row(uint64_t count)
     memcpy(row.copy, row.memory, row.size);
     set_access(&row, PROT_NONE);
     return row;
-}
-
-static void *pointer(const struct row *row)
-{
-    return row->to > row->from ? row->memory + row->from : NULL;
 }
 
 /* Frees a row and answers 1 if anything but a lent row's own octets has changed. */
@@ -322,6 +350,56 @@ static void call_find(void)
     put_guard(end_row(&chips) | differs);
 }
 
+static void call_report_add(void)
+{
+    dsss_report report = get_report();
+    uint64_t kind = get_number(), chips_len = get_number();
+    struct row chips = read_row(chips_len, 1);
+
+    dsss_counted counted = dsss_report_add(report, kind, pointer(&chips), (size_t)chips_len);
+    put(&counted, sizeof counted);
+    put_guard(end_row(&chips));
+}
+
+static void call_report_list(void)
+{
+    uint64_t kinds_len = get_number();
+    struct row kinds = read_row(kinds_len, sizeof(uint64_t));
+    uint64_t list_len = get_number(), changed = 0;
+    if (list_len > LIST_MAX)
+        die("a list is too long");
+    struct row *recordings = malloc((list_len > 0 ? list_len : 1) * sizeof *recordings);
+    if (!recordings)
+        die("no memory for a list");
+    for (size_t k = 0; k < list_len; k++)
+        recordings[k] = read_row(get_number(), 1);
+    struct row list = list_row(list_len, recordings);
+
+    dsss_counted counted = dsss_report_list(pointer(&kinds), (size_t)kinds_len, pointer(&list), (size_t)list_len);
+    for (size_t k = 0; k < list_len; k++)
+        changed |= end_row(&recordings[k]);
+    free(recordings);
+    put(&counted, sizeof counted);
+    put_guard(changed | end_row(&kinds) | end_row(&list));
+}
+
+static void call_report_text(void)
+{
+    dsss_report report = get_report();
+    uint64_t text_len = get_number();
+    struct row text = lent_row(text_len);
+
+    dsss_text told = dsss_report_text(report, pointer(&text), (size_t)text_len);
+    put(&told, sizeof told);
+    put_lent(&text);
+    put_guard(end_row(&text));
+}
+
+/* The calls by their ops, from 1 on. */
+static void (*const calls[])(void) = {call_write,      call_read_hard, call_read_soft,  call_read_bytes,
+                                      call_read_front, call_find,      call_report_add, call_report_list,
+                                      call_report_text};
+
 int main(int argc, char **argv)
 {
     if (argc > 2 || (argc == 2 && strcmp(argv[1], "pages") != 0 && strcmp(argv[1], "exact") != 0))
@@ -329,28 +407,10 @@ int main(int argc, char **argv)
     if (argc == 2)
         rows = strcmp(argv[1], "pages") == 0 ? PAGES : EXACT;
     while (input_at < input_end || more()) {
-        switch (get_number()) {
-        case 1:
-            call_write();
-            break;
-        case 2:
-            call_read_hard();
-            break;
-        case 3:
-            call_read_soft();
-            break;
-        case 4:
-            call_read_bytes();
-            break;
-        case 5:
-            call_read_front();
-            break;
-        case 6:
-            call_find();
-            break;
-        default:
-            die("an op that is not 1 to 6");
-        }
+        uint64_t op = get_number();
+        if (op < 1 || op > sizeof calls / sizeof calls[0])
+            die("an op that is not 1 to 9");
+        calls[op - 1]();
     }
     return 0;
 }

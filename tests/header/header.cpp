@@ -1,6 +1,6 @@
 // header.cpp: dsss.h as C++. Each call is made once with empty rows, so the names must be C's:
-// linked with a library built as C, this fails if they are not. The names of all but two are macros: they
-// must stand wherever C++ has a function's name, as in a namespace, behind :: and where it is taken as a value.
+// linked with a library built as C, this fails if they are not. The names of four are macros: they must
+// stand wherever C++ has a function's name, as in a namespace, behind :: and where it is taken as a value.
 #include "dsss.h"
 
 #include <cstdio>
@@ -11,6 +11,28 @@ typedef dsss_record (*hard_reader)(uint64_t, const uint8_t *, size_t, uint8_t *,
 static const hard_reader read_hard = &dsss_read_hard;
 typedef dsss_coming (*front_reader)(uint64_t, const uint8_t *, size_t);
 static const front_reader read_front = &dsss_read_front;
+typedef dsss_text (*speller)(dsss_report, uint8_t *, size_t);
+static const speller report_text = &dsss_report_text;
+}
+
+// Whether the calls of the report count, refuse and spell as they must: one empty recording, refused with 8.
+static bool reports()
+{
+    const uint64_t kinds[1] = {DSSS_LONG};
+    const dsss_chips list[1] = {{NULL, 0}};
+    uint8_t text[DSSS_TEXT_MAX];
+    dsss_report report = dsss_report();
+    dsss_counted added = ::dsss_report_add(report, DSSS_LONG, NULL, 0), listed = dsss_report_list(kinds, 1, list, 1);
+    report.seen = DSSS_RECORDINGS_MAX;
+    dsss_counted full = dsss_report_add(report, DSSS_LONG, NULL, 0);
+    dsss_counted odd = ::dsss_report_list(kinds, 1, NULL, 0);
+    dsss_text spelled = radio::report_text(added.report, text, DSSS_TEXT_MAX), none = dsss_report_text(report, NULL, 0);
+
+    return added.number == 0 && added.report.seen == 1 && added.report.refused[DSSS_REFUSED_FRONT] == 1
+           && listed.number == 0 && listed.report.refused[DSSS_REFUSED_FRONT] == 1
+           && full.number == DSSS_REFUSED_REPORT && full.report.seen == DSSS_RECORDINGS_MAX
+           && odd.number == DSSS_REFUSED_ROWS && odd.report.seen == 0 && spelled.number == 0
+           && text[spelled.octets - 1] == 10 && none.number == DSSS_REFUSED_OCTET_ROOM && none.octets == 0;
 }
 
 int main()
@@ -26,7 +48,7 @@ int main()
         || soft.number != DSSS_REFUSED_KIND || bytes.number != DSSS_REFUSED_FRONT
         || coming.number != DSSS_REFUSED_FRONT || coming.at != 0 || coming.count != 0
         || none.number != DSSS_REFUSED_OFFSETS || found.number != DSSS_REFUSED_NO_START || found.offset != 0
-        || hard.lead != 0 || soft.symbol != 0 || bytes.lead != 0) {
+        || hard.lead != 0 || soft.symbol != 0 || bytes.lead != 0 || !reports()) {
         std::puts("header.cpp: a refusal is not the one expected");
         return 1;
     }
