@@ -5,9 +5,10 @@
 
 No compiler compares a C declaration with the Rattle function behind it. A call must have the same
 name, the same parameters in the same order, and an answer with the same members in the same order.
-A row in C is a pointer and NAME_len, in Rattle a slice. A record may be declared in another crate.
-Each call's comment must have the fields Answer, Refused, Buffer and Proved, say where the call is
-proved, and name each row and number.
+A row in C is a pointer and NAME_len, in Rattle a slice; a record of just one row stands for that row,
+so that a row of such records is a slice of slices. A record may be declared in another crate; where it
+is a parameter or a member it is compared by its own members. Each call's comment must have the fields
+Answer, Refused, Buffer and Proved, say where the call is proved, and name each row and number.
 
 A call's symbol is its name, or what a macro `#define dsss_call dsss_call_2` makes of it. What each
 symbol was published with stands in published.txt: with other parameters or another answer the call
@@ -38,26 +39,17 @@ def without_comments(text):
     return re.sub(r"/\*.*?\*/", " ", text, flags=re.S)
 
 
-def c_records(text):
-    """Record name -> list of (member, Rattle type)."""
-    records = {}
-    for body, name in re.findall(r"typedef\s+struct\s*\{(.*?)\}\s*(\w+)\s*;", text, re.S):
-        members = []
-        for line in filter(None, (part.strip() for part in body.split(";"))):
-            kind, names = line.split(None, 1)
-            members += [(member.strip(), c_type(kind)) for member in names.split(",")]
-        records[name] = members
-    return records
+def c_declaration(text):
+    """Whether it is const, the Rattle type, whether it is a pointer, and the name of one declaration."""
+    match = re.fullmatch(r"(const\s+)?(\w+)\s*(\*?)\s*(\w+)\s*(?:\[\s*(\d+)\s*\])?", text)
+    if not match:
+        raise Fault(f"cannot read '{text}'")
+    kind = c_type(match[2])
+    return bool(match[1]), f"[{kind}; {match[5]}]" if match[5] else kind, match[3] == "*", match[4]
 
 
-def c_parameters(text):
-    """(name, Rattle type) of each parameter, a pointer and its length being one row."""
-    plain = []
-    for part in filter(None, (part.strip() for part in text.split(","))):
-        match = re.fullmatch(r"(const\s+)?(\w+)\s*(\*?)\s*(\w+)", part)
-        if not match:
-            raise Fault(f"cannot read the parameter '{part}'")
-        plain.append((bool(match[1]), c_type(match[2]), match[3] == "*", match[4]))
+def c_rows(plain):
+    """(name, Rattle type) of declarations, a pointer and its length being one row."""
     rows, k = [], 0
     while k < len(plain):
         const, kind, pointer, name = plain[k]
@@ -70,6 +62,28 @@ def c_parameters(text):
         else:
             rows.append((name, f"&{kind}" if const else f"&mut {kind}"))
     return rows
+
+
+def c_members(body):
+    """(name, Rattle type) of each member of a record."""
+    plain = []
+    for line in filter(None, (part.strip() for part in body.split(";"))):
+        match = re.fullmatch(r"((?:const\s+)?\w+)\s+(.*)", line, re.S)
+        if not match:
+            raise Fault(f"cannot read the member '{line}'")
+        plain += [c_declaration(f"{match[1]} {name.strip()}") for name in match[2].split(",")]
+    return c_rows(plain)
+
+
+def c_records(text):
+    """Record name -> list of (member, Rattle type)."""
+    found = re.findall(r"typedef\s+struct\s*\{(.*?)\}\s*(\w+)\s*;", text, re.S)
+    return {name: c_members(body) for body, name in found}
+
+
+def c_parameters(text):
+    """(name, Rattle type) of each parameter."""
+    return c_rows([c_declaration(part) for part in filter(None, (part.strip() for part in text.split(",")))])
 
 
 def c_calls(text):
@@ -99,7 +113,8 @@ def without_line_comments(text):
 
 
 def rattle_type(text):
-    return re.sub(r"\s+", " ", re.sub(r"'\w+\s*", "", text.strip()))
+    text = re.sub(r"\w+::", "", re.sub(r"'\w+\s*", "", text.strip()))
+    return re.sub(r"\s+", " ", re.sub(r"\s*;\s*", "; ", text))
 
 
 def pairs(text):
@@ -149,9 +164,29 @@ def rows(pairs_of):
     return ", ".join(f"{name}: {kind}" for name, kind in pairs_of)
 
 
+def told(pairs_of, pattern, members_of):
+    """The pairs with each record that the pattern finds in a type told by its members, or by its only row."""
+    def of_record(match):
+        members = members_of(match[0])
+        if members is None:
+            return match[0]
+        members = told(members, pattern, members_of)
+        return members[0][1] if len(members) == 1 and members[0][1][0] == "&" else "{" + rows(members) + "}"
+    return [(name, re.sub(pattern, of_record, kind)) for name, kind in pairs_of]
+
+
+def told_in_c(pairs_of, records):
+    return told(pairs_of, r"\bdsss_\w+", records.get)
+
+
+def told_in_rattle(pairs_of, sources):
+    return told(pairs_of, r"\b[A-Z]\w*", lambda name: record_named(name, sources))
+
+
 def compare_call(name, declared, defined, records, sources):
-    answer, parameters = declared
+    answer, parameters = declared[0], told_in_c(declared[1], records)
     source_answer, source_parameters, attributes = defined
+    source_parameters = told_in_rattle(source_parameters, sources)
     faults = []
     if "no_mangle" not in attributes:
         faults.append(f"{name}: no #[no_mangle] in the source")
@@ -159,9 +194,10 @@ def compare_call(name, declared, defined, records, sources):
         faults.append(f"{name}: the header has ({rows(parameters)}), "
                       f"the source ({rows(source_parameters)})")
     if answer in records:
-        members = record_named(source_answer, sources)
-        if records[answer] != members:
-            faults.append(f"{name}: {answer} is {{{rows(records[answer])}}} in the header, "
+        declared_members = told_in_c(records[answer], records)
+        members = told_in_rattle(record_named(source_answer, sources), sources)
+        if declared_members != members:
+            faults.append(f"{name}: {answer} is {{{rows(declared_members)}}} in the header, "
                           f"{source_answer} is {{{rows(members)}}} in the source")
     elif (answer, source_answer) != ("void", "") and answer != source_answer:
         faults.append(f"{name}: answers {answer} in the header, {source_answer} in the source")
@@ -171,8 +207,8 @@ def compare_call(name, declared, defined, records, sources):
 def compare_published(symbol, declared, records, published):
     """Whether a symbol stands for what it was published with."""
     answer, parameters = declared
-    members = rows(records[answer]) if answer in records else answer
-    line = f"{symbol}({rows(parameters)}) -> {members}"
+    members = rows(told_in_c(records[answer], records)) if answer in records else answer
+    line = f"{symbol}({rows(told_in_c(parameters, records))}) -> {members}"
     if line in published:
         return []
     if any(old.startswith(symbol + "(") for old in published):
@@ -233,6 +269,12 @@ typedef struct { uint64_t number, place; } dsss_answer; /* two */
 /* Reads. kind, chips, octets. Answer: Refused: Buffer: Proved: crates/dsss, dsss_read, clause. */
 dsss_answer dsss_read(uint64_t kind, const uint8_t *chips, size_t chips_len,
                       uint8_t *octets, size_t octets_len);
+typedef struct { uint64_t seen, rates[4]; } dsss_sums;
+typedef struct { const uint8_t *chips; size_t chips_len; } dsss_one;
+typedef struct { uint64_t number; dsss_sums sums; } dsss_counted;
+/* Counts. sums, kinds, list. Answer: Refused: Buffer: Proved: crates/dsss, dsss_count, clause. */
+dsss_counted dsss_count(dsss_sums sums, const uint64_t *kinds, size_t kinds_len, const dsss_one *list,
+                        size_t list_len);
 static inline int dsss_sentence(uint64_t number) { return 0; }
 """
 SOURCES = {
@@ -241,6 +283,9 @@ SOURCES = {
 pub extern "C" fn dsss_read(kind: u64, chips: &[u8], octets: &mut [u8]) -> Answer
     ensures { answer: x }
 { frame::read(kind) } // fn
+#[no_mangle]
+pub extern "C" fn dsss_count<'a>(sums: sums::Sums, kinds: &[u64], list: &'a [&'a [u8]]) -> Counted
+{ sums::count(sums, kinds, list) }
 """,
     "frame": """#[repr(C)]
 pub struct Answer {
@@ -249,8 +294,15 @@ pub struct Answer {
 }
 """,
     "other": "#[repr(C)] pub struct Answer { pub place: u64, }",
+    "sums": """#[repr(C)]
+pub struct Sums { pub seen: u64, pub rates: [u64;4], }
+#[repr(C)]
+pub struct Counted { pub number: u64, pub sums: Sums, }
+""",
 }
-PUBLISHED = ["dsss_read(kind: u64, chips: &[u8], octets: &mut [u8]) -> number: u64, place: u64"]
+PUBLISHED = ["dsss_read(kind: u64, chips: &[u8], octets: &mut [u8]) -> number: u64, place: u64",
+             "dsss_count(sums: {seen: u64, rates: [u64; 4]}, kinds: &[u64], list: &[&[u8]]) -> "
+             "number: u64, sums: {seen: u64, rates: [u64; 4]}"]
 GROWN = [  # a member more in header and source: by the old symbol refused, by a new one not
     ("header", "uint64_t number, place", "uint64_t number, place, more"),
     ("frame", "pub place: u64,", "pub place: u64, pub more: u64,"),
@@ -281,6 +333,29 @@ SPOILED = [  # which text, what, by what
     ("dsss", "{ frame", "{ } pub fn more() { frame"),
     ("frame", "#[repr(C)]", ""),
     ("frame", "pub place: u64", "pub place: u32"),
+    ("header", "rates[4]", "rates[5]"),
+    ("header", "rates[4]", "rates"),
+    ("header", "uint64_t seen, rates[4]", "uint32_t seen, rates[4]"),
+    ("header", "seen, rates[4]", "rates[4], seen"),
+    ("header", "dsss_sums sums; } dsss_counted", "uint64_t sums; } dsss_counted"),
+    ("header", "uint64_t number; dsss_sums sums;", "dsss_sums sums; uint64_t number;"),
+    ("header", "dsss_count(dsss_sums sums, ", "dsss_count("),
+    ("header", "const uint64_t *kinds", "const uint32_t *kinds"),
+    ("header", "const uint64_t *kinds, size_t kinds_len, ", "uint64_t kinds, "),
+    ("header", "const uint8_t *chips; size_t chips_len; } dsss_one", "uint8_t *chips; size_t chips_len; } dsss_one"),
+    ("header", "size_t chips_len; } dsss_one", "} dsss_one"),
+    ("header", "const uint8_t *chips; size_t chips_len; }", "size_t chips_len; const uint8_t *chips; }"),
+    ("header", "size_t chips_len; } dsss_one", "size_t chips_len; uint64_t kind; } dsss_one"),
+    ("header", "const dsss_one *list", "dsss_one *list"),
+    ("header", "const dsss_one *list", "const dsss_sums *list"),
+    ("dsss", "kinds: &[u64]", "kinds: &[u8]"),
+    ("dsss", "&'a [&'a [u8]]", "&'a [u8]"),
+    ("dsss", "&'a [&'a [u8]]", "&'a [&'a [u16]]"),
+    ("dsss", "sums: sums::Sums", "sums: u64"),
+    ("sums", "[u64;4]", "[u64;3]"),
+    ("sums", "[u64;4]", "[u32;4]"),
+    ("sums", "pub sums: Sums", "pub sums: [u64; 5]"),
+    ("sums", "pub number: u64, pub sums: Sums,", "pub sums: Sums, pub number: u64,"),
 ]
 
 
