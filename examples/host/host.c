@@ -6,11 +6,11 @@
  * does at the table: it asks what is coming, tells the fitter of it and of how the payload's chips came
  * through, sets aside just as many octets, and only then reads. Of each caption the fitter is told how
  * clearly its symbols were won, so that an aerial is moved before captions fail. In recordings that begin
- * anywhere it has the front found, and shows what a read from the offset found is worth. What comes from
- * the air may be any octets, so it is shown escaped. A caption of an earlier exhibition must never be seen
- * again: before each read the octet buffer is full of one, and after it what is left of it is counted. All
- * memory is in the static rows below; those that are lent for writing stand between guard octets, which
- * must stay as they were. */
+ * anywhere it has the front found, and shows what a read from the offset found is worth. At the end of the
+ * month it has a report of its recordings. What comes from the air may be any octets, so it is shown
+ * escaped. A caption of an earlier exhibition must never be seen again: before each read the octet buffer is
+ * full of one, and after it what is left of it is counted. All memory is in the static rows below; those
+ * that are lent for writing stand between guard octets, which must stay as they were. */
 #include "dsss.h"
 
 #include <inttypes.h>
@@ -25,6 +25,9 @@ enum { LEAD_LOW = 2 * DSSS_FULL_CHIP };
 
 /* Lost chips before a frame, where a recording begins anywhere. */
 enum { LOST = 345 };
+
+/* Recordings that are kept for the month's report. */
+enum { KEPT = 6 };
 
 static const char *const captions[4] = {
     "Cave bear, from the front. The canines are worn blunt.",
@@ -61,6 +64,18 @@ static struct {
 
 static size_t aside_used;
 
+static struct {
+    uint8_t before[GUARD], row[DSSS_TEXT_MAX], after[GUARD];
+} text;
+
+/* The recordings kept, as a list: kinds and rows. */
+static struct {
+    uint8_t rows[KEPT][CHIPS_MAX];
+    uint64_t kinds[KEPT];
+    dsss_chips list[KEPT];
+    size_t len;
+} kept;
+
 static float i_row[CHIPS_MAX], q_row[CHIPS_MAX];
 static int8_t bytes[2 * CHIPS_MAX];
 
@@ -72,6 +87,8 @@ static void set_guards(int octet)
     memset(octets.after, octet, GUARD);
     memset(aside.before, octet, GUARD);
     memset(aside.after, octet, GUARD);
+    memset(text.before, octet, GUARD);
+    memset(text.after, octet, GUARD);
 }
 
 static int guards_stand(void)
@@ -81,7 +98,8 @@ static int guards_stand(void)
     for (size_t k = 0; k < GUARD; k++)
         changed |= (chips.before[k] ^ GUARD_OCTET) | (chips.after[k] ^ GUARD_OCTET)
                    | (octets.before[k] ^ GUARD_OCTET) | (octets.after[k] ^ GUARD_OCTET)
-                   | (aside.before[k] ^ GUARD_OCTET) | (aside.after[k] ^ GUARD_OCTET);
+                   | (aside.before[k] ^ GUARD_OCTET) | (aside.after[k] ^ GUARD_OCTET)
+                   | (text.before[k] ^ GUARD_OCTET) | (text.after[k] ^ GUARD_OCTET);
     return !changed;
 }
 
@@ -421,6 +439,69 @@ static void begun_anywhere(void)
     tell_found("within no chips", LOST, dsss_find(DSSS_LONG, chips.row, len, 0));
 }
 
+/* Keeps the recording that stands in the chip row, and counts it into the report. What its read is refused
+ * with is counted, and the answer is 0 all the same. */
+static dsss_report keep(const char *what, dsss_report report, uint64_t kind, uint64_t len)
+{
+    size_t k = kept.len++;
+    dsss_record record = dsss_read_hard(kind, chips.row, len, octets.row, CAPTION_MAX);
+    dsss_counted counted = dsss_report_add(report, kind, chips.row, len);
+
+    memcpy(kept.rows[k], chips.row, len);
+    kept.kinds[k] = kind;
+    kept.list[k].chips = kept.rows[k];
+    kept.list[k].chips_len = len;
+    printf("%s: a read answers %" PRIu64 ", the report %" PRIu64 "; %" PRIu64 " seen\n", what, record.number,
+           counted.number, counted.report.seen);
+    return counted.report;
+}
+
+/* The text is no C string: just its octets are shown. */
+static void show_text(dsss_report report, size_t room)
+{
+    memset(text.row, 'x', DSSS_TEXT_MAX);
+    dsss_text told = dsss_report_text(report, text.row, room);
+    fwrite(text.row, 1, (size_t)told.octets, stdout);
+    if (told.number != 0)
+        printf("in %zu octets: refused, %" PRIu64 ". %s\n", room, told.number, dsss_sentence(told.number));
+}
+
+static dsss_report keep_all(void)
+{
+    dsss_report report = {0};
+    uint64_t len = send_caption(DSSS_LONG, DSSS_RATE_1, 0, captions[0]).chips;
+
+    report = keep("long, 1 Mbit/s", report, DSSS_LONG, len);
+    report = keep("the same as short", report, DSSS_SHORT, len);
+    len = send_caption(DSSS_SHORT, DSSS_RATE_11, 0, captions[1]).chips;
+    report = keep("short, 11 Mbit/s", report, DSSS_SHORT, len);
+    report = keep("without its last chip", report, DSSS_SHORT, len - 1);
+    for (uint64_t k = 0; k < len; k += 11)
+        chips.row[k] = DSSS_CHIP_LOST;
+    report = keep("every eleventh chip lost", report, DSSS_SHORT, len);
+    chips.row[1234] = 200;
+    return keep("a chip unusable too", report, DSSS_SHORT, len);
+}
+
+/* Counted one by one, as they come, or the whole list at once, the report is the same. */
+static void end_of_month(void)
+{
+    puts("\nThe month's report");
+    dsss_report report = keep_all();
+    show_text(report, DSSS_TEXT_MAX);
+    show_text(report, 100);
+    dsss_counted listed = dsss_report_list(kept.kinds, kept.len, kept.list, kept.len);
+    printf("the whole list: %" PRIu64 ", %s\n", listed.number,
+           memcmp(&listed.report, &report, sizeof report) == 0 ? "the same report" : "ANOTHER REPORT");
+    listed = dsss_report_list(kept.kinds, kept.len - 1, kept.list, kept.len);
+    printf("a kind too few: refused, %" PRIu64 ", %" PRIu64 " seen\n", listed.number, listed.report.seen);
+    dsss_counted counted = {0, report};
+    while (counted.number == 0)
+        counted = dsss_report_add(counted.report, DSSS_LONG, NULL, 0);
+    printf("empty recordings until it is full: %" PRIu64 " seen, refused, %" PRIu64 ". %s\n", counted.report.seen,
+           counted.number, dsss_sentence(counted.number));
+}
+
 static void not_written(void)
 {
     puts("\nA frame that cannot be written");
@@ -446,6 +527,7 @@ int main(void)
     cut_short();
     what_is_coming();
     begun_anywhere();
+    end_of_month();
     not_written();
     printf("\nGuard octets %s\n", guards_stand() ? "as they were" : "CHANGED");
     return guards_stand() ? 0 : 1;
