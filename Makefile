@@ -9,12 +9,13 @@ STRICT := -std=c99 -Wall -Wextra -Wpedantic -Werror -Iinclude
 PREFIX ?= /usr/local
 INCLUDEDIR ?= $(PREFIX)/include
 LIBDIR ?= $(PREFIX)/lib
-export PREFIX INCLUDEDIR LIBDIR DESTDIR
+BINDIR ?= $(PREFIX)/bin
+export PREFIX INCLUDEDIR LIBDIR BINDIR DESTDIR
 
 # All that is proved: a touched proof is proved again.
 PROVED := crates.txt $(shell find crates -name '*.rt' -o -name '*.antt')
 
-.PHONY: demo test compare wrong bench instructions archives crc third-party faults install uninstall packages
+.PHONY: demo test month compare wrong bench instructions archives crc third-party faults install uninstall packages
 .PHONY: demo-packages
 .SILENT:
 
@@ -24,9 +25,13 @@ demo: $(OUT)/host
 	cat $(OUT)/host.stdout
 	diff -u examples/host/stdout $(OUT)/host.stdout
 
-# The gate: proofs, must-fail edits, programs, header, host, faults, second program.
+# The gate: proofs, must-fail edits, programs, header, host, month, faults, second program.
 test:
 	scripts/gate.sh
+
+# The program month over recordings of every sort, held to what is stored.
+month: $(OUT)/month $(OUT)/month_half
+	tests/month/run
 
 # The second program's longer run.
 compare: $(OUT)/bridge target/peer/peer
@@ -56,12 +61,12 @@ crc: packages
 third-party: packages
 	tests/third/run
 
-# Host and bridge under valgrind and the sanitizers where the processor allows; elsewhere over plain C.
+# Host, month and bridge under valgrind and the sanitizers where the processor allows; elsewhere over plain C.
 faults: $(OUT)/host target/peer/peer
 	scripts/faults.sh
 
-# Header, archive and pkg-config file, to PREFIX, or INCLUDEDIR and LIBDIR, under DESTDIR.
-install: $(LIB)
+# Header, archive, pkg-config file and the program month, to PREFIX, or INCLUDEDIR, LIBDIR and BINDIR, under DESTDIR.
+install: $(LIB) $(OUT)/month
 	scripts/install.sh install
 
 uninstall:
@@ -84,6 +89,15 @@ $(LEAVES): $(PROVED)
 $(OUT)/host: examples/host/host.c include/dsss.h $(LIB) | demo-packages
 	mkdir -p $(OUT)
 	scripts/x86cc $@ examples/host/host.c $(LIB) -- $(STRICT)
+
+$(OUT)/month: programs/month.c include/dsss.h $(LIB) | demo-packages
+	mkdir -p $(OUT)
+	scripts/x86cc $@ programs/month.c $(LIB) -- $(STRICT)
+
+# The same with files that fail halfway, for its test.
+$(OUT)/month_half: programs/month.c tests/month/half.c include/dsss.h $(LIB) | packages
+	mkdir -p $(OUT)
+	scripts/x86cc $@ programs/month.c tests/month/half.c $(LIB) -- $(STRICT) -Dfopen=half_open
 
 $(OUT)/bridge: tests/bridge/bridge.c include/dsss.h $(LIB) | packages
 	mkdir -p $(OUT)

@@ -1,8 +1,8 @@
 #!/bin/sh
-# faults.sh: the host and the bridge under valgrind and the sanitizers. The host's output is held to what is stored, and
-# the second program compares some families over the bridge.
+# faults.sh: the host, the program month and the bridge under valgrind and the sanitizers. What host and month say is
+# held to what is stored, and the second program compares some families over the bridge.
 #
-# Both run what this processor runs: on x86-64 the library itself, elsewhere plain C in its place, and valgrind
+# All run what this processor runs: on x86-64 the library itself, elsewhere plain C in its place, and valgrind
 # there only if it is at hand. Under valgrind each row is memory of just its size, so a touch beside a row is an
 # error, and the lent buffer is not set, so that what a call leaves unwritten, or makes of old contents, is one too.
 set -eu
@@ -17,20 +17,30 @@ else
         bench/plain_report.c'
 fi
 mkdir -p target/c
-# shellcheck disable=SC2086 # lists of words
-for program in examples/host/host tests/bridge/bridge; do
-    ${CC:-cc} $flags $sanitized $program.c $library -o "target/c/$(basename $program).faults"
-    ${CC:-cc} $flags -O1 $program.c $library -o "target/c/$(basename $program).native"
-done
+build() { # build PROGRAM FILES.. [FLAGS]: target/c/PROGRAM.faults with the sanitizers, target/c/PROGRAM.native without
+    program=$1
+    shift
+    # shellcheck disable=SC2086 # lists of words
+    {
+        ${CC:-cc} $flags $sanitized "$@" $library -o "target/c/$program.faults"
+        ${CC:-cc} $flags -O1 "$@" $library -o "target/c/$program.native"
+    }
+}
+build host examples/host/host.c
+build bridge tests/bridge/bridge.c
+build month programs/month.c
+build month_half programs/month.c tests/month/half.c -Dfopen=half_open
 target/c/host.faults >target/c/faults.stdout
 diff -u examples/host/stdout target/c/faults.stdout
+tests/month/run '' target/c/month.faults target/c/month_half.faults
 target/peer/peer --brief --family $families,unusable_octets -- target/c/bridge.faults
 if [ "$(uname -m)" != x86_64 ] && ! command -v valgrind >/dev/null 2>&1; then
-    echo 'faults.sh: host and bridge clean; no valgrind here'
+    echo 'faults.sh: host, month and bridge clean; no valgrind here'
     exit
 fi
 valgrind --quiet --error-exitcode=9 target/c/host.native >target/c/faults.stdout
 diff -u examples/host/stdout target/c/faults.stdout
+tests/month/run 'valgrind --quiet --error-exitcode=9' target/c/month.native target/c/month_half.native
 target/peer/peer --brief --family $families,read_long_payloads -- \
     valgrind --quiet --error-exitcode=9 target/c/bridge.native exact
-echo 'faults.sh: host and bridge clean'
+echo 'faults.sh: host, month and bridge clean'

@@ -38,10 +38,13 @@ tests/header/run
 stage 'host'
 make --no-print-directory demo
 
+stage 'month'
+make --no-print-directory month
+
 stage 'install'
 tests/install/run
 
-stage 'second program, over rows between guards; beside it, host and bridge under fault'
+stage 'second program, over rows between guards; beside it, host, month and bridge under fault'
 make --no-print-directory target/c/bridge target/peer/peer
 make --no-print-directory faults >"$faults" 2>&1 &
 target/peer/peer -- scripts/x86run target/c/bridge
