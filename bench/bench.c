@@ -30,6 +30,8 @@ struct library {
     dsss_record (*read_bytes)(uint64_t, const int8_t *, size_t, uint8_t *, size_t);
     dsss_coming (*read_front)(uint64_t, const uint8_t *, size_t);
     dsss_found (*find)(uint64_t, const uint8_t *, size_t, uint64_t);
+    dsss_counted (*report_add)(dsss_report, uint64_t, const uint8_t *, size_t);
+    dsss_text (*report_text)(dsss_report, uint8_t *, size_t);
     void (*count)(const float *, size_t, int32_t *, size_t);
     uint64_t (*decide)(uint64_t, const float *, size_t, const float *, size_t);
     uint64_t (*eleven)(uint64_t, const uint8_t *, size_t, const int8_t *, size_t, const float *, size_t, const float *,
@@ -39,10 +41,10 @@ struct library {
 enum { DSSS, PLAIN, BOTH };
 
 static const struct library libraries[BOTH] = {
-    {dsss_write, dsss_read_hard, dsss_read_soft, dsss_read_bytes, dsss_read_front, dsss_find, timed_count,
-     timed_decide, timed_eleven},
-    {plain_write, plain_read_hard, plain_read_soft, plain_read_bytes, plain_read_front, plain_find, plain_count,
-     plain_decide, plain_eleven},
+    {dsss_write, dsss_read_hard, dsss_read_soft, dsss_read_bytes, dsss_read_front, dsss_find, dsss_report_add,
+     dsss_report_text, timed_count, timed_decide, timed_eleven},
+    {plain_write, plain_read_hard, plain_read_soft, plain_read_bytes, plain_read_front, plain_find, plain_report_add,
+     plain_report_text, plain_count, plain_decide, plain_eleven},
 };
 
 static const struct {
@@ -53,7 +55,7 @@ static const struct {
 static const char *const kinds[] = {"long", "short"};
 
 /* The rows of the call under measurement. */
-static uint8_t payload[DSSS_PAYLOAD_MAX], chips[DSSS_CHIPS_MAX], octets[DSSS_PAYLOAD_MAX];
+static uint8_t payload[DSSS_PAYLOAD_MAX], chips[DSSS_CHIPS_MAX], octets[DSSS_PAYLOAD_MAX], text[DSSS_TEXT_MAX];
 static float i_row[DSSS_CHIPS_MAX], q_row[DSSS_CHIPS_MAX];
 static int8_t bytes[2 * DSSS_CHIPS_MAX];
 static uint64_t kind, rate;
@@ -385,6 +387,65 @@ static void finds(void)
         find_line(lines[k].in, lines[k].kind, lines[k].offsets, front);
 }
 
+/* ---- Reports --------------------------------------------------------------------------------- */
+
+static uint64_t add_empty_task(const struct library *l)
+{
+    return l->report_add(month, kind, NULL, 0).report.seen;
+}
+
+static uint64_t add_task(const struct library *l)
+{
+    return l->report_add(month, kind, chips, chips_len).report.airtime;
+}
+
+static uint64_t read_with_room_task(const struct library *l)
+{
+    return l->read_hard(kind, chips, chips_len, octets, DSSS_PAYLOAD_MAX).used;
+}
+
+static uint64_t text_task(const struct library *l)
+{
+    return l->report_text(month, text, sizeof text).octets;
+}
+
+/* Both libraries count the frame, and spell the report, the same. */
+static void reports_agree(void)
+{
+    static uint8_t first[DSSS_TEXT_MAX];
+    dsss_counted one = libraries[DSSS].report_add(month, kind, chips, chips_len);
+    dsss_counted two = libraries[PLAIN].report_add(month, kind, chips, chips_len);
+
+    if (memcmp(&one, &two, sizeof one) != 0 || one.number != 0 || one.report.airtime == month.airtime)
+        fail("what is counted differs");
+    uint64_t len = text_task(&libraries[DSSS]);
+    memcpy(first, text, sizeof first);
+    if (len == 0 || text_task(&libraries[PLAIN]) != len || memcmp(first, text, sizeof first) != 0)
+        fail("the texts differ");
+}
+
+static void report_line(const char *name, task_fn task)
+{
+    double ns[BOTH];
+
+    measure(task, ns);
+    printf("%-36s  %12.0f  %12.0f  %6.2f\n", name, ns[DSSS], ns[PLAIN], ns[DSSS] / ns[PLAIN]);
+    fflush(stdout);
+}
+
+/* What it costs to count a frame is its read, with room for the longest payload, and little more. */
+static void reports(void)
+{
+    printf("\nreports; a frame is long, at 11 Mbit/s, of %d octets\n", OCTETS);
+    printf("%-36s  %12s  %12s  %6s\n", "call", "dsss ns", "plain ns", "ratio");
+    set_up(DSSS_LONG, DSSS_RATE_11, OCTETS);
+    reports_agree();
+    report_line("add of an empty recording", add_empty_task);
+    report_line("add of a frame", add_task);
+    report_line("read hard of it, room for 4,095", read_with_room_task);
+    report_line("text", text_task);
+}
+
 /* ---- Parts of reading, to see where a reader's time goes ------------------------------------- */
 
 static void part_line(const char *name, task_fn task, size_t many)
@@ -511,6 +572,7 @@ int main(int argc, char **argv)
     whole_calls();
     fronts();
     finds();
+    reports();
     parts();
     return 0;
 }

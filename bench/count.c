@@ -4,11 +4,13 @@
  *
  * CALL is write, hard, soft, bytes or front, KIND is long or short, RATE a rate code. The calls are those of the
  * library, or with -DOF_PLAIN those of plain C. With -DFIND a call is a find in one of the recordings of recordings.h,
- * which CALL names, and OCTETS are the offsets to try, RATE being of no use. With -DCHOICE a call is the choice alone,
- * of a block of 64 symbols of 11 Mbit/s, by the recorder hard, soft or bytes. The rows are made and a call for one
- * octet or offset, or the choice, is made first, whatever TIMES is: the difference of two runs with TIMES 0 and 1 is
- * the instructions of one call, with nothing of the program's start. scripts/instructions.sh builds what it needs and
- * makes the two runs. */
+ * which CALL names, and OCTETS are the offsets to try, RATE being of no use. With -DREPORT a call is an add of the
+ * frame to a report, an add of an empty recording, a hard read of the frame with the room that an add gives it, or the
+ * report's text, as CALL says: add, empty, read or text. With -DCHOICE a call is the choice alone, of a block of 64
+ * symbols of 11 Mbit/s, by the recorder hard, soft or bytes. The rows are made and a call for one octet or offset, or
+ * the choice, is made first, whatever TIMES is: the difference of two runs with TIMES 0 and 1 is the instructions of
+ * one call, with nothing of the program's start. scripts/instructions.sh builds what it needs and makes the two
+ * runs. */
 #include "recordings.h"
 #include "timed_leaves.h"
 
@@ -104,6 +106,29 @@ static int call(const char *name, uint64_t kind, uint64_t rate, size_t n, size_t
         return 0;
     word = ELEVEN(recorder, chips + at, left, bytes + 2 * at, 2 * left, i_row + at, left, q_row + at, left);
     return word < 256;
+}
+#elif defined REPORT
+enum { LEAST = 1 };
+
+static uint8_t octets[DSSS_PAYLOAD_MAX], text[DSSS_TEXT_MAX];
+
+static uint64_t chips_of(size_t len)
+{
+    return len;
+}
+
+/* One call; whether it counted, read or spelled what it should. */
+static int call(const char *name, uint64_t kind, uint64_t rate, size_t n, size_t len)
+{
+    (void)rate;
+    (void)n;
+    if (strcmp(name, "read") == 0)
+        return OF(read_hard)(kind, chips, len, octets, sizeof octets).used == len;
+    if (strcmp(name, "text") == 0)
+        return OF(report_text)(month, text, sizeof text).number == 0;
+    if (strcmp(name, "empty") == 0)
+        return OF(report_add)(month, kind, NULL, 0).report.refused[DSSS_REFUSED_FRONT] > month.refused[8];
+    return OF(report_add)(month, kind, chips, len).report.airtime > month.airtime;
 }
 #else
 enum { LEAST = 1 };

@@ -1,4 +1,4 @@
-/* recordings.h: what bench.c and count.c look for a front in. */
+/* recordings.h: what bench.c and count.c look for a front in, and a report that they add to and spell out. */
 #ifndef RECORDINGS_H
 #define RECORDINGS_H
 
@@ -51,6 +51,18 @@ static inline size_t lay_recording(size_t which, uint64_t kind, size_t offsets, 
         plain_write(kind, DSSS_RATE_2, 0, 0, payload, sizeof payload, chips + last, len - last);
     return len;
 }
+
+/* A report of a busy month that takes one recording more: every refusal that can come has come. */
+static const dsss_report month = {
+    .seen = 999,
+    .frames = {86, 132, 245, 391},
+    .octets = {12900, 66000, 367500, 586500},
+    .refused = {[1] = 2, [8] = 12, [9] = 31, [10] = 24, [11] = 17, [12] = 26, [13] = 5, [14] = 3, [15] = 4, [16] = 21},
+    .airtime = 1492815,
+    .some = 1,
+    .lead = 1024,
+    .recording = 417,
+};
 
 /* Whether a find answers what it must: the frame at the last offset, or up to 10 chips before it, or 19. */
 static inline int finds_right(size_t which, size_t offsets, dsss_found found)

@@ -1,15 +1,17 @@
 #!/bin/sh
-# instructions.sh [-l dsss|plain|all] [-c write|hard|soft|bytes|front|choice|find|all] [-k long|short]
+# instructions.sh [-l dsss|plain|all] [-c write|hard|soft|bytes|front|choice|find|report|all] [-k long|short]
 #                 [-r RATE|all] [-n OCTETS]
 #
 # Instructions a chip of whole calls: one line a call, rate and library, that is the library and plain C. A read of the
 # front looks at no payload chip: its instructions are counted with few octets and with most, at 1 and 11 Mbit/s, if
 # none are asked for, and should not differ. A choice is that of a block of 64 symbols of 11 Mbit/s alone. A find is
 # made in each recording of bench/recordings.h, with 4,096 offsets, in noise with fewer too, or with as many as -n says;
-# its figure is not instructions a chip, but how many reads of a long front by the same library they are. Each figure is
-# the difference of two runs, without the call and with it. On x86-64 valgrind counts (callgrind); elsewhere the
-# emulator of the kit logs each instruction that it runs, about a million a second, and the lines of its log are
-# counted. The archives of target/ are taken as they stand, and only those asked for: `make archives` makes all.
+# its figure is not instructions a chip, but how many reads of a long front by the same library they are. Of the report
+# an add of an empty recording, adds of frames and a text are counted; the figure of an add is what it takes more than a
+# hard read of the same frame with room for 4,095 octets. Each figure is the difference of two runs, without the call
+# and with it. On x86-64 valgrind counts (callgrind); elsewhere the emulator of the kit logs each instruction that it
+# runs, about a million a second, and the lines of its log are counted. The archives of target/ are taken as they stand,
+# and only those asked for: `make archives` makes all.
 set -eu
 cd "$(dirname "$0")/.."
 
@@ -25,12 +27,12 @@ while getopts l:c:k:r:n: option; do
     esac
 done
 [ "$library" != all ] || library='dsss plain'
-[ "$call" != all ] || call='write hard soft bytes front choice find'
+[ "$call" != all ] || call='write hard soft bytes front choice find report'
 mkdir -p target/c
 work=$(mktemp -d)
 trap 'rm -rf "$work"' EXIT
 
-build() { # build LIBRARY [CHOICE|FIND]: $program counts its calls, or these, and is not older than what it is made of
+build() { # build LIBRARY [CHOICE|FIND|REPORT]: $program counts its calls, or these, and is not older than what it is made of
     program=target/c/count.$1${2:+.$2}
     case $1.$2 in
     plain.*) archive='' of=-DOF_PLAIN ;;
@@ -104,6 +106,19 @@ find_lines() { # find_lines LIBRARY: the recordings, by most offsets, and noise 
     done
 }
 
+report_lines() { # report_lines LIBRARY: an empty recording, frames of few and of many octets, and the text
+    build "$1" REPORT
+    row "$1" 'report empty' "$kind" - 0 0 "$(spent empty "$kind" 20 1)" -
+    for r in $(rates_or '20 110'); do
+        for n in ${octets:-10 1500}; do
+            read=$(spent read "$kind" "$r" "$n")
+            taken=$(spent add "$kind" "$r" "$n")
+            row "$1" 'report add' "$kind" "$r" "$n" "$(cat "$work/chips")" "$taken" "$((taken - read))"
+        done
+    done
+    row "$1" 'report text' - - - - "$(spent text "$kind" 20 1)" -
+}
+
 rates_or() { # rates_or RATES: those asked for, or these
     if [ "$rate" = all ]; then echo "$1"; else echo "$rate"; fi
 }
@@ -121,7 +136,10 @@ lines() { # lines CALL RATES SIZES [CHOICE]: a choice is that of a block, whatev
     done
 }
 
-[ "$call" = find ] || row of call kind rate octets chips instructions 'a chip'
+case $call in
+find | report) ;;
+*) row of call kind rate octets chips instructions 'a chip' ;;
+esac
 for c in $call; do
     case $c in
     choice)
@@ -133,6 +151,12 @@ for c in $call; do
         row of call kind rate offsets chips instructions fronts
         for l in $library; do
             find_lines "$l"
+        done
+        ;;
+    report)
+        row of call kind rate octets chips instructions 'past read'
+        for l in $library; do
+            report_lines "$l"
         done
         ;;
     front) lines front "$(rates_or '10 110')" '10 4095' ;;
