@@ -119,7 +119,7 @@ static void put(struct text *text, const char *word, uint64_t number)
 
 static void end_line(struct text *text)
 {
-    put_octets(text, "\n", 1);
+    text->octets[text->len++] = 10;
 }
 
 static void put_rates(struct text *text, const dsss_report *report)

@@ -32,7 +32,8 @@ mkdir -p target/c
 work=$(mktemp -d)
 trap 'rm -rf "$work"' EXIT
 
-build() { # build LIBRARY [CHOICE|FIND|REPORT]: $program counts its calls, or these, and is not older than what it is made of
+# build LIBRARY [CHOICE|FIND|REPORT]: $program counts its calls, or these, and is not older than what it is made of
+build() {
     program=target/c/count.$1${2:+.$2}
     case $1.$2 in
     plain.*) archive='' of=-DOF_PLAIN ;;
