@@ -2,7 +2,7 @@
  *
  * The library writes a frame as chips, and reads a hard, soft or byte recording of chips back to the
  * payload; of a hard one it tells from the front alone what is coming, and finds the first offset at
- * which a front can be read. Of many hard ones it keeps a report, and spells it out as text. What it
+ * which a front can be read. Of many hard ones it makes a report, and spells it out as text. What it
  * answers is fixed by docs/RULES.md and proved for every input; docs/PROMISES.md says where. No proof
  * covers this header: it is written by hand and held to the source by a test.
  *
@@ -186,7 +186,7 @@ typedef struct {
     uint64_t seen;        /* recordings counted, refused ones too; at most DSSS_RECORDINGS_MAX */
     uint64_t frames[4];   /* frames accepted, by rate */
     uint64_t octets[4];   /* their payload octets, by rate: the sum of n, not of LENGTH */
-    uint64_t refused[18]; /* recordings refused, by the number of the refusal: 1 and 8 to 16 can come */
+    uint64_t refused[18]; /* recordings refused, by number: 1 and 8 to 16 can come, the others stay 0 */
     uint64_t airtime;     /* microseconds of the frames accepted: 192 each, 96 if short, and LENGTH */
     uint64_t some;        /* 1 if a frame was accepted, else 0: lead 0 is a lead, and recording 0 one */
     uint64_t lead;        /* the smallest lead of the frames accepted, in counts; 0 if there is none */
