@@ -9,6 +9,7 @@ use crate::families::{Family, Out};
 use crate::figures::Figures;
 use crate::leads::{self, Won};
 use crate::relations::{Held, Relations};
+use crate::reported;
 use std::collections::BTreeMap;
 use std::io::{self, BufReader, Write};
 use std::process::{Child, ChildStdin, ChildStdout, Command, Stdio};
@@ -139,6 +140,7 @@ impl Bridge {
                 *outcome.met.entry(met).or_default() += 1;
                 decided::count(&call, &expected, &mut outcome.seen);
                 leads::count(&call, &expected, &leads, &mut outcome.won);
+                reported::count(&call, &expected, &leads, &mut outcome.held);
             }
             Ok(outcome)
         })

@@ -5,6 +5,7 @@ use crate::coming::{coming, Coming};
 use crate::finding::{find, Found};
 use crate::reading::read;
 use crate::refusals::CHIP_BUFFER;
+use crate::report_calls::ReportCall;
 use crate::writing::write;
 use std::fmt::{LowerHex, Write as _};
 use std::io::{self, Read};
@@ -17,6 +18,7 @@ pub enum Call {
     ReadBytes { kind: u64, bytes: Vec<i8>, octets_len: usize },
     ReadFront { kind: u64, chips: Vec<u8> },
     Find { kind: u64, chips: Vec<u8>, offsets: u64 },
+    Report(ReportCall),
 }
 
 /// What a call answers: its numbers in the order of the record, and the lent buffer after the call, or the part that it
@@ -28,7 +30,7 @@ pub struct Answer {
 }
 
 /// What this program expects of a call: the answer that the document gives, what is counted of it, and the leads of the
-/// symbols that a full read decides, refused or not.
+/// symbols that a full read decides, refused or not; so too of the one recording more that a report is to count.
 pub struct Expected {
     pub answer: Answer,
     pub met: Met,
@@ -101,6 +103,7 @@ impl Call {
             Call::ReadBytes { .. } => "read bytes",
             Call::ReadFront { .. } => "read front",
             Call::Find { .. } => "find",
+            Call::Report(call) => call.op(),
         }
     }
 
@@ -109,6 +112,7 @@ impl Call {
             Call::Write { .. } => &["number", "chips"],
             Call::ReadFront { .. } => &["number", "place", "rate", "length", "clock", "n", "used", "at", "count"],
             Call::Find { .. } => &["number", "offset", "rate", "length", "clock", "n"],
+            Call::Report(call) => call.names(),
             _ => &["number", "place", "rate", "length", "n", "used", "clock", "lead", "symbol"],
         }
     }
@@ -120,6 +124,7 @@ impl Call {
             | Call::ReadSoft { octets_len, .. }
             | Call::ReadBytes { octets_len, .. } => *octets_len,
             Call::ReadFront { .. } | Call::Find { .. } => 0,
+            Call::Report(call) => call.lent_len(),
         }
     }
 
@@ -161,6 +166,7 @@ impl Call {
                 numbers(&[6, *kind, chips.len() as u64, *offsets]);
                 to.extend(chips);
             }
+            Call::Report(call) => call.request(to),
         }
     }
 
@@ -181,7 +187,7 @@ impl Call {
     /// The recording of which a full read is asked.
     pub fn recording(&self) -> Option<Recording<'_>> {
         match self {
-            Call::Write { .. } | Call::ReadFront { .. } | Call::Find { .. } => None,
+            Call::Write { .. } | Call::ReadFront { .. } | Call::Find { .. } | Call::Report(_) => None,
             Call::ReadHard { chips, .. } => Some(Recording::Hard(chips)),
             Call::ReadSoft { i, q, .. } => Some(Recording::Soft(i, q)),
             Call::ReadBytes { bytes, .. } => Some(Recording::Bytes(bytes)),
@@ -205,6 +211,7 @@ impl Call {
                 front_record(front, chips.len())
             }
             Call::Find { kind, chips, offsets } => found_record(find(*kind, chips, *offsets), chips.len()),
+            Call::Report(call) => (call.expected(&mut buffer, &mut leads), Part::Front, false),
             Call::ReadHard { kind, .. } | Call::ReadSoft { kind, .. } | Call::ReadBytes { kind, .. } => {
                 let recording = self.recording().expect("a full read has one");
                 let mut read = read(*kind, recording, &mut buffer);
@@ -229,6 +236,7 @@ impl Call {
                 lines.push(format!("  q, the bits of each f32: {}", hex_row(q, cut)));
             }
             Call::ReadBytes { bytes, .. } => lines.push(format!("  bytes {}", hex(bytes, cut))),
+            Call::Report(call) => lines.extend(call.shown_rows(cut)),
         }
         lines.join("\n")
     }
@@ -264,6 +272,7 @@ impl Call {
             }
             Call::ReadFront { kind, chips } => format!("kind {kind}, chips_len {}", chips.len()),
             Call::Find { kind, chips, offsets } => format!("kind {kind}, chips_len {}, offsets {offsets}", chips.len()),
+            Call::Report(call) => call.shown_numbers(),
         }
     }
 
@@ -298,7 +307,7 @@ fn found_record(found: Found, recorded: usize) -> (Vec<u64>, Part, bool) {
     (vec![number, offset, rate, length, clock, n], Part::of(n, 0, recorded), clock == 1)
 }
 
-fn hex(row: &[impl LowerHex], cut: usize) -> String {
+pub fn hex(row: &[impl LowerHex], cut: usize) -> String {
     let mut text = String::new();
     for octet in row.iter().take(cut) {
         write!(text, "{octet:02x}").expect("a String takes all");

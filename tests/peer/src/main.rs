@@ -40,6 +40,7 @@ mod writing;
 mod reading;
 mod coming;
 mod finding;
+mod report;
 mod table_p;
 
 // The comparison.
@@ -48,10 +49,13 @@ mod calls;
 mod decided;
 mod families;
 mod figures;
+mod kept;
 mod leads;
 mod owed;
 mod random;
 mod relations;
+mod report_calls;
+mod reported;
 mod starts;
 
 use bridge::{Bridge, Outcome, Run};

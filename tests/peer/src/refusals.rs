@@ -2,7 +2,8 @@
 //!
 //! Writing: 1, 2, 3, 4, 5, 6. Reading: 1, 7, 8, then 9 and 10 over the front, 11, 12, 13, 14, 15, 16, 17, then 9 and
 //! 10 over the payload. In each part, 9 is looked for through the whole part before 10. Telling what is coming: 1, 8,
-//! then 9 and 10 over the front, 11, 12, 13, 14, 15, 16. Finding the start: 1, 18, 19.
+//! then 9 and 10 over the front, 11, 12, 13, 14, 15, 16. Finding the start: 1, 18, 19. A month's report: 31 alone; of a
+//! whole list 7, then 31; of its text 17.
 
 /// kind is neither 0 (long) nor 1 (short)
 pub const KIND: u64 = 1;
@@ -16,7 +17,7 @@ pub const PAYLOAD: u64 = 4;
 pub const PHASE: u64 = 5;
 /// chip buffer shorter than the frame
 pub const CHIP_BUFFER: u64 = 6;
-/// I and Q rows differ in length, or an odd number of bytes
+/// I and Q rows differ in length, or an odd number of bytes; of a list, not as many kinds as recordings
 pub const ROWS: u64 = 7;
 /// recording shorter than the front
 pub const FRONT: u64 = 8;
@@ -36,12 +37,14 @@ pub const SERVICE: u64 = 14;
 pub const LENGTH: u64 = 15;
 /// recording ends inside the payload
 pub const ENDS: u64 = 16;
-/// octet buffer shorter than n
+/// octet buffer shorter than n; of a report's text, than the text
 pub const OCTET_BUFFER: u64 = 17;
 /// number of offsets to try isn't 1 to 4,096
 pub const OFFSETS: u64 = 18;
 /// no offset to try from which a read meets none of 8 to 15, 9 and 10 over the front only
 pub const NO_START: u64 = 19;
+/// the report has seen 1,000 recordings, or holds a number above what 1,000 come to; of a list, it has more than 1,000
+pub const REPORT: u64 = 31;
 
 /// The longest payload in octets.
 pub const MOST_OCTETS: usize = 4095;

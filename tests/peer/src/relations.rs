@@ -1,10 +1,12 @@
 //! How the answers over one hard recording go together, whatever this program expects of each: what its front tells,
-//! what full reads answer, and what is found in it.
+//! what full reads answer, and what is found in it; and how reports go together.
 
 use crate::bits::Rate;
 use crate::calls::{Answer, Call};
 use crate::frame::Kind;
+use crate::kept::Reports;
 use crate::refusals::{ENDS, GROWTH, OCTET_BUFFER, UNUSABLE};
+use crate::reported::Reported;
 use crate::starts::{Sought, Start};
 use std::collections::BTreeMap;
 
@@ -29,6 +31,8 @@ pub enum Held {
     ShortOfRoom,
     /// This, of a find or of a read behind it.
     Finds(Start),
+    /// This, of a call of the month's report.
+    Reports(Reported),
 }
 
 /// What the front of a recording told.
@@ -38,11 +42,12 @@ struct Told {
     numbers: [u64; 9],
 }
 
-/// The last read of a front and the last find, to which those calls are held that follow them.
+/// The last read of a front, the last find and the last reports, to which those calls are held that follow them.
 #[derive(Default)]
 pub struct Relations {
     last: Option<Told>,
     sought: Option<Sought>,
+    reports: Reports,
 }
 
 impl Relations {
@@ -63,6 +68,9 @@ impl Relations {
                 if let Some(told) = self.last.as_ref().filter(|told| told.kind == *kind && told.chips == *chips) {
                     count(Some(told.read(&answer.numbers, *octets_len as u64)?));
                 }
+            }
+            Call::Report(call) => {
+                self.reports.hold(call, answer)?.into_iter().for_each(|what| count(Some(Held::Reports(what))));
             }
             _ => {}
         }

@@ -1,0 +1,112 @@
+//! The calls of the month's report: their requests, what is expected of each, and how they are shown.
+
+use crate::calls::hex;
+use crate::report::{one_more, report_list, report_text, Reading, Report, ENTRIES};
+
+/// A call of the report. The report is handed in and answered by value; the text's buffer is given by its length alone.
+#[derive(Clone)]
+pub enum ReportCall {
+    Add { report: Report, kind: u64, chips: Vec<u8> },
+    List { kinds: Vec<u64>, recordings: Vec<Vec<u8>> },
+    Text { report: Report, room: usize },
+}
+
+/// The number, and the report's own numbers in their order.
+#[rustfmt::skip]
+const NAMES: [&str; 1 + ENTRIES] = [
+    "number", "seen", "frames 10", "frames 20", "frames 55", "frames 110", "octets 10", "octets 20", "octets 55",
+    "octets 110", "refused 0", "refused 1", "refused 2", "refused 3", "refused 4", "refused 5", "refused 6",
+    "refused 7", "refused 8", "refused 9", "refused 10", "refused 11", "refused 12", "refused 13", "refused 14",
+    "refused 15", "refused 16", "refused 17", "airtime", "some", "lead", "recording",
+];
+
+impl ReportCall {
+    pub fn op(&self) -> &'static str {
+        match self {
+            ReportCall::Add { .. } => "report add",
+            ReportCall::List { .. } => "report list",
+            ReportCall::Text { .. } => "report text",
+        }
+    }
+
+    pub fn names(&self) -> &'static [&'static str] {
+        match self {
+            ReportCall::Add { .. } | ReportCall::List { .. } => &NAMES,
+            ReportCall::Text { .. } => &["number", "octets"],
+        }
+    }
+
+    pub fn lent_len(&self) -> usize {
+        match self {
+            ReportCall::Text { room, .. } => *room,
+            _ => 0,
+        }
+    }
+
+    /// The request: all numbers as u64, little-endian. Each recording of a list stands behind its length.
+    pub fn request(&self, to: &mut Vec<u8>) {
+        let mut numbers = |list: &[u64]| list.iter().for_each(|number| to.extend(number.to_le_bytes()));
+        match self {
+            ReportCall::Add { report, kind, chips } => {
+                numbers(&[&[7], &report.numbers()[..], &[*kind, chips.len() as u64]].concat());
+                to.extend(chips);
+            }
+            ReportCall::List { kinds, recordings } => {
+                numbers(&[&[8, kinds.len() as u64], &kinds[..], &[recordings.len() as u64]].concat());
+                for chips in recordings {
+                    to.extend((chips.len() as u64).to_le_bytes());
+                    to.extend(chips);
+                }
+            }
+            ReportCall::Text { report, room } => {
+                numbers(&[&[9], &report.numbers()[..], &[*room as u64]].concat());
+            }
+        }
+    }
+
+    /// The numbers that are expected; a text's buffer is filled. Of one recording more the leads of its symbols too.
+    pub fn expected(&self, buffer: &mut [u8], leads: &mut Vec<i32>) -> Vec<u64> {
+        let answered = |(number, report): (u64, Report)| [&[number], &report.numbers()[..]].concat();
+        match self {
+            ReportCall::Add { report, kind, chips } => {
+                let mut reading = Reading::of(*kind, chips);
+                *leads = reading.take_leads();
+                answered(one_more(report, reading))
+            }
+            ReportCall::List { kinds, recordings } => answered(report_list(kinds, recordings)),
+            ReportCall::Text { report, .. } => {
+                let (number, octets) = report_text(report, buffer);
+                vec![number, octets]
+            }
+        }
+    }
+
+    pub fn shown_numbers(&self) -> String {
+        let shown = |report: &Report| {
+            let numbers = report.numbers();
+            let named = NAMES[1..].iter().zip(numbers).map(|(name, number)| format!("{name} {number}"));
+            named.collect::<Vec<_>>().join(", ")
+        };
+        match self {
+            ReportCall::Add { report, kind, chips } => {
+                format!("{}; kind {kind}, chips_len {}", shown(report), chips.len())
+            }
+            ReportCall::List { kinds, recordings } => {
+                format!("{} kinds, {} recordings; kinds {kinds:?}", kinds.len(), recordings.len())
+            }
+            ReportCall::Text { report, room } => format!("{}; octets_len {room}", shown(report)),
+        }
+    }
+
+    /// The recordings in hex, cut after so many octets in all.
+    pub fn shown_rows(&self, cut: usize) -> Vec<String> {
+        match self {
+            ReportCall::Add { chips, .. } => vec![format!("  chips {}", hex(chips, cut))],
+            ReportCall::List { recordings, .. } => {
+                let each = cut / recordings.len().max(1);
+                recordings.iter().map(|chips| format!("  chips_len {}: {}", chips.len(), hex(chips, each))).collect()
+            }
+            ReportCall::Text { .. } => Vec::new(),
+        }
+    }
+}
