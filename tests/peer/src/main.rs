@@ -52,6 +52,7 @@ mod figures;
 mod kept;
 mod leads;
 mod owed;
+mod owed_reports;
 mod random;
 mod relations;
 mod report_calls;

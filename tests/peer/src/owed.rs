@@ -3,7 +3,8 @@
 //! are refused with each number, and full reads that go together with fronts in each way; symbols of 11 Mbit/s that are
 //! decided among words of one score, in each way; smallest leads in each part at each rate, shared ones, ties and those
 //! that refused reads keep; starts found of each kind and rate, at each remainder of 512, early, late and neither,
-//! behind offsets refused with each number; and no family that spends a third of all calls on one number.
+//! behind offsets refused with each number; reports as `owed_reports` has it; and no family that spends a third of all
+//! calls on one number.
 
 use crate::bits::Rate;
 use crate::bridge::Outcome;
@@ -14,6 +15,7 @@ use crate::leads::Lead::{
     self, Above, Alone, At as LeadAt, From, InBoth, InFront, Kept, Next, OfAllowed, Shared, Tied,
 };
 use crate::leads::Stands::{First, Header, Payload, Preamble};
+use crate::owed_reports::reports;
 use crate::relations::Held;
 use crate::starts::Start::{self, Early, Found, Late, Missed, Passed, ReadRefused};
 
@@ -34,7 +36,7 @@ const fn owed(op: &'static str, part: Part, shown: &'static str, least: &'static
     Owed { op, part, shown, least }
 }
 
-const OWED: [Owed; 26] = [
+const OWED: [Owed; 29] = [
     owed(
         "write",
         Part::Front,
@@ -190,6 +192,10 @@ const OWED: [Owed; 26] = [
     owed("find", Part::LongFront, "none in 6,001 or more", &[(19, 38, 0)]),
     owed("find", Part::Payload, "to 300 octets", &[(0, 500, 560)]),
     owed("find", Part::LongPayload, "above 300 octets", &[(0, 8, 4)]),
+    // No refusal of a recording: these are counted.
+    owed("report add", Part::Front, "one recording more", &[(0, 2_000, 0), (31, 1_000, 0)]),
+    owed("report list", Part::Front, "lists", &[(0, 90, 0), (7, 20, 0), (31, 15, 0)]),
+    owed("report text", Part::Front, "texts", &[(0, 1_000, 0), (17, 500, 0)]),
 ];
 
 /// How often a front must tell of each kind and rate, without the clock bit and with it.
@@ -277,10 +283,10 @@ const DECIDED: [(Decided, &str, [u64; 3]); 21] = [
 const AT_EACH: u64 = 79;
 
 /// A way that is owed, by its name, how often it was seen, and how often it must be.
-type Way = (&'static str, u64, u64);
+pub type Way = (&'static str, u64, u64);
 
 /// Shows how often each way was seen; what is short of it.
-fn ways(op: &str, title: &str, ways: &[Way]) -> Vec<String> {
+pub fn ways(op: &str, title: &str, ways: &[Way]) -> Vec<String> {
     let words: Vec<String> = ways.iter().map(|(shown, count, _)| format!("{shown}: {count}")).collect();
     println!("{op:<10}  {title:<21}  {}", words.join(", "));
     let rare = ways.iter().filter(|(_, count, least)| count < least);
@@ -490,7 +496,7 @@ pub fn met(total: &Outcome, largest: (u64, &str)) -> Result<(), String> {
             short.push(format!("{op} answered {number} {count} times where it can't"));
         }
     }
-    for of_total in [held, decided, leads, starts] {
+    for of_total in [held, decided, leads, starts, reports] {
         short.extend(of_total(total));
     }
     if total.calls < CALLS {

@@ -32,6 +32,11 @@
 //! - A frame cut or unusable in its payload, or behind unusable chips, passed over: `find_damage`.
 //! - A start left out behind a front that is refused, or among fronts that overlap: `find_damage`.
 //! - What a front that was refused tells, shown with 19: `find_damage`.
+//! - Of several smallest leads the last told, or a lead of 0 taken for none: `report_kept`.
+//! - Recordings counted from the accepted ones only, or from 1: `report_kept`.
+//! - The 1,001st counted, or not a one of more than 1,000; 31 before 7: `report_lists`.
+//! - A limit off by one, or left out for an entry: `report_edges`.
+//! - A line left out or told of a count of 0, a number cut, a zero before one: `report_text`.
 
 mod bytes;
 mod coming;
@@ -44,6 +49,8 @@ mod leads;
 mod long;
 mod published;
 mod refused;
+mod report;
+mod report_edges;
 mod restored;
 mod soft;
 mod steps;
@@ -143,6 +150,10 @@ families! {
     1303 finding_damage::find_damage: "fronts with chips spoiled, cut off and turned, behind wrong ones and others",
     1304 finding::find_noise: "recordings without a frame or with one behind much else, up to 4,096 offsets",
     1305 finding::find_all: "every number of offsets from 1 on, and the front from each offset, one by one",
+    1401 report::report_kept: "reports kept one recording after the other, beside those of the list so far",
+    1402 report::report_lists: "whole lists of none to 2,000, of each sort, and with a kind too many or too few",
+    1403 report_edges::report_edges: "one recording more than any report has, at the limits of each number",
+    1404 report_edges::report_text: "texts of any report, with rooms about the text's octets",
 }
 
 /// Where a family puts its calls.

@@ -120,17 +120,17 @@ pub fn empty_rows(out: &mut Out) {
 
 /// What can be wrong with a reading, in the order of the refusals.
 pub const WRONGS: usize = 14;
-const KIND: usize = 0;
+pub const KIND: usize = 0;
 pub const ROWS: usize = 1;
-const FRONT: usize = 2;
-const FRONT_UNUSABLE: usize = 3;
+pub const FRONT: usize = 2;
+pub const FRONT_UNUSABLE: usize = 3;
 pub const FRONT_GROWTH: usize = 4;
 pub const SFD: usize = 5;
 pub const CRC: usize = 6;
 pub const SIGNAL: usize = 7;
 pub const SERVICE: usize = 8;
 pub const LENGTH: usize = 9;
-const ENDS: usize = 10;
+pub const ENDS: usize = 10;
 const ROOM: usize = 11;
 const PAYLOAD_UNUSABLE: usize = 12;
 const PAYLOAD_GROWTH: usize = 13;
