@@ -11,6 +11,7 @@
 //! ```text
 //! peer [--long] [--singly] [--brief] [--until-first] [--vectors DIR] [--family NAME,..] [--replay NAME CASE]
 //!     -- BRIDGE WORDS..
+//! peer --month -- PROGRAM WORDS..
 //! peer --list
 //! ```
 //!
@@ -22,6 +23,8 @@
 //! brief, only the families' lines are printed. Run until the first difference, it shows that one and ends there. A
 //! replay prints the whole call and both answers. Calls go ahead of the answers; sent singly, a call at which the
 //! bridge dies is known by its case.
+//!
+//! Of a month no bridge is asked: the program runs over files that are laid for it, and what it prints is compared.
 //!
 //! Built with no crates, in the repository's root:
 //!
@@ -53,6 +56,7 @@ mod kept;
 mod leads;
 mod owed;
 mod owed_reports;
+mod printed;
 mod random;
 mod relations;
 mod report_calls;
@@ -71,6 +75,7 @@ struct Options {
     brief: bool,
     vectors: PathBuf,
     family: Option<String>,
+    month: bool,
     bridge: Vec<String>,
 }
 
@@ -78,7 +83,7 @@ fn options() -> Result<Option<Options>, String> {
     let mut words = std::env::args().skip(1);
     let run = Run { long: false, singly: false, until_first: false, only_case: None };
     let vectors = "tests/vectors".into();
-    let mut options = Options { run, brief: false, vectors, family: None, bridge: Vec::new() };
+    let mut options = Options { run, brief: false, vectors, family: None, month: false, bridge: Vec::new() };
     while let Some(word) = words.next() {
         let mut value = || words.next().ok_or(format!("{word} needs a value"));
         match word.as_str() {
@@ -93,13 +98,14 @@ fn options() -> Result<Option<Options>, String> {
                 let case = value()?;
                 options.run.only_case = Some(case.parse().map_err(|_| format!("{case} is no case number"))?);
             }
+            "--month" => options.month = true,
             "--list" => return Ok(None),
             "--" => options.bridge = words.by_ref().collect(),
             _ => return Err(format!("unknown option {word}")),
         }
     }
     if options.bridge.is_empty() {
-        return Err("the bridge's command is missing after --".to_string());
+        return Err("the command is missing after --".to_string());
     }
     Ok(Some(options))
 }
@@ -121,14 +127,8 @@ fn chosen(names: &Option<String>) -> Result<Vec<&'static Family>, String> {
     }
 }
 
-fn run() -> Result<(), String> {
-    let options = match options()? {
-        Some(options) => options,
-        None => {
-            list();
-            return Ok(());
-        }
-    };
+/// The published figures, this program being as they and the document say.
+fn checked(options: &Options) -> Result<Figures, String> {
     let differences = table_p::differences();
     if !differences.is_empty() {
         return Err(format!("this program isn't as the document says: {}", differences.join("; ")));
@@ -139,7 +139,21 @@ fn run() -> Result<(), String> {
         println!("Table P: 12 entries as the document says");
         agree.iter().for_each(|(name, count)| println!("{name}: {count} agree"));
     }
+    Ok(figures)
+}
 
+fn run() -> Result<(), String> {
+    let options = match options()? {
+        Some(options) => options,
+        None => {
+            list();
+            return Ok(());
+        }
+    };
+    let figures = checked(&options)?;
+    if options.month {
+        return printed::compare(&options.bridge);
+    }
     let families = chosen(&options.family)?;
     let mut bridge = Bridge::start(&options.bridge).map_err(|error| format!("the bridge didn't start: {error}"))?;
     println!("{:<32} {:>9} {:>11} {:>8}", "family", "calls", "mismatches", "seconds");

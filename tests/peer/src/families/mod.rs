@@ -49,7 +49,7 @@ mod leads;
 mod long;
 mod published;
 mod refused;
-mod report;
+pub mod report;
 mod report_edges;
 mod restored;
 mod soft;

@@ -82,7 +82,7 @@ fn seen(out: &mut Out) {
     }
 }
 
-/// Any yes or no, any lead and any recording, with frames whose leads are smaller, the same and larger, and refused ones.
+/// Any yes or no, any lead and any recording, with frames whose leads are smaller, the same and larger, and without.
 fn leads(out: &mut Out) {
     for some in [0, 1, 2, 3, 255, 256, 1 << 32, 1 << 40, 1 << 63, u64::MAX] {
         for lead in [0, 1, 1023, 1024, 2047, 2048, 2049, 3 * 1024, 11 * 1024, 1 << 32, u64::MAX] {
