@@ -152,7 +152,7 @@ fn run() -> Result<(), String> {
     };
     let figures = checked(&options)?;
     if options.month {
-        return printed::compare(&options.bridge);
+        return printed::compare(&options.bridge, options.run.until_first);
     }
     let families = chosen(&options.family)?;
     let mut bridge = Bridge::start(&options.bridge).map_err(|error| format!("the bridge didn't start: {error}"))?;

@@ -236,9 +236,9 @@ fn fault(command: &[PathBuf], folder: &Path, files: &[Named]) -> io::Result<Opti
     Ok(Some(format!("{} files, {}\n{said}printed:\n{printed}expected:\n{right}", files.len(), done.status)))
 }
 
-/// Compares all runs, and shows what they met. The words that lead to files are made whole, the runs' folders being
-/// others.
-pub fn compare(command: &[String]) -> Result<(), String> {
+/// Compares all runs, or those up to the first difference, and shows what they met. The words that lead to files are
+/// made whole, the runs' folders being others.
+pub fn compare(command: &[String], until_first: bool) -> Result<(), String> {
     let command: Vec<PathBuf> =
         command.iter().map(|word| fs::canonicalize(word).unwrap_or_else(|_| word.into())).collect();
     let folder = std::env::temp_dir().join(format!("month-{}", std::process::id()));
@@ -250,6 +250,9 @@ pub fn compare(command: &[String]) -> Result<(), String> {
         if let Some(fault) = fault.map_err(|error| format!("run {case} can't be made: {error}"))? {
             println!("month, run {case}: MISMATCH: {fault}");
             faults += 1;
+        }
+        if until_first && faults > 0 {
+            break;
         }
     }
     fs::remove_dir_all(&folder).map_err(|error| format!("the runs' folder stays: {error}"))?;

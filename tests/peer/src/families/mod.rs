@@ -151,7 +151,7 @@ families! {
     1304 finding::find_noise: "recordings without a frame or with one behind much else, up to 4,096 offsets",
     1305 finding::find_all: "every number of offsets from 1 on, and the front from each offset, one by one",
     1401 report::report_kept: "reports kept one recording after the other, beside those of the list so far",
-    1402 report::report_lists: "whole lists of none to 2,000, of each sort, and with a kind too many or too few",
+    1402 report::report_lists: "whole lists of none to 16,384, of each sort, and with a kind too many or too few",
     1403 report_edges::report_edges: "one recording more than any report has, at the limits of each number",
     1404 report_edges::report_text: "texts of any report, with rooms about the text's octets",
 }

@@ -197,7 +197,7 @@ pub fn report_kept(out: &mut Out) {
         let of = led_list(leads, &mut out.random);
         keep(out, &of);
     }
-    for _ in 0..out.cases(6) {
+    for _ in 0..out.cases(12) {
         let of: Vec<Recorded> = (0..out.random.within(1, 50)).map(|_| any_recorded(&mut out.random)).collect();
         keep(out, &of);
     }
@@ -265,13 +265,19 @@ fn long_lists(out: &mut Out) {
         of[1000] = refused_with(refused, &mut out.random);
         out.call(list(&of));
     }
+    // Nothing but a frame behind 1,000, nothing behind them, and nothing at all.
     let mut of = thousand(1001, &mut out.random);
-    of[..1000].fill((0, Vec::new()));
+    let empty = || (out.random.below(3) as u64, Vec::new());
+    let empties: Vec<Recorded> = std::iter::repeat_with(empty).take(16_384).collect();
+    of[..1000].clone_from_slice(&empties[..1000]);
     out.call(list(&of));
-    // Few before, so that 16 bits or 10 of the length wouldn't do.
-    for len in [1024, 1025, 1279, 1280, 2000] {
-        let of = thousand(len, &mut out.random);
-        out.call(list(&of));
+    of = thousand(1003, &mut out.random);
+    of[1000..].clone_from_slice(&empties[1000..1003]);
+    out.call(list(&of));
+    out.call(list(&of[..1001]));
+    // So long that a narrower length is less than 1,000.
+    for len in [1000, 1001, 1024, 1025, 1279, 1280, 2047, 2048, 4099, 8192, 16_384] {
+        out.call(list(&empties[..len]));
     }
 }
 
