@@ -93,8 +93,8 @@ pub extern "C" fn dsss_report_list(kinds: &[u64], list: &[&[u8]]) -> Counted
 
 // A report's text; zeros after the text, or everywhere after a refusal.
 #[no_mangle]
-pub extern "C" fn dsss_report_text(report: Report, octets: &mut [u8]) -> Spelled
-    ensures spelled { λ s. ⌜ Spells report (length (now (octets .entry))) s (now (octets .exit)) ⌝ }
+pub extern "C" fn dsss_report_text(report: Report, text: &mut [u8]) -> Spelled
+    ensures spelled { λ s. ⌜ Spells report (length (now (text .entry))) s (now (text .exit)) ⌝ }
 {
-    speller::text(report, octets)
+    speller::text(report, text)
 }
