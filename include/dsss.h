@@ -358,7 +358,7 @@ dsss_counted dsss_report_list(const uint64_t *kinds, size_t kinds_len, const dss
  *          buffer is just as long; write octets octets of it.
  * Refused: 17, and octets 0.
  * Buffer:  text[] is the text and then 0s; refused, all 0s.
- * Proved:  crates/dsss, dsss_report_text, record Spells: answer and text. */
+ * Proved:  crates/dsss, dsss_report_text, record Spells: answer and octets. */
 dsss_text dsss_report_text(dsss_report report, uint8_t *text, size_t text_len);
 
 /* The sentence of an answer's number, to show to people. A number that is neither 0 nor a refusal
