@@ -195,7 +195,7 @@ const OWED: [Owed; 29] = [
     // No refusal of a recording: these are counted.
     owed("report add", Part::Front, "one recording more", &[(0, 2_500, 0), (31, 1_000, 0)]),
     owed("report list", Part::Front, "lists", &[(0, 120, 0), (7, 22, 0), (31, 24, 0)]),
-    owed("report text", Part::Front, "texts", &[(0, 1_000, 0), (17, 600, 0)]),
+    owed("report text", Part::Front, "texts", &[(0, 1_000, 0), (17, 650, 0)]),
 ];
 
 /// How often a front must tell of each kind and rate, without the clock bit and with it.

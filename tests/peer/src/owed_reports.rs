@@ -80,10 +80,11 @@ const LISTED: [Row; 19] = [
     (Reported::ListCut, "as its first 1,000", 14),
 ];
 
-const TOLD: [Row; 14] = [
+const TOLD: [Row; 15] = [
     (Room(0), "no room", 30),
+    (Room(6), "one octet", 2),
     (Room(1), "an octet short", 480),
-    (Room(2), "shorter", 75),
+    (Room(2), "shorter", 115),
     (Room(3), "just enough", 500),
     (Room(4), "one more", 180),
     (Room(5), "more", 310),

@@ -4,8 +4,10 @@
 //! than 65,536 octets, or can't be read are passed over; so is all behind 1,000 recordings. Each run has a folder of
 //! its own, and names its files from there. It must end with status 0 and say nothing else.
 
+use crate::bits::Rate;
 use crate::families::pairs;
 use crate::families::report::{any_recorded, apart, cheap, led_by, refused_with, sent, shuffle, Recorded, REFUSED};
+use crate::frame::Kind;
 use crate::random::Random;
 use crate::report::{report_of, text, Reading, Report, MOST_SEEN};
 use std::collections::{BTreeMap, BTreeSet};
@@ -31,8 +33,9 @@ enum Leads {
 type Named = (Vec<u8>, Leads);
 
 /// What the runs must meet, and how often at least.
-const OWED: [(&str, u64); 15] = [
+const OWED: [(&str, u64); 16] = [
     ("no file", 1),
+    ("each kind", 2),
     ("empty", 9),
     ("kind alone", 16),
     ("just 65,536 octets", 6),
@@ -97,9 +100,11 @@ fn count(files: &[Named], met: &mut Met) {
     let taken: Vec<bool> = files.iter().map(|(_, leads)| leads.recording().is_some()).collect();
     let last = files.iter().rev().find_map(|(_, leads)| leads.recording());
     let more = taken.iter().filter(|taken| **taken).count() > readings.len();
+    let kinds: BTreeSet<u64> = files.iter().filter_map(|(_, leads)| leads.recording()).map(|(kind, _)| kind).collect();
     let names: BTreeSet<&[u8]> = files.iter().map(|(name, _)| &name[..]).collect();
     let seen = [
         ("no file", files.is_empty()),
+        ("each kind", kinds.len() == 256),
         ("empty", of_len(&|len| len == 0)),
         ("kind alone", of_len(&|len| len == 1)),
         ("just 65,536 octets", of_len(&|len| len == LONGEST)),
@@ -189,6 +194,11 @@ fn runs(random: &mut Random) -> Vec<Vec<Named>> {
     let one_each: Vec<Recorded> = REFUSED.into_iter().map(|refused| refused_with(refused, random)).collect();
     runs.push(recorded(&one_each));
     runs.push(recorded(&pairs().map(|(kind, rate)| sent(kind, rate, 50, random)).collect::<Vec<_>>()));
+    // Frames of either kind under each octet as their kind.
+    for kind in Kind::BOTH {
+        let (_, chips) = sent(kind, Rate::Mbit11, 1, random);
+        runs.push(recorded(&(0..256).map(|kind| (kind, chips.clone())).collect::<Vec<_>>()));
+    }
     // One file named over and over, between others.
     let twice = recorded(&[any_sent(random), led_by(1, random), cheap(random)]);
     runs.push([0, 1, 0, 1, 2, 2, 0].map(|at: usize| twice[at].clone()).to_vec());

@@ -43,7 +43,7 @@ pub enum Reported {
     Behind { accepted: bool },
     /// A list with more kinds than recordings or with fewer, of more than 1,000 or not.
     Unpaired { kinds: bool, over: bool },
-    /// A text with so much room: 0, too short by one, otherwise too short, just enough, one more, much more.
+    /// A text with so much room: 0, too short by one, otherwise too short, just enough, one more, more; 6 is one octet.
     Room(usize),
     /// A text in which this number's line stands alone among its kind.
     Line(usize),
@@ -169,6 +169,7 @@ fn listed(kinds: &[u64], recordings: &[Vec<u8>], expected: &Answer) -> Vec<Repor
 fn room_of(room: usize, text: usize) -> usize {
     match (room, room as i64 - text as i64) {
         (0, _) => 0,
+        (1, _) => 6,
         (_, -1) => 1,
         (_, ..=-2) => 2,
         (_, 0) => 3,

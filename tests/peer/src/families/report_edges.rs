@@ -150,6 +150,11 @@ pub fn report_text(out: &mut Out) {
     told(out, &Report::default(), &ROOMS);
     told(out, &Report::of_numbers(&[u64::MAX; ENTRIES]), &ROOMS);
     told(out, &at_limits(), &ROOMS);
+    for room in 1..24 {
+        for report in [Report::default(), at_limits()] {
+            out.call(Call::Report(ReportCall::Text { report, room }));
+        }
+    }
     for entry in 0..ENTRIES {
         for number in [1, 7, 10, 1000, u64::MAX] {
             told(out, &only(entry, number), if number == 1 { &ROOMS } else { &[-1, 0] });
