@@ -9,7 +9,8 @@
  * Passed over without a word are a file that cannot be opened or read to its end, an empty one, one of more
  * than 65,536 octets, and every recording after the thousandth. What a recording is refused with is counted,
  * so the status is 0 all the same; it is 1, with a line on the standard error, only if the text cannot be
- * written. */
+ * written; a signal, as of a pipe that nobody reads, ends it as any program. A pipe that is named is waited
+ * for. */
 #include "dsss.h"
 
 #include <stdio.h>

@@ -8,7 +8,8 @@ name, the same parameters in the same order, and an answer with the same members
 A row in C is a pointer and NAME_len, in Rattle a slice; a record of just one row stands for that row,
 so that a row of such records is a slice of slices. A record may be declared in another crate; where it
 is a parameter or a member it is compared by its own members. Each call's comment must have the fields
-Answer, Refused, Buffer and Proved, say where the call is proved, and name each row and number.
+Answer, Refused, Buffer and Proved, say where the call is proved and by which record, which its
+contract must ensure, and name each row and number.
 
 A call's symbol is its name, or what a macro `#define dsss_call dsss_call_2` makes of it. What each
 symbol was published with stands in published.txt: with other parameters or another answer the call
@@ -136,6 +137,12 @@ def rattle_calls(text):
             for attributes, name, parameters, answer in re.findall(pattern, text)}
 
 
+def rattle_contracts(text):
+    """Call name -> what stands between its parameters and its body."""
+    parts = re.split(r"pub\s+extern\s+\"C\"\s+fn\s+", text)[1:]
+    return {re.match(r"\w+", part).group(): part.split("\n{", 1)[0] for part in parts}
+
+
 def rattle_records(text):
     """Record name -> its members, for each #[repr(C)] struct."""
     pattern = r"((?:#\[[^\]]*\]\s*)*)pub\s+struct\s+(\w+)\s*\{(.*?)\}"
@@ -222,9 +229,17 @@ def compare_comment(name, parameters, comment):
               if field not in comment]
     faults += [f"{name}: its comment does not name {row}" for row, _ in parameters
                if not re.search(rf"\b{row}\b", comment)]
-    if f"crates/dsss, {name}," not in comment:
+    if not re.search(rf"crates/dsss, {name}, record \w", comment):
         faults.append(f"{name}: its comment does not say where it is proved")
     return faults
+
+
+def compare_contract(name, comment, contract):
+    """The record that a comment names is what the call's contract ensures."""
+    named = re.search(rf"crates/dsss, {name}, record (\w+)", comment)
+    if named and not re.search(rf"\bensures\b.*⌜ {named.group(1)}\s", contract, re.S):
+        return [f"{name}: its contract does not ensure the record {named.group(1)} that the header names"]
+    return []
 
 
 def compare(header, sources, published):
@@ -234,7 +249,7 @@ def compare(header, sources, published):
     symbols, records = c_symbols(text), c_records(text)
     declared = {symbols.get(name, name): call for name, call in c_calls(text).items()}
     said = {symbols.get(name, name): comment for name, comment in comments(header).items()}
-    defined = rattle_calls(sources["dsss"])
+    defined, contracts = rattle_calls(sources["dsss"]), rattle_contracts(sources["dsss"])
     faults = [f"{name}: a macro that stands for no call" for name in symbols.keys() - c_calls(text)]
     faults += [f"{name}: in the source, not in the header" for name in defined.keys() - declared]
     faults += [f"{name}: in the header, not in the source" for name in declared.keys() - defined]
@@ -247,6 +262,7 @@ def compare(header, sources, published):
         faults += compare_published(name, declared[name], records, published)
         if name in defined:
             faults += compare_call(name, declared[name], defined[name], records, sources)
+            faults += compare_contract(name, said.get(name, ""), contracts[name])
     return sorted(faults)
 
 
@@ -266,13 +282,13 @@ def read_sources(root):
 
 HEADER = """
 typedef struct { uint64_t number, place; } dsss_answer; /* two */
-/* Reads. kind, chips, octets. Answer: Refused: Buffer: Proved: crates/dsss, dsss_read, clause. */
+/* Reads. kind, chips, octets. Answer: Refused: Buffer: Proved: crates/dsss, dsss_read, record Read: answer. */
 dsss_answer dsss_read(uint64_t kind, const uint8_t *chips, size_t chips_len,
                       uint8_t *octets, size_t octets_len);
 typedef struct { uint64_t seen, rates[4]; } dsss_sums;
 typedef struct { const uint8_t *chips; size_t chips_len; } dsss_one;
 typedef struct { uint64_t number; dsss_sums sums; } dsss_counted;
-/* Counts. sums, kinds, list. Answer: Refused: Buffer: Proved: crates/dsss, dsss_count, clause. */
+/* Counts. sums, kinds, list. Answer: Refused: Buffer: Proved: crates/dsss, dsss_count, record Sums: answer. */
 dsss_counted dsss_count(dsss_sums sums, const uint64_t *kinds, size_t kinds_len, const dsss_one *list,
                         size_t list_len);
 static inline int dsss_sentence(uint64_t number) { return 0; }
@@ -281,10 +297,12 @@ SOURCES = {
     "dsss": """use frame::{Answer, Other};
 #[no_mangle]
 pub extern "C" fn dsss_read(kind: u64, chips: &[u8], octets: &mut [u8]) -> Answer
-    ensures { answer: x }
+    ensures read { λ a. ⌜ Read kind a ⌝ }
 { frame::read(kind) } // fn
 #[no_mangle]
 pub extern "C" fn dsss_count<'a>(sums: sums::Sums, kinds: &[u64], list: &'a [&'a [u8]]) -> Counted
+    ensures counted { λ c. ⌜ Sums
+        sums c ⌝ }
 { sums::count(sums, kinds, list) }
 """,
     "frame": """#[repr(C)]
@@ -326,6 +344,11 @@ SPOILED = [  # which text, what, by what
     ("header", "dsss_read(", "dsss_reads("),
     ("header", "Buffer:", ""),
     ("header", "crates/dsss, dsss_read", "crates/dsss, dsss_write"),
+    ("header", "record Read:", "Read:"),
+    ("header", "record Read:", "record Sums:"),
+    ("dsss", "⌜ Read kind a ⌝", "⌜ a ≡ a ⌝"),
+    ("dsss", "    ensures read { λ a. ⌜ Read kind a ⌝ }\n", ""),
+    ("dsss", "⌜ Sums\n", "⌜ Sum\n"),
     ("dsss", "#[no_mangle]", ""),
     ("dsss", "kind: u64, chips: &[u8]", "chips: &[u8], kind: u64"),
     ("dsss", "&mut [u8]", "&mut [u16]"),

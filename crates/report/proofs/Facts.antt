@@ -114,19 +114,21 @@ odd there lead = report 3 (100 ∷ 200 ∷ 300 ∷ 400 ∷ []) (1 ∷ 2 ∷ 3 �
 -- number but 0
 pub frames-more : added (odd 1 7) (frame 0 10 5 40 7) ∷ added (odd 1 7) (frame 1 20 6 24 6)
     ∷ added (odd 7 7) (frame 1 55 8 12 8) ∷ added (odd 0 7) (frame 0 110 9 7 9)
-    ∷ added (odd 256 7) (frame 0 10 1 8 0) ∷ []
+    ∷ added (odd 256 7) (frame 0 10 1 8 8) ∷ []
     ≡ report 4 (101 ∷ 200 ∷ 300 ∷ 400 ∷ []) (6 ∷ 2 ∷ 3 ∷ 4 ∷ []) (tabulate (λ k. k) 18) 282 1 7 9
     ∷ report 4 (100 ∷ 201 ∷ 300 ∷ 400 ∷ []) (1 ∷ 8 ∷ 3 ∷ 4 ∷ []) (tabulate (λ k. k) 18) 170 1 6 3
     ∷ report 4 (100 ∷ 200 ∷ 301 ∷ 400 ∷ []) (1 ∷ 2 ∷ 11 ∷ 4 ∷ []) (tabulate (λ k. k) 18) 158 7 7 9
     ∷ report 4 (100 ∷ 200 ∷ 300 ∷ 401 ∷ []) (1 ∷ 2 ∷ 3 ∷ 13 ∷ []) (tabulate (λ k. k) 18) 249 1 9 3
-    ∷ report 4 (101 ∷ 200 ∷ 300 ∷ 400 ∷ []) (2 ∷ 2 ∷ 3 ∷ 4 ∷ []) (tabulate (λ k. k) 18) 250 1 0 3 ∷ []
+    ∷ report 4 (101 ∷ 200 ∷ 300 ∷ 400 ∷ []) (2 ∷ 2 ∷ 3 ∷ 4 ∷ []) (tabulate (λ k. k) 18) 250 256 7 9 ∷ []
 unfolding tabulate more added
 frames-more = refl
 
 -- refusals of both ends: nothing else moves but how many were seen
-pub refusals-more : added (odd 1 7) (refusal 0 1 0) ∷ added (odd 0 7) (refusal 1 16 99) ∷ []
+pub refusals-more : added (odd 1 7) (refusal 0 1 0) ∷ added (odd 0 7) (refusal 1 16 99)
+    ∷ added (odd 256 7) (refusal 1 16 99) ∷ []
     ≡ report 4 (100 ∷ 200 ∷ 300 ∷ 400 ∷ []) (1 ∷ 2 ∷ 3 ∷ 4 ∷ []) (set (tabulate (λ k. k) 18) 1 2) 50 1 7 9
-    ∷ report 4 (100 ∷ 200 ∷ 300 ∷ 400 ∷ []) (1 ∷ 2 ∷ 3 ∷ 4 ∷ []) (set (tabulate (λ k. k) 18) 16 17) 50 0 7 9 ∷ []
+    ∷ report 4 (100 ∷ 200 ∷ 300 ∷ 400 ∷ []) (1 ∷ 2 ∷ 3 ∷ 4 ∷ []) (set (tabulate (λ k. k) 18) 16 17) 50 0 7 9
+    ∷ report 4 (100 ∷ 200 ∷ 300 ∷ 400 ∷ []) (1 ∷ 2 ∷ 3 ∷ 4 ∷ []) (set (tabulate (λ k. k) 18) 16 17) 50 256 7 9 ∷ []
 unfolding tabulate more added
 refusals-more = refl
 
@@ -163,9 +165,9 @@ unfolding hardRecording readingOf frontOf more added atMost takesMore countedOf
 called = refl
 
 -- lists: of none; rows that differ in length, either way; kinds and chips in step
-pub listed : listOf [] [] ∷ listOf (2 ∷ 2 ∷ []) ([] ∷ []) ∷ listOf (2 ∷ []) ([] ∷ [] ∷ [])
+pub listed : listOf [] [] ∷ listOf (replicate 1001 2) [] ∷ listOf (2 ∷ 2 ∷ []) ([] ∷ []) ∷ listOf (2 ∷ []) ([] ∷ [] ∷ [])
     ∷ listOf (2 ∷ 1 ∷ 256 ∷ []) ((5 ∷ []) ∷ [] ∷ [] ∷ []) ∷ []
-    ≡ counts 0 zeros ∷ counts 7 zeros ∷ counts 7 zeros
+    ≡ counts 0 zeros ∷ counts 7 zeros ∷ counts 7 zeros ∷ counts 7 zeros
     ∷ counts 0 (report 3 (replicate 4 0) (replicate 4 0) (set (set (replicate 18 0) 1 2) 8 1) 0 0 0 0) ∷ []
 unfolding hardRecording total closestFrom tabulate readingOf frontOf reportOf recordings listOf
 listed = refl

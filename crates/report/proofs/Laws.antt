@@ -1,8 +1,6 @@
--- Laws of the report: one reading more, totals, the smallest lead, and calls one after the other.
+-- Laws of the totals of a list of readings, with one reading more.
 --     total-more, total-most       one reading more in a total, and the most that a total comes to
 --     closest-more                 one more behind the smallest lead so far
---     added-more                   a report with one reading more is the report of the list with it
---     takes-fewer, takes-no-more   31 exactly from the 1,001st on
 -- Assumes nothing.
 use mathlib.Core.Path.{_≡_, refl, sym, ap, _∙_}
 use mathlib.Core.Bool.{Bool, true, false, cond}

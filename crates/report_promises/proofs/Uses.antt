@@ -216,6 +216,8 @@ pub record Alike (os : List Outcome) (p : Report) : Type 0 where
   frames-are : (code : ℕ) → code ≡ 55 → getD (p .frames) 2 0 ≡ framesAt code os
   octets-are : (code : ℕ) → code ≡ 110 → getD (p .octets) 3 0 ≡ octetsAt code os
   twelve : getD (p .refused) 12 0 ≡ refusedWith 12 os
+  no-0 : getD (p .refused) 0 0 ≡ 0
+  no-2 : getD (p .refused) 2 0 ≡ 0
   no-17 : getD (p .refused) 17 0 ≡ 0
   no-7 : getD (p .refused) 7 0 ≡ 0
   eighteen : length (p .refused) ≡ 18
@@ -229,6 +231,8 @@ alike os p t = record {
   frames-are = λ code e. rw (t .frames-are, e);
   octets-are = λ code e. rw (t .octets-are, e);
   twelve = t .refused-are 12 (lit≤ tt);
+  no-0 = t .never 0 (λ e. omega arith) (λ h. omega arith);
+  no-2 = t .never 2 (λ e. omega arith) (λ h. omega arith);
   no-17 = t .never 17 (λ e. omega arith) (λ h. lit≤ tt);
   no-7 = t .never 7 (λ e. omega arith) (λ h. omega arith);
   eighteen = t .numbers;
@@ -265,10 +269,10 @@ no-lead os p t e = by (p .some) (p .lead) (p .recording) e (t .lead-is)
     by _ _ _ e (no-frame none) = (refl, refl, none)
     by _ told recording e (smallest _ _ g low first) = absurd (omega (arith, e))
 
--- ---- whatever was handed in before, the 1,000th is answered with 0, the next with 31
+-- ---- whatever was handed in before, up to the 1,000th each is answered with 0, and from the next on with 31
 pub one-answered : (rs : List Recording) (r : Recording) (c : Counted)
     → Adds (keeps rs .report) (r .kind) (r .chips) c
-    → (length rs ≡ 999 → c .number ≡ 0) × (length rs ≡ 1000 → c ≡ record { number = 31; report = keeps rs .report })
+    → (length rs < 1000 → c .number ≡ 0) × (1000 ≤ length rs → c ≡ record { number = 31; report = keeps rs .report })
 one-answered rs r c a =
     let answers = kept-report .kept-answers rs (keeps rs .report) (r .kind) (r .chips) c (keeps rs .is-kept) a in
     ((λ h. answers .0 (omega arith)), λ h. answers .1 (omega arith))
@@ -305,7 +309,7 @@ at-limits p kind chips c a e f o r t =
 -- ---- a whole list
 pub list-counted : (kinds : List ℕ) (list : List (List ℕ)) (c : Counted) → Lists kinds list c
     → length kinds ≡ length list
-    → (length list ≡ 1000 → c .number ≡ 0) × (length list ≡ 1001 → c .number ≡ 31)
+    → (length list ≤ 1000 → c .number ≡ 0) × (1000 < length list → c .number ≡ 31)
     × ((k : KeptOf (recordings kinds list)) → c .report ≡ k .report)
     × Alike (take 1000 (map outcomeOf (recordings kinds list))) (c .report)
 list-counted kinds list c l e =
@@ -317,8 +321,11 @@ list-counted kinds list c l e =
     )
 
 pub list-refused : (kinds : List ℕ) (list : List (List ℕ)) (c : Counted) → Lists kinds list c
-    → length kinds < length list → c ≡ record { number = 7; report = empty }
-list-refused kinds list c l h = kept-report .list-alike kinds list c l .0 (λ e. omega arith)
+    → (length kinds < length list → c ≡ record { number = 7; report = empty })
+    × (length list < length kinds → c ≡ record { number = 7; report = empty })
+list-refused kinds list c l =
+    let differ = kept-report .list-alike kinds list c l .0 in
+    ((λ h. differ (λ e. omega arith)), λ h. differ (λ e. omega arith))
 
 -- ---- the text
 pub text-whole : (p : Report) (s : Spelled) (left : List ℕ) → Spells p 980 s left
@@ -330,8 +337,13 @@ text-whole p s left f =
     (t .3 (lit≤ tt), fits .2, fits .3, t .0)
 
 pub text-refused : (p : Report) (s : Spelled) (room : ℕ) (left : List ℕ) → Spells p room s left
-    → length (textOf p) ≡ room + 1 → (s ≡ record { number = 17; octets = 0 }) × (left ≡ replicate room 0)
-text-refused p s room left f e = kept-report .text-fills p room s left f .2 (omega arith)
+    → room < length (textOf p) → (s ≡ record { number = 17; octets = 0 }) × (left ≡ replicate room 0)
+text-refused p s room left f h = kept-report .text-fills p room s left f .2 h
+
+pub text-told : (p : Report) (s : Spelled) (room : ℕ) (left : List ℕ) → Spells p room s left
+    → (length (textOf p) ≤ room → (s .number ≡ 0) × (s .octets ≡ length (textOf p))) × (980 ≤ room → s .number ≡ 0)
+text-told p s room left f =
+    let t = kept-report .text-fills p room s left f in ((λ h. (t .1 h .0, t .1 h .1)), t .3)
 
 -- ---- one answer
 pub one-of-each : (p : Report) (kind : ℕ) (chips kinds : List ℕ) (list : List (List ℕ)) (c d : Counted) (s : Spelled)
