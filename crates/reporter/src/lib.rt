@@ -1,10 +1,20 @@
 // The month's report kept: one recording more, read and counted, and a whole list of recordings at once.
 ghost use mathlib.Core.Path.{_≡_};
-ghost use mathlib.Core.Bool.{true};
+ghost use mathlib.Core.Bool.{true, _||_};
 ghost use mathlib.Core.List.{[], map};
 ghost use Prim.Native.Nat.{_≤_};
-ghost use Rattle.report.specs.Totals.{frontTime};
-ghost use Rattle.report.specs.Report.{entryOf, isCloser, withFrame, withRefusal, atMost, takesMore, countedOf, listOf, reportOf};
+ghost use lib.Dec.{eqb, ltb};
+ghost use Rattle.report.specs.Totals.{Outcome, outcomeOf, frontTime};
+ghost use Rattle.report.specs.Report.{
+  reportOf,
+  entryOf,
+  withFrame,
+  withRefusal,
+  atMost,
+  takesMore,
+  countedOf,
+  listOf,
+};
 use calls::Record;
 use report::Counted;
 use report::Report;
@@ -69,22 +79,22 @@ fn front_time(kind: u64) -> u64
 }
 
 // Whether a frame's lead is to be kept: none was before, or it is smaller.
-fn is_closer(p: Report, lead: u64) -> bool
-    ensures answer { λ r. ⌜ r ≡ isCloser p lead ⌝ }
+fn is_closer(some: u64, least: u64, lead: u64) -> bool
+    ensures answer { λ r. ⌜ r ≡ (eqb some 0 || ltb lead least) ⌝ }
 {
-    if p.some == 0 {
+    if some == 0 {
         return true;
     }
-    lead < p.lead
+    lead < least
 }
 
-// One frame more.
+// One frame more: its octets, its airtime, and its lead if it is closer.
 fn with_frame(p: Report, kind: u64, a: Record) -> Report
     requires { ⌜ (takesMore p ≡ true) × (a .n ≤ 4095) × (a .length ≤ 32760) ⌝ }
     ensures answer { λ r. ⌜ r ≡ withFrame p (record { kind = kind; answer = a }) ⌝ }
 {
     let at = entry_of(a.rate);
-    let closer = is_closer(p, a.lead);
+    let closer = is_closer(p.some, p.lead, a.lead);
     let seen = p.seen;
     let mut q = p;
     q.seen = seen + 1;
@@ -102,20 +112,28 @@ fn with_frame(p: Report, kind: u64, a: Record) -> Report
     q
 }
 
-// One refusal more.
-fn with_refusal(p: Report, kind: u64, a: Record) -> Report
-    requires { ⌜ (takesMore p ≡ true) × (a .number ≤ 17) ⌝ }
-    ensures answer { λ r. ⌜ r ≡ withRefusal p (record { kind = kind; answer = a }) ⌝ }
+// One refusal more, by its number.
+fn with_refusal(p: Report, number: u64) -> Report
+    requires { ⌜ (takesMore p ≡ true) × (number ≤ 17) ⌝ }
+    ensures answer { λ r. ⌜ ((o : Outcome) → o .answer .number ≡ number → r ≡ withRefusal p o) ⌝ }
 {
-    let number = a.number as usize;
+    let entry = number as usize;
     let mut q = p;
     q.seen = q.seen + 1;
-    let old = q.refused[number];
-    q.refused[number] = old + 1;
+    let old = q.refused[entry];
+    q.refused[entry] = old + 1;
     q
 }
 
 // ---- the calls
+
+// What a full read with room for 4,095 octets answers.
+fn read(kind: u64, chips: &[u8]) -> Record
+    ensures answer { λ r. ⌜ r ≡ outcomeOf (record { kind = kind; chips = now (chips .entry) }) .answer ⌝ }
+{
+    let mut octets = [0u8; 4095];
+    reader::read_hard(kind, chips, &mut octets)
+}
 
 // One recording more: 31, and the report as it stood, where it takes no more; else 0, whatever the reading comes to.
 pub fn add(report: Report, kind: u64, chips: &[u8]) -> Counted
@@ -124,8 +142,7 @@ pub fn add(report: Report, kind: u64, chips: &[u8]) -> Counted
     if !takes_more(report) {
         return Counted { number: 31, report };
     }
-    let mut octets = [0u8; 4095];
-    let a = reader::read_hard(kind, chips, &mut octets);
+    let a = read(kind, chips);
     if a.number == 0 {
         let more = with_frame(report, kind, a);
         return Counted {
@@ -133,7 +150,7 @@ pub fn add(report: Report, kind: u64, chips: &[u8]) -> Counted
             report: more,
         };
     }
-    let more = with_refusal(report, kind, a);
+    let more = with_refusal(report, a.number);
     Counted {
         number: 0,
         report: more,

@@ -1,8 +1,8 @@
--- `reporter::add` meets its contract: 31, or what the reading adds; a reading is fair, so nothing wraps. Assumes nothing.
-use mathlib.Core.Path.{_≡_, sym, ap, subst, _∙_}
+-- `reporter::add` meets its contract: 31, or what the reading adds; a reading is fair, so nothing wraps.
+-- Assumes nothing.
+use mathlib.Core.Path.{_≡_, refl, sym, ap, subst, _∙_}
 use mathlib.Core.Bool.{true, false}
 use native.Mathlib.Omega.{arith}
-use borrow.Author.Needs.{needs}
 use borrow.Author.Tests.{eq-eqb, ne-eqb}
 use Rattle.base.proofs.Tests.{failed, passed}
 use Rattle.calls.specs.declared.Record.{Record}
@@ -13,8 +13,6 @@ use Rattle.report.specs.declared.Counted.{Counted}
 use Rattle.report.proofs.Outcomes.{Fair, fair}
 use Rattle.reporter.proofs.add.Statement.{statement}
 use Rattle.reporter.proofs.add.Tie as tie
-use Rattle.reporter.proofs.add.Reads as reads
-use Rattle.reporter.proofs.add.Lts as lts
 
 module _ (p : Report) (r : Recording) where
   full : takesMore p ≡ false → _≡_ {A = Counted} (record { number = 31; report = p }) (countedOf p r)
@@ -41,10 +39,11 @@ module _ (p : Report) (r : Recording) where
     unfolding added
     frame q z e = counted q (rw (eq-eqb (a .number) 0 z) e)
 
-    refusal : (q : Report) → (a .number ≡ 0 → ⊥) → q ≡ withRefusal p outcome
+    refusal : (q : Report) → (a .number ≡ 0 → ⊥)
+        → ((o : Outcome) → o .answer .number ≡ a .number → q ≡ withRefusal p o)
         → _≡_ {A = Counted} (record { number = 0; report = q }) (countedOf p r)
     unfolding added
-    refusal q z e = counted q (rw (ne-eqb (a .number) 0 z) e)
+    refusal q z e = counted q (rw (ne-eqb (a .number) 0 z) (e outcome refl))
 
 returns : tie.Need-returns
 returns c =
@@ -54,42 +53,42 @@ returns c =
 
 with-frame-requires : tie.Need-with-frame-requires
 with-frame-requires c κs =
-    let read = c .before .before .before in
-    let yes = read .before .before in
+    let got = c .before .before in
+    let yes = got .before in
     let a = yes .before .before .before .args in
     let h = passed (yes .before .takes-more .ensures) (yes .if1 .left) in
-    let k = known (a .report) (record { kind = a .kind; chips = a .chips .now }) _ h (read .read-hard .ensures .0) in
+    let k = known (a .report) (record { kind = a .kind; chips = a .chips .now }) _ h (got .read .ensures) in
     (h, k .few, k .brief (c .if2 .taken))
 
 returns-2 : tie.Need-returns-2
 returns-2 c =
-    let read = c .before .before .before .before in
-    let yes = read .before .before in
+    let got = c .before .before .before in
+    let yes = got .before in
     let a = yes .before .before .before .args in
     frame (a .report) (record { kind = a .kind; chips = a .chips .now }) _
-    (passed (yes .before .takes-more .ensures) (yes .if1 .left)) (read .read-hard .ensures .0) _ (c .before .if2 .taken)
+    (passed (yes .before .takes-more .ensures) (yes .if1 .left)) (got .read .ensures) _ (c .before .if2 .taken)
     (c .with-frame .ensures)
 
 with-refusal-requires : tie.Need-with-refusal-requires
 with-refusal-requires c κs =
-    let read = c .before .before .before in
-    let yes = read .before .before in
+    let got = c .before .before in
+    let yes = got .before in
     let a = yes .before .before .before .args in
     let h = passed (yes .before .takes-more .ensures) (yes .if1 .left) in
-    let k = known (a .report) (record { kind = a .kind; chips = a .chips .now }) _ h (read .read-hard .ensures .0) in
+    let k = known (a .report) (record { kind = a .kind; chips = a .chips .now }) _ h (got .read .ensures) in
     (h, omega (arith, k .most))
 
 returns-3 : tie.Need-returns-3
 returns-3 c =
-    let read = c .before .before .before .before in
-    let yes = read .before .before in
+    let got = c .before .before .before in
+    let yes = got .before in
     let a = yes .before .before .before .args in
     refusal (a .report) (record { kind = a .kind; chips = a .chips .now }) _
-    (passed (yes .before .takes-more .ensures) (yes .if1 .left)) (read .read-hard .ensures .0) _ (c .before .if2 .left)
+    (passed (yes .before .takes-more .ensures) (yes .if1 .left)) (got .read .ensures) _ (c .before .if2 .left)
     (c .with-refusal .ensures)
 
 pub add-spec : {M : Type 1} → statement M
 add-spec =
     tie.close
-    (tie.spec (λ c κs. tt) returns (λ c. search needs) (λ c κs. tt) with-frame-requires returns-2 with-refusal-requires
+    (tie.spec (λ c κs. tt) returns (λ c κs. tt) with-frame-requires returns-2 with-refusal-requires
     returns-3)

@@ -1,10 +1,7 @@
 -- `reporter::entry_of` meets its contract. Assumes nothing.
-use mathlib.Core.Path.{refl}
 use borrow.Author.Tests.{ne-eqb}
 use Rattle.reporter.proofs.entry_of.Statement.{statement}
 use Rattle.reporter.proofs.entry_of.Tie as tie
-use Rattle.reporter.proofs.entry_of.Reads as reads
-use Rattle.reporter.proofs.entry_of.Lts as lts
 
 returns : tie.Need-returns
 returns c = rw (c .match .keys1)

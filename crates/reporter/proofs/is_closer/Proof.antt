@@ -4,10 +4,10 @@ use Rattle.reporter.proofs.is_closer.Statement.{statement}
 use Rattle.reporter.proofs.is_closer.Tie as tie
 
 returns : tie.Need-returns
-returns c = rw (eq-eqb (c .before .before .args .p .some) 0 (c .if1 .taken))
+returns c = rw (eq-eqb (c .before .args .some) 0 (c .if1 .taken))
 
 returns-2 : tie.Need-returns-2
-returns-2 c = rw (ne-eqb (c .before .before .before .args .p .some) 0 (c .before .if1 .left))
+returns-2 c = rw (ne-eqb (c .before .args .some) 0 (c .if1 .left))
 
 pub is-closer-spec : {M : Type 1} → statement M
 is-closer-spec = tie.close (tie.spec returns returns-2)

@@ -1,13 +1,12 @@
 -- `reporter::of_list` meets its contract. The invariant: the report is that of the first i recordings, 1,000 at most.
 -- Assumes nothing.
-use mathlib.Core.Path.{_≡_, refl, sym, ap, _∙_}
+use mathlib.Core.Path.{_≡_, sym, ap, _∙_}
 use mathlib.Core.List.{List, [], map}
 use Prim.Native.Nat.{ℕ, _+_, _-_, _≤_, _<_}
 use native.Mathlib.Omega.{arith}
 use denote.Ref.{RefT, now}
 use lib.ListN.{length, getD, take, length-take, length-map, List·getD-map}
 use lib.Seq.{take-all}
-use borrow.Author.Needs.{needs}
 use borrow.Author.Tests.{eq-eqb, ne-eqb, le-leb, lt-leb}
 use Rattle.report.specs.Totals.{Recording, outcomeOf}
 use Rattle.report.specs.Report.{reportOf, countedOf, recordings, listOf}
@@ -17,8 +16,6 @@ use Rattle.report.proofs.Taking.{counted-next}
 use Rattle.report.proofs.Lists.{length-recordings, recordings-next}
 use Rattle.reporter.proofs.of_list.Statement.{statement}
 use Rattle.reporter.proofs.of_list.Tie as tie
-use Rattle.reporter.proofs.of_list.Reads as reads
-use Rattle.reporter.proofs.of_list.Lts as lts
 
 abbrev rows : List (RefT (List ℕ)) → List (List ℕ)
 rows list = map (λ r. now r) list
@@ -44,7 +41,9 @@ module _ (kinds : List ℕ) (list : List (RefT (List ℕ))) where
     all = recordings kinds (rows list)
 
     long : length all ≡ length list
-    long = length-recordings kinds (rows list) (same ∙ sym (length-map list (λ r. now r))) ∙ length-map list (λ r. now r)
+    long =
+        length-recordings kinds (rows list) (same ∙ sym (length-map list (λ r. now r)))
+        ∙ length-map list (λ r. now r)
 
     next : (i : ℕ) (p : Report) (c : Counted) → i < length list → i < 1000 → p ≡ firsts kinds list i
         → c ≡ countedOf p (record { kind = getD kinds i 0; chips = now (getD list i nothing) })
@@ -83,7 +82,7 @@ abbrev μ-loop : tie.MeasureT-loop
 returns : tie.Need-returns Inv-loop μ-loop
 returns c =
     let a = c .before .before .before .args in
-    ap (answer 7) (c .before .none .ensures) ∙ differ (a .kinds .now) (a .list .now) (c .if1 .taken)
+    ap (answer 7) (c .before .none .ensures) ∙ differ (a .kinds .now) (a .list .now) (λ e. omega (arith, c .if1 .taken))
 
 loop-holds : tie.Need-loop-holds Inv-loop μ-loop
 loop-holds c = (omega arith, omega arith, c .before .none .ensures)
@@ -93,8 +92,9 @@ returns-2 c =
     let turn = c .before in
     let alike = turn .before .before in
     let a = alike .before .before .before .args in
-    many (a .kinds .now) (a .list .now) (alike .if1 .left) (turn .before .loop .i) _ (c .if2 .taken)
-    (turn .loop-test .taken) (turn .before .loop .inv .2)
+    let same : length (a .kinds .now) ≡ length (a .list .now) = omega (arith, alike .if1 .left) in
+    let last : turn .before .loop .i ≡ 1000 = omega (arith, turn .before .loop .inv .1, c .if2 .taken) in
+    many (a .kinds .now) (a .list .now) same _ _ last (turn .loop-test .taken) (turn .before .loop .inv .2)
 
 loop-again : tie.Need-loop-again Inv-loop μ-loop
 loop-again c =
@@ -103,22 +103,24 @@ loop-again c =
     let turn = short .before in
     let alike = turn .before .before in
     let a = alike .before .before .before .args in
+    let same : length (a .kinds .now) ≡ length (a .list .now) = omega (arith, alike .if1 .left) in
     let few : turn .before .loop .i < 1000 = omega (arith, turn .before .loop .inv .1, short .if2 .left) in (
       omega (arith, turn .loop-test .taken),
       omega arith,
-      next (a .kinds .now) (a .list .now) (alike .if1 .left) (turn .before .loop .i) _ _ (turn .loop-test .taken) few
-          (turn .before .loop .inv .2) (counted .add .ensures),
+      next (a .kinds .now) (a .list .now) same _ _ _ (turn .loop-test .taken) few (turn .before .loop .inv .2)
+          (counted .add .ensures),
     )
 
 returns-3 : tie.Need-returns-3 Inv-loop μ-loop
 returns-3 c =
     let alike = c .before .before in
     let a = alike .before .before .before .args in
-    whole (a .kinds .now) (a .list .now) (alike .if1 .left) (c .before .loop .i) _ (c .loop-test .left)
-    (c .before .loop .inv .1) (c .before .loop .inv .2)
+    let same : length (a .kinds .now) ≡ length (a .list .now) = omega (arith, alike .if1 .left) in
+    whole (a .kinds .now) (a .list .now) same _ _ (c .loop-test .left) (c .before .loop .inv .1)
+    (c .before .loop .inv .2)
 
 pub of-list-spec : {M : Type 1} → statement M
 of-list-spec =
     tie.close
-    (tie.spec Inv-loop μ-loop (λ c κs. tt) returns loop-holds returns-2 (λ c. search needs) (λ c. search needs)
-    (λ c. search needs) (λ c. search needs) (λ c κs. tt) (λ c. omega arith) (λ c. omega arith) loop-again returns-3)
+    (tie.spec Inv-loop μ-loop (λ c κs. tt) returns loop-holds returns-2 (λ c. omega arith) (λ c. omega arith)
+    (λ c. omega arith) (λ c. omega arith) (λ c κs. tt) (λ c. omega arith) (λ c. omega arith) loop-again returns-3)

@@ -2,7 +2,7 @@
 -- Assumes nothing.
 use mathlib.Core.Path.{_≡_, sym, _∙_}
 use mathlib.Core.Bool.{Bool, true, false, cond}
-use Prim.Native.Nat.{ℕ, _+_, _<_, _≤_}
+use Prim.Native.Nat.{ℕ, _+_, _<_}
 use native.Mathlib.Omega.{arith}
 use lib.Dec.{eqb, lit<}
 use lib.ListN.{length, getD, set, length-map}
@@ -15,7 +15,6 @@ use Rattle.report.proofs.Taking.{front-time}
 use Rattle.report.proofs.Lists.{takes, more-set}
 use Rattle.reporter.proofs.with_frame.Statement.{statement}
 use Rattle.reporter.proofs.with_frame.Tie as tie
-use Rattle.reporter.proofs.with_frame.Lts as lts
 
 entry-few : (code at : ℕ) → at ≡ entryOf code → at < 4
 entry-few code at e = rw e (by (eqb code 10) (eqb code 20) (eqb code 55))
@@ -41,7 +40,14 @@ module _ (p : Report) (kind : ℕ) (a : Record) (at time : ℕ) (closer : Bool) 
 
   framed : at ≡ entryOf (a .rate) → time ≡ frontTime kind → closer ≡ isCloser p (a .lead)
       → written ≡ withFrame p (record { kind = kind; answer = a })
-  framed e t c = rw (e, t, c, ← more-set, ← more-set)
+  framed e t c =
+      rw (
+        e,
+        t,
+        c,
+        ← more-set (entryOf (a .rate)) 1 (p .frames),
+        ← more-set (entryOf (a .rate)) (a .n) (p .octets),
+      )
 
 frames-fit : tie.Need-add-q-2
 frames-fit c =
