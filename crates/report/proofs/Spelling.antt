@@ -4,7 +4,6 @@
 --     decimal-value, decimal-injective        below 10 ^ 20 the digits are those of the number, and of no other
 --     decimal-digit, decimal-front            each is one of the octets 48 to 57, and there is no zero in front
 --     rate-most, refused-most, airtime-most, lead-most, text-most    lines, and the text: 980 octets at most
---     lines-grow                              refusals up to a number are within those up to a larger one
 -- Assumes nothing.
 use mathlib.Core.Path.{_≡_, refl, sym, ap, _∙_}
 use mathlib.Core.List.{List, [], _∷_, _++_}
@@ -215,17 +214,3 @@ text-most p =
     (rate-most 110 (getD (p .frames) 3 0) (getD (p .octets) 3 0) 3 refl) in
     joined (joined (joined rates (lines-most 17 (p .refused))) (airtime-most (p .airtime)))
     (lead-most (p .some) (p .lead) (p .recording)) .most
-
--- refusals up to a number are within those up to a larger one
-pub lines-grow : (refused : List ℕ) (m n : ℕ) → m ≤ n → length (refusedLines m refused)
-    ≤ length (refusedLines n refused)
-unfolding refusedLines
-lines-grow refused m zero h = let e : m ≡ 0 = omega arith in rw e (lit≤ tt)
-lines-grow refused m (suc n) h = by (decLt m (suc n)) (lines-grow refused m n)
-  where
-    by : Dec (m < suc n) → (m ≤ n → length (refusedLines m refused) ≤ length (refusedLines n refused))
-        → length (refusedLines m refused) ≤ length (refusedLines (suc n) refused)
-    by (yes p) rest =
-        rw (length-append (refusedLines n refused) (refusedLine (suc n) (getD refused (suc n) 0)))
-        (omega (arith, rest (omega arith)))
-    by (no q) rest = let e : m ≡ suc n = omega arith in rw e (le-refl _)

@@ -3,10 +3,12 @@
 --     put-next                what is put where the first ended is one with it
 --     put-pair                and so is a word and its number
 --     four-long               how long four lists are together
+--     lines-room, lines-turn  a loop that puts lines: there is room for the next, and it is put
 -- Assumes nothing.
 use mathlib.Core.Path.{_≡_, refl, sym, ap, _∙_}
 use mathlib.Core.List.{List, [], _∷_, _++_, append-nil, append-assoc}
-use Prim.Native.Nat.{ℕ, _+_, _≤_, _<_}
+use Prim.Native.Nat.{ℕ, zero, suc, _+_, _-_, _≤_, _<_}
+use native.Mathlib.Nat.{le-refl}
 use native.Mathlib.Numerals.{add-one}
 use native.Mathlib.Omega.{arith}
 use lib.ListN.{length, take, set, length-append}
@@ -37,3 +39,25 @@ put-pair {w} a b p q = rw (append-assoc w a b) (put-next p q)
 
 pub four-long : (a b c d : List ℕ) → length (a ++ b ++ c ++ d) ≡ length a + length b + length c + length d
 four-long a b c d = simp length-append
+
+-- ---- lines put one after the other: `all` are the first k of them, and `one` is the next
+
+module _ (all one : ℕ → List ℕ) (step : (k : ℕ) → all (k + 1) ≡ all k ++ one k) where
+  longer : (k : ℕ) → length (all (k + 1)) ≡ length (all k) + length (one k)
+  longer k = ap length (step k) ∙ length-append (all k) (one k)
+
+  grows : (k j : ℕ) → length (all k) ≤ length (all (k + j))
+  grows k zero = let e : k + 0 ≡ k = omega arith in rw e (le-refl _)
+  grows k (suc j) =
+      let e : k + suc j ≡ (k + j) + 1 = omega arith in rw (e, longer) (omega (arith, grows k j))
+
+  pub lines-room : (n k : ℕ) {at end : ℕ} {d o : List ℕ} → k < n → Put (all k) at d end o
+      → at + length (all n) ≤ length d → length o ≡ length d → end + length (one k) ≤ length o
+  lines-room n k h p g l =
+      let e : k + 1 + (n - (k + 1)) ≡ n = omega arith in
+      let within : length (all (k + 1)) ≤ length (all n) = rw e at (grows (k + 1) (n - (k + 1))) in
+      omega (arith, p .stop, longer k)
+
+  pub lines-turn : (k : ℕ) {at end r : ℕ} {d o q : List ℕ} → Put (all k) at d end o → Put (one k) end o r q
+      → Put (all (k + 1)) at d r q
+  lines-turn k p q = rw (step k) (put-next p q)

@@ -1,7 +1,9 @@
 -- What putting octets into a row, from a place on, comes to. Definitions only. Assumes nothing.
 use mathlib.Core.Path.{_≡_}
-use mathlib.Core.List.{List, _++_}
-use Prim.Native.Nat.{ℕ, _+_}
+use mathlib.Core.Bool.{cond}
+use mathlib.Core.List.{List, [], _++_}
+use Prim.Native.Nat.{ℕ, zero, suc, _+_}
+use lib.Dec.{eqb}
 use lib.ListN.{length, getD, take}
 use Rattle.report.specs.Text.{word, decimal, rateLine}
 
@@ -15,8 +17,11 @@ pub record Put (w : List ℕ) (at : ℕ) (d : List ℕ) (end : ℕ) (e : List �
 abbrev pub pairLine : List ℕ → ℕ → List ℕ → ℕ → List ℕ
 pairLine first x second y = first ++ decimal x ++ second ++ decimal y ++ word "\n"
 
--- the lines of the rates
-abbrev pub ratesText : List ℕ → List ℕ → List ℕ
-ratesText frames octets =
-    rateLine 10 (getD frames 0 0) (getD octets 0 0) ++ rateLine 20 (getD frames 1 0) (getD octets 1 0)
-    ++ rateLine 55 (getD frames 2 0) (getD octets 2 0) ++ rateLine 110 (getD frames 3 0) (getD octets 3 0)
+-- the lines of the first k rates
+abbrev pub codeAt : ℕ → ℕ
+codeAt k = cond (eqb k 0) 10 (cond (eqb k 1) 20 (cond (eqb k 2) 55 110))
+
+unfoldable pub rateLines : ℕ → List ℕ → List ℕ → List ℕ
+rateLines zero frames octets = []
+rateLines (suc k) frames octets =
+    rateLines k frames octets ++ rateLine (codeAt k) (getD frames k 0) (getD octets k 0)

@@ -5,11 +5,11 @@ use report::Spelled;
 ghost use mathlib.Core.Path.{_≡_};
 ghost use mathlib.Core.List.{_++_};
 ghost use Prim.Native.Nat.{_+_, _≤_};
-ghost use lib.ListN.{length, getD};
+ghost use lib.ListN.{length};
 ghost use Rattle.report.specs.Text.{decimal, rateLine, refusedLine, refusedLines, airtimeLine, leadLine};
 ghost use Rattle.report.specs.Text.{textOf, spelledOf, textLeft};
 ghost use Rattle.report.specs.Text.{places as Text·places};
-ghost use Rattle.speller.specs.Put.{Put, pairLine, ratesText};
+ghost use Rattle.speller.specs.Put.{Put, pairLine, codeAt, rateLines};
 
 // How many decimal digits x has.
 fn places(x: u64) -> usize
@@ -102,10 +102,10 @@ fn refused_lines(refused: [u64; 18], at: usize, out: &mut [u8]) -> usize
     ensures answer { λ r. ⌜ Put (refusedLines 17 refused) at (now (out .entry)) r (now (out .exit)) ⌝ }
 {
     let mut end = at;
-    let mut number = 1;
-    while number < 18 {
-        end = refused_line(number as u64, refused[number], end, out);
+    let mut number = 0;
+    while number < 17 {
         number += 1;
+        end = refused_line(number as u64, refused[number], end, out);
     }
     end
 }
@@ -130,15 +130,30 @@ fn lead_line(some: u64, lead: u64, recording: u64, at: usize, out: &mut [u8]) ->
     put_line(b"lead ", lead, b" recording ", recording, at, out)
 }
 
+// The rate code of an entry.
+fn code_of(k: usize) -> u64
+    ensures answer { λ r. ⌜ r ≡ codeAt k ⌝ }
+{
+    match k {
+        0 => 10,
+        1 => 20,
+        2 => 55,
+        _ => 110,
+    }
+}
+
 // The lines of all four rates.
 fn rate_lines(frames: [u64; 4], octets: [u64; 4], out: &mut [u8]) -> usize
-    requires { ⌜ length (ratesText frames octets) ≤ length (now out) ⌝ }
-    ensures answer { λ r. ⌜ Put (ratesText frames octets) 0 (now (out .entry)) r (now (out .exit)) ⌝ }
+    requires { ⌜ length (rateLines 4 frames octets) ≤ length (now out) ⌝ }
+    ensures answer { λ r. ⌜ Put (rateLines 4 frames octets) 0 (now (out .entry)) r (now (out .exit)) ⌝ }
 {
-    let a = rate_line(10, frames[0], octets[0], 0, out);
-    let b = rate_line(20, frames[1], octets[1], a, out);
-    let c = rate_line(55, frames[2], octets[2], b, out);
-    rate_line(110, frames[3], octets[3], c, out)
+    let mut end = 0;
+    let mut k = 0;
+    while k < 4 {
+        end = rate_line(code_of(k), frames[k], octets[k], end, out);
+        k += 1;
+    }
+    end
 }
 
 // The whole text.

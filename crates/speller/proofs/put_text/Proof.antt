@@ -7,17 +7,17 @@ use lib.ListN.{length}
 use borrow.Author.Needs.{needs}
 use Rattle.report.specs.declared.Report.{Report}
 use Rattle.report.specs.Text.{refusedLines, airtimeLine, leadLine, textOf}
-use Rattle.speller.specs.Put.{ratesText}
+use Rattle.speller.specs.Put.{rateLines}
 use Rattle.speller.proofs.Puts.{put-next, four-long}
 use Rattle.speller.proofs.put_text.Statement.{statement}
 use Rattle.speller.proofs.put_text.Tie as tie
 
 size : (p : Report) → length (textOf p)
-    ≡ length (ratesText (p .frames) (p .octets)) + length (refusedLines 17 (p .refused)) + length (airtimeLine (p .airtime))
+    ≡ length (rateLines 4 (p .frames) (p .octets)) + length (refusedLines 17 (p .refused)) + length (airtimeLine (p .airtime))
     + length (leadLine (p .some) (p .lead) (p .recording))
-unfolding textOf
+unfolding textOf rateLines
 size p =
-    four-long (ratesText (p .frames) (p .octets)) (refusedLines 17 (p .refused)) (airtimeLine (p .airtime))
+    four-long (rateLines 4 (p .frames) (p .octets)) (refusedLines 17 (p .refused)) (airtimeLine (p .airtime))
     (leadLine (p .some) (p .lead) (p .recording))
 
 rate-lines-requires : tie.Need-rate-lines-requires
@@ -35,7 +35,7 @@ lead-line-requires c κs =
     omega (arith, size (c .before .before .before .before .before .before .before .before .before .before .before .before .before .before .before .before .before .args .report))
 
 returns : tie.Need-returns
-unfolding textOf
+unfolding textOf rateLines
 returns c =
     let lead = c .before .before in
     let airtime = lead .before .before .before .before in

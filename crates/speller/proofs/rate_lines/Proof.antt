@@ -1,58 +1,74 @@
--- `speller::rate_lines` meets its contract.
+-- `speller::rate_lines` meets its contract. The invariant: the lines of the first k rates are put.
 -- Assumes nothing.
-use mathlib.Core.Path.{_≡_}
-use mathlib.Core.List.{List}
-use Prim.Native.Nat.{ℕ, _+_}
+use mathlib.Core.Path.{_≡_, refl}
+use mathlib.Core.List.{List, _++_}
+use Prim.Native.Nat.{ℕ, _+_, _-_, _≤_, _<_}
+use native.Mathlib.Numerals.{add-one}
 use native.Mathlib.Omega.{arith}
 use lib.ListN.{length, getD}
 use borrow.Author.Needs.{needs}
 use Rattle.report.specs.Text.{rateLine}
-use Rattle.speller.specs.Put.{ratesText}
-use Rattle.speller.proofs.Puts.{put-next, four-long}
+use Rattle.speller.specs.Put.{Put, codeAt, rateLines}
+use Rattle.speller.proofs.Puts.{put-none, lines-room, lines-turn}
 use Rattle.speller.proofs.rate_lines.Statement.{statement}
 use Rattle.speller.proofs.rate_lines.Tie as tie
 
--- the line of the rate with this code, at an entry of the rows
-abbrev line : List ℕ → List ℕ → ℕ → ℕ → List ℕ
-line frames octets code k = rateLine code (getD frames k 0) (getD octets k 0)
+abbrev Inv-loop : tie.InvT-loop
+Inv-loop out₀ frames octets end₀ k₀ out end k = (k ≤ 4) × (length out ≡ length out₀)
+    × Put (rateLines k frames octets) 0 out₀ end out
 
-size : (f o : List ℕ) → length (ratesText f o)
-    ≡ length (line f o 10 0) + length (line f o 20 1) + length (line f o 55 2) + length (line f o 110 3)
-size f o = four-long (line f o 10 0) (line f o 20 1) (line f o 55 2) (line f o 110 3)
+abbrev μ-loop : tie.MeasureT-loop
+μ-loop out₀ frames octets end₀ k₀ out end k = 4 - k
 
-rate-line-requires : tie.Need-rate-line-requires
+abbrev line : List ℕ → List ℕ → ℕ → List ℕ
+line f o k = rateLine (codeAt k) (getD f k 0) (getD o k 0)
+
+step : (f o : List ℕ) (k : ℕ) → rateLines (k + 1) f o ≡ rateLines k f o ++ line f o k
+unfolding rateLines
+step f o k = rw add-one
+
+none : (f o d : List ℕ) → Put (rateLines 0 f o) 0 d 0 d
+unfolding rateLines
+none f o d = put-none 0 0 d refl
+
+room : (f o d e : List ℕ) (k code end : ℕ) → k < 4 → code ≡ codeAt k → Put (rateLines k f o) 0 d end e
+    → length (rateLines 4 f o) ≤ length d → length e ≡ length d
+    → end + length (rateLine code (getD f k 0) (getD o k 0)) ≤ length e
+room f o d e k code end h c p g l =
+    rw c (lines-room (λ j. rateLines j f o) (line f o) (step f o) 4 k h p (omega arith) l)
+
+turn : (f o : List ℕ) {d e q : List ℕ} (k code : ℕ) {end r : ℕ} → code ≡ codeAt k → Put (rateLines k f o) 0 d end e
+    → Put (rateLine code (getD f k 0) (getD o k 0)) end e r q → Put (rateLines (k + 1) f o) 0 d r q
+turn f o k code c p t = lines-turn (λ j. rateLines j f o) (line f o) (step f o) k p (rw c at t)
+
+whole : (f o d e : List ℕ) (k end : ℕ) → k ≡ 4 → Put (rateLines k f o) 0 d end e → Put (rateLines 4 f o) 0 d end e
+whole f o d e k end h p = rw h at p
+
+loop-holds : tie.Need-loop-holds Inv-loop μ-loop
+loop-holds c = (search needs, refl, none _ _ _)
+
+rate-line-requires : tie.Need-rate-line-requires Inv-loop μ-loop
 rate-line-requires c κs =
-    let start = c .before .before .args in
-    omega (arith, size (start .t1) (start .t2))
+    let start = c .before .before .before .before .before in
+    let now = c .before .before .before .loop in
+    room (start .args .t1) (start .args .t2) _ (now .out) (now .k) _ _ (omega arith) (c .before .code-of .ensures)
+    (now .inv .2) (start .pre) (now .inv .1)
 
-rate-line-requires-2 : tie.Need-rate-line-requires-2
-rate-line-requires-2 c κs =
-    let start = c .before .before .before .before .before .before .args in
-    omega (arith, size (start .t1) (start .t2))
+loop-again : tie.Need-loop-again Inv-loop μ-loop
+loop-again c =
+    let now = c .before .before .before .before .before .before .loop in (
+      omega arith,
+      omega arith,
+      turn _ _ (now .k) _ (c .before .before .before .before .code-of .ensures) (now .inv .2)
+          (c .before .before .rate-line .ensures),
+    )
 
-rate-line-requires-3 : tie.Need-rate-line-requires-3
-rate-line-requires-3 c κs =
-    let start = c .before .before .before .before .before .before .before .before .before .before .args in
-    omega (arith, size (start .t1) (start .t2))
-
-rate-line-requires-4 : tie.Need-rate-line-requires-4
-rate-line-requires-4 c κs =
-    let start = c .before .before .before .before .before .before .before .before .before .before .before .before .before .before .args in
-    omega (arith, size (start .t1) (start .t2))
-
-returns : tie.Need-returns
-returns c =
-    let fourth = c .before .before in
-    let third = fourth .before .before .before .before in
-    let second = third .before .before .before .before in
-    let first = second .before .before .before .before in
-    put-next (put-next (put-next (first .rate-line .ensures) (second .rate-line2 .ensures)) (third .rate-line3 .ensures))
-    (fourth .rate-line4 .ensures)
+returns : tie.Need-returns Inv-loop μ-loop
+returns c = whole _ _ _ _ (c .before .loop .k) _ (omega arith) (c .before .loop .inv .2)
 
 pub rate-lines-spec : {M : Type 1} → statement M
 rate-lines-spec =
     tie.close
     (tie.spec
-    (λ c. search needs) (λ c. search needs) rate-line-requires (λ c. search needs) (λ c. search needs) rate-line-requires-2
-    (λ c. search needs) (λ c. search needs) rate-line-requires-3 (λ c. search needs) (λ c. search needs) rate-line-requires-4
-    (λ c. search needs) returns)
+    Inv-loop μ-loop loop-holds (λ c κs. search needs) (λ c. omega arith) (λ c. omega arith) (λ c. omega arith)
+    (λ c. omega arith) rate-line-requires (λ c. omega arith) (λ c. omega arith) loop-again (λ c. search needs) returns)
