@@ -1,4 +1,5 @@
--- What putting octets into a row, from a place on, comes to. Definitions only. Assumes nothing.
+-- What putting octets into a row, from a place on, comes to; and lines as the code puts them.
+-- Definitions only. Assumes nothing.
 use mathlib.Core.Path.{_≡_}
 use mathlib.Core.Bool.{cond}
 use mathlib.Core.List.{List, [], _++_}
@@ -7,8 +8,8 @@ use lib.Dec.{eqb}
 use lib.ListN.{length, getD, take}
 use Rattle.report.specs.Text.{word, decimal, rateLine}
 
--- a row d with w put at `at` is a row e whose octets up to `end` are those of d up to `at`, and w. What follows them may
--- be any
+-- a row d with w put at `at` is a row e whose octets up to `end` are those of d up to `at`, and w; those after `end`
+-- may be any
 pub record Put (w : List ℕ) (at : ℕ) (d : List ℕ) (end : ℕ) (e : List ℕ) : Type 0 where
   pub stop : end ≡ at + length w
   pub front : take end e ≡ take at d ++ w
@@ -17,7 +18,7 @@ pub record Put (w : List ℕ) (at : ℕ) (d : List ℕ) (end : ℕ) (e : List �
 abbrev pub pairLine : List ℕ → ℕ → List ℕ → ℕ → List ℕ
 pairLine first x second y = first ++ decimal x ++ second ++ decimal y ++ word "\n"
 
--- the lines of the first k rates
+-- the rate code of an entry, and the lines of the first k rates
 abbrev pub codeAt : ℕ → ℕ
 codeAt k = cond (eqb k 0) 10 (cond (eqb k 1) 20 (cond (eqb k 2) 55 110))
 

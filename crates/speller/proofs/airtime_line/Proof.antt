@@ -21,11 +21,15 @@ put-both-requires c κs = omega (arith, size (c .before .before .before .args .a
 
 put-word-requires : tie.Need-put-word-requires
 unfolding word
-put-word-requires c κs = omega (arith, size (c .before .before .before .before .before .before .before .before .args .airtime))
+put-word-requires c κs =
+    let start = c .before .before .before .before .before .before .before .before in
+    omega (arith, size (start .args .airtime))
 
 returns : tie.Need-returns
 unfolding word
-returns c = put-next (c .before .before .before .before .before .before .before .put-both .ensures) (c .before .before .put-word .ensures)
+returns c =
+    let last = c .before .before in
+    put-next (last .before .before .before .before .before .put-both .ensures) (last .put-word .ensures)
 
 pub airtime-line-spec : {M : Type 1} → statement M
 airtime-line-spec =

@@ -1,7 +1,7 @@
 -- `speller::places` meets its contract. The invariant: k is 1 and the digits passed; those left are counted in what is
 -- left of the number.
 -- Assumes nothing.
-use mathlib.Core.Path.{_≡_, sym, ap, _∙_}
+use mathlib.Core.Path.{_≡_, ap, _∙_}
 use Prim.Native.Nat.{ℕ, suc, _+_, _-_, _/_, _≤_, _<_}
 use native.Mathlib.Omega.{arith}
 use borrow.Author.Needs.{needs}
@@ -46,7 +46,7 @@ loop-less c = omega arith
 
 loop-again : tie.Need-loop-again Inv-loop μ-loop
 loop-again c =
-    (omega arith, more _ (c .before .before .loop .rest) _ (omega arith) (c .if1 .left) (c .before .before .loop .inv .1))
+    let now = c .before .before .loop in (omega arith, more _ (now .rest) _ (omega arith) (c .if1 .left) (now .inv .1))
 
 returns-2 : tie.Need-returns-2 Inv-loop μ-loop
 returns-2 c = full _ (c .before .loop .rest) (c .before .loop .k) (omega arith) (c .before .loop .inv .1)

@@ -39,7 +39,8 @@ put-both-requires-2 c κs =
 
 put-word-requires : tie.Need-put-word-requires
 put-word-requires c κs =
-    let start = c .before .before .before .before .before .before .before .before .before .before .before .before .before .args in
+    let start = c .before .before .before .before .before .before .before .before
+    .before .before .before .before .before .args in
     omega (
       arith,
       size (now (start .first)) (now (start .second)) (start .x) (start .y),

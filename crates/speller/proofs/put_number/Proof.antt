@@ -1,12 +1,22 @@
--- `speller::put_number` meets its contract. The invariant: the number's digits are those of what is left of it, and those
--- put from i on; before `at` nothing has changed.
+-- `speller::put_number` meets its contract. The invariant: the number's digits are those of what is left of it, and
+-- those put from i on; before `at` nothing has changed.
 -- Assumes nothing.
 use mathlib.Core.Path.{_≡_, refl, sym, ap, _∙_}
-use mathlib.Core.List.{List, [], _∷_, _++_, append-nil}
+use mathlib.Core.List.{List, _∷_, _++_, append-nil}
 use Prim.Native.Nat.{ℕ, suc, _+_, _-_, _/_, _%_, _≤_, _<_}
 use native.Mathlib.Omega.{arith}
-use lib.ListN.{length, getD, set, take, drop, length-set, take-append-drop}
-use lib.Seq.{append-snoc, take-take, take-set-le, take-set-lt, drop-set-lt, slice, slice-empty, slice-cons, getD-set-same}
+use lib.ListN.{length, set, take, length-set, take-append-drop}
+use lib.Seq.{
+  append-snoc,
+  take-take,
+  take-set-le,
+  take-set-lt,
+  drop-set-lt,
+  slice,
+  slice-empty,
+  slice-cons,
+  getD-set-same,
+}
 use borrow.Author.Needs.{needs}
 use Rattle.report.specs.Text.{digits, places, decimal}
 use Rattle.report.proofs.Spelling.{length-decimal}
@@ -28,7 +38,8 @@ start x at end d = rw (slice-empty end d) (sym (append-nil (digits (end - at) x)
 before : (i end v : ℕ) (d : List ℕ) → i < end → end ≤ length d → slice i end (set d i v) ≡ v ∷ slice (suc i) end d
 before i end v d h k =
     slice-cons i end (set d i v) 0 h (rw length-set k)
-    ∙ rw (getD-set-same d i v 0 (omega arith), take-set-lt end d i v h, drop-set-lt (suc i) (take end d) i v (omega arith))
+    ∙ rw
+    (getD-set-same d i v 0 (omega arith), take-set-lt end d i v h, drop-set-lt (suc i) (take end d) i v (omega arith))
 
 step : (ds d : List ℕ) (m j end rest : ℕ) → j < end → end ≤ length d
     → ds ≡ digits (suc m) rest ++ slice (suc j) end d

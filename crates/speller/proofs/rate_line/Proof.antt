@@ -17,7 +17,8 @@ size : (rate frames octets : ℕ) → length (rateLine rate frames octets)
 size rate frames octets = simp length-append (omega arith)
 
 line : (rate frames octets : ℕ) {at a r : ℕ} {d o e : List ℕ} → Put (word "rate " ++ decimal rate) at d a o
-    → Put (pairLine (word " frames ") frames (word " octets ") octets) a o r e → Put (rateLine rate frames octets) at d r e
+    → Put (pairLine (word " frames ") frames (word " octets ") octets) a o r e
+    → Put (rateLine rate frames octets) at d r e
 line rate frames octets p q = simp append-assoc (simp append-assoc at (put-next p q))
 
 put-both-requires : tie.Need-put-both-requires

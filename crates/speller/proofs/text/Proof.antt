@@ -1,6 +1,6 @@
 -- `speller::text` meets its contract: the text stands in a row of 980 octets, and is copied where there is room.
 -- Assumes nothing.
-use mathlib.Core.Path.{_≡_, sym, ap, ap₂, _∙_}
+use mathlib.Core.Path.{_≡_, ap, ap₂, _∙_}
 use mathlib.Core.List.{List, _++_}
 use Prim.Native.Nat.{ℕ, _+_, _-_, _≤_, _<_}
 use native.Mathlib.Omega.{arith}
@@ -59,11 +59,13 @@ returns : tie.Need-returns
 returns c =
     let test = c .before .before .before .before in
     let octets = now (test .before .before .before .before .before .args .octets) in
-    refused _ octets _ _ _ _ (test .before .before .put-text .ensures) (test .if1 .taken) (c .before .before .fill .ensures)
+    refused _ octets _ _ _ _ (test .before .before .put-text .ensures) (test .if1 .taken)
+    (c .before .before .fill .ensures)
 
 array-share-prefix-row : tie.Need-array-share-prefix-row
 array-share-prefix-row c =
-    omega (arith, c .before .before .put-text .ensures .stop, text-most (c .before .before .before .before .before .args .report))
+    let put = c .before .before in
+    omega (arith, put .put-text .ensures .stop, text-most (put .before .before .before .args .report))
 
 slice-aggregate-put-word : tie.Need-slice-aggregate-put-word
 slice-aggregate-put-word c = counted _ _ _ _ (c .before .before .before .put-text .ensures)
@@ -71,16 +73,24 @@ slice-aggregate-put-word c = counted _ _ _ _ (c .before .before .before .put-tex
 put-word-requires : tie.Need-put-word-requires
 put-word-requires c κs = omega (arith, counted _ _ _ _ (c .before .before .before .before .put-text .ensures))
 
-inside : (c : tie.After-slice-known3) → c .before .before .put-word .result ≤ length (c .before .before .put-word .last .1 .1 .0)
-inside c = omega (arith, counted _ _ _ _ (c .before .before .before .before .before .before .before .put-text .ensures), c .before .before .put-word .ensures .stop)
+-- the copy ends inside the buffer
+inside : (c : tie.After-slice-known3) → c .before .before .put-word .result
+    ≤ length (c .before .before .put-word .last .1 .1 .0)
+inside c =
+    let copy = c .before .before in
+    omega (
+      arith,
+      counted _ _ _ _ (copy .before .before .before .before .before .put-text .ensures),
+      copy .put-word .ensures .stop,
+    )
 
 returns-2 : tie.Need-returns-2
 returns-2 c =
     let test = c .before .before .before .before .before .before .before .before .before in
     let copy = c .before .before .before .before .before .before .put-word in
     let octets = now (test .before .before .before .before .before .args .octets) in
-    copied _ octets _ _ (copy .last .1 .1 .0) _ _ _ (test .before .before .put-text .ensures) (copy .ensures) (test .if1 .left)
-    (copy .kept .1 .1 .0) (c .before .before .fill2 .ensures)
+    copied _ octets _ _ (copy .last .1 .1 .0) _ _ _ (test .before .before .put-text .ensures) (copy .ensures)
+    (test .if1 .left) (copy .kept .1 .1 .0) (c .before .before .fill2 .ensures)
 
 pub text-spec : {M : Type 1} → statement M
 text-spec =
