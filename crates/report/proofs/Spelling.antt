@@ -30,6 +30,7 @@ use Rattle.report.specs.Text.{
   leadLine,
   textOf,
 }
+use Rattle.report.proofs.TextFacts.{code-digits}
 
 -- ---- how many digits
 
@@ -208,9 +209,9 @@ text-most p =
     let rates =
     joined
     (joined
-    (joined (rate-most 10 (getD (p .frames) 0 0) (getD (p .octets) 0 0) 2 refl)
-    (rate-most 20 (getD (p .frames) 1 0) (getD (p .octets) 1 0) 2 refl))
-    (rate-most 55 (getD (p .frames) 2 0) (getD (p .octets) 2 0) 2 refl))
-    (rate-most 110 (getD (p .frames) 3 0) (getD (p .octets) 3 0) 3 refl) in
+    (joined (rate-most 10 (getD (p .frames) 0 0) (getD (p .octets) 0 0) 2 (code-digits .0))
+    (rate-most 20 (getD (p .frames) 1 0) (getD (p .octets) 1 0) 2 (code-digits .1)))
+    (rate-most 55 (getD (p .frames) 2 0) (getD (p .octets) 2 0) 2 (code-digits .2)))
+    (rate-most 110 (getD (p .frames) 3 0) (getD (p .octets) 3 0) 3 (code-digits .3)) in
     joined (joined (joined rates (lines-most 17 (p .refused))) (airtime-most (p .airtime)))
     (lead-most (p .some) (p .lead) (p .recording)) .most

@@ -42,6 +42,12 @@ large : (decimal 9999999999999999999 ≡ word "9999999999999999999")
 unfolding word digits places decimal
 large = (refl, refl, refl)
 
+-- the rate codes
+pub code-digits : (length (decimal 10) ≡ 2) × (length (decimal 20) ≡ 2) × (length (decimal 55) ≡ 2)
+    × (length (decimal 110) ≡ 3)
+unfolding digits places decimal
+code-digits = (refl, refl, refl, refl)
+
 -- ---- whole texts
 
 -- a report of nothing
