@@ -5,25 +5,29 @@
 --     four-long               how long four lists are together
 --     lines-room, lines-turn  a loop that puts lines: there is room for the next, and it is put
 -- Assumes nothing.
-use mathlib.Core.Path.{_≡_, sym, ap, _∙_}
+use mathlib.Core.Path.{_≡_, refl, sym, ap, _∙_}
 use mathlib.Core.List.{List, [], _∷_, _++_, append-nil, append-assoc}
 use Prim.Native.Nat.{ℕ, zero, suc, _+_, _-_, _≤_, _<_}
 use native.Mathlib.Nat.{le-refl}
 use native.Mathlib.Numerals.{add-one}
 use native.Mathlib.Omega.{arith}
-use lib.ListN.{length, take, set, length-append}
-use lib.Seq.{take-suc-set}
+use lib.ListN.{length, take, drop, set, length-append}
+use lib.Seq.{take-suc-set, drop-set-lt, drop-drop}
 use Rattle.speller.specs.Put.{Put}
 
 pub put-none : (at n : ℕ) (d : List ℕ) → n ≡ at → Put [] at d n d
-put-none at n d e = record { stop = omega arith; front = rw e (sym (append-nil (take at d))) }
+put-none at n d e = record { stop = omega arith; front = rw e (sym (append-nil (take at d))); rest = refl }
+
+-- what is so from n on is so from further on
+further : (e d : List ℕ) (n m : ℕ) → drop n e ≡ drop n d → drop (n + m) e ≡ drop (n + m) d
+further e d n m h = sym (drop-drop m n e) ∙ ap (drop m) h ∙ drop-drop m n d
 
 pub put-more : {w : List ℕ} {at : ℕ} {d : List ℕ} {n : ℕ} {e : List ℕ} (v : ℕ) → Put w at d n e → n < length e
     → Put (w ++ (v ∷ [])) at d (n + 1) (set e n v)
 put-more {w} {at} {d} {n} {e} v p h = record {
   stop = rw length-append (omega (arith, p .stop));
-  front =
-      rw (add-one, take-suc-set e n v h, p .front) (append-assoc (take at d) w (v ∷ []));
+  front = rw (add-one, take-suc-set e n v h, p .front) (append-assoc (take at d) w (v ∷ []));
+  rest = drop-set-lt (n + 1) e n v (omega arith) ∙ further e d n 1 (p .rest);
 }
 
 pub put-next : {a b : List ℕ} {at : ℕ} {d : List ℕ} {n : ℕ} {e : List ℕ} {m : ℕ} {f : List ℕ} → Put a at d n e
@@ -31,6 +35,7 @@ pub put-next : {a b : List ℕ} {at : ℕ} {d : List ℕ} {n : ℕ} {e : List �
 put-next {a} {b} {at} {d} {n} {e} {m} {f} p q = record {
   stop = rw length-append (omega (arith, p .stop, q .stop));
   front = q .front ∙ rw (p .front) (append-assoc (take at d) a b);
+  rest = q .rest ∙ rw (q .stop) (further e d n (length b) (p .rest));
 }
 
 pub put-pair : {w : List ℕ} (a b : List ℕ) {at : ℕ} {d : List ℕ} {n : ℕ} {e : List ℕ} {m : ℕ} {f : List ℕ}

@@ -5,14 +5,15 @@ use mathlib.Core.Bool.{cond}
 use mathlib.Core.List.{List, [], _++_}
 use Prim.Native.Nat.{ℕ, zero, suc, _+_}
 use lib.Dec.{eqb}
-use lib.ListN.{length, getD, take}
+use lib.ListN.{length, getD, take, drop}
 use Rattle.report.specs.Text.{word, decimal, rateLine}
 
--- a row d with w put at `at` is a row e whose octets up to `end` are those of d up to `at`, and w; those after `end`
--- may be any
+-- a row d with w put at `at` is a row e: its octets up to `end` are those of d up to `at`, and w, and those from there on
+-- are as they were
 pub record Put (w : List ℕ) (at : ℕ) (d : List ℕ) (end : ℕ) (e : List ℕ) : Type 0 where
   pub stop : end ≡ at + length w
   pub front : take end e ≡ take at d ++ w
+  pub rest : drop end e ≡ drop end d
 
 -- a line of two words, each with its number
 abbrev pub pairLine : List ℕ → ℕ → List ℕ → ℕ → List ℕ

@@ -65,7 +65,7 @@ fn put_both(word: &[u8], x: u64, at: usize, out: &mut [u8]) -> usize
     put_number(x, end, out)
 }
 
-// Two words, each with its number, and the end of their line.
+// Two words, each with its number, and a line feed.
 fn put_line(first: &[u8], x: u64, second: &[u8], y: u64, at: usize, out: &mut [u8]) -> usize
     requires { ⌜ at + length (pairLine (now first) x (now second) y) ≤ length (now out) ⌝ }
     ensures answer { λ r. ⌜ Put (pairLine (now (first .entry)) x (now (second .entry)) y) at (now (out .entry))
@@ -73,7 +73,8 @@ fn put_line(first: &[u8], x: u64, second: &[u8], y: u64, at: usize, out: &mut [u
 {
     let a = put_both(first, x, at, out);
     let b = put_both(second, y, a, out);
-    put_word(b"\n", b, out)
+    out[b] = 10;
+    b + 1
 }
 
 // A rate's line.
@@ -116,7 +117,8 @@ fn airtime_line(airtime: u64, at: usize, out: &mut [u8]) -> usize
     ensures answer { λ r. ⌜ Put (airtimeLine airtime) at (now (out .entry)) r (now (out .exit)) ⌝ }
 {
     let a = put_both(b"airtime ", airtime, at, out);
-    put_word(b"\n", a, out)
+    out[a] = 10;
+    a + 1
 }
 
 // The line of the smallest lead, or of none.
@@ -175,17 +177,16 @@ pub fn text(report: Report, octets: &mut [u8]) -> Spelled
     ensures answer { λ r. ⌜ r ≡ spelledOf report (length (now (octets .entry))) ⌝ }
     ensures octets { λ _. ⌜ now (octets .exit) ≡ textLeft report (length (now (octets .entry))) ⌝ }
 {
+    rows::fill(octets, 0);
     let mut row = [0u8; 980];
     let count = put_text(report, &mut row);
     if octets.len() < count {
-        rows::fill(octets, 0);
         return Spelled {
             number: 17,
             octets: 0,
         };
     }
     let end = put_word(&row[..count], 0, octets);
-    rows::fill(&mut octets[end..], 0);
     Spelled {
         number: 0,
         octets: end as u64,

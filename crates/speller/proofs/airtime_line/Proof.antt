@@ -7,7 +7,7 @@ use native.Mathlib.Omega.{arith}
 use lib.ListN.{length, length-append}
 use borrow.Author.Needs.{needs}
 use Rattle.report.specs.Text.{word, decimal, airtimeLine}
-use Rattle.speller.proofs.Puts.{put-next}
+use Rattle.speller.proofs.Puts.{put-more}
 use Rattle.speller.proofs.airtime_line.Statement.{statement}
 use Rattle.speller.proofs.airtime_line.Tie as tie
 
@@ -19,20 +19,17 @@ put-both-requires : tie.Need-put-both-requires
 unfolding word
 put-both-requires c κs = omega (arith, size (c .before .before .before .args .airtime))
 
-put-word-requires : tie.Need-put-word-requires
+slice-write-out : tie.Need-slice-write-out
 unfolding word
-put-word-requires c κs =
-    let start = c .before .before .before .before .before .before .before .before in
-    omega (arith, size (start .args .airtime))
+slice-write-out c = omega (arith, size (c .before .before .before .before .before .before .args .airtime))
 
 returns : tie.Need-returns
 unfolding word
-returns c =
-    let last = c .before .before in
-    put-next (last .before .before .before .before .before .put-both .ensures) (last .put-word .ensures)
+returns c = put-more 10 (c .before .before .put-both .ensures) (slice-write-out c)
 
 pub airtime-line-spec : {M : Type 1} → statement M
 airtime-line-spec =
     tie.close
     (tie.spec
-    (λ c. search needs) put-both-requires (λ c. search needs) put-word-requires (λ c. search needs) returns)
+    (λ c. search needs) put-both-requires slice-write-out (λ c. omega (arith, slice-write-out c)) (λ c. search needs)
+    returns)

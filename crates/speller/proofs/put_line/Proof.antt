@@ -4,12 +4,11 @@ use mathlib.Core.Path.{_≡_}
 use mathlib.Core.List.{List}
 use Prim.Native.Nat.{ℕ, suc, _+_}
 use native.Mathlib.Omega.{arith}
-use lib.ListN.{length, length-append}
-use borrow.Author.Needs.{needs}
+use lib.ListN.{length, length-append, length-set}
 use denote.Ref.{now}
 use Rattle.report.specs.Text.{word, decimal}
 use Rattle.speller.specs.Put.{pairLine}
-use Rattle.speller.proofs.Puts.{put-next, put-pair}
+use Rattle.speller.proofs.Puts.{put-more, put-pair}
 use Rattle.speller.proofs.put_line.Statement.{statement}
 use Rattle.speller.proofs.put_line.Tie as tie
 
@@ -37,10 +36,9 @@ put-both-requires-2 c κs =
       length-append (now (start .second)) (decimal (start .y)),
     )
 
-put-word-requires : tie.Need-put-word-requires
-put-word-requires c κs =
-    let start = c .before .before .before .before .before .before .before .before
-    .before .before .before .before .before .args in
+slice-write-out : tie.Need-slice-write-out
+slice-write-out c =
+    let start = c .before .before .before .before .before .before .before .before .before .before .before .args in
     omega (
       arith,
       size (now (start .first)) (now (start .second)) (start .x) (start .y),
@@ -51,16 +49,16 @@ put-word-requires c κs =
 returns : tie.Need-returns
 unfolding word
 returns c =
-    let last = c .before .before in
-    let second = last .before .before .before .before .before in
+    let second = c .before .before in
     let first = second .before .before .before .before in
     let start = first .before .before .before .before .before .args in
-    put-next
+    put-more 10
     (put-pair (now (start .second)) (decimal (start .y)) (first .put-both .ensures) (second .put-both2 .ensures))
-    (last .put-word .ensures)
+    (slice-write-out c)
 
 pub put-line-spec : {M : Type 1} → statement M
 put-line-spec =
     tie.close
     (tie.spec
-    put-both-requires put-both-requires-2 (λ c. search needs) put-word-requires (λ c. search needs) returns)
+    put-both-requires put-both-requires-2 slice-write-out (λ c. omega (arith, slice-write-out c))
+    (λ c. simp length-set (omega arith)) returns)

@@ -1,11 +1,11 @@
 -- `speller::put_number` meets its contract. The invariant: the number's digits are those of what is left of it, and
--- those put from i on; before `at` nothing has changed.
+-- those put from i on; before `at` and from the end on nothing has changed.
 -- Assumes nothing.
 use mathlib.Core.Path.{_≡_, refl, sym, ap, _∙_}
 use mathlib.Core.List.{List, _∷_, _++_, append-nil}
 use Prim.Native.Nat.{ℕ, suc, _+_, _-_, _/_, _%_, _≤_, _<_}
 use native.Mathlib.Omega.{arith}
-use lib.ListN.{length, set, take, length-set, take-append-drop}
+use lib.ListN.{length, set, take, drop, length-set, take-append-drop}
 use lib.Seq.{
   append-snoc,
   take-take,
@@ -26,7 +26,8 @@ use Rattle.speller.proofs.put_number.Tie as tie
 
 abbrev Inv-loop : tie.InvT-loop
 Inv-loop x at out₀ end rest₀ i₀ out rest i = (at ≤ i) × (i ≤ end) × (length out ≡ length out₀)
-    × (take at out ≡ take at out₀) × (digits (end - at) x ≡ digits (i - at) rest ++ slice i end out)
+    × (take at out ≡ take at out₀) × (drop end out ≡ drop end out₀)
+    × (digits (end - at) x ≡ digits (i - at) rest ++ slice i end out)
 
 abbrev μ-loop : tie.MeasureT-loop
 μ-loop x at out₀ end rest₀ i₀ out rest i = i
@@ -60,23 +61,29 @@ turn ds d at i end rest h k l e =
 kept : (d e : List ℕ) (at i v : ℕ) → at < i → take at e ≡ take at d → take at (set e (i - 1) v) ≡ take at d
 kept d e at i v h f = take-set-le at e (i - 1) v (omega arith) ∙ f
 
+after : (d e : List ℕ) (i end v : ℕ) → 0 < i → i ≤ end → drop end e ≡ drop end d
+    → drop end (set e (i - 1) v) ≡ drop end d
+after d e i end v h k f = drop-set-lt end e (i - 1) v (omega arith) ∙ f
+
 whole : (x at n i rest : ℕ) (d e : List ℕ) → n ≡ places 19 x → i ≡ at → take at e ≡ take at d
+    → drop (at + n) e ≡ drop (at + n) d
     → digits (at + n - at) x ≡ digits (i - at) rest ++ slice i (at + n) e → Put (decimal x) at d (at + n) e
 unfolding digits decimal
-whole x at n i rest d e h z f g =
+whole x at n i rest d e h z f r g =
     let none : at - at ≡ 0 = omega arith in
     let count : at + n - at ≡ places 19 x = omega arith in
     let put : digits (places 19 x) x ≡ slice at (at + n) e = rw (z, none, count) at g in
     record {
       stop = omega (arith, length-decimal x);
       front = sym (take-append-drop at (take (at + n) e)) ∙ rw (take-take at (at + n) e (omega arith), f, put);
+      rest = r;
     }
 
 add-end : tie.Need-add-end Inv-loop μ-loop
 add-end c = omega (arith, length-decimal (c .before .before .args .x))
 
 loop-holds : tie.Need-loop-holds Inv-loop μ-loop
-loop-holds c = (omega arith, omega arith, refl, refl, start _ _ _ _)
+loop-holds c = (omega arith, omega arith, refl, refl, refl, start _ _ _ _)
 
 slice-write-out : tie.Need-slice-write-out Inv-loop μ-loop
 slice-write-out c = omega (arith, length-decimal (c .before .before .before .before .args .x))
@@ -90,15 +97,16 @@ loop-again c =
       omega arith,
       simp length-set (omega arith),
       kept _ (now .out) (start .args .at) (now .i) _ (omega arith) (now .inv .3),
+      after _ (now .out) (now .i) end _ (omega arith) (omega arith) (now .inv .4),
       turn _ (now .out) (start .args .at) (now .i) end (now .rest) (omega arith) (omega arith)
-          (omega (arith, length-decimal (start .args .x))) (now .inv .4),
+          (omega (arith, length-decimal (start .args .x))) (now .inv .5),
     )
 
 returns : tie.Need-returns Inv-loop μ-loop
 returns c =
     let now = c .before .loop in
     whole _ _ _ (now .i) (now .rest) _ (now .out) (c .before .before .places .ensures) (omega arith) (now .inv .3)
-    (now .inv .4)
+    (now .inv .4) (now .inv .5)
 
 pub put-number-spec : {M : Type 1} → statement M
 put-number-spec =
