@@ -1,6 +1,6 @@
 -- `speller::text` meets its contract: the text stands in a row of 980 octets, and is copied where there is room.
 -- Assumes nothing.
-use mathlib.Core.Path.{_≡_, refl, sym, ap, ap₂, _∙_}
+use mathlib.Core.Path.{_≡_, sym, ap, ap₂, _∙_}
 use mathlib.Core.List.{List, _++_}
 use Prim.Native.Nat.{ℕ, zero, suc, _-_, _≤_, _<_}
 use native.Mathlib.Omega.{arith}
@@ -66,7 +66,8 @@ returns c =
 array-share-prefix-row : tie.Need-array-share-prefix-row
 array-share-prefix-row c =
     let put = c .before .before in
-    omega (arith, put .put-text .ensures .stop, text-most (put .before .before .before .before .before .before .before .args .report))
+    let start = put .before .before .before .before .before .before .before in
+    omega (arith, put .put-text .ensures .stop, text-most (start .args .report))
 
 slice-aggregate-put-word : tie.Need-slice-aggregate-put-word
 slice-aggregate-put-word c = counted _ _ _ _ (c .before .before .before .put-text .ensures)
