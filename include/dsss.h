@@ -180,8 +180,8 @@ typedef struct {
 
 /* The month's report: what was counted of the hard recordings that it has seen, each read under its own
  * kind and with room for DSSS_PAYLOAD_MAX octets, so that 17 does not come. It begins with all zeros,
- * dsss_report report = {0} (in C++ dsss_report()), and is then kept by its calls alone. Rows of rates go by rate code, rising:
- * 10, 20, 55, 110. A frame is accepted if its read answers 0. */
+ * dsss_report report = {0} (in C++ dsss_report()), and is then kept by its calls alone. Rows of rates go by
+ * rate code, rising: 10, 20, 55, 110. A frame is accepted if its read answers 0. */
 typedef struct {
     uint64_t seen;        /* recordings counted: all of frames and of refused; at most DSSS_RECORDINGS_MAX */
     uint64_t frames[4];   /* frames accepted, by rate */

@@ -2,18 +2,31 @@
 -- and lead of a frame, or number and LENGTH of a refusal.
 -- Assumes nothing.
 use mathlib.Core.Path.{_≡_, refl}
-use mathlib.Core.Bool.{true, false}
+use mathlib.Core.Bool.{Bool, true, false, cond, _||_}
 use mathlib.Core.List.{List, [], _∷_, _++_, map}
 use mathlib.Core.Option.{some}
-use Prim.Native.Nat.{ℕ, _*_}
+use Prim.Native.Nat.{ℕ, _*_, _≤_, _<_}
+use borrow.Author.Tests.{lt-ltb, le-ltb, ne-eqb}
+use lib.Dec.{eqb, ltb}
 use lib.ListN.{length, replicate, set}
 use Rattle.base.specs.Tables.{tabulate}
 use Rattle.chips.specs.Chips.{hardRecording}
 use Rattle.frame.specs.declared.Kind.the-variants.{Long, Short}
 use Rattle.frame.specs.Frame.{frontChips}
-use Rattle.reading.specs.Reading.{frontOf, readingOf}
+use Rattle.reading.specs.Reading.{firstUnusable, frontOf, readingOf}
 use Rattle.report.specs.Totals.{Recording, Outcome, outcomeOf, total, frontTime, closestFrom}
-use Rattle.report.specs.Report.{reportOf, more, added, atMost, takesMore, countedOf, recordings, listOf}
+use Rattle.report.specs.Report.{
+  reportOf,
+  more,
+  added,
+  atMost,
+  takesMore,
+  countedOf,
+  recordings,
+  listOf,
+  withFrame,
+  withRefusal,
+}
 use Rattle.report.specs.declared.Report.{Report}
 use Rattle.report.specs.declared.Counted.{Counted}
 
@@ -132,6 +145,34 @@ pub refusals-more : added (odd 1 7) (refusal 0 1 0) ∷ added (odd 0 7) (refusal
 unfolding tabulate more added
 refusals-more = refl
 
+-- and of any numbers: what a refusal leaves, and when a frame's lead is taken
+pub refusal-leaves : (p : Report) (o : Outcome)
+    → (withRefusal p o .frames ≡ p .frames) × (withRefusal p o .octets ≡ p .octets)
+    × (withRefusal p o .airtime ≡ p .airtime) × (withRefusal p o .some ≡ p .some) × (withRefusal p o .lead ≡ p .lead)
+    × (withRefusal p o .recording ≡ p .recording)
+refusal-leaves p o = (refl, refl, refl, refl, refl, refl)
+
+pub lead-kept : (p : Report) (o : Outcome) → (p .some ≡ 0 → ⊥) → p .lead ≤ o .answer .lead
+    → (withFrame p o .some ≡ p .some) × (withFrame p o .lead ≡ p .lead) × (withFrame p o .recording ≡ p .recording)
+lead-kept p o n h = (simp (there, not-less), simp (there, not-less), simp (there, not-less))
+  where
+    there : eqb (p .some) 0 ≡ false
+    there = ne-eqb (p .some) 0 n
+
+    not-less : ltb (o .answer .lead) (p .lead) ≡ false
+    not-less = le-ltb (o .answer .lead) (p .lead) h
+
+pub lead-taken : (p : Report) (o : Outcome) → o .answer .lead < p .lead
+    → (withFrame p o .some ≡ 1) × (withFrame p o .lead ≡ o .answer .lead) × (withFrame p o .recording ≡ p .seen)
+lead-taken p o h = by (eqb (p .some) 0) (lt-ltb (o .answer .lead) (p .lead) h)
+  where
+    by : (t : Bool) → ltb (o .answer .lead) (p .lead) ≡ true
+        → (cond (t || ltb (o .answer .lead) (p .lead)) 1 (p .some) ≡ 1)
+        × (cond (t || ltb (o .answer .lead) (p .lead)) (o .answer .lead) (p .lead) ≡ o .answer .lead)
+        × (cond (t || ltb (o .answer .lead) (p .lead)) (p .seen) (p .recording) ≡ p .seen)
+    by true e = (refl, refl, refl)
+    by false e = (rw e, rw e, rw e)
+
 -- ---- 31: each number at its limit and one above, at the first and the last entry of its row
 abbrev full : ℕ → ℕ → ℕ → ℕ → ℕ → ℕ → ℕ → ℕ → Report
 full seen f f′ o o′ r r′ airtime =
@@ -145,7 +186,7 @@ pub limits : map takesMore
 unfolding atMost takesMore
 limits = refl
 
--- ---- the calls, with recordings of no kind and of no chips
+-- ---- the calls, with recordings of no kind, of no chips, and of a front's chips that are unusable
 
 abbrev counts : ℕ → Report → Counted
 counts number p = record { number = number; report = p }
@@ -156,12 +197,15 @@ zeros = report 0 (replicate 4 0) (replicate 4 0) (replicate 18 0) 0 0 0 0
 abbrev none-of : ℕ → Recording
 none-of kind = record { kind = kind; chips = [] }
 
-pub called : countedOf zeros (none-of 2) ∷ countedOf zeros (none-of 1)
+pub called : countedOf zeros (none-of 2) ∷ countedOf zeros (none-of 4294967296) ∷ countedOf zeros (none-of 1)
+    ∷ countedOf zeros (record { kind = 1; chips = replicate 1056 5 })
     ∷ countedOf (full 1000 1 2 3 4 5 6 7) (none-of 2) ∷ countedOf (full 0 1001 0 0 0 0 0 0) (none-of 2) ∷ []
     ≡ counts 0 (report 1 (replicate 4 0) (replicate 4 0) (set (replicate 18 0) 1 1) 0 0 0 0)
+    ∷ counts 0 (report 1 (replicate 4 0) (replicate 4 0) (set (replicate 18 0) 1 1) 0 0 0 0)
     ∷ counts 0 (report 1 (replicate 4 0) (replicate 4 0) (set (replicate 18 0) 8 1) 0 0 0 0)
+    ∷ counts 0 (report 1 (replicate 4 0) (replicate 4 0) (set (replicate 18 0) 9 1) 0 0 0 0)
     ∷ counts 31 (full 1000 1 2 3 4 5 6 7) ∷ counts 31 (full 0 1001 0 0 0 0 0 0) ∷ []
-unfolding hardRecording readingOf frontOf more added atMost takesMore countedOf
+unfolding hardRecording firstUnusable readingOf frontOf more added atMost takesMore countedOf
 called = refl
 
 -- lists: of none; rows that differ in length, either way; kinds and chips in step
