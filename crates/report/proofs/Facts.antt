@@ -209,8 +209,8 @@ unfolding hardRecording firstUnusable readingOf frontOf more added atMost takesM
 called = refl
 
 -- lists: of none; rows that differ in length, either way; kinds and chips in step
-pub listed : listOf [] [] ∷ listOf (replicate 1001 2) [] ∷ listOf (2 ∷ 2 ∷ []) ([] ∷ []) ∷ listOf (2 ∷ []) ([] ∷ [] ∷ [])
-    ∷ listOf (2 ∷ 1 ∷ 256 ∷ []) ((5 ∷ []) ∷ [] ∷ [] ∷ []) ∷ []
+pub listed : listOf [] [] ∷ listOf (replicate 1001 2) [] ∷ listOf (2 ∷ 2 ∷ []) ([] ∷ [])
+    ∷ listOf (2 ∷ []) ([] ∷ [] ∷ []) ∷ listOf (2 ∷ 1 ∷ 256 ∷ []) ((5 ∷ []) ∷ [] ∷ [] ∷ []) ∷ []
     ≡ counts 0 zeros ∷ counts 7 zeros ∷ counts 7 zeros ∷ counts 7 zeros
     ∷ counts 0 (report 3 (replicate 4 0) (replicate 4 0) (set (set (replicate 18 0) 1 2) 8 1) 0 0 0 0) ∷ []
 unfolding hardRecording total closestFrom tabulate readingOf frontOf reportOf recordings listOf
