@@ -37,19 +37,21 @@ module _ (m : ℕ) (row : List ℕ) (i : ℕ) where
   unfolding atMost
   at-most-end h = rw (drop-of-length-le row h)
 
-pub at-most-at : (m : ℕ) (row : List ℕ) → atMost m row ≡ true → (j : ℕ) → j < length row → getD row j 0 ≤ m
+-- every entry, and the 0 that stands for one past the end
+pub at-most-at : (m : ℕ) (row : List ℕ) → atMost m row ≡ true → (j : ℕ) → getD row j 0 ≤ m
 unfolding atMost
-at-most-at m [] e j h = absurd (not-suc-le-zero h)
-at-most-at m (x ∷ row) e zero h = leb-true x m (left-is (leb x m) (atMost m row) e)
-at-most-at m (x ∷ row) e (suc j) h = at-most-at m row (right-is (leb x m) (atMost m row) e) j (le-of-suc-le-suc h)
+at-most-at m [] e zero = omega arith
+at-most-at m [] e (suc j) = omega arith
+at-most-at m (x ∷ row) e zero = leb-true x m (left-is (leb x m) (atMost m row) e)
+at-most-at m (x ∷ row) e (suc j) = at-most-at m row (right-is (leb x m) (atMost m row) e) j
 
 -- ---- a report that takes one more
 
 pub record Takes (p : Report) : Type 0 where
   pub few : p .seen < 1000
-  pub frames : (j : ℕ) → j < length (p .frames) → getD (p .frames) j 0 ≤ 1000
-  pub octets : (j : ℕ) → j < length (p .octets) → getD (p .octets) j 0 ≤ 4095000
-  pub refused : (j : ℕ) → j < length (p .refused) → getD (p .refused) j 0 ≤ 1000
+  pub frames : (j : ℕ) → getD (p .frames) j 0 ≤ 1000
+  pub octets : (j : ℕ) → getD (p .octets) j 0 ≤ 4095000
+  pub refused : (j : ℕ) → getD (p .refused) j 0 ≤ 1000
   pub brief : p .airtime ≤ 32952000
 
 pub takes : (p : Report) → takesMore p ≡ true → Takes p

@@ -1,17 +1,16 @@
 -- Every promise of the month's report is kept. A report kept between calls is the report of the first 1,000 recordings,
 -- by induction over the calls; all else follows from that and from the totals. Assumes nothing.
 use mathlib.Core.Path.{_≡_, refl, sym, ap, _∙_, subst}
-use mathlib.Core.Bool.{Bool, true, false, cond, _&&_}
+use mathlib.Core.Bool.{Bool, true, false, cond}
 use mathlib.Core.List.{List, [], _∷_, _++_, map}
 use Prim.Native.Nat.{ℕ, zero, suc, _+_, _-_, _≤_, _<_}
 use native.Mathlib.Nat.{not-suc-le-zero, le-trans}
 use native.Mathlib.Decide.{decLt}
 use native.Mathlib.Omega.{arith}
-use borrow.Author.Tests.{lt-ltb, le-ltb, le-leb, lt-leb, leb-true, ltb-true, eq-eqb, ne-eqb}
-use lib.Dec.{ltb, leb}
+use borrow.Author.Tests.{lt-ltb, le-ltb, le-leb, lt-leb, eq-eqb, ne-eqb}
+use lib.Dec.{leb}
 use lib.ListN.{length, getD, take, replicate, length-map, length-append, length-take, length-replicate}
 use lib.Seq.{take-all, take-append-seam, drop-append-seam}
-use Rattle.base.proofs.Tests.{left-is, right-is}
 use Rattle.base.specs.Tables.{tabulate}
 use Rattle.report.specs.declared.Report.{Report}
 use Rattle.report.specs.declared.Counted.{Counted}
@@ -30,6 +29,7 @@ use Rattle.report.specs.Report.{
 }
 use Rattle.report.specs.Text.{textOf, spelledOf, textLeft}
 use Rattle.report.proofs.Taking.{counted-next, counted-full}
+use Rattle.report.proofs.Lists.{takes}
 use Rattle.report.proofs.Spelling.{text-most}
 use Rattle.report_promises.specs.Calls.{empty, Kept, nothing-yet, one-more, Readings, none-read, one-read}
 use Rattle.report_promises.specs.Promises.{
@@ -124,13 +124,6 @@ kept-answers rs p kind chips c k a =
 
 -- ---- any report whatever
 
-row-within : (m : ℕ) (l : List ℕ) → atMost m l ≡ true → (j : ℕ) → getD l j 0 ≤ m
-unfolding atMost
-row-within m [] h zero = omega arith
-row-within m [] h (suc j) = omega arith
-row-within m (x ∷ l) h zero = leb-true x m (left-is (leb x m) (atMost m l) h)
-row-within m (x ∷ l) h (suc j) = row-within m l (right-is (leb x m) (atMost m l) h) j
-
 within-row : (m : ℕ) (l : List ℕ) → ((j : ℕ) → getD l j 0 ≤ m) → atMost m l ≡ true
 unfolding atMost
 within-row m [] h = refl
@@ -148,23 +141,14 @@ within-takes p w =
     )
 
 takes-within : (p : Report) → takesMore p ≡ true → Within p
-unfolding takesMore
 takes-within p h =
-    let four = left-is _ (leb (p .airtime) 32952000) h in
-    let three = left-is _ (atMost 1000 (p .refused)) four in
-    let two = left-is _ (atMost 4095000 (p .octets)) three in
+    let t = takes p h in
     record {
-      seen-below = ltb-true (p .seen) 1000 (left-is _ (atMost 1000 (p .frames)) two);
-      frames-within = row-within 1000 (p .frames) (right-is (ltb (p .seen) 1000) _ two);
-      octets-within = row-within 4095000 (p .octets) (right-is (ltb (p .seen) 1000 && atMost 1000 (p .frames)) _ three);
-      refused-within =
-          row-within 1000 (p .refused)
-          (right-is (ltb (p .seen) 1000 && atMost 1000 (p .frames) && atMost 4095000 (p .octets)) _ four);
-      airtime-within =
-          leb-true (p .airtime) 32952000
-          (right-is
-          (ltb (p .seen) 1000 && atMost 1000 (p .frames) && atMost 4095000 (p .octets) && atMost 1000 (p .refused))
-          _ h);
+      seen-below = t .few;
+      frames-within = t .frames;
+      octets-within = t .octets;
+      refused-within = t .refused;
+      airtime-within = t .brief;
     }
 
 seen-more : (p : Report) (o : Outcome) → added p o .seen ≡ p .seen + 1

@@ -5,7 +5,7 @@ use mathlib.Core.Bool.{Bool, true, false, cond}
 use Prim.Native.Nat.{ℕ, _+_, _<_}
 use native.Mathlib.Omega.{arith}
 use lib.Dec.{eqb, lit<}
-use lib.ListN.{length, getD, set, length-map}
+use lib.ListN.{getD, set}
 use borrow.Author.Tests.{not-true, not-false}
 use Rattle.calls.specs.declared.Record.{Record}
 use Rattle.report.specs.Totals.{frontTime}
@@ -53,19 +53,13 @@ frames-fit : tie.Need-add-q-2
 frames-fit c =
     let rate = c .before .before in
     let s = rate .before in
-    let long : length (s .args .p .frames) ≡ 4 =
-    sym (length-map (s .args .p .frames) (λ x. x)) ∙ s .good .0 .1 .1 .1 .0 .1 .0 .1 in
-    let few = entry-few (s .args .a .rate) _ (rate .entry-of .ensures) in
-    omega (arith, takes (s .args .p) (s .pre .0) .frames (rate .entry-of .result) (omega arith))
+    omega (arith, takes (s .args .p) (s .pre .0) .frames (rate .entry-of .result))
 
 octets-fit : tie.Need-add-q-3
 octets-fit c =
     let rate = c .before .before .before .before in
     let s = rate .before in
-    let long : length (s .args .p .octets) ≡ 4 =
-    sym (length-map (s .args .p .octets) (λ x. x)) ∙ s .good .0 .1 .1 .1 .1 .0 .1 .0 .1 in
-    let few = entry-few (s .args .a .rate) _ (rate .entry-of .ensures) in
-    omega (arith, takes (s .args .p) (s .pre .0) .octets (rate .entry-of .result) (omega arith), s .pre .1)
+    omega (arith, takes (s .args .p) (s .pre .0) .octets (rate .entry-of .result), s .pre .1)
 
 time-fits : tie.Need-add-q-4
 time-fits c =
