@@ -1,11 +1,10 @@
 -- What putting octets into a row, from a place on, comes to; and lines as the code puts them.
 -- Definitions only. Assumes nothing.
 use mathlib.Core.Path.{_≡_}
-use mathlib.Core.Bool.{cond}
 use mathlib.Core.List.{List, [], _++_}
 use Prim.Native.Nat.{ℕ, zero, suc, _+_}
-use lib.Dec.{eqb}
 use lib.ListN.{length, getD, take, drop}
+use Rattle.report.specs.Report.{codes}
 use Rattle.report.specs.Text.{word, decimal, rateLine}
 
 -- a row d with w put at `at` is a row e: its octets up to `end` are those of d up to `at`, and w; from there on they
@@ -21,7 +20,7 @@ pairLine first x second y = first ++ decimal x ++ second ++ decimal y ++ word "\
 
 -- the rate code of an entry, and the lines of the first k rates
 abbrev pub codeAt : ℕ → ℕ
-codeAt k = cond (eqb k 0) 10 (cond (eqb k 1) 20 (cond (eqb k 2) 55 110))
+codeAt k = getD codes k 110
 
 unfoldable pub rateLines : ℕ → List ℕ → List ℕ → List ℕ
 rateLines zero frames octets = []

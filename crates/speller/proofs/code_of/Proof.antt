@@ -1,14 +1,17 @@
 -- `speller::code_of` meets its contract.
 -- Assumes nothing.
-use mathlib.Core.Path.{_≡_}
-use Prim.Native.Nat.{ℕ}
-use borrow.Author.Tests.{ne-eqb}
+use mathlib.Core.Path.{_≡_, refl}
+use Prim.Native.Nat.{ℕ, zero, suc}
 use Rattle.speller.specs.Put.{codeAt}
 use Rattle.speller.proofs.code_of.Statement.{statement}
 use Rattle.speller.proofs.code_of.Tie as tie
 
 other : (k : ℕ) → (k ≡ 0 → ⊥) → (k ≡ 1 → ⊥) → (k ≡ 2 → ⊥) → 110 ≡ codeAt k
-other k a b c = rw (ne-eqb k 0 a, ne-eqb k 1 b, ne-eqb k 2 c)
+other zero a b c = absurd (a refl)
+other (suc zero) a b c = absurd (b refl)
+other (suc (suc zero)) a b c = absurd (c refl)
+other (suc (suc (suc zero))) a b c = refl
+other (suc (suc (suc (suc k)))) a b c = refl
 
 pub code-of-spec : {M : Type 1} → statement M
 code-of-spec =
