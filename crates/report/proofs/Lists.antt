@@ -1,6 +1,7 @@
 -- Rows and lists as code goes through them, entry by entry.
 --     at-most-more, at-most-past, at-most-end     a row's test, from its front on
---     at-most-at, takes                           what a report that takes one more has in it
+--     at-most-at, at-most-all                     what the test says of the row's entries
+--     takes, within-takes                         a report takes one more just where it is within the limits
 --     more-set                                    a row with more at one entry is written at that entry
 --     length-recordings, recordings-next          recordings, and one more of them
 -- Assumes nothing.
@@ -11,13 +12,13 @@ use Prim.Native.Nat.{ℕ, zero, suc, _+_, _≤_, _<_}
 use native.Mathlib.Nat.{not-suc-le-zero, le-of-suc-le-suc}
 use native.Mathlib.Numerals.{add-one}
 use native.Mathlib.Omega.{arith}
-use borrow.Author.Tests.{ltb-true, leb-true, le-leb, lt-leb}
+use borrow.Author.Tests.{lt-ltb, ltb-true, leb-true, le-leb, lt-leb}
 use lib.Dec.{ltb, leb}
 use lib.ListN.{length, getD, take, drop, set, drop-of-length-le}
 use lib.Seq.{drop-cons}
 use Rattle.base.proofs.Tests.{left-is, right-is}
 use Rattle.report.specs.Totals.{Recording}
-use Rattle.report.specs.Report.{more, atMost, takesMore, recordings}
+use Rattle.report.specs.Report.{more, atMost, takesMore, Within, recordings}
 use Rattle.report.specs.declared.Report.{Report}
 
 -- ---- a row's test
@@ -45,16 +46,14 @@ at-most-at m [] e (suc j) = omega arith
 at-most-at m (x ∷ row) e zero = leb-true x m (left-is (leb x m) (atMost m row) e)
 at-most-at m (x ∷ row) e (suc j) = at-most-at m row (right-is (leb x m) (atMost m row) e) j
 
--- ---- a report that takes one more
+pub at-most-all : (m : ℕ) (row : List ℕ) → ((j : ℕ) → getD row j 0 ≤ m) → atMost m row ≡ true
+unfolding atMost
+at-most-all m [] h = refl
+at-most-all m (x ∷ row) h = rw (le-leb x m (h 0)) (at-most-all m row (λ j. h (suc j)))
 
-pub record Takes (p : Report) : Type 0 where
-  pub few : p .seen < 1000
-  pub frames : (j : ℕ) → getD (p .frames) j 0 ≤ 1000
-  pub octets : (j : ℕ) → getD (p .octets) j 0 ≤ 4095000
-  pub refused : (j : ℕ) → getD (p .refused) j 0 ≤ 1000
-  pub brief : p .airtime ≤ 32952000
+-- ---- a report that takes one more is within the limits, and one within them takes one more
 
-pub takes : (p : Report) → takesMore p ≡ true → Takes p
+pub takes : (p : Report) → takesMore p ≡ true → Within p
 unfolding takesMore
 takes p e =
     let a = ltb (p .seen) 1000 in
@@ -65,12 +64,23 @@ takes p e =
     let first-three = left-is (a && b && c) d first-four in
     let first-two = left-is (a && b) c first-three in
     record {
-      few = ltb-true (p .seen) 1000 (left-is a b first-two);
-      frames = at-most-at 1000 (p .frames) (right-is a b first-two);
-      octets = at-most-at 4095000 (p .octets) (right-is (a && b) c first-three);
-      refused = at-most-at 1000 (p .refused) (right-is (a && b && c) d first-four);
-      brief = leb-true (p .airtime) 32952000 (right-is (a && b && c && d) _ e);
+      seen-below = ltb-true (p .seen) 1000 (left-is a b first-two);
+      frames-within = at-most-at 1000 (p .frames) (right-is a b first-two);
+      octets-within = at-most-at 4095000 (p .octets) (right-is (a && b) c first-three);
+      refused-within = at-most-at 1000 (p .refused) (right-is (a && b && c) d first-four);
+      airtime-within = leb-true (p .airtime) 32952000 (right-is (a && b && c && d) _ e);
     }
+
+pub within-takes : (p : Report) → Within p → takesMore p ≡ true
+unfolding takesMore
+within-takes p w =
+    simp (
+      lt-ltb (p .seen) 1000 (w .seen-below),
+      at-most-all 1000 (p .frames) (w .frames-within),
+      at-most-all 4095000 (p .octets) (w .octets-within),
+      at-most-all 1000 (p .refused) (w .refused-within),
+      le-leb (p .airtime) 32952000 (w .airtime-within),
+    )
 
 -- ---- a row with more at one entry
 

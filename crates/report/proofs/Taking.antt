@@ -9,11 +9,10 @@ use mathlib.Core.List.{List, [], _∷_, _++_, map}
 use Prim.Native.Nat.{ℕ, zero, suc, _+_, _*_, _≤_, _<_}
 use native.Mathlib.Nat.{le-refl}
 use native.Mathlib.Omega.{arith}
-use borrow.Author.Tests.{lt-ltb, le-ltb, le-leb, eqb-true}
-use lib.Dec.{eqb, leb, lit≤}
-use lib.ListN.{length, length-map}
-use Rattle.base.specs.Tables.{tabulate}
-use Rattle.base.proofs.Tests.{left-is, right-is}
+use borrow.Author.Tests.{le-ltb, eqb-true}
+use lib.Dec.{eqb, lit≤}
+use lib.ListN.{length, getD, length-map}
+use Rattle.base.proofs.Tables.{tabulate-all}
 use Rattle.report.specs.Totals.{
   Recording,
   Outcome,
@@ -26,12 +25,13 @@ use Rattle.report.specs.Totals.{
   frontTime,
   airtimeOf,
 }
-use Rattle.report.specs.Report.{reportOf, atMost, takesMore, countedOf}
+use Rattle.report.specs.Report.{codes, reportOf, takesMore, Within, countedOf}
 use Rattle.report.specs.declared.Report.{Report}
 use Rattle.report.specs.declared.Counted.{Counted}
 use Rattle.report.proofs.Outcomes.{fair}
 use Rattle.report.proofs.Laws.{total-most}
 use Rattle.report.proofs.Added.{added-more}
+use Rattle.report.proofs.Lists.{within-takes}
 
 -- ---- what totals come to
 
@@ -70,38 +70,30 @@ module _ (rs : List Recording) where
 
 -- ---- 31
 
-at-most-joined : (m : ℕ) (xs ys : List ℕ) → atMost m xs ≡ true → atMost m ys ≡ true → atMost m (xs ++ ys) ≡ true
-unfolding atMost
-at-most-joined m [] ys a b = b
-at-most-joined m (x ∷ xs) ys a b =
-    rw (left-is (leb x m) (atMost m xs) a) (at-most-joined m xs ys (right-is (leb x m) (atMost m xs) a) b)
+row-most : (m : ℕ) (f : ℕ → ℕ) → ((k : ℕ) → f k ≤ m) → (l : List ℕ) (j : ℕ) → getD (map f l) j 0 ≤ m
+row-most m f h [] zero = omega arith
+row-most m f h [] (suc j) = omega arith
+row-most m f h (x ∷ l) zero = h x
+row-most m f h (x ∷ l) (suc j) = row-most m f h l j
 
-at-most-table : (m : ℕ) (f : ℕ → ℕ) (n : ℕ) → ((k : ℕ) → f k ≤ m) → atMost m (tabulate f n) ≡ true
-unfolding atMost tabulate
-at-most-table m f zero h = refl
-at-most-table m f (suc n) h =
-    at-most-joined m (tabulate f n) (f n ∷ []) (at-most-table m f n h) (simp (le-leb (f n) m (h n)))
+within : (rs : List Recording) → length rs < 1000 → Within (reportOf (map outcomeOf rs))
+unfolding reportOf
+within rs h =
+    let os = map outcomeOf rs in
+    record {
+      seen-below = omega (arith, length-map rs outcomeOf);
+      frames-within =
+          row-most 1000 (λ code. framesAt code os) (λ code. omega (arith, frames-most rs code)) codes;
+      octets-within =
+          row-most 4095000 (λ code. octetsAt code os) (λ code. omega (arith, octets-most rs code)) codes;
+      refused-within =
+          tabulate-all (λ (n : ℕ). n ≤ 1000) (λ number. refusedWith number os) 18 0 (omega arith)
+          (λ number. omega (arith, refused-most rs number));
+      airtime-within = omega (arith, airtime-most rs);
+    }
 
 pub takes-more : (rs : List Recording) → length rs < 1000 → takesMore (reportOf (map outcomeOf rs)) ≡ true
-unfolding reportOf takesMore atMost
-takes-more rs h =
-    let os = map outcomeOf rs in
-    let frames : (code : ℕ) → framesAt code os ≤ 1000 = λ code. omega (arith, frames-most rs code) in
-    let octets : (code : ℕ) → octetsAt code os ≤ 4095000 = λ code. omega (arith, octets-most rs code) in
-    let refused : (number : ℕ) → refusedWith number os ≤ 1000 = λ number. omega (arith, refused-most rs number) in
-    simp (
-      lt-ltb (length os) 1000 (omega (arith, length-map rs outcomeOf)),
-      le-leb (framesAt 10 os) 1000 (frames 10),
-      le-leb (framesAt 20 os) 1000 (frames 20),
-      le-leb (framesAt 55 os) 1000 (frames 55),
-      le-leb (framesAt 110 os) 1000 (frames 110),
-      le-leb (octetsAt 10 os) 4095000 (octets 10),
-      le-leb (octetsAt 20 os) 4095000 (octets 20),
-      le-leb (octetsAt 55 os) 4095000 (octets 55),
-      le-leb (octetsAt 110 os) 4095000 (octets 110),
-      at-most-table 1000 (λ number. refusedWith number os) 18 refused,
-      le-leb (airtimeOf os) 32952000 (omega (arith, airtime-most rs)),
-    )
+takes-more rs h = within-takes (reportOf (map outcomeOf rs)) (within rs h)
 
 pub map-more : (rs : List Recording) (r : Recording)
     → map outcomeOf rs ++ (outcomeOf r ∷ []) ≡ map outcomeOf (rs ++ (r ∷ []))

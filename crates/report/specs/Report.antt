@@ -1,11 +1,11 @@
 -- The month's report (RULES 6.19): what it is of a list of readings, what one recording more makes of any report, and
 -- what the two calls answer.
 -- Definitions only. Assumes nothing.
-use Prim.Native.Nat.{ℕ, zero, suc, _+_}
+use Prim.Native.Nat.{ℕ, zero, suc, _+_, _≤_, _<_}
 use mathlib.Core.Bool.{Bool, true, cond, _&&_, _||_}
 use mathlib.Core.List.{List, [], _∷_, map}
 use mathlib.Core.Option.{Option, none, some}
-use lib.ListN.{length, take}
+use lib.ListN.{length, getD, take}
 use lib.Dec.{eqb, ltb, leb}
 use Rattle.base.specs.Tables.{tabulate}
 use Rattle.report.specs.Totals.{
@@ -116,6 +116,14 @@ unfoldable pub takesMore : Report → Bool
 takesMore p =
     ltb (p .seen) 1000 && atMost 1000 (p .frames) && atMost 4095000 (p .octets) && atMost 1000 (p .refused)
     && leb (p .airtime) 32952000
+
+-- the same in plain numbers
+pub record Within (p : Report) : Type 0 where
+  pub seen-below : p .seen < 1000
+  pub frames-within : (j : ℕ) → getD (p .frames) j 0 ≤ 1000
+  pub octets-within : (j : ℕ) → getD (p .octets) j 0 ≤ 4095000
+  pub refused-within : (j : ℕ) → getD (p .refused) j 0 ≤ 1000
+  pub airtime-within : p .airtime ≤ 32952000
 
 -- 31: it takes no more, and stays as it stood. Else 0, though the recording's reading may be a refusal
 unfoldable pub countedOf : Report → Recording → Counted

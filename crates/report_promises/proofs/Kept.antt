@@ -9,7 +9,7 @@ use native.Mathlib.Decide.{decLt}
 use native.Mathlib.Omega.{arith}
 use borrow.Author.Tests.{lt-ltb, le-ltb, le-leb, lt-leb, eq-eqb, ne-eqb}
 use lib.Dec.{leb}
-use lib.ListN.{length, getD, take, replicate, length-map, length-append, length-take, length-replicate}
+use lib.ListN.{length, take, replicate, length-map, length-append, length-take, length-replicate}
 use lib.Seq.{take-all, take-append-seam, drop-append-seam}
 use Rattle.base.specs.Tables.{tabulate}
 use Rattle.report.specs.declared.Report.{Report}
@@ -21,22 +21,21 @@ use Rattle.report.specs.Report.{
   withFrame,
   withRefusal,
   added,
-  atMost,
   takesMore,
+  Within,
   countedOf,
   recordings,
   listOf,
 }
 use Rattle.report.specs.Text.{textOf, spelledOf, textLeft}
 use Rattle.report.proofs.Taking.{counted-next, counted-full}
-use Rattle.report.proofs.Lists.{takes}
+use Rattle.report.proofs.Lists.{takes, within-takes}
 use Rattle.report.proofs.Spelling.{text-most}
 use Rattle.report_promises.specs.Calls.{empty, Kept, nothing-yet, one-more, Readings, none-read, one-read}
 use Rattle.report_promises.specs.Promises.{
   TotalsOf,
   ReportKept,
   KeptAnswers,
-  Within,
   AnyReport,
   ListAlike,
   TextFills,
@@ -106,12 +105,16 @@ is-kept _ _ (one-more rs p kind chips c k a) =
     grown rs (record { kind = kind; chips = chips }) c
     (a .answer ∙ ap (λ (q : Report). countedOf q (record { kind = kind; chips = chips })) (is-kept rs p k))
 
-report-kept : ReportKept
-report-kept rs os p reads k =
+-- the totals of the first 1,000 readings
+firsts-totals : (rs : List Recording) (os : List Outcome) → Readings rs os → TotalsOf (take 1000 os) (firsts rs)
+firsts-totals rs os reads =
     let same : take 1000 os ≡ map outcomeOf (take 1000 rs) =
     ap (take 1000) (readings-are rs os reads) ∙ take-map 1000 rs in
-    subst (TotalsOf (take 1000 os)) (sym (is-kept rs p k))
-    (subst (λ (l : List Outcome). TotalsOf l (firsts rs)) (sym same) (totals-of (take 1000 rs)))
+    subst (λ (l : List Outcome). TotalsOf l (firsts rs)) (sym same) (totals-of (take 1000 rs))
+
+report-kept : ReportKept
+report-kept rs os p reads k =
+    subst (TotalsOf (take 1000 os)) (sym (is-kept rs p k)) (firsts-totals rs os reads)
 
 kept-answers : KeptAnswers
 kept-answers rs p kind chips c k a =
@@ -123,33 +126,6 @@ kept-answers rs p kind chips c k a =
     )
 
 -- ---- any report whatever
-
-within-row : (m : ℕ) (l : List ℕ) → ((j : ℕ) → getD l j 0 ≤ m) → atMost m l ≡ true
-unfolding atMost
-within-row m [] h = refl
-within-row m (x ∷ l) h = rw (le-leb x m (h 0)) (within-row m l (λ j. h (suc j)))
-
-within-takes : (p : Report) → Within p → takesMore p ≡ true
-unfolding takesMore
-within-takes p w =
-    simp (
-      lt-ltb (p .seen) 1000 (w .seen-below),
-      within-row 1000 (p .frames) (w .frames-within),
-      within-row 4095000 (p .octets) (w .octets-within),
-      within-row 1000 (p .refused) (w .refused-within),
-      le-leb (p .airtime) 32952000 (w .airtime-within),
-    )
-
-takes-within : (p : Report) → takesMore p ≡ true → Within p
-takes-within p h =
-    let t = takes p h in
-    record {
-      seen-below = t .few;
-      frames-within = t .frames;
-      octets-within = t .octets;
-      refused-within = t .refused;
-      airtime-within = t .brief;
-    }
 
 seen-more : (p : Report) (o : Outcome) → added p o .seen ≡ p .seen + 1
 unfolding added
@@ -167,7 +143,7 @@ taken p r e = rw e
 as-it-stood : (p : Report) (r : Recording) (t : Bool) → takesMore p ≡ t → (Within p → ⊥)
     → countedOf p r ≡ record { number = 31; report = p }
 unfolding countedOf
-as-it-stood p r true e n = absurd (n (takes-within p e))
+as-it-stood p r true e n = absurd (n (takes p e))
 as-it-stood p r false e n = rw e
 
 any-report : AnyReport
@@ -205,11 +181,7 @@ list-alike kinds list c l = (
         (λ h. ap (λ (v : Counted). v .number) answer ∙ ap (λ (t : Bool). cond t 0 31) (le-leb (length list) 1000 h)),
         (λ h. ap (λ (v : Counted). v .number) answer ∙ ap (λ (t : Bool). cond t 0 31) (lt-leb (length list) 1000 h)),
         (λ p k. report-is ∙ sym (is-kept (recordings kinds list) p k)),
-        λ os reads. let same : take 1000 os ≡ map outcomeOf (take 1000 (recordings kinds list)) =
-            ap (take 1000) (readings-are (recordings kinds list) os reads) ∙ take-map 1000 (recordings kinds list) in
-            subst (TotalsOf (take 1000 os)) (sym report-is)
-            (subst (λ (m : List Outcome). TotalsOf m (firsts (recordings kinds list))) (sym same)
-            (totals-of (take 1000 (recordings kinds list)))),
+        λ os reads. subst (TotalsOf (take 1000 os)) (sym report-is) (firsts-totals (recordings kinds list) os reads),
       ),
 )
 

@@ -11,7 +11,7 @@ use Rattle.report.specs.declared.Report.{Report}
 use Rattle.report.specs.declared.Counted.{Counted}
 use Rattle.report.specs.declared.Spelled.{Spelled}
 use Rattle.report.specs.Totals.{Recording, Outcome, framesAt, octetsAt, refusedWith, airtimeOf}
-use Rattle.report.specs.Report.{recordings}
+use Rattle.report.specs.Report.{Within, recordings}
 use Rattle.report.specs.Text.{textOf}
 use Rattle.promises.specs.Calls.{refused}
 use Rattle.report_promises.specs.Calls.{Adds, Lists, Spells, empty, Kept, Readings}
@@ -61,15 +61,8 @@ KeptAnswers =
     (rs : List Recording) (p : Report) (kind : ℕ) (chips : List ℕ) (c : Counted) → Kept rs p → Adds p kind chips c
     → (length rs < 1000 → c .number ≡ 0) × (1000 ≤ length rs → c ≡ record { number = 31; report = p })
 
--- ---- any report whatever, in plain numbers: it is within the limits, or not
-pub record Within (p : Report) : Type 0 where
-  pub seen-below : p .seen < 1000
-  pub frames-within : (j : ℕ) → getD (p .frames) j 0 ≤ 1000
-  pub octets-within : (j : ℕ) → getD (p .octets) j 0 ≤ 4095000
-  pub refused-within : (j : ℕ) → getD (p .refused) j 0 ≤ 1000
-  pub airtime-within : p .airtime ≤ 32952000
-
--- one that is within takes one more: 0, and one more was seen. Of any other 31, and it stays as it stood
+-- ---- any report whatever: one within the limits, in plain numbers, takes one more: 0, and one more was seen. Of any
+-- other 31, and it stays as it stood
 abbrev pub AnyReport : Type 0
 AnyReport =
     (p : Report) (kind : ℕ) (chips : List ℕ) (c : Counted) → Adds p kind chips c

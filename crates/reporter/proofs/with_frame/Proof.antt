@@ -53,13 +53,13 @@ frames-fit : tie.Need-add-q-2
 frames-fit c =
     let rate = c .before .before in
     let s = rate .before in
-    omega (arith, takes (s .args .p) (s .pre .0) .frames (rate .entry-of .result))
+    omega (arith, takes (s .args .p) (s .pre .0) .frames-within (rate .entry-of .result))
 
 octets-fit : tie.Need-add-q-3
 octets-fit c =
     let rate = c .before .before .before .before in
     let s = rate .before in
-    omega (arith, takes (s .args .p) (s .pre .0) .octets (rate .entry-of .result), s .pre .1)
+    omega (arith, takes (s .args .p) (s .pre .0) .octets-within (rate .entry-of .result), s .pre .1)
 
 time-fits : tie.Need-add-q-4
 time-fits c =
@@ -74,7 +74,7 @@ airtime-fits c =
       front-time (s .args .kind),
       c .before .front-time .ensures,
       s .pre .2,
-      takes (s .args .p) (s .pre .0) .brief,
+      takes (s .args .p) (s .pre .0) .airtime-within,
     )
 
 returns : tie.Need-returns
@@ -99,7 +99,7 @@ pub with-frame-spec : {M : Type 1} → statement M
 with-frame-spec =
     tie.close
     (tie.spec (λ c κs. tt) (λ c κs. tt)
-    (λ c. let s = c .before .before in omega (arith, takes (s .args .p) (s .pre .0) .few))
+    (λ c. let s = c .before .before in omega (arith, takes (s .args .p) (s .pre .0) .seen-below))
     (λ c. omega (arith, entry-few (c .before .before .args .a .rate) _ (c .before .entry-of .ensures)))
     (λ c. entry-few (c .before .before .args .a .rate) _ (c .before .entry-of .ensures))
     frames-fit

@@ -13,7 +13,7 @@ use Rattle.reporter.proofs.with_refusal.Tie as tie
 
 -- an entry takes one more
 fits : (p : Report) → takesMore p ≡ true → (j : ℕ) → getD (p .refused) j 0 + 1 < 2 ^ 64
-fits p h j = omega (arith, takes p h .refused j)
+fits p h j = omega (arith, takes p h .refused-within j)
 
 one-fits : tie.Need-add-q-2
 one-fits c = let s = c .before in record { fits = fits (s .args .p) (s .pre .0) _ }
@@ -21,5 +21,5 @@ one-fits c = let s = c .before in record { fits = fits (s .args .p) (s .pre .0) 
 pub with-refusal-spec : {M : Type 1} → statement M
 with-refusal-spec =
     tie.close
-    (tie.spec (λ c. omega (arith, takes (c .args .p) (c .pre .0) .few)) (λ c. search needs) (λ c. search needs) one-fits
-    (λ c. search needs) (λ c. search needs) (λ c o e. rw (e, more-set)))
+    (tie.spec (λ c. omega (arith, takes (c .args .p) (c .pre .0) .seen-below)) (λ c. search needs) (λ c. search needs)
+    one-fits (λ c. search needs) (λ c. search needs) (λ c o e. rw (e, more-set)))
