@@ -43,6 +43,11 @@ static int put_text(dsss_report report)
            && fclose(stdout) == 0;
 }
 
+/* promise: The program month counts the recordings of the files named to it, in their order, leaves out a file that is
+ * empty, longer than 65,536 octets or not to be read to its end, and prints the report's text and nothing else; its
+ * status is 0, and another only if the text cannot be written
+ * rule: 6.21
+ * no edit: it is C, which no proof covers; tests/wrong/table/month has wrong versions of it */
 int main(int argc, char **argv)
 {
     dsss_report report = {0};

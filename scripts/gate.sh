@@ -14,6 +14,8 @@ rt version
 stage 'layout and text of the tree'
 rt fmt --check
 python3 scripts/tree.py
+python3 scripts/promises.py --check
+python3 scripts/believed.py --check
 python3 scripts/imports.py
 python3 scripts/live.py --self-test
 

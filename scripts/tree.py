@@ -7,8 +7,7 @@
 - no tracked file holds a path of a machine;
 - crates.txt names just those crates that a crate uses;
 - the first line of a function's proof names the function by its path;
-- each old text of a must-fail edit stands just once in its file;
-- every path and every crate item that docs/PROMISES.md names in `code` exists, and it names every must-fail edit.
+- each old text of a must-fail edit stands just once in its file.
 Prints each fault, and ends with status 1 if there is one.
 """
 import os
@@ -111,36 +110,6 @@ def check_edit(path):
             texts[file] = texts[file].replace(old, rest)
 
 
-def names():
-    """Every name in the sources, definitions, proofs and the header, every crate's own and every edit's."""
-    found = set(os.listdir('crates')) | {os.path.basename(p)[:-5] for p in edits()}
-    for path in tracked():
-        if path.startswith(('crates/', 'include/')) and path.endswith(('.rt', '.antt', '.h')):
-            found.update(re.findall(r"[\w\-′₀-₉]+", text_of(path)))
-    return found
-
-
-def check_promises():
-    path = 'docs/PROMISES.md'
-    if not os.path.exists(path):
-        faults.append(f'{path} is missing')
-        return
-    declared = names()
-    text = text_of(path)
-    for edit in edits():
-        crate, name = edit.split('/')[1], os.path.basename(edit)[:-5]
-        section = re.search(r'^- `%s`: ((?:.|\n  )*)' % crate, text, re.M)
-        if not section or f'`{name}`' not in section.group(1):
-            faults.append(f'{path}: does not name {edit}')
-    for number, line in enumerate(text.split('\n'), 1):
-        for quoted in re.findall(r'`([^`]+)`', line):
-            if '/' in quoted:
-                if not os.path.exists(quoted):
-                    faults.append(f'{path}:{number}: no file {quoted}')
-            elif re.fullmatch(r"[\w\-′]+", quoted) and quoted not in declared:
-                faults.append(f'{path}:{number}: no name {quoted} in the tree')
-
-
 for p in tracked():
     try:
         content = text_of(p)
@@ -152,7 +121,6 @@ for p in tracked():
 check_crates()
 for p in edits():
     check_edit(p)
-check_promises()
 for fault in faults:
     print('tree.py:', fault)
 print(f'tree.py: {len(faults)} faults')

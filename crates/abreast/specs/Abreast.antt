@@ -1,4 +1,5 @@
 -- Rows of bytes turned so that symbols stand abreast, entry by entry. Definitions only. Assumes nothing.
+-- working notion: of the code that turns rows; no promise needs it
 use Prim.Native.Nat.{ℕ, _+_, _/_, _%_, _<_}
 use mathlib.Core.Path.{_≡_}
 use mathlib.Core.Bool.{cond}

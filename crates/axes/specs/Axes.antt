@@ -1,4 +1,5 @@
 -- I and Q apart, and chips that are all of one recorder. Definitions only. Assumes nothing.
+-- working notion: of the code that chooses words; no promise needs it
 use Prim.Native.Nat.{ℕ, _<_}
 use mathlib.Core.Bool.{Bool, true, false}
 use mathlib.Core.List.{List, map}

@@ -11,6 +11,7 @@ module _ {A : Type 0} where
   tabulate f (suc n) = tabulate f n ++ (f n ∷ [])
 
   -- the first k of n places hold their values
+  -- working notion: of the loops that fill rows
   pub record Filled (f : ℕ → A) (n : ℕ) (out : List A) (k : ℕ) : Type 0 where
     pub within : k ≤ n
     pub len : length out ≡ n

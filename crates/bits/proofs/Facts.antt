@@ -57,6 +57,9 @@ document =
     ∷ (1 ∷ 1 ∷ 2 ∷ 2 ∷ [])
     ∷ []
 
+-- promise: Growths of bits at each rate, the order of a CCK word's phases, and the half turn of odd symbols
+-- rule: 4.1 to 4.5, 8.2, 8.3
+-- with: sent-facts, read-facts
 pub facts : computed ≡ document
 unfolding growth symbolOf symbolsOf symbolsFrom bitsOf octetBits
 facts = refl

@@ -25,6 +25,10 @@ twice : (past : List ℕ) (b : ℕ) → b < 2 → mixed past (mixed past b) ≡ 
 unfolding mixed
 twice past b h = omega arith
 
+-- promise: Unscrambling what was scrambled gives the bits back; from an unknown start from the eighth bit on
+-- rule: 5.6, 5.7
+-- code: scramble_octet, descramble_octet
+-- with: recovers, first-unknown
 pub unscrambled : (past bs : List ℕ) → Below 2 bs → descramble past (scramble past bs) ≡ bs
 unfolding scramble descramble
 unscrambled past [] h = refl

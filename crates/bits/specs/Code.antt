@@ -1,5 +1,6 @@
 -- The past as an octet, pairs of bits as numbers, and the words of symbols by their numbers.
 -- Definitions only. Assumes nothing.
+-- working notion: of the code that sends and hears octets; no promise needs it
 use Prim.Native.Nat.{ℕ, _+_, _*_, _/_, _%_, _<_}
 use mathlib.Core.List.{List, [], _∷_, _++_, reverse}
 use Rattle.rates.specs.declared.Rate.{Rate}

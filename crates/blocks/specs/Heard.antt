@@ -1,5 +1,6 @@
 -- What is known of a line once decided words were heard on it, the first of them even. Definitions only. Assumes
 -- nothing.
+-- working notion: of the code that hears blocks; no promise needs it
 use mathlib.Core.Path.{_≡_}
 use mathlib.Core.List.{List}
 use Prim.Native.Nat.{ℕ, _<_}

@@ -42,6 +42,9 @@ every =
 abbrev answer : Refusal → Record
 answer e = recordOf (reading.Refused e)
 
+-- promise: Each refusal's number, place and LENGTH; all else is 0
+-- rule: 6.4, 6.8
+-- with: places, lengths, no-more
 pub numbers : map (λ (e : Refusal). answer e .number) every
     ≡ 1 ∷ 2 ∷ 3 ∷ 4 ∷ 5 ∷ 6 ∷ 7 ∷ 8 ∷ 9 ∷ 10 ∷ 11 ∷ 12 ∷ 13 ∷ 14 ∷ 15 ∷ 16 ∷ 17 ∷ []
 numbers = refl

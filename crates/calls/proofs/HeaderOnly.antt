@@ -130,6 +130,11 @@ module _ (k : Kind) (sfd header : List ℕ) where
   HeaderSends (front.Fields t) =
       (numberOf sfd ≡ sfdOf k) × Summed × Sends k signalIn serviceIn lengthIn t
 
+  -- promise: A header that is accepted is one that a writer sends; each of 11 to 15 is given whatever stands in what is
+  -- asked after it
+  -- rule: 5.8 to 5.14, 6.4
+  -- code: header_of
+  -- with: sfd-refused, crc-refused, signal-refused, service-refused, length-refused, fields-read, headers-facts
   pub header-only : HeaderSends (headerOf k sfd header)
   unfolding headerOf
   header-only =

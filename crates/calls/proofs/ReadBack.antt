@@ -143,6 +143,9 @@ length-lt Eleven n h = omega arith
 service-lt : (r : Rate) (clock : Bool) (n : ℕ) → serviceField r clock n < 256
 service-lt r clock n = omega (arith, clock-lt clock, bit7-lt r n)
 
+-- promise: A writer's header tells a reader its rate, LENGTH, n and clock bit
+-- rule: 5.8 to 5.14
+-- code: header_octets, header_of
 pub header-back : (k : Kind) (r : Rate) (clock : Bool) (n : ℕ) → goesWith k r ≡ true → 1 ≤ n → n ≤ 4095
     → headerOf k (bitsOf 16 (sfdOf k)) (sentHeader r clock n) ≡ Fields (told r (lengthField r n) n clock)
 unfolding sentHeader

@@ -76,5 +76,8 @@ off s (negsuc n) = neg-times (16 * suc n) s ∙ ap (λ (m : ℕ). negℤ (pos m)
 exact : (z : ℤ) → offBy (pos 16 *ℤ z) (pos (2 ^ 143) *ℤ z) ≡ pos 0
 exact z = ap (λ (a : ℤ). a -ℤ pos (2 ^ 143) *ℤ z) (off (2 ^ 139) z) ∙ less-itself (pos (2 ^ 143) *ℤ z)
 
+-- promise: The count of a byte is exact
+-- rule: 2.8
+-- with: byte-row, byte-table
 pub byte-exact : (x y : ℤ) → Exact (byteCounts x y) (byteExact x y)
 byte-exact x y = record { real = exact x; imag = exact y }

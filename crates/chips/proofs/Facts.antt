@@ -58,7 +58,8 @@ pub edges : Edges
 unfolding patternUsable patternCount
 edges = (refl, refl)
 
--- all 256 octets: 0 to 3 are phases, 4 is lost, 5 to 255 are unusable
+-- promise: All 256 octets: 0 to 3 are phases, 4 is lost, 5 to 255 are unusable
+-- rule: 2.4, 2.5
 abbrev pub Octets : Type 0
 Octets =
     map hardTaken (tabulate (λ x. x) 256)

@@ -123,6 +123,11 @@ too-far h s n a H c =
     omega arith
 
 -- ---- the count
+-- promise: The count of a usable f32 is the whole number nearest to 1024 times its value, ties to the even one; no
+-- other number is; the error is at most half a count
+-- rule: 2.6, 8.6
+-- code: count
+-- with: no-other, count-near, worked-counts
 pub counted : (x : Float) → T (usable x) → Nearest (valueOf x) (countOf x)
 counted x u =
     let s = negative x in

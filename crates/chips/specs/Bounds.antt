@@ -7,6 +7,7 @@ use Rattle.base.specs.Whole.{Within}
 use Rattle.chips.specs.declared.Counts.{Counts}
 
 -- I and Q are from -b to b
+-- working notion: of the laws of sums
 pub record Bounded (b : ℕ) (c : Counts) : Type 0 where
   pub real : Within b (c .i)
   pub imag : Within b (c .q)
@@ -16,11 +17,13 @@ abbrev pub offBy : ℤ → ℤ → ℤ
 offBy k m = (k *ℤ pos (2 ^ 139)) -ℤ m
 
 -- the counts c are at most half a count from the exact value e, in I and in Q
+-- working notion: half a count for `Apart`
 pub record Near (c e : Counts) : Type 0 where
   pub real : Within (2 ^ 138) (offBy (c .i) (e .i))
   pub imag : Within (2 ^ 138) (offBy (c .q) (e .q))
 
 -- the counts c are the exact value e
+-- working notion: no error for `Apart`
 pub record Exact (c e : Counts) : Type 0 where
   pub real : offBy (c .i) (e .i) ≡ pos 0
   pub imag : offBy (c .q) (e .q) ≡ pos 0

@@ -128,6 +128,9 @@ score-other full pos-full v w hv hw e ne =
     by (yes p) = p
     by (no q) = absurd (ne (agreeing-all v w e (omega arith)))
 
+-- promise: Clean words are chosen as themselves; a word that leads is chosen
+-- rule: 3.6
+-- with: decided-leads
 pub decided-clean : (full : ℕ) → 0 < full → (r : Rate) (n : ℕ) → n < numbers r → T (isAllowed r n)
     → decided r (clean full (wordOf r n)) ≡ n
 decided-clean full h r n below a =

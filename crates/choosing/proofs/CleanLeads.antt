@@ -265,6 +265,9 @@ module _ (full : ℕ) (some : 0 < full) (r : Rate) (w : ℕ) (h : w < numbers r)
     top = λ n l t ne. rw near-score (at-most n l t ne);
   }
 
+  -- promise: A clean symbol's lead, for every word and any full chip: 11 full chips for Barker, 8 at 5.5 Mbit/s, 4 at
+  -- 11
+  -- rule: 3.9
   pub lead-clean : leadOf r cs ≡ full * cleanLead r
   lead-clean = lead-by r cs w (x .m) (full * symbolChips r) (full * near r)
       (subst (λ (v : ℕ). DecidedAs r cs v) best (decided-best r cs)) next own-score near-score

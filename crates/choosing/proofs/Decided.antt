@@ -26,6 +26,10 @@ some-allowed Two = some-of (isAllowed Two) 4 0 (lit< tt) tt
 some-allowed Five = some-of (isAllowed Five) 256 16 (lit< tt) tt
 some-allowed Eleven = some-of (isAllowed Eleven) 256 0 (lit< tt) tt
 
+-- promise: The chosen word is allowed, none scores more, each smaller allowed number scores less; any two such are
+-- equal
+-- rule: 3.6
+-- with: best-unique
 pub decided-best : (r : Rate) (cs : List Counts) → DecidedAs r cs (decided r cs)
 unfolding decided
 decided-best r cs = first-best (isAllowed r) (scoreAt r cs) (numbers r) (some-allowed r)

@@ -64,6 +64,8 @@ off-each half r counts exact d e a n =
     subst (λ (l : ℕ). Off count (half * l) (scoreAt r counts n) (exactAt r exact n)) (word-length r n)
     (off-score count (wordOf r n) (off-all (symbolChips r) counts exact d e a))
 
+-- promise: A lead above the error of the counts is a lead in the exact scores
+-- rule: 1.4 (3), 3.9
 pub lead-says : LeadSays
 lead-says half r counts exact d e a above n h t ne =
     behind-exact count (half * symbolChips r) (leadOf r counts)

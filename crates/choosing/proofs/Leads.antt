@@ -146,6 +146,10 @@ lead-runner r cs =
     (decided-best r cs .top (runnerUp r cs) (x .among) (x .allowed))
 
 -- whatever is next to the word decided
+-- promise: A choice's lead: never below 0, 0 exactly at a tie, every other allowed word behind by at least so much and
+-- one by just so much; no other number is
+-- rule: 3.9
+-- with: lead-behind, leads-by, leads-once, lead-tie, tied
 pub lead-is : (r : Rate) (cs : List Counts) (m : ℕ) → NextAs r cs (decided r cs) m
     → scoreAt r cs m +ℤ pos (leadOf r cs) ≡ scoreAt r cs (decided r cs)
 lead-is r cs m x =

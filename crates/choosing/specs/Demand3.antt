@@ -42,6 +42,7 @@ pub record Apart (half : ℕ) (c e : Counts) : Type 0 where
 
 -- where the counts of a symbol are so, the word decided from them is right up to twice `half` for each chip: half a
 -- count makes it 8/1024, or 11/1024 for Barker; no error of the counts leaves none
+-- working notion: one symbol of `RecordedRight`
 abbrev pub Demand3 : Type 0
 Demand3 =
     (half : ℕ) (r : Rate) (counts exact : List Counts) → length counts ≡ symbolChips r
@@ -56,6 +57,7 @@ LeadsExactly r exact w =
 
 -- where the counts of a symbol are so, and its lead is above that error, the word decided does. From half a count the
 -- lead must be above 8 counts, or 11 for Barker; with no error of the counts above 0
+-- working notion: one symbol of `SoftSure`
 abbrev pub LeadSays : Type 0
 LeadSays =
     (half : ℕ) (r : Rate) (counts exact : List Counts) → length counts ≡ symbolChips r

@@ -1,6 +1,7 @@
 -- Keys: of h + h words, the words n and n + h opposite, the better of the two has the key (h + h) s + (h + h - 1 -
 -- number). The largest key is the word that is chosen, and the second largest the one next to it.
 -- Definitions only. Assumes nothing.
+-- working notion: of the choice by keys; no promise needs it
 use Prim.Native.Nat.{ℕ, suc, _+_, _*_, _-_, _≤_, _<_}
 use mathlib.Core.Path.{_≡_}
 use mathlib.Core.Bool.{cond}

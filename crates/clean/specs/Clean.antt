@@ -18,9 +18,11 @@ use Rattle.calls.specs.declared.Least.{Least}
 use Rattle.reading.specs.Leads.{leadAt}
 
 -- a chip sent with phase p and recorded as a full chip at p
+-- working notion: of the laws of clean frames
 abbrev pub cleanTaken : ℕ → Taken
 cleanTaken p = counted (fullChip 1024 p)
 
+-- working notion: of the laws of clean frames
 unfoldable pub cleanRecording : List ℕ → List Taken
 cleanRecording chips = map cleanTaken chips
 
@@ -48,6 +50,7 @@ byteRow (p ∷ ps) = fullChip 64 p .i ∷ fullChip 64 p .q ∷ byteRow ps
 -- the smallest lead of a clean frame and the first symbol that has it: at 1 and 2 Mbit/s every symbol's is 11 full
 -- chips; at 5.5 and 11 Mbit/s the payload's are smaller, 8 and 4 full chips, and the first of them is the first behind
 -- the front's
+-- working notion: of the laws of clean frames
 abbrev pub cleanLeast : Kind → Rate → Least
 cleanLeast k One = leadAt 11264 0
 cleanLeast k Two = leadAt 11264 0

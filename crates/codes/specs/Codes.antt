@@ -1,5 +1,6 @@
 -- What the words of a block come to, symbol by symbol and octet by octet, as the loops over it have it: rows by their
 -- rules. Definitions only. Assumes nothing.
+-- working notion: of the code that hears blocks; no promise needs it
 use mathlib.Core.Path.{_≡_}
 use mathlib.Core.List.{List, [], _∷_, _++_}
 use Prim.Native.Nat.{ℕ, zero, suc, _+_, _*_, _/_, _%_, _^_, _≤_, _<_}

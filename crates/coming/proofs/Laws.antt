@@ -33,6 +33,9 @@ module _ (kind : ℕ) (rec : List Taken) where
   abbrev k : Kind
   k = kindOf kind
 
+  -- promise: A full reading goes on from what a front-only one tells, and a front is refused as a reading refuses it
+  -- rule: 6.15
+  -- with: coming-whole
   pub reads-on : (room : ℕ) → readingOf kind true rec room ≡ afterFront k rec room (frontReading kind rec)
   unfolding readingOf frontReading
   reads-on room = by (isKind kind) (wholeOf k rec (frontOf k rec))

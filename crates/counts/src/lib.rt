@@ -8,6 +8,9 @@ use chips::Chip;
 use chips::Sample;
 
 // Whether x is a number from -8 to 8. Both tests are made, so that many numbers are looked at side by side.
+// promise: Usable exactly where no NaN, no infinity and at most 8 in magnitude, for every f32
+// rule: 2.3
+// code: usable_sample
 pub fn usable(x: f32) -> bool
     ensures answer { λ r. ⌜ r ≡ floats.usable x ⌝ }
 {

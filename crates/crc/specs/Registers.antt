@@ -1,4 +1,5 @@
 -- What the structs of bits stand for. Definitions only. Assumes nothing.
+-- working notion: of the code of the CRC; no promise needs it
 use Prim.Native.Nat.{ℕ}
 use mathlib.Core.List.{List, [], _∷_, _++_}
 use Rattle.crc.specs.declared.Eight.{Eight}

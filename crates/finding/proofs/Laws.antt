@@ -98,6 +98,10 @@ module _ (k : Kind) where
   missed-here n rec h g (suc j) l =
       subst (λ (r : List Taken). Missed (frontOf k r)) (drop-one j rec) (g j (omega arith))
 
+  -- promise: What a search comes to, one search after another, and a recording shorter than a front
+  -- rule: 6.17
+  -- code: seek, finder::search
+  -- with: start-joined, short-missed, finding-comes
   pub start-comes : (at m : ℕ) (rec : List Taken) → StartIf at m rec (firstStart k at m rec)
   unfolding firstStart
   start-comes at zero rec = (refl, λ j l. absurd (omega arith))

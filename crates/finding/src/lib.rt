@@ -4,7 +4,15 @@ use calls::Told;
 // Why no start is told: 1, 18 and 19. None has a place or a LENGTH.
 pub enum NotFound {
     NoKind,
+    // promise: the number of offsets to try is 0 or above 4,096
+    // rule: 6.4 (18), 6.17
+    // code: finder::find
+    // with: isOffsets
     NoOffsets,
+    // promise: none of the offsets has a front that a read accepts
+    // rule: 6.4 (19), 6.17
+    // code: finder::search
+    // with: firstStart
     NoStart,
 }
 

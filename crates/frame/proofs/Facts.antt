@@ -136,6 +136,10 @@ expected =
     ∷ (1 ∷ 1 ∷ 1 ∷ 1 ∷ 1 ∷ 1 ∷ 0 ∷ 0 ∷ [])
     ∷ []
 
+-- promise: Whole frames: SFDs as sent, headers, scrambled bits where header and payload begin, chips at each rate; with
+-- the clock bit too
+-- rule: 5.3 to 5.5, 5.9, 5.14, 8.2 to 8.5
+-- with: facts-clock, kinds, services
 pub facts : computed ≡ expected
 unfolding
     computed expected some

@@ -18,6 +18,9 @@ pub front-symbols : (k : Kind) → preambleLength k + headerSymbols k ≡ frontS
 front-symbols Long = refl
 front-symbols Short = refl
 
+-- promise: Headers and fronts have even numbers of symbols
+-- rule: 8.3
+-- with: from-start
 pub from-header : (k : Kind) (j : ℕ) → halfTurn (headerSymbols k + j) ≡ halfTurn j
 from-header Long j = omega arith
 from-header Short j = omega arith

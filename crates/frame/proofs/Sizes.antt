@@ -93,6 +93,10 @@ three-length k r p x y z n ex ey ez =
     (part-length r (lastPhase q b) z (8 * n) ez))
     ∙ parts-sum k r n
 
+-- promise: The frame's length is the front and 88n, 44n, 16n or 8n, for any 48 header bits
+-- rule: 5.2
+-- code: frame_chips
+-- with: frame-length
 pub framed-length : (k : Kind) (r : Rate) (p : ℕ) (header xs : List ℕ) → length header ≡ headerLength
     → length (framed k r p header xs) ≡ frameChips k r (length xs)
 unfolding framed

@@ -63,5 +63,7 @@ printed =
     ∷ ((0 ∷ []) ∷ [])
     ∷ []
 
+-- promise: Table P, twelve entries, one statement
+-- rule: 7, 9.3
 abbrev pub TableP : Type 0
 TableP = (r : Rate) (payload : List ℕ) → computed r payload ≡ printed

@@ -1,5 +1,6 @@
 -- What is known of a line and of leads once a preamble and a front are heard, and of a front once it is read.
 -- Definitions only. Assumes nothing.
+-- working notion: of the code that reads a front; no promise needs it
 use mathlib.Core.Path.{_≡_}
 use mathlib.Core.List.{List}
 use Prim.Native.Nat.{ℕ, _+_, _≤_, _<_}

@@ -1,4 +1,5 @@
 -- What the inner functions answer. Definitions only. Assumes nothing.
+-- working notion: of the code that reads a header; no promise needs it
 use Prim.Native.Nat.{ℕ}
 use mathlib.Core.Bool.{cond}
 use lib.IntN.{natAbs}

@@ -1,5 +1,6 @@
 -- What is known of a line once octets of a recording were heard on it, and of their leads. Definitions only. Assumes
 -- nothing.
+-- working notion: of the code that hears octets; no promise needs it
 use mathlib.Core.Path.{_≡_}
 use mathlib.Core.List.{List}
 use Prim.Native.Nat.{ℕ, _*_, _/_}

@@ -1,6 +1,7 @@
 -- Keys as f32, which has every whole number up to 2^24: one instruction compares four of them, where whole numbers of
 -- 32 bits need several.
 -- Definitions only. Assumes nothing.
+-- working notion: of the code that chooses words; no promise needs it
 use mathlib.Core.Path.{_≡_}
 use mathlib.Core.Bool.{cond}
 use Prim.Native.Nat.{ℕ, _<_}

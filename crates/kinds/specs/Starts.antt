@@ -1,4 +1,5 @@
 -- The line before a frame's first symbol. Definitions only. Assumes nothing.
+-- working notion: of the code that sends and hears frames; no promise needs it
 use Prim.Native.Nat.{ℕ}
 use mathlib.Core.Path.{_≡_}
 use mathlib.Core.List.{[], _∷_, _++_}

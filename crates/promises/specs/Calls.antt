@@ -26,34 +26,65 @@ use Rattle.clean.specs.Clean.{Exactly, byteRow}
 
 -- the writer: its answer, and the chip buffer of `room` chips at the end
 pub record Wrote (kind rate phase clock : ℕ) (payload : List ℕ) (room : ℕ) (w : Written) (left : List ℕ) : Type 0 where
+  -- promise: A write answers the definition's record, for every input
+  -- rule: 6.1, 6.8, 6.11, 9.1
+  -- code: dsss_write_2, writer::write
   pub answer : w ≡ writtenOf (writingOf kind rate phase (length payload) room)
+  -- promise: The chip buffer at the end is the frame, its clock bit as asked, and then 4s; after a refusal only 4s
+  -- rule: 3.1 to 3.4, 4.1 to 4.6, 5.1 to 5.14, 6.9, 6.12, 6.14, 9.1
+  -- code: dsss_write_2, writer::write, rows::fill
   pub chips : left ≡ chipsWritten kind rate phase clock payload room
 
 -- a reader, whatever recorded: its answer, and the octet buffer of `room` octets at the end
 pub record Read (kind : ℕ) (agree : Bool) (rec : List Taken) (room : ℕ) (a : Record) (left : List ℕ) : Type 0 where
+  -- promise: A read answers the definition's record, whatever recorded the chips, for every input
+  -- rule: 2.7, 6.2 to 6.8, 6.10, 6.16, 9.1
+  -- code: reader::read_hard, read_soft, read_bytes
   pub answer : a ≡ recordOf (readingOf kind agree rec room)
+  -- promise: The octet buffer at the end is the payload and then zeros; after a refusal only zeros
+  -- rule: 4.7, 5.7, 5.12, 6.9, 6.12, 9.1
+  -- code: reader::read_hard, read_soft, read_bytes
   pub octets : left ≡ octetsFound kind agree rec room
 
 -- the hard reader, the soft one, and that of bytes
+-- promise: A hard read does so of its octets: 0 to 3 a phase, 4 lost, all others unusable
+-- rule: 2.1, 2.2, 2.4, 2.5
+-- code: dsss_read_hard_3, reader::read_hard
 abbrev pub ReadHard : ℕ → List ℕ → ℕ → Record → List ℕ → Type 0
 ReadHard kind chips room a left = Read kind true (hardRecording chips) room a left
 
+-- promise: A soft read does so of its two rows of f32, and refuses rows that differ in length with 7
+-- rule: 2.2, 2.3, 2.6, 6.2
+-- code: dsss_read_soft_3, read_soft
 abbrev pub ReadSoft : ℕ → List Float → List Float → ℕ → Record → List ℕ → Type 0
 ReadSoft kind i q room a left = Read kind (eqb (length i) (length q)) (softRecording i q) room a left
 
+-- promise: A read of signed bytes does so of its pairs, and refuses an odd number of bytes with 7
+-- rule: 2.2, 2.8, 6.2
+-- code: dsss_read_bytes_3, read_bytes
 abbrev pub ReadBytes : ℕ → List ℤ → ℕ → Record → List ℕ → Type 0
 ReadBytes kind bytes room a left = Read kind (eqb (length bytes % 2) 0) (byteRecording bytes) room a left
 
 -- the reader of the front only: its answer, which says where the payload's chips are
 pub record ReadFront (kind : ℕ) (chips : List ℕ) (c : Coming) : Type 0 where
+  -- promise: A read of the front answers the definition's record, for every input
+  -- rule: 6.15, 9.1
+  -- code: dsss_read_front, front_only::read_front
   pub answer : c ≡ comingOf (kindOf kind) (frontReading kind (hardRecording chips))
 
 -- the part of a recording that is handed back for such an answer; in C it is the two numbers
 pub record Handed (c : Coming) (chips part : List ℕ) : Type 0 where
+  -- promise: The part that an answer tells of is handed back, for any record and any recording: the recording's own
+  -- chips, none where it does not have them. From C it is the two numbers
+  -- rule: 6.15
+  -- code: front_only::part
   pub chips-are : part ≡ partOf (c .at) (c .count) chips
 
 -- the call that finds a start in a recording, of so many offsets to try: its answer
 pub record Finds (kind offsets : ℕ) (chips : List ℕ) (f : Found) : Type 0 where
+  -- promise: A search for a start answers the definition's record, for every input
+  -- rule: 6.17, 9.1
+  -- code: dsss_find, finder::find
   pub answer : f ≡ foundOf (findingOf kind offsets (hardRecording chips))
 
 -- a good read's answer, and a refused one's with a place and without

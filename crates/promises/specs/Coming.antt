@@ -57,11 +57,17 @@ pub record WhenRefused (kind : ℕ) (chips : List ℕ) (c : Coming) : Type 0 whe
   pub in-front : (front : ℕ) → FrontOf kind front → c .place < front
   pub no-part : (part : List ℕ) → Handed c chips part → part ≡ []
 
+-- promise: A front refuses with 1 where the kind is none, else with 8 to 16, a place in the front; all else is 0 and
+-- the part is empty
+-- rule: 6.13, 6.15
+-- with: WhenRefused
 abbrev pub FrontRefused : Type 0
 FrontRefused =
     (kind : ℕ) (chips : List ℕ) (c : Coming) → ReadFront kind chips c → (c .number ≡ 0 → ⊥) → WhenRefused kind chips c
 
--- each is the full reader's answer, whatever the room: number, place and LENGTH
+-- promise: Each such refusal is the full reader's answer to the same recording, whatever the room: number, place,
+-- LENGTH
+-- rule: 6.15
 abbrev pub RefusedAlike : Type 0
 RefusedAlike =
     (kind : ℕ) (chips : List ℕ) (c : Coming) (room : ℕ) (a : Record) (left : List ℕ)
@@ -82,6 +88,10 @@ pub record WhenTold (kind : ℕ) (chips : List ℕ) (c : Coming) : Type 0 where
   pub there : c .used ≤ length chips
   pub part-is : (part : List ℕ) → Handed c chips part → part ≡ take (c .used - front) (drop front chips)
 
+-- promise: A front that is not refused tells a rate of its kind, n from 1 to 4,095, its LENGTH, a clock bit of 0 or 1,
+-- and the chips of a frame that the recording has; the part is the payload's chips
+-- rule: 6.15
+-- with: WhenTold
 abbrev pub FrontTold : Type 0
 FrontTold =
     (kind : ℕ) (chips : List ℕ) (c : Coming) → ReadFront kind chips c → c .number ≡ 0 → WhenTold kind chips c
@@ -94,15 +104,20 @@ pub data ComesTo (c : Coming) : Record → Type 0 where
   comes-10 : (place : ℕ) → c .rate ≡ 10 → c .at ≤ place → place < c .used
       → ComesTo c (refusedAt 10 place (c .length))
 
--- with less: 17 with the same LENGTH
+-- promise: The full reader with room for n is then good with the same rate, LENGTH, n, chips used and clock bit, and a
+-- lead that no front tells, or refuses with 9, or at 1 Mbit/s with 10, at a place in the part with the same LENGTH;
+-- with less room 17 with the same LENGTH
+-- rule: 6.15
+-- with: ComesTo
 abbrev pub ToldAlike : Type 0
 ToldAlike =
     (kind : ℕ) (chips : List ℕ) (c : Coming) (room : ℕ) (a : Record) (left : List ℕ)
     → ReadFront kind chips c → ReadHard kind chips room a left → c .number ≡ 0
     → (c .n ≤ room → ComesTo c a) × (room < c .n → a ≡ refused 17 (c .length))
 
--- ---- the answer hangs on no payload chip: recordings that agree in the front get the same one, where it tells, if the
--- other has the frame's chips too, and where it refuses; after a 16 only if the other is not longer
+-- promise: The answer does not depend on any payload chip: recordings that agree in the front, and in being long
+-- enough, get the same one; after a 16, one that is not longer
+-- rule: 6.15
 abbrev pub FrontOnly : Type 0
 FrontOnly =
     (kind front : ℕ) (chips chips′ : List ℕ) (c c′ : Coming) → FrontOf kind front
@@ -110,7 +125,9 @@ FrontOnly =
     → (c .number ≡ 0 → c .used ≤ length chips′ → c′ ≡ c)
     × ((c .number ≡ 0 → ⊥) → (c .number ≡ 16 → length chips′ ≤ length chips) → c′ ≡ c)
 
--- ---- a frame that was written is told of by its front, whatever became of its payload's chips: whole, or 16
+-- promise: A frame that was written is told of by its front, whatever became of its payload's chips; cut in the
+-- payload, 16 with LENGTH
+-- rule: 6.15, 9.3
 abbrev pub SentTold : Type 0
 SentTold =
     (kind rate phase clock : ℕ) (payload : List ℕ) (w : Written) (chips : List ℕ)
@@ -124,14 +141,17 @@ SentTold =
     × (length tail < s .sendable .octet * length payload
     → c ≡ refusedComing 16 0 (lengthField (rateOf rate) (length payload)))
 
--- ---- a part, for any record and any recording: those chips, or none where the recording does not have them
+-- promise: A part, for any record and any recording: those chips, or none where the recording does not have them
+-- rule: 6.15
 abbrev pub HandedPart : Type 0
 HandedPart =
     (c : Coming) (chips part : List ℕ) → Handed c chips part
     → (c .at + c .count ≤ length chips → part ≡ take (c .count) (drop (c .at) chips))
     × (length chips < c .at + c .count → part ≡ [])
 
--- ---- any two answers that the contract allows are equal, and any two parts
+-- promise: The contract of a read of the front allows exactly one answer, and that of its part one part
+-- rule: 9.2
+-- no test: a run shows one answer, not that no other is allowed
 abbrev pub OneComing : Type 0
 OneComing =
     ((kind : ℕ) (chips : List ℕ) (c c′ : Coming) → ReadFront kind chips c → ReadFront kind chips c′ → c ≡ c′)

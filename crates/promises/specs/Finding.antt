@@ -39,6 +39,10 @@ pub record WhenNotTried (kind offsets : ℕ) (f : Found) : Type 0 where
   pub no-offsets : kind < 2 → offsets ≡ 0 → f ≡ refusedFound 18
   pub many-offsets : kind < 2 → 4096 < offsets → f ≡ refusedFound 18
 
+-- promise: A search refuses with 1 where the kind is none, then with 18 where the offsets to try are none or above
+-- 4,096, whatever the recording; all else is 0
+-- rule: 6.13, 6.17
+-- with: WhenNotTried
 abbrev pub NotTried : Type 0
 NotTried = (kind offsets : ℕ) (chips : List ℕ) (f : Found) → Finds kind offsets chips f → WhenNotTried kind offsets f
 
@@ -96,6 +100,13 @@ pub record WhenFound (kind offsets : ℕ) (chips : List ℕ) (f : Found) : Type 
       → c ≡ toldComing (f .rate) (f .length) (f .clock) (f .n) front (octet * f .n)
   pub before : (o : ℕ) → o < f .offset → Meets kind (drop o chips)
 
+-- promise: A start that is found has an offset below the number asked for, a front's chips behind it, a rate of the
+-- kind, n from 1 to 4,095 and its LENGTH. From there the header-only reader and the full reader meet none of 8 to 15,
+-- and tell the same rate, LENGTH, clock bit and n, or refuse with 16, 17 or a 9 or 10 in the payload with that LENGTH;
+-- the same front with any payload's chips behind it is told of with just these. From every smaller offset both meet one
+-- of 8 to 15
+-- rule: 6.17
+-- with: WhenFound, FrontTells, ReaderTells, Meets
 abbrev pub StartFound : Type 0
 StartFound =
     (kind offsets : ℕ) (chips : List ℕ) (f : Found) → Finds kind offsets chips f → f .number ≡ 0
@@ -107,6 +118,10 @@ pub record WhenNone (kind offsets : ℕ) (chips : List ℕ) (f : Found) : Type 0
   pub tried : Tried kind offsets
   pub all : (o : ℕ) → o < offsets → Meets kind (drop o chips)
 
+-- promise: 19 exactly where both readers meet one of 8 to 15 from every offset to try; with a kind and 1 to 4,096
+-- offsets no other refusal comes
+-- rule: 6.17
+-- with: WhenNone
 abbrev pub NoneFound : Type 0
 NoneFound =
     ((kind offsets : ℕ) (chips : List ℕ) (f : Found) → Finds kind offsets chips f → f .number ≡ 19
@@ -116,8 +131,9 @@ NoneFound =
     × ((kind offsets : ℕ) (chips : List ℕ) (f : Found) → Finds kind offsets chips f → Tried kind offsets
     → (f .number ≡ 19 → ⊥) → f .number ≡ 0)
 
--- ---- a frame that was written is not missed, whatever stands before it, became of its payload's chips, or follows: a
--- start is found, where the frame starts or before; and if there, it is the frame's
+-- promise: A frame that was written is not missed, whatever stands before it, became of its payload's chips or follows:
+-- a start is found where it starts or before, and if there, it is the frame's
+-- rule: 6.17, 6.18, 9.3
 abbrev pub SentFound : Type 0
 SentFound =
     (kind rate phase clock : ℕ) (payload : List ℕ) (w : Written) (chips : List ℕ)
@@ -129,7 +145,9 @@ SentFound =
     → f
     ≡ startFound (length before) rate (lengthField (rateOf rate) (length payload)) (shown clock) (length payload))
 
--- ---- any two answers that the contract allows are equal
+-- promise: The contract of a search allows exactly one answer for each input
+-- rule: 9.2
+-- no test: a run shows one answer, not that no other is allowed
 abbrev pub OneFound : Type 0
 OneFound =
     (kind offsets : ℕ) (chips : List ℕ) (f f′ : Found) → Finds kind offsets chips f → Finds kind offsets chips f′

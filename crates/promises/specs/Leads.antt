@@ -71,7 +71,11 @@ pub record LeastIn (k : Kind) (r : Rate) (n : ℕ) (rec : List Taken) (lead symb
       → LeadsEnough lead symbol s q (countsFrom q at rec) w
   pub just : LeadsJust k r n rec lead symbol
 
--- a good read tells it, whatever recorded
+-- promise: A good read tells the smallest lead of its frame's symbols and the first that has it, whatever recorded:
+-- over the very lists of words that it reads, no other allowed word of any symbol scores nearer than that, before the
+-- symbol told each leads by more, and there one scores just so much less
+-- rule: 3.9, 6.16, 9.3
+-- with: SymbolOf, LeadsBy
 abbrev pub LeastTold : Type 0
 LeastTold =
     (kind : ℕ) (agree : Bool) (rec : List Taken) (room : ℕ) (a : Record) (left : List ℕ)
@@ -87,19 +91,32 @@ Sure above good exact rec =
     → LeadsBy q (countsFrom q at rec) w lead → above q < lead
     → LeadsExactly q (exactFrom q at exact) w
 
--- from hard chips and from bytes any lead says so; from soft ones a lead above 8 counts, or 11 for Barker, which is one
--- for each chip
+-- promise: From hard chips any lead above 0 says that the word leads in the exact recorded numbers too; of a whole
+-- frame from the record alone
+-- rule: 1.4 (3), 3.9
+-- with: hard-frame-sure
+-- no edit: as that of SoftSure, with an error of 0
 abbrev pub HardSure : Type 0
 HardSure =
     (octets : List ℕ)
     → Sure (λ q. 0) (λ place. getD octets place 5 ≤ 4) (exactHard octets) (hardRecording octets)
 
+-- promise: A symbol's lead from usable soft samples above 8 counts, 11 for Barker: its word leads all other allowed
+-- ones in the exact recorded numbers too; of a whole frame, from the record alone, above 11 at every rate, since its
+-- front is Barker
+-- rule: 1.4 (3), 3.9
+-- with: soft-frame-sure
+-- no test: the exact numbers reach no answer; what is told of the lead is compared
 abbrev pub SoftSure : Type 0
 SoftSure =
     (i q : List Float)
     → Sure symbolChips (λ place. T (usable (getD i place nan)) × T (usable (getD q place nan))) (exactSoft i q)
     (softRecording i q)
 
+-- promise: From signed bytes any lead above 0 says so
+-- rule: 1.4 (3), 3.9
+-- with: bytes-frame-sure
+-- no edit: as that of SoftSure, with an error of 0
 abbrev pub BytesSure : Type 0
 BytesSure =
     (bytes : List ℤ)

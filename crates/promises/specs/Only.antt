@@ -15,7 +15,9 @@ use Rattle.calls.specs.declared.Written.{Written}
 use Rattle.calls.specs.declared.Record.{Record}
 use Rattle.promises.specs.Calls.{Wrote, Read, ReadHard, ReadSoft, ReadBytes, refused, Goes, Sent}
 
--- a write that answers 0 had a kind and a rate that goes with it, 1 to 4,095 octets, a phase, and room for the frame
+-- promise: Nothing else is accepted: a write that answers 0 had a kind and a rate that goes with it, 1 to 4,095 octets,
+-- a phase below 4, and room for the frame
+-- rule: 1.4 (1), 6.1
 abbrev pub OnlySent : Type 0
 OnlySent =
     (kind rate phase clock : ℕ) (payload : List ℕ) (room : ℕ) (w : Written) (left : List ℕ) → Below 256 payload
@@ -35,31 +37,39 @@ pub record Readable (kind : ℕ) (chips room : ℕ) (a : Record) : Type 0 where
   pub fits : a .n ≤ room
   pub clock-is : a .clock < 2
 
+-- promise: Nothing else is read: number 0 tells a kind and a rate that goes with it, n from 1 to 4,095, its LENGTH and
+-- chips, a clock bit of 0 or 1, and there was room
+-- rule: 6.2, 6.10
+-- with: Readable
 abbrev pub OnlyReadable : Type 0
 OnlyReadable =
     (kind : ℕ) (agree : Bool) (rec : List Taken) (room : ℕ) (a : Record) (left : List ℕ)
     → Read kind agree rec room a left → a .number ≡ 0 → (agree ≡ true) × Readable kind (length rec) room a
 
--- one that answers another number shows no rate, no octets, no chips used, no clock bit, no lead and no symbol
+-- promise: A refused read shows no rate, no octets, no chips used, no clock bit, no lead and no symbol
+-- rule: 6.8, 9.3
 abbrev pub RefusedShows : Type 0
 RefusedShows =
     (kind : ℕ) (agree : Bool) (rec : List Taken) (room : ℕ) (a : Record) (left : List ℕ)
     → Read kind agree rec room a left → (a .number ≡ 0 → ⊥)
     → (a .rate ≡ 0) × (a .n ≡ 0) × (a .used ≡ 0) × (a .clock ≡ 0) × (a .lead ≡ 0) × (a .symbol ≡ 0)
 
--- soft rows that differ in length, and bytes of an odd number, are refused with 7 under either kind, whatever is in
--- them
+-- promise: Soft rows that differ in length are refused with 7 under either kind, whatever is in them
+-- rule: 6.2
 abbrev pub RowsRefused : Type 0
 RowsRefused =
     (kind : ℕ) (i q : List Float) (room : ℕ) (a : Record) (left : List ℕ) → kind < 2
     → (length i ≡ length q → ⊥) → ReadSoft kind i q room a left → a ≡ refused 7 0
 
+-- promise: An odd number of bytes is refused with 7 under either kind, whatever they are
+-- rule: 2.8, 6.2
 abbrev pub OddBytesRefused : Type 0
 OddBytesRefused =
     (kind : ℕ) (bytes : List ℤ) (room : ℕ) (a : Record) (left : List ℕ) → kind < 2
     → length bytes % 2 ≡ 1 → ReadBytes kind bytes room a left → a ≡ refused 7 0
 
--- and 7 is given there only: never for rows of one length, nor for an even number of bytes, nor for hard chips
+-- promise: 7 is given nowhere else: not for rows of one length, an even number of bytes, or hard chips
+-- rule: 6.4
 abbrev pub SevenOnly : Type 0
 SevenOnly =
     ((kind : ℕ) (i q : List Float) (room : ℕ) (a : Record) (left : List ℕ) → ReadSoft kind i q room a left
@@ -69,7 +79,8 @@ SevenOnly =
     × ((kind : ℕ) (chips : List ℕ) (room : ℕ) (a : Record) (left : List ℕ) → ReadHard kind chips room a left
     → a .number ≡ 7 → ⊥)
 
--- no reading of bytes answers 9
+-- promise: No reading of bytes answers 9
+-- rule: 2.8
 abbrev pub NoByteUnusable : Type 0
 NoByteUnusable =
     (kind : ℕ) (bytes : List ℤ) (room : ℕ) (a : Record) (left : List ℕ) → ReadBytes kind bytes room a left

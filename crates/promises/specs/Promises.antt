@@ -47,6 +47,9 @@ use Rattle.promises.specs.Finding.{NotTried, StartFound, NoneFound, Sent
 
 -- ---- demand 1: fills. The buffers keep their length; after a refusal only the fill, after a good answer the fill
 -- to the end
+-- promise: A refused write leaves only 4s; 4s follow the frame; the buffer keeps its length
+-- rule: 1.4 (1), 6.9, 6.12, 9.3
+-- code: dsss_write_2
 abbrev pub WriteFills : Type 0
 WriteFills =
     (kind rate phase clock : ℕ) (payload : List ℕ) (room : ℕ) (w : Written) (left : List ℕ)
@@ -55,6 +58,8 @@ WriteFills =
     × ((w .number ≡ 0 → ⊥) → left ≡ replicate room 4)
     × (w .number ≡ 0 → drop (w .chips) left ≡ replicate (room - w .chips) 4)
 
+-- promise: A refused read leaves only zeros; zeros follow the payload; the buffer keeps its length
+-- rule: 1.4 (1), 6.9, 6.12, 9.3
 abbrev pub ReadFills : Type 0
 ReadFills =
     (kind : ℕ) (agree : Bool) (rec : List Taken) (room : ℕ) (a : Record) (left : List ℕ)
@@ -65,7 +70,9 @@ ReadFills =
 
 -- ---- demand 2: reading back
 
--- the chips are the frame's, and a good write says how many
+-- promise: A write that may be sent and has room answers number 0 and the frame's chips, and the buffer begins with the
+-- frame
+-- rule: 1.4 (2), 6.11, 9.3
 abbrev pub WrittenFrame : Type 0
 WrittenFrame =
     (kind rate phase clock : ℕ) (payload : List ℕ) (w : Written) (chips : List ℕ)
@@ -78,8 +85,12 @@ WrittenFrame =
 abbrev pub lengthOf : ℕ → List ℕ → ℕ
 lengthOf rate payload = lengthField (rateOf rate) (length payload)
 
--- what was written and whatever follows it, whatever recorded it, read under its kind with room: rate, LENGTH, n, chips
--- used, the clock bit, the smallest lead and its symbol, payload
+-- promise: What was written is read back, whatever follows it, under its kind and with room: number 0, rate, LENGTH, n,
+-- chips used, clock bit, payload, and the lead of a clean frame (11,264 counts at symbol 0 at 1 and 2 Mbit/s, 8,192 at
+-- 5.5 and 4,096 at 11 at symbol 192 or 96); from hard chips, from soft rows that hold the chips as exact pairs, either
+-- zero for 0, and from bytes of 64, -64 and 0
+-- rule: 1.4 (2), 2.8, 5.14, 6.10, 6.16, 9.3
+-- with: ReadOf
 abbrev pub ReadBack : Type 0
 ReadBack =
     (kind rate phase clock : ℕ) (payload : List ℕ) (w : Written) (chips : List ℕ)
@@ -91,14 +102,17 @@ ReadBack =
     (sentSymbol kind rate))
     × (left ≡ payload ++ replicate (room - length payload) 0)
 
--- any phases can be held by exact pairs, with either zero
+-- promise: For any phases there are such soft rows, with either zero
+-- rule: 2.5
 abbrev pub SoftRows : Type 0
 SoftRows =
     (phases : List ℕ) → Below 4 phases
     → Exactly phases (map (softI 0) phases) (map (softQ 0) phases)
     × Exactly phases (map (softI 0x8000_0000) phases) (map (softQ 0x8000_0000) phases)
 
--- with too little room: 17; cut inside the payload: 16, whatever the room; cut inside the front: 8
+-- promise: From each of the three, too little room: 17 with LENGTH; cut in the payload: 16 with LENGTH, whatever the
+-- room; cut in the front: 8; nothing else is shown
+-- rule: 6.2, 6.8
 abbrev pub NotReadBack : Type 0
 NotReadBack =
     (kind rate phase clock : ℕ) (payload : List ℕ) (w : Written) (chips : List ℕ)
@@ -109,18 +123,22 @@ NotReadBack =
     → a ≡ refused 16 (lengthOf rate payload))
     × ((j : ℕ) → ReadOf kind (take j chips) 0 room a left → j < s .sendable .front → a ≡ refused 8 0)
 
--- two accepted writes of one kind that leave the same chips had the same rate, phase, clock and payload
+-- promise: Two accepted writes of one kind that leave the same chips had the same rate, phase, clock bit and payload
+-- rule: 1.4 (2)
 abbrev pub OneSource : Type 0
 OneSource =
     (kind rate rate′ phase phase′ clock clock′ : ℕ) (payload payload′ : List ℕ) (w w′ : Written) (chips : List ℕ)
     → Sent kind rate phase clock payload w chips → Sent kind rate′ phase′ clock′ payload′ w′ chips
     → (rate ≡ rate′) × (phase ≡ phase′) × (shown clock ≡ shown clock′) × (payload ≡ payload′)
 
--- ---- counts: the whole number nearest to 1024 times the exact value, so the error is at most half a count
+-- promise: A count is the whole number nearest to 1024 times the exact value: the error is at most half a count
+-- rule: 2.6
 abbrev pub HalfACount : Type 0
 HalfACount = (x : Float) → T (usable x) → Nearest (valueOf x) (countOf x)
 
--- ---- any two answers that a contract allows for one input are equal, and so are the buffers
+-- promise: The contracts of writer and readers allow exactly one answer for each input, and one final buffer
+-- rule: 9.2
+-- no test: a run shows one answer, not that no other is allowed
 abbrev pub OneAnswer : Type 0
 OneAnswer =
     ((kind rate phase clock : ℕ) (payload : List ℕ) (room : ℕ) (w w′ : Written) (left left′ : List ℕ)

@@ -63,7 +63,9 @@ pub record Keeps (half : ℕ) (exact : List Counts) (rec : List Taken) : Type 0 
   pub near : (place : ℕ) → T (not (isUnusable (getD rec place unusable)))
       → Apart half (takenCounts (getD rec place unusable)) (getD exact place nothing)
 
--- any recorder that keeps its chips up to `half` steps is read right, where they are usable
+-- promise: Demand 3 over a whole reading, for any recorder whose counts are off by at most so many steps, where the
+-- chips are usable
+-- rule: 1.4 (3), 3.8, 9.3
 abbrev pub RecordedRight : Type 0
 RecordedRight =
     (half : ℕ) (exact : List Counts) (rec : List Taken) → Keeps half exact rec
@@ -73,6 +75,8 @@ RecordedRight =
 abbrev pub exactHard : List ℕ → List Counts
 exactHard octets = map (λ x. exactOf (hardChip x)) octets
 
+-- promise: Hard rows: no error at all, wherever the octets are 0 to 4
+-- rule: 1.4 (3)
 abbrev pub HardRight : Type 0
 HardRight =
     (octets : List ℕ) → WholeRight 0 (λ place. getD octets place 5 ≤ 4) (exactHard octets) (hardRecording octets)
@@ -83,6 +87,8 @@ exactSoft [] q = []
 exactSoft (x ∷ i) [] = []
 exactSoft (x ∷ i) (y ∷ q) = exactOf (Soft (sampleOf x y)) ∷ exactSoft i q
 
+-- promise: Soft rows: 8/1024, 11/1024 for Barker, wherever I and Q are usable
+-- rule: 1.4 (3)
 abbrev pub SoftRight : Type 0
 SoftRight =
     (i q : List Float)
@@ -95,6 +101,8 @@ exactBytes [] = []
 exactBytes (x ∷ []) = []
 exactBytes (x ∷ y ∷ bytes) = byteExact x y ∷ exactBytes bytes
 
+-- promise: Signed bytes: no error at all, wherever a chip has both its bytes
+-- rule: 1.4 (3), 2.8
 abbrev pub BytesRight : Type 0
 BytesRight =
     (bytes : List ℤ)

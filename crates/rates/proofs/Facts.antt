@@ -27,7 +27,10 @@ use Rattle.rates.specs.Rates.{
 abbrev rates : List Rate
 rates = One ∷ Two ∷ Five ∷ Eleven ∷ []
 
--- of each rate: code, chips and bits of a symbol, symbols and chips of an octet
+-- promise: Codes, and the chips of an octet at each rate; no other number is a code
+-- rule: 5.2, 5.8
+-- code: rates::code, octet_chips
+-- with: codes, no-codes, no-other-code
 pub sizes : map
     (λ (r : Rate). codeOf r ∷ symbolChips r ∷ symbolBits r ∷ octetSymbols r ∷ octetChips r ∷ []) rates
     ≡ (10 ∷ 11 ∷ 1 ∷ 8 ∷ 88 ∷ [])
@@ -76,7 +79,11 @@ pub lengths-five : map (fields Five) (1 ∷ 2 ∷ 3 ∷ 4 ∷ 5 ∷ 6 ∷ 7 ∷ 
     ∷ (12 ∷ 0 ∷ []) ∷ (14 ∷ 0 ∷ []) ∷ (15 ∷ 0 ∷ []) ∷ (16 ∷ 0 ∷ []) ∷ (5957 ∷ 0 ∷ []) ∷ []
 lengths-five = refl
 
--- and so does 8 n / 11: rounding adds 8/11, 9/11 and 10/11 at n = 10, 3 and 7, and only 7/11 at n = 6
+-- promise: LENGTH and bit 7: 16n/11 and 8n/11 leave every remainder as n goes from 1 to 11; at 11 Mbit/s rounding adds
+-- 8/11, 9/11 and 10/11 at n = 10, 3 and 7, and only 7/11 at n = 6
+-- rule: 5.10, 5.11, 8.1
+-- code: length_field, bit7
+-- with: lengths-one, lengths-two, lengths-five
 pub lengths-eleven : map (fields Eleven)
     (1 ∷ 2 ∷ 3 ∷ 4 ∷ 5 ∷ 6 ∷ 7 ∷ 8 ∷ 9 ∷ 10 ∷ 11 ∷ 1023 ∷ 1024 ∷ 1025 ∷ 1026 ∷ 4095 ∷ [])
     ≡ (1 ∷ 0 ∷ []) ∷ (2 ∷ 0 ∷ []) ∷ (3 ∷ 1 ∷ []) ∷ (3 ∷ 0 ∷ []) ∷ (4 ∷ 0 ∷ []) ∷ (5 ∷ 0 ∷ []) ∷ (6 ∷ 1 ∷ [])

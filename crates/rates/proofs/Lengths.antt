@@ -44,6 +44,10 @@ whole Two n = omega arith
 whole Five n = omega arith
 whole Eleven n = eleven n _ refl
 
+-- promise: LENGTH and bit 7 give n back at every rate
+-- rule: 5.12, 8.1
+-- code: octets_told
+-- with: length-holds
 pub octets-back : (r : Rate) (n : ℕ) → octetsRead r (lengthField r n) (bit7 r n) ≡ pos n
 octets-back r n = less (wholeOctets r (lengthField r n)) (bit7 r n) n (whole r n)
 

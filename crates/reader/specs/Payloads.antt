@@ -1,4 +1,5 @@
 -- What a payload heard leaves in the octet buffer, and what it comes to. Definitions only. Assumes nothing.
+-- working notion: of the code that reads a payload; no promise needs it
 use mathlib.Core.List.{List, _++_}
 use mathlib.Core.Option.{Option, none, some}
 use Prim.Native.Nat.{ℕ, _-_}

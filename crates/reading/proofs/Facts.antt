@@ -120,6 +120,10 @@ leasts = refl
 -- 10, the 9 at the part's end; two 9s; 9 at chip 0; 10 in the preamble (a first symbol turned is seen in the
 -- second), at its last symbol, at the first and the last of a long header; 11; 12, of a short header whose first
 -- symbol grew by an odd step; 16, 17 and 9; 16; the payload's 10 at its first and its last symbol
+-- promise: Whole recordings: each refusal, and each two neighbours in the order of checks that can be met together; 16
+-- comes before 17
+-- rule: 6.2 to 6.6
+-- with: good, parts, payloads
 pub bad : refused 2 true 1 long ∷ refused 2 false 1 long ∷ refused 256 true 1 long
     ∷ refused 0 false 1 long ∷ refused 1 false 1 []
     ∷ refused 0 true 1 (take 2111 (spoilt 0 5 long)) ∷ refused 1 true 1 (take 1055 short)

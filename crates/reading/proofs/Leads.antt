@@ -184,6 +184,10 @@ pub record LeastIs (xs : List ℕ) (b : Least) : Type 0 where
   pub has : getD xs (b .symbol) 0 ≡ b .lead
   pub first : (j : ℕ) → j < b .symbol → b .lead < getD xs j 0
 
+-- promise: The smallest of a list of leads, and the first symbol that has it
+-- rule: 6.16
+-- code: least_after
+-- with: leastOf-joined
 pub least-is : (xs : List ℕ) → 0 < length xs → LeastIs xs (leastOf xs)
 unfolding leastOf leastFrom
 least-is [] h = absurd (not-suc-le-zero h)

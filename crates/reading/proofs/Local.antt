@@ -121,6 +121,8 @@ module _ (k : Kind) (rec rec′ : List Taken) (e : take (frontChips k) rec ≡ t
       let same : length (take f a) ≡ length (take f b) = ap length e in
       omega (arith, same, length-take-le f a h, ap length (take-all f b (omega arith)))
 
+  -- promise: A front is read from its own chips
+  -- rule: 6.2
   pub front-same : frontOf k rec ≡ frontOf k rec′
   front-same = by (decLe f (length rec)) (decLe f (length rec′))
     where

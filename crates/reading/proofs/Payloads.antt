@@ -21,6 +21,10 @@ foundUnusable k t rec =
     firstUnusable from (take (frameChips k (t .rate) (t .n) - from) (drop from rec))
 
 module _ (k : Kind) (t : Told) (rec : List Taken) (room : ℕ) where
+  -- promise: 17, then 9, then 10 over any payload, or good
+  -- rule: 6.2, 6.3
+  -- code: read_payload
+  -- with: unusable-refused, odd-refused, payload-good
   pub room-refused : room < t .n → payloadReading k t rec room ≡ Refused (OctetRoom (t .length))
   unfolding payloadReading
   room-refused h = rw (lt-ltb room (t .n) h)

@@ -92,6 +92,9 @@ module _ (k : Kind) (rec : List Taken) where
       front-unusable
       (searched FrontIf (frontOdd k rec) (λ p. front.Refused (OddGrowth p 0)) _ front-odd (header-refuses _ _)))
 
+  -- promise: What a front and a payload can be refused with; a place lies in its part
+  -- rule: 6.2, 6.4
+  -- with: payload-comes, whole-place, payload-unusable-place, payload-odd-place
   pub whole-refuses : RefusesIf (wholeOf k rec (frontOf k rec))
   whole-refuses = go (frontOf k rec) front-refuses
     where

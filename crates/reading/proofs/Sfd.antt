@@ -156,6 +156,11 @@ module _ (k : Kind) (rec : List Taken) where
           (omega (arith, bits-long, length-drop (syncBits k) (frontBits k rec)))
 
   -- ---- a front that tells has the kind's SFD
+  -- promise: A front that tells has the kind's SFD, bit by bit from the words of its symbols; so where the two octets
+  -- of a sweep are others, it is refused
+  -- rule: 6.17
+  -- code: marks
+  -- with: sfd-low, sfd-high
   pub sfd-bit : (t : Told) → frontOf k rec ≡ Fields t → (n i : ℕ) → n + 8 ≡ syncBits k + i → i < 16
       → bit (n + 7) ⊕ bit (n + 3) ⊕ bit n ≡ getD (bitsOf 16 (sfdOf k)) i 0
   sfd-bit t e n i at h =

@@ -1,6 +1,7 @@
 -- Symbols as columns of a row of sixteen abreast: of chip k, the sixteen I stand from 32 k on and the sixteen Q from
 -- 32 k + 16 on, and column l is symbol l.
 -- Definitions only. Assumes nothing.
+-- working notion: of the code that chooses words; no promise needs it
 use mathlib.Core.Path.{_≡_}
 use mathlib.Core.List.{List}
 use Prim.Native.Nat.{ℕ, _+_, _*_, _%_, _<_}

@@ -1,5 +1,6 @@
 -- A place found or not, parts of rows, chips that are usable, and symbols decided in blocks of up to 64.
 -- Definitions only. Assumes nothing.
+-- working notion: of the contracts of the recorders; no promise needs it
 use Prim.Native.Nat.{ℕ, _+_, _*_, _<_}
 use mathlib.Core.Path.{_≡_}
 use mathlib.Core.Bool.{false}
@@ -39,6 +40,12 @@ pub record AllUsable (rec : List Taken) (at n : ℕ) : Type 0 where
   pub each : (k : ℕ) → k < n → isUnusable (getD rec (at + k) unusable) ≡ false
 
 -- the first m of 64 numbers are those that m symbols from a place are decided as; of the others nothing is said
+-- promise: The choice from counts, from full chips and from bytes, alone and in blocks, with its lead, is the
+-- definition's
+-- rule: 3.5 to 3.7, 3.9
+-- code: choice::decide_barker, choice::decide_five, units::decide_barker, units::decide_five, byte_choice::barker,
+-- byte_choice::five, byte_walsh::sixteen, count_walsh::sixteen, recorders::decide
+-- with: LeadsAt
 pub record DecidedAt (r : Rate) (rec : List Taken) (at m : ℕ) (numbers : List ℕ) : Type 0 where
   pub long : length numbers ≡ 64
   pub number : (l : ℕ) → l < m → getD numbers l 0 ≡ decided r (symbolAt r rec (at + symbolChips r * l))

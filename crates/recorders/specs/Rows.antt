@@ -1,5 +1,6 @@
 -- What each recorder makes of the rows that are lent.
 -- Definitions only. Assumes nothing.
+-- working notion: of the contracts of the recorders; no promise needs it
 use Prim.Native.Nat.{ℕ}
 use mathlib.Core.List.{List}
 use lib.IntN.{ℤ}

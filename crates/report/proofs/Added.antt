@@ -179,6 +179,10 @@ module _ (os : List Outcome) (o : Outcome) (fair : Fair (o .answer)) where
         recording = ap recordingTold now-is i;
       }
 
+  -- promise: One reading more in a report kept is one more in every total; the smallest lead so far and one more
+  -- rule: 6.19
+  -- code: with_frame, with_refusal
+  -- with: closest-more
   pub added-more : added (reportOf os) o ≡ reportOf (os ++ (o ∷ []))
   unfolding added
   added-more = by (accepted o) refl

@@ -95,6 +95,9 @@ front-fair k rec (front.Refused e) h n = let b = whole-number n in refused e (om
 front-fair k rec (front.Fields t) h n = payload k t rec (h .telling)
 
 -- whatever the kind and the chips
+-- promise: A reading with room for 4,095 octets: number 0 with a rate, at most 4,095 octets and a LENGTH of at most
+-- 32,760, or 1 or 8 to 16
+-- rule: 6.19
 pub fair : (r : Recording) → Fair (outcomeOf r .answer)
 unfolding readingOf
 fair r =

@@ -99,6 +99,11 @@ places-enough (suc m) n h =
     by (yes p) rest = rw (places-one (suc m) n p) (omega arith)
     by (no q) rest = rw (places-more m n (omega arith), pow-succ' 10) (omega arith)
 
+-- promise: A number's decimal digits give it back, are digits, and begin with no zero, for all of 64 bits; no two
+-- numbers have the same
+-- rule: 6.20
+-- code: put_number
+-- with: decimal-digit, decimal-front, decimal-injective
 pub decimal-value : (n : ℕ) → n < 10 ^ 20 → valueFrom 0 (decimal n) ≡ n
 unfolding decimal
 decimal-value n h = digits-value (places 19 n) n (places-enough 19 n h)

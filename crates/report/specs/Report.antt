@@ -112,6 +112,11 @@ atMost m (x ∷ xs) = leb x m && atMost m xs
 
 -- a report takes one more if it has seen fewer than 1,000, and no number in it is above what 1,000 recordings come to:
 -- so many frames and refusals, 4,095 octets each, 192 microseconds and a LENGTH of 32,760 each
+-- promise: the report has seen 1,000 recordings, or one of its numbers is above what 1,000 come to; of a list, it has
+-- more than 1,000
+-- rule: 6.4 (31), 6.19
+-- code: takes_more, of_list
+-- with: listOf
 unfoldable pub takesMore : Report → Bool
 takesMore p =
     ltb (p .seen) 1000 && atMost 1000 (p .frames) && atMost 4095000 (p .octets) && atMost 1000 (p .refused)

@@ -195,6 +195,9 @@ module _ (kind rate phase clock : ℕ) (payload : List ℕ) (w : Written) (chips
       (one-read kind (take (w .chips) chips ++ tail) answer _ [] [] read none-read))
       (one-more [] empty kind (take (w .chips) chips ++ tail) c nothing-yet a)
 
+  -- promise: A frame that was written, whatever follows it, counts as one frame of its rate with its octets, airtime
+  -- and lead, and nothing refused
+  -- rule: 1.4 (2), 6.19
   pub sent-counted : (c .number ≡ 0)
       × OneFrame kind rate (lengthOf rate payload) (length payload) (sentLead rate) (c .report)
   sent-counted =

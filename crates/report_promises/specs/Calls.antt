@@ -16,15 +16,27 @@ use Rattle.report.specs.Text.{spelledOf, textLeft}
 
 -- one recording more: its answer
 pub record Adds (report : Report) (kind : ℕ) (chips : List ℕ) (c : Counted) : Type 0 where
+  -- promise: One recording more in a report answers the definition's record, for every report and recording
+  -- rule: 6.19, 9.1
+  -- code: dsss_report_add, reporter::add
   pub answer : c ≡ countedOf report (record { kind = kind; chips = chips })
 
 -- a whole list: its answer
 pub record Lists (kinds : List ℕ) (list : List (List ℕ)) (c : Counted) : Type 0 where
+  -- promise: A whole list answers the definition's record, for every list and every row of kinds
+  -- rule: 6.19, 9.1
+  -- code: dsss_report_list, of_list
   pub answer : c ≡ listOf kinds list
 
 -- the text: its answer, and the octet buffer of `room` octets at the end
 pub record Spells (report : Report) (room : ℕ) (s : Spelled) (left : List ℕ) : Type 0 where
+  -- promise: A report's text answers the definition's record, for every report and buffer
+  -- rule: 6.20, 9.1
+  -- code: dsss_report_text, speller::text
   pub answer : s ≡ spelledOf report room
+  -- promise: The octet buffer at the end is the text and then zeros; after a refusal only zeros
+  -- rule: 6.20, 9.1
+  -- code: dsss_report_text, speller::text
   pub octets : left ≡ textLeft report room
 
 -- the report at first: all zeros

@@ -50,26 +50,36 @@ pub record TotalsOf (os : List Outcome) (p : Report) : Type 0 where
   pub together : sumOf (p .frames) + sumOf (p .refused) ≡ p .seen
   pub never : (number : ℕ) → (number ≡ 1 → ⊥) → (8 ≤ number → 16 < number) → getD (p .refused) number 0 ≡ 0
 
--- ---- a report kept, each call with it as the last one left it, has the totals of the first 1,000 readings
+-- promise: A report kept between calls, each with it as the last one left it, has the totals of the first 1,000
+-- readings, each by its own definition over the hard reader's own answers: seen, frames and octets of each rate,
+-- refusals of each number, airtime, the smallest lead and the first recording that has it, none where no frame was
+-- accepted; frames and refusals together are those seen; only 1 and 8 to 16 are met
+-- rule: 6.19, 9.3
+-- with: Kept, Readings, TotalsOf, LeadTold
 abbrev pub ReportKept : Type 0
 ReportKept =
     (rs : List Recording) (os : List Outcome) (p : Report) → Readings rs os → Kept rs p → TotalsOf (take 1000 os) p
 
--- ---- the numbers answered: 0 for each of the first 1,000, whatever its reading; then 31, and the report as it stood
+-- promise: Each of the first 1,000 is answered with 0, whatever its reading; then 31, and the report stays as it stood
+-- rule: 6.19
 abbrev pub KeptAnswers : Type 0
 KeptAnswers =
     (rs : List Recording) (p : Report) (kind : ℕ) (chips : List ℕ) (c : Counted) → Kept rs p → Adds p kind chips c
     → (length rs < 1000 → c .number ≡ 0) × (1000 ≤ length rs → c ≡ record { number = 31; report = p })
 
--- ---- any report whatever: one within the limits, in plain numbers, takes one more: 0, and one more was seen. Of any
--- other 31, and it stays as it stood
+-- promise: Any report whatever: within the limits, in plain numbers, 0 and one more seen; else 31, and it stays as it
+-- stood
+-- rule: 6.19
+-- with: report/Within
 abbrev pub AnyReport : Type 0
 AnyReport =
     (p : Report) (kind : ℕ) (chips : List ℕ) (c : Counted) → Adds p kind chips c
     → (Within p → (c .number ≡ 0) × (c .report .seen ≡ p .seen + 1))
     × ((Within p → ⊥) → c ≡ record { number = 31; report = p })
 
--- ---- a whole list: as calls one after the other, and the number of its last one; 7 where rows differ in length
+-- promise: A whole list gives what calls one after the other give, 0 up to 1,000 recordings and 31 above; 7 and all
+-- zeros where there are not as many kinds
+-- rule: 6.13, 6.19
 abbrev pub ListAlike : Type 0
 ListAlike =
     (kinds : List ℕ) (list : List (List ℕ)) (c : Counted) → Lists kinds list c
@@ -79,7 +89,9 @@ ListAlike =
     × ((p : Report) → Kept (recordings kinds list) p → c .report ≡ p)
     × ((os : List Outcome) → Readings (recordings kinds list) os → TotalsOf (take 1000 os) (c .report)))
 
--- ---- the text: 980 octets hold any; the buffer keeps its length; zeros follow the text, and are all after a refusal
+-- promise: 980 octets hold the text of any report; the buffer keeps its length, zeros follow the text; with less room
+-- than the text 17 and only zeros
+-- rule: 6.13, 6.20
 abbrev pub TextFills : Type 0
 TextFills =
     (p : Report) (room : ℕ) (s : Spelled) (left : List ℕ) → Spells p room s left
@@ -90,7 +102,9 @@ TextFills =
     × (room < length (textOf p) → (s ≡ record { number = 17; octets = 0 }) × (left ≡ replicate room 0))
     × (980 ≤ room → s .number ≡ 0)
 
--- ---- any two answers that a contract allows are equal, and so are the buffers
+-- promise: The contracts of the report's calls allow exactly one answer for each input, and one final text buffer
+-- rule: 9.2
+-- no test: a run shows one answer, not that no other is allowed
 abbrev pub OneReport : Type 0
 OneReport =
     ((p : Report) (kind : ℕ) (chips : List ℕ) (c c′ : Counted) → Adds p kind chips c → Adds p kind chips c′ → c ≡ c′)

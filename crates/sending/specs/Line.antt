@@ -1,4 +1,5 @@
 -- What the code's line stands for, and words one after the other. Definitions only. Assumes nothing.
+-- working notion: of the code that sends octets; no promise needs it
 use Prim.Native.Nat.{ℕ}
 use mathlib.Core.List.{List, [], _∷_, _++_}
 use Rattle.symbols.specs.Words.{barkerWord}

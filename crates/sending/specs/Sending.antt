@@ -1,6 +1,7 @@
 -- Octets as chips, one after the other: what stands between two octets, what an octet sends, and what octets send.
 -- The frame's definition makes passes over all its bits; the law `sent` says that these are the same.
 -- Definitions only. Assumes nothing.
+-- working notion: of the code that sends octets; no promise needs it
 use Prim.Native.Nat.{ℕ, suc, _*_}
 use mathlib.Core.List.{List, [], _∷_, _++_, reverse}
 use Rattle.rates.specs.declared.Rate.{Rate}

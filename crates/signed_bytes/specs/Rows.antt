@@ -1,5 +1,6 @@
 -- Symbols of bytes, I and Q apart, one after the other and sixteen abreast; and what sixteen abreast are decided from.
 -- Definitions only. Assumes nothing.
+-- working notion: of the code that chooses words; no promise needs it
 use Prim.Native.Nat.{ℕ, _+_, _*_}
 use mathlib.Core.List.{List}
 use lib.IntN.{ℤ}

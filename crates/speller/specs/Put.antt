@@ -1,5 +1,6 @@
 -- What putting octets into a row, from a place on, comes to; and lines as the code puts them.
 -- Definitions only. Assumes nothing.
+-- working notion: of the code that makes a text; no promise needs it
 use mathlib.Core.Path.{_≡_}
 use mathlib.Core.List.{List, [], _++_}
 use Prim.Native.Nat.{ℕ, zero, suc, _+_}

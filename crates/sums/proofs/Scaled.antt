@@ -152,6 +152,9 @@ module _ (t : ℕ) (some : 0 < t) where
     scores : (n : ℕ) → scoreAt r (map f l) n ≡ k (scoreAt r (map g l) n)
     scores n = score-times f g h (wordOf r n) l
 
+    -- promise: Bytes as they are choose the word that their counts do
+    -- rule: 2.8
+    -- code: signed_bytes::barkers, signed_bytes::fives, signed_bytes::elevens
     pub decided-times : decided r (map f l) ≡ decided r (map g l)
     unfolding decided
     decided-times = first-same (scoreAt r (map f l)) (scoreAt r (map g l)) scores (allowed r)
@@ -175,6 +178,8 @@ module _ (t : ℕ) (some : 0 < t) where
         x : NextAs r few (decided r few) (runnerUp r few)
         x = runner-next r few
 
+    -- promise: Counts that are so many times others have so many times their lead
+    -- rule: 2.5, 2.8
     pub lead-times : leadOf r many ≡ t * leadOf r few
     lead-times =
         let m = scoreAt r few (runnerUp r few) in

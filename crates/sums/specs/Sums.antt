@@ -1,5 +1,6 @@
 -- Scores by sums of I and of Q apart: a Barker symbol's four by two sums, the sixteen of 5.5 Mbit/s by eight.
 -- Definitions only. Assumes nothing.
+-- working notion: of the code that chooses words; no promise needs it
 use Prim.Native.Nat.{ℕ, _+_, _*_}
 use mathlib.Core.Bool.{Bool, true, false}
 use mathlib.Core.List.{List, [], _∷_}

@@ -75,6 +75,11 @@ module _ (i q : ℤ) where
   above (suc (suc (suc (suc r)))) b h = absurd (omega (arith, b .among))
 
   -- by two numbers that differ as the sums together do, and 1 more
+  -- promise: A symbol is decided as phase 2 or 3 just where I and Q together are below 0; in a front that tells, a bit
+  -- is by the halves of two symbols
+  -- rule: 6.17
+  -- code: sweep::decide
+  -- with: front-even, front-bit
   by-two : (p m : ℕ) → up i + up q + m + 1 ≡ dn i + dn q + p → boolByte (leb p m) ≡ decided One (asChip i q) / 2
   by-two p m e = by (decLe p m)
     where

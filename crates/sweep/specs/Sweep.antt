@@ -1,6 +1,7 @@
 -- Which half of the phases a Barker symbol is decided as, at every chip, and what octet eight bits would be from there:
 -- as rows by their rules. Symbols are 11 chips apart, so what belongs to one front stands 11 entries apart in a row.
 -- Definitions only. Assumes nothing.
+-- working notion: of the filter of a search; no promise needs it
 use mathlib.Core.Path.{_≡_}
 use mathlib.Core.List.{List, [], _∷_}
 use Prim.Native.Nat.{ℕ, _+_, _-_, _*_, _/_, _%_, _≤_, _<_}

@@ -15,6 +15,10 @@ use Rattle.symbols.specs.Words.{barkerWord, cckWord, cckNumber, p1Of, p2
 use Rattle.symbols.specs.Choice.{term, score, those, allowed, going, firstLargest, decided, others, leadOf}
 
 -- the words (0,0,0,0), (1,1,0,0) and (0,1,2,3); what each phase alone adds to which chips; the Barker symbols
+-- promise: Barker and CCK words, their numbers and phases, and the numbers that each rate allows
+-- rule: 3.1 to 3.4, 3.7
+-- code: barker_word, cck_word, five_word
+-- with: numbered, numbers-words, barker-numbers, five-numbers, eleven-numbers
 pub words :
     cckWord 0 0 0 0 ∷ cckWord 1 1 0 0 ∷ cckWord 0 1 2 3 ∷ cckWord 1 0 0 0 ∷ cckWord 0 1 0 0 ∷ cckWord 0 0 1 0
     ∷ cckWord 0 0 0 1 ∷ map barkerWord (0 ∷ 1 ∷ 2 ∷ 3 ∷ [])
@@ -76,7 +80,10 @@ pub own-scores : map own rates ≡ pos 11264 ∷ pos 11264 ∷ pos 8192 ∷ pos 
 unfolding barkerWord cckWord score
 own-scores = refl
 
--- I, Q, -I and -Q, as the word's chip is 0, 1, 2 and 3
+-- promise: A score adds I, Q, -I or -Q as the word's chip is 0, 1, 2 or 3; where nothing was recorded the smallest
+-- allowed number wins
+-- rule: 3.5, 3.6
+-- with: nothing-decided, tie-decided
 pub terms :
     map (λ p. term p (pair (pos 3) (pos 5))) (0 ∷ 1 ∷ 2 ∷ 3 ∷ [])
     ≡ pos 3 ∷ pos 5 ∷ negℤ (pos 3) ∷ negℤ (pos 5) ∷ []

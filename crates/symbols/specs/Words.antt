@@ -35,6 +35,7 @@ cckWord p1 p2 p3 p4 =
     ∷ []
 
 -- the number of a word is 64 p1 + 16 p2 + 4 p3 + p4, that of a Barker symbol is p
+-- working notion: of the code and of facts
 abbrev pub cckNumber : ℕ → ℕ → ℕ → ℕ → ℕ
 cckNumber p1 p2 p3 p4 = 64 * p1 + 16 * p2 + 4 * p3 + p4
 

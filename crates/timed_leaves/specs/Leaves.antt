@@ -1,4 +1,5 @@
 -- What the exported leaves answer. Definitions only. Assumes nothing.
+-- working notion: of the leaves that bench/ times; no promise needs it
 use Prim.Native.Nat.{ℕ, _<_, _≤_}
 use mathlib.Core.Path.{_≡_}
 use mathlib.Core.Bool.{cond, _&&_}

@@ -1,6 +1,7 @@
 -- Sixteen symbols abreast, in rows: a complex row is sixteen numbers of I and then sixteen of Q, and column l of all
 -- rows is symbol l. What the stages make of such rows, entry by entry.
 -- Definitions only. Assumes nothing.
+-- working notion: of the butterflies; no promise needs it
 use mathlib.Core.Path.{_≡_}
 use mathlib.Core.List.{List, [], _∷_}
 use Prim.Native.Nat.{ℕ, _+_, _*_, _≤_, _<_}

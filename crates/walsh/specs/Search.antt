@@ -1,6 +1,7 @@
 -- The search for the two largest keys of a column, group after group: the sixteen words of a group share p3 and p4, and
 -- its last butterfly, by p2, gives the key of the best of them and the next.
 -- Definitions only. Assumes nothing.
+-- working notion: of the butterflies; no promise needs it
 use mathlib.Core.Path.{_≡_}
 use mathlib.Core.Bool.{cond}
 use mathlib.Core.List.{List}

@@ -1,6 +1,7 @@
 -- The fast Walsh structure: a butterfly makes four complex numbers of two, and a last one gives the keys of sixteen
 -- words.
 -- Definitions only. Assumes nothing.
+-- working notion: of the butterflies; no promise needs it
 use Prim.Native.Nat.{ℕ}
 use mathlib.Core.List.{[], _∷_}
 use lib.ListN.{getD}

@@ -1,5 +1,6 @@
 -- The frame's three parts as octets: the preamble's octets, and what stands between two parts.
 -- Definitions only. Assumes nothing.
+-- working notion: of the code that writes a frame; no promise needs it
 use Prim.Native.Nat.{ℕ}
 use mathlib.Core.List.{List, [], _∷_, _++_}
 use lib.ListN.{replicate}

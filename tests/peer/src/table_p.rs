@@ -2,6 +2,7 @@
 //!
 //! The twelve entries, checked against this program at the start of every run.
 
+// for: TableP
 use crate::bits::{decide, direct, growth_of_two, send, Rate};
 use crate::chips::{count, Chip, Counts, Phase};
 use crate::frame::{crc, scramble, Kind};

@@ -79,80 +79,155 @@ macro_rules! families {
 }
 
 families! {
+    // for: lengths-eleven, words, Crc
     101 published::published_figures: "LENGTH and bit 7 of every n and rate, CRCs, words from outside",
+    // for: Wrote.chips, WrittenFrame, words, bits/facts, frame/facts, from-header
     201 written::write_short_payloads: "1 to 64 octets, all kinds, rates and phases",
+    // for: Wrote.chips, framed-length
     202 written::write_long_payloads: "1,023 to 1,026 and 4,095 octets",
+    // for: Wrote.chips, lengths-eleven
     203 written::write_every_n: "a sweep of n at each rate; every n in the longer run, but at 1 and 2 Mbit/s",
+    // for: Wrote.answer, NoKind, NoRate, ShortRate, NoPhase, WriteFills
     204 written::write_numbers: "kind, rate, phase, payload and buffer out of range, alone and together",
+    // for: PayloadSize, ChipRoom, WriteFills, OnlySent
     205 written::write_edges: "payload of 0, 4,095 and 4,096 octets, buffers a chip short, exact and longer",
+    // for: Wrote.chips, frame/facts
     206 written::write_clocks: "each of many clock numbers, at every kind, rate and phase, and beside each refusal",
+    // for: ReadBack, ReadHard, SoftRows, unscrambled, OneSource, decided-clean
     301 restored::read_short_payloads: "recordings of 1 to 64 octets, all kinds, rates and phases",
+    // for: ReadBack, Read.octets
     302 restored::read_long_payloads: "recordings of 1,023 to 1,026 and 4,095 octets",
+    // for: OctetRoom, ReadFills, NotReadBack
     303 restored::read_rooms: "octet buffers shorter than n, exact and longer",
+    // for: ReadBack, Ends
     304 restored::chips_after_the_frame: "anything after the frame, unusable chips too",
+    // for: Signal, Service, header-only, OnlyReadable
     401 headers::every_signal_and_service: "each SIGNAL, each SERVICE, all of both in the longer run, right CRC",
+    // for: Length, octets-back
     402 headers::every_length: "LENGTH and bit 7 that no n has, and those around the longest payload",
+    // for: header-back, Length
     403 headers::headers_with_payload: "right CRC and chips behind it, LENGTH near the payload's",
+    // for: Sfd, Crc, header-only
     404 headers::sfd_and_crc: "SFD and CRC with bits changed, turned round, of the other kind",
+    // for: Sfd, reading/bad
     405 headers::sync_not_compared: "any SYNC bits at all",
+    // for: header-back, RefusedShows, Service
     406 headers::clock_bits: "each SERVICE with and without the clock bit, whole, cut, short of room and spoiled",
+    // for: NoKind, Read.answer, calls/numbers
     501 refused::read_numbers: "kinds, lengths and buffers out of range, alone and together",
+    // for: RowsDiffer, RowsRefused, ReadSoft
     502 refused::rows_that_differ: "I and Q rows of different length",
+    // for: ShorterThanFront, Read.answer
     503 refused::empty_rows: "every row empty, alone and together",
+    // for: reading/bad, Read.answer
     504 refused::every_set_of_refusals: "each set of refusals that can be asked for at once",
+    // for: reading/bad, Read.answer
     505 refused::pairs_of_refusals: "each refusal alone and with each other one, by each recorder",
+    // for: Ends, ShorterThanFront, NotReadBack
     506 refused::cut_recordings: "recordings cut at every length about the front's and the frame's end",
+    // for: Sfd
     507 refused::kinds_crossed: "long frames read as short and the other way",
+    // for: RowsDiffer, OddBytesRefused, SevenOnly
     508 refused::odd_rows: "odd numbers of bytes, about the fronts, the frame's end and powers of 2",
+    // for: FrontOnly, front-same
     509 refused::long_refused: "what the front refuses, in recordings of up to 71,000 chips that are alike there",
+    // for: Unusable, ReadHard, Octets
     601 damage::unusable_octets: "one or two unusable octets at every place",
+    // for: OddGrowth, whole-refuses
     602 damage::odd_growths: "symbols turned by 1 to 3, alone or with all that follow",
+    // for: Read.octets, HardRight
     603 damage::damaged_chips: "chips changed to other phases, few to most",
+    // for: ReadHard, terms
     604 damage::lost_chips: "chips, symbols and whole parts lost",
+    // for: terms, decided-best
     605 damage::tied_words: "payload symbols with few chips left, so that words tie",
+    // for: Read.answer
     606 damage::random_recordings: "phases and marks at random",
+    // for: RecordedRight, SoftRight, DecidedAt
     701 soft::noise: "noise over all of the frame or over its payload",
+    // for: counted, HalfACount
     702 soft::halves_of_a_count: "values on the halves of a count and next to them",
+    // for: counted, HalfACount
     703 soft::tiny_values: "subnormals, zeros of both signs, values below half a count",
+    // for: usable
     704 soft::exactly_eight: "8 and its neighbours, scores at both ends of their range",
+    // for: Unusable, usable, ReadSoft
     705 soft::unusable_values: "NaN, infinities and values above 8 at every place",
+    // for: Read.octets, DecidedAt
     706 soft::soft_damage: "soft chips turned, faded and lost",
+    // for: ReadBack, Read.octets
     801 long::long_payloads: "65 to 4,094 octets by each recorder, anything after the frame",
+    // for: Unusable, room-refused
     802 long::long_unusable: "unusable chips at edges of symbols and blocks, first, last and any, up to 4,095 octets",
+    // for: OddGrowth, room-refused
     803 long::long_growths: "payload symbols turned at edges of blocks, first, last and past chip 65,536",
+    // for: Ends, NotReadBack
     804 long::long_cuts: "long recordings that end inside the payload",
+    // for: OctetRoom, room-refused
     805 long::long_rooms: "octet buffers shorter than a long payload",
+    // for: Read.octets
     806 long::block_edges: "one symbol damaged at an edge of a block of symbols or octets",
+    // for: Read.octets
     807 long::long_damage: "damage and noise over payloads of 301 to 1,100 octets",
+    // for: ReadBytes, byte-exact, decided-times
     901 bytes::every_byte: "symbols decided otherwise if one byte, each of the 256, is 1 more or 1 less",
+    // for: ReadBytes, terms
     902 bytes::equal_bytes: "bytes equal in size, so that words tie, in symbols and over all of a recording",
+    // for: ReadBytes, BytesRight
     903 bytes::exchanged_bytes: "I and Q exchanged, negated, a byte late, and frames turned by an eighth",
+    // for: ReadBytes, NoByteUnusable
     904 bytes::random_bytes: "bytes at random over all of the recording, the header or the payload",
+    // for: ToldAlike, RefusedAlike, reads-on
     1001 coming::coming_rooms: "what is coming beside full reads with room 0, n - 1, n and 4,095, refused and not",
+    // for: FrontOnly, SentTold
     1002 coming::payloads_not_looked_at: "recordings alike in the front, with any octets as the payload's chips",
+    // for: FrontTold, SentTold, ReadFront.answer, Handed.chips-are, HandedPart
     1003 coming::coming_every_n: "what is coming up to 4,095 octets, whole, cut and with chips behind",
+    // for: FrontRefused, RefusedAlike, ReadFront.answer
     1004 coming::coming_any_octets: "what is coming in octets at random and in frames cut anywhere, by any kind",
+    // for: walsh, decided-best
     1101 ties::ties_eleven: "words that tie at 11 Mbit/s, by each recorder, payloads of each length to 70 and longer",
+    // for: walsh
     1102 ties::ties_eleven_largest: "words that tie at 11 Mbit/s in values of 8 and -8, 127 and -128",
+    // for: walsh
     1103 ties::ties_eleven_broken: "words that tie at 11 Mbit/s, and the same a step beside the tie, either way",
+    // for: lead-clean, lead-times, ReadBack
     1201 leads::leads_as_sent: "chips as sent, of every size that a recorder has: 11, 8 and 4 of them",
+    // for: LeastTold, least-is, HardSure, BytesSure
     1202 leads::leads_of_one_symbol: "the smallest lead in a chosen symbol of the preamble, the header or the payload",
+    // for: LeastTold, least-is
     1203 leads::leads_at_each_place: "the smallest lead in each symbol of the front and of a block of 64 behind it",
+    // for: LeastTold, least-is
     1204 leads::leads_shared: "several symbols of one smallest lead, and others of a little more",
+    // for: lead-is
     1205 leads::leads_of_ties: "words that tie in a chosen symbol of the preamble, the header or the payload",
+    // for: lead-is
     1206 leads::leads_of_allowed_words: "words beside a symbol of 5.5 Mbit/s that aren't allowed there",
+    // for: lead-is, walsh
     1207 leads::leads_of_next_words: "each word that can come next behind another, alone, at 5.5 and 11 Mbit/s",
+    // for: LeastTold
     1208 leads::leads_in_noise: "noise over all of a frame, front included",
+    // for: LeastTold
     1209 leads::leads_of_long_frames: "the smallest lead in far symbols, at edges of blocks and last of 4,095 octets",
+    // for: RefusedShows
     1210 leads::leads_kept: "refused reads, 10 and more, with symbols of small leads",
+    // for: early, SentFound, StartFound
     1301 finding::find_clean: "frames as sent, behind lost chips, phases, one phase, another frame, an unusable chip",
+    // for: NoOffsets, NotTried, Finds.answer
     1302 finding_edges::find_edges: "numbers of offsets, kinds and lengths at their edges, starts at each remainder",
+    // for: StartFound, SentFound, sfd-bit, by-two
     1303 finding_damage::find_damage: "fronts with chips spoiled, cut off and turned, behind wrong ones and others",
+    // for: NoStart, NoneFound
     1304 finding::find_noise: "recordings without a frame or with one behind much else, up to 4,096 offsets",
+    // for: StartFound, NoneFound, start-comes
     1305 finding::find_all: "every number of offsets from 1 on, and the front from each offset, one by one",
+    // for: ReportKept, KeptAnswers, Adds.answer, added-more, sent-counted
     1401 report::report_kept: "reports kept one recording after the other, beside those of the list so far",
+    // for: ListAlike, Lists.answer, takesMore, RowsDiffer
     1402 report::report_lists: "whole lists of none to 16,384, of each sort, and with a kind too many or too few",
+    // for: AnyReport, takesMore
     1403 report_edges::report_edges: "one recording more than any report has, at the limits of each number",
+    // for: Spells.answer, Spells.octets, TextFills, OctetRoom, decimal-value
     1404 report_edges::report_text: "texts of any report, with rooms about the text's octets",
 }
 
