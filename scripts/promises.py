@@ -164,8 +164,10 @@ def give(tree, where, text, names, kind, shown):
         rows = names.get(name, [])
         if not rows:
             tree.fault(where, f'for: {name}, which no promise is')
-        own = [row for row in rows if row.name == name.split('/')[-1]]
-        for row in own or rows:
+        rows = [row for row in rows if row.name == name.split('/')[-1]] or rows
+        if len(rows) > 1:
+            tree.fault(where, f'for: {name}, which {len(rows)} promises are: say CRATE/NAME')
+        for row in rows:
             if shown not in getattr(row, kind):
                 getattr(row, kind).append(shown)
 
@@ -348,11 +350,13 @@ def tables_of(tree, rows):
     """Each table's text."""
     fields, known, declared, crates = promised(tree), functions(tree), declarations(tree), order_of(tree)
     texts = {}
-    place = {row: at for at, row in enumerate(rows)}
+    place, stated = {row: at for at, row in enumerate(rows)}, list(fields)
 
     def key(row):
+        """Refusals by number, demands as their record has them, others bottom first."""
+        field = stated.index(row.name) if row.name in stated else len(stated)
         layer = crates.index(row.crate) if row.crate in crates else len(crates)
-        return (refusal(row) or 0, layer, place[row])
+        return (refusal(row) or 0, field, layer, place[row])
     for table in TABLES:
         lines = []
         for row in sorted((r for r in rows if table_of(r, fields) == table), key=key):
@@ -465,7 +469,9 @@ SMALL = {
     'crates.txt': 'low:\npromises: low\n',
     'crates/low/src/lib.rt': '// promise: The kind is none\n// rule: 6.4 (1)\n// with: isKind\n    NoKind,\n\n'
                              '// promise: The answer\n// rule: 2.1\n#[inline]\npub fn leaf() -> u8\n',
-    'crates/low/specs/Kinds.antt': 'abbrev pub isKind : ℕ → Bool\nisKind = cond\n',
+    'crates/low/specs/Kinds.antt': 'abbrev pub isKind : ℕ → Bool\nisKind = cond\n\n-- promise: Twice\n-- rule: 2.1\n'
+                                   'abbrev pub Same : Type 0\n',
+    'crates/dsss/proofs/Kinds.antt': '-- promise: Twice too\n-- rule: 2.1\npub Same : Type 0\n',
     'crates/dsss/src/lib.rt': 'pub extern "C" fn dsss_call(kind: u64)\n',
     'crates/promises/specs/Calls.antt': 'pub record Good (a : ℕ) : Type 0 where\n  -- promise: The whole\n'
                                         '  -- answer\n  -- rule: 1.4 (1), 2.1 to 6.5\n  -- code: dsss_call\n'
@@ -473,7 +479,8 @@ SMALL = {
     'crates/promises/specs/Promises.antt': '-- promise: It ends\n-- rule: 1.4 (1)\n-- no test: none can\n'
                                            'abbrev pub Ends : Type 0\n\npub record Promised : Type 0 where\n'
                                            '  pub ends : Ends\n',
-    'crates/low/must-fail/wrong.edit': '# input\nfile: src/lib.rt\nold: a\nnew: b\nfor: leaf, NoKind\n',
+    'crates/low/must-fail/wrong.edit': '# input\nfile: src/lib.rt\nold: a\nnew: b\n'
+                                       'for: leaf, NoKind, low/Same, dsss/Same\n',
     'crates/promises/refused/wrong.edit': '# input\nby: proofs/Facts.antt\nold: a\nnew: b\nfor: Good.answer, Ends\n',
     'tests/peer/src/families/mod.rs': 'families! {\n    // for: Good.answer, NoKind\n    101 some::calls: "all",\n}\n',
 }
@@ -489,9 +496,10 @@ WRONG = [
     ('crates/promises/specs/Calls.antt', 'code: dsss_call', 'code: dsss_gone', 'dsss_gone, which no crate has'),
     ('crates/promises/specs/Promises.antt', ': Ends\n', ': Ends\n  pub more : More\n', 'More is promised and has no'),
     ('crates/promises/specs/Promises.antt', '-- no test: none can\n', '', 'Ends: no test is for it'),
-    ('crates/low/must-fail/wrong.edit', 'for: leaf, NoKind', 'for: NoKind', 'leaf: neither an edit nor a test'),
-    ('crates/low/must-fail/wrong.edit', 'for: leaf, NoKind', 'for: leaf', 'NoKind: no edit is for it'),
+    ('crates/low/must-fail/wrong.edit', 'for: leaf, ', 'for: ', 'leaf: neither an edit nor a test'),
+    ('crates/low/must-fail/wrong.edit', 'leaf, NoKind', 'leaf', 'NoKind: no edit is for it'),
     ('crates/low/must-fail/wrong.edit', 'for: leaf', 'for: lead, leaf', 'for: lead, which no promise is'),
+    ('crates/low/must-fail/wrong.edit', 'low/Same', 'Same', 'for: Same, which 2 promises are'),
     ('crates/promises/refused/wrong.edit', '\nfor: Good.answer, Ends', '', 'its last line does not say'),
     ('tests/peer/src/families/mod.rs', '    // for: Good.answer, NoKind\n', '', 'what the family calls is for'),
     ('tests/peer/src/families/mod.rs', 'Good.answer', 'Good.gone', 'for: Good.gone, which no promise is'),

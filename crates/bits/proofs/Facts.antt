@@ -57,9 +57,6 @@ document =
     ∷ (1 ∷ 1 ∷ 2 ∷ 2 ∷ [])
     ∷ []
 
--- promise: Growths of bits at each rate, the order of a CCK word's phases, and the half turn of odd symbols
--- rule: 4.1 to 4.5, 8.2, 8.3
--- with: sent-facts, read-facts
 pub facts : computed ≡ document
 unfolding growth symbolOf symbolsOf symbolsFrom bitsOf octetBits
 facts = refl
@@ -85,6 +82,9 @@ chips =
     ∷ (1 ∷ 3 ∷ [])
     ∷ []
 
+-- promise: Growths of bits at each rate, the order of a CCK word's phases, and the half turn of odd symbols
+-- rule: 4.1 to 4.5, 8.2, 8.3
+-- with: facts, read-facts
 pub sent-facts : sent ≡ chips
 unfolding growth symbolOf symbolsOf symbolsFrom bitsOf octetBits chipsFrom lastPhase barkerWord cckWord
 sent-facts = refl

@@ -136,10 +136,6 @@ expected =
     ∷ (1 ∷ 1 ∷ 1 ∷ 1 ∷ 1 ∷ 1 ∷ 0 ∷ 0 ∷ [])
     ∷ []
 
--- promise: Whole frames: SFDs as sent, headers, scrambled bits where header and payload begin, chips at each rate; with
--- the clock bit too
--- rule: 5.3 to 5.5, 5.9, 5.14, 8.2 to 8.5
--- with: facts-clock, kinds, services
 pub facts : computed ≡ expected
 unfolding
     computed expected some
@@ -175,6 +171,10 @@ expected-clock =
     ∷ (0 ∷ 0 ∷ 2 ∷ 0 ∷ 0 ∷ 0 ∷ 0 ∷ 2 ∷ 1 ∷ 2 ∷ 0 ∷ 3 ∷ 1 ∷ 2 ∷ 2 ∷ 1 ∷ [])
     ∷ []
 
+-- promise: Whole frames: SFDs as sent, headers, scrambled bits where header and payload begin, chips at each rate; with
+-- the clock bit too
+-- rule: 5.3 to 5.5, 5.9, 5.14, 8.2 to 8.5
+-- with: facts, kinds, services
 pub facts-clock : computed-clock ≡ expected-clock
 unfolding
     computed-clock expected-clock some

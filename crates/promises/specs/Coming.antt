@@ -60,6 +60,7 @@ pub record WhenRefused (kind : ℕ) (chips : List ℕ) (c : Coming) : Type 0 whe
 -- promise: A front refuses with 1 where the kind is none, else with 8 to 16, a place in the front; all else is 0 and
 -- the part is empty
 -- rule: 6.13, 6.15
+-- code: dsss_read_front, front_only::part
 -- with: WhenRefused
 abbrev pub FrontRefused : Type 0
 FrontRefused =
@@ -68,6 +69,7 @@ FrontRefused =
 -- promise: Each such refusal is the full reader's answer to the same recording, whatever the room: number, place,
 -- LENGTH
 -- rule: 6.15
+-- code: dsss_read_front, dsss_read_hard_3
 abbrev pub RefusedAlike : Type 0
 RefusedAlike =
     (kind : ℕ) (chips : List ℕ) (c : Coming) (room : ℕ) (a : Record) (left : List ℕ)
@@ -91,6 +93,7 @@ pub record WhenTold (kind : ℕ) (chips : List ℕ) (c : Coming) : Type 0 where
 -- promise: A front that is not refused tells a rate of its kind, n from 1 to 4,095, its LENGTH, a clock bit of 0 or 1,
 -- and the chips of a frame that the recording has; the part is the payload's chips
 -- rule: 6.15
+-- code: dsss_read_front, front_only::part
 -- with: WhenTold
 abbrev pub FrontTold : Type 0
 FrontTold =
@@ -108,6 +111,7 @@ pub data ComesTo (c : Coming) : Record → Type 0 where
 -- lead that no front tells, or refuses with 9, or at 1 Mbit/s with 10, at a place in the part with the same LENGTH;
 -- with less room 17 with the same LENGTH
 -- rule: 6.15
+-- code: dsss_read_front, dsss_read_hard_3
 -- with: ComesTo
 abbrev pub ToldAlike : Type 0
 ToldAlike =
@@ -118,6 +122,7 @@ ToldAlike =
 -- promise: The answer does not depend on any payload chip: recordings that agree in the front, and in being long
 -- enough, get the same one; after a 16, one that is not longer
 -- rule: 6.15
+-- code: dsss_read_front
 abbrev pub FrontOnly : Type 0
 FrontOnly =
     (kind front : ℕ) (chips chips′ : List ℕ) (c c′ : Coming) → FrontOf kind front
@@ -128,6 +133,7 @@ FrontOnly =
 -- promise: A frame that was written is told of by its front, whatever became of its payload's chips; cut in the
 -- payload, 16 with LENGTH
 -- rule: 6.15, 9.3
+-- code: dsss_write_2, dsss_read_front, front_only::part
 abbrev pub SentTold : Type 0
 SentTold =
     (kind rate phase clock : ℕ) (payload : List ℕ) (w : Written) (chips : List ℕ)
@@ -143,6 +149,7 @@ SentTold =
 
 -- promise: A part, for any record and any recording: those chips, or none where the recording does not have them
 -- rule: 6.15
+-- code: front_only::part
 abbrev pub HandedPart : Type 0
 HandedPart =
     (c : Coming) (chips part : List ℕ) → Handed c chips part
@@ -151,6 +158,7 @@ HandedPart =
 
 -- promise: The contract of a read of the front allows exactly one answer, and that of its part one part
 -- rule: 9.2
+-- code: dsss_read_front, front_only::part
 -- no test: a run shows one answer, not that no other is allowed
 abbrev pub OneComing : Type 0
 OneComing =

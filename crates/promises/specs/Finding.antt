@@ -42,6 +42,7 @@ pub record WhenNotTried (kind offsets : ℕ) (f : Found) : Type 0 where
 -- promise: A search refuses with 1 where the kind is none, then with 18 where the offsets to try are none or above
 -- 4,096, whatever the recording; all else is 0
 -- rule: 6.13, 6.17
+-- code: dsss_find
 -- with: WhenNotTried
 abbrev pub NotTried : Type 0
 NotTried = (kind offsets : ℕ) (chips : List ℕ) (f : Found) → Finds kind offsets chips f → WhenNotTried kind offsets f
@@ -106,6 +107,7 @@ pub record WhenFound (kind offsets : ℕ) (chips : List ℕ) (f : Found) : Type 
 -- the same front with any payload's chips behind it is told of with just these. From every smaller offset both meet one
 -- of 8 to 15
 -- rule: 6.17
+-- code: dsss_find, dsss_read_front, dsss_read_hard_3
 -- with: WhenFound, FrontTells, ReaderTells, Meets
 abbrev pub StartFound : Type 0
 StartFound =
@@ -121,6 +123,7 @@ pub record WhenNone (kind offsets : ℕ) (chips : List ℕ) (f : Found) : Type 0
 -- promise: 19 exactly where both readers meet one of 8 to 15 from every offset to try; with a kind and 1 to 4,096
 -- offsets no other refusal comes
 -- rule: 6.17
+-- code: dsss_find, dsss_read_front, dsss_read_hard_3
 -- with: WhenNone
 abbrev pub NoneFound : Type 0
 NoneFound =
@@ -134,6 +137,7 @@ NoneFound =
 -- promise: A frame that was written is not missed, whatever stands before it, became of its payload's chips or follows:
 -- a start is found where it starts or before, and if there, it is the frame's
 -- rule: 6.17, 6.18, 9.3
+-- code: dsss_write_2, dsss_find
 abbrev pub SentFound : Type 0
 SentFound =
     (kind rate phase clock : ℕ) (payload : List ℕ) (w : Written) (chips : List ℕ)
@@ -147,6 +151,7 @@ SentFound =
 
 -- promise: The contract of a search allows exactly one answer for each input
 -- rule: 9.2
+-- code: dsss_find
 -- no test: a run shows one answer, not that no other is allowed
 abbrev pub OneFound : Type 0
 OneFound =

@@ -75,6 +75,7 @@ pub record LeastIn (k : Kind) (r : Rate) (n : ℕ) (rec : List Taken) (lead symb
 -- over the very lists of words that it reads, no other allowed word of any symbol scores nearer than that, before the
 -- symbol told each leads by more, and there one scores just so much less
 -- rule: 3.9, 6.16, 9.3
+-- code: dsss_read_hard_3, dsss_read_soft_3, dsss_read_bytes_3
 -- with: SymbolOf, LeadsBy
 abbrev pub LeastTold : Type 0
 LeastTold =
@@ -94,6 +95,7 @@ Sure above good exact rec =
 -- promise: From hard chips any lead above 0 says that the word leads in the exact recorded numbers too; of a whole
 -- frame from the record alone
 -- rule: 1.4 (3), 3.9
+-- code: dsss_read_hard_3
 -- with: hard-frame-sure
 -- no edit: as that of SoftSure, with an error of 0
 abbrev pub HardSure : Type 0
@@ -105,6 +107,7 @@ HardSure =
 -- ones in the exact recorded numbers too; of a whole frame, from the record alone, above 11 at every rate, since its
 -- front is Barker
 -- rule: 1.4 (3), 3.9
+-- code: dsss_read_soft_3
 -- with: soft-frame-sure
 -- no test: the exact numbers reach no answer; what is told of the lead is compared
 abbrev pub SoftSure : Type 0
@@ -115,6 +118,7 @@ SoftSure =
 
 -- promise: From signed bytes any lead above 0 says so
 -- rule: 1.4 (3), 3.9
+-- code: dsss_read_bytes_3
 -- with: bytes-frame-sure
 -- no edit: as that of SoftSure, with an error of 0
 abbrev pub BytesSure : Type 0

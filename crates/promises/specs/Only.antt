@@ -18,6 +18,7 @@ use Rattle.promises.specs.Calls.{Wrote, Read, ReadHard, ReadSoft, ReadBy
 -- promise: Nothing else is accepted: a write that answers 0 had a kind and a rate that goes with it, 1 to 4,095 octets,
 -- a phase below 4, and room for the frame
 -- rule: 1.4 (1), 6.1
+-- code: dsss_write_2
 abbrev pub OnlySent : Type 0
 OnlySent =
     (kind rate phase clock : ℕ) (payload : List ℕ) (room : ℕ) (w : Written) (left : List ℕ) → Below 256 payload
@@ -40,6 +41,7 @@ pub record Readable (kind : ℕ) (chips room : ℕ) (a : Record) : Type 0 where
 -- promise: Nothing else is read: number 0 tells a kind and a rate that goes with it, n from 1 to 4,095, its LENGTH and
 -- chips, a clock bit of 0 or 1, and there was room
 -- rule: 6.2, 6.10
+-- code: dsss_read_hard_3, dsss_read_soft_3, dsss_read_bytes_3
 -- with: Readable
 abbrev pub OnlyReadable : Type 0
 OnlyReadable =
@@ -48,6 +50,7 @@ OnlyReadable =
 
 -- promise: A refused read shows no rate, no octets, no chips used, no clock bit, no lead and no symbol
 -- rule: 6.8, 9.3
+-- code: dsss_read_hard_3, dsss_read_soft_3, dsss_read_bytes_3
 abbrev pub RefusedShows : Type 0
 RefusedShows =
     (kind : ℕ) (agree : Bool) (rec : List Taken) (room : ℕ) (a : Record) (left : List ℕ)
@@ -56,6 +59,7 @@ RefusedShows =
 
 -- promise: Soft rows that differ in length are refused with 7 under either kind, whatever is in them
 -- rule: 6.2
+-- code: dsss_read_soft_3
 abbrev pub RowsRefused : Type 0
 RowsRefused =
     (kind : ℕ) (i q : List Float) (room : ℕ) (a : Record) (left : List ℕ) → kind < 2
@@ -63,6 +67,7 @@ RowsRefused =
 
 -- promise: An odd number of bytes is refused with 7 under either kind, whatever they are
 -- rule: 2.8, 6.2
+-- code: dsss_read_bytes_3
 abbrev pub OddBytesRefused : Type 0
 OddBytesRefused =
     (kind : ℕ) (bytes : List ℤ) (room : ℕ) (a : Record) (left : List ℕ) → kind < 2
@@ -70,6 +75,7 @@ OddBytesRefused =
 
 -- promise: 7 is given nowhere else: not for rows of one length, an even number of bytes, or hard chips
 -- rule: 6.4
+-- code: dsss_read_hard_3, dsss_read_soft_3, dsss_read_bytes_3
 abbrev pub SevenOnly : Type 0
 SevenOnly =
     ((kind : ℕ) (i q : List Float) (room : ℕ) (a : Record) (left : List ℕ) → ReadSoft kind i q room a left
@@ -81,6 +87,7 @@ SevenOnly =
 
 -- promise: No reading of bytes answers 9
 -- rule: 2.8
+-- code: dsss_read_bytes_3
 abbrev pub NoByteUnusable : Type 0
 NoByteUnusable =
     (kind : ℕ) (bytes : List ℤ) (room : ℕ) (a : Record) (left : List ℕ) → ReadBytes kind bytes room a left

@@ -60,6 +60,7 @@ WriteFills =
 
 -- promise: A refused read leaves only zeros; zeros follow the payload; the buffer keeps its length
 -- rule: 1.4 (1), 6.9, 6.12, 9.3
+-- code: dsss_read_hard_3, dsss_read_soft_3, dsss_read_bytes_3
 abbrev pub ReadFills : Type 0
 ReadFills =
     (kind : ℕ) (agree : Bool) (rec : List Taken) (room : ℕ) (a : Record) (left : List ℕ)
@@ -73,6 +74,7 @@ ReadFills =
 -- promise: A write that may be sent and has room answers number 0 and the frame's chips, and the buffer begins with the
 -- frame
 -- rule: 1.4 (2), 6.11, 9.3
+-- code: dsss_write_2
 abbrev pub WrittenFrame : Type 0
 WrittenFrame =
     (kind rate phase clock : ℕ) (payload : List ℕ) (w : Written) (chips : List ℕ)
@@ -90,6 +92,7 @@ lengthOf rate payload = lengthField (rateOf rate) (length payload)
 -- 5.5 and 4,096 at 11 at symbol 192 or 96); from hard chips, from soft rows that hold the chips as exact pairs, either
 -- zero for 0, and from bytes of 64, -64 and 0
 -- rule: 1.4 (2), 2.8, 5.14, 6.10, 6.16, 9.3
+-- code: dsss_write_2, dsss_read_hard_3, dsss_read_soft_3, dsss_read_bytes_3
 -- with: ReadOf
 abbrev pub ReadBack : Type 0
 ReadBack =
@@ -113,6 +116,7 @@ SoftRows =
 -- promise: From each of the three, too little room: 17 with LENGTH; cut in the payload: 16 with LENGTH, whatever the
 -- room; cut in the front: 8; nothing else is shown
 -- rule: 6.2, 6.8
+-- code: dsss_write_2, dsss_read_hard_3, dsss_read_soft_3, dsss_read_bytes_3
 abbrev pub NotReadBack : Type 0
 NotReadBack =
     (kind rate phase clock : ℕ) (payload : List ℕ) (w : Written) (chips : List ℕ)
@@ -125,6 +129,7 @@ NotReadBack =
 
 -- promise: Two accepted writes of one kind that leave the same chips had the same rate, phase, clock bit and payload
 -- rule: 1.4 (2)
+-- code: dsss_write_2
 abbrev pub OneSource : Type 0
 OneSource =
     (kind rate rate′ phase phase′ clock clock′ : ℕ) (payload payload′ : List ℕ) (w w′ : Written) (chips : List ℕ)
@@ -133,11 +138,13 @@ OneSource =
 
 -- promise: A count is the whole number nearest to 1024 times the exact value: the error is at most half a count
 -- rule: 2.6
+-- code: count
 abbrev pub HalfACount : Type 0
 HalfACount = (x : Float) → T (usable x) → Nearest (valueOf x) (countOf x)
 
 -- promise: The contracts of writer and readers allow exactly one answer for each input, and one final buffer
 -- rule: 9.2
+-- code: dsss_write_2, dsss_read_hard_3, dsss_read_soft_3, dsss_read_bytes_3
 -- no test: a run shows one answer, not that no other is allowed
 abbrev pub OneAnswer : Type 0
 OneAnswer =

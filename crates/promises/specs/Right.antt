@@ -66,6 +66,7 @@ pub record Keeps (half : ℕ) (exact : List Counts) (rec : List Taken) : Type 0 
 -- promise: Demand 3 over a whole reading, for any recorder whose counts are off by at most so many steps, where the
 -- chips are usable
 -- rule: 1.4 (3), 3.8, 9.3
+-- code: recorders::decide
 abbrev pub RecordedRight : Type 0
 RecordedRight =
     (half : ℕ) (exact : List Counts) (rec : List Taken) → Keeps half exact rec
@@ -77,6 +78,7 @@ exactHard octets = map (λ x. exactOf (hardChip x)) octets
 
 -- promise: Hard rows: no error at all, wherever the octets are 0 to 4
 -- rule: 1.4 (3)
+-- code: dsss_read_hard_3
 abbrev pub HardRight : Type 0
 HardRight =
     (octets : List ℕ) → WholeRight 0 (λ place. getD octets place 5 ≤ 4) (exactHard octets) (hardRecording octets)
@@ -89,6 +91,7 @@ exactSoft (x ∷ i) (y ∷ q) = exactOf (Soft (sampleOf x y)) ∷ exactSoft i q
 
 -- promise: Soft rows: 8/1024, 11/1024 for Barker, wherever I and Q are usable
 -- rule: 1.4 (3)
+-- code: dsss_read_soft_3
 abbrev pub SoftRight : Type 0
 SoftRight =
     (i q : List Float)
@@ -103,6 +106,7 @@ exactBytes (x ∷ y ∷ bytes) = byteExact x y ∷ exactBytes bytes
 
 -- promise: Signed bytes: no error at all, wherever a chip has both its bytes
 -- rule: 1.4 (3), 2.8
+-- code: dsss_read_bytes_3
 abbrev pub BytesRight : Type 0
 BytesRight =
     (bytes : List ℤ)

@@ -198,6 +198,7 @@ module _ (kind rate phase clock : ℕ) (payload : List ℕ) (w : Written) (chips
   -- promise: A frame that was written, whatever follows it, counts as one frame of its rate with its octets, airtime
   -- and lead, and nothing refused
   -- rule: 1.4 (2), 6.19
+  -- code: dsss_write_2, dsss_report_add
   pub sent-counted : (c .number ≡ 0)
       × OneFrame kind rate (lengthOf rate payload) (length payload) (sentLead rate) (c .report)
   sent-counted =

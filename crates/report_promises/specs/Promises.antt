@@ -55,6 +55,7 @@ pub record TotalsOf (os : List Outcome) (p : Report) : Type 0 where
 -- refusals of each number, airtime, the smallest lead and the first recording that has it, none where no frame was
 -- accepted; frames and refusals together are those seen; only 1 and 8 to 16 are met
 -- rule: 6.19, 9.3
+-- code: dsss_report_add, dsss_read_hard_3
 -- with: Kept, Readings, TotalsOf, LeadTold
 abbrev pub ReportKept : Type 0
 ReportKept =
@@ -62,6 +63,7 @@ ReportKept =
 
 -- promise: Each of the first 1,000 is answered with 0, whatever its reading; then 31, and the report stays as it stood
 -- rule: 6.19
+-- code: dsss_report_add
 abbrev pub KeptAnswers : Type 0
 KeptAnswers =
     (rs : List Recording) (p : Report) (kind : ℕ) (chips : List ℕ) (c : Counted) → Kept rs p → Adds p kind chips c
@@ -70,7 +72,7 @@ KeptAnswers =
 -- promise: Any report whatever: within the limits, in plain numbers, 0 and one more seen; else 31, and it stays as it
 -- stood
 -- rule: 6.19
--- with: report/Within
+-- code: dsss_report_add
 abbrev pub AnyReport : Type 0
 AnyReport =
     (p : Report) (kind : ℕ) (chips : List ℕ) (c : Counted) → Adds p kind chips c
@@ -80,6 +82,7 @@ AnyReport =
 -- promise: A whole list gives what calls one after the other give, 0 up to 1,000 recordings and 31 above; 7 and all
 -- zeros where there are not as many kinds
 -- rule: 6.13, 6.19
+-- code: dsss_report_list, dsss_report_add, dsss_read_hard_3
 abbrev pub ListAlike : Type 0
 ListAlike =
     (kinds : List ℕ) (list : List (List ℕ)) (c : Counted) → Lists kinds list c
@@ -92,6 +95,7 @@ ListAlike =
 -- promise: 980 octets hold the text of any report; the buffer keeps its length, zeros follow the text; with less room
 -- than the text 17 and only zeros
 -- rule: 6.13, 6.20
+-- code: dsss_report_text
 abbrev pub TextFills : Type 0
 TextFills =
     (p : Report) (room : ℕ) (s : Spelled) (left : List ℕ) → Spells p room s left
@@ -104,6 +108,7 @@ TextFills =
 
 -- promise: The contracts of the report's calls allow exactly one answer for each input, and one final text buffer
 -- rule: 9.2
+-- code: dsss_report_add, dsss_report_list, dsss_report_text
 -- no test: a run shows one answer, not that no other is allowed
 abbrev pub OneReport : Type 0
 OneReport =

@@ -81,7 +81,7 @@ macro_rules! families {
 families! {
     // for: lengths-eleven, words, Crc
     101 published::published_figures: "LENGTH and bit 7 of every n and rate, CRCs, words from outside",
-    // for: Wrote.chips, WrittenFrame, words, bits/facts, frame/facts, from-header
+    // for: Wrote.chips, WrittenFrame, words, sent-facts, facts-clock, from-header
     201 written::write_short_payloads: "1 to 64 octets, all kinds, rates and phases",
     // for: Wrote.chips, framed-length
     202 written::write_long_payloads: "1,023 to 1,026 and 4,095 octets",
@@ -91,7 +91,7 @@ families! {
     204 written::write_numbers: "kind, rate, phase, payload and buffer out of range, alone and together",
     // for: PayloadSize, ChipRoom, WriteFills, OnlySent
     205 written::write_edges: "payload of 0, 4,095 and 4,096 octets, buffers a chip short, exact and longer",
-    // for: Wrote.chips, frame/facts
+    // for: Wrote.chips, facts-clock
     206 written::write_clocks: "each of many clock numbers, at every kind, rate and phase, and beside each refusal",
     // for: ReadBack, ReadHard, SoftRows, unscrambled, OneSource, decided-clean
     301 restored::read_short_payloads: "recordings of 1 to 64 octets, all kinds, rates and phases",
@@ -109,19 +109,19 @@ families! {
     403 headers::headers_with_payload: "right CRC and chips behind it, LENGTH near the payload's",
     // for: Sfd, Crc, header-only
     404 headers::sfd_and_crc: "SFD and CRC with bits changed, turned round, of the other kind",
-    // for: Sfd, reading/bad
+    // for: Sfd, bad
     405 headers::sync_not_compared: "any SYNC bits at all",
     // for: header-back, RefusedShows, Service
     406 headers::clock_bits: "each SERVICE with and without the clock bit, whole, cut, short of room and spoiled",
-    // for: NoKind, Read.answer, calls/numbers
+    // for: NoKind, Read.answer, numbers
     501 refused::read_numbers: "kinds, lengths and buffers out of range, alone and together",
     // for: RowsDiffer, RowsRefused, ReadSoft
     502 refused::rows_that_differ: "I and Q rows of different length",
     // for: ShorterThanFront, Read.answer
     503 refused::empty_rows: "every row empty, alone and together",
-    // for: reading/bad, Read.answer
+    // for: bad, Read.answer
     504 refused::every_set_of_refusals: "each set of refusals that can be asked for at once",
-    // for: reading/bad, Read.answer
+    // for: bad, Read.answer
     505 refused::pairs_of_refusals: "each refusal alone and with each other one, by each recorder",
     // for: Ends, ShorterThanFront, NotReadBack
     506 refused::cut_recordings: "recordings cut at every length about the front's and the frame's end",
