@@ -47,19 +47,21 @@ pub record Read (kind : ℕ) (agree : Bool) (rec : List Taken) (room : ℕ) (a :
   pub octets : left ≡ octetsFound kind agree rec room
 
 -- the hard reader, the soft one, and that of bytes
--- promise: A hard read does so of its octets: 0 to 3 a phase, 4 lost, all others unusable
+-- promise: A hard read answers and fills as `Read` says, its octets 0 to 3 being phases, 4 lost and all others unusable
 -- rule: 2.1, 2.2, 2.4, 2.5
 -- code: dsss_read_hard_3, reader::read_hard
 abbrev pub ReadHard : ℕ → List ℕ → ℕ → Record → List ℕ → Type 0
 ReadHard kind chips room a left = Read kind true (hardRecording chips) room a left
 
--- promise: A soft read does so of its two rows of f32, and refuses rows that differ in length with 7
+-- promise: A soft read answers and fills as `Read` says, of its two rows of f32; rows that differ in length are refused
+-- with 7
 -- rule: 2.2, 2.3, 2.6, 6.2
 -- code: dsss_read_soft_3, read_soft
 abbrev pub ReadSoft : ℕ → List Float → List Float → ℕ → Record → List ℕ → Type 0
 ReadSoft kind i q room a left = Read kind (eqb (length i) (length q)) (softRecording i q) room a left
 
--- promise: A read of signed bytes does so of its pairs, and refuses an odd number of bytes with 7
+-- promise: A read of signed bytes answers and fills as `Read` says, of pairs of bytes, I first; an odd number of them
+-- is refused with 7
 -- rule: 2.2, 2.8, 6.2
 -- code: dsss_read_bytes_3, read_bytes
 abbrev pub ReadBytes : ℕ → List ℤ → ℕ → Record → List ℕ → Type 0

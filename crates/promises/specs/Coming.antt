@@ -66,8 +66,8 @@ abbrev pub FrontRefused : Type 0
 FrontRefused =
     (kind : ℕ) (chips : List ℕ) (c : Coming) → ReadFront kind chips c → (c .number ≡ 0 → ⊥) → WhenRefused kind chips c
 
--- promise: Each such refusal is the full reader's answer to the same recording, whatever the room: number, place,
--- LENGTH
+-- promise: Each refusal of a read of the front is the full reader's answer to the same recording, whatever the room:
+-- number, place, LENGTH
 -- rule: 6.15
 -- code: dsss_read_front, dsss_read_hard_3
 abbrev pub RefusedAlike : Type 0
@@ -107,9 +107,9 @@ pub data ComesTo (c : Coming) : Record → Type 0 where
   comes-10 : (place : ℕ) → c .rate ≡ 10 → c .at ≤ place → place < c .used
       → ComesTo c (refusedAt 10 place (c .length))
 
--- promise: The full reader with room for n is then good with the same rate, LENGTH, n, chips used and clock bit, and a
--- lead that no front tells, or refuses with 9, or at 1 Mbit/s with 10, at a place in the part with the same LENGTH;
--- with less room 17 with the same LENGTH
+-- promise: Where a front tells, the full reader with room for n is good with the same rate, LENGTH, n, chips used and
+-- clock bit, and a lead that no front tells, or refuses with 9, or at 1 Mbit/s with 10, at a place in the part with the
+-- same LENGTH; with less room 17 with the same LENGTH
 -- rule: 6.15
 -- code: dsss_read_front, dsss_read_hard_3
 -- with: ComesTo

@@ -116,7 +116,8 @@ SoftSure =
     → Sure symbolChips (λ place. T (usable (getD i place nan)) × T (usable (getD q place nan))) (exactSoft i q)
     (softRecording i q)
 
--- promise: From signed bytes any lead above 0 says so
+-- promise: From signed bytes any lead above 0 says that the word leads in the exact recorded numbers too; of a whole
+-- frame from the record alone
 -- rule: 1.4 (3), 3.9
 -- code: dsss_read_bytes_3
 -- with: bytes-frame-sure

@@ -45,8 +45,8 @@ use Rattle.promises.specs.Coming.{
 }
 use Rattle.promises.specs.Finding.{NotTried, StartFound, NoneFound, SentFound, OneFound}
 
--- ---- demand 1: fills. The buffers keep their length; after a refusal only the fill, after a good answer the fill
--- to the end
+-- ---- demand 1: fills
+
 -- promise: A refused write leaves only 4s; 4s follow the frame; the buffer keeps its length
 -- rule: 1.4 (1), 6.9, 6.12, 9.3
 -- code: dsss_write_2
@@ -105,7 +105,7 @@ ReadBack =
     (sentSymbol kind rate))
     × (left ≡ payload ++ replicate (room - length payload) 0)
 
--- promise: For any phases there are such soft rows, with either zero
+-- promise: For any phases there are soft rows that hold them as exact pairs, with either zero for 0
 -- rule: 2.5
 abbrev pub SoftRows : Type 0
 SoftRows =
@@ -113,8 +113,8 @@ SoftRows =
     → Exactly phases (map (softI 0) phases) (map (softQ 0) phases)
     × Exactly phases (map (softI 0x8000_0000) phases) (map (softQ 0x8000_0000) phases)
 
--- promise: From each of the three, too little room: 17 with LENGTH; cut in the payload: 16 with LENGTH, whatever the
--- room; cut in the front: 8; nothing else is shown
+-- promise: What was written, from any of the three recorders: with too little room 17 with LENGTH; cut in the payload
+-- 16 with LENGTH, whatever the room; cut in the front 8; nothing else is shown
 -- rule: 6.2, 6.8
 -- code: dsss_write_2, dsss_read_hard_3, dsss_read_soft_3, dsss_read_bytes_3
 abbrev pub NotReadBack : Type 0

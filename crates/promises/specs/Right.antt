@@ -76,7 +76,7 @@ RecordedRight =
 abbrev pub exactHard : List ℕ → List Counts
 exactHard octets = map (λ x. exactOf (hardChip x)) octets
 
--- promise: Hard rows: no error at all, wherever the octets are 0 to 4
+-- promise: Demand 3 of hard rows: no error at all, wherever the octets are 0 to 4
 -- rule: 1.4 (3)
 -- code: dsss_read_hard_3
 abbrev pub HardRight : Type 0
@@ -89,7 +89,7 @@ exactSoft [] q = []
 exactSoft (x ∷ i) [] = []
 exactSoft (x ∷ i) (y ∷ q) = exactOf (Soft (sampleOf x y)) ∷ exactSoft i q
 
--- promise: Soft rows: 8/1024, 11/1024 for Barker, wherever I and Q are usable
+-- promise: Demand 3 of soft rows: up to 8/1024, 11/1024 for Barker, wherever I and Q are usable
 -- rule: 1.4 (3)
 -- code: dsss_read_soft_3
 abbrev pub SoftRight : Type 0
@@ -104,7 +104,7 @@ exactBytes [] = []
 exactBytes (x ∷ []) = []
 exactBytes (x ∷ y ∷ bytes) = byteExact x y ∷ exactBytes bytes
 
--- promise: Signed bytes: no error at all, wherever a chip has both its bytes
+-- promise: Demand 3 of signed bytes: no error at all, wherever a chip has both its bytes
 -- rule: 1.4 (3), 2.8
 -- code: dsss_read_bytes_3
 abbrev pub BytesRight : Type 0
