@@ -22,7 +22,7 @@ use Rattle.symbols.specs.Words.{wordOf}
 use Rattle.symbols.specs.Choice.{term, score, numbers, isAllowed, decided}
 use Rattle.symbols.proofs.Words.{Phases, phases-tail, word-phases, word-length}
 use Rattle.symbols.proofs.Numbers.{word-one}
-use Rattle.choosing.specs.Agreement.{one, agreeing, opposed, clean}
+use Rattle.choosing.proofs.Agreement.{one, agreeing, opposed, clean}
 use Rattle.choosing.proofs.Decided.{decided-leads}
 
 -- four phases

@@ -22,7 +22,7 @@ use Rattle.symbols.specs.Choice.{numbers, isAllowed, decided, leadOf}
 use Rattle.symbols.proofs.Words.{word-phases, word-length, turn}
 use Rattle.symbols.proofs.Numbers.{p2-back, p3-back, p4-back}
 use Rattle.choosing.specs.Scores.{scoreAt, DecidedAs, NextAs}
-use Rattle.choosing.specs.Agreement.{agreeing, opposed, clean, cleanLead}
+use Rattle.choosing.proofs.Agreement.{agreeing, opposed, clean, cleanLead}
 use Rattle.choosing.proofs.Decided.{decided-best}
 use Rattle.choosing.proofs.Clean.{Full, score-full, score-self, decided-clean}
 use Rattle.choosing.proofs.Leads.{lead-by}

@@ -1,3 +1,4 @@
+pub mod Agreement
 pub mod Small
 pub mod Best
 pub mod Sixteen

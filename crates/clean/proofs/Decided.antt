@@ -17,7 +17,7 @@ use Rattle.chips.specs.Chips.{Taken, takenCounts, fullChip}
 use Rattle.symbols.specs.Words.{wordOf}
 use Rattle.symbols.specs.Choice.{decided, leadOf}
 use Rattle.symbols.proofs.Words.{word-length}
-use Rattle.choosing.specs.Agreement.{cleanLead}
+use Rattle.choosing.proofs.Agreement.{cleanLead}
 use Rattle.choosing.proofs.Clean.{decided-clean}
 use Rattle.choosing.proofs.CleanLeads.{lead-clean}
 use Rattle.reading.specs.Leads.{decidedLeads}

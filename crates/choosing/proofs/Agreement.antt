@@ -1,7 +1,6 @@
 -- How two words stand to each other, chip by chip: the same, a half turn apart, or a quarter turn apart; and how far
 -- the words of a rate are from each other.
--- Definitions only. Assumes nothing.
--- working notion: of the laws of clean words; no promise needs it
+-- Working notions of the laws of clean words: no promise needs them. Assumes nothing.
 use Prim.Native.Nat.{ℕ, _+_}
 use mathlib.Core.Bool.{Bool, cond}
 use mathlib.Core.List.{List, [], _∷_, map}
