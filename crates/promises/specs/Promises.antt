@@ -13,7 +13,8 @@ use lib.ListN.{length, take, drop, replicate}
 use lib.Dec.{T}
 use lib.Ieee.{Float}
 use Rattle.base.specs.Below.{Below}
-use Rattle.rates.specs.Rates.{rateOf, lengthField}
+use Rattle.rates.specs.Rates.{rateOf}
+use Rattle.rates.specs.Plain.{LengthOf}
 use Rattle.chips.specs.Floats.{usable, valueOf, countOf, Nearest}
 use Rattle.chips.specs.Chips.{Taken}
 use Rattle.calls.specs.declared.Written.{Written}
@@ -74,21 +75,15 @@ WrittenFrame =
     × (w .chips ≡ s .sendable .front + s .sendable .octet * length payload)
     × (take (w .chips) chips ≡ frame (kindOf kind) (rateOf rate) phase (clockOf clock) payload)
 
--- LENGTH of a payload
-abbrev pub lengthOf : ℕ → List ℕ → ℕ
-lengthOf rate payload = lengthField (rateOf rate) (length payload)
-
 -- what was written and whatever follows it, whatever recorded it, read under its kind with room: rate, LENGTH, n, chips
 -- used, the clock bit, the smallest lead and its symbol, payload
 abbrev pub ReadBack : Type 0
 ReadBack =
     (kind rate phase clock : ℕ) (payload : List ℕ) (w : Written) (chips : List ℕ)
-    → Sent kind rate phase clock payload w chips
+    → Sent kind rate phase clock payload w chips → (l : ℕ) → LengthOf rate (length payload) l
     → (after room : ℕ) (a : Record) (left : List ℕ) → ReadOf kind (take (w .chips) chips) after room a left
     → length payload ≤ room
-    → (a
-    ≡ good rate (lengthOf rate payload) (length payload) (w .chips) (shown clock) (sentLead rate)
-    (sentSymbol kind rate))
+    → (a ≡ good rate l (length payload) (w .chips) (shown clock) (sentLead rate) (sentSymbol kind rate))
     × (left ≡ payload ++ replicate (room - length payload) 0)
 
 -- any phases can be held by exact pairs, with either zero
@@ -102,11 +97,10 @@ SoftRows =
 abbrev pub NotReadBack : Type 0
 NotReadBack =
     (kind rate phase clock : ℕ) (payload : List ℕ) (w : Written) (chips : List ℕ)
-    (s : Sent kind rate phase clock payload w chips) (room : ℕ) (a : Record) (left : List ℕ)
-    → ((after : ℕ) → ReadOf kind (take (w .chips) chips) after room a left → room < length payload
-    → a ≡ refused 17 (lengthOf rate payload))
-    × ((j : ℕ) → ReadOf kind (take j chips) 0 room a left → s .sendable .front ≤ j → j < w .chips
-    → a ≡ refused 16 (lengthOf rate payload))
+    (s : Sent kind rate phase clock payload w chips) (l : ℕ) → LengthOf rate (length payload) l
+    → (room : ℕ) (a : Record) (left : List ℕ)
+    → ((after : ℕ) → ReadOf kind (take (w .chips) chips) after room a left → room < length payload → a ≡ refused 17 l)
+    × ((j : ℕ) → ReadOf kind (take j chips) 0 room a left → s .sendable .front ≤ j → j < w .chips → a ≡ refused 16 l)
     × ((j : ℕ) → ReadOf kind (take j chips) 0 room a left → j < s .sendable .front → a ≡ refused 8 0)
 
 -- two accepted writes of one kind that leave the same chips had the same rate, phase, clock and payload
