@@ -1,4 +1,5 @@
 pub mod AnswerFacts
+pub mod WriteExactly
 pub mod WriteFacts
 pub mod HeaderFacts
 pub mod WriteGood

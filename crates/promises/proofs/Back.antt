@@ -69,7 +69,7 @@ pub record Known (kind rate front octet : ℕ) : Type 0 where
   pub octet-is : octetChips (rateOf rate) ≡ octet
   pub lead-is : cleanLeast (kindOf kind) (rateOf rate) ≡ leadAt (sentLead rate) (sentSymbol kind rate)
 
-known : {kind rate front octet : ℕ} → Goes kind rate front octet → Known kind rate front octet
+pub known : {kind rate front octet : ℕ} → Goes kind rate front octet → Known kind rate front octet
 known long-1 =
     record {
       kind-is = refl;
@@ -330,12 +330,12 @@ read-back kind rate phase clock payload w chips s l d after room a left f h =
     (back kind rate phase clock payload w chips s after room a left f h)
 
 pub not-read-back : NotReadBack
-not-read-back kind rate phase clock payload w chips s l d room a left = (
-  (λ after f h. rw (← length-sent kind rate phase clock payload w chips s d)
-      (too-small kind rate phase clock payload w chips s after room a left f h)),
-  (λ j f h i. rw (← length-sent kind rate phase clock payload w chips s d)
-      (in-payload kind rate phase clock payload w chips s j room a left f
-      (subst (λ (x : ℕ). j < x) (w-chips kind rate phase clock payload w chips s) i) h)),
-  λ j f h. in-front kind rate phase clock payload w chips s j room a left f
-      (omega (arith, size kind rate phase clock payload w chips s)) h,
-)
+not-read-back kind rate phase clock payload w chips s l d room a left =
+    let e = length-sent kind rate phase clock payload w chips s d in (
+      (λ after f h. too-small kind rate phase clock payload w chips s after room a left f h ∙ ap (refused 17) e),
+      (λ j f h i. in-payload kind rate phase clock payload w chips s j room a left f
+          (subst (λ (x : ℕ). j < x) (w-chips kind rate phase clock payload w chips s) i) h
+          ∙ ap (refused 16) e),
+      λ j f h. in-front kind rate phase clock payload w chips s j room a left f
+          (omega (arith, size kind rate phase clock payload w chips s)) h,
+    )

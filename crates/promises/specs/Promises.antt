@@ -34,6 +34,7 @@ use Rattle.promises.specs.Only.{
   SevenOnly,
   NoByteUnusable,
 }
+use Rattle.promises.specs.Refusing.{WriteAnswers}
 use Rattle.promises.specs.Coming.{
   FrontRefused,
   RefusedAlike,
@@ -127,6 +128,7 @@ OneAnswer =
 pub record Promised : Type 0 where
   pub write-fills : WriteFills
   pub read-fills : ReadFills
+  pub write-answers : WriteAnswers
   pub only-sent : OnlySent
   pub only-readable : OnlyReadable
   pub refused-shows : RefusedShows
