@@ -2,5 +2,6 @@ pub mod AnswerFacts
 pub mod WriteFacts
 pub mod HeaderFacts
 pub mod WriteGood
+pub mod Accepting
 pub mod ReadBack
 pub mod HeaderOnly
