@@ -3,5 +3,6 @@ pub mod WriteExactly
 pub mod WriteFacts
 pub mod HeaderFacts
 pub mod WriteGood
+pub mod Accepting
 pub mod ReadBack
 pub mod HeaderOnly
