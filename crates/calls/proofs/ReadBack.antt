@@ -1,12 +1,14 @@
 -- The writer's header is read back.
---     same-refl        a row of bits is the same as itself
---     fields-back      the writer's SIGNAL, SERVICE and LENGTH for n octets tell the rate, n and the clock bit
+--     fields-sent      the writer's SIGNAL, SERVICE and LENGTH for n octets tell the rate, n and the clock bit, to any
+--                      reader that accepts them
+--     fields-back      to ours, at each rate of the kind
 --     fields-read      any three fields with their CRC and the SFD of the kind are the fields read
---     header-back      so the 48 bits of the writer's header tell them
+--     header-sent      so the 48 bits of the writer's header come to what its fields do, for any reader
+--     header-back      and ours are told the rate, n and the clock bit
 -- The fields are cut out of the bits by computing, and LENGTH and bit 7 give n back. Assumes nothing.
 use mathlib.Core.Path.{_≡_, refl, ap, _∙_}
 use mathlib.Core.Bool.{Bool, true, false, cond, not}
-use mathlib.Core.List.{List, [], _∷_}
+use mathlib.Core.List.{List}
 use Prim.Native.Nat.{ℕ, _+_, _*_, _/_, _%_, _≤_, _<_}
 use native.Mathlib.Omega.{arith}
 use borrow.Author.Tests.{eq-eqb}
@@ -24,12 +26,8 @@ use Rattle.frame.specs.declared.Kind.the-variants.{Long, Short}
 use Rattle.calls.specs.declared.Refusal.the-variants.{Sfd, Crc}
 use Rattle.calls.specs.declared.Front.the-variants.{Refused, Fields}
 use Rattle.frame.specs.Frame.{sfdOf, goesWith, clockBit, serviceField, fieldBits, headerBits, sentHeader}
-use Rattle.calls.specs.Headers.{told, sameBits, serviceAllowed, fieldsOf, headerOf}
-
-pub same-refl : (xs : List ℕ) → sameBits xs xs ≡ true
-unfolding sameBits
-same-refl [] = refl
-same-refl (x ∷ xs) = rw (eq-eqb x x refl) (same-refl xs)
+use Rattle.calls.specs.Headers.{Accepted, ours, told, sameBits, serviceAllowed, fieldsOf, headerOf}
+use Rattle.calls.proofs.Accepting.{same-refl}
 
 pub code-small : (r : Rate) → codeOf r < 256
 code-small One = omega arith
@@ -92,40 +90,47 @@ service-back Eleven clock n = one clock (leb (8 * n + 8) (11 * lengthField Eleve
     one false true = refl
     one false false = refl
 
+-- the writer's three fields, for a reader that accepts them
+pub fields-sent : (accepted : Accepted) (k : Kind) (r : Rate) (clock : Bool) (n : ℕ)
+    → accepted .signals k (codeOf r) ≡ true → accepted .services r (serviceField r clock n) ≡ true → 1 ≤ n → n ≤ 4095
+    → fieldsOf accepted k (codeOf r) (serviceField r clock n) (lengthField r n)
+    ≡ Fields (told r (lengthField r n) n clock)
+unfolding fieldsOf
+fields-sent accepted k r clock n signal service low high =
+    rw (
+      signal,
+      rate-back r,
+      service,
+      seven-back r clock n,
+      clock-back r clock n,
+      length-holds r n low high,
+      octets-back r n,
+    )
+
+-- ours accept them at each rate of the kind
 module _ (k : Kind) (r : Rate) (clock : Bool) (n : ℕ) (goes : goesWith k r ≡ true) (low : 1 ≤ n) (high : n ≤ 4095) where
-  pub fields-back : fieldsOf k (codeOf r) (serviceField r clock n) (lengthField r n)
+  pub fields-back : fieldsOf ours k (codeOf r) (serviceField r clock n) (lengthField r n)
       ≡ Fields (told r (lengthField r n) n clock)
-  unfolding fieldsOf
-  fields-back =
-      rw (
-        code-is r,
-        rate-back r,
-        goes,
-        service-back r clock n,
-        seven-back r clock n,
-        clock-back r clock n,
-        length-holds r n low high,
-        octets-back r n,
-      )
+  fields-back = fields-sent ours k r clock n (rw (code-is r, rate-back r) goes) (service-back r clock n) low high
 
 -- the header's bits, cut
-cut : (k : Kind) (s v l : ℕ) (sfd : List ℕ)
-    → headerOf k sfd (headerBits s v l)
+cut : (accepted : Accepted) (k : Kind) (s v l : ℕ) (sfd : List ℕ)
+    → headerOf accepted k sfd (headerBits s v l)
     ≡ cond (not (eqb (numberOf sfd) (sfdOf k))) (Refused Sfd)
     (cond (not (sameBits (crcBits (fieldBits s v l)) (crcBits (fieldBits s v l)))) (Refused Crc)
-    (fieldsOf k (numberOf (bitsOf 8 s)) (numberOf (bitsOf 8 v)) (numberOf (bitsOf 16 l))))
+    (fieldsOf accepted k (numberOf (bitsOf 8 s)) (numberOf (bitsOf 8 v)) (numberOf (bitsOf 16 l))))
 unfolding headerOf headerBits fieldBits bitsOf
-cut k s v l sfd = refl
+cut accepted k s v l sfd = refl
 
 sfd-back : (k : Kind) → numberOf (bitsOf 16 (sfdOf k)) ≡ sfdOf k
 sfd-back Long = number-bits 16 0xF3A0 (omega arith)
 sfd-back Short = number-bits 16 0x05CF (omega arith)
 
 -- any three fields that fit, with their CRC and the SFD of the kind, are the fields read
-pub fields-read : (k : Kind) (s v l : ℕ) → s < 256 → v < 256 → l < 65536
-    → headerOf k (bitsOf 16 (sfdOf k)) (headerBits s v l) ≡ fieldsOf k s v l
-fields-read k s v l hs hv hl =
-    cut k s v l (bitsOf 16 (sfdOf k))
+pub fields-read : (accepted : Accepted) (k : Kind) (s v l : ℕ) → s < 256 → v < 256 → l < 65536
+    → headerOf accepted k (bitsOf 16 (sfdOf k)) (headerBits s v l) ≡ fieldsOf accepted k s v l
+fields-read accepted k s v l hs hv hl =
+    cut accepted k s v l (bitsOf 16 (sfdOf k))
     ∙ rw (
       eq-eqb _ _ (sfd-back k),
       same-refl (crcBits (fieldBits s v l)),
@@ -143,13 +148,18 @@ length-lt Eleven n h = omega arith
 service-lt : (r : Rate) (clock : Bool) (n : ℕ) → serviceField r clock n < 256
 service-lt r clock n = omega (arith, clock-lt clock, bit7-lt r n)
 
+-- so the writer's header comes to what its fields do, accepted or not
+pub header-sent : (accepted : Accepted) (k : Kind) (r : Rate) (clock : Bool) (n : ℕ) → n ≤ 4095
+    → headerOf accepted k (bitsOf 16 (sfdOf k)) (sentHeader r clock n)
+    ≡ fieldsOf accepted k (codeOf r) (serviceField r clock n) (lengthField r n)
+unfolding sentHeader
+header-sent accepted k r clock n high =
+    fields-read accepted k (codeOf r) (serviceField r clock n) (lengthField r n) (code-small r) (service-lt r clock n)
+    (length-lt r n high)
+
 -- promise: A writer's header tells a reader its rate, LENGTH, n and clock bit
 -- rule: 5.8 to 5.14
 -- code: header_octets, header_of
 pub header-back : (k : Kind) (r : Rate) (clock : Bool) (n : ℕ) → goesWith k r ≡ true → 1 ≤ n → n ≤ 4095
-    → headerOf k (bitsOf 16 (sfdOf k)) (sentHeader r clock n) ≡ Fields (told r (lengthField r n) n clock)
-unfolding sentHeader
-header-back k r clock n goes low high =
-    fields-read k (codeOf r) (serviceField r clock n) (lengthField r n) (code-small r) (service-lt r clock n)
-    (length-lt r n high)
-    ∙ fields-back k r clock n goes low high
+    → headerOf ours k (bitsOf 16 (sfdOf k)) (sentHeader r clock n) ≡ Fields (told r (lengthField r n) n clock)
+header-back k r clock n goes low high = header-sent ours k r clock n high ∙ fields-back k r clock n goes low high

@@ -25,6 +25,17 @@ serviceAllowed Two s = eqb s 0 || eqb s 4
 serviceAllowed Five s = eqb s 0 || eqb s 4
 serviceAllowed Eleven s = eqb s 0 || eqb s 4 || eqb s 128 || eqb s 132
 
+-- which headers a reader accepts: 13 and 14 are asked by these two tests alone
+pub record Accepted : Type 0 where
+  -- 13: the SIGNALs of a kind
+  pub signals : Kind → ℕ → Bool
+  -- 14: the SERVICEs of a rate
+  pub services : Rate → ℕ → Bool
+
+-- what our readers accept: the codes of the rates that go with the kind, and SERVICE as above
+abbrev pub ours : Accepted
+ours = record { signals = λ k signal. isCode signal && goesWith k (rateOf signal); services = serviceAllowed }
+
 -- two rows of bits are the same
 unfoldable pub sameBits : List ℕ → List ℕ → Bool
 sameBits [] [] = true
@@ -36,20 +47,21 @@ sameBits (x ∷ xs) (y ∷ ys) = eqb x y && sameBits xs ys
 abbrev pub told : Rate → ℕ → ℕ → Bool → Told
 told r l n clock = record { rate = r; length = l; n = n; clock = clock }
 
--- 13, 14, 15: from the three fields
-unfoldable pub fieldsOf : Kind → ℕ → ℕ → ℕ → Front
-fieldsOf k signal service l =
+-- 13, 14, 15: from the three fields, for a reader that accepts these headers
+unfoldable pub fieldsOf : Accepted → Kind → ℕ → ℕ → ℕ → Front
+fieldsOf accepted k signal service l =
     let r = rateOf signal in
     let seven = service / 128 % 2 in
     let clock = eqb (service / 4 % 2) 1 in
-    cond (not (isCode signal && goesWith k r)) (front.Refused (Signal l))
-    (cond (not (serviceAllowed r service)) (front.Refused (Service l))
+    cond (not (accepted .signals k signal)) (front.Refused (Signal l))
+    (cond (not (accepted .services r service)) (front.Refused (Service l))
     (cond (not (lengthHolds r l seven)) (front.Refused (Length l))
     (front.Fields (told r l (natAbs (octetsRead r l seven)) clock))))
 
 -- 11 to 15: from the header's 48 bits and the SFD's sixteen. SYNC bits are not compared
-unfoldable pub headerOf : Kind → List ℕ → List ℕ → Front
-headerOf k sfd header =
+unfoldable pub headerOf : Accepted → Kind → List ℕ → List ℕ → Front
+headerOf accepted k sfd header =
     cond (not (eqb (numberOf sfd) (sfdOf k))) (front.Refused Sfd)
     (cond (not (sameBits (crcBits (take 32 header)) (drop 32 header))) (front.Refused Crc)
-    (fieldsOf k (numberOf (take 8 header)) (numberOf (take 8 (drop 8 header))) (numberOf (take 16 (drop 16 header)))))
+    (fieldsOf accepted k (numberOf (take 8 header)) (numberOf (take 8 (drop 8 header)))
+    (numberOf (take 16 (drop 16 header)))))

@@ -43,7 +43,7 @@ use Rattle.calls.specs.declared.Told.{Told}
 use Rattle.calls.specs.declared.Front.the-variants as front
 use Rattle.calls.specs.declared.Reading.the-variants as reading
 use Rattle.calls.specs.declared.Refusal.the-variants.{OctetRoom}
-use Rattle.calls.specs.Headers.{headerOf, told}
+use Rattle.calls.specs.Headers.{ours, headerOf, told}
 use Rattle.reading.specs.Leads.{frontLeads, payloadLeads, frameLeads, leastOf}
 use Rattle.reading.specs.Reading.{
   firstUnusable,
@@ -269,7 +269,7 @@ module _ (k : Kind) (r : Rate) (p : ℕ) (header xs : List ℕ) (rest : List Tak
       (omega arith)
 
   -- whatever the header's bits say, they are read
-  pub front-read : frontOf k recording ≡ headerOf k (bitsOf 16 (sfdOf k)) header
+  pub front-read : frontOf k recording ≡ headerOf ours k (bitsOf 16 (sfdOf k)) header
   unfolding frontOf
   front-read =
       rw (

@@ -14,7 +14,7 @@ use Rattle.calls.specs.declared.Refusal.{Refusal}
 use Rattle.calls.specs.declared.Refusal.the-variants.{ShorterThanFront, Unusable, OddGrowth}
 use Rattle.calls.specs.declared.Front.{Front}
 use Rattle.calls.specs.declared.Front.the-variants.{Refused}
-use Rattle.calls.specs.Headers.{headerOf}
+use Rattle.calls.specs.Headers.{ours, headerOf}
 use Rattle.reading.specs.Reading.{firstUnusable, frontOdd, frontOf}
 use Rattle.recorded.specs.declared.Found.{Found}
 use Rattle.recorded.specs.declared.Found.the-variants.{Nothing, At}
@@ -39,10 +39,10 @@ module _ (k : Kind) (rec : List Taken) where
   usable-odd o f place e g p = opens-refused k rec (afterUsable k rec) (OddGrowth place 0) o p (rw (← g, e))
 
   pub usable-header : (f : FrontHeard) (told : Front) → FrontKnown k rec f → f .part .heard .odd ≡ Nothing
-      → told ≡ headerOf k (octetBits (f .sfd)) (octetBits (f .header))
+      → told ≡ headerOf ours k (octetBits (f .sfd)) (octetBits (f .header))
       → Opens k rec (afterUsable k rec) (record { front = told; line = f .part .heard .line; least = f .part .least })
   usable-header f told x e p = record {
-    told = rw (← x .odd, e) (p ∙ ap₂ {C = Front} (headerOf k) (x .sfd) (x .header));
+    told = rw (← x .odd, e) (p ∙ ap₂ {C = Front} (headerOf ours k) (x .sfd) (x .header));
     line = λ t w. x .line;
     least = λ t w. x .least;
   }

@@ -19,7 +19,7 @@ use Rattle.calls.specs.declared.Refusal.the-variants.{OddGrowth}
 use Rattle.calls.specs.declared.Told.{Told}
 use Rattle.calls.specs.declared.Front.{Front}
 use Rattle.calls.specs.declared.Front.the-variants.{Refused, Fields}
-use Rattle.calls.specs.Headers.{headerOf}
+use Rattle.calls.specs.Headers.{ours, headerOf}
 use Rattle.reading.specs.Reading.{
   orElse,
   oddGrowth,
@@ -90,7 +90,7 @@ pub record FrontKnown (k : Kind) (rec : List Taken) (f : FrontHeard) : Type 0 wh
 abbrev pub afterUsable : Kind → List Taken → Front
 afterUsable k rec =
     orElse (frontOdd k rec) (λ place. Refused (OddGrowth place 0))
-    (headerOf k (take 16 (drop (syncBits k) (frontBits k rec))) (drop (preambleLength k) (frontBits k rec)))
+    (headerOf ours k (take 16 (drop (syncBits k) (frontBits k rec))) (drop (preambleLength k) (frontBits k rec)))
 
 -- an opening that tells f: where that is fields, the line goes on from the front, and so does the smallest lead
 pub record Opens (k : Kind) (rec : List Taken) (f : Front) (o : Opening) : Type 0 where

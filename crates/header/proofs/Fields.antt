@@ -20,9 +20,8 @@ use Rattle.base.proofs.Below.{below-nil, below-cons}
 use Rattle.frame.specs.declared.Kind.{Kind}
 use Rattle.calls.specs.declared.Front.{Front}
 use Rattle.frame.specs.Frame.{fieldBits, headerBits}
-use Rattle.calls.specs.Headers.{sameBits, fieldsOf}
-use Rattle.calls.proofs.ReadBack.{same-refl}
-use Rattle.calls.proofs.HeaderOnly.{same-eq}
+use Rattle.calls.specs.Headers.{Accepted, sameBits, fieldsOf}
+use Rattle.calls.proofs.Accepting.{same-refl, same-eq}
 
 pub two-is : (xs : List ℕ) → length xs ≡ 2 → xs ≡ getD xs 0 0 ∷ getD xs 1 0 ∷ []
 unfolding tabulate
@@ -99,13 +98,14 @@ pub crc-same : (header : List ℕ) → length header ≡ 6 → (crc : List ℕ)
 crc-same header six crc e same = rw (front header six, back header six, ← e, ← same) (sym (same-refl (octetBits crc)))
 
 -- the three fields
-pub fields-cut : (k : Kind) (header : List ℕ) → length header ≡ 6 → Below 256 header → (l : ℕ) (f : Front)
+pub fields-cut : (accepted : Accepted) (k : Kind) (header : List ℕ) → length header ≡ 6 → Below 256 header
+    → (l : ℕ) (f : Front)
     → l ≡ numberOf (octetBits (getD header 2 0 ∷ getD header 3 0 ∷ []))
-    → f ≡ fieldsOf k (getD header 0 0) (getD header 1 0) l
+    → f ≡ fieldsOf accepted k (getD header 0 0) (getD header 1 0) l
     → f
-    ≡ fieldsOf k (numberOf (take 8 (octetBits header))) (numberOf (take 8 (drop 8 (octetBits header))))
+    ≡ fieldsOf accepted k (numberOf (take 8 (octetBits header))) (numberOf (take 8 (drop 8 (octetBits header))))
     (numberOf (take 16 (drop 16 (octetBits header))))
-fields-cut k header six octets l f el ef =
+fields-cut accepted k header six octets l f el ef =
     rw (
       first header six,
       second header six,

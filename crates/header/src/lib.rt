@@ -14,7 +14,7 @@ ghost use Rattle.rates.specs.Rates.{isCode, rateOf};
 ghost use Rattle.bits.specs.Bits.{numberOf, octetBits};
 ghost use Rattle.bits.specs.Crc.{crcBits};
 ghost use Rattle.frame.specs.Frame.{sfdOf, goesWith, headerBits, sentHeader};
-ghost use Rattle.calls.specs.Headers.{serviceAllowed, sameBits, fieldsOf, headerOf};
+ghost use Rattle.calls.specs.Headers.{serviceAllowed, ours, sameBits, fieldsOf, headerOf};
 ghost use Rattle.header.specs.Code.{octetsTold};
 
 // Whether SERVICE is one that a rate allows: 0 or 4, and at 11 Mbit/s 128 or 132.
@@ -77,7 +77,7 @@ fn signal_allowed(k: Kind, code: u64) -> bool
 // What the three fields tell: refusals 13, 14 and 15, in this order.
 fn fields_of(k: Kind, signal: u8, service: u8, length: usize) -> Front
     requires { ⌜ length < 65536 ⌝ }
-    ensures answer { λ f. ⌜ f ≡ fieldsOf k signal service length ⌝ }
+    ensures answer { λ f. ⌜ f ≡ fieldsOf ours k signal service length ⌝ }
 {
     let code = signal as u64;
     let r = rates::rate_of(code);
@@ -143,7 +143,7 @@ fn crc_right(header: [u8; 6]) -> bool
 
 // What the SFD and the header tell: refusals 11 to 15, in this order.
 pub fn header_of(k: Kind, sfd: [u8; 2], header: [u8; 6]) -> Front
-    ensures answer { λ f. ⌜ f ≡ headerOf k (octetBits sfd) (octetBits header) ⌝ }
+    ensures answer { λ f. ⌜ f ≡ headerOf ours k (octetBits sfd) (octetBits header) ⌝ }
 {
     let started = sfd_right(k, sfd);
     let summed = crc_right(header);

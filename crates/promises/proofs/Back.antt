@@ -13,7 +13,9 @@ use lib.ListN.{length, take, replicate, length-append}
 use lib.Seq.{take-at, take-append-le}
 use Rattle.rates.specs.declared.Rate.{Rate}
 use Rattle.rates.specs.Rates.{codeOf, isCode, rateOf, octetChips, lengthField}
+use Rattle.rates.specs.Plain.{LengthOf}
 use Rattle.rates.proofs.Lengths.{is-payload}
+use Rattle.rates.proofs.Plain.{length-only}
 use Rattle.base.specs.Below.{Below}
 use Rattle.base.proofs.Below.{below-take}
 use Rattle.chips.specs.Chips.{Taken, hardRecording, softRecording, byteRecording}
@@ -55,7 +57,7 @@ use Rattle.promises.specs.Calls.{
   refused,
   shown,
 }
-use Rattle.promises.specs.Promises.{lengthOf, WrittenFrame, ReadBack, NotReadBack}
+use Rattle.promises.specs.Promises.{WrittenFrame, ReadBack, NotReadBack}
 
 -- what the seven pairs of kind and rate are by the definitions
 pub record Known (kind rate front octet : ℕ) : Type 0 where
@@ -67,7 +69,7 @@ pub record Known (kind rate front octet : ℕ) : Type 0 where
   pub octet-is : octetChips (rateOf rate) ≡ octet
   pub lead-is : cleanLeast (kindOf kind) (rateOf rate) ≡ leadAt (sentLead rate) (sentSymbol kind rate)
 
-known : {kind rate front octet : ℕ} → Goes kind rate front octet → Known kind rate front octet
+pub known : {kind rate front octet : ℕ} → Goes kind rate front octet → Known kind rate front octet
 known long-1 =
     record {
       kind-is = refl;
@@ -249,6 +251,10 @@ module _ (kind rate phase clock : ℕ) (payload : List ℕ) (w : Written) (chips
   pub phases : Below 4 sent
   phases = clean.phases kind r phase (clockOf clock) payload (pair .kind-is) lp
 
+  -- LENGTH of the octets, in the definition's words
+  pub length-sent : {l : ℕ} → LengthOf rate n l → lengthField r n ≡ l
+  length-sent {l} d = sym (length-only r (subst (λ (x : ℕ). LengthOf x n l) (sym (pair .code-back)) d))
+
   abbrev with-lead : ℕ → ℕ → ℕ → Least → Record
   with-lead code used bit least = good code (lengthField r n) n used bit (least .lead) (least .symbol)
 
@@ -259,7 +265,7 @@ module _ (kind rate phase clock : ℕ) (payload : List ℕ) (w : Written) (chips
     f′ = cleanly phases (subst (λ (x : List ℕ). ReadOf kind x after room a left) taken f)
 
     pub back : n ≤ room
-        → (a ≡ good rate (lengthOf rate payload) n (w .chips) (shown clock) (sentLead rate) (sentSymbol kind rate))
+        → (a ≡ good rate (lengthField r n) n (w .chips) (shown clock) (sentLead rate) (sentSymbol kind rate))
         × (left ≡ payload ++ replicate (room - n) 0)
     back h = (
       f′ .read .answer
@@ -276,7 +282,7 @@ module _ (kind rate phase clock : ℕ) (payload : List ℕ) (w : Written) (chips
         as-shown =
             λ i. with-lead (pair .code-back i) (sym w-chips i) (shown-is clock i) (pair .lead-is i)
 
-    pub too-small : room < n → a ≡ refused 17 (lengthOf rate payload)
+    pub too-small : room < n → a ≡ refused 17 (lengthField r n)
     too-small h =
         f′ .read .answer
         ∙ ap recordOf (clean.room-refused kind r phase (clockOf clock) payload (pair .kind-is) lp (pair .together)
@@ -304,7 +310,7 @@ module _ (kind rate phase clock : ℕ) (payload : List ℕ) (w : Written) (chips
         ∙ ap recordOf (clean.front-refused kind r phase (clockOf clock) payload (pair .kind-is) lp (pair .together)
         (s .sendable .some) (s .sendable .few) j room less (g .agree) (g .same) (omega (arith, pair .front-is)))
 
-    pub in-payload : s .sendable .front ≤ j → a ≡ refused 16 (lengthOf rate payload)
+    pub in-payload : s .sendable .front ≤ j → a ≡ refused 16 (lengthField r n)
     in-payload h =
         g′ .answer
         ∙ ap recordOf (clean.payload-refused kind r phase (clockOf clock) payload (pair .kind-is) lp (pair .together)
@@ -319,14 +325,17 @@ written-frame kind rate phase clock payload w chips s = (
 )
 
 pub read-back : ReadBack
-read-back kind rate phase clock payload w chips s after room a left f h =
-    back kind rate phase clock payload w chips s after room a left f h
+read-back kind rate phase clock payload w chips s l d after room a left f h =
+    rw (← length-sent kind rate phase clock payload w chips s d)
+    (back kind rate phase clock payload w chips s after room a left f h)
 
 pub not-read-back : NotReadBack
-not-read-back kind rate phase clock payload w chips s room a left = (
-  (λ after f h. too-small kind rate phase clock payload w chips s after room a left f h),
-  (λ j f h i. in-payload kind rate phase clock payload w chips s j room a left f
-      (subst (λ (x : ℕ). j < x) (w-chips kind rate phase clock payload w chips s) i) h),
-  λ j f h. in-front kind rate phase clock payload w chips s j room a left f
-      (omega (arith, size kind rate phase clock payload w chips s)) h,
-)
+not-read-back kind rate phase clock payload w chips s l d room a left =
+    let e = length-sent kind rate phase clock payload w chips s d in (
+      (λ after f h. too-small kind rate phase clock payload w chips s after room a left f h ∙ ap (refused 17) e),
+      (λ j f h i. in-payload kind rate phase clock payload w chips s j room a left f
+          (subst (λ (x : ℕ). j < x) (w-chips kind rate phase clock payload w chips s) i) h
+          ∙ ap (refused 16) e),
+      λ j f h. in-front kind rate phase clock payload w chips s j room a left f
+          (omega (arith, size kind rate phase clock payload w chips s)) h,
+    )

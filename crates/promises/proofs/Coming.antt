@@ -1,6 +1,6 @@
 -- What is coming, and the full reader's answer to the same recording: both follow one front (`reads-on`). Each
 -- statement by the cases of what that front tells. Assumes nothing.
-use mathlib.Core.Path.{_≡_, refl, sym, ap, ap₂, _∙_, subst}
+use mathlib.Core.Path.{_≡_, refl, sym, ap, _∙_, subst}
 use mathlib.Core.Bool.{true}
 use mathlib.Core.List.{List, []}
 use mathlib.Core.Option.{Option, none, some}
@@ -10,8 +10,7 @@ use native.Mathlib.Omega.{arith}
 use borrow.Author.Tests.{le-ltb}
 use lib.Dec.{T}
 use lib.ListN.{length, take}
-use Rattle.rates.specs.declared.Rate.{Rate}
-use Rattle.rates.specs.Rates.{codeOf, octetChips, lengthField}
+use Rattle.rates.specs.Rates.{codeOf, octetChips}
 use Rattle.chips.specs.Chips.{Taken, hardRecording}
 use Rattle.chips.proofs.Recorders.{length-hard, take-hard}
 use Rattle.frame.specs.declared.Kind.{Kind}
@@ -65,7 +64,7 @@ use Rattle.promises.specs.Coming.{
   OneComing,
 }
 use Rattle.promises.proofs.Fills.{some-number}
-use Rattle.promises.proofs.Only.{goes, code-back}
+use Rattle.promises.proofs.Only.{goes, length-told}
 
 -- a kind's front, in the definition's words
 pub front-of : {kind front : ℕ} → FrontOf kind front → (isKind kind ≡ true) × (frontChips (kindOf kind) ≡ front)
@@ -126,20 +125,20 @@ module _ (kind : ℕ) (chips : List ℕ) where
         some = h .telling .some-octets;
         few = h .telling .few;
         clock-is = clock-lt (t .clock);
+        length-is = length-told (h .telling);
         only =
-            ap₂ {C = Coming}
-            (λ l m. record {
+            ap {B = Coming}
+            (λ m. record {
               number = 0;
               place = 0;
               rate = codeOf r;
-              length = l;
+              length = t .length;
               clock = clockBit (t .clock);
               n = t .n;
               used = all;
               at = frontChips k;
               count = m;
             })
-            (h .telling .length-is ∙ ap (λ (x : Rate). lengthField x (t .n)) (sym (code-back r)))
             (omega arith);
         there = enough;
         part-is =

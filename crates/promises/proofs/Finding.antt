@@ -11,8 +11,7 @@ use borrow.Author.Tests.{ltb-true, lt-ltb, le-ltb}
 use lib.Dec.{T}
 use lib.ListN.{length, take, drop, length-append, length-drop}
 use lib.Seq.{take-at, length-take-le}
-use Rattle.rates.specs.declared.Rate.{Rate}
-use Rattle.rates.specs.Rates.{codeOf, octetChips, lengthField}
+use Rattle.rates.specs.Rates.{codeOf, octetChips}
 use Rattle.chips.specs.Chips.{Taken, hardRecording}
 use Rattle.chips.proofs.Recorders.{length-hard, take-hard, drop-hard}
 use Rattle.frame.specs.declared.Kind.{Kind}
@@ -88,7 +87,7 @@ use Rattle.promises.specs.Finding.{
   NoneFound,
   OneFound,
 }
-use Rattle.promises.proofs.Only.{goes, code-back}
+use Rattle.promises.proofs.Only.{goes, length-told}
 use Rattle.promises.proofs.Coming.{front-of, goes-on}
 use Rattle.promises.proofs.SentTold.{in-numbers}
 
@@ -270,7 +269,7 @@ module _ (kind offsets : ℕ) (chips : List ℕ) where
           goes = goes kind r (s .0) (tells .goes);
           some = tells .some-octets;
           few = tells .few;
-          length-is = tells .length-is ∙ ap (λ (x : Rate). lengthField x (t .n)) (sym (code-back r));
+          length-is = length-told tells;
           clock-is = clock-lt (t .clock);
           below = omega (arith, i, h .below);
           there = there;

@@ -41,7 +41,7 @@ use Rattle.calls.specs.declared.Front.the-variants as front
 use Rattle.calls.specs.declared.Reading.{Reading}
 use Rattle.calls.specs.declared.Reading.the-variants as reading
 use Rattle.calls.specs.Answers.{recordOf}
-use Rattle.calls.specs.Headers.{headerOf}
+use Rattle.calls.specs.Headers.{ours, headerOf}
 use Rattle.reading.specs.Reading.{
   orElse,
   firstUnusable,
@@ -100,8 +100,8 @@ FrontUsable k rec (front.Refused e) = Unit {0}
 FrontUsable k rec (front.Fields t) = UsableTo (frontChips k) rec
 
 header-usable : (k : Kind) (rec : List Taken) → UsableTo (frontChips k) rec → (sfd header : List ℕ)
-    → FrontUsable k rec (headerOf k sfd header)
-header-usable k rec h sfd header = go (headerOf k sfd header)
+    → FrontUsable k rec (headerOf ours k sfd header)
+header-usable k rec h sfd header = go (headerOf ours k sfd header)
   where
     go : (f : Front) → FrontUsable k rec f
     go (front.Refused e) = tt

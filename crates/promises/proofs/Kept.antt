@@ -9,6 +9,7 @@ use Rattle.promises.proofs.Only.{only-sent, only-readable, refused-show
 use Rattle.promises.proofs.Never.{seven-only, no-byte-unusable}
 use Rattle.promises.proofs.Back.{written-frame, read-back, not-read-back}
 use Rattle.promises.proofs.Source.{one-source}
+use Rattle.promises.proofs.Refusing.{write-answers}
 use Rattle.promises.proofs.Coming.{
   front-refused,
   refused-alike,
@@ -35,6 +36,7 @@ pub kept : Promised
 kept = record {
   write-fills = write-fills;
   read-fills = read-fills;
+  write-answers = write-answers;
   only-sent = only-sent;
   only-readable = only-readable;
   refused-shows = refused-shows;

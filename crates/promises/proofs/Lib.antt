@@ -3,6 +3,7 @@ pub mod Only
 pub mod Never
 pub mod Back
 pub mod Source
+pub mod Refusing
 pub mod Coming
 pub mod SentTold
 pub mod Finding
@@ -14,6 +15,7 @@ pub mod Answered
 pub mod Kept
 pub mod Uses
 pub mod UsesBack
+pub mod UsesRefusing
 pub mod UsesRight
 pub mod UsesLeads
 pub mod UsesComing

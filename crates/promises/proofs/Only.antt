@@ -13,8 +13,11 @@ use Rattle.base.specs.Below.{Below}
 use Rattle.base.proofs.Tests.{held, left-is, right-is, branch}
 use Rattle.rates.specs.declared.Rate.{Rate}
 use Rattle.rates.specs.declared.Rate.the-variants.{One, Two, Five, Eleven}
-use Rattle.rates.specs.Rates.{codeOf, isCode, rateOf, octetChips, lengthField, isPayload}
+use Rattle.rates.specs.Rates.{codeOf, isCode, rateOf, octetChips, isPayload}
+use Rattle.rates.specs.Plain.{LengthOf}
 use Rattle.rates.proofs.Facts.{no-other-code}
+use Rattle.rates.proofs.Plain.{length-is}
+use Rattle.reading.proofs.Telling.{Telling, TellingWhole, TellingWholeIf, whole-telling}
 use Rattle.chips.specs.Chips.{Taken}
 use Rattle.frame.specs.declared.Kind.{Kind}
 use Rattle.frame.specs.Frame.{isKind, kindOf, goesWith, frontChips, frameChips}
@@ -34,7 +37,6 @@ use Rattle.calls.specs.Writing.{writingOf}
 use Rattle.reading.specs.Reading.{frontOf, wholeOf, payloadReading, afterFront, readingOf}
 use Rattle.promises.specs.Calls.{Goes, long-1, long-2, long-5, long-11, short-2, short-5, short-11, Sent}
 use Rattle.promises.specs.Only.{OnlySent, Readable, OnlyReadable, RefusedShows, RowsRefused, OddBytesRefused}
-use Rattle.reading.proofs.Telling.{TellingWhole, TellingWholeIf, whole-telling}
 use Rattle.reading.proofs.Refusals.{PayloadIf, payload-comes}
 use Rattle.promises.proofs.Fills.{some-number}
 
@@ -56,6 +58,10 @@ code-back One = refl
 code-back Two = refl
 code-back Five = refl
 code-back Eleven = refl
+
+-- LENGTH of a front that tells
+pub length-told : {k : Kind} {t : Told} → Telling k t → LengthOf (codeOf (t .rate)) (t .n) (t .length)
+length-told {k} {t} h = subst (LengthOf (codeOf (t .rate)) (t .n)) (sym (h .length-is)) (length-is (t .rate) (t .n))
 
 -- ---- writing
 module _ (kind rate phase : ℕ) (payload : List ℕ) (room : ℕ) (octets : Below 256 payload) where
@@ -129,7 +135,7 @@ module _ (kind : ℕ) (rec : List Taken) (room : ℕ) (kind-is : isKind kind ≡
         goes = goes kind r kind-is (h .telling .goes);
         some = h .telling .some-octets;
         few = h .telling .few;
-        length-is = h .telling .length-is ∙ ap (λ (x : Rate). lengthField x (t .n)) (sym (code-back r));
+        length-is = length-told (h .telling);
         used-is = refl;
         there = h .there;
         fits = b;

@@ -98,8 +98,9 @@ module _ (kind rate phase clock : ℕ) (payload : List ℕ) (w : Written) (chips
   says (Start offset u) h = start-says offset u (h .1)
 
 pub sent-found : SentFound
-sent-found kind rate phase clock payload w chips s before tail offsets f below few x =
+sent-found kind rate phase clock payload w chips s l d before tail offsets f below few x =
     let rec = hardRecording (before ++ (take (s .sendable .front) chips ++ tail)) in
-    subst (Says kind rate phase clock payload w chips s before tail offsets below few) (sym (x .answer))
+    rw (← back.length-sent kind rate phase clock payload w chips s d)
+    (subst (Says kind rate phase clock payload w chips s before tail offsets below few) (sym (x .answer))
     (says kind rate phase clock payload w chips s before tail offsets below few (findingOf kind offsets rec)
-    (finding-comes kind offsets rec))
+    (finding-comes kind offsets rec)))

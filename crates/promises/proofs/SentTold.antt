@@ -124,10 +124,11 @@ module _ (kind rate phase clock : ℕ) (payload : List ℕ) (w : Written) (chips
         (omega (arith, recorded-long, all-is)))
 
 pub sent-told : SentTold
-sent-told kind rate phase clock payload w chips s tail c f = (
-  (λ h. (
-    told-whole kind rate phase clock payload w chips s tail c f h,
-    handed-back kind rate phase clock payload w chips s tail c f h,
-  )),
-  λ h. cut kind rate phase clock payload w chips s tail c f h,
-)
+sent-told kind rate phase clock payload w chips s l d tail c f =
+    let e = back.length-sent kind rate phase clock payload w chips s d in (
+      (λ h. (
+        rw (← e) (told-whole kind rate phase clock payload w chips s tail c f h),
+        handed-back kind rate phase clock payload w chips s tail c f h,
+      )),
+      λ h. rw (← e) (cut kind rate phase clock payload w chips s tail c f h),
+    )

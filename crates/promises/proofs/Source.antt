@@ -8,7 +8,7 @@ use native.Mathlib.Omega.{arith}
 use lib.ListN.{length, getD, take, drop, replicate, take-append-drop, List·getD-append}
 use lib.Seq.{take-at}
 use Rattle.rates.specs.declared.Rate.{Rate}
-use Rattle.rates.specs.Rates.{rateOf}
+use Rattle.rates.specs.Rates.{rateOf, lengthField}
 use Rattle.chips.specs.Chips.{turned, hardRecording}
 use Rattle.symbols.specs.Words.{barkerWord}
 use Rattle.bits.specs.Bits.{bitsOf}
@@ -23,8 +23,8 @@ use Rattle.frame.specs.Frame.{kindOf, clockOf, frontChips, preambleBits, frameB
 use Rattle.calls.specs.Answers.{recordOf}
 use Rattle.reading.specs.Reading.{readingOf, octetsFound}
 use Rattle.promises.specs.Calls.{Read, Sent, of-hard, good, shown, sentLead, sentSymbol}
-use Rattle.promises.specs.Promises.{lengthOf, OneSource}
-use Rattle.promises.proofs.Back.{read-back, chips-are}
+use Rattle.promises.specs.Promises.{OneSource}
+use Rattle.promises.proofs.Back.{back, chips-are}
 
 -- the first scrambled bit is 0 for both kinds, so the first chip is the starting phase
 first-chip : (k : Kind) (r : Rate) (p : ℕ) (clock : Bool) (xs : List ℕ)
@@ -54,11 +54,11 @@ module _ (kind rate phase clock : ℕ) (payload : List ℕ) (w : Written) (chips
   -- what a reading of all the chips answers, with room
   reads : (room : ℕ) → length payload ≤ room
       → (recordOf (readingOf kind true (hardRecording chips) room)
-      ≡ good rate (lengthOf rate payload) (length payload) (w .chips) (shown clock) (sentLead rate)
-      (sentSymbol kind rate))
+      ≡ good rate (lengthField (rateOf rate) (length payload)) (length payload) (w .chips) (shown clock)
+      (sentLead rate) (sentSymbol kind rate))
       × (octetsFound kind true (hardRecording chips) room ≡ payload ++ replicate (room - length payload) 0)
   reads room h =
-      read-back kind rate phase clock payload w chips s (length (drop (w .chips) chips)) room _ _
+      back kind rate phase clock payload w chips s (length (drop (w .chips) chips)) room _ _
       (of-hard (drop (w .chips) chips) refl
       (subst
       (λ (l : List ℕ). Read kind true (hardRecording l) room (recordOf (readingOf kind true (hardRecording chips) room))
@@ -71,10 +71,10 @@ one-source kind rate rate′ phase phase′ clock clock′ payload payload′ w 
     let room = length payload + length payload′ in
     let a = reads kind rate phase clock payload w chips s room (omega arith) in
     let b = reads kind rate′ phase′ clock′ payload′ w′ chips t room (omega arith) in
-    let both : good rate (lengthOf rate payload) (length payload) (w .chips) (shown clock) (sentLead rate)
-    (sentSymbol kind rate)
-    ≡ good rate′ (lengthOf rate′ payload′) (length payload′) (w′ .chips) (shown clock′) (sentLead rate′)
-    (sentSymbol kind rate′) = sym (a .0) ∙ b .0 in
+    let both : good rate (lengthField (rateOf rate) (length payload)) (length payload) (w .chips) (shown clock)
+    (sentLead rate) (sentSymbol kind rate)
+    ≡ good rate′ (lengthField (rateOf rate′) (length payload′)) (length payload′) (w′ .chips) (shown clock′)
+    (sentLead rate′) (sentSymbol kind rate′) = sym (a .0) ∙ b .0 in
     let n : length payload ≡ length payload′ = ap (λ (x : Record). x .n) both in (
       ap (λ (x : Record). x .rate) both,
       sym (begins kind rate phase clock payload w chips s) ∙ begins kind rate′ phase′ clock′ payload′ w′ chips t,

@@ -1,6 +1,6 @@
 -- Uses of demand 1's statements, of one answer and of Table P, as they are kept, so that none of them can be said of
 -- nothing and none can lose a part. Assumes nothing.
-use mathlib.Core.Path.{_≡_, refl, sym, ap}
+use mathlib.Core.Path.{_≡_, refl, sym, ap, subst}
 use mathlib.Core.Bool.{Bool, true, false}
 use mathlib.Core.List.{List, [], _∷_}
 use Prim.Native.Nat.{ℕ, suc, _+_, _-_, _*_, _≤_, _<_}
@@ -10,7 +10,8 @@ use lib.IntN.{ℤ}
 use lib.Ieee.{Float}
 use Rattle.base.specs.Below.{Below}
 use Rattle.rates.specs.declared.Rate.{Rate}
-use Rattle.rates.specs.Rates.{rateOf, lengthField}
+use Rattle.rates.specs.Plain.{LengthOf, length-1, length-11}
+use Rattle.rates.proofs.Plain.{length-once}
 use Rattle.chips.specs.Chips.{Taken}
 use Rattle.frame.specs.declared.Kind.the-variants.{Long}
 use Rattle.frame.specs.Frame.{frame}
@@ -96,7 +97,7 @@ module _ (kind : ℕ) (agree : Bool) (rec : List Taken) (room : ℕ) (a : Record
 
   pub numbers-if-read : a .number ≡ 0
       → (agree ≡ true) × (kind < 2) × (1 ≤ a .n) × (a .n ≤ 4095) × (a .n ≤ room) × (a .used ≤ length rec)
-      × (a .length ≡ lengthField (rateOf (a .rate)) (a .n)) × (a .clock < 2)
+      × LengthOf (a .rate) (a .n) (a .length) × (a .clock < 2)
   numbers-if-read e =
       let o = kept .only-readable kind agree rec room a left f e in
       let r = o .1 in
@@ -107,6 +108,22 @@ module _ (kind : ℕ) (agree : Bool) (rec : List Taken) (room : ℕ) (a : Record
       let r = kept .only-readable kind agree rec room a left f e .1 in
       let g = goes-1 (r .goes) ten in
       (g .0, rw (sym (g .1), sym (g .2)) (r .used-is))
+
+  -- LENGTH is the octets', in plain numbers
+  length-of : a .number ≡ 0 → (code : ℕ) → a .rate ≡ code → LengthOf code (a .n) (a .length)
+  length-of e code r =
+      subst (λ (x : ℕ). LengthOf x (a .n) (a .length)) r
+      (kept .only-readable kind agree rec room a left f e .1 .length-is)
+
+  pub length-at-1 : a .number ≡ 0 → a .rate ≡ 10 → a .length ≡ 8 * a .n
+  length-at-1 e ten = length-once (length-of e 10 ten) (length-1 (a .n))
+
+  pub length-at-11 : a .number ≡ 0 → a .rate ≡ 110
+      → (8 * a .n ≤ 11 * a .length) × (11 * a .length < 8 * a .n + 11)
+  length-at-11 e r = by (length-of e 110 r)
+    where
+      by : {n l : ℕ} → LengthOf 110 n l → (8 * n ≤ 11 * l) × (11 * l < 8 * n + 11)
+      by (length-11 n l h g) = (h, g)
 
   pub read-once : (a′ : Record) (left′ : List ℕ) → Read kind agree rec room a′ left′ → (a ≡ a′) × (left ≡ left′)
   read-once a′ left′ g = kept .one-answer .1 kind agree rec room a a′ left left′ f g

@@ -1,6 +1,6 @@
 -- Uses of demand 2's statements, as they are kept, so that none of them can be said of nothing and none can lose a
 -- part. Assumes nothing.
-use mathlib.Core.Path.{_≡_, refl, sym, subst}
+use mathlib.Core.Path.{_≡_, refl, sym, ap, subst}
 use mathlib.Core.Bool.{true, false}
 use mathlib.Core.List.{List, [], _∷_, _++_, append-nil, map}
 use Prim.Native.Nat.{ℕ, _+_, _-_, _*_, _/_, _%_, _^_, _≤_, _<_}
@@ -10,6 +10,7 @@ use lib.IntN.{ℤ, pos, negℤ}
 use lib.Ieee.{Float}
 use Rattle.base.specs.Below.{Below}
 use Rattle.rates.specs.Rates.{rateOf}
+use Rattle.rates.specs.Plain.{LengthOf, length-1, length-11}
 use Rattle.frame.specs.Frame.{kindOf, frame}
 use Rattle.calls.specs.declared.Written.{Written}
 use Rattle.calls.specs.declared.Record.{Record}
@@ -28,75 +29,92 @@ use Rattle.promises.specs.Calls.{
   sentLead,
   sentSymbol,
 }
-use Rattle.promises.specs.Promises.{lengthOf}
 use Rattle.promises.proofs.Kept.{kept}
 use Rattle.promises.proofs.Uses.{goes-1}
 
 -- ---- reading back, by recorder: the rows that hold the chips, and what stands after them
 module _ (kind rate phase clock : ℕ) (payload : List ℕ) (w : Written) (chips : List ℕ)
-    (s : Sent kind rate phase clock payload w chips) (room : ℕ) (a : Record) (left : List ℕ) where
+    (s : Sent kind rate phase clock payload w chips) (l : ℕ) (d : LengthOf rate (length payload) l) (room : ℕ)
+    (a : Record) (left : List ℕ) where
   abbrev whole : List ℕ
   whole = take (w .chips) chips
 
   abbrev Back : Type 0
   Back =
-      (a
-      ≡ good rate (lengthOf rate payload) (length payload) (w .chips) (shown clock) (sentLead rate)
-      (sentSymbol kind rate))
+      (a ≡ good rate l (length payload) (w .chips) (shown clock) (sentLead rate) (sentSymbol kind rate))
       × (left ≡ payload ++ replicate (room - length payload) 0)
 
   pub back-hard : (tail : List ℕ) → ReadHard kind (whole ++ tail) room a left → length payload ≤ room → Back
   back-hard tail f h =
-      kept .read-back kind rate phase clock payload w chips s (length tail) room a left (of-hard tail refl f) h
+      kept .read-back kind rate phase clock payload w chips s l d (length tail) room a left (of-hard tail refl f) h
 
   pub back-soft : (i q i′ q′ : List Float) → Exactly whole i q → length i′ ≡ length q′
       → ReadSoft kind (i ++ i′) (q ++ q′) room a left → length payload ≤ room → Back
   back-soft i q i′ q′ e g f h =
-      kept .read-back kind rate phase clock payload w chips s (length i′) room a left
+      kept .read-back kind rate phase clock payload w chips s l d (length i′) room a left
       (of-soft i q i′ q′ e refl (sym g) f) h
 
   pub back-bytes : (tail : List ℤ) → length tail % 2 ≡ 0 → ReadBytes kind (byteRow whole ++ tail) room a left
       → length payload ≤ room → Back
   back-bytes tail even f h =
-      kept .read-back kind rate phase clock payload w chips s (length tail / 2) room a left
+      kept .read-back kind rate phase clock payload w chips s l d (length tail / 2) room a left
       (of-bytes tail (omega (arith, even)) f) h
 
   -- short of room, whatever stands after it
   pub no-room-soft : (i q : List Float) → Exactly whole i q → (x y : Float)
       → ReadSoft kind (i ++ (x ∷ [])) (q ++ (y ∷ [])) room a left → room < length payload
-      → a ≡ refused 17 (lengthOf rate payload)
+      → a ≡ refused 17 l
   no-room-soft i q e x y f h =
-      kept .not-read-back kind rate phase clock payload w chips s room a left .0 1
+      kept .not-read-back kind rate phase clock payload w chips s l d room a left .0 1
       (of-soft i q (x ∷ []) (y ∷ []) e refl refl f) h
 
   pub no-room-bytes : ReadBytes kind (byteRow whole ++ (pos 127 ∷ negℤ (pos 128) ∷ [])) room a left
-      → room < length payload → a ≡ refused 17 (lengthOf rate payload)
+      → room < length payload → a ≡ refused 17 l
   no-room-bytes f h =
-      kept .not-read-back kind rate phase clock payload w chips s room a left .0 1
+      kept .not-read-back kind rate phase clock payload w chips s l d room a left .0 1
       (of-bytes (pos 127 ∷ negℤ (pos 128) ∷ []) refl f) h
 
   -- cut after j chips
   module _ (j : ℕ) where
     pub cut-hard : ReadHard kind (take j chips) room a left → j < s .sendable .front → a ≡ refused 8 0
     cut-hard f h =
-        kept .not-read-back kind rate phase clock payload w chips s room a left .2 j
+        kept .not-read-back kind rate phase clock payload w chips s l d room a left .2 j
         (of-hard [] refl (subst (λ (l : List ℕ). ReadHard kind l room a left) (sym (append-nil _)) f)) h
 
     pub cut-soft : (i q : List Float) → Exactly (take j chips) i q → ReadSoft kind i q room a left
-        → s .sendable .front ≤ j → j < w .chips → a ≡ refused 16 (lengthOf rate payload)
-    cut-soft i q e f h l =
-        kept .not-read-back kind rate phase clock payload w chips s room a left .1 j
+        → s .sendable .front ≤ j → j < w .chips → a ≡ refused 16 l
+    cut-soft i q e f h m =
+        kept .not-read-back kind rate phase clock payload w chips s l d room a left .1 j
         (of-soft i q [] [] e refl refl
         (subst (λ (l : List Float). ReadSoft kind l (q ++ []) room a left) (sym (append-nil i))
         (subst (λ (l : List Float). ReadSoft kind i l room a left) (sym (append-nil q)) f)))
-        h l
+        h m
 
     pub cut-bytes : ReadBytes kind (byteRow (take j chips)) room a left
-        → s .sendable .front ≤ j → j < w .chips → a ≡ refused 16 (lengthOf rate payload)
-    cut-bytes f h l =
-        kept .not-read-back kind rate phase clock payload w chips s room a left .1 j
+        → s .sendable .front ≤ j → j < w .chips → a ≡ refused 16 l
+    cut-bytes f h m =
+        kept .not-read-back kind rate phase clock payload w chips s l d room a left .1 j
         (of-bytes [] refl (subst (λ (l : List ℤ). ReadBytes kind l room a left) (sym (append-nil _)) f))
-        h l
+        h m
+
+-- LENGTH in plain numbers, at 1 and at 11 Mbit/s: 8 n, and 8 n / 11 rounded up
+pub back-at-1 : (kind phase clock : ℕ) (payload : List ℕ) (w : Written) (chips : List ℕ)
+    → Sent kind 10 phase clock payload w chips → (room : ℕ) (a : Record) (left : List ℕ)
+    → ReadHard kind (take (w .chips) chips ++ []) room a left → length payload ≤ room
+    → a .length ≡ 8 * length payload
+back-at-1 kind phase clock payload w chips s room a left f h =
+    ap (λ (v : Record). v .length)
+    (back-hard kind 10 phase clock payload w chips s _ (length-1 (length payload)) room a left [] f h .0)
+
+pub back-at-11 : (kind phase clock : ℕ) (payload : List ℕ) (w : Written) (chips : List ℕ)
+    → Sent kind 110 phase clock payload w chips → (room : ℕ) (a : Record) (left : List ℕ)
+    → ReadHard kind (take (w .chips) chips ++ []) room a left → length payload ≤ room
+    → a .length ≡ (8 * length payload + 10) / 11
+back-at-11 kind phase clock payload w chips s room a left f h =
+    let n = length payload in
+    ap (λ (v : Record). v .length)
+    (back-hard kind 110 phase clock payload w chips s _
+    (length-11 n ((8 * n + 10) / 11) (omega arith) (omega arith)) room a left [] f h .0)
 
 -- a clock of 2^40 is shown as 1
 pub shown-yes : shown 0 ∷ shown 1 ∷ shown 256 ∷ shown (2 ^ 40) ∷ [] ≡ 0 ∷ 1 ∷ 1 ∷ 1 ∷ []

@@ -6,7 +6,7 @@ use Prim.Native.Nat.{ℕ, zero, suc, _+_, _-_, _*_, _≤_, _<_}
 use native.Mathlib.Omega.{arith}
 use lib.ListN.{length, take, drop, replicate, length-append, length-replicate}
 use lib.Seq.{take-at}
-use Rattle.rates.specs.Rates.{rateOf, lengthField}
+use Rattle.rates.specs.Plain.{LengthOf}
 use Rattle.calls.specs.declared.Written.{Written}
 use Rattle.calls.specs.declared.Record.{Record}
 use Rattle.chips.specs.Chips.{hardRecording}
@@ -93,7 +93,7 @@ module _ (kind : ℕ) (chips : List ℕ) (c : Coming) (f : ReadFront kind chips 
   -- not refused
   module _ (e : c .number ≡ 0) where
     pub told-numbers : (kind < 2) × (1 ≤ c .n) × (c .n ≤ 4095) × (c .clock < 2) × (c .place ≡ 0)
-        × (c .length ≡ lengthField (rateOf (c .rate)) (c .n)) × (c .used ≤ length chips)
+        × LengthOf (c .rate) (c .n) (c .length) × (c .used ≤ length chips)
     told-numbers =
         let t = kept .front-told kind chips c f e in (
           goes-kind (t .goes),
@@ -101,7 +101,7 @@ module _ (kind : ℕ) (chips : List ℕ) (c : Coming) (f : ReadFront kind chips 
           t .few,
           t .clock-is,
           ap (λ (v : Coming). v .place) (t .only),
-          ap (λ (v : Coming). v .length) (t .only),
+          t .length-is,
           t .there,
         )
 
@@ -192,17 +192,16 @@ long-alone chips chips′ c c′ e f f′ = kept .front-only 0 2112 chips chips�
 
 -- ---- a frame that was written, its payload's chips all unusable, and without them
 module _ (kind rate phase clock : ℕ) (payload : List ℕ) (w : Written) (chips : List ℕ)
-    (s : Sent kind rate phase clock payload w chips) (c : Coming) where
+    (s : Sent kind rate phase clock payload w chips) (l : ℕ) (d : LengthOf rate (length payload) l) (c : Coming) where
   abbrev count : ℕ
   count = s .sendable .octet * length payload
 
   pub payload-lost : ReadFront kind (take (s .sendable .front) chips ++ replicate count 9) c
-      → (c ≡ toldComing rate (lengthField (rateOf rate) (length payload)) (shown clock) (length payload)
-      (s .sendable .front) count)
+      → (c ≡ toldComing rate l (shown clock) (length payload) (s .sendable .front) count)
       × ((part : List ℕ) → Handed c (take (s .sendable .front) chips ++ replicate count 9) part
       → part ≡ take count (replicate count 9))
   payload-lost f =
-      kept .sent-told kind rate phase clock payload w chips s (replicate count 9) c f .0
+      kept .sent-told kind rate phase clock payload w chips s l d (replicate count 9) c f .0
       (omega (arith, length-replicate {A = ℕ} count 9))
 
   module _ (tail : List ℕ) (f : ReadFront kind (take (s .sendable .front) chips ++ tail) c) where
@@ -210,10 +209,10 @@ module _ (kind rate phase clock : ℕ) (payload : List ℕ) (w : Written) (chips
     pub payload-followed : count ≤ length tail
         → (c .number ≡ 0)
         × ((part : List ℕ) → Handed c (take (s .sendable .front) chips ++ tail) part → part ≡ take count tail)
-    payload-followed l =
-        let o = kept .sent-told kind rate phase clock payload w chips s tail c f .0 l in
+    payload-followed h =
+        let o = kept .sent-told kind rate phase clock payload w chips s l d tail c f .0 h in
         (ap (λ (v : Coming). v .number) (o .0), o .1)
 
     -- by one chip or by more
-    pub payload-cut : length tail < count → c ≡ refusedComing 16 0 (lengthField (rateOf rate) (length payload))
-    payload-cut l = kept .sent-told kind rate phase clock payload w chips s tail c f .1 l
+    pub payload-cut : length tail < count → c ≡ refusedComing 16 0 l
+    payload-cut h = kept .sent-told kind rate phase clock payload w chips s l d tail c f .1 h

@@ -7,7 +7,7 @@ use Prim.Native.Nat.{ℕ, _+_, _*_, _≤_, _<_}
 use native.Mathlib.Decide.{decLe, decLt, ℕ-discrete}
 use native.Mathlib.Omega.{arith}
 use lib.ListN.{length, take, drop, replicate, length-replicate}
-use Rattle.rates.specs.Rates.{rateOf, lengthField}
+use Rattle.rates.specs.Plain.{LengthOf}
 use Rattle.calls.specs.declared.Written.{Written}
 use Rattle.calls.specs.declared.Record.{Record}
 use Rattle.calls.specs.Answers.{recordOf}
@@ -150,7 +150,7 @@ module _ (kind offsets : ℕ) (chips : List ℕ) (f : Found) (x : Finds kind off
     when = kept .start-found kind offsets chips f x z
 
     pub found-numbers : (kind < 2) × (1 ≤ offsets) × (offsets ≤ 4096) × (f .offset < offsets)
-        × (1 ≤ f .n) × (f .n ≤ 4095) × (f .clock < 2) × (f .length ≡ lengthField (rateOf (f .rate)) (f .n))
+        × (1 ≤ f .n) × (f .n ≤ 4095) × (f .clock < 2) × LengthOf (f .rate) (f .n) (f .length)
     found-numbers = (
       when .tried .kind-is,
       when .tried .some,
@@ -338,22 +338,22 @@ module _ (kind : ℕ) (chips : List ℕ) where
 
 -- ---- a frame that was written: from its first chip, and behind anything
 module _ (kind rate phase clock : ℕ) (payload : List ℕ) (w : Written) (chips : List ℕ)
-    (s : Sent kind rate phase clock payload w chips) (tail : List ℕ) (offsets : ℕ) (f : Found)
-    (few : offsets ≤ 4096) where
+    (s : Sent kind rate phase clock payload w chips) (l : ℕ) (d : LengthOf rate (length payload) l) (tail : List ℕ)
+    (offsets : ℕ) (f : Found) (few : offsets ≤ 4096) where
   abbrev theFrame : ℕ → Found
-  theFrame at = startFound at rate (lengthField (rateOf rate) (length payload)) (shown clock) (length payload)
+  theFrame at = startFound at rate l (shown clock) (length payload)
 
   pub sent-first : 1 ≤ offsets → Finds kind offsets (take (s .sendable .front) chips ++ tail) f → f ≡ theFrame 0
-  sent-first l x =
-      let o = kept .sent-found kind rate phase clock payload w chips s [] tail offsets f l few x in
+  sent-first h x =
+      let o = kept .sent-found kind rate phase clock payload w chips s l d [] tail offsets f h few x in
       o .2 (omega (arith, o .1))
 
-  module _ (before : List ℕ) (l : length before < offsets)
+  module _ (before : List ℕ) (h : length before < offsets)
       (x : Finds kind offsets (before ++ (take (s .sendable .front) chips ++ tail)) f) where
     pub sent-not-missed : (f .number ≡ 0) × (f .offset ≤ length before)
     sent-not-missed =
-        let o = kept .sent-found kind rate phase clock payload w chips s before tail offsets f l few x in
+        let o = kept .sent-found kind rate phase clock payload w chips s l d before tail offsets f h few x in
         (o .0, o .1)
 
     pub sent-itself : f .offset ≡ length before → f ≡ theFrame (length before)
-    sent-itself = kept .sent-found kind rate phase clock payload w chips s before tail offsets f l few x .2
+    sent-itself = kept .sent-found kind rate phase clock payload w chips s l d before tail offsets f h few x .2

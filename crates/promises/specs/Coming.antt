@@ -6,7 +6,7 @@ use Prim.Native.Nat.{ℕ, _+_, _-_, _*_, _≤_, _<_}
 use mathlib.Core.Path.{_≡_}
 use mathlib.Core.List.{List, [], _++_}
 use lib.ListN.{length, take, drop}
-use Rattle.rates.specs.Rates.{rateOf, lengthField}
+use Rattle.rates.specs.Plain.{LengthOf}
 use Rattle.calls.specs.declared.Written.{Written}
 use Rattle.calls.specs.declared.Record.{Record}
 use Rattle.coming.specs.declared.Coming.{Coming}
@@ -85,8 +85,8 @@ pub record WhenTold (kind : ℕ) (chips : List ℕ) (c : Coming) : Type 0 where
   pub some : 1 ≤ c .n
   pub few : c .n ≤ 4095
   pub clock-is : c .clock < 2
-  pub only :
-      c ≡ toldComing (c .rate) (lengthField (rateOf (c .rate)) (c .n)) (c .clock) (c .n) front (octet * c .n)
+  pub length-is : LengthOf (c .rate) (c .n) (c .length)
+  pub only : c ≡ toldComing (c .rate) (c .length) (c .clock) (c .n) front (octet * c .n)
   pub there : c .used ≤ length chips
   pub part-is : (part : List ℕ) → Handed c chips part → part ≡ take (c .used - front) (drop front chips)
 
@@ -137,15 +137,14 @@ FrontOnly =
 abbrev pub SentTold : Type 0
 SentTold =
     (kind rate phase clock : ℕ) (payload : List ℕ) (w : Written) (chips : List ℕ)
-    (s : Sent kind rate phase clock payload w chips) (tail : List ℕ) (c : Coming)
-    → ReadFront kind (take (s .sendable .front) chips ++ tail) c
+    (s : Sent kind rate phase clock payload w chips) (l : ℕ) → LengthOf rate (length payload) l
+    → (tail : List ℕ) (c : Coming) → ReadFront kind (take (s .sendable .front) chips ++ tail) c
     → (s .sendable .octet * length payload ≤ length tail
-    → (c ≡ toldComing rate (lengthField (rateOf rate) (length payload)) (shown clock) (length payload)
-    (s .sendable .front) (s .sendable .octet * length payload))
+    → (c
+    ≡ toldComing rate l (shown clock) (length payload) (s .sendable .front) (s .sendable .octet * length payload))
     × ((part : List ℕ) → Handed c (take (s .sendable .front) chips ++ tail) part
     → part ≡ take (s .sendable .octet * length payload) tail))
-    × (length tail < s .sendable .octet * length payload
-    → c ≡ refusedComing 16 0 (lengthField (rateOf rate) (length payload)))
+    × (length tail < s .sendable .octet * length payload → c ≡ refusedComing 16 0 l)
 
 -- promise: A part, for any record and any recording: those chips, or none where the recording does not have them
 -- rule: 6.15

@@ -6,7 +6,7 @@ use Prim.Native.Nat.{ℕ, _+_, _*_, _≤_, _<_}
 use mathlib.Core.Path.{_≡_}
 use mathlib.Core.List.{List, _++_}
 use lib.ListN.{length, take, drop}
-use Rattle.rates.specs.Rates.{rateOf, lengthField}
+use Rattle.rates.specs.Plain.{LengthOf}
 use Rattle.calls.specs.declared.Written.{Written}
 use Rattle.calls.specs.declared.Record.{Record}
 use Rattle.coming.specs.declared.Coming.{Coming}
@@ -88,7 +88,7 @@ pub record WhenFound (kind offsets : ℕ) (chips : List ℕ) (f : Found) : Type 
   pub goes : Goes kind (f .rate) front octet
   pub some : 1 ≤ f .n
   pub few : f .n ≤ 4095
-  pub length-is : f .length ≡ lengthField (rateOf (f .rate)) (f .n)
+  pub length-is : LengthOf (f .rate) (f .n) (f .length)
   pub clock-is : f .clock < 2
   pub below : f .offset < offsets
   pub there : f .offset + front ≤ length chips
@@ -141,13 +141,11 @@ NoneFound =
 abbrev pub SentFound : Type 0
 SentFound =
     (kind rate phase clock : ℕ) (payload : List ℕ) (w : Written) (chips : List ℕ)
-    (s : Sent kind rate phase clock payload w chips) (before tail : List ℕ) (offsets : ℕ) (f : Found)
-    → length before < offsets → offsets ≤ 4096
+    (s : Sent kind rate phase clock payload w chips) (l : ℕ) → LengthOf rate (length payload) l
+    → (before tail : List ℕ) (offsets : ℕ) (f : Found) → length before < offsets → offsets ≤ 4096
     → Finds kind offsets (before ++ (take (s .sendable .front) chips ++ tail)) f
     → (f .number ≡ 0) × (f .offset ≤ length before)
-    × (f .offset ≡ length before
-    → f
-    ≡ startFound (length before) rate (lengthField (rateOf rate) (length payload)) (shown clock) (length payload))
+    × (f .offset ≡ length before → f ≡ startFound (length before) rate l (shown clock) (length payload))
 
 -- promise: The contract of a search allows exactly one answer for each input
 -- rule: 9.2

@@ -9,7 +9,7 @@ use lib.ListN.{length}
 use lib.IntN.{ℤ}
 use lib.Ieee.{Float}
 use Rattle.base.specs.Below.{Below}
-use Rattle.rates.specs.Rates.{rateOf, lengthField}
+use Rattle.rates.specs.Plain.{LengthOf}
 use Rattle.chips.specs.Chips.{Taken}
 use Rattle.calls.specs.declared.Written.{Written}
 use Rattle.calls.specs.declared.Record.{Record}
@@ -32,7 +32,7 @@ pub record Readable (kind : ℕ) (chips room : ℕ) (a : Record) : Type 0 where
   pub goes : Goes kind (a .rate) front octet
   pub some : 1 ≤ a .n
   pub few : a .n ≤ 4095
-  pub length-is : a .length ≡ lengthField (rateOf (a .rate)) (a .n)
+  pub length-is : LengthOf (a .rate) (a .n) (a .length)
   pub used-is : a .used ≡ front + octet * a .n
   pub there : a .used ≤ chips
   pub fits : a .n ≤ room

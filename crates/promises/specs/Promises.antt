@@ -13,7 +13,8 @@ use lib.ListN.{length, take, drop, replicate}
 use lib.Dec.{T}
 use lib.Ieee.{Float}
 use Rattle.base.specs.Below.{Below}
-use Rattle.rates.specs.Rates.{rateOf, lengthField}
+use Rattle.rates.specs.Rates.{rateOf}
+use Rattle.rates.specs.Plain.{LengthOf}
 use Rattle.chips.specs.Floats.{usable, valueOf, countOf, Nearest}
 use Rattle.chips.specs.Chips.{Taken}
 use Rattle.calls.specs.declared.Written.{Written}
@@ -33,6 +34,7 @@ use Rattle.promises.specs.Only.{
   SevenOnly,
   NoByteUnusable,
 }
+use Rattle.promises.specs.Refusing.{WriteAnswers}
 use Rattle.promises.specs.Coming.{
   FrontRefused,
   RefusedAlike,
@@ -83,10 +85,6 @@ WrittenFrame =
     × (w .chips ≡ s .sendable .front + s .sendable .octet * length payload)
     × (take (w .chips) chips ≡ frame (kindOf kind) (rateOf rate) phase (clockOf clock) payload)
 
--- LENGTH of a payload
-abbrev pub lengthOf : ℕ → List ℕ → ℕ
-lengthOf rate payload = lengthField (rateOf rate) (length payload)
-
 -- promise: What was written is read back, whatever follows it, under its kind and with room: number 0, rate, LENGTH, n,
 -- chips used, clock bit, payload, and the lead of a clean frame (11,264 counts at symbol 0 at 1 and 2 Mbit/s, 8,192 at
 -- 5.5 and 4,096 at 11 at symbol 192 or 96); from hard chips, from soft rows that hold the chips as exact pairs, either
@@ -97,12 +95,10 @@ lengthOf rate payload = lengthField (rateOf rate) (length payload)
 abbrev pub ReadBack : Type 0
 ReadBack =
     (kind rate phase clock : ℕ) (payload : List ℕ) (w : Written) (chips : List ℕ)
-    → Sent kind rate phase clock payload w chips
+    → Sent kind rate phase clock payload w chips → (l : ℕ) → LengthOf rate (length payload) l
     → (after room : ℕ) (a : Record) (left : List ℕ) → ReadOf kind (take (w .chips) chips) after room a left
     → length payload ≤ room
-    → (a
-    ≡ good rate (lengthOf rate payload) (length payload) (w .chips) (shown clock) (sentLead rate)
-    (sentSymbol kind rate))
+    → (a ≡ good rate l (length payload) (w .chips) (shown clock) (sentLead rate) (sentSymbol kind rate))
     × (left ≡ payload ++ replicate (room - length payload) 0)
 
 -- promise: For any phases there are soft rows that hold them as exact pairs, with either zero for 0
@@ -120,11 +116,10 @@ SoftRows =
 abbrev pub NotReadBack : Type 0
 NotReadBack =
     (kind rate phase clock : ℕ) (payload : List ℕ) (w : Written) (chips : List ℕ)
-    (s : Sent kind rate phase clock payload w chips) (room : ℕ) (a : Record) (left : List ℕ)
-    → ((after : ℕ) → ReadOf kind (take (w .chips) chips) after room a left → room < length payload
-    → a ≡ refused 17 (lengthOf rate payload))
-    × ((j : ℕ) → ReadOf kind (take j chips) 0 room a left → s .sendable .front ≤ j → j < w .chips
-    → a ≡ refused 16 (lengthOf rate payload))
+    (s : Sent kind rate phase clock payload w chips) (l : ℕ) → LengthOf rate (length payload) l
+    → (room : ℕ) (a : Record) (left : List ℕ)
+    → ((after : ℕ) → ReadOf kind (take (w .chips) chips) after room a left → room < length payload → a ≡ refused 17 l)
+    × ((j : ℕ) → ReadOf kind (take j chips) 0 room a left → s .sendable .front ≤ j → j < w .chips → a ≡ refused 16 l)
     × ((j : ℕ) → ReadOf kind (take j chips) 0 room a left → j < s .sendable .front → a ≡ refused 8 0)
 
 -- promise: Two accepted writes of one kind that leave the same chips had the same rate, phase, clock bit and payload
@@ -158,6 +153,7 @@ OneAnswer =
 pub record Promised : Type 0 where
   pub write-fills : WriteFills
   pub read-fills : ReadFills
+  pub write-answers : WriteAnswers
   pub only-sent : OnlySent
   pub only-readable : OnlyReadable
   pub refused-shows : RefusedShows

@@ -1,3 +1,4 @@
 pub mod Facts
 pub mod Lengths
 pub mod Octets
+pub mod Plain

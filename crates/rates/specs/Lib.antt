@@ -1,1 +1,2 @@
 pub mod Rates
+pub mod Plain

@@ -2,14 +2,12 @@
 --     front-even    each growth there, by the words of two symbols
 -- Assumes nothing.
 use mathlib.Core.Path.{_≡_, refl, sym, ap, _∙_, subst}
-use mathlib.Core.Bool.{Bool, true, false, cond}
-use mathlib.Core.List.{List, [], _∷_}
+use mathlib.Core.List.{List}
 use mathlib.Core.Option.{Option, none, some}
-use Prim.Native.Nat.{ℕ, zero, suc, _+_, _%_, _<_}
+use Prim.Native.Nat.{ℕ, _+_, _%_, _<_}
 use native.Mathlib.Omega.{arith}
-use lib.Dec.{ltb, eqb}
+use lib.Dec.{ltb}
 use lib.ListN.{length, getD, take}
-use borrow.Author.Tests.{eqb-false}
 use Rattle.base.proofs.Tests.{branch}
 use Rattle.rates.specs.declared.Rate.the-variants.{One}
 use Rattle.chips.specs.Chips.{Taken}
@@ -23,37 +21,18 @@ use Rattle.calls.specs.declared.Front.{Front}
 use Rattle.calls.specs.declared.Front.the-variants.{Refused, Fields}
 use Rattle.reading.specs.Reading.{orElse, firstUnusable, firstOdd, frontOdd, frontOf, reference, preambleWords}
 use Rattle.reading.proofs.Telling.{searched}
+use Rattle.reading.proofs.First.{no-place, odd-none}
 use Rattle.reading.proofs.Sfd.{wordAt, words-length, word-here}
 
 -- ---- a search that found nothing
-not-some : {p : ℕ} → some p ≡ none → ⊥
-not-some e = let z : _≡_ {A = ℕ} 0 1 = cc in omega arith
-
 or-none : (o rest : Option ℕ) → orElse o (λ p. some p) rest ≡ none → o ≡ none
 or-none none rest e = refl
-or-none (some p) rest e = absurd (not-some e)
+or-none (some p) rest e = absurd (no-place e refl)
 
 found-none : {A : Type 0} (P : A → Type 0) (o : Option ℕ) (f : ℕ → A) (y : A) → ((p : ℕ) → P (f p))
     → (o ≡ none → (z : A) → P z) → P (orElse o f y)
 found-none P none f y h k = k refl y
 found-none P (some p) f y h k = h p
-
-all-even : (at : ℕ) (gs : List ℕ) → firstOdd at gs ≡ none → (j : ℕ) → j < length gs → getD gs j 0 % 2 ≡ 0
-unfolding firstOdd
-all-even at [] e j h = absurd (omega arith)
-all-even at (g ∷ gs) e j h = by (eqb (g % 2) 1) e (eqb-false (g % 2) 1) (all-even (at + 11) gs) j h
-  where
-    by : (b : Bool) → cond b (some at) (firstOdd (at + 11) gs) ≡ none → (b ≡ false → g % 2 ≡ 1 → ⊥)
-        → (firstOdd (at + 11) gs ≡ none → (i : ℕ) → i < length gs → getD gs i 0 % 2 ≡ 0) → (j : ℕ)
-        → j < suc (length gs) → getD (g ∷ gs) j 0 % 2 ≡ 0
-    by true e n more j h = absurd (not-some e)
-    by false e n more zero h = not-one (g % 2) (omega arith) (n refl)
-      where
-        not-one : (x : ℕ) → x < 2 → (x ≡ 1 → ⊥) → x ≡ 0
-        not-one zero a b = refl
-        not-one (suc zero) a b = absurd (b refl)
-        not-one (suc (suc x)) a b = absurd (omega arith)
-    by false e n more (suc j) h = more e j (omega arith)
 
 -- ---- the front
 module _ (k : Kind) (rec : List Taken) where
@@ -83,7 +62,7 @@ module _ (k : Kind) (rec : List Taken) where
       → grownBy (wordAt One rec n) (wordAt One rec (n + 1)) % 2 ≡ 0
   front-even t e n h =
       ap (λ (g : ℕ). g % 2) (sym grown)
-      ∙ all-even 0 growths (none-odd (subst EvenIf e front-even-if)) (n + 1) inside
+      ∙ odd-none 0 growths (none-odd (subst EvenIf e front-even-if)) (n + 1) inside
     where
       inside : n + 1 < length growths
       inside =

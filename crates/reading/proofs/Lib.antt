@@ -6,4 +6,5 @@ pub mod Places
 pub mod Local
 pub mod Leads
 pub mod Sfd
+pub mod First
 pub mod Even

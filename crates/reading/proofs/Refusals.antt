@@ -5,20 +5,16 @@
 --     payload-comes, payload-number    payloads, and that a good one had room
 -- By the tests of the definitions, followed to their ends. Assumes nothing.
 use mathlib.Core.Path.{_≡_, refl}
-use mathlib.Core.Bool.{not, _&&_}
 use mathlib.Core.List.{List}
 use mathlib.Core.Option.{some}
-use Prim.Native.Nat.{ℕ, _/_, _%_, _≤_}
+use Prim.Native.Nat.{ℕ, _≤_}
 use native.Mathlib.Omega.{arith}
-use lib.Dec.{ltb, eqb, nltb→le}
-use lib.ListN.{length, take, drop}
+use lib.Dec.{ltb, nltb→le}
+use lib.ListN.{length, take}
 use Rattle.base.proofs.Tests.{branch}
-use Rattle.rates.specs.Rates.{isCode, rateOf, lengthHolds}
 use Rattle.chips.specs.Chips.{Taken}
-use Rattle.bits.specs.Bits.{numberOf}
-use Rattle.bits.specs.Crc.{crcBits}
 use Rattle.frame.specs.declared.Kind.{Kind}
-use Rattle.frame.specs.Frame.{sfdOf, goesWith, frontChips, frameChips}
+use Rattle.frame.specs.Frame.{frontChips, frameChips}
 use Rattle.calls.specs.declared.Refusal.{Refusal}
 use Rattle.calls.specs.declared.Refusal.the-variants.{
   ShorterThanFront,
@@ -38,7 +34,18 @@ use Rattle.calls.specs.declared.Front.the-variants as front
 use Rattle.calls.specs.declared.Reading.{Reading}
 use Rattle.calls.specs.declared.Reading.the-variants as reading
 use Rattle.calls.specs.Answers.{refusalNumber}
-use Rattle.calls.specs.Headers.{serviceAllowed, sameBits, fieldsOf, headerOf}
+use Rattle.calls.specs.Headers.{ours, headerOf}
+use Rattle.calls.proofs.Accepting.{
+  signal-out,
+  service-out,
+  length-out,
+  fields-told,
+  HeaderComes,
+  sfd-other,
+  crc-other,
+  fields-behind,
+  header-comes,
+}
 use Rattle.reading.specs.Leads.{frameLeads, leastOf}
 use Rattle.reading.specs.Reading.{firstUnusable, frontOdd, frontOf, payloadOdd, wholeOf, payloadReading}
 use Rattle.reading.proofs.Payloads.{foundUnusable}
@@ -69,20 +76,16 @@ module _ (k : Kind) (rec : List Taken) where
   RefusesIf (front.Refused e) = WholeRefusal k rec e
   RefusesIf (front.Fields t) = Unit {0}
 
-  fields-refuse : (signal service l : ℕ) → FrontIf (fieldsOf k signal service l)
-  unfolding fieldsOf
-  fields-refuse signal service l =
-      let r = rateOf signal in
-      branch FrontIf (not (isCode signal && goesWith k r)) _ _ (no-signal l)
-      (λ a. branch FrontIf (not (serviceAllowed r service)) _ _ (no-service l)
-      (λ b. branch FrontIf (not (lengthHolds r l (service / 128 % 2))) _ _ (no-length l) (λ c. tt)))
-
-  header-refuses : (sfd header : List ℕ) → FrontIf (headerOf k sfd header)
-  unfolding headerOf
-  header-refuses sfd header =
-      branch FrontIf (not (eqb (numberOf sfd) (sfdOf k))) _ _ sfd-differs
-      (λ a. branch FrontIf (not (sameBits (crcBits (take 32 header)) (drop 32 header))) _ _ crc-differs
-      (λ b. fields-refuse _ _ _))
+  header-refuses : (sfd header : List ℕ) → FrontIf (headerOf ours k sfd header)
+  header-refuses sfd header = go (header-comes ours k sfd header)
+    where
+      go : {f : Front} → HeaderComes ours k sfd header f → FrontIf f
+      go (sfd-other s) = sfd-differs
+      go (crc-other s c) = crc-differs
+      go (fields-behind s c (signal-out a)) = no-signal _
+      go (fields-behind s c (service-out a b)) = no-service _
+      go (fields-behind s c (length-out a b d)) = no-length _
+      go (fields-behind s c (fields-told t h)) = tt
 
   pub front-refuses : FrontIf (frontOf k rec)
   unfolding frontOf

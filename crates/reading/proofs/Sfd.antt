@@ -30,7 +30,7 @@ use Rattle.calls.specs.declared.Refusal.the-variants.{Unusable, OddGrowth}
 use Rattle.calls.specs.declared.Told.{Told}
 use Rattle.calls.specs.declared.Front.{Front}
 use Rattle.calls.specs.declared.Front.the-variants.{Refused, Fields}
-use Rattle.calls.specs.Headers.{headerOf}
+use Rattle.calls.specs.Headers.{ours, headerOf}
 use Rattle.calls.proofs.HeaderOnly.{HeaderSends, header-only}
 use Rattle.reading.specs.Reading.{
   decidedWords,
@@ -70,8 +70,8 @@ module _ (k : Kind) (rec : List Taken) where
   SfdIf (Refused e) = Unit {0}
   SfdIf (Fields t) = numberOf sfd ≡ sfdOf k
 
-  header-sfd : (header : List ℕ) → SfdIf (headerOf k sfd header)
-  header-sfd header = go (headerOf k sfd header) (header-only k sfd header)
+  header-sfd : (header : List ℕ) → SfdIf (headerOf ours k sfd header)
+  header-sfd header = go (headerOf ours k sfd header) (header-only k sfd header)
     where
       go : (f : Front) → HeaderSends k sfd header f → SfdIf f
       go (Refused e) h = tt

@@ -17,7 +17,7 @@ use Rattle.calls.specs.declared.Refusal.the-variants.{Unusable, OddGrowth}
 use Rattle.calls.specs.declared.Told.{Told}
 use Rattle.calls.specs.declared.Front.{Front}
 use Rattle.calls.specs.declared.Front.the-variants.{Refused, Fields}
-use Rattle.calls.specs.Headers.{headerOf}
+use Rattle.calls.specs.Headers.{ours, headerOf}
 use Rattle.calls.proofs.HeaderOnly.{HeaderSends, header-only}
 use Rattle.reading.specs.Reading.{orElse, firstUnusable, frontOdd, frontOf, wholeOf}
 
@@ -37,8 +37,8 @@ abbrev pub TellingIf : Kind → Front → Type 0
 TellingIf k (Refused e) = Unit {0}
 TellingIf k (Fields t) = Telling k t
 
-header-telling : (k : Kind) (sfd header : List ℕ) → TellingIf k (headerOf k sfd header)
-header-telling k sfd header = go (headerOf k sfd header) (header-only k sfd header)
+header-telling : (k : Kind) (sfd header : List ℕ) → TellingIf k (headerOf ours k sfd header)
+header-telling k sfd header = go (headerOf ours k sfd header) (header-only k sfd header)
   where
     go : (f : Front) → HeaderSends k sfd header f → TellingIf k f
     go (Refused e) h = tt

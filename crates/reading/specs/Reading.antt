@@ -31,7 +31,7 @@ use Rattle.calls.specs.declared.Front.{Front}
 use Rattle.calls.specs.declared.Front.the-variants as front
 use Rattle.calls.specs.declared.Reading.{Reading}
 use Rattle.calls.specs.declared.Reading.the-variants as reading
-use Rattle.calls.specs.Headers.{headerOf}
+use Rattle.calls.specs.Headers.{ours, headerOf}
 use Rattle.reading.specs.Leads.{frameLeads, leastOf}
 use Rattle.frame.specs.Frame.{
   isKind,
@@ -118,7 +118,7 @@ frontOf k rec =
     cond (ltb (length rec) (frontChips k)) (front.Refused ShorterThanFront)
     (orElse (firstUnusable 0 (take (frontChips k) rec)) (λ place. front.Refused (Unusable place 0))
     (orElse (frontOdd k rec) (λ place. front.Refused (OddGrowth place 0))
-    (headerOf k (take 16 (drop (syncBits k) (frontBits k rec))) (drop (preambleLength k) (frontBits k rec)))))
+    (headerOf ours k (take 16 (drop (syncBits k) (frontBits k rec))) (drop (preambleLength k) (frontBits k rec)))))
 
 -- ---- the payload
 

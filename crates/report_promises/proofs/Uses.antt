@@ -13,6 +13,7 @@ use Rattle.chips.specs.Chips.{hardRecording}
 use Rattle.rates.specs.declared.Rate.{Rate}
 use Rattle.rates.specs.declared.Rate.the-variants.{One, Two, Five, Eleven}
 use Rattle.rates.specs.Rates.{codeOf, rateOf}
+use Rattle.rates.specs.Plain.{LengthOf}
 use Rattle.calls.specs.declared.Written.{Written}
 use Rattle.calls.specs.declared.Record.{Record}
 use Rattle.reading.specs.Reading.{octetsFound}
@@ -33,7 +34,6 @@ use Rattle.report.specs.Totals.{
 use Rattle.report.specs.Report.{entryOf, countedOf, recordings, listOf}
 use Rattle.report.specs.Text.{textOf, spelledOf, textLeft}
 use Rattle.report.proofs.Spelling.{text-most}
-use Rattle.promises.specs.Promises.{lengthOf}
 use Rattle.promises.specs.Calls.{
   ReadHard,
   good,
@@ -161,8 +161,8 @@ module _ (p : Report) (kind l n used clock lead symbol : ℕ) where
 
 -- ---- a frame that was written, behind it anything, is counted: its rate, octets, airtime and lead, and nothing else
 module _ (kind rate phase clock : ℕ) (payload : List ℕ) (w : Written) (chips : List ℕ)
-    (s : Sent kind rate phase clock payload w chips) (tail : List ℕ) (c : Counted)
-    (a : Adds empty kind (take (w .chips) chips ++ tail) c) where
+    (s : Sent kind rate phase clock payload w chips) (l : ℕ) (d : LengthOf rate (length payload) l) (tail : List ℕ)
+    (c : Counted) (a : Adds empty kind (take (w .chips) chips ++ tail) c) where
   abbrev recording : Recording
   recording = record { kind = kind; chips = take (w .chips) chips ++ tail }
 
@@ -174,8 +174,7 @@ module _ (kind rate phase clock : ℕ) (payload : List ℕ) (w : Written) (chips
       record {
         kind = kind;
         answer =
-            good rate (lengthOf rate payload) (length payload) (w .chips) (shown clock) (sentLead rate)
-            (sentSymbol kind rate);
+            good rate l (length payload) (w .chips) (shown clock) (sentLead rate) (sentSymbol kind rate);
       }
 
   read : ReadHard kind (take (w .chips) chips ++ tail) 4095 answer
@@ -185,7 +184,7 @@ module _ (kind rate phase clock : ℕ) (payload : List ℕ) (w : Written) (chips
   is-sent : outcomeOf recording ≡ sent
   is-sent =
       ap (λ (b : Record). record { kind = kind; answer = b })
-      (kept .read-back kind rate phase clock payload w chips s (length tail) 4095 answer _
+      (kept .read-back kind rate phase clock payload w chips s l d (length tail) 4095 answer _
       (of-hard tail refl read) (s .sendable .few) .0)
 
   counts : TotalsOf (sent ∷ []) (c .report)
@@ -200,10 +199,9 @@ module _ (kind rate phase clock : ℕ) (payload : List ℕ) (w : Written) (chips
   -- rule: 1.4 (2), 6.19
   -- code: dsss_write_2, dsss_report_add
   pub sent-counted : (c .number ≡ 0)
-      × OneFrame kind rate (lengthOf rate payload) (length payload) (sentLead rate) (c .report)
+      × OneFrame kind rate l (length payload) (sentLead rate) (c .report)
   sent-counted =
       let e = code-is (s .sendable .goes) in
-      let l = lengthOf rate payload in
       let n = length payload in
       let clear = sentLead rate in
       let at = sentSymbol kind rate in (

@@ -44,7 +44,7 @@ returns-3 c =
       passed (two .before .before .before .sfd-right .ensures) (two .before .if1 .left),
       passed (two .before .before .crc-right .ensures) (two .if2 .left),
     )
-    (fields-cut _ _ (six start) (octets start) _ _ (c .before .both .ensures .0) (c .fields-of .ensures))
+    (fields-cut _ _ _ (six start) (octets start) _ _ (c .before .both .ensures .0) (c .fields-of .ensures))
 
 pub header-of-spec : {M : Type 1} → statement M
 header-of-spec =
