@@ -1,6 +1,6 @@
 -- Laws of the report's text (RULES 6.20).
 --     places-one, places-more                 how many digits a number has, and one has that ten times it does
---     length-decimal, decimal-most            a number's digits are so many, and at most 20
+--     length-decimal, decimal-most, decimal-least    a number's digits are so many, at most 20, and at least one
 --     decimal-value, decimal-injective        below 10 ^ 20 the digits are those of the number, and of no other
 --     decimal-digit, decimal-front            each is one of the octets 48 to 57, and there is no zero in front
 --     rate-most, refused-most, airtime-most, lead-most, text-most    lines, and the text: 980 octets at most
@@ -30,6 +30,7 @@ use Rattle.report.specs.Text.{
   leadLine,
   textOf,
 }
+use Rattle.report.specs.Said.{valueFrom, IsDigit}
 use Rattle.report.proofs.TextFacts.{code-digits}
 
 -- ---- how many digits
@@ -68,12 +69,10 @@ length-decimal n = length-digits (places 19 n) n
 pub decimal-most : (n : ℕ) → length (decimal n) ≤ 20
 decimal-most n = rw (length-decimal n) (places-most 19 n)
 
--- ---- what number the digits are of
+pub decimal-least : (n : ℕ) → 1 ≤ length (decimal n)
+decimal-least n = rw (length-decimal n) (places-least 19 n)
 
--- a number read from its digits, the highest first, behind those read before
-unfoldable pub valueFrom : ℕ → List ℕ → ℕ
-valueFrom before [] = before
-valueFrom before (d ∷ ds) = valueFrom (10 * before + (d - 48)) ds
+-- ---- what number the digits are of
 
 value-more : (before d : ℕ) (ds : List ℕ) → valueFrom before (ds ++ (d ∷ []))
     ≡ 10 * valueFrom before ds + (d - 48)
@@ -107,9 +106,6 @@ pub decimal-injective : (n m : ℕ) → n < 10 ^ 20 → m < 10 ^ 20 → decimal 
 decimal-injective n m h k e = sym (decimal-value n h) ∙ ap (valueFrom 0) e ∙ decimal-value m k
 
 -- ---- which octets they are
-
-abbrev pub IsDigit : ℕ → Type 0
-IsDigit d = (48 ≤ d) × (d ≤ 57)
 
 digits-digit : (k n i : ℕ) → i < k → IsDigit (getD (digits k n) i 0)
 unfolding digits
