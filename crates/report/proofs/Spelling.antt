@@ -3,6 +3,7 @@
 --     length-decimal, decimal-most, decimal-least    a number's digits are so many, at most 20, and at least one
 --     decimal-value, decimal-injective        below 10 ^ 20 the digits are those of the number, and of no other
 --     decimal-digit, decimal-front            each is one of the octets 48 to 57, and there is no zero in front
+--     spelled-whole, spelled-refused          what the call answers and leaves, with room for the text and without
 --     rate-most, refused-most, airtime-most, lead-most, text-most    lines, and the text: 980 octets at most
 -- Assumes nothing.
 use mathlib.Core.Path.{_≡_, refl, sym, ap, _∙_}
@@ -13,8 +14,8 @@ use native.Mathlib.Nat.{le-refl, pow-succ', not-suc-le-zero}
 use native.Mathlib.Decide.{decLt}
 use native.Mathlib.Omega.{arith}
 use lib.Dec.{eqb, ltb, lit≤}
-use lib.ListN.{length, getD, length-append, List·getD-append}
-use lib.Seq.{getD-at}
+use lib.ListN.{length, getD, replicate, length-append, List·getD-append}
+use lib.Seq.{getD-at, take-all}
 use borrow.Author.Tests.{lt-ltb, le-ltb}
 use Rattle.base.proofs.Tests.{branch}
 use Rattle.report.specs.declared.Report.{Report}
@@ -29,6 +30,8 @@ use Rattle.report.specs.Text.{
   airtimeLine,
   leadLine,
   textOf,
+  spelledOf,
+  textLeft,
 }
 use Rattle.report.specs.Said.{valueFrom, IsDigit}
 use Rattle.report.proofs.TextFacts.{code-digits}
@@ -146,6 +149,24 @@ digits-front (suc m) n z h =
 pub decimal-front : (n : ℕ) → 0 < n → n < 10 ^ 20 → 48 < getD (decimal n) 0 0
 unfolding decimal
 decimal-front n z h = digits-front 19 n z h
+
+-- ---- what the call answers and leaves
+
+pub spelled-whole : (p : Report) (room : ℕ) → length (textOf p) ≤ room
+    → (spelledOf p room ≡ record { number = 0; octets = length (textOf p) })
+    × (textLeft p room ≡ textOf p ++ replicate (room - length (textOf p)) 0)
+unfolding spelledOf textLeft
+spelled-whole p room h = (
+  rw (le-ltb room (length (textOf p)) h),
+  rw (le-ltb room (length (textOf p)) h, take-all (length (textOf p)) (textOf p) (le-refl _)),
+)
+
+pub spelled-refused : (p : Report) (room : ℕ) → room < length (textOf p)
+    → (spelledOf p room ≡ record { number = 17; octets = 0 }) × (textLeft p room ≡ replicate room 0)
+unfolding spelledOf textLeft
+spelled-refused p room h =
+    let all : room - 0 ≡ room = omega arith in
+    (rw (lt-ltb room (length (textOf p)) h), rw (lt-ltb room (length (textOf p)) h, all))
 
 -- ---- lines, and the text
 
