@@ -21,7 +21,8 @@ use Rattle.chips.specs.Chips.{
   byteExact,
   byteRecording,
 }
-use Rattle.chips.specs.Bounds.{offBy, Exact}
+use Rattle.chips.specs.Bounds.{offBy, Apart}
+use Rattle.base.proofs.Whole.{within-zero}
 use Rattle.chips.proofs.Recorders.{part-counts}
 
 -- ---- the row
@@ -79,5 +80,5 @@ exact z = ap (λ (a : ℤ). a -ℤ pos (2 ^ 143) *ℤ z) (off (2 ^ 139) z) ∙ l
 -- promise: The count of a byte is exact
 -- rule: 2.8
 -- with: byte-row, byte-table
-pub byte-exact : (x y : ℤ) → Exact (byteCounts x y) (byteExact x y)
-byte-exact x y = record { real = exact x; imag = exact y }
+pub byte-exact : (x y : ℤ) → Apart 0 (byteCounts x y) (byteExact x y)
+byte-exact x y = record { real = rw (exact x) (within-zero 0); imag = rw (exact y) (within-zero 0) }

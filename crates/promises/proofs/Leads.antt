@@ -54,14 +54,13 @@ use Rattle.reading.specs.Reading.{
 }
 use Rattle.reading.proofs.Leads.{leads-length, leads-at, LeastIs, least-is}
 use Rattle.reading.proofs.Refusals.{PayloadIf, payload-comes}
-use Rattle.promises.specs.Right.{Keeps}
+use Rattle.promises.specs.Right.{exactFrom, Keeps}
 use Rattle.promises.specs.Leads.{
   SymbolOf,
   of-preamble,
   of-header,
   of-payload,
   countsFrom,
-  exactFrom,
   LeastIn,
   LeastTold,
   Sure,

@@ -18,13 +18,12 @@ use Rattle.promises.specs.Coming.{
   refusedComing,
   toldComing,
   FrontOf,
-  long-front,
-  short-front,
   ComesTo,
   comes-good,
   comes-9,
   comes-10,
 }
+use Rattle.promises.proofs.Coming.{long-front, short-front}
 use Rattle.promises.proofs.Kept.{kept}
 use Rattle.promises.proofs.Uses.{goes-kind, goes-1}
 

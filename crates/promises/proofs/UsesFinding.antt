@@ -35,7 +35,7 @@ use Rattle.promises.specs.Calls.{
   short-11,
   Sent,
 }
-use Rattle.promises.specs.Coming.{refusedComing, toldComing, FrontOf, long-front, short-front}
+use Rattle.promises.specs.Coming.{refusedComing, toldComing, FrontOf, front-at}
 use Rattle.promises.specs.Finding.{
   refusedFound,
   startFound,
@@ -53,6 +53,7 @@ use Rattle.promises.specs.Finding.{
   WhenFound,
   WhenNone,
 }
+use Rattle.promises.proofs.Coming.{front-of}
 use Rattle.promises.proofs.Kept.{kept}
 use Rattle.promises.proofs.UsesComing.{front-answered}
 
@@ -69,17 +70,10 @@ hard-answered kind chips room = record { answer = refl; octets = refl }
 
 -- ---- a kind has one front, and with a rate one octet
 pub front-of-kind : {kind rate front octet : ℕ} → Goes kind rate front octet → FrontOf kind front
-front-of-kind long-1 = long-front
-front-of-kind long-2 = long-front
-front-of-kind long-5 = long-front
-front-of-kind long-11 = long-front
-front-of-kind short-2 = short-front
-front-of-kind short-5 = short-front
-front-of-kind short-11 = short-front
+front-of-kind g = front-at g
 
 pub one-front : {kind front front′ : ℕ} → FrontOf kind front → FrontOf kind front′ → front ≡ front′
-one-front long-front long-front = refl
-one-front short-front short-front = refl
+one-front x y = sym (front-of x .1) ∙ front-of y .1
 
 pub one-octet : {kind rate front octet front′ octet′ : ℕ} → Goes kind rate front octet → Goes kind rate front′ octet′
     → octet ≡ octet′

@@ -34,10 +34,9 @@ use Rattle.promises.specs.Leads.{
   of-header,
   of-payload,
   countsFrom,
-  exactFrom,
   LeastIn,
 }
-use Rattle.promises.specs.Right.{exactHard, exactSoft, exactBytes}
+use Rattle.promises.specs.Right.{exactFrom, exactHard, exactSoft, exactBytes}
 use Rattle.promises.proofs.Frames.{symbol-usable, symbol-there, usable-hard, usable-soft, there-bytes}
 use Rattle.promises.proofs.Kept.{kept}
 

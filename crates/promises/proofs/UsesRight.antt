@@ -15,6 +15,7 @@ use Rattle.rates.specs.declared.Rate.the-variants.{One}
 use Rattle.rates.specs.Rates.{symbolChips, symbolBits}
 use Rattle.chips.specs.declared.Counts.{Counts}
 use Rattle.chips.specs.Floats.{steps, usable, valueOf, countOf, Nearest}
+use Rattle.chips.specs.Bounds.{Apart}
 use Rattle.chips.specs.Chips.{
   Taken,
   unusable,
@@ -27,11 +28,11 @@ use Rattle.chips.specs.Chips.{
   byteRecording,
 }
 use Rattle.symbols.specs.Choice.{numbers, isAllowed}
-use Rattle.choosing.specs.Demand3.{exactAt, Apart}
+use Rattle.choosing.specs.Demand3.{exactAt}
 use Rattle.frame.specs.declared.Kind.{Kind}
 use Rattle.frame.specs.Frame.{headerRate, headerLength, preambleChips, frontChips, frameChips, preambleLength}
 use Rattle.reading.specs.Reading.{preambleWords, headerWords, payloadWords}
-use Rattle.promises.specs.Right.{exactSymbol, EachRight, exactHard, exactSoft, exactBytes}
+use Rattle.promises.specs.Right.{exactFrom, EachRight, exactHard, exactSoft, exactBytes}
 use Rattle.promises.proofs.Kept.{kept}
 
 pub exact-hard : exactHard (0 ∷ 1 ∷ 2 ∷ 3 ∷ 4 ∷ [])
@@ -92,7 +93,7 @@ module _ (k : Kind) (r : Rate) (n j : ℕ) (i q : List Float) (h : j < 8 * n / s
   word = getD (payloadWords k r n (softRecording i q)) j 0
 
   abbrev exactly : ℕ → ℤ
-  exactly = exactAt r (exactSymbol r (frontChips k) j (exactSoft i q))
+  exactly = exactAt r (exactFrom r (frontChips k + j * symbolChips r) (exactSoft i q))
 
   abbrev error : ℤ
   error = pos (symbolChips r * (2 * 2 ^ 138))

@@ -127,14 +127,17 @@ shown zero = 0
 shown (suc clock) = 1
 
 -- the smallest lead of a frame as it was sent, in counts, and the first symbol that has it: 11 full chips at 1 and 2
--- Mbit/s, the frame's first; 8 at 5.5 and 4 at 11 Mbit/s, the payload's first
+-- Mbit/s, the frame's first; 8 at 5.5 and 4 at 11 Mbit/s, the payload's first. In plain numbers, and the rates by their
+-- codes: a promise must not cite the definition (`cleanLeast` of `clean`); `lead-is` of proofs/Back.antt joins the two
 abbrev pub sentLead : ℕ → ℕ
 sentLead rate = cond (eqb rate 110) 4096 (cond (eqb rate 55) 8192 11264)
 
 abbrev pub sentSymbol : ℕ → ℕ → ℕ
 sentSymbol kind rate = cond (eqb rate 110 || eqb rate 55) (cond (eqb kind 0) 192 96) 0
 
--- the kinds and the rates that go with them, each with the chips of its front and of an octet
+-- the kinds and the rates that go with them, each with the chips of its front and of an octet: a table in plain
+-- numbers, which no definition that a reader or a writer computes by may stand for; `known` of proofs/Back.antt joins
+-- it to those
 pub data Goes : ℕ → ℕ → ℕ → ℕ → Type 0 where
   long-1 : Goes 0 10 2112 88
   long-2 : Goes 0 20 2112 44

@@ -42,10 +42,9 @@ toldComing rate l clock n front count =
       count = count;
     }
 
--- the chips of a kind's front
-pub data FrontOf : ℕ → ℕ → Type 0 where
-  long-front : FrontOf 0 2112
-  short-front : FrontOf 1 1056
+-- the chips of a kind's front, whatever rate goes with it
+pub data FrontOf (kind front : ℕ) : Type 0 where
+  front-at : {rate octet : ℕ} → Goes kind rate front octet → FrontOf kind front
 
 -- ---- a refusal is 1 where the kind is none, and only there; else it is 8 to 16, and a place lies in the front. All
 -- else is 0, and the part is empty

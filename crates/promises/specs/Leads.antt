@@ -30,7 +30,7 @@ use Rattle.frame.specs.Frame.{
 use Rattle.calls.specs.declared.Record.{Record}
 use Rattle.reading.specs.Reading.{preambleWords, headerWords, payloadWords}
 use Rattle.promises.specs.Calls.{Read}
-use Rattle.promises.specs.Right.{exactHard, exactSoft, exactBytes}
+use Rattle.promises.specs.Right.{exactFrom, exactHard, exactSoft, exactBytes}
 
 -- the symbols of a frame of n octets: each has a number, from 0 at the frame's first, a rate, the place of its first
 -- chip, and the word that reading has there
@@ -43,12 +43,9 @@ pub data SymbolOf (k : Kind) (r : Rate) (n : ℕ) (rec : List Taken) : ℕ → R
   of-payload : (j : ℕ) → j < 8 * n / symbolBits r
       → SymbolOf k r n rec (frontSymbols k + j) r (frontChips k + j * symbolChips r) (getD (payloadWords k r n rec) j 0)
 
--- the counts, and the exact values, of the chips of a symbol of a rate that starts at a place
+-- the counts of the chips of a symbol of a rate that starts at a place
 abbrev pub countsFrom : Rate → ℕ → List Taken → List Counts
 countsFrom q at rec = map takenCounts (take (symbolChips q) (drop at rec))
-
-abbrev pub exactFrom : Rate → ℕ → List Counts → List Counts
-exactFrom q at exact = take (symbolChips q) (drop at exact)
 
 -- a symbol's word leads the other allowed words by at least so much; if it stands before the symbol told, by more
 pub record LeadsEnough (lead symbol s : ℕ) (q : Rate) (cs : List Counts) (w : ℕ) : Type 0 where

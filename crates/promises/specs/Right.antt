@@ -30,20 +30,22 @@ use Rattle.chips.specs.Chips.{
   byteExact,
   byteRecording,
 }
-use Rattle.choosing.specs.Demand3.{RightUpTo, Apart}
+use Rattle.chips.specs.Bounds.{Apart}
+use Rattle.choosing.specs.Demand3.{RightUpTo}
 use Rattle.frame.specs.declared.Kind.{Kind}
 use Rattle.frame.specs.Frame.{headerRate, frontChips, frameChips, preambleLength, headerLength, preambleChips}
 use Rattle.reading.specs.Reading.{preambleWords, headerWords, payloadWords}
 use Rattle.clean.specs.Clean.{sampleOf}
 
--- the exact values of the chips of the j-th symbol of a part that starts at place `at`
-abbrev pub exactSymbol : Rate → ℕ → ℕ → List Counts → List Counts
-exactSymbol r at j exact = take (symbolChips r) (drop (at + j * symbolChips r) exact)
+-- the exact values of the chips of a symbol of a rate that starts at a place
+abbrev pub exactFrom : Rate → ℕ → List Counts → List Counts
+exactFrom q at exact = take (symbolChips q) (drop at exact)
 
 -- each of m words of a part that starts at place `at` is right
 abbrev pub EachRight : ℕ → Rate → ℕ → ℕ → List ℕ → List Counts → Type 0
 EachRight half r m at words exact =
-    (j : ℕ) → j < m → RightUpTo (symbolChips r * (2 * half)) r (exactSymbol r at j exact) (getD words j 0)
+    (j : ℕ) → j < m → RightUpTo (symbolChips r * (2 * half)) r (exactFrom r (at + j * symbolChips r) exact)
+    (getD words j 0)
 
 -- wherever the chips of a part are good ones, each word of the very lists that reading takes its growths and bits from
 pub record WholeRight (half : ℕ) (good : ℕ → Type 0) (exact : List Counts) (rec : List Taken) : Type 0 where

@@ -11,10 +11,11 @@ use Rattle.report.specs.declared.Report.{Report}
 use Rattle.report.specs.declared.Counted.{Counted}
 use Rattle.report.specs.declared.Spelled.{Spelled}
 use Rattle.report.specs.Totals.{Recording, Outcome, framesAt, octetsAt, refusedWith, airtimeOf}
-use Rattle.report.specs.Report.{Within, recordings}
+use Rattle.report.specs.Report.{empty, Limits, recordings}
 use Rattle.report.specs.Text.{textOf}
+use Rattle.report.specs.Said.{TextSaid, Fits}
 use Rattle.promises.specs.Calls.{refused}
-use Rattle.report_promises.specs.Calls.{Adds, Lists, Spells, empty, Kept, Readings}
+use Rattle.report_promises.specs.Calls.{Adds, Lists, Spells, Kept, Readings}
 
 -- ---- the smallest lead
 
@@ -76,8 +77,8 @@ KeptAnswers =
 abbrev pub AnyReport : Type 0
 AnyReport =
     (p : Report) (kind : ℕ) (chips : List ℕ) (c : Counted) → Adds p kind chips c
-    → (Within p → (c .number ≡ 0) × (c .report .seen ≡ p .seen + 1))
-    × ((Within p → ⊥) → c ≡ record { number = 31; report = p })
+    → (Limits p → (c .number ≡ 0) × (c .report .seen ≡ p .seen + 1))
+    × ((Limits p → ⊥) → c ≡ record { number = 31; report = p })
 
 -- promise: A whole list gives what calls one after the other give, 0 up to 1,000 recordings and 31 above; 7 and all
 -- zeros where there are not as many kinds
@@ -106,6 +107,16 @@ TextFills =
     × (room < length (textOf p) → (s ≡ record { number = 17; octets = 0 }) × (left ≡ replicate room 0))
     × (980 ≤ room → s .number ≡ 0)
 
+-- promise: The text says each line's words and the report's numbers by their decimal digits, for every report of numbers
+-- of 64 bits
+-- rule: 6.20
+-- code: dsss_report_text
+-- with: TextSaid
+abbrev pub TextSays : Type 0
+TextSays =
+    (p : Report) (room : ℕ) (s : Spelled) (left : List ℕ) → Spells p room s left → Fits p → s .number ≡ 0
+    → TextSaid p (take (s .octets) left)
+
 -- promise: The contracts of the report's calls allow exactly one answer for each input, and one final text buffer
 -- rule: 9.2
 -- code: dsss_report_add, dsss_report_list, dsss_report_text
@@ -124,4 +135,5 @@ pub record ReportPromised : Type 0 where
   pub any-report : AnyReport
   pub list-alike : ListAlike
   pub text-fills : TextFills
+  pub text-says : TextSays
   pub one-report : OneReport
