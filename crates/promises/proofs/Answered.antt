@@ -1,66 +1,15 @@
 -- Facts: answers that the reader of bytes, that of soft rows that differ, that of fronts and the search for a start may
 -- give, computed from their contracts. 1 before 7, 7 before 8; 1 before 18, 18 before 19; chips and places counted in
--- pairs of bytes. The frame is the short one that carries 3Dh at 11 Mbit/s with the clock bit set: 1,056 + 8 chips.
--- Assumes nothing.
+-- pairs of bytes. The frame is that of `Computed`: 1,056 + 8 chips. Assumes nothing.
 use mathlib.Core.Path.{_≡_, refl, _∙_}
-use mathlib.Core.Bool.{true}
-use mathlib.Core.List.{List, [], _∷_, _++_, map}
-use Prim.Native.Nat.{ℕ, _+_, _%_}
-use lib.ListN.{take, drop, replicate}
+use mathlib.Core.List.{List, [], _∷_, _++_}
+use Prim.Native.Nat.{ℕ, _+_}
+use lib.ListN.{length, take, replicate}
 use lib.IntN.{ℤ, pos, negℤ}
 use lib.Ieee.{nan}
-use Rattle.rates.specs.declared.Rate.the-variants.{Eleven}
 use Rattle.chips.specs.Chips.{hardRecording, byteRecording}
-use Rattle.symbols.specs.Words.{barkerWord, cckWord}
-use Rattle.symbols.specs.Choice.{score, those, going, firstLargest, decided, others, leadOf}
-use Rattle.bits.specs.Bits.{bitsOf, octetBits, numberOf, octetsOf}
-use Rattle.bits.specs.Growths.{
-  growth,
-  symbolOf,
-  symbolsFrom,
-  symbolsOf,
-  chipsFrom,
-  lastPhase,
-  heardBits,
-  heard,
-  growthsOf,
-  lastHeard,
-}
-use Rattle.bits.specs.Scrambler.{mixed, scramble, descramble}
-use Rattle.bits.specs.Crc.{addWhere, crcStep, remainder, crcBits}
-use Rattle.frame.specs.declared.Kind.the-variants.{Short}
-use Rattle.frame.specs.Frame.{
-  preambleBits,
-  fieldBits,
-  headerBits,
-  sentHeader,
-  frameBits,
-  sentBits,
-  partsChips,
-  framed,
-  frame,
-}
 use Rattle.calls.specs.declared.Record.{Record}
-use Rattle.calls.specs.Headers.{sameBits, fieldsOf, headerOf}
-use Rattle.reading.specs.Leads.{decidedLeads, frontLeads, payloadLeads, leastFrom, leastOf}
-use Rattle.reading.specs.Reading.{
-  firstUnusable,
-  firstOdd,
-  decidedWords,
-  preambleWords,
-  headerWords,
-  reference,
-  headerPhase,
-  payloadPhase,
-  frontOdd,
-  frontHeard,
-  frontBits,
-  frontOf,
-  payloadWords,
-  payloadOdd,
-  payloadReading,
-  readingOf,
-}
+use Rattle.reading.specs.Reading.{frontOf, readingOf}
 use Rattle.clean.specs.Clean.{byteRow}
 use Rattle.coming.specs.declared.Coming.{Coming}
 use Rattle.coming.specs.Coming.{frontReading}
@@ -69,6 +18,17 @@ use Rattle.finding.specs.Finding.{firstStart, findingOf}
 use Rattle.promises.specs.Calls.{ReadSoft, ReadBytes, ReadFront, Finds, good, refused}
 use Rattle.promises.specs.Coming.{refusedComing, toldComing}
 use Rattle.promises.specs.Finding.{refusedFound}
+use Rattle.promises.proofs.Computed.{
+  Comes,
+  Fronts,
+  short,
+  turned,
+  read-back-is,
+  cut-in-front-is,
+  place-of-ten-is,
+  front-told-is,
+  front-cut-is,
+}
 
 -- what every answer to a row of bytes is
 abbrev pub Answers : ℕ → List ℤ → Record → Type 0
@@ -103,44 +63,27 @@ pub longer-i : (a : Record) (left : List ℕ) → ReadSoft 0 (nan ∷ []) [] 4 a
 unfolding readingOf
 longer-i a left r = r .answer ∙ refl
 
--- ---- a frame, one chip short of its front, and with its second symbol turned by 1
-pub short : List ℕ
-short = frame Short Eleven 0 true (0x3D ∷ [])
-
-pub turned : List ℕ
-turned = take 11 short ++ map (λ p. (p + 1) % 4) (take 11 (drop 11 short)) ++ drop 22 short
+-- ---- a frame, one chip short of its front, and with its second symbol turned by 1: long rows, whose readings are
+-- computed in `Computed`, apart from the contract
+answered : (kind : ℕ) (bytes : List ℤ) {answer : Record} → Comes kind bytes answer → Answers kind bytes answer
+answered kind bytes e a left r = r .answer ∙ e
 
 pub read-back : Answers 1 (byteRow short) (good 110 1 1 1064 1 4096 96)
-unfolding
-    short byteRow byteRecording barkerWord cckWord bitsOf octetBits growth symbolOf symbolsFrom symbolsOf
-    chipsFrom lastPhase mixed scramble addWhere crcStep remainder crcBits preambleBits fieldBits headerBits sentHeader
-    frameBits sentBits partsChips framed frame score those going firstLargest decided others leadOf decidedLeads
-    frontLeads payloadLeads leastFrom leastOf numberOf octetsOf heardBits heard
-    growthsOf lastHeard descramble sameBits fieldsOf headerOf firstUnusable firstOdd decidedWords preambleWords
-    headerWords reference headerPhase payloadPhase frontOdd frontHeard frontBits frontOf payloadWords payloadOdd
-    payloadReading readingOf
-read-back a left r = r .answer ∙ refl
+read-back = answered 1 (byteRow short) read-back-is
 
 pub cut-in-front : Answers 1 (byteRow (take 1055 short)) (refused 8 0)
-unfolding
-    short byteRow byteRecording barkerWord cckWord bitsOf octetBits growth symbolOf symbolsFrom symbolsOf
-    chipsFrom lastPhase mixed scramble addWhere crcStep remainder crcBits preambleBits fieldBits headerBits sentHeader
-    frameBits sentBits partsChips framed frame frontOf readingOf
-cut-in-front a left r = r .answer ∙ refl
+cut-in-front = answered 1 (byteRow (take 1055 short)) cut-in-front-is
 
 pub place-of-ten : Answers 1 (byteRow turned)
     (record { number = 10; place = 11; rate = 0; length = 0; n = 0; used = 0; clock = 0; lead = 0; symbol = 0 })
-unfolding
-    short turned byteRow byteRecording barkerWord cckWord bitsOf octetBits growth symbolOf symbolsFrom symbolsOf
-    chipsFrom lastPhase mixed scramble addWhere crcStep remainder crcBits preambleBits fieldBits headerBits sentHeader
-    frameBits sentBits partsChips framed frame score those going firstLargest decided heardBits heard growthsOf
-    lastHeard firstUnusable firstOdd decidedWords preambleWords headerWords reference headerPhase frontOdd frontOf
-    readingOf
-place-of-ten a left r = r .answer ∙ refl
+place-of-ten = answered 1 (byteRow turned) place-of-ten-is
 
 -- ---- what is coming: 1 before 8, a frame told by its front whatever its payload's chips are, and without them 16
 abbrev pub Tells : ℕ → List ℕ → Coming → Type 0
 Tells kind chips answer = (c : Coming) → ReadFront kind chips c → c ≡ answer
+
+told : (kind : ℕ) (chips : List ℕ) {answer : Coming} → Fronts kind chips answer → Tells kind chips answer
+told kind chips e c r = r .answer ∙ e
 
 pub front-no-kind : Tells 2 [] (refusedComing 1 0 0)
 unfolding frontReading
@@ -151,22 +94,10 @@ unfolding frontReading frontOf hardRecording
 front-none c r = r .answer ∙ refl
 
 pub front-told : Tells 1 (take 1056 short ++ replicate 9 9) (toldComing 110 1 1 1 1056 8)
-unfolding
-    short hardRecording barkerWord cckWord bitsOf octetBits growth symbolOf symbolsFrom symbolsOf
-    chipsFrom lastPhase mixed scramble addWhere crcStep remainder crcBits preambleBits fieldBits headerBits sentHeader
-    frameBits sentBits partsChips framed frame score those going firstLargest decided numberOf heardBits heard
-    growthsOf lastHeard descramble sameBits fieldsOf headerOf firstUnusable firstOdd decidedWords preambleWords
-    headerWords reference headerPhase frontOdd frontHeard frontBits frontOf frontReading
-front-told c r = r .answer ∙ refl
+front-told = told 1 (take 1056 short ++ replicate 9 9) front-told-is
 
 pub front-cut : Tells 1 (take 1063 short) (refusedComing 16 0 1)
-unfolding
-    short hardRecording barkerWord cckWord bitsOf octetBits growth symbolOf symbolsFrom symbolsOf
-    chipsFrom lastPhase mixed scramble addWhere crcStep remainder crcBits preambleBits fieldBits headerBits sentHeader
-    frameBits sentBits partsChips framed frame score those going firstLargest decided numberOf heardBits heard
-    growthsOf lastHeard descramble sameBits fieldsOf headerOf firstUnusable firstOdd decidedWords preambleWords
-    headerWords reference headerPhase frontOdd frontHeard frontBits frontOf frontReading
-front-cut c r = r .answer ∙ refl
+front-cut = told 1 (take 1063 short) front-cut-is
 
 -- ---- a start looked for where there is no chip: 1 before 18, 18 before 19, at both ends of the offsets
 abbrev pub Searches : ℕ → ℕ → ℕ → Type 0

@@ -11,6 +11,7 @@ pub mod SentFound
 pub mod Right
 pub mod Leads
 pub mod Frames
+pub mod Computed
 pub mod Answered
 pub mod Kept
 pub mod Uses

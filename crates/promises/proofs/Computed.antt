@@ -1,0 +1,133 @@
+-- Whole readings and fronts, computed from the definitions alone: no statement of this crate is looked at here, so an
+-- edit of one computes none of them. `Answered` joins them to the contracts. The frame is the short one that carries 3Dh
+-- at 11 Mbit/s with the clock bit set: 1,056 + 8 chips. Assumes nothing.
+use mathlib.Core.Path.{_≡_, refl}
+use mathlib.Core.Bool.{true}
+use mathlib.Core.List.{List, [], _∷_, _++_, map}
+use Prim.Native.Nat.{ℕ, _+_, _%_}
+use lib.Dec.{eqb}
+use lib.ListN.{length, take, drop, replicate}
+use lib.IntN.{ℤ}
+use Rattle.rates.specs.declared.Rate.the-variants.{Eleven}
+use Rattle.chips.specs.Chips.{hardRecording, byteRecording}
+use Rattle.symbols.specs.Words.{barkerWord, cckWord}
+use Rattle.symbols.specs.Choice.{score, those, going, firstLargest, decided, others, leadOf}
+use Rattle.bits.specs.Bits.{bitsOf, octetBits, numberOf, octetsOf}
+use Rattle.bits.specs.Growths.{
+  growth,
+  symbolOf,
+  symbolsFrom,
+  symbolsOf,
+  chipsFrom,
+  lastPhase,
+  heardBits,
+  heard,
+  growthsOf,
+  lastHeard,
+}
+use Rattle.bits.specs.Scrambler.{mixed, scramble, descramble}
+use Rattle.bits.specs.Crc.{addWhere, crcStep, remainder, crcBits}
+use Rattle.frame.specs.declared.Kind.the-variants.{Short}
+use Rattle.frame.specs.Frame.{
+  kindOf,
+  preambleBits,
+  fieldBits,
+  headerBits,
+  sentHeader,
+  frameBits,
+  sentBits,
+  partsChips,
+  framed,
+  frame,
+}
+use Rattle.calls.specs.declared.Record.{Record}
+use Rattle.calls.specs.Answers.{recordOf}
+use Rattle.calls.specs.Headers.{sameBits, fieldsOf, headerOf}
+use Rattle.reading.specs.Leads.{decidedLeads, frontLeads, payloadLeads, leastFrom, leastOf}
+use Rattle.reading.specs.Reading.{
+  firstUnusable,
+  firstOdd,
+  decidedWords,
+  preambleWords,
+  headerWords,
+  reference,
+  headerPhase,
+  payloadPhase,
+  frontOdd,
+  frontHeard,
+  frontBits,
+  frontOf,
+  payloadWords,
+  payloadOdd,
+  payloadReading,
+  readingOf,
+}
+use Rattle.clean.specs.Clean.{byteRow}
+use Rattle.coming.specs.declared.Coming.{Coming}
+use Rattle.coming.specs.Coming.{frontReading, comingOf}
+
+-- what a reading of a row of bytes with room for four octets comes to, and what a front of hard chips does
+abbrev pub Comes : ℕ → List ℤ → Record → Type 0
+Comes kind bytes answer = recordOf (readingOf kind (eqb (length bytes % 2) 0) (byteRecording bytes) 4) ≡ answer
+
+abbrev pub Fronts : ℕ → List ℕ → Coming → Type 0
+Fronts kind chips answer = comingOf (kindOf kind) (frontReading kind (hardRecording chips)) ≡ answer
+
+-- the frame; with its second symbol turned by 1
+pub short : List ℕ
+short = frame Short Eleven 0 true (0x3D ∷ [])
+
+pub turned : List ℕ
+turned = take 11 short ++ map (λ p. (p + 1) % 4) (take 11 (drop 11 short)) ++ drop 22 short
+
+-- read back; one chip short of its front; turned, and refused at the second symbol
+pub read-back-is : Comes 1 (byteRow short)
+    (record { number = 0; place = 0; rate = 110; length = 1; n = 1; used = 1064; clock = 1; lead = 4096; symbol = 96 })
+unfolding
+    short byteRow byteRecording barkerWord cckWord bitsOf octetBits growth symbolOf symbolsFrom symbolsOf
+    chipsFrom lastPhase mixed scramble addWhere crcStep remainder crcBits preambleBits fieldBits headerBits sentHeader
+    frameBits sentBits partsChips framed frame score those going firstLargest decided others leadOf decidedLeads
+    frontLeads payloadLeads leastFrom leastOf numberOf octetsOf heardBits heard
+    growthsOf lastHeard descramble sameBits fieldsOf headerOf firstUnusable firstOdd decidedWords preambleWords
+    headerWords reference headerPhase payloadPhase frontOdd frontHeard frontBits frontOf payloadWords payloadOdd
+    payloadReading readingOf
+read-back-is = refl
+
+pub cut-in-front-is : Comes 1 (byteRow (take 1055 short))
+    (record { number = 8; place = 0; rate = 0; length = 0; n = 0; used = 0; clock = 0; lead = 0; symbol = 0 })
+unfolding
+    short byteRow byteRecording barkerWord cckWord bitsOf octetBits growth symbolOf symbolsFrom symbolsOf
+    chipsFrom lastPhase mixed scramble addWhere crcStep remainder crcBits preambleBits fieldBits headerBits sentHeader
+    frameBits sentBits partsChips framed frame frontOf readingOf
+cut-in-front-is = refl
+
+pub place-of-ten-is : Comes 1 (byteRow turned)
+    (record { number = 10; place = 11; rate = 0; length = 0; n = 0; used = 0; clock = 0; lead = 0; symbol = 0 })
+unfolding
+    short turned byteRow byteRecording barkerWord cckWord bitsOf octetBits growth symbolOf symbolsFrom symbolsOf
+    chipsFrom lastPhase mixed scramble addWhere crcStep remainder crcBits preambleBits fieldBits headerBits sentHeader
+    frameBits sentBits partsChips framed frame score those going firstLargest decided heardBits heard growthsOf
+    lastHeard firstUnusable firstOdd decidedWords preambleWords headerWords reference headerPhase frontOdd frontOf
+    readingOf
+place-of-ten-is = refl
+
+-- told by its front, whatever the chips behind it are; cut one chip short of its end
+pub front-told-is : Fronts 1 (take 1056 short ++ replicate 9 9)
+    (record { number = 0; place = 0; rate = 110; length = 1; clock = 1; n = 1; used = 1064; at = 1056; count = 8 })
+unfolding
+    short hardRecording barkerWord cckWord bitsOf octetBits growth symbolOf symbolsFrom symbolsOf
+    chipsFrom lastPhase mixed scramble addWhere crcStep remainder crcBits preambleBits fieldBits headerBits sentHeader
+    frameBits sentBits partsChips framed frame score those going firstLargest decided numberOf heardBits heard
+    growthsOf lastHeard descramble sameBits fieldsOf headerOf firstUnusable firstOdd decidedWords preambleWords
+    headerWords reference headerPhase frontOdd frontHeard frontBits frontOf frontReading
+front-told-is = refl
+
+pub front-cut-is : Fronts 1 (take 1063 short)
+    (record { number = 16; place = 0; rate = 0; length = 1; clock = 0; n = 0; used = 0; at = 0; count = 0 })
+unfolding
+    short hardRecording barkerWord cckWord bitsOf octetBits growth symbolOf symbolsFrom symbolsOf
+    chipsFrom lastPhase mixed scramble addWhere crcStep remainder crcBits preambleBits fieldBits headerBits sentHeader
+    frameBits sentBits partsChips framed frame score those going firstLargest decided numberOf heardBits heard
+    growthsOf lastHeard descramble sameBits fieldsOf headerOf firstUnusable firstOdd decidedWords preambleWords
+    headerWords reference headerPhase frontOdd frontHeard frontBits frontOf frontReading
+front-cut-is = refl
