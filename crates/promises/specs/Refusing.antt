@@ -31,7 +31,11 @@ pub data WriteAnswer (kind rate phase n room : ℕ) : ℕ → ℕ → Type 0 whe
   is-written : {front octet : ℕ} → Goes kind rate front octet → 1 ≤ n → n ≤ 4095 → phase ≤ 3
       → front + octet * n ≤ room → WriteAnswer kind rate phase n room 0 (front + octet * n)
 
--- where one of these holds it is the answer, and every answer is one of these
+-- promise: A write refuses with 1 to 6, each exactly when its rule says so and none before it holds, and tells no chips;
+-- else it answers 0 and the frame's chips
+-- rule: 1.4 (1), 6.1, 6.4, 6.11
+-- code: dsss_write_2
+-- with: WriteAnswer
 abbrev pub WriteAnswers : Type 0
 WriteAnswers =
     (kind rate phase clock : ℕ) (payload : List ℕ) (room : ℕ) (w : Written) (left : List ℕ)

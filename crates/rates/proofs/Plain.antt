@@ -29,6 +29,10 @@ use Rattle.rates.specs.Plain.{
 use Rattle.rates.proofs.Lengths.{length-holds}
 
 -- ---- LENGTH
+-- promise: LENGTH is what the rule says in plain numbers, for every number of octets, and no other number is
+-- rule: 5.10
+-- code: length_field
+-- with: length-only
 pub length-is : (r : Rate) (n : ℕ) → LengthOf (codeOf r) n (lengthField r n)
 length-is One n = length-1 n
 length-is Two n = length-2 n
@@ -51,6 +55,10 @@ seven-at : (n : ℕ) (b : Bool) → leb (8 * n + 8) (11 * lengthField Eleven n) 
 seven-at n true e = seven-much n (lengthField Eleven n) (leb-true _ _ e)
 seven-at n false e = seven-little n (lengthField Eleven n) (leb-false _ _ e)
 
+-- promise: Bit 7 is what the rule says in plain numbers, beside the LENGTH of every number of octets, and no other is
+-- rule: 5.11
+-- code: bit7
+-- with: seven-only
 pub seven-is : (r : Rate) (n : ℕ) → SevenOf (codeOf r) n (lengthField r n) (bit7 r n)
 seven-is One n = seven-no 10 n (lengthField One n) (λ e. omega arith)
 seven-is Two n = seven-no 20 n (lengthField Two n) (λ e. omega arith)

@@ -85,11 +85,11 @@ families! {
     201 written::write_short_payloads: "1 to 64 octets, all kinds, rates and phases",
     // for: Wrote.chips, framed-length
     202 written::write_long_payloads: "1,023 to 1,026 and 4,095 octets",
-    // for: Wrote.chips, lengths-eleven
+    // for: Wrote.chips, lengths-eleven, length-is, seven-is
     203 written::write_every_n: "a sweep of n at each rate; every n in the longer run, but at 1 and 2 Mbit/s",
-    // for: Wrote.answer, NoKind, NoRate, ShortRate, NoPhase, WriteFills
+    // for: Wrote.answer, NoKind, NoRate, ShortRate, NoPhase, WriteFills, WriteAnswers
     204 written::write_numbers: "kind, rate, phase, payload and buffer out of range, alone and together",
-    // for: PayloadSize, ChipRoom, WriteFills, OnlySent
+    // for: PayloadSize, ChipRoom, WriteFills, WriteAnswers, OnlySent
     205 written::write_edges: "payload of 0, 4,095 and 4,096 octets, buffers a chip short, exact and longer",
     // for: Wrote.chips, facts-clock
     206 written::write_clocks: "each of many clock numbers, at every kind, rate and phase, and beside each refusal",
@@ -227,7 +227,7 @@ families! {
     1402 report::report_lists: "whole lists of none to 16,384, of each sort, and with a kind too many or too few",
     // for: AnyReport, takesMore
     1403 report_edges::report_edges: "one recording more than any report has, at the limits of each number",
-    // for: Spells.answer, Spells.octets, TextFills, OctetRoom, decimal-value
+    // for: Spells.answer, Spells.octets, TextFills, OctetRoom, decimal-value, TextSays
     1404 report_edges::report_text: "texts of any report, with rooms about the text's octets",
 }
 
