@@ -134,18 +134,18 @@ module _ (k : Kind) (rec : List Taken) (p : ℕ) where
 
 -- whatever a front is refused with
 pub front-place : (k : Kind) (rec : List Taken) {e : Refusal} → FrontRefusal k rec e → refusalPlace e < frontChips k
-front-place k rec front-short = some-chips k
-front-place k rec (front-unusable p f) = front-unusable-place k rec p f
-front-place k rec (front-odd p f) = front-odd-place k rec p f
-front-place k rec sfd-differs = some-chips k
-front-place k rec crc-differs = some-chips k
-front-place k rec (no-signal l) = some-chips k
-front-place k rec (no-service l) = some-chips k
-front-place k rec (no-length l) = some-chips k
+front-place k rec (front-short l) = some-chips k
+front-place k rec (front-unusable p l f) = front-unusable-place k rec p f
+front-place k rec (front-odd p l u f) = front-odd-place k rec p f
+front-place k rec (sfd-differs c d) = some-chips k
+front-place k rec (crc-differs c s d) = some-chips k
+front-place k rec (no-signal s a) = some-chips k
+front-place k rec (no-service s a b) = some-chips k
+front-place k rec (no-length s a b d) = some-chips k
 
 pub whole-place : (k : Kind) (rec : List Taken) {e : Refusal} → WholeRefusal k rec e → refusalPlace e < frontChips k
 whole-place k rec (met-in-front h) = front-place k rec h
-whole-place k rec (frame-ends l) = some-chips k
+whole-place k rec (frame-ends t h l) = some-chips k
 
 -- ---- payloads
 
