@@ -129,9 +129,3 @@ HandedPart =
     (c : Coming) (chips part : List ℕ) → Handed c chips part
     → (c .at + c .count ≤ length chips → part ≡ take (c .count) (drop (c .at) chips))
     × (length chips < c .at + c .count → part ≡ [])
-
--- ---- any two answers that the contract allows are equal, and any two parts
-abbrev pub OneComing : Type 0
-OneComing =
-    ((kind : ℕ) (chips : List ℕ) (c c′ : Coming) → ReadFront kind chips c → ReadFront kind chips c′ → c ≡ c′)
-    × ((c : Coming) (chips part part′ : List ℕ) → Handed c chips part → Handed c chips part′ → part ≡ part′)

@@ -128,9 +128,3 @@ SentFound =
     × (f .offset ≡ length before
     → f
     ≡ startFound (length before) rate (lengthField (rateOf rate) (length payload)) (shown clock) (length payload))
-
--- ---- any two answers that the contract allows are equal
-abbrev pub OneFound : Type 0
-OneFound =
-    (kind offsets : ℕ) (chips : List ℕ) (f f′ : Found) → Finds kind offsets chips f → Finds kind offsets chips f′
-    → f ≡ f′
