@@ -26,7 +26,7 @@ addWhere-length f [] (y ∷ p) e = absurd (omega arith)
 addWhere-length f (x ∷ r) (zero ∷ p) e = ap suc (addWhere-length f r p (omega arith))
 addWhere-length f (x ∷ r) (suc y ∷ p) e = ap suc (addWhere-length f r p (omega arith))
 
-step-length : (r : List ℕ) (b : ℕ) → length r ≡ 16 → length (crcStep r b) ≡ 16
+pub step-length : (r : List ℕ) (b : ℕ) → length r ≡ 16 → length (crcStep r b) ≡ 16
 unfolding crcStep
 step-length r b e =
     addWhere-length _ (drop 1 r ++ (0 ∷ [])) polynomial

@@ -4,5 +4,6 @@ pub mod Heard
 pub mod Each
 pub mod Scrambler
 pub mod Crc
+pub mod Division
 pub mod Facts
 pub mod PairLaws

@@ -1,20 +1,20 @@
 -- The counts of every chip are from -8192 to 8192; those of a usable soft one are at most half a count from its exact
 -- value, and those of a hard or a lost one are the value itself. Hard chips are computed at each phase; soft ones go by
 -- the laws of their two fields. Assumes nothing.
-use mathlib.Core.Path.{refl}
 use mathlib.Core.Bool.{Bool, true, false, cond}
 use mathlib.Core.List.{List, map}
-use Prim.Native.Nat.{ℕ, zero, suc, _≤_}
+use Prim.Native.Nat.{ℕ, zero, suc, _^_, _≤_}
 use lib.Dec.{T, lit≤}
 use lib.ListN.{getD, List·getD-map}
 use lib.IntN.{ℤ, pos, negsuc, natAbs}
 use Rattle.base.proofs.Tests.{both-left, both-right}
+use Rattle.base.proofs.Whole.{within-zero}
 use Rattle.chips.specs.declared.Sample.{Sample}
 use Rattle.chips.specs.declared.Chip.{Chip}
 use Rattle.chips.specs.declared.Chip.the-variants.{Lost, Hard, Soft}
 use Rattle.chips.specs.Floats.{usable, countOf}
 use Rattle.chips.specs.Chips.{pair, nothing, usableSample, countsOf, exactOf}
-use Rattle.chips.specs.Bounds.{Bounded, Near, Exact}
+use Rattle.chips.specs.Bounds.{Bounded, Apart}
 use Rattle.chips.proofs.Sum.{cond-yes}
 use Rattle.chips.proofs.Meaning.{abs-within, count-within, count-near}
 
@@ -40,17 +40,17 @@ pub row-within : (cs : List Chip) (k : ℕ) → Bounded 8192 (getD (map countsOf
 row-within cs k = rw (List·getD-map countsOf cs k Lost) (counts-within (getD cs k Lost))
 
 -- ---- the error
-pub hard-exact : (p : ℕ) → Exact (countsOf (Hard p)) (exactOf (Hard p))
-hard-exact zero = record { real = refl; imag = refl }
-hard-exact (suc zero) = record { real = refl; imag = refl }
-hard-exact (suc (suc zero)) = record { real = refl; imag = refl }
-hard-exact (suc (suc (suc zero))) = record { real = refl; imag = refl }
-hard-exact (suc (suc (suc (suc p)))) = record { real = refl; imag = refl }
+pub hard-exact : (p : ℕ) → Apart 0 (countsOf (Hard p)) (exactOf (Hard p))
+hard-exact zero = record { real = within-zero 0; imag = within-zero 0 }
+hard-exact (suc zero) = record { real = within-zero 0; imag = within-zero 0 }
+hard-exact (suc (suc zero)) = record { real = within-zero 0; imag = within-zero 0 }
+hard-exact (suc (suc (suc zero))) = record { real = within-zero 0; imag = within-zero 0 }
+hard-exact (suc (suc (suc (suc p)))) = record { real = within-zero 0; imag = within-zero 0 }
 
-pub lost-exact : Exact (countsOf Lost) (exactOf Lost)
-lost-exact = record { real = refl; imag = refl }
+pub lost-exact : Apart 0 (countsOf Lost) (exactOf Lost)
+lost-exact = record { real = within-zero 0; imag = within-zero 0 }
 
-pub soft-near : (s : Sample) → T (usableSample s) → Near (countsOf (Soft s)) (exactOf (Soft s))
+pub soft-near : (s : Sample) → T (usableSample s) → Apart (2 ^ 138) (countsOf (Soft s)) (exactOf (Soft s))
 soft-near s u =
     rw (cond-yes (usableSample s) (pair (countOf (s .i)) (countOf (s .q))) nothing u)
     (record {

@@ -21,7 +21,8 @@ use Rattle.chips.specs.Chips.{
   byteExact,
   byteRecording,
 }
-use Rattle.chips.specs.Bounds.{offBy, Exact}
+use Rattle.chips.specs.Bounds.{offBy, Apart}
+use Rattle.base.proofs.Whole.{within-zero}
 use Rattle.chips.proofs.Recorders.{part-counts}
 
 -- ---- the row
@@ -76,5 +77,5 @@ off s (negsuc n) = neg-times (16 * suc n) s ∙ ap (λ (m : ℕ). negℤ (pos m)
 exact : (z : ℤ) → offBy (pos 16 *ℤ z) (pos (2 ^ 143) *ℤ z) ≡ pos 0
 exact z = ap (λ (a : ℤ). a -ℤ pos (2 ^ 143) *ℤ z) (off (2 ^ 139) z) ∙ less-itself (pos (2 ^ 143) *ℤ z)
 
-pub byte-exact : (x y : ℤ) → Exact (byteCounts x y) (byteExact x y)
-byte-exact x y = record { real = exact x; imag = exact y }
+pub byte-exact : (x y : ℤ) → Apart 0 (byteCounts x y) (byteExact x y)
+byte-exact x y = record { real = rw (exact x) (within-zero 0); imag = rw (exact y) (within-zero 0) }

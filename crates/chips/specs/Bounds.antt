@@ -1,7 +1,6 @@
 -- Bounds on counts, and how far they are from the exact values (RULES 2.6): 2^139 steps are a count, 2^138 half of one.
 -- Definitions only. Assumes nothing.
 use Prim.Native.Nat.{ℕ, _^_}
-use mathlib.Core.Path.{_≡_}
 use lib.IntN.{ℤ, pos, _-ℤ_, _*ℤ_}
 use Rattle.base.specs.Whole.{Within}
 use Rattle.chips.specs.declared.Counts.{Counts}
@@ -15,12 +14,7 @@ pub record Bounded (b : ℕ) (c : Counts) : Type 0 where
 abbrev pub offBy : ℤ → ℤ → ℤ
 offBy k m = (k *ℤ pos (2 ^ 139)) -ℤ m
 
--- the counts c are at most half a count from the exact value e, in I and in Q
-pub record Near (c e : Counts) : Type 0 where
-  pub real : Within (2 ^ 138) (offBy (c .i) (e .i))
-  pub imag : Within (2 ^ 138) (offBy (c .q) (e .q))
-
--- the counts c are the exact value e
-pub record Exact (c e : Counts) : Type 0 where
-  pub real : offBy (c .i) (e .i) ≡ pos 0
-  pub imag : offBy (c .q) (e .q) ≡ pos 0
+-- the counts c are at most `half` steps from the exact value e, in I and in Q: with no step they are that value
+pub record Apart (half : ℕ) (c e : Counts) : Type 0 where
+  pub real : Within half (offBy (c .i) (e .i))
+  pub imag : Within half (offBy (c .q) (e .q))

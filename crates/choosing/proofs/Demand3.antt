@@ -13,10 +13,11 @@ use lib.Signed.{_≤ℤ_}
 use Rattle.rates.specs.Rates.{symbolChips}
 use Rattle.chips.specs.declared.Counts.{Counts}
 use Rattle.chips.specs.Chips.{nothing}
+use Rattle.chips.specs.Bounds.{Apart}
 use Rattle.symbols.specs.Words.{wordOf}
 use Rattle.symbols.specs.Choice.{numbers, isAllowed, decided, leadOf}
 use Rattle.symbols.proofs.Words.{word-length}
-use Rattle.choosing.specs.Demand3.{exactAt, Apart, Demand3, LeadSays}
+use Rattle.choosing.specs.Demand3.{exactAt, Demand3, LeadSays}
 use Rattle.choosing.specs.Scores.{scoreAt, DecidedAs}
 use Rattle.rates.specs.declared.Rate.{Rate}
 use Rattle.choosing.proofs.Decided.{decided-best}

@@ -9,12 +9,11 @@ use lib.ListN.{length, getD}
 use lib.Dec.{T}
 use lib.IntN.{ℤ, pos, _+ℤ_}
 use lib.Signed.{_≤ℤ_, _<ℤ_}
-use Rattle.base.specs.Whole.{Within}
 use Rattle.rates.specs.declared.Rate.{Rate}
 use Rattle.rates.specs.Rates.{symbolChips}
 use Rattle.chips.specs.declared.Counts.{Counts}
 use Rattle.chips.specs.Chips.{nothing}
-use Rattle.chips.specs.Bounds.{offBy}
+use Rattle.chips.specs.Bounds.{Apart}
 use Rattle.symbols.specs.Words.{wordOf}
 use Rattle.symbols.specs.Choice.{score, numbers, isAllowed, decided, leadOf}
 
@@ -34,11 +33,6 @@ pub record RightUpTo (error : ℕ) (r : Rate) (exact : List Counts) (w : ℕ) : 
       → ((m : ℕ) → m < numbers r → T (isAllowed r m) → (m ≡ n → ⊥)
       → (exactAt r exact m +ℤ pos error) <ℤ exactAt r exact n)
       → w ≡ n
-
--- counts are at most `half` steps from a recorded chip's exact value, in I and in Q
-pub record Apart (half : ℕ) (c e : Counts) : Type 0 where
-  pub real : Within half (offBy (c .i) (e .i))
-  pub imag : Within half (offBy (c .q) (e .q))
 
 -- where the counts of a symbol are so, the word decided from them is right up to twice `half` for each chip: half a
 -- count makes it 8/1024, or 11/1024 for Barker; no error of the counts leaves none

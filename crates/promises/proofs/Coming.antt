@@ -44,11 +44,23 @@ use Rattle.coming.proofs.Laws.{
   part-there,
   part-none,
 }
-use Rattle.promises.specs.Calls.{ReadHard, ReadFront, Handed, refusedAt, refused}
+use Rattle.promises.specs.Calls.{
+  ReadHard,
+  ReadFront,
+  Handed,
+  refusedAt,
+  refused,
+  long-1,
+  long-2,
+  long-5,
+  long-11,
+  short-2,
+  short-5,
+  short-11,
+}
 use Rattle.promises.specs.Coming.{
   FrontOf,
-  long-front,
-  short-front,
+  front-at,
   WhenRefused,
   FrontRefused,
   RefusedAlike,
@@ -61,15 +73,25 @@ use Rattle.promises.specs.Coming.{
   ToldAlike,
   FrontOnly,
   HandedPart,
-  OneComing,
 }
 use Rattle.promises.proofs.Fills.{some-number}
 use Rattle.promises.proofs.Only.{goes, length-told}
 
 -- a kind's front, in the definition's words
 pub front-of : {kind front : ℕ} → FrontOf kind front → (isKind kind ≡ true) × (frontChips (kindOf kind) ≡ front)
-front-of long-front = (refl, refl)
-front-of short-front = (refl, refl)
+front-of (front-at long-1) = (refl, refl)
+front-of (front-at long-2) = (refl, refl)
+front-of (front-at long-5) = (refl, refl)
+front-of (front-at long-11) = (refl, refl)
+front-of (front-at short-2) = (refl, refl)
+front-of (front-at short-5) = (refl, refl)
+front-of (front-at short-11) = (refl, refl)
+
+pub long-front : FrontOf 0 2112
+long-front = front-at long-1
+
+pub short-front : FrontOf 1 1056
+short-front = front-at short-2
 
 module _ (kind : ℕ) (chips : List ℕ) where
   abbrev k : Kind
@@ -279,11 +301,4 @@ pub handed-part : HandedPart
 handed-part c chips part f = (
   (λ h. f .chips-are ∙ part-there (c .at) (c .count) chips h),
   λ h. f .chips-are ∙ part-none (c .at) (c .count) chips h,
-)
-
--- each contract is an equation with a definition
-pub one-coming : OneComing
-one-coming = (
-  (λ kind chips c c′ f f′. f .answer ∙ sym (f′ .answer)),
-  λ c chips part part′ f f′. f .chips-are ∙ sym (f′ .chips-are),
 )

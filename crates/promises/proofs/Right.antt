@@ -13,7 +13,6 @@ use lib.ListN.{length, getD, take, drop, length-drop, length-map, List·getD-map
 use lib.Seq.{drop-drop, length-take-le, getD-take, getD-drop}
 use lib.IntN.{ℤ}
 use lib.Ieee.{Float, nan}
-use Rattle.base.proofs.Whole.{within-zero}
 use Rattle.rates.specs.declared.Rate.{Rate}
 use Rattle.rates.specs.declared.Rate.the-variants.{One, Two, Five, Eleven}
 use Rattle.rates.specs.Rates.{symbolChips, symbolBits, octetChips}
@@ -37,29 +36,28 @@ use Rattle.chips.specs.Chips.{
   softRecording,
   byteRecording,
 }
-use Rattle.chips.specs.Bounds.{Exact}
+use Rattle.chips.specs.Bounds.{Apart}
 use Rattle.chips.proofs.Bounds.{soft-near, hard-exact, lost-exact}
 use Rattle.chips.proofs.Bytes.{bytes-usable, byte-exact}
 use Rattle.chips.proofs.Recorders.{sample, taken-hard, taken-soft, unusable-hard, unusable-soft}
 use Rattle.symbols.specs.Choice.{decided, leadOf}
-use Rattle.choosing.specs.Demand3.{RightUpTo, Apart, LeadsExactly}
+use Rattle.choosing.specs.Demand3.{RightUpTo, LeadsExactly}
 use Rattle.choosing.proofs.Demand3.{demand-3, lead-says}
 use Rattle.frame.specs.declared.Kind.{Kind}
 use Rattle.frame.specs.declared.Kind.the-variants.{Long, Short}
 use Rattle.frame.specs.Frame.{headerRate, frontChips, preambleLength, headerLength, preambleChips}
 use Rattle.reading.specs.Reading.{decidedWords, preambleWords, headerWords, payloadWords}
+use Rattle.promises.specs.Calls.{in-hard, in-soft, in-bytes}
 use Rattle.promises.specs.Right.{
-  exactSymbol,
+  exactFrom,
   EachRight,
   WholeRight,
   Keeps,
   RecordedRight,
   exactHard,
-  HardRight,
   exactSoft,
-  SoftRight,
   exactBytes,
-  BytesRight,
+  RowsRight,
 }
 
 -- the j-th of m words
@@ -151,7 +149,7 @@ module _ (half : ℕ) (exact : List Counts) (rec : List Taken) (keeps : Keeps ha
 
   pub each-right : EachRight half r m at (decidedWords r m (drop at rec)) exact
   each-right j h =
-      subst (RightUpTo (symbolChips r * (2 * half)) r (exactSymbol r at j exact))
+      subst (RightUpTo (symbolChips r * (2 * half)) r (exactFrom r (at + j * symbolChips r) exact))
       (sym (word-from r m at j rec h))
       (symbol-right half exact rec keeps r (at + j * symbolChips r) (usable-at j h))
 
@@ -193,17 +191,13 @@ where-good f w =
       payload = λ k r n ok. w .payload k r n (λ place g h. f place (ok place g h));
     }
 
--- ---- exact counts are no step apart
-exact-apart : {c e : Counts} → Exact c e → Apart 0 c e
-exact-apart e = record { real = rw (e .real) (within-zero 0); imag = rw (e .imag) (within-zero 0) }
-
 -- ---- hard recordings keep their chips exactly
 hard-apart : (x : ℕ) → Apart 0 (takenCounts (hardTaken x)) (exactOf (hardChip x))
 hard-apart x = subst (λ t. Apart 0 t (exactOf (hardChip x))) (sym (taken-hard x)) (go (eqb x 4))
   where
     go : (b : Bool) → Apart 0 (countsOf (cond b Lost (Hard x))) (exactOf (cond b Lost (Hard x)))
-    go true = exact-apart lost-exact
-    go false = exact-apart (hard-exact x)
+    go true = lost-exact
+    go false = hard-exact x
 
 pub hard-keeps : (octets : List ℕ) → Keeps 0 (exactHard octets) (hardRecording octets)
 unfolding hardRecording
@@ -225,9 +219,6 @@ hard-good octets place h =
     let x = getD octets place 5 in
     rw (List·getD-map hardTaken octets place 5, unusable-hard x, le-leb x 4 h) tt
 
-pub hard-right : HardRight
-hard-right octets = where-good (hard-good octets) (recorded-right 0 _ _ (hard-keeps octets))
-
 -- ---- soft recordings keep theirs up to half a count
 pub soft-used : (x y : Float) → T (not (isUnusable (softTaken x y))) → T (usableSample (sample x y))
 soft-used x y t = go (usableSample (sample x y)) (isUnusable (softTaken x y)) (unusable-soft x y) t
@@ -239,9 +230,8 @@ soft-used x y t = go (usableSample (sample x y)) (isUnusable (softTaken x y)) (u
 soft-apart : (x y : Float) → T (not (isUnusable (softTaken x y)))
     → Apart (2 ^ 138) (takenCounts (softTaken x y)) (exactOf (Soft (sample x y)))
 soft-apart x y t =
-    let near = soft-near (sample x y) (soft-used x y t) in
     subst (λ t. Apart (2 ^ 138) t (exactOf (Soft (sample x y)))) (sym (taken-soft x y))
-    (record { real = near .real; imag = near .imag })
+    (soft-near (sample x y) (soft-used x y t))
 
 pub soft-keeps : (i q : List Float) → Keeps (2 ^ 138) (exactSoft i q) (softRecording i q)
 unfolding exactSoft softRecording
@@ -272,9 +262,6 @@ soft-good (x ∷ i) (y ∷ q) zero u = rw (unusable-soft x y) (twice (usable x) 
     twice false b s t = s
 soft-good (x ∷ i) (y ∷ q) (suc place) u = soft-good i q place u
 
-pub soft-right : SoftRight
-soft-right i q = where-good (soft-good i q) (recorded-right (2 ^ 138) _ _ (soft-keeps i q))
-
 -- ---- byte recordings keep theirs exactly
 pub bytes-keep : (bytes : List ℤ) → Keeps 0 (exactBytes bytes) (byteRecording bytes)
 unfolding exactBytes byteRecording
@@ -289,11 +276,14 @@ bytes-keep bytes = record { as-long = as-long bytes; near = near bytes }
         → Apart 0 (takenCounts (getD (byteRecording bytes) place unusable)) (getD (exactBytes bytes) place nothing)
     near [] place t = absurd t
     near (x ∷ []) place t = absurd t
-    near (x ∷ y ∷ bytes) zero t = exact-apart (byte-exact x y)
+    near (x ∷ y ∷ bytes) zero t = byte-exact x y
     near (x ∷ y ∷ bytes) (suc place) t = near bytes place t
 
 pub bytes-good : (bytes : List ℤ) (place : ℕ) → 2 * place + 1 < length bytes → Usable (byteRecording bytes) place
 bytes-good bytes place h = rw (bytes-usable bytes place (omega arith)) tt
 
-pub bytes-right : BytesRight
-bytes-right bytes = where-good (bytes-good bytes) (recorded-right 0 _ _ (bytes-keep bytes))
+-- ---- so each of them is read right
+pub rows-right : RowsRight
+rows-right (in-hard octets) = where-good (hard-good octets) (recorded-right 0 _ _ (hard-keeps octets))
+rows-right (in-soft i q) = where-good (soft-good i q) (recorded-right (2 ^ 138) _ _ (soft-keeps i q))
+rows-right (in-bytes bytes) = where-good (bytes-good bytes) (recorded-right 0 _ _ (bytes-keep bytes))

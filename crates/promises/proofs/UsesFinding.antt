@@ -22,6 +22,7 @@ use Rattle.promises.specs.Calls.{
   ReadHard,
   ReadFront,
   Finds,
+  to-find,
   good,
   refusedAt,
   shown,
@@ -35,7 +36,7 @@ use Rattle.promises.specs.Calls.{
   short-11,
   Sent,
 }
-use Rattle.promises.specs.Coming.{refusedComing, toldComing, FrontOf, long-front, short-front}
+use Rattle.promises.specs.Coming.{refusedComing, toldComing, FrontOf, front-at}
 use Rattle.promises.specs.Finding.{
   refusedFound,
   startFound,
@@ -53,6 +54,7 @@ use Rattle.promises.specs.Finding.{
   WhenFound,
   WhenNone,
 }
+use Rattle.promises.proofs.Coming.{front-of}
 use Rattle.promises.proofs.Kept.{kept}
 use Rattle.promises.proofs.UsesComing.{front-answered}
 
@@ -69,17 +71,10 @@ hard-answered kind chips room = record { answer = refl; octets = refl }
 
 -- ---- a kind has one front, and with a rate one octet
 pub front-of-kind : {kind rate front octet : ℕ} → Goes kind rate front octet → FrontOf kind front
-front-of-kind long-1 = long-front
-front-of-kind long-2 = long-front
-front-of-kind long-5 = long-front
-front-of-kind long-11 = long-front
-front-of-kind short-2 = short-front
-front-of-kind short-5 = short-front
-front-of-kind short-11 = short-front
+front-of-kind g = front-at g
 
 pub one-front : {kind front front′ : ℕ} → FrontOf kind front → FrontOf kind front′ → front ≡ front′
-one-front long-front long-front = refl
-one-front short-front short-front = refl
+one-front x y = sym (front-of x .1) ∙ front-of y .1
 
 pub one-octet : {kind rate front octet front′ octet′ : ℕ} → Goes kind rate front octet → Goes kind rate front′ octet′
     → octet ≡ octet′
@@ -132,7 +127,7 @@ reads-refused (reads-10 place r from to) z =
 -- ---- one search
 module _ (kind offsets : ℕ) (chips : List ℕ) (f : Found) (x : Finds kind offsets chips f) where
   pub found-once : (f′ : Found) → Finds kind offsets chips f′ → f ≡ f′
-  found-once f′ y = kept .one-found kind offsets chips f f′ x y
+  found-once f′ y = kept .one-answer (to-find kind offsets chips) f f′ x y
 
   -- 1 before 18, and 18 at both ends
   pub find-no-kind : 2 ≤ kind → f ≡ refusedFound 1

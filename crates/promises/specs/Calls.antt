@@ -44,6 +44,23 @@ ReadSoft kind i q room a left = Read kind (eqb (length i) (length q)) (softRecor
 abbrev pub ReadBytes : ℕ → List ℤ → ℕ → Record → List ℕ → Type 0
 ReadBytes kind bytes room a left = Read kind (eqb (length bytes % 2) 0) (byteRecording bytes) room a left
 
+-- rows as a recorder hands them in: hard octets, soft I and Q, bytes; and what reading takes of them
+pub data Rows : Type 0 where
+  in-hard : List ℕ → Rows
+  in-soft : List Float → List Float → Rows
+  in-bytes : List ℤ → Rows
+
+abbrev pub takenOf : Rows → List Taken
+takenOf (in-hard octets) = hardRecording octets
+takenOf (in-soft i q) = softRecording i q
+takenOf (in-bytes bytes) = byteRecording bytes
+
+-- a read of them, by the reader of their recorder
+abbrev pub ReadRows : ℕ → Rows → ℕ → Record → List ℕ → Type 0
+ReadRows kind (in-hard octets) room a left = ReadHard kind octets room a left
+ReadRows kind (in-soft i q) room a left = ReadSoft kind i q room a left
+ReadRows kind (in-bytes bytes) room a left = ReadBytes kind bytes room a left
+
 -- the reader of the front only: its answer, which says where the payload's chips are
 pub record ReadFront (kind : ℕ) (chips : List ℕ) (c : Coming) : Type 0 where
   pub answer : c ≡ comingOf (kindOf kind) (frontReading kind (hardRecording chips))
@@ -55,6 +72,28 @@ pub record Handed (c : Coming) (chips part : List ℕ) : Type 0 where
 -- the call that finds a start in a recording, of so many offsets to try: its answer
 pub record Finds (kind offsets : ℕ) (chips : List ℕ) (f : Found) : Type 0 where
   pub answer : f ≡ foundOf (findingOf kind offsets (hardRecording chips))
+
+-- every call with what is handed to it, what it answers and leaves, and which of that its contract allows
+pub data Call : Type 0 where
+  to-write : (kind rate phase clock : ℕ) (payload : List ℕ) (room : ℕ) → Call
+  to-read : (kind : ℕ) (agree : Bool) (rec : List Taken) (room : ℕ) → Call
+  to-read-front : (kind : ℕ) (chips : List ℕ) → Call
+  to-hand : (c : Coming) (chips : List ℕ) → Call
+  to-find : (kind offsets : ℕ) (chips : List ℕ) → Call
+
+abbrev pub Answer : Call → Type 0
+Answer (to-write kind rate phase clock payload room) = Written × List ℕ
+Answer (to-read kind agree rec room) = Record × List ℕ
+Answer (to-read-front kind chips) = Coming
+Answer (to-hand c chips) = List ℕ
+Answer (to-find kind offsets chips) = Found
+
+abbrev pub Allows : (c : Call) → Answer c → Type 0
+Allows (to-write kind rate phase clock payload room) v = Wrote kind rate phase clock payload room (v .0) (v .1)
+Allows (to-read kind agree rec room) v = Read kind agree rec room (v .0) (v .1)
+Allows (to-read-front kind chips) c = ReadFront kind chips c
+Allows (to-hand c chips) part = Handed c chips part
+Allows (to-find kind offsets chips) f = Finds kind offsets chips f
 
 -- a good read's answer, and a refused one's with a place and without
 abbrev pub good : ℕ → ℕ → ℕ → ℕ → ℕ → ℕ → ℕ → Record
@@ -94,14 +133,17 @@ shown zero = 0
 shown (suc clock) = 1
 
 -- the smallest lead of a frame as it was sent, in counts, and the first symbol that has it: 11 full chips at 1 and 2
--- Mbit/s, the frame's first; 8 at 5.5 and 4 at 11 Mbit/s, the payload's first
+-- Mbit/s, the frame's first; 8 at 5.5 and 4 at 11 Mbit/s, the payload's first. In plain numbers, and the rates by their
+-- codes: a promise must not cite the definition (`cleanLeast` of `clean`); `lead-is` of proofs/Back.antt joins the two
 abbrev pub sentLead : ℕ → ℕ
 sentLead rate = cond (eqb rate 110) 4096 (cond (eqb rate 55) 8192 11264)
 
 abbrev pub sentSymbol : ℕ → ℕ → ℕ
 sentSymbol kind rate = cond (eqb rate 110 || eqb rate 55) (cond (eqb kind 0) 192 96) 0
 
--- the kinds and the rates that go with them, each with the chips of its front and of an octet
+-- the kinds and the rates that go with them, each with the chips of its front and of an octet: a table in plain
+-- numbers, which no definition that a reader or a writer computes by may stand for; `known` of proofs/Back.antt joins
+-- it to those
 pub data Goes : ℕ → ℕ → ℕ → ℕ → Type 0 where
   long-1 : Goes 0 10 2112 88
   long-2 : Goes 0 20 2112 44

@@ -42,10 +42,9 @@ toldComing rate l clock n front count =
       count = count;
     }
 
--- the chips of a kind's front
-pub data FrontOf : ℕ → ℕ → Type 0 where
-  long-front : FrontOf 0 2112
-  short-front : FrontOf 1 1056
+-- the chips of a kind's front, whatever rate goes with it
+pub data FrontOf (kind front : ℕ) : Type 0 where
+  front-at : {rate octet : ℕ} → Goes kind rate front octet → FrontOf kind front
 
 -- ---- a refusal is 1 where the kind is none, and only there; else it is 8 to 16, and a place lies in the front. All
 -- else is 0, and the part is empty
@@ -129,9 +128,3 @@ HandedPart =
     (c : Coming) (chips part : List ℕ) → Handed c chips part
     → (c .at + c .count ≤ length chips → part ≡ take (c .count) (drop (c .at) chips))
     × (length chips < c .at + c .count → part ≡ [])
-
--- ---- any two answers that the contract allows are equal, and any two parts
-abbrev pub OneComing : Type 0
-OneComing =
-    ((kind : ℕ) (chips : List ℕ) (c c′ : Coming) → ReadFront kind chips c → ReadFront kind chips c′ → c ≡ c′)
-    × ((c : Coming) (chips part part′ : List ℕ) → Handed c chips part → Handed c chips part′ → part ≡ part′)

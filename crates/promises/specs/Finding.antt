@@ -126,9 +126,3 @@ SentFound =
     → Finds kind offsets (before ++ (take (s .sendable .front) chips ++ tail)) f
     → (f .number ≡ 0) × (f .offset ≤ length before)
     × (f .offset ≡ length before → f ≡ startFound (length before) rate l (shown clock) (length payload))
-
--- ---- any two answers that the contract allows are equal
-abbrev pub OneFound : Type 0
-OneFound =
-    (kind offsets : ℕ) (chips : List ℕ) (f f′ : Found) → Finds kind offsets chips f → Finds kind offsets chips f′
-    → f ≡ f′

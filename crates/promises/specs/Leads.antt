@@ -5,16 +5,12 @@ use Prim.Native.Nat.{ℕ, _+_, _*_, _/_, _≤_, _<_}
 use mathlib.Core.Path.{_≡_}
 use mathlib.Core.Bool.{Bool}
 use mathlib.Core.List.{List, map}
-use lib.ListN.{length, getD, take, drop}
-use lib.Dec.{T}
-use lib.IntN.{ℤ}
-use lib.Ieee.{Float, nan}
+use lib.ListN.{getD, take, drop}
 use Rattle.rates.specs.declared.Rate.{Rate}
 use Rattle.rates.specs.declared.Rate.the-variants.{One}
 use Rattle.rates.specs.Rates.{rateOf, symbolChips, symbolBits}
 use Rattle.chips.specs.declared.Counts.{Counts}
-use Rattle.chips.specs.Floats.{usable}
-use Rattle.chips.specs.Chips.{Taken, takenCounts, hardRecording, softRecording, byteRecording}
+use Rattle.chips.specs.Chips.{Taken, takenCounts}
 use Rattle.choosing.specs.Scores.{LeadsBy}
 use Rattle.choosing.specs.Demand3.{LeadsExactly}
 use Rattle.frame.specs.declared.Kind.{Kind}
@@ -29,8 +25,8 @@ use Rattle.frame.specs.Frame.{
 }
 use Rattle.calls.specs.declared.Record.{Record}
 use Rattle.reading.specs.Reading.{preambleWords, headerWords, payloadWords}
-use Rattle.promises.specs.Calls.{Read}
-use Rattle.promises.specs.Right.{exactHard, exactSoft, exactBytes}
+use Rattle.promises.specs.Calls.{Read, Rows, in-hard, in-soft, in-bytes, takenOf}
+use Rattle.promises.specs.Right.{exactFrom, exactRows, GoodAt}
 
 -- the symbols of a frame of n octets: each has a number, from 0 at the frame's first, a rate, the place of its first
 -- chip, and the word that reading has there
@@ -43,12 +39,9 @@ pub data SymbolOf (k : Kind) (r : Rate) (n : ℕ) (rec : List Taken) : ℕ → R
   of-payload : (j : ℕ) → j < 8 * n / symbolBits r
       → SymbolOf k r n rec (frontSymbols k + j) r (frontChips k + j * symbolChips r) (getD (payloadWords k r n rec) j 0)
 
--- the counts, and the exact values, of the chips of a symbol of a rate that starts at a place
+-- the counts of the chips of a symbol of a rate that starts at a place
 abbrev pub countsFrom : Rate → ℕ → List Taken → List Counts
 countsFrom q at rec = map takenCounts (take (symbolChips q) (drop at rec))
-
-abbrev pub exactFrom : Rate → ℕ → List Counts → List Counts
-exactFrom q at exact = take (symbolChips q) (drop at exact)
 
 -- a symbol's word leads the other allowed words by at least so much; if it stands before the symbol told, by more
 pub record LeadsEnough (lead symbol s : ℕ) (q : Rate) (cs : List Counts) (w : ℕ) : Type 0 where
@@ -89,18 +82,10 @@ Sure above good exact rec =
 
 -- from hard chips and from bytes any lead says so; from soft ones a lead above 8 counts, or 11 for Barker, which is one
 -- for each chip
-abbrev pub HardSure : Type 0
-HardSure =
-    (octets : List ℕ)
-    → Sure (λ q. 0) (λ place. getD octets place 5 ≤ 4) (exactHard octets) (hardRecording octets)
+abbrev pub sureAbove : Rows → Rate → ℕ
+sureAbove (in-hard octets) r = 0
+sureAbove (in-soft i q) r = symbolChips r
+sureAbove (in-bytes bytes) r = 0
 
-abbrev pub SoftSure : Type 0
-SoftSure =
-    (i q : List Float)
-    → Sure symbolChips (λ place. T (usable (getD i place nan)) × T (usable (getD q place nan))) (exactSoft i q)
-    (softRecording i q)
-
-abbrev pub BytesSure : Type 0
-BytesSure =
-    (bytes : List ℤ)
-    → Sure (λ q. 0) (λ place. 2 * place + 1 < length bytes) (exactBytes bytes) (byteRecording bytes)
+abbrev pub RowsSure : Type 0
+RowsSure = (rows : Rows) → Sure (sureAbove rows) (GoodAt rows) (exactRows rows) (takenOf rows)

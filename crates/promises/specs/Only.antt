@@ -7,13 +7,24 @@ use mathlib.Core.Bool.{Bool, true}
 use mathlib.Core.List.{List}
 use lib.ListN.{length}
 use lib.IntN.{ℤ}
-use lib.Ieee.{Float}
 use Rattle.base.specs.Below.{Below}
 use Rattle.rates.specs.Plain.{LengthOf}
 use Rattle.chips.specs.Chips.{Taken}
 use Rattle.calls.specs.declared.Written.{Written}
 use Rattle.calls.specs.declared.Record.{Record}
-use Rattle.promises.specs.Calls.{Wrote, Read, ReadHard, ReadSoft, ReadBytes, refused, Goes, Sent}
+use Rattle.promises.specs.Calls.{
+  Wrote,
+  Read,
+  ReadBytes,
+  Rows,
+  in-hard,
+  in-soft,
+  in-bytes,
+  ReadRows,
+  refused,
+  Goes,
+  Sent,
+}
 
 -- a write that answers 0 had a kind and a rate that goes with it, 1 to 4,095 octets, a phase, and room for the frame
 abbrev pub OnlySent : Type 0
@@ -47,27 +58,17 @@ RefusedShows =
     → Read kind agree rec room a left → (a .number ≡ 0 → ⊥)
     → (a .rate ≡ 0) × (a .n ≡ 0) × (a .used ≡ 0) × (a .clock ≡ 0) × (a .lead ≡ 0) × (a .symbol ≡ 0)
 
--- soft rows that differ in length, and bytes of an odd number, are refused with 7 under either kind, whatever is in
--- them
+-- rows that agree: as many of Q as of I, two bytes for each chip; hard ones always do
+abbrev pub Agree : Rows → Type 0
+Agree (in-hard octets) = Unit {0}
+Agree (in-soft i q) = length i ≡ length q
+Agree (in-bytes bytes) = length bytes % 2 ≡ 0
+
+-- rows that do not are refused with 7 under either kind, whatever is in them; and 7 is given there only
 abbrev pub RowsRefused : Type 0
 RowsRefused =
-    (kind : ℕ) (i q : List Float) (room : ℕ) (a : Record) (left : List ℕ) → kind < 2
-    → (length i ≡ length q → ⊥) → ReadSoft kind i q room a left → a ≡ refused 7 0
-
-abbrev pub OddBytesRefused : Type 0
-OddBytesRefused =
-    (kind : ℕ) (bytes : List ℤ) (room : ℕ) (a : Record) (left : List ℕ) → kind < 2
-    → length bytes % 2 ≡ 1 → ReadBytes kind bytes room a left → a ≡ refused 7 0
-
--- and 7 is given there only: never for rows of one length, nor for an even number of bytes, nor for hard chips
-abbrev pub SevenOnly : Type 0
-SevenOnly =
-    ((kind : ℕ) (i q : List Float) (room : ℕ) (a : Record) (left : List ℕ) → ReadSoft kind i q room a left
-    → a .number ≡ 7 → length i ≡ length q → ⊥)
-    × ((kind : ℕ) (bytes : List ℤ) (room : ℕ) (a : Record) (left : List ℕ) → ReadBytes kind bytes room a left
-    → a .number ≡ 7 → length bytes % 2 ≡ 0 → ⊥)
-    × ((kind : ℕ) (chips : List ℕ) (room : ℕ) (a : Record) (left : List ℕ) → ReadHard kind chips room a left
-    → a .number ≡ 7 → ⊥)
+    (kind : ℕ) (rows : Rows) (room : ℕ) (a : Record) (left : List ℕ) → ReadRows kind rows room a left
+    → (kind < 2 → (Agree rows → ⊥) → a ≡ refused 7 0) × (a .number ≡ 7 → Agree rows → ⊥)
 
 -- no reading of bytes answers 9
 abbrev pub NoByteUnusable : Type 0

@@ -18,10 +18,11 @@ codeOf Eleven = 110
 
 -- whether a number is one of the four codes, and the rate of one that is
 abbrev pub isCode : ℕ → Bool
-isCode c = eqb c 10 || eqb c 20 || eqb c 55 || eqb c 110
+isCode c = eqb c (codeOf One) || eqb c (codeOf Two) || eqb c (codeOf Five) || eqb c (codeOf Eleven)
 
 abbrev pub rateOf : ℕ → Rate
-rateOf c = cond (eqb c 10) One (cond (eqb c 20) Two (cond (eqb c 55) Five Eleven))
+rateOf c =
+    cond (eqb c (codeOf One)) One (cond (eqb c (codeOf Two)) Two (cond (eqb c (codeOf Five)) Five Eleven))
 
 -- Barker, 11 chips, at 1 and 2 Mbit/s; CCK, 8 chips, at 5.5 and 11
 abbrev pub symbolChips : Rate → ℕ

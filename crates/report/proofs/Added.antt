@@ -9,14 +9,14 @@ use Prim.Native.Nat.{ℕ, zero, suc, _+_, _<_, compare·suc-suc}
 use native.Mathlib.Nat.{add-zero, not-suc-le-zero, le-of-suc-le-suc, zero-add}
 use native.Mathlib.Omega.{arith}
 use borrow.Author.Tests.{ne-eqb, eqb-true}
-use lib.Dec.{eqb, ltb}
+use lib.Dec.{eqb, ltb, lit<}
 use lib.ListN.{length, getD, length-append}
 use lib.Seq.{ext-getD}
 use Rattle.base.specs.Tables.{tabulate}
 use Rattle.base.proofs.Tables.{length-tabulate, getD-tabulate, tabulate-ext}
 use Rattle.rates.specs.declared.Rate.{Rate}
 use Rattle.rates.specs.declared.Rate.the-variants.{One, Two, Five, Eleven}
-use Rattle.rates.specs.Rates.{codeOf}
+use Rattle.rates.specs.Rates.{codeOf, rateOf}
 use Rattle.report.specs.Totals.{
   Outcome,
   total,
@@ -35,6 +35,7 @@ use Rattle.report.specs.Report.{
   recordingTold,
   reportOf,
   more,
+  rateEntry,
   entryOf,
   withFrame,
   withRefusal,
@@ -60,6 +61,15 @@ getD-more (suc k) x (y ∷ ys) zero h = rw (ne-eqb (suc k) 0 (λ z. omega arith)
 getD-more (suc k) x (y ∷ ys) (suc j) h = rw compare·suc-suc (getD-more k x ys j (le-of-suc-le-suc h))
 
 -- ---- rows of rates: frames count 1 each, octets n
+
+pub entry-below : (code : ℕ) → entryOf code < 4
+entry-below code = by (rateOf code)
+  where
+    by : (r : Rate) → rateEntry r < 4
+    by One = lit< tt
+    by Two = lit< tt
+    by Five = lit< tt
+    by Eleven = lit< tt
 
 abbrev row : (Outcome → ℕ) → List Outcome → List ℕ
 row g os = map (λ code. total (λ o. cond (acceptedAt code o) (g o) 0) os) codes

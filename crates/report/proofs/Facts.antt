@@ -5,7 +5,7 @@ use mathlib.Core.Path.{_≡_, refl}
 use mathlib.Core.Bool.{Bool, true, false, cond, _||_}
 use mathlib.Core.List.{List, [], _∷_, _++_, map}
 use mathlib.Core.Option.{some}
-use Prim.Native.Nat.{ℕ, _*_, _≤_, _<_}
+use Prim.Native.Nat.{ℕ, zero, suc, _*_, _≤_, _<_}
 use borrow.Author.Tests.{lt-ltb, le-ltb, ne-eqb}
 use lib.Dec.{eqb, ltb}
 use lib.ListN.{length, replicate, set}
@@ -110,6 +110,23 @@ pub small-ones : map reportOf
 unfolding total closestFrom tabulate reportOf
 small-ones = refl
 
+-- each number from 1 to 17 as often as it says, and the largest frame of each rate: 4,095 octets, LENGTH up to 32,760
+abbrev met : ℕ → List Outcome
+met zero = []
+met (suc k) = met k ++ replicate (suc k) (refusal 1 (suc k) 0)
+
+pub every-number : reportOf (met 17)
+    ≡ report 153 (replicate 4 0) (replicate 4 0) (tabulate (λ k. k) 18) 0 0 0 0
+unfolding total closestFrom tabulate reportOf
+every-number = refl
+
+pub largest : reportOf
+    (frame 0 10 4095 32760 11264 ∷ frame 0 20 4095 16380 11264 ∷ frame 1 55 4095 5957 8192
+    ∷ frame 1 110 4095 2979 4096 ∷ [])
+    ≡ report 4 (replicate 4 1) (replicate 4 4095) (replicate 18 0) 58652 1 4096 3
+unfolding total closestFrom tabulate reportOf
+largest = refl
+
 -- a front's microseconds are its chips, eleven each
 pub front-times : 11 * frontTime 0 ∷ 11 * frontTime 1 ∷ [] ≡ frontChips Long ∷ frontChips Short ∷ []
 front-times = refl
@@ -135,6 +152,16 @@ pub frames-more : added (odd 1 7) (frame 0 10 5 40 7) ∷ added (odd 1 7) (frame
     ∷ report 4 (101 ∷ 200 ∷ 300 ∷ 400 ∷ []) (2 ∷ 2 ∷ 3 ∷ 4 ∷ []) (tabulate (λ k. k) 18) 250 256 7 9 ∷ []
 unfolding tabulate more added
 frames-more = refl
+
+-- a largest frame, and refusals between the ends
+pub largest-more : added (odd 1 7) (frame 0 10 4095 32760 7) ∷ added (odd 1 7) (refusal 0 10 0)
+    ∷ added (odd 1 7) (refusal 0 13 0) ∷ added (odd 1 7) (refusal 0 14 0) ∷ added (odd 1 7) (refusal 0 15 0) ∷ []
+    ≡ report 4 (101 ∷ 200 ∷ 300 ∷ 400 ∷ []) (4096 ∷ 2 ∷ 3 ∷ 4 ∷ []) (tabulate (λ k. k) 18) 33002 1 7 9
+    ∷ map
+    (λ k. report 4 (100 ∷ 200 ∷ 300 ∷ 400 ∷ []) (1 ∷ 2 ∷ 3 ∷ 4 ∷ []) (set (tabulate (λ j. j) 18) k (suc k)) 50 1 7 9)
+    (10 ∷ 13 ∷ 14 ∷ 15 ∷ [])
+unfolding tabulate more added
+largest-more = refl
 
 -- refusals of both ends: nothing else moves but how many were seen
 pub refusals-more : added (odd 1 7) (refusal 0 1 0) ∷ added (odd 0 7) (refusal 1 16 99)

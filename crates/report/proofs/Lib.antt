@@ -6,3 +6,4 @@ pub mod Taking
 pub mod Lists
 pub mod Spelling
 pub mod TextFacts
+pub mod Said

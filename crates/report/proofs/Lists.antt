@@ -1,7 +1,8 @@
 -- Rows and lists as code goes through them, entry by entry.
 --     at-most-more, at-most-past, at-most-end     a row's test, from its front on
 --     at-most-at, at-most-all                     what the test says of the row's entries
---     takes, within-takes                         a report takes one more just where it is within the limits
+--     takes, limits-take                          a report takes one more just where it is within the limits
+--     none-counted                                a report of nothing is all zeros
 --     more-set                                    a row with more at one entry is written at that entry
 --     length-recordings, recordings-next          recordings, and one more of them
 -- Assumes nothing.
@@ -16,9 +17,10 @@ use borrow.Author.Tests.{lt-ltb, ltb-true, leb-true, le-leb, lt-leb}
 use lib.Dec.{ltb, leb}
 use lib.ListN.{length, getD, take, drop, set, drop-of-length-le}
 use lib.Seq.{drop-cons}
+use Rattle.base.specs.Tables.{tabulate}
 use Rattle.base.proofs.Tests.{left-is, right-is}
-use Rattle.report.specs.Totals.{Recording}
-use Rattle.report.specs.Report.{more, atMost, takesMore, Within, recordings}
+use Rattle.report.specs.Totals.{Recording, total, closestFrom}
+use Rattle.report.specs.Report.{empty, reportOf, more, atMost, takesMore, Limits, recordings}
 use Rattle.report.specs.declared.Report.{Report}
 
 -- ---- a row's test
@@ -53,7 +55,7 @@ at-most-all m (x ∷ row) h = rw (le-leb x m (h 0)) (at-most-all m row (λ j. h 
 
 -- ---- a report that takes one more is within the limits, and one within them takes one more
 
-pub takes : (p : Report) → takesMore p ≡ true → Within p
+pub takes : (p : Report) → takesMore p ≡ true → Limits p
 unfolding takesMore
 takes p e =
     let a = ltb (p .seen) 1000 in
@@ -71,9 +73,9 @@ takes p e =
       airtime-within = leb-true (p .airtime) 32952000 (right-is (a && b && c && d) _ e);
     }
 
-pub within-takes : (p : Report) → Within p → takesMore p ≡ true
+pub limits-take : (p : Report) → Limits p → takesMore p ≡ true
 unfolding takesMore
-within-takes p w =
+limits-take p w =
     simp (
       lt-ltb (p .seen) 1000 (w .seen-below),
       at-most-all 1000 (p .frames) (w .frames-within),
@@ -81,6 +83,12 @@ within-takes p w =
       at-most-all 1000 (p .refused) (w .refused-within),
       le-leb (p .airtime) 32952000 (w .airtime-within),
     )
+
+-- ---- nothing counted
+
+pub none-counted : empty ≡ reportOf []
+unfolding reportOf total closestFrom tabulate
+none-counted = refl
 
 -- ---- a row with more at one entry
 

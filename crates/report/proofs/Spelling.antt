@@ -1,8 +1,9 @@
 -- Laws of the report's text (RULES 6.20).
 --     places-one, places-more                 how many digits a number has, and one has that ten times it does
---     length-decimal, decimal-most            a number's digits are so many, and at most 20
+--     length-decimal, decimal-most, decimal-least    a number's digits are so many, at most 20, and at least one
 --     decimal-value, decimal-injective        below 10 ^ 20 the digits are those of the number, and of no other
 --     decimal-digit, decimal-front            each is one of the octets 48 to 57, and there is no zero in front
+--     spelled-whole, spelled-refused          what the call answers and leaves, with room for the text and without
 --     rate-most, refused-most, airtime-most, lead-most, text-most    lines, and the text: 980 octets at most
 -- Assumes nothing.
 use mathlib.Core.Path.{_≡_, refl, sym, ap, _∙_}
@@ -13,8 +14,8 @@ use native.Mathlib.Nat.{le-refl, pow-succ', not-suc-le-zero}
 use native.Mathlib.Decide.{decLt}
 use native.Mathlib.Omega.{arith}
 use lib.Dec.{eqb, ltb, lit≤}
-use lib.ListN.{length, getD, length-append, List·getD-append}
-use lib.Seq.{getD-at}
+use lib.ListN.{length, getD, replicate, length-append, List·getD-append}
+use lib.Seq.{getD-at, take-all}
 use borrow.Author.Tests.{lt-ltb, le-ltb}
 use Rattle.base.proofs.Tests.{branch}
 use Rattle.report.specs.declared.Report.{Report}
@@ -29,7 +30,10 @@ use Rattle.report.specs.Text.{
   airtimeLine,
   leadLine,
   textOf,
+  spelledOf,
+  textLeft,
 }
+use Rattle.report.specs.Said.{valueFrom, IsDigit}
 use Rattle.report.proofs.TextFacts.{code-digits}
 
 -- ---- how many digits
@@ -68,12 +72,10 @@ length-decimal n = length-digits (places 19 n) n
 pub decimal-most : (n : ℕ) → length (decimal n) ≤ 20
 decimal-most n = rw (length-decimal n) (places-most 19 n)
 
--- ---- what number the digits are of
+pub decimal-least : (n : ℕ) → 1 ≤ length (decimal n)
+decimal-least n = rw (length-decimal n) (places-least 19 n)
 
--- a number read from its digits, the highest first, behind those read before
-unfoldable pub valueFrom : ℕ → List ℕ → ℕ
-valueFrom before [] = before
-valueFrom before (d ∷ ds) = valueFrom (10 * before + (d - 48)) ds
+-- ---- what number the digits are of
 
 value-more : (before d : ℕ) (ds : List ℕ) → valueFrom before (ds ++ (d ∷ []))
     ≡ 10 * valueFrom before ds + (d - 48)
@@ -107,9 +109,6 @@ pub decimal-injective : (n m : ℕ) → n < 10 ^ 20 → m < 10 ^ 20 → decimal 
 decimal-injective n m h k e = sym (decimal-value n h) ∙ ap (valueFrom 0) e ∙ decimal-value m k
 
 -- ---- which octets they are
-
-abbrev pub IsDigit : ℕ → Type 0
-IsDigit d = (48 ≤ d) × (d ≤ 57)
 
 digits-digit : (k n i : ℕ) → i < k → IsDigit (getD (digits k n) i 0)
 unfolding digits
@@ -150,6 +149,24 @@ digits-front (suc m) n z h =
 pub decimal-front : (n : ℕ) → 0 < n → n < 10 ^ 20 → 48 < getD (decimal n) 0 0
 unfolding decimal
 decimal-front n z h = digits-front 19 n z h
+
+-- ---- what the call answers and leaves
+
+pub spelled-whole : (p : Report) (room : ℕ) → length (textOf p) ≤ room
+    → (spelledOf p room ≡ record { number = 0; octets = length (textOf p) })
+    × (textLeft p room ≡ textOf p ++ replicate (room - length (textOf p)) 0)
+unfolding spelledOf textLeft
+spelled-whole p room h = (
+  rw (le-ltb room (length (textOf p)) h),
+  rw (le-ltb room (length (textOf p)) h, take-all (length (textOf p)) (textOf p) (le-refl _)),
+)
+
+pub spelled-refused : (p : Report) (room : ℕ) → room < length (textOf p)
+    → (spelledOf p room ≡ record { number = 17; octets = 0 }) × (textLeft p room ≡ replicate room 0)
+unfolding spelledOf textLeft
+spelled-refused p room h =
+    let all : room - 0 ≡ room = omega arith in
+    (rw (lt-ltb room (length (textOf p)) h), rw (lt-ltb room (length (textOf p)) h, all))
 
 -- ---- lines, and the text
 

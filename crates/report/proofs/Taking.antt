@@ -25,13 +25,13 @@ use Rattle.report.specs.Totals.{
   frontTime,
   airtimeOf,
 }
-use Rattle.report.specs.Report.{codes, reportOf, takesMore, Within, countedOf}
+use Rattle.report.specs.Report.{codes, reportOf, takesMore, Limits, countedOf}
 use Rattle.report.specs.declared.Report.{Report}
 use Rattle.report.specs.declared.Counted.{Counted}
 use Rattle.report.proofs.Outcomes.{fair}
 use Rattle.report.proofs.Laws.{total-most}
 use Rattle.report.proofs.Added.{added-more}
-use Rattle.report.proofs.Lists.{within-takes}
+use Rattle.report.proofs.Lists.{limits-take}
 
 -- ---- what totals come to
 
@@ -76,7 +76,7 @@ row-most m f h [] (suc j) = omega arith
 row-most m f h (x ∷ l) zero = h x
 row-most m f h (x ∷ l) (suc j) = row-most m f h l j
 
-within : (rs : List Recording) → length rs < 1000 → Within (reportOf (map outcomeOf rs))
+within : (rs : List Recording) → length rs < 1000 → Limits (reportOf (map outcomeOf rs))
 unfolding reportOf
 within rs h =
     let os = map outcomeOf rs in
@@ -93,7 +93,7 @@ within rs h =
     }
 
 pub takes-more : (rs : List Recording) → length rs < 1000 → takesMore (reportOf (map outcomeOf rs)) ≡ true
-takes-more rs h = within-takes (reportOf (map outcomeOf rs)) (within rs h)
+takes-more rs h = limits-take (reportOf (map outcomeOf rs)) (within rs h)
 
 pub map-more : (rs : List Recording) (r : Recording)
     → map outcomeOf rs ++ (outcomeOf r ∷ []) ≡ map outcomeOf (rs ++ (r ∷ []))

@@ -4,21 +4,9 @@
 use mathlib.Core.Path.{_≡_, refl}
 use mathlib.Core.List.{List, [], _∷_, _++_}
 use Prim.Native.Nat.{ℕ}
-use borrow.Author.Tests.{ne-eqb}
 use lib.ListN.{length, replicate}
 use Rattle.report.specs.declared.Report.{Report}
-use Rattle.report.specs.Text.{
-  word,
-  digits,
-  places,
-  decimal,
-  refusedLine,
-  refusedLines,
-  leadLine,
-  textOf,
-  spelledOf,
-  textLeft,
-}
+use Rattle.report.specs.Text.{word, digits, places, decimal, refusedLines, textOf, spelledOf, textLeft}
 
 -- ---- words and numbers
 
@@ -126,16 +114,6 @@ few-text : (textOf (few 7 5 0) ≡ fewLines ++ word "lead 5 recording 0\n")
     × (textOf (few 0 5 3) ≡ fewLines ++ word "lead none\n")
 unfolding word digits places decimal refusedLines textOf
 few-text = (refl, refl, refl)
-
--- and of any numbers: a count that is not 0 has its line, and a some that is not 0 tells of a lead
-pub refused-told : (number count : ℕ) → (count ≡ 0 → ⊥)
-    → refusedLine number count ≡ word "refused " ++ decimal number ++ word " count " ++ decimal count ++ word "\n"
-refused-told number count n = rw (ne-eqb count 0 n)
-
-pub lead-told : (some lead recording : ℕ) → (some ≡ 0 → ⊥)
-    → leadLine some lead recording
-    ≡ word "lead " ++ decimal lead ++ word " recording " ++ decimal recording ++ word "\n"
-lead-told some lead recording n = rw (ne-eqb some 0 n)
 
 -- the longest: all numbers are the largest of 64 bits
 abbrev all : ℕ → Report

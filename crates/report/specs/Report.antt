@@ -5,9 +5,12 @@ use Prim.Native.Nat.{ℕ, zero, suc, _+_, _≤_, _<_}
 use mathlib.Core.Bool.{Bool, true, cond, _&&_, _||_}
 use mathlib.Core.List.{List, [], _∷_, map}
 use mathlib.Core.Option.{Option, none, some}
-use lib.ListN.{length, getD, take}
+use lib.ListN.{length, getD, take, replicate}
 use lib.Dec.{eqb, ltb, leb}
 use Rattle.base.specs.Tables.{tabulate}
+use Rattle.rates.specs.declared.Rate.{Rate}
+use Rattle.rates.specs.declared.Rate.the-variants.{One, Two, Five, Eleven}
+use Rattle.rates.specs.Rates.{codeOf, rateOf}
 use Rattle.report.specs.Totals.{
   Recording,
   Outcome,
@@ -28,7 +31,7 @@ use Rattle.report.specs.declared.Counted.{Counted}
 
 -- the rates by their codes, rising
 abbrev pub codes : List ℕ
-codes = 10 ∷ 20 ∷ 55 ∷ 110 ∷ []
+codes = codeOf One ∷ codeOf Two ∷ codeOf Five ∷ codeOf Eleven ∷ []
 
 -- whether there is a smallest lead, and what is told of it: lead 0 is a lead
 abbrev pub isThere : Option Closest → ℕ
@@ -42,6 +45,20 @@ leadTold (some c) = c .lead
 abbrev pub recordingTold : Option Closest → ℕ
 recordingTold none = 0
 recordingTold (some c) = c .recording
+
+-- the report at first: all zeros. It is the report of no recording (`none-counted` of proofs/Lists.antt)
+abbrev pub empty : Report
+empty =
+    record {
+      seen = 0;
+      frames = replicate 4 0;
+      octets = replicate 4 0;
+      refused = replicate 18 0;
+      airtime = 0;
+      some = 0;
+      lead = 0;
+      recording = 0;
+    }
 
 unfoldable pub reportOf : List Outcome → Report
 reportOf os =
@@ -65,8 +82,14 @@ more zero x (y ∷ ys) = (y + x) ∷ ys
 more (suc k) x (y ∷ ys) = y ∷ more k x ys
 
 -- the entry of a rate, by its code
+abbrev pub rateEntry : Rate → ℕ
+rateEntry One = 0
+rateEntry Two = 1
+rateEntry Five = 2
+rateEntry Eleven = 3
+
 abbrev pub entryOf : ℕ → ℕ
-entryOf code = cond (eqb code 10) 0 (cond (eqb code 20) 1 (cond (eqb code 55) 2 3))
+entryOf code = rateEntry (rateOf code)
 
 -- a frame's lead is taken if none was before, or if it is smaller: so the first of equals stays
 abbrev pub isCloser : Report → ℕ → Bool
@@ -117,8 +140,9 @@ takesMore p =
     ltb (p .seen) 1000 && atMost 1000 (p .frames) && atMost 4095000 (p .octets) && atMost 1000 (p .refused)
     && leb (p .airtime) 32952000
 
--- the same in plain numbers
-pub record Within (p : Report) : Type 0 where
+-- The same limits once more, in plain numbers, for what is promised of any report: a promise must not cite the test
+-- that the code computes. `takes` and `limits-take` of proofs/Lists.antt join the two.
+pub record Limits (p : Report) : Type 0 where
   pub seen-below : p .seen < 1000
   pub frames-within : (j : ℕ) → getD (p .frames) j 0 ≤ 1000
   pub octets-within : (j : ℕ) → getD (p .octets) j 0 ≤ 4095000
@@ -145,4 +169,4 @@ listOf kinds list =
       number = cond (leb (length list) 1000) 0 31;
       report = reportOf (map outcomeOf (take 1000 (recordings kinds list)));
     })
-    (record { number = 7; report = reportOf [] })
+    (record { number = 7; report = empty })

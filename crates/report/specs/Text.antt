@@ -6,8 +6,10 @@ use Prim.Native.Char.{code}
 use Prim.Native.String.{String, [] as end, _∷_ as _then_}
 use mathlib.Core.Bool.{cond}
 use mathlib.Core.List.{List, [], _∷_, _++_}
-use lib.ListN.{length, getD, replicate}
+use lib.ListN.{length, getD, take, replicate}
 use lib.Dec.{eqb, ltb}
+use Rattle.rates.specs.declared.Rate.the-variants.{One, Two, Five, Eleven}
+use Rattle.rates.specs.Rates.{codeOf}
 use Rattle.report.specs.declared.Report.{Report}
 use Rattle.report.specs.declared.Spelled.{Spelled}
 
@@ -58,23 +60,23 @@ leadLine some lead recording =
 
 unfoldable pub textOf : Report → List ℕ
 textOf p =
-    rateLine 10 (getD (p .frames) 0 0) (getD (p .octets) 0 0)
-    ++ rateLine 20 (getD (p .frames) 1 0) (getD (p .octets) 1 0)
-    ++ rateLine 55 (getD (p .frames) 2 0) (getD (p .octets) 2 0)
-    ++ rateLine 110 (getD (p .frames) 3 0) (getD (p .octets) 3 0)
+    rateLine (codeOf One) (getD (p .frames) 0 0) (getD (p .octets) 0 0)
+    ++ rateLine (codeOf Two) (getD (p .frames) 1 0) (getD (p .octets) 1 0)
+    ++ rateLine (codeOf Five) (getD (p .frames) 2 0) (getD (p .octets) 2 0)
+    ++ rateLine (codeOf Eleven) (getD (p .frames) 3 0) (getD (p .octets) 3 0)
     ++ refusedLines 17 (p .refused)
     ++ airtimeLine (p .airtime)
     ++ leadLine (p .some) (p .lead) (p .recording)
 
 -- ---- the call
 
--- 17: the octet buffer is shorter than the text, and is zeros; else zeros follow the text
+-- 17: the octet buffer is shorter than the text
 unfoldable pub spelledOf : Report → ℕ → Spelled
 spelledOf p room =
     cond (ltb room (length (textOf p))) (record { number = 17; octets = 0 })
     (record { number = 0; octets = length (textOf p) })
 
+-- as much of the text as is told, the whole or nothing, and zeros after it
 unfoldable pub textLeft : Report → ℕ → List ℕ
 textLeft p room =
-    cond (ltb room (length (textOf p))) (replicate room 0)
-    (textOf p ++ replicate (room - length (textOf p)) 0)
+    let told = spelledOf p room .octets in take told (textOf p) ++ replicate (room - told) 0

@@ -7,31 +7,33 @@ use Prim.Native.Nat.{ℕ, zero, suc, _+_, _-_, _≤_, _<_}
 use native.Mathlib.Nat.{not-suc-le-zero, le-trans}
 use native.Mathlib.Decide.{decLt}
 use native.Mathlib.Omega.{arith}
-use borrow.Author.Tests.{lt-ltb, le-ltb, le-leb, lt-leb, eq-eqb, ne-eqb}
+use borrow.Author.Tests.{le-leb, lt-leb, eq-eqb, ne-eqb}
 use lib.Dec.{leb}
 use lib.ListN.{length, take, replicate, length-map, length-append, length-take, length-replicate}
 use lib.Seq.{take-all, take-append-seam, drop-append-seam}
-use Rattle.base.specs.Tables.{tabulate}
 use Rattle.report.specs.declared.Report.{Report}
 use Rattle.report.specs.declared.Counted.{Counted}
 use Rattle.report.specs.declared.Spelled.{Spelled}
-use Rattle.report.specs.Totals.{Recording, Outcome, outcomeOf, total, accepted, closestFrom}
+use Rattle.report.specs.Totals.{Recording, Outcome, outcomeOf, accepted}
 use Rattle.report.specs.Report.{
+  empty,
   reportOf,
   withFrame,
   withRefusal,
   added,
   takesMore,
-  Within,
+  Limits,
   countedOf,
   recordings,
   listOf,
 }
-use Rattle.report.specs.Text.{textOf, spelledOf, textLeft}
+use Rattle.report.specs.Text.{textOf, textLeft}
+use Rattle.report.specs.Said.{TextSaid}
+use Rattle.report.proofs.Said.{text-said}
 use Rattle.report.proofs.Taking.{counted-next, counted-full}
-use Rattle.report.proofs.Lists.{takes, within-takes}
-use Rattle.report.proofs.Spelling.{text-most}
-use Rattle.report_promises.specs.Calls.{empty, Kept, nothing-yet, one-more, Readings, none-read, one-read}
+use Rattle.report.proofs.Lists.{takes, limits-take, none-counted}
+use Rattle.report.proofs.Spelling.{spelled-whole, spelled-refused, text-most}
+use Rattle.report_promises.specs.Calls.{Kept, nothing-yet, one-more, Readings, none-read, one-read}
 use Rattle.report_promises.specs.Promises.{
   TotalsOf,
   ReportKept,
@@ -39,6 +41,7 @@ use Rattle.report_promises.specs.Promises.{
   AnyReport,
   ListAlike,
   TextFills,
+  TextSays,
   OneReport,
   ReportPromised,
 }
@@ -63,10 +66,6 @@ take-long (suc n) (r ∷ rs) qs h = ap (λ (l : List Recording). r ∷ l) (take-
 
 abbrev firsts : List Recording → Report
 firsts rs = reportOf (map outcomeOf (take 1000 rs))
-
-none-counted : empty ≡ reportOf []
-unfolding reportOf total closestFrom tabulate
-none-counted = refl
 
 -- ---- one call more
 module _ (rs : List Recording) (r : Recording) (c : Counted) (answer : c ≡ countedOf (firsts rs) r) where
@@ -140,7 +139,7 @@ taken : (p : Report) (r : Recording) → takesMore p ≡ true
 unfolding countedOf
 taken p r e = rw e
 
-as-it-stood : (p : Report) (r : Recording) (t : Bool) → takesMore p ≡ t → (Within p → ⊥)
+as-it-stood : (p : Report) (r : Recording) (t : Bool) → takesMore p ≡ t → (Limits p → ⊥)
     → countedOf p r ≡ record { number = 31; report = p }
 unfolding countedOf
 as-it-stood p r true e n = absurd (n (takes p e))
@@ -149,7 +148,7 @@ as-it-stood p r false e n = rw e
 any-report : AnyReport
 any-report p kind chips c a =
     let r : Recording = record { kind = kind; chips = chips } in (
-      (λ w. let answer = a .answer ∙ taken p r (within-takes p w) in (
+      (λ w. let answer = a .answer ∙ taken p r (limits-take p w) in (
         ap (λ (v : Counted). v .number) answer,
         ap (λ (v : Counted). v .report .seen) answer ∙ seen-more p (outcomeOf r),
       )),
@@ -161,9 +160,7 @@ any-report p kind chips c a =
 module _ (kinds : List ℕ) (list : List (List ℕ)) where
   rows-differ : (length kinds ≡ length list → ⊥) → listOf kinds list ≡ record { number = 7; report = empty }
   unfolding listOf
-  rows-differ n =
-      rw (ne-eqb (length kinds) (length list) n)
-      (ap (λ (p : Report). record { number = 7; report = p }) (sym none-counted))
+  rows-differ n = rw (ne-eqb (length kinds) (length list) n)
 
   rows-agree : length kinds ≡ length list
       → listOf kinds list ≡ record {
@@ -191,17 +188,6 @@ module _ (p : Report) (room : ℕ) where
   abbrev text : List ℕ
   text = textOf p
 
-  fits : length text ≤ room
-      → (spelledOf p room ≡ record { number = 0; octets = length text })
-      × (textLeft p room ≡ text ++ replicate (room - length text) 0)
-  unfolding spelledOf textLeft
-  fits h = (rw (le-ltb room (length text) h), rw (le-ltb room (length text) h))
-
-  no-room : room < length text
-      → (spelledOf p room ≡ record { number = 17; octets = 0 }) × (textLeft p room ≡ replicate room 0)
-  unfolding spelledOf textLeft
-  no-room h = (rw (lt-ltb room (length text) h), rw (lt-ltb room (length text) h))
-
   left-length : length (textLeft p room) ≡ room
   left-length = by (decLt room (length text))
     where
@@ -209,9 +195,9 @@ module _ (p : Report) (room : ℕ) where
       again n h = omega arith
 
       by : Dec (room < length text) → length (textLeft p room) ≡ room
-      by (yes h) = ap length (no-room h .1) ∙ length-replicate room 0
+      by (yes h) = ap length (spelled-refused p room h .1) ∙ length-replicate room 0
       by (no h) =
-          ap length (fits (omega arith) .1)
+          ap length (spelled-whole p room (omega arith) .1)
           ∙ length-append text (replicate (room - length text) 0)
           ∙ ap (λ (n : ℕ). length text + n) (length-replicate (room - length text) 0)
           ∙ again (length text) (omega arith)
@@ -220,17 +206,26 @@ text-fills : TextFills
 text-fills p room s left f =
     let t = textOf p in (
       ap length (f .octets) ∙ left-length p room,
-      (λ h. let e = f .answer ∙ fits p room h .0 in
+      (λ h. let e = f .answer ∙ spelled-whole p room h .0 in
           let count : s .octets ≡ length t = ap (λ (v : Spelled). v .octets) e in
-          let all = f .octets ∙ fits p room h .1 in (
+          let all = f .octets ∙ spelled-whole p room h .1 in (
             ap (λ (v : Spelled). v .number) e,
             count,
             rw (all, count) (take-append-seam t (replicate (room - length t) 0)),
             rw (all, count) (drop-append-seam t (replicate (room - length t) 0)),
           )),
-      (λ h. (f .answer ∙ no-room p room h .0, f .octets ∙ no-room p room h .1)),
-      λ h. ap (λ (v : Spelled). v .number) (f .answer ∙ fits p room (le-trans (text-most p) h) .0),
+      (λ h. (f .answer ∙ spelled-refused p room h .0, f .octets ∙ spelled-refused p room h .1)),
+      λ h. ap (λ (v : Spelled). v .number) (f .answer ∙ spelled-whole p room (le-trans (text-most p) h) .0),
     )
+
+text-says : TextSays
+text-says p room s left f fit z = by (decLt room (length (textOf p)))
+  where
+    by : Dec (room < length (textOf p)) → TextSaid p (take (s .octets) left)
+    by (yes h) =
+        let refused : s .number ≡ 17 = ap (λ (v : Spelled). v .number) (text-fills p room s left f .2 h .0) in
+        absurd (omega arith)
+    by (no h) = rw (text-fills p room s left f .1 (omega arith) .2) (text-said p fit)
 
 -- ---- each contract is an equation with a definition
 one-report : OneReport
@@ -247,5 +242,6 @@ kept-report = record {
   any-report = any-report;
   list-alike = list-alike;
   text-fills = text-fills;
+  text-says = text-says;
   one-report = one-report;
 }

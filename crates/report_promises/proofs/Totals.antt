@@ -8,7 +8,7 @@ use native.Mathlib.Nat.{not-suc-le-zero, le-of-suc-le-suc, zero-mul}
 use native.Mathlib.Decide.{decLt}
 use native.Mathlib.Omega.{arith}
 use borrow.Author.Tests.{eqb-true, eq-eqb}
-use lib.Dec.{T, eqb, lit≤}
+use lib.Dec.{T, eqb}
 use lib.ListN.{length, getD, List·getD-eq-default}
 use Rattle.base.specs.Tables.{tabulate}
 use Rattle.base.proofs.Tables.{getD-tabulate}
@@ -18,7 +18,7 @@ use Rattle.report.specs.Totals.{Recording, Outcome, outcomeOf, total, accepted,
 use Rattle.report.specs.Report.{reportOf, more, entryOf, withFrame, withRefusal, added}
 use Rattle.report.proofs.Outcomes.{Fair, fair}
 use Rattle.report.proofs.Laws.{total-most}
-use Rattle.report.proofs.Added.{length-more, added-more}
+use Rattle.report.proofs.Added.{entry-below, length-more, added-more}
 use Rattle.report.proofs.Taking.{map-more, one-most}
 use Rattle.report_promises.specs.Promises.{LeadTold, sumOf, TotalsOf}
 use Rattle.report_promises.proofs.Lead.{lead-told}
@@ -30,15 +30,6 @@ unfolding sumOf more
 sum-more k x [] h = absurd (not-suc-le-zero h)
 sum-more zero x (y ∷ l) h = omega arith
 sum-more (suc k) x (y ∷ l) h = omega (arith, sum-more k x l (le-of-suc-le-suc h))
-
-entry-below : (code : ℕ) → entryOf code < 4
-entry-below code = by (eqb code 10) (eqb code 20) (eqb code 55)
-  where
-    by : (a b c : Bool) → cond a 0 (cond b 1 (cond c 2 3)) < 4
-    by true b c = lit≤ tt
-    by false true c = lit≤ tt
-    by false false true = lit≤ tt
-    by false false false = lit≤ tt
 
 -- four rates, eighteen numbers, and as many counted as were seen
 record Whole (p : Report) : Type 0 where

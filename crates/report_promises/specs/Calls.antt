@@ -4,14 +4,13 @@
 use Prim.Native.Nat.{ℕ}
 use mathlib.Core.Path.{_≡_}
 use mathlib.Core.List.{List, [], _∷_, _++_}
-use lib.ListN.{replicate}
 use Rattle.calls.specs.declared.Record.{Record}
 use Rattle.promises.specs.Calls.{ReadHard}
 use Rattle.report.specs.declared.Report.{Report}
 use Rattle.report.specs.declared.Counted.{Counted}
 use Rattle.report.specs.declared.Spelled.{Spelled}
 use Rattle.report.specs.Totals.{Recording, Outcome}
-use Rattle.report.specs.Report.{countedOf, listOf}
+use Rattle.report.specs.Report.{empty, countedOf, listOf}
 use Rattle.report.specs.Text.{spelledOf, textLeft}
 
 -- one recording more: its answer
@@ -26,20 +25,6 @@ pub record Lists (kinds : List ℕ) (list : List (List ℕ)) (c : Counted) : Typ
 pub record Spells (report : Report) (room : ℕ) (s : Spelled) (left : List ℕ) : Type 0 where
   pub answer : s ≡ spelledOf report room
   pub octets : left ≡ textLeft report room
-
--- the report at first: all zeros
-abbrev pub empty : Report
-empty =
-    record {
-      seen = 0;
-      frames = replicate 4 0;
-      octets = replicate 4 0;
-      refused = replicate 18 0;
-      airtime = 0;
-      some = 0;
-      lead = 0;
-      recording = 0;
-    }
 
 -- calls one after the other, each with the report as the last one left it, the first with all zeros; the recordings
 -- that were handed in

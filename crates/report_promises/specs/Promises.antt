@@ -11,10 +11,11 @@ use Rattle.report.specs.declared.Report.{Report}
 use Rattle.report.specs.declared.Counted.{Counted}
 use Rattle.report.specs.declared.Spelled.{Spelled}
 use Rattle.report.specs.Totals.{Recording, Outcome, framesAt, octetsAt, refusedWith, airtimeOf}
-use Rattle.report.specs.Report.{Within, recordings}
+use Rattle.report.specs.Report.{empty, Limits, recordings}
 use Rattle.report.specs.Text.{textOf}
+use Rattle.report.specs.Said.{TextSaid, Fits}
 use Rattle.promises.specs.Calls.{refused}
-use Rattle.report_promises.specs.Calls.{Adds, Lists, Spells, empty, Kept, Readings}
+use Rattle.report_promises.specs.Calls.{Adds, Lists, Spells, Kept, Readings}
 
 -- ---- the smallest lead
 
@@ -66,8 +67,8 @@ KeptAnswers =
 abbrev pub AnyReport : Type 0
 AnyReport =
     (p : Report) (kind : ℕ) (chips : List ℕ) (c : Counted) → Adds p kind chips c
-    → (Within p → (c .number ≡ 0) × (c .report .seen ≡ p .seen + 1))
-    × ((Within p → ⊥) → c ≡ record { number = 31; report = p })
+    → (Limits p → (c .number ≡ 0) × (c .report .seen ≡ p .seen + 1))
+    × ((Limits p → ⊥) → c ≡ record { number = 31; report = p })
 
 -- ---- a whole list: as calls one after the other, and the number of its last one; 7 where rows differ in length
 abbrev pub ListAlike : Type 0
@@ -90,6 +91,12 @@ TextFills =
     × (room < length (textOf p) → (s ≡ record { number = 17; octets = 0 }) × (left ≡ replicate room 0))
     × (980 ≤ room → s .number ≡ 0)
 
+-- ---- what it says: each line's words, and the report's numbers by their decimal digits; of reports of 64 bit numbers
+abbrev pub TextSays : Type 0
+TextSays =
+    (p : Report) (room : ℕ) (s : Spelled) (left : List ℕ) → Spells p room s left → Fits p → s .number ≡ 0
+    → TextSaid p (take (s .octets) left)
+
 -- ---- any two answers that a contract allows are equal, and so are the buffers
 abbrev pub OneReport : Type 0
 OneReport =
@@ -105,4 +112,5 @@ pub record ReportPromised : Type 0 where
   pub any-report : AnyReport
   pub list-alike : ListAlike
   pub text-fills : TextFills
+  pub text-says : TextSays
   pub one-report : OneReport

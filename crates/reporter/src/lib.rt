@@ -1,12 +1,12 @@
 // The month's report kept: one recording more, read and counted, and a whole list of recordings at once.
 ghost use mathlib.Core.Path.{_≡_};
 ghost use mathlib.Core.Bool.{true, _||_};
-ghost use mathlib.Core.List.{[], map};
+ghost use mathlib.Core.List.{map};
 ghost use Prim.Native.Nat.{_≤_};
 ghost use lib.Dec.{eqb, ltb};
 ghost use Rattle.report.specs.Totals.{Outcome, outcomeOf, frontTime};
 ghost use Rattle.report.specs.Report.{
-  reportOf,
+  empty,
   entryOf,
   withFrame,
   withRefusal,
@@ -159,7 +159,7 @@ pub fn add(report: Report, kind: u64, chips: &[u8]) -> Counted
 
 // Nothing counted.
 fn none() -> Report
-    ensures answer { λ r. ⌜ r ≡ reportOf [] ⌝ }
+    ensures answer { λ r. ⌜ r ≡ empty ⌝ }
 {
     Report {
         seen: 0,

@@ -4,6 +4,8 @@ use mathlib.Core.Path.{_≡_}
 use mathlib.Core.List.{List, [], _++_}
 use Prim.Native.Nat.{ℕ, zero, suc, _+_}
 use lib.ListN.{length, getD, take, drop}
+use Rattle.rates.specs.declared.Rate.the-variants.{Eleven}
+use Rattle.rates.specs.Rates.{codeOf}
 use Rattle.report.specs.Report.{codes}
 use Rattle.report.specs.Text.{word, decimal, rateLine}
 
@@ -20,7 +22,7 @@ pairLine first x second y = first ++ decimal x ++ second ++ decimal y ++ word "\
 
 -- the rate code of an entry, and the lines of the first k rates
 abbrev pub codeAt : ℕ → ℕ
-codeAt k = getD codes k 110
+codeAt k = getD codes k (codeOf Eleven)
 
 unfoldable pub rateLines : ℕ → List ℕ → List ℕ → List ℕ
 rateLines zero frames octets = []

@@ -9,11 +9,11 @@ use lib.ListN.{length, getD, take, length-take, length-map, List·getD-map}
 use lib.Seq.{take-all}
 use borrow.Author.Tests.{eq-eqb, ne-eqb, le-leb, lt-leb}
 use Rattle.report.specs.Totals.{Recording, outcomeOf}
-use Rattle.report.specs.Report.{reportOf, countedOf, recordings, listOf}
+use Rattle.report.specs.Report.{empty, reportOf, countedOf, recordings, listOf}
 use Rattle.report.specs.declared.Report.{Report}
 use Rattle.report.specs.declared.Counted.{Counted}
 use Rattle.report.proofs.Taking.{counted-next}
-use Rattle.report.proofs.Lists.{length-recordings, recordings-next}
+use Rattle.report.proofs.Lists.{none-counted, length-recordings, recordings-next}
 use Rattle.reporter.proofs.of_list.Statement.{statement}
 use Rattle.reporter.proofs.of_list.Tie as tie
 
@@ -32,7 +32,7 @@ abbrev answer : ℕ → Report → Counted
 answer number p = record { number = number; report = p }
 
 module _ (kinds : List ℕ) (list : List (RefT (List ℕ))) where
-  differ : (length kinds ≡ length list → ⊥) → answer 7 (reportOf []) ≡ listOf kinds (rows list)
+  differ : (length kinds ≡ length list → ⊥) → answer 7 empty ≡ listOf kinds (rows list)
   unfolding listOf
   differ h = rw (length-map, ne-eqb (length kinds) (length list) h)
 
@@ -85,7 +85,7 @@ returns c =
     ap (answer 7) (c .before .none .ensures) ∙ differ (a .kinds .now) (a .list .now) (λ e. omega (arith, c .if1 .taken))
 
 loop-holds : tie.Need-loop-holds Inv-loop μ-loop
-loop-holds c = (omega arith, omega arith, c .before .none .ensures)
+loop-holds c = (omega arith, omega arith, c .before .none .ensures ∙ none-counted)
 
 returns-2 : tie.Need-returns-2 Inv-loop μ-loop
 returns-2 c =

@@ -4,26 +4,20 @@ use mathlib.Core.Path.{_≡_, sym, _∙_}
 use mathlib.Core.Bool.{Bool, true, false, cond}
 use Prim.Native.Nat.{ℕ, _+_, _<_}
 use native.Mathlib.Omega.{arith}
-use lib.Dec.{eqb, lit<}
 use lib.ListN.{getD, set}
 use borrow.Author.Tests.{not-true, not-false}
 use Rattle.calls.specs.declared.Record.{Record}
 use Rattle.report.specs.Totals.{frontTime}
 use Rattle.report.specs.Report.{entryOf, isCloser, withFrame}
 use Rattle.report.specs.declared.Report.{Report}
+use Rattle.report.proofs.Added.{entry-below}
 use Rattle.report.proofs.Taking.{front-time}
 use Rattle.report.proofs.Lists.{takes, more-set}
 use Rattle.reporter.proofs.with_frame.Statement.{statement}
 use Rattle.reporter.proofs.with_frame.Tie as tie
 
 entry-few : (code at : ℕ) → at ≡ entryOf code → at < 4
-entry-few code at e = rw e (by (eqb code 10) (eqb code 20) (eqb code 55))
-  where
-    by : (a b c : Bool) → cond a 0 (cond b 1 (cond c 2 3)) < 4
-    by true b c = lit< tt
-    by false true c = lit< tt
-    by false false true = lit< tt
-    by false false false = lit< tt
+entry-few code at e = rw e (entry-below code)
 
 module _ (p : Report) (kind : ℕ) (a : Record) (at time : ℕ) (closer : Bool) where
   abbrev written : Report

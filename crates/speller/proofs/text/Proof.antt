@@ -7,11 +7,10 @@ use native.Mathlib.Omega.{arith}
 use lib.ListN.{length, take, drop, replicate, take-append-drop, length-replicate}
 use denote.Ref.{now}
 use borrow.Author.Needs.{needs}
-use borrow.Author.Tests.{lt-ltb, le-ltb}
 use Rattle.report.specs.declared.Report.{Report}
 use Rattle.report.specs.declared.Spelled.{Spelled}
 use Rattle.report.specs.Text.{textOf, spelledOf, textLeft}
-use Rattle.report.proofs.Spelling.{text-most}
+use Rattle.report.proofs.Spelling.{spelled-whole, spelled-refused, text-most}
 use Rattle.speller.specs.Put.{Put}
 use Rattle.speller.proofs.text.Statement.{statement}
 use Rattle.speller.proofs.text.Tie as tie
@@ -22,11 +21,10 @@ answer number octets = record { number = number; octets = octets }
 -- no room: the zeros stay
 refused : (p : Report) (d z row zs : List ℕ) (n : ℕ) → Put (textOf p) 0 zs n row → z ≡ replicate (length d) 0
     → length z < n → (answer 17 0 ≡ spelledOf p (length d)) × (z ≡ textLeft p (length d))
-unfolding spelledOf textLeft
 refused p d z row zs n put e h =
-    let short : length d < length (textOf p) =
-    omega (arith, put .stop, ap length e, length-replicate {A = ℕ} (length d) 0) in
-    (rw (lt-ltb (length d) (length (textOf p)) short), rw (lt-ltb (length d) (length (textOf p)) short) e)
+    let none = spelled-refused p (length d)
+    (omega (arith, put .stop, ap length e, length-replicate {A = ℕ} (length d) 0)) in
+    (sym (none .0), e ∙ sym (none .1))
 
 -- what was put is as long as it is told
 counted : (p : Report) (row zs : List ℕ) (n : ℕ) → Put (textOf p) 0 zs n row → n ≡ length (take n row)
@@ -40,17 +38,15 @@ zeros (suc k) (suc n) = let e : suc n - suc k ≡ n - k = omega arith in rw e (z
 copied : (p : Report) (d z row zs o : List ℕ) (n e : ℕ) → Put (textOf p) 0 zs n row → z ≡ replicate (length d) 0
     → n ≤ length z → Put (take n row) 0 z e o
     → (answer 0 e ≡ spelledOf p (length d)) × (o ≡ textLeft p (length d))
-unfolding spelledOf textLeft
 copied p d z row zs o n e put f h copy =
-    let fits : length (textOf p) ≤ length d =
-    omega (arith, put .stop, ap length f, length-replicate {A = ℕ} (length d) 0) in
+    let whole = spelled-whole p (length d)
+    (omega (arith, put .stop, ap length f, length-replicate {A = ℕ} (length d) 0)) in
     let end : e ≡ length (textOf p) = omega (arith, copy .stop, ap length (put .front)) in
     let text : take e o ≡ textOf p = copy .front ∙ put .front in
     let rest : drop e o ≡ replicate (length d - length (textOf p)) 0 =
     copy .rest ∙ ap (drop e) f ∙ zeros e (length d) ∙ ap (λ (k : ℕ). replicate (length d - k) 0) end in (
-      rw (le-ltb (length d) (length (textOf p)) fits) (ap (answer 0) end),
-      rw (le-ltb (length d) (length (textOf p)) fits)
-          (sym (take-append-drop e o) ∙ ap₂ {C = List ℕ} (λ a b. a ++ b) text rest),
+      ap (answer 0) end ∙ sym (whole .0),
+      sym (take-append-drop e o) ∙ ap₂ {C = List ℕ} (λ a b. a ++ b) text rest ∙ sym (whole .1),
     )
 
 put-text-requires : tie.Need-put-text-requires
