@@ -73,7 +73,6 @@ use Rattle.promises.specs.Coming.{
   ToldAlike,
   FrontOnly,
   HandedPart,
-  OneComing,
 }
 use Rattle.promises.proofs.Fills.{some-number}
 use Rattle.promises.proofs.Only.{goes, length-told}
@@ -302,11 +301,4 @@ pub handed-part : HandedPart
 handed-part c chips part f = (
   (λ h. f .chips-are ∙ part-there (c .at) (c .count) chips h),
   λ h. f .chips-are ∙ part-none (c .at) (c .count) chips h,
-)
-
--- each contract is an equation with a definition
-pub one-coming : OneComing
-one-coming = (
-  (λ kind chips c c′ f f′. f .answer ∙ sym (f′ .answer)),
-  λ c chips part part′ f f′. f .chips-are ∙ sym (f′ .chips-are),
 )

@@ -85,7 +85,6 @@ use Rattle.promises.specs.Finding.{
   StartFound,
   WhenNone,
   NoneFound,
-  OneFound,
 }
 use Rattle.promises.proofs.Only.{goes, length-told}
 use Rattle.promises.proofs.Coming.{front-of, goes-on}
@@ -336,7 +335,3 @@ start-found kind offsets chips f x z =
     subst (WhenFound kind offsets chips) (sym (x .answer))
     (when-found kind offsets chips (findingOf kind offsets (hardRecording chips))
     (finding-comes kind offsets (hardRecording chips)) (sym (number-is kind offsets chips f x) ∙ z))
-
--- the contract is an equation with a definition
-pub one-found : OneFound
-one-found kind offsets chips f f′ x x′ = x .answer ∙ sym (x′ .answer)

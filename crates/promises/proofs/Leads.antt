@@ -54,6 +54,7 @@ use Rattle.reading.specs.Reading.{
 }
 use Rattle.reading.proofs.Leads.{leads-length, leads-at, LeastIs, least-is}
 use Rattle.reading.proofs.Refusals.{PayloadIf, payload-comes}
+use Rattle.promises.specs.Calls.{in-hard, in-soft, in-bytes}
 use Rattle.promises.specs.Right.{exactFrom, Keeps}
 use Rattle.promises.specs.Leads.{
   SymbolOf,
@@ -64,9 +65,7 @@ use Rattle.promises.specs.Leads.{
   LeastIn,
   LeastTold,
   Sure,
-  HardSure,
-  SoftSure,
-  BytesSure,
+  RowsSure,
 }
 use Rattle.promises.proofs.Fills.{some-number}
 use Rattle.promises.proofs.Only.{code-back}
@@ -296,11 +295,7 @@ any-lead q lead h = rw (mul-zero (symbolChips q)) (mul-pos lead (2 ^ 139) h (pow
 more-chips : (q : Rate) (lead : ℕ) → symbolChips q < lead → symbolChips q * (2 * 2 ^ 138) < lead * 2 ^ 139
 more-chips q lead h = mul-lt-mul-of-pos-right h (pow-pos 139)
 
-pub hard-sure : HardSure
-hard-sure octets = sure 0 (λ q. 0) _ _ _ (hard-keeps octets) (hard-good octets) any-lead
-
-pub soft-sure : SoftSure
-soft-sure i q = sure (2 ^ 138) symbolChips _ _ _ (soft-keeps i q) (soft-good i q) more-chips
-
-pub bytes-sure : BytesSure
-bytes-sure bytes = sure 0 (λ q. 0) _ _ _ (bytes-keep bytes) (bytes-good bytes) any-lead
+pub rows-sure : RowsSure
+rows-sure (in-hard octets) = sure 0 (λ q. 0) _ _ _ (hard-keeps octets) (hard-good octets) any-lead
+rows-sure (in-soft i q) = sure (2 ^ 138) symbolChips _ _ _ (soft-keeps i q) (soft-good i q) more-chips
+rows-sure (in-bytes bytes) = sure 0 (λ q. 0) _ _ _ (bytes-keep bytes) (bytes-good bytes) any-lead

@@ -4,9 +4,9 @@ use mathlib.Core.Path.{_≡_, refl, sym, ap, _∙_, subst}
 use mathlib.Core.Bool.{Bool, true, false, cond, not}
 use mathlib.Core.List.{List, [], _∷_}
 use mathlib.Core.Option.{Option, none, some}
-use Prim.Native.Nat.{ℕ, zero, suc, _-_, _%_}
+use Prim.Native.Nat.{ℕ, zero, suc, _-_, _%_, _<_}
 use native.Mathlib.Omega.{arith}
-use borrow.Author.Tests.{eq-eqb}
+use borrow.Author.Tests.{lt-ltb, eq-eqb, ne-eqb}
 use lib.Dec.{T, eqb}
 use lib.ListN.{length, take, drop}
 use lib.IntN.{ℤ}
@@ -24,8 +24,8 @@ use Rattle.calls.specs.declared.Reading.the-variants as reading
 use Rattle.calls.specs.declared.Record.{Record}
 use Rattle.calls.specs.Answers.{refusalNumber, recordOf}
 use Rattle.reading.specs.Reading.{firstUnusable, frontOf, wholeOf, payloadReading, afterFront, readingOf}
-use Rattle.promises.specs.Calls.{Read}
-use Rattle.promises.specs.Only.{SevenOnly, NoByteUnusable}
+use Rattle.promises.specs.Calls.{Read, in-hard, in-soft, in-bytes, refused}
+use Rattle.promises.specs.Only.{RowsRefused, NoByteUnusable}
 use Rattle.reading.proofs.Refusals.{
   front-short,
   front-unusable,
@@ -136,16 +136,16 @@ not-nine : (k : Kind) (agree : Bool) (rec : List Taken) (e : Refusal) → NoneUn
     → refusalNumber e ≡ 9 → ⊥
 not-nine k agree rec e u no-kind z = omega arith
 not-nine k agree rec e u (rows-differ d) z = omega arith
-not-nine k agree rec e u (by-front (met-in-front front-short)) z = omega arith
-not-nine k agree rec e u (by-front (met-in-front (front-unusable p f))) z =
+not-nine k agree rec e u (by-front (met-in-front (front-short l))) z = omega arith
+not-nine k agree rec e u (by-front (met-in-front (front-unusable p l f))) z =
     no-some (none-found 0 (usable-take (frontChips k) u)) f
-not-nine k agree rec e u (by-front (met-in-front (front-odd p f))) z = omega arith
-not-nine k agree rec e u (by-front (met-in-front sfd-differs)) z = omega arith
-not-nine k agree rec e u (by-front (met-in-front crc-differs)) z = omega arith
-not-nine k agree rec e u (by-front (met-in-front (no-signal l))) z = omega arith
-not-nine k agree rec e u (by-front (met-in-front (no-service l))) z = omega arith
-not-nine k agree rec e u (by-front (met-in-front (no-length l))) z = omega arith
-not-nine k agree rec e u (by-front (frame-ends l)) z = omega arith
+not-nine k agree rec e u (by-front (met-in-front (front-odd p l v f))) z = omega arith
+not-nine k agree rec e u (by-front (met-in-front (sfd-differs c d))) z = omega arith
+not-nine k agree rec e u (by-front (met-in-front (crc-differs c s d))) z = omega arith
+not-nine k agree rec e u (by-front (met-in-front (no-signal s a))) z = omega arith
+not-nine k agree rec e u (by-front (met-in-front (no-service s a b))) z = omega arith
+not-nine k agree rec e u (by-front (met-in-front (no-length s a b d))) z = omega arith
+not-nine k agree rec e u (by-front (frame-ends t h l)) z = omega arith
 not-nine k agree rec e u (by-payload t no-room) z = omega arith
 not-nine k agree rec e u (by-payload t (payload-unusable p f)) z =
     no-some
@@ -172,9 +172,19 @@ agreeing : (rec : List Taken) (kind : ℕ) (agree : Bool) (room : ℕ) (a : Reco
 agreeing rec kind agree room a left read same =
     unanswered 7 (λ z. omega arith) kind agree rec room a left read (λ e. not-seven _ _ _ e same)
 
-pub seven-only : SevenOnly
-seven-only = (
-  (λ kind i q room a left read seven e. agreeing _ kind _ room a left read (eq-eqb (length i) (length q) e) seven),
-  (λ kind bytes room a left read seven e. agreeing _ kind _ room a left read (eq-eqb (length bytes % 2) 0 e) seven),
-  λ kind chips room a left read seven. agreeing _ kind true room a left read refl seven,
+differing : (rec : List Taken) (kind : ℕ) (agree : Bool) (room : ℕ) (a : Record) (left : List ℕ)
+    → Read kind agree rec room a left → kind < 2 → agree ≡ false → a ≡ refused 7 0
+unfolding readingOf
+differing rec kind agree room a left read h e = read .answer ∙ simp (lt-ltb kind 2 h, e)
+
+pub rows-refused : RowsRefused
+rows-refused kind (in-hard octets) room a left read =
+    ((λ h n. absurd (n tt)), λ seven e. agreeing _ kind true room a left read refl seven)
+rows-refused kind (in-soft i q) room a left read = (
+  (λ h n. differing _ kind _ room a left read h (ne-eqb (length i) (length q) n)),
+  λ seven e. agreeing _ kind _ room a left read (eq-eqb (length i) (length q) e) seven,
+)
+rows-refused kind (in-bytes bytes) room a left read = (
+  (λ h n. differing _ kind _ room a left read h (ne-eqb (length bytes % 2) 0 n)),
+  λ seven e. agreeing _ kind _ room a left read (eq-eqb (length bytes % 2) 0 e) seven,
 )

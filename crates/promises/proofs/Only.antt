@@ -3,9 +3,9 @@
 use mathlib.Core.Path.{_≡_, refl, sym, ap, _∙_, subst}
 use mathlib.Core.Bool.{Bool, true, not}
 use mathlib.Core.List.{List}
-use Prim.Native.Nat.{ℕ, zero, suc, _%_, _≤_}
+use Prim.Native.Nat.{ℕ, zero, suc, _≤_}
 use native.Mathlib.Omega.{arith}
-use borrow.Author.Tests.{leb-true, lt-ltb, le-ltb, ne-eqb}
+use borrow.Author.Tests.{leb-true, le-ltb}
 use lib.Dec.{T, ltb, leb, nltb→le}
 use lib.ListN.{length}
 use lib.IntN.{pos}
@@ -36,7 +36,7 @@ use Rattle.calls.specs.Answers.{writtenOf, recordOf}
 use Rattle.calls.specs.Writing.{writingOf}
 use Rattle.reading.specs.Reading.{frontOf, wholeOf, payloadReading, afterFront, readingOf}
 use Rattle.promises.specs.Calls.{Goes, long-1, long-2, long-5, long-11, short-2, short-5, short-11, Sent}
-use Rattle.promises.specs.Only.{OnlySent, Readable, OnlyReadable, RefusedShows, RowsRefused, OddBytesRefused}
+use Rattle.promises.specs.Only.{OnlySent, Readable, OnlyReadable, RefusedShows}
 use Rattle.reading.proofs.Refusals.{PayloadIf, payload-comes}
 use Rattle.promises.proofs.Fills.{some-number}
 
@@ -197,15 +197,3 @@ refused-shows kind agree rec room a left read some-is =
     go : (g : Reading) → (recordOf g .number ≡ 0 → ⊥) → Nothing (recordOf g)
     go (reading.Refused e) h = (refl, refl, refl, refl, refl, refl)
     go (reading.Good t used least) h = absurd (h refl)
-
--- ---- soft rows that differ
-pub rows-refused : RowsRefused
-unfolding readingOf
-rows-refused kind i q room a left h differ read =
-    read .answer ∙ simp (lt-ltb kind 2 h, ne-eqb (length i) (length q) differ)
-
--- ---- bytes of an odd number
-pub odd-bytes-refused : OddBytesRefused
-unfolding readingOf
-odd-bytes-refused kind bytes room a left h odd read =
-    read .answer ∙ simp (lt-ltb kind 2 h, ne-eqb (length bytes % 2) 0 (λ e. omega arith))

@@ -47,6 +47,7 @@ use Rattle.frame.specs.declared.Kind.{Kind}
 use Rattle.frame.specs.declared.Kind.the-variants.{Long, Short}
 use Rattle.frame.specs.Frame.{headerRate, frontChips, preambleLength, headerLength, preambleChips}
 use Rattle.reading.specs.Reading.{decidedWords, preambleWords, headerWords, payloadWords}
+use Rattle.promises.specs.Calls.{in-hard, in-soft, in-bytes}
 use Rattle.promises.specs.Right.{
   exactFrom,
   EachRight,
@@ -54,11 +55,9 @@ use Rattle.promises.specs.Right.{
   Keeps,
   RecordedRight,
   exactHard,
-  HardRight,
   exactSoft,
-  SoftRight,
   exactBytes,
-  BytesRight,
+  RowsRight,
 }
 
 -- the j-th of m words
@@ -220,9 +219,6 @@ hard-good octets place h =
     let x = getD octets place 5 in
     rw (List·getD-map hardTaken octets place 5, unusable-hard x, le-leb x 4 h) tt
 
-pub hard-right : HardRight
-hard-right octets = where-good (hard-good octets) (recorded-right 0 _ _ (hard-keeps octets))
-
 -- ---- soft recordings keep theirs up to half a count
 pub soft-used : (x y : Float) → T (not (isUnusable (softTaken x y))) → T (usableSample (sample x y))
 soft-used x y t = go (usableSample (sample x y)) (isUnusable (softTaken x y)) (unusable-soft x y) t
@@ -266,9 +262,6 @@ soft-good (x ∷ i) (y ∷ q) zero u = rw (unusable-soft x y) (twice (usable x) 
     twice false b s t = s
 soft-good (x ∷ i) (y ∷ q) (suc place) u = soft-good i q place u
 
-pub soft-right : SoftRight
-soft-right i q = where-good (soft-good i q) (recorded-right (2 ^ 138) _ _ (soft-keeps i q))
-
 -- ---- byte recordings keep theirs exactly
 pub bytes-keep : (bytes : List ℤ) → Keeps 0 (exactBytes bytes) (byteRecording bytes)
 unfolding exactBytes byteRecording
@@ -289,5 +282,8 @@ bytes-keep bytes = record { as-long = as-long bytes; near = near bytes }
 pub bytes-good : (bytes : List ℤ) (place : ℕ) → 2 * place + 1 < length bytes → Usable (byteRecording bytes) place
 bytes-good bytes place h = rw (bytes-usable bytes place (omega arith)) tt
 
-pub bytes-right : BytesRight
-bytes-right bytes = where-good (bytes-good bytes) (recorded-right 0 _ _ (bytes-keep bytes))
+-- ---- so each of them is read right
+pub rows-right : RowsRight
+rows-right (in-hard octets) = where-good (hard-good octets) (recorded-right 0 _ _ (hard-keeps octets))
+rows-right (in-soft i q) = where-good (soft-good i q) (recorded-right (2 ^ 138) _ _ (soft-keeps i q))
+rows-right (in-bytes bytes) = where-good (bytes-good bytes) (recorded-right 0 _ _ (bytes-keep bytes))

@@ -26,6 +26,11 @@ use Rattle.promises.specs.Calls.{
   ReadHard,
   ReadSoft,
   ReadBytes,
+  in-hard,
+  in-soft,
+  in-bytes,
+  to-write,
+  to-read,
   refused,
   Goes,
   long-1,
@@ -77,7 +82,9 @@ module _ (kind rate phase clock : ℕ) (payload : List ℕ) (room : ℕ) (w : Wr
 
   pub written-once : (w′ : Written) (left′ : List ℕ) → Wrote kind rate phase clock payload room w′ left′
       → (w ≡ w′) × (left ≡ left′)
-  written-once w′ left′ g = kept .one-answer .0 kind rate phase clock payload room w w′ left left′ f g
+  written-once w′ left′ g =
+      let e = kept .one-answer (to-write kind rate phase clock payload room) (w, left) (w′, left′) f g in
+      ((λ i. e i .0), λ i. e i .1)
 
 -- ---- a read, whatever recorded
 module _ (kind : ℕ) (agree : Bool) (rec : List Taken) (room : ℕ) (a : Record) (left : List ℕ)
@@ -126,31 +133,32 @@ module _ (kind : ℕ) (agree : Bool) (rec : List Taken) (room : ℕ) (a : Record
       by (length-11 n l h g) = (h, g)
 
   pub read-once : (a′ : Record) (left′ : List ℕ) → Read kind agree rec room a′ left′ → (a ≡ a′) × (left ≡ left′)
-  read-once a′ left′ g = kept .one-answer .1 kind agree rec room a a′ left left′ f g
+  read-once a′ left′ g =
+      let e = kept .one-answer (to-read kind agree rec room) (a, left) (a′, left′) f g in ((λ i. e i .0), λ i. e i .1)
 
 -- ---- 7: rows that differ, under either kind; and nowhere else
 pub shorter-i-refused : (kind : ℕ) (i q : List Float) (room : ℕ) (a : Record) (left : List ℕ) → kind < 2
     → length i < length q → ReadSoft kind i q room a left → a ≡ refused 7 0
 shorter-i-refused kind i q room a left k l f =
-    kept .rows-refused kind i q room a left k (λ z. omega (arith, z, l)) f
+    kept .rows-refused kind (in-soft i q) room a left f .0 k (λ z. omega (arith, z, l))
 
 pub odd-refused : (kind : ℕ) (bytes : List ℤ) (n room : ℕ) (a : Record) (left : List ℕ) → kind < 2
     → length bytes ≡ 2 * n + 1 → ReadBytes kind bytes room a left → a ≡ refused 7 0
 odd-refused kind bytes n room a left k e f =
-    kept .odd-bytes-refused kind bytes room a left k (omega (arith, e)) f
+    kept .rows-refused kind (in-bytes bytes) room a left f .0 k (λ z. omega (arith, z, e))
 
 pub no-seven : (kind : ℕ) (chips : List ℕ) (room : ℕ) (a : Record) (left : List ℕ) → ReadHard kind chips room a left
     → a .number ≡ 7 → ⊥
-no-seven kind chips room a left f e = kept .seven-only .2 kind chips room a left f e
+no-seven kind chips room a left f e = kept .rows-refused kind (in-hard chips) room a left f .1 e tt
 
 pub no-seven-same : (kind : ℕ) (i : List Float) (room : ℕ) (a : Record) (left : List ℕ)
     → ReadSoft kind i i room a left → a .number ≡ 7 → ⊥
-no-seven-same kind i room a left f e = kept .seven-only .0 kind i i room a left f e refl
+no-seven-same kind i room a left f e = kept .rows-refused kind (in-soft i i) room a left f .1 e refl
 
 pub no-seven-even : (kind n : ℕ) (bytes : List ℤ) (room : ℕ) (a : Record) (left : List ℕ)
     → ReadBytes kind bytes room a left → a .number ≡ 7 → length bytes ≡ 2 * n → ⊥
 no-seven-even kind n bytes room a left f e even =
-    kept .seven-only .1 kind bytes room a left f e (omega (arith, even))
+    kept .rows-refused kind (in-bytes bytes) room a left f .1 e (omega (arith, even))
 
 -- the number that never comes is 9
 pub never-nine : (kind : ℕ) (bytes : List ℤ) (room : ℕ) (a : Record) (left : List ℕ)

@@ -13,7 +13,18 @@ use Rattle.chips.specs.Chips.{hardRecording}
 use Rattle.frame.specs.Frame.{kindOf}
 use Rattle.coming.specs.declared.Coming.{Coming}
 use Rattle.coming.specs.Coming.{frontReading, comingOf, partOf}
-use Rattle.promises.specs.Calls.{ReadHard, ReadFront, Handed, good, refusedAt, refused, shown, Sent}
+use Rattle.promises.specs.Calls.{
+  ReadHard,
+  ReadFront,
+  Handed,
+  to-read-front,
+  to-hand,
+  good,
+  refusedAt,
+  refused,
+  shown,
+  Sent,
+}
 use Rattle.promises.specs.Coming.{
   refusedComing,
   toldComing,
@@ -47,10 +58,10 @@ part-beyond c chips part f = kept .handed-part c chips part f .1
 -- ---- one recording, asked what is coming
 module _ (kind : ℕ) (chips : List ℕ) (c : Coming) (f : ReadFront kind chips c) where
   pub told-once : (c′ : Coming) → ReadFront kind chips c′ → c ≡ c′
-  told-once c′ g = kept .one-coming .0 kind chips c c′ f g
+  told-once c′ g = kept .one-answer (to-read-front kind chips) c c′ f g
 
   pub handed-once : (part part′ : List ℕ) → Handed c chips part → Handed c chips part′ → part ≡ part′
-  handed-once part part′ h h′ = kept .one-coming .1 c chips part part′ h h′
+  handed-once part part′ h h′ = kept .one-answer (to-hand c chips) part part′ h h′
 
   -- refused: nothing else is shown, and the part is empty
   module _ (m : ℕ) (e : c .number ≡ suc m) where

@@ -22,6 +22,7 @@ use Rattle.promises.specs.Calls.{
   ReadHard,
   ReadFront,
   Finds,
+  to-find,
   good,
   refusedAt,
   shown,
@@ -126,7 +127,7 @@ reads-refused (reads-10 place r from to) z =
 -- ---- one search
 module _ (kind offsets : ℕ) (chips : List ℕ) (f : Found) (x : Finds kind offsets chips f) where
   pub found-once : (f′ : Found) → Finds kind offsets chips f′ → f ≡ f′
-  found-once f′ y = kept .one-found kind offsets chips f f′ x y
+  found-once f′ y = kept .one-answer (to-find kind offsets chips) f f′ x y
 
   -- 1 before 18, and 18 at both ends
   pub find-no-kind : 2 ≤ kind → f ≡ refusedFound 1

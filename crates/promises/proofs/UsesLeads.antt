@@ -27,7 +27,7 @@ use Rattle.frame.specs.declared.Kind.the-variants.{Long, Short}
 use Rattle.frame.specs.Frame.{kindOf}
 use Rattle.calls.specs.declared.Record.{Record}
 use Rattle.reading.specs.Reading.{preambleWords, headerWords, payloadWords}
-use Rattle.promises.specs.Calls.{Read, ReadHard, ReadSoft, ReadBytes}
+use Rattle.promises.specs.Calls.{Read, ReadHard, ReadSoft, ReadBytes, in-hard, in-soft, in-bytes}
 use Rattle.promises.specs.Leads.{
   SymbolOf,
   of-preamble,
@@ -103,7 +103,8 @@ pub soft-word-behind : (i q : List Float) (k : Kind) (r : Rate) (n s : ℕ) (p :
     → LeadsBy p (countsFrom p at (softRecording i q)) w lead → symbolChips p < lead
     → m < numbers p → T (isAllowed p m) → (m ≡ w → ⊥)
     → exactAt p (exactFrom p at (exactSoft i q)) m <ℤ exactAt p (exactFrom p at (exactSoft i q)) w
-soft-word-behind i q k r n s p at w lead m x ok by l h t ne = kept .soft-sure i q k r n s p at w lead x ok by l m h t ne
+soft-word-behind i q k r n s p at w lead m x ok by l h t ne =
+    kept .rows-sure (in-soft i q) k r n s p at w lead x ok by l m h t ne
 
 -- ---- what the fitter may conclude of a whole frame, from the record alone: a good read has good chips only
 at-most-11 : (q : Rate) → symbolChips q ≤ 11
@@ -118,7 +119,7 @@ module _ (kind room : ℕ) (a : Record) (left : List ℕ) (z : a .number ≡ 0) 
       → LeadsExactly p (exactFrom p at (exactSoft i q)) w
   soft-frame-sure i q f l s p at w x =
       let e = kept .least-told kind _ _ room a left f z .each s p at w x in
-      kept .soft-sure i q (kindOf kind) (rateOf (a .rate)) (a .n) s p at w (e .own) x
+      kept .rows-sure (in-soft i q) (kindOf kind) (rateOf (a .rate)) (a .n) s p at w (e .own) x
       (λ j h. usable-soft i q (at + j) (symbol-usable kind _ _ room a left f z x j h)) (e .by)
       (omega (arith, e .low, at-most-11 p))
 
@@ -127,7 +128,7 @@ module _ (kind room : ℕ) (a : Record) (left : List ℕ) (z : a .number ≡ 0) 
       → LeadsExactly p (exactFrom p at (exactHard octets)) w
   hard-frame-sure octets f l s p at w x =
       let e = kept .least-told kind _ _ room a left f z .each s p at w x in
-      kept .hard-sure octets (kindOf kind) (rateOf (a .rate)) (a .n) s p at w (e .own) x
+      kept .rows-sure (in-hard octets) (kindOf kind) (rateOf (a .rate)) (a .n) s p at w (e .own) x
       (λ j h. usable-hard octets (at + j) (symbol-usable kind _ _ room a left f z x j h)) (e .by)
       (omega (arith, e .low))
 
@@ -137,7 +138,7 @@ module _ (kind room : ℕ) (a : Record) (left : List ℕ) (z : a .number ≡ 0) 
   bytes-frame-sure bytes f l s p at w x =
       let e = kept .least-told kind _ _ room a left f z .each s p at w x in
       let there = there-bytes bytes (at + symbolChips p) (symbol-there kind _ _ room a left f z x) in
-      kept .bytes-sure bytes (kindOf kind) (rateOf (a .rate)) (a .n) s p at w (e .own) x
+      kept .rows-sure (in-bytes bytes) (kindOf kind) (rateOf (a .rate)) (a .n) s p at w (e .own) x
       (λ j h. omega (arith, there)) (e .by)
       (omega (arith, e .low))
 

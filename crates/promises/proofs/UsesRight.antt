@@ -32,6 +32,7 @@ use Rattle.choosing.specs.Demand3.{exactAt}
 use Rattle.frame.specs.declared.Kind.{Kind}
 use Rattle.frame.specs.Frame.{headerRate, headerLength, preambleChips, frontChips, frameChips, preambleLength}
 use Rattle.reading.specs.Reading.{preambleWords, headerWords, payloadWords}
+use Rattle.promises.specs.Calls.{in-hard, in-soft, in-bytes}
 use Rattle.promises.specs.Right.{exactFrom, EachRight, exactHard, exactSoft, exactBytes}
 use Rattle.promises.proofs.Kept.{kept}
 
@@ -53,23 +54,23 @@ exact-bytes = refl
 
 pub front-right : (k : Kind) (bytes : List ℤ) → 2 * frontChips k ≤ length bytes
     → EachRight 0 One (preambleLength k) 0 (preambleWords k (byteRecording bytes)) (exactBytes bytes)
-front-right k bytes h = kept .bytes-right bytes .preamble k (λ place l. omega arith)
+front-right k bytes h = kept .rows-right (in-bytes bytes) .preamble k (λ place l. omega arith)
 
 pub payload-right : (k : Kind) (r : Rate) (n : ℕ) (bytes : List ℤ) → 2 * frameChips k r n ≤ length bytes
     → EachRight 0 r (8 * n / symbolBits r) (frontChips k) (payloadWords k r n (byteRecording bytes)) (exactBytes bytes)
-payload-right k r n bytes h = kept .bytes-right bytes .payload k r n (λ place g l. omega arith)
+payload-right k r n bytes h = kept .rows-right (in-bytes bytes) .payload k r n (λ place g l. omega arith)
 
 -- hard chips are good up to 4
 pub hard-front-right : (k : Kind) (octets : List ℕ) → ((place : ℕ) → place < frontChips k → getD octets place 5 ≤ 4)
     → EachRight 0 One (preambleLength k) 0 (preambleWords k (hardRecording octets)) (exactHard octets)
-hard-front-right k octets h = kept .hard-right octets .preamble k h
+hard-front-right k octets h = kept .rows-right (in-hard octets) .preamble k h
 
 -- soft ones where I and Q are usable, the header's too
 pub soft-header-right : (k : Kind) (i q : List Float)
     → ((place : ℕ) → place < frontChips k → T (usable (getD i place nan)) × T (usable (getD q place nan)))
     → EachRight (2 ^ 138) (headerRate k) (headerLength / symbolBits (headerRate k)) (preambleChips k)
     (headerWords k (softRecording i q)) (exactSoft i q)
-soft-header-right k i q h = kept .soft-right i q .header k h
+soft-header-right k i q h = kept .rows-right (in-soft i q) .header k h
 
 -- a recorder, by what is asked of it alone: counts at most so many steps off
 pub near-front-right : (k : Kind) (half : ℕ) (exact : List Counts) (rec : List Taken) → length exact ≡ length rec
@@ -99,12 +100,12 @@ module _ (k : Kind) (r : Rate) (n j : ℕ) (i q : List Float) (h : j < 8 * n / s
   error = pos (symbolChips r * (2 * 2 ^ 138))
 
   pub word-allowed : (word < numbers r) × T (isAllowed r word)
-  word-allowed = let x = kept .soft-right i q .payload k r n ok j h in (x .among, x .allowed)
+  word-allowed = let x = kept .rows-right (in-soft i q) .payload k r n ok j h in (x .among, x .allowed)
 
   pub none-above-word : (m : ℕ) → m < numbers r → T (isAllowed r m) → exactly m ≤ℤ (exactly word +ℤ error)
-  none-above-word m l t = kept .soft-right i q .payload k r n ok j h .none-above m l t
+  none-above-word m l t = kept .rows-right (in-soft i q) .payload k r n ok j h .none-above m l t
 
   pub leader-is-word : (m : ℕ) → m < numbers r → T (isAllowed r m)
       → ((p : ℕ) → p < numbers r → T (isAllowed r p) → (p ≡ m → ⊥) → (exactly p +ℤ error) <ℤ exactly m)
       → word ≡ m
-  leader-is-word m l t leads = kept .soft-right i q .payload k r n ok j h .leader-chosen m l t leads
+  leader-is-word m l t leads = kept .rows-right (in-soft i q) .payload k r n ok j h .leader-chosen m l t leads

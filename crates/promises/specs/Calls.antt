@@ -67,6 +67,23 @@ ReadSoft kind i q room a left = Read kind (eqb (length i) (length q)) (softRecor
 abbrev pub ReadBytes : ℕ → List ℤ → ℕ → Record → List ℕ → Type 0
 ReadBytes kind bytes room a left = Read kind (eqb (length bytes % 2) 0) (byteRecording bytes) room a left
 
+-- rows as a recorder hands them in: hard octets, soft I and Q, bytes; and what reading takes of them
+pub data Rows : Type 0 where
+  in-hard : List ℕ → Rows
+  in-soft : List Float → List Float → Rows
+  in-bytes : List ℤ → Rows
+
+abbrev pub takenOf : Rows → List Taken
+takenOf (in-hard octets) = hardRecording octets
+takenOf (in-soft i q) = softRecording i q
+takenOf (in-bytes bytes) = byteRecording bytes
+
+-- a read of them, by the reader of their recorder
+abbrev pub ReadRows : ℕ → Rows → ℕ → Record → List ℕ → Type 0
+ReadRows kind (in-hard octets) room a left = ReadHard kind octets room a left
+ReadRows kind (in-soft i q) room a left = ReadSoft kind i q room a left
+ReadRows kind (in-bytes bytes) room a left = ReadBytes kind bytes room a left
+
 -- the reader of the front only: its answer, which says where the payload's chips are
 pub record ReadFront (kind : ℕ) (chips : List ℕ) (c : Coming) : Type 0 where
   -- promise: A read of the front answers the definition's record, for every input
@@ -88,6 +105,28 @@ pub record Finds (kind offsets : ℕ) (chips : List ℕ) (f : Found) : Type 0 wh
   -- rule: 6.17, 9.1
   -- code: dsss_find, finder::find
   pub answer : f ≡ foundOf (findingOf kind offsets (hardRecording chips))
+
+-- every call with what is handed to it, what it answers and leaves, and which of that its contract allows
+pub data Call : Type 0 where
+  to-write : (kind rate phase clock : ℕ) (payload : List ℕ) (room : ℕ) → Call
+  to-read : (kind : ℕ) (agree : Bool) (rec : List Taken) (room : ℕ) → Call
+  to-read-front : (kind : ℕ) (chips : List ℕ) → Call
+  to-hand : (c : Coming) (chips : List ℕ) → Call
+  to-find : (kind offsets : ℕ) (chips : List ℕ) → Call
+
+abbrev pub Answer : Call → Type 0
+Answer (to-write kind rate phase clock payload room) = Written × List ℕ
+Answer (to-read kind agree rec room) = Record × List ℕ
+Answer (to-read-front kind chips) = Coming
+Answer (to-hand c chips) = List ℕ
+Answer (to-find kind offsets chips) = Found
+
+abbrev pub Allows : (c : Call) → Answer c → Type 0
+Allows (to-write kind rate phase clock payload room) v = Wrote kind rate phase clock payload room (v .0) (v .1)
+Allows (to-read kind agree rec room) v = Read kind agree rec room (v .0) (v .1)
+Allows (to-read-front kind chips) c = ReadFront kind chips c
+Allows (to-hand c chips) part = Handed c chips part
+Allows (to-find kind offsets chips) f = Finds kind offsets chips f
 
 -- a good read's answer, and a refused one's with a place and without
 abbrev pub good : ℕ → ℕ → ℕ → ℕ → ℕ → ℕ → ℕ → Record

@@ -153,12 +153,3 @@ HandedPart =
     (c : Coming) (chips part : List ℕ) → Handed c chips part
     → (c .at + c .count ≤ length chips → part ≡ take (c .count) (drop (c .at) chips))
     × (length chips < c .at + c .count → part ≡ [])
-
--- promise: The contract of a read of the front allows exactly one answer, and that of its part one part
--- rule: 9.2
--- code: dsss_read_front, front_only::part
--- no test: a run shows one answer, not that no other is allowed
-abbrev pub OneComing : Type 0
-OneComing =
-    ((kind : ℕ) (chips : List ℕ) (c c′ : Coming) → ReadFront kind chips c → ReadFront kind chips c′ → c ≡ c′)
-    × ((c : Coming) (chips part part′ : List ℕ) → Handed c chips part → Handed c chips part′ → part ≡ part′)

@@ -146,12 +146,3 @@ SentFound =
     → Finds kind offsets (before ++ (take (s .sendable .front) chips ++ tail)) f
     → (f .number ≡ 0) × (f .offset ≤ length before)
     × (f .offset ≡ length before → f ≡ startFound (length before) rate l (shown clock) (length payload))
-
--- promise: The contract of a search allows exactly one answer for each input
--- rule: 9.2
--- code: dsss_find
--- no test: a run shows one answer, not that no other is allowed
-abbrev pub OneFound : Type 0
-OneFound =
-    (kind offsets : ℕ) (chips : List ℕ) (f f′ : Found) → Finds kind offsets chips f → Finds kind offsets chips f′
-    → f ≡ f′

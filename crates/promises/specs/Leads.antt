@@ -5,16 +5,12 @@ use Prim.Native.Nat.{ℕ, _+_, _*_, _/_, _≤_, _<_}
 use mathlib.Core.Path.{_≡_}
 use mathlib.Core.Bool.{Bool}
 use mathlib.Core.List.{List, map}
-use lib.ListN.{length, getD, take, drop}
-use lib.Dec.{T}
-use lib.IntN.{ℤ}
-use lib.Ieee.{Float, nan}
+use lib.ListN.{getD, take, drop}
 use Rattle.rates.specs.declared.Rate.{Rate}
 use Rattle.rates.specs.declared.Rate.the-variants.{One}
 use Rattle.rates.specs.Rates.{rateOf, symbolChips, symbolBits}
 use Rattle.chips.specs.declared.Counts.{Counts}
-use Rattle.chips.specs.Floats.{usable}
-use Rattle.chips.specs.Chips.{Taken, takenCounts, hardRecording, softRecording, byteRecording}
+use Rattle.chips.specs.Chips.{Taken, takenCounts}
 use Rattle.choosing.specs.Scores.{LeadsBy}
 use Rattle.choosing.specs.Demand3.{LeadsExactly}
 use Rattle.frame.specs.declared.Kind.{Kind}
@@ -29,8 +25,8 @@ use Rattle.frame.specs.Frame.{
 }
 use Rattle.calls.specs.declared.Record.{Record}
 use Rattle.reading.specs.Reading.{preambleWords, headerWords, payloadWords}
-use Rattle.promises.specs.Calls.{Read}
-use Rattle.promises.specs.Right.{exactFrom, exactHard, exactSoft, exactBytes}
+use Rattle.promises.specs.Calls.{Read, Rows, in-hard, in-soft, in-bytes, takenOf}
+use Rattle.promises.specs.Right.{exactFrom, exactRows, GoodAt}
 
 -- the symbols of a frame of n octets: each has a number, from 0 at the frame's first, a rate, the place of its first
 -- chip, and the word that reading has there
@@ -89,37 +85,18 @@ Sure above good exact rec =
     → LeadsBy q (countsFrom q at rec) w lead → above q < lead
     → LeadsExactly q (exactFrom q at exact) w
 
--- promise: From hard chips any lead above 0 says that the word leads in the exact recorded numbers too; of a whole
--- frame from the record alone
--- rule: 1.4 (3), 3.9
--- code: dsss_read_hard_3
--- with: hard-frame-sure
--- no edit: as that of SoftSure, with an error of 0
-abbrev pub HardSure : Type 0
-HardSure =
-    (octets : List ℕ)
-    → Sure (λ q. 0) (λ place. getD octets place 5 ≤ 4) (exactHard octets) (hardRecording octets)
+-- from hard chips and from bytes any lead says so; from soft ones a lead above 8 counts, or 11 for Barker, which is one
+-- for each chip
+abbrev pub sureAbove : Rows → Rate → ℕ
+sureAbove (in-hard octets) r = 0
+sureAbove (in-soft i q) r = symbolChips r
+sureAbove (in-bytes bytes) r = 0
 
--- promise: A symbol's lead from usable soft samples above 8 counts, 11 for Barker: its word leads all other allowed
--- ones in the exact recorded numbers too; of a whole frame, from the record alone, above 11 at every rate, since its
+-- promise: A lead holds in the exact recorded numbers too: from hard chips and signed bytes any above 0, from usable soft
+-- samples one above 8 counts, 11 for Barker; of a whole frame, from the record alone, above 11 at every rate, since its
 -- front is Barker
 -- rule: 1.4 (3), 3.9
--- code: dsss_read_soft_3
--- with: soft-frame-sure
--- no test: the exact numbers reach no answer; what is told of the lead is compared
-abbrev pub SoftSure : Type 0
-SoftSure =
-    (i q : List Float)
-    → Sure symbolChips (λ place. T (usable (getD i place nan)) × T (usable (getD q place nan))) (exactSoft i q)
-    (softRecording i q)
-
--- promise: From signed bytes any lead above 0 says that the word leads in the exact recorded numbers too; of a whole
--- frame from the record alone
--- rule: 1.4 (3), 3.9
--- code: dsss_read_bytes_3
--- with: bytes-frame-sure
--- no edit: as that of SoftSure, with an error of 0
-abbrev pub BytesSure : Type 0
-BytesSure =
-    (bytes : List ℤ)
-    → Sure (λ q. 0) (λ place. 2 * place + 1 < length bytes) (exactBytes bytes) (byteRecording bytes)
+-- code: dsss_read_hard_3, dsss_read_soft_3, dsss_read_bytes_3
+-- with: hard-frame-sure, soft-frame-sure, bytes-frame-sure
+abbrev pub RowsSure : Type 0
+RowsSure = (rows : Rows) → Sure (sureAbove rows) (GoodAt rows) (exactRows rows) (takenOf rows)

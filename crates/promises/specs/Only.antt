@@ -7,13 +7,24 @@ use mathlib.Core.Bool.{Bool, true}
 use mathlib.Core.List.{List}
 use lib.ListN.{length}
 use lib.IntN.{ℤ}
-use lib.Ieee.{Float}
 use Rattle.base.specs.Below.{Below}
 use Rattle.rates.specs.Plain.{LengthOf}
 use Rattle.chips.specs.Chips.{Taken}
 use Rattle.calls.specs.declared.Written.{Written}
 use Rattle.calls.specs.declared.Record.{Record}
-use Rattle.promises.specs.Calls.{Wrote, Read, ReadHard, ReadSoft, ReadBytes, refused, Goes, Sent}
+use Rattle.promises.specs.Calls.{
+  Wrote,
+  Read,
+  ReadBytes,
+  Rows,
+  in-hard,
+  in-soft,
+  in-bytes,
+  ReadRows,
+  refused,
+  Goes,
+  Sent,
+}
 
 -- promise: Nothing else is accepted: a write that answers 0 had a kind and a rate that goes with it, 1 to 4,095 octets,
 -- a phase below 4, and room for the frame
@@ -57,33 +68,20 @@ RefusedShows =
     → Read kind agree rec room a left → (a .number ≡ 0 → ⊥)
     → (a .rate ≡ 0) × (a .n ≡ 0) × (a .used ≡ 0) × (a .clock ≡ 0) × (a .lead ≡ 0) × (a .symbol ≡ 0)
 
--- promise: Soft rows that differ in length are refused with 7 under either kind, whatever is in them
--- rule: 6.2
--- code: dsss_read_soft_3
+-- rows that agree: as many of Q as of I, two bytes for each chip; hard ones always do
+abbrev pub Agree : Rows → Type 0
+Agree (in-hard octets) = Unit {0}
+Agree (in-soft i q) = length i ≡ length q
+Agree (in-bytes bytes) = length bytes % 2 ≡ 0
+
+-- promise: Soft rows that differ in length and an odd number of bytes are refused with 7 under either kind, whatever is
+-- in them, and 7 is given nowhere else
+-- rule: 2.8, 6.2, 6.4
+-- code: dsss_read_hard_3, dsss_read_soft_3, dsss_read_bytes_3
 abbrev pub RowsRefused : Type 0
 RowsRefused =
-    (kind : ℕ) (i q : List Float) (room : ℕ) (a : Record) (left : List ℕ) → kind < 2
-    → (length i ≡ length q → ⊥) → ReadSoft kind i q room a left → a ≡ refused 7 0
-
--- promise: An odd number of bytes is refused with 7 under either kind, whatever they are
--- rule: 2.8, 6.2
--- code: dsss_read_bytes_3
-abbrev pub OddBytesRefused : Type 0
-OddBytesRefused =
-    (kind : ℕ) (bytes : List ℤ) (room : ℕ) (a : Record) (left : List ℕ) → kind < 2
-    → length bytes % 2 ≡ 1 → ReadBytes kind bytes room a left → a ≡ refused 7 0
-
--- promise: 7 is given nowhere else: not for rows of one length, an even number of bytes, or hard chips
--- rule: 6.4
--- code: dsss_read_hard_3, dsss_read_soft_3, dsss_read_bytes_3
-abbrev pub SevenOnly : Type 0
-SevenOnly =
-    ((kind : ℕ) (i q : List Float) (room : ℕ) (a : Record) (left : List ℕ) → ReadSoft kind i q room a left
-    → a .number ≡ 7 → length i ≡ length q → ⊥)
-    × ((kind : ℕ) (bytes : List ℤ) (room : ℕ) (a : Record) (left : List ℕ) → ReadBytes kind bytes room a left
-    → a .number ≡ 7 → length bytes % 2 ≡ 0 → ⊥)
-    × ((kind : ℕ) (chips : List ℕ) (room : ℕ) (a : Record) (left : List ℕ) → ReadHard kind chips room a left
-    → a .number ≡ 7 → ⊥)
+    (kind : ℕ) (rows : Rows) (room : ℕ) (a : Record) (left : List ℕ) → ReadRows kind rows room a left
+    → (kind < 2 → (Agree rows → ⊥) → a ≡ refused 7 0) × (a .number ≡ 7 → Agree rows → ⊥)
 
 -- promise: No reading of bytes answers 9
 -- rule: 2.8

@@ -22,16 +22,27 @@ use Rattle.calls.specs.declared.Record.{Record}
 use Rattle.frame.specs.Frame.{kindOf, clockOf, frame}
 use Rattle.frame.specs.TableP.{TableP}
 use Rattle.clean.specs.Clean.{Exactly, softI, softQ}
-use Rattle.promises.specs.Calls.{Wrote, Read, good, refused, shown, sentLead, sentSymbol, Sent, ReadOf}
-use Rattle.promises.specs.Right.{RecordedRight, HardRight, SoftRight, BytesRight}
-use Rattle.promises.specs.Leads.{LeastTold, HardSure, SoftSure, BytesSure}
+use Rattle.promises.specs.Calls.{
+  Wrote,
+  Read,
+  Call,
+  Answer,
+  Allows,
+  good,
+  refused,
+  shown,
+  sentLead,
+  sentSymbol,
+  Sent,
+  ReadOf,
+}
+use Rattle.promises.specs.Right.{RecordedRight, RowsRight}
+use Rattle.promises.specs.Leads.{LeastTold, RowsSure}
 use Rattle.promises.specs.Only.{
   OnlySent,
   OnlyReadable,
   RefusedShows,
   RowsRefused,
-  OddBytesRefused,
-  SevenOnly,
   NoByteUnusable,
 }
 use Rattle.promises.specs.Refusing.{WriteAnswers}
@@ -43,9 +54,8 @@ use Rattle.promises.specs.Coming.{
   FrontOnly,
   SentTold,
   HandedPart,
-  OneComing,
 }
-use Rattle.promises.specs.Finding.{NotTried, StartFound, NoneFound, SentFound, OneFound}
+use Rattle.promises.specs.Finding.{NotTried, StartFound, NoneFound, SentFound}
 
 -- ---- demand 1: fills
 
@@ -137,17 +147,12 @@ OneSource =
 abbrev pub HalfACount : Type 0
 HalfACount = (x : Float) → T (usable x) → Nearest (valueOf x) (countOf x)
 
--- promise: The contracts of writer and readers allow exactly one answer for each input, and one final buffer
+-- promise: The contract of each call allows exactly one answer for each input, and one final buffer or part
 -- rule: 9.2
--- code: dsss_write_2, dsss_read_hard_3, dsss_read_soft_3, dsss_read_bytes_3
+-- code: dsss_write_2, dsss_read_hard_3, dsss_read_soft_3, dsss_read_bytes_3, dsss_read_front, front_only::part, dsss_find
 -- no test: a run shows one answer, not that no other is allowed
 abbrev pub OneAnswer : Type 0
-OneAnswer =
-    ((kind rate phase clock : ℕ) (payload : List ℕ) (room : ℕ) (w w′ : Written) (left left′ : List ℕ)
-    → Wrote kind rate phase clock payload room w left → Wrote kind rate phase clock payload room w′ left′
-    → (w ≡ w′) × (left ≡ left′))
-    × ((kind : ℕ) (agree : Bool) (rec : List Taken) (room : ℕ) (a a′ : Record) (left left′ : List ℕ)
-    → Read kind agree rec room a left → Read kind agree rec room a′ left′ → (a ≡ a′) × (left ≡ left′))
+OneAnswer = (c : Call) (v v′ : Answer c) → Allows c v → Allows c v′ → v ≡ v′
 
 -- ---- all of it
 pub record Promised : Type 0 where
@@ -158,8 +163,6 @@ pub record Promised : Type 0 where
   pub only-readable : OnlyReadable
   pub refused-shows : RefusedShows
   pub rows-refused : RowsRefused
-  pub odd-bytes-refused : OddBytesRefused
-  pub seven-only : SevenOnly
   pub no-byte-unusable : NoByteUnusable
   pub written-frame : WrittenFrame
   pub read-back : ReadBack
@@ -168,13 +171,9 @@ pub record Promised : Type 0 where
   pub soft-rows : SoftRows
   pub half-a-count : HalfACount
   pub recorded-right : RecordedRight
-  pub hard-right : HardRight
-  pub soft-right : SoftRight
-  pub bytes-right : BytesRight
+  pub rows-right : RowsRight
   pub least-told : LeastTold
-  pub hard-sure : HardSure
-  pub soft-sure : SoftSure
-  pub bytes-sure : BytesSure
+  pub rows-sure : RowsSure
   pub one-answer : OneAnswer
   pub front-refused : FrontRefused
   pub refused-alike : RefusedAlike
@@ -183,10 +182,8 @@ pub record Promised : Type 0 where
   pub front-only : FrontOnly
   pub sent-told : SentTold
   pub handed-part : HandedPart
-  pub one-coming : OneComing
   pub not-tried : NotTried
   pub start-found : StartFound
   pub none-found : NoneFound
   pub sent-found : SentFound
-  pub one-found : OneFound
   pub table-p : TableP

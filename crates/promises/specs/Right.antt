@@ -17,25 +17,14 @@ use Rattle.rates.specs.Rates.{symbolChips, symbolBits}
 use Rattle.chips.specs.declared.Counts.{Counts}
 use Rattle.chips.specs.declared.Chip.the-variants.{Soft}
 use Rattle.chips.specs.Floats.{usable}
-use Rattle.chips.specs.Chips.{
-  nothing,
-  exactOf,
-  Taken,
-  unusable,
-  isUnusable,
-  takenCounts,
-  hardChip,
-  hardRecording,
-  softRecording,
-  byteExact,
-  byteRecording,
-}
+use Rattle.chips.specs.Chips.{nothing, exactOf, Taken, unusable, isUnusable, takenCounts, hardChip, byteExact}
 use Rattle.chips.specs.Bounds.{Apart}
 use Rattle.choosing.specs.Demand3.{RightUpTo}
 use Rattle.frame.specs.declared.Kind.{Kind}
 use Rattle.frame.specs.Frame.{headerRate, frontChips, frameChips, preambleLength, headerLength, preambleChips}
 use Rattle.reading.specs.Reading.{preambleWords, headerWords, payloadWords}
 use Rattle.clean.specs.Clean.{sampleOf}
+use Rattle.promises.specs.Calls.{Rows, in-hard, in-soft, in-bytes, takenOf}
 
 -- the exact values of the chips of a symbol of a rate that starts at a place
 abbrev pub exactFrom : Rate → ℕ → List Counts → List Counts
@@ -74,42 +63,42 @@ RecordedRight =
     (half : ℕ) (exact : List Counts) (rec : List Taken) → Keeps half exact rec
     → WholeRight half (λ place. T (not (isUnusable (getD rec place unusable)))) exact rec
 
--- a hard recording, where its octets are 0 to 4: with no error at all
+-- ---- the three recorders
+
+-- the exact values of their rows
 abbrev pub exactHard : List ℕ → List Counts
 exactHard octets = map (λ x. exactOf (hardChip x)) octets
 
--- promise: Demand 3 of hard rows: no error at all, wherever the octets are 0 to 4
--- rule: 1.4 (3)
--- code: dsss_read_hard_3
-abbrev pub HardRight : Type 0
-HardRight =
-    (octets : List ℕ) → WholeRight 0 (λ place. getD octets place 5 ≤ 4) (exactHard octets) (hardRecording octets)
-
--- a soft recording, where I and Q are usable
 unfoldable pub exactSoft : List Float → List Float → List Counts
 exactSoft [] q = []
 exactSoft (x ∷ i) [] = []
 exactSoft (x ∷ i) (y ∷ q) = exactOf (Soft (sampleOf x y)) ∷ exactSoft i q
 
--- promise: Demand 3 of soft rows: up to 8/1024, 11/1024 for Barker, wherever I and Q are usable
--- rule: 1.4 (3)
--- code: dsss_read_soft_3
-abbrev pub SoftRight : Type 0
-SoftRight =
-    (i q : List Float)
-    → WholeRight (2 ^ 138) (λ place. T (usable (getD i place nan)) × T (usable (getD q place nan))) (exactSoft i q)
-    (softRecording i q)
-
--- a byte recording, wherever it has both bytes of a chip: with no error at all
 unfoldable pub exactBytes : List ℤ → List Counts
 exactBytes [] = []
 exactBytes (x ∷ []) = []
 exactBytes (x ∷ y ∷ bytes) = byteExact x y ∷ exactBytes bytes
 
--- promise: Demand 3 of signed bytes: no error at all, wherever a chip has both its bytes
+abbrev pub exactRows : Rows → List Counts
+exactRows (in-hard octets) = exactHard octets
+exactRows (in-soft i q) = exactSoft i q
+exactRows (in-bytes bytes) = exactBytes bytes
+
+-- a chip is a good one where its octet is 0 to 4, where I and Q are usable, or where both its bytes are there
+abbrev pub GoodAt : Rows → ℕ → Type 0
+GoodAt (in-hard octets) place = getD octets place 5 ≤ 4
+GoodAt (in-soft i q) place = T (usable (getD i place nan)) × T (usable (getD q place nan))
+GoodAt (in-bytes bytes) place = 2 * place + 1 < length bytes
+
+-- how far its counts are off at most, in steps: half a count of soft rows; hard ones and bytes have no error at all
+abbrev pub offMost : Rows → ℕ
+offMost (in-hard octets) = 0
+offMost (in-soft i q) = 2 ^ 138
+offMost (in-bytes bytes) = 0
+
+-- promise: Demand 3 of each recorder: hard rows with no error at all wherever the octets are 0 to 4, soft rows up to
+-- 8/1024, 11/1024 for Barker, wherever I and Q are usable, signed bytes with no error at all wherever a chip has both
 -- rule: 1.4 (3), 2.8
--- code: dsss_read_bytes_3
-abbrev pub BytesRight : Type 0
-BytesRight =
-    (bytes : List ℤ)
-    → WholeRight 0 (λ place. 2 * place + 1 < length bytes) (exactBytes bytes) (byteRecording bytes)
+-- code: dsss_read_hard_3, dsss_read_soft_3, dsss_read_bytes_3
+abbrev pub RowsRight : Type 0
+RowsRight = (rows : Rows) → WholeRight (offMost rows) (GoodAt rows) (exactRows rows) (takenOf rows)

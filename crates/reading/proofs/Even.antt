@@ -6,21 +6,17 @@ use mathlib.Core.List.{List}
 use mathlib.Core.Option.{Option, none, some}
 use Prim.Native.Nat.{ℕ, _+_, _%_, _<_}
 use native.Mathlib.Omega.{arith}
-use lib.Dec.{ltb}
-use lib.ListN.{length, getD, take}
-use Rattle.base.proofs.Tests.{branch}
+use lib.ListN.{length, getD}
 use Rattle.rates.specs.declared.Rate.the-variants.{One}
 use Rattle.chips.specs.Chips.{Taken}
 use Rattle.bits.specs.Growths.{grownBy, growthsOf}
 use Rattle.bits.proofs.Heard.{growthsOf-length, growth-at}
 use Rattle.frame.specs.declared.Kind.{Kind}
-use Rattle.frame.specs.Frame.{syncBits, frontChips}
-use Rattle.calls.specs.declared.Refusal.the-variants.{Unusable, OddGrowth}
+use Rattle.frame.specs.Frame.{syncBits}
 use Rattle.calls.specs.declared.Told.{Told}
-use Rattle.calls.specs.declared.Front.{Front}
-use Rattle.calls.specs.declared.Front.the-variants.{Refused, Fields}
-use Rattle.reading.specs.Reading.{orElse, firstUnusable, firstOdd, frontOdd, frontOf, reference, preambleWords}
-use Rattle.reading.proofs.Telling.{searched}
+use Rattle.calls.specs.declared.Front.the-variants.{Fields}
+use Rattle.reading.specs.Reading.{orElse, firstOdd, frontOdd, frontOf, reference, preambleWords}
+use Rattle.reading.proofs.Refusals.{FrontIf, front-refuses}
 use Rattle.reading.proofs.First.{no-place, odd-none}
 use Rattle.reading.proofs.Sfd.{wordAt, words-length, word-here}
 
@@ -29,30 +25,10 @@ or-none : (o rest : Option ℕ) → orElse o (λ p. some p) rest ≡ none → o 
 or-none none rest e = refl
 or-none (some p) rest e = absurd (no-place e refl)
 
-found-none : {A : Type 0} (P : A → Type 0) (o : Option ℕ) (f : ℕ → A) (y : A) → ((p : ℕ) → P (f p))
-    → (o ≡ none → (z : A) → P z) → P (orElse o f y)
-found-none P none f y h k = k refl y
-found-none P (some p) f y h k = h p
-
 -- ---- the front
 module _ (k : Kind) (rec : List Taken) where
   abbrev growths : List ℕ
   growths = growthsOf One (reference k rec) (preambleWords k rec)
-
-  abbrev EvenIf : Front → Type 0
-  EvenIf (Refused e) = Unit {0}
-  EvenIf (Fields t) = frontOdd k rec ≡ none
-
-  any-front : frontOdd k rec ≡ none → (f : Front) → EvenIf f
-  any-front e (Refused r) = tt
-  any-front e (Fields t) = e
-
-  front-even-if : EvenIf (frontOf k rec)
-  unfolding frontOf
-  front-even-if =
-      branch EvenIf (ltb (length rec) (frontChips k)) _ _ tt
-      (λ a. searched EvenIf (firstUnusable 0 (take (frontChips k) rec)) (λ p. Refused (Unusable p 0)) _ (λ p e. tt)
-      (found-none EvenIf (frontOdd k rec) (λ p. Refused (OddGrowth p 0)) _ (λ p. tt) any-front))
 
   none-odd : frontOdd k rec ≡ none → firstOdd 0 growths ≡ none
   unfolding frontOdd
@@ -62,7 +38,7 @@ module _ (k : Kind) (rec : List Taken) where
       → grownBy (wordAt One rec n) (wordAt One rec (n + 1)) % 2 ≡ 0
   front-even t e n h =
       ap (λ (g : ℕ). g % 2) (sym grown)
-      ∙ odd-none 0 growths (none-odd (subst EvenIf e front-even-if)) (n + 1) inside
+      ∙ odd-none 0 growths (none-odd (subst (FrontIf k rec) e (front-refuses k rec) .sound .clear .even)) (n + 1) inside
     where
       inside : n + 1 < length growths
       inside =

@@ -8,3 +8,7 @@ pub mod Leads
 pub mod Sfd
 pub mod First
 pub mod Even
+pub mod Comes
+pub mod FirstPlaces
+pub mod Parts
+pub mod Decoding

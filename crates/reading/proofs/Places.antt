@@ -63,39 +63,39 @@ decidedWords-length r (suc m) cs = ap suc (decidedWords-length r m (drop (symbol
 
 -- ---- what a search finds
 
-abbrev Within : ℕ → ℕ → Option ℕ → Type 0
-Within at to none = Unit {0}
-Within at to (some p) = (at ≤ p) × (p < to)
+abbrev Inside : ℕ → ℕ → Option ℕ → Type 0
+Inside at to none = Unit {0}
+Inside at to (some p) = (at ≤ p) × (p < to)
 
-within-wider : (at at′ to to′ : ℕ) (o : Option ℕ) → at ≤ at′ → to′ ≤ to → Within at′ to′ o → Within at to o
+within-wider : (at at′ to to′ : ℕ) (o : Option ℕ) → at ≤ at′ → to′ ≤ to → Inside at′ to′ o → Inside at to o
 within-wider at at′ to to′ none a b h = tt
 within-wider at at′ to to′ (some p) a b h = (omega (arith, a, h .0), omega (arith, b, h .1))
 
-within-at : {at to p : ℕ} {o : Option ℕ} → Within at to o → o ≡ some p → (at ≤ p) × (p < to)
-within-at {at} {to} h e = subst (Within at to) e h
+within-at : {at to p : ℕ} {o : Option ℕ} → Inside at to o → o ≡ some p → (at ≤ p) × (p < to)
+within-at {at} {to} h e = subst (Inside at to) e h
 
-unusable-within : (at n : ℕ) (cs : List Taken) → Within at (at + n) (firstUnusable at (take n cs))
+unusable-within : (at n : ℕ) (cs : List Taken) → Inside at (at + n) (firstUnusable at (take n cs))
 unfolding firstUnusable
 unusable-within at zero cs = tt
 unusable-within at (suc n) [] = tt
 unusable-within at (suc n) (c ∷ cs) =
-    branch (Within at (at + suc n)) (isUnusable c) (some at) (firstUnusable (suc at) (take n cs))
+    branch (Inside at (at + suc n)) (isUnusable c) (some at) (firstUnusable (suc at) (take n cs))
     (omega arith, omega arith)
     (λ b. within-wider at (suc at) (at + suc n) (suc at + n) (firstUnusable (suc at) (take n cs))
     (omega arith) (omega arith) (unusable-within (suc at) n cs))
 
-odd-within : (at : ℕ) (gs : List ℕ) → Within at (at + 11 * length gs) (firstOdd at gs)
+odd-within : (at : ℕ) (gs : List ℕ) → Inside at (at + 11 * length gs) (firstOdd at gs)
 unfolding firstOdd
 odd-within at [] = tt
 odd-within at (g ∷ gs) =
-    branch (Within at (at + 11 * suc (length gs))) (eqb (g % 2) 1) (some at) (firstOdd (at + 11) gs)
+    branch (Inside at (at + 11 * suc (length gs))) (eqb (g % 2) 1) (some at) (firstOdd (at + 11) gs)
     (omega arith, omega arith)
     (λ b. within-wider at (at + 11) (at + 11 * suc (length gs)) (at + 11 + 11 * length gs) (firstOdd (at + 11) gs)
     (omega arith) (omega arith) (odd-within (at + 11) gs))
 
 -- of m symbols of a rate
 growths-within : (r : Rate) (at p m : ℕ) (cs : List Taken)
-    → Within at (at + symbolChips r * m) (oddGrowth r at (growthsOf r p (decidedWords r m cs)))
+    → Inside at (at + symbolChips r * m) (oddGrowth r at (growthsOf r p (decidedWords r m cs)))
 growths-within One at p m cs =
     let gs = growthsOf One p (decidedWords One m cs) in
     let e : length gs ≡ m = growthsOf-length One p (decidedWords One m cs) ∙ decidedWords-length One m cs in
@@ -115,7 +115,7 @@ module _ (k : Kind) (rec : List Taken) (p : ℕ) where
   front-unusable-place : firstUnusable 0 (take (frontChips k) rec) ≡ some p → p < frontChips k
   front-unusable-place e = omega (arith, within-at (unusable-within 0 (frontChips k) rec) e .1)
 
-  odd-in-front : Within 0 (frontChips k) (frontOdd k rec)
+  odd-in-front : Inside 0 (frontChips k) (frontOdd k rec)
   unfolding frontOdd preambleWords headerWords
   odd-in-front =
       let a = growths-within One 0 (reference k rec) (preambleLength k) rec in
@@ -124,7 +124,7 @@ module _ (k : Kind) (rec : List Taken) (p : ℕ) where
       let first = oddGrowth One 0 (growthsOf One (reference k rec) (preambleWords k rec)) in
       let second = oddGrowth (headerRate k) (preambleChips k)
       (growthsOf (headerRate k) (headerPhase k rec) (headerWords k rec)) in
-      searched (Within 0 (frontChips k)) first (λ place. some place) second
+      searched (Inside 0 (frontChips k)) first (λ place. some place) second
       (λ q e. let w = within-at {at = 0} {to = 0 + symbolChips One * preambleLength k} a e in
       (omega arith, omega (arith, w .1, preamble-fits k)))
       (within-wider 0 (preambleChips k) (frontChips k) _ second (omega arith) (header-fits k) b)
@@ -134,18 +134,18 @@ module _ (k : Kind) (rec : List Taken) (p : ℕ) where
 
 -- whatever a front is refused with
 pub front-place : (k : Kind) (rec : List Taken) {e : Refusal} → FrontRefusal k rec e → refusalPlace e < frontChips k
-front-place k rec front-short = some-chips k
-front-place k rec (front-unusable p f) = front-unusable-place k rec p f
-front-place k rec (front-odd p f) = front-odd-place k rec p f
-front-place k rec sfd-differs = some-chips k
-front-place k rec crc-differs = some-chips k
-front-place k rec (no-signal l) = some-chips k
-front-place k rec (no-service l) = some-chips k
-front-place k rec (no-length l) = some-chips k
+front-place k rec (front-short l) = some-chips k
+front-place k rec (front-unusable p l f) = front-unusable-place k rec p f
+front-place k rec (front-odd p l u f) = front-odd-place k rec p f
+front-place k rec (sfd-differs c d) = some-chips k
+front-place k rec (crc-differs c s d) = some-chips k
+front-place k rec (no-signal s a) = some-chips k
+front-place k rec (no-service s a b) = some-chips k
+front-place k rec (no-length s a b d) = some-chips k
 
 pub whole-place : (k : Kind) (rec : List Taken) {e : Refusal} → WholeRefusal k rec e → refusalPlace e < frontChips k
 whole-place k rec (met-in-front h) = front-place k rec h
-whole-place k rec (frame-ends l) = some-chips k
+whole-place k rec (frame-ends t h l) = some-chips k
 
 -- ---- payloads
 

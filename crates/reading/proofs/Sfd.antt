@@ -8,11 +8,9 @@ use mathlib.Core.List.{List, map}
 use Prim.Native.Nat.{ℕ, zero, suc, _+_, _*_, _/_, _≤_, _<_}
 use native.Mathlib.Nat.{mul-suc}
 use native.Mathlib.Omega.{arith}
-use lib.Dec.{ltb}
 use lib.ListN.{length, getD, take, drop, length-append, length-drop, List·getD-append}
 use lib.Seq.{getD-take, getD-drop, drop-drop, length-take-le}
 use Rattle.base.proofs.Below.{below-take, below-drop}
-use Rattle.base.proofs.Tests.{branch}
 use Rattle.rates.specs.declared.Rate.{Rate}
 use Rattle.rates.specs.declared.Rate.the-variants.{One}
 use Rattle.rates.specs.Rates.{symbolChips}
@@ -25,26 +23,20 @@ use Rattle.bits.specs.Scrambler.{descramble}
 use Rattle.bits.proofs.Bits.{bits-number}
 use Rattle.bits.proofs.Scrambler.{descramble-length, descramble-below, descramble-at}
 use Rattle.frame.specs.declared.Kind.{Kind}
-use Rattle.frame.specs.Frame.{sfdOf, syncBits, headerRate, start, frontChips}
-use Rattle.calls.specs.declared.Refusal.the-variants.{Unusable, OddGrowth}
+use Rattle.frame.specs.Frame.{sfdOf, syncBits, headerRate, start}
 use Rattle.calls.specs.declared.Told.{Told}
-use Rattle.calls.specs.declared.Front.{Front}
-use Rattle.calls.specs.declared.Front.the-variants.{Refused, Fields}
-use Rattle.calls.specs.Headers.{ours, headerOf}
-use Rattle.calls.proofs.HeaderOnly.{HeaderSends, header-only}
+use Rattle.calls.specs.declared.Front.the-variants.{Fields}
 use Rattle.reading.specs.Reading.{
   decidedWords,
   preambleWords,
   headerWords,
   reference,
   headerPhase,
-  firstUnusable,
-  frontOdd,
   frontHeard,
   frontBits,
   frontOf,
 }
-use Rattle.reading.proofs.Telling.{searched}
+use Rattle.reading.proofs.Refusals.{FrontIf, front-refuses}
 use Rattle.reading.proofs.Places.{decidedWords-length}
 
 -- the word that symbol n is decided as
@@ -66,23 +58,8 @@ module _ (k : Kind) (rec : List Taken) where
   abbrev sfd : List ℕ
   sfd = take 16 (drop (syncBits k) (frontBits k rec))
 
-  abbrev SfdIf : Front → Type 0
-  SfdIf (Refused e) = Unit {0}
-  SfdIf (Fields t) = numberOf sfd ≡ sfdOf k
-
-  header-sfd : (header : List ℕ) → SfdIf (headerOf ours k sfd header)
-  header-sfd header = go (headerOf ours k sfd header) (header-only k sfd header)
-    where
-      go : (f : Front) → HeaderSends k sfd header f → SfdIf f
-      go (Refused e) h = tt
-      go (Fields t) h = h .0
-
-  front-sfd-if : SfdIf (frontOf k rec)
-  unfolding frontOf
-  front-sfd-if =
-      branch SfdIf (ltb (length rec) (frontChips k)) _ _ tt
-      (λ a. searched SfdIf (firstUnusable 0 (take (frontChips k) rec)) (λ p. Refused (Unusable p 0)) _ (λ p e. tt)
-      (searched SfdIf (frontOdd k rec) (λ p. Refused (OddGrowth p 0)) _ (λ p e. tt) (header-sfd _)))
+  front-sfd : (t : Told) → frontOf k rec ≡ Fields t → numberOf sfd ≡ sfdOf k
+  front-sfd t e = subst (FrontIf k rec) e (front-refuses k rec) .sound .sfd-is
 
   abbrev pub words : List ℕ
   words = preambleWords k rec
@@ -168,4 +145,4 @@ module _ (k : Kind) (rec : List Taken) where
       ∙ ap (λ (x : ℕ). getD (frontBits k rec) x 0) at
       ∙ sym (getD-drop (syncBits k) (frontBits k rec) i 0)
       ∙ sym (getD-take 16 (drop (syncBits k) (frontBits k rec)) i 0 h)
-      ∙ ap (λ (x : List ℕ). getD x i 0) (sfd-bits (subst SfdIf e front-sfd-if))
+      ∙ ap (λ (x : List ℕ). getD x i 0) (sfd-bits (front-sfd t e))

@@ -2,7 +2,7 @@
 -- not given either, that the recording has the frame's chips. It is the header's own law (`header-only` of calls),
 -- behind the tests before it. Assumes nothing.
 use mathlib.Core.Path.{_≡_, refl, _∙_}
-use mathlib.Core.Bool.{true}
+use mathlib.Core.Bool.{Bool, true, false, cond}
 use mathlib.Core.List.{List}
 use mathlib.Core.Option.{Option, none, some}
 use Prim.Native.Nat.{ℕ, _≤_}
@@ -26,6 +26,17 @@ pub searched : {A : Type 0} (P : A → Type 0) (o : Option ℕ) (f : ℕ → A) 
     → P (orElse o f y)
 searched P none f y h k = k
 searched P (some p) f y h k = h p refl
+
+pub found-or-none : {A : Type 0} (P : A → Type 0) (o : Option ℕ) (f : ℕ → A) (y : A) → ((p : ℕ) → o ≡ some p → P (f p))
+    → (o ≡ none → P y) → P (orElse o f y)
+found-or-none P none f y h k = k refl
+found-or-none P (some p) f y h k = h p refl
+
+-- a test, with what it came to
+pub decided-by : {A : Type 0} (P : A → Type 0) (b : Bool) (x y : A) → (b ≡ true → P x) → (b ≡ false → P y)
+    → P (cond b x y)
+decided-by P true x y h k = h refl
+decided-by P false x y h k = k refl
 
 pub record Telling (k : Kind) (t : Told) : Type 0 where
   pub goes : goesWith k (t .rate) ≡ true

@@ -1,2 +1,4 @@
 pub mod Leads
+pub mod Places
+pub mod Decoded
 pub mod Reading

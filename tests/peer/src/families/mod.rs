@@ -127,7 +127,7 @@ families! {
     506 refused::cut_recordings: "recordings cut at every length about the front's and the frame's end",
     // for: Sfd
     507 refused::kinds_crossed: "long frames read as short and the other way",
-    // for: RowsDiffer, OddBytesRefused, SevenOnly
+    // for: RowsDiffer, RowsRefused
     508 refused::odd_rows: "odd numbers of bytes, about the fronts, the frame's end and powers of 2",
     // for: FrontOnly, front-same
     509 refused::long_refused: "what the front refuses, in recordings of up to 71,000 chips that are alike there",
@@ -135,7 +135,7 @@ families! {
     601 damage::unusable_octets: "one or two unusable octets at every place",
     // for: OddGrowth, whole-refuses
     602 damage::odd_growths: "symbols turned by 1 to 3, alone or with all that follow",
-    // for: Read.octets, HardRight
+    // for: Read.octets, RowsRight
     603 damage::damaged_chips: "chips changed to other phases, few to most",
     // for: ReadHard, terms
     604 damage::lost_chips: "chips, symbols and whole parts lost",
@@ -143,7 +143,7 @@ families! {
     605 damage::tied_words: "payload symbols with few chips left, so that words tie",
     // for: Read.answer
     606 damage::random_recordings: "phases and marks at random",
-    // for: RecordedRight, SoftRight, DecidedAt
+    // for: RecordedRight, RowsRight, DecidedAt
     701 soft::noise: "noise over all of the frame or over its payload",
     // for: counted, HalfACount
     702 soft::halves_of_a_count: "values on the halves of a count and next to them",
@@ -173,7 +173,7 @@ families! {
     901 bytes::every_byte: "symbols decided otherwise if one byte, each of the 256, is 1 more or 1 less",
     // for: ReadBytes, terms
     902 bytes::equal_bytes: "bytes equal in size, so that words tie, in symbols and over all of a recording",
-    // for: ReadBytes, BytesRight
+    // for: ReadBytes, RowsRight
     903 bytes::exchanged_bytes: "I and Q exchanged, negated, a byte late, and frames turned by an eighth",
     // for: ReadBytes, NoByteUnusable
     904 bytes::random_bytes: "bytes at random over all of the recording, the header or the payload",
@@ -193,7 +193,7 @@ families! {
     1103 ties::ties_eleven_broken: "words that tie at 11 Mbit/s, and the same a step beside the tie, either way",
     // for: lead-clean, lead-times, ReadBack
     1201 leads::leads_as_sent: "chips as sent, of every size that a recorder has: 11, 8 and 4 of them",
-    // for: LeastTold, least-is, HardSure, BytesSure
+    // for: LeastTold, least-is, RowsSure
     1202 leads::leads_of_one_symbol: "the smallest lead in a chosen symbol of the preamble, the header or the payload",
     // for: LeastTold, least-is
     1203 leads::leads_at_each_place: "the smallest lead in each symbol of the front and of a block of 64 behind it",
