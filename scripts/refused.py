@@ -12,7 +12,7 @@ It runs after `rt ci`, which has proved every crate as it stands. Two things mak
   stands over the same modules, which must be proved with nothing checked.
 - Edits of different functions of a crate go into one check: a caller's proof cites its callee's contract and not its
   code, so each edited function must have an error of its own, one that does not come of another's not being proved.
-  The control is the functions that no edit touches, in the same check. An edit that shows none is tried alone.
+  The control is the functions that no edit touches, in the same check. An edit that shows no error is tried alone.
 
 Prints each fault, a line for each crate, and the totals; the status is 1 if there is a fault.
 """
@@ -23,15 +23,17 @@ import re
 import shutil
 import sys
 from checker import CRATES, KNOWN, ROOM, TARGET, build_folder, check, checked_over, copy_of, stands
-from edit import Edit, edits_of
+from edit import edits_of
 
 PLACE = re.compile(r'^(\S+?):\d+:\d+: error\b.*', re.M)
+# what comes of another's error, or of a step that the code no longer has
+FOLLOWS = re.compile('was not admitted|has no `Need-')
 
 
 def errors_of(said, where):
-    """The errors of a check: the file of the crate and the line, but for those that come of another's."""
+    """The errors of a check, each the file of the crate and the line, but for those that only follow."""
     found = [(m.group(1).removeprefix(where + '/'), m.group(0)) for m in PLACE.finditer(said)]
-    return [(file, line) for file, line in found if 'was not admitted' not in line]
+    return [(file, line) for file, line in found if not FOLLOWS.search(line)]
 
 
 def functions_of(edit):
@@ -96,10 +98,12 @@ def try_together(edits, build):
     status, said, used = checked_over(edits[0].crate, where, build)
     shutil.rmtree(where)
     touched = set().union(*(functions_of(edit) for edit in edits))
-    unsure = others_fault(edits[0].crate, touched, said)
+    strange = others_fault(edits[0].crate, touched, said)
+    if strange:
+        return [(edit, strange) for edit in edits], used
     done = []
     for edit in edits:
-        answers, seconds = [(edit, unsure or fault_of(edit, where, status, said))], 0.0
+        answers, seconds = [(edit, fault_of(edit, where, status, said))], 0.0
         if answers[0][1] and len(edits) > 1:
             answers, seconds = try_alone(edit, build)
         done, used = done + answers, used + seconds
