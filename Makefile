@@ -15,8 +15,8 @@ export PREFIX INCLUDEDIR LIBDIR BINDIR DESTDIR
 # All that is proved: a touched proof is proved again.
 PROVED := crates.txt $(shell find crates -name '*.rt' -o -name '*.antt')
 
-.PHONY: demo test month compare wrong bench instructions archives crc third-party faults install uninstall packages
-.PHONY: demo-packages
+.PHONY: demo test edits-alone month compare wrong bench instructions archives crc third-party faults install uninstall
+.PHONY: packages demo-packages
 .SILENT:
 
 # The host: captions written at every kind and rate, one spoilt, one cut short.
@@ -25,9 +25,14 @@ demo: $(OUT)/host
 	cat $(OUT)/host.stdout
 	diff -u examples/host/stdout $(OUT)/host.stdout
 
-# The gate: proofs, must-fail edits, programs, header, host, month, faults, second program.
+# The gate: proofs, edits, programs, header, host, month, faults, second program.
 test:
 	scripts/gate.sh
+
+# Every edit alone and from nothing, which takes half an hour of processor time; the gate tries them together.
+edits-alone:
+	rt check
+	python3 scripts/refused.py --alone
 
 # The program month over recordings of every sort, held to what is stored.
 month: $(OUT)/month $(OUT)/month_half

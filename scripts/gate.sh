@@ -32,7 +32,10 @@ case $verdict in
     exit 1
     ;;
 esac
-python3 scripts/edits.py
+
+stage 'edits: wrong programs and definitions, refused'
+python3 scripts/refused.py --self-test
+python3 scripts/refused.py
 
 stage 'header'
 tests/header/run

@@ -12,7 +12,7 @@ It runs after `rt ci`, which has proved every crate as it stands. Two things mak
   stands over the same modules, which must be proved with nothing checked.
 - Edits of different functions of a crate go into one check: a caller's proof cites its callee's contract and not its
   code, so each edited function must have an error of its own, one that does not come of another's not being proved.
-  The control is the functions that no edit touches, in the same check. An edit that shows none is tried alone.
+  The control is the functions that no edit touches, in the same check. An edit that shows no error is tried alone.
 
 Prints each fault, a line for each crate, and the totals; the status is 1 if there is a fault.
 """
@@ -23,52 +23,51 @@ import re
 import shutil
 import sys
 from checker import CRATES, KNOWN, ROOM, TARGET, build_folder, check, checked_over, copy_of, stands
-from edit import Edit, edits_of
+from edit import edits_of
 
 PLACE = re.compile(r'^(\S+?):\d+:\d+: error\b.*', re.M)
+# what comes of another's error, or of a step that the code no longer has
+FOLLOWS = re.compile('was not admitted|has no `Need-')
 
 
 def errors_of(said, where):
-    """The errors of a check: the file of the crate and the line, but for those that come of another's."""
+    """The errors of a check, each the file of the crate and the line, but for those that only follow."""
     found = [(m.group(1).removeprefix(where + '/'), m.group(0)) for m in PLACE.finditer(said)]
-    return [(file, line) for file, line in found if 'was not admitted' not in line]
+    return [(file, line) for file, line in found if not FOLLOWS.search(line)]
 
 
-def line_of(edit, function, said):
-    """What a check says of a function of the crate."""
-    path = '::'.join([edit.crate, *function.split('/')])
-    found = re.search(rf'^fn {path}: (.*)$', said, re.M)
-    return found.group(1) if found else ''
+def functions_of(edit):
+    return edit.functions(os.path.join(CRATES, edit.crate)) or set()
 
 
-def function_fault(edit, function, said, errors):
+def proof_of(edit, function):
+    """The file that refuses an edit of a function's body: its proof, or its own file where it has none."""
+    proof = f'proofs/{function}/Proof.antt'
+    return proof if os.path.exists(os.path.join(CRATES, edit.crate, proof)) else edit.pairs[0][0]
+
+
+def refused_itself(edit, function, said, files):
     """An edited function has an error of its own in its proof; or, where it has no proof file, it has no proof now."""
-    proof, line = f'proofs/{function}/Proof.antt', line_of(edit, function, said)
-    if os.path.exists(os.path.join(CRATES, edit.crate, proof)):
-        own = [text for file, text in errors if file == proof]
-        return None if own and line.startswith('not proved') else f'NOT REFUSED: {function} has no error of its own'
-    return None if line.startswith('no proof') else f'NOT REFUSED: {function} is still proved'
+    path = '::'.join([edit.crate, *function.split('/')])
+    line = re.search(rf'^fn {path}: (.*)$', said, re.M)
+    by, said_of = proof_of(edit, function), line.group(1) if line else ''
+    return said_of.startswith('no proof') if by.startswith('src/') else said_of.startswith('not proved') and by in files
 
 
 def fault_of(edit, where, status, said):
     """What is wrong with an edit's refusal; None if the file that it names refused it."""
     if status == 0:
         return 'NOT REFUSED: the crate is still proved'
-    if status != 1 or not re.search('^logic=not-proved', said, re.M):
-        return f'its text does not compile: {said[:200]}'
-    errors, functions = errors_of(said, where), edit.functions(os.path.join(CRATES, edit.crate))
-    if errors and 'not in scope' in errors[0][1]:
-        return f'its text does not compile: {errors[0][1][:200]}'
-    if functions and edit.by.startswith('src/'):
-        named = edit.by in [file for file, _, _ in edit.pairs]
-    elif functions:
-        named = edit.by in [f'proofs/{f}/Proof.antt' for f in functions]
-    else:
-        named = errors and errors[0][0] == edit.by
-    if not named:
-        return f'refused by {errors[0][0] if errors else "no file"}, and not by {edit.by}'
-    faults = [function_fault(edit, f, said, errors) for f in sorted(functions or [])]
-    return next((fault for fault in faults if fault), None)
+    errors = errors_of(said, where)
+    written = [line for file, line in errors if not file.startswith('proofs/') or 'not in scope' in line]
+    if status != 1 or written or not re.search('^logic=not-proved', said, re.M):
+        return f'its text does not compile: {(written or [said])[0][:200]}'
+    functions, files = functions_of(edit), [file for file, _ in errors]
+    for function in sorted(functions):
+        if not refused_itself(edit, function, said, files):
+            return f'NOT REFUSED: {function} has no error of its own'
+    refusing = [proof_of(edit, f) for f in functions] if functions else files
+    return None if edit.by in refusing else f'refused by {", ".join(dict.fromkeys(refusing))}, and not by {edit.by}'
 
 
 def others_fault(name, functions, said):
@@ -99,18 +98,16 @@ def try_together(edits, build):
     status, said, used = checked_over(edits[0].crate, where, build)
     shutil.rmtree(where)
     touched = set().union(*(functions_of(edit) for edit in edits))
-    unsure = others_fault(edits[0].crate, touched, said)
+    strange = others_fault(edits[0].crate, touched, said)
+    if strange:
+        return [(edit, strange) for edit in edits], used
     done = []
     for edit in edits:
-        answers, seconds = [(edit, unsure or fault_of(edit, where, status, said))], 0.0
+        answers, seconds = [(edit, fault_of(edit, where, status, said))], 0.0
         if answers[0][1] and len(edits) > 1:
             answers, seconds = try_alone(edit, build)
         done, used = done + answers, used + seconds
     return done, used
-
-
-def functions_of(edit):
-    return edit.functions(os.path.join(CRATES, edit.crate)) or set()
 
 
 def groups(edits):

@@ -7,13 +7,14 @@
 - no tracked file holds a path of a machine;
 - crates.txt names just those crates that a crate uses;
 - the first line of a function's proof names the function by its path;
-- each old text of a must-fail edit stands just once in its file.
+- each edit, of must-fail/ or refused/, has the form that scripts/edit.py says, and its old texts stand just once.
 Prints each fault, and ends with status 1 if there is one.
 """
 import os
 import re
 import subprocess
 import sys
+from edit import Edit
 
 faults = []
 
@@ -90,24 +91,16 @@ def check_crates():
 
 
 def edits():
-    """Every must-fail edit, by the name of its error."""
-    return [p for p in tracked() if re.fullmatch(r'crates/\w+/must-fail/\w+\.edit', p)]
+    """Every edit, of the folders must-fail and refused."""
+    return [p for p in tracked() if re.fullmatch(r'crates/\w+/(must-fail|refused)/\w+\.edit', p)]
 
 
 def check_edit(path):
-    """Each old text of an edit stands just once in its file, once those before it are replaced."""
-    file, old, texts = None, None, {}
-    for line in text_of(path).split('\n'):
-        word, _, rest = line.partition(': ')
-        if word == 'file':
-            file = os.path.join(os.path.dirname(os.path.dirname(path)), rest)
-            texts.setdefault(file, text_of(file))
-        elif word == 'old':
-            old = rest
-            if texts[file].count(old) != 1:
-                faults.append(f'{path}: its old text stands {texts[file].count(old)} times in {file}: {old}')
-        elif word == 'new':
-            texts[file] = texts[file].replace(old, rest)
+    """An edit has its form, and each old text stands just once in its file, once those before it are replaced."""
+    made = Edit(path)
+    fault = made.text_fault() or made.apply(os.path.dirname(os.path.dirname(path)), write=False)
+    if fault:
+        faults.append(f'{path}: {fault}')
 
 
 for p in tracked():

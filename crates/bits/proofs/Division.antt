@@ -273,8 +273,8 @@ complement-twice (b ∷ bs) h =
 ones : Below 2 (replicate 16 1)
 ones = below-replicate 16 (omega arith)
 
--- promise: The CRC is what remains of a division by x^16 + x^12 + x^5 + 1, for every register and every row of bits, and
--- nothing else remains
+-- promise: The CRC is what remains of a division by x^16 + x^12 + x^5 + 1, for every register and every row of bits,
+-- and nothing else remains
 -- rule: 5.13
 -- code: crc_octets
 -- with: crc-only, divided, divided-only

@@ -7,3 +7,4 @@ pub mod Whole
 pub mod Recorded
 pub mod Rows
 pub mod Back
+pub mod Facts

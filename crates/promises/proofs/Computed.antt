@@ -1,6 +1,6 @@
 -- Whole readings and fronts, computed from the definitions alone: no statement of this crate is looked at here, so an
--- edit of one computes none of them. `Answered` joins them to the contracts. The frame is the short one that carries 3Dh
--- at 11 Mbit/s with the clock bit set: 1,056 + 8 chips. Assumes nothing.
+-- edit of one computes none of them. `Answered` joins them to the contracts. The frame is the short one that carries
+-- 3Dh at 11 Mbit/s with the clock bit set: 1,056 + 8 chips. Assumes nothing.
 use mathlib.Core.Path.{_≡_, refl}
 use mathlib.Core.Bool.{true}
 use mathlib.Core.List.{List, [], _∷_, _++_, map}

@@ -149,7 +149,7 @@ HalfACount = (x : Float) → T (usable x) → Nearest (valueOf x) (countOf x)
 
 -- promise: The contract of each call allows exactly one answer for each input, and one final buffer or part
 -- rule: 9.2
--- code: dsss_write_2, dsss_read_hard_3, dsss_read_soft_3, dsss_read_bytes_3, dsss_read_front, front_only::part, dsss_find
+-- code: dsss_write_2, dsss_read_hard_3, dsss_read_soft_3, dsss_read_bytes_3, dsss_read_front, dsss_find
 -- no test: a run shows one answer, not that no other is allowed
 abbrev pub OneAnswer : Type 0
 OneAnswer = (c : Call) (v v′ : Answer c) → Allows c v → Allows c v′ → v ≡ v′

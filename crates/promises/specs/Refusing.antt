@@ -31,8 +31,8 @@ pub data WriteAnswer (kind rate phase n room : ℕ) : ℕ → ℕ → Type 0 whe
   is-written : {front octet : ℕ} → Goes kind rate front octet → 1 ≤ n → n ≤ 4095 → phase ≤ 3
       → front + octet * n ≤ room → WriteAnswer kind rate phase n room 0 (front + octet * n)
 
--- promise: A write refuses with 1 to 6, each exactly when its rule says so and none before it holds, and tells no chips;
--- else it answers 0 and the frame's chips
+-- promise: A write refuses with 1 to 6, each exactly when its rule says so and none before it holds, and tells no
+-- chips; else it answers 0 and the frame's chips
 -- rule: 1.4 (1), 6.1, 6.4, 6.11
 -- code: dsss_write_2
 -- with: WriteAnswer

@@ -1,9 +1,9 @@
--- Recordings read, computed from the definition and compared with what RULES 6 says of each: number, place, rate code,
--- LENGTH, n, chips used, the clock bit, the smallest lead and its symbol. Each refusal, and each two neighbours in the
--- order of checks that can be met together; the octet buffer after good and refused reads. The long frame carries A5h
--- and 3Ch at 1 Mbit/s and has the clock bit set (LENGTH 16; 2,112 + 176 chips), the short one 3Dh at 11 Mbit/s and has
--- neither bit set (LENGTH 1; 1,056 + 8 chips). What a header with a right CRC is refused for stands in calls,
--- HeaderFacts. Assumes nothing.
+-- Parts of readings, and what is refused before a chip is looked at, computed from the definition and compared with
+-- what RULES 6 says: number, place, rate code, LENGTH, n, chips used, the clock bit, the smallest lead and its symbol.
+-- Whole readings are computed in crate `clean`, Facts, so that an edit of a definition here computes none of them. The
+-- long frame carries A5h and 3Ch at 1 Mbit/s and has the clock bit set (LENGTH 16; 2,112 + 176 chips), the short one
+-- 3Dh at 11 Mbit/s and has neither bit set (LENGTH 1; 1,056 + 8 chips). What a header with a right CRC is refused for
+-- stands in calls, HeaderFacts. Assumes nothing.
 use mathlib.Core.Path.{_≡_, refl}
 use mathlib.Core.Bool.{Bool, true, false}
 use mathlib.Core.Option.{none, some}
@@ -14,7 +14,7 @@ use Rattle.rates.specs.declared.Rate.the-variants.{One, Two, Five, Eleven}
 use Rattle.chips.specs.Chips.{hardRecording}
 use Rattle.symbols.specs.Words.{barkerWord, cckWord}
 use Rattle.symbols.specs.Choice.{score, those, going, firstLargest, decided, others, leadOf}
-use Rattle.bits.specs.Bits.{bitsOf, octetBits, numberOf, octetsOf}
+use Rattle.bits.specs.Bits.{bitsOf, octetBits, numberOf}
 use Rattle.bits.specs.Growths.{
   growth,
   symbolOf,
@@ -29,10 +29,9 @@ use Rattle.bits.specs.Growths.{
 }
 use Rattle.bits.specs.Scrambler.{mixed, scramble, descramble}
 use Rattle.bits.specs.Crc.{addWhere, crcStep, remainder, crcBits}
-use Rattle.frame.specs.declared.Kind.{Kind}
 use Rattle.frame.specs.declared.Kind.the-variants.{Long, Short}
 use Rattle.calls.specs.declared.Record.{Record}
-use Rattle.calls.specs.declared.Told.{Told}
+use Rattle.calls.specs.declared.Front.the-variants as front
 use Rattle.frame.specs.Frame.{
   preambleBits,
   fieldBits,
@@ -46,7 +45,7 @@ use Rattle.frame.specs.Frame.{
 }
 use Rattle.calls.specs.Answers.{recordOf}
 use Rattle.calls.specs.Headers.{told, sameBits, fieldsOf, headerOf}
-use Rattle.reading.specs.Leads.{decidedLeads, frontLeads, payloadLeads, leadAt, leastFrom, leastOf}
+use Rattle.reading.specs.Leads.{decidedLeads, frontLeads, payloadLeads, frameLeads, leadAt, leastFrom, leastOf}
 use Rattle.reading.specs.Reading.{
   firstUnusable,
   firstOdd,
@@ -56,24 +55,19 @@ use Rattle.reading.specs.Reading.{
   headerWords,
   reference,
   headerPhase,
-  payloadPhase,
   frontOdd,
   frontHeard,
   frontBits,
   frontOf,
-  payloadWords,
-  payloadOdd,
-  payloadOf,
-  payloadReading,
   readingOf,
   octetsFound,
 }
 
-pub fields : Record → List ℕ
+unfoldable pub fields : Record → List ℕ
 fields a = a .number ∷ a .place ∷ a .rate ∷ a .length ∷ a .n ∷ a .used ∷ a .clock ∷ a .lead ∷ a .symbol ∷ []
 
 -- the answer to a hard recording under a kind, its rows agreeing or not, with room for so many octets
-pub refused : ℕ → Bool → ℕ → List ℕ → List ℕ
+unfoldable pub refused : ℕ → Bool → ℕ → List ℕ → List ℕ
 refused kind agree room chips = fields (recordOf (readingOf kind agree (hardRecording chips) room))
 
 unfoldable pub long : List ℕ
@@ -82,12 +76,9 @@ long = frame Long One 2 true (0xA5 ∷ 0x3C ∷ [])
 unfoldable pub short : List ℕ
 short = frame Short Eleven 3 false (0x3D ∷ [])
 
--- a chip set to a value; so many chips from a place lost; eleven chips from a place turned by quarters
+-- a chip set to a value; eleven chips from a place turned by quarters
 unfoldable pub spoilt : ℕ → ℕ → List ℕ → List ℕ
 spoilt at x chips = set chips at x
-
-unfoldable pub lost : ℕ → ℕ → List ℕ → List ℕ
-lost at m chips = take at chips ++ (replicate m 4 ++ drop (at + m) chips)
 
 unfoldable pub turned : ℕ → ℕ → List ℕ → List ℕ
 turned at by chips =
@@ -114,104 +105,49 @@ pub leasts : leastOf [] ∷ leastOf (7 ∷ []) ∷ leastOf (5 ∷ 3 ∷ 4 ∷ 3 
 unfolding leastFrom leastOf
 leasts = refl
 
--- ---- whole readings
+-- 10 in a long header: its first symbol grown by 1 from the preamble's last
+pub grown : frontOdd Long (hardRecording (replicate 1584 0 ++ replicate 528 1)) ≡ some 1584
+unfolding
+    hardRecording barkerWord score those going firstLargest decided growthsOf lastHeard firstOdd decidedWords
+    preambleWords headerWords reference headerPhase frontOdd
+grown = refl
 
--- refused, in the order of the checks, each alone and with its neighbour: 1; 1 and 7; 7; 7 and 8; 8 and 9; 8; 9 and
--- 10, the 9 at the part's end; two 9s; 9 at chip 0; 10 in the preamble (a first symbol turned is seen in the
--- second), at its last symbol, at the first and the last of a long header; 11; 12, of a short header whose first
--- symbol grew by an odd step; 16, 17 and 9; 16; the payload's 10 at its first and its last symbol
--- promise: Whole recordings: each refusal, and each two neighbours in the order of checks that can be met together; 16
--- comes before 17
--- rule: 6.2 to 6.6
--- with: good, parts, payloads
-pub bad : refused 2 true 1 long ∷ refused 2 false 1 long ∷ refused 256 true 1 long
-    ∷ refused 0 false 1 long ∷ refused 1 false 1 []
-    ∷ refused 0 true 1 (take 2111 (spoilt 0 5 long)) ∷ refused 1 true 1 (take 1055 short)
-    ∷ refused 0 true 1 (spoilt 2111 5 (turned 55 1 long)) ∷ refused 1 true 1 (spoilt 700 5 (spoilt 900 255 short))
-    ∷ refused 1 true 1 (spoilt 0 5 short)
-    ∷ refused 1 true 1 (turned 0 1 short) ∷ refused 1 true 1 (turned 781 1 short)
-    ∷ refused 0 true 1 (turned 0 1 long) ∷ refused 0 true 1 (turned 1573 1 long)
-    ∷ refused 0 true 1 (turned 1584 1 long) ∷ refused 0 true 1 (turned 2101 1 long)
-    ∷ refused 1 true 1 (turned 682 2 short) ∷ refused 1 true 1 (turned 792 1 short)
-    ∷ refused 1 true 0 (take 1063 (spoilt 1060 5 short)) ∷ refused 0 true 1 (take 2287 long)
-    ∷ refused 0 true 2 (turned 2112 1 long) ∷ refused 0 true 2 (turned 2277 1 long) ∷ []
+-- SYNC bits are not compared: of a short front the first, the sixth and the 48th symbol are turned by half
+pub sync-turned : frontOf Short (hardRecording (turned 0 2 (turned 55 2 (turned 517 2 short))))
+    ≡ front.Fields (told Eleven 1 1 false)
+unfolding
+    short turned hardRecording
+    barkerWord cckWord score those going firstLargest decided
+    bitsOf octetBits numberOf growth symbolOf symbolsFrom symbolsOf chipsFrom lastPhase heardBits heard
+    growthsOf
+    lastHeard mixed scramble descramble addWhere crcStep remainder crcBits
+    preambleBits fieldBits headerBits sentHeader frameBits sentBits partsChips framed frame
+    firstUnusable firstOdd decidedWords preambleWords headerWords reference headerPhase frontOdd frontHeard
+    frontBits sameBits fieldsOf headerOf frontOf
+sync-turned = refl
+
+-- the smallest lead of the short frame is 4 full chips, at symbol 96, the payload's first
+pub frame-lead : leastOf (frameLeads Short Eleven 1 (hardRecording short)) ≡ leadAt 4096 96
+unfolding
+    short hardRecording barkerWord cckWord score those going firstLargest decided others leadOf decidedLeads
+    frontLeads payloadLeads leastFrom leastOf
+    bitsOf octetBits growth symbolOf symbolsFrom symbolsOf chipsFrom lastPhase mixed scramble addWhere crcStep
+    remainder crcBits
+    preambleBits fieldBits headerBits sentHeader frameBits sentBits partsChips framed frame
+frame-lead = refl
+
+-- ---- before a chip is looked at: 1; 1 and 7; 1 by a number past 255; 7; 7 and 8; 8, each one chip short of a front
+pub early : refused 2 true 1 [] ∷ refused 2 false 1 [] ∷ refused 256 true 1 []
+    ∷ refused 0 false 1 (replicate 2112 0) ∷ refused 1 false 1 []
+    ∷ refused 0 true 1 (replicate 2111 5) ∷ refused 1 true 1 (replicate 1055 0) ∷ []
     ≡ (1 ∷ 0 ∷ 0 ∷ 0 ∷ 0 ∷ 0 ∷ 0 ∷ 0 ∷ 0 ∷ []) ∷ (1 ∷ 0 ∷ 0 ∷ 0 ∷ 0 ∷ 0 ∷ 0 ∷ 0 ∷ 0 ∷ [])
     ∷ (1 ∷ 0 ∷ 0 ∷ 0 ∷ 0 ∷ 0 ∷ 0 ∷ 0 ∷ 0 ∷ [])
     ∷ (7 ∷ 0 ∷ 0 ∷ 0 ∷ 0 ∷ 0 ∷ 0 ∷ 0 ∷ 0 ∷ []) ∷ (7 ∷ 0 ∷ 0 ∷ 0 ∷ 0 ∷ 0 ∷ 0 ∷ 0 ∷ 0 ∷ [])
-    ∷ (8 ∷ 0 ∷ 0 ∷ 0 ∷ 0 ∷ 0 ∷ 0 ∷ 0 ∷ 0 ∷ []) ∷ (8 ∷ 0 ∷ 0 ∷ 0 ∷ 0 ∷ 0 ∷ 0 ∷ 0 ∷ 0 ∷ [])
-    ∷ (9 ∷ 2111 ∷ 0 ∷ 0 ∷ 0 ∷ 0 ∷ 0 ∷ 0 ∷ 0 ∷ []) ∷ (9 ∷ 700 ∷ 0 ∷ 0 ∷ 0 ∷ 0 ∷ 0 ∷ 0 ∷ 0 ∷ [])
-    ∷ (9 ∷ 0 ∷ 0 ∷ 0 ∷ 0 ∷ 0 ∷ 0 ∷ 0 ∷ 0 ∷ [])
-    ∷ (10 ∷ 11 ∷ 0 ∷ 0 ∷ 0 ∷ 0 ∷ 0 ∷ 0 ∷ 0 ∷ []) ∷ (10 ∷ 781 ∷ 0 ∷ 0 ∷ 0 ∷ 0 ∷ 0 ∷ 0 ∷ 0 ∷ [])
-    ∷ (10 ∷ 11 ∷ 0 ∷ 0 ∷ 0 ∷ 0 ∷ 0 ∷ 0 ∷ 0 ∷ []) ∷ (10 ∷ 1573 ∷ 0 ∷ 0 ∷ 0 ∷ 0 ∷ 0 ∷ 0 ∷ 0 ∷ [])
-    ∷ (10 ∷ 1584 ∷ 0 ∷ 0 ∷ 0 ∷ 0 ∷ 0 ∷ 0 ∷ 0 ∷ []) ∷ (10 ∷ 2101 ∷ 0 ∷ 0 ∷ 0 ∷ 0 ∷ 0 ∷ 0 ∷ 0 ∷ [])
-    ∷ (11 ∷ 0 ∷ 0 ∷ 0 ∷ 0 ∷ 0 ∷ 0 ∷ 0 ∷ 0 ∷ []) ∷ (12 ∷ 0 ∷ 0 ∷ 0 ∷ 0 ∷ 0 ∷ 0 ∷ 0 ∷ 0 ∷ [])
-    ∷ (16 ∷ 0 ∷ 0 ∷ 1 ∷ 0 ∷ 0 ∷ 0 ∷ 0 ∷ 0 ∷ []) ∷ (16 ∷ 0 ∷ 0 ∷ 16 ∷ 0 ∷ 0 ∷ 0 ∷ 0 ∷ 0 ∷ [])
-    ∷ (10 ∷ 2112 ∷ 0 ∷ 16 ∷ 0 ∷ 0 ∷ 0 ∷ 0 ∷ 0 ∷ []) ∷ (10 ∷ 2277 ∷ 0 ∷ 16 ∷ 0 ∷ 0 ∷ 0 ∷ 0 ∷ 0 ∷ []) ∷ []
-unfolding
-    fields refused long short spoilt turned hardRecording
-    barkerWord cckWord score those going firstLargest decided
-    bitsOf octetBits numberOf octetsOf growth symbolOf symbolsFrom symbolsOf chipsFrom lastPhase heardBits heard
-    growthsOf
-    lastHeard mixed scramble descramble addWhere crcStep remainder crcBits
-    preambleBits fieldBits headerBits sentHeader frameBits sentBits partsChips framed frame
-    firstUnusable firstOdd decidedWords preambleWords headerWords reference headerPhase payloadPhase frontOdd frontHeard
-    frontBits sameBits fieldsOf headerOf frontOf payloadWords payloadOdd payloadOf payloadReading readingOf octetsFound
-bad = refl
+    ∷ (8 ∷ 0 ∷ 0 ∷ 0 ∷ 0 ∷ 0 ∷ 0 ∷ 0 ∷ 0 ∷ []) ∷ (8 ∷ 0 ∷ 0 ∷ 0 ∷ 0 ∷ 0 ∷ 0 ∷ 0 ∷ 0 ∷ []) ∷ []
+unfolding fields refused hardRecording frontOf readingOf
+early = refl
 
--- behind a front that tells what it does, with room for so many octets: 17 and 9; 9 and 10, the 9 at the part's end;
--- two 9s, the first at its start; LENGTH 16; a short frame's 9 at its end, LENGTH 1
-abbrev behind : Kind → Told → ℕ → List ℕ → List ℕ
-behind k t room chips = fields (recordOf (payloadReading k t (hardRecording chips) room))
-
-pub payloads : behind Long (told One 16 2 true) 0 (spoilt 2199 5 long)
-    ∷ behind Long (told One 16 2 true) 2 (spoilt 2287 5 (turned 2112 1 long))
-    ∷ behind Long (told One 16 2 true) 2 (spoilt 2112 5 (spoilt 2200 5 long))
-    ∷ behind Short (told Eleven 1 1 false) 1 (spoilt 1063 77 short) ∷ []
-    ≡ (17 ∷ 0 ∷ 0 ∷ 16 ∷ 0 ∷ 0 ∷ 0 ∷ 0 ∷ 0 ∷ []) ∷ (9 ∷ 2287 ∷ 0 ∷ 16 ∷ 0 ∷ 0 ∷ 0 ∷ 0 ∷ 0 ∷ [])
-    ∷ (9 ∷ 2112 ∷ 0 ∷ 16 ∷ 0 ∷ 0 ∷ 0 ∷ 0 ∷ 0 ∷ []) ∷ (9 ∷ 1063 ∷ 0 ∷ 1 ∷ 0 ∷ 0 ∷ 0 ∷ 0 ∷ 0 ∷ []) ∷ []
-unfolding
-    fields long short spoilt turned hardRecording barkerWord cckWord bitsOf octetBits growth symbolOf symbolsFrom
-    symbolsOf chipsFrom lastPhase mixed scramble addWhere crcStep remainder crcBits
-    preambleBits fieldBits headerBits sentHeader frameBits sentBits partsChips framed frame firstUnusable payloadReading
-payloads = refl
-
--- good: chips after the frame are not looked at, nor are SYNC bits compared: of the long one a symbol is turned by
--- half, of the short one the first, the sixth and the 48th. Its payload symbol grows by an odd step, as CCK symbols
--- may. The smallest lead is 11 full chips at symbol 0, and 4 at symbol 96, the payload's first; with a chip lost in
--- symbols 145 and 207, and in 0 and 200, it is 10 at the first of the two; with a wrong chip in the payload's 2. With
--- eight chips lost in symbol 80, of the short header, it is 3 there
-pub good : refused 0 true 2 (turned 1309 2 (long ++ (9 ∷ 9 ∷ [])))
-    ∷ refused 1 true 2 (turned 0 2 (turned 55 2 (turned 517 2 short)))
-    ∷ refused 0 true 2 (spoilt 2277 4 (spoilt 1600 4 long)) ∷ refused 0 true 2 (spoilt 3 4 (spoilt 2200 4 long))
-    ∷ refused 1 true 1 (spoilt 1057 2 short) ∷ refused 1 true 1 (lost 880 8 short) ∷ []
-    ≡ (0 ∷ 0 ∷ 10 ∷ 16 ∷ 2 ∷ 2288 ∷ 1 ∷ 11264 ∷ 0 ∷ []) ∷ (0 ∷ 0 ∷ 110 ∷ 1 ∷ 1 ∷ 1064 ∷ 0 ∷ 4096 ∷ 96 ∷ [])
-    ∷ (0 ∷ 0 ∷ 10 ∷ 16 ∷ 2 ∷ 2288 ∷ 1 ∷ 10240 ∷ 145 ∷ []) ∷ (0 ∷ 0 ∷ 10 ∷ 16 ∷ 2 ∷ 2288 ∷ 1 ∷ 10240 ∷ 0 ∷ [])
-    ∷ (0 ∷ 0 ∷ 110 ∷ 1 ∷ 1 ∷ 1064 ∷ 0 ∷ 2048 ∷ 96 ∷ []) ∷ (0 ∷ 0 ∷ 110 ∷ 1 ∷ 1 ∷ 1064 ∷ 0 ∷ 3072 ∷ 80 ∷ []) ∷ []
-unfolding
-    fields refused long short spoilt lost turned hardRecording
-    barkerWord cckWord score those going firstLargest decided others leadOf decidedLeads
-    frontLeads payloadLeads leastFrom leastOf
-    bitsOf octetBits numberOf octetsOf growth symbolOf symbolsFrom symbolsOf chipsFrom lastPhase heardBits heard
-    growthsOf
-    lastHeard mixed scramble descramble addWhere crcStep remainder crcBits
-    preambleBits fieldBits headerBits sentHeader frameBits sentBits partsChips framed frame
-    firstUnusable firstOdd decidedWords preambleWords headerWords reference headerPhase payloadPhase frontOdd frontHeard
-    frontBits sameBits fieldsOf headerOf frontOf payloadWords payloadOdd payloadOf payloadReading readingOf octetsFound
-good = refl
-
--- ---- the octet buffer: read, it is the payload, and zeros after it; refused, zeros, the whole of it
-pub octets : octetsFound 1 true (hardRecording short) 3 ≡ 61 ∷ 0 ∷ 0 ∷ []
-unfolding
-    fields refused long short spoilt turned hardRecording
-    barkerWord cckWord score those going firstLargest decided
-    bitsOf octetBits numberOf octetsOf growth symbolOf symbolsFrom symbolsOf chipsFrom lastPhase heardBits heard
-    growthsOf
-    lastHeard mixed scramble descramble addWhere crcStep remainder crcBits
-    preambleBits fieldBits headerBits sentHeader frameBits sentBits partsChips framed frame
-    firstUnusable firstOdd decidedWords preambleWords headerWords reference headerPhase payloadPhase frontOdd frontHeard
-    frontBits sameBits fieldsOf headerOf frontOf payloadWords payloadOdd payloadOf payloadReading readingOf octetsFound
-octets = refl
-
+-- the octet buffer of a refused read: zeros, the whole of it
 pub left : octetsFound 2 true [] 2 ∷ octetsFound 0 false [] 1 ∷ octetsFound 1 true [] 3 ∷ []
     ≡ (0 ∷ 0 ∷ []) ∷ (0 ∷ []) ∷ (0 ∷ 0 ∷ 0 ∷ []) ∷ []
 unfolding readingOf frontOf octetsFound

@@ -107,8 +107,8 @@ TextFills =
     × (room < length (textOf p) → (s ≡ record { number = 17; octets = 0 }) × (left ≡ replicate room 0))
     × (980 ≤ room → s .number ≡ 0)
 
--- promise: The text says each line's words and the report's numbers by their decimal digits, for every report of numbers
--- of 64 bits
+-- promise: The text says each line's words and the report's numbers by their decimal digits, for every report of
+-- numbers of 64 bits
 -- rule: 6.20
 -- code: dsss_report_text
 -- with: TextSaid
