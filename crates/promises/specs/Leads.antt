@@ -93,7 +93,7 @@ sureAbove (in-soft i q) r = symbolChips r
 sureAbove (in-bytes bytes) r = 0
 
 -- promise: A lead holds in the exact recorded numbers too: from hard chips and signed bytes any above 0, from usable
--- soft samples one above 8 counts, 11 for Barker; of a whole frame, from the record alone, above 11 at every rate, since
+-- soft samples one above 8 counts, 11 for Barker; of a whole frame, from the record alone, above 11 at every rate, as
 -- its front is Barker
 -- rule: 1.4 (3), 3.9
 -- code: dsss_read_hard_3, dsss_read_soft_3, dsss_read_bytes_3
