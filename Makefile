@@ -41,6 +41,7 @@ clean: ## removes all that was proved and built
 # The program month over recordings of every sort, held to what is stored.
 month: $(OUT)/month $(OUT)/month_half ## runs the program month over files, and compares what it says with what is stored
 	tests/month/run
+	tests/month/wrong
 
 # The second program's longer run.
 compare: $(OUT)/bridge target/peer/peer ## compares the library with the second program, longer than the test does
