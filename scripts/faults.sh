@@ -33,7 +33,8 @@ build month programs/month.c
 build month_half programs/month.c tests/month/half.c -Dfopen=half_open
 target/c/host.faults >target/c/faults.stdout
 diff -u examples/host/stdout target/c/faults.stdout
-tests/month/run '' target/c/month.faults target/c/month_half.faults
+# Leaks are not looked for, which takes seconds a run: month allocates nothing, and its test limits the open files.
+ASAN_OPTIONS=detect_leaks=0 tests/month/run '' target/c/month.faults target/c/month_half.faults
 target/peer/peer --brief --family $families,unusable_octets -- target/c/bridge.faults
 if [ "$(uname -m)" != x86_64 ] && ! command -v valgrind >/dev/null 2>&1; then
     echo 'faults.sh: host, month and bridge clean; no valgrind here'

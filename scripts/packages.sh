@@ -1,9 +1,9 @@
 #!/bin/sh
 # packages.sh demo|test: installs the Debian packages that the demo, or all tests and benchmarks, need.
 #
-# Looks for each tool first; if all are there it installs nothing, uses no network and is done at once. Before it
-# installs anything it says which packages and why. With DSSS_NO_PACKAGES set it only says so and fails. The Rattle
-# kit (rt) is no package and is only looked for.
+# Looks for the Rattle kit's command rt first, which is in no package: without it nothing is installed, and the status
+# is 1. Then for each tool; if all are there it installs nothing, uses no network and is done at once. Before it
+# installs anything it says which packages and why. With DSSS_NO_PACKAGES set it only says so and fails.
 set -eu
 
 purpose=${1:-}
@@ -14,6 +14,12 @@ demo | test) ;;
     exit 2
     ;;
 esac
+
+command -v rt >/dev/null 2>&1 || {
+    echo 'packages.sh: rt is not on PATH: it is the command of the Rattle kit, which no package has.' \
+        'README.md, "The two commands", says what the kit is; put its bin/ on PATH.' >&2
+    exit 1
+}
 
 packages=
 want() { # want PACKAGE WHY: one that is missing
@@ -39,14 +45,13 @@ if [ "$purpose" = test ]; then
     tool cc gcc 'compiles the C programs that run on this processor: tests of the header and of the tests'
     tool c++ g++ 'holds the header to C++'
     tool make make 'runs the targets'
+    tool git git 'names the files of the tree, for the scripts that look at its text'
     tool python3 python3 'runs the scripts that hold the tree, the header and the vectors to the source'
     tool rustc rustc 'compiles the second program'
     tool pkg-config pkg-config 'tries the installed pkg-config file'
     [ "$(uname -m)" != x86_64 ] || tool valgrind valgrind 'runs the library under fault, and counts instructions'
 fi
 
-command -v rt >/dev/null 2>&1 ||
-    echo "packages.sh: rt is not on PATH: install the Rattle kit, which no package has" >&2
 [ -n "$packages" ] || exit 0
 
 if [ -n "${DSSS_NO_PACKAGES:-}" ] || ! command -v apt-get >/dev/null 2>&1; then

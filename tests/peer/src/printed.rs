@@ -1,8 +1,9 @@
 //! The lines that the program `month` prints of recordings in files, beside those that this program has for them.
 //!
 //! A file is one hard recording: its first octet is the kind, the others are the chips. Files that are empty, longer
-//! than 65,536 octets, or can't be read are passed over; so is all behind 1,000 recordings. Each run has a folder of
-//! its own, and names its files from there. It must end with status 0 and say nothing else.
+//! than 65,536 octets, or can't be read are left out, and the standard error has a line for each; recordings behind the
+//! thousandth aren't counted, and it has one line that says how many. Each run has a folder of its own, names its files
+//! from there, and may have few files open. It must end with status 0, or with 1 if the output takes nothing.
 
 use crate::bits::Rate;
 use crate::families::pairs;
@@ -12,19 +13,24 @@ use crate::random::Random;
 use crate::report::{report_of, text, Reading, Report, MOST_SEEN};
 use std::collections::{BTreeMap, BTreeSet};
 use std::ffi::OsString;
+use std::io::Write;
 use std::os::unix::ffi::OsStringExt;
 use std::path::{Path, PathBuf};
 use std::process::{Command, Stdio};
-use std::time::Instant;
-use std::{fs, io};
+use std::time::{Duration, Instant};
+use std::{fs, io, thread};
 
 /// The longest file that is a recording.
 const LONGEST: usize = 65_536;
+
+/// Runs the program with few files that may be open at once, and ends it if it waits for a pipe in vain.
+const FEW_OPEN: [&str; 6] = ["timeout", "120", "sh", "-c", "ulimit -n 64 && exec \"$@\"", "few_open"];
 
 /// What a name leads to.
 #[derive(Clone)]
 enum Leads {
     File(Vec<u8>),
+    Pipe(Vec<u8>),
     Folder,
     Nothing,
 }
@@ -33,7 +39,7 @@ enum Leads {
 type Named = (Vec<u8>, Leads);
 
 /// What the runs must meet, and how often at least.
-const OWED: [(&str, u64); 16] = [
+const OWED: [(&str, u64); 20] = [
     ("no file", 1),
     ("each kind", 2),
     ("empty", 9),
@@ -44,12 +50,16 @@ const OWED: [(&str, u64); 16] = [
     ("missing", 9),
     ("named twice", 1),
     ("odd name", 1),
+    ("name from ./", 1),
+    ("pipe", 8),
     ("each refusal", 3),
     ("each rate", 4),
     ("1,000", 5),
     ("a frame behind 1,000", 3),
-    ("lead behind a file passed over", 6),
+    ("lead behind a file left out", 6),
     ("lead of 0", 5),
+    ("more files than may be open", 6),
+    ("left out behind 1,000", 1),
 ];
 
 /// How often each was met.
@@ -64,10 +74,21 @@ impl Leads {
     /// The recording, if it is one that counts.
     fn recording(&self) -> Option<(u64, &[u8])> {
         match self {
-            Leads::File(octets) if octets.len() <= LONGEST => {
+            Leads::File(octets) | Leads::Pipe(octets) if octets.len() <= LONGEST => {
                 octets.split_first().map(|(kind, chips)| (u64::from(*kind), chips))
             }
             _ => None,
+        }
+    }
+
+    /// Why it is left out, if it is.
+    fn left_out(&self) -> Option<&'static str> {
+        match self {
+            Leads::File(octets) | Leads::Pipe(octets) if octets.is_empty() => Some("empty"),
+            Leads::File(octets) | Leads::Pipe(octets) if octets.len() > LONGEST => Some("more than 65536 octets"),
+            Leads::File(_) | Leads::Pipe(_) => None,
+            Leads::Folder => Some("cannot be read to its end: Is a directory"),
+            Leads::Nothing => Some("cannot be opened: No such file or directory"),
         }
     }
 
@@ -92,6 +113,29 @@ fn report(files: &[Named]) -> (Vec<Reading>, Report) {
     (readings, report)
 }
 
+/// What the standard error has: a line for each file that is left out, and one for the recordings behind 1,000.
+fn said(files: &[Named]) -> Vec<u8> {
+    let mut said = Vec::new();
+    for (name, leads) in files {
+        if let Some(why) = leads.left_out() {
+            said.extend(b"month: ");
+            for octet in name {
+                match octet {
+                    0..=31 | 127 | b'\\' => said.extend(format!("\\{octet:03o}").bytes()),
+                    _ => said.push(*octet),
+                }
+            }
+            said.extend(format!(": left out: {why}\n").bytes());
+        }
+    }
+    let taken = files.iter().filter(|(_, leads)| leads.recording().is_some()).count() as u64;
+    if taken > MOST_SEEN {
+        let behind = taken - MOST_SEEN;
+        said.extend(format!("month: recordings after the thousandth, not counted: {behind}\n").bytes());
+    }
+    said
+}
+
 /// Counts what a run meets.
 fn count(files: &[Named], met: &mut Met) {
     let (readings, report) = report(files);
@@ -113,12 +157,16 @@ fn count(files: &[Named], met: &mut Met) {
         ("missing", any(&|leads| matches!(leads, Leads::Nothing))),
         ("named twice", names.len() < files.len()),
         ("odd name", files.iter().any(|(name, _)| std::str::from_utf8(name).is_err())),
+        ("name from ./", files.iter().any(|(name, leads)| name.starts_with(b"./") && leads.recording().is_some())),
+        ("pipe", any(&|leads| matches!(leads, Leads::Pipe(_)))),
         ("each refusal", REFUSED.iter().all(|(number, _)| report.refused[*number as usize] > 0)),
         ("each rate", report.frames.iter().all(|frames| *frames > 0)),
         ("1,000", report.seen == MOST_SEEN),
         ("a frame behind 1,000", more && last.is_some_and(|(kind, chips)| Reading::of(kind, chips).number() == 0)),
-        ("lead behind a file passed over", report.some == 1 && taken[..=report.recording as usize].contains(&false)),
+        ("lead behind a file left out", report.some == 1 && taken[..=report.recording as usize].contains(&false)),
         ("lead of 0", report.some == 1 && report.lead == 0),
+        ("more files than may be open", files.len() > 64),
+        ("left out behind 1,000", more && taken.last() == Some(&false)),
     ];
     seen.into_iter().for_each(|(what, seen)| *met.entry(what).or_default() += u64::from(seen));
 }
@@ -132,8 +180,8 @@ fn recorded(list: &[Recorded]) -> Vec<Named> {
     numbered(list.iter().map(Leads::of))
 }
 
-/// What is passed over, and files beside those.
-fn passed_over(random: &mut Random) -> Vec<Leads> {
+/// What is left out, and files beside those.
+fn left_out(random: &mut Random) -> Vec<Leads> {
     let mut all = vec![Leads::File(Vec::new()), Leads::Folder, Leads::Nothing];
     all.extend([LONGEST - 1, LONGEST, LONGEST + 1, LONGEST + 2, 2 * LONGEST].map(|len| Leads::resized(len, random)));
     all.extend([0, 1, 2, 255].map(|kind| Leads::File(vec![kind])));
@@ -171,6 +219,33 @@ fn odd_names(random: &mut Random) -> Vec<Vec<u8>> {
     names
 }
 
+/// Names that begin at the run's folder, or with a dot.
+fn dotted_names() -> Vec<Vec<u8>> {
+    ["./a", ".b", "..c", "./-", ".//d", "././e", "./.f", "./--help", "...", "./n x"].map(|name| name.into()).to_vec()
+}
+
+/// Runs over files of odd names, and over the same names with no file at any of them.
+fn oddly_named(random: &mut Random) -> Vec<Vec<Named>> {
+    let names = odd_names(random);
+    let missing = names.iter().map(|name| (name.clone(), Leads::Nothing)).collect();
+    let mut there = |name| (name, Leads::of(&any_recorded(random)));
+    let runs = [names, dotted_names()].map(|names| names.into_iter().map(&mut there).collect());
+    runs.into_iter().chain([missing]).collect()
+}
+
+/// Pipes of every size that a file may have, too long or empty ones too.
+fn pipes(random: &mut Random) -> Vec<Leads> {
+    let mut pipes: Vec<Leads> = (0..3).map(|_| Leads::of(&any_recorded(random))).collect();
+    pipes.extend([1, LONGEST, LONGEST + 1].map(|len| Leads::resized(len, random)));
+    pipes.push(Leads::File(Vec::new()));
+    pipes.push(Leads::of(&any_sent(random)));
+    let as_pipe = |leads| match leads {
+        Leads::File(octets) => Leads::Pipe(octets),
+        other => other,
+    };
+    pipes.into_iter().map(as_pipe).collect()
+}
+
 /// Many files, most of them short: `len` recordings, the last a frame of the smallest lead.
 fn many(len: usize, random: &mut Random) -> Vec<Leads> {
     let mut list: Vec<Leads> = (1..len).map(|_| Leads::of(&cheap(random))).collect();
@@ -182,14 +257,14 @@ fn many(len: usize, random: &mut Random) -> Vec<Leads> {
 /// The runs: what each is asked to read.
 fn runs(random: &mut Random) -> Vec<Vec<Named>> {
     let mut runs = vec![Vec::new(), recorded(&[led_by(0, random)]), recorded(&[cheap(random), led_by(0, random)])];
-    runs.extend(passed_over(random).into_iter().map(|leads| numbered([leads])));
+    runs.extend(left_out(random).into_iter().map(|leads| numbered([leads])));
     for _ in 0..6 {
-        let mut leads = passed_over(random);
+        let mut leads = left_out(random);
         leads.extend((0..random.within(1, 8)).map(|_| Leads::of(&any_recorded(random))));
         shuffle(&mut leads, random);
         runs.push(numbered(leads));
     }
-    runs.push(numbered(passed_over(random).into_iter().take(3).chain([Leads::of(&led_by(3, random))])));
+    runs.push(numbered(left_out(random).into_iter().take(3).chain([Leads::of(&led_by(3, random))])));
     runs.extend((0..2).map(|_| recorded(&apart(random))));
     let one_each: Vec<Recorded> = REFUSED.into_iter().map(|refused| refused_with(refused, random)).collect();
     runs.push(recorded(&one_each));
@@ -202,18 +277,37 @@ fn runs(random: &mut Random) -> Vec<Vec<Named>> {
     // One file named over and over, between others.
     let twice = recorded(&[any_sent(random), led_by(1, random), cheap(random)]);
     runs.push([0, 1, 0, 1, 2, 2, 0].map(|at: usize| twice[at].clone()).to_vec());
-    let names = odd_names(random);
-    runs.push(names.into_iter().map(|name| (name, Leads::of(&any_recorded(random)))).collect());
+    runs.extend(oddly_named(random));
+    runs.extend(pipes(random).into_iter().map(|pipe| numbered([Leads::of(&cheap(random)), pipe])));
+    runs.push(numbered(pipes(random)));
     for len in [999, 1000, 1001, 1002] {
         runs.push(numbered(many(len, random)));
     }
-    // A thousand and some that are passed over, so that the last one counts; and one more before it.
+    runs.push(numbered(many(1007, random).into_iter().chain([Leads::Nothing])));
+    // More left out than may be open.
+    runs.push(numbered((0..140).map(|at| if at % 2 == 0 { Leads::Folder } else { Leads::File(Vec::new()) })));
+    // A thousand and some that are left out, so that the last one counts; and one more before it.
     for len in [1000, 1001] {
         let mut leads = many(len, random);
         [Leads::Nothing, Leads::Folder, Leads::File(Vec::new())].into_iter().for_each(|other| leads.insert(7, other));
         runs.push(numbered(leads));
     }
     runs
+}
+
+/// Makes a pipe, and has it written to, in two parts, once it is read.
+fn lay_pipe(path: PathBuf, octets: Vec<u8>) -> io::Result<()> {
+    if !Command::new("mkfifo").arg("--").arg(&path).status()?.success() {
+        return Err(io::Error::other("mkfifo failed"));
+    }
+    thread::spawn(move || {
+        let mut to = fs::OpenOptions::new().write(true).open(path)?;
+        let (first, rest) = octets.split_at(octets.len().min(1000));
+        to.write_all(first)?;
+        thread::sleep(Duration::from_millis(20));
+        to.write_all(rest)
+    });
+    Ok(())
 }
 
 /// Lays the files of a run into its folder.
@@ -223,6 +317,7 @@ fn lay(folder: &Path, files: &[Named]) -> io::Result<()> {
         let path = folder.join(OsString::from_vec(name.clone()));
         match leads {
             Leads::File(octets) => fs::write(path, octets)?,
+            Leads::Pipe(octets) => lay_pipe(path, octets.clone())?,
             Leads::Folder => fs::create_dir_all(path)?,
             Leads::Nothing => {}
         }
@@ -230,20 +325,32 @@ fn lay(folder: &Path, files: &[Named]) -> io::Result<()> {
     Ok(())
 }
 
-/// Runs the program over files in a folder; what is wrong with what it prints, if anything.
-fn fault(command: &[PathBuf], folder: &Path, files: &[Named]) -> io::Result<Option<String>> {
+/// Runs the program over files in a folder, its output a pipe, or a file that takes nothing; what is wrong with what it
+/// prints and says, if anything.
+fn fault(command: &[PathBuf], folder: &Path, files: &[Named], full: bool) -> io::Result<Option<String>> {
     lay(folder, files)?;
     let names = files.iter().map(|(name, _)| OsString::from_vec(name.clone()));
-    let mut program = Command::new(&command[0]);
-    program.args(&command[1..]).args(names).current_dir(folder).stdin(Stdio::null());
-    let done = program.output()?;
+    let output = if full { fs::OpenOptions::new().write(true).open("/dev/full")?.into() } else { Stdio::piped() };
+    let mut program = Command::new(FEW_OPEN[0]);
+    program.args(&FEW_OPEN[1..]).args(command).args(names).current_dir(folder).stdin(Stdio::null());
+    let done = program.stdout(output).stderr(Stdio::piped()).spawn()?.wait_with_output()?;
     fs::remove_dir_all(folder)?;
-    let (printed, right) = (String::from_utf8_lossy(&done.stdout), text(&report(files).1));
-    if done.status.success() && done.stdout == right.as_bytes() && done.stderr.is_empty() {
+    let (mut right_text, mut right_said) = (text(&report(files).1), said(files));
+    if full {
+        right_text.clear();
+        right_said.extend(b"month: cannot write the report\n");
+    }
+    let right_status = done.status.code() == Some(i32::from(full));
+    if right_status && done.stdout == right_text.as_bytes() && done.stderr == right_said {
         return Ok(None);
     }
-    let said = String::from_utf8_lossy(&done.stderr);
-    Ok(Some(format!("{} files, {}\n{said}printed:\n{printed}expected:\n{right}", files.len(), done.status)))
+    let shown = |octets: &[u8]| String::from_utf8_lossy(octets).into_owned();
+    let [printed, said, right_said] = [&done.stdout, &done.stderr, &right_said].map(|octets| shown(octets));
+    Ok(Some(format!(
+        "{} files, {}\nprinted:\n{printed}expected:\n{right_text}said:\n{said}expected:\n{right_said}",
+        files.len(),
+        done.status
+    )))
 }
 
 /// Compares all runs, or those up to the first difference, and shows what they met. The words that lead to files are
@@ -254,9 +361,12 @@ pub fn compare(command: &[String], until_first: bool) -> Result<(), String> {
     let folder = std::env::temp_dir().join(format!("month-{}", std::process::id()));
     let (mut met, mut faults, start) = (Met::new(), 0, Instant::now());
     let runs = runs(&mut Random::new(1501));
-    for (case, files) in runs.iter().enumerate() {
+    // The first ones twice, the second time with an output that takes nothing.
+    let twice = runs.iter().take(16).map(|files| (files, true));
+    let cases: Vec<(&Vec<Named>, bool)> = runs.iter().map(|files| (files, false)).chain(twice).collect();
+    for (case, (files, full)) in cases.iter().enumerate() {
         count(files, &mut met);
-        let fault = fault(&command, &folder.join(case.to_string()), files);
+        let fault = fault(&command, &folder.join(case.to_string()), files, *full);
         if let Some(fault) = fault.map_err(|error| format!("run {case} can't be made: {error}"))? {
             println!("month, run {case}: MISMATCH: {fault}");
             faults += 1;
@@ -267,13 +377,13 @@ pub fn compare(command: &[String], until_first: bool) -> Result<(), String> {
     }
     fs::remove_dir_all(&folder).map_err(|error| format!("the runs' folder stays: {error}"))?;
     println!("{:<32} {:>9} {:>11} {:>8}", "program", "runs", "mismatches", "seconds");
-    println!("{:<32} {:>9} {faults:>11} {:>8.1}", "month", runs.len(), start.elapsed().as_secs_f64());
+    println!("{:<32} {:>9} {faults:>11} {:>8.1}", "month", cases.len(), start.elapsed().as_secs_f64());
     let words = OWED.map(|(what, _)| format!("{what}: {}", met[what]));
     println!("month       runs that met          {}", words.join(", "));
     let short: Vec<&str> = OWED.iter().filter(|(what, least)| met[what] < *least).map(|(what, _)| *what).collect();
     match (faults, &short[..]) {
         (0, []) => Ok(()),
         (0, _) => Err(format!("no run, or too few, met: {}", short.join(", "))),
-        _ => Err(format!("{faults} of {} runs differ", runs.len())),
+        _ => Err(format!("{faults} of {} runs differ", cases.len())),
     }
 }
