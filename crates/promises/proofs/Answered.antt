@@ -104,15 +104,15 @@ unfolding readingOf
 longer-i a left r = r .answer ∙ refl
 
 -- ---- a frame, one chip short of its front, and with its second symbol turned by 1
-pub short : List ℕ
-short = frame Short Eleven 0 true (0x3D ∷ [])
+pub clockFrame : List ℕ
+clockFrame = frame Short Eleven 0 true (0x3D ∷ [])
 
 pub turned : List ℕ
-turned = take 11 short ++ map (λ p. (p + 1) % 4) (take 11 (drop 11 short)) ++ drop 22 short
+turned = take 11 clockFrame ++ map (λ p. (p + 1) % 4) (take 11 (drop 11 clockFrame)) ++ drop 22 clockFrame
 
-pub read-back : Answers 1 (byteRow short) (good 110 1 1 1064 1 4096 96)
+pub read-back : Answers 1 (byteRow clockFrame) (good 110 1 1 1064 1 4096 96)
 unfolding
-    short byteRow byteRecording barkerWord cckWord bitsOf octetBits growth symbolOf symbolsFrom symbolsOf
+    clockFrame byteRow byteRecording barkerWord cckWord bitsOf octetBits growth symbolOf symbolsFrom symbolsOf
     chipsFrom lastPhase mixed scramble addWhere crcStep remainder crcBits preambleBits fieldBits headerBits sentHeader
     frameBits sentBits partsChips framed frame score those going firstLargest decided others leadOf decidedLeads
     frontLeads payloadLeads leastFrom leastOf numberOf octetsOf heardBits heard
@@ -121,9 +121,9 @@ unfolding
     payloadReading readingOf
 read-back a left r = r .answer ∙ refl
 
-pub cut-in-front : Answers 1 (byteRow (take 1055 short)) (refused 8 0)
+pub cut-in-front : Answers 1 (byteRow (take 1055 clockFrame)) (refused 8 0)
 unfolding
-    short byteRow byteRecording barkerWord cckWord bitsOf octetBits growth symbolOf symbolsFrom symbolsOf
+    clockFrame byteRow byteRecording barkerWord cckWord bitsOf octetBits growth symbolOf symbolsFrom symbolsOf
     chipsFrom lastPhase mixed scramble addWhere crcStep remainder crcBits preambleBits fieldBits headerBits sentHeader
     frameBits sentBits partsChips framed frame frontOf readingOf
 cut-in-front a left r = r .answer ∙ refl
@@ -131,7 +131,7 @@ cut-in-front a left r = r .answer ∙ refl
 pub place-of-ten : Answers 1 (byteRow turned)
     (record { number = 10; place = 11; rate = 0; length = 0; n = 0; used = 0; clock = 0; lead = 0; symbol = 0 })
 unfolding
-    short turned byteRow byteRecording barkerWord cckWord bitsOf octetBits growth symbolOf symbolsFrom symbolsOf
+    clockFrame turned byteRow byteRecording barkerWord cckWord bitsOf octetBits growth symbolOf symbolsFrom symbolsOf
     chipsFrom lastPhase mixed scramble addWhere crcStep remainder crcBits preambleBits fieldBits headerBits sentHeader
     frameBits sentBits partsChips framed frame score those going firstLargest decided heardBits heard growthsOf
     lastHeard firstUnusable firstOdd decidedWords preambleWords headerWords reference headerPhase frontOdd frontOf
@@ -150,18 +150,18 @@ pub front-none : Tells 1 [] (refusedComing 8 0 0)
 unfolding frontReading frontOf hardRecording
 front-none c r = r .answer ∙ refl
 
-pub front-told : Tells 1 (take 1056 short ++ replicate 9 9) (toldComing 110 1 1 1 1056 8)
+pub front-told : Tells 1 (take 1056 clockFrame ++ replicate 9 9) (toldComing 110 1 1 1 1056 8)
 unfolding
-    short hardRecording barkerWord cckWord bitsOf octetBits growth symbolOf symbolsFrom symbolsOf
+    clockFrame hardRecording barkerWord cckWord bitsOf octetBits growth symbolOf symbolsFrom symbolsOf
     chipsFrom lastPhase mixed scramble addWhere crcStep remainder crcBits preambleBits fieldBits headerBits sentHeader
     frameBits sentBits partsChips framed frame score those going firstLargest decided numberOf heardBits heard
     growthsOf lastHeard descramble sameBits fieldsOf headerOf firstUnusable firstOdd decidedWords preambleWords
     headerWords reference headerPhase frontOdd frontHeard frontBits frontOf frontReading
 front-told c r = r .answer ∙ refl
 
-pub front-cut : Tells 1 (take 1063 short) (refusedComing 16 0 1)
+pub front-cut : Tells 1 (take 1063 clockFrame) (refusedComing 16 0 1)
 unfolding
-    short hardRecording barkerWord cckWord bitsOf octetBits growth symbolOf symbolsFrom symbolsOf
+    clockFrame hardRecording barkerWord cckWord bitsOf octetBits growth symbolOf symbolsFrom symbolsOf
     chipsFrom lastPhase mixed scramble addWhere crcStep remainder crcBits preambleBits fieldBits headerBits sentHeader
     frameBits sentBits partsChips framed frame score those going firstLargest decided numberOf heardBits heard
     growthsOf lastHeard descramble sameBits fieldsOf headerOf firstUnusable firstOdd decidedWords preambleWords

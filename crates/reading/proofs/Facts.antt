@@ -76,11 +76,11 @@ fields a = a .number ∷ a .place ∷ a .rate ∷ a .length ∷ a .n ∷ a .used
 pub refused : ℕ → Bool → ℕ → List ℕ → List ℕ
 refused kind agree room chips = fields (recordOf (readingOf kind agree (hardRecording chips) room))
 
-unfoldable pub long : List ℕ
-long = frame Long One 2 true (0xA5 ∷ 0x3C ∷ [])
+unfoldable pub longFrame : List ℕ
+longFrame = frame Long One 2 true (0xA5 ∷ 0x3C ∷ [])
 
-unfoldable pub short : List ℕ
-short = frame Short Eleven 3 false (0x3D ∷ [])
+unfoldable pub shortFrame : List ℕ
+shortFrame = frame Short Eleven 3 false (0x3D ∷ [])
 
 -- a chip set to a value; so many chips from a place lost; eleven chips from a place turned by quarters
 unfoldable pub spoilt : ℕ → ℕ → List ℕ → List ℕ
@@ -120,17 +120,18 @@ leasts = refl
 -- 10, the 9 at the part's end; two 9s; 9 at chip 0; 10 in the preamble (a first symbol turned is seen in the
 -- second), at its last symbol, at the first and the last of a long header; 11; 12, of a short header whose first
 -- symbol grew by an odd step; 16, 17 and 9; 16; the payload's 10 at its first and its last symbol
-pub bad : refused 2 true 1 long ∷ refused 2 false 1 long ∷ refused 256 true 1 long
-    ∷ refused 0 false 1 long ∷ refused 1 false 1 []
-    ∷ refused 0 true 1 (take 2111 (spoilt 0 5 long)) ∷ refused 1 true 1 (take 1055 short)
-    ∷ refused 0 true 1 (spoilt 2111 5 (turned 55 1 long)) ∷ refused 1 true 1 (spoilt 700 5 (spoilt 900 255 short))
-    ∷ refused 1 true 1 (spoilt 0 5 short)
-    ∷ refused 1 true 1 (turned 0 1 short) ∷ refused 1 true 1 (turned 781 1 short)
-    ∷ refused 0 true 1 (turned 0 1 long) ∷ refused 0 true 1 (turned 1573 1 long)
-    ∷ refused 0 true 1 (turned 1584 1 long) ∷ refused 0 true 1 (turned 2101 1 long)
-    ∷ refused 1 true 1 (turned 682 2 short) ∷ refused 1 true 1 (turned 792 1 short)
-    ∷ refused 1 true 0 (take 1063 (spoilt 1060 5 short)) ∷ refused 0 true 1 (take 2287 long)
-    ∷ refused 0 true 2 (turned 2112 1 long) ∷ refused 0 true 2 (turned 2277 1 long) ∷ []
+pub bad : refused 2 true 1 longFrame ∷ refused 2 false 1 longFrame ∷ refused 256 true 1 longFrame
+    ∷ refused 0 false 1 longFrame ∷ refused 1 false 1 []
+    ∷ refused 0 true 1 (take 2111 (spoilt 0 5 longFrame)) ∷ refused 1 true 1 (take 1055 shortFrame)
+    ∷ refused 0 true 1 (spoilt 2111 5 (turned 55 1 longFrame))
+    ∷ refused 1 true 1 (spoilt 700 5 (spoilt 900 255 shortFrame))
+    ∷ refused 1 true 1 (spoilt 0 5 shortFrame)
+    ∷ refused 1 true 1 (turned 0 1 shortFrame) ∷ refused 1 true 1 (turned 781 1 shortFrame)
+    ∷ refused 0 true 1 (turned 0 1 longFrame) ∷ refused 0 true 1 (turned 1573 1 longFrame)
+    ∷ refused 0 true 1 (turned 1584 1 longFrame) ∷ refused 0 true 1 (turned 2101 1 longFrame)
+    ∷ refused 1 true 1 (turned 682 2 shortFrame) ∷ refused 1 true 1 (turned 792 1 shortFrame)
+    ∷ refused 1 true 0 (take 1063 (spoilt 1060 5 shortFrame)) ∷ refused 0 true 1 (take 2287 longFrame)
+    ∷ refused 0 true 2 (turned 2112 1 longFrame) ∷ refused 0 true 2 (turned 2277 1 longFrame) ∷ []
     ≡ (1 ∷ 0 ∷ 0 ∷ 0 ∷ 0 ∷ 0 ∷ 0 ∷ 0 ∷ 0 ∷ []) ∷ (1 ∷ 0 ∷ 0 ∷ 0 ∷ 0 ∷ 0 ∷ 0 ∷ 0 ∷ 0 ∷ [])
     ∷ (1 ∷ 0 ∷ 0 ∷ 0 ∷ 0 ∷ 0 ∷ 0 ∷ 0 ∷ 0 ∷ [])
     ∷ (7 ∷ 0 ∷ 0 ∷ 0 ∷ 0 ∷ 0 ∷ 0 ∷ 0 ∷ 0 ∷ []) ∷ (7 ∷ 0 ∷ 0 ∷ 0 ∷ 0 ∷ 0 ∷ 0 ∷ 0 ∷ 0 ∷ [])
@@ -144,7 +145,7 @@ pub bad : refused 2 true 1 long ∷ refused 2 false 1 long ∷ refused 256 true 
     ∷ (16 ∷ 0 ∷ 0 ∷ 1 ∷ 0 ∷ 0 ∷ 0 ∷ 0 ∷ 0 ∷ []) ∷ (16 ∷ 0 ∷ 0 ∷ 16 ∷ 0 ∷ 0 ∷ 0 ∷ 0 ∷ 0 ∷ [])
     ∷ (10 ∷ 2112 ∷ 0 ∷ 16 ∷ 0 ∷ 0 ∷ 0 ∷ 0 ∷ 0 ∷ []) ∷ (10 ∷ 2277 ∷ 0 ∷ 16 ∷ 0 ∷ 0 ∷ 0 ∷ 0 ∷ 0 ∷ []) ∷ []
 unfolding
-    fields refused long short spoilt turned hardRecording
+    fields refused longFrame shortFrame spoilt turned hardRecording
     barkerWord cckWord score those going firstLargest decided
     bitsOf octetBits numberOf octetsOf growth symbolOf symbolsFrom symbolsOf chipsFrom lastPhase heardBits heard
     growthsOf
@@ -159,14 +160,15 @@ bad = refl
 abbrev behind : Kind → Told → ℕ → List ℕ → List ℕ
 behind k t room chips = fields (recordOf (payloadReading k t (hardRecording chips) room))
 
-pub payloads : behind Long (told One 16 2 true) 0 (spoilt 2199 5 long)
-    ∷ behind Long (told One 16 2 true) 2 (spoilt 2287 5 (turned 2112 1 long))
-    ∷ behind Long (told One 16 2 true) 2 (spoilt 2112 5 (spoilt 2200 5 long))
-    ∷ behind Short (told Eleven 1 1 false) 1 (spoilt 1063 77 short) ∷ []
+pub payloads : behind Long (told One 16 2 true) 0 (spoilt 2199 5 longFrame)
+    ∷ behind Long (told One 16 2 true) 2 (spoilt 2287 5 (turned 2112 1 longFrame))
+    ∷ behind Long (told One 16 2 true) 2 (spoilt 2112 5 (spoilt 2200 5 longFrame))
+    ∷ behind Short (told Eleven 1 1 false) 1 (spoilt 1063 77 shortFrame) ∷ []
     ≡ (17 ∷ 0 ∷ 0 ∷ 16 ∷ 0 ∷ 0 ∷ 0 ∷ 0 ∷ 0 ∷ []) ∷ (9 ∷ 2287 ∷ 0 ∷ 16 ∷ 0 ∷ 0 ∷ 0 ∷ 0 ∷ 0 ∷ [])
     ∷ (9 ∷ 2112 ∷ 0 ∷ 16 ∷ 0 ∷ 0 ∷ 0 ∷ 0 ∷ 0 ∷ []) ∷ (9 ∷ 1063 ∷ 0 ∷ 1 ∷ 0 ∷ 0 ∷ 0 ∷ 0 ∷ 0 ∷ []) ∷ []
 unfolding
-    fields long short spoilt turned hardRecording barkerWord cckWord bitsOf octetBits growth symbolOf symbolsFrom
+    fields longFrame shortFrame spoilt turned hardRecording barkerWord cckWord bitsOf octetBits growth symbolOf
+    symbolsFrom
     symbolsOf chipsFrom lastPhase mixed scramble addWhere crcStep remainder crcBits
     preambleBits fieldBits headerBits sentHeader frameBits sentBits partsChips framed frame firstUnusable payloadReading
 payloads = refl
@@ -176,15 +178,16 @@ payloads = refl
 -- may. The smallest lead is 11 full chips at symbol 0, and 4 at symbol 96, the payload's first; with a chip lost in
 -- symbols 145 and 207, and in 0 and 200, it is 10 at the first of the two; with a wrong chip in the payload's 2. With
 -- eight chips lost in symbol 80, of the short header, it is 3 there
-pub good : refused 0 true 2 (turned 1309 2 (long ++ (9 ∷ 9 ∷ [])))
-    ∷ refused 1 true 2 (turned 0 2 (turned 55 2 (turned 517 2 short)))
-    ∷ refused 0 true 2 (spoilt 2277 4 (spoilt 1600 4 long)) ∷ refused 0 true 2 (spoilt 3 4 (spoilt 2200 4 long))
-    ∷ refused 1 true 1 (spoilt 1057 2 short) ∷ refused 1 true 1 (lost 880 8 short) ∷ []
+pub good : refused 0 true 2 (turned 1309 2 (longFrame ++ (9 ∷ 9 ∷ [])))
+    ∷ refused 1 true 2 (turned 0 2 (turned 55 2 (turned 517 2 shortFrame)))
+    ∷ refused 0 true 2 (spoilt 2277 4 (spoilt 1600 4 longFrame))
+    ∷ refused 0 true 2 (spoilt 3 4 (spoilt 2200 4 longFrame))
+    ∷ refused 1 true 1 (spoilt 1057 2 shortFrame) ∷ refused 1 true 1 (lost 880 8 shortFrame) ∷ []
     ≡ (0 ∷ 0 ∷ 10 ∷ 16 ∷ 2 ∷ 2288 ∷ 1 ∷ 11264 ∷ 0 ∷ []) ∷ (0 ∷ 0 ∷ 110 ∷ 1 ∷ 1 ∷ 1064 ∷ 0 ∷ 4096 ∷ 96 ∷ [])
     ∷ (0 ∷ 0 ∷ 10 ∷ 16 ∷ 2 ∷ 2288 ∷ 1 ∷ 10240 ∷ 145 ∷ []) ∷ (0 ∷ 0 ∷ 10 ∷ 16 ∷ 2 ∷ 2288 ∷ 1 ∷ 10240 ∷ 0 ∷ [])
     ∷ (0 ∷ 0 ∷ 110 ∷ 1 ∷ 1 ∷ 1064 ∷ 0 ∷ 2048 ∷ 96 ∷ []) ∷ (0 ∷ 0 ∷ 110 ∷ 1 ∷ 1 ∷ 1064 ∷ 0 ∷ 3072 ∷ 80 ∷ []) ∷ []
 unfolding
-    fields refused long short spoilt lost turned hardRecording
+    fields refused longFrame shortFrame spoilt lost turned hardRecording
     barkerWord cckWord score those going firstLargest decided others leadOf decidedLeads
     frontLeads payloadLeads leastFrom leastOf
     bitsOf octetBits numberOf octetsOf growth symbolOf symbolsFrom symbolsOf chipsFrom lastPhase heardBits heard
@@ -196,9 +199,9 @@ unfolding
 good = refl
 
 -- ---- the octet buffer: read, it is the payload, and zeros after it; refused, zeros, the whole of it
-pub octets : octetsFound 1 true (hardRecording short) 3 ≡ 61 ∷ 0 ∷ 0 ∷ []
+pub octets : octetsFound 1 true (hardRecording shortFrame) 3 ≡ 61 ∷ 0 ∷ 0 ∷ []
 unfolding
-    fields refused long short spoilt turned hardRecording
+    fields refused longFrame shortFrame spoilt turned hardRecording
     barkerWord cckWord score those going firstLargest decided
     bitsOf octetBits numberOf octetsOf growth symbolOf symbolsFrom symbolsOf chipsFrom lastPhase heardBits heard
     growthsOf
