@@ -107,8 +107,8 @@ longer-i a left r = r .answer ∙ refl
 pub clockFrame : List ℕ
 clockFrame = frame Short Eleven 0 true (0x3D ∷ [])
 
-pub turned : List ℕ
-turned = take 11 clockFrame ++ map (λ p. (p + 1) % 4) (take 11 (drop 11 clockFrame)) ++ drop 22 clockFrame
+pub turnedFrame : List ℕ
+turnedFrame = take 11 clockFrame ++ map (λ p. (p + 1) % 4) (take 11 (drop 11 clockFrame)) ++ drop 22 clockFrame
 
 pub read-back : Answers 1 (byteRow clockFrame) (good 110 1 1 1064 1 4096 96)
 unfolding
@@ -128,10 +128,11 @@ unfolding
     frameBits sentBits partsChips framed frame frontOf readingOf
 cut-in-front a left r = r .answer ∙ refl
 
-pub place-of-ten : Answers 1 (byteRow turned)
+pub place-of-ten : Answers 1 (byteRow turnedFrame)
     (record { number = 10; place = 11; rate = 0; length = 0; n = 0; used = 0; clock = 0; lead = 0; symbol = 0 })
 unfolding
-    clockFrame turned byteRow byteRecording barkerWord cckWord bitsOf octetBits growth symbolOf symbolsFrom symbolsOf
+    clockFrame turnedFrame byteRow byteRecording barkerWord cckWord bitsOf octetBits growth symbolOf symbolsFrom
+    symbolsOf
     chipsFrom lastPhase mixed scramble addWhere crcStep remainder crcBits preambleBits fieldBits headerBits sentHeader
     frameBits sentBits partsChips framed frame score those going firstLargest decided heardBits heard growthsOf
     lastHeard firstUnusable firstOdd decidedWords preambleWords headerWords reference headerPhase frontOdd frontOf
