@@ -6,7 +6,7 @@ ghost use Rattle.rates.specs.Rates.{symbolChips};
 ghost use Rattle.chips.specs.Floats.{countOf};
 ghost use Rattle.chips.specs.Chips.{softRecording};
 ghost use Rattle.recorders.specs.Rows.{lent};
-ghost use Rattle.timed_leaves.specs.Leaves.{firstWord, decidedSoft, lastWord, recorderOf, decidedLast, Counted};
+ghost use Rattle.timed_leaves.specs.Leaves.{firstWord, decidedSoft, lastWord, recorderOf, decidedLast, CountsRow};
 use rates::Rate;
 use recorded::Found;
 use recorders::Recorder;
@@ -32,7 +32,7 @@ fn count_of(x: f32) -> i32
 // The counts of a row of f32, as far as both rows go.
 #[no_mangle]
 pub extern "C" fn timed_count(xs: &[f32], counts: &mut [i32])
-    ensures counts { λ _. ⌜ Counted (now (xs .entry)) (now (counts .entry)) (now (counts .exit)) ⌝ }
+    ensures counts { λ _. ⌜ CountsRow (now (xs .entry)) (now (counts .entry)) (now (counts .exit)) ⌝ }
 {
     let n = shorter(xs.len(), counts.len());
     let mut k = 0;
