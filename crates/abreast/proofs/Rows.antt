@@ -79,8 +79,9 @@ then {a} {b} {c} {f} even g m = record {
       ∙ g .each (halved (length a) j) (halved-below (length a) j even h);
 }
 
-pub turned : {a b c d e : List ℤ} → length a % 2 ≡ 0 → Merged a b → Merged b c → Merged c d → Merged d e → Turned a e
-turned {a} even p q r s =
+pub rows-turned : {a b c d e : List ℤ} → length a % 2 ≡ 0 → Merged a b → Merged b c → Merged c d → Merged d e
+    → Turned a e
+rows-turned {a} even p q r s =
     let none : From a (λ j. j) a = record { long = refl; each = λ j h. refl } in
     let four = then even (then even (then even (then even none p) q) r) s in
     record { long = four .long; each = four .each }

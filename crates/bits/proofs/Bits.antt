@@ -49,12 +49,12 @@ bits-suc n x = refl
 pub bits-mod : (n x : ℕ) → bitsOf n (x % 2 ^ n) ≡ bitsOf n x
 bits-mod zero x = unfold bitsOf in refl
 bits-mod (suc n) x =
-    rw (pow-suc 2 n, mod-mul x {m = 2 ^ n} {c = 2} (pow-pos n) (lit< tt), turned (x / 2 % 2 ^ n) (x % 2))
+    rw (pow-suc 2 n, mod-mul x {m = 2 ^ n} {c = 2} (pow-pos n) (lit< tt), swapped (x / 2 % 2 ^ n) (x % 2))
     (bits-push n (x % 2) (x / 2 % 2 ^ n) (omega arith)
     ∙ ap {B = List ℕ} (λ l. x % 2 ∷ l) (bits-mod n (x / 2)) ∙ sym (bits-suc n x))
   where
-    turned : (t c : ℕ) → t * 2 + c ≡ c + 2 * t
-    turned t c = omega arith
+    swapped : (t c : ℕ) → t * 2 + c ≡ c + 2 * t
+    swapped t c = omega arith
 
 -- sixteen bits are two octets', the lower first
 pub bits-two : (x : ℕ) → bitsOf 16 x ≡ bitsOf 8 (x % 256) ++ bitsOf 8 (x / 256)

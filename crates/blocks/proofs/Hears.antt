@@ -26,7 +26,7 @@ use Rattle.lines.specs.declared.Line.{Line}
 use Rattle.bits.proofs.Bits.{octets-length, octets-bits}
 use Rattle.bits.proofs.Heard.{heard-length, heard-below}
 use Rattle.reading.specs.Reading.{firstOdd, oddGrowth}
-use Rattle.recorded.specs.declared.Found.{Found}
+use Rattle.recorded.specs.declared.Place.{Place}
 use Rattle.recorded.specs.Recorded.{whereFound}
 use Rattle.codes.specs.Codes.{grownFor, wordBits, phaseBefore, octetAfter, behind, plain, AreWords}
 use Rattle.blocks.specs.Heard.{plainOctets, Heard}
@@ -211,7 +211,7 @@ module _
       by Eleven e = refl
 
   -- the line behind the block, with the symbols as the code counts them
-  pub block-heard : (s at : ℕ) (o : Found) → s ≡ octetSymbols r → l .phase < 4
+  pub block-heard : (s at : ℕ) (o : Place) → s ≡ octetSymbols r → l .phase < 4
       → whereFound o ≡ oddGrowth r at (take (s * n) g)
       → Heard r at l ws (record { line = record { past = getD raw n 0; phase = getD ps (s * n) 0 }; odd = o })
   block-heard s at o e h f = record {

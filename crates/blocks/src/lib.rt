@@ -12,7 +12,7 @@ ghost use Rattle.codes.specs.Codes.{grownFor, wordBits, phaseBefore, octetAfter
 ghost use Rattle.blocks.specs.Heard.{plainOctets, Heard};
 use lines::Line;
 use rates::Rate;
-use recorded::Found;
+use recorded::Place;
 
 pub mod least;
 mod odd;
@@ -20,7 +20,7 @@ mod odd;
 // A line, and the place of the first symbol that is grown by 1 or 3 at 1 Mbit/s.
 pub struct Hearing {
     pub line: Line,
-    pub odd: Found,
+    pub odd: Place,
 }
 
 // The phase before the block, and behind it those of its words.

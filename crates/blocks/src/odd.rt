@@ -7,7 +7,7 @@ ghost use Rattle.rates.specs.Rates.{symbolChips};
 ghost use Rattle.reading.specs.Reading.{firstOdd, oddGrowth};
 ghost use Rattle.recorded.specs.Recorded.{whereFound};
 use rates::Rate;
-use recorded::Found;
+use recorded::Place;
 
 // Whether one of the first m growths may be 1 or 3: no says that none is.
 fn any_odd(g: [u8; 64], m: usize) -> bool
@@ -22,41 +22,41 @@ fn any_odd(g: [u8; 64], m: usize) -> bool
 }
 
 // The place of the first of them, symbol by symbol.
-fn first_odd(place: usize, g: [u8; 64], m: usize) -> Found
+fn first_odd(place: usize, g: [u8; 64], m: usize) -> Place
     requires { ⌜ (m ≤ 64) × (place + 11 * m < 2 ^ 64) ⌝ }
     ensures answer { λ r. ⌜ whereFound r ≡ firstOdd place (take m g) ⌝ }
 {
     let mut l: usize = 0;
     while l < m {
         if g[l] % 2 == 1 {
-            return Found::At(place + 11 * l);
+            return Place::At(place + 11 * l);
         }
         l += 1;
     }
-    Found::Nothing
+    Place::Nothing
 }
 
 // The same, after the quick test.
-fn odd_of_one(place: usize, g: [u8; 64], m: usize) -> Found
+fn odd_of_one(place: usize, g: [u8; 64], m: usize) -> Place
     requires { ⌜ (m ≤ 64) × (place + 11 * m < 2 ^ 64) ⌝ }
     ensures answer { λ r. ⌜ whereFound r ≡ firstOdd place (take m g) ⌝ }
 {
     if any_odd(g, m) {
         first_odd(place, g, m)
     } else {
-        Found::Nothing
+        Place::Nothing
     }
 }
 
 // Of m symbols whose first chip is at a place; at the other rates a symbol may grow by anything.
-pub fn odd_in(rate: Rate, place: usize, g: [u8; 64], m: usize) -> Found
+pub fn odd_in(rate: Rate, place: usize, g: [u8; 64], m: usize) -> Place
     requires { ⌜ (m ≤ 64) × (place + symbolChips rate * m < 2 ^ 64) ⌝ }
     ensures answer { λ r. ⌜ whereFound r ≡ oddGrowth rate place (take m g) ⌝ }
 {
     match rate {
         Rate::One => odd_of_one(place, g, m),
-        Rate::Two => Found::Nothing,
-        Rate::Five => Found::Nothing,
-        Rate::Eleven => Found::Nothing,
+        Rate::Two => Place::Nothing,
+        Rate::Five => Place::Nothing,
+        Rate::Eleven => Place::Nothing,
     }
 }

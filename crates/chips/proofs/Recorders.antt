@@ -1,6 +1,6 @@
 -- What the recorders make of their rows: the counts that reading goes by are those of the recorded chips, and a
--- recording has at each place what the rows have there. `part` is what a symbol is read from, once for every recorder,
--- place and width.
+-- recording has at each place what the rows have there. `part-taken` is what a symbol is read from, once for every
+-- recorder, place and width.
 -- Assumes nothing.
 use mathlib.Core.Path.{_≡_, refl, sym, ap, _∙_}
 use mathlib.Core.Bool.{Bool, true, false, not, cond}
@@ -143,10 +143,10 @@ part-counts rec counts place w h f =
     ∙ f (place + k) (omega arith))
 
 -- those of the chips recorded there
-pub part : (rec : List Taken) (chip : ℕ → Chip) (place w : ℕ) → place + w ≤ length rec
+pub part-taken : (rec : List Taken) (chip : ℕ → Chip) (place w : ℕ) → place + w ≤ length rec
     → ((k : ℕ) → k < length rec → takenCounts (getD rec k unusable) ≡ countsOf (chip k))
     → map takenCounts (take w (drop place rec)) ≡ map countsOf (tabulate (λ j. chip (place + j)) w)
-part rec chip place w h f =
+part-taken rec chip place w h f =
     let cs = tabulate (λ j. chip (place + j)) w in
     part-counts rec (λ k. countsOf (chip k)) place w h f
     ∙ sym (map-tabulate countsOf cs w Lost (length-tabulate (λ j. chip (place + j)) w)
@@ -157,7 +157,7 @@ pub part-hard : (xs : List ℕ) (place w : ℕ) → place + w ≤ length xs
     → map takenCounts (take w (drop place (hardRecording xs)))
     ≡ map countsOf (tabulate (λ j. hardChip (getD xs (place + j) 0)) w)
 part-hard xs place w h =
-    part (hardRecording xs) (λ k. hardChip (getD xs k 0)) place w (omega (arith, length-hard xs))
+    part-taken (hardRecording xs) (λ k. hardChip (getD xs k 0)) place w (omega (arith, length-hard xs))
     (λ k l. ap takenCounts (getD-hard xs k unusable 0 (omega (arith, length-hard xs))) ∙ taken-hard (getD xs k 0))
 
 pub part-soft : (xs ys : List Float) (place w : ℕ) (d : Float) → length xs ≡ length ys → place + w ≤ length xs
@@ -165,6 +165,6 @@ pub part-soft : (xs ys : List Float) (place w : ℕ) (d : Float) → length xs �
     ≡ map countsOf (tabulate (λ j. Soft (sample (getD xs (place + j) d) (getD ys (place + j) d))) w)
 part-soft xs ys place w d e h =
     let s : length (softRecording xs ys) ≡ length xs = length-soft-same xs ys e in
-    part (softRecording xs ys) (λ k. Soft (sample (getD xs k d) (getD ys k d))) place w (omega arith)
+    part-taken (softRecording xs ys) (λ k. Soft (sample (getD xs k d) (getD ys k d))) place w (omega arith)
     (λ k l. ap takenCounts (getD-soft xs ys k unusable d d (omega arith) (omega arith))
     ∙ taken-soft (getD xs k d) (getD ys k d))

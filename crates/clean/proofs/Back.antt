@@ -122,10 +122,10 @@ module _ (kind : ℕ) (r : Rate) (p : ℕ) (clock : Bool) (xs : List ℕ) (is-ki
 
       pub front-refused : j < frontChips k → readingOf kind agree cut room ≡ reading.Refused ShorterThanFront
       front-refused h =
-          opened agree cut room e ∙ ap (λ f. afterFront k cut room (wholeOf k cut f)) short
+          opened agree cut room e ∙ ap (λ f. afterFront k cut room (wholeOf k cut f)) cut-refused
         where
-          short : frontOf k cut ≡ front.Refused ShorterThanFront
-          short = unfold frontOf in rw (lt-ltb (length cut) (frontChips k) (omega (arith, cut-length)))
+          cut-refused : frontOf k cut ≡ front.Refused ShorterThanFront
+          cut-refused = unfold frontOf in rw (lt-ltb (length cut) (frontChips k) (omega (arith, cut-length)))
 
       pub payload-refused : frontChips k ≤ j
           → readingOf kind agree cut room ≡ reading.Refused (Ends (lengthField r n))

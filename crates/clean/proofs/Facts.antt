@@ -63,7 +63,7 @@ use Rattle.reading.specs.Reading.{
   readingOf,
   octetsFound,
 }
-use Rattle.reading.proofs.Facts.{fields, refused, long, short, spoilt, turned}
+use Rattle.reading.proofs.Facts.{fields, refused, longFrame, shortFrame, spoilt, turnedBy}
 
 -- so many chips from a place lost
 unfoldable pub lost : ℕ → ℕ → List ℕ → List ℕ
@@ -79,17 +79,18 @@ lost at m chips = take at chips ++ (replicate m 4 ++ drop (at + m) chips)
 -- comes before 17
 -- rule: 6.2 to 6.6
 -- with: good, payloads, reading/parts
-pub bad : refused 2 true 1 long ∷ refused 2 false 1 long ∷ refused 256 true 1 long
-    ∷ refused 0 false 1 long ∷ refused 1 false 1 []
-    ∷ refused 0 true 1 (take 2111 (spoilt 0 5 long)) ∷ refused 1 true 1 (take 1055 short)
-    ∷ refused 0 true 1 (spoilt 2111 5 (turned 55 1 long)) ∷ refused 1 true 1 (spoilt 700 5 (spoilt 900 255 short))
-    ∷ refused 1 true 1 (spoilt 0 5 short)
-    ∷ refused 1 true 1 (turned 0 1 short) ∷ refused 1 true 1 (turned 781 1 short)
-    ∷ refused 0 true 1 (turned 0 1 long) ∷ refused 0 true 1 (turned 1573 1 long)
-    ∷ refused 0 true 1 (turned 1584 1 long) ∷ refused 0 true 1 (turned 2101 1 long)
-    ∷ refused 1 true 1 (turned 682 2 short) ∷ refused 1 true 1 (turned 792 1 short)
-    ∷ refused 1 true 0 (take 1063 (spoilt 1060 5 short)) ∷ refused 0 true 1 (take 2287 long)
-    ∷ refused 0 true 2 (turned 2112 1 long) ∷ refused 0 true 2 (turned 2277 1 long) ∷ []
+pub bad : refused 2 true 1 longFrame ∷ refused 2 false 1 longFrame ∷ refused 256 true 1 longFrame
+    ∷ refused 0 false 1 longFrame ∷ refused 1 false 1 []
+    ∷ refused 0 true 1 (take 2111 (spoilt 0 5 longFrame)) ∷ refused 1 true 1 (take 1055 shortFrame)
+    ∷ refused 0 true 1 (spoilt 2111 5 (turnedBy 55 1 longFrame))
+    ∷ refused 1 true 1 (spoilt 700 5 (spoilt 900 255 shortFrame))
+    ∷ refused 1 true 1 (spoilt 0 5 shortFrame)
+    ∷ refused 1 true 1 (turnedBy 0 1 shortFrame) ∷ refused 1 true 1 (turnedBy 781 1 shortFrame)
+    ∷ refused 0 true 1 (turnedBy 0 1 longFrame) ∷ refused 0 true 1 (turnedBy 1573 1 longFrame)
+    ∷ refused 0 true 1 (turnedBy 1584 1 longFrame) ∷ refused 0 true 1 (turnedBy 2101 1 longFrame)
+    ∷ refused 1 true 1 (turnedBy 682 2 shortFrame) ∷ refused 1 true 1 (turnedBy 792 1 shortFrame)
+    ∷ refused 1 true 0 (take 1063 (spoilt 1060 5 shortFrame)) ∷ refused 0 true 1 (take 2287 longFrame)
+    ∷ refused 0 true 2 (turnedBy 2112 1 longFrame) ∷ refused 0 true 2 (turnedBy 2277 1 longFrame) ∷ []
     ≡ (1 ∷ 0 ∷ 0 ∷ 0 ∷ 0 ∷ 0 ∷ 0 ∷ 0 ∷ 0 ∷ []) ∷ (1 ∷ 0 ∷ 0 ∷ 0 ∷ 0 ∷ 0 ∷ 0 ∷ 0 ∷ 0 ∷ [])
     ∷ (1 ∷ 0 ∷ 0 ∷ 0 ∷ 0 ∷ 0 ∷ 0 ∷ 0 ∷ 0 ∷ [])
     ∷ (7 ∷ 0 ∷ 0 ∷ 0 ∷ 0 ∷ 0 ∷ 0 ∷ 0 ∷ 0 ∷ []) ∷ (7 ∷ 0 ∷ 0 ∷ 0 ∷ 0 ∷ 0 ∷ 0 ∷ 0 ∷ 0 ∷ [])
@@ -103,7 +104,7 @@ pub bad : refused 2 true 1 long ∷ refused 2 false 1 long ∷ refused 256 true 
     ∷ (16 ∷ 0 ∷ 0 ∷ 1 ∷ 0 ∷ 0 ∷ 0 ∷ 0 ∷ 0 ∷ []) ∷ (16 ∷ 0 ∷ 0 ∷ 16 ∷ 0 ∷ 0 ∷ 0 ∷ 0 ∷ 0 ∷ [])
     ∷ (10 ∷ 2112 ∷ 0 ∷ 16 ∷ 0 ∷ 0 ∷ 0 ∷ 0 ∷ 0 ∷ []) ∷ (10 ∷ 2277 ∷ 0 ∷ 16 ∷ 0 ∷ 0 ∷ 0 ∷ 0 ∷ 0 ∷ []) ∷ []
 unfolding
-    fields refused long short spoilt turned hardRecording
+    fields refused longFrame shortFrame spoilt turnedBy hardRecording
     barkerWord cckWord score those going firstLargest decided
     bitsOf octetBits numberOf octetsOf growth symbolOf symbolsFrom symbolsOf chipsFrom lastPhase heardBits heard
     growthsOf
@@ -118,14 +119,15 @@ bad = refl
 abbrev behind : Kind → Told → ℕ → List ℕ → List ℕ
 behind k t room chips = fields (recordOf (payloadReading k t (hardRecording chips) room))
 
-pub payloads : behind Long (told One 16 2 true) 0 (spoilt 2199 5 long)
-    ∷ behind Long (told One 16 2 true) 2 (spoilt 2287 5 (turned 2112 1 long))
-    ∷ behind Long (told One 16 2 true) 2 (spoilt 2112 5 (spoilt 2200 5 long))
-    ∷ behind Short (told Eleven 1 1 false) 1 (spoilt 1063 77 short) ∷ []
+pub payloads : behind Long (told One 16 2 true) 0 (spoilt 2199 5 longFrame)
+    ∷ behind Long (told One 16 2 true) 2 (spoilt 2287 5 (turnedBy 2112 1 longFrame))
+    ∷ behind Long (told One 16 2 true) 2 (spoilt 2112 5 (spoilt 2200 5 longFrame))
+    ∷ behind Short (told Eleven 1 1 false) 1 (spoilt 1063 77 shortFrame) ∷ []
     ≡ (17 ∷ 0 ∷ 0 ∷ 16 ∷ 0 ∷ 0 ∷ 0 ∷ 0 ∷ 0 ∷ []) ∷ (9 ∷ 2287 ∷ 0 ∷ 16 ∷ 0 ∷ 0 ∷ 0 ∷ 0 ∷ 0 ∷ [])
     ∷ (9 ∷ 2112 ∷ 0 ∷ 16 ∷ 0 ∷ 0 ∷ 0 ∷ 0 ∷ 0 ∷ []) ∷ (9 ∷ 1063 ∷ 0 ∷ 1 ∷ 0 ∷ 0 ∷ 0 ∷ 0 ∷ 0 ∷ []) ∷ []
 unfolding
-    fields long short spoilt turned hardRecording barkerWord cckWord bitsOf octetBits growth symbolOf symbolsFrom
+    fields longFrame shortFrame spoilt turnedBy hardRecording barkerWord cckWord bitsOf octetBits growth
+    symbolOf symbolsFrom
     symbolsOf chipsFrom lastPhase mixed scramble addWhere crcStep remainder crcBits
     preambleBits fieldBits headerBits sentHeader frameBits sentBits partsChips framed frame firstUnusable payloadReading
 payloads = refl
@@ -135,15 +137,16 @@ payloads = refl
 -- may. The smallest lead is 11 full chips at symbol 0, and 4 at symbol 96, the payload's first; with a chip lost in
 -- symbols 145 and 207, and in 0 and 200, it is 10 at the first of the two; with a wrong chip in the payload's 2. With
 -- eight chips lost in symbol 80, of the short header, it is 3 there
-pub good : refused 0 true 2 (turned 1309 2 (long ++ (9 ∷ 9 ∷ [])))
-    ∷ refused 1 true 2 (turned 0 2 (turned 55 2 (turned 517 2 short)))
-    ∷ refused 0 true 2 (spoilt 2277 4 (spoilt 1600 4 long)) ∷ refused 0 true 2 (spoilt 3 4 (spoilt 2200 4 long))
-    ∷ refused 1 true 1 (spoilt 1057 2 short) ∷ refused 1 true 1 (lost 880 8 short) ∷ []
+pub good : refused 0 true 2 (turnedBy 1309 2 (longFrame ++ (9 ∷ 9 ∷ [])))
+    ∷ refused 1 true 2 (turnedBy 0 2 (turnedBy 55 2 (turnedBy 517 2 shortFrame)))
+    ∷ refused 0 true 2 (spoilt 2277 4 (spoilt 1600 4 longFrame))
+    ∷ refused 0 true 2 (spoilt 3 4 (spoilt 2200 4 longFrame))
+    ∷ refused 1 true 1 (spoilt 1057 2 shortFrame) ∷ refused 1 true 1 (lost 880 8 shortFrame) ∷ []
     ≡ (0 ∷ 0 ∷ 10 ∷ 16 ∷ 2 ∷ 2288 ∷ 1 ∷ 11264 ∷ 0 ∷ []) ∷ (0 ∷ 0 ∷ 110 ∷ 1 ∷ 1 ∷ 1064 ∷ 0 ∷ 4096 ∷ 96 ∷ [])
     ∷ (0 ∷ 0 ∷ 10 ∷ 16 ∷ 2 ∷ 2288 ∷ 1 ∷ 10240 ∷ 145 ∷ []) ∷ (0 ∷ 0 ∷ 10 ∷ 16 ∷ 2 ∷ 2288 ∷ 1 ∷ 10240 ∷ 0 ∷ [])
     ∷ (0 ∷ 0 ∷ 110 ∷ 1 ∷ 1 ∷ 1064 ∷ 0 ∷ 2048 ∷ 96 ∷ []) ∷ (0 ∷ 0 ∷ 110 ∷ 1 ∷ 1 ∷ 1064 ∷ 0 ∷ 3072 ∷ 80 ∷ []) ∷ []
 unfolding
-    fields refused long short spoilt lost turned hardRecording
+    fields refused longFrame shortFrame spoilt lost turnedBy hardRecording
     barkerWord cckWord score those going firstLargest decided others leadOf decidedLeads
     frontLeads payloadLeads leastFrom leastOf
     bitsOf octetBits numberOf octetsOf growth symbolOf symbolsFrom symbolsOf chipsFrom lastPhase heardBits heard
@@ -155,9 +158,9 @@ unfolding
 good = refl
 
 -- ---- the octet buffer: read, it is the payload, and zeros after it
-pub octets : octetsFound 1 true (hardRecording short) 3 ≡ 61 ∷ 0 ∷ 0 ∷ []
+pub octets : octetsFound 1 true (hardRecording shortFrame) 3 ≡ 61 ∷ 0 ∷ 0 ∷ []
 unfolding
-    short hardRecording
+    shortFrame hardRecording
     barkerWord cckWord score those going firstLargest decided
     bitsOf octetBits numberOf octetsOf growth symbolOf symbolsFrom symbolsOf chipsFrom lastPhase heardBits heard
     growthsOf

@@ -67,7 +67,7 @@ use Rattle.reading.specs.Reading.{
   frontBits,
   frontOf,
 }
-use Rattle.reading.proofs.Facts.{long, short, spoilt, turned}
+use Rattle.reading.proofs.Facts.{longFrame, shortFrame, spoilt, turnedBy}
 use Rattle.coming.specs.declared.Coming.{Coming}
 use Rattle.coming.specs.Coming.{frontReading, comingOf, partOf}
 
@@ -108,11 +108,11 @@ read kind chips = frontReading kind (hardRecording chips)
 
 -- refused: 1 and 8; 1; 8; 9 and 10, the 9 at the front's end; 16 and the payload's 9, where a chip of the payload is
 -- missing. That these are a reading's refusals up to 16, for every recording, is `coming-whole` of Laws.antt
-pub bad : read 2 [] ∷ read 256 long ∷ read 1 [] ∷ read 0 (spoilt 2111 5 (turned 55 1 long))
-    ∷ read 0 (take 2287 (spoilt 2112 5 long)) ∷ []
+pub bad : read 2 [] ∷ read 256 longFrame ∷ read 1 [] ∷ read 0 (spoilt 2111 5 (turnedBy 55 1 longFrame))
+    ∷ read 0 (take 2287 (spoilt 2112 5 longFrame)) ∷ []
     ≡ Refused NoKind ∷ Refused NoKind ∷ Refused ShorterThanFront ∷ Refused (Unusable 2111 0) ∷ Refused (Ends 16) ∷ []
 unfolding
-    read long short spoilt turned hardRecording
+    read longFrame shortFrame spoilt turnedBy hardRecording
     barkerWord cckWord score those going firstLargest decided
     bitsOf octetBits numberOf growth symbolOf symbolsFrom symbolsOf chipsFrom lastPhase heardBits heard growthsOf
     lastHeard mixed scramble descramble addWhere crcStep remainder crcBits
@@ -123,10 +123,10 @@ bad = refl
 
 -- told, whatever the payload's chips are: a frame whose payload's first symbol is grown by 1, with chips after it; a
 -- front with as many chips behind it as its payload has, all unusable
-pub good : read 0 (turned 2112 1 (long ++ (9 ∷ 9 ∷ []))) ∷ read 1 (take 1056 short ++ replicate 8 9) ∷ []
+pub good : read 0 (turnedBy 2112 1 (longFrame ++ (9 ∷ 9 ∷ []))) ∷ read 1 (take 1056 shortFrame ++ replicate 8 9) ∷ []
     ≡ Fields (told One 16 2 true) ∷ Fields (told Eleven 1 1 false) ∷ []
 unfolding
-    read long short spoilt turned hardRecording
+    read longFrame shortFrame spoilt turnedBy hardRecording
     barkerWord cckWord score those going firstLargest decided
     bitsOf octetBits numberOf growth symbolOf symbolsFrom symbolsOf chipsFrom lastPhase heardBits heard growthsOf
     lastHeard mixed scramble descramble addWhere crcStep remainder crcBits

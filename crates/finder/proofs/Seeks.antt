@@ -21,12 +21,12 @@ use Rattle.finding.specs.Finding.{startOr, firstStart}
 use Rattle.finding.proofs.Laws.{Missed, AllMissed, start-found, start-none}
 
 -- a search that found something is none that did not
-abbrev Found : Finding → Type 0
-Found (Refused e) = ⊥
-Found (Start offset t) = Unit {0}
+abbrev IsFound : Finding → Type 0
+IsFound (Refused e) = ⊥
+IsFound (Start offset t) = Unit {0}
 
 pub not-both : {f : Finding} {e : NotFound} {offset : ℕ} {t : Told} → f ≡ Start offset t → f ≡ Refused e → ⊥
-not-both a b = subst Found (sym a ∙ b) tt
+not-both a b = subst IsFound (sym a ∙ b) tt
 
 module _ (kind : Kind) (rec : List Taken) (at : ℕ) where
   abbrev try : ℕ → Front → Finding

@@ -55,7 +55,7 @@ use Rattle.reading.specs.Reading.{
   frontBits,
   frontOf,
 }
-use Rattle.reading.proofs.Facts.{short, spoilt}
+use Rattle.reading.proofs.Facts.{shortFrame, spoilt}
 use Rattle.finding.specs.declared.NotFound.the-variants.{NoKind, NoOffsets, NoStart}
 use Rattle.finding.specs.declared.Finding.{Finding}
 use Rattle.finding.specs.declared.Finding.the-variants.{Refused, Start}
@@ -117,12 +117,12 @@ bad = refl
 
 -- a clean frame of the short kind: its front alone, whatever the payload's chips and whether they are there; behind two
 -- chips that are unusable, with two offsets tried and with three; and not where a chip of the front is unusable
-pub starts : find 1 1 (take 1056 short) ∷ find 1 4096 (spoilt 1056 5 short)
-    ∷ find 1 2 (5 ∷ 255 ∷ short) ∷ find 1 3 (5 ∷ 255 ∷ short) ∷ find 1 2 (spoilt 1055 5 short) ∷ []
+pub starts : find 1 1 (take 1056 shortFrame) ∷ find 1 4096 (spoilt 1056 5 shortFrame)
+    ∷ find 1 2 (5 ∷ 255 ∷ shortFrame) ∷ find 1 3 (5 ∷ 255 ∷ shortFrame) ∷ find 1 2 (spoilt 1055 5 shortFrame) ∷ []
     ≡ Start 0 (told Eleven 1 1 false) ∷ Start 0 (told Eleven 1 1 false) ∷ Refused NoStart
     ∷ Start 2 (told Eleven 1 1 false) ∷ Refused NoStart ∷ []
 unfolding
-    find short spoilt hardRecording
+    find shortFrame spoilt hardRecording
     barkerWord cckWord score those going firstLargest decided
     bitsOf octetBits numberOf growth symbolOf symbolsFrom symbolsOf chipsFrom lastPhase heardBits heard growthsOf
     lastHeard mixed scramble descramble addWhere crcStep remainder crcBits
@@ -135,9 +135,9 @@ starts = refl
 -- 8 to 15. More offsets change nothing (`start-found` of Laws.antt)
 -- promise: THE LETTER AND THE TRUTH: behind 12 lost chips a clean frame is found at offset 2, 10 chips before it starts
 -- rule: 6.18
-pub early : find 1 3 (replicate 12 4 ++ short) ≡ Start 2 (told Eleven 1 1 false)
+pub early : find 1 3 (replicate 12 4 ++ shortFrame) ≡ Start 2 (told Eleven 1 1 false)
 unfolding
-    find short spoilt hardRecording
+    find shortFrame spoilt hardRecording
     barkerWord cckWord score those going firstLargest decided
     bitsOf octetBits numberOf growth symbolOf symbolsFrom symbolsOf chipsFrom lastPhase heardBits heard growthsOf
     lastHeard mixed scramble descramble addWhere crcStep remainder crcBits

@@ -16,8 +16,8 @@ use Rattle.calls.specs.declared.Front.{Front}
 use Rattle.calls.specs.declared.Front.the-variants.{Refused}
 use Rattle.calls.specs.Headers.{ours, headerOf}
 use Rattle.reading.specs.Reading.{firstUnusable, frontOdd, frontOf}
-use Rattle.recorded.specs.declared.Found.{Found}
-use Rattle.recorded.specs.declared.Found.the-variants.{Nothing, At}
+use Rattle.recorded.specs.declared.Place.{Place}
+use Rattle.recorded.specs.declared.Place.the-variants.{Nothing, At}
 use Rattle.recorded.specs.Recorded.{whereFound, AllUsable}
 use Rattle.recorded.proofs.Search.{none-usable}
 use Rattle.fronts.specs.declared.FrontHeard.{FrontHeard}
@@ -34,7 +34,7 @@ opens-refused k rec f e o p q = record {
 }
 
 module _ (k : Kind) (rec : List Taken) where
-  pub usable-odd : (o : Opening) (f : Found) (place : ℕ) → f ≡ At place → whereFound f ≡ frontOdd k rec
+  pub usable-odd : (o : Opening) (f : Place) (place : ℕ) → f ≡ At place → whereFound f ≡ frontOdd k rec
       → o .front ≡ Refused (OddGrowth place 0) → Opens k rec (afterUsable k rec) o
   usable-odd o f place e g p = opens-refused k rec (afterUsable k rec) (OddGrowth place 0) o p (rw (← g, e))
 
@@ -53,7 +53,7 @@ module _ (k : Kind) (rec : List Taken) where
       (unfold frontOf in rw (lt-ltb (length rec) (frontChips k) h))
 
   module _
-      (chips : ℕ) (f : Found) (e : chips ≡ frontChips k) (h : chips ≤ length rec)
+      (chips : ℕ) (f : Place) (e : chips ≡ frontChips k) (h : chips ≤ length rec)
       (g : whereFound f ≡ firstUnusable 0 (take (chips - 0) (drop 0 rec))) where
     searched : firstUnusable 0 (take (frontChips k) rec) ≡ whereFound f
     searched = let z : chips - 0 ≡ frontChips k = omega arith in sym

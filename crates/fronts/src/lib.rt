@@ -15,7 +15,7 @@ use frame::Kind;
 use hearing::Part;
 use lines::Line;
 use rates::Rate;
-use recorded::Found;
+use recorded::Place;
 use recorders::Recorder;
 
 mod heard;
@@ -62,8 +62,8 @@ fn read_usable(rec: Recorder, row: &[u8], bytes: &[i8], i: &[f32], q: &[f32], ki
     let heard = part.heard;
     let odd = heard.odd;
     match odd {
-        Found::At(place) => refused(Refusal::OddGrowth { place, length: 0 }),
-        Found::Nothing => {
+        Place::At(place) => refused(Refusal::OddGrowth { place, length: 0 }),
+        Place::Nothing => {
             let sfd = known.sfd;
             let header = known.header;
             let front = header::header_of(kind, sfd, header);
@@ -92,8 +92,8 @@ pub fn read_front(
     }
     let bad = recorders::first_unusable(rec, row, bytes, i, q, 0, chips);
     match bad {
-        Found::At(place) => refused(Refusal::Unusable { place, length: 0 }),
-        Found::Nothing => read_usable(rec, row, bytes, i, q, kind),
+        Place::At(place) => refused(Refusal::Unusable { place, length: 0 }),
+        Place::Nothing => read_usable(rec, row, bytes, i, q, kind),
     }
 }
 

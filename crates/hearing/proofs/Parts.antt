@@ -44,7 +44,7 @@ use Rattle.bits.proofs.Heard.{
 use Rattle.calls.specs.declared.Least.{Least}
 use Rattle.reading.specs.Reading.{orElse, firstOdd, oddGrowth, decidedWords}
 use Rattle.reading.specs.Leads.{decidedLeads, leastFrom}
-use Rattle.recorded.specs.declared.Found.the-variants.{Nothing}
+use Rattle.recorded.specs.declared.Place.the-variants.{Nothing}
 use Rattle.recorded.specs.Recorded.{whereFound, symbolAt, AllUsable, DecidedAt, LeadsAt}
 use Rattle.recorded.proofs.Search.{usable-part}
 use Rattle.blocks.specs.declared.Hearing.{Hearing}

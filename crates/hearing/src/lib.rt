@@ -17,7 +17,7 @@ use blocks::Hearing;
 use calls::Least;
 use lines::Line;
 use rates::Rate;
-use recorded::Found;
+use recorded::Place;
 use recorders::Recorder;
 
 // A part heard: the line behind it with the place of the first symbol grown by 1 or 3, and the smallest lead so far.
@@ -27,12 +27,12 @@ pub struct Part {
 }
 
 // The first of two places.
-fn first_of(a: Found, b: Found) -> Found
+fn first_of(a: Place, b: Place) -> Place
     ensures answer { λ r. ⌜ whereFound r ≡ orElse (whereFound a) (λ place. some place) (whereFound b) ⌝ }
 {
     match a {
-        Found::At(place) => Found::At(place),
-        Found::Nothing => b,
+        Place::At(place) => Place::At(place),
+        Place::Nothing => b,
     }
 }
 
@@ -133,7 +133,7 @@ pub fn hear_octets(
 {
     let chips = rate.octet_chips();
     let symbols = rate.octet_symbols();
-    let odd = Found::Nothing;
+    let odd = Place::Nothing;
     let heard = Hearing { line, odd };
     let mut part = Part { heard, least };
     let mut place = at;

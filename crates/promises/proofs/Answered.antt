@@ -21,8 +21,8 @@ use Rattle.promises.specs.Finding.{refusedFound}
 use Rattle.promises.proofs.Computed.{
   Comes,
   Fronts,
-  short,
-  turned,
+  clockFrame,
+  turnedFrame,
   read-back-is,
   cut-in-front-is,
   place-of-ten-is,
@@ -68,15 +68,15 @@ longer-i a left r = r .answer ∙ refl
 answered : (kind : ℕ) (bytes : List ℤ) {answer : Record} → Comes kind bytes answer → Answers kind bytes answer
 answered kind bytes e a left r = r .answer ∙ e
 
-pub read-back : Answers 1 (byteRow short) (good 110 1 1 1064 1 4096 96)
-read-back = answered 1 (byteRow short) read-back-is
+pub read-back : Answers 1 (byteRow clockFrame) (good 110 1 1 1064 1 4096 96)
+read-back = answered 1 (byteRow clockFrame) read-back-is
 
-pub cut-in-front : Answers 1 (byteRow (take 1055 short)) (refused 8 0)
-cut-in-front = answered 1 (byteRow (take 1055 short)) cut-in-front-is
+pub cut-in-front : Answers 1 (byteRow (take 1055 clockFrame)) (refused 8 0)
+cut-in-front = answered 1 (byteRow (take 1055 clockFrame)) cut-in-front-is
 
-pub place-of-ten : Answers 1 (byteRow turned)
+pub place-of-ten : Answers 1 (byteRow turnedFrame)
     (record { number = 10; place = 11; rate = 0; length = 0; n = 0; used = 0; clock = 0; lead = 0; symbol = 0 })
-place-of-ten = answered 1 (byteRow turned) place-of-ten-is
+place-of-ten = answered 1 (byteRow turnedFrame) place-of-ten-is
 
 -- ---- what is coming: 1 before 8, a frame told by its front whatever its payload's chips are, and without them 16
 abbrev pub Tells : ℕ → List ℕ → Coming → Type 0
@@ -93,11 +93,11 @@ pub front-none : Tells 1 [] (refusedComing 8 0 0)
 unfolding frontReading frontOf hardRecording
 front-none c r = r .answer ∙ refl
 
-pub front-told : Tells 1 (take 1056 short ++ replicate 9 9) (toldComing 110 1 1 1 1056 8)
-front-told = told 1 (take 1056 short ++ replicate 9 9) front-told-is
+pub front-told : Tells 1 (take 1056 clockFrame ++ replicate 9 9) (toldComing 110 1 1 1 1056 8)
+front-told = told 1 (take 1056 clockFrame ++ replicate 9 9) front-told-is
 
-pub front-cut : Tells 1 (take 1063 short) (refusedComing 16 0 1)
-front-cut = told 1 (take 1063 short) front-cut-is
+pub front-cut : Tells 1 (take 1063 clockFrame) (refusedComing 16 0 1)
+front-cut = told 1 (take 1063 clockFrame) front-cut-is
 
 -- ---- a start looked for where there is no chip: 1 before 18, 18 before 19, at both ends of the offsets
 abbrev pub Searches : ℕ → ℕ → ℕ → Type 0

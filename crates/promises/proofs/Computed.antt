@@ -74,17 +74,17 @@ abbrev pub Fronts : ℕ → List ℕ → Coming → Type 0
 Fronts kind chips answer = comingOf (kindOf kind) (frontReading kind (hardRecording chips)) ≡ answer
 
 -- the frame; with its second symbol turned by 1
-pub short : List ℕ
-short = frame Short Eleven 0 true (0x3D ∷ [])
+pub clockFrame : List ℕ
+clockFrame = frame Short Eleven 0 true (0x3D ∷ [])
 
-pub turned : List ℕ
-turned = take 11 short ++ map (λ p. (p + 1) % 4) (take 11 (drop 11 short)) ++ drop 22 short
+pub turnedFrame : List ℕ
+turnedFrame = take 11 clockFrame ++ map (λ p. (p + 1) % 4) (take 11 (drop 11 clockFrame)) ++ drop 22 clockFrame
 
 -- read back; one chip short of its front; turned, and refused at the second symbol
-pub read-back-is : Comes 1 (byteRow short)
+pub read-back-is : Comes 1 (byteRow clockFrame)
     (record { number = 0; place = 0; rate = 110; length = 1; n = 1; used = 1064; clock = 1; lead = 4096; symbol = 96 })
 unfolding
-    short byteRow byteRecording barkerWord cckWord bitsOf octetBits growth symbolOf symbolsFrom symbolsOf
+    clockFrame byteRow byteRecording barkerWord cckWord bitsOf octetBits growth symbolOf symbolsFrom symbolsOf
     chipsFrom lastPhase mixed scramble addWhere crcStep remainder crcBits preambleBits fieldBits headerBits sentHeader
     frameBits sentBits partsChips framed frame score those going firstLargest decided others leadOf decidedLeads
     frontLeads payloadLeads leastFrom leastOf numberOf octetsOf heardBits heard
@@ -93,18 +93,19 @@ unfolding
     payloadReading readingOf
 read-back-is = refl
 
-pub cut-in-front-is : Comes 1 (byteRow (take 1055 short))
+pub cut-in-front-is : Comes 1 (byteRow (take 1055 clockFrame))
     (record { number = 8; place = 0; rate = 0; length = 0; n = 0; used = 0; clock = 0; lead = 0; symbol = 0 })
 unfolding
-    short byteRow byteRecording barkerWord cckWord bitsOf octetBits growth symbolOf symbolsFrom symbolsOf
+    clockFrame byteRow byteRecording barkerWord cckWord bitsOf octetBits growth symbolOf symbolsFrom symbolsOf
     chipsFrom lastPhase mixed scramble addWhere crcStep remainder crcBits preambleBits fieldBits headerBits sentHeader
     frameBits sentBits partsChips framed frame frontOf readingOf
 cut-in-front-is = refl
 
-pub place-of-ten-is : Comes 1 (byteRow turned)
+pub place-of-ten-is : Comes 1 (byteRow turnedFrame)
     (record { number = 10; place = 11; rate = 0; length = 0; n = 0; used = 0; clock = 0; lead = 0; symbol = 0 })
 unfolding
-    short turned byteRow byteRecording barkerWord cckWord bitsOf octetBits growth symbolOf symbolsFrom symbolsOf
+    clockFrame turnedFrame byteRow byteRecording barkerWord cckWord bitsOf octetBits growth symbolOf
+    symbolsFrom symbolsOf
     chipsFrom lastPhase mixed scramble addWhere crcStep remainder crcBits preambleBits fieldBits headerBits sentHeader
     frameBits sentBits partsChips framed frame score those going firstLargest decided heardBits heard growthsOf
     lastHeard firstUnusable firstOdd decidedWords preambleWords headerWords reference headerPhase frontOdd frontOf
@@ -112,20 +113,20 @@ unfolding
 place-of-ten-is = refl
 
 -- told by its front, whatever the chips behind it are; cut one chip short of its end
-pub front-told-is : Fronts 1 (take 1056 short ++ replicate 9 9)
+pub front-told-is : Fronts 1 (take 1056 clockFrame ++ replicate 9 9)
     (record { number = 0; place = 0; rate = 110; length = 1; clock = 1; n = 1; used = 1064; at = 1056; count = 8 })
 unfolding
-    short hardRecording barkerWord cckWord bitsOf octetBits growth symbolOf symbolsFrom symbolsOf
+    clockFrame hardRecording barkerWord cckWord bitsOf octetBits growth symbolOf symbolsFrom symbolsOf
     chipsFrom lastPhase mixed scramble addWhere crcStep remainder crcBits preambleBits fieldBits headerBits sentHeader
     frameBits sentBits partsChips framed frame score those going firstLargest decided numberOf heardBits heard
     growthsOf lastHeard descramble sameBits fieldsOf headerOf firstUnusable firstOdd decidedWords preambleWords
     headerWords reference headerPhase frontOdd frontHeard frontBits frontOf frontReading
 front-told-is = refl
 
-pub front-cut-is : Fronts 1 (take 1063 short)
+pub front-cut-is : Fronts 1 (take 1063 clockFrame)
     (record { number = 16; place = 0; rate = 0; length = 1; clock = 0; n = 0; used = 0; at = 0; count = 0 })
 unfolding
-    short hardRecording barkerWord cckWord bitsOf octetBits growth symbolOf symbolsFrom symbolsOf
+    clockFrame hardRecording barkerWord cckWord bitsOf octetBits growth symbolOf symbolsFrom symbolsOf
     chipsFrom lastPhase mixed scramble addWhere crcStep remainder crcBits preambleBits fieldBits headerBits sentHeader
     frameBits sentBits partsChips framed frame score those going firstLargest decided numberOf heardBits heard
     growthsOf lastHeard descramble sameBits fieldsOf headerOf firstUnusable firstOdd decidedWords preambleWords

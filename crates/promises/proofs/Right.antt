@@ -71,10 +71,10 @@ word-at r (suc m) (suc j) cs h =
     word-at r m j (drop (symbolChips r) cs) (le-of-suc-le-suc h)
     ∙ ap (λ (l : List Taken). decided r (map takenCounts (take (symbolChips r) l)))
     (drop-drop (j * symbolChips r) (symbolChips r) cs
-    ∙ ap (λ (x : ℕ). drop x cs) (turned (j * symbolChips r) (symbolChips r) ∙ sym (suc-mul j (symbolChips r))))
+    ∙ ap (λ (x : ℕ). drop x cs) (swapped (j * symbolChips r) (symbolChips r) ∙ sym (suc-mul j (symbolChips r))))
   where
-    turned : (a b : ℕ) → b + a ≡ a + b
-    turned a b = omega arith
+    swapped : (a b : ℕ) → b + a ≡ a + b
+    swapped a b = omega arith
 
 -- and of a part that starts at place `at`
 pub word-from : (r : Rate) (m at j : ℕ) (rec : List Taken) → j < m

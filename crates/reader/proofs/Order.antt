@@ -22,8 +22,8 @@ use Rattle.calls.specs.declared.Record.{Record}
 use Rattle.calls.specs.Answers.{recordOf}
 use Rattle.reading.specs.Reading.{firstUnusable, payloadOdd, payloadReading, readingOf, octetsAfter, octetsFound}
 use Rattle.reading.specs.Leads.{frameLeads, leastOf}
-use Rattle.recorded.specs.declared.Found.{Found}
-use Rattle.recorded.specs.declared.Found.the-variants.{Nothing, At}
+use Rattle.recorded.specs.declared.Place.{Place}
+use Rattle.recorded.specs.declared.Place.the-variants.{Nothing, At}
 use Rattle.recorded.specs.Recorded.{whereFound, AllUsable}
 use Rattle.recorded.proofs.Search.{none-usable}
 use Rattle.fronts.specs.declared.Opening.{Opening}
@@ -38,19 +38,19 @@ module _ (k : Kind) (t : Told) (rec : List Taken) (room : ℕ) where
   payload-room h = rw (lt-ltb room (t .n) h)
 
   -- 17 is through, and the payload's chips are searched
-  pub record Searched (all : ℕ) (f : Found) : Type 0 where
+  pub record Searched (all : ℕ) (f : Place) : Type 0 where
     pub whole : all ≡ frameChips k (t .rate) (t .n)
     pub fits : t .n ≤ room
     pub from : ℕ
     pub at-front : from ≡ frontChips k
     pub is : whereFound f ≡ firstUnusable from (take (all - from) (drop from rec))
 
-  pub payload-unusable : {all : ℕ} {f : Found} (place : ℕ) → Searched all f → f ≡ At place
+  pub payload-unusable : {all : ℕ} {f : Place} (place : ℕ) → Searched all f → f ≡ At place
       → Refused (Unusable place (t .length)) ≡ payloadReading k t rec room
   unfolding payloadReading
   payload-unusable {all} place s e = rw (← s .whole, ← s .at-front, le-ltb room (t .n) (s .fits), ← s .is, e)
 
-  pub payload-usable : {all : ℕ} {f : Found} → Searched all f → f ≡ Nothing
+  pub payload-usable : {all : ℕ} {f : Place} → Searched all f → f ≡ Nothing
       → frameChips k (t .rate) (t .n) ≤ length rec → AllUsable rec (frontChips k) (octetChips (t .rate) * t .n)
   payload-usable {all} s e h =
       let part : all - s .from ≡ octetChips (t .rate) * t .n = omega (arith, s .whole, s .at-front) in
@@ -58,13 +58,13 @@ module _ (k : Kind) (t : Told) (rec : List Taken) (room : ℕ) where
       (rw (← part, ← s .at-front) (sym (s .is) ∙ ap whereFound e))
 
   -- what hearing left is what reading leaves
-  left : (all : ℕ) (b : Least) (o : Found)
+  left : (all : ℕ) (b : Least) (o : Place)
       → octetsHeard k (t .rate) (t .n) rec room (whereFound o)
       ≡ octetsAfter k rec room (afterHeard t all b (whereFound o))
   left all b Nothing = refl
   left all b (At place) = refl
 
-  pub payload-heard : {all : ℕ} {f : Found} (o : Found) (b : Least) (g : Reading) (out : List ℕ) → Searched all f
+  pub payload-heard : {all : ℕ} {f : Place} (o : Place) (b : Least) (g : Reading) (out : List ℕ) → Searched all f
       → f ≡ Nothing → whereFound o ≡ payloadOdd k (t .rate) (t .n) rec
       → b ≡ leastOf (frameLeads k (t .rate) (t .n) rec)
       → out ≡ octetsHeard k (t .rate) (t .n) rec room (whereFound o)

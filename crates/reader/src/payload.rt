@@ -19,12 +19,12 @@ use frame::Kind;
 use hearing::Part;
 use lines::Line;
 use rates::Rate;
-use recorded::Found;
+use recorded::Place;
 use recorders::Recorder;
 
 // A payload heard: the place of its first symbol grown by 1 or 3 at 1 Mbit/s, and the frame's smallest lead.
 pub struct Payload {
-    pub odd: Found,
+    pub odd: Place,
     pub least: Least,
 }
 
@@ -75,28 +75,28 @@ fn hear_payload(
     let least = part.least;
     let odd = heard.odd;
     match odd {
-        Found::At(place) => {
+        Place::At(place) => {
             rows::fill(octets, 0);
-            let odd = Found::At(place);
+            let odd = Place::At(place);
             Payload { odd, least }
         }
-        Found::Nothing => {
-            let odd = Found::Nothing;
+        Place::Nothing => {
+            let odd = Place::Nothing;
             Payload { odd, least }
         }
     }
 }
 
 // What a payload of usable chips comes to: 10, or the whole answer.
-fn heard(told: Told, used: usize, least: Least, odd: Found) -> Reading
+fn heard(told: Told, used: usize, least: Least, odd: Place) -> Reading
     ensures answer { λ r. ⌜ r ≡ afterHeard told used least (whereFound odd) ⌝ }
 {
     match odd {
-        Found::At(place) => {
+        Place::At(place) => {
             let length = told.length;
             Reading::Refused(Refusal::OddGrowth { place, length })
         }
-        Found::Nothing => Reading::Good { told, used, least },
+        Place::Nothing => Reading::Good { told, used, least },
     }
 }
 
@@ -134,8 +134,8 @@ pub fn read_payload(
     let all = kinds::frame_chips(kind, rate, n);
     let bad = recorders::first_unusable(rec, row, bytes, i, q, from, all);
     match bad {
-        Found::At(place) => Reading::Refused(Refusal::Unusable { place, length }),
-        Found::Nothing => {
+        Place::At(place) => Reading::Refused(Refusal::Unusable { place, length }),
+        Place::Nothing => {
             let payload = hear_payload(rec, row, bytes, i, q, kind, rate, n, line, least, octets);
             let odd = payload.odd;
             let low = payload.least;

@@ -70,18 +70,18 @@ fields a = a .number ∷ a .place ∷ a .rate ∷ a .length ∷ a .n ∷ a .used
 unfoldable pub refused : ℕ → Bool → ℕ → List ℕ → List ℕ
 refused kind agree room chips = fields (recordOf (readingOf kind agree (hardRecording chips) room))
 
-unfoldable pub long : List ℕ
-long = frame Long One 2 true (0xA5 ∷ 0x3C ∷ [])
+unfoldable pub longFrame : List ℕ
+longFrame = frame Long One 2 true (0xA5 ∷ 0x3C ∷ [])
 
-unfoldable pub short : List ℕ
-short = frame Short Eleven 3 false (0x3D ∷ [])
+unfoldable pub shortFrame : List ℕ
+shortFrame = frame Short Eleven 3 false (0x3D ∷ [])
 
 -- a chip set to a value; eleven chips from a place turned by quarters
 unfoldable pub spoilt : ℕ → ℕ → List ℕ → List ℕ
 spoilt at x chips = set chips at x
 
-unfoldable pub turned : ℕ → ℕ → List ℕ → List ℕ
-turned at by chips =
+unfoldable pub turnedBy : ℕ → ℕ → List ℕ → List ℕ
+turnedBy at by chips =
     take at chips ++ (map (λ (p : ℕ). (p + by) % 4) (take 11 (drop at chips)) ++ drop (at + 11) chips)
 
 -- ---- parts
@@ -113,10 +113,10 @@ unfolding
 grown = refl
 
 -- SYNC bits are not compared: of a short front the first, the sixth and the 48th symbol are turned by half
-pub sync-turned : frontOf Short (hardRecording (turned 0 2 (turned 55 2 (turned 517 2 short))))
+pub sync-turned : frontOf Short (hardRecording (turnedBy 0 2 (turnedBy 55 2 (turnedBy 517 2 shortFrame))))
     ≡ front.Fields (told Eleven 1 1 false)
 unfolding
-    short turned hardRecording
+    shortFrame turnedBy hardRecording
     barkerWord cckWord score those going firstLargest decided
     bitsOf octetBits numberOf growth symbolOf symbolsFrom symbolsOf chipsFrom lastPhase heardBits heard
     growthsOf
@@ -127,9 +127,9 @@ unfolding
 sync-turned = refl
 
 -- the smallest lead of the short frame is 4 full chips, at symbol 96, the payload's first
-pub frame-lead : leastOf (frameLeads Short Eleven 1 (hardRecording short)) ≡ leadAt 4096 96
+pub frame-lead : leastOf (frameLeads Short Eleven 1 (hardRecording shortFrame)) ≡ leadAt 4096 96
 unfolding
-    short hardRecording barkerWord cckWord score those going firstLargest decided others leadOf decidedLeads
+    shortFrame hardRecording barkerWord cckWord score those going firstLargest decided others leadOf decidedLeads
     frontLeads payloadLeads leastFrom leastOf
     bitsOf octetBits growth symbolOf symbolsFrom symbolsOf chipsFrom lastPhase mixed scramble addWhere crcStep
     remainder crcBits

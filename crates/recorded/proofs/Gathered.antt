@@ -13,7 +13,7 @@ use Rattle.base.proofs.Tables.{getD-tabulate}
 use Rattle.chips.specs.declared.Chip.the-variants.{Lost, Hard, Soft}
 use Rattle.chips.specs.Chips.{usableSample, countsOf, unusable, takenCounts, hardChip, hardRecording, softRecording}
 use Rattle.axes.specs.Axes.{isHard, AllSoft, AllHard}
-use Rattle.chips.proofs.Recorders.{sample, taken-soft, length-soft, getD-soft, part, part-hard}
+use Rattle.chips.proofs.Recorders.{sample, taken-soft, length-soft, getD-soft, part-taken, part-hard}
 use Rattle.recorded.specs.Recorded.{hardPart, softPart, AllUsable}
 use Rattle.recorded.proofs.Usable.{soft-at}
 
@@ -26,7 +26,7 @@ pub gathered-soft : (n : ℕ) (xs ys : List Float) (at : ℕ) → (at + n ≤ le
     → map countsOf (softPart xs ys at n) ≡ map takenCounts (take n (drop at (softRecording xs ys)))
 gathered-soft n xs ys at h =
     sym
-    (part (softRecording xs ys) (λ k. Soft (sample (getD xs k nan) (getD ys k nan))) at n
+    (part-taken (softRecording xs ys) (λ k. Soft (sample (getD xs k nan) (getD ys k nan))) at n
     (omega (arith, length-soft xs ys))
     (λ k l. ap takenCounts
     (getD-soft xs ys k unusable nan nan (omega (arith, length-soft xs ys)) (omega (arith, length-soft xs ys)))

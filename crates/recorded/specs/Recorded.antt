@@ -16,11 +16,11 @@ use Rattle.chips.specs.declared.Chip.{Chip}
 use Rattle.chips.specs.declared.Chip.the-variants as chip
 use Rattle.chips.specs.Chips.{Taken, unusable, isUnusable, takenCounts, hardChip}
 use Rattle.symbols.specs.Choice.{decided, leadOf}
-use Rattle.recorded.specs.declared.Found.{Found}
-use Rattle.recorded.specs.declared.Found.the-variants.{Nothing, At}
+use Rattle.recorded.specs.declared.Place.{Place}
+use Rattle.recorded.specs.declared.Place.the-variants.{Nothing, At}
 
 -- a place found, as the definitions of reading have it
-abbrev pub whereFound : Found → Option ℕ
+abbrev pub whereFound : Place → Option ℕ
 whereFound Nothing = none
 whereFound (At place) = some place
 

@@ -10,7 +10,7 @@ ghost use Rattle.reading.specs.Reading.{firstUnusable};
 ghost use Rattle.recorders.specs.Rows.{lent};
 ghost use Rattle.recorded.specs.Recorded.{whereFound, AllUsable, DecidedAt, LeadsAt};
 use rates::Rate;
-use recorded::Found;
+use recorded::Place;
 
 // What recorded the chips. A hard recording is the row of octets, a soft one two rows of f32, one of bytes the row of
 // signed bytes. The rows that a recorder does not use are empty.
@@ -90,7 +90,7 @@ pub fn first_unusable(
     q: &[f32],
     from: usize,
     to: usize,
-) -> Found
+) -> Place
     requires { ⌜ to ≤ length (lent rec octets bytes i q) ⌝ }
     ensures answer { λ r. ⌜ whereFound r ≡ firstUnusable from (take (to - from) (drop from
         (lent rec (octets .entry) (bytes .entry) (i .entry) (q .entry)))) ⌝ }
@@ -98,11 +98,11 @@ pub fn first_unusable(
     let mut at = skip_clean(rec, octets, bytes, i, q, from, to);
     while at < to {
         if !usable_at(rec, octets, bytes, i, q, at) {
-            return Found::At(at);
+            return Place::At(at);
         }
         at += 1;
     }
-    Found::Nothing
+    Place::Nothing
 }
 
 // m symbols of 1 or 2 Mbit/s from a place.

@@ -9,7 +9,7 @@ ghost use lib.ListN.{length};
 ghost use Rattle.report.specs.Text.{decimal, rateLine, refusedLine, refusedLines, airtimeLine, leadLine};
 ghost use Rattle.report.specs.Text.{textOf, spelledOf, textLeft};
 ghost use Rattle.report.specs.Text.{places as Text·places};
-ghost use Rattle.speller.specs.Put.{Put, pairLine, codeAt, rateLines};
+ghost use Rattle.speller.specs.Placed.{Placed, pairLine, codeAt, rateLines};
 
 // How many decimal digits x has.
 fn places(x: u64) -> usize
@@ -30,7 +30,7 @@ fn places(x: u64) -> usize
 // A number's digits, the last one first.
 fn put_number(x: u64, at: usize, out: &mut [u8]) -> usize
     requires { ⌜ at + length (decimal x) ≤ length (now out) ⌝ }
-    ensures answer { λ r. ⌜ Put (decimal x) at (now (out .entry)) r (now (out .exit)) ⌝ }
+    ensures answer { λ r. ⌜ Placed (decimal x) at (now (out .entry)) r (now (out .exit)) ⌝ }
 {
     let end = at + places(x);
     let mut rest = x;
@@ -46,7 +46,7 @@ fn put_number(x: u64, at: usize, out: &mut [u8]) -> usize
 // A word's octets.
 fn put_word(word: &[u8], at: usize, out: &mut [u8]) -> usize
     requires { ⌜ at + length (now word) ≤ length (now out) ⌝ }
-    ensures answer { λ r. ⌜ Put (now (word .entry)) at (now (out .entry)) r (now (out .exit)) ⌝ }
+    ensures answer { λ r. ⌜ Placed (now (word .entry)) at (now (out .entry)) r (now (out .exit)) ⌝ }
 {
     let mut i = 0;
     while i < word.len() {
@@ -59,7 +59,7 @@ fn put_word(word: &[u8], at: usize, out: &mut [u8]) -> usize
 // A word and a number.
 fn put_both(word: &[u8], x: u64, at: usize, out: &mut [u8]) -> usize
     requires { ⌜ at + length (now word ++ decimal x) ≤ length (now out) ⌝ }
-    ensures answer { λ r. ⌜ Put (now (word .entry) ++ decimal x) at (now (out .entry)) r (now (out .exit)) ⌝ }
+    ensures answer { λ r. ⌜ Placed (now (word .entry) ++ decimal x) at (now (out .entry)) r (now (out .exit)) ⌝ }
 {
     let end = put_word(word, at, out);
     put_number(x, end, out)
@@ -68,7 +68,7 @@ fn put_both(word: &[u8], x: u64, at: usize, out: &mut [u8]) -> usize
 // Two words, each with its number, and a line feed.
 fn put_line(first: &[u8], x: u64, second: &[u8], y: u64, at: usize, out: &mut [u8]) -> usize
     requires { ⌜ at + length (pairLine (now first) x (now second) y) ≤ length (now out) ⌝ }
-    ensures answer { λ r. ⌜ Put (pairLine (now (first .entry)) x (now (second .entry)) y) at (now (out .entry))
+    ensures answer { λ r. ⌜ Placed (pairLine (now (first .entry)) x (now (second .entry)) y) at (now (out .entry))
         r (now (out .exit)) ⌝ }
 {
     let a = put_both(first, x, at, out);
@@ -80,7 +80,7 @@ fn put_line(first: &[u8], x: u64, second: &[u8], y: u64, at: usize, out: &mut [u
 // A rate's line.
 fn rate_line(rate: u64, frames: u64, octets: u64, at: usize, out: &mut [u8]) -> usize
     requires { ⌜ at + length (rateLine rate frames octets) ≤ length (now out) ⌝ }
-    ensures answer { λ r. ⌜ Put (rateLine rate frames octets) at (now (out .entry)) r (now (out .exit)) ⌝ }
+    ensures answer { λ r. ⌜ Placed (rateLine rate frames octets) at (now (out .entry)) r (now (out .exit)) ⌝ }
 {
     let a = put_both(b"rate ", rate, at, out);
     put_line(b" frames ", frames, b" octets ", octets, a, out)
@@ -89,7 +89,7 @@ fn rate_line(rate: u64, frames: u64, octets: u64, at: usize, out: &mut [u8]) -> 
 // The line of a refusal that was met, and nothing for one that was not.
 fn refused_line(number: u64, count: u64, at: usize, out: &mut [u8]) -> usize
     requires { ⌜ at + length (refusedLine number count) ≤ length (now out) ⌝ }
-    ensures answer { λ r. ⌜ Put (refusedLine number count) at (now (out .entry)) r (now (out .exit)) ⌝ }
+    ensures answer { λ r. ⌜ Placed (refusedLine number count) at (now (out .entry)) r (now (out .exit)) ⌝ }
 {
     if count == 0 {
         return at;
@@ -100,7 +100,7 @@ fn refused_line(number: u64, count: u64, at: usize, out: &mut [u8]) -> usize
 // The lines of refusals 1 to 17.
 fn refused_lines(refused: [u64; 18], at: usize, out: &mut [u8]) -> usize
     requires { ⌜ at + length (refusedLines 17 refused) ≤ length (now out) ⌝ }
-    ensures answer { λ r. ⌜ Put (refusedLines 17 refused) at (now (out .entry)) r (now (out .exit)) ⌝ }
+    ensures answer { λ r. ⌜ Placed (refusedLines 17 refused) at (now (out .entry)) r (now (out .exit)) ⌝ }
 {
     let mut end = at;
     let mut number = 0;
@@ -114,7 +114,7 @@ fn refused_lines(refused: [u64; 18], at: usize, out: &mut [u8]) -> usize
 // The airtime's line.
 fn airtime_line(airtime: u64, at: usize, out: &mut [u8]) -> usize
     requires { ⌜ at + length (airtimeLine airtime) ≤ length (now out) ⌝ }
-    ensures answer { λ r. ⌜ Put (airtimeLine airtime) at (now (out .entry)) r (now (out .exit)) ⌝ }
+    ensures answer { λ r. ⌜ Placed (airtimeLine airtime) at (now (out .entry)) r (now (out .exit)) ⌝ }
 {
     let a = put_both(b"airtime ", airtime, at, out);
     out[a] = 10;
@@ -124,7 +124,7 @@ fn airtime_line(airtime: u64, at: usize, out: &mut [u8]) -> usize
 // The line of the smallest lead, or of none.
 fn lead_line(some: u64, lead: u64, recording: u64, at: usize, out: &mut [u8]) -> usize
     requires { ⌜ at + length (leadLine some lead recording) ≤ length (now out) ⌝ }
-    ensures answer { λ r. ⌜ Put (leadLine some lead recording) at (now (out .entry)) r (now (out .exit)) ⌝ }
+    ensures answer { λ r. ⌜ Placed (leadLine some lead recording) at (now (out .entry)) r (now (out .exit)) ⌝ }
 {
     if some == 0 {
         return put_word(b"lead none\n", at, out);
@@ -147,7 +147,7 @@ fn code_of(k: usize) -> u64
 // The lines of all four rates.
 fn rate_lines(frames: [u64; 4], octets: [u64; 4], out: &mut [u8]) -> usize
     requires { ⌜ length (rateLines 4 frames octets) ≤ length (now out) ⌝ }
-    ensures answer { λ r. ⌜ Put (rateLines 4 frames octets) 0 (now (out .entry)) r (now (out .exit)) ⌝ }
+    ensures answer { λ r. ⌜ Placed (rateLines 4 frames octets) 0 (now (out .entry)) r (now (out .exit)) ⌝ }
 {
     let mut end = 0;
     let mut k = 0;
@@ -161,7 +161,7 @@ fn rate_lines(frames: [u64; 4], octets: [u64; 4], out: &mut [u8]) -> usize
 // The whole text.
 fn put_text(report: Report, out: &mut [u8]) -> usize
     requires { ⌜ length (textOf report) ≤ length (now out) ⌝ }
-    ensures answer { λ r. ⌜ Put (textOf report) 0 (now (out .entry)) r (now (out .exit)) ⌝ }
+    ensures answer { λ r. ⌜ Placed (textOf report) 0 (now (out .entry)) r (now (out .exit)) ⌝ }
 {
     let frames = report.frames;
     let octets = report.octets;

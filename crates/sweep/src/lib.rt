@@ -76,7 +76,7 @@ fn fill(evens: &[u8; 144], odds: &[u8; 144], l: usize, count: usize, halves: &mu
 
 // The halves at up to 128 chips from a place on, into entries of a row from l on. Six chips more are looked at than
 // they need, so that the rows of sides are whole sixteens.
-fn part(octets: &[u8], at: usize, l: usize, count: usize, halves: &mut [u8; 512])
+fn halves_from(octets: &[u8], at: usize, l: usize, count: usize, halves: &mut [u8; 512])
     requires { ⌜ (count ≤ 128) × (l + count ≤ 512) × (at + count + 16 ≤ length (now octets))
         × (length (now halves) ≡ 512) ⌝ }
     ensures halves { λ _. ⌜ Added (λ s. halfAt (hardRecording (now (octets .entry))) (at + s)) l (now (halves .entry))
@@ -105,7 +105,7 @@ pub fn decide(octets: &[u8], at: usize, known: usize, count: usize, halves: &mut
     let mut l = known;
     while l < count {
         let n = at_most(count - l, 128);
-        part(octets, at + l, l, n, halves);
+        halves_from(octets, at + l, l, n, halves);
         l += n;
     }
 }

@@ -48,7 +48,7 @@ decidedLast recorder octets bytes i q =
     cond (leb recorder 2) (cond (leb 512 (length rec)) (lastWord rec) 0) 0
 
 -- a row of counts: as far as both rows go each is the count of its f32, and past the shorter nothing has changed
-pub record Counted (xs : List Float) (before after : List ℤ) : Type 0 where
+pub record CountsRow (xs : List Float) (before after : List ℤ) : Type 0 where
   pub as-long : length after ≡ length before
   pub counted : (k : ℕ) → k < length xs → k < length before → getD after k (pos 0) ≡ countOf (getD xs k nan)
   pub kept : (k : ℕ) → length xs ≤ k → getD after k (pos 0) ≡ getD before k (pos 0)

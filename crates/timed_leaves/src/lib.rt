@@ -6,9 +6,9 @@ ghost use Rattle.rates.specs.Rates.{symbolChips};
 ghost use Rattle.chips.specs.Floats.{countOf};
 ghost use Rattle.chips.specs.Chips.{softRecording};
 ghost use Rattle.recorders.specs.Rows.{lent};
-ghost use Rattle.timed_leaves.specs.Leaves.{firstWord, decidedSoft, lastWord, recorderOf, decidedLast, Counted};
+ghost use Rattle.timed_leaves.specs.Leaves.{firstWord, decidedSoft, lastWord, recorderOf, decidedLast, CountsRow};
 use rates::Rate;
-use recorded::Found;
+use recorded::Place;
 use recorders::Recorder;
 
 // The smaller of two lengths.
@@ -32,7 +32,7 @@ fn count_of(x: f32) -> i32
 // The counts of a row of f32, as far as both rows go.
 #[no_mangle]
 pub extern "C" fn timed_count(xs: &[f32], counts: &mut [i32])
-    ensures counts { λ _. ⌜ Counted (now (xs .entry)) (now (counts .entry)) (now (counts .exit)) ⌝ }
+    ensures counts { λ _. ⌜ CountsRow (now (xs .entry)) (now (counts .entry)) (now (counts .exit)) ⌝ }
 {
     let n = shorter(xs.len(), counts.len());
     let mut k = 0;
@@ -60,8 +60,8 @@ fn first_word(r: Rate, i: &[f32], q: &[f32]) -> u64
     let bytes = &byte[0..0];
     let bad = recorders::first_unusable(Recorder::Soft, row, bytes, i, q, 0, r.symbol_chips());
     match bad {
-        Found::At(_) => 0,
-        Found::Nothing => {
+        Place::At(_) => 0,
+        Place::Nothing => {
             let mut numbers = [0u8; 64];
             let mut leads = [0u32; 64];
             recorders::decide(
@@ -107,8 +107,8 @@ fn last_word(rec: Recorder, octets: &[u8], bytes: &[i8], i: &[f32], q: &[f32]) -
 {
     let bad = recorders::first_unusable(rec, octets, bytes, i, q, 0, 512);
     match bad {
-        Found::At(_) => 0,
-        Found::Nothing => {
+        Place::At(_) => 0,
+        Place::Nothing => {
             let mut numbers = [0u8; 64];
             let mut leads = [0u32; 64];
             recorders::decide(

@@ -1,7 +1,7 @@
 -- `abreast::turn` meets its contract: four merges, to the other row and back, twice.
 -- Assumes nothing.
 use borrow.Author.Needs.{needs}
-use Rattle.abreast.proofs.Rows.{turned}
+use Rattle.abreast.proofs.Rows.{rows-turned}
 use Rattle.abreast.proofs.turn.Statement.{statement}
 use Rattle.abreast.proofs.turn.Tie as tie
 
@@ -11,7 +11,7 @@ returns c =
     let third = fourth .before .before .before .before in
     let second = third .before .before .before .before in
     let first = second .before .before .before .before in
-    turned (first .before .before .before .pre .1) (first .merge .ensures) (second .merge2 .ensures)
+    rows-turned (first .before .before .before .pre .1) (first .merge .ensures) (second .merge2 .ensures)
     (third .merge3 .ensures) (fourth .merge4 .ensures)
 
 pub turn-spec : {M : Type 1} → statement M

@@ -2,7 +2,7 @@
 -- Assumes nothing.
 use mathlib.Core.Path.{_≡_, refl}
 use Prim.Native.Nat.{ℕ, zero, suc}
-use Rattle.speller.specs.Put.{codeAt}
+use Rattle.speller.specs.Placed.{codeAt}
 use Rattle.speller.proofs.code_of.Statement.{statement}
 use Rattle.speller.proofs.code_of.Tie as tie
 

@@ -7,7 +7,7 @@ use native.Mathlib.Omega.{arith}
 use lib.ListN.{length, length-append, length-set}
 use denote.Ref.{now}
 use Rattle.report.specs.Text.{word, decimal}
-use Rattle.speller.specs.Put.{pairLine}
+use Rattle.speller.specs.Placed.{pairLine}
 use Rattle.speller.proofs.Puts.{put-more, put-pair}
 use Rattle.speller.proofs.put_line.Statement.{statement}
 use Rattle.speller.proofs.put_line.Tie as tie

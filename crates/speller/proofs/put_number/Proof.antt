@@ -20,7 +20,7 @@ use lib.Seq.{
 use borrow.Author.Needs.{needs}
 use Rattle.report.specs.Text.{digits, places, decimal}
 use Rattle.report.proofs.Spelling.{length-decimal}
-use Rattle.speller.specs.Put.{Put}
+use Rattle.speller.specs.Placed.{Placed}
 use Rattle.speller.proofs.put_number.Statement.{statement}
 use Rattle.speller.proofs.put_number.Tie as tie
 
@@ -67,7 +67,7 @@ after d e i end v h k f = drop-set-lt end e (i - 1) v (omega arith) ∙ f
 
 whole : (x at n i rest : ℕ) (d e : List ℕ) → n ≡ places 19 x → i ≡ at → take at e ≡ take at d
     → drop (at + n) e ≡ drop (at + n) d
-    → digits (at + n - at) x ≡ digits (i - at) rest ++ slice i (at + n) e → Put (decimal x) at d (at + n) e
+    → digits (at + n - at) x ≡ digits (i - at) rest ++ slice i (at + n) e → Placed (decimal x) at d (at + n) e
 unfolding digits decimal
 whole x at n i rest d e h z f r g =
     let none : at - at ≡ 0 = omega arith in

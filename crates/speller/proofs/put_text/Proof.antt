@@ -7,7 +7,7 @@ use lib.ListN.{length}
 use borrow.Author.Needs.{needs}
 use Rattle.report.specs.declared.Report.{Report}
 use Rattle.report.specs.Text.{refusedLines, airtimeLine, leadLine, textOf}
-use Rattle.speller.specs.Put.{rateLines}
+use Rattle.speller.specs.Placed.{rateLines}
 use Rattle.speller.proofs.Puts.{put-next, four-long}
 use Rattle.speller.proofs.put_text.Statement.{statement}
 use Rattle.speller.proofs.put_text.Tie as tie

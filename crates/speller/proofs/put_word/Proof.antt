@@ -8,26 +8,26 @@ use native.Mathlib.Omega.{arith}
 use lib.ListN.{length, getD, set, take, length-set}
 use lib.Seq.{take-suc, take-all}
 use borrow.Author.Needs.{needs}
-use Rattle.speller.specs.Put.{Put}
+use Rattle.speller.specs.Placed.{Placed}
 use Rattle.speller.proofs.Puts.{put-none, put-more}
 use Rattle.speller.proofs.put_word.Statement.{statement}
 use Rattle.speller.proofs.put_word.Tie as tie
 
 abbrev Inv-loop : tie.InvT-loop
 Inv-loop word at out₀ i₀ out i = (i ≤ length word) × (length out ≡ length out₀)
-    × Put (take i word) at out₀ (at + i) out
+    × Placed (take i word) at out₀ (at + i) out
 
 abbrev μ-loop : tie.MeasureT-loop
 μ-loop word at out₀ i₀ out i = length word - i
 
 turn : (w : List ℕ) (at : ℕ) (d : List ℕ) (i : ℕ) (e : List ℕ) → i < length w → at + i < length e
-    → Put (take i w) at d (at + i) e → Put (take (i + 1) w) at d (at + (i + 1)) (set e (at + i) (getD w i 0))
+    → Placed (take i w) at d (at + i) e → Placed (take (i + 1) w) at d (at + (i + 1)) (set e (at + i) (getD w i 0))
 turn w at d i e h k p =
     let same : at + (i + 1) ≡ at + i + 1 = omega arith in
     rw (same, add-one i, take-suc w i 0 h) (put-more (getD w i 0) p k)
 
-whole : (w : List ℕ) (at : ℕ) (d : List ℕ) (i : ℕ) (e : List ℕ) → length w ≤ i → Put (take i w) at d (at + i) e
-    → Put w at d (at + i) e
+whole : (w : List ℕ) (at : ℕ) (d : List ℕ) (i : ℕ) (e : List ℕ) → length w ≤ i → Placed (take i w) at d (at + i) e
+    → Placed w at d (at + i) e
 whole w at d i e h p = rw (take-all i w h) at p
 
 loop-holds : tie.Need-loop-holds Inv-loop μ-loop

@@ -7,7 +7,7 @@ use native.Mathlib.Omega.{arith}
 use lib.ListN.{length, length-append}
 use borrow.Author.Needs.{needs}
 use Rattle.report.specs.Text.{word, decimal, rateLine}
-use Rattle.speller.specs.Put.{Put, pairLine}
+use Rattle.speller.specs.Placed.{Placed, pairLine}
 use Rattle.speller.proofs.Puts.{put-next}
 use Rattle.speller.proofs.rate_line.Statement.{statement}
 use Rattle.speller.proofs.rate_line.Tie as tie
@@ -16,9 +16,9 @@ size : (rate frames octets : ℕ) → length (rateLine rate frames octets)
     ≡ length (word "rate " ++ decimal rate) + length (pairLine (word " frames ") frames (word " octets ") octets)
 size rate frames octets = simp length-append (omega arith)
 
-line : (rate frames octets : ℕ) {at a r : ℕ} {d o e : List ℕ} → Put (word "rate " ++ decimal rate) at d a o
-    → Put (pairLine (word " frames ") frames (word " octets ") octets) a o r e
-    → Put (rateLine rate frames octets) at d r e
+line : (rate frames octets : ℕ) {at a r : ℕ} {d o e : List ℕ} → Placed (word "rate " ++ decimal rate) at d a o
+    → Placed (pairLine (word " frames ") frames (word " octets ") octets) a o r e
+    → Placed (rateLine rate frames octets) at d r e
 line rate frames octets p q = simp append-assoc (simp append-assoc at (put-next p q))
 
 put-both-requires : tie.Need-put-both-requires

@@ -8,14 +8,14 @@ use native.Mathlib.Omega.{arith}
 use lib.ListN.{length, getD}
 use borrow.Author.Needs.{needs}
 use Rattle.report.specs.Text.{rateLine}
-use Rattle.speller.specs.Put.{Put, codeAt, rateLines}
+use Rattle.speller.specs.Placed.{Placed, codeAt, rateLines}
 use Rattle.speller.proofs.Puts.{put-none, lines-room, lines-turn}
 use Rattle.speller.proofs.rate_lines.Statement.{statement}
 use Rattle.speller.proofs.rate_lines.Tie as tie
 
 abbrev Inv-loop : tie.InvT-loop
 Inv-loop out₀ frames octets end₀ k₀ out end k = (k ≤ 4) × (length out ≡ length out₀)
-    × Put (rateLines k frames octets) 0 out₀ end out
+    × Placed (rateLines k frames octets) 0 out₀ end out
 
 abbrev μ-loop : tie.MeasureT-loop
 μ-loop out₀ frames octets end₀ k₀ out end k = 4 - k
@@ -27,21 +27,21 @@ step : (f o : List ℕ) (k : ℕ) → rateLines (k + 1) f o ≡ rateLines k f o 
 unfolding rateLines
 step f o k = rw add-one
 
-none : (f o d : List ℕ) → Put (rateLines 0 f o) 0 d 0 d
+none : (f o d : List ℕ) → Placed (rateLines 0 f o) 0 d 0 d
 unfolding rateLines
 none f o d = put-none 0 0 d refl
 
-room : (f o d e : List ℕ) (k code end : ℕ) → k < 4 → code ≡ codeAt k → Put (rateLines k f o) 0 d end e
+room : (f o d e : List ℕ) (k code end : ℕ) → k < 4 → code ≡ codeAt k → Placed (rateLines k f o) 0 d end e
     → length (rateLines 4 f o) ≤ length d → length e ≡ length d
     → end + length (rateLine code (getD f k 0) (getD o k 0)) ≤ length e
 room f o d e k code end h c p g l =
     rw c (lines-room (λ j. rateLines j f o) (line f o) (step f o) 4 k h p (omega arith) l)
 
-turn : (f o : List ℕ) {d e q : List ℕ} (k code : ℕ) {end r : ℕ} → code ≡ codeAt k → Put (rateLines k f o) 0 d end e
-    → Put (rateLine code (getD f k 0) (getD o k 0)) end e r q → Put (rateLines (k + 1) f o) 0 d r q
+turn : (f o : List ℕ) {d e q : List ℕ} (k code : ℕ) {end r : ℕ} → code ≡ codeAt k → Placed (rateLines k f o) 0 d end e
+    → Placed (rateLine code (getD f k 0) (getD o k 0)) end e r q → Placed (rateLines (k + 1) f o) 0 d r q
 turn f o k code c p t = lines-turn (λ j. rateLines j f o) (line f o) (step f o) k p (rw c at t)
 
-whole : (f o d e : List ℕ) (k end : ℕ) → k ≡ 4 → Put (rateLines k f o) 0 d end e → Put (rateLines 4 f o) 0 d end e
+whole : (f o d e : List ℕ) (k end : ℕ) → k ≡ 4 → Placed (rateLines k f o) 0 d end e → Placed (rateLines 4 f o) 0 d end e
 whole f o d e k end h p = rw h at p
 
 loop-holds : tie.Need-loop-holds Inv-loop μ-loop

@@ -6,12 +6,12 @@ use mathlib.Core.List.{List}
 use borrow.Author.Needs.{needs}
 use borrow.Author.Tests.{eq-eqb, ne-eqb}
 use Rattle.report.specs.Text.{word, refusedLine}
-use Rattle.speller.specs.Put.{Put, pairLine}
+use Rattle.speller.specs.Placed.{Placed, pairLine}
 use Rattle.speller.proofs.Puts.{put-none}
 use Rattle.speller.proofs.refused_line.Statement.{statement}
 use Rattle.speller.proofs.refused_line.Tie as tie
 
-none : (number count at : ℕ) (d : List ℕ) → count ≡ 0 → Put (refusedLine number count) at d at d
+none : (number count at : ℕ) (d : List ℕ) → count ≡ 0 → Placed (refusedLine number count) at d at d
 none number count at d h = rw (eq-eqb count 0 h) (put-none at at d refl)
 
 met : (number count : ℕ) → (count ≡ 0 → ⊥) → refusedLine number count

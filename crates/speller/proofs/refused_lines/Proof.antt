@@ -8,14 +8,14 @@ use native.Mathlib.Omega.{arith}
 use lib.ListN.{length, getD}
 use borrow.Author.Needs.{needs}
 use Rattle.report.specs.Text.{refusedLine, refusedLines}
-use Rattle.speller.specs.Put.{Put}
+use Rattle.speller.specs.Placed.{Placed}
 use Rattle.speller.proofs.Puts.{put-none, lines-room, lines-turn}
 use Rattle.speller.proofs.refused_lines.Statement.{statement}
 use Rattle.speller.proofs.refused_lines.Tie as tie
 
 abbrev Inv-loop : tie.InvT-loop
 Inv-loop at out₀ refused end₀ number₀ out end number = (number ≤ 17) × (length out ≡ length out₀)
-    × Put (refusedLines number refused) at out₀ end out
+    × Placed (refusedLines number refused) at out₀ end out
 
 abbrev μ-loop : tie.MeasureT-loop
 μ-loop at out₀ refused end₀ number₀ out end number = 17 - number
@@ -27,12 +27,12 @@ step : (refused : List ℕ) (k : ℕ) → refusedLines (k + 1) refused ≡ refus
 unfolding refusedLines
 step refused k = rw add-one
 
-none : (refused d : List ℕ) (at : ℕ) → Put (refusedLines 0 refused) at d at d
+none : (refused d : List ℕ) (at : ℕ) → Placed (refusedLines 0 refused) at d at d
 unfolding refusedLines
 none refused d at = put-none at at d refl
 
-whole : (refused d e : List ℕ) (k at end : ℕ) → k ≡ 17 → Put (refusedLines k refused) at d end e
-    → Put (refusedLines 17 refused) at d end e
+whole : (refused d e : List ℕ) (k at end : ℕ) → k ≡ 17 → Placed (refusedLines k refused) at d end e
+    → Placed (refusedLines 17 refused) at d end e
 whole refused d e k at end h p = rw h at p
 
 loop-holds : tie.Need-loop-holds Inv-loop μ-loop

@@ -11,7 +11,7 @@ use Rattle.report.specs.declared.Report.{Report}
 use Rattle.report.specs.declared.Spelled.{Spelled}
 use Rattle.report.specs.Text.{textOf, spelledOf, textLeft}
 use Rattle.report.proofs.Spelling.{spelled-whole, spelled-refused, text-most}
-use Rattle.speller.specs.Put.{Put}
+use Rattle.speller.specs.Placed.{Placed}
 use Rattle.speller.proofs.text.Statement.{statement}
 use Rattle.speller.proofs.text.Tie as tie
 
@@ -19,7 +19,7 @@ abbrev answer : ℕ → ℕ → Spelled
 answer number octets = record { number = number; octets = octets }
 
 -- no room: the zeros stay
-refused : (p : Report) (d z row zs : List ℕ) (n : ℕ) → Put (textOf p) 0 zs n row → z ≡ replicate (length d) 0
+refused : (p : Report) (d z row zs : List ℕ) (n : ℕ) → Placed (textOf p) 0 zs n row → z ≡ replicate (length d) 0
     → length z < n → (answer 17 0 ≡ spelledOf p (length d)) × (z ≡ textLeft p (length d))
 refused p d z row zs n put e h =
     let none = spelled-refused p (length d)
@@ -27,7 +27,7 @@ refused p d z row zs n put e h =
     (sym (none .0), e ∙ sym (none .1))
 
 -- what was put is as long as it is told
-counted : (p : Report) (row zs : List ℕ) (n : ℕ) → Put (textOf p) 0 zs n row → n ≡ length (take n row)
+counted : (p : Report) (row zs : List ℕ) (n : ℕ) → Placed (textOf p) 0 zs n row → n ≡ length (take n row)
 counted p row zs n put = omega (arith, put .stop, ap length (put .front))
 
 zeros : (k n : ℕ) → drop {A = ℕ} k (replicate n 0) ≡ replicate (n - k) 0
@@ -35,8 +35,8 @@ zeros zero n = let e : n - 0 ≡ n = omega arith in rw e
 zeros (suc k) zero = let e : 0 - suc k ≡ 0 = omega arith in rw e
 zeros (suc k) (suc n) = let e : suc n - suc k ≡ n - k = omega arith in rw e (zeros k n)
 
-copied : (p : Report) (d z row zs o : List ℕ) (n e : ℕ) → Put (textOf p) 0 zs n row → z ≡ replicate (length d) 0
-    → n ≤ length z → Put (take n row) 0 z e o
+copied : (p : Report) (d z row zs o : List ℕ) (n e : ℕ) → Placed (textOf p) 0 zs n row → z ≡ replicate (length d) 0
+    → n ≤ length z → Placed (take n row) 0 z e o
     → (answer 0 e ≡ spelledOf p (length d)) × (o ≡ textLeft p (length d))
 copied p d z row zs o n e put f h copy =
     let whole = spelled-whole p (length d)

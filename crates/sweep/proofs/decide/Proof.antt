@@ -14,8 +14,8 @@ Inv-loop octets at known count halves₀ l₀ halves l = Row (λ j. halfAt (hard
 abbrev μ-loop : tie.MeasureT-loop
 μ-loop octets at known count halves₀ l₀ halves l = count - l
 
-part-requires : tie.Need-part-requires Inv-loop μ-loop
-part-requires c κs =
+halves-from-requires : tie.Need-halves-from-requires Inv-loop μ-loop
+halves-from-requires c κs =
     let s = c .before .before .before .before .before in
     let n = c .before .at-most .ensures in (
       omega (arith, n),
@@ -32,7 +32,7 @@ loop-again c =
     row-added
     (λ j. let e : s .args .at + l + j ≡ s .args .at + (l + j) = omega arith in
     ap (halfAt (hardRecording (s .args .octets .now))) e)
-    (turn .loop .inv) (c .part .ensures)
+    (turn .loop .inv) (c .halves-from .ensures)
 
 returns : tie.Need-returns Inv-loop μ-loop
 returns c = row-less _ (c .loop-test .left) (c .before .loop .inv)
@@ -41,6 +41,6 @@ pub decide-spec : {M : Type 1} → statement M
 decide-spec =
     tie.close
     (tie.spec Inv-loop μ-loop (λ c. c .before .pre .2) (λ c. omega arith) (λ c κs. tt)
-    (λ c. omega (arith, c .before .before .before .before .pre .1)) part-requires
+    (λ c. omega (arith, c .before .before .before .before .pre .1)) halves-from-requires
     (λ c. omega (arith, c .before .before .at-most .ensures, c .before .before .before .before .before .before .pre .0))
     (λ c. omega (arith, c .before .before .at-most .ensures)) loop-again returns)

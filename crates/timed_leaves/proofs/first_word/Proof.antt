@@ -12,15 +12,15 @@ use Rattle.rates.specs.Rates.{symbolChips}
 use Rattle.chips.specs.Chips.{Taken, takenCounts, softRecording}
 use Rattle.symbols.specs.Choice.{decided}
 use Rattle.reading.specs.Reading.{firstUnusable}
-use Rattle.recorded.specs.declared.Found.{Found}
-use Rattle.recorded.specs.declared.Found.the-variants.{Nothing, At}
+use Rattle.recorded.specs.declared.Place.{Place}
+use Rattle.recorded.specs.declared.Place.the-variants.{Nothing, At}
 use Rattle.recorded.specs.Recorded.{whereFound, AllUsable, DecidedAt}
 use Rattle.timed_leaves.specs.Leaves.{firstWord}
 use Rattle.timed_leaves.proofs.Searched.{bad, good, usable}
 use Rattle.timed_leaves.proofs.first_word.Statement.{statement}
 use Rattle.timed_leaves.proofs.first_word.Tie as tie
 
-module _ (r : Rate) (rec : List Taken) (n : ℕ) (f : Found) (e : n ≡ symbolChips r)
+module _ (r : Rate) (rec : List Taken) (n : ℕ) (f : Place) (e : n ≡ symbolChips r)
     (g : whereFound f ≡ firstUnusable 0 (take (n - 0) (drop 0 rec))) where
   of-symbol : whereFound f ≡ firstUnusable 0 (take (symbolChips r - 0) (drop 0 rec))
   of-symbol = g ∙ ap (λ (m : ℕ). firstUnusable 0 (take (m - 0) rec)) e

@@ -34,8 +34,8 @@ module _ (c : tie.Start) where
   xi : Reads w32 524304 (ofZ w32 (c .args .xi)) (c .args .xi)
   xi = reads-of (lit< tt) (c .pre .3)
 
-  turned : Reads w32 524304 (ofZ w32 (pos 0 -ℤ toZ w32 (ofZ w32 (c .args .xr)))) (negℤ (c .args .xr))
-  turned = record {
+  turned-reads : Reads w32 524304 (ofZ w32 (pos 0 -ℤ toZ w32 (ofZ w32 (c .args .xr)))) (negℤ (c .args .xr))
+  turned-reads = record {
     is = neg-read w32 524304 (lit< tt) (c .args .xr) (c .pre .2);
     within = within-neg (c .pre .2);
   }
@@ -56,11 +56,11 @@ module _ (c : tie.After-four2) where
 
   q-first : Reads w32 1048611 (ofZ w32 (c .four2 .result .first))
       (fourTop (start .args .yi) (start .args .xi) (negℤ (start .args .xr)))
-  q-first = reads-four (lit< tt) (yi start) (xi start) (turned start) (c .four2 .ensures .0)
+  q-first = reads-four (lit< tt) (yi start) (xi start) (turned-reads start) (c .four2 .ensures .0)
 
   q-second : Reads w32 1048611 (ofZ w32 (c .four2 .result .second))
       (fourNext (start .args .yi) (start .args .xi) (negℤ (start .args .xr)))
-  q-second = reads-four-next (lit< tt) (yi start) (xi start) (turned start) (c .four2 .ensures .1)
+  q-second = reads-four-next (lit< tt) (yi start) (xi start) (turned-reads start) (c .four2 .ensures .1)
 
   u : Reads w32 1048615 (ofZ w32 (toZ w32 (ofZ w32 (c .four2 .result .first)) -ℤ pos 4))
       (fourTop (start .args .yi) (start .args .xi) (negℤ (start .args .xr)) -ℤ pos 4)
@@ -98,7 +98,7 @@ group-spec =
     (λ c κs. (
       within-read w32 (lit< tt) (c .before .pre .1),
       within-read w32 (lit< tt) (c .before .pre .3),
-      rw (turned (c .before) .is) (turned (c .before) .within),
+      rw (turned-reads (c .before) .is) (turned-reads (c .before) .within),
     ))
     (λ c. less-fits (q-first (c .before .before .before)) (reads-const {c = 4} (lit< tt)) (lit< tt))
     (λ c. less-fits (q-second (c .before .before .before .before .before)) (reads-const {c = 4} (lit< tt)) (lit< tt))

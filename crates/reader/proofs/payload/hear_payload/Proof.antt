@@ -16,7 +16,7 @@ use Rattle.frame.specs.Frame.{frontChips, frameChips}
 use Rattle.reading.specs.Reading.{payloadOdd, payloadOf}
 use Rattle.calls.specs.declared.Least.{Least}
 use Rattle.reading.specs.Leads.{frontLeads, frameLeads, leastOf}
-use Rattle.recorded.specs.declared.Found.the-variants.{Nothing, At}
+use Rattle.recorded.specs.declared.Place.the-variants.{Nothing, At}
 use Rattle.recorded.specs.Recorded.{whereFound, AllUsable}
 use Rattle.hearing.specs.declared.Part.{Part}
 use Rattle.hearing.specs.Hearing.{PartHeard}

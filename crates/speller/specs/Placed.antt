@@ -12,7 +12,7 @@ use Rattle.report.specs.Text.{word, decimal, rateLine}
 
 -- a row d with w put at `at` is a row e: its octets up to `end` are those of d up to `at`, and w; from there on they
 -- are as they were
-pub record Put (w : List ℕ) (at : ℕ) (d : List ℕ) (end : ℕ) (e : List ℕ) : Type 0 where
+pub record Placed (w : List ℕ) (at : ℕ) (d : List ℕ) (end : ℕ) (e : List ℕ) : Type 0 where
   pub stop : end ≡ at + length w
   pub front : take end e ≡ take at d ++ w
   pub rest : drop end e ≡ drop end d

@@ -1,11 +1,12 @@
--- `sweep::part` meets its contract: eleven chips decide by their sides as they do by their counts. Assumes nothing.
+-- `sweep::halves_from` meets its contract: eleven chips decide by their sides as they do by their counts. Assumes
+-- nothing.
 use Prim.Native.Nat.{_+_, _-_}
 use native.Mathlib.Omega.{arith}
 use borrow.Author.Needs.{needs}
 use Rattle.sweep.proofs.Rows.{added-as}
 use Rattle.sweep.proofs.Halves.{half-there, sides-most}
-use Rattle.sweep.proofs.part.Statement.{statement}
-use Rattle.sweep.proofs.part.Tie as tie
+use Rattle.sweep.proofs.halves_from.Statement.{statement}
+use Rattle.sweep.proofs.halves_from.Tie as tie
 
 fill-requires : tie.Need-fill-requires
 fill-requires c κs =
@@ -30,6 +31,6 @@ returns c =
     (omega (arith, s .pre .2)))
     (c .fill .ensures)
 
-pub part-spec : {M : Type 1} → statement M
-part-spec =
+pub halves-from-spec : {M : Type 1} → statement M
+halves-from-spec =
     tie.close (tie.spec (λ c. search needs) (λ c κs. search needs) fill-requires returns)
