@@ -140,7 +140,7 @@ reading-fits kind agree rec room =
     (λ a. branch (Fits room) (not agree) _ _ tt
     (λ b. after-fits (kindOf kind) rec room (wholeOf (kindOf kind) rec (frontOf (kindOf kind) rec))))
 
-payload-length : (k : Kind) (r : Rate) (n : ℕ) (rec : List Taken) → length (payloadOf k r n rec) ≡ n
+pub payload-length : (k : Kind) (r : Rate) (n : ℕ) (rec : List Taken) → length (payloadOf k r n rec) ≡ n
 unfolding payloadOf
 payload-length k r n rec = octets-length n _
 

@@ -11,6 +11,8 @@ use Rattle.promises.proofs.Never.{rows-refused, no-byte-unusable}
 use Rattle.promises.proofs.Back.{written-frame, read-back, not-read-back}
 use Rattle.promises.proofs.Source.{one-source}
 use Rattle.promises.proofs.Refusing.{write-answers}
+use Rattle.promises.proofs.Reasons.{read-answers}
+use Rattle.promises.proofs.Decoded.{octets-decoded}
 use Rattle.promises.proofs.Coming.{
   front-refused,
   refused-alike,
@@ -40,6 +42,8 @@ kept = record {
   write-fills = write-fills;
   read-fills = read-fills;
   write-answers = write-answers;
+  read-answers = read-answers;
+  octets-decoded = octets-decoded;
   only-sent = only-sent;
   only-readable = only-readable;
   refused-shows = refused-shows;

@@ -4,6 +4,8 @@ pub mod Never
 pub mod Back
 pub mod Source
 pub mod Refusing
+pub mod Reasons
+pub mod Decoded
 pub mod Coming
 pub mod SentTold
 pub mod Finding

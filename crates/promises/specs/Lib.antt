@@ -3,6 +3,7 @@ pub mod Right
 pub mod Leads
 pub mod Only
 pub mod Refusing
+pub mod Reasons
 pub mod Coming
 pub mod Finding
 pub mod Promises

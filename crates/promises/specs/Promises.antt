@@ -46,6 +46,7 @@ use Rattle.promises.specs.Only.{
   NoByteUnusable,
 }
 use Rattle.promises.specs.Refusing.{WriteAnswers}
+use Rattle.promises.specs.Reasons.{ReadAnswers, OctetsDecoded}
 use Rattle.promises.specs.Coming.{
   FrontRefused,
   RefusedAlike,
@@ -159,6 +160,8 @@ pub record Promised : Type 0 where
   pub write-fills : WriteFills
   pub read-fills : ReadFills
   pub write-answers : WriteAnswers
+  pub read-answers : ReadAnswers
+  pub octets-decoded : OctetsDecoded
   pub only-sent : OnlySent
   pub only-readable : OnlyReadable
   pub refused-shows : RefusedShows

@@ -1,5 +1,6 @@
--- What any reading comes to, and why: what it is refused with and the tests that led there, or a good answer.
---     reading-comes    over the kind, the rows, the front and the payload
+-- What any reading comes to, and why: what its kind, rows or front are refused with and the tests that led there, or
+-- what its payload comes to (Payloads.antt).
+--     reading-comes    over the kind, the rows and the front
 -- By the tests of the definition, followed to their ends. Assumes nothing.
 use mathlib.Core.Path.{_≡_, refl}
 use mathlib.Core.Bool.{Bool, true, false, cond, not}
@@ -15,15 +16,8 @@ use Rattle.calls.specs.declared.Front.{Front}
 use Rattle.calls.specs.declared.Front.the-variants as front
 use Rattle.calls.specs.declared.Reading.{Reading}
 use Rattle.calls.specs.declared.Reading.the-variants.{Refused}
-use Rattle.reading.specs.Reading.{frontOf, wholeOf, afterFront, readingOf}
-use Rattle.reading.proofs.Refusals.{
-  FrontHeard,
-  WholeRefusal,
-  RefusesIf,
-  whole-refuses,
-  PayloadIf,
-  payload-comes,
-}
+use Rattle.reading.specs.Reading.{frontOf, wholeOf, payloadReading, afterFront, readingOf}
+use Rattle.reading.proofs.Refusals.{FrontHeard, WholeRefusal, RefusesIf, whole-refuses}
 
 module _ (kind : ℕ) (agree : Bool) (rec : List Taken) (room : ℕ) where
   pub data ReadingComes : Reading → Type 0 where
@@ -31,14 +25,14 @@ module _ (kind : ℕ) (agree : Bool) (rec : List Taken) (room : ℕ) where
     rows-apart : isKind kind ≡ true → agree ≡ false → ReadingComes (Refused RowsDiffer)
     by-front : {e : Refusal} → isKind kind ≡ true → agree ≡ true → WholeRefusal (kindOf kind) rec e
         → ReadingComes (Refused e)
-    by-payload : {g : Reading} → isKind kind ≡ true → agree ≡ true → (t : Told) → FrontHeard (kindOf kind) rec t
-        → frameChips (kindOf kind) (t .rate) (t .n) ≤ length rec → PayloadIf (kindOf kind) t rec room g
-        → ReadingComes g
+    by-payload : isKind kind ≡ true → agree ≡ true → (t : Told) → FrontHeard (kindOf kind) rec t
+        → frameChips (kindOf kind) (t .rate) (t .n) ≤ length rec
+        → ReadingComes (payloadReading (kindOf kind) t rec room)
 
   after : isKind kind ≡ true → agree ≡ true → (f : Front) → RefusesIf (kindOf kind) rec f
       → ReadingComes (afterFront (kindOf kind) rec room f)
   after a b (front.Refused e) h = by-front a b h
-  after a b (front.Fields t) h = by-payload a b t (h .0) (h .1) (payload-comes (kindOf kind) t rec room)
+  after a b (front.Fields t) h = by-payload a b t (h .0) (h .1)
 
   pub reading-comes : ReadingComes (readingOf kind agree rec room)
   unfolding readingOf

@@ -1,6 +1,7 @@
 -- The first place of 9 and of 10 in a whole recording: none before it, and it is one.
 --     front-unusable-first, payload-unusable-first    an unusable chip
 --     front-all-usable, payload-all-usable            and none where none was found
+--     front-even-ones                                 no odd growth where none was found
 --     front-odd-first, payload-odd-first              the first chip of a 1 Mbit/s symbol grown by 1 or 3
 -- By the laws of the two searches, and by the words that the symbols have from their own chips. Assumes nothing.
 use mathlib.Core.Path.{_≡_, refl, sym, ap, ap₂, _∙_, subst}
@@ -232,6 +233,11 @@ module _ (rec : List Taken) where
     preamble-even : firstOdd 0 grown ≡ none → (s : ℕ) → suc s < m → oddBehind rec s ≡ 0
     preamble-even e s l = sym (grown-next s l) ∙ odd-none 0 grown e (suc s) (omega (arith, l, grown-length))
 
+-- how many symbols of a front, from its first on, are at 1 Mbit/s
+abbrev pub onesOf : Kind → ℕ
+onesOf Long = 192
+onesOf Short = 72
+
 -- one search after another
 or-some : {P : Type 0} (o rest : Option ℕ) (p : ℕ) → orElse o (λ q. some q) rest ≡ some p → (o ≡ some p → P)
     → (o ≡ none → rest ≡ some p → P) → P
@@ -289,6 +295,13 @@ module _ (rec : List Taken) where
       let o = or-neither (inPreamble Long) (inHeader Long) (sym (front-search Long) ∙ e) in
       part-even rec 143 48 (headerPhase Long rec) long-header-phase
       (λ s l. preamble-even rec 144 (omega arith) (o .0) s (omega arith)) (o .1)
+
+  -- and a short one's up to the header
+  pub front-even-ones : (k : Kind) → frontOdd k rec ≡ none → (s : ℕ) → suc s < onesOf k → oddBehind rec s ≡ 0
+  front-even-ones Long e s l = long-front-even e s (omega arith)
+  front-even-ones Short e s l =
+      preamble-even rec 72 (omega arith)
+      (or-neither (inPreamble Short) (inHeader Short) (sym (front-search Short) ∙ e) .0) s l
 
   pub payload-odd-first : (k : Kind) (r : Rate) (n p : ℕ) → goesWith k r ≡ true → frontOdd k rec ≡ none
       → payloadOdd k r n rec ≡ some p → FirstOddSymbol rec p

@@ -12,3 +12,4 @@ pub mod Comes
 pub mod FirstPlaces
 pub mod Parts
 pub mod Decoding
+pub mod Fields
