@@ -51,8 +51,8 @@ class Spec:
                 head, comment = False, []
                 continue
             head = False
-            if re.match(r'module\b', line):
-                inner, current, comment = 2, None, []
+            if re.match(r' *module\b', line):
+                inner, current, comment = len(line) - len(line.lstrip()) + 2, None, []
                 continue
             name = self.begins(line, inner, current)
             if name:

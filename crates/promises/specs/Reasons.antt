@@ -120,12 +120,19 @@ pub data ReadAnswer (kind : ℕ) (agree : Bool) (rec : List Taken) (room : ℕ) 
       → front + octet * n ≤ length rec → n ≤ room → ((q : ℕ) → q < front + octet * n → UsableAt rec q)
       → ReadAnswer kind agree rec room (good rate l n (front + octet * n) (service / 4 % 2) lead symbol)
 
+-- promise: A read answers by the numbers, in their order, each exactly for its reason: 9 and 10 with the first such
+-- place, LENGTH as the header has it from 13 on and 0 before; else what the header says
+-- rule: 1.4 (1), 4.7, 5.3 to 5.7, 6.2 to 6.8, 6.10
+-- code: dsss_read_hard_3, dsss_read_soft_3, dsss_read_bytes_3
+-- with: ReadAnswer
 abbrev pub ReadAnswers : Type 0
 ReadAnswers =
     (kind : ℕ) (agree : Bool) (rec : List Taken) (room : ℕ) (a : Record) (left : List ℕ)
     → Read kind agree rec room a left → ReadAnswer kind agree rec room a
 
--- the octets of any good read: octet j is the number of the frame's bits from 8 j behind the header on
+-- promise: Each octet of any good read, of spoiled frames too, is what the symbols of its frame say, bit by bit
+-- rule: 1.4 (2), 4.3, 4.6, 4.7, 5.3, 5.5, 5.7
+-- code: dsss_read_hard_3, dsss_read_soft_3, dsss_read_bytes_3
 abbrev pub OctetsDecoded : Type 0
 OctetsDecoded =
     (kind : ℕ) (agree : Bool) (rec : List Taken) (room : ℕ) (a : Record) (left : List ℕ)

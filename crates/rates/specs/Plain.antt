@@ -11,7 +11,6 @@ pub data LengthOf : ℕ → ℕ → ℕ → Type 0 where
   length-5 : (n l : ℕ) → 16 * n ≤ 11 * l → 11 * l < 16 * n + 11 → LengthOf 55 n l
   length-11 : (n l : ℕ) → 8 * n ≤ 11 * l → 11 * l < 8 * n + 11 → LengthOf 110 n l
 
--- working notion: bit 7 of a LENGTH, for the laws of bit 7 and of refusal 15
 -- and bit 7 beside it: at 11 Mbit/s 1 exactly where rounding added 8/11 or more, at the other rates 0
 pub data SevenOf : ℕ → ℕ → ℕ → ℕ → Type 0 where
   seven-no : (rate n l : ℕ) → (rate ≡ 110 → ⊥) → SevenOf rate n l 0

@@ -39,7 +39,6 @@ symbolBits Five = 4
 symbolBits Eleven = 8
 
 -- so an octet is eight, four, two or one symbols
--- working notion: of the code, which goes by octets
 abbrev pub octetSymbols : Rate → ℕ
 octetSymbols One = 8
 octetSymbols Two = 4
