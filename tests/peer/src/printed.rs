@@ -246,12 +246,31 @@ fn pipes(random: &mut Random) -> Vec<Leads> {
     pipes.into_iter().map(as_pipe).collect()
 }
 
-/// Many files, most of them short: `len` recordings, the last a frame of the smallest lead.
-fn many(len: usize, random: &mut Random) -> Vec<Leads> {
-    let mut list: Vec<Leads> = (1..len).map(|_| Leads::of(&cheap(random))).collect();
-    list[len / 2] = Leads::of(&led_by(5, random));
-    list.push(Leads::of(&led_by(2, random)));
+/// Many names, of few files, most of them short: `len` recordings, the last a frame of the smallest lead.
+fn many(len: usize, random: &mut Random) -> Vec<Named> {
+    let few = recorded(&(0..40).map(|_| cheap(random)).collect::<Vec<_>>());
+    let mut list: Vec<Named> = few.into_iter().cycle().take(len).collect();
+    list[len / 2] = (b"led by 5".to_vec(), Leads::of(&led_by(5, random)));
+    list[len - 1] = (b"led by 2".to_vec(), Leads::of(&led_by(2, random)));
     list
+}
+
+/// Runs at and around a thousand recordings.
+fn thousands(random: &mut Random) -> Vec<Vec<Named>> {
+    let mut runs = Vec::new();
+    for len in [999, 1000, 1001, 1002] {
+        runs.push(many(len, random));
+    }
+    let missing = (b"missing".to_vec(), Leads::Nothing);
+    runs.push(many(1007, random).into_iter().chain([missing.clone()]).collect());
+    // A thousand and some that are left out, so that the last one counts; and one more before it.
+    for len in [1000, 1001] {
+        let mut files = many(len, random);
+        let others = [(b"folder".to_vec(), Leads::Folder), (b"empty".to_vec(), Leads::File(Vec::new()))];
+        [missing.clone()].into_iter().chain(others).for_each(|other| files.insert(7, other));
+        runs.push(files);
+    }
+    runs
 }
 
 /// The runs: what each is asked to read.
@@ -280,18 +299,9 @@ fn runs(random: &mut Random) -> Vec<Vec<Named>> {
     runs.extend(oddly_named(random));
     runs.extend(pipes(random).into_iter().map(|pipe| numbered([Leads::of(&cheap(random)), pipe])));
     runs.push(numbered(pipes(random)));
-    for len in [999, 1000, 1001, 1002] {
-        runs.push(numbered(many(len, random)));
-    }
-    runs.push(numbered(many(1007, random).into_iter().chain([Leads::Nothing])));
     // More left out than may be open.
     runs.push(numbered((0..140).map(|at| if at % 2 == 0 { Leads::Folder } else { Leads::File(Vec::new()) })));
-    // A thousand and some that are left out, so that the last one counts; and one more before it.
-    for len in [1000, 1001] {
-        let mut leads = many(len, random);
-        [Leads::Nothing, Leads::Folder, Leads::File(Vec::new())].into_iter().for_each(|other| leads.insert(7, other));
-        runs.push(numbered(leads));
-    }
+    runs.extend(thousands(random));
     runs
 }
 
@@ -310,10 +320,10 @@ fn lay_pipe(path: PathBuf, octets: Vec<u8>) -> io::Result<()> {
     Ok(())
 }
 
-/// Lays the files of a run into its folder.
+/// Lays the files of a run into its folder, each once.
 fn lay(folder: &Path, files: &[Named]) -> io::Result<()> {
     fs::create_dir_all(folder)?;
-    for (name, leads) in files {
+    for (name, leads) in files.iter().map(|(name, leads)| (name, leads)).collect::<BTreeMap<_, _>>() {
         let path = folder.join(OsString::from_vec(name.clone()));
         match leads {
             Leads::File(octets) => fs::write(path, octets)?,
@@ -361,9 +371,9 @@ pub fn compare(command: &[String], until_first: bool) -> Result<(), String> {
     let folder = std::env::temp_dir().join(format!("month-{}", std::process::id()));
     let (mut met, mut faults, start) = (Met::new(), 0, Instant::now());
     let runs = runs(&mut Random::new(1501));
-    // The first ones twice, the second time with an output that takes nothing.
-    let twice = runs.iter().take(16).map(|files| (files, true));
-    let cases: Vec<(&Vec<Named>, bool)> = runs.iter().map(|files| (files, false)).chain(twice).collect();
+    // The first ones twice, at first with an output that takes nothing.
+    let full = runs.iter().take(16).map(|files| (files, true));
+    let cases: Vec<(&Vec<Named>, bool)> = full.chain(runs.iter().map(|files| (files, false))).collect();
     for (case, (files, full)) in cases.iter().enumerate() {
         count(files, &mut met);
         let fault = fault(&command, &folder.join(case.to_string()), files, *full);
