@@ -41,7 +41,8 @@ decoded kind rec room (reading.Good t used least) z at sfd ones b j l =
     octets : List ℕ
     octets = payloadOf (kindOf kind) (t .rate) (t .n) rec
 
-    place : {kind at sfd ones : ℕ} → BitsOf kind at sfd ones → syncBits (kindOf kind) + 16 + 48 + 8 * j ≡ at + 64 + 8 * j
+    place : {kind at sfd ones : ℕ} → BitsOf kind at sfd ones
+        → syncBits (kindOf kind) + 16 + 48 + 8 * j ≡ at + 64 + 8 * j
     place long-bits = omega arith
     place short-bits = omega arith
 
