@@ -10,9 +10,11 @@ use Rattle.rates.specs.declared.Rate.the-variants.{One}
 use Rattle.rates.specs.Rates.{rateOf}
 use Rattle.rates.specs.Plain.{LengthOf, SevenOf}
 use Rattle.chips.specs.Chips.{Taken}
-use Rattle.frame.specs.Frame.{kindOf}
+use Rattle.bits.specs.Bits.{numberOf}
+use Rattle.bits.specs.Crc.{crcBits}
+use Rattle.frame.specs.Frame.{kindOf, fieldBits}
 use Rattle.calls.specs.declared.Record.{Record}
-use Rattle.reading.specs.Places.{UnusableFirst, FirstOddSymbol}
+use Rattle.reading.specs.Places.{UsableAt, UnusableFirst, FirstOddSymbol}
 use Rattle.reading.specs.Decoded.{FieldAt}
 use Rattle.reading.proofs.Once.{field-once}
 use Rattle.promises.specs.Calls.{Read, Goes}
@@ -24,6 +26,7 @@ use Rattle.promises.specs.Reasons.{
   FrontField,
   ServiceOf,
   HasHeader,
+  HasPayload,
   ReadAnswer,
   is-1,
   is-7,
@@ -206,6 +209,114 @@ module _ (kind : ℕ) (agree : Bool) (rec : List Taken) (room : ℕ) where
   eleven (payload-10 h t m v r g d o) e at sfd ones b f = omega (arith, e)
   eleven (is-0 lead symbol h t m u) e at sfd ones b f = omega (arith, e)
 
+  -- 12 that the CRC is none of the three fields
+  twelve : {a : Record} → Answer a → a .number ≡ 12 → (at sfd ones signal service l : ℕ) → BitsOf kind at sfd ones
+      → FrontField kind rec (at + 16) 8 signal → FrontField kind rec (at + 24) 8 service
+      → FrontField kind rec (at + 32) 16 l
+      → FrontField kind rec (at + 48) 16 (numberOf (crcBits (fieldBits signal service l))) → ⊥
+  twelve (is-1 h) e at sfd ones signal service l b x y z w = omega (arith, e)
+  twelve (is-7 h d) e at sfd ones signal service l b x y z w = omega (arith, e)
+  twelve (is-8 g d h) e at sfd ones signal service l b x y z w = omega (arith, e)
+  twelve (front-9 g h u) e at sfd ones signal service l b x y z w = omega (arith, e)
+  twelve (front-10 g u h o) e at sfd ones signal service l b x y z w = omega (arith, e)
+  twelve (is-11 c g d) e at sfd ones signal service l b x y z w = omega (arith, e)
+  twelve (is-12 c g s v h o d) e at sfd ones signal service l b x y z w =
+      let q = sym (one-bits (c .bits-are) b .0) in
+      let k = kindOf kind in
+      let sum = numberOf (crcBits (fieldBits signal service l)) in
+      d (field-once k One rec 0 o (subst (λ (i : ℕ). FrontField kind rec (i + 48) 16 sum) q w)
+      ∙ (λ i. numberOf (crcBits (fieldBits
+      (field-once k One rec 0 (subst (λ (j : ℕ). FrontField kind rec (j + 16) 8 signal) q x) s i)
+      (field-once k One rec 0 (subst (λ (j : ℕ). FrontField kind rec (j + 24) 8 service) q y) v i)
+      (field-once k One rec 0 (subst (λ (j : ℕ). FrontField kind rec (j + 32) 16 l) q z) h i)))))
+  twelve (is-13 h d) e at sfd ones signal service l b x y z w = omega (arith, e)
+  twelve (is-14 h g d) e at sfd ones signal service l b x y z w = omega (arith, e)
+  twelve (is-15 h g s d) e at sfd ones signal service l b x y z w = omega (arith, e)
+  twelve (is-16 h d) e at sfd ones signal service l b x y z w = omega (arith, e)
+  twelve (is-17 h d m) e at sfd ones signal service l b x y z w = omega (arith, e)
+  twelve (payload-9 h t m g d u) e at sfd ones signal service l b x y z w = omega (arith, e)
+  twelve (payload-10 h t m v r g d o) e at sfd ones signal service l b x y z w = omega (arith, e)
+  twelve (is-0 lead symbol h t m u) e at sfd ones signal service l b x y z w = omega (arith, e)
+
+  -- a good answer is what the header says: rate, LENGTH, n and the clock bit, and its SERVICE is allowed
+  pub record Heads (a : Record) : Type 0 where
+    service : ℕ
+    header : HasHeader kind agree rec (a .rate) service (a .length)
+    service-of : ServiceOf (a .rate) service
+    clock-is : a .clock ≡ service / 4 % 2
+    seven-of : SevenOf (a .rate) (a .n) (a .length) (service / 128 % 2)
+    usable : (q : ℕ) → q < a .used → UsableAt rec q
+
+  heads : {a : Record} → Answer a → a .number ≡ 0 → Heads a
+  heads (is-1 h) e = absurd (omega (arith, e))
+  heads (is-7 h d) e = absurd (omega (arith, e))
+  heads (is-8 g d h) e = absurd (omega (arith, e))
+  heads (front-9 g h u) e = absurd (omega (arith, e))
+  heads (front-10 g u h o) e = absurd (omega (arith, e))
+  heads (is-11 b g d) e = absurd (omega (arith, e))
+  heads (is-12 b g s v h c d) e = absurd (omega (arith, e))
+  heads (is-13 h d) e = absurd (omega (arith, e))
+  heads (is-14 h g d) e = absurd (omega (arith, e))
+  heads (is-15 h g s d) e = absurd (omega (arith, e))
+  heads (is-16 h d) e = absurd (omega (arith, e))
+  heads (is-17 h d m) e = absurd (omega (arith, e))
+  heads (payload-9 h t m g d u) e = absurd (omega (arith, e))
+  heads (payload-10 h t m v r g d o) e = absurd (omega (arith, e))
+  heads (is-0 lead symbol h t m u) e = record {
+    service = _;
+    header = h .header;
+    service-of = h .service-of;
+    clock-is = refl;
+    seven-of = h .seven-of;
+    usable = u;
+  }
+
+  -- 16 and 17: of n octets that the header tells of the recording lacks chips, or the buffer room
+  pub record Lacks (a : Record) : Type 0 where
+    rate : ℕ
+    service : ℕ
+    n : ℕ
+    front : ℕ
+    octet : ℕ
+    has : HasPayload kind agree rec rate service (a .length) n front octet
+    chips : a .number ≡ 16 → length rec < front + octet * n
+    buffer : a .number ≡ 17 → room < n
+
+  lacks : {a : Record} → Answer a → 16 ≤ a .number → Lacks a
+  lacks (is-1 h) e = absurd (omega (arith, e))
+  lacks (is-7 h d) e = absurd (omega (arith, e))
+  lacks (is-8 g d h) e = absurd (omega (arith, e))
+  lacks (front-9 g h u) e = absurd (omega (arith, e))
+  lacks (front-10 g u h o) e = absurd (omega (arith, e))
+  lacks (is-11 b g d) e = absurd (omega (arith, e))
+  lacks (is-12 b g s v h c d) e = absurd (omega (arith, e))
+  lacks (is-13 h d) e = absurd (omega (arith, e))
+  lacks (is-14 h g d) e = absurd (omega (arith, e))
+  lacks (is-15 h g s d) e = absurd (omega (arith, e))
+  lacks (is-16 h d) e = record {
+    rate = _;
+    service = _;
+    n = _;
+    front = _;
+    octet = _;
+    has = h;
+    chips = λ x. d;
+    buffer = λ x. absurd (omega (arith, x));
+  }
+  lacks (is-17 h d m) e = record {
+    rate = _;
+    service = _;
+    n = _;
+    front = _;
+    octet = _;
+    has = h;
+    chips = λ x. absurd (omega (arith, x));
+    buffer = λ x. m;
+  }
+  lacks (payload-9 h t m g d u) e = absurd (omega (arith, e))
+  lacks (payload-10 h t m v r g d o) e = absurd (omega (arith, e))
+  lacks (is-0 lead symbol h t m u) e = absurd (omega (arith, e))
+
 -- ---- of a read, whatever recorded
 module _ (kind : ℕ) (agree : Bool) (rec : List Taken) (room : ℕ) (a : Record) (left : List ℕ)
     (f : Read kind agree rec room a left) where
@@ -227,6 +338,18 @@ module _ (kind : ℕ) (agree : Bool) (rec : List Taken) (room : ℕ) (a : Record
 
   pub other-sfd : a .number ≡ 11 → (at sfd ones : ℕ) → BitsOf kind at sfd ones → FrontField kind rec at 16 sfd → ⊥
   other-sfd = eleven kind agree rec room says
+
+  pub other-crc : a .number ≡ 12 → (at sfd ones signal service l : ℕ) → BitsOf kind at sfd ones
+      → FrontField kind rec (at + 16) 8 signal → FrontField kind rec (at + 24) 8 service
+      → FrontField kind rec (at + 32) 16 l
+      → FrontField kind rec (at + 48) 16 (numberOf (crcBits (fieldBits signal service l))) → ⊥
+  other-crc = twelve kind agree rec room says
+
+  pub good-heads : a .number ≡ 0 → Heads kind agree rec room a
+  good-heads = heads kind agree rec room says
+
+  pub what-lacks : 16 ≤ a .number → Lacks kind agree rec room a
+  what-lacks = lacks kind agree rec room says
 
   -- octets: no other numbers are those of the frame's bits, 192 bits behind a long frame's first and 120 behind a short
   pub octet-only : a .number ≡ 0 → (at sfd ones : ℕ) → BitsOf kind at sfd ones → (j v : ℕ) → j < a .n
