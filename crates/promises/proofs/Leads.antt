@@ -132,7 +132,7 @@ module _ (k : Kind) (r : Rate) (n : ℕ) (rec : List Taken) where
 
   symbol-word : {s at w : ℕ} {q : Rate} → SymbolOf k r n rec s q at w → w ≡ decided q (countsFrom q at rec)
   unfolding preambleWords headerWords payloadWords
-  symbol-word (of-preamble j h) = word-at One (preambleLength k) j rec h
+  symbol-word (of-preamble j h) = word-at One (preambleLength k) j rec (omega arith)
   symbol-word (of-header j h) = word-from (headerRate k) headers (preambleChips k) j rec h
   symbol-word (of-payload j h) = word-from r payloads (frontChips k) j rec h
 
@@ -148,7 +148,7 @@ module _ (k : Kind) (r : Rate) (n : ℕ) (rec : List Taken) where
   symbol-lead (of-preamble j h) =
       in-front j (omega (arith, front-symbols k))
       ∙ List·getD-append preamble header 0 j (omega (arith, leads-length One (preambleLength k) rec))
-      ∙ lead-from One (preambleLength k) 0 j rec h
+      ∙ lead-from One (preambleLength k) 0 j rec (omega arith)
       ∙ ap (λ (x : ℕ). leadOf One (countsFrom One x rec)) (zero-add (j * symbolChips One))
   symbol-lead (of-header j h) =
       in-front (preambleLength k + j) (omega (arith, front-symbols k))

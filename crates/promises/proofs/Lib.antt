@@ -23,3 +23,4 @@ pub mod UsesRight
 pub mod UsesLeads
 pub mod UsesComing
 pub mod UsesFinding
+pub mod UsesReasons

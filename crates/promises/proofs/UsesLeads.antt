@@ -148,6 +148,21 @@ pub first-takes-part : (k : Kind) (r : Rate) (n : ℕ) (rec : List Taken)
 first-takes-part Long r n rec = of-preamble 0 (omega arith)
 first-takes-part Short r n rec = of-preamble 0 (omega arith)
 
+-- so does the preamble's last, number 143 or 71: no good read tells a lead above its own
+pub preamble-ends-at : (r : Rate) (n : ℕ) (rec : List Taken)
+    → SymbolOf Long r n rec 143 One 1573 (getD (preambleWords Long rec) 143 0)
+    × SymbolOf Short r n rec 71 One 781 (getD (preambleWords Short rec) 71 0)
+preamble-ends-at r n rec = (of-preamble 143 (omega arith), of-preamble 71 (omega arith))
+
+pub last-of-preamble : (agree : Bool) (rec : List Taken) (room : ℕ) (a : Record) (left : List ℕ)
+    → Read 0 agree rec room a left → a .number ≡ 0 → (own : ℕ)
+    → LeadsBy One (countsFrom One 1573 rec) (getD (preambleWords Long rec) 143 0) own → a .lead ≤ own
+last-of-preamble agree rec room a left f z own by =
+    let x = preamble-ends-at (rateOf (a .rate)) (a .n) rec .0 in
+    let e = kept .least-told 0 agree rec room a left f z .each 143 One 1573 _ x in
+    let d = leads-once One (countsFrom One 1573 rec) _ own (e .own) by (e .by) in
+    omega (arith, d, e .low)
+
 pub header-takes-part : (r : Rate) (n : ℕ) (rec : List Taken)
     → SymbolOf Short r n rec 95 Two 1045 (getD (headerWords Short rec) 23 0)
 header-takes-part r n rec = of-header 23 (omega arith)

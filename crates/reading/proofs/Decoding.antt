@@ -82,17 +82,17 @@ module _ (k : Kind) (r : Rate) (rec : List Taken) (n : ℕ) where
   within = omega (arith, front-symbols k)
 
   -- ---- the symbols, by where they stand
-  in-preamble : (s : ℕ) → s < P → (rateAt k r s ≡ One) × (placeAt k r s ≡ 11 * s) × (bitAt k r s ≡ s)
+  pub in-preamble : (s : ℕ) → s < P → (rateAt k r s ≡ One) × (placeAt k r s ≡ 11 * s) × (bitAt k r s ≡ s)
   in-preamble s h =
       (rw (lt-ltb s P h), rw (lt-ltb s F (omega (arith, within))), rw (lt-ltb s P h))
 
-  in-header : (s : ℕ) → P ≤ s → s < F
+  pub in-header : (s : ℕ) → P ≤ s → s < F
       → (rateAt k r s ≡ headerRate k) × (placeAt k r s ≡ 11 * s)
       × (bitAt k r s ≡ P + symbolBits (headerRate k) * (s - P))
   in-header s l h =
       (rw (le-ltb s P l, lt-ltb s F h), rw (lt-ltb s F h), rw (le-ltb s P l, lt-ltb s F h))
 
-  in-payload : (s : ℕ) → F ≤ s
+  pub in-payload : (s : ℕ) → F ≤ s
       → (rateAt k r s ≡ r) × (placeAt k r s ≡ frontChips k + symbolChips r * (s - F))
       × (bitAt k r s ≡ P + headerLength + symbolBits r * (s - F))
   in-payload s l =

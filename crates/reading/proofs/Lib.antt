@@ -13,3 +13,4 @@ pub mod FirstPlaces
 pub mod Parts
 pub mod Decoding
 pub mod Fields
+pub mod Once

@@ -7,15 +7,13 @@
 use mathlib.Core.Path.{_≡_, refl, ap, _∙_, subst}
 use mathlib.Core.List.{List, [], _∷_}
 use mathlib.Core.Option.{Option, none, some}
-use Prim.Native.Nat.{ℕ, zero, suc, _+_, _-_, _*_, _/_, _%_, _≤_, _<_}
+use Prim.Native.Nat.{ℕ, zero, suc, _+_, _-_, _*_, _/_, _≤_, _<_}
 use native.Mathlib.Omega.{arith}
-use lib.Dec.{eqb}
 use lib.ListN.{length, take, drop}
-use Rattle.base.proofs.Tests.{branch}
 use Rattle.rates.specs.declared.Rate.{Rate}
 use Rattle.rates.specs.declared.Rate.the-variants.{One, Two, Five, Eleven}
 use Rattle.rates.specs.Rates.{symbolChips, symbolBits, octetChips}
-use Rattle.chips.specs.Chips.{Taken, isUnusable}
+use Rattle.chips.specs.Chips.{Taken}
 use Rattle.bits.specs.Growths.{growthsOf}
 use Rattle.bits.proofs.Heard.{growthsOf-length}
 use Rattle.frame.specs.declared.Kind.{Kind}
@@ -41,6 +39,7 @@ use Rattle.reading.specs.Reading.{
 use Rattle.reading.proofs.Local.{preamble-fits, header-fits}
 use Rattle.reading.proofs.Payloads.{foundUnusable}
 use Rattle.reading.proofs.Telling.{searched}
+use Rattle.reading.proofs.First.{unusable-first, odd-first}
 use Rattle.reading.proofs.Refusals.{
   FrontRefusal,
   front-short,
@@ -74,24 +73,27 @@ within-wider at at′ to to′ (some p) a b h = (omega (arith, a, h .0), omega (
 within-at : {at to p : ℕ} {o : Option ℕ} → Inside at to o → o ≡ some p → (at ≤ p) × (p < to)
 within-at {at} {to} h e = subst (Inside at to) e h
 
+few : (n : ℕ) (cs : List Taken) → length (take n cs) ≤ n
+few zero cs = omega arith
+few (suc n) [] = omega arith
+few (suc n) (c ∷ cs) = omega (arith, few n cs)
+
 unusable-within : (at n : ℕ) (cs : List Taken) → Inside at (at + n) (firstUnusable at (take n cs))
-unfolding firstUnusable
-unusable-within at zero cs = tt
-unusable-within at (suc n) [] = tt
-unusable-within at (suc n) (c ∷ cs) =
-    branch (Inside at (at + suc n)) (isUnusable c) (some at) (firstUnusable (suc at) (take n cs))
-    (omega arith, omega arith)
-    (λ b. within-wider at (suc at) (at + suc n) (suc at + n) (firstUnusable (suc at) (take n cs))
-    (omega arith) (omega arith) (unusable-within (suc at) n cs))
+unusable-within at n cs = go (firstUnusable at (take n cs)) refl
+  where
+    go : (o : Option ℕ) → firstUnusable at (take n cs) ≡ o → Inside at (at + n) o
+    go none e = tt
+    go (some p) e =
+        let f = unusable-first at (take n cs) p e in
+        (omega (arith, f .place-is), omega (arith, f .place-is, f .inside, few n cs))
 
 odd-within : (at : ℕ) (gs : List ℕ) → Inside at (at + 11 * length gs) (firstOdd at gs)
-unfolding firstOdd
-odd-within at [] = tt
-odd-within at (g ∷ gs) =
-    branch (Inside at (at + 11 * suc (length gs))) (eqb (g % 2) 1) (some at) (firstOdd (at + 11) gs)
-    (omega arith, omega arith)
-    (λ b. within-wider at (at + 11) (at + 11 * suc (length gs)) (at + 11 + 11 * length gs) (firstOdd (at + 11) gs)
-    (omega arith) (omega arith) (odd-within (at + 11) gs))
+odd-within at gs = go (firstOdd at gs) refl
+  where
+    go : (o : Option ℕ) → firstOdd at gs ≡ o → Inside at (at + 11 * length gs) o
+    go none e = tt
+    go (some p) e =
+        let f = odd-first at gs p e in (omega (arith, f .place-is), omega (arith, f .place-is, f .inside))
 
 -- of m symbols of a rate
 growths-within : (r : Rate) (at p m : ℕ) (cs : List Taken)

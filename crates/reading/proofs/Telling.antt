@@ -13,7 +13,6 @@ use Rattle.rates.specs.Rates.{lengthField}
 use Rattle.chips.specs.Chips.{Taken}
 use Rattle.frame.specs.declared.Kind.{Kind}
 use Rattle.frame.specs.Frame.{goesWith, frontChips, frameChips}
-use Rattle.calls.specs.declared.Refusal.the-variants.{Unusable, OddGrowth}
 use Rattle.calls.specs.declared.Told.{Told}
 use Rattle.calls.specs.declared.Front.{Front}
 use Rattle.calls.specs.declared.Front.the-variants.{Refused, Fields}
@@ -61,9 +60,8 @@ pub front-telling : (k : Kind) (rec : List Taken) → TellingIf k (frontOf k rec
 unfolding frontOf
 front-telling k rec =
     branch (TellingIf k) (ltb (length rec) (frontChips k)) _ _ tt
-    (λ a. searched (TellingIf k) (firstUnusable 0 (take (frontChips k) rec)) (λ p. Refused (Unusable p 0)) _
-    (λ p e. tt)
-    (searched (TellingIf k) (frontOdd k rec) (λ p. Refused (OddGrowth p 0)) _ (λ p e. tt) (header-telling k _ _)))
+    (λ a. searched (TellingIf k) (firstUnusable 0 (take (frontChips k) rec)) _ _ (λ p e. tt)
+    (searched (TellingIf k) (frontOdd k rec) _ _ (λ p e. tt) (header-telling k _ _)))
 
 -- and behind refusal 16, that the recording has the frame's chips
 pub record TellingWhole (k : Kind) (rec : List Taken) (t : Told) : Type 0 where
