@@ -43,20 +43,20 @@ octets-row n bs raw e =
     (λ j h. let k : j < n = omega (arith, length-tabulate (λ (j : ℕ). getD raw (j + 1) 0) n) in
     getD-tabulate (λ j. getD raw (j + 1) 0) n j 0 k ∙ e j k)
 
-module _ (r : Rate) (n : ℕ) (l : Line) (ws raw : List ℕ) (size : length (heard r 0 (l .phase) ws) ≡ 8 * n)
+module _ (r : Rate) (f n : ℕ) (l : Line) (ws raw : List ℕ) (size : length (heard r f (l .phase) ws) ≡ 8 * n)
     (first : getD raw 0 0 ≡ l .past)
-    (row : (j : ℕ) → j < n → getD raw (j + 1) 0 ≡ getD (octetsOf n (heard r 0 (l .phase) ws)) j 0) where
-  all-bits : octetBits (behind raw n) ≡ heard r 0 (l .phase) ws
+    (row : (j : ℕ) → j < n → getD raw (j + 1) 0 ≡ getD (octetsOf n (heard r f (l .phase) ws)) j 0) where
+  all-bits : octetBits (behind raw n) ≡ heard r f (l .phase) ws
   all-bits =
-      ap octetBits (octets-row n (heard r 0 (l .phase) ws) raw row)
-      ∙ octets-bits n (heard r 0 (l .phase) ws) (omega arith) (heard-below r 0 (l .phase) ws)
+      ap octetBits (octets-row n (heard r f (l .phase) ws) raw row)
+      ∙ octets-bits n (heard r f (l .phase) ws) (omega arith) (heard-below r f (l .phase) ws)
       ∙ take-all (8 * n) _ (omega arith)
 
-  row-octets : plain n (getD raw 0 0) (behind raw n) ≡ plainOctets r n l ws
+  row-octets : plain n (getD raw 0 0) (behind raw n) ≡ plainOctets r f n l ws
   unfolding plain
   row-octets = ap₂ {C = List ℕ} (λ q bs. octetsOf n (descramble (pastOf q) bs)) first all-bits
 
-  row-past : pastOf (getD raw n 0) ≡ take 8 (pastAfter (pastOf (l .past)) (heard r 0 (l .phase) ws))
+  row-past : pastOf (getD raw n 0) ≡ take 8 (pastAfter (pastOf (l .past)) (heard r f (l .phase) ws))
   row-past =
       sym
       (ap₂ {C = List ℕ} (λ q bs. take 8 (pastAfter (pastOf q) bs)) (sym first) (sym all-bits)
@@ -86,12 +86,12 @@ grown-small Two k p q = quarter _
 grown-small Five k p q = quarter _
 grown-small Eleven k p q = quarter _
 
-pub growths-low : (r : Rate) (ps g : List ℕ)
-    → g ≡ tabulate (λ j. grownFor r j (getD ps j 0) (getD ps (j + 1) 0)) 64 → Below 4 g
-growths-low r ps g e = record {
+pub growths-low : (r : Rate) (f : ℕ) (ps g : List ℕ)
+    → g ≡ tabulate (λ j. grownFor r (f + j) (getD ps j 0) (getD ps (j + 1) 0)) 64 → Below 4 g
+growths-low r f ps g e = record {
   at = λ i. rw e
-      (tabulate-all (λ (x : ℕ). x < 4) (λ j. grownFor r j (getD ps j 0) (getD ps (j + 1) 0)) 64 0 (omega arith)
-      (λ j. grown-small r j _ _) i);
+      (tabulate-all (λ (x : ℕ). x < 4) (λ j. grownFor r (f + j) (getD ps j 0) (getD ps (j + 1) 0)) 64 0 (omega arith)
+      (λ j. grown-small r (f + j) _ _) i);
 }
 
 pub codes-low : (r : Rate) (g ns cs : List ℕ) → Below 4 g
@@ -118,10 +118,11 @@ phase-small Eleven n h = omega arith
 -- ---- the block
 
 module _
-    (r : Rate) (l : Line) (n : ℕ) (ns ps g cs raw : List ℕ) (room : octetSymbols r * n ≤ 64) (all : length ns ≡ 64)
+    (r : Rate) (f : ℕ) (l : Line) (n : ℕ) (ns ps g cs raw : List ℕ) (room : octetSymbols r * n ≤ 64)
+    (all : length ns ≡ 64)
     (words : AreWords r (take (octetSymbols r * n) ns))
     (is-ps : ps ≡ tabulate (phaseBefore r (l .phase) ns) 65)
-    (is-g : g ≡ tabulate (λ j. grownFor r j (getD ps j 0) (getD ps (j + 1) 0)) 64)
+    (is-g : g ≡ tabulate (λ j. grownFor r (f + j) (getD ps j 0) (getD ps (j + 1) 0)) 64)
     (is-c : cs ≡ tabulate (λ j. numberOf (wordBits r (getD g j 0) (getD ns j 0))) 64)
     (is-raw : take (n + 1) raw ≡ tabulate (octetAfter r (l .past) cs) (n + 1)) where
   abbrev m : ℕ
@@ -147,18 +148,18 @@ module _
         ∙ phase-small r (getD ws j 0) (words .at j);
   }
 
-  grown-at : (j : ℕ) → j < m → getD g j 0 ≡ grownFor r j (getD ps j 0) (getD ps (j + 1) 0)
+  grown-at : (j : ℕ) → j < m → getD g j 0 ≡ grownFor r (f + j) (getD ps j 0) (getD ps (j + 1) 0)
   grown-at j h =
       ap (λ (xs : List ℕ). getD xs j 0) is-g
-      ∙ getD-tabulate (λ j. grownFor r j (getD ps j 0) (getD ps (j + 1) 0)) 64 j 0 (omega arith)
+      ∙ getD-tabulate (λ j. grownFor r (f + j) (getD ps j 0) (getD ps (j + 1) 0)) 64 j 0 (omega arith)
 
-  code-at : (j : ℕ) → j < m → getD cs j 0 ≡ numberOf (heardBits r j (getD ps j 0) (getD ws j 0))
+  code-at : (j : ℕ) → j < m → getD cs j 0 ≡ numberOf (heardBits r (f + j) (getD ps j 0) (getD ws j 0))
   code-at j h =
       ap (λ (xs : List ℕ). getD xs j 0) is-c
       ∙ getD-tabulate (λ j. numberOf (wordBits r (getD g j 0) (getD ns j 0))) 64 j 0 (omega arith)
       ∙ ap₂ {C = ℕ} (λ x y. numberOf (wordBits r x y))
-      (grown-at j h ∙ ap (grownFor r j (getD ps j 0)) (phases .at j h)) (sym (word-at j h))
-      ∙ ap numberOf (sym (word-bits r j (getD ps j 0) (getD ws j 0)))
+      (grown-at j h ∙ ap (grownFor r (f + j) (getD ps j 0)) (phases .at j h)) (sym (word-at j h))
+      ∙ ap numberOf (sym (word-bits r (f + j) (getD ps j 0) (getD ws j 0)))
 
   raw-at : (j : ℕ) → j < n + 1 → getD raw j 0 ≡ octetAfter r (l .past) cs j
   raw-at j h =
@@ -166,25 +167,25 @@ module _
       ∙ ap (λ (xs : List ℕ). getD xs j 0) is-raw
       ∙ getD-tabulate (octetAfter r (l .past) cs) (n + 1) j 0 h
 
-  row : (j : ℕ) → j < n → getD raw (j + 1) 0 ≡ getD (octetsOf n (heard r 0 (l .phase) ws)) j 0
+  row : (j : ℕ) → j < n → getD raw (j + 1) 0 ≡ getD (octetsOf n (heard r f (l .phase) ws)) j 0
   row j h =
       raw-at (j + 1) (omega arith)
       ∙ ap (octetAfter r (l .past) cs) (add-one j)
-      ∙ octet-row ws ps long phases cs (omega (
+      ∙ octet-row ws ps long phases f cs (omega (
         arith,
         ap length is-c,
         length-tabulate
             (λ (j : ℕ). numberOf (wordBits r (getD g j 0) (getD ns j 0))) 64,
       )) code-at n refl j h (octet-room r j n m h (omega arith))
 
-  size : length (heard r 0 (l .phase) ws) ≡ 8 * n
-  size = heard-length r 0 (l .phase) ws ∙ ap (λ (k : ℕ). symbolBits r * k) long ∙ part-bits r n
+  size : length (heard r f (l .phase) ws) ≡ 8 * n
+  size = heard-length r f (l .phase) ws ∙ ap (λ (k : ℕ). symbolBits r * k) long ∙ part-bits r n
 
-  block-past : pastOf (getD raw n 0) ≡ take 8 (pastAfter (pastOf (l .past)) (heard r 0 (l .phase) ws))
-  block-past = row-past r n l ws raw size (raw-at 0 (omega arith)) row
+  block-past : pastOf (getD raw n 0) ≡ take 8 (pastAfter (pastOf (l .past)) (heard r f (l .phase) ws))
+  block-past = row-past r f n l ws raw size (raw-at 0 (omega arith)) row
 
-  pub block-octets : plain n (getD raw 0 0) (behind raw n) ≡ plainOctets r n l ws
-  block-octets = row-octets r n l ws raw size (raw-at 0 (omega arith)) row
+  pub block-octets : plain n (getD raw 0 0) (behind raw n) ≡ plainOctets r f n l ws
+  block-octets = row-octets r f n l ws raw size (raw-at 0 (omega arith)) row
 
   block-phase : getD ps m 0 ≡ lastHeard r (l .phase) ws
   block-phase = sym (phase-last ws ps long phases)
@@ -200,10 +201,10 @@ module _
           (length-take-le m g (omega (
             arith,
             ap length is-g,
-            length-tabulate (λ (j : ℕ). grownFor r j (getD ps j 0) (getD ps (j + 1) 0)) 64,
+            length-tabulate (λ (j : ℕ). grownFor r (f + j) (getD ps j 0) (getD ps (j + 1) 0)) 64,
           )))
           (λ j h. getD-take m g j 0 h ∙ grown-at j h
-          ∙ subst (λ (s : Rate). grownFor s j (getD ps j 0) (getD ps (j + 1) 0)
+          ∙ subst (λ (s : Rate). grownFor s (f + j) (getD ps j 0) (getD ps (j + 1) 0)
           ≡ grownBy (getD ps j 0) (getD ps (j + 1) 0))
           e refl))
       by Two e = refl
@@ -213,10 +214,10 @@ module _
   -- the line behind the block, with the symbols as the code counts them
   pub block-heard : (s at : ℕ) (o : Place) → s ≡ octetSymbols r → l .phase < 4
       → whereFound o ≡ oddGrowth r at (take (s * n) g)
-      → Heard r at l ws (record { line = record { past = getD raw n 0; phase = getD ps (s * n) 0 }; odd = o })
-  block-heard s at o e h f = record {
+      → Heard r f at l ws (record { line = record { past = getD raw n 0; phase = getD ps (s * n) 0 }; odd = o })
+  block-heard s at o e h w = record {
     past = block-past;
     phase = ap (λ (k : ℕ). getD ps (k * n) 0) e ∙ block-phase;
     small = phases-low r (l .phase) ns h ps is-ps .at (s * n);
-    place = f ∙ ap (λ (k : ℕ). oddGrowth r at (take (k * n) g)) e ∙ block-odd at;
+    place = w ∙ ap (λ (k : ℕ). oddGrowth r at (take (k * n) g)) e ∙ block-odd at;
   }

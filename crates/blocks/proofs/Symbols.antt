@@ -7,7 +7,7 @@
 use mathlib.Core.Path.{_≡_, refl, sym, ap, ap₂, _∙_}
 use mathlib.Core.List.{List, [], _∷_}
 use Prim.Native.Nat.{ℕ, zero, suc, _+_, _*_, _^_, _≤_, _<_}
-use native.Mathlib.Nat.{le-of-suc-le-suc, not-suc-le-zero, zero-add}
+use native.Mathlib.Nat.{le-of-suc-le-suc, not-suc-le-zero, add-suc}
 use native.Mathlib.Numerals.{add-one}
 use native.Mathlib.Omega.{arith}
 use lib.ListN.{length, getD, take, drop, take-append-drop, length-drop}
@@ -75,52 +75,53 @@ module _ {r : Rate} {p m : ℕ} (ws ps : List ℕ) (long : length ws ≡ m) (ph 
       ext-getD 0 g (growthsOf r p ws) (n ∙ sym (growthsOf-length r p ws ∙ long))
       (λ l h. e l (omega arith) ∙ sym (growth-at l (omega arith)))
 
-  -- the bits of the e symbols from k on
-  bits-at : (e k : ℕ) → k + e ≤ m
-      → take (symbolBits r * e) (drop (symbolBits r * k) (heard r 0 p ws))
-      ≡ heard r k (getD ps k 0) (take e (drop k ws))
-  bits-at e k h =
+  -- the bits of the e symbols from the k-th on, the first of all being number f
+  bits-at : (f e k : ℕ) → k + e ≤ m
+      → take (symbolBits r * e) (drop (symbolBits r * k) (heard r f p ws))
+      ≡ heard r (f + k) (getD ps k 0) (take e (drop k ws))
+  bits-at f e k h =
       ap (λ (xs : List ℕ). take (symbolBits r * e) (drop (symbolBits r * k) xs))
-      (ap (heard r 0 p) (sym (take-append-drop k ws)) ∙ heard-append r 0 p (take k ws) (drop k ws))
+      (ap (heard r f p) (sym (take-append-drop k ws)) ∙ heard-append r f p (take k ws) (drop k ws))
       ∙ ap (take (symbolBits r * e))
-      (drop-at (heard r 0 p (take k ws)) _ (symbolBits r * k)
-      (heard-length r 0 p (take k ws) ∙ ap (λ (n : ℕ). symbolBits r * n) (length-take-le k ws (omega arith)))
+      (drop-at (heard r f p (take k ws)) _ (symbolBits r * k)
+      (heard-length r f p (take k ws) ∙ ap (λ (n : ℕ). symbolBits r * n) (length-take-le k ws (omega arith)))
       ∙ ap₂ {C = List ℕ} (λ n q. heard r n q (drop k ws))
-      (zero-add _ ∙ length-take-le k ws (omega arith)) (phase-at k (omega arith))
-      ∙ ap (heard r k (getD ps k 0)) (sym (take-append-drop e (drop k ws)))
-      ∙ heard-append r k (getD ps k 0) (take e (drop k ws)) (drop e (drop k ws)))
-      ∙ take-at (heard r k (getD ps k 0) (take e (drop k ws))) _ (symbolBits r * e)
-      (heard-length r k (getD ps k 0) (take e (drop k ws))
+      (ap (λ (n : ℕ). f + n) (length-take-le k ws (omega arith))) (phase-at k (omega arith))
+      ∙ ap (heard r (f + k) (getD ps k 0)) (sym (take-append-drop e (drop k ws)))
+      ∙ heard-append r (f + k) (getD ps k 0) (take e (drop k ws)) (drop e (drop k ws)))
+      ∙ take-at (heard r (f + k) (getD ps k 0) (take e (drop k ws))) _ (symbolBits r * e)
+      (heard-length r (f + k) (getD ps k 0) (take e (drop k ws))
       ∙ ap (λ (n : ℕ). symbolBits r * n) (length-take-le e (drop k ws) (rw length-drop (omega arith))))
 
-  module _ (cs : List ℕ) (enough : m ≤ length cs)
-      (codes : (l : ℕ) → l < m → getD cs l 0 ≡ numberOf (heardBits r l (getD ps l 0) (getD ws l 0))) where
+  module _ (f : ℕ) (cs : List ℕ) (enough : m ≤ length cs)
+      (codes : (l : ℕ) → l < m → getD cs l 0 ≡ numberOf (heardBits r (f + l) (getD ps l 0) (getD ws l 0))) where
     packed-number : (e k : ℕ) → k + e ≤ m
-        → packed (symbolBits r) (take e (drop k cs)) ≡ numberOf (heard r k (getD ps k 0) (take e (drop k ws)))
+        → packed (symbolBits r) (take e (drop k cs)) ≡ numberOf (heard r (f + k) (getD ps k 0) (take e (drop k ws)))
     unfolding packed numberOf heard
     packed-number zero k h = refl
     packed-number (suc e) k h =
         let w = getD ws k 0 in
         let rest : packed (symbolBits r) (take e (drop (suc k) cs))
-        ≡ numberOf (heard r (suc k) (phaseOf r w) (take e (drop (suc k) ws))) =
+        ≡ numberOf (heard r (suc (f + k)) (phaseOf r w) (take e (drop (suc k) ws))) =
         packed-number e (suc k) (omega arith)
-        ∙ ap (λ (q : ℕ). numberOf (heard r (suc k) q (take e (drop (suc k) ws))))
+        ∙ ap₂ {C = ℕ} (λ n q. numberOf (heard r n q (take e (drop (suc k) ws)))) (add-suc f k)
         (ap (λ (j : ℕ). getD ps j 0) (sym (add-one k)) ∙ ph .at k (omega arith)) in
         rw (drop-cons cs k 0 (omega arith), drop-cons ws k 0 (omega arith))
         (ap₂ {C = ℕ} (λ x y. x + 2 ^ symbolBits r * y) (codes k (omega arith)) rest
         ∙ sym
-        (number-append (heardBits r k (getD ps k 0) w) (heard r (suc k) (phaseOf r w) (take e (drop (suc k) ws)))
-        ∙ ap (λ (n : ℕ). numberOf (heardBits r k (getD ps k 0) w) + 2 ^ n
-        * numberOf (heard r (suc k) (phaseOf r w) (take e (drop (suc k) ws))))
-        (heard-row r k (getD ps k 0) w .0)))
+        (number-append (heardBits r (f + k) (getD ps k 0) w)
+        (heard r (suc (f + k)) (phaseOf r w) (take e (drop (suc k) ws)))
+        ∙ ap (λ (n : ℕ). numberOf (heardBits r (f + k) (getD ps k 0) w) + 2 ^ n
+        * numberOf (heard r (suc (f + k)) (phaseOf r w) (take e (drop (suc k) ws))))
+        (heard-row r (f + k) (getD ps k 0) w .0)))
 
     pub octet-row : (n : ℕ) → m ≡ octetSymbols r * n → (o : ℕ) → o < n
         → octetSymbols r * o + octetSymbols r ≤ m
         → packed (symbolBits r) (take (octetSymbols r) (drop (octetSymbols r * o) cs))
-        ≡ getD (octetsOf n (heard r 0 p ws)) o 0
+        ≡ getD (octetsOf n (heard r f p ws)) o 0
     octet-row n is o h l =
         packed-number (octetSymbols r) (octetSymbols r * o) l
         ∙ ap numberOf
-        (sym (bits-at (octetSymbols r) (octetSymbols r * o) l)
-        ∙ ap₂ {C = List ℕ} (λ a b. take a (drop b (heard r 0 p ws))) (octet-bits r) (part-bits r o))
-        ∙ sym (octet-at n (heard r 0 p ws) o h)
+        (sym (bits-at f (octetSymbols r) (octetSymbols r * o) l)
+        ∙ ap₂ {C = List ℕ} (λ a b. take a (drop b (heard r f p ws))) (octet-bits r) (part-bits r o))
+        ∙ sym (octet-at n (heard r f p ws) o h)

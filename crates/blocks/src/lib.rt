@@ -35,14 +35,16 @@ fn phases(rate: Rate, before: u8, numbers: [u8; 64]) -> [u8; 65]
     out
 }
 
-// How far each symbol grew for its bits.
-fn growths(rate: Rate, phases: [u8; 65]) -> [u8; 64]
+// How far each symbol grew for its bits, the first of them being number `symbol`.
+fn growths(rate: Rate, symbol: usize, phases: [u8; 65]) -> [u8; 64]
     requires { ⌜ Below 4 phases ⌝ }
-    ensures answer { λ r. ⌜ r ≡ tabulate (λ l. grownFor rate l (getD phases l 0) (getD phases (l + 1) 0)) 64 ⌝ }
+    ensures answer { λ r. ⌜ r ≡
+        tabulate (λ l. grownFor rate (symbol + l) (getD phases l 0) (getD phases (l + 1) 0)) 64 ⌝ }
 {
+    let first = (symbol % 2) as u8;
     let mut out = [0u8; 64];
     for l in 0..64 {
-        out[l] = codes::grown(rate, l, phases[l], phases[l + 1]);
+        out[l] = codes::grown(rate, first, l, phases[l], phases[l + 1]);
     }
     out
 }
@@ -83,9 +85,11 @@ fn unscramble(raw: [u8; 65], count: usize, out: &mut [u8])
     }
 }
 
-// So many octets of words, the first of which is even and has its first chip at a place, into a buffer's front.
+// So many octets of words, the first of which is number `symbol` and has its first chip at a place, into a buffer's
+// front. Of the number it matters only whether it is odd.
 pub fn hear(
     rate: Rate,
+    symbol: usize,
     place: usize,
     line: Line,
     numbers: [u8; 64],
@@ -95,14 +99,14 @@ pub fn hear(
     requires { ⌜ (octetSymbols rate * count ≤ 64) × (count ≤ length (now out))
         × (place + octetChips rate * count < 2 ^ 64) × (line .phase < 4) × (length numbers ≡ 64)
         × AreWords rate (take (octetSymbols rate * count) numbers) ⌝ }
-    ensures answer { λ r. ⌜ Heard rate place line (take (octetSymbols rate * count) numbers) r ⌝ }
+    ensures answer { λ r. ⌜ Heard rate symbol place line (take (octetSymbols rate * count) numbers) r ⌝ }
     ensures out { λ _. ⌜ now (out .exit) ≡
-        over (plainOctets rate count line (take (octetSymbols rate * count) numbers)) (now (out .entry)) ⌝ }
+        over (plainOctets rate symbol count line (take (octetSymbols rate * count) numbers)) (now (out .entry)) ⌝ }
 {
     let symbols = rate.octet_symbols();
     let m = symbols * count;
     let ps = phases(rate, line.phase, numbers);
-    let g = growths(rate, ps);
+    let g = growths(rate, symbol, ps);
     let c = codes(rate, g, numbers);
     let raw = octets(rate, line.past, c, count);
     unscramble(raw, count, out);

@@ -1,5 +1,6 @@
 -- The bits of one word as a number, and numbers of b bits packed into one.
---     half-turned, word-bits                   a growth as the code takes it off; a word's bits, by growth and number
+--     half-turned, grown-parity                a growth as the code takes it off, which goes by a number modulo 2
+--     word-bits                                a word's bits, by growth and number
 --     two-number, four-number, eight-number    the sums that the code makes of them
 --     room-2, room-4, room-6, code-small       they fit
 --     one-from, two-from, four-from, eight-from    the octet of the first symbols of a row
@@ -7,7 +8,8 @@
 -- Assumes nothing.
 use mathlib.Core.Path.{_≡_, refl, sym, ap, _∙_}
 use mathlib.Core.List.{List, [], _∷_, _++_}
-use Prim.Native.Nat.{ℕ, suc, _+_, _*_, _/_, _%_, _-_, _^_, _≤_, _<_}
+use Prim.Native.Nat.{ℕ, zero, suc, _+_, _*_, _/_, _%_, _-_, _^_, _≤_, _<_}
+use native.Mathlib.Nat.{zero-add}
 use native.Mathlib.Numerals.{add-one}
 use native.Mathlib.Omega.{arith}
 use lib.ListN.{length, getD, take, drop}
@@ -30,9 +32,27 @@ word-bits Two k p n = refl
 word-bits Five k p n = refl
 word-bits Eleven k p n = refl
 
--- the code's sum before the half turn is taken, and the growth
-pub half-turned : (p q k : ℕ) → p < 4 → q < 4 → (q + 4 - p + 2 * (k % 2)) % 4 ≡ grownBy (turned p (halfTurn k)) q
-half-turned p q k h l = omega arith
+-- the code's sum before the half turns are taken, and the growth
+pub half-turned : (f p q k : ℕ) → f < 2 → p < 4 → q < 4
+    → (q + 4 + 2 * f - p + 2 * (k % 2)) % 4 ≡ grownBy (turned p (halfTurn (f + k))) q
+half-turned zero p q k i h l = rw (zero-add k) (by (k % 2))
+  where
+    by : (x : ℕ) → (q + 4 + 0 - p + 2 * x) % 4 ≡ grownBy (turned p (2 * x)) q
+    by x = omega arith
+half-turned (suc zero) p q k i h l = by (k % 2) ((1 + k) % 2) (omega arith)
+  where
+    -- either is odd, and the other even
+    by : (x y : ℕ) → x + y ≡ 1 → (q + 4 + 2 - p + 2 * x) % 4 ≡ grownBy (turned p (2 * y)) q
+    by zero y e = let z : y ≡ 1 = omega arith in rw z (omega arith)
+    by (suc x) y e = let z : y ≡ 0 = omega arith in let w : x ≡ 0 = omega arith in rw (z, w) (omega arith)
+half-turned (suc (suc f)) p q k i h l = absurd (omega arith)
+
+-- a symbol's number counts modulo 2
+pub grown-parity : (r : Rate) (j k p q : ℕ) → j % 2 ≡ k % 2 → grownFor r j p q ≡ grownFor r k p q
+grown-parity One j k p q e = refl
+grown-parity Two j k p q e = refl
+grown-parity Five j k p q e = rw e
+grown-parity Eleven j k p q e = rw e
 
 pub two-number : (g : ℕ) → g < 4 → twoBits g ≡ numberOf (growthBits g)
 unfolding numberOf

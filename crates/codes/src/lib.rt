@@ -23,16 +23,17 @@ pub fn phase(rate: Rate, n: u8) -> u8
     }
 }
 
-// How far symbol k grew from phase p to q for its bits: an odd CCK symbol grew by a half turn more.
-pub fn grown(rate: Rate, k: usize, p: u8, q: u8) -> u8
-    requires { ⌜ (p < 4) × (q < 4) ⌝ }
-    ensures answer { λ r. ⌜ (r ≡ grownFor rate k p q) × (r < 4) ⌝ }
+// How far symbol k behind a first one, which is even (0) or odd (1), grew from phase p to q for its bits: an odd CCK
+// symbol grew by a half turn more.
+pub fn grown(rate: Rate, first: u8, k: usize, p: u8, q: u8) -> u8
+    requires { ⌜ (first < 2) × (p < 4) × (q < 4) ⌝ }
+    ensures answer { λ r. ⌜ (r ≡ grownFor rate (first + k) p q) × (r < 4) ⌝ }
 {
     match rate {
         Rate::One => (q + 4 - p) % 4,
         Rate::Two => (q + 4 - p) % 4,
-        Rate::Five => (q + 4 - p + (2 * (k % 2)) as u8) % 4,
-        Rate::Eleven => (q + 4 - p + (2 * (k % 2)) as u8) % 4,
+        Rate::Five => (q + 4 + 2 * first - p + (2 * (k % 2)) as u8) % 4,
+        Rate::Eleven => (q + 4 + 2 * first - p + (2 * (k % 2)) as u8) % 4,
     }
 }
 

@@ -6,7 +6,7 @@
 use mathlib.Core.Path.{_≡_, refl, sym, ap, ap₂, subst, _∙_}
 use mathlib.Core.List.{List, [], _∷_, _++_, append-assoc}
 use mathlib.Core.Option.{some}
-use Prim.Native.Nat.{ℕ, zero, suc, _+_, _-_, _*_, _%_, _≤_, _<_}
+use Prim.Native.Nat.{ℕ, zero, suc, _+_, _-_, _*_, _≤_, _<_}
 use native.Mathlib.Nat.{zero-add, suc-add}
 use native.Mathlib.Omega.{arith}
 use lib.ListN.{length, getD, take, drop, take-append-drop, length-drop, length-append}
@@ -88,15 +88,15 @@ preamble-length k rec = decidedWords-length One (preambleLength k) rec
 
 -- ---- unscrambling goes on from the bits received
 
-pub goes-on : (s : List ℕ) (r : Rate) (at : ℕ) (l : Line) (ws : List ℕ) (h : Hearing) → take 7 (pastOf (l .past))
-    ≡ take 7 s → Heard r at l ws h
-    → take 7 (pastOf (h .line .past)) ≡ take 7 (pastAfter s (received r l ws))
-goes-on s r at l ws h e x =
+pub goes-on : (s : List ℕ) (r : Rate) (f at : ℕ) (l : Line) (ws : List ℕ) (h : Hearing) → take 7 (pastOf (l .past))
+    ≡ take 7 s → Heard r f at l ws h
+    → take 7 (pastOf (h .line .past)) ≡ take 7 (pastAfter s (received r f l ws))
+goes-on s r f at l ws h e x =
     ap (take 7) (x .past)
-    ∙ take-take 7 8 (pastAfter (pastOf (l .past)) (received r l ws)) (omega arith)
-    ∙ sym (past-take 7 (pastOf (l .past)) (received r l ws))
-    ∙ ap (λ (p : List ℕ). take 7 (pastAfter p (received r l ws))) e
-    ∙ past-take 7 s (received r l ws)
+    ∙ take-take 7 8 (pastAfter (pastOf (l .past)) (received r f l ws)) (omega arith)
+    ∙ sym (past-take 7 (pastOf (l .past)) (received r f l ws))
+    ∙ ap (λ (p : List ℕ). take 7 (pastAfter p (received r f l ws))) e
+    ∙ past-take 7 s (received r f l ws)
 
 -- ---- the last octets of bits
 
@@ -142,7 +142,7 @@ module _
     (k : Kind) (rec : List Taken) (ns ls : List ℕ) (l : Line) (f : Least) (a : Hearing) (b p : Part) (d o y : List ℕ)
     (dec : DecidedAt One rec 0 64 ns) (lead : LeadsAt One rec 0 64 ls) (lo : f ≡ leastOf (take 64 ls))
     (s : Starts k (getD ns 0 0) l)
-    (x : Heard One 0 l (take 64 ns) a) (ox : o ≡ over (plainOctets One 8 l (take 64 ns)) d)
+    (x : Heard One 0 0 l (take 64 ns) a) (ox : o ≡ over (plainOctets One 0 8 l (take 64 ns)) d)
     (z : PartHeard One 704 (syncOctets k - 6) rec (a .line) 64 f b y)
     (ab : (p .heard .line ≡ b .heard .line) × ((whereFound (p .heard .odd)
     ≡ orElse (whereFound (a .odd)) (λ place. some place) (whereFound (b .heard .odd))) × (p .least ≡ b .least))) where
@@ -155,29 +155,26 @@ module _
   first-words : take 64 ns ≡ A
   first-words = block-words One 8 8 refl rec 0 ns dec (omega arith)
 
-  even : length A % 2 ≡ 0
-  even = ap (λ (n : ℕ). n % 2) (part-length One 0 8 rec)
-
-  first : Heard One 0 l A a
-  first = subst (λ (ws : List ℕ). Heard One 0 l ws a) first-words x
+  first : Heard One 0 0 l A a
+  first = subst (λ (ws : List ℕ). Heard One 0 0 l ws a) first-words x
 
   both-words : A ++ B ≡ preambleWords k rec
   both-words =
       sym (part-more One 0 8 (syncOctets k - 6) rec)
       ∙ ap (λ (n : ℕ). partWords One 0 n rec) (rest k) ∙ preamble-words k rec
 
-  both : Heard One 0 l (preambleWords k rec) (p .heard)
+  both : Heard One 0 0 l (preambleWords k rec) (p .heard)
   both =
-      subst (λ (ws : List ℕ). Heard One 0 l ws (p .heard)) both-words
-      (blocks-more One 0 l A B a even first (b .heard) (p .heard)
-      (subst (λ (n : ℕ). Heard One n (a .line) B (b .heard))
-      (ap (λ (n : ℕ). 0 + 11 * n) (sym (part-length One 0 8 rec))) (z .line))
+      subst (λ (ws : List ℕ). Heard One 0 0 l ws (p .heard)) both-words
+      (blocks-more One 0 0 l A B a first (b .heard) (p .heard)
+      (subst (λ (n : ℕ). Heard One (0 + n) (0 + 11 * n) (a .line) B (b .heard)) (sym (part-length One 0 8 rec))
+      (z .line))
       (ab .0) (ab .1 .0))
 
   reference-phase : l .phase ≡ reference k rec
   reference-phase = s .at-phase ∙ dec .number 0 (omega arith) ∙ reference-is k rec
 
-  bits : received One l (preambleWords k rec) ≡ preambleHeard k rec
+  bits : received One 0 l (preambleWords k rec) ≡ preambleHeard k rec
   bits = ap (λ (q : ℕ). heard One 0 q (preambleWords k rec)) reference-phase
 
   from-start : take 7 (pastOf (l .past)) ≡ take 7 (start k)
@@ -185,14 +182,16 @@ module _
 
   preamble-octets : take (syncOctets k + 2) (putMid 8 (syncOctets k - 6) o y) ≡ preambleOctets k rec
   preamble-octets =
-      two-parts (plainOctets One 8 l A) y d o 8 (syncOctets k - 6) (syncOctets k + 2)
-      (ox ∙ ap (λ (ws : List ℕ). over (plainOctets One 8 l ws) d) first-words) (octets-length 8 (plainBits One l A))
-      (ap length (z .octets) ∙ octets-length (syncOctets k - 6) (plainBits One (a .line) B)) (rest k)
-      ∙ ap (λ (w : List ℕ). plainOctets One 8 l A ++ w) (z .octets)
-      ∙ sym (blocks-octets One 0 l A B a even first 8 (syncOctets k - 6) (part-length One 0 8 rec))
-      ∙ ap₂ {C = List ℕ} (λ n ws. plainOctets One n l ws) (rest k) both-words
+      two-parts (plainOctets One 0 8 l A) y d o 8 (syncOctets k - 6) (syncOctets k + 2)
+      (ox ∙ ap (λ (ws : List ℕ). over (plainOctets One 0 8 l ws) d) first-words) (octets-length 8 (plainBits One 0 l A))
+      (ap length (z .octets) ∙ octets-length (syncOctets k - 6) (plainBits One 64 (a .line) B)) (rest k)
+      ∙ ap (λ (w : List ℕ). plainOctets One 0 8 l A ++ w) (z .octets)
+      ∙ ap (λ (n : ℕ). plainOctets One 0 8 l A ++ plainOctets One (0 + n) (syncOctets k - 6) (a .line) B)
+      (sym (part-length One 0 8 rec))
+      ∙ sym (blocks-octets One 0 0 l A B a first 8 (syncOctets k - 6) (part-length One 0 8 rec))
+      ∙ ap₂ {C = List ℕ} (λ n ws. plainOctets One 0 n l ws) (rest k) both-words
       ∙ ap (octetsOf (syncOctets k + 2))
-      (descramble-window (pastOf (l .past)) (start k) (received One l (preambleWords k rec)) from-start
+      (descramble-window (pastOf (l .past)) (start k) (received One 0 l (preambleWords k rec)) from-start
       ∙ ap (descramble (start k)) bits)
 
   preamble-line : PreambleLine k rec (p .heard)
@@ -201,7 +200,7 @@ module _
     at-phase = both .phase ∙ ap (λ (q : ℕ). lastHeard One q (preambleWords k rec)) reference-phase
         ∙ (unfold headerPhase in refl);
     small = both .small;
-    past = goes-on (start k) One 0 l (preambleWords k rec) (p .heard) from-start both
+    past = goes-on (start k) One 0 0 l (preambleWords k rec) (p .heard) from-start both
         ∙ ap (λ (bs : List ℕ). take 7 (pastAfter (start k) bs)) bits;
   }
 
@@ -220,8 +219,8 @@ module _
 pub sync-heard : (k : Kind) (rec : List Taken) (ns ls : List ℕ) (l : Line) (f : Least) (a : Hearing) (b p : Part)
     (d o y : List ℕ) (count n : ℕ)
     → DecidedAt One rec 0 64 ns → LeadsAt One rec 0 64 ls → f ≡ leastOf (take 64 ls)
-    → Starts k (getD ns 0 0) l → Heard One 0 l (take 64 ns) a
-    → o ≡ over (plainOctets One 8 l (take 64 ns)) d → n ≡ syncOctets k - 6 → count ≡ syncOctets k + 2
+    → Starts k (getD ns 0 0) l → Heard One 0 0 l (take 64 ns) a
+    → o ≡ over (plainOctets One 0 8 l (take 64 ns)) d → n ≡ syncOctets k - 6 → count ≡ syncOctets k + 2
     → PartHeard One 704 n rec (a .line) 64 f b y
     → (p .heard .line ≡ b .heard .line) × ((whereFound (p .heard .odd)
     ≡ orElse (whereFound (a .odd)) (λ place. some place) (whereFound (b .heard .odd))) × (p .least ≡ b .least))

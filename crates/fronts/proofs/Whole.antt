@@ -5,7 +5,7 @@
 use mathlib.Core.Path.{_≡_, refl, sym, ap, ap₂, subst, _∙_}
 use mathlib.Core.List.{List, _++_, append-assoc}
 use mathlib.Core.Option.{Option, some}
-use Prim.Native.Nat.{ℕ, _+_, _/_}
+use Prim.Native.Nat.{ℕ, _+_, _/_, _%_}
 use native.Mathlib.Omega.{arith}
 use lib.ListN.{length, take, drop, take-append-drop, length-drop}
 use lib.Seq.{take-all, take-at, drop-at, length-take-le}
@@ -25,7 +25,7 @@ use Rattle.bits.proofs.Scrambler.{
   descramble-length,
   descramble-window,
 }
-use Rattle.bits.proofs.Heard.{heard-length}
+use Rattle.bits.proofs.Heard.{heard-length, heard-parity}
 use Rattle.frame.specs.declared.Kind.{Kind}
 use Rattle.frame.specs.declared.Kind.the-variants.{Long, Short}
 use Rattle.frame.specs.Frame.{start, syncBits, headerRate, preambleLength, headerLength, preambleChips}
@@ -64,11 +64,12 @@ header-leads : (k : Kind) (rec : List Taken) → partLeads (headerRate k) (pream
 header-leads Long rec = refl
 header-leads Short rec = refl
 
-header-bits : (k : Kind) (rec : List Taken) (l : Line) → length (plainBits (headerRate k) l (headerWords k rec)) ≡ 48
+header-bits : (k : Kind) (rec : List Taken) (f : ℕ) (l : Line)
+    → length (plainBits (headerRate k) f l (headerWords k rec)) ≡ 48
 unfolding headerWords
-header-bits Long rec l = plain-length One l _
+header-bits Long rec f l = plain-length One f l _
     ∙ omega (arith, decidedWords-length One 48 (drop (preambleChips Long) rec))
-header-bits Short rec l = plain-length Two l _
+header-bits Short rec f l = plain-length Two f l _
     ∙ omega (arith, decidedWords-length Two 24 (drop (preambleChips Short) rec))
 
 -- the first n bits behind the first m of a row, with more behind them
@@ -93,41 +94,51 @@ module _
   abbrev L : Line
   L = p .part .heard .line
 
-  header-part : Heard (headerRate k) (preambleChips k) L (headerWords k rec) (c .heard)
+  -- and the number of its first symbol
+  abbrev F : ℕ
+  F = preambleChips k / 11
+
+  header-part : Heard (headerRate k) F (preambleChips k) L (headerWords k rec) (c .heard)
   header-part =
-      subst (λ (ws : List ℕ). Heard (headerRate k) (preambleChips k) L ws (c .heard))
+      subst (λ (ws : List ℕ). Heard (headerRate k) F (preambleChips k) L ws (c .heard))
       (header-words k rec) (z .line)
 
-  header-heard : received (headerRate k) L (headerWords k rec)
+  header-heard : received (headerRate k) F L (headerWords k rec)
       ≡ heard (headerRate k) 0 (headerPhase k rec) (headerWords k rec)
-  header-heard = ap (λ (q : ℕ). heard (headerRate k) 0 q (headerWords k rec)) (x .line .at-phase)
+  header-heard =
+      heard-parity (headerRate k) F 0 (L .phase) (headerWords k rec) (even k)
+      ∙ ap (λ (q : ℕ). heard (headerRate k) 0 q (headerWords k rec)) (x .line .at-phase)
+    where
+      even : (k : Kind) → preambleChips k / 11 % 2 ≡ 0 % 2
+      even Long = refl
+      even Short = refl
 
-  all-heard : frontHeard k rec ≡ preambleHeard k rec ++ received (headerRate k) L (headerWords k rec)
+  all-heard : frontHeard k rec ≡ preambleHeard k rec ++ received (headerRate k) F L (headerWords k rec)
   unfolding frontHeard
   all-heard = sym (ap (λ (bs : List ℕ). preambleHeard k rec ++ bs) header-heard)
 
   -- the front's bits, part by part
   bits-are : frontBits k rec
-      ≡ descramble (start k) (preambleHeard k rec) ++ plainBits (headerRate k) L (headerWords k rec)
+      ≡ descramble (start k) (preambleHeard k rec) ++ plainBits (headerRate k) F L (headerWords k rec)
   unfolding frontBits
   bits-are =
       ap (descramble (start k)) all-heard
-      ∙ descramble-append (start k) (preambleHeard k rec) (received (headerRate k) L (headerWords k rec))
+      ∙ descramble-append (start k) (preambleHeard k rec) (received (headerRate k) F L (headerWords k rec))
       ∙ ap (λ (bs : List ℕ). descramble (start k) (preambleHeard k rec) ++ bs)
       (descramble-window (pastAfter (start k) (preambleHeard k rec)) (pastOf (L .past))
-      (received (headerRate k) L (headerWords k rec)) (sym (x .line .past)))
+      (received (headerRate k) F L (headerWords k rec)) (sym (x .line .past)))
 
   preamble-bits : length (descramble (start k) (preambleHeard k rec)) ≡ syncBits k + 16
   preamble-bits =
       descramble-length (start k) (preambleHeard k rec)
       ∙ heard-length One 0 (reference k rec) (preambleWords k rec) ∙ omega (arith, preamble-length k rec)
 
-  header-octets : octetBits header ≡ plainBits (headerRate k) L (headerWords k rec)
+  header-octets : octetBits header ≡ plainBits (headerRate k) F L (headerWords k rec)
   header-octets =
-      let bs = plainBits (headerRate k) L (headerWords k rec) in
-      let long = header-bits k rec L in
+      let bs = plainBits (headerRate k) F L (headerWords k rec) in
+      let long = header-bits k rec F L in
       ap octetBits
-      (z .octets ∙ ap (λ (ws : List ℕ). octetsOf 6 (plainBits (headerRate k) L ws)) (header-words k rec))
+      (z .octets ∙ ap (λ (ws : List ℕ). octetsOf 6 (plainBits (headerRate k) F L ws)) (header-words k rec))
       ∙ octets-bits 6 bs (omega arith) (descramble-below _ _)
       ∙ take-all 48 bs (omega arith)
 
@@ -137,10 +148,10 @@ module _
         ∙ (unfold payloadPhase in refl);
     small = header-part .small;
     past =
-        goes-on (pastAfter (start k) (preambleHeard k rec)) (headerRate k) (preambleChips k) L
+        goes-on (pastAfter (start k) (preambleHeard k rec)) (headerRate k) F (preambleChips k) L
         (headerWords k rec) (c .heard) (x .line .past) header-part
         ∙ ap (take 7) (sym (past-append (start k) (preambleHeard k rec)
-        (received (headerRate k) L (headerWords k rec))))
+        (received (headerRate k) F L (headerWords k rec))))
         ∙ ap (λ (bs : List ℕ). take 7 (pastAfter (start k) bs)) (sym all-heard);
   }
 

@@ -81,7 +81,7 @@ fn hear_sync(
     );
     // the first symbol serves only as reference: it counts as grown by 0 from its own phase
     let line = kinds::first_line(kind, numbers[0]);
-    let first = blocks::hear(Rate::One, 0, line, numbers, 8, octets);
+    let first = blocks::hear(Rate::One, 0, 0, line, numbers, 8, octets);
     let least = blocks::least::least_of(&leads, 64);
     let count = preamble_octets(kind);
     let l = first.line;

@@ -1,12 +1,10 @@
 // The front of a recording: refusals 8, 9 and 10 over it, and 11 to 15.
 ghost use mathlib.Core.Path.{_≡_};
-ghost use Prim.Native.Nat.{_≤_};
-ghost use lib.ListN.{length};
-ghost use Rattle.frame.specs.Frame.{frontChips};
+ghost use mathlib.Core.List.{List};
+ghost use Rattle.chips.specs.Chips.{Taken};
 ghost use Rattle.reading.specs.Reading.{frontOf};
 ghost use Rattle.recorders.specs.Rows.{lent};
-ghost use Rattle.recorded.specs.Recorded.{AllUsable};
-ghost use Rattle.fronts.specs.Openings.{afterUsable, Opens, OpensWhole};
+ghost use Rattle.fronts.specs.Openings.{FrontKnown, afterUsable, Opens, OpensWhole};
 use blocks::Hearing;
 use calls::Front;
 use calls::Least;
@@ -18,7 +16,7 @@ use rates::Rate;
 use recorded::Place;
 use recorders::Recorder;
 
-mod heard;
+pub mod heard;
 
 // A preamble heard: the line at its end with the first symbol grown by 1 or 3, the smallest lead, and the SFD's octets.
 pub struct Preamble {
@@ -50,14 +48,12 @@ fn refused(e: Refusal) -> Opening
     Opening { front, line, least }
 }
 
-// What a front of usable chips tells: 10, then 11 to 15.
-fn read_usable(rec: Recorder, row: &[u8], bytes: &[i8], i: &[f32], q: &[f32], kind: Kind) -> Opening
-    requires { ⌜ (frontChips kind ≤ length (lent rec row bytes i q))
-        × AllUsable (lent rec row bytes i q) 0 (frontChips kind) ⌝ }
-    ensures answer { λ r. ⌜ Opens kind (lent rec (row .entry) (bytes .entry) (i .entry) (q .entry))
-        (afterUsable kind (lent rec (row .entry) (bytes .entry) (i .entry) (q .entry))) r ⌝ }
+// What a front that was heard tells, whatever recording it is of: 10, then 11 to 15. What these refusals are about
+// stands in what was heard: the place of the first symbol grown by 1 or 3, the SFD's octets and the header's.
+pub fn told(kind: Kind, known: FrontHeard) -> Opening
+    ensures answer { λ r. ⌜ ((rec : List Taken) → FrontKnown kind rec known →
+        Opens kind rec (afterUsable kind rec) r) ⌝ }
 {
-    let known = heard::hear_front(rec, row, bytes, i, q, kind);
     let part = known.part;
     let heard = part.heard;
     let odd = heard.odd;
@@ -93,7 +89,10 @@ pub fn read_front(
     let bad = recorders::first_unusable(rec, row, bytes, i, q, 0, chips);
     match bad {
         Place::At(place) => refused(Refusal::Unusable { place, length: 0 }),
-        Place::Nothing => read_usable(rec, row, bytes, i, q, kind),
+        Place::Nothing => {
+            let known = heard::hear_front(rec, row, bytes, i, q, kind);
+            told(kind, known)
+        }
     }
 }
 

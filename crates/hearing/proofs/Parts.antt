@@ -4,13 +4,13 @@
 --     part-leads, part-leads-length    the leads of two parts, and how many
 --     blocks-more, blocks-bits         the line behind two parts, and their bits
 --     block-room, block-usable         a block has its chips, and they are usable
---     few-symbols, block-symbol        there are more chips than symbols, so that symbols' numbers are below places
+--     block-symbol, few-symbols        and the numbers of its symbols do not wrap; there are more chips than symbols
 --     Parts, parts-none, parts-more, parts-all    the loop over blocks: before it, a block more, after it
 -- Assumes nothing.
 use mathlib.Core.Path.{_≡_, refl, sym, ap, ap₂, subst, _∙_}
 use mathlib.Core.List.{List, [], _++_, append-nil, map}
 use mathlib.Core.Option.{Option, none, some}
-use Prim.Native.Nat.{ℕ, zero, suc, _+_, _-_, _*_, _/_, _%_, _≤_, _<_}
+use Prim.Native.Nat.{ℕ, zero, suc, _+_, _-_, _*_, _/_, _≤_, _<_}
 use native.Mathlib.Nat.{mul-zero, add-zero, le-antisymm, le-of-suc-le-suc, not-suc-le-zero}
 use native.Mathlib.Omega.{arith}
 use lib.ListN.{length, getD, take, drop, drop-of-length-le}
@@ -39,7 +39,6 @@ use Rattle.bits.proofs.Heard.{
   growthsOf-append,
   growthsOf-length,
   heard-length,
-  heard-parity,
 }
 use Rattle.calls.specs.declared.Least.{Least}
 use Rattle.reading.specs.Reading.{orElse, firstOdd, oddGrowth, decidedWords}
@@ -180,57 +179,57 @@ part-least r at i j s k b rec e =
     ∙ ap (λ (n : ℕ). leastFrom (k + n) (leastFrom k b first) then)
     (part-leads-length r at i rec ∙ ap (λ (n : ℕ). n * i) (sym e))
 
-pub plain-length : (r : Rate) (l : Line) (ws : List ℕ) → length (plainBits r l ws) ≡ symbolBits r * length ws
-plain-length r l ws = descramble-length (pastOf (l .past)) (received r l ws) ∙ heard-length r 0 (l .phase) ws
+pub plain-length : (r : Rate) (f : ℕ) (l : Line) (ws : List ℕ) → length (plainBits r f l ws) ≡ symbolBits r * length ws
+plain-length r f l ws = descramble-length (pastOf (l .past)) (received r f l ws) ∙ heard-length r f (l .phase) ws
 
 -- ---- two parts
 
-module _ (r : Rate) (at : ℕ) (l : Line) (a b : List ℕ) (h : Hearing) (even : length a % 2 ≡ 0) (x : Heard r at l a h)
+module _ (r : Rate) (n at : ℕ) (l : Line) (a b : List ℕ) (h : Hearing) (x : Heard r n at l a h)
   where
-    -- the bits of words behind an even number of others
-    same : received r (h .line) b ≡ heard r (0 + length a) (lastHeard r (l .phase) a) b
-    same =
-        heard-parity r 0 (0 + length a) (h .line .phase) b (omega arith)
-        ∙ ap (λ (p : ℕ). heard r (0 + length a) p b) (x .phase)
+    -- the bits of words behind others
+    same : received r (n + length a) (h .line) b ≡ heard r (n + length a) (lastHeard r (l .phase) a) b
+    same = ap (λ (p : ℕ). heard r (n + length a) p b) (x .phase)
 
-    pub blocks-more : (g k : Hearing) → Heard r (at + symbolChips r * length a) (h .line) b g → k .line ≡ g .line
+    pub blocks-more : (g k : Hearing) → Heard r (n + length a) (at + symbolChips r * length a) (h .line) b g
+        → k .line ≡ g .line
         → whereFound (k .odd) ≡ orElse (whereFound (h .odd)) (λ place. some place) (whereFound (g .odd))
-        → Heard r at l (a ++ b) k
+        → Heard r n at l (a ++ b) k
     blocks-more g k y e f = record {
       past =
           ap (λ (m : Line). pastOf (m .past)) e
           ∙ y .past
           ∙ ap₂ {C = List ℕ} (λ p bs. take 8 (pastAfter p bs)) (x .past) same
           ∙ past-take 8 _ _
-          ∙ ap (take 8) (sym (past-append (pastOf (l .past)) (received r l a) _))
-          ∙ ap (λ (bs : List ℕ). take 8 (pastAfter (pastOf (l .past)) bs)) (sym (heard-append r 0 (l .phase) a b));
+          ∙ ap (take 8) (sym (past-append (pastOf (l .past)) (received r n l a) _))
+          ∙ ap (λ (bs : List ℕ). take 8 (pastAfter (pastOf (l .past)) bs)) (sym (heard-append r n (l .phase) a b));
       phase = ap (λ (m : Line). m .phase) e ∙ y .phase ∙ ap (λ (p : ℕ). lastHeard r p b) (x .phase)
           ∙ sym (lastHeard-append r (l .phase) a b);
       small = rw e (y .small);
       place = f ∙ ap₂ {C = Option ℕ} (λ o p. orElse o (λ place. some place) p) (x .place)
           (y .place ∙ ap (λ (p : ℕ). oddGrowth r (at + symbolChips r * length a) (growthsOf r p b)) (x .phase)
-          ∙ ap (λ (n : ℕ). oddGrowth r (at + symbolChips r * n) (growthsOf r (lastHeard r (l .phase) a) b))
+          ∙ ap (λ (m : ℕ). oddGrowth r (at + symbolChips r * m) (growthsOf r (lastHeard r (l .phase) a) b))
           (sym (growthsOf-length r (l .phase) a)))
           ∙ sym (oddGrowth-append r at (growthsOf r (l .phase) a) _)
           ∙ ap (oddGrowth r at) (sym (growthsOf-append r (l .phase) a b));
     }
 
-    pub blocks-bits : plainBits r l (a ++ b) ≡ plainBits r l a ++ plainBits r (h .line) b
+    pub blocks-bits : plainBits r n l (a ++ b) ≡ plainBits r n l a ++ plainBits r (n + length a) (h .line) b
     blocks-bits =
         let p = pastOf (l .past) in
-        ap (descramble p) (heard-append r 0 (l .phase) a b)
-        ∙ descramble-append p (received r l a) _
-        ∙ ap (λ (cs : List ℕ). plainBits r l a ++ cs)
-        (ap (descramble (pastAfter p (received r l a))) (sym same)
-        ∙ sym (descramble-take 8 (pastAfter p (received r l a)) (received r (h .line) b) (omega arith))
-        ∙ ap (λ (q : List ℕ). descramble q (received r (h .line) b)) (sym (x .past)))
+        ap (descramble p) (heard-append r n (l .phase) a b)
+        ∙ descramble-append p (received r n l a) _
+        ∙ ap (λ (cs : List ℕ). plainBits r n l a ++ cs)
+        (ap (descramble (pastAfter p (received r n l a))) (sym same)
+        ∙ sym (descramble-take 8 (pastAfter p (received r n l a)) (received r (n + length a) (h .line) b) (omega arith))
+        ∙ ap (λ (q : List ℕ). descramble q (received r (n + length a) (h .line) b)) (sym (x .past)))
 
     pub blocks-octets : (i j : ℕ) → length a ≡ octetSymbols r * i
-        → plainOctets r (i + j) l (a ++ b) ≡ plainOctets r i l a ++ plainOctets r j (h .line) b
+        → plainOctets r n (i + j) l (a ++ b)
+        ≡ plainOctets r n i l a ++ plainOctets r (n + length a) j (h .line) b
     blocks-octets i j size =
         ap (octetsOf (i + j)) blocks-bits
-        ∙ octets-append i j (plainBits r l a) (plainBits r (h .line) b)
-        (plain-length r l a ∙ ap (λ (n : ℕ). symbolBits r * n) size ∙ part-bits r i)
+        ∙ octets-append i j (plainBits r n l a) (plainBits r (n + length a) (h .line) b)
+        (plain-length r n l a ∙ ap (λ (m : ℕ). symbolBits r * m) size ∙ part-bits r i)
 
 -- ---- the loop over blocks
 
@@ -238,14 +237,13 @@ pub record Parts (r : Rate) (at : ℕ) (rec : List Taken) (l : Line) (f : ℕ) (
     (place k : ℕ) (out : List ℕ) : Type 0 where
   pub fits : k ≤ length d
   pub at-place : place ≡ at + octetChips r * k
-  pub even : k < length d → (octetSymbols r * k) % 2 ≡ 0
-  pub line : Heard r at l (partWords r at k rec) (p .heard)
-  pub stored : out ≡ over (plainOctets r k l (partWords r at k rec)) d
+  pub line : Heard r f at l (partWords r at k rec) (p .heard)
+  pub stored : out ≡ over (plainOctets r f k l (partWords r at k rec)) d
   pub least : p .least ≡ leastFrom f b (partLeads r at k rec)
 
-heard-none : (r : Rate) (at : ℕ) (l : Line) → l .phase < 4 → Heard r at l [] (record { line = l; odd = Nothing })
+heard-none : (r : Rate) (f at : ℕ) (l : Line) → l .phase < 4 → Heard r f at l [] (record { line = l; odd = Nothing })
 unfolding bitsOf heard lastHeard growthsOf firstOdd pastAfter
-heard-none r at l h = record { past = refl; phase = refl; small = h; place = by r }
+heard-none r f at l h = record { past = refl; phase = refl; small = h; place = by r }
   where
     by : (r : Rate) → none ≡ oddGrowth r at []
     by One = refl
@@ -258,8 +256,7 @@ pub parts-none : (r : Rate) (at : ℕ) (rec : List Taken) (l : Line) (f : ℕ) (
 parts-none r at rec l f b d h = record {
   fits = omega arith;
   at-place = rw (mul-zero, add-zero);
-  even = λ k. rw mul-zero;
-  line = rw (part-symbols r 0, mul-zero) (unfold decidedWords in heard-none r at l h);
+  line = rw (part-symbols r 0, mul-zero) (unfold decidedWords in heard-none r f at l h);
   stored = unfold over octetsOf in refl;
   least = rw (part-symbols r 0, mul-zero) (unfold decidedLeads leastFrom in refl);
 }
@@ -268,13 +265,6 @@ pub parts-long : {r : Rate} {at : ℕ} {rec : List Taken} {l : Line} {f : ℕ} {
     {place k : ℕ} {out : List ℕ} → Parts r at rec l f b d p place k out → length out ≡ length d
 parts-long {r} {at} {rec} {l} {d = d} {k = k} s =
     ap length (s .stored) ∙ length-over _ d (rw octets-length (s .fits))
-
-parity : (r : Rate) (k n : ℕ) → (octetSymbols r * k) % 2 ≡ 0 → octetSymbols r * n ≡ 64
-    → (octetSymbols r * (k + n)) % 2 ≡ 0
-parity One k n e f = omega arith
-parity Two k n e f = omega arith
-parity Five k n e f = omega arith
-parity Eleven k n e f = omega arith
 
 chips-sum : (r : Rate) (k n : ℕ) → octetChips r * (k + n) ≡ octetChips r * k + octetChips r * n
 chips-sum One k n = omega arith
@@ -313,13 +303,24 @@ module _
         by Five p = omega arith
         by Eleven p = omega arith
 
-    pub block-symbol : (symbols : ℕ) → symbols ≡ octetSymbols r → f ≤ at → f + symbols * k ≤ place
-    block-symbol symbols e h = rw (e, s .at-place) (omega (arith, few-symbols r k))
+    -- and the numbers of its symbols do not wrap
+    pub block-symbol : (symbols m : ℕ) → symbols ≡ octetSymbols r → f + octetSymbols r * length d < m
+        → f + symbols * k + octetSymbols r * n < m
+    block-symbol symbols m e h = rw e (by r (omega (arith, w .within, parts-long s)) h)
+      where
+        by : (r : Rate) → k + n ≤ length d → f + octetSymbols r * length d < m
+            → f + octetSymbols r * k + octetSymbols r * n < m
+        by One p q = omega arith
+        by Two p q = omega arith
+        by Five p q = omega arith
+        by Eleven p q = omega arith
 
     pub parts-more : (g m : Part) (y : List ℕ) (chips symbols : ℕ)
-        → Heard r place (p .heard .line) (partWords r place n rec) (g .heard)
+        → Heard r (f + symbols * k) place (p .heard .line) (partWords r place n rec) (g .heard)
         → g .least ≡ leastFrom (f + symbols * k) (p .least) (partLeads r place n rec)
-        → y ≡ over (plainOctets r n (p .heard .line) (partWords r place n rec)) (take (length out - k) (drop k out))
+        → y
+        ≡ over (plainOctets r (f + symbols * k) n (p .heard .line) (partWords r place n rec))
+        (take (length out - k) (drop k out))
         → (m .heard .line ≡ g .heard .line) × ((whereFound (m .heard .odd)
         ≡ orElse (whereFound (p .heard .odd)) (λ place. some place) (whereFound (g .heard .odd)))
         × (m .least ≡ g .least))
@@ -332,23 +333,26 @@ module _
         let there : place ≡ at + symbolChips r * length ws =
         s .at-place
         ∙ ap (λ (i : ℕ). at + i) (sym (ap (λ (i : ℕ). symbolChips r * i) (part-length r at k rec) ∙ part-chips r k)) in
-        let ev : length ws % 2 ≡ 0 = ap (λ (i : ℕ). i % 2) (part-length r at k rec) ∙ s .even b in
+        let number : f + symbols * k ≡ f + length ws =
+        ap (λ (c : ℕ). f + c) (ap (λ (c : ℕ). c * k) i ∙ sym (part-length r at k rec)) in
         let words : partWords r at (k + n) rec ≡ ws ++ vs =
         part-more r at k n rec ∙ ap (λ (p : ℕ). ws ++ partWords r p n rec) (sym (s .at-place)) in
         record {
           fits = omega (arith, w .within, parts-long s);
           at-place = ap₂ {C = ℕ} (λ p c. p + c * n) (s .at-place) e ∙ omega (arith, chips-sum r k n);
-          even = λ q. parity r k n (s .even b) (w .full (omega (arith, parts-long s)));
           line =
               rw words
-              (blocks-more r at l ws vs h ev (s .line) (g .heard) (m .heard)
-              (subst (λ (q : ℕ). Heard r q (h .line) vs (g .heard)) there x) (j .0) (j .1 .0));
+              (blocks-more r f at l ws vs h (s .line) (g .heard) (m .heard)
+              (subst (λ (q : ℕ). Heard r (f + length ws) q (h .line) vs (g .heard)) there
+              (subst (λ (q : ℕ). Heard r q place (h .line) vs (g .heard)) number x))
+              (j .0) (j .1 .0));
           stored =
-              over-next (plainOctets r k l ws) (plainOctets r n (h .line) vs) d out y k (s .stored)
-              (octets-length k (plainBits r l ws)) z
+              over-next (plainOctets r f k l ws) (plainOctets r (f + symbols * k) n (h .line) vs) d out y k (s .stored)
+              (octets-length k (plainBits r f l ws)) z
               ∙ ap (λ (u : List ℕ). over u d)
-              (sym (ap (plainOctets r (k + n) l) words
-              ∙ blocks-octets r at l ws vs h ev (s .line) k n (part-length r at k rec)));
+              (sym (ap (plainOctets r f (k + n) l) words
+              ∙ blocks-octets r f at l ws vs h (s .line) k n (part-length r at k rec)
+              ∙ ap (λ (q : ℕ). plainOctets r f k l ws ++ plainOctets r q n (h .line) vs) (sym number)));
           least =
               j .1 .1 ∙ o
               ∙ ap₂ {C = Least} (λ q c. leastFrom (f + symbols * k) c (partLeads r q n rec)) (s .at-place) (s .least)
@@ -365,10 +369,10 @@ pub parts-all : {r : Rate} {at : ℕ} {rec : List Taken} {l : Line} {f : ℕ} {a
 parts-all {r} {at} {rec} {l} {f} {a} {d} {p} {place} {k} {out} s b =
     let is : k ≡ length d = le-antisymm (s .fits) b in
     record {
-      line = subst (λ (n : ℕ). Heard r at l (partWords r at n rec) (p .heard)) is (s .line);
+      line = subst (λ (n : ℕ). Heard r f at l (partWords r at n rec) (p .heard)) is (s .line);
       octets =
           s .stored
-          ∙ over-all (plainOctets r k l (partWords r at k rec)) d (rw octets-length b)
-          ∙ ap (λ (n : ℕ). plainOctets r n l (partWords r at n rec)) is;
+          ∙ over-all (plainOctets r f k l (partWords r at k rec)) d (rw octets-length b)
+          ∙ ap (λ (n : ℕ). plainOctets r f n l (partWords r at n rec)) is;
       least = s .least ∙ ap (λ (n : ℕ). leastFrom f a (partLeads r at n rec)) is;
     }

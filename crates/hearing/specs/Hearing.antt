@@ -22,9 +22,10 @@ partWords r at n rec = decidedWords r (8 * n / symbolBits r) (drop at rec)
 abbrev pub partLeads : Rate → ℕ → ℕ → List Taken → List ℕ
 partLeads r at n rec = decidedLeads r (8 * n / symbolBits r) (drop at rec)
 
--- n octets heard from place `at`, whose first symbol is number k of the frame and before which b was the smallest lead
+-- n octets heard from place `at`, whose first symbol is number k of the frame, odd or even, and before which b was the
+-- smallest lead
 pub record PartHeard (r : Rate) (at n : ℕ) (rec : List Taken) (l : Line) (k : ℕ) (b : Least) (p : Part) (out : List ℕ)
     : Type 0 where
-  pub line : Heard r at l (partWords r at n rec) (p .heard)
-  pub octets : out ≡ plainOctets r n l (partWords r at n rec)
+  pub line : Heard r k at l (partWords r at n rec) (p .heard)
+  pub octets : out ≡ plainOctets r k n l (partWords r at n rec)
   pub least : p .least ≡ leastFrom k b (partLeads r at n rec)

@@ -2,7 +2,7 @@
 // lead of their symbols.
 ghost use mathlib.Core.Path.{_≡_};
 ghost use mathlib.Core.Option.{some};
-ghost use Prim.Native.Nat.{_+_, _*_, _≤_, _<_};
+ghost use Prim.Native.Nat.{_+_, _*_, _^_, _≤_, _<_};
 ghost use lib.ListN.{length};
 ghost use Rattle.base.specs.Over.{over};
 ghost use Rattle.rates.specs.Rates.{octetSymbols, octetChips};
@@ -53,8 +53,8 @@ pub fn joined(a: Hearing, b: Part) -> Part
     Part { heard, least }
 }
 
-// So many octets of usable chips that start at a place, at most a block, into a buffer's front. The first symbol is
-// even.
+// So many octets of usable chips that start at a place, at most a block, into a buffer's front. Their first symbol
+// has a number in the frame, even or odd.
 fn hear_block(
     rec: Recorder,
     row: &[u8],
@@ -72,12 +72,12 @@ fn hear_block(
     requires { ⌜ (octetSymbols rate * count ≤ 64) × (count ≤ length (now out))
         × (place + octetChips rate * count ≤ length (lent rec row bytes i q))
         × AllUsable (lent rec row bytes i q) place (octetChips rate * count) × (line .phase < 4)
-        × (symbol ≤ place) ⌝ }
-    ensures answer { λ r. ⌜ Heard rate place line (partWords rate place count
+        × (symbol + octetSymbols rate * count < 2 ^ 64) ⌝ }
+    ensures answer { λ r. ⌜ Heard rate symbol place line (partWords rate place count
         (lent rec (row .entry) (bytes .entry) (i .entry) (q .entry))) (r .heard) ⌝ }
     ensures least { λ r. ⌜ r .least ≡ leastFrom symbol least (partLeads rate place count
         (lent rec (row .entry) (bytes .entry) (i .entry) (q .entry))) ⌝ }
-    ensures out { λ _. ⌜ now (out .exit) ≡ over (plainOctets rate count line (partWords rate place count
+    ensures out { λ _. ⌜ now (out .exit) ≡ over (plainOctets rate symbol count line (partWords rate place count
         (lent rec (row .entry) (bytes .entry) (i .entry) (q .entry)))) (now (out .entry)) ⌝ }
 {
     let mut numbers = [0u8; 64];
@@ -96,7 +96,7 @@ fn hear_block(
         &mut numbers,
         &mut leads,
     );
-    let heard = blocks::hear(rate, place, line, numbers, count, out);
+    let heard = blocks::hear(rate, symbol, place, line, numbers, count, out);
     let least = blocks::least::least_after(least, symbol, &leads, m);
     Part { heard, least }
 }
@@ -110,8 +110,8 @@ fn block_octets(rate: Rate, left: usize) -> usize
 }
 
 // The octets that start at a place, as many as there is room for, from usable chips, and the smallest lead after them,
-// with symbols of the frame numbered on from one. In a part they are numbered from 0; a block that another follows has
-// 64, so each block starts with an even one.
+// with symbols of the frame numbered on from one. That number need not go with the place, and may be odd: header and
+// payload both start with an even one, so a CCK symbol grew by a half turn more where its number in the frame is odd.
 pub fn hear_octets(
     rec: Recorder,
     row: &[u8],
@@ -127,7 +127,7 @@ pub fn hear_octets(
 ) -> Part
     requires { ⌜ (at + octetChips rate * length (now out) ≤ length (lent rec row bytes i q))
         × AllUsable (lent rec row bytes i q) at (octetChips rate * length (now out))
-        × (line .phase < 4) × (symbol ≤ at) ⌝ }
+        × (line .phase < 4) × (symbol + octetSymbols rate * length (now out) < 2 ^ 64) ⌝ }
     ensures answer { λ r. ⌜ PartHeard rate at (length (now (out .entry)))
         (lent rec (row .entry) (bytes .entry) (i .entry) (q .entry)) line symbol least r (now (out .exit)) ⌝ }
 {

@@ -3,9 +3,9 @@
 --     payload-odd, payload-octets, payload-least    of n octets heard
 --     octets-back                    the part of the buffer that was lent for them, back in its place
 -- Assumes nothing.
-use mathlib.Core.Path.{_≡_, sym, ap, ap₂, _∙_}
+use mathlib.Core.Path.{_≡_, refl, sym, ap, ap₂, _∙_}
 use mathlib.Core.List.{List, _++_}
-use Prim.Native.Nat.{ℕ, zero, suc, _+_, _-_, _*_, _/_, _≤_}
+use Prim.Native.Nat.{ℕ, zero, suc, _+_, _-_, _*_, _/_, _%_, _≤_}
 use native.Mathlib.Omega.{arith}
 use lib.ListN.{length, take, drop, replicate, length-append}
 use lib.Seq.{drop-at, length-take-le}
@@ -40,7 +40,7 @@ use Rattle.recorded.specs.Recorded.{whereFound}
 use Rattle.lines.specs.declared.Line.{Line}
 use Rattle.hearing.specs.declared.Part.{Part}
 use Rattle.hearing.specs.Hearing.{partLeads, PartHeard}
-use Rattle.bits.proofs.Heard.{heard-length}
+use Rattle.bits.proofs.Heard.{heard-length, heard-parity}
 use Rattle.reading.proofs.Places.{decidedWords-length}
 use Rattle.reading.proofs.Leads.{frame-least}
 use Rattle.fronts.specs.Openings.{Opened}
@@ -64,6 +64,11 @@ front-length k rec =
     (heard-length One 0 (reference k rec) (preambleWords k rec) ∙ preamble-bits k rec)
     (heard-length (headerRate k) 0 (headerPhase k rec) (headerWords k rec) ∙ header-bits k rec)
 
+-- the payload's first symbol is an even one of the frame
+even : (k : Kind) → frontChips k / 11 % 2 ≡ 0 % 2
+even Long = refl
+even Short = refl
+
 module _
     (k : Kind) (r : Rate) (n : ℕ) (rec : List Taken) (l : Line) (b : Least) (p : Part) (out : List ℕ)
     (o : Opened k rec l) (x : PartHeard r (frontChips k) n rec l (frontChips k / 11) b p out) where
@@ -80,7 +85,8 @@ module _
       let ws = decidedWords r (8 * n / symbolBits r) (drop (frontChips k) rec) in
       let bits = heard r 0 (payloadPhase k rec) ws in
       x .octets
-      ∙ ap (λ (p : ℕ). octetsOf n (descramble (pastOf (l .past)) (heard r 0 p ws))) (o .at-phase)
+      ∙ ap (λ (bs : List ℕ). octetsOf n (descramble (pastOf (l .past)) bs))
+      (heard-parity r (frontChips k / 11) 0 (l .phase) ws (even k) ∙ ap (λ (p : ℕ). heard r 0 p ws) (o .at-phase))
       ∙ ap (octetsOf n)
       (descramble-window (pastOf (l .past)) (pastAfter (start k) (frontHeard k rec)) bits (o .past)
       ∙ sym (ap (drop (preambleLength k + headerLength)) (descramble-append (start k) (frontHeard k rec) bits)

@@ -34,7 +34,7 @@ growths-requires c κs =
 
 codes-requires : tie.Need-codes-requires
 codes-requires c κs =
-    growths-low (c .before .before .before .before .args .rate) (c .before .phases .result) _ (c .growths .ensures)
+    growths-low (c .before .before .before .before .args .rate) _ (c .before .phases .result) _ (c .growths .ensures)
 
 octets-requires : tie.Need-octets-requires
 octets-requires c κs =
@@ -42,7 +42,7 @@ octets-requires c κs =
       start .pre .0,
       count-fits (start .args .rate) (start .args .count) (start .pre .0),
       codes-low (start .args .rate) (c .before .growths .result) (start .args .numbers) _
-          (growths-low (start .args .rate) (c .before .before .phases .result) _ (c .before .growths .ensures))
+          (growths-low (start .args .rate) _ (c .before .before .phases .result) _ (c .before .growths .ensures))
           (c .codes .ensures),
     )
 
@@ -78,13 +78,13 @@ returns c =
     let octets = c .before .before .before .before .before in
     let phases = octets .before .before .before in
     let start = phases .before .before .before in (
-      block-heard (start .args .rate) (start .args .line) (start .args .count) (start .args .numbers) _ _ _
+      block-heard (start .args .rate) _ (start .args .line) (start .args .count) (start .args .numbers) _ _ _
           (octets .octets .result) (start .pre .0) (start .pre .4) (start .pre .5) (phases .phases .ensures)
           (octets .before .before .growths .ensures) (octets .before .codes .ensures) (octets .octets .ensures) _ _ _
           (phases .before .octet-symbols .ensures) (start .pre .3) (c .odd-in .ensures),
       c .before .before .before .unscramble .ensures
           ∙ ap (λ (w : List ℕ). over w (start .args .out .now))
-          (block-octets (start .args .rate) (start .args .line) (start .args .count) (start .args .numbers) _ _ _
+          (block-octets (start .args .rate) _ (start .args .line) (start .args .count) (start .args .numbers) _ _ _
           (octets .octets .result) (start .pre .0) (start .pre .4) (start .pre .5) (phases .phases .ensures)
           (octets .before .before .growths .ensures) (octets .before .codes .ensures) (octets .octets .ensures)),
     )

@@ -16,18 +16,19 @@ returns-3 : tie.Need-returns-3
 returns-3 c =
     let start = c .before .before in
     rw (c .enum-told3 .given .1)
-    (half-turned (start .args .p) (start .args .q) (start .args .k) (start .pre .0) (start .pre .1), omega arith)
+    (half-turned _ _ _ (start .args .k) (start .pre .0) (start .pre .1) (start .pre .2), omega arith)
 
 returns-4 : tie.Need-returns-4
 returns-4 c =
     let start = c .before .before in
     rw (c .enum-told4 .given .1)
-    (half-turned (start .args .p) (start .args .q) (start .args .k) (start .pre .0) (start .pre .1), omega arith)
+    (half-turned _ _ _ (start .args .k) (start .pre .0) (start .pre .1) (start .pre .2), omega arith)
 
 pub grown-spec : {M : Type 1} → statement M
 grown-spec =
     tie.close
     (tie.spec
+    (λ c. search needs) (λ c. search needs) (λ c. search needs) (λ c. search needs)
     (λ c. search needs) (λ c. search needs) (λ c. search needs) (λ c. search needs) (λ c. search needs)
     (λ c. search needs) (λ c. search needs) (λ c. search needs) (λ c. search needs) (λ c. search needs)
     (λ c. search needs) (λ c. search needs) (λ c. search needs) (λ c. search needs) (λ c. search needs)

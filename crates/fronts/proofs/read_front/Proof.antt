@@ -20,8 +20,8 @@ returns c =
     (c .before .before .before .front-chips .ensures) (c .before .if1 .taken))
     (c .refused .ensures)
 
-read-usable-requires : tie.Need-read-usable-requires
-read-usable-requires c κs =
+hear-front-requires : tie.Need-hear-front-requires
+hear-front-requires c κs =
     let told = c .before .before .before .before in
     all-usable (told .before .before .before .before .before .args .kind) _ _ _ (told .before .front-chips .ensures)
     (within _ _ _ (told .chip-count .ensures) (c .before .before .before .if1 .left))
@@ -37,14 +37,16 @@ returns-2 c =
 
 returns-3 : tie.Need-returns-3
 returns-3 c =
-    front-usable _ _ _ _ (c .before .before .before .before .before .before .front-chips .ensures)
-    (within _ _ _ (c .before .before .before .before .before .chip-count .ensures)
-    (c .before .before .before .before .if1 .left))
-    (c .before .before .before .first-unusable .ensures) _ (c .before .enum-told .given .1) (c .read-usable .ensures)
+    let told = c .before .before .before .before .before .before in
+    front-usable _ _ _ _ (told .before .front-chips .ensures)
+    (within _ _ _ (told .chip-count .ensures) (c .before .before .before .before .before .if1 .left))
+    (c .before .before .before .before .first-unusable .ensures) _ (c .before .before .enum-told .given .1)
+    (c .told .ensures _ (c .before .hear-front .ensures))
 
 pub read-front-spec : {M : Type 1} → statement M
 read-front-spec =
     tie.close
     (tie.spec
     (λ c κs. search needs) (λ c κs. search needs) (λ c κs. search needs) returns (λ c κs. search needs)
-    (λ c. search needs) (λ c κs. search needs) (λ c. search needs) read-usable-requires returns-2 returns-3)
+    (λ c. search needs) (λ c κs. search needs) (λ c. search needs) hear-front-requires (λ c κs. search needs) returns-2
+    returns-3)

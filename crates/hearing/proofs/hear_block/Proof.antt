@@ -15,7 +15,7 @@ use Rattle.recorded.specs.Recorded.{AllUsable}
 use Rattle.recorders.proofs.Rows.{recording-fits}
 use borrow.Author.Needs.{needs}
 use Rattle.blocks.specs.Heard.{plainOctets, Heard}
-use Rattle.hearing.proofs.Parts.{block-words, block-are-words, block-leads, few-symbols}
+use Rattle.hearing.proofs.Parts.{block-words, block-are-words, block-leads}
 use Rattle.hearing.proofs.hear_block.Statement.{statement}
 use Rattle.hearing.proofs.hear_block.Tie as tie
 
@@ -31,8 +31,8 @@ module _ (r : Rate) (s n : ℕ) (e : s ≡ octetSymbols r) where
       → AllUsable rec place (symbolChips r * (s * n))
   usable rec place h = rw (e, part-chips r n) h
 
-  numbered : (symbol place : ℕ) → symbol ≤ place → place + octetChips r * n < 2 ^ 64 → symbol + s * n < 2 ^ 64
-  numbered symbol place h l = rw e (omega (arith, few-symbols r n))
+  numbered : (symbol : ℕ) → symbol + octetSymbols r * n < 2 ^ 64 → symbol + s * n < 2 ^ 64
+  numbered symbol h = rw e h
 
 mul-m : tie.Need-mul-m
 mul-m c =
@@ -85,7 +85,7 @@ least-after-requires c κs =
     let a = start .args in
     let e = decided .before .before .before .octet-symbols .ensures in (
       within (a .rate) _ (a .count) e (start .pre .0),
-      numbered (a .rate) _ (a .count) e (a .symbol) (a .place) (start .pre .5) (ends decided),
+      numbered (a .rate) _ (a .count) e (a .symbol) (start .pre .5),
       decided .decide .ensures .1 .long,
     )
 
@@ -98,14 +98,15 @@ returns c =
     let e = decided .before .before .before .octet-symbols .ensures in
     let rec = recordingOf (a .rec) (a .row .now) (a .bytes .now) (a .i .now) (a .q .now) in
     let words = block-words (a .rate) _ (a .count) e rec (a .place) _ (decided .decide .ensures .0) (start .pre .0) in (
-      subst (λ (ws : List ℕ). Heard (a .rate) (a .place) (a .line) ws (heard .hear .result)) words
+      subst (λ (ws : List ℕ). Heard (a .rate) (a .symbol) (a .place) (a .line) ws (heard .hear .result)) words
           (heard .hear .ensures .0),
       (
         c .least-after .ensures
             ∙ ap (leastFrom (a .symbol) (a .least))
             (block-leads (a .rate) _ (a .count) e rec (a .place) _ (decided .decide .ensures .1) (start .pre .0)),
         heard .hear .ensures .1
-            ∙ ap (λ (ws : List ℕ). over (plainOctets (a .rate) (a .count) (a .line) ws) (a .out .now)) words,
+            ∙ ap (λ (ws : List ℕ). over (plainOctets (a .rate) (a .symbol) (a .count) (a .line) ws) (a .out .now))
+            words,
       ),
     )
 

@@ -3,7 +3,7 @@ use Prim.Native.Nat.{_+_, _-_, _*_, _^_, _≤_, _<_}
 use native.Mathlib.Omega.{arith}
 use lib.ListN.{length, length-drop}
 use Rattle.base.proofs.Over.{lent}
-use Rattle.rates.specs.Rates.{octetChips}
+use Rattle.rates.specs.Rates.{octetSymbols, octetChips}
 use Rattle.recorders.specs.Rows.{recordingOf}
 use Rattle.recorders.proofs.Rows.{recording-fits}
 use borrow.Author.Needs.{needs}
@@ -59,24 +59,23 @@ ends c =
           (start .good .1 .1 .0 .0) (start .good .1 .1 .1 .0 .0),
     ))
 
--- the number of its first symbol is at most its place
-numbered : (c : tie.After-block-octets Inv-loop μ-loop)
-    → begun (c .before .before) .args .symbol
-    + c .before .before .before .octet-symbols .result * c .before .before .loop .k
-    ≤ c .before .before .loop .place
+-- the numbers of its symbols
+numbered : (c : tie.After-block-octets Inv-loop μ-loop) → let a = begun (c .before .before) .args in
+    a .symbol + c .before .before .before .octet-symbols .result * c .before .before .loop .k
+    + octetSymbols (a .rate) * c .block-octets .result < 2 ^ 64
 numbered c =
     block-symbol _ _ _ _ _ _ _ _ _ _ _ _ (c .before .before .loop .inv) (left (c .before))
-    (c .block-octets .ensures) _ (c .before .before .before .octet-symbols .ensures)
+    (c .block-octets .ensures) _ _ (c .before .before .before .octet-symbols .ensures)
     (begun (c .before .before) .pre .3)
 
 loop-holds : tie.Need-loop-holds Inv-loop μ-loop
 loop-holds c = parts-none _ _ _ _ _ _ _ (c .before .before .before .before .before .before .pre .2)
 
 mul-number : tie.Need-mul-number Inv-loop μ-loop
-mul-number c = record { fits = omega (arith, numbered c, ends c) }
+mul-number c = record { fits = omega (arith, numbered c) }
 
 add-number : tie.Need-add-number Inv-loop μ-loop
-add-number c = record { fits = omega (arith, numbered c, ends c) }
+add-number c = record { fits = omega (arith, numbered c) }
 
 -- a turn's block, once its octets are lent
 abbrev block : tie.After-hear-block-arg Inv-loop μ-loop → tie.After-block-octets Inv-loop μ-loop

@@ -1,7 +1,7 @@
 -- `fronts::heard::hear_front` meets its contract: the preamble and the header are heard one after the other on one
 -- line. Assumes nothing.
 use mathlib.Core.Path.{_≡_, refl, subst}
-use Prim.Native.Nat.{ℕ, _+_, _*_, _/_}
+use Prim.Native.Nat.{ℕ, _+_, _*_, _/_, _≤_}
 use native.Mathlib.Nat.{zero-add}
 use native.Mathlib.Omega.{arith}
 use Rattle.rates.specs.declared.Rate.{Rate}
@@ -15,6 +15,7 @@ use Rattle.recorded.proofs.Search.{usable-part}
 use Rattle.calls.specs.declared.Least.{Least}
 use Rattle.hearing.specs.declared.Part.{Part}
 use Rattle.hearing.specs.Hearing.{PartHeard}
+use Rattle.hearing.proofs.Parts.{few-symbols}
 use Rattle.lines.specs.declared.Line.{Line}
 use mathlib.Core.List.{List}
 use borrow.Author.Needs.{needs}
@@ -30,6 +31,13 @@ module _ (k : Kind) (r : Rate) (from : ℕ) (e : r ≡ headerRate k) (f : from �
       by : (k : Kind) → preambleChips k + octetChips (headerRate k) * 6 ≡ frontChips k
       by Long = refl
       by Short = refl
+
+  few : frontChips k ≤ 2112
+  few = by k
+    where
+      by : (k : Kind) → frontChips k ≤ 2112
+      by Long = omega arith
+      by Short = omega arith
 
   usable : (rec : List Taken) → AllUsable rec 0 (frontChips k) → AllUsable rec from (octetChips r * 6)
   usable rec u = rw (zero-add from) at (usable-part from (octetChips r * 6) u (omega (arith, ends)))
@@ -50,7 +58,7 @@ hear-octets-requires c κs =
       omega (arith, ends k _ _ e f, start .pre .0),
       usable k _ _ e f _ (start .pre .1),
       c .before .before .before .before .before .before .before .hear-preamble .ensures .line .small,
-      omega arith,
+      omega (arith, ends k _ _ e f, few-symbols (c .before .before .header-rate .result) 6, few k _ _ e f),
     )
 
 returns : tie.Need-returns

@@ -1,7 +1,7 @@
 -- `fronts::heard::hear_sync` meets its contract: the first block and the rest are heard one after the other on one
 -- line. Assumes nothing.
 use mathlib.Core.Path.{_≡_, refl, _∙_}
-use Prim.Native.Nat.{ℕ, _+_, _-_, _≤_}
+use Prim.Native.Nat.{ℕ, _+_, _-_, _*_, _^_, _≤_, _<_}
 use native.Mathlib.Omega.{arith}
 use lib.ListN.{length}
 use Rattle.rates.specs.declared.Rate.the-variants.{One}
@@ -25,9 +25,13 @@ counted : (k : Kind) (n : ℕ) → n ≡ syncOctets k + 2 → (8 ≤ n) × (n �
 counted Long n e = (omega arith, omega arith)
 counted Short n e = (omega arith, omega arith)
 
+few : (k : Kind) → 64 + 8 * (syncOctets k - 6) < 2 ^ 64
+few Long = omega arith
+few Short = omega arith
+
 -- how long the row is once the first block is heard
-long : (c : tie.After-hear) → length (c .hear .last .1 .1 .1 .1 .1 .0) ≡ 18
-long c = c .hear .kept .1 .1 .1 .1 .1 .0
+long : (c : tie.After-hear) → length (c .hear .last .1 .1 .1 .1 .1 .1 .0) ≡ 18
+long c = c .hear .kept .1 .1 .1 .1 .1 .1 .0
     ∙ c .before .before .before .before .before .before .before .before .before .before .pre .2
 
 decide-requires : tie.Need-decide-requires
@@ -66,12 +70,12 @@ hear-octets-requires c κs =
     let heard = c .before .before .before .before .before .before .before in
     let start = heard .before .before .before .before .before .before .before .before .before .before in
     let a = start .args in
-    let rest = rest-lent (a .kind) (heard .hear .last .1 .1 .1 .1 .1 .0) _ (long heard)
+    let rest = rest-lent (a .kind) (heard .hear .last .1 .1 .1 .1 .1 .1 .0) _ (long heard)
     (c .before .before .preamble-octets .ensures) in (
       rest-room (a .kind) _ _ rest (start .pre .0),
       usable-part 704 _ (start .pre .1) (rest-room (a .kind) _ _ rest (omega arith)),
       heard .hear .ensures .0 .small,
-      omega arith,
+      rw rest (few (a .kind)),
     )
 
 returns : tie.Need-returns
@@ -85,7 +89,7 @@ returns c =
     _ _ _ _ _ _ _ _ _ _ _ _
     (decided .0) (decided .1) (c .before .before .before .before .before .before .before .least-of .ensures)
     (heard .before .before .first-line .ensures) (heard .hear .ensures .0) (heard .hear .ensures .1)
-    (rest-lent (a .kind) (heard .hear .last .1 .1 .1 .1 .1 .0) _ (long heard) count) count
+    (rest-lent (a .kind) (heard .hear .last .1 .1 .1 .1 .1 .1 .0) _ (long heard) count) count
     (c .before .before .before .hear-octets .ensures)
     (c .joined .ensures)
 

@@ -3,12 +3,12 @@
 use mathlib.Core.Path.{_≡_, sym, ap, subst, _∙_}
 use mathlib.Core.List.{List, _++_}
 use mathlib.Core.Option.{none, some}
-use Prim.Native.Nat.{ℕ, _+_, _-_, _*_, _/_, _≤_}
+use Prim.Native.Nat.{ℕ, _+_, _-_, _*_, _/_, _^_, _≤_, _<_}
 use native.Mathlib.Omega.{arith}
 use lib.ListN.{length, take, drop, replicate}
 use lib.Seq.{length-front}
 use Rattle.rates.specs.declared.Rate.{Rate}
-use Rattle.rates.specs.Rates.{octetChips}
+use Rattle.rates.specs.Rates.{octetSymbols, octetChips}
 use Rattle.chips.specs.Chips.{Taken}
 use Rattle.lines.specs.declared.Line.{Line}
 use Rattle.frame.specs.declared.Kind.{Kind}
@@ -20,6 +20,8 @@ use Rattle.recorded.specs.declared.Place.the-variants.{Nothing, At}
 use Rattle.recorded.specs.Recorded.{whereFound, AllUsable}
 use Rattle.hearing.specs.declared.Part.{Part}
 use Rattle.hearing.specs.Hearing.{PartHeard}
+use Rattle.hearing.proofs.Parts.{few-symbols}
+use Rattle.recorders.proofs.Rows.{recording-fits}
 use Rattle.fronts.specs.Openings.{Opened}
 use borrow.Author.Needs.{needs}
 use Rattle.reader.proofs.Behind.{payload-odd, payload-octets, payload-least, lent-long, octets-back}
@@ -29,6 +31,11 @@ use Rattle.reader.proofs.payload.hear_payload.Tie as tie
 room : (k : Kind) (r : Rate) (n from m all : ℕ) → from ≡ frontChips k → m ≡ n → frameChips k r n ≤ all
     → from + octetChips r * m ≤ all
 room k r n from m all e f h = rw (e, f) h
+
+-- there are fewer symbols than chips, so that their numbers do not wrap
+numbers : (k : Kind) (r : Rate) (n from m all : ℕ) → from ≡ frontChips k → m ≡ n → frameChips k r n < all
+    → from / 11 + octetSymbols r * m < all
+numbers k r n from m all e f h = omega (arith, room k r n from m (frameChips k r n) e f (omega arith), few-symbols r m)
 
 usable : (k : Kind) (r : Rate) (n from m : ℕ) (rec : List Taken) → from ≡ frontChips k → m ≡ n
     → AllUsable rec (frontChips k) (octetChips r * n) → AllUsable rec from (octetChips r * m)
@@ -78,7 +85,13 @@ hear-octets-requires c κs =
       room (a .kind) (a .rate) (a .n) _ _ _ from long (start .pre .0),
       usable (a .kind) (a .rate) (a .n) _ _ _ from long (start .pre .1),
       start .pre .3 .small,
-      omega arith,
+      numbers (a .kind) (a .rate) (a .n) _ _ _ from long
+          (omega (
+            arith,
+            start .pre .0,
+            recording-fits (a .rec) (a .row .now) (a .bytes .now) (a .i .now) (a .q .now) (2 ^ 64)
+                (start .good .1 .0 .0) (start .good .1 .1 .0 .0) (start .good .1 .1 .1 .0 .0),
+          )),
     )
 
 returns : tie.Need-returns
