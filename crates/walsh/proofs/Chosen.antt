@@ -41,7 +41,7 @@ use Rattle.walsh.proofs.Groups.{keyIn, Raised, TwoKeys, two-keys, top-a
 use Rattle.walsh.proofs.Pairs as pairs
 
 -- ---- a column
-module _ (row z a : List ℤ) (l : ℕ) (few : l < 16) (h : Entered row 32 z) (p : Paired z a) where
+module _ (row z a : List ℤ) (l : ℕ) (few : l < 16) (h : Entered row z) (p : Paired z a) where
   abbrev f : ℕ → ℤ
   f = pairs.f row z a l few h p
 
@@ -387,7 +387,7 @@ module _ (row z a : List ℤ) (l : ℕ) (few : l < 16) (h : Entered row 32 z) (p
         plain (pos n) k = tt
         plain (negsuc n) k = absurd (k .le)
 
-pub keyed : {row z a first second : List ℤ} {at : List ℕ} → Entered row 32 z → Paired z a → Sought a 16 first second at
+pub keyed : {row z a first second : List ℤ} {at : List ℕ} → Entered row z → Paired z a → Sought a 16 first second at
     → Keyed first second at
 keyed {row} {z} {a} {first} {second} {at} h p s = record {
   first-long = s .first-long;

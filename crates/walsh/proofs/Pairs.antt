@@ -90,7 +90,7 @@ sixteenth : (k s n i g : ℕ) → k ≡ 256 * s + (255 - n) → n < 256 → k �
 sixteenth k s n i g e l d q = omega arith
 
 -- ---- a column
-module _ (row z a : List ℤ) (l : ℕ) (few : l < 16) (h : Entered row 32 z) (p : Paired z a) where
+module _ (row z a : List ℤ) (l : ℕ) (few : l < 16) (h : Entered row z) (p : Paired z a) where
   abbrev pub symbol : List Counts
   symbol = rows (everyRow row l 8) (everyRow row (16 + l) 8)
 

@@ -68,7 +68,7 @@ less : (z : ℤ) → (negsuc 15 *ℤ z) +ℤ pos 0 ≡ negℤ (times z)
 less (pos n) = +ℤ-idr (negsuc 15 *ℤ pos n)
 less (negsuc n) = +ℤ-idr (negsuc 15 *ℤ negsuc n) ∙ sym (negℤ-negℤ (pos (16 * suc n)))
 
-module _ (row z a : List ℤ) (l : ℕ) (few : l < 16) (h : Entered row 32 z) (p : Paired z a) where
+module _ (row z a : List ℤ) (l : ℕ) (few : l < 16) (h : Entered row z) (p : Paired z a) where
   -- the symbol's chips
   abbrev pub chip : ℕ → Counts
   chip k = pair (getD row (l + 32 * k) (pos 0)) (getD row (16 + l + 32 * k) (pos 0))

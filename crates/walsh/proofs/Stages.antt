@@ -1,11 +1,11 @@
 -- What enters the stages and what they leave, from what their calls do, and how large the numbers grow.
 --     product-fits, raised-fits, raised-is      one number times a factor, and more
---     plain-within, minus-within, last-within   what a chip is multiplied by, and what is added
---     entered-none, entered-eight               a loop over columns: before it, one more
---     columns-none, columns-more, columns-all   numbers that are seen to be small on the way
+--     scaled-none, scaled-four                  a loop over the columns of four chips: before it, one more
+--     entered                                   all eight chips have entered
+--     four-none, four-more, four-both           numbers that are seen to be small on the way
 --     paired                                    four butterflies are the first stage
 --     entered-rows, paired-rows                 numbers from -b to b grow to 16 b + 4, and then to 2 b
---     asked                                     what a butterfly asks of the rows that it is lent
+--     row-of                                    what a butterfly asks of a row that it is lent
 -- Assumes nothing.
 use mathlib.Core.Path.{_≡_, refl, sym, ap, _∙_, subst}
 use mathlib.Core.List.{List, [], _∷_}
@@ -45,14 +45,15 @@ use Rattle.walsh.specs.Rows.{
   factors,
   quarters,
   entering,
-  ColumnsWithin,
+  FourWithin,
+  FourScaled,
   Entered,
   Flown,
   Joined,
   Paired,
 }
 use Rattle.walsh.proofs.Puts.{puts, length-puts, puts-other, puts-at}
-use Rattle.walsh.proofs.Turns.{turn, fly-bounded}
+use Rattle.walsh.proofs.Turns.{turn, fly-bounded, eight-cases}
 
 -- ---- chips that enter
 -- a number of any width times a factor, and more
@@ -79,83 +80,122 @@ module _ (w : Width) {b s : ℕ} {v times more : ℤ} (wide : 16 < 2 ^ hbits w) 
   pub raised-is : toZ w (ofZ w (toZ w (ofZ w product) +ℤ toZ w (ofZ w more))) ≡ (times *ℤ v) +ℤ more
   raised-is = reads-add number quarter room .is
 
--- what a chip is multiplied by, and what is added: plain, with the minus put in, and chip 7
-pub plain-within : Within 16 (pos 16) × Within 4 (pos 0)
-plain-within = (within-pos 16, within-zero 4)
+-- ---- four chips scaled, column after column, and all eight
+-- what is written of column l
+abbrev four : List ℤ → ℕ → List ℤ → List ℤ → ℕ → ℕ → ℤ
+four row x times more l k =
+    (getD times k (pos 0) *ℤ getD row (x + l + 32 * k) (pos 0)) +ℤ getD more k (pos 0)
 
-pub minus-within : Within 16 (negsuc 15) × Within 4 (pos 0)
-minus-within = (within-neg (within-pos 16), within-zero 4)
+pub scaled-none : {row : List ℤ} {x : ℕ} {times more z : List ℤ} → FourScaled row x times more z 0 z
+scaled-none = record { long = refl; each = λ k l h g. absurd (omega arith); kept = λ j h. refl }
 
-pub last-within : Within 16 (pos 16) × Within 4 (pos 4)
-last-within = (within-pos 16, within-pos 4)
-
--- ---- one column more, the eight as the code writes them
-pub entered-none : (row z : List ℤ) → length z ≡ 256 → Entered row 0 z
-entered-none row z e = record { long = e; each = λ k l h b. absurd (omega arith) }
-
--- what the chips of column l enter as
-abbrev ins : List ℤ → ℕ → List ℤ
-ins row l = tabulate (λ k. entering k (getD row (32 * k + l) (pos 0))) 8
-
-entered-more : (row : List ℤ) (l : ℕ) (z vs : List ℤ) → Entered row l z → l < 32 → vs ≡ ins row l
-    → Entered row (l + 1) (puts z (λ k. 32 * k + l) 0 vs)
-entered-more row l z vs h few e = record {
-  long = length-puts to vs z 0 ∙ h .long;
+scaled-more : (row : List ℤ) (x : ℕ) (times more z₀ : List ℤ) (l : ℕ) (z vs : List ℤ)
+    → FourScaled row x times more z₀ l z → l < 32 → x + 128 ≤ length z₀ → vs ≡ tabulate (four row x times more l) 4
+    → FourScaled row x times more z₀ (l + 1) (puts z (λ k. x + l + 32 * k) 0 vs)
+scaled-more row x times more z₀ l z vs s few room e = record {
+  long = length-puts to vs z 0 ∙ s .long;
   each = λ k j hk hj. by k j hk hj (decLt j l);
+  kept = λ j h. puts-other to vs z 0 j (λ i hi q. omega (arith, length-four)) ∙ s .kept j h;
 }
   where
     to : ℕ → ℕ
-    to k = 32 * k + l
+    to k = x + l + 32 * k
 
-    one : (i k : ℕ) → 32 * i + l ≡ 32 * k + l → i ≡ k
+    one : (i k : ℕ) → x + l + 32 * i ≡ x + l + 32 * k → i ≡ k
     one i k q = omega arith
 
-    eight : length vs ≡ 8
-    eight = ap length e ∙ length-tabulate (λ k. entering k (getD row (32 * k + l) (pos 0))) 8
+    length-four : length vs ≡ 4
+    length-four = ap length e ∙ length-tabulate (four row x times more l) 4
 
-    by : (k j : ℕ) → k < 8 → j < l + 1 → Dec (j < l)
-        → getD (puts z (λ k. 32 * k + l) 0 vs) (32 * k + j) (pos 0) ≡ entering k (getD row (32 * k + j) (pos 0))
+    by : (k j : ℕ) → k < 4 → j < l + 1 → Dec (j < l)
+        → getD (puts z (λ k. x + l + 32 * k) 0 vs) (x + j + 32 * k) (pos 0) ≡ four row x times more j k
     by k j hk hj (yes p) =
-        puts-other to vs z 0 (32 * k + j) (λ i hi q. off i (omega (arith, eight)) q) ∙ h .each k j hk p
+        puts-other to vs z 0 (x + j + 32 * k) (λ i hi q. off i (omega (arith, length-four)) q) ∙ s .each k j hk p
       where
-        off : (i : ℕ) → i < 8 → 32 * k + j ≡ 32 * (0 + i) + l → ⊥
+        off : (i : ℕ) → i < 4 → x + j + 32 * k ≡ x + l + 32 * (0 + i) → ⊥
         off i hi q = omega arith
     by k j hk hj (no p) =
         let q : l ≡ j = omega arith in
-        subst (λ (j : ℕ). getD (puts z (λ k. 32 * k + l) 0 vs) (32 * k + j) (pos 0)
-        ≡ entering k (getD row (32 * k + j) (pos 0))) q
-        (ap (λ (n : ℕ). getD (puts z (λ k. 32 * k + l) 0 vs) n (pos 0)) from-none
-        ∙ puts-at to one vs z 0 k (omega (arith, eight)) (λ i b. omega (arith, eight, h .long))
-        ∙ ap (λ (vs : List ℤ). getD vs k (pos 0)) e
-        ∙ getD-tabulate (λ k. entering k (getD row (32 * k + l) (pos 0))) 8 k (pos 0) hk)
+        subst (λ (j : ℕ). getD (puts z (λ k. x + l + 32 * k) 0 vs) (x + j + 32 * k) (pos 0)
+        ≡ four row x times more j k) q
+        (ap (λ (n : ℕ). getD (puts z (λ k. x + l + 32 * k) 0 vs) n (pos 0)) from-none
+        ∙ puts-at to one vs z 0 k (omega (arith, length-four)) (λ i b. omega (arith, length-four, s .long))
+        ∙ ap (λ (vs : List ℤ). getD vs k (pos 0)) e ∙ getD-tabulate (four row x times more l) 4 k (pos 0) hk)
       where
-        from-none : 32 * k + l ≡ 32 * (0 + k) + l
+        from-none : x + l + 32 * k ≡ x + l + 32 * (0 + k)
         from-none = omega arith
 
-pub entered-eight : {row : List ℤ} {l : ℕ} {z : List ℤ} {v0 v1 v2 v3 v4 v5 v6 v7 : ℤ} → Entered row l z → l < 32
-    → v0 ∷ v1 ∷ v2 ∷ v3 ∷ v4 ∷ v5 ∷ v6 ∷ v7 ∷ [] ≡ ins row l
-    → Entered row (l + 1)
-    (set (set (set (set (set (set (set (set z (0 + l) v0) (32 + l) v1) (64 + l) v2) (96 + l) v3) (128 + l) v4)
-    (160 + l) v5) (192 + l) v6) (224 + l) v7)
-entered-eight {row} {l} {z} {v0} {v1} {v2} {v3} {v4} {v5} {v6} {v7} h few e =
-    entered-more row l z (v0 ∷ v1 ∷ v2 ∷ v3 ∷ v4 ∷ v5 ∷ v6 ∷ v7 ∷ []) h few e
+-- the turn with the four as the code writes them
+pub scaled-four : {row : List ℤ} {x : ℕ} {t0 t1 t2 t3 m0 m1 m2 m3 : ℤ} {z₀ : List ℤ} {l : ℕ} {z : List ℤ}
+    {v0 v1 v2 v3 : ℤ}
+    → FourScaled row x (t0 ∷ t1 ∷ t2 ∷ t3 ∷ []) (m0 ∷ m1 ∷ m2 ∷ m3 ∷ []) z₀ l z → l < 32 → x + 128 ≤ length z₀
+    → v0 ≡ (t0 *ℤ getD row (x + l) (pos 0)) +ℤ m0 → v1 ≡ (t1 *ℤ getD row (x + l + 32) (pos 0)) +ℤ m1
+    → v2 ≡ (t2 *ℤ getD row (x + l + 64) (pos 0)) +ℤ m2 → v3 ≡ (t3 *ℤ getD row (x + l + 96) (pos 0)) +ℤ m3
+    → FourScaled row x (t0 ∷ t1 ∷ t2 ∷ t3 ∷ []) (m0 ∷ m1 ∷ m2 ∷ m3 ∷ []) z₀ (l + 1)
+    (set (set (set (set z (x + l) v0) (x + l + 32) v1) (x + l + 64) v2) (x + l + 96) v3)
+unfolding tabulate
+scaled-four {row} {x} {t0} {t1} {t2} {t3} {m0} {m1} {m2} {m3} {z₀} {l} {z} {v0} {v1} {v2} {v3} s few room e0 e1 e2
+    e3 =
+    let q : x + l + 0 ≡ x + l = omega arith in
+    let first : v0 ≡ (t0 *ℤ getD row (x + l + 0) (pos 0)) +ℤ m0 = rw q e0 in
+    subst (λ (n : ℕ). FourScaled row x (t0 ∷ t1 ∷ t2 ∷ t3 ∷ []) (m0 ∷ m1 ∷ m2 ∷ m3 ∷ []) z₀ (l + 1)
+    (set (set (set (set z n v0) (x + l + 32) v1) (x + l + 64) v2) (x + l + 96) v3)) q
+    (scaled-more row x (t0 ∷ t1 ∷ t2 ∷ t3 ∷ []) (m0 ∷ m1 ∷ m2 ∷ m3 ∷ []) z₀ l z (v0 ∷ v1 ∷ v2 ∷ v3 ∷ []) s few room
+    (λ i. first i ∷ e1 i ∷ e2 i ∷ e3 i ∷ []))
+
+pub entered : {row z₀ z₁ z₂ : List ℤ} → length z₀ ≡ 256
+    → FourScaled row 0 (pos 16 ∷ pos 16 ∷ pos 16 ∷ negsuc 15 ∷ []) (pos 0 ∷ pos 0 ∷ pos 0 ∷ pos 0 ∷ []) z₀ 32 z₁
+    → FourScaled row 128 (pos 16 ∷ pos 16 ∷ negsuc 15 ∷ pos 16 ∷ []) (pos 0 ∷ pos 0 ∷ pos 0 ∷ pos 4 ∷ []) z₁ 32 z₂
+    → Entered row z₂
+entered {row} {z₀} {z₁} {z₂} e s₁ s₂ = record {
+  long = s₂ .long ∙ s₁ .long ∙ e;
+  each = λ k l h g.
+      eight-cases (λ k. getD z₂ (32 * k + l) (pos 0) ≡ entering k (getD row (32 * k + l) (pos 0)))
+      (first 0 l (lit< tt) g) (first 1 l (lit< tt) g) (first 2 l (lit< tt) g) (first 3 l (lit< tt) g)
+      (second 0 l (lit< tt) g) (second 1 l (lit< tt) g) (second 2 l (lit< tt) g) (second 3 l (lit< tt) g) k h;
+}
+  where
+    first : (k l : ℕ) → k < 4 → l < 32 → getD z₂ (32 * k + l) (pos 0)
+        ≡ (getD (pos 16 ∷ pos 16 ∷ pos 16 ∷ negsuc 15 ∷ []) k (pos 0) *ℤ getD row (32 * k + l) (pos 0))
+        +ℤ getD (pos 0 ∷ pos 0 ∷ pos 0 ∷ pos 0 ∷ []) k (pos 0)
+    first k l h g =
+        let q : 0 + l + 32 * k ≡ 32 * k + l = omega arith in
+        s₂ .kept (32 * k + l) (omega arith) ∙ (rw q at (s₁ .each k l h g))
+
+    second : (k l : ℕ) → k < 4 → l < 32 → getD z₂ (128 + 32 * k + l) (pos 0)
+        ≡ (getD (pos 16 ∷ pos 16 ∷ negsuc 15 ∷ pos 16 ∷ []) k (pos 0) *ℤ getD row (128 + 32 * k + l) (pos 0))
+        +ℤ getD (pos 0 ∷ pos 0 ∷ pos 0 ∷ pos 4 ∷ []) k (pos 0)
+    second k l h g =
+        let q : 128 + l + 32 * k ≡ 128 + 32 * k + l = omega arith in
+        rw q at (s₂ .each k l h g)
 
 -- ---- numbers that are seen to be small on the way, as bytes are
-pub columns-none : {b : ℕ} {row : List ℤ} → ColumnsWithin b row 0
-columns-none = record { at = λ k l h g. absurd (omega arith) }
+pub four-none : {b : ℕ} {row : List ℤ} {x : ℕ} → FourWithin b row x 0
+four-none = record { at = λ k l h g. absurd (omega arith) }
 
-pub columns-more : {b : ℕ} {row : List ℤ} {n : ℕ} → ColumnsWithin b row n
-    → ((k : ℕ) → k < 8 → Within b (getD row (32 * k + n) (pos 0))) → ColumnsWithin b row (n + 1)
-columns-more s h = record { at = λ k l b. below-more _ _ (λ j. s .at k j b) (h k b) l }
-
-pub columns-all : {b : ℕ} {row : List ℤ} → ColumnsWithin b row 32 → length row ≡ 256 → RowWithin b row
-columns-all {b} {row} s e = record { at = λ j. by j (decLt j 256) }
+pub four-more : {b : ℕ} {row : List ℤ} {x n : ℕ} → FourWithin b row x n → Within b (getD row (x + n) (pos 0))
+    → Within b (getD row (x + n + 32) (pos 0)) → Within b (getD row (x + n + 64) (pos 0))
+    → Within b (getD row (x + n + 96) (pos 0)) → FourWithin b row x (n + 1)
+four-more {b} {row} {x} {n} s h0 h1 h2 h3 = record {
+  at = λ k l h. below-more (λ l. Within b (getD row (x + l + 32 * k) (pos 0))) _ (λ j. s .at k j h)
+      (phase (λ k. Within b (getD row (x + n + 32 * k) (pos 0))) (rw none h0) h1 h2 h3 k h) l;
+}
   where
-    by : (j : ℕ) → Dec (j < 256) → Within b (getD row j (pos 0))
-    by j (yes p) =
-        let q : 32 * (j / 32) + j % 32 ≡ j = omega arith in
-        subst (λ (k : ℕ). Within b (getD row k (pos 0))) q (s .at (j / 32) (j % 32) (omega arith) (omega arith))
-    by j (no p) = rw (List·getD-eq-default row (pos 0) {n = j} (omega arith)) (within-zero b)
+    none : x + n + 32 * 0 ≡ x + n
+    none = omega arith
+
+pub four-both : {b : ℕ} {row : List ℤ} → FourWithin b row 0 32 → FourWithin b row 128 32 → length row ≡ 256
+    → RowWithin b row
+four-both {b} {row} s t e = record { at = λ j. by j (decLt j 128) (decLt j 256) }
+  where
+    by : (j : ℕ) → Dec (j < 128) → Dec (j < 256) → Within b (getD row j (pos 0))
+    by j (yes p) d =
+        let q : 0 + j % 32 + 32 * (j / 32) ≡ j = omega arith in
+        subst (λ (i : ℕ). Within b (getD row i (pos 0))) q (s .at (j / 32) (j % 32) (omega arith) (omega arith))
+    by j (no p) (yes d) =
+        let q : 128 + j % 32 + 32 * (j / 32 - 4) ≡ j = omega arith in
+        subst (λ (i : ℕ). Within b (getD row i (pos 0))) q (t .at (j / 32 - 4) (j % 32) (omega arith) (omega arith))
+    by j (no p) (no d) = rw (List·getD-eq-default row (pos 0) {n = j} (omega arith)) (within-zero b)
 
 -- ---- factors and what is added are small, so what has entered is
 within-cons : {b : ℕ} {v : ℤ} {t : List ℤ} → Within b v → RowWithin b t → RowWithin b (v ∷ t)
@@ -181,7 +221,7 @@ quarters-within =
     within-cons none (within-cons none (within-cons none (within-cons none (within-cons none
     (within-cons none (within-cons none (within-cons (within-pos 4) within-none)))))))
 
-pub entered-rows : {b : ℕ} {row z : List ℤ} → Entered row 32 z → RowWithin b row → RowsBounded (16 * b + 4) 8 z
+pub entered-rows : {b : ℕ} {row z : List ℤ} → Entered row z → RowWithin b row → RowsBounded (16 * b + 4) 8 z
 entered-rows {b} {row} {z} h r = record {
   row = λ k hk. record {
     at = λ l hl. record {
@@ -256,14 +296,7 @@ paired-rows {b} {z} {a} h r = record {
         → RowBounded (b + b) a (w + 32 * p)
     one f i j hi hj ei ej p hp = flies p (λ l hl. f .at p l hp hl) (row-at j r hj ej) (row-at i r hi ei)
 
--- ---- what a butterfly asks of the rows j and k of s, and of the length of what it writes to
-pub asked : {b d n m u v : ℕ} {s : List ℤ} {x y : ℕ} → RowsBounded b n s → b ≤ d → length s ≡ 32 * n → (j k : ℕ) → j < n
-    → k < n → 32 * j ≡ x → 32 * k ≡ y → v ≡ m → u ≤ m
-    → (x + 32 ≤ length s) × (y + 32 ≤ length s) × (u ≤ v) × RowBounded d s x × RowBounded d s y
-asked r more e j k hj hk ej ek em h = (
-  omega arith,
-  omega arith,
-  omega arith,
-  row-more (row-at j r hj ej) more,
-  row-more (row-at k r hk ek) more,
-)
+-- ---- what a butterfly asks of a row that it is lent
+pub row-of : {b d n : ℕ} {t : List ℤ} {x : ℕ} (k : ℕ) → RowsBounded b n t → b ≤ d → k < n → 32 * k ≡ x
+    → RowBounded d t x
+row-of k r more h e = row-more (row-at k r h e) more

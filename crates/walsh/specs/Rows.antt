@@ -35,9 +35,16 @@ pub record RowBounded (b : ℕ) (t : List ℤ) (x : ℕ) : Type 0 where
 pub record RowsBounded (b n : ℕ) (t : List ℤ) : Type 0 where
   pub row : (k : ℕ) → k < n → RowBounded b t (32 * k)
 
--- in the columns below n, of I and of Q, the numbers of all eight chips are from -b to b
-pub record ColumnsWithin (b : ℕ) (row : List ℤ) (n : ℕ) : Type 0 where
-  pub at : (k l : ℕ) → k < 8 → l < n → Within b (getD row (32 * k + l) (pos 0))
+-- in the columns below n, of I and of Q, the numbers of the four chips from place x on are from -b to b
+pub record FourWithin (b : ℕ) (row : List ℤ) (x n : ℕ) : Type 0 where
+  pub at : (k l : ℕ) → k < 4 → l < n → Within b (getD row (x + l + 32 * k) (pos 0))
+
+-- those numbers, each times its chip's factor, and more, stand at their places of z'; before x it is as z was
+pub record FourScaled (row : List ℤ) (x : ℕ) (times more : List ℤ) (z : List ℤ) (n : ℕ) (z' : List ℤ) : Type 0 where
+  pub long : length z' ≡ length z
+  pub each : (k l : ℕ) → k < 4 → l < n → getD z' (x + l + 32 * k) (pos 0)
+      ≡ (getD times k (pos 0) *ℤ getD row (x + l + 32 * k) (pos 0)) +ℤ getD more k (pos 0)
+  pub kept : (j : ℕ) → j < x → getD z' j (pos 0) ≡ getD z j (pos 0)
 
 -- chip k as it enters every word: 16 times, which leaves a key room for sixteen words, the minus of chips 3 and 6 put
 -- in, and a quarter of 16 more at chip 7, which stands unturned in all sums
@@ -50,10 +57,10 @@ quarters = pos 0 ∷ pos 0 ∷ pos 0 ∷ pos 0 ∷ pos 0 ∷ pos 0 ∷ pos 0 ∷
 abbrev pub entering : ℕ → ℤ → ℤ
 entering k v = (getD factors k (pos 0) *ℤ v) +ℤ getD quarters k (pos 0)
 
--- in the columns below n, of I and of Q, the chips have entered
-pub record Entered (row : List ℤ) (n : ℕ) (z : List ℤ) : Type 0 where
+-- all chips have entered, I and Q of each
+pub record Entered (row z : List ℤ) : Type 0 where
   pub long : length z ≡ 256
-  pub each : (k l : ℕ) → k < 8 → l < n → getD z (32 * k + l) (pos 0) ≡ entering k (getD row (32 * k + l) (pos 0))
+  pub each : (k l : ℕ) → k < 8 → l < 32 → getD z (32 * k + l) (pos 0) ≡ entering k (getD row (32 * k + l) (pos 0))
 
 -- the four rows of o' from z on hold the butterfly of the rows x and y of s in the columns below n; the rest of o' is
 -- that of o

@@ -77,6 +77,23 @@ module _ (c : tie.In-loop Inv-loop μ-loop) where
   inside-q : (k : ℕ) → k ≤ 384 → k + 32 * b3 + bl + 16 < length (c .before .before .before .args .a .now)
   inside-q k h = in-row-q k b3 bl h third-of few-of (c .before .before .before .pre .0)
 
+  -- and the place of its column in the rows of keys and groups
+  size : Fits w64 (bl * 4)
+  size = record { fits = omega (arith, few-of) }
+
+  next : Fits w64 (bl + 1)
+  next = record { fits = omega (arith, few-of) }
+
+  in-first : bl < length (c .before .loop .first)
+  in-first = omega (arith, c .before .loop .inv .1 .first-long, c .before .before .before .pre .3 .first-long, few-of)
+
+  in-second : bl < length (c .before .loop .second)
+  in-second =
+      omega (arith, c .before .loop .inv .1 .second-long, c .before .before .before .pre .3 .second-long, few-of)
+
+  in-at : bl < length (c .before .loop .at)
+  in-at = omega (arith, c .before .loop .inv .1 .at-long, c .before .before .before .pre .3 .at-long, few-of)
+
 -- what the column has, as it is read
 first-is : (c : tie.After-column-arg Inv-loop μ-loop)
     → toZ w32 (ofZ w32 (getD (c .before .before .loop .first) (c .before .before .loop .l) (pos 0)))
@@ -117,6 +134,10 @@ module _ (c : tie.After-column-arg10 Inv-loop μ-loop) where
 
   e-row : Bounded 262152 (rowAt (start .args .a .now) (0 + 32 * start .args .p3) (turn .before .loop .l))
   e-row = row (start .args .p3) _ (omega (arith, third)) (omega arith)
+
+-- the turn that is written, once the keys of its column are found
+abbrev by : tie.After-struct-told2 Inv-loop μ-loop → tie.In-loop Inv-loop μ-loop
+by c = turn (c .before .before .before)
 
 read : {x y : ℤ} → Bounded 262152 (pair x y) → Bounded 262152 (pair (toZ w32 (ofZ w32 x)) (toZ w32 (ofZ w32 y)))
 read h = record { real = within-read w32 (lit< tt) (h .real); imag = within-read w32 (lit< tt) (h .imag) }
@@ -159,8 +180,9 @@ quarter-spec =
     tie.close
     (tie.spec Inv-loop μ-loop (λ c. search needs) (λ c. search needs) (λ c. search needs) (λ c. search needs)
     (λ c. search needs) (λ c. search needs) (λ c. search needs) (λ c. search needs) (λ c. search needs)
-    (λ c. search needs) (λ c. (omega arith, quartered-none _ _ _ _ _)) (λ c. search needs) (λ c. search needs)
-    (λ c. search needs) (λ c. search needs) (λ c. search needs) (λ c. search needs)
+    (λ c. search needs) (λ c. (omega arith, quartered-none _ _ _ _ _))
+    (λ c. size c) (λ c. in-first c) (λ c. size (c .before)) (λ c. in-second (c .before))
+    (λ c. size (c .before .before)) (λ c. in-at (c .before .before .before))
     (λ c. place (c .before .before .before) 384 (lit≤ tt)) (λ c. bytes (c .before .before .before) 384 (lit≤ tt))
     (λ c. inside (c .before .before .before) 384 (lit≤ tt))
     (λ c. place (c .before .before .before .before) 384 (lit≤ tt))
@@ -188,6 +210,7 @@ quarter-spec =
     (λ c. place-q (c .before .before .before .before .before .before .before .before .before .before) 0 (lit≤ tt))
     (λ c. bytes-q (c .before .before .before .before .before .before .before .before .before .before) 0 (lit≤ tt))
     (λ c. inside-q (c .before .before .before .before .before .before .before .before .before .before) 0 (lit≤ tt))
-    column-requires (λ c. search needs) (λ c. search needs) (λ c. search needs) (λ c. search needs)
-    (λ c. search needs) (λ c. search needs) (λ c. search needs) (λ c. search needs) loop-again (λ c. search needs)
-    (λ c. search needs) (λ c. search needs) returns)
+    column-requires (λ c. size (by c)) (λ c. in-first (by c)) (λ c. size (by c)) (λ c. in-second (by c))
+    (λ c. size (by c)) (λ c. in-at (by c)) (λ c. next (by c)) (λ c. omega (arith, few-of (by c))) loop-again
+    (λ c. c .before .loop .inv .1 .first-long) (λ c. c .before .loop .inv .1 .second-long)
+    (λ c. c .before .loop .inv .1 .at-long) returns)
