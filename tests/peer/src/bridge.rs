@@ -7,6 +7,7 @@ use crate::calls::{Call, Expected, Met};
 use crate::decided::{self, Seen};
 use crate::families::{Family, Out};
 use crate::figures::Figures;
+use crate::laid::{Laid, Layings};
 use crate::leads::{self, Won};
 use crate::relations::{Held, Relations};
 use crate::reported;
@@ -54,7 +55,12 @@ pub struct Outcome {
     pub seen: Seen,
     /// How often the smallest leads were to stand in each way.
     pub won: Won,
+    /// How often rows were laid in each way.
+    pub layings: Layings,
 }
+
+/// A call with its case's number and how its rows are laid.
+type Asked = (u64, Call, Laid);
 
 impl Outcome {
     pub fn add(&mut self, other: &Outcome) {
@@ -71,6 +77,9 @@ impl Outcome {
         }
         for (key, count) in &other.won {
             *self.won.entry(*key).or_default() += count;
+        }
+        for (key, count) in &other.layings {
+            *self.layings.entry(*key).or_default() += count;
         }
     }
 
@@ -108,13 +117,13 @@ impl Bridge {
     /// Runs a family and compares every answer and every buffer. An error is a bridge that doesn't answer.
     pub fn compare(&mut self, family: &Family, figures: &Figures, run: Run) -> io::Result<Outcome> {
         let Bridge { child, requests, answers, last_answer } = self;
-        let (sender, batches) = sync_channel::<Vec<(u64, Call)>>(if run.singly { 0 } else { AHEAD });
+        let (sender, batches) = sync_channel::<Vec<Asked>>(if run.singly { 0 } else { AHEAD });
         let (mut outcome, mut relations) = (Outcome::default(), Relations::default());
         thread::scope(|scope| {
             scope.spawn(move || send_family(family, figures, run, requests, sender));
-            for (case, call) in batches.into_iter().flatten() {
+            for (case, call, laid) in batches.into_iter().flatten() {
                 let Expected { answer: expected, met, leads } = call.expected();
-                let (answer, guarded) = match call.answer(answers) {
+                let (answer, guard) = match call.answer(answers) {
                     Ok(answered) => answered,
                     Err(error) => {
                         let ahead = if run.singly { "" } else { " or soon after; --singly finds it" };
@@ -125,12 +134,13 @@ impl Bridge {
                 };
                 *last_answer.lock().expect("no panic") = Instant::now();
                 let related = relations.hold(&call, &answer, &mut outcome.held);
-                let equal = answer == expected && guarded && related.is_ok();
+                let equal = answer == expected && guard == 0 && related.is_ok();
                 if !equal && outcome.mismatches < SHOWN || run.only_case.is_some() {
                     let cut = if run.only_case.is_some() { usize::MAX } else { CUT };
                     head(if equal { "equal" } else { "MISMATCH" }, family, case, run);
                     println!("{}\n{}", call.shown(cut), call.compared(&expected, &answer, cut));
-                    say_beside(guarded, related);
+                    println!("  {}", laid.shown());
+                    say_beside(guard, related);
                 }
                 if !equal && run.until_first {
                     end_at_first(child, family);
@@ -138,6 +148,7 @@ impl Bridge {
                 outcome.calls += 1;
                 outcome.mismatches += u64::from(!equal);
                 *outcome.met.entry(met).or_default() += 1;
+                laid.count(&call, &mut outcome.layings);
                 decided::count(&call, &expected, &mut outcome.seen);
                 leads::count(&call, &expected, &leads, &mut outcome.won);
                 reported::count(&call, &expected, &leads, &mut outcome.held);
@@ -163,10 +174,13 @@ impl Bridge {
 }
 
 /// Says what else is wrong with an answer.
-fn say_beside(guarded: bool, related: Result<(), &str>) {
-    if !guarded {
-        println!("  the octets around the lent rows, or rows lent for reading, were changed");
-    }
+fn say_beside(guard: u64, related: Result<(), &str>) {
+    let faults = [
+        (1, "the octets around the lent rows, or rows lent for reading, were changed"),
+        (2, "made again, the call answered otherwise"),
+        (4, "a call that was made in the middle of this one answered otherwise than before"),
+    ];
+    faults.iter().filter(|(bit, _)| guard & bit != 0).for_each(|(_, fault)| println!("  {fault}"));
     if let Err(fault) = related {
         println!("  beside the calls before it: {fault}");
     }
@@ -193,21 +207,21 @@ fn send_family(
     figures: &Figures,
     run: Run,
     requests: &mut ChildStdin,
-    sender: SyncSender<Vec<(u64, Call)>>,
+    sender: SyncSender<Vec<Asked>>,
 ) {
     let (mut batch, mut octets) = (Vec::new(), Vec::new());
     let mut case = 0;
     // A failed write needs no word here: the comparing side finds the answers missing.
-    let mut flush = |batch: &mut Vec<(u64, Call)>, octets: &mut Vec<u8>| {
+    let mut flush = |batch: &mut Vec<Asked>, octets: &mut Vec<u8>| {
         if sender.send(std::mem::take(batch)).is_ok() {
             let _ = requests.write_all(octets).and_then(|()| requests.flush());
         }
         octets.clear();
     };
-    let mut take = |call: Call| {
+    let mut take = |call: Call, laid: Laid| {
         if run.only_case.map_or(true, |only| only == case) {
-            call.request(&mut octets);
-            batch.push((case, call));
+            call.request(&laid, &mut octets);
+            batch.push((case, call, laid));
         }
         case += 1;
         if batch.len() == BATCH_CALLS || run.singly && batch.len() == 1 || octets.len() >= BATCH_OCTETS {

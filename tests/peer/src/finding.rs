@@ -43,8 +43,9 @@ pub fn find(kind: u64, chips: &[u8], offsets: u64) -> Found {
 /// are a symbol's of many offsets, so each is decided once.
 fn symbols(chips: &[u8], places: usize) -> Vec<Option<Phase>> {
     let recording = Recording::Hard(chips);
+    let looked_at = chips.len().min(places + 10);
     let counts: Vec<Option<Counts>> =
-        (0..chips.len()).map(|place| recording.chip(place).map(|chip| chip.counts())).collect();
+        (0..looked_at).map(|place| recording.chip(place).map(|chip| chip.counts())).collect();
     let decided = |symbol: &[Option<Counts>]| {
         let symbol: Option<Vec<Counts>> = symbol.iter().copied().collect();
         symbol.map(|symbol| decide(Rate::Mbit1, &symbol).number)

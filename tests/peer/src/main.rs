@@ -53,6 +53,7 @@ mod decided;
 mod families;
 mod figures;
 mod kept;
+mod laid;
 mod leads;
 mod owed;
 mod owed_reports;

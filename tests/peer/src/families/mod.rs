@@ -62,6 +62,7 @@ use crate::calls::Call;
 use crate::chips::LOST;
 use crate::figures::Figures;
 use crate::frame::{frame_chips, front_bits, Header, Kind};
+use crate::laid::Laid;
 use crate::random::Random;
 
 pub struct Family {
@@ -161,20 +162,28 @@ pub struct Out<'a> {
     pub long: bool,
     pub random: Random,
     pub figures: &'a Figures,
-    take: &'a mut dyn FnMut(Call),
+    /// Says how rows are laid.
+    laying: Random,
+    take: &'a mut dyn FnMut(Call, Laid),
 }
 
 impl<'a> Out<'a> {
-    pub fn new(seed: u64, long: bool, figures: &'a Figures, take: &'a mut dyn FnMut(Call)) -> Out<'a> {
-        Out { long, random: Random::new(seed), figures, take }
+    pub fn new(seed: u64, long: bool, figures: &'a Figures, take: &'a mut dyn FnMut(Call, Laid)) -> Out<'a> {
+        Out { long, random: Random::new(seed), figures, laying: Random::new(seed + 1_000_000), take }
     }
 
     /// A call; before each reading of a hard recording what is coming in it, asked of the same chips.
     pub fn call(&mut self, call: Call) {
         if let Call::ReadHard { kind, chips, .. } = &call {
-            (self.take)(Call::front(*kind, chips.clone()));
+            self.alone(Call::front(*kind, chips.clone()));
         }
-        (self.take)(call);
+        self.alone(call);
+    }
+
+    /// A call with nothing before it, its rows laid in any way.
+    pub fn alone(&mut self, call: Call) {
+        let laid = Laid::any(&call, &mut self.laying);
+        (self.take)(call, laid);
     }
 
     /// A hard reading and, once in so many times, the same chips read as bytes.
