@@ -10,7 +10,8 @@
  *   6, find       u64 kind, chips_len, offsets; the chips
  *   7, add        the report, 31 u64: seen, frames (4), octets (4), refused (18), airtime, some, lead,
  *                 recording; u64 kind, chips_len; the chips
- *   8, list       u64 kinds_len; the kinds, u64 each; u64 list_len; of each recording u64 chips_len; its chips
+ *   8, list       u64 kinds_len; the kinds, u64 each; u64 list_len and how many recordings are sent, the others being
+ *                 NULL and 0; of each of these u64 chips_len; its chips
  *   9, text       the report, 31 u64 as above; u64 text_len
  * A row for reading is a u64, how many of its elements are sent, and these; the others are zeros. An answer is the
  * record (1: number, chips; 2 to 4: number, place, rate, length, n, used, clock, lead, symbol; 5: number, place, rate,
@@ -58,7 +59,7 @@
 #include <unistd.h>
 
 enum { GUARD = 64, GUARD_OCTET = 0x5C };
-enum { LIST_MAX = 1 << 14 }; /* recordings of a list; with pages each has two mappings of its own */
+enum { LIST_MAX = 1 << 14 }; /* recordings of a list that are sent; with pages each has two mappings of its own */
 enum { KEPT_MOST = 1 << 13 }; /* octets of each row of a call that is kept */
 enum { EACH_END = 1 << 12 };  /* octets of the zeros that end a row which are looked at behind a call, at each end */
 
@@ -209,7 +210,7 @@ static size_t get_elements(uint8_t *to, size_t len, size_t width)
     if (sent > len / width)
         die("more elements than a row has");
     get(to, (size_t)sent * width);
-    if (rows == EXACT)
+    if (rows == EXACT && len > sent * width)
         memset(to + sent * width, 0, len - (size_t)sent * width);
     return (size_t)sent * width;
 }
@@ -312,6 +313,7 @@ struct call {
     uint64_t op, numbers[6];
     dsss_report report;
     struct row first, second, lent, *recordings;
+    size_t sent; /* recordings */
     union answer answer;
 };
 
@@ -388,14 +390,20 @@ static void run_kept(uint64_t op)
 
 static uint64_t running; /* the op of the call that others are made in */
 
-/* What touches two parts at once is let through: both are left open. */
+/* Emulators of x86-64 may begin a handler with a stack that is not at a multiple of 16, where calls want it. */
+#ifdef __x86_64__
+__attribute__((force_align_arg_pointer)) static void touched(int number, siginfo_t *info, void *context);
+#endif
+
+/* What touches two parts at once is let through: both are left open. The address of such a touch may be in the first of
+ * them, which is open. */
 static void touched(int number, siginfo_t *info, void *context)
 {
     uint8_t *at = info->si_addr;
     size_t part = 0;
 
     (void)context;
-    while (part < PARTS && (at < parts[part].from || at >= parts[part].to || parts[part].open))
+    while (part < PARTS && (at + NEAR <= parts[part].from || at >= parts[part].to || parts[part].open))
         part++;
     if (part == PARTS) { /* a touch that is an error: made again, it ends the bridge */
         signal(number, SIG_DFL);
@@ -483,14 +491,17 @@ static uint8_t *found_in(const struct row *one, const struct row *other)
     return memcmp(chips, first + longer - len, len) == 0 ? first + longer - len : NULL;
 }
 
-static void get_recordings(struct call *c, uint64_t count)
+static void get_recordings(struct call *c)
 {
-    if (count > LIST_MAX)
+    uint64_t sent = get_number();
+
+    if (sent > LIST_MAX || sent > c->numbers[1])
         die("a list is too long");
-    c->recordings = calloc(count > 0 ? count : 1, sizeof *c->recordings);
+    c->sent = (size_t)sent;
+    c->recordings = calloc(sent > 0 ? c->sent : 1, sizeof *c->recordings);
     if (!c->recordings)
         die("no memory for a list");
-    for (size_t k = 0; k < count; k++) {
+    for (size_t k = 0; k < c->sent; k++) {
         uint8_t *shared = NULL;
         c->recordings[k] = read_row(get_number(), 1, 0);
         for (size_t before = 1; laid.shared && !shared && before <= 4 && before <= k; before++)
@@ -506,13 +517,15 @@ static void get_list(struct call *c)
     c->numbers[0] = get_number();
     c->first = read_row(c->numbers[0], sizeof(uint64_t), 0);
     uint64_t count = c->numbers[1] = get_number();
-    get_recordings(c, count);
+    get_recordings(c);
     int in_middle = laid.within && count > 1;
     uint64_t open = in_middle ? 1 + (count - 1) * laid.split / 65536 : count;
     struct row *list = &c->second;
     *list = make_row(count, sizeof(dsss_chips), open, 0, in_middle);
-    list->sent = list->to - list->from;
-    for (size_t k = 0; k < count; k++) {
+    list->sent = c->sent * sizeof(dsss_chips);
+    if (rows == EXACT && count > c->sent)
+        memset(list->memory + list->from, 0, list->to - list->from);
+    for (size_t k = 0; k < c->sent; k++) {
         dsss_chips one = {c->recordings[k].pointer, c->recordings[k].to - c->recordings[k].from};
         memcpy(list->memory + list->from + k * sizeof one, &one, sizeof one);
     }
@@ -613,7 +626,7 @@ static void put_part(const struct call *c)
 
 static void free_call(struct call *c)
 {
-    for (size_t k = 0; c->recordings && k < c->numbers[1]; k++)
+    for (size_t k = 0; k < c->sent; k++)
         free_row(&c->recordings[k]);
     free(c->recordings);
     free_row(&c->first);
@@ -654,7 +667,7 @@ static void answer_call(void)
     put(c.lent.memory + c.lent.from, c.lent.to - c.lent.from);
     if (c.op == 5)
         put_part(&c);
-    for (size_t k = 0; c.op == 8 && k < c.numbers[1]; k++)
+    for (size_t k = 0; k < c.sent; k++)
         guard |= changed(&c.recordings[k]);
     guard |= changed(&c.first) | changed(&c.second) | changed(&c.lent);
     put(&guard, sizeof guard);

@@ -19,7 +19,7 @@ use std::sync::{Arc, Mutex};
 use std::thread;
 use std::time::{Duration, Instant};
 
-/// A batch ends at so many calls or so many octets.
+/// A batch ends at so many calls, or so many octets or elements of rows.
 const BATCH_CALLS: usize = 64;
 const BATCH_OCTETS: usize = 1 << 18;
 
@@ -209,7 +209,7 @@ fn send_family(
     requests: &mut ChildStdin,
     sender: SyncSender<Vec<Asked>>,
 ) {
-    let (mut batch, mut octets) = (Vec::new(), Vec::new());
+    let (mut batch, mut octets, mut held) = (Vec::new(), Vec::new(), 0);
     let mut case = 0;
     // A failed write needs no word here: the comparing side finds the answers missing.
     let mut flush = |batch: &mut Vec<Asked>, octets: &mut Vec<u8>| {
@@ -221,11 +221,13 @@ fn send_family(
     let mut take = |call: Call, laid: Laid| {
         if run.only_case.map_or(true, |only| only == case) {
             call.request(&laid, &mut octets);
+            held += call.read_lens().iter().sum::<usize>();
             batch.push((case, call, laid));
         }
         case += 1;
-        if batch.len() == BATCH_CALLS || run.singly && batch.len() == 1 || octets.len() >= BATCH_OCTETS {
+        if batch.len() == BATCH_CALLS || run.singly && batch.len() == 1 || held.max(octets.len()) >= BATCH_OCTETS {
             flush(&mut batch, &mut octets);
+            held = 0;
         }
     };
     (family.calls)(&mut Out::new(family.seed, run.long, figures, &mut take));

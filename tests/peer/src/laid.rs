@@ -56,6 +56,11 @@ impl Laid {
         }
     }
 
+    /// The same over a lent row of 0xAA, which no call leaves: what is not written is seen.
+    pub fn over_aa(self) -> Laid {
+        Laid { old: 0, ..self }
+    }
+
     /// The word for a call.
     pub fn word(&self, call: &Call) -> u64 {
         let shift = self.shift(call).unwrap_or(0) as u64;

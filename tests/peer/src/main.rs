@@ -56,6 +56,7 @@ mod kept;
 mod laid;
 mod leads;
 mod owed;
+mod owed_laid;
 mod owed_reports;
 mod printed;
 mod random;

@@ -3,8 +3,8 @@
 //! are refused with each number, and full reads that go together with fronts in each way; symbols of 11 Mbit/s that are
 //! decided among words of one score, in each way; smallest leads in each part at each rate, shared ones, ties and those
 //! that refused reads keep; starts found of each kind and rate, at each remainder of 512, early, late and neither,
-//! behind offsets refused with each number; reports as `owed_reports` has it; and no family that spends a third of all
-//! calls on one number.
+//! behind offsets refused with each number; reports as `owed_reports` has it, and rows as `owed_laid` has it; and no
+//! family that spends a third of all calls on one number.
 
 use crate::bits::Rate;
 use crate::bridge::Outcome;
@@ -15,6 +15,7 @@ use crate::leads::Lead::{
     self, Above, Alone, At as LeadAt, From, InBoth, InFront, Kept, Next, OfAllowed, Shared, Tied,
 };
 use crate::leads::Stands::{First, Header, Payload, Preamble};
+use crate::owed_laid::laid;
 use crate::owed_reports::reports;
 use crate::relations::Held;
 use crate::starts::Start::{self, Early, Found, Late, Missed, Passed, ReadRefused};
@@ -496,7 +497,7 @@ pub fn met(total: &Outcome, largest: (u64, &str)) -> Result<(), String> {
             short.push(format!("{op} answered {number} {count} times where it can't"));
         }
     }
-    for of_total in [held, decided, leads, starts, reports] {
+    for of_total in [held, decided, leads, starts, reports, laid] {
         short.extend(of_total(total));
     }
     if total.calls < CALLS {

@@ -1,13 +1,15 @@
 //! The calls of the month's report: their requests, what is expected of each, and how they are shown.
 
 use crate::calls::{hex, put_octets};
-use crate::report::{one_more, report_list, report_text, Reading, Report, ENTRIES};
+use crate::report::{one_more, report_list, report_of_empties, report_text, Reading, Report, ENTRIES};
 
 /// A call of the report. The report is handed in and answered by value; the text's buffer is given by its length alone.
 #[derive(Clone)]
 pub enum ReportCall {
     Add { report: Report, kind: u64, chips: Vec<u8> },
     List { kinds: Vec<u64>, recordings: Vec<Vec<u8>> },
+    /// A list of kinds 0 and recordings of no chips, given by how many there are of each.
+    Empties { kinds: usize, recordings: usize },
     Text { report: Report, room: usize },
 }
 
@@ -24,15 +26,15 @@ impl ReportCall {
     pub fn op(&self) -> &'static str {
         match self {
             ReportCall::Add { .. } => "report add",
-            ReportCall::List { .. } => "report list",
+            ReportCall::List { .. } | ReportCall::Empties { .. } => "report list",
             ReportCall::Text { .. } => "report text",
         }
     }
 
     pub fn names(&self) -> &'static [&'static str] {
         match self {
-            ReportCall::Add { .. } | ReportCall::List { .. } => &NAMES,
             ReportCall::Text { .. } => &["number", "octets"],
+            _ => &NAMES,
         }
     }
 
@@ -49,6 +51,7 @@ impl ReportCall {
             ReportCall::List { kinds, recordings } => {
                 [kinds.len(), recordings.len()].into_iter().chain(recordings.iter().map(Vec::len)).collect()
             }
+            ReportCall::Empties { kinds, recordings } => vec![*kinds, *recordings, 0],
             ReportCall::Text { .. } => Vec::new(),
         }
     }
@@ -72,12 +75,15 @@ impl ReportCall {
                 put_octets(chips, to);
             }
             ReportCall::List { kinds, recordings } => {
-                let many = kinds.len() as u64;
-                numbers(&[&[8, laid, many, many], &kinds[..], &[recordings.len() as u64]].concat());
+                let (many, len) = (kinds.len() as u64, recordings.len() as u64);
+                numbers(&[&[8, laid, many, many], &kinds[..], &[len, len]].concat());
                 for chips in recordings {
                     to.extend((chips.len() as u64).to_le_bytes());
                     put_octets(chips, to);
                 }
+            }
+            ReportCall::Empties { kinds, recordings } => {
+                numbers(&[8, laid, *kinds as u64, 0, *recordings as u64, 0]);
             }
             ReportCall::Text { report, room } => {
                 numbers(&[&[9, laid], &report.numbers()[..], &[*room as u64]].concat());
@@ -95,6 +101,7 @@ impl ReportCall {
                 answered(one_more(report, reading))
             }
             ReportCall::List { kinds, recordings } => answered(report_list(kinds, recordings)),
+            ReportCall::Empties { kinds, recordings } => answered(report_of_empties(*kinds, *recordings)),
             ReportCall::Text { report, .. } => {
                 let (number, octets) = report_text(report, buffer);
                 vec![number, octets]
@@ -115,6 +122,7 @@ impl ReportCall {
             ReportCall::List { kinds, recordings } => {
                 format!("{} kinds, {} recordings; kinds {kinds:?}", kinds.len(), recordings.len())
             }
+            ReportCall::Empties { kinds, recordings } => format!("{kinds} kinds 0, {recordings} recordings, all empty"),
             ReportCall::Text { report, room } => format!("{}; octets_len {room}", shown(report)),
         }
     }
@@ -127,7 +135,7 @@ impl ReportCall {
                 let each = cut / recordings.len().max(1);
                 recordings.iter().map(|chips| format!("  chips_len {}: {}", chips.len(), hex(chips, each))).collect()
             }
-            ReportCall::Text { .. } => Vec::new(),
+            _ => Vec::new(),
         }
     }
 }

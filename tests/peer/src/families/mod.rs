@@ -55,6 +55,7 @@ mod restored;
 mod soft;
 mod steps;
 mod ties;
+mod widths;
 mod written;
 
 use crate::bits::Rate;
@@ -83,7 +84,7 @@ families! {
     101 published::published_figures: "LENGTH and bit 7 of every n and rate, CRCs, words from outside",
     201 written::write_short_payloads: "1 to 64 octets, all kinds, rates and phases",
     202 written::write_long_payloads: "1,023 to 1,026 and 4,095 octets",
-    203 written::write_every_n: "a sweep of n at each rate; every n in the longer run, but at 1 and 2 Mbit/s",
+    203 written::write_every_n: "every n at 11 and at 5.5 Mbit/s; a sweep of n at the other kinds and rates",
     204 written::write_numbers: "kind, rate, phase, payload and buffer out of range, alone and together",
     205 written::write_edges: "payload of 0, 4,095 and 4,096 octets, buffers a chip short, exact and longer",
     206 written::write_clocks: "each of many clock numbers, at every kind, rate and phase, and beside each refusal",
@@ -93,6 +94,7 @@ families! {
     304 restored::chips_after_the_frame: "anything after the frame, unusable chips too",
     401 headers::every_signal_and_service: "each SIGNAL, each SERVICE, all of both in the longer run, right CRC",
     402 headers::every_length: "LENGTH and bit 7 that no n has, and those around the longest payload",
+    407 headers::every_length_listed: "every LENGTH of each rate in fronts of lists, refused with 15 or 16",
     403 headers::headers_with_payload: "right CRC and chips behind it, LENGTH near the payload's",
     404 headers::sfd_and_crc: "SFD and CRC with bits changed, turned round, of the other kind",
     405 headers::sync_not_compared: "any SYNC bits at all",
@@ -118,6 +120,7 @@ families! {
     704 soft::exactly_eight: "8 and its neighbours, scores at both ends of their range",
     705 soft::unusable_values: "NaN, infinities and values above 8 at every place",
     706 soft::soft_damage: "soft chips turned, faded and lost",
+    707 soft::one_row: "I and Q in one row, or in rows that overlap",
     801 long::long_payloads: "65 to 4,094 octets by each recorder, anything after the frame",
     802 long::long_unusable: "unusable chips at edges of symbols and blocks, first, last and any, up to 4,095 octets",
     803 long::long_growths: "payload symbols turned at edges of blocks, first, last and past chip 65,536",
@@ -146,6 +149,7 @@ families! {
     1208 leads::leads_in_noise: "noise over all of a frame, front included",
     1209 leads::leads_of_long_frames: "the smallest lead in far symbols, at edges of blocks and last of 4,095 octets",
     1210 leads::leads_kept: "refused reads, 10 and more, with symbols of small leads",
+    1211 leads::leads_of_each_word: "one octet at 11 Mbit/s, each of the 256 at each phase, each of its chips lost",
     1301 finding::find_clean: "frames as sent, behind lost chips, phases, one phase, another frame, an unusable chip",
     1302 finding_edges::find_edges: "numbers of offsets, kinds and lengths at their edges, starts at each remainder",
     1303 finding_damage::find_damage: "fronts with chips spoiled, cut off and turned, behind wrong ones and others",
@@ -155,6 +159,8 @@ families! {
     1402 report::report_lists: "whole lists of none to 16,384, of each sort, and with a kind too many or too few",
     1403 report_edges::report_edges: "one recording more than any report has, at the limits of each number",
     1404 report_edges::report_text: "texts of any report, with rooms about the text's octets",
+    1501 widths::wide_rows: "rows of 2^16, 2^20, 2^22 and 2^24 elements and a few more, in every call",
+    1502 widths::bits_of_numbers: "each bit of 64 more in each number of every call",
 }
 
 /// Where a family puts its calls.
@@ -183,6 +189,12 @@ impl<'a> Out<'a> {
     /// A call with nothing before it, its rows laid in any way.
     pub fn alone(&mut self, call: Call) {
         let laid = Laid::any(&call, &mut self.laying);
+        (self.take)(call, laid);
+    }
+
+    /// A call with nothing before it over a lent row of 0xAA: for rows that are lent a few times only.
+    pub fn over_aa(&mut self, call: Call) {
+        let laid = Laid::any(&call, &mut self.laying).over_aa();
         (self.take)(call, laid);
     }
 

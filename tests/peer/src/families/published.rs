@@ -15,7 +15,12 @@ pub fn published_figures(out: &mut Out) {
         for kind in Kind::BOTH.into_iter().filter(|kind| kind.has(figure.rate)) {
             if kind == Kind::Short || figure.rate == Rate::Mbit1 || out.long {
                 let front = Draft::new(kind, figure.rate, 0, vec![]).with_header(header).front();
-                out.call(Call::hard(kind.number(), front, 0));
+                // The front alone of most: fronts and full reads go together elsewhere.
+                if out.long || figure.n % 8 == 0 {
+                    out.call(Call::hard(kind.number(), front, 0));
+                } else {
+                    out.alone(Call::front(kind.number(), front));
+                }
             }
         }
     }

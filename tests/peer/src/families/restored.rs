@@ -1,5 +1,6 @@
 //! Reading back what was written, by each recorder.
 
+use super::widths::far_size;
 use super::{any_pair, byte_row, pairs, soft_rows, Draft, Out, Recorder};
 use crate::calls::Call;
 
@@ -55,7 +56,8 @@ pub fn read_rooms(out: &mut Out) {
                 let chips = out.random.one_of(&frames).clone();
                 out.call(Call::hard(kind.number(), chips, room));
             }
-            for room in [0, n - 1, n, n + 1, 256, 5000] {
+            let far = if n == 3 { far_size(&mut out.random) } else { n };
+            for room in [0, n - 1, n, n + 1, 256, 5000, far] {
                 let chips = out.random.one_of(&frames);
                 out.call(Recorder::Soft.reading(kind.number(), chips.clone(), room));
                 out.call(Recorder::Bytes.reading(kind.number(), chips.clone(), room));
@@ -73,6 +75,9 @@ pub fn chips_after_the_frame(out: &mut Out) {
         match out.random.pick(&Recorder::HARD_TWICE) {
             Recorder::Hard => {
                 chips.extend(out.random.octets(after));
+                if out.random.once_in(20) {
+                    chips.resize(far_size(&mut out.random), 0);
+                }
                 out.call(Call::hard(kind.number(), chips, n));
             }
             Recorder::Soft => {
@@ -86,6 +91,9 @@ pub fn chips_after_the_frame(out: &mut Out) {
             Recorder::Bytes => {
                 let mut bytes = byte_row(&chips, 1.0);
                 bytes.extend((0..2 * after).map(|_| out.random.byte()));
+                if out.random.once_in(20) {
+                    bytes.resize(2 * far_size(&mut out.random), 0);
+                }
                 out.call(Call::bytes(kind.number(), bytes, n));
             }
         }
