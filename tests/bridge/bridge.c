@@ -23,8 +23,8 @@
  * recording.
  *
  * How the rows are laid, from the lowest bit on:
- *   8 bits   what the lent row holds before the call: 0 0xAA, 1 zeros, 2 4s, 3 0xFF, 4 any of these from octet to
- *            octet, 5 what the same call has left there: it is made twice
+ *   8 bits   what the lent row holds before the call, at both ends if it is long: 0 0xAA, 1 zeros, 2 4s, 3 0xFF, 4 any
+ *            of these from octet to octet, 5 what the same call has left there: it is made twice
  *   1 bit    a row of length 0 is passed by a pointer, and not as NULL
  *   1 bit    rows are one where they can be: Q stands in I's memory, `shift` elements further on, where the two must be
  *            alike; a recording of a list that another of the last four begins or ends with stands in that one's
@@ -62,6 +62,7 @@ enum { GUARD = 64, GUARD_OCTET = 0x5C };
 enum { LIST_MAX = 1 << 14 }; /* recordings of a list that are sent; with pages each has two mappings of its own */
 enum { KEPT_MOST = 1 << 13 }; /* octets of each row of a call that is kept */
 enum { EACH_END = 1 << 12 };  /* octets of the zeros that end a row which are looked at behind a call, at each end */
+enum { OLD_MOST = 1 << 16 };  /* octets of a lent row, at each end, that are set before the call */
 
 static enum { GUARDS, PAGES, EXACT } rows; /* how rows are laid */
 
@@ -248,17 +249,28 @@ static struct row read_row(uint64_t count, size_t width, int split)
     return row;
 }
 
-static struct row lent_row(uint64_t count)
+/* What a lent row holds before the call. */
+static void fill_old(uint8_t *octets, size_t len)
 {
     static const uint8_t old[] = {0xAA, 0, 4, 0xFF};
+
+    for (size_t k = 0; laid.old == 4 && k < len; k++)
+        octets[k] = old[(k ^ k >> 2 ^ k >> 5) & 3];
+    if (laid.old != 4)
+        memset(octets, old[laid.old & 3], len);
+}
+
+/* Of a long row both ends hold it, and all between is zeros. */
+static struct row lent_row(uint64_t count)
+{
     struct row row = make_row(count, 1, laid.within ? 0 : count, 1, laid.within && count > 0);
+    size_t some = count < OLD_MOST ? (size_t)count : OLD_MOST;
 
     if (rows == EXACT)
         return row;
-    for (size_t k = 0; laid.old == 4 && k < count; k++)
-        row.memory[row.from + k] = old[(k ^ k >> 2 ^ k >> 5) & 3];
-    if (laid.old != 4)
-        memset(row.memory + row.from, old[laid.old & 3], (size_t)count);
+    fill_old(row.memory + row.from, some);
+    if (some == OLD_MOST)
+        fill_old(row.memory + row.to - some, some);
     if (rows == PAGES)
         set_access(&row, PROT_NONE);
     return row;

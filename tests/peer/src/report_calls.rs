@@ -4,11 +4,11 @@ use crate::calls::{hex, put_octets};
 use crate::report::{one_more, report_list, report_of_empties, report_text, Reading, Report, ENTRIES};
 
 /// A call of the report. The report is handed in and answered by value; the text's buffer is given by its length alone.
+/// So is a list of empties, kinds 0 and recordings of no chips, by how many there are of each.
 #[derive(Clone)]
 pub enum ReportCall {
     Add { report: Report, kind: u64, chips: Vec<u8> },
     List { kinds: Vec<u64>, recordings: Vec<Vec<u8>> },
-    /// A list of kinds 0 and recordings of no chips, given by how many there are of each.
     Empties { kinds: usize, recordings: usize },
     Text { report: Report, room: usize },
 }

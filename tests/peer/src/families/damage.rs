@@ -185,7 +185,7 @@ pub fn random_recordings(out: &mut Out) {
         let len = out.random.within(kind.front_chips() - 5, kind.front_chips() + 300);
         let values = out.random.pick(&[1, 2, 4, 5, 5, 6]);
         let mut chips: Vec<u8> = (0..len).map(|_| out.random.below(values) as u8).collect();
-        if out.random.once_in(40) {
+        if out.random.once_in(100) {
             chips.resize(far_size(&mut out.random), 0);
         }
         out.call(Call::hard(kind.number(), chips, 8));

@@ -334,8 +334,10 @@ pub fn leads_of_long_frames(out: &mut Out) {
             for n in [out.random.within(301, 1100), 4095] {
                 let clean = random_frame(recorder, (kind, rate), n, &mut out.random);
                 for symbol in far_symbols(&clean, &mut out.random) {
-                    // At 1 and 2 Mbit/s, which take longest, the last symbols and a quarter of the others.
-                    if n == 4095 && rate.chips_per_symbol() == 11 && symbol < 16_000 && !out.random.once_in(4) {
+                    // Of the longest frames the last symbols, a quarter of the others, and at 1 and 2 Mbit/s a ninth.
+                    let seldom = if rate.chips_per_symbol() == 11 { 9 } else { 4 };
+                    let last = symbol >= 32_767 || symbol + 1 == clean.symbols();
+                    if n == 4095 && !last && !out.random.once_in(seldom) {
                         continue;
                     }
                     let frame = spoiled_below(&clean, symbol, By::AnyValues, &mut out.random);

@@ -73,6 +73,8 @@ pub struct Family {
     pub calls: fn(&mut Out),
 }
 
+// The line `for:` above a family names the statements of docs/PROMISES.md whose row it is the test of; the tables there
+// are made from it.
 macro_rules! families {
     ($($seed:literal $module:ident::$name:ident: $shows:literal,)*) => {
         pub const FAMILIES: &[Family] =
@@ -81,85 +83,165 @@ macro_rules! families {
 }
 
 families! {
+    // for: ReadFront, ReadHard, TableP, header-back, octets-back, length-holds, unscrambled, recovers
     101 published::published_figures: "LENGTH and bit 7 of every n and rate, CRCs, words from outside",
+    // for: Wrote, WrittenFrame, WriteFills, frame-length, framed-length, from-header, from-start
     201 written::write_short_payloads: "1 to 64 octets, all kinds, rates and phases",
+    // for: Wrote, WrittenFrame
     202 written::write_long_payloads: "1,023 to 1,026 and 4,095 octets",
-    203 written::write_every_n: "every n at 11 and at 5.5 Mbit/s; a sweep of n at the other kinds and rates",
+    // for: Wrote, WrittenFrame, frame-length
+    203 written::write_every_n: "every n at 11 Mbit/s; a sweep of n at the other kinds and rates",
+    // for: Wrote, OnlySent, WriteFills
     204 written::write_numbers: "kind, rate, phase, payload and buffer out of range, alone and together",
+    // for: Wrote, WriteFills, OnlySent
     205 written::write_edges: "payload of 0, 4,095 and 4,096 octets, buffers a chip short, exact and longer",
+    // for: Wrote, WrittenFrame, OnlySent
     206 written::write_clocks: "each of many clock numbers, at every kind, rate and phase, and beside each refusal",
+    // for: Read, ReadHard, ReadSoft, ReadBytes, ReadBack, SoftRows, OneSource, decided-clean, unscrambled
     301 restored::read_short_payloads: "recordings of 1 to 64 octets, all kinds, rates and phases",
+    // for: ReadBack, NotReadBack
     302 restored::read_long_payloads: "recordings of 1,023 to 1,026 and 4,095 octets",
+    // for: Read, ReadFills, NotReadBack
     303 restored::read_rooms: "octet buffers shorter than n, exact and longer",
+    // for: ReadBack, ReadFills
     304 restored::chips_after_the_frame: "anything after the frame, unusable chips too",
+    // for: OnlyReadable, header-only, signal-refused, service-refused
     401 headers::every_signal_and_service: "each SIGNAL, each SERVICE, all of both in the longer run, right CRC",
+    // for: OnlyReadable, header-only, length-refused
     402 headers::every_length: "LENGTH and bit 7 that no n has, and those around the longest payload",
+    // for: OnlyReadable, length-refused, length-holds, octets-back
     407 headers::every_length_listed: "every LENGTH of each rate in fronts of lists, refused with 15 or 16",
+    // for: OnlyReadable, header-back, header-only
     403 headers::headers_with_payload: "right CRC and chips behind it, LENGTH near the payload's",
+    // for: OnlyReadable, sfd-refused, crc-refused
     404 headers::sfd_and_crc: "SFD and CRC with bits changed, turned round, of the other kind",
+    // for: ReadHard, ReadBytes, first-unknown
     405 headers::sync_not_compared: "any SYNC bits at all",
+    // for: RefusedShows, OnlyReadable, header-back
     406 headers::clock_bits: "each SERVICE with and without the clock bit, whole, cut, short of room and spoiled",
+    // for: RefusedShows, SevenOnly, ReadFills
     501 refused::read_numbers: "kinds, lengths and buffers out of range, alone and together",
+    // for: RowsRefused, RefusedShows
     502 refused::rows_that_differ: "I and Q rows of different length",
+    // for: RowsRefused, OddBytesRefused, ReadFills, WriteFills
     503 refused::empty_rows: "every row empty, alone and together",
+    // for: RefusedShows, ReadFills, whole-refuses, payload-comes, room-refused
     504 refused::every_set_of_refusals: "each set of refusals that can be asked for at once",
+    // for: RefusedShows, unusable-refused, odd-refused, payload-good
     505 refused::pairs_of_refusals: "each refusal alone and with each other one, by each recorder",
+    // for: NotReadBack, FrontRefused
     506 refused::cut_recordings: "recordings cut at every length about the front's and the frame's end",
+    // for: OnlyReadable, RefusedAlike
     507 refused::kinds_crossed: "long frames read as short and the other way",
+    // for: OddBytesRefused, SevenOnly
     508 refused::odd_rows: "odd numbers of bytes, about the fronts, the frame's end and powers of 2",
+    // for: FrontRefused, RefusedAlike, FrontOnly
     509 refused::long_refused: "what the front refuses, in recordings of up to 71,000 chips that are alike there",
+    // for: HardRight, RefusedShows, whole-place, payload-unusable-place
     601 damage::unusable_octets: "one or two unusable octets at every place",
+    // for: RefusedShows, payload-odd-place
     602 damage::odd_growths: "symbols turned by 1 to 3, alone or with all that follow",
+    // for: HardRight, RecordedRight, decided-best
     603 damage::damaged_chips: "chips changed to other phases, few to most",
+    // for: HardRight, RecordedRight, decided-best
     604 damage::lost_chips: "chips, symbols and whole parts lost",
+    // for: decided-best, best-unique
     605 damage::tied_words: "payload symbols with few chips left, so that words tie",
+    // for: ReadHard, OneAnswer
     606 damage::random_recordings: "phases and marks at random",
+    // for: SoftRight, BytesRight, RecordedRight
     701 soft::noise: "noise over all of the frame or over its payload",
+    // for: HalfACount, counted, no-other, count-near
     702 soft::halves_of_a_count: "values on the halves of a count and next to them",
+    // for: HalfACount, SoftRight, counted
     703 soft::tiny_values: "subnormals, zeros of both signs, values below half a count",
+    // for: SoftRight, ReadSoft
     704 soft::exactly_eight: "8 and its neighbours, scores at both ends of their range",
+    // for: ReadSoft, RefusedShows
     705 soft::unusable_values: "NaN, infinities and values above 8 at every place",
+    // for: SoftRight, decided-leads
     706 soft::soft_damage: "soft chips turned, faded and lost",
+    // for: ReadSoft, SoftRight
     707 soft::one_row: "I and Q in one row, or in rows that overlap",
+    // for: Read, ReadBack
     801 long::long_payloads: "65 to 4,094 octets by each recorder, anything after the frame",
+    // for: RefusedShows, payload-unusable-place
     802 long::long_unusable: "unusable chips at edges of symbols and blocks, first, last and any, up to 4,095 octets",
+    // for: RefusedShows, payload-odd-place
     803 long::long_growths: "payload symbols turned at edges of blocks, first, last and past chip 65,536",
+    // for: NotReadBack, RefusedShows
     804 long::long_cuts: "long recordings that end inside the payload",
+    // for: NotReadBack, ReadFills
     805 long::long_rooms: "octet buffers shorter than a long payload",
+    // for: HardRight, DecidedAt, LeadsAt
     806 long::block_edges: "one symbol damaged at an edge of a block of symbols or octets",
+    // for: HardRight, SoftRight, BytesRight
     807 long::long_damage: "damage and noise over payloads of 301 to 1,100 octets",
+    // for: BytesRight, NoByteUnusable, byte-exact, decided-times
     901 bytes::every_byte: "symbols decided otherwise if one byte, each of the 256, is 1 more or 1 less",
+    // for: BytesRight, best-unique
     902 bytes::equal_bytes: "bytes equal in size, so that words tie, in symbols and over all of a recording",
+    // for: ReadBytes, BytesRight
     903 bytes::exchanged_bytes: "I and Q exchanged, negated, a byte late, and frames turned by an eighth",
+    // for: ReadBytes, NoByteUnusable, OneAnswer
     904 bytes::random_bytes: "bytes at random over all of the recording, the header or the payload",
+    // for: ReadFront, FrontTold, ToldAlike, RefusedAlike, Handed, HandedPart, reads-on
     1001 coming::coming_rooms: "what is coming beside full reads with room 0, n - 1, n and 4,095, refused and not",
+    // for: FrontOnly, SentTold, front-same
     1002 coming::payloads_not_looked_at: "recordings alike in the front, with any octets as the payload's chips",
+    // for: FrontTold, SentTold, Handed, HandedPart
     1003 coming::coming_every_n: "what is coming up to 4,095 octets, whole, cut and with chips behind",
+    // for: FrontRefused, RefusedAlike, OneComing
     1004 coming::coming_any_octets: "what is coming in octets at random and in frames cut anywhere, by any kind",
+    // for: best-unique, walsh, column-sum, two-keys
     1101 ties::ties_eleven: "words that tie at 11 Mbit/s, by each recorder, payloads of each length to 70 and longer",
+    // for: best-unique, walsh
     1102 ties::ties_eleven_largest: "words that tie at 11 Mbit/s in values of 8 and -8, 127 and -128",
+    // for: decided-best, two-keys
     1103 ties::ties_eleven_broken: "words that tie at 11 Mbit/s, and the same a step beside the tie, either way",
+    // for: LeastTold, ReadBack, lead-clean, lead-times
     1201 leads::leads_as_sent: "chips as sent, of every size that a recorder has: 11, 8 and 4 of them",
+    // for: LeastTold, HardSure, SoftSure, BytesSure, least-is
     1202 leads::leads_of_one_symbol: "the smallest lead in a chosen symbol of the preamble, the header or the payload",
+    // for: LeastTold, LeadsAt, leastOf-joined
     1203 leads::leads_at_each_place: "the smallest lead in each symbol of the front and of a block of 64 behind it",
+    // for: LeastTold, least-is
     1204 leads::leads_shared: "several symbols of one smallest lead, and others of a little more",
+    // for: LeastTold, lead-tie, tied
     1205 leads::leads_of_ties: "words that tie in a chosen symbol of the preamble, the header or the payload",
+    // for: LeastTold, lead-is, leads-by
     1206 leads::leads_of_allowed_words: "words beside a symbol of 5.5 Mbit/s that aren't allowed there",
+    // for: LeastTold, lead-behind, leads-once
     1207 leads::leads_of_next_words: "each word that can come next behind another, alone, at 5.5 and 11 Mbit/s",
+    // for: LeastTold, SoftSure, lead-says
     1208 leads::leads_in_noise: "noise over all of a frame, front included",
+    // for: LeastTold, leastOf-joined
     1209 leads::leads_of_long_frames: "the smallest lead in far symbols, at edges of blocks and last of 4,095 octets",
+    // for: RefusedShows
     1210 leads::leads_kept: "refused reads, 10 and more, with symbols of small leads",
+    // for: LeastTold, lead-is
     1211 leads::leads_of_each_word: "one octet at 11 Mbit/s, each of the 256 at each phase, each of its chips lost",
+    // for: Finds, StartFound, SentFound, early
     1301 finding::find_clean: "frames as sent, behind lost chips, phases, one phase, another frame, an unusable chip",
+    // for: Finds, NotTried, StartFound, NoneFound, start-comes, start-joined, short-missed
     1302 finding_edges::find_edges: "numbers of offsets, kinds and lengths at their edges, starts at each remainder",
+    // for: StartFound, NoneFound, SentFound, sfd-bit, sfd-low, sfd-high, by-two, front-even, front-bit
     1303 finding_damage::find_damage: "fronts with chips spoiled, cut off and turned, behind wrong ones and others",
+    // for: NoneFound, OneFound
     1304 finding::find_noise: "recordings without a frame or with one behind much else, up to 4,096 offsets",
+    // for: StartFound, NoneFound, finding-comes
     1305 finding::find_all: "every number of offsets from 1 on, and the front from each offset, one by one",
+    // for: Adds, ReportKept, KeptAnswers, sent-counted, added-more, closest-more, fair
     1401 report::report_kept: "reports kept one recording after the other, beside those of the list so far",
+    // for: Lists, ListAlike, OneReport
     1402 report::report_lists: "whole lists of none to 16,384, of each sort, and with a kind too many or too few",
+    // for: Adds, AnyReport, takes-more, counted-next, counted-full
     1403 report_edges::report_edges: "one recording more than any report has, at the limits of each number",
+    // for: Spells, TextFills, OneReport, decimal-value, decimal-digit, decimal-front, decimal-injective
     1404 report_edges::report_text: "texts of any report, with rooms about the text's octets",
+    // for: Wrote, Read, ReadFront, Finds, Adds, Lists, Spells, WriteFills, ReadFills, TextFills
     1501 widths::wide_rows: "rows of 2^16, 2^20, 2^22 and 2^24 elements and a few more, in every call",
+    // for: OnlySent, NotTried, AnyReport, Lists, Spells
     1502 widths::bits_of_numbers: "each bit of 64 more in each number of every call",
 }
 

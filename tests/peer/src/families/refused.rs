@@ -262,7 +262,7 @@ fn with_octets_behind(out: &mut Out, kind: u64, mut chips: Vec<u8>, room: usize)
 
 pub fn long_refused(out: &mut Out) {
     for (at, first) in IN_FRONT.into_iter().enumerate() {
-        for case in 0..out.cases(8) {
+        for case in 0..out.cases(4) {
             // Alone, and before another.
             let second = if case % 2 == 0 { first } else { out.random.pick(&IN_FRONT[at..]) };
             let call = wrong_reading(1 << first | 1 << second, Recorder::Hard, &mut out.random);

@@ -75,7 +75,7 @@ pub fn chips_after_the_frame(out: &mut Out) {
         match out.random.pick(&Recorder::HARD_TWICE) {
             Recorder::Hard => {
                 chips.extend(out.random.octets(after));
-                if out.random.once_in(20) {
+                if out.random.once_in(50) {
                     chips.resize(far_size(&mut out.random), 0);
                 }
                 out.call(Call::hard(kind.number(), chips, n));
@@ -91,7 +91,7 @@ pub fn chips_after_the_frame(out: &mut Out) {
             Recorder::Bytes => {
                 let mut bytes = byte_row(&chips, 1.0);
                 bytes.extend((0..2 * after).map(|_| out.random.byte()));
-                if out.random.once_in(20) {
+                if out.random.once_in(50) {
                     bytes.resize(2 * far_size(&mut out.random), 0);
                 }
                 out.call(Call::bytes(kind.number(), bytes, n));

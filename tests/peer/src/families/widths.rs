@@ -123,8 +123,8 @@ fn write_bits(out: &mut Out) {
     }
 }
 
-/// A frame to be found, with a bit more in its kind and in the number of offsets; one recording more, and one of a list,
-/// by their kinds.
+/// A frame to be found, with a bit more in its kind and in the number of offsets; one recording more, and one of a
+/// list, by their kinds.
 fn kind_bits(out: &mut Out) {
     for kind in Kind::BOTH {
         let scene = Scene::new(kind, Rate::Mbit11, Before::Stopped, 3, &mut out.random);

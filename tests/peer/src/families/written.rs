@@ -56,7 +56,7 @@ pub fn write_long_payloads(out: &mut Out) {
 pub fn write_every_n(out: &mut Out) {
     for (kind, rate) in pairs() {
         let step = match (kind, rate) {
-            (Kind::Short, Rate::Mbit11) | (Kind::Long, Rate::Mbit5_5) => 1,
+            (Kind::Short, Rate::Mbit11) => 1,
             (_, Rate::Mbit11 | Rate::Mbit5_5) => out.step(59),
             _ if out.long => 13,
             _ => 311,
