@@ -3,7 +3,7 @@
 //! Requests go ahead of the answers in batches. A batch is handed to the comparing side before it is written, and the
 //! next is handed over only when it is written whole, so neither side waits for the other in a circle.
 
-use crate::calls::{Call, Expected, Met};
+use crate::calls::{Answer, Call, Expected, Met};
 use crate::decided::{self, Seen};
 use crate::families::{Family, Out};
 use crate::figures::Figures;
@@ -83,6 +83,15 @@ impl Outcome {
         }
     }
 
+    /// One call more: what its answer was to be, and whether it was.
+    fn count(&mut self, call: &Call, expected: &Answer, leads: &[i32], equal: bool) {
+        self.calls += 1;
+        self.mismatches += u64::from(!equal);
+        decided::count(call, expected, &mut self.seen);
+        leads::count(call, expected, leads, &mut self.won);
+        reported::count(call, expected, leads, &mut self.held);
+    }
+
     /// The calls that answer the number met most often, whatever the op and the part.
     pub fn most_of_a_number(&self) -> u64 {
         let mut by_number = BTreeMap::<u64, u64>::new();
@@ -145,13 +154,9 @@ impl Bridge {
                 if !equal && run.until_first {
                     end_at_first(child, family);
                 }
-                outcome.calls += 1;
-                outcome.mismatches += u64::from(!equal);
                 *outcome.met.entry(met).or_default() += 1;
                 laid.count(&call, &mut outcome.layings);
-                decided::count(&call, &expected, &mut outcome.seen);
-                leads::count(&call, &expected, &leads, &mut outcome.won);
-                reported::count(&call, &expected, &leads, &mut outcome.held);
+                outcome.count(&call, &expected, &leads, equal);
             }
             Ok(outcome)
         })

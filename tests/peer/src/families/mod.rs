@@ -37,6 +37,13 @@
 //! - The 1,001st counted, or not a one of more than 1,000; 31 before 7: `report_lists`.
 //! - A limit off by one, or left out for an entry: `report_edges`.
 //! - A line left out or told of a count of 0, a number cut, a zero before one: `report_text`.
+//! - A start passed over right behind an offset whose SFD is right and whose front is refused: `find_damage`.
+//! - LENGTH taken or refused wrongly at one value: `every_length_listed`. The last chip at one n: `write_every_n`.
+//! - The lead of one word wrong: `leads_of_each_word`.
+//! - A length cut to 16, 20, 22 or 24 bits, a bit of a number lost: `wide_rows`, `bits_of_numbers`.
+//! - I and Q that may not be one row, a recording of a list that may not be named twice: `one_row`, `report_lists`.
+//! - What a lent row held before the call, a row of length 0 by a pointer or as NULL, a row kept between calls: every
+//!   family, as each call's rows are laid in any way (`laid.rs`).
 
 mod bytes;
 mod coming;

@@ -6,8 +6,7 @@ use crate::calls::Call;
 use crate::frame::{Header, Kind};
 
 /// Fronts with the published LENGTH and bit 7 of every n and rate: accepted, so the recording ends inside the payload.
-/// Then headers with the published CRCs, and payloads of the published symbols at each turn.
-pub fn published_figures(out: &mut Out) {
+fn lengths(out: &mut Out) {
     let figures = out.figures;
     for figure in figures.lengths_1023_to_1026.iter().chain(&figures.lengths_of_every_n) {
         let (signal, service) = (figure.rate.code(), if figure.bit7 { 128 } else { 0 });
@@ -24,6 +23,12 @@ pub fn published_figures(out: &mut Out) {
             }
         }
     }
+}
+
+/// Such fronts, then headers with the published CRCs, and payloads of the published symbols at each turn.
+pub fn published_figures(out: &mut Out) {
+    lengths(out);
+    let figures = out.figures;
     for figure in figures.crc_example.iter().chain(&figures.crc_genibus).filter(|figure| figure.bits.len() == 32) {
         for kind in Kind::BOTH {
             for phase in 0..4 {

@@ -66,6 +66,18 @@ pub fn read_rooms(out: &mut Out) {
     }
 }
 
+/// Recordings whose length, in chips or in bytes, is below the frame's in its lowest 16 bits.
+fn short_in_16_bits(out: &mut Out) {
+    for (kind, rate) in pairs() {
+        let mut chips = Draft::random(kind, rate, 2, &mut out.random).chips();
+        let more = out.random.below(1000);
+        for (recorder, len) in [(Recorder::Bytes, 1 << 15), (Recorder::Bytes, 1 << 16), (Recorder::Hard, 1 << 16)] {
+            chips.resize(len + more, 9);
+            out.call(recorder.reading(kind.number(), chips.clone(), 2));
+        }
+    }
+}
+
 pub fn chips_after_the_frame(out: &mut Out) {
     for _ in 0..out.cases(1100) {
         let (kind, rate) = any_pair(&mut out.random);
@@ -98,13 +110,5 @@ pub fn chips_after_the_frame(out: &mut Out) {
             }
         }
     }
-    // Recordings whose length, in chips or in bytes, is below the frame's in its lowest 16 bits.
-    for (kind, rate) in pairs() {
-        let mut chips = Draft::random(kind, rate, 2, &mut out.random).chips();
-        let more = out.random.below(1000);
-        for (recorder, len) in [(Recorder::Bytes, 1 << 15), (Recorder::Bytes, 1 << 16), (Recorder::Hard, 1 << 16)] {
-            chips.resize(len + more, 9);
-            out.call(recorder.reading(kind.number(), chips.clone(), 2));
-        }
-    }
+    short_in_16_bits(out);
 }

@@ -247,8 +247,8 @@ pub fn soft_damage(out: &mut Out) {
     }
 }
 
-/// I and Q in one row, Q at the same place or a few chips on, so that they can be laid as one: a symbol of even phase is
-/// decided as it was sent, whatever of its neighbours stands on Q. What is cut or unusable is so in both.
+/// I and Q in one row, Q at the same place or a few chips on, so that they can be laid as one: a symbol of even phase
+/// is decided as it was sent, whatever of its neighbours stands on Q. What is cut or unusable is so in both.
 pub fn one_row(out: &mut Out) {
     for case in 0..out.cases(80) {
         let (n, phase) = (out.random.within(1, 9), out.random.pick(&[0, 2]));
