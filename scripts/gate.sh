@@ -43,6 +43,9 @@ tests/header/run
 stage 'host'
 make --no-print-directory demo
 
+stage 'archive'
+scripts/archive.py --self-test target/staticlib/libdsss.a
+
 stage 'month'
 make --no-print-directory month
 
@@ -67,7 +70,7 @@ target/peer/peer --brief --family \
     empty_rows,odd_rows,write_short_payloads,write_edges,read_rooms,read_long_payloads,cut_recordings,unusable_octets,\
 unusable_values,random_bytes,long_payloads,long_unusable,long_cuts,long_rooms,long_refused,coming_rooms,\
 payloads_not_looked_at,ties_eleven_broken,leads_of_one_symbol,find_edges,find_damage,find_all,report_lists,\
-report_edges,report_text \
+report_edges,report_text,one_row,wide_rows \
     -- scripts/x86run target/c/bridge pages
 
 stage 'wrong versions of plain C'

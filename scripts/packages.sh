@@ -46,6 +46,7 @@ if [ "$purpose" = test ]; then
     tool c++ g++ 'holds the header to C++'
     tool make make 'runs the targets'
     tool git git 'names the files of the tree, for the scripts that look at its text'
+    tool readelf binutils 'looks at what the library keeps and wants'
     tool python3 python3 'runs the scripts that hold the tree, the header and the vectors to the source'
     tool rustc rustc 'compiles the second program'
     tool pkg-config pkg-config 'tries the installed pkg-config file'

@@ -1,49 +1,76 @@
 /* bridge.c: the library behind a pipe, for test programs that cannot be linked with it.
  *
- * Requests on stdin, one answer each on stdout, both binary and little-endian. A request is a u64
- * op and then
+ * Requests on stdin, one answer each on stdout, both binary and little-endian. A request is a u64 op, a u64 that says
+ * how the rows are laid, and then
  *   1, write      u64 kind, rate, phase, clock, payload_len, chips_len; the payload
  *   2, read hard  u64 kind, chips_len, octets_len; the chips
- *   3, read soft  u64 kind, i_len, q_len, octets_len; i_len f32, q_len f32, raw bits
+ *   3, read soft  u64 kind, i_len, q_len, octets_len; the f32 of I, those of Q, raw bits
  *   4, read bytes u64 kind, bytes_len, octets_len; the bytes
  *   5, read front u64 kind, chips_len; the chips
  *   6, find       u64 kind, chips_len, offsets; the chips
  *   7, add        the report, 31 u64: seen, frames (4), octets (4), refused (18), airtime, some, lead,
  *                 recording; u64 kind, chips_len; the chips
- *   8, list       u64 kinds_len; kinds_len u64; u64 list_len; of each recording u64 chips_len; its chips
+ *   8, list       u64 kinds_len; the kinds, u64 each; u64 list_len and how many recordings are sent, the others being
+ *                 NULL and 0; of each of these u64 chips_len; its chips
  *   9, text       the report, 31 u64 as above; u64 text_len
- * An answer is the record (1: number, chips; 2 to 4: number, place, rate, length, n, used, clock, lead,
- * symbol; 5: number, place, rate, length, clock, n, used, at, count; 6: number, offset, rate, length, clock,
- * n; 7 and 8: number, the report as above, 32 in all; 9: number, octets; u64 each), every octet of the lent
- * buffer as the call left it, and a u64 guard: 0 if all is as it was around the rows and in those lent for
- * reading only, else 1. 5 to 8 have no lent buffer: of 5 its part stands there instead, `count` chips from
- * the recording's own chips + at on, as far as they are in the recording.
+ * A row for reading is a u64, how many of its elements are sent, and these; the others are zeros. An answer is the
+ * record (1: number, chips; 2 to 4: number, place, rate, length, n, used, clock, lead, symbol; 5: number, place, rate,
+ * length, clock, n, used, at, count; 6: number, offset, rate, length, clock, n; 7 and 8: number, the report as above,
+ * 32 in all; 9: number, octets; u64 each), every octet of the lent buffer as the call left it, and a u64 guard, 0 if
+ * all is well: 1 if anything is not as it was around the rows or in those lent for reading only, 2 if a call that was
+ * made again answered otherwise, 4 if a call that was made in the middle of this one did. 5 to 8 have no lent buffer:
+ * of 5 its part stands there instead, `count` chips from the recording's own chips + at on, as far as they are in the
+ * recording.
  *
- * The lent buffer holds 0xAA before the call. A row of length 0 is passed as NULL; any other stands
- * between guard octets, octets and bytes at odd addresses, floats at multiples of 4 and wider elements at
- * multiples of 8 that are none of 16. The list of 8 is such a row, and so is each of its recordings.
- * Called as `bridge pages`, each row ends where memory ends instead: a read past it kills the bridge, on
- * every processor; so does a look at a chip behind the front in 5, and one at any chip in 6 where the kind
- * or the number of offsets is refused. 6 is then called once more, with a row that begins where memory
- * begins; the guard is 1 too if that call answers otherwise. Called as `bridge exact`, each row is memory of
- * just its size and the lent buffer is not set before the call: for valgrind, which then sees every touch
- * beside a row, what a call makes of the buffer's old contents, and every octet that it leaves unwritten.
+ * How the rows are laid, from the lowest bit on:
+ *   8 bits   what the lent row holds before the call, at both ends if it is long: 0 0xAA, 1 zeros, 2 4s, 3 0xFF, 4 any
+ *            of these from octet to octet, 5 what the same call has left there: it is made twice
+ *   1 bit    a row of length 0 is passed by a pointer, and not as NULL
+ *   1 bit    rows are one where they can be: Q stands in I's memory, `shift` elements further on, where the two must be
+ *            alike; a recording of a list that another of the last four begins or ends with stands in that one's
+ *   1 bit    in the middle of the call another is made: the last one of this op that was kept, over its own rows. See
+ *            below
+ *   16 bits  at bit 16, where the row for reading is split for that, in 1/65536 of it
+ *   16 bits  at bit 32, the shift
+ *
+ * Each row stands between guard octets, octets and bytes at odd addresses, floats at multiples of 4 and wider elements
+ * at multiples of 8 that are none of 16. The list of 8 is such a row, and so is each of its recordings. Called as
+ * `bridge pages`, each row ends where memory ends instead: a read past it kills the bridge, on every processor; so does
+ * a look at a chip behind the front in 5, and one at any chip in 6 where the kind or the number of offsets is refused.
+ * 6 is then called once more, with a row that begins where memory begins. Called as `bridge exact`, each row is memory
+ * of just its size and the lent buffer is not set before the call: for valgrind, which then sees every touch beside a
+ * row, what a call makes of the buffer's old contents, and every octet that it leaves unwritten.
+ *
+ * A call in the middle of another: two parts of the row for reading, and the lent row, are closed but for the first
+ * part. Where the call touches one that is closed, a signal's handler makes the call that was kept, opens that part and
+ * closes the others. So whatever the two calls share is seen to be shared, each time in the same way. Only rows between
+ * guards are laid so.
  *
  * Answers are flushed when no further input is at hand, so requests may be sent ahead of answers.
  * Status 0 at an end of input between requests; else 1 and a message on stderr. */
 #define _DEFAULT_SOURCE
 #include "dsss.h"
 
+#include <signal.h>
 #include <stdio.h>
 #include <stdlib.h>
 #include <string.h>
 #include <sys/mman.h>
 #include <unistd.h>
 
-enum { GUARD = 64, GUARD_OCTET = 0x5C, OLD_OCTET = 0xAA };
-enum { LIST_MAX = 1 << 14 }; /* recordings of a list; with pages each has two mappings of its own */
+enum { GUARD = 64, GUARD_OCTET = 0x5C };
+enum { LIST_MAX = 1 << 14 }; /* recordings of a list that are sent; with pages each has two mappings of its own */
+enum { KEPT_MOST = 1 << 13 }; /* octets of each row of a call that is kept */
+enum { EACH_END = 1 << 12 };  /* octets of the zeros that end a row which are looked at behind a call, at each end */
+enum { OLD_MOST = 1 << 16 };  /* octets of a lent row, at each end, that are set before the call */
 
 static enum { GUARDS, PAGES, EXACT } rows; /* how rows are laid */
+
+/* What a request says of its rows. */
+static struct {
+    unsigned old, split, shift;
+    int pointed, shared, within;
+} laid;
 
 static void die(const char *message)
 {
@@ -92,12 +119,16 @@ static uint64_t get_number(void)
     return number;
 }
 
-static dsss_report get_report(void)
+static void get_laid(void)
 {
-    dsss_report report;
+    uint64_t word = get_number();
 
-    get(&report, sizeof report);
-    return report;
+    laid.old = word & 0xFF;
+    laid.pointed = word >> 8 & 1;
+    laid.shared = word >> 9 & 1;
+    laid.within = rows == GUARDS && (word >> 10 & 1) != 0;
+    laid.split = word >> 16 & 0xFFFF;
+    laid.shift = word >> 32 & 0xFFFF;
 }
 
 static void put(const void *from, size_t len)
@@ -109,12 +140,15 @@ static void put(const void *from, size_t len)
 /* ---- Rows ------------------------------------------------------------------------------------ */
 
 struct row {
-    uint8_t *memory, *copy; /* guard, row and guard; the copy from before the call */
-    size_t size;            /* of the memory, in octets */
-    size_t from, to;        /* where the row stands in it */
-    uint8_t *all, *edge;    /* with pages: what must be given back, and where the closed pages begin */
-    size_t held, closed;    /* the sizes of both */
-    int lent;               /* for writing */
+    uint8_t *memory;     /* guard, row and guard */
+    size_t size;         /* of the memory, in octets */
+    size_t from, to;     /* where the row stands in it */
+    size_t sent;         /* of a row for reading, the octets that were sent; those behind are zeros */
+    uint8_t *copy;       /* of these, from before the call */
+    void *pointer;       /* as it is handed to the call */
+    uint8_t *all, *edge; /* with pages: what must be given back, and where the pages begin that can be closed */
+    size_t held, closed; /* the sizes of both */
+    int lent;            /* for writing */
 };
 
 /* Whole pages for so many octets. */
@@ -127,23 +161,23 @@ static size_t in_pages(size_t len)
 
 static void set_access(const struct row *row, int access)
 {
-    if (rows == PAGES && mprotect(row->edge, row->closed, access) != 0)
+    if (row->all && mprotect(row->edge, row->closed, access) != 0)
         die("cannot open or close a row");
 }
 
-/* Memory for a row that begins `before` octets into it and of whose octets the first `open`, or all, may be
- * looked at. With pages those end where a page ends, and the pages from there on can be closed. */
-static void find_memory(struct row *row, size_t before, size_t len, size_t open)
+/* Memory of zeros for a row that begins `before` octets into it and of whose octets the first `open`, or all, may be
+ * looked at. In pages those end where a page ends, and the pages from there on can be closed. */
+static void find_memory(struct row *row, size_t before, size_t len, size_t open, int in_middle)
 {
     row->from = rows == EXACT ? 0 : before;
     row->to = row->from + len;
     row->size = row->to + (rows == GUARDS ? GUARD : 0);
-    if (rows != PAGES) {
-        row->memory = malloc(row->size > 0 ? row->size : 1);
+    if (rows != PAGES && !in_middle) {
+        row->memory = rows == EXACT ? malloc(row->size > 0 ? row->size : 1) : calloc(row->size, 1);
         return;
     }
     size_t span = in_pages(row->from + open);
-    row->closed = in_pages(len - open + 1);
+    row->closed = in_pages(row->size - row->from - open + 1);
     row->held = span + row->closed;
     row->all = mmap(NULL, row->held, PROT_READ | PROT_WRITE, MAP_PRIVATE | MAP_ANONYMOUS, -1, 0);
     if (row->all == MAP_FAILED)
@@ -152,253 +186,506 @@ static void find_memory(struct row *row, size_t before, size_t len, size_t open)
     row->memory = row->edge - open - row->from;
 }
 
-/* A row of `count` elements of `width` octets, the first `open` to be looked at, guards around it, and
- * OLD_OCTET within. */
-static struct row make_row(uint64_t count, size_t width, uint64_t open, int lent)
+/* A row of `count` elements of `width` octets, of which the first `open` may be looked at, guards around it. */
+static struct row make_row(uint64_t count, size_t width, uint64_t open, int lent, int in_middle)
 {
     struct row row = {0};
 
     if (count > (1u << 30) / width)
         die("a row is too long");
     row.lent = lent;
-    find_memory(&row, GUARD + (width < 8 ? width : 8), (size_t)count * width, (size_t)open * width);
-    row.copy = malloc(row.size > 0 ? row.size : 1);
-    if (!row.memory || !row.copy)
+    find_memory(&row, GUARD + (width < 8 ? width : 8), (size_t)count * width, (size_t)open * width, in_middle);
+    if (!row.memory)
         die("no memory for a row");
-    if (rows == EXACT)
-        return row;
-    memset(row.memory, GUARD_OCTET, row.size);
-    memset(row.memory + row.from, OLD_OCTET, row.to - row.from);
+    row.pointer = count > 0 || laid.pointed ? row.memory + row.from : NULL;
+    memset(row.memory, GUARD_OCTET, row.from);
+    memset(row.memory + row.to, GUARD_OCTET, row.size - row.to);
     return row;
 }
 
-static void *pointer(const struct row *row)
+/* The elements of a row as they are sent; zeros behind them. */
+static size_t get_elements(uint8_t *to, size_t len, size_t width)
 {
-    return row->to > row->from ? row->memory + row->from : NULL;
+    uint64_t sent = get_number();
+
+    if (sent > len / width)
+        die("more elements than a row has");
+    get(to, (size_t)sent * width);
+    if (rows == EXACT && len > sent * width)
+        memset(to + sent * width, 0, len - (size_t)sent * width);
+    return (size_t)sent * width;
+}
+
+/* What is held against the row behind the call. */
+static void copy_row(struct row *row)
+{
+    row->copy = malloc(row->sent > 0 ? row->sent : 1);
+    if (!row->copy)
+        die("no memory for a row");
+    memcpy(row->copy, row->memory + row->from, row->sent);
+    if (rows == PAGES)
+        set_access(row, PROT_NONE);
 }
 
 /* A row of which only the first `open` elements may be looked at. */
 static struct row read_row_to(uint64_t count, size_t width, uint64_t open)
 {
-    struct row row = make_row(count, width, open, 0);
+    struct row row = make_row(count, width, open, 0, 0);
 
-    get(row.memory + row.from, row.to - row.from);
-    memcpy(row.copy, row.memory, row.size);
-    set_access(&row, PROT_NONE);
+    row.sent = get_elements(row.memory + row.from, row.to - row.from, width);
+    copy_row(&row);
     return row;
 }
 
-static struct row read_row(uint64_t count, size_t width)
+/* A row that may be split for a call in the middle of this one. */
+static struct row read_row(uint64_t count, size_t width, int split)
 {
-    return read_row_to(count, width, count);
-}
+    int in_middle = laid.within && split && count > 1;
+    uint64_t open = in_middle ? 1 + (count - 1) * laid.split / 65536 : count;
+    struct row row = make_row(count, width, open, 0, in_middle);
 
-/* A row of so many recordings, each a row of its own. */
-static struct row list_row(uint64_t count, const struct row *recordings)
-{
-    struct row row = make_row(count, sizeof(dsss_chips), count, 0);
-
-    for (size_t k = 0; k < count; k++) {
-        dsss_chips one = {pointer(&recordings[k]), recordings[k].to - recordings[k].from};
-        memcpy(row.memory + row.from + k * sizeof one, &one, sizeof one);
-    }
-    memcpy(row.copy, row.memory, row.size);
-    set_access(&row, PROT_NONE);
+    row.sent = get_elements(row.memory + row.from, row.to - row.from, width);
+    copy_row(&row);
     return row;
 }
 
+/* What a lent row holds before the call. */
+static void fill_old(uint8_t *octets, size_t len)
+{
+    static const uint8_t old[] = {0xAA, 0, 4, 0xFF};
+
+    for (size_t k = 0; laid.old == 4 && k < len; k++)
+        octets[k] = old[(k ^ k >> 2 ^ k >> 5) & 3];
+    if (laid.old != 4)
+        memset(octets, old[laid.old & 3], len);
+}
+
+/* Of a long row both ends hold it, and all between is zeros. */
 static struct row lent_row(uint64_t count)
 {
-    struct row row = make_row(count, 1, count, 1);
+    struct row row = make_row(count, 1, laid.within ? 0 : count, 1, laid.within && count > 0);
+    size_t some = count < OLD_MOST ? (size_t)count : OLD_MOST;
 
-    memcpy(row.copy, row.memory, row.size);
-    set_access(&row, PROT_NONE);
+    if (rows == EXACT)
+        return row;
+    fill_old(row.memory + row.from, some);
+    if (some == OLD_MOST)
+        fill_old(row.memory + row.to - some, some);
+    if (rows == PAGES)
+        set_access(&row, PROT_NONE);
     return row;
 }
 
-/* Frees a row and answers 1 if anything but a lent row's own octets has changed. */
-static uint64_t end_row(struct row *row)
+static int all_are(const uint8_t *octets, size_t len, uint8_t octet)
 {
-    size_t from = row->lent ? row->from : row->size, to = row->lent ? row->to : row->size;
-    int changed = memcmp(row->memory, row->copy, from) != 0
-                  || memcmp(row->memory + to, row->copy + to, row->size - to) != 0;
+    int other = 0;
 
-    if (rows == PAGES)
+    for (size_t k = 0; k < len; k++)
+        other |= octets[k] ^ octet;
+    return other == 0;
+}
+
+/* 1 if anything but a lent row's own octets has changed. */
+static uint64_t changed(const struct row *row)
+{
+    const uint8_t *first = row->memory + row->from, *end = row->memory + row->to;
+    int as_it_was = all_are(row->memory, row->from, GUARD_OCTET) && all_are(end, row->size - row->to, GUARD_OCTET);
+
+    if (!row->lent && row->copy) {
+        size_t zeros = row->to - row->from - row->sent, some = zeros < EACH_END ? zeros : EACH_END;
+        as_it_was = as_it_was && memcmp(first, row->copy, row->sent) == 0 && all_are(first + row->sent, some, 0)
+                    && all_are(end - some, some, 0);
+    }
+    return as_it_was ? 0 : 1;
+}
+
+static void free_row(struct row *row)
+{
+    if (row->all)
         munmap(row->all, row->held);
     else
         free(row->memory);
     free(row->copy);
-    return changed ? 1 : 0;
-}
-
-static void put_lent(const struct row *row)
-{
-    put(row->memory + row->from, row->to - row->from);
-}
-
-/* `count` octets of a row from `at` on, by their pointer, as far as they are in the row. */
-static void put_part(const struct row *row, uint64_t at, uint64_t count)
-{
-    uint64_t len = row->to - row->from, rest = at < len ? len - at : 0;
-
-    if (rest > 0)
-        put((const uint8_t *)pointer(row) + at, (size_t)(count < rest ? count : rest));
-}
-
-static void put_guard(uint64_t guard)
-{
-    put(&guard, sizeof guard);
 }
 
 /* ---- Calls ----------------------------------------------------------------------------------- */
 
-static void call_write(void)
-{
-    uint64_t kind = get_number(), rate = get_number(), phase = get_number(), clock = get_number();
-    uint64_t payload_len = get_number(), chips_len = get_number();
-    struct row payload = read_row(payload_len, 1), chips = lent_row(chips_len);
+union answer {
+    dsss_written written;
+    dsss_record record;
+    dsss_coming coming;
+    dsss_found found;
+    dsss_counted counted;
+    dsss_text text;
+};
 
-    dsss_written written = dsss_write(kind, rate, phase, clock, pointer(&payload), (size_t)payload_len,
-                                      pointer(&chips), (size_t)chips_len);
-    put(&written, sizeof written);
-    put_lent(&chips);
-    put_guard(end_row(&payload) | end_row(&chips));
+/* A call: its numbers as they are in the request, its report, its rows for reading and the one lent for writing. The
+ * second row of 8 is the list, and its recordings are rows of their own. */
+struct call {
+    uint64_t op, numbers[6];
+    dsss_report report;
+    struct row first, second, lent, *recordings;
+    size_t sent; /* recordings */
+    union answer answer;
+};
+
+static void run(struct call *c)
+{
+    const uint64_t *n = c->numbers;
+    const void *first = c->first.pointer, *second = c->second.pointer;
+    uint8_t *lent = c->lent.pointer;
+
+    memset(&c->answer, 0, sizeof c->answer);
+    if (c->op == 1)
+        c->answer.written = dsss_write(n[0], n[1], n[2], n[3], first, (size_t)n[4], lent, (size_t)n[5]);
+    else if (c->op == 2)
+        c->answer.record = dsss_read_hard(n[0], first, (size_t)n[1], lent, (size_t)n[2]);
+    else if (c->op == 3)
+        c->answer.record = dsss_read_soft(n[0], first, (size_t)n[1], second, (size_t)n[2], lent, (size_t)n[3]);
+    else if (c->op == 4)
+        c->answer.record = dsss_read_bytes(n[0], first, (size_t)n[1], lent, (size_t)n[2]);
+    else if (c->op == 5)
+        c->answer.coming = dsss_read_front(n[0], first, (size_t)n[1]);
+    else if (c->op == 6)
+        c->answer.found = dsss_find(n[0], first, (size_t)n[1], n[2]);
+    else if (c->op == 7)
+        c->answer.counted = dsss_report_add(c->report, n[0], first, (size_t)n[1]);
+    else if (c->op == 8)
+        c->answer.counted = dsss_report_list(first, (size_t)n[0], second, (size_t)n[1]);
+    else
+        c->answer.text = dsss_report_text(c->report, lent, (size_t)n[0]);
 }
 
-static void call_read_hard(void)
+static size_t answer_size(uint64_t op)
 {
-    uint64_t kind = get_number(), chips_len = get_number(), octets_len = get_number();
-    struct row chips = read_row(chips_len, 1), octets = lent_row(octets_len);
+    static const size_t sizes[] = {sizeof(dsss_written), sizeof(dsss_record), sizeof(dsss_record),
+                                   sizeof(dsss_record),  sizeof(dsss_coming), sizeof(dsss_found),
+                                   sizeof(dsss_counted), sizeof(dsss_counted), sizeof(dsss_text)};
 
-    dsss_record record = dsss_read_hard(kind, pointer(&chips), (size_t)chips_len, pointer(&octets),
-                                        (size_t)octets_len);
-    put(&record, sizeof record);
-    put_lent(&octets);
-    put_guard(end_row(&chips) | end_row(&octets));
+    return sizes[op - 1];
 }
 
-static void call_read_soft(void)
-{
-    uint64_t kind = get_number(), i_len = get_number(), q_len = get_number();
-    uint64_t octets_len = get_number();
-    struct row i = read_row(i_len, sizeof(float)), q = read_row(q_len, sizeof(float));
-    struct row octets = lent_row(octets_len);
+/* ---- A call in the middle of another --------------------------------------------------------- */
 
-    dsss_record record = dsss_read_soft(kind, pointer(&i), (size_t)i_len, pointer(&q),
-                                        (size_t)q_len, pointer(&octets), (size_t)octets_len);
-    put(&record, sizeof record);
-    put_lent(&octets);
-    put_guard(end_row(&i) | end_row(&q) | end_row(&octets));
+enum { OPS = 9, PARTS = 3, TOUCHES = 24, NEAR = 64 };
+
+static struct call kept[OPS];             /* the last call of each op that was kept, if it has an op */
+static uint8_t *kept_octets[OPS];         /* and what it left in its lent row */
+static struct { uint8_t *from, *to; int open; } parts[PARTS];
+static uint8_t *touch;                    /* the last touch of a part that was closed */
+static unsigned touches;
+static uint64_t differs;                  /* the guard's 4 */
+
+static void set_part(size_t part, int open)
+{
+    size_t len = (size_t)(parts[part].to - parts[part].from);
+
+    if (len > 0 && mprotect(parts[part].from, len, open ? PROT_READ | PROT_WRITE : PROT_NONE) != 0)
+        _exit(1);
+    parts[part].open = open;
 }
 
-static void call_read_bytes(void)
+static void run_kept(uint64_t op)
 {
-    uint64_t kind = get_number(), bytes_len = get_number(), octets_len = get_number();
-    struct row bytes = read_row(bytes_len, sizeof(int8_t)), octets = lent_row(octets_len);
+    struct call *c = &kept[op - 1];
+    union answer before = c->answer;
+    size_t len = c->lent.to - c->lent.from;
 
-    dsss_record record = dsss_read_bytes(kind, pointer(&bytes), (size_t)bytes_len, pointer(&octets),
-                                         (size_t)octets_len);
-    put(&record, sizeof record);
-    put_lent(&octets);
-    put_guard(end_row(&bytes) | end_row(&octets));
+    run(c);
+    if (memcmp(&before, &c->answer, sizeof before) != 0
+        || (len > 0 && memcmp(c->lent.memory + c->lent.from, kept_octets[op - 1], len) != 0))
+        differs = 4;
+    c->answer = before;
+    if (len > 0)
+        memcpy(c->lent.memory + c->lent.from, kept_octets[op - 1], len);
 }
 
-static void call_read_front(void)
-{
-    uint64_t kind = get_number(), chips_len = get_number();
-    uint64_t front = kind == DSSS_LONG ? DSSS_FRONT_LONG : DSSS_FRONT_SHORT;
-    struct row chips = read_row_to(chips_len, 1, chips_len < front ? chips_len : front);
+static uint64_t running; /* the op of the call that others are made in */
 
-    dsss_coming coming = dsss_read_front(kind, pointer(&chips), (size_t)chips_len);
-    set_access(&chips, PROT_READ);
-    put(&coming, sizeof coming);
-    put_part(&chips, coming.at, coming.count);
-    put_guard(end_row(&chips));
+/* Emulators of x86-64 may begin a handler with a stack that is not at a multiple of 16, where calls want it. */
+#ifdef __x86_64__
+__attribute__((force_align_arg_pointer)) static void touched(int number, siginfo_t *info, void *context);
+#endif
+
+/* What touches two parts at once is let through: both are left open. The address of such a touch may be in the first of
+ * them, which is open. */
+static void touched(int number, siginfo_t *info, void *context)
+{
+    uint8_t *at = info->si_addr;
+    size_t part = 0;
+
+    (void)context;
+    while (part < PARTS && (at + NEAR <= parts[part].from || at >= parts[part].to || parts[part].open))
+        part++;
+    if (part == PARTS) { /* a touch that is an error: made again, it ends the bridge */
+        signal(number, SIG_DFL);
+        return;
+    }
+    run_kept(running);
+    int beside = touch && at - touch < NEAR && touch - at < NEAR;
+    for (size_t other = 0; other < PARTS; other++)
+        set_part(other, other == part || beside || touches >= TOUCHES);
+    touch = at;
+    touches++;
 }
 
-/* A find over chips that begin where memory begins: a look before them kills the bridge. */
-static dsss_found find_from_edge(uint64_t kind, const struct row *chips, uint64_t offsets)
+/* The parts of a call's rows: the first of a row for reading is open. Of 8 the list is split, of the others the first
+ * row. */
+static void close_parts(struct call *c)
 {
-    size_t len = chips->to - chips->from, before = in_pages(1), size = before + in_pages(len);
+    struct row *split = c->op == 8 ? &c->second : &c->first;
+    struct sigaction action = {0};
+
+    memset(parts, 0, sizeof parts);
+    if (split->all) {
+        parts[0].from = split->all;
+        parts[0].to = parts[1].from = split->edge;
+        parts[1].to = split->edge + split->closed;
+    }
+    if (c->lent.all) {
+        parts[2].from = c->lent.edge;
+        parts[2].to = c->lent.edge + c->lent.closed;
+    }
+    for (size_t part = 0; part < PARTS; part++)
+        set_part(part, part == 0);
+    touch = NULL;
+    touches = 0;
+    running = c->op;
+    action.sa_sigaction = touched;
+    action.sa_flags = SA_SIGINFO;
+    sigaction(SIGSEGV, &action, NULL);
+    sigaction(SIGBUS, &action, NULL);
+}
+
+static void open_parts(void)
+{
+    for (size_t part = 0; part < PARTS; part++)
+        set_part(part, 1);
+    signal(SIGSEGV, SIG_DFL);
+    signal(SIGBUS, SIG_DFL);
+}
+
+/* ---- Requests -------------------------------------------------------------------------------- */
+
+/* Q in the memory of I: the first row holds both, and the second has a pointer alone. */
+static void get_one_row(struct call *c)
+{
+    const size_t width = sizeof(float), i_len = (size_t)c->numbers[1] * width, q_len = (size_t)c->numbers[2] * width;
+    const size_t shift = laid.shift * width, end = shift + q_len > i_len ? shift + q_len : i_len;
+    struct row *i = &c->first;
+
+    *i = make_row(end / width, width, end / width, 0, 0);
+    get_elements(i->memory + i->from, i_len, width);
+    uint8_t *q = calloc(q_len > 0 ? q_len : 1, 1);
+    if (!q)
+        die("no memory for a row");
+    get_elements(q, q_len, width);
+    if (i_len > shift && memcmp(i->memory + i->from + shift, q, i_len - shift < q_len ? i_len - shift : q_len) != 0)
+        die("I and Q that cannot be one row");
+    memcpy(i->memory + i->from + shift, q, q_len);
+    free(q);
+    i->sent = end;
+    copy_row(i);
+    c->second.pointer = i->memory + i->from + shift;
+}
+
+/* Where a recording stands in another one, at its beginning or its end; NULL if nowhere. */
+static uint8_t *found_in(const struct row *one, const struct row *other)
+{
+    size_t len = one->to - one->from, longer = other->to - other->from;
+    const uint8_t *chips = one->memory + one->from;
+    uint8_t *first = other->memory + other->from;
+
+    if (len == 0 || len > longer)
+        return NULL;
+    if (memcmp(chips, first, len) == 0)
+        return first;
+    return memcmp(chips, first + longer - len, len) == 0 ? first + longer - len : NULL;
+}
+
+static void get_recordings(struct call *c)
+{
+    uint64_t sent = get_number();
+
+    if (sent > LIST_MAX || sent > c->numbers[1])
+        die("a list is too long");
+    c->sent = (size_t)sent;
+    c->recordings = calloc(sent > 0 ? c->sent : 1, sizeof *c->recordings);
+    if (!c->recordings)
+        die("no memory for a list");
+    for (size_t k = 0; k < c->sent; k++) {
+        uint8_t *shared = NULL;
+        c->recordings[k] = read_row(get_number(), 1, 0);
+        for (size_t before = 1; laid.shared && !shared && before <= 4 && before <= k; before++)
+            shared = found_in(&c->recordings[k], &c->recordings[k - before]);
+        if (shared)
+            c->recordings[k].pointer = shared;
+    }
+}
+
+/* The kinds, and a row of so many recordings, each a row of its own. */
+static void get_list(struct call *c)
+{
+    c->numbers[0] = get_number();
+    c->first = read_row(c->numbers[0], sizeof(uint64_t), 0);
+    uint64_t count = c->numbers[1] = get_number();
+    get_recordings(c);
+    int in_middle = laid.within && count > 1;
+    uint64_t open = in_middle ? 1 + (count - 1) * laid.split / 65536 : count;
+    struct row *list = &c->second;
+    *list = make_row(count, sizeof(dsss_chips), open, 0, in_middle);
+    list->sent = c->sent * sizeof(dsss_chips);
+    if (rows == EXACT && count > c->sent)
+        memset(list->memory + list->from, 0, list->to - list->from);
+    for (size_t k = 0; k < c->sent; k++) {
+        dsss_chips one = {c->recordings[k].pointer, c->recordings[k].to - c->recordings[k].from};
+        memcpy(list->memory + list->from + k * sizeof one, &one, sizeof one);
+    }
+    copy_row(list);
+}
+
+/* The row of 5 and of 6: no chip behind the front may be looked at, and none at all where 6 is refused by its kind or
+ * by its number of offsets. */
+static void get_chips_to(struct call *c)
+{
+    uint64_t kind = c->numbers[0], len = c->numbers[1], front = kind == 0 ? DSSS_FRONT_LONG : DSSS_FRONT_SHORT;
+    int refused = kind > DSSS_SHORT || c->numbers[2] < 1 || c->numbers[2] > DSSS_OFFSETS_MAX;
+    uint64_t open = c->op == 5 ? (len < front ? len : front) : refused ? 0 : len;
+
+    c->first = laid.within ? read_row(len, 1, 1) : read_row_to(len, 1, open);
+}
+
+static void get_call(struct call *c)
+{
+    static const unsigned counts[OPS] = {6, 3, 4, 3, 2, 3, 2, 0, 1};
+    uint64_t *n = c->numbers;
+
+    memset(c, 0, sizeof *c);
+    c->op = get_number();
+    if (c->op < 1 || c->op > OPS)
+        die("an op that is not 1 to 9");
+    get_laid();
+    laid.within = laid.within && kept[c->op - 1].op != 0;
+    if (c->op == 7 || c->op == 9)
+        get(&c->report, sizeof c->report);
+    get(n, counts[c->op - 1] * sizeof n[0]);
+    if (c->op == 3 && laid.shared)
+        get_one_row(c);
+    else if (c->op == 3) {
+        c->first = read_row(n[1], sizeof(float), 1);
+        c->second = read_row(n[2], sizeof(float), 0);
+    } else if (c->op == 5 || c->op == 6)
+        get_chips_to(c);
+    else if (c->op == 8)
+        get_list(c);
+    else if (c->op != 9)
+        c->first = read_row(c->op == 1 ? n[4] : n[1], 1, 1);
+    if (c->op < 5 || c->op == 9)
+        c->lent = lent_row(n[counts[c->op - 1] - 1]);
+}
+
+/* ---- Answers --------------------------------------------------------------------------------- */
+
+/* A find over chips that begin where memory begins: a look before them kills the bridge. 2 if it answers otherwise. */
+static uint64_t find_from_edge(const struct call *c)
+{
+    size_t len = c->first.to - c->first.from, before = in_pages(1), size = before + in_pages(len);
     uint8_t *all = mmap(NULL, size, PROT_READ | PROT_WRITE, MAP_PRIVATE | MAP_ANONYMOUS, -1, 0);
 
     if (all == MAP_FAILED)
         die("no memory for a row");
-    memcpy(all + before, chips->memory + chips->from, len);
+    memcpy(all + before, c->first.memory + c->first.from, c->first.sent);
     if (mprotect(all, before, PROT_NONE) != 0)
         die("cannot close a row");
-    dsss_found found = dsss_find(kind, len > 0 ? all + before : NULL, len, offsets);
+    dsss_found found = dsss_find(c->numbers[0], len > 0 ? all + before : NULL, len, c->numbers[2]);
     munmap(all, size);
-    return found;
+    return memcmp(&found, &c->answer.found, sizeof found) != 0 ? 2 : 0;
 }
 
-/* Of a kind or a number of offsets that is refused no chip may be looked at. */
-static void call_find(void)
+/* Makes the call, twice if so asked: over what it has left in the lent row. */
+static uint64_t make_call(struct call *c)
 {
-    uint64_t kind = get_number(), chips_len = get_number(), offsets = get_number();
-    int refused = kind > DSSS_SHORT || offsets < 1 || offsets > DSSS_OFFSETS_MAX;
-    struct row chips = read_row_to(chips_len, 1, refused ? 0 : chips_len);
-    uint64_t differs = 0;
+    uint64_t guard = 0;
 
-    dsss_found found = dsss_find(kind, pointer(&chips), (size_t)chips_len, offsets);
-    set_access(&chips, PROT_READ);
-    if (rows == PAGES) {
-        dsss_found again = find_from_edge(kind, &chips, offsets);
-        differs = memcmp(&found, &again, sizeof found) != 0;
+    differs = 0;
+    if (laid.within) {
+        close_parts(c);
+        run(c);
+        open_parts();
+    } else
+        run(c);
+    if (laid.old == 5) {
+        union answer before = c->answer;
+        run(c);
+        guard = memcmp(&before, &c->answer, sizeof before) != 0 ? 2 : 0;
     }
-    put(&found, sizeof found);
-    put_guard(end_row(&chips) | differs);
+    if (rows == PAGES)
+        set_access(&c->first, PROT_READ);
+    if (rows == PAGES && c->op == 6)
+        guard |= find_from_edge(c);
+    return guard | differs;
 }
 
-static void call_report_add(void)
+/* `count` chips of the recording from `at` on, by their pointer, as far as they are in it. */
+static void put_part(const struct call *c)
 {
-    dsss_report report = get_report();
-    uint64_t kind = get_number(), chips_len = get_number();
-    struct row chips = read_row(chips_len, 1);
+    uint64_t len = c->numbers[1], at = c->answer.coming.at, count = c->answer.coming.count;
+    uint64_t rest = at < len ? len - at : 0;
 
-    dsss_counted counted = dsss_report_add(report, kind, pointer(&chips), (size_t)chips_len);
-    put(&counted, sizeof counted);
-    put_guard(end_row(&chips));
+    if (rest > 0)
+        put((const uint8_t *)c->first.pointer + at, (size_t)(count < rest ? count : rest));
 }
 
-static void call_report_list(void)
+static void free_call(struct call *c)
 {
-    uint64_t kinds_len = get_number();
-    struct row kinds = read_row(kinds_len, sizeof(uint64_t));
-    uint64_t list_len = get_number(), changed = 0;
-    if (list_len > LIST_MAX)
-        die("a list is too long");
-    struct row *recordings = malloc((list_len > 0 ? list_len : 1) * sizeof *recordings);
-    if (!recordings)
-        die("no memory for a list");
-    for (size_t k = 0; k < list_len; k++)
-        recordings[k] = read_row(get_number(), 1);
-    struct row list = list_row(list_len, recordings);
-
-    dsss_counted counted = dsss_report_list(pointer(&kinds), (size_t)kinds_len, pointer(&list), (size_t)list_len);
-    for (size_t k = 0; k < list_len; k++)
-        changed |= end_row(&recordings[k]);
-    free(recordings);
-    put(&counted, sizeof counted);
-    put_guard(changed | end_row(&kinds) | end_row(&list));
+    for (size_t k = 0; k < c->sent; k++)
+        free_row(&c->recordings[k]);
+    free(c->recordings);
+    free_row(&c->first);
+    free_row(&c->second);
+    free_row(&c->lent);
 }
 
-static void call_report_text(void)
+/* Keeps a call to be made again in the middle of another, if it is small and its rows are not pages. */
+static int keep(const struct call *c)
 {
-    dsss_report report = get_report();
-    uint64_t text_len = get_number();
-    struct row text = lent_row(text_len);
+    const struct row *of[] = {&c->first, &c->second, &c->lent};
+    size_t at = (size_t)c->op - 1, len = c->lent.to - c->lent.from;
 
-    dsss_text told = dsss_report_text(report, pointer(&text), (size_t)text_len);
-    put(&told, sizeof told);
-    put_lent(&text);
-    put_guard(end_row(&text));
+    for (size_t k = 0; k < 3; k++)
+        if (of[k]->all || of[k]->size > KEPT_MOST)
+            return 0;
+    if (rows != GUARDS || (c->op == 8 && c->numbers[1] > 40))
+        return 0;
+    if (kept[at].op != 0)
+        free_call(&kept[at]);
+    free(kept_octets[at]);
+    kept[at] = *c;
+    kept_octets[at] = malloc(len > 0 ? len : 1);
+    if (!kept_octets[at])
+        die("no memory for a call");
+    if (len > 0)
+        memcpy(kept_octets[at], c->lent.memory + c->lent.from, len);
+    return 1;
 }
 
-/* The calls by their ops, from 1 on. */
-static void (*const calls[])(void) = {call_write,      call_read_hard, call_read_soft,  call_read_bytes,
-                                      call_read_front, call_find,      call_report_add, call_report_list,
-                                      call_report_text};
+static void answer_call(void)
+{
+    struct call c;
+
+    get_call(&c);
+    uint64_t guard = make_call(&c);
+    put(&c.answer, answer_size(c.op));
+    put(c.lent.memory + c.lent.from, c.lent.to - c.lent.from);
+    if (c.op == 5)
+        put_part(&c);
+    for (size_t k = 0; k < c.sent; k++)
+        guard |= changed(&c.recordings[k]);
+    guard |= changed(&c.first) | changed(&c.second) | changed(&c.lent);
+    put(&guard, sizeof guard);
+    if (!keep(&c))
+        free_call(&c);
+}
 
 int main(int argc, char **argv)
 {
@@ -406,11 +693,7 @@ int main(int argc, char **argv)
         die("usage: bridge [pages | exact]");
     if (argc == 2)
         rows = strcmp(argv[1], "pages") == 0 ? PAGES : EXACT;
-    while (input_at < input_end || more()) {
-        uint64_t op = get_number();
-        if (op < 1 || op > sizeof calls / sizeof calls[0])
-            die("an op that is not 1 to 9");
-        calls[op - 1]();
-    }
+    while (input_at < input_end || more())
+        answer_call();
     return 0;
 }

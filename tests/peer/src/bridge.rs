@@ -3,10 +3,11 @@
 //! Requests go ahead of the answers in batches. A batch is handed to the comparing side before it is written, and the
 //! next is handed over only when it is written whole, so neither side waits for the other in a circle.
 
-use crate::calls::{Call, Expected, Met};
+use crate::calls::{Answer, Call, Expected, Met};
 use crate::decided::{self, Seen};
 use crate::families::{Family, Out};
 use crate::figures::Figures;
+use crate::laid::{Laid, Layings};
 use crate::leads::{self, Won};
 use crate::relations::{Held, Relations};
 use crate::reported;
@@ -18,7 +19,7 @@ use std::sync::{Arc, Mutex};
 use std::thread;
 use std::time::{Duration, Instant};
 
-/// A batch ends at so many calls or so many octets.
+/// A batch ends at so many calls, or so many octets or elements of rows.
 const BATCH_CALLS: usize = 64;
 const BATCH_OCTETS: usize = 1 << 18;
 
@@ -54,7 +55,12 @@ pub struct Outcome {
     pub seen: Seen,
     /// How often the smallest leads were to stand in each way.
     pub won: Won,
+    /// How often rows were laid in each way.
+    pub layings: Layings,
 }
+
+/// A call with its case's number and how its rows are laid.
+type Asked = (u64, Call, Laid);
 
 impl Outcome {
     pub fn add(&mut self, other: &Outcome) {
@@ -72,6 +78,18 @@ impl Outcome {
         for (key, count) in &other.won {
             *self.won.entry(*key).or_default() += count;
         }
+        for (key, count) in &other.layings {
+            *self.layings.entry(*key).or_default() += count;
+        }
+    }
+
+    /// One call more: what its answer was to be, and whether it was.
+    fn count(&mut self, call: &Call, expected: &Answer, leads: &[i32], equal: bool) {
+        self.calls += 1;
+        self.mismatches += u64::from(!equal);
+        decided::count(call, expected, &mut self.seen);
+        leads::count(call, expected, leads, &mut self.won);
+        reported::count(call, expected, leads, &mut self.held);
     }
 
     /// The calls that answer the number met most often, whatever the op and the part.
@@ -108,13 +126,13 @@ impl Bridge {
     /// Runs a family and compares every answer and every buffer. An error is a bridge that doesn't answer.
     pub fn compare(&mut self, family: &Family, figures: &Figures, run: Run) -> io::Result<Outcome> {
         let Bridge { child, requests, answers, last_answer } = self;
-        let (sender, batches) = sync_channel::<Vec<(u64, Call)>>(if run.singly { 0 } else { AHEAD });
+        let (sender, batches) = sync_channel::<Vec<Asked>>(if run.singly { 0 } else { AHEAD });
         let (mut outcome, mut relations) = (Outcome::default(), Relations::default());
         thread::scope(|scope| {
             scope.spawn(move || send_family(family, figures, run, requests, sender));
-            for (case, call) in batches.into_iter().flatten() {
+            for (case, call, laid) in batches.into_iter().flatten() {
                 let Expected { answer: expected, met, leads } = call.expected();
-                let (answer, guarded) = match call.answer(answers) {
+                let (answer, guard) = match call.answer(answers) {
                     Ok(answered) => answered,
                     Err(error) => {
                         let ahead = if run.singly { "" } else { " or soon after; --singly finds it" };
@@ -125,22 +143,20 @@ impl Bridge {
                 };
                 *last_answer.lock().expect("no panic") = Instant::now();
                 let related = relations.hold(&call, &answer, &mut outcome.held);
-                let equal = answer == expected && guarded && related.is_ok();
+                let equal = answer == expected && guard == 0 && related.is_ok();
                 if !equal && outcome.mismatches < SHOWN || run.only_case.is_some() {
                     let cut = if run.only_case.is_some() { usize::MAX } else { CUT };
                     head(if equal { "equal" } else { "MISMATCH" }, family, case, run);
                     println!("{}\n{}", call.shown(cut), call.compared(&expected, &answer, cut));
-                    say_beside(guarded, related);
+                    println!("  {}", laid.shown());
+                    say_beside(guard, related);
                 }
                 if !equal && run.until_first {
                     end_at_first(child, family);
                 }
-                outcome.calls += 1;
-                outcome.mismatches += u64::from(!equal);
                 *outcome.met.entry(met).or_default() += 1;
-                decided::count(&call, &expected, &mut outcome.seen);
-                leads::count(&call, &expected, &leads, &mut outcome.won);
-                reported::count(&call, &expected, &leads, &mut outcome.held);
+                laid.count(&call, &mut outcome.layings);
+                outcome.count(&call, &expected, &leads, equal);
             }
             Ok(outcome)
         })
@@ -163,10 +179,13 @@ impl Bridge {
 }
 
 /// Says what else is wrong with an answer.
-fn say_beside(guarded: bool, related: Result<(), &str>) {
-    if !guarded {
-        println!("  the octets around the lent rows, or rows lent for reading, were changed");
-    }
+fn say_beside(guard: u64, related: Result<(), &str>) {
+    let faults = [
+        (1, "the octets around the lent rows, or rows lent for reading, were changed"),
+        (2, "made again, the call answered otherwise"),
+        (4, "a call that was made in the middle of this one answered otherwise than before"),
+    ];
+    faults.iter().filter(|(bit, _)| guard & bit != 0).for_each(|(_, fault)| println!("  {fault}"));
     if let Err(fault) = related {
         println!("  beside the calls before it: {fault}");
     }
@@ -193,25 +212,27 @@ fn send_family(
     figures: &Figures,
     run: Run,
     requests: &mut ChildStdin,
-    sender: SyncSender<Vec<(u64, Call)>>,
+    sender: SyncSender<Vec<Asked>>,
 ) {
-    let (mut batch, mut octets) = (Vec::new(), Vec::new());
+    let (mut batch, mut octets, mut held) = (Vec::new(), Vec::new(), 0);
     let mut case = 0;
     // A failed write needs no word here: the comparing side finds the answers missing.
-    let mut flush = |batch: &mut Vec<(u64, Call)>, octets: &mut Vec<u8>| {
+    let mut flush = |batch: &mut Vec<Asked>, octets: &mut Vec<u8>| {
         if sender.send(std::mem::take(batch)).is_ok() {
             let _ = requests.write_all(octets).and_then(|()| requests.flush());
         }
         octets.clear();
     };
-    let mut take = |call: Call| {
+    let mut take = |call: Call, laid: Laid| {
         if run.only_case.map_or(true, |only| only == case) {
-            call.request(&mut octets);
-            batch.push((case, call));
+            call.request(&laid, &mut octets);
+            held += call.read_lens().iter().sum::<usize>();
+            batch.push((case, call, laid));
         }
         case += 1;
-        if batch.len() == BATCH_CALLS || run.singly && batch.len() == 1 || octets.len() >= BATCH_OCTETS {
+        if batch.len() == BATCH_CALLS || run.singly && batch.len() == 1 || held.max(octets.len()) >= BATCH_OCTETS {
             flush(&mut batch, &mut octets);
+            held = 0;
         }
     };
     (family.calls)(&mut Out::new(family.seed, run.long, figures, &mut take));

@@ -3,6 +3,7 @@
 use crate::chips::Recording;
 use crate::coming::{coming, Coming};
 use crate::finding::{find, Found};
+use crate::laid::Laid;
 use crate::reading::read;
 use crate::refusals::CHIP_BUFFER;
 use crate::report_calls::ReportCall;
@@ -117,14 +118,36 @@ impl Call {
         }
     }
 
-    fn lent_len(&self) -> usize {
+    /// The length of the row lent for writing, if there is one.
+    pub fn lent_len(&self) -> Option<usize> {
         match self {
-            Call::Write { chips_len, .. } => *chips_len,
+            Call::Write { chips_len, .. } => Some(*chips_len),
             Call::ReadHard { octets_len, .. }
             | Call::ReadSoft { octets_len, .. }
-            | Call::ReadBytes { octets_len, .. } => *octets_len,
-            Call::ReadFront { .. } | Call::Find { .. } => 0,
+            | Call::ReadBytes { octets_len, .. } => Some(*octets_len),
+            Call::ReadFront { .. } | Call::Find { .. } => None,
             Call::Report(call) => call.lent_len(),
+        }
+    }
+
+    /// The lengths of the rows for reading, in elements.
+    pub fn read_lens(&self) -> Vec<usize> {
+        match self {
+            Call::Write { payload: row, .. }
+            | Call::ReadHard { chips: row, .. }
+            | Call::ReadFront { chips: row, .. }
+            | Call::Find { chips: row, .. } => vec![row.len()],
+            Call::ReadSoft { i, q, .. } => vec![i.len(), q.len()],
+            Call::ReadBytes { bytes, .. } => vec![bytes.len()],
+            Call::Report(call) => call.read_lens(),
+        }
+    }
+
+    /// Whether a list names a recording again, and all of it, or only a part.
+    pub fn names_a_row_twice(&self) -> Option<bool> {
+        match self {
+            Call::Report(call) => call.names_a_row_twice(),
+            _ => None,
         }
     }
 
@@ -134,44 +157,47 @@ impl Call {
             (Call::ReadFront { chips, .. }, [.., at, count]) => {
                 (chips.len() as u64).saturating_sub(*at).min(*count) as usize
             }
-            _ => self.lent_len(),
+            _ => self.lent_len().unwrap_or(0),
         }
     }
 
-    /// The request: the op and its numbers as u64, then the rows, all little-endian.
-    pub fn request(&self, to: &mut Vec<u8>) {
+    /// The request: the op, how the rows are laid and the call's numbers as u64, then the rows, all little-endian.
+    pub fn request(&self, laid: &Laid, to: &mut Vec<u8>) {
+        let laid = laid.word(self);
         let mut numbers = |list: &[u64]| list.iter().for_each(|number| to.extend(number.to_le_bytes()));
         match self {
             Call::Write { kind, rate, phase, clock, payload, chips_len } => {
-                numbers(&[1, *kind, *rate, *phase, *clock, payload.len() as u64, *chips_len as u64]);
-                to.extend(payload);
+                numbers(&[1, laid, *kind, *rate, *phase, *clock, payload.len() as u64, *chips_len as u64]);
+                put_octets(payload, to);
             }
             Call::ReadHard { kind, chips, octets_len } => {
-                numbers(&[2, *kind, chips.len() as u64, *octets_len as u64]);
-                to.extend(chips);
+                numbers(&[2, laid, *kind, chips.len() as u64, *octets_len as u64]);
+                put_octets(chips, to);
             }
             Call::ReadSoft { kind, i, q, octets_len } => {
-                numbers(&[3, *kind, i.len() as u64, q.len() as u64, *octets_len as u64]);
-                to.extend(i.iter().chain(q).flat_map(|x| x.to_bits().to_le_bytes()));
+                numbers(&[3, laid, *kind, i.len() as u64, q.len() as u64, *octets_len as u64]);
+                put_floats(i, to);
+                put_floats(q, to);
             }
             Call::ReadBytes { kind, bytes, octets_len } => {
-                numbers(&[4, *kind, bytes.len() as u64, *octets_len as u64]);
-                to.extend(bytes.iter().map(|byte| *byte as u8));
+                numbers(&[4, laid, *kind, bytes.len() as u64, *octets_len as u64]);
+                let sent = start_row(bytes, |byte| *byte == 0, to);
+                to.extend(sent.iter().map(|byte| *byte as u8));
             }
             Call::ReadFront { kind, chips } => {
-                numbers(&[5, *kind, chips.len() as u64]);
-                to.extend(chips);
+                numbers(&[5, laid, *kind, chips.len() as u64]);
+                put_octets(chips, to);
             }
             Call::Find { kind, chips, offsets } => {
-                numbers(&[6, *kind, chips.len() as u64, *offsets]);
-                to.extend(chips);
+                numbers(&[6, laid, *kind, chips.len() as u64, *offsets]);
+                put_octets(chips, to);
             }
-            Call::Report(call) => call.request(to),
+            Call::Report(call) => call.request(laid, to),
         }
     }
 
-    /// The library's answer as the bridge sends it, and whether the octets around the lent rows were left alone.
-    pub fn answer(&self, from: &mut impl Read) -> io::Result<(Answer, bool)> {
+    /// The library's answer as the bridge sends it, and its guard: 0 if all is well.
+    pub fn answer(&self, from: &mut impl Read) -> io::Result<(Answer, u64)> {
         let mut number = [0; 8];
         let mut numbers = Vec::new();
         for _ in self.names() {
@@ -181,7 +207,7 @@ impl Call {
         let mut buffer = vec![0; self.following(&numbers)];
         from.read_exact(&mut buffer)?;
         from.read_exact(&mut number)?;
-        Ok((Answer { numbers, buffer }, u64::from_le_bytes(number) == 0))
+        Ok((Answer { numbers, buffer }, u64::from_le_bytes(number)))
     }
 
     /// The recording of which a full read is asked.
@@ -197,7 +223,7 @@ impl Call {
     /// What is expected of the call; a write's part goes by its payload's length. The buffer starts with other contents
     /// than any call leaves.
     pub fn expected(&self) -> Expected {
-        let mut buffer = vec![0x77; self.lent_len()];
+        let mut buffer = vec![0x77; self.lent_len().unwrap_or(0)];
         let mut leads = Vec::new();
         let (numbers, part, clock) = match self {
             Call::Write { kind, rate, phase, clock, payload, .. } => {
@@ -288,6 +314,29 @@ impl Call {
         let (named, buffer) = (named.collect::<Vec<_>>().join(", "), self.buffer_name());
         format!("{named}; {buffer} {}", hex(&answer.buffer, cut))
     }
+}
+
+/// Zeros at the end of a row that are not worth a thought.
+const FEW: usize = 64;
+
+/// How many elements of a row are sent: all, but for many zeros at its end. These elements.
+fn start_row<'a, T>(row: &'a [T], zero: impl Fn(&T) -> bool, to: &mut Vec<u8>) -> &'a [T] {
+    let zeros = row.iter().rev().take_while(|element| zero(element)).count();
+    let sent = row.len() - if zeros > FEW { zeros } else { 0 };
+    to.extend((sent as u64).to_le_bytes());
+    &row[..sent]
+}
+
+/// A row of octets in a request.
+pub fn put_octets(row: &[u8], to: &mut Vec<u8>) {
+    let sent = start_row(row, |octet| *octet == 0, to);
+    to.extend(sent);
+}
+
+/// A row of f32, by their bits.
+fn put_floats(row: &[f32], to: &mut Vec<u8>) {
+    let sent = start_row(row, |x| x.to_bits() == 0, to);
+    to.extend(sent.iter().flat_map(|x| x.to_bits().to_le_bytes()));
 }
 
 fn record(read: crate::reading::Read, recorded: usize) -> (Vec<u64>, Part, bool) {

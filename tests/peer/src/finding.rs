@@ -31,7 +31,7 @@ pub fn find(kind: u64, chips: &[u8], offsets: u64) -> Found {
     }
     let symbols = symbols(chips, offsets as usize + kind.front_chips());
     for offset in 0..offsets {
-        if let Ok((rate, n, header)) = front_from(kind, &symbols, offset as usize) {
+        if let Some((rate, n, header)) = front_from(kind, &symbols, offset as usize) {
             let (rate, length) = (u64::from(rate.code()), u64::from(header.length));
             return Found { number: 0, offset, rate, length, clock: u64::from(header.clock()), n: n as u64 };
         }
@@ -43,30 +43,28 @@ pub fn find(kind: u64, chips: &[u8], offsets: u64) -> Found {
 /// are a symbol's of many offsets, so each is decided once.
 fn symbols(chips: &[u8], places: usize) -> Vec<Option<Phase>> {
     let recording = Recording::Hard(chips);
-    let counts: Vec<Option<Counts>> =
-        (0..chips.len()).map(|place| recording.chip(place).map(|chip| chip.counts())).collect();
-    let decided = |symbol: &[Option<Counts>]| {
-        let symbol: Option<Vec<Counts>> = symbol.iter().copied().collect();
-        symbol.map(|symbol| decide(Rate::Mbit1, &symbol).number)
+    let looked_at = chips.len().min(places + 10);
+    let unusable: Vec<bool> = (0..looked_at).map(|place| recording.chip(place).is_none()).collect();
+    let counts: Vec<Counts> =
+        (0..looked_at).map(|place| recording.chip(place).map_or((0, 0), |chip| chip.counts())).collect();
+    let decided = |(symbol, unusable): (&[Counts], &[bool])| {
+        (!unusable.contains(&true)).then(|| decide(Rate::Mbit1, symbol).number)
     };
-    counts.windows(11).take(places).map(decided).collect()
+    counts.windows(11).zip(unusable.windows(11)).take(places).map(decided).collect()
 }
 
-/// The front from an offset on, by the symbols at all places: rate, octets and header, or the refusal's number, 8 to
+/// The front from an offset on, by the symbols at all places: rate, octets and header; none if it is refused, with 8 to
 /// 15. The front is symbols of eleven chips throughout.
-fn front_from(kind: Kind, symbols: &[Option<Phase>], offset: usize) -> Result<(Rate, usize, Header), u64> {
-    let places = (0..kind.front_chips() / 11).map(|symbol| offset + 11 * symbol);
-    let front: Option<Vec<Option<Phase>>> = places.map(|place| symbols.get(place).copied()).collect();
-    let front: Option<Vec<Phase>> = front.ok_or(refusals::FRONT)?.into_iter().collect();
-    let front = front.ok_or(refusals::UNUSABLE)?;
-
+fn front_from(kind: Kind, symbols: &[Option<Phase>], offset: usize) -> Option<(Rate, usize, Header)> {
     // The first symbol serves only as reference.
-    let (mut before, mut scrambled) = (front[0], Vec::with_capacity(front.len()));
-    for (symbol, phase) in front.into_iter().enumerate() {
+    let mut before = (*symbols.get(offset)?)?;
+    let mut scrambled = Vec::with_capacity(2 * kind.front_chips() / 11);
+    for symbol in 0..kind.front_chips() / 11 {
+        let phase = (*symbols.get(offset + 11 * symbol)?)?;
         let rate = if symbol < kind.bits_before_header() { Rate::Mbit1 } else { kind.header_rate() };
-        receive(rate, symbol, before, phase, &mut scrambled).ok_or(refusals::GROWTH)?;
+        receive(rate, symbol, before, phase, &mut scrambled)?;
         before = phase;
     }
-    let front = front_of(kind, &scrambled)?;
-    told_by(&front).map(|(rate, n)| (rate, n, front.header))
+    let front = front_of(kind, &scrambled).ok()?;
+    told_by(&front).ok().map(|(rate, n)| (rate, n, front.header))
 }

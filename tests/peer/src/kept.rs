@@ -38,6 +38,7 @@ impl Reports {
                 Ok(goes_on.then_some(Reported::KeptOn).into_iter().collect())
             }
             ReportCall::List { kinds, recordings } => self.list(kinds, recordings, answer),
+            ReportCall::Empties { .. } => Ok(Vec::new()),
             ReportCall::Text { report, .. } => read_back(report, answer),
         }
     }

@@ -3,8 +3,8 @@
 //! are refused with each number, and full reads that go together with fronts in each way; symbols of 11 Mbit/s that are
 //! decided among words of one score, in each way; smallest leads in each part at each rate, shared ones, ties and those
 //! that refused reads keep; starts found of each kind and rate, at each remainder of 512, early, late and neither,
-//! behind offsets refused with each number; reports as `owed_reports` has it; and no family that spends a third of all
-//! calls on one number.
+//! behind offsets refused with each number; reports as `owed_reports` has it, and rows as `owed_laid` has it; and no
+//! family that spends a third of all calls on one number.
 
 use crate::bits::Rate;
 use crate::bridge::Outcome;
@@ -15,6 +15,7 @@ use crate::leads::Lead::{
     self, Above, Alone, At as LeadAt, From, InBoth, InFront, Kept, Next, OfAllowed, Shared, Tied,
 };
 use crate::leads::Stands::{First, Header, Payload, Preamble};
+use crate::owed_laid::laid;
 use crate::owed_reports::reports;
 use crate::relations::Held;
 use crate::starts::Start::{self, Early, Found, Late, Missed, Passed, ReadRefused};
@@ -56,28 +57,28 @@ const OWED: [Owed; 29] = [
             (10, 2_600, 0),
             (11, 1_200, 0),
             (12, 1_100, 0),
-            (13, 6_700, 6_600),
+            (13, 1_800, 1_700),
             (14, 1_700, 1_600),
-            (15, 2_800, 2_800),
+            (15, 850, 910),
         ],
     ),
     owed(
         "read hard",
         Part::LongFront,
         "front, 6,001 and more",
-        &[(1, 16, 0), (9, 16, 0), (10, 26, 0), (11, 70, 0), (12, 16, 0), (13, 10, 6), (14, 6, 10), (15, 22, 16)],
+        &[(1, 8, 0), (9, 16, 0), (10, 26, 0), (11, 70, 0), (12, 8, 0), (13, 4, 6), (14, 6, 2), (15, 22, 16)],
     ),
     owed(
         "read hard",
         Part::Payload,
         "payload to 300 octets",
-        &[(0, 5_100, 5_000), (9, 1_200, 1_100), (10, 230, 240), (16, 1_500, 660), (17, 230, 250)],
+        &[(0, 5_100, 5_000), (9, 1_200, 1_100), (10, 230, 240), (16, 770, 660), (17, 230, 250)],
     ),
     owed(
         "read hard",
         Part::LongPayload,
         "payload above 300",
-        &[(0, 140, 130), (9, 200, 200), (10, 10, 10), (16, 14_000, 3_000), (17, 80, 80)],
+        &[(0, 140, 130), (9, 200, 200), (10, 10, 10), (16, 1_800, 380), (17, 80, 80)],
     ),
     owed("read hard", Part::FarPlace, "places from 65,536", &[(9, 20, 10), (10, 4, 5)]),
     owed(
@@ -93,7 +94,7 @@ const OWED: [Owed; 29] = [
             (11, 190, 0),
             (12, 220, 0),
             (13, 20, 20),
-            (14, 380, 320),
+            (14, 180, 160),
             (15, 140, 130),
         ],
     ),
@@ -101,17 +102,7 @@ const OWED: [Owed; 29] = [
         "read soft",
         Part::LongFront,
         "front, 6,001 and more",
-        &[
-            (1, 20, 0),
-            (7, 10, 0),
-            (9, 16, 0),
-            (10, 16, 0),
-            (11, 16, 0),
-            (12, 16, 0),
-            (13, 10, 6),
-            (14, 6, 10),
-            (15, 22, 16),
-        ],
+        &[(1, 12, 0), (7, 10, 0), (9, 8, 0), (10, 8, 0), (11, 8, 0), (12, 8, 0), (13, 4, 6), (14, 6, 2), (15, 22, 16)],
     ),
     owed(
         "read soft",
@@ -138,16 +129,16 @@ const OWED: [Owed; 29] = [
             (10, 1_400, 0),
             (11, 850, 0),
             (12, 790, 0),
-            (13, 440, 430),
-            (14, 640, 580),
-            (15, 360, 360),
+            (13, 130, 140),
+            (14, 420, 580),
+            (15, 180, 190),
         ],
     ),
     owed(
         "read bytes",
         Part::LongFront,
         "front, 6,001 and more",
-        &[(1, 16, 0), (7, 75, 0), (10, 19, 0), (11, 34, 0), (12, 16, 0), (13, 10, 6), (14, 6, 12), (15, 22, 16)],
+        &[(1, 8, 0), (7, 75, 0), (10, 11, 0), (11, 34, 0), (12, 16, 0), (13, 4, 6), (14, 6, 2), (15, 22, 16)],
     ),
     owed(
         "read bytes",
@@ -159,7 +150,7 @@ const OWED: [Owed; 29] = [
         "read bytes",
         Part::LongPayload,
         "payload above 300",
-        &[(0, 100, 110), (10, 8, 7), (16, 310, 310), (17, 30, 30)],
+        &[(0, 100, 110), (10, 8, 7), (16, 100, 70), (17, 30, 30)],
     ),
     owed("read bytes", Part::FarPlace, "places from 65,536", &[(10, 3, 4)]),
     // No 7 and no 17, and of the payload no 9 and no 10.
@@ -174,19 +165,19 @@ const OWED: [Owed; 29] = [
             (10, 2_700, 0),
             (11, 1_300, 0),
             (12, 1_200, 0),
-            (13, 6_500, 6_500),
+            (13, 1_800, 1_700),
             (14, 1_700, 1_700),
-            (15, 2_700, 2_800),
+            (15, 860, 910),
         ],
     ),
     owed(
         "read front",
         Part::LongFront,
         "front, 6,001 and more",
-        &[(1, 16, 0), (9, 16, 0), (10, 26, 0), (11, 70, 0), (12, 16, 0), (13, 10, 6), (14, 6, 10), (15, 22, 16)],
+        &[(1, 8, 0), (9, 16, 0), (10, 26, 0), (11, 70, 0), (12, 8, 0), (13, 4, 6), (14, 6, 2), (15, 22, 16)],
     ),
     owed("read front", Part::Payload, "payload to 300 octets", &[(0, 6_500, 6_500), (16, 1_500, 700)]),
-    owed("read front", Part::LongPayload, "payload above 300", &[(0, 1_100, 1_100), (16, 14_000, 3_600)]),
+    owed("read front", Part::LongPayload, "payload above 300", &[(0, 1_100, 1_100), (16, 14_000, 1_100)]),
     // No 8 to 17: a find tells of none of them.
     owed("find", Part::Front, "none found", &[(1, 100, 0), (18, 70, 0), (19, 700, 0)]),
     owed("find", Part::LongFront, "none in 6,001 or more", &[(19, 38, 0)]),
@@ -205,15 +196,14 @@ const TELLS: u64 = 900;
 const HELD: [(Held, &str, u64); 6] = [
     (Held::AlikeInFront, "alike in the front", 3_100),
     (Held::AlikeCut, "alike and cut", 960),
-    (Held::RefusedAlike, "refused alike", 57_000),
+    (Held::RefusedAlike, "refused alike", 29_700),
     (Held::ReadAlike, "read alike", 10_500),
     (Held::SpoiledInPart, "spoiled in the part", 3_300),
     (Held::ShortOfRoom, "short of room", 660),
 ];
 
 /// How often two recordings alike in the front must be refused alike, with each number.
-const ALIKE: [(u64, u64); 9] =
-    [(1, 1_500), (8, 570), (9, 16), (10, 18), (11, 70), (12, 20), (13, 16), (14, 16), (15, 14)];
+const ALIKE: [(u64, u64); 9] = [(1, 1_500), (8, 570), (9, 8), (10, 9), (11, 70), (12, 11), (13, 8), (14, 8), (15, 8)];
 
 /// Shows how often something was seen of each kind and rate, without the clock bit and with it; what is short of it.
 fn of_each_pair(op: &str, title: &str, least: u64, count: impl Fn(u64, u64, u64) -> u64) -> Vec<String> {
@@ -353,10 +343,10 @@ const LEADS: [(Lead, &str, [u64; 3]); 49] = [
     (Kept(10), "by 10", [3_100, 640, 2_000]),
     (Kept(11), "by 11", [1_200, 200, 460]),
     (Kept(12), "by 12", [1_200, 240, 770]),
-    (Kept(13), "by 13", [13_100, 78, 880]),
-    (Kept(14), "by 14", [3_400, 720, 1_200]),
-    (Kept(15), "by 15", [5_600, 290, 720]),
-    (Kept(16), "by 16", [18_800, 450, 1_400]),
+    (Kept(13), "by 13", [3_500, 78, 290]),
+    (Kept(14), "by 14", [3_400, 350, 1_200]),
+    (Kept(15), "by 15", [1_800, 290, 410]),
+    (Kept(16), "by 16", [3_600, 450, 960]),
     (Kept(17), "by 17", [670, 250, 290]),
 ];
 
@@ -496,7 +486,7 @@ pub fn met(total: &Outcome, largest: (u64, &str)) -> Result<(), String> {
             short.push(format!("{op} answered {number} {count} times where it can't"));
         }
     }
-    for of_total in [held, decided, leads, starts, reports] {
+    for of_total in [held, decided, leads, starts, reports, laid] {
         short.extend(of_total(total));
     }
     if total.calls < CALLS {

@@ -138,6 +138,16 @@ pub fn report_list(kinds: &[u64], recordings: &[Vec<u8>]) -> (u64, Report) {
     (number, report_of(&readings))
 }
 
+/// A list of so many kinds 0 and recordings of no chips.
+pub fn report_of_empties(kinds: usize, recordings: usize) -> (u64, Report) {
+    if kinds != recordings {
+        return (refusals::ROWS, Report::default());
+    }
+    let seen = recordings.min(MOST_SEEN as usize);
+    let readings: Vec<Reading> = (0..seen).map(|_| Reading::of(0, &[])).collect();
+    (if recordings > seen { refusals::REPORT } else { 0 }, report_of(&readings))
+}
+
 /// The text's lines, each ending with a line feed.
 pub fn text(report: &Report) -> String {
     let rates = Rate::ALL.into_iter().zip(report.frames).zip(report.octets);

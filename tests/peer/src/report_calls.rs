@@ -1,13 +1,15 @@
 //! The calls of the month's report: their requests, what is expected of each, and how they are shown.
 
-use crate::calls::hex;
-use crate::report::{one_more, report_list, report_text, Reading, Report, ENTRIES};
+use crate::calls::{hex, put_octets};
+use crate::report::{one_more, report_list, report_of_empties, report_text, Reading, Report, ENTRIES};
 
 /// A call of the report. The report is handed in and answered by value; the text's buffer is given by its length alone.
+/// So is a list of empties, kinds 0 and recordings of no chips, by how many there are of each.
 #[derive(Clone)]
 pub enum ReportCall {
     Add { report: Report, kind: u64, chips: Vec<u8> },
     List { kinds: Vec<u64>, recordings: Vec<Vec<u8>> },
+    Empties { kinds: usize, recordings: usize },
     Text { report: Report, room: usize },
 }
 
@@ -24,42 +26,67 @@ impl ReportCall {
     pub fn op(&self) -> &'static str {
         match self {
             ReportCall::Add { .. } => "report add",
-            ReportCall::List { .. } => "report list",
+            ReportCall::List { .. } | ReportCall::Empties { .. } => "report list",
             ReportCall::Text { .. } => "report text",
         }
     }
 
     pub fn names(&self) -> &'static [&'static str] {
         match self {
-            ReportCall::Add { .. } | ReportCall::List { .. } => &NAMES,
             ReportCall::Text { .. } => &["number", "octets"],
+            _ => &NAMES,
         }
     }
 
-    pub fn lent_len(&self) -> usize {
+    pub fn lent_len(&self) -> Option<usize> {
         match self {
-            ReportCall::Text { room, .. } => *room,
-            _ => 0,
+            ReportCall::Text { room, .. } => Some(*room),
+            _ => None,
         }
+    }
+
+    pub fn read_lens(&self) -> Vec<usize> {
+        match self {
+            ReportCall::Add { chips, .. } => vec![chips.len()],
+            ReportCall::List { kinds, recordings } => {
+                [kinds.len(), recordings.len()].into_iter().chain(recordings.iter().map(Vec::len)).collect()
+            }
+            ReportCall::Empties { kinds, recordings } => vec![*kinds, *recordings, 0],
+            ReportCall::Text { .. } => Vec::new(),
+        }
+    }
+
+    /// Whether a recording of a list is that before it, or only its beginning or its end.
+    pub fn names_a_row_twice(&self) -> Option<bool> {
+        let ReportCall::List { recordings, .. } = self else { return None };
+        let again = |pair: &&[Vec<u8>]| {
+            let (before, chips) = (&pair[0], &pair[1]);
+            !chips.is_empty() && (before.starts_with(chips) || before.ends_with(chips))
+        };
+        recordings.windows(2).filter(again).map(|pair| pair[0] == pair[1]).next()
     }
 
     /// The request: all numbers as u64, little-endian. Each recording of a list stands behind its length.
-    pub fn request(&self, to: &mut Vec<u8>) {
+    pub fn request(&self, laid: u64, to: &mut Vec<u8>) {
         let mut numbers = |list: &[u64]| list.iter().for_each(|number| to.extend(number.to_le_bytes()));
         match self {
             ReportCall::Add { report, kind, chips } => {
-                numbers(&[&[7], &report.numbers()[..], &[*kind, chips.len() as u64]].concat());
-                to.extend(chips);
+                numbers(&[&[7, laid], &report.numbers()[..], &[*kind, chips.len() as u64]].concat());
+                put_octets(chips, to);
             }
             ReportCall::List { kinds, recordings } => {
-                numbers(&[&[8, kinds.len() as u64], &kinds[..], &[recordings.len() as u64]].concat());
+                let (many, len) = (kinds.len() as u64, recordings.len() as u64);
+                numbers(&[&[8, laid, many, many], &kinds[..], &[len, len]].concat());
                 for chips in recordings {
                     to.extend((chips.len() as u64).to_le_bytes());
-                    to.extend(chips);
+                    put_octets(chips, to);
                 }
             }
+            ReportCall::Empties { kinds, recordings } => {
+                numbers(&[8, laid, *kinds as u64, 0, *recordings as u64, 0]);
+            }
             ReportCall::Text { report, room } => {
-                numbers(&[&[9], &report.numbers()[..], &[*room as u64]].concat());
+                numbers(&[&[9, laid], &report.numbers()[..], &[*room as u64]].concat());
             }
         }
     }
@@ -74,6 +101,7 @@ impl ReportCall {
                 answered(one_more(report, reading))
             }
             ReportCall::List { kinds, recordings } => answered(report_list(kinds, recordings)),
+            ReportCall::Empties { kinds, recordings } => answered(report_of_empties(*kinds, *recordings)),
             ReportCall::Text { report, .. } => {
                 let (number, octets) = report_text(report, buffer);
                 vec![number, octets]
@@ -94,6 +122,7 @@ impl ReportCall {
             ReportCall::List { kinds, recordings } => {
                 format!("{} kinds, {} recordings; kinds {kinds:?}", kinds.len(), recordings.len())
             }
+            ReportCall::Empties { kinds, recordings } => format!("{kinds} kinds 0, {recordings} recordings, all empty"),
             ReportCall::Text { report, room } => format!("{}; octets_len {room}", shown(report)),
         }
     }
@@ -106,7 +135,7 @@ impl ReportCall {
                 let each = cut / recordings.len().max(1);
                 recordings.iter().map(|chips| format!("  chips_len {}: {}", chips.len(), hex(chips, each))).collect()
             }
-            ReportCall::Text { .. } => Vec::new(),
+            _ => Vec::new(),
         }
     }
 }

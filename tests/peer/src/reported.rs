@@ -104,6 +104,7 @@ fn met(call: &ReportCall, expected: &Answer, leads: &[i32]) -> Vec<Reported> {
             }
         }
         ReportCall::List { kinds, recordings } => listed(kinds, recordings, expected),
+        ReportCall::Empties { .. } => Vec::new(),
         ReportCall::Text { report, room } => told(report, *room, expected),
     }
 }

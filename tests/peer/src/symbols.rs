@@ -89,21 +89,15 @@ pub struct Choice {
 /// Deciding a symbol: the largest score wins; among equals, the smallest number. The lead is that score less the best
 /// among the other allowed words: the winner alone is left out, so that it is 0 where another word scores the same.
 pub fn choose<const N: usize>(allowed: &[Numbered<N>], chips: &[Counts; N]) -> Choice {
-    let (number, most) = winner(allowed, chips);
-    let others = scores(allowed, chips).filter(|(other, _)| *other != number);
-    let best = others.map(|(_, reached)| reached).max().expect("several words are allowed");
-    Choice { number, lead: most - best }
-}
-
-/// The word that wins, and its score.
-fn winner<const N: usize>(allowed: &[Numbered<N>], chips: &[Counts; N]) -> (u8, i32) {
-    let mut winner = (0, i32::MIN);
+    let (mut winner, mut best_of_others) = ((0, i32::MIN), i32::MIN);
     for (number, reached) in scores(allowed, chips) {
         if reached > winner.1 {
-            winner = (number, reached);
+            (best_of_others, winner) = (winner.1, (number, reached));
+        } else {
+            best_of_others = best_of_others.max(reached);
         }
     }
-    winner
+    Choice { number: winner.0, lead: winner.1 - best_of_others }
 }
 
 /// All words that share the largest score, in the order of their numbers: the first of them is the one that wins.

@@ -85,16 +85,17 @@ pub fn coming_every_n(out: &mut Out) {
             Rate::Mbit11 => out.step(11),
         };
         for n in (1..4095).step_by(step).chain([4094, 4095]) {
-            // The payload's chips are any octets: only how many there are counts.
+            // The payload's chips are zeros, or any one octet: only how many there are counts.
+            let octet = if out.random.once_in(8) { out.random.below(256) as u8 } else { 0 };
             let draft = Draft::random(kind, rate, 1, &mut out.random);
             let header = Draft::new(kind, rate, 0, vec![0; n]).with_clock(out.random.once_in(2)).header;
             let frame = kind.front_chips() + rate.payload_chips(n);
             let mut chips = draft.with_header(header).front();
-            chips.resize(frame, out.random.below(256) as u8);
+            chips.resize(frame, octet);
             let more = out.random.pick(&[1, 2, 11, 65_536]);
             let short = out.random.within(kind.front_chips(), frame - 1);
             for len in [frame, frame - 1, short, frame + more] {
-                chips.resize(len, out.random.below(256) as u8);
+                chips.resize(len, octet);
                 out.call(Call::front(kind.number(), chips.clone()));
             }
         }

@@ -1,5 +1,6 @@
 //! Unusable, turned, damaged and lost chips, in hard recordings and in some of bytes.
 
+use super::widths::far_size;
 use super::{any_pair, pairs, turn, Draft, Out};
 use crate::bits::Rate;
 use crate::calls::Call;
@@ -183,7 +184,10 @@ pub fn random_recordings(out: &mut Out) {
         let kind = out.random.pick(&Kind::BOTH);
         let len = out.random.within(kind.front_chips() - 5, kind.front_chips() + 300);
         let values = out.random.pick(&[1, 2, 4, 5, 5, 6]);
-        let chips: Vec<u8> = (0..len).map(|_| out.random.below(values) as u8).collect();
+        let mut chips: Vec<u8> = (0..len).map(|_| out.random.below(values) as u8).collect();
+        if out.random.once_in(100) {
+            chips.resize(far_size(&mut out.random), 0);
+        }
         out.call(Call::hard(kind.number(), chips, 8));
     }
 }

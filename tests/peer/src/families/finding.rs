@@ -1,5 +1,6 @@
 //! Finding the start of a frame in a hard recording, by what stands before it.
 
+use super::widths::far_size;
 use super::{any_pair, pairs, Draft, Out};
 use crate::bits::Rate;
 use crate::calls::Call;
@@ -190,6 +191,9 @@ pub fn find_noise(out: &mut Out) {
             let start = out.random.within(1000, 4100);
             let mut scene = Scene::any(Before::Lost, start, &mut out.random);
             scene.chips.splice(..start, some_noise(noise, start, &mut out.random));
+            if out.random.once_in(4) {
+                scene.chips.resize(far_size(&mut out.random), 0);
+            }
             scene.seek(out, ALL);
         }
     }

@@ -81,6 +81,25 @@ fn headers(out: &mut Out) {
     }
 }
 
+/// Fronts of which few chips of each symbol are left, behind lost chips and one that is unusable: the SFD is right from
+/// the unusable chip on too, where the front is refused, and the start is the very next offset.
+fn sparse(out: &mut Out) {
+    for case in 0..out.cases(24) {
+        let (kind, rate) = any_pair(&mut out.random);
+        let start = if case < 8 { 41 } else { out.random.within(20, 300) };
+        let mut scene = Scene::new(kind, rate, Before::Lost, start, &mut out.random);
+        scene.chips[start - 1] = unusable(&mut out.random);
+        let left: Vec<usize> = match case % 3 {
+            0 => vec![2, 5, 6, 8, 9],
+            _ => (0..11).filter(|chip| ![0, 1, 3, 4, 7, 10].contains(chip) || out.random.once_in(4)).collect(),
+        };
+        for place in (0..kind.front_chips()).filter(|place| !left.contains(&(place % 11))) {
+            scene.chips[start + place] = LOST;
+        }
+        scene.seek(out, start + 20);
+    }
+}
+
 /// Any SYNC bits, which aren't compared.
 fn any_sync(out: &mut Out) {
     for case in 0..out.cases(30) {
@@ -233,6 +252,7 @@ pub fn find_damage(out: &mut Out) {
     grown(out);
     headers(out);
     any_sync(out);
+    sparse(out);
     about_front(out);
     begun(out);
     behind_front(out);

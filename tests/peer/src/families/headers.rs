@@ -1,5 +1,6 @@
 //! Headers of every SIGNAL, SERVICE and many LENGTH, and what stands before them.
 
+use super::report::{list, Recorded};
 use super::{any_pair, pairs, turn, Draft, Out, Recorder};
 use crate::bits::Rate;
 use crate::calls::Call;
@@ -33,7 +34,7 @@ pub fn every_signal_and_service(out: &mut Out) {
             let rate = Rate::of_code(u64::from(signal)).unwrap_or(out.random.pick(&Rate::ALL));
             for kind in Kind::BOTH {
                 // Of a SIGNAL that is no rate one SERVICE in so many: it isn't looked at.
-                let every = if kind == Kind::Short { 4 } else { 32 };
+                let every = if kind == Kind::Short { 16 } else { 128 };
                 if out.long || signals_of_rates.contains(&signal) || service % every == signal % every {
                     let header = Header { signal, service, length: some_length(rate, &mut out.random) };
                     let (chips, room) = (front_with(kind, header, &mut out.random), out.random.within(0, 3));
@@ -58,9 +59,9 @@ pub fn every_length(out: &mut Out) {
         let kind = if rate == Rate::Mbit1 { Kind::Long } else { Kind::Short };
         let most = rate.length_of(4095).0;
         let step = match rate {
-            Rate::Mbit1 => out.step(23),
-            Rate::Mbit2 => out.step(11),
-            _ => 1,
+            Rate::Mbit1 => out.step(230),
+            Rate::Mbit2 => out.step(110),
+            _ => out.step(13),
         };
         let around_most = most - 20..=most + 40;
         let far = (most + 41..1 << 16).step_by(out.step(997));
@@ -73,6 +74,27 @@ pub fn every_length(out: &mut Out) {
                 let header = Header { signal: rate.code(), service, length: length as u16 };
                 let front = Draft::new(kind, rate, 3, vec![]).with_header(header).front();
                 out.hard_and_bytes(12, kind.number(), front, 0);
+            }
+        }
+    }
+}
+
+/// Every LENGTH up to the longest payload's and a few more, with bit 7 and without it at 11 Mbit/s, others one in so
+/// many: lists of fronts, of which those are refused with 16 that a writer makes and all others with 15.
+pub fn every_length_listed(out: &mut Out) {
+    for rate in Rate::ALL {
+        let kind = if rate == Rate::Mbit1 { Kind::Long } else { Kind::Short };
+        let most = rate.length_of(4095).0;
+        let lengths: Vec<usize> = (0..most + 41).chain((most + 41..1 << 16).step_by(out.step(61))).collect();
+        let bits7 = if rate == Rate::Mbit11 { &[0, 128][..] } else { &[0][..] };
+        for bit7 in bits7 {
+            for lengths in lengths.chunks(400) {
+                let service = bit7 | out.random.pick(&[0, 4]);
+                let header = |length: &usize| Header { signal: rate.code(), service, length: *length as u16 };
+                let draft = Draft::new(kind, rate, out.random.phase(), vec![]);
+                let front = |length| (kind.number(), draft.clone().with_header(header(length)).front());
+                let of: Vec<Recorded> = lengths.iter().map(front).collect();
+                out.call(list(&of));
             }
         }
     }
@@ -184,8 +206,9 @@ fn refused_behind(draft: &Draft, recorder: Recorder, out: &mut Out) {
 pub fn clock_bits(out: &mut Out) {
     const SERVICES: [u8; 13] = [0, 4, 128, 132, 1, 2, 6, 8, 12, 64, 68, 136, 255];
     for (kind, rate) in pairs() {
-        // Eleven octets more have the same bit 7.
-        for n in 1..=11 {
+        // Eleven octets more have the same bit 7, which is 1 for 3 and 10.
+        let all = out.long;
+        for n in (1..=11).filter(|n| all || [1, 3, 10, 11].contains(n)) {
             let draft = Draft::random(kind, rate, n, &mut out.random);
             for service in SERVICES {
                 let header = Header { service, ..draft.header };

@@ -3,10 +3,10 @@
 
 use super::damage::some_word;
 use super::steps::{counts_of_a_step, least, most, sized, some_size, unit, Frame};
-use super::{any_pair, pairs, Draft, Out, Recorder};
+use super::{any_pair, byte_row, pairs, soft_rows, Draft, Out, Recorder};
 use crate::bits::Rate;
 use crate::calls::Call;
-use crate::chips::Counts;
+use crate::chips::{Counts, LOST};
 use crate::frame::{Header, Kind};
 use crate::random::Random;
 use crate::symbols::{choose, scores, Choice, Numbered, ALLOWED_11, ALLOWED_5_5};
@@ -334,8 +334,10 @@ pub fn leads_of_long_frames(out: &mut Out) {
             for n in [out.random.within(301, 1100), 4095] {
                 let clean = random_frame(recorder, (kind, rate), n, &mut out.random);
                 for symbol in far_symbols(&clean, &mut out.random) {
-                    // At 1 and 2 Mbit/s, which take longest, the last symbols and a quarter of the others.
-                    if n == 4095 && rate.chips_per_symbol() == 11 && symbol < 16_000 && !out.random.once_in(4) {
+                    // Of the longest frames the last symbols, a quarter of the others, and at 1 and 2 Mbit/s a ninth.
+                    let seldom = if rate.chips_per_symbol() == 11 { 9 } else { 4 };
+                    let last = symbol >= 32_767 || symbol + 1 == clean.symbols();
+                    if n == 4095 && !last && !out.random.once_in(seldom) {
                         continue;
                     }
                     let frame = spoiled_below(&clean, symbol, By::AnyValues, &mut out.random);
@@ -418,6 +420,28 @@ pub fn leads_kept(out: &mut Out) {
                     let reading = refused_reading(way, frame, &mut out.random);
                     out.call(reading);
                 }
+            }
+        }
+    }
+}
+
+/// Frames of one octet at 11 Mbit/s, one chip of it lost: each payload and phase by hard chips, and by the other
+/// recorders at one phase, which has each word once. So each word is decided behind each of its chips lost.
+pub fn leads_of_each_word(out: &mut Out) {
+    for octet in 0..=255 {
+        for phase in 0..4 {
+            let (kind, size) = (Kind::Short, [1.0, 1.5][usize::from(phase) / 2]);
+            let draft = Draft::new(kind, Rate::Mbit11, phase, vec![octet]);
+            for lost in kind.front_chips()..kind.front_chips() + 8 {
+                let mut chips = draft.chips();
+                chips[lost] = LOST;
+                if phase == 1 {
+                    out.alone(Call::soft(kind.number(), soft_rows(&chips, size), 1));
+                }
+                if phase == 2 {
+                    out.alone(Call::bytes(kind.number(), byte_row(&chips, size), 1));
+                }
+                out.alone(Call::hard(kind.number(), chips, 1));
             }
         }
     }

@@ -37,6 +37,13 @@
 //! - The 1,001st counted, or not a one of more than 1,000; 31 before 7: `report_lists`.
 //! - A limit off by one, or left out for an entry: `report_edges`.
 //! - A line left out or told of a count of 0, a number cut, a zero before one: `report_text`.
+//! - A start passed over right behind an offset whose SFD is right and whose front is refused: `find_damage`.
+//! - LENGTH taken or refused wrongly at one value: `every_length_listed`. The last chip at one n: `write_every_n`.
+//! - The lead of one word wrong: `leads_of_each_word`.
+//! - A length cut to 16, 20, 22 or 24 bits, a bit of a number lost: `wide_rows`, `bits_of_numbers`.
+//! - I and Q that may not be one row, a recording of a list that may not be named twice: `one_row`, `report_lists`.
+//! - What a lent row held before the call, a row of length 0 by a pointer or as NULL, a row kept between calls: every
+//!   family, as each call's rows are laid in any way (`laid.rs`).
 
 mod bytes;
 mod coming;
@@ -55,6 +62,7 @@ mod restored;
 mod soft;
 mod steps;
 mod ties;
+mod widths;
 mod written;
 
 use crate::bits::Rate;
@@ -62,6 +70,7 @@ use crate::calls::Call;
 use crate::chips::LOST;
 use crate::figures::Figures;
 use crate::frame::{frame_chips, front_bits, Header, Kind};
+use crate::laid::Laid;
 use crate::random::Random;
 
 pub struct Family {
@@ -71,6 +80,8 @@ pub struct Family {
     pub calls: fn(&mut Out),
 }
 
+// The line `for:` above a family names the statements of docs/PROMISES.md whose row it is the test of; the tables there
+// are made from it.
 macro_rules! families {
     ($($seed:literal $module:ident::$name:ident: $shows:literal,)*) => {
         pub const FAMILIES: &[Family] =
@@ -79,156 +90,166 @@ macro_rules! families {
 }
 
 families! {
-    // for: lengths-eleven, words, Crc
+    // for: lengths-eleven, words, Crc, TableP, header-back, octets-back, length-holds, crc-divided
     101 published::published_figures: "LENGTH and bit 7 of every n and rate, CRCs, words from outside",
-    // for: Wrote.chips, WrittenFrame, words, sent-facts, facts-clock, from-header
+    // for: Wrote.answer, Wrote.chips, WrittenFrame, WriteFills, words, sent-facts, facts-clock, from-header
     201 written::write_short_payloads: "1 to 64 octets, all kinds, rates and phases",
-    // for: Wrote.chips, framed-length
+    // for: Wrote.chips, framed-length, Wrote.answer, WrittenFrame
     202 written::write_long_payloads: "1,023 to 1,026 and 4,095 octets",
-    // for: Wrote.chips, lengths-eleven, length-is, seven-is
-    203 written::write_every_n: "a sweep of n at each rate; every n in the longer run, but at 1 and 2 Mbit/s",
-    // for: Wrote.answer, NoKind, NoRate, ShortRate, NoPhase, WriteFills, WriteAnswers
+    // for: Wrote.chips, lengths-eleven, length-is, seven-is, Wrote.answer, WrittenFrame, frame-length
+    203 written::write_every_n: "every n at 11 Mbit/s; a sweep of n at the other kinds and rates",
+    // for: Wrote.answer, NoKind, NoRate, ShortRate, NoPhase, WriteFills, WriteAnswers, Wrote.chips, OnlySent
     204 written::write_numbers: "kind, rate, phase, payload and buffer out of range, alone and together",
-    // for: PayloadSize, ChipRoom, WriteFills, WriteAnswers, OnlySent
+    // for: PayloadSize, ChipRoom, WriteFills, WriteAnswers, OnlySent, Wrote.answer, Wrote.chips
     205 written::write_edges: "payload of 0, 4,095 and 4,096 octets, buffers a chip short, exact and longer",
-    // for: Wrote.chips, facts-clock
+    // for: Wrote.chips, facts-clock, Wrote.answer, WrittenFrame, OnlySent
     206 written::write_clocks: "each of many clock numbers, at every kind, rate and phase, and beside each refusal",
-    // for: ReadBack, ReadHard, SoftRows, unscrambled, OneSource, decided-clean
+    // for: ReadBack, ReadHard, ReadSoft, ReadBytes, Read.octets, SoftRows, unscrambled, OneSource, decided-clean
     301 restored::read_short_payloads: "recordings of 1 to 64 octets, all kinds, rates and phases",
-    // for: ReadBack, Read.octets
+    // for: ReadBack, Read.octets, NotReadBack
     302 restored::read_long_payloads: "recordings of 1,023 to 1,026 and 4,095 octets",
-    // for: OctetRoom, ReadFills, NotReadBack
+    // for: OctetRoom, ReadFills, NotReadBack, Read.answer, Read.octets
     303 restored::read_rooms: "octet buffers shorter than n, exact and longer",
-    // for: ReadBack, Ends
+    // for: ReadBack, Ends, ReadFills
     304 restored::chips_after_the_frame: "anything after the frame, unusable chips too",
-    // for: Signal, Service, header-only, OnlyReadable
+    // for: Signal, Service, header-only, OnlyReadable, signal-refused, service-refused
     401 headers::every_signal_and_service: "each SIGNAL, each SERVICE, all of both in the longer run, right CRC",
-    // for: Length, octets-back
+    // for: Length, octets-back, OnlyReadable, header-only, length-refused
     402 headers::every_length: "LENGTH and bit 7 that no n has, and those around the longest payload",
-    // for: header-back, Length
+    // for: OnlyReadable, length-refused, length-holds, octets-back
+    407 headers::every_length_listed: "every LENGTH of each rate in fronts of lists, refused with 15 or 16",
+    // for: header-back, Length, OnlyReadable, header-only
     403 headers::headers_with_payload: "right CRC and chips behind it, LENGTH near the payload's",
-    // for: Sfd, Crc, header-only
+    // for: Sfd, Crc, header-only, OnlyReadable, sfd-refused, crc-refused
     404 headers::sfd_and_crc: "SFD and CRC with bits changed, turned round, of the other kind",
-    // for: Sfd, bad
+    // for: Sfd, bad, ReadHard, ReadBytes, first-unknown
     405 headers::sync_not_compared: "any SYNC bits at all",
-    // for: header-back, RefusedShows, Service
+    // for: header-back, RefusedShows, Service, OnlyReadable
     406 headers::clock_bits: "each SERVICE with and without the clock bit, whole, cut, short of room and spoiled",
-    // for: NoKind, Read.answer, numbers
+    // for: NoKind, Read.answer, numbers, RefusedShows, RowsRefused, ReadFills
     501 refused::read_numbers: "kinds, lengths and buffers out of range, alone and together",
-    // for: RowsDiffer, RowsRefused, ReadSoft
+    // for: RowsDiffer, RowsRefused, ReadSoft, RefusedShows
     502 refused::rows_that_differ: "I and Q rows of different length",
-    // for: ShorterThanFront, Read.answer
+    // for: ShorterThanFront, Read.answer, RowsRefused, ReadFills, WriteFills
     503 refused::empty_rows: "every row empty, alone and together",
-    // for: bad, Read.answer
+    // for: bad, Read.answer, RefusedShows, ReadFills, whole-refuses, payload-comes, room-refused, ReadAnswers
     504 refused::every_set_of_refusals: "each set of refusals that can be asked for at once",
-    // for: bad, Read.answer
+    // for: bad, Read.answer, RefusedShows, unusable-refused, odd-refused, payload-good, ReadAnswers
     505 refused::pairs_of_refusals: "each refusal alone and with each other one, by each recorder",
-    // for: Ends, ShorterThanFront, NotReadBack
+    // for: Ends, ShorterThanFront, NotReadBack, FrontRefused
     506 refused::cut_recordings: "recordings cut at every length about the front's and the frame's end",
-    // for: Sfd
+    // for: Sfd, OnlyReadable, RefusedAlike
     507 refused::kinds_crossed: "long frames read as short and the other way",
     // for: RowsDiffer, RowsRefused
     508 refused::odd_rows: "odd numbers of bytes, about the fronts, the frame's end and powers of 2",
-    // for: FrontOnly, front-same
+    // for: FrontOnly, front-same, FrontRefused, RefusedAlike
     509 refused::long_refused: "what the front refuses, in recordings of up to 71,000 chips that are alike there",
-    // for: Unusable, ReadHard, Octets
+    // for: Unusable, ReadHard, Octets, RowsRight, RefusedShows, whole-place, payload-unusable-place, ReadAnswers
     601 damage::unusable_octets: "one or two unusable octets at every place",
-    // for: OddGrowth, whole-refuses
+    // for: OddGrowth, whole-refuses, RefusedShows, payload-odd-place, ReadAnswers
     602 damage::odd_growths: "symbols turned by 1 to 3, alone or with all that follow",
-    // for: Read.octets, RowsRight
+    // for: Read.octets, RowsRight, RecordedRight, decided-best, OctetsDecoded
     603 damage::damaged_chips: "chips changed to other phases, few to most",
-    // for: ReadHard, terms
+    // for: ReadHard, terms, RowsRight, RecordedRight, decided-best
     604 damage::lost_chips: "chips, symbols and whole parts lost",
-    // for: terms, decided-best
+    // for: terms, decided-best, best-unique
     605 damage::tied_words: "payload symbols with few chips left, so that words tie",
-    // for: Read.answer
+    // for: Read.answer, ReadHard
     606 damage::random_recordings: "phases and marks at random",
     // for: RecordedRight, RowsRight, DecidedAt
     701 soft::noise: "noise over all of the frame or over its payload",
-    // for: counted, HalfACount
+    // for: counted, HalfACount, no-other, count-near
     702 soft::halves_of_a_count: "values on the halves of a count and next to them",
-    // for: counted, HalfACount
+    // for: counted, HalfACount, RowsRight
     703 soft::tiny_values: "subnormals, zeros of both signs, values below half a count",
-    // for: usable
+    // for: usable, RowsRight, ReadSoft
     704 soft::exactly_eight: "8 and its neighbours, scores at both ends of their range",
-    // for: Unusable, usable, ReadSoft
+    // for: Unusable, usable, ReadSoft, RefusedShows
     705 soft::unusable_values: "NaN, infinities and values above 8 at every place",
-    // for: Read.octets, DecidedAt
+    // for: Read.octets, DecidedAt, RowsRight, decided-leads
     706 soft::soft_damage: "soft chips turned, faded and lost",
-    // for: ReadBack, Read.octets
+    // for: ReadSoft, RowsRight
+    707 soft::one_row: "I and Q in one row, or in rows that overlap",
+    // for: ReadBack, Read.octets, Read.answer
     801 long::long_payloads: "65 to 4,094 octets by each recorder, anything after the frame",
-    // for: Unusable, room-refused
+    // for: Unusable, room-refused, RefusedShows, payload-unusable-place
     802 long::long_unusable: "unusable chips at edges of symbols and blocks, first, last and any, up to 4,095 octets",
-    // for: OddGrowth, room-refused
+    // for: OddGrowth, room-refused, RefusedShows, payload-odd-place
     803 long::long_growths: "payload symbols turned at edges of blocks, first, last and past chip 65,536",
-    // for: Ends, NotReadBack
+    // for: Ends, NotReadBack, RefusedShows
     804 long::long_cuts: "long recordings that end inside the payload",
-    // for: OctetRoom, room-refused
+    // for: OctetRoom, room-refused, NotReadBack, ReadFills
     805 long::long_rooms: "octet buffers shorter than a long payload",
-    // for: Read.octets
+    // for: Read.octets, RowsRight, DecidedAt, LeadsAt
     806 long::block_edges: "one symbol damaged at an edge of a block of symbols or octets",
-    // for: Read.octets
+    // for: Read.octets, RowsRight, OctetsDecoded
     807 long::long_damage: "damage and noise over payloads of 301 to 1,100 octets",
-    // for: ReadBytes, byte-exact, decided-times
+    // for: ReadBytes, byte-exact, decided-times, RowsRight, NoByteUnusable
     901 bytes::every_byte: "symbols decided otherwise if one byte, each of the 256, is 1 more or 1 less",
-    // for: ReadBytes, terms
+    // for: ReadBytes, terms, RowsRight, best-unique
     902 bytes::equal_bytes: "bytes equal in size, so that words tie, in symbols and over all of a recording",
     // for: ReadBytes, RowsRight
     903 bytes::exchanged_bytes: "I and Q exchanged, negated, a byte late, and frames turned by an eighth",
     // for: ReadBytes, NoByteUnusable
     904 bytes::random_bytes: "bytes at random over all of the recording, the header or the payload",
-    // for: ToldAlike, RefusedAlike, reads-on
+    // for: ToldAlike, RefusedAlike, reads-on, ReadFront.answer, FrontTold, Handed.chips-are, HandedPart
     1001 coming::coming_rooms: "what is coming beside full reads with room 0, n - 1, n and 4,095, refused and not",
-    // for: FrontOnly, SentTold
+    // for: FrontOnly, SentTold, front-same
     1002 coming::payloads_not_looked_at: "recordings alike in the front, with any octets as the payload's chips",
     // for: FrontTold, SentTold, ReadFront.answer, Handed.chips-are, HandedPart
     1003 coming::coming_every_n: "what is coming up to 4,095 octets, whole, cut and with chips behind",
     // for: FrontRefused, RefusedAlike, ReadFront.answer
     1004 coming::coming_any_octets: "what is coming in octets at random and in frames cut anywhere, by any kind",
-    // for: walsh, decided-best
+    // for: walsh, decided-best, best-unique, column-sum, two-keys
     1101 ties::ties_eleven: "words that tie at 11 Mbit/s, by each recorder, payloads of each length to 70 and longer",
-    // for: walsh
+    // for: walsh, best-unique
     1102 ties::ties_eleven_largest: "words that tie at 11 Mbit/s in values of 8 and -8, 127 and -128",
-    // for: walsh
+    // for: walsh, decided-best, two-keys
     1103 ties::ties_eleven_broken: "words that tie at 11 Mbit/s, and the same a step beside the tie, either way",
-    // for: lead-clean, lead-times, ReadBack
+    // for: lead-clean, lead-times, ReadBack, LeastTold
     1201 leads::leads_as_sent: "chips as sent, of every size that a recorder has: 11, 8 and 4 of them",
     // for: LeastTold, least-is, RowsSure
     1202 leads::leads_of_one_symbol: "the smallest lead in a chosen symbol of the preamble, the header or the payload",
-    // for: LeastTold, least-is
+    // for: LeastTold, least-is, LeadsAt, leastOf-joined
     1203 leads::leads_at_each_place: "the smallest lead in each symbol of the front and of a block of 64 behind it",
     // for: LeastTold, least-is
     1204 leads::leads_shared: "several symbols of one smallest lead, and others of a little more",
-    // for: lead-is
+    // for: lead-is, LeastTold, lead-tie, tied
     1205 leads::leads_of_ties: "words that tie in a chosen symbol of the preamble, the header or the payload",
-    // for: lead-is
+    // for: lead-is, LeastTold, leads-by
     1206 leads::leads_of_allowed_words: "words beside a symbol of 5.5 Mbit/s that aren't allowed there",
-    // for: lead-is, walsh
+    // for: lead-is, walsh, LeastTold, lead-behind, leads-once
     1207 leads::leads_of_next_words: "each word that can come next behind another, alone, at 5.5 and 11 Mbit/s",
-    // for: LeastTold
+    // for: LeastTold, RowsSure, lead-says
     1208 leads::leads_in_noise: "noise over all of a frame, front included",
-    // for: LeastTold
+    // for: LeastTold, leastOf-joined
     1209 leads::leads_of_long_frames: "the smallest lead in far symbols, at edges of blocks and last of 4,095 octets",
     // for: RefusedShows
     1210 leads::leads_kept: "refused reads, 10 and more, with symbols of small leads",
-    // for: early, SentFound, StartFound
+    // for: LeastTold, lead-is
+    1211 leads::leads_of_each_word: "one octet at 11 Mbit/s, each of the 256 at each phase, each of its chips lost",
+    // for: early, SentFound, StartFound, Finds.answer
     1301 finding::find_clean: "frames as sent, behind lost chips, phases, one phase, another frame, an unusable chip",
-    // for: NoOffsets, NotTried, Finds.answer
+    // for: NoOffsets, NotTried, Finds.answer, StartFound, NoneFound, start-comes, start-joined, short-missed
     1302 finding_edges::find_edges: "numbers of offsets, kinds and lengths at their edges, starts at each remainder",
-    // for: StartFound, SentFound, sfd-bit, by-two
+    // for: StartFound, SentFound, sfd-bit, by-two, NoneFound, sfd-low, sfd-high, front-even, front-bit
     1303 finding_damage::find_damage: "fronts with chips spoiled, cut off and turned, behind wrong ones and others",
     // for: NoStart, NoneFound
     1304 finding::find_noise: "recordings without a frame or with one behind much else, up to 4,096 offsets",
-    // for: StartFound, NoneFound, start-comes
+    // for: StartFound, NoneFound, start-comes, finding-comes
     1305 finding::find_all: "every number of offsets from 1 on, and the front from each offset, one by one",
-    // for: ReportKept, KeptAnswers, Adds.answer, added-more, sent-counted
+    // for: ReportKept, KeptAnswers, Adds.answer, added-more, sent-counted, closest-more, fair
     1401 report::report_kept: "reports kept one recording after the other, beside those of the list so far",
     // for: ListAlike, Lists.answer, takesMore, RowsDiffer
     1402 report::report_lists: "whole lists of none to 16,384, of each sort, and with a kind too many or too few",
-    // for: AnyReport, takesMore
+    // for: AnyReport, takesMore, Adds.answer, takes-more, counted-next, counted-full
     1403 report_edges::report_edges: "one recording more than any report has, at the limits of each number",
-    // for: Spells.answer, Spells.octets, TextFills, OctetRoom, decimal-value, TextSays
+    // for: Spells.answer, Spells.octets, TextFills, TextSays, decimal-value, OctetRoom
     1404 report_edges::report_text: "texts of any report, with rooms about the text's octets",
+    // for: Wrote.chips, Read.octets, ReadFront.answer, Finds.answer, Adds.answer, WriteFills, ReadFills, TextFills
+    1501 widths::wide_rows: "rows of 2^16, 2^20, 2^22 and 2^24 elements and a few more, in every call",
+    // for: OnlySent, NotTried, AnyReport, Lists.answer, Spells.answer, Spells.octets
+    1502 widths::bits_of_numbers: "each bit of 64 more in each number of every call",
 }
 
 /// Where a family puts its calls.
@@ -236,20 +257,34 @@ pub struct Out<'a> {
     pub long: bool,
     pub random: Random,
     pub figures: &'a Figures,
-    take: &'a mut dyn FnMut(Call),
+    /// Says how rows are laid.
+    laying: Random,
+    take: &'a mut dyn FnMut(Call, Laid),
 }
 
 impl<'a> Out<'a> {
-    pub fn new(seed: u64, long: bool, figures: &'a Figures, take: &'a mut dyn FnMut(Call)) -> Out<'a> {
-        Out { long, random: Random::new(seed), figures, take }
+    pub fn new(seed: u64, long: bool, figures: &'a Figures, take: &'a mut dyn FnMut(Call, Laid)) -> Out<'a> {
+        Out { long, random: Random::new(seed), figures, laying: Random::new(seed + 1_000_000), take }
     }
 
     /// A call; before each reading of a hard recording what is coming in it, asked of the same chips.
     pub fn call(&mut self, call: Call) {
         if let Call::ReadHard { kind, chips, .. } = &call {
-            (self.take)(Call::front(*kind, chips.clone()));
+            self.alone(Call::front(*kind, chips.clone()));
         }
-        (self.take)(call);
+        self.alone(call);
+    }
+
+    /// A call with nothing before it, its rows laid in any way.
+    pub fn alone(&mut self, call: Call) {
+        let laid = Laid::any(&call, &mut self.laying);
+        (self.take)(call, laid);
+    }
+
+    /// A call with nothing before it over a lent row of 0xAA: for rows that are lent a few times only.
+    pub fn over_aa(&mut self, call: Call) {
+        let laid = Laid::any(&call, &mut self.laying).over_aa();
+        (self.take)(call, laid);
     }
 
     /// A hard reading and, once in so many times, the same chips read as bytes.

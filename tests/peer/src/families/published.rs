@@ -6,8 +6,7 @@ use crate::calls::Call;
 use crate::frame::{Header, Kind};
 
 /// Fronts with the published LENGTH and bit 7 of every n and rate: accepted, so the recording ends inside the payload.
-/// Then headers with the published CRCs, and payloads of the published symbols at each turn.
-pub fn published_figures(out: &mut Out) {
+fn lengths(out: &mut Out) {
     let figures = out.figures;
     for figure in figures.lengths_1023_to_1026.iter().chain(&figures.lengths_of_every_n) {
         let (signal, service) = (figure.rate.code(), if figure.bit7 { 128 } else { 0 });
@@ -15,10 +14,21 @@ pub fn published_figures(out: &mut Out) {
         for kind in Kind::BOTH.into_iter().filter(|kind| kind.has(figure.rate)) {
             if kind == Kind::Short || figure.rate == Rate::Mbit1 || out.long {
                 let front = Draft::new(kind, figure.rate, 0, vec![]).with_header(header).front();
-                out.call(Call::hard(kind.number(), front, 0));
+                // The front alone of most: fronts and full reads go together elsewhere.
+                if out.long || figure.n % 8 == 0 {
+                    out.call(Call::hard(kind.number(), front, 0));
+                } else {
+                    out.alone(Call::front(kind.number(), front));
+                }
             }
         }
     }
+}
+
+/// Such fronts, then headers with the published CRCs, and payloads of the published symbols at each turn.
+pub fn published_figures(out: &mut Out) {
+    lengths(out);
+    let figures = out.figures;
     for figure in figures.crc_example.iter().chain(&figures.crc_genibus).filter(|figure| figure.bits.len() == 32) {
         for kind in Kind::BOTH {
             for phase in 0..4 {

@@ -135,11 +135,8 @@ const ROOM: usize = 11;
 const PAYLOAD_UNUSABLE: usize = 12;
 const PAYLOAD_GROWTH: usize = 13;
 
-/// A reading with the wrongs of a set (bit k for wrong k), the places and values at random.
-pub fn wrong_reading(set: usize, recorder: Recorder, random: &mut Random) -> Call {
-    let wrong = |k: usize| set >> k & 1 == 1;
-    let (kind, rate) = if wrong(PAYLOAD_GROWTH) { (Kind::Long, Rate::Mbit1) } else { any_pair(random) };
-    let n = random.within(1, 6);
+/// A draft with the wrongs of a set that are in its SFD and its header.
+fn wrong_draft(wrong: impl Fn(usize) -> bool, (kind, rate): (Kind, Rate), n: usize, random: &mut Random) -> Draft {
     let mut draft = Draft::random(kind, rate, n, random);
     if wrong(SIGNAL) {
         let others = [0, 11, 54, 111, 255, if kind == Kind::Short { 10 } else { 138 }];
@@ -158,7 +155,15 @@ pub fn wrong_reading(set: usize, recorder: Recorder, random: &mut Random) -> Cal
     if wrong(SFD) {
         draft.sfd ^= random.within(1, 0xFFFF) as u16;
     }
-    let mut chips = draft.chips();
+    draft
+}
+
+/// A reading with the wrongs of a set (bit k for wrong k), the places and values at random.
+pub fn wrong_reading(set: usize, recorder: Recorder, random: &mut Random) -> Call {
+    let wrong = |k: usize| set >> k & 1 == 1;
+    let (kind, rate) = if wrong(PAYLOAD_GROWTH) { (Kind::Long, Rate::Mbit1) } else { any_pair(random) };
+    let n = random.within(1, 6);
+    let mut chips = wrong_draft(wrong, (kind, rate), n, random).chips();
     let (front, frame) = (kind.front_chips(), chips.len());
     if wrong(FRONT_GROWTH) {
         let symbol = random.within(1, kind.bits_before_header() - 1);
@@ -262,7 +267,7 @@ fn with_octets_behind(out: &mut Out, kind: u64, mut chips: Vec<u8>, room: usize)
 
 pub fn long_refused(out: &mut Out) {
     for (at, first) in IN_FRONT.into_iter().enumerate() {
-        for case in 0..out.cases(8) {
+        for case in 0..out.cases(4) {
             // Alone, and before another.
             let second = if case % 2 == 0 { first } else { out.random.pick(&IN_FRONT[at..]) };
             let call = wrong_reading(1 << first | 1 << second, Recorder::Hard, &mut out.random);

@@ -229,7 +229,9 @@ fn unpaired(out: &mut Out, of: &[Recorded], kinds: usize, recordings: usize) {
 
 /// Lists of none, of one of each sort, and of some.
 fn short_lists(out: &mut Out) {
-    out.call(list(&[]));
+    for _ in 0..8 {
+        out.call(list(&[]));
+    }
     for kind in KINDS {
         for chips in [any_sent(&mut out.random).1, Vec::new()] {
             out.call(list(&[(kind, chips)]));
@@ -281,9 +283,21 @@ fn long_lists(out: &mut Out) {
     }
 }
 
+/// Lists that name a recording again, whole, its first chips or its last; all of them may stand in one row.
+fn named_twice(out: &mut Out) {
+    for case in 0..out.cases(40) {
+        let (kind, chips) = any_sent(&mut out.random);
+        let cut = out.random.below(chips.len());
+        let again = [chips.clone(), chips[..cut].to_vec(), chips[cut..].to_vec()][case % 3].clone();
+        let behind = any_recorded(&mut out.random);
+        out.call(list(&[(kind, chips.clone()), (kind, again.clone()), behind, (kind, chips), (1 - kind, again)]));
+    }
+}
+
 pub fn report_lists(out: &mut Out) {
     short_lists(out);
     long_lists(out);
+    named_twice(out);
     let of: Vec<Recorded> = (0..12).map(|_| any_recorded(&mut out.random)).collect();
     for (kinds, recordings) in [(0, 1), (1, 0), (1, 2), (2, 1), (5, 6), (6, 5), (12, 11), (11, 12), (0, 12), (12, 0)] {
         unpaired(out, &of, kinds, recordings);

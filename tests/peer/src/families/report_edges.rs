@@ -16,18 +16,18 @@ const SOME: usize = ENTRIES - 3;
 const WIDE: [u64; 9] = [255, 256, 1 << 16, 1 << 31, 1 << 32, (1 << 32) + 1, 1 << 40, u64::MAX - 1, u64::MAX];
 
 /// All zeros but for one entry.
-fn only(entry: usize, number: u64) -> Report {
+pub fn only(entry: usize, number: u64) -> Report {
     with(&Report::default(), entry, number)
 }
 
-fn with(report: &Report, entry: usize, number: u64) -> Report {
+pub fn with(report: &Report, entry: usize, number: u64) -> Report {
     let mut numbers = report.numbers();
     numbers[entry] = number;
     Report::of_numbers(&numbers)
 }
 
 /// Each number as large as it may be; some is yes.
-fn at_limits() -> Report {
+pub fn at_limits() -> Report {
     let numbers: Vec<u64> = (0..ENTRIES).map(|entry| limit(entry).unwrap_or(1)).collect();
     Report::of_numbers(&numbers)
 }

@@ -1,5 +1,6 @@
 //! Reading back what was written, by each recorder.
 
+use super::widths::far_size;
 use super::{any_pair, byte_row, pairs, soft_rows, Draft, Out, Recorder};
 use crate::calls::Call;
 
@@ -55,11 +56,24 @@ pub fn read_rooms(out: &mut Out) {
                 let chips = out.random.one_of(&frames).clone();
                 out.call(Call::hard(kind.number(), chips, room));
             }
-            for room in [0, n - 1, n, n + 1, 256, 5000] {
+            let far = if n == 3 { far_size(&mut out.random) } else { n };
+            for room in [0, n - 1, n, n + 1, 256, 5000, far] {
                 let chips = out.random.one_of(&frames);
                 out.call(Recorder::Soft.reading(kind.number(), chips.clone(), room));
                 out.call(Recorder::Bytes.reading(kind.number(), chips.clone(), room));
             }
+        }
+    }
+}
+
+/// Recordings whose length, in chips or in bytes, is below the frame's in its lowest 16 bits.
+fn short_in_16_bits(out: &mut Out) {
+    for (kind, rate) in pairs() {
+        let mut chips = Draft::random(kind, rate, 2, &mut out.random).chips();
+        let more = out.random.below(1000);
+        for (recorder, len) in [(Recorder::Bytes, 1 << 15), (Recorder::Bytes, 1 << 16), (Recorder::Hard, 1 << 16)] {
+            chips.resize(len + more, 9);
+            out.call(recorder.reading(kind.number(), chips.clone(), 2));
         }
     }
 }
@@ -73,6 +87,9 @@ pub fn chips_after_the_frame(out: &mut Out) {
         match out.random.pick(&Recorder::HARD_TWICE) {
             Recorder::Hard => {
                 chips.extend(out.random.octets(after));
+                if out.random.once_in(50) {
+                    chips.resize(far_size(&mut out.random), 0);
+                }
                 out.call(Call::hard(kind.number(), chips, n));
             }
             Recorder::Soft => {
@@ -86,17 +103,12 @@ pub fn chips_after_the_frame(out: &mut Out) {
             Recorder::Bytes => {
                 let mut bytes = byte_row(&chips, 1.0);
                 bytes.extend((0..2 * after).map(|_| out.random.byte()));
+                if out.random.once_in(50) {
+                    bytes.resize(2 * far_size(&mut out.random), 0);
+                }
                 out.call(Call::bytes(kind.number(), bytes, n));
             }
         }
     }
-    // Recordings whose length, in chips or in bytes, is below the frame's in its lowest 16 bits.
-    for (kind, rate) in pairs() {
-        let mut chips = Draft::random(kind, rate, 2, &mut out.random).chips();
-        let more = out.random.below(1000);
-        for (recorder, len) in [(Recorder::Bytes, 1 << 15), (Recorder::Bytes, 1 << 16), (Recorder::Hard, 1 << 16)] {
-            chips.resize(len + more, 9);
-            out.call(recorder.reading(kind.number(), chips.clone(), 2));
-        }
-    }
+    short_in_16_bits(out);
 }

@@ -246,3 +246,23 @@ pub fn soft_damage(out: &mut Out) {
         frame.call_both(out);
     }
 }
+
+/// I and Q in one row, Q at the same place or a few chips on, so that they can be laid as one: a symbol of even phase
+/// is decided as it was sent, whatever of its neighbours stands on Q. What is cut or unusable is so in both.
+pub fn one_row(out: &mut Out) {
+    for case in 0..out.cases(80) {
+        let (n, phase) = (out.random.within(1, 9), out.random.pick(&[0, 2]));
+        let draft = Draft { phase, ..Draft::random(Kind::Long, Rate::Mbit1, n, &mut out.random) };
+        let shift = [0, 5][case % 2];
+        let (mut row, _) = soft_rows(&draft.chips(), out.random.pick(&[1.0, 0.5, 8.0]));
+        row.resize(row.len() + shift, 0.0);
+        let any = out.random.below(row.len());
+        match case % 8 {
+            6 => row[any] = f32::NAN,
+            7 => row.truncate(any + shift),
+            _ => {}
+        }
+        let len = row.len() - shift;
+        out.call(Call::soft(Kind::Long.number(), (row[..len].to_vec(), row[shift..].to_vec()), n));
+    }
+}

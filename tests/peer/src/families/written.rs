@@ -1,12 +1,13 @@
 //! Writing.
 
+use super::widths::far_size;
 use super::{any_clock, any_pair, pairs, Out, CLOCKS, KINDS};
 use crate::bits::Rate;
 use crate::calls::Call;
 use crate::frame::Kind;
 use crate::random::Random;
 
-fn frame_len(kind: Kind, rate: Rate, n: usize) -> usize {
+pub fn frame_len(kind: Kind, rate: Rate, n: usize) -> usize {
     kind.front_chips() + rate.payload_chips(n)
 }
 
@@ -55,7 +56,7 @@ pub fn write_long_payloads(out: &mut Out) {
 pub fn write_every_n(out: &mut Out) {
     for (kind, rate) in pairs() {
         let step = match (kind, rate) {
-            (Kind::Short, Rate::Mbit11) => out.step(5),
+            (Kind::Short, Rate::Mbit11) => 1,
             (_, Rate::Mbit11 | Rate::Mbit5_5) => out.step(59),
             _ if out.long => 13,
             _ => 311,
@@ -99,6 +100,21 @@ pub fn write_numbers(out: &mut Out) {
     }
 }
 
+/// Buffers of any length around short frames, and about powers of 2.
+fn any_buffers(out: &mut Out) {
+    for _ in 0..out.cases(600) {
+        let (kind, rate) = any_pair(&mut out.random);
+        let n = out.random.within(1, 6);
+        let frame = frame_len(kind, rate, n);
+        let (phase, payload) = (out.random.below(5) as u64, out.random.octets(n));
+        let chips_len = match out.random.below(50) {
+            0 => far_size(&mut out.random),
+            _ => out.random.within(frame - 12, frame + 12),
+        };
+        write(out, kind, rate, phase, payload, chips_len);
+    }
+}
+
 pub fn write_edges(out: &mut Out) {
     for (kind, rate) in pairs() {
         for n in [1, 2, 3, 10, 11, 64, 255, 256, 257, 1026] {
@@ -128,15 +144,7 @@ pub fn write_edges(out: &mut Out) {
         let chips_len = (1 << 16) + out.random.below(1000);
         write(out, kind, rate, 2, vec![0x69; 3], chips_len);
     }
-    // Buffers of any length around short frames.
-    for _ in 0..out.cases(600) {
-        let (kind, rate) = any_pair(&mut out.random);
-        let n = out.random.within(1, 6);
-        let frame = frame_len(kind, rate, n);
-        let (phase, payload) = (out.random.below(5) as u64, out.random.octets(n));
-        let chips_len = out.random.within(frame - 12, frame + 12);
-        write(out, kind, rate, phase, payload, chips_len);
-    }
+    any_buffers(out);
 }
 
 /// A write with the refusals of a set (bit k for refusal k + 1), as far as they go together.

@@ -1,0 +1,113 @@
+//! How the rows of a call are laid, which no answer may hang on: what a lent row held before the call, how a row of
+//! length 0 is passed, rows that are one, and a call in the middle of another.
+
+use crate::calls::Call;
+use crate::random::Random;
+use std::collections::BTreeMap;
+
+/// What a lent row holds before the call. The last is what the same call has left there.
+pub const OLD: [&str; 6] = ["0xAA", "zeros", "4s", "0xFF", "any", "the answer"];
+
+/// So much further on Q may stand in the memory of I.
+const SHIFTS: [usize; 2] = [0, 5];
+
+/// A word of each request.
+#[derive(Clone, Copy)]
+pub struct Laid {
+    old: u64,
+    pointed: bool,
+    shared: bool,
+    within: bool,
+    split: u64,
+}
+
+/// What is counted of a call that is laid.
+#[derive(Clone, Copy, PartialEq, Eq, PartialOrd, Ord)]
+pub enum Laying {
+    /// The lent row, of one octet or more, held this.
+    Old(usize),
+    /// A row of length 0 is passed by a pointer, or as NULL.
+    Empty { pointed: bool },
+    /// Rows are one, wholly or in part.
+    Shared { wholly: bool },
+    /// Another call may be made in the middle of this one.
+    Within,
+    /// A row of 2^k elements or more, for k of 16, 20, 22 and 24; the lent one, or one for reading.
+    Wide { bits: u32, lent: bool },
+}
+
+/// How often each was met of each op.
+pub type Layings = BTreeMap<(&'static str, Laying), u64>;
+
+/// The bits that a length may be cut to.
+pub const WIDTHS: [u32; 4] = [16, 20, 22, 24];
+
+impl Laid {
+    /// Any, by a sequence of its own, so that what is asked hangs on nothing of it. A find has more to share between
+    /// calls than others: another is made in the middle of it more often.
+    pub fn any(call: &Call, random: &mut Random) -> Laid {
+        let seldom = if matches!(call, Call::Find { .. }) { 6 } else { 32 };
+        Laid {
+            old: random.pick(&[0, 0, 1, 1, 2, 2, 3, 3, 4, 4, 5]),
+            pointed: random.once_in(2),
+            shared: random.once_in(2),
+            within: random.once_in(seldom),
+            split: random.below(1 << 16) as u64,
+        }
+    }
+
+    /// The same over a lent row of 0xAA, which no call leaves: what is not written is seen.
+    pub fn over_aa(self) -> Laid {
+        Laid { old: 0, ..self }
+    }
+
+    /// The word for a call.
+    pub fn word(&self, call: &Call) -> u64 {
+        let shift = self.shift(call).unwrap_or(0) as u64;
+        let shared = self.shared && (self.shift(call).is_some() || matches!(call, Call::Report(_)));
+        let bits = u64::from(self.pointed) << 8 | u64::from(shared) << 9 | u64::from(self.within) << 10;
+        self.old | bits | self.split << 16 | shift << 32
+    }
+
+    /// How far from I's first Q stands, if the two can be one row.
+    fn shift(&self, call: &Call) -> Option<usize> {
+        let Call::ReadSoft { i, q, .. } = call else { return None };
+        let alike = |one: &[f32], two: &[f32]| one.iter().zip(two).all(|(one, two)| one.to_bits() == two.to_bits());
+        let fits = |shift: &usize| i.len() > *shift && i.len() == q.len() && alike(&i[*shift..], q);
+        SHIFTS.into_iter().find(fits).filter(|_| self.shared)
+    }
+
+    /// Counts how a call's rows are laid.
+    pub fn count(&self, call: &Call, layings: &mut Layings) {
+        let mut see = |what: Laying| *layings.entry((call.op(), what)).or_default() += 1;
+        let (read, lent) = (call.read_lens(), call.lent_len());
+        if lent.is_some_and(|len| len > 0) {
+            see(Laying::Old(self.old as usize));
+        }
+        if lent == Some(0) || read.contains(&0) {
+            see(Laying::Empty { pointed: self.pointed });
+        }
+        if self.shared {
+            let wholly = self.shift(call).map(|shift| shift == 0).or(call.names_a_row_twice());
+            wholly.into_iter().for_each(|wholly| see(Laying::Shared { wholly }));
+        }
+        if self.within {
+            see(Laying::Within);
+        }
+        for bits in WIDTHS {
+            let wide = |len: &usize| len >> bits > 0;
+            if lent.as_ref().is_some_and(wide) {
+                see(Laying::Wide { bits, lent: true });
+            }
+            if read.iter().any(wide) {
+                see(Laying::Wide { bits, lent: false });
+            }
+        }
+    }
+
+    pub fn shown(&self) -> String {
+        let (empty, within) = (if self.pointed { "a pointer" } else { "NULL" }, if self.within { "" } else { "no " });
+        let old = OLD[self.old as usize];
+        format!("lent row: {old}; length 0: {empty}; one row if it can be: {}; {within}call within", self.shared)
+    }
+}
