@@ -1,4 +1,3 @@
-pub mod FirstOdd
 pub mod Hears
 pub mod Plain
 pub mod Symbols

@@ -14,3 +14,4 @@ pub mod Parts
 pub mod Decoding
 pub mod Fields
 pub mod Once
+pub mod FirstOdd
