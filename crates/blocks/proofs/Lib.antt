@@ -1,4 +1,3 @@
 pub mod Hears
 pub mod Plain
 pub mod Symbols
-pub mod Lowest

@@ -15,3 +15,4 @@ pub mod Decoding
 pub mod Fields
 pub mod Once
 pub mod FirstOdd
+pub mod Lowest

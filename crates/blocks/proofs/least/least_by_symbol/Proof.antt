@@ -5,7 +5,7 @@ use Prim.Native.Nat.{ℕ, _-_, _≤_}
 use native.Mathlib.Omega.{arith}
 use lib.ListN.{take}
 use Rattle.reading.specs.Leads.{leastFrom}
-use Rattle.blocks.proofs.Lowest.{row-more}
+use Rattle.reading.proofs.Lowest.{row-more}
 use Rattle.blocks.proofs.least.least_by_symbol.Statement.{statement}
 use Rattle.blocks.proofs.least.least_by_symbol.Tie as tie
 
