@@ -23,7 +23,7 @@ use Rattle.symbols.specs.Words.{phaseOf, p2Of, p3Of, p4Of}
 use Rattle.bits.specs.Bits.{numberOf}
 use Rattle.bits.specs.Growths.{growthBits, directBits, halfTurn, grownBy, heardBits}
 use Rattle.codes.specs.Codes.{grownFor, wordBits, twoBits, fourBits, packed, BlockOf}
-use Rattle.codes.proofs.Passes.{growth-two}
+use Rattle.reading.proofs.Passes.{growth-two}
 
 pub word-bits : (r : Rate) (k p n : ℕ) → heardBits r k p n ≡ wordBits r (grownFor r k p (phaseOf r n)) n
 unfolding heardBits

@@ -40,7 +40,7 @@ use Rattle.hearing.specs.declared.Part.{Part}
 use Rattle.hearing.specs.Hearing.{partWords, partLeads, PartHeard}
 use Rattle.reading.proofs.Places.{decidedWords-length}
 use Rattle.reading.proofs.Leads.{leastOf-joined}
-use Rattle.codes.proofs.Passes.{past-take}
+use Rattle.reading.proofs.Passes.{past-take}
 use Rattle.hearing.proofs.Parts.{
   block-words,
   block-leads,

@@ -53,7 +53,7 @@ use Rattle.hearing.specs.declared.Part.{Part}
 use Rattle.hearing.specs.Hearing.{partWords, partLeads, PartHeard}
 use Rattle.reading.proofs.Places.{decidedWords-length}
 use Rattle.reading.proofs.Leads.{leads-length, leads-at, leads-append, least-joined}
-use Rattle.codes.proofs.Passes.{past-take, descramble-take, oddGrowth-append, decidedWords-append}
+use Rattle.reading.proofs.Passes.{past-take, descramble-take, oddGrowth-append, decidedWords-append}
 
 -- ---- the words of a block
 

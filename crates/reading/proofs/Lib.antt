@@ -16,3 +16,4 @@ pub mod Fields
 pub mod Once
 pub mod FirstOdd
 pub mod Lowest
+pub mod Passes
