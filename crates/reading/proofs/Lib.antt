@@ -17,3 +17,4 @@ pub mod Once
 pub mod FirstOdd
 pub mod Lowest
 pub mod Passes
+pub mod Halves

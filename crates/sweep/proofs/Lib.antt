@@ -3,5 +3,4 @@ pub mod Units
 pub mod Halves
 pub mod Comparing
 pub mod Chain
-pub mod Even
 pub mod Sfd

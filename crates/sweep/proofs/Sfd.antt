@@ -22,7 +22,7 @@ use Rattle.calls.specs.declared.Front.the-variants.{Fields}
 use Rattle.reading.specs.Reading.{frontOf}
 use Rattle.reading.proofs.Sfd.{wordAt, sfd-bit}
 use Rattle.sweep.specs.Sweep.{halfAt, bitAt, plainAt, octetAt, sfdFrom}
-use Rattle.sweep.proofs.Even.{front-bit}
+use Rattle.reading.proofs.Halves.{front-bit}
 
 module _ (rec : List Taken) (o : ℕ) where
   abbrev from : List Taken
