@@ -32,7 +32,7 @@ use Rattle.codes.specs.Codes.{grownFor, wordBits, phaseBefore, octetAfter, behi
 use Rattle.blocks.specs.Heard.{plainOctets, Heard}
 use Rattle.codes.proofs.Codes.{word-bits, code-small, octet-room}
 use Rattle.codes.proofs.Plain.{from-first, past-last}
-use Rattle.blocks.proofs.Symbols.{Phases, phase-last, growths-row, octet-row}
+use Rattle.codes.proofs.Symbols.{Phases, phase-last, growths-row, octet-row}
 
 -- ---- a row that holds the octets of the bits received
 

@@ -1,2 +1,1 @@
 pub mod Hears
-pub mod Symbols
