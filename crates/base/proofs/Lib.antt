@@ -4,3 +4,4 @@ pub mod Tests
 pub mod Over
 pub mod Below
 pub mod Lists
+pub mod Adding

@@ -13,4 +13,3 @@ pub mod KeyLaws
 pub mod Demand3
 pub mod Facts
 pub mod HalfTurns
-pub mod Adding

@@ -18,7 +18,7 @@ use Rattle.symbols.specs.Words.{cckWord}
 use Rattle.symbols.specs.Choice.{score}
 use Rattle.choosing.specs.Scores.{RowWithin, scoreAt, number5}
 use Rattle.sums.specs.Sums.{rows, crossed}
-use Rattle.choosing.proofs.Adding.{Reads, reads-of, reads-fits, reads-add, less-fits, reads-less}
+use Rattle.base.proofs.Adding.{Reads, reads-of, reads-fits, reads-add, less-fits, reads-less}
 
 -- ---- sums of two, four and eight
 sum8 : (a b c d e f g h : ℤ) → ((f +ℤ h) +ℤ (e +ℤ g)) +ℤ ((b +ℤ d) +ℤ (a +ℤ c))

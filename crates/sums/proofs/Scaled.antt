@@ -25,7 +25,7 @@ use Rattle.chips.specs.declared.Counts.{Counts}
 use Rattle.symbols.specs.Words.{wordOf}
 use Rattle.symbols.specs.Choice.{term, score, going, firstLargest, allowed, decided, leadOf}
 use Rattle.choosing.specs.Scores.{scoreAt, NextAs}
-use Rattle.choosing.proofs.Adding.{times-up, times-dn}
+use Rattle.base.proofs.Adding.{times-up, times-dn}
 use Rattle.choosing.proofs.Leads.{runnerUp, runner-next, lead-is}
 
 iff : (a b : Bool) → (T a → T b) → (T b → T a) → a ≡ b

@@ -29,7 +29,7 @@ use Rattle.symbols.specs.Choice.{score, term}
 use Rattle.symbols.proofs.Words.{barkerTurns}
 use Rattle.choosing.specs.Scores.{RowWithin, scoreAt, ChosenAs}
 use Rattle.sums.specs.Sums.{bySign, signed, bySigns, asChip}
-use Rattle.choosing.proofs.Adding.{reads-of}
+use Rattle.base.proofs.Adding.{reads-of}
 use Rattle.choosing.proofs.Chosen.{chosen-alike}
 use Rattle.choosing.proofs.HalfTurns.{barker-half}
 use Rattle.sums.proofs.Four.{score-chip}

@@ -15,7 +15,7 @@ use mir.Facts.{toZ-pos}
 use Rattle.base.specs.Whole.{up, dn, Within}
 use Rattle.base.proofs.Whole.{add, within-more}
 use Rattle.choosing.specs.Keys.{keyOf}
-use Rattle.choosing.proofs.Adding.{
+use Rattle.base.proofs.Adding.{
   Reads,
   reads-of,
   within-pos,

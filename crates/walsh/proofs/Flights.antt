@@ -14,7 +14,7 @@ use mir.Val.{SFits, toZ, ofZ, hbits}
 use Rattle.chips.specs.declared.Counts.{Counts}
 use Rattle.chips.specs.Chips.{pair}
 use Rattle.chips.specs.Bounds.{Bounded}
-use Rattle.choosing.proofs.Adding.{Reads, reads-of, reads-fits, reads-add, less-fits, reads-less}
+use Rattle.base.proofs.Adding.{Reads, reads-of, reads-fits, reads-add, less-fits, reads-less}
 use Rattle.choosing.proofs.Clean.{phase}
 use Rattle.walsh.specs.Turns.{fly}
 use Rattle.walsh.specs.Rows.{rowAt, Flown}

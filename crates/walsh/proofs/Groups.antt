@@ -22,7 +22,7 @@ use Rattle.base.proofs.Tests.{both-left, both-right}
 use Rattle.chips.specs.declared.Counts.{Counts}
 use Rattle.symbols.specs.Choice.{term}
 use Rattle.choosing.specs.Keys.{bigger, lesser, Largest}
-use Rattle.choosing.proofs.Adding.{times-up, times-dn}
+use Rattle.base.proofs.Adding.{times-up, times-dn}
 use Rattle.choosing.proofs.Clean.{phase}
 use Rattle.walsh.specs.Turns.{fly, fourTop, fourNext, topOf, nextOf}
 use Rattle.walsh.proofs.Tops.{

@@ -26,7 +26,7 @@ use Rattle.chips.specs.declared.Counts.{Counts}
 use Rattle.chips.specs.Chips.{pair}
 use Rattle.chips.specs.Bounds.{Bounded}
 use Rattle.choosing.specs.Scores.{RowWithin}
-use Rattle.choosing.proofs.Adding.{
+use Rattle.base.proofs.Adding.{
   Reads,
   made-fits,
   made,

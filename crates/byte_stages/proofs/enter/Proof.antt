@@ -4,7 +4,7 @@ use mathlib.Core.Path.{_∙_}
 use lib.Dec.{lit≤}
 use borrow.Author.Needs.{needs}
 use Rattle.base.proofs.Whole.{within-zero, within-neg}
-use Rattle.choosing.proofs.Adding.{within-pos}
+use Rattle.base.proofs.Adding.{within-pos}
 use Rattle.walsh.proofs.Stages.{entered, four-both}
 use Rattle.byte_stages.proofs.enter.Statement.{statement}
 use Rattle.byte_stages.proofs.enter.Tie as tie

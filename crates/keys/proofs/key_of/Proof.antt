@@ -9,7 +9,7 @@ use lib.Ieee.{toSigned}
 use mir.Syntax.{w32}
 use mir.Val.{toZ, ofZ}
 use borrow.Author.Needs.{needs}
-use Rattle.choosing.proofs.Adding.{held}
+use Rattle.base.proofs.Adding.{held}
 use Rattle.keys.proofs.key_of.Statement.{statement}
 use Rattle.keys.proofs.key_of.Tie as tie
 

@@ -8,7 +8,7 @@ use mir.Val.{toZ, ofZ}
 use borrow.Author.Needs.{needs}
 use Rattle.base.specs.Whole.{Within}
 use Rattle.choosing.specs.Keys.{bigger, lesser, keyOf, TwoLargest}
-use Rattle.choosing.proofs.Adding.{reads-of}
+use Rattle.base.proofs.Adding.{reads-of}
 use Rattle.sums.proofs.Four.{sumKey, phase-by}
 use Rattle.sums.proofs.KeyTops.{two-of, two-is, second-le}
 use Rattle.units.proofs.choose.Statement.{statement}

@@ -9,7 +9,7 @@ use lib.IntN.{ℤ, pos, negℤ, natAbs, _-ℤ_, +ℤ-idl}
 use mir.Syntax.{w8}
 use mir.Val.{toZ, ofZ}
 use Rattle.base.proofs.Whole.{within-neg}
-use Rattle.choosing.proofs.Adding.{reads-of, made, made-fits}
+use Rattle.base.proofs.Adding.{reads-of, made, made-fits}
 use Rattle.sums.proofs.Wide.{abs-below, abs-above, abs-le, key-below, key-above}
 use Rattle.units.proofs.key.Statement.{statement}
 use Rattle.units.proofs.key.Tie as tie

@@ -10,7 +10,7 @@ use mir.Val.{toZ, ofZ}
 use borrow.Author.Needs.{needs}
 use Rattle.base.specs.Whole.{Within}
 use Rattle.choosing.specs.Keys.{bigger, lesser, keyOf}
-use Rattle.choosing.proofs.Adding.{reads-of}
+use Rattle.base.proofs.Adding.{reads-of}
 use Rattle.units.proofs.two_keys.Statement.{statement}
 use Rattle.units.proofs.two_keys.Tie as tie
 

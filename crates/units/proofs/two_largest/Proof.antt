@@ -14,7 +14,7 @@ use Rattle.base.proofs.Whole.{within-more}
 use Rattle.choosing.specs.Scores.{RowWithin}
 use Rattle.choosing.specs.Keys.{bigger, lesser, keyOf, TwoLargest}
 use Rattle.sums.specs.Sums.{keyAt}
-use Rattle.choosing.proofs.Adding.{reads-of}
+use Rattle.base.proofs.Adding.{reads-of}
 use Rattle.sums.proofs.KeyTops.{two-of, two-is, two-merge}
 use Rattle.units.proofs.two_largest.Statement.{statement}
 use Rattle.units.proofs.two_largest.Tie as tie

@@ -4,7 +4,7 @@ use lib.Dec.{lit<}
 use mir.Syntax.{w16}
 use mir.Val.{ofZ}
 use borrow.Author.Needs.{needs}
-use Rattle.choosing.proofs.Adding.{Reads, reads-of}
+use Rattle.base.proofs.Adding.{Reads, reads-of}
 use Rattle.walsh.proofs.Machine.{two-minus-fits, credit-is}
 use Rattle.byte_walsh.proofs.groups.credit.Statement.{statement}
 use Rattle.byte_walsh.proofs.groups.credit.Tie as tie

@@ -7,7 +7,7 @@ use mir.Syntax.{w16}
 use mir.Val.{toZ, ofZ}
 use borrow.Author.Needs.{needs}
 use Rattle.chips.specs.Chips.{pair}
-use Rattle.choosing.proofs.Adding.{Reads, reads-of, reads-fits, reads-add}
+use Rattle.base.proofs.Adding.{Reads, reads-of, reads-fits, reads-add}
 use Rattle.walsh.specs.Turns.{topOf, nextOf}
 use Rattle.walsh.specs.Search.{held, merged}
 use Rattle.byte_walsh.proofs.groups.meet.Statement.{statement}

@@ -6,7 +6,7 @@ use lib.IntN.{_+ℤ_}
 use mir.Syntax.{w32}
 use mir.Val.{toZ, ofZ}
 use borrow.Author.Needs.{needs}
-use Rattle.choosing.proofs.Adding.{Reads, made-fits, made, reads-of}
+use Rattle.base.proofs.Adding.{Reads, made-fits, made, reads-of}
 use Rattle.walsh.specs.Turns.{credit}
 use Rattle.walsh.proofs.Machine.{reads-credit, credit-by}
 use Rattle.count_walsh.proofs.groups.credit.Statement.{statement}

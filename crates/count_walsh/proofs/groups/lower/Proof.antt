@@ -7,7 +7,7 @@ use mir.Syntax.{w32}
 use mir.Val.{toZ, ofZ}
 use borrow.Author.Needs.{needs}
 use Rattle.choosing.specs.Keys.{smaller}
-use Rattle.choosing.proofs.Adding.{Reads, made-fits, made, reads-of, reads-fits, reads-add}
+use Rattle.base.proofs.Adding.{Reads, made-fits, made, reads-of, reads-fits, reads-add}
 use Rattle.walsh.proofs.Machine.{reads-smaller, left-over}
 use Rattle.count_walsh.proofs.groups.lower.Statement.{statement}
 use Rattle.count_walsh.proofs.groups.lower.Tie as tie

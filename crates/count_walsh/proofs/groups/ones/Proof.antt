@@ -8,7 +8,7 @@ use mir.Syntax.{w32}
 use mir.Val.{toZ, ofZ}
 use borrow.Author.Needs.{needs}
 use Rattle.base.proofs.Whole.{within-add, within-neg}
-use Rattle.choosing.proofs.Adding.{made-fits, made, within-pos}
+use Rattle.base.proofs.Adding.{made-fits, made, within-pos}
 use Rattle.count_walsh.proofs.groups.ones.Statement.{statement}
 use Rattle.count_walsh.proofs.groups.ones.Tie as tie
 
