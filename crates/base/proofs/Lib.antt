@@ -5,3 +5,4 @@ pub mod Over
 pub mod Below
 pub mod Lists
 pub mod Adding
+pub mod Puts

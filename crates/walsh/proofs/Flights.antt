@@ -18,7 +18,7 @@ use Rattle.base.proofs.Adding.{Reads, reads-of, reads-fits, reads-add, less-fit
 use Rattle.choosing.proofs.Clean.{phase}
 use Rattle.walsh.specs.Turns.{fly}
 use Rattle.walsh.specs.Rows.{rowAt, Flown}
-use Rattle.walsh.proofs.Puts.{puts, length-puts, puts-other, puts-at}
+use Rattle.base.proofs.Puts.{puts, length-puts, puts-other, puts-at}
 
 -- ---- one column more
 -- the eight numbers of a butterfly of x and y, in the order of the writes

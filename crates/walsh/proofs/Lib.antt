@@ -1,5 +1,4 @@
 pub mod Turns
-pub mod Puts
 pub mod Flights
 pub mod Stages
 pub mod Tops

@@ -52,7 +52,7 @@ use Rattle.walsh.specs.Rows.{
   Joined,
   Paired,
 }
-use Rattle.walsh.proofs.Puts.{puts, length-puts, puts-other, puts-at}
+use Rattle.base.proofs.Puts.{puts, length-puts, puts-other, puts-at}
 use Rattle.walsh.proofs.Turns.{turn, fly-bounded, eight-cases}
 
 -- ---- chips that enter
