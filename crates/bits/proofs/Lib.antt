@@ -7,3 +7,4 @@ pub mod Crc
 pub mod Division
 pub mod Facts
 pub mod PairLaws
+pub mod Sent

@@ -24,7 +24,7 @@ use Rattle.reading.specs.Leads.{decidedLeads}
 use Rattle.reading.specs.Reading.{firstUnusable, decidedWords}
 use Rattle.bits.specs.Code.{wordsChips}
 use Rattle.clean.specs.Clean.{cleanTaken, cleanRecording}
-use Rattle.clean.proofs.Sent.{Allowed, none, more}
+use Rattle.bits.proofs.Sent.{Allowed, none, more}
 
 counts-clean : (w : List ℕ) → map takenCounts (map cleanTaken w) ≡ map (fullChip 1024) w
 counts-clean [] = refl

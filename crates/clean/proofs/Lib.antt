@@ -1,4 +1,3 @@
-pub mod Sent
 pub mod Decided
 pub mod Parts
 pub mod Listened

@@ -39,7 +39,7 @@ use Rattle.reading.specs.Reading.{
 use Rattle.bits.specs.Code.{wordsChips}
 use Rattle.bits.proofs.Growths.{lastPhase-lt}
 use Rattle.clean.specs.Clean.{cleanRecording}
-use Rattle.clean.proofs.Sent.{Allowed}
+use Rattle.bits.proofs.Sent.{Allowed}
 use Rattle.clean.proofs.Decided.{clean-append, clean-length, decided-words, decided-leads}
 use Rattle.clean.proofs.Parts.{
   wordsOf,

@@ -34,7 +34,7 @@ use Rattle.reading.specs.Reading.{firstOdd}
 use Rattle.bits.specs.Code.{numbersFrom, wordsChips}
 use Rattle.bits.proofs.Growths.{symbolsFrom-length}
 use Rattle.bits.proofs.Heard.{heard-back, chips-words, last-number, numbersFrom-length}
-use Rattle.clean.proofs.Sent.{Allowed, numbers-allowed}
+use Rattle.bits.proofs.Sent.{Allowed, numbers-allowed}
 
 -- ---- lengths
 pub chips-length : (r : Rate) (ns : List ℕ) → length (wordsChips r ns) ≡ length ns * symbolChips r
