@@ -8,3 +8,4 @@ pub mod Division
 pub mod Facts
 pub mod PairLaws
 pub mod Sent
+pub mod Mixing
