@@ -1,2 +1,1 @@
-pub mod Seeks
 pub mod Windows

@@ -34,7 +34,7 @@ use Rattle.finding.proofs.Laws.{
 }
 use Rattle.sweep.specs.Sweep.{halfAt, octetAt, sfdFrom, Row, Marked}
 use Rattle.sweep.proofs.Sfd.{sfd-low, sfd-high}
-use Rattle.finder.proofs.Seeks.{not-both}
+use Rattle.finding.proofs.Seeks.{not-both}
 
 module _ (kind : Kind) (rec : List Taken) where
   -- the fronts from offsets below both meet one of 8 to 15
