@@ -6,3 +6,4 @@ pub mod WriteGood
 pub mod Accepting
 pub mod ReadBack
 pub mod HeaderOnly
+pub mod Fields
