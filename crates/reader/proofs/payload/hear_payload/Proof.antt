@@ -24,7 +24,7 @@ use Rattle.hearing.proofs.Parts.{few-symbols}
 use Rattle.recorders.proofs.Rows.{recording-fits}
 use Rattle.fronts.specs.Openings.{Opened}
 use borrow.Author.Needs.{needs}
-use Rattle.reader.proofs.Behind.{payload-odd, payload-octets, payload-least, lent-long, octets-back}
+use Rattle.fronts.proofs.Behind.{payload-odd, payload-octets, payload-least, lent-long, octets-back}
 use Rattle.reader.proofs.payload.hear_payload.Statement.{statement}
 use Rattle.reader.proofs.payload.hear_payload.Tie as tie
 
