@@ -7,3 +7,4 @@ pub mod Bounds
 pub mod Recorders
 pub mod Facts
 pub mod Bytes
+pub mod Usable

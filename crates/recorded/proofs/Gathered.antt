@@ -15,7 +15,7 @@ use Rattle.chips.specs.Chips.{usableSample, countsOf, unusable, takenCounts, ha
 use Rattle.axes.specs.Axes.{isHard, AllSoft, AllHard}
 use Rattle.chips.proofs.Recorders.{sample, taken-soft, length-soft, getD-soft, part-taken, part-hard}
 use Rattle.recorded.specs.Recorded.{hardPart, softPart, AllUsable}
-use Rattle.recorded.proofs.Usable.{soft-at}
+use Rattle.chips.proofs.Usable.{soft-at}
 
 -- ---- the counts
 pub gathered-hard : (n : ℕ) (xs : List ℕ) (at : ℕ) → at + n ≤ length xs

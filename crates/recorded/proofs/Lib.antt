@@ -4,4 +4,3 @@ pub mod Gathered
 pub mod HardLeads
 pub mod Search
 pub mod Sixteen
-pub mod Usable

@@ -11,7 +11,7 @@ use borrow.Author.Count.{below-more}
 use borrow.Author.Needs.{needs}
 use Rattle.chips.specs.Chips.{usableSample}
 use Rattle.chips.proofs.Recorders.{sample}
-use Rattle.recorded.proofs.Usable.{soft-at}
+use Rattle.chips.proofs.Usable.{soft-at}
 use Rattle.soft.proofs.clean.Statement.{statement}
 use Rattle.soft.proofs.clean.Tie as tie
 
