@@ -13,3 +13,4 @@ pub mod KeyLaws
 pub mod Demand3
 pub mod Facts
 pub mod HalfTurns
+pub mod Gathered

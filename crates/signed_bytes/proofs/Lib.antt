@@ -1,4 +1,3 @@
 pub mod Units
 pub mod Abreast
 pub mod Groups
-pub mod Gathered
