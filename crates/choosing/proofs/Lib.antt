@@ -14,3 +14,4 @@ pub mod Demand3
 pub mod Facts
 pub mod HalfTurns
 pub mod Gathered
+pub mod Scaled

@@ -23,7 +23,7 @@ use Rattle.symbols.specs.Choice.{decided, leadOf}
 use Rattle.choosing.specs.Scores.{ChosenAs}
 use Rattle.sums.specs.Sums.{bySigns, asChip}
 use Rattle.sums.proofs.Signs.{sums-chosen}
-use Rattle.sums.proofs.Scaled.{decided-times, lead-times}
+use Rattle.choosing.proofs.Scaled.{decided-times, lead-times}
 use Rattle.signed_bytes.specs.Rows.{barkerBytes, fiveBytes}
 
 -- cs decide what ds do, with a 16th of the lead

@@ -25,7 +25,7 @@ use Rattle.symbols.specs.Choice.{decided, leadOf}
 use Rattle.choosing.specs.Scores.{RowWithin, ChosenAs}
 use Rattle.sums.specs.Sums.{bySigns, asChip, rows}
 use Rattle.sums.proofs.Signs.{sums-chosen}
-use Rattle.sums.proofs.Scaled.{Times, decided-times, lead-times}
+use Rattle.choosing.proofs.Scaled.{Times, decided-times, lead-times}
 
 -- ---- whatever is counted of a chip, nothing of a lost one
 module _ (f : Chip → Counts) (none : f Lost ≡ nothing) where

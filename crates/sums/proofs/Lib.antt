@@ -3,6 +3,5 @@ pub mod Crossed
 pub mod Eight
 pub mod Four
 pub mod KeyTops
-pub mod Scaled
 pub mod Signs
 pub mod Wide

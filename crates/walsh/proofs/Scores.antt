@@ -14,7 +14,7 @@ use Rattle.chips.specs.declared.Counts.{Counts}
 use Rattle.chips.specs.Chips.{pair}
 use Rattle.symbols.specs.Words.{cckWord}
 use Rattle.symbols.specs.Choice.{term, score}
-use Rattle.sums.proofs.Scaled.{k-add, term-times}
+use Rattle.choosing.proofs.Scaled.{k-add, term-times}
 use Rattle.sums.specs.Sums.{rows, everyRow}
 use Rattle.walsh.specs.Turns.{back, fly}
 use Rattle.walsh.specs.Rows.{rowAt, entering, Entered, Paired, evens, odds}
