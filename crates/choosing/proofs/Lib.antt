@@ -15,3 +15,4 @@ pub mod Facts
 pub mod HalfTurns
 pub mod Gathered
 pub mod Scaled
+pub mod Wide

@@ -4,4 +4,3 @@ pub mod Eight
 pub mod Four
 pub mod KeyTops
 pub mod Signs
-pub mod Wide

@@ -34,7 +34,7 @@ use Rattle.base.proofs.Whole.{
 use Rattle.chips.specs.declared.Counts.{Counts}
 use Rattle.choosing.specs.Keys.{larger, smaller}
 use Rattle.base.proofs.Adding.{Reads, made-fits, made, within-pos}
-use Rattle.sums.proofs.Wide.{abs-le}
+use Rattle.choosing.proofs.Wide.{abs-le}
 use Rattle.walsh.specs.Turns.{sided, credit, fourTop, fourNext}
 use Rattle.walsh.specs.Search.{Held, met, sizeOf}
 

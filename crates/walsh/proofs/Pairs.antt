@@ -23,7 +23,7 @@ use Rattle.choosing.specs.Keys.{keyOf}
 use Rattle.choosing.proofs.HalfTurns.{cck-half}
 use Rattle.choosing.proofs.KeyLaws.{Better, better, number-below}
 use Rattle.sums.specs.Sums.{rows, everyRow}
-use Rattle.sums.proofs.Wide.{key-abs}
+use Rattle.choosing.proofs.Wide.{key-abs}
 use Rattle.walsh.specs.Rows.{Entered, Paired, evens, odds}
 use Rattle.walsh.proofs.Turns.{turn}
 use Rattle.walsh.proofs.Tops.{Lifted, sides}

@@ -17,7 +17,7 @@ use Rattle.choosing.specs.Scores.{RowWithin}
 use Rattle.choosing.specs.Keys.{keyOf}
 use Rattle.sums.specs.Sums.{keyAt}
 use Rattle.sums.proofs.KeyTops.{within-two, score-read}
-use Rattle.sums.proofs.Wide.{key-small}
+use Rattle.choosing.proofs.Wide.{key-small}
 use Rattle.keys.specs.Floats.{keyFloat, largerFloat, smallerFloat, FloatTwo}
 use Rattle.keys.proofs.Floats.{float-two, float-merge}
 use Rattle.choice.proofs.five.two_largest.Statement.{statement}
