@@ -4,3 +4,4 @@ pub mod Gathered
 pub mod HardLeads
 pub mod Search
 pub mod Sixteen
+pub mod Units

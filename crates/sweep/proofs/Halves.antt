@@ -36,7 +36,7 @@ use Rattle.sums.proofs.Apart.{units-barker}
 use Rattle.recorded.specs.Recorded.{hardPart}
 use Rattle.recorded.proofs.HardLeads.{hard-decided}
 use Rattle.sweep.specs.Sweep.{sideOf, halfOfEleven, halfAt, Sides, halfOf}
-use Rattle.sweep.proofs.Units.{units-part}
+use Rattle.recorded.proofs.Units.{units-part}
 
 -- ---- the choice by two sums
 module _ (i q : ℤ) where

@@ -1,5 +1,4 @@
 pub mod Rows
-pub mod Units
 pub mod Halves
 pub mod Comparing
 pub mod Chain
