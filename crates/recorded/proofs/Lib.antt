@@ -5,3 +5,4 @@ pub mod HardLeads
 pub mod Search
 pub mod Sixteen
 pub mod Units
+pub mod Searched

@@ -16,7 +16,7 @@ use Rattle.recorded.specs.declared.Place.{Place}
 use Rattle.recorded.specs.declared.Place.the-variants.{Nothing, At}
 use Rattle.recorded.specs.Recorded.{whereFound, AllUsable, DecidedAt}
 use Rattle.timed_leaves.specs.Leaves.{firstWord}
-use Rattle.timed_leaves.proofs.Searched.{bad, good, usable}
+use Rattle.recorded.proofs.Searched.{bad, good, usable}
 use Rattle.timed_leaves.proofs.first_word.Statement.{statement}
 use Rattle.timed_leaves.proofs.first_word.Tie as tie
 
