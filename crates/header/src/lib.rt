@@ -17,6 +17,8 @@ ghost use Rattle.frame.specs.Frame.{sfdOf, goesWith, headerBits, sentHeader};
 ghost use Rattle.calls.specs.Headers.{serviceAllowed, ours, sameBits, fieldsOf, headerOf};
 ghost use Rattle.header.specs.Code.{octetsTold};
 
+mod crc;
+
 // Whether SERVICE is one that a rate allows: 0 or 4, and at 11 Mbit/s 128 or 132.
 fn service_allowed(r: Rate, service: u8) -> bool
     ensures answer { λ b. ⌜ b ≡ serviceAllowed r service ⌝ }

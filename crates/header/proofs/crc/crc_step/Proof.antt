@@ -1,8 +1,8 @@
--- `crc::crc_step` meets its contract: sixteen terms, three of them what `xor` ensures. Assumes nothing.
+-- `header::crc::crc_step` meets its contract: sixteen terms, three of them what `xor` ensures. Assumes nothing.
 use borrow.Author.Needs.{needs}
 use Rattle.bits.specs.Crc.{crcStep, addWhere}
-use Rattle.crc.proofs.crc_step.Statement.{statement}
-use Rattle.crc.proofs.crc_step.Tie as tie
+use Rattle.header.proofs.crc.crc_step.Statement.{statement}
+use Rattle.header.proofs.crc.crc_step.Tie as tie
 
 returns : tie.Need-returns
 unfolding crcStep addWhere

@@ -5,7 +5,7 @@ ghost use lib.ListN.{length};
 ghost use Rattle.base.specs.Below.{Below};
 ghost use Rattle.bits.specs.Bits.{_⊕_, bitsOf, numberOf, octetBits};
 ghost use Rattle.bits.specs.Crc.{crcStep, remainder, complement, crcBits};
-ghost use Rattle.crc.specs.Registers.{inTime, terms};
+ghost use Rattle.header.specs.Registers.{inTime, terms};
 
 // Eight bits, b0 first in time.
 pub struct Eight {

@@ -1,11 +1,11 @@
--- `crc::crc_octets` meets its contract: the remainder runs through four octets from a register of ones, and both
--- halves of the register are complemented. Assumes nothing.
+-- `header::crc::crc_octets` meets its contract: the remainder runs through four octets from a register of ones, and
+-- both halves of the register are complemented. Assumes nothing.
 use mathlib.Core.Path.{refl}
 use borrow.Author.Needs.{needs}
-use Rattle.crc.specs.Registers.{inTime}
+use Rattle.header.specs.Registers.{inTime}
 use Rattle.bits.proofs.Crc.{crc-is}
-use Rattle.crc.proofs.crc_octets.Statement.{statement}
-use Rattle.crc.proofs.crc_octets.Tie as tie
+use Rattle.header.proofs.crc.crc_octets.Statement.{statement}
+use Rattle.header.proofs.crc.crc_octets.Tie as tie
 
 returns : tie.Need-returns
 returns c =

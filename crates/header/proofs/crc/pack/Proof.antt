@@ -1,11 +1,11 @@
--- `crc::pack` meets its contract: each sum is below a power of two, since the bits in it are below 2.
+-- `header::crc::pack` meets its contract: each sum is below a power of two, since the bits in it are below 2.
 -- Assumes nothing.
 use native.Mathlib.Nat.{add-zero}
 use native.Mathlib.Omega.{arith}
 use Rattle.bits.specs.Bits.{numberOf}
 use Rattle.base.proofs.Below.{below-each}
-use Rattle.crc.proofs.pack.Statement.{statement}
-use Rattle.crc.proofs.pack.Tie as tie
+use Rattle.header.proofs.crc.pack.Statement.{statement}
+use Rattle.header.proofs.crc.pack.Tie as tie
 
 mul-t6 : tie.Need-mul-t6
 mul-t6 c = let h = below-each (c .before .pre) in omega (arith, h)

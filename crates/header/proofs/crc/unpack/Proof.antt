@@ -1,8 +1,8 @@
--- `crc::unpack` meets its contract: it computes. Assumes nothing.
+-- `header::crc::unpack` meets its contract: it computes. Assumes nothing.
 use mathlib.Core.Path.{refl}
 use Rattle.bits.specs.Bits.{bitsOf}
-use Rattle.crc.proofs.unpack.Statement.{statement}
-use Rattle.crc.proofs.unpack.Tie as tie
+use Rattle.header.proofs.crc.unpack.Statement.{statement}
+use Rattle.header.proofs.crc.unpack.Tie as tie
 
 returns : tie.Need-returns
 unfolding bitsOf

@@ -1,9 +1,10 @@
--- `crc::crc_octet` meets its contract: the eight bits of an octet, taken in one after the other. Assumes nothing.
+-- `header::crc::crc_octet` meets its contract: the eight bits of an octet, taken in one after the other. Assumes
+-- nothing.
 use mathlib.Core.Path.{ap, _∙_}
 use borrow.Author.Needs.{needs}
 use Rattle.bits.specs.Crc.{remainder}
-use Rattle.crc.proofs.crc_octet.Statement.{statement}
-use Rattle.crc.proofs.crc_octet.Tie as tie
+use Rattle.header.proofs.crc.crc_octet.Statement.{statement}
+use Rattle.header.proofs.crc.crc_octet.Tie as tie
 
 returns : tie.Need-returns
 returns c = c .crc-eight .ensures ∙ ap (remainder _) (c .before .unpack .ensures)

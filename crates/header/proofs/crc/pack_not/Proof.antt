@@ -1,13 +1,13 @@
--- `crc::pack_not` meets its contract: complements are bits, so they pack, and the octet has them as its bits.
+-- `header::crc::pack_not` meets its contract: complements are bits, so they pack, and the octet has them as its bits.
 -- Assumes nothing.
 use mathlib.Core.Path.{refl, ap, _∙_}
 use borrow.Author.Needs.{needs}
 use Rattle.bits.specs.Bits.{bitsOf}
-use Rattle.crc.specs.Registers.{inTime}
+use Rattle.header.specs.Registers.{inTime}
 use Rattle.bits.proofs.Bits.{bits-number}
 use Rattle.bits.proofs.Crc.{complement-below}
-use Rattle.crc.proofs.pack_not.Statement.{statement}
-use Rattle.crc.proofs.pack_not.Tie as tie
+use Rattle.header.proofs.crc.pack_not.Statement.{statement}
+use Rattle.header.proofs.crc.pack_not.Tie as tie
 
 pack-requires : tie.Need-pack-requires
 pack-requires c κs = rw (c .complement-eight .ensures) (complement-below (inTime (c .before .args .e)))

@@ -1,8 +1,8 @@
--- `crc::crc_eight` meets its contract: eight steps, one for each bit. Assumes nothing.
+-- `header::crc::crc_eight` meets its contract: eight steps, one for each bit. Assumes nothing.
 use borrow.Author.Needs.{needs}
 use Rattle.bits.specs.Crc.{remainder}
-use Rattle.crc.proofs.crc_eight.Statement.{statement}
-use Rattle.crc.proofs.crc_eight.Tie as tie
+use Rattle.header.proofs.crc.crc_eight.Statement.{statement}
+use Rattle.header.proofs.crc.crc_eight.Tie as tie
 
 returns : tie.Need-returns
 unfolding remainder

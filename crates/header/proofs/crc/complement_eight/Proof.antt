@@ -1,8 +1,8 @@
--- `crc::complement_eight` meets its contract: eight bits, each what `xor` ensures. Assumes nothing.
+-- `header::crc::complement_eight` meets its contract: eight bits, each what `xor` ensures. Assumes nothing.
 use borrow.Author.Needs.{needs}
 use Rattle.bits.proofs.Crc.{complement-eight}
-use Rattle.crc.proofs.complement_eight.Statement.{statement}
-use Rattle.crc.proofs.complement_eight.Tie as tie
+use Rattle.header.proofs.crc.complement_eight.Statement.{statement}
+use Rattle.header.proofs.crc.complement_eight.Tie as tie
 
 returns : tie.Need-returns
 returns c =

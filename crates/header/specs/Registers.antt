@@ -2,8 +2,8 @@
 -- working notion: of the code of the CRC; no promise needs it
 use Prim.Native.Nat.{ℕ}
 use mathlib.Core.List.{List, [], _∷_, _++_}
-use Rattle.crc.specs.declared.Eight.{Eight}
-use Rattle.crc.specs.declared.Sixteen.{Sixteen}
+use Rattle.header.specs.declared.crc.Eight.{Eight}
+use Rattle.header.specs.declared.crc.Sixteen.{Sixteen}
 
 -- eight bits, first in time first
 abbrev pub inTime : Eight → List ℕ
