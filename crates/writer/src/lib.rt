@@ -17,6 +17,8 @@ ghost use Rattle.sending.specs.Sending.{run, ran};
 ghost use Rattle.sending.specs.Line.{state};
 ghost use Rattle.writer.specs.Parts.{preambleOctets, frontSent, afterFront};
 
+mod checks;
+
 // The preambles' octets: SYNC, then SFD.
 const LONG: [u8; 18] = [
     255,
