@@ -15,8 +15,8 @@ use lib.ListN.{length, getD, take, drop, length-drop, List·getD-append}
 use lib.Seq.{length-take-le, getD-append-add, getD-take, getD-drop, drop-drop}
 use Rattle.base.specs.Tables.{tabulate}
 use Rattle.base.proofs.Tables.{as-table, tabulate-ext}
-use Rattle.rates.specs.declared.Rate.{Rate}
-use Rattle.rates.specs.Rates.{symbolBits}
+use Rattle.rules_rates.specs.declared.Rate.{Rate}
+use Rattle.rules_rates.specs.Rates.{symbolBits}
 use Rattle.symbols.specs.Words.{phaseOf}
 use Rattle.bits.specs.Bits.{numberOf, octetsOf}
 use Rattle.bits.specs.Growths.{grownBy, heardBits, heard, growthsOf, lastHeard}

@@ -17,9 +17,9 @@ use lib.ListN.{length, getD, take, drop, take-append-drop, length-append, length
 use lib.Seq.{length-take-le}
 use Rattle.base.specs.Tables.{tabulate}
 use Rattle.base.proofs.Tables.{as-table}
-use Rattle.rates.specs.declared.Rate.{Rate}
-use Rattle.rates.specs.declared.Rate.the-variants.{One, Two, Five, Eleven}
-use Rattle.rates.specs.Rates.{symbolBits}
+use Rattle.rules_rates.specs.declared.Rate.{Rate}
+use Rattle.rules_rates.specs.declared.Rate.the-variants.{One, Two, Five, Eleven}
+use Rattle.rules_rates.specs.Rates.{symbolBits}
 use Rattle.chips.specs.Chips.{turned}
 use Rattle.symbols.specs.Words.{cckNumber, p1Of, p2Of, p3Of, p4Of, wordOf, phaseOf}
 use Rattle.symbols.specs.Choice.{numbers, isAllowed}

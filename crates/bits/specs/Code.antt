@@ -3,8 +3,8 @@
 -- working notion: of the code that sends and hears octets; no promise needs it
 use Prim.Native.Nat.{ℕ, _+_, _*_, _/_, _%_, _<_}
 use mathlib.Core.List.{List, [], _∷_, _++_, reverse}
-use Rattle.rates.specs.declared.Rate.{Rate}
-use Rattle.rates.specs.declared.Rate.the-variants.{One, Two, Five, Eleven}
+use Rattle.rules_rates.specs.declared.Rate.{Rate}
+use Rattle.rules_rates.specs.declared.Rate.the-variants.{One, Two, Five, Eleven}
 use Rattle.chips.specs.Chips.{turned}
 use Rattle.symbols.specs.Words.{cckNumber, wordOf}
 use Rattle.bits.specs.Bits.{bitsOf}

@@ -12,10 +12,10 @@ use lib.Seq.{getD-take, length-take-le, ext-getD, take-all}
 use Rattle.base.specs.Below.{Below}
 use Rattle.base.specs.Tables.{tabulate}
 use Rattle.base.proofs.Tables.{length-tabulate, getD-tabulate, tabulate-all}
-use Rattle.rates.specs.declared.Rate.{Rate}
-use Rattle.rates.specs.declared.Rate.the-variants.{One, Two, Five, Eleven}
-use Rattle.rates.specs.Rates.{symbolBits, octetSymbols}
-use Rattle.rates.proofs.Octets.{part-bits}
+use Rattle.rules_rates.specs.declared.Rate.{Rate}
+use Rattle.rules_rates.specs.declared.Rate.the-variants.{One, Two, Five, Eleven}
+use Rattle.rules_rates.specs.Rates.{symbolBits, octetSymbols}
+use Rattle.rules_rates.proofs.Octets.{part-bits}
 use Rattle.symbols.specs.Words.{phaseOf}
 use Rattle.symbols.specs.Choice.{numbers}
 use Rattle.bits.specs.Bits.{numberOf, octetBits, octetsOf}

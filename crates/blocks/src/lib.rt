@@ -6,12 +6,12 @@ ghost use lib.ListN.{length, getD, take};
 ghost use Rattle.base.specs.Below.{Below};
 ghost use Rattle.base.specs.Over.{over};
 ghost use Rattle.base.specs.Tables.{tabulate};
-ghost use Rattle.rates.specs.Rates.{symbolBits, octetSymbols, octetChips};
+ghost use Rattle.rules_rates.specs.Rates.{symbolBits, octetSymbols, octetChips};
 ghost use Rattle.bits.specs.Bits.{numberOf};
 ghost use Rattle.codes.specs.Codes.{grownFor, wordBits, phaseBefore, octetAfter, behind, plain, AreWords};
 ghost use Rattle.blocks.specs.Heard.{plainOctets, Heard};
 use lines::Line;
-use rates::Rate;
+use rules_rates::Rate;
 use recorded::Place;
 
 pub mod least;

@@ -3,10 +3,10 @@ ghost use mathlib.Core.Path.{_≡_};
 ghost use mathlib.Core.Bool.{false};
 ghost use Prim.Native.Nat.{ℕ, _+_, _*_, _%_, _^_, _≤_, _<_};
 ghost use lib.ListN.{getD, take};
-ghost use Rattle.rates.specs.Rates.{symbolChips};
+ghost use Rattle.rules_rates.specs.Rates.{symbolChips};
 ghost use Rattle.reading.specs.Reading.{firstOdd, oddGrowth};
 ghost use Rattle.recorded.specs.Recorded.{whereFound};
-use rates::Rate;
+use rules_rates::Rate;
 use recorded::Place;
 
 // Whether one of the first m growths may be 1 or 3: no says that none is.

@@ -17,8 +17,8 @@ use lib.Dec.{T, leb, eqb}
 use lib.ListN.{take, drop}
 use lib.IntN.{ℤ, pos, negsuc, natAbs}
 use Rattle.base.proofs.Tests.{left-is, right-is}
-use Rattle.rates.specs.declared.Rate.{Rate}
-use Rattle.rates.specs.Rates.{rateOf, lengthField, bit7, octetsRead, isPayload, lengthHolds}
+use Rattle.rules_rates.specs.declared.Rate.{Rate}
+use Rattle.rules_rates.specs.Rates.{rateOf, lengthField, bit7, octetsRead, isPayload, lengthHolds}
 use Rattle.bits.specs.Bits.{numberOf}
 use Rattle.bits.specs.Crc.{crcBits}
 use Rattle.frame.specs.declared.Kind.{Kind}

@@ -6,9 +6,9 @@ use mathlib.Core.Bool.{cond}
 use mathlib.Core.List.{List, [], _∷_, _++_, map}
 use Prim.Native.Nat.{ℕ, zero, suc, _-_}
 use lib.ListN.{set, getD, replicate}
-use Rattle.rates.specs.declared.Rate.{Rate}
-use Rattle.rates.specs.declared.Rate.the-variants.{One, Two, Five, Eleven}
-use Rattle.rates.specs.Rates.{codeOf}
+use Rattle.rules_rates.specs.declared.Rate.{Rate}
+use Rattle.rules_rates.specs.declared.Rate.the-variants.{One, Two, Five, Eleven}
+use Rattle.rules_rates.specs.Rates.{codeOf}
 use Rattle.bits.specs.Bits.{bitsOf, numberOf}
 use Rattle.bits.specs.Crc.{addWhere, crcStep, remainder, crcBits}
 use Rattle.frame.specs.Frame.{clockBit, fieldBits, headerBits}

@@ -11,10 +11,10 @@ use borrow.Author.Tests.{eqb-true}
 use lib.Dec.{eqb}
 use lib.ListN.{take, drop}
 use Rattle.base.proofs.Tests.{left-is, right-is}
-use Rattle.rates.specs.declared.Rate.{Rate}
-use Rattle.rates.specs.declared.Rate.the-variants.{One, Two, Five, Eleven}
-use Rattle.rates.specs.Rates.{codeOf, isCode, rateOf, lengthField}
-use Rattle.rates.proofs.Facts.{no-other-code}
+use Rattle.rules_rates.specs.declared.Rate.{Rate}
+use Rattle.rules_rates.specs.declared.Rate.the-variants.{One, Two, Five, Eleven}
+use Rattle.rules_rates.specs.Rates.{codeOf, isCode, rateOf, lengthField}
+use Rattle.rules_rates.proofs.Facts.{no-other-code}
 use Rattle.bits.specs.Bits.{numberOf}
 use Rattle.bits.specs.Crc.{crcBits}
 use Rattle.frame.specs.declared.Kind.{Kind}

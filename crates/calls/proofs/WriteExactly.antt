@@ -7,8 +7,8 @@ use mathlib.Core.Bool.{true}
 use Prim.Native.Nat.{ℕ, _≤_, _<_}
 use native.Mathlib.Omega.{arith}
 use borrow.Author.Tests.{lt-ltb, le-ltb, le-leb, lt-leb, ne-eqb}
-use Rattle.rates.specs.Rates.{isCode, rateOf}
-use Rattle.rates.proofs.Lengths.{is-payload}
+use Rattle.rules_rates.specs.Rates.{isCode, rateOf}
+use Rattle.rules_rates.proofs.Lengths.{is-payload}
 use Rattle.frame.specs.Frame.{kindOf, goesWith, frameChips}
 use Rattle.calls.specs.declared.Written.{Written}
 use Rattle.calls.specs.Answers.{writtenOf}

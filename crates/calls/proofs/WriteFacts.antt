@@ -5,7 +5,7 @@ use mathlib.Core.Path.{_≡_, refl}
 use mathlib.Core.Bool.{true, false}
 use mathlib.Core.List.{List, [], _∷_, _++_}
 use Prim.Native.Nat.{ℕ, _^_}
-use Rattle.rates.specs.declared.Rate.the-variants.{Two, Eleven}
+use Rattle.rules_rates.specs.declared.Rate.the-variants.{Two, Eleven}
 use Rattle.frame.specs.declared.Kind.the-variants.{Long, Short}
 use Rattle.frame.specs.Frame.{frame}
 use Rattle.calls.specs.declared.Written.{Written}

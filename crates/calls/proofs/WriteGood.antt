@@ -6,9 +6,9 @@ use native.Mathlib.Omega.{arith}
 use lib.Dec.{ltb}
 use lib.IntN.{pos}
 use borrow.Author.Tests.{ltb-false, not-false}
-use Rattle.rates.specs.declared.Rate.{Rate}
-use Rattle.rates.specs.Rates.{isCode, rateOf, isPayload}
-use Rattle.rates.proofs.Lengths.{payload-high}
+use Rattle.rules_rates.specs.declared.Rate.{Rate}
+use Rattle.rules_rates.specs.Rates.{isCode, rateOf, isPayload}
+use Rattle.rules_rates.proofs.Lengths.{payload-high}
 use Rattle.frame.specs.declared.Kind.{Kind}
 use Rattle.frame.specs.Frame.{isKind, kindOf, goesWith, frameChips}
 use Rattle.calls.specs.declared.Refusal.{Refusal}

@@ -1,7 +1,7 @@
 -- What the calls answer: for each case of an enum answer its number and values (RULES 6.4, 6.8, 6.10, 6.11).
 -- Definitions only. Assumes nothing.
 use Prim.Native.Nat.{ℕ}
-use Rattle.rates.specs.Rates.{codeOf}
+use Rattle.rules_rates.specs.Rates.{codeOf}
 use Rattle.frame.specs.Frame.{clockBit}
 use Rattle.calls.specs.declared.Refusal.{Refusal}
 use Rattle.calls.specs.declared.Refusal.the-variants.{

@@ -7,7 +7,7 @@ use mathlib.Core.List.{List, _++_}
 use lib.ListN.{length, replicate}
 use lib.Dec.{ltb}
 use lib.IntN.{pos}
-use Rattle.rates.specs.Rates.{isCode, rateOf, isPayload}
+use Rattle.rules_rates.specs.Rates.{isCode, rateOf, isPayload}
 use Rattle.calls.specs.declared.Refusal.the-variants.{NoKind, NoRate, ShortRate, PayloadSize, NoPhase, ChipRoom}
 use Rattle.calls.specs.declared.Writing.{Writing}
 use Rattle.calls.specs.declared.Writing.the-variants.{Refused, Good}

@@ -1,6 +1,6 @@
 // The calls and their numbers: the refusals, and what writing and reading answer. Types only.
 use frame::Kind;
-use rates::Rate;
+use rules_rates::Rate;
 
 // Every refusal of writing and reading, in the order of its number, 1 to 17. A place is a chip's index from the
 // recording's start; a length is the LENGTH field, 0 where it is not to be told.

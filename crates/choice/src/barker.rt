@@ -1,7 +1,7 @@
 // Barker symbols, at 1 and at 2 Mbit/s: a sum over I and one over Q; the four scores are these and their negatives.
 use crate::Choice;
 use keys::Two;
-use rates::Rate;
+use rules_rates::Rate;
 ghost use mathlib.Core.Path.{_≡_};
 ghost use Rattle.base.specs.Whole.{Within};
 ghost use Rattle.choosing.specs.Scores.{RowWithin, ChosenAs};

@@ -2,7 +2,7 @@
 // word's chips are added up by themselves.
 use crate::Choice;
 use keys::Two;
-use rates::Rate;
+use rules_rates::Rate;
 ghost use mathlib.Core.Path.{_≡_};
 ghost use Rattle.base.specs.Tables.{tabulate};
 ghost use Rattle.choosing.specs.Scores.{RowWithin, scoreAt, number5, ChosenAs};

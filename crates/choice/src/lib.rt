@@ -3,7 +3,7 @@
 // Each function is called from one loop over symbols, in which its array of chips dissolves.
 use axes::Axis;
 use chips::Chip;
-use rates::Rate;
+use rules_rates::Rate;
 ghost use mathlib.Core.List.{map};
 ghost use Rattle.chips.specs.Chips.{countsOf};
 ghost use Rattle.axes.specs.Axes.{AllSoft};

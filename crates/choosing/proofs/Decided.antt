@@ -12,8 +12,8 @@ use lib.ListN.{length}
 use lib.IntN.{ℤ}
 use lib.Signed.{_≤ℤ_, _<ℤ_, ≤ℤ-refl}
 use Rattle.base.proofs.Whole.{le-of, of-lt}
-use Rattle.rates.specs.declared.Rate.{Rate}
-use Rattle.rates.specs.declared.Rate.the-variants.{One, Two, Five, Eleven}
+use Rattle.rules_rates.specs.declared.Rate.{Rate}
+use Rattle.rules_rates.specs.declared.Rate.the-variants.{One, Two, Five, Eleven}
 use Rattle.chips.specs.declared.Counts.{Counts}
 use Rattle.symbols.specs.Choice.{numbers, isAllowed, allowed, decided}
 use Rattle.choosing.specs.Scores.{scoreAt, BestOf, DecidedAs}

@@ -10,7 +10,7 @@ use lib.Dec.{T}
 use lib.IntN.{pos, _+ℤ_}
 use lib.ListN.{length, getD}
 use lib.Signed.{_≤ℤ_}
-use Rattle.rates.specs.Rates.{symbolChips}
+use Rattle.rules_rates.specs.Rates.{symbolChips}
 use Rattle.chips.specs.declared.Counts.{Counts}
 use Rattle.chips.specs.Chips.{nothing}
 use Rattle.chips.specs.Bounds.{Apart}
@@ -19,7 +19,7 @@ use Rattle.symbols.specs.Choice.{numbers, isAllowed, decided, leadOf}
 use Rattle.symbols.proofs.Words.{word-length}
 use Rattle.choosing.specs.Demand3.{exactAt, Demand3, LeadSays}
 use Rattle.choosing.specs.Scores.{scoreAt, DecidedAs}
-use Rattle.rates.specs.declared.Rate.{Rate}
+use Rattle.rules_rates.specs.declared.Rate.{Rate}
 use Rattle.choosing.proofs.Decided.{decided-best}
 use Rattle.choosing.proofs.Leads.{lead-behind}
 use Rattle.choosing.proofs.Near.{

@@ -4,7 +4,7 @@ use mathlib.Core.Path.{_≡_, refl}
 use mathlib.Core.List.{[], _∷_, map}
 use lib.ListN.{replicate}
 use lib.IntN.{pos, negℤ}
-use Rattle.rates.specs.declared.Rate.the-variants.{Eleven}
+use Rattle.rules_rates.specs.declared.Rate.the-variants.{Eleven}
 use Rattle.chips.specs.declared.Chip.the-variants.{Lost}
 use Rattle.chips.specs.Chips.{countsOf}
 use Rattle.symbols.specs.Words.{cckWord}

@@ -8,7 +8,7 @@ use lib.Dec.{T, eqb, ltb, eqb→eq, ltb→lt, lit<}
 use lib.IntN.{ℤ, pos}
 use lib.Signed.{_≤ℤ_}
 use Rattle.base.proofs.Tests.{all-at, implies, implied, both-left, both-right}
-use Rattle.rates.specs.declared.Rate.the-variants.{Five}
+use Rattle.rules_rates.specs.declared.Rate.the-variants.{Five}
 use Rattle.chips.specs.declared.Counts.{Counts}
 use Rattle.symbols.specs.Choice.{isAllowed, those, allowed, firstLargest, decided}
 use Rattle.choosing.specs.Scores.{upTo, number5, scoreAt, BestOf, NextTo, NextAs, ChosenAs}

@@ -9,8 +9,8 @@ use borrow.Author.Tests.{lt-ltb}
 use lib.ListN.{length, take, replicate}
 use lib.Seq.{take-take, length-take-le}
 use Rattle.base.specs.Below.{Below}
-use Rattle.rates.specs.declared.Rate.{Rate}
-use Rattle.rates.specs.Rates.{lengthField}
+use Rattle.rules_rates.specs.declared.Rate.{Rate}
+use Rattle.rules_rates.specs.Rates.{lengthField}
 use Rattle.chips.specs.Chips.{Taken}
 use Rattle.frame.specs.declared.Kind.{Kind}
 use Rattle.frame.specs.Frame.{isKind, kindOf, goesWith, frontChips, sentHeader, frame, frameChips}

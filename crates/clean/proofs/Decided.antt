@@ -10,8 +10,8 @@ use native.Mathlib.Nat.{le-of-suc-le-suc, not-suc-le-zero}
 use lib.Dec.{T, lit<}
 use lib.ListN.{length, take, drop, replicate, length-map}
 use lib.Seq.{take-at, drop-at}
-use Rattle.rates.specs.declared.Rate.{Rate}
-use Rattle.rates.specs.Rates.{symbolChips}
+use Rattle.rules_rates.specs.declared.Rate.{Rate}
+use Rattle.rules_rates.specs.Rates.{symbolChips}
 use Rattle.chips.specs.declared.Counts.{Counts}
 use Rattle.chips.specs.Chips.{Taken, takenCounts, fullChip}
 use Rattle.symbols.specs.Words.{wordOf}

@@ -6,9 +6,9 @@ use native.Mathlib.Omega.{arith}
 use native.Mathlib.Nat.{not-suc-le-zero, add-zero}
 use lib.Dec.{lit≤, lit<}
 use lib.ListN.{length, getD, replicate, length-append, length-replicate, getD-replicate}
-use Rattle.rates.specs.declared.Rate.{Rate}
-use Rattle.rates.specs.declared.Rate.the-variants.{One, Two, Five, Eleven}
-use Rattle.rates.specs.Rates.{symbolBits}
+use Rattle.rules_rates.specs.declared.Rate.{Rate}
+use Rattle.rules_rates.specs.declared.Rate.the-variants.{One, Two, Five, Eleven}
+use Rattle.rules_rates.specs.Rates.{symbolBits}
 use Rattle.chips.specs.Chips.{Taken}
 use Rattle.choosing.proofs.Agreement.{cleanLead}
 use Rattle.frame.specs.declared.Kind.{Kind}

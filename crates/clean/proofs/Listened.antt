@@ -7,9 +7,9 @@ use Prim.Native.Nat.{ℕ, _+_, _-_, _*_, _/_, _<_}
 use native.Mathlib.Omega.{arith}
 use lib.ListN.{length, getD, drop, replicate}
 use lib.Seq.{drop-at, drop-drop}
-use Rattle.rates.specs.declared.Rate.{Rate}
-use Rattle.rates.specs.declared.Rate.the-variants.{One, Two, Five, Eleven}
-use Rattle.rates.specs.Rates.{symbolChips, symbolBits}
+use Rattle.rules_rates.specs.declared.Rate.{Rate}
+use Rattle.rules_rates.specs.declared.Rate.the-variants.{One, Two, Five, Eleven}
+use Rattle.rules_rates.specs.Rates.{symbolChips, symbolBits}
 use Rattle.chips.specs.Chips.{Taken}
 use Rattle.bits.specs.Growths.{symbolsOf, lastPhase, heard, growthsOf, lastHeard}
 use Rattle.base.specs.Below.{Below}

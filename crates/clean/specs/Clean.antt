@@ -7,8 +7,8 @@ use lib.Dec.{T}
 use lib.ListN.{getD}
 use lib.IntN.{ℤ}
 use lib.Ieee.{Float, binary32, ofBits}
-use Rattle.rates.specs.declared.Rate.{Rate}
-use Rattle.rates.specs.declared.Rate.the-variants.{One, Two, Five, Eleven}
+use Rattle.rules_rates.specs.declared.Rate.{Rate}
+use Rattle.rules_rates.specs.declared.Rate.the-variants.{One, Two, Five, Eleven}
 use Rattle.chips.specs.declared.Sample.{Sample}
 use Rattle.chips.specs.declared.Chip.the-variants.{Soft}
 use Rattle.chips.specs.Chips.{Taken, counted, fullChip, usableSample, exactOf}

@@ -15,9 +15,9 @@ use native.Mathlib.Omega.{arith}
 use lib.ListN.{length, getD, take, drop}
 use lib.Seq.{drop-cons}
 use Rattle.base.proofs.Lists.{run-room}
-use Rattle.rates.specs.declared.Rate.{Rate}
-use Rattle.rates.specs.declared.Rate.the-variants.{One, Two, Five, Eleven}
-use Rattle.rates.specs.Rates.{symbolBits, octetSymbols}
+use Rattle.rules_rates.specs.declared.Rate.{Rate}
+use Rattle.rules_rates.specs.declared.Rate.the-variants.{One, Two, Five, Eleven}
+use Rattle.rules_rates.specs.Rates.{symbolBits, octetSymbols}
 use Rattle.chips.specs.Chips.{turned}
 use Rattle.symbols.specs.Words.{phaseOf, p2Of, p3Of, p4Of}
 use Rattle.bits.specs.Bits.{numberOf}

@@ -12,9 +12,9 @@ use native.Mathlib.Numerals.{add-one}
 use native.Mathlib.Omega.{arith}
 use lib.ListN.{length, getD, take, drop, take-append-drop, length-drop}
 use lib.Seq.{take-suc, drop-cons, length-take-le, take-at, drop-at, getD-at, split-at, drop-drop, ext-getD, take-all}
-use Rattle.rates.specs.declared.Rate.{Rate}
-use Rattle.rates.specs.Rates.{symbolBits, octetSymbols}
-use Rattle.rates.proofs.Octets.{octet-bits, part-bits}
+use Rattle.rules_rates.specs.declared.Rate.{Rate}
+use Rattle.rules_rates.specs.Rates.{symbolBits, octetSymbols}
+use Rattle.rules_rates.proofs.Octets.{octet-bits, part-bits}
 use Rattle.symbols.specs.Words.{phaseOf}
 use Rattle.bits.specs.Bits.{numberOf, octetsOf}
 use Rattle.bits.specs.Growths.{grownBy, heardBits, heard, growthsOf, lastHeard}

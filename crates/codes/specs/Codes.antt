@@ -7,9 +7,9 @@ use Prim.Native.Nat.{ℕ, zero, suc, _+_, _*_, _/_, _%_, _^_, _≤_, _<_}
 use lib.ListN.{getD, take, drop}
 use Rattle.base.specs.Below.{Below}
 use Rattle.base.specs.Tables.{tabulate}
-use Rattle.rates.specs.declared.Rate.{Rate}
-use Rattle.rates.specs.declared.Rate.the-variants.{One, Two, Five, Eleven}
-use Rattle.rates.specs.Rates.{symbolBits, octetSymbols}
+use Rattle.rules_rates.specs.declared.Rate.{Rate}
+use Rattle.rules_rates.specs.declared.Rate.the-variants.{One, Two, Five, Eleven}
+use Rattle.rules_rates.specs.Rates.{symbolBits, octetSymbols}
 use Rattle.chips.specs.Chips.{turned}
 use Rattle.symbols.specs.Words.{phaseOf, p2Of, p3Of, p4Of}
 use Rattle.symbols.specs.Choice.{numbers}

@@ -5,11 +5,11 @@ ghost use mathlib.Core.List.{[], _∷_};
 ghost use Prim.Native.Nat.{_+_, _*_, _%_, _^_, _≤_, _<_};
 ghost use lib.ListN.{length, take, drop};
 ghost use Rattle.base.specs.Below.{Below};
-ghost use Rattle.rates.specs.Rates.{symbolBits, octetSymbols};
+ghost use Rattle.rules_rates.specs.Rates.{symbolBits, octetSymbols};
 ghost use Rattle.symbols.specs.Words.{phaseOf};
 ghost use Rattle.bits.specs.Bits.{numberOf};
 ghost use Rattle.codes.specs.Codes.{grownFor, twoBits, fourBits, wordBits, packed};
-use rates::Rate;
+use rules_rates::Rate;
 
 // The phase of the word with number n: p of a Barker symbol, p1 of a CCK word.
 pub fn phase(rate: Rate, n: u8) -> u8

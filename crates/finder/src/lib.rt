@@ -14,7 +14,7 @@ use finding::Finding;
 use finding::Found;
 use finding::NotFound;
 use frame::Kind;
-use rates::Rate;
+use rules_rates::Rate;
 use recorders::Recorder;
 
 // ---- answers

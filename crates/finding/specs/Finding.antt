@@ -6,7 +6,7 @@ use mathlib.Core.Bool.{Bool, cond, not, _&&_}
 use mathlib.Core.List.{List}
 use lib.ListN.{drop}
 use lib.Dec.{leb}
-use Rattle.rates.specs.Rates.{codeOf}
+use Rattle.rules_rates.specs.Rates.{codeOf}
 use Rattle.chips.specs.Chips.{Taken}
 use Rattle.frame.specs.declared.Kind.{Kind}
 use Rattle.frame.specs.Frame.{isKind, kindOf, clockBit}

@@ -8,9 +8,9 @@ use mathlib.Core.Bool.{true, false}
 use mathlib.Core.List.{List, [], _∷_, _++_, map}
 use Prim.Native.Nat.{ℕ, _-_, _^_}
 use lib.ListN.{take, drop}
-use Rattle.rates.specs.declared.Rate.{Rate}
-use Rattle.rates.specs.declared.Rate.the-variants.{One, Two, Five, Eleven}
-use Rattle.rates.specs.Rates.{codeOf}
+use Rattle.rules_rates.specs.declared.Rate.{Rate}
+use Rattle.rules_rates.specs.declared.Rate.the-variants.{One, Two, Five, Eleven}
+use Rattle.rules_rates.specs.Rates.{codeOf}
 use Rattle.symbols.specs.Words.{barkerWord, cckWord}
 use Rattle.bits.specs.Bits.{bitsOf, octetBits}
 use Rattle.bits.specs.Growths.{growth, symbolOf, symbolsFrom, symbolsOf, chipsFrom, lastPhase}

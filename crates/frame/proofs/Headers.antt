@@ -13,7 +13,7 @@ use lib.ListN.{length, length-append}
 use mir.Val.{boolByte}
 use Rattle.base.specs.Below.{Below}
 use Rattle.base.proofs.Below.{below-append}
-use Rattle.rates.specs.declared.Rate.{Rate}
+use Rattle.rules_rates.specs.declared.Rate.{Rate}
 use Rattle.bits.specs.Bits.{bitsOf}
 use Rattle.bits.specs.Crc.{crcBits}
 use Rattle.bits.proofs.Bits.{bits-below}

@@ -5,9 +5,9 @@ use mathlib.Core.Bool.{false}
 use mathlib.Core.List.{List, [], _∷_, map}
 use Prim.Native.Nat.{ℕ}
 use lib.ListN.{take, replicate}
-use Rattle.rates.specs.declared.Rate.{Rate}
-use Rattle.rates.specs.declared.Rate.the-variants.{Five, Eleven}
-use Rattle.rates.specs.Rates.{lengthField, bit7}
+use Rattle.rules_rates.specs.declared.Rate.{Rate}
+use Rattle.rules_rates.specs.declared.Rate.the-variants.{Five, Eleven}
+use Rattle.rules_rates.specs.Rates.{lengthField, bit7}
 use Rattle.chips.specs.declared.Chip.the-variants.{Lost}
 use Rattle.chips.specs.Chips.{countsOf}
 use Rattle.symbols.specs.Words.{cckWord}

@@ -11,7 +11,7 @@ use calls::Refusal;
 use calls::Told;
 use coming::Coming;
 use frame::Kind;
-use rates::Rate;
+use rules_rates::Rate;
 use recorders::Recorder;
 
 // A refusal in numbers: all else is 0.

@@ -9,9 +9,9 @@ use Prim.Native.Nat.{ℕ, zero, suc, _+_, _-_, _*_, _/_, _%_, _≤_}
 use native.Mathlib.Omega.{arith}
 use lib.ListN.{length, take, drop, replicate, length-append}
 use lib.Seq.{drop-at, length-take-le}
-use Rattle.rates.specs.declared.Rate.{Rate}
-use Rattle.rates.specs.declared.Rate.the-variants.{One, Two}
-use Rattle.rates.specs.Rates.{symbolBits}
+use Rattle.rules_rates.specs.declared.Rate.{Rate}
+use Rattle.rules_rates.specs.declared.Rate.the-variants.{One, Two}
+use Rattle.rules_rates.specs.Rates.{symbolBits}
 use Rattle.chips.specs.Chips.{Taken}
 use Rattle.bits.specs.Bits.{octetsOf}
 use Rattle.bits.specs.Growths.{heard, growthsOf}

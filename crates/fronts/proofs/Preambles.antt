@@ -14,8 +14,8 @@ use lib.Seq.{take-take, take-all, take-at, drop-at, length-take-le}
 use borrow.Rule.Slice.PartMut.{putMid}
 use Rattle.base.specs.Over.{over}
 use Rattle.base.proofs.Below.{below-drop}
-use Rattle.rates.specs.declared.Rate.{Rate}
-use Rattle.rates.specs.declared.Rate.the-variants.{One}
+use Rattle.rules_rates.specs.declared.Rate.{Rate}
+use Rattle.rules_rates.specs.declared.Rate.the-variants.{One}
 use Rattle.chips.specs.Chips.{Taken}
 use Rattle.symbols.specs.Choice.{decided}
 use Rattle.choosing.proofs.Decided.{decided-below}

@@ -5,7 +5,7 @@ use mathlib.Core.Path.{_≡_}
 use mathlib.Core.List.{List}
 use Prim.Native.Nat.{ℕ, _+_, _≤_, _<_}
 use lib.ListN.{length, take, drop}
-use Rattle.rates.specs.declared.Rate.the-variants.{One}
+use Rattle.rules_rates.specs.declared.Rate.the-variants.{One}
 use Rattle.chips.specs.Chips.{Taken}
 use Rattle.bits.specs.Bits.{octetBits, octetsOf}
 use Rattle.bits.specs.Growths.{heard, growthsOf}

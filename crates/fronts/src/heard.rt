@@ -21,7 +21,7 @@ use calls::Least;
 use frame::Kind;
 use hearing::Part;
 use lines::Line;
-use rates::Rate;
+use rules_rates::Rate;
 use recorders::Recorder;
 
 // How many octets SYNC and the SFD are.

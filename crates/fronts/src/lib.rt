@@ -12,7 +12,7 @@ use calls::Refusal;
 use frame::Kind;
 use hearing::Part;
 use lines::Line;
-use rates::Rate;
+use rules_rates::Rate;
 use recorded::Place;
 use recorders::Recorder;
 

@@ -11,7 +11,7 @@ ghost use Rattle.recorded.specs.Columns.{ColumnSet, Columns, hardColumn};
 ghost use Rattle.recorded.specs.Recorded.{hardPart, AllUsable, DecidedAt, LeadsAt};
 use axes::Axis;
 use chips::Chip;
-use rates::Rate;
+use rules_rates::Rate;
 use units::Choice;
 
 // Whether the chip at a place is usable.

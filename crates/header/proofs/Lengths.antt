@@ -13,9 +13,9 @@ use lib.Dec.{T}
 use lib.IntN.{ℤ, pos, negsuc, negℤ, natAbs, _-ℤ_}
 use lib.Signed.{leZ, _≤ℤ_}
 use Rattle.base.proofs.Whole.{add, neg-up, neg-dn, up-pos, dn-pos, of-le}
-use Rattle.rates.specs.declared.Rate.{Rate}
-use Rattle.rates.specs.Rates.{lengthField, bit7, wholeOctets, octetsRead, isPayload, lengthHolds}
-use Rattle.rates.proofs.Lengths.{less}
+use Rattle.rules_rates.specs.declared.Rate.{Rate}
+use Rattle.rules_rates.specs.Rates.{lengthField, bit7, wholeOctets, octetsRead, isPayload, lengthHolds}
+use Rattle.rules_rates.proofs.Lengths.{less}
 use Rattle.header.specs.Code.{octetsTold}
 
 below-one : (w s : ℕ) → w ≤ s → (b : Bool) → leZ (pos 1) (pos w -ℤ pos s) ≡ b → b ≡ false

@@ -3,8 +3,8 @@
 use Prim.Native.Nat.{ℕ}
 use mathlib.Core.Bool.{cond}
 use lib.IntN.{natAbs}
-use Rattle.rates.specs.declared.Rate.{Rate}
-use Rattle.rates.specs.Rates.{octetsRead, lengthHolds}
+use Rattle.rules_rates.specs.declared.Rate.{Rate}
+use Rattle.rules_rates.specs.Rates.{octetsRead, lengthHolds}
 
 -- the octets that LENGTH and bit 7 tell, or 0 where refusal 15 comes
 unfoldable pub octetsTold : Rate → ℕ → ℕ → ℕ

@@ -3,14 +3,14 @@ use calls::Front;
 use calls::Refusal;
 use calls::Told;
 use frame::Kind;
-use rates::Rate;
+use rules_rates::Rate;
 ghost use mathlib.Core.Path.{_≡_};
 ghost use mathlib.Core.Bool.{_&&_};
 ghost use mathlib.Core.List.{[], _∷_};
 ghost use Prim.Native.Nat.{_≤_, _<_};
 ghost use lib.Dec.{eqb};
 ghost use lib.ListN.{length, take, drop};
-ghost use Rattle.rates.specs.Rates.{isCode, rateOf};
+ghost use Rattle.rules_rates.specs.Rates.{isCode, rateOf};
 ghost use Rattle.bits.specs.Bits.{numberOf, octetBits};
 ghost use Rattle.bits.specs.Crc.{crcBits};
 ghost use Rattle.frame.specs.Frame.{sfdOf, goesWith, headerBits, sentHeader};
@@ -54,7 +54,7 @@ fn octets_told(r: Rate, length: usize, seven: u8) -> usize
         return 0;
     }
     let n = whole - less;
-    if !rates::is_payload(n) {
+    if !rules_rates::is_payload(n) {
         return 0;
     }
     if r.length_field(n) != length {
@@ -70,10 +70,10 @@ fn octets_told(r: Rate, length: usize, seven: u8) -> usize
 fn signal_allowed(k: Kind, code: u64) -> bool
     ensures answer { λ b. ⌜ b ≡ (isCode code && goesWith k (rateOf code)) ⌝ }
 {
-    if !rates::is_code(code) {
+    if !rules_rates::is_code(code) {
         return false;
     }
-    kinds::goes_with(k, rates::rate_of(code))
+    kinds::goes_with(k, rules_rates::rate_of(code))
 }
 
 // What the three fields tell: refusals 13, 14 and 15, in this order.
@@ -82,7 +82,7 @@ fn fields_of(k: Kind, signal: u8, service: u8, length: usize) -> Front
     ensures answer { λ f. ⌜ f ≡ fieldsOf ours k signal service length ⌝ }
 {
     let code = signal as u64;
-    let r = rates::rate_of(code);
+    let r = rules_rates::rate_of(code);
     let coded = signal_allowed(k, code);
     let served = service_allowed(r, service);
     if !coded {

@@ -19,10 +19,10 @@ use borrow.Rule.Slice.PartMut.{putMid}
 use Rattle.base.specs.Over.{over}
 use Rattle.base.proofs.Below.{below-nil, below-cons}
 use Rattle.base.proofs.Over.{length-over, over-next}
-use Rattle.rates.specs.declared.Rate.{Rate}
-use Rattle.rates.specs.declared.Rate.the-variants.{One, Two, Five, Eleven}
-use Rattle.rates.specs.Rates.{symbolChips, symbolBits, octetSymbols, octetChips}
-use Rattle.rates.proofs.Octets.{part-symbols, part-chips, part-bits}
+use Rattle.rules_rates.specs.declared.Rate.{Rate}
+use Rattle.rules_rates.specs.declared.Rate.the-variants.{One, Two, Five, Eleven}
+use Rattle.rules_rates.specs.Rates.{symbolChips, symbolBits, octetSymbols, octetChips}
+use Rattle.rules_rates.proofs.Octets.{part-symbols, part-chips, part-bits}
 use Rattle.chips.specs.Chips.{Taken, takenCounts}
 use Rattle.symbols.specs.Choice.{numbers, decided, leadOf}
 use Rattle.choosing.proofs.Decided.{decided-below}

@@ -5,7 +5,7 @@ ghost use mathlib.Core.Option.{some};
 ghost use Prim.Native.Nat.{_+_, _*_, _^_, _≤_, _<_};
 ghost use lib.ListN.{length};
 ghost use Rattle.base.specs.Over.{over};
-ghost use Rattle.rates.specs.Rates.{octetSymbols, octetChips};
+ghost use Rattle.rules_rates.specs.Rates.{octetSymbols, octetChips};
 ghost use Rattle.reading.specs.Reading.{orElse};
 ghost use Rattle.reading.specs.Leads.{leastFrom};
 ghost use Rattle.recorders.specs.Rows.{lent};
@@ -16,7 +16,7 @@ ghost use Rattle.hearing.specs.Hearing.{partWords, partLeads, PartHeard}
 use blocks::Hearing;
 use calls::Least;
 use lines::Line;
-use rates::Rate;
+use rules_rates::Rate;
 use recorded::Place;
 use recorders::Recorder;
 

@@ -1,7 +1,7 @@
 // The two kinds of frame, and the numbers that go with a kind.
 use frame::Kind;
 use lines::Line;
-use rates::Rate;
+use rules_rates::Rate;
 ghost use mathlib.Core.Path.{_≡_};
 ghost use Prim.Native.Nat.{_≤_};
 ghost use Rattle.frame.specs.Frame.{isKind, kindOf, headerRate, goesWith, preambleChips, frontChips, frameChips};

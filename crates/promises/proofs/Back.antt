@@ -11,11 +11,11 @@ use borrow.Author.Tests.{eq-eqb, le-ltb}
 use lib.Dec.{eqb}
 use lib.ListN.{length, take, replicate, length-append}
 use lib.Seq.{take-at, take-append-le}
-use Rattle.rates.specs.declared.Rate.{Rate}
-use Rattle.rates.specs.Rates.{codeOf, isCode, rateOf, octetChips, lengthField}
-use Rattle.rates.specs.Plain.{LengthOf}
-use Rattle.rates.proofs.Lengths.{is-payload}
-use Rattle.rates.proofs.Plain.{length-only}
+use Rattle.rules_rates.specs.declared.Rate.{Rate}
+use Rattle.rules_rates.specs.Rates.{codeOf, isCode, rateOf, octetChips, lengthField}
+use Rattle.rules_rates.specs.Plain.{LengthOf}
+use Rattle.rules_rates.proofs.Lengths.{is-payload}
+use Rattle.rules_rates.proofs.Plain.{length-only}
 use Rattle.base.specs.Below.{Below}
 use Rattle.base.proofs.Below.{below-take}
 use Rattle.chips.specs.Chips.{Taken, hardRecording, softRecording, byteRecording}

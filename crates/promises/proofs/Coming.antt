@@ -10,7 +10,7 @@ use native.Mathlib.Omega.{arith}
 use borrow.Author.Tests.{le-ltb}
 use lib.Dec.{T}
 use lib.ListN.{length, take}
-use Rattle.rates.specs.Rates.{codeOf, octetChips}
+use Rattle.rules_rates.specs.Rates.{codeOf, octetChips}
 use Rattle.chips.specs.Chips.{Taken, hardRecording}
 use Rattle.chips.proofs.Recorders.{length-hard, take-hard}
 use Rattle.frame.specs.declared.Kind.{Kind}

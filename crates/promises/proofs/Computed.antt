@@ -8,7 +8,7 @@ use Prim.Native.Nat.{ℕ, _+_, _%_}
 use lib.Dec.{eqb}
 use lib.ListN.{length, take, drop, replicate}
 use lib.IntN.{ℤ}
-use Rattle.rates.specs.declared.Rate.the-variants.{Eleven}
+use Rattle.rules_rates.specs.declared.Rate.the-variants.{Eleven}
 use Rattle.chips.specs.Chips.{hardRecording, byteRecording}
 use Rattle.symbols.specs.Words.{barkerWord, cckWord}
 use Rattle.symbols.specs.Choice.{score, those, going, firstLargest, decided, others, leadOf}

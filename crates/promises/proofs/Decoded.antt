@@ -5,8 +5,8 @@ use mathlib.Core.List.{List}
 use Prim.Native.Nat.{ℕ, _+_, _-_, _*_, _<_}
 use native.Mathlib.Omega.{arith}
 use lib.ListN.{getD, replicate, List·getD-append}
-use Rattle.rates.specs.declared.Rate.{Rate}
-use Rattle.rates.specs.Rates.{rateOf}
+use Rattle.rules_rates.specs.declared.Rate.{Rate}
+use Rattle.rules_rates.specs.Rates.{rateOf}
 use Rattle.chips.specs.Chips.{Taken}
 use Rattle.frame.specs.declared.Kind.{Kind}
 use Rattle.frame.specs.Frame.{kindOf, syncBits}

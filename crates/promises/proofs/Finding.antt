@@ -11,7 +11,7 @@ use borrow.Author.Tests.{ltb-true, lt-ltb, le-ltb}
 use lib.Dec.{T}
 use lib.ListN.{length, take, drop, length-append, length-drop}
 use lib.Seq.{take-at, length-take-le}
-use Rattle.rates.specs.Rates.{codeOf, octetChips}
+use Rattle.rules_rates.specs.Rates.{codeOf, octetChips}
 use Rattle.chips.specs.Chips.{Taken, hardRecording}
 use Rattle.chips.proofs.Recorders.{length-hard, take-hard, drop-hard}
 use Rattle.frame.specs.declared.Kind.{Kind}

@@ -14,9 +14,9 @@ use lib.Seq.{length-take-le, getD-take, getD-drop}
 use lib.IntN.{ℤ}
 use lib.Ieee.{Float, nan}
 use Rattle.base.proofs.Tests.{branch, both-left, both-right}
-use Rattle.rates.specs.declared.Rate.{Rate}
-use Rattle.rates.specs.declared.Rate.the-variants.{One, Two, Five, Eleven}
-use Rattle.rates.specs.Rates.{rateOf, symbolChips}
+use Rattle.rules_rates.specs.declared.Rate.{Rate}
+use Rattle.rules_rates.specs.declared.Rate.the-variants.{One, Two, Five, Eleven}
+use Rattle.rules_rates.specs.Rates.{rateOf, symbolChips}
 use Rattle.chips.specs.Floats.{usable}
 use Rattle.chips.specs.Chips.{
   Taken,

@@ -11,12 +11,12 @@ use lib.ListN.{length}
 use lib.IntN.{pos}
 use Rattle.base.specs.Below.{Below}
 use Rattle.base.proofs.Tests.{held, left-is, right-is, branch}
-use Rattle.rates.specs.declared.Rate.{Rate}
-use Rattle.rates.specs.declared.Rate.the-variants.{One, Two, Five, Eleven}
-use Rattle.rates.specs.Rates.{codeOf, isCode, rateOf, octetChips, isPayload}
-use Rattle.rates.specs.Plain.{LengthOf}
-use Rattle.rates.proofs.Facts.{no-other-code}
-use Rattle.rates.proofs.Plain.{length-is}
+use Rattle.rules_rates.specs.declared.Rate.{Rate}
+use Rattle.rules_rates.specs.declared.Rate.the-variants.{One, Two, Five, Eleven}
+use Rattle.rules_rates.specs.Rates.{codeOf, isCode, rateOf, octetChips, isPayload}
+use Rattle.rules_rates.specs.Plain.{LengthOf}
+use Rattle.rules_rates.proofs.Facts.{no-other-code}
+use Rattle.rules_rates.proofs.Plain.{length-is}
 use Rattle.reading.proofs.Telling.{Telling, TellingWhole, TellingWholeIf, whole-telling}
 use Rattle.chips.specs.Chips.{Taken}
 use Rattle.frame.specs.declared.Kind.{Kind}

@@ -11,12 +11,12 @@ use borrow.Author.Tests.{ltb-true, ltb-false, le-ltb, eqb-true}
 use lib.Dec.{T, eqb}
 use lib.ListN.{length, drop}
 use Rattle.base.proofs.Tests.{left-is, right-is}
-use Rattle.rates.specs.declared.Rate.{Rate}
-use Rattle.rates.specs.declared.Rate.the-variants.{One, Two, Five, Eleven}
-use Rattle.rates.specs.Rates.{codeOf, isCode, rateOf, octetChips, lengthField, bit7}
-use Rattle.rates.specs.Plain.{LengthOf, SevenOf}
-use Rattle.rates.proofs.Facts.{no-other-code}
-use Rattle.rates.proofs.Plain.{length-is, seven-is, holds-any}
+use Rattle.rules_rates.specs.declared.Rate.{Rate}
+use Rattle.rules_rates.specs.declared.Rate.the-variants.{One, Two, Five, Eleven}
+use Rattle.rules_rates.specs.Rates.{codeOf, isCode, rateOf, octetChips, lengthField, bit7}
+use Rattle.rules_rates.specs.Plain.{LengthOf, SevenOf}
+use Rattle.rules_rates.proofs.Facts.{no-other-code}
+use Rattle.rules_rates.proofs.Plain.{length-is, seven-is, holds-any}
 use Rattle.chips.specs.Chips.{Taken}
 use Rattle.bits.specs.Bits.{numberOf}
 use Rattle.frame.specs.declared.Kind.{Kind}

@@ -6,7 +6,7 @@ use native.Mathlib.Decide.{decLe, ℕ-discrete}
 use native.Mathlib.Omega.{arith}
 use borrow.Author.Tests.{ltb-true}
 use lib.ListN.{length}
-use Rattle.rates.specs.Rates.{rateOf}
+use Rattle.rules_rates.specs.Rates.{rateOf}
 use Rattle.frame.specs.Frame.{kindOf, frameChips}
 use Rattle.calls.specs.declared.Written.{Written}
 use Rattle.calls.specs.Answers.{writtenOf}

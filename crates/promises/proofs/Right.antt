@@ -13,10 +13,10 @@ use lib.ListN.{length, getD, take, drop, length-drop, length-map, List·getD-map
 use lib.Seq.{drop-drop, length-take-le, getD-take, getD-drop}
 use lib.IntN.{ℤ}
 use lib.Ieee.{Float, nan}
-use Rattle.rates.specs.declared.Rate.{Rate}
-use Rattle.rates.specs.declared.Rate.the-variants.{One, Two, Five, Eleven}
-use Rattle.rates.specs.Rates.{symbolChips, symbolBits, octetChips}
-use Rattle.rates.proofs.Octets.{part-symbols, part-chips}
+use Rattle.rules_rates.specs.declared.Rate.{Rate}
+use Rattle.rules_rates.specs.declared.Rate.the-variants.{One, Two, Five, Eleven}
+use Rattle.rules_rates.specs.Rates.{symbolChips, symbolBits, octetChips}
+use Rattle.rules_rates.proofs.Octets.{part-symbols, part-chips}
 use Rattle.chips.specs.declared.Counts.{Counts}
 use Rattle.chips.specs.declared.Chip.the-variants.{Lost, Hard, Soft}
 use Rattle.chips.specs.Floats.{usable}

@@ -8,8 +8,8 @@ use native.Mathlib.Omega.{arith}
 use lib.Dec.{T}
 use lib.ListN.{length, take, drop}
 use lib.Seq.{drop-at}
-use Rattle.rates.specs.declared.Rate.{Rate}
-use Rattle.rates.specs.Rates.{rateOf, lengthField}
+use Rattle.rules_rates.specs.declared.Rate.{Rate}
+use Rattle.rules_rates.specs.Rates.{rateOf, lengthField}
 use Rattle.chips.specs.Chips.{Taken, hardRecording}
 use Rattle.chips.proofs.Recorders.{drop-hard}
 use Rattle.frame.specs.declared.Kind.{Kind}

@@ -6,8 +6,8 @@ use Prim.Native.Nat.{ℕ, _+_, _-_, _*_, _≤_, _<_}
 use native.Mathlib.Omega.{arith}
 use lib.ListN.{length, take, replicate, length-append}
 use lib.Seq.{take-at, drop-at, take-append-le, length-take-le}
-use Rattle.rates.specs.declared.Rate.{Rate}
-use Rattle.rates.specs.Rates.{codeOf, rateOf, octetChips, lengthField}
+use Rattle.rules_rates.specs.declared.Rate.{Rate}
+use Rattle.rules_rates.specs.Rates.{codeOf, rateOf, octetChips, lengthField}
 use Rattle.chips.specs.Chips.{hardRecording}
 use Rattle.chips.proofs.Recorders.{length-hard, take-hard}
 use Rattle.frame.specs.declared.Kind.{Kind}

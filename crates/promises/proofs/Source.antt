@@ -7,8 +7,8 @@ use Prim.Native.Nat.{ℕ, _+_, _-_, _≤_, _<_}
 use native.Mathlib.Omega.{arith}
 use lib.ListN.{length, getD, take, drop, replicate, take-append-drop, List·getD-append}
 use lib.Seq.{take-at}
-use Rattle.rates.specs.declared.Rate.{Rate}
-use Rattle.rates.specs.Rates.{rateOf, lengthField}
+use Rattle.rules_rates.specs.declared.Rate.{Rate}
+use Rattle.rules_rates.specs.Rates.{rateOf, lengthField}
 use Rattle.chips.specs.Chips.{turned, hardRecording}
 use Rattle.symbols.specs.Words.{barkerWord}
 use Rattle.bits.specs.Bits.{bitsOf}

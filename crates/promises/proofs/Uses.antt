@@ -9,9 +9,9 @@ use lib.ListN.{length, getD, take, drop, replicate}
 use lib.IntN.{ℤ}
 use lib.Ieee.{Float}
 use Rattle.base.specs.Below.{Below}
-use Rattle.rates.specs.declared.Rate.{Rate}
-use Rattle.rates.specs.Plain.{LengthOf, length-1, length-11}
-use Rattle.rates.proofs.Plain.{length-once}
+use Rattle.rules_rates.specs.declared.Rate.{Rate}
+use Rattle.rules_rates.specs.Plain.{LengthOf, length-1, length-11}
+use Rattle.rules_rates.proofs.Plain.{length-once}
 use Rattle.chips.specs.Chips.{Taken}
 use Rattle.frame.specs.declared.Kind.the-variants.{Long}
 use Rattle.frame.specs.Frame.{frame}

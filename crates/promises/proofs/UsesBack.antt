@@ -9,8 +9,8 @@ use lib.ListN.{length, take, replicate}
 use lib.IntN.{ℤ, pos, negℤ}
 use lib.Ieee.{Float}
 use Rattle.base.specs.Below.{Below}
-use Rattle.rates.specs.Rates.{rateOf}
-use Rattle.rates.specs.Plain.{LengthOf, length-1, length-11}
+use Rattle.rules_rates.specs.Rates.{rateOf}
+use Rattle.rules_rates.specs.Plain.{LengthOf, length-1, length-11}
 use Rattle.frame.specs.Frame.{kindOf, frame}
 use Rattle.calls.specs.declared.Written.{Written}
 use Rattle.calls.specs.declared.Record.{Record}

@@ -13,9 +13,9 @@ use lib.IntN.{ℤ, pos, _+ℤ_}
 use lib.Signed.{_≤ℤ_, _<ℤ_}
 use lib.Ieee.{Float, nan}
 use Rattle.base.proofs.Whole.{of-le, le-of, add, up-pos, dn-pos}
-use Rattle.rates.specs.declared.Rate.{Rate}
-use Rattle.rates.specs.declared.Rate.the-variants.{One, Two, Five, Eleven}
-use Rattle.rates.specs.Rates.{rateOf, symbolChips}
+use Rattle.rules_rates.specs.declared.Rate.{Rate}
+use Rattle.rules_rates.specs.declared.Rate.the-variants.{One, Two, Five, Eleven}
+use Rattle.rules_rates.specs.Rates.{rateOf, symbolChips}
 use Rattle.chips.specs.Floats.{usable}
 use Rattle.chips.specs.Chips.{Taken, hardRecording, softRecording, byteRecording}
 use Rattle.symbols.specs.Choice.{numbers, isAllowed}

@@ -8,7 +8,7 @@ use mathlib.Core.List.{List}
 use lib.ListN.{length}
 use lib.IntN.{ℤ}
 use Rattle.base.specs.Below.{Below}
-use Rattle.rates.specs.Plain.{LengthOf}
+use Rattle.rules_rates.specs.Plain.{LengthOf}
 use Rattle.chips.specs.Chips.{Taken}
 use Rattle.calls.specs.declared.Written.{Written}
 use Rattle.calls.specs.declared.Record.{Record}

@@ -13,8 +13,8 @@ use lib.ListN.{length, take, drop, replicate}
 use lib.Dec.{T}
 use lib.Ieee.{Float}
 use Rattle.base.specs.Below.{Below}
-use Rattle.rates.specs.Rates.{rateOf}
-use Rattle.rates.specs.Plain.{LengthOf}
+use Rattle.rules_rates.specs.Rates.{rateOf}
+use Rattle.rules_rates.specs.Plain.{LengthOf}
 use Rattle.chips.specs.Floats.{usable, valueOf, countOf, Nearest}
 use Rattle.chips.specs.Chips.{Taken}
 use Rattle.calls.specs.declared.Written.{Written}

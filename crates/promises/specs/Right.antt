@@ -11,9 +11,9 @@ use lib.ListN.{length, getD, take, drop}
 use lib.Dec.{T}
 use lib.IntN.{ℤ}
 use lib.Ieee.{Float, nan}
-use Rattle.rates.specs.declared.Rate.{Rate}
-use Rattle.rates.specs.declared.Rate.the-variants.{One}
-use Rattle.rates.specs.Rates.{symbolChips, symbolBits}
+use Rattle.rules_rates.specs.declared.Rate.{Rate}
+use Rattle.rules_rates.specs.declared.Rate.the-variants.{One}
+use Rattle.rules_rates.specs.Rates.{symbolChips, symbolBits}
 use Rattle.chips.specs.declared.Counts.{Counts}
 use Rattle.chips.specs.declared.Chip.the-variants.{Soft}
 use Rattle.chips.specs.Floats.{usable}

@@ -4,7 +4,7 @@ use mathlib.Core.List.{List, _++_}
 use mathlib.Core.Option.{Option, none, some}
 use Prim.Native.Nat.{ℕ, _-_}
 use lib.ListN.{replicate}
-use Rattle.rates.specs.declared.Rate.{Rate}
+use Rattle.rules_rates.specs.declared.Rate.{Rate}
 use Rattle.chips.specs.Chips.{Taken}
 use Rattle.frame.specs.declared.Kind.{Kind}
 use Rattle.calls.specs.declared.Refusal.the-variants.{OddGrowth}

@@ -2,7 +2,7 @@
 ghost use mathlib.Core.Path.{_≡_};
 ghost use Prim.Native.Nat.{_*_, _≤_};
 ghost use lib.ListN.{length, replicate};
-ghost use Rattle.rates.specs.Rates.{octetChips};
+ghost use Rattle.rules_rates.specs.Rates.{octetChips};
 ghost use Rattle.frame.specs.Frame.{frontChips, frameChips};
 ghost use Rattle.reading.specs.Reading.{payloadOdd, payloadReading, octetsAfter};
 ghost use Rattle.reading.specs.Leads.{frontLeads, frameLeads, leastOf};
@@ -18,7 +18,7 @@ use calls::Told;
 use frame::Kind;
 use hearing::Part;
 use lines::Line;
-use rates::Rate;
+use rules_rates::Rate;
 use recorded::Place;
 use recorders::Recorder;
 

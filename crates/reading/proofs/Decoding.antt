@@ -10,10 +10,10 @@ use native.Mathlib.Omega.{arith}
 use borrow.Author.Tests.{lt-ltb, le-ltb}
 use lib.ListN.{length, getD, take, drop, length-append, List·getD-append}
 use lib.Seq.{getD-append-add, drop-drop}
-use Rattle.rates.specs.declared.Rate.{Rate}
-use Rattle.rates.specs.declared.Rate.the-variants.{One}
-use Rattle.rates.specs.Rates.{symbolChips, symbolBits, octetSymbols}
-use Rattle.rates.proofs.Octets.{part-symbols, part-bits}
+use Rattle.rules_rates.specs.declared.Rate.{Rate}
+use Rattle.rules_rates.specs.declared.Rate.the-variants.{One}
+use Rattle.rules_rates.specs.Rates.{symbolChips, symbolBits, octetSymbols}
+use Rattle.rules_rates.proofs.Octets.{part-symbols, part-bits}
 use Rattle.chips.specs.Chips.{Taken}
 use Rattle.symbols.specs.Words.{phaseOf}
 use Rattle.bits.specs.Bits.{numberOf, _⊕_}

@@ -11,8 +11,8 @@ use lib.ListN.{length, take, drop, length-drop, take-append-drop}
 use lib.Seq.{length-take-le, drop-drop, take-all, take-append-add}
 use Rattle.base.specs.Below.{Below}
 use Rattle.base.proofs.Below.{below-take, below-drop}
-use Rattle.rates.specs.declared.Rate.{Rate}
-use Rattle.rates.specs.declared.Rate.the-variants.{One}
+use Rattle.rules_rates.specs.declared.Rate.{Rate}
+use Rattle.rules_rates.specs.declared.Rate.the-variants.{One}
 use Rattle.chips.specs.Chips.{Taken}
 use Rattle.bits.specs.Bits.{bitsOf, numberOf}
 use Rattle.bits.specs.Crc.{crcBits}

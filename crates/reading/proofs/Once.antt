@@ -10,8 +10,8 @@ use native.Mathlib.Decide.{decLt}
 use native.Mathlib.Omega.{arith}
 use lib.ListN.{getD}
 use Rattle.base.proofs.Tables.{tabulate-ext}
-use Rattle.rates.specs.declared.Rate.{Rate}
-use Rattle.rates.specs.Rates.{symbolBits}
+use Rattle.rules_rates.specs.declared.Rate.{Rate}
+use Rattle.rules_rates.specs.Rates.{symbolBits}
 use Rattle.chips.specs.Chips.{Taken}
 use Rattle.bits.specs.Bits.{numberOf}
 use Rattle.frame.specs.declared.Kind.{Kind}

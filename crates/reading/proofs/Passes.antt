@@ -15,9 +15,9 @@ use native.Mathlib.Omega.{arith}
 use lib.ListN.{length, take, drop}
 use lib.Seq.{take-take, drop-drop}
 use lib.Dec.{eqb}
-use Rattle.rates.specs.declared.Rate.{Rate}
-use Rattle.rates.specs.declared.Rate.the-variants.{One, Two, Five, Eleven}
-use Rattle.rates.specs.Rates.{symbolChips}
+use Rattle.rules_rates.specs.declared.Rate.{Rate}
+use Rattle.rules_rates.specs.declared.Rate.the-variants.{One, Two, Five, Eleven}
+use Rattle.rules_rates.specs.Rates.{symbolChips}
 use Rattle.chips.specs.Chips.{Taken}
 use Rattle.bits.specs.Growths.{growthBits}
 use Rattle.bits.specs.Scrambler.{descramble}

@@ -13,7 +13,7 @@ use native.Mathlib.Omega.{arith}
 use borrow.Author.Tests.{ltb-true, ltb-false}
 use lib.Dec.{ltb}
 use lib.ListN.{length, take, drop}
-use Rattle.rates.specs.Rates.{rateOf, lengthHolds}
+use Rattle.rules_rates.specs.Rates.{rateOf, lengthHolds}
 use Rattle.chips.specs.Chips.{Taken}
 use Rattle.bits.specs.Bits.{numberOf}
 use Rattle.bits.specs.Crc.{crcBits}

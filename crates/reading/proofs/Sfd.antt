@@ -11,9 +11,9 @@ use native.Mathlib.Omega.{arith}
 use lib.ListN.{length, getD, take, drop, length-append, length-drop, List·getD-append}
 use lib.Seq.{getD-take, getD-drop, drop-drop, length-take-le}
 use Rattle.base.proofs.Below.{below-take, below-drop}
-use Rattle.rates.specs.declared.Rate.{Rate}
-use Rattle.rates.specs.declared.Rate.the-variants.{One}
-use Rattle.rates.specs.Rates.{symbolChips}
+use Rattle.rules_rates.specs.declared.Rate.{Rate}
+use Rattle.rules_rates.specs.declared.Rate.the-variants.{One}
+use Rattle.rules_rates.specs.Rates.{symbolChips}
 use Rattle.chips.specs.Chips.{Taken, takenCounts}
 use Rattle.symbols.specs.Choice.{decided}
 use Rattle.bits.specs.Bits.{_⊕_, bitsOf, numberOf}

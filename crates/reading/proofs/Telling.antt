@@ -9,7 +9,7 @@ use Prim.Native.Nat.{ℕ, _≤_}
 use lib.Dec.{ltb, nltb→le}
 use lib.ListN.{length, take}
 use Rattle.base.proofs.Tests.{branch}
-use Rattle.rates.specs.Rates.{lengthField}
+use Rattle.rules_rates.specs.Rates.{lengthField}
 use Rattle.chips.specs.Chips.{Taken}
 use Rattle.frame.specs.declared.Kind.{Kind}
 use Rattle.frame.specs.Frame.{goesWith, frontChips, frameChips}

@@ -7,9 +7,9 @@ use mathlib.Core.Bool.{not}
 use mathlib.Core.List.{List, map}
 use lib.ListN.{length, getD, take, drop}
 use lib.Dec.{T}
-use Rattle.rates.specs.declared.Rate.{Rate}
-use Rattle.rates.specs.declared.Rate.the-variants.{One}
-use Rattle.rates.specs.Rates.{symbolChips}
+use Rattle.rules_rates.specs.declared.Rate.{Rate}
+use Rattle.rules_rates.specs.declared.Rate.the-variants.{One}
+use Rattle.rules_rates.specs.Rates.{symbolChips}
 use Rattle.chips.specs.Chips.{Taken, unusable, isUnusable, takenCounts}
 use Rattle.symbols.specs.Choice.{decided}
 use Rattle.bits.specs.Growths.{grownBy}

@@ -10,9 +10,9 @@ use lib.ListN.{length, getD, set, length-set}
 use lib.Seq.{getD-set-same, getD-set-other}
 use Rattle.base.specs.Tables.{tabulate}
 use Rattle.base.proofs.Tables.{length-tabulate, getD-tabulate}
-use Rattle.rates.specs.declared.Rate.{Rate}
-use Rattle.rates.specs.declared.Rate.the-variants.{One, Two}
-use Rattle.rates.specs.Rates.{symbolChips}
+use Rattle.rules_rates.specs.declared.Rate.{Rate}
+use Rattle.rules_rates.specs.declared.Rate.the-variants.{One, Two}
+use Rattle.rules_rates.specs.Rates.{symbolChips}
 use Rattle.chips.specs.Chips.{Taken}
 use Rattle.symbols.specs.Choice.{decided, leadOf}
 use Rattle.choosing.proofs.Decided.{decided-barker}

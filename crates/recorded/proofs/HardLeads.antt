@@ -7,8 +7,8 @@ use native.Mathlib.Nat.{mul-le-mul-left, mul-suc}
 use native.Mathlib.Omega.{arith}
 use lib.ListN.{length, getD, take, drop}
 use Rattle.base.proofs.Tables.{length-tabulate}
-use Rattle.rates.specs.declared.Rate.{Rate}
-use Rattle.rates.specs.Rates.{symbolChips}
+use Rattle.rules_rates.specs.declared.Rate.{Rate}
+use Rattle.rules_rates.specs.Rates.{symbolChips}
 use Rattle.chips.specs.declared.Counts.{Counts}
 use Rattle.chips.specs.Chips.{takenCounts, hardChip, hardRecording}
 use Rattle.axes.specs.Axes.{unitOf}

@@ -4,12 +4,12 @@ ghost use mathlib.Core.Path.{_≡_};
 ghost use mathlib.Core.Bool.{true, not};
 ghost use Prim.Native.Nat.{_+_, _*_, _-_, _≤_, _<_};
 ghost use lib.ListN.{length, getD, take, drop};
-ghost use Rattle.rates.specs.Rates.{symbolChips};
+ghost use Rattle.rules_rates.specs.Rates.{symbolChips};
 ghost use Rattle.chips.specs.Chips.{unusable, isUnusable};
 ghost use Rattle.reading.specs.Reading.{firstUnusable};
 ghost use Rattle.recorders.specs.Rows.{lent};
 ghost use Rattle.recorded.specs.Recorded.{whereFound, AllUsable, DecidedAt, LeadsAt};
-use rates::Rate;
+use rules_rates::Rate;
 use recorded::Place;
 
 // What recorded the chips. A hard recording is the row of octets, a soft one two rows of f32, one of bytes the row of

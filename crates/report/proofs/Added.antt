@@ -14,9 +14,9 @@ use lib.ListN.{length, getD, length-append}
 use lib.Seq.{ext-getD}
 use Rattle.base.specs.Tables.{tabulate}
 use Rattle.base.proofs.Tables.{length-tabulate, getD-tabulate, tabulate-ext}
-use Rattle.rates.specs.declared.Rate.{Rate}
-use Rattle.rates.specs.declared.Rate.the-variants.{One, Two, Five, Eleven}
-use Rattle.rates.specs.Rates.{codeOf, rateOf}
+use Rattle.rules_rates.specs.declared.Rate.{Rate}
+use Rattle.rules_rates.specs.declared.Rate.the-variants.{One, Two, Five, Eleven}
+use Rattle.rules_rates.specs.Rates.{codeOf, rateOf}
 use Rattle.report.specs.Totals.{
   Outcome,
   total,

@@ -8,9 +8,9 @@ use mathlib.Core.Option.{Option, none, some}
 use lib.ListN.{length, getD, take, replicate}
 use lib.Dec.{eqb, ltb, leb}
 use Rattle.base.specs.Tables.{tabulate}
-use Rattle.rates.specs.declared.Rate.{Rate}
-use Rattle.rates.specs.declared.Rate.the-variants.{One, Two, Five, Eleven}
-use Rattle.rates.specs.Rates.{codeOf, rateOf}
+use Rattle.rules_rates.specs.declared.Rate.{Rate}
+use Rattle.rules_rates.specs.declared.Rate.the-variants.{One, Two, Five, Eleven}
+use Rattle.rules_rates.specs.Rates.{codeOf, rateOf}
 use Rattle.report.specs.Totals.{
   Recording,
   Outcome,

@@ -10,10 +10,10 @@ use native.Mathlib.Omega.{arith}
 use lib.Dec.{lit≤}
 use lib.ListN.{length, getD, set, take, replicate}
 use Rattle.chips.specs.Chips.{hardRecording}
-use Rattle.rates.specs.declared.Rate.{Rate}
-use Rattle.rates.specs.declared.Rate.the-variants.{One, Two, Five, Eleven}
-use Rattle.rates.specs.Rates.{codeOf, rateOf}
-use Rattle.rates.specs.Plain.{LengthOf}
+use Rattle.rules_rates.specs.declared.Rate.{Rate}
+use Rattle.rules_rates.specs.declared.Rate.the-variants.{One, Two, Five, Eleven}
+use Rattle.rules_rates.specs.Rates.{codeOf, rateOf}
+use Rattle.rules_rates.specs.Plain.{LengthOf}
 use Rattle.calls.specs.declared.Written.{Written}
 use Rattle.calls.specs.declared.Record.{Record}
 use Rattle.reading.specs.Reading.{octetsFound}

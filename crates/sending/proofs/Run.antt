@@ -8,9 +8,9 @@ use Prim.Native.Nat.{ℕ, suc, _+_, _*_}
 use native.Mathlib.Nat.{mul-suc, mul-zero, add-zero}
 use native.Mathlib.Omega.{arith}
 use lib.ListN.{length, length-append}
-use Rattle.rates.specs.declared.Rate.{Rate}
-use Rattle.rates.specs.declared.Rate.the-variants.{One, Two, Five, Eleven}
-use Rattle.rates.specs.Rates.{octetChips}
+use Rattle.rules_rates.specs.declared.Rate.{Rate}
+use Rattle.rules_rates.specs.declared.Rate.the-variants.{One, Two, Five, Eleven}
+use Rattle.rules_rates.specs.Rates.{octetChips}
 use Rattle.symbols.specs.Words.{barkerWord, cckWord}
 use Rattle.bits.specs.Bits.{bitsOf}
 use Rattle.bits.specs.Growths.{symbolOf, symbolsFrom, chipsFrom}

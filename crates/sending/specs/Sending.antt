@@ -4,8 +4,8 @@
 -- working notion: of the code that sends octets; no promise needs it
 use Prim.Native.Nat.{ℕ, suc, _*_}
 use mathlib.Core.List.{List, [], _∷_, _++_, reverse}
-use Rattle.rates.specs.declared.Rate.{Rate}
-use Rattle.rates.specs.Rates.{octetSymbols}
+use Rattle.rules_rates.specs.declared.Rate.{Rate}
+use Rattle.rules_rates.specs.Rates.{octetSymbols}
 use Rattle.bits.specs.Bits.{bitsOf}
 use Rattle.bits.specs.Growths.{Symbol, symbolsFrom, chipsFrom, lastPhase}
 use Rattle.bits.specs.Scrambler.{scramble}

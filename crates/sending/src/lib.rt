@@ -1,12 +1,12 @@
 // Octets as chips: each octet scrambled, cut into symbols at a rate, and written as words over a buffer's front.
 use lines::Line;
-use rates::Rate;
+use rules_rates::Rate;
 ghost use mathlib.Core.Path.{_≡_};
 ghost use Prim.Native.Nat.{_+_, _*_, _/_, _%_, _≤_};
 ghost use lib.ListN.{length};
 ghost use Rattle.base.specs.Over.{over};
 ghost use Rattle.base.specs.Tables.{tabulate};
-ghost use Rattle.rates.specs.Rates.{octetSymbols, octetChips};
+ghost use Rattle.rules_rates.specs.Rates.{octetSymbols, octetChips};
 ghost use Rattle.chips.specs.Chips.{turned};
 ghost use Rattle.symbols.specs.Words.{barkerWord};
 ghost use Rattle.bits.specs.Bits.{bitsOf};

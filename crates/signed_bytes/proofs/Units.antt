@@ -12,8 +12,8 @@ use lib.ListN.{length, getD, take, drop}
 use lib.IntN.{ℤ, pos}
 use Rattle.base.specs.Tables.{tabulate}
 use Rattle.base.proofs.Tables.{length-tabulate, getD-tabulate, tabulate-ext, map-tabulate}
-use Rattle.rates.specs.declared.Rate.{Rate}
-use Rattle.rates.specs.declared.Rate.the-variants.{One}
+use Rattle.rules_rates.specs.declared.Rate.{Rate}
+use Rattle.rules_rates.specs.declared.Rate.the-variants.{One}
 use Rattle.axes.specs.declared.Axis.the-variants.{I, Q}
 use Rattle.axes.specs.Axes.{along}
 use Rattle.chips.specs.declared.Counts.{Counts}

@@ -13,7 +13,7 @@ ghost use Rattle.sums.specs.Sums.{everyRow};
 ghost use Rattle.recorded.specs.Recorded.{DecidedAt, LeadsAt, Put};
 ghost use Rattle.signed_bytes.specs.Rows.{barkerAt, fiveAt};
 use byte_choice::Choice;
-use rates::Rate;
+use rules_rates::Rate;
 
 // A byte as a wider number.
 fn wide(b: i8) -> i16

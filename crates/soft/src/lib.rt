@@ -12,7 +12,7 @@ use axes::Axis;
 use chips::Chip;
 use chips::Sample;
 use choice::Choice;
-use rates::Rate;
+use rules_rates::Rate;
 
 // Whether the chip at a place is usable.
 pub fn usable_at(i: &[f32], q: &[f32], at: usize) -> bool

@@ -5,8 +5,8 @@ use mathlib.Core.Path.{_≡_}
 use mathlib.Core.List.{List, [], _++_}
 use Prim.Native.Nat.{ℕ, zero, suc, _+_}
 use lib.ListN.{length, getD, take, drop}
-use Rattle.rates.specs.declared.Rate.the-variants.{Eleven}
-use Rattle.rates.specs.Rates.{codeOf}
+use Rattle.rules_rates.specs.declared.Rate.the-variants.{Eleven}
+use Rattle.rules_rates.specs.Rates.{codeOf}
 use Rattle.report.specs.Report.{codes}
 use Rattle.report.specs.Text.{word, decimal, rateLine}
 

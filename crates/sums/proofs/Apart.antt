@@ -9,8 +9,8 @@ use lib.ListN.{length, getD, List·getD-map}
 use lib.IntN.{ℤ, pos}
 use Rattle.base.specs.Whole.{up, dn, Within}
 use Rattle.base.proofs.Tables.{tabulate-ext, map-tabulate}
-use Rattle.rates.specs.declared.Rate.{Rate}
-use Rattle.rates.specs.declared.Rate.the-variants.{One}
+use Rattle.rules_rates.specs.declared.Rate.{Rate}
+use Rattle.rules_rates.specs.declared.Rate.the-variants.{One}
 use Rattle.axes.specs.declared.Axis.{Axis}
 use Rattle.axes.specs.declared.Axis.the-variants.{I, Q}
 use Rattle.chips.specs.declared.Counts.{Counts}

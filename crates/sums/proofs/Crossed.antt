@@ -13,7 +13,7 @@ use mir.Syntax.{Width}
 use mir.Val.{SFits, toZ, ofZ, hbits}
 use Rattle.base.proofs.Whole.{add, same, up-pos, dn-pos}
 use Rattle.base.specs.Tables.{tabulate}
-use Rattle.rates.specs.declared.Rate.the-variants.{Five}
+use Rattle.rules_rates.specs.declared.Rate.the-variants.{Five}
 use Rattle.symbols.specs.Words.{cckWord}
 use Rattle.symbols.specs.Choice.{score}
 use Rattle.choosing.specs.Scores.{RowWithin, scoreAt, number5}

@@ -10,7 +10,7 @@ use Rattle.base.specs.Whole.{Within}
 use Rattle.base.specs.Tables.{tabulate}
 use Rattle.base.proofs.Tables.{getD-tabulate, tabulate-all}
 use Rattle.base.proofs.Whole.{within-zero}
-use Rattle.rates.specs.declared.Rate.the-variants.{Five}
+use Rattle.rules_rates.specs.declared.Rate.the-variants.{Five}
 use Rattle.chips.specs.declared.Counts.{Counts}
 use Rattle.chips.specs.Chips.{pair, nothing}
 use Rattle.chips.specs.Bounds.{Bounded}

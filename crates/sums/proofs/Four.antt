@@ -4,7 +4,7 @@ use mathlib.Core.Path.{_≡_}
 use Prim.Native.Nat.{ℕ, zero, suc, _-_, _/_, _%_, _<_}
 use native.Mathlib.Omega.{arith}
 use lib.IntN.{ℤ, negℤ, natAbs, +ℤ-idr}
-use Rattle.rates.specs.declared.Rate.the-variants.{One}
+use Rattle.rules_rates.specs.declared.Rate.the-variants.{One}
 use Rattle.symbols.specs.Words.{barkerWord}
 use Rattle.symbols.specs.Choice.{score, term}
 use Rattle.chips.specs.Chips.{pair}

@@ -18,7 +18,7 @@ use mir.Facts.{toZ-ofZ}
 use Rattle.base.specs.Whole.{Within}
 use Rattle.base.proofs.Whole.{fits-at, within-add, within-neg, within-zero, within-more}
 use Rattle.base.proofs.Tests.{all-at, implies, implied}
-use Rattle.rates.specs.declared.Rate.the-variants.{One}
+use Rattle.rules_rates.specs.declared.Rate.the-variants.{One}
 use Rattle.chips.specs.declared.Counts.{Counts}
 use Rattle.chips.specs.Chips.{pair}
 use Rattle.axes.specs.declared.Axis.{Axis}

@@ -21,7 +21,7 @@ use borrow.Author.Tests.{le-leb, lt-leb, ne-eqb}
 use Rattle.base.specs.Tables.{tabulate}
 use Rattle.base.specs.Whole.{up, dn}
 use Rattle.base.proofs.Whole.{up-pos, dn-pos, add, neg-up, neg-dn, of-le, of-lt}
-use Rattle.rates.specs.declared.Rate.the-variants.{One}
+use Rattle.rules_rates.specs.declared.Rate.the-variants.{One}
 use Rattle.axes.specs.declared.Axis.{Axis}
 use Rattle.axes.specs.declared.Axis.the-variants.{I, Q}
 use Rattle.axes.specs.Axes.{along, unitsAlong}

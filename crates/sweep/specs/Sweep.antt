@@ -10,7 +10,7 @@ use lib.Dec.{leb}
 use lib.ListN.{length, getD}
 use mir.Val.{boolByte}
 use Rattle.base.specs.Tables.{tabulate}
-use Rattle.rates.specs.declared.Rate.the-variants.{One}
+use Rattle.rules_rates.specs.declared.Rate.the-variants.{One}
 use Rattle.chips.specs.Chips.{Taken}
 use Rattle.symbols.specs.Choice.{decided}
 use Rattle.bits.specs.Bits.{_⊕_, numberOf}

@@ -6,9 +6,9 @@ use Prim.Native.Nat.{ℕ}
 use lib.ListN.{getD, replicate}
 use lib.IntN.{ℤ, pos, negℤ}
 use Rattle.base.specs.Tables.{tabulate}
-use Rattle.rates.specs.declared.Rate.{Rate}
-use Rattle.rates.specs.declared.Rate.the-variants.{One, Two, Five, Eleven}
-use Rattle.rates.specs.Rates.{symbolChips}
+use Rattle.rules_rates.specs.declared.Rate.{Rate}
+use Rattle.rules_rates.specs.declared.Rate.the-variants.{One, Two, Five, Eleven}
+use Rattle.rules_rates.specs.Rates.{symbolChips}
 use Rattle.chips.specs.declared.Counts.{Counts}
 use Rattle.chips.specs.Chips.{pair, nothing, fullChip}
 use Rattle.symbols.specs.Words.{barkerWord, cckWord, cckNumber, p1Of, p2Of, p3Of, p4Of, wordOf, phaseOf}

@@ -8,8 +8,8 @@ use native.Mathlib.Omega.{arith}
 use lib.ListN.{getD}
 use lib.Dec.{eqb, eqb→eq}
 use Rattle.base.proofs.Tests.{all-at}
-use Rattle.rates.specs.declared.Rate.{Rate}
-use Rattle.rates.specs.declared.Rate.the-variants.{One, Two, Five, Eleven}
+use Rattle.rules_rates.specs.declared.Rate.{Rate}
+use Rattle.rules_rates.specs.declared.Rate.the-variants.{One, Two, Five, Eleven}
 use Rattle.symbols.specs.Words.{barkerWord, cckWord, cckNumber, cckOf, p1Of, p2Of, p3Of, p4Of, wordOf}
 use Rattle.symbols.specs.Choice.{numbers}
 use Rattle.symbols.proofs.Words.{turn}

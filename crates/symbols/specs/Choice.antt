@@ -9,8 +9,8 @@ use lib.ListN.{getD}
 use lib.Dec.{eqb}
 use lib.IntN.{ℤ, pos, negℤ, natAbs, _+ℤ_, _-ℤ_}
 use lib.Signed.{ltZ}
-use Rattle.rates.specs.declared.Rate.{Rate}
-use Rattle.rates.specs.declared.Rate.the-variants.{One, Two, Five, Eleven}
+use Rattle.rules_rates.specs.declared.Rate.{Rate}
+use Rattle.rules_rates.specs.declared.Rate.the-variants.{One, Two, Five, Eleven}
 use Rattle.chips.specs.declared.Counts.{Counts}
 use Rattle.symbols.specs.Words.{wordOf, p2Of, p3Of, p4Of}
 

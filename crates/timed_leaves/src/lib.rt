@@ -2,12 +2,12 @@
 ghost use mathlib.Core.Path.{_≡_};
 ghost use Prim.Native.Nat.{min, _≤_};
 ghost use lib.ListN.{length};
-ghost use Rattle.rates.specs.Rates.{symbolChips};
+ghost use Rattle.rules_rates.specs.Rates.{symbolChips};
 ghost use Rattle.chips.specs.Floats.{countOf};
 ghost use Rattle.chips.specs.Chips.{softRecording};
 ghost use Rattle.recorders.specs.Rows.{lent};
 ghost use Rattle.timed_leaves.specs.Leaves.{firstWord, decidedSoft, lastWord, recorderOf, decidedLast, CountsRow};
-use rates::Rate;
+use rules_rates::Rate;
 use recorded::Place;
 use recorders::Recorder;
 
@@ -90,10 +90,10 @@ pub extern "C" fn timed_decide(rate: u64, i: &[f32], q: &[f32]) -> u64
     let row = &octet[0..0];
     let byte = [0i8; 1];
     let bytes = &byte[0..0];
-    if !rates::is_code(rate) {
+    if !rules_rates::is_code(rate) {
         return 0;
     }
-    let r = rates::rate_of(rate);
+    let r = rules_rates::rate_of(rate);
     if recorders::chip_count(Recorder::Soft, row, bytes, i, q) < r.symbol_chips() {
         return 0;
     }

@@ -4,7 +4,7 @@
 // calls `decide_barker` or `decide_five`.
 use axes::Axis;
 use chips::Chip;
-use rates::Rate;
+use rules_rates::Rate;
 ghost use mathlib.Core.Path.{_≡_};
 ghost use Prim.Native.Nat.{_+_, _*_, _-_, _/_, _%_, _<_, _≤_};
 ghost use mathlib.Core.List.{map};

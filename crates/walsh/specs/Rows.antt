@@ -11,7 +11,7 @@ use Rattle.base.specs.Whole.{Within}
 use Rattle.chips.specs.declared.Counts.{Counts}
 use Rattle.chips.specs.Chips.{pair}
 use Rattle.chips.specs.Bounds.{Bounded}
-use Rattle.rates.specs.declared.Rate.the-variants.{Eleven}
+use Rattle.rules_rates.specs.declared.Rate.the-variants.{Eleven}
 use Rattle.symbols.specs.Choice.{decided, leadOf}
 use Rattle.sums.specs.Sums.{rows, everyRow}
 use Rattle.walsh.specs.Turns.{fly}

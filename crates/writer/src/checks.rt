@@ -9,11 +9,11 @@ pub fn check_write(kind: u64, rate: u64, phase: u64, n: usize, room: usize) -> W
     ensures answer { λ r. ⌜ r ≡ writingOf kind rate phase n room ⌝ }
 {
     let known = kinds::is_kind(kind);
-    let coded = rates::is_code(rate);
+    let coded = rules_rates::is_code(rate);
     let k = kinds::kind_of(kind);
-    let r = rates::rate_of(rate);
+    let r = rules_rates::rate_of(rate);
     let goes = kinds::goes_with(k, r);
-    let sized = rates::is_payload(n);
+    let sized = rules_rates::is_payload(n);
     if !known {
         return Writing::Refused(Refusal::NoKind);
     }

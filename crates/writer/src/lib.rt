@@ -4,7 +4,7 @@ use calls::Writing;
 use calls::Written;
 use frame::Kind;
 use lines::Line;
-use rates::Rate;
+use rules_rates::Rate;
 ghost use mathlib.Core.Path.{_≡_};
 ghost use mathlib.Core.List.{_++_};
 ghost use Prim.Native.Nat.{_-_, _≤_};

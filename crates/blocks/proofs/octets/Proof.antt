@@ -8,8 +8,8 @@ use native.Mathlib.Omega.{arith}
 use lib.ListN.{take, drop}
 use Rattle.base.specs.Tables.{Filled, tabulate}
 use Rattle.base.proofs.Tables.{filled-more}
-use Rattle.rates.specs.declared.Rate.{Rate}
-use Rattle.rates.specs.Rates.{symbolBits, octetSymbols}
+use Rattle.rules_rates.specs.declared.Rate.{Rate}
+use Rattle.rules_rates.specs.Rates.{symbolBits, octetSymbols}
 use borrow.Author.Needs.{needs}
 use Rattle.codes.specs.Codes.{packed, octetAfter}
 use Rattle.codes.proofs.Codes.{octet-room}

@@ -3,7 +3,7 @@ use mathlib.Core.Path.{_≡_}
 use Prim.Native.Nat.{ℕ, _-_}
 use mir.Val.{boolByte}
 use borrow.Author.Needs.{needs}
-use Rattle.rates.specs.Rates.{codeOf}
+use Rattle.rules_rates.specs.Rates.{codeOf}
 use Rattle.frame.specs.declared.Kind.{Kind}
 use Rattle.frame.specs.Frame.{frontChips, frameChips}
 use Rattle.frame.proofs.Headers.{clock-byte}

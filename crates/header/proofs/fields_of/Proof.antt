@@ -4,8 +4,8 @@ use mathlib.Core.Path.{_≡_, ap, _∙_}
 use mathlib.Core.Bool.{true, _&&_}
 use Prim.Native.Nat.{_/_, _%_}
 use borrow.Author.Needs.{needs}
-use Rattle.rates.specs.declared.Rate.{Rate}
-use Rattle.rates.specs.Rates.{isCode, rateOf}
+use Rattle.rules_rates.specs.declared.Rate.{Rate}
+use Rattle.rules_rates.specs.Rates.{isCode, rateOf}
 use Rattle.frame.specs.Frame.{goesWith}
 use Rattle.calls.specs.Headers.{serviceAllowed, fieldsOf}
 use Rattle.header.specs.Code.{octetsTold}

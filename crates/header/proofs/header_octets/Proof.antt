@@ -4,8 +4,8 @@ use mathlib.Core.Bool.{Bool}
 use Prim.Native.Nat.{ℕ, _+_, _*_}
 use native.Mathlib.Omega.{arith}
 use borrow.Author.Needs.{needs}
-use Rattle.rates.specs.declared.Rate.{Rate}
-use Rattle.rates.specs.Rates.{codeOf, lengthField}
+use Rattle.rules_rates.specs.declared.Rate.{Rate}
+use Rattle.rules_rates.specs.Rates.{codeOf, lengthField}
 use Rattle.frame.specs.Frame.{serviceField, headerBits, sentHeader}
 use Rattle.frame.proofs.Headers.{clock-lt, clock-byte}
 use Rattle.calls.proofs.ReadBack.{code-small}

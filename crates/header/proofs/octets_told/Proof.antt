@@ -3,7 +3,7 @@
 use Prim.Native.Nat.{_-_}
 use borrow.Author.Needs.{needs}
 use Rattle.base.proofs.Tests.{failed, passed}
-use Rattle.rates.proofs.Lengths.{payload-high}
+use Rattle.rules_rates.proofs.Lengths.{payload-high}
 use Rattle.header.proofs.Lengths.{told-none, told-over, told-length, told-seven, told-all}
 use Rattle.header.proofs.octets_told.Statement.{statement}
 use Rattle.header.proofs.octets_told.Tie as tie

@@ -1,9 +1,9 @@
 -- `hearing::block_octets` meets its contract: all that is left, or 64 symbols. Assumes nothing.
 use Prim.Native.Nat.{_<_}
 use native.Mathlib.Omega.{arith}
-use Rattle.rates.specs.declared.Rate.{Rate}
-use Rattle.rates.specs.declared.Rate.the-variants.{One, Two, Five, Eleven}
-use Rattle.rates.specs.Rates.{octetSymbols}
+use Rattle.rules_rates.specs.declared.Rate.{Rate}
+use Rattle.rules_rates.specs.declared.Rate.the-variants.{One, Two, Five, Eleven}
+use Rattle.rules_rates.specs.Rates.{octetSymbols}
 use borrow.Author.Needs.{needs}
 use Rattle.codes.proofs.Codes.{block-rest, block-whole}
 use Rattle.hearing.proofs.block_octets.Statement.{statement}

@@ -3,7 +3,7 @@ use Prim.Native.Nat.{_+_, _-_, _*_, _^_, _≤_, _<_}
 use native.Mathlib.Omega.{arith}
 use lib.ListN.{length, length-drop}
 use Rattle.base.proofs.Over.{lent}
-use Rattle.rates.specs.Rates.{octetSymbols, octetChips}
+use Rattle.rules_rates.specs.Rates.{octetSymbols, octetChips}
 use Rattle.recorders.specs.Rows.{recordingOf}
 use Rattle.recorders.proofs.Rows.{recording-fits}
 use borrow.Author.Needs.{needs}

@@ -5,8 +5,8 @@ use Prim.Native.Nat.{ℕ, _*_, _%_, _≤_}
 use native.Mathlib.Omega.{arith}
 use borrow.Author.Needs.{needs}
 use Rattle.base.specs.Over.{over}
-use Rattle.rates.specs.declared.Rate.{Rate}
-use Rattle.rates.specs.Rates.{octetSymbols, octetChips}
+use Rattle.rules_rates.specs.declared.Rate.{Rate}
+use Rattle.rules_rates.specs.Rates.{octetSymbols, octetChips}
 use Rattle.bits.specs.Growths.{chipsFrom, lastPhase}
 use Rattle.bits.proofs.Growths.{symbolsFrom-parity}
 use Rattle.sending.specs.Sending.{symbolsAt}

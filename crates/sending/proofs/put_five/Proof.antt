@@ -8,7 +8,7 @@ use lib.ListN.{length, take, drop}
 use borrow.Rule.Slice.PartMut.{putMid}
 use Rattle.base.specs.Over.{over}
 use Rattle.base.proofs.Over.{over-next}
-use Rattle.rates.specs.declared.Rate.the-variants.{Five}
+use Rattle.rules_rates.specs.declared.Rate.the-variants.{Five}
 use Rattle.chips.specs.Chips.{turned}
 use Rattle.symbols.specs.Words.{cckWord}
 use Rattle.bits.specs.Bits.{bitsOf}

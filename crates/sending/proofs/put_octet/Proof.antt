@@ -5,8 +5,8 @@ use mathlib.Core.List.{List, reverse}
 use Prim.Native.Nat.{ℕ, _*_}
 use borrow.Author.Needs.{needs}
 use Rattle.base.specs.Over.{over}
-use Rattle.rates.specs.declared.Rate.{Rate}
-use Rattle.rates.specs.Rates.{octetSymbols}
+use Rattle.rules_rates.specs.declared.Rate.{Rate}
+use Rattle.rules_rates.specs.Rates.{octetSymbols}
 use Rattle.bits.specs.Bits.{bitsOf}
 use Rattle.bits.specs.Growths.{chipsFrom, lastPhase}
 use Rattle.bits.specs.Scrambler.{scramble}

@@ -13,8 +13,8 @@ use borrow.Rule.Slice.PartMut.{putMid, same-len-mid}
 use Rattle.base.specs.Over.{over}
 use Rattle.base.specs.Tables.{tabulate}
 use Rattle.base.proofs.Over.{over-next}
-use Rattle.rates.specs.declared.Rate.{Rate}
-use Rattle.rates.specs.Rates.{octetChips}
+use Rattle.rules_rates.specs.declared.Rate.{Rate}
+use Rattle.rules_rates.specs.Rates.{octetChips}
 use Rattle.symbols.specs.Words.{barkerWord}
 use Rattle.sending.specs.Sending.{State, emit, step, run, ran}
 use Rattle.sending.specs.Line.{state}

@@ -5,7 +5,7 @@ use mathlib.Core.List.{List, [], _∷_}
 use Prim.Native.Nat.{ℕ, _/_, _%_}
 use borrow.Author.Needs.{needs}
 use Rattle.base.specs.Over.{over}
-use Rattle.rates.specs.declared.Rate.the-variants.{Two}
+use Rattle.rules_rates.specs.declared.Rate.the-variants.{Two}
 use Rattle.chips.specs.Chips.{turned}
 use Rattle.bits.specs.Bits.{bitsOf}
 use Rattle.bits.specs.Growths.{growth, symbolOf, symbolsFrom, chipsFrom, lastPhase}

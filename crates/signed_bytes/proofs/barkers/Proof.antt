@@ -6,7 +6,7 @@ use Prim.Native.Nat.{ℕ, _+_, _*_, _-_, _%_, _<_}
 use native.Mathlib.Omega.{arith}
 use lib.ListN.{length}
 use borrow.Author.Needs.{needs}
-use Rattle.rates.specs.declared.Rate.the-variants.{One}
+use Rattle.rules_rates.specs.declared.Rate.the-variants.{One}
 use Rattle.chips.specs.Chips.{byteRecording}
 use Rattle.symbols.specs.Choice.{decided, leadOf}
 use Rattle.recorded.proofs.Firsts.{Firsts, firsts-none, firsts-sixteen, numberAt, all-decided, leads-times}

@@ -7,7 +7,7 @@ use native.Mathlib.Omega.{arith}
 use lib.Dec.{lit≤}
 use lib.ListN.{length}
 use borrow.Author.Needs.{needs}
-use Rattle.rates.specs.declared.Rate.the-variants.{Eleven}
+use Rattle.rules_rates.specs.declared.Rate.the-variants.{Eleven}
 use Rattle.chips.specs.Chips.{byteRecording}
 use Rattle.chips.specs.declared.Counts.{Counts}
 use Rattle.symbols.specs.Choice.{decided, leadOf}

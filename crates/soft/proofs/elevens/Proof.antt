@@ -6,7 +6,7 @@ use Prim.Native.Nat.{ℕ, _+_, _*_, _-_, _%_, _≤_, _<_}
 use native.Mathlib.Omega.{arith}
 use lib.ListN.{length}
 use borrow.Author.Needs.{needs}
-use Rattle.rates.specs.declared.Rate.the-variants.{Eleven}
+use Rattle.rules_rates.specs.declared.Rate.the-variants.{Eleven}
 use Rattle.chips.specs.Chips.{softRecording}
 use Rattle.symbols.specs.Choice.{decided, leadOf}
 use Rattle.choosing.specs.Scores.{RowWithin}

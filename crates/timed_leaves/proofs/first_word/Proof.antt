@@ -7,8 +7,8 @@ use native.Mathlib.Omega.{arith}
 use lib.Dec.{lit≤, lit<}
 use lib.ListN.{length, getD, take, drop}
 use borrow.Author.Needs.{needs}
-use Rattle.rates.specs.declared.Rate.{Rate}
-use Rattle.rates.specs.Rates.{symbolChips}
+use Rattle.rules_rates.specs.declared.Rate.{Rate}
+use Rattle.rules_rates.specs.Rates.{symbolChips}
 use Rattle.chips.specs.Chips.{Taken, takenCounts, softRecording}
 use Rattle.symbols.specs.Choice.{decided}
 use Rattle.reading.specs.Reading.{firstUnusable}

@@ -9,8 +9,8 @@ use lib.ListN.{length}
 use lib.Ieee.{Float}
 use borrow.Author.Needs.{needs}
 use borrow.Author.Tests.{le-leb, lt-leb, not-true, not-false}
-use Rattle.rates.specs.declared.Rate.{Rate}
-use Rattle.rates.specs.Rates.{isCode, rateOf, symbolChips}
+use Rattle.rules_rates.specs.declared.Rate.{Rate}
+use Rattle.rules_rates.specs.Rates.{isCode, rateOf, symbolChips}
 use Rattle.chips.specs.Chips.{softRecording}
 use Rattle.timed_leaves.specs.Leaves.{firstWord, decidedSoft}
 use Rattle.timed_leaves.proofs.timed_decide.Statement.{statement}

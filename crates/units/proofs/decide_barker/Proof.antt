@@ -3,7 +3,7 @@
 use mathlib.Core.Path.{sym, subst}
 use mathlib.Core.List.{List}
 use borrow.Author.Needs.{needs}
-use Rattle.rates.specs.declared.Rate.the-variants.{One}
+use Rattle.rules_rates.specs.declared.Rate.the-variants.{One}
 use Rattle.axes.specs.declared.Axis.the-variants.{I, Q}
 use Rattle.chips.specs.declared.Counts.{Counts}
 use Rattle.choosing.specs.Scores.{RowWithin, ChosenAs}

@@ -9,7 +9,7 @@ use borrow.Author.Needs.{needs}
 use borrow.Rule.Slice.PartMut.{putMid}
 use Rattle.base.specs.Over.{over}
 use Rattle.base.proofs.Over.{over-next, over-filled}
-use Rattle.rates.specs.declared.Rate.{Rate}
+use Rattle.rules_rates.specs.declared.Rate.{Rate}
 use Rattle.bits.specs.Bits.{octetBits}
 use Rattle.frame.specs.declared.Kind.{Kind}
 use Rattle.frame.specs.Frame.{frontChips, frameChips, sentHeader, frame}

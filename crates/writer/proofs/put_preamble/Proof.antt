@@ -4,7 +4,7 @@ use mathlib.Core.List.{List}
 use Prim.Native.Nat.{ℕ, _≤_}
 use borrow.Author.Needs.{needs}
 use Rattle.base.specs.Over.{over}
-use Rattle.rates.specs.declared.Rate.the-variants.{One}
+use Rattle.rules_rates.specs.declared.Rate.the-variants.{One}
 use Rattle.frame.specs.declared.Kind.{Kind}
 use Rattle.sending.specs.Sending.{State, run, ran}
 use Rattle.frame.specs.Frame.{preambleChips}

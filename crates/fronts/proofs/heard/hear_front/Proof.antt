@@ -4,8 +4,8 @@ use mathlib.Core.Path.{_≡_, refl, subst}
 use Prim.Native.Nat.{ℕ, _+_, _*_, _/_, _≤_}
 use native.Mathlib.Nat.{zero-add}
 use native.Mathlib.Omega.{arith}
-use Rattle.rates.specs.declared.Rate.{Rate}
-use Rattle.rates.specs.Rates.{octetChips}
+use Rattle.rules_rates.specs.declared.Rate.{Rate}
+use Rattle.rules_rates.specs.Rates.{octetChips}
 use Rattle.chips.specs.Chips.{Taken}
 use Rattle.frame.specs.declared.Kind.{Kind}
 use Rattle.frame.specs.declared.Kind.the-variants.{Long, Short}

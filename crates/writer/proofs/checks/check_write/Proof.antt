@@ -6,11 +6,11 @@ use Prim.Native.Nat.{ℕ}
 use lib.IntN.{pos}
 use borrow.Author.Needs.{needs}
 use borrow.Author.Tests.{lt-ltb, le-ltb}
-use Rattle.rates.specs.Rates.{isCode, rateOf, isPayload}
+use Rattle.rules_rates.specs.Rates.{isCode, rateOf, isPayload}
 use Rattle.frame.specs.Frame.{goesWith, frameChips, isKind, kindOf}
 use Rattle.calls.specs.Writing.{writingOf}
 use Rattle.base.proofs.Tests.{failed, passed}
-use Rattle.rates.proofs.Lengths.{payload-high}
+use Rattle.rules_rates.proofs.Lengths.{payload-high}
 use Rattle.writer.proofs.checks.check_write.Statement.{statement}
 use Rattle.writer.proofs.checks.check_write.Tie as tie
 

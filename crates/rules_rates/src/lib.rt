@@ -2,7 +2,7 @@
 ghost use mathlib.Core.Path.{_≡_};
 ghost use Prim.Native.Nat.{_≤_, _<_};
 ghost use lib.IntN.{pos};
-ghost use Rattle.rates.specs.Rates.{
+ghost use Rattle.rules_rates.specs.Rates.{
   codeOf,
   isCode,
   rateOf,

@@ -11,9 +11,9 @@ use borrow.Author.Tests.{leb-true, leb-false, le-leb, eq-eqb}
 use lib.Dec.{T, leb}
 use lib.IntN.{pos, negℤ, _-ℤ_}
 use Rattle.base.proofs.Whole.{add, neg-up, neg-dn, up-pos, dn-pos, same}
-use Rattle.rates.specs.declared.Rate.{Rate}
-use Rattle.rates.specs.declared.Rate.the-variants.{One, Two, Five, Eleven}
-use Rattle.rates.specs.Rates.{lengthField, bit7, wholeOctets, octetsRead, isPayload, lengthHolds}
+use Rattle.rules_rates.specs.declared.Rate.{Rate}
+use Rattle.rules_rates.specs.declared.Rate.the-variants.{One, Two, Five, Eleven}
+use Rattle.rules_rates.specs.Rates.{lengthField, bit7, wholeOctets, octetsRead, isPayload, lengthHolds}
 
 -- a difference of naturals that does not go below 0
 pub less : (a b n : ℕ) → a ≡ n + b → pos a -ℤ pos b ≡ pos n

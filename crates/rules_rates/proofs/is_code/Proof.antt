@@ -1,8 +1,8 @@
--- `rates::is_code` meets its contract: each return knows which codes the number is not, and which it is. Assumes
+-- `rules_rates::is_code` meets its contract: each return knows which codes the number is not, and which it is. Assumes
 -- nothing.
 use borrow.Author.Tests.{eq-eqb, ne-eqb}
-use Rattle.rates.proofs.is_code.Statement.{statement}
-use Rattle.rates.proofs.is_code.Tie as tie
+use Rattle.rules_rates.proofs.is_code.Statement.{statement}
+use Rattle.rules_rates.proofs.is_code.Tie as tie
 
 returns : tie.Need-returns
 returns c = rw (eq-eqb _ _ (c .if1 .taken))

@@ -1,9 +1,9 @@
--- `rates::Rate::length_field` meets its contract, rate by rate. Assumes nothing.
+-- `rules_rates::Rate::length_field` meets its contract, rate by rate. Assumes nothing.
 use mathlib.Core.Path.{refl}
 use native.Mathlib.Omega.{arith}
 use borrow.Author.Needs.{needs}
-use Rattle.rates.proofs.Rate.length_field.Statement.{statement}
-use Rattle.rates.proofs.Rate.length_field.Tie as tie
+use Rattle.rules_rates.proofs.Rate.length_field.Statement.{statement}
+use Rattle.rules_rates.proofs.Rate.length_field.Tie as tie
 
 returns : tie.Need-returns
 returns c = rw (c .enum-told .given .1) (refl, omega arith)

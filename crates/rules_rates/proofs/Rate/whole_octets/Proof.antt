@@ -1,7 +1,7 @@
--- `rates::Rate::whole_octets` meets its contract, rate by rate. Assumes nothing.
+-- `rules_rates::Rate::whole_octets` meets its contract, rate by rate. Assumes nothing.
 use borrow.Author.Needs.{needs}
-use Rattle.rates.proofs.Rate.whole_octets.Statement.{statement}
-use Rattle.rates.proofs.Rate.whole_octets.Tie as tie
+use Rattle.rules_rates.proofs.Rate.whole_octets.Statement.{statement}
+use Rattle.rules_rates.proofs.Rate.whole_octets.Tie as tie
 
 returns : tie.Need-returns
 returns c = rw (c .enum-told .given .1)

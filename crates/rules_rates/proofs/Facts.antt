@@ -7,9 +7,9 @@ use Prim.Native.Nat.{ℕ}
 use borrow.Author.Tests.{eqb-true}
 use lib.Dec.{eqb}
 use lib.IntN.{pos, negsuc}
-use Rattle.rates.specs.declared.Rate.{Rate}
-use Rattle.rates.specs.declared.Rate.the-variants.{One, Two, Five, Eleven}
-use Rattle.rates.specs.Rates.{
+use Rattle.rules_rates.specs.declared.Rate.{Rate}
+use Rattle.rules_rates.specs.declared.Rate.the-variants.{One, Two, Five, Eleven}
+use Rattle.rules_rates.specs.Rates.{
   codeOf,
   isCode,
   rateOf,
@@ -29,7 +29,7 @@ rates = One ∷ Two ∷ Five ∷ Eleven ∷ []
 
 -- promise: Codes, and the chips of an octet at each rate; no other number is a code
 -- rule: 5.2, 5.8
--- code: rates::code, octet_chips
+-- code: rules_rates::code, octet_chips
 -- with: codes, no-codes, no-other-code
 pub sizes : map
     (λ (r : Rate). codeOf r ∷ symbolChips r ∷ symbolBits r ∷ octetSymbols r ∷ octetChips r ∷ []) rates

@@ -12,10 +12,10 @@ use borrow.Author.Tests.{leb-true, leb-false, eqb-true}
 use lib.Dec.{T, leb, eqb}
 use lib.IntN.{ℤ, pos, negsuc, natAbs}
 use Rattle.base.proofs.Tests.{left-is, right-is}
-use Rattle.rates.specs.declared.Rate.{Rate}
-use Rattle.rates.specs.declared.Rate.the-variants.{One, Two, Five, Eleven}
-use Rattle.rates.specs.Rates.{codeOf, lengthField, bit7, octetsRead, isPayload, lengthHolds}
-use Rattle.rates.specs.Plain.{
+use Rattle.rules_rates.specs.declared.Rate.{Rate}
+use Rattle.rules_rates.specs.declared.Rate.the-variants.{One, Two, Five, Eleven}
+use Rattle.rules_rates.specs.Rates.{codeOf, lengthField, bit7, octetsRead, isPayload, lengthHolds}
+use Rattle.rules_rates.specs.Plain.{
   LengthOf,
   length-1,
   length-2,
@@ -26,7 +26,7 @@ use Rattle.rates.specs.Plain.{
   seven-much,
   seven-little,
 }
-use Rattle.rates.proofs.Lengths.{length-holds}
+use Rattle.rules_rates.proofs.Lengths.{length-holds}
 
 -- ---- LENGTH
 -- promise: LENGTH is what the rule says in plain numbers, for every number of octets, and no other number is

@@ -1,8 +1,8 @@
--- `rates::rate_of` meets its contract: each return knows which codes the number is not, and which it is. Assumes
+-- `rules_rates::rate_of` meets its contract: each return knows which codes the number is not, and which it is. Assumes
 -- nothing.
 use borrow.Author.Tests.{eq-eqb, ne-eqb}
-use Rattle.rates.proofs.rate_of.Statement.{statement}
-use Rattle.rates.proofs.rate_of.Tie as tie
+use Rattle.rules_rates.proofs.rate_of.Statement.{statement}
+use Rattle.rules_rates.proofs.rate_of.Tie as tie
 
 returns : tie.Need-returns
 returns c = rw (eq-eqb _ _ (c .if1 .taken))
