@@ -8,10 +8,10 @@ use lib.ListN.{getD}
 use lib.IntN.{ℤ}
 use Rattle.axes.specs.declared.Axis.{Axis}
 use Rattle.axes.specs.declared.Axis.the-variants.{I, Q}
-use Rattle.chips.specs.declared.Counts.{Counts}
-use Rattle.chips.specs.declared.Chip.{Chip}
-use Rattle.chips.specs.declared.Chip.the-variants.{Lost, Hard, Soft}
-use Rattle.chips.specs.Chips.{fullChip, usableSample, countsOf}
+use Rattle.rules_chips.specs.declared.Counts.{Counts}
+use Rattle.rules_chips.specs.declared.Chip.{Chip}
+use Rattle.rules_chips.specs.declared.Chip.the-variants.{Lost, Hard, Soft}
+use Rattle.rules_chips.specs.Chips.{fullChip, usableSample, countsOf}
 
 -- the number on an axis
 abbrev pub along : Axis → Counts → ℤ

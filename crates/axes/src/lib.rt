@@ -3,10 +3,10 @@
 // hard chips full chips are counted, not 1024ths of one: in octets sixteen symbols go side by side.
 ghost use mathlib.Core.Path.{_≡_};
 ghost use lib.Dec.{T};
-ghost use Rattle.chips.specs.Chips.{countsOf};
+ghost use Rattle.rules_chips.specs.Chips.{countsOf};
 ghost use Rattle.axes.specs.Axes.{along, phaseOn, countsAlong, unitOf, unitsAlong, softUsable, octetOf, AllSoft};
-use chips::Chip;
-use chips::Sample;
+use rules_chips::Chip;
+use rules_chips::Sample;
 
 // One of the two numbers of a chip.
 pub enum Axis {

@@ -13,7 +13,7 @@ use lib.Seq.{take-append-le, drop-append-le}
 use Rattle.rules_rates.specs.declared.Rate.{Rate}
 use Rattle.rules_rates.specs.declared.Rate.the-variants.{One, Two, Five, Eleven}
 use Rattle.rules_rates.specs.Rates.{symbolBits, symbolChips}
-use Rattle.chips.specs.Chips.{turned}
+use Rattle.rules_chips.specs.Chips.{turned}
 use Rattle.symbols.proofs.Words.{barker-length, cck-length}
 use Rattle.bits.specs.Growths.{
   growth,

@@ -20,7 +20,7 @@ use Rattle.base.proofs.Tables.{as-table}
 use Rattle.rules_rates.specs.declared.Rate.{Rate}
 use Rattle.rules_rates.specs.declared.Rate.the-variants.{One, Two, Five, Eleven}
 use Rattle.rules_rates.specs.Rates.{symbolBits}
-use Rattle.chips.specs.Chips.{turned}
+use Rattle.rules_chips.specs.Chips.{turned}
 use Rattle.symbols.specs.Words.{cckNumber, p1Of, p2Of, p3Of, p4Of, wordOf, phaseOf}
 use Rattle.symbols.specs.Choice.{numbers, isAllowed}
 use Rattle.bits.specs.Growths.{

@@ -7,7 +7,7 @@ use native.Mathlib.Omega.{arith}
 use lib.ListN.{take, drop}
 use Rattle.rules_rates.specs.declared.Rate.{Rate}
 use Rattle.rules_rates.specs.Rates.{symbolBits}
-use Rattle.chips.specs.Chips.{turned}
+use Rattle.rules_chips.specs.Chips.{turned}
 use Rattle.symbols.specs.Choice.{isAllowed, numbers}
 use Rattle.bits.specs.Growths.{symbolOf, symbolsFrom}
 use Rattle.base.specs.Below.{Below}

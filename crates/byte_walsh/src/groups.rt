@@ -6,8 +6,8 @@ ghost use mathlib.Core.Bool.{cond};
 ghost use Prim.Native.Nat.{_+_, _-_, _≤_, _<_};
 ghost use lib.Signed.{ltZ};
 ghost use Rattle.base.specs.Whole.{Within};
-ghost use Rattle.chips.specs.Bounds.{Bounded};
-ghost use Rattle.chips.specs.Chips.{pair};
+ghost use Rattle.rules_chips.specs.Bounds.{Bounded};
+ghost use Rattle.rules_chips.specs.Chips.{pair};
 ghost use Rattle.walsh.specs.Turns.{plus, sided, credit, fourTop, fourNext, topOf, nextOf};
 ghost use Rattle.walsh.specs.Search.{held, merged, met, fourMore};
 

@@ -2,10 +2,10 @@
 // and its lead over the best of the others is told.
 // Each function is called from one loop over symbols, in which its array of chips dissolves.
 use axes::Axis;
-use chips::Chip;
+use rules_chips::Chip;
 use rules_rates::Rate;
 ghost use mathlib.Core.List.{map};
-ghost use Rattle.chips.specs.Chips.{countsOf};
+ghost use Rattle.rules_chips.specs.Chips.{countsOf};
 ghost use Rattle.axes.specs.Axes.{AllSoft};
 ghost use Rattle.choosing.specs.Scores.{ChosenAs};
 

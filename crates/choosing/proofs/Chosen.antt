@@ -9,7 +9,7 @@ use lib.Signed.{_≤ℤ_, _<ℤ_}
 use Rattle.base.proofs.Whole.{add, up-pos, dn-pos}
 use Rattle.base.specs.Whole.{up, dn}
 use Rattle.rules_rates.specs.declared.Rate.{Rate}
-use Rattle.chips.specs.declared.Counts.{Counts}
+use Rattle.rules_chips.specs.declared.Counts.{Counts}
 use Rattle.symbols.specs.Choice.{numbers, decided, leadOf}
 use Rattle.choosing.specs.Scores.{scoreAt, DecidedAs, NextAs, ChosenAs}
 use Rattle.choosing.proofs.Decided.{decided-best, decided-is}

@@ -17,7 +17,7 @@ use lib.Signed.{_<ℤ_}
 use Rattle.base.specs.Whole.{up, dn}
 use Rattle.base.proofs.Whole.{up-pos, dn-pos, neg-up, neg-dn, add, lt-of}
 use Rattle.rules_rates.specs.declared.Rate.{Rate}
-use Rattle.chips.specs.Chips.{turned, fullChip}
+use Rattle.rules_chips.specs.Chips.{turned, fullChip}
 use Rattle.symbols.specs.Words.{wordOf}
 use Rattle.symbols.specs.Choice.{term, score, numbers, isAllowed, decided}
 use Rattle.symbols.proofs.Words.{Phases, phases-tail, word-phases, word-length}

@@ -16,7 +16,7 @@ use Rattle.base.proofs.Tests.{implies, implied, both-left, both-right, all-at}
 use Rattle.rules_rates.specs.declared.Rate.{Rate}
 use Rattle.rules_rates.specs.declared.Rate.the-variants.{One, Two, Five, Eleven}
 use Rattle.rules_rates.specs.Rates.{symbolChips}
-use Rattle.chips.specs.declared.Counts.{Counts}
+use Rattle.rules_chips.specs.declared.Counts.{Counts}
 use Rattle.symbols.specs.Words.{barkerWord, cckWord, cckNumber, cckOf, p1Of, p2Of, p3Of, p4Of, wordOf}
 use Rattle.symbols.specs.Choice.{numbers, isAllowed, decided, leadOf}
 use Rattle.symbols.proofs.Words.{word-phases, word-length, turn}

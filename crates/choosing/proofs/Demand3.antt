@@ -11,9 +11,9 @@ use lib.IntN.{pos, _+ℤ_}
 use lib.ListN.{length, getD}
 use lib.Signed.{_≤ℤ_}
 use Rattle.rules_rates.specs.Rates.{symbolChips}
-use Rattle.chips.specs.declared.Counts.{Counts}
-use Rattle.chips.specs.Chips.{nothing}
-use Rattle.chips.specs.Bounds.{Apart}
+use Rattle.rules_chips.specs.declared.Counts.{Counts}
+use Rattle.rules_chips.specs.Chips.{nothing}
+use Rattle.rules_chips.specs.Bounds.{Apart}
 use Rattle.symbols.specs.Words.{wordOf}
 use Rattle.symbols.specs.Choice.{numbers, isAllowed, decided, leadOf}
 use Rattle.symbols.proofs.Words.{word-length}

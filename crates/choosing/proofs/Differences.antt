@@ -10,7 +10,7 @@ use Prim.Native.Nat.{ℕ, _+_, _*_, _%_, _<_}
 use native.Mathlib.Omega.{arith}
 use lib.Dec.{T, eqb, eqb→eq}
 use borrow.Author.Tests.{eq-eqb}
-use Rattle.chips.specs.Chips.{turned}
+use Rattle.rules_chips.specs.Chips.{turned}
 use Rattle.symbols.specs.Words.{cckWord, cckNumber, cckOf, p1Of, p2Of, p3Of, p4Of}
 use Rattle.symbols.proofs.Words.{turn}
 use Rattle.symbols.proofs.Numbers.{number-back, p1-back, p2-back, p3-back, p4-back, number-below}

@@ -5,8 +5,8 @@ use mathlib.Core.List.{[], _∷_, map}
 use lib.ListN.{replicate}
 use lib.IntN.{pos, negℤ}
 use Rattle.rules_rates.specs.declared.Rate.the-variants.{Eleven}
-use Rattle.chips.specs.declared.Chip.the-variants.{Lost}
-use Rattle.chips.specs.Chips.{countsOf}
+use Rattle.rules_chips.specs.declared.Chip.the-variants.{Lost}
+use Rattle.rules_chips.specs.Chips.{countsOf}
 use Rattle.symbols.specs.Words.{cckWord}
 use Rattle.symbols.specs.Choice.{score, those, going, firstLargest, decided}
 use Rattle.choosing.specs.Keys.{larger, smaller, bigger, lesser}

@@ -12,8 +12,8 @@ use lib.IntN.{ℤ, negℤ, _+ℤ_, negℤ-+ℤ, negℤ-negℤ}
 use Rattle.base.specs.Tables.{tabulate}
 use Rattle.base.specs.Whole.{Within}
 use Rattle.base.proofs.Tables.{getD-tabulate}
-use Rattle.chips.specs.declared.Counts.{Counts}
-use Rattle.chips.specs.Chips.{turned}
+use Rattle.rules_chips.specs.declared.Counts.{Counts}
+use Rattle.rules_chips.specs.Chips.{turned}
 use Rattle.symbols.specs.Words.{barkerWord, cckWord, cckOf, p1Of, p2Of, p3Of, p4Of}
 use Rattle.symbols.specs.Choice.{term, score}
 use Rattle.symbols.proofs.Words.{Phases, phases-tail, cck-phases, cck-length, barker-phases}

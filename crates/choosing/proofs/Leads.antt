@@ -19,7 +19,7 @@ use Rattle.base.proofs.Whole.{add, neg-up, neg-dn, up-pos, dn-pos, same, of-le,
 use Rattle.base.proofs.Tests.{both-left, both-right}
 use Rattle.rules_rates.specs.declared.Rate.{Rate}
 use Rattle.rules_rates.specs.declared.Rate.the-variants.{One, Two, Five, Eleven}
-use Rattle.chips.specs.declared.Counts.{Counts}
+use Rattle.rules_chips.specs.declared.Counts.{Counts}
 use Rattle.symbols.specs.Choice.{numbers, isAllowed, those, others, firstLargest, decided, leadOf}
 use Rattle.choosing.specs.Scores.{scoreAt, BestOf, DecidedAs, NextTo, NextAs, LeadsBy}
 use Rattle.choosing.proofs.Best.{first-best, some-of}

@@ -9,7 +9,7 @@ use lib.IntN.{ℤ, pos}
 use lib.Signed.{_≤ℤ_}
 use Rattle.base.proofs.Tests.{all-at, implies, implied, both-left, both-right}
 use Rattle.rules_rates.specs.declared.Rate.the-variants.{Five}
-use Rattle.chips.specs.declared.Counts.{Counts}
+use Rattle.rules_chips.specs.declared.Counts.{Counts}
 use Rattle.symbols.specs.Choice.{isAllowed, those, allowed, firstLargest, decided}
 use Rattle.choosing.specs.Scores.{upTo, number5, scoreAt, BestOf, NextTo, NextAs, ChosenAs}
 use Rattle.choosing.proofs.Best.{best-unique, up-best, first-map}

@@ -7,9 +7,9 @@ use native.Mathlib.Omega.{arith}
 use lib.ListN.{length}
 use Rattle.base.specs.Whole.{Within}
 use Rattle.base.proofs.Whole.{within-zero, within-neg, within-add, within-more}
-use Rattle.chips.specs.declared.Counts.{Counts}
+use Rattle.rules_chips.specs.declared.Counts.{Counts}
 use Rattle.symbols.specs.Choice.{term, score}
-use Rattle.chips.specs.Bounds.{Bounded}
+use Rattle.rules_chips.specs.Bounds.{Bounded}
 use Rattle.choosing.specs.Scores.{AllBounded}
 
 pub term-within : (p : ℕ) {b : ℕ} {c : Counts} → Bounded b c → Within b (term p c)

@@ -10,9 +10,9 @@ use lib.IntN.{ℤ, pos, _+ℤ_}
 use lib.Signed.{_≤ℤ_, _<ℤ_}
 use Rattle.base.specs.Whole.{Within}
 use Rattle.rules_rates.specs.declared.Rate.{Rate}
-use Rattle.chips.specs.declared.Counts.{Counts}
-use Rattle.chips.specs.Chips.{nothing}
-use Rattle.chips.specs.Bounds.{Bounded}
+use Rattle.rules_chips.specs.declared.Counts.{Counts}
+use Rattle.rules_chips.specs.Chips.{nothing}
+use Rattle.rules_chips.specs.Bounds.{Bounded}
 use Rattle.symbols.specs.Words.{wordOf, cckNumber}
 use Rattle.symbols.specs.Choice.{score, numbers, isAllowed, those, decided, leadOf}
 

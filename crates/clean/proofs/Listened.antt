@@ -10,7 +10,7 @@ use lib.Seq.{drop-at, drop-drop}
 use Rattle.rules_rates.specs.declared.Rate.{Rate}
 use Rattle.rules_rates.specs.declared.Rate.the-variants.{One, Two, Five, Eleven}
 use Rattle.rules_rates.specs.Rates.{symbolChips, symbolBits}
-use Rattle.chips.specs.Chips.{Taken}
+use Rattle.rules_chips.specs.Chips.{Taken}
 use Rattle.bits.specs.Growths.{symbolsOf, lastPhase, heard, growthsOf, lastHeard}
 use Rattle.base.specs.Below.{Below}
 use Rattle.base.proofs.Below.{below-nil, below-append}

@@ -13,7 +13,7 @@ use lib.ListN.{length, getD, take, drop, length-append}
 use Rattle.rules_rates.specs.declared.Rate.{Rate}
 use Rattle.rules_rates.specs.declared.Rate.the-variants.{One, Two, Five, Eleven}
 use Rattle.rules_rates.specs.Rates.{symbolChips, symbolBits}
-use Rattle.chips.specs.Chips.{turned}
+use Rattle.rules_chips.specs.Chips.{turned}
 use Rattle.symbols.specs.Words.{wordOf}
 use Rattle.symbols.proofs.Words.{word-length}
 use Rattle.bits.specs.Growths.{

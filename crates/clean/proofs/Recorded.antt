@@ -10,10 +10,10 @@ use lib.Dec.{T, lit≤}
 use lib.ListN.{length}
 use lib.IntN.{ℤ, pos, negℤ}
 use lib.Ieee.{Float}
-use Rattle.chips.specs.declared.Counts.{Counts}
-use Rattle.chips.specs.declared.Chip.the-variants.{Soft}
-use Rattle.chips.specs.Floats.{usable, countOf, valueOf, Nearest}
-use Rattle.chips.specs.Chips.{
+use Rattle.rules_chips.specs.declared.Counts.{Counts}
+use Rattle.rules_chips.specs.declared.Chip.the-variants.{Soft}
+use Rattle.rules_chips.specs.Floats.{usable, countOf, valueOf, Nearest}
+use Rattle.rules_chips.specs.Chips.{
   Taken,
   unusable,
   counted,
@@ -29,7 +29,7 @@ use Rattle.chips.specs.Chips.{
   softRecording,
   byteRecording,
 }
-use Rattle.chips.proofs.Meaning.{no-other}
+use Rattle.rules_chips.proofs.Meaning.{no-other}
 use Rattle.base.specs.Below.{Below}
 use Rattle.base.proofs.Below.{below-head, below-tail}
 use Rattle.base.proofs.Tests.{both-left, both-right}

@@ -8,9 +8,9 @@ use lib.Dec.{T}
 use lib.Ieee.{ofBits}
 use Rattle.base.specs.Below.{Below}
 use Rattle.base.proofs.Below.{below-head, below-tail}
-use Rattle.chips.specs.declared.Chip.the-variants.{Soft}
-use Rattle.chips.specs.Floats.{steps, usable}
-use Rattle.chips.specs.Chips.{fullChip, usableSample, exactOf}
+use Rattle.rules_chips.specs.declared.Chip.the-variants.{Soft}
+use Rattle.rules_chips.specs.Floats.{steps, usable}
+use Rattle.rules_chips.specs.Chips.{fullChip, usableSample, exactOf}
 use Rattle.clean.specs.Clean.{sampleOf, Exactly, none, more, softI, softQ}
 
 -- a zero by whose bits each phase is usable and exact

@@ -12,7 +12,7 @@ use borrow.Author.Tests.{le-ltb, lt-ltb}
 use lib.ListN.{length, getD, take, drop, replicate, length-append, length-drop, length-replicate, take-append-drop}
 use lib.Seq.{take-at, drop-at, drop-drop, length-take-le, drop-append-le}
 use Rattle.rules_rates.specs.declared.Rate.{Rate}
-use Rattle.chips.specs.Chips.{Taken}
+use Rattle.rules_chips.specs.Chips.{Taken}
 use Rattle.bits.specs.Bits.{bitsOf, octetBits, octetsOf}
 use Rattle.bits.specs.Growths.{heard}
 use Rattle.bits.specs.Scrambler.{descramble}

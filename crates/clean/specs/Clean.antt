@@ -9,9 +9,9 @@ use lib.IntN.{ℤ}
 use lib.Ieee.{Float, binary32, ofBits}
 use Rattle.rules_rates.specs.declared.Rate.{Rate}
 use Rattle.rules_rates.specs.declared.Rate.the-variants.{One, Two, Five, Eleven}
-use Rattle.chips.specs.declared.Sample.{Sample}
-use Rattle.chips.specs.declared.Chip.the-variants.{Soft}
-use Rattle.chips.specs.Chips.{Taken, counted, fullChip, usableSample, exactOf}
+use Rattle.rules_chips.specs.declared.Sample.{Sample}
+use Rattle.rules_chips.specs.declared.Chip.the-variants.{Soft}
+use Rattle.rules_chips.specs.Chips.{Taken, counted, fullChip, usableSample, exactOf}
 use Rattle.frame.specs.declared.Kind.{Kind}
 use Rattle.frame.specs.Frame.{frontSymbols}
 use Rattle.calls.specs.declared.Least.{Least}

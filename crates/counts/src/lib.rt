@@ -1,11 +1,11 @@
 // Chips looked at and counted: whether a sample is usable, its signed count, and what an octet is.
 ghost use mathlib.Core.Path.{_≡_};
 ghost use lib.Dec.{T};
-ghost use Rattle.chips.specs.Floats as floats;
-ghost use Rattle.chips.specs.Floats.{countOf};
-ghost use Rattle.chips.specs.Chips.{usableSample, hardChip};
-use chips::Chip;
-use chips::Sample;
+ghost use Rattle.rules_chips.specs.Floats as floats;
+ghost use Rattle.rules_chips.specs.Floats.{countOf};
+ghost use Rattle.rules_chips.specs.Chips.{usableSample, hardChip};
+use rules_chips::Chip;
+use rules_chips::Sample;
 
 // Whether x is a number from -8 to 8. Both tests are made, so that many numbers are looked at side by side.
 // promise: Usable exactly where no NaN, no infinity and at most 8 in magnitude, for every f32

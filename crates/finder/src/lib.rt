@@ -3,7 +3,7 @@
 ghost use mathlib.Core.Path.{_≡_};
 ghost use Prim.Native.Nat.{ℕ, _+_, _≤_, _<_};
 ghost use lib.ListN.{length, getD, drop};
-ghost use Rattle.chips.specs.Chips.{hardRecording};
+ghost use Rattle.rules_chips.specs.Chips.{hardRecording};
 ghost use Rattle.frame.specs.Frame.{frontChips};
 ghost use Rattle.reading.specs.Reading.{frontOf};
 ghost use Rattle.finding.specs.Finding.{startOr, firstStart, findingOf, notFoundNumber, foundOf};

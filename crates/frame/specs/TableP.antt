@@ -8,8 +8,8 @@ use lib.ListN.{take, replicate}
 use Rattle.rules_rates.specs.declared.Rate.{Rate}
 use Rattle.rules_rates.specs.declared.Rate.the-variants.{Five, Eleven}
 use Rattle.rules_rates.specs.Rates.{lengthField, bit7}
-use Rattle.chips.specs.declared.Chip.the-variants.{Lost}
-use Rattle.chips.specs.Chips.{countsOf}
+use Rattle.rules_chips.specs.declared.Chip.the-variants.{Lost}
+use Rattle.rules_chips.specs.Chips.{countsOf}
 use Rattle.symbols.specs.Words.{cckWord}
 use Rattle.symbols.specs.Choice.{decided}
 use Rattle.bits.specs.Growths.{symbolOf, chipsFrom}

@@ -2,7 +2,7 @@
 // holds those.
 ghost use mathlib.Core.Path.{_≡_};
 ghost use Prim.Native.Nat.{_≤_};
-ghost use Rattle.chips.specs.Chips.{hardRecording};
+ghost use Rattle.rules_chips.specs.Chips.{hardRecording};
 ghost use Rattle.frame.specs.Frame.{kindOf};
 ghost use Rattle.coming.specs.Coming.{frontReading, comingOf};
 ghost use Rattle.promises.specs.Calls.{Handed};

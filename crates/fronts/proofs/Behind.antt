@@ -12,7 +12,7 @@ use lib.Seq.{drop-at, length-take-le}
 use Rattle.rules_rates.specs.declared.Rate.{Rate}
 use Rattle.rules_rates.specs.declared.Rate.the-variants.{One, Two}
 use Rattle.rules_rates.specs.Rates.{symbolBits}
-use Rattle.chips.specs.Chips.{Taken}
+use Rattle.rules_chips.specs.Chips.{Taken}
 use Rattle.bits.specs.Bits.{octetsOf}
 use Rattle.bits.specs.Growths.{heard, growthsOf}
 use Rattle.bits.specs.Scrambler.{descramble}

@@ -6,7 +6,7 @@ use mathlib.Core.List.{List}
 use Prim.Native.Nat.{ℕ, _+_, _≤_, _<_}
 use lib.ListN.{length, take, drop}
 use Rattle.rules_rates.specs.declared.Rate.the-variants.{One}
-use Rattle.chips.specs.Chips.{Taken}
+use Rattle.rules_chips.specs.Chips.{Taken}
 use Rattle.bits.specs.Bits.{octetBits, octetsOf}
 use Rattle.bits.specs.Growths.{heard, growthsOf}
 use Rattle.bits.specs.Scrambler.{descramble}

@@ -1,7 +1,7 @@
 // The front of a recording: refusals 8, 9 and 10 over it, and 11 to 15.
 ghost use mathlib.Core.Path.{_≡_};
 ghost use mathlib.Core.List.{List};
-ghost use Rattle.chips.specs.Chips.{Taken};
+ghost use Rattle.rules_chips.specs.Chips.{Taken};
 ghost use Rattle.reading.specs.Reading.{frontOf};
 ghost use Rattle.recorders.specs.Rows.{lent};
 ghost use Rattle.fronts.specs.Openings.{FrontKnown, afterUsable, Opens, OpensWhole};

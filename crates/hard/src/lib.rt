@@ -6,11 +6,11 @@ ghost use mathlib.Core.Bool.{true, not};
 ghost use Prim.Native.Nat.{_+_, _*_, _<_, _≤_};
 ghost use lib.ListN.{length, getD};
 ghost use Rattle.base.specs.Tables.{tabulate};
-ghost use Rattle.chips.specs.Chips.{unusable, isUnusable, hardRecording};
+ghost use Rattle.rules_chips.specs.Chips.{unusable, isUnusable, hardRecording};
 ghost use Rattle.recorded.specs.Columns.{ColumnSet, Columns, hardColumn};
 ghost use Rattle.recorded.specs.Recorded.{hardPart, AllUsable, DecidedAt, LeadsAt};
 use axes::Axis;
-use chips::Chip;
+use rules_chips::Chip;
 use rules_rates::Rate;
 use units::Choice;
 

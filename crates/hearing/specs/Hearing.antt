@@ -7,7 +7,7 @@ use Prim.Native.Nat.{ℕ, _*_, _/_}
 use lib.ListN.{drop}
 use Rattle.rules_rates.specs.declared.Rate.{Rate}
 use Rattle.rules_rates.specs.Rates.{symbolBits}
-use Rattle.chips.specs.Chips.{Taken}
+use Rattle.rules_chips.specs.Chips.{Taken}
 use Rattle.lines.specs.declared.Line.{Line}
 use Rattle.calls.specs.declared.Least.{Least}
 use Rattle.reading.specs.Reading.{decidedWords}

@@ -7,7 +7,7 @@ use Prim.Native.Nat.{ℕ, _+_}
 use lib.ListN.{length, take, replicate}
 use lib.IntN.{ℤ, pos, negℤ}
 use lib.Ieee.{nan}
-use Rattle.chips.specs.Chips.{hardRecording, byteRecording}
+use Rattle.rules_chips.specs.Chips.{hardRecording, byteRecording}
 use Rattle.calls.specs.declared.Record.{Record}
 use Rattle.reading.specs.Reading.{frontOf, readingOf}
 use Rattle.clean.specs.Clean.{byteRow}

@@ -18,9 +18,9 @@ use Rattle.rules_rates.proofs.Lengths.{is-payload}
 use Rattle.rules_rates.proofs.Plain.{length-only}
 use Rattle.base.specs.Below.{Below}
 use Rattle.base.proofs.Below.{below-take}
-use Rattle.chips.specs.Chips.{Taken, hardRecording, softRecording, byteRecording}
-use Rattle.chips.proofs.Recorders.{length-hard, length-soft-same}
-use Rattle.chips.proofs.Bytes.{length-bytes}
+use Rattle.rules_chips.specs.Chips.{Taken, hardRecording, softRecording, byteRecording}
+use Rattle.rules_chips.proofs.Recorders.{length-hard, length-soft-same}
+use Rattle.rules_chips.proofs.Bytes.{length-bytes}
 use Rattle.frame.specs.declared.Kind.{Kind}
 use Rattle.frame.specs.Frame.{isKind, kindOf, clockOf, clockBit, goesWith, frontChips, frame, frameChips}
 use Rattle.frame.proofs.Headers.{clock-some}

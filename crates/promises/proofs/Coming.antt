@@ -11,8 +11,8 @@ use borrow.Author.Tests.{le-ltb}
 use lib.Dec.{T}
 use lib.ListN.{length, take}
 use Rattle.rules_rates.specs.Rates.{codeOf, octetChips}
-use Rattle.chips.specs.Chips.{Taken, hardRecording}
-use Rattle.chips.proofs.Recorders.{length-hard, take-hard}
+use Rattle.rules_chips.specs.Chips.{Taken, hardRecording}
+use Rattle.rules_chips.proofs.Recorders.{length-hard, take-hard}
 use Rattle.frame.specs.declared.Kind.{Kind}
 use Rattle.frame.specs.Frame.{isKind, kindOf, clockBit, frontChips, frameChips}
 use Rattle.frame.proofs.Headers.{clock-lt}

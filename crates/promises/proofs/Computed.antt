@@ -9,7 +9,7 @@ use lib.Dec.{eqb}
 use lib.ListN.{length, take, drop, replicate}
 use lib.IntN.{ℤ}
 use Rattle.rules_rates.specs.declared.Rate.the-variants.{Eleven}
-use Rattle.chips.specs.Chips.{hardRecording, byteRecording}
+use Rattle.rules_chips.specs.Chips.{hardRecording, byteRecording}
 use Rattle.symbols.specs.Words.{barkerWord, cckWord}
 use Rattle.symbols.specs.Choice.{score, those, going, firstLargest, decided, others, leadOf}
 use Rattle.bits.specs.Bits.{bitsOf, octetBits, numberOf, octetsOf}

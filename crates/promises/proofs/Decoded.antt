@@ -7,7 +7,7 @@ use native.Mathlib.Omega.{arith}
 use lib.ListN.{getD, replicate, List·getD-append}
 use Rattle.rules_rates.specs.declared.Rate.{Rate}
 use Rattle.rules_rates.specs.Rates.{rateOf}
-use Rattle.chips.specs.Chips.{Taken}
+use Rattle.rules_chips.specs.Chips.{Taken}
 use Rattle.frame.specs.declared.Kind.{Kind}
 use Rattle.frame.specs.Frame.{kindOf, syncBits}
 use Rattle.calls.specs.declared.Record.{Record}

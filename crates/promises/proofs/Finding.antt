@@ -12,8 +12,8 @@ use lib.Dec.{T}
 use lib.ListN.{length, take, drop, length-append, length-drop}
 use lib.Seq.{take-at, length-take-le}
 use Rattle.rules_rates.specs.Rates.{codeOf, octetChips}
-use Rattle.chips.specs.Chips.{Taken, hardRecording}
-use Rattle.chips.proofs.Recorders.{length-hard, take-hard, drop-hard}
+use Rattle.rules_chips.specs.Chips.{Taken, hardRecording}
+use Rattle.rules_chips.proofs.Recorders.{length-hard, take-hard, drop-hard}
 use Rattle.frame.specs.declared.Kind.{Kind}
 use Rattle.frame.specs.Frame.{isKind, kindOf, clockBit, frontChips, frameChips}
 use Rattle.frame.proofs.Headers.{clock-lt}

@@ -17,8 +17,8 @@ use Rattle.base.proofs.Tests.{branch, both-left, both-right}
 use Rattle.rules_rates.specs.declared.Rate.{Rate}
 use Rattle.rules_rates.specs.declared.Rate.the-variants.{One, Two, Five, Eleven}
 use Rattle.rules_rates.specs.Rates.{rateOf, symbolChips}
-use Rattle.chips.specs.Floats.{usable}
-use Rattle.chips.specs.Chips.{
+use Rattle.rules_chips.specs.Floats.{usable}
+use Rattle.rules_chips.specs.Chips.{
   Taken,
   unusable,
   counted,
@@ -28,8 +28,8 @@ use Rattle.chips.specs.Chips.{
   softRecording,
   byteRecording,
 }
-use Rattle.chips.proofs.Recorders.{unusable-hard}
-use Rattle.chips.proofs.Bytes.{length-bytes}
+use Rattle.rules_chips.proofs.Recorders.{unusable-hard}
+use Rattle.rules_chips.proofs.Bytes.{length-bytes}
 use Rattle.frame.specs.declared.Kind.{Kind}
 use Rattle.frame.specs.declared.Kind.the-variants.{Long, Short}
 use Rattle.frame.specs.Frame.{isKind, kindOf, frontChips, frameChips}

@@ -1,7 +1,7 @@
 -- Every promise is kept. Assumes nothing.
 use mathlib.Core.Path.{sym, _∙_}
 use Rattle.frame.proofs.TableP.{table-p}
-use Rattle.chips.proofs.Meaning.{counted}
+use Rattle.rules_chips.proofs.Meaning.{counted}
 use Rattle.clean.proofs.Rows.{soft-rows}
 use Rattle.promises.specs.Calls.{to-write, to-read, to-read-front, to-hand, to-find}
 use Rattle.promises.specs.Promises.{OneAnswer, Promised}

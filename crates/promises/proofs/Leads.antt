@@ -15,8 +15,8 @@ use Rattle.base.proofs.Tests.{branch}
 use Rattle.rules_rates.specs.declared.Rate.{Rate}
 use Rattle.rules_rates.specs.declared.Rate.the-variants.{One}
 use Rattle.rules_rates.specs.Rates.{rateOf, symbolChips, symbolBits}
-use Rattle.chips.specs.declared.Counts.{Counts}
-use Rattle.chips.specs.Chips.{Taken, takenCounts}
+use Rattle.rules_chips.specs.declared.Counts.{Counts}
+use Rattle.rules_chips.specs.Chips.{Taken, takenCounts}
 use Rattle.symbols.specs.Choice.{decided, leadOf}
 use Rattle.choosing.specs.Scores.{LeadsBy}
 use Rattle.choosing.specs.Demand3.{LeadsExactly}

@@ -11,7 +11,7 @@ use lib.Dec.{T, eqb}
 use lib.ListN.{length, take, drop}
 use lib.IntN.{ℤ}
 use Rattle.base.proofs.Tests.{branch}
-use Rattle.chips.specs.Chips.{Taken, isUnusable, byteRecording}
+use Rattle.rules_chips.specs.Chips.{Taken, isUnusable, byteRecording}
 use Rattle.frame.specs.declared.Kind.{Kind}
 use Rattle.frame.specs.Frame.{isKind, kindOf, frontChips, frameChips}
 use Rattle.calls.specs.declared.Refusal.{Refusal}

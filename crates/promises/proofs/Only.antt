@@ -18,7 +18,7 @@ use Rattle.rules_rates.specs.Plain.{LengthOf}
 use Rattle.rules_rates.proofs.Facts.{no-other-code}
 use Rattle.rules_rates.proofs.Plain.{length-is}
 use Rattle.reading.proofs.Telling.{Telling, TellingWhole, TellingWholeIf, whole-telling}
-use Rattle.chips.specs.Chips.{Taken}
+use Rattle.rules_chips.specs.Chips.{Taken}
 use Rattle.frame.specs.declared.Kind.{Kind}
 use Rattle.frame.specs.Frame.{isKind, kindOf, goesWith, frontChips, frameChips}
 use Rattle.frame.proofs.Headers.{clock-lt}

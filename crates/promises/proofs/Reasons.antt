@@ -17,7 +17,7 @@ use Rattle.rules_rates.specs.Rates.{codeOf, isCode, rateOf, octetChips, lengthF
 use Rattle.rules_rates.specs.Plain.{LengthOf, SevenOf}
 use Rattle.rules_rates.proofs.Facts.{no-other-code}
 use Rattle.rules_rates.proofs.Plain.{length-is, seven-is, holds-any}
-use Rattle.chips.specs.Chips.{Taken}
+use Rattle.rules_chips.specs.Chips.{Taken}
 use Rattle.bits.specs.Bits.{numberOf}
 use Rattle.frame.specs.declared.Kind.{Kind}
 use Rattle.frame.specs.Frame.{isKind, kindOf, sfdOf, syncBits, goesWith, clockBit, frontChips, frameChips}

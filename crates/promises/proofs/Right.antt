@@ -17,10 +17,10 @@ use Rattle.rules_rates.specs.declared.Rate.{Rate}
 use Rattle.rules_rates.specs.declared.Rate.the-variants.{One, Two, Five, Eleven}
 use Rattle.rules_rates.specs.Rates.{symbolChips, symbolBits, octetChips}
 use Rattle.rules_rates.proofs.Octets.{part-symbols, part-chips}
-use Rattle.chips.specs.declared.Counts.{Counts}
-use Rattle.chips.specs.declared.Chip.the-variants.{Lost, Hard, Soft}
-use Rattle.chips.specs.Floats.{usable}
-use Rattle.chips.specs.Chips.{
+use Rattle.rules_chips.specs.declared.Counts.{Counts}
+use Rattle.rules_chips.specs.declared.Chip.the-variants.{Lost, Hard, Soft}
+use Rattle.rules_chips.specs.Floats.{usable}
+use Rattle.rules_chips.specs.Chips.{
   Taken,
   unusable,
   isUnusable,
@@ -36,10 +36,10 @@ use Rattle.chips.specs.Chips.{
   softRecording,
   byteRecording,
 }
-use Rattle.chips.specs.Bounds.{Apart}
-use Rattle.chips.proofs.Bounds.{soft-near, hard-exact, lost-exact}
-use Rattle.chips.proofs.Bytes.{bytes-usable, byte-exact}
-use Rattle.chips.proofs.Recorders.{sample, taken-hard, taken-soft, unusable-hard, unusable-soft}
+use Rattle.rules_chips.specs.Bounds.{Apart}
+use Rattle.rules_chips.proofs.Bounds.{soft-near, hard-exact, lost-exact}
+use Rattle.rules_chips.proofs.Bytes.{bytes-usable, byte-exact}
+use Rattle.rules_chips.proofs.Recorders.{sample, taken-hard, taken-soft, unusable-hard, unusable-soft}
 use Rattle.symbols.specs.Choice.{decided, leadOf}
 use Rattle.choosing.specs.Demand3.{RightUpTo, LeadsExactly}
 use Rattle.choosing.proofs.Demand3.{demand-3, lead-says}

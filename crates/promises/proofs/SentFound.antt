@@ -10,8 +10,8 @@ use lib.ListN.{length, take, drop}
 use lib.Seq.{drop-at}
 use Rattle.rules_rates.specs.declared.Rate.{Rate}
 use Rattle.rules_rates.specs.Rates.{rateOf, lengthField}
-use Rattle.chips.specs.Chips.{Taken, hardRecording}
-use Rattle.chips.proofs.Recorders.{drop-hard}
+use Rattle.rules_chips.specs.Chips.{Taken, hardRecording}
+use Rattle.rules_chips.proofs.Recorders.{drop-hard}
 use Rattle.frame.specs.declared.Kind.{Kind}
 use Rattle.frame.specs.Frame.{kindOf, clockOf}
 use Rattle.calls.specs.declared.Written.{Written}

@@ -8,8 +8,8 @@ use lib.ListN.{length, take, replicate, length-append}
 use lib.Seq.{take-at, drop-at, take-append-le, length-take-le}
 use Rattle.rules_rates.specs.declared.Rate.{Rate}
 use Rattle.rules_rates.specs.Rates.{codeOf, rateOf, octetChips, lengthField}
-use Rattle.chips.specs.Chips.{hardRecording}
-use Rattle.chips.proofs.Recorders.{length-hard, take-hard}
+use Rattle.rules_chips.specs.Chips.{hardRecording}
+use Rattle.rules_chips.proofs.Recorders.{length-hard, take-hard}
 use Rattle.frame.specs.declared.Kind.{Kind}
 use Rattle.frame.specs.Frame.{kindOf, clockOf, clockBit, frontChips, frameChips}
 use Rattle.calls.specs.declared.Written.{Written}

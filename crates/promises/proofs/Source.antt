@@ -9,7 +9,7 @@ use lib.ListN.{length, getD, take, drop, replicate, take-append-drop, List·getD
 use lib.Seq.{take-at}
 use Rattle.rules_rates.specs.declared.Rate.{Rate}
 use Rattle.rules_rates.specs.Rates.{rateOf, lengthField}
-use Rattle.chips.specs.Chips.{turned, hardRecording}
+use Rattle.rules_chips.specs.Chips.{turned, hardRecording}
 use Rattle.symbols.specs.Words.{barkerWord}
 use Rattle.bits.specs.Bits.{bitsOf}
 use Rattle.bits.specs.Growths.{symbolOf, symbolsFrom, symbolsOf, chipsFrom}

@@ -12,7 +12,7 @@ use Rattle.base.specs.Below.{Below}
 use Rattle.rules_rates.specs.declared.Rate.{Rate}
 use Rattle.rules_rates.specs.Plain.{LengthOf, length-1, length-11}
 use Rattle.rules_rates.proofs.Plain.{length-once}
-use Rattle.chips.specs.Chips.{Taken}
+use Rattle.rules_chips.specs.Chips.{Taken}
 use Rattle.frame.specs.declared.Kind.the-variants.{Long}
 use Rattle.frame.specs.Frame.{frame}
 use Rattle.frame.specs.TableP.{computed, printed}

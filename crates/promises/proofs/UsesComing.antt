@@ -9,7 +9,7 @@ use lib.Seq.{take-at}
 use Rattle.rules_rates.specs.Plain.{LengthOf}
 use Rattle.calls.specs.declared.Written.{Written}
 use Rattle.calls.specs.declared.Record.{Record}
-use Rattle.chips.specs.Chips.{hardRecording}
+use Rattle.rules_chips.specs.Chips.{hardRecording}
 use Rattle.frame.specs.Frame.{kindOf}
 use Rattle.coming.specs.declared.Coming.{Coming}
 use Rattle.coming.specs.Coming.{frontReading, comingOf, partOf}

@@ -16,8 +16,8 @@ use Rattle.base.proofs.Whole.{of-le, le-of, add, up-pos, dn-pos}
 use Rattle.rules_rates.specs.declared.Rate.{Rate}
 use Rattle.rules_rates.specs.declared.Rate.the-variants.{One, Two, Five, Eleven}
 use Rattle.rules_rates.specs.Rates.{rateOf, symbolChips}
-use Rattle.chips.specs.Floats.{usable}
-use Rattle.chips.specs.Chips.{Taken, hardRecording, softRecording, byteRecording}
+use Rattle.rules_chips.specs.Floats.{usable}
+use Rattle.rules_chips.specs.Chips.{Taken, hardRecording, softRecording, byteRecording}
 use Rattle.symbols.specs.Choice.{numbers, isAllowed}
 use Rattle.choosing.specs.Scores.{scoreAt, LeadsBy}
 use Rattle.choosing.specs.Demand3.{exactAt, LeadsExactly}

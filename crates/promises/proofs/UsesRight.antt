@@ -13,10 +13,10 @@ use lib.Ieee.{Float, nan, binary32, ofBits}
 use Rattle.rules_rates.specs.declared.Rate.{Rate}
 use Rattle.rules_rates.specs.declared.Rate.the-variants.{One}
 use Rattle.rules_rates.specs.Rates.{symbolChips, symbolBits}
-use Rattle.chips.specs.declared.Counts.{Counts}
-use Rattle.chips.specs.Floats.{steps, usable, valueOf, countOf, Nearest}
-use Rattle.chips.specs.Bounds.{Apart}
-use Rattle.chips.specs.Chips.{
+use Rattle.rules_chips.specs.declared.Counts.{Counts}
+use Rattle.rules_chips.specs.Floats.{steps, usable, valueOf, countOf, Nearest}
+use Rattle.rules_chips.specs.Bounds.{Apart}
+use Rattle.rules_chips.specs.Chips.{
   Taken,
   unusable,
   isUnusable,

@@ -10,7 +10,7 @@ use lib.Dec.{eqb}
 use lib.ListN.{length}
 use lib.IntN.{ℤ}
 use lib.Ieee.{Float}
-use Rattle.chips.specs.Chips.{Taken, hardRecording, softRecording, byteRecording}
+use Rattle.rules_chips.specs.Chips.{Taken, hardRecording, softRecording, byteRecording}
 use Rattle.base.specs.Below.{Below}
 use Rattle.frame.specs.Frame.{kindOf}
 use Rattle.calls.specs.declared.Written.{Written}

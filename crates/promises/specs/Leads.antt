@@ -9,8 +9,8 @@ use lib.ListN.{getD, take, drop}
 use Rattle.rules_rates.specs.declared.Rate.{Rate}
 use Rattle.rules_rates.specs.declared.Rate.the-variants.{One}
 use Rattle.rules_rates.specs.Rates.{rateOf, symbolChips, symbolBits}
-use Rattle.chips.specs.declared.Counts.{Counts}
-use Rattle.chips.specs.Chips.{Taken, takenCounts}
+use Rattle.rules_chips.specs.declared.Counts.{Counts}
+use Rattle.rules_chips.specs.Chips.{Taken, takenCounts}
 use Rattle.choosing.specs.Scores.{LeadsBy}
 use Rattle.choosing.specs.Demand3.{LeadsExactly}
 use Rattle.frame.specs.declared.Kind.{Kind}

@@ -15,8 +15,8 @@ use lib.Ieee.{Float}
 use Rattle.base.specs.Below.{Below}
 use Rattle.rules_rates.specs.Rates.{rateOf}
 use Rattle.rules_rates.specs.Plain.{LengthOf}
-use Rattle.chips.specs.Floats.{usable, valueOf, countOf, Nearest}
-use Rattle.chips.specs.Chips.{Taken}
+use Rattle.rules_chips.specs.Floats.{usable, valueOf, countOf, Nearest}
+use Rattle.rules_chips.specs.Chips.{Taken}
 use Rattle.calls.specs.declared.Written.{Written}
 use Rattle.calls.specs.declared.Record.{Record}
 use Rattle.frame.specs.Frame.{kindOf, clockOf, frame}

@@ -14,11 +14,11 @@ use lib.Ieee.{Float, nan}
 use Rattle.rules_rates.specs.declared.Rate.{Rate}
 use Rattle.rules_rates.specs.declared.Rate.the-variants.{One}
 use Rattle.rules_rates.specs.Rates.{symbolChips, symbolBits}
-use Rattle.chips.specs.declared.Counts.{Counts}
-use Rattle.chips.specs.declared.Chip.the-variants.{Soft}
-use Rattle.chips.specs.Floats.{usable}
-use Rattle.chips.specs.Chips.{nothing, exactOf, Taken, unusable, isUnusable, takenCounts, hardChip, byteExact}
-use Rattle.chips.specs.Bounds.{Apart}
+use Rattle.rules_chips.specs.declared.Counts.{Counts}
+use Rattle.rules_chips.specs.declared.Chip.the-variants.{Soft}
+use Rattle.rules_chips.specs.Floats.{usable}
+use Rattle.rules_chips.specs.Chips.{nothing, exactOf, Taken, unusable, isUnusable, takenCounts, hardChip, byteExact}
+use Rattle.rules_chips.specs.Bounds.{Apart}
 use Rattle.choosing.specs.Demand3.{RightUpTo}
 use Rattle.frame.specs.declared.Kind.{Kind}
 use Rattle.frame.specs.Frame.{headerRate, frontChips, frameChips, preambleLength, headerLength, preambleChips}

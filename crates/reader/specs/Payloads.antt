@@ -5,7 +5,7 @@ use mathlib.Core.Option.{Option, none, some}
 use Prim.Native.Nat.{ℕ, _-_}
 use lib.ListN.{replicate}
 use Rattle.rules_rates.specs.declared.Rate.{Rate}
-use Rattle.chips.specs.Chips.{Taken}
+use Rattle.rules_chips.specs.Chips.{Taken}
 use Rattle.frame.specs.declared.Kind.{Kind}
 use Rattle.calls.specs.declared.Refusal.the-variants.{OddGrowth}
 use Rattle.calls.specs.declared.Told.{Told}

@@ -4,7 +4,7 @@ ghost use mathlib.Core.Bool.{true};
 ghost use Prim.Native.Nat.{_%_};
 ghost use lib.Dec.{eqb};
 ghost use lib.ListN.{length};
-ghost use Rattle.chips.specs.Chips.{hardRecording, softRecording, byteRecording};
+ghost use Rattle.rules_chips.specs.Chips.{hardRecording, softRecording, byteRecording};
 ghost use Rattle.calls.specs.Answers.{recordOf};
 ghost use Rattle.reading.specs.Reading.{readingOf, octetsFound};
 ghost use Rattle.recorders.specs.Rows.{lent};

@@ -8,7 +8,7 @@ use Prim.Native.Nat.{ℕ, _+_, _%_, _<_}
 use native.Mathlib.Omega.{arith}
 use lib.ListN.{length, getD}
 use Rattle.rules_rates.specs.declared.Rate.the-variants.{One}
-use Rattle.chips.specs.Chips.{Taken}
+use Rattle.rules_chips.specs.Chips.{Taken}
 use Rattle.bits.specs.Growths.{grownBy, growthsOf}
 use Rattle.bits.proofs.Heard.{growthsOf-length, growth-at}
 use Rattle.frame.specs.declared.Kind.{Kind}

@@ -13,7 +13,7 @@ use Rattle.base.specs.Below.{Below}
 use Rattle.base.proofs.Below.{below-take, below-drop}
 use Rattle.rules_rates.specs.declared.Rate.{Rate}
 use Rattle.rules_rates.specs.declared.Rate.the-variants.{One}
-use Rattle.chips.specs.Chips.{Taken}
+use Rattle.rules_chips.specs.Chips.{Taken}
 use Rattle.bits.specs.Bits.{bitsOf, numberOf}
 use Rattle.bits.specs.Crc.{crcBits}
 use Rattle.bits.proofs.Bits.{bits-number}

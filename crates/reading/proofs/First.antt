@@ -11,7 +11,7 @@ use native.Mathlib.Omega.{arith}
 use borrow.Author.Tests.{eqb-true, eqb-false}
 use lib.Dec.{T, eqb}
 use lib.ListN.{length, getD}
-use Rattle.chips.specs.Chips.{Taken, unusable, counted, isUnusable}
+use Rattle.rules_chips.specs.Chips.{Taken, unusable, counted, isUnusable}
 use Rattle.reading.specs.Reading.{firstUnusable, firstOdd}
 
 -- ---- a place that was found

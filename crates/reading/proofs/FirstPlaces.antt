@@ -17,7 +17,7 @@ use lib.Seq.{length-take-le, getD-take, getD-drop, drop-drop}
 use Rattle.rules_rates.specs.declared.Rate.{Rate}
 use Rattle.rules_rates.specs.declared.Rate.the-variants.{One, Two, Five, Eleven}
 use Rattle.rules_rates.specs.Rates.{symbolBits}
-use Rattle.chips.specs.Chips.{Taken, unusable, isUnusable, takenCounts}
+use Rattle.rules_chips.specs.Chips.{Taken, unusable, isUnusable, takenCounts}
 use Rattle.symbols.specs.Choice.{decided}
 use Rattle.bits.specs.Growths.{grownBy, growthsOf}
 use Rattle.bits.proofs.Heard.{growthsOf-length}

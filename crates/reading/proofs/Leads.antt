@@ -29,7 +29,7 @@ use lib.Seq.{drop-drop}
 use Rattle.rules_rates.specs.declared.Rate.{Rate}
 use Rattle.rules_rates.specs.declared.Rate.the-variants.{One}
 use Rattle.rules_rates.specs.Rates.{symbolChips, symbolBits}
-use Rattle.chips.specs.Chips.{Taken, takenCounts}
+use Rattle.rules_chips.specs.Chips.{Taken, takenCounts}
 use Rattle.symbols.specs.Choice.{leadOf}
 use Rattle.frame.specs.declared.Kind.{Kind}
 use Rattle.frame.specs.declared.Kind.the-variants.{Long, Short}

@@ -18,7 +18,7 @@ use lib.Dec.{eqb}
 use Rattle.rules_rates.specs.declared.Rate.{Rate}
 use Rattle.rules_rates.specs.declared.Rate.the-variants.{One, Two, Five, Eleven}
 use Rattle.rules_rates.specs.Rates.{symbolChips}
-use Rattle.chips.specs.Chips.{Taken}
+use Rattle.rules_chips.specs.Chips.{Taken}
 use Rattle.bits.specs.Growths.{growthBits}
 use Rattle.bits.specs.Scrambler.{descramble}
 use Rattle.bits.specs.Code.{pastAfter}

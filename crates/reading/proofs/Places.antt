@@ -13,7 +13,7 @@ use lib.ListN.{length, take, drop}
 use Rattle.rules_rates.specs.declared.Rate.{Rate}
 use Rattle.rules_rates.specs.declared.Rate.the-variants.{One, Two, Five, Eleven}
 use Rattle.rules_rates.specs.Rates.{symbolChips, symbolBits, octetChips}
-use Rattle.chips.specs.Chips.{Taken}
+use Rattle.rules_chips.specs.Chips.{Taken}
 use Rattle.bits.specs.Growths.{growthsOf}
 use Rattle.bits.proofs.Heard.{growthsOf-length}
 use Rattle.frame.specs.declared.Kind.{Kind}

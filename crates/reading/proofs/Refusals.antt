@@ -14,7 +14,7 @@ use borrow.Author.Tests.{ltb-true, ltb-false}
 use lib.Dec.{ltb}
 use lib.ListN.{length, take, drop}
 use Rattle.rules_rates.specs.Rates.{rateOf, lengthHolds}
-use Rattle.chips.specs.Chips.{Taken}
+use Rattle.rules_chips.specs.Chips.{Taken}
 use Rattle.bits.specs.Bits.{numberOf}
 use Rattle.bits.specs.Crc.{crcBits}
 use Rattle.frame.specs.declared.Kind.{Kind}

@@ -14,7 +14,7 @@ use Rattle.base.proofs.Below.{below-take, below-drop}
 use Rattle.rules_rates.specs.declared.Rate.{Rate}
 use Rattle.rules_rates.specs.declared.Rate.the-variants.{One}
 use Rattle.rules_rates.specs.Rates.{symbolChips}
-use Rattle.chips.specs.Chips.{Taken, takenCounts}
+use Rattle.rules_chips.specs.Chips.{Taken, takenCounts}
 use Rattle.symbols.specs.Choice.{decided}
 use Rattle.bits.specs.Bits.{_⊕_, bitsOf, numberOf}
 use Rattle.bits.specs.Growths.{heard, grownBy}

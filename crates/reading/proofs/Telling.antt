@@ -10,7 +10,7 @@ use lib.Dec.{ltb, nltb→le}
 use lib.ListN.{length, take}
 use Rattle.base.proofs.Tests.{branch}
 use Rattle.rules_rates.specs.Rates.{lengthField}
-use Rattle.chips.specs.Chips.{Taken}
+use Rattle.rules_chips.specs.Chips.{Taken}
 use Rattle.frame.specs.declared.Kind.{Kind}
 use Rattle.frame.specs.Frame.{goesWith, frontChips, frameChips}
 use Rattle.calls.specs.declared.Told.{Told}

@@ -10,7 +10,7 @@ use lib.Dec.{T}
 use Rattle.rules_rates.specs.declared.Rate.{Rate}
 use Rattle.rules_rates.specs.declared.Rate.the-variants.{One}
 use Rattle.rules_rates.specs.Rates.{symbolChips}
-use Rattle.chips.specs.Chips.{Taken, unusable, isUnusable, takenCounts}
+use Rattle.rules_chips.specs.Chips.{Taken, unusable, isUnusable, takenCounts}
 use Rattle.symbols.specs.Choice.{decided}
 use Rattle.bits.specs.Growths.{grownBy}
 

@@ -11,7 +11,7 @@ use lib.Dec.{eqb, ltb}
 use Rattle.rules_rates.specs.declared.Rate.{Rate}
 use Rattle.rules_rates.specs.declared.Rate.the-variants.{One, Two, Five, Eleven}
 use Rattle.rules_rates.specs.Rates.{symbolChips, symbolBits}
-use Rattle.chips.specs.Chips.{Taken, isUnusable, takenCounts}
+use Rattle.rules_chips.specs.Chips.{Taken, isUnusable, takenCounts}
 use Rattle.symbols.specs.Choice.{decided}
 use Rattle.bits.specs.Bits.{octetsOf}
 use Rattle.bits.specs.Growths.{heard, growthsOf, lastHeard}

@@ -13,7 +13,7 @@ use Rattle.base.proofs.Tables.{length-tabulate, getD-tabulate}
 use Rattle.rules_rates.specs.declared.Rate.{Rate}
 use Rattle.rules_rates.specs.declared.Rate.the-variants.{One, Two}
 use Rattle.rules_rates.specs.Rates.{symbolChips}
-use Rattle.chips.specs.Chips.{Taken}
+use Rattle.rules_chips.specs.Chips.{Taken}
 use Rattle.symbols.specs.Choice.{decided, leadOf}
 use Rattle.choosing.proofs.Decided.{decided-barker}
 use Rattle.choosing.proofs.Leads.{lead-barker}

@@ -10,12 +10,20 @@ use lib.Dec.{T, eqb}
 use lib.ListN.{length, getD, take, drop}
 use lib.Ieee.{Float, nan}
 use Rattle.base.proofs.Tables.{getD-tabulate}
-use Rattle.chips.specs.declared.Chip.the-variants.{Lost, Hard, Soft}
-use Rattle.chips.specs.Chips.{usableSample, countsOf, unusable, takenCounts, hardChip, hardRecording, softRecording}
+use Rattle.rules_chips.specs.declared.Chip.the-variants.{Lost, Hard, Soft}
+use Rattle.rules_chips.specs.Chips.{
+  usableSample,
+  countsOf,
+  unusable,
+  takenCounts,
+  hardChip,
+  hardRecording,
+  softRecording,
+}
 use Rattle.axes.specs.Axes.{isHard, AllSoft, AllHard}
-use Rattle.chips.proofs.Recorders.{sample, taken-soft, length-soft, getD-soft, part-taken, part-hard}
+use Rattle.rules_chips.proofs.Recorders.{sample, taken-soft, length-soft, getD-soft, part-taken, part-hard}
 use Rattle.recorded.specs.Recorded.{hardPart, softPart, AllUsable}
-use Rattle.chips.proofs.Usable.{soft-at}
+use Rattle.rules_chips.proofs.Usable.{soft-at}
 
 -- ---- the counts
 pub gathered-hard : (n : ℕ) (xs : List ℕ) (at : ℕ) → at + n ≤ length xs

@@ -9,8 +9,8 @@ use lib.ListN.{length, getD, take, drop}
 use Rattle.base.proofs.Tables.{length-tabulate}
 use Rattle.rules_rates.specs.declared.Rate.{Rate}
 use Rattle.rules_rates.specs.Rates.{symbolChips}
-use Rattle.chips.specs.declared.Counts.{Counts}
-use Rattle.chips.specs.Chips.{takenCounts, hardChip, hardRecording}
+use Rattle.rules_chips.specs.declared.Counts.{Counts}
+use Rattle.rules_chips.specs.Chips.{takenCounts, hardChip, hardRecording}
 use Rattle.axes.specs.Axes.{unitOf}
 use Rattle.symbols.specs.Choice.{decided, leadOf}
 use Rattle.sums.proofs.Apart.{units-decided, units-lead}

@@ -16,7 +16,7 @@ use native.Mathlib.Numerals.{add-one}
 use native.Mathlib.Omega.{arith}
 use lib.ListN.{length, getD, take, drop}
 use lib.Seq.{drop-cons}
-use Rattle.chips.specs.Chips.{Taken, unusable, isUnusable}
+use Rattle.rules_chips.specs.Chips.{Taken, unusable, isUnusable}
 use Rattle.reading.specs.Reading.{firstUnusable}
 use Rattle.recorded.specs.Recorded.{AllUsable}
 

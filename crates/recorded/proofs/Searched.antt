@@ -6,7 +6,7 @@ use mathlib.Core.List.{List}
 use Prim.Native.Nat.{ℕ, _-_, _≤_}
 use native.Mathlib.Omega.{arith}
 use lib.ListN.{length, take, drop}
-use Rattle.chips.specs.Chips.{Taken}
+use Rattle.rules_chips.specs.Chips.{Taken}
 use Rattle.reading.specs.Reading.{orElse, firstUnusable}
 use Rattle.recorded.specs.declared.Place.{Place}
 use Rattle.recorded.specs.declared.Place.the-variants.{Nothing, At}

@@ -9,9 +9,9 @@ use borrow.Author.Tests.{eqb-true}
 use Rattle.base.specs.Tables.{tabulate}
 use Rattle.base.proofs.Tables.{tabulate-ext, map-tabulate, length-tabulate, getD-tabulate}
 use Rattle.axes.specs.declared.Axis.{Axis}
-use Rattle.chips.specs.declared.Chip.{Chip}
-use Rattle.chips.specs.declared.Chip.the-variants.{Lost, Hard}
-use Rattle.chips.specs.Chips.{fullChip, hardChip}
+use Rattle.rules_chips.specs.declared.Chip.{Chip}
+use Rattle.rules_chips.specs.declared.Chip.the-variants.{Lost, Hard}
+use Rattle.rules_chips.specs.Chips.{fullChip, hardChip}
 use Rattle.axes.specs.Axes.{along, octetOf, unitOf, unitsAlong}
 use Rattle.recorded.specs.Recorded.{hardPart}
 

@@ -11,10 +11,10 @@ use lib.Ieee.{Float, nan}
 use Rattle.base.specs.Tables.{tabulate}
 use Rattle.rules_rates.specs.declared.Rate.{Rate}
 use Rattle.rules_rates.specs.Rates.{symbolChips}
-use Rattle.chips.specs.declared.Counts.{Counts}
-use Rattle.chips.specs.declared.Chip.{Chip}
-use Rattle.chips.specs.declared.Chip.the-variants as chip
-use Rattle.chips.specs.Chips.{Taken, unusable, isUnusable, takenCounts, hardChip}
+use Rattle.rules_chips.specs.declared.Counts.{Counts}
+use Rattle.rules_chips.specs.declared.Chip.{Chip}
+use Rattle.rules_chips.specs.declared.Chip.the-variants as chip
+use Rattle.rules_chips.specs.Chips.{Taken, unusable, isUnusable, takenCounts, hardChip}
 use Rattle.symbols.specs.Choice.{decided, leadOf}
 use Rattle.recorded.specs.declared.Place.{Place}
 use Rattle.recorded.specs.declared.Place.the-variants.{Nothing, At}

@@ -9,9 +9,9 @@ use native.Mathlib.Omega.{arith}
 use lib.ListN.{length}
 use lib.IntN.{ℤ}
 use lib.Ieee.{Float}
-use Rattle.chips.specs.Chips.{softRecording}
-use Rattle.chips.proofs.Recorders.{length-hard, length-soft}
-use Rattle.chips.proofs.Bytes.{length-bytes}
+use Rattle.rules_chips.specs.Chips.{softRecording}
+use Rattle.rules_chips.proofs.Recorders.{length-hard, length-soft}
+use Rattle.rules_chips.proofs.Bytes.{length-bytes}
 use Rattle.recorders.specs.declared.Recorder.{Recorder}
 use Rattle.recorders.specs.declared.Recorder.the-variants.{Hard, Soft, Bytes}
 use Rattle.recorders.specs.Rows.{recordingOf}

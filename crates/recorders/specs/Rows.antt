@@ -6,7 +6,7 @@ use mathlib.Core.List.{List}
 use lib.IntN.{ℤ}
 use lib.Ieee.{Float}
 use denote.Ref.{RefT, now}
-use Rattle.chips.specs.Chips.{Taken, hardRecording, softRecording, byteRecording}
+use Rattle.rules_chips.specs.Chips.{Taken, hardRecording, softRecording, byteRecording}
 use Rattle.recorders.specs.declared.Recorder.{Recorder}
 use Rattle.recorders.specs.declared.Recorder.the-variants.{Hard, Soft, Bytes}
 

@@ -5,7 +5,7 @@ ghost use mathlib.Core.Bool.{true, not};
 ghost use Prim.Native.Nat.{_+_, _*_, _-_, _≤_, _<_};
 ghost use lib.ListN.{length, getD, take, drop};
 ghost use Rattle.rules_rates.specs.Rates.{symbolChips};
-ghost use Rattle.chips.specs.Chips.{unusable, isUnusable};
+ghost use Rattle.rules_chips.specs.Chips.{unusable, isUnusable};
 ghost use Rattle.reading.specs.Reading.{firstUnusable};
 ghost use Rattle.recorders.specs.Rows.{lent};
 ghost use Rattle.recorded.specs.Recorded.{whereFound, AllUsable, DecidedAt, LeadsAt};

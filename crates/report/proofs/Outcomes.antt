@@ -11,7 +11,7 @@ use Rattle.base.proofs.Tests.{branch}
 use Rattle.rules_rates.specs.declared.Rate.{Rate}
 use Rattle.rules_rates.specs.declared.Rate.the-variants.{One, Two, Five, Eleven}
 use Rattle.rules_rates.specs.Rates.{codeOf, lengthField}
-use Rattle.chips.specs.Chips.{Taken, hardRecording}
+use Rattle.rules_chips.specs.Chips.{Taken, hardRecording}
 use Rattle.frame.specs.declared.Kind.{Kind}
 use Rattle.frame.specs.Frame.{isKind, kindOf}
 use Rattle.calls.specs.declared.Refusal.the-variants.{NoKind, Unusable, OddGrowth}

@@ -5,7 +5,7 @@ use mathlib.Core.Bool.{Bool, true, cond, not, _&&_}
 use mathlib.Core.List.{List, [], _∷_}
 use mathlib.Core.Option.{Option, none, some}
 use lib.Dec.{eqb, ltb}
-use Rattle.chips.specs.Chips.{hardRecording}
+use Rattle.rules_chips.specs.Chips.{hardRecording}
 use Rattle.calls.specs.declared.Record.{Record}
 use Rattle.calls.specs.Answers.{recordOf}
 use Rattle.reading.specs.Reading.{readingOf}

@@ -16,9 +16,9 @@ use Rattle.rules_rates.specs.declared.Rate.{Rate}
 use Rattle.rules_rates.specs.declared.Rate.the-variants.{One}
 use Rattle.axes.specs.declared.Axis.the-variants.{I, Q}
 use Rattle.axes.specs.Axes.{along}
-use Rattle.chips.specs.declared.Counts.{Counts}
-use Rattle.chips.specs.Chips.{pair, nothing, takenCounts, byteCounts, byteRecording}
-use Rattle.chips.proofs.Bytes.{countsAt, part-bytes}
+use Rattle.rules_chips.specs.declared.Counts.{Counts}
+use Rattle.rules_chips.specs.Chips.{pair, nothing, takenCounts, byteCounts, byteRecording}
+use Rattle.rules_chips.proofs.Bytes.{countsAt, part-bytes}
 use Rattle.symbols.specs.Choice.{decided, leadOf}
 use Rattle.choosing.specs.Scores.{ChosenAs}
 use Rattle.sums.specs.Sums.{bySigns, asChip}

@@ -6,7 +6,7 @@ ghost use Prim.Native.Nat.{_+_, _*_, _/_, _<_, _≤_};
 ghost use lib.ListN.{length, getD};
 ghost use Rattle.base.specs.Tables.{tabulate};
 ghost use Rattle.base.specs.Whole.{Within};
-ghost use Rattle.chips.specs.Chips.{byteRecording};
+ghost use Rattle.rules_chips.specs.Chips.{byteRecording};
 ghost use Rattle.symbols.specs.Choice.{decided, leadOf};
 ghost use Rattle.choosing.specs.Scores.{RowWithin};
 ghost use Rattle.sums.specs.Sums.{everyRow};

@@ -4,13 +4,13 @@ ghost use mathlib.Core.Path.{_≡_};
 ghost use mathlib.Core.Bool.{true, not};
 ghost use Prim.Native.Nat.{_+_, _*_, _<_, _≤_};
 ghost use lib.ListN.{length, getD};
-ghost use Rattle.chips.specs.Chips.{unusable, isUnusable, softRecording};
+ghost use Rattle.rules_chips.specs.Chips.{unusable, isUnusable, softRecording};
 ghost use Rattle.choosing.specs.Scores.{RowWithin};
 ghost use Rattle.recorded.specs.Columns.{ColumnSet, Columns, softColumn};
 ghost use Rattle.recorded.specs.Recorded.{softPart, AllUsable, DecidedAt, LeadsAt};
 use axes::Axis;
-use chips::Chip;
-use chips::Sample;
+use rules_chips::Chip;
+use rules_chips::Sample;
 use choice::Choice;
 use rules_rates::Rate;
 

@@ -13,13 +13,13 @@ use Rattle.rules_rates.specs.declared.Rate.{Rate}
 use Rattle.rules_rates.specs.declared.Rate.the-variants.{One}
 use Rattle.axes.specs.declared.Axis.{Axis}
 use Rattle.axes.specs.declared.Axis.the-variants.{I, Q}
-use Rattle.chips.specs.declared.Counts.{Counts}
-use Rattle.chips.specs.declared.Chip.{Chip}
-use Rattle.chips.specs.declared.Chip.the-variants.{Lost}
-use Rattle.chips.specs.Chips.{pair, nothing, fullChip, countsOf}
-use Rattle.chips.specs.Bounds.{Bounded}
+use Rattle.rules_chips.specs.declared.Counts.{Counts}
+use Rattle.rules_chips.specs.declared.Chip.{Chip}
+use Rattle.rules_chips.specs.declared.Chip.the-variants.{Lost}
+use Rattle.rules_chips.specs.Chips.{pair, nothing, fullChip, countsOf}
+use Rattle.rules_chips.specs.Bounds.{Bounded}
 use Rattle.axes.specs.Axes.{along, unitOf, octetOf, AllHard}
-use Rattle.chips.proofs.Bounds.{counts-within}
+use Rattle.rules_chips.proofs.Bounds.{counts-within}
 use Rattle.axes.proofs.Axes.{hard-counts}
 use Rattle.symbols.specs.Choice.{decided, leadOf}
 use Rattle.choosing.specs.Scores.{RowWithin, ChosenAs}

@@ -11,9 +11,9 @@ use Rattle.base.specs.Tables.{tabulate}
 use Rattle.base.proofs.Tables.{getD-tabulate, tabulate-all}
 use Rattle.base.proofs.Whole.{within-zero}
 use Rattle.rules_rates.specs.declared.Rate.the-variants.{Five}
-use Rattle.chips.specs.declared.Counts.{Counts}
-use Rattle.chips.specs.Chips.{pair, nothing}
-use Rattle.chips.specs.Bounds.{Bounded}
+use Rattle.rules_chips.specs.declared.Counts.{Counts}
+use Rattle.rules_chips.specs.Chips.{pair, nothing}
+use Rattle.rules_chips.specs.Bounds.{Bounded}
 use Rattle.choosing.specs.Scores.{number5, scoreAt, AllBounded, RowWithin, ChosenAs}
 use Rattle.choosing.specs.Keys.{TwoLargest, HoldsTwo}
 use Rattle.sums.specs.Sums.{rows, keyAt}

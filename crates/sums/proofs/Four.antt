@@ -7,7 +7,7 @@ use lib.IntN.{ℤ, negℤ, natAbs, +ℤ-idr}
 use Rattle.rules_rates.specs.declared.Rate.the-variants.{One}
 use Rattle.symbols.specs.Words.{barkerWord}
 use Rattle.symbols.specs.Choice.{score, term}
-use Rattle.chips.specs.Chips.{pair}
+use Rattle.rules_chips.specs.Chips.{pair}
 use Rattle.choosing.specs.Scores.{scoreAt, ChosenAs}
 use Rattle.choosing.specs.Keys.{keyOf, TwoLargest, HoldsTwo}
 use Rattle.sums.specs.Sums.{asChip}

@@ -19,8 +19,8 @@ use Rattle.base.specs.Whole.{Within}
 use Rattle.base.proofs.Whole.{fits-at, within-add, within-neg, within-zero, within-more}
 use Rattle.base.proofs.Tests.{all-at, implies, implied}
 use Rattle.rules_rates.specs.declared.Rate.the-variants.{One}
-use Rattle.chips.specs.declared.Counts.{Counts}
-use Rattle.chips.specs.Chips.{pair}
+use Rattle.rules_chips.specs.declared.Counts.{Counts}
+use Rattle.rules_chips.specs.Chips.{pair}
 use Rattle.axes.specs.declared.Axis.{Axis}
 use Rattle.axes.specs.declared.Axis.the-variants.{I, Q}
 use Rattle.axes.specs.Axes.{along, phaseOn}

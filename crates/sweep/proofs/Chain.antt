@@ -10,7 +10,7 @@ use lib.Bits.{bitXor}
 use lib.ListN.{getD}
 use Rattle.base.specs.Tables.{tabulate}
 use Rattle.rules_rates.specs.declared.Rate.the-variants.{One}
-use Rattle.chips.specs.Chips.{Taken}
+use Rattle.rules_chips.specs.Chips.{Taken}
 use Rattle.bits.specs.Bits.{_⊕_, numberOf}
 use Rattle.choosing.proofs.Decided.{decided-below}
 use Rattle.recorded.specs.Recorded.{symbolAt}

@@ -25,7 +25,7 @@ use Rattle.rules_rates.specs.declared.Rate.the-variants.{One}
 use Rattle.axes.specs.declared.Axis.{Axis}
 use Rattle.axes.specs.declared.Axis.the-variants.{I, Q}
 use Rattle.axes.specs.Axes.{along, unitsAlong}
-use Rattle.chips.specs.Chips.{pair, fullChip, hardRecording}
+use Rattle.rules_chips.specs.Chips.{pair, fullChip, hardRecording}
 use Rattle.symbols.specs.Words.{barkerSigns}
 use Rattle.symbols.specs.Choice.{term, decided}
 use Rattle.choosing.specs.Scores.{scoreAt, DecidedAs}

@@ -11,7 +11,7 @@ use lib.ListN.{length, getD}
 use mir.Val.{boolByte}
 use Rattle.base.specs.Tables.{tabulate}
 use Rattle.rules_rates.specs.declared.Rate.the-variants.{One}
-use Rattle.chips.specs.Chips.{Taken}
+use Rattle.rules_chips.specs.Chips.{Taken}
 use Rattle.symbols.specs.Choice.{decided}
 use Rattle.bits.specs.Bits.{_⊕_, numberOf}
 use Rattle.frame.specs.declared.Kind.{Kind}

@@ -7,7 +7,7 @@ ghost use mathlib.Core.List.{List};
 ghost use mathlib.Core.Path.{_≡_};
 ghost use Prim.Native.Nat.{ℕ, _+_, _*_, _/_, _%_, _≤_, _<_, min};
 ghost use lib.ListN.{length, getD};
-ghost use Rattle.chips.specs.Chips.{Taken, hardRecording};
+ghost use Rattle.rules_chips.specs.Chips.{Taken, hardRecording};
 ghost use Rattle.sweep.specs.Sweep.{sideOf, halfOfEleven, Sides, halfAt, Row, Added, halfOf};
 ghost use Rattle.sweep.specs.Sweep.{bitOf, plainOf, joinedOf, Small, MarkedOf, Marked};
 

@@ -9,8 +9,8 @@ use Rattle.base.specs.Tables.{tabulate}
 use Rattle.rules_rates.specs.declared.Rate.{Rate}
 use Rattle.rules_rates.specs.declared.Rate.the-variants.{One, Two, Five, Eleven}
 use Rattle.rules_rates.specs.Rates.{symbolChips}
-use Rattle.chips.specs.declared.Counts.{Counts}
-use Rattle.chips.specs.Chips.{pair, nothing, fullChip}
+use Rattle.rules_chips.specs.declared.Counts.{Counts}
+use Rattle.rules_chips.specs.Chips.{pair, nothing, fullChip}
 use Rattle.symbols.specs.Words.{barkerWord, cckWord, cckNumber, p1Of, p2Of, p3Of, p4Of, wordOf, phaseOf}
 use Rattle.symbols.specs.Choice.{term, score, those, allowed, going, firstLargest, decided, others, leadOf}
 

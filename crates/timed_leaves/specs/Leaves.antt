@@ -11,8 +11,8 @@ use lib.Ieee.{Float, nan}
 use Rattle.rules_rates.specs.declared.Rate.{Rate}
 use Rattle.rules_rates.specs.declared.Rate.the-variants.{Eleven}
 use Rattle.rules_rates.specs.Rates.{isCode, rateOf, symbolChips}
-use Rattle.chips.specs.Floats.{countOf}
-use Rattle.chips.specs.Chips.{Taken, takenCounts, softRecording}
+use Rattle.rules_chips.specs.Floats.{countOf}
+use Rattle.rules_chips.specs.Chips.{Taken, takenCounts, softRecording}
 use Rattle.symbols.specs.Choice.{decided}
 use Rattle.reading.specs.Reading.{orElse, firstUnusable}
 use Rattle.recorded.specs.Recorded.{symbolAt}

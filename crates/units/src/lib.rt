@@ -3,7 +3,7 @@
 // symbols go side by side where counts have room for four. Arrays of chips dissolve in the one loop over symbols that
 // calls `decide_barker` or `decide_five`.
 use axes::Axis;
-use chips::Chip;
+use rules_chips::Chip;
 use rules_rates::Rate;
 ghost use mathlib.Core.Path.{_≡_};
 ghost use Prim.Native.Nat.{_+_, _*_, _-_, _/_, _%_, _<_, _≤_};

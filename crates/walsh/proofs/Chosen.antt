@@ -16,7 +16,7 @@ use lib.Signed.{nonNeg, _≤ℤ_}
 use Rattle.base.specs.Whole.{up, dn}
 use Rattle.base.proofs.Whole.{add, of-le, of-lt, le-of, up-pos, dn-pos}
 use Rattle.rules_rates.specs.declared.Rate.the-variants.{Eleven}
-use Rattle.chips.specs.declared.Counts.{Counts}
+use Rattle.rules_chips.specs.declared.Counts.{Counts}
 use Rattle.symbols.specs.Choice.{decided}
 use Rattle.choosing.specs.Scores.{NextAs}
 use Rattle.choosing.specs.Keys.{Largest}

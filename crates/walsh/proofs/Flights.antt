@@ -11,9 +11,9 @@ use lib.ListN.{length, getD, set}
 use lib.IntN.{ℤ, pos, _+ℤ_, _-ℤ_}
 use mir.Syntax.{Width}
 use mir.Val.{SFits, toZ, ofZ, hbits}
-use Rattle.chips.specs.declared.Counts.{Counts}
-use Rattle.chips.specs.Chips.{pair}
-use Rattle.chips.specs.Bounds.{Bounded}
+use Rattle.rules_chips.specs.declared.Counts.{Counts}
+use Rattle.rules_chips.specs.Chips.{pair}
+use Rattle.rules_chips.specs.Bounds.{Bounded}
 use Rattle.base.proofs.Adding.{Reads, reads-of, reads-fits, reads-add, less-fits, reads-less}
 use Rattle.choosing.proofs.Clean.{phase}
 use Rattle.walsh.specs.Turns.{fly}

@@ -31,7 +31,7 @@ use Rattle.base.proofs.Whole.{
   within-neg,
   within-more,
 }
-use Rattle.chips.specs.declared.Counts.{Counts}
+use Rattle.rules_chips.specs.declared.Counts.{Counts}
 use Rattle.choosing.specs.Keys.{larger, smaller}
 use Rattle.base.proofs.Adding.{Reads, made-fits, made, within-pos}
 use Rattle.choosing.proofs.Wide.{abs-le}

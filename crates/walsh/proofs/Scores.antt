@@ -10,8 +10,8 @@ use lib.Dec.{lit<}
 use lib.ListN.{getD}
 use lib.IntN.{ℤ, pos, negsuc, negℤ, _+ℤ_, _*ℤ_, +ℤ-assoc, +ℤ-idr, negℤ-negℤ}
 use Rattle.base.specs.Tables.{tabulate}
-use Rattle.chips.specs.declared.Counts.{Counts}
-use Rattle.chips.specs.Chips.{pair}
+use Rattle.rules_chips.specs.declared.Counts.{Counts}
+use Rattle.rules_chips.specs.Chips.{pair}
 use Rattle.symbols.specs.Words.{cckWord}
 use Rattle.symbols.specs.Choice.{term, score}
 use Rattle.choosing.proofs.Scaled.{k-add, term-times}

@@ -17,7 +17,7 @@ use lib.IntN.{ℤ, pos, negsuc, negℤ, natAbs, _+ℤ_, _-ℤ_}
 use lib.Signed.{ltZ, _≤ℤ_, _<ℤ_, ltZ-yes, ltZ-no, ≤ℤ-refl}
 use Rattle.base.specs.Whole.{up, dn}
 use Rattle.base.proofs.Whole.{add, neg-up, neg-dn, up-pos, dn-pos, le-of, lt-of, of-le, of-lt}
-use Rattle.chips.specs.declared.Counts.{Counts}
+use Rattle.rules_chips.specs.declared.Counts.{Counts}
 use Rattle.choosing.specs.Keys.{larger}
 use Rattle.walsh.specs.Turns.{sided, credit, fourTop, topOf, nextOf}
 use Rattle.walsh.specs.Rows.{rowAt, evens, odds}

@@ -22,9 +22,9 @@ use Rattle.base.specs.Tables.{tabulate}
 use Rattle.base.specs.Whole.{Within}
 use Rattle.base.proofs.Tables.{length-tabulate, getD-tabulate}
 use Rattle.base.proofs.Whole.{small, within-zero, within-neg, within-more, within-add}
-use Rattle.chips.specs.declared.Counts.{Counts}
-use Rattle.chips.specs.Chips.{pair}
-use Rattle.chips.specs.Bounds.{Bounded}
+use Rattle.rules_chips.specs.declared.Counts.{Counts}
+use Rattle.rules_chips.specs.Chips.{pair}
+use Rattle.rules_chips.specs.Bounds.{Bounded}
 use Rattle.choosing.specs.Scores.{RowWithin}
 use Rattle.base.proofs.Adding.{
   Reads,

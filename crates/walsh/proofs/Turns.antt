@@ -9,8 +9,8 @@ use native.Mathlib.Omega.{arith}
 use lib.Dec.{lit<}
 use lib.IntN.{ℤ, pos, _+ℤ_, negℤ-+ℤ, negℤ-negℤ}
 use Rattle.base.proofs.Whole.{add, same, up-pos, dn-pos, within-zero, within-neg, within-add}
-use Rattle.chips.specs.declared.Counts.{Counts}
-use Rattle.chips.specs.Bounds.{Bounded}
+use Rattle.rules_chips.specs.declared.Counts.{Counts}
+use Rattle.rules_chips.specs.Bounds.{Bounded}
 use Rattle.symbols.specs.Words.{cckWord}
 use Rattle.symbols.specs.Choice.{term, score}
 use Rattle.choosing.proofs.Clean.{phase}

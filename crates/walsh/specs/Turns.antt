@@ -8,8 +8,8 @@ use lib.ListN.{getD}
 use mathlib.Core.Bool.{cond}
 use lib.IntN.{ℤ, pos, negsuc, negℤ, natAbs, _+ℤ_, _-ℤ_}
 use lib.Signed.{ltZ}
-use Rattle.chips.specs.declared.Counts.{Counts}
-use Rattle.chips.specs.Chips.{pair, nothing}
+use Rattle.rules_chips.specs.declared.Counts.{Counts}
+use Rattle.rules_chips.specs.Chips.{pair, nothing}
 use Rattle.choosing.specs.Keys.{larger, smaller}
 
 -- the sum of two, and one turned back by r quarter turns

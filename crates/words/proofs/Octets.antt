@@ -9,7 +9,7 @@ use native.Mathlib.Omega.{arith}
 use lib.ListN.{length, getD}
 use Rattle.base.specs.Below.{Below}
 use Rattle.base.proofs.Below.{below-head, below-tail, below-eight}
-use Rattle.chips.specs.Chips.{turned}
+use Rattle.rules_chips.specs.Chips.{turned}
 use Rattle.symbols.specs.Words.{cckWord}
 use Rattle.words.specs.Octets.{together, quarters}
 use Rattle.symbols.proofs.Words.{fiveTable, fiveWord, five-at, cck-turned}

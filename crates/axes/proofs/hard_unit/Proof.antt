@@ -7,7 +7,7 @@ use lib.Dec.{lit≤, eqb}
 use borrow.Author.Needs.{needs}
 use Rattle.axes.specs.declared.Axis.{Axis}
 use Rattle.axes.specs.declared.Axis.the-variants.{I, Q}
-use Rattle.chips.specs.Chips.{fullChip}
+use Rattle.rules_chips.specs.Chips.{fullChip}
 use Rattle.axes.specs.Axes.{along, phaseOn}
 use Rattle.axes.proofs.Axes.{made, unit-fits, unit-made}
 use Rattle.axes.proofs.hard_unit.Statement.{statement}

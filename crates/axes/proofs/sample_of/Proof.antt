@@ -3,7 +3,7 @@
 use mathlib.Core.Path.{subst}
 use lib.Dec.{T}
 use borrow.Author.Needs.{needs}
-use Rattle.chips.specs.declared.Chip.{Chip}
+use Rattle.rules_chips.specs.declared.Chip.{Chip}
 use Rattle.axes.specs.Axes.{softUsable}
 use Rattle.axes.proofs.sample_of.Statement.{statement}
 use Rattle.axes.proofs.sample_of.Tie as tie

@@ -4,7 +4,7 @@ use mathlib.Core.Path.{_≡_, sym, ap, _∙_}
 use borrow.Author.Needs.{needs}
 use mir.Syntax.{w32}
 use mir.Val.{toZ, ofZ}
-use Rattle.chips.specs.declared.Counts.{Counts}
+use Rattle.rules_chips.specs.declared.Counts.{Counts}
 use Rattle.axes.proofs.Axes.{usable-i, usable-q, soft-counts}
 use Rattle.axes.proofs.soft_count.Statement.{statement}
 use Rattle.axes.proofs.soft_count.Tie as tie

@@ -10,8 +10,8 @@ use mir.Syntax.{w16, w64}
 use mir.Val.{Fits, toZ, ofZ}
 use borrow.Author.Needs.{needs}
 use Rattle.base.proofs.Whole.{small, within-read}
-use Rattle.chips.specs.Bounds.{Bounded}
-use Rattle.chips.specs.Chips.{pair}
+use Rattle.rules_chips.specs.Bounds.{Bounded}
+use Rattle.rules_chips.specs.Chips.{pair}
 use Rattle.walsh.specs.Rows.{rowAt}
 use Rattle.walsh.specs.Search.{held, fourMore, Quartered}
 use Rattle.walsh.proofs.Stages.{row-at}

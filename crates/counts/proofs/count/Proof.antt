@@ -16,8 +16,8 @@ use mir.Val.{SFits, toZ}
 use mir.ValLaws.{toZ-pos, toZ-ofZ}
 use Rattle.base.specs.Whole.{up, dn, Within}
 use Rattle.base.proofs.Whole.{add, neg-up, neg-dn, up-pos, dn-pos, fits-at}
-use Rattle.chips.specs.Floats.{steps, negative, usable, nearest, signed, countOf}
-use Rattle.chips.proofs.Sum.{cond-yes, moved, Summed, summed}
+use Rattle.rules_chips.specs.Floats.{steps, negative, usable, nearest, signed, countOf}
+use Rattle.rules_chips.proofs.Sum.{cond-yes, moved, Summed, summed}
 use Rattle.counts.proofs.count.Statement.{statement}
 use Rattle.counts.proofs.count.Tie as tie
 

@@ -4,7 +4,7 @@
 use mathlib.Core.Path.{sym, subst}
 use lib.Dec.{T}
 use lib.Ieee.{binary32, fits, ofBits, neg}
-use Rattle.chips.proofs.Steps.{usable-is}
+use Rattle.rules_chips.proofs.Steps.{usable-is}
 use Rattle.counts.proofs.usable.Statement.{statement}
 use Rattle.counts.proofs.usable.Tie as tie
 

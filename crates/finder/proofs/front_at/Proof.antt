@@ -4,8 +4,8 @@ use mathlib.Core.List.{List}
 use Prim.Native.Nat.{ℕ}
 use borrow.Author.Needs.{needs}
 use Rattle.base.proofs.Over.{lent}
-use Rattle.chips.specs.Chips.{hardRecording}
-use Rattle.chips.proofs.Recorders.{drop-hard}
+use Rattle.rules_chips.specs.Chips.{hardRecording}
+use Rattle.rules_chips.proofs.Recorders.{drop-hard}
 use Rattle.reading.specs.Reading.{frontOf}
 use Rattle.finder.proofs.front_at.Statement.{statement}
 use Rattle.finder.proofs.front_at.Tie as tie

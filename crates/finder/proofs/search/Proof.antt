@@ -6,8 +6,8 @@ use Prim.Native.Nat.{ℕ, _+_, _-_, _/_, _%_, _≤_, _<_, min}
 use native.Mathlib.Omega.{arith}
 use lib.ListN.{length}
 use borrow.Author.Needs.{needs}
-use Rattle.chips.specs.Chips.{hardRecording}
-use Rattle.chips.proofs.Recorders.{length-hard}
+use Rattle.rules_chips.specs.Chips.{hardRecording}
+use Rattle.rules_chips.proofs.Recorders.{length-hard}
 use Rattle.frame.specs.declared.Kind.{Kind}
 use Rattle.frame.specs.declared.Kind.the-variants.{Long, Short}
 use Rattle.frame.specs.Frame.{sfdOf, preambleChips, frontChips}

@@ -6,7 +6,7 @@ use native.Mathlib.Omega.{arith}
 use lib.ListN.{drop}
 use borrow.Author.Needs.{needs}
 use borrow.Author.Tests.{not-true}
-use Rattle.chips.specs.Chips.{hardRecording}
+use Rattle.rules_chips.specs.Chips.{hardRecording}
 use Rattle.finding.proofs.Laws.{AllMissed, start-none}
 use Rattle.finding.proofs.Seeks.{seek-hit, seek-miss, seek-none}
 use Rattle.finder.proofs.seek.Statement.{statement}

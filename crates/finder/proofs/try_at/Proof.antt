@@ -3,7 +3,7 @@ use mathlib.Core.Path.{sym, ap, _∙_}
 use Prim.Native.Nat.{ℕ}
 use lib.ListN.{drop}
 use borrow.Author.Needs.{needs}
-use Rattle.chips.specs.Chips.{hardRecording}
+use Rattle.rules_chips.specs.Chips.{hardRecording}
 use Rattle.calls.specs.declared.Front.{Front}
 use Rattle.calls.specs.declared.Front.the-variants as front
 use Rattle.reading.specs.Reading.{frontOf}

@@ -5,7 +5,7 @@ use mathlib.Core.List.{List}
 use Prim.Native.Nat.{ℕ}
 use borrow.Author.Needs.{needs}
 use Rattle.base.proofs.Tests.{failed, passed}
-use Rattle.chips.specs.Chips.{Taken}
+use Rattle.rules_chips.specs.Chips.{Taken}
 use Rattle.frame.specs.declared.Kind.{Kind}
 use Rattle.frame.specs.Frame.{isKind, kindOf}
 use Rattle.calls.specs.declared.Refusal.the-variants.{NoKind}

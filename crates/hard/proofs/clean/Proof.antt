@@ -8,7 +8,7 @@ use native.Mathlib.Decide.{decLt}
 use native.Mathlib.Omega.{arith}
 use lib.ListN.{getD}
 use borrow.Author.Tests.{ltb-true, le-leb}
-use Rattle.chips.proofs.Usable.{hard-at}
+use Rattle.rules_chips.proofs.Usable.{hard-at}
 use Rattle.hard.proofs.clean.Statement.{statement}
 use Rattle.hard.proofs.clean.Tie as tie
 

@@ -3,7 +3,7 @@
 use mathlib.Core.Path.{sym, ap, _∙_}
 use mathlib.Core.Bool.{not, Bool·not-not}
 use borrow.Author.Needs.{needs}
-use Rattle.chips.proofs.Usable.{hard-at}
+use Rattle.rules_chips.proofs.Usable.{hard-at}
 use Rattle.hard.proofs.usable_at.Statement.{statement}
 use Rattle.hard.proofs.usable_at.Tie as tie
 

@@ -3,8 +3,8 @@
 use mathlib.Core.Path.{sym}
 use native.Mathlib.Omega.{arith}
 use borrow.Author.Needs.{needs}
-use Rattle.chips.proofs.Recorders.{length-hard, length-soft}
-use Rattle.chips.proofs.Bytes.{length-bytes}
+use Rattle.rules_chips.proofs.Recorders.{length-hard, length-soft}
+use Rattle.rules_chips.proofs.Bytes.{length-bytes}
 use Rattle.recorders.proofs.chip_count.Statement.{statement}
 use Rattle.recorders.proofs.chip_count.Tie as tie
 

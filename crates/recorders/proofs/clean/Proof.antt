@@ -2,7 +2,7 @@
 use Prim.Native.Nat.{_+_}
 use native.Mathlib.Omega.{arith}
 use borrow.Author.Needs.{needs}
-use Rattle.chips.proofs.Bytes.{bytes-usable}
+use Rattle.rules_chips.proofs.Bytes.{bytes-usable}
 use Rattle.recorders.proofs.Rows.{room-hard, room-soft, room-bytes}
 use Rattle.recorders.proofs.clean.Statement.{statement}
 use Rattle.recorders.proofs.clean.Tie as tie

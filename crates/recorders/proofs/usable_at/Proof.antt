@@ -3,7 +3,7 @@
 use mathlib.Core.Path.{refl}
 use Prim.Native.Nat.{suc}
 use borrow.Author.Needs.{needs}
-use Rattle.chips.proofs.Bytes.{bytes-usable}
+use Rattle.rules_chips.proofs.Bytes.{bytes-usable}
 use Rattle.recorders.proofs.Rows.{room-hard, room-soft, room-bytes}
 use Rattle.recorders.proofs.usable_at.Statement.{statement}
 use Rattle.recorders.proofs.usable_at.Tie as tie

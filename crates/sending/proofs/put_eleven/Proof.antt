@@ -5,7 +5,7 @@ use mathlib.Core.List.{List, append-nil}
 use Prim.Native.Nat.{ℕ, _+_, _/_, _%_}
 use Rattle.base.specs.Over.{over}
 use Rattle.rules_rates.specs.declared.Rate.the-variants.{Eleven}
-use Rattle.chips.specs.Chips.{turned}
+use Rattle.rules_chips.specs.Chips.{turned}
 use Rattle.symbols.specs.Words.{cckWord}
 use Rattle.symbols.proofs.Words.{cck-mod}
 use Rattle.bits.specs.Bits.{bitsOf}

@@ -9,7 +9,7 @@ use borrow.Rule.Slice.PartMut.{putMid}
 use Rattle.base.specs.Over.{over}
 use Rattle.base.proofs.Over.{over-next}
 use Rattle.rules_rates.specs.declared.Rate.the-variants.{Five}
-use Rattle.chips.specs.Chips.{turned}
+use Rattle.rules_chips.specs.Chips.{turned}
 use Rattle.symbols.specs.Words.{cckWord}
 use Rattle.bits.specs.Bits.{bitsOf}
 use Rattle.bits.specs.Code.{pairsOf}

@@ -6,7 +6,7 @@ use Prim.Native.Nat.{ℕ, _/_, _%_}
 use borrow.Author.Needs.{needs}
 use Rattle.base.specs.Over.{over}
 use Rattle.rules_rates.specs.declared.Rate.the-variants.{Two}
-use Rattle.chips.specs.Chips.{turned}
+use Rattle.rules_chips.specs.Chips.{turned}
 use Rattle.bits.specs.Bits.{bitsOf}
 use Rattle.bits.specs.Growths.{growth, symbolOf, symbolsFrom, chipsFrom, lastPhase}
 use Rattle.bits.specs.Code.{pairsOf}

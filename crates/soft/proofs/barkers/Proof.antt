@@ -6,7 +6,7 @@ use Prim.Native.Nat.{_+_, _*_, _-_}
 use native.Mathlib.Omega.{arith}
 use borrow.Author.Needs.{needs}
 use Rattle.rules_rates.specs.declared.Rate.the-variants.{One}
-use Rattle.chips.specs.Chips.{countsOf, softRecording}
+use Rattle.rules_chips.specs.Chips.{countsOf, softRecording}
 use Rattle.symbols.specs.Choice.{decided, leadOf}
 use Rattle.recorded.specs.Recorded.{symbolAt}
 use Rattle.recorded.proofs.Search.{usable-part}

@@ -9,9 +9,9 @@ use lib.ListN.{getD}
 use lib.Ieee.{Float, nan}
 use borrow.Author.Count.{below-more}
 use borrow.Author.Needs.{needs}
-use Rattle.chips.specs.Chips.{usableSample}
-use Rattle.chips.proofs.Recorders.{sample}
-use Rattle.chips.proofs.Usable.{soft-at}
+use Rattle.rules_chips.specs.Chips.{usableSample}
+use Rattle.rules_chips.proofs.Recorders.{sample}
+use Rattle.rules_chips.proofs.Usable.{soft-at}
 use Rattle.soft.proofs.clean.Statement.{statement}
 use Rattle.soft.proofs.clean.Tie as tie
 

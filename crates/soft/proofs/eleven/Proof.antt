@@ -7,7 +7,7 @@ use lib.Ieee.{nan}
 use borrow.Author.Needs.{needs}
 use Rattle.base.specs.Tables.{Filled}
 use Rattle.base.proofs.Tables.{filled-none, filled-more, filled-all}
-use Rattle.chips.specs.declared.Chip.the-variants.{Soft}
+use Rattle.rules_chips.specs.declared.Chip.the-variants.{Soft}
 use Rattle.soft.proofs.eleven.Statement.{statement}
 use Rattle.soft.proofs.eleven.Tie as tie
 

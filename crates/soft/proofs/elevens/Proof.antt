@@ -7,7 +7,7 @@ use native.Mathlib.Omega.{arith}
 use lib.ListN.{length}
 use borrow.Author.Needs.{needs}
 use Rattle.rules_rates.specs.declared.Rate.the-variants.{Eleven}
-use Rattle.chips.specs.Chips.{softRecording}
+use Rattle.rules_chips.specs.Chips.{softRecording}
 use Rattle.symbols.specs.Choice.{decided, leadOf}
 use Rattle.choosing.specs.Scores.{RowWithin}
 use Rattle.sums.specs.Sums.{rows, everyRow}

@@ -2,7 +2,7 @@
 use mathlib.Core.Path.{_≡_, ap}
 use Prim.Native.Nat.{_+_, _-_}
 use native.Mathlib.Omega.{arith}
-use Rattle.chips.specs.Chips.{hardRecording}
+use Rattle.rules_chips.specs.Chips.{hardRecording}
 use Rattle.sweep.specs.Sweep.{halfAt, Row}
 use Rattle.sweep.proofs.Rows.{row-less, row-added}
 use Rattle.sweep.proofs.decide.Statement.{statement}

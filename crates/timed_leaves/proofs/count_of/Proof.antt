@@ -5,7 +5,7 @@ use lib.Dec.{T}
 use mir.Syntax.{w32}
 use mir.Val.{toZ, ofZ}
 use borrow.Author.Needs.{needs}
-use Rattle.chips.specs.Floats.{countOf}
+use Rattle.rules_chips.specs.Floats.{countOf}
 use Rattle.timed_leaves.proofs.count_of.Statement.{statement}
 use Rattle.timed_leaves.proofs.count_of.Tie as tie
 

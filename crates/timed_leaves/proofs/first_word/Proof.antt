@@ -9,7 +9,7 @@ use lib.ListN.{length, getD, take, drop}
 use borrow.Author.Needs.{needs}
 use Rattle.rules_rates.specs.declared.Rate.{Rate}
 use Rattle.rules_rates.specs.Rates.{symbolChips}
-use Rattle.chips.specs.Chips.{Taken, takenCounts, softRecording}
+use Rattle.rules_chips.specs.Chips.{Taken, takenCounts, softRecording}
 use Rattle.symbols.specs.Choice.{decided}
 use Rattle.reading.specs.Reading.{firstUnusable}
 use Rattle.recorded.specs.declared.Place.{Place}

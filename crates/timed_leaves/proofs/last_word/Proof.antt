@@ -4,7 +4,7 @@ use mathlib.Core.Path.{_∙_}
 use mathlib.Core.List.{List}
 use lib.Dec.{lit≤, lit<}
 use borrow.Author.Needs.{needs}
-use Rattle.chips.specs.Chips.{Taken}
+use Rattle.rules_chips.specs.Chips.{Taken}
 use Rattle.recorders.specs.Rows.{recordingOf}
 use Rattle.timed_leaves.specs.Leaves.{lastWord}
 use Rattle.recorded.proofs.Searched.{bad, good, usable}

@@ -13,7 +13,7 @@ use lib.IntN.{pos}
 use lib.Ieee.{nan}
 use borrow.Author.Needs.{needs}
 use borrow.Author.Count.{below-more, below-none}
-use Rattle.chips.specs.Floats.{countOf}
+use Rattle.rules_chips.specs.Floats.{countOf}
 use Rattle.timed_leaves.proofs.timed_count.Statement.{statement}
 use Rattle.timed_leaves.proofs.timed_count.Tie as tie
 

@@ -11,7 +11,7 @@ use borrow.Author.Needs.{needs}
 use borrow.Author.Tests.{le-leb, lt-leb, not-true, not-false}
 use Rattle.rules_rates.specs.declared.Rate.{Rate}
 use Rattle.rules_rates.specs.Rates.{isCode, rateOf, symbolChips}
-use Rattle.chips.specs.Chips.{softRecording}
+use Rattle.rules_chips.specs.Chips.{softRecording}
 use Rattle.timed_leaves.specs.Leaves.{firstWord, decidedSoft}
 use Rattle.timed_leaves.proofs.timed_decide.Statement.{statement}
 use Rattle.timed_leaves.proofs.timed_decide.Tie as tie

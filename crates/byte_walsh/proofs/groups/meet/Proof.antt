@@ -6,7 +6,7 @@ use lib.IntN.{_+ℤ_}
 use mir.Syntax.{w16}
 use mir.Val.{toZ, ofZ}
 use borrow.Author.Needs.{needs}
-use Rattle.chips.specs.Chips.{pair}
+use Rattle.rules_chips.specs.Chips.{pair}
 use Rattle.base.proofs.Adding.{Reads, reads-of, reads-fits, reads-add}
 use Rattle.walsh.specs.Turns.{topOf, nextOf}
 use Rattle.walsh.specs.Search.{held, merged}

@@ -9,7 +9,7 @@ use lib.ListN.{length, take, drop, replicate}
 use lib.Seq.{length-front}
 use Rattle.rules_rates.specs.declared.Rate.{Rate}
 use Rattle.rules_rates.specs.Rates.{octetSymbols, octetChips}
-use Rattle.chips.specs.Chips.{Taken}
+use Rattle.rules_chips.specs.Chips.{Taken}
 use Rattle.lines.specs.declared.Line.{Line}
 use Rattle.frame.specs.declared.Kind.{Kind}
 use Rattle.frame.specs.Frame.{frontChips, frameChips}

@@ -18,9 +18,9 @@ use lib.Ieee.Fits.{core, round-is, down-pos}
 use lib.Ieee.Exact.{HasValue, units-val}
 use lib.Ieee.Nearest.{closest, closest-same}
 use lib.Ieee.Scale.{round-same}
-use Rattle.chips.specs.Floats.{steps, negative, usable, nearest}
-use Rattle.chips.proofs.Rounding.{Rounds, only, closest-near, nearest-near, nearest-le, plus, less}
-use Rattle.chips.proofs.Steps.{steps-exact, under}
+use Rattle.rules_chips.specs.Floats.{steps, negative, usable, nearest}
+use Rattle.rules_chips.proofs.Rounding.{Rounds, only, closest-near, nearest-near, nearest-le, plus, less}
+use Rattle.rules_chips.proofs.Steps.{steps-exact, under}
 
 -- M ± n
 abbrev pub moved : Bool → ℕ → ℕ → ℕ

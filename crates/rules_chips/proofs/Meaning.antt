@@ -12,10 +12,10 @@ use lib.Pow.{pow-pos}
 use lib.Ieee.{Float, nan, inf, fin}
 use Rattle.base.specs.Whole.{Within, up, dn}
 use Rattle.base.proofs.Whole.{within-zero}
-use Rattle.chips.specs.Floats.{steps, negative, usable, nearest, signed, countOf, valueOf, Nearest}
-use Rattle.chips.specs.Bounds.{offBy}
-use Rattle.chips.proofs.Rounding.{Rounds, only, nearest-near, nearest-le}
-use Rattle.chips.proofs.Sum.{cond-yes}
+use Rattle.rules_chips.specs.Floats.{steps, negative, usable, nearest, signed, countOf, valueOf, Nearest}
+use Rattle.rules_chips.specs.Bounds.{offBy}
+use Rattle.rules_chips.proofs.Rounding.{Rounds, only, nearest-near, nearest-le}
+use Rattle.rules_chips.proofs.Sum.{cond-yes}
 
 -- ---- usable
 steps-under : (x : Float) → T (usable x) → steps x ≤ 8 * 2 ^ 149

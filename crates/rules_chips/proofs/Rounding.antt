@@ -16,7 +16,7 @@ use lib.Arith.{lt-of-le-ne}
 use lib.Pow.{pow-pos}
 use lib.Ieee as ieee
 use lib.Ieee.Nearest.{closest}
-use Rattle.chips.specs.Floats.{nearest}
+use Rattle.rules_chips.specs.Floats.{nearest}
 
 -- twice the distance of k * h from n is at most h, and where it is h, k is even
 pub record Rounds (h n k : ℕ) : Type 0 where

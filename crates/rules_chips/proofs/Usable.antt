@@ -6,8 +6,8 @@ use Prim.Native.Nat.{ℕ, _<_}
 use lib.Dec.{leb}
 use lib.ListN.{length, getD}
 use lib.Ieee.{Float, nan}
-use Rattle.chips.specs.Chips.{unusable, isUnusable, usableSample, hardRecording, softRecording}
-use Rattle.chips.proofs.Recorders.{sample, getD-hard, unusable-hard, getD-soft, unusable-soft}
+use Rattle.rules_chips.specs.Chips.{unusable, isUnusable, usableSample, hardRecording, softRecording}
+use Rattle.rules_chips.proofs.Recorders.{sample, getD-hard, unusable-hard, getD-soft, unusable-soft}
 
 pub hard-at : (xs : List ℕ) (k : ℕ) → k < length xs
     → isUnusable (getD (hardRecording xs) k unusable) ≡ not (leb (getD xs k 0) 4)

@@ -9,14 +9,14 @@ use lib.ListN.{getD, List·getD-map}
 use lib.IntN.{ℤ, pos, negsuc, natAbs}
 use Rattle.base.proofs.Tests.{both-left, both-right}
 use Rattle.base.proofs.Whole.{within-zero}
-use Rattle.chips.specs.declared.Sample.{Sample}
-use Rattle.chips.specs.declared.Chip.{Chip}
-use Rattle.chips.specs.declared.Chip.the-variants.{Lost, Hard, Soft}
-use Rattle.chips.specs.Floats.{usable, countOf}
-use Rattle.chips.specs.Chips.{pair, nothing, usableSample, countsOf, exactOf}
-use Rattle.chips.specs.Bounds.{Bounded, Apart}
-use Rattle.chips.proofs.Sum.{cond-yes}
-use Rattle.chips.proofs.Meaning.{abs-within, count-within, count-near}
+use Rattle.rules_chips.specs.declared.Sample.{Sample}
+use Rattle.rules_chips.specs.declared.Chip.{Chip}
+use Rattle.rules_chips.specs.declared.Chip.the-variants.{Lost, Hard, Soft}
+use Rattle.rules_chips.specs.Floats.{usable, countOf}
+use Rattle.rules_chips.specs.Chips.{pair, nothing, usableSample, countsOf, exactOf}
+use Rattle.rules_chips.specs.Bounds.{Bounded, Apart}
+use Rattle.rules_chips.proofs.Sum.{cond-yes}
+use Rattle.rules_chips.proofs.Meaning.{abs-within, count-within, count-near}
 
 -- ---- the range
 bounded : (x y : ℤ) → natAbs x ≤ 8192 → natAbs y ≤ 8192 → Bounded 8192 (pair x y)

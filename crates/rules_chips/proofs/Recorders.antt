@@ -15,11 +15,11 @@ use lib.Ieee.{Float}
 use borrow.Author.Tests.{ne-eqb}
 use Rattle.base.specs.Tables.{tabulate}
 use Rattle.base.proofs.Tables.{tabulate-ext, map-tabulate, length-tabulate, getD-tabulate}
-use Rattle.chips.specs.declared.Sample.{Sample}
-use Rattle.chips.specs.declared.Counts.{Counts}
-use Rattle.chips.specs.declared.Chip.{Chip}
-use Rattle.chips.specs.declared.Chip.the-variants.{Lost, Soft}
-use Rattle.chips.specs.Chips.{
+use Rattle.rules_chips.specs.declared.Sample.{Sample}
+use Rattle.rules_chips.specs.declared.Counts.{Counts}
+use Rattle.rules_chips.specs.declared.Chip.{Chip}
+use Rattle.rules_chips.specs.declared.Chip.the-variants.{Lost, Soft}
+use Rattle.rules_chips.specs.Chips.{
   nothing,
   usableSample,
   countsOf,
@@ -34,7 +34,7 @@ use Rattle.chips.specs.Chips.{
   softTaken,
   softRecording,
 }
-use Rattle.chips.proofs.Phases.{full-past}
+use Rattle.rules_chips.proofs.Phases.{full-past}
 
 abbrev pub sample : Float → Float → Sample
 sample x y = record { i = x; q = y }

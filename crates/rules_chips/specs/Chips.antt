@@ -7,11 +7,11 @@ use lib.ListN.{getD}
 use lib.Dec.{leb, eqb}
 use lib.IntN.{ℤ, pos, negℤ, _*ℤ_}
 use lib.Ieee.{Float}
-use Rattle.chips.specs.declared.Sample.{Sample}
-use Rattle.chips.specs.declared.Counts.{Counts}
-use Rattle.chips.specs.declared.Chip.{Chip}
-use Rattle.chips.specs.declared.Chip.the-variants.{Lost, Hard, Soft}
-use Rattle.chips.specs.Floats.{usable, countOf, valueOf}
+use Rattle.rules_chips.specs.declared.Sample.{Sample}
+use Rattle.rules_chips.specs.declared.Counts.{Counts}
+use Rattle.rules_chips.specs.declared.Chip.{Chip}
+use Rattle.rules_chips.specs.declared.Chip.the-variants.{Lost, Hard, Soft}
+use Rattle.rules_chips.specs.Floats.{usable, countOf, valueOf}
 
 -- A phase is a whole number 0 to 3 of quarter turns; sums of phases are modulo 4
 abbrev pub turned : ℕ → ℕ → ℕ

@@ -10,8 +10,8 @@ use native.Mathlib.Omega.{arith}
 use lib.ListN.{length, getD, take, drop}
 use lib.IntN.{ℤ, pos, negsuc, negℤ, _-ℤ_, _*ℤ_, +ℤ-invr}
 use Rattle.base.specs.Tables.{tabulate}
-use Rattle.chips.specs.declared.Counts.{Counts}
-use Rattle.chips.specs.Chips.{
+use Rattle.rules_chips.specs.declared.Counts.{Counts}
+use Rattle.rules_chips.specs.Chips.{
   Taken,
   unusable,
   counted,
@@ -21,9 +21,9 @@ use Rattle.chips.specs.Chips.{
   byteExact,
   byteRecording,
 }
-use Rattle.chips.specs.Bounds.{offBy, Apart}
+use Rattle.rules_chips.specs.Bounds.{offBy, Apart}
 use Rattle.base.proofs.Whole.{within-zero}
-use Rattle.chips.proofs.Recorders.{part-counts}
+use Rattle.rules_chips.proofs.Recorders.{part-counts}
 
 -- ---- the row
 pub length-bytes : (bytes : List ℤ) → length (byteRecording bytes) ≡ length bytes / 2

@@ -9,9 +9,9 @@ use lib.ListN.{replicate}
 use lib.IntN.{ℤ, pos, negℤ, _-ℤ_}
 use lib.Ieee.{Float, binary32, ofBits}
 use Rattle.base.specs.Tables.{tabulate}
-use Rattle.chips.specs.declared.Chip.the-variants.{Soft}
-use Rattle.chips.specs.Floats.{steps, usable, nearest, countOf}
-use Rattle.chips.specs.Chips.{
+use Rattle.rules_chips.specs.declared.Chip.the-variants.{Soft}
+use Rattle.rules_chips.specs.Floats.{steps, usable, nearest, countOf}
+use Rattle.rules_chips.specs.Chips.{
   pair,
   nothing,
   exactOf,

@@ -3,7 +3,7 @@
 use Prim.Native.Nat.{ℕ, _^_}
 use lib.IntN.{ℤ, pos, _-ℤ_, _*ℤ_}
 use Rattle.base.specs.Whole.{Within}
-use Rattle.chips.specs.declared.Counts.{Counts}
+use Rattle.rules_chips.specs.declared.Counts.{Counts}
 
 -- I and Q are from -b to b
 -- working notion: of the laws of sums

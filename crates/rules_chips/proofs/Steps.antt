@@ -14,7 +14,7 @@ use lib.IntN.{ℤ, pos, negsuc}
 use lib.Ieee.{Float, nan, inf, fin, binary32, up, down, fits, le}
 use lib.Ieee.Digits.{back}
 use lib.Ieee.Fits.{down-pos, and-l, and-r, and-i, eq→eqb}
-use Rattle.chips.specs.Floats.{steps, usable}
+use Rattle.rules_chips.specs.Floats.{steps, usable}
 
 -- ---- the division
 exponent-le : (i j : ℕ) → 2 ^ i ≤ 2 ^ j → i ≤ j
