@@ -17,7 +17,7 @@ use Rattle.base.specs.Tables.{tabulate}
 use Rattle.base.proofs.Tables.{as-table, tabulate-ext}
 use Rattle.rules_rates.specs.declared.Rate.{Rate}
 use Rattle.rules_rates.specs.Rates.{symbolBits}
-use Rattle.symbols.specs.Words.{phaseOf}
+use Rattle.rules_symbols.specs.Words.{phaseOf}
 use Rattle.bits.specs.Bits.{numberOf, octetsOf}
 use Rattle.bits.specs.Growths.{grownBy, heardBits, heard, growthsOf, lastHeard}
 use Rattle.bits.proofs.Heard.{heard-row}

@@ -5,7 +5,7 @@ use mathlib.Core.Path.{_≡_, refl}
 use mathlib.Core.List.{List, [], _∷_, map}
 use Prim.Native.Nat.{ℕ, _%_}
 use Rattle.rules_rates.specs.declared.Rate.the-variants.{One, Two, Five, Eleven}
-use Rattle.symbols.specs.Words.{barkerWord, cckWord, cckNumber}
+use Rattle.rules_symbols.specs.Words.{barkerWord, cckWord, cckNumber}
 use Rattle.bits.specs.Bits.{bitsOf, numberOf, octetBits, octetsOf}
 use Rattle.bits.specs.Growths.{
   growth,

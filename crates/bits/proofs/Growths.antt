@@ -14,7 +14,7 @@ use Rattle.rules_rates.specs.declared.Rate.{Rate}
 use Rattle.rules_rates.specs.declared.Rate.the-variants.{One, Two, Five, Eleven}
 use Rattle.rules_rates.specs.Rates.{symbolBits, symbolChips}
 use Rattle.rules_chips.specs.Chips.{turned}
-use Rattle.symbols.proofs.Words.{barker-length, cck-length}
+use Rattle.rules_symbols.proofs.Words.{barker-length, cck-length}
 use Rattle.bits.specs.Growths.{
   growth,
   growthBits,

@@ -21,8 +21,8 @@ use Rattle.rules_rates.specs.declared.Rate.{Rate}
 use Rattle.rules_rates.specs.declared.Rate.the-variants.{One, Two, Five, Eleven}
 use Rattle.rules_rates.specs.Rates.{symbolBits}
 use Rattle.rules_chips.specs.Chips.{turned}
-use Rattle.symbols.specs.Words.{cckNumber, p1Of, p2Of, p3Of, p4Of, wordOf, phaseOf}
-use Rattle.symbols.specs.Choice.{numbers, isAllowed}
+use Rattle.rules_symbols.specs.Words.{cckNumber, p1Of, p2Of, p3Of, p4Of, wordOf, phaseOf}
+use Rattle.rules_symbols.specs.Choice.{numbers, isAllowed}
 use Rattle.bits.specs.Growths.{
   growth,
   growthBits,
@@ -41,7 +41,7 @@ use Rattle.bits.specs.Growths.{
   growthsOf,
   lastHeard,
 }
-use Rattle.symbols.proofs.Numbers.{number-below, p1-back, p2-back, p3-back, p4-back, cck-of-number}
+use Rattle.rules_symbols.proofs.Numbers.{number-below, p1-back, p2-back, p3-back, p4-back, cck-of-number}
 use Rattle.base.specs.Below.{Below}
 use Rattle.bits.specs.Code.{Proper, symbolNumber, numbersFrom, wordsChips}
 use Rattle.base.proofs.Below.{below-nil, below-cons, below-append, below-take, below-drop}

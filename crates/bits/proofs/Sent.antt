@@ -8,7 +8,7 @@ use lib.ListN.{take, drop}
 use Rattle.rules_rates.specs.declared.Rate.{Rate}
 use Rattle.rules_rates.specs.Rates.{symbolBits}
 use Rattle.rules_chips.specs.Chips.{turned}
-use Rattle.symbols.specs.Choice.{isAllowed, numbers}
+use Rattle.rules_symbols.specs.Choice.{isAllowed, numbers}
 use Rattle.bits.specs.Growths.{symbolOf, symbolsFrom}
 use Rattle.base.specs.Below.{Below}
 use Rattle.bits.specs.Code.{numbersFrom}

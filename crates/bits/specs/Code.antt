@@ -6,7 +6,7 @@ use mathlib.Core.List.{List, [], _∷_, _++_, reverse}
 use Rattle.rules_rates.specs.declared.Rate.{Rate}
 use Rattle.rules_rates.specs.declared.Rate.the-variants.{One, Two, Five, Eleven}
 use Rattle.rules_chips.specs.Chips.{turned}
-use Rattle.symbols.specs.Words.{cckNumber, wordOf}
+use Rattle.rules_symbols.specs.Words.{cckNumber, wordOf}
 use Rattle.bits.specs.Bits.{bitsOf}
 use Rattle.bits.specs.Growths.{Symbol, direct}
 

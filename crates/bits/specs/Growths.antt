@@ -7,7 +7,7 @@ use Rattle.rules_rates.specs.declared.Rate.{Rate}
 use Rattle.rules_rates.specs.declared.Rate.the-variants.{One, Two, Five, Eleven}
 use Rattle.rules_rates.specs.Rates.{symbolBits}
 use Rattle.rules_chips.specs.Chips.{turned}
-use Rattle.symbols.specs.Words.{barkerWord, cckWord, phaseOf, p1Of, p2Of, p3Of, p4Of}
+use Rattle.rules_symbols.specs.Words.{barkerWord, cckWord, phaseOf, p1Of, p2Of, p3Of, p4Of}
 
 -- two bits, first in time first: growth 0 for 00, 1 for 01, 2 for 11, 3 for 10
 abbrev pub growthTable : List ℕ

@@ -16,8 +16,8 @@ use Rattle.rules_rates.specs.declared.Rate.{Rate}
 use Rattle.rules_rates.specs.declared.Rate.the-variants.{One, Two, Five, Eleven}
 use Rattle.rules_rates.specs.Rates.{symbolBits, octetSymbols}
 use Rattle.rules_rates.proofs.Octets.{part-bits}
-use Rattle.symbols.specs.Words.{phaseOf}
-use Rattle.symbols.specs.Choice.{numbers}
+use Rattle.rules_symbols.specs.Words.{phaseOf}
+use Rattle.rules_symbols.specs.Choice.{numbers}
 use Rattle.bits.specs.Bits.{numberOf, octetBits, octetsOf}
 use Rattle.bits.specs.Growths.{grownBy, heardBits, heard, growthsOf, lastHeard}
 use Rattle.bits.specs.Scrambler.{descramble}

@@ -10,7 +10,7 @@ use Rattle.base.proofs.Whole.{add, up-pos, dn-pos}
 use Rattle.base.specs.Whole.{up, dn}
 use Rattle.rules_rates.specs.declared.Rate.{Rate}
 use Rattle.rules_chips.specs.declared.Counts.{Counts}
-use Rattle.symbols.specs.Choice.{numbers, decided, leadOf}
+use Rattle.rules_symbols.specs.Choice.{numbers, decided, leadOf}
 use Rattle.choosing.specs.Scores.{scoreAt, DecidedAs, NextAs, ChosenAs}
 use Rattle.choosing.proofs.Decided.{decided-best, decided-is}
 use Rattle.choosing.proofs.Leads.{runnerUp, runner-next, lead-is, lead-by}

@@ -18,10 +18,10 @@ use Rattle.base.specs.Whole.{up, dn}
 use Rattle.base.proofs.Whole.{up-pos, dn-pos, neg-up, neg-dn, add, lt-of}
 use Rattle.rules_rates.specs.declared.Rate.{Rate}
 use Rattle.rules_chips.specs.Chips.{turned, fullChip}
-use Rattle.symbols.specs.Words.{wordOf}
-use Rattle.symbols.specs.Choice.{term, score, numbers, isAllowed, decided}
-use Rattle.symbols.proofs.Words.{Phases, phases-tail, word-phases, word-length}
-use Rattle.symbols.proofs.Numbers.{word-one}
+use Rattle.rules_symbols.specs.Words.{wordOf}
+use Rattle.rules_symbols.specs.Choice.{term, score, numbers, isAllowed, decided}
+use Rattle.rules_symbols.proofs.Words.{Phases, phases-tail, word-phases, word-length}
+use Rattle.rules_symbols.proofs.Numbers.{word-one}
 use Rattle.choosing.proofs.Agreement.{one, agreeing, opposed, clean}
 use Rattle.choosing.proofs.Decided.{decided-leads}
 

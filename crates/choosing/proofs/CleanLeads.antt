@@ -17,10 +17,10 @@ use Rattle.rules_rates.specs.declared.Rate.{Rate}
 use Rattle.rules_rates.specs.declared.Rate.the-variants.{One, Two, Five, Eleven}
 use Rattle.rules_rates.specs.Rates.{symbolChips}
 use Rattle.rules_chips.specs.declared.Counts.{Counts}
-use Rattle.symbols.specs.Words.{barkerWord, cckWord, cckNumber, cckOf, p1Of, p2Of, p3Of, p4Of, wordOf}
-use Rattle.symbols.specs.Choice.{numbers, isAllowed, decided, leadOf}
-use Rattle.symbols.proofs.Words.{word-phases, word-length, turn}
-use Rattle.symbols.proofs.Numbers.{p2-back, p3-back, p4-back}
+use Rattle.rules_symbols.specs.Words.{barkerWord, cckWord, cckNumber, cckOf, p1Of, p2Of, p3Of, p4Of, wordOf}
+use Rattle.rules_symbols.specs.Choice.{numbers, isAllowed, decided, leadOf}
+use Rattle.rules_symbols.proofs.Words.{word-phases, word-length, turn}
+use Rattle.rules_symbols.proofs.Numbers.{p2-back, p3-back, p4-back}
 use Rattle.choosing.specs.Scores.{scoreAt, DecidedAs, NextAs}
 use Rattle.choosing.proofs.Agreement.{agreeing, opposed, clean, cleanLead}
 use Rattle.choosing.proofs.Decided.{decided-best}

@@ -15,7 +15,7 @@ use Rattle.base.proofs.Whole.{le-of, of-lt}
 use Rattle.rules_rates.specs.declared.Rate.{Rate}
 use Rattle.rules_rates.specs.declared.Rate.the-variants.{One, Two, Five, Eleven}
 use Rattle.rules_chips.specs.declared.Counts.{Counts}
-use Rattle.symbols.specs.Choice.{numbers, isAllowed, allowed, decided}
+use Rattle.rules_symbols.specs.Choice.{numbers, isAllowed, allowed, decided}
 use Rattle.choosing.specs.Scores.{scoreAt, BestOf, DecidedAs}
 use Rattle.choosing.proofs.Best.{first-best, some-of, best-unique}
 

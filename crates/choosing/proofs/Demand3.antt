@@ -14,9 +14,9 @@ use Rattle.rules_rates.specs.Rates.{symbolChips}
 use Rattle.rules_chips.specs.declared.Counts.{Counts}
 use Rattle.rules_chips.specs.Chips.{nothing}
 use Rattle.rules_chips.specs.Bounds.{Apart}
-use Rattle.symbols.specs.Words.{wordOf}
-use Rattle.symbols.specs.Choice.{numbers, isAllowed, decided, leadOf}
-use Rattle.symbols.proofs.Words.{word-length}
+use Rattle.rules_symbols.specs.Words.{wordOf}
+use Rattle.rules_symbols.specs.Choice.{numbers, isAllowed, decided, leadOf}
+use Rattle.rules_symbols.proofs.Words.{word-length}
 use Rattle.choosing.specs.Demand3.{exactAt, Demand3, LeadSays}
 use Rattle.choosing.specs.Scores.{scoreAt, DecidedAs}
 use Rattle.rules_rates.specs.declared.Rate.{Rate}

@@ -7,8 +7,8 @@ use lib.IntN.{pos, negℤ}
 use Rattle.rules_rates.specs.declared.Rate.the-variants.{Eleven}
 use Rattle.rules_chips.specs.declared.Chip.the-variants.{Lost}
 use Rattle.rules_chips.specs.Chips.{countsOf}
-use Rattle.symbols.specs.Words.{cckWord}
-use Rattle.symbols.specs.Choice.{score, those, going, firstLargest, decided}
+use Rattle.rules_symbols.specs.Words.{cckWord}
+use Rattle.rules_symbols.specs.Choice.{score, those, going, firstLargest, decided}
 use Rattle.choosing.specs.Keys.{larger, smaller, bigger, lesser}
 
 -- eight lost chips at 11 Mbit/s are word 0

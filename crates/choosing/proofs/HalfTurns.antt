@@ -14,9 +14,9 @@ use Rattle.base.specs.Whole.{Within}
 use Rattle.base.proofs.Tables.{getD-tabulate}
 use Rattle.rules_chips.specs.declared.Counts.{Counts}
 use Rattle.rules_chips.specs.Chips.{turned}
-use Rattle.symbols.specs.Words.{barkerWord, cckWord, cckOf, p1Of, p2Of, p3Of, p4Of}
-use Rattle.symbols.specs.Choice.{term, score}
-use Rattle.symbols.proofs.Words.{Phases, phases-tail, cck-phases, cck-length, barker-phases}
+use Rattle.rules_symbols.specs.Words.{barkerWord, cckWord, cckOf, p1Of, p2Of, p3Of, p4Of}
+use Rattle.rules_symbols.specs.Choice.{term, score}
+use Rattle.rules_symbols.proofs.Words.{Phases, phases-tail, cck-phases, cck-length, barker-phases}
 use Rattle.choosing.specs.Scores.{AllBounded, number5}
 use Rattle.choosing.proofs.Small.{score-within}
 use Rattle.choosing.proofs.Clean.{phase}

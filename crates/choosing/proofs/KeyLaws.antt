@@ -11,7 +11,7 @@ use native.Mathlib.Omega.{arith}
 use lib.IntN.{ℤ, pos, negsuc, negℤ}
 use lib.Signed.{_≤ℤ_, _<ℤ_, ≤ℤ-refl}
 use Rattle.base.proofs.Whole.{le-of, lt-of, of-le, of-lt, up-pos, dn-pos}
-use Rattle.symbols.specs.Choice.{firstLargest}
+use Rattle.rules_symbols.specs.Choice.{firstLargest}
 use Rattle.choosing.specs.Scores.{upTo, BestOf, NextTo}
 use Rattle.choosing.specs.Keys.{keyOf, Largest, TwoLargest}
 use Rattle.choosing.proofs.Best.{best-unique, up-best}

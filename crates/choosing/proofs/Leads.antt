@@ -20,7 +20,7 @@ use Rattle.base.proofs.Tests.{both-left, both-right}
 use Rattle.rules_rates.specs.declared.Rate.{Rate}
 use Rattle.rules_rates.specs.declared.Rate.the-variants.{One, Two, Five, Eleven}
 use Rattle.rules_chips.specs.declared.Counts.{Counts}
-use Rattle.symbols.specs.Choice.{numbers, isAllowed, those, others, firstLargest, decided, leadOf}
+use Rattle.rules_symbols.specs.Choice.{numbers, isAllowed, those, others, firstLargest, decided, leadOf}
 use Rattle.choosing.specs.Scores.{scoreAt, BestOf, DecidedAs, NextTo, NextAs, LeadsBy}
 use Rattle.choosing.proofs.Best.{first-best, some-of}
 use Rattle.choosing.proofs.Decided.{decided-best, decided-is}

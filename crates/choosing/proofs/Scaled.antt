@@ -22,8 +22,8 @@ use Rattle.base.specs.Whole.{up, dn}
 use Rattle.base.proofs.Whole.{add, neg-up, neg-dn, up-pos, dn-pos, same, of-lt, lt-of, of-le, le-of}
 use Rattle.rules_rates.specs.declared.Rate.{Rate}
 use Rattle.rules_chips.specs.declared.Counts.{Counts}
-use Rattle.symbols.specs.Words.{wordOf}
-use Rattle.symbols.specs.Choice.{term, score, going, firstLargest, allowed, decided, leadOf}
+use Rattle.rules_symbols.specs.Words.{wordOf}
+use Rattle.rules_symbols.specs.Choice.{term, score, going, firstLargest, allowed, decided, leadOf}
 use Rattle.choosing.specs.Scores.{scoreAt, NextAs}
 use Rattle.base.proofs.Adding.{times-up, times-dn}
 use Rattle.choosing.proofs.Leads.{runnerUp, runner-next, lead-is}

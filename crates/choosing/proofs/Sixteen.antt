@@ -10,7 +10,7 @@ use lib.Signed.{_≤ℤ_}
 use Rattle.base.proofs.Tests.{all-at, implies, implied, both-left, both-right}
 use Rattle.rules_rates.specs.declared.Rate.the-variants.{Five}
 use Rattle.rules_chips.specs.declared.Counts.{Counts}
-use Rattle.symbols.specs.Choice.{isAllowed, those, allowed, firstLargest, decided}
+use Rattle.rules_symbols.specs.Choice.{isAllowed, those, allowed, firstLargest, decided}
 use Rattle.choosing.specs.Scores.{upTo, number5, scoreAt, BestOf, NextTo, NextAs, ChosenAs}
 use Rattle.choosing.proofs.Best.{best-unique, up-best, first-map}
 use Rattle.choosing.proofs.Decided.{decided-best}

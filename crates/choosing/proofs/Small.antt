@@ -8,7 +8,7 @@ use lib.ListN.{length}
 use Rattle.base.specs.Whole.{Within}
 use Rattle.base.proofs.Whole.{within-zero, within-neg, within-add, within-more}
 use Rattle.rules_chips.specs.declared.Counts.{Counts}
-use Rattle.symbols.specs.Choice.{term, score}
+use Rattle.rules_symbols.specs.Choice.{term, score}
 use Rattle.rules_chips.specs.Bounds.{Bounded}
 use Rattle.choosing.specs.Scores.{AllBounded}
 

@@ -14,8 +14,8 @@ use Rattle.rules_rates.specs.Rates.{symbolChips}
 use Rattle.rules_chips.specs.declared.Counts.{Counts}
 use Rattle.rules_chips.specs.Chips.{nothing}
 use Rattle.rules_chips.specs.Bounds.{Apart}
-use Rattle.symbols.specs.Words.{wordOf}
-use Rattle.symbols.specs.Choice.{score, numbers, isAllowed, decided, leadOf}
+use Rattle.rules_symbols.specs.Words.{wordOf}
+use Rattle.rules_symbols.specs.Choice.{score, numbers, isAllowed, decided, leadOf}
 
 -- the exact score of the word with number n, over chips' exact values
 abbrev pub exactAt : Rate → List Counts → ℕ → ℤ

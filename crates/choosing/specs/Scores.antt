@@ -13,8 +13,8 @@ use Rattle.rules_rates.specs.declared.Rate.{Rate}
 use Rattle.rules_chips.specs.declared.Counts.{Counts}
 use Rattle.rules_chips.specs.Chips.{nothing}
 use Rattle.rules_chips.specs.Bounds.{Bounded}
-use Rattle.symbols.specs.Words.{wordOf, cckNumber}
-use Rattle.symbols.specs.Choice.{score, numbers, isAllowed, those, decided, leadOf}
+use Rattle.rules_symbols.specs.Words.{wordOf, cckNumber}
+use Rattle.rules_symbols.specs.Choice.{score, numbers, isAllowed, those, decided, leadOf}
 
 -- counts that are all from -b to b
 -- working notion: of the laws of sums

@@ -14,9 +14,9 @@ use Rattle.rules_rates.specs.declared.Rate.{Rate}
 use Rattle.rules_rates.specs.Rates.{symbolChips}
 use Rattle.rules_chips.specs.declared.Counts.{Counts}
 use Rattle.rules_chips.specs.Chips.{Taken, takenCounts, fullChip}
-use Rattle.symbols.specs.Words.{wordOf}
-use Rattle.symbols.specs.Choice.{decided, leadOf}
-use Rattle.symbols.proofs.Words.{word-length}
+use Rattle.rules_symbols.specs.Words.{wordOf}
+use Rattle.rules_symbols.specs.Choice.{decided, leadOf}
+use Rattle.rules_symbols.proofs.Words.{word-length}
 use Rattle.choosing.proofs.Agreement.{cleanLead}
 use Rattle.choosing.proofs.Clean.{decided-clean}
 use Rattle.choosing.proofs.CleanLeads.{lead-clean}

@@ -9,8 +9,8 @@ use Prim.Native.Nat.{ℕ, _+_}
 use lib.ListN.{take, drop, replicate}
 use Rattle.rules_rates.specs.declared.Rate.the-variants.{One, Eleven}
 use Rattle.rules_chips.specs.Chips.{hardRecording}
-use Rattle.symbols.specs.Words.{barkerWord, cckWord}
-use Rattle.symbols.specs.Choice.{score, those, going, firstLargest, decided, others, leadOf}
+use Rattle.rules_symbols.specs.Words.{barkerWord, cckWord}
+use Rattle.rules_symbols.specs.Choice.{score, those, going, firstLargest, decided, others, leadOf}
 use Rattle.bits.specs.Bits.{bitsOf, octetBits, numberOf, octetsOf}
 use Rattle.bits.specs.Growths.{
   growth,

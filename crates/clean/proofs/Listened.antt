@@ -14,8 +14,8 @@ use Rattle.rules_chips.specs.Chips.{Taken}
 use Rattle.bits.specs.Growths.{symbolsOf, lastPhase, heard, growthsOf, lastHeard}
 use Rattle.base.specs.Below.{Below}
 use Rattle.base.proofs.Below.{below-nil, below-append}
-use Rattle.symbols.specs.Words.{wordOf}
-use Rattle.symbols.proofs.Words.{word-phases}
+use Rattle.rules_symbols.specs.Words.{wordOf}
+use Rattle.rules_symbols.proofs.Words.{word-phases}
 use Rattle.frame.specs.declared.Kind.{Kind}
 use Rattle.frame.specs.declared.Kind.the-variants.{Long, Short}
 use Rattle.frame.specs.Frame.{headerRate, frontChips, preambleLength, headerLength, partsChips, preambleChips}

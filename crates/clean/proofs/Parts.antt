@@ -14,8 +14,8 @@ use Rattle.rules_rates.specs.declared.Rate.{Rate}
 use Rattle.rules_rates.specs.declared.Rate.the-variants.{One, Two, Five, Eleven}
 use Rattle.rules_rates.specs.Rates.{symbolChips, symbolBits}
 use Rattle.rules_chips.specs.Chips.{turned}
-use Rattle.symbols.specs.Words.{wordOf}
-use Rattle.symbols.proofs.Words.{word-length}
+use Rattle.rules_symbols.specs.Words.{wordOf}
+use Rattle.rules_symbols.proofs.Words.{word-length}
 use Rattle.bits.specs.Growths.{
   symbolOf,
   symbolsFrom,

@@ -15,7 +15,7 @@ use lib.Seq.{take-suc, drop-cons, length-take-le, take-at, drop-at, getD-at, spl
 use Rattle.rules_rates.specs.declared.Rate.{Rate}
 use Rattle.rules_rates.specs.Rates.{symbolBits, octetSymbols}
 use Rattle.rules_rates.proofs.Octets.{octet-bits, part-bits}
-use Rattle.symbols.specs.Words.{phaseOf}
+use Rattle.rules_symbols.specs.Words.{phaseOf}
 use Rattle.bits.specs.Bits.{numberOf, octetsOf}
 use Rattle.bits.specs.Growths.{grownBy, heardBits, heard, growthsOf, lastHeard}
 use Rattle.bits.proofs.Bits.{number-append}

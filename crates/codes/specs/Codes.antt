@@ -11,8 +11,8 @@ use Rattle.rules_rates.specs.declared.Rate.{Rate}
 use Rattle.rules_rates.specs.declared.Rate.the-variants.{One, Two, Five, Eleven}
 use Rattle.rules_rates.specs.Rates.{symbolBits, octetSymbols}
 use Rattle.rules_chips.specs.Chips.{turned}
-use Rattle.symbols.specs.Words.{phaseOf, p2Of, p3Of, p4Of}
-use Rattle.symbols.specs.Choice.{numbers}
+use Rattle.rules_symbols.specs.Words.{phaseOf, p2Of, p3Of, p4Of}
+use Rattle.rules_symbols.specs.Choice.{numbers}
 use Rattle.bits.specs.Bits.{octetBits, octetsOf}
 use Rattle.bits.specs.Scrambler.{descramble}
 use Rattle.bits.specs.Code.{pastOf}

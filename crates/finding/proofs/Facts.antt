@@ -9,8 +9,8 @@ use lib.ListN.{take, replicate}
 use Rattle.rules_rates.specs.declared.Rate.the-variants.{One, Two, Five, Eleven}
 use Rattle.rules_rates.specs.Rates.{codeOf}
 use Rattle.rules_chips.specs.Chips.{hardRecording}
-use Rattle.symbols.specs.Words.{barkerWord, cckWord}
-use Rattle.symbols.specs.Choice.{score, those, going, firstLargest, decided}
+use Rattle.rules_symbols.specs.Words.{barkerWord, cckWord}
+use Rattle.rules_symbols.specs.Choice.{score, those, going, firstLargest, decided}
 use Rattle.bits.specs.Bits.{bitsOf, octetBits, numberOf}
 use Rattle.bits.specs.Growths.{
   growth,

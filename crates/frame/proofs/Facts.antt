@@ -11,7 +11,7 @@ use lib.ListN.{take, drop}
 use Rattle.rules_rates.specs.declared.Rate.{Rate}
 use Rattle.rules_rates.specs.declared.Rate.the-variants.{One, Two, Five, Eleven}
 use Rattle.rules_rates.specs.Rates.{codeOf}
-use Rattle.symbols.specs.Words.{barkerWord, cckWord}
+use Rattle.rules_symbols.specs.Words.{barkerWord, cckWord}
 use Rattle.bits.specs.Bits.{bitsOf, octetBits}
 use Rattle.bits.specs.Growths.{growth, symbolOf, symbolsFrom, symbolsOf, chipsFrom, lastPhase}
 use Rattle.bits.specs.Scrambler.{mixed, scramble}

@@ -1,7 +1,7 @@
 -- Table P holds: its twelve entries are computed together. Assumes nothing.
 use mathlib.Core.Path.{refl}
-use Rattle.symbols.specs.Words.{barkerWord, cckWord}
-use Rattle.symbols.specs.Choice.{score, those, going, firstLargest, decided}
+use Rattle.rules_symbols.specs.Words.{barkerWord, cckWord}
+use Rattle.rules_symbols.specs.Choice.{score, those, going, firstLargest, decided}
 use Rattle.bits.specs.Bits.{bitsOf, octetBits}
 use Rattle.bits.specs.Growths.{growth, symbolOf, symbolsFrom, symbolsOf, chipsFrom, lastPhase}
 use Rattle.bits.specs.Scrambler.{mixed, scramble}

@@ -10,8 +10,8 @@ use Rattle.rules_rates.specs.declared.Rate.the-variants.{Five, Eleven}
 use Rattle.rules_rates.specs.Rates.{lengthField, bit7}
 use Rattle.rules_chips.specs.declared.Chip.the-variants.{Lost}
 use Rattle.rules_chips.specs.Chips.{countsOf}
-use Rattle.symbols.specs.Words.{cckWord}
-use Rattle.symbols.specs.Choice.{decided}
+use Rattle.rules_symbols.specs.Words.{cckWord}
+use Rattle.rules_symbols.specs.Choice.{decided}
 use Rattle.bits.specs.Growths.{symbolOf, chipsFrom}
 use Rattle.bits.specs.Scrambler.{scramble}
 use Rattle.bits.specs.Crc.{crcBits}

@@ -24,7 +24,7 @@ use Rattle.rules_rates.specs.declared.Rate.the-variants.{One, Two, Five, Eleven
 use Rattle.rules_rates.specs.Rates.{symbolChips, symbolBits, octetSymbols, octetChips}
 use Rattle.rules_rates.proofs.Octets.{part-symbols, part-chips, part-bits}
 use Rattle.rules_chips.specs.Chips.{Taken, takenCounts}
-use Rattle.symbols.specs.Choice.{numbers, decided, leadOf}
+use Rattle.rules_symbols.specs.Choice.{numbers, decided, leadOf}
 use Rattle.choosing.proofs.Decided.{decided-below}
 use Rattle.bits.specs.Bits.{bitsOf, octetsOf}
 use Rattle.bits.specs.Growths.{heard, growthsOf, lastHeard}

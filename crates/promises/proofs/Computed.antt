@@ -10,8 +10,8 @@ use lib.ListN.{length, take, drop, replicate}
 use lib.IntN.{ℤ}
 use Rattle.rules_rates.specs.declared.Rate.the-variants.{Eleven}
 use Rattle.rules_chips.specs.Chips.{hardRecording, byteRecording}
-use Rattle.symbols.specs.Words.{barkerWord, cckWord}
-use Rattle.symbols.specs.Choice.{score, those, going, firstLargest, decided, others, leadOf}
+use Rattle.rules_symbols.specs.Words.{barkerWord, cckWord}
+use Rattle.rules_symbols.specs.Choice.{score, those, going, firstLargest, decided, others, leadOf}
 use Rattle.bits.specs.Bits.{bitsOf, octetBits, numberOf, octetsOf}
 use Rattle.bits.specs.Growths.{
   growth,

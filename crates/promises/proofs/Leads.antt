@@ -17,7 +17,7 @@ use Rattle.rules_rates.specs.declared.Rate.the-variants.{One}
 use Rattle.rules_rates.specs.Rates.{rateOf, symbolChips, symbolBits}
 use Rattle.rules_chips.specs.declared.Counts.{Counts}
 use Rattle.rules_chips.specs.Chips.{Taken, takenCounts}
-use Rattle.symbols.specs.Choice.{decided, leadOf}
+use Rattle.rules_symbols.specs.Choice.{decided, leadOf}
 use Rattle.choosing.specs.Scores.{LeadsBy}
 use Rattle.choosing.specs.Demand3.{LeadsExactly}
 use Rattle.choosing.proofs.Leads.{leads-by, leads-once}

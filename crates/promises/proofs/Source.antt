@@ -10,7 +10,7 @@ use lib.Seq.{take-at}
 use Rattle.rules_rates.specs.declared.Rate.{Rate}
 use Rattle.rules_rates.specs.Rates.{rateOf, lengthField}
 use Rattle.rules_chips.specs.Chips.{turned, hardRecording}
-use Rattle.symbols.specs.Words.{barkerWord}
+use Rattle.rules_symbols.specs.Words.{barkerWord}
 use Rattle.bits.specs.Bits.{bitsOf}
 use Rattle.bits.specs.Growths.{symbolOf, symbolsFrom, symbolsOf, chipsFrom}
 use Rattle.bits.specs.Scrambler.{mixed, scramble}

@@ -18,7 +18,7 @@ use Rattle.rules_rates.specs.declared.Rate.the-variants.{One, Two, Five, Eleven
 use Rattle.rules_rates.specs.Rates.{rateOf, symbolChips}
 use Rattle.rules_chips.specs.Floats.{usable}
 use Rattle.rules_chips.specs.Chips.{Taken, hardRecording, softRecording, byteRecording}
-use Rattle.symbols.specs.Choice.{numbers, isAllowed}
+use Rattle.rules_symbols.specs.Choice.{numbers, isAllowed}
 use Rattle.choosing.specs.Scores.{scoreAt, LeadsBy}
 use Rattle.choosing.specs.Demand3.{exactAt, LeadsExactly}
 use Rattle.choosing.proofs.Leads.{leads-once}

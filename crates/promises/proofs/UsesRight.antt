@@ -27,7 +27,7 @@ use Rattle.rules_chips.specs.Chips.{
   softRecording,
   byteRecording,
 }
-use Rattle.symbols.specs.Choice.{numbers, isAllowed}
+use Rattle.rules_symbols.specs.Choice.{numbers, isAllowed}
 use Rattle.choosing.specs.Demand3.{exactAt}
 use Rattle.frame.specs.declared.Kind.{Kind}
 use Rattle.frame.specs.Frame.{headerRate, headerLength, preambleChips, frontChips, frameChips, preambleLength}

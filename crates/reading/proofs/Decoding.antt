@@ -15,7 +15,7 @@ use Rattle.rules_rates.specs.declared.Rate.the-variants.{One}
 use Rattle.rules_rates.specs.Rates.{symbolChips, symbolBits, octetSymbols}
 use Rattle.rules_rates.proofs.Octets.{part-symbols, part-bits}
 use Rattle.rules_chips.specs.Chips.{Taken}
-use Rattle.symbols.specs.Words.{phaseOf}
+use Rattle.rules_symbols.specs.Words.{phaseOf}
 use Rattle.bits.specs.Bits.{numberOf, _⊕_}
 use Rattle.bits.specs.Growths.{heardBits, heard}
 use Rattle.bits.specs.Scrambler.{descramble}

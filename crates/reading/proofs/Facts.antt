@@ -12,8 +12,8 @@ use Prim.Native.Nat.{ℕ, _+_, _%_}
 use lib.ListN.{take, drop, set, replicate}
 use Rattle.rules_rates.specs.declared.Rate.the-variants.{One, Two, Five, Eleven}
 use Rattle.rules_chips.specs.Chips.{hardRecording}
-use Rattle.symbols.specs.Words.{barkerWord, cckWord}
-use Rattle.symbols.specs.Choice.{score, those, going, firstLargest, decided, others, leadOf}
+use Rattle.rules_symbols.specs.Words.{barkerWord, cckWord}
+use Rattle.rules_symbols.specs.Choice.{score, those, going, firstLargest, decided, others, leadOf}
 use Rattle.bits.specs.Bits.{bitsOf, octetBits, numberOf}
 use Rattle.bits.specs.Growths.{
   growth,

@@ -18,7 +18,7 @@ use Rattle.rules_rates.specs.declared.Rate.{Rate}
 use Rattle.rules_rates.specs.declared.Rate.the-variants.{One, Two, Five, Eleven}
 use Rattle.rules_rates.specs.Rates.{symbolBits}
 use Rattle.rules_chips.specs.Chips.{Taken, unusable, isUnusable, takenCounts}
-use Rattle.symbols.specs.Choice.{decided}
+use Rattle.rules_symbols.specs.Choice.{decided}
 use Rattle.bits.specs.Growths.{grownBy, growthsOf}
 use Rattle.bits.proofs.Heard.{growthsOf-length}
 use Rattle.bits.proofs.Each.{before, growth-of, last-heard}

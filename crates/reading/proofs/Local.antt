@@ -17,7 +17,7 @@ use Rattle.rules_rates.specs.declared.Rate.{Rate}
 use Rattle.rules_rates.specs.declared.Rate.the-variants.{One}
 use Rattle.rules_rates.specs.Rates.{symbolChips, symbolBits}
 use Rattle.rules_chips.specs.Chips.{Taken, takenCounts}
-use Rattle.symbols.specs.Choice.{decided}
+use Rattle.rules_symbols.specs.Choice.{decided}
 use Rattle.bits.specs.Growths.{heard, growthsOf, lastHeard}
 use Rattle.bits.specs.Scrambler.{descramble}
 use Rattle.frame.specs.declared.Kind.{Kind}

@@ -15,7 +15,7 @@ use Rattle.rules_rates.specs.declared.Rate.{Rate}
 use Rattle.rules_rates.specs.declared.Rate.the-variants.{One}
 use Rattle.rules_rates.specs.Rates.{symbolChips}
 use Rattle.rules_chips.specs.Chips.{Taken, takenCounts}
-use Rattle.symbols.specs.Choice.{decided}
+use Rattle.rules_symbols.specs.Choice.{decided}
 use Rattle.bits.specs.Bits.{_⊕_, bitsOf, numberOf}
 use Rattle.bits.specs.Growths.{heard, grownBy}
 use Rattle.bits.proofs.Heard.{heard-at, heard-length}

@@ -14,7 +14,7 @@ use Rattle.rules_rates.specs.declared.Rate.{Rate}
 use Rattle.rules_rates.specs.declared.Rate.the-variants.{One}
 use Rattle.rules_rates.specs.Rates.{symbolChips, symbolBits, octetSymbols}
 use Rattle.rules_chips.specs.Chips.{Taken}
-use Rattle.symbols.specs.Words.{phaseOf}
+use Rattle.rules_symbols.specs.Words.{phaseOf}
 use Rattle.bits.specs.Bits.{numberOf}
 use Rattle.bits.specs.Growths.{heardBits}
 use Rattle.frame.specs.declared.Kind.{Kind}

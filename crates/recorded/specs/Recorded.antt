@@ -15,7 +15,7 @@ use Rattle.rules_chips.specs.declared.Counts.{Counts}
 use Rattle.rules_chips.specs.declared.Chip.{Chip}
 use Rattle.rules_chips.specs.declared.Chip.the-variants as chip
 use Rattle.rules_chips.specs.Chips.{Taken, unusable, isUnusable, takenCounts, hardChip}
-use Rattle.symbols.specs.Choice.{decided, leadOf}
+use Rattle.rules_symbols.specs.Choice.{decided, leadOf}
 use Rattle.recorded.specs.declared.Place.{Place}
 use Rattle.recorded.specs.declared.Place.the-variants.{Nothing, At}
 

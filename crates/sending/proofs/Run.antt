@@ -11,7 +11,7 @@ use lib.ListN.{length, length-append}
 use Rattle.rules_rates.specs.declared.Rate.{Rate}
 use Rattle.rules_rates.specs.declared.Rate.the-variants.{One, Two, Five, Eleven}
 use Rattle.rules_rates.specs.Rates.{octetChips}
-use Rattle.symbols.specs.Words.{barkerWord, cckWord}
+use Rattle.rules_symbols.specs.Words.{barkerWord, cckWord}
 use Rattle.bits.specs.Bits.{bitsOf}
 use Rattle.bits.specs.Growths.{symbolOf, symbolsFrom, chipsFrom}
 use Rattle.bits.specs.Scrambler.{mixed, scramble}

@@ -2,7 +2,7 @@
 -- working notion: of the code that sends octets; no promise needs it
 use Prim.Native.Nat.{ℕ}
 use mathlib.Core.List.{List, [], _∷_, _++_}
-use Rattle.symbols.specs.Words.{barkerWord}
+use Rattle.rules_symbols.specs.Words.{barkerWord}
 use Rattle.lines.specs.declared.Line.{Line}
 use Rattle.bits.specs.Code.{pastOf}
 use Rattle.sending.specs.Sending.{State}

@@ -19,7 +19,7 @@ use Rattle.axes.specs.Axes.{along}
 use Rattle.rules_chips.specs.declared.Counts.{Counts}
 use Rattle.rules_chips.specs.Chips.{pair, nothing, takenCounts, byteCounts, byteRecording}
 use Rattle.rules_chips.proofs.Bytes.{countsAt, part-bytes}
-use Rattle.symbols.specs.Choice.{decided, leadOf}
+use Rattle.rules_symbols.specs.Choice.{decided, leadOf}
 use Rattle.choosing.specs.Scores.{ChosenAs}
 use Rattle.sums.specs.Sums.{bySigns, asChip}
 use Rattle.sums.proofs.Signs.{sums-chosen}

@@ -21,7 +21,7 @@ use Rattle.rules_chips.specs.Bounds.{Bounded}
 use Rattle.axes.specs.Axes.{along, unitOf, octetOf, AllHard}
 use Rattle.rules_chips.proofs.Bounds.{counts-within}
 use Rattle.axes.proofs.Axes.{hard-counts}
-use Rattle.symbols.specs.Choice.{decided, leadOf}
+use Rattle.rules_symbols.specs.Choice.{decided, leadOf}
 use Rattle.choosing.specs.Scores.{RowWithin, ChosenAs}
 use Rattle.sums.specs.Sums.{bySigns, asChip, rows}
 use Rattle.sums.proofs.Signs.{sums-chosen}

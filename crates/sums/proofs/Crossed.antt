@@ -14,8 +14,8 @@ use mir.Val.{SFits, toZ, ofZ, hbits}
 use Rattle.base.proofs.Whole.{add, same, up-pos, dn-pos}
 use Rattle.base.specs.Tables.{tabulate}
 use Rattle.rules_rates.specs.declared.Rate.the-variants.{Five}
-use Rattle.symbols.specs.Words.{cckWord}
-use Rattle.symbols.specs.Choice.{score}
+use Rattle.rules_symbols.specs.Words.{cckWord}
+use Rattle.rules_symbols.specs.Choice.{score}
 use Rattle.choosing.specs.Scores.{RowWithin, scoreAt, number5}
 use Rattle.sums.specs.Sums.{rows, crossed}
 use Rattle.base.proofs.Adding.{Reads, reads-of, reads-fits, reads-add, less-fits, reads-less}

@@ -5,8 +5,8 @@ use Prim.Native.Nat.{ℕ, zero, suc, _-_, _/_, _%_, _<_}
 use native.Mathlib.Omega.{arith}
 use lib.IntN.{ℤ, negℤ, natAbs, +ℤ-idr}
 use Rattle.rules_rates.specs.declared.Rate.the-variants.{One}
-use Rattle.symbols.specs.Words.{barkerWord}
-use Rattle.symbols.specs.Choice.{score, term}
+use Rattle.rules_symbols.specs.Words.{barkerWord}
+use Rattle.rules_symbols.specs.Choice.{score, term}
 use Rattle.rules_chips.specs.Chips.{pair}
 use Rattle.choosing.specs.Scores.{scoreAt, ChosenAs}
 use Rattle.choosing.specs.Keys.{keyOf, TwoLargest, HoldsTwo}

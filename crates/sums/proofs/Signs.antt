@@ -24,9 +24,9 @@ use Rattle.rules_chips.specs.Chips.{pair}
 use Rattle.axes.specs.declared.Axis.{Axis}
 use Rattle.axes.specs.declared.Axis.the-variants.{I, Q}
 use Rattle.axes.specs.Axes.{along, phaseOn}
-use Rattle.symbols.specs.Words.{barkerSigns, signChip, barkerWord}
-use Rattle.symbols.specs.Choice.{score, term}
-use Rattle.symbols.proofs.Words.{barkerTurns}
+use Rattle.rules_symbols.specs.Words.{barkerSigns, signChip, barkerWord}
+use Rattle.rules_symbols.specs.Choice.{score, term}
+use Rattle.rules_symbols.proofs.Words.{barkerTurns}
 use Rattle.choosing.specs.Scores.{RowWithin, scoreAt, ChosenAs}
 use Rattle.sums.specs.Sums.{bySign, signed, bySigns, asChip}
 use Rattle.base.proofs.Adding.{reads-of}

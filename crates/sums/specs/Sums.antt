@@ -9,7 +9,7 @@ use lib.IntN.{ℤ, pos, negℤ, _+ℤ_}
 use Rattle.base.specs.Tables.{tabulate}
 use Rattle.rules_chips.specs.declared.Counts.{Counts}
 use Rattle.rules_chips.specs.Chips.{pair}
-use Rattle.symbols.specs.Words.{barkerSigns}
+use Rattle.rules_symbols.specs.Words.{barkerSigns}
 use Rattle.choosing.specs.Keys.{keyOf}
 
 abbrev pub bySign : Bool → ℤ → ℤ

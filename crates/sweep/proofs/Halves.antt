@@ -26,8 +26,8 @@ use Rattle.axes.specs.declared.Axis.{Axis}
 use Rattle.axes.specs.declared.Axis.the-variants.{I, Q}
 use Rattle.axes.specs.Axes.{along, unitsAlong}
 use Rattle.rules_chips.specs.Chips.{pair, fullChip, hardRecording}
-use Rattle.symbols.specs.Words.{barkerSigns}
-use Rattle.symbols.specs.Choice.{term, decided}
+use Rattle.rules_symbols.specs.Words.{barkerSigns}
+use Rattle.rules_symbols.specs.Choice.{term, decided}
 use Rattle.choosing.specs.Scores.{scoreAt, DecidedAs}
 use Rattle.choosing.proofs.Decided.{decided-best}
 use Rattle.sums.specs.Sums.{signed, bySigns, asChip}

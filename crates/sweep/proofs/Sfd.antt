@@ -11,7 +11,7 @@ use Rattle.base.specs.Tables.{tabulate}
 use Rattle.base.proofs.Tables.{tabulate-ext}
 use Rattle.rules_rates.specs.declared.Rate.the-variants.{One}
 use Rattle.rules_chips.specs.Chips.{Taken, takenCounts}
-use Rattle.symbols.specs.Choice.{decided}
+use Rattle.rules_symbols.specs.Choice.{decided}
 use Rattle.bits.specs.Bits.{_⊕_, bitsOf, numberOf}
 use Rattle.bits.specs.Growths.{grownBy}
 use Rattle.frame.specs.declared.Kind.{Kind}

@@ -13,7 +13,7 @@ use Rattle.rules_rates.specs.declared.Rate.the-variants.{Eleven}
 use Rattle.rules_rates.specs.Rates.{isCode, rateOf, symbolChips}
 use Rattle.rules_chips.specs.Floats.{countOf}
 use Rattle.rules_chips.specs.Chips.{Taken, takenCounts, softRecording}
-use Rattle.symbols.specs.Choice.{decided}
+use Rattle.rules_symbols.specs.Choice.{decided}
 use Rattle.reading.specs.Reading.{orElse, firstUnusable}
 use Rattle.recorded.specs.Recorded.{symbolAt}
 use Rattle.recorders.specs.declared.Recorder.{Recorder}

@@ -17,7 +17,7 @@ use Rattle.base.specs.Whole.{up, dn}
 use Rattle.base.proofs.Whole.{add, of-le, of-lt, le-of, up-pos, dn-pos}
 use Rattle.rules_rates.specs.declared.Rate.the-variants.{Eleven}
 use Rattle.rules_chips.specs.declared.Counts.{Counts}
-use Rattle.symbols.specs.Choice.{decided}
+use Rattle.rules_symbols.specs.Choice.{decided}
 use Rattle.choosing.specs.Scores.{NextAs}
 use Rattle.choosing.specs.Keys.{Largest}
 use Rattle.choosing.proofs.KeyLaws.{Better, number-below, number-by}

@@ -20,7 +20,7 @@ use Rattle.base.specs.Whole.{up, dn}
 use Rattle.base.proofs.Whole.{add, neg-up, neg-dn, up-pos, dn-pos, le-of}
 use Rattle.base.proofs.Tests.{both-left, both-right}
 use Rattle.rules_chips.specs.declared.Counts.{Counts}
-use Rattle.symbols.specs.Choice.{term}
+use Rattle.rules_symbols.specs.Choice.{term}
 use Rattle.choosing.specs.Keys.{bigger, lesser, Largest}
 use Rattle.base.proofs.Adding.{times-up, times-dn}
 use Rattle.choosing.proofs.Clean.{phase}

@@ -16,8 +16,8 @@ use Rattle.base.specs.Whole.{up, dn}
 use Rattle.base.proofs.Whole.{add, of-le, le-of, up-pos, dn-pos}
 use Rattle.rules_rates.specs.declared.Rate.the-variants.{Eleven}
 use Rattle.rules_chips.specs.declared.Counts.{Counts}
-use Rattle.symbols.specs.Words.{cckWord, cckOf}
-use Rattle.symbols.specs.Choice.{score}
+use Rattle.rules_symbols.specs.Words.{cckWord, cckOf}
+use Rattle.rules_symbols.specs.Choice.{score}
 use Rattle.choosing.specs.Scores.{scoreAt}
 use Rattle.choosing.specs.Keys.{keyOf}
 use Rattle.choosing.proofs.HalfTurns.{cck-half}

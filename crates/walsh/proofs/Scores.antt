@@ -12,8 +12,8 @@ use lib.IntN.{ℤ, pos, negsuc, negℤ, _+ℤ_, _*ℤ_, +ℤ-assoc, +ℤ-idr, ne
 use Rattle.base.specs.Tables.{tabulate}
 use Rattle.rules_chips.specs.declared.Counts.{Counts}
 use Rattle.rules_chips.specs.Chips.{pair}
-use Rattle.symbols.specs.Words.{cckWord}
-use Rattle.symbols.specs.Choice.{term, score}
+use Rattle.rules_symbols.specs.Words.{cckWord}
+use Rattle.rules_symbols.specs.Choice.{term, score}
 use Rattle.choosing.proofs.Scaled.{k-add, term-times}
 use Rattle.sums.specs.Sums.{rows, everyRow}
 use Rattle.walsh.specs.Turns.{back, fly}

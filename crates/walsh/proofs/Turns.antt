@@ -11,8 +11,8 @@ use lib.IntN.{ℤ, pos, _+ℤ_, negℤ-+ℤ, negℤ-negℤ}
 use Rattle.base.proofs.Whole.{add, same, up-pos, dn-pos, within-zero, within-neg, within-add}
 use Rattle.rules_chips.specs.declared.Counts.{Counts}
 use Rattle.rules_chips.specs.Bounds.{Bounded}
-use Rattle.symbols.specs.Words.{cckWord}
-use Rattle.symbols.specs.Choice.{term, score}
+use Rattle.rules_symbols.specs.Words.{cckWord}
+use Rattle.rules_symbols.specs.Choice.{term, score}
 use Rattle.choosing.proofs.Clean.{phase}
 use Rattle.walsh.specs.Turns.{plus, back, fly}
 

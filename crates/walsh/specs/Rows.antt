@@ -12,7 +12,7 @@ use Rattle.rules_chips.specs.declared.Counts.{Counts}
 use Rattle.rules_chips.specs.Chips.{pair}
 use Rattle.rules_chips.specs.Bounds.{Bounded}
 use Rattle.rules_rates.specs.declared.Rate.the-variants.{Eleven}
-use Rattle.symbols.specs.Choice.{decided, leadOf}
+use Rattle.rules_symbols.specs.Choice.{decided, leadOf}
 use Rattle.sums.specs.Sums.{rows, everyRow}
 use Rattle.walsh.specs.Turns.{fly}
 

@@ -6,8 +6,8 @@ use Prim.Native.Nat.{ℕ, _+_, _/_, _%_}
 use Rattle.base.specs.Over.{over}
 use Rattle.rules_rates.specs.declared.Rate.the-variants.{Eleven}
 use Rattle.rules_chips.specs.Chips.{turned}
-use Rattle.symbols.specs.Words.{cckWord}
-use Rattle.symbols.proofs.Words.{cck-mod}
+use Rattle.rules_symbols.specs.Words.{cckWord}
+use Rattle.rules_symbols.proofs.Words.{cck-mod}
 use Rattle.bits.specs.Bits.{bitsOf}
 use Rattle.bits.specs.Growths.{growth, direct, halfTurn, symbolOf, symbolsFrom, chipsFrom, lastPhase}
 use Rattle.bits.specs.Code.{pairsOf}

@@ -10,7 +10,7 @@ use Rattle.base.specs.Over.{over}
 use Rattle.base.proofs.Over.{over-next}
 use Rattle.rules_rates.specs.declared.Rate.the-variants.{Five}
 use Rattle.rules_chips.specs.Chips.{turned}
-use Rattle.symbols.specs.Words.{cckWord}
+use Rattle.rules_symbols.specs.Words.{cckWord}
 use Rattle.bits.specs.Bits.{bitsOf}
 use Rattle.bits.specs.Code.{pairsOf}
 use Rattle.bits.proofs.PairLaws.{pair-bits}

@@ -15,7 +15,7 @@ use Rattle.base.specs.Tables.{tabulate}
 use Rattle.base.proofs.Over.{over-next}
 use Rattle.rules_rates.specs.declared.Rate.{Rate}
 use Rattle.rules_rates.specs.Rates.{octetChips}
-use Rattle.symbols.specs.Words.{barkerWord}
+use Rattle.rules_symbols.specs.Words.{barkerWord}
 use Rattle.sending.specs.Sending.{State, emit, step, run, ran}
 use Rattle.sending.specs.Line.{state}
 use Rattle.base.proofs.Lists.{run-room}

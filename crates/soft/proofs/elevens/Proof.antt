@@ -8,7 +8,7 @@ use lib.ListN.{length}
 use borrow.Author.Needs.{needs}
 use Rattle.rules_rates.specs.declared.Rate.the-variants.{Eleven}
 use Rattle.rules_chips.specs.Chips.{softRecording}
-use Rattle.symbols.specs.Choice.{decided, leadOf}
+use Rattle.rules_symbols.specs.Choice.{decided, leadOf}
 use Rattle.choosing.specs.Scores.{RowWithin}
 use Rattle.sums.specs.Sums.{rows, everyRow}
 use Rattle.recorded.specs.Recorded.{symbolAt}

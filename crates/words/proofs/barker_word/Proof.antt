@@ -6,7 +6,7 @@ use native.Mathlib.Omega.{arith}
 use borrow.Author.Needs.{needs}
 use Rattle.base.specs.Tables.{Filled}
 use Rattle.base.proofs.Tables.{filled-none, filled-more, filled-all}
-use Rattle.symbols.proofs.Words.{barkerTurns, turnedAt, turn-mod, barker-filled, barker-turns-phases}
+use Rattle.rules_symbols.proofs.Words.{barkerTurns, turnedAt, turn-mod, barker-filled, barker-turns-phases}
 use Rattle.words.proofs.barker_word.Statement.{statement}
 use Rattle.words.proofs.barker_word.Tie as tie
 

@@ -11,7 +11,7 @@ use borrow.Rule.Slice.PartMut.{putMid, same-len-mid}
 use borrow.Author.Needs.{needs}
 use Rattle.base.specs.Over.{over}
 use Rattle.base.proofs.Over.{over-next}
-use Rattle.symbols.specs.Words.{barkerWord}
+use Rattle.rules_symbols.specs.Words.{barkerWord}
 use Rattle.sending.specs.Line.{barkerWords}
 use Rattle.sending.proofs.Barkers.{barkers-snoc, length-barkers, barker-entry, length-entry}
 use Rattle.sending.proofs.puts.put_barkers.Statement.{statement}

@@ -11,8 +11,8 @@ use Rattle.rules_rates.specs.declared.Rate.the-variants.{One, Two, Five, Eleven
 use Rattle.rules_rates.specs.Rates.{symbolChips}
 use Rattle.rules_chips.specs.declared.Counts.{Counts}
 use Rattle.rules_chips.specs.Chips.{pair, nothing, fullChip}
-use Rattle.symbols.specs.Words.{barkerWord, cckWord, cckNumber, p1Of, p2Of, p3Of, p4Of, wordOf, phaseOf}
-use Rattle.symbols.specs.Choice.{term, score, those, allowed, going, firstLargest, decided, others, leadOf}
+use Rattle.rules_symbols.specs.Words.{barkerWord, cckWord, cckNumber, p1Of, p2Of, p3Of, p4Of, wordOf, phaseOf}
+use Rattle.rules_symbols.specs.Choice.{term, score, those, allowed, going, firstLargest, decided, others, leadOf}
 
 -- the words (0,0,0,0), (1,1,0,0) and (0,1,2,3); what each phase alone adds to which chips; the Barker symbols
 -- promise: Barker and CCK words, their numbers and phases, and the numbers that each rate allows

@@ -13,7 +13,7 @@ use Rattle.rules_rates.specs.declared.Rate.{Rate}
 use Rattle.rules_rates.specs.declared.Rate.the-variants.{One, Two, Five, Eleven}
 use Rattle.rules_rates.specs.Rates.{symbolChips}
 use Rattle.rules_chips.specs.Chips.{turned}
-use Rattle.symbols.specs.Words.{barkerWord, cckWord, wordOf}
+use Rattle.rules_symbols.specs.Words.{barkerWord, cckWord, wordOf}
 
 -- every chip of the list is a phase, and so is what stands for one past its end
 pub record Phases (w : List ℕ) : Type 0 where

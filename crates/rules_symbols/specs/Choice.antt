@@ -12,7 +12,7 @@ use lib.Signed.{ltZ}
 use Rattle.rules_rates.specs.declared.Rate.{Rate}
 use Rattle.rules_rates.specs.declared.Rate.the-variants.{One, Two, Five, Eleven}
 use Rattle.rules_chips.specs.declared.Counts.{Counts}
-use Rattle.symbols.specs.Words.{wordOf, p2Of, p3Of, p4Of}
+use Rattle.rules_symbols.specs.Words.{wordOf, p2Of, p3Of, p4Of}
 
 -- I, Q, -I or -Q, as the word's chip is 0, 1, 2 or 3
 abbrev pub term : ℕ → Counts → ℤ

@@ -10,9 +10,9 @@ use lib.Dec.{eqb, eqb→eq}
 use Rattle.base.proofs.Tests.{all-at}
 use Rattle.rules_rates.specs.declared.Rate.{Rate}
 use Rattle.rules_rates.specs.declared.Rate.the-variants.{One, Two, Five, Eleven}
-use Rattle.symbols.specs.Words.{barkerWord, cckWord, cckNumber, cckOf, p1Of, p2Of, p3Of, p4Of, wordOf}
-use Rattle.symbols.specs.Choice.{numbers}
-use Rattle.symbols.proofs.Words.{turn}
+use Rattle.rules_symbols.specs.Words.{barkerWord, cckWord, cckNumber, cckOf, p1Of, p2Of, p3Of, p4Of, wordOf}
+use Rattle.rules_symbols.specs.Choice.{numbers}
+use Rattle.rules_symbols.proofs.Words.{turn}
 
 -- ---- phases of a number, and the number of phases
 abbrev ofPhases : ℕ → ℕ
