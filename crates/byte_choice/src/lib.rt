@@ -9,8 +9,8 @@ ghost use lib.IntN.{pos, natAbs};
 ghost use lib.Signed.{nonNeg};
 ghost use Rattle.base.specs.Whole.{Within};
 ghost use Rattle.base.specs.Tables.{tabulate};
-ghost use Rattle.choosing.specs.Scores.{RowWithin, scoreAt, number5, ChosenAs};
-ghost use Rattle.choosing.specs.Keys.{larger, smaller, keyOf, HoldsTwo};
+ghost use Rattle.rules_choosing.specs.Scores.{RowWithin, scoreAt, number5, ChosenAs};
+ghost use Rattle.rules_choosing.specs.Keys.{larger, smaller, keyOf, HoldsTwo};
 ghost use Rattle.sums.specs.Sums.{bySigns, asChip, rows, crossed, keyAt};
 
 // Two keys, the larger first.

@@ -4,7 +4,7 @@ use keys::Two;
 use rules_rates::Rate;
 ghost use mathlib.Core.Path.{_≡_};
 ghost use Rattle.base.specs.Whole.{Within};
-ghost use Rattle.choosing.specs.Scores.{RowWithin, ChosenAs};
+ghost use Rattle.rules_choosing.specs.Scores.{RowWithin, ChosenAs};
 ghost use Rattle.sums.specs.Sums.{bySigns, asChip};
 
 // The sum of eleven counts by the signs of a Barker symbol.

@@ -5,7 +5,7 @@ use keys::Two;
 use rules_rates::Rate;
 ghost use mathlib.Core.Path.{_≡_};
 ghost use Rattle.base.specs.Tables.{tabulate};
-ghost use Rattle.choosing.specs.Scores.{RowWithin, scoreAt, number5, ChosenAs};
+ghost use Rattle.rules_choosing.specs.Scores.{RowWithin, scoreAt, number5, ChosenAs};
 ghost use Rattle.keys.specs.Floats.{FloatTwo};
 ghost use Rattle.sums.specs.Sums.{rows, crossed, keyAt};
 

@@ -7,7 +7,7 @@ use rules_rates::Rate;
 ghost use mathlib.Core.List.{map};
 ghost use Rattle.rules_chips.specs.Chips.{countsOf};
 ghost use Rattle.axes.specs.Axes.{AllSoft};
-ghost use Rattle.choosing.specs.Scores.{ChosenAs};
+ghost use Rattle.rules_choosing.specs.Scores.{ChosenAs};
 
 mod barker;
 mod five;

@@ -17,9 +17,9 @@ use Rattle.rules_chips.specs.Chips.{Taken, takenCounts, fullChip}
 use Rattle.rules_symbols.specs.Words.{wordOf}
 use Rattle.rules_symbols.specs.Choice.{decided, leadOf}
 use Rattle.rules_symbols.proofs.Words.{word-length}
-use Rattle.choosing.proofs.Agreement.{cleanLead}
-use Rattle.choosing.proofs.Clean.{decided-clean}
-use Rattle.choosing.proofs.CleanLeads.{lead-clean}
+use Rattle.rules_choosing.proofs.Agreement.{cleanLead}
+use Rattle.rules_choosing.proofs.Clean.{decided-clean}
+use Rattle.rules_choosing.proofs.CleanLeads.{lead-clean}
 use Rattle.reading.specs.Leads.{decidedLeads}
 use Rattle.reading.specs.Reading.{firstUnusable, decidedWords}
 use Rattle.bits.specs.Code.{wordsChips}

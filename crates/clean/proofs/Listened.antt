@@ -19,7 +19,7 @@ use Rattle.rules_symbols.proofs.Words.{word-phases}
 use Rattle.frame.specs.declared.Kind.{Kind}
 use Rattle.frame.specs.declared.Kind.the-variants.{Long, Short}
 use Rattle.frame.specs.Frame.{headerRate, frontChips, preambleLength, headerLength, partsChips, preambleChips}
-use Rattle.choosing.proofs.Agreement.{cleanLead}
+use Rattle.rules_choosing.proofs.Agreement.{cleanLead}
 use Rattle.reading.specs.Leads.{decidedLeads, frontLeads, payloadLeads}
 use Rattle.reading.specs.Reading.{
   orElse,

@@ -8,7 +8,7 @@ ghost use lib.Signed.{ltZ};
 ghost use Rattle.base.specs.Whole.{Within};
 ghost use Rattle.rules_chips.specs.Bounds.{Bounded};
 ghost use Rattle.rules_chips.specs.Chips.{pair};
-ghost use Rattle.choosing.specs.Keys.{larger, smaller};
+ghost use Rattle.rules_choosing.specs.Keys.{larger, smaller};
 ghost use Rattle.walsh.specs.Turns.{plus, sided, credit, fourTop, fourNext, topOf, nextOf};
 ghost use Rattle.walsh.specs.Search.{held, merged, met, fourMore};
 

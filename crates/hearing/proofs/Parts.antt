@@ -25,7 +25,7 @@ use Rattle.rules_rates.specs.Rates.{symbolChips, symbolBits, octetSymbols, octe
 use Rattle.rules_rates.proofs.Octets.{part-symbols, part-chips, part-bits}
 use Rattle.rules_chips.specs.Chips.{Taken, takenCounts}
 use Rattle.rules_symbols.specs.Choice.{numbers, decided, leadOf}
-use Rattle.choosing.proofs.Decided.{decided-below}
+use Rattle.rules_choosing.proofs.Decided.{decided-below}
 use Rattle.bits.specs.Bits.{bitsOf, octetsOf}
 use Rattle.bits.specs.Growths.{heard, growthsOf, lastHeard}
 use Rattle.bits.specs.Scrambler.{descramble}

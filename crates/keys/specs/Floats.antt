@@ -7,7 +7,7 @@ use mathlib.Core.Bool.{cond}
 use Prim.Native.Nat.{ℕ, _<_}
 use lib.IntN.{pos}
 use lib.Ieee.{Float, binary32, ofInt, lt}
-use Rattle.choosing.specs.Keys.{TwoLargest}
+use Rattle.rules_choosing.specs.Keys.{TwoLargest}
 
 abbrev pub keyFloat : ℕ → Float
 keyFloat k = ofInt binary32 (pos k)

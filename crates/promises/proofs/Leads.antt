@@ -18,9 +18,9 @@ use Rattle.rules_rates.specs.Rates.{rateOf, symbolChips, symbolBits}
 use Rattle.rules_chips.specs.declared.Counts.{Counts}
 use Rattle.rules_chips.specs.Chips.{Taken, takenCounts}
 use Rattle.rules_symbols.specs.Choice.{decided, leadOf}
-use Rattle.choosing.specs.Scores.{LeadsBy}
-use Rattle.choosing.specs.Demand3.{LeadsExactly}
-use Rattle.choosing.proofs.Leads.{leads-by, leads-once}
+use Rattle.rules_choosing.specs.Scores.{LeadsBy}
+use Rattle.rules_choosing.specs.Demand3.{LeadsExactly}
+use Rattle.rules_choosing.proofs.Leads.{leads-by, leads-once}
 use Rattle.frame.specs.declared.Kind.{Kind}
 use Rattle.frame.specs.declared.Kind.the-variants.{Long, Short}
 use Rattle.frame.specs.Frame.{

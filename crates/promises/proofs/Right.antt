@@ -41,8 +41,8 @@ use Rattle.rules_chips.proofs.Bounds.{soft-near, hard-exact, lost-exact}
 use Rattle.rules_chips.proofs.Bytes.{bytes-usable, byte-exact}
 use Rattle.rules_chips.proofs.Recorders.{sample, taken-hard, taken-soft, unusable-hard, unusable-soft}
 use Rattle.rules_symbols.specs.Choice.{decided, leadOf}
-use Rattle.choosing.specs.Demand3.{RightUpTo, LeadsExactly}
-use Rattle.choosing.proofs.Demand3.{demand-3, lead-says}
+use Rattle.rules_choosing.specs.Demand3.{RightUpTo, LeadsExactly}
+use Rattle.rules_choosing.proofs.Demand3.{demand-3, lead-says}
 use Rattle.frame.specs.declared.Kind.{Kind}
 use Rattle.frame.specs.declared.Kind.the-variants.{Long, Short}
 use Rattle.frame.specs.Frame.{headerRate, frontChips, preambleLength, headerLength, preambleChips}

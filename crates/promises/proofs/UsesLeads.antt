@@ -19,9 +19,9 @@ use Rattle.rules_rates.specs.Rates.{rateOf, symbolChips}
 use Rattle.rules_chips.specs.Floats.{usable}
 use Rattle.rules_chips.specs.Chips.{Taken, hardRecording, softRecording, byteRecording}
 use Rattle.rules_symbols.specs.Choice.{numbers, isAllowed}
-use Rattle.choosing.specs.Scores.{scoreAt, LeadsBy}
-use Rattle.choosing.specs.Demand3.{exactAt, LeadsExactly}
-use Rattle.choosing.proofs.Leads.{leads-once}
+use Rattle.rules_choosing.specs.Scores.{scoreAt, LeadsBy}
+use Rattle.rules_choosing.specs.Demand3.{exactAt, LeadsExactly}
+use Rattle.rules_choosing.proofs.Leads.{leads-once}
 use Rattle.frame.specs.declared.Kind.{Kind}
 use Rattle.frame.specs.declared.Kind.the-variants.{Long, Short}
 use Rattle.frame.specs.Frame.{kindOf}

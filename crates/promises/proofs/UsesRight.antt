@@ -28,7 +28,7 @@ use Rattle.rules_chips.specs.Chips.{
   byteRecording,
 }
 use Rattle.rules_symbols.specs.Choice.{numbers, isAllowed}
-use Rattle.choosing.specs.Demand3.{exactAt}
+use Rattle.rules_choosing.specs.Demand3.{exactAt}
 use Rattle.frame.specs.declared.Kind.{Kind}
 use Rattle.frame.specs.Frame.{headerRate, headerLength, preambleChips, frontChips, frameChips, preambleLength}
 use Rattle.reading.specs.Reading.{preambleWords, headerWords, payloadWords}

@@ -11,8 +11,8 @@ use Rattle.rules_rates.specs.declared.Rate.the-variants.{One}
 use Rattle.rules_rates.specs.Rates.{rateOf, symbolChips, symbolBits}
 use Rattle.rules_chips.specs.declared.Counts.{Counts}
 use Rattle.rules_chips.specs.Chips.{Taken, takenCounts}
-use Rattle.choosing.specs.Scores.{LeadsBy}
-use Rattle.choosing.specs.Demand3.{LeadsExactly}
+use Rattle.rules_choosing.specs.Scores.{LeadsBy}
+use Rattle.rules_choosing.specs.Demand3.{LeadsExactly}
 use Rattle.frame.specs.declared.Kind.{Kind}
 use Rattle.frame.specs.Frame.{
   kindOf,

@@ -19,7 +19,7 @@ use Rattle.rules_chips.specs.declared.Chip.the-variants.{Soft}
 use Rattle.rules_chips.specs.Floats.{usable}
 use Rattle.rules_chips.specs.Chips.{nothing, exactOf, Taken, unusable, isUnusable, takenCounts, hardChip, byteExact}
 use Rattle.rules_chips.specs.Bounds.{Apart}
-use Rattle.choosing.specs.Demand3.{RightUpTo}
+use Rattle.rules_choosing.specs.Demand3.{RightUpTo}
 use Rattle.frame.specs.declared.Kind.{Kind}
 use Rattle.frame.specs.Frame.{headerRate, frontChips, frameChips, preambleLength, headerLength, preambleChips}
 use Rattle.reading.specs.Reading.{preambleWords, headerWords, payloadWords}

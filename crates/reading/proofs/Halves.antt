@@ -8,7 +8,7 @@ use Prim.Native.Nat.{ℕ, _+_, _/_, _%_, _<_}
 use native.Mathlib.Omega.{arith}
 use Rattle.rules_rates.specs.declared.Rate.the-variants.{One}
 use Rattle.rules_chips.specs.Chips.{Taken}
-use Rattle.choosing.proofs.Decided.{decided-below}
+use Rattle.rules_choosing.proofs.Decided.{decided-below}
 use Rattle.bits.specs.Bits.{_⊕_}
 use Rattle.bits.specs.Growths.{grownBy}
 use Rattle.frame.specs.declared.Kind.{Kind}

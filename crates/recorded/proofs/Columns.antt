@@ -30,7 +30,7 @@ use Rattle.base.proofs.Tables.{length-tabulate, tabulate-ext, as-table}
 use Rattle.axes.specs.declared.Axis.the-variants.{I, Q}
 use Rattle.axes.specs.Axes.{unitOf}
 use Rattle.rules_chips.specs.Chips.{takenCounts, softRecording}
-use Rattle.choosing.specs.Scores.{RowWithin}
+use Rattle.rules_choosing.specs.Scores.{RowWithin}
 use Rattle.sums.specs.Sums.{rows, everyRow}
 use Rattle.sums.proofs.Apart.{counts-eight, units-rows}
 use Rattle.recorded.specs.Recorded.{hardPart, softPart}

@@ -15,8 +15,8 @@ use Rattle.rules_rates.specs.declared.Rate.the-variants.{One, Two}
 use Rattle.rules_rates.specs.Rates.{symbolChips}
 use Rattle.rules_chips.specs.Chips.{Taken}
 use Rattle.rules_symbols.specs.Choice.{decided, leadOf}
-use Rattle.choosing.proofs.Decided.{decided-barker}
-use Rattle.choosing.proofs.Leads.{lead-barker}
+use Rattle.rules_choosing.proofs.Decided.{decided-barker}
+use Rattle.rules_choosing.proofs.Leads.{lead-barker}
 use Rattle.recorded.specs.Recorded.{symbolAt, DecidedAt, LeadsAt, Put}
 
 module _ (g : ℕ → ℕ) (m : ℕ) where

@@ -20,10 +20,10 @@ use Rattle.rules_chips.specs.declared.Counts.{Counts}
 use Rattle.rules_chips.specs.Chips.{pair, nothing, takenCounts, byteCounts, byteRecording}
 use Rattle.rules_chips.proofs.Bytes.{countsAt, part-bytes}
 use Rattle.rules_symbols.specs.Choice.{decided, leadOf}
-use Rattle.choosing.specs.Scores.{ChosenAs}
+use Rattle.rules_choosing.specs.Scores.{ChosenAs}
 use Rattle.sums.specs.Sums.{bySigns, asChip}
 use Rattle.sums.proofs.Signs.{sums-chosen}
-use Rattle.choosing.proofs.Scaled.{decided-times, lead-times}
+use Rattle.rules_choosing.proofs.Scaled.{decided-times, lead-times}
 use Rattle.signed_bytes.specs.Rows.{barkerBytes, fiveBytes}
 
 -- cs decide what ds do, with a 16th of the lead

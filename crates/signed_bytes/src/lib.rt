@@ -8,7 +8,7 @@ ghost use Rattle.base.specs.Tables.{tabulate};
 ghost use Rattle.base.specs.Whole.{Within};
 ghost use Rattle.rules_chips.specs.Chips.{byteRecording};
 ghost use Rattle.rules_symbols.specs.Choice.{decided, leadOf};
-ghost use Rattle.choosing.specs.Scores.{RowWithin};
+ghost use Rattle.rules_choosing.specs.Scores.{RowWithin};
 ghost use Rattle.sums.specs.Sums.{everyRow};
 ghost use Rattle.recorded.specs.Recorded.{DecidedAt, LeadsAt, Put};
 ghost use Rattle.signed_bytes.specs.Rows.{barkerAt, fiveAt};

@@ -5,7 +5,7 @@ ghost use mathlib.Core.Bool.{true, not};
 ghost use Prim.Native.Nat.{_+_, _*_, _<_, _≤_};
 ghost use lib.ListN.{length, getD};
 ghost use Rattle.rules_chips.specs.Chips.{unusable, isUnusable, softRecording};
-ghost use Rattle.choosing.specs.Scores.{RowWithin};
+ghost use Rattle.rules_choosing.specs.Scores.{RowWithin};
 ghost use Rattle.recorded.specs.Columns.{ColumnSet, Columns, softColumn};
 ghost use Rattle.recorded.specs.Recorded.{softPart, AllUsable, DecidedAt, LeadsAt};
 use axes::Axis;

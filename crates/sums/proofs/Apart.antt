@@ -22,10 +22,10 @@ use Rattle.axes.specs.Axes.{along, unitOf, octetOf, AllHard}
 use Rattle.rules_chips.proofs.Bounds.{counts-within}
 use Rattle.axes.proofs.Axes.{hard-counts}
 use Rattle.rules_symbols.specs.Choice.{decided, leadOf}
-use Rattle.choosing.specs.Scores.{RowWithin, ChosenAs}
+use Rattle.rules_choosing.specs.Scores.{RowWithin, ChosenAs}
 use Rattle.sums.specs.Sums.{bySigns, asChip, rows}
 use Rattle.sums.proofs.Signs.{sums-chosen}
-use Rattle.choosing.proofs.Scaled.{Times, decided-times, lead-times}
+use Rattle.rules_choosing.proofs.Scaled.{Times, decided-times, lead-times}
 
 -- ---- whatever is counted of a chip, nothing of a lost one
 module _ (f : Chip → Counts) (none : f Lost ≡ nothing) where

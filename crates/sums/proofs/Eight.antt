@@ -14,12 +14,12 @@ use Rattle.rules_rates.specs.declared.Rate.the-variants.{Five}
 use Rattle.rules_chips.specs.declared.Counts.{Counts}
 use Rattle.rules_chips.specs.Chips.{pair, nothing}
 use Rattle.rules_chips.specs.Bounds.{Bounded}
-use Rattle.choosing.specs.Scores.{number5, scoreAt, AllBounded, RowWithin, ChosenAs}
-use Rattle.choosing.specs.Keys.{TwoLargest, HoldsTwo}
+use Rattle.rules_choosing.specs.Scores.{number5, scoreAt, AllBounded, RowWithin, ChosenAs}
+use Rattle.rules_choosing.specs.Keys.{TwoLargest, HoldsTwo}
 use Rattle.sums.specs.Sums.{rows, keyAt}
-use Rattle.choosing.proofs.Sixteen.{chosen-place}
-use Rattle.choosing.proofs.HalfTurns.{five-half, cck-within}
-use Rattle.choosing.proofs.KeyLaws.{better, ranked}
+use Rattle.rules_choosing.proofs.Sixteen.{chosen-place}
+use Rattle.rules_choosing.proofs.HalfTurns.{five-half, cck-within}
+use Rattle.rules_choosing.proofs.KeyLaws.{better, ranked}
 
 -- eight scores make the choice
 module _ (cs : List Counts) (h : List ℤ) (e : h ≡ tabulate (λ k. scoreAt Five cs (number5 k)) 8) where

@@ -8,11 +8,11 @@ use Rattle.rules_rates.specs.declared.Rate.the-variants.{One}
 use Rattle.rules_symbols.specs.Words.{barkerWord}
 use Rattle.rules_symbols.specs.Choice.{score, term}
 use Rattle.rules_chips.specs.Chips.{pair}
-use Rattle.choosing.specs.Scores.{scoreAt, ChosenAs}
-use Rattle.choosing.specs.Keys.{keyOf, TwoLargest, HoldsTwo}
+use Rattle.rules_choosing.specs.Scores.{scoreAt, ChosenAs}
+use Rattle.rules_choosing.specs.Keys.{keyOf, TwoLargest, HoldsTwo}
 use Rattle.sums.specs.Sums.{asChip}
-use Rattle.choosing.proofs.KeyLaws.{Better, better, ranked}
-use Rattle.choosing.proofs.Chosen.{chosen-by}
+use Rattle.rules_choosing.proofs.KeyLaws.{Better, better, ranked}
+use Rattle.rules_choosing.proofs.Chosen.{chosen-by}
 
 module _ (i q : ℤ) where
   -- the keys of the phases 0 and 1, each the better of it and its opposite

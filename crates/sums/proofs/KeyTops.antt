@@ -16,8 +16,8 @@ use mir.Syntax.{Width}
 use mir.Val.{toZ, ofZ, hbits}
 use Rattle.base.specs.Whole.{Within}
 use Rattle.base.proofs.Whole.{small, within-more}
-use Rattle.choosing.specs.Scores.{RowWithin}
-use Rattle.choosing.specs.Keys.{larger, smaller, bigger, lesser, keyOf, Largest, TwoLargest, HoldsTwo}
+use Rattle.rules_choosing.specs.Scores.{RowWithin}
+use Rattle.rules_choosing.specs.Keys.{larger, smaller, bigger, lesser, keyOf, Largest, TwoLargest, HoldsTwo}
 use Rattle.sums.specs.Sums.{keyAt}
 
 pub second-le : {k : ℕ → ℕ} {a b x y : ℕ} → TwoLargest k a b x y → y ≤ x

@@ -27,11 +27,11 @@ use Rattle.axes.specs.Axes.{along, phaseOn}
 use Rattle.rules_symbols.specs.Words.{barkerSigns, signChip, barkerWord}
 use Rattle.rules_symbols.specs.Choice.{score, term}
 use Rattle.rules_symbols.proofs.Words.{barkerTurns}
-use Rattle.choosing.specs.Scores.{RowWithin, scoreAt, ChosenAs}
+use Rattle.rules_choosing.specs.Scores.{RowWithin, scoreAt, ChosenAs}
 use Rattle.sums.specs.Sums.{bySign, signed, bySigns, asChip}
 use Rattle.base.proofs.Adding.{reads-of}
-use Rattle.choosing.proofs.Chosen.{chosen-alike}
-use Rattle.choosing.proofs.HalfTurns.{barker-half}
+use Rattle.rules_choosing.proofs.Chosen.{chosen-alike}
+use Rattle.rules_choosing.proofs.HalfTurns.{barker-half}
 use Rattle.sums.proofs.Four.{score-chip}
 
 -- ---- the scores of the phases 0 and 1 are the sums of I and of Q

@@ -10,7 +10,7 @@ use Rattle.base.specs.Tables.{tabulate}
 use Rattle.rules_chips.specs.declared.Counts.{Counts}
 use Rattle.rules_chips.specs.Chips.{pair}
 use Rattle.rules_symbols.specs.Words.{barkerSigns}
-use Rattle.choosing.specs.Keys.{keyOf}
+use Rattle.rules_choosing.specs.Keys.{keyOf}
 
 abbrev pub bySign : Bool → ℤ → ℤ
 bySign true z = z

@@ -28,8 +28,8 @@ use Rattle.axes.specs.Axes.{along, unitsAlong}
 use Rattle.rules_chips.specs.Chips.{pair, fullChip, hardRecording}
 use Rattle.rules_symbols.specs.Words.{barkerSigns}
 use Rattle.rules_symbols.specs.Choice.{term, decided}
-use Rattle.choosing.specs.Scores.{scoreAt, DecidedAs}
-use Rattle.choosing.proofs.Decided.{decided-best}
+use Rattle.rules_choosing.specs.Scores.{scoreAt, DecidedAs}
+use Rattle.rules_choosing.proofs.Decided.{decided-best}
 use Rattle.sums.specs.Sums.{signed, bySigns, asChip}
 use Rattle.sums.proofs.Four.{score-chip}
 use Rattle.sums.proofs.Apart.{units-barker}

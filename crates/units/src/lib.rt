@@ -11,8 +11,8 @@ ghost use mathlib.Core.List.{map};
 ghost use Rattle.axes.specs.Axes.{unitOf};
 ghost use Rattle.base.specs.Whole.{Within};
 ghost use Rattle.base.specs.Tables.{tabulate};
-ghost use Rattle.choosing.specs.Scores.{RowWithin, scoreAt, number5, ChosenAs};
-ghost use Rattle.choosing.specs.Keys.{bigger, lesser, keyOf, TwoLargest};
+ghost use Rattle.rules_choosing.specs.Scores.{RowWithin, scoreAt, number5, ChosenAs};
+ghost use Rattle.rules_choosing.specs.Keys.{bigger, lesser, keyOf, TwoLargest};
 ghost use Rattle.sums.specs.Sums.{bySigns, asChip, rows, crossed, keyAt};
 
 // Two keys, the larger first.

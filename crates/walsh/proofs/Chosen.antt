@@ -18,10 +18,10 @@ use Rattle.base.proofs.Whole.{add, of-le, of-lt, le-of, up-pos, dn-pos}
 use Rattle.rules_rates.specs.declared.Rate.the-variants.{Eleven}
 use Rattle.rules_chips.specs.declared.Counts.{Counts}
 use Rattle.rules_symbols.specs.Choice.{decided}
-use Rattle.choosing.specs.Scores.{NextAs}
-use Rattle.choosing.specs.Keys.{Largest}
-use Rattle.choosing.proofs.KeyLaws.{Better, number-below, number-by}
-use Rattle.choosing.proofs.Leads.{runnerUp, runner-next, lead-is}
+use Rattle.rules_choosing.specs.Scores.{NextAs}
+use Rattle.rules_choosing.specs.Keys.{Largest}
+use Rattle.rules_choosing.proofs.KeyLaws.{Better, number-below, number-by}
+use Rattle.rules_choosing.proofs.Leads.{runnerUp, runner-next, lead-is}
 use Rattle.walsh.specs.Rows.{elevenAt, elevenLead, Entered, Paired}
 use Rattle.walsh.specs.Search.{
   groupTop,

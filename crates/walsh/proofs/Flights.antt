@@ -15,7 +15,7 @@ use Rattle.rules_chips.specs.declared.Counts.{Counts}
 use Rattle.rules_chips.specs.Chips.{pair}
 use Rattle.rules_chips.specs.Bounds.{Bounded}
 use Rattle.base.proofs.Adding.{Reads, reads-of, reads-fits, reads-add, less-fits, reads-less}
-use Rattle.choosing.proofs.Clean.{phase}
+use Rattle.rules_choosing.proofs.Clean.{phase}
 use Rattle.walsh.specs.Turns.{fly}
 use Rattle.walsh.specs.Rows.{rowAt, Flown}
 use Rattle.base.proofs.Puts.{puts, length-puts, puts-other, puts-at}

@@ -21,9 +21,9 @@ use Rattle.base.proofs.Whole.{add, neg-up, neg-dn, up-pos, dn-pos, le-of}
 use Rattle.base.proofs.Tests.{both-left, both-right}
 use Rattle.rules_chips.specs.declared.Counts.{Counts}
 use Rattle.rules_symbols.specs.Choice.{term}
-use Rattle.choosing.specs.Keys.{bigger, lesser, Largest}
+use Rattle.rules_choosing.specs.Keys.{bigger, lesser, Largest}
 use Rattle.base.proofs.Adding.{times-up, times-dn}
-use Rattle.choosing.proofs.Clean.{phase}
+use Rattle.rules_choosing.proofs.Clean.{phase}
 use Rattle.walsh.specs.Turns.{fly, fourTop, fourNext, topOf, nextOf}
 use Rattle.walsh.proofs.Tops.{
   Lifted,

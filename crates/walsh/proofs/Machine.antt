@@ -32,9 +32,9 @@ use Rattle.base.proofs.Whole.{
   within-more,
 }
 use Rattle.rules_chips.specs.declared.Counts.{Counts}
-use Rattle.choosing.specs.Keys.{larger, smaller}
+use Rattle.rules_choosing.specs.Keys.{larger, smaller}
 use Rattle.base.proofs.Adding.{Reads, made-fits, made, within-pos}
-use Rattle.choosing.proofs.Wide.{abs-le}
+use Rattle.rules_choosing.proofs.Wide.{abs-le}
 use Rattle.walsh.specs.Turns.{sided, credit, fourTop, fourNext}
 use Rattle.walsh.specs.Search.{Held, met, sizeOf}
 

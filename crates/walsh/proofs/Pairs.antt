@@ -18,12 +18,12 @@ use Rattle.rules_rates.specs.declared.Rate.the-variants.{Eleven}
 use Rattle.rules_chips.specs.declared.Counts.{Counts}
 use Rattle.rules_symbols.specs.Words.{cckWord, cckOf}
 use Rattle.rules_symbols.specs.Choice.{score}
-use Rattle.choosing.specs.Scores.{scoreAt}
-use Rattle.choosing.specs.Keys.{keyOf}
-use Rattle.choosing.proofs.HalfTurns.{cck-half}
-use Rattle.choosing.proofs.KeyLaws.{Better, better, number-below}
+use Rattle.rules_choosing.specs.Scores.{scoreAt}
+use Rattle.rules_choosing.specs.Keys.{keyOf}
+use Rattle.rules_choosing.proofs.HalfTurns.{cck-half}
+use Rattle.rules_choosing.proofs.KeyLaws.{Better, better, number-below}
 use Rattle.sums.specs.Sums.{rows, everyRow}
-use Rattle.choosing.proofs.Wide.{key-abs}
+use Rattle.rules_choosing.proofs.Wide.{key-abs}
 use Rattle.walsh.specs.Rows.{Entered, Paired, evens, odds}
 use Rattle.walsh.proofs.Turns.{turn}
 use Rattle.walsh.proofs.Tops.{Lifted, sides}

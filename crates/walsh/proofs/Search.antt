@@ -18,7 +18,7 @@ use lib.Signed.{ltZ, _≤ℤ_, _<ℤ_, ltZ-yes, ltZ-no, ≤ℤ-refl}
 use Rattle.base.specs.Whole.{up, dn}
 use Rattle.base.proofs.Whole.{add, neg-up, neg-dn, up-pos, dn-pos, le-of, lt-of, of-le, of-lt}
 use Rattle.rules_chips.specs.declared.Counts.{Counts}
-use Rattle.choosing.specs.Keys.{larger}
+use Rattle.rules_choosing.specs.Keys.{larger}
 use Rattle.walsh.specs.Turns.{sided, credit, fourTop, topOf, nextOf}
 use Rattle.walsh.specs.Rows.{rowAt, evens, odds}
 use Rattle.walsh.specs.Search.{

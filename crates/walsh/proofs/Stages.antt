@@ -25,7 +25,7 @@ use Rattle.base.proofs.Whole.{small, within-zero, within-neg, within-more, with
 use Rattle.rules_chips.specs.declared.Counts.{Counts}
 use Rattle.rules_chips.specs.Chips.{pair}
 use Rattle.rules_chips.specs.Bounds.{Bounded}
-use Rattle.choosing.specs.Scores.{RowWithin}
+use Rattle.rules_choosing.specs.Scores.{RowWithin}
 use Rattle.base.proofs.Adding.{
   Reads,
   made-fits,
@@ -36,7 +36,7 @@ use Rattle.base.proofs.Adding.{
   within-pos,
   within-mul,
 }
-use Rattle.choosing.proofs.Clean.{phase}
+use Rattle.rules_choosing.proofs.Clean.{phase}
 use Rattle.walsh.specs.Turns.{fly}
 use Rattle.walsh.specs.Rows.{
   rowAt,

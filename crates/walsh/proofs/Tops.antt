@@ -18,8 +18,8 @@ use lib.IntN.{ℤ, pos, negsuc, negℤ, natAbs, _+ℤ_, _-ℤ_}
 use lib.Signed.{ltZ, _≤ℤ_, _<ℤ_, ltZ-yes, ltZ-no}
 use Rattle.base.specs.Whole.{up, dn}
 use Rattle.base.proofs.Whole.{add, neg-up, neg-dn, up-pos, dn-pos, of-lt, of-le}
-use Rattle.choosing.specs.Keys.{larger, smaller, bigger, lesser, Largest}
-use Rattle.choosing.proofs.Clean.{phase}
+use Rattle.rules_choosing.specs.Keys.{larger, smaller, bigger, lesser, Largest}
+use Rattle.rules_choosing.proofs.Clean.{phase}
 use Rattle.walsh.specs.Turns.{sided, credit}
 use Rattle.walsh.proofs.Turns.{eight-cases}
 

@@ -13,7 +13,7 @@ use Rattle.rules_chips.specs.declared.Counts.{Counts}
 use Rattle.rules_chips.specs.Bounds.{Bounded}
 use Rattle.rules_symbols.specs.Words.{cckWord}
 use Rattle.rules_symbols.specs.Choice.{term, score}
-use Rattle.choosing.proofs.Clean.{phase}
+use Rattle.rules_choosing.proofs.Clean.{phase}
 use Rattle.walsh.specs.Turns.{plus, back, fly}
 
 -- by cases of a number below eight

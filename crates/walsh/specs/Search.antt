@@ -11,7 +11,7 @@ use lib.IntN.{ℤ, pos, negsuc, natAbs, _+ℤ_}
 use lib.Dec.{T}
 use lib.Signed.{ltZ, nonNeg, _≤ℤ_, _<ℤ_}
 use Rattle.rules_chips.specs.declared.Counts.{Counts}
-use Rattle.choosing.specs.Keys.{larger, smaller}
+use Rattle.rules_choosing.specs.Keys.{larger, smaller}
 use Rattle.walsh.specs.Turns.{fly, topOf, nextOf}
 use Rattle.walsh.specs.Rows.{rowAt, evens, odds}
 

@@ -10,7 +10,7 @@ use lib.IntN.{ℤ, pos, negsuc, negℤ, natAbs, _+ℤ_, _-ℤ_}
 use lib.Signed.{ltZ}
 use Rattle.rules_chips.specs.declared.Counts.{Counts}
 use Rattle.rules_chips.specs.Chips.{pair, nothing}
-use Rattle.choosing.specs.Keys.{larger, smaller}
+use Rattle.rules_choosing.specs.Keys.{larger, smaller}
 
 -- the sum of two, and one turned back by r quarter turns
 abbrev pub plus : Counts → Counts → Counts

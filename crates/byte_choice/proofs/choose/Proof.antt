@@ -9,7 +9,7 @@ use mir.Val.{toZ, ofZ}
 use borrow.Author.Needs.{needs}
 use Rattle.base.specs.Whole.{Within}
 use Rattle.base.proofs.Whole.{small}
-use Rattle.choosing.specs.Keys.{keyOf, HoldsTwo}
+use Rattle.rules_choosing.specs.Keys.{keyOf, HoldsTwo}
 use Rattle.sums.proofs.Four.{sumKey, phase-held}
 use Rattle.sums.proofs.KeyTops.{holds-two, holds-order}
 use Rattle.byte_choice.proofs.choose.Statement.{statement}

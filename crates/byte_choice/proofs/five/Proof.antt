@@ -8,7 +8,7 @@ use lib.IntN.{ℤ, natAbs}
 use mir.Syntax.{w16}
 use mir.Val.{toZ, ofZ}
 use borrow.Author.Needs.{needs}
-use Rattle.choosing.specs.Scores.{number5}
+use Rattle.rules_choosing.specs.Scores.{number5}
 use Rattle.sums.proofs.KeyTops.{holds-order}
 use Rattle.sums.proofs.Eight.{eight-held, eight-within}
 use Rattle.byte_choice.proofs.five.Statement.{statement}

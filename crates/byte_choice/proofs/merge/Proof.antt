@@ -4,7 +4,7 @@ use mathlib.Core.Path.{_≡_, _∙_}
 use mir.Syntax.{w16}
 use mir.Val.{toZ, ofZ}
 use borrow.Author.Needs.{needs}
-use Rattle.choosing.specs.Keys.{larger, smaller}
+use Rattle.rules_choosing.specs.Keys.{larger, smaller}
 use Rattle.byte_choice.proofs.merge.Statement.{statement}
 use Rattle.byte_choice.proofs.merge.Tie as tie
 

@@ -10,8 +10,8 @@ use mir.Val.{toZ, ofZ, hbits}
 use borrow.Author.Needs.{needs}
 use Rattle.base.specs.Whole.{Within}
 use Rattle.base.proofs.Whole.{small}
-use Rattle.choosing.specs.Keys.{larger, smaller}
-use Rattle.choosing.proofs.Wide.{key-read}
+use Rattle.rules_choosing.specs.Keys.{larger, smaller}
+use Rattle.rules_choosing.proofs.Wide.{key-read}
 use Rattle.byte_choice.proofs.two_keys.Statement.{statement}
 use Rattle.byte_choice.proofs.two_keys.Tie as tie
 

@@ -4,7 +4,7 @@ use mathlib.Core.Path.{_∙_}
 use lib.Dec.{lit<}
 use mir.Syntax.{w32}
 use Rattle.base.proofs.Whole.{small, neg-fits, neg-read}
-use Rattle.choosing.proofs.Wide.{abs-below, abs-above}
+use Rattle.rules_choosing.proofs.Wide.{abs-below, abs-above}
 use Rattle.keys.proofs.abs.Statement.{statement}
 use Rattle.keys.proofs.abs.Tie as tie
 

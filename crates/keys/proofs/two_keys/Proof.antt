@@ -11,8 +11,8 @@ use mir.Val.{toZ, ofZ, hbits}
 use borrow.Author.Needs.{needs}
 use Rattle.base.specs.Whole.{Within}
 use Rattle.base.proofs.Whole.{small}
-use Rattle.choosing.specs.Keys.{keyOf}
-use Rattle.choosing.proofs.Wide.{key-read, key-small}
+use Rattle.rules_choosing.specs.Keys.{keyOf}
+use Rattle.rules_choosing.proofs.Wide.{key-read, key-small}
 use Rattle.keys.specs.Floats.{largerFloat, smallerFloat}
 use Rattle.keys.proofs.Floats.{may-float}
 use Rattle.keys.proofs.two_keys.Statement.{statement}

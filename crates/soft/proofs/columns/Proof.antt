@@ -7,7 +7,7 @@ use lib.ListN.{length}
 use borrow.Author.Needs.{needs}
 use Rattle.axes.specs.declared.Axis.the-variants.{I, Q}
 use Rattle.axes.specs.Axes.{countsAlong, AllSoft}
-use Rattle.choosing.specs.Scores.{RowWithin}
+use Rattle.rules_choosing.specs.Scores.{RowWithin}
 use Rattle.sums.proofs.Apart.{counts-small}
 use Rattle.recorded.specs.Columns.{Columns, softColumn}
 use Rattle.recorded.proofs.Search.{usable-part}

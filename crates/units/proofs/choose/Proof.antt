@@ -7,7 +7,7 @@ use mir.Syntax.{w8}
 use mir.Val.{toZ, ofZ}
 use borrow.Author.Needs.{needs}
 use Rattle.base.specs.Whole.{Within}
-use Rattle.choosing.specs.Keys.{bigger, lesser, keyOf, TwoLargest}
+use Rattle.rules_choosing.specs.Keys.{bigger, lesser, keyOf, TwoLargest}
 use Rattle.base.proofs.Adding.{reads-of}
 use Rattle.sums.proofs.Four.{sumKey, phase-by}
 use Rattle.sums.proofs.KeyTops.{two-of, two-is, second-le}

@@ -4,7 +4,7 @@ use mathlib.Core.Path.{ap, _∙_}
 use native.Mathlib.Omega.{arith}
 use lib.Dec.{lit<, lit≤}
 use borrow.Author.Needs.{needs}
-use Rattle.choosing.specs.Scores.{number5}
+use Rattle.rules_choosing.specs.Scores.{number5}
 use Rattle.sums.proofs.KeyTops.{second-le}
 use Rattle.sums.proofs.Eight.{eight-by, eight-within}
 use Rattle.units.proofs.five.Statement.{statement}

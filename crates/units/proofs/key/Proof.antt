@@ -10,7 +10,7 @@ use mir.Syntax.{w8}
 use mir.Val.{toZ, ofZ}
 use Rattle.base.proofs.Whole.{within-neg}
 use Rattle.base.proofs.Adding.{reads-of, made, made-fits}
-use Rattle.choosing.proofs.Wide.{abs-below, abs-above, abs-le, key-below, key-above}
+use Rattle.rules_choosing.proofs.Wide.{abs-below, abs-above, abs-le, key-below, key-above}
 use Rattle.units.proofs.key.Statement.{statement}
 use Rattle.units.proofs.key.Tie as tie
 

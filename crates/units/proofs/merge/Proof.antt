@@ -2,7 +2,7 @@
 -- Assumes nothing.
 use mathlib.Core.Path.{_∙_}
 use borrow.Author.Needs.{needs}
-use Rattle.choosing.specs.Keys.{bigger}
+use Rattle.rules_choosing.specs.Keys.{bigger}
 use Rattle.units.proofs.merge.Statement.{statement}
 use Rattle.units.proofs.merge.Tie as tie
 

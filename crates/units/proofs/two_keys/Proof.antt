@@ -9,7 +9,7 @@ use mir.Syntax.{w8}
 use mir.Val.{toZ, ofZ}
 use borrow.Author.Needs.{needs}
 use Rattle.base.specs.Whole.{Within}
-use Rattle.choosing.specs.Keys.{bigger, lesser, keyOf}
+use Rattle.rules_choosing.specs.Keys.{bigger, lesser, keyOf}
 use Rattle.base.proofs.Adding.{reads-of}
 use Rattle.units.proofs.two_keys.Statement.{statement}
 use Rattle.units.proofs.two_keys.Tie as tie

@@ -11,8 +11,8 @@ use mir.Val.{toZ, ofZ}
 use borrow.Author.Needs.{needs}
 use Rattle.base.specs.Whole.{Within}
 use Rattle.base.proofs.Whole.{within-more}
-use Rattle.choosing.specs.Scores.{RowWithin}
-use Rattle.choosing.specs.Keys.{bigger, lesser, keyOf, TwoLargest}
+use Rattle.rules_choosing.specs.Scores.{RowWithin}
+use Rattle.rules_choosing.specs.Keys.{bigger, lesser, keyOf, TwoLargest}
 use Rattle.sums.specs.Sums.{keyAt}
 use Rattle.base.proofs.Adding.{reads-of}
 use Rattle.sums.proofs.KeyTops.{two-of, two-is, two-merge}

@@ -10,8 +10,8 @@ use mir.Val.{toZ, ofZ}
 use borrow.Author.Needs.{needs}
 use Rattle.base.specs.Whole.{Within}
 use Rattle.base.proofs.Whole.{small}
-use Rattle.choosing.specs.Keys.{keyOf}
-use Rattle.choosing.proofs.Wide.{key-small}
+use Rattle.rules_choosing.specs.Keys.{keyOf}
+use Rattle.rules_choosing.proofs.Wide.{key-small}
 use Rattle.sums.proofs.Four.{sumKey, phase-by}
 use Rattle.sums.proofs.KeyTops.{second-le}
 use Rattle.keys.specs.Floats.{keyFloat, largerFloat, smallerFloat, FloatTwo}

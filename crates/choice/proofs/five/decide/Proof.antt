@@ -5,7 +5,7 @@ use Prim.Native.Nat.{ℕ, _-_, _/_, _%_}
 use native.Mathlib.Omega.{arith}
 use lib.Dec.{lit<, lit≤}
 use borrow.Author.Needs.{needs}
-use Rattle.choosing.specs.Scores.{number5}
+use Rattle.rules_choosing.specs.Scores.{number5}
 use Rattle.sums.proofs.KeyTops.{second-le}
 use Rattle.sums.proofs.Eight.{eight-by, eight-within}
 use Rattle.keys.proofs.Floats.{first-asks, second-asks, first-back, second-back}

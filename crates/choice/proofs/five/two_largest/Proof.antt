@@ -13,11 +13,11 @@ use mir.Syntax.{w32}
 use mir.Val.{toZ, ofZ}
 use borrow.Author.Needs.{needs}
 use Rattle.base.specs.Whole.{Within}
-use Rattle.choosing.specs.Scores.{RowWithin}
-use Rattle.choosing.specs.Keys.{keyOf}
+use Rattle.rules_choosing.specs.Scores.{RowWithin}
+use Rattle.rules_choosing.specs.Keys.{keyOf}
 use Rattle.sums.specs.Sums.{keyAt}
 use Rattle.sums.proofs.KeyTops.{within-two, score-read}
-use Rattle.choosing.proofs.Wide.{key-small}
+use Rattle.rules_choosing.proofs.Wide.{key-small}
 use Rattle.keys.specs.Floats.{keyFloat, largerFloat, smallerFloat, FloatTwo}
 use Rattle.keys.proofs.Floats.{float-two, float-merge}
 use Rattle.choice.proofs.five.two_largest.Statement.{statement}

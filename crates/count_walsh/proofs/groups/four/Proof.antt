@@ -7,7 +7,7 @@ use mir.Syntax.{w32}
 use mir.Val.{toZ, ofZ}
 use borrow.Author.Needs.{needs}
 use Rattle.base.proofs.Whole.{within-more, within-read}
-use Rattle.choosing.specs.Keys.{larger, smaller}
+use Rattle.rules_choosing.specs.Keys.{larger, smaller}
 use Rattle.base.proofs.Adding.{Reads, reads-of, reads-fits, reads-add, less-fits, reads-less}
 use Rattle.walsh.specs.Turns.{sided, credit, fourTop, fourNext}
 use Rattle.walsh.proofs.Machine.{

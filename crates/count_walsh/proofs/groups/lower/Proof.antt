@@ -6,7 +6,7 @@ use lib.IntN.{_+ℤ_, _-ℤ_}
 use mir.Syntax.{w32}
 use mir.Val.{toZ, ofZ}
 use borrow.Author.Needs.{needs}
-use Rattle.choosing.specs.Keys.{smaller}
+use Rattle.rules_choosing.specs.Keys.{smaller}
 use Rattle.base.proofs.Adding.{Reads, made-fits, made, reads-of, reads-fits, reads-add}
 use Rattle.walsh.proofs.Machine.{reads-smaller, left-over}
 use Rattle.count_walsh.proofs.groups.lower.Statement.{statement}

@@ -11,9 +11,9 @@ use Rattle.base.specs.Whole.{up, dn}
 use Rattle.rules_rates.specs.declared.Rate.{Rate}
 use Rattle.rules_chips.specs.declared.Counts.{Counts}
 use Rattle.rules_symbols.specs.Choice.{numbers, decided, leadOf}
-use Rattle.choosing.specs.Scores.{scoreAt, DecidedAs, NextAs, ChosenAs}
-use Rattle.choosing.proofs.Decided.{decided-best, decided-is}
-use Rattle.choosing.proofs.Leads.{runnerUp, runner-next, lead-is, lead-by}
+use Rattle.rules_choosing.specs.Scores.{scoreAt, DecidedAs, NextAs, ChosenAs}
+use Rattle.rules_choosing.proofs.Decided.{decided-best, decided-is}
+use Rattle.rules_choosing.proofs.Leads.{runnerUp, runner-next, lead-is, lead-by}
 
 pub chosen-by : (r : Rate) (cs : List Counts) (w m s t : ℕ) → DecidedAs r cs w → NextAs r cs w m
     → scoreAt r cs w ≡ pos s → scoreAt r cs m ≡ pos t → ChosenAs r cs w (s - t)

@@ -21,9 +21,9 @@ use Rattle.rules_rates.specs.declared.Rate.{Rate}
 use Rattle.rules_rates.specs.declared.Rate.the-variants.{One, Two, Five, Eleven}
 use Rattle.rules_chips.specs.declared.Counts.{Counts}
 use Rattle.rules_symbols.specs.Choice.{numbers, isAllowed, those, others, firstLargest, decided, leadOf}
-use Rattle.choosing.specs.Scores.{scoreAt, BestOf, DecidedAs, NextTo, NextAs, LeadsBy}
-use Rattle.choosing.proofs.Best.{first-best, some-of}
-use Rattle.choosing.proofs.Decided.{decided-best, decided-is}
+use Rattle.rules_choosing.specs.Scores.{scoreAt, BestOf, DecidedAs, NextTo, NextAs, LeadsBy}
+use Rattle.rules_choosing.proofs.Best.{first-best, some-of}
+use Rattle.rules_choosing.proofs.Decided.{decided-best, decided-is}
 
 -- ---- the others of those that a test allows are those that a narrower test does
 abbrev besides : (ℕ → Bool) → ℕ → ℕ → Bool

@@ -24,9 +24,9 @@ use Rattle.rules_rates.specs.declared.Rate.{Rate}
 use Rattle.rules_chips.specs.declared.Counts.{Counts}
 use Rattle.rules_symbols.specs.Words.{wordOf}
 use Rattle.rules_symbols.specs.Choice.{term, score, going, firstLargest, allowed, decided, leadOf}
-use Rattle.choosing.specs.Scores.{scoreAt, NextAs}
+use Rattle.rules_choosing.specs.Scores.{scoreAt, NextAs}
 use Rattle.base.proofs.Adding.{times-up, times-dn}
-use Rattle.choosing.proofs.Leads.{runnerUp, runner-next, lead-is}
+use Rattle.rules_choosing.proofs.Leads.{runnerUp, runner-next, lead-is}
 
 iff : (a b : Bool) → (T a → T b) → (T b → T a) → a ≡ b
 iff true true f g = refl

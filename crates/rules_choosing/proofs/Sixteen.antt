@@ -11,10 +11,10 @@ use Rattle.base.proofs.Tests.{all-at, implies, implied, both-left, both-right}
 use Rattle.rules_rates.specs.declared.Rate.the-variants.{Five}
 use Rattle.rules_chips.specs.declared.Counts.{Counts}
 use Rattle.rules_symbols.specs.Choice.{isAllowed, those, allowed, firstLargest, decided}
-use Rattle.choosing.specs.Scores.{upTo, number5, scoreAt, BestOf, NextTo, NextAs, ChosenAs}
-use Rattle.choosing.proofs.Best.{best-unique, up-best, first-map}
-use Rattle.choosing.proofs.Decided.{decided-best}
-use Rattle.choosing.proofs.Chosen.{chosen-by}
+use Rattle.rules_choosing.specs.Scores.{upTo, number5, scoreAt, BestOf, NextTo, NextAs, ChosenAs}
+use Rattle.rules_choosing.proofs.Best.{best-unique, up-best, first-map}
+use Rattle.rules_choosing.proofs.Decided.{decided-best}
+use Rattle.rules_choosing.proofs.Chosen.{chosen-by}
 
 -- they are the allowed ones, in rising order
 pub five-allowed : allowed Five ≡ map number5 (upTo 16)

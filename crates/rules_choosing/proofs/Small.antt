@@ -10,7 +10,7 @@ use Rattle.base.proofs.Whole.{within-zero, within-neg, within-add, within-more}
 use Rattle.rules_chips.specs.declared.Counts.{Counts}
 use Rattle.rules_symbols.specs.Choice.{term, score}
 use Rattle.rules_chips.specs.Bounds.{Bounded}
-use Rattle.choosing.specs.Scores.{AllBounded}
+use Rattle.rules_choosing.specs.Scores.{AllBounded}
 
 pub term-within : (p : ℕ) {b : ℕ} {c : Counts} → Bounded b c → Within b (term p c)
 term-within zero s = s .real

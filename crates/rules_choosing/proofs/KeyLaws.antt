@@ -12,9 +12,9 @@ use lib.IntN.{ℤ, pos, negsuc, negℤ}
 use lib.Signed.{_≤ℤ_, _<ℤ_, ≤ℤ-refl}
 use Rattle.base.proofs.Whole.{le-of, lt-of, of-le, of-lt, up-pos, dn-pos}
 use Rattle.rules_symbols.specs.Choice.{firstLargest}
-use Rattle.choosing.specs.Scores.{upTo, BestOf, NextTo}
-use Rattle.choosing.specs.Keys.{keyOf, Largest, TwoLargest}
-use Rattle.choosing.proofs.Best.{best-unique, up-best}
+use Rattle.rules_choosing.specs.Scores.{upTo, BestOf, NextTo}
+use Rattle.rules_choosing.specs.Keys.{keyOf, Largest, TwoLargest}
+use Rattle.rules_choosing.proofs.Best.{best-unique, up-best}
 
 module _ (h : ℕ) (f : ℕ → ℤ) where
   -- the better word of n and n + h, and its key

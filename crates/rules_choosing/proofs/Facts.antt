@@ -9,7 +9,7 @@ use Rattle.rules_chips.specs.declared.Chip.the-variants.{Lost}
 use Rattle.rules_chips.specs.Chips.{countsOf}
 use Rattle.rules_symbols.specs.Words.{cckWord}
 use Rattle.rules_symbols.specs.Choice.{score, those, going, firstLargest, decided}
-use Rattle.choosing.specs.Keys.{larger, smaller, bigger, lesser}
+use Rattle.rules_choosing.specs.Keys.{larger, smaller, bigger, lesser}
 
 -- eight lost chips at 11 Mbit/s are word 0
 pub lost-eleven : decided Eleven (map countsOf (replicate 8 Lost)) ≡ 0

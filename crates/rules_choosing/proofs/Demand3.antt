@@ -17,12 +17,12 @@ use Rattle.rules_chips.specs.Bounds.{Apart}
 use Rattle.rules_symbols.specs.Words.{wordOf}
 use Rattle.rules_symbols.specs.Choice.{numbers, isAllowed, decided, leadOf}
 use Rattle.rules_symbols.proofs.Words.{word-length}
-use Rattle.choosing.specs.Demand3.{exactAt, Demand3, LeadSays}
-use Rattle.choosing.specs.Scores.{scoreAt, DecidedAs}
+use Rattle.rules_choosing.specs.Demand3.{exactAt, Demand3, LeadSays}
+use Rattle.rules_choosing.specs.Scores.{scoreAt, DecidedAs}
 use Rattle.rules_rates.specs.declared.Rate.{Rate}
-use Rattle.choosing.proofs.Decided.{decided-best}
-use Rattle.choosing.proofs.Leads.{lead-behind}
-use Rattle.choosing.proofs.Near.{
+use Rattle.rules_choosing.proofs.Decided.{decided-best}
+use Rattle.rules_choosing.proofs.Leads.{lead-behind}
+use Rattle.rules_choosing.proofs.Near.{
   Off,
   off-within,
   OffChip,

@@ -21,12 +21,12 @@ use Rattle.rules_symbols.specs.Words.{barkerWord, cckWord, cckNumber, cckOf, p1
 use Rattle.rules_symbols.specs.Choice.{numbers, isAllowed, decided, leadOf}
 use Rattle.rules_symbols.proofs.Words.{word-phases, word-length, turn}
 use Rattle.rules_symbols.proofs.Numbers.{p2-back, p3-back, p4-back}
-use Rattle.choosing.specs.Scores.{scoreAt, DecidedAs, NextAs}
-use Rattle.choosing.proofs.Agreement.{agreeing, opposed, clean, cleanLead}
-use Rattle.choosing.proofs.Decided.{decided-best}
-use Rattle.choosing.proofs.Clean.{Full, score-full, score-self, decided-clean}
-use Rattle.choosing.proofs.Leads.{lead-by}
-use Rattle.choosing.proofs.Differences.{
+use Rattle.rules_choosing.specs.Scores.{scoreAt, DecidedAs, NextAs}
+use Rattle.rules_choosing.proofs.Agreement.{agreeing, opposed, clean, cleanLead}
+use Rattle.rules_choosing.proofs.Decided.{decided-best}
+use Rattle.rules_choosing.proofs.Clean.{Full, score-full, score-self, decided-clean}
+use Rattle.rules_choosing.proofs.Leads.{lead-by}
+use Rattle.rules_choosing.proofs.Differences.{
   is,
   between,
   howMany,

@@ -16,7 +16,7 @@ use lib.IntN.{ℤ}
 use lib.Signed.{ltZ, _≤ℤ_, _<ℤ_, ltZ-yes, ltZ-no, clashℤ, ≤ℤ-refl}
 use Rattle.base.proofs.Whole.{le-of, lt-of, of-le, of-lt}
 use Rattle.rules_symbols.specs.Choice.{those, going, firstLargest}
-use Rattle.choosing.specs.Scores.{upTo, BestOf}
+use Rattle.rules_choosing.specs.Scores.{upTo, BestOf}
 
 pub best-unique : {ok : ℕ → Bool} {n : ℕ} {f : ℕ → ℤ} {r s : ℕ} → BestOf ok n f r → BestOf ok n f s → r ≡ s
 best-unique {ok} {n} {f} {r} {s} p q = by (decLt r s) (decLt s r)

@@ -16,8 +16,8 @@ use Rattle.rules_rates.specs.declared.Rate.{Rate}
 use Rattle.rules_rates.specs.declared.Rate.the-variants.{One, Two, Five, Eleven}
 use Rattle.rules_chips.specs.declared.Counts.{Counts}
 use Rattle.rules_symbols.specs.Choice.{numbers, isAllowed, allowed, decided}
-use Rattle.choosing.specs.Scores.{scoreAt, BestOf, DecidedAs}
-use Rattle.choosing.proofs.Best.{first-best, some-of, best-unique}
+use Rattle.rules_choosing.specs.Scores.{scoreAt, BestOf, DecidedAs}
+use Rattle.rules_choosing.proofs.Best.{first-best, some-of, best-unique}
 
 -- at every rate some word is allowed
 some-allowed : (r : Rate) → 0 < length (allowed r)

@@ -17,7 +17,7 @@ use Rattle.base.specs.Whole.{up, dn, Within}
 use Rattle.base.proofs.Whole.{add, neg-up, neg-dn, up-pos, dn-pos, le-of, of-le, of-lt, lt-of}
 use Rattle.rules_chips.specs.declared.Counts.{Counts}
 use Rattle.rules_symbols.specs.Choice.{term, score}
-use Rattle.choosing.specs.Scores.{BestOf}
+use Rattle.rules_choosing.specs.Scores.{BestOf}
 
 mul-up : (z : ℤ) (u : ℕ) → up (z *ℤ pos u) ≡ up z * u
 unfolding up

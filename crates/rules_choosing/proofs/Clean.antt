@@ -22,8 +22,8 @@ use Rattle.rules_symbols.specs.Words.{wordOf}
 use Rattle.rules_symbols.specs.Choice.{term, score, numbers, isAllowed, decided}
 use Rattle.rules_symbols.proofs.Words.{Phases, phases-tail, word-phases, word-length}
 use Rattle.rules_symbols.proofs.Numbers.{word-one}
-use Rattle.choosing.proofs.Agreement.{one, agreeing, opposed, clean}
-use Rattle.choosing.proofs.Decided.{decided-leads}
+use Rattle.rules_choosing.proofs.Agreement.{one, agreeing, opposed, clean}
+use Rattle.rules_choosing.proofs.Decided.{decided-leads}
 
 -- four phases
 pub phase : (P : ℕ → Type 0) → P 0 → P 1 → P 2 → P 3 → (p : ℕ) → p < 4 → P p

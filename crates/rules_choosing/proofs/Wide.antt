@@ -14,7 +14,7 @@ use mir.Val.{SFits, toZ, ofZ, hbits}
 use mir.Facts.{toZ-pos}
 use Rattle.base.specs.Whole.{up, dn, Within}
 use Rattle.base.proofs.Whole.{add, within-more}
-use Rattle.choosing.specs.Keys.{keyOf}
+use Rattle.rules_choosing.specs.Keys.{keyOf}
 use Rattle.base.proofs.Adding.{
   Reads,
   reads-of,

@@ -13,7 +13,7 @@ use Rattle.base.specs.Tables.{tabulate, Filled}
 use Rattle.base.specs.Whole.{Within}
 use Rattle.base.proofs.Tables.{filled-none, filled-more, filled-all, filled-with}
 use Rattle.base.proofs.Whole.{within-zero}
-use Rattle.choosing.specs.Scores.{RowWithin}
+use Rattle.rules_choosing.specs.Scores.{RowWithin}
 
 abbrev pub byteAt : List ℤ → ℕ → ℕ → ℤ
 byteAt row from j = getD row (from + 32 * j) (pos 0)

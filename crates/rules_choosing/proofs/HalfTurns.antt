@@ -17,10 +17,10 @@ use Rattle.rules_chips.specs.Chips.{turned}
 use Rattle.rules_symbols.specs.Words.{barkerWord, cckWord, cckOf, p1Of, p2Of, p3Of, p4Of}
 use Rattle.rules_symbols.specs.Choice.{term, score}
 use Rattle.rules_symbols.proofs.Words.{Phases, phases-tail, cck-phases, cck-length, barker-phases}
-use Rattle.choosing.specs.Scores.{AllBounded, number5}
-use Rattle.choosing.proofs.Small.{score-within}
-use Rattle.choosing.proofs.Clean.{phase}
-use Rattle.choosing.proofs.Sixteen.{five-lower, five-upper}
+use Rattle.rules_choosing.specs.Scores.{AllBounded, number5}
+use Rattle.rules_choosing.proofs.Small.{score-within}
+use Rattle.rules_choosing.proofs.Clean.{phase}
+use Rattle.rules_choosing.proofs.Sixteen.{five-lower, five-upper}
 
 -- ---- half a turn
 term-half : (p : ℕ) (c : Counts) → p < 4 → term (turned p 2) c ≡ negℤ (term p c)
