@@ -18,13 +18,13 @@ use Rattle.rules_rates.specs.Rates.{symbolBits, octetSymbols}
 use Rattle.rules_rates.proofs.Octets.{part-bits}
 use Rattle.rules_symbols.specs.Words.{phaseOf}
 use Rattle.rules_symbols.specs.Choice.{numbers}
-use Rattle.bits.specs.Bits.{numberOf, octetBits, octetsOf}
-use Rattle.bits.specs.Growths.{grownBy, heardBits, heard, growthsOf, lastHeard}
-use Rattle.bits.specs.Scrambler.{descramble}
-use Rattle.bits.specs.Code.{pastOf, pastAfter}
+use Rattle.rules_bits.specs.Bits.{numberOf, octetBits, octetsOf}
+use Rattle.rules_bits.specs.Growths.{grownBy, heardBits, heard, growthsOf, lastHeard}
+use Rattle.rules_bits.specs.Scrambler.{descramble}
+use Rattle.rules_bits.specs.Code.{pastOf, pastAfter}
 use Rattle.lines.specs.declared.Line.{Line}
-use Rattle.bits.proofs.Bits.{octets-length, octets-bits}
-use Rattle.bits.proofs.Heard.{heard-length, heard-below}
+use Rattle.rules_bits.proofs.Bits.{octets-length, octets-bits}
+use Rattle.rules_bits.proofs.Heard.{heard-length, heard-below}
 use Rattle.reading.specs.Reading.{firstOdd, oddGrowth}
 use Rattle.recorded.specs.declared.Place.{Place}
 use Rattle.recorded.specs.Recorded.{whereFound}

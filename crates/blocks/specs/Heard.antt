@@ -6,10 +6,10 @@ use mathlib.Core.List.{List}
 use Prim.Native.Nat.{ℕ, _<_}
 use lib.ListN.{take}
 use Rattle.rules_rates.specs.declared.Rate.{Rate}
-use Rattle.bits.specs.Bits.{octetsOf}
-use Rattle.bits.specs.Growths.{heard, growthsOf, lastHeard}
-use Rattle.bits.specs.Scrambler.{descramble}
-use Rattle.bits.specs.Code.{pastOf, pastAfter}
+use Rattle.rules_bits.specs.Bits.{octetsOf}
+use Rattle.rules_bits.specs.Growths.{heard, growthsOf, lastHeard}
+use Rattle.rules_bits.specs.Scrambler.{descramble}
+use Rattle.rules_bits.specs.Code.{pastOf, pastAfter}
 use Rattle.lines.specs.declared.Line.{Line}
 use Rattle.reading.specs.Reading.{oddGrowth}
 use Rattle.recorded.specs.Recorded.{whereFound}

@@ -7,7 +7,7 @@ ghost use Rattle.base.specs.Below.{Below};
 ghost use Rattle.base.specs.Over.{over};
 ghost use Rattle.base.specs.Tables.{tabulate};
 ghost use Rattle.rules_rates.specs.Rates.{symbolBits, octetSymbols, octetChips};
-ghost use Rattle.bits.specs.Bits.{numberOf};
+ghost use Rattle.rules_bits.specs.Bits.{numberOf};
 ghost use Rattle.codes.specs.Codes.{grownFor, wordBits, phaseBefore, octetAfter, behind, plain, AreWords};
 ghost use Rattle.blocks.specs.Heard.{plainOctets, Heard};
 use lines::Line;

@@ -12,10 +12,10 @@ use native.Mathlib.Omega.{arith}
 use lib.ListN.{length, getD, take, drop}
 use Rattle.base.specs.Tables.{tabulate}
 use Rattle.base.proofs.Tables.{as-table}
-use Rattle.bits.specs.Bits.{bitsOf, numberOf, octetBits}
-use Rattle.bits.specs.Crc.{crcBits}
+use Rattle.rules_bits.specs.Bits.{bitsOf, numberOf, octetBits}
+use Rattle.rules_bits.specs.Crc.{crcBits}
 use Rattle.base.specs.Below.{Below}
-use Rattle.bits.proofs.Bits.{bits-two, octet-bits-append, number-one, octets-same}
+use Rattle.rules_bits.proofs.Bits.{bits-two, octet-bits-append, number-one, octets-same}
 use Rattle.base.proofs.Below.{below-nil, below-cons}
 use Rattle.frame.specs.declared.Kind.{Kind}
 use Rattle.calls.specs.declared.Front.{Front}

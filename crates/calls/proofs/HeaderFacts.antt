@@ -9,8 +9,8 @@ use lib.ListN.{set, getD, replicate}
 use Rattle.rules_rates.specs.declared.Rate.{Rate}
 use Rattle.rules_rates.specs.declared.Rate.the-variants.{One, Two, Five, Eleven}
 use Rattle.rules_rates.specs.Rates.{codeOf}
-use Rattle.bits.specs.Bits.{bitsOf, numberOf}
-use Rattle.bits.specs.Crc.{addWhere, crcStep, remainder, crcBits}
+use Rattle.rules_bits.specs.Bits.{bitsOf, numberOf}
+use Rattle.rules_bits.specs.Crc.{addWhere, crcStep, remainder, crcBits}
 use Rattle.frame.specs.Frame.{clockBit, fieldBits, headerBits}
 use Rattle.frame.specs.declared.Kind.{Kind}
 use Rattle.frame.specs.declared.Kind.the-variants.{Long, Short}

@@ -15,8 +15,8 @@ use Rattle.rules_rates.specs.declared.Rate.{Rate}
 use Rattle.rules_rates.specs.declared.Rate.the-variants.{One, Two, Five, Eleven}
 use Rattle.rules_rates.specs.Rates.{codeOf, isCode, rateOf, lengthField}
 use Rattle.rules_rates.proofs.Facts.{no-other-code}
-use Rattle.bits.specs.Bits.{numberOf}
-use Rattle.bits.specs.Crc.{crcBits}
+use Rattle.rules_bits.specs.Bits.{numberOf}
+use Rattle.rules_bits.specs.Crc.{crcBits}
 use Rattle.frame.specs.declared.Kind.{Kind}
 use Rattle.frame.specs.Frame.{sfdOf, goesWith, clockBit, serviceField}
 use Rattle.calls.specs.declared.Told.{Told}

@@ -17,9 +17,9 @@ use Rattle.rules_rates.specs.declared.Rate.{Rate}
 use Rattle.rules_rates.specs.declared.Rate.the-variants.{One, Two, Five, Eleven}
 use Rattle.rules_rates.specs.Rates.{codeOf, isCode, rateOf, lengthField, bit7}
 use Rattle.rules_rates.proofs.Lengths.{octets-back, length-holds}
-use Rattle.bits.specs.Bits.{bitsOf, numberOf}
-use Rattle.bits.specs.Crc.{crcBits}
-use Rattle.bits.proofs.Bits.{number-bits}
+use Rattle.rules_bits.specs.Bits.{bitsOf, numberOf}
+use Rattle.rules_bits.specs.Crc.{crcBits}
+use Rattle.rules_bits.proofs.Bits.{number-bits}
 use Rattle.frame.specs.declared.Kind.{Kind}
 use Rattle.frame.proofs.Headers.{clock-lt}
 use Rattle.frame.specs.declared.Kind.the-variants.{Long, Short}

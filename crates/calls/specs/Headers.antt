@@ -9,8 +9,8 @@ use lib.IntN.{natAbs}
 use Rattle.rules_rates.specs.declared.Rate.{Rate}
 use Rattle.rules_rates.specs.declared.Rate.the-variants.{One, Two, Five, Eleven}
 use Rattle.rules_rates.specs.Rates.{isCode, rateOf, octetsRead, lengthHolds}
-use Rattle.bits.specs.Bits.{numberOf}
-use Rattle.bits.specs.Crc.{crcBits}
+use Rattle.rules_bits.specs.Bits.{numberOf}
+use Rattle.rules_bits.specs.Crc.{crcBits}
 use Rattle.frame.specs.declared.Kind.{Kind}
 use Rattle.frame.specs.Frame.{sfdOf, goesWith}
 use Rattle.calls.specs.declared.Refusal.the-variants.{Sfd, Crc, Signal, Service, Length}

@@ -22,9 +22,9 @@ use Rattle.rules_choosing.proofs.Clean.{decided-clean}
 use Rattle.rules_choosing.proofs.CleanLeads.{lead-clean}
 use Rattle.reading.specs.Leads.{decidedLeads}
 use Rattle.reading.specs.Reading.{firstUnusable, decidedWords}
-use Rattle.bits.specs.Code.{wordsChips}
+use Rattle.rules_bits.specs.Code.{wordsChips}
 use Rattle.clean.specs.Clean.{cleanTaken, cleanRecording}
-use Rattle.bits.proofs.Sent.{Allowed, none, more}
+use Rattle.rules_bits.proofs.Sent.{Allowed, none, more}
 
 counts-clean : (w : List ℕ) → map takenCounts (map cleanTaken w) ≡ map (fullChip 1024) w
 counts-clean [] = refl

@@ -11,7 +11,7 @@ use Rattle.rules_rates.specs.declared.Rate.{Rate}
 use Rattle.rules_rates.specs.declared.Rate.the-variants.{One, Two, Five, Eleven}
 use Rattle.rules_rates.specs.Rates.{symbolChips, symbolBits}
 use Rattle.rules_chips.specs.Chips.{Taken}
-use Rattle.bits.specs.Growths.{symbolsOf, lastPhase, heard, growthsOf, lastHeard}
+use Rattle.rules_bits.specs.Growths.{symbolsOf, lastPhase, heard, growthsOf, lastHeard}
 use Rattle.base.specs.Below.{Below}
 use Rattle.base.proofs.Below.{below-nil, below-append}
 use Rattle.rules_symbols.specs.Words.{wordOf}
@@ -36,10 +36,10 @@ use Rattle.reading.specs.Reading.{
   payloadWords,
   payloadOdd,
 }
-use Rattle.bits.specs.Code.{wordsChips}
-use Rattle.bits.proofs.Growths.{lastPhase-lt}
+use Rattle.rules_bits.specs.Code.{wordsChips}
+use Rattle.rules_bits.proofs.Growths.{lastPhase-lt}
 use Rattle.clean.specs.Clean.{cleanRecording}
-use Rattle.bits.proofs.Sent.{Allowed}
+use Rattle.rules_bits.proofs.Sent.{Allowed}
 use Rattle.clean.proofs.Decided.{clean-append, clean-length, decided-words, decided-leads}
 use Rattle.clean.proofs.Parts.{
   wordsOf,

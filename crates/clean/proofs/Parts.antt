@@ -16,7 +16,7 @@ use Rattle.rules_rates.specs.Rates.{symbolChips, symbolBits}
 use Rattle.rules_chips.specs.Chips.{turned}
 use Rattle.rules_symbols.specs.Words.{wordOf}
 use Rattle.rules_symbols.proofs.Words.{word-length}
-use Rattle.bits.specs.Growths.{
+use Rattle.rules_bits.specs.Growths.{
   symbolOf,
   symbolsFrom,
   symbolsOf,
@@ -31,10 +31,10 @@ use Rattle.bits.specs.Growths.{
 use Rattle.base.specs.Below.{Below}
 use Rattle.base.proofs.Below.{below-drop}
 use Rattle.reading.specs.Reading.{firstOdd}
-use Rattle.bits.specs.Code.{numbersFrom, wordsChips}
-use Rattle.bits.proofs.Growths.{symbolsFrom-length}
-use Rattle.bits.proofs.Heard.{heard-back, chips-words, last-number, numbersFrom-length}
-use Rattle.bits.proofs.Sent.{Allowed, numbers-allowed}
+use Rattle.rules_bits.specs.Code.{numbersFrom, wordsChips}
+use Rattle.rules_bits.proofs.Growths.{symbolsFrom-length}
+use Rattle.rules_bits.proofs.Heard.{heard-back, chips-words, last-number, numbersFrom-length}
+use Rattle.rules_bits.proofs.Sent.{Allowed, numbers-allowed}
 
 -- ---- lengths
 pub chips-length : (r : Rate) (ns : List ℕ) → length (wordsChips r ns) ≡ length ns * symbolChips r

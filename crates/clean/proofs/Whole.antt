@@ -13,14 +13,20 @@ use lib.ListN.{length, getD, take, drop, replicate, length-append, length-drop, 
 use lib.Seq.{take-at, drop-at, drop-drop, length-take-le, drop-append-le}
 use Rattle.rules_rates.specs.declared.Rate.{Rate}
 use Rattle.rules_chips.specs.Chips.{Taken}
-use Rattle.bits.specs.Bits.{bitsOf, octetBits, octetsOf}
-use Rattle.bits.specs.Growths.{heard}
-use Rattle.bits.specs.Scrambler.{descramble}
+use Rattle.rules_bits.specs.Bits.{bitsOf, octetBits, octetsOf}
+use Rattle.rules_bits.specs.Growths.{heard}
+use Rattle.rules_bits.specs.Scrambler.{descramble}
 use Rattle.base.specs.Below.{Below}
-use Rattle.bits.specs.Code.{pastAfter}
+use Rattle.rules_bits.specs.Code.{pastAfter}
 use Rattle.base.proofs.Below.{below-append, below-take, below-drop, below-replicate}
-use Rattle.bits.proofs.Bits.{bits-length, bits-below, octet-bits-below, octets-back}
-use Rattle.bits.proofs.Scrambler.{unscrambled, scramble-below, descramble-length, descramble-append, first-unknown}
+use Rattle.rules_bits.proofs.Bits.{bits-length, bits-below, octet-bits-below, octets-back}
+use Rattle.rules_bits.proofs.Scrambler.{
+  unscrambled,
+  scramble-below,
+  descramble-length,
+  descramble-append,
+  first-unknown,
+}
 use Rattle.frame.specs.declared.Kind.{Kind}
 use Rattle.frame.specs.declared.Kind.the-variants.{Long, Short}
 use Rattle.frame.specs.Frame.{

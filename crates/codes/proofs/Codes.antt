@@ -20,8 +20,8 @@ use Rattle.rules_rates.specs.declared.Rate.the-variants.{One, Two, Five, Eleven
 use Rattle.rules_rates.specs.Rates.{symbolBits, octetSymbols}
 use Rattle.rules_chips.specs.Chips.{turned}
 use Rattle.rules_symbols.specs.Words.{phaseOf, p2Of, p3Of, p4Of}
-use Rattle.bits.specs.Bits.{numberOf}
-use Rattle.bits.specs.Growths.{growthBits, directBits, halfTurn, grownBy, heardBits}
+use Rattle.rules_bits.specs.Bits.{numberOf}
+use Rattle.rules_bits.specs.Growths.{growthBits, directBits, halfTurn, grownBy, heardBits}
 use Rattle.codes.specs.Codes.{grownFor, wordBits, twoBits, fourBits, packed, BlockOf}
 use Rattle.reading.proofs.Passes.{growth-two}
 

@@ -13,11 +13,11 @@ use lib.ListN.{length, getD, take, drop, set}
 use lib.Seq.{take-at, drop-at}
 use Rattle.base.proofs.Tables.{length-tabulate, getD-tabulate}
 use Rattle.base.proofs.Over.{over-more}
-use Rattle.bits.specs.Bits.{bitsOf, numberOf, octetBits, octetsOf}
-use Rattle.bits.specs.Scrambler.{descramble}
-use Rattle.bits.specs.Code.{pastOf, pastAfter}
-use Rattle.bits.proofs.Bits.{bits-length, octets-length}
-use Rattle.bits.proofs.Scrambler.{descramble-append, descramble-window, descramble-length, past-append}
+use Rattle.rules_bits.specs.Bits.{bitsOf, numberOf, octetBits, octetsOf}
+use Rattle.rules_bits.specs.Scrambler.{descramble}
+use Rattle.rules_bits.specs.Code.{pastOf, pastAfter}
+use Rattle.rules_bits.proofs.Bits.{bits-length, octets-length}
+use Rattle.rules_bits.proofs.Scrambler.{descramble-append, descramble-window, descramble-length, past-append}
 use Rattle.codes.specs.Codes.{behind, plain}
 use Rattle.reading.proofs.Passes.{past-take}
 

@@ -16,10 +16,10 @@ use Rattle.rules_rates.specs.declared.Rate.{Rate}
 use Rattle.rules_rates.specs.Rates.{symbolBits, octetSymbols}
 use Rattle.rules_rates.proofs.Octets.{octet-bits, part-bits}
 use Rattle.rules_symbols.specs.Words.{phaseOf}
-use Rattle.bits.specs.Bits.{numberOf, octetsOf}
-use Rattle.bits.specs.Growths.{grownBy, heardBits, heard, growthsOf, lastHeard}
-use Rattle.bits.proofs.Bits.{number-append}
-use Rattle.bits.proofs.Heard.{
+use Rattle.rules_bits.specs.Bits.{numberOf, octetsOf}
+use Rattle.rules_bits.specs.Growths.{grownBy, heardBits, heard, growthsOf, lastHeard}
+use Rattle.rules_bits.proofs.Bits.{number-append}
+use Rattle.rules_bits.proofs.Heard.{
   heard-row,
   heard-append,
   growthsOf-append,

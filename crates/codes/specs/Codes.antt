@@ -13,10 +13,10 @@ use Rattle.rules_rates.specs.Rates.{symbolBits, octetSymbols}
 use Rattle.rules_chips.specs.Chips.{turned}
 use Rattle.rules_symbols.specs.Words.{phaseOf, p2Of, p3Of, p4Of}
 use Rattle.rules_symbols.specs.Choice.{numbers}
-use Rattle.bits.specs.Bits.{octetBits, octetsOf}
-use Rattle.bits.specs.Scrambler.{descramble}
-use Rattle.bits.specs.Code.{pastOf}
-use Rattle.bits.specs.Growths.{growthBits, directBits, halfTurn, grownBy}
+use Rattle.rules_bits.specs.Bits.{octetBits, octetsOf}
+use Rattle.rules_bits.specs.Scrambler.{descramble}
+use Rattle.rules_bits.specs.Code.{pastOf}
+use Rattle.rules_bits.specs.Growths.{growthBits, directBits, halfTurn, grownBy}
 
 -- how far symbol k grew from phase p to q for its bits: an odd CCK symbol grew by a half turn more
 abbrev pub grownFor : Rate → ℕ → ℕ → ℕ → ℕ

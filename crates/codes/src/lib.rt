@@ -7,7 +7,7 @@ ghost use lib.ListN.{length, take, drop};
 ghost use Rattle.base.specs.Below.{Below};
 ghost use Rattle.rules_rates.specs.Rates.{symbolBits, octetSymbols};
 ghost use Rattle.rules_symbols.specs.Words.{phaseOf};
-ghost use Rattle.bits.specs.Bits.{numberOf};
+ghost use Rattle.rules_bits.specs.Bits.{numberOf};
 ghost use Rattle.codes.specs.Codes.{grownFor, twoBits, fourBits, wordBits, packed};
 use rules_rates::Rate;
 

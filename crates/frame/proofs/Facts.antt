@@ -12,10 +12,10 @@ use Rattle.rules_rates.specs.declared.Rate.{Rate}
 use Rattle.rules_rates.specs.declared.Rate.the-variants.{One, Two, Five, Eleven}
 use Rattle.rules_rates.specs.Rates.{codeOf}
 use Rattle.rules_symbols.specs.Words.{barkerWord, cckWord}
-use Rattle.bits.specs.Bits.{bitsOf, octetBits}
-use Rattle.bits.specs.Growths.{growth, symbolOf, symbolsFrom, symbolsOf, chipsFrom, lastPhase}
-use Rattle.bits.specs.Scrambler.{mixed, scramble}
-use Rattle.bits.specs.Crc.{addWhere, crcStep, remainder, crcBits}
+use Rattle.rules_bits.specs.Bits.{bitsOf, octetBits}
+use Rattle.rules_bits.specs.Growths.{growth, symbolOf, symbolsFrom, symbolsOf, chipsFrom, lastPhase}
+use Rattle.rules_bits.specs.Scrambler.{mixed, scramble}
+use Rattle.rules_bits.specs.Crc.{addWhere, crcStep, remainder, crcBits}
 use Rattle.frame.specs.declared.Kind.{Kind}
 use Rattle.frame.specs.declared.Kind.the-variants.{Long, Short}
 use Rattle.frame.specs.Frame.{

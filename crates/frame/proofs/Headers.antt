@@ -14,10 +14,10 @@ use mir.Val.{boolByte}
 use Rattle.base.specs.Below.{Below}
 use Rattle.base.proofs.Below.{below-append}
 use Rattle.rules_rates.specs.declared.Rate.{Rate}
-use Rattle.bits.specs.Bits.{bitsOf}
-use Rattle.bits.specs.Crc.{crcBits}
-use Rattle.bits.proofs.Bits.{bits-below}
-use Rattle.bits.proofs.Crc.{crc-length, crc-below}
+use Rattle.rules_bits.specs.Bits.{bitsOf}
+use Rattle.rules_bits.specs.Crc.{crcBits}
+use Rattle.rules_bits.proofs.Bits.{bits-below}
+use Rattle.rules_bits.proofs.Crc.{crc-length, crc-below}
 use Rattle.frame.specs.Frame.{clockOf, clockBit, fieldBits, headerBits, sentHeader}
 
 pub clock-some : (clock : ℕ) → clockOf (suc clock) ≡ true

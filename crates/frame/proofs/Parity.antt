@@ -5,7 +5,7 @@ use mathlib.Core.Path.{_≡_, refl}
 use Prim.Native.Nat.{ℕ, _+_, _/_}
 use native.Mathlib.Omega.{arith}
 use Rattle.rules_rates.specs.Rates.{symbolBits}
-use Rattle.bits.specs.Growths.{halfTurn}
+use Rattle.rules_bits.specs.Growths.{halfTurn}
 use Rattle.frame.specs.declared.Kind.{Kind}
 use Rattle.frame.specs.declared.Kind.the-variants.{Long, Short}
 use Rattle.frame.specs.Frame.{preambleLength, headerLength, headerRate, frontSymbols}

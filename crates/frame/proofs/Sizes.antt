@@ -14,11 +14,11 @@ use Rattle.rules_rates.specs.declared.Rate.{Rate}
 use Rattle.rules_rates.specs.declared.Rate.the-variants.{One, Two, Five, Eleven}
 use Rattle.rules_rates.specs.Rates.{symbolChips, symbolBits, octetChips}
 use Rattle.rules_rates.proofs.Octets.{part-symbols, part-chips}
-use Rattle.bits.specs.Bits.{bitsOf}
-use Rattle.bits.specs.Growths.{symbolsOf, chipsFrom, lastPhase}
-use Rattle.bits.proofs.Bits.{bits-length, octet-bits-length}
-use Rattle.bits.proofs.Growths.{symbolsFrom-length, chipsFrom-length}
-use Rattle.bits.proofs.Scrambler.{scramble-length}
+use Rattle.rules_bits.specs.Bits.{bitsOf}
+use Rattle.rules_bits.specs.Growths.{symbolsOf, chipsFrom, lastPhase}
+use Rattle.rules_bits.proofs.Bits.{bits-length, octet-bits-length}
+use Rattle.rules_bits.proofs.Growths.{symbolsFrom-length, chipsFrom-length}
+use Rattle.rules_bits.proofs.Scrambler.{scramble-length}
 use Rattle.frame.specs.declared.Kind.{Kind}
 use Rattle.frame.specs.declared.Kind.the-variants.{Long, Short}
 use Rattle.frame.specs.Frame.{

@@ -2,10 +2,10 @@
 use mathlib.Core.Path.{refl}
 use Rattle.rules_symbols.specs.Words.{barkerWord, cckWord}
 use Rattle.rules_symbols.specs.Choice.{score, those, going, firstLargest, decided}
-use Rattle.bits.specs.Bits.{bitsOf, octetBits}
-use Rattle.bits.specs.Growths.{growth, symbolOf, symbolsFrom, symbolsOf, chipsFrom, lastPhase}
-use Rattle.bits.specs.Scrambler.{mixed, scramble}
-use Rattle.bits.specs.Crc.{addWhere, crcStep, remainder, crcBits}
+use Rattle.rules_bits.specs.Bits.{bitsOf, octetBits}
+use Rattle.rules_bits.specs.Growths.{growth, symbolOf, symbolsFrom, symbolsOf, chipsFrom, lastPhase}
+use Rattle.rules_bits.specs.Scrambler.{mixed, scramble}
+use Rattle.rules_bits.specs.Crc.{addWhere, crcStep, remainder, crcBits}
 use Rattle.frame.specs.Frame.{
   preambleBits,
   fieldBits,

@@ -9,10 +9,10 @@ use lib.Dec.{eqb, ltb}
 use Rattle.rules_rates.specs.declared.Rate.{Rate}
 use Rattle.rules_rates.specs.declared.Rate.the-variants.{One, Two, Five, Eleven}
 use Rattle.rules_rates.specs.Rates.{codeOf, symbolChips, octetChips, lengthField, bit7}
-use Rattle.bits.specs.Bits.{bitsOf, octetBits}
-use Rattle.bits.specs.Growths.{symbolsOf, chipsFrom, lastPhase}
-use Rattle.bits.specs.Scrambler.{scramble}
-use Rattle.bits.specs.Crc.{crcBits}
+use Rattle.rules_bits.specs.Bits.{bitsOf, octetBits}
+use Rattle.rules_bits.specs.Growths.{symbolsOf, chipsFrom, lastPhase}
+use Rattle.rules_bits.specs.Scrambler.{scramble}
+use Rattle.rules_bits.specs.Crc.{crcBits}
 use Rattle.frame.specs.declared.Kind.{Kind}
 use Rattle.frame.specs.declared.Kind.the-variants.{Long, Short}
 

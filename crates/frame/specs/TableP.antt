@@ -12,9 +12,9 @@ use Rattle.rules_chips.specs.declared.Chip.the-variants.{Lost}
 use Rattle.rules_chips.specs.Chips.{countsOf}
 use Rattle.rules_symbols.specs.Words.{cckWord}
 use Rattle.rules_symbols.specs.Choice.{decided}
-use Rattle.bits.specs.Growths.{symbolOf, chipsFrom}
-use Rattle.bits.specs.Scrambler.{scramble}
-use Rattle.bits.specs.Crc.{crcBits}
+use Rattle.rules_bits.specs.Growths.{symbolOf, chipsFrom}
+use Rattle.rules_bits.specs.Scrambler.{scramble}
+use Rattle.rules_bits.specs.Crc.{crcBits}
 use Rattle.frame.specs.declared.Kind.the-variants.{Long, Short}
 use Rattle.frame.specs.Frame.{start, preambleBits, frame}
 

@@ -13,11 +13,11 @@ use Rattle.rules_rates.specs.declared.Rate.{Rate}
 use Rattle.rules_rates.specs.declared.Rate.the-variants.{One, Two}
 use Rattle.rules_rates.specs.Rates.{symbolBits}
 use Rattle.rules_chips.specs.Chips.{Taken}
-use Rattle.bits.specs.Bits.{octetsOf}
-use Rattle.bits.specs.Growths.{heard, growthsOf}
-use Rattle.bits.specs.Scrambler.{descramble}
-use Rattle.bits.specs.Code.{pastOf, pastAfter}
-use Rattle.bits.proofs.Scrambler.{descramble-append, descramble-length, descramble-window}
+use Rattle.rules_bits.specs.Bits.{octetsOf}
+use Rattle.rules_bits.specs.Growths.{heard, growthsOf}
+use Rattle.rules_bits.specs.Scrambler.{descramble}
+use Rattle.rules_bits.specs.Code.{pastOf, pastAfter}
+use Rattle.rules_bits.proofs.Scrambler.{descramble-append, descramble-length, descramble-window}
 use Rattle.frame.specs.declared.Kind.{Kind}
 use Rattle.frame.specs.declared.Kind.the-variants.{Long, Short}
 use Rattle.frame.specs.Frame.{start, headerRate, frontChips, preambleLength, headerLength, preambleChips}
@@ -40,7 +40,7 @@ use Rattle.recorded.specs.Recorded.{whereFound}
 use Rattle.lines.specs.declared.Line.{Line}
 use Rattle.hearing.specs.declared.Part.{Part}
 use Rattle.hearing.specs.Hearing.{partLeads, PartHeard}
-use Rattle.bits.proofs.Heard.{heard-length, heard-parity}
+use Rattle.rules_bits.proofs.Heard.{heard-length, heard-parity}
 use Rattle.reading.proofs.Places.{decidedWords-length}
 use Rattle.reading.proofs.Leads.{frame-least}
 use Rattle.fronts.specs.Openings.{Opened}

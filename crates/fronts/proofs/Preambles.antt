@@ -19,14 +19,14 @@ use Rattle.rules_rates.specs.declared.Rate.the-variants.{One}
 use Rattle.rules_chips.specs.Chips.{Taken}
 use Rattle.rules_symbols.specs.Choice.{decided}
 use Rattle.rules_choosing.proofs.Decided.{decided-below}
-use Rattle.bits.specs.Bits.{octetBits, octetsOf}
-use Rattle.bits.specs.Growths.{heard, growthsOf, lastHeard}
-use Rattle.bits.specs.Scrambler.{descramble}
-use Rattle.bits.specs.Code.{pastOf, pastAfter}
+use Rattle.rules_bits.specs.Bits.{octetBits, octetsOf}
+use Rattle.rules_bits.specs.Growths.{heard, growthsOf, lastHeard}
+use Rattle.rules_bits.specs.Scrambler.{descramble}
+use Rattle.rules_bits.specs.Code.{pastOf, pastAfter}
 use Rattle.lines.specs.declared.Line.{Line}
-use Rattle.bits.proofs.Bits.{octets-append, octets-bits, octets-length}
-use Rattle.bits.proofs.Scrambler.{descramble-below, descramble-length, descramble-window}
-use Rattle.bits.proofs.Heard.{heard-length}
+use Rattle.rules_bits.proofs.Bits.{octets-append, octets-bits, octets-length}
+use Rattle.rules_bits.proofs.Scrambler.{descramble-below, descramble-length, descramble-window}
+use Rattle.rules_bits.proofs.Heard.{heard-length}
 use Rattle.frame.specs.declared.Kind.{Kind}
 use Rattle.frame.specs.declared.Kind.the-variants.{Long, Short}
 use Rattle.frame.specs.Frame.{start, syncBits, preambleLength, frontChips}

@@ -12,20 +12,20 @@ use lib.Seq.{take-all, take-at, drop-at, length-take-le}
 use Rattle.rules_rates.specs.declared.Rate.the-variants.{One, Two}
 use Rattle.rules_rates.specs.Rates.{symbolBits}
 use Rattle.rules_chips.specs.Chips.{Taken}
-use Rattle.bits.specs.Bits.{octetBits, octetsOf}
-use Rattle.bits.specs.Growths.{heard, growthsOf, lastHeard}
-use Rattle.bits.specs.Scrambler.{descramble}
-use Rattle.bits.specs.Code.{pastOf, pastAfter}
+use Rattle.rules_bits.specs.Bits.{octetBits, octetsOf}
+use Rattle.rules_bits.specs.Growths.{heard, growthsOf, lastHeard}
+use Rattle.rules_bits.specs.Scrambler.{descramble}
+use Rattle.rules_bits.specs.Code.{pastOf, pastAfter}
 use Rattle.lines.specs.declared.Line.{Line}
-use Rattle.bits.proofs.Bits.{octets-bits}
-use Rattle.bits.proofs.Scrambler.{
+use Rattle.rules_bits.proofs.Bits.{octets-bits}
+use Rattle.rules_bits.proofs.Scrambler.{
   past-append,
   descramble-append,
   descramble-below,
   descramble-length,
   descramble-window,
 }
-use Rattle.bits.proofs.Heard.{heard-length, heard-parity}
+use Rattle.rules_bits.proofs.Heard.{heard-length, heard-parity}
 use Rattle.frame.specs.declared.Kind.{Kind}
 use Rattle.frame.specs.declared.Kind.the-variants.{Long, Short}
 use Rattle.frame.specs.Frame.{start, syncBits, headerRate, preambleLength, headerLength, preambleChips}

@@ -7,10 +7,10 @@ use Prim.Native.Nat.{ℕ, _+_, _≤_, _<_}
 use lib.ListN.{length, take, drop}
 use Rattle.rules_rates.specs.declared.Rate.the-variants.{One}
 use Rattle.rules_chips.specs.Chips.{Taken}
-use Rattle.bits.specs.Bits.{octetBits, octetsOf}
-use Rattle.bits.specs.Growths.{heard, growthsOf}
-use Rattle.bits.specs.Scrambler.{descramble}
-use Rattle.bits.specs.Code.{pastOf, pastAfter}
+use Rattle.rules_bits.specs.Bits.{octetBits, octetsOf}
+use Rattle.rules_bits.specs.Growths.{heard, growthsOf}
+use Rattle.rules_bits.specs.Scrambler.{descramble}
+use Rattle.rules_bits.specs.Code.{pastOf, pastAfter}
 use Rattle.lines.specs.declared.Line.{Line}
 use Rattle.frame.specs.declared.Kind.{Kind}
 use Rattle.frame.specs.declared.Kind.the-variants.{Long, Short}

@@ -3,8 +3,8 @@ ghost use mathlib.Core.Path.{_≡_};
 ghost use mathlib.Core.List.{[], _∷_};
 ghost use lib.ListN.{length};
 ghost use Rattle.base.specs.Below.{Below};
-ghost use Rattle.bits.specs.Bits.{_⊕_, bitsOf, numberOf, octetBits};
-ghost use Rattle.bits.specs.Crc.{crcStep, remainder, complement, crcBits};
+ghost use Rattle.rules_bits.specs.Bits.{_⊕_, bitsOf, numberOf, octetBits};
+ghost use Rattle.rules_bits.specs.Crc.{crcStep, remainder, complement, crcBits};
 ghost use Rattle.header.specs.Registers.{inTime, terms};
 
 // Eight bits, b0 first in time.

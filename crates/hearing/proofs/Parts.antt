@@ -26,14 +26,14 @@ use Rattle.rules_rates.proofs.Octets.{part-symbols, part-chips, part-bits}
 use Rattle.rules_chips.specs.Chips.{Taken, takenCounts}
 use Rattle.rules_symbols.specs.Choice.{numbers, decided, leadOf}
 use Rattle.rules_choosing.proofs.Decided.{decided-below}
-use Rattle.bits.specs.Bits.{bitsOf, octetsOf}
-use Rattle.bits.specs.Growths.{heard, growthsOf, lastHeard}
-use Rattle.bits.specs.Scrambler.{descramble}
-use Rattle.bits.specs.Code.{pastOf, pastAfter}
+use Rattle.rules_bits.specs.Bits.{bitsOf, octetsOf}
+use Rattle.rules_bits.specs.Growths.{heard, growthsOf, lastHeard}
+use Rattle.rules_bits.specs.Scrambler.{descramble}
+use Rattle.rules_bits.specs.Code.{pastOf, pastAfter}
 use Rattle.lines.specs.declared.Line.{Line}
-use Rattle.bits.proofs.Bits.{octets-append, octets-length}
-use Rattle.bits.proofs.Scrambler.{past-append, descramble-append, descramble-length}
-use Rattle.bits.proofs.Heard.{
+use Rattle.rules_bits.proofs.Bits.{octets-append, octets-length}
+use Rattle.rules_bits.proofs.Scrambler.{past-append, descramble-append, descramble-length}
+use Rattle.rules_bits.proofs.Heard.{
   heard-append,
   lastHeard-append,
   growthsOf-append,

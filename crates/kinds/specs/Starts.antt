@@ -3,7 +3,7 @@
 use Prim.Native.Nat.{ℕ}
 use mathlib.Core.Path.{_≡_}
 use mathlib.Core.List.{[], _∷_, _++_}
-use Rattle.bits.specs.Code.{pastOf}
+use Rattle.rules_bits.specs.Code.{pastOf}
 use Rattle.frame.specs.declared.Kind.{Kind}
 use Rattle.frame.specs.Frame.{start}
 use Rattle.lines.specs.declared.Line.{Line}

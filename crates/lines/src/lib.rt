@@ -1,10 +1,10 @@
 // A line: what stands between two octets of a frame. Octets scrambled and back, pairs of bits to growths.
 ghost use mathlib.Core.Path.{_≡_};
 ghost use Prim.Native.Nat.{_/_, _%_, _<_};
-ghost use Rattle.bits.specs.Bits.{bitsOf, numberOf};
-ghost use Rattle.bits.specs.Growths.{growth};
-ghost use Rattle.bits.specs.Scrambler.{scramble, descramble};
-ghost use Rattle.bits.specs.Code.{pastOf, pairsOf};
+ghost use Rattle.rules_bits.specs.Bits.{bitsOf, numberOf};
+ghost use Rattle.rules_bits.specs.Growths.{growth};
+ghost use Rattle.rules_bits.specs.Scrambler.{scramble, descramble};
+ghost use Rattle.rules_bits.specs.Code.{pastOf, pairsOf};
 
 // What stands between two octets of a frame: the last eight bits sent or received as an octet, the first
 // in time the lowest, and the phase of the last symbol.

@@ -11,7 +11,7 @@ use lib.Seq.{drop-at}
 use Rattle.base.proofs.Tests.{branch}
 use Rattle.rules_rates.specs.declared.Rate.{Rate}
 use Rattle.rules_chips.specs.Chips.{Taken}
-use Rattle.bits.proofs.Bits.{octets-length}
+use Rattle.rules_bits.proofs.Bits.{octets-length}
 use Rattle.frame.specs.declared.Kind.{Kind}
 use Rattle.calls.specs.declared.Refusal.{Refusal}
 use Rattle.calls.specs.declared.Refusal.the-variants.{

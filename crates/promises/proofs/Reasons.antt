@@ -18,7 +18,7 @@ use Rattle.rules_rates.specs.Plain.{LengthOf, SevenOf}
 use Rattle.rules_rates.proofs.Facts.{no-other-code}
 use Rattle.rules_rates.proofs.Plain.{length-is, seven-is, holds-any}
 use Rattle.rules_chips.specs.Chips.{Taken}
-use Rattle.bits.specs.Bits.{numberOf}
+use Rattle.rules_bits.specs.Bits.{numberOf}
 use Rattle.frame.specs.declared.Kind.{Kind}
 use Rattle.frame.specs.Frame.{isKind, kindOf, sfdOf, syncBits, goesWith, clockBit, frontChips, frameChips}
 use Rattle.calls.specs.declared.Refusal.{Refusal}

@@ -11,9 +11,9 @@ use Rattle.rules_rates.specs.declared.Rate.{Rate}
 use Rattle.rules_rates.specs.Rates.{rateOf, lengthField}
 use Rattle.rules_chips.specs.Chips.{turned, hardRecording}
 use Rattle.rules_symbols.specs.Words.{barkerWord}
-use Rattle.bits.specs.Bits.{bitsOf}
-use Rattle.bits.specs.Growths.{symbolOf, symbolsFrom, symbolsOf, chipsFrom}
-use Rattle.bits.specs.Scrambler.{mixed, scramble}
+use Rattle.rules_bits.specs.Bits.{bitsOf}
+use Rattle.rules_bits.specs.Growths.{symbolOf, symbolsFrom, symbolsOf, chipsFrom}
+use Rattle.rules_bits.specs.Scrambler.{mixed, scramble}
 use Rattle.frame.specs.declared.Kind.{Kind}
 use Rattle.frame.specs.declared.Kind.the-variants.{Long, Short}
 use Rattle.frame.proofs.Sizes.{frame-length}

@@ -11,8 +11,8 @@ use Rattle.rules_rates.specs.declared.Rate.the-variants.{One}
 use Rattle.rules_rates.specs.Rates.{rateOf}
 use Rattle.rules_rates.specs.Plain.{LengthOf, SevenOf}
 use Rattle.rules_chips.specs.Chips.{Taken}
-use Rattle.bits.specs.Bits.{numberOf}
-use Rattle.bits.specs.Crc.{crcBits}
+use Rattle.rules_bits.specs.Bits.{numberOf}
+use Rattle.rules_bits.specs.Crc.{crcBits}
 use Rattle.frame.specs.Frame.{kindOf, fieldBits}
 use Rattle.calls.specs.declared.Record.{Record}
 use Rattle.reading.specs.Places.{UsableAt, UnusableFirst, oddBehind, FirstOddSymbol}

@@ -16,12 +16,12 @@ use Rattle.rules_rates.specs.Rates.{symbolChips, symbolBits, octetSymbols}
 use Rattle.rules_rates.proofs.Octets.{part-symbols, part-bits}
 use Rattle.rules_chips.specs.Chips.{Taken}
 use Rattle.rules_symbols.specs.Words.{phaseOf}
-use Rattle.bits.specs.Bits.{numberOf, _⊕_}
-use Rattle.bits.specs.Growths.{heardBits, heard}
-use Rattle.bits.specs.Scrambler.{descramble}
-use Rattle.bits.proofs.Heard.{heard-length}
-use Rattle.bits.proofs.Scrambler.{descramble-length, descramble-at}
-use Rattle.bits.proofs.Each.{before, heard-bit, last-heard, number-field, octet-of}
+use Rattle.rules_bits.specs.Bits.{numberOf, _⊕_}
+use Rattle.rules_bits.specs.Growths.{heardBits, heard}
+use Rattle.rules_bits.specs.Scrambler.{descramble}
+use Rattle.rules_bits.proofs.Heard.{heard-length}
+use Rattle.rules_bits.proofs.Scrambler.{descramble-length, descramble-at}
+use Rattle.rules_bits.proofs.Each.{before, heard-bit, last-heard, number-field, octet-of}
 use Rattle.frame.specs.declared.Kind.{Kind}
 use Rattle.frame.specs.declared.Kind.the-variants.{Long, Short}
 use Rattle.frame.specs.Frame.{

@@ -9,8 +9,8 @@ use native.Mathlib.Omega.{arith}
 use lib.ListN.{length, getD}
 use Rattle.rules_rates.specs.declared.Rate.the-variants.{One}
 use Rattle.rules_chips.specs.Chips.{Taken}
-use Rattle.bits.specs.Growths.{grownBy, growthsOf}
-use Rattle.bits.proofs.Heard.{growthsOf-length, growth-at}
+use Rattle.rules_bits.specs.Growths.{grownBy, growthsOf}
+use Rattle.rules_bits.proofs.Heard.{growthsOf-length, growth-at}
 use Rattle.frame.specs.declared.Kind.{Kind}
 use Rattle.frame.specs.Frame.{syncBits}
 use Rattle.calls.specs.declared.Told.{Told}

@@ -14,11 +14,11 @@ use Rattle.base.proofs.Below.{below-take, below-drop}
 use Rattle.rules_rates.specs.declared.Rate.{Rate}
 use Rattle.rules_rates.specs.declared.Rate.the-variants.{One}
 use Rattle.rules_chips.specs.Chips.{Taken}
-use Rattle.bits.specs.Bits.{bitsOf, numberOf}
-use Rattle.bits.specs.Crc.{crcBits}
-use Rattle.bits.proofs.Bits.{bits-number}
-use Rattle.bits.proofs.Crc.{crc-length, crc-below}
-use Rattle.bits.proofs.Scrambler.{descramble-length, descramble-below}
+use Rattle.rules_bits.specs.Bits.{bitsOf, numberOf}
+use Rattle.rules_bits.specs.Crc.{crcBits}
+use Rattle.rules_bits.proofs.Bits.{bits-number}
+use Rattle.rules_bits.proofs.Crc.{crc-length, crc-below}
+use Rattle.rules_bits.proofs.Scrambler.{descramble-length, descramble-below}
 use Rattle.frame.specs.declared.Kind.{Kind}
 use Rattle.frame.specs.declared.Kind.the-variants.{Long, Short}
 use Rattle.frame.specs.Frame.{syncBits, start, preambleLength, fieldBits}

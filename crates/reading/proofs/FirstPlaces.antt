@@ -19,9 +19,9 @@ use Rattle.rules_rates.specs.declared.Rate.the-variants.{One, Two, Five, Eleven
 use Rattle.rules_rates.specs.Rates.{symbolBits}
 use Rattle.rules_chips.specs.Chips.{Taken, unusable, isUnusable, takenCounts}
 use Rattle.rules_symbols.specs.Choice.{decided}
-use Rattle.bits.specs.Growths.{grownBy, growthsOf}
-use Rattle.bits.proofs.Heard.{growthsOf-length}
-use Rattle.bits.proofs.Each.{before, growth-of, last-heard}
+use Rattle.rules_bits.specs.Growths.{grownBy, growthsOf}
+use Rattle.rules_bits.proofs.Heard.{growthsOf-length}
+use Rattle.rules_bits.proofs.Each.{before, growth-of, last-heard}
 use Rattle.frame.specs.declared.Kind.{Kind}
 use Rattle.frame.specs.declared.Kind.the-variants.{Long, Short}
 use Rattle.frame.specs.Frame.{headerRate, goesWith, frontChips, frameChips, preambleLength, headerLength, preambleChips}

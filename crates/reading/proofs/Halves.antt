@@ -9,8 +9,8 @@ use native.Mathlib.Omega.{arith}
 use Rattle.rules_rates.specs.declared.Rate.the-variants.{One}
 use Rattle.rules_chips.specs.Chips.{Taken}
 use Rattle.rules_choosing.proofs.Decided.{decided-below}
-use Rattle.bits.specs.Bits.{_⊕_}
-use Rattle.bits.specs.Growths.{grownBy}
+use Rattle.rules_bits.specs.Bits.{_⊕_}
+use Rattle.rules_bits.specs.Growths.{grownBy}
 use Rattle.frame.specs.declared.Kind.{Kind}
 use Rattle.frame.specs.Frame.{syncBits}
 use Rattle.calls.specs.declared.Told.{Told}

@@ -18,8 +18,8 @@ use Rattle.rules_rates.specs.declared.Rate.the-variants.{One}
 use Rattle.rules_rates.specs.Rates.{symbolChips, symbolBits}
 use Rattle.rules_chips.specs.Chips.{Taken, takenCounts}
 use Rattle.rules_symbols.specs.Choice.{decided}
-use Rattle.bits.specs.Growths.{heard, growthsOf, lastHeard}
-use Rattle.bits.specs.Scrambler.{descramble}
+use Rattle.rules_bits.specs.Growths.{heard, growthsOf, lastHeard}
+use Rattle.rules_bits.specs.Scrambler.{descramble}
 use Rattle.frame.specs.declared.Kind.{Kind}
 use Rattle.frame.specs.declared.Kind.the-variants.{Long, Short}
 use Rattle.frame.specs.Frame.{headerRate, start, frontChips, preambleLength, headerLength, preambleChips}

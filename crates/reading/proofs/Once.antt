@@ -13,7 +13,7 @@ use Rattle.base.proofs.Tables.{tabulate-ext}
 use Rattle.rules_rates.specs.declared.Rate.{Rate}
 use Rattle.rules_rates.specs.Rates.{symbolBits}
 use Rattle.rules_chips.specs.Chips.{Taken}
-use Rattle.bits.specs.Bits.{numberOf}
+use Rattle.rules_bits.specs.Bits.{numberOf}
 use Rattle.frame.specs.declared.Kind.{Kind}
 use Rattle.frame.specs.declared.Kind.the-variants.{Long, Short}
 use Rattle.frame.specs.Frame.{headerRate, frontSymbols, preambleLength, headerLength}

@@ -16,7 +16,7 @@ use Rattle.rules_rates.specs.declared.Rate.the-variants.{One, Two, Five, Eleven
 use Rattle.rules_rates.specs.Rates.{symbolChips, symbolBits}
 use Rattle.rules_chips.specs.Chips.{Taken, takenCounts}
 use Rattle.rules_symbols.specs.Choice.{decided}
-use Rattle.bits.specs.Growths.{heardBits}
+use Rattle.rules_bits.specs.Growths.{heardBits}
 use Rattle.frame.specs.declared.Kind.{Kind}
 use Rattle.frame.specs.declared.Kind.the-variants.{Long, Short}
 use Rattle.frame.specs.Frame.{headerRate, frontSymbols, preambleLength, headerLength}

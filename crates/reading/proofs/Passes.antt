@@ -19,10 +19,10 @@ use Rattle.rules_rates.specs.declared.Rate.{Rate}
 use Rattle.rules_rates.specs.declared.Rate.the-variants.{One, Two, Five, Eleven}
 use Rattle.rules_rates.specs.Rates.{symbolChips}
 use Rattle.rules_chips.specs.Chips.{Taken}
-use Rattle.bits.specs.Growths.{growthBits}
-use Rattle.bits.specs.Scrambler.{descramble}
-use Rattle.bits.specs.Code.{pastAfter}
-use Rattle.bits.proofs.Scrambler.{descramble-window}
+use Rattle.rules_bits.specs.Growths.{growthBits}
+use Rattle.rules_bits.specs.Scrambler.{descramble}
+use Rattle.rules_bits.specs.Code.{pastAfter}
+use Rattle.rules_bits.proofs.Scrambler.{descramble-window}
 use Rattle.reading.specs.Reading.{orElse, firstOdd, oddGrowth, decidedWords}
 
 -- ---- received bits

@@ -14,8 +14,8 @@ use Rattle.rules_rates.specs.declared.Rate.{Rate}
 use Rattle.rules_rates.specs.declared.Rate.the-variants.{One, Two, Five, Eleven}
 use Rattle.rules_rates.specs.Rates.{symbolChips, symbolBits, octetChips}
 use Rattle.rules_chips.specs.Chips.{Taken}
-use Rattle.bits.specs.Growths.{growthsOf}
-use Rattle.bits.proofs.Heard.{growthsOf-length}
+use Rattle.rules_bits.specs.Growths.{growthsOf}
+use Rattle.rules_bits.proofs.Heard.{growthsOf-length}
 use Rattle.frame.specs.declared.Kind.{Kind}
 use Rattle.frame.specs.declared.Kind.the-variants.{Long, Short}
 use Rattle.frame.specs.Frame.{headerRate, frontChips, preambleLength, headerLength, preambleChips, frameChips}

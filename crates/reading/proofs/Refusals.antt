@@ -15,8 +15,8 @@ use lib.Dec.{ltb}
 use lib.ListN.{length, take, drop}
 use Rattle.rules_rates.specs.Rates.{rateOf, lengthHolds}
 use Rattle.rules_chips.specs.Chips.{Taken}
-use Rattle.bits.specs.Bits.{numberOf}
-use Rattle.bits.specs.Crc.{crcBits}
+use Rattle.rules_bits.specs.Bits.{numberOf}
+use Rattle.rules_bits.specs.Crc.{crcBits}
 use Rattle.frame.specs.declared.Kind.{Kind}
 use Rattle.frame.specs.Frame.{sfdOf, syncBits, preambleLength, frontChips, frameChips}
 use Rattle.calls.specs.declared.Refusal.{Refusal}

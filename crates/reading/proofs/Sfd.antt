@@ -16,12 +16,12 @@ use Rattle.rules_rates.specs.declared.Rate.the-variants.{One}
 use Rattle.rules_rates.specs.Rates.{symbolChips}
 use Rattle.rules_chips.specs.Chips.{Taken, takenCounts}
 use Rattle.rules_symbols.specs.Choice.{decided}
-use Rattle.bits.specs.Bits.{_⊕_, bitsOf, numberOf}
-use Rattle.bits.specs.Growths.{heard, grownBy}
-use Rattle.bits.proofs.Heard.{heard-at, heard-length}
-use Rattle.bits.specs.Scrambler.{descramble}
-use Rattle.bits.proofs.Bits.{bits-number}
-use Rattle.bits.proofs.Scrambler.{descramble-length, descramble-below, descramble-at}
+use Rattle.rules_bits.specs.Bits.{_⊕_, bitsOf, numberOf}
+use Rattle.rules_bits.specs.Growths.{heard, grownBy}
+use Rattle.rules_bits.proofs.Heard.{heard-at, heard-length}
+use Rattle.rules_bits.specs.Scrambler.{descramble}
+use Rattle.rules_bits.proofs.Bits.{bits-number}
+use Rattle.rules_bits.proofs.Scrambler.{descramble-length, descramble-below, descramble-at}
 use Rattle.frame.specs.declared.Kind.{Kind}
 use Rattle.frame.specs.Frame.{sfdOf, syncBits, headerRate, start}
 use Rattle.calls.specs.declared.Told.{Told}

@@ -15,8 +15,8 @@ use Rattle.rules_rates.specs.declared.Rate.the-variants.{One}
 use Rattle.rules_rates.specs.Rates.{symbolChips, symbolBits, octetSymbols}
 use Rattle.rules_chips.specs.Chips.{Taken}
 use Rattle.rules_symbols.specs.Words.{phaseOf}
-use Rattle.bits.specs.Bits.{numberOf}
-use Rattle.bits.specs.Growths.{heardBits}
+use Rattle.rules_bits.specs.Bits.{numberOf}
+use Rattle.rules_bits.specs.Growths.{heardBits}
 use Rattle.frame.specs.declared.Kind.{Kind}
 use Rattle.frame.specs.Frame.{headerRate, frontChips, frontSymbols, preambleLength, headerLength}
 use Rattle.reading.specs.Places.{wordFrom}

@@ -12,7 +12,7 @@ use Rattle.rules_rates.specs.declared.Rate.the-variants.{One}
 use Rattle.rules_rates.specs.Rates.{symbolChips}
 use Rattle.rules_chips.specs.Chips.{Taken, unusable, isUnusable, takenCounts}
 use Rattle.rules_symbols.specs.Choice.{decided}
-use Rattle.bits.specs.Growths.{grownBy}
+use Rattle.rules_bits.specs.Growths.{grownBy}
 
 -- 9: the first chip that cannot be read
 abbrev pub UsableAt : List Taken → ℕ → Type 0

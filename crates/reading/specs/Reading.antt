@@ -13,9 +13,9 @@ use Rattle.rules_rates.specs.declared.Rate.the-variants.{One, Two, Five, Eleven
 use Rattle.rules_rates.specs.Rates.{symbolChips, symbolBits}
 use Rattle.rules_chips.specs.Chips.{Taken, isUnusable, takenCounts}
 use Rattle.rules_symbols.specs.Choice.{decided}
-use Rattle.bits.specs.Bits.{octetsOf}
-use Rattle.bits.specs.Growths.{heard, growthsOf, lastHeard}
-use Rattle.bits.specs.Scrambler.{descramble}
+use Rattle.rules_bits.specs.Bits.{octetsOf}
+use Rattle.rules_bits.specs.Growths.{heard, growthsOf, lastHeard}
+use Rattle.rules_bits.specs.Scrambler.{descramble}
 use Rattle.frame.specs.declared.Kind.{Kind}
 use Rattle.calls.specs.declared.Refusal.the-variants.{
   NoKind,

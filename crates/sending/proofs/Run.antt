@@ -12,9 +12,9 @@ use Rattle.rules_rates.specs.declared.Rate.{Rate}
 use Rattle.rules_rates.specs.declared.Rate.the-variants.{One, Two, Five, Eleven}
 use Rattle.rules_rates.specs.Rates.{octetChips}
 use Rattle.rules_symbols.specs.Words.{barkerWord, cckWord}
-use Rattle.bits.specs.Bits.{bitsOf}
-use Rattle.bits.specs.Growths.{symbolOf, symbolsFrom, chipsFrom}
-use Rattle.bits.specs.Scrambler.{mixed, scramble}
+use Rattle.rules_bits.specs.Bits.{bitsOf}
+use Rattle.rules_bits.specs.Growths.{symbolOf, symbolsFrom, chipsFrom}
+use Rattle.rules_bits.specs.Scrambler.{mixed, scramble}
 use Rattle.sending.specs.Sending.{State, symbolsAt, emit, step, run, ran}
 
 pub length-emit : (r : Rate) (k : ℕ) (s : State) (x : ℕ) → length (emit r k s x) ≡ octetChips r

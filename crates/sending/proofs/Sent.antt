@@ -11,13 +11,13 @@ use Rattle.rules_rates.specs.declared.Rate.{Rate}
 use Rattle.rules_rates.specs.declared.Rate.the-variants.{One, Two, Five, Eleven}
 use Rattle.rules_rates.specs.Rates.{symbolBits, octetSymbols}
 use Rattle.rules_rates.proofs.Octets.{part-symbols}
-use Rattle.bits.specs.Bits.{bitsOf, octetBits}
-use Rattle.bits.specs.Growths.{Symbol, symbolOf, symbolsFrom, symbolsOf, chipsFrom, lastPhase}
-use Rattle.bits.specs.Scrambler.{mixed, scramble}
-use Rattle.bits.specs.Code.{pastAfter}
-use Rattle.bits.proofs.Bits.{octet-bits-length}
-use Rattle.bits.proofs.Growths.{symbolsFrom-append, chipsFrom-append, lastPhase-append}
-use Rattle.bits.proofs.Scrambler.{scramble-append, scramble-length, scramble-window, past-append}
+use Rattle.rules_bits.specs.Bits.{bitsOf, octetBits}
+use Rattle.rules_bits.specs.Growths.{Symbol, symbolOf, symbolsFrom, symbolsOf, chipsFrom, lastPhase}
+use Rattle.rules_bits.specs.Scrambler.{mixed, scramble}
+use Rattle.rules_bits.specs.Code.{pastAfter}
+use Rattle.rules_bits.proofs.Bits.{octet-bits-length}
+use Rattle.rules_bits.proofs.Growths.{symbolsFrom-append, chipsFrom-append, lastPhase-append}
+use Rattle.rules_bits.proofs.Scrambler.{scramble-append, scramble-length, scramble-window, past-append}
 use Rattle.sending.specs.Sending.{State, symbolsAt, emit, step, run, ran}
 
 -- the outputs so far, after bits more

@@ -4,7 +4,7 @@ use Prim.Native.Nat.{ℕ}
 use mathlib.Core.List.{List, [], _∷_, _++_}
 use Rattle.rules_symbols.specs.Words.{barkerWord}
 use Rattle.lines.specs.declared.Line.{Line}
-use Rattle.bits.specs.Code.{pastOf}
+use Rattle.rules_bits.specs.Code.{pastOf}
 use Rattle.sending.specs.Sending.{State}
 
 -- the octet sent last is eight outputs, the first lowest

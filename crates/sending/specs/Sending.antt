@@ -6,9 +6,9 @@ use Prim.Native.Nat.{ℕ, suc, _*_}
 use mathlib.Core.List.{List, [], _∷_, _++_, reverse}
 use Rattle.rules_rates.specs.declared.Rate.{Rate}
 use Rattle.rules_rates.specs.Rates.{octetSymbols}
-use Rattle.bits.specs.Bits.{bitsOf}
-use Rattle.bits.specs.Growths.{Symbol, symbolsFrom, chipsFrom, lastPhase}
-use Rattle.bits.specs.Scrambler.{scramble}
+use Rattle.rules_bits.specs.Bits.{bitsOf}
+use Rattle.rules_bits.specs.Growths.{Symbol, symbolsFrom, chipsFrom, lastPhase}
+use Rattle.rules_bits.specs.Scrambler.{scramble}
 
 -- between two octets: the scrambler's last outputs, last first, and the last symbol's phase
 pub record State : Type 0 where

@@ -9,8 +9,8 @@ ghost use Rattle.base.specs.Tables.{tabulate};
 ghost use Rattle.rules_rates.specs.Rates.{octetSymbols, octetChips};
 ghost use Rattle.rules_chips.specs.Chips.{turned};
 ghost use Rattle.rules_symbols.specs.Words.{barkerWord};
-ghost use Rattle.bits.specs.Bits.{bitsOf};
-ghost use Rattle.bits.specs.Growths.{growth, halfTurn, chipsFrom, lastPhase};
+ghost use Rattle.rules_bits.specs.Bits.{bitsOf};
+ghost use Rattle.rules_bits.specs.Growths.{growth, halfTurn, chipsFrom, lastPhase};
 ghost use Rattle.sending.specs.Sending.{symbolsAt, emit, step, run, ran};
 ghost use Rattle.sending.specs.Line.{state};
 

@@ -11,7 +11,7 @@ use lib.ListN.{getD}
 use Rattle.base.specs.Tables.{tabulate}
 use Rattle.rules_rates.specs.declared.Rate.the-variants.{One}
 use Rattle.rules_chips.specs.Chips.{Taken}
-use Rattle.bits.specs.Bits.{_⊕_, numberOf}
+use Rattle.rules_bits.specs.Bits.{_⊕_, numberOf}
 use Rattle.rules_choosing.proofs.Decided.{decided-below}
 use Rattle.recorded.specs.Recorded.{symbolAt}
 use Rattle.sweep.specs.Sweep.{

@@ -12,8 +12,8 @@ use Rattle.base.proofs.Tables.{tabulate-ext}
 use Rattle.rules_rates.specs.declared.Rate.the-variants.{One}
 use Rattle.rules_chips.specs.Chips.{Taken, takenCounts}
 use Rattle.rules_symbols.specs.Choice.{decided}
-use Rattle.bits.specs.Bits.{_⊕_, bitsOf, numberOf}
-use Rattle.bits.specs.Growths.{grownBy}
+use Rattle.rules_bits.specs.Bits.{_⊕_, bitsOf, numberOf}
+use Rattle.rules_bits.specs.Growths.{grownBy}
 use Rattle.frame.specs.declared.Kind.{Kind}
 use Rattle.frame.specs.declared.Kind.the-variants.{Long, Short}
 use Rattle.frame.specs.Frame.{sfdOf, syncBits}

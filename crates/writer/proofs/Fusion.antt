@@ -16,11 +16,11 @@ use Rattle.base.proofs.Lists.{part-second, part-third}
 use Rattle.rules_rates.specs.declared.Rate.{Rate}
 use Rattle.rules_rates.specs.declared.Rate.the-variants.{One}
 use Rattle.rules_rates.specs.Rates.{octetChips}
-use Rattle.bits.specs.Bits.{bitsOf, octetBits}
-use Rattle.bits.specs.Growths.{chipsFrom, lastPhase}
-use Rattle.bits.specs.Scrambler.{scramble}
-use Rattle.bits.proofs.Bits.{octet-bits-length}
-use Rattle.bits.proofs.Scrambler.{scramble-append, scramble-length, scramble-window}
+use Rattle.rules_bits.specs.Bits.{bitsOf, octetBits}
+use Rattle.rules_bits.specs.Growths.{chipsFrom, lastPhase}
+use Rattle.rules_bits.specs.Scrambler.{scramble}
+use Rattle.rules_bits.proofs.Bits.{octet-bits-length}
+use Rattle.rules_bits.proofs.Scrambler.{scramble-append, scramble-length, scramble-window}
 use Rattle.frame.specs.declared.Kind.{Kind}
 use Rattle.frame.specs.declared.Kind.the-variants.{Long, Short}
 use Rattle.frame.specs.Frame.{

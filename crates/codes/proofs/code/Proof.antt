@@ -2,7 +2,7 @@
 use mathlib.Core.Path.{_∙_}
 use native.Mathlib.Omega.{arith}
 use borrow.Author.Needs.{needs}
-use Rattle.bits.specs.Bits.{numberOf}
+use Rattle.rules_bits.specs.Bits.{numberOf}
 use Rattle.codes.proofs.Codes.{two-number, four-number}
 use Rattle.codes.proofs.code.Statement.{statement}
 use Rattle.codes.proofs.code.Tie as tie

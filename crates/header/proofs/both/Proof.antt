@@ -1,7 +1,7 @@
 -- `header::both` meets its contract: the number of two octets, each below 256. Assumes nothing.
 use mathlib.Core.Path.{sym}
 use borrow.Author.Needs.{needs}
-use Rattle.bits.proofs.Bits.{number-two}
+use Rattle.rules_bits.proofs.Bits.{number-two}
 use Rattle.header.proofs.both.Statement.{statement}
 use Rattle.header.proofs.both.Tie as tie
 

@@ -6,7 +6,7 @@ use Prim.Native.Nat.{ℕ}
 use lib.Dec.{eqb}
 use lib.ListN.{length}
 use borrow.Author.Needs.{needs}
-use Rattle.bits.specs.Bits.{numberOf, octetBits}
+use Rattle.rules_bits.specs.Bits.{numberOf, octetBits}
 use Rattle.calls.proofs.Fields.{two-is}
 use Rattle.header.proofs.sfd_right.Statement.{statement}
 use Rattle.header.proofs.sfd_right.Tie as tie

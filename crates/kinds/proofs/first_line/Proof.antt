@@ -1,7 +1,7 @@
 -- `kinds::first_line` meets its contract, by kinds: the octet's bits, last first, are the scrambler's start. Assumes
 -- nothing.
 use mathlib.Core.Path.{refl}
-use Rattle.bits.specs.Bits.{bitsOf}
+use Rattle.rules_bits.specs.Bits.{bitsOf}
 use borrow.Author.Needs.{needs}
 use Rattle.kinds.proofs.first_line.Statement.{statement}
 use Rattle.kinds.proofs.first_line.Tie as tie

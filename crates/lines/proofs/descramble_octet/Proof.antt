@@ -1,7 +1,7 @@
 -- `lines::descramble_octet` meets its contract: `unscrambled-number`. Assumes nothing.
 use native.Mathlib.Omega.{arith}
 use borrow.Author.Needs.{needs}
-use Rattle.bits.proofs.Mixing.{unscrambled-number}
+use Rattle.rules_bits.proofs.Mixing.{unscrambled-number}
 use Rattle.lines.proofs.descramble_octet.Statement.{statement}
 use Rattle.lines.proofs.descramble_octet.Tie as tie
 

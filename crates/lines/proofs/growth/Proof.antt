@@ -4,8 +4,8 @@ use Prim.Native.Nat.{ℕ, _+_, _*_, _/_, _%_, _<_}
 use native.Mathlib.Omega.{arith}
 use lib.ListN.{getD}
 use borrow.Author.Needs.{needs}
-use Rattle.bits.specs.Growths.{growthTable, growth}
-use Rattle.bits.proofs.Growths.{growth-lt}
+use Rattle.rules_bits.specs.Growths.{growthTable, growth}
+use Rattle.rules_bits.proofs.Growths.{growth-lt}
 use Rattle.lines.proofs.growth.Statement.{statement}
 use Rattle.lines.proofs.growth.Tie as tie
 

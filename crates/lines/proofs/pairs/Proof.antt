@@ -1,7 +1,7 @@
 -- `lines::pairs` meets its contract: `pairs-masked`. Assumes nothing.
 use native.Mathlib.Omega.{arith}
 use lib.Bits.{and-le-r}
-use Rattle.bits.proofs.PairLaws.{pairs-masked}
+use Rattle.rules_bits.proofs.PairLaws.{pairs-masked}
 use Rattle.lines.proofs.pairs.Statement.{statement}
 use Rattle.lines.proofs.pairs.Tie as tie
 

@@ -2,7 +2,7 @@
 use mathlib.Core.Path.{refl}
 use native.Mathlib.Omega.{arith}
 use borrow.Author.Needs.{needs}
-use Rattle.bits.proofs.Mixing.{scrambled-octet}
+use Rattle.rules_bits.proofs.Mixing.{scrambled-octet}
 use Rattle.lines.proofs.scramble_octet.Statement.{statement}
 use Rattle.lines.proofs.scramble_octet.Tie as tie
 

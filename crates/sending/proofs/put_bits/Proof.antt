@@ -7,8 +7,8 @@ use borrow.Author.Needs.{needs}
 use Rattle.base.specs.Over.{over}
 use Rattle.rules_rates.specs.declared.Rate.{Rate}
 use Rattle.rules_rates.specs.Rates.{octetSymbols, octetChips}
-use Rattle.bits.specs.Growths.{chipsFrom, lastPhase}
-use Rattle.bits.proofs.Growths.{symbolsFrom-parity}
+use Rattle.rules_bits.specs.Growths.{chipsFrom, lastPhase}
+use Rattle.rules_bits.proofs.Growths.{symbolsFrom-parity}
 use Rattle.sending.specs.Sending.{symbolsAt}
 use Rattle.sending.proofs.put_bits.Statement.{statement}
 use Rattle.sending.proofs.put_bits.Tie as tie

@@ -8,10 +8,10 @@ use Rattle.rules_rates.specs.declared.Rate.the-variants.{Eleven}
 use Rattle.rules_chips.specs.Chips.{turned}
 use Rattle.rules_symbols.specs.Words.{cckWord}
 use Rattle.rules_symbols.proofs.Words.{cck-mod}
-use Rattle.bits.specs.Bits.{bitsOf}
-use Rattle.bits.specs.Growths.{growth, direct, halfTurn, symbolOf, symbolsFrom, chipsFrom, lastPhase}
-use Rattle.bits.specs.Code.{pairsOf}
-use Rattle.bits.proofs.PairLaws.{pair-bits, pair-phases}
+use Rattle.rules_bits.specs.Bits.{bitsOf}
+use Rattle.rules_bits.specs.Growths.{growth, direct, halfTurn, symbolOf, symbolsFrom, chipsFrom, lastPhase}
+use Rattle.rules_bits.specs.Code.{pairsOf}
+use Rattle.rules_bits.proofs.PairLaws.{pair-bits, pair-phases}
 use Rattle.sending.specs.Sending.{symbolsAt}
 use Rattle.sending.proofs.put_eleven.Statement.{statement}
 use Rattle.sending.proofs.put_eleven.Tie as tie

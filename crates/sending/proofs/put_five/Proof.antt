@@ -11,10 +11,10 @@ use Rattle.base.proofs.Over.{over-next}
 use Rattle.rules_rates.specs.declared.Rate.the-variants.{Five}
 use Rattle.rules_chips.specs.Chips.{turned}
 use Rattle.rules_symbols.specs.Words.{cckWord}
-use Rattle.bits.specs.Bits.{bitsOf}
-use Rattle.bits.specs.Code.{pairsOf}
-use Rattle.bits.proofs.PairLaws.{pair-bits}
-use Rattle.bits.specs.Growths.{growth, halfTurn, symbolOf, symbolsFrom, chipsFrom, lastPhase}
+use Rattle.rules_bits.specs.Bits.{bitsOf}
+use Rattle.rules_bits.specs.Code.{pairsOf}
+use Rattle.rules_bits.proofs.PairLaws.{pair-bits}
+use Rattle.rules_bits.specs.Growths.{growth, halfTurn, symbolOf, symbolsFrom, chipsFrom, lastPhase}
 use Rattle.sending.specs.Sending.{symbolsAt}
 use Rattle.sending.proofs.put_five.Statement.{statement}
 use Rattle.sending.proofs.put_five.Tie as tie

@@ -7,9 +7,9 @@ use borrow.Author.Needs.{needs}
 use Rattle.base.specs.Over.{over}
 use Rattle.rules_rates.specs.declared.Rate.{Rate}
 use Rattle.rules_rates.specs.Rates.{octetSymbols}
-use Rattle.bits.specs.Bits.{bitsOf}
-use Rattle.bits.specs.Growths.{chipsFrom, lastPhase}
-use Rattle.bits.specs.Scrambler.{scramble}
+use Rattle.rules_bits.specs.Bits.{bitsOf}
+use Rattle.rules_bits.specs.Growths.{chipsFrom, lastPhase}
+use Rattle.rules_bits.specs.Scrambler.{scramble}
 use Rattle.sending.specs.Sending.{State, symbolsAt, step, emit}
 use Rattle.sending.specs.Line.{state}
 use Rattle.sending.proofs.put_octet.Statement.{statement}

@@ -1,7 +1,7 @@
 -- `sending::put_one` meets its contract: eight phases, each grown from the one before. Assumes nothing.
 use borrow.Author.Needs.{needs}
-use Rattle.bits.specs.Bits.{bitsOf}
-use Rattle.bits.specs.Growths.{symbolOf, symbolsFrom, chipsFrom, lastPhase}
+use Rattle.rules_bits.specs.Bits.{bitsOf}
+use Rattle.rules_bits.specs.Growths.{symbolOf, symbolsFrom, chipsFrom, lastPhase}
 use Rattle.sending.specs.Sending.{symbolsAt}
 use Rattle.sending.specs.Line.{barkerWords}
 use Rattle.sending.proofs.put_one.Statement.{statement}

@@ -7,10 +7,10 @@ use borrow.Author.Needs.{needs}
 use Rattle.base.specs.Over.{over}
 use Rattle.rules_rates.specs.declared.Rate.the-variants.{Two}
 use Rattle.rules_chips.specs.Chips.{turned}
-use Rattle.bits.specs.Bits.{bitsOf}
-use Rattle.bits.specs.Growths.{growth, symbolOf, symbolsFrom, chipsFrom, lastPhase}
-use Rattle.bits.specs.Code.{pairsOf}
-use Rattle.bits.proofs.PairLaws.{pair-bits}
+use Rattle.rules_bits.specs.Bits.{bitsOf}
+use Rattle.rules_bits.specs.Growths.{growth, symbolOf, symbolsFrom, chipsFrom, lastPhase}
+use Rattle.rules_bits.specs.Code.{pairsOf}
+use Rattle.rules_bits.proofs.PairLaws.{pair-bits}
 use Rattle.sending.specs.Sending.{symbolsAt}
 use Rattle.sending.specs.Line.{barkerWords}
 use Rattle.sending.proofs.put_two.Statement.{statement}

@@ -10,7 +10,7 @@ use borrow.Rule.Slice.PartMut.{putMid}
 use Rattle.base.specs.Over.{over}
 use Rattle.base.proofs.Over.{over-next, over-filled}
 use Rattle.rules_rates.specs.declared.Rate.{Rate}
-use Rattle.bits.specs.Bits.{octetBits}
+use Rattle.rules_bits.specs.Bits.{octetBits}
 use Rattle.frame.specs.declared.Kind.{Kind}
 use Rattle.frame.specs.Frame.{frontChips, frameChips, sentHeader, frame}
 use Rattle.sending.specs.Sending.{State, run}

@@ -1,6 +1,6 @@
 -- `header::crc::complement_eight` meets its contract: eight bits, each what `xor` ensures. Assumes nothing.
 use borrow.Author.Needs.{needs}
-use Rattle.bits.proofs.Crc.{complement-eight}
+use Rattle.rules_bits.proofs.Crc.{complement-eight}
 use Rattle.header.proofs.crc.complement_eight.Statement.{statement}
 use Rattle.header.proofs.crc.complement_eight.Tie as tie
 

@@ -1,6 +1,6 @@
 -- `header::crc::crc_eight` meets its contract: eight steps, one for each bit. Assumes nothing.
 use borrow.Author.Needs.{needs}
-use Rattle.bits.specs.Crc.{remainder}
+use Rattle.rules_bits.specs.Crc.{remainder}
 use Rattle.header.proofs.crc.crc_eight.Statement.{statement}
 use Rattle.header.proofs.crc.crc_eight.Tie as tie
 

@@ -2,7 +2,7 @@
 -- nothing.
 use mathlib.Core.Path.{ap, _∙_}
 use borrow.Author.Needs.{needs}
-use Rattle.bits.specs.Crc.{remainder}
+use Rattle.rules_bits.specs.Crc.{remainder}
 use Rattle.header.proofs.crc.crc_octet.Statement.{statement}
 use Rattle.header.proofs.crc.crc_octet.Tie as tie
 

@@ -3,7 +3,7 @@
 use mathlib.Core.Path.{refl}
 use borrow.Author.Needs.{needs}
 use Rattle.header.specs.Registers.{inTime}
-use Rattle.bits.proofs.Crc.{crc-is}
+use Rattle.rules_bits.proofs.Crc.{crc-is}
 use Rattle.header.proofs.crc.crc_octets.Statement.{statement}
 use Rattle.header.proofs.crc.crc_octets.Tie as tie
 

@@ -1,6 +1,6 @@
 -- `header::crc::crc_step` meets its contract: sixteen terms, three of them what `xor` ensures. Assumes nothing.
 use borrow.Author.Needs.{needs}
-use Rattle.bits.specs.Crc.{crcStep, addWhere}
+use Rattle.rules_bits.specs.Crc.{crcStep, addWhere}
 use Rattle.header.proofs.crc.crc_step.Statement.{statement}
 use Rattle.header.proofs.crc.crc_step.Tie as tie
 

@@ -2,7 +2,7 @@
 -- Assumes nothing.
 use native.Mathlib.Nat.{add-zero}
 use native.Mathlib.Omega.{arith}
-use Rattle.bits.specs.Bits.{numberOf}
+use Rattle.rules_bits.specs.Bits.{numberOf}
 use Rattle.base.proofs.Below.{below-each}
 use Rattle.header.proofs.crc.pack.Statement.{statement}
 use Rattle.header.proofs.crc.pack.Tie as tie

@@ -2,10 +2,10 @@
 -- Assumes nothing.
 use mathlib.Core.Path.{refl, ap, _∙_}
 use borrow.Author.Needs.{needs}
-use Rattle.bits.specs.Bits.{bitsOf}
+use Rattle.rules_bits.specs.Bits.{bitsOf}
 use Rattle.header.specs.Registers.{inTime}
-use Rattle.bits.proofs.Bits.{bits-number}
-use Rattle.bits.proofs.Crc.{complement-below}
+use Rattle.rules_bits.proofs.Bits.{bits-number}
+use Rattle.rules_bits.proofs.Crc.{complement-below}
 use Rattle.header.proofs.crc.pack_not.Statement.{statement}
 use Rattle.header.proofs.crc.pack_not.Tie as tie
 

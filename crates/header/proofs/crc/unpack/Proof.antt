@@ -1,6 +1,6 @@
 -- `header::crc::unpack` meets its contract: it computes. Assumes nothing.
 use mathlib.Core.Path.{refl}
-use Rattle.bits.specs.Bits.{bitsOf}
+use Rattle.rules_bits.specs.Bits.{bitsOf}
 use Rattle.header.proofs.crc.unpack.Statement.{statement}
 use Rattle.header.proofs.crc.unpack.Tie as tie
 

@@ -15,7 +15,7 @@ use Rattle.rules_rates.specs.declared.Rate.the-variants.{One, Two, Five, Eleven
 use Rattle.rules_rates.specs.Rates.{symbolBits, symbolChips}
 use Rattle.rules_chips.specs.Chips.{turned}
 use Rattle.rules_symbols.proofs.Words.{barker-length, cck-length}
-use Rattle.bits.specs.Growths.{
+use Rattle.rules_bits.specs.Growths.{
   growth,
   growthBits,
   Symbol,

@@ -8,8 +8,8 @@ use native.Mathlib.Omega.{arith}
 use lib.Bits.{bitAnd}
 use lib.Dec.{eqb, eqb→eq, T}
 use Rattle.base.proofs.Tests.{all, all-at}
-use Rattle.bits.specs.Growths.{direct}
-use Rattle.bits.specs.Code.{pairsOf}
+use Rattle.rules_bits.specs.Growths.{direct}
+use Rattle.rules_bits.specs.Code.{pairsOf}
 
 abbrev masked : ℕ → ℕ
 masked o = bitAnd o 0x55 * 2 + bitAnd o 0xAA / 2

@@ -15,10 +15,10 @@ use native.Mathlib.Nat.{add-zero}
 use native.Mathlib.Omega.{arith}
 use lib.ListN.{length, getD, take, drop}
 use lib.Seq.{getD-take, take-take}
-use Rattle.bits.specs.Bits.{_⊕_}
-use Rattle.bits.specs.Scrambler.{mixed, scramble, descramble}
+use Rattle.rules_bits.specs.Bits.{_⊕_}
+use Rattle.rules_bits.specs.Scrambler.{mixed, scramble, descramble}
 use Rattle.base.specs.Below.{Below}
-use Rattle.bits.specs.Code.{pastAfter}
+use Rattle.rules_bits.specs.Code.{pastAfter}
 use Rattle.base.proofs.Below.{below-nil, below-cons, below-head, below-tail}
 
 twice : (past : List ℕ) (b : ℕ) → b < 2 → mixed past (mixed past b) ≡ b

@@ -3,7 +3,7 @@
 use Prim.Native.Nat.{ℕ}
 use mathlib.Core.List.{List, [], _∷_}
 use lib.ListN.{getD}
-use Rattle.bits.specs.Bits.{_⊕_}
+use Rattle.rules_bits.specs.Bits.{_⊕_}
 
 -- output = bit xor the output 4 back xor the output 7 back
 unfoldable pub mixed : List ℕ → ℕ → ℕ

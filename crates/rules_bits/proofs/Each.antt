@@ -18,9 +18,9 @@ use Rattle.base.proofs.Tables.{as-table, tabulate-ext}
 use Rattle.rules_rates.specs.declared.Rate.{Rate}
 use Rattle.rules_rates.specs.Rates.{symbolBits}
 use Rattle.rules_symbols.specs.Words.{phaseOf}
-use Rattle.bits.specs.Bits.{numberOf, octetsOf}
-use Rattle.bits.specs.Growths.{grownBy, heardBits, heard, growthsOf, lastHeard}
-use Rattle.bits.proofs.Heard.{heard-row}
+use Rattle.rules_bits.specs.Bits.{numberOf, octetsOf}
+use Rattle.rules_bits.specs.Growths.{grownBy, heardBits, heard, growthsOf, lastHeard}
+use Rattle.rules_bits.proofs.Heard.{heard-row}
 
 abbrev pub before : Rate → ℕ → List ℕ → ℕ → ℕ
 before r p ns zero = p

@@ -13,9 +13,9 @@ use native.Mathlib.Omega.{arith}
 use lib.ListN.{length, getD, drop, replicate, length-append, length-replicate}
 use Rattle.base.specs.Below.{Below}
 use Rattle.base.proofs.Below.{below-nil, below-cons, below-head, below-tail, below-append, below-drop, below-replicate}
-use Rattle.bits.specs.Bits.{_⊕_}
-use Rattle.bits.specs.Crc.{polynomial, addWhere, crcStep, remainder, complement, crcBits}
-use Rattle.bits.proofs.Crc.{step-length, remainder-length}
+use Rattle.rules_bits.specs.Bits.{_⊕_}
+use Rattle.rules_bits.specs.Crc.{polynomial, addWhere, crcStep, remainder, complement, crcBits}
+use Rattle.rules_bits.proofs.Crc.{step-length, remainder-length}
 
 -- ---- polynomials
 

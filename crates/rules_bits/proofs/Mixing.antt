@@ -10,10 +10,10 @@ use native.Mathlib.Nat.{mod-add-mod}
 use native.Mathlib.Omega.{arith}
 use lib.ListN.{getD}
 use lib.Bits.{bitXor, differ, xor-step, xor-lt}
-use Rattle.bits.specs.Bits.{bitsOf, numberOf}
-use Rattle.bits.specs.Scrambler.{mixed, scramble, descramble}
-use Rattle.bits.specs.Code.{pastOf}
-use Rattle.bits.proofs.Bits.{number-bits}
+use Rattle.rules_bits.specs.Bits.{bitsOf, numberOf}
+use Rattle.rules_bits.specs.Scrambler.{mixed, scramble, descramble}
+use Rattle.rules_bits.specs.Code.{pastOf}
+use Rattle.rules_bits.proofs.Bits.{number-bits}
 
 -- bit by bit
 unfoldable xorBits : List ℕ → List ℕ → List ℕ

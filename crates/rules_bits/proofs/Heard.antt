@@ -23,7 +23,7 @@ use Rattle.rules_rates.specs.Rates.{symbolBits}
 use Rattle.rules_chips.specs.Chips.{turned}
 use Rattle.rules_symbols.specs.Words.{cckNumber, p1Of, p2Of, p3Of, p4Of, wordOf, phaseOf}
 use Rattle.rules_symbols.specs.Choice.{numbers, isAllowed}
-use Rattle.bits.specs.Growths.{
+use Rattle.rules_bits.specs.Growths.{
   growth,
   growthBits,
   directBits,
@@ -43,9 +43,9 @@ use Rattle.bits.specs.Growths.{
 }
 use Rattle.rules_symbols.proofs.Numbers.{number-below, p1-back, p2-back, p3-back, p4-back, cck-of-number}
 use Rattle.base.specs.Below.{Below}
-use Rattle.bits.specs.Code.{Proper, symbolNumber, numbersFrom, wordsChips}
+use Rattle.rules_bits.specs.Code.{Proper, symbolNumber, numbersFrom, wordsChips}
 use Rattle.base.proofs.Below.{below-nil, below-cons, below-append, below-take, below-drop}
-use Rattle.bits.proofs.Growths.{growth-lt, growth-bits}
+use Rattle.rules_bits.proofs.Growths.{growth-lt, growth-bits}
 
 module _ (q : ℕ) (s : Symbol) (l : q < 4) (h : Proper s) where
   pub number-phase : (r : Rate) → phaseOf r (symbolNumber r q s) ≡ q

@@ -5,7 +5,7 @@
 use Prim.Native.Nat.{ℕ, zero, suc}
 use mathlib.Core.List.{List, [], _∷_, _++_, map}
 use lib.ListN.{getD, drop, replicate}
-use Rattle.bits.specs.Bits.{_⊕_}
+use Rattle.rules_bits.specs.Bits.{_⊕_}
 
 -- the terms of x^12 + x^5 + 1, x^15 first; x^16 is the one that leaves the register
 abbrev pub polynomial : List ℕ

@@ -9,8 +9,8 @@ use mathlib.Core.List.{List, [], _∷_, _++_, map-append, append-nil}
 use Prim.Native.Nat.{ℕ, zero, suc, _+_, _-_}
 use native.Mathlib.Omega.{arith}
 use lib.ListN.{length, drop, replicate, length-append, length-drop, length-map}
-use Rattle.bits.specs.Bits.{_⊕_, bitsOf, octetBits}
-use Rattle.bits.specs.Crc.{polynomial, addWhere, crcStep, remainder, complement, crcBits}
+use Rattle.rules_bits.specs.Bits.{_⊕_, bitsOf, octetBits}
+use Rattle.rules_bits.specs.Crc.{polynomial, addWhere, crcStep, remainder, complement, crcBits}
 use Rattle.base.specs.Below.{Below}
 use Rattle.base.proofs.Below.{below-nil, below-cons}
 

@@ -9,11 +9,11 @@ use Rattle.rules_rates.specs.declared.Rate.{Rate}
 use Rattle.rules_rates.specs.Rates.{symbolBits}
 use Rattle.rules_chips.specs.Chips.{turned}
 use Rattle.rules_symbols.specs.Choice.{isAllowed, numbers}
-use Rattle.bits.specs.Growths.{symbolOf, symbolsFrom}
+use Rattle.rules_bits.specs.Growths.{symbolOf, symbolsFrom}
 use Rattle.base.specs.Below.{Below}
-use Rattle.bits.specs.Code.{numbersFrom}
+use Rattle.rules_bits.specs.Code.{numbersFrom}
 use Rattle.base.proofs.Below.{below-take, below-drop}
-use Rattle.bits.proofs.Heard.{symbol-proper, number-lt, number-allowed}
+use Rattle.rules_bits.proofs.Heard.{symbol-proper, number-lt, number-allowed}
 
 pub data Allowed (r : Rate) : List ℕ → Type 0 where
   none : Allowed r []

@@ -6,8 +6,8 @@ use mathlib.Core.List.{List, [], _∷_, map}
 use Prim.Native.Nat.{ℕ, _%_}
 use Rattle.rules_rates.specs.declared.Rate.the-variants.{One, Two, Five, Eleven}
 use Rattle.rules_symbols.specs.Words.{barkerWord, cckWord, cckNumber}
-use Rattle.bits.specs.Bits.{bitsOf, numberOf, octetBits, octetsOf}
-use Rattle.bits.specs.Growths.{
+use Rattle.rules_bits.specs.Bits.{bitsOf, numberOf, octetBits, octetsOf}
+use Rattle.rules_bits.specs.Growths.{
   growth,
   Symbol,
   symbolOf,
@@ -20,8 +20,8 @@ use Rattle.bits.specs.Growths.{
   growthsOf,
   lastHeard,
 }
-use Rattle.bits.specs.Scrambler.{mixed, scramble, descramble}
-use Rattle.bits.specs.Crc.{addWhere, crcStep, remainder, crcBits}
+use Rattle.rules_bits.specs.Scrambler.{mixed, scramble, descramble}
+use Rattle.rules_bits.specs.Crc.{addWhere, crcStep, remainder, crcBits}
 
 abbrev phases : Symbol → List ℕ
 phases s = s .p2 ∷ s .p3 ∷ s .p4 ∷ []
