@@ -5,7 +5,7 @@ use calls::Refusal;
 use calls::Writing;
 use calls::Written;
 // the type of a member that is passed over: a crate must know the types of what it takes apart
-use frame::Kind;
+use rules_frame::Kind;
 ghost use mathlib.Core.Path.{_≡_};
 ghost use Rattle.calls.specs.Answers.{refusalNumber, refusalPlace, refusalLength, writtenOf, recordOf};
 

@@ -17,9 +17,9 @@ use Rattle.rules_bits.specs.Crc.{crcBits}
 use Rattle.base.specs.Below.{Below}
 use Rattle.rules_bits.proofs.Bits.{bits-two, octet-bits-append, number-one, octets-same}
 use Rattle.base.proofs.Below.{below-nil, below-cons}
-use Rattle.frame.specs.declared.Kind.{Kind}
+use Rattle.rules_frame.specs.declared.Kind.{Kind}
 use Rattle.calls.specs.declared.Front.{Front}
-use Rattle.frame.specs.Frame.{fieldBits, headerBits}
+use Rattle.rules_frame.specs.Frame.{fieldBits, headerBits}
 use Rattle.calls.specs.Headers.{Accepted, sameBits, fieldsOf}
 use Rattle.calls.proofs.Accepting.{same-refl, same-eq}
 

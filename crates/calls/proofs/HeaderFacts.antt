@@ -11,9 +11,9 @@ use Rattle.rules_rates.specs.declared.Rate.the-variants.{One, Two, Five, Eleven
 use Rattle.rules_rates.specs.Rates.{codeOf}
 use Rattle.rules_bits.specs.Bits.{bitsOf, numberOf}
 use Rattle.rules_bits.specs.Crc.{addWhere, crcStep, remainder, crcBits}
-use Rattle.frame.specs.Frame.{clockBit, fieldBits, headerBits}
-use Rattle.frame.specs.declared.Kind.{Kind}
-use Rattle.frame.specs.declared.Kind.the-variants.{Long, Short}
+use Rattle.rules_frame.specs.Frame.{clockBit, fieldBits, headerBits}
+use Rattle.rules_frame.specs.declared.Kind.{Kind}
+use Rattle.rules_frame.specs.declared.Kind.the-variants.{Long, Short}
 use Rattle.calls.specs.declared.Record.{Record}
 use Rattle.calls.specs.declared.Front.{Front}
 use Rattle.calls.specs.declared.Front.the-variants as front

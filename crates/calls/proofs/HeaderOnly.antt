@@ -17,8 +17,8 @@ use Rattle.rules_rates.specs.Rates.{codeOf, isCode, rateOf, lengthField}
 use Rattle.rules_rates.proofs.Facts.{no-other-code}
 use Rattle.rules_bits.specs.Bits.{numberOf}
 use Rattle.rules_bits.specs.Crc.{crcBits}
-use Rattle.frame.specs.declared.Kind.{Kind}
-use Rattle.frame.specs.Frame.{sfdOf, goesWith, clockBit, serviceField}
+use Rattle.rules_frame.specs.declared.Kind.{Kind}
+use Rattle.rules_frame.specs.Frame.{sfdOf, goesWith, clockBit, serviceField}
 use Rattle.calls.specs.declared.Told.{Told}
 use Rattle.calls.specs.declared.Front.{Front}
 use Rattle.calls.specs.declared.Front.the-variants as front

@@ -20,12 +20,12 @@ use Rattle.rules_rates.proofs.Lengths.{octets-back, length-holds}
 use Rattle.rules_bits.specs.Bits.{bitsOf, numberOf}
 use Rattle.rules_bits.specs.Crc.{crcBits}
 use Rattle.rules_bits.proofs.Bits.{number-bits}
-use Rattle.frame.specs.declared.Kind.{Kind}
-use Rattle.frame.proofs.Headers.{clock-lt}
-use Rattle.frame.specs.declared.Kind.the-variants.{Long, Short}
+use Rattle.rules_frame.specs.declared.Kind.{Kind}
+use Rattle.rules_frame.proofs.Headers.{clock-lt}
+use Rattle.rules_frame.specs.declared.Kind.the-variants.{Long, Short}
 use Rattle.calls.specs.declared.Refusal.the-variants.{Sfd, Crc}
 use Rattle.calls.specs.declared.Front.the-variants.{Refused, Fields}
-use Rattle.frame.specs.Frame.{sfdOf, goesWith, clockBit, serviceField, fieldBits, headerBits, sentHeader}
+use Rattle.rules_frame.specs.Frame.{sfdOf, goesWith, clockBit, serviceField, fieldBits, headerBits, sentHeader}
 use Rattle.calls.specs.Headers.{Accepted, ours, told, sameBits, serviceAllowed, fieldsOf, headerOf}
 use Rattle.calls.proofs.Accepting.{same-refl}
 

@@ -9,7 +9,7 @@ use native.Mathlib.Omega.{arith}
 use borrow.Author.Tests.{lt-ltb, le-ltb, le-leb, lt-leb, ne-eqb}
 use Rattle.rules_rates.specs.Rates.{isCode, rateOf}
 use Rattle.rules_rates.proofs.Lengths.{is-payload}
-use Rattle.frame.specs.Frame.{kindOf, goesWith, frameChips}
+use Rattle.rules_frame.specs.Frame.{kindOf, goesWith, frameChips}
 use Rattle.calls.specs.declared.Written.{Written}
 use Rattle.calls.specs.Answers.{writtenOf}
 use Rattle.calls.specs.Writing.{writingOf}

@@ -6,8 +6,8 @@ use mathlib.Core.Bool.{true, false}
 use mathlib.Core.List.{List, [], _∷_, _++_}
 use Prim.Native.Nat.{ℕ, _^_}
 use Rattle.rules_rates.specs.declared.Rate.the-variants.{Two, Eleven}
-use Rattle.frame.specs.declared.Kind.the-variants.{Long, Short}
-use Rattle.frame.specs.Frame.{frame}
+use Rattle.rules_frame.specs.declared.Kind.the-variants.{Long, Short}
+use Rattle.rules_frame.specs.Frame.{frame}
 use Rattle.calls.specs.declared.Written.{Written}
 use Rattle.calls.specs.Answers.{writtenOf}
 use Rattle.calls.specs.Writing.{writingOf, chipsWritten}

@@ -9,8 +9,8 @@ use borrow.Author.Tests.{ltb-false, not-false}
 use Rattle.rules_rates.specs.declared.Rate.{Rate}
 use Rattle.rules_rates.specs.Rates.{isCode, rateOf, isPayload}
 use Rattle.rules_rates.proofs.Lengths.{payload-high}
-use Rattle.frame.specs.declared.Kind.{Kind}
-use Rattle.frame.specs.Frame.{isKind, kindOf, goesWith, frameChips}
+use Rattle.rules_frame.specs.declared.Kind.{Kind}
+use Rattle.rules_frame.specs.Frame.{isKind, kindOf, goesWith, frameChips}
 use Rattle.calls.specs.declared.Refusal.{Refusal}
 use Rattle.calls.specs.declared.Writing.{Writing}
 use Rattle.calls.specs.declared.Writing.the-variants.{Refused, Good}

@@ -2,7 +2,7 @@
 -- Definitions only. Assumes nothing.
 use Prim.Native.Nat.{ℕ}
 use Rattle.rules_rates.specs.Rates.{codeOf}
-use Rattle.frame.specs.Frame.{clockBit}
+use Rattle.rules_frame.specs.Frame.{clockBit}
 use Rattle.calls.specs.declared.Refusal.{Refusal}
 use Rattle.calls.specs.declared.Refusal.the-variants.{
   NoKind,

@@ -1,5 +1,5 @@
 // The calls and their numbers: the refusals, and what writing and reading answer. Types only.
-use frame::Kind;
+use rules_frame::Kind;
 use rules_rates::Rate;
 
 // Every refusal of writing and reading, in the order of its number, 1 to 17. A place is a chip's index from the

@@ -12,10 +12,10 @@ use Rattle.base.specs.Below.{Below}
 use Rattle.rules_rates.specs.declared.Rate.{Rate}
 use Rattle.rules_rates.specs.Rates.{lengthField}
 use Rattle.rules_chips.specs.Chips.{Taken}
-use Rattle.frame.specs.declared.Kind.{Kind}
-use Rattle.frame.specs.Frame.{isKind, kindOf, goesWith, frontChips, sentHeader, frame, frameChips}
-use Rattle.frame.proofs.Headers.{sent-length, sent-below}
-use Rattle.frame.proofs.Sizes.{frame-length}
+use Rattle.rules_frame.specs.declared.Kind.{Kind}
+use Rattle.rules_frame.specs.Frame.{isKind, kindOf, goesWith, frontChips, sentHeader, frame, frameChips}
+use Rattle.rules_frame.proofs.Headers.{sent-length, sent-below}
+use Rattle.rules_frame.proofs.Sizes.{frame-length}
 use Rattle.calls.proofs.ReadBack.{header-back}
 use Rattle.calls.specs.declared.Told.{Told}
 use Rattle.calls.specs.declared.Refusal.the-variants.{ShorterThanFront, Ends, OctetRoom}

@@ -11,10 +11,10 @@ use Rattle.rules_rates.specs.declared.Rate.the-variants.{One, Two, Five, Eleven
 use Rattle.rules_rates.specs.Rates.{symbolBits}
 use Rattle.rules_chips.specs.Chips.{Taken}
 use Rattle.rules_choosing.proofs.Agreement.{cleanLead}
-use Rattle.frame.specs.declared.Kind.{Kind}
-use Rattle.frame.specs.declared.Kind.the-variants.{Long, Short}
-use Rattle.frame.specs.Frame.{headerRate, preambleLength, headerLength, frontSymbols}
-use Rattle.frame.proofs.Parity.{front-symbols}
+use Rattle.rules_frame.specs.declared.Kind.{Kind}
+use Rattle.rules_frame.specs.declared.Kind.the-variants.{Long, Short}
+use Rattle.rules_frame.specs.Frame.{headerRate, preambleLength, headerLength, frontSymbols}
+use Rattle.rules_frame.proofs.Parity.{front-symbols}
 use Rattle.calls.specs.declared.Least.{Least}
 use Rattle.reading.specs.Leads.{frontLeads, payloadLeads, frameLeads, leadAt, leastFrom, leastOf}
 use Rattle.reading.proofs.Leads.{leastOf-joined, least-kept, least-found}

@@ -16,9 +16,9 @@ use Rattle.base.specs.Below.{Below}
 use Rattle.base.proofs.Below.{below-nil, below-append}
 use Rattle.rules_symbols.specs.Words.{wordOf}
 use Rattle.rules_symbols.proofs.Words.{word-phases}
-use Rattle.frame.specs.declared.Kind.{Kind}
-use Rattle.frame.specs.declared.Kind.the-variants.{Long, Short}
-use Rattle.frame.specs.Frame.{headerRate, frontChips, preambleLength, headerLength, partsChips, preambleChips}
+use Rattle.rules_frame.specs.declared.Kind.{Kind}
+use Rattle.rules_frame.specs.declared.Kind.the-variants.{Long, Short}
+use Rattle.rules_frame.specs.Frame.{headerRate, frontChips, preambleLength, headerLength, partsChips, preambleChips}
 use Rattle.rules_choosing.proofs.Agreement.{cleanLead}
 use Rattle.reading.specs.Leads.{decidedLeads, frontLeads, payloadLeads}
 use Rattle.reading.specs.Reading.{

@@ -27,9 +27,9 @@ use Rattle.rules_bits.proofs.Scrambler.{
   descramble-append,
   first-unknown,
 }
-use Rattle.frame.specs.declared.Kind.{Kind}
-use Rattle.frame.specs.declared.Kind.the-variants.{Long, Short}
-use Rattle.frame.specs.Frame.{
+use Rattle.rules_frame.specs.declared.Kind.{Kind}
+use Rattle.rules_frame.specs.declared.Kind.the-variants.{Long, Short}
+use Rattle.rules_frame.specs.Frame.{
   syncBits,
   syncBit,
   sfdOf,
@@ -44,7 +44,7 @@ use Rattle.frame.specs.Frame.{
   framed,
   frameChips,
 }
-use Rattle.frame.proofs.Sizes.{preamble-length, sent-counted, framed-length}
+use Rattle.rules_frame.proofs.Sizes.{preamble-length, sent-counted, framed-length}
 use Rattle.calls.specs.declared.Told.{Told}
 use Rattle.calls.specs.declared.Front.the-variants as front
 use Rattle.calls.specs.declared.Reading.the-variants as reading

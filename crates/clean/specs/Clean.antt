@@ -12,8 +12,8 @@ use Rattle.rules_rates.specs.declared.Rate.the-variants.{One, Two, Five, Eleven
 use Rattle.rules_chips.specs.declared.Sample.{Sample}
 use Rattle.rules_chips.specs.declared.Chip.the-variants.{Soft}
 use Rattle.rules_chips.specs.Chips.{Taken, counted, fullChip, usableSample, exactOf}
-use Rattle.frame.specs.declared.Kind.{Kind}
-use Rattle.frame.specs.Frame.{frontSymbols}
+use Rattle.rules_frame.specs.declared.Kind.{Kind}
+use Rattle.rules_frame.specs.Frame.{frontSymbols}
 use Rattle.calls.specs.declared.Least.{Least}
 use Rattle.reading.specs.Leads.{leadAt}
 

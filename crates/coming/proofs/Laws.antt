@@ -12,8 +12,8 @@ use Prim.Native.Nat.{ℕ, _+_, _≤_, _<_}
 use borrow.Author.Tests.{lt-ltb, le-ltb}
 use lib.ListN.{length, take, drop}
 use Rattle.rules_chips.specs.Chips.{Taken}
-use Rattle.frame.specs.declared.Kind.{Kind}
-use Rattle.frame.specs.Frame.{isKind, kindOf, frameChips}
+use Rattle.rules_frame.specs.declared.Kind.{Kind}
+use Rattle.rules_frame.specs.Frame.{isKind, kindOf, frameChips}
 use Rattle.calls.specs.declared.Refusal.{Refusal}
 use Rattle.calls.specs.declared.Refusal.the-variants.{NoKind, Ends}
 use Rattle.calls.specs.declared.Told.{Told}

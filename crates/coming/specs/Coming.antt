@@ -8,8 +8,8 @@ use lib.ListN.{length, take, drop}
 use lib.Dec.{ltb}
 use Rattle.rules_rates.specs.Rates.{codeOf}
 use Rattle.rules_chips.specs.Chips.{Taken}
-use Rattle.frame.specs.declared.Kind.{Kind}
-use Rattle.frame.specs.Frame.{isKind, kindOf, clockBit, frontChips, frameChips}
+use Rattle.rules_frame.specs.declared.Kind.{Kind}
+use Rattle.rules_frame.specs.Frame.{isKind, kindOf, clockBit, frontChips, frameChips}
 use Rattle.calls.specs.declared.Refusal.the-variants.{NoKind}
 use Rattle.calls.specs.declared.Front.{Front}
 use Rattle.calls.specs.declared.Front.the-variants.{Refused, Fields}

@@ -4,7 +4,7 @@ ghost use mathlib.Core.Path.{_≡_};
 ghost use Prim.Native.Nat.{ℕ, _+_, _≤_, _<_};
 ghost use lib.ListN.{length, getD, drop};
 ghost use Rattle.rules_chips.specs.Chips.{hardRecording};
-ghost use Rattle.frame.specs.Frame.{frontChips};
+ghost use Rattle.rules_frame.specs.Frame.{frontChips};
 ghost use Rattle.reading.specs.Reading.{frontOf};
 ghost use Rattle.finding.specs.Finding.{startOr, firstStart, findingOf, notFoundNumber, foundOf};
 ghost use Rattle.finding.proofs.Laws.{Missed};
@@ -13,7 +13,7 @@ use calls::Told;
 use finding::Finding;
 use finding::Found;
 use finding::NotFound;
-use frame::Kind;
+use rules_frame::Kind;
 use rules_rates::Rate;
 use recorders::Recorder;
 

@@ -26,7 +26,7 @@ use Rattle.rules_bits.specs.Growths.{
 }
 use Rattle.rules_bits.specs.Scrambler.{mixed, scramble, descramble}
 use Rattle.rules_bits.specs.Crc.{addWhere, crcStep, remainder, crcBits}
-use Rattle.frame.specs.Frame.{
+use Rattle.rules_frame.specs.Frame.{
   clockBit,
   preambleBits,
   fieldBits,

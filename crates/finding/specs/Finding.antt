@@ -8,8 +8,8 @@ use lib.ListN.{drop}
 use lib.Dec.{leb}
 use Rattle.rules_rates.specs.Rates.{codeOf}
 use Rattle.rules_chips.specs.Chips.{Taken}
-use Rattle.frame.specs.declared.Kind.{Kind}
-use Rattle.frame.specs.Frame.{isKind, kindOf, clockBit}
+use Rattle.rules_frame.specs.declared.Kind.{Kind}
+use Rattle.rules_frame.specs.Frame.{isKind, kindOf, clockBit}
 use Rattle.calls.specs.declared.Front.{Front}
 use Rattle.calls.specs.declared.Front.the-variants as front
 use Rattle.reading.specs.Reading.{frontOf}

@@ -3,14 +3,14 @@
 ghost use mathlib.Core.Path.{_≡_};
 ghost use Prim.Native.Nat.{_≤_};
 ghost use Rattle.rules_chips.specs.Chips.{hardRecording};
-ghost use Rattle.frame.specs.Frame.{kindOf};
+ghost use Rattle.rules_frame.specs.Frame.{kindOf};
 ghost use Rattle.coming.specs.Coming.{frontReading, comingOf};
 ghost use Rattle.promises.specs.Calls.{Handed};
 use calls::Front;
 use calls::Refusal;
 use calls::Told;
 use coming::Coming;
-use frame::Kind;
+use rules_frame::Kind;
 use rules_rates::Rate;
 use recorders::Recorder;
 

@@ -18,9 +18,9 @@ use Rattle.rules_bits.specs.Growths.{heard, growthsOf}
 use Rattle.rules_bits.specs.Scrambler.{descramble}
 use Rattle.rules_bits.specs.Code.{pastOf, pastAfter}
 use Rattle.rules_bits.proofs.Scrambler.{descramble-append, descramble-length, descramble-window}
-use Rattle.frame.specs.declared.Kind.{Kind}
-use Rattle.frame.specs.declared.Kind.the-variants.{Long, Short}
-use Rattle.frame.specs.Frame.{start, headerRate, frontChips, preambleLength, headerLength, preambleChips}
+use Rattle.rules_frame.specs.declared.Kind.{Kind}
+use Rattle.rules_frame.specs.declared.Kind.the-variants.{Long, Short}
+use Rattle.rules_frame.specs.Frame.{start, headerRate, frontChips, preambleLength, headerLength, preambleChips}
 use Rattle.reading.specs.Reading.{
   oddGrowth,
   decidedWords,

@@ -27,9 +27,9 @@ use Rattle.lines.specs.declared.Line.{Line}
 use Rattle.rules_bits.proofs.Bits.{octets-append, octets-bits, octets-length}
 use Rattle.rules_bits.proofs.Scrambler.{descramble-below, descramble-length, descramble-window}
 use Rattle.rules_bits.proofs.Heard.{heard-length}
-use Rattle.frame.specs.declared.Kind.{Kind}
-use Rattle.frame.specs.declared.Kind.the-variants.{Long, Short}
-use Rattle.frame.specs.Frame.{start, syncBits, preambleLength, frontChips}
+use Rattle.rules_frame.specs.declared.Kind.{Kind}
+use Rattle.rules_frame.specs.declared.Kind.the-variants.{Long, Short}
+use Rattle.rules_frame.specs.Frame.{start, syncBits, preambleLength, frontChips}
 use Rattle.reading.specs.Reading.{orElse, oddGrowth, decidedWords, preambleWords, reference, headerPhase}
 use Rattle.calls.specs.declared.Least.{Least}
 use Rattle.reading.specs.Leads.{leastFrom, leastOf}

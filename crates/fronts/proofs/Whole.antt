@@ -26,9 +26,9 @@ use Rattle.rules_bits.proofs.Scrambler.{
   descramble-window,
 }
 use Rattle.rules_bits.proofs.Heard.{heard-length, heard-parity}
-use Rattle.frame.specs.declared.Kind.{Kind}
-use Rattle.frame.specs.declared.Kind.the-variants.{Long, Short}
-use Rattle.frame.specs.Frame.{start, syncBits, headerRate, preambleLength, headerLength, preambleChips}
+use Rattle.rules_frame.specs.declared.Kind.{Kind}
+use Rattle.rules_frame.specs.declared.Kind.the-variants.{Long, Short}
+use Rattle.rules_frame.specs.Frame.{start, syncBits, headerRate, preambleLength, headerLength, preambleChips}
 use Rattle.reading.specs.Reading.{
   orElse,
   oddGrowth,

@@ -2,7 +2,7 @@
 ghost use mathlib.Core.Path.{_≡_};
 ghost use Prim.Native.Nat.{_+_, _≤_};
 ghost use lib.ListN.{length, take, drop};
-ghost use Rattle.frame.specs.Frame.{frontChips};
+ghost use Rattle.rules_frame.specs.Frame.{frontChips};
 ghost use Rattle.reading.specs.Leads.{leastOf};
 ghost use Rattle.recorders.specs.Rows.{lent};
 ghost use Rattle.recorded.specs.Recorded.{AllUsable};
@@ -18,7 +18,7 @@ use super::FrontHeard;
 use super::Preamble;
 use blocks::Hearing;
 use calls::Least;
-use frame::Kind;
+use rules_frame::Kind;
 use hearing::Part;
 use lines::Line;
 use rules_rates::Rate;

@@ -9,7 +9,7 @@ use blocks::Hearing;
 use calls::Front;
 use calls::Least;
 use calls::Refusal;
-use frame::Kind;
+use rules_frame::Kind;
 use hearing::Part;
 use lines::Line;
 use rules_rates::Rate;

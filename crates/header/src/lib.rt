@@ -2,7 +2,7 @@
 use calls::Front;
 use calls::Refusal;
 use calls::Told;
-use frame::Kind;
+use rules_frame::Kind;
 use rules_rates::Rate;
 ghost use mathlib.Core.Path.{_≡_};
 ghost use mathlib.Core.Bool.{_&&_};
@@ -13,7 +13,7 @@ ghost use lib.ListN.{length, take, drop};
 ghost use Rattle.rules_rates.specs.Rates.{isCode, rateOf};
 ghost use Rattle.rules_bits.specs.Bits.{numberOf, octetBits};
 ghost use Rattle.rules_bits.specs.Crc.{crcBits};
-ghost use Rattle.frame.specs.Frame.{sfdOf, goesWith, headerBits, sentHeader};
+ghost use Rattle.rules_frame.specs.Frame.{sfdOf, goesWith, headerBits, sentHeader};
 ghost use Rattle.calls.specs.Headers.{serviceAllowed, ours, sameBits, fieldsOf, headerOf};
 ghost use Rattle.header.specs.Code.{octetsTold};
 

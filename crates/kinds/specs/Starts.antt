@@ -4,8 +4,8 @@ use Prim.Native.Nat.{ℕ}
 use mathlib.Core.Path.{_≡_}
 use mathlib.Core.List.{[], _∷_, _++_}
 use Rattle.rules_bits.specs.Code.{pastOf}
-use Rattle.frame.specs.declared.Kind.{Kind}
-use Rattle.frame.specs.Frame.{start}
+use Rattle.rules_frame.specs.declared.Kind.{Kind}
+use Rattle.rules_frame.specs.Frame.{start}
 use Rattle.lines.specs.declared.Line.{Line}
 
 -- the scrambler's start, and an eighth output that nothing depends on; the phase that the first symbol grows from

@@ -1,10 +1,10 @@
 // The two kinds of frame, and the numbers that go with a kind.
-use frame::Kind;
+use rules_frame::Kind;
 use lines::Line;
 use rules_rates::Rate;
 ghost use mathlib.Core.Path.{_≡_};
 ghost use Prim.Native.Nat.{_≤_};
-ghost use Rattle.frame.specs.Frame.{isKind, kindOf, headerRate, goesWith, preambleChips, frontChips, frameChips};
+ghost use Rattle.rules_frame.specs.Frame.{isKind, kindOf, headerRate, goesWith, preambleChips, frontChips, frameChips};
 ghost use Rattle.kinds.specs.Starts.{Starts};
 
 // Whether a number is a kind.

@@ -21,10 +21,10 @@ use Rattle.base.proofs.Below.{below-take}
 use Rattle.rules_chips.specs.Chips.{Taken, hardRecording, softRecording, byteRecording}
 use Rattle.rules_chips.proofs.Recorders.{length-hard, length-soft-same}
 use Rattle.rules_chips.proofs.Bytes.{length-bytes}
-use Rattle.frame.specs.declared.Kind.{Kind}
-use Rattle.frame.specs.Frame.{isKind, kindOf, clockOf, clockBit, goesWith, frontChips, frame, frameChips}
-use Rattle.frame.proofs.Headers.{clock-some}
-use Rattle.frame.proofs.Sizes.{frame-length}
+use Rattle.rules_frame.specs.declared.Kind.{Kind}
+use Rattle.rules_frame.specs.Frame.{isKind, kindOf, clockOf, clockBit, goesWith, frontChips, frame, frameChips}
+use Rattle.rules_frame.proofs.Headers.{clock-some}
+use Rattle.rules_frame.proofs.Sizes.{frame-length}
 use Rattle.calls.specs.declared.Writing.the-variants as writing
 use Rattle.calls.specs.declared.Written.{Written}
 use Rattle.calls.specs.declared.Least.{Least}

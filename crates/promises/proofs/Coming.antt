@@ -13,9 +13,9 @@ use lib.ListN.{length, take}
 use Rattle.rules_rates.specs.Rates.{codeOf, octetChips}
 use Rattle.rules_chips.specs.Chips.{Taken, hardRecording}
 use Rattle.rules_chips.proofs.Recorders.{length-hard, take-hard}
-use Rattle.frame.specs.declared.Kind.{Kind}
-use Rattle.frame.specs.Frame.{isKind, kindOf, clockBit, frontChips, frameChips}
-use Rattle.frame.proofs.Headers.{clock-lt}
+use Rattle.rules_frame.specs.declared.Kind.{Kind}
+use Rattle.rules_frame.specs.Frame.{isKind, kindOf, clockBit, frontChips, frameChips}
+use Rattle.rules_frame.proofs.Headers.{clock-lt}
 use Rattle.calls.specs.declared.Refusal.{Refusal}
 use Rattle.calls.specs.declared.Told.{Told}
 use Rattle.calls.specs.declared.Front.{Front}

@@ -12,7 +12,7 @@ use Rattle.base.proofs.Tests.{branch}
 use Rattle.rules_rates.specs.declared.Rate.{Rate}
 use Rattle.rules_chips.specs.Chips.{Taken}
 use Rattle.rules_bits.proofs.Bits.{octets-length}
-use Rattle.frame.specs.declared.Kind.{Kind}
+use Rattle.rules_frame.specs.declared.Kind.{Kind}
 use Rattle.calls.specs.declared.Refusal.{Refusal}
 use Rattle.calls.specs.declared.Refusal.the-variants.{
   NoKind,
@@ -42,8 +42,8 @@ use Rattle.calls.specs.declared.Reading.{Reading}
 use Rattle.calls.specs.declared.Reading.the-variants as reading
 use Rattle.calls.specs.declared.Written.{Written}
 use Rattle.calls.specs.declared.Record.{Record}
-use Rattle.frame.specs.Frame.{frame, frameChips, isKind, kindOf, clockOf}
-use Rattle.frame.proofs.Sizes.{frame-length}
+use Rattle.rules_frame.specs.Frame.{frame, frameChips, isKind, kindOf, clockOf}
+use Rattle.rules_frame.proofs.Sizes.{frame-length}
 use Rattle.calls.specs.Answers.{refusalNumber, writtenOf, recordOf}
 use Rattle.calls.specs.Writing.{writingOf, chipsAfter, chipsWritten}
 use Rattle.reading.specs.Reading.{

@@ -14,9 +14,9 @@ use lib.Seq.{take-at, length-take-le}
 use Rattle.rules_rates.specs.Rates.{codeOf, octetChips}
 use Rattle.rules_chips.specs.Chips.{Taken, hardRecording}
 use Rattle.rules_chips.proofs.Recorders.{length-hard, take-hard, drop-hard}
-use Rattle.frame.specs.declared.Kind.{Kind}
-use Rattle.frame.specs.Frame.{isKind, kindOf, clockBit, frontChips, frameChips}
-use Rattle.frame.proofs.Headers.{clock-lt}
+use Rattle.rules_frame.specs.declared.Kind.{Kind}
+use Rattle.rules_frame.specs.Frame.{isKind, kindOf, clockBit, frontChips, frameChips}
+use Rattle.rules_frame.proofs.Headers.{clock-lt}
 use Rattle.calls.specs.declared.Refusal.{Refusal}
 use Rattle.calls.specs.declared.Told.{Told}
 use Rattle.calls.specs.declared.Front.{Front}

@@ -30,9 +30,9 @@ use Rattle.rules_chips.specs.Chips.{
 }
 use Rattle.rules_chips.proofs.Recorders.{unusable-hard}
 use Rattle.rules_chips.proofs.Bytes.{length-bytes}
-use Rattle.frame.specs.declared.Kind.{Kind}
-use Rattle.frame.specs.declared.Kind.the-variants.{Long, Short}
-use Rattle.frame.specs.Frame.{isKind, kindOf, frontChips, frameChips}
+use Rattle.rules_frame.specs.declared.Kind.{Kind}
+use Rattle.rules_frame.specs.declared.Kind.the-variants.{Long, Short}
+use Rattle.rules_frame.specs.Frame.{isKind, kindOf, frontChips, frameChips}
 use Rattle.calls.specs.declared.Refusal.the-variants.{Unusable, OddGrowth}
 use Rattle.calls.specs.declared.Told.{Told}
 use Rattle.calls.specs.declared.Record.{Record}

@@ -1,6 +1,6 @@
 -- Every promise is kept. Assumes nothing.
 use mathlib.Core.Path.{sym, _∙_}
-use Rattle.frame.proofs.TableP.{table-p}
+use Rattle.rules_frame.proofs.TableP.{table-p}
 use Rattle.rules_chips.proofs.Meaning.{counted}
 use Rattle.clean.proofs.Rows.{soft-rows}
 use Rattle.promises.specs.Calls.{to-write, to-read, to-read-front, to-hand, to-find}

@@ -21,9 +21,9 @@ use Rattle.rules_symbols.specs.Choice.{decided, leadOf}
 use Rattle.rules_choosing.specs.Scores.{LeadsBy}
 use Rattle.rules_choosing.specs.Demand3.{LeadsExactly}
 use Rattle.rules_choosing.proofs.Leads.{leads-by, leads-once}
-use Rattle.frame.specs.declared.Kind.{Kind}
-use Rattle.frame.specs.declared.Kind.the-variants.{Long, Short}
-use Rattle.frame.specs.Frame.{
+use Rattle.rules_frame.specs.declared.Kind.{Kind}
+use Rattle.rules_frame.specs.declared.Kind.the-variants.{Long, Short}
+use Rattle.rules_frame.specs.Frame.{
   isKind,
   kindOf,
   headerRate,
@@ -33,7 +33,7 @@ use Rattle.frame.specs.Frame.{
   headerLength,
   preambleChips,
 }
-use Rattle.frame.proofs.Parity.{front-symbols}
+use Rattle.rules_frame.proofs.Parity.{front-symbols}
 use Rattle.calls.specs.declared.Told.{Told}
 use Rattle.calls.specs.declared.Record.{Record}
 use Rattle.calls.specs.declared.Front.{Front}

@@ -12,8 +12,8 @@ use lib.ListN.{length, take, drop}
 use lib.IntN.{ℤ}
 use Rattle.base.proofs.Tests.{branch}
 use Rattle.rules_chips.specs.Chips.{Taken, isUnusable, byteRecording}
-use Rattle.frame.specs.declared.Kind.{Kind}
-use Rattle.frame.specs.Frame.{isKind, kindOf, frontChips, frameChips}
+use Rattle.rules_frame.specs.declared.Kind.{Kind}
+use Rattle.rules_frame.specs.Frame.{isKind, kindOf, frontChips, frameChips}
 use Rattle.calls.specs.declared.Refusal.{Refusal}
 use Rattle.calls.specs.declared.Refusal.the-variants.{NoKind, RowsDiffer}
 use Rattle.calls.specs.declared.Told.{Told}

@@ -19,9 +19,9 @@ use Rattle.rules_rates.proofs.Facts.{no-other-code}
 use Rattle.rules_rates.proofs.Plain.{length-is}
 use Rattle.reading.proofs.Telling.{Telling, TellingWhole, TellingWholeIf, whole-telling}
 use Rattle.rules_chips.specs.Chips.{Taken}
-use Rattle.frame.specs.declared.Kind.{Kind}
-use Rattle.frame.specs.Frame.{isKind, kindOf, goesWith, frontChips, frameChips}
-use Rattle.frame.proofs.Headers.{clock-lt}
+use Rattle.rules_frame.specs.declared.Kind.{Kind}
+use Rattle.rules_frame.specs.Frame.{isKind, kindOf, goesWith, frontChips, frameChips}
+use Rattle.rules_frame.proofs.Headers.{clock-lt}
 use Rattle.calls.specs.declared.Writing.{Writing}
 use Rattle.calls.specs.declared.Writing.the-variants as writing
 use Rattle.calls.specs.declared.Told.{Told}

@@ -19,8 +19,8 @@ use Rattle.rules_rates.proofs.Facts.{no-other-code}
 use Rattle.rules_rates.proofs.Plain.{length-is, seven-is, holds-any}
 use Rattle.rules_chips.specs.Chips.{Taken}
 use Rattle.rules_bits.specs.Bits.{numberOf}
-use Rattle.frame.specs.declared.Kind.{Kind}
-use Rattle.frame.specs.Frame.{isKind, kindOf, sfdOf, syncBits, goesWith, clockBit, frontChips, frameChips}
+use Rattle.rules_frame.specs.declared.Kind.{Kind}
+use Rattle.rules_frame.specs.Frame.{isKind, kindOf, sfdOf, syncBits, goesWith, clockBit, frontChips, frameChips}
 use Rattle.calls.specs.declared.Refusal.{Refusal}
 use Rattle.calls.specs.declared.Refusal.the-variants.{Ends}
 use Rattle.calls.specs.declared.Told.{Told}

@@ -7,7 +7,7 @@ use native.Mathlib.Omega.{arith}
 use borrow.Author.Tests.{ltb-true}
 use lib.ListN.{length}
 use Rattle.rules_rates.specs.Rates.{rateOf}
-use Rattle.frame.specs.Frame.{kindOf, frameChips}
+use Rattle.rules_frame.specs.Frame.{kindOf, frameChips}
 use Rattle.calls.specs.declared.Written.{Written}
 use Rattle.calls.specs.Answers.{writtenOf}
 use Rattle.calls.specs.Writing.{writingOf}

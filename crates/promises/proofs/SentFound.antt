@@ -12,8 +12,8 @@ use Rattle.rules_rates.specs.declared.Rate.{Rate}
 use Rattle.rules_rates.specs.Rates.{rateOf, lengthField}
 use Rattle.rules_chips.specs.Chips.{Taken, hardRecording}
 use Rattle.rules_chips.proofs.Recorders.{drop-hard}
-use Rattle.frame.specs.declared.Kind.{Kind}
-use Rattle.frame.specs.Frame.{kindOf, clockOf}
+use Rattle.rules_frame.specs.declared.Kind.{Kind}
+use Rattle.rules_frame.specs.Frame.{kindOf, clockOf}
 use Rattle.calls.specs.declared.Written.{Written}
 use Rattle.calls.specs.declared.Told.{Told}
 use Rattle.calls.specs.declared.Front.the-variants.{Fields}

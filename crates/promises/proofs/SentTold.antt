@@ -10,8 +10,8 @@ use Rattle.rules_rates.specs.declared.Rate.{Rate}
 use Rattle.rules_rates.specs.Rates.{codeOf, rateOf, octetChips, lengthField}
 use Rattle.rules_chips.specs.Chips.{hardRecording}
 use Rattle.rules_chips.proofs.Recorders.{length-hard, take-hard}
-use Rattle.frame.specs.declared.Kind.{Kind}
-use Rattle.frame.specs.Frame.{kindOf, clockOf, clockBit, frontChips, frameChips}
+use Rattle.rules_frame.specs.declared.Kind.{Kind}
+use Rattle.rules_frame.specs.Frame.{kindOf, clockOf, clockBit, frontChips, frameChips}
 use Rattle.calls.specs.declared.Written.{Written}
 use Rattle.calls.specs.declared.Told.{Told}
 use Rattle.calls.specs.declared.Front.the-variants.{Fields}

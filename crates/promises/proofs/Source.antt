@@ -14,12 +14,22 @@ use Rattle.rules_symbols.specs.Words.{barkerWord}
 use Rattle.rules_bits.specs.Bits.{bitsOf}
 use Rattle.rules_bits.specs.Growths.{symbolOf, symbolsFrom, symbolsOf, chipsFrom}
 use Rattle.rules_bits.specs.Scrambler.{mixed, scramble}
-use Rattle.frame.specs.declared.Kind.{Kind}
-use Rattle.frame.specs.declared.Kind.the-variants.{Long, Short}
-use Rattle.frame.proofs.Sizes.{frame-length}
+use Rattle.rules_frame.specs.declared.Kind.{Kind}
+use Rattle.rules_frame.specs.declared.Kind.the-variants.{Long, Short}
+use Rattle.rules_frame.proofs.Sizes.{frame-length}
 use Rattle.calls.specs.declared.Written.{Written}
 use Rattle.calls.specs.declared.Record.{Record}
-use Rattle.frame.specs.Frame.{kindOf, clockOf, frontChips, preambleBits, frameBits, sentBits, partsChips, framed, frame}
+use Rattle.rules_frame.specs.Frame.{
+  kindOf,
+  clockOf,
+  frontChips,
+  preambleBits,
+  frameBits,
+  sentBits,
+  partsChips,
+  framed,
+  frame,
+}
 use Rattle.calls.specs.Answers.{recordOf}
 use Rattle.reading.specs.Reading.{readingOf, octetsFound}
 use Rattle.promises.specs.Calls.{Read, Sent, of-hard, good, shown, sentLead, sentSymbol}

@@ -13,9 +13,9 @@ use Rattle.rules_rates.specs.declared.Rate.{Rate}
 use Rattle.rules_rates.specs.Plain.{LengthOf, length-1, length-11}
 use Rattle.rules_rates.proofs.Plain.{length-once}
 use Rattle.rules_chips.specs.Chips.{Taken}
-use Rattle.frame.specs.declared.Kind.the-variants.{Long}
-use Rattle.frame.specs.Frame.{frame}
-use Rattle.frame.specs.TableP.{computed, printed}
+use Rattle.rules_frame.specs.declared.Kind.the-variants.{Long}
+use Rattle.rules_frame.specs.Frame.{frame}
+use Rattle.rules_frame.specs.TableP.{computed, printed}
 use Rattle.calls.specs.declared.Refusal.the-variants.{Unusable}
 use Rattle.calls.specs.Answers.{refusalNumber}
 use Rattle.calls.specs.declared.Written.{Written}

@@ -10,7 +10,7 @@ use Rattle.rules_rates.specs.Plain.{LengthOf}
 use Rattle.calls.specs.declared.Written.{Written}
 use Rattle.calls.specs.declared.Record.{Record}
 use Rattle.rules_chips.specs.Chips.{hardRecording}
-use Rattle.frame.specs.Frame.{kindOf}
+use Rattle.rules_frame.specs.Frame.{kindOf}
 use Rattle.coming.specs.declared.Coming.{Coming}
 use Rattle.coming.specs.Coming.{frontReading, comingOf, partOf}
 use Rattle.promises.specs.Calls.{

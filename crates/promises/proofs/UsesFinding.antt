@@ -13,7 +13,7 @@ use Rattle.calls.specs.declared.Record.{Record}
 use Rattle.calls.specs.Answers.{recordOf}
 use Rattle.reading.specs.Reading.{readingOf, octetsFound}
 use Rattle.rules_chips.specs.Chips.{hardRecording}
-use Rattle.frame.specs.Frame.{kindOf}
+use Rattle.rules_frame.specs.Frame.{kindOf}
 use Rattle.coming.specs.declared.Coming.{Coming}
 use Rattle.coming.specs.Coming.{frontReading, comingOf}
 use Rattle.finding.specs.declared.Found.{Found}

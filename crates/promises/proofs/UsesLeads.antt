@@ -22,9 +22,9 @@ use Rattle.rules_symbols.specs.Choice.{numbers, isAllowed}
 use Rattle.rules_choosing.specs.Scores.{scoreAt, LeadsBy}
 use Rattle.rules_choosing.specs.Demand3.{exactAt, LeadsExactly}
 use Rattle.rules_choosing.proofs.Leads.{leads-once}
-use Rattle.frame.specs.declared.Kind.{Kind}
-use Rattle.frame.specs.declared.Kind.the-variants.{Long, Short}
-use Rattle.frame.specs.Frame.{kindOf}
+use Rattle.rules_frame.specs.declared.Kind.{Kind}
+use Rattle.rules_frame.specs.declared.Kind.the-variants.{Long, Short}
+use Rattle.rules_frame.specs.Frame.{kindOf}
 use Rattle.calls.specs.declared.Record.{Record}
 use Rattle.reading.specs.Reading.{preambleWords, headerWords, payloadWords}
 use Rattle.promises.specs.Calls.{Read, ReadHard, ReadSoft, ReadBytes, in-hard, in-soft, in-bytes}

@@ -12,7 +12,7 @@ use Rattle.rules_rates.specs.Plain.{LengthOf, SevenOf}
 use Rattle.rules_chips.specs.Chips.{Taken}
 use Rattle.rules_bits.specs.Bits.{numberOf}
 use Rattle.rules_bits.specs.Crc.{crcBits}
-use Rattle.frame.specs.Frame.{kindOf, fieldBits}
+use Rattle.rules_frame.specs.Frame.{kindOf, fieldBits}
 use Rattle.calls.specs.declared.Record.{Record}
 use Rattle.reading.specs.Places.{UsableAt, UnusableFirst, FirstOddSymbol}
 use Rattle.reading.specs.Decoded.{FieldAt}

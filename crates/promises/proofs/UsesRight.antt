@@ -29,8 +29,8 @@ use Rattle.rules_chips.specs.Chips.{
 }
 use Rattle.rules_symbols.specs.Choice.{numbers, isAllowed}
 use Rattle.rules_choosing.specs.Demand3.{exactAt}
-use Rattle.frame.specs.declared.Kind.{Kind}
-use Rattle.frame.specs.Frame.{headerRate, headerLength, preambleChips, frontChips, frameChips, preambleLength}
+use Rattle.rules_frame.specs.declared.Kind.{Kind}
+use Rattle.rules_frame.specs.Frame.{headerRate, headerLength, preambleChips, frontChips, frameChips, preambleLength}
 use Rattle.reading.specs.Reading.{preambleWords, headerWords, payloadWords}
 use Rattle.promises.specs.Calls.{in-hard, in-soft, in-bytes}
 use Rattle.promises.specs.Right.{exactFrom, EachRight, exactHard, exactSoft, exactBytes}

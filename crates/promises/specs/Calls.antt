@@ -12,7 +12,7 @@ use lib.IntN.{ℤ}
 use lib.Ieee.{Float}
 use Rattle.rules_chips.specs.Chips.{Taken, hardRecording, softRecording, byteRecording}
 use Rattle.base.specs.Below.{Below}
-use Rattle.frame.specs.Frame.{kindOf}
+use Rattle.rules_frame.specs.Frame.{kindOf}
 use Rattle.calls.specs.declared.Written.{Written}
 use Rattle.calls.specs.declared.Record.{Record}
 use Rattle.calls.specs.Answers.{writtenOf, recordOf}

@@ -13,8 +13,8 @@ use Rattle.rules_chips.specs.declared.Counts.{Counts}
 use Rattle.rules_chips.specs.Chips.{Taken, takenCounts}
 use Rattle.rules_choosing.specs.Scores.{LeadsBy}
 use Rattle.rules_choosing.specs.Demand3.{LeadsExactly}
-use Rattle.frame.specs.declared.Kind.{Kind}
-use Rattle.frame.specs.Frame.{
+use Rattle.rules_frame.specs.declared.Kind.{Kind}
+use Rattle.rules_frame.specs.Frame.{
   kindOf,
   headerRate,
   frontChips,

@@ -19,8 +19,8 @@ use Rattle.rules_chips.specs.Floats.{usable, valueOf, countOf, Nearest}
 use Rattle.rules_chips.specs.Chips.{Taken}
 use Rattle.calls.specs.declared.Written.{Written}
 use Rattle.calls.specs.declared.Record.{Record}
-use Rattle.frame.specs.Frame.{kindOf, clockOf, frame}
-use Rattle.frame.specs.TableP.{TableP}
+use Rattle.rules_frame.specs.Frame.{kindOf, clockOf, frame}
+use Rattle.rules_frame.specs.TableP.{TableP}
 use Rattle.clean.specs.Clean.{Exactly, softI, softQ}
 use Rattle.promises.specs.Calls.{
   Wrote,

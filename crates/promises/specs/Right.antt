@@ -20,8 +20,8 @@ use Rattle.rules_chips.specs.Floats.{usable}
 use Rattle.rules_chips.specs.Chips.{nothing, exactOf, Taken, unusable, isUnusable, takenCounts, hardChip, byteExact}
 use Rattle.rules_chips.specs.Bounds.{Apart}
 use Rattle.rules_choosing.specs.Demand3.{RightUpTo}
-use Rattle.frame.specs.declared.Kind.{Kind}
-use Rattle.frame.specs.Frame.{headerRate, frontChips, frameChips, preambleLength, headerLength, preambleChips}
+use Rattle.rules_frame.specs.declared.Kind.{Kind}
+use Rattle.rules_frame.specs.Frame.{headerRate, frontChips, frameChips, preambleLength, headerLength, preambleChips}
 use Rattle.reading.specs.Reading.{preambleWords, headerWords, payloadWords}
 use Rattle.clean.specs.Clean.{sampleOf}
 use Rattle.promises.specs.Calls.{Rows, in-hard, in-soft, in-bytes, takenOf}

@@ -8,7 +8,7 @@ use mathlib.Core.List.{List}
 use Prim.Native.Nat.{ℕ, _≤_}
 use lib.ListN.{length}
 use Rattle.rules_chips.specs.Chips.{Taken}
-use Rattle.frame.specs.Frame.{isKind, kindOf, frameChips}
+use Rattle.rules_frame.specs.Frame.{isKind, kindOf, frameChips}
 use Rattle.calls.specs.declared.Refusal.{Refusal}
 use Rattle.calls.specs.declared.Refusal.the-variants.{NoKind, RowsDiffer}
 use Rattle.calls.specs.declared.Told.{Told}

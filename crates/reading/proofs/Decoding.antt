@@ -22,9 +22,9 @@ use Rattle.rules_bits.specs.Scrambler.{descramble}
 use Rattle.rules_bits.proofs.Heard.{heard-length}
 use Rattle.rules_bits.proofs.Scrambler.{descramble-length, descramble-at}
 use Rattle.rules_bits.proofs.Each.{before, heard-bit, last-heard, number-field, octet-of}
-use Rattle.frame.specs.declared.Kind.{Kind}
-use Rattle.frame.specs.declared.Kind.the-variants.{Long, Short}
-use Rattle.frame.specs.Frame.{
+use Rattle.rules_frame.specs.declared.Kind.{Kind}
+use Rattle.rules_frame.specs.declared.Kind.the-variants.{Long, Short}
+use Rattle.rules_frame.specs.Frame.{
   headerRate,
   start,
   frontChips,

@@ -19,9 +19,9 @@ use Rattle.rules_bits.specs.Crc.{crcBits}
 use Rattle.rules_bits.proofs.Bits.{bits-number}
 use Rattle.rules_bits.proofs.Crc.{crc-length, crc-below}
 use Rattle.rules_bits.proofs.Scrambler.{descramble-length, descramble-below}
-use Rattle.frame.specs.declared.Kind.{Kind}
-use Rattle.frame.specs.declared.Kind.the-variants.{Long, Short}
-use Rattle.frame.specs.Frame.{syncBits, start, preambleLength, fieldBits}
+use Rattle.rules_frame.specs.declared.Kind.{Kind}
+use Rattle.rules_frame.specs.declared.Kind.the-variants.{Long, Short}
+use Rattle.rules_frame.specs.Frame.{syncBits, start, preambleLength, fieldBits}
 use Rattle.reading.specs.Decoded.{FieldAt}
 use Rattle.reading.specs.Reading.{frontHeard, frontBits}
 use Rattle.reading.proofs.Refusals.{sfdHeard, headerHeard, signalHeard, serviceHeard, lengthHeard, CrcHeard}

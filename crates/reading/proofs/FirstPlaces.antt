@@ -22,9 +22,17 @@ use Rattle.rules_symbols.specs.Choice.{decided}
 use Rattle.rules_bits.specs.Growths.{grownBy, growthsOf}
 use Rattle.rules_bits.proofs.Heard.{growthsOf-length}
 use Rattle.rules_bits.proofs.Each.{before, growth-of, last-heard}
-use Rattle.frame.specs.declared.Kind.{Kind}
-use Rattle.frame.specs.declared.Kind.the-variants.{Long, Short}
-use Rattle.frame.specs.Frame.{headerRate, goesWith, frontChips, frameChips, preambleLength, headerLength, preambleChips}
+use Rattle.rules_frame.specs.declared.Kind.{Kind}
+use Rattle.rules_frame.specs.declared.Kind.the-variants.{Long, Short}
+use Rattle.rules_frame.specs.Frame.{
+  headerRate,
+  goesWith,
+  frontChips,
+  frameChips,
+  preambleLength,
+  headerLength,
+  preambleChips,
+}
 use Rattle.calls.specs.declared.Told.{Told}
 use Rattle.reading.specs.Places.{UsableAt, UnusableFirst, wordFrom, oddBehind, FirstOddSymbol}
 use Rattle.reading.specs.Reading.{

@@ -17,9 +17,9 @@ use Rattle.rules_rates.specs.Rates.{symbolChips, symbolBits}
 use Rattle.rules_chips.specs.Chips.{Taken, takenCounts}
 use Rattle.rules_symbols.specs.Choice.{decided}
 use Rattle.rules_bits.specs.Growths.{heardBits}
-use Rattle.frame.specs.declared.Kind.{Kind}
-use Rattle.frame.specs.declared.Kind.the-variants.{Long, Short}
-use Rattle.frame.specs.Frame.{headerRate, frontSymbols, preambleLength, headerLength}
+use Rattle.rules_frame.specs.declared.Kind.{Kind}
+use Rattle.rules_frame.specs.declared.Kind.the-variants.{Long, Short}
+use Rattle.rules_frame.specs.Frame.{headerRate, frontSymbols, preambleLength, headerLength}
 use Rattle.reading.specs.Places.{wordFrom}
 use Rattle.reading.specs.Reading.{decidedWords}
 use Rattle.reading.proofs.Sfd.{words-at}

@@ -6,8 +6,8 @@ use Prim.Native.Nat.{ℕ, _-_, _≤_, _<_}
 use borrow.Author.Tests.{lt-ltb, le-ltb}
 use lib.ListN.{take, drop}
 use Rattle.rules_chips.specs.Chips.{Taken}
-use Rattle.frame.specs.declared.Kind.{Kind}
-use Rattle.frame.specs.Frame.{frontChips, frameChips}
+use Rattle.rules_frame.specs.declared.Kind.{Kind}
+use Rattle.rules_frame.specs.Frame.{frontChips, frameChips}
 use Rattle.calls.specs.declared.Refusal.the-variants.{Unusable, OddGrowth, OctetRoom}
 use Rattle.calls.specs.declared.Told.{Told}
 use Rattle.calls.specs.declared.Reading.the-variants.{Refused, Good}

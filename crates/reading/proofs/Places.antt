@@ -16,9 +16,9 @@ use Rattle.rules_rates.specs.Rates.{symbolChips, symbolBits, octetChips}
 use Rattle.rules_chips.specs.Chips.{Taken}
 use Rattle.rules_bits.specs.Growths.{growthsOf}
 use Rattle.rules_bits.proofs.Heard.{growthsOf-length}
-use Rattle.frame.specs.declared.Kind.{Kind}
-use Rattle.frame.specs.declared.Kind.the-variants.{Long, Short}
-use Rattle.frame.specs.Frame.{headerRate, frontChips, preambleLength, headerLength, preambleChips, frameChips}
+use Rattle.rules_frame.specs.declared.Kind.{Kind}
+use Rattle.rules_frame.specs.declared.Kind.the-variants.{Long, Short}
+use Rattle.rules_frame.specs.Frame.{headerRate, frontChips, preambleLength, headerLength, preambleChips, frameChips}
 use Rattle.calls.specs.declared.Refusal.{Refusal}
 use Rattle.calls.specs.declared.Told.{Told}
 use Rattle.calls.specs.Answers.{refusalPlace}

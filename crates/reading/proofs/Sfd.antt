@@ -22,8 +22,8 @@ use Rattle.rules_bits.proofs.Heard.{heard-at, heard-length}
 use Rattle.rules_bits.specs.Scrambler.{descramble}
 use Rattle.rules_bits.proofs.Bits.{bits-number}
 use Rattle.rules_bits.proofs.Scrambler.{descramble-length, descramble-below, descramble-at}
-use Rattle.frame.specs.declared.Kind.{Kind}
-use Rattle.frame.specs.Frame.{sfdOf, syncBits, headerRate, start}
+use Rattle.rules_frame.specs.declared.Kind.{Kind}
+use Rattle.rules_frame.specs.Frame.{sfdOf, syncBits, headerRate, start}
 use Rattle.calls.specs.declared.Told.{Told}
 use Rattle.calls.specs.declared.Front.the-variants.{Fields}
 use Rattle.reading.specs.Reading.{

@@ -11,8 +11,8 @@ use lib.ListN.{length, take}
 use Rattle.base.proofs.Tests.{branch}
 use Rattle.rules_rates.specs.Rates.{lengthField}
 use Rattle.rules_chips.specs.Chips.{Taken}
-use Rattle.frame.specs.declared.Kind.{Kind}
-use Rattle.frame.specs.Frame.{goesWith, frontChips, frameChips}
+use Rattle.rules_frame.specs.declared.Kind.{Kind}
+use Rattle.rules_frame.specs.Frame.{goesWith, frontChips, frameChips}
 use Rattle.calls.specs.declared.Told.{Told}
 use Rattle.calls.specs.declared.Front.{Front}
 use Rattle.calls.specs.declared.Front.the-variants.{Refused, Fields}

@@ -17,8 +17,8 @@ use Rattle.rules_chips.specs.Chips.{Taken}
 use Rattle.rules_symbols.specs.Words.{phaseOf}
 use Rattle.rules_bits.specs.Bits.{numberOf}
 use Rattle.rules_bits.specs.Growths.{heardBits}
-use Rattle.frame.specs.declared.Kind.{Kind}
-use Rattle.frame.specs.Frame.{headerRate, frontChips, frontSymbols, preambleLength, headerLength}
+use Rattle.rules_frame.specs.declared.Kind.{Kind}
+use Rattle.rules_frame.specs.Frame.{headerRate, frontChips, frontSymbols, preambleLength, headerLength}
 use Rattle.reading.specs.Places.{wordFrom}
 
 -- ---- the symbols of a frame with a payload at rate r, counted from 0 at its first: the rate of each, the place of its

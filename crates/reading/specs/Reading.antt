@@ -16,7 +16,7 @@ use Rattle.rules_symbols.specs.Choice.{decided}
 use Rattle.rules_bits.specs.Bits.{octetsOf}
 use Rattle.rules_bits.specs.Growths.{heard, growthsOf, lastHeard}
 use Rattle.rules_bits.specs.Scrambler.{descramble}
-use Rattle.frame.specs.declared.Kind.{Kind}
+use Rattle.rules_frame.specs.declared.Kind.{Kind}
 use Rattle.calls.specs.declared.Refusal.the-variants.{
   NoKind,
   RowsDiffer,
@@ -33,7 +33,7 @@ use Rattle.calls.specs.declared.Reading.{Reading}
 use Rattle.calls.specs.declared.Reading.the-variants as reading
 use Rattle.calls.specs.Headers.{ours, headerOf}
 use Rattle.reading.specs.Leads.{frameLeads, leastOf}
-use Rattle.frame.specs.Frame.{
+use Rattle.rules_frame.specs.Frame.{
   isKind,
   kindOf,
   syncBits,

@@ -11,8 +11,8 @@ use lib.Dec.{eqb, ltb}
 use lib.ListN.{length, replicate, set}
 use Rattle.base.specs.Tables.{tabulate}
 use Rattle.rules_chips.specs.Chips.{hardRecording}
-use Rattle.frame.specs.declared.Kind.the-variants.{Long, Short}
-use Rattle.frame.specs.Frame.{frontChips}
+use Rattle.rules_frame.specs.declared.Kind.the-variants.{Long, Short}
+use Rattle.rules_frame.specs.Frame.{frontChips}
 use Rattle.reading.specs.Reading.{firstUnusable, frontOf, readingOf}
 use Rattle.report.specs.Totals.{Recording, Outcome, outcomeOf, total, frontTime, closestFrom}
 use Rattle.report.specs.Report.{

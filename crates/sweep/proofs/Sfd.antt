@@ -14,9 +14,9 @@ use Rattle.rules_chips.specs.Chips.{Taken, takenCounts}
 use Rattle.rules_symbols.specs.Choice.{decided}
 use Rattle.rules_bits.specs.Bits.{_⊕_, bitsOf, numberOf}
 use Rattle.rules_bits.specs.Growths.{grownBy}
-use Rattle.frame.specs.declared.Kind.{Kind}
-use Rattle.frame.specs.declared.Kind.the-variants.{Long, Short}
-use Rattle.frame.specs.Frame.{sfdOf, syncBits}
+use Rattle.rules_frame.specs.declared.Kind.{Kind}
+use Rattle.rules_frame.specs.declared.Kind.the-variants.{Long, Short}
+use Rattle.rules_frame.specs.Frame.{sfdOf, syncBits}
 use Rattle.calls.specs.declared.Told.{Told}
 use Rattle.calls.specs.declared.Front.the-variants.{Fields}
 use Rattle.reading.specs.Reading.{frontOf}

@@ -14,8 +14,8 @@ use Rattle.rules_rates.specs.declared.Rate.the-variants.{One}
 use Rattle.rules_chips.specs.Chips.{Taken}
 use Rattle.rules_symbols.specs.Choice.{decided}
 use Rattle.rules_bits.specs.Bits.{_⊕_, numberOf}
-use Rattle.frame.specs.declared.Kind.{Kind}
-use Rattle.frame.specs.Frame.{preambleChips}
+use Rattle.rules_frame.specs.declared.Kind.{Kind}
+use Rattle.rules_frame.specs.Frame.{preambleChips}
 use Rattle.recorded.specs.Recorded.{symbolAt}
 
 -- ---- at a place of a recording

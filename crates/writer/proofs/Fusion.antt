@@ -21,9 +21,9 @@ use Rattle.rules_bits.specs.Growths.{chipsFrom, lastPhase}
 use Rattle.rules_bits.specs.Scrambler.{scramble}
 use Rattle.rules_bits.proofs.Bits.{octet-bits-length}
 use Rattle.rules_bits.proofs.Scrambler.{scramble-append, scramble-length, scramble-window}
-use Rattle.frame.specs.declared.Kind.{Kind}
-use Rattle.frame.specs.declared.Kind.the-variants.{Long, Short}
-use Rattle.frame.specs.Frame.{
+use Rattle.rules_frame.specs.declared.Kind.{Kind}
+use Rattle.rules_frame.specs.declared.Kind.the-variants.{Long, Short}
+use Rattle.rules_frame.specs.Frame.{
   start,
   headerRate,
   frontChips,

@@ -2,7 +2,7 @@
 // first; whatever comes of it, the whole chip buffer is written.
 use calls::Writing;
 use calls::Written;
-use frame::Kind;
+use rules_frame::Kind;
 use lines::Line;
 use rules_rates::Rate;
 ghost use mathlib.Core.Path.{_≡_};
@@ -10,7 +10,7 @@ ghost use mathlib.Core.List.{_++_};
 ghost use Prim.Native.Nat.{_-_, _≤_};
 ghost use lib.ListN.{length, replicate};
 ghost use Rattle.base.specs.Over.{over};
-ghost use Rattle.frame.specs.Frame.{preambleChips, frontChips, frameChips, frame};
+ghost use Rattle.rules_frame.specs.Frame.{preambleChips, frontChips, frameChips, frame};
 ghost use Rattle.calls.specs.Writing.{writingOf, chipsWritten};
 ghost use Rattle.calls.specs.Answers.{writtenOf};
 ghost use Rattle.sending.specs.Sending.{run, ran};

@@ -8,9 +8,9 @@ use lib.ListN.{length}
 use borrow.Author.Needs.{needs}
 use Rattle.rules_chips.specs.Chips.{hardRecording}
 use Rattle.rules_chips.proofs.Recorders.{length-hard}
-use Rattle.frame.specs.declared.Kind.{Kind}
-use Rattle.frame.specs.declared.Kind.the-variants.{Long, Short}
-use Rattle.frame.specs.Frame.{sfdOf, preambleChips, frontChips}
+use Rattle.rules_frame.specs.declared.Kind.{Kind}
+use Rattle.rules_frame.specs.declared.Kind.the-variants.{Long, Short}
+use Rattle.rules_frame.specs.Frame.{sfdOf, preambleChips, frontChips}
 use Rattle.sweep.specs.Sweep.{halfAt, Row}
 use Rattle.sweep.proofs.Rows.{row-none}
 use Rattle.finder.proofs.Windows.{MissedBelow, unmarked, window-hit, window-miss, window-end, carried}

@@ -4,7 +4,7 @@ use Prim.Native.Nat.{ℕ}
 use mir.Val.{boolByte}
 use borrow.Author.Needs.{needs}
 use Rattle.rules_rates.specs.Rates.{codeOf}
-use Rattle.frame.proofs.Headers.{clock-byte}
+use Rattle.rules_frame.proofs.Headers.{clock-byte}
 use Rattle.calls.specs.declared.Told.{Told}
 use Rattle.finding.specs.declared.Finding.the-variants.{Start}
 use Rattle.finding.specs.declared.Found.{Found}

@@ -2,7 +2,7 @@
 use mathlib.Core.Path.{_≡_}
 use Prim.Native.Nat.{ℕ}
 use borrow.Author.Needs.{needs}
-use Rattle.frame.specs.declared.Kind.{Kind}
+use Rattle.rules_frame.specs.declared.Kind.{Kind}
 use Rattle.calls.specs.declared.Refusal.{Refusal}
 use Rattle.calls.specs.declared.Front.the-variants.{Refused}
 use Rattle.calls.specs.Answers.{refusalNumber, refusalPlace, refusalLength}

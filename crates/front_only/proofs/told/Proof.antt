@@ -4,9 +4,9 @@ use Prim.Native.Nat.{ℕ, _-_}
 use mir.Val.{boolByte}
 use borrow.Author.Needs.{needs}
 use Rattle.rules_rates.specs.Rates.{codeOf}
-use Rattle.frame.specs.declared.Kind.{Kind}
-use Rattle.frame.specs.Frame.{frontChips, frameChips}
-use Rattle.frame.proofs.Headers.{clock-byte}
+use Rattle.rules_frame.specs.declared.Kind.{Kind}
+use Rattle.rules_frame.specs.Frame.{frontChips, frameChips}
+use Rattle.rules_frame.proofs.Headers.{clock-byte}
 use Rattle.calls.specs.declared.Told.{Told}
 use Rattle.calls.specs.declared.Front.the-variants.{Fields}
 use Rattle.coming.specs.declared.Coming.{Coming}

@@ -6,7 +6,7 @@ use Prim.Native.Nat.{_/_, _%_}
 use borrow.Author.Needs.{needs}
 use Rattle.rules_rates.specs.declared.Rate.{Rate}
 use Rattle.rules_rates.specs.Rates.{isCode, rateOf}
-use Rattle.frame.specs.Frame.{goesWith}
+use Rattle.rules_frame.specs.Frame.{goesWith}
 use Rattle.calls.specs.Headers.{serviceAllowed, fieldsOf}
 use Rattle.header.specs.Code.{octetsTold}
 use Rattle.header.proofs.Lengths.{told-fails, told-holds}

@@ -2,7 +2,7 @@
 -- Assumes nothing.
 use mathlib.Core.Path.{ap, _∙_}
 use borrow.Author.Needs.{needs}
-use Rattle.frame.specs.Frame.{goesWith}
+use Rattle.rules_frame.specs.Frame.{goesWith}
 use Rattle.base.proofs.Tests.{failed, passed}
 use Rattle.header.proofs.signal_allowed.Statement.{statement}
 use Rattle.header.proofs.signal_allowed.Tie as tie

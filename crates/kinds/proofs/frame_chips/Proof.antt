@@ -4,7 +4,7 @@ use mathlib.Core.Path.{ap₂}
 use Prim.Native.Nat.{ℕ, _+_, _*_}
 use native.Mathlib.Omega.{arith}
 use borrow.Author.Needs.{needs}
-use Rattle.frame.proofs.Sizes.{frame-small}
+use Rattle.rules_frame.proofs.Sizes.{frame-small}
 use Rattle.kinds.proofs.frame_chips.Statement.{statement}
 use Rattle.kinds.proofs.frame_chips.Tie as tie
 

@@ -11,8 +11,8 @@ use Rattle.base.specs.Over.{over}
 use Rattle.base.proofs.Over.{over-next, over-filled}
 use Rattle.rules_rates.specs.declared.Rate.{Rate}
 use Rattle.rules_bits.specs.Bits.{octetBits}
-use Rattle.frame.specs.declared.Kind.{Kind}
-use Rattle.frame.specs.Frame.{frontChips, frameChips, sentHeader, frame}
+use Rattle.rules_frame.specs.declared.Kind.{Kind}
+use Rattle.rules_frame.specs.Frame.{frontChips, frameChips, sentHeader, frame}
 use Rattle.sending.specs.Sending.{State, run}
 use Rattle.sending.proofs.Run.{length-run}
 use Rattle.writer.specs.Parts.{frontSent, afterFront}

@@ -14,9 +14,9 @@ use Rattle.base.proofs.Over.{over-next}
 use Rattle.rules_rates.specs.declared.Rate.{Rate}
 use Rattle.rules_rates.specs.declared.Rate.the-variants.{One}
 use Rattle.rules_rates.specs.Rates.{octetChips}
-use Rattle.frame.specs.declared.Kind.{Kind}
-use Rattle.frame.specs.declared.Kind.the-variants.{Long, Short}
-use Rattle.frame.specs.Frame.{preambleChips, headerRate, frontChips}
+use Rattle.rules_frame.specs.declared.Kind.{Kind}
+use Rattle.rules_frame.specs.declared.Kind.the-variants.{Long, Short}
+use Rattle.rules_frame.specs.Frame.{preambleChips, headerRate, frontChips}
 use Rattle.sending.specs.Sending.{State, run, ran}
 use Rattle.sending.proofs.Run.{length-run}
 use Rattle.kinds.specs.Starts.{Starts}

@@ -6,12 +6,12 @@ use native.Mathlib.Omega.{arith}
 use lib.ListN.{length, replicate}
 use borrow.Author.Needs.{needs}
 use Rattle.rules_rates.specs.declared.Rate.{Rate}
-use Rattle.frame.specs.declared.Kind.{Kind}
+use Rattle.rules_frame.specs.declared.Kind.{Kind}
 use Rattle.calls.specs.declared.Refusal.{Refusal}
 use Rattle.calls.specs.declared.Writing.{Writing}
 use Rattle.calls.specs.declared.Writing.the-variants.{Refused, Good}
 use Rattle.calls.specs.declared.Written.{Written}
-use Rattle.frame.specs.Frame.{clockOf, frame}
+use Rattle.rules_frame.specs.Frame.{clockOf, frame}
 use Rattle.calls.specs.Writing.{writingOf, chipsWritten}
 use Rattle.calls.specs.Answers.{writtenOf}
 use Rattle.calls.proofs.WriteGood.{accepted}

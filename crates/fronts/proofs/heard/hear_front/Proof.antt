@@ -7,9 +7,9 @@ use native.Mathlib.Omega.{arith}
 use Rattle.rules_rates.specs.declared.Rate.{Rate}
 use Rattle.rules_rates.specs.Rates.{octetChips}
 use Rattle.rules_chips.specs.Chips.{Taken}
-use Rattle.frame.specs.declared.Kind.{Kind}
-use Rattle.frame.specs.declared.Kind.the-variants.{Long, Short}
-use Rattle.frame.specs.Frame.{frontChips, headerRate, preambleChips}
+use Rattle.rules_frame.specs.declared.Kind.{Kind}
+use Rattle.rules_frame.specs.declared.Kind.the-variants.{Long, Short}
+use Rattle.rules_frame.specs.Frame.{frontChips, headerRate, preambleChips}
 use Rattle.recorded.specs.Recorded.{AllUsable}
 use Rattle.recorded.proofs.Search.{usable-part}
 use Rattle.calls.specs.declared.Least.{Least}

@@ -11,8 +11,8 @@ use Rattle.rules_rates.specs.declared.Rate.{Rate}
 use Rattle.rules_rates.specs.Rates.{octetSymbols, octetChips}
 use Rattle.rules_chips.specs.Chips.{Taken}
 use Rattle.lines.specs.declared.Line.{Line}
-use Rattle.frame.specs.declared.Kind.{Kind}
-use Rattle.frame.specs.Frame.{frontChips, frameChips}
+use Rattle.rules_frame.specs.declared.Kind.{Kind}
+use Rattle.rules_frame.specs.Frame.{frontChips, frameChips}
 use Rattle.reading.specs.Reading.{payloadOdd, payloadOf}
 use Rattle.calls.specs.declared.Least.{Least}
 use Rattle.reading.specs.Leads.{frontLeads, frameLeads, leastOf}

@@ -7,7 +7,7 @@ use lib.IntN.{pos}
 use borrow.Author.Needs.{needs}
 use borrow.Author.Tests.{lt-ltb, le-ltb}
 use Rattle.rules_rates.specs.Rates.{isCode, rateOf, isPayload}
-use Rattle.frame.specs.Frame.{goesWith, frameChips, isKind, kindOf}
+use Rattle.rules_frame.specs.Frame.{goesWith, frameChips, isKind, kindOf}
 use Rattle.calls.specs.Writing.{writingOf}
 use Rattle.base.proofs.Tests.{failed, passed}
 use Rattle.rules_rates.proofs.Lengths.{payload-high}

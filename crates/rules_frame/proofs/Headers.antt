@@ -18,7 +18,7 @@ use Rattle.rules_bits.specs.Bits.{bitsOf}
 use Rattle.rules_bits.specs.Crc.{crcBits}
 use Rattle.rules_bits.proofs.Bits.{bits-below}
 use Rattle.rules_bits.proofs.Crc.{crc-length, crc-below}
-use Rattle.frame.specs.Frame.{clockOf, clockBit, fieldBits, headerBits, sentHeader}
+use Rattle.rules_frame.specs.Frame.{clockOf, clockBit, fieldBits, headerBits, sentHeader}
 
 pub clock-some : (clock : ℕ) → clockOf (suc clock) ≡ true
 clock-some clock = ap not (ne-eqb (suc clock) 0 (λ e. omega arith))

@@ -6,7 +6,7 @@ use Rattle.rules_bits.specs.Bits.{bitsOf, octetBits}
 use Rattle.rules_bits.specs.Growths.{growth, symbolOf, symbolsFrom, symbolsOf, chipsFrom, lastPhase}
 use Rattle.rules_bits.specs.Scrambler.{mixed, scramble}
 use Rattle.rules_bits.specs.Crc.{addWhere, crcStep, remainder, crcBits}
-use Rattle.frame.specs.Frame.{
+use Rattle.rules_frame.specs.Frame.{
   preambleBits,
   fieldBits,
   headerBits,
@@ -17,7 +17,7 @@ use Rattle.frame.specs.Frame.{
   framed,
   frame,
 }
-use Rattle.frame.specs.TableP.{TableP, computed, printed, five}
+use Rattle.rules_frame.specs.TableP.{TableP, computed, printed, five}
 
 pub table-p : TableP
 unfolding

@@ -16,9 +16,9 @@ use Rattle.rules_bits.specs.Bits.{bitsOf, octetBits}
 use Rattle.rules_bits.specs.Growths.{growth, symbolOf, symbolsFrom, symbolsOf, chipsFrom, lastPhase}
 use Rattle.rules_bits.specs.Scrambler.{mixed, scramble}
 use Rattle.rules_bits.specs.Crc.{addWhere, crcStep, remainder, crcBits}
-use Rattle.frame.specs.declared.Kind.{Kind}
-use Rattle.frame.specs.declared.Kind.the-variants.{Long, Short}
-use Rattle.frame.specs.Frame.{
+use Rattle.rules_frame.specs.declared.Kind.{Kind}
+use Rattle.rules_frame.specs.declared.Kind.the-variants.{Long, Short}
+use Rattle.rules_frame.specs.Frame.{
   isKind,
   kindOf,
   syncBits,

@@ -6,9 +6,9 @@ use Prim.Native.Nat.{ℕ, _+_, _/_}
 use native.Mathlib.Omega.{arith}
 use Rattle.rules_rates.specs.Rates.{symbolBits}
 use Rattle.rules_bits.specs.Growths.{halfTurn}
-use Rattle.frame.specs.declared.Kind.{Kind}
-use Rattle.frame.specs.declared.Kind.the-variants.{Long, Short}
-use Rattle.frame.specs.Frame.{preambleLength, headerLength, headerRate, frontSymbols}
+use Rattle.rules_frame.specs.declared.Kind.{Kind}
+use Rattle.rules_frame.specs.declared.Kind.the-variants.{Long, Short}
+use Rattle.rules_frame.specs.Frame.{preambleLength, headerLength, headerRate, frontSymbols}
 
 abbrev pub headerSymbols : Kind → ℕ
 headerSymbols k = headerLength / symbolBits (headerRate k)

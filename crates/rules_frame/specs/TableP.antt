@@ -15,8 +15,8 @@ use Rattle.rules_symbols.specs.Choice.{decided}
 use Rattle.rules_bits.specs.Growths.{symbolOf, chipsFrom}
 use Rattle.rules_bits.specs.Scrambler.{scramble}
 use Rattle.rules_bits.specs.Crc.{crcBits}
-use Rattle.frame.specs.declared.Kind.the-variants.{Long, Short}
-use Rattle.frame.specs.Frame.{start, preambleBits, frame}
+use Rattle.rules_frame.specs.declared.Kind.the-variants.{Long, Short}
+use Rattle.rules_frame.specs.Frame.{start, preambleBits, frame}
 
 -- the chips of a 5.5 Mbit/s symbol with p1 = 0 and d2 d3 = a b: d0 d1 = 00 grows by 0
 unfoldable pub five : ℕ → ℕ → List ℕ

@@ -13,8 +13,8 @@ use Rattle.rules_bits.specs.Bits.{bitsOf, octetBits}
 use Rattle.rules_bits.specs.Growths.{symbolsOf, chipsFrom, lastPhase}
 use Rattle.rules_bits.specs.Scrambler.{scramble}
 use Rattle.rules_bits.specs.Crc.{crcBits}
-use Rattle.frame.specs.declared.Kind.{Kind}
-use Rattle.frame.specs.declared.Kind.the-variants.{Long, Short}
+use Rattle.rules_frame.specs.declared.Kind.{Kind}
+use Rattle.rules_frame.specs.declared.Kind.the-variants.{Long, Short}
 
 -- kind is 0 (long) or 1 (short)
 abbrev pub isKind : ℕ → Bool

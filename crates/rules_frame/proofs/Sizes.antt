@@ -19,9 +19,9 @@ use Rattle.rules_bits.specs.Growths.{symbolsOf, chipsFrom, lastPhase}
 use Rattle.rules_bits.proofs.Bits.{bits-length, octet-bits-length}
 use Rattle.rules_bits.proofs.Growths.{symbolsFrom-length, chipsFrom-length}
 use Rattle.rules_bits.proofs.Scrambler.{scramble-length}
-use Rattle.frame.specs.declared.Kind.{Kind}
-use Rattle.frame.specs.declared.Kind.the-variants.{Long, Short}
-use Rattle.frame.specs.Frame.{
+use Rattle.rules_frame.specs.declared.Kind.{Kind}
+use Rattle.rules_frame.specs.declared.Kind.the-variants.{Long, Short}
+use Rattle.rules_frame.specs.Frame.{
   syncBits,
   syncBit,
   sfdOf,
@@ -38,7 +38,7 @@ use Rattle.frame.specs.Frame.{
   frame,
   frameChips,
 }
-use Rattle.frame.proofs.Headers.{sent-length}
+use Rattle.rules_frame.proofs.Headers.{sent-length}
 
 pub preamble-length : (k : Kind) → length (preambleBits k) ≡ preambleLength k
 unfolding preambleBits
