@@ -1,13 +1,13 @@
 // The answers of the calls as numbers: for each case of an enum its number and values.
-use calls::Reading;
-use calls::Record;
-use calls::Refusal;
-use calls::Writing;
-use calls::Written;
+use rules_calls::Reading;
+use rules_calls::Record;
+use rules_calls::Refusal;
+use rules_calls::Writing;
+use rules_calls::Written;
 // the type of a member that is passed over: a crate must know the types of what it takes apart
 use rules_frame::Kind;
 ghost use mathlib.Core.Path.{_≡_};
-ghost use Rattle.calls.specs.Answers.{refusalNumber, refusalPlace, refusalLength, writtenOf, recordOf};
+ghost use Rattle.rules_calls.specs.Answers.{refusalNumber, refusalPlace, refusalLength, writtenOf, recordOf};
 
 // The number of a refusal.
 pub fn number_of(e: Refusal) -> u64

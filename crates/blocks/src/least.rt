@@ -5,7 +5,7 @@ ghost use Prim.Native.Nat.{ℕ, _+_, _^_, _≤_, _<_};
 ghost use lib.Dec.{ltb};
 ghost use lib.ListN.{length, getD, take};
 ghost use Rattle.reading.specs.Leads.{leadAt, leastFrom, leastOf};
-use calls::Least;
+use rules_calls::Least;
 
 // Whether one of the first m leads may be below a number: no says that none is. Of a lead that is, the difference wraps
 // to 2^31 or more. There is no branch and no comparison, so that the compiler takes several at a time.

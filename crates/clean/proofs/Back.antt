@@ -16,12 +16,12 @@ use Rattle.rules_frame.specs.declared.Kind.{Kind}
 use Rattle.rules_frame.specs.Frame.{isKind, kindOf, goesWith, frontChips, sentHeader, frame, frameChips}
 use Rattle.rules_frame.proofs.Headers.{sent-length, sent-below}
 use Rattle.rules_frame.proofs.Sizes.{frame-length}
-use Rattle.calls.proofs.ReadBack.{header-back}
-use Rattle.calls.specs.declared.Told.{Told}
-use Rattle.calls.specs.declared.Refusal.the-variants.{ShorterThanFront, Ends, OctetRoom}
-use Rattle.calls.specs.declared.Front.the-variants as front
-use Rattle.calls.specs.declared.Reading.the-variants as reading
-use Rattle.calls.specs.Headers.{told}
+use Rattle.rules_calls.proofs.ReadBack.{header-back}
+use Rattle.rules_calls.specs.declared.Told.{Told}
+use Rattle.rules_calls.specs.declared.Refusal.the-variants.{ShorterThanFront, Ends, OctetRoom}
+use Rattle.rules_calls.specs.declared.Front.the-variants as front
+use Rattle.rules_calls.specs.declared.Reading.the-variants as reading
+use Rattle.rules_calls.specs.Headers.{told}
 use Rattle.reading.specs.Reading.{
   frontOf,
   payloadOf,

@@ -15,7 +15,7 @@ use Rattle.rules_frame.specs.declared.Kind.{Kind}
 use Rattle.rules_frame.specs.declared.Kind.the-variants.{Long, Short}
 use Rattle.rules_frame.specs.Frame.{headerRate, preambleLength, headerLength, frontSymbols}
 use Rattle.rules_frame.proofs.Parity.{front-symbols}
-use Rattle.calls.specs.declared.Least.{Least}
+use Rattle.rules_calls.specs.declared.Least.{Least}
 use Rattle.reading.specs.Leads.{frontLeads, payloadLeads, frameLeads, leadAt, leastFrom, leastOf}
 use Rattle.reading.proofs.Leads.{leastOf-joined, least-kept, least-found}
 use Rattle.clean.specs.Clean.{cleanLeast}

@@ -45,11 +45,11 @@ use Rattle.rules_frame.specs.Frame.{
   frameChips,
 }
 use Rattle.rules_frame.proofs.Sizes.{preamble-length, sent-counted, framed-length}
-use Rattle.calls.specs.declared.Told.{Told}
-use Rattle.calls.specs.declared.Front.the-variants as front
-use Rattle.calls.specs.declared.Reading.the-variants as reading
-use Rattle.calls.specs.declared.Refusal.the-variants.{OctetRoom}
-use Rattle.calls.specs.Headers.{ours, headerOf, told}
+use Rattle.rules_calls.specs.declared.Told.{Told}
+use Rattle.rules_calls.specs.declared.Front.the-variants as front
+use Rattle.rules_calls.specs.declared.Reading.the-variants as reading
+use Rattle.rules_calls.specs.declared.Refusal.the-variants.{OctetRoom}
+use Rattle.rules_calls.specs.Headers.{ours, headerOf, told}
 use Rattle.reading.specs.Leads.{frontLeads, payloadLeads, frameLeads, leastOf}
 use Rattle.reading.specs.Reading.{
   firstUnusable,

@@ -14,7 +14,7 @@ use Rattle.rules_chips.specs.declared.Chip.the-variants.{Soft}
 use Rattle.rules_chips.specs.Chips.{Taken, counted, fullChip, usableSample, exactOf}
 use Rattle.rules_frame.specs.declared.Kind.{Kind}
 use Rattle.rules_frame.specs.Frame.{frontSymbols}
-use Rattle.calls.specs.declared.Least.{Least}
+use Rattle.rules_calls.specs.declared.Least.{Least}
 use Rattle.reading.specs.Leads.{leadAt}
 
 -- a chip sent with phase p and recorded as a full chip at p

@@ -39,7 +39,7 @@ use Rattle.rules_frame.specs.Frame.{
   framed,
   frame,
 }
-use Rattle.calls.specs.declared.Refusal.the-variants.{
+use Rattle.rules_calls.specs.declared.Refusal.the-variants.{
   NoKind,
   ShorterThanFront,
   Unusable,
@@ -51,9 +51,9 @@ use Rattle.calls.specs.declared.Refusal.the-variants.{
   Length,
   Ends,
 }
-use Rattle.calls.specs.declared.Front.{Front}
-use Rattle.calls.specs.declared.Front.the-variants.{Refused, Fields}
-use Rattle.calls.specs.Headers.{told, sameBits, fieldsOf, headerOf}
+use Rattle.rules_calls.specs.declared.Front.{Front}
+use Rattle.rules_calls.specs.declared.Front.the-variants.{Refused, Fields}
+use Rattle.rules_calls.specs.Headers.{told, sameBits, fieldsOf, headerOf}
 use Rattle.reading.specs.Reading.{
   firstUnusable,
   firstOdd,

@@ -14,12 +14,12 @@ use lib.ListN.{length, take, drop}
 use Rattle.rules_chips.specs.Chips.{Taken}
 use Rattle.rules_frame.specs.declared.Kind.{Kind}
 use Rattle.rules_frame.specs.Frame.{isKind, kindOf, frameChips}
-use Rattle.calls.specs.declared.Refusal.{Refusal}
-use Rattle.calls.specs.declared.Refusal.the-variants.{NoKind, Ends}
-use Rattle.calls.specs.declared.Told.{Told}
-use Rattle.calls.specs.declared.Front.{Front}
-use Rattle.calls.specs.declared.Front.the-variants as front
-use Rattle.calls.specs.declared.Reading.the-variants as reading
+use Rattle.rules_calls.specs.declared.Refusal.{Refusal}
+use Rattle.rules_calls.specs.declared.Refusal.the-variants.{NoKind, Ends}
+use Rattle.rules_calls.specs.declared.Told.{Told}
+use Rattle.rules_calls.specs.declared.Front.{Front}
+use Rattle.rules_calls.specs.declared.Front.the-variants as front
+use Rattle.rules_calls.specs.declared.Reading.the-variants as reading
 use Rattle.reading.specs.Reading.{frontOf, wholeOf, afterFront, readingOf}
 use Rattle.reading.proofs.Telling.{TellingWhole, TellingWholeIf, whole-telling}
 use Rattle.reading.proofs.Refusals.{WholeRefusal, RefusesIf, whole-refuses}

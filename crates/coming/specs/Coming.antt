@@ -10,10 +10,10 @@ use Rattle.rules_rates.specs.Rates.{codeOf}
 use Rattle.rules_chips.specs.Chips.{Taken}
 use Rattle.rules_frame.specs.declared.Kind.{Kind}
 use Rattle.rules_frame.specs.Frame.{isKind, kindOf, clockBit, frontChips, frameChips}
-use Rattle.calls.specs.declared.Refusal.the-variants.{NoKind}
-use Rattle.calls.specs.declared.Front.{Front}
-use Rattle.calls.specs.declared.Front.the-variants.{Refused, Fields}
-use Rattle.calls.specs.Answers.{refusalNumber, refusalPlace, refusalLength}
+use Rattle.rules_calls.specs.declared.Refusal.the-variants.{NoKind}
+use Rattle.rules_calls.specs.declared.Front.{Front}
+use Rattle.rules_calls.specs.declared.Front.the-variants.{Refused, Fields}
+use Rattle.rules_calls.specs.Answers.{refusalNumber, refusalPlace, refusalLength}
 use Rattle.reading.specs.Reading.{frontOf, wholeOf}
 use Rattle.coming.specs.declared.Coming.{Coming}
 

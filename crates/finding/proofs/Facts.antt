@@ -38,10 +38,10 @@ use Rattle.rules_frame.specs.Frame.{
   framed,
   frame,
 }
-use Rattle.calls.specs.declared.Refusal.the-variants.{Crc}
-use Rattle.calls.specs.declared.Front.the-variants as front
-use Rattle.calls.specs.declared.Told.{Told}
-use Rattle.calls.specs.Headers.{told, sameBits, fieldsOf, headerOf}
+use Rattle.rules_calls.specs.declared.Refusal.the-variants.{Crc}
+use Rattle.rules_calls.specs.declared.Front.the-variants as front
+use Rattle.rules_calls.specs.declared.Told.{Told}
+use Rattle.rules_calls.specs.Headers.{told, sameBits, fieldsOf, headerOf}
 use Rattle.reading.specs.Reading.{
   firstUnusable,
   firstOdd,

@@ -9,9 +9,9 @@ use lib.ListN.{drop}
 use lib.Seq.{drop-drop}
 use Rattle.rules_chips.specs.Chips.{Taken}
 use Rattle.rules_frame.specs.declared.Kind.{Kind}
-use Rattle.calls.specs.declared.Told.{Told}
-use Rattle.calls.specs.declared.Front.{Front}
-use Rattle.calls.specs.declared.Front.the-variants as front
+use Rattle.rules_calls.specs.declared.Told.{Told}
+use Rattle.rules_calls.specs.declared.Front.{Front}
+use Rattle.rules_calls.specs.declared.Front.the-variants as front
 use Rattle.reading.specs.Reading.{frontOf}
 use Rattle.finding.specs.declared.NotFound.{NotFound}
 use Rattle.finding.specs.declared.NotFound.the-variants.{NoStart}

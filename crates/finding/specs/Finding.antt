@@ -10,8 +10,8 @@ use Rattle.rules_rates.specs.Rates.{codeOf}
 use Rattle.rules_chips.specs.Chips.{Taken}
 use Rattle.rules_frame.specs.declared.Kind.{Kind}
 use Rattle.rules_frame.specs.Frame.{isKind, kindOf, clockBit}
-use Rattle.calls.specs.declared.Front.{Front}
-use Rattle.calls.specs.declared.Front.the-variants as front
+use Rattle.rules_calls.specs.declared.Front.{Front}
+use Rattle.rules_calls.specs.declared.Front.the-variants as front
 use Rattle.reading.specs.Reading.{frontOf}
 use Rattle.finding.specs.declared.NotFound.{NotFound}
 use Rattle.finding.specs.declared.NotFound.the-variants.{NoKind, NoOffsets, NoStart}

@@ -1,5 +1,5 @@
 // Finding the start: what the call that looks for a front answers, and why it may refuse. Types only.
-use calls::Told;
+use rules_calls::Told;
 
 // Why no start is told: 1, 18 and 19. None has a place or a LENGTH.
 pub enum NotFound {

@@ -34,7 +34,7 @@ use Rattle.reading.specs.Reading.{
   payloadOdd,
   payloadOf,
 }
-use Rattle.calls.specs.declared.Least.{Least}
+use Rattle.rules_calls.specs.declared.Least.{Least}
 use Rattle.reading.specs.Leads.{frontLeads, frameLeads, leastFrom, leastOf}
 use Rattle.recorded.specs.Recorded.{whereFound}
 use Rattle.lines.specs.declared.Line.{Line}

@@ -31,7 +31,7 @@ use Rattle.rules_frame.specs.declared.Kind.{Kind}
 use Rattle.rules_frame.specs.declared.Kind.the-variants.{Long, Short}
 use Rattle.rules_frame.specs.Frame.{start, syncBits, preambleLength, frontChips}
 use Rattle.reading.specs.Reading.{orElse, oddGrowth, decidedWords, preambleWords, reference, headerPhase}
-use Rattle.calls.specs.declared.Least.{Least}
+use Rattle.rules_calls.specs.declared.Least.{Least}
 use Rattle.reading.specs.Leads.{leastFrom, leastOf}
 use Rattle.recorded.specs.Recorded.{whereFound, symbolAt, DecidedAt, LeadsAt}
 use Rattle.blocks.specs.declared.Hearing.{Hearing}

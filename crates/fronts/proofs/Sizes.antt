@@ -9,12 +9,12 @@ use lib.ListN.{length}
 use borrow.Author.Tests.{lt-ltb, le-ltb}
 use Rattle.rules_chips.specs.Chips.{Taken}
 use Rattle.rules_frame.specs.declared.Kind.{Kind}
-use Rattle.calls.specs.declared.Refusal.{Refusal}
-use Rattle.calls.specs.declared.Refusal.the-variants.{Ends}
-use Rattle.calls.specs.declared.Told.{Told}
-use Rattle.calls.specs.declared.Front.the-variants.{Refused, Fields}
+use Rattle.rules_calls.specs.declared.Refusal.{Refusal}
+use Rattle.rules_calls.specs.declared.Refusal.the-variants.{Ends}
+use Rattle.rules_calls.specs.declared.Told.{Told}
+use Rattle.rules_calls.specs.declared.Front.the-variants.{Refused, Fields}
 use Rattle.rules_frame.specs.Frame.{frameChips}
-use Rattle.calls.specs.Headers.{told}
+use Rattle.rules_calls.specs.Headers.{told}
 use Rattle.reading.specs.Reading.{frontOf, wholeOf}
 use Rattle.reading.proofs.Telling.{TellingIf, front-telling}
 use Rattle.fronts.specs.Openings.{Opens, OpensWhole}

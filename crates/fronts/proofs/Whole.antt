@@ -41,7 +41,7 @@ use Rattle.reading.specs.Reading.{
   frontHeard,
   frontBits,
 }
-use Rattle.calls.specs.declared.Least.{Least}
+use Rattle.rules_calls.specs.declared.Least.{Least}
 use Rattle.reading.specs.Leads.{decidedLeads, leastFrom}
 use Rattle.reading.proofs.Leads.{front-least}
 use Rattle.recorded.specs.Recorded.{whereFound}

@@ -15,11 +15,11 @@ use Rattle.lines.specs.declared.Line.{Line}
 use Rattle.rules_frame.specs.declared.Kind.{Kind}
 use Rattle.rules_frame.specs.declared.Kind.the-variants.{Long, Short}
 use Rattle.rules_frame.specs.Frame.{start, syncBits, preambleLength, frameChips}
-use Rattle.calls.specs.declared.Refusal.the-variants.{OddGrowth}
-use Rattle.calls.specs.declared.Told.{Told}
-use Rattle.calls.specs.declared.Front.{Front}
-use Rattle.calls.specs.declared.Front.the-variants.{Refused, Fields}
-use Rattle.calls.specs.Headers.{ours, headerOf}
+use Rattle.rules_calls.specs.declared.Refusal.the-variants.{OddGrowth}
+use Rattle.rules_calls.specs.declared.Told.{Told}
+use Rattle.rules_calls.specs.declared.Front.{Front}
+use Rattle.rules_calls.specs.declared.Front.the-variants.{Refused, Fields}
+use Rattle.rules_calls.specs.Headers.{ours, headerOf}
 use Rattle.reading.specs.Reading.{
   orElse,
   oddGrowth,

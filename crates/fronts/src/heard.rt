@@ -17,7 +17,7 @@ ghost use Rattle.fronts.specs.Openings.{
 use super::FrontHeard;
 use super::Preamble;
 use blocks::Hearing;
-use calls::Least;
+use rules_calls::Least;
 use rules_frame::Kind;
 use hearing::Part;
 use lines::Line;

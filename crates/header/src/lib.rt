@@ -1,7 +1,7 @@
 // The header's six octets: what they tell a reader, and those that a writer sends.
-use calls::Front;
-use calls::Refusal;
-use calls::Told;
+use rules_calls::Front;
+use rules_calls::Refusal;
+use rules_calls::Told;
 use rules_frame::Kind;
 use rules_rates::Rate;
 ghost use mathlib.Core.Path.{_≡_};
@@ -14,7 +14,7 @@ ghost use Rattle.rules_rates.specs.Rates.{isCode, rateOf};
 ghost use Rattle.rules_bits.specs.Bits.{numberOf, octetBits};
 ghost use Rattle.rules_bits.specs.Crc.{crcBits};
 ghost use Rattle.rules_frame.specs.Frame.{sfdOf, goesWith, headerBits, sentHeader};
-ghost use Rattle.calls.specs.Headers.{serviceAllowed, ours, sameBits, fieldsOf, headerOf};
+ghost use Rattle.rules_calls.specs.Headers.{serviceAllowed, ours, sameBits, fieldsOf, headerOf};
 ghost use Rattle.header.specs.Code.{octetsTold};
 
 mod crc;

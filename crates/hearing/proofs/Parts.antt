@@ -40,7 +40,7 @@ use Rattle.rules_bits.proofs.Heard.{
   growthsOf-length,
   heard-length,
 }
-use Rattle.calls.specs.declared.Least.{Least}
+use Rattle.rules_calls.specs.declared.Least.{Least}
 use Rattle.reading.specs.Reading.{orElse, firstOdd, oddGrowth, decidedWords}
 use Rattle.reading.specs.Leads.{decidedLeads, leastFrom}
 use Rattle.recorded.specs.declared.Place.the-variants.{Nothing}

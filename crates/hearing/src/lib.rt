@@ -14,7 +14,7 @@ ghost use Rattle.codes.specs.Codes.{BlockOf};
 ghost use Rattle.blocks.specs.Heard.{plainOctets, Heard};
 ghost use Rattle.hearing.specs.Hearing.{partWords, partLeads, PartHeard};
 use blocks::Hearing;
-use calls::Least;
+use rules_calls::Least;
 use lines::Line;
 use rules_rates::Rate;
 use recorded::Place;

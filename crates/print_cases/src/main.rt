@@ -1,8 +1,8 @@
 // What a program in Rattle calls: a frame is written, read, asked what is coming, spoilt and read again; then readings
 // that are refused. Nothing is proved of what a program writes but that it is safe and ends; what it writes is compared
 // with the file stdout.
-use calls::Record;
-use calls::Written;
+use rules_calls::Record;
+use rules_calls::Written;
 use coming::Coming;
 use libc::STDOUT_FILENO;
 

@@ -8,7 +8,7 @@ use lib.ListN.{length, take, replicate}
 use lib.IntN.{ℤ, pos, negℤ}
 use lib.Ieee.{nan}
 use Rattle.rules_chips.specs.Chips.{hardRecording, byteRecording}
-use Rattle.calls.specs.declared.Record.{Record}
+use Rattle.rules_calls.specs.declared.Record.{Record}
 use Rattle.reading.specs.Reading.{frontOf, readingOf}
 use Rattle.clean.specs.Clean.{byteRow}
 use Rattle.coming.specs.declared.Coming.{Coming}

@@ -25,13 +25,13 @@ use Rattle.rules_frame.specs.declared.Kind.{Kind}
 use Rattle.rules_frame.specs.Frame.{isKind, kindOf, clockOf, clockBit, goesWith, frontChips, frame, frameChips}
 use Rattle.rules_frame.proofs.Headers.{clock-some}
 use Rattle.rules_frame.proofs.Sizes.{frame-length}
-use Rattle.calls.specs.declared.Writing.the-variants as writing
-use Rattle.calls.specs.declared.Written.{Written}
-use Rattle.calls.specs.declared.Least.{Least}
-use Rattle.calls.specs.declared.Record.{Record}
+use Rattle.rules_calls.specs.declared.Writing.the-variants as writing
+use Rattle.rules_calls.specs.declared.Written.{Written}
+use Rattle.rules_calls.specs.declared.Least.{Least}
+use Rattle.rules_calls.specs.declared.Record.{Record}
 use Rattle.reading.specs.Leads.{leadAt}
-use Rattle.calls.specs.Answers.{writtenOf, recordOf}
-use Rattle.calls.specs.Writing.{writingOf, chipsAfter, chipsWritten}
+use Rattle.rules_calls.specs.Answers.{writtenOf, recordOf}
+use Rattle.rules_calls.specs.Writing.{writingOf, chipsAfter, chipsWritten}
 use Rattle.clean.specs.Clean.{cleanRecording, cleanLeast, byteRow}
 use Rattle.clean.proofs.Recorded.{hard-recorded, soft-recorded, rows-agree, byte-recorded, byte-row-length}
 use Rattle.clean.proofs.Decided.{clean-take}

@@ -16,13 +16,13 @@ use Rattle.rules_chips.proofs.Recorders.{length-hard, take-hard}
 use Rattle.rules_frame.specs.declared.Kind.{Kind}
 use Rattle.rules_frame.specs.Frame.{isKind, kindOf, clockBit, frontChips, frameChips}
 use Rattle.rules_frame.proofs.Headers.{clock-lt}
-use Rattle.calls.specs.declared.Refusal.{Refusal}
-use Rattle.calls.specs.declared.Told.{Told}
-use Rattle.calls.specs.declared.Front.{Front}
-use Rattle.calls.specs.declared.Front.the-variants.{Refused, Fields}
-use Rattle.calls.specs.declared.Reading.{Reading}
-use Rattle.calls.specs.declared.Record.{Record}
-use Rattle.calls.specs.Answers.{refusalPlace, recordOf}
+use Rattle.rules_calls.specs.declared.Refusal.{Refusal}
+use Rattle.rules_calls.specs.declared.Told.{Told}
+use Rattle.rules_calls.specs.declared.Front.{Front}
+use Rattle.rules_calls.specs.declared.Front.the-variants.{Refused, Fields}
+use Rattle.rules_calls.specs.declared.Reading.{Reading}
+use Rattle.rules_calls.specs.declared.Record.{Record}
+use Rattle.rules_calls.specs.Answers.{refusalPlace, recordOf}
 use Rattle.reading.specs.Reading.{frontOf, payloadOdd, payloadReading, afterFront}
 use Rattle.reading.proofs.Payloads.{foundUnusable, room-refused, unusable-refused, odd-refused, payload-good}
 use Rattle.reading.proofs.Telling.{TellingWhole}

@@ -40,9 +40,9 @@ use Rattle.rules_frame.specs.Frame.{
   framed,
   frame,
 }
-use Rattle.calls.specs.declared.Record.{Record}
-use Rattle.calls.specs.Answers.{recordOf}
-use Rattle.calls.specs.Headers.{sameBits, fieldsOf, headerOf}
+use Rattle.rules_calls.specs.declared.Record.{Record}
+use Rattle.rules_calls.specs.Answers.{recordOf}
+use Rattle.rules_calls.specs.Headers.{sameBits, fieldsOf, headerOf}
 use Rattle.reading.specs.Leads.{decidedLeads, frontLeads, payloadLeads, leastFrom, leastOf}
 use Rattle.reading.specs.Reading.{
   firstUnusable,

@@ -10,10 +10,10 @@ use Rattle.rules_rates.specs.Rates.{rateOf}
 use Rattle.rules_chips.specs.Chips.{Taken}
 use Rattle.rules_frame.specs.declared.Kind.{Kind}
 use Rattle.rules_frame.specs.Frame.{kindOf, syncBits}
-use Rattle.calls.specs.declared.Record.{Record}
-use Rattle.calls.specs.declared.Reading.{Reading}
-use Rattle.calls.specs.declared.Reading.the-variants as reading
-use Rattle.calls.specs.Answers.{recordOf}
+use Rattle.rules_calls.specs.declared.Record.{Record}
+use Rattle.rules_calls.specs.declared.Reading.{Reading}
+use Rattle.rules_calls.specs.declared.Reading.the-variants as reading
+use Rattle.rules_calls.specs.Answers.{recordOf}
 use Rattle.reading.specs.Decoded.{FieldAt}
 use Rattle.reading.specs.Reading.{payloadOf, readingOf, octetsAfter, octetsFound}
 use Rattle.reading.proofs.Decoding.{payload-octet}

@@ -13,8 +13,8 @@ use Rattle.rules_rates.specs.declared.Rate.{Rate}
 use Rattle.rules_chips.specs.Chips.{Taken}
 use Rattle.rules_bits.proofs.Bits.{octets-length}
 use Rattle.rules_frame.specs.declared.Kind.{Kind}
-use Rattle.calls.specs.declared.Refusal.{Refusal}
-use Rattle.calls.specs.declared.Refusal.the-variants.{
+use Rattle.rules_calls.specs.declared.Refusal.{Refusal}
+use Rattle.rules_calls.specs.declared.Refusal.the-variants.{
   NoKind,
   NoRate,
   ShortRate,
@@ -33,19 +33,19 @@ use Rattle.calls.specs.declared.Refusal.the-variants.{
   Ends,
   OctetRoom,
 }
-use Rattle.calls.specs.declared.Writing.{Writing}
-use Rattle.calls.specs.declared.Writing.the-variants as writing
-use Rattle.calls.specs.declared.Told.{Told}
-use Rattle.calls.specs.declared.Front.{Front}
-use Rattle.calls.specs.declared.Front.the-variants as front
-use Rattle.calls.specs.declared.Reading.{Reading}
-use Rattle.calls.specs.declared.Reading.the-variants as reading
-use Rattle.calls.specs.declared.Written.{Written}
-use Rattle.calls.specs.declared.Record.{Record}
+use Rattle.rules_calls.specs.declared.Writing.{Writing}
+use Rattle.rules_calls.specs.declared.Writing.the-variants as writing
+use Rattle.rules_calls.specs.declared.Told.{Told}
+use Rattle.rules_calls.specs.declared.Front.{Front}
+use Rattle.rules_calls.specs.declared.Front.the-variants as front
+use Rattle.rules_calls.specs.declared.Reading.{Reading}
+use Rattle.rules_calls.specs.declared.Reading.the-variants as reading
+use Rattle.rules_calls.specs.declared.Written.{Written}
+use Rattle.rules_calls.specs.declared.Record.{Record}
 use Rattle.rules_frame.specs.Frame.{frame, frameChips, isKind, kindOf, clockOf}
 use Rattle.rules_frame.proofs.Sizes.{frame-length}
-use Rattle.calls.specs.Answers.{refusalNumber, writtenOf, recordOf}
-use Rattle.calls.specs.Writing.{writingOf, chipsAfter, chipsWritten}
+use Rattle.rules_calls.specs.Answers.{refusalNumber, writtenOf, recordOf}
+use Rattle.rules_calls.specs.Writing.{writingOf, chipsAfter, chipsWritten}
 use Rattle.reading.specs.Reading.{
   frontOf,
   payloadOf,
@@ -57,7 +57,7 @@ use Rattle.reading.specs.Reading.{
   octetsFound,
 }
 use Rattle.reading.proofs.Refusals.{PayloadIf, payload-comes}
-use Rattle.calls.proofs.WriteGood.{accepted}
+use Rattle.rules_calls.proofs.WriteGood.{accepted}
 use Rattle.promises.specs.Promises.{WriteFills, ReadFills}
 
 -- every refusal has a number other than 0

@@ -33,15 +33,15 @@ use Rattle.rules_chips.proofs.Bytes.{length-bytes}
 use Rattle.rules_frame.specs.declared.Kind.{Kind}
 use Rattle.rules_frame.specs.declared.Kind.the-variants.{Long, Short}
 use Rattle.rules_frame.specs.Frame.{isKind, kindOf, frontChips, frameChips}
-use Rattle.calls.specs.declared.Refusal.the-variants.{Unusable, OddGrowth}
-use Rattle.calls.specs.declared.Told.{Told}
-use Rattle.calls.specs.declared.Record.{Record}
-use Rattle.calls.specs.declared.Front.{Front}
-use Rattle.calls.specs.declared.Front.the-variants as front
-use Rattle.calls.specs.declared.Reading.{Reading}
-use Rattle.calls.specs.declared.Reading.the-variants as reading
-use Rattle.calls.specs.Answers.{recordOf}
-use Rattle.calls.specs.Headers.{ours, headerOf}
+use Rattle.rules_calls.specs.declared.Refusal.the-variants.{Unusable, OddGrowth}
+use Rattle.rules_calls.specs.declared.Told.{Told}
+use Rattle.rules_calls.specs.declared.Record.{Record}
+use Rattle.rules_calls.specs.declared.Front.{Front}
+use Rattle.rules_calls.specs.declared.Front.the-variants as front
+use Rattle.rules_calls.specs.declared.Reading.{Reading}
+use Rattle.rules_calls.specs.declared.Reading.the-variants as reading
+use Rattle.rules_calls.specs.Answers.{recordOf}
+use Rattle.rules_calls.specs.Headers.{ours, headerOf}
 use Rattle.reading.specs.Reading.{
   orElse,
   firstUnusable,

@@ -34,13 +34,13 @@ use Rattle.rules_frame.specs.Frame.{
   preambleChips,
 }
 use Rattle.rules_frame.proofs.Parity.{front-symbols}
-use Rattle.calls.specs.declared.Told.{Told}
-use Rattle.calls.specs.declared.Record.{Record}
-use Rattle.calls.specs.declared.Front.{Front}
-use Rattle.calls.specs.declared.Front.the-variants as front
-use Rattle.calls.specs.declared.Reading.{Reading}
-use Rattle.calls.specs.declared.Reading.the-variants as reading
-use Rattle.calls.specs.Answers.{recordOf}
+use Rattle.rules_calls.specs.declared.Told.{Told}
+use Rattle.rules_calls.specs.declared.Record.{Record}
+use Rattle.rules_calls.specs.declared.Front.{Front}
+use Rattle.rules_calls.specs.declared.Front.the-variants as front
+use Rattle.rules_calls.specs.declared.Reading.{Reading}
+use Rattle.rules_calls.specs.declared.Reading.the-variants as reading
+use Rattle.rules_calls.specs.Answers.{recordOf}
 use Rattle.reading.specs.Leads.{decidedLeads, frontLeads, payloadLeads, frameLeads, leastOf}
 use Rattle.reading.specs.Reading.{
   preambleWords,

@@ -14,15 +14,15 @@ use Rattle.base.proofs.Tests.{branch}
 use Rattle.rules_chips.specs.Chips.{Taken, isUnusable, byteRecording}
 use Rattle.rules_frame.specs.declared.Kind.{Kind}
 use Rattle.rules_frame.specs.Frame.{isKind, kindOf, frontChips, frameChips}
-use Rattle.calls.specs.declared.Refusal.{Refusal}
-use Rattle.calls.specs.declared.Refusal.the-variants.{NoKind, RowsDiffer}
-use Rattle.calls.specs.declared.Told.{Told}
-use Rattle.calls.specs.declared.Front.{Front}
-use Rattle.calls.specs.declared.Front.the-variants as front
-use Rattle.calls.specs.declared.Reading.{Reading}
-use Rattle.calls.specs.declared.Reading.the-variants as reading
-use Rattle.calls.specs.declared.Record.{Record}
-use Rattle.calls.specs.Answers.{refusalNumber, recordOf}
+use Rattle.rules_calls.specs.declared.Refusal.{Refusal}
+use Rattle.rules_calls.specs.declared.Refusal.the-variants.{NoKind, RowsDiffer}
+use Rattle.rules_calls.specs.declared.Told.{Told}
+use Rattle.rules_calls.specs.declared.Front.{Front}
+use Rattle.rules_calls.specs.declared.Front.the-variants as front
+use Rattle.rules_calls.specs.declared.Reading.{Reading}
+use Rattle.rules_calls.specs.declared.Reading.the-variants as reading
+use Rattle.rules_calls.specs.declared.Record.{Record}
+use Rattle.rules_calls.specs.Answers.{refusalNumber, recordOf}
 use Rattle.reading.specs.Reading.{firstUnusable, frontOf, wholeOf, payloadReading, afterFront, readingOf}
 use Rattle.promises.specs.Calls.{Read, in-hard, in-soft, in-bytes, refused}
 use Rattle.promises.specs.Only.{RowsRefused, NoByteUnusable}

@@ -22,18 +22,18 @@ use Rattle.rules_chips.specs.Chips.{Taken}
 use Rattle.rules_frame.specs.declared.Kind.{Kind}
 use Rattle.rules_frame.specs.Frame.{isKind, kindOf, goesWith, frontChips, frameChips}
 use Rattle.rules_frame.proofs.Headers.{clock-lt}
-use Rattle.calls.specs.declared.Writing.{Writing}
-use Rattle.calls.specs.declared.Writing.the-variants as writing
-use Rattle.calls.specs.declared.Told.{Told}
-use Rattle.calls.specs.declared.Front.{Front}
-use Rattle.calls.specs.declared.Front.the-variants as front
-use Rattle.calls.specs.declared.Reading.{Reading}
-use Rattle.calls.specs.declared.Reading.the-variants as reading
-use Rattle.calls.specs.declared.Written.{Written}
-use Rattle.calls.specs.declared.Least.{Least}
-use Rattle.calls.specs.declared.Record.{Record}
-use Rattle.calls.specs.Answers.{writtenOf, recordOf}
-use Rattle.calls.specs.Writing.{writingOf}
+use Rattle.rules_calls.specs.declared.Writing.{Writing}
+use Rattle.rules_calls.specs.declared.Writing.the-variants as writing
+use Rattle.rules_calls.specs.declared.Told.{Told}
+use Rattle.rules_calls.specs.declared.Front.{Front}
+use Rattle.rules_calls.specs.declared.Front.the-variants as front
+use Rattle.rules_calls.specs.declared.Reading.{Reading}
+use Rattle.rules_calls.specs.declared.Reading.the-variants as reading
+use Rattle.rules_calls.specs.declared.Written.{Written}
+use Rattle.rules_calls.specs.declared.Least.{Least}
+use Rattle.rules_calls.specs.declared.Record.{Record}
+use Rattle.rules_calls.specs.Answers.{writtenOf, recordOf}
+use Rattle.rules_calls.specs.Writing.{writingOf}
 use Rattle.reading.specs.Reading.{frontOf, wholeOf, payloadReading, afterFront, readingOf}
 use Rattle.promises.specs.Calls.{Goes, long-1, long-2, long-5, long-11, short-2, short-5, short-11, Sent}
 use Rattle.promises.specs.Only.{OnlySent, Readable, OnlyReadable, RefusedShows}

@@ -21,15 +21,15 @@ use Rattle.rules_chips.specs.Chips.{Taken}
 use Rattle.rules_bits.specs.Bits.{numberOf}
 use Rattle.rules_frame.specs.declared.Kind.{Kind}
 use Rattle.rules_frame.specs.Frame.{isKind, kindOf, sfdOf, syncBits, goesWith, clockBit, frontChips, frameChips}
-use Rattle.calls.specs.declared.Refusal.{Refusal}
-use Rattle.calls.specs.declared.Refusal.the-variants.{Ends}
-use Rattle.calls.specs.declared.Told.{Told}
-use Rattle.calls.specs.declared.Record.{Record}
-use Rattle.calls.specs.declared.Reading.{Reading}
-use Rattle.calls.specs.declared.Reading.the-variants as reading
-use Rattle.calls.specs.Answers.{recordOf}
-use Rattle.calls.specs.Headers.{serviceAllowed, ours}
-use Rattle.calls.proofs.HeaderOnly.{ours-sends}
+use Rattle.rules_calls.specs.declared.Refusal.{Refusal}
+use Rattle.rules_calls.specs.declared.Refusal.the-variants.{Ends}
+use Rattle.rules_calls.specs.declared.Told.{Told}
+use Rattle.rules_calls.specs.declared.Record.{Record}
+use Rattle.rules_calls.specs.declared.Reading.{Reading}
+use Rattle.rules_calls.specs.declared.Reading.the-variants as reading
+use Rattle.rules_calls.specs.Answers.{recordOf}
+use Rattle.rules_calls.specs.Headers.{serviceAllowed, ours}
+use Rattle.rules_calls.proofs.HeaderOnly.{ours-sends}
 use Rattle.reading.specs.Places.{UsableAt}
 use Rattle.reading.specs.Decoded.{FieldAt}
 use Rattle.reading.specs.Leads.{frameLeads, leastOf}

@@ -8,10 +8,19 @@ use borrow.Author.Tests.{ltb-true}
 use lib.ListN.{length}
 use Rattle.rules_rates.specs.Rates.{rateOf}
 use Rattle.rules_frame.specs.Frame.{kindOf, frameChips}
-use Rattle.calls.specs.declared.Written.{Written}
-use Rattle.calls.specs.Answers.{writtenOf}
-use Rattle.calls.specs.Writing.{writingOf}
-use Rattle.calls.proofs.WriteExactly.{write-1, write-2, write-3, write-4-none, write-4-many, write-5, write-6, write-0}
+use Rattle.rules_calls.specs.declared.Written.{Written}
+use Rattle.rules_calls.specs.Answers.{writtenOf}
+use Rattle.rules_calls.specs.Writing.{writingOf}
+use Rattle.rules_calls.proofs.WriteExactly.{
+  write-1,
+  write-2,
+  write-3,
+  write-4-none,
+  write-4-many,
+  write-5,
+  write-6,
+  write-0,
+}
 use Rattle.promises.specs.Calls.{Goes, long-1, long-2, long-5, long-11, short-2, short-5, short-11}
 use Rattle.promises.specs.Refusing.{
   WriteAnswer,

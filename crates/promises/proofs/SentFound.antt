@@ -14,10 +14,10 @@ use Rattle.rules_chips.specs.Chips.{Taken, hardRecording}
 use Rattle.rules_chips.proofs.Recorders.{drop-hard}
 use Rattle.rules_frame.specs.declared.Kind.{Kind}
 use Rattle.rules_frame.specs.Frame.{kindOf, clockOf}
-use Rattle.calls.specs.declared.Written.{Written}
-use Rattle.calls.specs.declared.Told.{Told}
-use Rattle.calls.specs.declared.Front.the-variants.{Fields}
-use Rattle.calls.specs.Headers.{told}
+use Rattle.rules_calls.specs.declared.Written.{Written}
+use Rattle.rules_calls.specs.declared.Told.{Told}
+use Rattle.rules_calls.specs.declared.Front.the-variants.{Fields}
+use Rattle.rules_calls.specs.Headers.{told}
 use Rattle.reading.specs.Reading.{frontOf}
 use Rattle.finding.specs.declared.NotFound.the-variants.{NoKind, NoOffsets, NoStart}
 use Rattle.finding.specs.declared.Finding.{Finding}

@@ -12,10 +12,10 @@ use Rattle.rules_chips.specs.Chips.{hardRecording}
 use Rattle.rules_chips.proofs.Recorders.{length-hard, take-hard}
 use Rattle.rules_frame.specs.declared.Kind.{Kind}
 use Rattle.rules_frame.specs.Frame.{kindOf, clockOf, clockBit, frontChips, frameChips}
-use Rattle.calls.specs.declared.Written.{Written}
-use Rattle.calls.specs.declared.Told.{Told}
-use Rattle.calls.specs.declared.Front.the-variants.{Fields}
-use Rattle.calls.specs.Headers.{told}
+use Rattle.rules_calls.specs.declared.Written.{Written}
+use Rattle.rules_calls.specs.declared.Told.{Told}
+use Rattle.rules_calls.specs.declared.Front.the-variants.{Fields}
+use Rattle.rules_calls.specs.Headers.{told}
 use Rattle.reading.specs.Reading.{frontOf}
 use Rattle.reading.proofs.Local.{front-same}
 use Rattle.clean.proofs.Recorded.{hard-recorded}

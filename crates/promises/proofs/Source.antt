@@ -17,8 +17,8 @@ use Rattle.rules_bits.specs.Scrambler.{mixed, scramble}
 use Rattle.rules_frame.specs.declared.Kind.{Kind}
 use Rattle.rules_frame.specs.declared.Kind.the-variants.{Long, Short}
 use Rattle.rules_frame.proofs.Sizes.{frame-length}
-use Rattle.calls.specs.declared.Written.{Written}
-use Rattle.calls.specs.declared.Record.{Record}
+use Rattle.rules_calls.specs.declared.Written.{Written}
+use Rattle.rules_calls.specs.declared.Record.{Record}
 use Rattle.rules_frame.specs.Frame.{
   kindOf,
   clockOf,
@@ -30,7 +30,7 @@ use Rattle.rules_frame.specs.Frame.{
   framed,
   frame,
 }
-use Rattle.calls.specs.Answers.{recordOf}
+use Rattle.rules_calls.specs.Answers.{recordOf}
 use Rattle.reading.specs.Reading.{readingOf, octetsFound}
 use Rattle.promises.specs.Calls.{Read, Sent, of-hard, good, shown, sentLead, sentSymbol}
 use Rattle.promises.specs.Promises.{OneSource}

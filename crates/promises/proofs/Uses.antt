@@ -16,10 +16,10 @@ use Rattle.rules_chips.specs.Chips.{Taken}
 use Rattle.rules_frame.specs.declared.Kind.the-variants.{Long}
 use Rattle.rules_frame.specs.Frame.{frame}
 use Rattle.rules_frame.specs.TableP.{computed, printed}
-use Rattle.calls.specs.declared.Refusal.the-variants.{Unusable}
-use Rattle.calls.specs.Answers.{refusalNumber}
-use Rattle.calls.specs.declared.Written.{Written}
-use Rattle.calls.specs.declared.Record.{Record}
+use Rattle.rules_calls.specs.declared.Refusal.the-variants.{Unusable}
+use Rattle.rules_calls.specs.Answers.{refusalNumber}
+use Rattle.rules_calls.specs.declared.Written.{Written}
+use Rattle.rules_calls.specs.declared.Record.{Record}
 use Rattle.promises.specs.Calls.{
   Wrote,
   Read,

@@ -12,8 +12,8 @@ use Rattle.base.specs.Below.{Below}
 use Rattle.rules_rates.specs.Rates.{rateOf}
 use Rattle.rules_rates.specs.Plain.{LengthOf, length-1, length-11}
 use Rattle.rules_frame.specs.Frame.{kindOf, frame}
-use Rattle.calls.specs.declared.Written.{Written}
-use Rattle.calls.specs.declared.Record.{Record}
+use Rattle.rules_calls.specs.declared.Written.{Written}
+use Rattle.rules_calls.specs.declared.Record.{Record}
 use Rattle.clean.specs.Clean.{Exactly, softI, softQ, byteRow}
 use Rattle.promises.specs.Calls.{
   ReadHard,

@@ -8,9 +8,9 @@ use native.Mathlib.Decide.{decLe, decLt, ℕ-discrete}
 use native.Mathlib.Omega.{arith}
 use lib.ListN.{length, take, drop, replicate, length-replicate}
 use Rattle.rules_rates.specs.Plain.{LengthOf}
-use Rattle.calls.specs.declared.Written.{Written}
-use Rattle.calls.specs.declared.Record.{Record}
-use Rattle.calls.specs.Answers.{recordOf}
+use Rattle.rules_calls.specs.declared.Written.{Written}
+use Rattle.rules_calls.specs.declared.Record.{Record}
+use Rattle.rules_calls.specs.Answers.{recordOf}
 use Rattle.reading.specs.Reading.{readingOf, octetsFound}
 use Rattle.rules_chips.specs.Chips.{hardRecording}
 use Rattle.rules_frame.specs.Frame.{kindOf}

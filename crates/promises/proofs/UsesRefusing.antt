@@ -5,7 +5,7 @@ use mathlib.Core.List.{List}
 use Prim.Native.Nat.{ℕ, _+_, _*_, _≤_, _<_}
 use native.Mathlib.Omega.{arith}
 use lib.ListN.{length}
-use Rattle.calls.specs.declared.Written.{Written}
+use Rattle.rules_calls.specs.declared.Written.{Written}
 use Rattle.promises.specs.Calls.{Wrote, long-1, long-11, short-2}
 use Rattle.promises.specs.Refusing.{
   WriteAnswer,

@@ -13,10 +13,10 @@ use lib.Ieee.{Float}
 use Rattle.rules_chips.specs.Chips.{Taken, hardRecording, softRecording, byteRecording}
 use Rattle.base.specs.Below.{Below}
 use Rattle.rules_frame.specs.Frame.{kindOf}
-use Rattle.calls.specs.declared.Written.{Written}
-use Rattle.calls.specs.declared.Record.{Record}
-use Rattle.calls.specs.Answers.{writtenOf, recordOf}
-use Rattle.calls.specs.Writing.{writingOf, chipsWritten}
+use Rattle.rules_calls.specs.declared.Written.{Written}
+use Rattle.rules_calls.specs.declared.Record.{Record}
+use Rattle.rules_calls.specs.Answers.{writtenOf, recordOf}
+use Rattle.rules_calls.specs.Writing.{writingOf, chipsWritten}
 use Rattle.reading.specs.Reading.{readingOf, octetsFound}
 use Rattle.coming.specs.declared.Coming.{Coming}
 use Rattle.coming.specs.Coming.{frontReading, comingOf, partOf}

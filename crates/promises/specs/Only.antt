@@ -10,8 +10,8 @@ use lib.IntN.{ℤ}
 use Rattle.base.specs.Below.{Below}
 use Rattle.rules_rates.specs.Plain.{LengthOf}
 use Rattle.rules_chips.specs.Chips.{Taken}
-use Rattle.calls.specs.declared.Written.{Written}
-use Rattle.calls.specs.declared.Record.{Record}
+use Rattle.rules_calls.specs.declared.Written.{Written}
+use Rattle.rules_calls.specs.declared.Record.{Record}
 use Rattle.promises.specs.Calls.{
   Wrote,
   Read,

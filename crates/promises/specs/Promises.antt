@@ -17,8 +17,8 @@ use Rattle.rules_rates.specs.Rates.{rateOf}
 use Rattle.rules_rates.specs.Plain.{LengthOf}
 use Rattle.rules_chips.specs.Floats.{usable, valueOf, countOf, Nearest}
 use Rattle.rules_chips.specs.Chips.{Taken}
-use Rattle.calls.specs.declared.Written.{Written}
-use Rattle.calls.specs.declared.Record.{Record}
+use Rattle.rules_calls.specs.declared.Written.{Written}
+use Rattle.rules_calls.specs.declared.Record.{Record}
 use Rattle.rules_frame.specs.Frame.{kindOf, clockOf, frame}
 use Rattle.rules_frame.specs.TableP.{TableP}
 use Rattle.clean.specs.Clean.{Exactly, softI, softQ}

@@ -5,7 +5,7 @@ use Prim.Native.Nat.{ℕ, _+_, _*_, _≤_, _<_}
 use mathlib.Core.Path.{_≡_}
 use mathlib.Core.List.{List}
 use lib.ListN.{length}
-use Rattle.calls.specs.declared.Written.{Written}
+use Rattle.rules_calls.specs.declared.Written.{Written}
 use Rattle.promises.specs.Calls.{Wrote, Goes}
 
 -- the number and the chips that a write answers, by kind, rate code, starting phase, octets and room; each asks that

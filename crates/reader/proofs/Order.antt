@@ -11,15 +11,15 @@ use Rattle.rules_rates.specs.Rates.{octetChips}
 use Rattle.rules_chips.specs.Chips.{Taken}
 use Rattle.rules_frame.specs.declared.Kind.{Kind}
 use Rattle.rules_frame.specs.Frame.{isKind, kindOf, frontChips, frameChips}
-use Rattle.calls.specs.declared.Refusal.{Refusal}
-use Rattle.calls.specs.declared.Refusal.the-variants.{NoKind, RowsDiffer, Unusable, OctetRoom}
-use Rattle.calls.specs.declared.Told.{Told}
-use Rattle.calls.specs.declared.Least.{Least}
-use Rattle.calls.specs.declared.Front.the-variants as front
-use Rattle.calls.specs.declared.Reading.{Reading}
-use Rattle.calls.specs.declared.Reading.the-variants.{Refused}
-use Rattle.calls.specs.declared.Record.{Record}
-use Rattle.calls.specs.Answers.{recordOf}
+use Rattle.rules_calls.specs.declared.Refusal.{Refusal}
+use Rattle.rules_calls.specs.declared.Refusal.the-variants.{NoKind, RowsDiffer, Unusable, OctetRoom}
+use Rattle.rules_calls.specs.declared.Told.{Told}
+use Rattle.rules_calls.specs.declared.Least.{Least}
+use Rattle.rules_calls.specs.declared.Front.the-variants as front
+use Rattle.rules_calls.specs.declared.Reading.{Reading}
+use Rattle.rules_calls.specs.declared.Reading.the-variants.{Refused}
+use Rattle.rules_calls.specs.declared.Record.{Record}
+use Rattle.rules_calls.specs.Answers.{recordOf}
 use Rattle.reading.specs.Reading.{firstUnusable, payloadOdd, payloadReading, readingOf, octetsAfter, octetsFound}
 use Rattle.reading.specs.Leads.{frameLeads, leastOf}
 use Rattle.recorded.specs.declared.Place.{Place}

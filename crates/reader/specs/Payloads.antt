@@ -7,11 +7,11 @@ use lib.ListN.{replicate}
 use Rattle.rules_rates.specs.declared.Rate.{Rate}
 use Rattle.rules_chips.specs.Chips.{Taken}
 use Rattle.rules_frame.specs.declared.Kind.{Kind}
-use Rattle.calls.specs.declared.Refusal.the-variants.{OddGrowth}
-use Rattle.calls.specs.declared.Told.{Told}
-use Rattle.calls.specs.declared.Least.{Least}
-use Rattle.calls.specs.declared.Reading.{Reading}
-use Rattle.calls.specs.declared.Reading.the-variants.{Refused, Good}
+use Rattle.rules_calls.specs.declared.Refusal.the-variants.{OddGrowth}
+use Rattle.rules_calls.specs.declared.Told.{Told}
+use Rattle.rules_calls.specs.declared.Least.{Least}
+use Rattle.rules_calls.specs.declared.Reading.{Reading}
+use Rattle.rules_calls.specs.declared.Reading.the-variants.{Refused, Good}
 use Rattle.reading.specs.Reading.{orElse, payloadOf}
 
 -- what a payload leaves in room for so many octets: zeros where a symbol is grown by 1 or 3

@@ -5,13 +5,13 @@ ghost use Prim.Native.Nat.{_%_};
 ghost use lib.Dec.{eqb};
 ghost use lib.ListN.{length};
 ghost use Rattle.rules_chips.specs.Chips.{hardRecording, softRecording, byteRecording};
-ghost use Rattle.calls.specs.Answers.{recordOf};
+ghost use Rattle.rules_calls.specs.Answers.{recordOf};
 ghost use Rattle.reading.specs.Reading.{readingOf, octetsFound};
 ghost use Rattle.recorders.specs.Rows.{lent};
-use calls::Front;
-use calls::Reading;
-use calls::Record;
-use calls::Refusal;
+use rules_calls::Front;
+use rules_calls::Reading;
+use rules_calls::Record;
+use rules_calls::Refusal;
 use recorders::Recorder;
 
 pub mod payload;

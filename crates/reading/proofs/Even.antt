@@ -13,8 +13,8 @@ use Rattle.rules_bits.specs.Growths.{grownBy, growthsOf}
 use Rattle.rules_bits.proofs.Heard.{growthsOf-length, growth-at}
 use Rattle.rules_frame.specs.declared.Kind.{Kind}
 use Rattle.rules_frame.specs.Frame.{syncBits}
-use Rattle.calls.specs.declared.Told.{Told}
-use Rattle.calls.specs.declared.Front.the-variants.{Fields}
+use Rattle.rules_calls.specs.declared.Told.{Told}
+use Rattle.rules_calls.specs.declared.Front.the-variants.{Fields}
 use Rattle.reading.specs.Reading.{orElse, firstOdd, frontOdd, frontOf, reference, preambleWords}
 use Rattle.reading.proofs.Refusals.{FrontIf, front-refuses}
 use Rattle.reading.proofs.First.{no-place, odd-none}

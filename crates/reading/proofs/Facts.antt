@@ -30,8 +30,8 @@ use Rattle.rules_bits.specs.Growths.{
 use Rattle.rules_bits.specs.Scrambler.{mixed, scramble, descramble}
 use Rattle.rules_bits.specs.Crc.{addWhere, crcStep, remainder, crcBits}
 use Rattle.rules_frame.specs.declared.Kind.the-variants.{Long, Short}
-use Rattle.calls.specs.declared.Record.{Record}
-use Rattle.calls.specs.declared.Front.the-variants as front
+use Rattle.rules_calls.specs.declared.Record.{Record}
+use Rattle.rules_calls.specs.declared.Front.the-variants as front
 use Rattle.rules_frame.specs.Frame.{
   preambleBits,
   fieldBits,
@@ -43,8 +43,8 @@ use Rattle.rules_frame.specs.Frame.{
   framed,
   frame,
 }
-use Rattle.calls.specs.Answers.{recordOf}
-use Rattle.calls.specs.Headers.{told, sameBits, fieldsOf, headerOf}
+use Rattle.rules_calls.specs.Answers.{recordOf}
+use Rattle.rules_calls.specs.Headers.{told, sameBits, fieldsOf, headerOf}
 use Rattle.reading.specs.Leads.{decidedLeads, frontLeads, payloadLeads, frameLeads, leadAt, leastFrom, leastOf}
 use Rattle.reading.specs.Reading.{
   firstUnusable,

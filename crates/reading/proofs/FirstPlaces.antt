@@ -33,7 +33,7 @@ use Rattle.rules_frame.specs.Frame.{
   headerLength,
   preambleChips,
 }
-use Rattle.calls.specs.declared.Told.{Told}
+use Rattle.rules_calls.specs.declared.Told.{Told}
 use Rattle.reading.specs.Places.{UsableAt, UnusableFirst, wordFrom, oddBehind, FirstOddSymbol}
 use Rattle.reading.specs.Reading.{
   orElse,

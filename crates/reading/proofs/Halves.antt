@@ -13,8 +13,8 @@ use Rattle.rules_bits.specs.Bits.{_⊕_}
 use Rattle.rules_bits.specs.Growths.{grownBy}
 use Rattle.rules_frame.specs.declared.Kind.{Kind}
 use Rattle.rules_frame.specs.Frame.{syncBits}
-use Rattle.calls.specs.declared.Told.{Told}
-use Rattle.calls.specs.declared.Front.the-variants.{Fields}
+use Rattle.rules_calls.specs.declared.Told.{Told}
+use Rattle.rules_calls.specs.declared.Front.the-variants.{Fields}
 use Rattle.reading.specs.Reading.{frontOf}
 use Rattle.reading.proofs.Sfd.{wordAt}
 use Rattle.reading.proofs.Even.{front-even}

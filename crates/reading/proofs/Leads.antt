@@ -34,7 +34,7 @@ use Rattle.rules_symbols.specs.Choice.{leadOf}
 use Rattle.rules_frame.specs.declared.Kind.{Kind}
 use Rattle.rules_frame.specs.declared.Kind.the-variants.{Long, Short}
 use Rattle.rules_frame.specs.Frame.{headerRate, frontChips, preambleLength, headerLength, preambleChips}
-use Rattle.calls.specs.declared.Least.{Least}
+use Rattle.rules_calls.specs.declared.Least.{Least}
 use Rattle.reading.specs.Leads.{
   decidedLeads,
   frontLeads,

@@ -8,9 +8,9 @@ use lib.ListN.{take, drop}
 use Rattle.rules_chips.specs.Chips.{Taken}
 use Rattle.rules_frame.specs.declared.Kind.{Kind}
 use Rattle.rules_frame.specs.Frame.{frontChips, frameChips}
-use Rattle.calls.specs.declared.Refusal.the-variants.{Unusable, OddGrowth, OctetRoom}
-use Rattle.calls.specs.declared.Told.{Told}
-use Rattle.calls.specs.declared.Reading.the-variants.{Refused, Good}
+use Rattle.rules_calls.specs.declared.Refusal.the-variants.{Unusable, OddGrowth, OctetRoom}
+use Rattle.rules_calls.specs.declared.Told.{Told}
+use Rattle.rules_calls.specs.declared.Reading.the-variants.{Refused, Good}
 use Rattle.reading.specs.Leads.{frameLeads, leastOf}
 use Rattle.reading.specs.Reading.{firstUnusable, payloadOdd, payloadReading}
 

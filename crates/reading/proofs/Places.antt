@@ -19,9 +19,9 @@ use Rattle.rules_bits.proofs.Heard.{growthsOf-length}
 use Rattle.rules_frame.specs.declared.Kind.{Kind}
 use Rattle.rules_frame.specs.declared.Kind.the-variants.{Long, Short}
 use Rattle.rules_frame.specs.Frame.{headerRate, frontChips, preambleLength, headerLength, preambleChips, frameChips}
-use Rattle.calls.specs.declared.Refusal.{Refusal}
-use Rattle.calls.specs.declared.Told.{Told}
-use Rattle.calls.specs.Answers.{refusalPlace}
+use Rattle.rules_calls.specs.declared.Refusal.{Refusal}
+use Rattle.rules_calls.specs.declared.Told.{Told}
+use Rattle.rules_calls.specs.Answers.{refusalPlace}
 use Rattle.reading.specs.Reading.{
   firstUnusable,
   firstOdd,

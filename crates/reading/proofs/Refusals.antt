@@ -19,8 +19,8 @@ use Rattle.rules_bits.specs.Bits.{numberOf}
 use Rattle.rules_bits.specs.Crc.{crcBits}
 use Rattle.rules_frame.specs.declared.Kind.{Kind}
 use Rattle.rules_frame.specs.Frame.{sfdOf, syncBits, preambleLength, frontChips, frameChips}
-use Rattle.calls.specs.declared.Refusal.{Refusal}
-use Rattle.calls.specs.declared.Refusal.the-variants.{
+use Rattle.rules_calls.specs.declared.Refusal.{Refusal}
+use Rattle.rules_calls.specs.declared.Refusal.the-variants.{
   ShorterThanFront,
   Unusable,
   OddGrowth,
@@ -32,14 +32,14 @@ use Rattle.calls.specs.declared.Refusal.the-variants.{
   Ends,
   OctetRoom,
 }
-use Rattle.calls.specs.declared.Told.{Told}
-use Rattle.calls.specs.declared.Front.{Front}
-use Rattle.calls.specs.declared.Front.the-variants as front
-use Rattle.calls.specs.declared.Reading.{Reading}
-use Rattle.calls.specs.declared.Reading.the-variants as reading
-use Rattle.calls.specs.Answers.{refusalNumber}
-use Rattle.calls.specs.Headers.{ours, headerOf}
-use Rattle.calls.proofs.Accepting.{
+use Rattle.rules_calls.specs.declared.Told.{Told}
+use Rattle.rules_calls.specs.declared.Front.{Front}
+use Rattle.rules_calls.specs.declared.Front.the-variants as front
+use Rattle.rules_calls.specs.declared.Reading.{Reading}
+use Rattle.rules_calls.specs.declared.Reading.the-variants as reading
+use Rattle.rules_calls.specs.Answers.{refusalNumber}
+use Rattle.rules_calls.specs.Headers.{ours, headerOf}
+use Rattle.rules_calls.proofs.Accepting.{
   Tells,
   signal-out,
   service-out,

@@ -24,8 +24,8 @@ use Rattle.rules_bits.proofs.Bits.{bits-number}
 use Rattle.rules_bits.proofs.Scrambler.{descramble-length, descramble-below, descramble-at}
 use Rattle.rules_frame.specs.declared.Kind.{Kind}
 use Rattle.rules_frame.specs.Frame.{sfdOf, syncBits, headerRate, start}
-use Rattle.calls.specs.declared.Told.{Told}
-use Rattle.calls.specs.declared.Front.the-variants.{Fields}
+use Rattle.rules_calls.specs.declared.Told.{Told}
+use Rattle.rules_calls.specs.declared.Front.the-variants.{Fields}
 use Rattle.reading.specs.Reading.{
   decidedWords,
   preambleWords,

@@ -13,11 +13,11 @@ use Rattle.rules_rates.specs.Rates.{lengthField}
 use Rattle.rules_chips.specs.Chips.{Taken}
 use Rattle.rules_frame.specs.declared.Kind.{Kind}
 use Rattle.rules_frame.specs.Frame.{goesWith, frontChips, frameChips}
-use Rattle.calls.specs.declared.Told.{Told}
-use Rattle.calls.specs.declared.Front.{Front}
-use Rattle.calls.specs.declared.Front.the-variants.{Refused, Fields}
-use Rattle.calls.specs.Headers.{ours, headerOf}
-use Rattle.calls.proofs.HeaderOnly.{HeaderSends, header-only}
+use Rattle.rules_calls.specs.declared.Told.{Told}
+use Rattle.rules_calls.specs.declared.Front.{Front}
+use Rattle.rules_calls.specs.declared.Front.the-variants.{Refused, Fields}
+use Rattle.rules_calls.specs.Headers.{ours, headerOf}
+use Rattle.rules_calls.proofs.HeaderOnly.{HeaderSends, header-only}
 use Rattle.reading.specs.Reading.{orElse, firstUnusable, frontOdd, frontOf, wholeOf}
 
 -- a search, with what it found, and what holds where it found nothing

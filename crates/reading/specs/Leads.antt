@@ -13,7 +13,7 @@ use Rattle.rules_chips.specs.Chips.{Taken, takenCounts}
 use Rattle.rules_symbols.specs.Choice.{leadOf}
 use Rattle.rules_frame.specs.declared.Kind.{Kind}
 use Rattle.rules_frame.specs.Frame.{headerRate, frontChips, preambleLength, headerLength, preambleChips}
-use Rattle.calls.specs.declared.Least.{Least}
+use Rattle.rules_calls.specs.declared.Least.{Least}
 
 -- the leads of m symbols, beside the words that they are decided as
 unfoldable pub decidedLeads : Rate → ℕ → List Taken → List ℕ

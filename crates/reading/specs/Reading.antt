@@ -17,7 +17,7 @@ use Rattle.rules_bits.specs.Bits.{octetsOf}
 use Rattle.rules_bits.specs.Growths.{heard, growthsOf, lastHeard}
 use Rattle.rules_bits.specs.Scrambler.{descramble}
 use Rattle.rules_frame.specs.declared.Kind.{Kind}
-use Rattle.calls.specs.declared.Refusal.the-variants.{
+use Rattle.rules_calls.specs.declared.Refusal.the-variants.{
   NoKind,
   RowsDiffer,
   ShorterThanFront,
@@ -26,12 +26,12 @@ use Rattle.calls.specs.declared.Refusal.the-variants.{
   Ends,
   OctetRoom,
 }
-use Rattle.calls.specs.declared.Told.{Told}
-use Rattle.calls.specs.declared.Front.{Front}
-use Rattle.calls.specs.declared.Front.the-variants as front
-use Rattle.calls.specs.declared.Reading.{Reading}
-use Rattle.calls.specs.declared.Reading.the-variants as reading
-use Rattle.calls.specs.Headers.{ours, headerOf}
+use Rattle.rules_calls.specs.declared.Told.{Told}
+use Rattle.rules_calls.specs.declared.Front.{Front}
+use Rattle.rules_calls.specs.declared.Front.the-variants as front
+use Rattle.rules_calls.specs.declared.Reading.{Reading}
+use Rattle.rules_calls.specs.declared.Reading.the-variants as reading
+use Rattle.rules_calls.specs.Headers.{ours, headerOf}
 use Rattle.reading.specs.Leads.{frameLeads, leastOf}
 use Rattle.rules_frame.specs.Frame.{
   isKind,

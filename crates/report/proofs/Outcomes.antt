@@ -14,16 +14,16 @@ use Rattle.rules_rates.specs.Rates.{codeOf, lengthField}
 use Rattle.rules_chips.specs.Chips.{Taken, hardRecording}
 use Rattle.rules_frame.specs.declared.Kind.{Kind}
 use Rattle.rules_frame.specs.Frame.{isKind, kindOf}
-use Rattle.calls.specs.declared.Refusal.the-variants.{NoKind, Unusable, OddGrowth}
-use Rattle.calls.specs.declared.Refusal.{Refusal}
-use Rattle.calls.specs.declared.Told.{Told}
-use Rattle.calls.specs.declared.Front.{Front}
-use Rattle.calls.specs.declared.Front.the-variants as front
-use Rattle.calls.specs.declared.Least.{Least}
-use Rattle.calls.specs.declared.Record.{Record}
-use Rattle.calls.specs.declared.Reading.{Reading}
-use Rattle.calls.specs.declared.Reading.the-variants.{Refused, Good}
-use Rattle.calls.specs.Answers.{refusalNumber, recordOf}
+use Rattle.rules_calls.specs.declared.Refusal.the-variants.{NoKind, Unusable, OddGrowth}
+use Rattle.rules_calls.specs.declared.Refusal.{Refusal}
+use Rattle.rules_calls.specs.declared.Told.{Told}
+use Rattle.rules_calls.specs.declared.Front.{Front}
+use Rattle.rules_calls.specs.declared.Front.the-variants as front
+use Rattle.rules_calls.specs.declared.Least.{Least}
+use Rattle.rules_calls.specs.declared.Record.{Record}
+use Rattle.rules_calls.specs.declared.Reading.{Reading}
+use Rattle.rules_calls.specs.declared.Reading.the-variants.{Refused, Good}
+use Rattle.rules_calls.specs.Answers.{refusalNumber, recordOf}
 use Rattle.reading.specs.Reading.{frontOf, wholeOf, payloadOdd, payloadReading, afterFront, readingOf}
 use Rattle.reading.proofs.Payloads.{foundUnusable}
 use Rattle.reading.proofs.Telling.{searched, Telling, TellingWholeIf, whole-telling}

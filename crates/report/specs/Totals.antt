@@ -6,8 +6,8 @@ use mathlib.Core.List.{List, [], _∷_}
 use mathlib.Core.Option.{Option, none, some}
 use lib.Dec.{eqb, ltb}
 use Rattle.rules_chips.specs.Chips.{hardRecording}
-use Rattle.calls.specs.declared.Record.{Record}
-use Rattle.calls.specs.Answers.{recordOf}
+use Rattle.rules_calls.specs.declared.Record.{Record}
+use Rattle.rules_calls.specs.Answers.{recordOf}
 use Rattle.reading.specs.Reading.{readingOf}
 
 -- a recording as it is handed in: a kind, which may be none, and hard chips

@@ -4,7 +4,7 @@
 use Prim.Native.Nat.{ℕ}
 use mathlib.Core.Path.{_≡_}
 use mathlib.Core.List.{List, [], _∷_, _++_}
-use Rattle.calls.specs.declared.Record.{Record}
+use Rattle.rules_calls.specs.declared.Record.{Record}
 use Rattle.promises.specs.Calls.{ReadHard}
 use Rattle.report.specs.declared.Report.{Report}
 use Rattle.report.specs.declared.Counted.{Counted}

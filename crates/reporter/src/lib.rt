@@ -15,7 +15,7 @@ ghost use Rattle.report.specs.Report.{
   countedOf,
   listOf,
 };
-use calls::Record;
+use rules_calls::Record;
 use report::Counted;
 use report::Report;
 

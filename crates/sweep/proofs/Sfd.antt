@@ -17,8 +17,8 @@ use Rattle.rules_bits.specs.Growths.{grownBy}
 use Rattle.rules_frame.specs.declared.Kind.{Kind}
 use Rattle.rules_frame.specs.declared.Kind.the-variants.{Long, Short}
 use Rattle.rules_frame.specs.Frame.{sfdOf, syncBits}
-use Rattle.calls.specs.declared.Told.{Told}
-use Rattle.calls.specs.declared.Front.the-variants.{Fields}
+use Rattle.rules_calls.specs.declared.Told.{Told}
+use Rattle.rules_calls.specs.declared.Front.the-variants.{Fields}
 use Rattle.reading.specs.Reading.{frontOf}
 use Rattle.reading.proofs.Sfd.{wordAt, sfd-bit}
 use Rattle.sweep.specs.Sweep.{halfAt, bitAt, plainAt, octetAt, sfdFrom}

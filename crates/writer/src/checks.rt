@@ -1,8 +1,8 @@
 // The order of checks before a chip is written.
-use calls::Refusal;
-use calls::Writing;
+use rules_calls::Refusal;
+use rules_calls::Writing;
 ghost use mathlib.Core.Path.{_≡_};
-ghost use Rattle.calls.specs.Writing.{writingOf};
+ghost use Rattle.rules_calls.specs.Writing.{writingOf};
 
 // What a write of n octets into room for so many chips comes to: refusals 1 to 6, in this order.
 pub fn check_write(kind: u64, rate: u64, phase: u64, n: usize, room: usize) -> Writing

@@ -1,7 +1,7 @@
 // The writer: payload, rate, kind, starting phase and clock to the chips of a frame. Every argument is checked
 // first; whatever comes of it, the whole chip buffer is written.
-use calls::Writing;
-use calls::Written;
+use rules_calls::Writing;
+use rules_calls::Written;
 use rules_frame::Kind;
 use lines::Line;
 use rules_rates::Rate;
@@ -11,8 +11,8 @@ ghost use Prim.Native.Nat.{_-_, _≤_};
 ghost use lib.ListN.{length, replicate};
 ghost use Rattle.base.specs.Over.{over};
 ghost use Rattle.rules_frame.specs.Frame.{preambleChips, frontChips, frameChips, frame};
-ghost use Rattle.calls.specs.Writing.{writingOf, chipsWritten};
-ghost use Rattle.calls.specs.Answers.{writtenOf};
+ghost use Rattle.rules_calls.specs.Writing.{writingOf, chipsWritten};
+ghost use Rattle.rules_calls.specs.Answers.{writtenOf};
 ghost use Rattle.sending.specs.Sending.{run, ran};
 ghost use Rattle.sending.specs.Line.{state};
 ghost use Rattle.writer.specs.Parts.{preambleOctets, frontSent, afterFront};

@@ -5,13 +5,13 @@ use mir.Val.{boolByte}
 use borrow.Author.Needs.{needs}
 use Rattle.rules_rates.specs.Rates.{codeOf}
 use Rattle.rules_frame.proofs.Headers.{clock-byte}
-use Rattle.calls.specs.declared.Refusal.{Refusal}
-use Rattle.calls.specs.declared.Told.{Told}
-use Rattle.calls.specs.declared.Least.{Least}
-use Rattle.calls.specs.declared.Reading.{Reading}
-use Rattle.calls.specs.declared.Reading.the-variants.{Refused, Good}
-use Rattle.calls.specs.declared.Record.{Record}
-use Rattle.calls.specs.Answers.{refusalNumber, refusalPlace, refusalLength, recordOf}
+use Rattle.rules_calls.specs.declared.Refusal.{Refusal}
+use Rattle.rules_calls.specs.declared.Told.{Told}
+use Rattle.rules_calls.specs.declared.Least.{Least}
+use Rattle.rules_calls.specs.declared.Reading.{Reading}
+use Rattle.rules_calls.specs.declared.Reading.the-variants.{Refused, Good}
+use Rattle.rules_calls.specs.declared.Record.{Record}
+use Rattle.rules_calls.specs.Answers.{refusalNumber, refusalPlace, refusalLength, recordOf}
 use Rattle.answers.proofs.record_of.Statement.{statement}
 use Rattle.answers.proofs.record_of.Tie as tie
 

@@ -5,7 +5,7 @@ use mir.Val.{boolByte}
 use borrow.Author.Needs.{needs}
 use Rattle.rules_rates.specs.Rates.{codeOf}
 use Rattle.rules_frame.proofs.Headers.{clock-byte}
-use Rattle.calls.specs.declared.Told.{Told}
+use Rattle.rules_calls.specs.declared.Told.{Told}
 use Rattle.finding.specs.declared.Finding.the-variants.{Start}
 use Rattle.finding.specs.declared.Found.{Found}
 use Rattle.finding.specs.Finding.{foundOf}

@@ -4,8 +4,8 @@ use Prim.Native.Nat.{ℕ}
 use lib.ListN.{drop}
 use borrow.Author.Needs.{needs}
 use Rattle.rules_chips.specs.Chips.{hardRecording}
-use Rattle.calls.specs.declared.Front.{Front}
-use Rattle.calls.specs.declared.Front.the-variants as front
+use Rattle.rules_calls.specs.declared.Front.{Front}
+use Rattle.rules_calls.specs.declared.Front.the-variants as front
 use Rattle.reading.specs.Reading.{frontOf}
 use Rattle.finding.specs.declared.NotFound.the-variants.{NoStart}
 use Rattle.finding.specs.declared.Finding.{Finding}

@@ -8,9 +8,9 @@ use Rattle.base.proofs.Tests.{failed, passed}
 use Rattle.rules_chips.specs.Chips.{Taken}
 use Rattle.rules_frame.specs.declared.Kind.{Kind}
 use Rattle.rules_frame.specs.Frame.{isKind, kindOf}
-use Rattle.calls.specs.declared.Refusal.the-variants.{NoKind}
-use Rattle.calls.specs.declared.Front.{Front}
-use Rattle.calls.specs.declared.Front.the-variants.{Refused}
+use Rattle.rules_calls.specs.declared.Refusal.the-variants.{NoKind}
+use Rattle.rules_calls.specs.declared.Front.{Front}
+use Rattle.rules_calls.specs.declared.Front.the-variants.{Refused}
 use Rattle.reading.specs.Reading.{frontOf, wholeOf}
 use Rattle.coming.specs.declared.Coming.{Coming}
 use Rattle.coming.specs.Coming.{frontReading, comingOf}

@@ -3,9 +3,9 @@ use mathlib.Core.Path.{_≡_}
 use Prim.Native.Nat.{ℕ}
 use borrow.Author.Needs.{needs}
 use Rattle.rules_frame.specs.declared.Kind.{Kind}
-use Rattle.calls.specs.declared.Refusal.{Refusal}
-use Rattle.calls.specs.declared.Front.the-variants.{Refused}
-use Rattle.calls.specs.Answers.{refusalNumber, refusalPlace, refusalLength}
+use Rattle.rules_calls.specs.declared.Refusal.{Refusal}
+use Rattle.rules_calls.specs.declared.Front.the-variants.{Refused}
+use Rattle.rules_calls.specs.Answers.{refusalNumber, refusalPlace, refusalLength}
 use Rattle.coming.specs.declared.Coming.{Coming}
 use Rattle.coming.specs.Coming.{comingOf}
 use Rattle.front_only.proofs.refused.Statement.{statement}

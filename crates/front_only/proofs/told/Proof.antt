@@ -7,8 +7,8 @@ use Rattle.rules_rates.specs.Rates.{codeOf}
 use Rattle.rules_frame.specs.declared.Kind.{Kind}
 use Rattle.rules_frame.specs.Frame.{frontChips, frameChips}
 use Rattle.rules_frame.proofs.Headers.{clock-byte}
-use Rattle.calls.specs.declared.Told.{Told}
-use Rattle.calls.specs.declared.Front.the-variants.{Fields}
+use Rattle.rules_calls.specs.declared.Told.{Told}
+use Rattle.rules_calls.specs.declared.Front.the-variants.{Fields}
 use Rattle.coming.specs.declared.Coming.{Coming}
 use Rattle.coming.specs.Coming.{comingOf}
 use Rattle.front_only.proofs.told.Statement.{statement}

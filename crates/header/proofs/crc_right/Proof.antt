@@ -8,7 +8,7 @@ use mir.Syntax.{w8}
 use mir.Val.{Fits}
 use borrow.Author.Needs.{needs}
 use Rattle.base.specs.Below.{Below}
-use Rattle.calls.proofs.Fields.{two-is, crc-other, crc-same}
+use Rattle.rules_calls.proofs.Fields.{two-is, crc-other, crc-same}
 use Rattle.header.proofs.crc_right.Statement.{statement}
 use Rattle.header.proofs.crc_right.Tie as tie
 

@@ -7,7 +7,7 @@ use borrow.Author.Needs.{needs}
 use Rattle.rules_rates.specs.declared.Rate.{Rate}
 use Rattle.rules_rates.specs.Rates.{isCode, rateOf}
 use Rattle.rules_frame.specs.Frame.{goesWith}
-use Rattle.calls.specs.Headers.{serviceAllowed, fieldsOf}
+use Rattle.rules_calls.specs.Headers.{serviceAllowed, fieldsOf}
 use Rattle.header.specs.Code.{octetsTold}
 use Rattle.header.proofs.Lengths.{told-fails, told-holds}
 use Rattle.base.proofs.Tests.{failed, passed}

@@ -8,7 +8,7 @@ use Rattle.rules_rates.specs.declared.Rate.{Rate}
 use Rattle.rules_rates.specs.Rates.{codeOf, lengthField}
 use Rattle.rules_frame.specs.Frame.{serviceField, headerBits, sentHeader}
 use Rattle.rules_frame.proofs.Headers.{clock-lt, clock-byte}
-use Rattle.calls.proofs.ReadBack.{code-small}
+use Rattle.rules_calls.proofs.ReadBack.{code-small}
 use Rattle.header.proofs.header_octets.Statement.{statement}
 use Rattle.header.proofs.header_octets.Tie as tie
 

@@ -7,8 +7,8 @@ use mir.Syntax.{w8}
 use mir.Val.{Fits}
 use borrow.Author.Needs.{needs}
 use Rattle.base.specs.Below.{Below}
-use Rattle.calls.specs.Headers.{headerOf}
-use Rattle.calls.proofs.Fields.{fields-cut}
+use Rattle.rules_calls.specs.Headers.{headerOf}
+use Rattle.rules_calls.proofs.Fields.{fields-cut}
 use Rattle.base.proofs.Tests.{failed, passed}
 use Rattle.header.proofs.header_of.Statement.{statement}
 use Rattle.header.proofs.header_of.Tie as tie

@@ -2,7 +2,7 @@
 -- after them. Assumes nothing.
 use mathlib.Core.Path.{refl, _∙_}
 use borrow.Author.Needs.{needs}
-use Rattle.calls.proofs.Fields.{with-crc, header-is}
+use Rattle.rules_calls.proofs.Fields.{with-crc, header-is}
 use Rattle.header.proofs.octets_of.Statement.{statement}
 use Rattle.header.proofs.octets_of.Tie as tie
 

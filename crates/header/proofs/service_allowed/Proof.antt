@@ -7,7 +7,7 @@ use borrow.Author.Needs.{needs}
 use borrow.Author.Tests.{eq-eqb, ne-eqb}
 use Rattle.rules_rates.specs.declared.Rate.{Rate}
 use Rattle.rules_rates.specs.declared.Rate.the-variants.{One, Two, Five, Eleven}
-use Rattle.calls.specs.Headers.{serviceAllowed}
+use Rattle.rules_calls.specs.Headers.{serviceAllowed}
 use Rattle.header.proofs.service_allowed.Statement.{statement}
 use Rattle.header.proofs.service_allowed.Tie as tie
 

@@ -8,9 +8,9 @@ use borrow.Author.Tests.{not-true, not-false}
 use Rattle.rules_chips.specs.Chips.{Taken}
 use Rattle.rules_frame.specs.declared.Kind.{Kind}
 use Rattle.rules_frame.specs.Frame.{isKind, frameChips}
-use Rattle.calls.specs.declared.Told.{Told}
-use Rattle.calls.specs.declared.Reading.{Reading}
-use Rattle.calls.specs.declared.Front.the-variants.{Fields}
+use Rattle.rules_calls.specs.declared.Told.{Told}
+use Rattle.rules_calls.specs.declared.Reading.{Reading}
+use Rattle.rules_calls.specs.declared.Front.the-variants.{Fields}
 use Rattle.reading.specs.Reading.{payloadReading, octetsAfter}
 use Rattle.reading.specs.Leads.{frontLeads, leastOf}
 use Rattle.fronts.specs.declared.Opening.{Opening}

@@ -5,7 +5,7 @@ use mathlib.Core.Bool.{true, false}
 use native.Mathlib.Omega.{arith}
 use borrow.Author.Tests.{eq-eqb, ne-eqb}
 use Rattle.base.proofs.Tests.{failed, passed}
-use Rattle.calls.specs.declared.Record.{Record}
+use Rattle.rules_calls.specs.declared.Record.{Record}
 use Rattle.report.specs.Totals.{Recording, Outcome, outcomeOf}
 use Rattle.report.specs.Report.{withFrame, withRefusal, added, takesMore, countedOf}
 use Rattle.report.specs.declared.Report.{Report}

@@ -6,7 +6,7 @@ use Prim.Native.Nat.{ℕ, _+_, _<_}
 use native.Mathlib.Omega.{arith}
 use lib.ListN.{getD, set}
 use borrow.Author.Tests.{not-true, not-false}
-use Rattle.calls.specs.declared.Record.{Record}
+use Rattle.rules_calls.specs.declared.Record.{Record}
 use Rattle.report.specs.Totals.{frontTime}
 use Rattle.report.specs.Report.{entryOf, isCloser, withFrame}
 use Rattle.report.specs.declared.Report.{Report}

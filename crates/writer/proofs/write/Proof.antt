@@ -7,14 +7,14 @@ use lib.ListN.{length, replicate}
 use borrow.Author.Needs.{needs}
 use Rattle.rules_rates.specs.declared.Rate.{Rate}
 use Rattle.rules_frame.specs.declared.Kind.{Kind}
-use Rattle.calls.specs.declared.Refusal.{Refusal}
-use Rattle.calls.specs.declared.Writing.{Writing}
-use Rattle.calls.specs.declared.Writing.the-variants.{Refused, Good}
-use Rattle.calls.specs.declared.Written.{Written}
+use Rattle.rules_calls.specs.declared.Refusal.{Refusal}
+use Rattle.rules_calls.specs.declared.Writing.{Writing}
+use Rattle.rules_calls.specs.declared.Writing.the-variants.{Refused, Good}
+use Rattle.rules_calls.specs.declared.Written.{Written}
 use Rattle.rules_frame.specs.Frame.{clockOf, frame}
-use Rattle.calls.specs.Writing.{writingOf, chipsWritten}
-use Rattle.calls.specs.Answers.{writtenOf}
-use Rattle.calls.proofs.WriteGood.{accepted}
+use Rattle.rules_calls.specs.Writing.{writingOf, chipsWritten}
+use Rattle.rules_calls.specs.Answers.{writtenOf}
+use Rattle.rules_calls.proofs.WriteGood.{accepted}
 use Rattle.writer.proofs.write.Statement.{statement}
 use Rattle.writer.proofs.write.Tie as tie
 

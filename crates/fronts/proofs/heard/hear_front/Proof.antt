@@ -12,7 +12,7 @@ use Rattle.rules_frame.specs.declared.Kind.the-variants.{Long, Short}
 use Rattle.rules_frame.specs.Frame.{frontChips, headerRate, preambleChips}
 use Rattle.recorded.specs.Recorded.{AllUsable}
 use Rattle.recorded.proofs.Search.{usable-part}
-use Rattle.calls.specs.declared.Least.{Least}
+use Rattle.rules_calls.specs.declared.Least.{Least}
 use Rattle.hearing.specs.declared.Part.{Part}
 use Rattle.hearing.specs.Hearing.{PartHeard}
 use Rattle.hearing.proofs.Parts.{few-symbols}

@@ -8,7 +8,7 @@ use borrow.Author.Needs.{needs}
 use borrow.Author.Tests.{lt-ltb, le-ltb}
 use Rattle.rules_rates.specs.Rates.{isCode, rateOf, isPayload}
 use Rattle.rules_frame.specs.Frame.{goesWith, frameChips, isKind, kindOf}
-use Rattle.calls.specs.Writing.{writingOf}
+use Rattle.rules_calls.specs.Writing.{writingOf}
 use Rattle.base.proofs.Tests.{failed, passed}
 use Rattle.rules_rates.proofs.Lengths.{payload-high}
 use Rattle.writer.proofs.checks.check_write.Statement.{statement}

@@ -10,9 +10,9 @@ use borrow.Author.Tests.{lt-ltb, le-ltb, le-leb, lt-leb, ne-eqb}
 use Rattle.rules_rates.specs.Rates.{isCode, rateOf}
 use Rattle.rules_rates.proofs.Lengths.{is-payload}
 use Rattle.rules_frame.specs.Frame.{kindOf, goesWith, frameChips}
-use Rattle.calls.specs.declared.Written.{Written}
-use Rattle.calls.specs.Answers.{writtenOf}
-use Rattle.calls.specs.Writing.{writingOf}
+use Rattle.rules_calls.specs.declared.Written.{Written}
+use Rattle.rules_calls.specs.Answers.{writtenOf}
+use Rattle.rules_calls.specs.Writing.{writingOf}
 
 abbrev answered : ℕ → ℕ → Written
 answered number chips = record { number = number; chips = chips }

@@ -7,8 +7,8 @@ use mathlib.Core.List.{List, [], _∷_, map}
 use Prim.Native.Nat.{ℕ}
 use lib.ListN.{replicate}
 use Rattle.rules_rates.specs.declared.Rate.the-variants.{Five}
-use Rattle.calls.specs.declared.Refusal.{Refusal}
-use Rattle.calls.specs.declared.Refusal.the-variants.{
+use Rattle.rules_calls.specs.declared.Refusal.{Refusal}
+use Rattle.rules_calls.specs.declared.Refusal.the-variants.{
   NoKind,
   NoRate,
   ShortRate,
@@ -27,10 +27,10 @@ use Rattle.calls.specs.declared.Refusal.the-variants.{
   Ends,
   OctetRoom,
 }
-use Rattle.calls.specs.declared.Reading.the-variants as reading
-use Rattle.calls.specs.declared.Record.{Record}
-use Rattle.calls.specs.Answers.{recordOf}
-use Rattle.calls.specs.Headers.{told}
+use Rattle.rules_calls.specs.declared.Reading.the-variants as reading
+use Rattle.rules_calls.specs.declared.Record.{Record}
+use Rattle.rules_calls.specs.Answers.{recordOf}
+use Rattle.rules_calls.specs.Headers.{told}
 
 -- at place 362,471 and LENGTH 65,535 where a refusal tells them
 abbrev every : List Refusal

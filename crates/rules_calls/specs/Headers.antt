@@ -13,10 +13,10 @@ use Rattle.rules_bits.specs.Bits.{numberOf}
 use Rattle.rules_bits.specs.Crc.{crcBits}
 use Rattle.rules_frame.specs.declared.Kind.{Kind}
 use Rattle.rules_frame.specs.Frame.{sfdOf, goesWith}
-use Rattle.calls.specs.declared.Refusal.the-variants.{Sfd, Crc, Signal, Service, Length}
-use Rattle.calls.specs.declared.Told.{Told}
-use Rattle.calls.specs.declared.Front.{Front}
-use Rattle.calls.specs.declared.Front.the-variants as front
+use Rattle.rules_calls.specs.declared.Refusal.the-variants.{Sfd, Crc, Signal, Service, Length}
+use Rattle.rules_calls.specs.declared.Told.{Told}
+use Rattle.rules_calls.specs.declared.Front.{Front}
+use Rattle.rules_calls.specs.declared.Front.the-variants as front
 
 -- 14: SERVICE is 0 or 4, its bit 2 being the clock bit; at 11 Mbit/s, where bit 7 may be set, also 128 or 132
 abbrev pub serviceAllowed : Rate → ℕ → Bool

@@ -18,10 +18,10 @@ use Rattle.base.specs.Below.{Below}
 use Rattle.rules_bits.proofs.Bits.{bits-two, octet-bits-append, number-one, octets-same}
 use Rattle.base.proofs.Below.{below-nil, below-cons}
 use Rattle.rules_frame.specs.declared.Kind.{Kind}
-use Rattle.calls.specs.declared.Front.{Front}
+use Rattle.rules_calls.specs.declared.Front.{Front}
 use Rattle.rules_frame.specs.Frame.{fieldBits, headerBits}
-use Rattle.calls.specs.Headers.{Accepted, sameBits, fieldsOf}
-use Rattle.calls.proofs.Accepting.{same-refl, same-eq}
+use Rattle.rules_calls.specs.Headers.{Accepted, sameBits, fieldsOf}
+use Rattle.rules_calls.proofs.Accepting.{same-refl, same-eq}
 
 pub two-is : (xs : List ℕ) → length xs ≡ 2 → xs ≡ getD xs 0 0 ∷ getD xs 1 0 ∷ []
 unfolding tabulate

@@ -23,12 +23,12 @@ use Rattle.rules_bits.specs.Bits.{numberOf}
 use Rattle.rules_bits.specs.Crc.{crcBits}
 use Rattle.rules_frame.specs.declared.Kind.{Kind}
 use Rattle.rules_frame.specs.Frame.{sfdOf}
-use Rattle.calls.specs.declared.Refusal.the-variants.{Sfd, Crc, Signal, Service, Length}
-use Rattle.calls.specs.declared.Told.{Told}
-use Rattle.calls.specs.declared.Front.{Front}
-use Rattle.calls.specs.declared.Front.the-variants as front
-use Rattle.calls.specs.Answers.{refusalLength}
-use Rattle.calls.specs.Headers.{Accepted, told, sameBits, fieldsOf, headerOf}
+use Rattle.rules_calls.specs.declared.Refusal.the-variants.{Sfd, Crc, Signal, Service, Length}
+use Rattle.rules_calls.specs.declared.Told.{Told}
+use Rattle.rules_calls.specs.declared.Front.{Front}
+use Rattle.rules_calls.specs.declared.Front.the-variants as front
+use Rattle.rules_calls.specs.Answers.{refusalLength}
+use Rattle.rules_calls.specs.Headers.{Accepted, told, sameBits, fieldsOf, headerOf}
 
 pub same-refl : (xs : List ℕ) → sameBits xs xs ≡ true
 unfolding sameBits

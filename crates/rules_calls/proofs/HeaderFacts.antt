@@ -14,12 +14,12 @@ use Rattle.rules_bits.specs.Crc.{addWhere, crcStep, remainder, crcBits}
 use Rattle.rules_frame.specs.Frame.{clockBit, fieldBits, headerBits}
 use Rattle.rules_frame.specs.declared.Kind.{Kind}
 use Rattle.rules_frame.specs.declared.Kind.the-variants.{Long, Short}
-use Rattle.calls.specs.declared.Record.{Record}
-use Rattle.calls.specs.declared.Front.{Front}
-use Rattle.calls.specs.declared.Front.the-variants as front
-use Rattle.calls.specs.declared.Reading.the-variants as reading
-use Rattle.calls.specs.Answers.{recordOf}
-use Rattle.calls.specs.Headers.{serviceAllowed, ours, sameBits, fieldsOf, headerOf}
+use Rattle.rules_calls.specs.declared.Record.{Record}
+use Rattle.rules_calls.specs.declared.Front.{Front}
+use Rattle.rules_calls.specs.declared.Front.the-variants as front
+use Rattle.rules_calls.specs.declared.Reading.the-variants as reading
+use Rattle.rules_calls.specs.Answers.{recordOf}
+use Rattle.rules_calls.specs.Headers.{serviceAllowed, ours, sameBits, fieldsOf, headerOf}
 
 -- a refusal's number, place and LENGTH; or what a good header tells: 0, rate code, LENGTH, n, the clock bit
 abbrev refused : Record → List ℕ

@@ -8,9 +8,9 @@ use Prim.Native.Nat.{ℕ, _^_}
 use Rattle.rules_rates.specs.declared.Rate.the-variants.{Two, Eleven}
 use Rattle.rules_frame.specs.declared.Kind.the-variants.{Long, Short}
 use Rattle.rules_frame.specs.Frame.{frame}
-use Rattle.calls.specs.declared.Written.{Written}
-use Rattle.calls.specs.Answers.{writtenOf}
-use Rattle.calls.specs.Writing.{writingOf, chipsWritten}
+use Rattle.rules_calls.specs.declared.Written.{Written}
+use Rattle.rules_calls.specs.Answers.{writtenOf}
+use Rattle.rules_calls.specs.Writing.{writingOf, chipsWritten}
 
 -- the answer to kind, rate code and starting phase, n octets, and room for so many chips
 abbrev write : ℕ → ℕ → ℕ → ℕ → ℕ → Written

@@ -19,11 +19,11 @@ use Rattle.rules_bits.specs.Bits.{numberOf}
 use Rattle.rules_bits.specs.Crc.{crcBits}
 use Rattle.rules_frame.specs.declared.Kind.{Kind}
 use Rattle.rules_frame.specs.Frame.{sfdOf, goesWith, clockBit, serviceField}
-use Rattle.calls.specs.declared.Told.{Told}
-use Rattle.calls.specs.declared.Front.{Front}
-use Rattle.calls.specs.declared.Front.the-variants as front
-use Rattle.calls.specs.Headers.{serviceAllowed, ours, fieldsOf, headerOf}
-use Rattle.calls.proofs.Accepting.{
+use Rattle.rules_calls.specs.declared.Told.{Told}
+use Rattle.rules_calls.specs.declared.Front.{Front}
+use Rattle.rules_calls.specs.declared.Front.the-variants as front
+use Rattle.rules_calls.specs.Headers.{serviceAllowed, ours, fieldsOf, headerOf}
+use Rattle.rules_calls.proofs.Accepting.{
   Tells,
   FieldsCome,
   signal-out,

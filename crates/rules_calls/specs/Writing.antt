@@ -8,9 +8,16 @@ use lib.ListN.{length, replicate}
 use lib.Dec.{ltb}
 use lib.IntN.{pos}
 use Rattle.rules_rates.specs.Rates.{isCode, rateOf, isPayload}
-use Rattle.calls.specs.declared.Refusal.the-variants.{NoKind, NoRate, ShortRate, PayloadSize, NoPhase, ChipRoom}
-use Rattle.calls.specs.declared.Writing.{Writing}
-use Rattle.calls.specs.declared.Writing.the-variants.{Refused, Good}
+use Rattle.rules_calls.specs.declared.Refusal.the-variants.{
+  NoKind,
+  NoRate,
+  ShortRate,
+  PayloadSize,
+  NoPhase,
+  ChipRoom,
+}
+use Rattle.rules_calls.specs.declared.Writing.{Writing}
+use Rattle.rules_calls.specs.declared.Writing.the-variants.{Refused, Good}
 use Rattle.rules_frame.specs.Frame.{isKind, kindOf, clockOf, goesWith, frame, frameChips}
 
 -- kind, rate code and starting phase as numbers; n octets of payload; room for so many chips

@@ -11,10 +11,10 @@ use Rattle.rules_rates.specs.Rates.{isCode, rateOf, isPayload}
 use Rattle.rules_rates.proofs.Lengths.{payload-high}
 use Rattle.rules_frame.specs.declared.Kind.{Kind}
 use Rattle.rules_frame.specs.Frame.{isKind, kindOf, goesWith, frameChips}
-use Rattle.calls.specs.declared.Refusal.{Refusal}
-use Rattle.calls.specs.declared.Writing.{Writing}
-use Rattle.calls.specs.declared.Writing.the-variants.{Refused, Good}
-use Rattle.calls.specs.Writing.{writingOf}
+use Rattle.rules_calls.specs.declared.Refusal.{Refusal}
+use Rattle.rules_calls.specs.declared.Writing.{Writing}
+use Rattle.rules_calls.specs.declared.Writing.the-variants.{Refused, Good}
+use Rattle.rules_calls.specs.Writing.{writingOf}
 
 passed : (b : Bool) (e : Refusal) (x : Writing) (k : Kind) (r : Rate) (c : ℕ) → cond b (Refused e) x ≡ Good k r c
     → (b ≡ false) × (x ≡ Good k r c)

@@ -3,8 +3,8 @@
 use Prim.Native.Nat.{ℕ}
 use Rattle.rules_rates.specs.Rates.{codeOf}
 use Rattle.rules_frame.specs.Frame.{clockBit}
-use Rattle.calls.specs.declared.Refusal.{Refusal}
-use Rattle.calls.specs.declared.Refusal.the-variants.{
+use Rattle.rules_calls.specs.declared.Refusal.{Refusal}
+use Rattle.rules_calls.specs.declared.Refusal.the-variants.{
   NoKind,
   NoRate,
   ShortRate,
@@ -23,12 +23,12 @@ use Rattle.calls.specs.declared.Refusal.the-variants.{
   Ends,
   OctetRoom,
 }
-use Rattle.calls.specs.declared.Writing.{Writing}
-use Rattle.calls.specs.declared.Writing.the-variants as writing
-use Rattle.calls.specs.declared.Reading.{Reading}
-use Rattle.calls.specs.declared.Reading.the-variants as reading
-use Rattle.calls.specs.declared.Written.{Written}
-use Rattle.calls.specs.declared.Record.{Record}
+use Rattle.rules_calls.specs.declared.Writing.{Writing}
+use Rattle.rules_calls.specs.declared.Writing.the-variants as writing
+use Rattle.rules_calls.specs.declared.Reading.{Reading}
+use Rattle.rules_calls.specs.declared.Reading.the-variants as reading
+use Rattle.rules_calls.specs.declared.Written.{Written}
+use Rattle.rules_calls.specs.declared.Record.{Record}
 
 -- the number of a refusal
 abbrev pub refusalNumber : Refusal → ℕ

@@ -23,11 +23,11 @@ use Rattle.rules_bits.proofs.Bits.{number-bits}
 use Rattle.rules_frame.specs.declared.Kind.{Kind}
 use Rattle.rules_frame.proofs.Headers.{clock-lt}
 use Rattle.rules_frame.specs.declared.Kind.the-variants.{Long, Short}
-use Rattle.calls.specs.declared.Refusal.the-variants.{Sfd, Crc}
-use Rattle.calls.specs.declared.Front.the-variants.{Refused, Fields}
+use Rattle.rules_calls.specs.declared.Refusal.the-variants.{Sfd, Crc}
+use Rattle.rules_calls.specs.declared.Front.the-variants.{Refused, Fields}
 use Rattle.rules_frame.specs.Frame.{sfdOf, goesWith, clockBit, serviceField, fieldBits, headerBits, sentHeader}
-use Rattle.calls.specs.Headers.{Accepted, ours, told, sameBits, serviceAllowed, fieldsOf, headerOf}
-use Rattle.calls.proofs.Accepting.{same-refl}
+use Rattle.rules_calls.specs.Headers.{Accepted, ours, told, sameBits, serviceAllowed, fieldsOf, headerOf}
+use Rattle.rules_calls.proofs.Accepting.{same-refl}
 
 pub code-small : (r : Rate) → codeOf r < 256
 code-small One = omega arith
