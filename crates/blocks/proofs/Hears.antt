@@ -25,7 +25,7 @@ use Rattle.rules_bits.specs.Code.{pastOf, pastAfter}
 use Rattle.lines.specs.declared.Line.{Line}
 use Rattle.rules_bits.proofs.Bits.{octets-length, octets-bits}
 use Rattle.rules_bits.proofs.Heard.{heard-length, heard-below}
-use Rattle.reading.specs.Reading.{firstOdd, oddGrowth}
+use Rattle.rules_reading.specs.Reading.{firstOdd, oddGrowth}
 use Rattle.recorded.specs.declared.Place.{Place}
 use Rattle.recorded.specs.Recorded.{whereFound}
 use Rattle.codes.specs.Codes.{grownFor, wordBits, phaseBefore, octetAfter, behind, plain, AreWords}

@@ -4,7 +4,7 @@ ghost use mathlib.Core.Bool.{false, cond};
 ghost use Prim.Native.Nat.{ℕ, _+_, _^_, _≤_, _<_};
 ghost use lib.Dec.{ltb};
 ghost use lib.ListN.{length, getD, take};
-ghost use Rattle.reading.specs.Leads.{leadAt, leastFrom, leastOf};
+ghost use Rattle.rules_reading.specs.Leads.{leadAt, leastFrom, leastOf};
 use rules_calls::Least;
 
 // Whether one of the first m leads may be below a number: no says that none is. Of a lead that is, the difference wraps

@@ -4,7 +4,7 @@ ghost use mathlib.Core.Bool.{false};
 ghost use Prim.Native.Nat.{ℕ, _+_, _*_, _%_, _^_, _≤_, _<_};
 ghost use lib.ListN.{getD, take};
 ghost use Rattle.rules_rates.specs.Rates.{symbolChips};
-ghost use Rattle.reading.specs.Reading.{firstOdd, oddGrowth};
+ghost use Rattle.rules_reading.specs.Reading.{firstOdd, oddGrowth};
 ghost use Rattle.recorded.specs.Recorded.{whereFound};
 use rules_rates::Rate;
 use recorded::Place;

@@ -22,7 +22,7 @@ use Rattle.rules_calls.specs.declared.Refusal.the-variants.{ShorterThanFront, E
 use Rattle.rules_calls.specs.declared.Front.the-variants as front
 use Rattle.rules_calls.specs.declared.Reading.the-variants as reading
 use Rattle.rules_calls.specs.Headers.{told}
-use Rattle.reading.specs.Reading.{
+use Rattle.rules_reading.specs.Reading.{
   frontOf,
   payloadOf,
   wholeOf,
@@ -34,7 +34,7 @@ use Rattle.reading.specs.Reading.{
 }
 use Rattle.clean.specs.Clean.{cleanRecording, cleanLeast}
 use Rattle.clean.proofs.Decided.{clean-length}
-use Rattle.reading.proofs.Local.{front-same}
+use Rattle.rules_reading.proofs.Local.{front-same}
 use Rattle.clean.proofs.Whole as whole
 
 module _ (kind : ℕ) (r : Rate) (p : ℕ) (clock : Bool) (xs : List ℕ) (is-kind : isKind kind ≡ true) (l : p < 4) where

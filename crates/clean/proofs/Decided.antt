@@ -20,8 +20,8 @@ use Rattle.rules_symbols.proofs.Words.{word-length}
 use Rattle.rules_choosing.proofs.Agreement.{cleanLead}
 use Rattle.rules_choosing.proofs.Clean.{decided-clean}
 use Rattle.rules_choosing.proofs.CleanLeads.{lead-clean}
-use Rattle.reading.specs.Leads.{decidedLeads}
-use Rattle.reading.specs.Reading.{firstUnusable, decidedWords}
+use Rattle.rules_reading.specs.Leads.{decidedLeads}
+use Rattle.rules_reading.specs.Reading.{firstUnusable, decidedWords}
 use Rattle.rules_bits.specs.Code.{wordsChips}
 use Rattle.clean.specs.Clean.{cleanTaken, cleanRecording}
 use Rattle.rules_bits.proofs.Sent.{Allowed, none, more}

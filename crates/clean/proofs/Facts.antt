@@ -42,8 +42,8 @@ use Rattle.rules_frame.specs.Frame.{
 }
 use Rattle.rules_calls.specs.Answers.{recordOf}
 use Rattle.rules_calls.specs.Headers.{told, sameBits, fieldsOf, headerOf}
-use Rattle.reading.specs.Leads.{decidedLeads, frontLeads, payloadLeads, leastFrom, leastOf}
-use Rattle.reading.specs.Reading.{
+use Rattle.rules_reading.specs.Leads.{decidedLeads, frontLeads, payloadLeads, leastFrom, leastOf}
+use Rattle.rules_reading.specs.Reading.{
   firstUnusable,
   firstOdd,
   decidedWords,
@@ -63,7 +63,7 @@ use Rattle.reading.specs.Reading.{
   readingOf,
   octetsFound,
 }
-use Rattle.reading.proofs.Facts.{fields, refused, longFrame, shortFrame, spoilt, turnedBy}
+use Rattle.rules_reading.proofs.Facts.{fields, refused, longFrame, shortFrame, spoilt, turnedBy}
 
 -- so many chips from a place lost
 unfoldable pub lost : ℕ → ℕ → List ℕ → List ℕ
@@ -78,7 +78,7 @@ lost at m chips = take at chips ++ (replicate m 4 ++ drop (at + m) chips)
 -- promise: Whole recordings: each refusal, and each two neighbours in the order of checks that can be met together; 16
 -- comes before 17
 -- rule: 6.2 to 6.6
--- with: good, payloads, reading/parts
+-- with: good, payloads, rules_reading/parts
 pub bad : refused 2 true 1 longFrame ∷ refused 2 false 1 longFrame ∷ refused 256 true 1 longFrame
     ∷ refused 0 false 1 longFrame ∷ refused 1 false 1 []
     ∷ refused 0 true 1 (take 2111 (spoilt 0 5 longFrame)) ∷ refused 1 true 1 (take 1055 shortFrame)

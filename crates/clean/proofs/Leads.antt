@@ -16,8 +16,8 @@ use Rattle.rules_frame.specs.declared.Kind.the-variants.{Long, Short}
 use Rattle.rules_frame.specs.Frame.{headerRate, preambleLength, headerLength, frontSymbols}
 use Rattle.rules_frame.proofs.Parity.{front-symbols}
 use Rattle.rules_calls.specs.declared.Least.{Least}
-use Rattle.reading.specs.Leads.{frontLeads, payloadLeads, frameLeads, leadAt, leastFrom, leastOf}
-use Rattle.reading.proofs.Leads.{leastOf-joined, least-kept, least-found}
+use Rattle.rules_reading.specs.Leads.{frontLeads, payloadLeads, frameLeads, leadAt, leastFrom, leastOf}
+use Rattle.rules_reading.proofs.Leads.{leastOf-joined, least-kept, least-found}
 use Rattle.clean.specs.Clean.{cleanLeast}
 
 -- so many leads alike, behind one that is no larger, and behind a larger one

@@ -20,8 +20,8 @@ use Rattle.rules_frame.specs.declared.Kind.{Kind}
 use Rattle.rules_frame.specs.declared.Kind.the-variants.{Long, Short}
 use Rattle.rules_frame.specs.Frame.{headerRate, frontChips, preambleLength, headerLength, partsChips, preambleChips}
 use Rattle.rules_choosing.proofs.Agreement.{cleanLead}
-use Rattle.reading.specs.Leads.{decidedLeads, frontLeads, payloadLeads}
-use Rattle.reading.specs.Reading.{
+use Rattle.rules_reading.specs.Leads.{decidedLeads, frontLeads, payloadLeads}
+use Rattle.rules_reading.specs.Reading.{
   orElse,
   firstOdd,
   oddGrowth,

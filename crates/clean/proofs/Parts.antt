@@ -30,7 +30,7 @@ use Rattle.rules_bits.specs.Growths.{
 }
 use Rattle.base.specs.Below.{Below}
 use Rattle.base.proofs.Below.{below-drop}
-use Rattle.reading.specs.Reading.{firstOdd}
+use Rattle.rules_reading.specs.Reading.{firstOdd}
 use Rattle.rules_bits.specs.Code.{numbersFrom, wordsChips}
 use Rattle.rules_bits.proofs.Growths.{symbolsFrom-length}
 use Rattle.rules_bits.proofs.Heard.{heard-back, chips-words, last-number, numbersFrom-length}

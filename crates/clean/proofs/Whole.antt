@@ -50,8 +50,8 @@ use Rattle.rules_calls.specs.declared.Front.the-variants as front
 use Rattle.rules_calls.specs.declared.Reading.the-variants as reading
 use Rattle.rules_calls.specs.declared.Refusal.the-variants.{OctetRoom}
 use Rattle.rules_calls.specs.Headers.{ours, headerOf, told}
-use Rattle.reading.specs.Leads.{frontLeads, payloadLeads, frameLeads, leastOf}
-use Rattle.reading.specs.Reading.{
+use Rattle.rules_reading.specs.Leads.{frontLeads, payloadLeads, frameLeads, leastOf}
+use Rattle.rules_reading.specs.Reading.{
   firstUnusable,
   frontOdd,
   frontHeard,

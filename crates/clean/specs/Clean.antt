@@ -15,7 +15,7 @@ use Rattle.rules_chips.specs.Chips.{Taken, counted, fullChip, usableSample, exa
 use Rattle.rules_frame.specs.declared.Kind.{Kind}
 use Rattle.rules_frame.specs.Frame.{frontSymbols}
 use Rattle.rules_calls.specs.declared.Least.{Least}
-use Rattle.reading.specs.Leads.{leadAt}
+use Rattle.rules_reading.specs.Leads.{leadAt}
 
 -- a chip sent with phase p and recorded as a full chip at p
 -- working notion: of the laws of clean frames

@@ -54,7 +54,7 @@ use Rattle.rules_calls.specs.declared.Refusal.the-variants.{
 use Rattle.rules_calls.specs.declared.Front.{Front}
 use Rattle.rules_calls.specs.declared.Front.the-variants.{Refused, Fields}
 use Rattle.rules_calls.specs.Headers.{told, sameBits, fieldsOf, headerOf}
-use Rattle.reading.specs.Reading.{
+use Rattle.rules_reading.specs.Reading.{
   firstUnusable,
   firstOdd,
   decidedWords,
@@ -67,7 +67,7 @@ use Rattle.reading.specs.Reading.{
   frontBits,
   frontOf,
 }
-use Rattle.reading.proofs.Facts.{longFrame, shortFrame, spoilt, turnedBy}
+use Rattle.rules_reading.proofs.Facts.{longFrame, shortFrame, spoilt, turnedBy}
 use Rattle.coming.specs.declared.Coming.{Coming}
 use Rattle.coming.specs.Coming.{frontReading, comingOf, partOf}
 

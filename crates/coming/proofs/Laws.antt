@@ -20,9 +20,9 @@ use Rattle.rules_calls.specs.declared.Told.{Told}
 use Rattle.rules_calls.specs.declared.Front.{Front}
 use Rattle.rules_calls.specs.declared.Front.the-variants as front
 use Rattle.rules_calls.specs.declared.Reading.the-variants as reading
-use Rattle.reading.specs.Reading.{frontOf, wholeOf, afterFront, readingOf}
-use Rattle.reading.proofs.Telling.{TellingWhole, TellingWholeIf, whole-telling}
-use Rattle.reading.proofs.Refusals.{WholeRefusal, RefusesIf, whole-refuses}
+use Rattle.rules_reading.specs.Reading.{frontOf, wholeOf, afterFront, readingOf}
+use Rattle.rules_reading.proofs.Telling.{TellingWhole, TellingWholeIf, whole-telling}
+use Rattle.rules_reading.proofs.Refusals.{WholeRefusal, RefusesIf, whole-refuses}
 use Rattle.coming.specs.Coming.{frontReading, partOf}
 
 pub data ComingRefusal (kind : ℕ) (rec : List Taken) : Refusal → Type 0 where

@@ -5,7 +5,7 @@ ghost use Prim.Native.Nat.{ℕ, _+_, _≤_, _<_};
 ghost use lib.ListN.{length, getD, drop};
 ghost use Rattle.rules_chips.specs.Chips.{hardRecording};
 ghost use Rattle.rules_frame.specs.Frame.{frontChips};
-ghost use Rattle.reading.specs.Reading.{frontOf};
+ghost use Rattle.rules_reading.specs.Reading.{frontOf};
 ghost use Rattle.finding.specs.Finding.{startOr, firstStart, findingOf, notFoundNumber, foundOf};
 ghost use Rattle.finding.proofs.Laws.{Missed};
 use rules_calls::Front;

@@ -42,7 +42,7 @@ use Rattle.rules_calls.specs.declared.Refusal.the-variants.{Crc}
 use Rattle.rules_calls.specs.declared.Front.the-variants as front
 use Rattle.rules_calls.specs.declared.Told.{Told}
 use Rattle.rules_calls.specs.Headers.{told, sameBits, fieldsOf, headerOf}
-use Rattle.reading.specs.Reading.{
+use Rattle.rules_reading.specs.Reading.{
   firstUnusable,
   firstOdd,
   decidedWords,
@@ -55,7 +55,7 @@ use Rattle.reading.specs.Reading.{
   frontBits,
   frontOf,
 }
-use Rattle.reading.proofs.Facts.{shortFrame, spoilt}
+use Rattle.rules_reading.proofs.Facts.{shortFrame, spoilt}
 use Rattle.finding.specs.declared.NotFound.the-variants.{NoKind, NoOffsets, NoStart}
 use Rattle.finding.specs.declared.Finding.{Finding}
 use Rattle.finding.specs.declared.Finding.the-variants.{Refused, Start}

@@ -12,7 +12,7 @@ use Rattle.rules_frame.specs.declared.Kind.{Kind}
 use Rattle.rules_frame.specs.Frame.{isKind, kindOf, clockBit}
 use Rattle.rules_calls.specs.declared.Front.{Front}
 use Rattle.rules_calls.specs.declared.Front.the-variants as front
-use Rattle.reading.specs.Reading.{frontOf}
+use Rattle.rules_reading.specs.Reading.{frontOf}
 use Rattle.finding.specs.declared.NotFound.{NotFound}
 use Rattle.finding.specs.declared.NotFound.the-variants.{NoKind, NoOffsets, NoStart}
 use Rattle.finding.specs.declared.Finding.{Finding}

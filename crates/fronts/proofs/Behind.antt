@@ -21,7 +21,7 @@ use Rattle.rules_bits.proofs.Scrambler.{descramble-append, descramble-length, d
 use Rattle.rules_frame.specs.declared.Kind.{Kind}
 use Rattle.rules_frame.specs.declared.Kind.the-variants.{Long, Short}
 use Rattle.rules_frame.specs.Frame.{start, headerRate, frontChips, preambleLength, headerLength, preambleChips}
-use Rattle.reading.specs.Reading.{
+use Rattle.rules_reading.specs.Reading.{
   oddGrowth,
   decidedWords,
   preambleWords,
@@ -35,14 +35,14 @@ use Rattle.reading.specs.Reading.{
   payloadOf,
 }
 use Rattle.rules_calls.specs.declared.Least.{Least}
-use Rattle.reading.specs.Leads.{frontLeads, frameLeads, leastFrom, leastOf}
+use Rattle.rules_reading.specs.Leads.{frontLeads, frameLeads, leastFrom, leastOf}
 use Rattle.recorded.specs.Recorded.{whereFound}
 use Rattle.lines.specs.declared.Line.{Line}
 use Rattle.hearing.specs.declared.Part.{Part}
 use Rattle.hearing.specs.Hearing.{partLeads, PartHeard}
 use Rattle.rules_bits.proofs.Heard.{heard-length, heard-parity}
-use Rattle.reading.proofs.Places.{decidedWords-length}
-use Rattle.reading.proofs.Leads.{frame-least}
+use Rattle.rules_reading.proofs.Places.{decidedWords-length}
+use Rattle.rules_reading.proofs.Leads.{frame-least}
 use Rattle.fronts.specs.Openings.{Opened}
 
 -- how many bits the front has

@@ -15,7 +15,7 @@ use Rattle.rules_calls.specs.declared.Refusal.the-variants.{ShorterThanFront, U
 use Rattle.rules_calls.specs.declared.Front.{Front}
 use Rattle.rules_calls.specs.declared.Front.the-variants.{Refused}
 use Rattle.rules_calls.specs.Headers.{ours, headerOf}
-use Rattle.reading.specs.Reading.{firstUnusable, frontOdd, frontOf}
+use Rattle.rules_reading.specs.Reading.{firstUnusable, frontOdd, frontOf}
 use Rattle.recorded.specs.declared.Place.{Place}
 use Rattle.recorded.specs.declared.Place.the-variants.{Nothing, At}
 use Rattle.recorded.specs.Recorded.{whereFound, AllUsable}

@@ -30,17 +30,17 @@ use Rattle.rules_bits.proofs.Heard.{heard-length}
 use Rattle.rules_frame.specs.declared.Kind.{Kind}
 use Rattle.rules_frame.specs.declared.Kind.the-variants.{Long, Short}
 use Rattle.rules_frame.specs.Frame.{start, syncBits, preambleLength, frontChips}
-use Rattle.reading.specs.Reading.{orElse, oddGrowth, decidedWords, preambleWords, reference, headerPhase}
+use Rattle.rules_reading.specs.Reading.{orElse, oddGrowth, decidedWords, preambleWords, reference, headerPhase}
 use Rattle.rules_calls.specs.declared.Least.{Least}
-use Rattle.reading.specs.Leads.{leastFrom, leastOf}
+use Rattle.rules_reading.specs.Leads.{leastFrom, leastOf}
 use Rattle.recorded.specs.Recorded.{whereFound, symbolAt, DecidedAt, LeadsAt}
 use Rattle.blocks.specs.declared.Hearing.{Hearing}
 use Rattle.blocks.specs.Heard.{received, plainBits, plainOctets, Heard}
 use Rattle.hearing.specs.declared.Part.{Part}
 use Rattle.hearing.specs.Hearing.{partWords, partLeads, PartHeard}
-use Rattle.reading.proofs.Places.{decidedWords-length}
-use Rattle.reading.proofs.Leads.{leastOf-joined}
-use Rattle.reading.proofs.Passes.{past-take}
+use Rattle.rules_reading.proofs.Places.{decidedWords-length}
+use Rattle.rules_reading.proofs.Leads.{leastOf-joined}
+use Rattle.rules_reading.proofs.Passes.{past-take}
 use Rattle.hearing.proofs.Parts.{
   block-words,
   block-leads,

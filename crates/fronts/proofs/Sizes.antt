@@ -15,8 +15,8 @@ use Rattle.rules_calls.specs.declared.Told.{Told}
 use Rattle.rules_calls.specs.declared.Front.the-variants.{Refused, Fields}
 use Rattle.rules_frame.specs.Frame.{frameChips}
 use Rattle.rules_calls.specs.Headers.{told}
-use Rattle.reading.specs.Reading.{frontOf, wholeOf}
-use Rattle.reading.proofs.Telling.{TellingIf, front-telling}
+use Rattle.rules_reading.specs.Reading.{frontOf, wholeOf}
+use Rattle.rules_reading.proofs.Telling.{TellingIf, front-telling}
 use Rattle.fronts.specs.Openings.{Opens, OpensWhole}
 use Rattle.fronts.specs.declared.Opening.{Opening}
 

@@ -29,7 +29,7 @@ use Rattle.rules_bits.proofs.Heard.{heard-length, heard-parity}
 use Rattle.rules_frame.specs.declared.Kind.{Kind}
 use Rattle.rules_frame.specs.declared.Kind.the-variants.{Long, Short}
 use Rattle.rules_frame.specs.Frame.{start, syncBits, headerRate, preambleLength, headerLength, preambleChips}
-use Rattle.reading.specs.Reading.{
+use Rattle.rules_reading.specs.Reading.{
   orElse,
   oddGrowth,
   preambleWords,
@@ -42,13 +42,13 @@ use Rattle.reading.specs.Reading.{
   frontBits,
 }
 use Rattle.rules_calls.specs.declared.Least.{Least}
-use Rattle.reading.specs.Leads.{decidedLeads, leastFrom}
-use Rattle.reading.proofs.Leads.{front-least}
+use Rattle.rules_reading.specs.Leads.{decidedLeads, leastFrom}
+use Rattle.rules_reading.proofs.Leads.{front-least}
 use Rattle.recorded.specs.Recorded.{whereFound}
 use Rattle.hearing.specs.declared.Part.{Part}
 use Rattle.blocks.specs.Heard.{received, plainBits, Heard}
 use Rattle.hearing.specs.Hearing.{partWords, partLeads, PartHeard}
-use Rattle.reading.proofs.Places.{decidedWords-length}
+use Rattle.rules_reading.proofs.Places.{decidedWords-length}
 use Rattle.hearing.proofs.Parts.{plain-length}
 use Rattle.fronts.specs.declared.Preamble.{Preamble}
 use Rattle.fronts.specs.Openings.{preambleHeard, PreambleKnown, Opened, FrontKnown}

@@ -20,7 +20,7 @@ use Rattle.rules_calls.specs.declared.Told.{Told}
 use Rattle.rules_calls.specs.declared.Front.{Front}
 use Rattle.rules_calls.specs.declared.Front.the-variants.{Refused, Fields}
 use Rattle.rules_calls.specs.Headers.{ours, headerOf}
-use Rattle.reading.specs.Reading.{
+use Rattle.rules_reading.specs.Reading.{
   orElse,
   oddGrowth,
   preambleWords,
@@ -33,7 +33,7 @@ use Rattle.reading.specs.Reading.{
   frontOf,
   wholeOf,
 }
-use Rattle.reading.specs.Leads.{decidedLeads, frontLeads, leastOf}
+use Rattle.rules_reading.specs.Leads.{decidedLeads, frontLeads, leastOf}
 use Rattle.recorded.specs.Recorded.{whereFound}
 use Rattle.blocks.specs.declared.Hearing.{Hearing}
 use Rattle.fronts.specs.declared.Preamble.{Preamble}

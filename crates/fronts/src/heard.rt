@@ -3,7 +3,7 @@ ghost use mathlib.Core.Path.{_≡_};
 ghost use Prim.Native.Nat.{_+_, _≤_};
 ghost use lib.ListN.{length, take, drop};
 ghost use Rattle.rules_frame.specs.Frame.{frontChips};
-ghost use Rattle.reading.specs.Leads.{leastOf};
+ghost use Rattle.rules_reading.specs.Leads.{leastOf};
 ghost use Rattle.recorders.specs.Rows.{lent};
 ghost use Rattle.recorded.specs.Recorded.{AllUsable};
 ghost use Rattle.fronts.specs.Openings.{

@@ -2,7 +2,7 @@
 ghost use mathlib.Core.Path.{_≡_};
 ghost use mathlib.Core.List.{List};
 ghost use Rattle.rules_chips.specs.Chips.{Taken};
-ghost use Rattle.reading.specs.Reading.{frontOf};
+ghost use Rattle.rules_reading.specs.Reading.{frontOf};
 ghost use Rattle.recorders.specs.Rows.{lent};
 ghost use Rattle.fronts.specs.Openings.{FrontKnown, afterUsable, Opens, OpensWhole};
 use blocks::Hearing;

@@ -41,8 +41,8 @@ use Rattle.rules_bits.proofs.Heard.{
   heard-length,
 }
 use Rattle.rules_calls.specs.declared.Least.{Least}
-use Rattle.reading.specs.Reading.{orElse, firstOdd, oddGrowth, decidedWords}
-use Rattle.reading.specs.Leads.{decidedLeads, leastFrom}
+use Rattle.rules_reading.specs.Reading.{orElse, firstOdd, oddGrowth, decidedWords}
+use Rattle.rules_reading.specs.Leads.{decidedLeads, leastFrom}
 use Rattle.recorded.specs.declared.Place.the-variants.{Nothing}
 use Rattle.recorded.specs.Recorded.{whereFound, symbolAt, AllUsable, DecidedAt, LeadsAt}
 use Rattle.recorded.proofs.Search.{usable-part}
@@ -51,9 +51,9 @@ use Rattle.codes.specs.Codes.{AreWords, BlockOf}
 use Rattle.blocks.specs.Heard.{received, plainBits, plainOctets, Heard}
 use Rattle.hearing.specs.declared.Part.{Part}
 use Rattle.hearing.specs.Hearing.{partWords, partLeads, PartHeard}
-use Rattle.reading.proofs.Places.{decidedWords-length}
-use Rattle.reading.proofs.Leads.{leads-length, leads-at, leads-append, least-joined}
-use Rattle.reading.proofs.Passes.{past-take, descramble-take, oddGrowth-append, decidedWords-append}
+use Rattle.rules_reading.proofs.Places.{decidedWords-length}
+use Rattle.rules_reading.proofs.Leads.{leads-length, leads-at, leads-append, least-joined}
+use Rattle.rules_reading.proofs.Passes.{past-take, descramble-take, oddGrowth-append, decidedWords-append}
 
 -- ---- the words of a block
 

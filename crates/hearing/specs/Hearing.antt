@@ -10,8 +10,8 @@ use Rattle.rules_rates.specs.Rates.{symbolBits}
 use Rattle.rules_chips.specs.Chips.{Taken}
 use Rattle.lines.specs.declared.Line.{Line}
 use Rattle.rules_calls.specs.declared.Least.{Least}
-use Rattle.reading.specs.Reading.{decidedWords}
-use Rattle.reading.specs.Leads.{decidedLeads, leastFrom}
+use Rattle.rules_reading.specs.Reading.{decidedWords}
+use Rattle.rules_reading.specs.Leads.{decidedLeads, leastFrom}
 use Rattle.blocks.specs.Heard.{Heard, plainOctets}
 use Rattle.hearing.specs.declared.Part.{Part}
 

@@ -9,7 +9,7 @@ use lib.IntN.{ℤ, pos, negℤ}
 use lib.Ieee.{nan}
 use Rattle.rules_chips.specs.Chips.{hardRecording, byteRecording}
 use Rattle.rules_calls.specs.declared.Record.{Record}
-use Rattle.reading.specs.Reading.{frontOf, readingOf}
+use Rattle.rules_reading.specs.Reading.{frontOf, readingOf}
 use Rattle.clean.specs.Clean.{byteRow}
 use Rattle.coming.specs.declared.Coming.{Coming}
 use Rattle.coming.specs.Coming.{frontReading}

@@ -29,7 +29,7 @@ use Rattle.rules_calls.specs.declared.Writing.the-variants as writing
 use Rattle.rules_calls.specs.declared.Written.{Written}
 use Rattle.rules_calls.specs.declared.Least.{Least}
 use Rattle.rules_calls.specs.declared.Record.{Record}
-use Rattle.reading.specs.Leads.{leadAt}
+use Rattle.rules_reading.specs.Leads.{leadAt}
 use Rattle.rules_calls.specs.Answers.{writtenOf, recordOf}
 use Rattle.rules_calls.specs.Writing.{writingOf, chipsAfter, chipsWritten}
 use Rattle.clean.specs.Clean.{cleanRecording, cleanLeast, byteRow}

@@ -23,12 +23,12 @@ use Rattle.rules_calls.specs.declared.Front.the-variants.{Refused, Fields}
 use Rattle.rules_calls.specs.declared.Reading.{Reading}
 use Rattle.rules_calls.specs.declared.Record.{Record}
 use Rattle.rules_calls.specs.Answers.{refusalPlace, recordOf}
-use Rattle.reading.specs.Reading.{frontOf, payloadOdd, payloadReading, afterFront}
-use Rattle.reading.proofs.Payloads.{foundUnusable, room-refused, unusable-refused, odd-refused, payload-good}
-use Rattle.reading.proofs.Telling.{TellingWhole}
-use Rattle.reading.proofs.Refusals.{whole-number}
-use Rattle.reading.proofs.Places.{whole-place, payload-unusable-place, payload-odd-place, payload-odd-rate}
-use Rattle.reading.proofs.Local.{front-same}
+use Rattle.rules_reading.specs.Reading.{frontOf, payloadOdd, payloadReading, afterFront}
+use Rattle.rules_reading.proofs.Payloads.{foundUnusable, room-refused, unusable-refused, odd-refused, payload-good}
+use Rattle.rules_reading.proofs.Telling.{TellingWhole}
+use Rattle.rules_reading.proofs.Refusals.{whole-number}
+use Rattle.rules_reading.proofs.Places.{whole-place, payload-unusable-place, payload-odd-place, payload-odd-rate}
+use Rattle.rules_reading.proofs.Local.{front-same}
 use Rattle.coming.specs.declared.Coming.{Coming}
 use Rattle.coming.specs.Coming.{frontReading, comingOf}
 use Rattle.coming.proofs.Laws.{

@@ -43,8 +43,8 @@ use Rattle.rules_frame.specs.Frame.{
 use Rattle.rules_calls.specs.declared.Record.{Record}
 use Rattle.rules_calls.specs.Answers.{recordOf}
 use Rattle.rules_calls.specs.Headers.{sameBits, fieldsOf, headerOf}
-use Rattle.reading.specs.Leads.{decidedLeads, frontLeads, payloadLeads, leastFrom, leastOf}
-use Rattle.reading.specs.Reading.{
+use Rattle.rules_reading.specs.Leads.{decidedLeads, frontLeads, payloadLeads, leastFrom, leastOf}
+use Rattle.rules_reading.specs.Reading.{
   firstUnusable,
   firstOdd,
   decidedWords,

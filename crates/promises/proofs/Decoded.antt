@@ -14,9 +14,9 @@ use Rattle.rules_calls.specs.declared.Record.{Record}
 use Rattle.rules_calls.specs.declared.Reading.{Reading}
 use Rattle.rules_calls.specs.declared.Reading.the-variants as reading
 use Rattle.rules_calls.specs.Answers.{recordOf}
-use Rattle.reading.specs.Decoded.{FieldAt}
-use Rattle.reading.specs.Reading.{payloadOf, readingOf, octetsAfter, octetsFound}
-use Rattle.reading.proofs.Decoding.{payload-octet}
+use Rattle.rules_reading.specs.Decoded.{FieldAt}
+use Rattle.rules_reading.specs.Reading.{payloadOf, readingOf, octetsAfter, octetsFound}
+use Rattle.rules_reading.proofs.Decoding.{payload-octet}
 use Rattle.promises.specs.Reasons.{BitsOf, long-bits, short-bits, OctetsDecoded}
 use Rattle.promises.proofs.Fills.{some-number, payload-length}
 use Rattle.promises.proofs.Only.{code-back}

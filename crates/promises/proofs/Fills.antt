@@ -46,7 +46,7 @@ use Rattle.rules_frame.specs.Frame.{frame, frameChips, isKind, kindOf, clockOf}
 use Rattle.rules_frame.proofs.Sizes.{frame-length}
 use Rattle.rules_calls.specs.Answers.{refusalNumber, writtenOf, recordOf}
 use Rattle.rules_calls.specs.Writing.{writingOf, chipsAfter, chipsWritten}
-use Rattle.reading.specs.Reading.{
+use Rattle.rules_reading.specs.Reading.{
   frontOf,
   payloadOf,
   wholeOf,
@@ -56,7 +56,7 @@ use Rattle.reading.specs.Reading.{
   octetsAfter,
   octetsFound,
 }
-use Rattle.reading.proofs.Refusals.{PayloadIf, payload-comes}
+use Rattle.rules_reading.proofs.Refusals.{PayloadIf, payload-comes}
 use Rattle.rules_calls.proofs.WriteGood.{accepted}
 use Rattle.promises.specs.Promises.{WriteFills, ReadFills}
 

@@ -25,9 +25,9 @@ use Rattle.rules_calls.specs.declared.Reading.{Reading}
 use Rattle.rules_calls.specs.declared.Reading.the-variants as reading
 use Rattle.rules_calls.specs.declared.Record.{Record}
 use Rattle.rules_calls.specs.Answers.{recordOf}
-use Rattle.reading.specs.Reading.{frontOf, payloadReading, afterFront}
-use Rattle.reading.proofs.Telling.{Telling, TellingIf, front-telling}
-use Rattle.reading.proofs.Refusals.{
+use Rattle.rules_reading.specs.Reading.{frontOf, payloadReading, afterFront}
+use Rattle.rules_reading.proofs.Telling.{Telling, TellingIf, front-telling}
+use Rattle.rules_reading.proofs.Refusals.{
   FrontRefusal,
   FrontIf,
   front-refuses,
@@ -39,8 +39,8 @@ use Rattle.reading.proofs.Refusals.{
   PayloadIf,
   payload-comes,
 }
-use Rattle.reading.proofs.Places.{front-place, payload-unusable-place, payload-odd-place, payload-odd-rate}
-use Rattle.reading.proofs.Local.{front-same}
+use Rattle.rules_reading.proofs.Places.{front-place, payload-unusable-place, payload-odd-place, payload-odd-rate}
+use Rattle.rules_reading.proofs.Local.{front-same}
 use Rattle.coming.specs.declared.Coming.{Coming}
 use Rattle.coming.specs.Coming.{frontReading, comingOf}
 use Rattle.coming.proofs.Laws.{coming-refused, coming-told, coming-ends}

@@ -42,7 +42,7 @@ use Rattle.rules_calls.specs.declared.Reading.{Reading}
 use Rattle.rules_calls.specs.declared.Reading.the-variants as reading
 use Rattle.rules_calls.specs.Answers.{recordOf}
 use Rattle.rules_calls.specs.Headers.{ours, headerOf}
-use Rattle.reading.specs.Reading.{
+use Rattle.rules_reading.specs.Reading.{
   orElse,
   firstUnusable,
   frontOdd,
@@ -53,7 +53,7 @@ use Rattle.reading.specs.Reading.{
   afterFront,
   readingOf,
 }
-use Rattle.reading.proofs.Telling.{TellingWholeIf, whole-telling}
+use Rattle.rules_reading.proofs.Telling.{TellingWholeIf, whole-telling}
 use Rattle.promises.specs.Calls.{Read}
 use Rattle.promises.specs.Leads.{SymbolOf, of-preamble, of-header, of-payload}
 use Rattle.promises.proofs.Fills.{some-number}

@@ -41,8 +41,8 @@ use Rattle.rules_calls.specs.declared.Front.the-variants as front
 use Rattle.rules_calls.specs.declared.Reading.{Reading}
 use Rattle.rules_calls.specs.declared.Reading.the-variants as reading
 use Rattle.rules_calls.specs.Answers.{recordOf}
-use Rattle.reading.specs.Leads.{decidedLeads, frontLeads, payloadLeads, frameLeads, leastOf}
-use Rattle.reading.specs.Reading.{
+use Rattle.rules_reading.specs.Leads.{decidedLeads, frontLeads, payloadLeads, frameLeads, leastOf}
+use Rattle.rules_reading.specs.Reading.{
   preambleWords,
   headerWords,
   payloadWords,
@@ -52,8 +52,8 @@ use Rattle.reading.specs.Reading.{
   afterFront,
   readingOf,
 }
-use Rattle.reading.proofs.Leads.{leads-length, leads-at, LeastIs, least-is}
-use Rattle.reading.proofs.Refusals.{PayloadIf, payload-comes}
+use Rattle.rules_reading.proofs.Leads.{leads-length, leads-at, LeastIs, least-is}
+use Rattle.rules_reading.proofs.Refusals.{PayloadIf, payload-comes}
 use Rattle.promises.specs.Calls.{in-hard, in-soft, in-bytes}
 use Rattle.promises.specs.Right.{exactFrom, Keeps}
 use Rattle.promises.specs.Leads.{

@@ -23,10 +23,10 @@ use Rattle.rules_calls.specs.declared.Reading.{Reading}
 use Rattle.rules_calls.specs.declared.Reading.the-variants as reading
 use Rattle.rules_calls.specs.declared.Record.{Record}
 use Rattle.rules_calls.specs.Answers.{refusalNumber, recordOf}
-use Rattle.reading.specs.Reading.{firstUnusable, frontOf, wholeOf, payloadReading, afterFront, readingOf}
+use Rattle.rules_reading.specs.Reading.{firstUnusable, frontOf, wholeOf, payloadReading, afterFront, readingOf}
 use Rattle.promises.specs.Calls.{Read, in-hard, in-soft, in-bytes, refused}
 use Rattle.promises.specs.Only.{RowsRefused, NoByteUnusable}
-use Rattle.reading.proofs.Refusals.{
+use Rattle.rules_reading.proofs.Refusals.{
   front-short,
   front-unusable,
   front-odd,

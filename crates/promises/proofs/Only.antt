@@ -17,7 +17,7 @@ use Rattle.rules_rates.specs.Rates.{codeOf, isCode, rateOf, octetChips, isPaylo
 use Rattle.rules_rates.specs.Plain.{LengthOf}
 use Rattle.rules_rates.proofs.Facts.{no-other-code}
 use Rattle.rules_rates.proofs.Plain.{length-is}
-use Rattle.reading.proofs.Telling.{Telling, TellingWhole, TellingWholeIf, whole-telling}
+use Rattle.rules_reading.proofs.Telling.{Telling, TellingWhole, TellingWholeIf, whole-telling}
 use Rattle.rules_chips.specs.Chips.{Taken}
 use Rattle.rules_frame.specs.declared.Kind.{Kind}
 use Rattle.rules_frame.specs.Frame.{isKind, kindOf, goesWith, frontChips, frameChips}
@@ -34,10 +34,10 @@ use Rattle.rules_calls.specs.declared.Least.{Least}
 use Rattle.rules_calls.specs.declared.Record.{Record}
 use Rattle.rules_calls.specs.Answers.{writtenOf, recordOf}
 use Rattle.rules_calls.specs.Writing.{writingOf}
-use Rattle.reading.specs.Reading.{frontOf, wholeOf, payloadReading, afterFront, readingOf}
+use Rattle.rules_reading.specs.Reading.{frontOf, wholeOf, payloadReading, afterFront, readingOf}
 use Rattle.promises.specs.Calls.{Goes, long-1, long-2, long-5, long-11, short-2, short-5, short-11, Sent}
 use Rattle.promises.specs.Only.{OnlySent, Readable, OnlyReadable, RefusedShows}
-use Rattle.reading.proofs.Refusals.{PayloadIf, payload-comes}
+use Rattle.rules_reading.proofs.Refusals.{PayloadIf, payload-comes}
 use Rattle.promises.proofs.Fills.{some-number}
 
 -- ---- the kinds and the rates that go with them

@@ -30,13 +30,13 @@ use Rattle.rules_calls.specs.declared.Reading.the-variants as reading
 use Rattle.rules_calls.specs.Answers.{recordOf}
 use Rattle.rules_calls.specs.Headers.{serviceAllowed, ours}
 use Rattle.rules_calls.proofs.HeaderOnly.{ours-sends}
-use Rattle.reading.specs.Places.{UsableAt}
-use Rattle.reading.specs.Decoded.{FieldAt}
-use Rattle.reading.specs.Leads.{frameLeads, leastOf}
-use Rattle.reading.specs.Reading.{payloadOdd, payloadReading}
-use Rattle.reading.proofs.Payloads.{foundUnusable, room-refused, unusable-refused, odd-refused, payload-good}
-use Rattle.reading.proofs.Places.{front-place, payload-unusable-place, payload-odd-place, payload-odd-rate}
-use Rattle.reading.proofs.Refusals.{
+use Rattle.rules_reading.specs.Places.{UsableAt}
+use Rattle.rules_reading.specs.Decoded.{FieldAt}
+use Rattle.rules_reading.specs.Leads.{frameLeads, leastOf}
+use Rattle.rules_reading.specs.Reading.{payloadOdd, payloadReading}
+use Rattle.rules_reading.proofs.Payloads.{foundUnusable, room-refused, unusable-refused, odd-refused, payload-good}
+use Rattle.rules_reading.proofs.Places.{front-place, payload-unusable-place, payload-odd-place, payload-odd-rate}
+use Rattle.rules_reading.proofs.Refusals.{
   Clear,
   Sound,
   headerHeard,
@@ -57,7 +57,7 @@ use Rattle.reading.proofs.Refusals.{
   met-in-front,
   frame-ends,
 }
-use Rattle.reading.proofs.FirstPlaces.{
+use Rattle.rules_reading.proofs.FirstPlaces.{
   front-unusable-first,
   front-all-usable,
   payload-unusable-first,
@@ -67,7 +67,7 @@ use Rattle.reading.proofs.FirstPlaces.{
   front-even-ones,
   payload-odd-first,
 }
-use Rattle.reading.proofs.Fields.{
+use Rattle.rules_reading.proofs.Fields.{
   sfd-field,
   signal-field,
   service-field,
@@ -76,7 +76,7 @@ use Rattle.reading.proofs.Fields.{
   crc-is-right,
   crc-is-wrong,
 }
-use Rattle.reading.proofs.Comes.{ReadingComes, kind-none, rows-apart, by-front, by-payload, reading-comes}
+use Rattle.rules_reading.proofs.Comes.{ReadingComes, kind-none, rows-apart, by-front, by-payload, reading-comes}
 use Rattle.promises.specs.Calls.{Goes, long-1, short-2}
 use Rattle.promises.specs.Coming.{FrontOf, front-at}
 use Rattle.promises.specs.Reasons.{

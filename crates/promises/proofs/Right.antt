@@ -46,7 +46,7 @@ use Rattle.rules_choosing.proofs.Demand3.{demand-3, lead-says}
 use Rattle.rules_frame.specs.declared.Kind.{Kind}
 use Rattle.rules_frame.specs.declared.Kind.the-variants.{Long, Short}
 use Rattle.rules_frame.specs.Frame.{headerRate, frontChips, preambleLength, headerLength, preambleChips}
-use Rattle.reading.specs.Reading.{decidedWords, preambleWords, headerWords, payloadWords}
+use Rattle.rules_reading.specs.Reading.{decidedWords, preambleWords, headerWords, payloadWords}
 use Rattle.promises.specs.Calls.{in-hard, in-soft, in-bytes}
 use Rattle.promises.specs.Right.{
   exactFrom,

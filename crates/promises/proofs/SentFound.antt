@@ -18,7 +18,7 @@ use Rattle.rules_calls.specs.declared.Written.{Written}
 use Rattle.rules_calls.specs.declared.Told.{Told}
 use Rattle.rules_calls.specs.declared.Front.the-variants.{Fields}
 use Rattle.rules_calls.specs.Headers.{told}
-use Rattle.reading.specs.Reading.{frontOf}
+use Rattle.rules_reading.specs.Reading.{frontOf}
 use Rattle.finding.specs.declared.NotFound.the-variants.{NoKind, NoOffsets, NoStart}
 use Rattle.finding.specs.declared.Finding.{Finding}
 use Rattle.finding.specs.declared.Finding.the-variants.{Refused, Start}

@@ -16,8 +16,8 @@ use Rattle.rules_calls.specs.declared.Written.{Written}
 use Rattle.rules_calls.specs.declared.Told.{Told}
 use Rattle.rules_calls.specs.declared.Front.the-variants.{Fields}
 use Rattle.rules_calls.specs.Headers.{told}
-use Rattle.reading.specs.Reading.{frontOf}
-use Rattle.reading.proofs.Local.{front-same}
+use Rattle.rules_reading.specs.Reading.{frontOf}
+use Rattle.rules_reading.proofs.Local.{front-same}
 use Rattle.clean.proofs.Recorded.{hard-recorded}
 use Rattle.clean.proofs.Back as clean
 use Rattle.coming.specs.declared.Coming.{Coming}

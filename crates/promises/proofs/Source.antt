@@ -31,7 +31,7 @@ use Rattle.rules_frame.specs.Frame.{
   frame,
 }
 use Rattle.rules_calls.specs.Answers.{recordOf}
-use Rattle.reading.specs.Reading.{readingOf, octetsFound}
+use Rattle.rules_reading.specs.Reading.{readingOf, octetsFound}
 use Rattle.promises.specs.Calls.{Read, Sent, of-hard, good, shown, sentLead, sentSymbol}
 use Rattle.promises.specs.Promises.{OneSource}
 use Rattle.promises.proofs.Back.{back, chips-are}

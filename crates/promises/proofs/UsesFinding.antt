@@ -11,7 +11,7 @@ use Rattle.rules_rates.specs.Plain.{LengthOf}
 use Rattle.rules_calls.specs.declared.Written.{Written}
 use Rattle.rules_calls.specs.declared.Record.{Record}
 use Rattle.rules_calls.specs.Answers.{recordOf}
-use Rattle.reading.specs.Reading.{readingOf, octetsFound}
+use Rattle.rules_reading.specs.Reading.{readingOf, octetsFound}
 use Rattle.rules_chips.specs.Chips.{hardRecording}
 use Rattle.rules_frame.specs.Frame.{kindOf}
 use Rattle.coming.specs.declared.Coming.{Coming}

@@ -14,9 +14,9 @@ use Rattle.rules_bits.specs.Bits.{numberOf}
 use Rattle.rules_bits.specs.Crc.{crcBits}
 use Rattle.rules_frame.specs.Frame.{kindOf, fieldBits}
 use Rattle.rules_calls.specs.declared.Record.{Record}
-use Rattle.reading.specs.Places.{UsableAt, UnusableFirst, FirstOddSymbol}
-use Rattle.reading.specs.Decoded.{FieldAt}
-use Rattle.reading.proofs.Once.{field-once}
+use Rattle.rules_reading.specs.Places.{UsableAt, UnusableFirst, FirstOddSymbol}
+use Rattle.rules_reading.specs.Decoded.{FieldAt}
+use Rattle.rules_reading.proofs.Once.{field-once}
 use Rattle.promises.specs.Calls.{Read, Goes}
 use Rattle.promises.specs.Coming.{FrontOf}
 use Rattle.promises.specs.Reasons.{

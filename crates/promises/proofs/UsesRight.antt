@@ -31,7 +31,7 @@ use Rattle.rules_symbols.specs.Choice.{numbers, isAllowed}
 use Rattle.rules_choosing.specs.Demand3.{exactAt}
 use Rattle.rules_frame.specs.declared.Kind.{Kind}
 use Rattle.rules_frame.specs.Frame.{headerRate, headerLength, preambleChips, frontChips, frameChips, preambleLength}
-use Rattle.reading.specs.Reading.{preambleWords, headerWords, payloadWords}
+use Rattle.rules_reading.specs.Reading.{preambleWords, headerWords, payloadWords}
 use Rattle.promises.specs.Calls.{in-hard, in-soft, in-bytes}
 use Rattle.promises.specs.Right.{exactFrom, EachRight, exactHard, exactSoft, exactBytes}
 use Rattle.promises.proofs.Kept.{kept}

@@ -17,7 +17,7 @@ use Rattle.rules_calls.specs.declared.Written.{Written}
 use Rattle.rules_calls.specs.declared.Record.{Record}
 use Rattle.rules_calls.specs.Answers.{writtenOf, recordOf}
 use Rattle.rules_calls.specs.Writing.{writingOf, chipsWritten}
-use Rattle.reading.specs.Reading.{readingOf, octetsFound}
+use Rattle.rules_reading.specs.Reading.{readingOf, octetsFound}
 use Rattle.coming.specs.declared.Coming.{Coming}
 use Rattle.coming.specs.Coming.{frontReading, comingOf, partOf}
 use Rattle.finding.specs.declared.Found.{Found}

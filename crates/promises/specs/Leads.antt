@@ -24,7 +24,7 @@ use Rattle.rules_frame.specs.Frame.{
   preambleChips,
 }
 use Rattle.rules_calls.specs.declared.Record.{Record}
-use Rattle.reading.specs.Reading.{preambleWords, headerWords, payloadWords}
+use Rattle.rules_reading.specs.Reading.{preambleWords, headerWords, payloadWords}
 use Rattle.promises.specs.Calls.{Read, Rows, in-hard, in-soft, in-bytes, takenOf}
 use Rattle.promises.specs.Right.{exactFrom, exactRows, GoodAt}
 

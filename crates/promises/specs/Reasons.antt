@@ -15,8 +15,8 @@ use Rattle.rules_bits.specs.Bits.{numberOf}
 use Rattle.rules_bits.specs.Crc.{crcBits}
 use Rattle.rules_frame.specs.Frame.{kindOf, fieldBits}
 use Rattle.rules_calls.specs.declared.Record.{Record}
-use Rattle.reading.specs.Places.{UsableAt, UnusableFirst, oddBehind, FirstOddSymbol}
-use Rattle.reading.specs.Decoded.{FieldAt}
+use Rattle.rules_reading.specs.Places.{UsableAt, UnusableFirst, oddBehind, FirstOddSymbol}
+use Rattle.rules_reading.specs.Decoded.{FieldAt}
 use Rattle.promises.specs.Calls.{Read, good, refusedAt, refused, Goes}
 use Rattle.promises.specs.Coming.{FrontOf}
 

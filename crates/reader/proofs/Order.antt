@@ -20,8 +20,8 @@ use Rattle.rules_calls.specs.declared.Reading.{Reading}
 use Rattle.rules_calls.specs.declared.Reading.the-variants.{Refused}
 use Rattle.rules_calls.specs.declared.Record.{Record}
 use Rattle.rules_calls.specs.Answers.{recordOf}
-use Rattle.reading.specs.Reading.{firstUnusable, payloadOdd, payloadReading, readingOf, octetsAfter, octetsFound}
-use Rattle.reading.specs.Leads.{frameLeads, leastOf}
+use Rattle.rules_reading.specs.Reading.{firstUnusable, payloadOdd, payloadReading, readingOf, octetsAfter, octetsFound}
+use Rattle.rules_reading.specs.Leads.{frameLeads, leastOf}
 use Rattle.recorded.specs.declared.Place.{Place}
 use Rattle.recorded.specs.declared.Place.the-variants.{Nothing, At}
 use Rattle.recorded.specs.Recorded.{whereFound, AllUsable}

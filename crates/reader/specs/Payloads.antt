@@ -12,7 +12,7 @@ use Rattle.rules_calls.specs.declared.Told.{Told}
 use Rattle.rules_calls.specs.declared.Least.{Least}
 use Rattle.rules_calls.specs.declared.Reading.{Reading}
 use Rattle.rules_calls.specs.declared.Reading.the-variants.{Refused, Good}
-use Rattle.reading.specs.Reading.{orElse, payloadOf}
+use Rattle.rules_reading.specs.Reading.{orElse, payloadOf}
 
 -- what a payload leaves in room for so many octets: zeros where a symbol is grown by 1 or 3
 abbrev pub octetsHeard : Kind → Rate → ℕ → List Taken → ℕ → Option ℕ → List ℕ

@@ -6,7 +6,7 @@ ghost use lib.Dec.{eqb};
 ghost use lib.ListN.{length};
 ghost use Rattle.rules_chips.specs.Chips.{hardRecording, softRecording, byteRecording};
 ghost use Rattle.rules_calls.specs.Answers.{recordOf};
-ghost use Rattle.reading.specs.Reading.{readingOf, octetsFound};
+ghost use Rattle.rules_reading.specs.Reading.{readingOf, octetsFound};
 ghost use Rattle.recorders.specs.Rows.{lent};
 use rules_calls::Front;
 use rules_calls::Reading;

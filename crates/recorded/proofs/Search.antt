@@ -17,7 +17,7 @@ use native.Mathlib.Omega.{arith}
 use lib.ListN.{length, getD, take, drop}
 use lib.Seq.{drop-cons}
 use Rattle.rules_chips.specs.Chips.{Taken, unusable, isUnusable}
-use Rattle.reading.specs.Reading.{firstUnusable}
+use Rattle.rules_reading.specs.Reading.{firstUnusable}
 use Rattle.recorded.specs.Recorded.{AllUsable}
 
 -- the part of a recording from one place to another begins with the chip at the first

@@ -7,7 +7,7 @@ use Prim.Native.Nat.{ℕ, _-_, _≤_}
 use native.Mathlib.Omega.{arith}
 use lib.ListN.{length, take, drop}
 use Rattle.rules_chips.specs.Chips.{Taken}
-use Rattle.reading.specs.Reading.{orElse, firstUnusable}
+use Rattle.rules_reading.specs.Reading.{orElse, firstUnusable}
 use Rattle.recorded.specs.declared.Place.{Place}
 use Rattle.recorded.specs.declared.Place.the-variants.{Nothing, At}
 use Rattle.recorded.specs.Recorded.{whereFound, AllUsable}

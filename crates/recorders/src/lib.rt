@@ -6,7 +6,7 @@ ghost use Prim.Native.Nat.{_+_, _*_, _-_, _≤_, _<_};
 ghost use lib.ListN.{length, getD, take, drop};
 ghost use Rattle.rules_rates.specs.Rates.{symbolChips};
 ghost use Rattle.rules_chips.specs.Chips.{unusable, isUnusable};
-ghost use Rattle.reading.specs.Reading.{firstUnusable};
+ghost use Rattle.rules_reading.specs.Reading.{firstUnusable};
 ghost use Rattle.recorders.specs.Rows.{lent};
 ghost use Rattle.recorded.specs.Recorded.{whereFound, AllUsable, DecidedAt, LeadsAt};
 use rules_rates::Rate;

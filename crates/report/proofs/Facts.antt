@@ -13,7 +13,7 @@ use Rattle.base.specs.Tables.{tabulate}
 use Rattle.rules_chips.specs.Chips.{hardRecording}
 use Rattle.rules_frame.specs.declared.Kind.the-variants.{Long, Short}
 use Rattle.rules_frame.specs.Frame.{frontChips}
-use Rattle.reading.specs.Reading.{firstUnusable, frontOf, readingOf}
+use Rattle.rules_reading.specs.Reading.{firstUnusable, frontOf, readingOf}
 use Rattle.report.specs.Totals.{Recording, Outcome, outcomeOf, total, frontTime, closestFrom}
 use Rattle.report.specs.Report.{
   reportOf,

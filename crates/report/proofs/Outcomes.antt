@@ -24,10 +24,10 @@ use Rattle.rules_calls.specs.declared.Record.{Record}
 use Rattle.rules_calls.specs.declared.Reading.{Reading}
 use Rattle.rules_calls.specs.declared.Reading.the-variants.{Refused, Good}
 use Rattle.rules_calls.specs.Answers.{refusalNumber, recordOf}
-use Rattle.reading.specs.Reading.{frontOf, wholeOf, payloadOdd, payloadReading, afterFront, readingOf}
-use Rattle.reading.proofs.Payloads.{foundUnusable}
-use Rattle.reading.proofs.Telling.{searched, Telling, TellingWholeIf, whole-telling}
-use Rattle.reading.proofs.Refusals.{RefusesIf, whole-refuses, whole-number}
+use Rattle.rules_reading.specs.Reading.{frontOf, wholeOf, payloadOdd, payloadReading, afterFront, readingOf}
+use Rattle.rules_reading.proofs.Payloads.{foundUnusable}
+use Rattle.rules_reading.proofs.Telling.{searched, Telling, TellingWholeIf, whole-telling}
+use Rattle.rules_reading.proofs.Refusals.{RefusesIf, whole-refuses, whole-number}
 use Rattle.report.specs.Totals.{Recording, outcomeOf}
 
 -- a LENGTH of at most 4,095 octets

@@ -8,7 +8,7 @@ use lib.Dec.{eqb, ltb}
 use Rattle.rules_chips.specs.Chips.{hardRecording}
 use Rattle.rules_calls.specs.declared.Record.{Record}
 use Rattle.rules_calls.specs.Answers.{recordOf}
-use Rattle.reading.specs.Reading.{readingOf}
+use Rattle.rules_reading.specs.Reading.{readingOf}
 
 -- a recording as it is handed in: a kind, which may be none, and hard chips
 pub record Recording : Type 0 where

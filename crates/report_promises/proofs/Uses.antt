@@ -16,7 +16,7 @@ use Rattle.rules_rates.specs.Rates.{codeOf, rateOf}
 use Rattle.rules_rates.specs.Plain.{LengthOf}
 use Rattle.rules_calls.specs.declared.Written.{Written}
 use Rattle.rules_calls.specs.declared.Record.{Record}
-use Rattle.reading.specs.Reading.{octetsFound}
+use Rattle.rules_reading.specs.Reading.{octetsFound}
 use Rattle.report.specs.declared.Report.{Report}
 use Rattle.report.specs.declared.Counted.{Counted}
 use Rattle.report.specs.declared.Spelled.{Spelled}

@@ -19,10 +19,10 @@ use Rattle.rules_frame.specs.declared.Kind.the-variants.{Long, Short}
 use Rattle.rules_frame.specs.Frame.{sfdOf, syncBits}
 use Rattle.rules_calls.specs.declared.Told.{Told}
 use Rattle.rules_calls.specs.declared.Front.the-variants.{Fields}
-use Rattle.reading.specs.Reading.{frontOf}
-use Rattle.reading.proofs.Sfd.{wordAt, sfd-bit}
+use Rattle.rules_reading.specs.Reading.{frontOf}
+use Rattle.rules_reading.proofs.Sfd.{wordAt, sfd-bit}
 use Rattle.sweep.specs.Sweep.{halfAt, bitAt, plainAt, octetAt, sfdFrom}
-use Rattle.reading.proofs.Halves.{front-bit}
+use Rattle.rules_reading.proofs.Halves.{front-bit}
 
 module _ (rec : List Taken) (o : ℕ) where
   abbrev from : List Taken

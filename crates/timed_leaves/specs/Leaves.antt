@@ -14,7 +14,7 @@ use Rattle.rules_rates.specs.Rates.{isCode, rateOf, symbolChips}
 use Rattle.rules_chips.specs.Floats.{countOf}
 use Rattle.rules_chips.specs.Chips.{Taken, takenCounts, softRecording}
 use Rattle.rules_symbols.specs.Choice.{decided}
-use Rattle.reading.specs.Reading.{orElse, firstUnusable}
+use Rattle.rules_reading.specs.Reading.{orElse, firstUnusable}
 use Rattle.recorded.specs.Recorded.{symbolAt}
 use Rattle.recorders.specs.declared.Recorder.{Recorder}
 use Rattle.recorders.specs.declared.Recorder.the-variants.{Hard, Soft, Bytes}

@@ -6,7 +6,7 @@ use borrow.Author.Needs.{needs}
 use Rattle.base.proofs.Over.{lent}
 use Rattle.rules_chips.specs.Chips.{hardRecording}
 use Rattle.rules_chips.proofs.Recorders.{drop-hard}
-use Rattle.reading.specs.Reading.{frontOf}
+use Rattle.rules_reading.specs.Reading.{frontOf}
 use Rattle.finder.proofs.front_at.Statement.{statement}
 use Rattle.finder.proofs.front_at.Tie as tie
 

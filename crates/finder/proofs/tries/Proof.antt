@@ -1,7 +1,7 @@
 -- `finder::tries` meets its contract: an offset has a front behind it just below the chips less a front's, and one.
 -- Assumes nothing.
 use native.Mathlib.Omega.{arith}
-use Rattle.reading.proofs.Places.{some-chips}
+use Rattle.rules_reading.proofs.Places.{some-chips}
 use Rattle.finder.proofs.tries.Statement.{statement}
 use Rattle.finder.proofs.tries.Tie as tie
 

@@ -6,7 +6,7 @@ use borrow.Author.Needs.{needs}
 use Rattle.rules_chips.specs.Chips.{hardRecording}
 use Rattle.rules_calls.specs.declared.Front.{Front}
 use Rattle.rules_calls.specs.declared.Front.the-variants as front
-use Rattle.reading.specs.Reading.{frontOf}
+use Rattle.rules_reading.specs.Reading.{frontOf}
 use Rattle.finding.specs.declared.NotFound.the-variants.{NoStart}
 use Rattle.finding.specs.declared.Finding.{Finding}
 use Rattle.finding.specs.declared.Finding.the-variants.{Refused}

@@ -11,7 +11,7 @@ use Rattle.rules_frame.specs.Frame.{isKind, kindOf}
 use Rattle.rules_calls.specs.declared.Refusal.the-variants.{NoKind}
 use Rattle.rules_calls.specs.declared.Front.{Front}
 use Rattle.rules_calls.specs.declared.Front.the-variants.{Refused}
-use Rattle.reading.specs.Reading.{frontOf, wholeOf}
+use Rattle.rules_reading.specs.Reading.{frontOf, wholeOf}
 use Rattle.coming.specs.declared.Coming.{Coming}
 use Rattle.coming.specs.Coming.{frontReading, comingOf}
 use Rattle.coming.proofs.Laws.{coming-no-kind, coming-whole}

@@ -9,7 +9,7 @@ use Rattle.rules_rates.specs.declared.Rate.{Rate}
 use Rattle.rules_rates.specs.Rates.{symbolChips, octetSymbols, octetChips}
 use Rattle.rules_rates.proofs.Octets.{part-chips}
 use Rattle.rules_chips.specs.Chips.{Taken}
-use Rattle.reading.specs.Leads.{leastFrom}
+use Rattle.rules_reading.specs.Leads.{leastFrom}
 use Rattle.recorders.specs.Rows.{recordingOf}
 use Rattle.recorded.specs.Recorded.{AllUsable}
 use Rattle.recorders.proofs.Rows.{recording-fits}

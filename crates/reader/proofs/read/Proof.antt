@@ -11,8 +11,8 @@ use Rattle.rules_frame.specs.Frame.{isKind, frameChips}
 use Rattle.rules_calls.specs.declared.Told.{Told}
 use Rattle.rules_calls.specs.declared.Reading.{Reading}
 use Rattle.rules_calls.specs.declared.Front.the-variants.{Fields}
-use Rattle.reading.specs.Reading.{payloadReading, octetsAfter}
-use Rattle.reading.specs.Leads.{frontLeads, leastOf}
+use Rattle.rules_reading.specs.Reading.{payloadReading, octetsAfter}
+use Rattle.rules_reading.specs.Leads.{frontLeads, leastOf}
 use Rattle.fronts.specs.declared.Opening.{Opening}
 use Rattle.fronts.specs.Openings.{Opened, OpensWhole}
 use borrow.Author.Needs.{needs}

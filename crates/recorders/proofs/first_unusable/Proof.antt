@@ -8,7 +8,7 @@ use lib.ListN.{take, drop}
 use borrow.Author.Needs.{needs}
 use borrow.Author.Tests.{not-true, not-false}
 use Rattle.rules_chips.specs.Chips.{unusable}
-use Rattle.reading.specs.Reading.{firstUnusable}
+use Rattle.rules_reading.specs.Reading.{firstUnusable}
 use Rattle.recorders.specs.Rows.{recordingOf}
 use Rattle.recorded.proofs.Search.{search-on, search-here, search-over}
 use Rattle.recorders.proofs.first_unusable.Statement.{statement}

@@ -6,7 +6,7 @@ use Prim.Native.Nat.{_-_, _^_}
 use native.Mathlib.Omega.{arith}
 use lib.ListN.{take, drop}
 use borrow.Author.Tests.{leb-true}
-use Rattle.reading.specs.Reading.{firstUnusable}
+use Rattle.rules_reading.specs.Reading.{firstUnusable}
 use Rattle.recorders.specs.Rows.{recordingOf}
 use Rattle.recorders.proofs.Rows.{recording-fits}
 use Rattle.recorded.proofs.Search.{search-past}

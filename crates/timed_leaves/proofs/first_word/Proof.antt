@@ -11,7 +11,7 @@ use Rattle.rules_rates.specs.declared.Rate.{Rate}
 use Rattle.rules_rates.specs.Rates.{symbolChips}
 use Rattle.rules_chips.specs.Chips.{Taken, takenCounts, softRecording}
 use Rattle.rules_symbols.specs.Choice.{decided}
-use Rattle.reading.specs.Reading.{firstUnusable}
+use Rattle.rules_reading.specs.Reading.{firstUnusable}
 use Rattle.recorded.specs.declared.Place.{Place}
 use Rattle.recorded.specs.declared.Place.the-variants.{Nothing, At}
 use Rattle.recorded.specs.Recorded.{whereFound, AllUsable, DecidedAt}

@@ -3,7 +3,7 @@ use mathlib.Core.Path.{sym}
 use native.Mathlib.Omega.{arith}
 use borrow.Author.Needs.{needs}
 use borrow.Author.Tests.{not-true}
-use Rattle.reading.proofs.Lowest.{row-kept}
+use Rattle.rules_reading.proofs.Lowest.{row-kept}
 use Rattle.blocks.proofs.least.least_after.Statement.{statement}
 use Rattle.blocks.proofs.least.least_after.Tie as tie
 

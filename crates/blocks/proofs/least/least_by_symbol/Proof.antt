@@ -4,8 +4,8 @@ use mathlib.Core.Path.{_≡_, refl, subst, _∙_}
 use Prim.Native.Nat.{ℕ, _-_, _≤_}
 use native.Mathlib.Omega.{arith}
 use lib.ListN.{take}
-use Rattle.reading.specs.Leads.{leastFrom}
-use Rattle.reading.proofs.Lowest.{row-more}
+use Rattle.rules_reading.specs.Leads.{leastFrom}
+use Rattle.rules_reading.proofs.Lowest.{row-more}
 use Rattle.blocks.proofs.least.least_by_symbol.Statement.{statement}
 use Rattle.blocks.proofs.least.least_by_symbol.Tie as tie
 

@@ -1,7 +1,7 @@
 -- `blocks::least::least_of` meets its contract: it starts from the first lead. Assumes nothing.
 use mathlib.Core.Path.{_∙_}
 use borrow.Author.Needs.{needs}
-use Rattle.reading.proofs.Lowest.{row-least}
+use Rattle.rules_reading.proofs.Lowest.{row-least}
 use Rattle.blocks.proofs.least.least_of.Statement.{statement}
 use Rattle.blocks.proofs.least.least_of.Tie as tie
 

@@ -6,7 +6,7 @@ use native.Mathlib.Omega.{arith}
 use lib.ListN.{getD}
 use borrow.Author.Count.{below-more}
 use borrow.Author.Tests.{eqb-false}
-use Rattle.reading.proofs.FirstOdd.{or-low}
+use Rattle.rules_reading.proofs.FirstOdd.{or-low}
 use Rattle.blocks.proofs.odd.any_odd.Statement.{statement}
 use Rattle.blocks.proofs.odd.any_odd.Tie as tie
 

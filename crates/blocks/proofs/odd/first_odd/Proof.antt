@@ -4,7 +4,7 @@ use Prim.Native.Nat.{ℕ, _-_, _%_, _≤_, _<_}
 use native.Mathlib.Omega.{arith}
 use lib.ListN.{getD}
 use borrow.Author.Count.{below-more}
-use Rattle.reading.proofs.FirstOdd.{row-none, row-first}
+use Rattle.rules_reading.proofs.FirstOdd.{row-none, row-first}
 use Rattle.blocks.proofs.odd.first_odd.Statement.{statement}
 use Rattle.blocks.proofs.odd.first_odd.Tie as tie
 

@@ -2,7 +2,7 @@
 use mathlib.Core.Path.{sym}
 use native.Mathlib.Omega.{arith}
 use borrow.Author.Needs.{needs}
-use Rattle.reading.proofs.FirstOdd.{row-none}
+use Rattle.rules_reading.proofs.FirstOdd.{row-none}
 use Rattle.blocks.proofs.odd.odd_of_one.Statement.{statement}
 use Rattle.blocks.proofs.odd.odd_of_one.Tie as tie
 

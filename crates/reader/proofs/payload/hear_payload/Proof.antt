@@ -13,9 +13,9 @@ use Rattle.rules_chips.specs.Chips.{Taken}
 use Rattle.lines.specs.declared.Line.{Line}
 use Rattle.rules_frame.specs.declared.Kind.{Kind}
 use Rattle.rules_frame.specs.Frame.{frontChips, frameChips}
-use Rattle.reading.specs.Reading.{payloadOdd, payloadOf}
+use Rattle.rules_reading.specs.Reading.{payloadOdd, payloadOf}
 use Rattle.rules_calls.specs.declared.Least.{Least}
-use Rattle.reading.specs.Leads.{frontLeads, frameLeads, leastOf}
+use Rattle.rules_reading.specs.Leads.{frontLeads, frameLeads, leastOf}
 use Rattle.recorded.specs.declared.Place.the-variants.{Nothing, At}
 use Rattle.recorded.specs.Recorded.{whereFound, AllUsable}
 use Rattle.hearing.specs.declared.Part.{Part}

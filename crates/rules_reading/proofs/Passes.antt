@@ -23,7 +23,7 @@ use Rattle.rules_bits.specs.Growths.{growthBits}
 use Rattle.rules_bits.specs.Scrambler.{descramble}
 use Rattle.rules_bits.specs.Code.{pastAfter}
 use Rattle.rules_bits.proofs.Scrambler.{descramble-window}
-use Rattle.reading.specs.Reading.{orElse, firstOdd, oddGrowth, decidedWords}
+use Rattle.rules_reading.specs.Reading.{orElse, firstOdd, oddGrowth, decidedWords}
 
 -- ---- received bits
 

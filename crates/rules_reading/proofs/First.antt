@@ -12,7 +12,7 @@ use borrow.Author.Tests.{eqb-true, eqb-false}
 use lib.Dec.{T, eqb}
 use lib.ListN.{length, getD}
 use Rattle.rules_chips.specs.Chips.{Taken, unusable, counted, isUnusable}
-use Rattle.reading.specs.Reading.{firstUnusable, firstOdd}
+use Rattle.rules_reading.specs.Reading.{firstUnusable, firstOdd}
 
 -- ---- a place that was found
 one-place : {p q : ℕ} → some p ≡ some q → p ≡ q

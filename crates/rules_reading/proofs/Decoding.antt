@@ -33,8 +33,8 @@ use Rattle.rules_frame.specs.Frame.{
   headerLength,
   preambleChips,
 }
-use Rattle.reading.specs.Places.{wordFrom}
-use Rattle.reading.specs.Decoded.{
+use Rattle.rules_reading.specs.Places.{wordFrom}
+use Rattle.rules_reading.specs.Decoded.{
   rateAt,
   placeAt,
   bitAt,
@@ -47,7 +47,7 @@ use Rattle.reading.specs.Decoded.{
   of-three,
   FieldAt,
 }
-use Rattle.reading.specs.Reading.{
+use Rattle.rules_reading.specs.Reading.{
   preambleWords,
   headerWords,
   reference,
@@ -58,9 +58,9 @@ use Rattle.reading.specs.Reading.{
   payloadWords,
   payloadOf,
 }
-use Rattle.reading.proofs.Places.{decidedWords-length}
-use Rattle.reading.proofs.Sfd.{words-at}
-use Rattle.reading.proofs.Parts.{
+use Rattle.rules_reading.proofs.Places.{decidedWords-length}
+use Rattle.rules_reading.proofs.Sfd.{words-at}
+use Rattle.rules_reading.proofs.Parts.{
   headerSymbols,
   front-symbols,
   header-bits,

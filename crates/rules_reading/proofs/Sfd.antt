@@ -26,7 +26,7 @@ use Rattle.rules_frame.specs.declared.Kind.{Kind}
 use Rattle.rules_frame.specs.Frame.{sfdOf, syncBits, headerRate, start}
 use Rattle.rules_calls.specs.declared.Told.{Told}
 use Rattle.rules_calls.specs.declared.Front.the-variants.{Fields}
-use Rattle.reading.specs.Reading.{
+use Rattle.rules_reading.specs.Reading.{
   decidedWords,
   preambleWords,
   headerWords,
@@ -36,8 +36,8 @@ use Rattle.reading.specs.Reading.{
   frontBits,
   frontOf,
 }
-use Rattle.reading.proofs.Refusals.{FrontIf, front-refuses}
-use Rattle.reading.proofs.Places.{decidedWords-length}
+use Rattle.rules_reading.proofs.Refusals.{FrontIf, front-refuses}
+use Rattle.rules_reading.proofs.Places.{decidedWords-length}
 
 -- the word that symbol n is decided as
 abbrev pub wordAt : Rate → List Taken → ℕ → ℕ

@@ -15,9 +15,9 @@ use Rattle.rules_frame.specs.declared.Kind.{Kind}
 use Rattle.rules_frame.specs.Frame.{syncBits}
 use Rattle.rules_calls.specs.declared.Told.{Told}
 use Rattle.rules_calls.specs.declared.Front.the-variants.{Fields}
-use Rattle.reading.specs.Reading.{frontOf}
-use Rattle.reading.proofs.Sfd.{wordAt}
-use Rattle.reading.proofs.Even.{front-even}
+use Rattle.rules_reading.specs.Reading.{frontOf}
+use Rattle.rules_reading.proofs.Sfd.{wordAt}
+use Rattle.rules_reading.proofs.Even.{front-even}
 
 even-bit : (a b : ℕ) → a < 4 → b < 4 → grownBy a b % 2 ≡ 0 → grownBy a b / 2 ≡ (a / 2) ⊕ (b / 2)
 even-bit a b h k e = omega arith

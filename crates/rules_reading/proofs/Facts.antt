@@ -45,8 +45,16 @@ use Rattle.rules_frame.specs.Frame.{
 }
 use Rattle.rules_calls.specs.Answers.{recordOf}
 use Rattle.rules_calls.specs.Headers.{told, sameBits, fieldsOf, headerOf}
-use Rattle.reading.specs.Leads.{decidedLeads, frontLeads, payloadLeads, frameLeads, leadAt, leastFrom, leastOf}
-use Rattle.reading.specs.Reading.{
+use Rattle.rules_reading.specs.Leads.{
+  decidedLeads,
+  frontLeads,
+  payloadLeads,
+  frameLeads,
+  leadAt,
+  leastFrom,
+  leastOf,
+}
+use Rattle.rules_reading.specs.Reading.{
   firstUnusable,
   firstOdd,
   oddGrowth,

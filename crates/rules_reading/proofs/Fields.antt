@@ -22,10 +22,17 @@ use Rattle.rules_bits.proofs.Scrambler.{descramble-length, descramble-below}
 use Rattle.rules_frame.specs.declared.Kind.{Kind}
 use Rattle.rules_frame.specs.declared.Kind.the-variants.{Long, Short}
 use Rattle.rules_frame.specs.Frame.{syncBits, start, preambleLength, fieldBits}
-use Rattle.reading.specs.Decoded.{FieldAt}
-use Rattle.reading.specs.Reading.{frontHeard, frontBits}
-use Rattle.reading.proofs.Refusals.{sfdHeard, headerHeard, signalHeard, serviceHeard, lengthHeard, CrcHeard}
-use Rattle.reading.proofs.Decoding.{front-length, front-fields}
+use Rattle.rules_reading.specs.Decoded.{FieldAt}
+use Rattle.rules_reading.specs.Reading.{frontHeard, frontBits}
+use Rattle.rules_reading.proofs.Refusals.{
+  sfdHeard,
+  headerHeard,
+  signalHeard,
+  serviceHeard,
+  lengthHeard,
+  CrcHeard,
+}
+use Rattle.rules_reading.proofs.Decoding.{front-length, front-fields}
 
 some-sync : (k : Kind) → 8 ≤ syncBits k
 some-sync Long = omega arith

@@ -13,8 +13,8 @@ use lib.Dec.{ltb}
 use lib.ListN.{length, getD, take}
 use lib.Seq.{getD-take, length-take-le, take-suc}
 use Rattle.rules_calls.specs.declared.Least.{Least}
-use Rattle.reading.specs.Leads.{leadAt, leastFrom, leastOf}
-use Rattle.reading.proofs.Leads.{least-kept, least-joined, leastOf-from}
+use Rattle.rules_reading.specs.Leads.{leadAt, leastFrom, leastOf}
+use Rattle.rules_reading.proofs.Leads.{least-kept, least-joined, leastOf-from}
 
 pub row-kept : (k : ℕ) (b : Least) (xs : List ℕ) (m : ℕ) → m ≤ length xs
     → ((j : ℕ) → j < m → b .lead ≤ getD xs j 0) → leastFrom k b (take m xs) ≡ b

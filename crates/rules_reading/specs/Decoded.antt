@@ -19,7 +19,7 @@ use Rattle.rules_bits.specs.Bits.{numberOf}
 use Rattle.rules_bits.specs.Growths.{heardBits}
 use Rattle.rules_frame.specs.declared.Kind.{Kind}
 use Rattle.rules_frame.specs.Frame.{headerRate, frontChips, frontSymbols, preambleLength, headerLength}
-use Rattle.reading.specs.Places.{wordFrom}
+use Rattle.rules_reading.specs.Places.{wordFrom}
 
 -- ---- the symbols of a frame with a payload at rate r, counted from 0 at its first: the rate of each, the place of its
 -- first chip, and the number of its first bit in the frame

@@ -12,7 +12,7 @@ use lib.ListN.{length, getD, take}
 use lib.Seq.{getD-take, length-take-le}
 use lib.Bits.{bitOr, or-step}
 use borrow.Author.Tests.{eq-eqb, ne-eqb}
-use Rattle.reading.specs.Reading.{firstOdd}
+use Rattle.rules_reading.specs.Reading.{firstOdd}
 
 pub or-low : (a b : ℕ) → (a % 2 ≤ bitOr a b % 2) × (b % 2 ≤ bitOr a b % 2)
 or-low a b = by (bitOr a b) _ (or-step a b)

@@ -16,8 +16,8 @@ use Rattle.rules_calls.specs.declared.Front.{Front}
 use Rattle.rules_calls.specs.declared.Front.the-variants as front
 use Rattle.rules_calls.specs.declared.Reading.{Reading}
 use Rattle.rules_calls.specs.declared.Reading.the-variants.{Refused}
-use Rattle.reading.specs.Reading.{frontOf, wholeOf, payloadReading, afterFront, readingOf}
-use Rattle.reading.proofs.Refusals.{FrontHeard, WholeRefusal, RefusesIf, whole-refuses}
+use Rattle.rules_reading.specs.Reading.{frontOf, wholeOf, payloadReading, afterFront, readingOf}
+use Rattle.rules_reading.proofs.Refusals.{FrontHeard, WholeRefusal, RefusesIf, whole-refuses}
 
 module _ (kind : ℕ) (agree : Bool) (rec : List Taken) (room : ℕ) where
   pub data ReadingComes : Reading → Type 0 where

@@ -51,8 +51,8 @@ use Rattle.rules_calls.proofs.Accepting.{
   fields-behind,
   header-comes,
 }
-use Rattle.reading.specs.Leads.{frameLeads, leastOf}
-use Rattle.reading.specs.Reading.{
+use Rattle.rules_reading.specs.Leads.{frameLeads, leastOf}
+use Rattle.rules_reading.specs.Reading.{
   firstUnusable,
   frontOdd,
   frontBits,
@@ -61,8 +61,8 @@ use Rattle.reading.specs.Reading.{
   wholeOf,
   payloadReading,
 }
-use Rattle.reading.proofs.Payloads.{foundUnusable}
-use Rattle.reading.proofs.Telling.{found-or-none, decided-by, searched}
+use Rattle.rules_reading.proofs.Payloads.{foundUnusable}
+use Rattle.rules_reading.proofs.Telling.{found-or-none, decided-by, searched}
 
 -- ---- fronts
 

@@ -15,10 +15,10 @@ use Rattle.rules_frame.specs.declared.Kind.{Kind}
 use Rattle.rules_frame.specs.Frame.{syncBits}
 use Rattle.rules_calls.specs.declared.Told.{Told}
 use Rattle.rules_calls.specs.declared.Front.the-variants.{Fields}
-use Rattle.reading.specs.Reading.{orElse, firstOdd, frontOdd, frontOf, reference, preambleWords}
-use Rattle.reading.proofs.Refusals.{FrontIf, front-refuses}
-use Rattle.reading.proofs.First.{no-place, odd-none}
-use Rattle.reading.proofs.Sfd.{wordAt, words-length, word-here}
+use Rattle.rules_reading.specs.Reading.{orElse, firstOdd, frontOdd, frontOf, reference, preambleWords}
+use Rattle.rules_reading.proofs.Refusals.{FrontIf, front-refuses}
+use Rattle.rules_reading.proofs.First.{no-place, odd-none}
+use Rattle.rules_reading.proofs.Sfd.{wordAt, words-length, word-here}
 
 -- ---- a search that found nothing
 or-none : (o rest : Option ℕ) → orElse o (λ p. some p) rest ≡ none → o ≡ none

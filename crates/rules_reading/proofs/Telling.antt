@@ -18,7 +18,7 @@ use Rattle.rules_calls.specs.declared.Front.{Front}
 use Rattle.rules_calls.specs.declared.Front.the-variants.{Refused, Fields}
 use Rattle.rules_calls.specs.Headers.{ours, headerOf}
 use Rattle.rules_calls.proofs.HeaderOnly.{HeaderSends, header-only}
-use Rattle.reading.specs.Reading.{orElse, firstUnusable, frontOdd, frontOf, wholeOf}
+use Rattle.rules_reading.specs.Reading.{orElse, firstUnusable, frontOdd, frontOf, wholeOf}
 
 -- a search, with what it found, and what holds where it found nothing
 pub searched : {A : Type 0} (P : A → Type 0) (o : Option ℕ) (f : ℕ → A) (y : A) → ((p : ℕ) → o ≡ some p → P (f p)) → P y

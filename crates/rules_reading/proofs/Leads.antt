@@ -35,7 +35,7 @@ use Rattle.rules_frame.specs.declared.Kind.{Kind}
 use Rattle.rules_frame.specs.declared.Kind.the-variants.{Long, Short}
 use Rattle.rules_frame.specs.Frame.{headerRate, frontChips, preambleLength, headerLength, preambleChips}
 use Rattle.rules_calls.specs.declared.Least.{Least}
-use Rattle.reading.specs.Leads.{
+use Rattle.rules_reading.specs.Leads.{
   decidedLeads,
   frontLeads,
   payloadLeads,

@@ -23,7 +23,7 @@ use Rattle.rules_bits.specs.Scrambler.{descramble}
 use Rattle.rules_frame.specs.declared.Kind.{Kind}
 use Rattle.rules_frame.specs.declared.Kind.the-variants.{Long, Short}
 use Rattle.rules_frame.specs.Frame.{headerRate, start, frontChips, preambleLength, headerLength, preambleChips}
-use Rattle.reading.specs.Reading.{
+use Rattle.rules_reading.specs.Reading.{
   orElse,
   oddGrowth,
   decidedWords,

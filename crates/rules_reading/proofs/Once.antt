@@ -17,7 +17,7 @@ use Rattle.rules_bits.specs.Bits.{numberOf}
 use Rattle.rules_frame.specs.declared.Kind.{Kind}
 use Rattle.rules_frame.specs.declared.Kind.the-variants.{Long, Short}
 use Rattle.rules_frame.specs.Frame.{headerRate, frontSymbols, preambleLength, headerLength}
-use Rattle.reading.specs.Decoded.{
+use Rattle.rules_reading.specs.Decoded.{
   rateAt,
   bitAt,
   bitsBehind,
@@ -27,8 +27,8 @@ use Rattle.reading.specs.Decoded.{
   of-three,
   FieldAt,
 }
-use Rattle.reading.proofs.Parts.{headerSymbols, front-symbols, header-bits}
-use Rattle.reading.proofs.Decoding.{in-preamble, in-header, in-payload}
+use Rattle.rules_reading.proofs.Parts.{headerSymbols, front-symbols, header-bits}
+use Rattle.rules_reading.proofs.Decoding.{in-preamble, in-header, in-payload}
 
 module _ (k : Kind) (r : Rate) (rec : List Taken) (n : ℕ) where
   abbrev P : ℕ

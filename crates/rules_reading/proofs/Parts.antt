@@ -20,9 +20,9 @@ use Rattle.rules_bits.specs.Growths.{heardBits}
 use Rattle.rules_frame.specs.declared.Kind.{Kind}
 use Rattle.rules_frame.specs.declared.Kind.the-variants.{Long, Short}
 use Rattle.rules_frame.specs.Frame.{headerRate, frontSymbols, preambleLength, headerLength}
-use Rattle.reading.specs.Places.{wordFrom}
-use Rattle.reading.specs.Reading.{decidedWords}
-use Rattle.reading.proofs.Sfd.{words-at}
+use Rattle.rules_reading.specs.Places.{wordFrom}
+use Rattle.rules_reading.specs.Reading.{decidedWords}
+use Rattle.rules_reading.proofs.Sfd.{words-at}
 
 -- ---- numbers of a front's symbols and bits
 abbrev pub headerSymbols : Kind → ℕ

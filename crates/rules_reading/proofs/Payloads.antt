@@ -11,8 +11,8 @@ use Rattle.rules_frame.specs.Frame.{frontChips, frameChips}
 use Rattle.rules_calls.specs.declared.Refusal.the-variants.{Unusable, OddGrowth, OctetRoom}
 use Rattle.rules_calls.specs.declared.Told.{Told}
 use Rattle.rules_calls.specs.declared.Reading.the-variants.{Refused, Good}
-use Rattle.reading.specs.Leads.{frameLeads, leastOf}
-use Rattle.reading.specs.Reading.{firstUnusable, payloadOdd, payloadReading}
+use Rattle.rules_reading.specs.Leads.{frameLeads, leastOf}
+use Rattle.rules_reading.specs.Reading.{firstUnusable, payloadOdd, payloadReading}
 
 -- the first unusable chip of a payload
 abbrev pub foundUnusable : Kind → Told → List Taken → Option ℕ

@@ -22,7 +22,7 @@ use Rattle.rules_frame.specs.Frame.{headerRate, frontChips, preambleLength, hea
 use Rattle.rules_calls.specs.declared.Refusal.{Refusal}
 use Rattle.rules_calls.specs.declared.Told.{Told}
 use Rattle.rules_calls.specs.Answers.{refusalPlace}
-use Rattle.reading.specs.Reading.{
+use Rattle.rules_reading.specs.Reading.{
   firstUnusable,
   firstOdd,
   oddGrowth,
@@ -36,11 +36,11 @@ use Rattle.reading.specs.Reading.{
   payloadWords,
   payloadOdd,
 }
-use Rattle.reading.proofs.Local.{preamble-fits, header-fits}
-use Rattle.reading.proofs.Payloads.{foundUnusable}
-use Rattle.reading.proofs.Telling.{searched}
-use Rattle.reading.proofs.First.{unusable-first, odd-first}
-use Rattle.reading.proofs.Refusals.{
+use Rattle.rules_reading.proofs.Local.{preamble-fits, header-fits}
+use Rattle.rules_reading.proofs.Payloads.{foundUnusable}
+use Rattle.rules_reading.proofs.Telling.{searched}
+use Rattle.rules_reading.proofs.First.{unusable-first, odd-first}
+use Rattle.rules_reading.proofs.Refusals.{
   FrontRefusal,
   front-short,
   front-unusable,

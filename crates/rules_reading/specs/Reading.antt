@@ -32,7 +32,7 @@ use Rattle.rules_calls.specs.declared.Front.the-variants as front
 use Rattle.rules_calls.specs.declared.Reading.{Reading}
 use Rattle.rules_calls.specs.declared.Reading.the-variants as reading
 use Rattle.rules_calls.specs.Headers.{ours, headerOf}
-use Rattle.reading.specs.Leads.{frameLeads, leastOf}
+use Rattle.rules_reading.specs.Leads.{frameLeads, leastOf}
 use Rattle.rules_frame.specs.Frame.{
   isKind,
   kindOf,

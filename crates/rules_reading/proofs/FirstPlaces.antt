@@ -34,8 +34,8 @@ use Rattle.rules_frame.specs.Frame.{
   preambleChips,
 }
 use Rattle.rules_calls.specs.declared.Told.{Told}
-use Rattle.reading.specs.Places.{UsableAt, UnusableFirst, wordFrom, oddBehind, FirstOddSymbol}
-use Rattle.reading.specs.Reading.{
+use Rattle.rules_reading.specs.Places.{UsableAt, UnusableFirst, wordFrom, oddBehind, FirstOddSymbol}
+use Rattle.rules_reading.specs.Reading.{
   orElse,
   firstUnusable,
   firstOdd,
@@ -50,10 +50,10 @@ use Rattle.reading.specs.Reading.{
   payloadWords,
   payloadOdd,
 }
-use Rattle.reading.proofs.Payloads.{foundUnusable}
-use Rattle.reading.proofs.Places.{decidedWords-length}
-use Rattle.reading.proofs.First.{no-place, unusable-first, unusable-none, FirstOdd, odd-first, odd-none}
-use Rattle.reading.proofs.Sfd.{words-at}
+use Rattle.rules_reading.proofs.Payloads.{foundUnusable}
+use Rattle.rules_reading.proofs.Places.{decidedWords-length}
+use Rattle.rules_reading.proofs.First.{no-place, unusable-first, unusable-none, FirstOdd, odd-first, odd-none}
+use Rattle.rules_reading.proofs.Sfd.{words-at}
 
 -- ---- 9
 -- a part of m chips from place `at` on, all before it usable
