@@ -8,7 +8,7 @@ ghost use Rattle.promises.specs.Calls.{Wrote, ReadHard, ReadSoft, ReadBytes, Re
 ghost use Rattle.report_promises.specs.Calls.{Adds, Lists, Spells};
 use rules_calls::Record;
 use rules_calls::Written;
-use coming::Coming;
+use rules_coming::Coming;
 use finding::Found;
 use report::Counted;
 use report::Report;

@@ -3,7 +3,7 @@
 // with the file stdout.
 use rules_calls::Record;
 use rules_calls::Written;
-use coming::Coming;
+use rules_coming::Coming;
 use libc::STDOUT_FILENO;
 
 // Chips or octets, a space before each.

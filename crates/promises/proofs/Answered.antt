@@ -11,8 +11,8 @@ use Rattle.rules_chips.specs.Chips.{hardRecording, byteRecording}
 use Rattle.rules_calls.specs.declared.Record.{Record}
 use Rattle.rules_reading.specs.Reading.{frontOf, readingOf}
 use Rattle.clean.specs.Clean.{byteRow}
-use Rattle.coming.specs.declared.Coming.{Coming}
-use Rattle.coming.specs.Coming.{frontReading}
+use Rattle.rules_coming.specs.declared.Coming.{Coming}
+use Rattle.rules_coming.specs.Coming.{frontReading}
 use Rattle.finding.specs.declared.Found.{Found}
 use Rattle.finding.specs.Finding.{firstStart, findingOf}
 use Rattle.promises.specs.Calls.{ReadSoft, ReadBytes, ReadFront, Finds, good, refused}

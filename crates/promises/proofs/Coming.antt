@@ -29,9 +29,9 @@ use Rattle.rules_reading.proofs.Telling.{TellingWhole}
 use Rattle.rules_reading.proofs.Refusals.{whole-number}
 use Rattle.rules_reading.proofs.Places.{whole-place, payload-unusable-place, payload-odd-place, payload-odd-rate}
 use Rattle.rules_reading.proofs.Local.{front-same}
-use Rattle.coming.specs.declared.Coming.{Coming}
-use Rattle.coming.specs.Coming.{frontReading, comingOf}
-use Rattle.coming.proofs.Laws.{
+use Rattle.rules_coming.specs.declared.Coming.{Coming}
+use Rattle.rules_coming.specs.Coming.{frontReading, comingOf}
+use Rattle.rules_coming.proofs.Laws.{
   ComingRefusal,
   kind-is-none,
   of-front,

@@ -63,8 +63,8 @@ use Rattle.rules_reading.specs.Reading.{
   readingOf,
 }
 use Rattle.clean.specs.Clean.{byteRow}
-use Rattle.coming.specs.declared.Coming.{Coming}
-use Rattle.coming.specs.Coming.{frontReading, comingOf}
+use Rattle.rules_coming.specs.declared.Coming.{Coming}
+use Rattle.rules_coming.specs.Coming.{frontReading, comingOf}
 
 -- what a reading of a row of bytes with room for four octets comes to, and what a front of hard chips does
 abbrev pub Comes : ℕ → List ℤ → Record → Type 0

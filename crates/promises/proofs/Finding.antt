@@ -41,9 +41,9 @@ use Rattle.rules_reading.proofs.Refusals.{
 }
 use Rattle.rules_reading.proofs.Places.{front-place, payload-unusable-place, payload-odd-place, payload-odd-rate}
 use Rattle.rules_reading.proofs.Local.{front-same}
-use Rattle.coming.specs.declared.Coming.{Coming}
-use Rattle.coming.specs.Coming.{frontReading, comingOf}
-use Rattle.coming.proofs.Laws.{coming-refused, coming-told, coming-ends}
+use Rattle.rules_coming.specs.declared.Coming.{Coming}
+use Rattle.rules_coming.specs.Coming.{frontReading, comingOf}
+use Rattle.rules_coming.proofs.Laws.{coming-refused, coming-told, coming-ends}
 use Rattle.finding.specs.declared.NotFound.the-variants.{NoKind, NoOffsets, NoStart}
 use Rattle.finding.specs.declared.Finding.{Finding}
 use Rattle.finding.specs.declared.Finding.the-variants.{Refused, Start}

@@ -20,9 +20,9 @@ use Rattle.rules_reading.specs.Reading.{frontOf}
 use Rattle.rules_reading.proofs.Local.{front-same}
 use Rattle.clean.proofs.Recorded.{hard-recorded}
 use Rattle.clean.proofs.Back as clean
-use Rattle.coming.specs.declared.Coming.{Coming}
-use Rattle.coming.specs.Coming.{comingOf, partOf}
-use Rattle.coming.proofs.Laws.{coming-told, coming-ends, part-there}
+use Rattle.rules_coming.specs.declared.Coming.{Coming}
+use Rattle.rules_coming.specs.Coming.{comingOf, partOf}
+use Rattle.rules_coming.proofs.Laws.{coming-told, coming-ends, part-there}
 use Rattle.promises.specs.Calls.{ReadFront, Handed, shown, Sent}
 use Rattle.promises.specs.Coming.{refusedComing, toldComing, SentTold}
 use Rattle.promises.proofs.Back as back

@@ -11,8 +11,8 @@ use Rattle.rules_calls.specs.declared.Written.{Written}
 use Rattle.rules_calls.specs.declared.Record.{Record}
 use Rattle.rules_chips.specs.Chips.{hardRecording}
 use Rattle.rules_frame.specs.Frame.{kindOf}
-use Rattle.coming.specs.declared.Coming.{Coming}
-use Rattle.coming.specs.Coming.{frontReading, comingOf, partOf}
+use Rattle.rules_coming.specs.declared.Coming.{Coming}
+use Rattle.rules_coming.specs.Coming.{frontReading, comingOf, partOf}
 use Rattle.promises.specs.Calls.{
   ReadHard,
   ReadFront,

@@ -14,8 +14,8 @@ use Rattle.rules_calls.specs.Answers.{recordOf}
 use Rattle.rules_reading.specs.Reading.{readingOf, octetsFound}
 use Rattle.rules_chips.specs.Chips.{hardRecording}
 use Rattle.rules_frame.specs.Frame.{kindOf}
-use Rattle.coming.specs.declared.Coming.{Coming}
-use Rattle.coming.specs.Coming.{frontReading, comingOf}
+use Rattle.rules_coming.specs.declared.Coming.{Coming}
+use Rattle.rules_coming.specs.Coming.{frontReading, comingOf}
 use Rattle.finding.specs.declared.Found.{Found}
 use Rattle.finding.specs.Finding.{findingOf, foundOf}
 use Rattle.promises.specs.Calls.{

@@ -18,8 +18,8 @@ use Rattle.rules_calls.specs.declared.Record.{Record}
 use Rattle.rules_calls.specs.Answers.{writtenOf, recordOf}
 use Rattle.rules_calls.specs.Writing.{writingOf, chipsWritten}
 use Rattle.rules_reading.specs.Reading.{readingOf, octetsFound}
-use Rattle.coming.specs.declared.Coming.{Coming}
-use Rattle.coming.specs.Coming.{frontReading, comingOf, partOf}
+use Rattle.rules_coming.specs.declared.Coming.{Coming}
+use Rattle.rules_coming.specs.Coming.{frontReading, comingOf, partOf}
 use Rattle.finding.specs.declared.Found.{Found}
 use Rattle.finding.specs.Finding.{findingOf, foundOf}
 use Rattle.clean.specs.Clean.{Exactly, byteRow}

@@ -5,8 +5,8 @@ use Prim.Native.Nat.{ℕ, _+_, _-_, _≤_, _<_}
 use native.Mathlib.Omega.{arith}
 use borrow.Author.Needs.{needs}
 use lib.ListN.{length, take, drop}
-use Rattle.coming.specs.declared.Coming.{Coming}
-use Rattle.coming.proofs.Laws.{part-there, part-none}
+use Rattle.rules_coming.specs.declared.Coming.{Coming}
+use Rattle.rules_coming.proofs.Laws.{part-there, part-none}
 use Rattle.promises.specs.Calls.{Handed}
 use Rattle.front_only.proofs.part.Statement.{statement}
 use Rattle.front_only.proofs.part.Tie as tie

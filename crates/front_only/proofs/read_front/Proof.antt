@@ -12,9 +12,9 @@ use Rattle.rules_calls.specs.declared.Refusal.the-variants.{NoKind}
 use Rattle.rules_calls.specs.declared.Front.{Front}
 use Rattle.rules_calls.specs.declared.Front.the-variants.{Refused}
 use Rattle.rules_reading.specs.Reading.{frontOf, wholeOf}
-use Rattle.coming.specs.declared.Coming.{Coming}
-use Rattle.coming.specs.Coming.{frontReading, comingOf}
-use Rattle.coming.proofs.Laws.{coming-no-kind, coming-whole}
+use Rattle.rules_coming.specs.declared.Coming.{Coming}
+use Rattle.rules_coming.specs.Coming.{frontReading, comingOf}
+use Rattle.rules_coming.proofs.Laws.{coming-no-kind, coming-whole}
 use Rattle.fronts.specs.declared.Opening.{Opening}
 use Rattle.fronts.specs.Openings.{OpensWhole}
 use Rattle.front_only.proofs.read_front.Statement.{statement}

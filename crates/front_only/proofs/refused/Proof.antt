@@ -6,8 +6,8 @@ use Rattle.rules_frame.specs.declared.Kind.{Kind}
 use Rattle.rules_calls.specs.declared.Refusal.{Refusal}
 use Rattle.rules_calls.specs.declared.Front.the-variants.{Refused}
 use Rattle.rules_calls.specs.Answers.{refusalNumber, refusalPlace, refusalLength}
-use Rattle.coming.specs.declared.Coming.{Coming}
-use Rattle.coming.specs.Coming.{comingOf}
+use Rattle.rules_coming.specs.declared.Coming.{Coming}
+use Rattle.rules_coming.specs.Coming.{comingOf}
 use Rattle.front_only.proofs.refused.Statement.{statement}
 use Rattle.front_only.proofs.refused.Tie as tie
 

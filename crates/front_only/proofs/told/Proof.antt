@@ -9,8 +9,8 @@ use Rattle.rules_frame.specs.Frame.{frontChips, frameChips}
 use Rattle.rules_frame.proofs.Headers.{clock-byte}
 use Rattle.rules_calls.specs.declared.Told.{Told}
 use Rattle.rules_calls.specs.declared.Front.the-variants.{Fields}
-use Rattle.coming.specs.declared.Coming.{Coming}
-use Rattle.coming.specs.Coming.{comingOf}
+use Rattle.rules_coming.specs.declared.Coming.{Coming}
+use Rattle.rules_coming.specs.Coming.{comingOf}
 use Rattle.front_only.proofs.told.Statement.{statement}
 use Rattle.front_only.proofs.told.Tie as tie
 

@@ -68,8 +68,8 @@ use Rattle.rules_reading.specs.Reading.{
   frontOf,
 }
 use Rattle.rules_reading.proofs.Facts.{longFrame, shortFrame, spoilt, turnedBy}
-use Rattle.coming.specs.declared.Coming.{Coming}
-use Rattle.coming.specs.Coming.{frontReading, comingOf, partOf}
+use Rattle.rules_coming.specs.declared.Coming.{Coming}
+use Rattle.rules_coming.specs.Coming.{frontReading, comingOf, partOf}
 
 pub fields : Coming → List ℕ
 fields c =

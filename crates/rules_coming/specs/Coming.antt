@@ -15,7 +15,7 @@ use Rattle.rules_calls.specs.declared.Front.{Front}
 use Rattle.rules_calls.specs.declared.Front.the-variants.{Refused, Fields}
 use Rattle.rules_calls.specs.Answers.{refusalNumber, refusalPlace, refusalLength}
 use Rattle.rules_reading.specs.Reading.{frontOf, wholeOf}
-use Rattle.coming.specs.declared.Coming.{Coming}
+use Rattle.rules_coming.specs.declared.Coming.{Coming}
 
 -- 1, 8, then 9 and 10 over the front, 11 to 16, as a reader looks for them; 17 is not asked, nor are 9 and 10 over the
 -- payload

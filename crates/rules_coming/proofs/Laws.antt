@@ -23,7 +23,7 @@ use Rattle.rules_calls.specs.declared.Reading.the-variants as reading
 use Rattle.rules_reading.specs.Reading.{frontOf, wholeOf, afterFront, readingOf}
 use Rattle.rules_reading.proofs.Telling.{TellingWhole, TellingWholeIf, whole-telling}
 use Rattle.rules_reading.proofs.Refusals.{WholeRefusal, RefusesIf, whole-refuses}
-use Rattle.coming.specs.Coming.{frontReading, partOf}
+use Rattle.rules_coming.specs.Coming.{frontReading, partOf}
 
 pub data ComingRefusal (kind : ℕ) (rec : List Taken) : Refusal → Type 0 where
   kind-is-none : isKind kind ≡ false → ComingRefusal kind rec NoKind
