@@ -9,7 +9,7 @@ ghost use Rattle.report_promises.specs.Calls.{Adds, Lists, Spells};
 use rules_calls::Record;
 use rules_calls::Written;
 use rules_coming::Coming;
-use finding::Found;
+use rules_finding::Found;
 use report::Counted;
 use report::Report;
 use report::Spelled;

@@ -16,12 +16,12 @@ use Rattle.rules_calls.specs.declared.Front.{Front}
 use Rattle.rules_calls.specs.declared.Front.the-variants as front
 use Rattle.rules_reading.specs.Reading.{frontOf}
 use Rattle.rules_reading.proofs.Places.{some-chips}
-use Rattle.finding.specs.declared.NotFound.{NotFound}
-use Rattle.finding.specs.declared.NotFound.the-variants.{NoStart}
-use Rattle.finding.specs.declared.Finding.{Finding}
-use Rattle.finding.specs.declared.Finding.the-variants.{Refused, Start}
-use Rattle.finding.specs.Finding.{firstStart}
-use Rattle.finding.proofs.Laws.{
+use Rattle.rules_finding.specs.declared.NotFound.{NotFound}
+use Rattle.rules_finding.specs.declared.NotFound.the-variants.{NoStart}
+use Rattle.rules_finding.specs.declared.Finding.{Finding}
+use Rattle.rules_finding.specs.declared.Finding.the-variants.{Refused, Start}
+use Rattle.rules_finding.specs.Finding.{firstStart}
+use Rattle.rules_finding.proofs.Laws.{
   Missed,
   AllMissed,
   StartIf,
@@ -34,7 +34,7 @@ use Rattle.finding.proofs.Laws.{
 }
 use Rattle.sweep.specs.Sweep.{halfAt, octetAt, sfdFrom, Row, Marked}
 use Rattle.sweep.proofs.Sfd.{sfd-low, sfd-high}
-use Rattle.finding.proofs.Seeks.{not-both}
+use Rattle.rules_finding.proofs.Seeks.{not-both}
 
 module _ (kind : Kind) (rec : List Taken) where
   -- the fronts from offsets below both meet one of 8 to 15

@@ -13,8 +13,8 @@ use Rattle.rules_reading.specs.Reading.{frontOf, readingOf}
 use Rattle.clean.specs.Clean.{byteRow}
 use Rattle.rules_coming.specs.declared.Coming.{Coming}
 use Rattle.rules_coming.specs.Coming.{frontReading}
-use Rattle.finding.specs.declared.Found.{Found}
-use Rattle.finding.specs.Finding.{firstStart, findingOf}
+use Rattle.rules_finding.specs.declared.Found.{Found}
+use Rattle.rules_finding.specs.Finding.{firstStart, findingOf}
 use Rattle.promises.specs.Calls.{ReadSoft, ReadBytes, ReadFront, Finds, good, refused}
 use Rattle.promises.specs.Coming.{refusedComing, toldComing}
 use Rattle.promises.specs.Finding.{refusedFound}

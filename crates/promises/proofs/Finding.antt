@@ -44,12 +44,12 @@ use Rattle.rules_reading.proofs.Local.{front-same}
 use Rattle.rules_coming.specs.declared.Coming.{Coming}
 use Rattle.rules_coming.specs.Coming.{frontReading, comingOf}
 use Rattle.rules_coming.proofs.Laws.{coming-refused, coming-told, coming-ends}
-use Rattle.finding.specs.declared.NotFound.the-variants.{NoKind, NoOffsets, NoStart}
-use Rattle.finding.specs.declared.Finding.{Finding}
-use Rattle.finding.specs.declared.Finding.the-variants.{Refused, Start}
-use Rattle.finding.specs.declared.Found.{Found}
-use Rattle.finding.specs.Finding.{isOffsets, findingOf, foundOf}
-use Rattle.finding.proofs.Laws.{
+use Rattle.rules_finding.specs.declared.NotFound.the-variants.{NoKind, NoOffsets, NoStart}
+use Rattle.rules_finding.specs.declared.Finding.{Finding}
+use Rattle.rules_finding.specs.declared.Finding.the-variants.{Refused, Start}
+use Rattle.rules_finding.specs.declared.Found.{Found}
+use Rattle.rules_finding.specs.Finding.{isOffsets, findingOf, foundOf}
+use Rattle.rules_finding.proofs.Laws.{
   Missed,
   AllMissed,
   StartsAt,

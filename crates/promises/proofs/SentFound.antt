@@ -19,12 +19,12 @@ use Rattle.rules_calls.specs.declared.Told.{Told}
 use Rattle.rules_calls.specs.declared.Front.the-variants.{Fields}
 use Rattle.rules_calls.specs.Headers.{told}
 use Rattle.rules_reading.specs.Reading.{frontOf}
-use Rattle.finding.specs.declared.NotFound.the-variants.{NoKind, NoOffsets, NoStart}
-use Rattle.finding.specs.declared.Finding.{Finding}
-use Rattle.finding.specs.declared.Finding.the-variants.{Refused, Start}
-use Rattle.finding.specs.declared.Found.{Found}
-use Rattle.finding.specs.Finding.{findingOf, foundOf}
-use Rattle.finding.proofs.Laws.{Missed, StartsAt, offsets-tried, FindingIf, finding-comes}
+use Rattle.rules_finding.specs.declared.NotFound.the-variants.{NoKind, NoOffsets, NoStart}
+use Rattle.rules_finding.specs.declared.Finding.{Finding}
+use Rattle.rules_finding.specs.declared.Finding.the-variants.{Refused, Start}
+use Rattle.rules_finding.specs.declared.Found.{Found}
+use Rattle.rules_finding.specs.Finding.{findingOf, foundOf}
+use Rattle.rules_finding.proofs.Laws.{Missed, StartsAt, offsets-tried, FindingIf, finding-comes}
 use Rattle.promises.specs.Calls.{shown, Sent}
 use Rattle.promises.specs.Finding.{startFound, SentFound}
 use Rattle.promises.proofs.Back as back

@@ -16,8 +16,8 @@ use Rattle.rules_chips.specs.Chips.{hardRecording}
 use Rattle.rules_frame.specs.Frame.{kindOf}
 use Rattle.rules_coming.specs.declared.Coming.{Coming}
 use Rattle.rules_coming.specs.Coming.{frontReading, comingOf}
-use Rattle.finding.specs.declared.Found.{Found}
-use Rattle.finding.specs.Finding.{findingOf, foundOf}
+use Rattle.rules_finding.specs.declared.Found.{Found}
+use Rattle.rules_finding.specs.Finding.{findingOf, foundOf}
 use Rattle.promises.specs.Calls.{
   ReadHard,
   ReadFront,

@@ -20,8 +20,8 @@ use Rattle.rules_calls.specs.Writing.{writingOf, chipsWritten}
 use Rattle.rules_reading.specs.Reading.{readingOf, octetsFound}
 use Rattle.rules_coming.specs.declared.Coming.{Coming}
 use Rattle.rules_coming.specs.Coming.{frontReading, comingOf, partOf}
-use Rattle.finding.specs.declared.Found.{Found}
-use Rattle.finding.specs.Finding.{findingOf, foundOf}
+use Rattle.rules_finding.specs.declared.Found.{Found}
+use Rattle.rules_finding.specs.Finding.{findingOf, foundOf}
 use Rattle.clean.specs.Clean.{Exactly, byteRow}
 
 -- the writer: its answer, and the chip buffer of `room` chips at the end

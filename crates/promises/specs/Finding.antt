@@ -10,7 +10,7 @@ use Rattle.rules_rates.specs.Plain.{LengthOf}
 use Rattle.rules_calls.specs.declared.Written.{Written}
 use Rattle.rules_calls.specs.declared.Record.{Record}
 use Rattle.rules_coming.specs.declared.Coming.{Coming}
-use Rattle.finding.specs.declared.Found.{Found}
+use Rattle.rules_finding.specs.declared.Found.{Found}
 use Rattle.promises.specs.Calls.{
   ReadHard,
   ReadFront,

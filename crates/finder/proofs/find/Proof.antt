@@ -9,12 +9,12 @@ use Rattle.base.proofs.Tests.{failed, passed}
 use Rattle.rules_chips.specs.Chips.{Taken}
 use Rattle.rules_frame.specs.declared.Kind.{Kind}
 use Rattle.rules_frame.specs.Frame.{isKind, kindOf}
-use Rattle.finding.specs.declared.NotFound.the-variants.{NoKind, NoOffsets}
-use Rattle.finding.specs.declared.Finding.{Finding}
-use Rattle.finding.specs.declared.Finding.the-variants.{Refused}
-use Rattle.finding.specs.declared.Found.{Found}
-use Rattle.finding.specs.Finding.{isOffsets, firstStart, findingOf, foundOf}
-use Rattle.finding.proofs.Laws.{offsets-tried, offsets-many, finding-no-kind, finding-no-offsets, finding-first}
+use Rattle.rules_finding.specs.declared.NotFound.the-variants.{NoKind, NoOffsets}
+use Rattle.rules_finding.specs.declared.Finding.{Finding}
+use Rattle.rules_finding.specs.declared.Finding.the-variants.{Refused}
+use Rattle.rules_finding.specs.declared.Found.{Found}
+use Rattle.rules_finding.specs.Finding.{isOffsets, firstStart, findingOf, foundOf}
+use Rattle.rules_finding.proofs.Laws.{offsets-tried, offsets-many, finding-no-kind, finding-no-offsets, finding-first}
 use Rattle.finder.proofs.find.Statement.{statement}
 use Rattle.finder.proofs.find.Tie as tie
 

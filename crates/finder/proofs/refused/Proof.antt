@@ -2,7 +2,7 @@
 use mathlib.Core.Path.{ap}
 use Prim.Native.Nat.{ℕ}
 use borrow.Author.Needs.{needs}
-use Rattle.finding.specs.declared.Found.{Found}
+use Rattle.rules_finding.specs.declared.Found.{Found}
 use Rattle.finder.proofs.refused.Statement.{statement}
 use Rattle.finder.proofs.refused.Tie as tie
 

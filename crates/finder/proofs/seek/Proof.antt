@@ -7,8 +7,8 @@ use lib.ListN.{drop}
 use borrow.Author.Needs.{needs}
 use borrow.Author.Tests.{not-true}
 use Rattle.rules_chips.specs.Chips.{hardRecording}
-use Rattle.finding.proofs.Laws.{AllMissed, start-none}
-use Rattle.finding.proofs.Seeks.{seek-hit, seek-miss, seek-none}
+use Rattle.rules_finding.proofs.Laws.{AllMissed, start-none}
+use Rattle.rules_finding.proofs.Seeks.{seek-hit, seek-miss, seek-none}
 use Rattle.finder.proofs.seek.Statement.{statement}
 use Rattle.finder.proofs.seek.Tie as tie
 

@@ -6,9 +6,9 @@ use borrow.Author.Needs.{needs}
 use Rattle.rules_rates.specs.Rates.{codeOf}
 use Rattle.rules_frame.proofs.Headers.{clock-byte}
 use Rattle.rules_calls.specs.declared.Told.{Told}
-use Rattle.finding.specs.declared.Finding.the-variants.{Start}
-use Rattle.finding.specs.declared.Found.{Found}
-use Rattle.finding.specs.Finding.{foundOf}
+use Rattle.rules_finding.specs.declared.Finding.the-variants.{Start}
+use Rattle.rules_finding.specs.declared.Found.{Found}
+use Rattle.rules_finding.specs.Finding.{foundOf}
 use Rattle.finder.proofs.started.Statement.{statement}
 use Rattle.finder.proofs.started.Tie as tie
 

@@ -7,11 +7,11 @@ use Rattle.rules_chips.specs.Chips.{hardRecording}
 use Rattle.rules_calls.specs.declared.Front.{Front}
 use Rattle.rules_calls.specs.declared.Front.the-variants as front
 use Rattle.rules_reading.specs.Reading.{frontOf}
-use Rattle.finding.specs.declared.NotFound.the-variants.{NoStart}
-use Rattle.finding.specs.declared.Finding.{Finding}
-use Rattle.finding.specs.declared.Finding.the-variants.{Refused}
-use Rattle.finding.specs.Finding.{startOr}
-use Rattle.finding.proofs.Laws.{missed-or}
+use Rattle.rules_finding.specs.declared.NotFound.the-variants.{NoStart}
+use Rattle.rules_finding.specs.declared.Finding.{Finding}
+use Rattle.rules_finding.specs.declared.Finding.the-variants.{Refused}
+use Rattle.rules_finding.specs.Finding.{startOr}
+use Rattle.rules_finding.proofs.Laws.{missed-or}
 use Rattle.finder.proofs.try_at.Statement.{statement}
 use Rattle.finder.proofs.try_at.Tie as tie
 

@@ -13,12 +13,12 @@ use Rattle.rules_calls.specs.declared.Told.{Told}
 use Rattle.rules_calls.specs.declared.Front.{Front}
 use Rattle.rules_calls.specs.declared.Front.the-variants as front
 use Rattle.rules_reading.specs.Reading.{frontOf}
-use Rattle.finding.specs.declared.NotFound.{NotFound}
-use Rattle.finding.specs.declared.NotFound.the-variants.{NoStart}
-use Rattle.finding.specs.declared.Finding.{Finding}
-use Rattle.finding.specs.declared.Finding.the-variants.{Refused, Start}
-use Rattle.finding.specs.Finding.{startOr, firstStart}
-use Rattle.finding.proofs.Laws.{Missed, AllMissed, start-found, start-none}
+use Rattle.rules_finding.specs.declared.NotFound.{NotFound}
+use Rattle.rules_finding.specs.declared.NotFound.the-variants.{NoStart}
+use Rattle.rules_finding.specs.declared.Finding.{Finding}
+use Rattle.rules_finding.specs.declared.Finding.the-variants.{Refused, Start}
+use Rattle.rules_finding.specs.Finding.{startOr, firstStart}
+use Rattle.rules_finding.proofs.Laws.{Missed, AllMissed, start-found, start-none}
 
 -- a search that found something is none that did not
 abbrev IsFound : Finding → Type 0

@@ -27,11 +27,11 @@ use Rattle.rules_calls.specs.declared.Front.{Front}
 use Rattle.rules_calls.specs.declared.Front.the-variants as front
 use Rattle.rules_reading.specs.Reading.{frontOf}
 use Rattle.rules_reading.proofs.Places.{some-chips}
-use Rattle.finding.specs.declared.NotFound.{NotFound}
-use Rattle.finding.specs.declared.NotFound.the-variants.{NoKind, NoOffsets, NoStart}
-use Rattle.finding.specs.declared.Finding.{Finding}
-use Rattle.finding.specs.declared.Finding.the-variants.{Refused, Start}
-use Rattle.finding.specs.Finding.{isOffsets, startOr, firstStart, findingOf}
+use Rattle.rules_finding.specs.declared.NotFound.{NotFound}
+use Rattle.rules_finding.specs.declared.NotFound.the-variants.{NoKind, NoOffsets, NoStart}
+use Rattle.rules_finding.specs.declared.Finding.{Finding}
+use Rattle.rules_finding.specs.declared.Finding.the-variants.{Refused, Start}
+use Rattle.rules_finding.specs.Finding.{isOffsets, startOr, firstStart, findingOf}
 
 -- a front that meets one of 8 to 15
 abbrev pub Missed : Front → Type 0

@@ -13,11 +13,11 @@ use Rattle.rules_frame.specs.Frame.{isKind, kindOf, clockBit}
 use Rattle.rules_calls.specs.declared.Front.{Front}
 use Rattle.rules_calls.specs.declared.Front.the-variants as front
 use Rattle.rules_reading.specs.Reading.{frontOf}
-use Rattle.finding.specs.declared.NotFound.{NotFound}
-use Rattle.finding.specs.declared.NotFound.the-variants.{NoKind, NoOffsets, NoStart}
-use Rattle.finding.specs.declared.Finding.{Finding}
-use Rattle.finding.specs.declared.Finding.the-variants.{Refused, Start}
-use Rattle.finding.specs.declared.Found.{Found}
+use Rattle.rules_finding.specs.declared.NotFound.{NotFound}
+use Rattle.rules_finding.specs.declared.NotFound.the-variants.{NoKind, NoOffsets, NoStart}
+use Rattle.rules_finding.specs.declared.Finding.{Finding}
+use Rattle.rules_finding.specs.declared.Finding.the-variants.{Refused, Start}
+use Rattle.rules_finding.specs.declared.Found.{Found}
 
 -- 18: the offsets to try are 1 to 4,096
 abbrev pub isOffsets : ℕ → Bool

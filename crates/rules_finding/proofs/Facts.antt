@@ -56,11 +56,11 @@ use Rattle.rules_reading.specs.Reading.{
   frontOf,
 }
 use Rattle.rules_reading.proofs.Facts.{shortFrame, spoilt}
-use Rattle.finding.specs.declared.NotFound.the-variants.{NoKind, NoOffsets, NoStart}
-use Rattle.finding.specs.declared.Finding.{Finding}
-use Rattle.finding.specs.declared.Finding.the-variants.{Refused, Start}
-use Rattle.finding.specs.declared.Found.{Found}
-use Rattle.finding.specs.Finding.{isOffsets, startOr, firstStart, findingOf, foundOf}
+use Rattle.rules_finding.specs.declared.NotFound.the-variants.{NoKind, NoOffsets, NoStart}
+use Rattle.rules_finding.specs.declared.Finding.{Finding}
+use Rattle.rules_finding.specs.declared.Finding.the-variants.{Refused, Start}
+use Rattle.rules_finding.specs.declared.Found.{Found}
+use Rattle.rules_finding.specs.Finding.{isOffsets, startOr, firstStart, findingOf, foundOf}
 
 pub fields : Found → List ℕ
 fields f = f .number ∷ f .offset ∷ f .rate ∷ f .length ∷ f .clock ∷ f .n ∷ []
