@@ -10,9 +10,9 @@ use rules_calls::Record;
 use rules_calls::Written;
 use rules_coming::Coming;
 use rules_finding::Found;
-use report::Counted;
-use report::Report;
-use report::Spelled;
+use rules_report::Counted;
+use rules_report::Report;
+use rules_report::Spelled;
 
 // A payload to the chips of its frame; 4s after the frame, or everywhere after a refusal.
 #[no_mangle]

@@ -11,11 +11,11 @@ use borrow.Author.Tests.{le-leb, lt-leb, eq-eqb, ne-eqb}
 use lib.Dec.{leb}
 use lib.ListN.{length, take, replicate, length-map, length-append, length-take, length-replicate}
 use lib.Seq.{take-all, take-append-seam, drop-append-seam}
-use Rattle.report.specs.declared.Report.{Report}
-use Rattle.report.specs.declared.Counted.{Counted}
-use Rattle.report.specs.declared.Spelled.{Spelled}
-use Rattle.report.specs.Totals.{Recording, Outcome, outcomeOf, accepted}
-use Rattle.report.specs.Report.{
+use Rattle.rules_report.specs.declared.Report.{Report}
+use Rattle.rules_report.specs.declared.Counted.{Counted}
+use Rattle.rules_report.specs.declared.Spelled.{Spelled}
+use Rattle.rules_report.specs.Totals.{Recording, Outcome, outcomeOf, accepted}
+use Rattle.rules_report.specs.Report.{
   empty,
   reportOf,
   withFrame,
@@ -27,12 +27,12 @@ use Rattle.report.specs.Report.{
   recordings,
   listOf,
 }
-use Rattle.report.specs.Text.{textOf, textLeft}
-use Rattle.report.specs.Said.{TextSaid}
-use Rattle.report.proofs.Said.{text-said}
-use Rattle.report.proofs.Taking.{counted-next, counted-full}
-use Rattle.report.proofs.Lists.{takes, limits-take, none-counted}
-use Rattle.report.proofs.Spelling.{spelled-whole, spelled-refused, text-most}
+use Rattle.rules_report.specs.Text.{textOf, textLeft}
+use Rattle.rules_report.specs.Said.{TextSaid}
+use Rattle.rules_report.proofs.Said.{text-said}
+use Rattle.rules_report.proofs.Taking.{counted-next, counted-full}
+use Rattle.rules_report.proofs.Lists.{takes, limits-take, none-counted}
+use Rattle.rules_report.proofs.Spelling.{spelled-whole, spelled-refused, text-most}
 use Rattle.report_promises.specs.Calls.{Kept, nothing-yet, one-more, Readings, none-read, one-read}
 use Rattle.report_promises.specs.Promises.{
   TotalsOf,

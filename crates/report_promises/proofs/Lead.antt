@@ -10,8 +10,8 @@ use native.Mathlib.Decide.{decLt}
 use native.Mathlib.Omega.{arith}
 use borrow.Author.Tests.{lt-ltb, le-ltb, eqb-true, eq-eqb}
 use lib.Dec.{T}
-use Rattle.report.specs.Totals.{Outcome, accepted, Closest, closer, closestFrom}
-use Rattle.report.specs.Report.{isThere, leadTold, recordingTold}
+use Rattle.rules_report.specs.Totals.{Outcome, accepted, Closest, closer, closestFrom}
+use Rattle.rules_report.specs.Report.{isThere, leadTold, recordingTold}
 use Rattle.report_promises.specs.Promises.{FrameAt, LeadTold, no-frame, smallest}
 
 -- ---- frames of a list and of its end

@@ -13,13 +13,13 @@ use lib.ListN.{length, getD, List·getD-eq-default}
 use Rattle.base.specs.Tables.{tabulate}
 use Rattle.base.proofs.Tables.{getD-tabulate}
 use Rattle.base.proofs.Tests.{left-is, right-is}
-use Rattle.report.specs.declared.Report.{Report}
-use Rattle.report.specs.Totals.{Recording, Outcome, outcomeOf, total, accepted, refusedWith}
-use Rattle.report.specs.Report.{reportOf, more, entryOf, withFrame, withRefusal, added}
-use Rattle.report.proofs.Outcomes.{Fair, fair}
-use Rattle.report.proofs.Laws.{total-most}
-use Rattle.report.proofs.Added.{entry-below, length-more, added-more}
-use Rattle.report.proofs.Taking.{map-more, one-most}
+use Rattle.rules_report.specs.declared.Report.{Report}
+use Rattle.rules_report.specs.Totals.{Recording, Outcome, outcomeOf, total, accepted, refusedWith}
+use Rattle.rules_report.specs.Report.{reportOf, more, entryOf, withFrame, withRefusal, added}
+use Rattle.rules_report.proofs.Outcomes.{Fair, fair}
+use Rattle.rules_report.proofs.Laws.{total-most}
+use Rattle.rules_report.proofs.Added.{entry-below, length-more, added-more}
+use Rattle.rules_report.proofs.Taking.{map-more, one-most}
 use Rattle.report_promises.specs.Promises.{LeadTold, sumOf, TotalsOf}
 use Rattle.report_promises.proofs.Lead.{lead-told}
 

@@ -17,10 +17,10 @@ use Rattle.rules_rates.specs.Plain.{LengthOf}
 use Rattle.rules_calls.specs.declared.Written.{Written}
 use Rattle.rules_calls.specs.declared.Record.{Record}
 use Rattle.rules_reading.specs.Reading.{octetsFound}
-use Rattle.report.specs.declared.Report.{Report}
-use Rattle.report.specs.declared.Counted.{Counted}
-use Rattle.report.specs.declared.Spelled.{Spelled}
-use Rattle.report.specs.Totals.{
+use Rattle.rules_report.specs.declared.Report.{Report}
+use Rattle.rules_report.specs.declared.Counted.{Counted}
+use Rattle.rules_report.specs.declared.Spelled.{Spelled}
+use Rattle.rules_report.specs.Totals.{
   Recording,
   Outcome,
   outcomeOf,
@@ -31,8 +31,8 @@ use Rattle.report.specs.Totals.{
   frontTime,
   airtimeOf,
 }
-use Rattle.report.specs.Report.{empty, entryOf, countedOf, recordings, listOf}
-use Rattle.report.specs.Text.{spelledOf, textLeft}
+use Rattle.rules_report.specs.Report.{empty, entryOf, countedOf, recordings, listOf}
+use Rattle.rules_report.specs.Text.{spelledOf, textLeft}
 use Rattle.promises.specs.Calls.{
   ReadHard,
   good,

@@ -5,12 +5,12 @@ use mathlib.Core.List.{List, _++_}
 use Prim.Native.Nat.{ℕ, zero, suc, _+_, _-_, _^_, _≤_, _<_}
 use lib.Dec.{lit<, lit≤}
 use lib.ListN.{length, getD, take, drop, replicate}
-use Rattle.report.specs.declared.Report.{Report}
-use Rattle.report.specs.declared.Spelled.{Spelled}
-use Rattle.report.specs.Report.{empty}
-use Rattle.report.specs.Text.{word, textOf}
-use Rattle.report.specs.Said.{valueFrom, TextSaid, Fits}
-use Rattle.report.proofs.Spelling.{text-most}
+use Rattle.rules_report.specs.declared.Report.{Report}
+use Rattle.rules_report.specs.declared.Spelled.{Spelled}
+use Rattle.rules_report.specs.Report.{empty}
+use Rattle.rules_report.specs.Text.{word, textOf}
+use Rattle.rules_report.specs.Said.{valueFrom, TextSaid, Fits}
+use Rattle.rules_report.proofs.Spelling.{text-most}
 use Rattle.report_promises.specs.Calls.{Spells}
 use Rattle.report_promises.proofs.Kept.{kept-report}
 

@@ -6,12 +6,12 @@ use mathlib.Core.Path.{_≡_}
 use mathlib.Core.List.{List, [], _∷_, _++_}
 use Rattle.rules_calls.specs.declared.Record.{Record}
 use Rattle.promises.specs.Calls.{ReadHard}
-use Rattle.report.specs.declared.Report.{Report}
-use Rattle.report.specs.declared.Counted.{Counted}
-use Rattle.report.specs.declared.Spelled.{Spelled}
-use Rattle.report.specs.Totals.{Recording, Outcome}
-use Rattle.report.specs.Report.{empty, countedOf, listOf}
-use Rattle.report.specs.Text.{spelledOf, textLeft}
+use Rattle.rules_report.specs.declared.Report.{Report}
+use Rattle.rules_report.specs.declared.Counted.{Counted}
+use Rattle.rules_report.specs.declared.Spelled.{Spelled}
+use Rattle.rules_report.specs.Totals.{Recording, Outcome}
+use Rattle.rules_report.specs.Report.{empty, countedOf, listOf}
+use Rattle.rules_report.specs.Text.{spelledOf, textLeft}
 
 -- one recording more: its answer
 pub record Adds (report : Report) (kind : ℕ) (chips : List ℕ) (c : Counted) : Type 0 where

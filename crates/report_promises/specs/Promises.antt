@@ -7,13 +7,13 @@ use Prim.Native.Nat.{ℕ, _+_, _-_, _≤_, _<_}
 use mathlib.Core.Path.{_≡_}
 use mathlib.Core.List.{List, [], _∷_}
 use lib.ListN.{length, getD, take, drop, replicate}
-use Rattle.report.specs.declared.Report.{Report}
-use Rattle.report.specs.declared.Counted.{Counted}
-use Rattle.report.specs.declared.Spelled.{Spelled}
-use Rattle.report.specs.Totals.{Recording, Outcome, framesAt, octetsAt, refusedWith, airtimeOf}
-use Rattle.report.specs.Report.{empty, Limits, recordings}
-use Rattle.report.specs.Text.{textOf}
-use Rattle.report.specs.Said.{TextSaid, Fits}
+use Rattle.rules_report.specs.declared.Report.{Report}
+use Rattle.rules_report.specs.declared.Counted.{Counted}
+use Rattle.rules_report.specs.declared.Spelled.{Spelled}
+use Rattle.rules_report.specs.Totals.{Recording, Outcome, framesAt, octetsAt, refusedWith, airtimeOf}
+use Rattle.rules_report.specs.Report.{empty, Limits, recordings}
+use Rattle.rules_report.specs.Text.{textOf}
+use Rattle.rules_report.specs.Said.{TextSaid, Fits}
 use Rattle.promises.specs.Calls.{refused}
 use Rattle.report_promises.specs.Calls.{Adds, Lists, Spells, Kept, Readings}
 

@@ -4,8 +4,8 @@ ghost use mathlib.Core.Bool.{true, _||_};
 ghost use mathlib.Core.List.{map};
 ghost use Prim.Native.Nat.{_≤_};
 ghost use lib.Dec.{eqb, ltb};
-ghost use Rattle.report.specs.Totals.{Outcome, outcomeOf, frontTime};
-ghost use Rattle.report.specs.Report.{
+ghost use Rattle.rules_report.specs.Totals.{Outcome, outcomeOf, frontTime};
+ghost use Rattle.rules_report.specs.Report.{
   empty,
   entryOf,
   withFrame,
@@ -16,8 +16,8 @@ ghost use Rattle.report.specs.Report.{
   listOf,
 };
 use rules_calls::Record;
-use report::Counted;
-use report::Report;
+use rules_report::Counted;
+use rules_report::Report;
 
 // ---- whether a report takes one more
 

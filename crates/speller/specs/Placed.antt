@@ -7,8 +7,8 @@ use Prim.Native.Nat.{ℕ, zero, suc, _+_}
 use lib.ListN.{length, getD, take, drop}
 use Rattle.rules_rates.specs.declared.Rate.the-variants.{Eleven}
 use Rattle.rules_rates.specs.Rates.{codeOf}
-use Rattle.report.specs.Report.{codes}
-use Rattle.report.specs.Text.{word, decimal, rateLine}
+use Rattle.rules_report.specs.Report.{codes}
+use Rattle.rules_report.specs.Text.{word, decimal, rateLine}
 
 -- a row d with w put at `at` is a row e: its octets up to `end` are those of d up to `at`, and w; from there on they
 -- are as they were

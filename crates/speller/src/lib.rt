@@ -1,14 +1,14 @@
 // The report's text: words and decimal numbers, line after line, into a row of its own, and from there into the octet
 // buffer. Whatever comes of it, the whole buffer is written.
-use report::Report;
-use report::Spelled;
+use rules_report::Report;
+use rules_report::Spelled;
 ghost use mathlib.Core.Path.{_≡_};
 ghost use mathlib.Core.List.{_++_};
 ghost use Prim.Native.Nat.{_+_, _≤_};
 ghost use lib.ListN.{length};
-ghost use Rattle.report.specs.Text.{decimal, rateLine, refusedLine, refusedLines, airtimeLine, leadLine};
-ghost use Rattle.report.specs.Text.{textOf, spelledOf, textLeft};
-ghost use Rattle.report.specs.Text.{places as Text·places};
+ghost use Rattle.rules_report.specs.Text.{decimal, rateLine, refusedLine, refusedLines, airtimeLine, leadLine};
+ghost use Rattle.rules_report.specs.Text.{textOf, spelledOf, textLeft};
+ghost use Rattle.rules_report.specs.Text.{places as Text·places};
 ghost use Rattle.speller.specs.Placed.{Placed, pairLine, codeAt, rateLines};
 
 // How many decimal digits x has.

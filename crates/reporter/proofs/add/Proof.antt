@@ -6,11 +6,11 @@ use native.Mathlib.Omega.{arith}
 use borrow.Author.Tests.{eq-eqb, ne-eqb}
 use Rattle.base.proofs.Tests.{failed, passed}
 use Rattle.rules_calls.specs.declared.Record.{Record}
-use Rattle.report.specs.Totals.{Recording, Outcome, outcomeOf}
-use Rattle.report.specs.Report.{withFrame, withRefusal, added, takesMore, countedOf}
-use Rattle.report.specs.declared.Report.{Report}
-use Rattle.report.specs.declared.Counted.{Counted}
-use Rattle.report.proofs.Outcomes.{Fair, fair}
+use Rattle.rules_report.specs.Totals.{Recording, Outcome, outcomeOf}
+use Rattle.rules_report.specs.Report.{withFrame, withRefusal, added, takesMore, countedOf}
+use Rattle.rules_report.specs.declared.Report.{Report}
+use Rattle.rules_report.specs.declared.Counted.{Counted}
+use Rattle.rules_report.proofs.Outcomes.{Fair, fair}
 use Rattle.reporter.proofs.add.Statement.{statement}
 use Rattle.reporter.proofs.add.Tie as tie
 

@@ -4,8 +4,8 @@ use mathlib.Core.Path.{_≡_, refl, sym, _∙_}
 use Prim.Native.Nat.{_≤_, _-_}
 use native.Mathlib.Omega.{arith}
 use lib.ListN.{length, drop}
-use Rattle.report.specs.Report.{atMost}
-use Rattle.report.proofs.Lists.{at-most-more, at-most-past, at-most-end}
+use Rattle.rules_report.specs.Report.{atMost}
+use Rattle.rules_report.proofs.Lists.{at-most-more, at-most-past, at-most-end}
 use Rattle.reporter.proofs.at_most.Statement.{statement}
 use Rattle.reporter.proofs.at_most.Tie as tie
 

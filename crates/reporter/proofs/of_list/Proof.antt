@@ -8,12 +8,12 @@ use denote.Ref.{RefT, now}
 use lib.ListN.{length, getD, take, length-take, length-map, List·getD-map}
 use lib.Seq.{take-all}
 use borrow.Author.Tests.{eq-eqb, ne-eqb, le-leb, lt-leb}
-use Rattle.report.specs.Totals.{Recording, outcomeOf}
-use Rattle.report.specs.Report.{empty, reportOf, countedOf, recordings, listOf}
-use Rattle.report.specs.declared.Report.{Report}
-use Rattle.report.specs.declared.Counted.{Counted}
-use Rattle.report.proofs.Taking.{counted-next}
-use Rattle.report.proofs.Lists.{none-counted, length-recordings, recordings-next}
+use Rattle.rules_report.specs.Totals.{Recording, outcomeOf}
+use Rattle.rules_report.specs.Report.{empty, reportOf, countedOf, recordings, listOf}
+use Rattle.rules_report.specs.declared.Report.{Report}
+use Rattle.rules_report.specs.declared.Counted.{Counted}
+use Rattle.rules_report.proofs.Taking.{counted-next}
+use Rattle.rules_report.proofs.Lists.{none-counted, length-recordings, recordings-next}
 use Rattle.reporter.proofs.of_list.Statement.{statement}
 use Rattle.reporter.proofs.of_list.Tie as tie
 

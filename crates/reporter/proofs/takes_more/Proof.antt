@@ -6,8 +6,8 @@ use lib.Dec.{leb}
 use borrow.Author.Needs.{needs}
 use borrow.Author.Tests.{lt-ltb, le-ltb}
 use Rattle.base.proofs.Tests.{failed, passed}
-use Rattle.report.specs.Report.{atMost, takesMore}
-use Rattle.report.specs.declared.Report.{Report}
+use Rattle.rules_report.specs.Report.{atMost, takesMore}
+use Rattle.rules_report.specs.declared.Report.{Report}
 use Rattle.reporter.proofs.takes_more.Statement.{statement}
 use Rattle.reporter.proofs.takes_more.Tie as tie
 

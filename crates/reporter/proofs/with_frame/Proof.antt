@@ -7,12 +7,12 @@ use native.Mathlib.Omega.{arith}
 use lib.ListN.{getD, set}
 use borrow.Author.Tests.{not-true, not-false}
 use Rattle.rules_calls.specs.declared.Record.{Record}
-use Rattle.report.specs.Totals.{frontTime}
-use Rattle.report.specs.Report.{entryOf, isCloser, withFrame}
-use Rattle.report.specs.declared.Report.{Report}
-use Rattle.report.proofs.Added.{entry-below}
-use Rattle.report.proofs.Taking.{front-time}
-use Rattle.report.proofs.Lists.{takes, more-set}
+use Rattle.rules_report.specs.Totals.{frontTime}
+use Rattle.rules_report.specs.Report.{entryOf, isCloser, withFrame}
+use Rattle.rules_report.specs.declared.Report.{Report}
+use Rattle.rules_report.proofs.Added.{entry-below}
+use Rattle.rules_report.proofs.Taking.{front-time}
+use Rattle.rules_report.proofs.Lists.{takes, more-set}
 use Rattle.reporter.proofs.with_frame.Statement.{statement}
 use Rattle.reporter.proofs.with_frame.Tie as tie
 

@@ -5,9 +5,9 @@ use Prim.Native.Nat.{ℕ, _+_, _<_, _^_}
 use native.Mathlib.Omega.{arith}
 use lib.ListN.{getD}
 use borrow.Author.Needs.{needs}
-use Rattle.report.specs.Report.{takesMore}
-use Rattle.report.specs.declared.Report.{Report}
-use Rattle.report.proofs.Lists.{takes, more-set}
+use Rattle.rules_report.specs.Report.{takesMore}
+use Rattle.rules_report.specs.declared.Report.{Report}
+use Rattle.rules_report.proofs.Lists.{takes, more-set}
 use Rattle.reporter.proofs.with_refusal.Statement.{statement}
 use Rattle.reporter.proofs.with_refusal.Tie as tie
 

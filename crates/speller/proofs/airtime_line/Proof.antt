@@ -6,7 +6,7 @@ use Prim.Native.Nat.{ℕ, suc}
 use native.Mathlib.Omega.{arith}
 use lib.ListN.{length, length-append}
 use borrow.Author.Needs.{needs}
-use Rattle.report.specs.Text.{word, decimal, airtimeLine}
+use Rattle.rules_report.specs.Text.{word, decimal, airtimeLine}
 use Rattle.speller.proofs.Puts.{put-more}
 use Rattle.speller.proofs.airtime_line.Statement.{statement}
 use Rattle.speller.proofs.airtime_line.Tie as tie

@@ -4,7 +4,7 @@ use Prim.Native.Nat.{ℕ}
 use mathlib.Core.Path.{_≡_}
 use borrow.Author.Needs.{needs}
 use borrow.Author.Tests.{eq-eqb, ne-eqb}
-use Rattle.report.specs.Text.{word, leadLine}
+use Rattle.rules_report.specs.Text.{word, leadLine}
 use Rattle.speller.specs.Placed.{pairLine}
 use Rattle.speller.proofs.lead_line.Statement.{statement}
 use Rattle.speller.proofs.lead_line.Tie as tie

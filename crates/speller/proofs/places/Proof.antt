@@ -5,8 +5,8 @@ use mathlib.Core.Path.{_≡_, ap, _∙_}
 use Prim.Native.Nat.{ℕ, suc, _+_, _-_, _/_, _≤_, _<_}
 use native.Mathlib.Omega.{arith}
 use borrow.Author.Needs.{needs}
-use Rattle.report.specs.Text.{places}
-use Rattle.report.proofs.Spelling.{places-one, places-more}
+use Rattle.rules_report.specs.Text.{places}
+use Rattle.rules_report.proofs.Spelling.{places-one, places-more}
 use Rattle.speller.proofs.places.Statement.{statement}
 use Rattle.speller.proofs.places.Tie as tie
 

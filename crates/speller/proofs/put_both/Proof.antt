@@ -4,7 +4,7 @@ use native.Mathlib.Omega.{arith}
 use lib.ListN.{length-append}
 use borrow.Author.Needs.{needs}
 use denote.Ref.{now}
-use Rattle.report.specs.Text.{decimal}
+use Rattle.rules_report.specs.Text.{decimal}
 use Rattle.speller.proofs.Puts.{put-next}
 use Rattle.speller.proofs.put_both.Statement.{statement}
 use Rattle.speller.proofs.put_both.Tie as tie

@@ -6,7 +6,7 @@ use Prim.Native.Nat.{ℕ, suc, _+_}
 use native.Mathlib.Omega.{arith}
 use lib.ListN.{length, length-append, length-set}
 use denote.Ref.{now}
-use Rattle.report.specs.Text.{word, decimal}
+use Rattle.rules_report.specs.Text.{word, decimal}
 use Rattle.speller.specs.Placed.{pairLine}
 use Rattle.speller.proofs.Puts.{put-more, put-pair}
 use Rattle.speller.proofs.put_line.Statement.{statement}

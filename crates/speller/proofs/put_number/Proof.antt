@@ -18,8 +18,8 @@ use lib.Seq.{
   getD-set-same,
 }
 use borrow.Author.Needs.{needs}
-use Rattle.report.specs.Text.{digits, places, decimal}
-use Rattle.report.proofs.Spelling.{length-decimal}
+use Rattle.rules_report.specs.Text.{digits, places, decimal}
+use Rattle.rules_report.proofs.Spelling.{length-decimal}
 use Rattle.speller.specs.Placed.{Placed}
 use Rattle.speller.proofs.put_number.Statement.{statement}
 use Rattle.speller.proofs.put_number.Tie as tie

@@ -5,8 +5,8 @@ use Prim.Native.Nat.{_+_}
 use native.Mathlib.Omega.{arith}
 use lib.ListN.{length}
 use borrow.Author.Needs.{needs}
-use Rattle.report.specs.declared.Report.{Report}
-use Rattle.report.specs.Text.{refusedLines, airtimeLine, leadLine, textOf}
+use Rattle.rules_report.specs.declared.Report.{Report}
+use Rattle.rules_report.specs.Text.{refusedLines, airtimeLine, leadLine, textOf}
 use Rattle.speller.specs.Placed.{rateLines}
 use Rattle.speller.proofs.Puts.{put-next, four-long}
 use Rattle.speller.proofs.put_text.Statement.{statement}

@@ -6,7 +6,7 @@ use Prim.Native.Nat.{ℕ, _+_}
 use native.Mathlib.Omega.{arith}
 use lib.ListN.{length, length-append}
 use borrow.Author.Needs.{needs}
-use Rattle.report.specs.Text.{word, decimal, rateLine}
+use Rattle.rules_report.specs.Text.{word, decimal, rateLine}
 use Rattle.speller.specs.Placed.{Placed, pairLine}
 use Rattle.speller.proofs.Puts.{put-next}
 use Rattle.speller.proofs.rate_line.Statement.{statement}

@@ -7,7 +7,7 @@ use native.Mathlib.Numerals.{add-one}
 use native.Mathlib.Omega.{arith}
 use lib.ListN.{length, getD}
 use borrow.Author.Needs.{needs}
-use Rattle.report.specs.Text.{rateLine}
+use Rattle.rules_report.specs.Text.{rateLine}
 use Rattle.speller.specs.Placed.{Placed, codeAt, rateLines}
 use Rattle.speller.proofs.Puts.{put-none, lines-room, lines-turn}
 use Rattle.speller.proofs.rate_lines.Statement.{statement}

@@ -5,7 +5,7 @@ use mathlib.Core.Path.{_≡_, refl}
 use mathlib.Core.List.{List}
 use borrow.Author.Needs.{needs}
 use borrow.Author.Tests.{eq-eqb, ne-eqb}
-use Rattle.report.specs.Text.{word, refusedLine}
+use Rattle.rules_report.specs.Text.{word, refusedLine}
 use Rattle.speller.specs.Placed.{Placed, pairLine}
 use Rattle.speller.proofs.Puts.{put-none}
 use Rattle.speller.proofs.refused_line.Statement.{statement}

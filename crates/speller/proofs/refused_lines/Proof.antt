@@ -7,7 +7,7 @@ use native.Mathlib.Numerals.{add-one}
 use native.Mathlib.Omega.{arith}
 use lib.ListN.{length, getD}
 use borrow.Author.Needs.{needs}
-use Rattle.report.specs.Text.{refusedLine, refusedLines}
+use Rattle.rules_report.specs.Text.{refusedLine, refusedLines}
 use Rattle.speller.specs.Placed.{Placed}
 use Rattle.speller.proofs.Puts.{put-none, lines-room, lines-turn}
 use Rattle.speller.proofs.refused_lines.Statement.{statement}

@@ -7,10 +7,10 @@ use native.Mathlib.Omega.{arith}
 use lib.ListN.{length, take, drop, replicate, take-append-drop, length-replicate}
 use denote.Ref.{now}
 use borrow.Author.Needs.{needs}
-use Rattle.report.specs.declared.Report.{Report}
-use Rattle.report.specs.declared.Spelled.{Spelled}
-use Rattle.report.specs.Text.{textOf, spelledOf, textLeft}
-use Rattle.report.proofs.Spelling.{spelled-whole, spelled-refused, text-most}
+use Rattle.rules_report.specs.declared.Report.{Report}
+use Rattle.rules_report.specs.declared.Spelled.{Spelled}
+use Rattle.rules_report.specs.Text.{textOf, spelledOf, textLeft}
+use Rattle.rules_report.proofs.Spelling.{spelled-whole, spelled-refused, text-most}
 use Rattle.speller.specs.Placed.{Placed}
 use Rattle.speller.proofs.text.Statement.{statement}
 use Rattle.speller.proofs.text.Tie as tie

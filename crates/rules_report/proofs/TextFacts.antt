@@ -5,8 +5,8 @@ use mathlib.Core.Path.{_≡_, refl}
 use mathlib.Core.List.{List, [], _∷_, _++_}
 use Prim.Native.Nat.{ℕ}
 use lib.ListN.{length, replicate}
-use Rattle.report.specs.declared.Report.{Report}
-use Rattle.report.specs.Text.{word, digits, places, decimal, refusedLines, textOf, spelledOf, textLeft}
+use Rattle.rules_report.specs.declared.Report.{Report}
+use Rattle.rules_report.specs.Text.{word, digits, places, decimal, refusedLines, textOf, spelledOf, textLeft}
 
 -- ---- words and numbers
 

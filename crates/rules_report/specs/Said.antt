@@ -6,8 +6,8 @@ use Prim.Native.Nat.{ℕ, zero, suc, _+_, _-_, _*_, _^_, _≤_, _<_}
 use mathlib.Core.Path.{_≡_}
 use mathlib.Core.List.{List, [], _∷_, _++_}
 use lib.ListN.{length, getD}
-use Rattle.report.specs.declared.Report.{Report}
-use Rattle.report.specs.Text.{word}
+use Rattle.rules_report.specs.declared.Report.{Report}
+use Rattle.rules_report.specs.Text.{word}
 
 -- a number read from its digits, the highest first, behind those read before
 unfoldable pub valueFrom : ℕ → List ℕ → ℕ

@@ -17,7 +17,7 @@ use Rattle.base.proofs.Tables.{length-tabulate, getD-tabulate, tabulate-ext}
 use Rattle.rules_rates.specs.declared.Rate.{Rate}
 use Rattle.rules_rates.specs.declared.Rate.the-variants.{One, Two, Five, Eleven}
 use Rattle.rules_rates.specs.Rates.{codeOf, rateOf}
-use Rattle.report.specs.Totals.{
+use Rattle.rules_report.specs.Totals.{
   Outcome,
   total,
   accepted,
@@ -28,7 +28,7 @@ use Rattle.report.specs.Totals.{
   Closest,
   closestFrom,
 }
-use Rattle.report.specs.Report.{
+use Rattle.rules_report.specs.Report.{
   codes,
   isThere,
   leadTold,
@@ -41,8 +41,8 @@ use Rattle.report.specs.Report.{
   withRefusal,
   added,
 }
-use Rattle.report.proofs.Outcomes.{Fair}
-use Rattle.report.proofs.Laws.{total-more, behind, closest-more}
+use Rattle.rules_report.proofs.Outcomes.{Fair}
+use Rattle.rules_report.proofs.Laws.{total-more, behind, closest-more}
 
 -- ---- a row with more at one entry
 

@@ -11,7 +11,7 @@ use Rattle.base.specs.Tables.{tabulate}
 use Rattle.rules_rates.specs.declared.Rate.{Rate}
 use Rattle.rules_rates.specs.declared.Rate.the-variants.{One, Two, Five, Eleven}
 use Rattle.rules_rates.specs.Rates.{codeOf, rateOf}
-use Rattle.report.specs.Totals.{
+use Rattle.rules_report.specs.Totals.{
   Recording,
   Outcome,
   outcomeOf,
@@ -24,8 +24,8 @@ use Rattle.report.specs.Totals.{
   Closest,
   closestFrom,
 }
-use Rattle.report.specs.declared.Report.{Report}
-use Rattle.report.specs.declared.Counted.{Counted}
+use Rattle.rules_report.specs.declared.Report.{Report}
+use Rattle.rules_report.specs.declared.Counted.{Counted}
 
 -- ---- the report of a list of readings
 

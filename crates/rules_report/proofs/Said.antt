@@ -9,9 +9,9 @@ use native.Mathlib.Decide.{decLt}
 use native.Mathlib.Omega.{arith}
 use borrow.Author.Tests.{eq-eqb, ne-eqb}
 use lib.ListN.{length, getD}
-use Rattle.report.specs.declared.Report.{Report}
-use Rattle.report.specs.Text.{decimal, rateLine, refusedLine, refusedLines, airtimeLine, leadLine, textOf}
-use Rattle.report.specs.Said.{
+use Rattle.rules_report.specs.declared.Report.{Report}
+use Rattle.rules_report.specs.Text.{decimal, rateLine, refusedLine, refusedLines, airtimeLine, leadLine, textOf}
+use Rattle.rules_report.specs.Said.{
   DigitsOf,
   RateSaid,
   RefusedSaid,
@@ -23,7 +23,7 @@ use Rattle.report.specs.Said.{
   TextSaid,
   Fits,
 }
-use Rattle.report.proofs.Spelling.{
+use Rattle.rules_report.proofs.Spelling.{
   places-one,
   length-decimal,
   decimal-least,

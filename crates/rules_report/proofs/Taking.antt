@@ -13,7 +13,7 @@ use borrow.Author.Tests.{le-ltb, eqb-true}
 use lib.Dec.{eqb, lit≤}
 use lib.ListN.{length, getD, length-map}
 use Rattle.base.proofs.Tables.{tabulate-all}
-use Rattle.report.specs.Totals.{
+use Rattle.rules_report.specs.Totals.{
   Recording,
   Outcome,
   outcomeOf,
@@ -25,13 +25,13 @@ use Rattle.report.specs.Totals.{
   frontTime,
   airtimeOf,
 }
-use Rattle.report.specs.Report.{codes, reportOf, takesMore, Limits, countedOf}
-use Rattle.report.specs.declared.Report.{Report}
-use Rattle.report.specs.declared.Counted.{Counted}
-use Rattle.report.proofs.Outcomes.{fair}
-use Rattle.report.proofs.Laws.{total-most}
-use Rattle.report.proofs.Added.{added-more}
-use Rattle.report.proofs.Lists.{limits-take}
+use Rattle.rules_report.specs.Report.{codes, reportOf, takesMore, Limits, countedOf}
+use Rattle.rules_report.specs.declared.Report.{Report}
+use Rattle.rules_report.specs.declared.Counted.{Counted}
+use Rattle.rules_report.proofs.Outcomes.{fair}
+use Rattle.rules_report.proofs.Laws.{total-most}
+use Rattle.rules_report.proofs.Added.{added-more}
+use Rattle.rules_report.proofs.Lists.{limits-take}
 
 -- ---- what totals come to
 

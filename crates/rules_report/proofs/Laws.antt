@@ -13,7 +13,16 @@ use native.Mathlib.Omega.{arith}
 use borrow.Author.Tests.{lt-ltb, le-ltb}
 use lib.Dec.{ltb}
 use lib.ListN.{length}
-use Rattle.report.specs.Totals.{Recording, Outcome, outcomeOf, total, accepted, Closest, closer, closestFrom}
+use Rattle.rules_report.specs.Totals.{
+  Recording,
+  Outcome,
+  outcomeOf,
+  total,
+  accepted,
+  Closest,
+  closer,
+  closestFrom,
+}
 
 -- ---- totals
 

@@ -10,8 +10,8 @@ use lib.ListN.{length, getD, take, replicate}
 use lib.Dec.{eqb, ltb}
 use Rattle.rules_rates.specs.declared.Rate.the-variants.{One, Two, Five, Eleven}
 use Rattle.rules_rates.specs.Rates.{codeOf}
-use Rattle.report.specs.declared.Report.{Report}
-use Rattle.report.specs.declared.Spelled.{Spelled}
+use Rattle.rules_report.specs.declared.Report.{Report}
+use Rattle.rules_report.specs.declared.Spelled.{Spelled}
 
 -- a word's octets
 unfoldable pub word : String → List ℕ

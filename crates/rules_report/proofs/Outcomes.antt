@@ -28,7 +28,7 @@ use Rattle.rules_reading.specs.Reading.{frontOf, wholeOf, payloadOdd, payloadRe
 use Rattle.rules_reading.proofs.Payloads.{foundUnusable}
 use Rattle.rules_reading.proofs.Telling.{searched, Telling, TellingWholeIf, whole-telling}
 use Rattle.rules_reading.proofs.Refusals.{RefusesIf, whole-refuses, whole-number}
-use Rattle.report.specs.Totals.{Recording, outcomeOf}
+use Rattle.rules_report.specs.Totals.{Recording, outcomeOf}
 
 -- a LENGTH of at most 4,095 octets
 length-small : (r : Rate) (n : ℕ) → n ≤ 4095 → lengthField r n ≤ 32760

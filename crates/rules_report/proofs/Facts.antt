@@ -14,8 +14,8 @@ use Rattle.rules_chips.specs.Chips.{hardRecording}
 use Rattle.rules_frame.specs.declared.Kind.the-variants.{Long, Short}
 use Rattle.rules_frame.specs.Frame.{frontChips}
 use Rattle.rules_reading.specs.Reading.{firstUnusable, frontOf, readingOf}
-use Rattle.report.specs.Totals.{Recording, Outcome, outcomeOf, total, frontTime, closestFrom}
-use Rattle.report.specs.Report.{
+use Rattle.rules_report.specs.Totals.{Recording, Outcome, outcomeOf, total, frontTime, closestFrom}
+use Rattle.rules_report.specs.Report.{
   reportOf,
   more,
   added,
@@ -27,8 +27,8 @@ use Rattle.report.specs.Report.{
   withFrame,
   withRefusal,
 }
-use Rattle.report.specs.declared.Report.{Report}
-use Rattle.report.specs.declared.Counted.{Counted}
+use Rattle.rules_report.specs.declared.Report.{Report}
+use Rattle.rules_report.specs.declared.Counted.{Counted}
 
 abbrev frame : ℕ → ℕ → ℕ → ℕ → ℕ → Outcome
 frame kind rate n l lead =

@@ -18,8 +18,8 @@ use lib.ListN.{length, getD, replicate, length-append, List·getD-append}
 use lib.Seq.{getD-at, take-all}
 use borrow.Author.Tests.{lt-ltb, le-ltb}
 use Rattle.base.proofs.Tests.{branch}
-use Rattle.report.specs.declared.Report.{Report}
-use Rattle.report.specs.Text.{
+use Rattle.rules_report.specs.declared.Report.{Report}
+use Rattle.rules_report.specs.Text.{
   word,
   digits,
   places,
@@ -33,8 +33,8 @@ use Rattle.report.specs.Text.{
   spelledOf,
   textLeft,
 }
-use Rattle.report.specs.Said.{valueFrom, IsDigit}
-use Rattle.report.proofs.TextFacts.{code-digits}
+use Rattle.rules_report.specs.Said.{valueFrom, IsDigit}
+use Rattle.rules_report.proofs.TextFacts.{code-digits}
 
 -- ---- how many digits
 

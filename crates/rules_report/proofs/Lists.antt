@@ -19,9 +19,9 @@ use lib.ListN.{length, getD, take, drop, set, drop-of-length-le}
 use lib.Seq.{drop-cons}
 use Rattle.base.specs.Tables.{tabulate}
 use Rattle.base.proofs.Tests.{left-is, right-is}
-use Rattle.report.specs.Totals.{Recording, total, closestFrom}
-use Rattle.report.specs.Report.{empty, reportOf, more, atMost, takesMore, Limits, recordings}
-use Rattle.report.specs.declared.Report.{Report}
+use Rattle.rules_report.specs.Totals.{Recording, total, closestFrom}
+use Rattle.rules_report.specs.Report.{empty, reportOf, more, atMost, takesMore, Limits, recordings}
+use Rattle.rules_report.specs.declared.Report.{Report}
 
 -- ---- a row's test
 
