@@ -10,7 +10,7 @@ use lib.Ieee.{nan}
 use Rattle.rules_chips.specs.Chips.{hardRecording, byteRecording}
 use Rattle.rules_calls.specs.declared.Record.{Record}
 use Rattle.rules_reading.specs.Reading.{frontOf, readingOf}
-use Rattle.clean.specs.Clean.{byteRow}
+use Rattle.rules_clean.specs.Clean.{byteRow}
 use Rattle.rules_coming.specs.declared.Coming.{Coming}
 use Rattle.rules_coming.specs.Coming.{frontReading}
 use Rattle.rules_finding.specs.declared.Found.{Found}

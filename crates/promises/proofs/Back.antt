@@ -32,10 +32,10 @@ use Rattle.rules_calls.specs.declared.Record.{Record}
 use Rattle.rules_reading.specs.Leads.{leadAt}
 use Rattle.rules_calls.specs.Answers.{writtenOf, recordOf}
 use Rattle.rules_calls.specs.Writing.{writingOf, chipsAfter, chipsWritten}
-use Rattle.clean.specs.Clean.{cleanRecording, cleanLeast, byteRow}
-use Rattle.clean.proofs.Recorded.{hard-recorded, soft-recorded, rows-agree, byte-recorded, byte-row-length}
-use Rattle.clean.proofs.Decided.{clean-take}
-use Rattle.clean.proofs.Back as clean
+use Rattle.rules_clean.specs.Clean.{cleanRecording, cleanLeast, byteRow}
+use Rattle.rules_clean.proofs.Recorded.{hard-recorded, soft-recorded, rows-agree, byte-recorded, byte-row-length}
+use Rattle.rules_clean.proofs.Decided.{clean-take}
+use Rattle.rules_clean.proofs.Back as clean
 use Rattle.promises.specs.Calls.{
   Read,
   Goes,

@@ -62,7 +62,7 @@ use Rattle.rules_reading.specs.Reading.{
   payloadReading,
   readingOf,
 }
-use Rattle.clean.specs.Clean.{byteRow}
+use Rattle.rules_clean.specs.Clean.{byteRow}
 use Rattle.rules_coming.specs.declared.Coming.{Coming}
 use Rattle.rules_coming.specs.Coming.{frontReading, comingOf}
 

@@ -2,7 +2,7 @@
 use mathlib.Core.Path.{sym, _∙_}
 use Rattle.rules_frame.proofs.TableP.{table-p}
 use Rattle.rules_chips.proofs.Meaning.{counted}
-use Rattle.clean.proofs.Rows.{soft-rows}
+use Rattle.rules_clean.proofs.Rows.{soft-rows}
 use Rattle.promises.specs.Calls.{to-write, to-read, to-read-front, to-hand, to-find}
 use Rattle.promises.specs.Promises.{OneAnswer, Promised}
 use Rattle.promises.proofs.Fills.{write-fills, read-fills}

@@ -18,8 +18,8 @@ use Rattle.rules_calls.specs.declared.Front.the-variants.{Fields}
 use Rattle.rules_calls.specs.Headers.{told}
 use Rattle.rules_reading.specs.Reading.{frontOf}
 use Rattle.rules_reading.proofs.Local.{front-same}
-use Rattle.clean.proofs.Recorded.{hard-recorded}
-use Rattle.clean.proofs.Back as clean
+use Rattle.rules_clean.proofs.Recorded.{hard-recorded}
+use Rattle.rules_clean.proofs.Back as clean
 use Rattle.rules_coming.specs.declared.Coming.{Coming}
 use Rattle.rules_coming.specs.Coming.{comingOf, partOf}
 use Rattle.rules_coming.proofs.Laws.{coming-told, coming-ends, part-there}

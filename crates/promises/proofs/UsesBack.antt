@@ -14,7 +14,7 @@ use Rattle.rules_rates.specs.Plain.{LengthOf, length-1, length-11}
 use Rattle.rules_frame.specs.Frame.{kindOf, frame}
 use Rattle.rules_calls.specs.declared.Written.{Written}
 use Rattle.rules_calls.specs.declared.Record.{Record}
-use Rattle.clean.specs.Clean.{Exactly, softI, softQ, byteRow}
+use Rattle.rules_clean.specs.Clean.{Exactly, softI, softQ, byteRow}
 use Rattle.promises.specs.Calls.{
   ReadHard,
   ReadSoft,

@@ -22,7 +22,7 @@ use Rattle.rules_coming.specs.declared.Coming.{Coming}
 use Rattle.rules_coming.specs.Coming.{frontReading, comingOf, partOf}
 use Rattle.rules_finding.specs.declared.Found.{Found}
 use Rattle.rules_finding.specs.Finding.{findingOf, foundOf}
-use Rattle.clean.specs.Clean.{Exactly, byteRow}
+use Rattle.rules_clean.specs.Clean.{Exactly, byteRow}
 
 -- the writer: its answer, and the chip buffer of `room` chips at the end
 pub record Wrote (kind rate phase clock : ℕ) (payload : List ℕ) (room : ℕ) (w : Written) (left : List ℕ) : Type 0 where

@@ -21,7 +21,7 @@ use Rattle.rules_calls.specs.declared.Written.{Written}
 use Rattle.rules_calls.specs.declared.Record.{Record}
 use Rattle.rules_frame.specs.Frame.{kindOf, clockOf, frame}
 use Rattle.rules_frame.specs.TableP.{TableP}
-use Rattle.clean.specs.Clean.{Exactly, softI, softQ}
+use Rattle.rules_clean.specs.Clean.{Exactly, softI, softQ}
 use Rattle.promises.specs.Calls.{
   Wrote,
   Read,

@@ -23,7 +23,7 @@ use Rattle.rules_choosing.specs.Demand3.{RightUpTo}
 use Rattle.rules_frame.specs.declared.Kind.{Kind}
 use Rattle.rules_frame.specs.Frame.{headerRate, frontChips, frameChips, preambleLength, headerLength, preambleChips}
 use Rattle.rules_reading.specs.Reading.{preambleWords, headerWords, payloadWords}
-use Rattle.clean.specs.Clean.{sampleOf}
+use Rattle.rules_clean.specs.Clean.{sampleOf}
 use Rattle.promises.specs.Calls.{Rows, in-hard, in-soft, in-bytes, takenOf}
 
 -- the exact values of the chips of a symbol of a rate that starts at a place

@@ -23,7 +23,7 @@ use Rattle.rules_choosing.proofs.CleanLeads.{lead-clean}
 use Rattle.rules_reading.specs.Leads.{decidedLeads}
 use Rattle.rules_reading.specs.Reading.{firstUnusable, decidedWords}
 use Rattle.rules_bits.specs.Code.{wordsChips}
-use Rattle.clean.specs.Clean.{cleanTaken, cleanRecording}
+use Rattle.rules_clean.specs.Clean.{cleanTaken, cleanRecording}
 use Rattle.rules_bits.proofs.Sent.{Allowed, none, more}
 
 counts-clean : (w : List ℕ) → map takenCounts (map cleanTaken w) ≡ map (fullChip 1024) w

@@ -33,7 +33,7 @@ use Rattle.rules_chips.proofs.Meaning.{no-other}
 use Rattle.base.specs.Below.{Below}
 use Rattle.base.proofs.Below.{below-head, below-tail}
 use Rattle.base.proofs.Tests.{both-left, both-right}
-use Rattle.clean.specs.Clean.{cleanTaken, cleanRecording, Exactly, none, more, byteRow}
+use Rattle.rules_clean.specs.Clean.{cleanTaken, cleanRecording, Exactly, none, more, byteRow}
 
 -- ---- hard
 hard-clean : (p : ℕ) → p < 4 → hardTaken p ≡ cleanTaken p

@@ -18,7 +18,7 @@ use Rattle.rules_frame.proofs.Parity.{front-symbols}
 use Rattle.rules_calls.specs.declared.Least.{Least}
 use Rattle.rules_reading.specs.Leads.{frontLeads, payloadLeads, frameLeads, leadAt, leastFrom, leastOf}
 use Rattle.rules_reading.proofs.Leads.{leastOf-joined, least-kept, least-found}
-use Rattle.clean.specs.Clean.{cleanLeast}
+use Rattle.rules_clean.specs.Clean.{cleanLeast}
 
 -- so many leads alike, behind one that is no larger, and behind a larger one
 kept : (k : ℕ) (b : Least) (m x : ℕ) → b .lead ≤ x → leastFrom k b (replicate m x) ≡ b

@@ -38,10 +38,10 @@ use Rattle.rules_reading.specs.Reading.{
 }
 use Rattle.rules_bits.specs.Code.{wordsChips}
 use Rattle.rules_bits.proofs.Growths.{lastPhase-lt}
-use Rattle.clean.specs.Clean.{cleanRecording}
+use Rattle.rules_clean.specs.Clean.{cleanRecording}
 use Rattle.rules_bits.proofs.Sent.{Allowed}
-use Rattle.clean.proofs.Decided.{clean-append, clean-length, decided-words, decided-leads}
-use Rattle.clean.proofs.Parts.{
+use Rattle.rules_clean.proofs.Decided.{clean-append, clean-length, decided-words, decided-leads}
+use Rattle.rules_clean.proofs.Parts.{
   wordsOf,
   firstPhase,
   allowed-of,

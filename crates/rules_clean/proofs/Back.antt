@@ -32,10 +32,10 @@ use Rattle.rules_reading.specs.Reading.{
   octetsAfter,
   octetsFound,
 }
-use Rattle.clean.specs.Clean.{cleanRecording, cleanLeast}
-use Rattle.clean.proofs.Decided.{clean-length}
+use Rattle.rules_clean.specs.Clean.{cleanRecording, cleanLeast}
+use Rattle.rules_clean.proofs.Decided.{clean-length}
 use Rattle.rules_reading.proofs.Local.{front-same}
-use Rattle.clean.proofs.Whole as whole
+use Rattle.rules_clean.proofs.Whole as whole
 
 module _ (kind : ℕ) (r : Rate) (p : ℕ) (clock : Bool) (xs : List ℕ) (is-kind : isKind kind ≡ true) (l : p < 4) where
   abbrev k : Kind

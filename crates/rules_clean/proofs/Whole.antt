@@ -64,9 +64,9 @@ use Rattle.rules_reading.specs.Reading.{
   wholeOf,
   payloadReading,
 }
-use Rattle.clean.specs.Clean.{cleanRecording, cleanLeast}
-use Rattle.clean.proofs.Decided.{none-unusable, clean-length, clean-drop}
-use Rattle.clean.proofs.Listened.{
+use Rattle.rules_clean.specs.Clean.{cleanRecording, cleanLeast}
+use Rattle.rules_clean.proofs.Decided.{none-unusable, clean-length, clean-drop}
+use Rattle.rules_clean.proofs.Listened.{
   front-leads,
   payload-leads,
   front-none,
@@ -75,7 +75,7 @@ use Rattle.clean.proofs.Listened.{
   payload-heard,
   all-phases,
 }
-use Rattle.clean.proofs.Leads.{clean-least}
+use Rattle.rules_clean.proofs.Leads.{clean-least}
 
 -- ---- the frame's bits: how many, and each a bit
 both-length : (k : Kind) (header : List ℕ) → length header ≡ headerLength

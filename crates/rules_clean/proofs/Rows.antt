@@ -11,7 +11,7 @@ use Rattle.base.proofs.Below.{below-head, below-tail}
 use Rattle.rules_chips.specs.declared.Chip.the-variants.{Soft}
 use Rattle.rules_chips.specs.Floats.{steps, usable}
 use Rattle.rules_chips.specs.Chips.{fullChip, usableSample, exactOf}
-use Rattle.clean.specs.Clean.{sampleOf, Exactly, none, more, softI, softQ}
+use Rattle.rules_clean.specs.Clean.{sampleOf, Exactly, none, more, softI, softQ}
 
 -- a zero by whose bits each phase is usable and exact
 pub record Serves (z p : ℕ) : Type 0 where
