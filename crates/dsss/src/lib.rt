@@ -5,7 +5,7 @@
 ghost use mathlib.Core.List.{map};
 ghost use lib.ListN.{length};
 ghost use Rattle.promises.specs.Calls.{Wrote, ReadHard, ReadSoft, ReadBytes, ReadFront, Finds};
-ghost use Rattle.report_promises.specs.Calls.{Adds, Lists, Spells};
+ghost use Rattle.promises_report.specs.Calls.{Adds, Lists, Spells};
 use rules_calls::Record;
 use rules_calls::Written;
 use rules_coming::Coming;

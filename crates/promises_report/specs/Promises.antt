@@ -15,7 +15,7 @@ use Rattle.rules_report.specs.Report.{empty, Limits, recordings}
 use Rattle.rules_report.specs.Text.{textOf}
 use Rattle.rules_report.specs.Said.{TextSaid, Fits}
 use Rattle.promises.specs.Calls.{refused}
-use Rattle.report_promises.specs.Calls.{Adds, Lists, Spells, Kept, Readings}
+use Rattle.promises_report.specs.Calls.{Adds, Lists, Spells, Kept, Readings}
 
 -- ---- the smallest lead
 

@@ -12,7 +12,7 @@ use borrow.Author.Tests.{lt-ltb, le-ltb, eqb-true, eq-eqb}
 use lib.Dec.{T}
 use Rattle.rules_report.specs.Totals.{Outcome, accepted, Closest, closer, closestFrom}
 use Rattle.rules_report.specs.Report.{isThere, leadTold, recordingTold}
-use Rattle.report_promises.specs.Promises.{FrameAt, LeadTold, no-frame, smallest}
+use Rattle.promises_report.specs.Promises.{FrameAt, LeadTold, no-frame, smallest}
 
 -- ---- frames of a list and of its end
 

@@ -20,8 +20,8 @@ use Rattle.rules_report.proofs.Outcomes.{Fair, fair}
 use Rattle.rules_report.proofs.Laws.{total-most}
 use Rattle.rules_report.proofs.Added.{entry-below, length-more, added-more}
 use Rattle.rules_report.proofs.Taking.{map-more, one-most}
-use Rattle.report_promises.specs.Promises.{LeadTold, sumOf, TotalsOf}
-use Rattle.report_promises.proofs.Lead.{lead-told}
+use Rattle.promises_report.specs.Promises.{LeadTold, sumOf, TotalsOf}
+use Rattle.promises_report.proofs.Lead.{lead-told}
 
 -- ---- frames and refusals together
 

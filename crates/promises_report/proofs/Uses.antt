@@ -51,7 +51,7 @@ use Rattle.promises.specs.Calls.{
   of-hard,
 }
 use Rattle.promises.proofs.Kept.{kept}
-use Rattle.report_promises.specs.Calls.{
+use Rattle.promises_report.specs.Calls.{
   Adds,
   Lists,
   Spells,
@@ -62,9 +62,9 @@ use Rattle.report_promises.specs.Calls.{
   none-read,
   one-read,
 }
-use Rattle.report_promises.specs.Promises.{FrameAt, LeadTold, no-frame, smallest, sumOf, TotalsOf}
-use Rattle.report_promises.proofs.Kept.{kept-report}
-use Rattle.report_promises.proofs.Totals.{by-more}
+use Rattle.promises_report.specs.Promises.{FrameAt, LeadTold, no-frame, smallest, sumOf, TotalsOf}
+use Rattle.promises_report.proofs.Kept.{kept-report}
+use Rattle.promises_report.proofs.Totals.{by-more}
 
 -- ---- there are readings of any list: with one answer only, the contract is its definition
 reads : (rs : List Recording) → Readings rs (map outcomeOf rs)

@@ -11,8 +11,8 @@ use Rattle.rules_report.specs.Report.{empty}
 use Rattle.rules_report.specs.Text.{word, textOf}
 use Rattle.rules_report.specs.Said.{valueFrom, TextSaid, Fits}
 use Rattle.rules_report.proofs.Spelling.{text-most}
-use Rattle.report_promises.specs.Calls.{Spells}
-use Rattle.report_promises.proofs.Kept.{kept-report}
+use Rattle.promises_report.specs.Calls.{Spells}
+use Rattle.promises_report.proofs.Kept.{kept-report}
 
 -- ---- the text
 pub text-whole : (p : Report) (s : Spelled) (left : List ℕ) → Spells p 980 s left

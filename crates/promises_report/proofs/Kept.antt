@@ -33,8 +33,8 @@ use Rattle.rules_report.proofs.Said.{text-said}
 use Rattle.rules_report.proofs.Taking.{counted-next, counted-full}
 use Rattle.rules_report.proofs.Lists.{takes, limits-take, none-counted}
 use Rattle.rules_report.proofs.Spelling.{spelled-whole, spelled-refused, text-most}
-use Rattle.report_promises.specs.Calls.{Kept, nothing-yet, one-more, Readings, none-read, one-read}
-use Rattle.report_promises.specs.Promises.{
+use Rattle.promises_report.specs.Calls.{Kept, nothing-yet, one-more, Readings, none-read, one-read}
+use Rattle.promises_report.specs.Promises.{
   TotalsOf,
   ReportKept,
   KeptAnswers,
@@ -45,7 +45,7 @@ use Rattle.report_promises.specs.Promises.{
   OneReport,
   ReportPromised,
 }
-use Rattle.report_promises.proofs.Totals.{seen-of, totals-of}
+use Rattle.promises_report.proofs.Totals.{seen-of, totals-of}
 
 -- ---- the readings of a list are what its outcomes are by definition
 readings-are : (rs : List Recording) (os : List Outcome) → Readings rs os → os ≡ map outcomeOf rs
