@@ -33,7 +33,7 @@ fn read(
     ensures octets { λ _. ⌜ now (octets .exit) ≡ octetsFound kind agree
         (lent rec (row .entry) (bytes .entry) (i .entry) (q .entry)) (length (now (octets .entry))) ⌝ }
 {
-    rows::fill(octets, 0);
+    common_rows::fill(octets, 0);
     if !kinds::is_kind(kind) {
         return Reading::Refused(Refusal::NoKind);
     }

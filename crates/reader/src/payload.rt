@@ -76,7 +76,7 @@ fn hear_payload(
     let odd = heard.odd;
     match odd {
         Place::At(place) => {
-            rows::fill(octets, 0);
+            common_rows::fill(octets, 0);
             let odd = Place::At(place);
             Payload { odd, least }
         }

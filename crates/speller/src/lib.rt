@@ -177,7 +177,7 @@ pub fn text(report: Report, octets: &mut [u8]) -> Spelled
     ensures answer { λ r. ⌜ r ≡ spelledOf report (length (now (octets .entry))) ⌝ }
     ensures octets { λ _. ⌜ now (octets .exit) ≡ textLeft report (length (now (octets .entry))) ⌝ }
 {
-    rows::fill(octets, 0);
+    common_rows::fill(octets, 0);
     let mut row = [0u8; 980];
     let count = put_text(report, &mut row);
     if octets.len() < count {

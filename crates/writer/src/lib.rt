@@ -84,7 +84,7 @@ fn put_frame(k: Kind, r: Rate, p: u8, clock: bool, payload: &[u8], count: usize,
     let l = put_front(k, p, &header, chips);
     let at = kinds::front_chips(k);
     sending::put_octets(r, l, payload, &mut chips[at..]);
-    rows::fill(&mut chips[count..], 4);
+    common_rows::fill(&mut chips[count..], 4);
 }
 
 // A frame's chips from its payload; the answer tells the refusal, or how many chips were written. A clock of 0 is no,
@@ -106,7 +106,7 @@ pub fn write(
     let written = answers::written_of(writing);
     match writing {
         Writing::Refused(_) => {
-            rows::fill(chips, 4);
+            common_rows::fill(chips, 4);
             written
         }
         Writing::Good {

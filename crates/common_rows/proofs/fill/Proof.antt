@@ -1,4 +1,4 @@
--- `rows::fill` meets its contract. The invariant: the first i elements are v, the others as they were.
+-- `common_rows::fill` meets its contract. The invariant: the first i elements are v, the others as they were.
 -- Assumes nothing.
 use mathlib.Core.Path.{_≡_, ap, _∙_}
 use mathlib.Core.List.{List, _++_, append-nil}
@@ -8,8 +8,8 @@ use lib.ListN.{length, set, drop, replicate, length-set}
 use lib.Seq.{drop-length}
 use borrow.Author.Needs.{needs}
 use borrow.Author.Fill.{fill-more}
-use Rattle.rows.proofs.fill.Statement.{statement}
-use Rattle.rows.proofs.fill.Tie as tie
+use Rattle.common_rows.proofs.fill.Statement.{statement}
+use Rattle.common_rows.proofs.fill.Tie as tie
 
 abbrev Inv-loop : tie.InvT-loop
 Inv-loop row₀ v i₀ row i = (i ≤ length row₀) × (length row ≡ length row₀)
