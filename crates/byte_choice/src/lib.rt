@@ -107,7 +107,7 @@ fn by_signs(c: [i16; 11]) -> i16
     requires { ⌜ RowWithin 128 c ⌝ }
     ensures answer { λ r. ⌜ r ≡ bySigns c ⌝ }
 {
-    let turns = words::BARKER;
+    let turns = common_words::BARKER;
     let mut x: i16 = 0;
     for k in 0..11 {
         if turns[k] == 0 {

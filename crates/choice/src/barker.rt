@@ -12,7 +12,7 @@ fn by_signs(c: [i32; 11]) -> i32
     requires { ⌜ RowWithin 8192 c ⌝ }
     ensures answer { λ r. ⌜ r ≡ bySigns c ⌝ }
 {
-    let turns = words::BARKER;
+    let turns = common_words::BARKER;
     let mut x: i32 = 0;
     for k in 0..11 {
         if turns[k] == 0 {

@@ -89,8 +89,8 @@ fn put_five(p: u8, o: u8, chips: &mut [u8]) -> u8
     let s = lines::pairs(o);
     let p0 = grown_cck(p, 0, s);
     let p1 = grown_cck(p0, 1, s / 16);
-    let first = words::five_word(p0, s / 4);
-    let second = words::five_word(p1, s / 64);
+    let first = common_words::five_word(p0, s / 4);
+    let second = common_words::five_word(p1, s / 64);
     puts::put(&first, chips);
     puts::put(&second, &mut chips[8..]);
     p1
@@ -105,7 +105,7 @@ fn put_eleven(p: u8, k: usize, o: u8, chips: &mut [u8]) -> u8
 {
     let s = lines::pairs(o);
     let p1 = grown_cck(p, k, s);
-    let word = words::cck_word(p1, s / 4, s / 16, s / 64);
+    let word = common_words::cck_word(p1, s / 4, s / 16, s / 64);
     puts::put(&word, chips);
     p1
 }
@@ -151,7 +151,7 @@ pub fn put_octets(r: Rate, line: Line, octets: &[u8], chips: &mut [u8]) -> Line
         ≡ over (run r 0 (state line) (now (octets .entry))) (now (chips .entry)) ⌝ }
 {
     let per = r.octet_chips();
-    let barkers = words::barker_words();
+    let barkers = common_words::barker_words();
     let mut l = line;
     let mut i = 0;
     let mut at = 0;

@@ -101,7 +101,7 @@ fn by_signs(c: [i8; 11]) -> i8
     requires { ⌜ RowWithin 1 c ⌝ }
     ensures answer { λ r. ⌜ r ≡ bySigns c ⌝ }
 {
-    let turns = words::BARKER;
+    let turns = common_words::BARKER;
     let mut x: i8 = 0;
     for k in 0..11 {
         if turns[k] == 0 {

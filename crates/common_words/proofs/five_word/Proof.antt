@@ -1,9 +1,9 @@
--- `words::five_word` meets its contract: `five-sums`. Assumes nothing.
+-- `common_words::five_word` meets its contract: `five-sums`. Assumes nothing.
 use native.Mathlib.Omega.{arith}
 use borrow.Author.Needs.{needs}
-use Rattle.words.proofs.Octets.{five-small, five-sums}
-use Rattle.words.proofs.five_word.Statement.{statement}
-use Rattle.words.proofs.five_word.Tie as tie
+use Rattle.common_words.proofs.Octets.{five-small, five-sums}
+use Rattle.common_words.proofs.five_word.Statement.{statement}
+use Rattle.common_words.proofs.five_word.Tie as tie
 
 add-quarters : tie.Need-add-quarters
 add-quarters c = omega (arith, five-small (c .before .before .args .d) _ (c .together .ensures))

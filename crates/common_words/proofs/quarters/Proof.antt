@@ -1,9 +1,9 @@
--- `words::quarters` meets its contract: it computes. Assumes nothing.
+-- `common_words::quarters` meets its contract: it computes. Assumes nothing.
 use mathlib.Core.Path.{refl}
 use borrow.Author.Needs.{needs}
-use Rattle.words.specs.Octets.{quarters}
-use Rattle.words.proofs.quarters.Statement.{statement}
-use Rattle.words.proofs.quarters.Tie as tie
+use Rattle.common_words.specs.Octets.{quarters}
+use Rattle.common_words.proofs.quarters.Statement.{statement}
+use Rattle.common_words.proofs.quarters.Tie as tie
 
 returns : tie.Need-returns
 unfolding quarters

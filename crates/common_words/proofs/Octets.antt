@@ -11,7 +11,7 @@ use Rattle.base.specs.Below.{Below}
 use Rattle.base.proofs.Below.{below-head, below-tail, below-eight}
 use Rattle.rules_chips.specs.Chips.{turned}
 use Rattle.rules_symbols.specs.Words.{cckWord}
-use Rattle.words.specs.Octets.{together, quarters}
+use Rattle.common_words.specs.Octets.{together, quarters}
 use Rattle.rules_symbols.proofs.Words.{fiveTable, fiveWord, five-at, cck-turned}
 
 quarters-octets : (cs : List ℕ) → Below 256 cs → quarters (length cs) (together cs) ≡ map (λ (c : ℕ). c % 4) cs

@@ -1,8 +1,8 @@
--- `words::barker_words` meets its contract: four words. Assumes nothing.
+-- `common_words::barker_words` meets its contract: four words. Assumes nothing.
 use borrow.Author.Needs.{needs}
 use Rattle.base.specs.Tables.{tabulate}
-use Rattle.words.proofs.barker_words.Statement.{statement}
-use Rattle.words.proofs.barker_words.Tie as tie
+use Rattle.common_words.proofs.barker_words.Statement.{statement}
+use Rattle.common_words.proofs.barker_words.Tie as tie
 
 returns : tie.Need-returns
 unfolding tabulate

@@ -1,9 +1,9 @@
--- `words::together` meets its contract: it computes. Assumes nothing.
+-- `common_words::together` meets its contract: it computes. Assumes nothing.
 use native.Mathlib.Nat.{add-zero}
 use borrow.Author.Needs.{needs}
-use Rattle.words.specs.Octets.{together}
-use Rattle.words.proofs.together.Statement.{statement}
-use Rattle.words.proofs.together.Tie as tie
+use Rattle.common_words.specs.Octets.{together}
+use Rattle.common_words.proofs.together.Statement.{statement}
+use Rattle.common_words.proofs.together.Tie as tie
 
 returns : tie.Need-returns
 unfolding together

@@ -1,4 +1,4 @@
--- `words::barker_word` meets its contract: after k chips the first k are the table's, turned by p.
+-- `common_words::barker_word` meets its contract: after k chips the first k are the table's, turned by p.
 -- Assumes nothing.
 use mathlib.Core.Path.{refl, _∙_}
 use Prim.Native.Nat.{_-_}
@@ -7,8 +7,8 @@ use borrow.Author.Needs.{needs}
 use Rattle.base.specs.Tables.{Filled}
 use Rattle.base.proofs.Tables.{filled-none, filled-more, filled-all}
 use Rattle.rules_symbols.proofs.Words.{barkerTurns, turnedAt, turn-mod, barker-filled, barker-turns-phases}
-use Rattle.words.proofs.barker_word.Statement.{statement}
-use Rattle.words.proofs.barker_word.Tie as tie
+use Rattle.common_words.proofs.barker_word.Statement.{statement}
+use Rattle.common_words.proofs.barker_word.Tie as tie
 
 abbrev Inv-loop : tie.InvT-loop
 Inv-loop p word₀ k₀ word k = Filled (turnedAt p barkerTurns) 11 word k

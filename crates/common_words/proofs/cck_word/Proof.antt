@@ -1,10 +1,10 @@
--- `words::cck_word` meets its contract: `cck-sums`. Assumes nothing.
+-- `common_words::cck_word` meets its contract: `cck-sums`. Assumes nothing.
 use mathlib.Core.Path.{refl}
 use native.Mathlib.Omega.{arith}
 use borrow.Author.Needs.{needs}
-use Rattle.words.proofs.Octets.{quarters-small, cck-sums}
-use Rattle.words.proofs.cck_word.Statement.{statement}
-use Rattle.words.proofs.cck_word.Tie as tie
+use Rattle.common_words.proofs.Octets.{quarters-small, cck-sums}
+use Rattle.common_words.proofs.cck_word.Statement.{statement}
+use Rattle.common_words.proofs.cck_word.Tie as tie
 
 add-t34 : tie.Need-add-t34
 add-t34 c = omega (arith, quarters-small _ _ (c .quarters .ensures) .0)

@@ -4,7 +4,7 @@ ghost use mathlib.Core.List.{[], _∷_};
 ghost use Prim.Native.Nat.{_+_, _*_, _/_, _%_};
 ghost use Rattle.base.specs.Tables.{tabulate};
 ghost use Rattle.rules_symbols.specs.Words.{barkerWord, cckWord};
-ghost use Rattle.words.specs.Octets.{together, quarters};
+ghost use Rattle.common_words.specs.Octets.{together, quarters};
 
 // The signs + - + + - + + + - - - as turns: none for a plus, a half turn for a minus.
 pub const BARKER: [u8; 11] = [0, 2, 0, 0, 2, 0, 0, 0, 2, 2, 2];
