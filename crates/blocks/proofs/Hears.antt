@@ -22,7 +22,7 @@ use Rattle.rules_bits.specs.Bits.{numberOf, octetBits, octetsOf}
 use Rattle.rules_bits.specs.Growths.{grownBy, heardBits, heard, growthsOf, lastHeard}
 use Rattle.rules_bits.specs.Scrambler.{descramble}
 use Rattle.rules_bits.specs.Code.{pastOf, pastAfter}
-use Rattle.lines.specs.declared.Line.{Line}
+use Rattle.common_lines.specs.declared.Line.{Line}
 use Rattle.rules_bits.proofs.Bits.{octets-length, octets-bits}
 use Rattle.rules_bits.proofs.Heard.{heard-length, heard-below}
 use Rattle.rules_reading.specs.Reading.{firstOdd, oddGrowth}

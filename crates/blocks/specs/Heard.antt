@@ -10,7 +10,7 @@ use Rattle.rules_bits.specs.Bits.{octetsOf}
 use Rattle.rules_bits.specs.Growths.{heard, growthsOf, lastHeard}
 use Rattle.rules_bits.specs.Scrambler.{descramble}
 use Rattle.rules_bits.specs.Code.{pastOf, pastAfter}
-use Rattle.lines.specs.declared.Line.{Line}
+use Rattle.common_lines.specs.declared.Line.{Line}
 use Rattle.rules_reading.specs.Reading.{oddGrowth}
 use Rattle.recorded.specs.Recorded.{whereFound}
 use Rattle.blocks.specs.declared.Hearing.{Hearing}

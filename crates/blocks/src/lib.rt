@@ -10,7 +10,7 @@ ghost use Rattle.rules_rates.specs.Rates.{symbolBits, octetSymbols, octetChips}
 ghost use Rattle.rules_bits.specs.Bits.{numberOf};
 ghost use Rattle.codes.specs.Codes.{grownFor, wordBits, phaseBefore, octetAfter, behind, plain, AreWords};
 ghost use Rattle.blocks.specs.Heard.{plainOctets, Heard};
-use lines::Line;
+use common_lines::Line;
 use rules_rates::Rate;
 use recorded::Place;
 
@@ -81,7 +81,7 @@ fn unscramble(raw: [u8; 65], count: usize, out: &mut [u8])
     ensures out { λ _. ⌜ now (out .exit) ≡ over (plain count (getD raw 0 0) (behind raw count)) (now (out .entry)) ⌝ }
 {
     for o in 0..count {
-        out[o] = lines::descramble_octet(raw[o], raw[o + 1]);
+        out[o] = common_lines::descramble_octet(raw[o], raw[o + 1]);
     }
 }
 

@@ -37,7 +37,7 @@ use Rattle.rules_reading.specs.Reading.{
 use Rattle.rules_calls.specs.declared.Least.{Least}
 use Rattle.rules_reading.specs.Leads.{frontLeads, frameLeads, leastFrom, leastOf}
 use Rattle.recorded.specs.Recorded.{whereFound}
-use Rattle.lines.specs.declared.Line.{Line}
+use Rattle.common_lines.specs.declared.Line.{Line}
 use Rattle.hearing.specs.declared.Part.{Part}
 use Rattle.hearing.specs.Hearing.{partLeads, PartHeard}
 use Rattle.rules_bits.proofs.Heard.{heard-length, heard-parity}

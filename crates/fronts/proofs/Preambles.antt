@@ -23,7 +23,7 @@ use Rattle.rules_bits.specs.Bits.{octetBits, octetsOf}
 use Rattle.rules_bits.specs.Growths.{heard, growthsOf, lastHeard}
 use Rattle.rules_bits.specs.Scrambler.{descramble}
 use Rattle.rules_bits.specs.Code.{pastOf, pastAfter}
-use Rattle.lines.specs.declared.Line.{Line}
+use Rattle.common_lines.specs.declared.Line.{Line}
 use Rattle.rules_bits.proofs.Bits.{octets-append, octets-bits, octets-length}
 use Rattle.rules_bits.proofs.Scrambler.{descramble-below, descramble-length, descramble-window}
 use Rattle.rules_bits.proofs.Heard.{heard-length}

@@ -16,7 +16,7 @@ use Rattle.rules_bits.specs.Bits.{octetBits, octetsOf}
 use Rattle.rules_bits.specs.Growths.{heard, growthsOf, lastHeard}
 use Rattle.rules_bits.specs.Scrambler.{descramble}
 use Rattle.rules_bits.specs.Code.{pastOf, pastAfter}
-use Rattle.lines.specs.declared.Line.{Line}
+use Rattle.common_lines.specs.declared.Line.{Line}
 use Rattle.rules_bits.proofs.Bits.{octets-bits}
 use Rattle.rules_bits.proofs.Scrambler.{
   past-append,

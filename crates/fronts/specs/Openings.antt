@@ -11,7 +11,7 @@ use Rattle.rules_bits.specs.Bits.{octetBits, octetsOf}
 use Rattle.rules_bits.specs.Growths.{heard, growthsOf}
 use Rattle.rules_bits.specs.Scrambler.{descramble}
 use Rattle.rules_bits.specs.Code.{pastOf, pastAfter}
-use Rattle.lines.specs.declared.Line.{Line}
+use Rattle.common_lines.specs.declared.Line.{Line}
 use Rattle.rules_frame.specs.declared.Kind.{Kind}
 use Rattle.rules_frame.specs.declared.Kind.the-variants.{Long, Short}
 use Rattle.rules_frame.specs.Frame.{start, syncBits, preambleLength, frameChips}

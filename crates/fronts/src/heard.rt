@@ -20,7 +20,7 @@ use blocks::Hearing;
 use rules_calls::Least;
 use rules_frame::Kind;
 use hearing::Part;
-use lines::Line;
+use common_lines::Line;
 use rules_rates::Rate;
 use recorders::Recorder;
 

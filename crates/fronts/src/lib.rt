@@ -11,7 +11,7 @@ use rules_calls::Least;
 use rules_calls::Refusal;
 use rules_frame::Kind;
 use hearing::Part;
-use lines::Line;
+use common_lines::Line;
 use rules_rates::Rate;
 use recorded::Place;
 use recorders::Recorder;

@@ -30,7 +30,7 @@ use Rattle.rules_bits.specs.Bits.{bitsOf, octetsOf}
 use Rattle.rules_bits.specs.Growths.{heard, growthsOf, lastHeard}
 use Rattle.rules_bits.specs.Scrambler.{descramble}
 use Rattle.rules_bits.specs.Code.{pastOf, pastAfter}
-use Rattle.lines.specs.declared.Line.{Line}
+use Rattle.common_lines.specs.declared.Line.{Line}
 use Rattle.rules_bits.proofs.Bits.{octets-append, octets-length}
 use Rattle.rules_bits.proofs.Scrambler.{past-append, descramble-append, descramble-length}
 use Rattle.rules_bits.proofs.Heard.{

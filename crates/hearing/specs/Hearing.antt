@@ -8,7 +8,7 @@ use lib.ListN.{drop}
 use Rattle.rules_rates.specs.declared.Rate.{Rate}
 use Rattle.rules_rates.specs.Rates.{symbolBits}
 use Rattle.rules_chips.specs.Chips.{Taken}
-use Rattle.lines.specs.declared.Line.{Line}
+use Rattle.common_lines.specs.declared.Line.{Line}
 use Rattle.rules_calls.specs.declared.Least.{Least}
 use Rattle.rules_reading.specs.Reading.{decidedWords}
 use Rattle.rules_reading.specs.Leads.{decidedLeads, leastFrom}

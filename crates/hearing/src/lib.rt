@@ -15,7 +15,7 @@ ghost use Rattle.blocks.specs.Heard.{plainOctets, Heard};
 ghost use Rattle.hearing.specs.Hearing.{partWords, partLeads, PartHeard};
 use blocks::Hearing;
 use rules_calls::Least;
-use lines::Line;
+use common_lines::Line;
 use rules_rates::Rate;
 use recorded::Place;
 use recorders::Recorder;

@@ -6,7 +6,7 @@ use mathlib.Core.List.{[], _∷_, _++_}
 use Rattle.rules_bits.specs.Code.{pastOf}
 use Rattle.rules_frame.specs.declared.Kind.{Kind}
 use Rattle.rules_frame.specs.Frame.{start}
-use Rattle.lines.specs.declared.Line.{Line}
+use Rattle.common_lines.specs.declared.Line.{Line}
 
 -- the scrambler's start, and an eighth output that nothing depends on; the phase that the first symbol grows from
 pub record Starts (k : Kind) (phase : ℕ) (l : Line) : Type 0 where

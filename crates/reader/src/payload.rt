@@ -17,7 +17,7 @@ use rules_calls::Refusal;
 use rules_calls::Told;
 use rules_frame::Kind;
 use hearing::Part;
-use lines::Line;
+use common_lines::Line;
 use rules_rates::Rate;
 use recorded::Place;
 use recorders::Recorder;

@@ -1,5 +1,5 @@
 // Octets as chips: each octet scrambled, cut into symbols at a rate, and written as words over a buffer's front.
-use lines::Line;
+use common_lines::Line;
 use rules_rates::Rate;
 ghost use mathlib.Core.Path.{_≡_};
 ghost use Prim.Native.Nat.{_+_, _*_, _/_, _%_, _≤_};
@@ -27,14 +27,14 @@ fn grown_one(p: u8, b: u8) -> u8
 fn grown(p: u8, n: u8) -> u8
     ensures answer { λ r. ⌜ r ≡ turned p (growth (n / 2 % 2) (n % 2)) ⌝ }
 {
-    (p % 4 + lines::growth(n)) % 4
+    (p % 4 + common_lines::growth(n)) % 4
 }
 
 // The phase p1 of the k-th CCK symbol: odd ones grow by 2 more.
 fn grown_cck(p: u8, k: usize, n: u8) -> u8
     ensures answer { λ r. ⌜ r ≡ turned p (growth (n / 2 % 2) (n % 2) + halfTurn k) ⌝ }
 {
-    (p % 4 + lines::growth(n) + (k % 2) as u8 * 2) % 4
+    (p % 4 + common_lines::growth(n) + (k % 2) as u8 * 2) % 4
 }
 
 // Eight scrambled bits as chips, at each rate; the answer is the last symbol's phase. `barkers` are the Barker words.
@@ -70,7 +70,7 @@ fn put_two(barkers: &[[u8; 11]; 4], p: u8, o: u8, chips: &mut [u8]) -> u8
     ensures chips { λ _. ⌜ now (chips .exit) ≡ over (chipsFrom Rate.Two p (symbolsAt Rate.Two 0 (bitsOf 8 o)))
         (now (chips .entry)) ⌝ }
 {
-    let s = lines::pairs(o);
+    let s = common_lines::pairs(o);
     let p0 = grown(p, s);
     let p1 = grown(p0, s / 4);
     let p2 = grown(p1, s / 16);
@@ -86,7 +86,7 @@ fn put_five(p: u8, o: u8, chips: &mut [u8]) -> u8
     ensures chips { λ _. ⌜ now (chips .exit) ≡ over (chipsFrom Rate.Five p (symbolsAt Rate.Five 0 (bitsOf 8 o)))
         (now (chips .entry)) ⌝ }
 {
-    let s = lines::pairs(o);
+    let s = common_lines::pairs(o);
     let p0 = grown_cck(p, 0, s);
     let p1 = grown_cck(p0, 1, s / 16);
     let first = common_words::five_word(p0, s / 4);
@@ -103,7 +103,7 @@ fn put_eleven(p: u8, k: usize, o: u8, chips: &mut [u8]) -> u8
     ensures chips { λ _. ⌜ now (chips .exit) ≡ over (chipsFrom Rate.Eleven p (symbolsAt Rate.Eleven k (bitsOf 8 o)))
         (now (chips .entry)) ⌝ }
 {
-    let s = lines::pairs(o);
+    let s = common_lines::pairs(o);
     let p1 = grown_cck(p, k, s);
     let word = common_words::cck_word(p1, s / 4, s / 16, s / 64);
     puts::put(&word, chips);
@@ -138,7 +138,7 @@ fn put_octet(
     ensures answer { λ l. ⌜ state l ≡ step r k (state line) x ⌝ }
     ensures chips { λ _. ⌜ now (chips .exit) ≡ over (emit r k (state line) x) (now (chips .entry)) ⌝ }
 {
-    let o = lines::scramble_octet(line.past, x);
+    let o = common_lines::scramble_octet(line.past, x);
     let phase = put_bits(barkers, r, line.phase, k, o, chips);
     Line { past: o, phase }
 }

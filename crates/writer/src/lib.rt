@@ -3,7 +3,7 @@
 use rules_calls::Writing;
 use rules_calls::Written;
 use rules_frame::Kind;
-use lines::Line;
+use common_lines::Line;
 use rules_rates::Rate;
 ghost use mathlib.Core.Path.{_≡_};
 ghost use mathlib.Core.List.{_++_};

@@ -16,7 +16,7 @@ use Rattle.rules_calls.specs.declared.Least.{Least}
 use Rattle.hearing.specs.declared.Part.{Part}
 use Rattle.hearing.specs.Hearing.{PartHeard}
 use Rattle.hearing.proofs.Parts.{few-symbols}
-use Rattle.lines.specs.declared.Line.{Line}
+use Rattle.common_lines.specs.declared.Line.{Line}
 use mathlib.Core.List.{List}
 use borrow.Author.Needs.{needs}
 use Rattle.fronts.proofs.Whole.{front-known}

@@ -10,7 +10,7 @@ use lib.Seq.{length-front}
 use Rattle.rules_rates.specs.declared.Rate.{Rate}
 use Rattle.rules_rates.specs.Rates.{octetSymbols, octetChips}
 use Rattle.rules_chips.specs.Chips.{Taken}
-use Rattle.lines.specs.declared.Line.{Line}
+use Rattle.common_lines.specs.declared.Line.{Line}
 use Rattle.rules_frame.specs.declared.Kind.{Kind}
 use Rattle.rules_frame.specs.Frame.{frontChips, frameChips}
 use Rattle.rules_reading.specs.Reading.{payloadOdd, payloadOf}

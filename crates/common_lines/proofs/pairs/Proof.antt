@@ -1,9 +1,9 @@
--- `lines::pairs` meets its contract: `pairs-masked`. Assumes nothing.
+-- `common_lines::pairs` meets its contract: `pairs-masked`. Assumes nothing.
 use native.Mathlib.Omega.{arith}
 use lib.Bits.{and-le-r}
 use Rattle.rules_bits.proofs.PairLaws.{pairs-masked}
-use Rattle.lines.proofs.pairs.Statement.{statement}
-use Rattle.lines.proofs.pairs.Tie as tie
+use Rattle.common_lines.proofs.pairs.Statement.{statement}
+use Rattle.common_lines.proofs.pairs.Tie as tie
 
 mul-result : tie.Need-mul-result
 mul-result c = let o = c .args .o in omega (arith, and-le-r o 0x55)

@@ -1,4 +1,4 @@
--- `lines::growth` meets its contract: the table is the definition's. Assumes nothing.
+-- `common_lines::growth` meets its contract: the table is the definition's. Assumes nothing.
 use mathlib.Core.Path.{_≡_, ap}
 use Prim.Native.Nat.{ℕ, _+_, _*_, _/_, _%_, _<_}
 use native.Mathlib.Omega.{arith}
@@ -6,8 +6,8 @@ use lib.ListN.{getD}
 use borrow.Author.Needs.{needs}
 use Rattle.rules_bits.specs.Growths.{growthTable, growth}
 use Rattle.rules_bits.proofs.Growths.{growth-lt}
-use Rattle.lines.proofs.growth.Statement.{statement}
-use Rattle.lines.proofs.growth.Tie as tie
+use Rattle.common_lines.proofs.growth.Statement.{statement}
+use Rattle.common_lines.proofs.growth.Tie as tie
 
 entry : (n : ℕ) → getD growthTable (n % 4) 0 ≡ growth (n / 2 % 2) (n % 2)
 unfolding growth

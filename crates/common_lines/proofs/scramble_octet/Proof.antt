@@ -1,10 +1,10 @@
--- `lines::scramble_octet` meets its contract: `scrambled-octet`. Assumes nothing.
+-- `common_lines::scramble_octet` meets its contract: `scrambled-octet`. Assumes nothing.
 use mathlib.Core.Path.{refl}
 use native.Mathlib.Omega.{arith}
 use borrow.Author.Needs.{needs}
 use Rattle.rules_bits.proofs.Mixing.{scrambled-octet}
-use Rattle.lines.proofs.scramble_octet.Statement.{statement}
-use Rattle.lines.proofs.scramble_octet.Tie as tie
+use Rattle.common_lines.proofs.scramble_octet.Statement.{statement}
+use Rattle.common_lines.proofs.scramble_octet.Tie as tie
 
 returns : tie.Need-returns
 returns c = scrambled-octet (c .args .past) (c .args .x) _ _ (omega arith) refl refl

@@ -1,9 +1,9 @@
--- `lines::descramble_octet` meets its contract: `unscrambled-number`. Assumes nothing.
+-- `common_lines::descramble_octet` meets its contract: `unscrambled-number`. Assumes nothing.
 use native.Mathlib.Omega.{arith}
 use borrow.Author.Needs.{needs}
 use Rattle.rules_bits.proofs.Mixing.{unscrambled-number}
-use Rattle.lines.proofs.descramble_octet.Statement.{statement}
-use Rattle.lines.proofs.descramble_octet.Tie as tie
+use Rattle.common_lines.proofs.descramble_octet.Statement.{statement}
+use Rattle.common_lines.proofs.descramble_octet.Tie as tie
 
 returns : tie.Need-returns
 returns c = unscrambled-number (c .args .past) (c .args .x) (omega arith) (omega arith)
