@@ -119,7 +119,7 @@ fn tries(kind: Kind, chips: usize, offsets: usize) -> usize
     ensures answer { λ r. ⌜ (r ≤ offsets) × (0 < r → r + frontChips kind ≤ chips + 1)
         × ((j : ℕ) → r ≤ j → j < offsets → chips < j + frontChips kind) ⌝ }
 {
-    let front = kinds::front_chips(kind);
+    let front = common_kinds::front_chips(kind);
     if chips < front {
         return 0;
     }
@@ -133,7 +133,7 @@ fn search(kind: Kind, chips: &[u8], offsets: usize) -> Finding
     ensures answer { λ r. ⌜ r ≡ firstStart kind 0 offsets (hardRecording (now (chips .entry))) ⌝ }
 {
     let tried = tries(kind, chips.len(), offsets);
-    let from = kinds::preamble_chips(kind) - 264;
+    let from = common_kinds::preamble_chips(kind) - 264;
     let sfd = header::sfd_of(kind);
     let low = (sfd % 256) as u8;
     let high = (sfd / 256) as u8;
@@ -160,8 +160,8 @@ fn search(kind: Kind, chips: &[u8], offsets: usize) -> Finding
 pub fn find(kind: u64, chips: &[u8], offsets: u64) -> Found
     ensures answer { λ r. ⌜ r ≡ foundOf (findingOf kind offsets (hardRecording (now (chips .entry)))) ⌝ }
 {
-    let k = kinds::kind_of(kind);
-    if !kinds::is_kind(kind) {
+    let k = common_kinds::kind_of(kind);
+    if !common_kinds::is_kind(kind) {
         return refused(NotFound::NoKind);
     }
     if offsets < 1 {

@@ -37,8 +37,8 @@ fn told(kind: Kind, t: Told) -> Coming
     ensures answer { λ r. ⌜ r ≡ comingOf kind (Front.Fields t) ⌝ }
 {
     let rate = t.rate;
-    let at = kinds::front_chips(kind);
-    let used = kinds::frame_chips(kind, rate, t.n);
+    let at = common_kinds::front_chips(kind);
+    let used = common_kinds::frame_chips(kind, rate, t.n);
     Coming {
         number: 0,
         place: 0,
@@ -57,8 +57,8 @@ pub fn read_front(kind: u64, chips: &[u8]) -> Coming
     ensures answer { λ r. ⌜ r ≡
         comingOf (kindOf kind) (frontReading kind (hardRecording (now (chips .entry)))) ⌝ }
 {
-    let k = kinds::kind_of(kind);
-    if !kinds::is_kind(kind) {
+    let k = common_kinds::kind_of(kind);
+    if !common_kinds::is_kind(kind) {
         return refused(k, Refusal::NoKind);
     }
     let byte = [0i8; 1];

@@ -51,7 +51,7 @@ use Rattle.hearing.proofs.Parts.{
   blocks-more,
   blocks-octets,
 }
-use Rattle.kinds.specs.Starts.{Starts}
+use Rattle.common_kinds.specs.Starts.{Starts}
 use Rattle.fronts.specs.Openings.{syncOctets, preambleHeard, preambleOctets, preambleLeads, PreambleLine}
 
 -- ---- the words

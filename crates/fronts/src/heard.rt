@@ -80,7 +80,7 @@ fn hear_sync(
         &mut leads,
     );
     // the first symbol serves only as reference: it counts as grown by 0 from its own phase
-    let line = kinds::first_line(kind, numbers[0]);
+    let line = common_kinds::first_line(kind, numbers[0]);
     let first = blocks::hear(Rate::One, 0, 0, line, numbers, 8, octets);
     let least = blocks::least::least_of(&leads, 64);
     let count = preamble_octets(kind);
@@ -140,8 +140,8 @@ pub fn hear_front(
     let before = first.heard;
     let line = before.line;
     let least = first.least;
-    let rate = kinds::header_rate(kind);
-    let from = kinds::preamble_chips(kind);
+    let rate = common_kinds::header_rate(kind);
+    let from = common_kinds::preamble_chips(kind);
     let symbol = from / 11;
     let mut header = [0u8; 6];
     let behind = hearing::hear_octets(

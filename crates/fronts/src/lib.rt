@@ -43,7 +43,7 @@ fn refused(e: Refusal) -> Opening
     ensures answer { λ r. ⌜ r .front ≡ Front.Refused e ⌝ }
 {
     let front = Front::Refused(e);
-    let line = kinds::first_line(Kind::Long, 0);
+    let line = common_kinds::first_line(Kind::Long, 0);
     let least = Least { lead: 0, symbol: 0 };
     Opening { front, line, least }
 }
@@ -82,7 +82,7 @@ pub fn read_front(
     ensures answer { λ r. ⌜ Opens kind (lent rec (row .entry) (bytes .entry) (i .entry) (q .entry))
         (frontOf kind (lent rec (row .entry) (bytes .entry) (i .entry) (q .entry))) r ⌝ }
 {
-    let chips = kinds::front_chips(kind);
+    let chips = common_kinds::front_chips(kind);
     if recorders::chip_count(rec, row, bytes, i, q) < chips {
         return refused(Refusal::ShorterThanFront);
     }
@@ -115,7 +115,7 @@ pub fn read_whole(
         Front::Fields(t) => {
             let rate = t.rate;
             let length = t.length;
-            let all = kinds::frame_chips(kind, rate, t.n);
+            let all = common_kinds::frame_chips(kind, rate, t.n);
             if recorders::chip_count(rec, row, bytes, i, q) < all {
                 return refused(Refusal::Ends { length });
             }

@@ -73,7 +73,7 @@ fn signal_allowed(k: Kind, code: u64) -> bool
     if !rules_rates::is_code(code) {
         return false;
     }
-    kinds::goes_with(k, rules_rates::rate_of(code))
+    common_kinds::goes_with(k, rules_rates::rate_of(code))
 }
 
 // What the three fields tell: refusals 13, 14 and 15, in this order.

@@ -34,13 +34,13 @@ fn read(
         (lent rec (row .entry) (bytes .entry) (i .entry) (q .entry)) (length (now (octets .entry))) ⌝ }
 {
     common_rows::fill(octets, 0);
-    if !kinds::is_kind(kind) {
+    if !common_kinds::is_kind(kind) {
         return Reading::Refused(Refusal::NoKind);
     }
     if !agree {
         return Reading::Refused(Refusal::RowsDiffer);
     }
-    let k = kinds::kind_of(kind);
+    let k = common_kinds::kind_of(kind);
     let opening = fronts::read_whole(rec, row, bytes, i, q, k);
     let told = opening.front;
     match told {

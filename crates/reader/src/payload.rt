@@ -55,7 +55,7 @@ fn hear_payload(
         (lent rec (row .entry) (bytes .entry) (i .entry) (q .entry))
         (length (now (octets .entry))) (whereFound (r .odd)) ⌝ }
 {
-    let from = kinds::front_chips(kind);
+    let from = common_kinds::front_chips(kind);
     // each symbol of the front is 11 chips
     let symbol = from / 11;
     let part = hearing::hear_octets(
@@ -130,8 +130,8 @@ pub fn read_payload(
     if octets.len() < n {
         return Reading::Refused(Refusal::OctetRoom { length });
     }
-    let from = kinds::front_chips(kind);
-    let all = kinds::frame_chips(kind, rate, n);
+    let from = common_kinds::front_chips(kind);
+    let all = common_kinds::frame_chips(kind, rate, n);
     let bad = recorders::first_unusable(rec, row, bytes, i, q, from, all);
     match bad {
         Place::At(place) => Reading::Refused(Refusal::Unusable { place, length }),

@@ -8,11 +8,11 @@ ghost use Rattle.rules_calls.specs.Writing.{writingOf};
 pub fn check_write(kind: u64, rate: u64, phase: u64, n: usize, room: usize) -> Writing
     ensures answer { λ r. ⌜ r ≡ writingOf kind rate phase n room ⌝ }
 {
-    let known = kinds::is_kind(kind);
+    let known = common_kinds::is_kind(kind);
     let coded = rules_rates::is_code(rate);
-    let k = kinds::kind_of(kind);
+    let k = common_kinds::kind_of(kind);
     let r = rules_rates::rate_of(rate);
-    let goes = kinds::goes_with(k, r);
+    let goes = common_kinds::goes_with(k, r);
     let sized = rules_rates::is_payload(n);
     if !known {
         return Writing::Refused(Refusal::NoKind);
@@ -29,7 +29,7 @@ pub fn check_write(kind: u64, rate: u64, phase: u64, n: usize, room: usize) -> W
     if 3 < phase {
         return Writing::Refused(Refusal::NoPhase);
     }
-    let chips = kinds::frame_chips(k, r, n);
+    let chips = common_kinds::frame_chips(k, r, n);
     if room < chips {
         return Writing::Refused(Refusal::ChipRoom);
     }

@@ -67,10 +67,10 @@ pub fn put_front(k: Kind, p: u8, header: &[u8], chips: &mut [u8]) -> Line
     ensures answer { λ q. ⌜ state q ≡ afterFront k p (now (header .entry)) ⌝ }
     ensures chips { λ _. ⌜ now (chips .exit) ≡ over (frontSent k p (now (header .entry))) (now (chips .entry)) ⌝ }
 {
-    let l0 = kinds::first_line(k, p);
+    let l0 = common_kinds::first_line(k, p);
     let l1 = put_preamble(k, l0, chips);
-    let at = kinds::preamble_chips(k);
-    sending::put_octets(kinds::header_rate(k), l1, header, &mut chips[at..])
+    let at = common_kinds::preamble_chips(k);
+    sending::put_octets(common_kinds::header_rate(k), l1, header, &mut chips[at..])
 }
 
 // The whole frame, and 4s to the buffer's end.
@@ -82,7 +82,7 @@ fn put_frame(k: Kind, r: Rate, p: u8, clock: bool, payload: &[u8], count: usize,
 {
     let header = header::header_octets(r, clock, payload.len());
     let l = put_front(k, p, &header, chips);
-    let at = kinds::front_chips(k);
+    let at = common_kinds::front_chips(k);
     sending::put_octets(r, l, payload, &mut chips[at..]);
     common_rows::fill(&mut chips[count..], 4);
 }

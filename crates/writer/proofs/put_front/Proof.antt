@@ -19,7 +19,7 @@ use Rattle.rules_frame.specs.declared.Kind.the-variants.{Long, Short}
 use Rattle.rules_frame.specs.Frame.{preambleChips, headerRate, frontChips}
 use Rattle.sending.specs.Sending.{State, run, ran}
 use Rattle.sending.proofs.Run.{length-run}
-use Rattle.kinds.specs.Starts.{Starts}
+use Rattle.common_kinds.specs.Starts.{Starts}
 use Rattle.common_lines.specs.declared.Line.{Line}
 use Rattle.sending.specs.Line.{state}
 use Rattle.writer.specs.Parts.{preambleOctets, firstState, afterPreamble, frontSent, afterFront}

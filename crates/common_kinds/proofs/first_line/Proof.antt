@@ -1,10 +1,10 @@
--- `kinds::first_line` meets its contract, by kinds: the octet's bits, last first, are the scrambler's start. Assumes
--- nothing.
+-- `common_kinds::first_line` meets its contract, by kinds: the octet's bits, last first, are the scrambler's start.
+-- Assumes nothing.
 use mathlib.Core.Path.{refl}
 use Rattle.rules_bits.specs.Bits.{bitsOf}
 use borrow.Author.Needs.{needs}
-use Rattle.kinds.proofs.first_line.Statement.{statement}
-use Rattle.kinds.proofs.first_line.Tie as tie
+use Rattle.common_kinds.proofs.first_line.Statement.{statement}
+use Rattle.common_kinds.proofs.first_line.Tie as tie
 
 returns : tie.Need-returns
 unfolding bitsOf

@@ -1,12 +1,12 @@
--- `kinds::frame_chips` meets its contract: at 4,095 octets the frame has 362,472 chips, and no more in any case.
+-- `common_kinds::frame_chips` meets its contract: at 4,095 octets the frame has 362,472 chips, and no more in any case.
 -- Assumes nothing.
 use mathlib.Core.Path.{ap₂}
 use Prim.Native.Nat.{ℕ, _+_, _*_}
 use native.Mathlib.Omega.{arith}
 use borrow.Author.Needs.{needs}
 use Rattle.rules_frame.proofs.Sizes.{frame-small}
-use Rattle.kinds.proofs.frame_chips.Statement.{statement}
-use Rattle.kinds.proofs.frame_chips.Tie as tie
+use Rattle.common_kinds.proofs.frame_chips.Statement.{statement}
+use Rattle.common_kinds.proofs.frame_chips.Tie as tie
 
 mul-result : tie.Need-mul-result
 mul-result c =

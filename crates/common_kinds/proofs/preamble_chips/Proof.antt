@@ -1,8 +1,8 @@
--- `kinds::preamble_chips` meets its contract, kind by kind, by computing. Assumes nothing.
+-- `common_kinds::preamble_chips` meets its contract, kind by kind, by computing. Assumes nothing.
 use mathlib.Core.Path.{refl}
 use borrow.Author.Needs.{needs}
-use Rattle.kinds.proofs.preamble_chips.Statement.{statement}
-use Rattle.kinds.proofs.preamble_chips.Tie as tie
+use Rattle.common_kinds.proofs.preamble_chips.Statement.{statement}
+use Rattle.common_kinds.proofs.preamble_chips.Tie as tie
 
 returns : tie.Need-returns
 returns c = rw (c .enum-told .given .1) refl

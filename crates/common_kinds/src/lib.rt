@@ -5,7 +5,7 @@ use rules_rates::Rate;
 ghost use mathlib.Core.Path.{_≡_};
 ghost use Prim.Native.Nat.{_≤_};
 ghost use Rattle.rules_frame.specs.Frame.{isKind, kindOf, headerRate, goesWith, preambleChips, frontChips, frameChips};
-ghost use Rattle.kinds.specs.Starts.{Starts};
+ghost use Rattle.common_kinds.specs.Starts.{Starts};
 
 // Whether a number is a kind.
 pub fn is_kind(kind: u64) -> bool
