@@ -134,7 +134,7 @@ fn search(kind: Kind, chips: &[u8], offsets: usize) -> Finding
 {
     let tried = tries(kind, chips.len(), offsets);
     let from = common_kinds::preamble_chips(kind) - 264;
-    let sfd = header::sfd_of(kind);
+    let sfd = common_header::sfd_of(kind);
     let low = (sfd % 256) as u8;
     let high = (sfd / 256) as u8;
     let mut halves = [0u8; 512];

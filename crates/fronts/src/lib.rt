@@ -62,7 +62,7 @@ pub fn told(kind: Kind, known: FrontHeard) -> Opening
         Place::Nothing => {
             let sfd = known.sfd;
             let header = known.header;
-            let front = header::header_of(kind, sfd, header);
+            let front = common_header::header_of(kind, sfd, header);
             let line = heard.line;
             let least = part.least;
             Opening { front, line, least }

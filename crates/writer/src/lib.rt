@@ -80,7 +80,7 @@ fn put_frame(k: Kind, r: Rate, p: u8, clock: bool, payload: &[u8], count: usize,
     ensures chips { λ _. ⌜ now (chips .exit)
         ≡ frame k r p clock (now (payload .entry)) ++ replicate (length (now (chips .entry)) - count) 4 ⌝ }
 {
-    let header = header::header_octets(r, clock, payload.len());
+    let header = common_header::header_octets(r, clock, payload.len());
     let l = put_front(k, p, &header, chips);
     let at = common_kinds::front_chips(k);
     sending::put_octets(r, l, payload, &mut chips[at..]);
