@@ -19,10 +19,10 @@ fn refused(kind: Kind, e: Refusal) -> Coming
     ensures answer { λ r. ⌜ r ≡ comingOf kind (Front.Refused e) ⌝ }
 {
     Coming {
-        number: answers::number_of(e),
-        place: answers::place_of(e),
+        number: common_answers::number_of(e),
+        place: common_answers::place_of(e),
         rate: 0,
-        length: answers::length_of(e),
+        length: common_answers::length_of(e),
         clock: 0,
         n: 0,
         used: 0,

@@ -65,7 +65,7 @@ pub fn read_hard(kind: u64, chips: &[u8], octets: &mut [u8]) -> Record
     let sample = [0.0f32; 1];
     let row = &sample[0..0];
     let reading = read(kind, true, Recorder::Hard, chips, bytes, row, row, octets);
-    answers::record_of(reading)
+    common_answers::record_of(reading)
 }
 
 // A soft recording: two rows of f32, I and Q.
@@ -82,7 +82,7 @@ pub fn read_soft(kind: u64, i: &[f32], q: &[f32], octets: &mut [u8]) -> Record
     let bytes = &byte[0..0];
     let agree = i.len() == q.len();
     let reading = read(kind, agree, Recorder::Soft, chips, bytes, i, q, octets);
-    answers::record_of(reading)
+    common_answers::record_of(reading)
 }
 
 // A byte recording: signed bytes, I and Q in turn.
@@ -98,5 +98,5 @@ pub fn read_bytes(kind: u64, bytes: &[i8], octets: &mut [u8]) -> Record
     let row = &sample[0..0];
     let agree = bytes.len() % 2 == 0;
     let reading = read(kind, agree, Recorder::Bytes, chips, bytes, row, row, octets);
-    answers::record_of(reading)
+    common_answers::record_of(reading)
 }

@@ -103,7 +103,7 @@ pub fn write(
         ≡ chipsWritten kind rate phase clock (now (payload .entry)) (length (now (chips .entry))) ⌝ }
 {
     let writing = checks::check_write(kind, rate, phase, payload.len(), chips.len());
-    let written = answers::written_of(writing);
+    let written = common_answers::written_of(writing);
     match writing {
         Writing::Refused(_) => {
             common_rows::fill(chips, 4);

@@ -1,4 +1,4 @@
--- `answers::record_of` meets its contract: the two cases are the definition's. Assumes nothing.
+-- `common_answers::record_of` meets its contract: the two cases are the definition's. Assumes nothing.
 use mathlib.Core.Path.{_≡_}
 use Prim.Native.Nat.{ℕ}
 use mir.Val.{boolByte}
@@ -12,8 +12,8 @@ use Rattle.rules_calls.specs.declared.Reading.{Reading}
 use Rattle.rules_calls.specs.declared.Reading.the-variants.{Refused, Good}
 use Rattle.rules_calls.specs.declared.Record.{Record}
 use Rattle.rules_calls.specs.Answers.{refusalNumber, refusalPlace, refusalLength, recordOf}
-use Rattle.answers.proofs.record_of.Statement.{statement}
-use Rattle.answers.proofs.record_of.Tie as tie
+use Rattle.common_answers.proofs.record_of.Statement.{statement}
+use Rattle.common_answers.proofs.record_of.Tie as tie
 
 refused : (g : Reading) (e : Refusal) (number place length : ℕ) → g ≡ Refused e
     → number ≡ refusalNumber e → place ≡ refusalPlace e → length ≡ refusalLength e
