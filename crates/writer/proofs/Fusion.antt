@@ -36,9 +36,9 @@ use Rattle.rules_frame.specs.Frame.{
   frame,
   sentHeader,
 }
-use Rattle.sending.specs.Sending.{run}
-use Rattle.sending.proofs.Run.{length-run}
-use Rattle.sending.proofs.Sent.{after, Agree, sent, allSymbols, symbolsOf-octets}
+use Rattle.write_octets.specs.Sending.{run}
+use Rattle.write_octets.proofs.Run.{length-run}
+use Rattle.write_octets.proofs.Sent.{after, Agree, sent, allSymbols, symbolsOf-octets}
 use Rattle.writer.specs.Parts.{preambleOctets, firstState, afterPreamble, frontSent, afterFront}
 
 pub preamble-octets : (k : Kind) → octetBits (preambleOctets k) ≡ preambleBits k

@@ -8,7 +8,7 @@ use Rattle.rules_rates.specs.declared.Rate.the-variants.{One}
 use Rattle.rules_frame.specs.declared.Kind.{Kind}
 use Rattle.rules_frame.specs.declared.Kind.the-variants.{Long, Short}
 use Rattle.rules_frame.specs.Frame.{start, headerRate}
-use Rattle.sending.specs.Sending.{State, run, ran}
+use Rattle.write_octets.specs.Sending.{State, run, ran}
 
 -- SYNC and SFD as octets
 unfoldable pub preambleOctets : Kind → List ℕ

@@ -13,8 +13,8 @@ ghost use Rattle.base.specs.Over.{over};
 ghost use Rattle.rules_frame.specs.Frame.{preambleChips, frontChips, frameChips, frame};
 ghost use Rattle.rules_calls.specs.Writing.{writingOf, chipsWritten};
 ghost use Rattle.rules_calls.specs.Answers.{writtenOf};
-ghost use Rattle.sending.specs.Sending.{run, ran};
-ghost use Rattle.sending.specs.Line.{state};
+ghost use Rattle.write_octets.specs.Sending.{run, ran};
+ghost use Rattle.write_octets.specs.Line.{state};
 ghost use Rattle.writer.specs.Parts.{preambleOctets, frontSent, afterFront};
 
 mod checks;
@@ -52,11 +52,11 @@ fn put_preamble(k: Kind, l: Line, chips: &mut [u8]) -> Line
     match k {
         Kind::Long => {
             let octets = LONG;
-            sending::put_octets(Rate::One, l, &octets, chips)
+            write_octets::put_octets(Rate::One, l, &octets, chips)
         }
         Kind::Short => {
             let octets = SHORT;
-            sending::put_octets(Rate::One, l, &octets, chips)
+            write_octets::put_octets(Rate::One, l, &octets, chips)
         }
     }
 }
@@ -70,7 +70,7 @@ pub fn put_front(k: Kind, p: u8, header: &[u8], chips: &mut [u8]) -> Line
     let l0 = common_kinds::first_line(k, p);
     let l1 = put_preamble(k, l0, chips);
     let at = common_kinds::preamble_chips(k);
-    sending::put_octets(common_kinds::header_rate(k), l1, header, &mut chips[at..])
+    write_octets::put_octets(common_kinds::header_rate(k), l1, header, &mut chips[at..])
 }
 
 // The whole frame, and 4s to the buffer's end.
@@ -83,7 +83,7 @@ fn put_frame(k: Kind, r: Rate, p: u8, clock: bool, payload: &[u8], count: usize,
     let header = common_header::header_octets(r, clock, payload.len());
     let l = put_front(k, p, &header, chips);
     let at = common_kinds::front_chips(k);
-    sending::put_octets(r, l, payload, &mut chips[at..]);
+    write_octets::put_octets(r, l, payload, &mut chips[at..]);
     common_rows::fill(&mut chips[count..], 4);
 }
 

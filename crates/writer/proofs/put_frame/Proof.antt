@@ -13,8 +13,8 @@ use Rattle.rules_rates.specs.declared.Rate.{Rate}
 use Rattle.rules_bits.specs.Bits.{octetBits}
 use Rattle.rules_frame.specs.declared.Kind.{Kind}
 use Rattle.rules_frame.specs.Frame.{frontChips, frameChips, sentHeader, frame}
-use Rattle.sending.specs.Sending.{State, run}
-use Rattle.sending.proofs.Run.{length-run}
+use Rattle.write_octets.specs.Sending.{State, run}
+use Rattle.write_octets.proofs.Run.{length-run}
 use Rattle.writer.specs.Parts.{frontSent, afterFront}
 use Rattle.writer.proofs.Fusion.{frame-parts, length-front}
 use Rattle.writer.proofs.put_frame.Statement.{statement}

@@ -17,11 +17,11 @@ use Rattle.rules_rates.specs.Rates.{octetChips}
 use Rattle.rules_frame.specs.declared.Kind.{Kind}
 use Rattle.rules_frame.specs.declared.Kind.the-variants.{Long, Short}
 use Rattle.rules_frame.specs.Frame.{preambleChips, headerRate, frontChips}
-use Rattle.sending.specs.Sending.{State, run, ran}
-use Rattle.sending.proofs.Run.{length-run}
+use Rattle.write_octets.specs.Sending.{State, run, ran}
+use Rattle.write_octets.proofs.Run.{length-run}
 use Rattle.common_kinds.specs.Starts.{Starts}
 use Rattle.common_lines.specs.declared.Line.{Line}
-use Rattle.sending.specs.Line.{state}
+use Rattle.write_octets.specs.Line.{state}
 use Rattle.writer.specs.Parts.{preambleOctets, firstState, afterPreamble, frontSent, afterFront}
 use Rattle.writer.proofs.put_front.Statement.{statement}
 use Rattle.writer.proofs.put_front.Tie as tie

@@ -6,7 +6,7 @@ use borrow.Author.Needs.{needs}
 use Rattle.base.specs.Over.{over}
 use Rattle.rules_rates.specs.declared.Rate.the-variants.{One}
 use Rattle.rules_frame.specs.declared.Kind.{Kind}
-use Rattle.sending.specs.Sending.{State, run, ran}
+use Rattle.write_octets.specs.Sending.{State, run, ran}
 use Rattle.rules_frame.specs.Frame.{preambleChips}
 use Rattle.writer.specs.Parts.{preambleOctets}
 use Rattle.writer.proofs.put_preamble.Statement.{statement}

@@ -7,7 +7,7 @@ use lib.ListN.{length, getD}
 use Rattle.base.specs.Tables.{tabulate}
 use Rattle.base.proofs.Tables.{getD-tabulate}
 use Rattle.rules_symbols.specs.Words.{barkerWord}
-use Rattle.sending.specs.Line.{barkerWords}
+use Rattle.write_octets.specs.Line.{barkerWords}
 
 pub barkers-snoc : (ps : List ℕ) (p : ℕ) → barkerWords (ps ++ p ∷ []) ≡ barkerWords ps ++ barkerWord p
 unfolding barkerWords

@@ -5,7 +5,7 @@ use mathlib.Core.List.{List, [], _∷_, _++_}
 use Rattle.rules_symbols.specs.Words.{barkerWord}
 use Rattle.common_lines.specs.declared.Line.{Line}
 use Rattle.rules_bits.specs.Code.{pastOf}
-use Rattle.sending.specs.Sending.{State}
+use Rattle.write_octets.specs.Sending.{State}
 
 -- the octet sent last is eight outputs, the first lowest
 abbrev pub state : Line → State

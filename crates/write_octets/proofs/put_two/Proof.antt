@@ -1,4 +1,4 @@
--- `sending::put_two` meets its contract: four phases, each grown from the one before by a pair of bits.
+-- `write_octets::put_two` meets its contract: four phases, each grown from the one before by a pair of bits.
 -- Assumes nothing.
 use mathlib.Core.Path.{_≡_, ap₂, _∙_}
 use mathlib.Core.List.{List, [], _∷_}
@@ -11,10 +11,10 @@ use Rattle.rules_bits.specs.Bits.{bitsOf}
 use Rattle.rules_bits.specs.Growths.{growth, symbolOf, symbolsFrom, chipsFrom, lastPhase}
 use Rattle.rules_bits.specs.Code.{pairsOf}
 use Rattle.rules_bits.proofs.PairLaws.{pair-bits}
-use Rattle.sending.specs.Sending.{symbolsAt}
-use Rattle.sending.specs.Line.{barkerWords}
-use Rattle.sending.proofs.put_two.Statement.{statement}
-use Rattle.sending.proofs.put_two.Tie as tie
+use Rattle.write_octets.specs.Sending.{symbolsAt}
+use Rattle.write_octets.specs.Line.{barkerWords}
+use Rattle.write_octets.proofs.put_two.Statement.{statement}
+use Rattle.write_octets.proofs.put_two.Tie as tie
 
 -- growing by the same bits
 same : (p q a b x y : ℕ) → q ≡ turned p (growth a b) → a ≡ x → b ≡ y → q ≡ turned p (growth x y)

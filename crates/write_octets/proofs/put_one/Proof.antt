@@ -1,11 +1,11 @@
--- `sending::put_one` meets its contract: eight phases, each grown from the one before. Assumes nothing.
+-- `write_octets::put_one` meets its contract: eight phases, each grown from the one before. Assumes nothing.
 use borrow.Author.Needs.{needs}
 use Rattle.rules_bits.specs.Bits.{bitsOf}
 use Rattle.rules_bits.specs.Growths.{symbolOf, symbolsFrom, chipsFrom, lastPhase}
-use Rattle.sending.specs.Sending.{symbolsAt}
-use Rattle.sending.specs.Line.{barkerWords}
-use Rattle.sending.proofs.put_one.Statement.{statement}
-use Rattle.sending.proofs.put_one.Tie as tie
+use Rattle.write_octets.specs.Sending.{symbolsAt}
+use Rattle.write_octets.specs.Line.{barkerWords}
+use Rattle.write_octets.proofs.put_one.Statement.{statement}
+use Rattle.write_octets.proofs.put_one.Tie as tie
 
 returns : tie.Need-returns
 unfolding bitsOf symbolOf symbolsFrom symbolsAt chipsFrom lastPhase barkerWords

@@ -1,4 +1,4 @@
--- `sending::put_five` meets its contract: two words, the second over the part that starts where the first ends.
+-- `write_octets::put_five` meets its contract: two words, the second over the part that starts where the first ends.
 -- Assumes nothing.
 use borrow.Author.Needs.{needs}
 use mathlib.Core.Path.{_≡_, refl, sym, ap, _∙_}
@@ -15,9 +15,9 @@ use Rattle.rules_bits.specs.Bits.{bitsOf}
 use Rattle.rules_bits.specs.Code.{pairsOf}
 use Rattle.rules_bits.proofs.PairLaws.{pair-bits}
 use Rattle.rules_bits.specs.Growths.{growth, halfTurn, symbolOf, symbolsFrom, chipsFrom, lastPhase}
-use Rattle.sending.specs.Sending.{symbolsAt}
-use Rattle.sending.proofs.put_five.Statement.{statement}
-use Rattle.sending.proofs.put_five.Tie as tie
+use Rattle.write_octets.specs.Sending.{symbolsAt}
+use Rattle.write_octets.proofs.put_five.Statement.{statement}
+use Rattle.write_octets.proofs.put_five.Tie as tie
 
 -- the two symbols of eight bits, and their words
 five : (p b0 b1 b2 b3 b4 b5 b6 b7 q0 q1 : ℕ) (w v d o y : List ℕ)

@@ -1,5 +1,5 @@
--- `sending::put_octets` meets its contract. The invariant: the first i octets are written, and l is the state after
--- them. Assumes nothing.
+-- `write_octets::put_octets` meets its contract. The invariant: the first i octets are written, and l is the state
+-- after them. Assumes nothing.
 use mathlib.Core.Path.{_≡_, refl, sym, ap, _∙_}
 use mathlib.Core.List.{List, [], _∷_, _++_}
 use Prim.Native.Nat.{ℕ, _+_, _*_, _≤_, _<_, _-_}
@@ -16,12 +16,12 @@ use Rattle.base.proofs.Over.{over-next}
 use Rattle.rules_rates.specs.declared.Rate.{Rate}
 use Rattle.rules_rates.specs.Rates.{octetChips}
 use Rattle.rules_symbols.specs.Words.{barkerWord}
-use Rattle.sending.specs.Sending.{State, emit, step, run, ran}
-use Rattle.sending.specs.Line.{state}
+use Rattle.write_octets.specs.Sending.{State, emit, step, run, ran}
+use Rattle.write_octets.specs.Line.{state}
 use Rattle.base.proofs.Lists.{run-room}
-use Rattle.sending.proofs.Run.{length-run, run-snoc, ran-snoc}
-use Rattle.sending.proofs.put_octets.Statement.{statement}
-use Rattle.sending.proofs.put_octets.Tie as tie
+use Rattle.write_octets.proofs.Run.{length-run, run-snoc, ran-snoc}
+use Rattle.write_octets.proofs.put_octets.Statement.{statement}
+use Rattle.write_octets.proofs.put_octets.Tie as tie
 
 abbrev Inv-loop : tie.InvT-loop
 Inv-loop r octets chips₀ per barkers l₀ i₀ at₀ chips l i at =

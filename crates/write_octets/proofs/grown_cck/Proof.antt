@@ -1,8 +1,8 @@
--- `sending::grown_cck` meets its contract: a sum modulo 4. Assumes nothing.
+-- `write_octets::grown_cck` meets its contract: a sum modulo 4. Assumes nothing.
 use native.Mathlib.Omega.{arith}
 use borrow.Author.Needs.{needs}
-use Rattle.sending.proofs.grown_cck.Statement.{statement}
-use Rattle.sending.proofs.grown_cck.Tie as tie
+use Rattle.write_octets.proofs.grown_cck.Statement.{statement}
+use Rattle.write_octets.proofs.grown_cck.Tie as tie
 
 returns : tie.Need-returns
 returns c = omega arith

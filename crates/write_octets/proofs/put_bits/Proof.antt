@@ -1,4 +1,4 @@
--- `sending::put_bits` meets its contract: in each arm the rate is known. Assumes nothing.
+-- `write_octets::put_bits` meets its contract: in each arm the rate is known. Assumes nothing.
 use mathlib.Core.Path.{_≡_}
 use mathlib.Core.List.{List}
 use Prim.Native.Nat.{ℕ, _*_, _%_, _≤_}
@@ -9,9 +9,9 @@ use Rattle.rules_rates.specs.declared.Rate.{Rate}
 use Rattle.rules_rates.specs.Rates.{octetSymbols, octetChips}
 use Rattle.rules_bits.specs.Growths.{chipsFrom, lastPhase}
 use Rattle.rules_bits.proofs.Growths.{symbolsFrom-parity}
-use Rattle.sending.specs.Sending.{symbolsAt}
-use Rattle.sending.proofs.put_bits.Statement.{statement}
-use Rattle.sending.proofs.put_bits.Tie as tie
+use Rattle.write_octets.specs.Sending.{symbolsAt}
+use Rattle.write_octets.proofs.put_bits.Statement.{statement}
+use Rattle.write_octets.proofs.put_bits.Tie as tie
 
 -- an arm knows the rate
 room : (r s : Rate) (n : ℕ) → r ≡ s → octetChips r ≤ n → octetChips s ≤ n

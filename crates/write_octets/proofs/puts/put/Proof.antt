@@ -1,4 +1,4 @@
--- `sending::puts::put` meets its contract. The invariant: the first i elements are the word's, the others as they
+-- `write_octets::puts::put` meets its contract. The invariant: the first i elements are the word's, the others as they
 -- were. Assumes nothing.
 use mathlib.Core.Path.{_≡_}
 use mathlib.Core.List.{_++_}
@@ -7,8 +7,8 @@ use native.Mathlib.Omega.{arith}
 use lib.ListN.{length, take, drop, length-set}
 use borrow.Author.Needs.{needs}
 use Rattle.base.proofs.Over.{over-more, over-whole}
-use Rattle.sending.proofs.puts.put.Statement.{statement}
-use Rattle.sending.proofs.puts.put.Tie as tie
+use Rattle.write_octets.proofs.puts.put.Statement.{statement}
+use Rattle.write_octets.proofs.puts.put.Tie as tie
 
 abbrev Inv-loop : tie.InvT-loop
 Inv-loop word chips₀ i₀ chips i = (i ≤ length word) × (length chips ≡ length chips₀)

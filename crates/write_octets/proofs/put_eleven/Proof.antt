@@ -1,4 +1,4 @@
--- `sending::put_eleven` meets its contract: one word. Assumes nothing.
+-- `write_octets::put_eleven` meets its contract: one word. Assumes nothing.
 use borrow.Author.Needs.{needs}
 use mathlib.Core.Path.{_≡_, sym, ap, _∙_}
 use mathlib.Core.List.{List, append-nil}
@@ -12,9 +12,9 @@ use Rattle.rules_bits.specs.Bits.{bitsOf}
 use Rattle.rules_bits.specs.Growths.{growth, direct, halfTurn, symbolOf, symbolsFrom, chipsFrom, lastPhase}
 use Rattle.rules_bits.specs.Code.{pairsOf}
 use Rattle.rules_bits.proofs.PairLaws.{pair-bits, pair-phases}
-use Rattle.sending.specs.Sending.{symbolsAt}
-use Rattle.sending.proofs.put_eleven.Statement.{statement}
-use Rattle.sending.proofs.put_eleven.Tie as tie
+use Rattle.write_octets.specs.Sending.{symbolsAt}
+use Rattle.write_octets.proofs.put_eleven.Statement.{statement}
+use Rattle.write_octets.proofs.put_eleven.Tie as tie
 
 -- the symbol of eight bits, and its word
 eleven : (p k o q : ℕ) (w d z : List ℕ)

@@ -15,7 +15,7 @@ use Rattle.rules_symbols.specs.Words.{barkerWord, cckWord}
 use Rattle.rules_bits.specs.Bits.{bitsOf}
 use Rattle.rules_bits.specs.Growths.{symbolOf, symbolsFrom, chipsFrom}
 use Rattle.rules_bits.specs.Scrambler.{mixed, scramble}
-use Rattle.sending.specs.Sending.{State, symbolsAt, emit, step, run, ran}
+use Rattle.write_octets.specs.Sending.{State, symbolsAt, emit, step, run, ran}
 
 pub length-emit : (r : Rate) (k : ℕ) (s : State) (x : ℕ) → length (emit r k s x) ≡ octetChips r
 unfolding emit symbolsAt bitsOf mixed scramble symbolOf symbolsFrom chipsFrom barkerWord cckWord

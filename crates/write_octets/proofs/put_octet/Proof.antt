@@ -1,4 +1,4 @@
--- `sending::put_octet` meets its contract: the octet is scrambled after the one before it, and its eight bits are
+-- `write_octets::put_octet` meets its contract: the octet is scrambled after the one before it, and its eight bits are
 -- written. Assumes nothing.
 use mathlib.Core.Path.{_≡_}
 use mathlib.Core.List.{List, reverse}
@@ -10,10 +10,10 @@ use Rattle.rules_rates.specs.Rates.{octetSymbols}
 use Rattle.rules_bits.specs.Bits.{bitsOf}
 use Rattle.rules_bits.specs.Growths.{chipsFrom, lastPhase}
 use Rattle.rules_bits.specs.Scrambler.{scramble}
-use Rattle.sending.specs.Sending.{State, symbolsAt, step, emit}
-use Rattle.sending.specs.Line.{state}
-use Rattle.sending.proofs.put_octet.Statement.{statement}
-use Rattle.sending.proofs.put_octet.Tie as tie
+use Rattle.write_octets.specs.Sending.{State, symbolsAt, step, emit}
+use Rattle.write_octets.specs.Line.{state}
+use Rattle.write_octets.proofs.put_octet.Statement.{statement}
+use Rattle.write_octets.proofs.put_octet.Tie as tie
 
 octet : (r : Rate) (k : ℕ) (s : State) (x q : ℕ) (bs o d : List ℕ) → bs ≡ scramble (s .past) (bitsOf 8 x)
     → (q ≡ lastPhase (s .phase) (symbolsAt r (octetSymbols r * k) bs))

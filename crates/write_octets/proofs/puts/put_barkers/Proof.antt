@@ -1,4 +1,4 @@
--- `sending::puts::put_barkers` meets its contract. The invariant: the words of the first i phases are written.
+-- `write_octets::puts::put_barkers` meets its contract. The invariant: the words of the first i phases are written.
 -- Assumes nothing.
 use mathlib.Core.Path.{_≡_, sym, ap, _∙_}
 use mathlib.Core.List.{List, _++_}
@@ -12,10 +12,10 @@ use borrow.Author.Needs.{needs}
 use Rattle.base.specs.Over.{over}
 use Rattle.base.proofs.Over.{over-next}
 use Rattle.rules_symbols.specs.Words.{barkerWord}
-use Rattle.sending.specs.Line.{barkerWords}
-use Rattle.sending.proofs.Barkers.{barkers-snoc, length-barkers, barker-entry, length-entry}
-use Rattle.sending.proofs.puts.put_barkers.Statement.{statement}
-use Rattle.sending.proofs.puts.put_barkers.Tie as tie
+use Rattle.write_octets.specs.Line.{barkerWords}
+use Rattle.write_octets.proofs.Barkers.{barkers-snoc, length-barkers, barker-entry, length-entry}
+use Rattle.write_octets.proofs.puts.put_barkers.Statement.{statement}
+use Rattle.write_octets.proofs.puts.put_barkers.Tie as tie
 
 abbrev Inv-loop : tie.InvT-loop
 Inv-loop barkers phases chips₀ i₀ at₀ chips i at =

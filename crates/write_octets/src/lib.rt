@@ -11,8 +11,8 @@ ghost use Rattle.rules_chips.specs.Chips.{turned};
 ghost use Rattle.rules_symbols.specs.Words.{barkerWord};
 ghost use Rattle.rules_bits.specs.Bits.{bitsOf};
 ghost use Rattle.rules_bits.specs.Growths.{growth, halfTurn, chipsFrom, lastPhase};
-ghost use Rattle.sending.specs.Sending.{symbolsAt, emit, step, run, ran};
-ghost use Rattle.sending.specs.Line.{state};
+ghost use Rattle.write_octets.specs.Sending.{symbolsAt, emit, step, run, ran};
+ghost use Rattle.write_octets.specs.Line.{state};
 
 mod puts;
 
