@@ -27,7 +27,7 @@ pub extern "C" fn dsss_write_2(
     ensures wrote { λ w. ⌜ Wrote kind rate phase clock (now (payload .entry)) (length (now (chips .entry)))
         w (now (chips .exit)) ⌝ }
 {
-    writer::write(kind, rate, phase, clock, payload, chips)
+    write_frame::write(kind, rate, phase, clock, payload, chips)
 }
 
 // A hard recording to its payload; zeros after the payload, or everywhere after a refusal.

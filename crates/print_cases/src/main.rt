@@ -50,7 +50,7 @@ fn refused(octets: &mut [u8]) {
 fn main() {
     let payload = *b"ox";
     let mut chips = [0u8; 1076];
-    let written: Written = writer::write(1, 110, 2, 1, &payload, &mut chips);
+    let written: Written = write_frame::write(1, 110, 2, 1, &payload, &mut chips);
     print_answer(b"written ", written.number, 0, &payload);
     let mut octets = [99u8; 3];
     read(&chips, &mut octets);

@@ -28,11 +28,11 @@ use Rattle.rules_clean.specs.Clean.{Exactly, byteRow}
 pub record Wrote (kind rate phase clock : ℕ) (payload : List ℕ) (room : ℕ) (w : Written) (left : List ℕ) : Type 0 where
   -- promise: A write answers the definition's record, for every input
   -- rule: 6.1, 6.8, 6.11, 9.1
-  -- code: dsss_write_2, writer::write
+  -- code: dsss_write_2, write_frame::write
   pub answer : w ≡ writtenOf (writingOf kind rate phase (length payload) room)
   -- promise: The chip buffer at the end is the frame, its clock bit as asked, and then 4s; after a refusal only 4s
   -- rule: 3.1 to 3.4, 4.1 to 4.6, 5.1 to 5.14, 6.9, 6.12, 6.14, 9.1
-  -- code: dsss_write_2, writer::write, common_rows::fill
+  -- code: dsss_write_2, write_frame::write, common_rows::fill
   pub chips : left ≡ chipsWritten kind rate phase clock payload room
 
 -- a reader, whatever recorded: its answer, and the octet buffer of `room` octets at the end

@@ -1,4 +1,4 @@
--- `writer::put_preamble` meets its contract: in each arm the kind is known. Assumes nothing.
+-- `write_frame::put_preamble` meets its contract: in each arm the kind is known. Assumes nothing.
 use mathlib.Core.Path.{_≡_}
 use mathlib.Core.List.{List}
 use Prim.Native.Nat.{ℕ, _≤_}
@@ -8,9 +8,9 @@ use Rattle.rules_rates.specs.declared.Rate.the-variants.{One}
 use Rattle.rules_frame.specs.declared.Kind.{Kind}
 use Rattle.write_octets.specs.Sending.{State, run, ran}
 use Rattle.rules_frame.specs.Frame.{preambleChips}
-use Rattle.writer.specs.Parts.{preambleOctets}
-use Rattle.writer.proofs.put_preamble.Statement.{statement}
-use Rattle.writer.proofs.put_preamble.Tie as tie
+use Rattle.write_frame.specs.Parts.{preambleOctets}
+use Rattle.write_frame.proofs.put_preamble.Statement.{statement}
+use Rattle.write_frame.proofs.put_preamble.Tie as tie
 
 -- an arm knows the kind
 room : (k j : Kind) (n : ℕ) → k ≡ j → preambleChips k ≤ n → preambleChips j ≤ n

@@ -1,5 +1,5 @@
--- `writer::checks::check_write` meets its contract: at each return the tests before it were passed and its own failed,
--- and the definition computes to that refusal. Assumes nothing.
+-- `write_frame::checks::check_write` meets its contract: at each return the tests before it were passed and its own
+-- failed, and the definition computes to that refusal. Assumes nothing.
 use mathlib.Core.Path.{_≡_, ap₂, _∙_}
 use mathlib.Core.Bool.{Bool, true}
 use Prim.Native.Nat.{ℕ}
@@ -11,8 +11,8 @@ use Rattle.rules_frame.specs.Frame.{goesWith, frameChips, isKind, kindOf}
 use Rattle.rules_calls.specs.Writing.{writingOf}
 use Rattle.base.proofs.Tests.{failed, passed}
 use Rattle.rules_rates.proofs.Lengths.{payload-high}
-use Rattle.writer.proofs.checks.check_write.Statement.{statement}
-use Rattle.writer.proofs.checks.check_write.Tie as tie
+use Rattle.write_frame.proofs.checks.check_write.Statement.{statement}
+use Rattle.write_frame.proofs.checks.check_write.Tie as tie
 
 -- whether the rate goes with the kind, of the numbers that name them
 goes-is : (c : tie.After-is-payload)

@@ -1,4 +1,5 @@
--- `writer::put_front` meets its contract: the header's chips go over the part that starts where the preamble's end.
+-- `write_frame::put_front` meets its contract: the header's chips go over the part that starts where the preamble's
+-- end.
 -- Assumes nothing.
 use mathlib.Core.Path.{_≡_, refl, sym, ap₂, _∙_}
 use mathlib.Core.List.{List}
@@ -22,9 +23,9 @@ use Rattle.write_octets.proofs.Run.{length-run}
 use Rattle.common_kinds.specs.Starts.{Starts}
 use Rattle.common_lines.specs.declared.Line.{Line}
 use Rattle.write_octets.specs.Line.{state}
-use Rattle.writer.specs.Parts.{preambleOctets, firstState, afterPreamble, frontSent, afterFront}
-use Rattle.writer.proofs.put_front.Statement.{statement}
-use Rattle.writer.proofs.put_front.Tie as tie
+use Rattle.write_frame.specs.Parts.{preambleOctets, firstState, afterPreamble, frontSent, afterFront}
+use Rattle.write_frame.proofs.put_front.Statement.{statement}
+use Rattle.write_frame.proofs.put_front.Tie as tie
 
 shorter : (k : Kind) → preambleChips k ≤ frontChips k
 shorter Long = lit≤ tt

@@ -1,4 +1,4 @@
--- `writer::write` meets its contract: what is not refused fits, and a refusal fills the buffer. Assumes nothing.
+-- `write_frame::write` meets its contract: what is not refused fits, and a refusal fills the buffer. Assumes nothing.
 use mathlib.Core.Path.{_≡_, sym, _∙_}
 use mathlib.Core.List.{List, _++_}
 use Prim.Native.Nat.{ℕ, _-_}
@@ -15,8 +15,8 @@ use Rattle.rules_frame.specs.Frame.{clockOf, frame}
 use Rattle.rules_calls.specs.Writing.{writingOf, chipsWritten}
 use Rattle.rules_calls.specs.Answers.{writtenOf}
 use Rattle.rules_calls.proofs.WriteGood.{accepted}
-use Rattle.writer.proofs.write.Statement.{statement}
-use Rattle.writer.proofs.write.Tie as tie
+use Rattle.write_frame.proofs.write.Statement.{statement}
+use Rattle.write_frame.proofs.write.Tie as tie
 
 refused : (kind rate phase clock m : ℕ) (xs z : List ℕ) (w : Writing) (a : Written) (e : Refusal)
     → w ≡ writingOf kind rate phase (length xs) m → a ≡ writtenOf w → w ≡ Refused e → z ≡ replicate m 4

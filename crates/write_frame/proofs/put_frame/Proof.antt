@@ -1,4 +1,4 @@
--- `writer::put_frame` meets its contract: the payload's chips go over the part behind the front's, and the rest is
+-- `write_frame::put_frame` meets its contract: the payload's chips go over the part behind the front's, and the rest is
 -- filled. Assumes nothing.
 use mathlib.Core.Path.{_≡_, sym, ap, ap₂, _∙_}
 use mathlib.Core.Bool.{Bool}
@@ -15,10 +15,10 @@ use Rattle.rules_frame.specs.declared.Kind.{Kind}
 use Rattle.rules_frame.specs.Frame.{frontChips, frameChips, sentHeader, frame}
 use Rattle.write_octets.specs.Sending.{State, run}
 use Rattle.write_octets.proofs.Run.{length-run}
-use Rattle.writer.specs.Parts.{frontSent, afterFront}
-use Rattle.writer.proofs.Fusion.{frame-parts, length-front}
-use Rattle.writer.proofs.put_frame.Statement.{statement}
-use Rattle.writer.proofs.put_frame.Tie as tie
+use Rattle.write_frame.specs.Parts.{frontSent, afterFront}
+use Rattle.write_frame.proofs.Fusion.{frame-parts, length-front}
+use Rattle.write_frame.proofs.put_frame.Statement.{statement}
+use Rattle.write_frame.proofs.put_frame.Tie as tie
 
 all : (k : Kind) (r : Rate) (p : ℕ) (clock : Bool) (b e : ℕ) (h xs d o y z : List ℕ) (s : State)
     → octetBits h ≡ sentHeader r clock (length xs) → length h ≡ 6

@@ -39,7 +39,7 @@ use Rattle.rules_frame.specs.Frame.{
 use Rattle.write_octets.specs.Sending.{run}
 use Rattle.write_octets.proofs.Run.{length-run}
 use Rattle.write_octets.proofs.Sent.{after, Agree, sent, allSymbols, symbolsOf-octets}
-use Rattle.writer.specs.Parts.{preambleOctets, firstState, afterPreamble, frontSent, afterFront}
+use Rattle.write_frame.specs.Parts.{preambleOctets, firstState, afterPreamble, frontSent, afterFront}
 
 pub preamble-octets : (k : Kind) → octetBits (preambleOctets k) ≡ preambleBits k
 unfolding preambleOctets octetBits bitsOf preambleBits

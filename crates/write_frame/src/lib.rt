@@ -15,7 +15,7 @@ ghost use Rattle.rules_calls.specs.Writing.{writingOf, chipsWritten};
 ghost use Rattle.rules_calls.specs.Answers.{writtenOf};
 ghost use Rattle.write_octets.specs.Sending.{run, ran};
 ghost use Rattle.write_octets.specs.Line.{state};
-ghost use Rattle.writer.specs.Parts.{preambleOctets, frontSent, afterFront};
+ghost use Rattle.write_frame.specs.Parts.{preambleOctets, frontSent, afterFront};
 
 mod checks;
 
