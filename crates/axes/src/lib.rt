@@ -44,8 +44,8 @@ fn soft_count(c: Chip, axis: Axis) -> i32
 {
     let s = sample_of(c);
     match axis {
-        Axis::I => counts::count(s.i),
-        Axis::Q => counts::count(s.q),
+        Axis::I => choose_counts::count(s.i),
+        Axis::Q => choose_counts::count(s.q),
     }
 }
 

@@ -42,7 +42,7 @@ fn eight(octets: &[u8], at: usize) -> [Chip; 8]
 {
     let mut chips = [Chip::Lost; 8];
     for k in 0..8 {
-        chips[k] = counts::hard_chip(octets[at + k]);
+        chips[k] = choose_counts::hard_chip(octets[at + k]);
     }
     chips
 }
@@ -54,7 +54,7 @@ fn eleven(octets: &[u8], at: usize) -> [Chip; 11]
 {
     let mut chips = [Chip::Lost; 11];
     for k in 0..11 {
-        chips[k] = counts::hard_chip(octets[at + k]);
+        chips[k] = choose_counts::hard_chip(octets[at + k]);
     }
     chips
 }

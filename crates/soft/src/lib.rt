@@ -21,7 +21,7 @@ pub fn usable_at(i: &[f32], q: &[f32], at: usize) -> bool
         not (isUnusable (getD (softRecording (now (i .entry)) (now (q .entry))) at unusable)) ⌝ }
 {
     let s = Sample { i: i[at], q: q[at] };
-    counts::usable_sample(s)
+    choose_counts::usable_sample(s)
 }
 
 // Whether 64 chips from a place are usable: a test for skipping them, so only its yes says something.
@@ -35,7 +35,7 @@ pub fn clean(i: &[f32], q: &[f32], at: usize) -> bool
             i: i[at + k],
             q: q[at + k],
         };
-        ok = ok & counts::usable_sample(s);
+        ok = ok & choose_counts::usable_sample(s);
     }
     ok
 }

@@ -22,8 +22,8 @@ fn shorter(a: usize, b: usize) -> usize
 fn count_of(x: f32) -> i32
     ensures answer { λ r. ⌜ r ≡ countOf x ⌝ }
 {
-    if counts::usable(x) {
-        counts::count(x)
+    if choose_counts::usable(x) {
+        choose_counts::count(x)
     } else {
         0
     }

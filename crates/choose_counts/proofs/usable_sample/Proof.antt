@@ -1,9 +1,9 @@
--- `counts::usable_sample` meets its contract: it asks of each field what the definition asks.
+-- `choose_counts::usable_sample` meets its contract: it asks of each field what the definition asks.
 -- Assumes nothing.
 use mathlib.Core.Bool.{_&&_}
 use borrow.Author.Needs.{needs}
-use Rattle.counts.proofs.usable_sample.Statement.{statement}
-use Rattle.counts.proofs.usable_sample.Tie as tie
+use Rattle.choose_counts.proofs.usable_sample.Statement.{statement}
+use Rattle.choose_counts.proofs.usable_sample.Tie as tie
 
 returns : tie.Need-returns
 returns c = λ j. c .before .usable .ensures j && c .usable2 .ensures j

@@ -1,5 +1,5 @@
--- `counts::count` meets its contract: `Sum` says what the bit pattern of the sum is, and the rest is the difference of
--- two signed numbers. 1178599424 is the bit pattern of 12288, which is 12582912 counts.
+-- `choose_counts::count` meets its contract: `Sum` says what the bit pattern of the sum is, and the rest is the
+-- difference of two signed numbers. 1178599424 is the bit pattern of 12288, which is 12582912 counts.
 -- Assumes nothing.
 use mathlib.Core.Path.{_≡_, refl, sym, ap, _∙_, subst, subst⁻¹}
 use mathlib.Core.Bool.{Bool, true, false}
@@ -18,8 +18,8 @@ use Rattle.base.specs.Whole.{up, dn, Within}
 use Rattle.base.proofs.Whole.{add, neg-up, neg-dn, up-pos, dn-pos, fits-at}
 use Rattle.rules_chips.specs.Floats.{steps, negative, usable, nearest, signed, countOf}
 use Rattle.rules_chips.proofs.Sum.{cond-yes, moved, Summed, summed}
-use Rattle.counts.proofs.count.Statement.{statement}
-use Rattle.counts.proofs.count.Tie as tie
+use Rattle.choose_counts.proofs.count.Statement.{statement}
+use Rattle.choose_counts.proofs.count.Tie as tie
 
 -- ---- the difference of the patterns is the count
 small : (s : Bool) (k : ℕ) → k ≤ 8192 → 1166016512 + moved s 12582912 k < 2147483648

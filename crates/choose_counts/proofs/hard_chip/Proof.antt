@@ -1,8 +1,8 @@
--- `counts::hard_chip` meets its contract: the test with 4 is the definition's.
+-- `choose_counts::hard_chip` meets its contract: the test with 4 is the definition's.
 -- Assumes nothing.
 use borrow.Author.Tests.{eq-eqb, ne-eqb}
-use Rattle.counts.proofs.hard_chip.Statement.{statement}
-use Rattle.counts.proofs.hard_chip.Tie as tie
+use Rattle.choose_counts.proofs.hard_chip.Statement.{statement}
+use Rattle.choose_counts.proofs.hard_chip.Tie as tie
 
 returns : tie.Need-returns
 returns c = simp (eq-eqb _ _ (c .if1 .taken))
