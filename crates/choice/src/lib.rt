@@ -1,12 +1,12 @@
 // The choice of a word from counts, at 1, 2 and 5.5 Mbit/s: the largest score wins, among equals the smallest number,
 // and its lead over the best of the others is told.
 // Each function is called from one loop over symbols, in which its array of chips dissolves.
-use axes::Axis;
+use choose_axes::Axis;
 use rules_chips::Chip;
 use rules_rates::Rate;
 ghost use mathlib.Core.List.{map};
 ghost use Rattle.rules_chips.specs.Chips.{countsOf};
-ghost use Rattle.axes.specs.Axes.{AllSoft};
+ghost use Rattle.choose_axes.specs.Axes.{AllSoft};
 ghost use Rattle.rules_choosing.specs.Scores.{ChosenAs};
 
 mod barker;
@@ -24,8 +24,8 @@ pub fn decide_barker(chips: [Chip; 11]) -> Choice
     ensures answer { λ r. ⌜ ChosenAs Rate.One (map countsOf chips) (r .number) (r .lead) ⌝ }
 {
     barker::decide(
-        axes::soft_counts11(chips, Axis::I),
-        axes::soft_counts11(chips, Axis::Q),
+        choose_axes::soft_counts11(chips, Axis::I),
+        choose_axes::soft_counts11(chips, Axis::Q),
     )
 }
 
@@ -35,7 +35,7 @@ pub fn decide_five(chips: [Chip; 8]) -> Choice
     ensures answer { λ r. ⌜ ChosenAs Rate.Five (map countsOf chips) (r .number) (r .lead) ⌝ }
 {
     five::decide(
-        axes::soft_counts8(chips, Axis::I),
-        axes::soft_counts8(chips, Axis::Q),
+        choose_axes::soft_counts8(chips, Axis::I),
+        choose_axes::soft_counts8(chips, Axis::Q),
     )
 }

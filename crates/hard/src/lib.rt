@@ -9,7 +9,7 @@ ghost use Rattle.base.specs.Tables.{tabulate};
 ghost use Rattle.rules_chips.specs.Chips.{unusable, isUnusable, hardRecording};
 ghost use Rattle.recorded.specs.Columns.{ColumnSet, Columns, hardColumn};
 ghost use Rattle.recorded.specs.Recorded.{hardPart, AllUsable, DecidedAt, LeadsAt};
-use axes::Axis;
+use choose_axes::Axis;
 use rules_chips::Chip;
 use rules_rates::Rate;
 use units::Choice;
@@ -134,8 +134,8 @@ fn columns(octets: &[u8], at: usize, count: usize, row: &mut [i8])
     while l < count {
         let chips = eight(octets, at + 8 * l);
         put_column(
-            axes::hard_units8(chips, Axis::I),
-            axes::hard_units8(chips, Axis::Q),
+            choose_axes::hard_units8(chips, Axis::I),
+            choose_axes::hard_units8(chips, Axis::Q),
             l,
             row,
         );

@@ -27,8 +27,8 @@ use lib.Ieee.{Float}
 use Rattle.base.specs.Whole.{Within}
 use Rattle.base.proofs.Whole.{within-zero}
 use Rattle.base.proofs.Tables.{length-tabulate, tabulate-ext, as-table}
-use Rattle.axes.specs.declared.Axis.the-variants.{I, Q}
-use Rattle.axes.specs.Axes.{unitOf}
+use Rattle.choose_axes.specs.declared.Axis.the-variants.{I, Q}
+use Rattle.choose_axes.specs.Axes.{unitOf}
 use Rattle.rules_chips.specs.Chips.{takenCounts, softRecording}
 use Rattle.rules_choosing.specs.Scores.{RowWithin}
 use Rattle.sums.specs.Sums.{rows, everyRow}

@@ -11,7 +11,7 @@ use Rattle.rules_rates.specs.declared.Rate.{Rate}
 use Rattle.rules_rates.specs.Rates.{symbolChips}
 use Rattle.rules_chips.specs.declared.Counts.{Counts}
 use Rattle.rules_chips.specs.Chips.{takenCounts, hardChip, hardRecording}
-use Rattle.axes.specs.Axes.{unitOf}
+use Rattle.choose_axes.specs.Axes.{unitOf}
 use Rattle.rules_symbols.specs.Choice.{decided, leadOf}
 use Rattle.sums.proofs.Apart.{units-decided, units-lead}
 use Rattle.recorded.specs.Recorded.{hardPart}

@@ -8,11 +8,11 @@ use lib.ListN.{getD}
 use borrow.Author.Tests.{eqb-true}
 use Rattle.base.specs.Tables.{tabulate}
 use Rattle.base.proofs.Tables.{tabulate-ext, map-tabulate, length-tabulate, getD-tabulate}
-use Rattle.axes.specs.declared.Axis.{Axis}
+use Rattle.choose_axes.specs.declared.Axis.{Axis}
 use Rattle.rules_chips.specs.declared.Chip.{Chip}
 use Rattle.rules_chips.specs.declared.Chip.the-variants.{Lost, Hard}
 use Rattle.rules_chips.specs.Chips.{fullChip, hardChip}
-use Rattle.axes.specs.Axes.{along, octetOf, unitOf, unitsAlong}
+use Rattle.choose_axes.specs.Axes.{along, octetOf, unitOf, unitsAlong}
 use Rattle.recorded.specs.Recorded.{hardPart}
 
 octet-back : (x : ℕ) → octetOf (hardChip x) ≡ x

@@ -8,8 +8,8 @@ use Prim.Native.Nat.{ℕ, _+_, _*_, _%_, _<_}
 use lib.ListN.{length, getD}
 use lib.IntN.{ℤ, pos}
 use lib.Ieee.{Float}
-use Rattle.axes.specs.declared.Axis.{Axis}
-use Rattle.axes.specs.Axes.{countsAlong, unitsAlong}
+use Rattle.choose_axes.specs.declared.Axis.{Axis}
+use Rattle.choose_axes.specs.Axes.{countsAlong, unitsAlong}
 use Rattle.sums.specs.Sums.{everyRow}
 use Rattle.recorded.specs.Recorded.{hardPart, softPart}
 

@@ -8,7 +8,7 @@ ghost use Rattle.rules_chips.specs.Chips.{unusable, isUnusable, softRecording};
 ghost use Rattle.rules_choosing.specs.Scores.{RowWithin};
 ghost use Rattle.recorded.specs.Columns.{ColumnSet, Columns, softColumn};
 ghost use Rattle.recorded.specs.Recorded.{softPart, AllUsable, DecidedAt, LeadsAt};
-use axes::Axis;
+use choose_axes::Axis;
 use rules_chips::Chip;
 use rules_chips::Sample;
 use choice::Choice;
@@ -149,8 +149,8 @@ fn columns(i: &[f32], q: &[f32], at: usize, count: usize, row: &mut [i32])
     while l < count {
         let chips = eight(i, q, at + 8 * l);
         put_column(
-            axes::soft_counts8(chips, Axis::I),
-            axes::soft_counts8(chips, Axis::Q),
+            choose_axes::soft_counts8(chips, Axis::I),
+            choose_axes::soft_counts8(chips, Axis::Q),
             l,
             row,
         );

@@ -11,16 +11,16 @@ use Rattle.base.specs.Whole.{up, dn, Within}
 use Rattle.base.proofs.Tables.{tabulate-ext, map-tabulate}
 use Rattle.rules_rates.specs.declared.Rate.{Rate}
 use Rattle.rules_rates.specs.declared.Rate.the-variants.{One}
-use Rattle.axes.specs.declared.Axis.{Axis}
-use Rattle.axes.specs.declared.Axis.the-variants.{I, Q}
+use Rattle.choose_axes.specs.declared.Axis.{Axis}
+use Rattle.choose_axes.specs.declared.Axis.the-variants.{I, Q}
 use Rattle.rules_chips.specs.declared.Counts.{Counts}
 use Rattle.rules_chips.specs.declared.Chip.{Chip}
 use Rattle.rules_chips.specs.declared.Chip.the-variants.{Lost}
 use Rattle.rules_chips.specs.Chips.{pair, nothing, fullChip, countsOf}
 use Rattle.rules_chips.specs.Bounds.{Bounded}
-use Rattle.axes.specs.Axes.{along, unitOf, octetOf, AllHard}
+use Rattle.choose_axes.specs.Axes.{along, unitOf, octetOf, AllHard}
 use Rattle.rules_chips.proofs.Bounds.{counts-within}
-use Rattle.axes.proofs.Axes.{hard-counts}
+use Rattle.choose_axes.proofs.Axes.{hard-counts}
 use Rattle.rules_symbols.specs.Choice.{decided, leadOf}
 use Rattle.rules_choosing.specs.Scores.{RowWithin, ChosenAs}
 use Rattle.sums.specs.Sums.{bySigns, asChip, rows}

@@ -21,9 +21,9 @@ use Rattle.base.proofs.Tests.{all-at, implies, implied}
 use Rattle.rules_rates.specs.declared.Rate.the-variants.{One}
 use Rattle.rules_chips.specs.declared.Counts.{Counts}
 use Rattle.rules_chips.specs.Chips.{pair}
-use Rattle.axes.specs.declared.Axis.{Axis}
-use Rattle.axes.specs.declared.Axis.the-variants.{I, Q}
-use Rattle.axes.specs.Axes.{along, phaseOn}
+use Rattle.choose_axes.specs.declared.Axis.{Axis}
+use Rattle.choose_axes.specs.declared.Axis.the-variants.{I, Q}
+use Rattle.choose_axes.specs.Axes.{along, phaseOn}
 use Rattle.rules_symbols.specs.Words.{barkerSigns, signChip, barkerWord}
 use Rattle.rules_symbols.specs.Choice.{score, term}
 use Rattle.rules_symbols.proofs.Words.{barkerTurns}

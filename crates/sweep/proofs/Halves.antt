@@ -22,9 +22,9 @@ use Rattle.base.specs.Tables.{tabulate}
 use Rattle.base.specs.Whole.{up, dn}
 use Rattle.base.proofs.Whole.{up-pos, dn-pos, add, neg-up, neg-dn, of-le, of-lt}
 use Rattle.rules_rates.specs.declared.Rate.the-variants.{One}
-use Rattle.axes.specs.declared.Axis.{Axis}
-use Rattle.axes.specs.declared.Axis.the-variants.{I, Q}
-use Rattle.axes.specs.Axes.{along, unitsAlong}
+use Rattle.choose_axes.specs.declared.Axis.{Axis}
+use Rattle.choose_axes.specs.declared.Axis.the-variants.{I, Q}
+use Rattle.choose_axes.specs.Axes.{along, unitsAlong}
 use Rattle.rules_chips.specs.Chips.{pair, fullChip, hardRecording}
 use Rattle.rules_symbols.specs.Words.{barkerSigns}
 use Rattle.rules_symbols.specs.Choice.{term, decided}

@@ -2,13 +2,13 @@
 // of a hard recording counts 1024, so the same word is chosen, its lead in counts is 1024 times as large, and sixteen
 // symbols go side by side where counts have room for four. Arrays of chips dissolve in the one loop over symbols that
 // calls `decide_barker` or `decide_five`.
-use axes::Axis;
+use choose_axes::Axis;
 use rules_chips::Chip;
 use rules_rates::Rate;
 ghost use mathlib.Core.Path.{_≡_};
 ghost use Prim.Native.Nat.{_+_, _*_, _-_, _/_, _%_, _<_, _≤_};
 ghost use mathlib.Core.List.{map};
-ghost use Rattle.axes.specs.Axes.{unitOf};
+ghost use Rattle.choose_axes.specs.Axes.{unitOf};
 ghost use Rattle.base.specs.Whole.{Within};
 ghost use Rattle.base.specs.Tables.{tabulate};
 ghost use Rattle.rules_choosing.specs.Scores.{RowWithin, scoreAt, number5, ChosenAs};
@@ -192,8 +192,8 @@ pub fn decide_barker(chips: [Chip; 11]) -> Choice
     ensures answer { λ r. ⌜ ChosenAs Rate.One (map unitOf chips) (r .number) (r .lead) ⌝ }
 {
     barker(
-        axes::hard_units11(chips, Axis::I),
-        axes::hard_units11(chips, Axis::Q),
+        choose_axes::hard_units11(chips, Axis::I),
+        choose_axes::hard_units11(chips, Axis::Q),
     )
 }
 
@@ -202,7 +202,7 @@ pub fn decide_five(chips: [Chip; 8]) -> Choice
     ensures answer { λ r. ⌜ ChosenAs Rate.Five (map unitOf chips) (r .number) (r .lead) ⌝ }
 {
     five(
-        axes::hard_units8(chips, Axis::I),
-        axes::hard_units8(chips, Axis::Q),
+        choose_axes::hard_units8(chips, Axis::I),
+        choose_axes::hard_units8(chips, Axis::Q),
     )
 }

@@ -5,8 +5,8 @@ use Prim.Native.Nat.{_-_, _≤_}
 use native.Mathlib.Omega.{arith}
 use lib.ListN.{length}
 use borrow.Author.Needs.{needs}
-use Rattle.axes.specs.declared.Axis.the-variants.{I, Q}
-use Rattle.axes.specs.Axes.{unitsAlong}
+use Rattle.choose_axes.specs.declared.Axis.the-variants.{I, Q}
+use Rattle.choose_axes.specs.Axes.{unitsAlong}
 use Rattle.recorded.specs.Columns.{Columns, hardColumn}
 use Rattle.recorded.proofs.Columns.{columns-none, columns-more}
 use Rattle.hard.proofs.columns.Statement.{statement}

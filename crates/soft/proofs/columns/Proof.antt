@@ -5,8 +5,8 @@ use Prim.Native.Nat.{_+_, _*_, _-_, _≤_}
 use native.Mathlib.Omega.{arith}
 use lib.ListN.{length}
 use borrow.Author.Needs.{needs}
-use Rattle.axes.specs.declared.Axis.the-variants.{I, Q}
-use Rattle.axes.specs.Axes.{countsAlong, AllSoft}
+use Rattle.choose_axes.specs.declared.Axis.the-variants.{I, Q}
+use Rattle.choose_axes.specs.Axes.{countsAlong, AllSoft}
 use Rattle.rules_choosing.specs.Scores.{RowWithin}
 use Rattle.sums.proofs.Apart.{counts-small}
 use Rattle.recorded.specs.Columns.{Columns, softColumn}

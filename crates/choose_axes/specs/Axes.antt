@@ -6,8 +6,8 @@ use mathlib.Core.List.{List, map}
 use lib.Dec.{T}
 use lib.ListN.{getD}
 use lib.IntN.{ℤ}
-use Rattle.axes.specs.declared.Axis.{Axis}
-use Rattle.axes.specs.declared.Axis.the-variants.{I, Q}
+use Rattle.choose_axes.specs.declared.Axis.{Axis}
+use Rattle.choose_axes.specs.declared.Axis.the-variants.{I, Q}
 use Rattle.rules_chips.specs.declared.Counts.{Counts}
 use Rattle.rules_chips.specs.declared.Chip.{Chip}
 use Rattle.rules_chips.specs.declared.Chip.the-variants.{Lost, Hard, Soft}

@@ -4,7 +4,16 @@
 ghost use mathlib.Core.Path.{_≡_};
 ghost use lib.Dec.{T};
 ghost use Rattle.rules_chips.specs.Chips.{countsOf};
-ghost use Rattle.axes.specs.Axes.{along, phaseOn, countsAlong, unitOf, unitsAlong, softUsable, octetOf, AllSoft};
+ghost use Rattle.choose_axes.specs.Axes.{
+  along,
+  phaseOn,
+  countsAlong,
+  unitOf,
+  unitsAlong,
+  softUsable,
+  octetOf,
+  AllSoft,
+};
 use rules_chips::Chip;
 use rules_chips::Sample;
 

@@ -1,17 +1,17 @@
--- `axes::hard_unit` meets its contract: the octets of 1 and of -1 are those of the axis.
+-- `choose_axes::hard_unit` meets its contract: the octets of 1 and of -1 are those of the axis.
 -- Assumes nothing.
 use mathlib.Core.Path.{ap, _∙_}
 use Prim.Native.Nat.{ℕ, _+_, _≤_}
 use native.Mathlib.Omega.{arith}
 use lib.Dec.{lit≤, eqb}
 use borrow.Author.Needs.{needs}
-use Rattle.axes.specs.declared.Axis.{Axis}
-use Rattle.axes.specs.declared.Axis.the-variants.{I, Q}
+use Rattle.choose_axes.specs.declared.Axis.{Axis}
+use Rattle.choose_axes.specs.declared.Axis.the-variants.{I, Q}
 use Rattle.rules_chips.specs.Chips.{fullChip}
-use Rattle.axes.specs.Axes.{along, phaseOn}
-use Rattle.axes.proofs.Axes.{made, unit-fits, unit-made}
-use Rattle.axes.proofs.hard_unit.Statement.{statement}
-use Rattle.axes.proofs.hard_unit.Tie as tie
+use Rattle.choose_axes.specs.Axes.{along, phaseOn}
+use Rattle.choose_axes.proofs.Axes.{made, unit-fits, unit-made}
+use Rattle.choose_axes.proofs.hard_unit.Statement.{statement}
+use Rattle.choose_axes.proofs.hard_unit.Tie as tie
 
 few : (x : Axis) → phaseOn x ≤ 1
 few I = lit≤ tt

@@ -1,10 +1,10 @@
--- `axes::phase_on` meets its contract: each arm is the definition's.
+-- `choose_axes::phase_on` meets its contract: each arm is the definition's.
 -- Assumes nothing.
 use mathlib.Core.Path.{sym, ap}
 use borrow.Author.Needs.{needs}
-use Rattle.axes.specs.Axes.{phaseOn}
-use Rattle.axes.proofs.phase_on.Statement.{statement}
-use Rattle.axes.proofs.phase_on.Tie as tie
+use Rattle.choose_axes.specs.Axes.{phaseOn}
+use Rattle.choose_axes.proofs.phase_on.Statement.{statement}
+use Rattle.choose_axes.proofs.phase_on.Tie as tie
 
 returns : tie.Need-returns
 returns c = sym (ap phaseOn (c .enum-told .given .1))

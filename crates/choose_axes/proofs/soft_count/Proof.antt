@@ -1,13 +1,13 @@
--- `axes::soft_count` meets its contract: each arm counts its field.
+-- `choose_axes::soft_count` meets its contract: each arm counts its field.
 -- Assumes nothing.
 use mathlib.Core.Path.{_≡_, sym, ap, _∙_}
 use borrow.Author.Needs.{needs}
 use mir.Syntax.{w32}
 use mir.Val.{toZ, ofZ}
 use Rattle.rules_chips.specs.declared.Counts.{Counts}
-use Rattle.axes.proofs.Axes.{usable-i, usable-q, soft-counts}
-use Rattle.axes.proofs.soft_count.Statement.{statement}
-use Rattle.axes.proofs.soft_count.Tie as tie
+use Rattle.choose_axes.proofs.Axes.{usable-i, usable-q, soft-counts}
+use Rattle.choose_axes.proofs.soft_count.Statement.{statement}
+use Rattle.choose_axes.proofs.soft_count.Tie as tie
 
 count-requires : tie.Need-count-requires
 count-requires c κs = let asked = c .before .before in usable-i (asked .sample-of .ensures) (asked .before .pre)

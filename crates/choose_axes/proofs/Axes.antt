@@ -10,14 +10,14 @@ use mir.Syntax.{w8}
 use mir.Val.{SFits, toZ, ofZ, boolByte}
 use borrow.Author.Tests.{ne-eqb}
 use Rattle.base.proofs.Tests.{both-left, both-right}
-use Rattle.axes.specs.declared.Axis.{Axis}
-use Rattle.axes.specs.declared.Axis.the-variants.{I, Q}
+use Rattle.choose_axes.specs.declared.Axis.{Axis}
+use Rattle.choose_axes.specs.declared.Axis.the-variants.{I, Q}
 use Rattle.rules_chips.specs.declared.Sample.{Sample}
 use Rattle.rules_chips.specs.declared.Chip.{Chip}
 use Rattle.rules_chips.specs.declared.Chip.the-variants.{Lost, Hard, Soft}
 use Rattle.rules_chips.specs.Floats.{usable, countOf}
 use Rattle.rules_chips.specs.Chips.{pair, nothing, fullChip, usableSample, countsOf}
-use Rattle.axes.specs.Axes.{along, phaseOn, softUsable, isHard, octetOf}
+use Rattle.choose_axes.specs.Axes.{along, phaseOn, softUsable, isHard, octetOf}
 use Rattle.rules_chips.proofs.Sum.{cond-yes}
 
 -- ---- a soft chip that is usable

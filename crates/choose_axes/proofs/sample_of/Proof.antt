@@ -1,12 +1,12 @@
--- `axes::sample_of` meets its contract: of the three only a soft chip is asked.
+-- `choose_axes::sample_of` meets its contract: of the three only a soft chip is asked.
 -- Assumes nothing.
 use mathlib.Core.Path.{subst}
 use lib.Dec.{T}
 use borrow.Author.Needs.{needs}
 use Rattle.rules_chips.specs.declared.Chip.{Chip}
-use Rattle.axes.specs.Axes.{softUsable}
-use Rattle.axes.proofs.sample_of.Statement.{statement}
-use Rattle.axes.proofs.sample_of.Tie as tie
+use Rattle.choose_axes.specs.Axes.{softUsable}
+use Rattle.choose_axes.proofs.sample_of.Statement.{statement}
+use Rattle.choose_axes.proofs.sample_of.Tie as tie
 
 returns : tie.Need-returns
 returns c =
