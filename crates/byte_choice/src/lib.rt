@@ -11,7 +11,7 @@ ghost use Rattle.base.specs.Whole.{Within};
 ghost use Rattle.base.specs.Tables.{tabulate};
 ghost use Rattle.rules_choosing.specs.Scores.{RowWithin, scoreAt, number5, ChosenAs};
 ghost use Rattle.rules_choosing.specs.Keys.{larger, smaller, keyOf, HoldsTwo};
-ghost use Rattle.sums.specs.Sums.{bySigns, asChip, rows, crossed, keyAt};
+ghost use Rattle.choose_sums.specs.Sums.{bySigns, asChip, rows, crossed, keyAt};
 
 // Two keys, the larger first.
 struct Two {

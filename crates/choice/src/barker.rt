@@ -5,7 +5,7 @@ use rules_rates::Rate;
 ghost use mathlib.Core.Path.{_≡_};
 ghost use Rattle.base.specs.Whole.{Within};
 ghost use Rattle.rules_choosing.specs.Scores.{RowWithin, ChosenAs};
-ghost use Rattle.sums.specs.Sums.{bySigns, asChip};
+ghost use Rattle.choose_sums.specs.Sums.{bySigns, asChip};
 
 // The sum of eleven counts by the signs of a Barker symbol.
 fn by_signs(c: [i32; 11]) -> i32

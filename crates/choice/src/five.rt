@@ -7,7 +7,7 @@ ghost use mathlib.Core.Path.{_≡_};
 ghost use Rattle.base.specs.Tables.{tabulate};
 ghost use Rattle.rules_choosing.specs.Scores.{RowWithin, scoreAt, number5, ChosenAs};
 ghost use Rattle.keys.specs.Floats.{FloatTwo};
-ghost use Rattle.sums.specs.Sums.{rows, crossed, keyAt};
+ghost use Rattle.choose_sums.specs.Sums.{rows, crossed, keyAt};
 
 // The sums of four words over two rows: chips 1, 3, 5, 7 of s, and 0, 2, 4, 6 of t.
 fn crossed(s: [i32; 8], t: [i32; 8]) -> [i32; 4]

@@ -16,7 +16,7 @@ use lib.Ieee.Exact.{HasValue}
 use lib.Ieee.Order.{transfer}
 use lib.Ieee.Back.{round-whole, positive-back}
 use Rattle.rules_choosing.specs.Keys.{bigger, lesser}
-use Rattle.sums.proofs.KeyTops.{two-of, two-merge, second-le}
+use Rattle.choose_sums.proofs.KeyTops.{two-of, two-merge, second-le}
 use Rattle.keys.specs.Floats.{keyFloat, largerFloat, smallerFloat, FloatTwo}
 
 -- ---- the order of numbers is that of their values

@@ -31,8 +31,8 @@ use Rattle.choose_axes.specs.declared.Axis.the-variants.{I, Q}
 use Rattle.choose_axes.specs.Axes.{unitOf}
 use Rattle.rules_chips.specs.Chips.{takenCounts, softRecording}
 use Rattle.rules_choosing.specs.Scores.{RowWithin}
-use Rattle.sums.specs.Sums.{rows, everyRow}
-use Rattle.sums.proofs.Apart.{counts-eight, units-rows}
+use Rattle.choose_sums.specs.Sums.{rows, everyRow}
+use Rattle.choose_sums.proofs.Apart.{counts-eight, units-rows}
 use Rattle.recorded.specs.Recorded.{hardPart, softPart}
 use Rattle.recorded.specs.Columns.{ColumnSet, Columns, hardColumn, softColumn}
 use Rattle.recorded.proofs.Gathered.{gathered-soft}

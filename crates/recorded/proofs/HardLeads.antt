@@ -13,7 +13,7 @@ use Rattle.rules_chips.specs.declared.Counts.{Counts}
 use Rattle.rules_chips.specs.Chips.{takenCounts, hardChip, hardRecording}
 use Rattle.choose_axes.specs.Axes.{unitOf}
 use Rattle.rules_symbols.specs.Choice.{decided, leadOf}
-use Rattle.sums.proofs.Apart.{units-decided, units-lead}
+use Rattle.choose_sums.proofs.Apart.{units-decided, units-lead}
 use Rattle.recorded.specs.Recorded.{hardPart}
 use Rattle.recorded.proofs.Gathered.{gathered-hard, all-hard}
 use Rattle.recorded.proofs.Firsts.{numberAt, leadAt}

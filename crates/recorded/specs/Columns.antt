@@ -10,7 +10,7 @@ use lib.IntN.{ℤ, pos}
 use lib.Ieee.{Float}
 use Rattle.choose_axes.specs.declared.Axis.{Axis}
 use Rattle.choose_axes.specs.Axes.{countsAlong, unitsAlong}
-use Rattle.sums.specs.Sums.{everyRow}
+use Rattle.choose_sums.specs.Sums.{everyRow}
 use Rattle.recorded.specs.Recorded.{hardPart, softPart}
 
 -- the first n chips of column l are the numbers x of I and y of Q; the other columns of after are those of before

@@ -13,7 +13,7 @@ use lib.IntN.{ℤ, pos}
 use Rattle.base.proofs.Tables.{tabulate-ext}
 use Rattle.base.proofs.Tests.{all-at}
 use Rattle.abreast.specs.Abreast.{Begins, turnedFrom, Turned}
-use Rattle.sums.specs.Sums.{everyRow}
+use Rattle.choose_sums.specs.Sums.{everyRow}
 use Rattle.signed_bytes.specs.Rows.{everySecond}
 
 -- ---- of sixteen symbols of w bytes, byte p of symbol s stands at 16 p + s

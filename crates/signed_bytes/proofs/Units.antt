@@ -21,8 +21,8 @@ use Rattle.rules_chips.specs.Chips.{pair, nothing, takenCounts, byteCounts, byt
 use Rattle.rules_chips.proofs.Bytes.{countsAt, part-bytes}
 use Rattle.rules_symbols.specs.Choice.{decided, leadOf}
 use Rattle.rules_choosing.specs.Scores.{ChosenAs}
-use Rattle.sums.specs.Sums.{bySigns, asChip}
-use Rattle.sums.proofs.Signs.{sums-chosen}
+use Rattle.choose_sums.specs.Sums.{bySigns, asChip}
+use Rattle.choose_sums.proofs.Signs.{sums-chosen}
 use Rattle.rules_choosing.proofs.Scaled.{decided-times, lead-times}
 use Rattle.signed_bytes.specs.Rows.{barkerBytes, fiveBytes}
 

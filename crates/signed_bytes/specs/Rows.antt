@@ -5,7 +5,7 @@ use Prim.Native.Nat.{ℕ, _+_, _*_}
 use mathlib.Core.List.{List}
 use lib.IntN.{ℤ}
 use Rattle.rules_chips.specs.declared.Counts.{Counts}
-use Rattle.sums.specs.Sums.{bySigns, asChip, rows, spaced, everyRow}
+use Rattle.choose_sums.specs.Sums.{bySigns, asChip, rows, spaced, everyRow}
 
 -- the bytes of one axis: every second of a recording's
 abbrev pub everySecond : List ℤ → ℕ → ℕ → List ℤ

@@ -9,7 +9,7 @@ ghost use Rattle.base.specs.Whole.{Within};
 ghost use Rattle.rules_chips.specs.Chips.{byteRecording};
 ghost use Rattle.rules_symbols.specs.Choice.{decided, leadOf};
 ghost use Rattle.rules_choosing.specs.Scores.{RowWithin};
-ghost use Rattle.sums.specs.Sums.{everyRow};
+ghost use Rattle.choose_sums.specs.Sums.{everyRow};
 ghost use Rattle.recorded.specs.Recorded.{DecidedAt, LeadsAt, Put};
 ghost use Rattle.signed_bytes.specs.Rows.{barkerAt, fiveAt};
 use byte_choice::Choice;

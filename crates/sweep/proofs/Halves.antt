@@ -30,9 +30,9 @@ use Rattle.rules_symbols.specs.Words.{barkerSigns}
 use Rattle.rules_symbols.specs.Choice.{term, decided}
 use Rattle.rules_choosing.specs.Scores.{scoreAt, DecidedAs}
 use Rattle.rules_choosing.proofs.Decided.{decided-best}
-use Rattle.sums.specs.Sums.{signed, bySigns, asChip}
-use Rattle.sums.proofs.Four.{score-chip}
-use Rattle.sums.proofs.Apart.{units-barker}
+use Rattle.choose_sums.specs.Sums.{signed, bySigns, asChip}
+use Rattle.choose_sums.proofs.Four.{score-chip}
+use Rattle.choose_sums.proofs.Apart.{units-barker}
 use Rattle.recorded.specs.Recorded.{hardPart}
 use Rattle.recorded.proofs.HardLeads.{hard-decided}
 use Rattle.sweep.specs.Sweep.{sideOf, halfOfEleven, halfAt, Sides, halfOf}

@@ -22,7 +22,7 @@ use Rattle.rules_choosing.specs.Scores.{scoreAt}
 use Rattle.rules_choosing.specs.Keys.{keyOf}
 use Rattle.rules_choosing.proofs.HalfTurns.{cck-half}
 use Rattle.rules_choosing.proofs.KeyLaws.{Better, better, number-below}
-use Rattle.sums.specs.Sums.{rows, everyRow}
+use Rattle.choose_sums.specs.Sums.{rows, everyRow}
 use Rattle.rules_choosing.proofs.Wide.{key-abs}
 use Rattle.walsh.specs.Rows.{Entered, Paired, evens, odds}
 use Rattle.walsh.proofs.Turns.{turn}

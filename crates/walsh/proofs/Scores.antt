@@ -15,7 +15,7 @@ use Rattle.rules_chips.specs.Chips.{pair}
 use Rattle.rules_symbols.specs.Words.{cckWord}
 use Rattle.rules_symbols.specs.Choice.{term, score}
 use Rattle.rules_choosing.proofs.Scaled.{k-add, term-times}
-use Rattle.sums.specs.Sums.{rows, everyRow}
+use Rattle.choose_sums.specs.Sums.{rows, everyRow}
 use Rattle.walsh.specs.Turns.{back, fly}
 use Rattle.walsh.specs.Rows.{rowAt, entering, Entered, Paired, evens, odds}
 use Rattle.walsh.proofs.Turns.{even, odd, walsh}

@@ -13,7 +13,7 @@ use Rattle.rules_chips.specs.Chips.{pair}
 use Rattle.rules_chips.specs.Bounds.{Bounded}
 use Rattle.rules_rates.specs.declared.Rate.the-variants.{Eleven}
 use Rattle.rules_symbols.specs.Choice.{decided, leadOf}
-use Rattle.sums.specs.Sums.{rows, everyRow}
+use Rattle.choose_sums.specs.Sums.{rows, everyRow}
 use Rattle.walsh.specs.Turns.{fly}
 
 -- what symbol l of sixteen abreast is decided as

@@ -7,7 +7,7 @@ use lib.Dec.{lit<}
 use lib.ListN.{length}
 use mir.Syntax.{w16}
 use borrow.Author.Needs.{needs}
-use Rattle.sums.proofs.Signs.{Summed, summed-none, plus-fits, plus-sum, minus-fits, minus-sum, summed-all}
+use Rattle.choose_sums.proofs.Signs.{Summed, summed-none, plus-fits, plus-sum, minus-fits, minus-sum, summed-all}
 use Rattle.byte_choice.proofs.by_signs.Statement.{statement}
 use Rattle.byte_choice.proofs.by_signs.Tie as tie
 

@@ -10,8 +10,8 @@ use borrow.Author.Needs.{needs}
 use Rattle.base.specs.Whole.{Within}
 use Rattle.base.proofs.Whole.{small}
 use Rattle.rules_choosing.specs.Keys.{keyOf, HoldsTwo}
-use Rattle.sums.proofs.Four.{sumKey, phase-held}
-use Rattle.sums.proofs.KeyTops.{holds-two, holds-order}
+use Rattle.choose_sums.proofs.Four.{sumKey, phase-held}
+use Rattle.choose_sums.proofs.KeyTops.{holds-two, holds-order}
 use Rattle.byte_choice.proofs.choose.Statement.{statement}
 use Rattle.byte_choice.proofs.choose.Tie as tie
 

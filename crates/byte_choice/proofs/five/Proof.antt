@@ -9,8 +9,8 @@ use mir.Syntax.{w16}
 use mir.Val.{toZ, ofZ}
 use borrow.Author.Needs.{needs}
 use Rattle.rules_choosing.specs.Scores.{number5}
-use Rattle.sums.proofs.KeyTops.{holds-order}
-use Rattle.sums.proofs.Eight.{eight-held, eight-within}
+use Rattle.choose_sums.proofs.KeyTops.{holds-order}
+use Rattle.choose_sums.proofs.Eight.{eight-held, eight-within}
 use Rattle.byte_choice.proofs.five.Statement.{statement}
 use Rattle.byte_choice.proofs.five.Tie as tie
 

@@ -9,7 +9,7 @@ use lib.Signed.{nonNeg}
 use mir.Syntax.{w16}
 use mir.Val.{Fits, SFits, toZ, ofZ}
 use borrow.Author.Needs.{needs}
-use Rattle.sums.proofs.KeyTops.{quotients}
+use Rattle.choose_sums.proofs.KeyTops.{quotients}
 use Rattle.byte_choice.proofs.lead_of.Statement.{statement}
 use Rattle.byte_choice.proofs.lead_of.Tie as tie
 

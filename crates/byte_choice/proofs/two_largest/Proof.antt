@@ -11,7 +11,7 @@ use mir.Val.{toZ, ofZ}
 use borrow.Author.Needs.{needs}
 use Rattle.base.specs.Whole.{Within}
 use Rattle.rules_choosing.specs.Scores.{RowWithin}
-use Rattle.sums.proofs.KeyTops.{within-two, holds-keys, holds-merge}
+use Rattle.choose_sums.proofs.KeyTops.{within-two, holds-keys, holds-merge}
 use Rattle.byte_choice.proofs.two_largest.Statement.{statement}
 use Rattle.byte_choice.proofs.two_largest.Tie as tie
 

@@ -7,8 +7,8 @@ use Rattle.rules_rates.specs.declared.Rate.the-variants.{One}
 use Rattle.choose_axes.specs.declared.Axis.the-variants.{I, Q}
 use Rattle.rules_chips.specs.declared.Counts.{Counts}
 use Rattle.rules_choosing.specs.Scores.{RowWithin, ChosenAs}
-use Rattle.sums.specs.Sums.{bySigns, asChip}
-use Rattle.sums.proofs.Apart.{counts-small, counts-barker}
+use Rattle.choose_sums.specs.Sums.{bySigns, asChip}
+use Rattle.choose_sums.proofs.Apart.{counts-small, counts-barker}
 use Rattle.choice.proofs.decide_barker.Statement.{statement}
 use Rattle.choice.proofs.decide_barker.Tie as tie
 

@@ -8,8 +8,8 @@ use Rattle.rules_rates.specs.declared.Rate.the-variants.{Five}
 use Rattle.choose_axes.specs.declared.Axis.the-variants.{I, Q}
 use Rattle.rules_chips.specs.declared.Counts.{Counts}
 use Rattle.rules_choosing.specs.Scores.{RowWithin, ChosenAs}
-use Rattle.sums.specs.Sums.{rows}
-use Rattle.sums.proofs.Apart.{counts-small, counts-eight}
+use Rattle.choose_sums.specs.Sums.{rows}
+use Rattle.choose_sums.proofs.Apart.{counts-small, counts-eight}
 use Rattle.choice.proofs.decide_five.Statement.{statement}
 use Rattle.choice.proofs.decide_five.Tie as tie
 

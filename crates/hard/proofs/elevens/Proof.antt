@@ -11,7 +11,7 @@ use Rattle.rules_rates.specs.declared.Rate.the-variants.{Eleven}
 use Rattle.rules_chips.specs.Chips.{hardRecording}
 use Rattle.rules_chips.specs.declared.Counts.{Counts}
 use Rattle.rules_symbols.specs.Choice.{decided, leadOf}
-use Rattle.sums.specs.Sums.{rows, everyRow}
+use Rattle.choose_sums.specs.Sums.{rows, everyRow}
 use Rattle.recorded.proofs.Firsts.{
   Firsts,
   firsts-none,

@@ -3,7 +3,7 @@
 use Prim.Native.Nat.{_*_}
 use native.Mathlib.Omega.{arith}
 use borrow.Author.Needs.{needs}
-use Rattle.sums.proofs.KeyTops.{quotients}
+use Rattle.choose_sums.proofs.KeyTops.{quotients}
 use Rattle.keys.proofs.lead_of.Statement.{statement}
 use Rattle.keys.proofs.lead_of.Tie as tie
 

@@ -7,7 +7,7 @@ use native.Mathlib.Omega.{arith}
 use lib.IntN.{ℤ}
 use Rattle.rules_rates.specs.declared.Rate.the-variants.{One}
 use Rattle.rules_symbols.specs.Choice.{decided, leadOf}
-use Rattle.sums.specs.Sums.{bySigns, asChip}
+use Rattle.choose_sums.specs.Sums.{bySigns, asChip}
 use Rattle.recorded.specs.Recorded.{Put}
 use Rattle.signed_bytes.specs.Rows.{barkerAt}
 use Rattle.recorded.proofs.Sixteen.{put-none, put-more}

@@ -7,7 +7,7 @@ use native.Mathlib.Omega.{arith}
 use lib.IntN.{ℤ}
 use Rattle.rules_rates.specs.declared.Rate.the-variants.{Five}
 use Rattle.rules_symbols.specs.Choice.{decided, leadOf}
-use Rattle.sums.specs.Sums.{rows}
+use Rattle.choose_sums.specs.Sums.{rows}
 use Rattle.recorded.specs.Recorded.{Put}
 use Rattle.signed_bytes.specs.Rows.{fiveAt}
 use Rattle.recorded.proofs.Sixteen.{put-none, put-more}

@@ -8,7 +8,7 @@ use borrow.Author.Needs.{needs}
 use Rattle.choose_axes.specs.declared.Axis.the-variants.{I, Q}
 use Rattle.choose_axes.specs.Axes.{countsAlong, AllSoft}
 use Rattle.rules_choosing.specs.Scores.{RowWithin}
-use Rattle.sums.proofs.Apart.{counts-small}
+use Rattle.choose_sums.proofs.Apart.{counts-small}
 use Rattle.recorded.specs.Columns.{Columns, softColumn}
 use Rattle.recorded.proofs.Search.{usable-part}
 use Rattle.recorded.proofs.Gathered.{usable-soft}

@@ -10,7 +10,7 @@ use Rattle.rules_rates.specs.declared.Rate.the-variants.{Eleven}
 use Rattle.rules_chips.specs.Chips.{softRecording}
 use Rattle.rules_symbols.specs.Choice.{decided, leadOf}
 use Rattle.rules_choosing.specs.Scores.{RowWithin}
-use Rattle.sums.specs.Sums.{rows, everyRow}
+use Rattle.choose_sums.specs.Sums.{rows, everyRow}
 use Rattle.recorded.specs.Recorded.{symbolAt}
 use Rattle.recorded.proofs.Search.{usable-part}
 use Rattle.recorded.proofs.Firsts.{

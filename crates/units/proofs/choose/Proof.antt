@@ -9,8 +9,8 @@ use borrow.Author.Needs.{needs}
 use Rattle.base.specs.Whole.{Within}
 use Rattle.rules_choosing.specs.Keys.{bigger, lesser, keyOf, TwoLargest}
 use Rattle.base.proofs.Adding.{reads-of}
-use Rattle.sums.proofs.Four.{sumKey, phase-by}
-use Rattle.sums.proofs.KeyTops.{two-of, two-is, second-le}
+use Rattle.choose_sums.proofs.Four.{sumKey, phase-by}
+use Rattle.choose_sums.proofs.KeyTops.{two-of, two-is, second-le}
 use Rattle.units.proofs.choose.Statement.{statement}
 use Rattle.units.proofs.choose.Tie as tie
 

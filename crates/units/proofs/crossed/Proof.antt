@@ -2,7 +2,7 @@
 use lib.Dec.{lit<}
 use mir.Syntax.{w8}
 use borrow.Author.Needs.{needs}
-use Rattle.sums.proofs.Crossed.{Sums, sums}
+use Rattle.choose_sums.proofs.Crossed.{Sums, sums}
 use Rattle.units.proofs.crossed.Statement.{statement}
 use Rattle.units.proofs.crossed.Tie as tie
 

@@ -1,7 +1,7 @@
 -- `units::halves` meets its contract: its sums are those of the two crossed pairs of rows, I with Q and Q with
 -- I. Assumes nothing.
 use borrow.Author.Needs.{needs}
-use Rattle.sums.proofs.Crossed.{eight-scores}
+use Rattle.choose_sums.proofs.Crossed.{eight-scores}
 use Rattle.units.proofs.halves.Statement.{statement}
 use Rattle.units.proofs.halves.Tie as tie
 

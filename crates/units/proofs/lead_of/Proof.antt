@@ -3,7 +3,7 @@
 use mathlib.Core.Path.{refl}
 use Prim.Native.Nat.{_*_}
 use native.Mathlib.Omega.{arith}
-use Rattle.sums.proofs.KeyTops.{quotients}
+use Rattle.choose_sums.proofs.KeyTops.{quotients}
 use Rattle.units.proofs.lead_of.Statement.{statement}
 use Rattle.units.proofs.lead_of.Tie as tie
 

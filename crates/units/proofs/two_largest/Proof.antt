@@ -13,9 +13,9 @@ use Rattle.base.specs.Whole.{Within}
 use Rattle.base.proofs.Whole.{within-more}
 use Rattle.rules_choosing.specs.Scores.{RowWithin}
 use Rattle.rules_choosing.specs.Keys.{bigger, lesser, keyOf, TwoLargest}
-use Rattle.sums.specs.Sums.{keyAt}
+use Rattle.choose_sums.specs.Sums.{keyAt}
 use Rattle.base.proofs.Adding.{reads-of}
-use Rattle.sums.proofs.KeyTops.{two-of, two-is, two-merge}
+use Rattle.choose_sums.proofs.KeyTops.{two-of, two-is, two-merge}
 use Rattle.units.proofs.two_largest.Statement.{statement}
 use Rattle.units.proofs.two_largest.Tie as tie
 

@@ -12,8 +12,8 @@ use Rattle.base.specs.Whole.{Within}
 use Rattle.base.proofs.Whole.{small}
 use Rattle.rules_choosing.specs.Keys.{keyOf}
 use Rattle.rules_choosing.proofs.Wide.{key-small}
-use Rattle.sums.proofs.Four.{sumKey, phase-by}
-use Rattle.sums.proofs.KeyTops.{second-le}
+use Rattle.choose_sums.proofs.Four.{sumKey, phase-by}
+use Rattle.choose_sums.proofs.KeyTops.{second-le}
 use Rattle.keys.specs.Floats.{keyFloat, largerFloat, smallerFloat, FloatTwo}
 use Rattle.keys.proofs.Floats.{float-two, first-asks, second-asks, first-back, second-back}
 use Rattle.choice.proofs.barker.choose.Statement.{statement}

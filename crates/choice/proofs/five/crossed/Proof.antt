@@ -2,7 +2,7 @@
 use lib.Dec.{lit<}
 use mir.Syntax.{w32}
 use borrow.Author.Needs.{needs}
-use Rattle.sums.proofs.Crossed.{Sums, sums}
+use Rattle.choose_sums.proofs.Crossed.{Sums, sums}
 use Rattle.choice.proofs.five.crossed.Statement.{statement}
 use Rattle.choice.proofs.five.crossed.Tie as tie
 

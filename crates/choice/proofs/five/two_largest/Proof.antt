@@ -15,8 +15,8 @@ use borrow.Author.Needs.{needs}
 use Rattle.base.specs.Whole.{Within}
 use Rattle.rules_choosing.specs.Scores.{RowWithin}
 use Rattle.rules_choosing.specs.Keys.{keyOf}
-use Rattle.sums.specs.Sums.{keyAt}
-use Rattle.sums.proofs.KeyTops.{within-two, score-read}
+use Rattle.choose_sums.specs.Sums.{keyAt}
+use Rattle.choose_sums.proofs.KeyTops.{within-two, score-read}
 use Rattle.rules_choosing.proofs.Wide.{key-small}
 use Rattle.keys.specs.Floats.{keyFloat, largerFloat, smallerFloat, FloatTwo}
 use Rattle.keys.proofs.Floats.{float-two, float-merge}

@@ -16,7 +16,7 @@ use Rattle.rules_chips.specs.Chips.{pair, nothing}
 use Rattle.rules_chips.specs.Bounds.{Bounded}
 use Rattle.rules_choosing.specs.Scores.{number5, scoreAt, AllBounded, RowWithin, ChosenAs}
 use Rattle.rules_choosing.specs.Keys.{TwoLargest, HoldsTwo}
-use Rattle.sums.specs.Sums.{rows, keyAt}
+use Rattle.choose_sums.specs.Sums.{rows, keyAt}
 use Rattle.rules_choosing.proofs.Sixteen.{chosen-place}
 use Rattle.rules_choosing.proofs.HalfTurns.{five-half, cck-within}
 use Rattle.rules_choosing.proofs.KeyLaws.{better, ranked}

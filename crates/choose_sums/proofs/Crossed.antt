@@ -17,7 +17,7 @@ use Rattle.rules_rates.specs.declared.Rate.the-variants.{Five}
 use Rattle.rules_symbols.specs.Words.{cckWord}
 use Rattle.rules_symbols.specs.Choice.{score}
 use Rattle.rules_choosing.specs.Scores.{RowWithin, scoreAt, number5}
-use Rattle.sums.specs.Sums.{rows, crossed}
+use Rattle.choose_sums.specs.Sums.{rows, crossed}
 use Rattle.base.proofs.Adding.{Reads, reads-of, reads-fits, reads-add, less-fits, reads-less}
 
 -- ---- sums of two, four and eight

@@ -18,7 +18,7 @@ use Rattle.base.specs.Whole.{Within}
 use Rattle.base.proofs.Whole.{small, within-more}
 use Rattle.rules_choosing.specs.Scores.{RowWithin}
 use Rattle.rules_choosing.specs.Keys.{larger, smaller, bigger, lesser, keyOf, Largest, TwoLargest, HoldsTwo}
-use Rattle.sums.specs.Sums.{keyAt}
+use Rattle.choose_sums.specs.Sums.{keyAt}
 
 pub second-le : {k : ℕ → ℕ} {a b x y : ℕ} → TwoLargest k a b x y → y ≤ x
 second-le t = omega (arith, t .is, t .largest .top (t .q) (t .from) (t .to))

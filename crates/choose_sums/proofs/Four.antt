@@ -10,7 +10,7 @@ use Rattle.rules_symbols.specs.Choice.{score, term}
 use Rattle.rules_chips.specs.Chips.{pair}
 use Rattle.rules_choosing.specs.Scores.{scoreAt, ChosenAs}
 use Rattle.rules_choosing.specs.Keys.{keyOf, TwoLargest, HoldsTwo}
-use Rattle.sums.specs.Sums.{asChip}
+use Rattle.choose_sums.specs.Sums.{asChip}
 use Rattle.rules_choosing.proofs.KeyLaws.{Better, better, ranked}
 use Rattle.rules_choosing.proofs.Chosen.{chosen-by}
 

@@ -28,11 +28,11 @@ use Rattle.rules_symbols.specs.Words.{barkerSigns, signChip, barkerWord}
 use Rattle.rules_symbols.specs.Choice.{score, term}
 use Rattle.rules_symbols.proofs.Words.{barkerTurns}
 use Rattle.rules_choosing.specs.Scores.{RowWithin, scoreAt, ChosenAs}
-use Rattle.sums.specs.Sums.{bySign, signed, bySigns, asChip}
+use Rattle.choose_sums.specs.Sums.{bySign, signed, bySigns, asChip}
 use Rattle.base.proofs.Adding.{reads-of}
 use Rattle.rules_choosing.proofs.Chosen.{chosen-alike}
 use Rattle.rules_choosing.proofs.HalfTurns.{barker-half}
-use Rattle.sums.proofs.Four.{score-chip}
+use Rattle.choose_sums.proofs.Four.{score-chip}
 
 -- ---- the scores of the phases 0 and 1 are the sums of I and of Q
 score-signed : (x : Axis) (ss : List Bool) (cs : List Counts) → score (map (signChip (phaseOn x)) ss) cs

@@ -23,8 +23,8 @@ use Rattle.rules_chips.proofs.Bounds.{counts-within}
 use Rattle.choose_axes.proofs.Axes.{hard-counts}
 use Rattle.rules_symbols.specs.Choice.{decided, leadOf}
 use Rattle.rules_choosing.specs.Scores.{RowWithin, ChosenAs}
-use Rattle.sums.specs.Sums.{bySigns, asChip, rows}
-use Rattle.sums.proofs.Signs.{sums-chosen}
+use Rattle.choose_sums.specs.Sums.{bySigns, asChip, rows}
+use Rattle.choose_sums.proofs.Signs.{sums-chosen}
 use Rattle.rules_choosing.proofs.Scaled.{Times, decided-times, lead-times}
 
 -- ---- whatever is counted of a chip, nothing of a lost one
