@@ -188,7 +188,7 @@ pub fn five(i: [i16; 8], q: [i16; 8]) -> Choice
 {
     let top = two_largest(halves(i, q));
     Choice {
-        number: keys::number(number_of(4, top.first)),
+        number: choose_keys::number(number_of(4, top.first)),
         lead: lead_of(4, top),
     }
 }

@@ -1,6 +1,6 @@
 // Barker symbols, at 1 and at 2 Mbit/s: a sum over I and one over Q; the four scores are these and their negatives.
 use crate::Choice;
-use keys::Two;
+use choose_keys::Two;
 use rules_rates::Rate;
 ghost use mathlib.Core.Path.{_≡_};
 ghost use Rattle.base.specs.Whole.{Within};
@@ -29,12 +29,12 @@ fn choose(i: i32, q: i32) -> Choice
     requires { ⌜ Within 90112 i × Within 90112 q ⌝ }
     ensures answer { λ r. ⌜ ChosenAs Rate.One (asChip i q) (r .number) (r .lead) ⌝ }
 {
-    let top = keys::two_keys(1, i, 0, q);
-    let first = keys::key_of(top.first);
-    let second = keys::key_of(top.second);
+    let top = choose_keys::two_keys(1, i, 0, q);
+    let first = choose_keys::key_of(top.first);
+    let second = choose_keys::key_of(top.second);
     Choice {
-        number: keys::number_of(1, first),
-        lead: keys::lead_of(1, first, second),
+        number: choose_keys::number_of(1, first),
+        lead: choose_keys::lead_of(1, first, second),
     }
 }
 

@@ -1,12 +1,12 @@
 // 5.5 Mbit/s: sixteen words in eight opposite pairs. Sums of two chips, of four and of eight give the eight scores; no
 // word's chips are added up by themselves.
 use crate::Choice;
-use keys::Two;
+use choose_keys::Two;
 use rules_rates::Rate;
 ghost use mathlib.Core.Path.{_≡_};
 ghost use Rattle.base.specs.Tables.{tabulate};
 ghost use Rattle.rules_choosing.specs.Scores.{RowWithin, scoreAt, number5, ChosenAs};
-ghost use Rattle.keys.specs.Floats.{FloatTwo};
+ghost use Rattle.choose_keys.specs.Floats.{FloatTwo};
 ghost use Rattle.choose_sums.specs.Sums.{rows, crossed, keyAt};
 
 // The sums of four words over two rows: chips 1, 3, 5, 7 of s, and 0, 2, 4, 6 of t.
@@ -44,11 +44,11 @@ fn two_largest(h: [i32; 8]) -> Two
     requires { ⌜ RowWithin 65536 h ⌝ }
     ensures answer { λ r. ⌜ FloatTwo (keyAt h) 0 8 (r .first) (r .second) ⌝ }
 {
-    let a = keys::two_keys(4, h[0], 0, h[1]);
-    let b = keys::two_keys(4, h[2], 2, h[3]);
-    let c = keys::two_keys(4, h[4], 4, h[5]);
-    let d = keys::two_keys(4, h[6], 6, h[7]);
-    keys::merge(keys::merge(a, b), keys::merge(c, d))
+    let a = choose_keys::two_keys(4, h[0], 0, h[1]);
+    let b = choose_keys::two_keys(4, h[2], 2, h[3]);
+    let c = choose_keys::two_keys(4, h[4], 4, h[5]);
+    let d = choose_keys::two_keys(4, h[6], 6, h[7]);
+    choose_keys::merge(choose_keys::merge(a, b), choose_keys::merge(c, d))
 }
 
 // The choice by eight chips' counts, I and Q apart.
@@ -57,10 +57,10 @@ pub fn decide(i: [i32; 8], q: [i32; 8]) -> Choice
     ensures answer { λ r. ⌜ ChosenAs Rate.Five (rows i q) (r .number) (r .lead) ⌝ }
 {
     let top = two_largest(halves(i, q));
-    let first = keys::key_of(top.first);
-    let second = keys::key_of(top.second);
+    let first = choose_keys::key_of(top.first);
+    let second = choose_keys::key_of(top.second);
     Choice {
-        number: keys::number(keys::number_of(4, first)),
-        lead: keys::lead_of(4, first, second),
+        number: choose_keys::number(choose_keys::number_of(4, first)),
+        lead: choose_keys::lead_of(4, first, second),
     }
 }

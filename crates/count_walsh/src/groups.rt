@@ -72,8 +72,8 @@ fn four(y: i32, a: i32, b: i32) -> Two
 {
     let t = credit(sided(y, a));
     let u = credit(sided(y, b)) - 1;
-    let m = keys::abs(y);
-    let top = keys::max(t, u);
+    let m = choose_keys::abs(y);
+    let top = choose_keys::max(t, u);
     let low = lower(t, u, top);
     Two {
         first: m + top,
@@ -91,11 +91,11 @@ fn group(yr: i32, yi: i32, xr: i32, xi: i32) -> Two
     let q = four(yi, xi, -xr);
     let t = p.first;
     let u = q.first - 4;
-    let v = keys::max(p.second, q.second - 4);
-    let top = keys::max(t, u);
+    let v = choose_keys::max(p.second, q.second - 4);
+    let top = choose_keys::max(t, u);
     Two {
         first: top,
-        second: keys::max(lower(t, u, top), v),
+        second: choose_keys::max(lower(t, u, top), v),
     }
 }
 
@@ -114,8 +114,8 @@ fn merge(b: Best, k: Two, g: u32) -> Best
     let t = b.first;
     let u = k.first;
     Best {
-        first: keys::max(t, u),
-        second: keys::max(b.second, keys::max(keys::min(t, u), k.second)),
+        first: choose_keys::max(t, u),
+        second: choose_keys::max(b.second, choose_keys::max(choose_keys::min(t, u), k.second)),
         group: place(t, u, g, b.group),
     }
 }

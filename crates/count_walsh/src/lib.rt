@@ -77,7 +77,7 @@ fn lead_of(first: i32, second: i32) -> u32
     requires { ⌜ T (nonNeg first) × (negsuc 1 ≤ℤ second) × (second ≤ℤ first) ⌝ }
     ensures answer { λ r. ⌜ r ≡ leadOfKeys first second ⌝ }
 {
-    let next = keys::max(second, 0);
+    let next = choose_keys::max(second, 0);
     (first as u32 + 11) / 16 - (next as u32 + 11) / 16
 }
 

@@ -182,7 +182,7 @@ fn five(i: [i8; 8], q: [i8; 8]) -> Choice
 {
     let top = two_largest(halves(i, q));
     Choice {
-        number: keys::number(number_of(4, top.first)),
+        number: choose_keys::number(number_of(4, top.first)),
         lead: lead_of(4, top),
     }
 }

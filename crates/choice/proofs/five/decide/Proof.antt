@@ -8,7 +8,7 @@ use borrow.Author.Needs.{needs}
 use Rattle.rules_choosing.specs.Scores.{number5}
 use Rattle.choose_sums.proofs.KeyTops.{second-le}
 use Rattle.choose_sums.proofs.Eight.{eight-by, eight-within}
-use Rattle.keys.proofs.Floats.{first-asks, second-asks, first-back, second-back}
+use Rattle.choose_keys.proofs.Floats.{first-asks, second-asks, first-back, second-back}
 use Rattle.choice.proofs.five.decide.Statement.{statement}
 use Rattle.choice.proofs.five.decide.Tie as tie
 

@@ -18,8 +18,8 @@ use Rattle.rules_choosing.specs.Keys.{keyOf}
 use Rattle.choose_sums.specs.Sums.{keyAt}
 use Rattle.choose_sums.proofs.KeyTops.{within-two, score-read}
 use Rattle.rules_choosing.proofs.Wide.{key-small}
-use Rattle.keys.specs.Floats.{keyFloat, largerFloat, smallerFloat, FloatTwo}
-use Rattle.keys.proofs.Floats.{float-two, float-merge}
+use Rattle.choose_keys.specs.Floats.{keyFloat, largerFloat, smallerFloat, FloatTwo}
+use Rattle.choose_keys.proofs.Floats.{float-two, float-merge}
 use Rattle.choice.proofs.five.two_largest.Statement.{statement}
 use Rattle.choice.proofs.five.two_largest.Tie as tie
 

@@ -1,9 +1,9 @@
--- `keys::smaller` meets its contract: the test is the definition's.
+-- `choose_keys::smaller` meets its contract: the test is the definition's.
 -- Assumes nothing.
 use mathlib.Core.Path.{sym, ap}
 use mathlib.Core.Bool.{Bool, cond}
-use Rattle.keys.proofs.smaller.Statement.{statement}
-use Rattle.keys.proofs.smaller.Tie as tie
+use Rattle.choose_keys.proofs.smaller.Statement.{statement}
+use Rattle.choose_keys.proofs.smaller.Tie as tie
 
 returns : tie.Need-returns
 returns c = let s = c .before .args in sym (ap (λ (t : Bool). cond t (s .a) (s .b)) (c .if1 .taken))

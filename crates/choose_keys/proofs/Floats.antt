@@ -17,7 +17,7 @@ use lib.Ieee.Order.{transfer}
 use lib.Ieee.Back.{round-whole, positive-back}
 use Rattle.rules_choosing.specs.Keys.{bigger, lesser}
 use Rattle.choose_sums.proofs.KeyTops.{two-of, two-merge, second-le}
-use Rattle.keys.specs.Floats.{keyFloat, largerFloat, smallerFloat, FloatTwo}
+use Rattle.choose_keys.specs.Floats.{keyFloat, largerFloat, smallerFloat, FloatTwo}
 
 -- ---- the order of numbers is that of their values
 ltb-same : (p q a b : ℕ) → (a < b → p < q) → (b ≤ a → q ≤ p) → ltb p q ≡ ltb a b

@@ -1,4 +1,4 @@
--- `keys::two_keys` meets its contract: they are the larger and the smaller of its two keys.
+-- `choose_keys::two_keys` meets its contract: they are the larger and the smaller of its two keys.
 -- Assumes nothing.
 use mathlib.Core.Path.{_≡_, ap, _∙_}
 use Prim.Native.Nat.{ℕ, _+_, _*_, _^_, _<_}
@@ -13,10 +13,10 @@ use Rattle.base.specs.Whole.{Within}
 use Rattle.base.proofs.Whole.{small}
 use Rattle.rules_choosing.specs.Keys.{keyOf}
 use Rattle.rules_choosing.proofs.Wide.{key-read, key-small}
-use Rattle.keys.specs.Floats.{largerFloat, smallerFloat}
-use Rattle.keys.proofs.Floats.{may-float}
-use Rattle.keys.proofs.two_keys.Statement.{statement}
-use Rattle.keys.proofs.two_keys.Tie as tie
+use Rattle.choose_keys.specs.Floats.{largerFloat, smallerFloat}
+use Rattle.choose_keys.proofs.Floats.{may-float}
+use Rattle.choose_keys.proofs.two_keys.Statement.{statement}
+use Rattle.choose_keys.proofs.two_keys.Tie as tie
 
 score : (s : ℤ) → Within 90112 s → toZ w32 (ofZ w32 s) ≡ s
 score s h = small w32 90112 (lit< tt) s h

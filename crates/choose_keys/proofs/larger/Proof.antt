@@ -1,9 +1,9 @@
--- `keys::larger` meets its contract: the test is the definition's.
+-- `choose_keys::larger` meets its contract: the test is the definition's.
 -- Assumes nothing.
 use mathlib.Core.Path.{sym, ap}
 use mathlib.Core.Bool.{Bool, cond}
-use Rattle.keys.proofs.larger.Statement.{statement}
-use Rattle.keys.proofs.larger.Tie as tie
+use Rattle.choose_keys.proofs.larger.Statement.{statement}
+use Rattle.choose_keys.proofs.larger.Tie as tie
 
 returns : tie.Need-returns
 returns c = let s = c .before .args in sym (ap (λ (t : Bool). cond t (s .b) (s .a)) (c .if1 .taken))

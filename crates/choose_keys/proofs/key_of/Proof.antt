@@ -1,4 +1,4 @@
--- `keys::key_of` meets its contract: the whole number is natural, and small.
+-- `choose_keys::key_of` meets its contract: the whole number is natural, and small.
 -- Assumes nothing.
 use mathlib.Core.Path.{_≡_, refl, ap}
 use native.Mathlib.Omega.{arith}
@@ -10,8 +10,8 @@ use mir.Syntax.{w32}
 use mir.Val.{toZ, ofZ}
 use borrow.Author.Needs.{needs}
 use Rattle.base.proofs.Adding.{held}
-use Rattle.keys.proofs.key_of.Statement.{statement}
-use Rattle.keys.proofs.key_of.Tie as tie
+use Rattle.choose_keys.proofs.key_of.Statement.{statement}
+use Rattle.choose_keys.proofs.key_of.Tie as tie
 
 natural : (z : ℤ) → T (nonNeg z) → z ≡ pos (natAbs z)
 natural (pos n) t = refl

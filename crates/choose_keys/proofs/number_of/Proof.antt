@@ -1,11 +1,11 @@
--- `keys::number_of` meets its contract.
+-- `choose_keys::number_of` meets its contract.
 -- Assumes nothing.
 use Prim.Native.Nat.{_*_}
 use native.Mathlib.Nat.{mod-lt}
 use native.Mathlib.Omega.{arith}
 use borrow.Author.Needs.{needs}
-use Rattle.keys.proofs.number_of.Statement.{statement}
-use Rattle.keys.proofs.number_of.Tie as tie
+use Rattle.choose_keys.proofs.number_of.Statement.{statement}
+use Rattle.choose_keys.proofs.number_of.Tie as tie
 
 pub number-of-spec : {M : Type 1} → statement M
 number-of-spec =

@@ -1,4 +1,4 @@
--- `keys::key` meets its contract: the magnitude of 4 w s + w with what is added to it is the better key.
+-- `choose_keys::key` meets its contract: the magnitude of 4 w s + w with what is added to it is the better key.
 -- Assumes nothing.
 use Prim.Native.Nat.{_+_, _*_, _^_, _<_}
 use native.Mathlib.Omega.{arith}
@@ -7,8 +7,8 @@ use mir.Syntax.{w32}
 use mir.Val.{hbits}
 use borrow.Author.Needs.{needs}
 use Rattle.rules_choosing.proofs.Wide.{words-fit, product-fits, raised-fits, raised-within, key-fits, key-is}
-use Rattle.keys.proofs.key.Statement.{statement}
-use Rattle.keys.proofs.key.Tie as tie
+use Rattle.choose_keys.proofs.key.Statement.{statement}
+use Rattle.choose_keys.proofs.key.Tie as tie
 
 room : (c : tie.Start) → 4 * c .args .w * 90112 + 4 * c .args .w < 2 ^ hbits w32
 room c = omega (arith, c .pre .0)

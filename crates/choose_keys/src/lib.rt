@@ -11,7 +11,7 @@ ghost use lib.Ieee.{binary32, ofInt, inFloat, inSigned, toSigned};
 ghost use Rattle.base.specs.Whole.{Within};
 ghost use Rattle.rules_choosing.specs.Scores.{number5};
 ghost use Rattle.rules_choosing.specs.Keys.{larger, smaller, keyOf};
-ghost use Rattle.keys.specs.Floats.{keyFloat, largerFloat, smallerFloat};
+ghost use Rattle.choose_keys.specs.Floats.{keyFloat, largerFloat, smallerFloat};
 
 // Two keys, the larger first, as f32: one instruction compares four of them, where i32 need several.
 pub struct Two {

@@ -1,12 +1,12 @@
--- `keys::abs` meets its contract: each arm is the magnitude of its sign.
+-- `choose_keys::abs` meets its contract: each arm is the magnitude of its sign.
 -- Assumes nothing.
 use mathlib.Core.Path.{_∙_}
 use lib.Dec.{lit<}
 use mir.Syntax.{w32}
 use Rattle.base.proofs.Whole.{small, neg-fits, neg-read}
 use Rattle.rules_choosing.proofs.Wide.{abs-below, abs-above}
-use Rattle.keys.proofs.abs.Statement.{statement}
-use Rattle.keys.proofs.abs.Tie as tie
+use Rattle.choose_keys.proofs.abs.Statement.{statement}
+use Rattle.choose_keys.proofs.abs.Tie as tie
 
 sub-result : tie.Need-sub-result
 sub-result c = neg-fits w32 2147483647 (lit< tt) _ (c .before .pre)

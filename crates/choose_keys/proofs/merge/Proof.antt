@@ -1,10 +1,10 @@
--- `keys::merge` meets its contract: its steps are the definition's.
+-- `choose_keys::merge` meets its contract: its steps are the definition's.
 -- Assumes nothing.
 use mathlib.Core.Path.{_∙_}
 use borrow.Author.Needs.{needs}
-use Rattle.keys.specs.Floats.{largerFloat}
-use Rattle.keys.proofs.merge.Statement.{statement}
-use Rattle.keys.proofs.merge.Tie as tie
+use Rattle.choose_keys.specs.Floats.{largerFloat}
+use Rattle.choose_keys.proofs.merge.Statement.{statement}
+use Rattle.choose_keys.proofs.merge.Tie as tie
 
 returns : tie.Need-returns
 returns c =

@@ -1,11 +1,11 @@
--- `keys::lead_of` meets its contract.
+-- `choose_keys::lead_of` meets its contract.
 -- Assumes nothing.
 use Prim.Native.Nat.{_*_}
 use native.Mathlib.Omega.{arith}
 use borrow.Author.Needs.{needs}
 use Rattle.choose_sums.proofs.KeyTops.{quotients}
-use Rattle.keys.proofs.lead_of.Statement.{statement}
-use Rattle.keys.proofs.lead_of.Tie as tie
+use Rattle.choose_keys.proofs.lead_of.Statement.{statement}
+use Rattle.choose_keys.proofs.lead_of.Tie as tie
 
 pub lead-of-spec : {M : Type 1} → statement M
 lead-of-spec =
