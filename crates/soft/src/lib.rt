@@ -11,7 +11,7 @@ ghost use Rattle.recorded.specs.Recorded.{softPart, AllUsable, DecidedAt, Leads
 use choose_axes::Axis;
 use rules_chips::Chip;
 use rules_chips::Sample;
-use choice::Choice;
+use choose_by_counts::Choice;
 use rules_rates::Rate;
 
 // Whether the chip at a place is usable.
@@ -91,7 +91,7 @@ pub fn barkers(
 {
     let mut l: usize = 0;
     while l < m {
-        let c = choice::decide_barker(eleven(i, q, at + 11 * l));
+        let c = choose_by_counts::decide_barker(eleven(i, q, at + 11 * l));
         numbers[l] = c.number;
         leads[l] = c.lead;
         l += 1;
@@ -117,7 +117,7 @@ pub fn fives(
 {
     let mut l: usize = 0;
     while l < m {
-        let c = choice::decide_five(eight(i, q, at + 8 * l));
+        let c = choose_by_counts::decide_five(eight(i, q, at + 8 * l));
         numbers[l] = c.number;
         leads[l] = c.lead;
         l += 1;

@@ -1,9 +1,9 @@
--- `choice::five::halves` meets its contract: its sums are those of the two crossed pairs of rows, I with Q and Q with
--- I. Assumes nothing.
+-- `choose_by_counts::five::halves` meets its contract: its sums are those of the two crossed pairs of rows, I with Q
+-- and Q with I. Assumes nothing.
 use borrow.Author.Needs.{needs}
 use Rattle.choose_sums.proofs.Crossed.{eight-scores}
-use Rattle.choice.proofs.five.halves.Statement.{statement}
-use Rattle.choice.proofs.five.halves.Tie as tie
+use Rattle.choose_by_counts.proofs.five.halves.Statement.{statement}
+use Rattle.choose_by_counts.proofs.five.halves.Tie as tie
 
 returns : tie.Need-returns
 returns c =

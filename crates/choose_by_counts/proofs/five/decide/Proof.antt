@@ -1,4 +1,4 @@
--- `choice::five::decide` meets its contract: the two largest of the eight keys have the word and its lead.
+-- `choose_by_counts::five::decide` meets its contract: the two largest of the eight keys have the word and its lead.
 -- Assumes nothing.
 use mathlib.Core.Path.{_≡_, ap, _∙_}
 use Prim.Native.Nat.{ℕ, _-_, _/_, _%_}
@@ -9,8 +9,8 @@ use Rattle.rules_choosing.specs.Scores.{number5}
 use Rattle.choose_sums.proofs.KeyTops.{second-le}
 use Rattle.choose_sums.proofs.Eight.{eight-by, eight-within}
 use Rattle.choose_keys.proofs.Floats.{first-asks, second-asks, first-back, second-back}
-use Rattle.choice.proofs.five.decide.Statement.{statement}
-use Rattle.choice.proofs.five.decide.Tie as tie
+use Rattle.choose_by_counts.proofs.five.decide.Statement.{statement}
+use Rattle.choose_by_counts.proofs.five.decide.Tie as tie
 
 two-largest-requires : tie.Need-two-largest-requires
 two-largest-requires c κs =

@@ -1,4 +1,4 @@
--- `choice::barker::decide` meets its contract: the sums of both rows choose.
+-- `choose_by_counts::barker::decide` meets its contract: the sums of both rows choose.
 -- Assumes nothing.
 use mathlib.Core.Path.{_≡_, _∙_, subst}
 use mathlib.Core.List.{List}
@@ -10,8 +10,8 @@ use Rattle.rules_chips.specs.declared.Counts.{Counts}
 use Rattle.rules_choosing.specs.Scores.{ChosenAs}
 use Rattle.choose_sums.specs.Sums.{bySigns, asChip}
 use Rattle.choose_sums.proofs.Signs.{by-signs-within}
-use Rattle.choice.proofs.barker.decide.Statement.{statement}
-use Rattle.choice.proofs.barker.decide.Tie as tie
+use Rattle.choose_by_counts.proofs.barker.decide.Statement.{statement}
+use Rattle.choose_by_counts.proofs.barker.decide.Tie as tie
 
 -- both sums, as they are read back
 sum-i : (c : tie.After-by-signs2) → toZ w32 (ofZ w32 (c .before .by-signs .result))

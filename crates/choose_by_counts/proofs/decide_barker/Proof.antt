@@ -1,4 +1,4 @@
--- `choice::decide_barker` meets its contract: the counts on both axes decide.
+-- `choose_by_counts::decide_barker` meets its contract: the counts on both axes decide.
 -- Assumes nothing.
 use mathlib.Core.Path.{sym, subst}
 use mathlib.Core.List.{List}
@@ -9,8 +9,8 @@ use Rattle.rules_chips.specs.declared.Counts.{Counts}
 use Rattle.rules_choosing.specs.Scores.{RowWithin, ChosenAs}
 use Rattle.choose_sums.specs.Sums.{bySigns, asChip}
 use Rattle.choose_sums.proofs.Apart.{counts-small, counts-barker}
-use Rattle.choice.proofs.decide_barker.Statement.{statement}
-use Rattle.choice.proofs.decide_barker.Tie as tie
+use Rattle.choose_by_counts.proofs.decide_barker.Statement.{statement}
+use Rattle.choose_by_counts.proofs.decide_barker.Tie as tie
 
 decide-requires : tie.Need-decide-requires
 decide-requires c κs =

@@ -1,4 +1,4 @@
--- `choice::barker::by_signs` meets its contract. The invariant: x is the sum so far.
+-- `choose_by_counts::barker::by_signs` meets its contract. The invariant: x is the sum so far.
 -- Assumes nothing.
 use mathlib.Core.Path.{_≡_, refl}
 use mathlib.Core.Logic.{⊎-elim}
@@ -8,8 +8,8 @@ use lib.ListN.{length}
 use mir.Syntax.{w32}
 use borrow.Author.Needs.{needs}
 use Rattle.choose_sums.proofs.Signs.{Summed, summed-none, plus-fits, plus-sum, minus-fits, minus-sum, summed-all}
-use Rattle.choice.proofs.barker.by_signs.Statement.{statement}
-use Rattle.choice.proofs.barker.by_signs.Tie as tie
+use Rattle.choose_by_counts.proofs.barker.by_signs.Statement.{statement}
+use Rattle.choose_by_counts.proofs.barker.by_signs.Tie as tie
 
 abbrev Inv-loop : tie.InvT-loop
 Inv-loop c turns x₀ k₀ x k = Summed w32 8192 c x k

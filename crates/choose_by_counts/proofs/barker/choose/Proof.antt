@@ -1,4 +1,4 @@
--- `choice::barker::choose` meets its contract: the larger of two keys has the phase, and both the lead.
+-- `choose_by_counts::barker::choose` meets its contract: the larger of two keys has the phase, and both the lead.
 -- Assumes nothing.
 use mathlib.Core.Path.{_≡_, ap, _∙_}
 use Prim.Native.Nat.{ℕ, _-_, _/_, _%_, _<_}
@@ -16,8 +16,8 @@ use Rattle.choose_sums.proofs.Four.{sumKey, phase-by}
 use Rattle.choose_sums.proofs.KeyTops.{second-le}
 use Rattle.choose_keys.specs.Floats.{keyFloat, largerFloat, smallerFloat, FloatTwo}
 use Rattle.choose_keys.proofs.Floats.{float-two, first-asks, second-asks, first-back, second-back}
-use Rattle.choice.proofs.barker.choose.Statement.{statement}
-use Rattle.choice.proofs.barker.choose.Tie as tie
+use Rattle.choose_by_counts.proofs.barker.choose.Statement.{statement}
+use Rattle.choose_by_counts.proofs.barker.choose.Tie as tie
 
 module _ (c : tie.After-two-keys) where
   abbrev i : ℤ

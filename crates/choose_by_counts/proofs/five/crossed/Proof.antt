@@ -1,10 +1,10 @@
--- `choice::five::crossed` meets its contract: what it adds is `Sums` of its two rows. Assumes nothing.
+-- `choose_by_counts::five::crossed` meets its contract: what it adds is `Sums` of its two rows. Assumes nothing.
 use lib.Dec.{lit<}
 use mir.Syntax.{w32}
 use borrow.Author.Needs.{needs}
 use Rattle.choose_sums.proofs.Crossed.{Sums, sums}
-use Rattle.choice.proofs.five.crossed.Statement.{statement}
-use Rattle.choice.proofs.five.crossed.Tie as tie
+use Rattle.choose_by_counts.proofs.five.crossed.Statement.{statement}
+use Rattle.choose_by_counts.proofs.five.crossed.Tie as tie
 
 of : (c : tie.Start) → Sums w32 (c .args .t1) (c .args .t2)
 of c = sums w32 _ _ 8192 (lit< tt) (c .pre .0) (c .pre .1)

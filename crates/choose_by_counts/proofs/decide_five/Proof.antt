@@ -1,4 +1,4 @@
--- `choice::decide_five` meets its contract: the counts on both axes decide.
+-- `choose_by_counts::decide_five` meets its contract: the counts on both axes decide.
 -- Assumes nothing.
 use mathlib.Core.Path.{_≡_, sym, _∙_, subst}
 use mathlib.Core.List.{List}
@@ -10,8 +10,8 @@ use Rattle.rules_chips.specs.declared.Counts.{Counts}
 use Rattle.rules_choosing.specs.Scores.{RowWithin, ChosenAs}
 use Rattle.choose_sums.specs.Sums.{rows}
 use Rattle.choose_sums.proofs.Apart.{counts-small, counts-eight}
-use Rattle.choice.proofs.decide_five.Statement.{statement}
-use Rattle.choice.proofs.decide_five.Tie as tie
+use Rattle.choose_by_counts.proofs.decide_five.Statement.{statement}
+use Rattle.choose_by_counts.proofs.decide_five.Tie as tie
 
 decide-requires : tie.Need-decide-requires
 decide-requires c κs =

@@ -1,5 +1,5 @@
--- `choice::five::two_largest` meets its contract: the keys of each two, the two largest of each four, then of all
--- eight.
+-- `choose_by_counts::five::two_largest` meets its contract: the keys of each two, the two largest of each four, then of
+-- all eight.
 -- Assumes nothing.
 use mathlib.Core.Path.{_≡_, ap, _∙_}
 use mathlib.Core.List.{List}
@@ -20,8 +20,8 @@ use Rattle.choose_sums.proofs.KeyTops.{within-two, score-read}
 use Rattle.rules_choosing.proofs.Wide.{key-small}
 use Rattle.choose_keys.specs.Floats.{keyFloat, largerFloat, smallerFloat, FloatTwo}
 use Rattle.choose_keys.proofs.Floats.{float-two, float-merge}
-use Rattle.choice.proofs.five.two_largest.Statement.{statement}
-use Rattle.choice.proofs.five.two_largest.Tie as tie
+use Rattle.choose_by_counts.proofs.five.two_largest.Statement.{statement}
+use Rattle.choose_by_counts.proofs.five.two_largest.Tie as tie
 
 abbrev read : ℤ → ℤ
 read z = toZ w32 (ofZ w32 z)
