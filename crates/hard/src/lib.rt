@@ -12,7 +12,7 @@ ghost use Rattle.recorded.specs.Recorded.{hardPart, AllUsable, DecidedAt, Leads
 use choose_axes::Axis;
 use rules_chips::Chip;
 use rules_rates::Rate;
-use units::Choice;
+use choose_by_units::Choice;
 
 // Whether the chip at a place is usable.
 pub fn usable_at(octets: &[u8], at: usize) -> bool
@@ -86,7 +86,7 @@ pub fn barkers(octets: &[u8], at: usize, m: usize, numbers: &mut [u8; 64], leads
     let mut full = [0u8; 64];
     let mut l: usize = 0;
     while l < m {
-        let c = units::decide_barker(eleven(octets, at + 11 * l));
+        let c = choose_by_units::decide_barker(eleven(octets, at + 11 * l));
         numbers[l] = c.number;
         full[l] = c.lead;
         l += 1;
@@ -104,7 +104,7 @@ pub fn fives(octets: &[u8], at: usize, m: usize, numbers: &mut [u8; 64], leads: 
     let mut full = [0u8; 64];
     let mut l: usize = 0;
     while l < m {
-        let c = units::decide_five(eight(octets, at + 8 * l));
+        let c = choose_by_units::decide_five(eight(octets, at + 8 * l));
         numbers[l] = c.number;
         full[l] = c.lead;
         l += 1;
