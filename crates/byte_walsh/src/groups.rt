@@ -29,7 +29,7 @@ fn credit(u: i16) -> i16
     requires { ⌜ Within 8208 u ⌝ }
     ensures answer { λ r. ⌜ r ≡ credit u ⌝ }
 {
-    byte_choice::max(u, -2 - u)
+    choose_by_bytes::max(u, -2 - u)
 }
 
 // A number as it is, or turned round where y is below 0.
@@ -48,10 +48,10 @@ fn four(y: i16, a: i16, b: i16) -> Two
 {
     let t = credit(sided(y, a));
     let u = credit(sided(y, b)) - 1;
-    let m = byte_choice::abs(y);
+    let m = choose_by_bytes::abs(y);
     Two {
-        first: m + byte_choice::max(t, u),
-        second: m + byte_choice::min(t, u),
+        first: m + choose_by_bytes::max(t, u),
+        second: m + choose_by_bytes::min(t, u),
     }
 }
 
@@ -65,10 +65,10 @@ fn group(yr: i16, yi: i16, xr: i16, xi: i16) -> Two
     let q = four(yi, xi, -xr);
     let t = p.first;
     let u = q.first - 4;
-    let v = byte_choice::max(p.second, q.second - 4);
+    let v = choose_by_bytes::max(p.second, q.second - 4);
     Two {
-        first: byte_choice::max(t, u),
-        second: byte_choice::max(byte_choice::min(t, u), v),
+        first: choose_by_bytes::max(t, u),
+        second: choose_by_bytes::max(choose_by_bytes::min(t, u), v),
     }
 }
 
@@ -87,8 +87,8 @@ fn merge(b: Best, k: Two, g: u16) -> Best
     let t = b.first;
     let u = k.first;
     Best {
-        first: byte_choice::max(t, u),
-        second: byte_choice::max(b.second, byte_choice::max(byte_choice::min(t, u), k.second)),
+        first: choose_by_bytes::max(t, u),
+        second: choose_by_bytes::max(b.second, choose_by_bytes::max(choose_by_bytes::min(t, u), k.second)),
         group: place(t, u, g, b.group),
     }
 }

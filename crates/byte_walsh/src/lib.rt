@@ -78,7 +78,7 @@ fn lead_of(unit: u32, first: i16, second: i16) -> u32
     requires { ⌜ (unit ≤ 1024) × T (nonNeg first) × (negsuc 1 ≤ℤ second) × (second ≤ℤ first) ⌝ }
     ensures answer { λ r. ⌜ r ≡ unit * leadOfKeys first second ⌝ }
 {
-    let next = byte_choice::max(second, 0);
+    let next = choose_by_bytes::max(second, 0);
     let lead = (first as u16 + 11) / 16 - (next as u16 + 11) / 16;
     unit * (lead as u32)
 }

@@ -12,7 +12,7 @@ ghost use Rattle.rules_choosing.specs.Scores.{RowWithin};
 ghost use Rattle.choose_sums.specs.Sums.{everyRow};
 ghost use Rattle.recorded.specs.Recorded.{DecidedAt, LeadsAt, Put};
 ghost use Rattle.signed_bytes.specs.Rows.{barkerAt, fiveAt};
-use byte_choice::Choice;
+use choose_by_bytes::Choice;
 use rules_rates::Rate;
 
 // A byte as a wider number.
@@ -59,7 +59,7 @@ fn sixteen_barkers(row: &[i8], l: usize, numbers: &mut [u8; 64], raw: &mut [u16;
         (now (raw .exit)) 16 ⌝ }
 {
     for s in 0..16 {
-        let c = byte_choice::barker(eleven(row, s), eleven(row, 16 + s));
+        let c = choose_by_bytes::barker(eleven(row, s), eleven(row, 16 + s));
         numbers[l + s] = c.number;
         raw[l + s] = c.lead;
     }
@@ -75,7 +75,7 @@ fn sixteen_fives(row: &[i8], l: usize, numbers: &mut [u8; 64], raw: &mut [u16; 6
         (now (raw .exit)) 16 ⌝ }
 {
     for s in 0..16 {
-        let c = byte_choice::five(eight(row, s), eight(row, 16 + s));
+        let c = choose_by_bytes::five(eight(row, s), eight(row, 16 + s));
         numbers[l + s] = c.number;
         raw[l + s] = c.lead;
     }
