@@ -26,8 +26,8 @@ use Rattle.common_lines.specs.declared.Line.{Line}
 use Rattle.rules_bits.proofs.Bits.{octets-length, octets-bits}
 use Rattle.rules_bits.proofs.Heard.{heard-length, heard-below}
 use Rattle.rules_reading.specs.Reading.{firstOdd, oddGrowth}
-use Rattle.recorded.specs.declared.Place.{Place}
-use Rattle.recorded.specs.Recorded.{whereFound}
+use Rattle.choose_recorded.specs.declared.Place.{Place}
+use Rattle.choose_recorded.specs.Recorded.{whereFound}
 use Rattle.codes.specs.Codes.{grownFor, wordBits, phaseBefore, octetAfter, behind, plain, AreWords}
 use Rattle.blocks.specs.Heard.{plainOctets, Heard}
 use Rattle.codes.proofs.Codes.{word-bits, code-small, octet-room}

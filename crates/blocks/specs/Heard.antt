@@ -12,7 +12,7 @@ use Rattle.rules_bits.specs.Scrambler.{descramble}
 use Rattle.rules_bits.specs.Code.{pastOf, pastAfter}
 use Rattle.common_lines.specs.declared.Line.{Line}
 use Rattle.rules_reading.specs.Reading.{oddGrowth}
-use Rattle.recorded.specs.Recorded.{whereFound}
+use Rattle.choose_recorded.specs.Recorded.{whereFound}
 use Rattle.blocks.specs.declared.Hearing.{Hearing}
 
 -- the received bits of words on a line, the first of them number f

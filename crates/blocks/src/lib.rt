@@ -12,7 +12,7 @@ ghost use Rattle.codes.specs.Codes.{grownFor, wordBits, phaseBefore, octetAfter
 ghost use Rattle.blocks.specs.Heard.{plainOctets, Heard};
 use common_lines::Line;
 use rules_rates::Rate;
-use recorded::Place;
+use choose_recorded::Place;
 
 pub mod least;
 mod odd;

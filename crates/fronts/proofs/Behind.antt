@@ -36,7 +36,7 @@ use Rattle.rules_reading.specs.Reading.{
 }
 use Rattle.rules_calls.specs.declared.Least.{Least}
 use Rattle.rules_reading.specs.Leads.{frontLeads, frameLeads, leastFrom, leastOf}
-use Rattle.recorded.specs.Recorded.{whereFound}
+use Rattle.choose_recorded.specs.Recorded.{whereFound}
 use Rattle.common_lines.specs.declared.Line.{Line}
 use Rattle.hearing.specs.declared.Part.{Part}
 use Rattle.hearing.specs.Hearing.{partLeads, PartHeard}

@@ -16,10 +16,10 @@ use Rattle.rules_calls.specs.declared.Front.{Front}
 use Rattle.rules_calls.specs.declared.Front.the-variants.{Refused}
 use Rattle.rules_calls.specs.Headers.{ours, headerOf}
 use Rattle.rules_reading.specs.Reading.{firstUnusable, frontOdd, frontOf}
-use Rattle.recorded.specs.declared.Place.{Place}
-use Rattle.recorded.specs.declared.Place.the-variants.{Nothing, At}
-use Rattle.recorded.specs.Recorded.{whereFound, AllUsable}
-use Rattle.recorded.proofs.Search.{none-usable}
+use Rattle.choose_recorded.specs.declared.Place.{Place}
+use Rattle.choose_recorded.specs.declared.Place.the-variants.{Nothing, At}
+use Rattle.choose_recorded.specs.Recorded.{whereFound, AllUsable}
+use Rattle.choose_recorded.proofs.Search.{none-usable}
 use Rattle.fronts.specs.declared.FrontHeard.{FrontHeard}
 use Rattle.fronts.specs.declared.Opening.{Opening}
 use Rattle.fronts.specs.Openings.{FrontKnown, afterUsable, Opens}

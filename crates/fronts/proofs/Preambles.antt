@@ -33,7 +33,7 @@ use Rattle.rules_frame.specs.Frame.{start, syncBits, preambleLength, frontChips
 use Rattle.rules_reading.specs.Reading.{orElse, oddGrowth, decidedWords, preambleWords, reference, headerPhase}
 use Rattle.rules_calls.specs.declared.Least.{Least}
 use Rattle.rules_reading.specs.Leads.{leastFrom, leastOf}
-use Rattle.recorded.specs.Recorded.{whereFound, symbolAt, DecidedAt, LeadsAt}
+use Rattle.choose_recorded.specs.Recorded.{whereFound, symbolAt, DecidedAt, LeadsAt}
 use Rattle.blocks.specs.declared.Hearing.{Hearing}
 use Rattle.blocks.specs.Heard.{received, plainBits, plainOctets, Heard}
 use Rattle.hearing.specs.declared.Part.{Part}

@@ -44,7 +44,7 @@ use Rattle.rules_reading.specs.Reading.{
 use Rattle.rules_calls.specs.declared.Least.{Least}
 use Rattle.rules_reading.specs.Leads.{decidedLeads, leastFrom}
 use Rattle.rules_reading.proofs.Leads.{front-least}
-use Rattle.recorded.specs.Recorded.{whereFound}
+use Rattle.choose_recorded.specs.Recorded.{whereFound}
 use Rattle.hearing.specs.declared.Part.{Part}
 use Rattle.blocks.specs.Heard.{received, plainBits, Heard}
 use Rattle.hearing.specs.Hearing.{partWords, partLeads, PartHeard}

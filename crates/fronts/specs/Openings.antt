@@ -34,7 +34,7 @@ use Rattle.rules_reading.specs.Reading.{
   wholeOf,
 }
 use Rattle.rules_reading.specs.Leads.{decidedLeads, frontLeads, leastOf}
-use Rattle.recorded.specs.Recorded.{whereFound}
+use Rattle.choose_recorded.specs.Recorded.{whereFound}
 use Rattle.blocks.specs.declared.Hearing.{Hearing}
 use Rattle.fronts.specs.declared.Preamble.{Preamble}
 use Rattle.fronts.specs.declared.FrontHeard.{FrontHeard}

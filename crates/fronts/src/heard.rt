@@ -5,7 +5,7 @@ ghost use lib.ListN.{length, take, drop};
 ghost use Rattle.rules_frame.specs.Frame.{frontChips};
 ghost use Rattle.rules_reading.specs.Leads.{leastOf};
 ghost use Rattle.recorders.specs.Rows.{lent};
-ghost use Rattle.recorded.specs.Recorded.{AllUsable};
+ghost use Rattle.choose_recorded.specs.Recorded.{AllUsable};
 ghost use Rattle.fronts.specs.Openings.{
   syncOctets,
   preambleOctets,

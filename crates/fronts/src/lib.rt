@@ -13,7 +13,7 @@ use rules_frame::Kind;
 use hearing::Part;
 use common_lines::Line;
 use rules_rates::Rate;
-use recorded::Place;
+use choose_recorded::Place;
 use recorders::Recorder;
 
 pub mod heard;

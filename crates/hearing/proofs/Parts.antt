@@ -43,9 +43,9 @@ use Rattle.rules_bits.proofs.Heard.{
 use Rattle.rules_calls.specs.declared.Least.{Least}
 use Rattle.rules_reading.specs.Reading.{orElse, firstOdd, oddGrowth, decidedWords}
 use Rattle.rules_reading.specs.Leads.{decidedLeads, leastFrom}
-use Rattle.recorded.specs.declared.Place.the-variants.{Nothing}
-use Rattle.recorded.specs.Recorded.{whereFound, symbolAt, AllUsable, DecidedAt, LeadsAt}
-use Rattle.recorded.proofs.Search.{usable-part}
+use Rattle.choose_recorded.specs.declared.Place.the-variants.{Nothing}
+use Rattle.choose_recorded.specs.Recorded.{whereFound, symbolAt, AllUsable, DecidedAt, LeadsAt}
+use Rattle.choose_recorded.proofs.Search.{usable-part}
 use Rattle.blocks.specs.declared.Hearing.{Hearing}
 use Rattle.codes.specs.Codes.{AreWords, BlockOf}
 use Rattle.blocks.specs.Heard.{received, plainBits, plainOctets, Heard}

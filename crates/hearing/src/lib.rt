@@ -9,7 +9,7 @@ ghost use Rattle.rules_rates.specs.Rates.{octetSymbols, octetChips};
 ghost use Rattle.rules_reading.specs.Reading.{orElse};
 ghost use Rattle.rules_reading.specs.Leads.{leastFrom};
 ghost use Rattle.recorders.specs.Rows.{lent};
-ghost use Rattle.recorded.specs.Recorded.{whereFound, AllUsable};
+ghost use Rattle.choose_recorded.specs.Recorded.{whereFound, AllUsable};
 ghost use Rattle.codes.specs.Codes.{BlockOf};
 ghost use Rattle.blocks.specs.Heard.{plainOctets, Heard};
 ghost use Rattle.hearing.specs.Hearing.{partWords, partLeads, PartHeard};
@@ -17,7 +17,7 @@ use blocks::Hearing;
 use rules_calls::Least;
 use common_lines::Line;
 use rules_rates::Rate;
-use recorded::Place;
+use choose_recorded::Place;
 use recorders::Recorder;
 
 // A part heard: the line behind it with the place of the first symbol grown by 1 or 3, and the smallest lead so far.

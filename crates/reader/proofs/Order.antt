@@ -22,10 +22,10 @@ use Rattle.rules_calls.specs.declared.Record.{Record}
 use Rattle.rules_calls.specs.Answers.{recordOf}
 use Rattle.rules_reading.specs.Reading.{firstUnusable, payloadOdd, payloadReading, readingOf, octetsAfter, octetsFound}
 use Rattle.rules_reading.specs.Leads.{frameLeads, leastOf}
-use Rattle.recorded.specs.declared.Place.{Place}
-use Rattle.recorded.specs.declared.Place.the-variants.{Nothing, At}
-use Rattle.recorded.specs.Recorded.{whereFound, AllUsable}
-use Rattle.recorded.proofs.Search.{none-usable}
+use Rattle.choose_recorded.specs.declared.Place.{Place}
+use Rattle.choose_recorded.specs.declared.Place.the-variants.{Nothing, At}
+use Rattle.choose_recorded.specs.Recorded.{whereFound, AllUsable}
+use Rattle.choose_recorded.proofs.Search.{none-usable}
 use Rattle.fronts.specs.declared.Opening.{Opening}
 use Rattle.fronts.specs.Openings.{OpensWhole}
 use Rattle.reader.specs.Payloads.{octetsHeard, afterHeard}

@@ -7,7 +7,7 @@ ghost use Rattle.rules_frame.specs.Frame.{frontChips, frameChips};
 ghost use Rattle.rules_reading.specs.Reading.{payloadOdd, payloadReading, octetsAfter};
 ghost use Rattle.rules_reading.specs.Leads.{frontLeads, frameLeads, leastOf};
 ghost use Rattle.recorders.specs.Rows.{lent};
-ghost use Rattle.recorded.specs.Recorded.{whereFound, AllUsable};
+ghost use Rattle.choose_recorded.specs.Recorded.{whereFound, AllUsable};
 ghost use Rattle.fronts.specs.Openings.{Opened};
 ghost use Rattle.reader.specs.Payloads.{octetsHeard, afterHeard};
 use blocks::Hearing;
@@ -19,7 +19,7 @@ use rules_frame::Kind;
 use hearing::Part;
 use common_lines::Line;
 use rules_rates::Rate;
-use recorded::Place;
+use choose_recorded::Place;
 use recorders::Recorder;
 
 // A payload heard: the place of its first symbol grown by 1 or 3 at 1 Mbit/s, and the frame's smallest lead.

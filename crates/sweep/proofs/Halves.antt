@@ -33,10 +33,10 @@ use Rattle.rules_choosing.proofs.Decided.{decided-best}
 use Rattle.choose_sums.specs.Sums.{signed, bySigns, asChip}
 use Rattle.choose_sums.proofs.Four.{score-chip}
 use Rattle.choose_sums.proofs.Apart.{units-barker}
-use Rattle.recorded.specs.Recorded.{hardPart}
-use Rattle.recorded.proofs.HardLeads.{hard-decided}
+use Rattle.choose_recorded.specs.Recorded.{hardPart}
+use Rattle.choose_recorded.proofs.HardLeads.{hard-decided}
 use Rattle.sweep.specs.Sweep.{sideOf, halfOfEleven, halfAt, Sides, halfOf}
-use Rattle.recorded.proofs.Units.{units-part}
+use Rattle.choose_recorded.proofs.Units.{units-part}
 
 -- ---- the choice by two sums
 module _ (i q : ℤ) where

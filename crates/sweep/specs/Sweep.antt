@@ -16,7 +16,7 @@ use Rattle.rules_symbols.specs.Choice.{decided}
 use Rattle.rules_bits.specs.Bits.{_⊕_, numberOf}
 use Rattle.rules_frame.specs.declared.Kind.{Kind}
 use Rattle.rules_frame.specs.Frame.{preambleChips}
-use Rattle.recorded.specs.Recorded.{symbolAt}
+use Rattle.choose_recorded.specs.Recorded.{symbolAt}
 
 -- ---- at a place of a recording
 

@@ -15,7 +15,7 @@ use Rattle.rules_chips.specs.Floats.{countOf}
 use Rattle.rules_chips.specs.Chips.{Taken, takenCounts, softRecording}
 use Rattle.rules_symbols.specs.Choice.{decided}
 use Rattle.rules_reading.specs.Reading.{orElse, firstUnusable}
-use Rattle.recorded.specs.Recorded.{symbolAt}
+use Rattle.choose_recorded.specs.Recorded.{symbolAt}
 use Rattle.recorders.specs.declared.Recorder.{Recorder}
 use Rattle.recorders.specs.declared.Recorder.the-variants.{Hard, Soft, Bytes}
 use Rattle.recorders.specs.Rows.{recordingOf}

@@ -8,7 +8,7 @@ ghost use Rattle.rules_chips.specs.Chips.{softRecording};
 ghost use Rattle.recorders.specs.Rows.{lent};
 ghost use Rattle.timed_leaves.specs.Leaves.{firstWord, decidedSoft, lastWord, recorderOf, decidedLast, CountsRow};
 use rules_rates::Rate;
-use recorded::Place;
+use choose_recorded::Place;
 use recorders::Recorder;
 
 // The smaller of two lengths.

@@ -7,8 +7,8 @@ use lib.ListN.{length}
 use borrow.Author.Needs.{needs}
 use Rattle.choose_axes.specs.declared.Axis.the-variants.{I, Q}
 use Rattle.choose_axes.specs.Axes.{unitsAlong}
-use Rattle.recorded.specs.Columns.{Columns, hardColumn}
-use Rattle.recorded.proofs.Columns.{columns-none, columns-more}
+use Rattle.choose_recorded.specs.Columns.{Columns, hardColumn}
+use Rattle.choose_recorded.proofs.Columns.{columns-none, columns-more}
 use Rattle.hard.proofs.columns.Statement.{statement}
 use Rattle.hard.proofs.columns.Tie as tie
 

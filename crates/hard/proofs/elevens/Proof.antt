@@ -12,7 +12,7 @@ use Rattle.rules_chips.specs.Chips.{hardRecording}
 use Rattle.rules_chips.specs.declared.Counts.{Counts}
 use Rattle.rules_symbols.specs.Choice.{decided, leadOf}
 use Rattle.choose_sums.specs.Sums.{rows, everyRow}
-use Rattle.recorded.proofs.Firsts.{
+use Rattle.choose_recorded.proofs.Firsts.{
   Firsts,
   firsts-none,
   firsts-sixteen,
@@ -21,8 +21,8 @@ use Rattle.recorded.proofs.Firsts.{
   all-decided,
   all-leads,
 }
-use Rattle.recorded.proofs.HardLeads.{unitsAt, number-hard, lead-hard}
-use Rattle.recorded.proofs.Columns.{hard-column}
+use Rattle.choose_recorded.proofs.HardLeads.{unitsAt, number-hard, lead-hard}
+use Rattle.choose_recorded.proofs.Columns.{hard-column}
 use Rattle.hard.proofs.elevens.Statement.{statement}
 use Rattle.hard.proofs.elevens.Tie as tie
 

@@ -11,7 +11,7 @@ use Rattle.rules_rates.proofs.Octets.{part-chips}
 use Rattle.rules_chips.specs.Chips.{Taken}
 use Rattle.rules_reading.specs.Leads.{leastFrom}
 use Rattle.recorders.specs.Rows.{recordingOf}
-use Rattle.recorded.specs.Recorded.{AllUsable}
+use Rattle.choose_recorded.specs.Recorded.{AllUsable}
 use Rattle.recorders.proofs.Rows.{recording-fits}
 use borrow.Author.Needs.{needs}
 use Rattle.blocks.specs.Heard.{plainOctets, Heard}

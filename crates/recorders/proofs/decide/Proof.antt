@@ -1,7 +1,7 @@
 -- `recorders::decide` meets its contract: each rate's own function does.
 -- Assumes nothing.
 use borrow.Author.Needs.{needs}
-use Rattle.recorded.proofs.Firsts.{decided-two, leads-two}
+use Rattle.choose_recorded.proofs.Firsts.{decided-two, leads-two}
 use Rattle.recorders.proofs.decide.Statement.{statement}
 use Rattle.recorders.proofs.decide.Tie as tie
 

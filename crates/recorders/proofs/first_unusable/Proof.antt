@@ -10,7 +10,7 @@ use borrow.Author.Tests.{not-true, not-false}
 use Rattle.rules_chips.specs.Chips.{unusable}
 use Rattle.rules_reading.specs.Reading.{firstUnusable}
 use Rattle.recorders.specs.Rows.{recordingOf}
-use Rattle.recorded.proofs.Search.{search-on, search-here, search-over}
+use Rattle.choose_recorded.proofs.Search.{search-on, search-here, search-over}
 use Rattle.recorders.proofs.first_unusable.Statement.{statement}
 use Rattle.recorders.proofs.first_unusable.Tie as tie
 

@@ -9,7 +9,7 @@ use borrow.Author.Tests.{leb-true}
 use Rattle.rules_reading.specs.Reading.{firstUnusable}
 use Rattle.recorders.specs.Rows.{recordingOf}
 use Rattle.recorders.proofs.Rows.{recording-fits}
-use Rattle.recorded.proofs.Search.{search-past}
+use Rattle.choose_recorded.proofs.Search.{search-past}
 use Rattle.recorders.proofs.skip_clean.Statement.{statement}
 use Rattle.recorders.proofs.skip_clean.Tie as tie
 

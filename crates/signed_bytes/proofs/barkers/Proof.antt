@@ -9,7 +9,7 @@ use borrow.Author.Needs.{needs}
 use Rattle.rules_rates.specs.declared.Rate.the-variants.{One}
 use Rattle.rules_chips.specs.Chips.{byteRecording}
 use Rattle.rules_symbols.specs.Choice.{decided, leadOf}
-use Rattle.recorded.proofs.Firsts.{Firsts, firsts-none, firsts-sixteen, numberAt, all-decided, leads-times}
+use Rattle.choose_recorded.proofs.Firsts.{Firsts, firsts-none, firsts-sixteen, numberAt, all-decided, leads-times}
 use Rattle.signed_bytes.specs.Rows.{barkerAt, barkerBytes}
 use Rattle.signed_bytes.proofs.Units.{barker-units}
 use Rattle.signed_bytes.proofs.Groups.{barker-group}

@@ -11,7 +11,7 @@ use Rattle.rules_rates.specs.declared.Rate.the-variants.{Eleven}
 use Rattle.rules_chips.specs.Chips.{byteRecording}
 use Rattle.rules_chips.specs.declared.Counts.{Counts}
 use Rattle.rules_symbols.specs.Choice.{decided, leadOf}
-use Rattle.recorded.proofs.Firsts.{
+use Rattle.choose_recorded.proofs.Firsts.{
   Firsts,
   firsts-none,
   firsts-sixteen,

@@ -8,9 +8,9 @@ use lib.IntN.{ℤ}
 use Rattle.rules_rates.specs.declared.Rate.the-variants.{Five}
 use Rattle.rules_symbols.specs.Choice.{decided, leadOf}
 use Rattle.choose_sums.specs.Sums.{rows}
-use Rattle.recorded.specs.Recorded.{Put}
+use Rattle.choose_recorded.specs.Recorded.{Put}
 use Rattle.signed_bytes.specs.Rows.{fiveAt}
-use Rattle.recorded.proofs.Sixteen.{put-none, put-more}
+use Rattle.choose_recorded.proofs.Sixteen.{put-none, put-more}
 use Rattle.signed_bytes.proofs.sixteen_fives.Statement.{statement}
 use Rattle.signed_bytes.proofs.sixteen_fives.Tie as tie
 

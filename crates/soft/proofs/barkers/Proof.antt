@@ -8,10 +8,10 @@ use borrow.Author.Needs.{needs}
 use Rattle.rules_rates.specs.declared.Rate.the-variants.{One}
 use Rattle.rules_chips.specs.Chips.{countsOf, softRecording}
 use Rattle.rules_symbols.specs.Choice.{decided, leadOf}
-use Rattle.recorded.specs.Recorded.{symbolAt}
-use Rattle.recorded.proofs.Search.{usable-part}
-use Rattle.recorded.proofs.Gathered.{gathered-soft, usable-soft}
-use Rattle.recorded.proofs.Firsts.{Firsts, firsts-none, firsts-more, numberAt, leadAt, all-decided, all-leads}
+use Rattle.choose_recorded.specs.Recorded.{symbolAt}
+use Rattle.choose_recorded.proofs.Search.{usable-part}
+use Rattle.choose_recorded.proofs.Gathered.{gathered-soft, usable-soft}
+use Rattle.choose_recorded.proofs.Firsts.{Firsts, firsts-none, firsts-more, numberAt, leadAt, all-decided, all-leads}
 use Rattle.soft.proofs.barkers.Statement.{statement}
 use Rattle.soft.proofs.barkers.Tie as tie
 

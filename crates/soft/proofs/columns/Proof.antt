@@ -9,10 +9,10 @@ use Rattle.choose_axes.specs.declared.Axis.the-variants.{I, Q}
 use Rattle.choose_axes.specs.Axes.{countsAlong, AllSoft}
 use Rattle.rules_choosing.specs.Scores.{RowWithin}
 use Rattle.choose_sums.proofs.Apart.{counts-small}
-use Rattle.recorded.specs.Columns.{Columns, softColumn}
-use Rattle.recorded.proofs.Search.{usable-part}
-use Rattle.recorded.proofs.Gathered.{usable-soft}
-use Rattle.recorded.proofs.Columns.{columns-none, columns-more, column-within}
+use Rattle.choose_recorded.specs.Columns.{Columns, softColumn}
+use Rattle.choose_recorded.proofs.Search.{usable-part}
+use Rattle.choose_recorded.proofs.Gathered.{usable-soft}
+use Rattle.choose_recorded.proofs.Columns.{columns-none, columns-more, column-within}
 use Rattle.soft.proofs.columns.Statement.{statement}
 use Rattle.soft.proofs.columns.Tie as tie
 

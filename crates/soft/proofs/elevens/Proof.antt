@@ -11,9 +11,9 @@ use Rattle.rules_chips.specs.Chips.{softRecording}
 use Rattle.rules_symbols.specs.Choice.{decided, leadOf}
 use Rattle.rules_choosing.specs.Scores.{RowWithin}
 use Rattle.choose_sums.specs.Sums.{rows, everyRow}
-use Rattle.recorded.specs.Recorded.{symbolAt}
-use Rattle.recorded.proofs.Search.{usable-part}
-use Rattle.recorded.proofs.Firsts.{
+use Rattle.choose_recorded.specs.Recorded.{symbolAt}
+use Rattle.choose_recorded.proofs.Search.{usable-part}
+use Rattle.choose_recorded.proofs.Firsts.{
   Firsts,
   firsts-none,
   firsts-sixteen,
@@ -22,7 +22,7 @@ use Rattle.recorded.proofs.Firsts.{
   all-decided,
   all-leads,
 }
-use Rattle.recorded.proofs.Columns.{zeros-within, soft-column}
+use Rattle.choose_recorded.proofs.Columns.{zeros-within, soft-column}
 use Rattle.soft.proofs.elevens.Statement.{statement}
 use Rattle.soft.proofs.elevens.Tie as tie
 

@@ -8,8 +8,8 @@ use lib.IntN.{pos}
 use borrow.Author.Needs.{needs}
 use mir.Syntax.{w32}
 use mir.Val.{toZ, ofZ}
-use Rattle.recorded.specs.Columns.{ColumnSet}
-use Rattle.recorded.proofs.Columns.{column-none, column-more}
+use Rattle.choose_recorded.specs.Columns.{ColumnSet}
+use Rattle.choose_recorded.proofs.Columns.{column-none, column-more}
 use Rattle.soft.proofs.put_column.Statement.{statement}
 use Rattle.soft.proofs.put_column.Tie as tie
 

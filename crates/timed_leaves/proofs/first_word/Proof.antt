@@ -12,11 +12,11 @@ use Rattle.rules_rates.specs.Rates.{symbolChips}
 use Rattle.rules_chips.specs.Chips.{Taken, takenCounts, softRecording}
 use Rattle.rules_symbols.specs.Choice.{decided}
 use Rattle.rules_reading.specs.Reading.{firstUnusable}
-use Rattle.recorded.specs.declared.Place.{Place}
-use Rattle.recorded.specs.declared.Place.the-variants.{Nothing, At}
-use Rattle.recorded.specs.Recorded.{whereFound, AllUsable, DecidedAt}
+use Rattle.choose_recorded.specs.declared.Place.{Place}
+use Rattle.choose_recorded.specs.declared.Place.the-variants.{Nothing, At}
+use Rattle.choose_recorded.specs.Recorded.{whereFound, AllUsable, DecidedAt}
 use Rattle.timed_leaves.specs.Leaves.{firstWord}
-use Rattle.recorded.proofs.Searched.{bad, good, usable}
+use Rattle.choose_recorded.proofs.Searched.{bad, good, usable}
 use Rattle.timed_leaves.proofs.first_word.Statement.{statement}
 use Rattle.timed_leaves.proofs.first_word.Tie as tie
 

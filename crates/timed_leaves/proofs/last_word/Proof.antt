@@ -7,7 +7,7 @@ use borrow.Author.Needs.{needs}
 use Rattle.rules_chips.specs.Chips.{Taken}
 use Rattle.recorders.specs.Rows.{recordingOf}
 use Rattle.timed_leaves.specs.Leaves.{lastWord}
-use Rattle.recorded.proofs.Searched.{bad, good, usable}
+use Rattle.choose_recorded.proofs.Searched.{bad, good, usable}
 use Rattle.timed_leaves.proofs.last_word.Statement.{statement}
 use Rattle.timed_leaves.proofs.last_word.Tie as tie
 

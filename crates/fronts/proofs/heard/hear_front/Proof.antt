@@ -10,8 +10,8 @@ use Rattle.rules_chips.specs.Chips.{Taken}
 use Rattle.rules_frame.specs.declared.Kind.{Kind}
 use Rattle.rules_frame.specs.declared.Kind.the-variants.{Long, Short}
 use Rattle.rules_frame.specs.Frame.{frontChips, headerRate, preambleChips}
-use Rattle.recorded.specs.Recorded.{AllUsable}
-use Rattle.recorded.proofs.Search.{usable-part}
+use Rattle.choose_recorded.specs.Recorded.{AllUsable}
+use Rattle.choose_recorded.proofs.Search.{usable-part}
 use Rattle.rules_calls.specs.declared.Least.{Least}
 use Rattle.hearing.specs.declared.Part.{Part}
 use Rattle.hearing.specs.Hearing.{PartHeard}

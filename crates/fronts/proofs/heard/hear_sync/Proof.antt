@@ -9,7 +9,7 @@ use Rattle.rules_frame.specs.declared.Kind.{Kind}
 use Rattle.rules_frame.specs.declared.Kind.the-variants.{Long, Short}
 use Rattle.rules_frame.specs.Frame.{frontChips}
 use Rattle.recorders.specs.Rows.{recordingOf}
-use Rattle.recorded.proofs.Search.{usable-part}
+use Rattle.choose_recorded.proofs.Search.{usable-part}
 use Rattle.hearing.proofs.Parts.{block-are-words}
 use borrow.Author.Needs.{needs}
 use Rattle.fronts.specs.Openings.{syncOctets}

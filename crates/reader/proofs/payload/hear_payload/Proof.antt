@@ -16,8 +16,8 @@ use Rattle.rules_frame.specs.Frame.{frontChips, frameChips}
 use Rattle.rules_reading.specs.Reading.{payloadOdd, payloadOf}
 use Rattle.rules_calls.specs.declared.Least.{Least}
 use Rattle.rules_reading.specs.Leads.{frontLeads, frameLeads, leastOf}
-use Rattle.recorded.specs.declared.Place.the-variants.{Nothing, At}
-use Rattle.recorded.specs.Recorded.{whereFound, AllUsable}
+use Rattle.choose_recorded.specs.declared.Place.the-variants.{Nothing, At}
+use Rattle.choose_recorded.specs.Recorded.{whereFound, AllUsable}
 use Rattle.hearing.specs.declared.Part.{Part}
 use Rattle.hearing.specs.Hearing.{PartHeard}
 use Rattle.hearing.proofs.Parts.{few-symbols}

@@ -13,7 +13,7 @@ use Rattle.rules_chips.specs.declared.Chip.{Chip}
 use Rattle.rules_chips.specs.declared.Chip.the-variants.{Lost, Hard}
 use Rattle.rules_chips.specs.Chips.{fullChip, hardChip}
 use Rattle.choose_axes.specs.Axes.{along, octetOf, unitOf, unitsAlong}
-use Rattle.recorded.specs.Recorded.{hardPart}
+use Rattle.choose_recorded.specs.Recorded.{hardPart}
 
 octet-back : (x : ℕ) → octetOf (hardChip x) ≡ x
 octet-back x = by (eqb x 4) (eqb-true x 4)

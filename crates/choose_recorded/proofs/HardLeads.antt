@@ -14,9 +14,9 @@ use Rattle.rules_chips.specs.Chips.{takenCounts, hardChip, hardRecording}
 use Rattle.choose_axes.specs.Axes.{unitOf}
 use Rattle.rules_symbols.specs.Choice.{decided, leadOf}
 use Rattle.choose_sums.proofs.Apart.{units-decided, units-lead}
-use Rattle.recorded.specs.Recorded.{hardPart}
-use Rattle.recorded.proofs.Gathered.{gathered-hard, all-hard}
-use Rattle.recorded.proofs.Firsts.{numberAt, leadAt}
+use Rattle.choose_recorded.specs.Recorded.{hardPart}
+use Rattle.choose_recorded.proofs.Gathered.{gathered-hard, all-hard}
+use Rattle.choose_recorded.proofs.Firsts.{numberAt, leadAt}
 
 -- ---- one symbol
 module _ (n : ℕ) (r : Rate) (xs : List ℕ) (at : ℕ) (h : at + n ≤ length xs) where

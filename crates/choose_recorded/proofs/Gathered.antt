@@ -22,7 +22,7 @@ use Rattle.rules_chips.specs.Chips.{
 }
 use Rattle.choose_axes.specs.Axes.{isHard, AllSoft, AllHard}
 use Rattle.rules_chips.proofs.Recorders.{sample, taken-soft, length-soft, getD-soft, part-taken, part-hard}
-use Rattle.recorded.specs.Recorded.{hardPart, softPart, AllUsable}
+use Rattle.choose_recorded.specs.Recorded.{hardPart, softPart, AllUsable}
 use Rattle.rules_chips.proofs.Usable.{soft-at}
 
 -- ---- the counts

@@ -18,7 +18,7 @@ use lib.ListN.{length, getD, take, drop}
 use lib.Seq.{drop-cons}
 use Rattle.rules_chips.specs.Chips.{Taken, unusable, isUnusable}
 use Rattle.rules_reading.specs.Reading.{firstUnusable}
-use Rattle.recorded.specs.Recorded.{AllUsable}
+use Rattle.choose_recorded.specs.Recorded.{AllUsable}
 
 -- the part of a recording from one place to another begins with the chip at the first
 part-cons : (rec : List Taken) (at to : ℕ) (d : Taken) → at < to → to ≤ length rec

@@ -7,7 +7,7 @@ use native.Mathlib.Decide.{decLt}
 use native.Mathlib.Omega.{arith}
 use lib.ListN.{length, getD, set, length-set}
 use lib.Seq.{getD-set-same, getD-set-other}
-use Rattle.recorded.specs.Recorded.{Put}
+use Rattle.choose_recorded.specs.Recorded.{Put}
 
 -- ---- one number more
 pub put-none : {f : ℕ → ℕ} {l : ℕ} (ns : List ℕ) → length ns ≡ 64 → Put f l ns ns 0

@@ -16,8 +16,8 @@ use Rattle.rules_chips.specs.declared.Chip.{Chip}
 use Rattle.rules_chips.specs.declared.Chip.the-variants as chip
 use Rattle.rules_chips.specs.Chips.{Taken, unusable, isUnusable, takenCounts, hardChip}
 use Rattle.rules_symbols.specs.Choice.{decided, leadOf}
-use Rattle.recorded.specs.declared.Place.{Place}
-use Rattle.recorded.specs.declared.Place.the-variants.{Nothing, At}
+use Rattle.choose_recorded.specs.declared.Place.{Place}
+use Rattle.choose_recorded.specs.declared.Place.the-variants.{Nothing, At}
 
 -- a place found, as the definitions of reading have it
 abbrev pub whereFound : Place → Option ℕ

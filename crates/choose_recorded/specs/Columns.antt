@@ -11,7 +11,7 @@ use lib.Ieee.{Float}
 use Rattle.choose_axes.specs.declared.Axis.{Axis}
 use Rattle.choose_axes.specs.Axes.{countsAlong, unitsAlong}
 use Rattle.choose_sums.specs.Sums.{everyRow}
-use Rattle.recorded.specs.Recorded.{hardPart, softPart}
+use Rattle.choose_recorded.specs.Recorded.{hardPart, softPart}
 
 -- the first n chips of column l are the numbers x of I and y of Q; the other columns of after are those of before
 pub record ColumnSet (x y : List ℤ) (l : ℕ) (before : List ℤ) (n : ℕ) (after : List ℤ) : Type 0 where

@@ -33,9 +33,9 @@ use Rattle.rules_chips.specs.Chips.{takenCounts, softRecording}
 use Rattle.rules_choosing.specs.Scores.{RowWithin}
 use Rattle.choose_sums.specs.Sums.{rows, everyRow}
 use Rattle.choose_sums.proofs.Apart.{counts-eight, units-rows}
-use Rattle.recorded.specs.Recorded.{hardPart, softPart}
-use Rattle.recorded.specs.Columns.{ColumnSet, Columns, hardColumn, softColumn}
-use Rattle.recorded.proofs.Gathered.{gathered-soft}
+use Rattle.choose_recorded.specs.Recorded.{hardPart, softPart}
+use Rattle.choose_recorded.specs.Columns.{ColumnSet, Columns, hardColumn, softColumn}
+use Rattle.choose_recorded.proofs.Gathered.{gathered-soft}
 
 abbrev at : List ℤ → ℕ → ℤ
 at row j = getD row j (pos 0)

@@ -8,10 +8,10 @@ use native.Mathlib.Omega.{arith}
 use lib.ListN.{length, take, drop}
 use Rattle.rules_chips.specs.Chips.{Taken}
 use Rattle.rules_reading.specs.Reading.{orElse, firstUnusable}
-use Rattle.recorded.specs.declared.Place.{Place}
-use Rattle.recorded.specs.declared.Place.the-variants.{Nothing, At}
-use Rattle.recorded.specs.Recorded.{whereFound, AllUsable}
-use Rattle.recorded.proofs.Search.{none-usable}
+use Rattle.choose_recorded.specs.declared.Place.{Place}
+use Rattle.choose_recorded.specs.declared.Place.the-variants.{Nothing, At}
+use Rattle.choose_recorded.specs.Recorded.{whereFound, AllUsable}
+use Rattle.choose_recorded.proofs.Search.{none-usable}
 
 module _ (rec : List Taken) (n : ℕ) (f : Place) (g : whereFound f ≡ firstUnusable 0 (take (n - 0) (drop 0 rec))) where
   searched : firstUnusable 0 (take n rec) ≡ whereFound f

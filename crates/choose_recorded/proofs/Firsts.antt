@@ -17,7 +17,7 @@ use Rattle.rules_chips.specs.Chips.{Taken}
 use Rattle.rules_symbols.specs.Choice.{decided, leadOf}
 use Rattle.rules_choosing.proofs.Decided.{decided-barker}
 use Rattle.rules_choosing.proofs.Leads.{lead-barker}
-use Rattle.recorded.specs.Recorded.{symbolAt, DecidedAt, LeadsAt, Put}
+use Rattle.choose_recorded.specs.Recorded.{symbolAt, DecidedAt, LeadsAt, Put}
 
 module _ (g : ℕ → ℕ) (m : ℕ) where
   pub record Firsts (ns : List ℕ) (l : ℕ) : Type 0 where
