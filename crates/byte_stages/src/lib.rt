@@ -8,7 +8,7 @@ ghost use lib.ListN.{length};
 ghost use lib.IntN.{pos, _+ℤ_, _*ℤ_};
 ghost use Rattle.base.specs.Whole.{Within};
 ghost use Rattle.rules_choosing.specs.Scores.{RowWithin};
-ghost use Rattle.walsh.specs.Rows.{FourWithin, FourScaled, RowBounded, RowsBounded, Entered, Flown, Paired};
+ghost use Rattle.choose_walsh.specs.Rows.{FourWithin, FourScaled, RowBounded, RowsBounded, Entered, Flown, Paired};
 
 // A byte times a factor, and more.
 fn scaled(b: i8, times: i16, more: i16) -> i16

@@ -8,8 +8,8 @@ ghost use lib.Signed.{ltZ};
 ghost use Rattle.base.specs.Whole.{Within};
 ghost use Rattle.rules_chips.specs.Bounds.{Bounded};
 ghost use Rattle.rules_chips.specs.Chips.{pair};
-ghost use Rattle.walsh.specs.Turns.{plus, sided, credit, fourTop, fourNext, topOf, nextOf};
-ghost use Rattle.walsh.specs.Search.{held, merged, met, fourMore};
+ghost use Rattle.choose_walsh.specs.Turns.{plus, sided, credit, fourTop, fourNext, topOf, nextOf};
+ghost use Rattle.choose_walsh.specs.Search.{held, merged, met, fourMore};
 
 // Two keys of a group: the largest, and the next.
 struct Two {

@@ -8,7 +8,7 @@ ghost use lib.ListN.{length};
 ghost use lib.IntN.{pos, _+ℤ_, _*ℤ_};
 ghost use Rattle.base.specs.Whole.{Within};
 ghost use Rattle.rules_choosing.specs.Scores.{RowWithin};
-ghost use Rattle.walsh.specs.Rows.{FourScaled, RowBounded, RowsBounded, Entered, Flown, Paired};
+ghost use Rattle.choose_walsh.specs.Rows.{FourScaled, RowBounded, RowsBounded, Entered, Flown, Paired};
 
 // A count times a factor, and more.
 fn scaled(c: i32, times: i32, more: i32) -> i32

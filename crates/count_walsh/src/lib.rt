@@ -8,8 +8,8 @@ ghost use lib.IntN.{pos, negsuc};
 ghost use lib.Signed.{nonNeg, _≤ℤ_};
 ghost use Rattle.rules_choosing.specs.Scores.{RowWithin};
 ghost use Rattle.choose_recorded.specs.Recorded.{Put};
-ghost use Rattle.walsh.specs.Rows.{elevenAt, elevenLead, RowsBounded};
-ghost use Rattle.walsh.specs.Search.{Sought, Keyed, wordOfKey, leadOfKeys};
+ghost use Rattle.choose_walsh.specs.Rows.{elevenAt, elevenLead, RowsBounded};
+ghost use Rattle.choose_walsh.specs.Search.{Sought, Keyed, wordOfKey, leadOfKeys};
 
 mod groups;
 

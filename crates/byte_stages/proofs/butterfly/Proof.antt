@@ -7,8 +7,8 @@ use lib.Dec.{lit<}
 use lib.ListN.{length, length-set}
 use mir.Syntax.{w16, w64}
 use mir.Val.{Fits}
-use Rattle.walsh.specs.Rows.{rowAt, Flown}
-use Rattle.walsh.proofs.Flights.{Flight, flight, flown-none, flown-eight}
+use Rattle.choose_walsh.specs.Rows.{rowAt, Flown}
+use Rattle.choose_walsh.proofs.Flights.{Flight, flight, flown-none, flown-eight}
 use Rattle.byte_stages.proofs.butterfly.Statement.{statement}
 use Rattle.byte_stages.proofs.butterfly.Tie as tie
 

@@ -13,8 +13,8 @@ use borrow.Author.Needs.{needs}
 use Rattle.base.specs.Whole.{Within}
 use Rattle.base.proofs.Whole.{small, within-zero}
 use Rattle.base.proofs.Adding.{within-pos}
-use Rattle.walsh.specs.Rows.{FourWithin, FourScaled}
-use Rattle.walsh.proofs.Stages.{scaled-none, scaled-four, four-none, four-more}
+use Rattle.choose_walsh.specs.Rows.{FourWithin, FourScaled}
+use Rattle.choose_walsh.proofs.Stages.{scaled-none, scaled-four, four-none, four-more}
 use Rattle.byte_stages.proofs.four.Statement.{statement}
 use Rattle.byte_stages.proofs.four.Tie as tie
 

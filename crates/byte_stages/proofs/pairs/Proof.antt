@@ -3,7 +3,7 @@
 use mathlib.Core.Path.{refl, _∙_}
 use lib.Dec.{lit<, lit≤}
 use borrow.Author.Needs.{needs}
-use Rattle.walsh.proofs.Stages.{row-of, paired}
+use Rattle.choose_walsh.proofs.Stages.{row-of, paired}
 use Rattle.byte_stages.proofs.pairs.Statement.{statement}
 use Rattle.byte_stages.proofs.pairs.Tie as tie
 

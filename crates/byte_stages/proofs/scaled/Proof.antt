@@ -7,7 +7,7 @@ use mir.Val.{toZ, ofZ}
 use mir.Facts.{toZ-ofZ}
 use Rattle.base.proofs.Whole.{byte-within}
 use Rattle.base.proofs.Adding.{Reads, made-fits, made}
-use Rattle.walsh.proofs.Stages.{product-fits, raised-fits, raised-is}
+use Rattle.choose_walsh.proofs.Stages.{product-fits, raised-fits, raised-is}
 use Rattle.byte_stages.proofs.scaled.Statement.{statement}
 use Rattle.byte_stages.proofs.scaled.Tie as tie
 

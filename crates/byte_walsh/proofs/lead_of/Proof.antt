@@ -11,7 +11,7 @@ use mir.Syntax.{w16, w32}
 use mir.Val.{Fits, SFits, toZ, ofZ}
 use borrow.Author.Needs.{needs}
 use Rattle.rules_choosing.specs.Keys.{larger}
-use Rattle.walsh.proofs.Machine.{size-of-first, size-of-next, next-natural, next-under}
+use Rattle.choose_walsh.proofs.Machine.{size-of-first, size-of-next, next-natural, next-under}
 use Rattle.byte_walsh.proofs.lead_of.Statement.{statement}
 use Rattle.byte_walsh.proofs.lead_of.Tie as tie
 

@@ -5,7 +5,7 @@ use lib.Dec.{lit≤}
 use borrow.Author.Needs.{needs}
 use Rattle.base.proofs.Whole.{within-zero, within-neg}
 use Rattle.base.proofs.Adding.{within-pos}
-use Rattle.walsh.proofs.Stages.{entered}
+use Rattle.choose_walsh.proofs.Stages.{entered}
 use Rattle.count_stages.proofs.enter.Statement.{statement}
 use Rattle.count_stages.proofs.enter.Tie as tie
 

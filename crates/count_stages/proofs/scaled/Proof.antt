@@ -4,7 +4,7 @@ use lib.Dec.{lit<}
 use mir.Syntax.{w32}
 use mir.Val.{ofZ}
 use Rattle.base.proofs.Adding.{Reads, reads-of}
-use Rattle.walsh.proofs.Stages.{product-fits, raised-fits, raised-is}
+use Rattle.choose_walsh.proofs.Stages.{product-fits, raised-fits, raised-is}
 use Rattle.count_stages.proofs.scaled.Statement.{statement}
 use Rattle.count_stages.proofs.scaled.Tie as tie
 

@@ -10,7 +10,7 @@ use mir.Syntax.{w32, w32}
 use mir.Val.{SFits, toZ, ofZ}
 use borrow.Author.Needs.{needs}
 use Rattle.rules_choosing.specs.Keys.{larger}
-use Rattle.walsh.proofs.Machine.{size-of-first, size-of-next, next-natural, next-under}
+use Rattle.choose_walsh.proofs.Machine.{size-of-first, size-of-next, next-natural, next-under}
 use Rattle.count_walsh.proofs.lead_of.Statement.{statement}
 use Rattle.count_walsh.proofs.lead_of.Tie as tie
 

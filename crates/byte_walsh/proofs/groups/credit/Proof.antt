@@ -5,7 +5,7 @@ use mir.Syntax.{w16}
 use mir.Val.{ofZ}
 use borrow.Author.Needs.{needs}
 use Rattle.base.proofs.Adding.{Reads, reads-of}
-use Rattle.walsh.proofs.Machine.{two-minus-fits, credit-is}
+use Rattle.choose_walsh.proofs.Machine.{two-minus-fits, credit-is}
 use Rattle.byte_walsh.proofs.groups.credit.Statement.{statement}
 use Rattle.byte_walsh.proofs.groups.credit.Tie as tie
 

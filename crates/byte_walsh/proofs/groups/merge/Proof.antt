@@ -7,7 +7,7 @@ use mir.Syntax.{w16}
 use mir.Val.{toZ, ofZ}
 use borrow.Author.Needs.{needs}
 use Rattle.rules_choosing.specs.Keys.{larger, smaller}
-use Rattle.walsh.specs.Search.{held, merged}
+use Rattle.choose_walsh.specs.Search.{held, merged}
 use Rattle.byte_walsh.proofs.groups.merge.Statement.{statement}
 use Rattle.byte_walsh.proofs.groups.merge.Tie as tie
 

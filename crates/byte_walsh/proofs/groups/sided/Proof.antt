@@ -8,7 +8,7 @@ use mir.Syntax.{w16}
 use mir.Val.{toZ, ofZ}
 use borrow.Author.Needs.{needs}
 use Rattle.base.proofs.Whole.{neg-fits, neg-read}
-use Rattle.walsh.specs.Turns.{sided}
+use Rattle.choose_walsh.specs.Turns.{sided}
 use Rattle.byte_walsh.proofs.groups.sided.Statement.{statement}
 use Rattle.byte_walsh.proofs.groups.sided.Tie as tie
 

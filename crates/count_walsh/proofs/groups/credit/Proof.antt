@@ -7,8 +7,8 @@ use mir.Syntax.{w32}
 use mir.Val.{toZ, ofZ}
 use borrow.Author.Needs.{needs}
 use Rattle.base.proofs.Adding.{Reads, made-fits, made, reads-of}
-use Rattle.walsh.specs.Turns.{credit}
-use Rattle.walsh.proofs.Machine.{reads-credit, credit-by}
+use Rattle.choose_walsh.specs.Turns.{credit}
+use Rattle.choose_walsh.proofs.Machine.{reads-credit, credit-by}
 use Rattle.count_walsh.proofs.groups.credit.Statement.{statement}
 use Rattle.count_walsh.proofs.groups.credit.Tie as tie
 

@@ -9,8 +9,8 @@ use borrow.Author.Needs.{needs}
 use Rattle.base.proofs.Whole.{within-more, within-read}
 use Rattle.rules_choosing.specs.Keys.{larger, smaller}
 use Rattle.base.proofs.Adding.{Reads, reads-of, reads-fits, reads-add, less-fits, reads-less}
-use Rattle.walsh.specs.Turns.{sided, credit, fourTop, fourNext}
-use Rattle.walsh.proofs.Machine.{
+use Rattle.choose_walsh.specs.Turns.{sided, credit, fourTop, fourNext}
+use Rattle.choose_walsh.proofs.Machine.{
   reads-more,
   reads-abs,
   reads-const,

@@ -8,7 +8,7 @@ use mir.Val.{toZ, ofZ}
 use borrow.Author.Needs.{needs}
 use Rattle.rules_choosing.specs.Keys.{smaller}
 use Rattle.base.proofs.Adding.{Reads, made-fits, made, reads-of, reads-fits, reads-add}
-use Rattle.walsh.proofs.Machine.{reads-smaller, left-over}
+use Rattle.choose_walsh.proofs.Machine.{reads-smaller, left-over}
 use Rattle.count_walsh.proofs.groups.lower.Statement.{statement}
 use Rattle.count_walsh.proofs.groups.lower.Tie as tie
 

@@ -35,8 +35,8 @@ use Rattle.rules_chips.specs.declared.Counts.{Counts}
 use Rattle.rules_choosing.specs.Keys.{larger, smaller}
 use Rattle.base.proofs.Adding.{Reads, made-fits, made, within-pos}
 use Rattle.rules_choosing.proofs.Wide.{abs-le}
-use Rattle.walsh.specs.Turns.{sided, credit, fourTop, fourNext}
-use Rattle.walsh.specs.Search.{Held, met, sizeOf}
+use Rattle.choose_walsh.specs.Turns.{sided, credit, fourTop, fourNext}
+use Rattle.choose_walsh.specs.Search.{Held, met, sizeOf}
 
 within-one : {c : ℕ} {u v : ℤ} (t : Bool) → Within c u → Within c v → Within c (cond t u v)
 within-one true h k = h

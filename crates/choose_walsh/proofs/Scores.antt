@@ -16,9 +16,9 @@ use Rattle.rules_symbols.specs.Words.{cckWord}
 use Rattle.rules_symbols.specs.Choice.{term, score}
 use Rattle.rules_choosing.proofs.Scaled.{k-add, term-times}
 use Rattle.choose_sums.specs.Sums.{rows, everyRow}
-use Rattle.walsh.specs.Turns.{back, fly}
-use Rattle.walsh.specs.Rows.{rowAt, entering, Entered, Paired, evens, odds}
-use Rattle.walsh.proofs.Turns.{even, odd, walsh}
+use Rattle.choose_walsh.specs.Turns.{back, fly}
+use Rattle.choose_walsh.specs.Rows.{rowAt, entering, Entered, Paired, evens, odds}
+use Rattle.choose_walsh.proofs.Turns.{even, odd, walsh}
 
 abbrev times : ℤ → ℤ
 times z = pos 16 *ℤ z

@@ -24,11 +24,11 @@ use Rattle.rules_choosing.proofs.HalfTurns.{cck-half}
 use Rattle.rules_choosing.proofs.KeyLaws.{Better, better, number-below}
 use Rattle.choose_sums.specs.Sums.{rows, everyRow}
 use Rattle.rules_choosing.proofs.Wide.{key-abs}
-use Rattle.walsh.specs.Rows.{Entered, Paired, evens, odds}
-use Rattle.walsh.proofs.Turns.{turn}
-use Rattle.walsh.proofs.Tops.{Lifted, sides}
-use Rattle.walsh.proofs.Groups.{keyIn, Raised}
-use Rattle.walsh.proofs.Scores.{column-sum}
+use Rattle.choose_walsh.specs.Rows.{Entered, Paired, evens, odds}
+use Rattle.choose_walsh.proofs.Turns.{turn}
+use Rattle.choose_walsh.proofs.Tops.{Lifted, sides}
+use Rattle.choose_walsh.proofs.Groups.{keyIn, Raised}
+use Rattle.choose_walsh.proofs.Scores.{column-sum}
 
 -- ---- one key of two
 joined : (m g : ℕ) (z : ℤ) → m < 8 → g < 16 → keyOf 128 (16 * m + g) z ≡ 16 * keyOf 8 m z + (15 - g)

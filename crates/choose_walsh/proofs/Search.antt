@@ -19,9 +19,9 @@ use Rattle.base.specs.Whole.{up, dn}
 use Rattle.base.proofs.Whole.{add, neg-up, neg-dn, up-pos, dn-pos, le-of, lt-of, of-le, of-lt}
 use Rattle.rules_chips.specs.declared.Counts.{Counts}
 use Rattle.rules_choosing.specs.Keys.{larger}
-use Rattle.walsh.specs.Turns.{sided, credit, fourTop, topOf, nextOf}
-use Rattle.walsh.specs.Rows.{rowAt, evens, odds}
-use Rattle.walsh.specs.Search.{
+use Rattle.choose_walsh.specs.Turns.{sided, credit, fourTop, topOf, nextOf}
+use Rattle.choose_walsh.specs.Rows.{rowAt, evens, odds}
+use Rattle.choose_walsh.specs.Search.{
   groupTop,
   groupNext,
   Held,

@@ -14,7 +14,7 @@ use Rattle.rules_chips.specs.Bounds.{Bounded}
 use Rattle.rules_symbols.specs.Words.{cckWord}
 use Rattle.rules_symbols.specs.Choice.{term, score}
 use Rattle.rules_choosing.proofs.Clean.{phase}
-use Rattle.walsh.specs.Turns.{plus, back, fly}
+use Rattle.choose_walsh.specs.Turns.{plus, back, fly}
 
 -- by cases of a number below eight
 pub eight-cases : (P : ℕ → Type 0) → P 0 → P 1 → P 2 → P 3 → P 4 → P 5 → P 6 → P 7 → (m : ℕ) → m < 8 → P m

@@ -37,8 +37,8 @@ use Rattle.base.proofs.Adding.{
   within-mul,
 }
 use Rattle.rules_choosing.proofs.Clean.{phase}
-use Rattle.walsh.specs.Turns.{fly}
-use Rattle.walsh.specs.Rows.{
+use Rattle.choose_walsh.specs.Turns.{fly}
+use Rattle.choose_walsh.specs.Rows.{
   rowAt,
   RowBounded,
   RowsBounded,
@@ -53,7 +53,7 @@ use Rattle.walsh.specs.Rows.{
   Paired,
 }
 use Rattle.base.proofs.Puts.{puts, length-puts, puts-other, puts-at}
-use Rattle.walsh.proofs.Turns.{turn, fly-bounded, eight-cases}
+use Rattle.choose_walsh.proofs.Turns.{turn, fly-bounded, eight-cases}
 
 -- ---- chips that enter
 -- a number of any width times a factor, and more

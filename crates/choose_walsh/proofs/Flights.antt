@@ -16,8 +16,8 @@ use Rattle.rules_chips.specs.Chips.{pair}
 use Rattle.rules_chips.specs.Bounds.{Bounded}
 use Rattle.base.proofs.Adding.{Reads, reads-of, reads-fits, reads-add, less-fits, reads-less}
 use Rattle.rules_choosing.proofs.Clean.{phase}
-use Rattle.walsh.specs.Turns.{fly}
-use Rattle.walsh.specs.Rows.{rowAt, Flown}
+use Rattle.choose_walsh.specs.Turns.{fly}
+use Rattle.choose_walsh.specs.Rows.{rowAt, Flown}
 use Rattle.base.proofs.Puts.{puts, length-puts, puts-other, puts-at}
 
 -- ---- one column more

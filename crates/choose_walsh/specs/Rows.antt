@@ -14,7 +14,7 @@ use Rattle.rules_chips.specs.Bounds.{Bounded}
 use Rattle.rules_rates.specs.declared.Rate.the-variants.{Eleven}
 use Rattle.rules_symbols.specs.Choice.{decided, leadOf}
 use Rattle.choose_sums.specs.Sums.{rows, everyRow}
-use Rattle.walsh.specs.Turns.{fly}
+use Rattle.choose_walsh.specs.Turns.{fly}
 
 -- what symbol l of sixteen abreast is decided as
 abbrev pub elevenAt : List ℤ → ℕ → ℕ

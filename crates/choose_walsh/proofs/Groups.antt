@@ -24,8 +24,8 @@ use Rattle.rules_symbols.specs.Choice.{term}
 use Rattle.rules_choosing.specs.Keys.{bigger, lesser, Largest}
 use Rattle.base.proofs.Adding.{times-up, times-dn}
 use Rattle.rules_choosing.proofs.Clean.{phase}
-use Rattle.walsh.specs.Turns.{fly, fourTop, fourNext, topOf, nextOf}
-use Rattle.walsh.proofs.Tops.{
+use Rattle.choose_walsh.specs.Turns.{fly, fourTop, fourNext, topOf, nextOf}
+use Rattle.choose_walsh.proofs.Tops.{
   Lifted,
   lifted-move,
   lifted-add,

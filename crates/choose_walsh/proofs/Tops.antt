@@ -20,8 +20,8 @@ use Rattle.base.specs.Whole.{up, dn}
 use Rattle.base.proofs.Whole.{add, neg-up, neg-dn, up-pos, dn-pos, of-lt, of-le}
 use Rattle.rules_choosing.specs.Keys.{larger, smaller, bigger, lesser, Largest}
 use Rattle.rules_choosing.proofs.Clean.{phase}
-use Rattle.walsh.specs.Turns.{sided, credit}
-use Rattle.walsh.proofs.Turns.{eight-cases}
+use Rattle.choose_walsh.specs.Turns.{sided, credit}
+use Rattle.choose_walsh.proofs.Turns.{eight-cases}
 
 -- z and c more is n
 pub record Lifted (c n : ℕ) (z : ℤ) : Type 0 where

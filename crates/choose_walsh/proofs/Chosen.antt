@@ -22,8 +22,8 @@ use Rattle.rules_choosing.specs.Scores.{NextAs}
 use Rattle.rules_choosing.specs.Keys.{Largest}
 use Rattle.rules_choosing.proofs.KeyLaws.{Better, number-below, number-by}
 use Rattle.rules_choosing.proofs.Leads.{runnerUp, runner-next, lead-is}
-use Rattle.walsh.specs.Rows.{elevenAt, elevenLead, Entered, Paired}
-use Rattle.walsh.specs.Search.{
+use Rattle.choose_walsh.specs.Rows.{elevenAt, elevenLead, Entered, Paired}
+use Rattle.choose_walsh.specs.Search.{
   groupTop,
   groupNext,
   Held,
@@ -35,10 +35,10 @@ use Rattle.walsh.specs.Search.{
   sizeOf,
   leadOfKeys,
 }
-use Rattle.walsh.proofs.Tops.{Lifted, sides}
-use Rattle.walsh.proofs.Pairs.{lifted-key, number-read, lifted-one, raise, up-minus, size-lifted}
-use Rattle.walsh.proofs.Groups.{keyIn, Raised, TwoKeys, two-keys, top-above}
-use Rattle.walsh.proofs.Pairs as pairs
+use Rattle.choose_walsh.proofs.Tops.{Lifted, sides}
+use Rattle.choose_walsh.proofs.Pairs.{lifted-key, number-read, lifted-one, raise, up-minus, size-lifted}
+use Rattle.choose_walsh.proofs.Groups.{keyIn, Raised, TwoKeys, two-keys, top-above}
+use Rattle.choose_walsh.proofs.Pairs as pairs
 
 -- ---- a column
 module _ (row z a : List ℤ) (l : ℕ) (few : l < 16) (h : Entered row z) (p : Paired z a) where

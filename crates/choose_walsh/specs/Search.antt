@@ -12,8 +12,8 @@ use lib.Dec.{T}
 use lib.Signed.{ltZ, nonNeg, _≤ℤ_, _<ℤ_}
 use Rattle.rules_chips.specs.declared.Counts.{Counts}
 use Rattle.rules_choosing.specs.Keys.{larger, smaller}
-use Rattle.walsh.specs.Turns.{fly, topOf, nextOf}
-use Rattle.walsh.specs.Rows.{rowAt, evens, odds}
+use Rattle.choose_walsh.specs.Turns.{fly, topOf, nextOf}
+use Rattle.choose_walsh.specs.Rows.{rowAt, evens, odds}
 
 -- the two keys of group g, 4 p3 + p4, in column l
 abbrev pub groupTop : List ℤ → ℕ → ℕ → ℤ
