@@ -128,8 +128,8 @@ pub fn sixteen(
     let mut first = [-2i16; 16];
     let mut second = [-2i16; 16];
     let mut at = [0u16; 16];
-    byte_stages::enter(row, z);
-    byte_stages::pairs(z, a);
+    choose_stages_bytes::enter(row, z);
+    choose_stages_bytes::pairs(z, a);
     search(a, &mut first, &mut second, &mut at);
     put(&first, &second, &at, unit, l, numbers, leads);
 }

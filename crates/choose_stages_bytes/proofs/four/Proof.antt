@@ -1,4 +1,4 @@
--- `byte_stages::four` meets its contract. The invariant: the four chips are scaled in the columns below l.
+-- `choose_stages_bytes::four` meets its contract. The invariant: the four chips are scaled in the columns below l.
 -- Assumes nothing.
 use mathlib.Core.Path.{_≡_, ap, _∙_, subst}
 use mathlib.Core.List.{[], _∷_}
@@ -15,8 +15,8 @@ use Rattle.base.proofs.Whole.{small, within-zero}
 use Rattle.base.proofs.Adding.{within-pos}
 use Rattle.choose_walsh.specs.Rows.{FourWithin, FourScaled}
 use Rattle.choose_walsh.proofs.Stages.{scaled-none, scaled-four, four-none, four-more}
-use Rattle.byte_stages.proofs.four.Statement.{statement}
-use Rattle.byte_stages.proofs.four.Tie as tie
+use Rattle.choose_stages_bytes.proofs.four.Statement.{statement}
+use Rattle.choose_stages_bytes.proofs.four.Tie as tie
 
 abbrev Inv-loop : tie.InvT-loop
 Inv-loop row x third fourth more z₀ l₀ z l =

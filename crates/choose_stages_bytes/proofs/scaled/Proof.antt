@@ -1,4 +1,4 @@
--- `byte_stages::scaled` meets its contract: a byte is from -128 to 127, so 16 times it and 4 more fit.
+-- `choose_stages_bytes::scaled` meets its contract: a byte is from -128 to 127, so 16 times it and 4 more fit.
 -- Assumes nothing.
 use mathlib.Core.Path.{_≡_}
 use lib.Dec.{lit<}
@@ -8,8 +8,8 @@ use mir.Facts.{toZ-ofZ}
 use Rattle.base.proofs.Whole.{byte-within}
 use Rattle.base.proofs.Adding.{Reads, made-fits, made}
 use Rattle.choose_walsh.proofs.Stages.{product-fits, raised-fits, raised-is}
-use Rattle.byte_stages.proofs.scaled.Statement.{statement}
-use Rattle.byte_stages.proofs.scaled.Tie as tie
+use Rattle.choose_stages_bytes.proofs.scaled.Statement.{statement}
+use Rattle.choose_stages_bytes.proofs.scaled.Tie as tie
 
 module _ (c : tie.Start) where
   read : toZ w8 (ofZ w8 (c .args .b)) ≡ c .args .b
