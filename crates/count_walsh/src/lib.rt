@@ -124,8 +124,8 @@ pub fn sixteen(
     let mut first = [-2i32; 16];
     let mut second = [-2i32; 16];
     let mut at = [0u32; 16];
-    count_stages::enter(row, z);
-    count_stages::pairs(z, a);
+    choose_stages_counts::enter(row, z);
+    choose_stages_counts::pairs(z, a);
     search(a, &mut first, &mut second, &mut at);
     put(&first, &second, &at, l, numbers, leads);
 }

@@ -1,4 +1,4 @@
--- `count_stages::enter` meets its contract: four chips and four are all chips.
+-- `choose_stages_counts::enter` meets its contract: four chips and four are all chips.
 -- Assumes nothing.
 use mathlib.Core.Path.{_∙_}
 use lib.Dec.{lit≤}
@@ -6,8 +6,8 @@ use borrow.Author.Needs.{needs}
 use Rattle.base.proofs.Whole.{within-zero, within-neg}
 use Rattle.base.proofs.Adding.{within-pos}
 use Rattle.choose_walsh.proofs.Stages.{entered}
-use Rattle.count_stages.proofs.enter.Statement.{statement}
-use Rattle.count_stages.proofs.enter.Tie as tie
+use Rattle.choose_stages_counts.proofs.enter.Statement.{statement}
+use Rattle.choose_stages_counts.proofs.enter.Tie as tie
 
 four-requires : tie.Need-four-requires
 four-requires c κs =

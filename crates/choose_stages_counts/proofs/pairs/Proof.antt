@@ -1,11 +1,11 @@
--- `count_stages::pairs` meets its contract: each butterfly finds its rows, and leaves those before it alone.
+-- `choose_stages_counts::pairs` meets its contract: each butterfly finds its rows, and leaves those before it alone.
 -- Assumes nothing.
 use mathlib.Core.Path.{refl, _∙_}
 use lib.Dec.{lit<, lit≤}
 use borrow.Author.Needs.{needs}
 use Rattle.choose_walsh.proofs.Stages.{row-of, paired}
-use Rattle.count_stages.proofs.pairs.Statement.{statement}
-use Rattle.count_stages.proofs.pairs.Tie as tie
+use Rattle.choose_stages_counts.proofs.pairs.Statement.{statement}
+use Rattle.choose_stages_counts.proofs.pairs.Tie as tie
 
 butterfly-requires : tie.Need-butterfly-requires
 butterfly-requires c κs =

@@ -1,4 +1,4 @@
--- `count_stages::butterfly` meets its contract: each turn of its loop is a `Flight` of one column.
+-- `choose_stages_counts::butterfly` meets its contract: each turn of its loop is a `Flight` of one column.
 -- Assumes nothing.
 use mathlib.Core.Path.{_≡_}
 use Prim.Native.Nat.{ℕ, _+_, _*_, _-_, _≤_, _<_}
@@ -9,8 +9,8 @@ use mir.Syntax.{w32, w64}
 use mir.Val.{Fits}
 use Rattle.choose_walsh.specs.Rows.{rowAt, Flown}
 use Rattle.choose_walsh.proofs.Flights.{Flight, flight, flown-none, flown-eight}
-use Rattle.count_stages.proofs.butterfly.Statement.{statement}
-use Rattle.count_stages.proofs.butterfly.Tie as tie
+use Rattle.choose_stages_counts.proofs.butterfly.Statement.{statement}
+use Rattle.choose_stages_counts.proofs.butterfly.Tie as tie
 
 abbrev Inv-loop : tie.InvT-loop
 Inv-loop s x y o₀ z l₀ o l = (l ≤ 16) × Flown s x y o₀ z l o
