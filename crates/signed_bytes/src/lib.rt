@@ -156,7 +156,7 @@ pub fn elevens(bytes: &[i8], at: usize, m: usize, numbers: &mut [u8; 64], leads:
         let count = abreast::at_most_16(m - l);
         abreast::take_in(bytes, 2 * (at + 8 * l), 16 * count, &mut row);
         abreast::turn(&mut row, &mut other);
-        byte_walsh::sixteen(&row, &mut z, &mut a, 16, l, numbers, leads);
+        choose_walsh_bytes::sixteen(&row, &mut z, &mut a, 16, l, numbers, leads);
         l += 16;
     }
 }

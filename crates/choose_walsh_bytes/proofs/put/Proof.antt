@@ -1,4 +1,4 @@
--- `byte_walsh::put` meets its contract. The invariant: the first s words and their leads are put.
+-- `choose_walsh_bytes::put` meets its contract. The invariant: the first s words and their leads are put.
 -- Assumes nothing.
 use mathlib.Core.Path.{_≡_, ap, _∙_}
 use Prim.Native.Nat.{_*_, _-_, _≤_}
@@ -11,8 +11,8 @@ use borrow.Author.Needs.{needs}
 use Rattle.choose_recorded.specs.Recorded.{Put}
 use Rattle.choose_recorded.proofs.Sixteen.{put-none, put-more}
 use Rattle.choose_walsh.specs.Search.{wordOfKey, leadOfKeys}
-use Rattle.byte_walsh.proofs.put.Statement.{statement}
-use Rattle.byte_walsh.proofs.put.Tie as tie
+use Rattle.choose_walsh_bytes.proofs.put.Statement.{statement}
+use Rattle.choose_walsh_bytes.proofs.put.Tie as tie
 
 abbrev Inv-loop : tie.InvT-loop
 Inv-loop first second at unit l numbers₀ leads₀ s₀ numbers leads s =

@@ -1,4 +1,4 @@
--- `byte_walsh::lead_of` meets its contract: both keys are natural numbers, and so is all that is made of them.
+-- `choose_walsh_bytes::lead_of` meets its contract: both keys are natural numbers, and so is all that is made of them.
 -- Assumes nothing.
 use mathlib.Core.Path.{_≡_, ap, _∙_}
 use Prim.Native.Nat.{ℕ, _+_, _*_, _-_, _/_, _≤_, _<_}
@@ -12,8 +12,8 @@ use mir.Val.{Fits, SFits, toZ, ofZ}
 use borrow.Author.Needs.{needs}
 use Rattle.rules_choosing.specs.Keys.{larger}
 use Rattle.choose_walsh.proofs.Machine.{size-of-first, size-of-next, next-natural, next-under}
-use Rattle.byte_walsh.proofs.lead_of.Statement.{statement}
-use Rattle.byte_walsh.proofs.lead_of.Tie as tie
+use Rattle.choose_walsh_bytes.proofs.lead_of.Statement.{statement}
+use Rattle.choose_walsh_bytes.proofs.lead_of.Tie as tie
 
 below : (z : ℤ) → SFits w16 z → T (nonNeg z) → natAbs z < 32768
 below (pos n) f t = omega (arith, f .sfits)

@@ -1,4 +1,4 @@
--- `byte_walsh::groups::meet` meets its contract: four sums that fit, and the group of them merged.
+-- `choose_walsh_bytes::groups::meet` meets its contract: four sums that fit, and the group of them merged.
 -- Assumes nothing.
 use mathlib.Core.Path.{_∙_}
 use lib.Dec.{lit<}
@@ -10,8 +10,8 @@ use Rattle.rules_chips.specs.Chips.{pair}
 use Rattle.base.proofs.Adding.{Reads, reads-of, reads-fits, reads-add}
 use Rattle.choose_walsh.specs.Turns.{topOf, nextOf}
 use Rattle.choose_walsh.specs.Search.{held, merged}
-use Rattle.byte_walsh.proofs.groups.meet.Statement.{statement}
-use Rattle.byte_walsh.proofs.groups.meet.Tie as tie
+use Rattle.choose_walsh_bytes.proofs.groups.meet.Statement.{statement}
+use Rattle.choose_walsh_bytes.proofs.groups.meet.Tie as tie
 
 module _ (c : tie.Start) where
   yr : Reads w16 8208 (ofZ w16 (toZ w16 (ofZ w16 (c .args .yr)) +ℤ toZ w16 (ofZ w16 (c .args .ar))))

@@ -1,12 +1,12 @@
--- `byte_walsh::search` meets its contract. The invariant: the groups before 4 p3 are gone through.
+-- `choose_walsh_bytes::search` meets its contract. The invariant: the groups before 4 p3 are gone through.
 -- Assumes nothing.
 use mathlib.Core.Path.{_≡_}
 use Prim.Native.Nat.{_+_, _*_, _-_, _≤_}
 use native.Mathlib.Omega.{arith}
 use borrow.Author.Needs.{needs}
 use Rattle.choose_walsh.specs.Search.{Sought}
-use Rattle.byte_walsh.proofs.search.Statement.{statement}
-use Rattle.byte_walsh.proofs.search.Tie as tie
+use Rattle.choose_walsh_bytes.proofs.search.Statement.{statement}
+use Rattle.choose_walsh_bytes.proofs.search.Tie as tie
 
 abbrev Inv-loop : tie.InvT-loop
 Inv-loop a first₀ second₀ at₀ p3₀ first second at p3 = (p3 ≤ 4) × Sought a (4 * p3) first second at

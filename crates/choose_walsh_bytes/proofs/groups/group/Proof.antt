@@ -1,4 +1,4 @@
--- `byte_walsh::groups::group` meets its contract: the words of p1 = 1 are four places behind, and both are
+-- `choose_walsh_bytes::groups::group` meets its contract: the words of p1 = 1 are four places behind, and both are
 -- merged.
 -- Assumes nothing.
 use lib.Dec.{lit<, lit≤}
@@ -17,8 +17,8 @@ use Rattle.choose_walsh.proofs.Machine.{
   reads-four,
   reads-four-next,
 }
-use Rattle.byte_walsh.proofs.groups.group.Statement.{statement}
-use Rattle.byte_walsh.proofs.groups.group.Tie as tie
+use Rattle.choose_walsh_bytes.proofs.groups.group.Statement.{statement}
+use Rattle.choose_walsh_bytes.proofs.groups.group.Tie as tie
 
 module _ (c : tie.Start) where
   yr : Reads w16 8208 (ofZ w16 (c .args .yr)) (c .args .yr)

@@ -1,4 +1,4 @@
--- `byte_walsh::groups::credit` meets its contract: both numbers fit, and it is the larger.
+-- `choose_walsh_bytes::groups::credit` meets its contract: both numbers fit, and it is the larger.
 -- Assumes nothing.
 use lib.Dec.{lit<}
 use mir.Syntax.{w16}
@@ -6,8 +6,8 @@ use mir.Val.{ofZ}
 use borrow.Author.Needs.{needs}
 use Rattle.base.proofs.Adding.{Reads, reads-of}
 use Rattle.choose_walsh.proofs.Machine.{two-minus-fits, credit-is}
-use Rattle.byte_walsh.proofs.groups.credit.Statement.{statement}
-use Rattle.byte_walsh.proofs.groups.credit.Tie as tie
+use Rattle.choose_walsh_bytes.proofs.groups.credit.Statement.{statement}
+use Rattle.choose_walsh_bytes.proofs.groups.credit.Tie as tie
 
 arg : (c : tie.Start) → Reads w16 8208 (ofZ w16 (c .args .u)) (c .args .u)
 arg c = reads-of (lit< tt) (c .pre)

@@ -1,12 +1,12 @@
--- `byte_walsh::groups::place` meets its contract: the test is the definition's.
+-- `choose_walsh_bytes::groups::place` meets its contract: the test is the definition's.
 -- Assumes nothing.
 use mathlib.Core.Path.{_≡_, sym, ap}
 use mathlib.Core.Bool.{Bool, cond}
 use mir.Syntax.{w16}
 use mir.Val.{toZ, ofZ}
 use borrow.Author.Needs.{needs}
-use Rattle.byte_walsh.proofs.groups.place.Statement.{statement}
-use Rattle.byte_walsh.proofs.groups.place.Tie as tie
+use Rattle.choose_walsh_bytes.proofs.groups.place.Statement.{statement}
+use Rattle.choose_walsh_bytes.proofs.groups.place.Tie as tie
 
 returns : tie.Need-returns
 returns c =

@@ -1,4 +1,4 @@
--- `byte_walsh::groups::column` meets its contract: a butterfly adds a number turned back, group after group.
+-- `choose_walsh_bytes::groups::column` meets its contract: a butterfly adds a number turned back, group after group.
 -- Assumes nothing.
 use mathlib.Core.Path.{_≡_, refl}
 use lib.Dec.{lit<}
@@ -13,8 +13,8 @@ use Rattle.rules_chips.specs.Chips.{pair}
 use Rattle.choose_walsh.specs.Turns.{plus}
 use Rattle.choose_walsh.specs.Search.{fourMore}
 use Rattle.choose_walsh.proofs.Machine.{met-as}
-use Rattle.byte_walsh.proofs.groups.column.Statement.{statement}
-use Rattle.byte_walsh.proofs.groups.column.Tie as tie
+use Rattle.choose_walsh_bytes.proofs.groups.column.Statement.{statement}
+use Rattle.choose_walsh_bytes.proofs.groups.column.Tie as tie
 
 -- a number as it is read, and turned round
 is : {z : ℤ} → Within 4104 z → toZ w16 (ofZ w16 z) ≡ z

@@ -1,4 +1,4 @@
--- `byte_walsh::groups::merge` meets its contract: each part is the definition's.
+-- `choose_walsh_bytes::groups::merge` meets its contract: each part is the definition's.
 -- Assumes nothing.
 use mathlib.Core.Path.{_≡_, _∙_}
 use mathlib.Core.Bool.{cond}
@@ -8,8 +8,8 @@ use mir.Val.{toZ, ofZ}
 use borrow.Author.Needs.{needs}
 use Rattle.rules_choosing.specs.Keys.{larger, smaller}
 use Rattle.choose_walsh.specs.Search.{held, merged}
-use Rattle.byte_walsh.proofs.groups.merge.Statement.{statement}
-use Rattle.byte_walsh.proofs.groups.merge.Tie as tie
+use Rattle.choose_walsh_bytes.proofs.groups.merge.Statement.{statement}
+use Rattle.choose_walsh_bytes.proofs.groups.merge.Tie as tie
 
 returns : tie.Need-returns
 unfolding merged

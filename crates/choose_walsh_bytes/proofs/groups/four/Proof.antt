@@ -1,4 +1,4 @@
--- `byte_walsh::groups::four` meets its contract: what it makes fits, step by step, and comes to the two keys.
+-- `choose_walsh_bytes::groups::four` meets its contract: what it makes fits, step by step, and comes to the two keys.
 -- Assumes nothing.
 use lib.Dec.{lit<, lit≤}
 use lib.IntN.{pos, natAbs, _-ℤ_}
@@ -18,8 +18,8 @@ use Rattle.choose_walsh.proofs.Machine.{
   reads-sided,
   reads-credit,
 }
-use Rattle.byte_walsh.proofs.groups.four.Statement.{statement}
-use Rattle.byte_walsh.proofs.groups.four.Tie as tie
+use Rattle.choose_walsh_bytes.proofs.groups.four.Statement.{statement}
+use Rattle.choose_walsh_bytes.proofs.groups.four.Tie as tie
 
 module _ (c : tie.Start) where
   y : Reads w16 8208 (ofZ w16 (c .args .y)) (c .args .y)

@@ -1,4 +1,4 @@
--- `byte_walsh::quarter` meets its contract. The invariant: the groups are in the first l columns.
+-- `choose_walsh_bytes::quarter` meets its contract. The invariant: the groups are in the first l columns.
 -- Assumes nothing.
 use mathlib.Core.Path.{_≡_, _∙_}
 use Prim.Native.Nat.{ℕ, _+_, _*_, _-_, _≤_, _<_}
@@ -16,8 +16,8 @@ use Rattle.choose_walsh.specs.Rows.{rowAt}
 use Rattle.choose_walsh.specs.Search.{held, fourMore, Quartered}
 use Rattle.choose_walsh.proofs.Stages.{row-at}
 use Rattle.choose_walsh.proofs.Search.{quartered-none, quartered-more, sought-quarter}
-use Rattle.byte_walsh.proofs.quarter.Statement.{statement}
-use Rattle.byte_walsh.proofs.quarter.Tie as tie
+use Rattle.choose_walsh_bytes.proofs.quarter.Statement.{statement}
+use Rattle.choose_walsh_bytes.proofs.quarter.Tie as tie
 
 -- places below 512
 fits-place : (k p l : ℕ) → k ≤ 384 → p < 4 → l < 16 → Fits w64 (k + 32 * p + l)

@@ -1,4 +1,4 @@
--- `byte_walsh::word_of` meets its contract: a key is a natural number, and so is all that is made of it.
+-- `choose_walsh_bytes::word_of` meets its contract: a key is a natural number, and so is all that is made of it.
 -- Assumes nothing.
 use mathlib.Core.Path.{_≡_, ap}
 use Prim.Native.Nat.{_+_, _*_, _-_, _%_}
@@ -9,8 +9,8 @@ use lib.Signed.{nonNeg}
 use mir.Syntax.{w16}
 use mir.Val.{Fits, SFits, toZ, ofZ}
 use borrow.Author.Needs.{needs}
-use Rattle.byte_walsh.proofs.word_of.Statement.{statement}
-use Rattle.byte_walsh.proofs.word_of.Tie as tie
+use Rattle.choose_walsh_bytes.proofs.word_of.Statement.{statement}
+use Rattle.choose_walsh_bytes.proofs.word_of.Tie as tie
 
 read : (c : tie.Start) → toZ w16 (ofZ w16 (c .args .key)) ≡ c .args .key
 read c = search needs

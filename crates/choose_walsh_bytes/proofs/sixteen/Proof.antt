@@ -1,5 +1,5 @@
--- `byte_walsh::sixteen` meets its contract: what enters, the first stage and the search come to the words decided and
--- their leads.
+-- `choose_walsh_bytes::sixteen` meets its contract: what enters, the first stage and the search come to the words
+-- decided and their leads.
 -- Assumes nothing.
 use mathlib.Core.Path.{refl, subst⁻¹, ap}
 use Prim.Native.Nat.{ℕ, _*_}
@@ -11,8 +11,8 @@ use Rattle.choose_recorded.proofs.Sixteen.{put-ext}
 use Rattle.choose_walsh.proofs.Stages.{entered-rows, paired-rows}
 use Rattle.choose_walsh.proofs.Search.{sought-none}
 use Rattle.choose_walsh.proofs.Chosen.{chosen, led, keyed}
-use Rattle.byte_walsh.proofs.sixteen.Statement.{statement}
-use Rattle.byte_walsh.proofs.sixteen.Tie as tie
+use Rattle.choose_walsh_bytes.proofs.sixteen.Statement.{statement}
+use Rattle.choose_walsh_bytes.proofs.sixteen.Tie as tie
 
 pairs-requires : tie.Need-pairs-requires
 pairs-requires c κs =

@@ -1,4 +1,4 @@
--- `byte_walsh::groups::sided` meets its contract: the test is the definition's.
+-- `choose_walsh_bytes::groups::sided` meets its contract: the test is the definition's.
 -- Assumes nothing.
 use mathlib.Core.Path.{_≡_, sym, ap, _∙_}
 use mathlib.Core.Bool.{Bool, cond}
@@ -9,8 +9,8 @@ use mir.Val.{toZ, ofZ}
 use borrow.Author.Needs.{needs}
 use Rattle.base.proofs.Whole.{neg-fits, neg-read}
 use Rattle.choose_walsh.specs.Turns.{sided}
-use Rattle.byte_walsh.proofs.groups.sided.Statement.{statement}
-use Rattle.byte_walsh.proofs.groups.sided.Tie as tie
+use Rattle.choose_walsh_bytes.proofs.groups.sided.Statement.{statement}
+use Rattle.choose_walsh_bytes.proofs.groups.sided.Tie as tie
 
 returns : tie.Need-returns
 unfolding sided
