@@ -182,7 +182,7 @@ pub fn elevens(
     while l < m {
         let count = abreast::at_most_16(m - l);
         columns(i, q, at + 8 * l, count, &mut row);
-        count_walsh::sixteen(&row, &mut z, &mut a, l, numbers, leads);
+        choose_walsh_counts::sixteen(&row, &mut z, &mut a, l, numbers, leads);
         l += 16;
     }
 }
