@@ -12,7 +12,7 @@ use lib.ListN.{length, getD}
 use lib.IntN.{ℤ, pos}
 use Rattle.base.proofs.Tables.{tabulate-ext}
 use Rattle.base.proofs.Tests.{all-at}
-use Rattle.abreast.specs.Abreast.{Begins, turnedFrom, Turned}
+use Rattle.choose_abreast.specs.Abreast.{Begins, turnedFrom, Turned}
 use Rattle.choose_sums.specs.Sums.{everyRow}
 use Rattle.signed_bytes.specs.Rows.{everySecond}
 

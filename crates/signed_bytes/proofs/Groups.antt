@@ -9,7 +9,7 @@ use lib.Dec.{lit≤}
 use lib.ListN.{length}
 use lib.IntN.{ℤ}
 use Rattle.choose_sums.specs.Sums.{bySigns, asChip, rows}
-use Rattle.abreast.specs.Abreast.{Begins, Turned}
+use Rattle.choose_abreast.specs.Abreast.{Begins, Turned}
 use Rattle.signed_bytes.specs.Rows.{everySecond, barkerAt, fiveAt, barkerBytes, fiveBytes}
 use Rattle.signed_bytes.proofs.Abreast.{stood-barker, stood-five, first-axis, second-axis}
 

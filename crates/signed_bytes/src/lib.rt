@@ -110,9 +110,9 @@ pub fn barkers(bytes: &[i8], at: usize, m: usize, numbers: &mut [u8; 64], leads:
     let mut raw = [0u16; 64];
     let mut l: usize = 0;
     while l < m {
-        let count = abreast::at_most_16(m - l);
-        abreast::take_in(bytes, 2 * (at + 11 * l), 22 * count, &mut row);
-        abreast::turn(&mut row, &mut other);
+        let count = choose_abreast::at_most_16(m - l);
+        choose_abreast::take_in(bytes, 2 * (at + 11 * l), 22 * count, &mut row);
+        choose_abreast::turn(&mut row, &mut other);
         sixteen_barkers(&row, l, numbers, &mut raw);
         l += 16;
     }
@@ -131,9 +131,9 @@ pub fn fives(bytes: &[i8], at: usize, m: usize, numbers: &mut [u8; 64], leads: &
     let mut raw = [0u16; 64];
     let mut l: usize = 0;
     while l < m {
-        let count = abreast::at_most_16(m - l);
-        abreast::take_in(bytes, 2 * (at + 8 * l), 16 * count, &mut row);
-        abreast::turn(&mut row, &mut other);
+        let count = choose_abreast::at_most_16(m - l);
+        choose_abreast::take_in(bytes, 2 * (at + 8 * l), 16 * count, &mut row);
+        choose_abreast::turn(&mut row, &mut other);
         sixteen_fives(&row, l, numbers, &mut raw);
         l += 16;
     }
@@ -153,9 +153,9 @@ pub fn elevens(bytes: &[i8], at: usize, m: usize, numbers: &mut [u8; 64], leads:
     let mut a = [0i16; 512];
     let mut l: usize = 0;
     while l < m {
-        let count = abreast::at_most_16(m - l);
-        abreast::take_in(bytes, 2 * (at + 8 * l), 16 * count, &mut row);
-        abreast::turn(&mut row, &mut other);
+        let count = choose_abreast::at_most_16(m - l);
+        choose_abreast::take_in(bytes, 2 * (at + 8 * l), 16 * count, &mut row);
+        choose_abreast::turn(&mut row, &mut other);
         choose_walsh_bytes::sixteen(&row, &mut z, &mut a, 16, l, numbers, leads);
         l += 16;
     }

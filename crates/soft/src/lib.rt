@@ -180,7 +180,7 @@ pub fn elevens(
     let mut a = [0i32; 512];
     let mut l: usize = 0;
     while l < m {
-        let count = abreast::at_most_16(m - l);
+        let count = choose_abreast::at_most_16(m - l);
         columns(i, q, at + 8 * l, count, &mut row);
         choose_walsh_counts::sixteen(&row, &mut z, &mut a, l, numbers, leads);
         l += 16;

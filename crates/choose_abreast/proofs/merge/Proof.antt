@@ -1,4 +1,4 @@
--- `abreast::merge` meets its contract. The invariant: the first k of each half are taken.
+-- `choose_abreast::merge` meets its contract. The invariant: the first k of each half are taken.
 -- Assumes nothing.
 use mathlib.Core.Path.{_≡_, sym}
 use Prim.Native.Nat.{_+_, _*_, _-_, _/_}
@@ -8,9 +8,9 @@ use lib.IntN.{pos}
 use borrow.Author.Needs.{needs}
 use mir.Syntax.{w8}
 use mir.Val.{toZ, ofZ}
-use Rattle.abreast.proofs.Rows.{Filling, filling-none, filling-two, halves, merged}
-use Rattle.abreast.proofs.merge.Statement.{statement}
-use Rattle.abreast.proofs.merge.Tie as tie
+use Rattle.choose_abreast.proofs.Rows.{Filling, filling-none, filling-two, halves, merged}
+use Rattle.choose_abreast.proofs.merge.Statement.{statement}
+use Rattle.choose_abreast.proofs.merge.Tie as tie
 
 abbrev Inv-loop : tie.InvT-loop
 Inv-loop from to₀ half k₀ to k = Filling (halves from) (length from) to (2 * k)

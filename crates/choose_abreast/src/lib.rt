@@ -3,7 +3,7 @@
 ghost use mathlib.Core.Path.{_≡_};
 ghost use Prim.Native.Nat.{_+_, _*_, _%_, _≤_, min};
 ghost use lib.ListN.{length};
-ghost use Rattle.abreast.specs.Abreast.{Begins, Merged, Turned};
+ghost use Rattle.choose_abreast.specs.Abreast.{Begins, Merged, Turned};
 
 // How many of so many symbols the next sixteen take.
 pub fn at_most_16(left: usize) -> usize

@@ -1,9 +1,9 @@
--- `abreast::turn` meets its contract: four merges, to the other row and back, twice.
+-- `choose_abreast::turn` meets its contract: four merges, to the other row and back, twice.
 -- Assumes nothing.
 use borrow.Author.Needs.{needs}
-use Rattle.abreast.proofs.Rows.{rows-turned}
-use Rattle.abreast.proofs.turn.Statement.{statement}
-use Rattle.abreast.proofs.turn.Tie as tie
+use Rattle.choose_abreast.proofs.Rows.{rows-turned}
+use Rattle.choose_abreast.proofs.turn.Statement.{statement}
+use Rattle.choose_abreast.proofs.turn.Tie as tie
 
 returns : tie.Need-returns
 returns c =

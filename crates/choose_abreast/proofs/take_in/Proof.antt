@@ -1,4 +1,4 @@
--- `abreast::take_in` meets its contract. The invariant: the first k bytes are taken in.
+-- `choose_abreast::take_in` meets its contract. The invariant: the first k bytes are taken in.
 -- Assumes nothing.
 use mathlib.Core.Path.{_≡_, refl}
 use Prim.Native.Nat.{_+_, _-_}
@@ -8,9 +8,9 @@ use lib.IntN.{pos}
 use borrow.Author.Needs.{needs}
 use mir.Syntax.{w8}
 use mir.Val.{toZ, ofZ}
-use Rattle.abreast.proofs.Rows.{Filling, filling-none, filling-more}
-use Rattle.abreast.proofs.take_in.Statement.{statement}
-use Rattle.abreast.proofs.take_in.Tie as tie
+use Rattle.choose_abreast.proofs.Rows.{Filling, filling-none, filling-more}
+use Rattle.choose_abreast.proofs.take_in.Statement.{statement}
+use Rattle.choose_abreast.proofs.take_in.Tie as tie
 
 abbrev Inv-loop : tie.InvT-loop
 Inv-loop bytes from count row₀ k₀ row k = Filling (λ j. getD bytes (from + j) (pos 0)) (length row₀) row k

@@ -9,7 +9,7 @@ use borrow.Author.Tests.{eq-eqb, ne-eqb}
 use lib.ListN.{length, getD, set, length-set}
 use lib.Seq.{getD-set-same, getD-set-other}
 use lib.IntN.{ℤ, pos}
-use Rattle.abreast.specs.Abreast.{halved, Merged, Turned}
+use Rattle.choose_abreast.specs.Abreast.{halved, Merged, Turned}
 
 abbrev at : List ℤ → ℕ → ℤ
 at row j = getD row j (pos 0)
