@@ -38,7 +38,7 @@ fn usable_at(rec: Recorder, octets: &[u8], bytes: &[i8], i: &[f32], q: &[f32], a
         (lent rec (octets .entry) (bytes .entry) (i .entry) (q .entry)) at unusable)) ⌝ }
 {
     match rec {
-        Recorder::Hard => hard::usable_at(octets, at),
+        Recorder::Hard => choose_hard::usable_at(octets, at),
         Recorder::Soft => soft::usable_at(i, q, at),
         Recorder::Bytes => true,
     }
@@ -51,7 +51,7 @@ fn clean(rec: Recorder, octets: &[u8], bytes: &[i8], i: &[f32], q: &[f32], at: u
         AllUsable (lent rec (octets .entry) (bytes .entry) (i .entry) (q .entry)) at 64) ⌝ }
 {
     match rec {
-        Recorder::Hard => hard::clean(octets, at),
+        Recorder::Hard => choose_hard::clean(octets, at),
         Recorder::Soft => soft::clean(i, q, at),
         Recorder::Bytes => true,
     }
@@ -126,7 +126,7 @@ fn barkers(
         (lent rec (octets .entry) (bytes .entry) (i .entry) (q .entry)) at m (now (leads .exit)) ⌝ }
 {
     match rec {
-        Recorder::Hard => hard::barkers(octets, at, m, numbers, leads),
+        Recorder::Hard => choose_hard::barkers(octets, at, m, numbers, leads),
         Recorder::Soft => soft::barkers(i, q, at, m, numbers, leads),
         Recorder::Bytes => signed_bytes::barkers(bytes, at, m, numbers, leads),
     }
@@ -153,7 +153,7 @@ fn fives(
         (lent rec (octets .entry) (bytes .entry) (i .entry) (q .entry)) at m (now (leads .exit)) ⌝ }
 {
     match rec {
-        Recorder::Hard => hard::fives(octets, at, m, numbers, leads),
+        Recorder::Hard => choose_hard::fives(octets, at, m, numbers, leads),
         Recorder::Soft => soft::fives(i, q, at, m, numbers, leads),
         Recorder::Bytes => signed_bytes::fives(bytes, at, m, numbers, leads),
     }
@@ -180,7 +180,7 @@ fn elevens(
         (lent rec (octets .entry) (bytes .entry) (i .entry) (q .entry)) at m (now (leads .exit)) ⌝ }
 {
     match rec {
-        Recorder::Hard => hard::elevens(octets, at, m, numbers, leads),
+        Recorder::Hard => choose_hard::elevens(octets, at, m, numbers, leads),
         Recorder::Soft => soft::elevens(i, q, at, m, numbers, leads),
         Recorder::Bytes => signed_bytes::elevens(bytes, at, m, numbers, leads),
     }

@@ -1,4 +1,4 @@
--- `hard::clean` meets its contract. The invariant: the first k octets are at most the largest so far.
+-- `choose_hard::clean` meets its contract. The invariant: the first k octets are at most the largest so far.
 -- Assumes nothing.
 use mathlib.Core.Path.{_≡_}
 use mathlib.Core.List.{List}
@@ -9,8 +9,8 @@ use native.Mathlib.Omega.{arith}
 use lib.ListN.{getD}
 use borrow.Author.Tests.{ltb-true, le-leb}
 use Rattle.rules_chips.proofs.Usable.{hard-at}
-use Rattle.hard.proofs.clean.Statement.{statement}
-use Rattle.hard.proofs.clean.Tie as tie
+use Rattle.choose_hard.proofs.clean.Statement.{statement}
+use Rattle.choose_hard.proofs.clean.Tie as tie
 
 abbrev Inv-loop : tie.InvT-loop
 Inv-loop octets at top₀ k₀ top k = (k ≤ 64) × ((j : ℕ) → j < k → getD octets (at + j) 0 ≤ top)

@@ -1,4 +1,4 @@
--- `hard::columns` meets its contract. The invariant: the first l columns are set.
+-- `choose_hard::columns` meets its contract. The invariant: the first l columns are set.
 -- Assumes nothing.
 use mathlib.Core.Path.{_≡_, ap, _∙_}
 use Prim.Native.Nat.{_-_, _≤_}
@@ -9,8 +9,8 @@ use Rattle.choose_axes.specs.declared.Axis.the-variants.{I, Q}
 use Rattle.choose_axes.specs.Axes.{unitsAlong}
 use Rattle.choose_recorded.specs.Columns.{Columns, hardColumn}
 use Rattle.choose_recorded.proofs.Columns.{columns-none, columns-more}
-use Rattle.hard.proofs.columns.Statement.{statement}
-use Rattle.hard.proofs.columns.Tie as tie
+use Rattle.choose_hard.proofs.columns.Statement.{statement}
+use Rattle.choose_hard.proofs.columns.Tie as tie
 
 abbrev Inv-loop : tie.InvT-loop
 Inv-loop octets at count row₀ l₀ row l = (l ≤ count) × Columns (hardColumn I octets at) (hardColumn Q octets at) row l

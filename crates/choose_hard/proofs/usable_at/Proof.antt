@@ -1,11 +1,11 @@
--- `hard::usable_at` meets its contract: an octet up to 4 is usable.
+-- `choose_hard::usable_at` meets its contract: an octet up to 4 is usable.
 -- Assumes nothing.
 use mathlib.Core.Path.{sym, ap, _∙_}
 use mathlib.Core.Bool.{not, Bool·not-not}
 use borrow.Author.Needs.{needs}
 use Rattle.rules_chips.proofs.Usable.{hard-at}
-use Rattle.hard.proofs.usable_at.Statement.{statement}
-use Rattle.hard.proofs.usable_at.Tie as tie
+use Rattle.choose_hard.proofs.usable_at.Statement.{statement}
+use Rattle.choose_hard.proofs.usable_at.Tie as tie
 
 returns : tie.Need-returns
 returns c =

@@ -1,4 +1,4 @@
--- `hard::elevens` meets its contract. The invariant: the symbols of so many sixteens are decided.
+-- `choose_hard::elevens` meets its contract. The invariant: the symbols of so many sixteens are decided.
 -- Assumes nothing.
 use mathlib.Core.Path.{_≡_, refl, ap, _∙_}
 use mathlib.Core.List.{List}
@@ -23,8 +23,8 @@ use Rattle.choose_recorded.proofs.Firsts.{
 }
 use Rattle.choose_recorded.proofs.HardLeads.{unitsAt, number-hard, lead-hard}
 use Rattle.choose_recorded.proofs.Columns.{hard-column}
-use Rattle.hard.proofs.elevens.Statement.{statement}
-use Rattle.hard.proofs.elevens.Tie as tie
+use Rattle.choose_hard.proofs.elevens.Statement.{statement}
+use Rattle.choose_hard.proofs.elevens.Tie as tie
 
 abbrev Inv-loop : tie.InvT-loop
 Inv-loop octets at m numbers₀ leads₀ row₀ z₀ a₀ l₀ numbers leads row z a l =

@@ -1,24 +1,24 @@
--- `hard::fives` meets its contract. The invariant: the first l symbols are decided, their leads in full chips.
+-- `choose_hard::barkers` meets its contract. The invariant: the first l symbols are decided, their leads in full chips.
 -- Assumes nothing.
 use mathlib.Core.Path.{ap, _∙_}
 use mathlib.Core.List.{List, map}
 use Prim.Native.Nat.{_-_}
 use native.Mathlib.Omega.{arith}
 use borrow.Author.Needs.{needs}
-use Rattle.rules_rates.specs.declared.Rate.the-variants.{Five}
+use Rattle.rules_rates.specs.declared.Rate.the-variants.{One}
 use Rattle.rules_chips.specs.declared.Chip.{Chip}
 use Rattle.rules_chips.specs.Chips.{hardRecording}
 use Rattle.choose_axes.specs.Axes.{unitOf}
 use Rattle.rules_symbols.specs.Choice.{decided, leadOf}
 use Rattle.choose_recorded.proofs.Firsts.{Firsts, firsts-none, firsts-more, numberAt, all-decided, leads-times}
 use Rattle.choose_recorded.proofs.HardLeads.{unitsAt, number-hard, lead-hard}
-use Rattle.hard.proofs.fives.Statement.{statement}
-use Rattle.hard.proofs.fives.Tie as tie
+use Rattle.choose_hard.proofs.barkers.Statement.{statement}
+use Rattle.choose_hard.proofs.barkers.Tie as tie
 
 abbrev Inv-loop : tie.InvT-loop
 Inv-loop octets at m numbers₀ leads full₀ l₀ numbers full l =
-    Firsts (numberAt Five (hardRecording octets) at) m numbers l
-    × Firsts (λ k. leadOf Five (unitsAt Five octets at k)) m full l
+    Firsts (numberAt One (hardRecording octets) at) m numbers l
+    × Firsts (λ k. leadOf One (unitsAt One octets at k)) m full l
 
 abbrev μ-loop : tie.MeasureT-loop
 μ-loop octets at m numbers₀ leads full₀ l₀ numbers full l = m - l
@@ -28,14 +28,14 @@ loop-again c =
     let turn = c .before .before .before in
     let s = turn .before .before in
     let h = c .before .before .loop-test .taken in
-    let chips = c .before .eight .ensures in
-    let chosen = c .decide-five .ensures in (
+    let chips = c .before .eleven .ensures in
+    let chosen = c .decide-barker .ensures in (
       firsts-more _ _ _ (omega (arith, s .pre .0))
-          (chosen .0 ∙ ap (λ (x : List Chip). decided Five (map unitOf x)) chips
-          ∙ number-hard Five (s .args .octets .now) (s .args .at) (s .args .m) (s .pre .1)
+          (chosen .0 ∙ ap (λ (x : List Chip). decided One (map unitOf x)) chips
+          ∙ number-hard One (s .args .octets .now) (s .args .at) (s .args .m) (s .pre .1)
           (turn .loop .l) h) (turn .loop .inv .0),
       firsts-more _ _ _ (omega (arith, s .pre .0))
-          (chosen .1 ∙ ap (λ (x : List Chip). leadOf Five (map unitOf x)) chips) (turn .loop .inv .1),
+          (chosen .1 ∙ ap (λ (x : List Chip). leadOf One (map unitOf x)) chips) (turn .loop .inv .1),
     )
 
 returns : tie.Need-returns Inv-loop μ-loop
@@ -43,14 +43,14 @@ returns c =
     let end = c .before .before .before in
     let turn = end .before in
     let s = turn .before .before in (
-      all-decided Five (hardRecording (s .args .octets .now)) (s .args .at) (turn .loop .inv .0) (end .loop-test .left),
-      leads-times Five (hardRecording (s .args .octets .now)) (s .args .at) 1024 (turn .loop .inv .1)
+      all-decided One (hardRecording (s .args .octets .now)) (s .args .at) (turn .loop .inv .0) (end .loop-test .left),
+      leads-times One (hardRecording (s .args .octets .now)) (s .args .at) 1024 (turn .loop .inv .1)
           (end .loop-test .left) (s .pre .0) (c .in-counts .ensures)
-          (lead-hard Five (s .args .octets .now) (s .args .at) (s .args .m) (s .pre .1)),
+          (lead-hard One (s .args .octets .now) (s .args .at) (s .args .m) (s .pre .1)),
     )
 
-pub fives-spec : {M : Type 1} → statement M
-fives-spec =
+pub barkers-spec : {M : Type 1} → statement M
+barkers-spec =
     tie.close
     (tie.spec Inv-loop μ-loop
     (λ c. (firsts-none _ _ _ (c .before .pre .2), firsts-none _ _ _ (search needs))) (λ c. omega arith)
