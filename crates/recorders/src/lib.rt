@@ -39,7 +39,7 @@ fn usable_at(rec: Recorder, octets: &[u8], bytes: &[i8], i: &[f32], q: &[f32], a
 {
     match rec {
         Recorder::Hard => choose_hard::usable_at(octets, at),
-        Recorder::Soft => soft::usable_at(i, q, at),
+        Recorder::Soft => choose_soft::usable_at(i, q, at),
         Recorder::Bytes => true,
     }
 }
@@ -52,7 +52,7 @@ fn clean(rec: Recorder, octets: &[u8], bytes: &[i8], i: &[f32], q: &[f32], at: u
 {
     match rec {
         Recorder::Hard => choose_hard::clean(octets, at),
-        Recorder::Soft => soft::clean(i, q, at),
+        Recorder::Soft => choose_soft::clean(i, q, at),
         Recorder::Bytes => true,
     }
 }
@@ -127,7 +127,7 @@ fn barkers(
 {
     match rec {
         Recorder::Hard => choose_hard::barkers(octets, at, m, numbers, leads),
-        Recorder::Soft => soft::barkers(i, q, at, m, numbers, leads),
+        Recorder::Soft => choose_soft::barkers(i, q, at, m, numbers, leads),
         Recorder::Bytes => signed_bytes::barkers(bytes, at, m, numbers, leads),
     }
 }
@@ -154,7 +154,7 @@ fn fives(
 {
     match rec {
         Recorder::Hard => choose_hard::fives(octets, at, m, numbers, leads),
-        Recorder::Soft => soft::fives(i, q, at, m, numbers, leads),
+        Recorder::Soft => choose_soft::fives(i, q, at, m, numbers, leads),
         Recorder::Bytes => signed_bytes::fives(bytes, at, m, numbers, leads),
     }
 }
@@ -181,7 +181,7 @@ fn elevens(
 {
     match rec {
         Recorder::Hard => choose_hard::elevens(octets, at, m, numbers, leads),
-        Recorder::Soft => soft::elevens(i, q, at, m, numbers, leads),
+        Recorder::Soft => choose_soft::elevens(i, q, at, m, numbers, leads),
         Recorder::Bytes => signed_bytes::elevens(bytes, at, m, numbers, leads),
     }
 }

@@ -1,4 +1,4 @@
--- `soft::barkers` meets its contract. The invariant: the first l symbols are decided, with their leads.
+-- `choose_soft::barkers` meets its contract. The invariant: the first l symbols are decided, with their leads.
 -- Assumes nothing.
 use mathlib.Core.Path.{_≡_, ap, _∙_}
 use mathlib.Core.List.{map}
@@ -12,8 +12,8 @@ use Rattle.choose_recorded.specs.Recorded.{symbolAt}
 use Rattle.choose_recorded.proofs.Search.{usable-part}
 use Rattle.choose_recorded.proofs.Gathered.{gathered-soft, usable-soft}
 use Rattle.choose_recorded.proofs.Firsts.{Firsts, firsts-none, firsts-more, numberAt, leadAt, all-decided, all-leads}
-use Rattle.soft.proofs.barkers.Statement.{statement}
-use Rattle.soft.proofs.barkers.Tie as tie
+use Rattle.choose_soft.proofs.barkers.Statement.{statement}
+use Rattle.choose_soft.proofs.barkers.Tie as tie
 
 abbrev Inv-loop : tie.InvT-loop
 Inv-loop i q at m numbers₀ leads₀ l₀ numbers leads l =

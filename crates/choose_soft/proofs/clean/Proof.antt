@@ -1,4 +1,4 @@
--- `soft::clean` meets its contract. The invariant: where all looked at so far passed, they are usable.
+-- `choose_soft::clean` meets its contract. The invariant: where all looked at so far passed, they are usable.
 -- Assumes nothing.
 use mathlib.Core.Path.{_≡_, refl, sym, _∙_}
 use mathlib.Core.Bool.{Bool, true, false, _&&_}
@@ -12,8 +12,8 @@ use borrow.Author.Needs.{needs}
 use Rattle.rules_chips.specs.Chips.{usableSample}
 use Rattle.rules_chips.proofs.Recorders.{sample}
 use Rattle.rules_chips.proofs.Usable.{soft-at}
-use Rattle.soft.proofs.clean.Statement.{statement}
-use Rattle.soft.proofs.clean.Tie as tie
+use Rattle.choose_soft.proofs.clean.Statement.{statement}
+use Rattle.choose_soft.proofs.clean.Tie as tie
 
 abbrev usableAt : List Float → List Float → ℕ → Bool
 usableAt i q k = usableSample (sample (getD i k nan) (getD q k nan))

@@ -1,5 +1,5 @@
--- `soft::elevens` meets its contract. The invariant: the symbols of so many sixteens are decided, and the row's numbers
--- are small.
+-- `choose_soft::elevens` meets its contract. The invariant: the symbols of so many sixteens are decided, and the row's
+-- numbers are small.
 -- Assumes nothing.
 use mathlib.Core.Path.{_≡_, refl, ap}
 use Prim.Native.Nat.{ℕ, _+_, _*_, _-_, _%_, _≤_, _<_}
@@ -23,8 +23,8 @@ use Rattle.choose_recorded.proofs.Firsts.{
   all-leads,
 }
 use Rattle.choose_recorded.proofs.Columns.{zeros-within, soft-column}
-use Rattle.soft.proofs.elevens.Statement.{statement}
-use Rattle.soft.proofs.elevens.Tie as tie
+use Rattle.choose_soft.proofs.elevens.Statement.{statement}
+use Rattle.choose_soft.proofs.elevens.Tie as tie
 
 abbrev Inv-loop : tie.InvT-loop
 Inv-loop i q at m numbers₀ leads₀ row₀ z₀ a₀ l₀ numbers leads row z a l =

@@ -1,11 +1,11 @@
--- `soft::usable_at` meets its contract: a chip is usable when its sample is.
+-- `choose_soft::usable_at` meets its contract: a chip is usable when its sample is.
 -- Assumes nothing.
 use mathlib.Core.Path.{sym, ap, _∙_}
 use mathlib.Core.Bool.{not, Bool·not-not}
 use borrow.Author.Needs.{needs}
 use Rattle.rules_chips.proofs.Usable.{soft-at}
-use Rattle.soft.proofs.usable_at.Statement.{statement}
-use Rattle.soft.proofs.usable_at.Tie as tie
+use Rattle.choose_soft.proofs.usable_at.Statement.{statement}
+use Rattle.choose_soft.proofs.usable_at.Tie as tie
 
 returns : tie.Need-returns
 returns c =

@@ -1,4 +1,5 @@
--- `soft::columns` meets its contract. The invariant: the first l columns are set, and the row's numbers are small.
+-- `choose_soft::columns` meets its contract. The invariant: the first l columns are set, and the row's numbers are
+-- small.
 -- Assumes nothing.
 use mathlib.Core.Path.{_≡_, sym, ap, _∙_, subst}
 use Prim.Native.Nat.{_+_, _*_, _-_, _≤_}
@@ -13,8 +14,8 @@ use Rattle.choose_recorded.specs.Columns.{Columns, softColumn}
 use Rattle.choose_recorded.proofs.Search.{usable-part}
 use Rattle.choose_recorded.proofs.Gathered.{usable-soft}
 use Rattle.choose_recorded.proofs.Columns.{columns-none, columns-more, column-within}
-use Rattle.soft.proofs.columns.Statement.{statement}
-use Rattle.soft.proofs.columns.Tie as tie
+use Rattle.choose_soft.proofs.columns.Statement.{statement}
+use Rattle.choose_soft.proofs.columns.Tie as tie
 
 abbrev Inv-loop : tie.InvT-loop
 Inv-loop i q at count row₀ l₀ row l =

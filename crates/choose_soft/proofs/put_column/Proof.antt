@@ -1,4 +1,4 @@
--- `soft::put_column` meets its contract. The invariant: the first k chips of the column are set.
+-- `choose_soft::put_column` meets its contract. The invariant: the first k chips of the column are set.
 -- Assumes nothing.
 use mathlib.Core.Path.{_≡_}
 use Prim.Native.Nat.{_-_, _≤_}
@@ -10,8 +10,8 @@ use mir.Syntax.{w32}
 use mir.Val.{toZ, ofZ}
 use Rattle.choose_recorded.specs.Columns.{ColumnSet}
 use Rattle.choose_recorded.proofs.Columns.{column-none, column-more}
-use Rattle.soft.proofs.put_column.Statement.{statement}
-use Rattle.soft.proofs.put_column.Tie as tie
+use Rattle.choose_soft.proofs.put_column.Statement.{statement}
+use Rattle.choose_soft.proofs.put_column.Tie as tie
 
 abbrev Inv-loop : tie.InvT-loop
 Inv-loop l row₀ i q k₀ row k = (k ≤ 8) × ColumnSet i q l row₀ k row
