@@ -128,7 +128,7 @@ fn barkers(
     match rec {
         Recorder::Hard => choose_hard::barkers(octets, at, m, numbers, leads),
         Recorder::Soft => choose_soft::barkers(i, q, at, m, numbers, leads),
-        Recorder::Bytes => signed_bytes::barkers(bytes, at, m, numbers, leads),
+        Recorder::Bytes => choose_bytes::barkers(bytes, at, m, numbers, leads),
     }
 }
 
@@ -155,7 +155,7 @@ fn fives(
     match rec {
         Recorder::Hard => choose_hard::fives(octets, at, m, numbers, leads),
         Recorder::Soft => choose_soft::fives(i, q, at, m, numbers, leads),
-        Recorder::Bytes => signed_bytes::fives(bytes, at, m, numbers, leads),
+        Recorder::Bytes => choose_bytes::fives(bytes, at, m, numbers, leads),
     }
 }
 
@@ -182,7 +182,7 @@ fn elevens(
     match rec {
         Recorder::Hard => choose_hard::elevens(octets, at, m, numbers, leads),
         Recorder::Soft => choose_soft::elevens(i, q, at, m, numbers, leads),
-        Recorder::Bytes => signed_bytes::elevens(bytes, at, m, numbers, leads),
+        Recorder::Bytes => choose_bytes::elevens(bytes, at, m, numbers, leads),
     }
 }
 

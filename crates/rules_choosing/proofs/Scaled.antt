@@ -154,7 +154,7 @@ module _ (t : ℕ) (some : 0 < t) where
 
     -- promise: Bytes as they are choose the word that their counts do
     -- rule: 2.8
-    -- code: signed_bytes::barkers, signed_bytes::fives, signed_bytes::elevens
+    -- code: choose_bytes::barkers, choose_bytes::fives, choose_bytes::elevens
     pub decided-times : decided r (map f l) ≡ decided r (map g l)
     unfolding decided
     decided-times = first-same (scoreAt r (map f l)) (scoreAt r (map g l)) scores (allowed r)

@@ -1,4 +1,4 @@
--- `signed_bytes::elevens` meets its contract. The invariant: the symbols of so many sixteens are decided.
+-- `choose_bytes::elevens` meets its contract. The invariant: the symbols of so many sixteens are decided.
 -- Assumes nothing.
 use mathlib.Core.Path.{_≡_, refl, ap, _∙_}
 use mathlib.Core.List.{List}
@@ -20,11 +20,11 @@ use Rattle.choose_recorded.proofs.Firsts.{
   all-decided,
   all-leads,
 }
-use Rattle.signed_bytes.specs.Rows.{fiveAt, fiveBytes}
-use Rattle.signed_bytes.proofs.Units.{eight-units}
-use Rattle.signed_bytes.proofs.Groups.{five-group}
-use Rattle.signed_bytes.proofs.elevens.Statement.{statement}
-use Rattle.signed_bytes.proofs.elevens.Tie as tie
+use Rattle.choose_bytes.specs.Rows.{fiveAt, fiveBytes}
+use Rattle.choose_bytes.proofs.Units.{eight-units}
+use Rattle.choose_bytes.proofs.Groups.{five-group}
+use Rattle.choose_bytes.proofs.elevens.Statement.{statement}
+use Rattle.choose_bytes.proofs.elevens.Tie as tie
 
 abbrev Inv-loop : tie.InvT-loop
 Inv-loop bytes at m numbers₀ leads₀ row₀ other₀ z₀ a₀ l₀ numbers leads row other z a l =

@@ -11,7 +11,7 @@ ghost use Rattle.rules_symbols.specs.Choice.{decided, leadOf};
 ghost use Rattle.rules_choosing.specs.Scores.{RowWithin};
 ghost use Rattle.choose_sums.specs.Sums.{everyRow};
 ghost use Rattle.choose_recorded.specs.Recorded.{DecidedAt, LeadsAt, Put};
-ghost use Rattle.signed_bytes.specs.Rows.{barkerAt, fiveAt};
+ghost use Rattle.choose_bytes.specs.Rows.{barkerAt, fiveAt};
 use choose_by_bytes::Choice;
 use rules_rates::Rate;
 

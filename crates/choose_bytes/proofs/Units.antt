@@ -24,7 +24,7 @@ use Rattle.rules_choosing.specs.Scores.{ChosenAs}
 use Rattle.choose_sums.specs.Sums.{bySigns, asChip}
 use Rattle.choose_sums.proofs.Signs.{sums-chosen}
 use Rattle.rules_choosing.proofs.Scaled.{decided-times, lead-times}
-use Rattle.signed_bytes.specs.Rows.{barkerBytes, fiveBytes}
+use Rattle.choose_bytes.specs.Rows.{barkerBytes, fiveBytes}
 
 -- cs decide what ds do, with a 16th of the lead
 abbrev pub Sixteenth : Rate → List Counts → List Counts → Type 0

@@ -14,7 +14,7 @@ use Rattle.base.proofs.Tables.{tabulate-ext}
 use Rattle.base.proofs.Tests.{all-at}
 use Rattle.choose_abreast.specs.Abreast.{Begins, turnedFrom, Turned}
 use Rattle.choose_sums.specs.Sums.{everyRow}
-use Rattle.signed_bytes.specs.Rows.{everySecond}
+use Rattle.choose_bytes.specs.Rows.{everySecond}
 
 -- ---- of sixteen symbols of w bytes, byte p of symbol s stands at 16 p + s
 abbrev stoodAt : ℕ → ℕ → Bool

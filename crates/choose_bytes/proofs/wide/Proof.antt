@@ -1,4 +1,4 @@
--- `signed_bytes::wide` meets its contract: every byte is a number of the wider width, from -128 to 127.
+-- `choose_bytes::wide` meets its contract: every byte is a number of the wider width, from -128 to 127.
 -- Assumes nothing.
 use mathlib.Core.Path.{_≡_, _∙_, subst⁻¹}
 use native.Mathlib.Omega.{arith}
@@ -7,8 +7,8 @@ use mir.Val.{SFits, toZ, ofZ}
 use mir.ValLaws.{toZ-ofZ}
 use Rattle.base.specs.Whole.{Within}
 use Rattle.base.proofs.Whole.{byte-within}
-use Rattle.signed_bytes.proofs.wide.Statement.{statement}
-use Rattle.signed_bytes.proofs.wide.Tie as tie
+use Rattle.choose_bytes.proofs.wide.Statement.{statement}
+use Rattle.choose_bytes.proofs.wide.Tie as tie
 
 -- the byte as it is read back
 read : (c : tie.Start) → toZ w8 (ofZ w8 (c .args .b)) ≡ c .args .b

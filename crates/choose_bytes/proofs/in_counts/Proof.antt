@@ -1,4 +1,4 @@
--- `signed_bytes::in_counts` meets its contract. The invariant: the first l leads are in counts.
+-- `choose_bytes::in_counts` meets its contract. The invariant: the first l leads are in counts.
 -- Assumes nothing.
 use Prim.Native.Nat.{_*_, _-_}
 use native.Mathlib.Omega.{arith}
@@ -6,8 +6,8 @@ use lib.ListN.{getD}
 use borrow.Author.Needs.{needs}
 use Rattle.base.specs.Tables.{Filled}
 use Rattle.base.proofs.Tables.{filled-none, filled-more, filled-all}
-use Rattle.signed_bytes.proofs.in_counts.Statement.{statement}
-use Rattle.signed_bytes.proofs.in_counts.Tie as tie
+use Rattle.choose_bytes.proofs.in_counts.Statement.{statement}
+use Rattle.choose_bytes.proofs.in_counts.Tie as tie
 
 abbrev Inv-loop : tie.InvT-loop
 Inv-loop raw leads₀ l₀ leads l = Filled (λ j. 16 * getD raw j 0) 64 leads l

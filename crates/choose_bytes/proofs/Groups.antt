@@ -10,8 +10,8 @@ use lib.ListN.{length}
 use lib.IntN.{ℤ}
 use Rattle.choose_sums.specs.Sums.{bySigns, asChip, rows}
 use Rattle.choose_abreast.specs.Abreast.{Begins, Turned}
-use Rattle.signed_bytes.specs.Rows.{everySecond, barkerAt, fiveAt, barkerBytes, fiveBytes}
-use Rattle.signed_bytes.proofs.Abreast.{stood-barker, stood-five, first-axis, second-axis}
+use Rattle.choose_bytes.specs.Rows.{everySecond, barkerAt, fiveAt, barkerBytes, fiveBytes}
+use Rattle.choose_bytes.proofs.Abreast.{stood-barker, stood-five, first-axis, second-axis}
 
 module _ (bytes before after : List ℤ) (at l count s : ℕ) (turned : Turned before after) (few : s < 16)
     (there : s < count) where
