@@ -15,7 +15,7 @@ use rules_finding::Found;
 use rules_finding::NotFound;
 use rules_frame::Kind;
 use rules_rates::Rate;
-use recorders::Recorder;
+use choose_recorders::Recorder;
 
 // ---- answers
 

@@ -12,7 +12,7 @@ use rules_calls::Told;
 use rules_coming::Coming;
 use rules_frame::Kind;
 use rules_rates::Rate;
-use recorders::Recorder;
+use choose_recorders::Recorder;
 
 // A refusal in numbers: all else is 0.
 fn refused(kind: Kind, e: Refusal) -> Coming

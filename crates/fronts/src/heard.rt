@@ -4,7 +4,7 @@ ghost use Prim.Native.Nat.{_+_, _≤_};
 ghost use lib.ListN.{length, take, drop};
 ghost use Rattle.rules_frame.specs.Frame.{frontChips};
 ghost use Rattle.rules_reading.specs.Leads.{leastOf};
-ghost use Rattle.recorders.specs.Rows.{lent};
+ghost use Rattle.choose_recorders.specs.Rows.{lent};
 ghost use Rattle.choose_recorded.specs.Recorded.{AllUsable};
 ghost use Rattle.fronts.specs.Openings.{
   syncOctets,
@@ -22,7 +22,7 @@ use rules_frame::Kind;
 use hearing::Part;
 use common_lines::Line;
 use rules_rates::Rate;
-use recorders::Recorder;
+use choose_recorders::Recorder;
 
 // How many octets SYNC and the SFD are.
 fn preamble_octets(kind: Kind) -> usize
@@ -67,7 +67,7 @@ fn hear_sync(
 {
     let mut numbers = [0u8; 64];
     let mut leads = [0u32; 64];
-    recorders::decide(
+    choose_recorders::decide(
         rec,
         row,
         bytes,

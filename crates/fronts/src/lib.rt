@@ -3,7 +3,7 @@ ghost use mathlib.Core.Path.{_≡_};
 ghost use mathlib.Core.List.{List};
 ghost use Rattle.rules_chips.specs.Chips.{Taken};
 ghost use Rattle.rules_reading.specs.Reading.{frontOf};
-ghost use Rattle.recorders.specs.Rows.{lent};
+ghost use Rattle.choose_recorders.specs.Rows.{lent};
 ghost use Rattle.fronts.specs.Openings.{FrontKnown, afterUsable, Opens, OpensWhole};
 use blocks::Hearing;
 use rules_calls::Front;
@@ -14,7 +14,7 @@ use hearing::Part;
 use common_lines::Line;
 use rules_rates::Rate;
 use choose_recorded::Place;
-use recorders::Recorder;
+use choose_recorders::Recorder;
 
 pub mod heard;
 
@@ -83,10 +83,10 @@ pub fn read_front(
         (frontOf kind (lent rec (row .entry) (bytes .entry) (i .entry) (q .entry))) r ⌝ }
 {
     let chips = common_kinds::front_chips(kind);
-    if recorders::chip_count(rec, row, bytes, i, q) < chips {
+    if choose_recorders::chip_count(rec, row, bytes, i, q) < chips {
         return refused(Refusal::ShorterThanFront);
     }
-    let bad = recorders::first_unusable(rec, row, bytes, i, q, 0, chips);
+    let bad = choose_recorders::first_unusable(rec, row, bytes, i, q, 0, chips);
     match bad {
         Place::At(place) => refused(Refusal::Unusable { place, length: 0 }),
         Place::Nothing => {
@@ -116,7 +116,7 @@ pub fn read_whole(
             let rate = t.rate;
             let length = t.length;
             let all = common_kinds::frame_chips(kind, rate, t.n);
-            if recorders::chip_count(rec, row, bytes, i, q) < all {
+            if choose_recorders::chip_count(rec, row, bytes, i, q) < all {
                 return refused(Refusal::Ends { length });
             }
             opening

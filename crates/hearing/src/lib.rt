@@ -8,7 +8,7 @@ ghost use Rattle.base.specs.Over.{over};
 ghost use Rattle.rules_rates.specs.Rates.{octetSymbols, octetChips};
 ghost use Rattle.rules_reading.specs.Reading.{orElse};
 ghost use Rattle.rules_reading.specs.Leads.{leastFrom};
-ghost use Rattle.recorders.specs.Rows.{lent};
+ghost use Rattle.choose_recorders.specs.Rows.{lent};
 ghost use Rattle.choose_recorded.specs.Recorded.{whereFound, AllUsable};
 ghost use Rattle.codes.specs.Codes.{BlockOf};
 ghost use Rattle.blocks.specs.Heard.{plainOctets, Heard};
@@ -18,7 +18,7 @@ use rules_calls::Least;
 use common_lines::Line;
 use rules_rates::Rate;
 use choose_recorded::Place;
-use recorders::Recorder;
+use choose_recorders::Recorder;
 
 // A part heard: the line behind it with the place of the first symbol grown by 1 or 3, and the smallest lead so far.
 pub struct Part {
@@ -84,7 +84,7 @@ fn hear_block(
     let mut leads = [0u32; 64];
     let symbols = rate.octet_symbols();
     let m = symbols * count;
-    recorders::decide(
+    choose_recorders::decide(
         rec,
         row,
         bytes,

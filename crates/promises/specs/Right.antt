@@ -57,7 +57,7 @@ pub record Keeps (half : ℕ) (exact : List Counts) (rec : List Taken) : Type 0 
 -- promise: Demand 3 over a whole reading, for any recorder whose counts are off by at most so many steps, where the
 -- chips are usable
 -- rule: 1.4 (3), 3.8, 9.3
--- code: recorders::decide
+-- code: choose_recorders::decide
 abbrev pub RecordedRight : Type 0
 RecordedRight =
     (half : ℕ) (exact : List Counts) (rec : List Taken) → Keeps half exact rec

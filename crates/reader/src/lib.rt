@@ -7,12 +7,12 @@ ghost use lib.ListN.{length};
 ghost use Rattle.rules_chips.specs.Chips.{hardRecording, softRecording, byteRecording};
 ghost use Rattle.rules_calls.specs.Answers.{recordOf};
 ghost use Rattle.rules_reading.specs.Reading.{readingOf, octetsFound};
-ghost use Rattle.recorders.specs.Rows.{lent};
+ghost use Rattle.choose_recorders.specs.Rows.{lent};
 use rules_calls::Front;
 use rules_calls::Reading;
 use rules_calls::Record;
 use rules_calls::Refusal;
-use recorders::Recorder;
+use choose_recorders::Recorder;
 
 pub mod payload;
 

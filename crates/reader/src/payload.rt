@@ -6,7 +6,7 @@ ghost use Rattle.rules_rates.specs.Rates.{octetChips};
 ghost use Rattle.rules_frame.specs.Frame.{frontChips, frameChips};
 ghost use Rattle.rules_reading.specs.Reading.{payloadOdd, payloadReading, octetsAfter};
 ghost use Rattle.rules_reading.specs.Leads.{frontLeads, frameLeads, leastOf};
-ghost use Rattle.recorders.specs.Rows.{lent};
+ghost use Rattle.choose_recorders.specs.Rows.{lent};
 ghost use Rattle.choose_recorded.specs.Recorded.{whereFound, AllUsable};
 ghost use Rattle.fronts.specs.Openings.{Opened};
 ghost use Rattle.reader.specs.Payloads.{octetsHeard, afterHeard};
@@ -20,7 +20,7 @@ use hearing::Part;
 use common_lines::Line;
 use rules_rates::Rate;
 use choose_recorded::Place;
-use recorders::Recorder;
+use choose_recorders::Recorder;
 
 // A payload heard: the place of its first symbol grown by 1 or 3 at 1 Mbit/s, and the frame's smallest lead.
 pub struct Payload {
@@ -132,7 +132,7 @@ pub fn read_payload(
     }
     let from = common_kinds::front_chips(kind);
     let all = common_kinds::frame_chips(kind, rate, n);
-    let bad = recorders::first_unusable(rec, row, bytes, i, q, from, all);
+    let bad = choose_recorders::first_unusable(rec, row, bytes, i, q, from, all);
     match bad {
         Place::At(place) => Reading::Refused(Refusal::Unusable { place, length }),
         Place::Nothing => {

@@ -16,9 +16,9 @@ use Rattle.rules_chips.specs.Chips.{Taken, takenCounts, softRecording}
 use Rattle.rules_symbols.specs.Choice.{decided}
 use Rattle.rules_reading.specs.Reading.{orElse, firstUnusable}
 use Rattle.choose_recorded.specs.Recorded.{symbolAt}
-use Rattle.recorders.specs.declared.Recorder.{Recorder}
-use Rattle.recorders.specs.declared.Recorder.the-variants.{Hard, Soft, Bytes}
-use Rattle.recorders.specs.Rows.{recordingOf}
+use Rattle.choose_recorders.specs.declared.Recorder.{Recorder}
+use Rattle.choose_recorders.specs.declared.Recorder.the-variants.{Hard, Soft, Bytes}
+use Rattle.choose_recorders.specs.Rows.{recordingOf}
 
 -- the number of the word that the first symbol of a recording is decided as; 0 where a chip of it is not usable
 unfoldable pub firstWord : Rate → List Taken → ℕ

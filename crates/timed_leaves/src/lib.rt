@@ -5,11 +5,11 @@ ghost use lib.ListN.{length};
 ghost use Rattle.rules_rates.specs.Rates.{symbolChips};
 ghost use Rattle.rules_chips.specs.Floats.{countOf};
 ghost use Rattle.rules_chips.specs.Chips.{softRecording};
-ghost use Rattle.recorders.specs.Rows.{lent};
+ghost use Rattle.choose_recorders.specs.Rows.{lent};
 ghost use Rattle.timed_leaves.specs.Leaves.{firstWord, decidedSoft, lastWord, recorderOf, decidedLast, CountsRow};
 use rules_rates::Rate;
 use choose_recorded::Place;
-use recorders::Recorder;
+use choose_recorders::Recorder;
 
 // The smaller of two lengths.
 fn shorter(a: usize, b: usize) -> usize
@@ -58,13 +58,13 @@ fn first_word(r: Rate, i: &[f32], q: &[f32]) -> u64
     let row = &octet[0..0];
     let byte = [0i8; 1];
     let bytes = &byte[0..0];
-    let bad = recorders::first_unusable(Recorder::Soft, row, bytes, i, q, 0, r.symbol_chips());
+    let bad = choose_recorders::first_unusable(Recorder::Soft, row, bytes, i, q, 0, r.symbol_chips());
     match bad {
         Place::At(_) => 0,
         Place::Nothing => {
             let mut numbers = [0u8; 64];
             let mut leads = [0u32; 64];
-            recorders::decide(
+            choose_recorders::decide(
                 Recorder::Soft,
                 row,
                 bytes,
@@ -94,7 +94,7 @@ pub extern "C" fn timed_decide(rate: u64, i: &[f32], q: &[f32]) -> u64
         return 0;
     }
     let r = rules_rates::rate_of(rate);
-    if recorders::chip_count(Recorder::Soft, row, bytes, i, q) < r.symbol_chips() {
+    if choose_recorders::chip_count(Recorder::Soft, row, bytes, i, q) < r.symbol_chips() {
         return 0;
     }
     first_word(r, i, q)
@@ -105,13 +105,13 @@ fn last_word(rec: Recorder, octets: &[u8], bytes: &[i8], i: &[f32], q: &[f32]) -
     requires { ⌜ 512 ≤ length (lent rec octets bytes i q) ⌝ }
     ensures answer { λ a. ⌜ a ≡ lastWord (lent rec (octets .entry) (bytes .entry) (i .entry) (q .entry)) ⌝ }
 {
-    let bad = recorders::first_unusable(rec, octets, bytes, i, q, 0, 512);
+    let bad = choose_recorders::first_unusable(rec, octets, bytes, i, q, 0, 512);
     match bad {
         Place::At(_) => 0,
         Place::Nothing => {
             let mut numbers = [0u8; 64];
             let mut leads = [0u32; 64];
-            recorders::decide(
+            choose_recorders::decide(
                 rec,
                 octets,
                 bytes,
@@ -157,7 +157,7 @@ pub extern "C" fn timed_eleven(
         return 0;
     }
     let rec = recorder_of(recorder);
-    if recorders::chip_count(rec, octets, bytes, i, q) < 512 {
+    if choose_recorders::chip_count(rec, octets, bytes, i, q) < 512 {
         return 0;
     }
     last_word(rec, octets, bytes, i, q)

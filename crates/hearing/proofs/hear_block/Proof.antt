@@ -10,9 +10,9 @@ use Rattle.rules_rates.specs.Rates.{symbolChips, octetSymbols, octetChips}
 use Rattle.rules_rates.proofs.Octets.{part-chips}
 use Rattle.rules_chips.specs.Chips.{Taken}
 use Rattle.rules_reading.specs.Leads.{leastFrom}
-use Rattle.recorders.specs.Rows.{recordingOf}
+use Rattle.choose_recorders.specs.Rows.{recordingOf}
 use Rattle.choose_recorded.specs.Recorded.{AllUsable}
-use Rattle.recorders.proofs.Rows.{recording-fits}
+use Rattle.choose_recorders.proofs.Rows.{recording-fits}
 use borrow.Author.Needs.{needs}
 use Rattle.blocks.specs.Heard.{plainOctets, Heard}
 use Rattle.hearing.proofs.Parts.{block-words, block-are-words, block-leads}

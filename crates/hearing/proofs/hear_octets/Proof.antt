@@ -4,8 +4,8 @@ use native.Mathlib.Omega.{arith}
 use lib.ListN.{length, length-drop}
 use Rattle.base.proofs.Over.{lent}
 use Rattle.rules_rates.specs.Rates.{octetSymbols, octetChips}
-use Rattle.recorders.specs.Rows.{recordingOf}
-use Rattle.recorders.proofs.Rows.{recording-fits}
+use Rattle.choose_recorders.specs.Rows.{recordingOf}
+use Rattle.choose_recorders.proofs.Rows.{recording-fits}
 use borrow.Author.Needs.{needs}
 use Rattle.hearing.proofs.Parts.{
   Parts,

@@ -5,7 +5,7 @@ use mathlib.Core.List.{List}
 use lib.Dec.{lit≤, lit<}
 use borrow.Author.Needs.{needs}
 use Rattle.rules_chips.specs.Chips.{Taken}
-use Rattle.recorders.specs.Rows.{recordingOf}
+use Rattle.choose_recorders.specs.Rows.{recordingOf}
 use Rattle.timed_leaves.specs.Leaves.{lastWord}
 use Rattle.choose_recorded.proofs.Searched.{bad, good, usable}
 use Rattle.timed_leaves.proofs.last_word.Statement.{statement}

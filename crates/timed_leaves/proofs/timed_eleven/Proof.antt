@@ -9,8 +9,8 @@ use lib.IntN.{ℤ}
 use lib.Ieee.{Float}
 use borrow.Author.Needs.{needs}
 use borrow.Author.Tests.{le-leb, lt-leb}
-use Rattle.recorders.specs.declared.Recorder.{Recorder}
-use Rattle.recorders.specs.Rows.{recordingOf}
+use Rattle.choose_recorders.specs.declared.Recorder.{Recorder}
+use Rattle.choose_recorders.specs.Rows.{recordingOf}
 use Rattle.timed_leaves.specs.Leaves.{lastWord, recorderOf, decidedLast}
 use Rattle.timed_leaves.proofs.timed_eleven.Statement.{statement}
 use Rattle.timed_leaves.proofs.timed_eleven.Tie as tie

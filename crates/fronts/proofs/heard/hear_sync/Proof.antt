@@ -8,7 +8,7 @@ use Rattle.rules_rates.specs.declared.Rate.the-variants.{One}
 use Rattle.rules_frame.specs.declared.Kind.{Kind}
 use Rattle.rules_frame.specs.declared.Kind.the-variants.{Long, Short}
 use Rattle.rules_frame.specs.Frame.{frontChips}
-use Rattle.recorders.specs.Rows.{recordingOf}
+use Rattle.choose_recorders.specs.Rows.{recordingOf}
 use Rattle.choose_recorded.proofs.Search.{usable-part}
 use Rattle.hearing.proofs.Parts.{block-are-words}
 use borrow.Author.Needs.{needs}

@@ -21,7 +21,7 @@ use Rattle.choose_recorded.specs.Recorded.{whereFound, AllUsable}
 use Rattle.hearing.specs.declared.Part.{Part}
 use Rattle.hearing.specs.Hearing.{PartHeard}
 use Rattle.hearing.proofs.Parts.{few-symbols}
-use Rattle.recorders.proofs.Rows.{recording-fits}
+use Rattle.choose_recorders.proofs.Rows.{recording-fits}
 use Rattle.fronts.specs.Openings.{Opened}
 use borrow.Author.Needs.{needs}
 use Rattle.fronts.proofs.Behind.{payload-odd, payload-octets, payload-least, lent-long, octets-back}

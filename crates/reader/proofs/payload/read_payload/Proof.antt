@@ -1,7 +1,7 @@
 -- `reader::payload::read_payload` meets its contract: 17, 9, 10 in this order, each by the tests that led there.
 -- Assumes nothing.
 use lib.ListN.{length}
-use Rattle.recorders.specs.Rows.{recordingOf}
+use Rattle.choose_recorders.specs.Rows.{recordingOf}
 use borrow.Author.Needs.{needs}
 use Rattle.reader.proofs.Order.{Searched, payload-room, payload-unusable, payload-usable, payload-heard}
 use Rattle.reader.proofs.payload.read_payload.Statement.{statement}

@@ -1,12 +1,12 @@
--- `recorders::chip_count` meets its contract: a soft recording goes as far as the shorter row, one of bytes as far as
--- pairs do. Assumes nothing.
+-- `choose_recorders::chip_count` meets its contract: a soft recording goes as far as the shorter row, one of bytes as
+-- far as pairs do. Assumes nothing.
 use mathlib.Core.Path.{sym}
 use native.Mathlib.Omega.{arith}
 use borrow.Author.Needs.{needs}
 use Rattle.rules_chips.proofs.Recorders.{length-hard, length-soft}
 use Rattle.rules_chips.proofs.Bytes.{length-bytes}
-use Rattle.recorders.proofs.chip_count.Statement.{statement}
-use Rattle.recorders.proofs.chip_count.Tie as tie
+use Rattle.choose_recorders.proofs.chip_count.Statement.{statement}
+use Rattle.choose_recorders.proofs.chip_count.Tie as tie
 
 returns : tie.Need-returns
 returns c = rw (c .enum-told .given .1) (sym (length-hard _))

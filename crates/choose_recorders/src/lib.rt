@@ -7,7 +7,7 @@ ghost use lib.ListN.{length, getD, take, drop};
 ghost use Rattle.rules_rates.specs.Rates.{symbolChips};
 ghost use Rattle.rules_chips.specs.Chips.{unusable, isUnusable};
 ghost use Rattle.rules_reading.specs.Reading.{firstUnusable};
-ghost use Rattle.recorders.specs.Rows.{lent};
+ghost use Rattle.choose_recorders.specs.Rows.{lent};
 ghost use Rattle.choose_recorded.specs.Recorded.{whereFound, AllUsable, DecidedAt, LeadsAt};
 use rules_rates::Rate;
 use choose_recorded::Place;

@@ -7,8 +7,8 @@ use lib.IntN.{ℤ}
 use lib.Ieee.{Float}
 use denote.Ref.{RefT, now}
 use Rattle.rules_chips.specs.Chips.{Taken, hardRecording, softRecording, byteRecording}
-use Rattle.recorders.specs.declared.Recorder.{Recorder}
-use Rattle.recorders.specs.declared.Recorder.the-variants.{Hard, Soft, Bytes}
+use Rattle.choose_recorders.specs.declared.Recorder.{Recorder}
+use Rattle.choose_recorders.specs.declared.Recorder.the-variants.{Hard, Soft, Bytes}
 
 -- a hard recording is its octets, a soft one its two rows of f32, one of bytes its signed bytes. The rows that a
 -- recorder does not use are not looked at

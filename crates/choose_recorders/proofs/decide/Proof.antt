@@ -1,9 +1,9 @@
--- `recorders::decide` meets its contract: each rate's own function does.
+-- `choose_recorders::decide` meets its contract: each rate's own function does.
 -- Assumes nothing.
 use borrow.Author.Needs.{needs}
 use Rattle.choose_recorded.proofs.Firsts.{decided-two, leads-two}
-use Rattle.recorders.proofs.decide.Statement.{statement}
-use Rattle.recorders.proofs.decide.Tie as tie
+use Rattle.choose_recorders.proofs.decide.Statement.{statement}
+use Rattle.choose_recorders.proofs.decide.Tie as tie
 
 barkers-requires : tie.Need-barkers-requires
 barkers-requires c κs =

@@ -1,5 +1,5 @@
--- `recorders::first_unusable` meets its contract. The invariant: what is found from here on is what is found from the
--- start.
+-- `choose_recorders::first_unusable` meets its contract. The invariant: what is found from here on is what is found
+-- from the start.
 -- Assumes nothing.
 use mathlib.Core.Path.{_≡_, sym, _∙_}
 use Prim.Native.Nat.{_-_}
@@ -9,10 +9,10 @@ use borrow.Author.Needs.{needs}
 use borrow.Author.Tests.{not-true, not-false}
 use Rattle.rules_chips.specs.Chips.{unusable}
 use Rattle.rules_reading.specs.Reading.{firstUnusable}
-use Rattle.recorders.specs.Rows.{recordingOf}
+use Rattle.choose_recorders.specs.Rows.{recordingOf}
 use Rattle.choose_recorded.proofs.Search.{search-on, search-here, search-over}
-use Rattle.recorders.proofs.first_unusable.Statement.{statement}
-use Rattle.recorders.proofs.first_unusable.Tie as tie
+use Rattle.choose_recorders.proofs.first_unusable.Statement.{statement}
+use Rattle.choose_recorders.proofs.first_unusable.Tie as tie
 
 abbrev Inv-loop : tie.InvT-loop
 Inv-loop rec octets bytes i q from to at₀ at =

@@ -12,9 +12,9 @@ use lib.Ieee.{Float}
 use Rattle.rules_chips.specs.Chips.{softRecording}
 use Rattle.rules_chips.proofs.Recorders.{length-hard, length-soft}
 use Rattle.rules_chips.proofs.Bytes.{length-bytes}
-use Rattle.recorders.specs.declared.Recorder.{Recorder}
-use Rattle.recorders.specs.declared.Recorder.the-variants.{Hard, Soft, Bytes}
-use Rattle.recorders.specs.Rows.{recordingOf}
+use Rattle.choose_recorders.specs.declared.Recorder.{Recorder}
+use Rattle.choose_recorders.specs.declared.Recorder.the-variants.{Hard, Soft, Bytes}
+use Rattle.choose_recorders.specs.Rows.{recordingOf}
 
 module _ {rec : Recorder} (octets : List ℕ) (bytes : List ℤ) (i q : List Float) (n : ℕ) where
   pub room-hard : rec ≡ Hard → n ≤ length (recordingOf rec octets bytes i q) → n ≤ length octets

@@ -1,5 +1,5 @@
--- `recorders::skip_clean` meets its contract. The invariant: what is found from here on is what is found from the
--- start.
+-- `choose_recorders::skip_clean` meets its contract. The invariant: what is found from here on is what is found from
+-- the start.
 -- Assumes nothing.
 use mathlib.Core.Path.{_≡_, refl, _∙_}
 use Prim.Native.Nat.{_-_, _^_}
@@ -7,11 +7,11 @@ use native.Mathlib.Omega.{arith}
 use lib.ListN.{take, drop}
 use borrow.Author.Tests.{leb-true}
 use Rattle.rules_reading.specs.Reading.{firstUnusable}
-use Rattle.recorders.specs.Rows.{recordingOf}
-use Rattle.recorders.proofs.Rows.{recording-fits}
+use Rattle.choose_recorders.specs.Rows.{recordingOf}
+use Rattle.choose_recorders.proofs.Rows.{recording-fits}
 use Rattle.choose_recorded.proofs.Search.{search-past}
-use Rattle.recorders.proofs.skip_clean.Statement.{statement}
-use Rattle.recorders.proofs.skip_clean.Tie as tie
+use Rattle.choose_recorders.proofs.skip_clean.Statement.{statement}
+use Rattle.choose_recorders.proofs.skip_clean.Tie as tie
 
 abbrev Inv-loop : tie.InvT-loop
 Inv-loop rec octets bytes i q from to at₀ at =

@@ -1,12 +1,12 @@
--- `recorders::usable_at` meets its contract: each recorder's own function does, and every byte is usable.
+-- `choose_recorders::usable_at` meets its contract: each recorder's own function does, and every byte is usable.
 -- Assumes nothing.
 use mathlib.Core.Path.{refl}
 use Prim.Native.Nat.{suc}
 use borrow.Author.Needs.{needs}
 use Rattle.rules_chips.proofs.Bytes.{bytes-usable}
-use Rattle.recorders.proofs.Rows.{room-hard, room-soft, room-bytes}
-use Rattle.recorders.proofs.usable_at.Statement.{statement}
-use Rattle.recorders.proofs.usable_at.Tie as tie
+use Rattle.choose_recorders.proofs.Rows.{room-hard, room-soft, room-bytes}
+use Rattle.choose_recorders.proofs.usable_at.Statement.{statement}
+use Rattle.choose_recorders.proofs.usable_at.Tie as tie
 
 requires-hard : tie.Need-usable-at-requires
 requires-hard c κs = let start = c .before .before .before .before .before in room-hard _ _ _ _ (suc (start .args .at))

@@ -1,11 +1,12 @@
--- `recorders::clean` meets its contract: each recorder's own function does, and every byte is usable. Assumes nothing.
+-- `choose_recorders::clean` meets its contract: each recorder's own function does, and every byte is usable. Assumes
+-- nothing.
 use Prim.Native.Nat.{_+_}
 use native.Mathlib.Omega.{arith}
 use borrow.Author.Needs.{needs}
 use Rattle.rules_chips.proofs.Bytes.{bytes-usable}
-use Rattle.recorders.proofs.Rows.{room-hard, room-soft, room-bytes}
-use Rattle.recorders.proofs.clean.Statement.{statement}
-use Rattle.recorders.proofs.clean.Tie as tie
+use Rattle.choose_recorders.proofs.Rows.{room-hard, room-soft, room-bytes}
+use Rattle.choose_recorders.proofs.clean.Statement.{statement}
+use Rattle.choose_recorders.proofs.clean.Tie as tie
 
 requires-hard : tie.Need-clean-requires
 requires-hard c κs = let start = c .before .before .before .before .before in room-hard _ _ _ _ (start .args .at + 64)

@@ -1,10 +1,10 @@
--- `recorders::barkers` meets its contract: each recorder's own loop does.
+-- `choose_recorders::barkers` meets its contract: each recorder's own loop does.
 -- Assumes nothing.
 use Prim.Native.Nat.{_+_, _*_}
 use borrow.Author.Needs.{needs}
-use Rattle.recorders.proofs.Rows.{room-hard, room-soft, room-bytes}
-use Rattle.recorders.proofs.barkers.Statement.{statement}
-use Rattle.recorders.proofs.barkers.Tie as tie
+use Rattle.choose_recorders.proofs.Rows.{room-hard, room-soft, room-bytes}
+use Rattle.choose_recorders.proofs.barkers.Statement.{statement}
+use Rattle.choose_recorders.proofs.barkers.Tie as tie
 
 barkers-requires : tie.Need-barkers-requires
 barkers-requires c κs =

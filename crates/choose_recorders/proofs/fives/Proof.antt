@@ -1,10 +1,10 @@
--- `recorders::fives` meets its contract: each recorder's own loop does.
+-- `choose_recorders::fives` meets its contract: each recorder's own loop does.
 -- Assumes nothing.
 use Prim.Native.Nat.{_+_, _*_}
 use borrow.Author.Needs.{needs}
-use Rattle.recorders.proofs.Rows.{room-hard, room-soft, room-bytes}
-use Rattle.recorders.proofs.fives.Statement.{statement}
-use Rattle.recorders.proofs.fives.Tie as tie
+use Rattle.choose_recorders.proofs.Rows.{room-hard, room-soft, room-bytes}
+use Rattle.choose_recorders.proofs.fives.Statement.{statement}
+use Rattle.choose_recorders.proofs.fives.Tie as tie
 
 fives-requires : tie.Need-fives-requires
 fives-requires c κs =
