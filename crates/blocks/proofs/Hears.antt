@@ -28,11 +28,11 @@ use Rattle.rules_bits.proofs.Heard.{heard-length, heard-below}
 use Rattle.rules_reading.specs.Reading.{firstOdd, oddGrowth}
 use Rattle.choose_recorded.specs.declared.Place.{Place}
 use Rattle.choose_recorded.specs.Recorded.{whereFound}
-use Rattle.codes.specs.Codes.{grownFor, wordBits, phaseBefore, octetAfter, behind, plain, AreWords}
+use Rattle.hear_codes.specs.Codes.{grownFor, wordBits, phaseBefore, octetAfter, behind, plain, AreWords}
 use Rattle.blocks.specs.Heard.{plainOctets, Heard}
-use Rattle.codes.proofs.Codes.{word-bits, code-small, octet-room}
-use Rattle.codes.proofs.Plain.{from-first, past-last}
-use Rattle.codes.proofs.Symbols.{Phases, phase-last, growths-row, octet-row}
+use Rattle.hear_codes.proofs.Codes.{word-bits, code-small, octet-room}
+use Rattle.hear_codes.proofs.Plain.{from-first, past-last}
+use Rattle.hear_codes.proofs.Symbols.{Phases, phase-last, growths-row, octet-row}
 
 -- ---- a row that holds the octets of the bits received
 

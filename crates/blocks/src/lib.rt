@@ -8,7 +8,7 @@ ghost use Rattle.base.specs.Over.{over};
 ghost use Rattle.base.specs.Tables.{tabulate};
 ghost use Rattle.rules_rates.specs.Rates.{symbolBits, octetSymbols, octetChips};
 ghost use Rattle.rules_bits.specs.Bits.{numberOf};
-ghost use Rattle.codes.specs.Codes.{grownFor, wordBits, phaseBefore, octetAfter, behind, plain, AreWords};
+ghost use Rattle.hear_codes.specs.Codes.{grownFor, wordBits, phaseBefore, octetAfter, behind, plain, AreWords};
 ghost use Rattle.blocks.specs.Heard.{plainOctets, Heard};
 use common_lines::Line;
 use rules_rates::Rate;
@@ -30,7 +30,7 @@ fn phases(rate: Rate, before: u8, numbers: [u8; 64]) -> [u8; 65]
     let mut out = [0u8; 65];
     out[0] = before;
     for l in 0..64 {
-        out[l + 1] = codes::phase(rate, numbers[l]);
+        out[l + 1] = hear_codes::phase(rate, numbers[l]);
     }
     out
 }
@@ -44,7 +44,7 @@ fn growths(rate: Rate, symbol: usize, phases: [u8; 65]) -> [u8; 64]
     let first = (symbol % 2) as u8;
     let mut out = [0u8; 64];
     for l in 0..64 {
-        out[l] = codes::grown(rate, first, l, phases[l], phases[l + 1]);
+        out[l] = hear_codes::grown(rate, first, l, phases[l], phases[l + 1]);
     }
     out
 }
@@ -56,7 +56,7 @@ fn codes(rate: Rate, g: [u8; 64], numbers: [u8; 64]) -> [u8; 64]
 {
     let mut out = [0u8; 64];
     for l in 0..64 {
-        out[l] = codes::code(rate, g[l], numbers[l]);
+        out[l] = hear_codes::code(rate, g[l], numbers[l]);
     }
     out
 }
@@ -70,7 +70,7 @@ fn octets(rate: Rate, before: u8, c: [u8; 64], count: usize) -> [u8; 65]
     raw[0] = before;
     let symbols = rate.octet_symbols();
     for o in 0..count {
-        raw[o + 1] = codes::octet(rate, &c, symbols * o);
+        raw[o + 1] = hear_codes::octet(rate, &c, symbols * o);
     }
     raw
 }

@@ -47,7 +47,7 @@ use Rattle.choose_recorded.specs.declared.Place.the-variants.{Nothing}
 use Rattle.choose_recorded.specs.Recorded.{whereFound, symbolAt, AllUsable, DecidedAt, LeadsAt}
 use Rattle.choose_recorded.proofs.Search.{usable-part}
 use Rattle.blocks.specs.declared.Hearing.{Hearing}
-use Rattle.codes.specs.Codes.{AreWords, BlockOf}
+use Rattle.hear_codes.specs.Codes.{AreWords, BlockOf}
 use Rattle.blocks.specs.Heard.{received, plainBits, plainOctets, Heard}
 use Rattle.hearing.specs.declared.Part.{Part}
 use Rattle.hearing.specs.Hearing.{partWords, partLeads, PartHeard}

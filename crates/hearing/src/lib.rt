@@ -10,7 +10,7 @@ ghost use Rattle.rules_reading.specs.Reading.{orElse};
 ghost use Rattle.rules_reading.specs.Leads.{leastFrom};
 ghost use Rattle.choose_recorders.specs.Rows.{lent};
 ghost use Rattle.choose_recorded.specs.Recorded.{whereFound, AllUsable};
-ghost use Rattle.codes.specs.Codes.{BlockOf};
+ghost use Rattle.hear_codes.specs.Codes.{BlockOf};
 ghost use Rattle.blocks.specs.Heard.{plainOctets, Heard};
 ghost use Rattle.hearing.specs.Hearing.{partWords, partLeads, PartHeard};
 use blocks::Hearing;

@@ -6,7 +6,7 @@ use lib.ListN.{getD}
 use Rattle.base.specs.Tables.{Filled}
 use Rattle.base.proofs.Tables.{filled-none, filled-more, filled-all}
 use Rattle.rules_bits.specs.Bits.{numberOf}
-use Rattle.codes.specs.Codes.{wordBits}
+use Rattle.hear_codes.specs.Codes.{wordBits}
 use Rattle.blocks.proofs.codes.Statement.{statement}
 use Rattle.blocks.proofs.codes.Tie as tie
 

@@ -5,8 +5,8 @@ use native.Mathlib.Omega.{arith}
 use lib.ListN.{getD}
 use Rattle.base.specs.Tables.{Filled}
 use Rattle.base.proofs.Tables.{filled-none, filled-more, filled-all}
-use Rattle.codes.specs.Codes.{grownFor}
-use Rattle.codes.proofs.Codes.{grown-parity}
+use Rattle.hear_codes.specs.Codes.{grownFor}
+use Rattle.hear_codes.proofs.Codes.{grown-parity}
 use Rattle.blocks.proofs.growths.Statement.{statement}
 use Rattle.blocks.proofs.growths.Tie as tie
 

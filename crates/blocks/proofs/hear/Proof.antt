@@ -8,7 +8,7 @@ use Rattle.rules_rates.specs.declared.Rate.{Rate}
 use Rattle.rules_rates.specs.Rates.{symbolChips, octetSymbols, octetChips}
 use Rattle.rules_rates.proofs.Octets.{part-chips}
 use borrow.Author.Needs.{needs}
-use Rattle.codes.proofs.Codes.{count-fits}
+use Rattle.hear_codes.proofs.Codes.{count-fits}
 use Rattle.blocks.proofs.Hears.{phases-low, growths-low, codes-low, block-heard, block-octets}
 use Rattle.blocks.proofs.hear.Statement.{statement}
 use Rattle.blocks.proofs.hear.Tie as tie

@@ -11,8 +11,8 @@ use Rattle.base.proofs.Tables.{filled-more}
 use Rattle.rules_rates.specs.declared.Rate.{Rate}
 use Rattle.rules_rates.specs.Rates.{symbolBits, octetSymbols}
 use borrow.Author.Needs.{needs}
-use Rattle.codes.specs.Codes.{packed, octetAfter}
-use Rattle.codes.proofs.Codes.{octet-room}
+use Rattle.hear_codes.specs.Codes.{packed, octetAfter}
+use Rattle.hear_codes.proofs.Codes.{octet-room}
 use Rattle.blocks.proofs.octets.Statement.{statement}
 use Rattle.blocks.proofs.octets.Tie as tie
 

@@ -6,7 +6,7 @@ use native.Mathlib.Numerals.{add-one}
 use native.Mathlib.Omega.{arith}
 use Rattle.base.specs.Tables.{Filled, tabulate}
 use Rattle.base.proofs.Tables.{filled-more, filled-all}
-use Rattle.codes.specs.Codes.{phaseBefore}
+use Rattle.hear_codes.specs.Codes.{phaseBefore}
 use Rattle.blocks.proofs.phases.Statement.{statement}
 use Rattle.blocks.proofs.phases.Tie as tie
 

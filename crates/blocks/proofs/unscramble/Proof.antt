@@ -5,8 +5,8 @@ use Prim.Native.Nat.{_+_, _-_, _≤_}
 use native.Mathlib.Omega.{arith}
 use lib.ListN.{length, getD, take, drop, length-set}
 use Rattle.base.proofs.Over.{over-whole}
-use Rattle.codes.specs.Codes.{behind, plain}
-use Rattle.codes.proofs.Plain.{plain-length, plain-more}
+use Rattle.hear_codes.specs.Codes.{behind, plain}
+use Rattle.hear_codes.proofs.Plain.{plain-length, plain-more}
 use Rattle.blocks.proofs.unscramble.Statement.{statement}
 use Rattle.blocks.proofs.unscramble.Tie as tie
 

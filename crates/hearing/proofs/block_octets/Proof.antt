@@ -5,7 +5,7 @@ use Rattle.rules_rates.specs.declared.Rate.{Rate}
 use Rattle.rules_rates.specs.declared.Rate.the-variants.{One, Two, Five, Eleven}
 use Rattle.rules_rates.specs.Rates.{octetSymbols}
 use borrow.Author.Needs.{needs}
-use Rattle.codes.proofs.Codes.{block-rest, block-whole}
+use Rattle.hear_codes.proofs.Codes.{block-rest, block-whole}
 use Rattle.hearing.proofs.block_octets.Statement.{statement}
 use Rattle.hearing.proofs.block_octets.Tie as tie
 

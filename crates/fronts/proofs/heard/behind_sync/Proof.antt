@@ -2,7 +2,7 @@
 use mathlib.Core.Path.{_≡_, sym}
 use native.Mathlib.Omega.{arith}
 use lib.ListN.{length}
-use Rattle.codes.proofs.Codes.{two-from}
+use Rattle.hear_codes.proofs.Codes.{two-from}
 use borrow.Author.Needs.{needs}
 use Rattle.fronts.proofs.heard.behind_sync.Statement.{statement}
 use Rattle.fronts.proofs.heard.behind_sync.Tie as tie

@@ -27,7 +27,7 @@ use Rattle.rules_bits.proofs.Heard.{
   growthsOf-length,
   heard-length,
 }
-use Rattle.codes.specs.Codes.{packed}
+use Rattle.hear_codes.specs.Codes.{packed}
 
 -- octet o of bits
 octet-at : (n : ℕ) (bs : List ℕ) (o : ℕ) → o < n → getD (octetsOf n bs) o 0 ≡ numberOf (take 8 (drop (8 * o) bs))

@@ -22,7 +22,7 @@ use Rattle.rules_chips.specs.Chips.{turned}
 use Rattle.rules_symbols.specs.Words.{phaseOf, p2Of, p3Of, p4Of}
 use Rattle.rules_bits.specs.Bits.{numberOf}
 use Rattle.rules_bits.specs.Growths.{growthBits, directBits, halfTurn, grownBy, heardBits}
-use Rattle.codes.specs.Codes.{grownFor, wordBits, twoBits, fourBits, packed, BlockOf}
+use Rattle.hear_codes.specs.Codes.{grownFor, wordBits, twoBits, fourBits, packed, BlockOf}
 use Rattle.rules_reading.proofs.Passes.{growth-two}
 
 pub word-bits : (r : Rate) (k p n : ℕ) → heardBits r k p n ≡ wordBits r (grownFor r k p (phaseOf r n)) n

@@ -8,7 +8,7 @@ ghost use Rattle.base.specs.Below.{Below};
 ghost use Rattle.rules_rates.specs.Rates.{symbolBits, octetSymbols};
 ghost use Rattle.rules_symbols.specs.Words.{phaseOf};
 ghost use Rattle.rules_bits.specs.Bits.{numberOf};
-ghost use Rattle.codes.specs.Codes.{grownFor, twoBits, fourBits, wordBits, packed};
+ghost use Rattle.hear_codes.specs.Codes.{grownFor, twoBits, fourBits, wordBits, packed};
 use rules_rates::Rate;
 
 // The phase of the word with number n: p of a Barker symbol, p1 of a CCK word.

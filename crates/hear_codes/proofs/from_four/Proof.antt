@@ -1,11 +1,11 @@
--- `codes::from_four` meets its contract: the symbols listed, and packed. Assumes nothing.
+-- `hear_codes::from_four` meets its contract: the symbols listed, and packed. Assumes nothing.
 use mathlib.Core.Path.{sym, ap, _∙_}
 use native.Mathlib.Omega.{arith}
 use borrow.Author.Needs.{needs}
-use Rattle.codes.specs.Codes.{packed}
-use Rattle.codes.proofs.Codes.{four-from}
-use Rattle.codes.proofs.from_four.Statement.{statement}
-use Rattle.codes.proofs.from_four.Tie as tie
+use Rattle.hear_codes.specs.Codes.{packed}
+use Rattle.hear_codes.proofs.Codes.{four-from}
+use Rattle.hear_codes.proofs.from_four.Statement.{statement}
+use Rattle.hear_codes.proofs.from_four.Tie as tie
 
 of-four-requires : tie.Need-of-four-requires
 of-four-requires c κs =

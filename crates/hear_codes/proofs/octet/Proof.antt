@@ -1,9 +1,9 @@
--- `codes::octet` meets its contract, rate by rate. Assumes nothing.
+-- `hear_codes::octet` meets its contract, rate by rate. Assumes nothing.
 use native.Mathlib.Omega.{arith}
 use borrow.Author.Needs.{needs}
-use Rattle.codes.proofs.Codes.{one-from}
-use Rattle.codes.proofs.octet.Statement.{statement}
-use Rattle.codes.proofs.octet.Tie as tie
+use Rattle.hear_codes.proofs.Codes.{one-from}
+use Rattle.hear_codes.proofs.octet.Statement.{statement}
+use Rattle.hear_codes.proofs.octet.Tie as tie
 
 from-eight-requires : tie.Need-from-eight-requires
 from-eight-requires c κs = rw (c .enum-told .given .1) at (c .before .before .pre)

@@ -1,9 +1,9 @@
--- `codes::eight_bits` meets its contract. Assumes nothing.
+-- `hear_codes::eight_bits` meets its contract. Assumes nothing.
 use Prim.Native.Nat.{_/_}
 use borrow.Author.Needs.{needs}
-use Rattle.codes.proofs.Codes.{eight-number, room-2, room-4, room-6}
-use Rattle.codes.proofs.eight_bits.Statement.{statement}
-use Rattle.codes.proofs.eight_bits.Tie as tie
+use Rattle.hear_codes.proofs.Codes.{eight-number, room-2, room-4, room-6}
+use Rattle.hear_codes.proofs.eight_bits.Statement.{statement}
+use Rattle.hear_codes.proofs.eight_bits.Tie as tie
 
 returns : tie.Need-returns
 returns c = eight-number (c .before .args .g) (c .before .args .n) (c .two-bits .result) (c .before .pre)

@@ -1,9 +1,9 @@
--- `codes::phase` meets its contract, rate by rate. Assumes nothing.
+-- `hear_codes::phase` meets its contract, rate by rate. Assumes nothing.
 use mathlib.Core.Path.{refl}
 use native.Mathlib.Omega.{arith}
 use borrow.Author.Needs.{needs}
-use Rattle.codes.proofs.phase.Statement.{statement}
-use Rattle.codes.proofs.phase.Tie as tie
+use Rattle.hear_codes.proofs.phase.Statement.{statement}
+use Rattle.hear_codes.proofs.phase.Tie as tie
 
 returns : tie.Need-returns
 returns c = rw (c .enum-told .given .1) (refl, omega arith)

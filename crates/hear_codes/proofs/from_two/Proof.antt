@@ -1,11 +1,11 @@
--- `codes::from_two` meets its contract: the symbols listed, and packed. Assumes nothing.
+-- `hear_codes::from_two` meets its contract: the symbols listed, and packed. Assumes nothing.
 use mathlib.Core.Path.{sym, ap, _∙_}
 use native.Mathlib.Omega.{arith}
 use borrow.Author.Needs.{needs}
-use Rattle.codes.specs.Codes.{packed}
-use Rattle.codes.proofs.Codes.{two-from}
-use Rattle.codes.proofs.from_two.Statement.{statement}
-use Rattle.codes.proofs.from_two.Tie as tie
+use Rattle.hear_codes.specs.Codes.{packed}
+use Rattle.hear_codes.proofs.Codes.{two-from}
+use Rattle.hear_codes.proofs.from_two.Statement.{statement}
+use Rattle.hear_codes.proofs.from_two.Tie as tie
 
 of-two-requires : tie.Need-of-two-requires
 of-two-requires c κs =

@@ -18,7 +18,7 @@ use Rattle.rules_bits.specs.Scrambler.{descramble}
 use Rattle.rules_bits.specs.Code.{pastOf, pastAfter}
 use Rattle.rules_bits.proofs.Bits.{bits-length, octets-length}
 use Rattle.rules_bits.proofs.Scrambler.{descramble-append, descramble-window, descramble-length, past-append}
-use Rattle.codes.specs.Codes.{behind, plain}
+use Rattle.hear_codes.specs.Codes.{behind, plain}
 use Rattle.rules_reading.proofs.Passes.{past-take}
 
 pub plain-length : (n q : ℕ) (xs : List ℕ) → length (plain n q xs) ≡ n

@@ -1,11 +1,11 @@
--- `codes::code` meets its contract, rate by rate. Assumes nothing.
+-- `hear_codes::code` meets its contract, rate by rate. Assumes nothing.
 use mathlib.Core.Path.{_∙_}
 use native.Mathlib.Omega.{arith}
 use borrow.Author.Needs.{needs}
 use Rattle.rules_bits.specs.Bits.{numberOf}
-use Rattle.codes.proofs.Codes.{two-number, four-number}
-use Rattle.codes.proofs.code.Statement.{statement}
-use Rattle.codes.proofs.code.Tie as tie
+use Rattle.hear_codes.proofs.Codes.{two-number, four-number}
+use Rattle.hear_codes.proofs.code.Statement.{statement}
+use Rattle.hear_codes.proofs.code.Tie as tie
 
 returns : tie.Need-returns
 unfolding numberOf

@@ -1,10 +1,10 @@
--- `codes::grown` meets its contract, rate by rate. Assumes nothing.
+-- `hear_codes::grown` meets its contract, rate by rate. Assumes nothing.
 use mathlib.Core.Path.{refl}
 use native.Mathlib.Omega.{arith}
 use borrow.Author.Needs.{needs}
-use Rattle.codes.proofs.Codes.{half-turned}
-use Rattle.codes.proofs.grown.Statement.{statement}
-use Rattle.codes.proofs.grown.Tie as tie
+use Rattle.hear_codes.proofs.Codes.{half-turned}
+use Rattle.hear_codes.proofs.grown.Statement.{statement}
+use Rattle.hear_codes.proofs.grown.Tie as tie
 
 returns : tie.Need-returns
 returns c = rw (c .enum-told .given .1) (refl, omega arith)

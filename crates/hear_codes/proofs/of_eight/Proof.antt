@@ -1,8 +1,8 @@
--- `codes::of_eight` meets its contract, by arithmetic. Assumes nothing.
+-- `hear_codes::of_eight` meets its contract, by arithmetic. Assumes nothing.
 use borrow.Author.Needs.{needs}
-use Rattle.codes.specs.Codes.{packed}
-use Rattle.codes.proofs.of_eight.Statement.{statement}
-use Rattle.codes.proofs.of_eight.Tie as tie
+use Rattle.hear_codes.specs.Codes.{packed}
+use Rattle.hear_codes.proofs.of_eight.Statement.{statement}
+use Rattle.hear_codes.proofs.of_eight.Tie as tie
 
 returns : tie.Need-returns
 unfolding packed
