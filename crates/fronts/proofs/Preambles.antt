@@ -34,8 +34,8 @@ use Rattle.rules_reading.specs.Reading.{orElse, oddGrowth, decidedWords, preamb
 use Rattle.rules_calls.specs.declared.Least.{Least}
 use Rattle.rules_reading.specs.Leads.{leastFrom, leastOf}
 use Rattle.choose_recorded.specs.Recorded.{whereFound, symbolAt, DecidedAt, LeadsAt}
-use Rattle.blocks.specs.declared.Hearing.{Hearing}
-use Rattle.blocks.specs.Heard.{received, plainBits, plainOctets, Heard}
+use Rattle.hear_blocks.specs.declared.Hearing.{Hearing}
+use Rattle.hear_blocks.specs.Heard.{received, plainBits, plainOctets, Heard}
 use Rattle.hearing.specs.declared.Part.{Part}
 use Rattle.hearing.specs.Hearing.{partWords, partLeads, PartHeard}
 use Rattle.rules_reading.proofs.Places.{decidedWords-length}

@@ -46,7 +46,7 @@ use Rattle.rules_reading.specs.Leads.{decidedLeads, leastFrom}
 use Rattle.rules_reading.proofs.Leads.{front-least}
 use Rattle.choose_recorded.specs.Recorded.{whereFound}
 use Rattle.hearing.specs.declared.Part.{Part}
-use Rattle.blocks.specs.Heard.{received, plainBits, Heard}
+use Rattle.hear_blocks.specs.Heard.{received, plainBits, Heard}
 use Rattle.hearing.specs.Hearing.{partWords, partLeads, PartHeard}
 use Rattle.rules_reading.proofs.Places.{decidedWords-length}
 use Rattle.hearing.proofs.Parts.{plain-length}

@@ -35,7 +35,7 @@ use Rattle.rules_reading.specs.Reading.{
 }
 use Rattle.rules_reading.specs.Leads.{decidedLeads, frontLeads, leastOf}
 use Rattle.choose_recorded.specs.Recorded.{whereFound}
-use Rattle.blocks.specs.declared.Hearing.{Hearing}
+use Rattle.hear_blocks.specs.declared.Hearing.{Hearing}
 use Rattle.fronts.specs.declared.Preamble.{Preamble}
 use Rattle.fronts.specs.declared.FrontHeard.{FrontHeard}
 use Rattle.fronts.specs.declared.Opening.{Opening}

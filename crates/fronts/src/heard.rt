@@ -16,7 +16,7 @@ ghost use Rattle.fronts.specs.Openings.{
 };
 use super::FrontHeard;
 use super::Preamble;
-use blocks::Hearing;
+use hear_blocks::Hearing;
 use rules_calls::Least;
 use rules_frame::Kind;
 use hearing::Part;
@@ -81,8 +81,8 @@ fn hear_sync(
     );
     // the first symbol serves only as reference: it counts as grown by 0 from its own phase
     let line = common_kinds::first_line(kind, numbers[0]);
-    let first = blocks::hear(Rate::One, 0, 0, line, numbers, 8, octets);
-    let least = blocks::least::least_of(&leads, 64);
+    let first = hear_blocks::hear(Rate::One, 0, 0, line, numbers, 8, octets);
+    let least = hear_blocks::least::least_of(&leads, 64);
     let count = preamble_octets(kind);
     let l = first.line;
     let rest = hearing::hear_octets(

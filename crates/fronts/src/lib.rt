@@ -5,7 +5,7 @@ ghost use Rattle.rules_chips.specs.Chips.{Taken};
 ghost use Rattle.rules_reading.specs.Reading.{frontOf};
 ghost use Rattle.choose_recorders.specs.Rows.{lent};
 ghost use Rattle.fronts.specs.Openings.{FrontKnown, afterUsable, Opens, OpensWhole};
-use blocks::Hearing;
+use hear_blocks::Hearing;
 use rules_calls::Front;
 use rules_calls::Least;
 use rules_calls::Refusal;

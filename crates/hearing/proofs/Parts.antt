@@ -46,9 +46,9 @@ use Rattle.rules_reading.specs.Leads.{decidedLeads, leastFrom}
 use Rattle.choose_recorded.specs.declared.Place.the-variants.{Nothing}
 use Rattle.choose_recorded.specs.Recorded.{whereFound, symbolAt, AllUsable, DecidedAt, LeadsAt}
 use Rattle.choose_recorded.proofs.Search.{usable-part}
-use Rattle.blocks.specs.declared.Hearing.{Hearing}
+use Rattle.hear_blocks.specs.declared.Hearing.{Hearing}
 use Rattle.hear_codes.specs.Codes.{AreWords, BlockOf}
-use Rattle.blocks.specs.Heard.{received, plainBits, plainOctets, Heard}
+use Rattle.hear_blocks.specs.Heard.{received, plainBits, plainOctets, Heard}
 use Rattle.hearing.specs.declared.Part.{Part}
 use Rattle.hearing.specs.Hearing.{partWords, partLeads, PartHeard}
 use Rattle.rules_reading.proofs.Places.{decidedWords-length}

@@ -12,7 +12,7 @@ use Rattle.common_lines.specs.declared.Line.{Line}
 use Rattle.rules_calls.specs.declared.Least.{Least}
 use Rattle.rules_reading.specs.Reading.{decidedWords}
 use Rattle.rules_reading.specs.Leads.{decidedLeads, leastFrom}
-use Rattle.blocks.specs.Heard.{Heard, plainOctets}
+use Rattle.hear_blocks.specs.Heard.{Heard, plainOctets}
 use Rattle.hearing.specs.declared.Part.{Part}
 
 -- the words of n octets from place `at` of a recording, and their leads

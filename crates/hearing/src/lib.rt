@@ -11,9 +11,9 @@ ghost use Rattle.rules_reading.specs.Leads.{leastFrom};
 ghost use Rattle.choose_recorders.specs.Rows.{lent};
 ghost use Rattle.choose_recorded.specs.Recorded.{whereFound, AllUsable};
 ghost use Rattle.hear_codes.specs.Codes.{BlockOf};
-ghost use Rattle.blocks.specs.Heard.{plainOctets, Heard};
+ghost use Rattle.hear_blocks.specs.Heard.{plainOctets, Heard};
 ghost use Rattle.hearing.specs.Hearing.{partWords, partLeads, PartHeard};
-use blocks::Hearing;
+use hear_blocks::Hearing;
 use rules_calls::Least;
 use common_lines::Line;
 use rules_rates::Rate;
@@ -96,8 +96,8 @@ fn hear_block(
         &mut numbers,
         &mut leads,
     );
-    let heard = blocks::hear(rate, symbol, place, line, numbers, count, out);
-    let least = blocks::least::least_after(least, symbol, &leads, m);
+    let heard = hear_blocks::hear(rate, symbol, place, line, numbers, count, out);
+    let least = hear_blocks::least::least_after(least, symbol, &leads, m);
     Part { heard, least }
 }
 

@@ -10,7 +10,7 @@ ghost use Rattle.choose_recorders.specs.Rows.{lent};
 ghost use Rattle.choose_recorded.specs.Recorded.{whereFound, AllUsable};
 ghost use Rattle.fronts.specs.Openings.{Opened};
 ghost use Rattle.reader.specs.Payloads.{octetsHeard, afterHeard};
-use blocks::Hearing;
+use hear_blocks::Hearing;
 use rules_calls::Least;
 use rules_calls::Reading;
 use rules_calls::Refusal;

@@ -14,7 +14,7 @@ use Rattle.choose_recorders.specs.Rows.{recordingOf}
 use Rattle.choose_recorded.specs.Recorded.{AllUsable}
 use Rattle.choose_recorders.proofs.Rows.{recording-fits}
 use borrow.Author.Needs.{needs}
-use Rattle.blocks.specs.Heard.{plainOctets, Heard}
+use Rattle.hear_blocks.specs.Heard.{plainOctets, Heard}
 use Rattle.hearing.proofs.Parts.{block-words, block-are-words, block-leads}
 use Rattle.hearing.proofs.hear_block.Statement.{statement}
 use Rattle.hearing.proofs.hear_block.Tie as tie
