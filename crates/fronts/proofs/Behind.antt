@@ -38,8 +38,8 @@ use Rattle.rules_calls.specs.declared.Least.{Least}
 use Rattle.rules_reading.specs.Leads.{frontLeads, frameLeads, leastFrom, leastOf}
 use Rattle.choose_recorded.specs.Recorded.{whereFound}
 use Rattle.common_lines.specs.declared.Line.{Line}
-use Rattle.hearing.specs.declared.Part.{Part}
-use Rattle.hearing.specs.Hearing.{partLeads, PartHeard}
+use Rattle.hear_parts.specs.declared.Part.{Part}
+use Rattle.hear_parts.specs.Hearing.{partLeads, PartHeard}
 use Rattle.rules_bits.proofs.Heard.{heard-length, heard-parity}
 use Rattle.rules_reading.proofs.Places.{decidedWords-length}
 use Rattle.rules_reading.proofs.Leads.{frame-least}

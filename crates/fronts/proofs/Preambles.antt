@@ -36,12 +36,12 @@ use Rattle.rules_reading.specs.Leads.{leastFrom, leastOf}
 use Rattle.choose_recorded.specs.Recorded.{whereFound, symbolAt, DecidedAt, LeadsAt}
 use Rattle.hear_blocks.specs.declared.Hearing.{Hearing}
 use Rattle.hear_blocks.specs.Heard.{received, plainBits, plainOctets, Heard}
-use Rattle.hearing.specs.declared.Part.{Part}
-use Rattle.hearing.specs.Hearing.{partWords, partLeads, PartHeard}
+use Rattle.hear_parts.specs.declared.Part.{Part}
+use Rattle.hear_parts.specs.Hearing.{partWords, partLeads, PartHeard}
 use Rattle.rules_reading.proofs.Places.{decidedWords-length}
 use Rattle.rules_reading.proofs.Leads.{leastOf-joined}
 use Rattle.rules_reading.proofs.Passes.{past-take}
-use Rattle.hearing.proofs.Parts.{
+use Rattle.hear_parts.proofs.Parts.{
   block-words,
   block-leads,
   part-length,

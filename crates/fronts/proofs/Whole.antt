@@ -45,11 +45,11 @@ use Rattle.rules_calls.specs.declared.Least.{Least}
 use Rattle.rules_reading.specs.Leads.{decidedLeads, leastFrom}
 use Rattle.rules_reading.proofs.Leads.{front-least}
 use Rattle.choose_recorded.specs.Recorded.{whereFound}
-use Rattle.hearing.specs.declared.Part.{Part}
+use Rattle.hear_parts.specs.declared.Part.{Part}
 use Rattle.hear_blocks.specs.Heard.{received, plainBits, Heard}
-use Rattle.hearing.specs.Hearing.{partWords, partLeads, PartHeard}
+use Rattle.hear_parts.specs.Hearing.{partWords, partLeads, PartHeard}
 use Rattle.rules_reading.proofs.Places.{decidedWords-length}
-use Rattle.hearing.proofs.Parts.{plain-length}
+use Rattle.hear_parts.proofs.Parts.{plain-length}
 use Rattle.fronts.specs.declared.Preamble.{Preamble}
 use Rattle.fronts.specs.Openings.{preambleHeard, PreambleKnown, Opened, FrontKnown}
 use Rattle.fronts.proofs.Preambles.{preamble-length, goes-on}

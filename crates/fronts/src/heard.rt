@@ -19,7 +19,7 @@ use super::Preamble;
 use hear_blocks::Hearing;
 use rules_calls::Least;
 use rules_frame::Kind;
-use hearing::Part;
+use hear_parts::Part;
 use common_lines::Line;
 use rules_rates::Rate;
 use choose_recorders::Recorder;
@@ -85,7 +85,7 @@ fn hear_sync(
     let least = hear_blocks::least::least_of(&leads, 64);
     let count = preamble_octets(kind);
     let l = first.line;
-    let rest = hearing::hear_octets(
+    let rest = hear_parts::hear_octets(
         rec,
         row,
         bytes,
@@ -98,7 +98,7 @@ fn hear_sync(
         least,
         &mut octets[8..count],
     );
-    hearing::joined(first, rest)
+    hear_parts::joined(first, rest)
 }
 
 // SYNC and the SFD, heard to their end, and the SFD's octets.
@@ -144,7 +144,7 @@ pub fn hear_front(
     let from = common_kinds::preamble_chips(kind);
     let symbol = from / 11;
     let mut header = [0u8; 6];
-    let behind = hearing::hear_octets(
+    let behind = hear_parts::hear_octets(
         rec,
         row,
         bytes,
@@ -157,7 +157,7 @@ pub fn hear_front(
         least,
         &mut header,
     );
-    let part = hearing::joined(before, behind);
+    let part = hear_parts::joined(before, behind);
     let sfd = preamble.sfd;
     FrontHeard { part, sfd, header }
 }

@@ -10,7 +10,7 @@ use rules_calls::Front;
 use rules_calls::Least;
 use rules_calls::Refusal;
 use rules_frame::Kind;
-use hearing::Part;
+use hear_parts::Part;
 use common_lines::Line;
 use rules_rates::Rate;
 use choose_recorded::Place;

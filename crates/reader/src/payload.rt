@@ -16,7 +16,7 @@ use rules_calls::Reading;
 use rules_calls::Refusal;
 use rules_calls::Told;
 use rules_frame::Kind;
-use hearing::Part;
+use hear_parts::Part;
 use common_lines::Line;
 use rules_rates::Rate;
 use choose_recorded::Place;
@@ -58,7 +58,7 @@ fn hear_payload(
     let from = common_kinds::front_chips(kind);
     // each symbol of the front is 11 chips
     let symbol = from / 11;
-    let part = hearing::hear_octets(
+    let part = hear_parts::hear_octets(
         rec,
         row,
         bytes,

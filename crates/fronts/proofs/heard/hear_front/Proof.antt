@@ -13,9 +13,9 @@ use Rattle.rules_frame.specs.Frame.{frontChips, headerRate, preambleChips}
 use Rattle.choose_recorded.specs.Recorded.{AllUsable}
 use Rattle.choose_recorded.proofs.Search.{usable-part}
 use Rattle.rules_calls.specs.declared.Least.{Least}
-use Rattle.hearing.specs.declared.Part.{Part}
-use Rattle.hearing.specs.Hearing.{PartHeard}
-use Rattle.hearing.proofs.Parts.{few-symbols}
+use Rattle.hear_parts.specs.declared.Part.{Part}
+use Rattle.hear_parts.specs.Hearing.{PartHeard}
+use Rattle.hear_parts.proofs.Parts.{few-symbols}
 use Rattle.common_lines.specs.declared.Line.{Line}
 use mathlib.Core.List.{List}
 use borrow.Author.Needs.{needs}

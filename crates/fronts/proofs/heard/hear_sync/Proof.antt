@@ -10,7 +10,7 @@ use Rattle.rules_frame.specs.declared.Kind.the-variants.{Long, Short}
 use Rattle.rules_frame.specs.Frame.{frontChips}
 use Rattle.choose_recorders.specs.Rows.{recordingOf}
 use Rattle.choose_recorded.proofs.Search.{usable-part}
-use Rattle.hearing.proofs.Parts.{block-are-words}
+use Rattle.hear_parts.proofs.Parts.{block-are-words}
 use borrow.Author.Needs.{needs}
 use Rattle.fronts.specs.Openings.{syncOctets}
 use Rattle.fronts.proofs.Preambles.{sync-heard, rest-lent, rest-room, decided-small}

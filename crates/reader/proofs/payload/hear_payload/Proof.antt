@@ -18,9 +18,9 @@ use Rattle.rules_calls.specs.declared.Least.{Least}
 use Rattle.rules_reading.specs.Leads.{frontLeads, frameLeads, leastOf}
 use Rattle.choose_recorded.specs.declared.Place.the-variants.{Nothing, At}
 use Rattle.choose_recorded.specs.Recorded.{whereFound, AllUsable}
-use Rattle.hearing.specs.declared.Part.{Part}
-use Rattle.hearing.specs.Hearing.{PartHeard}
-use Rattle.hearing.proofs.Parts.{few-symbols}
+use Rattle.hear_parts.specs.declared.Part.{Part}
+use Rattle.hear_parts.specs.Hearing.{PartHeard}
+use Rattle.hear_parts.proofs.Parts.{few-symbols}
 use Rattle.choose_recorders.proofs.Rows.{recording-fits}
 use Rattle.fronts.specs.Openings.{Opened}
 use borrow.Author.Needs.{needs}

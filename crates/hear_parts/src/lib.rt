@@ -12,7 +12,7 @@ ghost use Rattle.choose_recorders.specs.Rows.{lent};
 ghost use Rattle.choose_recorded.specs.Recorded.{whereFound, AllUsable};
 ghost use Rattle.hear_codes.specs.Codes.{BlockOf};
 ghost use Rattle.hear_blocks.specs.Heard.{plainOctets, Heard};
-ghost use Rattle.hearing.specs.Hearing.{partWords, partLeads, PartHeard};
+ghost use Rattle.hear_parts.specs.Hearing.{partWords, partLeads, PartHeard};
 use hear_blocks::Hearing;
 use rules_calls::Least;
 use common_lines::Line;

@@ -1,4 +1,4 @@
--- `hearing::hear_block` meets its contract: the numbers decided are the words of the octets, and the leads theirs.
+-- `hear_parts::hear_block` meets its contract: the numbers decided are the words of the octets, and the leads theirs.
 -- Assumes nothing.
 use mathlib.Core.Path.{_≡_, refl, ap, subst, _∙_}
 use mathlib.Core.List.{List}
@@ -15,9 +15,9 @@ use Rattle.choose_recorded.specs.Recorded.{AllUsable}
 use Rattle.choose_recorders.proofs.Rows.{recording-fits}
 use borrow.Author.Needs.{needs}
 use Rattle.hear_blocks.specs.Heard.{plainOctets, Heard}
-use Rattle.hearing.proofs.Parts.{block-words, block-are-words, block-leads}
-use Rattle.hearing.proofs.hear_block.Statement.{statement}
-use Rattle.hearing.proofs.hear_block.Tie as tie
+use Rattle.hear_parts.proofs.Parts.{block-words, block-are-words, block-leads}
+use Rattle.hear_parts.proofs.hear_block.Statement.{statement}
+use Rattle.hear_parts.proofs.hear_block.Tie as tie
 
 -- the symbols as the code counts them
 module _ (r : Rate) (s n : ℕ) (e : s ≡ octetSymbols r) where

@@ -1,4 +1,4 @@
--- `hearing::block_octets` meets its contract: all that is left, or 64 symbols. Assumes nothing.
+-- `hear_parts::block_octets` meets its contract: all that is left, or 64 symbols. Assumes nothing.
 use Prim.Native.Nat.{_<_}
 use native.Mathlib.Omega.{arith}
 use Rattle.rules_rates.specs.declared.Rate.{Rate}
@@ -6,8 +6,8 @@ use Rattle.rules_rates.specs.declared.Rate.the-variants.{One, Two, Five, Eleven
 use Rattle.rules_rates.specs.Rates.{octetSymbols}
 use borrow.Author.Needs.{needs}
 use Rattle.hear_codes.proofs.Codes.{block-rest, block-whole}
-use Rattle.hearing.proofs.block_octets.Statement.{statement}
-use Rattle.hearing.proofs.block_octets.Tie as tie
+use Rattle.hear_parts.proofs.block_octets.Statement.{statement}
+use Rattle.hear_parts.proofs.block_octets.Tie as tie
 
 some : (r : Rate) → 0 < octetSymbols r
 some One = omega arith

@@ -1,4 +1,5 @@
--- `hearing::hear_octets` meets its contract. The invariant: the first k octets are heard and stored. Assumes nothing.
+-- `hear_parts::hear_octets` meets its contract. The invariant: the first k octets are heard and stored. Assumes
+-- nothing.
 use Prim.Native.Nat.{_+_, _-_, _*_, _^_, _≤_, _<_}
 use native.Mathlib.Omega.{arith}
 use lib.ListN.{length, length-drop}
@@ -7,7 +8,7 @@ use Rattle.rules_rates.specs.Rates.{octetSymbols, octetChips}
 use Rattle.choose_recorders.specs.Rows.{recordingOf}
 use Rattle.choose_recorders.proofs.Rows.{recording-fits}
 use borrow.Author.Needs.{needs}
-use Rattle.hearing.proofs.Parts.{
+use Rattle.hear_parts.proofs.Parts.{
   Parts,
   parts-none,
   parts-long,
@@ -17,8 +18,8 @@ use Rattle.hearing.proofs.Parts.{
   block-usable,
   block-symbol,
 }
-use Rattle.hearing.proofs.hear_octets.Statement.{statement}
-use Rattle.hearing.proofs.hear_octets.Tie as tie
+use Rattle.hear_parts.proofs.hear_octets.Statement.{statement}
+use Rattle.hear_parts.proofs.hear_octets.Tie as tie
 
 abbrev Inv-loop : tie.InvT-loop
 Inv-loop rec row bytes i q rate at symbol out₀ chips symbols part₀ place₀ k₀ out part place k =

@@ -1,7 +1,7 @@
--- `hearing::first_of` meets its contract, by cases. Assumes nothing.
+-- `hear_parts::first_of` meets its contract, by cases. Assumes nothing.
 use borrow.Author.Needs.{needs}
-use Rattle.hearing.proofs.first_of.Statement.{statement}
-use Rattle.hearing.proofs.first_of.Tie as tie
+use Rattle.hear_parts.proofs.first_of.Statement.{statement}
+use Rattle.hear_parts.proofs.first_of.Tie as tie
 
 returns : tie.Need-returns
 returns c = rw (c .before .a .given .1)

@@ -13,7 +13,7 @@ use Rattle.rules_calls.specs.declared.Least.{Least}
 use Rattle.rules_reading.specs.Reading.{decidedWords}
 use Rattle.rules_reading.specs.Leads.{decidedLeads, leastFrom}
 use Rattle.hear_blocks.specs.Heard.{Heard, plainOctets}
-use Rattle.hearing.specs.declared.Part.{Part}
+use Rattle.hear_parts.specs.declared.Part.{Part}
 
 -- the words of n octets from place `at` of a recording, and their leads
 abbrev pub partWords : Rate → ℕ → ℕ → List Taken → List ℕ

@@ -49,8 +49,8 @@ use Rattle.choose_recorded.proofs.Search.{usable-part}
 use Rattle.hear_blocks.specs.declared.Hearing.{Hearing}
 use Rattle.hear_codes.specs.Codes.{AreWords, BlockOf}
 use Rattle.hear_blocks.specs.Heard.{received, plainBits, plainOctets, Heard}
-use Rattle.hearing.specs.declared.Part.{Part}
-use Rattle.hearing.specs.Hearing.{partWords, partLeads, PartHeard}
+use Rattle.hear_parts.specs.declared.Part.{Part}
+use Rattle.hear_parts.specs.Hearing.{partWords, partLeads, PartHeard}
 use Rattle.rules_reading.proofs.Places.{decidedWords-length}
 use Rattle.rules_reading.proofs.Leads.{leads-length, leads-at, leads-append, least-joined}
 use Rattle.rules_reading.proofs.Passes.{past-take, descramble-take, oddGrowth-append, decidedWords-append}
