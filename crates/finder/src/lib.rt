@@ -70,7 +70,7 @@ fn front_at(kind: Kind, chips: &[u8], at: usize) -> Front
     let bytes = &byte[0..0];
     let sample = [0.0f32; 1];
     let row = &sample[0..0];
-    let opening = fronts::read_front(Recorder::Hard, &chips[at..], bytes, row, row, kind);
+    let opening = read_fronts::read_front(Recorder::Hard, &chips[at..], bytes, row, row, kind);
     opening.front
 }
 

@@ -65,7 +65,7 @@ pub fn read_front(kind: u64, chips: &[u8]) -> Coming
     let bytes = &byte[0..0];
     let sample = [0.0f32; 1];
     let row = &sample[0..0];
-    let opening = fronts::read_whole(Recorder::Hard, chips, bytes, row, row, k);
+    let opening = read_fronts::read_whole(Recorder::Hard, chips, bytes, row, row, k);
     let front = opening.front;
     match front {
         Front::Refused(e) => refused(k, e),

@@ -26,8 +26,8 @@ use Rattle.choose_recorded.specs.declared.Place.{Place}
 use Rattle.choose_recorded.specs.declared.Place.the-variants.{Nothing, At}
 use Rattle.choose_recorded.specs.Recorded.{whereFound, AllUsable}
 use Rattle.choose_recorded.proofs.Search.{none-usable}
-use Rattle.fronts.specs.declared.Opening.{Opening}
-use Rattle.fronts.specs.Openings.{OpensWhole}
+use Rattle.read_fronts.specs.declared.Opening.{Opening}
+use Rattle.read_fronts.specs.Openings.{OpensWhole}
 use Rattle.reader.specs.Payloads.{octetsHeard, afterHeard}
 
 -- ---- the payload

@@ -41,7 +41,7 @@ fn read(
         return Reading::Refused(Refusal::RowsDiffer);
     }
     let k = common_kinds::kind_of(kind);
-    let opening = fronts::read_whole(rec, row, bytes, i, q, k);
+    let opening = read_fronts::read_whole(rec, row, bytes, i, q, k);
     let told = opening.front;
     match told {
         Front::Refused(e) => Reading::Refused(e),

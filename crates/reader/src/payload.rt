@@ -8,7 +8,7 @@ ghost use Rattle.rules_reading.specs.Reading.{payloadOdd, payloadReading, octet
 ghost use Rattle.rules_reading.specs.Leads.{frontLeads, frameLeads, leastOf};
 ghost use Rattle.choose_recorders.specs.Rows.{lent};
 ghost use Rattle.choose_recorded.specs.Recorded.{whereFound, AllUsable};
-ghost use Rattle.fronts.specs.Openings.{Opened};
+ghost use Rattle.read_fronts.specs.Openings.{Opened};
 ghost use Rattle.reader.specs.Payloads.{octetsHeard, afterHeard};
 use hear_blocks::Hearing;
 use rules_calls::Least;

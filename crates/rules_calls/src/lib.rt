@@ -43,7 +43,7 @@ pub enum Refusal {
     RowsDiffer,
     // promise: the recording is shorter than the front
     // rule: 6.4 (8)
-    // code: fronts::read_front
+    // code: read_fronts::read_front
     // with: frontOf
     ShorterThanFront,
     // promise: a chip of the part is unusable; place: the first such chip. A byte recording has none

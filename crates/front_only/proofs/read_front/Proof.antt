@@ -15,8 +15,8 @@ use Rattle.rules_reading.specs.Reading.{frontOf, wholeOf}
 use Rattle.rules_coming.specs.declared.Coming.{Coming}
 use Rattle.rules_coming.specs.Coming.{frontReading, comingOf}
 use Rattle.rules_coming.proofs.Laws.{coming-no-kind, coming-whole}
-use Rattle.fronts.specs.declared.Opening.{Opening}
-use Rattle.fronts.specs.Openings.{OpensWhole}
+use Rattle.read_fronts.specs.declared.Opening.{Opening}
+use Rattle.read_fronts.specs.Openings.{OpensWhole}
 use Rattle.front_only.proofs.read_front.Statement.{statement}
 use Rattle.front_only.proofs.read_front.Tie as tie
 

@@ -13,8 +13,8 @@ use Rattle.rules_calls.specs.declared.Reading.{Reading}
 use Rattle.rules_calls.specs.declared.Front.the-variants.{Fields}
 use Rattle.rules_reading.specs.Reading.{payloadReading, octetsAfter}
 use Rattle.rules_reading.specs.Leads.{frontLeads, leastOf}
-use Rattle.fronts.specs.declared.Opening.{Opening}
-use Rattle.fronts.specs.Openings.{Opened, OpensWhole}
+use Rattle.read_fronts.specs.declared.Opening.{Opening}
+use Rattle.read_fronts.specs.Openings.{Opened, OpensWhole}
 use borrow.Author.Needs.{needs}
 use Rattle.reader.proofs.Order.{read-no-kind, read-rows, read-refused, read-told}
 use Rattle.reader.proofs.read.Statement.{statement}

@@ -22,9 +22,9 @@ use Rattle.hear_parts.specs.declared.Part.{Part}
 use Rattle.hear_parts.specs.Hearing.{PartHeard}
 use Rattle.hear_parts.proofs.Parts.{few-symbols}
 use Rattle.choose_recorders.proofs.Rows.{recording-fits}
-use Rattle.fronts.specs.Openings.{Opened}
+use Rattle.read_fronts.specs.Openings.{Opened}
 use borrow.Author.Needs.{needs}
-use Rattle.fronts.proofs.Behind.{payload-odd, payload-octets, payload-least, lent-long, octets-back}
+use Rattle.read_fronts.proofs.Behind.{payload-odd, payload-octets, payload-least, lent-long, octets-back}
 use Rattle.reader.proofs.payload.hear_payload.Statement.{statement}
 use Rattle.reader.proofs.payload.hear_payload.Tie as tie
 

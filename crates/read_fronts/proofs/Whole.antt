@@ -50,9 +50,9 @@ use Rattle.hear_blocks.specs.Heard.{received, plainBits, Heard}
 use Rattle.hear_parts.specs.Hearing.{partWords, partLeads, PartHeard}
 use Rattle.rules_reading.proofs.Places.{decidedWords-length}
 use Rattle.hear_parts.proofs.Parts.{plain-length}
-use Rattle.fronts.specs.declared.Preamble.{Preamble}
-use Rattle.fronts.specs.Openings.{preambleHeard, PreambleKnown, Opened, FrontKnown}
-use Rattle.fronts.proofs.Preambles.{preamble-length, goes-on}
+use Rattle.read_fronts.specs.declared.Preamble.{Preamble}
+use Rattle.read_fronts.specs.Openings.{preambleHeard, PreambleKnown, Opened, FrontKnown}
+use Rattle.read_fronts.proofs.Preambles.{preamble-length, goes-on}
 
 header-words : (k : Kind) (rec : List Taken) → partWords (headerRate k) (preambleChips k) 6 rec ≡ headerWords k rec
 unfolding headerWords

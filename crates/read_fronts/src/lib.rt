@@ -4,7 +4,7 @@ ghost use mathlib.Core.List.{List};
 ghost use Rattle.rules_chips.specs.Chips.{Taken};
 ghost use Rattle.rules_reading.specs.Reading.{frontOf};
 ghost use Rattle.choose_recorders.specs.Rows.{lent};
-ghost use Rattle.fronts.specs.Openings.{FrontKnown, afterUsable, Opens, OpensWhole};
+ghost use Rattle.read_fronts.specs.Openings.{FrontKnown, afterUsable, Opens, OpensWhole};
 use hear_blocks::Hearing;
 use rules_calls::Front;
 use rules_calls::Least;

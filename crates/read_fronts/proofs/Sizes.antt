@@ -17,8 +17,8 @@ use Rattle.rules_frame.specs.Frame.{frameChips}
 use Rattle.rules_calls.specs.Headers.{told}
 use Rattle.rules_reading.specs.Reading.{frontOf, wholeOf}
 use Rattle.rules_reading.proofs.Telling.{TellingIf, front-telling}
-use Rattle.fronts.specs.Openings.{Opens, OpensWhole}
-use Rattle.fronts.specs.declared.Opening.{Opening}
+use Rattle.read_fronts.specs.Openings.{Opens, OpensWhole}
+use Rattle.read_fronts.specs.declared.Opening.{Opening}
 
 -- an opening that refuses needs neither line nor lead nor sizes
 opens-none : (k : Kind) (rec : List Taken) (o : Opening) (e : Refusal) → o .front ≡ Refused e

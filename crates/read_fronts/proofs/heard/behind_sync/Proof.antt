@@ -1,11 +1,11 @@
--- `fronts::heard::behind_sync` meets its contract, by kinds. Assumes nothing.
+-- `read_fronts::heard::behind_sync` meets its contract, by kinds. Assumes nothing.
 use mathlib.Core.Path.{_≡_, sym}
 use native.Mathlib.Omega.{arith}
 use lib.ListN.{length}
 use Rattle.hear_codes.proofs.Codes.{two-from}
 use borrow.Author.Needs.{needs}
-use Rattle.fronts.proofs.heard.behind_sync.Statement.{statement}
-use Rattle.fronts.proofs.heard.behind_sync.Tie as tie
+use Rattle.read_fronts.proofs.heard.behind_sync.Statement.{statement}
+use Rattle.read_fronts.proofs.heard.behind_sync.Tie as tie
 
 returns : tie.Need-returns
 returns c =

@@ -6,7 +6,7 @@ ghost use Rattle.rules_frame.specs.Frame.{frontChips};
 ghost use Rattle.rules_reading.specs.Leads.{leastOf};
 ghost use Rattle.choose_recorders.specs.Rows.{lent};
 ghost use Rattle.choose_recorded.specs.Recorded.{AllUsable};
-ghost use Rattle.fronts.specs.Openings.{
+ghost use Rattle.read_fronts.specs.Openings.{
   syncOctets,
   preambleOctets,
   preambleLeads,

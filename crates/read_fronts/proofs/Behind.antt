@@ -43,7 +43,7 @@ use Rattle.hear_parts.specs.Hearing.{partLeads, PartHeard}
 use Rattle.rules_bits.proofs.Heard.{heard-length, heard-parity}
 use Rattle.rules_reading.proofs.Places.{decidedWords-length}
 use Rattle.rules_reading.proofs.Leads.{frame-least}
-use Rattle.fronts.specs.Openings.{Opened}
+use Rattle.read_fronts.specs.Openings.{Opened}
 
 -- how many bits the front has
 header-bits : (k : Kind) (rec : List Taken) → symbolBits (headerRate k) * length (headerWords k rec) ≡ headerLength

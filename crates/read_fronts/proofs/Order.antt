@@ -20,9 +20,9 @@ use Rattle.choose_recorded.specs.declared.Place.{Place}
 use Rattle.choose_recorded.specs.declared.Place.the-variants.{Nothing, At}
 use Rattle.choose_recorded.specs.Recorded.{whereFound, AllUsable}
 use Rattle.choose_recorded.proofs.Search.{none-usable}
-use Rattle.fronts.specs.declared.FrontHeard.{FrontHeard}
-use Rattle.fronts.specs.declared.Opening.{Opening}
-use Rattle.fronts.specs.Openings.{FrontKnown, afterUsable, Opens}
+use Rattle.read_fronts.specs.declared.FrontHeard.{FrontHeard}
+use Rattle.read_fronts.specs.declared.Opening.{Opening}
+use Rattle.read_fronts.specs.Openings.{FrontKnown, afterUsable, Opens}
 
 -- an opening that refuses needs neither line nor lead
 opens-refused : (k : Kind) (rec : List Taken) (f : Front) (e : Refusal) (o : Opening) → o .front ≡ Refused e → f

@@ -1,11 +1,11 @@
--- `fronts::read_whole` meets its contract: what the front tells, and 16. Assumes nothing.
+-- `read_fronts::read_whole` meets its contract: what the front tells, and 16. Assumes nothing.
 use mathlib.Core.Path.{_≡_}
 use Prim.Native.Nat.{ℕ, _≤_, _<_}
 use native.Mathlib.Omega.{arith}
 use borrow.Author.Needs.{needs}
-use Rattle.fronts.proofs.Sizes.{whole-refused, whole-few, whole-ends, whole-kept}
-use Rattle.fronts.proofs.read_whole.Statement.{statement}
-use Rattle.fronts.proofs.read_whole.Tie as tie
+use Rattle.read_fronts.proofs.Sizes.{whole-refused, whole-few, whole-ends, whole-kept}
+use Rattle.read_fronts.proofs.read_whole.Statement.{statement}
+use Rattle.read_fronts.proofs.read_whole.Tie as tie
 
 -- a comparison of two results is one of what they are
 below : (a b x y : ℕ) → a ≡ x → b ≡ y → a < b → x < y

@@ -1,11 +1,11 @@
--- `fronts::read_front` meets its contract: 8, 9, and then what a front of usable chips tells. Assumes nothing.
+-- `read_fronts::read_front` meets its contract: 8, 9, and then what a front of usable chips tells. Assumes nothing.
 use mathlib.Core.Path.{_≡_}
 use Prim.Native.Nat.{ℕ, _≤_, _<_}
 use native.Mathlib.Omega.{arith}
 use borrow.Author.Needs.{needs}
-use Rattle.fronts.proofs.Order.{front-short, front-unusable, all-usable, front-usable}
-use Rattle.fronts.proofs.read_front.Statement.{statement}
-use Rattle.fronts.proofs.read_front.Tie as tie
+use Rattle.read_fronts.proofs.Order.{front-short, front-unusable, all-usable, front-usable}
+use Rattle.read_fronts.proofs.read_front.Statement.{statement}
+use Rattle.read_fronts.proofs.read_front.Tie as tie
 
 -- a comparison of two results is one of what they are
 below : (a b x y : ℕ) → a ≡ x → b ≡ y → a < b → x < y

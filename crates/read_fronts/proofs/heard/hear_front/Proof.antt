@@ -1,4 +1,4 @@
--- `fronts::heard::hear_front` meets its contract: the preamble and the header are heard one after the other on one
+-- `read_fronts::heard::hear_front` meets its contract: the preamble and the header are heard one after the other on one
 -- line. Assumes nothing.
 use mathlib.Core.Path.{_≡_, refl, subst}
 use Prim.Native.Nat.{ℕ, _+_, _*_, _/_, _≤_}
@@ -19,9 +19,9 @@ use Rattle.hear_parts.proofs.Parts.{few-symbols}
 use Rattle.common_lines.specs.declared.Line.{Line}
 use mathlib.Core.List.{List}
 use borrow.Author.Needs.{needs}
-use Rattle.fronts.proofs.Whole.{front-known}
-use Rattle.fronts.proofs.heard.hear_front.Statement.{statement}
-use Rattle.fronts.proofs.heard.hear_front.Tie as tie
+use Rattle.read_fronts.proofs.Whole.{front-known}
+use Rattle.read_fronts.proofs.heard.hear_front.Statement.{statement}
+use Rattle.read_fronts.proofs.heard.hear_front.Tie as tie
 
 -- the header ends where the front does
 module _ (k : Kind) (r : Rate) (from : ℕ) (e : r ≡ headerRate k) (f : from ≡ preambleChips k) where

@@ -1,8 +1,8 @@
--- `fronts::told` meets its contract: 10, then what the header tells. Assumes nothing.
+-- `read_fronts::told` meets its contract: 10, then what the header tells. Assumes nothing.
 use borrow.Author.Needs.{needs}
-use Rattle.fronts.proofs.Order.{usable-odd, usable-header}
-use Rattle.fronts.proofs.told.Statement.{statement}
-use Rattle.fronts.proofs.told.Tie as tie
+use Rattle.read_fronts.proofs.Order.{usable-odd, usable-header}
+use Rattle.read_fronts.proofs.told.Statement.{statement}
+use Rattle.read_fronts.proofs.told.Tie as tie
 
 returns : tie.Need-returns
 returns c = λ rec x. usable-odd _ rec _ _ _ (c .before .before .odd .given .1) (x .odd) (c .refused .ensures)

@@ -1,8 +1,8 @@
--- `fronts::heard::hear_preamble` meets its contract: the octets behind SYNC are the SFD's. Assumes nothing.
+-- `read_fronts::heard::hear_preamble` meets its contract: the octets behind SYNC are the SFD's. Assumes nothing.
 use borrow.Author.Needs.{needs}
-use Rattle.fronts.proofs.Preambles.{preamble-sfd}
-use Rattle.fronts.proofs.heard.hear_preamble.Statement.{statement}
-use Rattle.fronts.proofs.heard.hear_preamble.Tie as tie
+use Rattle.read_fronts.proofs.Preambles.{preamble-sfd}
+use Rattle.read_fronts.proofs.heard.hear_preamble.Statement.{statement}
+use Rattle.read_fronts.proofs.heard.hear_preamble.Tie as tie
 
 returns : tie.Need-returns
 returns c =

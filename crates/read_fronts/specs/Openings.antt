@@ -36,9 +36,9 @@ use Rattle.rules_reading.specs.Reading.{
 use Rattle.rules_reading.specs.Leads.{decidedLeads, frontLeads, leastOf}
 use Rattle.choose_recorded.specs.Recorded.{whereFound}
 use Rattle.hear_blocks.specs.declared.Hearing.{Hearing}
-use Rattle.fronts.specs.declared.Preamble.{Preamble}
-use Rattle.fronts.specs.declared.FrontHeard.{FrontHeard}
-use Rattle.fronts.specs.declared.Opening.{Opening}
+use Rattle.read_fronts.specs.declared.Preamble.{Preamble}
+use Rattle.read_fronts.specs.declared.FrontHeard.{FrontHeard}
+use Rattle.read_fronts.specs.declared.Opening.{Opening}
 
 -- SYNC is so many octets
 abbrev pub syncOctets : Kind → ℕ

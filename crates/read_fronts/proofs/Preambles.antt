@@ -52,7 +52,7 @@ use Rattle.hear_parts.proofs.Parts.{
   blocks-octets,
 }
 use Rattle.common_kinds.specs.Starts.{Starts}
-use Rattle.fronts.specs.Openings.{syncOctets, preambleHeard, preambleOctets, preambleLeads, PreambleLine}
+use Rattle.read_fronts.specs.Openings.{syncOctets, preambleHeard, preambleOctets, preambleLeads, PreambleLine}
 
 -- ---- the words
 

@@ -1,4 +1,4 @@
--- `fronts::heard::hear_sync` meets its contract: the first block and the rest are heard one after the other on one
+-- `read_fronts::heard::hear_sync` meets its contract: the first block and the rest are heard one after the other on one
 -- line. Assumes nothing.
 use mathlib.Core.Path.{_≡_, refl, _∙_}
 use Prim.Native.Nat.{ℕ, _+_, _-_, _*_, _^_, _≤_, _<_}
@@ -12,10 +12,10 @@ use Rattle.choose_recorders.specs.Rows.{recordingOf}
 use Rattle.choose_recorded.proofs.Search.{usable-part}
 use Rattle.hear_parts.proofs.Parts.{block-are-words}
 use borrow.Author.Needs.{needs}
-use Rattle.fronts.specs.Openings.{syncOctets}
-use Rattle.fronts.proofs.Preambles.{sync-heard, rest-lent, rest-room, decided-small}
-use Rattle.fronts.proofs.heard.hear_sync.Statement.{statement}
-use Rattle.fronts.proofs.heard.hear_sync.Tie as tie
+use Rattle.read_fronts.specs.Openings.{syncOctets}
+use Rattle.read_fronts.proofs.Preambles.{sync-heard, rest-lent, rest-room, decided-small}
+use Rattle.read_fronts.proofs.heard.hear_sync.Statement.{statement}
+use Rattle.read_fronts.proofs.heard.hear_sync.Tie as tie
 
 first-room : (k : Kind) (m : ℕ) → frontChips k ≤ m → 704 ≤ m
 first-room Long m h = omega arith

@@ -1,8 +1,8 @@
--- `fronts::heard::preamble_octets` meets its contract, by kinds. Assumes nothing.
+-- `read_fronts::heard::preamble_octets` meets its contract, by kinds. Assumes nothing.
 use mathlib.Core.Path.{refl}
 use borrow.Author.Needs.{needs}
-use Rattle.fronts.proofs.heard.preamble_octets.Statement.{statement}
-use Rattle.fronts.proofs.heard.preamble_octets.Tie as tie
+use Rattle.read_fronts.proofs.heard.preamble_octets.Statement.{statement}
+use Rattle.read_fronts.proofs.heard.preamble_octets.Tie as tie
 
 returns : tie.Need-returns
 returns c = rw (c .enum-told .given .1) refl
