@@ -36,7 +36,7 @@ pub extern "C" fn dsss_read_hard_3(kind: u64, chips: &[u8], octets: &mut [u8]) -
     ensures read { λ a. ⌜ ReadHard kind (now (chips .entry)) (length (now (octets .entry)))
         a (now (octets .exit)) ⌝ }
 {
-    reader::read_hard(kind, chips, octets)
+    read_frames::read_hard(kind, chips, octets)
 }
 
 // A soft recording, rows I and Q, to its payload; zeros as above.
@@ -45,7 +45,7 @@ pub extern "C" fn dsss_read_soft_3(kind: u64, i: &[f32], q: &[f32], octets: &mut
     ensures read { λ a. ⌜ ReadSoft kind (now (i .entry)) (now (q .entry)) (length (now (octets .entry)))
         a (now (octets .exit)) ⌝ }
 {
-    reader::read_soft(kind, i, q, octets)
+    read_frames::read_soft(kind, i, q, octets)
 }
 
 // A byte recording, I and Q in turn, to its payload; zeros as above.
@@ -54,7 +54,7 @@ pub extern "C" fn dsss_read_bytes_3(kind: u64, bytes: &[i8], octets: &mut [u8]) 
     ensures read { λ a. ⌜ ReadBytes kind (now (bytes .entry)) (length (now (octets .entry)))
         a (now (octets .exit)) ⌝ }
 {
-    reader::read_bytes(kind, bytes, octets)
+    read_frames::read_bytes(kind, bytes, octets)
 }
 
 // What is coming, from the front of a hard recording: what its header tells, the whole frame's chips, and where in the

@@ -30,7 +30,7 @@ fn print_answer(name: &[u8], number: u64, place: u64, row: &[u8]) {
 // A hard recording of a short frame, read, and asked what is coming, of which the part with the payload's chips is
 // printed.
 fn read(chips: &[u8], octets: &mut [u8]) {
-    let record: Record = reader::read_hard(1, chips, octets);
+    let record: Record = read_frames::read_hard(1, chips, octets);
     print_answer(b"hard ", record.number, record.place, octets);
     let told: Coming = front_only::read_front(1, chips);
     let part = front_only::part(told, chips);
@@ -40,10 +40,10 @@ fn read(chips: &[u8], octets: &mut [u8]) {
 // Readings that are refused: soft chips of which there are too few, and bytes of which there is one too many.
 fn refused(octets: &mut [u8]) {
     let row = [1.0f32; 8];
-    let soft: Record = reader::read_soft(1, &row, &row, octets);
+    let soft: Record = read_frames::read_soft(1, &row, &row, octets);
     print_answer(b"soft ", soft.number, soft.place, octets);
     let odd = [0i8; 3];
-    let bytes: Record = reader::read_bytes(1, &odd, octets);
+    let bytes: Record = read_frames::read_bytes(1, &odd, octets);
     print_answer(b"bytes ", bytes.number, bytes.place, octets);
 }
 

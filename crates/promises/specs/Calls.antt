@@ -39,17 +39,17 @@ pub record Wrote (kind rate phase clock : ℕ) (payload : List ℕ) (room : ℕ)
 pub record Read (kind : ℕ) (agree : Bool) (rec : List Taken) (room : ℕ) (a : Record) (left : List ℕ) : Type 0 where
   -- promise: A read answers the definition's record, whatever recorded the chips, for every input
   -- rule: 2.7, 6.2 to 6.8, 6.10, 6.16, 9.1
-  -- code: reader::read_hard, read_soft, read_bytes
+  -- code: read_frames::read_hard, read_soft, read_bytes
   pub answer : a ≡ recordOf (readingOf kind agree rec room)
   -- promise: The octet buffer at the end is the payload and then zeros; after a refusal only zeros
   -- rule: 4.7, 5.7, 5.12, 6.9, 6.12, 9.1
-  -- code: reader::read_hard, read_soft, read_bytes
+  -- code: read_frames::read_hard, read_soft, read_bytes
   pub octets : left ≡ octetsFound kind agree rec room
 
 -- the hard reader, the soft one, and that of bytes
 -- promise: A hard read answers and fills as `Read` says, its octets 0 to 3 being phases, 4 lost and all others unusable
 -- rule: 2.1, 2.2, 2.4, 2.5
--- code: dsss_read_hard_3, reader::read_hard
+-- code: dsss_read_hard_3, read_frames::read_hard
 abbrev pub ReadHard : ℕ → List ℕ → ℕ → Record → List ℕ → Type 0
 ReadHard kind chips room a left = Read kind true (hardRecording chips) room a left
 

@@ -132,7 +132,7 @@ fn read(kind: u64, chips: &[u8]) -> Record
     ensures answer { λ r. ⌜ r ≡ outcomeOf (record { kind = kind; chips = now (chips .entry) }) .answer ⌝ }
 {
     let mut octets = [0u8; 4095];
-    reader::read_hard(kind, chips, &mut octets)
+    read_frames::read_hard(kind, chips, &mut octets)
 }
 
 // One recording more: 31, and the report as it stood, where it takes no more; else 0, whatever the reading comes to.

@@ -28,7 +28,7 @@ use Rattle.choose_recorded.specs.Recorded.{whereFound, AllUsable}
 use Rattle.choose_recorded.proofs.Search.{none-usable}
 use Rattle.read_fronts.specs.declared.Opening.{Opening}
 use Rattle.read_fronts.specs.Openings.{OpensWhole}
-use Rattle.reader.specs.Payloads.{octetsHeard, afterHeard}
+use Rattle.read_frames.specs.Payloads.{octetsHeard, afterHeard}
 
 -- ---- the payload
 

@@ -1,7 +1,7 @@
--- `reader::payload::heard` meets its contract, by cases. Assumes nothing.
+-- `read_frames::payload::heard` meets its contract, by cases. Assumes nothing.
 use borrow.Author.Needs.{needs}
-use Rattle.reader.proofs.payload.heard.Statement.{statement}
-use Rattle.reader.proofs.payload.heard.Tie as tie
+use Rattle.read_frames.proofs.payload.heard.Statement.{statement}
+use Rattle.read_frames.proofs.payload.heard.Tie as tie
 
 returns : tie.Need-returns
 returns c = rw (c .before .odd .given .1)

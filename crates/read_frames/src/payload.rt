@@ -9,7 +9,7 @@ ghost use Rattle.rules_reading.specs.Leads.{frontLeads, frameLeads, leastOf};
 ghost use Rattle.choose_recorders.specs.Rows.{lent};
 ghost use Rattle.choose_recorded.specs.Recorded.{whereFound, AllUsable};
 ghost use Rattle.read_fronts.specs.Openings.{Opened};
-ghost use Rattle.reader.specs.Payloads.{octetsHeard, afterHeard};
+ghost use Rattle.read_frames.specs.Payloads.{octetsHeard, afterHeard};
 use hear_blocks::Hearing;
 use rules_calls::Least;
 use rules_calls::Reading;

@@ -1,8 +1,9 @@
--- `reader::read_hard` meets its contract: it is `read` with this recorder, and the answer as numbers. Assumes nothing.
+-- `read_frames::read_hard` meets its contract: it is `read` with this recorder, and the answer as numbers. Assumes
+-- nothing.
 use borrow.Author.Needs.{needs}
-use Rattle.reader.proofs.Order.{in-numbers}
-use Rattle.reader.proofs.read_hard.Statement.{statement}
-use Rattle.reader.proofs.read_hard.Tie as tie
+use Rattle.read_frames.proofs.Order.{in-numbers}
+use Rattle.read_frames.proofs.read_hard.Statement.{statement}
+use Rattle.read_frames.proofs.read_hard.Tie as tie
 
 returns : tie.Need-returns
 returns c = in-numbers (c .record-of .ensures) (c .before .before .before .read .ensures)

@@ -1,5 +1,5 @@
--- `reader::payload::hear_payload` meets its contract: the octets are heard into the buffer's front, and cleared where a
--- symbol is grown by 1 or 3. Assumes nothing.
+-- `read_frames::payload::hear_payload` meets its contract: the octets are heard into the buffer's front, and cleared
+-- where a symbol is grown by 1 or 3. Assumes nothing.
 use mathlib.Core.Path.{_≡_, sym, ap, subst, _∙_}
 use mathlib.Core.List.{List, _++_}
 use mathlib.Core.Option.{none, some}
@@ -25,8 +25,8 @@ use Rattle.choose_recorders.proofs.Rows.{recording-fits}
 use Rattle.read_fronts.specs.Openings.{Opened}
 use borrow.Author.Needs.{needs}
 use Rattle.read_fronts.proofs.Behind.{payload-odd, payload-octets, payload-least, lent-long, octets-back}
-use Rattle.reader.proofs.payload.hear_payload.Statement.{statement}
-use Rattle.reader.proofs.payload.hear_payload.Tie as tie
+use Rattle.read_frames.proofs.payload.hear_payload.Statement.{statement}
+use Rattle.read_frames.proofs.payload.hear_payload.Tie as tie
 
 room : (k : Kind) (r : Rate) (n from m all : ℕ) → from ≡ frontChips k → m ≡ n → frameChips k r n ≤ all
     → from + octetChips r * m ≤ all

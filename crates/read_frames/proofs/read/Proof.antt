@@ -1,4 +1,5 @@
--- `reader::read` meets its contract: 1, 7, then what the front tells, then what the payload tells. Assumes nothing.
+-- `read_frames::read` meets its contract: 1, 7, then what the front tells, then what the payload tells. Assumes
+-- nothing.
 use mathlib.Core.Path.{_≡_, sym, ap, subst, _∙_}
 use mathlib.Core.Bool.{true}
 use mathlib.Core.List.{List}
@@ -16,9 +17,9 @@ use Rattle.rules_reading.specs.Leads.{frontLeads, leastOf}
 use Rattle.read_fronts.specs.declared.Opening.{Opening}
 use Rattle.read_fronts.specs.Openings.{Opened, OpensWhole}
 use borrow.Author.Needs.{needs}
-use Rattle.reader.proofs.Order.{read-no-kind, read-rows, read-refused, read-told}
-use Rattle.reader.proofs.read.Statement.{statement}
-use Rattle.reader.proofs.read.Tie as tie
+use Rattle.read_frames.proofs.Order.{read-no-kind, read-rows, read-refused, read-told}
+use Rattle.read_frames.proofs.read.Statement.{statement}
+use Rattle.read_frames.proofs.read.Tie as tie
 
 -- what a front that tells fields hands on to the payload
 handed : (k : Kind) (rec : List Taken) (o : Opening) (t : Told) (d z : List ℕ) → OpensWhole k rec o

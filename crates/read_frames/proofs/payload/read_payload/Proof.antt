@@ -1,11 +1,11 @@
--- `reader::payload::read_payload` meets its contract: 17, 9, 10 in this order, each by the tests that led there.
+-- `read_frames::payload::read_payload` meets its contract: 17, 9, 10 in this order, each by the tests that led there.
 -- Assumes nothing.
 use lib.ListN.{length}
 use Rattle.choose_recorders.specs.Rows.{recordingOf}
 use borrow.Author.Needs.{needs}
-use Rattle.reader.proofs.Order.{Searched, payload-room, payload-unusable, payload-usable, payload-heard}
-use Rattle.reader.proofs.payload.read_payload.Statement.{statement}
-use Rattle.reader.proofs.payload.read_payload.Tie as tie
+use Rattle.read_frames.proofs.Order.{Searched, payload-room, payload-unusable, payload-usable, payload-heard}
+use Rattle.read_frames.proofs.payload.read_payload.Statement.{statement}
+use Rattle.read_frames.proofs.payload.read_payload.Tie as tie
 
 -- 17 is through, and the payload's chips are searched
 searched : (c : tie.After-first-unusable)
