@@ -63,7 +63,7 @@ pub extern "C" fn dsss_read_bytes_3(kind: u64, bytes: &[i8], octets: &mut [u8]) 
 pub extern "C" fn dsss_read_front(kind: u64, chips: &[u8]) -> Coming
     ensures read { λ c. ⌜ ReadFront kind (now (chips .entry)) c ⌝ }
 {
-    front_only::read_front(kind, chips)
+    read_front_only::read_front(kind, chips)
 }
 
 // The smallest of so many offsets from which a read of a hard recording meets none of 8 to 15, and what the front there

@@ -1,4 +1,4 @@
--- `front_only::part` meets its contract: what the recording does not have is empty. Assumes nothing.
+-- `read_front_only::part` meets its contract: what the recording does not have is empty. Assumes nothing.
 use mathlib.Core.Path.{_≡_, sym}
 use mathlib.Core.List.{List, []}
 use Prim.Native.Nat.{ℕ, _+_, _-_, _≤_, _<_}
@@ -8,8 +8,8 @@ use lib.ListN.{length, take, drop}
 use Rattle.rules_coming.specs.declared.Coming.{Coming}
 use Rattle.rules_coming.proofs.Laws.{part-there, part-none}
 use Rattle.promises.specs.Calls.{Handed}
-use Rattle.front_only.proofs.part.Statement.{statement}
-use Rattle.front_only.proofs.part.Tie as tie
+use Rattle.read_front_only.proofs.part.Statement.{statement}
+use Rattle.read_front_only.proofs.part.Tie as tie
 
 module _ (c : Coming) (chips : List ℕ) where
   starts-past : length chips < c .at → Handed c chips []

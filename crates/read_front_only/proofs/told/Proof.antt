@@ -1,4 +1,4 @@
--- `front_only::told` meets its contract: what the header tells, and the chips of front and frame. Assumes nothing.
+-- `read_front_only::told` meets its contract: what the header tells, and the chips of front and frame. Assumes nothing.
 use mathlib.Core.Path.{_≡_}
 use Prim.Native.Nat.{ℕ, _-_}
 use mir.Val.{boolByte}
@@ -11,8 +11,8 @@ use Rattle.rules_calls.specs.declared.Told.{Told}
 use Rattle.rules_calls.specs.declared.Front.the-variants.{Fields}
 use Rattle.rules_coming.specs.declared.Coming.{Coming}
 use Rattle.rules_coming.specs.Coming.{comingOf}
-use Rattle.front_only.proofs.told.Statement.{statement}
-use Rattle.front_only.proofs.told.Tie as tie
+use Rattle.read_front_only.proofs.told.Statement.{statement}
+use Rattle.read_front_only.proofs.told.Tie as tie
 
 in-numbers : (k : Kind) (t : Told) (code at used : ℕ) → code ≡ codeOf (t .rate) → at ≡ frontChips k
     → used ≡ frameChips k (t .rate) (t .n)

@@ -1,4 +1,4 @@
--- `front_only::read_front` meets its contract: 1, then what the front tells. Assumes nothing.
+-- `read_front_only::read_front` meets its contract: 1, then what the front tells. Assumes nothing.
 use mathlib.Core.Path.{_≡_, sym, ap, ap₂, _∙_}
 use mathlib.Core.Bool.{true, false}
 use mathlib.Core.List.{List}
@@ -17,8 +17,8 @@ use Rattle.rules_coming.specs.Coming.{frontReading, comingOf}
 use Rattle.rules_coming.proofs.Laws.{coming-no-kind, coming-whole}
 use Rattle.read_fronts.specs.declared.Opening.{Opening}
 use Rattle.read_fronts.specs.Openings.{OpensWhole}
-use Rattle.front_only.proofs.read_front.Statement.{statement}
-use Rattle.front_only.proofs.read_front.Tie as tie
+use Rattle.read_front_only.proofs.read_front.Statement.{statement}
+use Rattle.read_front_only.proofs.read_front.Tie as tie
 
 module _ (kind : ℕ) (rec : List Taken) (k : Kind) (r : Coming) (k-is : k ≡ kindOf kind) where
   no-kind : isKind kind ≡ false → r ≡ comingOf k (Refused NoKind)

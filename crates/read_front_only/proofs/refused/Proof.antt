@@ -1,4 +1,4 @@
--- `front_only::refused` meets its contract: a refusal's three numbers, and zeros. Assumes nothing.
+-- `read_front_only::refused` meets its contract: a refusal's three numbers, and zeros. Assumes nothing.
 use mathlib.Core.Path.{_≡_}
 use Prim.Native.Nat.{ℕ}
 use borrow.Author.Needs.{needs}
@@ -8,8 +8,8 @@ use Rattle.rules_calls.specs.declared.Front.the-variants.{Refused}
 use Rattle.rules_calls.specs.Answers.{refusalNumber, refusalPlace, refusalLength}
 use Rattle.rules_coming.specs.declared.Coming.{Coming}
 use Rattle.rules_coming.specs.Coming.{comingOf}
-use Rattle.front_only.proofs.refused.Statement.{statement}
-use Rattle.front_only.proofs.refused.Tie as tie
+use Rattle.read_front_only.proofs.refused.Statement.{statement}
+use Rattle.read_front_only.proofs.refused.Tie as tie
 
 in-numbers : (k : Kind) (e : Refusal) (number place length : ℕ) → number ≡ refusalNumber e → place ≡ refusalPlace e
     → length ≡ refusalLength e
