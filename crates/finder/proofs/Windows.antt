@@ -32,8 +32,8 @@ use Rattle.rules_finding.proofs.Laws.{
   start-joined,
   short-missed,
 }
-use Rattle.sweep.specs.Sweep.{halfAt, octetAt, sfdFrom, Row, Marked}
-use Rattle.sweep.proofs.Sfd.{sfd-low, sfd-high}
+use Rattle.find_sweep.specs.Sweep.{halfAt, octetAt, sfdFrom, Row, Marked}
+use Rattle.find_sweep.proofs.Sfd.{sfd-low, sfd-high}
 use Rattle.rules_finding.proofs.Seeks.{not-both}
 
 module _ (kind : Kind) (rec : List Taken) where

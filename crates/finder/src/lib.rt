@@ -98,7 +98,7 @@ fn seek(kind: Kind, chips: &[u8], at: usize, count: usize, marks: &[u8; 512]) ->
         → Missed (frontOf kind (drop (at + j) (hardRecording (now chips))))) ⌝ }
     ensures answer { λ r. ⌜ r ≡ firstStart kind at count (drop at (hardRecording (now (chips .entry)))) ⌝ }
 {
-    if !sweep::any(marks) {
+    if !find_sweep::any(marks) {
         return Finding::Refused(NotFound::NoStart);
     }
     let mut j: usize = 0;
@@ -142,14 +142,14 @@ fn search(kind: Kind, chips: &[u8], offsets: usize) -> Finding
     let mut known: usize = 0;
     let mut at: usize = 0;
     while at < tried {
-        let count = sweep::at_most(tried - at, 256);
-        sweep::decide(chips, from + at, known, count + 253, &mut halves);
-        sweep::marks(low, high, &halves, &mut marks);
+        let count = find_sweep::at_most(tried - at, 256);
+        find_sweep::decide(chips, from + at, known, count + 253, &mut halves);
+        find_sweep::marks(low, high, &halves, &mut marks);
         let found = seek(kind, chips, at, count, &marks);
         if let Finding::Start { offset, told } = found {
             return Finding::Start { offset, told };
         }
-        sweep::advance(&mut halves);
+        find_sweep::advance(&mut halves);
         known = 253;
         at += 256;
     }

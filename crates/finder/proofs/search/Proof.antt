@@ -11,8 +11,8 @@ use Rattle.rules_chips.proofs.Recorders.{length-hard}
 use Rattle.rules_frame.specs.declared.Kind.{Kind}
 use Rattle.rules_frame.specs.declared.Kind.the-variants.{Long, Short}
 use Rattle.rules_frame.specs.Frame.{sfdOf, preambleChips, frontChips}
-use Rattle.sweep.specs.Sweep.{halfAt, Row}
-use Rattle.sweep.proofs.Rows.{row-none}
+use Rattle.find_sweep.specs.Sweep.{halfAt, Row}
+use Rattle.find_sweep.proofs.Rows.{row-none}
 use Rattle.finder.proofs.Windows.{MissedBelow, unmarked, window-hit, window-miss, window-end, carried}
 use Rattle.finder.proofs.search.Statement.{statement}
 use Rattle.finder.proofs.search.Tie as tie
