@@ -72,7 +72,7 @@ pub extern "C" fn dsss_read_front(kind: u64, chips: &[u8]) -> Coming
 pub extern "C" fn dsss_find(kind: u64, chips: &[u8], offsets: u64) -> Found
     ensures found { λ f. ⌜ Finds kind offsets (now (chips .entry)) f ⌝ }
 {
-    finder::find(kind, chips, offsets)
+    find_start::find(kind, chips, offsets)
 }
 
 // A hard recording more, read and counted in a report, which comes back by value. No buffer is lent.

@@ -103,7 +103,7 @@ pub record Handed (c : Coming) (chips part : List ℕ) : Type 0 where
 pub record Finds (kind offsets : ℕ) (chips : List ℕ) (f : Found) : Type 0 where
   -- promise: A search for a start answers the definition's record, for every input
   -- rule: 6.17, 9.1
-  -- code: dsss_find, finder::find
+  -- code: dsss_find, find_start::find
   pub answer : f ≡ foundOf (findingOf kind offsets (hardRecording chips))
 
 -- every call with what is handed to it, what it answers and leaves, and which of that its contract allows

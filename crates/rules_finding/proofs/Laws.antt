@@ -100,7 +100,7 @@ module _ (k : Kind) where
 
   -- promise: What a search comes to, one search after another, and a recording shorter than a front
   -- rule: 6.17
-  -- code: seek, finder::search
+  -- code: seek, find_start::search
   -- with: start-joined, short-missed, finding-comes
   pub start-comes : (at m : ℕ) (rec : List Taken) → StartIf at m rec (firstStart k at m rec)
   unfolding firstStart

@@ -1,4 +1,4 @@
--- `finder::seek` meets its contract. The invariant: the fronts from the first j offsets meet one of 8 to 15.
+-- `find_start::seek` meets its contract. The invariant: the fronts from the first j offsets meet one of 8 to 15.
 -- Assumes nothing.
 use mathlib.Core.Path.{sym}
 use Prim.Native.Nat.{_-_, _≤_}
@@ -9,8 +9,8 @@ use borrow.Author.Tests.{not-true}
 use Rattle.rules_chips.specs.Chips.{hardRecording}
 use Rattle.rules_finding.proofs.Laws.{AllMissed, start-none}
 use Rattle.rules_finding.proofs.Seeks.{seek-hit, seek-miss, seek-none}
-use Rattle.finder.proofs.seek.Statement.{statement}
-use Rattle.finder.proofs.seek.Tie as tie
+use Rattle.find_start.proofs.seek.Statement.{statement}
+use Rattle.find_start.proofs.seek.Tie as tie
 
 abbrev Inv-loop : tie.InvT-loop
 Inv-loop kind chips at count marks j₀ j = (j ≤ count) × AllMissed kind j (drop at (hardRecording chips))

@@ -1,5 +1,5 @@
--- `finder::search` meets its contract. The invariant: the fronts from the offsets before this one meet one of 8 to 15,
--- and the first halves from here on are known.
+-- `find_start::search` meets its contract. The invariant: the fronts from the offsets before this one meet one of 8 to
+-- 15, and the first halves from here on are known.
 -- Assumes nothing.
 use mathlib.Core.Path.{_≡_, refl, ap}
 use Prim.Native.Nat.{ℕ, _+_, _-_, _/_, _%_, _≤_, _<_, min}
@@ -13,9 +13,9 @@ use Rattle.rules_frame.specs.declared.Kind.the-variants.{Long, Short}
 use Rattle.rules_frame.specs.Frame.{sfdOf, preambleChips, frontChips}
 use Rattle.find_sweep.specs.Sweep.{halfAt, Row}
 use Rattle.find_sweep.proofs.Rows.{row-none}
-use Rattle.finder.proofs.Windows.{MissedBelow, unmarked, window-hit, window-miss, window-end, carried}
-use Rattle.finder.proofs.search.Statement.{statement}
-use Rattle.finder.proofs.search.Tie as tie
+use Rattle.find_start.proofs.Windows.{MissedBelow, unmarked, window-hit, window-miss, window-end, carried}
+use Rattle.find_start.proofs.search.Statement.{statement}
+use Rattle.find_start.proofs.search.Tie as tie
 
 abbrev Inv-loop : tie.InvT-loop
 Inv-loop kind chips offsets tried from sfd low high halves₀ marks₀ known₀ at₀ halves marks known at =

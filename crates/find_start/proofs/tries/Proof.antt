@@ -1,9 +1,9 @@
--- `finder::tries` meets its contract: an offset has a front behind it just below the chips less a front's, and one.
+-- `find_start::tries` meets its contract: an offset has a front behind it just below the chips less a front's, and one.
 -- Assumes nothing.
 use native.Mathlib.Omega.{arith}
 use Rattle.rules_reading.proofs.Places.{some-chips}
-use Rattle.finder.proofs.tries.Statement.{statement}
-use Rattle.finder.proofs.tries.Tie as tie
+use Rattle.find_start.proofs.tries.Statement.{statement}
+use Rattle.find_start.proofs.tries.Tie as tie
 
 pub tries-spec : {M : Type 1} → statement M
 tries-spec =

@@ -1,10 +1,10 @@
--- `finder::refused` meets its contract: the refusal's number. Assumes nothing.
+-- `find_start::refused` meets its contract: the refusal's number. Assumes nothing.
 use mathlib.Core.Path.{ap}
 use Prim.Native.Nat.{ℕ}
 use borrow.Author.Needs.{needs}
 use Rattle.rules_finding.specs.declared.Found.{Found}
-use Rattle.finder.proofs.refused.Statement.{statement}
-use Rattle.finder.proofs.refused.Tie as tie
+use Rattle.find_start.proofs.refused.Statement.{statement}
+use Rattle.find_start.proofs.refused.Tie as tie
 
 returns : tie.Need-returns
 returns c =

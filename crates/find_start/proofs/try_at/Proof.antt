@@ -1,4 +1,4 @@
--- `finder::try_at` meets its contract: a front without a mark meets one of 8 to 15. Assumes nothing.
+-- `find_start::try_at` meets its contract: a front without a mark meets one of 8 to 15. Assumes nothing.
 use mathlib.Core.Path.{sym, ap, _∙_}
 use Prim.Native.Nat.{ℕ}
 use lib.ListN.{drop}
@@ -12,8 +12,8 @@ use Rattle.rules_finding.specs.declared.Finding.{Finding}
 use Rattle.rules_finding.specs.declared.Finding.the-variants.{Refused}
 use Rattle.rules_finding.specs.Finding.{startOr}
 use Rattle.rules_finding.proofs.Laws.{missed-or}
-use Rattle.finder.proofs.try_at.Statement.{statement}
-use Rattle.finder.proofs.try_at.Tie as tie
+use Rattle.find_start.proofs.try_at.Statement.{statement}
+use Rattle.find_start.proofs.try_at.Tie as tie
 
 abbrev try : ℕ → Front → Finding
 try at f = startOr at f (Refused NoStart)

@@ -1,4 +1,4 @@
--- `finder::find` meets its contract: 1, then 18 at both ends, then the search. Assumes nothing.
+-- `find_start::find` meets its contract: 1, then 18 at both ends, then the search. Assumes nothing.
 use mathlib.Core.Path.{_≡_, refl, sym, ap, _∙_}
 use mathlib.Core.Bool.{true, false}
 use mathlib.Core.List.{List}
@@ -15,8 +15,8 @@ use Rattle.rules_finding.specs.declared.Finding.the-variants.{Refused}
 use Rattle.rules_finding.specs.declared.Found.{Found}
 use Rattle.rules_finding.specs.Finding.{isOffsets, firstStart, findingOf, foundOf}
 use Rattle.rules_finding.proofs.Laws.{offsets-tried, offsets-many, finding-no-kind, finding-no-offsets, finding-first}
-use Rattle.finder.proofs.find.Statement.{statement}
-use Rattle.finder.proofs.find.Tie as tie
+use Rattle.find_start.proofs.find.Statement.{statement}
+use Rattle.find_start.proofs.find.Tie as tie
 
 no-offsets : (n : ℕ) → n < 1 → isOffsets n ≡ false
 no-offsets n h = let e : n ≡ 0 = omega arith in rw e refl

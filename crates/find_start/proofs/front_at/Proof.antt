@@ -1,4 +1,4 @@
--- `finder::front_at` meets its contract: the front of what the recording has from there. Assumes nothing.
+-- `find_start::front_at` meets its contract: the front of what the recording has from there. Assumes nothing.
 use mathlib.Core.Path.{sym, ap, _∙_}
 use mathlib.Core.List.{List}
 use Prim.Native.Nat.{ℕ}
@@ -7,8 +7,8 @@ use Rattle.base.proofs.Over.{lent}
 use Rattle.rules_chips.specs.Chips.{hardRecording}
 use Rattle.rules_chips.proofs.Recorders.{drop-hard}
 use Rattle.rules_reading.specs.Reading.{frontOf}
-use Rattle.finder.proofs.front_at.Statement.{statement}
-use Rattle.finder.proofs.front_at.Tie as tie
+use Rattle.find_start.proofs.front_at.Statement.{statement}
+use Rattle.find_start.proofs.front_at.Tie as tie
 
 returns : tie.Need-returns
 returns c =

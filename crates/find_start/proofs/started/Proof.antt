@@ -1,4 +1,4 @@
--- `finder::started` meets its contract: what the header tells, in numbers. Assumes nothing.
+-- `find_start::started` meets its contract: what the header tells, in numbers. Assumes nothing.
 use mathlib.Core.Path.{_≡_}
 use Prim.Native.Nat.{ℕ}
 use mir.Val.{boolByte}
@@ -9,8 +9,8 @@ use Rattle.rules_calls.specs.declared.Told.{Told}
 use Rattle.rules_finding.specs.declared.Finding.the-variants.{Start}
 use Rattle.rules_finding.specs.declared.Found.{Found}
 use Rattle.rules_finding.specs.Finding.{foundOf}
-use Rattle.finder.proofs.started.Statement.{statement}
-use Rattle.finder.proofs.started.Tie as tie
+use Rattle.find_start.proofs.started.Statement.{statement}
+use Rattle.find_start.proofs.started.Tie as tie
 
 in-numbers : (offset : ℕ) (t : Told) (code : ℕ) → code ≡ codeOf (t .rate)
     → _≡_ {A = Found}
