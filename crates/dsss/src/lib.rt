@@ -80,7 +80,7 @@ pub extern "C" fn dsss_find(kind: u64, chips: &[u8], offsets: u64) -> Found
 pub extern "C" fn dsss_report_add(report: Report, kind: u64, chips: &[u8]) -> Counted
     ensures counted { λ c. ⌜ Adds report kind (now (chips .entry)) c ⌝ }
 {
-    reporter::add(report, kind, chips)
+    report_count::add(report, kind, chips)
 }
 
 // A whole list of hard recordings, each with its kind, counted from nothing. No buffer is lent.
@@ -88,7 +88,7 @@ pub extern "C" fn dsss_report_add(report: Report, kind: u64, chips: &[u8]) -> Co
 pub extern "C" fn dsss_report_list(kinds: &[u64], list: &[&[u8]]) -> Counted
     ensures counted { λ c. ⌜ Lists (now (kinds .entry)) (map (λ r. now r) (now (list .entry))) c ⌝ }
 {
-    reporter::of_list(kinds, list)
+    report_count::of_list(kinds, list)
 }
 
 // A report's text; zeros after the text, or everywhere after a refusal.

@@ -17,7 +17,7 @@ use Rattle.rules_report.specs.Text.{spelledOf, textLeft}
 pub record Adds (report : Report) (kind : ℕ) (chips : List ℕ) (c : Counted) : Type 0 where
   -- promise: One recording more in a report answers the definition's record, for every report and recording
   -- rule: 6.19, 9.1
-  -- code: dsss_report_add, reporter::add
+  -- code: dsss_report_add, report_count::add
   pub answer : c ≡ countedOf report (record { kind = kind; chips = chips })
 
 -- a whole list: its answer

@@ -94,7 +94,7 @@ within rs h =
 
 -- promise: The report of fewer than 1,000 recordings takes one more; one that has seen 1,000 takes none
 -- rule: 6.19
--- code: takes_more, reporter::add
+-- code: takes_more, report_count::add
 -- with: counted-next, counted-full
 pub takes-more : (rs : List Recording) → length rs < 1000 → takesMore (reportOf (map outcomeOf rs)) ≡ true
 takes-more rs h = limits-take (reportOf (map outcomeOf rs)) (within rs h)

@@ -1,7 +1,7 @@
--- `reporter::is_closer` meets its contract. Assumes nothing.
+-- `report_count::is_closer` meets its contract. Assumes nothing.
 use borrow.Author.Tests.{eq-eqb, ne-eqb}
-use Rattle.reporter.proofs.is_closer.Statement.{statement}
-use Rattle.reporter.proofs.is_closer.Tie as tie
+use Rattle.report_count.proofs.is_closer.Statement.{statement}
+use Rattle.report_count.proofs.is_closer.Tie as tie
 
 returns : tie.Need-returns
 returns c = rw (eq-eqb (c .before .args .some) 0 (c .if1 .taken))

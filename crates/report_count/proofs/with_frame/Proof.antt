@@ -1,4 +1,5 @@
--- `reporter::with_frame` meets its contract: one frame, its octets and its airtime more, and its lead if it is closer.
+-- `report_count::with_frame` meets its contract: one frame, its octets and its airtime more, and its lead if it is
+-- closer.
 -- Assumes nothing.
 use mathlib.Core.Path.{_≡_, sym, _∙_}
 use mathlib.Core.Bool.{Bool, true, false, cond}
@@ -13,8 +14,8 @@ use Rattle.rules_report.specs.declared.Report.{Report}
 use Rattle.rules_report.proofs.Added.{entry-below}
 use Rattle.rules_report.proofs.Taking.{front-time}
 use Rattle.rules_report.proofs.Lists.{takes, more-set}
-use Rattle.reporter.proofs.with_frame.Statement.{statement}
-use Rattle.reporter.proofs.with_frame.Tie as tie
+use Rattle.report_count.proofs.with_frame.Statement.{statement}
+use Rattle.report_count.proofs.with_frame.Tie as tie
 
 entry-few : (code at : ℕ) → at ≡ entryOf code → at < 4
 entry-few code at e = rw e (entry-below code)

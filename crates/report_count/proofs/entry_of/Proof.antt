@@ -1,7 +1,7 @@
--- `reporter::entry_of` meets its contract. Assumes nothing.
+-- `report_count::entry_of` meets its contract. Assumes nothing.
 use borrow.Author.Tests.{ne-eqb}
-use Rattle.reporter.proofs.entry_of.Statement.{statement}
-use Rattle.reporter.proofs.entry_of.Tie as tie
+use Rattle.report_count.proofs.entry_of.Statement.{statement}
+use Rattle.report_count.proofs.entry_of.Tie as tie
 
 returns : tie.Need-returns
 returns c = rw (c .match .keys1)

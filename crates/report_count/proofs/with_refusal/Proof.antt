@@ -1,4 +1,4 @@
--- `reporter::with_refusal` meets its contract: one more at the entry of its number. Assumes nothing.
+-- `report_count::with_refusal` meets its contract: one more at the entry of its number. Assumes nothing.
 use mathlib.Core.Path.{_≡_}
 use mathlib.Core.Bool.{true}
 use Prim.Native.Nat.{ℕ, _+_, _<_, _^_}
@@ -8,8 +8,8 @@ use borrow.Author.Needs.{needs}
 use Rattle.rules_report.specs.Report.{takesMore}
 use Rattle.rules_report.specs.declared.Report.{Report}
 use Rattle.rules_report.proofs.Lists.{takes, more-set}
-use Rattle.reporter.proofs.with_refusal.Statement.{statement}
-use Rattle.reporter.proofs.with_refusal.Tie as tie
+use Rattle.report_count.proofs.with_refusal.Statement.{statement}
+use Rattle.report_count.proofs.with_refusal.Tie as tie
 
 -- an entry takes one more
 fits : (p : Report) → takesMore p ≡ true → (j : ℕ) → getD (p .refused) j 0 + 1 < 2 ^ 64

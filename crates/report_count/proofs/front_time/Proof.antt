@@ -1,7 +1,7 @@
--- `reporter::front_time` meets its contract. Assumes nothing.
+-- `report_count::front_time` meets its contract. Assumes nothing.
 use borrow.Author.Tests.{eq-eqb, ne-eqb}
-use Rattle.reporter.proofs.front_time.Statement.{statement}
-use Rattle.reporter.proofs.front_time.Tie as tie
+use Rattle.report_count.proofs.front_time.Statement.{statement}
+use Rattle.report_count.proofs.front_time.Tie as tie
 
 returns : tie.Need-returns
 returns c = rw (eq-eqb (c .before .args .kind) 0 (c .if1 .taken))

@@ -1,4 +1,4 @@
--- `reporter::add` meets its contract: 31, or what the reading adds; a reading is fair, so nothing wraps.
+-- `report_count::add` meets its contract: 31, or what the reading adds; a reading is fair, so nothing wraps.
 -- Assumes nothing.
 use mathlib.Core.Path.{_≡_, refl, sym, ap, subst, _∙_}
 use mathlib.Core.Bool.{true, false}
@@ -11,8 +11,8 @@ use Rattle.rules_report.specs.Report.{withFrame, withRefusal, added, takesMore,
 use Rattle.rules_report.specs.declared.Report.{Report}
 use Rattle.rules_report.specs.declared.Counted.{Counted}
 use Rattle.rules_report.proofs.Outcomes.{Fair, fair}
-use Rattle.reporter.proofs.add.Statement.{statement}
-use Rattle.reporter.proofs.add.Tie as tie
+use Rattle.report_count.proofs.add.Statement.{statement}
+use Rattle.report_count.proofs.add.Tie as tie
 
 module _ (p : Report) (r : Recording) where
   full : takesMore p ≡ false → _≡_ {A = Counted} (record { number = 31; report = p }) (countedOf p r)

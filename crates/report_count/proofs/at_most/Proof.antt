@@ -1,4 +1,4 @@
--- `reporter::at_most` meets its contract. The invariant: the whole row's test is that of what is left of it.
+-- `report_count::at_most` meets its contract. The invariant: the whole row's test is that of what is left of it.
 -- Assumes nothing.
 use mathlib.Core.Path.{_≡_, refl, sym, _∙_}
 use Prim.Native.Nat.{_≤_, _-_}
@@ -6,8 +6,8 @@ use native.Mathlib.Omega.{arith}
 use lib.ListN.{length, drop}
 use Rattle.rules_report.specs.Report.{atMost}
 use Rattle.rules_report.proofs.Lists.{at-most-more, at-most-past, at-most-end}
-use Rattle.reporter.proofs.at_most.Statement.{statement}
-use Rattle.reporter.proofs.at_most.Tie as tie
+use Rattle.report_count.proofs.at_most.Statement.{statement}
+use Rattle.report_count.proofs.at_most.Tie as tie
 
 abbrev Inv-loop : tie.InvT-loop
 Inv-loop most row i₀ i = (i ≤ length row) × (atMost most (drop i row) ≡ atMost most row)

@@ -1,4 +1,5 @@
--- `reporter::of_list` meets its contract. The invariant: the report is that of the first i recordings, 1,000 at most.
+-- `report_count::of_list` meets its contract. The invariant: the report is that of the first i recordings, 1,000 at
+-- most.
 -- Assumes nothing.
 use mathlib.Core.Path.{_≡_, sym, ap, _∙_}
 use mathlib.Core.List.{List, [], map}
@@ -14,8 +15,8 @@ use Rattle.rules_report.specs.declared.Report.{Report}
 use Rattle.rules_report.specs.declared.Counted.{Counted}
 use Rattle.rules_report.proofs.Taking.{counted-next}
 use Rattle.rules_report.proofs.Lists.{none-counted, length-recordings, recordings-next}
-use Rattle.reporter.proofs.of_list.Statement.{statement}
-use Rattle.reporter.proofs.of_list.Tie as tie
+use Rattle.report_count.proofs.of_list.Statement.{statement}
+use Rattle.report_count.proofs.of_list.Tie as tie
 
 abbrev rows : List (RefT (List ℕ)) → List (List ℕ)
 rows list = map (λ r. now r) list

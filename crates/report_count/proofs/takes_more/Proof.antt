@@ -1,4 +1,4 @@
--- `reporter::takes_more` meets its contract: the tests of the definition, one after the other. Assumes nothing.
+-- `report_count::takes_more` meets its contract: the tests of the definition, one after the other. Assumes nothing.
 use mathlib.Core.Path.{_≡_}
 use mathlib.Core.Bool.{true, false, and-false}
 use Prim.Native.Nat.{_≤_, _<_}
@@ -8,8 +8,8 @@ use borrow.Author.Tests.{lt-ltb, le-ltb}
 use Rattle.base.proofs.Tests.{failed, passed}
 use Rattle.rules_report.specs.Report.{atMost, takesMore}
 use Rattle.rules_report.specs.declared.Report.{Report}
-use Rattle.reporter.proofs.takes_more.Statement.{statement}
-use Rattle.reporter.proofs.takes_more.Tie as tie
+use Rattle.report_count.proofs.takes_more.Statement.{statement}
+use Rattle.report_count.proofs.takes_more.Tie as tie
 
 -- one test that fails is enough
 module _ (p : Report) where
