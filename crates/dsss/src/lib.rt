@@ -96,5 +96,5 @@ pub extern "C" fn dsss_report_list(kinds: &[u64], list: &[&[u8]]) -> Counted
 pub extern "C" fn dsss_report_text(report: Report, text: &mut [u8]) -> Spelled
     ensures spelled { λ s. ⌜ Spells report (length (now (text .entry))) s (now (text .exit)) ⌝ }
 {
-    speller::text(report, text)
+    report_text::text(report, text)
 }

@@ -31,11 +31,11 @@ pub record Lists (kinds : List ℕ) (list : List (List ℕ)) (c : Counted) : Typ
 pub record Spells (report : Report) (room : ℕ) (s : Spelled) (left : List ℕ) : Type 0 where
   -- promise: A report's text answers the definition's record, for every report and buffer
   -- rule: 6.20, 9.1
-  -- code: dsss_report_text, speller::text
+  -- code: dsss_report_text, report_text::text
   pub answer : s ≡ spelledOf report room
   -- promise: The octet buffer at the end is the text and then zeros; after a refusal only zeros
   -- rule: 6.20, 9.1
-  -- code: dsss_report_text, speller::text
+  -- code: dsss_report_text, report_text::text
   pub octets : left ≡ textLeft report room
 
 -- calls one after the other, each with the report as the last one left it, the first with all zeros; the recordings

@@ -89,7 +89,7 @@ pub enum Refusal {
     Ends { length: usize },
     // promise: the octet buffer is shorter than n; of a report's text, than the text
     // rule: 6.4 (17)
-    // code: read_payload, speller::text
+    // code: read_payload, report_text::text
     // with: payloadReading, spelledOf
     OctetRoom { length: usize },
 }
