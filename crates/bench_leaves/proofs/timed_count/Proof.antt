@@ -1,4 +1,4 @@
--- `timed_leaves::timed_count` meets its contract. The invariant: the rows of counts are equally long, each element
+-- `bench_leaves::timed_count` meets its contract. The invariant: the rows of counts are equally long, each element
 -- below k is a count, and each from k on is as before. Assumes nothing.
 use Prim.Native.Nat.{ℕ, _≤_, _<_, _-_}
 use mathlib.Core.Path.{_≡_, refl, _∙_}
@@ -14,8 +14,8 @@ use lib.Ieee.{nan}
 use borrow.Author.Needs.{needs}
 use borrow.Author.Count.{below-more, below-none}
 use Rattle.rules_chips.specs.Floats.{countOf}
-use Rattle.timed_leaves.proofs.timed_count.Statement.{statement}
-use Rattle.timed_leaves.proofs.timed_count.Tie as tie
+use Rattle.bench_leaves.proofs.timed_count.Statement.{statement}
+use Rattle.bench_leaves.proofs.timed_count.Tie as tie
 
 abbrev Inv-loop : tie.InvT-loop
 Inv-loop xs counts₀ n k₀ counts k =

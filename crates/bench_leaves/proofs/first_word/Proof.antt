@@ -1,4 +1,4 @@
--- `timed_leaves::first_word` meets its contract: a search that found nothing leaves usable chips, and those are
+-- `bench_leaves::first_word` meets its contract: a search that found nothing leaves usable chips, and those are
 -- decided. Assumes nothing.
 use mathlib.Core.Path.{_≡_, ap, _∙_}
 use mathlib.Core.List.{List, map}
@@ -15,10 +15,10 @@ use Rattle.rules_reading.specs.Reading.{firstUnusable}
 use Rattle.choose_recorded.specs.declared.Place.{Place}
 use Rattle.choose_recorded.specs.declared.Place.the-variants.{Nothing, At}
 use Rattle.choose_recorded.specs.Recorded.{whereFound, AllUsable, DecidedAt}
-use Rattle.timed_leaves.specs.Leaves.{firstWord}
+use Rattle.bench_leaves.specs.Leaves.{firstWord}
 use Rattle.choose_recorded.proofs.Searched.{bad, good, usable}
-use Rattle.timed_leaves.proofs.first_word.Statement.{statement}
-use Rattle.timed_leaves.proofs.first_word.Tie as tie
+use Rattle.bench_leaves.proofs.first_word.Statement.{statement}
+use Rattle.bench_leaves.proofs.first_word.Tie as tie
 
 module _ (r : Rate) (rec : List Taken) (n : ℕ) (f : Place) (e : n ≡ symbolChips r)
     (g : whereFound f ≡ firstUnusable 0 (take (n - 0) (drop 0 rec))) where

@@ -1,4 +1,4 @@
--- `timed_leaves::last_word` meets its contract: a search that found nothing leaves usable chips, and those are
+-- `bench_leaves::last_word` meets its contract: a search that found nothing leaves usable chips, and those are
 -- decided. Assumes nothing.
 use mathlib.Core.Path.{_∙_}
 use mathlib.Core.List.{List}
@@ -6,10 +6,10 @@ use lib.Dec.{lit≤, lit<}
 use borrow.Author.Needs.{needs}
 use Rattle.rules_chips.specs.Chips.{Taken}
 use Rattle.choose_recorders.specs.Rows.{recordingOf}
-use Rattle.timed_leaves.specs.Leaves.{lastWord}
+use Rattle.bench_leaves.specs.Leaves.{lastWord}
 use Rattle.choose_recorded.proofs.Searched.{bad, good, usable}
-use Rattle.timed_leaves.proofs.last_word.Statement.{statement}
-use Rattle.timed_leaves.proofs.last_word.Tie as tie
+use Rattle.bench_leaves.proofs.last_word.Statement.{statement}
+use Rattle.bench_leaves.proofs.last_word.Tie as tie
 
 abbrev rec : tie.Start → List Taken
 rec s = recordingOf (s .args .rec) (s .args .octets .now) (s .args .bytes .now) (s .args .i .now) (s .args .q .now)

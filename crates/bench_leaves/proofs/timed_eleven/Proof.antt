@@ -1,4 +1,4 @@
--- `timed_leaves::timed_eleven` meets its contract: a number that is no recorder's and fewer than 512 chips give 0, and
+-- `bench_leaves::timed_eleven` meets its contract: a number that is no recorder's and fewer than 512 chips give 0, and
 -- else the last of 64 symbols is decided. Assumes nothing.
 use Prim.Native.Nat.{ℕ, _≤_, _<_}
 use mathlib.Core.Path.{_≡_, _∙_}
@@ -11,9 +11,9 @@ use borrow.Author.Needs.{needs}
 use borrow.Author.Tests.{le-leb, lt-leb}
 use Rattle.choose_recorders.specs.declared.Recorder.{Recorder}
 use Rattle.choose_recorders.specs.Rows.{recordingOf}
-use Rattle.timed_leaves.specs.Leaves.{lastWord, recorderOf, decidedLast}
-use Rattle.timed_leaves.proofs.timed_eleven.Statement.{statement}
-use Rattle.timed_leaves.proofs.timed_eleven.Tie as tie
+use Rattle.bench_leaves.specs.Leaves.{lastWord, recorderOf, decidedLast}
+use Rattle.bench_leaves.proofs.timed_eleven.Statement.{statement}
+use Rattle.bench_leaves.proofs.timed_eleven.Tie as tie
 
 module _ (n : ℕ) (octets : List ℕ) (bytes : List ℤ) (i q : List Float) where
   no-recorder : 2 < n → 0 ≡ decidedLast n octets bytes i q

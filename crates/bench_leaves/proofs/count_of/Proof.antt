@@ -1,4 +1,4 @@
--- `timed_leaves::count_of` meets its contract: what is not usable counts 0.
+-- `bench_leaves::count_of` meets its contract: what is not usable counts 0.
 -- Assumes nothing.
 use mathlib.Core.Path.{_≡_, sym, _∙_, subst}
 use lib.Dec.{T}
@@ -6,8 +6,8 @@ use mir.Syntax.{w32}
 use mir.Val.{toZ, ofZ}
 use borrow.Author.Needs.{needs}
 use Rattle.rules_chips.specs.Floats.{countOf}
-use Rattle.timed_leaves.proofs.count_of.Statement.{statement}
-use Rattle.timed_leaves.proofs.count_of.Tie as tie
+use Rattle.bench_leaves.proofs.count_of.Statement.{statement}
+use Rattle.bench_leaves.proofs.count_of.Tie as tie
 
 count-requires : tie.Need-count-requires
 count-requires c κs = subst T (sym (c .if1 .taken) ∙ c .before .usable .ensures) tt

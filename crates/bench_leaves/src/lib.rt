@@ -6,7 +6,7 @@ ghost use Rattle.rules_rates.specs.Rates.{symbolChips};
 ghost use Rattle.rules_chips.specs.Floats.{countOf};
 ghost use Rattle.rules_chips.specs.Chips.{softRecording};
 ghost use Rattle.choose_recorders.specs.Rows.{lent};
-ghost use Rattle.timed_leaves.specs.Leaves.{firstWord, decidedSoft, lastWord, recorderOf, decidedLast, CountsRow};
+ghost use Rattle.bench_leaves.specs.Leaves.{firstWord, decidedSoft, lastWord, recorderOf, decidedLast, CountsRow};
 use rules_rates::Rate;
 use choose_recorded::Place;
 use choose_recorders::Recorder;

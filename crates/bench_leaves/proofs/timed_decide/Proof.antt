@@ -1,4 +1,4 @@
--- `timed_leaves::timed_decide` meets its contract: a number that is no code and rows shorter than a symbol give 0,
+-- `bench_leaves::timed_decide` meets its contract: a number that is no code and rows shorter than a symbol give 0,
 -- and else the symbol at place 0 is decided. Assumes nothing.
 use Prim.Native.Nat.{ℕ, _≤_, _<_}
 use mathlib.Core.Path.{_≡_, refl, sym, ap, _∙_}
@@ -12,9 +12,9 @@ use borrow.Author.Tests.{le-leb, lt-leb, not-true, not-false}
 use Rattle.rules_rates.specs.declared.Rate.{Rate}
 use Rattle.rules_rates.specs.Rates.{isCode, rateOf, symbolChips}
 use Rattle.rules_chips.specs.Chips.{softRecording}
-use Rattle.timed_leaves.specs.Leaves.{firstWord, decidedSoft}
-use Rattle.timed_leaves.proofs.timed_decide.Statement.{statement}
-use Rattle.timed_leaves.proofs.timed_decide.Tie as tie
+use Rattle.bench_leaves.specs.Leaves.{firstWord, decidedSoft}
+use Rattle.bench_leaves.proofs.timed_decide.Statement.{statement}
+use Rattle.bench_leaves.proofs.timed_decide.Tie as tie
 
 no-code : (n : ℕ) (i q : List Float) → isCode n ≡ false → 0 ≡ decidedSoft n i q
 unfolding decidedSoft

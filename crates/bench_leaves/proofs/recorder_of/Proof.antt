@@ -1,8 +1,8 @@
--- `timed_leaves::recorder_of` meets its contract: each number's recorder, past the tests before it.
+-- `bench_leaves::recorder_of` meets its contract: each number's recorder, past the tests before it.
 -- Assumes nothing.
 use borrow.Author.Tests.{eq-eqb, ne-eqb}
-use Rattle.timed_leaves.proofs.recorder_of.Statement.{statement}
-use Rattle.timed_leaves.proofs.recorder_of.Tie as tie
+use Rattle.bench_leaves.proofs.recorder_of.Statement.{statement}
+use Rattle.bench_leaves.proofs.recorder_of.Tie as tie
 
 returns : tie.Need-returns
 returns c = rw (eq-eqb _ 0 (c .if1 .taken))
