@@ -3,7 +3,7 @@
 # be on PATH, and is asked for first.
 
 LIB := target/staticlib/libdsss.a
-LEAVES := target/staticlib/libtimed_leaves.a
+LEAVES := target/staticlib/libbench_leaves.a
 PLAIN := bench/plain_write.c bench/plain_choose.c bench/plain_read.c bench/plain_find.c bench/plain_report.c
 OUT := target/c
 STRICT := -std=c99 -Wall -Wextra -Wpedantic -Werror -Iinclude
@@ -106,7 +106,7 @@ $(LIB): $(PROVED) | demo-packages
 	touch $@
 
 $(LEAVES): $(PROVED) | demo-packages
-	scripts/staticlib.sh timed_leaves
+	scripts/staticlib.sh bench_leaves
 	touch $@
 
 $(OUT)/host: examples/host/host.c include/dsss.h $(LIB) | demo-packages

@@ -11,7 +11,7 @@
  * per second and the multiple of 11 Mchip/s are left out then. */
 #define _POSIX_C_SOURCE 200809L
 #include "recordings.h"
-#include "timed_leaves.h"
+#include "bench_leaves.h"
 
 #include <inttypes.h>
 #include <stdio.h>

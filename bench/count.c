@@ -12,7 +12,7 @@
  * one call, with nothing of the program's start. scripts/instructions.sh builds what it needs and makes the two
  * runs. */
 #include "recordings.h"
-#include "timed_leaves.h"
+#include "bench_leaves.h"
 
 #include <stdio.h>
 #include <stdlib.h>

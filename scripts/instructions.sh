@@ -37,7 +37,7 @@ build() {
     program=target/c/count.$1${2:+.$2}
     case $1.$2 in
     plain.*) archive='' of=-DOF_PLAIN ;;
-    dsss.CHOICE) archive=target/staticlib/libtimed_leaves.a of='' ;;
+    dsss.CHOICE) archive=target/staticlib/libbench_leaves.a of='' ;;
     dsss.*) archive=target/staticlib/libdsss.a of='' ;;
     *)
         echo "instructions.sh: no library $1" >&2

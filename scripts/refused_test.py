@@ -47,12 +47,12 @@ old: refusalNumber NoSuchRate = 2
 new: refusalNumber NoSuchRate = 3
 """
 CASES = [
-    ('counts', [(WRONG_USABLE, None), (SAME_COUNT, 'NOT REFUSED')]),
-    ('calls', [(SAME_NUMBER, 'NOT REFUSED')]),
-    ('calls', [(OTHER_FILE, 'refused by')]),
-    ('calls', [(NO_TEXT, 'its text does not compile')]),
-    ('calls', [(NO_FILE, 'its second line')]),
-    ('calls', [(OLD_TEXT, 'its old text stands 0 times')]),
+    ('choose_counts', [(WRONG_USABLE, None), (SAME_COUNT, 'NOT REFUSED')]),
+    ('rules_calls', [(SAME_NUMBER, 'NOT REFUSED')]),
+    ('rules_calls', [(OTHER_FILE, 'refused by')]),
+    ('rules_calls', [(NO_TEXT, 'its text does not compile')]),
+    ('rules_calls', [(NO_FILE, 'its second line')]),
+    ('rules_calls', [(OLD_TEXT, 'its old text stands 0 times')]),
 ]
 
 

@@ -7,9 +7,9 @@ ghost use Rattle.rules_chips.specs.Floats.{countOf};
 ghost use Rattle.rules_chips.specs.Chips.{softRecording};
 ghost use Rattle.choose_recorders.specs.Rows.{lent};
 ghost use Rattle.bench_leaves.specs.Leaves.{firstWord, decidedSoft, lastWord, recorderOf, decidedLast, CountsRow};
-use rules_rates::Rate;
 use choose_recorded::Place;
 use choose_recorders::Recorder;
+use rules_rates::Rate;
 
 // The smaller of two lengths.
 fn shorter(a: usize, b: usize) -> usize
@@ -58,7 +58,15 @@ fn first_word(r: Rate, i: &[f32], q: &[f32]) -> u64
     let row = &octet[0..0];
     let byte = [0i8; 1];
     let bytes = &byte[0..0];
-    let bad = choose_recorders::first_unusable(Recorder::Soft, row, bytes, i, q, 0, r.symbol_chips());
+    let bad = choose_recorders::first_unusable(
+        Recorder::Soft,
+        row,
+        bytes,
+        i,
+        q,
+        0,
+        r.symbol_chips(),
+    );
     match bad {
         Place::At(_) => 0,
         Place::Nothing => {

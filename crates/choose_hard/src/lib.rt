@@ -10,9 +10,9 @@ ghost use Rattle.rules_chips.specs.Chips.{unusable, isUnusable, hardRecording};
 ghost use Rattle.choose_recorded.specs.Columns.{ColumnSet, Columns, hardColumn};
 ghost use Rattle.choose_recorded.specs.Recorded.{hardPart, AllUsable, DecidedAt, LeadsAt};
 use choose_axes::Axis;
+use choose_by_units::Choice;
 use rules_chips::Chip;
 use rules_rates::Rate;
-use choose_by_units::Choice;
 
 // Whether the chip at a place is usable.
 pub fn usable_at(octets: &[u8], at: usize) -> bool

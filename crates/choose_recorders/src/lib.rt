@@ -9,8 +9,8 @@ ghost use Rattle.rules_chips.specs.Chips.{unusable, isUnusable};
 ghost use Rattle.rules_reading.specs.Reading.{firstUnusable};
 ghost use Rattle.choose_recorders.specs.Rows.{lent};
 ghost use Rattle.choose_recorded.specs.Recorded.{whereFound, AllUsable, DecidedAt, LeadsAt};
-use rules_rates::Rate;
 use choose_recorded::Place;
+use rules_rates::Rate;
 
 // What recorded the chips. A hard recording is the row of octets, a soft one two rows of f32, one of bytes the row of
 // signed bytes. The rows that a recorder does not use are empty.

@@ -9,9 +9,9 @@ ghost use Rattle.rules_choosing.specs.Scores.{RowWithin};
 ghost use Rattle.choose_recorded.specs.Columns.{ColumnSet, Columns, softColumn};
 ghost use Rattle.choose_recorded.specs.Recorded.{softPart, AllUsable, DecidedAt, LeadsAt};
 use choose_axes::Axis;
+use choose_by_counts::Choice;
 use rules_chips::Chip;
 use rules_chips::Sample;
-use choose_by_counts::Choice;
 use rules_rates::Rate;
 
 // Whether the chip at a place is usable.

@@ -88,7 +88,10 @@ fn merge(b: Best, k: Two, g: u16) -> Best
     let u = k.first;
     Best {
         first: choose_by_bytes::max(t, u),
-        second: choose_by_bytes::max(b.second, choose_by_bytes::max(choose_by_bytes::min(t, u), k.second)),
+        second: choose_by_bytes::max(
+            b.second,
+            choose_by_bytes::max(choose_by_bytes::min(t, u), k.second),
+        ),
         group: place(t, u, g, b.group),
     }
 }

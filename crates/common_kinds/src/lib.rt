@@ -1,6 +1,6 @@
 // The two kinds of frame, and the numbers that go with a kind.
-use rules_frame::Kind;
 use common_lines::Line;
+use rules_frame::Kind;
 use rules_rates::Rate;
 ghost use mathlib.Core.Path.{_≡_};
 ghost use Prim.Native.Nat.{_≤_};

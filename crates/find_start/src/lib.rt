@@ -8,6 +8,7 @@ ghost use Rattle.rules_frame.specs.Frame.{frontChips};
 ghost use Rattle.rules_reading.specs.Reading.{frontOf};
 ghost use Rattle.rules_finding.specs.Finding.{startOr, firstStart, findingOf, notFoundNumber, foundOf};
 ghost use Rattle.rules_finding.proofs.Laws.{Missed};
+use choose_recorders::Recorder;
 use rules_calls::Front;
 use rules_calls::Told;
 use rules_finding::Finding;
@@ -15,7 +16,6 @@ use rules_finding::Found;
 use rules_finding::NotFound;
 use rules_frame::Kind;
 use rules_rates::Rate;
-use choose_recorders::Recorder;
 
 // ---- answers
 

@@ -10,9 +10,9 @@ ghost use Rattle.rules_rates.specs.Rates.{symbolBits, octetSymbols, octetChips}
 ghost use Rattle.rules_bits.specs.Bits.{numberOf};
 ghost use Rattle.hear_codes.specs.Codes.{grownFor, wordBits, phaseBefore, octetAfter, behind, plain, AreWords};
 ghost use Rattle.hear_blocks.specs.Heard.{plainOctets, Heard};
+use choose_recorded::Place;
 use common_lines::Line;
 use rules_rates::Rate;
-use choose_recorded::Place;
 
 pub mod least;
 mod odd;

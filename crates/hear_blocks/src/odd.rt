@@ -6,8 +6,8 @@ ghost use lib.ListN.{getD, take};
 ghost use Rattle.rules_rates.specs.Rates.{symbolChips};
 ghost use Rattle.rules_reading.specs.Reading.{firstOdd, oddGrowth};
 ghost use Rattle.choose_recorded.specs.Recorded.{whereFound};
-use rules_rates::Rate;
 use choose_recorded::Place;
+use rules_rates::Rate;
 
 // Whether one of the first m growths may be 1 or 3: no says that none is.
 fn any_odd(g: [u8; 64], m: usize) -> bool

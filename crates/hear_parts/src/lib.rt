@@ -13,12 +13,12 @@ ghost use Rattle.choose_recorded.specs.Recorded.{whereFound, AllUsable};
 ghost use Rattle.hear_codes.specs.Codes.{BlockOf};
 ghost use Rattle.hear_blocks.specs.Heard.{plainOctets, Heard};
 ghost use Rattle.hear_parts.specs.Hearing.{partWords, partLeads, PartHeard};
-use hear_blocks::Hearing;
-use rules_calls::Least;
-use common_lines::Line;
-use rules_rates::Rate;
 use choose_recorded::Place;
 use choose_recorders::Recorder;
+use common_lines::Line;
+use hear_blocks::Hearing;
+use rules_calls::Least;
+use rules_rates::Rate;
 
 // A part heard: the line behind it with the place of the first symbol grown by 1 or 3, and the smallest lead so far.
 pub struct Part {

@@ -1,10 +1,10 @@
 // What a program in Rattle calls: a frame is written, read, asked what is coming, spoilt and read again; then readings
 // that are refused. Nothing is proved of what a program writes but that it is safe and ends; what it writes is compared
 // with the file stdout.
+use libc::STDOUT_FILENO;
 use rules_calls::Record;
 use rules_calls::Written;
 use rules_coming::Coming;
-use libc::STDOUT_FILENO;
 
 // Chips or octets, a space before each.
 fn print_row(row: &[u8]) {

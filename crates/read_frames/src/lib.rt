@@ -8,11 +8,11 @@ ghost use Rattle.rules_chips.specs.Chips.{hardRecording, softRecording, byteRec
 ghost use Rattle.rules_calls.specs.Answers.{recordOf};
 ghost use Rattle.rules_reading.specs.Reading.{readingOf, octetsFound};
 ghost use Rattle.choose_recorders.specs.Rows.{lent};
+use choose_recorders::Recorder;
 use rules_calls::Front;
 use rules_calls::Reading;
 use rules_calls::Record;
 use rules_calls::Refusal;
-use choose_recorders::Recorder;
 
 pub mod payload;
 

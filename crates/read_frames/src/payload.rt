@@ -10,17 +10,17 @@ ghost use Rattle.choose_recorders.specs.Rows.{lent};
 ghost use Rattle.choose_recorded.specs.Recorded.{whereFound, AllUsable};
 ghost use Rattle.read_fronts.specs.Openings.{Opened};
 ghost use Rattle.read_frames.specs.Payloads.{octetsHeard, afterHeard};
+use choose_recorded::Place;
+use choose_recorders::Recorder;
+use common_lines::Line;
 use hear_blocks::Hearing;
+use hear_parts::Part;
 use rules_calls::Least;
 use rules_calls::Reading;
 use rules_calls::Refusal;
 use rules_calls::Told;
 use rules_frame::Kind;
-use hear_parts::Part;
-use common_lines::Line;
 use rules_rates::Rate;
-use choose_recorded::Place;
-use choose_recorders::Recorder;
 
 // A payload heard: the place of its first symbol grown by 1 or 3 at 1 Mbit/s, and the frame's smallest lead.
 pub struct Payload {

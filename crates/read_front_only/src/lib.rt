@@ -6,13 +6,13 @@ ghost use Rattle.rules_chips.specs.Chips.{hardRecording};
 ghost use Rattle.rules_frame.specs.Frame.{kindOf};
 ghost use Rattle.rules_coming.specs.Coming.{frontReading, comingOf};
 ghost use Rattle.promises.specs.Calls.{Handed};
+use choose_recorders::Recorder;
 use rules_calls::Front;
 use rules_calls::Refusal;
 use rules_calls::Told;
 use rules_coming::Coming;
 use rules_frame::Kind;
 use rules_rates::Rate;
-use choose_recorders::Recorder;
 
 // A refusal in numbers: all else is 0.
 fn refused(kind: Kind, e: Refusal) -> Coming

@@ -16,13 +16,13 @@ ghost use Rattle.read_fronts.specs.Openings.{
 };
 use super::FrontHeard;
 use super::Preamble;
+use choose_recorders::Recorder;
+use common_lines::Line;
 use hear_blocks::Hearing;
+use hear_parts::Part;
 use rules_calls::Least;
 use rules_frame::Kind;
-use hear_parts::Part;
-use common_lines::Line;
 use rules_rates::Rate;
-use choose_recorders::Recorder;
 
 // How many octets SYNC and the SFD are.
 fn preamble_octets(kind: Kind) -> usize

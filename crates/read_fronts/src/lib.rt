@@ -5,16 +5,16 @@ ghost use Rattle.rules_chips.specs.Chips.{Taken};
 ghost use Rattle.rules_reading.specs.Reading.{frontOf};
 ghost use Rattle.choose_recorders.specs.Rows.{lent};
 ghost use Rattle.read_fronts.specs.Openings.{FrontKnown, afterUsable, Opens, OpensWhole};
+use choose_recorded::Place;
+use choose_recorders::Recorder;
+use common_lines::Line;
 use hear_blocks::Hearing;
+use hear_parts::Part;
 use rules_calls::Front;
 use rules_calls::Least;
 use rules_calls::Refusal;
 use rules_frame::Kind;
-use hear_parts::Part;
-use common_lines::Line;
 use rules_rates::Rate;
-use choose_recorded::Place;
-use choose_recorders::Recorder;
 
 pub mod heard;
 

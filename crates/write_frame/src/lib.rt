@@ -1,9 +1,9 @@
 // The writer: payload, rate, kind, starting phase and clock to the chips of a frame. Every argument is checked
 // first; whatever comes of it, the whole chip buffer is written.
+use common_lines::Line;
 use rules_calls::Writing;
 use rules_calls::Written;
 use rules_frame::Kind;
-use common_lines::Line;
 use rules_rates::Rate;
 ghost use mathlib.Core.Path.{_≡_};
 ghost use mathlib.Core.List.{_++_};

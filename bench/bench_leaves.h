@@ -1,6 +1,6 @@
-/* timed_leaves.h: leaves of reading that the crate `timed_leaves` exports for bench.c; no part of dsss.h. */
-#ifndef TIMED_LEAVES_H
-#define TIMED_LEAVES_H
+/* bench_leaves.h: leaves of reading that the crate `bench_leaves` exports for bench.c; no part of dsss.h. */
+#ifndef BENCH_LEAVES_H
+#define BENCH_LEAVES_H
 
 #include <stddef.h>
 #include <stdint.h>
