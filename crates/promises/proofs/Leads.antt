@@ -41,6 +41,7 @@ use Rattle.rules_calls.specs.declared.Front.the-variants as front
 use Rattle.rules_calls.specs.declared.Reading.{Reading}
 use Rattle.rules_calls.specs.declared.Reading.the-variants as reading
 use Rattle.rules_calls.specs.Answers.{recordOf}
+use Rattle.rules_reading.specs.Places.{UsableAt}
 use Rattle.rules_reading.specs.Leads.{decidedLeads, frontLeads, payloadLeads, frameLeads, leastOf}
 use Rattle.rules_reading.specs.Reading.{
   preambleWords,
@@ -72,7 +73,6 @@ use Rattle.promises.proofs.Only.{code-back}
 use Rattle.promises.proofs.Right.{
   word-at,
   word-from,
-  Usable,
   symbol-sure,
   hard-keeps,
   hard-good,
@@ -272,7 +272,7 @@ least-told kind agree rec room a left read zero-is =
 
 -- ---- what a lead says of the exact numbers, once for every recorder
 sure : (half : ℕ) (above : Rate → ℕ) (good : ℕ → Type 0) (exact : List Counts) (rec : List Taken)
-    → Keeps half exact rec → ((place : ℕ) → good place → Usable rec place)
+    → Keeps half exact rec → ((place : ℕ) → good place → UsableAt rec place)
     → ((q : Rate) (lead : ℕ) → above q < lead → symbolChips q * (2 * half) < lead * 2 ^ 139)
     → Sure above good exact rec
 sure half above good exact rec keeps usable enough k r n s q at w lead x ok by l =

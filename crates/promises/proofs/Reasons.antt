@@ -4,7 +4,7 @@ use mathlib.Core.Path.{_≡_, refl, sym, ap, ap₂, _∙_, subst}
 use mathlib.Core.Bool.{Bool, true, false, _&&_, _||_}
 use mathlib.Core.List.{List}
 use mathlib.Core.Option.{Option, none, some}
-use Prim.Native.Nat.{ℕ, zero, suc, _+_, _-_, _/_, _%_, _≤_, _<_}
+use Prim.Native.Nat.{ℕ, zero, suc, _+_, _-_, _*_, _/_, _%_, _≤_, _<_}
 use native.Mathlib.Decide.{decLt}
 use native.Mathlib.Omega.{arith}
 use borrow.Author.Tests.{ltb-true, ltb-false, le-ltb, eqb-true}
@@ -20,6 +20,7 @@ use Rattle.rules_rates.proofs.Plain.{length-is, seven-is, holds-any}
 use Rattle.rules_chips.specs.Chips.{Taken}
 use Rattle.rules_bits.specs.Bits.{numberOf}
 use Rattle.rules_frame.specs.declared.Kind.{Kind}
+use Rattle.rules_frame.specs.declared.Kind.the-variants.{Long, Short}
 use Rattle.rules_frame.specs.Frame.{isKind, kindOf, sfdOf, syncBits, goesWith, clockBit, frontChips, frameChips}
 use Rattle.rules_calls.specs.declared.Refusal.{Refusal}
 use Rattle.rules_calls.specs.declared.Refusal.the-variants.{Ends}
@@ -30,10 +31,10 @@ use Rattle.rules_calls.specs.declared.Reading.the-variants as reading
 use Rattle.rules_calls.specs.Answers.{recordOf}
 use Rattle.rules_calls.specs.Headers.{serviceAllowed, ours}
 use Rattle.rules_calls.proofs.HeaderOnly.{ours-sends}
-use Rattle.rules_reading.specs.Places.{UsableAt}
+use Rattle.rules_reading.specs.Places.{UsableAt, oddBehind}
 use Rattle.rules_reading.specs.Decoded.{FieldAt}
 use Rattle.rules_reading.specs.Leads.{frameLeads, leastOf}
-use Rattle.rules_reading.specs.Reading.{payloadOdd, payloadReading}
+use Rattle.rules_reading.specs.Reading.{frontOdd, payloadOdd, payloadReading}
 use Rattle.rules_reading.proofs.Payloads.{foundUnusable, room-refused, unusable-refused, odd-refused, payload-good}
 use Rattle.rules_reading.proofs.Places.{front-place, payload-unusable-place, payload-odd-place, payload-odd-rate}
 use Rattle.rules_reading.proofs.Refusals.{
@@ -66,6 +67,8 @@ use Rattle.rules_reading.proofs.FirstPlaces.{
   front-odd-first,
   front-even-ones,
   payload-odd-first,
+  payload-even-ones,
+  IsOne,
 }
 use Rattle.rules_reading.proofs.Fields.{
   sfd-field,
@@ -111,7 +114,7 @@ use Rattle.promises.specs.Reasons.{
   is-0,
   ReadAnswers,
 }
-use Rattle.promises.proofs.Only.{goes}
+use Rattle.promises.proofs.Only.{goes, code-back}
 use Rattle.promises.proofs.Back.{known}
 
 -- ---- the definitions' words, in plain numbers
@@ -305,6 +308,19 @@ module _ (kind : ℕ) (agree : Bool) (rec : List Taken) (room : ℕ) (known-kind
       rate-of : goesWith k r ≡ true
       rate-of = ours-sends k (signalHeard k rec) service (lengthHeard k rec) t (h .tells) .goes
 
+      -- at 1 Mbit/s, where 10 was looked for and not found
+      even-to : payloadOdd k r (t .n) rec ≡ none → codeOf r ≡ 10 → (s : ℕ) → 11 * suc s < frameChips k r (t .n)
+          → oddBehind rec s ≡ 0
+      even-to d ten s l = by k r rate-of (sym (code-back r) ∙ ap rateOf ten) (h .sound .clear .even) d l
+        where
+          by : (k : Kind) (r : Rate) → goesWith k r ≡ true → r ≡ One → frontOdd k rec ≡ none
+              → payloadOdd k r (t .n) rec ≡ none → 11 * suc s < frameChips k r (t .n) → oddBehind rec s ≡ 0
+          by Long One g o e d l = payload-even-ones rec Long One (t .n) g o e d s (omega (arith, l))
+          by Short One g o e d l = absurd (subst T (sym g) tt)
+          by k Two g o e d l = absurd (subst IsOne (sym o) tt)
+          by k Five g o e d l = absurd (subst IsOne (sym o) tt)
+          by k Eleven g o e d l = absurd (subst IsOne (sym o) tt)
+
       in-payload : (g : Reading) → payloadReading k t rec room ≡ g → Says (recordOf g)
           → Says (recordOf (payloadReading k t rec room))
       in-payload g e x = subst (λ (y : Reading). Says (recordOf y)) (sym e) x
@@ -341,7 +357,7 @@ module _ (kind : ℕ) (agree : Bool) (rec : List Taken) (room : ℕ) (known-kind
                 lead = leastOf (frameLeads k r (t .n) rec) .lead;
                 symbol = leastOf (frameLeads k r (t .n) rec) .symbol;
               }))
-              (sym clock-is) (is-0 _ _ has-payload there m (payload-all-usable k rec t there free e)))
+              (sym clock-is) (is-0 _ _ has-payload there m (payload-all-usable k rec t there free e) (even-to d)))
 
     ends-says : length rec < frameChips k r (t .n) → Says (recordOf (reading.Refused (Ends (t .length))))
     ends-says l = is-16 has-payload l

@@ -46,6 +46,7 @@ use Rattle.rules_choosing.proofs.Demand3.{demand-3, lead-says}
 use Rattle.rules_frame.specs.declared.Kind.{Kind}
 use Rattle.rules_frame.specs.declared.Kind.the-variants.{Long, Short}
 use Rattle.rules_frame.specs.Frame.{headerRate, frontChips, preambleLength, headerLength, preambleChips}
+use Rattle.rules_reading.specs.Places.{UsableAt}
 use Rattle.rules_reading.specs.Reading.{decidedWords, preambleWords, headerWords, payloadWords}
 use Rattle.promises.specs.Calls.{in-hard, in-soft, in-bytes}
 use Rattle.promises.specs.Right.{
@@ -85,12 +86,8 @@ word-from r m at j rec h =
     ∙ ap (λ (l : List Taken). decided r (map takenCounts (take (symbolChips r) l)))
     (drop-drop (j * symbolChips r) at rec)
 
--- ---- usable chips
-abbrev pub Usable : List Taken → ℕ → Type 0
-Usable rec place = T (not (isUnusable (getD rec place unusable)))
-
--- a usable chip is one of the recording
-there : (rec : List Taken) (place : ℕ) → Usable rec place → place < length rec
+-- ---- usable chips: each is one of the recording
+there : (rec : List Taken) (place : ℕ) → UsableAt rec place → place < length rec
 there [] place t = absurd t
 there (c ∷ rec) zero t = omega arith
 there (c ∷ rec) (suc place) t = let h = there rec place t in omega arith
@@ -103,7 +100,7 @@ some-chips Eleven = omega arith
 
 -- one symbol, whose chips are usable
 module _ (half : ℕ) (exact : List Counts) (rec : List Taken) (keeps : Keeps half exact rec) (r : Rate) (from : ℕ)
-    (ok : (i : ℕ) → i < symbolChips r → Usable rec (from + i)) where
+    (ok : (i : ℕ) → i < symbolChips r → UsableAt rec (from + i)) where
   abbrev c : ℕ
   c = symbolChips r
 
@@ -141,8 +138,8 @@ module _ (half : ℕ) (exact : List Counts) (rec : List Taken) (keeps : Keeps ha
   symbol-sure l = lead-says half r counts (take c (drop from exact)) counts-length exact-length near l
 
 module _ (half : ℕ) (exact : List Counts) (rec : List Taken) (keeps : Keeps half exact rec) (r : Rate) (m at : ℕ)
-    (ok : (place : ℕ) → at ≤ place → place < at + m * symbolChips r → Usable rec place) where
-  usable-at : (j : ℕ) → j < m → (i : ℕ) → i < symbolChips r → Usable rec (at + j * symbolChips r + i)
+    (ok : (place : ℕ) → at ≤ place → place < at + m * symbolChips r → UsableAt rec place) where
+  usable-at : (j : ℕ) → j < m → (i : ℕ) → i < symbolChips r → UsableAt rec (at + j * symbolChips r + i)
   usable-at j h i l =
       ok (at + j * symbolChips r + i) (omega arith)
       (omega (arith, suc-mul j (symbolChips r), mul-le-mul-right (symbolChips r) h))
@@ -207,13 +204,13 @@ hard-keeps octets =
       near = near octets;
     }
   where
-    near : (octets : List ℕ) (place : ℕ) → Usable (map hardTaken octets) place
+    near : (octets : List ℕ) (place : ℕ) → UsableAt (map hardTaken octets) place
         → Apart 0 (takenCounts (getD (map hardTaken octets) place unusable)) (getD (exactHard octets) place nothing)
     near [] place t = absurd t
     near (x ∷ octets) zero t = hard-apart x
     near (x ∷ octets) (suc place) t = near octets place t
 
-pub hard-good : (octets : List ℕ) (place : ℕ) → getD octets place 5 ≤ 4 → Usable (hardRecording octets) place
+pub hard-good : (octets : List ℕ) (place : ℕ) → getD octets place 5 ≤ 4 → UsableAt (hardRecording octets) place
 unfolding hardRecording
 hard-good octets place h =
     let x = getD octets place 5 in
@@ -242,7 +239,7 @@ soft-keeps i q = record { as-long = as-long i q; near = near i q }
     as-long (x ∷ i) [] = refl
     as-long (x ∷ i) (y ∷ q) = ap suc (as-long i q)
 
-    near : (i q : List Float) (place : ℕ) → Usable (softRecording i q) place
+    near : (i q : List Float) (place : ℕ) → UsableAt (softRecording i q) place
         → Apart (2 ^ 138) (takenCounts (getD (softRecording i q) place unusable)) (getD (exactSoft i q) place nothing)
     near [] q place t = absurd t
     near (x ∷ i) [] place t = absurd t
@@ -250,7 +247,7 @@ soft-keeps i q = record { as-long = as-long i q; near = near i q }
     near (x ∷ i) (y ∷ q) (suc place) t = near i q place t
 
 pub soft-good : (i q : List Float) (place : ℕ) → T (usable (getD i place nan)) × T (usable (getD q place nan))
-    → Usable (softRecording i q) place
+    → UsableAt (softRecording i q) place
 unfolding softRecording usable
 soft-good [] q place u = absurd (u .0)
 soft-good (x ∷ i) [] place u = absurd (u .1)
@@ -272,14 +269,14 @@ bytes-keep bytes = record { as-long = as-long bytes; near = near bytes }
     as-long (x ∷ []) = refl
     as-long (x ∷ y ∷ bytes) = ap suc (as-long bytes)
 
-    near : (bytes : List ℤ) (place : ℕ) → Usable (byteRecording bytes) place
+    near : (bytes : List ℤ) (place : ℕ) → UsableAt (byteRecording bytes) place
         → Apart 0 (takenCounts (getD (byteRecording bytes) place unusable)) (getD (exactBytes bytes) place nothing)
     near [] place t = absurd t
     near (x ∷ []) place t = absurd t
     near (x ∷ y ∷ bytes) zero t = byte-exact x y
     near (x ∷ y ∷ bytes) (suc place) t = near bytes place t
 
-pub bytes-good : (bytes : List ℤ) (place : ℕ) → 2 * place + 1 < length bytes → Usable (byteRecording bytes) place
+pub bytes-good : (bytes : List ℤ) (place : ℕ) → 2 * place + 1 < length bytes → UsableAt (byteRecording bytes) place
 bytes-good bytes place h = rw (bytes-usable bytes place (omega arith)) tt
 
 -- ---- so each of them is read right

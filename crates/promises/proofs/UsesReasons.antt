@@ -14,7 +14,7 @@ use Rattle.rules_bits.specs.Bits.{numberOf}
 use Rattle.rules_bits.specs.Crc.{crcBits}
 use Rattle.rules_frame.specs.Frame.{kindOf, fieldBits}
 use Rattle.rules_calls.specs.declared.Record.{Record}
-use Rattle.rules_reading.specs.Places.{UsableAt, UnusableFirst, FirstOddSymbol}
+use Rattle.rules_reading.specs.Places.{UsableAt, UnusableFirst, oddBehind, FirstOddSymbol}
 use Rattle.rules_reading.specs.Decoded.{FieldAt}
 use Rattle.rules_reading.proofs.Once.{field-once}
 use Rattle.promises.specs.Calls.{Read, Goes}
@@ -59,33 +59,34 @@ module _ (kind : ℕ) (agree : Bool) (rec : List Taken) (room : ℕ) where
   Answer = ReadAnswer kind agree rec room
 
   -- 9 and 10 have the first such place of the whole recording, and no other number has one
-  pub record Placed (a : Record) : Type 0 where
+  pub record PlaceTold (a : Record) : Type 0 where
     nine : a .number ≡ 9 → UnusableFirst rec (a .place)
     ten : a .number ≡ 10 → FirstOddSymbol rec (a .place)
     none : (a .number ≡ 9 → ⊥) → (a .number ≡ 10 → ⊥) → a .place ≡ 0
 
-  nowhere : {a : Record} → (a .number ≡ 9 → ⊥) → (a .number ≡ 10 → ⊥) → a .place ≡ 0 → Placed a
+  nowhere : {a : Record} → (a .number ≡ 9 → ⊥) → (a .number ≡ 10 → ⊥) → a .place ≡ 0 → PlaceTold a
   nowhere f g e = record { nine = λ x. absurd (f x); ten = λ x. absurd (g x); none = λ x y. e }
 
-  placed : {a : Record} → Answer a → Placed a
-  placed (is-1 h) = nowhere (λ x. omega (arith, x)) (λ x. omega (arith, x)) refl
-  placed (is-7 h d) = nowhere (λ x. omega (arith, x)) (λ x. omega (arith, x)) refl
-  placed (is-8 f d l) = nowhere (λ x. omega (arith, x)) (λ x. omega (arith, x)) refl
-  placed (front-9 f l u) = record { nine = λ x. u; ten = λ x. absurd (omega (arith, x)); none = λ x y. absurd (x refl) }
-  placed (front-10 f u l o) =
-      record { nine = λ x. absurd (omega (arith, x)); ten = λ x. o; none = λ x y. absurd (y refl) }
-  placed (is-11 b f d) = nowhere (λ x. omega (arith, x)) (λ x. omega (arith, x)) refl
-  placed (is-12 b f s v l c d) = nowhere (λ x. omega (arith, x)) (λ x. omega (arith, x)) refl
-  placed (is-13 h d) = nowhere (λ x. omega (arith, x)) (λ x. omega (arith, x)) refl
-  placed (is-14 h g d) = nowhere (λ x. omega (arith, x)) (λ x. omega (arith, x)) refl
-  placed (is-15 h g s d) = nowhere (λ x. omega (arith, x)) (λ x. omega (arith, x)) refl
-  placed (is-16 h l) = nowhere (λ x. omega (arith, x)) (λ x. omega (arith, x)) refl
-  placed (is-17 h l m) = nowhere (λ x. omega (arith, x)) (λ x. omega (arith, x)) refl
-  placed (payload-9 h t m f l u) =
+  place-told : {a : Record} → Answer a → PlaceTold a
+  place-told (is-1 h) = nowhere (λ x. omega (arith, x)) (λ x. omega (arith, x)) refl
+  place-told (is-7 h d) = nowhere (λ x. omega (arith, x)) (λ x. omega (arith, x)) refl
+  place-told (is-8 f d l) = nowhere (λ x. omega (arith, x)) (λ x. omega (arith, x)) refl
+  place-told (front-9 f l u) =
       record { nine = λ x. u; ten = λ x. absurd (omega (arith, x)); none = λ x y. absurd (x refl) }
-  placed (payload-10 h t m v e f l o) =
+  place-told (front-10 f u l o) =
       record { nine = λ x. absurd (omega (arith, x)); ten = λ x. o; none = λ x y. absurd (y refl) }
-  placed (is-0 lead symbol h t m u) = nowhere (λ x. omega (arith, x)) (λ x. omega (arith, x)) refl
+  place-told (is-11 b f d) = nowhere (λ x. omega (arith, x)) (λ x. omega (arith, x)) refl
+  place-told (is-12 b f s v l c d) = nowhere (λ x. omega (arith, x)) (λ x. omega (arith, x)) refl
+  place-told (is-13 h d) = nowhere (λ x. omega (arith, x)) (λ x. omega (arith, x)) refl
+  place-told (is-14 h g d) = nowhere (λ x. omega (arith, x)) (λ x. omega (arith, x)) refl
+  place-told (is-15 h g s d) = nowhere (λ x. omega (arith, x)) (λ x. omega (arith, x)) refl
+  place-told (is-16 h l) = nowhere (λ x. omega (arith, x)) (λ x. omega (arith, x)) refl
+  place-told (is-17 h l m) = nowhere (λ x. omega (arith, x)) (λ x. omega (arith, x)) refl
+  place-told (payload-9 h t m f l u) =
+      record { nine = λ x. u; ten = λ x. absurd (omega (arith, x)); none = λ x y. absurd (x refl) }
+  place-told (payload-10 h t m v e f l o) =
+      record { nine = λ x. absurd (omega (arith, x)); ten = λ x. o; none = λ x y. absurd (y refl) }
+  place-told (is-0 lead symbol h t m u v) = nowhere (λ x. omega (arith, x)) (λ x. omega (arith, x)) refl
 
   -- before 13 in the reading order no LENGTH is told
   early : {a : Record} → Answer a → (a .number ≡ 0 → ⊥) → a .number ≤ 12 → (front : ℕ) → FrontOf kind front
@@ -106,7 +107,7 @@ module _ (kind : ℕ) (agree : Bool) (rec : List Taken) (room : ℕ) where
       absurd (omega (arith, l, g, one-front (front-of-kind (h .goes)) f))
   early (payload-10 h t e v r g d o) z m front f l =
       absurd (omega (arith, l, g, one-front (front-of-kind (h .goes)) f))
-  early (is-0 lead symbol h t e u) z m front f l = absurd (z refl)
+  early (is-0 lead symbol h t e u v) z m front f l = absurd (z refl)
 
   -- from 13 on it is the header's, and each says what is wrong
   pub record Late (a : Record) : Type 0 where
@@ -168,7 +169,7 @@ module _ (kind : ℕ) (agree : Bool) (rec : List Taken) (room : ℕ) where
   }
   late (payload-9 h t e g d u) m = absurd (omega (arith, m))
   late (payload-10 h t e v r g d o) m = absurd (omega (arith, m))
-  late (is-0 lead symbol h t e u) m = absurd (omega (arith, m))
+  late (is-0 lead symbol h t e u v) m = absurd (omega (arith, m))
 
   -- 8 says that the recording is shorter than the front, 11 that the SFD is another
   eight : {a : Record} → Answer a → a .number ≡ 8 → (front : ℕ) → FrontOf kind front → length rec < front
@@ -186,7 +187,7 @@ module _ (kind : ℕ) (agree : Bool) (rec : List Taken) (room : ℕ) where
   eight (is-17 h d m) e front f = absurd (omega (arith, e))
   eight (payload-9 h t m g d u) e front f = absurd (omega (arith, e))
   eight (payload-10 h t m v r g d o) e front f = absurd (omega (arith, e))
-  eight (is-0 lead symbol h t m u) e front f = absurd (omega (arith, e))
+  eight (is-0 lead symbol h t m u v) e front f = absurd (omega (arith, e))
 
   eleven : {a : Record} → Answer a → a .number ≡ 11 → (at sfd ones : ℕ) → BitsOf kind at sfd ones
       → FrontField kind rec at 16 sfd → ⊥
@@ -207,7 +208,7 @@ module _ (kind : ℕ) (agree : Bool) (rec : List Taken) (room : ℕ) where
   eleven (is-17 h d m) e at sfd ones b f = omega (arith, e)
   eleven (payload-9 h t m g d u) e at sfd ones b f = omega (arith, e)
   eleven (payload-10 h t m v r g d o) e at sfd ones b f = omega (arith, e)
-  eleven (is-0 lead symbol h t m u) e at sfd ones b f = omega (arith, e)
+  eleven (is-0 lead symbol h t m u v) e at sfd ones b f = omega (arith, e)
 
   -- 12 that the CRC is none of the three fields
   twelve : {a : Record} → Answer a → a .number ≡ 12 → (at sfd ones signal service l : ℕ) → BitsOf kind at sfd ones
@@ -236,7 +237,7 @@ module _ (kind : ℕ) (agree : Bool) (rec : List Taken) (room : ℕ) where
   twelve (is-17 h d m) e at sfd ones signal service l b x y z w = omega (arith, e)
   twelve (payload-9 h t m g d u) e at sfd ones signal service l b x y z w = omega (arith, e)
   twelve (payload-10 h t m v r g d o) e at sfd ones signal service l b x y z w = omega (arith, e)
-  twelve (is-0 lead symbol h t m u) e at sfd ones signal service l b x y z w = omega (arith, e)
+  twelve (is-0 lead symbol h t m u v) e at sfd ones signal service l b x y z w = omega (arith, e)
 
   -- a good answer is what the header says: rate, LENGTH, n and the clock bit, and its SERVICE is allowed
   pub record Heads (a : Record) : Type 0 where
@@ -246,6 +247,7 @@ module _ (kind : ℕ) (agree : Bool) (rec : List Taken) (room : ℕ) where
     clock-is : a .clock ≡ service / 4 % 2
     seven-of : SevenOf (a .rate) (a .n) (a .length) (service / 128 % 2)
     usable : (q : ℕ) → q < a .used → UsableAt rec q
+    even : a .rate ≡ 10 → (s : ℕ) → 11 * suc s < a .used → oddBehind rec s ≡ 0
 
   heads : {a : Record} → Answer a → a .number ≡ 0 → Heads a
   heads (is-1 h) e = absurd (omega (arith, e))
@@ -262,13 +264,14 @@ module _ (kind : ℕ) (agree : Bool) (rec : List Taken) (room : ℕ) where
   heads (is-17 h d m) e = absurd (omega (arith, e))
   heads (payload-9 h t m g d u) e = absurd (omega (arith, e))
   heads (payload-10 h t m v r g d o) e = absurd (omega (arith, e))
-  heads (is-0 lead symbol h t m u) e = record {
+  heads (is-0 lead symbol h t m u v) e = record {
     service = _;
     header = h .header;
     service-of = h .service-of;
     clock-is = refl;
     seven-of = h .seven-of;
     usable = u;
+    even = v;
   }
 
   -- 16 and 17: of n octets that the header tells of the recording lacks chips, or the buffer room
@@ -315,7 +318,7 @@ module _ (kind : ℕ) (agree : Bool) (rec : List Taken) (room : ℕ) where
   }
   lacks (payload-9 h t m g d u) e = absurd (omega (arith, e))
   lacks (payload-10 h t m v r g d o) e = absurd (omega (arith, e))
-  lacks (is-0 lead symbol h t m u) e = absurd (omega (arith, e))
+  lacks (is-0 lead symbol h t m u v) e = absurd (omega (arith, e))
 
 -- ---- of a read, whatever recorded
 module _ (kind : ℕ) (agree : Bool) (rec : List Taken) (room : ℕ) (a : Record) (left : List ℕ)
@@ -323,8 +326,8 @@ module _ (kind : ℕ) (agree : Bool) (rec : List Taken) (room : ℕ) (a : Record
   says : ReadAnswer kind agree rec room a
   says = kept .read-answers kind agree rec room a left f
 
-  pub placed-first : Placed kind agree rec room a
-  placed-first = placed kind agree rec room says
+  pub places-told : PlaceTold kind agree rec room a
+  places-told = place-told kind agree rec room says
 
   pub no-length-early : (m : ℕ) → a .number ≡ suc m → a .number ≤ 12 → (front : ℕ) → FrontOf kind front
       → a .place < front → a .length ≡ 0

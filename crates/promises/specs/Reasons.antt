@@ -115,9 +115,11 @@ pub data ReadAnswer (kind : ℕ) (agree : Bool) (rec : List Taken) (room : ℕ) 
       → front + octet * n ≤ length rec → n ≤ room → ((q : ℕ) → q < front + octet * n → UsableAt rec q) → rate ≡ 10
       → front ≤ place → place < front + octet * n → FirstOddSymbol rec place
       → ReadAnswer kind agree rec room (refusedAt 10 place l)
-  -- else what the header says: rate, LENGTH, n, the frame's chips, the clock bit
+  -- else, where no symbol at 1 Mbit/s grew by 1 or 3, what the header says: rate, LENGTH, n, the frame's chips, the
+  -- clock bit
   is-0 : {rate service l n front octet : ℕ} (lead symbol : ℕ) → HasPayload kind agree rec rate service l n front octet
       → front + octet * n ≤ length rec → n ≤ room → ((q : ℕ) → q < front + octet * n → UsableAt rec q)
+      → (rate ≡ 10 → (s : ℕ) → 11 * suc s < front + octet * n → oddBehind rec s ≡ 0)
       → ReadAnswer kind agree rec room (good rate l n (front + octet * n) (service / 4 % 2) lead symbol)
 
 -- promise: A read answers by the numbers, in their order, each exactly for its reason: 9 and 10 with the first such

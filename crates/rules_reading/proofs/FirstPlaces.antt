@@ -1,7 +1,7 @@
 -- The first place of 9 and of 10 in a whole recording: none before it, and it is one.
 --     front-unusable-first, payload-unusable-first    an unusable chip
 --     front-all-usable, payload-all-usable            and none where none was found
---     front-even-ones                                 no odd growth where none was found
+--     front-even-ones, payload-even-ones              no odd growth where none was found
 --     front-odd-first, payload-odd-first              the first chip of a 1 Mbit/s symbol grown by 1 or 3
 -- By the laws of the two searches, and by the words that the symbols have from their own chips. Assumes nothing.
 use mathlib.Core.Path.{_≡_, refl, sym, ap, ap₂, _∙_, subst}
@@ -246,6 +246,12 @@ abbrev pub onesOf : Kind → ℕ
 onesOf Long = 192
 onesOf Short = 72
 
+abbrev pub IsOne : Rate → Type 0
+IsOne One = Unit {0}
+IsOne Two = ⊥
+IsOne Five = ⊥
+IsOne Eleven = ⊥
+
 -- one search after another
 or-some : {P : Type 0} (o rest : Option ℕ) (p : ℕ) → orElse o (λ q. some q) rest ≡ some p → (o ≡ some p → P)
     → (o ≡ none → rest ≡ some p → P) → P
@@ -320,3 +326,13 @@ module _ (rec : List Taken) where
   payload-odd-first k Two n p g e f = absurd (some-none f)
   payload-odd-first k Five n p g e f = absurd (some-none f)
   payload-odd-first k Eleven n p g e f = absurd (some-none f)
+
+  pub payload-even-ones : (k : Kind) (r : Rate) (n : ℕ) → goesWith k r ≡ true → r ≡ One → frontOdd k rec ≡ none
+      → payloadOdd k r n rec ≡ none → (s : ℕ) → s < 191 + 8 * n → oddBehind rec s ≡ 0
+  unfolding payloadOdd payloadWords
+  payload-even-ones Long One n g o e f s l =
+      part-even rec 191 (8 * n / 1) (payloadPhase Long rec) long-payload-phase (long-front-even e) f s (omega arith)
+  payload-even-ones Short One n g o e f s l = absurd (subst T (sym g) tt)
+  payload-even-ones k Two n g o e f s l = absurd (subst IsOne (sym o) tt)
+  payload-even-ones k Five n g o e f s l = absurd (subst IsOne (sym o) tt)
+  payload-even-ones k Eleven n g o e f s l = absurd (subst IsOne (sym o) tt)

@@ -26,6 +26,7 @@ use Rattle.rules_frame.specs.declared.Kind.{Kind}
 use Rattle.rules_frame.specs.Frame.{sfdOf, syncBits, headerRate, start}
 use Rattle.rules_calls.specs.declared.Told.{Told}
 use Rattle.rules_calls.specs.declared.Front.the-variants.{Fields}
+use Rattle.rules_reading.specs.Places.{wordFrom}
 use Rattle.rules_reading.specs.Reading.{
   decidedWords,
   preambleWords,
@@ -41,7 +42,7 @@ use Rattle.rules_reading.proofs.Places.{decidedWords-length}
 
 -- the word that symbol n is decided as
 abbrev pub wordAt : Rate → List Taken → ℕ → ℕ
-wordAt r rec n = decided r (map takenCounts (take (symbolChips r) (drop (symbolChips r * n) rec)))
+wordAt r rec n = wordFrom r (symbolChips r * n) rec
 
 pub words-at : (r : Rate) (m n : ℕ) (rec : List Taken) → n < m → getD (decidedWords r m rec) n 0 ≡ wordAt r rec n
 unfolding decidedWords

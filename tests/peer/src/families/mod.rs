@@ -40,7 +40,8 @@
 //! - A start passed over right behind an offset whose SFD is right and whose front is refused: `find_damage`.
 //! - LENGTH taken or refused wrongly at one value: `every_length_listed`. The last chip at one n: `write_every_n`.
 //! - The lead of one word wrong: `leads_of_each_word`.
-//! - A length cut to 16, 20, 22 or 24 bits, a bit of a number lost: `wide_rows`, `bits_of_numbers`.
+//! - A length cut to 16, 20, 22 or 24 bits: `wide_writes`, `wide_recordings`, `wide_rooms`, `wide_searches`.
+//! - A bit of a number lost: `bits_of_numbers`.
 //! - I and Q that may not be one row, a recording of a list that may not be named twice: `one_row`, `report_lists`.
 //! - What a lent row held before the call, a row of length 0 by a pointer or as NULL, a row kept between calls: every
 //!   family, as each call's rows are laid in any way (`laid.rs`).
@@ -246,8 +247,14 @@ families! {
     1403 report_edges::report_edges: "one recording more than any report has, at the limits of each number",
     // for: Spells.answer, Spells.octets, TextFills, TextSays, decimal-value, OctetRoom
     1404 report_edges::report_text: "texts of any report, with rooms about the text's octets",
-    // for: Wrote.chips, Read.octets, ReadFront.answer, Finds.answer, Adds.answer, WriteFills, ReadFills, TextFills
-    1501 widths::wide_rows: "rows of 2^16, 2^20, 2^22 and 2^24 elements and a few more, in every call",
+    // for: Wrote.answer, Wrote.chips, WriteFills, OnlySent
+    1501 widths::wide_writes: "payloads and chip buffers of 2^16, 2^20, 2^22 and 2^24 and a few more",
+    // for: ReadHard, ReadSoft, ReadBytes, ReadFront.answer, RowsRefused
+    1503 widths::wide_recordings: "recordings of so many chips by each recorder, and rows that differ by so much",
+    // for: Read.answer, Read.octets, ReadFills, Spells.answer, Spells.octets, TextFills
+    1504 widths::wide_rooms: "octet buffers of so many octets, of full reads and of a text",
+    // for: Finds.answer, Adds.answer, Lists.answer
+    1505 widths::wide_searches: "recordings of so many chips to search and to count, and lists of so many",
     // for: OnlySent, NotTried, AnyReport, Lists.answer, Spells.answer, Spells.octets
     1502 widths::bits_of_numbers: "each bit of 64 more in each number of every call",
 }

@@ -98,21 +98,22 @@ pub fn halves_of_a_count(out: &mut Out) {
     }
 }
 
+const TINY: [u32; 12] = [
+    0x0000_0000, // 0
+    0x8000_0000, // -0
+    0x0000_0001, // the smallest subnormal
+    0x8000_0001,
+    0x007F_FFFF, // the largest subnormal
+    0x807F_FFFF,
+    0x0080_0000, // the smallest normal
+    0x8080_0000,
+    0x2F80_0000, // 2^-32
+    0x39FF_FFFF, // just below half a count
+    0x3A00_0000, // half a count
+    0xBA00_0001, // just above it, negative
+];
+
 pub fn tiny_values(out: &mut Out) {
-    const TINY: [u32; 12] = [
-        0x0000_0000, // 0
-        0x8000_0000, // -0
-        0x0000_0001, // the smallest subnormal
-        0x8000_0001,
-        0x007F_FFFF, // the largest subnormal
-        0x807F_FFFF,
-        0x0080_0000, // the smallest normal
-        0x8080_0000,
-        0x2F80_0000, // 2^-32
-        0x39FF_FFFF, // just below half a count
-        0x3A00_0000, // half a count
-        0xBA00_0001, // just above it, negative
-    ];
     for _ in 0..out.cases(600) {
         let mut frame = SoftFrame::random(1.0, 8, &mut out.random);
         let from = some_start(&frame, &mut out.random);

@@ -20,22 +20,22 @@ pub fn far_size(random: &mut Random) -> usize {
     (1 << random.pick(&[16, 16, 16, 16, 16, 20, 20, 24])) + random.below(5000) - 2500
 }
 
-/// A payload that is none, and room that is more than enough.
-fn wide_writes(out: &mut Out, kind: Kind, wide: usize) {
+/// A payload that is none, and room that is more than enough: short of the frame in its lowest bits, and not.
+fn wide_write(out: &mut Out, kind: Kind, wide: usize) {
     let rates: Vec<Rate> = Rate::ALL.into_iter().filter(|rate| kind.has(*rate)).collect();
     let (rate, n) = (out.random.pick(&rates), out.random.within(1, 20));
     let code = u64::from(rate.code());
     let mut payload = out.random.octets(n);
-    let room = wide + out.random.below(frame_len(kind, rate, n));
+    let frame = frame_len(kind, rate, n);
+    let room = wide + out.random.below(frame) + if kind == Kind::Long { 0 } else { frame };
     out.over_aa(Call::write(kind.number(), code, 1, 0, payload.clone(), room));
     payload.resize(wide + n, 0);
-    let room = frame_len(kind, rate, n);
-    out.call(Call::write(kind.number(), code, 2, 1, payload, room));
+    out.call(Call::write(kind.number(), code, 2, 1, payload, frame));
 }
 
 /// A frame with zeros behind it, of fewer chips than the front in its length's lowest bits, by each recorder; so many
 /// bytes too.
-fn wide_reads(out: &mut Out, kind: Kind, wide: usize) {
+fn wide_recording(out: &mut Out, kind: Kind, wide: usize) {
     let draft = Draft::random(kind, Rate::Mbit11, 3, &mut out.random);
     let (chips, few) = (draft.chips(), out.random.below(kind.front_chips()));
     let mut long = chips.clone();
@@ -56,11 +56,11 @@ fn wide_reads(out: &mut Out, kind: Kind, wide: usize) {
     }
 }
 
-/// Room that is short of the payload in its lowest bits.
-fn wide_rooms(out: &mut Out, kind: Kind, wide: usize) {
+/// Room that is short of the payload in its lowest bits; of bytes it is not, but what is behind the payload is 2^k.
+fn wide_room(out: &mut Out, kind: Kind, wide: usize) {
     let draft = Draft::random(kind, Rate::Mbit5_5, 9, &mut out.random);
-    for recorder in Recorder::ALL {
-        let room = wide + out.random.below(9);
+    for (recorder, more) in [(Recorder::Hard, 0), (Recorder::Soft, 0), (Recorder::Bytes, 9)] {
+        let room = wide + more + out.random.below(9);
         out.over_aa(recorder.reading(kind.number(), draft.chips(), room));
     }
     let room = wide + out.random.below(text(&Report::default()).len());
@@ -68,7 +68,7 @@ fn wide_rooms(out: &mut Out, kind: Kind, wide: usize) {
 }
 
 /// A frame to be found, a recording more, and one of a list, all with zeros behind; lists of recordings of no chips.
-fn wide_searches(out: &mut Out, kind: Kind, wide: usize) {
+fn wide_search(out: &mut Out, kind: Kind, wide: usize) {
     let few = out.random.below(kind.front_chips());
     let mut scene = Scene::new(kind, Rate::Mbit2, Before::Stopped, 7, &mut out.random);
     scene.chips.resize(wide + few, 0);
@@ -83,21 +83,35 @@ fn wide_searches(out: &mut Out, kind: Kind, wide: usize) {
     }
 }
 
-/// Shows: a length that is cut to 16, 20, 22 or 24 bits, in any call.
-pub fn wide_rows(out: &mut Out) {
+/// Shows: a length that is cut to 16, 20, 22 or 24 bits, of a payload and of a chip buffer.
+pub fn wide_writes(out: &mut Out) {
     for wide in WIDTHS.map(|bits| 1 << bits) {
-        for kind in Kind::BOTH {
-            // The widest are tried with one kind: the long one if they are rows of chips, else the short one.
-            let both = wide < 1 << 22;
-            wide_writes(out, kind, wide);
-            if both || kind == Kind::Long {
-                wide_reads(out, kind, wide);
-                wide_searches(out, kind, wide);
-            }
-            if both || kind == Kind::Short {
-                wide_rooms(out, kind, wide);
-            }
+        Kind::BOTH.into_iter().for_each(|kind| wide_write(out, kind, wide));
+    }
+}
+
+/// The same of recordings, by each recorder and from the front alone; the widest of one kind.
+pub fn wide_recordings(out: &mut Out) {
+    for wide in WIDTHS.map(|bits| 1 << bits) {
+        wide_recording(out, Kind::Long, wide);
+        if wide < 1 << 20 {
+            wide_recording(out, Kind::Short, wide);
         }
+    }
+}
+
+/// The same of octet buffers, of full reads and of a text.
+pub fn wide_rooms(out: &mut Out) {
+    for wide in WIDTHS.map(|bits| 1 << bits) {
+        wide_room(out, Kind::Short, wide);
+    }
+}
+
+/// The same of recordings to search and to count, of lists and of their kinds.
+pub fn wide_searches(out: &mut Out) {
+    for wide in WIDTHS.map(|bits| 1 << bits) {
+        wide_search(out, Kind::Long, wide);
+        wide_search(out, Kind::Short, wide);
     }
 }
 
