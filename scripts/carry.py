@@ -4,8 +4,8 @@
     scripts/carry.py docs/DECISIONS.md FOLDER
 
 FOLDER holds crates/ and may hold crates.txt and patches. The table "What became what" of the first file says which
-crate was renamed, which became a module of another, and which file of laws moved. Files are moved and rewritten in place, so
-work on a copy; `rt fmt` puts the layout right afterwards.
+crate was renamed, which became a module of another, and which file of laws moved. Files are moved and rewritten in
+place, so work on a copy; `rt fmt` puts the layout right afterwards.
 """
 import os
 import re

@@ -23,7 +23,8 @@ stage 'proofs, must-fail edits, programs'
 log=$(mktemp)
 faults=$(mktemp)
 trap 'rm -f "$log" "$faults"' EXIT
-rt ci 2>&1 | tee "$log"
+# rt waits for all the checks that it started together: twice as many as cores leave no core idle meanwhile
+RT_JOBS=${RT_JOBS:-$((2 * $(nproc)))} rt ci 2>&1 | tee "$log"
 verdict=$(tail -n 1 "$log")
 case $verdict in
 *' passed, 0 failed') ;;
