@@ -1,9 +1,10 @@
--- What is promised beyond each contract (RULES 1.4, 6.15, 6.17, 7, 9). Fills, what is accepted (Only.antt), reading
--- back, one source, one answer, what is coming (Coming.antt) and the start found (Finding.antt) speak of answers,
--- buffers and parts that the contracts allow (`Wrote`, `Read`, `ReadFront`, `Handed`, `Finds`: Calls.antt), so they are
--- about the programs, and so does the smallest lead (Leads.antt). Demand 3 (Right.antt), and what a lead says of the
--- exact numbers, speak of the lists of words that the definition of reading takes its growths and bits from, the half a
--- count and Table P of the definitions. proofs/Kept.antt proves all of it.
+-- What is promised beyond each contract (RULES 1.4, 6, 7, 9). Fills, what is accepted (Only.antt), which number a write
+-- and a read get, and why (Refusing.antt, Reasons.antt), octets, reading back, one source, one answer, what is coming
+-- (Coming.antt) and the start found (Finding.antt) speak of answers, buffers and parts that the contracts allow
+-- (`Wrote`, `Read`, `ReadFront`, `Handed`, `Finds`: Calls.antt), so they are about the programs, and so does the
+-- smallest lead (Leads.antt). Demand 3 (Right.antt), and what a lead says of the exact numbers, speak of the lists of
+-- words that the definition of reading takes its growths and bits from, the half a count and Table P of the
+-- definitions. proofs/Kept.antt proves all of it.
 -- Definitions only. Assumes nothing.
 use Prim.Native.Nat.{ℕ, _+_, _-_, _*_, _≤_, _<_}
 use mathlib.Core.Path.{_≡_}
