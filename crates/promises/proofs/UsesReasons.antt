@@ -48,11 +48,11 @@ use Rattle.promises.proofs.Kept.{kept}
 use Rattle.promises.proofs.Uses.{goes-1}
 use Rattle.promises.proofs.UsesFinding.{front-of-kind, one-front}
 
--- a kind's front has one SFD, at one place
-one-bits : {kind at at′ sfd sfd′ ones ones′ : ℕ} → BitsOf kind at sfd ones → BitsOf kind at′ sfd′ ones′
-    → (at ≡ at′) × (sfd ≡ sfd′)
-one-bits long-bits long-bits = (refl, refl)
-one-bits short-bits short-bits = (refl, refl)
+-- a kind's front has one SFD, at one place, and so many symbols at 1 Mbit/s
+pub one-bits : {kind at at′ sfd sfd′ ones ones′ : ℕ} → BitsOf kind at sfd ones → BitsOf kind at′ sfd′ ones′
+    → (at ≡ at′) × (sfd ≡ sfd′) × (ones ≡ ones′)
+one-bits long-bits long-bits = (refl, refl, refl)
+one-bits short-bits short-bits = (refl, refl, refl)
 
 -- a short front has 72 symbols at 1 Mbit/s
 short-ones : {kind at sfd ones : ℕ} → BitsOf kind at sfd ones → kind ≡ 1 → ones ≡ 72
