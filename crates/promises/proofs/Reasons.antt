@@ -1,5 +1,5 @@
--- A read answers by the numbers, in their order, and why: what any reading comes to (`reading-comes` of reading), case
--- by case, in plain numbers. Assumes nothing.
+-- A read answers by the numbers, in their order, and why: what any reading comes to (`reading-comes` of rules_reading),
+-- case by case, in plain numbers. Assumes nothing.
 use mathlib.Core.Path.{_≡_, refl, sym, ap, ap₂, _∙_, subst}
 use mathlib.Core.Bool.{Bool, true, false, _&&_, _||_}
 use mathlib.Core.List.{List}

@@ -1,6 +1,6 @@
 -- A read answers by the numbers, in their order, and why (RULES 1.4 (1), 6.2 to 6.8, 6.10): for every input, in plain
--- numbers and by what the symbols of the recording say, bit by bit (Decoded.antt of reading). And every good read's
--- octets, whatever became of the frame on the way (RULES 4.7, 5.5, 5.7).
+-- numbers and by what the symbols of the recording say, bit by bit (Decoded.antt of rules_reading). And every good
+-- read's octets, whatever became of the frame on the way (RULES 4.7, 5.5, 5.7).
 -- Definitions only. Assumes nothing.
 use Prim.Native.Nat.{ℕ, suc, _+_, _*_, _/_, _%_, _≤_, _<_}
 use mathlib.Core.Path.{_≡_}
