@@ -1,6 +1,6 @@
 -- Demand 2 from the contracts: what the writer left is read back, hard, as exact soft pairs or as bytes; with too
 -- little room, or cut, it is refused as stated. A read of any of the three is one of a clean recording (`cleanly`); the
--- laws of clean frames (crate `clean`) say how they are read.
+-- laws of clean frames (crate `rules_clean`) say how they are read.
 -- Assumes nothing.
 use mathlib.Core.Path.{_≡_, refl, sym, ap, ap₂, _∙_, subst}
 use mathlib.Core.Bool.{Bool, true}

@@ -1,5 +1,5 @@
--- Every good read's octets are what the symbols of its frame say, bit by bit (`payload-octet` of reading). Assumes
--- nothing.
+-- Every good read's octets are what the symbols of its frame say, bit by bit (`payload-octet` of rules_reading).
+-- Assumes nothing.
 use mathlib.Core.Path.{_≡_, sym, ap, _∙_, subst}
 use mathlib.Core.List.{List}
 use Prim.Native.Nat.{ℕ, _+_, _-_, _*_, _<_}

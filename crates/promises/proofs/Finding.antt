@@ -1,6 +1,6 @@
 -- Find the start, and the two readers' answers from each offset. A search ends at the first front that is told, or
--- behind so many that are refused (`finding-comes` of finding); what both readers answer to either is by the cases of
--- what a front and a payload can be refused with (Refusals.antt of reading). Assumes nothing.
+-- behind so many that are refused (`finding-comes` of rules_finding); what both readers answer to either is by the
+-- cases of what a front and a payload can be refused with (Refusals.antt of rules_reading). Assumes nothing.
 use mathlib.Core.Path.{_≡_, refl, sym, ap, _∙_, subst}
 use mathlib.Core.Bool.{true, false}
 use mathlib.Core.List.{List, _++_}

@@ -24,3 +24,4 @@ pub mod UsesLeads
 pub mod UsesComing
 pub mod UsesFinding
 pub mod UsesReasons
+pub mod UsesOrder

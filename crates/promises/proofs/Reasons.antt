@@ -1,5 +1,5 @@
--- A read answers by the numbers, in their order, and why: what any reading comes to (`reading-comes` of reading), case
--- by case, in plain numbers. Assumes nothing.
+-- A read answers by the numbers, in their order, and why: what any reading comes to (`reading-comes` of rules_reading),
+-- case by case, in plain numbers. Assumes nothing.
 use mathlib.Core.Path.{_≡_, refl, sym, ap, ap₂, _∙_, subst}
 use mathlib.Core.Bool.{Bool, true, false, _&&_, _||_}
 use mathlib.Core.List.{List}
@@ -65,6 +65,7 @@ use Rattle.rules_reading.proofs.FirstPlaces.{
   payload-all-usable,
   onesOf,
   front-odd-first,
+  front-odd-at,
   front-even-ones,
   payload-odd-first,
   payload-even-ones,
@@ -242,7 +243,7 @@ module _ (kind : ℕ) (agree : Bool) (rec : List Taken) (room : ℕ) (known-kind
   in-front (front-unusable p l f) =
       front-9 (has-front l) (front-place k rec (front-unusable p l f)) (front-unusable-first k rec p l f)
   in-front (front-odd p l u f) =
-      front-10 (has-front l) (front-all-usable k rec l u) (front-place k rec (front-odd p l u f))
+      front-10 (has-front l) (front-all-usable k rec l u) (bits-known kind known-kind) (front-odd-at rec k p f)
       (front-odd-first rec k p f)
   in-front (sfd-differs c d) = is-11 (has-bits c) (sfd-field k rec One 0) d
   in-front (crc-differs c s d) =

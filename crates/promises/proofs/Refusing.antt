@@ -1,5 +1,5 @@
--- Which answer a write gives, for every input: each case by its law (WriteExactly.antt of calls), and every input is in
--- one of them. Assumes nothing.
+-- Which answer a write gives, for every input: each case by its law (WriteExactly.antt of rules_calls), and every
+-- input is in one of them. Assumes nothing.
 use mathlib.Core.Path.{_≡_, refl, sym, ap, ap₂, _∙_, subst}
 use Prim.Native.Nat.{ℕ, zero, suc, _+_, _*_, _≤_, _<_}
 use native.Mathlib.Decide.{decLe, ℕ-discrete}

@@ -45,36 +45,55 @@ use Rattle.promises.specs.Reasons.{
   is-0,
 }
 use Rattle.promises.proofs.Kept.{kept}
+use Rattle.promises.proofs.Uses.{goes-1}
 use Rattle.promises.proofs.UsesFinding.{front-of-kind, one-front}
 
--- a kind's front has one SFD, at one place
-one-bits : {kind at at′ sfd sfd′ ones ones′ : ℕ} → BitsOf kind at sfd ones → BitsOf kind at′ sfd′ ones′
-    → (at ≡ at′) × (sfd ≡ sfd′)
-one-bits long-bits long-bits = (refl, refl)
-one-bits short-bits short-bits = (refl, refl)
+-- a kind's front has one SFD, at one place, and so many symbols at 1 Mbit/s
+pub one-bits : {kind at at′ sfd sfd′ ones ones′ : ℕ} → BitsOf kind at sfd ones → BitsOf kind at′ sfd′ ones′
+    → (at ≡ at′) × (sfd ≡ sfd′) × (ones ≡ ones′)
+one-bits long-bits long-bits = (refl, refl, refl)
+one-bits short-bits short-bits = (refl, refl, refl)
+
+-- a short front has 72 symbols at 1 Mbit/s
+short-ones : {kind at sfd ones : ℕ} → BitsOf kind at sfd ones → kind ≡ 1 → ones ≡ 72
+short-ones long-bits k = absurd (omega (arith, k))
+short-ones short-bits k = refl
 
 -- ---- what an answer says, by its number
 module _ (kind : ℕ) (agree : Bool) (rec : List Taken) (room : ℕ) where
   abbrev Answer : Record → Type 0
   Answer = ReadAnswer kind agree rec room
 
-  -- 9 and 10 have the first such place of the whole recording, and no other number has one
+  -- 9 and 10 have the first such place of the whole recording, 10 under the short kind before the header, whose symbols
+  -- at 2 Mbit/s may grow by anything; no other number has one
   pub record PlaceTold (a : Record) : Type 0 where
     nine : a .number ≡ 9 → UnusableFirst rec (a .place)
     ten : a .number ≡ 10 → FirstOddSymbol rec (a .place)
+    ten-short : a .number ≡ 10 → kind ≡ 1 → a .place < 792
     none : (a .number ≡ 9 → ⊥) → (a .number ≡ 10 → ⊥) → a .place ≡ 0
 
   nowhere : {a : Record} → (a .number ≡ 9 → ⊥) → (a .number ≡ 10 → ⊥) → a .place ≡ 0 → PlaceTold a
-  nowhere f g e = record { nine = λ x. absurd (f x); ten = λ x. absurd (g x); none = λ x y. e }
+  nowhere f g e =
+      record { nine = λ x. absurd (f x); ten = λ x. absurd (g x); ten-short = λ x. absurd (g x); none = λ x y. e }
 
   place-told : {a : Record} → Answer a → PlaceTold a
   place-told (is-1 h) = nowhere (λ x. omega (arith, x)) (λ x. omega (arith, x)) refl
   place-told (is-7 h d) = nowhere (λ x. omega (arith, x)) (λ x. omega (arith, x)) refl
   place-told (is-8 f d l) = nowhere (λ x. omega (arith, x)) (λ x. omega (arith, x)) refl
   place-told (front-9 f l u) =
-      record { nine = λ x. u; ten = λ x. absurd (omega (arith, x)); none = λ x y. absurd (x refl) }
-  place-told (front-10 f u l o) =
-      record { nine = λ x. absurd (omega (arith, x)); ten = λ x. o; none = λ x y. absurd (y refl) }
+      record {
+        nine = λ x. u;
+        ten = λ x. absurd (omega (arith, x));
+        ten-short = λ x. absurd (omega (arith, x));
+        none = λ x y. absurd (x refl);
+      }
+  place-told (front-10 f u b l o) =
+      record {
+        nine = λ x. absurd (omega (arith, x));
+        ten = λ x. o;
+        ten-short = λ x k. omega (arith, l, short-ones b k);
+        none = λ x y. absurd (y refl);
+      }
   place-told (is-11 b f d) = nowhere (λ x. omega (arith, x)) (λ x. omega (arith, x)) refl
   place-told (is-12 b f s v l c d) = nowhere (λ x. omega (arith, x)) (λ x. omega (arith, x)) refl
   place-told (is-13 h d) = nowhere (λ x. omega (arith, x)) (λ x. omega (arith, x)) refl
@@ -83,9 +102,19 @@ module _ (kind : ℕ) (agree : Bool) (rec : List Taken) (room : ℕ) where
   place-told (is-16 h l) = nowhere (λ x. omega (arith, x)) (λ x. omega (arith, x)) refl
   place-told (is-17 h l m) = nowhere (λ x. omega (arith, x)) (λ x. omega (arith, x)) refl
   place-told (payload-9 h t m f l u) =
-      record { nine = λ x. u; ten = λ x. absurd (omega (arith, x)); none = λ x y. absurd (x refl) }
+      record {
+        nine = λ x. u;
+        ten = λ x. absurd (omega (arith, x));
+        ten-short = λ x. absurd (omega (arith, x));
+        none = λ x y. absurd (x refl);
+      }
   place-told (payload-10 h t m v e f l o) =
-      record { nine = λ x. absurd (omega (arith, x)); ten = λ x. o; none = λ x y. absurd (y refl) }
+      record {
+        nine = λ x. absurd (omega (arith, x));
+        ten = λ x. o;
+        ten-short = λ x k. absurd (omega (arith, k, goes-1 (h .goes) e .0));
+        none = λ x y. absurd (y refl);
+      }
   place-told (is-0 lead symbol h t m u v) = nowhere (λ x. omega (arith, x)) (λ x. omega (arith, x)) refl
 
   -- before 13 in the reading order no LENGTH is told
@@ -95,7 +124,7 @@ module _ (kind : ℕ) (agree : Bool) (rec : List Taken) (room : ℕ) where
   early (is-7 h d) z m front f l = refl
   early (is-8 g d h) z m front f l = refl
   early (front-9 g h u) z m front f l = refl
-  early (front-10 g u h o) z m front f l = refl
+  early (front-10 g u c h o) z m front f l = refl
   early (is-11 b g d) z m front f l = refl
   early (is-12 b g s v h c d) z m front f l = refl
   early (is-13 h d) z m front f l = absurd (omega (arith, m))
@@ -124,7 +153,7 @@ module _ (kind : ℕ) (agree : Bool) (rec : List Taken) (room : ℕ) where
   late (is-7 h d) m = absurd (omega (arith, m))
   late (is-8 g d h) m = absurd (omega (arith, m))
   late (front-9 g h u) m = absurd (omega (arith, m))
-  late (front-10 g u h o) m = absurd (omega (arith, m))
+  late (front-10 g u c h o) m = absurd (omega (arith, m))
   late (is-11 b g d) m = absurd (omega (arith, m))
   late (is-12 b g s v h c d) m = absurd (omega (arith, m))
   late (is-13 h d) m = record {
@@ -177,7 +206,7 @@ module _ (kind : ℕ) (agree : Bool) (rec : List Taken) (room : ℕ) where
   eight (is-7 h d) e front f = absurd (omega (arith, e))
   eight (is-8 g d h) e front f = omega (arith, h, one-front g f)
   eight (front-9 g h u) e front f = absurd (omega (arith, e))
-  eight (front-10 g u h o) e front f = absurd (omega (arith, e))
+  eight (front-10 g u c h o) e front f = absurd (omega (arith, e))
   eight (is-11 b g d) e front f = absurd (omega (arith, e))
   eight (is-12 b g s v h c d) e front f = absurd (omega (arith, e))
   eight (is-13 h d) e front f = absurd (omega (arith, e))
@@ -195,7 +224,7 @@ module _ (kind : ℕ) (agree : Bool) (rec : List Taken) (room : ℕ) where
   eleven (is-7 h d) e at sfd ones b f = omega (arith, e)
   eleven (is-8 g d h) e at sfd ones b f = omega (arith, e)
   eleven (front-9 g h u) e at sfd ones b f = omega (arith, e)
-  eleven (front-10 g u h o) e at sfd ones b f = omega (arith, e)
+  eleven (front-10 g u c h o) e at sfd ones b f = omega (arith, e)
   eleven (is-11 c g d) e at sfd ones b f =
       let q = one-bits (c .bits-are) b in
       let here = subst (λ (x : ℕ). FrontField kind rec x 16 sfd) (sym (q .0)) f in
@@ -219,7 +248,7 @@ module _ (kind : ℕ) (agree : Bool) (rec : List Taken) (room : ℕ) where
   twelve (is-7 h d) e at sfd ones signal service l b x y z w = omega (arith, e)
   twelve (is-8 g d h) e at sfd ones signal service l b x y z w = omega (arith, e)
   twelve (front-9 g h u) e at sfd ones signal service l b x y z w = omega (arith, e)
-  twelve (front-10 g u h o) e at sfd ones signal service l b x y z w = omega (arith, e)
+  twelve (front-10 g u c h o) e at sfd ones signal service l b x y z w = omega (arith, e)
   twelve (is-11 c g d) e at sfd ones signal service l b x y z w = omega (arith, e)
   twelve (is-12 c g s v h o d) e at sfd ones signal service l b x y z w =
       let q = sym (one-bits (c .bits-are) b .0) in
@@ -254,7 +283,7 @@ module _ (kind : ℕ) (agree : Bool) (rec : List Taken) (room : ℕ) where
   heads (is-7 h d) e = absurd (omega (arith, e))
   heads (is-8 g d h) e = absurd (omega (arith, e))
   heads (front-9 g h u) e = absurd (omega (arith, e))
-  heads (front-10 g u h o) e = absurd (omega (arith, e))
+  heads (front-10 g u c h o) e = absurd (omega (arith, e))
   heads (is-11 b g d) e = absurd (omega (arith, e))
   heads (is-12 b g s v h c d) e = absurd (omega (arith, e))
   heads (is-13 h d) e = absurd (omega (arith, e))
@@ -290,7 +319,7 @@ module _ (kind : ℕ) (agree : Bool) (rec : List Taken) (room : ℕ) where
   lacks (is-7 h d) e = absurd (omega (arith, e))
   lacks (is-8 g d h) e = absurd (omega (arith, e))
   lacks (front-9 g h u) e = absurd (omega (arith, e))
-  lacks (front-10 g u h o) e = absurd (omega (arith, e))
+  lacks (front-10 g u c h o) e = absurd (omega (arith, e))
   lacks (is-11 b g d) e = absurd (omega (arith, e))
   lacks (is-12 b g s v h c d) e = absurd (omega (arith, e))
   lacks (is-13 h d) e = absurd (omega (arith, e))

@@ -1,6 +1,6 @@
--- What the calls promise: the records that the contracts of crate dsss cite, and that of `part` of front_only, so that
--- what is proved of them is proved of the programs; and what is said of their inputs, in plain numbers (RULES 1.4, 5.2,
--- 5.4, 5.8, 6, 9.1).
+-- What the calls promise: the records that the contracts of crate dsss cite, and that of `part` of read_front_only, so
+-- that what is proved of them is proved of the programs; and what is said of their inputs, in plain numbers (RULES 1.4,
+-- 5.2, 5.4, 5.8, 6, 9.1).
 -- Definitions only. Assumes nothing.
 use Prim.Native.Nat.{ℕ, zero, suc, _+_, _*_, _%_, _≤_, _<_}
 use mathlib.Core.Path.{_≡_}
@@ -167,7 +167,7 @@ shown (suc clock) = 1
 
 -- the smallest lead of a frame as it was sent, in counts, and the first symbol that has it: 11 full chips at 1 and 2
 -- Mbit/s, the frame's first; 8 at 5.5 and 4 at 11 Mbit/s, the payload's first. In plain numbers, and the rates by their
--- codes: a promise must not cite the definition (`cleanLeast` of `clean`); `lead-is` of proofs/Back.antt joins the two
+-- codes: a promise must not cite the definition (`cleanLeast` of rules_clean); `lead-is` of proofs/Back.antt joins them
 abbrev pub sentLead : ℕ → ℕ
 sentLead rate = cond (eqb rate 110) 4096 (cond (eqb rate 55) 8192 11264)
 

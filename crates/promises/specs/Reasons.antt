@@ -1,6 +1,6 @@
 -- A read answers by the numbers, in their order, and why (RULES 1.4 (1), 6.2 to 6.8, 6.10): for every input, in plain
--- numbers and by what the symbols of the recording say, bit by bit (Decoded.antt of reading). And every good read's
--- octets, whatever became of the frame on the way (RULES 4.7, 5.5, 5.7).
+-- numbers and by what the symbols of the recording say, bit by bit (Decoded.antt of rules_reading). And every good
+-- read's octets, whatever became of the frame on the way (RULES 4.7, 5.5, 5.7).
 -- Definitions only. Assumes nothing.
 use Prim.Native.Nat.{ℕ, suc, _+_, _*_, _/_, _%_, _≤_, _<_}
 use mathlib.Core.Path.{_≡_}
@@ -81,11 +81,12 @@ pub data ReadAnswer (kind : ℕ) (agree : Bool) (rec : List Taken) (room : ℕ) 
   is-7 : kind < 2 → agree ≡ false → ReadAnswer kind agree rec room (refused 7 0)
   is-8 : {front : ℕ} → FrontOf kind front → agree ≡ true → length rec < front
       → ReadAnswer kind agree rec room (refused 8 0)
-  -- 9 and 10 in the front: the first such place
+  -- 9 and 10 in the front: the first such place; 10 at its symbols at 1 Mbit/s only, so in none of a short header
   front-9 : {front place : ℕ} → HasFront kind agree rec front → place < front → UnusableFirst rec place
       → ReadAnswer kind agree rec room (refusedAt 9 place 0)
-  front-10 : {front place : ℕ} → HasFront kind agree rec front → ((q : ℕ) → q < front → UsableAt rec q)
-      → place < front → FirstOddSymbol rec place → ReadAnswer kind agree rec room (refusedAt 10 place 0)
+  front-10 : {front at sfd ones place : ℕ} → HasFront kind agree rec front
+      → ((q : ℕ) → q < front → UsableAt rec q) → BitsOf kind at sfd ones → place < 11 * ones
+      → FirstOddSymbol rec place → ReadAnswer kind agree rec room (refusedAt 10 place 0)
   -- 11: unscrambled SFD differs; 12: CRC differs
   is-11 : {at sfd heard : ℕ} → HasBits kind agree rec at sfd → FrontField kind rec at 16 heard → (heard ≡ sfd → ⊥)
       → ReadAnswer kind agree rec room (refused 11 0)

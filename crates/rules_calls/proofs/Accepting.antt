@@ -12,13 +12,14 @@ use mathlib.Core.Path.{_≡_, refl, sym, ap₂, _∙_, subst}
 use mathlib.Core.Bool.{Bool, true, false, _&&_}
 use mathlib.Core.List.{List, [], _∷_}
 use Prim.Native.Nat.{ℕ, _/_, _%_, _≤_}
-use borrow.Author.Tests.{leb-true, eqb-true, eq-eqb, ne-eqb}
-use lib.Dec.{T, leb, eqb}
+use borrow.Author.Tests.{eqb-true, eq-eqb, ne-eqb}
+use lib.Dec.{T, eqb}
 use lib.ListN.{take, drop}
-use lib.IntN.{ℤ, pos, negsuc, natAbs}
+use lib.IntN.{ℤ, natAbs}
 use Rattle.base.proofs.Tests.{left-is, right-is}
 use Rattle.rules_rates.specs.declared.Rate.{Rate}
 use Rattle.rules_rates.specs.Rates.{rateOf, lengthField, bit7, octetsRead, isPayload, lengthHolds}
+use Rattle.rules_rates.proofs.Plain.{holds-only}
 use Rattle.rules_bits.specs.Bits.{numberOf}
 use Rattle.rules_bits.specs.Crc.{crcBits}
 use Rattle.rules_frame.specs.declared.Kind.{Kind}
@@ -46,10 +47,6 @@ same-eq (x ∷ xs) (y ∷ ys) e =
 
 same-is : (xs ys : List ℕ) → xs ≡ ys → sameBits xs ys ≡ true
 same-is xs ys e = subst (λ (zs : List ℕ). sameBits xs zs ≡ true) e (same-refl xs)
-
-sized : (z : ℤ) → isPayload z ≡ true → (1 ≤ natAbs z) × (natAbs z ≤ 4095)
-sized (pos m) h = (leb-true 1 m (left-is _ _ h), leb-true m 4095 (right-is (leb 1 m) _ h))
-sized (negsuc m) h = absurd (subst T (sym h) tt)
 
 -- fields that are accepted, and what they tell: 1 to 4,095 octets, LENGTH and bit 7 being those sent for them
 pub record Tells (accepted : Accepted) (k : Kind) (signal service l : ℕ) (t : Told) : Type 0 where
@@ -111,13 +108,13 @@ module _ (accepted : Accepted) (k : Kind) (signal service l : ℕ) where
   holding a b c =
       let n = natAbs z in
       let first = left-is (isPayload z && eqb (lengthField r n) l) (eqb (bit7 r n) seven) c in
-      let size = sized z (left-is (isPayload z) (eqb (lengthField r n) l) first) in
+      let size = holds-only r l seven c in
       record {
         rate-is = refl;
         signal-in = a;
         service-in = b;
-        some = size .0;
-        few = size .1;
+        some = size .some;
+        few = size .few;
         length-is = sym (eqb-true (lengthField r n) l (right-is (isPayload z) _ first));
         seven-is = eqb-true (bit7 r n) seven (right-is (isPayload z && eqb (lengthField r n) l) _ c);
         clock-is = refl;

@@ -1,7 +1,7 @@
 -- Recordings read, computed from the definition and compared with what RULES 6 says of each: number, place, rate code,
 -- LENGTH, n, chips used, the clock bit, the smallest lead and its symbol. Each refusal, and each two neighbours in the
 -- order of checks that can be met together; the octet buffer after good reads. The long and the short frame are those
--- of crate `reading`, Facts, where parts of readings are computed. Assumes nothing.
+-- of crate `rules_reading`, Facts, where parts of readings are computed. Assumes nothing.
 use mathlib.Core.Path.{_≡_, refl}
 use mathlib.Core.Bool.{true, false}
 use mathlib.Core.List.{List, [], _∷_, _++_}

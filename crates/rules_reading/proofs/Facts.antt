@@ -1,9 +1,9 @@
 -- Parts of readings, and what is refused before a chip is looked at, computed from the definition and compared with
 -- what RULES 6 says: number, place, rate code, LENGTH, n, chips used, the clock bit, the smallest lead and its symbol.
--- Whole readings are computed in crate `clean`, Facts, so that an edit of a definition here computes none of them. The
--- long frame carries A5h and 3Ch at 1 Mbit/s and has the clock bit set (LENGTH 16; 2,112 + 176 chips), the short one
--- 3Dh at 11 Mbit/s and has neither bit set (LENGTH 1; 1,056 + 8 chips). What a header with a right CRC is refused for
--- stands in calls, HeaderFacts. Assumes nothing.
+-- Whole readings are computed in crate `rules_clean`, Facts, so that an edit of a definition here computes none of
+-- them. The long frame carries A5h and 3Ch at 1 Mbit/s and has the clock bit set (LENGTH 16; 2,112 + 176 chips), the
+-- short one 3Dh at 11 Mbit/s and has neither bit set (LENGTH 1; 1,056 + 8 chips). What a header with a right CRC is
+-- refused for stands in `rules_calls`, HeaderFacts. Assumes nothing.
 use mathlib.Core.Path.{_≡_, refl}
 use mathlib.Core.Bool.{Bool, true, false}
 use mathlib.Core.Option.{none, some}

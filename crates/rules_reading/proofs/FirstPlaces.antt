@@ -3,6 +3,7 @@
 --     front-all-usable, payload-all-usable            and none where none was found
 --     front-even-ones, payload-even-ones              no odd growth where none was found
 --     front-odd-first, payload-odd-first              the first chip of a 1 Mbit/s symbol grown by 1 or 3
+--     front-odd-at                                    in a front one of its symbols at 1 Mbit/s
 -- By the laws of the two searches, and by the words that the symbols have from their own chips. Assumes nothing.
 use mathlib.Core.Path.{_≡_, refl, sym, ap, ap₂, _∙_, subst}
 use mathlib.Core.Bool.{not, true}
@@ -51,7 +52,7 @@ use Rattle.rules_reading.specs.Reading.{
   payloadOdd,
 }
 use Rattle.rules_reading.proofs.Payloads.{foundUnusable}
-use Rattle.rules_reading.proofs.Places.{decidedWords-length}
+use Rattle.rules_reading.proofs.Places.{decidedWords-length, front-odd-place}
 use Rattle.rules_reading.proofs.First.{no-place, unusable-first, unusable-none, FirstOdd, odd-first, odd-none}
 use Rattle.rules_reading.proofs.Sfd.{words-at}
 
@@ -238,6 +239,9 @@ module _ (rec : List Taken) where
               before = λ s h. sym (grown-next s (omega (arith, h, l))) ∙ f .before (suc s) (omega (arith, h, d));
             }
 
+    preamble-at : (q : ℕ) → firstOdd 0 grown ≡ some q → q < 11 * m
+    preamble-at q e = let f = odd-first 0 grown q e in omega (arith, f .place-is, f .inside, grown-length)
+
     preamble-even : firstOdd 0 grown ≡ none → (s : ℕ) → suc s < m → oddBehind rec s ≡ 0
     preamble-even e s l = sym (grown-next s l) ∙ odd-none 0 grown e (suc s) (omega (arith, l, grown-length))
 
@@ -302,6 +306,12 @@ module _ (rec : List Taken) where
   front-odd-first Short p e =
       or-some (inPreamble Short) (inHeader Short) p (sym (front-search Short) ∙ e)
       (preamble-odd rec 72 (omega arith) p) (λ a b. absurd (some-none b))
+
+  pub front-odd-at : (k : Kind) (p : ℕ) → frontOdd k rec ≡ some p → p < 11 * onesOf k
+  front-odd-at Long p e = front-odd-place Long rec p e
+  front-odd-at Short p e =
+      or-some (inPreamble Short) (inHeader Short) p (sym (front-search Short) ∙ e)
+      (preamble-at rec 72 (omega arith) p) (λ a b. absurd (some-none b))
 
   -- all of a long front's symbols are at 1 Mbit/s
   long-front-even : frontOdd Long rec ≡ none → (s : ℕ) → s < 191 → oddBehind rec s ≡ 0

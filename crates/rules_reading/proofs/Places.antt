@@ -1,5 +1,5 @@
 -- Places lie in the part that they are found in: those of 9 and 10 in a front, and in a payload.
---     front-place, whole-place    a front's, which has some chips (some-chips)
+--     front-place, whole-place    a front's, which has some chips (some-chips); front-odd-place, that of 10
 --     payload-unusable-place, payload-odd-place    a payload's
 --     payload-odd-rate       a 10 comes at 1 Mbit/s only
 --     decidedWords-length    as many words as symbols
@@ -131,7 +131,7 @@ module _ (k : Kind) (rec : List Taken) (p : ℕ) where
       (omega arith, omega (arith, w .1, preamble-fits k)))
       (within-wider 0 (preambleChips k) (frontChips k) _ second (omega arith) (header-fits k) b)
 
-  front-odd-place : frontOdd k rec ≡ some p → p < frontChips k
+  pub front-odd-place : frontOdd k rec ≡ some p → p < frontChips k
   front-odd-place e = within-at odd-in-front e .1
 
 -- whatever a front is refused with

@@ -1,6 +1,6 @@
 -- What a front tells, where it is not refused: a rate of the kind, 1 to 4,095 octets, and their LENGTH; and where 16 is
--- not given either, that the recording has the frame's chips. It is the header's own law (`header-only` of calls),
--- behind the tests before it. Assumes nothing.
+-- not given either, that the recording has the frame's chips. It is the header's own law (`header-only` of
+-- rules_calls), behind the tests before it. Assumes nothing.
 use mathlib.Core.Path.{_≡_, refl, _∙_}
 use mathlib.Core.Bool.{Bool, true, false, cond}
 use mathlib.Core.List.{List}
