@@ -8,7 +8,7 @@ A statement, law, contract or refusal is tagged in the comment lines directly ab
 
     -- promise: what it promises, in words; they may go on in the next comment line
     -- rule: 1.4 (1), 6.8 to 6.10        rules of docs/RULES.md; 6.4 (9) is refusal 9, 1.4 (3) demand 3
-    -- code: usable, reader::read_hard   the functions that it is about (optional; with their crate where two have one)
+    -- code: usable, dsss::dsss_find     the functions that it is about (optional; with their crate where two have one)
     -- with: no-other, isKind            more statements or definitions of the same row (optional)
     -- no test: why none can show it     (optional), and `no edit:` likewise
 
