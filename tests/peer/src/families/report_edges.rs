@@ -169,6 +169,11 @@ pub fn report_text(out: &mut Out) {
         told(out, &Report::of_numbers(&[number; ENTRIES]), &[-1, 0]);
         told(out, &with(&at_limits(), entry, number), &[3]);
     }
+    // Each number below 10,000, as a count of a refusal or as the airtime.
+    for first in (0..10_000).step_by(16) {
+        let numbers: Vec<u64> = (first..).take(ENTRIES).collect();
+        told(out, &Report::of_numbers(&numbers), &[0]);
+    }
     // All numbers differ, so that no two can stand in each other's place.
     for _ in 0..out.cases(60) {
         let bits = out.random.below(64);
