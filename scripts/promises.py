@@ -284,7 +284,7 @@ def table_of(row, fields):
         return 'refusals'
     if row.path.endswith('/specs/Calls.antt'):
         return 'calls'
-    return 'demands' if row.crate.endswith('promises') or row.name in fields or not row.crate else 'laws'
+    return 'demands' if row.crate.startswith('promises') or row.name in fields or not row.crate else 'laws'
 
 
 def functions(tree):
