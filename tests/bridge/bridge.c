@@ -32,7 +32,7 @@
  *   1 bit    in the middle of the call another is made: the last one of this op that was kept, over its own rows. See
  *            below
  *   1 bit    turned round
- *   16 bits  at bit 16, where the row for reading is split for that, in 1/65536 of it
+ *   16 bits  at bit 16, where the row for reading is split for that, in 1/65536 of it; also where the octets of 4 begin
  *   16 bits  at bit 32, the shift
  *
  * Each row stands between guard octets, octets and bytes at odd addresses, floats at multiples of 4 and wider elements
@@ -257,8 +257,8 @@ static void fill_old(uint8_t *octets, size_t len)
 {
     static const uint8_t old[] = {0xAA, 0, 4, 0xFF};
 
-    for (size_t k = 0; laid.old == 4 && k < len; k++)
-        octets[k] = old[(k ^ k >> 2 ^ k >> 5) & 3];
+    for (size_t k = 0, at = laid.split; laid.old == 4 && k < len; k++, at++)
+        octets[k] = old[(at ^ at >> 2 ^ at >> 5) & 3];
     if (laid.old != 4)
         memset(octets, old[laid.old & 3], len);
 }

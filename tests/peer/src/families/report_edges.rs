@@ -150,7 +150,8 @@ pub fn report_text(out: &mut Out) {
     told(out, &Report::default(), &ROOMS);
     told(out, &Report::of_numbers(&[u64::MAX; ENTRIES]), &ROOMS);
     told(out, &at_limits(), &ROOMS);
-    for room in 1..24 {
+    // Each room up to that of the longest text, and one more.
+    for room in 1..982 {
         for report in [Report::default(), at_limits()] {
             out.call(Call::Report(ReportCall::Text { report, room }));
         }
