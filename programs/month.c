@@ -8,8 +8,8 @@
  *
  * Left out are a file that cannot be opened or read to its end, an empty one, and one of more than 65,536
  * octets. The standard error has a line for each, with the reason, and then one that says how many recordings
- * came after the thousandth, if any did: those are not counted. Octets of a name that would break a line or
- * move a cursor, and the backslash, stand there as \ooo, in octal.
+ * came after the thousandth, if any did: those are not counted. Control characters of ASCII in a name, as a
+ * line feed, and the backslash stand there as \ooo, in octal.
  *
  * What a recording is refused with is counted, so the status is 0 all the same; it is 1, with a line on the
  * standard error, only if the text cannot be written; a signal, as of a pipe that nobody reads, ends it as any

@@ -149,7 +149,9 @@ def rewrite_stack(path, names):
 
 
 def main():
-    table, folder = sys.argv[1], sys.argv[2]
+    if len(sys.argv) != 3:
+        sys.exit(__doc__)
+    table, folder = sys.argv[1:]
     names = Names(ROW.findall(read(table)))
     move_laws(folder, names)
     join_crates(folder, names)

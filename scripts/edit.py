@@ -2,10 +2,11 @@
 crates/NAME/refused/ERROR_IT_IS.edit, or one of must-fail/ beside it, which `rt ci` tries too:
 
     # an input on which the wrong version answers otherwise, and how
-    by: the file of the crate in which the first error must stand
+    by: the file of the crate that must refuse it, with an error of its own
     file: a file of the crate, in src/, specs/ or proofs/
     old: a text that stands there once
     new: what stands there in its place
+    for: the promises that it is for (scripts/promises.py)
 
 More pairs of old and new may follow a file, and more files the first. Of an edit of definitions or statements the file
 that refuses is a file of proofs/, with the fact or the law that no longer holds. Of an edit of a function's body it is

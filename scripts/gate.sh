@@ -22,7 +22,7 @@ python3 scripts/live.py --self-test
 stage 'proofs, must-fail edits, programs'
 log=$(mktemp)
 faults=$(mktemp)
-trap 'rm -f "$log" "$faults"' EXIT
+trap 'rm -f "$log" "$faults"; kill $(jobs -p) 2>/dev/null || :' EXIT # what still runs beside a stage that failed
 # rt waits for all the checks that it started together: twice as many as cores leave no core idle meanwhile
 RT_JOBS=${RT_JOBS:-$((2 * $(nproc)))} rt ci 2>&1 | tee "$log"
 verdict=$(tail -n 1 "$log")

@@ -38,7 +38,8 @@ writable() { # writable FOLDER: it, or the nearest above it that is there, can b
     done
     [ -d "$at" ] || say "$at is no folder, so that nothing can be installed to $1"
     tried=$(mktemp "$at/.dsss.XXXXXX" 2>/dev/null) ||
-        say "cannot write to $at: another PREFIX, or: sudo env \"PATH=\$PATH\" make install"
+        say "cannot write to $at: another PREFIX, or, once \`make target/c/month\` has built what is installed:" \
+            "sudo env \"PATH=\$PATH\" make install"
     rm -f "$tried"
 }
 

@@ -8,7 +8,7 @@ A statement, law, contract or refusal is tagged in the comment lines directly ab
 
     -- promise: what it promises, in words; they may go on in the next comment line
     -- rule: 1.4 (1), 6.8 to 6.10        rules of docs/RULES.md; 6.4 (9) is refusal 9, 1.4 (3) demand 3
-    -- code: read_frames::read_hard      the functions that it is about (optional; with their crate where two have one)
+    -- code: usable, dsss::dsss_find     the functions that it is about (optional; with their crate where two have one)
     -- with: no-other, isKind            more statements or definitions of the same row (optional)
     -- no test: why none can show it     (optional), and `no edit:` likewise
 
@@ -284,7 +284,7 @@ def table_of(row, fields):
         return 'refusals'
     if row.path.endswith('/specs/Calls.antt'):
         return 'calls'
-    return 'demands' if row.crate.endswith('promises') or row.name in fields or not row.crate else 'laws'
+    return 'demands' if row.crate.startswith('promises') or row.name in fields or not row.crate else 'laws'
 
 
 def functions(tree):

@@ -25,7 +25,7 @@ import sys
 from checker import CRATES, KNOWN, ROOM, TARGET, build_folder, check, checked_over, copy_of, stands
 from edit import edits_of
 
-PLACE = re.compile(r'^(\S+?):\d+:\d+: error\b.*', re.M)
+PLACE = re.compile(r'^(.+?):\d+:\d+: error\b.*', re.M)
 # what comes of another's error, or of a step that the code no longer has
 FOLLOWS = re.compile('was not admitted|has no `Need-')
 
@@ -177,7 +177,9 @@ def main():
     parser.add_argument('--self-test', action='store_true', help='find out edits that are no good')
     parser.add_argument('names', nargs='*')
     args = parser.parse_args()
-    names = args.names or list(reversed(KNOWN))  # the dear ones stand on top
+    names = args.names or list(reversed(KNOWN))  # the expensive ones stand on top
+    if set(names) - set(KNOWN):
+        sys.exit(f'refused.py: no crate {", ".join(sorted(set(names) - set(KNOWN)))}')
     shutil.rmtree(ROOM, ignore_errors=True)
     os.makedirs(ROOM)
     if args.self_test:

@@ -7,6 +7,7 @@
 - no tracked file holds a path of a machine;
 - crates.txt names just those crates that a crate uses;
 - the first line of a function's proof names the function by its path;
+- a file that starts with #! can be run as it stands;
 - each edit, of must-fail/ or refused/, has the form that scripts/edit.py says, and its old texts stand just once.
 Prints each fault, and ends with status 1 if there is one.
 """
@@ -69,6 +70,11 @@ def check_proof_head(path, text):
             faults.append(f'{path}:1: does not start with `{function}`')
 
 
+def check_mode(path, text):
+    if text.startswith('#!') and not os.access(path, os.X_OK):
+        faults.append(f'{path}: starts with #! and cannot be run')
+
+
 def stack():
     """The crates of crates.txt with those that each names."""
     lines = [line.split(':') for line in text_of('crates.txt').split('\n') if ':' in line and line[0] != '#']
@@ -111,6 +117,7 @@ for p in tracked():
     check_sizes(p, content)
     check_machine_paths(p, content)
     check_proof_head(p, content)
+    check_mode(p, content)
 check_crates()
 for p in edits():
     check_edit(p)

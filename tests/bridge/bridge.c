@@ -26,11 +26,13 @@
  *   8 bits   what the lent row holds before the call, at both ends if it is long: 0 0xAA, 1 zeros, 2 4s, 3 0xFF, 4 any
  *            of these from octet to octet, 5 what the same call has left there: it is made twice
  *   1 bit    a row of length 0 is passed by a pointer, and not as NULL
- *   1 bit    rows are one where they can be: Q stands in I's memory, `shift` elements further on, where the two must be
- *            alike; a recording of a list that another of the last four begins or ends with stands in that one's
+ *   1 bit    rows are one where they can be: Q stands in I's memory, `shift` elements further on, or, turned round, I
+ *            so in Q's, where the two must be alike; a recording of a list that another of the last four begins or
+ *            ends with stands in that one's
  *   1 bit    in the middle of the call another is made: the last one of this op that was kept, over its own rows. See
  *            below
- *   16 bits  at bit 16, where the row for reading is split for that, in 1/65536 of it
+ *   1 bit    turned round
+ *   16 bits  at bit 16, where the row for reading is split for that, in 1/65536 of it; also where the octets of 4 begin
  *   16 bits  at bit 32, the shift
  *
  * Each row stands between guard octets, octets and bytes at odd addresses, floats at multiples of 4 and wider elements
@@ -69,7 +71,7 @@ static enum { GUARDS, PAGES, EXACT } rows; /* how rows are laid */
 /* What a request says of its rows. */
 static struct {
     unsigned old, split, shift;
-    int pointed, shared, within;
+    int pointed, shared, within, turned;
 } laid;
 
 static void die(const char *message)
@@ -127,6 +129,7 @@ static void get_laid(void)
     laid.pointed = word >> 8 & 1;
     laid.shared = word >> 9 & 1;
     laid.within = rows == GUARDS && (word >> 10 & 1) != 0;
+    laid.turned = word >> 11 & 1;
     laid.split = word >> 16 & 0xFFFF;
     laid.shift = word >> 32 & 0xFFFF;
 }
@@ -254,8 +257,8 @@ static void fill_old(uint8_t *octets, size_t len)
 {
     static const uint8_t old[] = {0xAA, 0, 4, 0xFF};
 
-    for (size_t k = 0; laid.old == 4 && k < len; k++)
-        octets[k] = old[(k ^ k >> 2 ^ k >> 5) & 3];
+    for (size_t k = 0, at = laid.split; laid.old == 4 && k < len; k++, at++)
+        octets[k] = old[(at ^ at >> 2 ^ at >> 5) & 3];
     if (laid.old != 4)
         memset(octets, old[laid.old & 3], len);
 }
@@ -467,26 +470,30 @@ static void open_parts(void)
 
 /* ---- Requests -------------------------------------------------------------------------------- */
 
-/* Q in the memory of I: the first row holds both, and the second has a pointer alone. */
+/* Q in the memory of I, or I in that of Q: the first row holds both, and the second has a pointer alone. */
 static void get_one_row(struct call *c)
 {
     const size_t width = sizeof(float), i_len = (size_t)c->numbers[1] * width, q_len = (size_t)c->numbers[2] * width;
-    const size_t shift = laid.shift * width, end = shift + q_len > i_len ? shift + q_len : i_len;
-    struct row *i = &c->first;
+    const size_t shift = laid.shift * width, i_at = laid.turned ? shift : 0, q_at = laid.turned ? 0 : shift;
+    const size_t i_end = i_at + i_len, q_end = q_at + q_len, end = i_end > q_end ? i_end : q_end;
+    const size_t both = i_end < q_end ? i_end : q_end; /* from the shift on to here, both have elements */
+    struct row *row = &c->first;
 
-    *i = make_row(end / width, width, end / width, 0, 0);
-    get_elements(i->memory + i->from, i_len, width);
-    uint8_t *q = calloc(q_len > 0 ? q_len : 1, 1);
+    *row = make_row(end / width, width, end / width, 0, 0);
+    uint8_t *at = row->memory + row->from, *q = calloc(q_len > 0 ? q_len : 1, 1);
     if (!q)
         die("no memory for a row");
+    get_elements(at + i_at, i_len, width);
     get_elements(q, q_len, width);
-    if (i_len > shift && memcmp(i->memory + i->from + shift, q, i_len - shift < q_len ? i_len - shift : q_len) != 0)
+    if (both > shift && memcmp(at + shift, q + (shift - q_at), both - shift) != 0)
         die("I and Q that cannot be one row");
-    memcpy(i->memory + i->from + shift, q, q_len);
+    memcpy(at + q_at, q, q_len);
     free(q);
-    i->sent = end;
-    copy_row(i);
-    c->second.pointer = i->memory + i->from + shift;
+    row->sent = end;
+    copy_row(row);
+    if (laid.turned)
+        row->pointer = at + i_at;
+    c->second.pointer = at + q_at;
 }
 
 /* Where a recording stands in another one, at its beginning or its end; NULL if nowhere. */

@@ -8,8 +8,8 @@ use std::collections::BTreeMap;
 /// What a lent row holds before the call. The last is what the same call has left there.
 pub const OLD: [&str; 6] = ["0xAA", "zeros", "4s", "0xFF", "any", "the answer"];
 
-/// So much further on Q may stand in the memory of I.
-const SHIFTS: [usize; 2] = [0, 5];
+/// So much further on Q may stand in the memory of I, or, turned round, I in that of Q.
+const SHIFTS: [(usize, bool); 3] = [(0, false), (5, false), (5, true)];
 
 /// A word of each request.
 #[derive(Clone, Copy)]
@@ -63,17 +63,20 @@ impl Laid {
 
     /// The word for a call.
     pub fn word(&self, call: &Call) -> u64 {
-        let shift = self.shift(call).unwrap_or(0) as u64;
+        let (shift, turned) = self.shift(call).unwrap_or((0, false));
         let shared = self.shared && (self.shift(call).is_some() || matches!(call, Call::Report(_)));
         let bits = u64::from(self.pointed) << 8 | u64::from(shared) << 9 | u64::from(self.within) << 10;
-        self.old | bits | self.split << 16 | shift << 32
+        self.old | bits | u64::from(turned) << 11 | self.split << 16 | (shift as u64) << 32
     }
 
-    /// How far from I's first Q stands, if the two can be one row.
-    fn shift(&self, call: &Call) -> Option<usize> {
+    /// How far from I's first Q stands, or I from Q's, if the two can be one row.
+    fn shift(&self, call: &Call) -> Option<(usize, bool)> {
         let Call::ReadSoft { i, q, .. } = call else { return None };
         let alike = |one: &[f32], two: &[f32]| one.iter().zip(two).all(|(one, two)| one.to_bits() == two.to_bits());
-        let fits = |shift: &usize| i.len() > *shift && i.len() == q.len() && alike(&i[*shift..], q);
+        let fits = |&(shift, turned): &(usize, bool)| {
+            let (one, other) = if turned { (q, i) } else { (i, q) };
+            i.len() > shift && i.len() == q.len() && alike(&one[shift..], other)
+        };
         SHIFTS.into_iter().find(fits).filter(|_| self.shared)
     }
 
@@ -88,7 +91,7 @@ impl Laid {
             see(Laying::Empty { pointed: self.pointed });
         }
         if self.shared {
-            let wholly = self.shift(call).map(|shift| shift == 0).or(call.names_a_row_twice());
+            let wholly = self.shift(call).map(|(shift, _)| shift == 0).or(call.names_a_row_twice());
             wholly.into_iter().for_each(|wholly| see(Laying::Shared { wholly }));
         }
         if self.within {

@@ -3,7 +3,8 @@
 //! A file is one hard recording: its first octet is the kind, the others are the chips. Files that are empty, longer
 //! than 65,536 octets, or can't be read are left out, and the standard error has a line for each; recordings behind the
 //! thousandth aren't counted, and it has one line that says how many. Each run has a folder of its own, names its files
-//! from there, and may have few files open. It must end with status 0, or with 1 if the output takes nothing.
+//! from there, and may have few files open; its standard input, which it mustn't read, has no end. It must end with
+//! status 0, or with 1 if the output takes nothing.
 
 use crate::bits::Rate;
 use crate::families::pairs;
@@ -15,6 +16,7 @@ use std::collections::{BTreeMap, BTreeSet};
 use std::ffi::OsString;
 use std::io::Write;
 use std::os::unix::ffi::OsStringExt;
+use std::os::unix::fs::symlink;
 use std::path::{Path, PathBuf};
 use std::process::{Command, Stdio};
 use std::time::{Duration, Instant};
@@ -22,6 +24,9 @@ use std::{fs, io, thread};
 
 /// The longest file that is a recording.
 const LONGEST: usize = 65_536;
+
+/// A file whose name begins so is a link to another.
+const LINK: &[u8] = b"link";
 
 /// Runs the program with few files that may be open at once, and ends it if it waits for a pipe in vain.
 const FEW_OPEN: [&str; 6] = ["timeout", "120", "sh", "-c", "ulimit -n 64 && exec \"$@\"", "few_open"];
@@ -39,7 +44,7 @@ enum Leads {
 type Named = (Vec<u8>, Leads);
 
 /// What the runs must meet, and how often at least.
-const OWED: [(&str, u64); 20] = [
+const OWED: [(&str, u64); 24] = [
     ("no file", 1),
     ("each kind", 2),
     ("empty", 9),
@@ -60,6 +65,10 @@ const OWED: [(&str, u64); 20] = [
     ("lead of 0", 5),
     ("more files than may be open", 6),
     ("left out behind 1,000", 1),
+    ("link", 1),
+    ("whole pages", 1),
+    ("left out twice in a row", 1),
+    ("256 and more behind 1,000", 1),
 ];
 
 /// How often each was met.
@@ -167,6 +176,10 @@ fn count(files: &[Named], met: &mut Met) {
         ("lead of 0", report.some == 1 && report.lead == 0),
         ("more files than may be open", files.len() > 64),
         ("left out behind 1,000", more && taken.last() == Some(&false)),
+        ("link", files.iter().any(|(name, leads)| name.starts_with(LINK) && leads.recording().is_some())),
+        ("whole pages", of_len(&|len| len > 0 && len < LONGEST && len % 4096 == 0)),
+        ("left out twice in a row", files.windows(2).any(|two| two[0].0 == two[1].0 && two[0].1.left_out().is_some())),
+        ("256 and more behind 1,000", taken.iter().filter(|taken| **taken).count() >= readings.len() + 256),
     ];
     seen.into_iter().for_each(|(what, seen)| *met.entry(what).or_default() += u64::from(seen));
 }
@@ -233,6 +246,15 @@ fn oddly_named(random: &mut Random) -> Vec<Vec<Named>> {
     runs.into_iter().chain([missing]).collect()
 }
 
+/// Links; files about whole pages and other powers of 2; and each file that is left out, twice in a row.
+fn links_and_sizes(random: &mut Random) -> [Vec<Named>; 3] {
+    let links = ["link to one", "link"].map(|name| (name.into(), Leads::of(&any_sent(random)))).to_vec();
+    let lens = (9..16).flat_map(|bits| [-1, 0, 1].map(|more| ((1i64 << bits) + more) as usize));
+    let sizes = numbered(lens.map(|len| Leads::resized(len, random)).collect::<Vec<_>>());
+    let left = numbered(left_out(random).into_iter().filter(|leads| leads.recording().is_none()));
+    [links, sizes, left.into_iter().flat_map(|named| [named.clone(), named]).collect()]
+}
+
 /// Pipes of every size that a file may have, too long or empty ones too.
 fn pipes(random: &mut Random) -> Vec<Leads> {
     let mut pipes: Vec<Leads> = (0..3).map(|_| Leads::of(&any_recorded(random))).collect();
@@ -258,7 +280,7 @@ fn many(len: usize, random: &mut Random) -> Vec<Named> {
 /// Runs at and around a thousand recordings.
 fn thousands(random: &mut Random) -> Vec<Vec<Named>> {
     let mut runs = Vec::new();
-    for len in [999, 1000, 1001, 1002] {
+    for len in [999, 1000, 1001, 1002, 1300] {
         runs.push(many(len, random));
     }
     let missing = (b"missing".to_vec(), Leads::Nothing);
@@ -297,6 +319,7 @@ fn runs(random: &mut Random) -> Vec<Vec<Named>> {
     let twice = recorded(&[any_sent(random), led_by(1, random), cheap(random)]);
     runs.push([0, 1, 0, 1, 2, 2, 0].map(|at: usize| twice[at].clone()).to_vec());
     runs.extend(oddly_named(random));
+    runs.extend(links_and_sizes(random));
     runs.extend(pipes(random).into_iter().map(|pipe| numbered([Leads::of(&cheap(random)), pipe])));
     runs.push(numbered(pipes(random)));
     // More left out than may be open.
@@ -326,6 +349,11 @@ fn lay(folder: &Path, files: &[Named]) -> io::Result<()> {
     for (name, leads) in files.iter().map(|(name, leads)| (name, leads)).collect::<BTreeMap<_, _>>() {
         let path = folder.join(OsString::from_vec(name.clone()));
         match leads {
+            Leads::File(octets) if name.starts_with(LINK) => {
+                let to = [b"of ", &name[..]].concat();
+                fs::write(folder.join(OsString::from_vec(to.clone())), octets)?;
+                symlink(OsString::from_vec(to), path)?;
+            }
             Leads::File(octets) => fs::write(path, octets)?,
             Leads::Pipe(octets) => lay_pipe(path, octets.clone())?,
             Leads::Folder => fs::create_dir_all(path)?,
@@ -342,7 +370,7 @@ fn fault(command: &[PathBuf], folder: &Path, files: &[Named], full: bool) -> io:
     let names = files.iter().map(|(name, _)| OsString::from_vec(name.clone()));
     let output = if full { fs::OpenOptions::new().write(true).open("/dev/full")?.into() } else { Stdio::piped() };
     let mut program = Command::new(FEW_OPEN[0]);
-    program.args(&FEW_OPEN[1..]).args(command).args(names).current_dir(folder).stdin(Stdio::null());
+    program.args(&FEW_OPEN[1..]).args(command).args(names).current_dir(folder).stdin(fs::File::open("/dev/zero")?);
     let done = program.stdout(output).stderr(Stdio::piped()).spawn()?.wait_with_output()?;
     fs::remove_dir_all(folder)?;
     let (mut right_text, mut right_said) = (text(&report(files).1), said(files));

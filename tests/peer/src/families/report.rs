@@ -283,14 +283,15 @@ fn long_lists(out: &mut Out) {
     }
 }
 
-/// Lists that name a recording again, whole, its first chips or its last; all of them may stand in one row.
+/// Lists that name a recording again, whole, its first chips or its last, and then the whole once more; all of them may
+/// stand in one row.
 fn named_twice(out: &mut Out) {
     for case in 0..out.cases(40) {
         let (kind, chips) = any_sent(&mut out.random);
         let cut = out.random.below(chips.len());
         let again = [chips.clone(), chips[..cut].to_vec(), chips[cut..].to_vec()][case % 3].clone();
-        let behind = any_recorded(&mut out.random);
-        out.call(list(&[(kind, chips.clone()), (kind, again.clone()), behind, (kind, chips), (1 - kind, again)]));
+        let (behind, whole) = (any_recorded(&mut out.random), || (kind, chips.clone()));
+        out.call(list(&[whole(), (kind, again.clone()), whole(), behind, whole(), (1 - kind, again)]));
     }
 }
 

@@ -150,7 +150,8 @@ pub fn report_text(out: &mut Out) {
     told(out, &Report::default(), &ROOMS);
     told(out, &Report::of_numbers(&[u64::MAX; ENTRIES]), &ROOMS);
     told(out, &at_limits(), &ROOMS);
-    for room in 1..24 {
+    // Each room up to that of the longest text, and one more.
+    for room in 1..982 {
         for report in [Report::default(), at_limits()] {
             out.call(Call::Report(ReportCall::Text { report, room }));
         }
@@ -168,6 +169,11 @@ pub fn report_text(out: &mut Out) {
         let entry = out.random.below(ENTRIES);
         told(out, &Report::of_numbers(&[number; ENTRIES]), &[-1, 0]);
         told(out, &with(&at_limits(), entry, number), &[3]);
+    }
+    // Each number below 10,000, as a count of a refusal or as the airtime.
+    for first in (0..10_000).step_by(16) {
+        let numbers: Vec<u64> = (first..).take(ENTRIES).collect();
+        told(out, &Report::of_numbers(&numbers), &[0]);
     }
     // All numbers differ, so that no two can stand in each other's place.
     for _ in 0..out.cases(60) {

@@ -248,8 +248,8 @@ pub fn soft_damage(out: &mut Out) {
     }
 }
 
-/// I and Q in one row, Q at the same place or a few chips on, so that they can be laid as one: a symbol of even phase
-/// is decided as it was sent, whatever of its neighbours stands on Q. What is cut or unusable is so in both.
+/// I and Q in one row, at the same place or either a few chips on, so that they can be laid as one: a symbol of even
+/// phase is decided as it was sent, whatever of its neighbours stands on Q. What is cut or unusable is so in both.
 pub fn one_row(out: &mut Out) {
     for case in 0..out.cases(80) {
         let (n, phase) = (out.random.within(1, 9), out.random.pick(&[0, 2]));
@@ -257,13 +257,16 @@ pub fn one_row(out: &mut Out) {
         let shift = [0, 5][case % 2];
         let (mut row, _) = soft_rows(&draft.chips(), out.random.pick(&[1.0, 0.5, 8.0]));
         row.resize(row.len() + shift, 0.0);
+        let q_first = case % 16 > 8;
+        row.rotate_right(if q_first { shift } else { 0 });
         let any = out.random.below(row.len());
         match case % 8 {
             6 => row[any] = f32::NAN,
             7 => row.truncate(any + shift),
             _ => {}
         }
-        let len = row.len() - shift;
-        out.call(Call::soft(Kind::Long.number(), (row[..len].to_vec(), row[shift..].to_vec()), n));
+        let (first, further) = (row[..row.len() - shift].to_vec(), row[shift..].to_vec());
+        let rows = if q_first { (further, first) } else { (first, further) };
+        out.call(Call::soft(Kind::Long.number(), rows, n));
     }
 }
