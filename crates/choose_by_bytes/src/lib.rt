@@ -1,6 +1,6 @@
-// The choice of a word from a symbol's signed bytes, I and Q apart, at 1, 2 and 5.5 Mbit/s: what `choice` does with
-// counts. Sums and keys of bytes fit i16, so eight symbols go side by side where counts have room for four. Each public
-// function is called from one loop over symbols.
+// The choice of a word from a symbol's signed bytes, I and Q apart, at 1, 2 and 5.5 Mbit/s: what
+// `choose_by_counts` does with counts. Sums and keys of bytes fit i16, so eight symbols go side by side where counts
+// have room for four. Each public function is called from one loop over symbols.
 use rules_rates::Rate;
 ghost use mathlib.Core.Path.{_≡_};
 ghost use Prim.Native.Nat.{_+_, _*_, _-_, _/_, _%_, _<_, _≤_};

@@ -1,7 +1,7 @@
-// The choice of a word from full chips, in octets, at 1, 2 and 5.5 Mbit/s: what `choice` does with counts. A full chip
-// of a hard recording counts 1024, so the same word is chosen, its lead in counts is 1024 times as large, and sixteen
-// symbols go side by side where counts have room for four. Arrays of chips dissolve in the one loop over symbols that
-// calls `decide_barker` or `decide_five`.
+// The choice of a word from full chips, in octets, at 1, 2 and 5.5 Mbit/s: what `choose_by_counts` does with
+// counts. A full chip of a hard recording counts 1024, so the same word is chosen, its lead in counts is 1024 times as
+// large, and sixteen symbols go side by side where counts have room for four. Arrays of chips dissolve in the one loop
+// over symbols that calls `decide_barker` or `decide_five`.
 use choose_axes::Axis;
 use rules_chips::Chip;
 use rules_rates::Rate;

@@ -1,4 +1,4 @@
-// The first stage of butterflies, over sixteen symbols of counts abreast: what `byte_stages` does with small
+// The first stage of butterflies, over sixteen symbols of counts abreast: what `choose_stages_bytes` does with small
 // numbers. A complex row is sixteen numbers of I and then sixteen of Q; each loop goes over the columns of rows, and
 // the compiler does four of them at once. Rows to work in are lent.
 ghost use mathlib.Core.Path.{_≡_};

@@ -1,5 +1,5 @@
-// The two keys of a group, as in `byte_walsh`. SSE2 has no instruction for the larger of two numbers of 32 bits, so a
-// credit is made by its sign, and the smaller of two is what the larger leaves of their sum.
+// The two keys of a group, as in `choose_walsh_bytes`. SSE2 has no instruction for the larger of two numbers of 32
+// bits, so a credit is made by its sign, and the smaller of two is what the larger leaves of their sum.
 ghost use mathlib.Core.Path.{_≡_};
 ghost use mathlib.Core.Bool.{cond};
 ghost use Prim.Native.Nat.{_+_, _-_, _≤_, _<_};

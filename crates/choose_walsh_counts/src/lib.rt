@@ -1,4 +1,4 @@
-// The choice at 11 Mbit/s, from sixteen symbols of counts abreast: what `byte_walsh` does with small numbers.
+// The choice at 11 Mbit/s, from sixteen symbols of counts abreast: what `choose_walsh_bytes` does with small numbers.
 use crate::groups::Best;
 ghost use mathlib.Core.Path.{_≡_};
 ghost use Prim.Native.Nat.{_+_, _*_, _-_, _≤_, _<_};

@@ -9,7 +9,7 @@ use Rattle.rules_report.specs.declared.Report.{Report}
 use Rattle.rules_report.specs.declared.Spelled.{Spelled}
 use Rattle.rules_report.specs.Report.{empty}
 use Rattle.rules_report.specs.Text.{word, textOf}
-use Rattle.rules_report.specs.Said.{valueFrom, TextSaid, Fits}
+use Rattle.rules_report.specs.Said.{valueFrom, RefusalsSaid, TextSaid, Fits}
 use Rattle.rules_report.proofs.Spelling.{text-most}
 use Rattle.promises_report.specs.Calls.{Spells}
 use Rattle.promises_report.proofs.Kept.{kept-report}
@@ -72,3 +72,22 @@ airtime-read p s room left f fit h =
       there = t .text-is ∙ ap (λ (l : List ℕ). t .r10 ++ t .r20 ++ t .r55 ++ t .r110 ++ t .refusals ++ l ++ t .lead)
           (t .airtime-is .line-is);
     }
+
+-- other lines, read likewise: frames at 1 Mbit/s, octets at 5.5 and 11, the smallest lead and its recording; and the
+-- lines of refusals are those of all seventeen numbers
+module _ (p : Report) (s : Spelled) (room : ℕ) (left : List ℕ) (f : Spells p room s left) (fit : Fits p)
+    (z : s .number ≡ 0) where
+  abbrev pub said : TextSaid p (take (s .octets) left)
+  said = kept-report .text-says p room s left f fit z
+
+  pub rates-read : (valueFrom 0 (said .at-10 .f) ≡ getD (p .frames) 0 0)
+      × (valueFrom 0 (said .at-55 .o) ≡ getD (p .octets) 2 0) × (valueFrom 0 (said .at-110 .o) ≡ getD (p .octets) 3 0)
+  rates-read =
+      (said .at-10 .frames-are .value, said .at-55 .octets-are .value, said .at-110 .octets-are .value)
+
+  pub lead-read : (n : p .some ≡ 0 → ⊥) → (valueFrom 0 (said .lead-is .there n .l) ≡ p .lead)
+      × (valueFrom 0 (said .lead-is .there n .r) ≡ p .recording)
+  lead-read n = (said .lead-is .there n .lead-is .value, said .lead-is .there n .recording-is .value)
+
+  pub refusals-read : RefusalsSaid (p .refused) 17 (said .refusals)
+  refusals-read = said .refusals-are

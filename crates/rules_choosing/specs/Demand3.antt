@@ -51,7 +51,7 @@ LeadsExactly r exact w =
 
 -- where the counts of a symbol are so, and its lead is above that error, the word decided does. From half a count the
 -- lead must be above 8 counts, or 11 for Barker; with no error of the counts above 0
--- working notion: one symbol of `SoftSure`
+-- working notion: one symbol of `RowsSure`
 abbrev pub LeadSays : Type 0
 LeadSays =
     (half : ℕ) (r : Rate) (counts exact : List Counts) → length counts ≡ symbolChips r

@@ -65,7 +65,7 @@ others w [] = []
 others w (n ∷ ns) = cond (eqb n w) (others w ns) (n ∷ others w ns)
 
 -- the lead of the word decided: its score less the best score among the other allowed words, in counts; 0 at a tie.
--- No other scores more, so the difference is never below 0 (choosing: lead-is)
+-- No other scores more, so the difference is never below 0 (`lead-is` of rules_choosing)
 unfoldable pub leadOf : Rate → List Counts → ℕ
 leadOf r cs =
     let f : ℕ → ℤ = λ n. score (wordOf r n) cs in
