@@ -123,7 +123,7 @@ pub data ReadAnswer (kind : ℕ) (agree : Bool) (rec : List Taken) (room : ℕ) 
       → (rate ≡ 10 → (s : ℕ) → 11 * suc s < front + octet * n → oddBehind rec s ≡ 0)
       → ReadAnswer kind agree rec room (good rate l n (front + octet * n) (service / 4 % 2) lead symbol)
 
--- promise: A read answers by the numbers, in their order, each exactly for its reason: 9 and 10 with the first such
+-- promise: A read answers by the numbers, in their order, each for its reason: 9 and 10 with the first such
 -- place, LENGTH as the header has it from 13 on and 0 before; else what the header says
 -- rule: 1.4 (1), 4.7, 5.3 to 5.7, 6.2 to 6.8, 6.10
 -- code: dsss_read_hard_3, dsss_read_soft_3, dsss_read_bytes_3
