@@ -19,10 +19,27 @@ python3 scripts/believed.py --check
 python3 scripts/imports.py
 python3 scripts/live.py --self-test
 
+# A check copies the libraries that it uses into the folder of temporary files. In memory, where 4 GB are free and
+# programs may run, that takes a fifth less processor time; a program of rt ci runs there as nobody.
+quick=''
+in_memory() {
+    local free
+    free=$(df --output=avail /dev/shm 2>/dev/null | tail -n 1) || free=0
+    [ -z "${TMPDIR:-}" ] && [ "${free:-0}" -gt 4000000 ] || return 0
+    quick=$(mktemp -d /dev/shm/gate.XXXXXX) || return 0
+    chmod 711 "$quick"
+    printf '#!/bin/sh\n' >"$quick/runs"
+    chmod +x "$quick/runs"
+    if "$quick/runs" 2>/dev/null; then export TMPDIR=$quick; fi
+}
+
 stage 'proofs, must-fail edits, programs'
+# what still runs beside a stage that failed ends with it
+trap 'rm -rf "$log" "$faults" ${quick:+"$quick"}; kill $(jobs -p) 2>/dev/null || :' EXIT
+log='' faults=''
+in_memory
 log=$(mktemp)
 faults=$(mktemp)
-trap 'rm -f "$log" "$faults"; kill $(jobs -p) 2>/dev/null || :' EXIT # what still runs beside a stage that failed
 # rt waits for all the checks that it started together: twice as many as cores leave no core idle meanwhile
 RT_JOBS=${RT_JOBS:-$((2 * $(nproc)))} rt ci 2>&1 | tee "$log"
 verdict=$(tail -n 1 "$log")
