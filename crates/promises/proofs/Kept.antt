@@ -9,7 +9,7 @@ use Rattle.promises.proofs.Fills.{write-fills, read-fills}
 use Rattle.promises.proofs.Only.{only-sent, only-readable, refused-shows}
 use Rattle.promises.proofs.Never.{rows-refused, no-byte-unusable}
 use Rattle.promises.proofs.Back.{written-frame, read-back, not-read-back}
-use Rattle.promises.proofs.Source.{one-source}
+use Rattle.promises.proofs.Source.{one-source, phase-turns}
 use Rattle.promises.proofs.Refusing.{write-answers}
 use Rattle.promises.proofs.Reasons.{read-answers}
 use Rattle.promises.proofs.Decoded.{octets-decoded}
@@ -53,6 +53,7 @@ kept = record {
   read-back = read-back;
   not-read-back = not-read-back;
   one-source = one-source;
+  phase-turns = phase-turns;
   soft-rows = soft-rows;
   half-a-count = counted;
   recorded-right = recorded-right;

@@ -1,8 +1,9 @@
 -- The chips of an accepted write have one source: reading them back tells rate, clock bit and payload, and the first
--- chip tells the starting phase, since the first scrambled bit is the same for every frame of a kind. Assumes nothing.
+-- chip tells the starting phase, since the first scrambled bit is the same for every frame of a kind. And what the
+-- starting phase does to all of them. Assumes nothing.
 use mathlib.Core.Path.{_≡_, refl, sym, ap, ap₂, _∙_, subst}
 use mathlib.Core.Bool.{Bool, true}
-use mathlib.Core.List.{List, _++_}
+use mathlib.Core.List.{List, _++_, map}
 use Prim.Native.Nat.{ℕ, _+_, _-_, _≤_, _<_}
 use native.Mathlib.Omega.{arith}
 use lib.ListN.{length, getD, take, drop, replicate, take-append-drop, List·getD-append}
@@ -17,6 +18,7 @@ use Rattle.rules_bits.specs.Scrambler.{mixed, scramble}
 use Rattle.rules_frame.specs.declared.Kind.{Kind}
 use Rattle.rules_frame.specs.declared.Kind.the-variants.{Long, Short}
 use Rattle.rules_frame.proofs.Sizes.{frame-length}
+use Rattle.rules_frame.proofs.Begins.{frame-turned}
 use Rattle.rules_calls.specs.declared.Written.{Written}
 use Rattle.rules_calls.specs.declared.Record.{Record}
 use Rattle.rules_frame.specs.Frame.{
@@ -33,12 +35,12 @@ use Rattle.rules_frame.specs.Frame.{
 use Rattle.rules_calls.specs.Answers.{recordOf}
 use Rattle.rules_reading.specs.Reading.{readingOf, octetsFound}
 use Rattle.promises.specs.Calls.{Read, Sent, of-hard, good, shown, sentLead, sentSymbol}
-use Rattle.promises.specs.Promises.{OneSource}
-use Rattle.promises.proofs.Back.{back, chips-are}
+use Rattle.promises.specs.Promises.{OneSource, PhaseTurns}
+use Rattle.promises.proofs.Back.{back, chips-are, taken}
 
 -- the first scrambled bit is 0 for both kinds, so the first chip is the starting phase
 first-chip : (k : Kind) (r : Rate) (p : ℕ) (clock : Bool) (xs : List ℕ)
-    → getD (frame k r p clock xs) 0 0 ≡ turned (turned p 0) 0
+    → getD (frame k r p clock xs) 0 4 ≡ turned (turned p 0) 0
 unfolding
     frame framed partsChips sentBits frameBits preambleBits
     bitsOf scramble mixed symbolsOf symbolsFrom symbolOf chipsFrom barkerWord
@@ -47,10 +49,10 @@ first-chip Short r p clock xs = refl
 
 module _ (kind rate phase clock : ℕ) (payload : List ℕ) (w : Written) (chips : List ℕ)
     (s : Sent kind rate phase clock payload w chips) where
-  begins : getD chips 0 0 ≡ phase
+  begins : getD chips 0 4 ≡ phase
   begins =
-      ap (λ (l : List ℕ). getD l 0 0) (chips-are kind rate phase clock payload w chips s)
-      ∙ List·getD-append (frame (kindOf kind) (rateOf rate) phase (clockOf clock) payload) _ 0 0
+      ap (λ (l : List ℕ). getD l 0 4) (chips-are kind rate phase clock payload w chips s)
+      ∙ List·getD-append (frame (kindOf kind) (rateOf rate) phase (clockOf clock) payload) _ 4 0
       (omega (arith, frame-length (kindOf kind) (rateOf rate) phase (clockOf clock) payload, some-front (kindOf kind)))
       ∙ first-chip (kindOf kind) (rateOf rate) phase (clockOf clock) payload ∙ itself phase (s .sendable .phase-is)
     where
@@ -93,3 +95,11 @@ one-source kind rate rate′ phase phase′ clock clock′ payload payload′ w 
           ∙ ap₂ {C = List ℕ} (λ j l. take j l) n (sym (a .1) ∙ b .1)
           ∙ take-at payload′ (replicate (room - length payload′) 0) (length payload′) refl,
     )
+
+pub phase-turns : PhaseTurns
+phase-turns kind rate phase clock payload w w′ chips chips′ s t = (
+  begins kind rate phase clock payload w chips s,
+  taken kind rate phase clock payload w chips s
+      ∙ frame-turned (kindOf kind) (rateOf rate) phase (clockOf clock) payload (s .sendable .phase-is)
+      ∙ ap (map (turned phase)) (sym (taken kind rate 0 clock payload w′ chips′ t)),
+)

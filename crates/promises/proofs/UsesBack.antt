@@ -1,11 +1,11 @@
 -- Uses of demand 2's statements, as they are kept, so that none of them can be said of nothing and none can lose a
 -- part. Assumes nothing.
-use mathlib.Core.Path.{_≡_, refl, sym, ap, subst}
+use mathlib.Core.Path.{_≡_, refl, sym, ap, _∙_, subst}
 use mathlib.Core.Bool.{true, false}
 use mathlib.Core.List.{List, [], _∷_, _++_, append-nil, map}
 use Prim.Native.Nat.{ℕ, _+_, _-_, _*_, _/_, _%_, _^_, _≤_, _<_}
 use native.Mathlib.Omega.{arith}
-use lib.ListN.{length, take, replicate}
+use lib.ListN.{length, getD, take, replicate}
 use lib.IntN.{ℤ, pos, negℤ}
 use lib.Ieee.{Float}
 use Rattle.base.specs.Below.{Below}
@@ -155,6 +155,20 @@ pub one-payload : (kind rate rate′ phase phase′ clock clock′ : ℕ) (paylo
 one-payload kind rate rate′ phase phase′ clock clock′ payload payload′ w w′ chips s t =
     let e = kept .one-source kind rate rate′ phase phase′ clock clock′ payload payload′ w w′ chips s t in
     (e .0, e .1, e .3)
+
+-- ---- the starting phase: two frames that begin alike have it alike; one from 3 has a quarter turn less at every chip
+pub one-phase : (kind rate phase phase′ clock : ℕ) (payload : List ℕ) (w w′ v : Written) (chips chips′ zero : List ℕ)
+    → Sent kind rate phase clock payload w chips → Sent kind rate phase′ clock payload w′ chips′
+    → Sent kind rate 0 clock payload v zero → getD chips 0 4 ≡ getD chips′ 0 4 → phase ≡ phase′
+one-phase kind rate phase phase′ clock payload w w′ v chips chips′ zero s t u e =
+    sym (kept .phase-turns kind rate phase clock payload w v chips zero s u .0) ∙ e
+    ∙ kept .phase-turns kind rate phase′ clock payload w′ v chips′ zero t u .0
+
+pub from-3 : (kind rate clock : ℕ) (payload : List ℕ) (w w′ : Written) (chips chips′ : List ℕ)
+    → Sent kind rate 3 clock payload w chips → Sent kind rate 0 clock payload w′ chips′
+    → take (w .chips) chips ≡ map (λ c. (3 + c) % 4) (take (w′ .chips) chips′)
+from-3 kind rate clock payload w w′ chips chips′ s t =
+    kept .phase-turns kind rate 3 clock payload w w′ chips chips′ s t .1
 
 -- ---- soft rows that hold the chips there are, with either zero
 pub plus-zeros : (phases : List ℕ) → Below 4 phases → Exactly phases (map (softI 0) phases) (map (softQ 0) phases)

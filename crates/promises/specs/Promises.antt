@@ -6,11 +6,11 @@
 -- words that the definition of reading takes its growths and bits from, the half a count and Table P of the
 -- definitions. proofs/Kept.antt proves all of it.
 -- Definitions only. Assumes nothing.
-use Prim.Native.Nat.{ℕ, _+_, _-_, _*_, _≤_, _<_}
+use Prim.Native.Nat.{ℕ, _+_, _-_, _*_, _%_, _≤_, _<_}
 use mathlib.Core.Path.{_≡_}
 use mathlib.Core.Bool.{Bool}
 use mathlib.Core.List.{List, _++_, map}
-use lib.ListN.{length, take, drop, replicate}
+use lib.ListN.{length, getD, take, drop, replicate}
 use lib.Dec.{T}
 use lib.Ieee.{Float}
 use Rattle.base.specs.Below.{Below}
@@ -143,6 +143,16 @@ OneSource =
     → Sent kind rate phase clock payload w chips → Sent kind rate′ phase′ clock′ payload′ w′ chips
     → (rate ≡ rate′) × (phase ≡ phase′) × (shown clock ≡ shown clock′) × (payload ≡ payload′)
 
+-- promise: A frame begins with its starting phase, and its chips are those of the same frame from starting phase 0,
+-- each turned by that phase
+-- rule: 4.6
+-- code: dsss_write_2
+abbrev pub PhaseTurns : Type 0
+PhaseTurns =
+    (kind rate phase clock : ℕ) (payload : List ℕ) (w w′ : Written) (chips chips′ : List ℕ)
+    → Sent kind rate phase clock payload w chips → Sent kind rate 0 clock payload w′ chips′
+    → (getD chips 0 4 ≡ phase) × (take (w .chips) chips ≡ map (λ c. (phase + c) % 4) (take (w′ .chips) chips′))
+
 -- promise: A count is the whole number nearest to 1024 times the exact value: the error is at most half a count
 -- rule: 2.6
 -- code: count
@@ -172,6 +182,7 @@ pub record Promised : Type 0 where
   pub read-back : ReadBack
   pub not-read-back : NotReadBack
   pub one-source : OneSource
+  pub phase-turns : PhaseTurns
   pub soft-rows : SoftRows
   pub half-a-count : HalfACount
   pub recorded-right : RecordedRight

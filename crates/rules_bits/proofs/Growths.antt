@@ -2,9 +2,10 @@
 --     growth-lt, growth-bits, bits-growth               two bits and their growth
 --     symbolsFrom-append, symbolsFrom-parity, symbolsFrom-length    symbols of bits; a number counts modulo 2
 --     chipsFrom-append, chipsFrom-length, lastPhase-append, lastPhase-lt    chips of symbols, the phase running on
+--     chipsFrom-turned, lastPhase-turned                a turn of the phase before symbols turns all their chips
 -- By cases of the two bits, and by induction on the symbols. Assumes nothing.
 use mathlib.Core.Path.{_≡_, refl, sym, ap, ap₂, _∙_}
-use mathlib.Core.List.{List, [], _∷_, _++_, append-assoc}
+use mathlib.Core.List.{List, [], _∷_, _++_, map, append-assoc, map-append}
 use Prim.Native.Nat.{ℕ, zero, suc, _+_, _*_, _%_, _<_, _≤_}
 use native.Mathlib.Nat.{zero-add, add-zero, suc-add, add-suc, suc-mul, zero-mul, mul-zero, mul-suc}
 use native.Mathlib.Omega.{arith}
@@ -14,7 +15,7 @@ use Rattle.rules_rates.specs.declared.Rate.{Rate}
 use Rattle.rules_rates.specs.declared.Rate.the-variants.{One, Two, Five, Eleven}
 use Rattle.rules_rates.specs.Rates.{symbolBits, symbolChips}
 use Rattle.rules_chips.specs.Chips.{turned}
-use Rattle.rules_symbols.proofs.Words.{barker-length, cck-length}
+use Rattle.rules_symbols.proofs.Words.{barker-length, cck-length, cck-turns, barker-turns}
 use Rattle.rules_bits.specs.Growths.{
   growth,
   growthBits,
@@ -129,3 +130,30 @@ chipsFrom-length r p (s ∷ ss) =
     let q = turned p (s .grows) in
     length-append (symbolWord r q s) (chipsFrom r q ss)
     ∙ omega (arith, symbol-length r q s, chipsFrom-length r q ss, mul-suc (symbolChips r) (length ss))
+
+-- a turn of the phase before the symbols turns every chip of theirs, and the phase of the last
+symbol-turned : (r : Rate) (q p : ℕ) (s : Symbol) → symbolWord r (turned q p) s ≡ map (turned q) (symbolWord r p s)
+symbol-turned One q p s = sym (barker-turns q p)
+symbol-turned Two q p s = sym (barker-turns q p)
+symbol-turned Five q p s = sym (cck-turns q p (s .p2) (s .p3) (s .p4))
+symbol-turned Eleven q p s = sym (cck-turns q p (s .p2) (s .p3) (s .p4))
+
+grown-turned : (q p g : ℕ) → turned (turned q p) g ≡ turned q (turned p g)
+grown-turned q p g = omega arith
+
+pub chipsFrom-turned : (r : Rate) (q p : ℕ) (ss : List Symbol)
+    → chipsFrom r (turned q p) ss ≡ map (turned q) (chipsFrom r p ss)
+unfolding chipsFrom
+chipsFrom-turned r q p [] = refl
+chipsFrom-turned r q p (s ∷ ss) =
+    rw (
+      grown-turned q p (s .grows),
+      symbol-turned r q (turned p (s .grows)) s,
+      chipsFrom-turned r q (turned p (s .grows)) ss,
+    ) (sym (map-append (turned q) (symbolWord r (turned p (s .grows)) s) (chipsFrom r (turned p (s .grows)) ss)))
+
+pub lastPhase-turned : (q p : ℕ) (ss : List Symbol) → lastPhase (turned q p) ss ≡ turned q (lastPhase p ss)
+unfolding lastPhase
+lastPhase-turned q p [] = refl
+lastPhase-turned q p (s ∷ ss) =
+    ap (λ (x : ℕ). lastPhase x ss) (grown-turned q p (s .grows)) ∙ lastPhase-turned q (turned p (s .grows)) ss

@@ -1,5 +1,6 @@
 pub mod TableP
 pub mod Facts
+pub mod Begins
 pub mod Parity
 pub mod Sizes
 pub mod Headers

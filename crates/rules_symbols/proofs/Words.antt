@@ -120,6 +120,23 @@ pub barker-turned : (p : ℕ) → map (turned p) (barkerWord 0) ≡ barkerWord p
 unfolding barkerWord
 barker-turned p = refl
 
+-- a turn of a word that has a phase already
+turns-add : (q p : ℕ) (w : List ℕ) → map (turned (turned q p)) w ≡ map (turned q) (map (turned p) w)
+turns-add q p [] = refl
+turns-add q p (c ∷ w) = λ i. both i ∷ turns-add q p w i
+  where
+    both : turned (turned q p) c ≡ turned q (turned p c)
+    both = omega arith
+
+pub cck-turns : (q p1 p2 p3 p4 : ℕ) → map (turned q) (cckWord p1 p2 p3 p4) ≡ cckWord (turned q p1) p2 p3 p4
+cck-turns q p1 p2 p3 p4 =
+    ap (map (turned q)) (sym (cck-turned p1 p2 p3 p4)) ∙ sym (turns-add q p1 (cckWord 0 p2 p3 p4))
+    ∙ cck-turned (turned q p1) p2 p3 p4
+
+pub barker-turns : (q p : ℕ) → map (turned q) (barkerWord p) ≡ barkerWord (turned q p)
+barker-turns q p =
+    ap (map (turned q)) (sym (barker-turned p)) ∙ sym (turns-add q p (barkerWord 0)) ∙ barker-turned (turned q p)
+
 -- ---- the tables
 abbrev pub barkerTurns : List ℕ
 barkerTurns = 0 ∷ 2 ∷ 0 ∷ 0 ∷ 2 ∷ 0 ∷ 0 ∷ 0 ∷ 2 ∷ 2 ∷ 2 ∷ []

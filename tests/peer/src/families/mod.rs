@@ -93,7 +93,8 @@ macro_rules! families {
 families! {
     // for: lengths-eleven, words, Crc, TableP, header-back, octets-back, length-holds, crc-divided
     101 published::published_figures: "LENGTH and bit 7 of every n and rate, CRCs, words from outside",
-    // for: Wrote.answer, Wrote.chips, WrittenFrame, WriteFills, words, sent-facts, facts-clock, from-header
+    // for: Wrote.answer, Wrote.chips, WrittenFrame, WriteFills, words, sent-facts, facts-clock, from-header, PhaseTurns
+    // for: framed-turned, sync-long
     201 written::write_short_payloads: "1 to 64 octets, all kinds, rates and phases",
     // for: Wrote.chips, framed-length, Wrote.answer, WrittenFrame
     202 written::write_long_payloads: "1,023 to 1,026 and 4,095 octets",
