@@ -9,11 +9,17 @@ use lib.ListN.{length, getD, take, replicate}
 use lib.IntN.{ℤ, pos, negℤ}
 use lib.Ieee.{Float}
 use Rattle.base.specs.Below.{Below}
+use Rattle.rules_rates.specs.declared.Rate.the-variants.{One}
 use Rattle.rules_rates.specs.Rates.{rateOf}
 use Rattle.rules_rates.specs.Plain.{LengthOf, length-1, length-11}
-use Rattle.rules_frame.specs.Frame.{kindOf, frame}
+use Rattle.rules_chips.specs.Chips.{hardRecording}
+use Rattle.rules_bits.specs.Code.{wordsChips}
+use Rattle.rules_frame.specs.declared.Kind.the-variants.{Long, Short}
+use Rattle.rules_frame.specs.Frame.{kindOf, headerRate, frame}
 use Rattle.rules_calls.specs.declared.Written.{Written}
 use Rattle.rules_calls.specs.declared.Record.{Record}
+use Rattle.rules_reading.specs.Reading.{preambleWords, headerWords, payloadWords}
+use Rattle.rules_reading.proofs.Once.{field-once}
 use Rattle.rules_clean.specs.Clean.{Exactly, softI, softQ, byteRow}
 use Rattle.promises.specs.Calls.{
   ReadHard,
@@ -29,6 +35,7 @@ use Rattle.promises.specs.Calls.{
   sentLead,
   sentSymbol,
 }
+use Rattle.promises.specs.Reasons.{long-bits, short-bits, FrontField}
 use Rattle.promises.proofs.Kept.{kept}
 use Rattle.promises.proofs.Uses.{goes-1}
 
@@ -169,6 +176,33 @@ pub from-3 : (kind rate clock : ℕ) (payload : List ℕ) (w w′ : Written) (ch
     → take (w .chips) chips ≡ map (λ c. (3 + c) % 4) (take (w′ .chips) chips′)
 from-3 kind rate clock payload w w′ chips chips′ s t =
     kept .phase-turns kind rate 3 clock payload w w′ chips chips′ s t .1
+
+-- ---- SYNC as its symbols say it: bit 100 of a long one is 1 and nothing else, bit 50 of a short one 0
+pub sync-ones : (rate phase clock : ℕ) (payload : List ℕ) (w : Written) (chips : List ℕ)
+    → Sent 0 rate phase clock payload w chips → (v : ℕ) → FrontField 0 (hardRecording chips) 100 1 v → v ≡ 1
+sync-ones rate phase clock payload w chips s v f =
+    field-once Long One (hardRecording chips) 0 f
+    (kept .sync-sent 0 rate phase clock payload w chips s _ _ _ 100 long-bits (omega arith) (omega arith))
+
+pub sync-zeros : (rate phase clock : ℕ) (payload : List ℕ) (w : Written) (chips : List ℕ)
+    → Sent 1 rate phase clock payload w chips → (v : ℕ) → FrontField 1 (hardRecording chips) 50 1 v → v ≡ 0
+sync-zeros rate phase clock payload w chips s v f =
+    field-once Short One (hardRecording chips) 0 f
+    (kept .sync-sent 1 rate phase clock payload w chips s _ _ _ 50 short-bits (omega arith) (omega arith))
+
+-- ---- words: two frames whose symbols are read alike have the same chips
+pub words-alike : (kind rate phase phase′ clock clock′ : ℕ) (payload payload′ : List ℕ) (w w′ : Written)
+    (chips chips′ : List ℕ) → Sent kind rate phase clock payload w chips
+    → Sent kind rate phase′ clock′ payload′ w′ chips′ → length payload ≡ length payload′
+    → preambleWords (kindOf kind) (hardRecording chips) ≡ preambleWords (kindOf kind) (hardRecording chips′)
+    → headerWords (kindOf kind) (hardRecording chips) ≡ headerWords (kindOf kind) (hardRecording chips′)
+    → payloadWords (kindOf kind) (rateOf rate) (length payload) (hardRecording chips)
+    ≡ payloadWords (kindOf kind) (rateOf rate) (length payload′) (hardRecording chips′)
+    → take (w .chips) chips ≡ take (w′ .chips) chips′
+words-alike kind rate phase phase′ clock clock′ payload payload′ w w′ chips chips′ s t n a b c =
+    kept .sent-words kind rate phase clock payload w chips s
+    ∙ (λ i. wordsChips One (a i) ++ (wordsChips (headerRate (kindOf kind)) (b i) ++ wordsChips (rateOf rate) (c i)))
+    ∙ sym (kept .sent-words kind rate phase′ clock′ payload′ w′ chips′ t)
 
 -- ---- soft rows that hold the chips there are, with either zero
 pub plus-zeros : (phases : List ℕ) → Below 4 phases → Exactly phases (map (softI 0) phases) (map (softQ 0) phases)

@@ -14,14 +14,17 @@ use lib.ListN.{length, getD, take, drop, replicate}
 use lib.Dec.{T}
 use lib.Ieee.{Float}
 use Rattle.base.specs.Below.{Below}
+use Rattle.rules_rates.specs.declared.Rate.the-variants.{One}
 use Rattle.rules_rates.specs.Rates.{rateOf}
 use Rattle.rules_rates.specs.Plain.{LengthOf}
 use Rattle.rules_chips.specs.Floats.{usable, valueOf, countOf, Nearest}
-use Rattle.rules_chips.specs.Chips.{Taken}
+use Rattle.rules_chips.specs.Chips.{Taken, hardRecording}
+use Rattle.rules_bits.specs.Code.{wordsChips}
 use Rattle.rules_calls.specs.declared.Written.{Written}
 use Rattle.rules_calls.specs.declared.Record.{Record}
-use Rattle.rules_frame.specs.Frame.{kindOf, clockOf, frame}
+use Rattle.rules_frame.specs.Frame.{kindOf, headerRate, clockOf, frame}
 use Rattle.rules_frame.specs.TableP.{TableP}
+use Rattle.rules_reading.specs.Reading.{preambleWords, headerWords, payloadWords}
 use Rattle.rules_clean.specs.Clean.{Exactly, softI, softQ}
 use Rattle.promises.specs.Calls.{
   Wrote,
@@ -47,7 +50,7 @@ use Rattle.promises.specs.Only.{
   NoByteUnusable,
 }
 use Rattle.promises.specs.Refusing.{WriteAnswers}
-use Rattle.promises.specs.Reasons.{ReadAnswers, OctetsDecoded}
+use Rattle.promises.specs.Reasons.{BitsOf, FrontField, ReadAnswers, OctetsDecoded}
 use Rattle.promises.specs.Coming.{
   FrontRefused,
   RefusedAlike,
@@ -96,6 +99,28 @@ WrittenFrame =
     → (w .number ≡ 0)
     × (w .chips ≡ s .sendable .front + s .sendable .octet * length payload)
     × (take (w .chips) chips ≡ frame (kindOf kind) (rateOf rate) phase (clockOf clock) payload)
+
+-- promise: Every chip of a frame that was written is that of the word that its symbol is read as
+-- rule: 1.4 (2), 3.1, 3.2
+-- code: dsss_write_2
+abbrev pub SentWords : Type 0
+SentWords =
+    (kind rate phase clock : ℕ) (payload : List ℕ) (w : Written) (chips : List ℕ)
+    → Sent kind rate phase clock payload w chips
+    → take (w .chips) chips
+    ≡ wordsChips One (preambleWords (kindOf kind) (hardRecording chips))
+    ++ (wordsChips (headerRate (kindOf kind)) (headerWords (kindOf kind) (hardRecording chips))
+    ++ wordsChips (rateOf rate) (payloadWords (kindOf kind) (rateOf rate) (length payload) (hardRecording chips)))
+
+-- promise: SYNC of a frame that was written is ones under the long kind and zeros under the short one, bit by bit as
+-- its symbols say, from the ninth on; the first eight are in Table P
+-- rule: 1.4 (2), 5.4
+-- code: dsss_write_2
+abbrev pub SyncSent : Type 0
+SyncSent =
+    (kind rate phase clock : ℕ) (payload : List ℕ) (w : Written) (chips : List ℕ)
+    → Sent kind rate phase clock payload w chips → (at sfd ones b : ℕ) → BitsOf kind at sfd ones → 8 ≤ b → b < at
+    → FrontField kind (hardRecording chips) b 1 (1 - kind)
 
 -- promise: What was written is read back, whatever follows it, under its kind and with room: number 0, rate, LENGTH, n,
 -- chips used, clock bit, payload, and the lead of a clean frame (11,264 counts at symbol 0 at 1 and 2 Mbit/s, 8,192 at
@@ -179,6 +204,8 @@ pub record Promised : Type 0 where
   pub rows-refused : RowsRefused
   pub no-byte-unusable : NoByteUnusable
   pub written-frame : WrittenFrame
+  pub sent-words : SentWords
+  pub sync-sent : SyncSent
   pub read-back : ReadBack
   pub not-read-back : NotReadBack
   pub one-source : OneSource

@@ -9,3 +9,4 @@ pub mod Facts
 pub mod PairLaws
 pub mod Sent
 pub mod Mixing
+pub mod Symbols

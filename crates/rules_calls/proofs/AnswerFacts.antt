@@ -32,44 +32,48 @@ use Rattle.rules_calls.specs.declared.Record.{Record}
 use Rattle.rules_calls.specs.Answers.{recordOf}
 use Rattle.rules_calls.specs.Headers.{told}
 
--- at place 362,471 and LENGTH 65,535 where a refusal tells them
-abbrev every : List Refusal
-every =
-    NoKind ∷ NoRate ∷ ShortRate ∷ PayloadSize ∷ NoPhase ∷ ChipRoom ∷ RowsDiffer ∷ ShorterThanFront
-    ∷ Unusable 362471 65535 ∷ OddGrowth 362471 65535 ∷ Sfd ∷ Crc ∷ Signal 65535 ∷ Service 65535 ∷ Length 65535
-    ∷ Ends 65535 ∷ OctetRoom 65535 ∷ []
-
+-- ---- refusals, for every place and every LENGTH
 abbrev answer : Refusal → Record
 answer e = recordOf (reading.Refused e)
 
--- promise: Each refusal's number, place and LENGTH; all else is 0
--- rule: 6.4, 6.8
--- with: places, lengths, no-more
-pub numbers : map (λ (e : Refusal). answer e .number) every
-    ≡ 1 ∷ 2 ∷ 3 ∷ 4 ∷ 5 ∷ 6 ∷ 7 ∷ 8 ∷ 9 ∷ 10 ∷ 11 ∷ 12 ∷ 13 ∷ 14 ∷ 15 ∷ 16 ∷ 17 ∷ []
-numbers = refl
+module _ (place l : ℕ) where
+  abbrev every : List Refusal
+  every =
+      NoKind ∷ NoRate ∷ ShortRate ∷ PayloadSize ∷ NoPhase ∷ ChipRoom ∷ RowsDiffer ∷ ShorterThanFront
+      ∷ Unusable place l ∷ OddGrowth place l ∷ Sfd ∷ Crc ∷ Signal l ∷ Service l ∷ Length l ∷ Ends l ∷ OctetRoom l ∷ []
 
-pub places : map (λ (e : Refusal). answer e .place) every
-    ≡ 0 ∷ 0 ∷ 0 ∷ 0 ∷ 0 ∷ 0 ∷ 0 ∷ 0 ∷ 362471 ∷ 362471 ∷ 0 ∷ 0 ∷ 0 ∷ 0 ∷ 0 ∷ 0 ∷ 0 ∷ []
-places = refl
+  -- promise: Each refusal's number, place and LENGTH, whatever they are; all else is 0
+  -- rule: 6.4, 6.8
+  -- with: places, lengths, no-more
+  pub numbers : map (λ (e : Refusal). answer e .number) every
+      ≡ 1 ∷ 2 ∷ 3 ∷ 4 ∷ 5 ∷ 6 ∷ 7 ∷ 8 ∷ 9 ∷ 10 ∷ 11 ∷ 12 ∷ 13 ∷ 14 ∷ 15 ∷ 16 ∷ 17 ∷ []
+  numbers = refl
 
-pub lengths : map (λ (e : Refusal). answer e .length) every
-    ≡ 0 ∷ 0 ∷ 0 ∷ 0 ∷ 0 ∷ 0 ∷ 0 ∷ 0 ∷ 65535 ∷ 65535 ∷ 0 ∷ 0 ∷ 65535 ∷ 65535 ∷ 65535 ∷ 65535 ∷ 65535 ∷ []
-lengths = refl
+  pub places : map (λ (e : Refusal). answer e .place) every
+      ≡ 0 ∷ 0 ∷ 0 ∷ 0 ∷ 0 ∷ 0 ∷ 0 ∷ 0 ∷ place ∷ place ∷ 0 ∷ 0 ∷ 0 ∷ 0 ∷ 0 ∷ 0 ∷ 0 ∷ []
+  places = refl
 
--- a refusal shows no rate, no octets, no chips used, no clock bit, no lead and no symbol
-pub no-more : map
-    (λ (e : Refusal).
-    answer e .rate ∷ answer e .n ∷ answer e .used ∷ answer e .clock ∷ answer e .lead ∷ answer e .symbol ∷ []) every
-    ≡ replicate 17 (0 ∷ 0 ∷ 0 ∷ 0 ∷ 0 ∷ 0 ∷ [])
-no-more = refl
+  pub lengths : map (λ (e : Refusal). answer e .length) every
+      ≡ 0 ∷ 0 ∷ 0 ∷ 0 ∷ 0 ∷ 0 ∷ 0 ∷ 0 ∷ l ∷ l ∷ 0 ∷ 0 ∷ l ∷ l ∷ l ∷ l ∷ l ∷ []
+  lengths = refl
 
--- a good read shows what its header tells, the chips used, the smallest lead and its symbol; the clock bit as 0 or 1
-abbrev answered : Bool → List ℕ
-answered clock =
-    let a = recordOf (reading.Good (told Five 6 4 clock) 2176 (record { lead = 5120; symbol = 193 })) in
-    a .number ∷ a .place ∷ a .rate ∷ a .length ∷ a .n ∷ a .used ∷ a .clock ∷ a .lead ∷ a .symbol ∷ []
+  -- a refusal shows no rate, no octets, no chips used, no clock bit, no lead and no symbol
+  pub no-more : map
+      (λ (e : Refusal).
+      answer e .rate ∷ answer e .n ∷ answer e .used ∷ answer e .clock ∷ answer e .lead ∷ answer e .symbol ∷ []) every
+      ≡ replicate 17 (0 ∷ 0 ∷ 0 ∷ 0 ∷ 0 ∷ 0 ∷ [])
+  no-more = refl
 
-pub goods : answered false ∷ answered true ∷ []
-    ≡ (0 ∷ 0 ∷ 55 ∷ 6 ∷ 4 ∷ 2176 ∷ 0 ∷ 5120 ∷ 193 ∷ []) ∷ (0 ∷ 0 ∷ 55 ∷ 6 ∷ 4 ∷ 2176 ∷ 1 ∷ 5120 ∷ 193 ∷ []) ∷ []
-goods = refl
+-- ---- a good read shows what its header tells, the chips used, the smallest lead and its symbol, whatever they are;
+-- the clock bit as 0 or 1
+module _ (l n used lead symbol : ℕ) where
+  abbrev answered : Bool → List ℕ
+  answered clock =
+      let a = recordOf (reading.Good (told Five l n clock) used (record { lead = lead; symbol = symbol })) in
+      a .number ∷ a .place ∷ a .rate ∷ a .length ∷ a .n ∷ a .used ∷ a .clock ∷ a .lead ∷ a .symbol ∷ []
+
+  pub goods : answered false ∷ answered true ∷ []
+      ≡ (0 ∷ 0 ∷ 55 ∷ l ∷ n ∷ used ∷ 0 ∷ lead ∷ symbol ∷ [])
+      ∷ (0 ∷ 0 ∷ 55 ∷ l ∷ n ∷ used ∷ 1 ∷ lead ∷ symbol ∷ [])
+      ∷ []
+  goods = refl

@@ -8,3 +8,4 @@ pub mod Recorders
 pub mod Facts
 pub mod Bytes
 pub mod Usable
+pub mod Values

@@ -75,7 +75,7 @@ unlike true zero (suc n) = gap 0 (suc n) ∙ omega arith
 unlike true (suc u) zero = gap 0 (suc u) ∙ omega arith
 unlike true (suc u) (suc n) = omega arith
 
-scaled : (s : Bool) (a h : ℕ) → signed s a *ℤ pos h ≡ signed s (a * h)
+pub scaled : (s : Bool) (a h : ℕ) → signed s a *ℤ pos h ≡ signed s (a * h)
 scaled false a h = refl
 scaled true zero h = ap pos (zero-mul h) ∙ sym (ap (λ (x : ℕ). negℤ (pos x)) (zero-mul h))
 scaled true (suc a) h = refl

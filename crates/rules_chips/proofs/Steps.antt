@@ -1,5 +1,5 @@
--- A finite f32 is a whole number of steps: the division in `steps` leaves no remainder (`steps-exact`), and its sign is
--- the number's (`value-plus`, `value-minus`). So `usable` is what the two comparisons with -8 and 8 find (`usable-is`).
+-- A finite f32 is a whole number of steps: the division in `steps` leaves no remainder (`steps-exact`). So `usable` is
+-- what the two comparisons with -8 and 8 find (`usable-is`).
 -- Assumes nothing.
 use mathlib.Core.Path.{_≡_, refl, sym, ap, _∙_}
 use mathlib.Core.Logic.{inl, inr}
@@ -10,11 +10,11 @@ use native.Mathlib.Nat.{zero-mul, mul-assoc, mul-right-comm, mul-le-mul-right, l
 use native.Mathlib.Omega.{arith}
 use lib.Dec.{T, leb, ltb, eqb, leb→le, le→leb, ltb→lt, lt→ltb, eqb→eq}
 use lib.Pow.{pow-add, pow-pos, pow-lt}
-use lib.IntN.{ℤ, pos, negsuc, negℤ}
+use lib.IntN.{ℤ, pos, negsuc}
 use lib.Ieee.{Float, nan, inf, fin, binary32, up, down, fits, le}
 use lib.Ieee.Digits.{back}
 use lib.Ieee.Fits.{down-pos, and-l, and-r, and-i, eq→eqb}
-use Rattle.rules_chips.specs.Floats.{steps, usable, valueOf}
+use Rattle.rules_chips.specs.Floats.{steps, usable}
 
 -- ---- the division
 exponent-le : (i j : ℕ) → 2 ^ i ≤ 2 ^ j → i ≤ j
@@ -30,9 +30,6 @@ divides (negsuc k) h = (
 whole : (a d c : ℕ) → 0 < d → a ≡ c * d → a / d * d ≡ a
 whole a d c p h = ap (λ (x : ℕ). x * d) (ap (λ (x : ℕ). x / d) h ∙ mul-div-cancel c p) ∙ sym h
 
--- promise: The exact value of a finite f32, m · 2^e with its sign, is a whole number of steps of 2^-149
--- rule: 3.8
--- with: value-plus, value-minus
 pub steps-exact : (s : Bool) (m : ℕ) (e : ℤ) → T (fits binary32 (fin s m e))
     → steps (fin s m e) * down e ≡ m * up e * 2 ^ 149
 unfolding steps fits
@@ -46,12 +43,6 @@ steps-exact s (suc m) e t =
     let d = divides e (leb→le (down e) (2 ^ 149) (and-r A C (and-l (A && C) D t))) in
     whole (suc m * up e * 2 ^ 149) (down e) (suc m * up e * d .0) (down-pos e)
     (ap (λ (x : ℕ). suc m * up e * x) (d .1) ∙ sym (mul-assoc (suc m * up e) (d .0) (down e)))
-
-pub value-plus : (m : ℕ) (e : ℤ) → valueOf (fin false m e) ≡ pos (steps (fin false m e))
-value-plus m e = refl
-
-pub value-minus : (m : ℕ) (e : ℤ) → valueOf (fin true m e) ≡ negℤ (pos (steps (fin true m e)))
-value-minus m e = refl
 
 -- n steps are a / d, and 8 is 8 * l steps
 pub under : (n a d l : ℕ) → 0 < d → 0 < l → n * d ≡ a * l → n ≤ 8 * l → a ≤ 8 * d

@@ -2,18 +2,31 @@
 -- and 8 where it is cut in the front, whatever follows a whole one. Assumes nothing.
 use mathlib.Core.Path.{_≡_, sym, ap, _∙_}
 use mathlib.Core.Bool.{Bool, true}
-use mathlib.Core.List.{List, _++_, [], append-nil}
+use mathlib.Core.List.{List, _++_, [], _∷_, append-nil}
 use Prim.Native.Nat.{ℕ, _-_, _≤_, _<_}
 use native.Mathlib.Omega.{arith}
 use borrow.Author.Tests.{lt-ltb}
-use lib.ListN.{length, take, replicate}
+use lib.ListN.{length, take, drop, replicate}
 use lib.Seq.{take-take, length-take-le}
 use Rattle.base.specs.Below.{Below}
 use Rattle.rules_rates.specs.declared.Rate.{Rate}
+use Rattle.rules_rates.specs.declared.Rate.the-variants.{One}
 use Rattle.rules_rates.specs.Rates.{lengthField}
 use Rattle.rules_chips.specs.Chips.{Taken}
+use Rattle.rules_bits.specs.Code.{wordsChips}
 use Rattle.rules_frame.specs.declared.Kind.{Kind}
-use Rattle.rules_frame.specs.Frame.{isKind, kindOf, goesWith, frontChips, sentHeader, frame, frameChips}
+use Rattle.rules_frame.specs.Frame.{
+  isKind,
+  kindOf,
+  syncBits,
+  syncBit,
+  headerRate,
+  goesWith,
+  frontChips,
+  sentHeader,
+  frame,
+  frameChips,
+}
 use Rattle.rules_frame.proofs.Headers.{sent-length, sent-below}
 use Rattle.rules_frame.proofs.Sizes.{frame-length}
 use Rattle.rules_calls.proofs.ReadBack.{header-back}
@@ -23,7 +36,11 @@ use Rattle.rules_calls.specs.declared.Front.the-variants as front
 use Rattle.rules_calls.specs.declared.Reading.the-variants as reading
 use Rattle.rules_calls.specs.Headers.{told}
 use Rattle.rules_reading.specs.Reading.{
+  frontBits,
   frontOf,
+  preambleWords,
+  headerWords,
+  payloadWords,
   payloadOf,
   wholeOf,
   payloadReading,
@@ -56,6 +73,20 @@ module _ (kind : ℕ) (r : Rate) (p : ℕ) (clock : Bool) (xs : List ℕ) (is-ki
   pub phases : Below 4 (frame k r p clock xs)
   unfolding frame
   phases = whole.frame-phases k r p header xs [] l (sent-length r clock n) (sent-below r clock n)
+
+  -- its chips are those of the words that it is read as
+  pub words-back : (rest : List Taken) → frame k r p clock xs
+      ≡ wordsChips One (preambleWords k (clean ++ rest))
+      ++ (wordsChips (headerRate k) (headerWords k (clean ++ rest))
+      ++ wordsChips r (payloadWords k r n (clean ++ rest)))
+  unfolding frame
+  words-back rest = whole.words-sent k r p header xs rest l (sent-length r clock n) (sent-below r clock n)
+
+  -- its SYNC, bit by bit from the ninth on
+  pub sync-back : (rest : List Taken) (j : ℕ) → 8 ≤ j → j < syncBits k
+      → take 1 (drop j (frontBits k (clean ++ rest))) ≡ syncBit k ∷ []
+  unfolding frame
+  sync-back rest = whole.sync-read k r p header xs rest l (sent-length r clock n) (sent-below r clock n)
 
   opened : (agree : Bool) (rec : List Taken) (room : ℕ) → agree ≡ true
       → readingOf kind agree rec room ≡ afterFront k rec room (wholeOf k rec (frontOf k rec))

@@ -5,19 +5,20 @@ use mathlib.Core.Path.{_≡_, refl, sym, ap, ap₂, _∙_, subst}
 use mathlib.Core.Bool.{Bool}
 use mathlib.Core.List.{List, [], _∷_, _++_, append-assoc}
 use mathlib.Core.Option.{none}
-use Prim.Native.Nat.{ℕ, _+_, _-_, _*_, _<_, _≤_}
+use Prim.Native.Nat.{ℕ, zero, suc, _+_, _-_, _*_, _<_, _≤_}
 use native.Mathlib.Omega.{arith}
 use native.Mathlib.Nat.{not-suc-le-zero}
 use borrow.Author.Tests.{le-ltb, lt-ltb}
 use lib.ListN.{length, getD, take, drop, replicate, length-append, length-drop, length-replicate, take-append-drop}
 use lib.Seq.{take-at, drop-at, drop-drop, length-take-le, drop-append-le}
 use Rattle.rules_rates.specs.declared.Rate.{Rate}
+use Rattle.rules_rates.specs.declared.Rate.the-variants.{One}
 use Rattle.rules_chips.specs.Chips.{Taken}
 use Rattle.rules_bits.specs.Bits.{bitsOf, octetBits, octetsOf}
 use Rattle.rules_bits.specs.Growths.{heard}
 use Rattle.rules_bits.specs.Scrambler.{descramble}
 use Rattle.base.specs.Below.{Below}
-use Rattle.rules_bits.specs.Code.{pastAfter}
+use Rattle.rules_bits.specs.Code.{pastAfter, wordsChips}
 use Rattle.base.proofs.Below.{below-append, below-take, below-drop, below-replicate}
 use Rattle.rules_bits.proofs.Bits.{bits-length, bits-below, octet-bits-below, octets-back}
 use Rattle.rules_bits.proofs.Scrambler.{
@@ -33,6 +34,7 @@ use Rattle.rules_frame.specs.Frame.{
   syncBits,
   syncBit,
   sfdOf,
+  headerRate,
   start,
   frontChips,
   preambleBits,
@@ -57,6 +59,8 @@ use Rattle.rules_reading.specs.Reading.{
   frontHeard,
   frontBits,
   frontOf,
+  preambleWords,
+  headerWords,
   payloadPhase,
   payloadWords,
   payloadOdd,
@@ -74,6 +78,10 @@ use Rattle.rules_clean.proofs.Listened.{
   front-heard,
   payload-heard,
   all-phases,
+  parts-are,
+  preamble-words,
+  header-words,
+  payload-words,
 }
 use Rattle.rules_clean.proofs.Leads.{clean-least}
 
@@ -117,6 +125,12 @@ forgotten j h x y os l =
 sync-eight : (k : Kind) → 8 ≤ syncBits k
 sync-eight Long = omega arith
 sync-eight Short = omega arith
+
+-- one of a row of equal numbers
+one-of : (n x j : ℕ) (ys : List ℕ) → j < n → take 1 (drop j (replicate n x ++ ys)) ≡ x ∷ []
+one-of zero x j ys h = absurd (not-suc-le-zero h)
+one-of (suc n) x zero ys h = refl
+one-of (suc n) x (suc j) ys h = one-of n x j ys (omega arith)
 
 module _ (k : Kind) (r : Rate) (p : ℕ) (header xs : List ℕ) (rest : List Taken) (l : p < 4)
     (eh : length header ≡ headerLength) (bh : Below 2 header) where
@@ -241,6 +255,28 @@ module _ (k : Kind) (r : Rate) (p : ℕ) (header xs : List ℕ) (rest : List Tak
   header-read : drop m (frontBits k recording) ≡ header
   header-read =
       front-from m (omega (arith, sync-eight k)) ∙ drop-at (preambleBits k) (header) m (preamble-length k)
+
+  -- every chip is one of the word that its symbol is read as
+  pub words-sent : framed k r p header xs
+      ≡ wordsChips One (preambleWords k recording)
+      ++ (wordsChips (headerRate k) (headerWords k recording) ++ wordsChips r (payloadWords k r n recording))
+  words-sent =
+      let e1 = ap (preambleWords k) same ∙ preamble-words k r p n b bs y z rest l hp hh hy ep y-length z-length in
+      let e2 = ap (headerWords k) same ∙ header-words k r p n b bs y z rest l hp hh hy ep y-length z-length in
+      let e3 = ap (payloadWords k r n) same ∙ payload-words k r p n b bs y z rest l hp hh hy ep y-length z-length in
+      frame-is ∙ parts-are k r p n b bs y z rest l hp hh hy ep y-length z-length
+      ∙ (λ i. wordsChips One (sym e1 i) ++ (wordsChips (headerRate k) (sym e2 i) ++ wordsChips r (sym e3 i)))
+
+  -- SYNC, from its ninth bit on
+  pub sync-read : (j : ℕ) → 8 ≤ j → j < syncBits k → take 1 (drop j (frontBits k recording)) ≡ syncBit k ∷ []
+  sync-read j h i = ap (take 1) (front-from j h) ∙ cut
+    where
+      cut : take 1 (drop j (preambleBits k ++ header)) ≡ syncBit k ∷ []
+      cut =
+          unfold preambleBits in
+          ap (λ (t : List ℕ). take 1 (drop j t))
+          (append-assoc (replicate (syncBits k) (syncBit k)) (bitsOf 16 (sfdOf k)) (header))
+          ∙ one-of (syncBits k) (syncBit k) j (bitsOf 16 (sfdOf k) ++ header) i
 
   pub payload-read : Below 256 xs → payloadOf k r n recording ≡ xs
   unfolding payloadOf

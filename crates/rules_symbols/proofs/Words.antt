@@ -1,5 +1,5 @@
 -- Laws of the words, for every rate: how long a word is, that its chips are phases, that a turn of its phase turns
--- every chip, what word a number has, and the rules of the two tables, each once over its table.
+-- every chip, that words add up, what word a number has, and the rules of the two tables, each once over its table.
 -- Assumes nothing.
 use mathlib.Core.Path.{_≡_, refl, sym, ap, _∙_}
 use mathlib.Core.List.{List, [], _∷_, map}
@@ -68,6 +68,12 @@ word-length Two n = barker-length n
 word-length Five n = cck-length _ _ _ _
 word-length Eleven n = cck-length _ _ _ _
 
+-- the chips of two words, each turned by the other's
+unfoldable pub together : List ℕ → List ℕ → List ℕ
+together [] w = []
+together (x ∷ v) [] = []
+together (x ∷ v) (y ∷ w) = turned x y ∷ together v w
+
 -- ---- a turn of the phase turns every chip
 turn-turn : (p s : ℕ) → turned p (s % 4) ≡ turned p s
 turn-turn p s = omega arith
@@ -115,6 +121,32 @@ cck-mod p1 p2 p3 p4 =
 
     three : (x a b c : ℕ) → (x + a % 4 + b % 4 + c % 4) % 4 ≡ (x + a + b + c) % 4
     three x a b c = first x a (b % 4) (c % 4) ∙ two (x + a) b c
+
+-- promise: Every chip of a CCK word is a sum of its phases: words add up, but for the word of (0,0,0,0), for all
+-- phases. With the words of each phase alone, which are computed, that leaves one word for each number
+-- rule: 3.2
+-- code: cck_word
+pub cck-adds : (p1 p2 p3 p4 q1 q2 q3 q4 : ℕ)
+    → together (cckWord p1 p2 p3 p4) (cckWord q1 q2 q3 q4)
+    ≡ together (cckWord (p1 + q1) (p2 + q2) (p3 + q3) (p4 + q4)) (cckWord 0 0 0 0)
+unfolding cckWord together
+cck-adds p1 p2 p3 p4 q1 q2 q3 q4 =
+    λ i.
+    both (p1 + p2 + p3 + p4) (q1 + q2 + q3 + q4) (p1 + q1 + (p2 + q2) + (p3 + q3) + (p4 + q4)) 0 (omega arith) i
+    ∷ both (p1 + p3 + p4) (q1 + q3 + q4) (p1 + q1 + (p3 + q3) + (p4 + q4)) 0 (omega arith) i
+    ∷ both (p1 + p2 + p4) (q1 + q2 + q4) (p1 + q1 + (p2 + q2) + (p4 + q4)) 0 (omega arith) i
+    ∷ both (p1 + p4 + 2) (q1 + q4 + 2) (p1 + q1 + (p4 + q4) + 2) 2 (omega arith) i
+    ∷ both (p1 + p2 + p3) (q1 + q2 + q3) (p1 + q1 + (p2 + q2) + (p3 + q3)) 0 (omega arith) i
+    ∷ both (p1 + p3) (q1 + q3) (p1 + q1 + (p3 + q3)) 0 (omega arith) i
+    ∷ both (p1 + p2 + 2) (q1 + q2 + 2) (p1 + q1 + (p2 + q2) + 2) 2 (omega arith) i
+    ∷ both p1 q1 (p1 + q1) 0 (omega arith) i
+    ∷ []
+  where
+    sums : (x y : ℕ) → (x % 4 + y % 4) % 4 ≡ (x + y) % 4
+    sums x y = omega arith
+
+    both : (x y z w : ℕ) → x + y ≡ z + w → (x % 4 + y % 4) % 4 ≡ (z % 4 + w % 4) % 4
+    both x y z w e = sums x y ∙ ap (λ (n : ℕ). n % 4) e ∙ sym (sums z w)
 
 pub barker-turned : (p : ℕ) → map (turned p) (barkerWord 0) ≡ barkerWord p
 unfolding barkerWord
