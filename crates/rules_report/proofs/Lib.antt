@@ -7,3 +7,4 @@ pub mod Lists
 pub mod Spelling
 pub mod TextFacts
 pub mod Said
+pub mod SaidOnly
