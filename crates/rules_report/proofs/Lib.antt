@@ -2,6 +2,7 @@ pub mod Outcomes
 pub mod Facts
 pub mod Laws
 pub mod Added
+pub mod Shares
 pub mod Taking
 pub mod Lists
 pub mod Spelling
