@@ -14,12 +14,10 @@ use lib.Seq.{take-all, take-append-seam, drop-append-seam}
 use Rattle.rules_report.specs.declared.Report.{Report}
 use Rattle.rules_report.specs.declared.Counted.{Counted}
 use Rattle.rules_report.specs.declared.Spelled.{Spelled}
-use Rattle.rules_report.specs.Totals.{Recording, Outcome, outcomeOf, accepted}
+use Rattle.rules_report.specs.Totals.{Recording, Outcome, outcomeOf}
 use Rattle.rules_report.specs.Report.{
   empty,
   reportOf,
-  withFrame,
-  withRefusal,
   added,
   takesMore,
   Limits,
@@ -27,8 +25,11 @@ use Rattle.rules_report.specs.Report.{
   recordings,
   listOf,
 }
+use Rattle.rules_report.specs.Shares.{OneMore}
 use Rattle.rules_report.specs.Text.{textOf, textLeft}
 use Rattle.rules_report.specs.Said.{TextSaid}
+use Rattle.rules_report.proofs.Outcomes.{fair}
+use Rattle.rules_report.proofs.Shares.{added-any}
 use Rattle.rules_report.proofs.Said.{text-said}
 use Rattle.rules_report.proofs.Taking.{counted-next, counted-full}
 use Rattle.rules_report.proofs.Lists.{takes, limits-take, none-counted}
@@ -126,14 +127,6 @@ kept-answers rs p kind chips c k a =
 
 -- ---- any report whatever
 
-seen-more : (p : Report) (o : Outcome) → added p o .seen ≡ p .seen + 1
-unfolding added
-seen-more p o = by (accepted o)
-  where
-    by : (t : Bool) → cond t (withFrame p o) (withRefusal p o) .seen ≡ p .seen + 1
-    by true = refl
-    by false = refl
-
 taken : (p : Report) (r : Recording) → takesMore p ≡ true
     → countedOf p r ≡ record { number = 0; report = added p (outcomeOf r) }
 unfolding countedOf
@@ -146,13 +139,17 @@ as-it-stood p r true e n = absurd (n (takes p e))
 as-it-stood p r false e n = rw e
 
 any-report : AnyReport
-any-report p kind chips c a =
-    let r : Recording = record { kind = kind; chips = chips } in (
-      (λ w. let answer = a .answer ∙ taken p r (limits-take p w) in (
+any-report p kind chips a left c rows read adds =
+    let r : Recording = record { kind = kind; chips = chips } in
+    let same : outcomeOf r ≡ record { kind = kind; answer = a } =
+    λ i. record { kind = kind; answer = sym (read .answer) i } in (
+      (λ w. let answer = adds .answer ∙ taken p r (limits-take p w) in (
         ap (λ (v : Counted). v .number) answer,
-        ap (λ (v : Counted). v .report .seen) answer ∙ seen-more p (outcomeOf r),
+        subst (λ (o : Outcome). OneMore p o (c .report)) same
+            (subst (OneMore p (outcomeOf r)) (sym (ap (λ (v : Counted). v .report) answer))
+            (added-any p (outcomeOf r) (fair r) rows)),
       )),
-      λ n. a .answer ∙ as-it-stood p r (takesMore p) refl n,
+      λ n. adds .answer ∙ as-it-stood p r (takesMore p) refl n,
     )
 
 -- ---- a whole list

@@ -11,14 +11,26 @@ use borrow.Author.Tests.{eqb-true, eq-eqb}
 use lib.Dec.{T, eqb}
 use lib.ListN.{length, getD, List·getD-eq-default}
 use Rattle.base.specs.Tables.{tabulate}
-use Rattle.base.proofs.Tables.{getD-tabulate}
+use Rattle.base.proofs.Tables.{length-tabulate, getD-tabulate}
 use Rattle.base.proofs.Tests.{left-is, right-is}
 use Rattle.rules_report.specs.declared.Report.{Report}
-use Rattle.rules_report.specs.Totals.{Recording, Outcome, outcomeOf, total, accepted, refusedWith}
-use Rattle.rules_report.specs.Report.{reportOf, more, entryOf, withFrame, withRefusal, added}
+use Rattle.rules_report.specs.Totals.{
+  Recording,
+  Outcome,
+  outcomeOf,
+  total,
+  accepted,
+  framesAt,
+  octetsAt,
+  refusedWith,
+  airtimeOf,
+}
+use Rattle.rules_report.specs.Report.{codes, reportOf, more, entryOf, withFrame, withRefusal, added}
+use Rattle.rules_report.specs.Shares.{rates, FullRows, FrameShare, OctetShare, RefusalShare, AirtimeShare, SumOf}
 use Rattle.rules_report.proofs.Outcomes.{Fair, fair}
 use Rattle.rules_report.proofs.Laws.{total-most}
 use Rattle.rules_report.proofs.Added.{entry-below, length-more, added-more}
+use Rattle.rules_report.proofs.Shares.{frames-sum, octets-sum, refused-sum, airtime-sum}
 use Rattle.rules_report.proofs.Taking.{map-more, one-most}
 use Rattle.promises_report.specs.Promises.{LeadTold, sumOf, TotalsOf}
 use Rattle.promises_report.proofs.Lead.{lead-told}
@@ -97,37 +109,60 @@ never-met rs number not-1 outside =
 
 -- ---- all of it
 
-refused-at : (os : List Outcome) (number : ℕ) → number < 18
-    → getD (reportOf os .refused) number 0 ≡ refusedWith number os
-unfolding reportOf
-refused-at os number h = getD-tabulate _ 18 number 0 h
-
-lead-of : (os : List Outcome) → LeadTold os (reportOf os .some) (reportOf os .lead) (reportOf os .recording)
-unfolding reportOf
-lead-of os = lead-told os
-
+-- the numbers of the report of a list
 pub seen-of : (os : List Outcome) → reportOf os .seen ≡ length os
 unfolding reportOf
 seen-of os = refl
 
+rate-at : (f : ℕ → ℕ) (j : ℕ) → j < 4 → f (getD rates j 0) ≡ getD (map f codes) j 0
+rate-at f zero h = refl
+rate-at f (suc zero) h = refl
+rate-at f (suc (suc zero)) h = refl
+rate-at f (suc (suc (suc zero))) h = refl
+rate-at f (suc (suc (suc (suc j)))) h = absurd (omega arith)
+
+module _ (os : List Outcome) where
+  pub frames-at : (j : ℕ) → j < 4 → framesAt (getD rates j 0) os ≡ getD (reportOf os .frames) j 0
+  unfolding reportOf
+  frames-at j h = rate-at (λ code. framesAt code os) j h
+
+  pub octets-at : (j : ℕ) → j < 4 → octetsAt (getD rates j 0) os ≡ getD (reportOf os .octets) j 0
+  unfolding reportOf
+  octets-at j h = rate-at (λ code. octetsAt code os) j h
+
+  pub refused-at : (number : ℕ) → number < 18 → refusedWith number os ≡ getD (reportOf os .refused) number 0
+  unfolding reportOf
+  refused-at number h = sym (getD-tabulate _ 18 number 0 h)
+
+  pub airtime-at : airtimeOf os ≡ reportOf os .airtime
+  unfolding reportOf
+  airtime-at = refl
+
+  pub rows-at : FullRows (reportOf os)
+  unfolding reportOf
+  rows-at = record { frames-four = refl; octets-four = refl; refused-eighteen = length-tabulate _ 18 }
+
+  pub lead-at : LeadTold os (reportOf os .some) (reportOf os .lead) (reportOf os .recording)
+  unfolding reportOf
+  lead-at = lead-told os
+
 pub totals-of : (rs : List Recording) → TotalsOf (map outcomeOf rs) (reportOf (map outcomeOf rs))
 totals-of rs =
     let os = map outcomeOf rs in
-    let w = whole rs in
     record {
       seen-is = seen-of os;
-      frames-are = unfold reportOf in refl;
-      octets-are = unfold reportOf in refl;
-      numbers = w .numbers;
-      refused-are = refused-at os;
-      airtime-is = unfold reportOf in refl;
-      lead-is = lead-of os;
-      together = w .together;
+      rows-are = rows-at os;
+      frames-are = λ j h. subst (SumOf (FrameShare (getD rates j 0)) os) (frames-at os j h) (frames-sum _ os);
+      octets-are = λ j h. subst (SumOf (OctetShare (getD rates j 0)) os) (octets-at os j h) (octets-sum _ os);
+      refused-are = λ k h. subst (SumOf (RefusalShare k) os) (refused-at os k h) (refused-sum k os);
+      airtime-is = subst (SumOf AirtimeShare os) (airtime-at os) (airtime-sum os);
+      lead-is = lead-at os;
+      together = whole rs .together;
       never = λ number a b. by number a b (decLt number 18);
     }
   where
     by : (number : ℕ) → (number ≡ 1 → ⊥) → (8 ≤ number → 16 < number) → Dec (number < 18)
         → getD (reportOf (map outcomeOf rs) .refused) number 0 ≡ 0
-    by number a b (yes p) = refused-at (map outcomeOf rs) number p ∙ never-met rs number a b
+    by number a b (yes p) = sym (refused-at (map outcomeOf rs) number p) ∙ never-met rs number a b
     by number a b (no q) =
         List·getD-eq-default (reportOf (map outcomeOf rs) .refused) 0 {n = number} (omega (arith, whole rs .numbers))

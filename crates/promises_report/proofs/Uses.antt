@@ -3,8 +3,8 @@
 use mathlib.Core.Path.{_≡_, refl, sym, ap, subst, _∙_}
 use mathlib.Core.Bool.{true}
 use mathlib.Core.List.{List, [], _∷_, _++_, map}
-use Prim.Native.Nat.{ℕ, zero, suc, _+_, _-_, _≤_, _<_}
-use native.Mathlib.Nat.{add-zero, not-suc-le-zero, le-of-suc-le-suc}
+use Prim.Native.Nat.{ℕ, _+_, _≤_, _<_}
+use native.Mathlib.Nat.{add-zero}
 use native.Mathlib.Decide.{decLt}
 use native.Mathlib.Omega.{arith}
 use lib.Dec.{lit≤}
@@ -20,19 +20,20 @@ use Rattle.rules_reading.specs.Reading.{octetsFound}
 use Rattle.rules_report.specs.declared.Report.{Report}
 use Rattle.rules_report.specs.declared.Counted.{Counted}
 use Rattle.rules_report.specs.declared.Spelled.{Spelled}
-use Rattle.rules_report.specs.Totals.{
-  Recording,
-  Outcome,
-  outcomeOf,
-  total,
-  framesAt,
-  octetsAt,
-  refusedWith,
-  frontTime,
-  airtimeOf,
-}
-use Rattle.rules_report.specs.Report.{empty, entryOf, countedOf, recordings, listOf}
+use Rattle.rules_report.specs.Totals.{Recording, Outcome, outcomeOf, total, frontTime, closestFrom}
+use Rattle.rules_report.specs.Report.{empty, reportOf, entryOf, added, countedOf, recordings, listOf}
+use Rattle.rules_report.specs.Shares.{FullRows}
 use Rattle.rules_report.specs.Text.{spelledOf, textLeft}
+use Rattle.rules_report.proofs.Outcomes.{fair}
+use Rattle.rules_report.proofs.Shares.{
+  frames-only,
+  octets-only,
+  refused-only,
+  airtime-only,
+  same-row,
+  added-any,
+  more-only,
+}
 use Rattle.promises.specs.Calls.{
   ReadHard,
   good,
@@ -62,16 +63,27 @@ use Rattle.promises_report.specs.Calls.{
   none-read,
   one-read,
 }
-use Rattle.promises_report.specs.Promises.{FrameAt, LeadTold, no-frame, smallest, sumOf, TotalsOf}
+use Rattle.promises_report.specs.Promises.{LeadTold, no-frame, smallest, sumOf, TotalsOf}
 use Rattle.promises_report.proofs.Kept.{kept-report}
-use Rattle.promises_report.proofs.Totals.{by-more}
+use Rattle.promises_report.proofs.Totals.{
+  by-more,
+  seen-of,
+  frames-at,
+  octets-at,
+  refused-at,
+  airtime-at,
+  rows-at,
+  lead-at,
+}
 
 -- ---- there are readings of any list: with one answer only, the contract is its definition
+reading : (r : Recording) → ReadHard (r .kind) (r .chips) 4095 (outcomeOf r .answer)
+    (octetsFound (r .kind) true (hardRecording (r .chips)) 4095)
+reading r = record { answer = refl; octets = refl }
+
 reads : (rs : List Recording) → Readings rs (map outcomeOf rs)
 reads [] = none-read
-reads (r ∷ rs) =
-    one-read (r .kind) (r .chips) _ (octetsFound (r .kind) true (hardRecording (r .chips)) 4095) rs _
-    (record { answer = refl; octets = refl }) (reads rs)
+reads (r ∷ rs) = one-read (r .kind) (r .chips) _ _ rs _ (reading r) (reads rs)
 
 -- ---- and a report kept
 pub record KeptOf (rs : List Recording) : Type 0 where
@@ -88,6 +100,49 @@ keep-one rs r k = record {
 
 pub keeps : (rs : List Recording) → KeptOf rs
 keeps rs = by-more KeptOf keep-one [] rs (record { report = empty; is-kept = nothing-yet })
+
+-- ---- the totals of a list leave one report
+
+-- no frame and none, or the first of those with the smallest lead
+lead-only : (os : List Outcome) (s l r s′ l′ r′ : ℕ) → LeadTold os s l r → LeadTold os s′ l′ r′
+    → (s ≡ s′) × (l ≡ l′) × (r ≡ r′)
+lead-only os _ _ _ _ _ _ (no-frame none) (no-frame _) = (refl, refl, refl)
+lead-only os _ _ _ _ _ _ (no-frame none) (smallest l′ r′ g _ _) = absurd (none r′ l′ g)
+lead-only os _ _ _ _ _ _ (smallest l r f _ _) (no-frame none) = absurd (none r l f)
+lead-only os _ _ _ _ _ _ (smallest l r f low first) (smallest l′ r′ g low′ first′) =
+    let same : l ≡ l′ = omega (arith, low r′ l′ g, low′ r l f) in
+    (refl, same, by (decLt r r′) (decLt r′ r))
+  where
+    by : Dec (r < r′) → Dec (r′ < r) → r ≡ r′
+    by (yes h) d = absurd (omega (arith, first′ r l f h, low r′ l′ g))
+    by (no n) (yes h) = absurd (omega (arith, first r′ l′ g h, low′ r l f))
+    by (no n) (no m) = omega arith
+
+pub totals-only : (os : List Outcome) (p : Report) → TotalsOf os p → p ≡ reportOf os
+totals-only os p t =
+    let q = reportOf os in
+    let rows = t .rows-are in
+    let lead = lead-only os _ _ _ _ _ _ (t .lead-is) (lead-at os) in
+    λ i. record {
+      seen = (t .seen-is ∙ sym (seen-of os)) i;
+      frames = same-row 4 (p .frames) (q .frames) (rows .frames-four) (rows-at os .frames-four) frames i;
+      octets = same-row 4 (p .octets) (q .octets) (rows .octets-four) (rows-at os .octets-four) octets i;
+      refused =
+          same-row 18 (p .refused) (q .refused) (rows .refused-eighteen) (rows-at os .refused-eighteen) refused i;
+      airtime = (airtime-only os (p .airtime) (t .airtime-is) ∙ airtime-at os) i;
+      some = lead .0 i;
+      lead = lead .1 i;
+      recording = lead .2 i;
+    }
+  where
+    frames : (j : ℕ) → j < 4 → getD (p .frames) j 0 ≡ getD (reportOf os .frames) j 0
+    frames j h = frames-only _ os _ (t .frames-are j h) ∙ frames-at os j h
+
+    octets : (j : ℕ) → j < 4 → getD (p .octets) j 0 ≡ getD (reportOf os .octets) j 0
+    octets j h = octets-only _ os _ (t .octets-are j h) ∙ octets-at os j h
+
+    refused : (j : ℕ) → j < 18 → getD (p .refused) j 0 ≡ getD (reportOf os .refused) j 0
+    refused j h = refused-only j os _ (t .refused-are j h) ∙ refused-at os j h
 
 -- ---- the report of one frame alone
 
@@ -114,48 +169,30 @@ pub record OneFrame (kind rate l n lead : ℕ) (p : Report) : Type 0 where
   pub its-lead : p .lead ≡ lead
   pub its-recording : p .recording ≡ 0
 
-module _ (p : Report) (kind l n used clock lead symbol : ℕ) where
-  rows : (r : Rate) → TotalsOf (alone kind (codeOf r) l n used clock lead symbol) p
-      → (p .frames ≡ set (replicate 4 0) (entryOf (codeOf r)) 1)
-      × (p .octets ≡ set (replicate 4 0) (entryOf (codeOf r)) n)
-  unfolding total
-  rows One t = (t .frames-are, t .octets-are ∙ simp add-zero)
-  rows Two t = (t .frames-are, t .octets-are ∙ simp add-zero)
-  rows Five t = (t .frames-are, t .octets-are ∙ simp add-zero)
-  rows Eleven t = (t .frames-are, t .octets-are ∙ simp add-zero)
+module _ (kind l n used clock lead symbol : ℕ) where
+  abbrev of-rate : ℕ → Report
+  of-rate code = reportOf (alone kind code l n used clock lead symbol)
 
-  none-met : (rate : ℕ) → TotalsOf (alone kind rate l n used clock lead symbol) p → (number : ℕ) → number < 18
-      → getD (p .refused) number 0 ≡ 0
-  unfolding total
-  none-met rate t number h = t .refused-are number h
+  rows : (r : Rate) → (of-rate (codeOf r) .frames ≡ set (replicate 4 0) (entryOf (codeOf r)) 1)
+      × (of-rate (codeOf r) .octets ≡ set (replicate 4 0) (entryOf (codeOf r)) n)
+  unfolding reportOf total
+  rows One = (refl, simp add-zero)
+  rows Two = (refl, simp add-zero)
+  rows Five = (refl, simp add-zero)
+  rows Eleven = (refl, simp add-zero)
 
-  time : (rate : ℕ) → TotalsOf (alone kind rate l n used clock lead symbol) p → p .airtime ≡ frontTime kind + l
-  unfolding total
-  time rate t = t .airtime-is ∙ add-zero _
-
-  -- of one frame the smallest lead is its own
-  led : (rate there told recording : ℕ) → LeadTold (alone kind rate l n used clock lead symbol) there told recording
-      → (there ≡ 1) × (told ≡ lead) × (recording ≡ 0)
-  led rate _ _ _ (no-frame none) =
-      absurd (none 0 lead (record { there = lit≤ tt; good = refl; lead-is = refl }))
-  led rate _ told zero (smallest _ _ f low first) = (refl, sym (f .lead-is), refl)
-  led rate _ told (suc i) (smallest _ _ f low first) = absurd (not-suc-le-zero (le-of-suc-le-suc (f .there)))
-
-  one-frame : (r : Rate) → TotalsOf (alone kind (codeOf r) l n used clock lead symbol) p
-      → OneFrame kind (codeOf r) l n lead p
-  one-frame r t =
-      let e = rows r t in
-      let d = led (codeOf r) (p .some) (p .lead) (p .recording) (t .lead-is) in
-      record {
-        one-seen = t .seen-is;
-        its-frames = e .0;
-        its-octets = e .1;
-        none-refused = none-met (codeOf r) t;
-        its-airtime = time (codeOf r) t;
-        there-is = d .0;
-        its-lead = d .1;
-        its-recording = d .2;
-      }
+  one-frame : (r : Rate) → OneFrame kind (codeOf r) l n lead (of-rate (codeOf r))
+  unfolding reportOf total closestFrom
+  one-frame r = record {
+    one-seen = refl;
+    its-frames = rows r .0;
+    its-octets = rows r .1;
+    none-refused = λ number h. sym (refused-at (alone kind (codeOf r) l n used clock lead symbol) number h);
+    its-airtime = add-zero _;
+    there-is = refl;
+    its-lead = refl;
+    its-recording = refl;
+  }
 
 -- ---- a frame that was written, behind it anything, is counted: its rate, octets, airtime and lead, and nothing else
 module _ (kind rate phase clock : ℕ) (payload : List ℕ) (w : Written) (chips : List ℕ)
@@ -204,70 +241,32 @@ module _ (kind rate phase clock : ℕ) (payload : List ℕ) (w : Written) (chips
       let clear = sentLead rate in
       let at = sentSymbol kind rate in (
         kept-report .kept-answers [] empty kind (take (w .chips) chips ++ tail) c nothing-yet a .0 (lit≤ tt),
-        subst (λ (code : ℕ). OneFrame kind code l n clear (c .report)) (sym e)
-            (one-frame (c .report) kind l n (w .chips) (shown clock) clear at (rateOf rate)
-            (subst (λ (code : ℕ). TotalsOf (alone kind code l n (w .chips) (shown clock) clear at) (c .report)) e
-            counts)),
+        subst (OneFrame kind rate l n clear) (sym (totals-only (sent ∷ []) (c .report) counts))
+            (subst
+            (λ (code : ℕ). OneFrame kind code l n clear (of-rate kind l n (w .chips) (shown clock) clear at code))
+            (sym e) (one-frame kind l n (w .chips) (shown clock) clear at (rateOf rate))),
       )
 
--- ---- any list of up to 1,000: each total is that of the readings themselves; of longer ones, that of the first 1,000
+-- ---- any list of up to 1,000: its report is that of the readings themselves; of longer ones, that of the first 1,000
 pub record Alike (os : List Outcome) (p : Report) : Type 0 where
-  seen-is : p .seen ≡ length os
-  frames-are : (code : ℕ) → code ≡ 55 → getD (p .frames) 2 0 ≡ framesAt code os
-  octets-are : (code : ℕ) → code ≡ 110 → getD (p .octets) 3 0 ≡ octetsAt code os
-  twelve : getD (p .refused) 12 0 ≡ refusedWith 12 os
-  no-0 : getD (p .refused) 0 0 ≡ 0
-  no-2 : getD (p .refused) 2 0 ≡ 0
-  no-17 : getD (p .refused) 17 0 ≡ 0
-  no-7 : getD (p .refused) 7 0 ≡ 0
-  eighteen : length (p .refused) ≡ 18
+  report-is : p ≡ reportOf os
   all-counted : sumOf (p .frames) + sumOf (p .refused) ≡ length os
-  airtime-is : p .airtime ≡ airtimeOf os
-  lead-is : LeadTold os (p .some) (p .lead) (p .recording)
+  no-0 : getD (p .refused) 0 0 ≡ 0
+  no-2-to-7 : (number : ℕ) → 2 ≤ number → number ≤ 7 → getD (p .refused) number 0 ≡ 0
+  no-17-up : (number : ℕ) → 17 ≤ number → getD (p .refused) number 0 ≡ 0
 
 alike : (os : List Outcome) (p : Report) → TotalsOf os p → Alike os p
 alike os p t = record {
-  seen-is = t .seen-is;
-  frames-are = λ code e. rw (t .frames-are, e);
-  octets-are = λ code e. rw (t .octets-are, e);
-  twelve = t .refused-are 12 (lit≤ tt);
-  no-0 = t .never 0 (λ e. omega arith) (λ h. omega arith);
-  no-2 = t .never 2 (λ e. omega arith) (λ h. omega arith);
-  no-17 = t .never 17 (λ e. omega arith) (λ h. lit≤ tt);
-  no-7 = t .never 7 (λ e. omega arith) (λ h. omega arith);
-  eighteen = t .numbers;
+  report-is = totals-only os p t;
   all-counted = t .together ∙ t .seen-is;
-  airtime-is = t .airtime-is;
-  lead-is = t .lead-is;
+  no-0 = t .never 0 (λ e. omega arith) (λ h. omega arith);
+  no-2-to-7 = λ number low high. t .never number (λ e. omega arith) (λ h. omega arith);
+  no-17-up = λ number low. t .never number (λ e. omega arith) (λ h. low);
 }
 
 pub month-counted : (rs : List Recording) (os : List Outcome) (p : Report) → Readings rs os → Kept rs p
     → Alike (take 1000 os) p
 month-counted rs os p r k = alike (take 1000 os) p (kept-report .report-kept rs os p r k)
-
--- the lead told is a frame's, none has a smaller one, and none before it has the same; a lead of 0 is told
-pub lead-first : (os : List Outcome) (p : Report) → TotalsOf os p → (j lead : ℕ) → FrameAt os j lead
-    → (p .some ≡ 1) × (p .lead ≤ lead) × (p .lead ≡ lead → p .recording ≤ j) × FrameAt os (p .recording) (p .lead)
-lead-first os p t j lead f = by (p .some) (p .lead) (p .recording) (t .lead-is)
-  where
-    by : (there told recording : ℕ) → LeadTold os there told recording
-        → (there ≡ 1) × (told ≤ lead) × (told ≡ lead → recording ≤ j) × FrameAt os recording told
-    by _ _ _ (no-frame none) = absurd (none j lead f)
-    by _ told recording (smallest _ _ g low first) =
-        (refl, low j lead f, (λ e. not-before (decLt j recording) e), g)
-      where
-        not-before : Dec (j < recording) → told ≡ lead → recording ≤ j
-        not-before (yes h) e = absurd (omega (arith, first j lead f h))
-        not-before (no n) e = omega arith
-
-pub no-lead : (os : List Outcome) (p : Report) → TotalsOf os p → p .some ≡ 0
-    → (p .lead ≡ 0) × (p .recording ≡ 0) × ((j lead : ℕ) → FrameAt os j lead → ⊥)
-no-lead os p t e = by (p .some) (p .lead) (p .recording) e (t .lead-is)
-  where
-    by : (there told recording : ℕ) → there ≡ 0 → LeadTold os there told recording
-        → (told ≡ 0) × (recording ≡ 0) × ((j lead : ℕ) → FrameAt os j lead → ⊥)
-    by _ _ _ e (no-frame none) = (refl, refl, none)
-    by _ told recording e (smallest _ _ g low first) = absurd (omega (arith, e))
 
 -- ---- whatever was handed in before, up to the 1,000th each is answered with 0, and from the next on with 31
 pub one-answered : (rs : List Recording) (r : Recording) (c : Counted)
@@ -277,34 +276,44 @@ one-answered rs r c a =
     let answers = kept-report .kept-answers rs (keeps rs .report) (r .kind) (r .chips) c (keeps rs .is-kept) a in
     ((λ h. answers .0 (omega arith)), λ h. answers .1 (omega arith))
 
--- ---- a report with impossible numbers comes back as it stood, and all zeros takes a first one
-pub impossible : (p : Report) (kind : ℕ) (chips : List ℕ) (c : Counted) → Adds p kind chips c
-    → (1000 < getD (p .frames) 3 0 → c ≡ record { number = 31; report = p })
-    × (4095000 < getD (p .octets) 0 0 → c ≡ record { number = 31; report = p })
-    × (1000 < getD (p .refused) 17 0 → c ≡ record { number = 31; report = p })
-    × (32952000 < p .airtime → c ≡ record { number = 31; report = p })
-    × (1000 ≤ p .seen → c ≡ record { number = 31; report = p })
-impossible p kind chips c a =
-    let other = kept-report .any-report p kind chips c a .1 in (
-      (λ h. other (λ w. omega (arith, w .frames-within 3))),
-      (λ h. other (λ w. omega (arith, w .octets-within 0))),
-      (λ h. other (λ w. omega (arith, w .refused-within 17))),
-      (λ h. other (λ w. omega (arith, w .airtime-within))),
-      λ h. other (λ w. omega (arith, w .seen-below)),
-    )
+-- ---- a report with impossible numbers comes back as it stood; up to the limits, with one more and nothing else
 
-pub at-limits : (p : Report) (kind : ℕ) (chips : List ℕ) (c : Counted) → Adds p kind chips c → p .seen ≡ 999
-    → ((j : ℕ) → getD (p .frames) j 0 ≤ 1000) → ((j : ℕ) → getD (p .octets) j 0 ≤ 4095000)
-    → ((j : ℕ) → getD (p .refused) j 0 ≤ 1000) → p .airtime ≡ 32952000 → (c .number ≡ 0) × (c .report .seen ≡ 1000)
-at-limits p kind chips c a e f o r t =
-    let taken = kept-report .any-report p kind chips c a .0 (record {
-      seen-below = omega arith;
-      frames-within = f;
-      octets-within = o;
-      refused-within = r;
-      airtime-within = omega arith;
-    }) in
-    (taken .0, taken .1 ∙ ap (λ (n : ℕ). n + 1) e)
+module _ (p : Report) (kind : ℕ) (chips : List ℕ) (c : Counted) (adds : Adds p kind chips c)
+    (four : length (p .frames) ≡ 4) (four-too : length (p .octets) ≡ 4) (eighteen : length (p .refused) ≡ 18) where
+  abbrev handed : Recording
+  handed = record { kind = kind; chips = chips }
+
+  its-rows : FullRows p
+  its-rows = record { frames-four = four; octets-four = four-too; refused-eighteen = eighteen }
+
+  pub impossible : ((j : ℕ) → 1000 < getD (p .frames) j 0 → c ≡ record { number = 31; report = p })
+      × ((j : ℕ) → 4095000 < getD (p .octets) j 0 → c ≡ record { number = 31; report = p })
+      × ((j : ℕ) → 1000 < getD (p .refused) j 0 → c ≡ record { number = 31; report = p })
+      × (32952000 < p .airtime → c ≡ record { number = 31; report = p })
+      × (1000 ≤ p .seen → c ≡ record { number = 31; report = p })
+  impossible =
+      let other = kept-report .any-report p kind chips _ _ c its-rows (reading handed) adds .1 in (
+        (λ j h. other (λ w. omega (arith, w .frames-within j))),
+        (λ j h. other (λ w. omega (arith, w .octets-within j))),
+        (λ j h. other (λ w. omega (arith, w .refused-within j))),
+        (λ h. other (λ w. omega (arith, w .airtime-within))),
+        λ h. other (λ w. omega (arith, w .seen-below)),
+      )
+
+  pub up-to-limits : p .seen ≤ 999 → ((j : ℕ) → getD (p .frames) j 0 ≤ 1000)
+      → ((j : ℕ) → getD (p .octets) j 0 ≤ 4095000) → ((j : ℕ) → getD (p .refused) j 0 ≤ 1000) → p .airtime ≤ 32952000
+      → c ≡ record { number = 0; report = added p (outcomeOf handed) }
+  up-to-limits e f o r t =
+      let within = kept-report .any-report p kind chips _ _ c its-rows (reading handed) adds .0 (record {
+        seen-below = omega arith;
+        frames-within = f;
+        octets-within = o;
+        refused-within = r;
+        airtime-within = omega arith;
+      }) in
+      let as-defined = added-any p (outcomeOf handed) (fair handed) its-rows in
+      let grown = more-only p (outcomeOf handed) _ _ (within .1) as-defined in
+      λ i. record { number = within .0 i; report = grown i }
 
 -- ---- a whole list
 pub list-counted : (kinds : List ℕ) (list : List (List ℕ)) (c : Counted) → Lists kinds list c

@@ -1,20 +1,31 @@
 -- What is promised of the month's report beyond each contract (RULES 6.19, 6.20): that a report kept between calls has
--- the totals of the list of readings, each by its own definition; which numbers are answered; that a whole list gives
--- the same; and the text. Statements speak of answers that the contracts allow (Calls.antt) and of the hard reader's
--- own answers on the recordings (`Readings`), so they are about the programs.
+-- the totals of the list of readings, in plain numbers; which numbers are answered; what one recording more makes of
+-- any report; that a whole list gives the same; and the text. Statements speak of answers that the contracts allow
+-- (Calls.antt) and of the hard reader's own answers on the recordings (`Readings`), so they are about the programs.
 -- Definitions only. Assumes nothing.
 use Prim.Native.Nat.{ℕ, _+_, _-_, _≤_, _<_}
 use mathlib.Core.Path.{_≡_}
 use mathlib.Core.List.{List, [], _∷_}
 use lib.ListN.{length, getD, take, drop, replicate}
+use Rattle.rules_calls.specs.declared.Record.{Record}
 use Rattle.rules_report.specs.declared.Report.{Report}
 use Rattle.rules_report.specs.declared.Counted.{Counted}
 use Rattle.rules_report.specs.declared.Spelled.{Spelled}
-use Rattle.rules_report.specs.Totals.{Recording, Outcome, framesAt, octetsAt, refusedWith, airtimeOf}
+use Rattle.rules_report.specs.Totals.{Recording, Outcome}
 use Rattle.rules_report.specs.Report.{empty, Limits, recordings}
+use Rattle.rules_report.specs.Shares.{
+  rates,
+  FullRows,
+  FrameShare,
+  OctetShare,
+  RefusalShare,
+  AirtimeShare,
+  SumOf,
+  OneMore,
+}
 use Rattle.rules_report.specs.Text.{textOf}
 use Rattle.rules_report.specs.Said.{TextSaid, Fits}
-use Rattle.promises.specs.Calls.{refused}
+use Rattle.promises.specs.Calls.{refused, ReadHard}
 use Rattle.promises_report.specs.Calls.{Adds, Lists, Spells, Kept, Readings}
 
 -- ---- the smallest lead
@@ -41,23 +52,23 @@ sumOf (x ∷ xs) = x + sumOf xs
 
 pub record TotalsOf (os : List Outcome) (p : Report) : Type 0 where
   pub seen-is : p .seen ≡ length os
-  pub frames-are : p .frames ≡ framesAt 10 os ∷ framesAt 20 os ∷ framesAt 55 os ∷ framesAt 110 os ∷ []
-  pub octets-are : p .octets ≡ octetsAt 10 os ∷ octetsAt 20 os ∷ octetsAt 55 os ∷ octetsAt 110 os ∷ []
-  pub numbers : length (p .refused) ≡ 18
-  pub refused-are : (number : ℕ) → number < 18 → getD (p .refused) number 0 ≡ refusedWith number os
-  pub airtime-is : p .airtime ≡ airtimeOf os
+  pub rows-are : FullRows p
+  pub frames-are : (j : ℕ) → j < 4 → SumOf (FrameShare (getD rates j 0)) os (getD (p .frames) j 0)
+  pub octets-are : (j : ℕ) → j < 4 → SumOf (OctetShare (getD rates j 0)) os (getD (p .octets) j 0)
+  pub refused-are : (number : ℕ) → number < 18 → SumOf (RefusalShare number) os (getD (p .refused) number 0)
+  pub airtime-is : SumOf AirtimeShare os (p .airtime)
   pub lead-is : LeadTold os (p .some) (p .lead) (p .recording)
   -- frames and refusals together are the recordings counted; only 1 and 8 to 16 are met
   pub together : sumOf (p .frames) + sumOf (p .refused) ≡ p .seen
   pub never : (number : ℕ) → (number ≡ 1 → ⊥) → (8 ≤ number → 16 < number) → getD (p .refused) number 0 ≡ 0
 
 -- promise: A report kept between calls, each with it as the last one left it, has the totals of the first 1,000
--- readings, each by its own definition over the hard reader's own answers: seen, frames and octets of each rate,
+-- readings, in plain numbers over the hard reader's own answers: seen, frames and octets of each rate,
 -- refusals of each number, airtime, the smallest lead and the first recording that has it, none where no frame was
 -- accepted; frames and refusals together are those seen; only 1 and 8 to 16 are met
 -- rule: 6.19, 9.3
 -- code: dsss_report_add, dsss_read_hard_3
--- with: Kept, Readings, TotalsOf, LeadTold
+-- with: Kept, Readings, TotalsOf, LeadTold, SumOf
 abbrev pub ReportKept : Type 0
 ReportKept =
     (rs : List Recording) (os : List Outcome) (p : Report) → Readings rs os → Kept rs p → TotalsOf (take 1000 os) p
@@ -70,14 +81,16 @@ KeptAnswers =
     (rs : List Recording) (p : Report) (kind : ℕ) (chips : List ℕ) (c : Counted) → Kept rs p → Adds p kind chips c
     → (length rs < 1000 → c .number ≡ 0) × (1000 ≤ length rs → c ≡ record { number = 31; report = p })
 
--- promise: Any report whatever: within the limits, in plain numbers, 0 and one more seen; else 31, and it stays as it
--- stood
+-- promise: Any report whatever: within the limits, in plain numbers, 0, and it grows by what the reader's answer counts
+-- for; else 31, and it stays as it stood
 -- rule: 6.19
--- code: dsss_report_add
+-- code: dsss_report_add, dsss_read_hard_3
+-- with: OneMore
 abbrev pub AnyReport : Type 0
 AnyReport =
-    (p : Report) (kind : ℕ) (chips : List ℕ) (c : Counted) → Adds p kind chips c
-    → (Limits p → (c .number ≡ 0) × (c .report .seen ≡ p .seen + 1))
+    (p : Report) (kind : ℕ) (chips : List ℕ) (a : Record) (left : List ℕ) (c : Counted) → FullRows p
+    → ReadHard kind chips 4095 a left → Adds p kind chips c
+    → (Limits p → (c .number ≡ 0) × OneMore p (record { kind = kind; answer = a }) (c .report))
     × ((Limits p → ⊥) → c ≡ record { number = 31; report = p })
 
 -- promise: A whole list gives what calls one after the other give, 0 up to 1,000 recordings and 31 above; 7 and all

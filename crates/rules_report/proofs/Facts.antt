@@ -2,12 +2,10 @@
 -- and lead of a frame, or number and LENGTH of a refusal.
 -- Assumes nothing.
 use mathlib.Core.Path.{_≡_, refl}
-use mathlib.Core.Bool.{Bool, true, false, cond, _||_}
+use mathlib.Core.Bool.{true, false}
 use mathlib.Core.List.{List, [], _∷_, _++_, map}
 use mathlib.Core.Option.{some}
-use Prim.Native.Nat.{ℕ, zero, suc, _*_, _≤_, _<_}
-use borrow.Author.Tests.{lt-ltb, le-ltb, ne-eqb}
-use lib.Dec.{eqb, ltb}
+use Prim.Native.Nat.{ℕ, zero, suc, _*_}
 use lib.ListN.{length, replicate, set}
 use Rattle.base.specs.Tables.{tabulate}
 use Rattle.rules_chips.specs.Chips.{hardRecording}
@@ -24,8 +22,6 @@ use Rattle.rules_report.specs.Report.{
   countedOf,
   recordings,
   listOf,
-  withFrame,
-  withRefusal,
 }
 use Rattle.rules_report.specs.declared.Report.{Report}
 use Rattle.rules_report.specs.declared.Counted.{Counted}
@@ -171,34 +167,6 @@ pub refusals-more : added (odd 1 7) (refusal 0 1 0) ∷ added (odd 0 7) (refusal
     ∷ report 4 (100 ∷ 200 ∷ 300 ∷ 400 ∷ []) (1 ∷ 2 ∷ 3 ∷ 4 ∷ []) (set (tabulate (λ k. k) 18) 16 17) 50 256 7 9 ∷ []
 unfolding tabulate more added
 refusals-more = refl
-
--- and of any numbers: what a refusal leaves, and when a frame's lead is taken
-pub refusal-leaves : (p : Report) (o : Outcome)
-    → (withRefusal p o .frames ≡ p .frames) × (withRefusal p o .octets ≡ p .octets)
-    × (withRefusal p o .airtime ≡ p .airtime) × (withRefusal p o .some ≡ p .some) × (withRefusal p o .lead ≡ p .lead)
-    × (withRefusal p o .recording ≡ p .recording)
-refusal-leaves p o = (refl, refl, refl, refl, refl, refl)
-
-pub lead-kept : (p : Report) (o : Outcome) → (p .some ≡ 0 → ⊥) → p .lead ≤ o .answer .lead
-    → (withFrame p o .some ≡ p .some) × (withFrame p o .lead ≡ p .lead) × (withFrame p o .recording ≡ p .recording)
-lead-kept p o n h = (simp (there, not-less), simp (there, not-less), simp (there, not-less))
-  where
-    there : eqb (p .some) 0 ≡ false
-    there = ne-eqb (p .some) 0 n
-
-    not-less : ltb (o .answer .lead) (p .lead) ≡ false
-    not-less = le-ltb (o .answer .lead) (p .lead) h
-
-pub lead-taken : (p : Report) (o : Outcome) → o .answer .lead < p .lead
-    → (withFrame p o .some ≡ 1) × (withFrame p o .lead ≡ o .answer .lead) × (withFrame p o .recording ≡ p .seen)
-lead-taken p o h = by (eqb (p .some) 0) (lt-ltb (o .answer .lead) (p .lead) h)
-  where
-    by : (t : Bool) → ltb (o .answer .lead) (p .lead) ≡ true
-        → (cond (t || ltb (o .answer .lead) (p .lead)) 1 (p .some) ≡ 1)
-        × (cond (t || ltb (o .answer .lead) (p .lead)) (o .answer .lead) (p .lead) ≡ o .answer .lead)
-        × (cond (t || ltb (o .answer .lead) (p .lead)) (p .seen) (p .recording) ≡ p .seen)
-    by true e = (refl, refl, refl)
-    by false e = (rw e, rw e, rw e)
 
 -- ---- 31: each number at its limit and one above, at the first and the last entry of its row
 abbrev full : ℕ → ℕ → ℕ → ℕ → ℕ → ℕ → ℕ → ℕ → Report

@@ -2,8 +2,10 @@ pub mod Outcomes
 pub mod Facts
 pub mod Laws
 pub mod Added
+pub mod Shares
 pub mod Taking
 pub mod Lists
 pub mod Spelling
 pub mod TextFacts
 pub mod Said
+pub mod SaidOnly

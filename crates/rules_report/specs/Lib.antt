@@ -1,4 +1,5 @@
 pub mod Totals
 pub mod Report
+pub mod Shares
 pub mod Text
 pub mod Said

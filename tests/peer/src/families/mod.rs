@@ -240,11 +240,11 @@ families! {
     1304 finding::find_noise: "recordings without a frame or with one behind much else, up to 4,096 offsets",
     // for: StartFound, NoneFound, start-comes, finding-comes
     1305 finding::find_all: "every number of offsets from 1 on, and the front from each offset, one by one",
-    // for: ReportKept, KeptAnswers, Adds.answer, added-more, sent-counted, closest-more, fair
+    // for: ReportKept, KeptAnswers, Adds.answer, added-more, sent-counted, closest-more, fair, frames-sum
     1401 report::report_kept: "reports kept one recording after the other, beside those of the list so far",
     // for: ListAlike, Lists.answer, takesMore, RowsDiffer
     1402 report::report_lists: "whole lists of none to 16,384, of each sort, and with a kind too many or too few",
-    // for: AnyReport, takesMore, Adds.answer, takes-more, counted-next, counted-full
+    // for: AnyReport, takesMore, Adds.answer, added-any, takes-more, counted-next, counted-full
     1403 report_edges::report_edges: "one recording more than any report has, at the limits of each number",
     // for: Spells.answer, Spells.octets, TextFills, TextSays, decimal-value, OctetRoom
     1404 report_edges::report_text: "texts of any report, with rooms about the text's octets",
