@@ -3,9 +3,10 @@
 
     scripts/carry.py docs/DECISIONS.md FOLDER
 
-FOLDER holds crates/ and may hold crates.txt and patches. The table "What became what" of the first file says which
-crate was renamed, which became a module of another, and which file of laws moved. Files are moved and rewritten in
-place, so work on a copy; `rt fmt` puts the layout right afterwards.
+FOLDER holds crates/, a folder a crate, and may hold crates.txt and patches of the tree. The table "What became what" of
+the first file says which crate was renamed, which became a module of another, and which file moved. Files are moved and
+rewritten in place, so work on a copy; `rt fmt` puts the layout right afterwards. Names are all that is rewritten: a
+patch may still not apply, and a proof may still want work.
 """
 import os
 import re
@@ -13,9 +14,16 @@ import shutil
 import sys
 
 ROW = re.compile(r'^\| `([^`]+)` \| `([^`]+)` \| (renamed|joined|moved) \|', re.M)
-CITED = re.compile(r'Rattle·([a-z_0-9]+)(?:·specs|·proofs)?\.(specs|proofs)\.([\w·]+)')
+CITED = re.compile(r'Rattle·([a-z_0-9]+)(·specs|·proofs)?\.(specs|proofs)\.([\w·]+)')
+STACKED = re.compile(r'^([ +-]?)([a-z_]+):((?: [a-z_]+)*)$', re.M)
 TAGGED = re.compile(r'^(\s*(?:--|//|#)? ?(?:with|for): )(.*)$', re.M)
-TEXTS = ('.antt', '.rt', '.edit', '.md', '.patch')
+TEXTS = ('.antt', '.rt', '.edit', '.md', '.patch', '.diff')
+
+
+def placed(path):
+    """Crate, part and name of a file in the table, which names the part unless it is proofs."""
+    crate, *part, name = path.split('/')
+    return crate, part[0] if part else 'proofs', name
 
 
 class Names:
@@ -24,7 +32,7 @@ class Names:
     def __init__(self, rows):
         self.crates = {a: b for a, b, how in rows if how == 'renamed'}
         self.joined = {a: b.split('::') for a, b, how in rows if how == 'joined'}
-        self.laws = {tuple(a.split('/')): tuple(b.split('/')) for a, b, how in rows if how == 'moved'}
+        self.files = {placed(a): placed(b) for a, b, how in rows if how == 'moved'}
         every = '|'.join(sorted({*self.crates, *self.joined}, key=len, reverse=True))
         self.path = re.compile(r'\bcrates/(%s)(?=[/`\s.,:)\'"]|$)' % every, re.M)
         self.call = re.compile(r'(?<![\w:])(%s)::' % every)
@@ -34,16 +42,17 @@ class Names:
         return self.crates.get(name, name)
 
     def cited(self, own, match):
-        """A citation of a module, in a file of the crate `own`: a crate cites its own modules by another path."""
-        crate, part, first = match[1], match[2], match[3]
-        if part == 'proofs' and (crate, first) in self.laws:
-            crate, first = self.laws[crate, first]
+        """A citation of a module, in a file of the crate `own`, if that is known: a crate cites its own modules by
+        another path."""
+        crate, inner, part, first = match.groups()
+        if (crate, part, first) in self.files:
+            crate, part, first = self.files[crate, part, first]
         elif crate in self.joined and part == 'proofs' and first[0].islower():
             first = f'{self.joined[crate][1]}.{first}'
         elif crate in self.joined and first == 'declared':
             first = f'declared.{self.joined[crate][1]}'
         crate = self.crate(crate)
-        return f'Rattle.{crate}{f"·{part}" if crate == own else ""}.{part}.{first}'
+        return f'Rattle.{crate}{f"·{part}" if (crate == own if own else inner) else ""}.{part}.{first}'
 
     def called(self, own, match):
         """The path before a function's name: a crate, or a module of the crate `own`."""
@@ -52,14 +61,34 @@ class Names:
             return self.crate(name) + '::'
         return match[0] if self.crate(name) == own else f'{self.crate(name)}::{self.joined[name][1]}::'
 
-    def rewritten(self, rel, text):
-        own = rel.split(os.sep)[1] if rel.startswith('crates' + os.sep) else ''
+    def stacked(self, match):
+        """A line of crates.txt, in a patch."""
+        needs = dict.fromkeys(self.crate(name) for name in match[3].split())
+        return f'{match[1]}{self.crate(match[2])}: {" ".join(needs)}'.rstrip()
+
+    def of_crate(self, own, text):
+        """The text of a file of the crate `own`, or of one that is of no crate."""
         text = CITED.sub(lambda m: self.cited(own, m), text)
         text = self.call.sub(lambda m: self.called(own, m), text)
         text = self.path.sub(lambda m: 'crates/' + self.crate(m[1]), text)
         text = TAGGED.sub(lambda m: m[1] + re.sub(r'\b(\w+)/', lambda c: self.crate(c[1]) + '/', m[2]), text)
-        for (a, m), (b, n) in self.laws.items():
-            text = text.replace(f'crates/{self.crate(a)}/proofs/{m}.antt', f'crates/{self.crate(b)}/proofs/{n}.antt')
+        for (a, part, m), (b, to, n) in self.files.items():
+            text = text.replace(f'crates/{self.crate(a)}/{part}/{m}.antt', f'crates/{self.crate(b)}/{to}/{n}.antt')
+        return text
+
+    def patched(self, text):
+        """A patch, file by file, each by its own crate."""
+        parts = []
+        for part in re.split(r'^(?=diff --git )', text, flags=re.M):
+            of = re.match(r'diff --git a/(?:crates/(\w+)/|(crates\.txt))', part)
+            part = STACKED.sub(self.stacked, part) if of and of[2] else part
+            parts.append(self.of_crate(self.crate(of[1]) if of and of[1] else '', part))
+        return ''.join(parts)
+
+    def rewritten(self, rel, text):
+        if rel.endswith(('.patch', '.diff')):
+            return self.patched(text)
+        text = self.of_crate(rel.split(os.sep)[1] if rel.startswith('crates' + os.sep) else '', text)
         head = re.fullmatch(r'crates/(\w+)/proofs/(.+)/Proof\.antt', rel)
         if head:
             text = re.sub(r'^-- `[\w:]+` ', '-- `%s` ' % '::'.join([head[1]] + head[2].split('/')), text)
@@ -93,9 +122,9 @@ def list_module(path, line, there=True):
         os.remove(path)
 
 
-def move_laws(folder, names):
-    for (a, m), (b, n) in names.laws.items():
-        old, new = (os.path.join(folder, 'crates', c, 'proofs') for c in (a, b))
+def move_files(folder, names):
+    for (a, part, m), (b, to, n) in names.files.items():
+        old, new = os.path.join(folder, 'crates', a, part), os.path.join(folder, 'crates', b, to)
         if os.path.exists(os.path.join(old, m + '.antt')):
             write(os.path.join(new, n + '.antt'), read(os.path.join(old, m + '.antt')))
             os.remove(os.path.join(old, m + '.antt'))
@@ -152,8 +181,10 @@ def main():
     if len(sys.argv) != 3:
         sys.exit(__doc__)
     table, folder = sys.argv[1:]
+    if not os.path.isdir(os.path.join(folder, 'crates')):
+        sys.exit(f'carry.py: {folder} has no folder crates')
     names = Names(ROW.findall(read(table)))
-    move_laws(folder, names)
+    move_files(folder, names)
     join_crates(folder, names)
     for a, b in names.crates.items():
         if os.path.isdir(os.path.join(folder, 'crates', a)):
