@@ -11,7 +11,7 @@ use Rattle.promises.proofs.Never.{rows-refused, no-byte-unusable}
 use Rattle.promises.proofs.Back.{written-frame, read-back, not-read-back}
 use Rattle.promises.proofs.Source.{one-source}
 use Rattle.promises.proofs.Refusing.{write-answers}
-use Rattle.promises.proofs.Reasons.{read-answers}
+use Rattle.promises.proofs.Exactly.{read-answers}
 use Rattle.promises.proofs.Decoded.{octets-decoded}
 use Rattle.promises.proofs.Coming.{
   front-refused,

@@ -5,6 +5,7 @@ pub mod Back
 pub mod Source
 pub mod Refusing
 pub mod Reasons
+pub mod Exactly
 pub mod Decoded
 pub mod Coming
 pub mod SentTold
@@ -24,4 +25,3 @@ pub mod UsesLeads
 pub mod UsesComing
 pub mod UsesFinding
 pub mod UsesReasons
-pub mod UsesOrder
