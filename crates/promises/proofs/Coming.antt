@@ -77,7 +77,7 @@ use Rattle.promises.specs.Coming.{
 use Rattle.promises.proofs.Fills.{some-number}
 use Rattle.promises.proofs.Only.{goes, length-told}
 
--- a kind's front, in the definition's words
+-- a kind's front, in the definition's words; it has one
 pub front-of : {kind front : ℕ} → FrontOf kind front → (isKind kind ≡ true) × (frontChips (kindOf kind) ≡ front)
 front-of (front-at long-1) = (refl, refl)
 front-of (front-at long-2) = (refl, refl)
@@ -86,6 +86,9 @@ front-of (front-at long-11) = (refl, refl)
 front-of (front-at short-2) = (refl, refl)
 front-of (front-at short-5) = (refl, refl)
 front-of (front-at short-11) = (refl, refl)
+
+pub one-front : {kind front front′ : ℕ} → FrontOf kind front → FrontOf kind front′ → front ≡ front′
+one-front x y = sym (front-of x .1) ∙ front-of y .1
 
 pub long-front : FrontOf 0 2112
 long-front = front-at long-1

@@ -1,4 +1,4 @@
--- A good read has its frame whole, and no unusable chip in it, as its answer says (`read-answers`). So each symbol's
+-- A good read has its frame whole, and no unusable chip in it, as its answer says (`read-says`). So each symbol's
 -- chips are good ones, in the words of demand 3, of hard chips, soft samples and bytes. Assumes nothing.
 use mathlib.Core.Path.{_≡_, sym, ap, ap₂, _∙_, subst}
 use mathlib.Core.Bool.{Bool, true, false, not}
@@ -46,7 +46,7 @@ use Rattle.promises.specs.Reasons.{
 use Rattle.promises.specs.Leads.{SymbolOf, of-preamble, of-header, of-payload}
 use Rattle.promises.proofs.Right.{soft-used}
 use Rattle.promises.proofs.Back.{known}
-use Rattle.promises.proofs.Reasons.{read-answers}
+use Rattle.promises.proofs.Reasons.{read-says}
 
 -- ---- a good read: the recording has the frame's chips, and they are usable
 abbrev Whole : ℕ → List Taken → Type 0
@@ -55,7 +55,7 @@ Whole all rec = (all ≤ length rec) × ((place : ℕ) → place < all → Usabl
 good-whole : (kind : ℕ) (agree : Bool) (rec : List Taken) (room : ℕ) (a : Record) (left : List ℕ)
     → Read kind agree rec room a left → a .number ≡ 0
     → Whole (frameChips (kindOf kind) (rateOf (a .rate)) (a .n)) rec
-good-whole kind agree rec room a left read zero-is = by (read-answers kind agree rec room a left read) zero-is
+good-whole kind agree rec room a left read zero-is = by (read-says kind agree rec room a left read) zero-is
   where
     size : {rate front octet : ℕ} → Goes kind rate front octet → (n : ℕ)
         → front + octet * n ≡ frameChips (kindOf kind) (rateOf rate) n

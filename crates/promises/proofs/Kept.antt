@@ -12,7 +12,7 @@ use Rattle.promises.proofs.Back.{written-frame, read-back, not-read-bac
 use Rattle.promises.proofs.Sync.{sent-words, sync-sent}
 use Rattle.promises.proofs.Source.{one-source, phase-turns}
 use Rattle.promises.proofs.Refusing.{write-answers}
-use Rattle.promises.proofs.Reasons.{read-answers}
+use Rattle.promises.proofs.Exactly.{read-answers}
 use Rattle.promises.proofs.Decoded.{octets-decoded}
 use Rattle.promises.proofs.Coming.{
   front-refused,

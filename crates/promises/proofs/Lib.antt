@@ -6,6 +6,7 @@ pub mod Sync
 pub mod Source
 pub mod Refusing
 pub mod Reasons
+pub mod Exactly
 pub mod Decoded
 pub mod Coming
 pub mod SentTold
@@ -25,4 +26,3 @@ pub mod UsesLeads
 pub mod UsesComing
 pub mod UsesFinding
 pub mod UsesReasons
-pub mod UsesOrder

@@ -81,7 +81,7 @@ use Rattle.rules_reading.proofs.Fields.{
   crc-is-wrong,
 }
 use Rattle.rules_reading.proofs.Comes.{ReadingComes, kind-none, rows-apart, by-front, by-payload, reading-comes}
-use Rattle.promises.specs.Calls.{Goes, long-1, short-2}
+use Rattle.promises.specs.Calls.{Read, Goes, long-1, short-2}
 use Rattle.promises.specs.Coming.{FrontOf, front-at}
 use Rattle.promises.specs.Reasons.{
   BitsOf,
@@ -113,7 +113,6 @@ use Rattle.promises.specs.Reasons.{
   payload-9,
   payload-10,
   is-0,
-  ReadAnswers,
 }
 use Rattle.promises.proofs.Only.{goes, code-back}
 use Rattle.promises.proofs.Back.{known}
@@ -374,7 +373,8 @@ answer-says kind agree rec room (rows-apart b d) = is-7 (ltb-true kind 2 b) d
 answer-says kind agree rec room (by-front b d w) = whole-says kind agree rec room b d w
 answer-says kind agree rec room (by-payload b d t h there) = payload-says kind agree rec room b d t h there
 
-pub read-answers : ReadAnswers
-read-answers kind agree rec room a left f =
+pub read-says : (kind : ℕ) (agree : Bool) (rec : List Taken) (room : ℕ) (a : Record) (left : List ℕ)
+    → Read kind agree rec room a left → ReadAnswer kind agree rec room a
+read-says kind agree rec room a left f =
     subst (ReadAnswer kind agree rec room) (sym (f .answer))
     (answer-says kind agree rec room (reading-comes kind agree rec room))

@@ -54,7 +54,7 @@ use Rattle.promises.specs.Finding.{
   WhenFound,
   WhenNone,
 }
-use Rattle.promises.proofs.Coming.{front-of}
+use Rattle.promises.proofs.Coming.{one-front}
 use Rattle.promises.proofs.Kept.{kept}
 use Rattle.promises.proofs.UsesComing.{front-answered}
 
@@ -69,12 +69,9 @@ pub hard-answered : (kind : ℕ) (chips : List ℕ) (room : ℕ)
     (octetsFound kind true (hardRecording chips) room)
 hard-answered kind chips room = record { answer = refl; octets = refl }
 
--- ---- a kind has one front, and with a rate one octet
-pub front-of-kind : {kind rate front octet : ℕ} → Goes kind rate front octet → FrontOf kind front
+-- ---- a kind has a front, and with a rate one octet
+front-of-kind : {kind rate front octet : ℕ} → Goes kind rate front octet → FrontOf kind front
 front-of-kind g = front-at g
-
-pub one-front : {kind front front′ : ℕ} → FrontOf kind front → FrontOf kind front′ → front ≡ front′
-one-front x y = sym (front-of x .1) ∙ front-of y .1
 
 pub one-octet : {kind rate front octet front′ octet′ : ℕ} → Goes kind rate front octet → Goes kind rate front′ octet′
     → octet ≡ octet′

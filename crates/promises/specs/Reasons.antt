@@ -123,15 +123,32 @@ pub data ReadAnswer (kind : ℕ) (agree : Bool) (rec : List Taken) (room : ℕ) 
       → (rate ≡ 10 → (s : ℕ) → 11 * suc s < front + octet * n → oddBehind rec s ≡ 0)
       → ReadAnswer kind agree rec room (good rate l n (front + octet * n) (service / 4 % 2) lead symbol)
 
--- promise: A read answers by the numbers, in their order, each for its reason: 9 and 10 with the first such
--- place, LENGTH as the header has it from 13 on and 0 before; else what the header says
+-- two answers that are one, but for the lead and its symbol
+abbrev pub SameButLead : Record → Record → Type 0
+SameButLead a b =
+    b
+    ≡ record {
+      number = a .number;
+      place = a .place;
+      rate = a .rate;
+      length = a .length;
+      n = a .n;
+      used = a .used;
+      clock = a .clock;
+      lead = b .lead;
+      symbol = b .symbol;
+    }
+
+-- promise: A read answers by the numbers, in their order, each exactly when its rule says so and none before it holds:
+-- 9 and 10 with the first such place, LENGTH as the header has it from 13 on and 0 before; else what the header says
 -- rule: 1.4 (1), 4.7, 5.3 to 5.7, 6.2 to 6.8, 6.10
 -- code: dsss_read_hard_3, dsss_read_soft_3, dsss_read_bytes_3
 -- with: ReadAnswer
 abbrev pub ReadAnswers : Type 0
 ReadAnswers =
     (kind : ℕ) (agree : Bool) (rec : List Taken) (room : ℕ) (a : Record) (left : List ℕ)
-    → Read kind agree rec room a left → ReadAnswer kind agree rec room a
+    → Read kind agree rec room a left
+    → ((b : Record) → ReadAnswer kind agree rec room b → SameButLead a b) × ReadAnswer kind agree rec room a
 
 -- promise: Each octet of any good read, of spoiled frames too, is what the symbols of its frame say, bit by bit
 -- rule: 1.4 (2), 4.3, 4.6, 4.7, 5.3, 5.5, 5.7

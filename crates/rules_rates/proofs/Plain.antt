@@ -1,12 +1,13 @@
 -- The definitions of LENGTH and of bit 7 come to what is said of them in plain numbers, for every number of octets.
 --     length-is, length-only    LENGTH, and no other number is one
 --     seven-is, seven-only      bit 7 beside any LENGTH of the octets, and no other
+--     octets-once               the two together are of one number of octets
 --     holds-only                whatever passes refusal 15 is LENGTH and bit 7 of 1 to 4,095 octets
 --     holds-any                 and whatever is passes it
 -- By linear arithmetic, rate by rate. Assumes nothing.
 use mathlib.Core.Path.{_≡_, refl, sym, subst}
 use mathlib.Core.Bool.{Bool, true, false, cond, _&&_}
-use Prim.Native.Nat.{ℕ, _+_, _*_, _≤_}
+use Prim.Native.Nat.{ℕ, _+_, _*_, _≤_, _<_}
 use native.Mathlib.Omega.{arith}
 use borrow.Author.Tests.{leb-true, leb-false, eqb-true}
 use lib.Dec.{T, leb, eqb}
@@ -78,6 +79,23 @@ seven-once (seven-little n l h) (seven-little n′ l′ k) = refl
 
 pub seven-only : (r : Rate) {n b : ℕ} → SevenOf (codeOf r) n (lengthField r n) b → b ≡ bit7 r n
 seven-only r {n} h = seven-once h (seven-is r n)
+
+-- ---- the octets. At 11 Mbit/s bit 7 says on which side of 8 the eleven rests are that rounding can leave
+rounded : {n l b : ℕ} → LengthOf 110 n l → SevenOf 110 n l b
+    → (8 * n + 8 * b ≤ 11 * l) × (11 * l < 8 * n + 8 * b + 8)
+rounded (length-11 n l x y) (seven-no rate n′ l′ h) = absurd (h refl)
+rounded (length-11 n l x y) (seven-much n′ l′ h) = (omega arith, omega arith)
+rounded (length-11 n l x y) (seven-little n′ l′ h) = (omega arith, omega arith)
+
+pub octets-once : {rate n n′ l l′ b b′ : ℕ} → LengthOf rate n l → LengthOf rate n′ l′ → SevenOf rate n l b
+    → SevenOf rate n′ l′ b′ → l ≡ l′ → b ≡ b′ → n ≡ n′
+octets-once (length-1 n) (length-1 n′) s t e f = omega arith
+octets-once (length-2 n) (length-2 n′) s t e f = omega arith
+octets-once (length-5 n l x y) (length-5 n′ l′ z w) s t e f = omega arith
+octets-once (length-11 n l x y) (length-11 n′ l′ z w) s t e f =
+    let p = rounded (length-11 n l x y) s in
+    let q = rounded (length-11 n′ l′ z w) t in
+    omega (arith, p .0, p .1, q .0, q .1)
 
 -- ---- what passes refusal 15
 pub record Holds (rate l seven n : ℕ) : Type 0 where

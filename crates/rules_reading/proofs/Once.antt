@@ -1,22 +1,26 @@
 -- What the symbols of a recorded frame say is one thing only (Decoded.antt): each bit has one value, sent and
--- unscrambled, and so has each number of some bits.
+-- unscrambled, and so has each number of some bits. And there is one first place of 9 and of 10 (Places.antt).
 --     sent-once, plain-once, field-once
+--     unusable-once, odd-once
 -- Each symbol's bits stand behind those of the symbol before it. Assumes nothing.
 use mathlib.Core.Path.{_≡_, refl, sym, ap, ap₂, _∙_, subst}
+use mathlib.Core.Bool.{Bool, true, false, not}
 use mathlib.Core.List.{List}
 use Prim.Native.Nat.{ℕ, zero, suc, _+_, _-_, _*_, _%_, _≤_, _<_}
 use native.Mathlib.Nat.{mul-zero, mul-suc}
 use native.Mathlib.Decide.{decLt}
 use native.Mathlib.Omega.{arith}
+use lib.Dec.{T}
 use lib.ListN.{getD}
 use Rattle.base.proofs.Tables.{tabulate-ext}
 use Rattle.rules_rates.specs.declared.Rate.{Rate}
 use Rattle.rules_rates.specs.Rates.{symbolBits}
-use Rattle.rules_chips.specs.Chips.{Taken}
+use Rattle.rules_chips.specs.Chips.{Taken, unusable, isUnusable}
 use Rattle.rules_bits.specs.Bits.{numberOf}
 use Rattle.rules_frame.specs.declared.Kind.{Kind}
 use Rattle.rules_frame.specs.declared.Kind.the-variants.{Long, Short}
 use Rattle.rules_frame.specs.Frame.{headerRate, frontSymbols, preambleLength, headerLength}
+use Rattle.rules_reading.specs.Places.{UsableAt, UnusableFirst, FirstOddSymbol}
 use Rattle.rules_reading.specs.Decoded.{
   rateAt,
   bitAt,
@@ -131,3 +135,28 @@ module _ (k : Kind) (r : Rate) (rec : List Taken) (n : ℕ) where
       f .value-is
       ∙ ap numberOf (tabulate-ext (f .bit) (g .bit) count (λ j l. plain-once (f .each j l) (g .each j l) refl))
       ∙ sym (g .value-is)
+
+-- ---- one first place
+module _ (rec : List Taken) where
+  pub not-unusable : (place : ℕ) → T (isUnusable (getD rec place unusable)) → UsableAt rec place → ⊥
+  not-unusable place t u = by (isUnusable (getD rec place unusable)) t u
+    where
+      by : (b : Bool) → T b → T (not b) → ⊥
+      by true t u = u
+      by false t u = t
+
+  pub unusable-once : {p q : ℕ} → UnusableFirst rec p → UnusableFirst rec q → p ≡ q
+  unusable-once {p} {q} u v = by (decLt p q) (decLt q p)
+    where
+      by : Dec (p < q) → Dec (q < p) → p ≡ q
+      by (yes l) m = absurd (not-unusable p (u .is-one) (v .before p l))
+      by (no l) (yes m) = absurd (not-unusable q (v .is-one) (u .before q m))
+      by (no l) (no m) = omega (arith, l, m)
+
+  pub odd-once : {p q : ℕ} → FirstOddSymbol rec p → FirstOddSymbol rec q → p ≡ q
+  odd-once {p} {q} o w = by (decLt (o .symbol) (w .symbol)) (decLt (w .symbol) (o .symbol))
+    where
+      by : Dec (o .symbol < w .symbol) → Dec (w .symbol < o .symbol) → p ≡ q
+      by (yes l) m = absurd (omega (arith, o .is-odd, w .before (o .symbol) l))
+      by (no l) (yes m) = absurd (omega (arith, w .is-odd, o .before (w .symbol) m))
+      by (no l) (no m) = omega (arith, l, m, o .place-is, w .place-is)
