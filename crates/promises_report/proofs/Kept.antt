@@ -139,13 +139,14 @@ as-it-stood p r true e n = absurd (n (takes p e))
 as-it-stood p r false e n = rw e
 
 any-report : AnyReport
-any-report p kind chips a left c rows read adds =
-    let r : Recording = record { kind = kind; chips = chips } in
-    let same : outcomeOf r ≡ record { kind = kind; answer = a } =
-    λ i. record { kind = kind; answer = sym (read .answer) i } in (
+any-report p kind chips c adds =
+    let r : Recording = record { kind = kind; chips = chips } in (
       (λ w. let answer = adds .answer ∙ taken p r (limits-take p w) in (
         ap (λ (v : Counted). v .number) answer,
-        subst (λ (o : Outcome). OneMore p o (c .report)) same
+        λ a left rows read.
+            let same : outcomeOf r ≡ record { kind = kind; answer = a } =
+            λ i. record { kind = kind; answer = sym (read .answer) i } in
+            subst (λ (o : Outcome). OneMore p o (c .report)) same
             (subst (OneMore p (outcomeOf r)) (sym (ap (λ (v : Counted). v .report) answer))
             (added-any p (outcomeOf r) (fair r) rows)),
       )),

@@ -292,7 +292,7 @@ module _ (p : Report) (kind : ℕ) (chips : List ℕ) (c : Counted) (adds : Adds
       × (32952000 < p .airtime → c ≡ record { number = 31; report = p })
       × (1000 ≤ p .seen → c ≡ record { number = 31; report = p })
   impossible =
-      let other = kept-report .any-report p kind chips _ _ c its-rows (reading handed) adds .1 in (
+      let other = kept-report .any-report p kind chips c adds .1 in (
         (λ j h. other (λ w. omega (arith, w .frames-within j))),
         (λ j h. other (λ w. omega (arith, w .octets-within j))),
         (λ j h. other (λ w. omega (arith, w .refused-within j))),
@@ -304,7 +304,7 @@ module _ (p : Report) (kind : ℕ) (chips : List ℕ) (c : Counted) (adds : Adds
       → ((j : ℕ) → getD (p .octets) j 0 ≤ 4095000) → ((j : ℕ) → getD (p .refused) j 0 ≤ 1000) → p .airtime ≤ 32952000
       → c ≡ record { number = 0; report = added p (outcomeOf handed) }
   up-to-limits e f o r t =
-      let within = kept-report .any-report p kind chips _ _ c its-rows (reading handed) adds .0 (record {
+      let within = kept-report .any-report p kind chips c adds .0 (record {
         seen-below = omega arith;
         frames-within = f;
         octets-within = o;
@@ -312,7 +312,7 @@ module _ (p : Report) (kind : ℕ) (chips : List ℕ) (c : Counted) (adds : Adds
         airtime-within = omega arith;
       }) in
       let as-defined = added-any p (outcomeOf handed) (fair handed) its-rows in
-      let grown = more-only p (outcomeOf handed) _ _ (within .1) as-defined in
+      let grown = more-only p (outcomeOf handed) _ _ (within .1 _ _ its-rows (reading handed)) as-defined in
       λ i. record { number = within .0 i; report = grown i }
 
 -- ---- a whole list

@@ -88,9 +88,11 @@ KeptAnswers =
 -- with: OneMore
 abbrev pub AnyReport : Type 0
 AnyReport =
-    (p : Report) (kind : ℕ) (chips : List ℕ) (a : Record) (left : List ℕ) (c : Counted) → FullRows p
-    → ReadHard kind chips 4095 a left → Adds p kind chips c
-    → (Limits p → (c .number ≡ 0) × OneMore p (record { kind = kind; answer = a }) (c .report))
+    (p : Report) (kind : ℕ) (chips : List ℕ) (c : Counted) → Adds p kind chips c
+    → (Limits p
+    → (c .number ≡ 0)
+    × ((a : Record) (left : List ℕ) → FullRows p → ReadHard kind chips 4095 a left
+    → OneMore p (record { kind = kind; answer = a }) (c .report)))
     × ((Limits p → ⊥) → c ≡ record { number = 31; report = p })
 
 -- promise: A whole list gives what calls one after the other give, 0 up to 1,000 recordings and 31 above; 7 and all
