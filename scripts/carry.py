@@ -4,16 +4,16 @@
     scripts/carry.py docs/DECISIONS.md FOLDER
 
 FOLDER holds crates/, a folder a crate, and may hold crates.txt and patches of the tree. The table "What became what" of
-the first file says which crate was renamed, which became a module of another, and which file moved. Files are moved and
-rewritten in place, so work on a copy; `rt fmt` puts the layout right afterwards. Names are all that is rewritten: a
-patch may still not apply, and a proof may still want work.
+the first file says which crate was renamed, which became a module of another, which file moved, and which type or
+definition has another name. Files are moved and rewritten in place, so work on a copy; `rt fmt` puts the layout right
+afterwards. Names are all that is rewritten: a patch may still not apply, and a proof may still want work.
 """
 import os
 import re
 import shutil
 import sys
 
-ROW = re.compile(r'^\| `([^`]+)` \| `([^`]+)` \| (renamed|joined|moved) \|', re.M)
+ROW = re.compile(r'^\| `([^`]+)` \| `([^`]+)` \| (renamed|joined|moved|named) \|', re.M)
 CITED = re.compile(r'Rattle·([a-z_0-9]+)(·specs|·proofs)?\.(specs|proofs)\.([\w·]+)')
 STACKED = re.compile(r'^([ +-]?)([a-z_]+):((?: [a-z_]+)*)$', re.M)
 TAGGED = re.compile(r'^(\s*(?:--|//|#)? ?(?:with|for): )(.*)$', re.M)
@@ -26,6 +26,18 @@ def placed(path):
     return crate, part[0] if part else 'proofs', name
 
 
+def worded(a, b):
+    """How a file shows that it uses a type, CRATE::NAME, or what a file declares, CRATE/FILE.NAME; the old name and the
+    new one."""
+    old, new = re.split(r'::|\.', a)[-1], re.split(r'::|\.', b)[-1]
+    name = r'(?<![\w\-′])%s(?![\w\-′])' % re.escape(old)
+    if '::' in a:
+        crate = a.split('::')[0]
+        return re.compile(r'Rattle.%s(·specs)?\.specs\.declared\.%s|\b%s::%s' % (crate, name, crate, name)), name, new
+    cited = r'Rattle.%s(·\w+)?\.%s\.%s\.' % placed(a.rsplit('.', 1)[0])
+    return re.compile(r'%s\{[^}]*%s' % (cited, name)), name, new
+
+
 class Names:
     """What became what."""
 
@@ -33,6 +45,7 @@ class Names:
         self.crates = {a: b for a, b, how in rows if how == 'renamed'}
         self.joined = {a: b.split('::') for a, b, how in rows if how == 'joined'}
         self.files = {placed(a): placed(b) for a, b, how in rows if how == 'moved'}
+        self.named = [worded(a, b) for a, b, how in rows if how == 'named']
         every = '|'.join(sorted({*self.crates, *self.joined}, key=len, reverse=True))
         self.path = re.compile(r'\bcrates/(%s)(?=[/`\s.,:)\'"]|$)' % every, re.M)
         self.call = re.compile(r'(?<![\w:])(%s)::' % every)
@@ -68,6 +81,9 @@ class Names:
 
     def of_crate(self, own, text):
         """The text of a file of the crate `own`, or of one that is of no crate."""
+        for used, name, new in self.named:
+            if used.search(text):  # not in comments, which may mean something else by the word
+                text = re.sub(r'^(?:(?!--|//).)+', lambda m: re.sub(name, new, m[0]), text, flags=re.M)
         text = CITED.sub(lambda m: self.cited(own, m), text)
         text = self.call.sub(lambda m: self.called(own, m), text)
         text = self.path.sub(lambda m: 'crates/' + self.crate(m[1]), text)

@@ -38,7 +38,8 @@
  * Each row stands between guard octets, octets and bytes at odd addresses, floats at multiples of 4 and wider elements
  * at multiples of 8 that are none of 16. The list of 8 is such a row, and so is each of its recordings. Called as
  * `bridge pages`, each row ends where memory ends instead: a read past it kills the bridge, on every processor; so does
- * a look at a chip behind the front in 5, and one at any chip in 6 where the kind or the number of offsets is refused.
+ * a look at a chip behind the front in 5, and one at any chip in 6 where the kind or the number of offsets is refused,
+ * and a write to a row for reading, though it were put right again before the call ends.
  * 6 is then called once more, with a row that begins where memory begins. Called as `bridge exact`, each row is memory
  * of just its size and the lent buffer is not set before the call: for valgrind, which then sees every touch beside a
  * row, what a call makes of the buffer's old contents, and every octet that it leaves unwritten.
@@ -219,15 +220,18 @@ static size_t get_elements(uint8_t *to, size_t len, size_t width)
     return (size_t)sent * width;
 }
 
-/* What is held against the row behind the call. */
+/* What is held against the row behind the call. In pages it can only be read from here on. */
 static void copy_row(struct row *row)
 {
     row->copy = malloc(row->sent > 0 ? row->sent : 1);
     if (!row->copy)
         die("no memory for a row");
     memcpy(row->copy, row->memory + row->from, row->sent);
-    if (rows == PAGES)
-        set_access(row, PROT_NONE);
+    if (rows != PAGES)
+        return;
+    if (mprotect(row->all, (size_t)(row->edge - row->all), PROT_READ) != 0)
+        die("cannot close a row");
+    set_access(row, PROT_NONE);
 }
 
 /* A row of which only the first `open` elements may be looked at. */

@@ -36,6 +36,8 @@ const FEW_OPEN: [&str; 6] = ["timeout", "120", "sh", "-c", "ulimit -n 64 && exec
 enum Leads {
     File(Vec<u8>),
     Pipe(Vec<u8>),
+    /// A link to a file that has no end.
+    Endless,
     Folder,
     Nothing,
 }
@@ -44,7 +46,7 @@ enum Leads {
 type Named = (Vec<u8>, Leads);
 
 /// What the runs must meet, and how often at least.
-const OWED: [(&str, u64); 24] = [
+const OWED: [(&str, u64); 26] = [
     ("no file", 1),
     ("each kind", 2),
     ("empty", 9),
@@ -57,6 +59,8 @@ const OWED: [(&str, u64); 24] = [
     ("odd name", 1),
     ("name from ./", 1),
     ("pipe", 8),
+    ("endless", 1),
+    ("missing in a folder", 1),
     ("each refusal", 3),
     ("each rate", 4),
     ("1,000", 5),
@@ -96,6 +100,7 @@ impl Leads {
             Leads::File(octets) | Leads::Pipe(octets) if octets.is_empty() => Some("empty"),
             Leads::File(octets) | Leads::Pipe(octets) if octets.len() > LONGEST => Some("more than 65536 octets"),
             Leads::File(_) | Leads::Pipe(_) => None,
+            Leads::Endless => Some("more than 65536 octets"),
             Leads::Folder => Some("cannot be read to its end: Is a directory"),
             Leads::Nothing => Some("cannot be opened: No such file or directory"),
         }
@@ -168,6 +173,8 @@ fn count(files: &[Named], met: &mut Met) {
         ("odd name", files.iter().any(|(name, _)| std::str::from_utf8(name).is_err())),
         ("name from ./", files.iter().any(|(name, leads)| name.starts_with(b"./") && leads.recording().is_some())),
         ("pipe", any(&|leads| matches!(leads, Leads::Pipe(_)))),
+        ("endless", any(&|leads| matches!(leads, Leads::Endless))),
+        ("missing in a folder", files.iter().any(|(name, leads)| name.contains(&b'/') && leads.left_out().is_some())),
         ("each refusal", REFUSED.iter().all(|(number, _)| report.refused[*number as usize] > 0)),
         ("each rate", report.frames.iter().all(|frames| *frames > 0)),
         ("1,000", report.seen == MOST_SEEN),
@@ -322,6 +329,9 @@ fn runs(random: &mut Random) -> Vec<Vec<Named>> {
     runs.extend(links_and_sizes(random));
     runs.extend(pipes(random).into_iter().map(|pipe| numbered([Leads::of(&cheap(random)), pipe])));
     runs.push(numbered(pipes(random)));
+    runs.push(numbered([Leads::of(&led_by(3, random)), Leads::Endless, Leads::of(&led_by(4, random))]));
+    let missing = ["none/such", "./none", "././none/such", "/none such/at all", "none/"];
+    runs.push(missing.map(|name| (name.into(), Leads::Nothing)).to_vec());
     // More left out than may be open.
     runs.push(numbered((0..140).map(|at| if at % 2 == 0 { Leads::Folder } else { Leads::File(Vec::new()) })));
     runs.extend(thousands(random));
@@ -356,6 +366,7 @@ fn lay(folder: &Path, files: &[Named]) -> io::Result<()> {
             }
             Leads::File(octets) => fs::write(path, octets)?,
             Leads::Pipe(octets) => lay_pipe(path, octets.clone())?,
+            Leads::Endless => symlink("/dev/zero", path)?,
             Leads::Folder => fs::create_dir_all(path)?,
             Leads::Nothing => {}
         }

@@ -100,6 +100,44 @@ fn sparse(out: &mut Out) {
     }
 }
 
+/// The same where the front one chip early is refused for its header or for an odd growth of its SYNC, and the unusable
+/// chip stands before that. Read a chip early, a header of whole symbols is another one. In SYNC one symbol gets chips
+/// of an odd phase beside its five, which score 5 from the start on, a tie that the right phase wins, and 6 a chip
+/// early.
+fn refused_for_more(out: &mut Out) {
+    for case in 0..out.cases(24) {
+        let (kind, rate) = any_pair(&mut out.random);
+        let (start, phase) = (out.random.within(20, 300), out.random.pick(&[0, 2]));
+        let draft = Draft { phase, ..Draft::random(kind, rate, 2, &mut out.random) };
+        let mut scene = Scene::of(&draft, Before::Lost, start, &mut out.random);
+        scene.chips[start - 2] = unusable(&mut out.random);
+        let header = 11 * kind.bits_before_header();
+        let few = if case % 2 == 0 { header } else { kind.front_chips() };
+        for place in (0..few).filter(|place| ![2, 5, 6, 8, 9].contains(&(place % 11))) {
+            scene.chips[start + place] = LOST;
+        }
+        if case % 2 == 1 {
+            let before = start + 11 * out.random.within(2, kind.bits_before_header() - 24) - 1;
+            let odd = [(0, 1), (1, 3), (2, 1), (4, 3), (5, 1), (8, 3)];
+            odd.into_iter().for_each(|(place, chip)| scene.chips[before + place] = chip);
+        }
+        scene.seek(out, start + 20);
+    }
+}
+
+/// SFDs one after the other, as a payload of 1 Mbit/s, the last with a right header: most of 4,096 offsets' fronts that
+/// can be are refused before it.
+fn many_sfds(out: &mut Out) {
+    for count in [3, 8, 18, 18] {
+        let mut first = Draft::random(Kind::Long, Rate::Mbit1, 8, &mut out.random);
+        first.crc ^= 1 << out.random.below(16);
+        let last = octets_of(&Draft::random(Kind::Long, Rate::Mbit11, 2, &mut out.random));
+        first.payload = [last[..2].repeat(count), last].concat();
+        let start = out.random.within(0, 60);
+        Scene::of(&first, Before::Lost, start, &mut out.random).seek(out, ALL);
+    }
+}
+
 /// Any SYNC bits, which aren't compared.
 fn any_sync(out: &mut Out) {
     for case in 0..out.cases(30) {
@@ -259,4 +297,6 @@ pub fn find_damage(out: &mut Out) {
     wrong_before(out);
     overlapping(out);
     several(out);
+    refused_for_more(out);
+    many_sfds(out);
 }

@@ -295,6 +295,25 @@ fn named_twice(out: &mut Out) {
     }
 }
 
+/// Lists of one recording over and over: octets and airtime past 2^16 and 2^20, and counts of frames and of refusals
+/// past 255.
+fn large_totals(out: &mut Out) {
+    let kind = |rate| if rate == Rate::Mbit1 { Kind::Long } else { Kind::Short };
+    for (rate, times) in [(Rate::Mbit11, 17), (Rate::Mbit5_5, 257), (Rate::Mbit1, 3), (Rate::Mbit1, 32)] {
+        let one = sent(kind(rate), rate, 4095, &mut out.random);
+        out.call(list(&vec![one; times]));
+    }
+    for rate in Rate::ALL {
+        let one = sent(kind(rate), rate, 1, &mut out.random);
+        out.call(list(&vec![one; 300]));
+    }
+    for some in REFUSED.chunks(3) {
+        let of = some.iter().flat_map(|refused| vec![refused_with(*refused, &mut out.random); 260]);
+        let of: Vec<Recorded> = of.collect();
+        out.call(list(&of));
+    }
+}
+
 pub fn report_lists(out: &mut Out) {
     short_lists(out);
     long_lists(out);
@@ -316,4 +335,5 @@ pub fn report_lists(out: &mut Out) {
         let one = any_recorded(&mut out.random);
         out.call(list(&[one, longest]));
     }
+    large_totals(out);
 }
