@@ -9,7 +9,7 @@ use Rattle.promises.proofs.Fills.{write-fills, read-fills}
 use Rattle.promises.proofs.Only.{only-sent, only-readable, refused-shows}
 use Rattle.promises.proofs.Never.{rows-refused, no-byte-unusable}
 use Rattle.promises.proofs.Back.{written-frame, read-back, not-read-back}
-use Rattle.promises.proofs.Sync.{sent-words, sync-sent}
+use Rattle.promises.proofs.Begins.{sent-words, sent-begins}
 use Rattle.promises.proofs.Source.{one-source, phase-turns}
 use Rattle.promises.proofs.Refusing.{write-answers}
 use Rattle.promises.proofs.Exactly.{read-answers}
@@ -52,7 +52,7 @@ kept = record {
   no-byte-unusable = no-byte-unusable;
   written-frame = written-frame;
   sent-words = sent-words;
-  sync-sent = sync-sent;
+  sent-begins = sent-begins;
   read-back = read-back;
   not-read-back = not-read-back;
   one-source = one-source;

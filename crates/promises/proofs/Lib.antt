@@ -2,7 +2,7 @@ pub mod Fills
 pub mod Only
 pub mod Never
 pub mod Back
-pub mod Sync
+pub mod Begins
 pub mod Source
 pub mod Refusing
 pub mod Reasons

@@ -97,9 +97,7 @@ one-source kind rate rate′ phase phase′ clock clock′ payload payload′ w 
     )
 
 pub phase-turns : PhaseTurns
-phase-turns kind rate phase clock payload w w′ chips chips′ s t = (
-  begins kind rate phase clock payload w chips s,
-  taken kind rate phase clock payload w chips s
-      ∙ frame-turned (kindOf kind) (rateOf rate) phase (clockOf clock) payload (s .sendable .phase-is)
-      ∙ ap (map (turned phase)) (sym (taken kind rate 0 clock payload w′ chips′ t)),
-)
+phase-turns kind rate phase clock payload w w′ chips chips′ s t =
+    taken kind rate phase clock payload w chips s
+    ∙ frame-turned (kindOf kind) (rateOf rate) phase (clockOf clock) payload (s .sendable .phase-is)
+    ∙ ap (map (turned phase)) (sym (taken kind rate 0 clock payload w′ chips′ t))

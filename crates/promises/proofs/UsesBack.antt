@@ -5,7 +5,7 @@ use mathlib.Core.Bool.{true, false}
 use mathlib.Core.List.{List, [], _∷_, _++_, append-nil, map}
 use Prim.Native.Nat.{ℕ, _+_, _-_, _*_, _/_, _%_, _^_, _≤_, _<_}
 use native.Mathlib.Omega.{arith}
-use lib.ListN.{length, getD, take, replicate}
+use lib.ListN.{length, take, replicate}
 use lib.IntN.{ℤ, pos, negℤ}
 use lib.Ieee.{Float}
 use Rattle.base.specs.Below.{Below}
@@ -35,6 +35,7 @@ use Rattle.promises.specs.Calls.{
   sentLead,
   sentSymbol,
 }
+use Rattle.promises.specs.Promises.{beginsWith}
 use Rattle.promises.specs.Reasons.{long-bits, short-bits, FrontField}
 use Rattle.promises.proofs.Kept.{kept}
 use Rattle.promises.proofs.Uses.{goes-1}
@@ -163,32 +164,32 @@ one-payload kind rate rate′ phase phase′ clock clock′ payload payload′ w
     let e = kept .one-source kind rate rate′ phase phase′ clock clock′ payload payload′ w w′ chips s t in
     (e .0, e .1, e .3)
 
--- ---- the starting phase: two frames that begin alike have it alike; one from 3 has a quarter turn less at every chip
-pub one-phase : (kind rate phase phase′ clock : ℕ) (payload : List ℕ) (w w′ v : Written) (chips chips′ zero : List ℕ)
-    → Sent kind rate phase clock payload w chips → Sent kind rate phase′ clock payload w′ chips′
-    → Sent kind rate 0 clock payload v zero → getD chips 0 4 ≡ getD chips′ 0 4 → phase ≡ phase′
-one-phase kind rate phase phase′ clock payload w w′ v chips chips′ zero s t u e =
-    sym (kept .phase-turns kind rate phase clock payload w v chips zero s u .0) ∙ e
-    ∙ kept .phase-turns kind rate phase′ clock payload w′ v chips′ zero t u .0
+-- ---- the starting phase: a short frame from 2 begins with these symbols; one from 3 has a quarter turn less at every
+-- chip than one from 0
+pub from-2 : (rate phase clock : ℕ) (payload : List ℕ) (w : Written) (chips : List ℕ)
+    → Sent 1 rate phase clock payload w chips → phase ≡ 2
+    → take 88 chips ≡ wordsChips One (2 ∷ 2 ∷ 2 ∷ 0 ∷ 2 ∷ 2 ∷ 2 ∷ 0 ∷ [])
+from-2 rate phase clock payload w chips s e =
+    kept .sent-begins 1 rate phase clock payload w chips s .0 ∙ ap (λ (p : ℕ). wordsChips One (beginsWith 1 p)) e
 
 pub from-3 : (kind rate clock : ℕ) (payload : List ℕ) (w w′ : Written) (chips chips′ : List ℕ)
     → Sent kind rate 3 clock payload w chips → Sent kind rate 0 clock payload w′ chips′
     → take (w .chips) chips ≡ map (λ c. (3 + c) % 4) (take (w′ .chips) chips′)
 from-3 kind rate clock payload w w′ chips chips′ s t =
-    kept .phase-turns kind rate 3 clock payload w w′ chips chips′ s t .1
+    kept .phase-turns kind rate 3 clock payload w w′ chips chips′ s t
 
 -- ---- SYNC as its symbols say it: bit 100 of a long one is 1 and nothing else, bit 50 of a short one 0
 pub sync-ones : (rate phase clock : ℕ) (payload : List ℕ) (w : Written) (chips : List ℕ)
     → Sent 0 rate phase clock payload w chips → (v : ℕ) → FrontField 0 (hardRecording chips) 100 1 v → v ≡ 1
 sync-ones rate phase clock payload w chips s v f =
     field-once Long One (hardRecording chips) 0 f
-    (kept .sync-sent 0 rate phase clock payload w chips s _ _ _ 100 long-bits (omega arith) (omega arith))
+    (kept .sent-begins 0 rate phase clock payload w chips s .1 _ _ _ 100 long-bits (omega arith) (omega arith))
 
 pub sync-zeros : (rate phase clock : ℕ) (payload : List ℕ) (w : Written) (chips : List ℕ)
     → Sent 1 rate phase clock payload w chips → (v : ℕ) → FrontField 1 (hardRecording chips) 50 1 v → v ≡ 0
 sync-zeros rate phase clock payload w chips s v f =
     field-once Short One (hardRecording chips) 0 f
-    (kept .sync-sent 1 rate phase clock payload w chips s _ _ _ 50 short-bits (omega arith) (omega arith))
+    (kept .sent-begins 1 rate phase clock payload w chips s .1 _ _ _ 50 short-bits (omega arith) (omega arith))
 
 -- ---- words: two frames whose symbols are read alike have the same chips
 pub words-alike : (kind rate phase phase′ clock clock′ : ℕ) (payload payload′ : List ℕ) (w w′ : Written)

@@ -8,10 +8,10 @@
 -- Definitions only. Assumes nothing.
 use Prim.Native.Nat.{ℕ, _+_, _-_, _*_, _%_, _≤_, _<_}
 use mathlib.Core.Path.{_≡_}
-use mathlib.Core.Bool.{Bool}
-use mathlib.Core.List.{List, _++_, map}
-use lib.ListN.{length, getD, take, drop, replicate}
-use lib.Dec.{T}
+use mathlib.Core.Bool.{Bool, cond}
+use mathlib.Core.List.{List, [], _∷_, _++_, map}
+use lib.ListN.{length, take, drop, replicate}
+use lib.Dec.{T, eqb}
 use lib.Ieee.{Float}
 use Rattle.base.specs.Below.{Below}
 use Rattle.rules_rates.specs.declared.Rate.the-variants.{One}
@@ -112,15 +112,24 @@ SentWords =
     ++ (wordsChips (headerRate (kindOf kind)) (headerWords (kindOf kind) (hardRecording chips))
     ++ wordsChips (rateOf rate) (payloadWords (kindOf kind) (rateOf rate) (length payload) (hardRecording chips)))
 
--- promise: SYNC of a frame that was written is ones under the long kind and zeros under the short one, bit by bit as
--- its symbols say, from the ninth on; the first eight are in Table P
--- rule: 1.4 (2), 5.4
+-- the phases of a frame's first eight symbols, by kind and starting phase: of the scrambled bits of Table P 1 and 2,
+-- each 1 is a half turn
+abbrev pub beginsWith : ℕ → ℕ → List ℕ
+beginsWith kind p =
+    let h = (p + 2) % 4 in
+    cond (eqb kind 0) (p ∷ h ∷ p ∷ h ∷ p ∷ h ∷ p ∷ p ∷ []) (p ∷ p ∷ p ∷ h ∷ p ∷ p ∷ p ∷ h ∷ [])
+
+-- promise: A frame that was written begins with eight Barker words from its starting phase, by the scrambled bits of
+-- Table P; from its ninth bit on SYNC is ones under the long kind and zeros under the short one, as its symbols say
+-- rule: 1.4 (2), 4.6, 5.4
 -- code: dsss_write_2
-abbrev pub SyncSent : Type 0
-SyncSent =
+abbrev pub SentBegins : Type 0
+SentBegins =
     (kind rate phase clock : ℕ) (payload : List ℕ) (w : Written) (chips : List ℕ)
-    → Sent kind rate phase clock payload w chips → (at sfd ones b : ℕ) → BitsOf kind at sfd ones → 8 ≤ b → b < at
-    → FrontField kind (hardRecording chips) b 1 (1 - kind)
+    → Sent kind rate phase clock payload w chips
+    → (take 88 chips ≡ wordsChips One (beginsWith kind phase))
+    × ((at sfd ones b : ℕ) → BitsOf kind at sfd ones → 8 ≤ b → b < at
+    → FrontField kind (hardRecording chips) b 1 (1 - kind))
 
 -- promise: What was written is read back, whatever follows it, under its kind and with room: number 0, rate, LENGTH, n,
 -- chips used, clock bit, payload, and the lead of a clean frame (11,264 counts at symbol 0 at 1 and 2 Mbit/s, 8,192 at
@@ -168,15 +177,14 @@ OneSource =
     → Sent kind rate phase clock payload w chips → Sent kind rate′ phase′ clock′ payload′ w′ chips
     → (rate ≡ rate′) × (phase ≡ phase′) × (shown clock ≡ shown clock′) × (payload ≡ payload′)
 
--- promise: A frame begins with its starting phase, and its chips are those of the same frame from starting phase 0,
--- each turned by that phase
+-- promise: The chips of a frame are those of the same frame from starting phase 0, each turned by its starting phase
 -- rule: 4.6
 -- code: dsss_write_2
 abbrev pub PhaseTurns : Type 0
 PhaseTurns =
     (kind rate phase clock : ℕ) (payload : List ℕ) (w w′ : Written) (chips chips′ : List ℕ)
     → Sent kind rate phase clock payload w chips → Sent kind rate 0 clock payload w′ chips′
-    → (getD chips 0 4 ≡ phase) × (take (w .chips) chips ≡ map (λ c. (phase + c) % 4) (take (w′ .chips) chips′))
+    → take (w .chips) chips ≡ map (λ c. (phase + c) % 4) (take (w′ .chips) chips′)
 
 -- promise: A count is the whole number nearest to 1024 times the exact value: the error is at most half a count
 -- rule: 2.6
@@ -205,7 +213,7 @@ pub record Promised : Type 0 where
   pub no-byte-unusable : NoByteUnusable
   pub written-frame : WrittenFrame
   pub sent-words : SentWords
-  pub sync-sent : SyncSent
+  pub sent-begins : SentBegins
   pub read-back : ReadBack
   pub not-read-back : NotReadBack
   pub one-source : OneSource

@@ -1,11 +1,12 @@
--- How a frame begins: every bit of SYNC, and what its starting phase does to all of its chips.
+-- How a frame begins: every bit of SYNC, its first eight symbols, and what its starting phase does to all of its chips.
 --     sync-long, sync-short          each of 128 bits is 1, each of 56 is 0
+--     first-eight                    the first eight symbols, by kind and starting phase
 --     framed-turned, frame-turned    the chips from starting phase p are those from 0, each turned by p
 -- Assumes nothing.
-use mathlib.Core.Path.{_≡_, ap, _∙_}
+use mathlib.Core.Path.{_≡_, refl, ap, _∙_}
 use mathlib.Core.Bool.{Bool}
-use mathlib.Core.List.{List, _++_, map, map-append}
-use Prim.Native.Nat.{ℕ, _+_, _<_}
+use mathlib.Core.List.{List, [], _∷_, _++_, map, map-append}
+use Prim.Native.Nat.{ℕ, zero, suc, _+_, _<_}
 use native.Mathlib.Omega.{arith}
 use lib.ListN.{length, getD, take, drop}
 use lib.Dec.{eqb, eqb→eq}
@@ -13,7 +14,11 @@ use Rattle.base.proofs.Tests.{all-at}
 use Rattle.rules_rates.specs.declared.Rate.{Rate}
 use Rattle.rules_rates.specs.declared.Rate.the-variants.{One}
 use Rattle.rules_chips.specs.Chips.{turned}
-use Rattle.rules_bits.specs.Growths.{Symbol, symbolsOf, chipsFrom, lastPhase}
+use Rattle.rules_symbols.specs.Words.{barkerWord}
+use Rattle.rules_bits.specs.Bits.{bitsOf}
+use Rattle.rules_bits.specs.Growths.{Symbol, symbolOf, symbolsFrom, symbolsOf, chipsFrom, lastPhase}
+use Rattle.rules_bits.specs.Scrambler.{mixed, scramble}
+use Rattle.rules_bits.specs.Code.{wordsChips}
 use Rattle.rules_bits.proofs.Growths.{chipsFrom-turned, lastPhase-turned}
 use Rattle.rules_frame.specs.declared.Kind.{Kind}
 use Rattle.rules_frame.specs.declared.Kind.the-variants.{Long, Short}
@@ -21,6 +26,7 @@ use Rattle.rules_frame.specs.Frame.{
   headerRate,
   preambleBits,
   preambleLength,
+  frameBits,
   headerLength,
   partsChips,
   sentHeader,
@@ -43,6 +49,27 @@ pub sync-short : (j : ℕ) → j < 56 → getD (preambleBits Short) j 2 ≡ 0
 unfolding preambleBits
 sync-short j h =
     eqb→eq (getD (preambleBits Short) j 2) 0 (all-at (λ i. eqb (getD (preambleBits Short) i 2) 0) 56 tt j h)
+
+-- ---- the first eight symbols: scrambled, the first bits are 0 1 1 1 1 1 1 0 of a long frame, 0 0 0 1 1 0 0 1 of a
+-- short one
+abbrev pub eightPhases : Kind → ℕ → List ℕ
+eightPhases Long p = p ∷ turned p 2 ∷ p ∷ turned p 2 ∷ p ∷ turned p 2 ∷ p ∷ p ∷ []
+eightPhases Short p = p ∷ p ∷ p ∷ turned p 2 ∷ p ∷ p ∷ p ∷ turned p 2 ∷ []
+
+pub first-eight : (k : Kind) (r : Rate) (p : ℕ) (clock : Bool) (xs : List ℕ) → p < 4
+    → take 88 (frame k r p clock xs) ≡ wordsChips One (eightPhases k p)
+unfolding
+    frame framed partsChips sentBits frameBits preambleBits
+    bitsOf scramble mixed symbolsOf symbolsFrom symbolOf chipsFrom barkerWord wordsChips
+first-eight Long r zero clock xs h = refl
+first-eight Long r (suc zero) clock xs h = refl
+first-eight Long r (suc (suc zero)) clock xs h = refl
+first-eight Long r (suc (suc (suc zero))) clock xs h = refl
+first-eight Short r zero clock xs h = refl
+first-eight Short r (suc zero) clock xs h = refl
+first-eight Short r (suc (suc zero)) clock xs h = refl
+first-eight Short r (suc (suc (suc zero))) clock xs h = refl
+first-eight k r (suc (suc (suc (suc p)))) clock xs h = absurd (omega arith)
 
 -- ---- the starting phase
 parts-turned : (k : Kind) (r : Rate) (p : ℕ) (x y z : List ℕ)

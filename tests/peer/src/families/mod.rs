@@ -94,7 +94,7 @@ families! {
     // for: lengths-eleven, words, Crc, TableP, header-back, octets-back, length-holds, crc-divided
     101 published::published_figures: "LENGTH and bit 7 of every n and rate, CRCs, words from outside",
     // for: Wrote.answer, Wrote.chips, WrittenFrame, WriteFills, words, sent-facts, facts-clock, from-header, PhaseTurns
-    // for: framed-turned, sync-long, SyncSent, SentWords, symbol-one, cck-adds
+    // for: framed-turned, sync-long, SentBegins, SentWords, symbol-one, cck-adds
     201 written::write_short_payloads: "1 to 64 octets, all kinds, rates and phases",
     // for: Wrote.chips, framed-length, Wrote.answer, WrittenFrame
     202 written::write_long_payloads: "1,023 to 1,026 and 4,095 octets",
