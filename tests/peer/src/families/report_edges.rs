@@ -146,6 +146,14 @@ fn numbers() -> Vec<u64> {
     tens.chain(twos).chain(digits).chain([u64::MAX - 1, u64::MAX, 9_876_543_210, 10_203_040_506_070_809_000]).collect()
 }
 
+/// Each number below 10,000, as a count of a refusal or as the airtime.
+fn small_numbers(out: &mut Out) {
+    for first in (0..10_000).step_by(16) {
+        let numbers: Vec<u64> = (first..).take(ENTRIES).collect();
+        told(out, &Report::of_numbers(&numbers), &[0]);
+    }
+}
+
 pub fn report_text(out: &mut Out) {
     told(out, &Report::default(), &ROOMS);
     told(out, &Report::of_numbers(&[u64::MAX; ENTRIES]), &ROOMS);
@@ -170,11 +178,7 @@ pub fn report_text(out: &mut Out) {
         told(out, &Report::of_numbers(&[number; ENTRIES]), &[-1, 0]);
         told(out, &with(&at_limits(), entry, number), &[3]);
     }
-    // Each number below 10,000, as a count of a refusal or as the airtime.
-    for first in (0..10_000).step_by(16) {
-        let numbers: Vec<u64> = (first..).take(ENTRIES).collect();
-        told(out, &Report::of_numbers(&numbers), &[0]);
-    }
+    small_numbers(out);
     // All numbers differ, so that no two can stand in each other's place.
     for _ in 0..out.cases(60) {
         let bits = out.random.below(64);
