@@ -101,6 +101,15 @@ pub fn long_growths(out: &mut Out) {
             out.call(recorder.reading(Kind::Long.number(), turned, n));
         }
     }
+    // In the longest frame by each recorder: the last symbol, and one of the last tenth.
+    let chips = Draft::random(Kind::Long, Rate::Mbit1, 4095, &mut out.random).chips();
+    for recorder in Recorder::ALL {
+        for symbol in [8 * 4095 - 1, out.random.within(7 * 4095, 8 * 4095 - 2)] {
+            let mut turned = chips.clone();
+            turn(&mut turned[2112 + 11 * symbol..][..11], 1);
+            out.call(recorder.reading(Kind::Long.number(), turned, 4095));
+        }
+    }
 }
 
 /// The recording with a payload symbol turned, alone or with all that follow; sometimes a later one too, or a later

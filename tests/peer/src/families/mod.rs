@@ -38,6 +38,9 @@
 //! - A limit off by one, or left out for an entry: `report_edges`.
 //! - A line left out or told of a count of 0, a number cut, a zero before one: `report_text`.
 //! - A start passed over right behind an offset whose SFD is right and whose front is refused: `find_damage`.
+//! - A start left out behind many fronts that are refused, or right behind one refused with 10 or 12: `find_damage`.
+//! - Totals of a list in fewer bits, frames of some size counted otherwise: `report_lists`.
+//! - A row for reading written to, though put right again: rows ending where memory ends.
 //! - LENGTH taken or refused wrongly at one value: `every_length_listed`. The last chip at one n: `write_every_n`.
 //! - The lead of one word wrong: `leads_of_each_word`.
 //! - A length cut to 16, 20, 22 or 24 bits: `wide_writes`, `wide_recordings`, `wide_rooms`, `wide_searches`.

@@ -314,6 +314,17 @@ fn large_totals(out: &mut Out) {
     }
 }
 
+/// Frames of 13 to 4,094 octets, a few sizes of each kind and rate, as a list and one by one.
+fn each_size(out: &mut Out) {
+    for (kind, rate) in pairs() {
+        let sizes = [(13, 64), (65, 300), (301, 1022), (1027, 2000), (2001, 3000), (3001, 4094)];
+        let of = sizes.map(|(least, most)| sent(kind, rate, out.random.within(least, most), &mut out.random));
+        out.call(list(&of));
+        let one = out.random.below(of.len());
+        out.call(add(&Report::default(), &of[one]));
+    }
+}
+
 pub fn report_lists(out: &mut Out) {
     short_lists(out);
     long_lists(out);
@@ -336,4 +347,5 @@ pub fn report_lists(out: &mut Out) {
         out.call(list(&[one, longest]));
     }
     large_totals(out);
+    each_size(out);
 }

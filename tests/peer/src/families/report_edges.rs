@@ -1,6 +1,7 @@
 //! Any report that C can hand in: one recording more at the limits of each of its numbers, and its text.
 
-use super::report::{add, cheap, led_by, refused_with, sent, Recorded, REFUSED};
+use super::report::{add, any_recorded, cheap, led_by, refused_with, sent, Recorded, REFUSED};
+use super::widths::far_size;
 use super::{pairs, Out};
 use crate::calls::Call;
 use crate::random::Random;
@@ -117,7 +118,7 @@ pub fn report_edges(out: &mut Out) {
     seen(out);
     leads(out);
     for _ in 0..out.cases(150) {
-        let (report, recorded) = (any_report(&mut out.random), super::report::any_recorded(&mut out.random));
+        let (report, recorded) = (any_report(&mut out.random), any_recorded(&mut out.random));
         out.call(add(&report, &recorded));
     }
     // Frames of the longest payload, to all zeros and to numbers that are at their limits.
@@ -125,6 +126,11 @@ pub fn report_edges(out: &mut Out) {
         let longest = sent(kind, rate, 4095, &mut out.random);
         out.call(add(&Report::default(), &longest));
         out.call(add(&at_limits(), &longest));
+    }
+    for _ in 0..out.cases(3) {
+        let (report, (kind, mut chips)) = (any_report(&mut out.random), any_recorded(&mut out.random));
+        chips.resize(far_size(&mut out.random), 0);
+        out.call(add(&report, &(kind, chips)));
     }
 }
 
@@ -146,6 +152,26 @@ fn numbers() -> Vec<u64> {
     tens.chain(twos).chain(digits).chain([u64::MAX - 1, u64::MAX, 9_876_543_210, 10_203_040_506_070_809_000]).collect()
 }
 
+/// Each number below 10,000, as a count of a refusal or as the airtime.
+fn small_numbers(out: &mut Out) {
+    for first in (0..10_000).step_by(16) {
+        let numbers: Vec<u64> = (first..).take(ENTRIES).collect();
+        told(out, &Report::of_numbers(&numbers), &[0]);
+    }
+}
+
+/// Each entry alone, beside a lead, and all but it.
+fn each_entry(out: &mut Out) {
+    for entry in 0..ENTRIES {
+        for number in [1, 7, 10, 1000, u64::MAX] {
+            told(out, &only(entry, number), if number == 1 { &ROOMS } else { &[-1, 0] });
+            let led = with(&only(SOME, 1), entry, number);
+            told(out, &led, &[-1, 1]);
+        }
+        told(out, &with(&Report::of_numbers(&[8; ENTRIES]), entry, 0), &[0]);
+    }
+}
+
 pub fn report_text(out: &mut Out) {
     told(out, &Report::default(), &ROOMS);
     told(out, &Report::of_numbers(&[u64::MAX; ENTRIES]), &ROOMS);
@@ -156,25 +182,13 @@ pub fn report_text(out: &mut Out) {
             out.call(Call::Report(ReportCall::Text { report, room }));
         }
     }
-    for entry in 0..ENTRIES {
-        for number in [1, 7, 10, 1000, u64::MAX] {
-            told(out, &only(entry, number), if number == 1 { &ROOMS } else { &[-1, 0] });
-            let led = with(&only(SOME, 1), entry, number);
-            told(out, &led, &[-1, 1]);
-        }
-        // All but one.
-        told(out, &with(&Report::of_numbers(&[8; ENTRIES]), entry, 0), &[0]);
-    }
+    each_entry(out);
     for number in numbers() {
         let entry = out.random.below(ENTRIES);
         told(out, &Report::of_numbers(&[number; ENTRIES]), &[-1, 0]);
         told(out, &with(&at_limits(), entry, number), &[3]);
     }
-    // Each number below 10,000, as a count of a refusal or as the airtime.
-    for first in (0..10_000).step_by(16) {
-        let numbers: Vec<u64> = (first..).take(ENTRIES).collect();
-        told(out, &Report::of_numbers(&numbers), &[0]);
-    }
+    small_numbers(out);
     // All numbers differ, so that no two can stand in each other's place.
     for _ in 0..out.cases(60) {
         let bits = out.random.below(64);
@@ -185,5 +199,9 @@ pub fn report_text(out: &mut Out) {
         told(out, &Report::of_numbers(&numbers), &[0, more]);
         let report = any_report(&mut out.random);
         told(out, &report, &[0, more]);
+    }
+    for _ in 0..out.cases(3) {
+        let (report, room) = (any_report(&mut out.random), far_size(&mut out.random));
+        out.call(Call::Report(ReportCall::Text { report, room }));
     }
 }

@@ -111,4 +111,12 @@ pub fn chips_after_the_frame(out: &mut Out) {
         }
     }
     short_in_16_bits(out);
+    for _ in 0..out.cases(3) {
+        let (kind, rate) = any_pair(&mut out.random);
+        let (mut i, mut q) = soft_rows(&Draft::random(kind, rate, 4, &mut out.random).chips(), 1.0);
+        let len = far_size(&mut out.random);
+        i.resize(len, 0.0);
+        q.resize(len, 0.0);
+        out.call(Call::soft(kind.number(), (i, q), 4));
+    }
 }
