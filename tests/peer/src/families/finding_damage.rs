@@ -138,6 +138,18 @@ fn many_sfds(out: &mut Out) {
     }
 }
 
+/// Fronts that tell of 13 to 300 octets, with few behind them.
+fn some_octets(out: &mut Out) {
+    for (kind, rate) in pairs() {
+        for (least, most) in [(13, 64), (65, 300)] {
+            let (n, start) = (out.random.within(least, most), out.random.within(0, 60));
+            let many = Draft::random(kind, rate, n, &mut out.random).header;
+            let draft = Draft::random(kind, rate, 3, &mut out.random).with_header(many);
+            Scene::of(&draft, Before::Lost, start, &mut out.random).seek(out, ALL);
+        }
+    }
+}
+
 /// Any SYNC bits, which aren't compared.
 fn any_sync(out: &mut Out) {
     for case in 0..out.cases(30) {
@@ -299,4 +311,5 @@ pub fn find_damage(out: &mut Out) {
     several(out);
     refused_for_more(out);
     many_sfds(out);
+    some_octets(out);
 }

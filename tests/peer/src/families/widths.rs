@@ -33,6 +33,30 @@ fn wide_write(out: &mut Out, kind: Kind, wide: usize) {
     out.call(Call::write(kind.number(), code, 2, 1, payload, frame));
 }
 
+/// The same room in a write that is refused, and in reads that are: what they fill is all of it. The widest of hard
+/// recordings only.
+fn wide_refused(out: &mut Out, kind: Kind, wide: usize) {
+    let few = out.random.below(100);
+    out.over_aa(Call::write(kind.number(), 110, 4, 0, vec![1], wide + few));
+    let recorders = if wide > 1 << 20 { &Recorder::ALL[..1] } else { &Recorder::ALL };
+    for recorder in recorders {
+        let draft = Draft::random(kind, Rate::Mbit11, 3, &mut out.random);
+        out.over_aa(recorder.reading(kind.number(), draft.front(), wide + few));
+    }
+}
+
+/// Rows of odd length: bytes, and samples of which one row has one more.
+fn wide_odd(out: &mut Out, kind: Kind, wide: usize) {
+    let chips = Draft::random(kind, Rate::Mbit11, 3, &mut out.random).chips();
+    let Call::ReadBytes { mut bytes, .. } = Recorder::Bytes.reading(0, chips.clone(), 0) else { return };
+    bytes.resize(wide + 2 * out.random.below(chips.len()) + 1, 0);
+    out.call(Call::bytes(kind.number(), bytes, 3));
+    let (mut i, mut q) = soft_rows(&chips, 1.0);
+    i.resize(wide + chips.len() + 1, 0.0);
+    q.resize(wide + chips.len(), 0.0);
+    out.call(Call::soft(kind.number(), (i, q), 3));
+}
+
 /// A frame with zeros behind it, of fewer chips than the front in its length's lowest bits, by each recorder; so many
 /// bytes too.
 fn wide_recording(out: &mut Out, kind: Kind, wide: usize) {
@@ -83,11 +107,16 @@ fn wide_search(out: &mut Out, kind: Kind, wide: usize) {
     }
 }
 
-/// Shows: a length that is cut to 16, 20, 22 or 24 bits, of a payload and of a chip buffer.
+/// Shows: a length that is cut to 16, 20, 22 or 24 bits, of a payload and of a chip buffer; and of what is filled where
+/// a write or a read is refused.
 pub fn wide_writes(out: &mut Out) {
     for wide in WIDTHS.map(|bits| 1 << bits) {
         Kind::BOTH.into_iter().for_each(|kind| wide_write(out, kind, wide));
     }
+    for wide in [1 << 16, 1 << 20] {
+        Kind::BOTH.into_iter().for_each(|kind| wide_refused(out, kind, wide));
+    }
+    wide_refused(out, Kind::Short, 1 << 24);
 }
 
 /// The same of recordings, by each recorder and from the front alone; the widest of one kind.
@@ -98,6 +127,9 @@ pub fn wide_recordings(out: &mut Out) {
             wide_recording(out, Kind::Short, wide);
         }
     }
+    for wide in [1 << 16, 1 << 20] {
+        Kind::BOTH.into_iter().for_each(|kind| wide_odd(out, kind, wide));
+    }
 }
 
 /// The same of octet buffers, of full reads and of a text.
@@ -105,6 +137,8 @@ pub fn wide_rooms(out: &mut Out) {
     for wide in WIDTHS.map(|bits| 1 << bits) {
         wide_room(out, Kind::Short, wide);
     }
+    wide_room(out, Kind::Long, 1 << 16);
+    wide_room(out, Kind::Long, 1 << 20);
 }
 
 /// The same of recordings to search and to count, of lists and of their kinds.
