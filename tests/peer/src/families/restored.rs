@@ -78,6 +78,18 @@ fn short_in_16_bits(out: &mut Out) {
     }
 }
 
+/// Soft recordings of a size about 2^16, 2^20 or 2^24.
+fn far_soft(out: &mut Out) {
+    for _ in 0..out.cases(3) {
+        let (kind, rate) = any_pair(&mut out.random);
+        let (mut i, mut q) = soft_rows(&Draft::random(kind, rate, 4, &mut out.random).chips(), 1.0);
+        let len = far_size(&mut out.random);
+        i.resize(len, 0.0);
+        q.resize(len, 0.0);
+        out.call(Call::soft(kind.number(), (i, q), 4));
+    }
+}
+
 pub fn chips_after_the_frame(out: &mut Out) {
     for _ in 0..out.cases(1100) {
         let (kind, rate) = any_pair(&mut out.random);
@@ -111,12 +123,5 @@ pub fn chips_after_the_frame(out: &mut Out) {
         }
     }
     short_in_16_bits(out);
-    for _ in 0..out.cases(3) {
-        let (kind, rate) = any_pair(&mut out.random);
-        let (mut i, mut q) = soft_rows(&Draft::random(kind, rate, 4, &mut out.random).chips(), 1.0);
-        let len = far_size(&mut out.random);
-        i.resize(len, 0.0);
-        q.resize(len, 0.0);
-        out.call(Call::soft(kind.number(), (i, q), 4));
-    }
+    far_soft(out);
 }
