@@ -55,6 +55,7 @@ use Rattle.rules_reading.specs.Reading.{
 }
 use Rattle.rules_reading.proofs.Leads.{leads-length, leads-at, LeastIs, least-is}
 use Rattle.rules_reading.proofs.Refusals.{PayloadIf, payload-comes}
+use Rattle.rules_reading.specs.Places.{countsFrom}
 use Rattle.promises.specs.Calls.{in-hard, in-soft, in-bytes}
 use Rattle.promises.specs.Right.{exactFrom, Keeps}
 use Rattle.promises.specs.Leads.{
@@ -62,7 +63,6 @@ use Rattle.promises.specs.Leads.{
   of-preamble,
   of-header,
   of-payload,
-  countsFrom,
   LeastIn,
   LeastTold,
   Sure,

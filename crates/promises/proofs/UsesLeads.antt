@@ -27,13 +27,13 @@ use Rattle.rules_frame.specs.declared.Kind.the-variants.{Long, Short}
 use Rattle.rules_frame.specs.Frame.{kindOf}
 use Rattle.rules_calls.specs.declared.Record.{Record}
 use Rattle.rules_reading.specs.Reading.{preambleWords, headerWords, payloadWords}
+use Rattle.rules_reading.specs.Places.{countsFrom}
 use Rattle.promises.specs.Calls.{Read, ReadHard, ReadSoft, ReadBytes, in-hard, in-soft, in-bytes}
 use Rattle.promises.specs.Leads.{
   SymbolOf,
   of-preamble,
   of-header,
   of-payload,
-  countsFrom,
   LeastIn,
 }
 use Rattle.promises.specs.Right.{exactFrom, exactHard, exactSoft, exactBytes}

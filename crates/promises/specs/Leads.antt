@@ -4,13 +4,13 @@
 use Prim.Native.Nat.{ℕ, _+_, _*_, _/_, _≤_, _<_}
 use mathlib.Core.Path.{_≡_}
 use mathlib.Core.Bool.{Bool}
-use mathlib.Core.List.{List, map}
-use lib.ListN.{getD, take, drop}
+use mathlib.Core.List.{List}
+use lib.ListN.{getD}
 use Rattle.rules_rates.specs.declared.Rate.{Rate}
 use Rattle.rules_rates.specs.declared.Rate.the-variants.{One}
 use Rattle.rules_rates.specs.Rates.{rateOf, symbolChips, symbolBits}
 use Rattle.rules_chips.specs.declared.Counts.{Counts}
-use Rattle.rules_chips.specs.Chips.{Taken, takenCounts}
+use Rattle.rules_chips.specs.Chips.{Taken}
 use Rattle.rules_choosing.specs.Scores.{LeadsBy}
 use Rattle.rules_choosing.specs.Demand3.{LeadsExactly}
 use Rattle.rules_frame.specs.declared.Kind.{Kind}
@@ -24,6 +24,7 @@ use Rattle.rules_frame.specs.Frame.{
   preambleChips,
 }
 use Rattle.rules_calls.specs.declared.Record.{Record}
+use Rattle.rules_reading.specs.Places.{countsFrom}
 use Rattle.rules_reading.specs.Reading.{preambleWords, headerWords, payloadWords}
 use Rattle.promises.specs.Calls.{Read, Rows, in-hard, in-soft, in-bytes, takenOf}
 use Rattle.promises.specs.Right.{exactFrom, exactRows, GoodAt}
@@ -38,10 +39,6 @@ pub data SymbolOf (k : Kind) (r : Rate) (n : ℕ) (rec : List Taken) : ℕ → R
       (getD (headerWords k rec) j 0)
   of-payload : (j : ℕ) → j < 8 * n / symbolBits r
       → SymbolOf k r n rec (frontSymbols k + j) r (frontChips k + j * symbolChips r) (getD (payloadWords k r n rec) j 0)
-
--- the counts of the chips of a symbol of a rate that starts at a place
-abbrev pub countsFrom : Rate → ℕ → List Taken → List Counts
-countsFrom q at rec = map takenCounts (take (symbolChips q) (drop at rec))
 
 -- a symbol's word leads the other allowed words by at least so much; if it stands before the symbol told, by more
 pub record LeadsEnough (lead symbol s : ℕ) (q : Rate) (cs : List Counts) (w : ℕ) : Type 0 where

@@ -10,6 +10,7 @@ use lib.Dec.{T}
 use Rattle.rules_rates.specs.declared.Rate.{Rate}
 use Rattle.rules_rates.specs.declared.Rate.the-variants.{One}
 use Rattle.rules_rates.specs.Rates.{symbolChips}
+use Rattle.rules_chips.specs.declared.Counts.{Counts}
 use Rattle.rules_chips.specs.Chips.{Taken, unusable, isUnusable, takenCounts}
 use Rattle.rules_symbols.specs.Choice.{decided}
 use Rattle.rules_bits.specs.Growths.{grownBy}
@@ -23,9 +24,12 @@ pub record UnusableFirst (rec : List Taken) (place : ℕ) : Type 0 where
   pub is-one : T (isUnusable (getD rec place unusable))
   pub before : (q : ℕ) → q < place → UsableAt rec q
 
--- the word that a symbol of a rate is decided as, from the chips that start at a place
+-- the counts of the chips of a symbol of a rate that starts at a place, and the word that it is decided as
+abbrev pub countsFrom : Rate → ℕ → List Taken → List Counts
+countsFrom q at rec = map takenCounts (take (symbolChips q) (drop at rec))
+
 abbrev pub wordFrom : Rate → ℕ → List Taken → ℕ
-wordFrom q at rec = decided q (map takenCounts (take (symbolChips q) (drop at rec)))
+wordFrom q at rec = decided q (countsFrom q at rec)
 
 -- 10: the first chip of the first 1 Mbit/s symbol that grew by 1 or 3. Symbols of 11 chips stand one behind the other
 -- from the recording's start; how far the one behind symbol s grew from it, modulo 2
