@@ -22,7 +22,7 @@ use Rattle.rules_symbols.specs.Words.{wordOf}
 use Rattle.rules_symbols.specs.Choice.{term, score, numbers, isAllowed, decided}
 use Rattle.rules_symbols.proofs.Words.{Phases, phases-tail, word-phases, word-length}
 use Rattle.rules_symbols.proofs.Numbers.{word-one}
-use Rattle.rules_choosing.proofs.Agreement.{one, agreeing, opposed, clean}
+use Rattle.rules_symbols.proofs.Agreement.{one, agreeing, opposed, clean}
 use Rattle.rules_choosing.proofs.Decided.{decided-leads}
 
 -- four phases

@@ -22,7 +22,7 @@ use Rattle.rules_symbols.specs.Choice.{numbers, isAllowed, decided, leadOf}
 use Rattle.rules_symbols.proofs.Words.{word-phases, word-length, turn}
 use Rattle.rules_symbols.proofs.Numbers.{p2-back, p3-back, p4-back}
 use Rattle.rules_choosing.specs.Scores.{scoreAt, DecidedAs, NextAs}
-use Rattle.rules_choosing.proofs.Agreement.{agreeing, opposed, clean, cleanLead}
+use Rattle.rules_symbols.proofs.Agreement.{agreeing, opposed, clean, cleanLead}
 use Rattle.rules_choosing.proofs.Decided.{decided-best}
 use Rattle.rules_choosing.proofs.Clean.{Full, score-full, score-self, decided-clean}
 use Rattle.rules_choosing.proofs.Leads.{lead-by}

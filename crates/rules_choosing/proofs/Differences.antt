@@ -14,7 +14,7 @@ use Rattle.rules_chips.specs.Chips.{turned}
 use Rattle.rules_symbols.specs.Words.{cckWord, cckNumber, cckOf, p1Of, p2Of, p3Of, p4Of}
 use Rattle.rules_symbols.proofs.Words.{turn}
 use Rattle.rules_symbols.proofs.Numbers.{number-back, p1-back, p2-back, p3-back, p4-back, number-below}
-use Rattle.rules_choosing.proofs.Agreement.{one, agreeing, opposed}
+use Rattle.rules_symbols.proofs.Agreement.{one, agreeing, opposed}
 
 iff : (a b : Bool) → (T a → T b) → (T b → T a) → a ≡ b
 iff true true f g = refl

@@ -1,4 +1,3 @@
-pub mod Agreement
 pub mod Small
 pub mod Best
 pub mod Sixteen

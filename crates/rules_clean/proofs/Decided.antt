@@ -17,7 +17,7 @@ use Rattle.rules_chips.specs.Chips.{Taken, takenCounts, fullChip}
 use Rattle.rules_symbols.specs.Words.{wordOf}
 use Rattle.rules_symbols.specs.Choice.{decided, leadOf}
 use Rattle.rules_symbols.proofs.Words.{word-length}
-use Rattle.rules_choosing.proofs.Agreement.{cleanLead}
+use Rattle.rules_symbols.proofs.Agreement.{cleanLead}
 use Rattle.rules_choosing.proofs.Clean.{decided-clean}
 use Rattle.rules_choosing.proofs.CleanLeads.{lead-clean}
 use Rattle.rules_reading.specs.Leads.{decidedLeads}

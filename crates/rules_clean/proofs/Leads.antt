@@ -10,7 +10,7 @@ use Rattle.rules_rates.specs.declared.Rate.{Rate}
 use Rattle.rules_rates.specs.declared.Rate.the-variants.{One, Two, Five, Eleven}
 use Rattle.rules_rates.specs.Rates.{symbolBits}
 use Rattle.rules_chips.specs.Chips.{Taken}
-use Rattle.rules_choosing.proofs.Agreement.{cleanLead}
+use Rattle.rules_symbols.proofs.Agreement.{cleanLead}
 use Rattle.rules_frame.specs.declared.Kind.{Kind}
 use Rattle.rules_frame.specs.declared.Kind.the-variants.{Long, Short}
 use Rattle.rules_frame.specs.Frame.{headerRate, preambleLength, headerLength, frontSymbols}

@@ -19,7 +19,7 @@ use Rattle.rules_symbols.proofs.Words.{word-phases}
 use Rattle.rules_frame.specs.declared.Kind.{Kind}
 use Rattle.rules_frame.specs.declared.Kind.the-variants.{Long, Short}
 use Rattle.rules_frame.specs.Frame.{headerRate, frontChips, preambleLength, headerLength, partsChips, preambleChips}
-use Rattle.rules_choosing.proofs.Agreement.{cleanLead}
+use Rattle.rules_symbols.proofs.Agreement.{cleanLead}
 use Rattle.rules_reading.specs.Leads.{decidedLeads, frontLeads, payloadLeads}
 use Rattle.rules_reading.specs.Reading.{
   orElse,

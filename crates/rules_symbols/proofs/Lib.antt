@@ -1,3 +1,4 @@
 pub mod Words
 pub mod Numbers
 pub mod Facts
+pub mod Agreement
