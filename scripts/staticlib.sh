@@ -38,7 +38,8 @@ fail() {
     exit 1
 }
 
-RT_JOBS=${RT_JOBS:-$(nproc)}
+# rt waits for all the checks that it started together: twice as many as cores leave no core idle meanwhile
+RT_JOBS=${RT_JOBS:-$((2 * $(nproc)))}
 export RT_JOBS
 echo "proving $all crates, $RT_JOBS at a time: minutes where they are not proved yet, seconds where they are"
 # shellcheck disable=SC2086 # a list of names
