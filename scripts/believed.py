@@ -16,9 +16,7 @@ not what the tree gives. Lines are counted without comments, imports and blank o
 """
 import os
 import re
-import subprocess
 import sys
-import tempfile
 
 import promises
 
@@ -214,37 +212,17 @@ WRONG = [
 ]
 
 
-def self_test():
-    with tempfile.TemporaryDirectory() as root:
-        subprocess.run(['git', 'init', '-q'], cwd=root, check=True)
-        promises.lay(root, SMALL)
-        good = {**SMALL, promises.DOCUMENT: looked_at(root)[1]}
-        promises.lay(root, good)
-        faults = checked(root).faults
-        if faults:
-            sys.exit(f'believed.py: self-test: a good tree is refused: {faults}')
-        for path, old, new, fault in WRONG:
-            assert old in good[path], (path, old)
-            promises.lay(root, {path: good[path].replace(old, new, 1)})
-            if not any(fault in said for said in checked(root).faults):
-                sys.exit(f'believed.py: self-test: not found: {fault}')
-            promises.lay(root, {path: good[path]})
-
-
 def main():
     root = os.path.dirname(os.path.dirname(os.path.abspath(__file__)))
     if sys.argv[1:] == ['--check']:
-        self_test()
+        promises.self_test('believed.py', SMALL, WRONG, lambda r: looked_at(r)[1], lambda r: checked(r).faults)
         tree = checked(root)
     elif not sys.argv[1:]:
         tree, text = looked_at(root)
         promises.lay(root, {promises.DOCUMENT: text})
     else:
         sys.exit('believed.py: a word it does not know; it takes --check or nothing')
-    for fault in tree.faults:
-        print('believed.py:', fault)
-    print(f'believed.py: {len(tree.faults)} faults')
-    sys.exit(1 if tree.faults else 0)
+    promises.end('believed.py', tree.faults)
 
 
 if __name__ == '__main__':

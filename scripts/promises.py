@@ -513,27 +513,35 @@ def lay(root, files):
             f.write(text)
 
 
-def self_test():
+def self_test(script, small, wrong, made, faults_of):
+    """A small tree passes, with the document that is made of it, and each wrong version of it is found out."""
     with tempfile.TemporaryDirectory() as root:
         subprocess.run(['git', 'init', '-q'], cwd=root, check=True)
-        lay(root, SMALL)
-        good = {**SMALL, DOCUMENT: looked_at(root)[2]}
+        lay(root, small)
+        good = {**small, DOCUMENT: made(root)}
         lay(root, good)
-        faults = checked(root)[0].faults
-        if faults:
-            sys.exit(f'promises.py: self-test: a good tree is refused: {faults}')
-        for path, old, new, fault in WRONG:
+        if faults_of(root):
+            sys.exit(f'{script}: self-test: a good tree is refused: {faults_of(root)}')
+        for path, old, new, fault in wrong:
             assert old in good[path], (path, old)
             lay(root, {path: good[path].replace(old, new, 1)})
-            if not any(fault in said for said in checked(root)[0].faults):
-                sys.exit(f'promises.py: self-test: not found: {fault}')
+            if not any(fault in said for said in faults_of(root)):
+                sys.exit(f'{script}: self-test: not found: {fault}')
             lay(root, {path: good[path]})
+
+
+def end(script, faults, said=''):
+    """Says each fault and how many they are; the status is 1 if there is one."""
+    for fault in faults:
+        print(f'{script}:', fault)
+    print(f'{script}: {said}{len(faults)} faults')
+    sys.exit(1 if faults else 0)
 
 
 def main():
     root = os.path.dirname(os.path.dirname(os.path.abspath(__file__)))
     if sys.argv[1:] == ['--check']:
-        self_test()
+        self_test('promises.py', SMALL, WRONG, lambda r: looked_at(r)[2], lambda r: checked(r)[0].faults)
         tree, rows = checked(root)
     elif not sys.argv[1:]:
         tree, rows, text = looked_at(root)
@@ -541,10 +549,7 @@ def main():
         check_words(tree, text)
     else:
         sys.exit('promises.py: a word it does not know; it takes --check or nothing')
-    for fault in tree.faults:
-        print('promises.py:', fault)
-    print(f'promises.py: {len(rows)} promises, {len(tree.faults)} faults')
-    sys.exit(1 if tree.faults else 0)
+    end('promises.py', tree.faults, f'{len(rows)} promises, ')
 
 
 if __name__ == '__main__':
