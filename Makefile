@@ -33,7 +33,7 @@ test: ## everything that must pass; its last line is 'N passed, 0 failed'
 	scripts/gate.sh
 
 # Every edit alone and from nothing; the gate tries them together.
-edits-alone: ## tries every edit alone and from nothing, half an hour of processor time
+edits-alone: ## tries every edit alone and from nothing, 20 minutes of processor time
 	rt check
 	python3 scripts/refused.py --alone
 
