@@ -1,14 +1,15 @@
 -- What the symbols of a frame that was written say: every chip is that of the word that its symbol is read as; the
 -- first eight go by the starting phase, and SYNC is what the kind says, bit by bit. Assumes nothing.
 use mathlib.Core.Path.{_≡_, refl, sym, ap, _∙_, subst}
-use mathlib.Core.List.{List, _++_}
+use mathlib.Core.List.{List, [], _∷_, _++_}
 use Prim.Native.Nat.{ℕ, _+_, _-_, _≤_, _<_}
 use native.Mathlib.Omega.{arith}
-use lib.ListN.{length, take, drop, replicate}
+use lib.ListN.{length, getD, take, drop, replicate}
 use lib.Seq.{take-append-le}
 use Rattle.rules_rates.specs.declared.Rate.the-variants.{One}
 use Rattle.rules_rates.specs.Rates.{rateOf}
 use Rattle.rules_chips.specs.Chips.{Taken, hardRecording}
+use Rattle.rules_symbols.specs.Words.{barkerWord}
 use Rattle.rules_bits.specs.Bits.{numberOf}
 use Rattle.rules_bits.specs.Code.{wordsChips}
 use Rattle.rules_frame.specs.declared.Kind.{Kind}
@@ -61,6 +62,22 @@ some-front : (k : Kind) → 88 ≤ frontChips k
 some-front Long = omega arith
 some-front Short = omega arith
 
+-- the first of them is the starting phase
+front-chip : (chips : List ℕ) → getD (take 88 chips) 0 4 ≡ getD chips 0 4
+front-chip [] = refl
+front-chip (c ∷ chips) = refl
+
+phase-first : {kind rate front octet : ℕ} → Goes kind rate front octet → (p : ℕ) → p < 4
+    → getD (wordsChips One (beginsWith kind p)) 0 4 ≡ p
+unfolding wordsChips barkerWord
+phase-first long-1 p h = omega arith
+phase-first long-2 p h = omega arith
+phase-first long-5 p h = omega arith
+phase-first long-11 p h = omega arith
+phase-first short-2 p h = omega arith
+phase-first short-5 p h = omega arith
+phase-first short-11 p h = omega arith
+
 module _ (kind rate phase clock : ℕ) (payload : List ℕ) (w : Written) (chips : List ℕ)
     (s : Sent kind rate phase clock payload w chips) where
   abbrev k : Kind
@@ -79,6 +96,11 @@ module _ (kind rate phase clock : ℕ) (payload : List ℕ) (w : Written) (chips
       (omega (arith, sent-length kind rate phase clock payload w chips s, some-front k))
       ∙ first-eight k (rateOf rate) phase (clockOf clock) payload (s .sendable .phase-is)
       ∙ ap (wordsChips One) (phases-are (s .sendable .goes) phase)
+
+  pub first-chip : getD chips 0 4 ≡ phase
+  first-chip =
+      sym (front-chip chips) ∙ ap (λ (l : List ℕ). getD l 0 4) eight
+      ∙ phase-first (s .sendable .goes) phase (s .sendable .phase-is)
 
   recorded : hardRecording chips ≡ cleanRecording all ++ hardRecording tail
   recorded =

@@ -2,67 +2,27 @@
 -- chip tells the starting phase, since the first scrambled bit is the same for every frame of a kind. And what the
 -- starting phase does to all of them. Assumes nothing.
 use mathlib.Core.Path.{_≡_, refl, sym, ap, ap₂, _∙_, subst}
-use mathlib.Core.Bool.{Bool, true}
+use mathlib.Core.Bool.{true}
 use mathlib.Core.List.{List, _++_, map}
-use Prim.Native.Nat.{ℕ, _+_, _-_, _≤_, _<_}
+use Prim.Native.Nat.{ℕ, _+_, _-_, _≤_}
 use native.Mathlib.Omega.{arith}
-use lib.ListN.{length, getD, take, drop, replicate, take-append-drop, List·getD-append}
+use lib.ListN.{length, take, drop, replicate, take-append-drop}
 use lib.Seq.{take-at}
-use Rattle.rules_rates.specs.declared.Rate.{Rate}
 use Rattle.rules_rates.specs.Rates.{rateOf, lengthField}
 use Rattle.rules_chips.specs.Chips.{turned, hardRecording}
-use Rattle.rules_symbols.specs.Words.{barkerWord}
-use Rattle.rules_bits.specs.Bits.{bitsOf}
-use Rattle.rules_bits.specs.Growths.{symbolOf, symbolsFrom, symbolsOf, chipsFrom}
-use Rattle.rules_bits.specs.Scrambler.{mixed, scramble}
-use Rattle.rules_frame.specs.declared.Kind.{Kind}
-use Rattle.rules_frame.specs.declared.Kind.the-variants.{Long, Short}
-use Rattle.rules_frame.proofs.Sizes.{frame-length}
 use Rattle.rules_frame.proofs.Begins.{frame-turned}
 use Rattle.rules_calls.specs.declared.Written.{Written}
 use Rattle.rules_calls.specs.declared.Record.{Record}
-use Rattle.rules_frame.specs.Frame.{
-  kindOf,
-  clockOf,
-  frontChips,
-  preambleBits,
-  frameBits,
-  sentBits,
-  partsChips,
-  framed,
-  frame,
-}
+use Rattle.rules_frame.specs.Frame.{kindOf, clockOf}
 use Rattle.rules_calls.specs.Answers.{recordOf}
 use Rattle.rules_reading.specs.Reading.{readingOf, octetsFound}
 use Rattle.promises.specs.Calls.{Read, Sent, of-hard, good, shown, sentLead, sentSymbol}
 use Rattle.promises.specs.Promises.{OneSource, PhaseTurns}
-use Rattle.promises.proofs.Back.{back, chips-are, taken}
-
--- the first scrambled bit is 0 for both kinds, so the first chip is the starting phase
-first-chip : (k : Kind) (r : Rate) (p : ℕ) (clock : Bool) (xs : List ℕ)
-    → getD (frame k r p clock xs) 0 4 ≡ turned (turned p 0) 0
-unfolding
-    frame framed partsChips sentBits frameBits preambleBits
-    bitsOf scramble mixed symbolsOf symbolsFrom symbolOf chipsFrom barkerWord
-first-chip Long r p clock xs = refl
-first-chip Short r p clock xs = refl
+use Rattle.promises.proofs.Back.{back, taken}
+use Rattle.promises.proofs.Begins.{first-chip}
 
 module _ (kind rate phase clock : ℕ) (payload : List ℕ) (w : Written) (chips : List ℕ)
     (s : Sent kind rate phase clock payload w chips) where
-  begins : getD chips 0 4 ≡ phase
-  begins =
-      ap (λ (l : List ℕ). getD l 0 4) (chips-are kind rate phase clock payload w chips s)
-      ∙ List·getD-append (frame (kindOf kind) (rateOf rate) phase (clockOf clock) payload) _ 4 0
-      (omega (arith, frame-length (kindOf kind) (rateOf rate) phase (clockOf clock) payload, some-front (kindOf kind)))
-      ∙ first-chip (kindOf kind) (rateOf rate) phase (clockOf clock) payload ∙ itself phase (s .sendable .phase-is)
-    where
-      itself : (p : ℕ) → p < 4 → turned (turned p 0) 0 ≡ p
-      itself p h = omega arith
-
-      some-front : (k : Kind) → 0 < frontChips k
-      some-front Long = omega arith
-      some-front Short = omega arith
-
   -- what a reading of all the chips answers, with room
   reads : (room : ℕ) → length payload ≤ room
       → (recordOf (readingOf kind true (hardRecording chips) room)
@@ -89,7 +49,8 @@ one-source kind rate rate′ phase phase′ clock clock′ payload payload′ w 
     (sentLead rate′) (sentSymbol kind rate′) = sym (a .0) ∙ b .0 in
     let n : length payload ≡ length payload′ = ap (λ (x : Record). x .n) both in (
       ap (λ (x : Record). x .rate) both,
-      sym (begins kind rate phase clock payload w chips s) ∙ begins kind rate′ phase′ clock′ payload′ w′ chips t,
+      sym (first-chip kind rate phase clock payload w chips s)
+          ∙ first-chip kind rate′ phase′ clock′ payload′ w′ chips t,
       ap (λ (x : Record). x .clock) both,
       sym (take-at payload (replicate (room - length payload) 0) (length payload) refl)
           ∙ ap₂ {C = List ℕ} (λ j l. take j l) n (sym (a .1) ∙ b .1)
