@@ -1,12 +1,14 @@
 -- LENGTH and bit 7 as a reader takes them, in natural numbers: whole octets, less bit 7 where that leaves one.
---     told-none                                      nothing is left: none are told
---     told-over, told-length, told-seven, told-all   something is left: it is told exactly when it is a payload and
---                                                    its own LENGTH and bit 7 are those read
+--     read-payload, read-is                          what is left is a payload exactly when the octets read are
+--                                                    one, and is then their number
+--     told-over, told-length, told-seven, told-all   what is left is told exactly when it is a payload and its own
+--                                                    LENGTH and bit 7 are those read
 --     told-fails, told-holds                         LENGTH holds exactly when octets are told, and they are those read
--- A difference that does not go below 0 is a natural number; one that does is no payload. Assumes nothing.
+-- A difference that does not go below 0 is a natural number; one that does is no payload, nor is 0. Assumes nothing.
 use mathlib.Core.Path.{_≡_, refl, sym, ap, _∙_, subst}
 use mathlib.Core.Bool.{Bool, true, false, cond, _&&_}
-use Prim.Native.Nat.{ℕ, zero, suc, _-_, _≤_, _<_}
+use Prim.Native.Nat.{ℕ, zero, suc, _+_, _-_, _≤_}
+use native.Mathlib.Decide.{decLe}
 use native.Mathlib.Omega.{arith}
 use borrow.Author.Tests.{eq-eqb, ne-eqb}
 use lib.Dec.{T}
@@ -39,42 +41,47 @@ below-one w s h true e =
     one = record { le = subst T (sym e) tt }
 below-one w s h false e = refl
 
-pub told-none : (r : Rate) (l s w : ℕ) → w ≡ wholeOctets r l → w ≤ s → 0 ≡ octetsTold r l s
-unfolding octetsTold
-told-none r l s w e h = rw (← e, below-one w s h _ refl)
-
-module _ (r : Rate) (l s w : ℕ) (e : w ≡ wholeOctets r l) (h : s < w) where
-  read : octetsRead r l s ≡ pos (w - s)
-  read = rw (← e) (less w s (w - s) (omega arith))
-
-  pub told-over : isPayload (pos (w - s)) ≡ false → 0 ≡ octetsTold r l s
-  unfolding octetsTold
-  told-over k = rw (read, k)
-
-  pub told-length : isPayload (pos (w - s)) ≡ true → (f : ℕ) → f ≡ lengthField r (w - s) → (f ≡ l → ⊥) → 0
-      ≡ octetsTold r l s
-  unfolding octetsTold
-  told-length k f q n = rw (read, k, ← q, ne-eqb f l n)
-
-  pub told-seven : isPayload (pos (w - s)) ≡ true → (f g : ℕ) → f ≡ lengthField r (w - s) → f ≡ l → g ≡ bit7 r (w - s)
-      → (g ≡ s → ⊥)
-      → 0 ≡ octetsTold r l s
-  unfolding octetsTold
-  told-seven k f g q m p n =
-      rw (read, k, ← q, eq-eqb f l m, ← p, ne-eqb g s n)
-
-  pub told-all : isPayload (pos (w - s)) ≡ true → (f g : ℕ) → f ≡ lengthField r (w - s) → f ≡ l → g ≡ bit7 r (w - s)
-      → g ≡ s
-      → w - s ≡ octetsTold r l s
-  unfolding octetsTold
-  told-all k f g q m p n =
-      rw (read, k, ← q, eq-eqb f l m, ← p, eq-eqb g s n)
+-- a difference is a payload exactly when what is left, in natural numbers, is one
+counted : (w s : ℕ) → isPayload (pos w -ℤ pos s) ≡ isPayload (pos (w - s))
+counted w s = by (decLe s w)
+  where
+    by : Dec (s ≤ w) → isPayload (pos w -ℤ pos s) ≡ isPayload (pos (w - s))
+    by (yes h) = ap isPayload (less w s (w - s) (omega arith))
+    by (no h) = let z : w - s ≡ 0 = omega arith in rw (below-one w s (omega arith) _ refl, z)
 
 -- a payload is not none
 payload-some : (z : ℤ) → isPayload z ≡ true → natAbs z ≡ 0 → ⊥
 payload-some (pos zero) e q = subst T (sym e) tt
 payload-some (pos (suc n)) e q = omega arith
 payload-some (negsuc n) e q = subst T (sym e) tt
+
+module _ (r : Rate) (l s n : ℕ) (e : n ≡ wholeOctets r l - s) where
+  pub read-payload : isPayload (octetsRead r l s) ≡ isPayload (pos n)
+  read-payload = rw e (counted (wholeOctets r l) s)
+
+  pub read-is : isPayload (pos n) ≡ true → octetsRead r l s ≡ pos n
+  read-is k = let some = payload-some (pos n) k in less (wholeOctets r l) s n (left (wholeOctets r l) e some)
+    where
+      left : (w : ℕ) → n ≡ w - s → (n ≡ 0 → ⊥) → w ≡ n + s
+      left w e some = omega arith
+
+  pub told-over : isPayload (pos n) ≡ false → 0 ≡ octetsTold r l s
+  unfolding octetsTold
+  told-over k = rw (read-payload, k)
+
+  module _ (k : isPayload (pos n) ≡ true) (f : ℕ) (q : f ≡ lengthField r n) where
+    pub told-length : (f ≡ l → ⊥) → 0 ≡ octetsTold r l s
+    unfolding octetsTold
+    told-length m = rw (read-is k, k, ← q, ne-eqb f l m)
+
+    module _ (m : f ≡ l) (g : ℕ) (p : g ≡ bit7 r n) where
+      pub told-seven : (g ≡ s → ⊥) → 0 ≡ octetsTold r l s
+      unfolding octetsTold
+      told-seven t = rw (read-is k, k, ← q, eq-eqb f l m, ← p, ne-eqb g s t)
+
+      pub told-all : g ≡ s → n ≡ octetsTold r l s
+      unfolding octetsTold
+      told-all t = rw (read-is k, k, ← q, eq-eqb f l m, ← p, eq-eqb g s t)
 
 first : (a b c : Bool) → a && b && c ≡ true → a ≡ true
 first true b c e = refl

@@ -3,7 +3,7 @@ ghost use mathlib.Core.Path.{_≡_};
 ghost use mathlib.Core.List.{[], _∷_};
 ghost use lib.ListN.{length};
 ghost use Rattle.base.specs.Below.{Below};
-ghost use Rattle.rules_bits.specs.Bits.{_⊕_, bitsOf, numberOf, octetBits};
+ghost use Rattle.rules_bits.specs.Bits.{_⊕_, bitsOf, numberOf, highestFirst, octetBits};
 ghost use Rattle.rules_bits.specs.Crc.{crcStep, remainder, complement, crcBits};
 ghost use Rattle.common_header.specs.Registers.{inTime, terms};
 
@@ -166,4 +166,28 @@ pub fn crc_octets(a: u8, b: u8, c: u8, d: u8) -> [u8; 2]
     let first = r4.first;
     let second = r4.second;
     [pack_not(first), pack_not(second)]
+}
+
+// The number of eight bits of which the octet's lowest is the highest.
+fn turned(x: u8) -> u8
+    ensures answer { λ r. ⌜ r ≡ highestFirst (bitsOf 8 x) ⌝ }
+{
+    let e = unpack(x);
+    pack(Eight {
+        b0: e.b7,
+        b1: e.b6,
+        b2: e.b5,
+        b3: e.b4,
+        b4: e.b3,
+        b5: e.b2,
+        b6: e.b1,
+        b7: e.b0,
+    })
+}
+
+// Two octets of a CRC as a number: the first bit sent, the first octet's lowest, is the highest.
+pub fn highest_first(first: u8, second: u8) -> usize
+    ensures answer { λ n. ⌜ n ≡ highestFirst (octetBits (first ∷ second ∷ [])) ⌝ }
+{
+    256 * (turned(first) as usize) + turned(second) as usize
 }

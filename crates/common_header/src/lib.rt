@@ -7,11 +7,11 @@ use rules_rates::Rate;
 ghost use mathlib.Core.Path.{_≡_};
 ghost use mathlib.Core.Bool.{_&&_};
 ghost use mathlib.Core.List.{[], _∷_};
-ghost use Prim.Native.Nat.{_≤_, _<_};
+ghost use Prim.Native.Nat.{_-_, _≤_, _<_};
 ghost use lib.Dec.{eqb};
 ghost use lib.ListN.{length, take, drop};
-ghost use Rattle.rules_rates.specs.Rates.{isCode, rateOf};
-ghost use Rattle.rules_bits.specs.Bits.{numberOf, octetBits};
+ghost use Rattle.rules_rates.specs.Rates.{isCode, rateOf, wholeOctets};
+ghost use Rattle.rules_bits.specs.Bits.{numberOf, highestFirst, octetBits};
 ghost use Rattle.rules_bits.specs.Crc.{crcBits};
 ghost use Rattle.rules_frame.specs.Frame.{sfdOf, goesWith, headerBits, sentHeader};
 ghost use Rattle.rules_calls.specs.Headers.{serviceAllowed, ours, sameBits, fieldsOf, headerOf};
@@ -42,18 +42,27 @@ fn service_allowed(r: Rate, service: u8) -> bool
     }
 }
 
-// The octets that LENGTH and bit 7 tell; 0 where a writer would send others for them, or where they are
-// none or above 4,095. That there is one to take away is asked first.
-fn octets_told(r: Rate, length: usize, seven: u8) -> usize
+// The octets that LENGTH and bit 7 say, whether or not a writer would send the two for them; 0 where there is none to
+// take away.
+pub fn octets_or_none(r: Rate, length: usize, seven: u8) -> usize
     requires { ⌜ (length < 65536) × (seven < 2) ⌝ }
-    ensures answer { λ n. ⌜ n ≡ octetsTold r length seven ⌝ }
+    ensures answer { λ n. ⌜ n ≡ wholeOctets r length - seven ⌝ }
 {
     let whole = r.whole_octets(length);
     let less = seven as usize;
     if whole <= less {
         return 0;
     }
-    let n = whole - less;
+    whole - less
+}
+
+// The octets that LENGTH and bit 7 tell; 0 where a writer would send others for them, or where they are
+// none or above 4,095.
+fn octets_told(r: Rate, length: usize, seven: u8) -> usize
+    requires { ⌜ (length < 65536) × (seven < 2) ⌝ }
+    ensures answer { λ n. ⌜ n ≡ octetsTold r length seven ⌝ }
+{
+    let n = octets_or_none(r, length, seven);
     if !rules_rates::is_payload(n) {
         return 0;
     }
@@ -116,7 +125,7 @@ pub fn sfd_of(k: Kind) -> usize
 }
 
 // The number of two octets, the lower first.
-fn both(low: u8, high: u8) -> usize
+pub fn both(low: u8, high: u8) -> usize
     ensures answer { λ n. ⌜ (n ≡ numberOf (octetBits (low ∷ high ∷ []))) × (n < 65536) ⌝ }
 {
     low as usize + 256 * (high as usize)
@@ -141,6 +150,20 @@ fn crc_right(header: [u8; 6]) -> bool
         return false;
     }
     true
+}
+
+// The CRC worked out over a header's first four octets, as a number; and the one that is read in its last two.
+pub fn crc_worked_out(header: [u8; 6]) -> usize
+    ensures answer { λ n. ⌜ n ≡ highestFirst (crcBits (take 32 (octetBits header))) ⌝ }
+{
+    let crc = crc::crc_octets(header[0], header[1], header[2], header[3]);
+    crc::highest_first(crc[0], crc[1])
+}
+
+pub fn crc_read(header: [u8; 6]) -> usize
+    ensures answer { λ n. ⌜ n ≡ highestFirst (drop 32 (octetBits header)) ⌝ }
+{
+    crc::highest_first(header[4], header[5])
 }
 
 // What the SFD and the header tell: refusals 11 to 15, in this order.

@@ -6,6 +6,7 @@ ghost use mathlib.Core.List.{map};
 ghost use lib.ListN.{length};
 ghost use Rattle.promises.specs.Calls.{Wrote, ReadHard, ReadSoft, ReadBytes, ReadFront, Finds};
 ghost use Rattle.promises_report.specs.Calls.{Adds, Lists, Spells};
+ghost use Rattle.promises_why.specs.Calls.{Explains};
 use rules_calls::Record;
 use rules_calls::Written;
 use rules_coming::Coming;
@@ -13,6 +14,7 @@ use rules_finding::Found;
 use rules_report::Counted;
 use rules_report::Report;
 use rules_report::Spelled;
+use rules_why::Reason;
 
 // A payload to the chips of its frame; 4s after the frame, or everywhere after a refusal.
 #[no_mangle]
@@ -63,7 +65,7 @@ pub extern "C" fn dsss_read_bytes_3(kind: u64, bytes: &[i8], octets: &mut [u8]) 
 pub extern "C" fn dsss_read_front(kind: u64, chips: &[u8]) -> Coming
     ensures read { λ c. ⌜ ReadFront kind (now (chips .entry)) c ⌝ }
 {
-    read_front_only::read_front(kind, chips)
+    small_calls::front::read_front(kind, chips)
 }
 
 // The smallest of so many offsets from which a read of a hard recording meets none of 8 to 15, and what the front there
@@ -97,4 +99,12 @@ pub extern "C" fn dsss_report_text(report: Report, text: &mut [u8]) -> Spelled
     ensures spelled { λ s. ⌜ Spells report (length (now (text .entry))) s (now (text .exit)) ⌝ }
 {
     report_text::text(report, text)
+}
+
+// Why a read of a hard recording, with room for so many octets, is refused. No buffer is lent.
+#[no_mangle]
+pub extern "C" fn dsss_why(kind: u64, chips: &[u8], room: u64) -> Reason
+    ensures why { λ r. ⌜ Explains kind (now (chips .entry)) room r ⌝ }
+{
+    small_calls::why::why(kind, chips, room)
 }

@@ -1,5 +1,6 @@
 -- A block heard, over the rate: from its rows to what the definitions of reading say of its words.
---     block-heard, block-octets             the line behind the block with the first odd growth, and its octets
+--     block-odd                             the first odd growth, of any number of words
+--     block-heard, block-octets             the line behind whole octets of them with that growth, and the octets
 --     phases-low, growths-low, codes-low    the rows' entries are small
 -- Assumes nothing.
 use mathlib.Core.Path.{_≡_, refl, sym, ap, ap₂, subst, _∙_}
@@ -115,19 +116,13 @@ phase-small Two n h = omega arith
 phase-small Five n h = omega arith
 phase-small Eleven n h = omega arith
 
--- ---- the block
+-- ---- the block: its words, and then its octets
 
 module _
-    (r : Rate) (f : ℕ) (l : Line) (n : ℕ) (ns ps g cs raw : List ℕ) (room : octetSymbols r * n ≤ 64)
-    (all : length ns ≡ 64)
-    (words : AreWords r (take (octetSymbols r * n) ns))
+    (r : Rate) (f : ℕ) (l : Line) (m : ℕ) (ns ps g : List ℕ) (room : m ≤ 64) (all : length ns ≡ 64)
+    (words : AreWords r (take m ns))
     (is-ps : ps ≡ tabulate (phaseBefore r (l .phase) ns) 65)
-    (is-g : g ≡ tabulate (λ j. grownFor r (f + j) (getD ps j 0) (getD ps (j + 1) 0)) 64)
-    (is-c : cs ≡ tabulate (λ j. numberOf (wordBits r (getD g j 0) (getD ns j 0))) 64)
-    (is-raw : take (n + 1) raw ≡ tabulate (octetAfter r (l .past) cs) (n + 1)) where
-  abbrev m : ℕ
-  m = octetSymbols r * n
-
+    (is-g : g ≡ tabulate (λ j. grownFor r (f + j) (getD ps j 0) (getD ps (j + 1) 0)) 64) where
   abbrev ws : List ℕ
   ws = take m ns
 
@@ -148,50 +143,16 @@ module _
         ∙ phase-small r (getD ws j 0) (words .at j);
   }
 
+  block-phase : getD ps m 0 ≡ lastHeard r (l .phase) ws
+  block-phase = sym (phase-last ws ps long phases)
+
   grown-at : (j : ℕ) → j < m → getD g j 0 ≡ grownFor r (f + j) (getD ps j 0) (getD ps (j + 1) 0)
   grown-at j h =
       ap (λ (xs : List ℕ). getD xs j 0) is-g
       ∙ getD-tabulate (λ j. grownFor r (f + j) (getD ps j 0) (getD ps (j + 1) 0)) 64 j 0 (omega arith)
 
-  code-at : (j : ℕ) → j < m → getD cs j 0 ≡ numberOf (heardBits r (f + j) (getD ps j 0) (getD ws j 0))
-  code-at j h =
-      ap (λ (xs : List ℕ). getD xs j 0) is-c
-      ∙ getD-tabulate (λ j. numberOf (wordBits r (getD g j 0) (getD ns j 0))) 64 j 0 (omega arith)
-      ∙ ap₂ {C = ℕ} (λ x y. numberOf (wordBits r x y))
-      (grown-at j h ∙ ap (grownFor r (f + j) (getD ps j 0)) (phases .at j h)) (sym (word-at j h))
-      ∙ ap numberOf (sym (word-bits r (f + j) (getD ps j 0) (getD ws j 0)))
-
-  raw-at : (j : ℕ) → j < n + 1 → getD raw j 0 ≡ octetAfter r (l .past) cs j
-  raw-at j h =
-      sym (getD-take (n + 1) raw j 0 h)
-      ∙ ap (λ (xs : List ℕ). getD xs j 0) is-raw
-      ∙ getD-tabulate (octetAfter r (l .past) cs) (n + 1) j 0 h
-
-  row : (j : ℕ) → j < n → getD raw (j + 1) 0 ≡ getD (octetsOf n (heard r f (l .phase) ws)) j 0
-  row j h =
-      raw-at (j + 1) (omega arith)
-      ∙ ap (octetAfter r (l .past) cs) (add-one j)
-      ∙ octet-row ws ps long phases f cs (omega (
-        arith,
-        ap length is-c,
-        length-tabulate
-            (λ (j : ℕ). numberOf (wordBits r (getD g j 0) (getD ns j 0))) 64,
-      )) code-at n refl j h (octet-room r j n m h (omega arith))
-
-  size : length (heard r f (l .phase) ws) ≡ 8 * n
-  size = heard-length r f (l .phase) ws ∙ ap (λ (k : ℕ). symbolBits r * k) long ∙ part-bits r n
-
-  block-past : pastOf (getD raw n 0) ≡ take 8 (pastAfter (pastOf (l .past)) (heard r f (l .phase) ws))
-  block-past = row-past r f n l ws raw size (raw-at 0 (omega arith)) row
-
-  pub block-octets : plain n (getD raw 0 0) (behind raw n) ≡ plainOctets r f n l ws
-  block-octets = row-octets r f n l ws raw size (raw-at 0 (omega arith)) row
-
-  block-phase : getD ps m 0 ≡ lastHeard r (l .phase) ws
-  block-phase = sym (phase-last ws ps long phases)
-
   -- at 1 Mbit/s the growths are those of the words; at the others none is odd
-  block-odd : (at : ℕ) → oddGrowth r at (take m g) ≡ oddGrowth r at (growthsOf r (l .phase) ws)
+  pub block-odd : (at : ℕ) → oddGrowth r at (take m g) ≡ oddGrowth r at (growthsOf r (l .phase) ws)
   block-odd at = by r refl
     where
       by : (s : Rate) → s ≡ r → oddGrowth s at (take m g) ≡ oddGrowth s at (growthsOf r (l .phase) ws)
@@ -211,13 +172,55 @@ module _
       by Five e = refl
       by Eleven e = refl
 
-  -- the line behind the block, with the symbols as the code counts them
-  pub block-heard : (s at : ℕ) (o : Place) → s ≡ octetSymbols r → l .phase < 4
-      → whereFound o ≡ oddGrowth r at (take (s * n) g)
-      → Heard r f at l ws (record { line = record { past = getD raw n 0; phase = getD ps (s * n) 0 }; odd = o })
-  block-heard s at o e h w = record {
-    past = block-past;
-    phase = ap (λ (k : ℕ). getD ps (k * n) 0) e ∙ block-phase;
-    small = phases-low r (l .phase) ns h ps is-ps .at (s * n);
-    place = w ∙ ap (λ (k : ℕ). oddGrowth r at (take (k * n) g)) e ∙ block-odd at;
-  }
+  module _
+      (n : ℕ) (cs raw : List ℕ) (is-m : m ≡ octetSymbols r * n)
+      (is-c : cs ≡ tabulate (λ j. numberOf (wordBits r (getD g j 0) (getD ns j 0))) 64)
+      (is-raw : take (n + 1) raw ≡ tabulate (octetAfter r (l .past) cs) (n + 1)) where
+    code-at : (j : ℕ) → j < m → getD cs j 0 ≡ numberOf (heardBits r (f + j) (getD ps j 0) (getD ws j 0))
+    code-at j h =
+        ap (λ (xs : List ℕ). getD xs j 0) is-c
+        ∙ getD-tabulate (λ j. numberOf (wordBits r (getD g j 0) (getD ns j 0))) 64 j 0 (omega arith)
+        ∙ ap₂ {C = ℕ} (λ x y. numberOf (wordBits r x y))
+        (grown-at j h ∙ ap (grownFor r (f + j) (getD ps j 0)) (phases .at j h)) (sym (word-at j h))
+        ∙ ap numberOf (sym (word-bits r (f + j) (getD ps j 0) (getD ws j 0)))
+
+    raw-at : (j : ℕ) → j < n + 1 → getD raw j 0 ≡ octetAfter r (l .past) cs j
+    raw-at j h =
+        sym (getD-take (n + 1) raw j 0 h)
+        ∙ ap (λ (xs : List ℕ). getD xs j 0) is-raw
+        ∙ getD-tabulate (octetAfter r (l .past) cs) (n + 1) j 0 h
+
+    row : (j : ℕ) → j < n → getD raw (j + 1) 0 ≡ getD (octetsOf n (heard r f (l .phase) ws)) j 0
+    row j h =
+        raw-at (j + 1) (omega arith)
+        ∙ ap (octetAfter r (l .past) cs) (add-one j)
+        ∙ octet-row ws ps long phases f cs (omega (
+          arith,
+          ap length is-c,
+          length-tabulate
+              (λ (j : ℕ). numberOf (wordBits r (getD g j 0) (getD ns j 0))) 64,
+        )) code-at n is-m j h (octet-room r j n m h (omega arith))
+
+    size : length (heard r f (l .phase) ws) ≡ 8 * n
+    size = heard-length r f (l .phase) ws ∙ ap (λ (k : ℕ). symbolBits r * k) (long ∙ is-m) ∙ part-bits r n
+
+    block-past : pastOf (getD raw n 0) ≡ take 8 (pastAfter (pastOf (l .past)) (heard r f (l .phase) ws))
+    block-past = row-past r f n l ws raw size (raw-at 0 (omega arith)) row
+
+    pub block-octets : plain n (getD raw 0 0) (behind raw n) ≡ plainOctets r f n l ws
+    block-octets = row-octets r f n l ws raw size (raw-at 0 (omega arith)) row
+
+    -- the symbols as the code counts them
+    counted : (s : ℕ) → s ≡ octetSymbols r → s * n ≡ m
+    counted s e = ap (λ (k : ℕ). k * n) e ∙ sym is-m
+
+    -- the line behind the block
+    pub block-heard : (s at : ℕ) (o : Place) → s ≡ octetSymbols r → l .phase < 4
+        → whereFound o ≡ oddGrowth r at (take (s * n) g)
+        → Heard r f at l ws (record { line = record { past = getD raw n 0; phase = getD ps (s * n) 0 }; odd = o })
+    block-heard s at o e h w = record {
+      past = block-past;
+      phase = ap (λ (k : ℕ). getD ps k 0) (counted s e) ∙ block-phase;
+      small = phases-low r (l .phase) ns h ps is-ps .at (s * n);
+      place = w ∙ ap (λ (k : ℕ). oddGrowth r at (take k g)) (counted s e) ∙ block-odd at;
+    }

@@ -8,6 +8,9 @@ ghost use Rattle.base.specs.Over.{over};
 ghost use Rattle.base.specs.Tables.{tabulate};
 ghost use Rattle.rules_rates.specs.Rates.{symbolBits, octetSymbols, octetChips};
 ghost use Rattle.rules_bits.specs.Bits.{numberOf};
+ghost use Rattle.rules_bits.specs.Growths.{growthsOf};
+ghost use Rattle.rules_reading.specs.Reading.{firstOdd};
+ghost use Rattle.choose_recorded.specs.Recorded.{whereFound};
 ghost use Rattle.hear_codes.specs.Codes.{grownFor, wordBits, phaseBefore, octetAfter, behind, plain, AreWords};
 ghost use Rattle.hear_blocks.specs.Heard.{plainOctets, Heard};
 use choose_recorded::Place;
@@ -115,4 +118,16 @@ pub fn hear(
     let phase = ps[m];
     let line = Line { past, phase };
     Hearing { line, odd }
+}
+
+// The first of m words at 1 Mbit/s that is grown by 1 or 3, the first of them from a phase: its place. Their octets are
+// not asked for.
+pub fn odd_growth(place: usize, before: u8, numbers: [u8; 64], m: usize) -> Place
+    requires { ⌜ (m ≤ 64) × (place + 11 * m < 2 ^ 64) × (before < 4) × (length numbers ≡ 64)
+        × AreWords Rate.One (take m numbers) ⌝ }
+    ensures answer { λ r. ⌜ whereFound r ≡ firstOdd place (growthsOf Rate.One before (take m numbers)) ⌝ }
+{
+    let ps = phases(Rate::One, before, numbers);
+    let g = growths(Rate::One, 0, ps);
+    odd::odd_in(Rate::One, place, g, m)
 }

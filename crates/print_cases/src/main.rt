@@ -32,8 +32,8 @@ fn print_answer(name: &[u8], number: u64, place: u64, row: &[u8]) {
 fn read(chips: &[u8], octets: &mut [u8]) {
     let record: Record = read_frames::read_hard(1, chips, octets);
     print_answer(b"hard ", record.number, record.place, octets);
-    let told: Coming = read_front_only::read_front(1, chips);
-    let part = read_front_only::part(told, chips);
+    let told: Coming = small_calls::front::read_front(1, chips);
+    let part = small_calls::front::part(told, chips);
     print_answer(b"coming ", told.number, told.place, part);
 }
 

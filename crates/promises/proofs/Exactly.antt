@@ -73,7 +73,7 @@ step-once f g a b (on n x) (stop y) = absurd (n b y)
 step-once f g a b (on n x) (on m y) = g a b x y
 
 -- a kind's front has one SFD, at one place, and so many symbols at 1 Mbit/s
-one-bits : {kind at at′ sfd sfd′ ones ones′ : ℕ} → BitsOf kind at sfd ones → BitsOf kind at′ sfd′ ones′
+pub one-bits : {kind at at′ sfd sfd′ ones ones′ : ℕ} → BitsOf kind at sfd ones → BitsOf kind at′ sfd′ ones′
     → (at ≡ at′) × (sfd ≡ sfd′) × (ones ≡ ones′)
 one-bits long-bits long-bits = (refl, refl, refl)
 one-bits short-bits short-bits = (refl, refl, refl)
@@ -145,12 +145,12 @@ module _ (kind : ℕ) (agree : Bool) (rec : List Taken) (room : ℕ) where
         → Is0 (good rate l n (front + octet * n) (service / 4 % 2) lead symbol)
 
   -- ---- the symbols say one header, and it tells one rate, LENGTH and n
-  one-field : (more : ℕ) {at at′ count v v′ : ℕ} → at ≡ at′ → FrontField kind rec (at + more) count v
+  pub one-field : (more : ℕ) {at at′ count v v′ : ℕ} → at ≡ at′ → FrontField kind rec (at + more) count v
       → FrontField kind rec (at′ + more) count v′ → v ≡ v′
   one-field more {count = count} {v = v} e f g =
       field-once (kindOf kind) One rec 0 (subst (λ (i : ℕ). FrontField kind rec (i + more) count v) e f) g
 
-  one-header : {s v l s′ v′ l′ : ℕ} → Headed s v l → Headed s′ v′ l′ → (s ≡ s′) × (v ≡ v′) × (l ≡ l′)
+  pub one-header : {s v l s′ v′ l′ : ℕ} → Headed s v l → Headed s′ v′ l′ → (s ≡ s′) × (v ≡ v′) × (l ≡ l′)
   one-header h g =
       let e = one-bits (h .has .bits-are) (g .has .bits-are) .0 in (
         one-field 16 e (h .signal-is) (g .signal-is),
@@ -158,12 +158,13 @@ module _ (kind : ℕ) (agree : Bool) (rec : List Taken) (room : ℕ) where
         one-field 32 e (h .length-is) (g .length-is),
       )
 
-  header-moved : (P : ℕ → ℕ → ℕ → Type 0) {s v l s′ v′ l′ : ℕ} → Headed s v l → Headed s′ v′ l′ → P s v l → P s′ v′ l′
+  pub header-moved : (P : ℕ → ℕ → ℕ → Type 0) {s v l s′ v′ l′ : ℕ} → Headed s v l → Headed s′ v′ l′ → P s v l
+      → P s′ v′ l′
   header-moved P h g x =
       let e = one-header h g in
       subst (λ (y : ℕ × ℕ × ℕ). P (y .0) (y .1) (y .2)) (λ i. (e .0 i, e .1 i, e .2 i)) x
 
-  one-payload : {r v l n f o r′ v′ l′ n′ f′ o′ : ℕ} → Told r v l n f o → Told r′ v′ l′ n′ f′ o′
+  pub one-payload : {r v l n f o r′ v′ l′ n′ f′ o′ : ℕ} → Told r v l n f o → Told r′ v′ l′ n′ f′ o′
       → (n ≡ n′) × (f + o * n ≡ f′ + o′ * n′)
   one-payload {n = n} {f = f} {o = o} {n′ = n′} {f′ = f′} {o′ = o′} p q =
       let w = known (p .goes) in

@@ -37,13 +37,10 @@ use Rattle.rules_reading.specs.Leads.{frameLeads, leastOf}
 use Rattle.rules_reading.specs.Reading.{frontOdd, payloadOdd, payloadReading}
 use Rattle.rules_reading.proofs.Payloads.{foundUnusable, room-refused, unusable-refused, odd-refused, payload-good}
 use Rattle.rules_reading.proofs.Places.{front-place, payload-unusable-place, payload-odd-place, payload-odd-rate}
+use Rattle.rules_reading.specs.Heard.{headerHeard, signalHeard, serviceHeard, lengthHeard}
 use Rattle.rules_reading.proofs.Refusals.{
   Clear,
   Sound,
-  headerHeard,
-  signalHeard,
-  serviceHeard,
-  lengthHeard,
   FrontRefusal,
   front-short,
   front-unusable,
@@ -118,7 +115,7 @@ use Rattle.promises.proofs.Only.{goes, code-back}
 use Rattle.promises.proofs.Back.{known}
 
 -- ---- the definitions' words, in plain numbers
-front-known : (kind : ℕ) → isKind kind ≡ true → FrontOf kind (frontChips (kindOf kind))
+pub front-known : (kind : ℕ) → isKind kind ≡ true → FrontOf kind (frontChips (kindOf kind))
 front-known zero e = front-at long-1
 front-known (suc zero) e = front-at short-2
 front-known (suc (suc k)) e = absurd (subst T (sym e ∙ le-ltb (suc (suc k)) 2 (omega arith)) tt)
@@ -167,7 +164,7 @@ service-yes service-132 Two e = absurd (omega arith)
 service-yes service-132 Five e = absurd (omega arith)
 service-yes service-132 Eleven e = refl
 
-clash : {b : Bool} → b ≡ true → b ≡ false → ⊥
+pub clash : {b : Bool} → b ≡ true → b ≡ false → ⊥
 clash e f = subst T (sym e ∙ f) tt
 
 module _ (kind : ℕ) (agree : Bool) (rec : List Taken) (room : ℕ) (known-kind : isKind kind ≡ true)
@@ -182,7 +179,7 @@ module _ (kind : ℕ) (agree : Bool) (rec : List Taken) (room : ℕ) (known-kind
   has-front : frontChips k ≤ length rec → HasFront kind agree rec (frontChips k)
   has-front l = record { front-is = front-known kind known-kind; rows-agree = rows; long = l }
 
-  has-bits : Clear k rec → HasBits kind agree rec (syncBits k) (sfdOf k)
+  pub has-bits : Clear k rec → HasBits kind agree rec (syncBits k) (sfdOf k)
   has-bits c = record {
     front = frontChips k;
     ones = onesOf k;
@@ -192,11 +189,11 @@ module _ (kind : ℕ) (agree : Bool) (rec : List Taken) (room : ℕ) (known-kind
     even = front-even-ones rec k (c .even);
   }
 
-  at-24 : FrontField kind rec (syncBits k + 24) 8 (serviceHeard k rec)
+  pub at-24 : FrontField kind rec (syncBits k + 24) 8 (serviceHeard k rec)
   at-24 =
       subst (λ (b : ℕ). FieldAt k One rec 0 b 8 (serviceHeard k rec)) (omega arith) (service-field k rec One 0)
 
-  at-32 : FrontField kind rec (syncBits k + 32) 16 (lengthHeard k rec)
+  pub at-32 : FrontField kind rec (syncBits k + 32) 16 (lengthHeard k rec)
   at-32 =
       subst (λ (b : ℕ). FieldAt k One rec 0 b 16 (lengthHeard k rec)) (omega arith) (length-field k rec One 0)
 
@@ -206,7 +203,7 @@ module _ (kind : ℕ) (agree : Bool) (rec : List Taken) (room : ℕ) (known-kind
   at-48 : FrontField kind rec (syncBits k + 48) 16 crcHeard
   at-48 = subst (λ (b : ℕ). FieldAt k One rec 0 b 16 crcHeard) (omega arith) (crc-field k rec One 0)
 
-  has-header : Sound k rec → HasHeader kind agree rec (signalHeard k rec) (serviceHeard k rec) (lengthHeard k rec)
+  pub has-header : Sound k rec → HasHeader kind agree rec (signalHeard k rec) (serviceHeard k rec) (lengthHeard k rec)
   has-header s = record {
     at = syncBits k;
     sfd = sfdOf k;
@@ -233,7 +230,7 @@ module _ (kind : ℕ) (agree : Bool) (rec : List Taken) (room : ℕ) (known-kind
       let w = known g in
       clash (ap₂ {C = Bool} (λ x y. x && y) (w .rate-is) (w .together)) e
 
-  code-of : (signal : ℕ) → ours .signals k signal ≡ true → codeOf (rateOf signal) ≡ signal
+  pub code-of : (signal : ℕ) → ours .signals k signal ≡ true → codeOf (rateOf signal) ≡ signal
   code-of signal e = sym (no-other-code signal (left-is (isCode signal) (goesWith k (rateOf signal)) e))
 
   -- ---- the front's refusals
@@ -275,7 +272,7 @@ module _ (kind : ℕ) (agree : Bool) (rec : List Taken) (room : ℕ) (known-kind
     abbrev service : ℕ
     service = serviceHeard k rec
 
-    has-payload : HasPayload kind agree rec (codeOf r) service (t .length) (t .n) (frontChips k) (octetChips r)
+    pub has-payload : HasPayload kind agree rec (codeOf r) service (t .length) (t .n) (frontChips k) (octetChips r)
     has-payload =
         let s = ours-sends k (signalHeard k rec) service (lengthHeard k rec) t (h .tells) in
         let is : lengthField r (t .n) ≡ t .length = sym (s .told-is ∙ s .length-is) in
@@ -302,10 +299,10 @@ module _ (kind : ℕ) (agree : Bool) (rec : List Taken) (room : ℕ) (known-kind
         of-bit (suc (suc x)) l = absurd (omega arith)
 
     module _ (there : frameChips k r (t .n) ≤ length rec) where
-      free : (q : ℕ) → q < frontChips k → UsableAt rec q
+      pub free : (q : ℕ) → q < frontChips k → UsableAt rec q
       free = front-all-usable k rec (h .sound .clear .long) (h .sound .clear .usable)
 
-      rate-of : goesWith k r ≡ true
+      pub rate-of : goesWith k r ≡ true
       rate-of = ours-sends k (signalHeard k rec) service (lengthHeard k rec) t (h .tells) .goes
 
       -- at 1 Mbit/s, where 10 was looked for and not found

@@ -1,4 +1,4 @@
--- What the calls promise: the records that the contracts of crate dsss cite, and that of `part` of read_front_only, so
+-- What the calls promise: the records that the contracts of crate dsss cite, and that of `part` of small_calls, so
 -- that what is proved of them is proved of the programs; and what is said of their inputs, in plain numbers (RULES 1.4,
 -- 5.2, 5.4, 5.8, 6, 9.1).
 -- Definitions only. Assumes nothing.
@@ -88,7 +88,7 @@ ReadRows kind (in-bytes bytes) room a left = ReadBytes kind bytes room a left
 pub record ReadFront (kind : ℕ) (chips : List ℕ) (c : Coming) : Type 0 where
   -- promise: A read of the front answers the definition's record, for every input
   -- rule: 6.15, 9.1
-  -- code: dsss_read_front, read_front_only::read_front
+  -- code: dsss_read_front, small_calls::read_front
   pub answer : c ≡ comingOf (kindOf kind) (frontReading kind (hardRecording chips))
 
 -- the part of a recording that is handed back for such an answer; in C it is the two numbers
@@ -96,7 +96,7 @@ pub record Handed (c : Coming) (chips part : List ℕ) : Type 0 where
   -- promise: The part that an answer tells of is handed back, for any record and any recording: the recording's own
   -- chips, none where it does not have them. From C it is the two numbers
   -- rule: 6.15
-  -- code: read_front_only::part
+  -- code: small_calls::part
   pub chips-are : part ≡ partOf (c .at) (c .count) chips
 
 -- the call that finds a start in a recording, of so many offsets to try: its answer

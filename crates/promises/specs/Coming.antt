@@ -59,7 +59,7 @@ pub record WhenRefused (kind : ℕ) (chips : List ℕ) (c : Coming) : Type 0 whe
 -- promise: A front refuses with 1 where the kind is none, else with 8 to 16, a place in the front; all else is 0 and
 -- the part is empty
 -- rule: 6.13, 6.15
--- code: dsss_read_front, read_front_only::part
+-- code: dsss_read_front, small_calls::part
 -- with: WhenRefused
 abbrev pub FrontRefused : Type 0
 FrontRefused =
@@ -92,7 +92,7 @@ pub record WhenTold (kind : ℕ) (chips : List ℕ) (c : Coming) : Type 0 where
 -- promise: A front that is not refused tells a rate of its kind, n from 1 to 4,095, its LENGTH, a clock bit of 0 or 1,
 -- and the chips of a frame that the recording has; the part is the payload's chips
 -- rule: 6.15
--- code: dsss_read_front, read_front_only::part
+-- code: dsss_read_front, small_calls::part
 -- with: WhenTold
 abbrev pub FrontTold : Type 0
 FrontTold =
@@ -132,7 +132,7 @@ FrontOnly =
 -- promise: A frame that was written is told of by its front, whatever became of its payload's chips; cut in the
 -- payload, 16 with LENGTH
 -- rule: 6.15, 9.3
--- code: dsss_write_2, dsss_read_front, read_front_only::part
+-- code: dsss_write_2, dsss_read_front, small_calls::part
 abbrev pub SentTold : Type 0
 SentTold =
     (kind rate phase clock : ℕ) (payload : List ℕ) (w : Written) (chips : List ℕ)
@@ -147,7 +147,7 @@ SentTold =
 
 -- promise: A part, for any record and any recording: those chips, or none where the recording does not have them
 -- rule: 6.15
--- code: read_front_only::part
+-- code: small_calls::part
 abbrev pub HandedPart : Type 0
 HandedPart =
     (c : Coming) (chips part : List ℕ) → Handed c chips part

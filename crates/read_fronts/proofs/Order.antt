@@ -1,28 +1,36 @@
--- The order of refusals over a front: for each way out of reading it, what the definition says there. Each follows by
--- the tests that led there. Assumes nothing.
-use mathlib.Core.Path.{_≡_, sym, ap, ap₂, _∙_}
+-- The order of refusals over a front: for each way out of reading it, what the definition says there.
+--     usable-odd, usable-header                                 of usable chips: 10, or what the header tells
+--     front-short, front-unusable, front-usable                 a look: 8, 9, or all of it can be heard
+--     opens-shorter, opens-unusable, all-usable, opens-usable   what is read after a look
+-- Each follows by the tests that led there. Assumes nothing.
+use mathlib.Core.Path.{_≡_, sym, ap, ap₂, subst, _∙_}
 use mathlib.Core.List.{List}
 use Prim.Native.Nat.{ℕ, _-_, _≤_, _<_}
 use native.Mathlib.Omega.{arith}
 use lib.ListN.{length, take, drop}
+use lib.Seq.{length-take-le}
 use borrow.Author.Tests.{lt-ltb, le-ltb}
 use Rattle.rules_chips.specs.Chips.{Taken}
 use Rattle.rules_bits.specs.Bits.{octetBits}
 use Rattle.rules_frame.specs.declared.Kind.{Kind}
 use Rattle.rules_frame.specs.Frame.{frontChips}
 use Rattle.rules_calls.specs.declared.Refusal.{Refusal}
-use Rattle.rules_calls.specs.declared.Refusal.the-variants.{ShorterThanFront, Unusable, OddGrowth}
+use Rattle.rules_calls.specs.declared.Refusal.the-variants.{ShorterThanFront, OddGrowth}
+use Rattle.rules_calls.specs.declared.Refusal.the-variants as refusal
 use Rattle.rules_calls.specs.declared.Front.{Front}
 use Rattle.rules_calls.specs.declared.Front.the-variants.{Refused}
 use Rattle.rules_calls.specs.Headers.{ours, headerOf}
 use Rattle.rules_reading.specs.Reading.{firstUnusable, frontOdd, frontOf}
+use Rattle.rules_reading.proofs.First.{unusable-first}
 use Rattle.choose_recorded.specs.declared.Place.{Place}
 use Rattle.choose_recorded.specs.declared.Place.the-variants.{Nothing, At}
 use Rattle.choose_recorded.specs.Recorded.{whereFound, AllUsable}
 use Rattle.choose_recorded.proofs.Search.{none-usable}
 use Rattle.read_fronts.specs.declared.FrontHeard.{FrontHeard}
+use Rattle.read_fronts.specs.declared.Look.{Look}
+use Rattle.read_fronts.specs.declared.Look.the-variants.{Shorter, Unusable, Usable}
 use Rattle.read_fronts.specs.declared.Opening.{Opening}
-use Rattle.read_fronts.specs.Openings.{FrontKnown, afterUsable, Opens}
+use Rattle.read_fronts.specs.Openings.{FrontKnown, afterUsable, Looks, Opens}
 
 -- an opening that refuses needs neither line nor lead
 opens-refused : (k : Kind) (rec : List Taken) (f : Front) (e : Refusal) (o : Opening) → o .front ≡ Refused e → f
@@ -47,10 +55,9 @@ module _ (k : Kind) (rec : List Taken) where
     least = λ t w. x .least;
   }
 
-  pub front-short : (o : Opening) → length rec < frontChips k → o .front ≡ Refused ShorterThanFront
-      → Opens k rec (frontOf k rec) o
-  front-short o h p = opens-refused k rec (frontOf k rec) ShorterThanFront o p
-      (unfold frontOf in rw (lt-ltb (length rec) (frontChips k) h))
+  pub front-short : length rec < frontChips k → frontOf k rec ≡ Refused ShorterThanFront
+  unfolding frontOf
+  front-short h = rw (lt-ltb (length rec) (frontChips k) h)
 
   module _
       (chips : ℕ) (f : Place) (e : chips ≡ frontChips k) (h : chips ≤ length rec)
@@ -62,18 +69,34 @@ module _ (k : Kind) (rec : List Taken) where
     enough : frontChips k ≤ length rec
     enough = omega arith
 
-    pub front-unusable : (o : Opening) (place : ℕ) → f ≡ At place → o .front ≡ Refused (Unusable place 0)
+    pub front-unusable : (place : ℕ) → f ≡ At place
+        → (frontOf k rec ≡ Refused (refusal.Unusable place 0)) × (place < length rec)
+    front-unusable place t =
+        let first = unusable-first 0 (take (frontChips k) rec) place (searched ∙ ap whereFound t) in (
+          unfold frontOf in rw (le-ltb (length rec) (frontChips k) enough, searched, t),
+          omega (arith, enough, first .place-is, first .inside, length-take-le (frontChips k) rec enough),
+        )
+
+    pub front-usable : f ≡ Nothing
+        → (frontOf k rec ≡ afterUsable k rec) × (frontChips k ≤ length rec) × AllUsable rec 0 (frontChips k)
+    front-usable t = (
+      unfold frontOf in rw (le-ltb (length rec) (frontChips k) enough, searched, t),
+      enough,
+      none-usable rec 0 (frontChips k) (omega (arith, enough)) (searched ∙ ap whereFound t),
+    )
+
+  module _ (l : Look) (x : Looks k rec l) where
+    pub opens-shorter : (o : Opening) → l ≡ Shorter → o .front ≡ Refused ShorterThanFront
         → Opens k rec (frontOf k rec) o
-    front-unusable o place t p =
-        opens-refused k rec (frontOf k rec) (Unusable place 0) o p
-        (unfold frontOf in rw (le-ltb (length rec) (frontChips k) enough, searched, t))
+    opens-shorter o e p = opens-refused k rec (frontOf k rec) ShorterThanFront o p (subst (Looks k rec) e x)
 
-    pub all-usable : f ≡ Nothing → (frontChips k ≤ length rec) × AllUsable rec 0 (frontChips k)
-    all-usable t = (enough, none-usable rec 0 (frontChips k) (omega (arith, enough)) (searched ∙ ap whereFound t))
+    pub opens-unusable : (o : Opening) (place : ℕ) → l ≡ Unusable place → o .front ≡ Refused (refusal.Unusable place 0)
+        → Opens k rec (frontOf k rec) o
+    opens-unusable o place e p =
+        opens-refused k rec (frontOf k rec) (refusal.Unusable place 0) o p (subst (Looks k rec) e x .0)
 
-    pub front-usable : (o : Opening) → f ≡ Nothing → Opens k rec (afterUsable k rec) o → Opens k rec (frontOf k rec) o
-    front-usable o t x = record {
-      told = x .told ∙ (unfold frontOf in rw (le-ltb (length rec) (frontChips k) enough, searched, t));
-      line = x .line;
-      least = x .least;
-    }
+    pub all-usable : l ≡ Usable → (frontChips k ≤ length rec) × AllUsable rec 0 (frontChips k)
+    all-usable e = let y = subst (Looks k rec) e x in (y .1, y .2)
+
+    pub opens-usable : (o : Opening) → l ≡ Usable → Opens k rec (afterUsable k rec) o → Opens k rec (frontOf k rec) o
+    opens-usable o e t = rw (subst (Looks k rec) e x .0) t

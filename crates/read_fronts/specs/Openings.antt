@@ -14,8 +14,9 @@ use Rattle.rules_bits.specs.Code.{pastOf, pastAfter}
 use Rattle.common_lines.specs.declared.Line.{Line}
 use Rattle.rules_frame.specs.declared.Kind.{Kind}
 use Rattle.rules_frame.specs.declared.Kind.the-variants.{Long, Short}
-use Rattle.rules_frame.specs.Frame.{start, syncBits, preambleLength, frameChips}
-use Rattle.rules_calls.specs.declared.Refusal.the-variants.{OddGrowth}
+use Rattle.rules_frame.specs.Frame.{start, syncBits, preambleLength, frontChips, frameChips}
+use Rattle.rules_calls.specs.declared.Refusal.the-variants.{ShorterThanFront, OddGrowth}
+use Rattle.rules_calls.specs.declared.Refusal.the-variants as refusal
 use Rattle.rules_calls.specs.declared.Told.{Told}
 use Rattle.rules_calls.specs.declared.Front.{Front}
 use Rattle.rules_calls.specs.declared.Front.the-variants.{Refused, Fields}
@@ -29,15 +30,17 @@ use Rattle.rules_reading.specs.Reading.{
   payloadPhase,
   frontOdd,
   frontHeard,
-  frontBits,
   frontOf,
   wholeOf,
 }
+use Rattle.rules_reading.specs.Heard.{sfdHeard, headerHeard}
 use Rattle.rules_reading.specs.Leads.{decidedLeads, frontLeads, leastOf}
-use Rattle.choose_recorded.specs.Recorded.{whereFound}
+use Rattle.choose_recorded.specs.Recorded.{whereFound, AllUsable}
 use Rattle.hear_blocks.specs.declared.Hearing.{Hearing}
 use Rattle.read_fronts.specs.declared.Preamble.{Preamble}
 use Rattle.read_fronts.specs.declared.FrontHeard.{FrontHeard}
+use Rattle.read_fronts.specs.declared.Look.{Look}
+use Rattle.read_fronts.specs.declared.Look.the-variants.{Shorter, Unusable, Usable}
 use Rattle.read_fronts.specs.declared.Opening.{Opening}
 
 -- SYNC is so many octets
@@ -81,8 +84,8 @@ pub record Opened (k : Kind) (rec : List Taken) (l : Line) : Type 0 where
 -- a front heard
 pub record FrontKnown (k : Kind) (rec : List Taken) (f : FrontHeard) : Type 0 where
   pub odd : whereFound (f .part .heard .odd) ≡ frontOdd k rec
-  pub sfd : octetBits (f .sfd) ≡ take 16 (drop (syncBits k) (frontBits k rec))
-  pub header : octetBits (f .header) ≡ drop (preambleLength k) (frontBits k rec)
+  pub sfd : octetBits (f .sfd) ≡ sfdHeard k rec
+  pub header : octetBits (f .header) ≡ headerHeard k rec
   pub line : Opened k rec (f .part .heard .line)
   pub least : f .part .least ≡ leastOf (frontLeads k rec)
 
@@ -90,7 +93,14 @@ pub record FrontKnown (k : Kind) (rec : List Taken) (f : FrontHeard) : Type 0 wh
 abbrev pub afterUsable : Kind → List Taken → Front
 afterUsable k rec =
     orElse (frontOdd k rec) (λ place. Refused (OddGrowth place 0))
-    (headerOf ours k (take 16 (drop (syncBits k) (frontBits k rec))) (drop (preambleLength k) (frontBits k rec)))
+    (headerOf ours k (sfdHeard k rec) (headerHeard k rec))
+
+-- a look at a front: 8, or 9 with its place, or all of it can be heard, and then 10 to 15 are left to be told
+abbrev pub Looks : Kind → List Taken → Look → Type 0
+Looks k rec Shorter = frontOf k rec ≡ Refused ShorterThanFront
+Looks k rec (Unusable place) = (frontOf k rec ≡ Refused (refusal.Unusable place 0)) × (place < length rec)
+Looks k rec Usable =
+    (frontOf k rec ≡ afterUsable k rec) × (frontChips k ≤ length rec) × AllUsable rec 0 (frontChips k)
 
 -- an opening that tells f: where that is fields, the line goes on from the front, and so does the smallest lead
 pub record Opens (k : Kind) (rec : List Taken) (f : Front) (o : Opening) : Type 0 where

@@ -4,7 +4,7 @@ ghost use mathlib.Core.List.{List};
 ghost use Rattle.rules_chips.specs.Chips.{Taken};
 ghost use Rattle.rules_reading.specs.Reading.{frontOf};
 ghost use Rattle.choose_recorders.specs.Rows.{lent};
-ghost use Rattle.read_fronts.specs.Openings.{FrontKnown, afterUsable, Opens, OpensWhole};
+ghost use Rattle.read_fronts.specs.Openings.{FrontKnown, afterUsable, Looks, Opens, OpensWhole};
 use choose_recorded::Place;
 use choose_recorders::Recorder;
 use common_lines::Line;
@@ -29,6 +29,14 @@ pub struct FrontHeard {
     pub part: Part,
     pub sfd: [u8; 2],
     pub header: [u8; 6],
+}
+
+// Whether a front can be heard: the recording is shorter, or its chip at a place is the first unusable one, or all of
+// them are usable.
+pub enum Look {
+    Shorter,
+    Unusable(usize),
+    Usable,
 }
 
 // A front read, the line that the payload starts on, and the smallest lead before it.
@@ -70,6 +78,28 @@ pub fn told(kind: Kind, known: FrontHeard) -> Opening
     }
 }
 
+// Whether a front can be heard: 8, 9.
+pub fn look_at_front(
+    rec: Recorder,
+    row: &[u8],
+    bytes: &[i8],
+    i: &[f32],
+    q: &[f32],
+    kind: Kind,
+) -> Look
+    ensures answer { λ r. ⌜ Looks kind (lent rec (row .entry) (bytes .entry) (i .entry) (q .entry)) r ⌝ }
+{
+    let chips = common_kinds::front_chips(kind);
+    if choose_recorders::chip_count(rec, row, bytes, i, q) < chips {
+        return Look::Shorter;
+    }
+    let bad = choose_recorders::first_unusable(rec, row, bytes, i, q, 0, chips);
+    match bad {
+        Place::At(place) => Look::Unusable(place),
+        Place::Nothing => Look::Usable,
+    }
+}
+
 // What a recording's front tells, with the line and lead that its payload goes on from: 8, 9, 10, and 11 to 15.
 pub fn read_front(
     rec: Recorder,
@@ -82,14 +112,11 @@ pub fn read_front(
     ensures answer { λ r. ⌜ Opens kind (lent rec (row .entry) (bytes .entry) (i .entry) (q .entry))
         (frontOf kind (lent rec (row .entry) (bytes .entry) (i .entry) (q .entry))) r ⌝ }
 {
-    let chips = common_kinds::front_chips(kind);
-    if choose_recorders::chip_count(rec, row, bytes, i, q) < chips {
-        return refused(Refusal::ShorterThanFront);
-    }
-    let bad = choose_recorders::first_unusable(rec, row, bytes, i, q, 0, chips);
-    match bad {
-        Place::At(place) => refused(Refusal::Unusable { place, length: 0 }),
-        Place::Nothing => {
+    let looked = look_at_front(rec, row, bytes, i, q, kind);
+    match looked {
+        Look::Shorter => refused(Refusal::ShorterThanFront),
+        Look::Unusable(place) => refused(Refusal::Unusable { place, length: 0 }),
+        Look::Usable => {
             let known = heard::hear_front(rec, row, bytes, i, q, kind);
             told(kind, known)
         }

@@ -6,6 +6,7 @@ pub mod Scrambler
 pub mod Crc
 pub mod Division
 pub mod Facts
+pub mod Highest
 pub mod PairLaws
 pub mod Sent
 pub mod Mixing

@@ -1,8 +1,9 @@
--- Bits are the numbers 0 and 1. Octets, SIGNAL, SERVICE and LENGTH go lowest bit first (RULES 5.3).
+-- Bits are the numbers 0 and 1. Octets, SIGNAL, SERVICE and LENGTH go lowest bit first (RULES 5.3), the CRC highest
+-- first (5.13).
 -- Definitions only. Assumes nothing.
-use Prim.Native.Nat.{ℕ, zero, suc, _+_, _*_, _/_, _%_}
+use Prim.Native.Nat.{ℕ, zero, suc, _+_, _*_, _/_, _%_, _^_}
 use mathlib.Core.List.{List, [], _∷_, _++_}
-use lib.ListN.{take, drop}
+use lib.ListN.{length, take, drop}
 
 infixl 60 _⊕_
 -- exclusive or of two bits
@@ -18,6 +19,11 @@ bitsOf (suc n) x = x % 2 ∷ bitsOf n (x / 2)
 unfoldable pub numberOf : List ℕ → ℕ
 numberOf [] = 0
 numberOf (b ∷ bs) = b + 2 * numberOf bs
+
+-- and of bits that go highest first
+unfoldable pub highestFirst : List ℕ → ℕ
+highestFirst [] = 0
+highestFirst (b ∷ bs) = b * 2 ^ length bs + highestFirst bs
 
 -- the bits of octets, and n octets of bits
 unfoldable pub octetBits : List ℕ → List ℕ

@@ -1,6 +1,6 @@
 -- The CRC (RULES 5.13): x^16 + x^12 + x^5 + 1, register preset to ones, over the header bits in sending order,
--- remainder complemented, highest term sent first. The register is sixteen bits, highest term first; so would be the
--- CRC as a number, which no answer shows.
+-- remainder complemented, highest term sent first. The register is sixteen bits, highest term first; the CRC as a
+-- number is `highestFirst` of its bits (Bits.antt).
 -- Definitions only. Assumes nothing.
 use Prim.Native.Nat.{ℕ, zero, suc}
 use mathlib.Core.List.{List, [], _∷_, _++_, map}

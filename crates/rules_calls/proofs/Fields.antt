@@ -2,7 +2,9 @@
 --     with-crc                               two octets of CRC after four of fields
 --     field-octets, header-is                four octets are their fields, and with their CRC a header
 --     crc-differs                            two rows of bits compared, and so two rows of octets
+--     first-four, last-two                   the bits of a header's fields and of its CRC are those of its octets
 --     two-is, crc-other, crc-same, fields-cut    the six octets of a header: its CRC against the one made, its fields
+--     signal-cut, service-cut, length-cut        each field by itself
 -- Octets of eight bits each compute to rows of bits that are cut by computing. Assumes nothing.
 use mathlib.Core.Path.{_≡_, refl, sym, ap, _∙_}
 use mathlib.Core.Bool.{Bool, true, false}
@@ -62,11 +64,11 @@ six-is xs e = as-table xs 6 0 e
 
 -- its bits, cut
 module _ (xs : List ℕ) (e : length xs ≡ 6) where
-  front : take 32 (octetBits xs) ≡ octetBits (getD xs 0 0 ∷ getD xs 1 0 ∷ getD xs 2 0 ∷ getD xs 3 0 ∷ [])
-  front = ap (λ (l : List ℕ). take 32 (octetBits l)) (six-is xs e) ∙ unfold octetBits bitsOf in refl
+  pub first-four : take 32 (octetBits xs) ≡ octetBits (getD xs 0 0 ∷ getD xs 1 0 ∷ getD xs 2 0 ∷ getD xs 3 0 ∷ [])
+  first-four = ap (λ (l : List ℕ). take 32 (octetBits l)) (six-is xs e) ∙ unfold octetBits bitsOf in refl
 
-  back : drop 32 (octetBits xs) ≡ octetBits (getD xs 4 0 ∷ getD xs 5 0 ∷ [])
-  back = ap (λ (l : List ℕ). drop 32 (octetBits l)) (six-is xs e) ∙ unfold octetBits bitsOf in refl
+  pub last-two : drop 32 (octetBits xs) ≡ octetBits (getD xs 4 0 ∷ getD xs 5 0 ∷ [])
+  last-two = ap (λ (l : List ℕ). drop 32 (octetBits l)) (six-is xs e) ∙ unfold octetBits bitsOf in refl
 
   first : take 8 (octetBits xs) ≡ octetBits (getD xs 0 0 ∷ [])
   first = ap (λ (l : List ℕ). take 8 (octetBits l)) (six-is xs e) ∙ unfold octetBits bitsOf in refl
@@ -89,15 +91,27 @@ module _
       let read = getD header 4 0 ∷ getD header 5 0 ∷ [] in
       let below : Below 256 read =
       below-cons (octets .at 4) (below-cons (octets .at 5) (below-nil 256 (omega arith))) in
-      rw (front header six, back header six, ← e) (sym (crc-differs crc read long crcs below other))
+      rw (first-four header six, last-two header six, ← e) (sym (crc-differs crc read long crcs below other))
 
 pub crc-same : (header : List ℕ) → length header ≡ 6 → (crc : List ℕ)
     → octetBits crc ≡ crcBits (octetBits (getD header 0 0 ∷ getD header 1 0 ∷ getD header 2 0 ∷ getD header 3 0 ∷ []))
     → crc ≡ getD header 4 0 ∷ getD header 5 0 ∷ []
     → true ≡ sameBits (crcBits (take 32 (octetBits header))) (drop 32 (octetBits header))
-crc-same header six crc e same = rw (front header six, back header six, ← e, ← same) (sym (same-refl (octetBits crc)))
+crc-same header six crc e same =
+    rw (first-four header six, last-two header six, ← e, ← same) (sym (same-refl (octetBits crc)))
 
 -- the three fields
+module _ (header : List ℕ) (six : length header ≡ 6) where
+  pub signal-cut : Below 256 header → numberOf (take 8 (octetBits header)) ≡ getD header 0 0
+  signal-cut octets = rw (first header six, number-one (getD header 0 0) (octets .at 0))
+
+  pub service-cut : Below 256 header → numberOf (take 8 (drop 8 (octetBits header))) ≡ getD header 1 0
+  service-cut octets = rw (second header six, number-one (getD header 1 0) (octets .at 1))
+
+  pub length-cut : numberOf (take 16 (drop 16 (octetBits header)))
+      ≡ numberOf (octetBits (getD header 2 0 ∷ getD header 3 0 ∷ []))
+  length-cut = rw (third header six)
+
 pub fields-cut : (accepted : Accepted) (k : Kind) (header : List ℕ) → length header ≡ 6 → Below 256 header
     → (l : ℕ) (f : Front)
     → l ≡ numberOf (octetBits (getD header 2 0 ∷ getD header 3 0 ∷ []))
@@ -106,11 +120,4 @@ pub fields-cut : (accepted : Accepted) (k : Kind) (header : List ℕ) → length
     ≡ fieldsOf accepted k (numberOf (take 8 (octetBits header))) (numberOf (take 8 (drop 8 (octetBits header))))
     (numberOf (take 16 (drop 16 (octetBits header))))
 fields-cut accepted k header six octets l f el ef =
-    rw (
-      first header six,
-      second header six,
-      third header six,
-      number-one (getD header 0 0) (octets .at 0),
-      number-one (getD header 1 0) (octets .at 1),
-      ← el,
-    ) ef
+    rw (signal-cut header six octets, service-cut header six octets, length-cut header six, ← el) ef

@@ -43,7 +43,7 @@ pub enum Refusal {
     RowsDiffer,
     // promise: the recording is shorter than the front
     // rule: 6.4 (8)
-    // code: read_fronts::read_front
+    // code: look_at_front
     // with: frontOf
     ShorterThanFront,
     // promise: a chip of the part is unusable; place: the first such chip. A byte recording has none
@@ -54,7 +54,7 @@ pub enum Refusal {
     // promise: a 1 Mbit/s symbol of the part, the recording's first excepted, has grown by 1 or 3; place: the first
     // chip of the first such symbol
     // rule: 6.4 (10), 6.3, 6.6
-    // code: first_odd
+    // code: hear_blocks::first_odd, small_calls::first_odd
     // with: firstOdd, oddGrowth
     OddGrowth { place: usize, length: usize },
     // promise: the unscrambled SFD differs; SYNC is not compared

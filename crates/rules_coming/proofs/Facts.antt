@@ -108,11 +108,11 @@ read kind chips = frontReading kind (hardRecording chips)
 
 -- refused: 1 and 8; 1; 8; 9 and 10, the 9 at the front's end; 16 and the payload's 9, where a chip of the payload is
 -- missing. That these are a reading's refusals up to 16, for every recording, is `coming-whole` of Laws.antt
-pub bad : read 2 [] ∷ read 256 longFrame ∷ read 1 [] ∷ read 0 (spoilt 2111 5 (turnedBy 55 1 longFrame))
-    ∷ read 0 (take 2287 (spoilt 2112 5 longFrame)) ∷ []
-    ≡ Refused NoKind ∷ Refused NoKind ∷ Refused ShorterThanFront ∷ Refused (Unusable 2111 0) ∷ Refused (Ends 16) ∷ []
+pub bad : read 2 [] ∷ read 256 shortFrame ∷ read 1 [] ∷ read 1 (spoilt 1055 5 (turnedBy 55 1 shortFrame))
+    ∷ read 1 (take 1063 (spoilt 1056 5 shortFrame)) ∷ []
+    ≡ Refused NoKind ∷ Refused NoKind ∷ Refused ShorterThanFront ∷ Refused (Unusable 1055 0) ∷ Refused (Ends 1) ∷ []
 unfolding
-    read longFrame shortFrame spoilt turnedBy hardRecording
+    read shortFrame spoilt turnedBy hardRecording
     barkerWord cckWord score those going firstLargest decided
     bitsOf octetBits numberOf growth symbolOf symbolsFrom symbolsOf chipsFrom lastPhase heardBits heard growthsOf
     lastHeard mixed scramble descramble addWhere crcStep remainder crcBits

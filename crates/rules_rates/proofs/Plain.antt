@@ -1,6 +1,7 @@
 -- The definitions of LENGTH and of bit 7 come to what is said of them in plain numbers, for every number of octets.
 --     length-is, length-only    LENGTH, and no other number is one
 --     seven-is, seven-only      bit 7 beside any LENGTH of the octets, and no other
+--     whole-is, whole-once      what a reader takes of LENGTH before bit 7, and no other number is that
 --     octets-once               the two together are of one number of octets
 --     holds-only                whatever passes refusal 15 is LENGTH and bit 7 of 1 to 4,095 octets
 --     holds-any                 and whatever is passes it
@@ -15,7 +16,7 @@ use lib.IntN.{ℤ, pos, negsuc, natAbs}
 use Rattle.base.proofs.Tests.{left-is, right-is}
 use Rattle.rules_rates.specs.declared.Rate.{Rate}
 use Rattle.rules_rates.specs.declared.Rate.the-variants.{One, Two, Five, Eleven}
-use Rattle.rules_rates.specs.Rates.{codeOf, lengthField, bit7, octetsRead, isPayload, lengthHolds}
+use Rattle.rules_rates.specs.Rates.{codeOf, lengthField, bit7, wholeOctets, octetsRead, isPayload, lengthHolds}
 use Rattle.rules_rates.specs.Plain.{
   LengthOf,
   length-1,
@@ -26,6 +27,11 @@ use Rattle.rules_rates.specs.Plain.{
   seven-no,
   seven-much,
   seven-little,
+  WholeOf,
+  whole-1,
+  whole-2,
+  whole-5,
+  whole-11,
 }
 use Rattle.rules_rates.proofs.Lengths.{length-holds}
 
@@ -80,6 +86,23 @@ seven-once (seven-little n l h) (seven-little n′ l′ k) = refl
 pub seven-only : (r : Rate) {n b : ℕ} → SevenOf (codeOf r) n (lengthField r n) b → b ≡ bit7 r n
 seven-only r {n} h = seven-once h (seven-is r n)
 
+-- ---- what is taken of LENGTH before bit 7 is asked
+-- promise: The octets that a reader takes of LENGTH, before bit 7, are what the rule says in plain numbers
+-- rule: 5.12
+-- code: whole_octets
+-- with: whole-once
+pub whole-is : (r : Rate) (l : ℕ) → WholeOf (codeOf r) l (wholeOctets r l)
+whole-is One l = whole-1 l (wholeOctets One l) (omega arith) (omega arith)
+whole-is Two l = whole-2 l (wholeOctets Two l) (omega arith) (omega arith)
+whole-is Five l = whole-5 l (wholeOctets Five l) (omega arith) (omega arith)
+whole-is Eleven l = whole-11 l (wholeOctets Eleven l) (omega arith) (omega arith)
+
+pub whole-once : {rate l w v : ℕ} → WholeOf rate l w → WholeOf rate l v → w ≡ v
+whole-once (whole-1 l w a b) (whole-1 l′ v c d) = omega arith
+whole-once (whole-2 l w a b) (whole-2 l′ v c d) = omega arith
+whole-once (whole-5 l w a b) (whole-5 l′ v c d) = omega arith
+whole-once (whole-11 l w a b) (whole-11 l′ v c d) = omega arith
+
 -- ---- the octets. At 11 Mbit/s bit 7 says on which side of 8 the eleven rests are that rounding can leave
 rounded : {n l b : ℕ} → LengthOf 110 n l → SevenOf 110 n l b
     → (8 * n + 8 * b ≤ 11 * l) × (11 * l < 8 * n + 8 * b + 8)
@@ -104,7 +127,7 @@ pub record Holds (rate l seven n : ℕ) : Type 0 where
   pub length-of : LengthOf rate n l
   pub seven-of : SevenOf rate n l seven
 
-sized : (z : ℤ) → isPayload z ≡ true → (1 ≤ natAbs z) × (natAbs z ≤ 4095)
+pub sized : (z : ℤ) → isPayload z ≡ true → (1 ≤ natAbs z) × (natAbs z ≤ 4095)
 sized (pos m) h = (leb-true 1 m (left-is _ _ h), leb-true m 4095 (right-is (leb 1 m) _ h))
 sized (negsuc m) h = absurd (subst T (sym h) tt)
 

@@ -24,14 +24,8 @@ use Rattle.rules_frame.specs.declared.Kind.the-variants.{Long, Short}
 use Rattle.rules_frame.specs.Frame.{syncBits, start, preambleLength, fieldBits}
 use Rattle.rules_reading.specs.Decoded.{FieldAt}
 use Rattle.rules_reading.specs.Reading.{frontHeard, frontBits}
-use Rattle.rules_reading.proofs.Refusals.{
-  sfdHeard,
-  headerHeard,
-  signalHeard,
-  serviceHeard,
-  lengthHeard,
-  CrcHeard,
-}
+use Rattle.rules_reading.specs.Heard.{sfdHeard, headerHeard, signalHeard, serviceHeard, lengthHeard}
+use Rattle.rules_reading.proofs.Refusals.{CrcHeard}
 use Rattle.rules_reading.proofs.Decoding.{front-length, front-fields}
 
 some-sync : (k : Kind) → 8 ≤ syncBits k
@@ -56,10 +50,10 @@ module _ (k : Kind) (rec : List Taken) where
   unfolding frontBits
   bits-length = descramble-length (start k) (frontHeard k rec) ∙ front-length k One rec 0
 
-  header-length : length header ≡ 48
+  pub header-length : length header ≡ 48
   header-length = length-drop P (frontBits k rec) ∙ omega (arith, bits-length)
 
-  header-below : Below 2 header
+  pub header-below : Below 2 header
   unfolding frontBits
   header-below = below-drop P (descramble-below (start k) (frontHeard k rec))
 
@@ -94,7 +88,7 @@ module _ (k : Kind) (rec : List Taken) where
   abbrev summed : List ℕ
   summed = crcBits (fieldBits (signalHeard k rec) (serviceHeard k rec) (lengthHeard k rec))
 
-  fields-are : fieldBits (signalHeard k rec) (serviceHeard k rec) (lengthHeard k rec) ≡ take 32 header
+  pub fields-are : fieldBits (signalHeard k rec) (serviceHeard k rec) (lengthHeard k rec) ≡ take 32 header
   unfolding fieldBits
   fields-are =
       ap₂ {C = List ℕ} (λ x y. x ++ y)

@@ -18,7 +18,7 @@ use Rattle.rules_chips.specs.Chips.{Taken}
 use Rattle.rules_bits.specs.Bits.{numberOf}
 use Rattle.rules_bits.specs.Crc.{crcBits}
 use Rattle.rules_frame.specs.declared.Kind.{Kind}
-use Rattle.rules_frame.specs.Frame.{sfdOf, syncBits, preambleLength, frontChips, frameChips}
+use Rattle.rules_frame.specs.Frame.{sfdOf, frontChips, frameChips}
 use Rattle.rules_calls.specs.declared.Refusal.{Refusal}
 use Rattle.rules_calls.specs.declared.Refusal.the-variants.{
   ShorterThanFront,
@@ -52,26 +52,12 @@ use Rattle.rules_calls.proofs.Accepting.{
   header-comes,
 }
 use Rattle.rules_reading.specs.Leads.{frameLeads, leastOf}
-use Rattle.rules_reading.specs.Reading.{
-  firstUnusable,
-  frontOdd,
-  frontBits,
-  frontOf,
-  payloadOdd,
-  wholeOf,
-  payloadReading,
-}
+use Rattle.rules_reading.specs.Heard.{sfdHeard, headerHeard, signalHeard, serviceHeard, lengthHeard}
+use Rattle.rules_reading.specs.Reading.{firstUnusable, frontOdd, frontOf, payloadOdd, wholeOf, payloadReading}
 use Rattle.rules_reading.proofs.Payloads.{foundUnusable}
 use Rattle.rules_reading.proofs.Telling.{found-or-none, decided-by, searched}
 
 -- ---- fronts
-
--- the front's bits that are asked for: the sixteen of the SFD, and the header's 48
-abbrev pub sfdHeard : Kind → List Taken → List ℕ
-sfdHeard k rec = take 16 (drop (syncBits k) (frontBits k rec))
-
-abbrev pub headerHeard : Kind → List Taken → List ℕ
-headerHeard k rec = drop (preambleLength k) (frontBits k rec)
 
 -- what passed 8, 9 and 10; what passed 11 and 12 too; and then 13
 pub record Clear (k : Kind) (rec : List Taken) : Type 0 where
@@ -80,15 +66,6 @@ pub record Clear (k : Kind) (rec : List Taken) : Type 0 where
   pub even : frontOdd k rec ≡ none
 
 module _ (k : Kind) (rec : List Taken) where
-  abbrev pub signalHeard : ℕ
-  signalHeard = numberOf (take 8 (headerHeard k rec))
-
-  abbrev pub serviceHeard : ℕ
-  serviceHeard = numberOf (take 8 (drop 8 (headerHeard k rec)))
-
-  abbrev pub lengthHeard : ℕ
-  lengthHeard = numberOf (take 16 (drop 16 (headerHeard k rec)))
-
   abbrev pub SfdHeard : Type 0
   SfdHeard = numberOf (sfdHeard k rec) ≡ sfdOf k
 

@@ -2,3 +2,4 @@ pub mod Leads
 pub mod Places
 pub mod Decoded
 pub mod Reading
+pub mod Heard

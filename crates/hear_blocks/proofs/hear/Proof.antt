@@ -1,5 +1,5 @@
 -- `hear_blocks::hear` meets its contract: each row by its rule, and what they come to. Assumes nothing.
-use mathlib.Core.Path.{_≡_, ap, _∙_}
+use mathlib.Core.Path.{_≡_, refl, ap, _∙_}
 use mathlib.Core.List.{List}
 use Prim.Native.Nat.{ℕ, _+_, _*_, _^_, _≤_, _<_}
 use native.Mathlib.Omega.{arith}
@@ -78,15 +78,16 @@ returns c =
     let octets = c .before .before .before .before .before in
     let phases = octets .before .before .before in
     let start = phases .before .before .before in (
-      block-heard (start .args .rate) _ (start .args .line) (start .args .count) (start .args .numbers) _ _ _
-          (octets .octets .result) (start .pre .0) (start .pre .4) (start .pre .5) (phases .phases .ensures)
-          (octets .before .before .growths .ensures) (octets .before .codes .ensures) (octets .octets .ensures) _ _ _
-          (phases .before .octet-symbols .ensures) (start .pre .3) (c .odd-in .ensures),
+      block-heard (start .args .rate) _ (start .args .line) _ (start .args .numbers) _ _ (start .pre .0)
+          (start .pre .4) (start .pre .5) (phases .phases .ensures) (octets .before .before .growths .ensures)
+          (start .args .count) _ (octets .octets .result) refl (octets .before .codes .ensures)
+          (octets .octets .ensures) _ _ _ (phases .before .octet-symbols .ensures) (start .pre .3) (c .odd-in .ensures),
       c .before .before .before .unscramble .ensures
           ∙ ap (λ (w : List ℕ). over w (start .args .out .now))
-          (block-octets (start .args .rate) _ (start .args .line) (start .args .count) (start .args .numbers) _ _ _
-          (octets .octets .result) (start .pre .0) (start .pre .4) (start .pre .5) (phases .phases .ensures)
-          (octets .before .before .growths .ensures) (octets .before .codes .ensures) (octets .octets .ensures)),
+          (block-octets (start .args .rate) _ (start .args .line) _ (start .args .numbers) _ _ (start .pre .0)
+          (start .pre .4) (start .pre .5) (phases .phases .ensures) (octets .before .before .growths .ensures)
+          (start .args .count) _ (octets .octets .result) refl (octets .before .codes .ensures)
+          (octets .octets .ensures)),
     )
 
 pub hear-spec : {M : Type 1} → statement M

@@ -1,0 +1,5 @@
+pub mod Computed
+pub mod Rows
+pub mod Only
+pub mod Kept
+pub mod Uses

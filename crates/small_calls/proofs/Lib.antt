@@ -1,0 +1,4 @@
+pub mod Blocks
+pub mod OfFront
+pub mod Header
+pub mod Payload
