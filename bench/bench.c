@@ -30,6 +30,7 @@ struct library {
     dsss_record (*read_bytes)(uint64_t, const int8_t *, size_t, uint8_t *, size_t);
     dsss_coming (*read_front)(uint64_t, const uint8_t *, size_t);
     dsss_found (*find)(uint64_t, const uint8_t *, size_t, uint64_t);
+    dsss_reason (*why)(uint64_t, const uint8_t *, size_t, uint64_t);
     dsss_counted (*report_add)(dsss_report, uint64_t, const uint8_t *, size_t);
     dsss_text (*report_text)(dsss_report, uint8_t *, size_t);
     void (*count)(const float *, size_t, int32_t *, size_t);
@@ -41,10 +42,10 @@ struct library {
 enum { DSSS, PLAIN, BOTH };
 
 static const struct library libraries[BOTH] = {
-    {dsss_write, dsss_read_hard, dsss_read_soft, dsss_read_bytes, dsss_read_front, dsss_find, dsss_report_add,
-     dsss_report_text, timed_count, timed_decide, timed_eleven},
-    {plain_write, plain_read_hard, plain_read_soft, plain_read_bytes, plain_read_front, plain_find, plain_report_add,
-     plain_report_text, plain_count, plain_decide, plain_eleven},
+    {dsss_write, dsss_read_hard, dsss_read_soft, dsss_read_bytes, dsss_read_front, dsss_find, dsss_why,
+     dsss_report_add, dsss_report_text, timed_count, timed_decide, timed_eleven},
+    {plain_write, plain_read_hard, plain_read_soft, plain_read_bytes, plain_read_front, plain_find, plain_why,
+     plain_report_add, plain_report_text, plain_count, plain_decide, plain_eleven},
 };
 
 static const struct {
@@ -387,6 +388,54 @@ static void finds(void)
         find_line(lines[k].in, lines[k].kind, lines[k].offsets, front);
 }
 
+/* ---- Reasons --------------------------------------------------------------------------------- */
+
+static uint64_t why_task(const struct library *l)
+{
+    return l->why(kind, chips, chips_len, payload_len).number;
+}
+
+/* Both libraries have the reason that a read must be refused with, or none. */
+static void reasons_agree(uint64_t number)
+{
+    dsss_reason first = libraries[DSSS].why(kind, chips, chips_len, payload_len);
+    dsss_reason second = libraries[PLAIN].why(kind, chips, chips_len, payload_len);
+
+    if (memcmp(&first, &second, sizeof first) != 0)
+        fail("the reasons differ");
+    if (first.number != number)
+        fail("a reason is not the one expected");
+}
+
+/* A line of reasons, by both, and how many hard reads of the same recording each takes. */
+static void why_line(const char *what, const char *rate_name)
+{
+    double ns[BOTH], read[BOTH];
+
+    measure(read_hard_task, read);
+    measure(why_task, ns);
+    printf("%-10s  %-8s  %4s  %6zu  %7zu  %12.0f  %12.0f  %6.2f  %10.2f  %11.2f\n", "why", what, rate_name, payload_len,
+           chips_len, ns[DSSS], ns[PLAIN], ns[DSSS] / ns[PLAIN], ns[DSSS] / read[DSSS], ns[PLAIN] / read[PLAIN]);
+    fflush(stdout);
+}
+
+/* A frame that is read takes longest: all of it is looked at. */
+static void whys(void)
+{
+    printf("\nwhy a read is refused, of frames that are not and of one refused by its CRC, long; reads: time by that\n"
+           "of a hard read of the same recording, by the same\n");
+    printf("%-10s  %-8s  %4s  %6s  %7s  %12s  %12s  %6s  %10s  %11s\n", "call", "of", "rate", "octets", "chips",
+           "dsss ns", "plain ns", "ratio", "dsss reads", "plain reads");
+    for (size_t r = 0; r < 4; r++) {
+        set_up(DSSS_LONG, rates[r].code, OCTETS);
+        reasons_agree(0);
+        why_line("a frame", rates[r].name);
+    }
+    spoil_crc(kind, chips);
+    reasons_agree(DSSS_REFUSED_CRC);
+    why_line("its CRC", rates[3].name);
+}
+
 /* ---- Reports --------------------------------------------------------------------------------- */
 
 static uint64_t add_empty_task(const struct library *l)
@@ -572,6 +621,7 @@ int main(int argc, char **argv)
     whole_calls();
     fronts();
     finds();
+    whys();
     reports();
     parts();
     return 0;

@@ -6,11 +6,12 @@
  * library, or with -DOF_PLAIN those of plain C. With -DFIND a call is a find in one of the recordings of recordings.h,
  * which CALL names, and OCTETS are the offsets to try, RATE being of no use. With -DREPORT a call is an add of the
  * frame to a report, an add of an empty recording, a hard read of the frame with the room that an add gives it, or the
- * report's text, as CALL says: add, empty, read or text. With -DCHOICE a call is the choice alone, of a block of 64
- * symbols of 11 Mbit/s, by the recorder hard, soft or bytes. The rows are made and a call for one octet or offset, or
- * the choice, is made first, whatever TIMES is: the difference of two runs with TIMES 0 and 1 is the instructions of
- * one call, with nothing of the program's start. scripts/instructions.sh builds what it needs and makes the two
- * runs. */
+ * report's text, as CALL says: add, empty, read or text. With -DWHY a call asks why the frame is refused, which it is
+ * not, or is a hard read of it, or the same of the frame with its CRC spoiled: why, read, why_crc or read_crc. With
+ * -DCHOICE a call is the choice alone, of a block of 64 symbols of 11 Mbit/s, by the recorder hard, soft or bytes. The
+ * rows are made and a call for one octet or offset, or the choice, is made first, whatever TIMES is: the difference of
+ * two runs with TIMES 0 and 1 is the instructions of one call, with nothing of the program's start.
+ * scripts/instructions.sh builds what it needs and makes the two runs. */
 #include "recordings.h"
 #include "bench_leaves.h"
 
@@ -130,6 +131,26 @@ static int call(const char *name, uint64_t kind, uint64_t rate, size_t n, size_t
         return OF(report_add)(month, kind, NULL, 0).report.refused[DSSS_REFUSED_FRONT] > month.refused[8];
     return OF(report_add)(month, kind, chips, len).report.airtime > month.airtime;
 }
+#elif defined WHY
+enum { LEAST = 1 };
+
+static uint8_t octets[DSSS_PAYLOAD_MAX];
+
+static uint64_t chips_of(size_t len)
+{
+    return len;
+}
+
+/* One call; whether it is refused with 12 if the CRC is spoiled, and else not at all. */
+static int call(const char *name, uint64_t kind, uint64_t rate, size_t n, size_t len)
+{
+    uint64_t number = strstr(name, "crc") ? DSSS_REFUSED_CRC : 0;
+
+    (void)rate;
+    if (strncmp(name, "read", 4) == 0)
+        return OF(read_hard)(kind, chips, len, octets, n).number == number;
+    return OF(why)(kind, chips, len, n).number == number;
+}
 #else
 enum { LEAST = 1 };
 
@@ -169,6 +190,8 @@ static uint64_t set_up(const char *name, uint64_t kind, uint64_t rate, size_t n)
         record_soft(len);
     if (strcmp(name, "bytes") == 0)
         record_bytes(len);
+    if (strstr(name, "crc"))
+        spoil_crc(kind, chips);
     return len;
 }
 #endif

@@ -1,4 +1,4 @@
-/* plain_read.c: reading a frame in plain C, after docs/RULES.md, as a good C engineer would by hand.
+/* plain_read.c: reading a frame and saying why it is refused, in plain C, as a good engineer would after docs/RULES.md.
  *
  * With plain_choose.c and plain_write.c it is the measure beside the library in bench.c, so it is meant to be fast
  * where plain C can be: up to 64 symbols are chosen at a time, sixteen side by side, and their octets heard together.
@@ -15,6 +15,8 @@ struct reader {
     unsigned phase;   /* of the last symbol */
     unsigned history; /* the last 7 scrambled bits, the last being the highest */
     struct least least;
+    unsigned grown;       /* the growth, 1 or 3, of the 1 Mbit/s symbol that it stopped at, if it did */
+    uint64_t sfd, header; /* as read, if the front was heard to its end */
 };
 
 /* The words of the next up to 64 symbols. */
@@ -42,6 +44,17 @@ static inline uint8_t two_bits(unsigned grown)
     return (uint8_t)((grown >> 1 & 1) | ((grown ^ grown >> 1) & 1) << 1);
 }
 
+/* Has the reader stand at the first of its next symbols that has grown by 1 or 3; words[0] is the phase before them. */
+static void stop_at_odd(struct reader *r, const uint8_t *words)
+{
+    size_t s = 0;
+
+    while ((words[s + 1] - words[s]) % 2 == 0)
+        s++;
+    r->at += BARKER * s;
+    r->grown = (unsigned)(words[s + 1] - words[s]) & 3;
+}
+
 /* The octets of up to 64 Barker symbols, `each` bits (1 or 2) a symbol; words[0] is for the phase before them. False
  * at a 1 Mbit/s symbol grown by 1 or 3; the reader then stands at that symbol. */
 static inline int pass_barkers(struct reader *r, unsigned each, uint8_t *restrict words, size_t symbols,
@@ -56,8 +69,7 @@ static inline int pass_barkers(struct reader *r, unsigned each, uint8_t *restric
         bits[s] = each == 1 ? growth >> 1 & 1 : two_bits(growth);
     }
     if (each == 1 && odd % 2 == 1) {
-        for (size_t s = 0; (words[s + 1] - words[s]) % 2 == 0; s++)
-            r->at += BARKER;
+        stop_at_odd(r, words);
         return 0;
     }
     unscramble(r, each, bits, symbols, octets);
@@ -171,7 +183,7 @@ static uint64_t number_of_octets(const uint8_t *octets, size_t n)
 
 /* SYNC is read for its phases, growths and leads only. The first symbol is the reference of the second, so it grows
  * from itself. */
-static int read_front(struct reader *r, const struct kind *kind, uint64_t *sfd, uint64_t *header)
+static int read_front(struct reader *r, const struct kind *kind)
 {
     uint8_t first[MANY], sync[16], octets[8];
     struct least none = {0, 0, 0};
@@ -181,8 +193,8 @@ static int read_front(struct reader *r, const struct kind *kind, uint64_t *sfd, 
     if (!read_octets(r, 1, sync, kind->sync_bits / 8) || !read_octets(r, 1, octets, 2)
         || !read_octets(r, kind->header_each, octets + 2, 6))
         return 0;
-    *sfd = number_of_octets(octets, 2);
-    *header = number_of_octets(octets + 2, 6);
+    r->sfd = number_of_octets(octets, 2);
+    r->header = number_of_octets(octets + 2, 6);
     return 1;
 }
 
@@ -219,15 +231,15 @@ static dsss_record front_tells(struct reader *r, uint64_t kind)
 {
     const struct recording *from = r->from;
     size_t front = kinds[kind].front;
-    uint64_t sfd, header;
 
     if (from->len < front)
         return refused(DSSS_REFUSED_FRONT, 0, 0);
     size_t bad = plain_first_unusable(from, 0, front);
     if (bad < front)
         return refused(DSSS_REFUSED_CHIP, bad, 0);
-    if (!read_front(r, &kinds[kind], &sfd, &header))
+    if (!read_front(r, &kinds[kind]))
         return refused(DSSS_REFUSED_GROWTH, r->at, 0);
+    uint64_t sfd = r->sfd, header = r->header;
     if (sfd != kinds[kind].sfd)
         return refused(DSSS_REFUSED_SFD, 0, 0);
     if (crc_of((uint32_t)header) != header >> 32)
@@ -238,7 +250,7 @@ static dsss_record front_tells(struct reader *r, uint64_t kind)
 /* All of a frame: what the front tells, then 17, then the payload with its 9 and 10. */
 static dsss_record read_frame(uint64_t kind, const struct recording *from, uint8_t *octets, size_t room)
 {
-    struct reader r = {from, 0, 0, 0, {UINT64_MAX, 0, 0}};
+    struct reader r = {.from = from, .least = {UINT64_MAX, 0, 0}};
     dsss_record told = front_tells(&r, kind);
 
     if (told.number != 0)
@@ -299,13 +311,122 @@ dsss_record plain_read_bytes(uint64_t kind, const int8_t *bytes, size_t bytes_le
 dsss_coming plain_read_front(uint64_t kind, const uint8_t *chips, size_t chips_len)
 {
     struct recording from = {chips, NULL, NULL, NULL, chips_len};
-    struct reader r = {&from, 0, 0, 0, {0, 0, 0}};
+    struct reader r = {.from = &from};
     dsss_record told = kind > DSSS_SHORT ? refused(DSSS_REFUSED_KIND, 0, 0) : front_tells(&r, kind);
     size_t at = told.number == 0 ? r.at : 0;
     dsss_coming coming = {told.number, told.place, told.rate, told.length, told.clock,
                           told.n, told.used, at, told.used - at};
 
     return coming;
+}
+
+/* ---- Why a read is refused ------------------------------------------------------------------- */
+
+static dsss_reason reason(dsss_record told, uint64_t expected, uint64_t found)
+{
+    dsss_reason answer = {told.number, told.place, expected, found};
+
+    return answer;
+}
+
+/* A CRC as a number whose first sent bit is the highest, from one whose first sent bit is the lowest. */
+static uint64_t highest_first(uint64_t crc)
+{
+    uint64_t number = 0;
+
+    for (unsigned k = 0; k < 16; k++)
+        number |= (crc >> k & 1) << (15 - k);
+    return number;
+}
+
+/* Of 13 to 16, by the header's bits. */
+static dsss_reason header_reason(const struct reader *r, uint64_t kind, dsss_record told)
+{
+    const struct rate *rate = rate_of(r->header & 0xFF);
+    uint32_t service = r->header >> 8 & 0xFF, bit7 = service >> 7, length = r->header >> 16 & 0xFFFF;
+
+    if (told.number == DSSS_REFUSED_SIGNAL)
+        return reason(told, 0, r->header & 0xFF);
+    if (told.number == DSSS_REFUSED_SERVICE)
+        return reason(told, 0, service & (rate->code == DSSS_RATE_11 ? 0x7Bu : 0xFBu));
+    int32_t n = octets_of(rate, length, bit7);
+    if (told.number == DSSS_REFUSED_CUT)
+        return reason(told, frame_chips(&kinds[kind], rate, (size_t)n), r->from->len);
+    int some = n >= 1 && n <= DSSS_PAYLOAD_MAX;
+    return reason(told, some ? service_length(rate, (uint32_t)n, 0) >> 8 : 0, length);
+}
+
+/* Of 8 to 16, by what the reader heard. */
+static dsss_reason front_reason(const struct reader *r, uint64_t kind, dsss_record told)
+{
+    switch (told.number) {
+    case DSSS_REFUSED_FRONT:
+        return reason(told, kinds[kind].front, r->from->len);
+    case DSSS_REFUSED_CHIP:
+        return reason(told, 0, r->from->chips[told.place]);
+    case DSSS_REFUSED_GROWTH:
+        return reason(told, 0, r->grown);
+    case DSSS_REFUSED_SFD:
+        return reason(told, kinds[kind].sfd, r->sfd);
+    case DSSS_REFUSED_CRC:
+        return reason(told, highest_first(crc_of((uint32_t)r->header)), highest_first(r->header >> 32));
+    default:
+        return header_reason(r, kind, told);
+    }
+}
+
+/* Whether the next up to 64 symbols, at 1 Mbit/s, have all grown by 0 or 2; else the reader stands at the first that
+ * has not. */
+static int pass_even(struct reader *r, size_t symbols)
+{
+    uint8_t words[1 + MANY], odd = 0;
+
+    words[0] = (uint8_t)r->phase;
+    choose(r, &rates[0], symbols, words + 1);
+    for (size_t s = 0; s < symbols; s++)
+        odd |= words[s + 1] ^ words[s];
+    if (odd % 2 == 1) {
+        stop_at_odd(r, words);
+        return 0;
+    }
+    r->phase = words[symbols];
+    r->at += BARKER * symbols;
+    return 1;
+}
+
+static int all_even(struct reader *r, size_t symbols)
+{
+    int even = 1;
+
+    for (size_t s = 0; s < symbols && even; s += MANY)
+        even = pass_even(r, symbols - s < MANY ? symbols - s : MANY);
+    return even;
+}
+
+/* 17, then 9 and 10 over the payload, by a front that tells of it; no octet is worked out. */
+static dsss_reason payload_reason(struct reader *r, dsss_record told, uint64_t room)
+{
+    const uint8_t *chips = r->from->chips;
+
+    if (told.n > room)
+        return reason(refused(DSSS_REFUSED_OCTET_ROOM, 0, 0), told.n, room);
+    size_t bad = plain_first_unusable(r->from, r->at, told.used);
+    if (bad < told.used)
+        return reason(refused(DSSS_REFUSED_CHIP, bad, 0), 0, chips[bad]);
+    if (told.rate == DSSS_RATE_1 && !all_even(r, 8 * told.n))
+        return reason(refused(DSSS_REFUSED_GROWTH, r->at, 0), 0, r->grown);
+    return reason(refused(0, 0, 0), 0, 0);
+}
+
+dsss_reason plain_why(uint64_t kind, const uint8_t *chips, size_t chips_len, uint64_t room)
+{
+    struct recording hard = {chips, NULL, NULL, NULL, chips_len};
+    struct reader heard = {.from = &hard};
+
+    if (kind > DSSS_SHORT)
+        return reason(refused(DSSS_REFUSED_KIND, 0, 0), 0, kind);
+    dsss_record told = front_tells(&heard, kind);
+    return told.number != 0 ? front_reason(&heard, kind, told) : payload_reason(&heard, told, room);
 }
 
 /* ---- The parts, for timing ------------------------------------------------------------------- */

@@ -1,4 +1,5 @@
-/* recordings.h: what bench.c and count.c look for a front in, and a report that they add to and spell out. */
+/* recordings.h: what bench.c and count.c look for a front in, a front that is refused, and a report that they add to
+ * and spell out. */
 #ifndef RECORDINGS_H
 #define RECORDINGS_H
 
@@ -50,6 +51,15 @@ static inline size_t lay_recording(size_t which, uint64_t kind, size_t offsets, 
     if (which == IN_LAST)
         plain_write(kind, DSSS_RATE_2, 0, 0, payload, sizeof payload, chips + last, len - last);
     return len;
+}
+
+/* Spoils the CRC of a frame: the front's last symbol, which has its last bit, is turned by half. */
+static inline void spoil_crc(uint64_t kind, uint8_t *chips)
+{
+    uint8_t *end = chips + (kind == DSSS_LONG ? DSSS_FRONT_LONG : DSSS_FRONT_SHORT);
+
+    for (uint8_t *chip = end - 11; chip < end; chip++)
+        *chip ^= 2;
 }
 
 /* A report of a busy month that takes one recording more: every refusal that can come has come. */

@@ -1,10 +1,10 @@
 /* dsss.h: frames of IEEE Std 802.11b-1999, from payload octets to chips and back.
  *
  * The library writes a frame as chips, and reads a hard, soft or byte recording of chips back to the
- * payload; of a hard one it tells from the front alone what is coming, and finds the first offset at
- * which a front can be read. Of many hard ones it makes a report, and spells it out as text. What it
- * answers is fixed by docs/RULES.md and proved for every input; docs/PROMISES.md says where. No proof
- * covers this header: it is written by hand and held to the source by a test.
+ * payload; of a hard one it tells from the front alone what is coming, finds the first offset at which
+ * a front can be read, and says why a read is refused. Of many hard ones it makes a report, and spells it
+ * out as text. What it answers is fixed by docs/RULES.md and proved for every input; docs/PROMISES.md says
+ * where. No proof covers this header: it is written by hand and held to the source by a test.
  *
  * CONVENTIONS, the same for every call
  *
@@ -30,7 +30,8 @@
  *           recording is as long as the frame. Of a find it says no more than that a read accepts the
  *           front at the offset told: not that the frame starts there, nor that it is whole. Of a
  *           recording added to a report it says no more than that it was counted: its read may have
- *           been refused, and is counted as refused then.
+ *           been refused, and is counted as refused then. dsss_why answers the number of a read, so that
+ *           a refusal is what it was asked for, and no fault of the call.
  * Fills     What a lent row held before does not matter. Each call writes every element of it,
  *           refused or not: a chip buffer is 4s but for the frame, an octet buffer is 0s but for
  *           the payload or the text. A refused call leaves nothing else, so nothing old can be shown.
@@ -50,13 +51,13 @@ extern "C" {
  * added, PATCH when neither. A call whose record or parameters change gets a new symbol, which a
  * macro here stands for: an object built with an older header then does not link, and is built anew. */
 #define DSSS_VERSION_MAJOR 3
-#define DSSS_VERSION_MINOR 2
+#define DSSS_VERSION_MINOR 3
 #define DSSS_VERSION_PATCH 0
 #define DSSS_VERSION (10000 * DSSS_VERSION_MAJOR + 100 * DSSS_VERSION_MINOR + DSSS_VERSION_PATCH)
 
 /* The symbols of the calls. C and C++ write the plain names; what goes by symbols, as another language
- * or a debugger does, finds these. dsss_read_front, dsss_find and the three calls of the report are their
- * own symbols. */
+ * or a debugger does, finds these. dsss_read_front, dsss_find, dsss_why and the three calls of the report
+ * are their own symbols. */
 #define dsss_write dsss_write_2
 #define dsss_read_hard dsss_read_hard_3
 #define dsss_read_soft dsss_read_soft_3
@@ -101,8 +102,9 @@ extern "C" {
 /* Refusals. Writing looks for 1 to 6 in this order. Reading looks for 1, 7, 8, then 9 and 10 over
  * the front, 11 to 17, then 9 and 10 over the payload; each 9 through its whole part before 10. A
  * read of the front looks for 1, 8, then 9 and 10 over the front, 11 to 16, and for nothing more. A
- * find looks for 1 and 18, then for a front, and answers 19 if there is none. A report's calls answer 31,
- * of a list 7 before it, and its text 17; what the recordings are refused with is counted, not answered. */
+ * find looks for 1 and 18, then for a front, and answers 19 if there is none. dsss_why looks as a read
+ * does. A report's calls answer 31, of a list 7 before it, and its text 17; what the recordings are
+ * refused with is counted, not answered. */
 #define DSSS_REFUSED_KIND 1        /* kind is neither 0 (long) nor 1 (short) */
 #define DSSS_REFUSED_RATE 2        /* rate code isn't one of the four */
 #define DSSS_REFUSED_SHORT_RATE 3  /* rate code 10 with the short kind */
@@ -177,6 +179,34 @@ typedef struct {
     uint64_t clock;  /* the clock bit, SERVICE bit 2, as 0 or 1; 0 if refused */
     uint64_t n;      /* payload octets; 0 if refused */
 } dsss_found;
+
+/* The answer of dsss_why: what a read is refused with, and the two numbers that say why:
+ *   number  expected                                  found
+ *        0  0                                         0
+ *        1  0                                         the kind handed in
+ *        8  the chips of the front                    chips present, of the whole recording
+ *        9  0                                         the chip octet at the place, 5 to 255
+ *       10  0                                         growth of the symbol at the place, 1 or 3
+ *       11  the SFD of the kind                       the SFD read
+ *       12  the CRC worked out over the 32 bits read  the CRC read
+ *       13  0                                         SIGNAL
+ *       14  0                                         SERVICE without its allowed bits, never 0
+ *       15  LENGTH as a writer makes it for the n     LENGTH read
+ *           read; 0 if that is not 1 to 4,095
+ *       16  the chips of the frame                    chips present, of the whole recording
+ *       17  n                                         room
+ * No other number comes. The two of 11 and of 12 are shown as four hexadecimal digits and an h, as F3A0h
+ * (printf: "%04" PRIX64 "h"), all others as decimal numbers. The first bit sent is the lowest of an SFD and
+ * the highest of a CRC. The n read is that of the rate, LENGTH and, at 11 Mbit/s, bit 7. The bits allowed in
+ * SERVICE come to 132 at 11 Mbit/s and else to 4. An expected 0 is no number to show, but for 15, where it
+ * says that the n read is no payload's. The two numbers differ in every refusal but two: 13 where SIGNAL is
+ * 0, and 15 where LENGTH is 0. These show 0 and 0. */
+typedef struct {
+    uint64_t number;   /* 0, or the refusal of a read */
+    uint64_t place;    /* of refusals 9 and 10; else 0 */
+    uint64_t expected; /* as above */
+    uint64_t found;    /* as above */
+} dsss_reason;
 
 /* The month's report: what was counted of the hard recordings that it has seen, each read under its own
  * kind and with room for DSSS_PAYLOAD_MAX octets, so that 17 does not come. It begins with all zeros,
@@ -314,6 +344,20 @@ dsss_coming dsss_read_front(uint64_t kind, const uint8_t *chips, size_t chips_le
  * Mbit/s only while no chip is spoiled. Which chip is the frame's first, this call does not tell.
  * Proved:  crates/dsss, dsss_find, record Finds: answer. */
 dsss_found dsss_find(uint64_t kind, const uint8_t *chips, size_t chips_len, uint64_t offsets);
+
+/* Says why a read of a hard recording is refused, with room for so many octets: the number and the place
+ * that dsss_read_hard answers over a buffer of that length, and what was expected and what was found.
+ *   kind     DSSS_LONG or DSSS_SHORT                                      refusal 1
+ *   chips    the recording as for dsss_read_hard; what stands after the frame is not looked at
+ *                                                                         refusals 8 to 16
+ *   room     octets of the buffer that a read would have: a number, no buffer is lent. It may be any
+ *            number; with DSSS_PAYLOAD_MAX or more 17 does not come       refusal 17
+ * Answer:  all four numbers 0: a read is not refused.
+ * Refused: number and place of the read, and the two numbers of dsss_reason.
+ * Buffer:  none is lent. The payload's octets are not worked out: its chips are looked at for 9, and at
+ *          1 Mbit/s for 10.
+ * Proved:  crates/dsss, dsss_why, record Explains: answer. */
+dsss_reason dsss_why(uint64_t kind, const uint8_t *chips, size_t chips_len, uint64_t room);
 
 /* Counts one hard recording more into a report.
  *   report   the report so far, all zeros at first                        refusal 31

@@ -8,7 +8,7 @@
 set -eu
 cd "$(dirname "$0")/.."
 families=empty_rows,read_rooms,write_edges,cut_recordings,long_refused,coming_rooms,leads_as_sent,find_edges
-families=$families,report_lists,report_edges,report_text,one_row
+families=$families,why_numbers,why_checks,report_lists,report_edges,report_text,one_row
 flags='-std=c99 -Wall -Wextra -Wpedantic -Werror -Iinclude -g'
 sanitized='-fsanitize=address,undefined -fno-sanitize-recover=all'
 if [ "$(uname -m)" = x86_64 ]; then

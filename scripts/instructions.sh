@@ -1,17 +1,19 @@
 #!/bin/sh
-# instructions.sh [-l dsss|plain|all] [-c write|hard|soft|bytes|front|choice|find|report|all] [-k long|short]
+# instructions.sh [-l dsss|plain|all] [-c write|hard|soft|bytes|front|choice|find|why|report|all] [-k long|short]
 #                 [-r RATE|all] [-n OCTETS]
 #
 # Instructions a chip of whole calls: one line a call, rate and library, that is the library and plain C. A read of the
 # front looks at no payload chip: its instructions are counted with few octets and with most, at 1 and 11 Mbit/s, if
 # none are asked for, and should not differ. A choice is that of a block of 64 symbols of 11 Mbit/s alone. A find is
-# made in each recording of bench/recordings.h, with 4,096 offsets, in noise with fewer too, or with as many as -n says;
-# its figure is not instructions a chip, but how many reads of a long front by the same library they are. Of the report
-# an add of an empty recording, adds of frames and a text are counted; the figure of an add is what it takes more than a
-# hard read of the same frame with room for 4,095 octets. Each figure is the difference of two runs, without the call
-# and with it. On x86-64 valgrind counts (callgrind); elsewhere the emulator of the kit logs each instruction that it
-# runs, about a million a second, and the lines of its log are counted. The archives of target/ are taken as they stand,
-# and only those asked for: `make archives` makes all.
+# made in each recording of bench/recordings.h, with 4,096 offsets, in noise with fewer too, or with as many as -n
+# says; its figure is not instructions a chip, but how many reads of a long front by the same library they are. A call
+# that asks why is made of frames that are not refused, which takes it longest, and of one refused by its CRC; its
+# figure is how many hard reads of the same recording it is, and should be 1.10 at most. Of the report an add of an
+# empty recording, adds of frames and a text are counted; the figure of an add is what it takes more than a hard read
+# of the same frame with room for 4,095 octets. Each figure is the difference of two runs, without the call and with
+# it. On x86-64 valgrind counts (callgrind); elsewhere the emulator of the kit logs each instruction that it runs,
+# about a million a second, and the lines of its log are counted. The archives of target/ are taken as they stand, and
+# only those asked for: `make archives` makes all.
 set -eu
 cd "$(dirname "$0")/.."
 
@@ -27,12 +29,12 @@ while getopts l:c:k:r:n: option; do
     esac
 done
 [ "$library" != all ] || library='dsss plain'
-[ "$call" != all ] || call='write hard soft bytes front choice find report'
+[ "$call" != all ] || call='write hard soft bytes front choice find why report'
 mkdir -p target/c
 work=$(mktemp -d)
 trap 'rm -rf "$work"' EXIT
 
-# build LIBRARY [CHOICE|FIND|REPORT]: $program counts its calls, or these, and is not older than what it is made of
+# build LIBRARY [CHOICE|FIND|WHY|REPORT]: $program counts its calls, or these, and is not older than what it is made of
 build() {
     program=target/c/count.$1${2:+.$2}
     case $1.$2 in
@@ -107,6 +109,25 @@ find_lines() { # find_lines LIBRARY: the recordings, by most offsets, and noise 
     done
 }
 
+why_line() { # why_line LIBRARY CRC RATE OCTETS: a hard read and why, of a frame as it is or, CRC being crc, spoiled
+    read=$(spent "read${2:+_$2}" "$kind" "$3" "$4")
+    chips=$(cat "$work/chips")
+    row "$1" "read hard${2:+ $2}" "$kind" "$3" "$4" "$chips" "$read" -
+    taken=$(spent "why${2:+_$2}" "$kind" "$3" "$4")
+    row "$1" "why${2:+ $2}" "$kind" "$3" "$4" "$chips" "$taken" "$(by "$taken" "$read")"
+}
+
+why_lines() { # why_lines LIBRARY: frames of each rate, and a front that is refused
+    build "$1" WHY
+    for r in $(rates_or '10 20 55 110'); do
+        [ "$kind $r" != 'short 10' ] || continue
+        for n in ${octets:-1500}; do
+            why_line "$1" '' "$r" "$n"
+        done
+    done
+    why_line "$1" crc "$(rates_or 110)" "${octets:-1500}"
+}
+
 report_lines() { # report_lines LIBRARY: an empty recording, frames of few and of many octets, and the text
     build "$1" REPORT
     row "$1" 'report empty' "$kind" - 0 0 "$(spent empty "$kind" 20 1)" -
@@ -138,7 +159,7 @@ lines() { # lines CALL RATES SIZES [CHOICE]: a choice is that of a block, whatev
 }
 
 case $call in
-find | report) ;;
+find | why | report) ;;
 *) row of call kind rate octets chips instructions 'a chip' ;;
 esac
 for c in $call; do
@@ -152,6 +173,12 @@ for c in $call; do
         row of call kind rate offsets chips instructions fronts
         for l in $library; do
             find_lines "$l"
+        done
+        ;;
+    why)
+        row of call kind rate octets chips instructions reads
+        for l in $library; do
+            why_lines "$l"
         done
         ;;
     report)

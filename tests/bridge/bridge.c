@@ -13,14 +13,15 @@
  *   8, list       u64 kinds_len; the kinds, u64 each; u64 list_len and how many recordings are sent, the others being
  *                 NULL and 0; of each of these u64 chips_len; its chips
  *   9, text       the report, 31 u64 as above; u64 text_len
+ *   10, why       u64 kind, chips_len, room; the chips
  * A row for reading is a u64, how many of its elements are sent, and these; the others are zeros. An answer is the
  * record (1: number, chips; 2 to 4: number, place, rate, length, n, used, clock, lead, symbol; 5: number, place, rate,
  * length, clock, n, used, at, count; 6: number, offset, rate, length, clock, n; 7 and 8: number, the report as above,
- * 32 in all; 9: number, octets; u64 each), every octet of the lent buffer as the call left it, and a u64 guard, 0 if
- * all is well: 1 if anything is not as it was around the rows or in those lent for reading only, 2 if a call that was
- * made again answered otherwise, 4 if a call that was made in the middle of this one did. 5 to 8 have no lent buffer:
- * of 5 its part stands there instead, `count` chips from the recording's own chips + at on, as far as they are in the
- * recording.
+ * 32 in all; 9: number, octets; 10: number, place, expected, found; u64 each), every octet of the lent buffer as the
+ * call left it, and a u64 guard, 0 if all is well: 1 if anything is not as it was around the rows or in those lent for
+ * reading only, 2 if a call that was made again answered otherwise, 4 if a call that was made in the middle of this one
+ * did. 5 to 8 and 10 have no lent buffer: of 5 its part stands there instead, `count` chips from the recording's own
+ * chips + at on, as far as they are in the recording.
  *
  * How the rows are laid, from the lowest bit on:
  *   8 bits   what the lent row holds before the call, at both ends if it is long: 0 0xAA, 1 zeros, 2 4s, 3 0xFF, 4 any
@@ -324,6 +325,7 @@ union answer {
     dsss_found found;
     dsss_counted counted;
     dsss_text text;
+    dsss_reason reason;
 };
 
 /* A call: its numbers as they are in the request, its report, its rows for reading and the one lent for writing. The
@@ -359,22 +361,25 @@ static void run(struct call *c)
         c->answer.counted = dsss_report_add(c->report, n[0], first, (size_t)n[1]);
     else if (c->op == 8)
         c->answer.counted = dsss_report_list(first, (size_t)n[0], second, (size_t)n[1]);
-    else
+    else if (c->op == 9)
         c->answer.text = dsss_report_text(c->report, lent, (size_t)n[0]);
+    else
+        c->answer.reason = dsss_why(n[0], first, (size_t)n[1], n[2]);
 }
 
 static size_t answer_size(uint64_t op)
 {
     static const size_t sizes[] = {sizeof(dsss_written), sizeof(dsss_record), sizeof(dsss_record),
                                    sizeof(dsss_record),  sizeof(dsss_coming), sizeof(dsss_found),
-                                   sizeof(dsss_counted), sizeof(dsss_counted), sizeof(dsss_text)};
+                                   sizeof(dsss_counted), sizeof(dsss_counted), sizeof(dsss_text),
+                                   sizeof(dsss_reason)};
 
     return sizes[op - 1];
 }
 
 /* ---- A call in the middle of another --------------------------------------------------------- */
 
-enum { OPS = 9, PARTS = 3, TOUCHES = 24, NEAR = 64 };
+enum { OPS = 10, PARTS = 3, TOUCHES = 24, NEAR = 64 };
 
 static struct call kept[OPS];             /* the last call of each op that was kept, if it has an op */
 static uint8_t *kept_octets[OPS];         /* and what it left in its lent row */
@@ -568,13 +573,13 @@ static void get_chips_to(struct call *c)
 
 static void get_call(struct call *c)
 {
-    static const unsigned counts[OPS] = {6, 3, 4, 3, 2, 3, 2, 0, 1};
+    static const unsigned counts[OPS] = {6, 3, 4, 3, 2, 3, 2, 0, 1, 3};
     uint64_t *n = c->numbers;
 
     memset(c, 0, sizeof *c);
     c->op = get_number();
     if (c->op < 1 || c->op > OPS)
-        die("an op that is not 1 to 9");
+        die("an op that is not 1 to 10");
     get_laid();
     laid.within = laid.within && kept[c->op - 1].op != 0;
     if (c->op == 7 || c->op == 9)

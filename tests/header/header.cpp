@@ -11,6 +11,8 @@ typedef dsss_record (*hard_reader)(uint64_t, const uint8_t *, size_t, uint8_t *,
 static const hard_reader read_hard = &dsss_read_hard;
 typedef dsss_coming (*front_reader)(uint64_t, const uint8_t *, size_t);
 static const front_reader read_front = &dsss_read_front;
+typedef dsss_reason (*asker)(uint64_t, const uint8_t *, size_t, uint64_t);
+static const asker why = &dsss_why;
 typedef dsss_text (*speller)(dsss_report, uint8_t *, size_t);
 static const speller report_text = &dsss_report_text;
 }
@@ -35,6 +37,15 @@ static bool reports()
            && text[spelled.octets - 1] == 10 && none.number == DSSS_REFUSED_OCTET_ROOM && none.octets == 0;
 }
 
+// Whether reasons show what was expected and what was found: no chips, and a kind that is none, with any room.
+static bool reasons()
+{
+    dsss_reason front = radio::why(DSSS_SHORT, NULL, 0, 0), kind = ::dsss_why(256, NULL, 0, ~(uint64_t)0);
+
+    return front.number == DSSS_REFUSED_FRONT && front.place == 0 && front.expected == DSSS_FRONT_SHORT
+           && front.found == 0 && kind.number == DSSS_REFUSED_KIND && kind.expected == 0 && kind.found == 256;
+}
+
 int main()
 {
     dsss_written written = radio::dsss_write(DSSS_LONG, DSSS_RATE_11, 0, 1, NULL, 0, NULL, 0);
@@ -48,7 +59,7 @@ int main()
         || soft.number != DSSS_REFUSED_KIND || bytes.number != DSSS_REFUSED_FRONT
         || coming.number != DSSS_REFUSED_FRONT || coming.at != 0 || coming.count != 0
         || none.number != DSSS_REFUSED_OFFSETS || found.number != DSSS_REFUSED_NO_START || found.offset != 0
-        || hard.lead != 0 || soft.symbol != 0 || bytes.lead != 0 || !reports()) {
+        || hard.lead != 0 || soft.symbol != 0 || bytes.lead != 0 || !reasons() || !reports()) {
         std::puts("header.cpp: a refusal is not the one expected");
         return 1;
     }

@@ -9,6 +9,7 @@ use crate::families::{Family, Out};
 use crate::figures::Figures;
 use crate::laid::{Laid, Layings};
 use crate::leads::{self, Won};
+use crate::reasons;
 use crate::relations::{Held, Relations};
 use crate::reported;
 use std::collections::BTreeMap;
@@ -90,6 +91,7 @@ impl Outcome {
         decided::count(call, expected, &mut self.seen);
         leads::count(call, expected, leads, &mut self.won);
         reported::count(call, expected, leads, &mut self.held);
+        reasons::count(call, expected, &mut self.held);
     }
 
     /// The calls that answer the number met most often, whatever the op and the part.

@@ -7,6 +7,7 @@ use crate::laid::Laid;
 use crate::reading::read;
 use crate::refusals::CHIP_BUFFER;
 use crate::report_calls::ReportCall;
+use crate::why::{why, Reason};
 use crate::writing::write;
 use std::fmt::{LowerHex, Write as _};
 use std::io::{self, Read};
@@ -19,6 +20,7 @@ pub enum Call {
     ReadBytes { kind: u64, bytes: Vec<i8>, octets_len: usize },
     ReadFront { kind: u64, chips: Vec<u8> },
     Find { kind: u64, chips: Vec<u8>, offsets: u64 },
+    Why { kind: u64, chips: Vec<u8>, room: u64 },
     Report(ReportCall),
 }
 
@@ -96,6 +98,10 @@ impl Call {
         Call::Find { kind, chips, offsets }
     }
 
+    pub fn why(kind: u64, chips: Vec<u8>, room: u64) -> Call {
+        Call::Why { kind, chips, room }
+    }
+
     pub fn op(&self) -> &'static str {
         match self {
             Call::Write { .. } => "write",
@@ -104,6 +110,7 @@ impl Call {
             Call::ReadBytes { .. } => "read bytes",
             Call::ReadFront { .. } => "read front",
             Call::Find { .. } => "find",
+            Call::Why { .. } => "why",
             Call::Report(call) => call.op(),
         }
     }
@@ -113,6 +120,7 @@ impl Call {
             Call::Write { .. } => &["number", "chips"],
             Call::ReadFront { .. } => &["number", "place", "rate", "length", "clock", "n", "used", "at", "count"],
             Call::Find { .. } => &["number", "offset", "rate", "length", "clock", "n"],
+            Call::Why { .. } => &["number", "place", "expected", "found"],
             Call::Report(call) => call.names(),
             _ => &["number", "place", "rate", "length", "n", "used", "clock", "lead", "symbol"],
         }
@@ -125,7 +133,7 @@ impl Call {
             Call::ReadHard { octets_len, .. }
             | Call::ReadSoft { octets_len, .. }
             | Call::ReadBytes { octets_len, .. } => Some(*octets_len),
-            Call::ReadFront { .. } | Call::Find { .. } => None,
+            Call::ReadFront { .. } | Call::Find { .. } | Call::Why { .. } => None,
             Call::Report(call) => call.lent_len(),
         }
     }
@@ -136,7 +144,8 @@ impl Call {
             Call::Write { payload: row, .. }
             | Call::ReadHard { chips: row, .. }
             | Call::ReadFront { chips: row, .. }
-            | Call::Find { chips: row, .. } => vec![row.len()],
+            | Call::Find { chips: row, .. }
+            | Call::Why { chips: row, .. } => vec![row.len()],
             Call::ReadSoft { i, q, .. } => vec![i.len(), q.len()],
             Call::ReadBytes { bytes, .. } => vec![bytes.len()],
             Call::Report(call) => call.read_lens(),
@@ -192,6 +201,10 @@ impl Call {
                 numbers(&[6, laid, *kind, chips.len() as u64, *offsets]);
                 put_octets(chips, to);
             }
+            Call::Why { kind, chips, room } => {
+                numbers(&[10, laid, *kind, chips.len() as u64, *room]);
+                put_octets(chips, to);
+            }
             Call::Report(call) => call.request(laid, to),
         }
     }
@@ -213,7 +226,9 @@ impl Call {
     /// The recording of which a full read is asked.
     pub fn recording(&self) -> Option<Recording<'_>> {
         match self {
-            Call::Write { .. } | Call::ReadFront { .. } | Call::Find { .. } | Call::Report(_) => None,
+            Call::Write { .. } | Call::ReadFront { .. } | Call::Find { .. } | Call::Why { .. } | Call::Report(_) => {
+                None
+            }
             Call::ReadHard { chips, .. } => Some(Recording::Hard(chips)),
             Call::ReadSoft { i, q, .. } => Some(Recording::Soft(i, q)),
             Call::ReadBytes { bytes, .. } => Some(Recording::Bytes(bytes)),
@@ -237,6 +252,7 @@ impl Call {
                 front_record(front, chips.len())
             }
             Call::Find { kind, chips, offsets } => found_record(find(*kind, chips, *offsets), chips.len()),
+            Call::Why { kind, chips, room } => reason_record(why(*kind, chips, *room), chips.len()),
             Call::Report(call) => (call.expected(&mut buffer, &mut leads), Part::Front, false),
             Call::ReadHard { kind, .. } | Call::ReadSoft { kind, .. } | Call::ReadBytes { kind, .. } => {
                 let recording = self.recording().expect("a full read has one");
@@ -254,9 +270,10 @@ impl Call {
         let mut lines = vec![format!("  {}: {}", self.op(), self.shown_numbers())];
         match self {
             Call::Write { payload, .. } => lines.push(format!("  payload {}", hex(payload, cut))),
-            Call::ReadHard { chips, .. } | Call::ReadFront { chips, .. } | Call::Find { chips, .. } => {
-                lines.push(format!("  chips {}", hex(chips, cut)));
-            }
+            Call::ReadHard { chips, .. }
+            | Call::ReadFront { chips, .. }
+            | Call::Find { chips, .. }
+            | Call::Why { chips, .. } => lines.push(format!("  chips {}", hex(chips, cut))),
             Call::ReadSoft { i, q, .. } => {
                 lines.push(format!("  i, the bits of each f32: {}", hex_row(i, cut)));
                 lines.push(format!("  q, the bits of each f32: {}", hex_row(q, cut)));
@@ -298,6 +315,7 @@ impl Call {
             }
             Call::ReadFront { kind, chips } => format!("kind {kind}, chips_len {}", chips.len()),
             Call::Find { kind, chips, offsets } => format!("kind {kind}, chips_len {}, offsets {offsets}", chips.len()),
+            Call::Why { kind, chips, room } => format!("kind {kind}, chips_len {}, room {room}", chips.len()),
             Call::Report(call) => call.shown_numbers(),
         }
     }
@@ -354,6 +372,11 @@ fn front_record(front: Coming, recorded: usize) -> (Vec<u64>, Part, bool) {
 fn found_record(found: Found, recorded: usize) -> (Vec<u64>, Part, bool) {
     let Found { number, offset, rate, length, clock, n } = found;
     (vec![number, offset, rate, length, clock, n], Part::of(n, 0, recorded), clock == 1)
+}
+
+fn reason_record(reason: Reason, recorded: usize) -> (Vec<u64>, Part, bool) {
+    let Reason { number, place, expected, found, told, clock_read } = reason;
+    (vec![number, place, expected, found], Part::of(told, place, recorded), clock_read)
 }
 
 pub fn hex(row: &[impl LowerHex], cut: usize) -> String {

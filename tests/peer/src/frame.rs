@@ -149,6 +149,11 @@ pub fn number_of(bits: &[u8]) -> u16 {
     bits.iter().rev().fold(0, |value, bit| value << 1 | u16::from(*bit))
 }
 
+/// The number that bits make, highest first.
+pub fn number_highest_first(bits: &[u8]) -> u16 {
+    bits.iter().fold(0, |value, bit| value << 1 | u16::from(*bit))
+}
+
 /// The three fields that the CRC covers.
 #[derive(Clone, Copy, PartialEq, Eq, Debug)]
 pub struct Header {

@@ -3,8 +3,8 @@
 //! are refused with each number, and full reads that go together with fronts in each way; symbols of 11 Mbit/s that are
 //! decided among words of one score, in each way; smallest leads in each part at each rate, shared ones, ties and those
 //! that refused reads keep; starts found of each kind and rate, at each remainder of 512, early, late and neither,
-//! behind offsets refused with each number; reports as `owed_reports` has it, and rows as `owed_laid` has it; and no
-//! family that spends a third of all calls on one number.
+//! behind offsets refused with each number; reasons, reports and rows as `owed_reasons`, `owed_reports` and `owed_laid`
+//! have them; and no family that spends a third of all calls on one number.
 
 use crate::bits::Rate;
 use crate::bridge::Outcome;
@@ -16,11 +16,12 @@ use crate::leads::Lead::{
 };
 use crate::leads::Stands::{First, Header, Payload, Preamble};
 use crate::owed_laid::laid;
+use crate::owed_reasons::reasons;
 use crate::owed_reports::reports;
 use crate::relations::Held;
 use crate::starts::Start::{self, Early, Found, Late, Missed, Passed, ReadRefused};
 
-const CALLS: u64 = 200_000;
+const CALLS: u64 = 350_000;
 
 struct Owed {
     op: &'static str,
@@ -37,7 +38,7 @@ const fn owed(op: &'static str, part: Part, shown: &'static str, least: &'static
     Owed { op, part, shown, least }
 }
 
-const OWED: [Owed; 29] = [
+const OWED: [Owed; 34] = [
     owed(
         "write",
         Part::Front,
@@ -183,6 +184,42 @@ const OWED: [Owed; 29] = [
     owed("find", Part::LongFront, "none in 6,001 or more", &[(19, 38, 0)]),
     owed("find", Part::Payload, "to 300 octets", &[(0, 500, 560)]),
     owed("find", Part::LongPayload, "above 300 octets", &[(0, 8, 4)]),
+    // No 7: a hard recording is one row.
+    owed(
+        "why",
+        Part::Front,
+        "front",
+        &[
+            (1, 5_300, 0),
+            (8, 4_600, 0),
+            (9, 8_600, 0),
+            (10, 3_200, 0),
+            (11, 7_500, 0),
+            (12, 4_400, 0),
+            (13, 2_300, 2_300),
+            (14, 2_800, 2_800),
+            (15, 20_000, 20_000),
+        ],
+    ),
+    owed(
+        "why",
+        Part::LongFront,
+        "front, 6,001 and more",
+        &[(1, 10, 0), (9, 14, 0), (10, 61, 0), (11, 68, 0), (12, 14, 0), (13, 4, 5), (14, 6, 4), (15, 20, 14)],
+    ),
+    owed(
+        "why",
+        Part::Payload,
+        "payload to 300 octets",
+        &[(0, 6_900, 7_200), (9, 2_600, 1_900), (10, 490, 700), (16, 2_300, 1_700), (17, 690, 740)],
+    ),
+    owed(
+        "why",
+        Part::LongPayload,
+        "payload above 300",
+        &[(0, 3_200, 3_100), (9, 290, 290), (10, 32, 28), (16, 11_000, 9_800), (17, 2_700, 2_800)],
+    ),
+    owed("why", Part::FarPlace, "places from 65,536", &[(9, 20, 17), (10, 13, 9)]),
     // No refusal of a recording: these are counted.
     owed("report add", Part::Front, "one recording more", &[(0, 2_500, 0), (31, 1_000, 0)]),
     owed("report list", Part::Front, "lists", &[(0, 120, 0), (7, 22, 0), (31, 24, 0)]),
@@ -486,7 +523,7 @@ pub fn met(total: &Outcome, largest: (u64, &str)) -> Result<(), String> {
             short.push(format!("{op} answered {number} {count} times where it can't"));
         }
     }
-    for of_total in [held, decided, leads, starts, reports, laid] {
+    for of_total in [held, decided, leads, starts, reasons, reports, laid] {
         short.extend(of_total(total));
     }
     if total.calls < CALLS {

@@ -2,7 +2,7 @@
 
 use crate::bits::{decide, receive, symbol_phase, Rate};
 use crate::chips::{Counts, Phase, Recording};
-use crate::frame::{number_of, unscramble, Header, Kind};
+use crate::frame::{number_highest_first, number_of, unscramble, Header, Kind};
 use crate::refusals;
 use crate::symbols::Choice;
 
@@ -114,8 +114,7 @@ pub fn front_of(kind: Kind, scrambled: &[u8]) -> Result<Front, u64> {
         return Err(refusals::SFD);
     }
     let header = Header::of_bits(header_bits);
-    let crc_read = header_bits[32..].iter().fold(0, |value: u16, bit| value << 1 | u16::from(*bit));
-    if crc_read != header.crc() {
+    if number_highest_first(&header_bits[32..]) != header.crc() {
         return Err(refusals::CRC);
     }
     Ok(Front { kind, header })

@@ -1,10 +1,11 @@
 //! How the answers over one hard recording go together, whatever this program expects of each: what its front tells,
-//! what full reads answer, and what is found in it; and how reports go together.
+//! what full reads answer, why they are refused, and what is found in it; and how reports go together.
 
 use crate::bits::Rate;
 use crate::calls::{Answer, Call};
 use crate::frame::Kind;
 use crate::kept::Reports;
+use crate::reasons::{self, FullRead, Reasoned};
 use crate::refusals::{ENDS, GROWTH, OCTET_BUFFER, UNUSABLE};
 use crate::reported::Reported;
 use crate::starts::{Sought, Start};
@@ -31,15 +32,18 @@ pub enum Held {
     ShortOfRoom,
     /// This, of a find or of a read behind it.
     Finds(Start),
+    /// This, of a call that asks why.
+    Reasons(Reasoned),
     /// This, of a call of the month's report.
     Reports(Reported),
 }
 
-/// What the front of a recording told.
+/// What the front of a recording told, and what the last full read of it answered, if there was one.
 struct Told {
     kind: u64,
     chips: Vec<u8>,
     numbers: [u64; 9],
+    full: Option<FullRead>,
 }
 
 /// The last read of a front, the last find and the last reports, to which those calls are held that follow them.
@@ -57,7 +61,7 @@ impl Relations {
         match call {
             Call::ReadFront { kind, chips } => {
                 let numbers = answer.numbers[..].try_into().expect("nine numbers");
-                let told = Told { kind: *kind, chips: chips.clone(), numbers };
+                let told = Told { kind: *kind, chips: chips.clone(), numbers, full: None };
                 let alone = told.alone(&answer.buffer);
                 let beside = self.last.as_ref().map_or(Ok(None), |last| last.beside(&told));
                 self.last = Some(told);
@@ -65,9 +69,17 @@ impl Relations {
                 count(beside?);
             }
             Call::ReadHard { kind, chips, octets_len } => {
-                if let Some(told) = self.last.as_ref().filter(|told| told.kind == *kind && told.chips == *chips) {
-                    count(Some(told.read(&answer.numbers, *octets_len as u64)?));
+                if let Some(told) = self.last.as_mut().filter(|told| told.kind == *kind && told.chips == *chips) {
+                    let room = *octets_len as u64;
+                    told.full = Some(FullRead::new(room, &answer.numbers));
+                    count(Some(told.read(&answer.numbers, room)?));
                 }
+            }
+            Call::Why { kind, chips, room } => {
+                let numbers = answer.numbers[..].try_into().expect("four numbers");
+                let told = self.last.as_ref().filter(|told| told.kind == *kind && told.chips == *chips);
+                count(reasons::alone(*kind, chips, *room, &numbers)?.map(Held::Reasons));
+                count(told.map_or(Ok(None), |told| told.reason(*room, &numbers))?.map(Held::Reasons));
             }
             Call::Report(call) => {
                 self.reports.hold(call, answer)?.into_iter().for_each(|what| count(Some(Held::Reports(what))));
@@ -152,6 +164,21 @@ impl Told {
         } else {
             Err("a full read is neither as the front told nor refused in the part")
         }
+    }
+
+    /// A reason for the same recording: refused as the front is, or with 17 by the n that the front told, or not before
+    /// the payload; and as the last full read was, if that had as much room.
+    fn reason(&self, room: u64, reason: &[u64; 4]) -> Result<Option<Reasoned>, &'static str> {
+        let [number, place, _, _, _, n, _, at, count] = self.numbers;
+        let as_front = match number {
+            0 if room < n => reason[..] == [OCTET_BUFFER, 0, n, room],
+            0 => reason[0] == 0 || [UNUSABLE, GROWTH].contains(&reason[0]) && (at..at + count).contains(&reason[1]),
+            _ => (reason[0], reason[1]) == (number, place),
+        };
+        if !as_front {
+            return Err("a reason that doesn't go with what the front told");
+        }
+        self.full.as_ref().map_or(Ok(None), |full| full.beside(room, reason))
     }
 
     /// The smallest lead of a good read: whole chips, no more than those of the rate's words as they were sent, at a

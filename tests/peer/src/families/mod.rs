@@ -45,6 +45,12 @@
 //! - The lead of one word wrong: `leads_of_each_word`.
 //! - A length cut to 16, 20, 22 or 24 bits: `wide_writes`, `wide_recordings`, `wide_rooms`, `wide_searches`.
 //! - A bit of a number lost: `bits_of_numbers`.
+//! - Why a read is refused, with other numbers than the read's, or a room or a kind cut: `why_rooms`, `why_numbers`.
+//! - SFDs exchanged, or a CRC turned round, where they are shown: `why_checks`.
+//! - What SERVICE or LENGTH is held to shown otherwise than the reader holds them to it: `why_headers`, `why_lengths`.
+//!   A reason wrong at one n: `why_every_n`.
+//! - The octet or the growth of another place shown, or one behind the frame: `why_places`.
+//! - A symbol of a block, a last one or a chip of a front not looked at: `why_places`. A far block: `why_wide`.
 //! - I and Q that may not be one row, a recording of a list that may not be named twice: `one_row`, `report_lists`.
 //! - What a lent row held before the call, a row of length 0 by a pointer or as NULL, a row kept between calls: every
 //!   family, as each call's rows are laid in any way (`laid.rs`).
@@ -66,6 +72,8 @@ mod restored;
 mod soft;
 mod steps;
 mod ties;
+mod why;
+mod why_edges;
 mod widths;
 mod written;
 
@@ -261,6 +269,22 @@ families! {
     1505 widths::wide_searches: "recordings of so many chips to search and to count, and lists of so many",
     // for: OnlySent, NotTried, AnyReport, Lists.answer, Spells.answer, Spells.octets
     1502 widths::bits_of_numbers: "each bit of 64 more in each number of every call",
+    // for: WhyAgrees, WhyTable, WhyDiffers, Explains.answer
+    1601 why::why_rooms: "reasons with rooms of every size, of whole frames, cut ones and refused ones",
+    // for: WhyAgrees, WhyTable, WhyDiffers, Explains.answer
+    1602 why::why_numbers: "kinds that are none, recordings short of a front, each bit more in kind and room",
+    // for: WhyTable, WhyDiffers, Explains.answer
+    1603 why::why_headers: "each SIGNAL and each SERVICE of each rate, right CRC",
+    // for: WhyTable, WhyDiffers, Explains.answer
+    1608 why::why_lengths: "each LENGTH of each rate, right CRC",
+    // for: WhyTable, WhyDiffers, Explains.answer
+    1604 why::why_checks: "SFDs and CRCs with bits changed, of the other kind, of all bits alike; another header's CRC",
+    // for: WhyAgrees, WhyTable, Explains.answer
+    1605 why::why_places: "unusable chips of each octet, symbols grown by 1 and 3, at each place that may be missed",
+    // for: WhyAgrees, WhyTable, Explains.answer
+    1607 why::why_every_n: "room for each n, an octet and any number too few, and 2^32 more than the first",
+    // for: WhyAgrees, WhyTable, Explains.answer
+    1606 why::why_wide: "reasons for recordings of 2^16, 2^20 and 2^24 chips, and of the longest frame",
 }
 
 /// Where a family puts its calls.
@@ -268,22 +292,33 @@ pub struct Out<'a> {
     pub long: bool,
     pub random: Random,
     pub figures: &'a Figures,
-    /// Says how rows are laid.
+    /// Says how rows are laid, and how those are of the calls that ask why.
     laying: Random,
+    asking: Random,
     take: &'a mut dyn FnMut(Call, Laid),
 }
 
 impl<'a> Out<'a> {
     pub fn new(seed: u64, long: bool, figures: &'a Figures, take: &'a mut dyn FnMut(Call, Laid)) -> Out<'a> {
-        Out { long, random: Random::new(seed), figures, laying: Random::new(seed + 1_000_000), take }
+        let [laying, asking] = [1_000_000, 2_000_000].map(|more| Random::new(seed + more));
+        Out { long, random: Random::new(seed), figures, laying, asking, take }
     }
 
-    /// A call; before each reading of a hard recording what is coming in it, asked of the same chips.
+    /// A call; before each reading of a hard recording what is coming in it, and behind it why it is refused with so
+    /// much room, asked of the same chips.
     pub fn call(&mut self, call: Call) {
-        if let Call::ReadHard { kind, chips, .. } = &call {
-            self.alone(Call::front(*kind, chips.clone()));
-        }
+        let Call::ReadHard { kind, chips, octets_len } = &call else { return self.alone(call) };
+        let (front, why) = (Call::front(*kind, chips.clone()), Call::why(*kind, chips.clone(), *octets_len as u64));
+        self.alone(front);
         self.alone(call);
+        self.ask(why);
+    }
+
+    /// A call that asks why. Its rows are laid by a sequence of its own, so that those of other calls hang on nothing
+    /// of it.
+    pub fn ask(&mut self, why: Call) {
+        let laid = Laid::any(&why, &mut self.asking);
+        (self.take)(why, laid);
     }
 
     /// A call with nothing before it, its rows laid in any way.
