@@ -6,11 +6,12 @@
  * does at the table: it asks what is coming, tells the fitter of it and of how the payload's chips came
  * through, sets aside just as many octets, and only then reads. Of each caption the fitter is told how
  * clearly its symbols were won, so that an aerial is moved before captions fail. In recordings that begin
- * anywhere it has the front found, and shows what a read from the offset found is worth. At the end of the
- * month it has a report of its recordings. What comes from the air may be any octets, so it is shown
- * escaped. A caption of an earlier exhibition must never be seen again: before each read the octet buffer is
- * full of one, and after it what is left of it is counted. All memory is in the static rows below; those
- * that are lent for writing stand between guard octets, which must stay as they were. */
+ * anywhere it has the front found, and shows what a read from the offset found is worth. Of a recording that
+ * is refused it says why, and what to do. At the end of the month it has a report of its recordings. What
+ * comes from the air may be any octets, so it is shown escaped. A caption of an earlier exhibition must never
+ * be seen again: before each read the octet buffer is full of one, and after it what is left of it is counted.
+ * All memory is in the static rows below; those that are lent for writing stand between guard octets, which
+ * must stay as they were. */
 #include "dsss.h"
 
 #include <inttypes.h>
@@ -439,6 +440,128 @@ static void begun_anywhere(void)
     tell_found("within no chips", LOST, dsss_find(DSSS_LONG, chips.row, len, 0));
 }
 
+/* A reason in words: what its numbers are of, what is expected, unless that is nothing, what is found, and
+ * what the fitter does. */
+static const struct {
+    const char *of, *expected, *found, *act;
+} reasons[] = {
+    [DSSS_REFUSED_KIND] = {"kind", NULL, "asked for", "Ask for 0 (long) or 1 (short)."},
+    [DSSS_REFUSED_FRONT] = {"chips", "in a front", "recorded", "Record for longer."},
+    [DSSS_REFUSED_CHIP] = {"octet", NULL, "recorded, which is no chip", "Look at the recorder."},
+    [DSSS_REFUSED_GROWTH] = {"growth", NULL, "read, where 0 or 2 is sent", "Move the aerial."},
+    [DSSS_REFUSED_SFD] = {"SFD", "sent with this kind", "read", "Try the other kind, then move the aerial."},
+    [DSSS_REFUSED_CRC] = {"CRC of the header", "worked out", "read", "Move the aerial."},
+    [DSSS_REFUSED_SIGNAL] = {"SIGNAL", NULL, "read, no rate of this kind", "Look at the sender's rate."},
+    [DSSS_REFUSED_SERVICE] = {"SERVICE", NULL, "in bits that must be 0", "Look at the sender's coding."},
+    [DSSS_REFUSED_LENGTH] = {"LENGTH", "as a sender makes it", "read", "Look at the sender's header."},
+    [DSSS_REFUSED_CUT] = {"chips", "in the frame", "recorded", "Record for longer."},
+    [DSSS_REFUSED_OCTET_ROOM] = {"octets", "in the payload", "of room", "Lend a longer buffer."},
+};
+
+/* An SFD or a CRC as four hexadecimal digits and an h, any other number as it is. */
+static void show_number(uint64_t refusal, uint64_t number, const char *words)
+{
+    if (refusal == DSSS_REFUSED_SFD || refusal == DSSS_REFUSED_CRC)
+        printf(" %04" PRIX64 "h %s", number, words);
+    else
+        printf(" %" PRIu64 " %s", number, words);
+}
+
+/* Why the recording in the chip row is refused with so much room, which may be any number: no buffer is lent.
+ * LENGTH has no right one where its octets are none that a payload has. */
+static void show_why(const char *what, uint64_t kind, uint64_t len, uint64_t room)
+{
+    dsss_reason why = dsss_why(kind, chips.row, len, room);
+
+    if (why.number == 0) {
+        printf("%s: not refused\n", what);
+        return;
+    }
+    printf("%s: refused, %" PRIu64 "\n    %s", what, why.number, reasons[why.number].of);
+    if (why.number == DSSS_REFUSED_CHIP || why.number == DSSS_REFUSED_GROWTH)
+        printf(" at chip %" PRIu64, why.place);
+    putchar(':');
+    if (reasons[why.number].expected && (why.number != DSSS_REFUSED_LENGTH || why.expected != 0)) {
+        show_number(why.number, why.expected, reasons[why.number].expected);
+        putchar(',');
+    }
+    show_number(why.number, why.found, reasons[why.number].found);
+    printf(". %s\n", reasons[why.number].act);
+}
+
+/* Reads the recording in the chip row with so much room, and says why if it is refused. */
+static void read_or_why(const char *what, uint64_t kind, uint64_t len, size_t room)
+{
+    fill_with_old();
+    dsss_record record = dsss_read_hard(kind, chips.row, len, octets.row, room);
+    if (record.number == 0)
+        show(what, kind, record);
+    else
+        show_why(what, kind, len, room);
+}
+
+/* Turns the eleven chips of a symbol. */
+static void turn(uint64_t symbol, uint8_t by)
+{
+    for (uint64_t k = 11 * symbol; k < 11 * symbol + 11; k++)
+        chips.row[k] = (uint8_t)((chips.row[k] + by) % 4);
+}
+
+/* A frame whose header no writer makes, with its right CRC: the bits of its front are those of three fronts
+ * added, as their chips are here, the second taken away; scrambler and CRC are sums of bits. The payload is that
+ * of the third. */
+static uint64_t send_mixed(const uint64_t *rates, const unsigned *which)
+{
+    static uint8_t mixed[DSSS_FRONT_LONG];
+    uint64_t len = 0;
+
+    memset(mixed, 0, sizeof mixed);
+    for (size_t frame = 0; frame < 3; frame++) {
+        len = send_caption(DSSS_LONG, rates[frame], 0, captions[which[frame]]).chips;
+        for (size_t k = 0; k < DSSS_FRONT_LONG; k++)
+            mixed[k] = (uint8_t)((mixed[k] + (frame == 1 ? 4 - chips.row[k] : chips.row[k])) % 4);
+    }
+    memcpy(chips.row, mixed, sizeof mixed);
+    return len;
+}
+
+static void why_headers(void)
+{
+    static const uint64_t rates[4][3] = {{DSSS_RATE_1, DSSS_RATE_2, DSSS_RATE_5_5},
+                                         {DSSS_RATE_11, DSSS_RATE_11, DSSS_RATE_2},
+                                         {DSSS_RATE_11, DSSS_RATE_11, DSSS_RATE_2},
+                                         {DSSS_RATE_1, DSSS_RATE_1, DSSS_RATE_11}};
+    static const unsigned which[4][3] = {{0, 1, 2}, {0, 3, 1}, {1, 3, 1}, {1, 3, 3}};
+    static const char *const what[4] = {"a rate that is none", "bit 7 of SERVICE at 2 Mbit/s",
+                                        "a LENGTH that is no octets'", "a LENGTH of 0"};
+
+    for (size_t k = 0; k < 4; k++)
+        read_or_why(what[k], DSSS_LONG, send_mixed(rates[k], which[k]), CAPTION_MAX);
+}
+
+/* Every refusal that a read of a hard recording can have. */
+static void why_refused(void)
+{
+    puts("\nWhy recordings are refused");
+    uint64_t len = send_caption(DSSS_LONG, DSSS_RATE_1, 0, captions[2]).chips;
+    read_or_why("long, 1 Mbit/s", DSSS_LONG, len, CAPTION_MAX);
+    read_or_why("by another kind", 2, len, CAPTION_MAX);
+    read_or_why("as short", DSSS_SHORT, len, CAPTION_MAX);
+    read_or_why("only its first 1,500 chips", DSSS_LONG, 1500, CAPTION_MAX);
+    read_or_why("without its last chip", DSSS_LONG, len - 1, CAPTION_MAX);
+    read_or_why("with room for 41 octets", DSSS_LONG, len, 41);
+    show_why("with room for 2^64 - 1, asked only", DSSS_LONG, len, UINT64_MAX);
+    turn(200, 3);
+    read_or_why("symbol 200 turned by three quarters", DSSS_LONG, len, CAPTION_MAX);
+    chips.row[2345] = 200;
+    read_or_why("an unusable octet too", DSSS_LONG, len, CAPTION_MAX);
+    turn(191, 2);
+    read_or_why("the header's last symbol turned by half too", DSSS_LONG, len, CAPTION_MAX);
+    turn(50, 1);
+    read_or_why("symbol 50 turned by a quarter too", DSSS_LONG, len, CAPTION_MAX);
+    why_headers();
+}
+
 /* Keeps the recording that stands in the chip row, and counts it into the report. What its read is refused
  * with is counted, and the answer is 0 all the same. */
 static dsss_report keep(const char *what, dsss_report report, uint64_t kind, uint64_t len)
@@ -527,6 +650,7 @@ int main(void)
     cut_short();
     what_is_coming();
     begun_anywhere();
+    why_refused();
     end_of_month();
     not_written();
     printf("\nGuard octets %s\n", guards_stand() ? "as they were" : "CHANGED");
