@@ -54,6 +54,7 @@ class Spec:
                 continue
             name = self.begins(line, inner, current)
             if name:
+                inner = inner if line.startswith(' ') else 0
                 current = name
                 self.lines[name] = []
                 if everything or any(MARK.match(above) for above in comment):

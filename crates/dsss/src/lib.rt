@@ -6,6 +6,7 @@ ghost use mathlib.Core.List.{map};
 ghost use lib.ListN.{length};
 ghost use Rattle.promises.specs.Calls.{Wrote, ReadHard, ReadSoft, ReadBytes, ReadFront, Finds};
 ghost use Rattle.promises_report.specs.Calls.{Adds, Lists, Spells};
+ghost use Rattle.promises_store.specs.Calls.{StoreWrites, StoreReads, StoreChanges};
 ghost use Rattle.promises_why.specs.Calls.{Explains};
 use rules_calls::Record;
 use rules_calls::Written;
@@ -14,6 +15,7 @@ use rules_finding::Found;
 use rules_report::Counted;
 use rules_report::Report;
 use rules_report::Spelled;
+use rules_store::Settings;
 use rules_why::Reason;
 
 // A payload to the chips of its frame; 4s after the frame, or everywhere after a refusal.
@@ -107,4 +109,28 @@ pub extern "C" fn dsss_why(kind: u64, chips: &[u8], room: u64) -> Reason
     ensures why { λ r. ⌜ Explains kind (now (chips .entry)) room r ⌝ }
 {
     small_calls::why::why(kind, chips, room)
+}
+
+// A store with the three settings, 17 octets, and zeros behind it; zeros everywhere after a refusal.
+#[no_mangle]
+pub extern "C" fn dsss_store_write(kind: u64, rate: u64, phase: u64, store: &mut [u8]) -> u64
+    ensures written { λ r. ⌜ StoreWrites kind rate phase (length (now (store .entry))) r (now (store .exit)) ⌝ }
+{
+    store_keep::write(kind, rate, phase, store)
+}
+
+// A store's three settings. The octets lent are the store, all of them; no buffer is lent for writing.
+#[no_mangle]
+pub extern "C" fn dsss_store_read(store: &[u8]) -> Settings
+    ensures read { λ s. ⌜ StoreReads (now (store .entry)) s ⌝ }
+{
+    store_keep::read(store)
+}
+
+// One setting of a store changed, in its place; after a refusal the store is as it was.
+#[no_mangle]
+pub extern "C" fn dsss_store_change(store: &mut [u8], tag: u64, value: u64) -> u64
+    ensures changed { λ r. ⌜ StoreChanges (now (store .entry)) tag value r (now (store .exit)) ⌝ }
+{
+    store_keep::change(store, tag, value)
 }

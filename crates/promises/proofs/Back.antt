@@ -23,6 +23,7 @@ use Rattle.rules_chips.proofs.Recorders.{length-hard, length-soft-same}
 use Rattle.rules_chips.proofs.Bytes.{length-bytes}
 use Rattle.rules_frame.specs.declared.Kind.{Kind}
 use Rattle.rules_frame.specs.Frame.{isKind, kindOf, clockOf, clockBit, goesWith, frontChips, frame, frameChips}
+use Rattle.rules_frame.proofs.Phases.{is-phase}
 use Rattle.rules_frame.proofs.Headers.{clock-some}
 use Rattle.rules_frame.proofs.Sizes.{frame-length}
 use Rattle.rules_calls.specs.declared.Writing.the-variants as writing
@@ -225,7 +226,7 @@ module _ (kind rate phase clock : ℕ) (payload : List ℕ) (w : Written) (chips
         pair .rate-is,
         pair .together,
         is-payload n (s .sendable .some) (s .sendable .few),
-        le-ltb 3 phase (omega (arith, lp)),
+        is-phase phase (omega (arith, lp)),
         le-ltb (s .room) c (omega (arith, size, s .holds)),
       )
 

@@ -20,7 +20,8 @@ use Rattle.rules_rates.proofs.Plain.{length-is}
 use Rattle.rules_reading.proofs.Telling.{Telling, TellingWhole, TellingWholeIf, whole-telling}
 use Rattle.rules_chips.specs.Chips.{Taken}
 use Rattle.rules_frame.specs.declared.Kind.{Kind}
-use Rattle.rules_frame.specs.Frame.{isKind, kindOf, goesWith, frontChips, frameChips}
+use Rattle.rules_frame.specs.Frame.{isKind, kindOf, goesWith, isPhase, frontChips, frameChips}
+use Rattle.rules_frame.proofs.Phases.{phase-most}
 use Rattle.rules_frame.proofs.Headers.{clock-lt}
 use Rattle.rules_calls.specs.declared.Writing.{Writing}
 use Rattle.rules_calls.specs.declared.Writing.the-variants as writing
@@ -81,7 +82,7 @@ module _ (kind rate phase : ℕ) (payload : List ℕ) (room : ℕ) (octets : Bel
       (λ a. branch Sendable-in (not (isCode rate)) _ _ tt
       (λ b. branch Sendable-in (not (goesWith (kindOf kind) (rateOf rate))) _ _ tt
       (λ c. branch Sendable-in (not (isPayload (pos n))) _ _ tt
-      (λ d. branch Sendable-in (ltb 3 phase) _ _ tt
+      (λ d. branch Sendable-in (not (isPhase phase)) _ _ tt
       (λ e. branch Sendable-in (ltb room (frameChips (kindOf kind) (rateOf rate) n)) _ _ tt
       (λ f. (
         subst (λ (x : ℕ). Goes kind x (frontChips (kindOf kind)) (octetChips (rateOf rate)))
@@ -89,7 +90,7 @@ module _ (kind rate phase : ℕ) (payload : List ℕ) (room : ℕ) (octets : Bel
             (goes kind (rateOf rate) (held _ a) (held _ c)),
         leb-true 1 n (left-is _ _ (held _ d)),
         leb-true n 4095 (right-is (leb 1 n) _ (held _ d)),
-        nltb→le 3 phase e,
+        phase-most phase (held _ e),
         nltb→le room (frameChips (kindOf kind) (rateOf rate) n) f,
       )))))))
 

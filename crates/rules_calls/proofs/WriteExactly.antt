@@ -10,6 +10,7 @@ use borrow.Author.Tests.{lt-ltb, le-ltb, le-leb, lt-leb, ne-eqb}
 use Rattle.rules_rates.specs.Rates.{isCode, rateOf}
 use Rattle.rules_rates.proofs.Lengths.{is-payload}
 use Rattle.rules_frame.specs.Frame.{kindOf, goesWith, frameChips}
+use Rattle.rules_frame.proofs.Phases.{is-phase, no-phase}
 use Rattle.rules_calls.specs.declared.Written.{Written}
 use Rattle.rules_calls.specs.Answers.{writtenOf}
 use Rattle.rules_calls.specs.Writing.{writingOf}
@@ -49,15 +50,15 @@ module _ (kind rate phase n room : ℕ) where
     module _ (some : 1 ≤ n) (few : n ≤ 4095) where
       pub write-5 : 3 < phase → write ≡ answered 5 0
       unfolding writingOf
-      write-5 h = rw (lt-ltb kind 2 k, code, goes, is-payload n some few, lt-ltb 3 phase h)
+      write-5 h = rw (lt-ltb kind 2 k, code, goes, is-payload n some few, no-phase phase h)
 
       pub write-6 : phase ≤ 3 → room < frameChips (kindOf kind) (rateOf rate) n → write ≡ answered 6 0
       unfolding writingOf
       write-6 h l =
-          rw (lt-ltb kind 2 k, code, goes, is-payload n some few, le-ltb 3 phase h, lt-ltb room _ l)
+          rw (lt-ltb kind 2 k, code, goes, is-payload n some few, is-phase phase h, lt-ltb room _ l)
 
       pub write-0 : phase ≤ 3 → frameChips (kindOf kind) (rateOf rate) n ≤ room
           → write ≡ answered 0 (frameChips (kindOf kind) (rateOf rate) n)
       unfolding writingOf
       write-0 h l =
-          rw (lt-ltb kind 2 k, code, goes, is-payload n some few, le-ltb 3 phase h, le-ltb room _ l)
+          rw (lt-ltb kind 2 k, code, goes, is-payload n some few, is-phase phase h, le-ltb room _ l)

@@ -10,7 +10,8 @@ use Rattle.rules_rates.specs.declared.Rate.{Rate}
 use Rattle.rules_rates.specs.Rates.{isCode, rateOf, isPayload}
 use Rattle.rules_rates.proofs.Lengths.{payload-high}
 use Rattle.rules_frame.specs.declared.Kind.{Kind}
-use Rattle.rules_frame.specs.Frame.{isKind, kindOf, goesWith, frameChips}
+use Rattle.rules_frame.specs.Frame.{isKind, kindOf, goesWith, isPhase, frameChips}
+use Rattle.rules_frame.proofs.Phases.{phase-most}
 use Rattle.rules_calls.specs.declared.Refusal.{Refusal}
 use Rattle.rules_calls.specs.declared.Writing.{Writing}
 use Rattle.rules_calls.specs.declared.Writing.the-variants.{Refused, Good}
@@ -31,13 +32,13 @@ accepted kind rate phase n room k r c h =
     let h3 = passed (not (goesWith K R)) _ _ k r c
     (passed (not (isCode rate)) _ _ k r c (passed (not (isKind kind)) _ _ k r c h .1) .1) .1 in
     let h4 = passed (not (isPayload (pos n))) _ _ k r c h3 in
-    let h5 = passed (ltb 3 phase) _ _ k r c (h4 .1) in
+    let h5 = passed (not (isPhase phase)) _ _ k r c (h4 .1) in
     let h6 = passed (ltb room (frameChips K R n)) _ _ k r c (h5 .1) in
     let ek : K ≡ k = cc (h6 .1) in
     let er : R ≡ r = cc (h6 .1) in
     let ec : frameChips K R n ≡ c = cc (h6 .1) in (
       payload-high n (not-false _ (h4 .0)),
-      ltb-false _ _ (h5 .0),
+      phase-most phase (not-false _ (h5 .0)),
       sym ec ∙ rw (ek, er),
       rw (← ec) (ltb-false _ _ (h6 .0)),
     )

@@ -18,7 +18,7 @@ use Rattle.rules_calls.specs.declared.Refusal.the-variants.{
 }
 use Rattle.rules_calls.specs.declared.Writing.{Writing}
 use Rattle.rules_calls.specs.declared.Writing.the-variants.{Refused, Good}
-use Rattle.rules_frame.specs.Frame.{isKind, kindOf, clockOf, goesWith, frame, frameChips}
+use Rattle.rules_frame.specs.Frame.{isKind, kindOf, clockOf, goesWith, isPhase, frame, frameChips}
 
 -- kind, rate code and starting phase as numbers; n octets of payload; room for so many chips
 unfoldable pub writingOf : ℕ → ℕ → ℕ → ℕ → ℕ → Writing
@@ -27,7 +27,7 @@ writingOf kind rate phase n room =
     (cond (not (isCode rate)) (Refused NoRate)
     (cond (not (goesWith (kindOf kind) (rateOf rate))) (Refused ShortRate)
     (cond (not (isPayload (pos n))) (Refused PayloadSize)
-    (cond (ltb 3 phase) (Refused NoPhase)
+    (cond (not (isPhase phase)) (Refused NoPhase)
     (cond (ltb room (frameChips (kindOf kind) (rateOf rate) n)) (Refused ChipRoom)
     (Good (kindOf kind) (rateOf rate) (frameChips (kindOf kind) (rateOf rate) n)))))))
 

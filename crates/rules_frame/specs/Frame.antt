@@ -65,6 +65,10 @@ goesWith Short Two = true
 goesWith Short Five = true
 goesWith Short Eleven = true
 
+-- a starting phase is 0 to 3
+abbrev pub isPhase : ℕ → Bool
+isPhase phase = ltb phase 4
+
 -- clock is a yes or no: 0 is no, any other number yes
 abbrev pub clockOf : ℕ → Bool
 clockOf clock = not (eqb clock 0)

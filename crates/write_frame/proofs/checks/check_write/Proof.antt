@@ -8,6 +8,7 @@ use borrow.Author.Needs.{needs}
 use borrow.Author.Tests.{lt-ltb, le-ltb}
 use Rattle.rules_rates.specs.Rates.{isCode, rateOf, isPayload}
 use Rattle.rules_frame.specs.Frame.{goesWith, frameChips, isKind, kindOf}
+use Rattle.rules_frame.proofs.Phases.{is-phase, no-phase}
 use Rattle.rules_calls.specs.Writing.{writingOf}
 use Rattle.base.proofs.Tests.{failed, passed}
 use Rattle.rules_rates.proofs.Lengths.{payload-high}
@@ -83,7 +84,7 @@ returns-5 c =
       coded (c .before .before .before),
       goes (c .before .before),
       sized (c .before),
-      lt-ltb _ _ (c .if5 .taken),
+      no-phase _ (c .if5 .taken),
     )
 
 frame-chips-requires : tie.Need-frame-chips-requires
@@ -98,7 +99,7 @@ returns-6 c =
       coded (five .before .before .before),
       goes (five .before .before),
       sized (five .before),
-      le-ltb _ _ (five .if5 .left),
+      is-phase _ (five .if5 .left),
       ← frames (c .before),
       lt-ltb _ _ (c .if6 .taken),
     )
@@ -113,7 +114,7 @@ returns-7 c =
       coded (five .before .before .before),
       goes (five .before .before),
       sized (five .before),
-      le-ltb _ _ (five .if5 .left),
+      is-phase _ (five .if5 .left),
       ← frames (c .before),
       le-ltb _ _ (c .if6 .left),
       ← all .before .before .before .kind-of .ensures,

@@ -1,0 +1,4 @@
+pub mod Table
+pub mod Serves
+pub mod Kept
+pub mod Uses

@@ -1,0 +1,3 @@
+pub mod Store
+pub mod Plain
+pub mod Pieces
