@@ -4,7 +4,9 @@
 
 LIB := target/staticlib/libdsss.a
 LEAVES := target/staticlib/libbench_leaves.a
-PLAIN := bench/plain_write.c bench/plain_choose.c bench/plain_read.c bench/plain_find.c bench/plain_report.c
+PLAIN := bench/plain_write.c bench/plain_choose.c bench/plain_read.c bench/plain_find.c bench/plain_report.c \
+	bench/plain_store.c
+HOST := examples/host/host.c examples/host/settings.c
 OUT := target/c
 STRICT := -std=c99 -Wall -Wextra -Wpedantic -Werror -Iinclude
 PREFIX ?= /usr/local
@@ -21,7 +23,7 @@ PROVED := crates.txt $(shell find crates -name '*.rt' -o -name '*.antt')
 .PHONY: uninstall packages demo-packages install-look
 .SILENT:
 
-# The host: captions written at every kind and rate, one spoilt, one cut short.
+# The host: captions written at every kind and rate, one spoilt, one cut short; settings kept in a store.
 demo: $(OUT)/host ## builds the library and the host program, runs it and compares its output with the stored copy
 	scripts/x86run $(OUT)/host > $(OUT)/host.stdout
 	cat $(OUT)/host.stdout
@@ -109,9 +111,9 @@ $(LEAVES): $(PROVED) | demo-packages
 	scripts/staticlib.sh bench_leaves
 	touch $@
 
-$(OUT)/host: examples/host/host.c include/dsss.h $(LIB) | demo-packages
+$(OUT)/host: $(HOST) examples/host/settings.h include/dsss.h $(LIB) | demo-packages
 	mkdir -p $(OUT)
-	scripts/x86cc $@ examples/host/host.c $(LIB) -- $(STRICT)
+	scripts/x86cc $@ $(HOST) $(LIB) -- $(STRICT)
 
 $(OUT)/month: programs/month.c include/dsss.h $(LIB) | demo-packages
 	mkdir -p $(OUT)

@@ -11,6 +11,7 @@
  * per second and the multiple of 11 Mchip/s are left out then. */
 #define _POSIX_C_SOURCE 200809L
 #include "recordings.h"
+#include "stores.h"
 #include "bench_leaves.h"
 
 #include <inttypes.h>
@@ -33,6 +34,9 @@ struct library {
     dsss_reason (*why)(uint64_t, const uint8_t *, size_t, uint64_t);
     dsss_counted (*report_add)(dsss_report, uint64_t, const uint8_t *, size_t);
     dsss_text (*report_text)(dsss_report, uint8_t *, size_t);
+    uint64_t (*store_write)(uint64_t, uint64_t, uint64_t, uint8_t *, size_t);
+    dsss_settings (*store_read)(const uint8_t *, size_t);
+    uint64_t (*store_change)(uint8_t *, size_t, uint64_t, uint64_t);
     void (*count)(const float *, size_t, int32_t *, size_t);
     uint64_t (*decide)(uint64_t, const float *, size_t, const float *, size_t);
     uint64_t (*eleven)(uint64_t, const uint8_t *, size_t, const int8_t *, size_t, const float *, size_t, const float *,
@@ -43,9 +47,11 @@ enum { DSSS, PLAIN, BOTH };
 
 static const struct library libraries[BOTH] = {
     {dsss_write, dsss_read_hard, dsss_read_soft, dsss_read_bytes, dsss_read_front, dsss_find, dsss_why,
-     dsss_report_add, dsss_report_text, timed_count, timed_decide, timed_eleven},
+     dsss_report_add, dsss_report_text, dsss_store_write, dsss_store_read, dsss_store_change, timed_count,
+     timed_decide, timed_eleven},
     {plain_write, plain_read_hard, plain_read_soft, plain_read_bytes, plain_read_front, plain_find, plain_why,
-     plain_report_add, plain_report_text, plain_count, plain_decide, plain_eleven},
+     plain_report_add, plain_report_text, plain_store_write, plain_store_read, plain_store_change, plain_count,
+     plain_decide, plain_eleven},
 };
 
 static const struct {
@@ -57,10 +63,11 @@ static const char *const kinds[] = {"long", "short"};
 
 /* The rows of the call under measurement. */
 static uint8_t payload[DSSS_PAYLOAD_MAX], chips[DSSS_CHIPS_MAX], octets[DSSS_PAYLOAD_MAX], text[DSSS_TEXT_MAX];
+static uint8_t store[DSSS_STORE_MAX];
 static float i_row[DSSS_CHIPS_MAX], q_row[DSSS_CHIPS_MAX];
 static int8_t bytes[2 * DSSS_CHIPS_MAX];
 static uint64_t kind, rate;
-static size_t payload_len, chips_len, offsets;
+static size_t payload_len, chips_len, store_len, offsets;
 
 static double limit = 0.02; /* seconds */
 static int emulated;
@@ -495,6 +502,61 @@ static void reports(void)
     report_line("text", text_task);
 }
 
+/* ---- Stores ---------------------------------------------------------------------------------- */
+
+static uint64_t store_read_task(const struct library *l)
+{
+    return l->store_read(store, store_len).number;
+}
+
+static uint64_t store_change_task(const struct library *l)
+{
+    return l->store_change(store, store_len, DSSS_TAG_PHASE, 1);
+}
+
+static uint64_t store_write_task(const struct library *l)
+{
+    return l->store_write(DSSS_SHORT, DSSS_RATE_11, 2, store, store_len);
+}
+
+/* Both libraries answer the same, as they must, leave the same store, and read the same settings from it. */
+static void stores_agree(size_t which, task_fn task)
+{
+    static uint8_t first[DSSS_STORE_MAX];
+    dsss_settings settings[BOTH];
+
+    for (size_t l = 0; l < BOTH; l++) {
+        store_len = lay_store(which, store);
+        if (task(&libraries[l]) != stores[which].number)
+            fail("a store is not refused, or is, as expected");
+        if (l == 0)
+            memcpy(first, store, store_len);
+        if (memcmp(first, store, store_len) != 0)
+            fail("the stores differ");
+        settings[l] = libraries[l].store_read(store, store_len);
+    }
+    if (memcmp(&settings[DSSS], &settings[PLAIN], sizeof settings[DSSS]) != 0)
+        fail("the settings differ");
+}
+
+/* The table of contents is walked, bodies are not: the longest store costs little more than the shortest. */
+static void kept(void)
+{
+    static const task_fn of[STORES] = {store_read_task, store_read_task, store_read_task, store_change_task,
+                                       store_write_task};
+
+    printf("\nstores: reads of one as it is written, of the longest that is read, of the largest, which is refused\n");
+    printf("%-10s  %6s  %12s  %12s  %6s\n", "call", "octets", "dsss ns", "plain ns", "ratio");
+    for (size_t which = 0; which < STORES; which++) {
+        double ns[BOTH];
+        stores_agree(which, of[which]);
+        measure(of[which], ns);
+        printf("%-10s  %6zu  %12.1f  %12.1f  %6.2f\n", stores[which].name, store_len, ns[DSSS], ns[PLAIN],
+               ns[DSSS] / ns[PLAIN]);
+        fflush(stdout);
+    }
+}
+
 /* ---- Parts of reading, to see where a reader's time goes ------------------------------------- */
 
 static void part_line(const char *name, task_fn task, size_t many)
@@ -623,6 +685,7 @@ int main(int argc, char **argv)
     finds();
     whys();
     reports();
+    kept();
     parts();
     return 0;
 }

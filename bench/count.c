@@ -8,11 +8,13 @@
  * frame to a report, an add of an empty recording, a hard read of the frame with the room that an add gives it, or the
  * report's text, as CALL says: add, empty, read or text. With -DWHY a call asks why the frame is refused, which it is
  * not, or is a hard read of it, or the same of the frame with its CRC spoiled: why, read, why_crc or read_crc. With
- * -DCHOICE a call is the choice alone, of a block of 64 symbols of 11 Mbit/s, by the recorder hard, soft or bytes. The
- * rows are made and a call for one octet or offset, or the choice, is made first, whatever TIMES is: the difference of
+ * -DSTORE a call is the one of stores.h that CALL names, KIND, RATE and OCTETS being of no use. With -DCHOICE a call is
+ * the choice alone, of a block of 64 symbols of 11 Mbit/s, by the recorder hard, soft or bytes. The rows are made and a
+ * call for one octet or offset, the choice or the call of a store, is made first, whatever TIMES is: the difference of
  * two runs with TIMES 0 and 1 is the instructions of one call, with nothing of the program's start.
  * scripts/instructions.sh builds what it needs and makes the two runs. */
 #include "recordings.h"
+#include "stores.h"
 #include "bench_leaves.h"
 
 #include <stdio.h>
@@ -58,6 +60,42 @@ static uint64_t set_up(const char *name, uint64_t kind, uint64_t rate, size_t of
 {
     (void)rate;
     return which(name) < RECORDINGS ? lay_recording(which(name), kind, offsets, chips) : 0;
+}
+#elif defined STORE
+enum { LEAST = 1 };
+
+static size_t which; /* of the calls; STORES if none is named */
+
+/* A store stands where chips do: its octets are counted. */
+static uint64_t chips_of(size_t len)
+{
+    return len;
+}
+
+/* One call; whether it answers as it must. */
+static int call(const char *name, uint64_t kind, uint64_t rate, size_t n, size_t len)
+{
+    (void)name;
+    (void)n;
+    switch (which) {
+    case STORE_CHANGE:
+        return OF(store_change)(chips, len, DSSS_TAG_PHASE, 1) == 0;
+    case STORE_WRITE:
+        return OF(store_write)(kind, rate, 1, chips, len) == 0;
+    default:
+        return OF(store_read)(chips, len).number == stores[which].number;
+    }
+}
+
+static uint64_t set_up(const char *name, uint64_t kind, uint64_t rate, size_t n)
+{
+    (void)kind;
+    (void)rate;
+    (void)n;
+    for (which = 0; which < STORES; which++)
+        if (strcmp(name, stores[which].name) == 0)
+            return lay_store(which, chips);
+    return 0;
 }
 #else
 static float i_row[DSSS_CHIPS_MAX], q_row[DSSS_CHIPS_MAX];

@@ -1,12 +1,12 @@
-/* plain.h: the ten calls of dsss.h in plain C, and the parts of them that are worth timing alone.
+/* plain.h: the thirteen calls of dsss.h in plain C, and the parts of them that are worth timing alone.
  *
  * The calls take, answer and fill what dsss_write, dsss_read_hard, dsss_read_soft, dsss_read_bytes, dsss_read_front,
- * dsss_find, dsss_why, dsss_report_add, dsss_report_list and dsss_report_text do. Nothing here is proved; tests compare
- * it with the second program.
+ * dsss_find, dsss_why, dsss_report_add, dsss_report_list, dsss_report_text, dsss_store_write, dsss_store_read and
+ * dsss_store_change do. Nothing here is proved; tests compare it with the second program.
  *
- * Compiled with -DPLAIN_AS_DSSS, plain_write.c, plain_choose.c, plain_read.c, plain_find.c and plain_report.c define
- * the calls of dsss.h themselves: a stand-in for the library, to test the tests (host, month, bridge, bench, the second
- * program) without it. */
+ * Compiled with -DPLAIN_AS_DSSS, plain_write.c, plain_choose.c, plain_read.c, plain_find.c, plain_report.c and
+ * plain_store.c define the calls of dsss.h themselves: a stand-in for the library, to test the tests (host, month,
+ * bridge, bench, the second program) without it. */
 #ifndef PLAIN_H
 #define PLAIN_H
 
@@ -23,6 +23,9 @@
 #define plain_report_add dsss_report_add
 #define plain_report_list dsss_report_list
 #define plain_report_text dsss_report_text
+#define plain_store_write dsss_store_write
+#define plain_store_read dsss_store_read
+#define plain_store_change dsss_store_change
 #endif
 
 dsss_written plain_write(uint64_t kind, uint64_t rate, uint64_t phase, uint64_t clock,
@@ -39,6 +42,9 @@ dsss_reason plain_why(uint64_t kind, const uint8_t *chips, size_t chips_len, uin
 dsss_counted plain_report_add(dsss_report report, uint64_t kind, const uint8_t *chips, size_t chips_len);
 dsss_counted plain_report_list(const uint64_t *kinds, size_t kinds_len, const dsss_chips *list, size_t list_len);
 dsss_text plain_report_text(dsss_report report, uint8_t *text, size_t text_len);
+uint64_t plain_store_write(uint64_t kind, uint64_t rate, uint64_t phase, uint8_t *store, size_t store_len);
+dsss_settings plain_store_read(const uint8_t *store, size_t store_len);
+uint64_t plain_store_change(uint8_t *store, size_t store_len, uint64_t tag, uint64_t value);
 
 /* The counts of a row of usable samples, as far as both rows go: 1024 times each, nearest, halves
  * to even. */

@@ -3,8 +3,9 @@
  * The library writes a frame as chips, and reads a hard, soft or byte recording of chips back to the
  * payload; of a hard one it tells from the front alone what is coming, finds the first offset at which
  * a front can be read, and says why a read is refused. Of many hard ones it makes a report, and spells it
- * out as text. What it answers is fixed by docs/RULES.md and proved for every input; docs/PROMISES.md says
- * where. No proof covers this header: it is written by hand and held to the source by a test.
+ * out as text. It lays out a table's radio settings as a store of a few octets, reads them and changes one.
+ * What it answers is fixed by docs/RULES.md and proved for every input; docs/PROMISES.md says where. No
+ * proof covers this header: it is written by hand and held to the source by a test.
  *
  * CONVENTIONS, the same for every call
  *
@@ -16,12 +17,13 @@
  * Overlap   A const row is only read. A row without const is lent for writing and overlaps no
  *           other row of the call. Const rows may overlap each other; a list may name a row twice.
  * Memory    Nothing is allocated and nothing is kept: no state, no lock, no file. A report is the
- *           caller's, handed in and back by value. Calls at the same time are safe if no row that one
- *           of them writes is used by another.
+ *           caller's, handed in and back by value; a store is octets in the caller's row. Calls at the
+ *           same time are safe if no row that one of them writes is used by another.
  * Numbers   Numbers are 64 bits wide and compared whole: a kind of 2^32 is refused, not cut to 0. A
  *           yes or no is 0 for no and any other number for yes, 256 and 2^40 too.
- * Answers   An answer is a record by value. Its number is 0 if the call did its work, or the number
- *           of the refusal. Where several refusals hold, the first in the call's order is given.
+ * Answers   An answer is a record by value, or the number alone. The number is 0 if the call did its
+ *           work, or that of the refusal. Where several refusals hold, the first in the call's order is
+ *           given.
  *           NUMBER 0 OF A READ IS NOT "THE OCTETS ARE THOSE SENT". It says that a frame with a good
  *           header was there, whole, and what its chips were decided as. Only the header has a check
  *           here; the payload's own check sequence is the MAC's, stands in the payload's last octets
@@ -34,7 +36,9 @@
  *           a refusal is what it was asked for, and no fault of the call.
  * Fills     What a lent row held before does not matter. Each call writes every element of it,
  *           refused or not: a chip buffer is 4s but for the frame, an octet buffer is 0s but for
- *           the payload or the text. A refused call leaves nothing else, so nothing old can be shown.
+ *           the payload, the text or the store. A refused call leaves nothing else, so nothing old can
+ *           be shown. ONE CALL IS OTHERWISE: dsss_store_change reads the store that it is lent, changes
+ *           one octet of it at most, and, refused, leaves every octet as it was.
  * Places    Places and offsets are chip indexes from the recording's start, which is 0.
  */
 #ifndef DSSS_H
@@ -51,13 +55,13 @@ extern "C" {
  * added, PATCH when neither. A call whose record or parameters change gets a new symbol, which a
  * macro here stands for: an object built with an older header then does not link, and is built anew. */
 #define DSSS_VERSION_MAJOR 3
-#define DSSS_VERSION_MINOR 3
+#define DSSS_VERSION_MINOR 4
 #define DSSS_VERSION_PATCH 0
 #define DSSS_VERSION (10000 * DSSS_VERSION_MAJOR + 100 * DSSS_VERSION_MINOR + DSSS_VERSION_PATCH)
 
 /* The symbols of the calls. C and C++ write the plain names; what goes by symbols, as another language
- * or a debugger does, finds these. dsss_read_front, dsss_find, dsss_why and the three calls of the report
- * are their own symbols. */
+ * or a debugger does, finds these. dsss_read_front, dsss_find, dsss_why, the three calls of the report and
+ * the three of the store are their own symbols. */
 #define dsss_write dsss_write_2
 #define dsss_read_hard dsss_read_hard_3
 #define dsss_read_soft dsss_read_soft_3
@@ -79,6 +83,11 @@ extern "C" {
 #define DSSS_RATE_5_5 55  /*  5.5 Mbit/s, 16 chips an octet */
 #define DSSS_RATE_11 110  /* 11   Mbit/s,  8 chips an octet */
 
+/* Tags of the settings in a store. */
+#define DSSS_TAG_KIND 1
+#define DSSS_TAG_RATE 2
+#define DSSS_TAG_PHASE 3
+
 /* Sizes. A frame is its front (SYNC, SFD and header) and then the payload's chips. */
 #define DSSS_FRONT_LONG 2112
 #define DSSS_FRONT_SHORT 1056
@@ -88,6 +97,10 @@ extern "C" {
 #define DSSS_OFFSETS_MAX 4096 /* offsets that one find tries, at most */
 #define DSSS_RECORDINGS_MAX 1000 /* recordings that one report counts, at most */
 #define DSSS_TEXT_MAX 980 /* octets of the longest text that any report has */
+#define DSSS_STORE_OCTETS 17 /* THE LENGTH OF A STORE THAT WAS WRITTEN, whatever the length of its buffer */
+#define DSSS_STORE_MAX 4146 /* octets of the longest store that can be laid out, 16 entries with bodies of 255.
+                               A buffer of one octet more holds any store whole, and shows a longer file as
+                               longer. Settings are one octet each, so that a read accepts 3,384 at most */
 
 /* The chips of an octet at a rate, and of a frame of n octets: the room that a write needs. Both are
  * constants where their arguments are; for a kind or rate that is none they mean nothing. A read of
@@ -104,7 +117,9 @@ extern "C" {
  * read of the front looks for 1, 8, then 9 and 10 over the front, 11 to 16, and for nothing more. A
  * find looks for 1 and 18, then for a front, and answers 19 if there is none. dsss_why looks as a read
  * does. A report's calls answer 31, of a list 7 before it, and its text 17; what the recordings are
- * refused with is counted, not answered. */
+ * refused with is counted, not answered. A read of a store looks for 21 to 28 in this order, each in the
+ * whole store before the next; a change for these, then for 30, then for 28 in the settings as they would
+ * be; a write of one for 28, then 29. */
 #define DSSS_REFUSED_KIND 1        /* kind is neither 0 (long) nor 1 (short) */
 #define DSSS_REFUSED_RATE 2        /* rate code isn't one of the four */
 #define DSSS_REFUSED_SHORT_RATE 3  /* rate code 10 with the short kind */
@@ -125,6 +140,16 @@ extern "C" {
 #define DSSS_REFUSED_OCTET_ROOM 17 /* octet buffer shorter than the payload, or than a report's text */
 #define DSSS_REFUSED_OFFSETS 18    /* number of offsets to try is 0 or above 4,096 */
 #define DSSS_REFUSED_NO_START 19   /* none of the offsets has a front that a read accepts */
+#define DSSS_REFUSED_STORE_CUT 21  /* store shorter than 2 octets, or than its table of contents */
+#define DSSS_REFUSED_ENTRIES 22    /* store has more than 16 entries */
+#define DSSS_REFUSED_TAGS 23       /* store's tags do not rise strictly */
+#define DSSS_REFUSED_LAYOUT 24     /* an offset, a length or the end of the store not as laid out */
+#define DSSS_REFUSED_HIGH_TAG 25   /* store has a tag of 128 or more */
+#define DSSS_REFUSED_NO_TAG 26     /* store lacks tag 1, 2 or 3 */
+#define DSSS_REFUSED_BODY 27       /* body of tag 1, 2 or 3 is not one octet */
+#define DSSS_REFUSED_SETTINGS 28   /* kind, rate code and starting phase not what 1, 2, 3 and 5 allow */
+#define DSSS_REFUSED_STORE_ROOM 29 /* buffer for a store shorter than 17 octets */
+#define DSSS_REFUSED_CHANGE_TAG 30 /* tag of a change is none of 1, 2 and 3 */
 #define DSSS_REFUSED_REPORT 31     /* report has seen 1,000, or holds more than 1,000 come to; list above 1,000 */
 
 /* The answer of a write. */
@@ -240,6 +265,15 @@ typedef struct {
     uint64_t number; /* 0, or 17 */
     uint64_t octets; /* octets of the text; 0 if refused */
 } dsss_text;
+
+/* The answer of a read of a store: a table's radio settings. Where number is 0, dsss_write refuses no payload
+ * of 1 to 4,095 octets with 1, 2, 3 or 5 for them. */
+typedef struct {
+    uint64_t number; /* 0, or the refusal: 21 to 28 */
+    uint64_t kind;   /* DSSS_LONG or DSSS_SHORT; 0 if refused */
+    uint64_t rate;   /* rate code; 0 if refused */
+    uint64_t phase;  /* starting phase, 0 to 3; 0 if refused */
+} dsss_settings;
 
 /* Writes one frame as chips.
  *   kind     DSSS_LONG or DSSS_SHORT                                      refusals 1, 3
@@ -405,6 +439,65 @@ dsss_counted dsss_report_list(const uint64_t *kinds, size_t kinds_len, const dss
  * Proved:  crates/dsss, dsss_report_text, record Spells: answer and octets. */
 dsss_text dsss_report_text(dsss_report report, uint8_t *text, size_t text_len);
 
+/* A store keeps the radio settings of a table, kind, rate code and starting phase, in octets that a newer
+ * program can write more into and an older one still reads:
+ *     octet 0        a version: a write makes it 1, a read and a change do not look at it
+ *     octet 1        the number of entries, 0 to 16
+ *     4 each entry   the table of contents: the tag, the offset of the entry's body from the store's first
+ *                    octet (two octets, the low one first) and the body's length, 0 to 255
+ *     the bodies     in the order of the table of contents, with no gaps, up to the store's end
+ * Tags rise strictly. Tags 1, 2 and 3 are kind, rate code and starting phase, one octet each, and must be
+ * there. Any other tag below 128, 0 too, is passed over with its body; one of 128 or more says that a reader
+ * who does not know it must not go on.
+ *
+ * THE STORE'S LENGTH IS ITS OWN, NOT THE BUFFER'S. A store that dsss_store_write wrote has DSSS_STORE_OCTETS
+ * octets, and the zeros behind them are no part of it: keep, read and change those octets alone. Read or
+ * changed with the length of a longer buffer it is refused with 24. Of a store that comes from a file the
+ * length is the file's: read the file whole, into DSSS_STORE_MAX + 1 octets, so that one that is longer than
+ * any store is refused and not cut. Write it whole too, into a new file that then takes the old one's name:
+ * octets of two stores, mixed, may be read as settings that neither has. */
+
+/* Writes a store with these three settings: version 1 and the entries of tags 1, 2 and 3.
+ *   kind     DSSS_LONG or DSSS_SHORT                                      refusal 28
+ *   rate     one of the four rate codes, not 10 with the short kind       refusal 28
+ *   phase    0 to 3, the starting phase                                   refusal 28
+ *   store    lent, at least DSSS_STORE_OCTETS octets                      refusal 29
+ * Answer:  0. THE STORE IS THE FIRST DSSS_STORE_OCTETS OCTETS, however long the buffer is.
+ * Refused: the number: 28 where 1, 2, 3 or 5 holds of the three, else 29.
+ * Buffer:  store[] is the store and then 0s, which are no part of it; refused, all 0s. A REFUSED WRITE WIPES
+ *          THE ROW, AND WITH IT ANY SETTINGS THAT STOOD THERE. Try settings in a row of their own, or change a
+ *          store that stands by dsss_store_change, which leaves it as it was if it refuses.
+ * Proved:  crates/dsss, dsss_store_write, record StoreWrites: answer and octets. */
+uint64_t dsss_store_write(uint64_t kind, uint64_t rate, uint64_t phase, uint8_t *store, size_t store_len);
+
+/* Reads the three settings from a store, this program's or a newer one's.
+ *   store    the store, all of it and nothing behind it: store_len is DSSS_STORE_OCTETS for one that
+ *            dsss_store_write wrote, NOT THE LENGTH OF ITS BUFFER, which is refused with 24; of one that
+ *            comes from a file it is the file's length                    refusals 21 to 28
+ * Answer:  number 0, and kind, rate code and starting phase. The version and unknown tags are not told, nor
+ *          are their bodies looked at.
+ * Refused: the number; all else 0.
+ * Buffer:  none is lent for writing.
+ * Proved:  crates/dsss, dsss_store_read, record StoreReads: answer. */
+dsss_settings dsss_store_read(const uint8_t *store, size_t store_len);
+
+/* Changes one setting of a store where it stands. Unknown tags and the version stay as a newer program wrote
+ * them.
+ *   store    the store, all of it and nothing behind it, as for dsss_store_read: store_len is
+ *            DSSS_STORE_OCTETS for one that dsss_store_write wrote, NOT THE LENGTH OF ITS BUFFER, and the
+ *            file's length for one from a file. It is read and written    refusals 21 to 28
+ *   tag      DSSS_TAG_KIND, DSSS_TAG_RATE or DSSS_TAG_PHASE               refusal 30
+ *   value    the new value, also the one that stands there. The three settings must be allowed together
+ *            after this one change: from long with rate code 10 the rate is changed first, then the kind,
+ *            and to rate code 10 from short the kind first                refusal 28
+ * Answer:  0.
+ * Refused: the number: 21 to 28 as a read is, then 30, then 28 for the settings as they would be. So 28 may be
+ *          the store's or the value's: dsss_store_read of the same store tells which.
+ * Buffer:  store[] has the new value as the one octet of that tag's body; every other octet is as it was.
+ *          REFUSED, EVERY OCTET IS AS IT WAS, unlike in all other calls: nothing is filled.
+ * Proved:  crates/dsss, dsss_store_change, record StoreChanges: answer and octets. */
+uint64_t dsss_store_change(uint8_t *store, size_t store_len, uint64_t tag, uint64_t value);
+
 /* The sentence of an answer's number, to show to people. A number that is neither 0 nor a refusal
  * gets the last sentence.
  * NOT PROVED: plain C, held to the table of refusals by tests/header. */
@@ -452,6 +545,26 @@ static inline const char *dsss_sentence(uint64_t number)
         return "The number of offsets to try is 0 or above 4,096.";
     case DSSS_REFUSED_NO_START:
         return "None of the offsets has a front that a read accepts.";
+    case DSSS_REFUSED_STORE_CUT:
+        return "The store is shorter than 2 octets, or than its table of contents.";
+    case DSSS_REFUSED_ENTRIES:
+        return "The store has more than 16 entries.";
+    case DSSS_REFUSED_TAGS:
+        return "The tags of the store do not rise strictly.";
+    case DSSS_REFUSED_LAYOUT:
+        return "An offset, a length or the end of the store is not as laid out.";
+    case DSSS_REFUSED_HIGH_TAG:
+        return "The store has a tag of 128 or more, which only a newer program can read.";
+    case DSSS_REFUSED_NO_TAG:
+        return "The store lacks tag 1, 2 or 3: kind, rate code or starting phase.";
+    case DSSS_REFUSED_BODY:
+        return "The body of tag 1, 2 or 3 is not one octet.";
+    case DSSS_REFUSED_SETTINGS:
+        return "Kind, rate code and starting phase, together, are not what a frame allows.";
+    case DSSS_REFUSED_STORE_ROOM:
+        return "The octet buffer is shorter than the 17 octets of a store that is written.";
+    case DSSS_REFUSED_CHANGE_TAG:
+        return "The tag of a change is none of 1, 2 and 3.";
     case DSSS_REFUSED_REPORT:
         return "The report has seen 1,000 recordings or holds a number above what 1,000 come to, or the list has more "
                "than 1,000.";

@@ -1,6 +1,6 @@
 #!/bin/sh
-# instructions.sh [-l dsss|plain|all] [-c write|hard|soft|bytes|front|choice|find|why|report|all] [-k long|short]
-#                 [-r RATE|all] [-n OCTETS]
+# instructions.sh [-l dsss|plain|all] [-c write|hard|soft|bytes|front|choice|find|why|report|store|all]
+#                 [-k long|short] [-r RATE|all] [-n OCTETS]
 #
 # Instructions a chip of whole calls: one line a call, rate and library, that is the library and plain C. A read of the
 # front looks at no payload chip: its instructions are counted with few octets and with most, at 1 and 11 Mbit/s, if
@@ -10,10 +10,10 @@
 # that asks why is made of frames that are not refused, which takes it longest, and of one refused by its CRC; its
 # figure is how many hard reads of the same recording it is, and should be 1.10 at most. Of the report an add of an
 # empty recording, adds of frames and a text are counted; the figure of an add is what it takes more than a hard read
-# of the same frame with room for 4,095 octets. Each figure is the difference of two runs, without the call and with
-# it. On x86-64 valgrind counts (callgrind); elsewhere the emulator of the kit logs each instruction that it runs,
-# about a million a second, and the lines of its log are counted. The archives of target/ are taken as they stand, and
-# only those asked for: `make archives` makes all.
+# of the same frame with room for 4,095 octets. Of a store those calls are counted that bench/stores.h names. Each
+# figure is the difference of two runs, without the call and with it. On x86-64 valgrind counts (callgrind); elsewhere
+# the emulator of the kit logs each instruction that it runs, about a million a second, and the lines of its log are
+# counted. The archives of target/ are taken as they stand, and only those asked for: `make archives` makes all.
 set -eu
 cd "$(dirname "$0")/.."
 
@@ -29,12 +29,13 @@ while getopts l:c:k:r:n: option; do
     esac
 done
 [ "$library" != all ] || library='dsss plain'
-[ "$call" != all ] || call='write hard soft bytes front choice find why report'
+[ "$call" != all ] || call='write hard soft bytes front choice find why report store'
 mkdir -p target/c
 work=$(mktemp -d)
 trap 'rm -rf "$work"' EXIT
 
-# build LIBRARY [CHOICE|FIND|WHY|REPORT]: $program counts its calls, or these, and is not older than what it is made of
+# build LIBRARY [CHOICE|FIND|WHY|REPORT|STORE]: $program counts its calls, or these, and is not older than what it is
+# made of
 build() {
     program=target/c/count.$1${2:+.$2}
     case $1.$2 in
@@ -141,6 +142,14 @@ report_lines() { # report_lines LIBRARY: an empty recording, frames of few and o
     row "$1" 'report text' - - - - "$(spent text "$kind" 20 1)" -
 }
 
+store_lines() { # store_lines LIBRARY: reads of three stores, a change and a write
+    build "$1" STORE
+    for one in read longest refused change write; do
+        taken=$(spent $one long 110 1)
+        row "$1" "store $one" - - "$(cat "$work/chips")" - "$taken" -
+    done
+}
+
 rates_or() { # rates_or RATES: those asked for, or these
     if [ "$rate" = all ]; then echo "$1"; else echo "$rate"; fi
 }
@@ -159,7 +168,7 @@ lines() { # lines CALL RATES SIZES [CHOICE]: a choice is that of a block, whatev
 }
 
 case $call in
-find | why | report) ;;
+find | why | report | store) ;;
 *) row of call kind rate octets chips instructions 'a chip' ;;
 esac
 for c in $call; do
@@ -185,6 +194,12 @@ for c in $call; do
         row of call kind rate octets chips instructions 'past read'
         for l in $library; do
             report_lines "$l"
+        done
+        ;;
+    store)
+        row of call kind rate octets chips instructions -
+        for l in $library; do
+            store_lines "$l"
         done
         ;;
     front) lines front "$(rates_or '10 110')" '10 4095' ;;

@@ -14,18 +14,23 @@
  *                 NULL and 0; of each of these u64 chips_len; its chips
  *   9, text       the report, 31 u64 as above; u64 text_len
  *   10, why       u64 kind, chips_len, room; the chips
+ *   11, store write   u64 kind, rate, phase, store_len
+ *   12, store read    u64 store_len; the store
+ *   13, store change  u64 store_len, tag, value; the store
  * A row for reading is a u64, how many of its elements are sent, and these; the others are zeros. An answer is the
  * record (1: number, chips; 2 to 4: number, place, rate, length, n, used, clock, lead, symbol; 5: number, place, rate,
  * length, clock, n, used, at, count; 6: number, offset, rate, length, clock, n; 7 and 8: number, the report as above,
- * 32 in all; 9: number, octets; 10: number, place, expected, found; u64 each), every octet of the lent buffer as the
- * call left it, and a u64 guard, 0 if all is well: 1 if anything is not as it was around the rows or in those lent for
- * reading only, 2 if a call that was made again answered otherwise, 4 if a call that was made in the middle of this one
- * did. 5 to 8 and 10 have no lent buffer: of 5 its part stands there instead, `count` chips from the recording's own
- * chips + at on, as far as they are in the recording.
+ * 32 in all; 9: number, octets; 10: number, place, expected, found; 11 and 13: number; 12: number, kind, rate, phase;
+ * u64 each), every octet of the lent buffer as the call left it, and a u64 guard, 0 if all is well: 1 if anything is
+ * not as it was around the rows or in those lent for reading only, 2 if a call that was made again answered otherwise,
+ * 4 if a call that was made in the middle of this one did. 5 to 8, 10 and 12 have no lent buffer: of 5 its part stands
+ * there instead, `count` chips from the recording's own chips + at on, as far as they are in the recording. The lent
+ * buffer of 13 is the store, sent as a row for reading is.
  *
  * How the rows are laid, from the lowest bit on:
  *   8 bits   what the lent row holds before the call, at both ends if it is long: 0 0xAA, 1 zeros, 2 4s, 3 0xFF, 4 any
- *            of these from octet to octet, 5 what the same call has left there: it is made twice
+ *            of these from octet to octet, 5 what the same call has left there: it is made twice, 6 a good store, of
+ *            version 1 or 9 by the lowest bit of the 16 at bit 16, and 0xFF behind it. Of 13 only 5 counts
  *   1 bit    a row of length 0 is passed by a pointer, and not as NULL
  *   1 bit    rows are one where they can be: Q stands in I's memory, `shift` elements further on, or, turned round, I
  *            so in Q's, where the two must be alike; a recording of a list that another of the last four begins or
@@ -40,15 +45,16 @@
  * at multiples of 8 that are none of 16. The list of 8 is such a row, and so is each of its recordings. Called as
  * `bridge pages`, each row ends where memory ends instead: a read past it kills the bridge, on every processor; so does
  * a look at a chip behind the front in 5, and one at any chip in 6 where the kind or the number of offsets is refused,
- * and a write to a row for reading, though it were put right again before the call ends.
- * 6 is then called once more, with a row that begins where memory begins. Called as `bridge exact`, each row is memory
- * of just its size and the lent buffer is not set before the call: for valgrind, which then sees every touch beside a
- * row, what a call makes of the buffer's old contents, and every octet that it leaves unwritten.
+ * and a write to a row for reading, though it were put right again before the call ends. A row of length 0 that is
+ * passed by a pointer then stands where no memory is, and 6 is called once more, with a row that begins where memory
+ * begins. Called as `bridge exact`, each row is memory of just its size and the lent buffer is not set before the call:
+ * for valgrind, which then sees every touch beside a row, what a call makes of the buffer's old contents, and every
+ * octet that it leaves unwritten.
  *
  * A call in the middle of another: two parts of the row for reading, and the lent row, are closed but for the first
- * part. Where the call touches one that is closed, a signal's handler makes the call that was kept, opens that part and
- * closes the others. So whatever the two calls share is seen to be shared, each time in the same way. Only rows between
- * guards are laid so.
+ * part; of 11 and 13 the lent row has the two parts. Where the call touches one that is closed, a signal's handler
+ * makes the call that was kept, opens that part and closes the others. So whatever the two calls share is seen to be
+ * shared, each time in the same way. Only rows between guards are laid so.
  *
  * Answers are flushed when no further input is at hand, so requests may be sent ahead of answers.
  * Status 0 at an end of input between requests; else 1 and a message on stderr. */
@@ -203,6 +209,8 @@ static struct row make_row(uint64_t count, size_t width, uint64_t open, int lent
     if (!row.memory)
         die("no memory for a row");
     row.pointer = count > 0 || laid.pointed ? row.memory + row.from : NULL;
+    if (count == 0 && laid.pointed && rows == PAGES)
+        row.pointer = row.edge + GUARD; /* no octet before it either may be looked at */
     memset(row.memory, GUARD_OCTET, row.from);
     memset(row.memory + row.to, GUARD_OCTET, row.size - row.to);
     return row;
@@ -245,12 +253,17 @@ static struct row read_row_to(uint64_t count, size_t width, uint64_t open)
     return row;
 }
 
+/* The elements before the place where a row is split, if it is. */
+static uint64_t before_split(uint64_t count, int split)
+{
+    return split ? 1 + (count - 1) * laid.split / 65536 : count;
+}
+
 /* A row that may be split for a call in the middle of this one. */
 static struct row read_row(uint64_t count, size_t width, int split)
 {
     int in_middle = laid.within && split && count > 1;
-    uint64_t open = in_middle ? 1 + (count - 1) * laid.split / 65536 : count;
-    struct row row = make_row(count, width, open, 0, in_middle);
+    struct row row = make_row(count, width, before_split(count, in_middle), 0, in_middle);
 
     row.sent = get_elements(row.memory + row.from, row.to - row.from, width);
     copy_row(&row);
@@ -261,17 +274,22 @@ static struct row read_row(uint64_t count, size_t width, int split)
 static void fill_old(uint8_t *octets, size_t len)
 {
     static const uint8_t old[] = {0xAA, 0, 4, 0xFF};
+    const uint8_t store[] = {laid.split & 1 ? 9 : 1, 3, 1, 14, 0, 1, 2, 15, 0, 1, 3, 16, 0, 1, 0, 10, 2};
 
     for (size_t k = 0, at = laid.split; laid.old == 4 && k < len; k++, at++)
         octets[k] = old[(at ^ at >> 2 ^ at >> 5) & 3];
     if (laid.old != 4)
-        memset(octets, old[laid.old & 3], len);
+        memset(octets, laid.old == 6 ? 0xFF : old[laid.old & 3], len);
+    if (laid.old == 6)
+        memcpy(octets, store, len < sizeof store ? len : sizeof store);
 }
 
-/* Of a long row both ends hold it, and all between is zeros. */
-static struct row lent_row(uint64_t count)
+/* Of a long row both ends hold it, and all between is zeros. Where no row is for reading, this one may be split. */
+static struct row lent_row(uint64_t count, int split)
 {
-    struct row row = make_row(count, 1, laid.within ? 0 : count, 1, laid.within && count > 0);
+    int in_middle = laid.within && count > (split ? 1 : 0);
+    uint64_t open = in_middle && !split ? 0 : before_split(count, in_middle);
+    struct row row = make_row(count, 1, open, 1, in_middle);
     size_t some = count < OLD_MOST ? (size_t)count : OLD_MOST;
 
     if (rows == EXACT)
@@ -279,6 +297,18 @@ static struct row lent_row(uint64_t count)
     fill_old(row.memory + row.from, some);
     if (some == OLD_MOST)
         fill_old(row.memory + row.to - some, some);
+    if (rows == PAGES)
+        set_access(&row, PROT_NONE);
+    return row;
+}
+
+/* A lent row that holds what is sent, and is split for a call in the middle of this one as a row for reading is. */
+static struct row filled_row(uint64_t count)
+{
+    int in_middle = laid.within && count > 1;
+    struct row row = make_row(count, 1, before_split(count, in_middle), 1, in_middle);
+
+    get_elements(row.memory + row.from, row.to - row.from, 1);
     if (rows == PAGES)
         set_access(&row, PROT_NONE);
     return row;
@@ -326,6 +356,8 @@ union answer {
     dsss_counted counted;
     dsss_text text;
     dsss_reason reason;
+    dsss_settings settings;
+    uint64_t number;
 };
 
 /* A call: its numbers as they are in the request, its report, its rows for reading and the one lent for writing. The
@@ -363,8 +395,14 @@ static void run(struct call *c)
         c->answer.counted = dsss_report_list(first, (size_t)n[0], second, (size_t)n[1]);
     else if (c->op == 9)
         c->answer.text = dsss_report_text(c->report, lent, (size_t)n[0]);
-    else
+    else if (c->op == 10)
         c->answer.reason = dsss_why(n[0], first, (size_t)n[1], n[2]);
+    else if (c->op == 11)
+        c->answer.number = dsss_store_write(n[0], n[1], n[2], lent, (size_t)n[3]);
+    else if (c->op == 12)
+        c->answer.settings = dsss_store_read(first, (size_t)n[0]);
+    else
+        c->answer.number = dsss_store_change(lent, (size_t)n[0], n[1], n[2]);
 }
 
 static size_t answer_size(uint64_t op)
@@ -372,14 +410,15 @@ static size_t answer_size(uint64_t op)
     static const size_t sizes[] = {sizeof(dsss_written), sizeof(dsss_record), sizeof(dsss_record),
                                    sizeof(dsss_record),  sizeof(dsss_coming), sizeof(dsss_found),
                                    sizeof(dsss_counted), sizeof(dsss_counted), sizeof(dsss_text),
-                                   sizeof(dsss_reason)};
+                                   sizeof(dsss_reason),  sizeof(uint64_t),    sizeof(dsss_settings),
+                                   sizeof(uint64_t)};
 
     return sizes[op - 1];
 }
 
 /* ---- A call in the middle of another --------------------------------------------------------- */
 
-enum { OPS = 10, PARTS = 3, TOUCHES = 24, NEAR = 64 };
+enum { OPS = 13, PARTS = 3, TOUCHES = 24, NEAR = 64 };
 
 static struct call kept[OPS];             /* the last call of each op that was kept, if it has an op */
 static uint8_t *kept_octets[OPS];         /* and what it left in its lent row */
@@ -441,11 +480,11 @@ static void touched(int number, siginfo_t *info, void *context)
     touches++;
 }
 
-/* The parts of a call's rows: the first of a row for reading is open. Of 8 the list is split, of the others the first
- * row. */
+/* The parts of a call's rows: the first of a row that is split is open. Of 8 the list is split, of 11 and 13 the store,
+ * of the others the first row. */
 static void close_parts(struct call *c)
 {
-    struct row *split = c->op == 8 ? &c->second : &c->first;
+    struct row *split = c->op == 8 ? &c->second : c->op == 11 || c->op == 13 ? &c->lent : &c->first;
     struct sigaction action = {0};
 
     memset(parts, 0, sizeof parts);
@@ -454,7 +493,7 @@ static void close_parts(struct call *c)
         parts[0].to = parts[1].from = split->edge;
         parts[1].to = split->edge + split->closed;
     }
-    if (c->lent.all) {
+    if (c->lent.all && split != &c->lent) {
         parts[2].from = c->lent.edge;
         parts[2].to = c->lent.edge + c->lent.closed;
     }
@@ -547,9 +586,8 @@ static void get_list(struct call *c)
     uint64_t count = c->numbers[1] = get_number();
     get_recordings(c);
     int in_middle = laid.within && count > 1;
-    uint64_t open = in_middle ? 1 + (count - 1) * laid.split / 65536 : count;
     struct row *list = &c->second;
-    *list = make_row(count, sizeof(dsss_chips), open, 0, in_middle);
+    *list = make_row(count, sizeof(dsss_chips), before_split(count, in_middle), 0, in_middle);
     list->sent = c->sent * sizeof(dsss_chips);
     if (rows == EXACT && count > c->sent)
         memset(list->memory + list->from, 0, list->to - list->from);
@@ -573,13 +611,13 @@ static void get_chips_to(struct call *c)
 
 static void get_call(struct call *c)
 {
-    static const unsigned counts[OPS] = {6, 3, 4, 3, 2, 3, 2, 0, 1, 3};
+    static const unsigned counts[OPS] = {6, 3, 4, 3, 2, 3, 2, 0, 1, 3, 4, 1, 3};
     uint64_t *n = c->numbers;
 
     memset(c, 0, sizeof *c);
     c->op = get_number();
     if (c->op < 1 || c->op > OPS)
-        die("an op that is not 1 to 10");
+        die("an op that is not 1 to 13");
     get_laid();
     laid.within = laid.within && kept[c->op - 1].op != 0;
     if (c->op == 7 || c->op == 9)
@@ -594,10 +632,14 @@ static void get_call(struct call *c)
         get_chips_to(c);
     else if (c->op == 8)
         get_list(c);
-    else if (c->op != 9)
+    else if (c->op == 12)
+        c->first = read_row(n[0], 1, 1);
+    else if (c->op == 13)
+        c->lent = filled_row(n[0]);
+    else if (c->op != 9 && c->op != 11)
         c->first = read_row(c->op == 1 ? n[4] : n[1], 1, 1);
-    if (c->op < 5 || c->op == 9)
-        c->lent = lent_row(n[counts[c->op - 1] - 1]);
+    if (c->op < 5 || c->op == 9 || c->op == 11)
+        c->lent = lent_row(n[counts[c->op - 1] - 1], c->op == 11);
 }
 
 /* ---- Answers --------------------------------------------------------------------------------- */

@@ -56,6 +56,12 @@ HOLDS(chips_has_2, sizeof(dsss_chips) == 16);
 HOLDS(chips_len, offsetof(dsss_chips, chips_len) == 8);
 HOLDS(text_has_2, sizeof(dsss_text) == 16);
 HOLDS(text_octets, offsetof(dsss_text, octets) == 8);
+HOLDS(settings_has_4, sizeof(dsss_settings) == 32);
+HOLDS(settings_kind, offsetof(dsss_settings, kind) == 8);
+HOLDS(settings_rate, offsetof(dsss_settings, rate) == 16);
+HOLDS(settings_phase, offsetof(dsss_settings, phase) == 24);
+HOLDS(store_written, DSSS_STORE_OCTETS == 2 + 3 * 4 + 3); /* head, entries, bodies */
+HOLDS(store_largest, DSSS_STORE_MAX == 2 + 16 * 4 + 16 * 255);
 HOLDS(most_recordings, DSSS_RECORDINGS_MAX == 1000);
 HOLDS(longest_text, DSSS_TEXT_MAX == 3 * 64 + 65 + 9 * 37 + 8 * 38 + 29 + 57); /* rates, refusals, airtime, lead */
 HOLDS(most_offsets, DSSS_OFFSETS_MAX == 4096);

@@ -13,6 +13,8 @@ typedef dsss_coming (*front_reader)(uint64_t, const uint8_t *, size_t);
 static const front_reader read_front = &dsss_read_front;
 typedef dsss_reason (*asker)(uint64_t, const uint8_t *, size_t, uint64_t);
 static const asker why = &dsss_why;
+typedef uint64_t (*store_writer)(uint64_t, uint64_t, uint64_t, uint8_t *, size_t);
+static const store_writer store_write = &dsss_store_write;
 typedef dsss_text (*speller)(dsss_report, uint8_t *, size_t);
 static const speller report_text = &dsss_report_text;
 }
@@ -46,6 +48,20 @@ static bool reasons()
            && front.found == 0 && kind.number == DSSS_REFUSED_KIND && kind.expected == 0 && kind.found == 256;
 }
 
+// Whether a store is written, read and changed, and refused where it has no room, no octets or another tag.
+static bool stores()
+{
+    uint8_t store[DSSS_STORE_OCTETS];
+    uint64_t written = radio::store_write(DSSS_SHORT, DSSS_RATE_11, 3, store, DSSS_STORE_OCTETS);
+    uint64_t changed = ::dsss_store_change(store, DSSS_STORE_OCTETS, DSSS_TAG_PHASE, 2);
+    dsss_settings settings = ::dsss_store_read(store, DSSS_STORE_OCTETS), none = dsss_store_read(NULL, 0);
+
+    return written == 0 && changed == 0 && settings.number == 0 && settings.kind == DSSS_SHORT
+           && settings.rate == DSSS_RATE_11 && settings.phase == 2 && none.number == DSSS_REFUSED_STORE_CUT
+           && dsss_store_write(DSSS_LONG, DSSS_RATE_1, 0, NULL, 0) == DSSS_REFUSED_STORE_ROOM
+           && dsss_store_change(store, DSSS_STORE_OCTETS, 256 + DSSS_TAG_PHASE, 2) == DSSS_REFUSED_CHANGE_TAG;
+}
+
 int main()
 {
     dsss_written written = radio::dsss_write(DSSS_LONG, DSSS_RATE_11, 0, 1, NULL, 0, NULL, 0);
@@ -59,7 +75,8 @@ int main()
         || soft.number != DSSS_REFUSED_KIND || bytes.number != DSSS_REFUSED_FRONT
         || coming.number != DSSS_REFUSED_FRONT || coming.at != 0 || coming.count != 0
         || none.number != DSSS_REFUSED_OFFSETS || found.number != DSSS_REFUSED_NO_START || found.offset != 0
-        || hard.lead != 0 || soft.symbol != 0 || bytes.lead != 0 || !reasons() || !reports()) {
+        || hard.lead != 0 || soft.symbol != 0 || bytes.lead != 0 || !reasons() || !reports()
+        || !stores()) {
         std::puts("header.cpp: a refusal is not the one expected");
         return 1;
     }

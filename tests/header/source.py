@@ -291,6 +291,8 @@ typedef struct { uint64_t number; dsss_sums sums; } dsss_counted;
 /* Counts. sums, kinds, list. Answer: Refused: Buffer: Proved: crates/dsss, dsss_count, record Sums: answer. */
 dsss_counted dsss_count(dsss_sums sums, const uint64_t *kinds, size_t kinds_len, const dsss_one *list,
                         size_t list_len);
+/* Keeps. store, tag. Answer: Refused: Buffer: Proved: crates/dsss, dsss_keep, record Keeps: answer and octets. */
+uint64_t dsss_keep(uint8_t *store, size_t store_len, uint64_t tag);
 static inline int dsss_sentence(uint64_t number) { return 0; }
 """
 SOURCES = {
@@ -304,6 +306,10 @@ pub extern "C" fn dsss_count<'a>(sums: sums::Sums, kinds: &[u64], list: &'a [&'a
     ensures counted { λ c. ⌜ Sums
         sums c ⌝ }
 { sums::count(sums, kinds, list) }
+#[no_mangle]
+pub extern "C" fn dsss_keep(store: &mut [u8], tag: u64) -> u64
+    ensures kept { λ k. ⌜ Keeps tag k ⌝ }
+{ store::keep(store, tag) }
 """,
     "frame": """#[repr(C)]
 pub struct Answer {
@@ -320,7 +326,8 @@ pub struct Counted { pub number: u64, pub sums: Sums, }
 }
 PUBLISHED = ["dsss_read(kind: u64, chips: &[u8], octets: &mut [u8]) -> number: u64, place: u64",
              "dsss_count(sums: {seen: u64, rates: [u64; 4]}, kinds: &[u64], list: &[&[u8]]) -> "
-             "number: u64, sums: {seen: u64, rates: [u64; 4]}"]
+             "number: u64, sums: {seen: u64, rates: [u64; 4]}",
+             "dsss_keep(store: &mut [u8], tag: u64) -> u64"]
 GROWN = [  # a member more in header and source: by the old symbol refused, by a new one not
     ("header", "uint64_t number, place", "uint64_t number, place, more"),
     ("frame", "pub place: u64,", "pub place: u64, pub more: u64,"),
@@ -371,6 +378,12 @@ SPOILED = [  # which text, what, by what
     ("header", "size_t chips_len; } dsss_one", "size_t chips_len; uint64_t kind; } dsss_one"),
     ("header", "const dsss_one *list", "dsss_one *list"),
     ("header", "const dsss_one *list", "const dsss_sums *list"),
+    ("header", "uint64_t dsss_keep", "uint32_t dsss_keep"),
+    ("header", "uint64_t dsss_keep", "dsss_sums dsss_keep"),
+    ("header", "uint8_t *store, size_t store_len, uint64_t tag", "uint64_t tag, uint8_t *store, size_t store_len"),
+    ("header", "uint8_t *store, size_t", "const uint8_t *store, size_t"),
+    ("dsss", "tag: u64) -> u64", "tag: u64) -> u32"),
+    ("dsss", "tag: u64) -> u64", "tag: u64) -> Answer"),
     ("dsss", "kinds: &[u64]", "kinds: &[u8]"),
     ("dsss", "&'a [&'a [u8]]", "&'a [u8]"),
     ("dsss", "&'a [&'a [u8]]", "&'a [&'a [u16]]"),

@@ -12,6 +12,7 @@ use crate::leads::{self, Won};
 use crate::reasons;
 use crate::relations::{Held, Relations};
 use crate::reported;
+use crate::stored;
 use std::collections::BTreeMap;
 use std::io::{self, BufReader, Write};
 use std::process::{Child, ChildStdin, ChildStdout, Command, Stdio};
@@ -92,6 +93,7 @@ impl Outcome {
         leads::count(call, expected, leads, &mut self.won);
         reported::count(call, expected, leads, &mut self.held);
         reasons::count(call, expected, &mut self.held);
+        stored::count(call, expected, &mut self.held);
     }
 
     /// The calls that answer the number met most often, whatever the op and the part.

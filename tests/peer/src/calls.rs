@@ -7,12 +7,14 @@ use crate::laid::Laid;
 use crate::reading::read;
 use crate::refusals::CHIP_BUFFER;
 use crate::report_calls::ReportCall;
+use crate::store_calls::StoreCall;
 use crate::why::{why, Reason};
 use crate::writing::write;
 use std::fmt::{LowerHex, Write as _};
 use std::io::{self, Read};
 
-/// A call with its numbers and lent rows. Buffers lent for writing are given by their length alone.
+/// A call with its numbers and lent rows. Buffers lent for writing are given by their length alone, but for the store
+/// of a change, which is read too.
 pub enum Call {
     Write { kind: u64, rate: u64, phase: u64, clock: u64, payload: Vec<u8>, chips_len: usize },
     ReadHard { kind: u64, chips: Vec<u8>, octets_len: usize },
@@ -22,6 +24,7 @@ pub enum Call {
     Find { kind: u64, chips: Vec<u8>, offsets: u64 },
     Why { kind: u64, chips: Vec<u8>, room: u64 },
     Report(ReportCall),
+    Store(StoreCall),
 }
 
 /// What a call answers: its numbers in the order of the record, and the lent buffer after the call, or the part that it
@@ -112,6 +115,7 @@ impl Call {
             Call::Find { .. } => "find",
             Call::Why { .. } => "why",
             Call::Report(call) => call.op(),
+            Call::Store(call) => call.op(),
         }
     }
 
@@ -122,6 +126,7 @@ impl Call {
             Call::Find { .. } => &["number", "offset", "rate", "length", "clock", "n"],
             Call::Why { .. } => &["number", "place", "expected", "found"],
             Call::Report(call) => call.names(),
+            Call::Store(call) => call.names(),
             _ => &["number", "place", "rate", "length", "n", "used", "clock", "lead", "symbol"],
         }
     }
@@ -135,6 +140,7 @@ impl Call {
             | Call::ReadBytes { octets_len, .. } => Some(*octets_len),
             Call::ReadFront { .. } | Call::Find { .. } | Call::Why { .. } => None,
             Call::Report(call) => call.lent_len(),
+            Call::Store(call) => call.lent_len(),
         }
     }
 
@@ -149,7 +155,13 @@ impl Call {
             Call::ReadSoft { i, q, .. } => vec![i.len(), q.len()],
             Call::ReadBytes { bytes, .. } => vec![bytes.len()],
             Call::Report(call) => call.read_lens(),
+            Call::Store(call) => call.read_lens(),
         }
+    }
+
+    /// Whether the lent row is read too: it holds octets of its own before the call.
+    pub fn changes(&self) -> bool {
+        matches!(self, Call::Store(StoreCall::Change { .. }))
     }
 
     /// Whether a list names a recording again, and all of it, or only a part.
@@ -206,6 +218,7 @@ impl Call {
                 put_octets(chips, to);
             }
             Call::Report(call) => call.request(laid, to),
+            Call::Store(call) => call.request(laid, to),
         }
     }
 
@@ -226,12 +239,10 @@ impl Call {
     /// The recording of which a full read is asked.
     pub fn recording(&self) -> Option<Recording<'_>> {
         match self {
-            Call::Write { .. } | Call::ReadFront { .. } | Call::Find { .. } | Call::Why { .. } | Call::Report(_) => {
-                None
-            }
             Call::ReadHard { chips, .. } => Some(Recording::Hard(chips)),
             Call::ReadSoft { i, q, .. } => Some(Recording::Soft(i, q)),
             Call::ReadBytes { bytes, .. } => Some(Recording::Bytes(bytes)),
+            _ => None,
         }
     }
 
@@ -254,6 +265,7 @@ impl Call {
             Call::Find { kind, chips, offsets } => found_record(find(*kind, chips, *offsets), chips.len()),
             Call::Why { kind, chips, room } => reason_record(why(*kind, chips, *room), chips.len()),
             Call::Report(call) => (call.expected(&mut buffer, &mut leads), Part::Front, false),
+            Call::Store(call) => (call.expected(&mut buffer), Part::Front, false),
             Call::ReadHard { kind, .. } | Call::ReadSoft { kind, .. } | Call::ReadBytes { kind, .. } => {
                 let recording = self.recording().expect("a full read has one");
                 let mut read = read(*kind, recording, &mut buffer);
@@ -280,6 +292,7 @@ impl Call {
             }
             Call::ReadBytes { bytes, .. } => lines.push(format!("  bytes {}", hex(bytes, cut))),
             Call::Report(call) => lines.extend(call.shown_rows(cut)),
+            Call::Store(call) => lines.extend(call.shown_rows(cut)),
         }
         lines.join("\n")
     }
@@ -317,6 +330,7 @@ impl Call {
             Call::Find { kind, chips, offsets } => format!("kind {kind}, chips_len {}, offsets {offsets}", chips.len()),
             Call::Why { kind, chips, room } => format!("kind {kind}, chips_len {}, room {room}", chips.len()),
             Call::Report(call) => call.shown_numbers(),
+            Call::Store(call) => call.shown_numbers(),
         }
     }
 

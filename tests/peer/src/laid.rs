@@ -3,10 +3,16 @@
 
 use crate::calls::Call;
 use crate::random::Random;
+use crate::store_calls::StoreCall;
 use std::collections::BTreeMap;
 
-/// What a lent row holds before the call. The last is what the same call has left there.
-pub const OLD: [&str; 6] = ["0xAA", "zeros", "4s", "0xFF", "any", "the answer"];
+/// What a lent row holds before the call. The answer is what the same call has left there; a store, of version 1 or 9,
+/// stands there only before the write of one, and with 0xFF behind it.
+pub const OLD: [&str; 7] = ["0xAA", "zeros", "4s", "0xFF", "any", "the answer", "a store"];
+
+/// To pick from: for the write of a store, and for the other calls.
+const OLD_OF_STORES: [u64; 11] = [0, 1, 2, 3, 4, 5, 6, 6, 6, 6, 6];
+const OLD_OF_OTHERS: [u64; 11] = [0, 0, 1, 1, 2, 2, 3, 3, 4, 4, 5];
 
 /// So much further on Q may stand in the memory of I, or, turned round, I in that of Q.
 const SHIFTS: [(usize, bool); 3] = [(0, false), (5, false), (5, true)];
@@ -43,12 +49,14 @@ pub type Layings = BTreeMap<(&'static str, Laying), u64>;
 pub const WIDTHS: [u32; 4] = [16, 20, 22, 24];
 
 impl Laid {
-    /// Any, by a sequence of its own, so that what is asked hangs on nothing of it. A find has more to share between
-    /// calls than others: another is made in the middle of it more often.
+    /// Any, by a sequence of its own, so that what is asked hangs on nothing of it. A find, and a write and a change of
+    /// a store, have more to share between calls than others: another is made in the middle of them more often.
     pub fn any(call: &Call, random: &mut Random) -> Laid {
-        let seldom = if matches!(call, Call::Find { .. }) { 6 } else { 32 };
+        let of_store = matches!(call, Call::Store(StoreCall::Write { .. }));
+        let shares = of_store || matches!(call, Call::Find { .. } | Call::Store(StoreCall::Change { .. }));
+        let seldom = if shares { 6 } else { 32 };
         Laid {
-            old: random.pick(&[0, 0, 1, 1, 2, 2, 3, 3, 4, 4, 5]),
+            old: random.pick(if of_store { &OLD_OF_STORES } else { &OLD_OF_OTHERS }),
             pointed: random.once_in(2),
             shared: random.once_in(2),
             within: random.once_in(seldom),
@@ -84,7 +92,7 @@ impl Laid {
     pub fn count(&self, call: &Call, layings: &mut Layings) {
         let mut see = |what: Laying| *layings.entry((call.op(), what)).or_default() += 1;
         let (read, lent) = (call.read_lens(), call.lent_len());
-        if lent.is_some_and(|len| len > 0) {
+        if lent.is_some_and(|len| len > 0) && !call.changes() {
             see(Laying::Old(self.old as usize));
         }
         if lent == Some(0) || read.contains(&0) {

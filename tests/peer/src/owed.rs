@@ -3,8 +3,8 @@
 //! are refused with each number, and full reads that go together with fronts in each way; symbols of 11 Mbit/s that are
 //! decided among words of one score, in each way; smallest leads in each part at each rate, shared ones, ties and those
 //! that refused reads keep; starts found of each kind and rate, at each remainder of 512, early, late and neither,
-//! behind offsets refused with each number; reasons, reports and rows as `owed_reasons`, `owed_reports` and `owed_laid`
-//! have them; and no family that spends a third of all calls on one number.
+//! behind offsets refused with each number; reasons, reports, stores and rows as `owed_reasons`, `owed_reports`,
+//! `owed_stores` and `owed_laid` have them; and no family that spends a third of all calls on one number.
 
 use crate::bits::Rate;
 use crate::bridge::Outcome;
@@ -18,6 +18,7 @@ use crate::leads::Stands::{First, Header, Payload, Preamble};
 use crate::owed_laid::laid;
 use crate::owed_reasons::reasons;
 use crate::owed_reports::reports;
+use crate::owed_stores::stores;
 use crate::relations::Held;
 use crate::starts::Start::{self, Early, Found, Late, Missed, Passed, ReadRefused};
 
@@ -38,7 +39,7 @@ const fn owed(op: &'static str, part: Part, shown: &'static str, least: &'static
     Owed { op, part, shown, least }
 }
 
-const OWED: [Owed; 34] = [
+const OWED: [Owed; 37] = [
     owed(
         "write",
         Part::Front,
@@ -224,6 +225,40 @@ const OWED: [Owed; 34] = [
     owed("report add", Part::Front, "one recording more", &[(0, 2_500, 0), (31, 1_000, 0)]),
     owed("report list", Part::Front, "lists", &[(0, 120, 0), (7, 22, 0), (31, 24, 0)]),
     owed("report text", Part::Front, "texts", &[(0, 1_000, 0), (17, 650, 0)]),
+    owed("store write", Part::Front, "stores written", &[(0, 190, 0), (28, 2_800, 0), (29, 62, 0)]),
+    owed(
+        "store read",
+        Part::Front,
+        "stores read",
+        &[
+            (0, 3_500, 0),
+            (21, 12_000, 0),
+            (22, 530, 0),
+            (23, 2_600, 0),
+            (24, 14_500, 0),
+            (25, 950, 0),
+            (26, 1_000, 0),
+            (27, 780, 0),
+            (28, 1_650, 0),
+        ],
+    ),
+    owed(
+        "store change",
+        Part::Front,
+        "stores changed",
+        &[
+            (0, 470, 0),
+            (21, 1_950, 0),
+            (22, 530, 0),
+            (23, 550, 0),
+            (24, 2_200, 0),
+            (25, 1_900, 0),
+            (26, 270, 0),
+            (27, 200, 0),
+            (28, 6_500, 0),
+            (30, 3_300, 0),
+        ],
+    ),
 ];
 
 /// How often a front must tell of each kind and rate, without the clock bit and with it.
@@ -523,7 +558,7 @@ pub fn met(total: &Outcome, largest: (u64, &str)) -> Result<(), String> {
             short.push(format!("{op} answered {number} {count} times where it can't"));
         }
     }
-    for of_total in [held, decided, leads, starts, reasons, reports, laid] {
+    for of_total in [held, decided, leads, starts, reasons, reports, stores, laid] {
         short.extend(of_total(total));
     }
     if total.calls < CALLS {

@@ -5,8 +5,9 @@ use crate::bridge::Outcome;
 use crate::laid::{Laying, OLD, WIDTHS};
 use crate::owed::{ways, Way};
 
-/// How often each must be met of an op: each of what a lent row can hold, the answer too; rows of length 0, each way; a
-/// call in the middle; rows of each width for reading, and lent ones. A 0 stands where there is no such row.
+/// How often each must be met of an op: each of what a lent row can hold, the last of them only before a store's write;
+/// rows of length 0, each way; a call in the middle; rows of each width for reading, and lent ones. A 0 stands where
+/// there is no such row.
 struct Owed {
     op: &'static str,
     old: u64,
@@ -20,7 +21,7 @@ const fn owed(op: &'static str, [old, empty, within, wide, wide_lent]: [u64; 5])
     Owed { op, old, empty, within, wide, wide_lent }
 }
 
-const OWED: [Owed; 10] = [
+const OWED: [Owed; 13] = [
     owed("write", [2_000, 2_000, 700, 2, 2]),
     owed("read hard", [3_000, 2_000, 1_500, 1, 1]),
     owed("read soft", [1_000, 600, 500, 2, 1]),
@@ -31,6 +32,9 @@ const OWED: [Owed; 10] = [
     owed("report add", [0, 200, 100, 1, 0]),
     owed("report list", [0, 20, 5, 3, 0]),
     owed("report text", [100, 10, 50, 0, 1]),
+    owed("store write", [250, 5, 500, 0, 2]),
+    owed("store read", [0, 2, 1_150, 2, 0]),
+    owed("store change", [0, 2, 3_100, 1, 1]),
 ];
 
 /// How often rows must be one, wholly and in part.
@@ -41,7 +45,8 @@ pub fn laid(total: &Outcome) -> Vec<String> {
     let mut short = Vec::new();
     for Owed { op, old, empty, within, wide, wide_lent } in OWED {
         let count = |what: Laying| total.layings.get(&(op, what)).copied().unwrap_or(0);
-        let mut seen: Vec<Way> = (0..OLD.len()).map(|at| (OLD[at], count(Laying::Old(at)), old)).collect();
+        let olds = if op == "store write" { OLD.len() } else { OLD.len() - 1 };
+        let mut seen: Vec<Way> = (0..olds).map(|at| (OLD[at], count(Laying::Old(at)), old)).collect();
         seen.push(("no row by NULL", count(Laying::Empty { pointed: false }), empty));
         seen.push(("by a pointer", count(Laying::Empty { pointed: true }), empty));
         seen.push(("a call within", count(Laying::Within), within));

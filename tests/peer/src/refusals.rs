@@ -3,7 +3,8 @@
 //! Writing: 1, 2, 3, 4, 5, 6. Reading: 1, 7, 8, then 9 and 10 over the front, 11, 12, 13, 14, 15, 16, 17, then 9 and
 //! 10 over the payload. In each part, 9 is looked for through the whole part before 10. Telling what is coming: 1, 8,
 //! then 9 and 10 over the front, 11, 12, 13, 14, 15, 16. Finding the start: 1, 18, 19. A month's report: 31 alone; of a
-//! whole list 7, then 31; of its text 17.
+//! whole list 7, then 31; of its text 17. Reading a store: 21 to 28; writing one: 28, 29; changing a setting of one: 21
+//! to 28, 30, then 28 of the settings as they would be.
 
 /// kind is neither 0 (long) nor 1 (short)
 pub const KIND: u64 = 1;
@@ -43,6 +44,26 @@ pub const OCTET_BUFFER: u64 = 17;
 pub const OFFSETS: u64 = 18;
 /// no offset to try from which a read meets none of 8 to 15, 9 and 10 over the front only
 pub const NO_START: u64 = 19;
+/// the store is shorter than 2 octets, or than its table of contents
+pub const STORE_ENDS: u64 = 21;
+/// the store has more than 16 entries
+pub const ENTRIES: u64 = 22;
+/// the store's tags do not rise strictly
+pub const TAGS: u64 = 23;
+/// an offset, a length or the end of the store is not as laid out
+pub const LAYOUT: u64 = 24;
+/// the store has a tag of 128 or more
+pub const HIGH_TAG: u64 = 25;
+/// the store lacks tag 1, 2 or 3
+pub const NO_TAG: u64 = 26;
+/// the body of tag 1, 2 or 3 is not one octet
+pub const BODY: u64 = 27;
+/// kind, rate code and starting phase, together, are not what 1, 2, 3 and 5 allow
+pub const SETTINGS: u64 = 28;
+/// octet buffer shorter than 17 octets; of a store that is written
+pub const STORE_BUFFER: u64 = 29;
+/// the tag of a change is none of 1, 2 and 3
+pub const CHANGE_TAG: u64 = 30;
 /// the report has seen 1,000 recordings, or holds a number above what 1,000 come to; of a list, it has more than 1,000
 pub const REPORT: u64 = 31;
 

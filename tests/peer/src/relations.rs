@@ -1,5 +1,5 @@
 //! How the answers over one hard recording go together, whatever this program expects of each: what its front tells,
-//! what full reads answer, why they are refused, and what is found in it; and how reports go together.
+//! what full reads answer, why they are refused, and what is found in it; and how reports and stores go together.
 
 use crate::bits::Rate;
 use crate::calls::{Answer, Call};
@@ -9,6 +9,7 @@ use crate::reasons::{self, FullRead, Reasoned};
 use crate::refusals::{ENDS, GROWTH, OCTET_BUFFER, UNUSABLE};
 use crate::reported::Reported;
 use crate::starts::{Sought, Start};
+use crate::stored::{Stored, Stores};
 use std::collections::BTreeMap;
 
 /// What was seen to hold.
@@ -36,6 +37,8 @@ pub enum Held {
     Reasons(Reasoned),
     /// This, of a call of the month's report.
     Reports(Reported),
+    /// This, of a call of a store.
+    Stores(Stored),
 }
 
 /// What the front of a recording told, and what the last full read of it answered, if there was one.
@@ -46,12 +49,14 @@ struct Told {
     full: Option<FullRead>,
 }
 
-/// The last read of a front, the last find and the last reports, to which those calls are held that follow them.
+/// The last read of a front, the last find, the last reports and the last stores, to which those calls are held that
+/// follow them.
 #[derive(Default)]
 pub struct Relations {
     last: Option<Told>,
     sought: Option<Sought>,
     reports: Reports,
+    stores: Stores,
 }
 
 impl Relations {
@@ -86,6 +91,7 @@ impl Relations {
             }
             _ => {}
         }
+        count(self.stores.hold(call, answer)?.map(Held::Stores));
         self.starts(call, answer)?.into_iter().for_each(|start| count(Some(Held::Finds(start))));
         Ok(())
     }

@@ -51,6 +51,15 @@
 //!   A reason wrong at one n: `why_every_n`.
 //! - The octet or the growth of another place shown, or one behind the frame: `why_places`.
 //! - A symbol of a block, a last one or a chip of a front not looked at: `why_places`. A far block: `why_wide`.
+//! - Refusals of a store in another order, or asked of one entry after the other: `store_orders`.
+//! - A store's offset with its high octet first, or in 8 bits, a sum of lengths in 8 bits: `store_newer`.
+//! - An unknown tag refused, a tag of 128 passed over, a version asked for: `store_newer`.
+//! - The end of a store not asked for, zeros behind it taken for part of it: `store_octets`, `store_small`.
+//! - Settings judged one by one, a change by its value alone, a number cut: `store_changes`, `store_numbers`.
+//! - A refused change that changes something, a refused write that leaves something: `store_orders`, `store_written`.
+//! - A version kept of a store that stood in the buffer, or its octets left by a refused write: `store_written`.
+//! - A refusal not asked of one entry of 16, or in another order where entries are two or many: `store_shapes`.
+//! - A change done because it would put a refused store right, or of a tag that is no setting's: `store_bodies`.
 //! - I and Q that may not be one row, a recording of a list that may not be named twice: `one_row`, `report_lists`.
 //! - What a lent row held before the call, a row of length 0 by a pointer or as NULL, a row kept between calls: every
 //!   family, as each call's rows are laid in any way (`laid.rs`).
@@ -71,6 +80,9 @@ mod report_edges;
 mod restored;
 mod soft;
 mod steps;
+mod store;
+mod store_edges;
+mod store_shapes;
 mod ties;
 mod why;
 mod why_edges;
@@ -285,6 +297,34 @@ families! {
     1607 why::why_every_n: "room for each n, an octet and any number too few, and 2^32 more than the first",
     // for: WhyAgrees, WhyTable, Explains.answer
     1606 why::why_wide: "reasons for recordings of 2^16, 2^20 and 2^24 chips, and of the longest frame",
+    // for: StoreWrites.answer, StoreWrites.octets, WriteTells, StoreReadBack, ReadTells, storeWritten
+    1701 store::store_written: "stores of all settings and of bad ones, in 0 to 20 octets and more, and read back",
+    // for: StoreReads.answer, StoreChanges.answer, StoreChanges.octets, ReadTells, ChangeTouches
+    // for: tabled, few, rising, laid, passable, complete, single, allowedSettings, isSetting
+    1702 store::store_orders: "each set of refusals that can hold of a store at once, and tables cut, read and changed",
+    // for: StoreChanges.answer, StoreChanges.octets, ChangeTells, ChangeTouches, allowedSettings
+    1703 store::store_changes: "each setting changed to each octet value, good ones read back",
+    // for: StoreWrites.answer, StoreChanges.answer, ChangeTells, ReadTells, allowedSettings
+    1704 store::store_numbers: "each bit of 64 more in each number of a write and of a change",
+    // for: StoreServes, StoreWrites.answer, allowedSettings
+    1705 store::store_serves: "many kinds, rates and phases, beside the write of a frame with the same",
+    // for: StoreReads.answer, StoreChanges.answer, ReadTells, laid, complete
+    1706 store_edges::store_small: "every store of up to 6 octets of a few values",
+    // for: StoreReads.answer, StoreChanges.answer, StoreChanges.octets, ReadTells, ChangeTouches
+    // for: rising, laid, passable, complete, single, allowedSettings
+    1707 store_edges::store_octets: "stores with one octet changed, taken out or put in, at every place",
+    // for: OldReaders, StoreReads.answer, StoreChanges.octets, ChangeTouches, passable
+    1708 store_edges::store_newer: "newer writers' stores: each unknown tag, version and body length, up to 16 entries",
+    // for: StoreLargest, StoreReads.answer, StoreChanges.octets, laid
+    1709 store_edges::store_largest: "16 entries of 255 octets, an entry and an octet more and less",
+    // for: StoreReads.answer, StoreChanges.octets, StoreWrites.octets, laid
+    1710 store_edges::store_wide: "stores and buffers of 2^16, 2^20, 2^22 and 2^24 octets",
+    // for: StoreReads.answer, StoreChanges.answer, StoreChanges.octets, ReadTells, ChangeTells, ChangeTouches
+    // for: OldReaders, tabled, few, rising, laid, passable, complete, single, allowedSettings, isSetting
+    1711 store_shapes::store_shapes: "every set of nine tags, every number of entries, each entry of 16 spoiled",
+    // for: StoreReads.answer, StoreChanges.answer, StoreChanges.octets, ReadTells, ChangeTells, ChangeTouches
+    // for: laid, complete, single, allowedSettings, isSetting
+    1712 store_shapes::store_bodies: "bodies of settings of every length, changes that would put a store right, zeros",
 }
 
 /// Where a family puts its calls.

@@ -150,7 +150,7 @@ pub fn wide_searches(out: &mut Out) {
 }
 
 /// Each bit of 64 more in a good number.
-fn bits_more(good: u64) -> impl Iterator<Item = u64> {
+pub fn bits_more(good: u64) -> impl Iterator<Item = u64> {
     (0..64).map(move |bit| good ^ 1 << bit)
 }
 
