@@ -7,12 +7,15 @@
  * through, sets aside just as many octets, and only then reads. Of each caption the fitter is told how
  * clearly its symbols were won, so that an aerial is moved before captions fail. In recordings that begin
  * anywhere it has the front found, and shows what a read from the offset found is worth. Of a recording that
- * is refused it says why, and what to do. At the end of the month it has a report of its recordings. What
- * comes from the air may be any octets, so it is shown escaped. A caption of an earlier exhibition must never
- * be seen again: before each read the octet buffer is full of one, and after it what is left of it is counted.
- * All memory is in the static rows below; those that are lent for writing stand between guard octets, which
- * must stay as they were. */
+ * is refused it says why, and what to do. At the end of the month it has a report of its recordings. The
+ * settings of its radio it keeps in a store (settings.c), and writes a caption with those that it reads from
+ * there. What comes from the air may be any octets, so it is shown escaped. A caption of an earlier exhibition
+ * must never be seen again: before each read the octet buffer is full of one, and after it what is left of it
+ * is counted. All memory is in the static rows below and in settings.c; those that are lent for writing stand
+ * between guard octets, which must stay as they were. Its status is 1 if they do not, or if the settings cannot
+ * be saved in a file or read from it. */
 #include "dsss.h"
+#include "settings.h"
 
 #include <inttypes.h>
 #include <stdio.h>
@@ -625,6 +628,24 @@ static void end_of_month(void)
            counted.number, dsss_sentence(counted.number));
 }
 
+/* A caption written with the settings that the table keeps. */
+static void by_settings(dsss_settings settings)
+{
+    const uint8_t *payload = (const uint8_t *)captions[0];
+
+    if (settings.number != 0) {
+        puts("no caption is written: the table has no settings");
+        return;
+    }
+    dsss_written frame = dsss_write(settings.kind, settings.rate, settings.phase, 0, payload, strlen(captions[0]),
+                                    chips.row, CHIPS_MAX);
+    if (frame.number == 0)
+        show_hard("a caption with these settings", settings.kind, frame.chips);
+    else
+        printf("a caption with these settings: refused, %" PRIu64 ". %s\n", frame.number,
+               dsss_sentence(frame.number));
+}
+
 static void not_written(void)
 {
     puts("\nA frame that cannot be written");
@@ -652,7 +673,12 @@ int main(void)
     begun_anywhere();
     why_refused();
     end_of_month();
+    dsss_settings settings;
+    int saved = keep_settings(&settings);
+    if (saved)
+        by_settings(settings);
     not_written();
-    printf("\nGuard octets %s\n", guards_stand() ? "as they were" : "CHANGED");
-    return guards_stand() ? 0 : 1;
+    int stand = guards_stand() && store_guards_stand();
+    printf("\nGuard octets %s\n", stand ? "as they were" : "CHANGED");
+    return stand && saved ? 0 : 1;
 }
