@@ -4,7 +4,7 @@
 --     written-read               a store written is read back
 -- Assumes nothing.
 use mathlib.Core.Path.{_≡_, refl, ap, _∙_, subst}
-use mathlib.Core.Bool.{Bool, true, false, _&&_}
+use mathlib.Core.Bool.{Bool, true, false, and-false}
 use mathlib.Core.List.{List, [], _∷_, _++_, append-assoc, List·Memᴰ, List·Memᴰ·head, List·Memᴰ·tail}
 use mathlib.Core.Logic.{_⊎_, inl, inr}
 use Prim.Native.Nat.{ℕ, suc, _+_, _≤_, _<_}
@@ -35,10 +35,6 @@ passable-of at [] h = refl
 passable-of at (p ∷ ps) h =
     rw (lt-ltb (p .tag) 128 (h p (List·Memᴰ·head refl)))
     (passable-of (at + length (p .body)) ps (λ q m. h q (List·Memᴰ·tail m)))
-
-and-false : (b : Bool) → (b && false) ≡ false
-and-false true = refl
-and-false false = refl
 
 impassable-of : (at : ℕ) (ps : List Piece) (p : Piece) → List·Memᴰ p ps → 128 ≤ p .tag
     → passable (entriesOf at ps) ≡ false

@@ -3,17 +3,25 @@
 --     pass-falls, pass-gap, pass-over, pass-high, pass-all      what is answered at each return
 -- Assumes nothing.
 use mathlib.Core.Path.{_≡_, refl, sym, ap, _∙_}
-use mathlib.Core.Bool.{Bool, true, false, cond, not, _&&_}
+use mathlib.Core.Bool.{Bool, true, false, cond, not, _&&_, and-false, and-assoc}
 use mathlib.Core.List.{List}
 use Prim.Native.Nat.{ℕ, _+_, _*_, _≤_, _<_}
-use native.Mathlib.Numerals.{add-one}
 use native.Mathlib.Omega.{arith}
 use borrow.Author.Tests.{ltb-true, ltb-false, le-leb, lt-leb, eq-eqb, ne-eqb}
 use lib.ListN.{length, drop}
 use lib.Dec.{eqb, ltb, leb}
 use Rattle.rules_store.specs.declared.Entry.{Entry}
 use Rattle.rules_store.specs.Store.{entryOf, entriesIn, tableEnd, rising, laid, passable}
-use Rattle.rules_store.proofs.Walks.{left, left-all, left-none, step}
+use Rattle.rules_store.proofs.Walks.{
+  left,
+  left-all,
+  rising-end,
+  laid-end,
+  passable-end,
+  step,
+  rising-more,
+  rising-past,
+}
 
 -- what all entries are refused with
 abbrev pub asked : List ℕ → ℕ → ℕ
@@ -38,21 +46,11 @@ pass-none l n =
       passes = ap passable e;
     }
 
-and-false : (b : Bool) → (b && false) ≡ false
-and-false true = refl
-and-false false = refl
-
-both : (a b c : Bool) → (a && (b && c)) ≡ ((a && b) && c)
-both true b c = refl
-both false b c = refl
-
 module _ (l : List ℕ) (n i least at : ℕ) (ok : Bool) (w : OnePass l n i least at ok) where
   module _ (e : Entry) (s : e ≡ entryOf (drop (2 + 4 * i) l)) (h : i < n) where
     pub pass-falls : e .tag < least → 23 ≡ asked l n
-    unfolding rising
     pass-falls g =
-        let no : rising 0 (entriesIn n (drop 2 l)) ≡ false =
-        sym (w .rises) ∙ rw (step l n i e s h, lt-leb least (e .tag) g) in
+        let no : rising 0 (entriesIn n (drop 2 l)) ≡ false = sym (w .rises) ∙ rising-past l n i e s h least g in
         rw no
 
     -- a tag below 128 leaves those before it below 128, as they rise
@@ -68,32 +66,29 @@ module _ (l : List ℕ) (n i least at : ℕ) (ok : Bool) (w : OnePass l n i leas
             rw (lt-leb (e .tag + 1) 128 (omega arith)) (and-false (leb least 128))
 
     pub pass-more : least ≤ e .tag → OnePass l n (i + 1) (e .tag + 1) (at + e .size) (ok && eqb (e .offset) at)
-    unfolding rising laid passable
+    unfolding laid passable
     pass-more g = record {
-      rises = sym (rw (step l n i e s h, le-leb least (e .tag) g, add-one (e .tag))) ∙ w .rises;
+      rises = rising-more l n i e s h least g ∙ w .rises;
       out =
-          sym (both ok (eqb (e .offset) at) (laid (at + e .size) (left l n (i + 1)) (length l)))
+          and-assoc ok (eqb (e .offset) at) (laid (at + e .size) (left l n (i + 1)) (length l))
           ∙ sym (ap (λ (es : List Entry). ok && laid at es (length l)) (step l n i e s h))
           ∙ w .out;
       passes =
           ap (λ (b : Bool). b && passable (left l n (i + 1))) (sym (low g))
-          ∙ sym (both (leb least 128) (ltb (e .tag) 128) (passable (left l n (i + 1))))
+          ∙ and-assoc (leb least 128) (ltb (e .tag) 128) (passable (left l n (i + 1)))
           ∙ sym (ap (λ (es : List Entry). leb least 128 && passable es) (step l n i e s h))
           ∙ w .passes;
     }
 
   module _ (h : n ≤ i) where
     all-rise : rising 0 (entriesIn n (drop 2 l)) ≡ true
-    unfolding rising
-    all-rise = sym (w .rises) ∙ rw (left-none l n i h)
+    all-rise = sym (w .rises) ∙ rising-end l n i least h
 
     all-out : laid (tableEnd n) (entriesIn n (drop 2 l)) (length l) ≡ (ok && eqb at (length l))
-    unfolding laid
-    all-out = sym (w .out) ∙ rw (left-none l n i h)
+    all-out = sym (w .out) ∙ ap (λ (b : Bool). ok && b) (laid-end l n i at (length l) h)
 
     all-pass : passable (entriesIn n (drop 2 l)) ≡ (leb least 128 && true)
-    unfolding passable
-    all-pass = sym (w .passes) ∙ rw (left-none l n i h)
+    all-pass = sym (w .passes) ∙ ap (λ (b : Bool). leb least 128 && b) (passable-end l n i h)
 
     pub pass-gap : ok ≡ false → 24 ≡ asked l n
     pass-gap k = rw (all-rise, all-out, k)

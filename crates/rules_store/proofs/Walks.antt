@@ -32,7 +32,7 @@ left l n i = entriesIn (n - i) (drop (2 + 4 * i) l)
 pub left-all : (l : List ℕ) (n : ℕ) → left l n 0 ≡ entriesIn n (drop 2 l)
 left-all l n = let e : n - 0 ≡ n = omega arith in ap (λ (k : ℕ). entriesIn k (drop 2 l)) e
 
-pub left-none : (l : List ℕ) (n i : ℕ) → n ≤ i → left l n i ≡ []
+left-none : (l : List ℕ) (n i : ℕ) → n ≤ i → left l n i ≡ []
 unfolding entriesIn
 left-none l n i h = let e : n - i ≡ 0 = omega arith in rw e
 
