@@ -1,5 +1,6 @@
 -- Readings of a clean frame with the header that is sent: good with room, 17 without, 16 where it is cut in the payload
--- and 8 where it is cut in the front, whatever follows a whole one. Assumes nothing.
+-- and 8 where it is cut in the front, whatever follows a whole one. A whole one is decided as it was sent (`clean-sent`),
+-- and read back as any recording that is (`ReadBack`). Assumes nothing.
 use mathlib.Core.Path.{_≡_, sym, ap, _∙_}
 use mathlib.Core.Bool.{Bool, true}
 use mathlib.Core.List.{List, _++_, [], _∷_, append-nil}
@@ -29,30 +30,29 @@ use Rattle.rules_frame.specs.Frame.{
 }
 use Rattle.rules_frame.proofs.Headers.{sent-length, sent-below}
 use Rattle.rules_frame.proofs.Sizes.{frame-length}
-use Rattle.rules_calls.proofs.ReadBack.{header-back}
 use Rattle.rules_calls.specs.declared.Told.{Told}
 use Rattle.rules_calls.specs.declared.Refusal.the-variants.{ShorterThanFront, Ends, OctetRoom}
 use Rattle.rules_calls.specs.declared.Front.the-variants as front
 use Rattle.rules_calls.specs.declared.Reading.the-variants as reading
 use Rattle.rules_calls.specs.Headers.{told}
 use Rattle.rules_reading.specs.Reading.{
-  frontBits,
   frontOf,
+  wholeOf,
+  frontBits,
   preambleWords,
   headerWords,
   payloadWords,
-  payloadOf,
-  wholeOf,
-  payloadReading,
   afterFront,
   readingOf,
-  octetsAfter,
   octetsFound,
 }
+use Rattle.rules_reading.proofs.Local.{front-same}
 use Rattle.rules_clean.specs.Clean.{cleanRecording, cleanLeast}
 use Rattle.rules_clean.proofs.Decided.{clean-length}
-use Rattle.rules_reading.proofs.Local.{front-same}
+use Rattle.rules_clean.proofs.FrameWords.{AsSent, frame-phases}
 use Rattle.rules_clean.proofs.Whole as whole
+use Rattle.rules_clean.proofs.CleanSent.{clean-sent, smallest}
+use Rattle.rules_clean.proofs.ReadBack as back
 
 module _ (kind : ℕ) (r : Rate) (p : ℕ) (clock : Bool) (xs : List ℕ) (is-kind : isKind kind ≡ true) (l : p < 4) where
   abbrev k : Kind
@@ -72,7 +72,11 @@ module _ (kind : ℕ) (r : Rate) (p : ℕ) (clock : Bool) (xs : List ℕ) (is-ki
 
   pub phases : Below 4 (frame k r p clock xs)
   unfolding frame
-  phases = whole.frame-phases k r p header xs [] l (sent-length r clock n) (sent-below r clock n)
+  phases = frame-phases k r p header xs (sent-length r clock n)
+
+  as-sent : (rest : List Taken) → AsSent k r p header xs (clean ++ rest)
+  unfolding frame
+  as-sent rest = clean-sent k r p header xs rest (sent-length r clock n)
 
   -- its chips are those of the words that it is read as
   pub words-back : (rest : List Taken) → frame k r p clock xs
@@ -80,67 +84,38 @@ module _ (kind : ℕ) (r : Rate) (p : ℕ) (clock : Bool) (xs : List ℕ) (is-ki
       ++ (wordsChips (headerRate k) (headerWords k (clean ++ rest))
       ++ wordsChips r (payloadWords k r n (clean ++ rest)))
   unfolding frame
-  words-back rest = whole.words-sent k r p header xs rest l (sent-length r clock n) (sent-below r clock n)
+  words-back rest =
+      whole.words-sent k r p header xs (sent-length r clock n) (clean ++ rest) l (sent-below r clock n) (as-sent rest)
 
   -- its SYNC, bit by bit from the ninth on
   pub sync-back : (rest : List Taken) (j : ℕ) → 8 ≤ j → j < syncBits k
       → take 1 (drop j (frontBits k (clean ++ rest))) ≡ syncBit k ∷ []
-  unfolding frame
-  sync-back rest = whole.sync-read k r p header xs rest l (sent-length r clock n) (sent-below r clock n)
-
-  opened : (agree : Bool) (rec : List Taken) (room : ℕ) → agree ≡ true
-      → readingOf kind agree rec room ≡ afterFront k rec room (wholeOf k rec (frontOf k rec))
-  unfolding readingOf
-  opened agree rec room e = rw (is-kind, e)
+  sync-back rest =
+      whole.sync-read k r p header xs (sent-length r clock n) (clean ++ rest) l (sent-below r clock n)
+      (as-sent rest .front)
 
   module _ (goes : goesWith k r ≡ true) (some : 1 ≤ n) (few : n ≤ 4095) where
     pub front-is : (rest : List Taken) → frontOf k (clean ++ rest) ≡ front.Fields t
-    unfolding frame
-    front-is rest =
-        whole.front-read k r p header xs rest l (sent-length r clock n) (sent-below r clock n)
-        ∙ header-back k r clock n goes some few
+    front-is rest = back.front-is kind r p clock xs is-kind l goes some few (clean ++ rest) (as-sent rest .front)
 
     -- ---- whole, with anything after it
-    module _ (rest : List Taken) (room : ℕ) where
-      rec-is : (agree : Bool) → agree ≡ true
-          → readingOf kind agree (clean ++ rest) room ≡ payloadReading k t (clean ++ rest) room
-      unfolding frame
-      rec-is agree e =
-          opened agree (clean ++ rest) room e
-          ∙ ap (λ f. afterFront k (clean ++ rest) room (wholeOf k (clean ++ rest) f)) (front-is rest)
-          ∙ ap (afterFront k (clean ++ rest) room)
-          (whole.whole-there k r p header xs rest l (sent-length r clock n) (sent-below r clock n)
-          (lengthField r n) clock)
-
-      pub good-reading : (agree : Bool) → agree ≡ true → n ≤ room
+    module _ (rest : List Taken) (room : ℕ) (agree : Bool) (e : agree ≡ true) where
+      pub good-reading : n ≤ room
           → readingOf kind agree (clean ++ rest) room ≡ reading.Good t (frameChips k r n) (cleanLeast k r)
       unfolding frame
-      good-reading agree e h =
-          rec-is agree e
-          ∙ whole.payload-good k r p header xs rest l (sent-length r clock n) (sent-below r clock n)
-          (lengthField r n) clock room some h
+      good-reading h =
+          back.good-reading kind r p clock xs is-kind l goes some few (clean ++ rest) (as-sent rest) room agree e h
+          ∙ ap (reading.Good t (frameChips k r n)) (smallest k r p header xs rest (sent-length r clock n) some)
 
-      pub good-octets : (agree : Bool) → agree ≡ true → n ≤ room → Below 256 xs
+      pub good-octets : n ≤ room → Below 256 xs
           → octetsFound kind agree (clean ++ rest) room ≡ xs ++ replicate (room - n) 0
-      good-octets agree e h o =
-          found ∙ ap (λ (x : List ℕ). x ++ replicate (room - n) 0) read
-        where
-          found : octetsFound kind agree (clean ++ rest) room
-              ≡ payloadOf k r n (clean ++ rest) ++ replicate (room - n) 0
-          found = unfold octetsFound in ap (octetsAfter k (clean ++ rest) room) (good-reading agree e h)
+      good-octets =
+          back.good-octets kind r p clock xs is-kind l goes some few (clean ++ rest) (as-sent rest) room agree e
 
-          read : payloadOf k r n (clean ++ rest) ≡ xs
-          read =
-              unfold frame in
-              whole.payload-read k r p header xs rest l (sent-length r clock n) (sent-below r clock n) o
-
-      pub room-refused : (agree : Bool) → agree ≡ true → room < n
+      pub room-refused : room < n
           → readingOf kind agree (clean ++ rest) room ≡ reading.Refused (OctetRoom (lengthField r n))
-      unfolding frame
-      room-refused agree e h =
-          rec-is agree e
-          ∙ whole.no-room k r p header xs rest l (sent-length r clock n) (sent-below r clock n)
-          (lengthField r n) clock room h
+      room-refused =
+          back.room-refused kind r p clock xs is-kind l goes some few (clean ++ rest) (as-sent rest) room agree e
 
     -- ---- cut after j chips
     module _ (j room : ℕ) (less : j < frameChips k r n) (agree : Bool) (e : agree ≡ true) where
@@ -153,7 +128,7 @@ module _ (kind : ℕ) (r : Rate) (p : ℕ) (clock : Bool) (xs : List ℕ) (is-ki
 
       pub front-refused : j < frontChips k → readingOf kind agree cut room ≡ reading.Refused ShorterThanFront
       front-refused h =
-          opened agree cut room e ∙ ap (λ f. afterFront k cut room (wholeOf k cut f)) cut-refused
+          back.opened kind is-kind agree cut room e ∙ ap (λ f. afterFront k cut room (wholeOf k cut f)) cut-refused
         where
           cut-refused : frontOf k cut ≡ front.Refused ShorterThanFront
           cut-refused = unfold frontOf in rw (lt-ltb (length cut) (frontChips k) (omega (arith, cut-length)))
@@ -161,7 +136,7 @@ module _ (kind : ℕ) (r : Rate) (p : ℕ) (clock : Bool) (xs : List ℕ) (is-ki
       pub payload-refused : frontChips k ≤ j
           → readingOf kind agree cut room ≡ reading.Refused (Ends (lengthField r n))
       payload-refused h =
-          opened agree cut room e ∙ ap (λ f. afterFront k cut room (wholeOf k cut f)) known
+          back.opened kind is-kind agree cut room e ∙ ap (λ f. afterFront k cut room (wholeOf k cut f)) known
           ∙ ap (afterFront k cut room) ends
         where
           known : frontOf k cut ≡ front.Fields t

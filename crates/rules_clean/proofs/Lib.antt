@@ -1,9 +1,12 @@
 pub mod Decided
 pub mod Parts
+pub mod FrameWords
 pub mod Listened
 pub mod Leads
 pub mod Whole
 pub mod Recorded
 pub mod Rows
+pub mod CleanSent
+pub mod ReadBack
 pub mod Back
 pub mod Facts
