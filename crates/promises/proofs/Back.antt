@@ -233,7 +233,7 @@ module _ (kind rate phase clock : ℕ) (payload : List ℕ) (w : Written) (chips
   w-is : w ≡ record { number = 0; chips = c }
   w-is = s .wrote .answer ∙ ap writtenOf written
 
-  w-chips : w .chips ≡ c
+  pub w-chips : w .chips ≡ c
   w-chips = ap (λ (v : Written). v .chips) w-is
 
   pub chips-are : chips ≡ sent ++ replicate (s .room - c) 4

@@ -1,5 +1,5 @@
--- A frame that was written is not missed, whatever stands before it and follows its front: its front is told from where
--- it starts (`told-is`), so a search that comes as far ends there or before. Assumes nothing.
+-- A frame that was written is not missed, whatever stands before it and follows its front: chips that are read as its
+-- front are told from where they start, so a search that comes as far ends there or before. Assumes nothing.
 use mathlib.Core.Path.{_≡_, refl, sym, ap, _∙_, subst}
 use mathlib.Core.List.{List, _++_}
 use Prim.Native.Nat.{ℕ, _≤_, _<_}
@@ -10,14 +10,14 @@ use lib.ListN.{length, take, drop}
 use lib.Seq.{drop-at}
 use Rattle.rules_rates.specs.declared.Rate.{Rate}
 use Rattle.rules_rates.specs.Rates.{rateOf, lengthField}
+use Rattle.rules_rates.specs.Plain.{LengthOf}
 use Rattle.rules_chips.specs.Chips.{Taken, hardRecording}
 use Rattle.rules_chips.proofs.Recorders.{drop-hard}
 use Rattle.rules_frame.specs.declared.Kind.{Kind}
-use Rattle.rules_frame.specs.Frame.{kindOf, clockOf}
+use Rattle.rules_frame.specs.Frame.{kindOf}
 use Rattle.rules_calls.specs.declared.Written.{Written}
 use Rattle.rules_calls.specs.declared.Told.{Told}
 use Rattle.rules_calls.specs.declared.Front.the-variants.{Fields}
-use Rattle.rules_calls.specs.Headers.{told}
 use Rattle.rules_reading.specs.Reading.{frontOf}
 use Rattle.rules_finding.specs.declared.NotFound.the-variants.{NoKind, NoOffsets, NoStart}
 use Rattle.rules_finding.specs.declared.Finding.{Finding}
@@ -25,14 +25,16 @@ use Rattle.rules_finding.specs.declared.Finding.the-variants.{Refused, Start}
 use Rattle.rules_finding.specs.declared.Found.{Found}
 use Rattle.rules_finding.specs.Finding.{findingOf, foundOf}
 use Rattle.rules_finding.proofs.Laws.{Missed, StartsAt, offsets-tried, FindingIf, finding-comes}
-use Rattle.promises.specs.Calls.{shown, Sent}
+use Rattle.promises.specs.Calls.{Finds, shown, Sent}
 use Rattle.promises.specs.Finding.{startFound, SentFound}
 use Rattle.promises.proofs.Back as back
-use Rattle.promises.proofs.SentTold.{told-is}
+use Rattle.promises.proofs.SentTold.{sentTold, begun-told}
 
+-- ---- chips that are read as the frame's front, behind others
 module _ (kind rate phase clock : ℕ) (payload : List ℕ) (w : Written) (chips : List ℕ)
-    (s : Sent kind rate phase clock payload w chips) (before tail : List ℕ) (offsets : ℕ)
-    (below : length before < offsets) (few : offsets ≤ 4096) where
+    (s : Sent kind rate phase clock payload w chips) (behind : List ℕ)
+    (is-told : frontOf (kindOf kind) (hardRecording behind) ≡ Fields (sentTold kind rate phase clock payload w chips s))
+    (before : List ℕ) (offsets : ℕ) (below : length before < offsets) (few : offsets ≤ 4096) where
   abbrev k : Kind
   k = kindOf kind
 
@@ -43,10 +45,7 @@ module _ (kind rate phase clock : ℕ) (payload : List ℕ) (w : Written) (chips
   n = length payload
 
   abbrev t : Told
-  t = told r (lengthField r n) n (clockOf clock)
-
-  abbrev behind : List ℕ
-  behind = take (s .sendable .front) chips ++ tail
+  t = sentTold kind rate phase clock payload w chips s
 
   abbrev rec : List Taken
   rec = hardRecording (before ++ behind)
@@ -59,7 +58,7 @@ module _ (kind rate phase clock : ℕ) (payload : List ℕ) (w : Written) (chips
       ap (frontOf k)
       (drop-hard (length before) (before ++ behind)
       ∙ ap hardRecording (drop-at before behind (length before) refl))
-      ∙ told-is kind rate phase clock payload w chips s tail
+      ∙ is-told
 
   not-missed : Missed (frontOf k (drop (length before) rec)) → ⊥
   not-missed h = subst Missed told-there h
@@ -97,10 +96,14 @@ module _ (kind rate phase clock : ℕ) (payload : List ℕ) (w : Written) (chips
   says (Refused NoStart) h = absurd (not-missed (h .1 (length before) below))
   says (Start offset u) h = start-says offset u (h .1)
 
+  pub found-there : (l : ℕ) → LengthOf rate n l → (f : Found) → Finds kind offsets (before ++ behind) f
+      → (f .number ≡ 0) × (f .offset ≤ length before)
+      × (f .offset ≡ length before → f ≡ startFound (length before) rate l (shown clock) n)
+  found-there l d f x =
+      rw (← back.length-sent kind rate phase clock payload w chips s d)
+      (subst Says (sym (x .answer)) (says (findingOf kind offsets rec) (finding-comes kind offsets rec)))
+
 pub sent-found : SentFound
 sent-found kind rate phase clock payload w chips s l d before tail offsets f below few x =
-    let rec = hardRecording (before ++ (take (s .sendable .front) chips ++ tail)) in
-    rw (← back.length-sent kind rate phase clock payload w chips s d)
-    (subst (Says kind rate phase clock payload w chips s before tail offsets below few) (sym (x .answer))
-    (says kind rate phase clock payload w chips s before tail offsets below few (findingOf kind offsets rec)
-    (finding-comes kind offsets rec)))
+    found-there kind rate phase clock payload w chips s (take (s .sendable .front) chips ++ tail)
+    (begun-told kind rate phase clock payload w chips s tail) before offsets below few l d f x

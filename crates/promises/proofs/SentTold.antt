@@ -1,6 +1,6 @@
--- A frame that was written is told of by its front, whatever follows it. Its front is that of the clean frame
--- (`front-is` of rules_clean), since a front is read from its own chips (`front-same` of rules_reading). Assumes
--- nothing.
+-- A frame that was written is told of by its front, whatever follows it: any chips that are read as its front tell of
+-- it (`tells`), and its own are. Its front is that of the clean frame (`front-is` of rules_clean), since a front is read
+-- from its own chips (`front-same` of rules_reading). Assumes nothing.
 use mathlib.Core.Path.{_≡_, sym, ap, ap₂, _∙_}
 use mathlib.Core.List.{List, [], _++_, append-nil}
 use Prim.Native.Nat.{ℕ, _+_, _-_, _*_, _≤_, _<_}
@@ -9,6 +9,7 @@ use lib.ListN.{length, take, replicate, length-append}
 use lib.Seq.{take-at, drop-at, take-append-le, length-take-le}
 use Rattle.rules_rates.specs.declared.Rate.{Rate}
 use Rattle.rules_rates.specs.Rates.{codeOf, rateOf, octetChips, lengthField}
+use Rattle.rules_rates.specs.Plain.{LengthOf}
 use Rattle.rules_chips.specs.Chips.{hardRecording}
 use Rattle.rules_chips.proofs.Recorders.{length-hard, take-hard}
 use Rattle.rules_frame.specs.declared.Kind.{Kind}
@@ -36,9 +37,10 @@ in-numbers k t rate clock front octet a b c d =
     let e : frontChips k + octetChips (t .rate) * t .n - frontChips k ≡ octetChips (t .rate) * t .n = omega arith in
     rw (e, a, b, c, d)
 
+-- ---- what a front tells that is read as the frame's, whatever follows it
 module _ (kind rate phase clock : ℕ) (payload : List ℕ) (w : Written) (chips : List ℕ)
-    (s : Sent kind rate phase clock payload w chips) (tail : List ℕ) where
-  abbrev k : Kind
+    (s : Sent kind rate phase clock payload w chips) where
+  abbrev pub k : Kind
   k = kindOf kind
 
   abbrev r : Rate
@@ -47,11 +49,8 @@ module _ (kind rate phase clock : ℕ) (payload : List ℕ) (w : Written) (chips
   abbrev n : ℕ
   n = length payload
 
-  abbrev t : Told
-  t = told r (lengthField r n) n (clockOf clock)
-
-  abbrev sent : List ℕ
-  sent = back.sent kind rate phase clock payload w chips s
+  abbrev pub sentTold : Told
+  sentTold = told r (lengthField r n) n (clockOf clock)
 
   abbrev front : ℕ
   front = s .sendable .front
@@ -59,55 +58,26 @@ module _ (kind rate phase clock : ℕ) (payload : List ℕ) (w : Written) (chips
   abbrev count : ℕ
   count = s .sendable .octet * n
 
-  abbrev begin : List ℕ
-  begin = take front chips
-
   pair : back.Known kind rate front (s .sendable .octet)
   pair = back.pair kind rate phase clock payload w chips s
-
-  long : front + count ≡ length sent
-  long =
-      sym (back.sent-length kind rate phase clock payload w chips s ∙ back.size kind rate phase clock payload w chips s)
-
-  begin-is : begin ≡ take front sent
-  begin-is =
-      ap (take front) (back.chips-are kind rate phase clock payload w chips s)
-      ∙ take-append-le front sent (replicate (s .room - frameChips k r n) 4) (omega (arith, long))
-
-  begin-long : length begin ≡ front
-  begin-long = ap length begin-is ∙ length-take-le front sent (omega (arith, long))
-
-  recorded-long : length (hardRecording (begin ++ tail)) ≡ front + length tail
-  recorded-long = length-hard (begin ++ tail) ∙ omega (arith, length-append begin tail, begin-long)
 
   all-is : frameChips k r n ≡ front + count
   all-is = back.size kind rate phase clock payload w chips s
 
-  begins : take (frontChips k) (hardRecording (begin ++ tail)) ≡ take (frontChips k) (hardRecording (sent ++ []))
-  begins =
-      let f = frontChips k in
-      take-hard f (begin ++ tail)
-      ∙ ap hardRecording
-      (ap (λ (m : ℕ). take m (begin ++ tail)) (pair .front-is) ∙ take-at begin tail front begin-long ∙ begin-is
-      ∙ ap₂ {C = List ℕ} (λ m l. take m l) (sym (pair .front-is)) (sym (append-nil sent)))
-      ∙ sym (take-hard f (sent ++ []))
+  module _ (begin tail : List ℕ) (begin-long : length begin ≡ front)
+      (told-is : frontOf k (hardRecording (begin ++ tail)) ≡ Fields sentTold) (c : Coming)
+      (f : ReadFront kind (begin ++ tail) c) where
+    recorded-long : length (hardRecording (begin ++ tail)) ≡ front + length tail
+    recorded-long = length-hard (begin ++ tail) ∙ omega (arith, length-append begin tail, begin-long)
 
-  pub told-is : frontOf k (hardRecording (begin ++ tail)) ≡ Fields t
-  told-is =
-      front-same k (hardRecording (begin ++ tail)) (hardRecording (sent ++ [])) begins
-      ∙ ap (frontOf k) (hard-recorded sent [] (back.phases kind rate phase clock payload w chips s))
-      ∙ clean.front-is kind r phase (clockOf clock) payload (pair .kind-is) (s .sendable .phase-is) (pair .together)
-      (s .sendable .some) (s .sendable .few) (hardRecording [])
-
-  module _ (c : Coming) (f : ReadFront kind (begin ++ tail) c) where
     told-whole : count ≤ length tail
         → c ≡ toldComing rate (lengthField r n) (shown clock) n front count
     told-whole h =
         f .answer
         ∙ ap (comingOf k)
-        (coming-told kind (hardRecording (begin ++ tail)) (pair .kind-is) t told-is
+        (coming-told kind (hardRecording (begin ++ tail)) (pair .kind-is) sentTold told-is
         (omega (arith, recorded-long, all-is)))
-        ∙ in-numbers k t rate (shown clock) front (s .sendable .octet) (pair .code-back) (back.shown-is clock)
+        ∙ in-numbers k sentTold rate (shown clock) front (s .sendable .octet) (pair .code-back) (back.shown-is clock)
         (pair .front-is) (pair .octet-is)
 
     handed-back : count ≤ length tail → (part : List ℕ) → Handed c (begin ++ tail) part → part ≡ take count tail
@@ -121,15 +91,55 @@ module _ (kind rate phase clock : ℕ) (payload : List ℕ) (w : Written) (chips
     cut h =
         f .answer
         ∙ ap (comingOf k)
-        (coming-ends kind (hardRecording (begin ++ tail)) (pair .kind-is) t told-is
+        (coming-ends kind (hardRecording (begin ++ tail)) (pair .kind-is) sentTold told-is
         (omega (arith, recorded-long, all-is)))
+
+    pub tells : (l : ℕ) → LengthOf rate n l
+        → (count ≤ length tail
+        → (c ≡ toldComing rate l (shown clock) n front count)
+        × ((part : List ℕ) → Handed c (begin ++ tail) part → part ≡ take count tail))
+        × (length tail < count → c ≡ refusedComing 16 0 l)
+    tells l d =
+        let e = back.length-sent kind rate phase clock payload w chips s d in
+        ((λ h. (rw (← e) (told-whole h), handed-back h)), λ h. rw (← e) (cut h))
+
+  -- ---- its own front does
+  module _ (tail : List ℕ) where
+    abbrev sent : List ℕ
+    sent = back.sent kind rate phase clock payload w chips s
+
+    abbrev begun : List ℕ
+    begun = take front chips
+
+    long : front + count ≡ length sent
+    long = sym (back.sent-length kind rate phase clock payload w chips s ∙ all-is)
+
+    pub begun-is : begun ≡ take front sent
+    begun-is =
+        ap (take front) (back.chips-are kind rate phase clock payload w chips s)
+        ∙ take-append-le front sent (replicate (s .room - frameChips k r n) 4) (omega (arith, long))
+
+    pub begun-long : length begun ≡ front
+    begun-long = ap length begun-is ∙ length-take-le front sent (omega (arith, long))
+
+    begins : take (frontChips k) (hardRecording (begun ++ tail)) ≡ take (frontChips k) (hardRecording (sent ++ []))
+    begins =
+        let f = frontChips k in
+        take-hard f (begun ++ tail)
+        ∙ ap hardRecording
+        (ap (λ (m : ℕ). take m (begun ++ tail)) (pair .front-is) ∙ take-at begun tail front begun-long ∙ begun-is
+        ∙ ap₂ {C = List ℕ} (λ m l. take m l) (sym (pair .front-is)) (sym (append-nil sent)))
+        ∙ sym (take-hard f (sent ++ []))
+
+    pub begun-told : frontOf k (hardRecording (begun ++ tail)) ≡ Fields sentTold
+    begun-told =
+        front-same k (hardRecording (begun ++ tail)) (hardRecording (sent ++ [])) begins
+        ∙ ap (frontOf k) (hard-recorded sent [] (back.phases kind rate phase clock payload w chips s))
+        ∙ clean.front-is kind r phase (clockOf clock) payload (pair .kind-is) (s .sendable .phase-is) (pair .together)
+        (s .sendable .some) (s .sendable .few) (hardRecording [])
 
 pub sent-told : SentTold
 sent-told kind rate phase clock payload w chips s l d tail c f =
-    let e = back.length-sent kind rate phase clock payload w chips s d in (
-      (λ h. (
-        rw (← e) (told-whole kind rate phase clock payload w chips s tail c f h),
-        handed-back kind rate phase clock payload w chips s tail c f h,
-      )),
-      λ h. rw (← e) (cut kind rate phase clock payload w chips s tail c f h),
-    )
+    tells kind rate phase clock payload w chips s (take (s .sendable .front) chips) tail
+    (begun-long kind rate phase clock payload w chips s tail)
+    (begun-told kind rate phase clock payload w chips s tail) c f l d

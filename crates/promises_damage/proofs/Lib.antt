@@ -1,0 +1,4 @@
+pub mod SpoiledBack
+pub mod SpoiledFront
+pub mod Symbols
+pub mod Kept

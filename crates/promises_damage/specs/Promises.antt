@@ -1,0 +1,208 @@
+-- What is promised of frames that were written and whose chips were spoiled (RULES 3.10, 6.28): a wrong chip is another
+-- phase, a lost one a 4, and every symbol keeps its limit (`Stands` of rules_damage, in plain numbers). Statements about
+-- a read, the front alone, a search and a report speak of answers that the contracts of the calls allow (`Wrote`,
+-- `ReadHard`, `ReadFront`, `Finds`, `Adds`), so they are about the programs; those about symbols and rows, of the
+-- definitions. Definitions only. Assumes nothing.
+use Prim.Native.Nat.{ℕ, suc, _+_, _-_, _*_, _≤_, _<_}
+use mathlib.Core.Path.{_≡_}
+use mathlib.Core.List.{List, [], _∷_, _++_, map}
+use lib.ListN.{length, getD, take, replicate}
+use lib.Dec.{T}
+use lib.IntN.{pos}
+use lib.Signed.{_≤ℤ_}
+use Rattle.base.specs.Below.{Below}
+use Rattle.rules_rates.specs.declared.Rate.the-variants.{Eleven}
+use Rattle.rules_rates.specs.Rates.{rateOf}
+use Rattle.rules_rates.specs.Plain.{LengthOf}
+use Rattle.rules_chips.specs.Chips.{takenCounts, hardRecording, fullChip}
+use Rattle.rules_symbols.specs.Words.{cckOf}
+use Rattle.rules_symbols.specs.Choice.{numbers, isAllowed, decided, leadOf}
+use Rattle.rules_choosing.specs.Scores.{scoreAt}
+use Rattle.rules_frame.specs.Frame.{kindOf}
+use Rattle.rules_calls.specs.declared.Written.{Written}
+use Rattle.rules_calls.specs.declared.Record.{Record}
+use Rattle.rules_coming.specs.declared.Coming.{Coming}
+use Rattle.rules_finding.specs.declared.Found.{Found}
+use Rattle.rules_report.specs.declared.Report.{Report}
+use Rattle.rules_report.specs.declared.Counted.{Counted}
+use Rattle.rules_report.specs.Report.{Limits}
+use Rattle.rules_report.specs.Shares.{FullRows, OneMore}
+use Rattle.rules_damage.specs.Damage.{frameDamage}
+use Rattle.rules_damage.specs.Plain.{
+  FrontSymbols,
+  PayloadSymbols,
+  SymbolAt,
+  HasChip,
+  SomeSymbol,
+  WrongAt,
+  LostAt,
+  HowMany,
+  Keeps,
+  SymbolSpoiled,
+  PastLimit,
+  Stands,
+  SpoiledBy,
+}
+use Rattle.promises.specs.Calls.{ReadHard, ReadFront, Handed, Finds, good, refused, shown, Goes, Sent}
+use Rattle.promises.specs.Coming.{refusedComing, toldComing}
+use Rattle.promises.specs.Finding.{startFound}
+use Rattle.promises_report.specs.Calls.{Adds}
+
+-- ---- a frame
+
+-- promise: A frame that was written and whose symbols each keep their limit is read back by the hard reader under its
+-- kind, whatever follows it: with room number 0, rate, LENGTH, n, chips used, clock bit and payload are those written,
+-- and the lead is at least one full chip; with less room 17 with LENGTH
+-- rule: 6.28, 3.10
+-- code: dsss_write_2, dsss_read_hard_3
+-- with: Stands, SymbolAt, HowMany, Keeps
+abbrev pub SpoiledReadBack : Type 0
+SpoiledReadBack =
+    (kind rate phase clock : ℕ) (payload : List ℕ) (w : Written) (chips : List ℕ)
+    → Sent kind rate phase clock payload w chips → (l : ℕ) → LengthOf rate (length payload) l
+    → (rec tail : List ℕ) → Stands kind rate (length payload) (take (w .chips) chips) rec
+    → (room : ℕ) (a : Record) (left : List ℕ) → ReadHard kind (rec ++ tail) room a left
+    → (length payload ≤ room
+    → (a ≡ good rate l (length payload) (w .chips) (shown clock) (a .lead) (a .symbol))
+    × (1024 ≤ a .lead)
+    × (left ≡ payload ++ replicate (room - length payload) 0))
+    × (room < length payload → a ≡ refused 17 l)
+
+-- promise: The front of a frame that was written, its symbols each within their limit, tells what is coming, whatever
+-- became of the payload's chips; with fewer chips behind it than the payload's, 16 with LENGTH
+-- rule: 6.28, 6.15
+-- code: dsss_write_2, dsss_read_front, small_calls::part
+abbrev pub SpoiledTold : Type 0
+SpoiledTold =
+    (kind rate phase clock : ℕ) (payload : List ℕ) (w : Written) (chips : List ℕ)
+    (s : Sent kind rate phase clock payload w chips) (l : ℕ) → LengthOf rate (length payload) l
+    → (rec tail : List ℕ) → Stands kind rate 0 (take (s .sendable .front) chips) rec
+    → (c : Coming) → ReadFront kind (rec ++ tail) c
+    → (s .sendable .octet * length payload ≤ length tail
+    → (c
+    ≡ toldComing rate l (shown clock) (length payload) (s .sendable .front) (s .sendable .octet * length payload))
+    × ((part : List ℕ) → Handed c (rec ++ tail) part → part ≡ take (s .sendable .octet * length payload) tail))
+    × (length tail < s .sendable .octet * length payload → c ≡ refusedComing 16 0 l)
+
+-- promise: A frame that was written, the symbols of its front each within their limit, is not missed by a search,
+-- whatever stands before it, became of its payload's chips or follows: a start is found where it starts or before, and
+-- if there, it is the frame's
+-- rule: 6.28, 6.17
+-- code: dsss_write_2, dsss_find
+abbrev pub SpoiledFound : Type 0
+SpoiledFound =
+    (kind rate phase clock : ℕ) (payload : List ℕ) (w : Written) (chips : List ℕ)
+    (s : Sent kind rate phase clock payload w chips) (l : ℕ) → LengthOf rate (length payload) l
+    → (rec tail : List ℕ) → Stands kind rate 0 (take (s .sendable .front) chips) rec
+    → (before : List ℕ) (offsets : ℕ) (f : Found) → length before < offsets → offsets ≤ 4096
+    → Finds kind offsets (before ++ (rec ++ tail)) f
+    → (f .number ≡ 0) × (f .offset ≤ length before)
+    × (f .offset ≡ length before → f ≡ startFound (length before) rate l (shown clock) (length payload))
+
+-- a report grew by one accepted frame of this kind, rate, LENGTH, n, chips and clock bit, its lead at least a full chip
+pub record CountsAs (p : Report) (kind rate l n used clock : ℕ) (q : Report) : Type 0 where
+  pub lead : ℕ
+  pub symbol : ℕ
+  pub clear : 1024 ≤ lead
+  pub one-more : OneMore p (record { kind = kind; answer = good rate l n used clock lead symbol }) q
+
+-- promise: A frame that was written and whose symbols each keep their limit is counted in any report within the limits
+-- as the frame that it was, whatever follows it
+-- rule: 6.28, 6.19
+-- code: dsss_write_2, dsss_report_add
+-- with: CountsAs
+abbrev pub SpoiledCounted : Type 0
+SpoiledCounted =
+    (kind rate phase clock : ℕ) (payload : List ℕ) (w : Written) (chips : List ℕ)
+    → Sent kind rate phase clock payload w chips → (l : ℕ) → LengthOf rate (length payload) l
+    → (rec tail : List ℕ) → Stands kind rate (length payload) (take (w .chips) chips) rec
+    → (p : Report) (c : Counted) → Limits p → FullRows p → Adds p kind (rec ++ tail) c
+    → (c .number ≡ 0) × CountsAs p kind rate l (length payload) (w .chips) (shown clock) (c .report)
+
+-- ---- a symbol
+
+-- promise: A symbol sent as an allowed word that keeps its limit is decided as that word, with a lead of at least one
+-- full chip
+-- rule: 3.10
+-- code: dsss_read_hard_3
+-- with: SymbolSpoiled
+abbrev pub SymbolStands : Type 0
+SymbolStands =
+    (rate n : ℕ) (rec : List ℕ) (limit wrong lost : ℕ) → n < numbers (rateOf rate) → T (isAllowed (rateOf rate) n)
+    → SymbolSpoiled rate n rec limit wrong lost → Keeps limit wrong lost
+    → (decided (rateOf rate) (map takenCounts (hardRecording rec)) ≡ n)
+    × (1024 ≤ leadOf (rateOf rate) (map takenCounts (hardRecording rec)))
+
+-- promise: No limit can be raised: symbols one past them are decided as another word, at 11 Mbit/s with four chips lost,
+-- at 5.5 Mbit/s with four lost or two wrong, at 1 and 2 Mbit/s with eleven lost or five wrong and one lost
+-- rule: 3.10
+-- code: dsss_read_hard_3
+-- with: PastLimit
+pub record LimitsTight : Type 0 where
+  pub eleven-lost : PastLimit 110 16 (4 ∷ 0 ∷ 4 ∷ 2 ∷ 4 ∷ 0 ∷ 4 ∷ 0 ∷ []) 3 0 4 0
+  pub five-lost : PastLimit 55 18 (4 ∷ 4 ∷ 4 ∷ 4 ∷ 1 ∷ 0 ∷ 3 ∷ 0 ∷ []) 3 0 4 16
+  pub five-wrong : PastLimit 55 18 (1 ∷ 0 ∷ 3 ∷ 0 ∷ 1 ∷ 0 ∷ 3 ∷ 0 ∷ []) 3 2 0 16
+  pub two-lost : PastLimit 20 1 (replicate 11 4) 10 0 11 0
+  pub two-wrong : PastLimit 20 1 (0 ∷ 2 ∷ 0 ∷ 0 ∷ 2 ∷ 4 ∷ 1 ∷ 1 ∷ 3 ∷ 3 ∷ 3 ∷ []) 10 5 1 0
+  pub one-lost : PastLimit 10 1 (replicate 11 4) 10 0 11 0
+  pub one-wrong : PastLimit 10 1 (0 ∷ 2 ∷ 0 ∷ 0 ∷ 2 ∷ 4 ∷ 1 ∷ 1 ∷ 3 ∷ 3 ∷ 3 ∷ []) 10 5 1 0
+
+-- promise: On the clean chips of an 11 Mbit/s word no other word scores above 4 full chips
+-- rule: 3.10
+abbrev pub WordsApart : Type 0
+WordsApart =
+    (n w : ℕ) → n < 256 → w < 256 → (n ≡ w → ⊥)
+    → scoreAt Eleven (map (fullChip 1024) (cckOf w)) n ≤ℤ pos (4 * 1024)
+
+-- ---- the symbols of a frame, and the row of its damage
+
+-- promise: Each chip of a frame is in a symbol that keeps a limit, and in no other
+-- rule: 3.10, 5.2, 5.4
+-- with: SymbolAt, HasChip
+abbrev pub InOneSymbol : Type 0
+InOneSymbol =
+    (kind rate front octet n i : ℕ) → Goes kind rate front octet
+    → (i < front + octet * n → SomeSymbol kind rate n i)
+    × ((s at chips limit s′ at′ chips′ limit′ : ℕ) → HasChip kind rate n i s at chips limit
+    → HasChip kind rate n i s′ at′ chips′ limit′
+    → (s ≡ s′) × (at ≡ at′) × (chips ≡ chips′) × (limit ≡ limit′))
+    × ((s at chips limit : ℕ) → HasChip kind rate n i s at chips limit → i < front + octet * n)
+
+-- promise: The row of a frame's damage has two numbers for each symbol, in the order of the symbols: how many of its
+-- chips are wrong, and how many are lost
+-- rule: 6.28
+-- with: HowMany
+abbrev pub DamageRow : Type 0
+DamageRow =
+    (kind rate front octet n : ℕ) → Goes kind rate front octet → (sent rec : List ℕ)
+    → front + octet * n ≤ length sent → front + octet * n ≤ length rec
+    → ((f each chips limit : ℕ) → FrontSymbols kind f → PayloadSymbols rate each chips limit
+    → length (frameDamage (kindOf kind) (rateOf rate) n sent rec) ≡ 2 * (f + each * n))
+    × ((s at chips limit : ℕ) → SymbolAt kind rate n s at chips limit
+    → HowMany (WrongAt sent rec) at chips (getD (frameDamage (kindOf kind) (rateOf rate) n sent rec) (2 * s) 0)
+    × HowMany (LostAt rec) at chips (getD (frameDamage (kindOf kind) (rateOf rate) n sent rec) (suc (2 * s)) 0))
+
+-- promise: All damage that the limits allow does come: for any phases as long as a frame, and any two pairs of numbers
+-- that keep the limits, there is a recording in which each symbol of the front has just the first pair of wrong and lost
+-- chips, and each symbol of the payload the second
+-- rule: 3.10
+-- with: SpoiledBy
+abbrev pub AnyDamage : Type 0
+AnyDamage =
+    (kind rate front octet n each chips limit : ℕ) → Goes kind rate front octet
+    → PayloadSymbols rate each chips limit → (sent : List ℕ) → Below 4 sent → length sent ≡ front + octet * n
+    → (wrong lost wrong′ lost′ : ℕ) → Keeps 10 wrong lost → Keeps limit wrong′ lost′
+    → SpoiledBy kind rate n sent wrong lost wrong′ lost′
+
+-- ---- all of it
+pub record DamagePromised : Type 0 where
+  pub spoiled-read-back : SpoiledReadBack
+  pub spoiled-told : SpoiledTold
+  pub spoiled-found : SpoiledFound
+  pub spoiled-counted : SpoiledCounted
+  pub symbol-stands : SymbolStands
+  pub limits-tight : LimitsTight
+  pub words-apart : WordsApart
+  pub in-one-symbol : InOneSymbol
+  pub damage-row : DamageRow
+  pub any-damage : AnyDamage

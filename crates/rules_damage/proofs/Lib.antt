@@ -1,0 +1,10 @@
+pub mod Facts
+pub mod Most
+pub mod OneSymbol
+pub mod Row
+pub mod Counted
+pub mod Symbols
+pub mod SymbolStands
+pub mod SpoiledSent
+pub mod ReadBack
+pub mod Any

@@ -1,0 +1,105 @@
+-- How much damage a frame stands (RULES 3.10, 6.28), in plain numbers: where its symbols are, how many of a symbol's
+-- chips are wrong and how many lost, and the limit that each keeps. Promises speak of these; proofs/ joins them to
+-- Damage.antt.
+-- Definitions only. Assumes nothing.
+use Prim.Native.Nat.{ℕ, zero, suc, _+_, _*_, _≤_, _<_}
+use mathlib.Core.Path.{_≡_}
+use mathlib.Core.List.{List, map}
+use lib.ListN.{length, getD}
+use Rattle.base.specs.Below.{Below}
+use Rattle.rules_rates.specs.Rates.{rateOf}
+use Rattle.rules_chips.specs.Chips.{takenCounts, hardRecording}
+use Rattle.rules_symbols.specs.Words.{wordOf}
+use Rattle.rules_symbols.specs.Choice.{decided}
+
+-- ---- the symbols of a frame
+
+-- a long front has 192 symbols of 11 chips, a short one 96
+pub data FrontSymbols : ℕ → ℕ → Type 0 where
+  of-long : FrontSymbols 0 192
+  of-short : FrontSymbols 1 96
+
+-- by its rate code: the symbols of an octet, the chips of a symbol, and its limit, which is 10 for Barker symbols and 3
+-- for CCK symbols
+pub data PayloadSymbols : ℕ → ℕ → ℕ → ℕ → Type 0 where
+  at-10 : PayloadSymbols 10 8 11 10
+  at-20 : PayloadSymbols 20 4 11 10
+  at-55 : PayloadSymbols 55 2 8 3
+  at-110 : PayloadSymbols 110 1 8 3
+
+-- of a frame of n octets: symbol s, counted from 0 at the frame's first, with the place of its first chip, its chips and
+-- its limit. A front's symbols are Barker symbols. Of no octets, the front alone
+pub data SymbolAt (kind rate n : ℕ) : ℕ → ℕ → ℕ → ℕ → Type 0 where
+  in-front : (f s : ℕ) → FrontSymbols kind f → s < f → SymbolAt kind rate n s (11 * s) 11 10
+  in-payload : (f each chips limit j : ℕ) → FrontSymbols kind f → PayloadSymbols rate each chips limit → j < each * n
+      → SymbolAt kind rate n (f + j) (11 * f + chips * j) chips limit
+
+-- a symbol that has the chip at place i
+pub record HasChip (kind rate n i s at chips limit : ℕ) : Type 0 where
+  pub symbol : SymbolAt kind rate n s at chips limit
+  pub from : at ≤ i
+  pub to : i < at + chips
+
+pub record SomeSymbol (kind rate n i : ℕ) : Type 0 where
+  pub s : ℕ
+  pub at : ℕ
+  pub chips : ℕ
+  pub limit : ℕ
+  pub has : HasChip kind rate n i s at chips limit
+
+-- ---- wrong and lost chips
+
+-- the chip at place i was recorded as another phase than the one sent; as a 4
+abbrev pub WrongAt : List ℕ → List ℕ → ℕ → Type 0
+WrongAt sent rec i = (getD rec i 0 < 4) × (getD rec i 0 ≡ getD sent i 0 → ⊥)
+
+abbrev pub LostAt : List ℕ → ℕ → Type 0
+LostAt rec i = getD rec i 0 ≡ 4
+
+-- of so many places from `at` on, so many are such
+pub data HowMany (Such : ℕ → Type 0) : ℕ → ℕ → ℕ → Type 0 where
+  no-place : {at : ℕ} → HowMany Such at 0 0
+  such : {at places many : ℕ} → Such at → HowMany Such (suc at) places many → HowMany Such at (suc places) (suc many)
+  other : {at places many : ℕ} → (Such at → ⊥) → HowMany Such (suc at) places many → HowMany Such at (suc places) many
+
+-- ---- what a symbol and a frame stand
+
+-- twice the wrong chips and the lost ones are at most the limit
+abbrev pub Keeps : ℕ → ℕ → ℕ → Type 0
+Keeps limit wrong lost = 2 * wrong + lost ≤ limit
+
+-- a payload's symbol, sent as word n at a rate and recorded as phases and 4s: its limit, and how many of its chips are
+-- wrong and how many lost
+pub record SymbolSpoiled (rate n : ℕ) (rec : List ℕ) (limit wrong lost : ℕ) : Type 0 where
+  pub each : ℕ
+  pub chips : ℕ
+  pub symbol : PayloadSymbols rate each chips limit
+  pub all-there : length rec ≡ chips
+  pub usable : Below 5 rec
+  pub wrong-are : HowMany (WrongAt (wordOf (rateOf rate) n) rec) 0 chips wrong
+  pub lost-are : HowMany (LostAt rec) 0 chips lost
+
+-- one past its limit it is decided as another word
+pub record PastLimit (rate n : ℕ) (rec : List ℕ) (limit wrong lost other : ℕ) : Type 0 where
+  pub spoiled : SymbolSpoiled rate n rec limit wrong lost
+  pub past : Keeps limit wrong lost → ⊥
+  pub just : Keeps (suc limit) wrong lost
+  pub decided-as : decided (rateOf rate) (map takenCounts (hardRecording rec)) ≡ other
+  pub another : other ≡ n → ⊥
+
+-- every chip of a frame of n octets is recorded as a phase or as a 4, and every symbol keeps its limit
+pub record Stands (kind rate n : ℕ) (sent rec : List ℕ) : Type 0 where
+  pub same-length : length rec ≡ length sent
+  pub usable : Below 5 rec
+  pub each : (s at chips limit wrong lost : ℕ) → SymbolAt kind rate n s at chips limit
+      → HowMany (WrongAt sent rec) at chips wrong → HowMany (LostAt rec) at chips lost → Keeps limit wrong lost
+
+-- a recording of such a frame in which just so many chips of each symbol are wrong and lost: of those in the front, and
+-- of those in the payload
+pub record SpoiledBy (kind rate n : ℕ) (sent : List ℕ) (wrong lost wrong′ lost′ : ℕ) : Type 0 where
+  pub rec : List ℕ
+  pub stands : Stands kind rate n sent rec
+  pub in-the-front : (f s at chips limit : ℕ) → FrontSymbols kind f → SymbolAt kind rate n s at chips limit → s < f
+      → HowMany (WrongAt sent rec) at chips wrong × HowMany (LostAt rec) at chips lost
+  pub in-the-payload : (f s at chips limit : ℕ) → FrontSymbols kind f → SymbolAt kind rate n s at chips limit → f ≤ s
+      → HowMany (WrongAt sent rec) at chips wrong′ × HowMany (LostAt rec) at chips lost′
