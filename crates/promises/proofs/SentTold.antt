@@ -1,6 +1,6 @@
 -- A frame that was written is told of by its front, whatever follows it: any chips that are read as its front tell of
--- it (`tells`), and its own are. Its front is that of the clean frame (`front-is` of rules_clean), since a front is read
--- from its own chips (`front-same` of rules_reading). Assumes nothing.
+-- it (`tells`), and its own are. Its front is that of the clean frame (`front-is` of rules_clean), since a front is
+-- read from its own chips (`front-same` of rules_reading). Assumes nothing.
 use mathlib.Core.Path.{_≡_, sym, ap, ap₂, _∙_}
 use mathlib.Core.List.{List, [], _++_, append-nil}
 use Prim.Native.Nat.{ℕ, _+_, _-_, _*_, _≤_, _<_}

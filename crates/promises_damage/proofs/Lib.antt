@@ -1,4 +1,7 @@
+pub mod Computed
 pub mod SpoiledBack
 pub mod SpoiledFront
 pub mod Symbols
 pub mod Kept
+pub mod Uses
+pub mod UsesSymbols

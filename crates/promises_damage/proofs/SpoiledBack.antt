@@ -21,7 +21,7 @@ use Rattle.rules_report.specs.declared.Report.{Report}
 use Rattle.rules_report.specs.declared.Counted.{Counted}
 use Rattle.rules_report.specs.Report.{Limits}
 use Rattle.rules_report.specs.Shares.{FullRows, OneMore}
-use Rattle.rules_damage.specs.Plain.{Stands}
+use Rattle.rules_damage.specs.Plain.{FrameStands}
 use Rattle.rules_damage.proofs.ReadBack.{reading-spoiled, octets-spoiled, room-spoiled, least-spoiled}
 use Rattle.promises.specs.Calls.{ReadHard, good, refused, shown, Sent}
 use Rattle.promises.proofs.Back.{Known, shown-is}
@@ -32,7 +32,7 @@ use Rattle.promises_damage.specs.Promises.{SpoiledReadBack, SpoiledCount
 
 module _ (kind rate phase clock : ℕ) (payload : List ℕ) (w : Written) (chips : List ℕ)
     (s : Sent kind rate phase clock payload w chips) (l : ℕ) (d : LengthOf rate (length payload) l)
-    (rec tail : List ℕ) (stands : Stands kind rate (length payload) (take (w .chips) chips) rec) where
+    (rec tail : List ℕ) (stands : FrameStands kind rate (length payload) (take (w .chips) chips) rec) where
   abbrev k : Kind
   k = kindOf kind
 
@@ -52,10 +52,10 @@ module _ (kind rate phase clock : ℕ) (payload : List ℕ) (w : Written) (chips
   length-is = back.length-sent kind rate phase clock payload w chips s d
 
   -- in the words of the definitions
-  stands-sent : Stands kind (codeOf r) n sent rec
+  stands-sent : FrameStands kind (codeOf r) n sent rec
   stands-sent =
-      subst (λ (x : List ℕ). Stands kind (codeOf r) n x rec) (back.taken kind rate phase clock payload w chips s)
-      (subst (λ (c : ℕ). Stands kind c n (take (w .chips) chips) rec) (sym (pair .code-back)) stands)
+      subst (λ (x : List ℕ). FrameStands kind (codeOf r) n x rec) (back.taken kind rate phase clock payload w chips s)
+      (subst (λ (c : ℕ). FrameStands kind c n (take (w .chips) chips) rec) (sym (pair .code-back)) stands)
 
   abbrev least : Least
   least = leastOf (frameLeads k r n (hardRecording (rec ++ tail)))

@@ -1,10 +1,9 @@
 -- The front of what was written, spoiled within the limit, tells what is coming and is not missed by a search: it is
 -- read as the frame's front (`front-spoiled` of rules_damage), and any chips that are tell of it and are found
 -- (`tells`, `found-there` of promises). Assumes nothing.
-use mathlib.Core.Path.{_≡_, sym, ap, ap₂, _∙_, subst}
+use mathlib.Core.Path.{_≡_, sym, ap, _∙_, subst}
 use mathlib.Core.List.{List, _++_}
 use Prim.Native.Nat.{ℕ}
-use native.Mathlib.Omega.{arith}
 use lib.ListN.{length, take}
 use Rattle.rules_rates.specs.declared.Rate.{Rate}
 use Rattle.rules_rates.specs.Rates.{codeOf, rateOf}
@@ -14,7 +13,7 @@ use Rattle.rules_frame.specs.Frame.{kindOf, clockOf, frontChips}
 use Rattle.rules_calls.specs.declared.Written.{Written}
 use Rattle.rules_calls.specs.declared.Front.the-variants.{Fields}
 use Rattle.rules_reading.specs.Reading.{frontOf}
-use Rattle.rules_damage.specs.Plain.{Stands}
+use Rattle.rules_damage.specs.Plain.{FrameStands}
 use Rattle.rules_damage.proofs.ReadBack.{front-spoiled}
 use Rattle.promises.specs.Calls.{Sent}
 use Rattle.promises.proofs.Back.{Known}
@@ -25,7 +24,7 @@ use Rattle.promises_damage.specs.Promises.{SpoiledTold, SpoiledFound}
 
 module _ (kind rate phase clock : ℕ) (payload : List ℕ) (w : Written) (chips : List ℕ)
     (s : Sent kind rate phase clock payload w chips) (rec tail : List ℕ)
-    (stands : Stands kind rate 0 (take (s .sendable .front) chips) rec) where
+    (stands : FrameStands kind rate 0 (take (s .sendable .front) chips) rec) where
   abbrev k : Kind
   k = kindOf kind
 
@@ -42,11 +41,11 @@ module _ (kind rate phase clock : ℕ) (payload : List ℕ) (w : Written) (chips
   rec-long = stands .same-length ∙ begun-long kind rate phase clock payload w chips s tail
 
   -- in the words of the definitions
-  stands-front : Stands kind (codeOf r) 0 (take (frontChips k) sent) rec
+  stands-front : FrameStands kind (codeOf r) 0 (take (frontChips k) sent) rec
   stands-front =
-      subst (λ (x : List ℕ). Stands kind (codeOf r) 0 x rec)
+      subst (λ (x : List ℕ). FrameStands kind (codeOf r) 0 x rec)
       (begun-is kind rate phase clock payload w chips s tail ∙ ap (λ (m : ℕ). take m sent) (sym (pair .front-is)))
-      (subst (λ (c : ℕ). Stands kind c 0 (take (s .sendable .front) chips) rec) (sym (pair .code-back)) stands)
+      (subst (λ (c : ℕ). FrameStands kind c 0 (take (s .sendable .front) chips) rec) (sym (pair .code-back)) stands)
 
   told-is : frontOf k (hardRecording (rec ++ tail)) ≡ Fields (sentTold kind rate phase clock payload w chips s)
   told-is =

@@ -21,7 +21,7 @@ use Rattle.rules_damage.specs.Plain.{
   WrongAt,
   LostAt,
   HowMany,
-  Keeps,
+  KeepsLimit,
   SpoiledBy,
 }
 use Rattle.rules_damage.proofs.OneSymbol.{limitOf}
@@ -105,7 +105,7 @@ module _ (kind rate front octet n : ℕ) (goes : Goes kind rate front octet) whe
     )
 
   damaged : (each chips limit : ℕ) → PayloadSymbols rate each chips limit → (sent : List ℕ) → Below 4 sent
-      → length sent ≡ front + octet * n → (w t w′ t′ : ℕ) → Keeps 10 w t → Keeps limit w′ t′
+      → length sent ≡ front + octet * n → (w t w′ t′ : ℕ) → KeepsLimit 10 w t → KeepsLimit limit w′ t′
       → SpoiledBy kind rate n sent w t w′ t′
   damaged each chips limit u sent phases long w t w′ t′ few few′ =
       let e = one-payload rate each chips limit (octetSymbols r) (symbolChips r) (limitOf r) u
@@ -113,7 +113,7 @@ module _ (kind rate front octet n : ℕ) (goes : Goes kind rate front octet) whe
       (payload-table r)) in
       subst (λ (c : ℕ). SpoiledBy kind c n sent w t w′ t′) (pair .code-back)
       (any.any-damage kind (pair .kind-is) r n sent phases (long ∙ sym chips-are) w t w′ t′ few
-      (subst (λ (x : ℕ). Keeps x w′ t′) (e .2) few′))
+      (subst (λ (x : ℕ). KeepsLimit x w′ t′) (e .2) few′))
 
 pub in-one-symbol : InOneSymbol
 in-one-symbol kind rate front octet n i goes = (

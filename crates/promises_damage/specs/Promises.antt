@@ -1,6 +1,6 @@
 -- What is promised of frames that were written and whose chips were spoiled (RULES 3.10, 6.28): a wrong chip is another
--- phase, a lost one a 4, and every symbol keeps its limit (`Stands` of rules_damage, in plain numbers). Statements about
--- a read, the front alone, a search and a report speak of answers that the contracts of the calls allow (`Wrote`,
+-- phase, a lost one a 4, and every symbol keeps its limit (`FrameStands` of rules_damage, in plain numbers). Statements
+-- about a read, the front alone, a search and a report speak of answers that the contracts of the calls allow (`Wrote`,
 -- `ReadHard`, `ReadFront`, `Finds`, `Adds`), so they are about the programs; those about symbols and rows, of the
 -- definitions. Definitions only. Assumes nothing.
 use Prim.Native.Nat.{ℕ, suc, _+_, _-_, _*_, _≤_, _<_}
@@ -37,10 +37,10 @@ use Rattle.rules_damage.specs.Plain.{
   WrongAt,
   LostAt,
   HowMany,
-  Keeps,
+  KeepsLimit,
   SymbolSpoiled,
   PastLimit,
-  Stands,
+  FrameStands,
   SpoiledBy,
 }
 use Rattle.promises.specs.Calls.{ReadHard, ReadFront, Handed, Finds, good, refused, shown, Goes, Sent}
@@ -55,12 +55,12 @@ use Rattle.promises_report.specs.Calls.{Adds}
 -- and the lead is at least one full chip; with less room 17 with LENGTH
 -- rule: 6.28, 3.10
 -- code: dsss_write_2, dsss_read_hard_3
--- with: Stands, SymbolAt, HowMany, Keeps
+-- with: FrameStands, SymbolAt, HowMany, KeepsLimit
 abbrev pub SpoiledReadBack : Type 0
 SpoiledReadBack =
     (kind rate phase clock : ℕ) (payload : List ℕ) (w : Written) (chips : List ℕ)
     → Sent kind rate phase clock payload w chips → (l : ℕ) → LengthOf rate (length payload) l
-    → (rec tail : List ℕ) → Stands kind rate (length payload) (take (w .chips) chips) rec
+    → (rec tail : List ℕ) → FrameStands kind rate (length payload) (take (w .chips) chips) rec
     → (room : ℕ) (a : Record) (left : List ℕ) → ReadHard kind (rec ++ tail) room a left
     → (length payload ≤ room
     → (a ≡ good rate l (length payload) (w .chips) (shown clock) (a .lead) (a .symbol))
@@ -76,7 +76,7 @@ abbrev pub SpoiledTold : Type 0
 SpoiledTold =
     (kind rate phase clock : ℕ) (payload : List ℕ) (w : Written) (chips : List ℕ)
     (s : Sent kind rate phase clock payload w chips) (l : ℕ) → LengthOf rate (length payload) l
-    → (rec tail : List ℕ) → Stands kind rate 0 (take (s .sendable .front) chips) rec
+    → (rec tail : List ℕ) → FrameStands kind rate 0 (take (s .sendable .front) chips) rec
     → (c : Coming) → ReadFront kind (rec ++ tail) c
     → (s .sendable .octet * length payload ≤ length tail
     → (c
@@ -93,7 +93,7 @@ abbrev pub SpoiledFound : Type 0
 SpoiledFound =
     (kind rate phase clock : ℕ) (payload : List ℕ) (w : Written) (chips : List ℕ)
     (s : Sent kind rate phase clock payload w chips) (l : ℕ) → LengthOf rate (length payload) l
-    → (rec tail : List ℕ) → Stands kind rate 0 (take (s .sendable .front) chips) rec
+    → (rec tail : List ℕ) → FrameStands kind rate 0 (take (s .sendable .front) chips) rec
     → (before : List ℕ) (offsets : ℕ) (f : Found) → length before < offsets → offsets ≤ 4096
     → Finds kind offsets (before ++ (rec ++ tail)) f
     → (f .number ≡ 0) × (f .offset ≤ length before)
@@ -115,7 +115,7 @@ abbrev pub SpoiledCounted : Type 0
 SpoiledCounted =
     (kind rate phase clock : ℕ) (payload : List ℕ) (w : Written) (chips : List ℕ)
     → Sent kind rate phase clock payload w chips → (l : ℕ) → LengthOf rate (length payload) l
-    → (rec tail : List ℕ) → Stands kind rate (length payload) (take (w .chips) chips) rec
+    → (rec tail : List ℕ) → FrameStands kind rate (length payload) (take (w .chips) chips) rec
     → (p : Report) (c : Counted) → Limits p → FullRows p → Adds p kind (rec ++ tail) c
     → (c .number ≡ 0) × CountsAs p kind rate l (length payload) (w .chips) (shown clock) (c .report)
 
@@ -129,12 +129,12 @@ SpoiledCounted =
 abbrev pub SymbolStands : Type 0
 SymbolStands =
     (rate n : ℕ) (rec : List ℕ) (limit wrong lost : ℕ) → n < numbers (rateOf rate) → T (isAllowed (rateOf rate) n)
-    → SymbolSpoiled rate n rec limit wrong lost → Keeps limit wrong lost
+    → SymbolSpoiled rate n rec limit wrong lost → KeepsLimit limit wrong lost
     → (decided (rateOf rate) (map takenCounts (hardRecording rec)) ≡ n)
     × (1024 ≤ leadOf (rateOf rate) (map takenCounts (hardRecording rec)))
 
--- promise: No limit can be raised: symbols one past them are decided as another word, at 11 Mbit/s with four chips lost,
--- at 5.5 Mbit/s with four lost or two wrong, at 1 and 2 Mbit/s with eleven lost or five wrong and one lost
+-- promise: No limit can be raised: symbols one past them are decided as another word, at 11 Mbit/s with four chips
+-- lost, at 5.5 Mbit/s with four lost or two wrong, at 1 and 2 Mbit/s with eleven lost or five wrong and one lost
 -- rule: 3.10
 -- code: dsss_read_hard_3
 -- with: PastLimit
@@ -183,15 +183,15 @@ DamageRow =
     × HowMany (LostAt rec) at chips (getD (frameDamage (kindOf kind) (rateOf rate) n sent rec) (suc (2 * s)) 0))
 
 -- promise: All damage that the limits allow does come: for any phases as long as a frame, and any two pairs of numbers
--- that keep the limits, there is a recording in which each symbol of the front has just the first pair of wrong and lost
--- chips, and each symbol of the payload the second
+-- that keep the limits, there is a recording in which each symbol of the front has just the first pair of wrong and
+-- lost chips, and each symbol of the payload the second
 -- rule: 3.10
 -- with: SpoiledBy
 abbrev pub AnyDamage : Type 0
 AnyDamage =
     (kind rate front octet n each chips limit : ℕ) → Goes kind rate front octet
     → PayloadSymbols rate each chips limit → (sent : List ℕ) → Below 4 sent → length sent ≡ front + octet * n
-    → (wrong lost wrong′ lost′ : ℕ) → Keeps 10 wrong lost → Keeps limit wrong′ lost′
+    → (wrong lost wrong′ lost′ : ℕ) → KeepsLimit 10 wrong lost → KeepsLimit limit wrong′ lost′
     → SpoiledBy kind rate n sent wrong lost wrong′ lost′
 
 -- ---- all of it

@@ -1,1 +1,1 @@
-// No code: what is promised of frames whose chips were spoiled. In specs/ the statements, in proofs/ that they are kept.
+// No code: what is promised of frames whose chips were spoiled, in specs/ the statements and in proofs/ their proofs.

@@ -1,6 +1,6 @@
 -- Readings of a clean frame with the header that is sent: good with room, 17 without, 16 where it is cut in the payload
--- and 8 where it is cut in the front, whatever follows a whole one. A whole one is decided as it was sent (`clean-sent`),
--- and read back as any recording that is (`ReadBack`). Assumes nothing.
+-- and 8 where it is cut in the front, whatever follows a whole one. A whole one is decided as it was sent
+-- (`clean-sent`), and read back as any recording that is (`ReadBack`). Assumes nothing.
 use mathlib.Core.Path.{_≡_, sym, ap, _∙_}
 use mathlib.Core.Bool.{Bool, true}
 use mathlib.Core.List.{List, _++_, [], _∷_, append-nil}

@@ -39,7 +39,7 @@ use Rattle.rules_clean.proofs.Decided.{
   decided-words,
   decided-leads,
 }
-use Rattle.rules_clean.proofs.FrameWords.{FrontAsSent, AsSent}
+use Rattle.rules_clean.proofs.FrameWords.{AsSent}
 use Rattle.rules_clean.proofs.FrameWords as words
 use Rattle.rules_clean.proofs.Leads.{clean-least}
 

@@ -1,7 +1,7 @@
 -- The words that a frame with any 48 header bits is sent as, part by part, and their chips; and what it is for a
 -- recording, whatever recorded it, to be decided as they were sent (`AsSent`). All laws of reading back speak of such
 -- a recording: a clean frame is one, and so is a spoiled one that stands its damage. Assumes nothing.
-use mathlib.Core.Path.{_≡_, refl, sym, ap, _∙_, subst}
+use mathlib.Core.Path.{_≡_, sym, ap, _∙_, subst}
 use mathlib.Core.List.{List, [], _∷_, _++_}
 use mathlib.Core.Option.{none}
 use Prim.Native.Nat.{ℕ, _+_, _-_, _*_, _/_, _≤_}

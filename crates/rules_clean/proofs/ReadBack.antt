@@ -1,5 +1,5 @@
--- Readings of a recording that is decided as a frame with the header that is sent was sent (`AsSent`), whatever recorded
--- it: good with room, 17 without. Assumes nothing.
+-- Readings of a recording that is decided as a frame was sent (`AsSent`), with the header that is sent, whatever
+-- recorded it: good with room, 17 without. Assumes nothing.
 use mathlib.Core.Path.{_≡_, ap, _∙_}
 use mathlib.Core.Bool.{Bool, true}
 use mathlib.Core.List.{List, _++_}

@@ -1,4 +1,4 @@
--- A recording that is decided as a whole frame with any 48 header bits was sent (`AsSent`) is read back: SFD, header and
+-- A recording that is decided as a frame with any 48 header bits was sent (`AsSent`) is read back: SFD, header and
 -- payload. The sent bits are cut into the three parts; all but the first are heard (`Listened`), and unscrambling
 -- forgets the first after eight bits. Assumes nothing.
 use mathlib.Core.Path.{_≡_, refl, sym, ap, ap₂, _∙_}

@@ -1,8 +1,8 @@
--- All that the limits allow does come: for any chips that are phases, and any two pairs of numbers that keep the limits,
--- there is a recording in which each symbol of the front has just the first pair of wrong and lost chips, and each
--- symbol of the payload the second (`any-damage`). The first chips of a symbol are turned by a quarter, the next ones
--- are lost. Assumes nothing.
-use mathlib.Core.Path.{_≡_, refl, sym, ap, _∙_, subst}
+-- All that the limits allow does come: for any chips that are phases, and any two pairs of numbers that keep the
+-- limits, there is a recording in which each symbol of the front has just the first pair of wrong and lost chips, and
+-- each symbol of the payload the second (`any-damage`). The first chips of a symbol are turned by a quarter, the next
+-- ones are lost. Assumes nothing.
+use mathlib.Core.Path.{_≡_, sym, ap, _∙_, subst}
 use mathlib.Core.Bool.{true, cond}
 use mathlib.Core.List.{List}
 use Prim.Native.Nat.{ℕ, zero, suc, _+_, _-_, _*_, _%_, _≤_, _<_}
@@ -21,16 +21,14 @@ use Rattle.rules_rates.specs.Rates.{codeOf, symbolChips, octetSymbols}
 use Rattle.rules_frame.specs.declared.Kind.{Kind}
 use Rattle.rules_frame.specs.Frame.{isKind, kindOf, frontChips, frontSymbols, frameChips}
 use Rattle.rules_damage.specs.Plain.{
-  FrontSymbols,
-  SymbolAt,
   WrongAt,
   LostAt,
   HowMany,
   no-place,
   such,
   other,
-  Keeps,
-  Stands,
+  KeepsLimit,
+  FrameStands,
   SpoiledBy,
 }
 use Rattle.rules_damage.proofs.OneSymbol.{limitOf}
@@ -140,15 +138,15 @@ in-symbol Two j i l = omega arith
 in-symbol Five j i l = omega arith
 in-symbol Eleven j i l = omega arith
 
-room-for : (r : Rate) (w t : ℕ) → Keeps (limitOf r) w t → w + t ≤ symbolChips r
+room-for : (r : Rate) (w t : ℕ) → KeepsLimit (limitOf r) w t → w + t ≤ symbolChips r
 room-for One w t h = omega (arith, h)
 room-for Two w t h = omega (arith, h)
 room-for Five w t h = omega (arith, h)
 room-for Eleven w t h = omega (arith, h)
 
 module _ (kind : ℕ) (is-kind : isKind kind ≡ true) (r : Rate) (n : ℕ) (sent : List ℕ) (phases : Below 4 sent)
-    (long : length sent ≡ frameChips (kindOf kind) r n) (w t w′ t′ : ℕ) (keeps : Keeps 10 w t)
-    (keeps′ : Keeps (limitOf r) w′ t′) where
+    (long : length sent ≡ frameChips (kindOf kind) r n) (w t w′ t′ : ℕ) (keeps : KeepsLimit 10 w t)
+    (keeps′ : KeepsLimit (limitOf r) w′ t′) where
   abbrev k : Kind
   k = kindOf kind
 
@@ -224,18 +222,20 @@ module _ (kind : ℕ) (is-kind : isKind kind ≡ true) (r : Rate) (n : ℕ) (sen
       by i (no g) =
           rw (List·getD-eq-default so 0 {n = i} (omega (arith, g, length-tabulate rule (length sent)))) (omega arith)
 
-  held : {at chips limit x y x′ y′ : ℕ} → Counts at chips x y → Keeps limit x y
-      → HowMany (WrongAt sent so) at chips x′ → HowMany (LostAt so) at chips y′ → Keeps limit x′ y′
+  held : {at chips limit x y x′ y′ : ℕ} → Counts at chips x y → KeepsLimit limit x y
+      → HowMany (WrongAt sent so) at chips x′ → HowMany (LostAt so) at chips y′ → KeepsLimit limit x′ y′
   held {at} {chips} {limit} {x} {y} {x′} {y′} h few mw ml =
-      subst (λ (j : ℕ). Keeps limit j y′) (many-once (h .0) mw) (subst (Keeps limit x) (many-once (h .1) ml) few)
+      subst (λ (j : ℕ). KeepsLimit limit j y′) (many-once (h .0) mw)
+      (subst (KeepsLimit limit x) (many-once (h .1) ml) few)
 
-  so-stands : Stands kind (codeOf r) n sent so
+  so-stands : FrameStands kind (codeOf r) n sent so
   so-stands = record {
     same-length = length-tabulate rule (length sent);
     usable = usable;
     each = λ s at chips limit x y is mw ml.
         by-part kind is-kind r n
-        (λ s at chips limit. HowMany (WrongAt sent so) at chips x → HowMany (LostAt so) at chips y → Keeps limit x y)
+        (λ s at chips limit. HowMany (WrongAt sent so) at chips x → HowMany (LostAt so) at chips y
+        → KeepsLimit limit x y)
         (λ s l. held (front-counts s l) keeps)
         (λ j l. held (payload-counts j (payload-there j l)) keeps′) s at chips limit is mw ml;
   }

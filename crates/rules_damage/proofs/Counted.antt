@@ -1,5 +1,5 @@
--- Wrong and lost chips, counted by the definitions (`wrong`, `lost`, `damage`, `frameDamage`), are how many there are in
--- plain numbers (`HowMany`).
+-- Wrong and lost chips, counted by the definitions (`wrong`, `lost`, `damage`), are how many there are in plain numbers
+-- (`HowMany`).
 --     many-once                              there is one number of places
 --     wrong-many, lost-many                  of a stretch of chips
 --     wrong-all, lost-all                    of whole rows
@@ -7,13 +7,13 @@
 -- By induction over the places. Assumes nothing.
 use mathlib.Core.Path.{_≡_, refl, sym, ap, ap₂, _∙_, subst}
 use mathlib.Core.Bool.{Bool, true, false, not, cond, _&&_}
-use mathlib.Core.List.{List, [], _∷_}
+use mathlib.Core.List.{List}
 use Prim.Native.Nat.{ℕ, zero, suc, _+_, _*_, _≤_, _<_}
 use native.Mathlib.Nat.{zero-add, le-of-suc-le-suc, not-suc-le-zero}
 use native.Mathlib.Decide.{decLt, ℕ-discrete}
 use native.Mathlib.Omega.{arith}
 use borrow.Author.Tests.{eq-eqb, ne-eqb, lt-ltb, le-ltb}
-use lib.Dec.{eqb, ltb}
+use lib.Dec.{ltb}
 use lib.ListN.{length, getD, take, drop}
 use lib.Seq.{drop-cons, take-all}
 use Rattle.rules_damage.specs.Damage.{isWrong, isLost, wrong, lost, damage}
@@ -109,7 +109,8 @@ wrong-all c sent rec es er =
 
 pub lost-all : (c : ℕ) (rec : List ℕ) → length rec ≡ c → HowMany (LostAt rec) 0 c (lost rec)
 lost-all c rec e =
-    subst (HowMany (LostAt rec) 0 c) (ap lost (take-all c rec (omega (arith, e)))) (lost-many c 0 rec (omega (arith, e)))
+    subst (HowMany (LostAt rec) 0 c) (ap lost (take-all c rec (omega (arith, e))))
+    (lost-many c 0 rec (omega (arith, e)))
 
 -- ---- a row of m symbols
 pub damage-length : (c m : ℕ) (sent rec : List ℕ) → length (damage c m sent rec) ≡ 2 * m

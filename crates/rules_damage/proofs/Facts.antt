@@ -2,7 +2,7 @@
 -- 3.10). Computed. Assumes nothing.
 use mathlib.Core.Path.{_≡_, refl}
 use mathlib.Core.List.{List, [], _∷_, _++_, map}
-use Prim.Native.Nat.{ℕ, suc, _+_, _*_, _<_}
+use Prim.Native.Nat.{ℕ, suc, _+_, _*_, _≤_, _<_}
 use native.Mathlib.Decide.{decLt}
 use native.Mathlib.Omega.{arith}
 use lib.Dec.{T, leb, ltb, leb→le, ltb→lt, lit≤, lit<}
@@ -16,7 +16,19 @@ use Rattle.rules_symbols.specs.Words.{barkerWord, cckWord, wordOf}
 use Rattle.rules_symbols.specs.Choice.{score, those, going, firstLargest, decided}
 use Rattle.rules_frame.specs.declared.Kind.the-variants.{Long}
 use Rattle.rules_damage.specs.Damage.{wrong, lost, damage, frameDamage}
-use Rattle.rules_damage.specs.Plain.{PayloadSymbols, at-10, at-20, at-55, at-110, Keeps, PastLimit}
+use Rattle.rules_damage.specs.Plain.{
+  PayloadSymbols,
+  at-10,
+  at-20,
+  at-55,
+  at-110,
+  SymbolAt,
+  in-front,
+  in-payload,
+  KeepsLimit,
+  PastLimit,
+  FrameStands,
+}
 use Rattle.rules_damage.proofs.SymbolStands.{symbol-spoiled}
 
 -- nothing; wrong by each turn, and lost; an octet above 4 is neither
@@ -43,11 +55,12 @@ pub whole-row :
 unfolding wrong lost damage frameDamage
 whole-row = refl
 
--- three lost chips, or one wrong and one lost, keep a limit of 3, and ten lost or five wrong one of 10; one more does not
-pub keep : Keeps 3 0 3 × Keeps 3 1 1 × Keeps 10 0 10 × Keeps 10 5 0 × Keeps 10 4 2
+-- three lost chips, or one wrong and one lost, keep a limit of 3, ten lost or five wrong one of 10; one more does not
+pub keep : KeepsLimit 3 0 3 × KeepsLimit 3 1 1 × KeepsLimit 10 0 10 × KeepsLimit 10 5 0 × KeepsLimit 10 4 2
 keep = (lit≤ tt, lit≤ tt, lit≤ tt, lit≤ tt, lit≤ tt)
 
-pub keep-not : (Keeps 3 0 4 → ⊥) × (Keeps 3 1 2 → ⊥) × (Keeps 3 2 0 → ⊥) × (Keeps 10 0 11 → ⊥) × (Keeps 10 5 1 → ⊥)
+pub keep-not : (KeepsLimit 3 0 4 → ⊥) × (KeepsLimit 3 1 2 → ⊥) × (KeepsLimit 3 2 0 → ⊥) × (KeepsLimit 10 0 11 → ⊥)
+    × (KeepsLimit 10 5 1 → ⊥)
 keep-not = (
   (λ h. omega (arith, h)),
   (λ h. omega (arith, h)),
@@ -56,6 +69,37 @@ keep-not = (
   λ h.
       omega (arith, h),
 )
+
+-- the limits of the table: ten lost chips keep a Barker symbol's, eleven do not; three keep a CCK symbol's, four do not
+abbrev KeepsJust : ℕ → ℕ → Type 0
+KeepsJust limit most = KeepsLimit limit 0 most × (KeepsLimit limit 0 (suc most) → ⊥)
+
+pub table-limits : ((each chips limit : ℕ) → PayloadSymbols 10 each chips limit → KeepsJust limit 10)
+    × ((each chips limit : ℕ) → PayloadSymbols 20 each chips limit → KeepsJust limit 10)
+    × ((each chips limit : ℕ) → PayloadSymbols 55 each chips limit → KeepsJust limit 3)
+    × ((each chips limit : ℕ) → PayloadSymbols 110 each chips limit → KeepsJust limit 3)
+table-limits = (one, two, five, eleven)
+  where
+    one : (each chips limit : ℕ) → PayloadSymbols 10 each chips limit → KeepsJust limit 10
+    one _ _ _ at-10 = (lit≤ tt, λ h. omega (arith, h))
+
+    two : (each chips limit : ℕ) → PayloadSymbols 20 each chips limit → KeepsJust limit 10
+    two _ _ _ at-20 = (lit≤ tt, λ h. omega (arith, h))
+
+    five : (each chips limit : ℕ) → PayloadSymbols 55 each chips limit → KeepsJust limit 3
+    five _ _ _ at-55 = (lit≤ tt, λ h. omega (arith, h))
+
+    eleven : (each chips limit : ℕ) → PayloadSymbols 110 each chips limit → KeepsJust limit 3
+    eleven _ _ _ at-110 = (lit≤ tt, λ h. omega (arith, h))
+
+-- and of a front's symbols
+pub front-limits : (kind rate s at chips limit : ℕ) → SymbolAt kind rate 0 s at chips limit → KeepsJust limit 10
+front-limits kind rate _ _ _ _ (in-front f s t l) = (lit≤ tt, λ h. omega (arith, h))
+front-limits kind rate _ _ _ _ (in-payload f each chips limit j t u l) = absurd (omega (arith, l))
+
+-- an octet above 4 is none that a frame stands, whatever its place
+pub no-five : (kind rate n : ℕ) (sent rec : List ℕ) → FrameStands kind rate n sent rec → (i : ℕ) → 5 ≤ getD rec i 0 → ⊥
+no-five kind rate n sent rec st i h = omega (arith, h, st .usable .at i)
 
 -- ---- the limits cannot be raised
 

@@ -40,7 +40,7 @@ use Rattle.rules_choosing.proofs.Differences.{
   cck-opposed,
 }
 use Rattle.rules_damage.specs.Damage.{isLost, isWrong, wrong, lost}
-use Rattle.rules_damage.specs.Plain.{PayloadSymbols, at-10, at-20, at-55, at-110, Keeps}
+use Rattle.rules_damage.specs.Plain.{KeepsLimit}
 
 -- ---- one chip, then a symbol
 
@@ -197,7 +197,8 @@ apart-all Eleven n w hn hw ne = cck-apart n w hn hw ne
 
 -- ---- the symbol
 module _ (r : Rate) (w : ℕ) (xs : List ℕ) (h : w < numbers r) (a : T (isAllowed r w))
-    (e : length xs ≡ symbolChips r) (b : Below 5 xs) (few : Keeps (limitOf r) (wrong (wordOf r w) xs) (lost xs)) where
+    (e : length xs ≡ symbolChips r) (b : Below 5 xs)
+    (few : KeepsLimit (limitOf r) (wrong (wordOf r w) xs) (lost xs)) where
   -- every other word is behind by a full chip
   pub behind : (n : ℕ) → n < numbers r → (n ≡ w → ⊥)
       → up (scoreAt r (counts xs) n) + dn (scoreAt r (counts xs) w) + 1024

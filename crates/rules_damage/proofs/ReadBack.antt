@@ -23,7 +23,7 @@ use Rattle.rules_reading.specs.Leads.{frameLeads, leastOf}
 use Rattle.rules_reading.specs.Reading.{frontOf, readingOf, octetsFound}
 use Rattle.rules_clean.proofs.FrameWords.{AsSent}
 use Rattle.rules_clean.proofs.ReadBack as back
-use Rattle.rules_damage.specs.Plain.{Stands}
+use Rattle.rules_damage.specs.Plain.{FrameStands}
 use Rattle.rules_damage.proofs.SpoiledSent.{spoiled-alone, spoiled-sent, spoiled-least}
 
 module _ (kind : ℕ) (r : Rate) (p : ℕ) (clock : Bool) (xs : List ℕ) (is-kind : isKind kind ≡ true) (l : p < 4)
@@ -44,7 +44,7 @@ module _ (kind : ℕ) (r : Rate) (p : ℕ) (clock : Bool) (xs : List ℕ) (is-ki
   recording = hardRecording rec ++ hardRecording tail
 
   -- ---- the front alone, whatever follows it
-  pub front-spoiled : Stands kind (codeOf r) 0 (take (frontChips k) sent) rec
+  pub front-spoiled : FrameStands kind (codeOf r) 0 (take (frontChips k) sent) rec
       → frontOf k (hardRecording (rec ++ tail)) ≡ front.Fields t
   unfolding frame
   front-spoiled st =
@@ -53,7 +53,7 @@ module _ (kind : ℕ) (r : Rate) (p : ℕ) (clock : Bool) (xs : List ℕ) (is-ki
       (spoiled-alone kind is-kind r p (sentHeader r clock n) xs (sent-length r clock n) rec (hardRecording tail) st)
 
   -- ---- the whole frame
-  module _ (st : Stands kind (codeOf r) n sent rec) where
+  module _ (st : FrameStands kind (codeOf r) n sent rec) where
     as-sent : AsSent k r p (sentHeader r clock n) xs recording
     unfolding frame
     as-sent =

@@ -29,7 +29,7 @@ use Rattle.rules_bits.proofs.Sent.{Allowed, none, more}
 use Rattle.rules_reading.specs.Reading.{firstUnusable, decidedWords}
 use Rattle.rules_reading.specs.Leads.{decidedLeads}
 use Rattle.rules_damage.specs.Damage.{wrong, lost}
-use Rattle.rules_damage.specs.Plain.{Keeps}
+use Rattle.rules_damage.specs.Plain.{KeepsLimit}
 use Rattle.rules_damage.proofs.OneSymbol.{counts, limitOf, decided-spoiled, lead-spoiled}
 
 -- ---- symbol j of a row
@@ -56,7 +56,7 @@ module _ (c : ℕ) where
 -- each of m symbols keeps within a limit
 abbrev pub SymbolsKeep : ℕ → ℕ → ℕ → List ℕ → List ℕ → Type 0
 SymbolsKeep l c m sent rec =
-    (j : ℕ) → j < m → Keeps l (wrong (symbolOf c j sent) (symbolOf c j rec)) (lost (symbolOf c j rec))
+    (j : ℕ) → j < m → KeepsLimit l (wrong (symbolOf c j sent) (symbolOf c j rec)) (lost (symbolOf c j rec))
 
 -- ---- no chip is unusable
 pub none-unusable : (at m : ℕ) (rec : List ℕ) (rest : List Taken) → Below 5 rec → m ≤ length rec
@@ -106,20 +106,20 @@ module _ (r : Rate) (n : ℕ) (ns after rec : List ℕ) (rest : List Taken) (b :
       ∙ ap (λ (t : List Taken). t ++ rest) (drop-hard c rec)
 
   module _ (h : SymbolsKeep (limitOf r) c (suc (length ns)) sent rec) where
-    first-keeps : Keeps (limitOf r) (wrong (wordOf r n) (take c rec)) (lost (take c rec))
+    first-keeps : KeepsLimit (limitOf r) (wrong (wordOf r n) (take c rec)) (lost (take c rec))
     first-keeps =
-        subst (λ (w : List ℕ). Keeps (limitOf r) (wrong w (take c rec)) (lost (take c rec)))
+        subst (λ (w : List ℕ). KeepsLimit (limitOf r) (wrong w (take c rec)) (lost (take c rec)))
         (symbol-first c sent ∙ first-sent)
-        (subst (λ (x : List ℕ). Keeps (limitOf r) (wrong (symbolOf c 0 sent) x) (lost x)) (symbol-first c rec)
+        (subst (λ (x : List ℕ). KeepsLimit (limitOf r) (wrong (symbolOf c 0 sent) x) (lost x)) (symbol-first c rec)
         (h 0 (omega arith)))
 
     later-keep : SymbolsKeep (limitOf r) c (length ns) (wordsChips r ns ++ after) (drop c rec)
     later-keep j l =
-        subst (λ (s : List ℕ). Keeps (limitOf r) (wrong (symbolOf c j s) (symbolOf c j (drop c rec)))
+        subst (λ (s : List ℕ). KeepsLimit (limitOf r) (wrong (symbolOf c j s) (symbolOf c j (drop c rec)))
         (lost (symbolOf c j (drop c rec)))) later-sent
-        (subst (λ (s : List ℕ). Keeps (limitOf r) (wrong s (symbolOf c j (drop c rec)))
+        (subst (λ (s : List ℕ). KeepsLimit (limitOf r) (wrong s (symbolOf c j (drop c rec)))
         (lost (symbolOf c j (drop c rec)))) (sym (symbol-next c j sent))
-        (subst (λ (x : List ℕ). Keeps (limitOf r) (wrong (symbolOf c (suc j) sent) x) (lost x))
+        (subst (λ (x : List ℕ). KeepsLimit (limitOf r) (wrong (symbolOf c (suc j) sent) x) (lost x))
         (sym (symbol-next c j rec)) (h (suc j) (omega arith))))
 
     module _ (l : n < numbers r) (a : isAllowed r n ≡ true) where

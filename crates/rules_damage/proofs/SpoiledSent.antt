@@ -13,7 +13,7 @@ use Rattle.base.specs.Below.{Below}
 use Rattle.base.proofs.Below.{below-drop}
 use Rattle.rules_rates.specs.declared.Rate.{Rate}
 use Rattle.rules_rates.specs.declared.Rate.the-variants.{One}
-use Rattle.rules_rates.specs.Rates.{codeOf, symbolChips, symbolBits, octetSymbols, octetChips}
+use Rattle.rules_rates.specs.Rates.{codeOf, symbolChips, symbolBits, octetSymbols}
 use Rattle.rules_rates.proofs.Octets.{part-symbols, part-chips}
 use Rattle.rules_chips.specs.Chips.{Taken, hardRecording}
 use Rattle.rules_chips.proofs.Recorders.{length-hard, drop-hard}
@@ -43,7 +43,7 @@ use Rattle.rules_clean.proofs.FrameWords.{FrontAsSent, AsSent}
 use Rattle.rules_clean.proofs.FrameWords as words
 use Rattle.rules_clean.proofs.CleanSent.{front-parts}
 use Rattle.rules_damage.specs.Damage.{wrong, lost}
-use Rattle.rules_damage.specs.Plain.{SymbolAt, Keeps, Stands}
+use Rattle.rules_damage.specs.Plain.{SymbolAt, KeepsLimit, FrameStands}
 use Rattle.rules_damage.proofs.OneSymbol.{limitOf}
 use Rattle.rules_damage.proofs.Row.{
   symbolOf,
@@ -96,9 +96,10 @@ begins r ns after sent rec rest m al e b long es h =
         (subst (λ (s : List ℕ). SymbolsKeep (limitOf r) (symbolChips r) m s rec) es h)
 
 -- ---- what each symbol of a frame that stands keeps
-module _ (kind rate n : ℕ) (sent rec : List ℕ) (st : Stands kind rate n sent rec) where
+module _ (kind rate n : ℕ) (sent rec : List ℕ) (st : FrameStands kind rate n sent rec) where
   keeps-at : (s at chips limit : ℕ) → SymbolAt kind rate n s at chips limit → at + chips ≤ length rec
-      → Keeps limit (wrong (take chips (drop at sent)) (take chips (drop at rec))) (lost (take chips (drop at rec)))
+      → KeepsLimit limit (wrong (take chips (drop at sent)) (take chips (drop at rec)))
+      (lost (take chips (drop at rec)))
   keeps-at s at chips limit x h =
       st .each s at chips limit _ _ x (wrong-many chips at sent rec (omega (arith, st .same-length)) h)
       (lost-many chips at rec h)
@@ -142,7 +143,7 @@ module _ (kind : ℕ) (is-kind : isKind kind ≡ true) (r : Rate) (p : ℕ) (hea
   -- ---- the front of what was sent, with anything after it, as so many octets
   module _ (after sent rec : List ℕ) (rest : List Taken) (m : ℕ)
       (sent-is : sent ≡ wordsChips One words1 ++ (wordsChips rate words2 ++ after))
-      (st : Stands kind (codeOf r) m sent rec) (there : frontChips k ≤ length rec) where
+      (st : FrameStands kind (codeOf r) m sent rec) (there : frontChips k ≤ length rec) where
     abbrev recording : List Taken
     recording = hardRecording rec ++ rest
 
@@ -159,11 +160,11 @@ module _ (kind : ℕ) (is-kind : isKind kind ≡ true) (r : Rate) (p : ℕ) (hea
 
     header-keep : SymbolsKeep 10 11 (headerSymbols k) (drop (preambleChips k) sent) (drop (preambleChips k) rec)
     header-keep j l =
-        subst (λ (i : ℕ). Keeps 10 (wrong (symbolOf 11 j (drop i sent)) (symbolOf 11 j (drop i rec)))
+        subst (λ (i : ℕ). KeepsLimit 10 (wrong (symbolOf 11 j (drop i sent)) (symbolOf 11 j (drop i rec)))
         (lost (symbolOf 11 j (drop i rec)))) (sym preamble-symbols)
-        (subst (λ (x : List ℕ). Keeps 10 (wrong x (symbolOf 11 j (drop (11 * preambleLength k) rec)))
+        (subst (λ (x : List ℕ). KeepsLimit 10 (wrong x (symbolOf 11 j (drop (11 * preambleLength k) rec)))
         (lost (symbolOf 11 j (drop (11 * preambleLength k) rec)))) (sym (symbol-from 11 (preambleLength k) j sent))
-        (subst (λ (x : List ℕ). Keeps 10 (wrong (symbolOf 11 (preambleLength k + j) sent) x) (lost x))
+        (subst (λ (x : List ℕ). KeepsLimit 10 (wrong (symbolOf 11 (preambleLength k + j) sent) x) (lost x))
         (sym (symbol-from 11 (preambleLength k) j rec))
         (front-keeps (preambleLength k + j) (omega (arith, front-symbols k, l)))))
 
@@ -209,7 +210,7 @@ module _ (kind : ℕ) (is-kind : isKind kind ≡ true) (r : Rate) (p : ℕ) (hea
   whole-is = words.words-are k r p header xs eh
 
   -- its front alone
-  module _ (rec : List ℕ) (rest : List Taken) (st : Stands kind (codeOf r) 0 (take (frontChips k) whole) rec) where
+  module _ (rec : List ℕ) (rest : List Taken) (st : FrameStands kind (codeOf r) 0 (take (frontChips k) whole) rec) where
     front-words : length (wordsChips One words1 ++ wordsChips rate words2) ≡ frontChips k
     front-words =
         length-append (wordsChips One words1) (wordsChips rate words2)
@@ -234,7 +235,7 @@ module _ (kind : ℕ) (is-kind : isKind kind ≡ true) (r : Rate) (p : ℕ) (hea
         long = length-take-le (frontChips k) whole (rw (framed-length k r p header xs eh) (omega arith))
 
   -- whole
-  module _ (rec : List ℕ) (rest : List Taken) (st : Stands kind (codeOf r) n whole rec) where
+  module _ (rec : List ℕ) (rest : List Taken) (st : FrameStands kind (codeOf r) n whole rec) where
     abbrev all : List Taken
     all = hardRecording rec ++ rest
 
@@ -258,9 +259,9 @@ module _ (kind : ℕ) (is-kind : isKind kind ≡ true) (r : Rate) (p : ℕ) (hea
     payload-keeps : SymbolsKeep (limitOf r) c (octetSymbols r * n) (drop (frontChips k) whole) (drop (frontChips k) rec)
     payload-keeps j l =
         let at = payload-symbol kind is-kind r n j l in
-        subst (λ (x : List ℕ). Keeps (limitOf r) (wrong x (symbolOf c j (drop (frontChips k) rec)))
+        subst (λ (x : List ℕ). KeepsLimit (limitOf r) (wrong x (symbolOf c j (drop (frontChips k) rec)))
         (lost (symbolOf c j (drop (frontChips k) rec)))) (sym (symbol-behind c (frontChips k) j whole))
-        (subst (λ (x : List ℕ). Keeps (limitOf r) (wrong (take c (drop (frontChips k + c * j) whole)) x) (lost x))
+        (subst (λ (x : List ℕ). KeepsLimit (limitOf r) (wrong (take c (drop (frontChips k + c * j) whole)) x) (lost x))
         (sym (symbol-behind c (frontChips k) j rec))
         (keeps-at kind (codeOf r) n whole rec st _ _ _ _ at
         (rw all-there (symbol-inside kind is-kind r n _ _ _ _ at))))

@@ -1,5 +1,5 @@
 -- A symbol that keeps its limit is decided as the word sent, with a lead of a full chip at least, in plain numbers
--- (`SymbolSpoiled`, `Keeps`); and what it takes to show that a symbol is spoiled so. Assumes nothing.
+-- (`SymbolSpoiled`, `KeepsLimit`); and what it takes to show that a symbol is spoiled so. Assumes nothing.
 use mathlib.Core.Path.{_≡_, refl, sym, _∙_, subst}
 use mathlib.Core.List.{List, map}
 use Prim.Native.Nat.{ℕ, _≤_, _<_}
@@ -18,7 +18,7 @@ use Rattle.rules_damage.specs.Plain.{
   at-20,
   at-55,
   at-110,
-  Keeps,
+  KeepsLimit,
   SymbolSpoiled,
 }
 use Rattle.rules_damage.proofs.OneSymbol.{limitOf, decided-spoiled, lead-spoiled}
@@ -45,13 +45,13 @@ symbol-spoiled rate n rec each chips limit u e b = record {
   chips = chips;
   symbol = u;
   all-there = e;
-  usable = b;
+  all-usable = b;
   wrong-are = wrong-all chips (wordOf (rateOf rate) n) rec (sent-chips rate n each chips limit u) e;
   lost-are = lost-all chips rec e;
 }
 
 module _ (rate n : ℕ) (rec : List ℕ) (limit w t : ℕ) (l : n < numbers (rateOf rate))
-    (a : T (isAllowed (rateOf rate) n)) (s : SymbolSpoiled rate n rec limit w t) (few : Keeps limit w t) where
+    (a : T (isAllowed (rateOf rate) n)) (s : SymbolSpoiled rate n rec limit w t) (few : KeepsLimit limit w t) where
   its : (symbolChips (rateOf rate) ≡ s .chips) × (limit ≡ limitOf (rateOf rate))
   its = its-symbol rate (s .each) (s .chips) limit (s .symbol)
 
@@ -67,15 +67,15 @@ module _ (rate n : ℕ) (rec : List ℕ) (limit w t : ℕ) (l : n < numbers (rat
   lost-is : t ≡ lost rec
   lost-is = many-once (s .lost-are) (lost-all (s .chips) rec (s .all-there))
 
-  keeps : Keeps (limitOf (rateOf rate)) (wrong (wordOf (rateOf rate) n) rec) (lost rec)
+  keeps : KeepsLimit (limitOf (rateOf rate)) (wrong (wordOf (rateOf rate) n) rec) (lost rec)
   keeps =
-      subst (λ (x : ℕ). Keeps x (wrong (wordOf (rateOf rate) n) rec) (lost rec)) (its .1)
-      (subst (λ (x : ℕ). Keeps limit x (lost rec)) wrong-is (subst (Keeps limit w) lost-is few))
+      subst (λ (x : ℕ). KeepsLimit x (wrong (wordOf (rateOf rate) n) rec) (lost rec)) (its .1)
+      (subst (λ (x : ℕ). KeepsLimit limit x (lost rec)) wrong-is (subst (KeepsLimit limit w) lost-is few))
 
   pub decided-sent : decided (rateOf rate) (map takenCounts (hardRecording rec)) ≡ n
   unfolding hardRecording
-  decided-sent = decided-spoiled (rateOf rate) n rec l a long (s .usable) keeps
+  decided-sent = decided-spoiled (rateOf rate) n rec l a long (s .all-usable) keeps
 
   pub lead-sent : 1024 ≤ leadOf (rateOf rate) (map takenCounts (hardRecording rec))
   unfolding hardRecording
-  lead-sent = lead-spoiled (rateOf rate) n rec l a long (s .usable) keeps
+  lead-sent = lead-spoiled (rateOf rate) n rec l a long (s .all-usable) keeps

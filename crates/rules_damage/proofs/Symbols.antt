@@ -20,7 +20,7 @@ use lib.Seq.{getD-append-add}
 use Rattle.base.specs.Below.{Below}
 use Rattle.rules_rates.specs.declared.Rate.{Rate}
 use Rattle.rules_rates.specs.declared.Rate.the-variants.{One, Two, Five, Eleven}
-use Rattle.rules_rates.specs.Rates.{codeOf, symbolChips, octetSymbols, octetChips}
+use Rattle.rules_rates.specs.Rates.{codeOf, symbolChips, octetSymbols}
 use Rattle.rules_rates.proofs.Octets.{part-chips}
 use Rattle.rules_frame.specs.declared.Kind.{Kind}
 use Rattle.rules_frame.specs.declared.Kind.the-variants.{Long, Short}
@@ -43,8 +43,8 @@ use Rattle.rules_damage.specs.Plain.{
   WrongAt,
   LostAt,
   HowMany,
-  Keeps,
-  Stands,
+  KeepsLimit,
+  FrameStands,
 }
 use Rattle.rules_damage.proofs.OneSymbol.{limitOf}
 use Rattle.rules_damage.proofs.Row.{symbol-behind}
@@ -276,13 +276,13 @@ module _ (kind : ℕ) (is-kind : isKind kind ≡ true) (r : Rate) (n : ℕ) wher
     -- ---- a frame whose row keeps every limit stands
     pub stands-by-row : length rec ≡ length sent → Below 5 rec
         → ((s at chips limit : ℕ) → SymbolAt kind (codeOf r) n s at chips limit
-        → Keeps limit (getD row (2 * s) 0) (getD row (suc (2 * s)) 0))
-        → Stands kind (codeOf r) n sent rec
+        → KeepsLimit limit (getD row (2 * s) 0) (getD row (suc (2 * s)) 0))
+        → FrameStands kind (codeOf r) n sent rec
     stands-by-row e b h = record {
       same-length = e;
       usable = b;
       each = λ s at chips limit w t x mw ml.
-          subst (λ (j : ℕ). Keeps limit j t) (many-once (wrong-counted s at chips limit x) mw)
-          (subst (Keeps limit (getD row (2 * s) 0)) (many-once (lost-counted s at chips limit x) ml)
+          subst (λ (j : ℕ). KeepsLimit limit j t) (many-once (wrong-counted s at chips limit x) mw)
+          (subst (KeepsLimit limit (getD row (2 * s) 0)) (many-once (lost-counted s at chips limit x) ml)
           (h s at chips limit x));
     }

@@ -2,7 +2,7 @@
 -- chips are wrong and how many lost, and the limit that each keeps. Promises speak of these; proofs/ joins them to
 -- Damage.antt.
 -- Definitions only. Assumes nothing.
-use Prim.Native.Nat.{ℕ, zero, suc, _+_, _*_, _≤_, _<_}
+use Prim.Native.Nat.{ℕ, suc, _+_, _*_, _≤_, _<_}
 use mathlib.Core.Path.{_≡_}
 use mathlib.Core.List.{List, map}
 use lib.ListN.{length, getD}
@@ -27,8 +27,8 @@ pub data PayloadSymbols : ℕ → ℕ → ℕ → ℕ → Type 0 where
   at-55 : PayloadSymbols 55 2 8 3
   at-110 : PayloadSymbols 110 1 8 3
 
--- of a frame of n octets: symbol s, counted from 0 at the frame's first, with the place of its first chip, its chips and
--- its limit. A front's symbols are Barker symbols. Of no octets, the front alone
+-- of a frame of n octets: symbol s, counted from 0 at the frame's first, with the place of its first chip, its chips
+-- and its limit. A front's symbols are Barker symbols. Of no octets, the front alone
 pub data SymbolAt (kind rate n : ℕ) : ℕ → ℕ → ℕ → ℕ → Type 0 where
   in-front : (f s : ℕ) → FrontSymbols kind f → s < f → SymbolAt kind rate n s (11 * s) 11 10
   in-payload : (f each chips limit j : ℕ) → FrontSymbols kind f → PayloadSymbols rate each chips limit → j < each * n
@@ -65,8 +65,8 @@ pub data HowMany (Such : ℕ → Type 0) : ℕ → ℕ → ℕ → Type 0 where
 -- ---- what a symbol and a frame stand
 
 -- twice the wrong chips and the lost ones are at most the limit
-abbrev pub Keeps : ℕ → ℕ → ℕ → Type 0
-Keeps limit wrong lost = 2 * wrong + lost ≤ limit
+abbrev pub KeepsLimit : ℕ → ℕ → ℕ → Type 0
+KeepsLimit limit wrong lost = 2 * wrong + lost ≤ limit
 
 -- a payload's symbol, sent as word n at a rate and recorded as phases and 4s: its limit, and how many of its chips are
 -- wrong and how many lost
@@ -75,30 +75,30 @@ pub record SymbolSpoiled (rate n : ℕ) (rec : List ℕ) (limit wrong lost : ℕ
   pub chips : ℕ
   pub symbol : PayloadSymbols rate each chips limit
   pub all-there : length rec ≡ chips
-  pub usable : Below 5 rec
+  pub all-usable : Below 5 rec
   pub wrong-are : HowMany (WrongAt (wordOf (rateOf rate) n) rec) 0 chips wrong
   pub lost-are : HowMany (LostAt rec) 0 chips lost
 
 -- one past its limit it is decided as another word
 pub record PastLimit (rate n : ℕ) (rec : List ℕ) (limit wrong lost other : ℕ) : Type 0 where
   pub spoiled : SymbolSpoiled rate n rec limit wrong lost
-  pub past : Keeps limit wrong lost → ⊥
-  pub just : Keeps (suc limit) wrong lost
+  pub past : KeepsLimit limit wrong lost → ⊥
+  pub just : KeepsLimit (suc limit) wrong lost
   pub decided-as : decided (rateOf rate) (map takenCounts (hardRecording rec)) ≡ other
   pub another : other ≡ n → ⊥
 
 -- every chip of a frame of n octets is recorded as a phase or as a 4, and every symbol keeps its limit
-pub record Stands (kind rate n : ℕ) (sent rec : List ℕ) : Type 0 where
+pub record FrameStands (kind rate n : ℕ) (sent rec : List ℕ) : Type 0 where
   pub same-length : length rec ≡ length sent
   pub usable : Below 5 rec
   pub each : (s at chips limit wrong lost : ℕ) → SymbolAt kind rate n s at chips limit
-      → HowMany (WrongAt sent rec) at chips wrong → HowMany (LostAt rec) at chips lost → Keeps limit wrong lost
+      → HowMany (WrongAt sent rec) at chips wrong → HowMany (LostAt rec) at chips lost → KeepsLimit limit wrong lost
 
 -- a recording of such a frame in which just so many chips of each symbol are wrong and lost: of those in the front, and
 -- of those in the payload
 pub record SpoiledBy (kind rate n : ℕ) (sent : List ℕ) (wrong lost wrong′ lost′ : ℕ) : Type 0 where
   pub rec : List ℕ
-  pub stands : Stands kind rate n sent rec
+  pub stands : FrameStands kind rate n sent rec
   pub in-the-front : (f s at chips limit : ℕ) → FrontSymbols kind f → SymbolAt kind rate n s at chips limit → s < f
       → HowMany (WrongAt sent rec) at chips wrong × HowMany (LostAt rec) at chips lost
   pub in-the-payload : (f s at chips limit : ℕ) → FrontSymbols kind f → SymbolAt kind rate n s at chips limit → f ≤ s
