@@ -300,7 +300,14 @@ dsss_written dsss_write(uint64_t kind, uint64_t rate, uint64_t phase, uint64_t c
  * Refused: the number; the place of a 9 or 10; LENGTH for 13 to 17 and for a 9 or 10 in the
  *          payload; all else 0, the clock bit, the lead and its symbol too.
  * Buffer:  octets[] is the payload and then 0s; refused, all 0s.
- * Proved:  crates/dsss, dsss_read_hard_3, record ReadHard: answer and octets. */
+ * Damage:  a chip is wrong if it was recorded as another phase than the one sent, lost if as
+ *          DSSS_CHIP_LOST. A frame of dsss_write is read as it was written, but for the lead and its symbol,
+ *          if in every symbol of 11 chips twice the wrong ones plus the lost ones is at most 10, and in every
+ *          symbol of 8 chips at most 3; the lead is then at least DSSS_FULL_CHIP. Symbols of the front, and
+ *          those of payloads at 1 and 2 Mbit/s, have 11 chips; at 5.5 and 11 Mbit/s they have 8. A lost chip
+ *          more in one symbol may give another payload with number 0.
+ * Proved:  crates/dsss, dsss_read_hard_3, record ReadHard: answer and octets; of spoiled frames
+ *          crates/promises_damage, SpoiledReadBack. */
 dsss_record dsss_read_hard(uint64_t kind, const uint8_t *chips, size_t chips_len, uint8_t *octets,
                            size_t octets_len);
 

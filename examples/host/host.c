@@ -5,15 +5,16 @@
  * from other recorders, with the clock bit, then spoiled, then cut short. Then the host does as it
  * does at the table: it asks what is coming, tells the fitter of it and of how the payload's chips came
  * through, sets aside just as many octets, and only then reads. Of each caption the fitter is told how
- * clearly its symbols were won, so that an aerial is moved before captions fail. In recordings that begin
- * anywhere it has the front found, and shows what a read from the offset found is worth. Of a recording that
- * is refused it says why, and what to do. At the end of the month it has a report of its recordings. The
- * settings of its radio it keeps in a store (settings.c), and writes a caption with those that it reads from
- * there. What comes from the air may be any octets, so it is shown escaped. A caption of an earlier exhibition
- * must never be seen again: before each read the octet buffer is full of one, and after it what is left of it
- * is counted. All memory is in the static rows below and in settings.c; those that are lent for writing stand
- * between guard octets, which must stay as they were. Its status is 1 if they do not, or if the settings cannot
- * be saved in a file or read from it. */
+ * clearly its symbols were won, so that an aerial is moved before captions fail; and captions come back with
+ * every symbol spoiled, as far as a frame is promised to stand it. In recordings that begin anywhere it has
+ * the front found, and shows what a read from the offset found is worth. Of a recording that is refused it
+ * says why, and what to do. At the end of the month it has a report of its recordings. The settings of its
+ * radio it keeps in a store (settings.c), and writes a caption with those that it reads from there. What
+ * comes from the air may be any octets, so it is shown escaped. A caption of an earlier exhibition must
+ * never be seen again: before each read the octet buffer is full of one, and after it what is left of it is
+ * counted. All memory is in the static rows below and in settings.c; those that are lent for writing stand
+ * between guard octets, which must stay as they were. Its status is 1 if they do not, or if the settings
+ * cannot be saved in a file or read from it. */
 #include "dsss.h"
 #include "settings.h"
 
@@ -284,6 +285,45 @@ static void aerial_out_of_place(void)
             chips.row[k] = DSSS_CHIP_LOST;
         show_hard(lost[more], DSSS_SHORT, len);
     }
+}
+
+/* Spoils every symbol of so many chips: its first chips are turned by a quarter, the next ones lost. */
+static void spoil_each(uint64_t from, uint64_t to, uint64_t symbol, uint64_t wrong, uint64_t lost)
+{
+    for (uint64_t k = from; k < to; k++)
+        if ((k - from) % symbol < wrong)
+            chips.row[k] = (uint8_t)((chips.row[k] + 1) % 4);
+        else if ((k - from) % symbol < wrong + lost)
+            chips.row[k] = DSSS_CHIP_LOST;
+}
+
+/* As much as a frame stands: in every symbol of 11 chips twice the wrong ones plus the lost ones is 10, in every
+ * symbol of 8 chips it is 3. Up to there each caption is promised to come back; beyond, one may be another. */
+static void all_it_stands(void)
+{
+    static const struct {
+        size_t way;
+        uint64_t symbol, wrong, lost;
+        const char *name;
+    } spoiled[4] = {
+        {0, 11, 5, 0, "long, 1 Mbit/s, five chips of each symbol wrong"},
+        {4, 11, 0, 10, "short, 2 Mbit/s, ten chips of each symbol lost"},
+        {2, 8, 1, 1, "long, 5.5 Mbit/s, one of each wrong and one lost"},
+        {6, 8, 0, 3, "short, 11 Mbit/s, three of each lost"},
+    };
+
+    puts("\nEvery symbol spoiled, as far as a frame stands it");
+    for (size_t k = 0; k < 4; k++) {
+        uint64_t kind = ways[spoiled[k].way].kind;
+        uint64_t front = DSSS_FRAME_CHIPS(kind, ways[spoiled[k].way].rate, 0);
+        uint64_t len = send_caption(kind, ways[spoiled[k].way].rate, 0, captions[k]).chips;
+        spoil_each(0, front, 11, k, 10 - 2 * k);
+        spoil_each(front, len, spoiled[k].symbol, spoiled[k].wrong, spoiled[k].lost);
+        show_hard(spoiled[k].name, kind, len);
+    }
+    uint64_t len = send_caption(DSSS_SHORT, DSSS_RATE_11, 0, captions[3]).chips;
+    spoil_each(DSSS_FRONT_SHORT, len, 8, 0, 4);
+    show_hard("beyond: four chips of each lost", DSSS_SHORT, len);
 }
 
 /* Number 0 is not "the text is right", nor is a large lead: only the header has a check, the payload's is
@@ -667,6 +707,7 @@ int main(void)
     locked_clocks();
     spoiled();
     aerial_out_of_place();
+    all_it_stands();
     another_text();
     cut_short();
     what_is_coming();
