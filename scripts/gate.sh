@@ -89,7 +89,8 @@ target/peer/peer --brief --family \
 unusable_values,random_bytes,long_payloads,long_unusable,long_cuts,long_rooms,long_refused,coming_rooms,\
 payloads_not_looked_at,ties_eleven_broken,leads_of_one_symbol,find_edges,find_damage,find_all,why_rooms,why_numbers,\
 why_places,report_lists,report_edges,report_text,store_written,store_orders,store_changes,store_small,store_octets,\
-store_newer,store_largest,store_shapes,store_bodies,one_row,wide_writes,wide_recordings,wide_rooms,wide_searches \
+store_newer,store_largest,store_shapes,store_bodies,spoiled_sizes,spoiled_starts,one_row,wide_writes,wide_recordings,\
+wide_rooms,wide_searches \
     -- scripts/x86run target/c/bridge pages
 
 stage 'wrong versions of plain C'

@@ -3,8 +3,9 @@
 //! are refused with each number, and full reads that go together with fronts in each way; symbols of 11 Mbit/s that are
 //! decided among words of one score, in each way; smallest leads in each part at each rate, shared ones, ties and those
 //! that refused reads keep; starts found of each kind and rate, at each remainder of 512, early, late and neither,
-//! behind offsets refused with each number; reasons, reports, stores and rows as `owed_reasons`, `owed_reports`,
-//! `owed_stores` and `owed_laid` have them; and no family that spends a third of all calls on one number.
+//! behind offsets refused with each number; reasons, reports, stores, spoiled frames and rows as `owed_reasons`,
+//! `owed_reports`, `owed_stores`, `owed_spoiled` and `owed_laid` have them; and no family that spends a third of all
+//! calls on one number.
 
 use crate::bits::Rate;
 use crate::bridge::Outcome;
@@ -18,6 +19,7 @@ use crate::leads::Stands::{First, Header, Payload, Preamble};
 use crate::owed_laid::laid;
 use crate::owed_reasons::reasons;
 use crate::owed_reports::reports;
+use crate::owed_spoiled::spoiled;
 use crate::owed_stores::stores;
 use crate::relations::Held;
 use crate::starts::Start::{self, Early, Found, Late, Missed, Passed, ReadRefused};
@@ -278,7 +280,7 @@ const HELD: [(Held, &str, u64); 6] = [
 const ALIKE: [(u64, u64); 9] = [(1, 1_500), (8, 570), (9, 8), (10, 9), (11, 70), (12, 11), (13, 8), (14, 8), (15, 8)];
 
 /// Shows how often something was seen of each kind and rate, without the clock bit and with it; what is short of it.
-fn of_each_pair(op: &str, title: &str, least: u64, count: impl Fn(u64, u64, u64) -> u64) -> Vec<String> {
+pub fn of_each_pair(op: &str, title: &str, least: u64, count: impl Fn(u64, u64, u64) -> u64) -> Vec<String> {
     let (mut words, mut short) = (Vec::new(), Vec::new());
     for (kind, rate) in pairs() {
         let (kind, rate) = (kind.number(), u64::from(rate.code()));
@@ -558,7 +560,7 @@ pub fn met(total: &Outcome, largest: (u64, &str)) -> Result<(), String> {
             short.push(format!("{op} answered {number} {count} times where it can't"));
         }
     }
-    for of_total in [held, decided, leads, starts, reasons, reports, stores, laid] {
+    for of_total in [held, decided, leads, starts, reasons, reports, stores, spoiled, laid] {
         short.extend(of_total(total));
     }
     if total.calls < CALLS {

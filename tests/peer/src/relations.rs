@@ -1,5 +1,6 @@
 //! How the answers over one hard recording go together, whatever this program expects of each: what its front tells,
-//! what full reads answer, why they are refused, and what is found in it; and how reports and stores go together.
+//! what full reads answer, why they are refused, and what is found in it; and how reports and stores go together, and
+//! recordings of frames with what was written.
 
 use crate::bits::Rate;
 use crate::calls::{Answer, Call};
@@ -8,6 +9,7 @@ use crate::kept::Reports;
 use crate::reasons::{self, FullRead, Reasoned};
 use crate::refusals::{ENDS, GROWTH, OCTET_BUFFER, UNUSABLE};
 use crate::reported::Reported;
+use crate::spoils::{Spoiled, Spoils};
 use crate::starts::{Sought, Start};
 use crate::stored::{Stored, Stores};
 use std::collections::BTreeMap;
@@ -39,6 +41,8 @@ pub enum Held {
     Reports(Reported),
     /// This, of a call of a store.
     Stores(Stored),
+    /// This, of a recording of a frame that was written.
+    Spoils(Spoiled),
 }
 
 /// What the front of a recording told, and what the last full read of it answered, if there was one.
@@ -49,14 +53,15 @@ struct Told {
     full: Option<FullRead>,
 }
 
-/// The last read of a front, the last find, the last reports and the last stores, to which those calls are held that
-/// follow them.
+/// The last read of a front, the last find, the last reports, stores and frames written, to which those calls are held
+/// that follow them.
 #[derive(Default)]
 pub struct Relations {
     last: Option<Told>,
     sought: Option<Sought>,
     reports: Reports,
     stores: Stores,
+    spoils: Spoils,
 }
 
 impl Relations {
@@ -92,6 +97,7 @@ impl Relations {
             _ => {}
         }
         count(self.stores.hold(call, answer)?.map(Held::Stores));
+        self.spoils.hold(call, answer)?.into_iter().for_each(|spoil| count(Some(Held::Spoils(spoil))));
         self.starts(call, answer)?.into_iter().for_each(|start| count(Some(Held::Finds(start))));
         Ok(())
     }

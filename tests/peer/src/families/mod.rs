@@ -60,10 +60,17 @@
 //! - A version kept of a store that stood in the buffer, or its octets left by a refused write: `store_written`.
 //! - A refusal not asked of one entry of 16, or in another order where entries are two or many: `store_shapes`.
 //! - A change done because it would put a refused store right, or of a tag that is no setting's: `store_bodies`.
+//! - One word not found behind some damage of one kind: `spoiled_eleven`, `spoiled_five`, `spoiled_barker`.
+//! - A lost chip that counts for something, a wrong one that counts for nothing: the same.
+//! - A frame, or a front, not accepted for its damage: `spoiled_sizes`, `spoiled_fronts`. Passed over:
+//!   `spoiled_starts`. Not counted, or with another lead: `spoiled_counted`.
+//! - Symbols beyond the limits refused, or decided otherwise than by their scores: `beyond_five`, `beyond_eleven`,
+//!   `beyond_barker`.
 //! - I and Q that may not be one row, a recording of a list that may not be named twice: `one_row`, `report_lists`.
 //! - What a lent row held before the call, a row of length 0 by a pointer or as NULL, a row kept between calls: every
 //!   family, as each call's rows are laid in any way (`laid.rs`).
 
+mod beyond;
 mod bytes;
 mod coming;
 mod damage;
@@ -79,6 +86,7 @@ pub mod report;
 mod report_edges;
 mod restored;
 mod soft;
+mod spoiled;
 mod steps;
 mod store;
 mod store_edges;
@@ -325,6 +333,30 @@ families! {
     // for: StoreReads.answer, StoreChanges.answer, StoreChanges.octets, ReadTells, ChangeTells, ChangeTouches
     // for: laid, complete, single, allowedSettings, isSetting
     1712 store_shapes::store_bodies: "bodies of settings of every length, changes that would put a store right, zeros",
+    // for: SpoiledReadBack, SpoiledTold, decided-spoiled, DamageRow
+    1801 spoiled::spoiled_eleven: "every pattern within the limit on every word of 11 Mbit/s, all symbols spoiled",
+    // for: SpoiledReadBack, SpoiledTold, decided-spoiled, DamageRow
+    1802 spoiled::spoiled_five: "the same on every word of 5.5 Mbit/s",
+    // for: SpoiledReadBack, SpoiledTold, decided-spoiled, DamageRow
+    1803 spoiled::spoiled_barker: "Barker symbols of each phase, each way within the limit, at 1 and 2 Mbit/s",
+    // for: SpoiledReadBack, SpoiledTold, DamageRow
+    1804 spoiled::spoiled_sizes: "spoiled frames of 1 to 4,095 octets, each room, cut, with up to 2^24 chips behind",
+    // for: SpoiledTold
+    1805 spoiled::spoiled_fronts: "spoiled fronts, with anything behind them",
+    // for: SpoiledFound
+    1806 spoiled::spoiled_starts: "spoiled fronts searched for, behind anything",
+    // for: SpoiledCounted
+    1807 spoiled::spoiled_counted: "spoiled frames counted in lists and one by one",
+    // for: SpoiledReadBack, SpoiledTold
+    1808 spoiled::spoiled_unusable: "spoiled frames with one unusable octet, each of them, in the front and behind it",
+    // for: LimitsTight, SpoiledTold
+    1809 beyond::beyond_five: "every pattern one beyond the limit on every word of 5.5 Mbit/s, in one symbol alone",
+    // for: LimitsTight, SpoiledTold
+    1810 beyond::beyond_eleven: "patterns beyond the limit on every word of 11 Mbit/s, in one symbol alone",
+    // for: LimitsTight, SpoiledTold
+    1811 beyond::beyond_barker: "each way one beyond the limit on Barker symbols of each phase, in one symbol alone",
+    // for: WordsApart
+    1812 beyond::words_apart: "each word of 11 Mbit/s as it was sent, by its lead",
 }
 
 /// Where a family puts its calls.
