@@ -333,13 +333,13 @@ families! {
     // for: StoreReads.answer, StoreChanges.answer, StoreChanges.octets, ReadTells, ChangeTells, ChangeTouches
     // for: laid, complete, single, allowedSettings, isSetting
     1712 store_shapes::store_bodies: "bodies of settings of every length, changes that would put a store right, zeros",
-    // for: SpoiledReadBack, SpoiledTold, decided-spoiled, DamageRow
+    // for: SpoiledReadBack, SpoiledTold, SymbolStands, DamageRow, InOneSymbol, AnyDamage
     1801 spoiled::spoiled_eleven: "every pattern within the limit on every word of 11 Mbit/s, all symbols spoiled",
-    // for: SpoiledReadBack, SpoiledTold, decided-spoiled, DamageRow
+    // for: SpoiledReadBack, SpoiledTold, SymbolStands, DamageRow, InOneSymbol, AnyDamage
     1802 spoiled::spoiled_five: "the same on every word of 5.5 Mbit/s",
-    // for: SpoiledReadBack, SpoiledTold, decided-spoiled, DamageRow
+    // for: SpoiledReadBack, SpoiledTold, SymbolStands, DamageRow, InOneSymbol, AnyDamage
     1803 spoiled::spoiled_barker: "Barker symbols of each phase, each way within the limit, at 1 and 2 Mbit/s",
-    // for: SpoiledReadBack, SpoiledTold, DamageRow
+    // for: SpoiledReadBack, SpoiledTold, DamageRow, InOneSymbol
     1804 spoiled::spoiled_sizes: "spoiled frames of 1 to 4,095 octets, each room, cut, with up to 2^24 chips behind",
     // for: SpoiledTold
     1805 spoiled::spoiled_fronts: "spoiled fronts, with anything behind them",
@@ -349,11 +349,11 @@ families! {
     1807 spoiled::spoiled_counted: "spoiled frames counted in lists and one by one",
     // for: SpoiledReadBack, SpoiledTold
     1808 spoiled::spoiled_unusable: "spoiled frames with one unusable octet, each of them, in the front and behind it",
-    // for: LimitsTight, SpoiledTold
+    // for: LimitsTight, past-read, SpoiledTold
     1809 beyond::beyond_five: "every pattern one beyond the limit on every word of 5.5 Mbit/s, in one symbol alone",
-    // for: LimitsTight, SpoiledTold
+    // for: LimitsTight, past-read, SpoiledTold
     1810 beyond::beyond_eleven: "patterns beyond the limit on every word of 11 Mbit/s, in one symbol alone",
-    // for: LimitsTight, SpoiledTold
+    // for: LimitsTight, past-read, SpoiledTold
     1811 beyond::beyond_barker: "each way one beyond the limit on Barker symbols of each phase, in one symbol alone",
     // for: WordsApart
     1812 beyond::words_apart: "each word of 11 Mbit/s as it was sent, by its lead",
