@@ -22,6 +22,7 @@ use Rattle.rules_damage.specs.Plain.{
   LostAt,
   HowMany,
   KeepsLimit,
+  FrameStands,
   SpoiledBy,
 }
 use Rattle.rules_damage.proofs.OneSymbol.{limitOf}
@@ -37,6 +38,7 @@ use Rattle.rules_damage.proofs.Symbols.{
   damage-all,
   wrong-counted,
   lost-counted,
+  stands-by-row,
 }
 use Rattle.rules_damage.proofs.Any as any
 use Rattle.promises.specs.Calls.{Goes}
@@ -104,6 +106,16 @@ module _ (kind rate front octet n : ℕ) (goes : Goes kind rate front octet) whe
       lost-counted kind (pair .kind-is) r n sent rec all-sent all-rec s at chips limit (coded x),
     )
 
+    row-stands : length rec ≡ length sent → Below 5 rec
+        → ((s at chips limit : ℕ) → SymbolAt kind rate n s at chips limit
+        → KeepsLimit limit (getD row (2 * s) 0) (getD row (suc (2 * s)) 0))
+        → FrameStands kind rate n sent rec
+    row-stands e b h =
+        subst (λ (c : ℕ). FrameStands kind c n sent rec) (pair .code-back)
+        (stands-by-row kind (pair .kind-is) r n sent rec all-sent all-rec e b
+        (λ s at chips limit x. h s at chips limit
+        (subst (λ (c : ℕ). SymbolAt kind c n s at chips limit) (pair .code-back) x)))
+
   damaged : (each chips limit : ℕ) → PayloadSymbols rate each chips limit → (sent : List ℕ) → Below 4 sent
       → length sent ≡ front + octet * n → (w t w′ t′ : ℕ) → KeepsLimit 10 w t → KeepsLimit limit w′ t′
       → SpoiledBy kind rate n sent w t w′ t′
@@ -126,6 +138,7 @@ pub damage-row : DamageRow
 damage-row kind rate front octet n goes sent rec hs hr = (
   row-length kind rate front octet n goes sent rec hs hr,
   row-counts kind rate front octet n goes sent rec hs hr,
+  row-stands kind rate front octet n goes sent rec hs hr,
 )
 
 pub any-damage : AnyDamage

@@ -115,6 +115,18 @@ module _ (kind rate phase clock : ℕ) (payload : List ℕ) (sw : Written) (chip
         many-once (counted .1 x at chips′ limit′ is .1) (own .1),
       )
 
+  -- a recording of the frame whose row keeps every limit is read back
+  pub read-by-row : (rec tail : List ℕ) → length rec ≡ length sent → Below 5 rec
+      → ((x at chips′ limit′ : ℕ) → SymbolAt kind rate n x at chips′ limit′
+      → 2 * getD (frameDamage (kindOf kind) (rateOf rate) n sent rec) (2 * x) 0
+      + getD (frameDamage (kindOf kind) (rateOf rate) n sent rec) (suc (2 * x)) 0 ≤ limit′)
+      → (room : ℕ) (a : Record) (left : List ℕ) → ReadHard kind (rec ++ tail) room a left → n ≤ room
+      → left ≡ payload ++ replicate (room - n) 0
+  read-by-row rec tail e b h room a left f few =
+      let stands = kept .damage-row kind rate front (s .sendable .octet) n (s .sendable .goes) sent rec
+      (omega (arith, sent-long)) (omega (arith, sent-long, e)) .2 e b h in
+      kept .spoiled-read-back kind rate phase clock payload sw chips s l d rec tail stands room a left f .0 few .2
+
   -- ---- it is counted as the frame that it was
   pub counted-through : (tail : List ℕ) (p : Report) (q : Counted) → Limits p → FullRows p
       → Adds p kind (whole .rec ++ tail) q

@@ -169,7 +169,7 @@ InOneSymbol =
     × ((s at chips limit : ℕ) → HasChip kind rate n i s at chips limit → i < front + octet * n)
 
 -- promise: The row of a frame's damage has two numbers for each symbol, in the order of the symbols: how many of its
--- chips are wrong, and how many are lost
+-- chips are wrong, and how many are lost. A frame recorded as phases and 4s whose row keeps every limit stands
 -- rule: 6.28
 -- with: HowMany
 abbrev pub DamageRow : Type 0
@@ -181,6 +181,11 @@ DamageRow =
     × ((s at chips limit : ℕ) → SymbolAt kind rate n s at chips limit
     → HowMany (WrongAt sent rec) at chips (getD (frameDamage (kindOf kind) (rateOf rate) n sent rec) (2 * s) 0)
     × HowMany (LostAt rec) at chips (getD (frameDamage (kindOf kind) (rateOf rate) n sent rec) (suc (2 * s)) 0))
+    × (length rec ≡ length sent → Below 5 rec
+    → ((s at chips limit : ℕ) → SymbolAt kind rate n s at chips limit
+    → KeepsLimit limit (getD (frameDamage (kindOf kind) (rateOf rate) n sent rec) (2 * s) 0)
+    (getD (frameDamage (kindOf kind) (rateOf rate) n sent rec) (suc (2 * s)) 0))
+    → FrameStands kind rate n sent rec)
 
 -- promise: All damage that the limits allow does come: for any phases as long as a frame, and any two pairs of numbers
 -- that keep the limits, there is a recording in which each symbol of the front has just the first pair of wrong and

@@ -113,11 +113,11 @@ module _ (k : Kind) (r : Rate) (p : ℕ) (header xs : List ℕ) (eh : length hea
   lq2 : q2 < 4
   lq2 = lastPhase-lt q1 (symbolsOf rate headerBits) lq1
 
-  pub reference-is : reference k rec ≡ firstPhase p firstBit
+  reference-is : reference k rec ≡ firstPhase p firstBit
   unfolding reference
   reference-is = ap (λ (w : List ℕ). getD w 0 0) preamble-words ∙ first-is p firstBit laterBits l
 
-  pub header-phase : headerPhase k rec ≡ q1
+  header-phase : headerPhase k rec ≡ q1
   unfolding headerPhase
   header-phase =
       ap₂ {C = ℕ} (λ f w. lastHeard One f w) reference-is preamble-words
@@ -125,7 +125,7 @@ module _ (k : Kind) (r : Rate) (p : ℕ) (header xs : List ℕ) (eh : length hea
       ∙ ap (λ (t : List ℕ). lastHeard One p (wordsOf One p t)) (sym preamble-headed)
       ∙ last-of One p preamble (words.preamble-below k r p header xs eh)
 
-  pub payload-phase : payloadPhase k rec ≡ q2
+  payload-phase : payloadPhase k rec ≡ q2
   unfolding payloadPhase
   payload-phase =
       ap₂ {C = ℕ} (λ f w. lastHeard rate f w) header-phase (begun .header-words)

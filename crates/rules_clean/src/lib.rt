@@ -1,1 +1,2 @@
-// No code: how clean frames are read, cut ones too. In specs/ what a clean recording is, in proofs/ the laws.
+// No code: how frames that are decided as they were sent are read. In specs/ what a clean recording is, in proofs/ the
+// laws, of clean frames and of cut ones among them.

@@ -20,7 +20,7 @@ use Rattle.rules_choosing.proofs.CleanLeads.{lead-clean}
 use Rattle.rules_choosing.proofs.Leads.{leads-by}
 
 -- a clean word leads by just 4 full chips
-pub eleven-leads : (w : ℕ) → w < 256 → LeadsBy Eleven (clean 1024 (cckOf w)) w (4 * 1024)
+eleven-leads : (w : ℕ) → w < 256 → LeadsBy Eleven (clean 1024 (cckOf w)) w (4 * 1024)
 eleven-leads w hw =
     subst (λ (v : ℕ). LeadsBy Eleven (clean 1024 (cckOf w)) v 4096) (decided-clean 1024 (lit< tt) Eleven w hw tt)
     (subst (λ (t : ℕ). LeadsBy Eleven (clean 1024 (cckOf w)) (decided Eleven (clean 1024 (cckOf w))) t)

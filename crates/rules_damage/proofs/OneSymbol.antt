@@ -45,9 +45,9 @@ use Rattle.rules_damage.specs.Plain.{KeepsLimit}
 -- ---- one chip, then a symbol
 
 -- y is ahead of z: of so many chips so many agree and so many are opposed, and so much weighs against it
-pub record Ahead (z y : ℤ) (chips agree oppose weight : ℕ) : Type 0 where
-  pub by-weight : up z + dn y + 1024 * (chips + oppose) ≤ up y + dn z + 1024 * (agree + 2 * weight)
-  pub by-halves : up z + dn y + 1024 * (chips + oppose) ≤ up y + dn z + 1024 * (agree + weight + 2 * oppose)
+record Ahead (z y : ℤ) (chips agree oppose weight : ℕ) : Type 0 where
+  by-weight : up z + dn y + 1024 * (chips + oppose) ≤ up y + dn z + 1024 * (agree + 2 * weight)
+  by-halves : up z + dn y + 1024 * (chips + oppose) ≤ up y + dn z + 1024 * (agree + weight + 2 * oppose)
 
 abbrev hard : ℕ → Counts
 hard x = takenCounts (hardTaken x)
@@ -110,7 +110,7 @@ counts xs = map takenCounts (map hardTaken xs)
 abbrev pub weight : List ℕ → List ℕ → ℕ
 weight w xs = 2 * wrong w xs + lost xs
 
-pub ahead : (v w xs : List ℕ) → Phases v → Phases w → Below 5 xs → length v ≡ length w → length xs ≡ length w
+ahead : (v w xs : List ℕ) → Phases v → Phases w → Below 5 xs → length v ≡ length w → length xs ≡ length w
     → Ahead (score v (counts xs)) (score w (counts xs)) (length w) (agreeing v w) (opposed v w) (weight w xs)
 unfolding score agreeing opposed wrong lost
 ahead [] [] [] hv hw hx e f = ahead-none

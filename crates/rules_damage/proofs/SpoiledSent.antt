@@ -58,8 +58,8 @@ use Rattle.rules_damage.proofs.Counted.{wrong-many, lost-many}
 use Rattle.rules_damage.proofs.Symbols.{front-eleven, front-symbol, payload-symbol, symbol-inside}
 
 -- ---- every lead is a full chip at least
-pub record AtLeast (xs : List ℕ) : Type 0 where
-  pub at : (j : ℕ) → j < length xs → 1024 ≤ getD xs j 0
+record AtLeast (xs : List ℕ) : Type 0 where
+  at : (j : ℕ) → j < length xs → 1024 ≤ getD xs j 0
 
 both-least : (xs ys : List ℕ) → AtLeast xs → AtLeast ys → AtLeast (xs ++ ys)
 both-least [] ys h k = k
@@ -189,7 +189,7 @@ module _ (kind : ℕ) (is-kind : isKind kind ≡ true) (r : Rate) (p : ℕ) (hea
         header-sent
         (header-keeps k (headerSymbols k) (drop (preambleChips k) sent) (drop (preambleChips k) rec) header-keep))
 
-    pub spoiled-front : FrontAsSent k r p header xs recording
+    spoiled-front : FrontAsSent k r p header xs recording
     unfolding preambleWords headerWords
     spoiled-front = record {
       preamble-words = preamble-begins .words;
