@@ -104,24 +104,24 @@ module _ (kind rate phase clock : ℕ) (payload : List ℕ) (w : Written) (chips
         ((λ h. (rw (← e) (told-whole h), handed-back h)), λ h. rw (← e) (cut h))
 
   -- ---- its own front does
+  abbrev sent : List ℕ
+  sent = back.sent kind rate phase clock payload w chips s
+
+  abbrev begun : List ℕ
+  begun = take front chips
+
+  long : front + count ≡ length sent
+  long = sym (back.sent-length kind rate phase clock payload w chips s ∙ all-is)
+
+  pub begun-is : begun ≡ take front sent
+  begun-is =
+      ap (take front) (back.chips-are kind rate phase clock payload w chips s)
+      ∙ take-append-le front sent (replicate (s .room - frameChips k r n) 4) (omega (arith, long))
+
+  pub begun-long : length begun ≡ front
+  begun-long = ap length begun-is ∙ length-take-le front sent (omega (arith, long))
+
   module _ (tail : List ℕ) where
-    abbrev sent : List ℕ
-    sent = back.sent kind rate phase clock payload w chips s
-
-    abbrev begun : List ℕ
-    begun = take front chips
-
-    long : front + count ≡ length sent
-    long = sym (back.sent-length kind rate phase clock payload w chips s ∙ all-is)
-
-    pub begun-is : begun ≡ take front sent
-    begun-is =
-        ap (take front) (back.chips-are kind rate phase clock payload w chips s)
-        ∙ take-append-le front sent (replicate (s .room - frameChips k r n) 4) (omega (arith, long))
-
-    pub begun-long : length begun ≡ front
-    begun-long = ap length begun-is ∙ length-take-le front sent (omega (arith, long))
-
     begins : take (frontChips k) (hardRecording (begun ++ tail)) ≡ take (frontChips k) (hardRecording (sent ++ []))
     begins =
         let f = frontChips k in
@@ -141,5 +141,5 @@ module _ (kind rate phase clock : ℕ) (payload : List ℕ) (w : Written) (chips
 pub sent-told : SentTold
 sent-told kind rate phase clock payload w chips s l d tail c f =
     tells kind rate phase clock payload w chips s (take (s .sendable .front) chips) tail
-    (begun-long kind rate phase clock payload w chips s tail)
+    (begun-long kind rate phase clock payload w chips s)
     (begun-told kind rate phase clock payload w chips s tail) c f l d

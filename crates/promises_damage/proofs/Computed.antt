@@ -73,9 +73,10 @@ readWith r phase x chips =
     let s = sent r phase x in
     octetsFound 1 true (hardRecording (take 1056 s ++ (chips ++ drop (1056 + length chips) s))) 1
 
--- promise: A symbol one past its limit gives another payload: at 11 Mbit/s 45h, whose symbol is the word (0,1,0,0), is
--- read as CDh with four of its chips lost; at 5.5 Mbit/s 0 as 88h with four lost, or two wrong; at 2 Mbit/s 0 as
--- AAh with eleven lost, or five wrong and one lost
+-- promise: A symbol one past its limit can give another payload. In short frames of one octet: at 11 Mbit/s from
+-- phase 0, 45h, whose symbol is the word (0,1,0,0), is read as CDh with four of its chips lost; at 5.5 Mbit/s from
+-- phase 2, 0 as 88h with four lost, or two wrong; at 2 Mbit/s from phase 2, 0 as AAh with eleven lost, or five wrong
+-- and one lost
 -- rule: 3.10, 6.28
 -- code: dsss_read_hard_3
 -- no edit: it is computed; what reading is has edits of its own

@@ -8,9 +8,9 @@ use Rattle.promises_damage.proofs.SpoiledFront.{spoiled-told, spoiled-f
 use Rattle.promises_damage.proofs.Symbols.{in-one-symbol, damage-row, any-damage}
 
 symbol-stands : SymbolStands
-symbol-stands rate n rec limit wrong lost l a s few = (
-  decided-sent rate n rec limit wrong lost l a s few,
-  lead-sent rate n rec limit wrong lost l a s few,
+symbol-stands rate n rec limit wrong lost s few = (
+  decided-sent rate n rec limit wrong lost s few,
+  lead-sent rate n rec limit wrong lost s few,
 )
 
 limits-tight : LimitsTight

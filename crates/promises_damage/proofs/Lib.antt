@@ -4,4 +4,5 @@ pub mod SpoiledFront
 pub mod Symbols
 pub mod Kept
 pub mod Uses
+pub mod UsesRows
 pub mod UsesSymbols

@@ -38,13 +38,13 @@ module _ (kind rate phase clock : ℕ) (payload : List ℕ) (w : Written) (chips
   pair = back.pair kind rate phase clock payload w chips s
 
   rec-long : length rec ≡ s .sendable .front
-  rec-long = stands .same-length ∙ begun-long kind rate phase clock payload w chips s tail
+  rec-long = stands .same-length ∙ begun-long kind rate phase clock payload w chips s
 
   -- in the words of the definitions
   stands-front : FrameStands kind (codeOf r) 0 (take (frontChips k) sent) rec
   stands-front =
       subst (λ (x : List ℕ). FrameStands kind (codeOf r) 0 x rec)
-      (begun-is kind rate phase clock payload w chips s tail ∙ ap (λ (m : ℕ). take m sent) (sym (pair .front-is)))
+      (begun-is kind rate phase clock payload w chips s ∙ ap (λ (m : ℕ). take m sent) (sym (pair .front-is)))
       (subst (λ (c : ℕ). FrameStands kind c 0 (take (s .sendable .front) chips) rec) (sym (pair .code-back)) stands)
 
   told-is : frontOf k (hardRecording (rec ++ tail)) ≡ Fields (sentTold kind rate phase clock payload w chips s)

@@ -20,7 +20,7 @@ use Rattle.rules_damage.specs.Plain.{
   SomeSymbol,
   WrongAt,
   LostAt,
-  HowMany,
+  SoMany,
   KeepsLimit,
   FrameStands,
   SpoiledBy,
@@ -99,8 +99,8 @@ module _ (kind rate front octet n : ℕ) (goes : Goes kind rate front octet) whe
         damage-all kind (pair .kind-is) r n sent rec all-sent all-rec ∙ (λ i. 2 * (ef i + ee .0 i * n))
 
     row-counts : (s at chips limit : ℕ) → SymbolAt kind rate n s at chips limit
-        → HowMany (WrongAt sent rec) at chips (getD row (2 * s) 0)
-        × HowMany (LostAt rec) at chips (getD row (suc (2 * s)) 0)
+        → SoMany (WrongAt sent rec) at chips (getD row (2 * s) 0)
+        × SoMany (LostAt rec) at chips (getD row (suc (2 * s)) 0)
     row-counts s at chips limit x = (
       wrong-counted kind (pair .kind-is) r n sent rec all-sent all-rec s at chips limit (coded x),
       lost-counted kind (pair .kind-is) r n sent rec all-sent all-rec s at chips limit (coded x),

@@ -1,7 +1,7 @@
 -- Uses of the statements about spoiled frames, as they are kept: of any frame, any counts that the limits allow and any
 -- symbol, so that no statement can be said of nothing and none can lose a part. Assumes nothing.
 use mathlib.Core.Path.{_≡_, refl, sym, ap, _∙_, subst}
-use mathlib.Core.List.{List, [], _++_}
+use mathlib.Core.List.{List, _++_}
 use Prim.Native.Nat.{ℕ, suc, _+_, _-_, _*_, _≤_, _<_}
 use native.Mathlib.Nat.{mul-zero}
 use native.Mathlib.Omega.{arith}
@@ -115,18 +115,6 @@ module _ (kind rate phase clock : ℕ) (payload : List ℕ) (sw : Written) (chip
         many-once (counted .1 x at chips′ limit′ is .1) (own .1),
       )
 
-  -- a recording of the frame whose row keeps every limit is read back
-  pub read-by-row : (rec tail : List ℕ) → length rec ≡ length sent → Below 5 rec
-      → ((x at chips′ limit′ : ℕ) → SymbolAt kind rate n x at chips′ limit′
-      → 2 * getD (frameDamage (kindOf kind) (rateOf rate) n sent rec) (2 * x) 0
-      + getD (frameDamage (kindOf kind) (rateOf rate) n sent rec) (suc (2 * x)) 0 ≤ limit′)
-      → (room : ℕ) (a : Record) (left : List ℕ) → ReadHard kind (rec ++ tail) room a left → n ≤ room
-      → left ≡ payload ++ replicate (room - n) 0
-  read-by-row rec tail e b h room a left f few =
-      let stands = kept .damage-row kind rate front (s .sendable .octet) n (s .sendable .goes) sent rec
-      (omega (arith, sent-long)) (omega (arith, sent-long, e)) .2 e b h in
-      kept .spoiled-read-back kind rate phase clock payload sw chips s l d rec tail stands room a left f .0 few .2
-
   -- ---- it is counted as the frame that it was
   pub counted-through : (tail : List ℕ) (p : Report) (q : Counted) → Limits p → FullRows p
       → Adds p kind (whole .rec ++ tail) q
@@ -135,7 +123,13 @@ module _ (kind rate phase clock : ℕ) (payload : List ℕ) (sw : Written) (chip
       → (getD (q .report .frames) j 0 ≡ getD (p .frames) j 0 + 1)
       × (getD (q .report .octets) j 0 ≡ getD (p .octets) j 0 + n))
       × (kind ≡ 0 → q .report .airtime ≡ p .airtime + (192 + l))
+      × ((kind ≡ 0 → ⊥) → q .report .airtime ≡ p .airtime + (96 + l))
       × (p .some ≡ 0 → 1024 ≤ q .report .lead)
+      × (q .report .seen ≡ p .seen + 1)
+      × ((j : ℕ) → j < 4 → (getD rates j 0 ≡ rate → ⊥)
+      → (getD (q .report .frames) j 0 ≡ getD (p .frames) j 0 + 0)
+      × (getD (q .report .octets) j 0 ≡ getD (p .octets) j 0 + 0))
+      × ((number : ℕ) → number < 18 → getD (q .report .refused) number 0 ≡ getD (p .refused) number 0 + 0)
   counted-through tail p q within rows adds =
       let told = kept .spoiled-counted kind rate phase clock payload sw chips s l d (whole .rec) tail (whole .stands)
       p q within rows adds in
@@ -150,7 +144,18 @@ module _ (kind rate phase clock : ℕ) (payload : List ℕ) (sw : Written) (chip
           short = λ x y. absurd (y e);
           refused = λ x. absurd (x refl);
         })),
-        λ e. subst (λ (x : ℕ). 1024 ≤ x) (sym (more .first-lead refl e .1)) (told .1 .clear),
+        (λ e. more .airtime-more (96 + l) (record {
+          long = λ x y. absurd (e y);
+          short = λ x y. refl;
+          refused = λ x. absurd (x refl);
+        })),
+        (λ e. subst (λ (x : ℕ). 1024 ≤ x) (sym (more .first-lead refl e .1)) (told .1 .clear)),
+        more .seen-more,
+        (λ j h ne. (
+          more .frames-more j 0 h ((λ x. absurd (ne (sym (x .1)))), λ g. refl),
+          more .octets-more j 0 h ((λ x. absurd (ne (sym (x .1)))), λ g. refl),
+        )),
+        λ number h. more .refused-more number 0 h ((λ x. absurd (x .0 refl)), λ g. refl),
       )
 
   -- ---- its front alone, whatever follows it
@@ -160,9 +165,9 @@ module _ (kind rate phase clock : ℕ) (payload : List ℕ) (sw : Written) (chip
   pub alone : SpoiledBy kind rate 0 begun w t w′ t′
   alone =
       kept .any-damage kind rate front (s .sendable .octet) 0 each c limit (s .sendable .goes) u begun
-      (subst (λ (x : List ℕ). Below 4 x) (sym (begun-is kind rate phase clock payload sw chips s []))
+      (subst (λ (x : List ℕ). Below 4 x) (sym (begun-is kind rate phase clock payload sw chips s))
       (below-take front (back.phases kind rate phase clock payload sw chips s)))
-      (begun-long kind rate phase clock payload sw chips s [] ∙ no-octets front (s .sendable .octet))
+      (begun-long kind rate phase clock payload sw chips s ∙ no-octets front (s .sendable .octet))
       w t w′ t′ few few′
     where
       no-octets : (a b : ℕ) → a ≡ a + b * 0

@@ -1,5 +1,5 @@
 -- Uses of the statements about single symbols and about where a frame's symbols are, as they are kept. Assumes nothing.
-use mathlib.Core.Path.{_≡_, sym, _∙_}
+use mathlib.Core.Path.{_≡_, refl, sym, _∙_, subst}
 use mathlib.Core.List.{List, map}
 use Prim.Native.Nat.{ℕ, suc, _+_, _*_, _≤_, _<_}
 use native.Mathlib.Decide.{decLe}
@@ -10,7 +10,7 @@ use lib.IntN.{pos}
 use lib.Signed.{_≤ℤ_}
 use Rattle.base.specs.Below.{Below}
 use Rattle.rules_rates.specs.declared.Rate.the-variants.{Eleven}
-use Rattle.rules_rates.specs.Rates.{rateOf}
+use Rattle.rules_rates.specs.Rates.{codeOf, rateOf}
 use Rattle.rules_chips.specs.Chips.{takenCounts, hardRecording, fullChip}
 use Rattle.rules_symbols.specs.Words.{cckOf, wordOf}
 use Rattle.rules_symbols.specs.Choice.{numbers, isAllowed, decided, leadOf}
@@ -29,10 +29,11 @@ use Rattle.rules_damage.specs.Plain.{
   in-payload,
   HasChip,
   SomeSymbol,
+  SentAs,
   SymbolSpoiled,
   PastLimit,
 }
-use Rattle.rules_damage.proofs.SymbolStands.{symbol-spoiled}
+use Rattle.rules_damage.proofs.SymbolStands.{word-sent, sent-word, symbol-spoiled}
 use Rattle.promises.specs.Calls.{Goes, long-1, long-11, short-2, short-5}
 use Rattle.promises_damage.proofs.Kept.{kept}
 
@@ -41,21 +42,31 @@ pub symbol-read : (rate n : ℕ) (rec : List ℕ) (each chips limit : ℕ) → n
     → T (isAllowed (rateOf rate) n) → PayloadSymbols rate each chips limit → length rec ≡ chips → Below 5 rec
     → 2 * wrong (wordOf (rateOf rate) n) rec + lost rec ≤ limit
     → (decided (rateOf rate) (map takenCounts (hardRecording rec)) ≡ n)
-    × (0 < leadOf (rateOf rate) (map takenCounts (hardRecording rec)))
+    × (1024 ≤ leadOf (rateOf rate) (map takenCounts (hardRecording rec)))
 symbol-read rate n rec each chips limit l a u e b few =
-    let told = kept .symbol-stands rate n rec limit _ _ l a (symbol-spoiled rate n rec each chips limit u e b) few in
-    (told .0, omega (arith, told .1))
+    kept .symbol-stands rate n rec limit _ _ (symbol-spoiled rate n rec each chips limit word u e b) few
+  where
+    coded : (rate each chips limit : ℕ) → PayloadSymbols rate each chips limit → codeOf (rateOf rate) ≡ rate
+    coded _ _ _ _ at-10 = refl
+    coded _ _ _ _ at-20 = refl
+    coded _ _ _ _ at-55 = refl
+    coded _ _ _ _ at-110 = refl
+
+    word : SentAs rate n
+    word = subst (λ (c : ℕ). SentAs c n) (coded rate each chips limit u) (sent-word (rateOf rate) n l a)
 
 -- ---- no limit can be raised
 abbrev Raised : ℕ → ℕ → Type 0
 Raised rate limit =
-    (n : ℕ) (rec : List ℕ) (w t : ℕ) → SymbolSpoiled rate n rec limit w t → 2 * w + t ≤ suc limit
+    (n : ℕ) (rec : List ℕ) (w t : ℕ) → n < numbers (rateOf rate) → T (isAllowed (rateOf rate) n)
+    → SymbolSpoiled rate n rec limit w t → 2 * w + t ≤ suc limit
     → decided (rateOf rate) (map takenCounts (hardRecording rec)) ≡ n
 
 raised-not : {rate n : ℕ} {rec : List ℕ} {limit w t other : ℕ} → PastLimit rate n rec limit w t other
     → Raised rate limit → ⊥
 raised-not {rate} {n} {rec} {limit} {w} {t} p h =
-    p .another (sym (p .decided-as) ∙ h n rec w t (p .spoiled) (p .just))
+    let word = word-sent rate n (p .spoiled .word) in
+    p .another (sym (p .decided-as) ∙ h n rec w t (word .0) (word .1) (p .spoiled) (p .just))
 
 pub not-raised : (Raised 10 10 → ⊥) × (Raised 20 10 → ⊥) × (Raised 55 3 → ⊥) × (Raised 110 3 → ⊥)
 not-raised = (
@@ -87,7 +98,7 @@ pub eleven-below : (n w : ℕ) → n < 256 → w < 256 → (n ≡ w → ⊥)
     → scoreAt Eleven (map (fullChip 1024) (cckOf w)) n ≤ℤ pos 4096
 eleven-below n w hn hw ne = kept .words-apart n w hn hw ne
 
--- ---- where symbols are: the last chip of each front, and the first and the last of each payload
+-- ---- where symbols are: a chip of a symbol is in no other
 module _ (kind rate front octet n : ℕ) (goes : Goes kind rate front octet) (s at chips limit : ℕ) where
   abbrev Is : ℕ → ℕ → ℕ → ℕ → ℕ → Type 0
   Is i s′ at′ chips′ limit′ =
@@ -121,7 +132,7 @@ in-frame kind rate front octet n i goes =
     let told = kept .in-one-symbol kind rate front octet n i goes in
     (told .0, λ x. told .2 (x .s) (x .at) (x .chips) (x .limit) (x .has))
 
--- the limits, by rate: the symbol of the payload's last octet
+-- the limits, by rate: those of the payload's first symbol
 pub limits-are : (n at s chips limit : ℕ)
     → (HasChip 0 10 n 2112 s at chips limit → 1 ≤ n → (s ≡ 192) × (at ≡ 2112) × (chips ≡ 11) × (limit ≡ 10))
     × (HasChip 1 20 n 1056 s at chips limit → 1 ≤ n → (s ≡ 96) × (at ≡ 1056) × (chips ≡ 11) × (limit ≡ 10))

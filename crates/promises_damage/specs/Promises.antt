@@ -7,7 +7,6 @@ use Prim.Native.Nat.{ℕ, suc, _+_, _-_, _*_, _≤_, _<_}
 use mathlib.Core.Path.{_≡_}
 use mathlib.Core.List.{List, [], _∷_, _++_, map}
 use lib.ListN.{length, getD, take, replicate}
-use lib.Dec.{T}
 use lib.IntN.{pos}
 use lib.Signed.{_≤ℤ_}
 use Rattle.base.specs.Below.{Below}
@@ -16,7 +15,7 @@ use Rattle.rules_rates.specs.Rates.{rateOf}
 use Rattle.rules_rates.specs.Plain.{LengthOf}
 use Rattle.rules_chips.specs.Chips.{takenCounts, hardRecording, fullChip}
 use Rattle.rules_symbols.specs.Words.{cckOf}
-use Rattle.rules_symbols.specs.Choice.{numbers, isAllowed, decided, leadOf}
+use Rattle.rules_symbols.specs.Choice.{decided, leadOf}
 use Rattle.rules_choosing.specs.Scores.{scoreAt}
 use Rattle.rules_frame.specs.Frame.{kindOf}
 use Rattle.rules_calls.specs.declared.Written.{Written}
@@ -36,7 +35,7 @@ use Rattle.rules_damage.specs.Plain.{
   SomeSymbol,
   WrongAt,
   LostAt,
-  HowMany,
+  SoMany,
   KeepsLimit,
   SymbolSpoiled,
   PastLimit,
@@ -50,12 +49,12 @@ use Rattle.promises_report.specs.Calls.{Adds}
 
 -- ---- a frame
 
--- promise: A frame that was written and whose symbols each keep their limit is read back by the hard reader under its
--- kind, whatever follows it: with room number 0, rate, LENGTH, n, chips used, clock bit and payload are those written,
--- and the lead is at least one full chip; with less room 17 with LENGTH
+-- promise: A frame that was written and recorded as phases and 4s, and whose symbols each keep their limit, is read
+-- back by the hard reader under its kind, whatever follows it: with room number 0, rate, LENGTH, n, chips used, clock
+-- bit and payload are those written, and the lead is at least one full chip; with less room 17 with LENGTH
 -- rule: 6.28, 3.10
 -- code: dsss_write_2, dsss_read_hard_3
--- with: FrameStands, SymbolAt, HowMany, KeepsLimit
+-- with: FrameStands, SymbolAt, SoMany, KeepsLimit
 abbrev pub SpoiledReadBack : Type 0
 SpoiledReadBack =
     (kind rate phase clock : ℕ) (payload : List ℕ) (w : Written) (chips : List ℕ)
@@ -68,8 +67,9 @@ SpoiledReadBack =
     × (left ≡ payload ++ replicate (room - length payload) 0))
     × (room < length payload → a ≡ refused 17 l)
 
--- promise: The front of a frame that was written, its symbols each within their limit, tells what is coming, whatever
--- became of the payload's chips; with fewer chips behind it than the payload's, 16 with LENGTH
+-- promise: The front of a frame that was written, recorded as phases and 4s and its symbols each within their limit,
+-- tells what is coming, whatever became of the payload's chips; with fewer chips behind it than the payload's, 16 with
+-- LENGTH. The front is a frame of no octets
 -- rule: 6.28, 6.15
 -- code: dsss_write_2, dsss_read_front, small_calls::part
 abbrev pub SpoiledTold : Type 0
@@ -84,9 +84,9 @@ SpoiledTold =
     × ((part : List ℕ) → Handed c (rec ++ tail) part → part ≡ take (s .sendable .octet * length payload) tail))
     × (length tail < s .sendable .octet * length payload → c ≡ refusedComing 16 0 l)
 
--- promise: A frame that was written, the symbols of its front each within their limit, is not missed by a search,
--- whatever stands before it, became of its payload's chips or follows: a start is found where it starts or before, and
--- if there, it is the frame's
+-- promise: A frame that was written, its front recorded as phases and 4s and the symbols of it each within their limit,
+-- is not missed by a search, whatever stands before it, became of its payload's chips or follows: a start is found
+-- where it starts or before, and if there, it is the frame's
 -- rule: 6.28, 6.17
 -- code: dsss_write_2, dsss_find
 abbrev pub SpoiledFound : Type 0
@@ -106,8 +106,8 @@ pub record CountsAs (p : Report) (kind rate l n used clock : ℕ) (q : Report) :
   pub clear : 1024 ≤ lead
   pub one-more : OneMore p (record { kind = kind; answer = good rate l n used clock lead symbol }) q
 
--- promise: A frame that was written and whose symbols each keep their limit is counted in any report within the limits
--- as the frame that it was, whatever follows it
+-- promise: A frame that was written and recorded as phases and 4s, and whose symbols each keep their limit, is counted
+-- in any report that takes one more as the frame that it was, whatever follows it
 -- rule: 6.28, 6.19
 -- code: dsss_write_2, dsss_report_add
 -- with: CountsAs
@@ -121,20 +121,21 @@ SpoiledCounted =
 
 -- ---- a symbol
 
--- promise: A symbol sent as an allowed word that keeps its limit is decided as that word, with a lead of at least one
--- full chip
+-- promise: A symbol of a payload, sent as a word of its rate and recorded as phases and 4s, that keeps its limit is
+-- decided as that word, with a lead of at least one full chip
 -- rule: 3.10
 -- code: dsss_read_hard_3
 -- with: SymbolSpoiled
 abbrev pub SymbolStands : Type 0
 SymbolStands =
-    (rate n : ℕ) (rec : List ℕ) (limit wrong lost : ℕ) → n < numbers (rateOf rate) → T (isAllowed (rateOf rate) n)
+    (rate n : ℕ) (rec : List ℕ) (limit wrong lost : ℕ)
     → SymbolSpoiled rate n rec limit wrong lost → KeepsLimit limit wrong lost
     → (decided (rateOf rate) (map takenCounts (hardRecording rec)) ≡ n)
     × (1024 ≤ leadOf (rateOf rate) (map takenCounts (hardRecording rec)))
 
--- promise: No limit can be raised: symbols one past them are decided as another word, at 11 Mbit/s with four chips
--- lost, at 5.5 Mbit/s with four lost or two wrong, at 1 and 2 Mbit/s with eleven lost or five wrong and one lost
+-- promise: No limit can be raised: at each rate there is a symbol one past it that is decided as another word, at 11
+-- Mbit/s with four chips lost, at 5.5 Mbit/s with four lost or two wrong, at 1 and 2 Mbit/s with eleven lost or five
+-- wrong and one lost
 -- rule: 3.10
 -- code: dsss_read_hard_3
 -- with: PastLimit
@@ -171,7 +172,7 @@ InOneSymbol =
 -- promise: The row of a frame's damage has two numbers for each symbol, in the order of the symbols: how many of its
 -- chips are wrong, and how many are lost. A frame recorded as phases and 4s whose row keeps every limit stands
 -- rule: 6.28
--- with: HowMany
+-- with: SoMany
 abbrev pub DamageRow : Type 0
 DamageRow =
     (kind rate front octet n : ℕ) → Goes kind rate front octet → (sent rec : List ℕ)
@@ -179,8 +180,8 @@ DamageRow =
     → ((f each chips limit : ℕ) → FrontSymbols kind f → PayloadSymbols rate each chips limit
     → length (frameDamage (kindOf kind) (rateOf rate) n sent rec) ≡ 2 * (f + each * n))
     × ((s at chips limit : ℕ) → SymbolAt kind rate n s at chips limit
-    → HowMany (WrongAt sent rec) at chips (getD (frameDamage (kindOf kind) (rateOf rate) n sent rec) (2 * s) 0)
-    × HowMany (LostAt rec) at chips (getD (frameDamage (kindOf kind) (rateOf rate) n sent rec) (suc (2 * s)) 0))
+    → SoMany (WrongAt sent rec) at chips (getD (frameDamage (kindOf kind) (rateOf rate) n sent rec) (2 * s) 0)
+    × SoMany (LostAt rec) at chips (getD (frameDamage (kindOf kind) (rateOf rate) n sent rec) (suc (2 * s)) 0))
     × (length rec ≡ length sent → Below 5 rec
     → ((s at chips limit : ℕ) → SymbolAt kind rate n s at chips limit
     → KeepsLimit limit (getD (frameDamage (kindOf kind) (rateOf rate) n sent rec) (2 * s) 0)

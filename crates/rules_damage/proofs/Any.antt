@@ -23,7 +23,7 @@ use Rattle.rules_frame.specs.Frame.{isKind, kindOf, frontChips, frontSymbols, f
 use Rattle.rules_damage.specs.Plain.{
   WrongAt,
   LostAt,
-  HowMany,
+  SoMany,
   no-place,
   such,
   other,
@@ -49,8 +49,8 @@ further at i = omega arith
 module _ (Such : ℕ → Type 0) where
   pub stretch : (c at x y : ℕ) → x + y ≤ c → ((i : ℕ) → i < x → Such (at + i) → ⊥)
       → ((i : ℕ) → x ≤ i → i < x + y → Such (at + i)) → ((i : ℕ) → x + y ≤ i → i < c → Such (at + i) → ⊥)
-      → HowMany Such at c y
-  stretch zero at x y h before in-it after = let e : 0 ≡ y = omega arith in subst (HowMany Such at 0) e no-place
+      → SoMany Such at c y
+  stretch zero at x y h before in-it after = let e : 0 ≡ y = omega arith in subst (SoMany Such at 0) e no-place
   stretch (suc c) at (suc x) y h before in-it after =
       other (λ s. before 0 (omega arith) (subst Such (sym (add-zero at)) s))
       (stretch c (suc at) x y (omega arith)
@@ -94,7 +94,7 @@ spoil-usable w t i x l = by (decLt i w) (decLt i (w + t))
 -- ---- a symbol that is spoiled so
 module _ (sent rec : List ℕ) (at c w t : ℕ) (fits : w + t ≤ c) (phases : Below 4 sent)
     (rule : (i : ℕ) → i < c → getD rec (at + i) 0 ≡ spoil w t i (getD sent (at + i) 0)) where
-  wrong-so : HowMany (WrongAt sent rec) at c w
+  wrong-so : SoMany (WrongAt sent rec) at c w
   wrong-so =
       stretch (WrongAt sent rec) c at 0 w (omega arith)
       (λ i l s. omega (arith, l))
@@ -115,7 +115,7 @@ module _ (sent rec : List ℕ) (at c w t : ℕ) (fits : w + t ≤ c) (phases : B
               omega (arith, s .0, rule i m ∙ spoil-lost w t i (getD sent (at + i) 0) (omega arith) n)
           by (no g) = s .1 (rule i m ∙ spoil-not w t i (getD sent (at + i) 0) (omega arith))
 
-  lost-so : HowMany (LostAt rec) at c t
+  lost-so : SoMany (LostAt rec) at c t
   lost-so =
       stretch (LostAt rec) c at w t fits
       (λ i l s. omega (
@@ -185,7 +185,7 @@ module _ (kind : ℕ) (is-kind : isKind kind ≡ true) (r : Rate) (n : ℕ) (sen
       place = ap (λ (x : ℕ). x % c) behind ∙ in-symbol r j i m
 
   abbrev Counts : ℕ → ℕ → ℕ → ℕ → Type 0
-  Counts at chips x y = HowMany (WrongAt sent so) at chips x × HowMany (LostAt so) at chips y
+  Counts at chips x y = SoMany (WrongAt sent so) at chips x × SoMany (LostAt so) at chips y
 
   front-counts : (s : ℕ) → s < frontSymbols k → Counts (11 * s) 11 w t
   front-counts s l =
@@ -223,7 +223,7 @@ module _ (kind : ℕ) (is-kind : isKind kind ≡ true) (r : Rate) (n : ℕ) (sen
           rw (List·getD-eq-default so 0 {n = i} (omega (arith, g, length-tabulate rule (length sent)))) (omega arith)
 
   held : {at chips limit x y x′ y′ : ℕ} → Counts at chips x y → KeepsLimit limit x y
-      → HowMany (WrongAt sent so) at chips x′ → HowMany (LostAt so) at chips y′ → KeepsLimit limit x′ y′
+      → SoMany (WrongAt sent so) at chips x′ → SoMany (LostAt so) at chips y′ → KeepsLimit limit x′ y′
   held {at} {chips} {limit} {x} {y} {x′} {y′} h few mw ml =
       subst (λ (j : ℕ). KeepsLimit limit j y′) (many-once (h .0) mw)
       (subst (KeepsLimit limit x) (many-once (h .1) ml) few)
@@ -234,7 +234,7 @@ module _ (kind : ℕ) (is-kind : isKind kind ≡ true) (r : Rate) (n : ℕ) (sen
     usable = usable;
     each = λ s at chips limit x y is mw ml.
         by-part kind is-kind r n
-        (λ s at chips limit. HowMany (WrongAt sent so) at chips x → HowMany (LostAt so) at chips y
+        (λ s at chips limit. SoMany (WrongAt sent so) at chips x → SoMany (LostAt so) at chips y
         → KeepsLimit limit x y)
         (λ s l. held (front-counts s l) keeps)
         (λ j l. held (payload-counts j (payload-there j l)) keeps′) s at chips limit is mw ml;

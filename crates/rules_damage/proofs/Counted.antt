@@ -1,5 +1,5 @@
 -- Wrong and lost chips, counted by the definitions (`wrong`, `lost`, `damage`), are how many there are in plain numbers
--- (`HowMany`).
+-- (`SoMany`).
 --     many-once                              there is one number of places
 --     wrong-many, lost-many                  of a stretch of chips
 --     wrong-all, lost-all                    of whole rows
@@ -17,11 +17,11 @@ use lib.Dec.{ltb}
 use lib.ListN.{length, getD, take, drop}
 use lib.Seq.{drop-cons, take-all}
 use Rattle.rules_damage.specs.Damage.{isWrong, isLost, wrong, lost, damage}
-use Rattle.rules_damage.specs.Plain.{WrongAt, LostAt, HowMany, no-place, such, other}
-use Rattle.rules_damage.proofs.Row.{symbolOf, symbol-first, symbol-next}
+use Rattle.rules_damage.specs.Plain.{WrongAt, LostAt, SoMany, no-place, such, other}
+use Rattle.rules_damage.proofs.Row.{nthSymbol, symbol-first, symbol-next}
 
-pub many-once : {Such : ℕ → Type 0} {at places many many′ : ℕ} → HowMany Such at places many
-    → HowMany Such at places many′ → many ≡ many′
+pub many-once : {Such : ℕ → Type 0} {at places many many′ : ℕ} → SoMany Such at places many
+    → SoMany Such at places many′ → many ≡ many′
 many-once no-place no-place = refl
 many-once (such h m) (such h′ m′) = ap suc (many-once m m′)
 many-once (such h m) (other h′ m′) = absurd (h′ h)
@@ -43,19 +43,19 @@ no-phase-chip : (p x : ℕ) → 4 ≤ x → isWrong p x ≡ false
 no-phase-chip p x l = rw (le-ltb x 4 l)
 
 -- ---- one place more
-module _ (Such : ℕ → Type 0) (at c m : ℕ) (more : HowMany Such (suc at) c m) where
-  is-such : {b : Bool} → b ≡ true → Such at → HowMany Such at (suc c) (cond b 1 0 + m)
-  is-such e h = rw e (subst (HowMany Such at (suc c)) (one-more m) (such h more))
+module _ (Such : ℕ → Type 0) (at c m : ℕ) (more : SoMany Such (suc at) c m) where
+  is-such : {b : Bool} → b ≡ true → Such at → SoMany Such at (suc c) (cond b 1 0 + m)
+  is-such e h = rw e (subst (SoMany Such at (suc c)) (one-more m) (such h more))
     where
       one-more : (m : ℕ) → suc m ≡ 1 + m
       one-more m = omega arith
 
-  is-other : {b : Bool} → b ≡ false → (Such at → ⊥) → HowMany Such at (suc c) (cond b 1 0 + m)
-  is-other e h = rw e (subst (HowMany Such at (suc c)) (sym (zero-add m)) (other h more))
+  is-other : {b : Bool} → b ≡ false → (Such at → ⊥) → SoMany Such at (suc c) (cond b 1 0 + m)
+  is-other e h = rw e (subst (SoMany Such at (suc c)) (sym (zero-add m)) (other h more))
 
 -- ---- stretches of chips
-wrong-first : (sent rec : List ℕ) (at c m : ℕ) → HowMany (WrongAt sent rec) (suc at) c m
-    → HowMany (WrongAt sent rec) at (suc c) (cond (isWrong (getD sent at 0) (getD rec at 0)) 1 0 + m)
+wrong-first : (sent rec : List ℕ) (at c m : ℕ) → SoMany (WrongAt sent rec) (suc at) c m
+    → SoMany (WrongAt sent rec) at (suc c) (cond (isWrong (getD sent at 0) (getD rec at 0)) 1 0 + m)
 wrong-first sent rec at c m more = by (decLt x 4) (ℕ-discrete x p)
   where
     p : ℕ
@@ -64,7 +64,7 @@ wrong-first sent rec at c m more = by (decLt x 4) (ℕ-discrete x p)
     x : ℕ
     x = getD rec at 0
 
-    by : Dec (x < 4) → Dec (x ≡ p) → HowMany (WrongAt sent rec) at (suc c) (cond (isWrong p x) 1 0 + m)
+    by : Dec (x < 4) → Dec (x ≡ p) → SoMany (WrongAt sent rec) at (suc c) (cond (isWrong p x) 1 0 + m)
     by (yes l) (no ne) = is-such (WrongAt sent rec) at c m more (wrong-chip p x l ne) (l, ne)
     by (yes l) (yes e) = is-other (WrongAt sent rec) at c m more (right-chip p x e) (λ h. h .1 e)
     by (no g) (yes e) = is-other (WrongAt sent rec) at c m more (right-chip p x e) (λ h. h .1 e)
@@ -72,7 +72,7 @@ wrong-first sent rec at c m more = by (decLt x 4) (ℕ-discrete x p)
         is-other (WrongAt sent rec) at c m more (no-phase-chip p x (omega arith)) (λ h. g (h .0))
 
 pub wrong-many : (c at : ℕ) (sent rec : List ℕ) → at + c ≤ length sent → at + c ≤ length rec
-    → HowMany (WrongAt sent rec) at c (wrong (take c (drop at sent)) (take c (drop at rec)))
+    → SoMany (WrongAt sent rec) at c (wrong (take c (drop at sent)) (take c (drop at rec)))
 unfolding wrong
 wrong-many zero at sent rec hs hr = no-place
 wrong-many (suc c) at sent rec hs hr =
@@ -80,19 +80,19 @@ wrong-many (suc c) at sent rec hs hr =
     (wrong-first sent rec at c (wrong (take c (drop (suc at) sent)) (take c (drop (suc at) rec)))
     (wrong-many c (suc at) sent rec (omega arith) (omega arith)))
 
-lost-first : (rec : List ℕ) (at c m : ℕ) → HowMany (LostAt rec) (suc at) c m
-    → HowMany (LostAt rec) at (suc c) (cond (isLost (getD rec at 0)) 1 0 + m)
+lost-first : (rec : List ℕ) (at c m : ℕ) → SoMany (LostAt rec) (suc at) c m
+    → SoMany (LostAt rec) at (suc c) (cond (isLost (getD rec at 0)) 1 0 + m)
 lost-first rec at c m more = by (ℕ-discrete x 4)
   where
     x : ℕ
     x = getD rec at 0
 
-    by : Dec (x ≡ 4) → HowMany (LostAt rec) at (suc c) (cond (isLost x) 1 0 + m)
+    by : Dec (x ≡ 4) → SoMany (LostAt rec) at (suc c) (cond (isLost x) 1 0 + m)
     by (yes e) = is-such (LostAt rec) at c m more (eq-eqb x 4 e) e
     by (no ne) = is-other (LostAt rec) at c m more (ne-eqb x 4 ne) ne
 
 pub lost-many : (c at : ℕ) (rec : List ℕ) → at + c ≤ length rec
-    → HowMany (LostAt rec) at c (lost (take c (drop at rec)))
+    → SoMany (LostAt rec) at c (lost (take c (drop at rec)))
 unfolding lost
 lost-many zero at rec h = no-place
 lost-many (suc c) at rec h =
@@ -101,15 +101,15 @@ lost-many (suc c) at rec h =
 
 -- all chips of two rows as long
 pub wrong-all : (c : ℕ) (sent rec : List ℕ) → length sent ≡ c → length rec ≡ c
-    → HowMany (WrongAt sent rec) 0 c (wrong sent rec)
+    → SoMany (WrongAt sent rec) 0 c (wrong sent rec)
 wrong-all c sent rec es er =
-    subst (HowMany (WrongAt sent rec) 0 c)
+    subst (SoMany (WrongAt sent rec) 0 c)
     (ap₂ {C = ℕ} (λ x y. wrong x y) (take-all c sent (omega (arith, es))) (take-all c rec (omega (arith, er))))
     (wrong-many c 0 sent rec (omega (arith, es)) (omega (arith, er)))
 
-pub lost-all : (c : ℕ) (rec : List ℕ) → length rec ≡ c → HowMany (LostAt rec) 0 c (lost rec)
+pub lost-all : (c : ℕ) (rec : List ℕ) → length rec ≡ c → SoMany (LostAt rec) 0 c (lost rec)
 lost-all c rec e =
-    subst (HowMany (LostAt rec) 0 c) (ap lost (take-all c rec (omega (arith, e))))
+    subst (SoMany (LostAt rec) 0 c) (ap lost (take-all c rec (omega (arith, e))))
     (lost-many c 0 rec (omega (arith, e)))
 
 -- ---- a row of m symbols
@@ -123,7 +123,7 @@ module _ (c : ℕ) where
   further j = omega arith
 
   pub wrong-at : (m : ℕ) (sent rec : List ℕ) (j : ℕ) → j < m
-      → getD (damage c m sent rec) (2 * j) 0 ≡ wrong (symbolOf c j sent) (symbolOf c j rec)
+      → getD (damage c m sent rec) (2 * j) 0 ≡ wrong (nthSymbol c j sent) (nthSymbol c j rec)
   unfolding damage
   wrong-at zero sent rec j h = absurd (not-suc-le-zero h)
   wrong-at (suc m) sent rec zero h =
@@ -134,7 +134,7 @@ module _ (c : ℕ) where
       ∙ ap₂ {C = ℕ} (λ x y. wrong x y) (symbol-next c j sent) (symbol-next c j rec)
 
   pub lost-at : (m : ℕ) (sent rec : List ℕ) (j : ℕ) → j < m
-      → getD (damage c m sent rec) (suc (2 * j)) 0 ≡ lost (symbolOf c j rec)
+      → getD (damage c m sent rec) (suc (2 * j)) 0 ≡ lost (nthSymbol c j rec)
   unfolding damage
   lost-at zero sent rec j h = absurd (not-suc-le-zero h)
   lost-at (suc m) sent rec zero h = ap lost (sym (symbol-first c rec))

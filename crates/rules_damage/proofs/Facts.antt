@@ -22,6 +22,11 @@ use Rattle.rules_damage.specs.Plain.{
   at-20,
   at-55,
   at-110,
+  SentAs,
+  phase-at-10,
+  phase-at-20,
+  word-at-55,
+  word-at-110,
   SymbolAt,
   in-front,
   in-payload,
@@ -39,6 +44,12 @@ pub counted :
     ≡ 0 ∷ 0 ∷ 3 ∷ 1 ∷ 0 ∷ 0 ∷ []
 unfolding wrong lost
 counted = refl
+
+-- rows are compared as far as the shorter goes
+pub counted-none : (ps xs : List ℕ) → (wrong ps [] ≡ 0) × (wrong [] xs ≡ 0)
+unfolding wrong
+counted-none [] xs = (refl, refl)
+counted-none (p ∷ ps) xs = (refl, refl)
 
 -- two CCK symbols: the first with one wrong chip and one lost, the second with three lost
 pub two-symbols :
@@ -118,12 +129,12 @@ module _ (rate n : ℕ) (rec : List ℕ) (each chips limit other : ℕ) where
   abbrev t : ℕ
   t = lost rec
 
-  past-limit : PayloadSymbols rate each chips limit → length rec ≡ chips
+  past-limit : SentAs rate n → PayloadSymbols rate each chips limit → length rec ≡ chips
       → T (all (λ i. ltb (getD rec i 0) 5) (length rec)) → T (ltb limit (2 * w + t)) → T (leb (2 * w + t) (suc limit))
       → decided (rateOf rate) (map takenCounts (hardRecording rec)) ≡ other → T (ltb other n)
       → PastLimit rate n rec limit w t other
-  past-limit u e b over one d ne = record {
-    spoiled = symbol-spoiled rate n rec each chips limit u e (usable rec b);
+  past-limit word u e b over one d ne = record {
+    spoiled = symbol-spoiled rate n rec each chips limit word u e (usable rec b);
     past = λ h. let l = ltb→lt limit (2 * w + t) over in omega (arith, h, l);
     just = leb→le (2 * w + t) (suc limit) one;
     decided-as = d;
@@ -133,17 +144,22 @@ module _ (rate n : ℕ) (rec : List ℕ) (each chips limit other : ℕ) where
 -- at 11 Mbit/s word (0,1,0,0), number 16, with its first, third, fifth and seventh chips lost is decided as word 0
 pub eleven-past : PastLimit 110 16 (4 ∷ 0 ∷ 4 ∷ 2 ∷ 4 ∷ 0 ∷ 4 ∷ 0 ∷ []) 3 0 4 0
 unfolding cckWord hardRecording score those going firstLargest decided wrong lost
-eleven-past = past-limit 110 16 (4 ∷ 0 ∷ 4 ∷ 2 ∷ 4 ∷ 0 ∷ 4 ∷ 0 ∷ []) 1 8 3 0 at-110 refl tt tt tt refl tt
+eleven-past =
+    past-limit 110 16 (4 ∷ 0 ∷ 4 ∷ 2 ∷ 4 ∷ 0 ∷ 4 ∷ 0 ∷ []) 1 8 3 0 (word-at-110 16 (lit< tt)) at-110 refl tt tt tt refl
+    tt
 
 -- at 5.5 Mbit/s word (0,1,0,2), number 18, with its first four chips lost, or its first two a half turn wrong, is
 -- decided as (0,1,0,0), number 16
+eighteen : SentAs 55 18
+eighteen = word-at-55 0 0 1 (lit< tt) (lit< tt) (lit< tt)
+
 pub five-lost : PastLimit 55 18 (4 ∷ 4 ∷ 4 ∷ 4 ∷ 1 ∷ 0 ∷ 3 ∷ 0 ∷ []) 3 0 4 16
 unfolding cckWord hardRecording score those going firstLargest decided wrong lost
-five-lost = past-limit 55 18 (4 ∷ 4 ∷ 4 ∷ 4 ∷ 1 ∷ 0 ∷ 3 ∷ 0 ∷ []) 2 8 3 16 at-55 refl tt tt tt refl tt
+five-lost = past-limit 55 18 (4 ∷ 4 ∷ 4 ∷ 4 ∷ 1 ∷ 0 ∷ 3 ∷ 0 ∷ []) 2 8 3 16 eighteen at-55 refl tt tt tt refl tt
 
 pub five-wrong : PastLimit 55 18 (1 ∷ 0 ∷ 3 ∷ 0 ∷ 1 ∷ 0 ∷ 3 ∷ 0 ∷ []) 3 2 0 16
 unfolding cckWord hardRecording score those going firstLargest decided wrong lost
-five-wrong = past-limit 55 18 (1 ∷ 0 ∷ 3 ∷ 0 ∷ 1 ∷ 0 ∷ 3 ∷ 0 ∷ []) 2 8 3 16 at-55 refl tt tt tt refl tt
+five-wrong = past-limit 55 18 (1 ∷ 0 ∷ 3 ∷ 0 ∷ 1 ∷ 0 ∷ 3 ∷ 0 ∷ []) 2 8 3 16 eighteen at-55 refl tt tt tt refl tt
 
 -- a Barker symbol of phase 1 with all eleven chips lost, or its first five turned back by a quarter and its sixth lost,
 -- is decided as phase 0
@@ -155,16 +171,16 @@ turnedBack = 0 ∷ 2 ∷ 0 ∷ 0 ∷ 2 ∷ 4 ∷ 1 ∷ 1 ∷ 3 ∷ 3 ∷ 3 ∷ [
 
 pub one-lost : PastLimit 10 1 allLost 10 0 11 0
 unfolding barkerWord hardRecording score those going firstLargest decided wrong lost
-one-lost = past-limit 10 1 allLost 8 11 10 0 at-10 refl tt tt tt refl tt
+one-lost = past-limit 10 1 allLost 8 11 10 0 (phase-at-10 1 (lit< tt)) at-10 refl tt tt tt refl tt
 
 pub one-wrong : PastLimit 10 1 turnedBack 10 5 1 0
 unfolding barkerWord hardRecording score those going firstLargest decided wrong lost
-one-wrong = past-limit 10 1 turnedBack 8 11 10 0 at-10 refl tt tt tt refl tt
+one-wrong = past-limit 10 1 turnedBack 8 11 10 0 (phase-at-10 1 (lit< tt)) at-10 refl tt tt tt refl tt
 
 pub two-lost : PastLimit 20 1 allLost 10 0 11 0
 unfolding barkerWord hardRecording score those going firstLargest decided wrong lost
-two-lost = past-limit 20 1 allLost 4 11 10 0 at-20 refl tt tt tt refl tt
+two-lost = past-limit 20 1 allLost 4 11 10 0 (phase-at-20 1 (lit< tt)) at-20 refl tt tt tt refl tt
 
 pub two-wrong : PastLimit 20 1 turnedBack 10 5 1 0
 unfolding barkerWord hardRecording score those going firstLargest decided wrong lost
-two-wrong = past-limit 20 1 turnedBack 4 11 10 0 at-20 refl tt tt tt refl tt
+two-wrong = past-limit 20 1 turnedBack 4 11 10 0 (phase-at-20 1 (lit< tt)) at-20 refl tt tt tt refl tt

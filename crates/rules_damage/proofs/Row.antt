@@ -1,6 +1,6 @@
 -- Spoiled symbols one after the other: where each keeps its limit, each is decided as the word sent, with a lead of a
 -- full chip at least, and no chip is unusable. Assumes nothing.
---     symbolOf, symbol-first, symbol-behind, symbol-from, symbol-next    symbol j of a row
+--     nthSymbol, symbol-first, symbol-behind, symbol-from, symbol-next    symbol j of a row
 --     none-unusable                                                      no chip is
 --     spoiled-words, spoiled-leads                                       what is decided, and by how much
 use mathlib.Core.Path.{_≡_, refl, sym, ap, ap₂, _∙_, subst}
@@ -34,20 +34,20 @@ use Rattle.rules_damage.proofs.OneSymbol.{counts, limitOf, decided-spoi
 
 -- ---- symbol j of a row
 module _ (c : ℕ) where
-  abbrev pub symbolOf : ℕ → List ℕ → List ℕ
-  symbolOf j xs = take c (drop (c * j) xs)
+  abbrev pub nthSymbol : ℕ → List ℕ → List ℕ
+  nthSymbol j xs = take c (drop (c * j) xs)
 
-  pub symbol-first : (xs : List ℕ) → symbolOf 0 xs ≡ take c xs
+  pub symbol-first : (xs : List ℕ) → nthSymbol 0 xs ≡ take c xs
   symbol-first xs = ap (λ (i : ℕ). take c (drop i xs)) (mul-zero c)
 
-  pub symbol-behind : (a j : ℕ) (xs : List ℕ) → symbolOf j (drop a xs) ≡ take c (drop (a + c * j) xs)
+  pub symbol-behind : (a j : ℕ) (xs : List ℕ) → nthSymbol j (drop a xs) ≡ take c (drop (a + c * j) xs)
   symbol-behind a j xs = ap (take c) (drop-drop (c * j) a xs)
 
-  pub symbol-from : (m j : ℕ) (xs : List ℕ) → symbolOf j (drop (c * m) xs) ≡ symbolOf (m + j) xs
+  pub symbol-from : (m j : ℕ) (xs : List ℕ) → nthSymbol j (drop (c * m) xs) ≡ nthSymbol (m + j) xs
   symbol-from m j xs =
       symbol-behind (c * m) j xs ∙ ap (λ (i : ℕ). take c (drop i xs)) (sym (mul-add c m j))
 
-  pub symbol-next : (j : ℕ) (xs : List ℕ) → symbolOf j (drop c xs) ≡ symbolOf (suc j) xs
+  pub symbol-next : (j : ℕ) (xs : List ℕ) → nthSymbol j (drop c xs) ≡ nthSymbol (suc j) xs
   symbol-next j xs = symbol-behind c j xs ∙ ap (λ (i : ℕ). take c (drop i xs)) (one-more c j)
     where
       one-more : (c j : ℕ) → c + c * j ≡ c * suc j
@@ -56,7 +56,7 @@ module _ (c : ℕ) where
 -- each of m symbols keeps within a limit
 abbrev pub SymbolsKeep : ℕ → ℕ → ℕ → List ℕ → List ℕ → Type 0
 SymbolsKeep l c m sent rec =
-    (j : ℕ) → j < m → KeepsLimit l (wrong (symbolOf c j sent) (symbolOf c j rec)) (lost (symbolOf c j rec))
+    (j : ℕ) → j < m → KeepsLimit l (wrong (nthSymbol c j sent) (nthSymbol c j rec)) (lost (nthSymbol c j rec))
 
 -- ---- no chip is unusable
 pub none-unusable : (at m : ℕ) (rec : List ℕ) (rest : List Taken) → Below 5 rec → m ≤ length rec
@@ -110,16 +110,16 @@ module _ (r : Rate) (n : ℕ) (ns after rec : List ℕ) (rest : List Taken) (b :
     first-keeps =
         subst (λ (w : List ℕ). KeepsLimit (limitOf r) (wrong w (take c rec)) (lost (take c rec)))
         (symbol-first c sent ∙ first-sent)
-        (subst (λ (x : List ℕ). KeepsLimit (limitOf r) (wrong (symbolOf c 0 sent) x) (lost x)) (symbol-first c rec)
+        (subst (λ (x : List ℕ). KeepsLimit (limitOf r) (wrong (nthSymbol c 0 sent) x) (lost x)) (symbol-first c rec)
         (h 0 (omega arith)))
 
     later-keep : SymbolsKeep (limitOf r) c (length ns) (wordsChips r ns ++ after) (drop c rec)
     later-keep j l =
-        subst (λ (s : List ℕ). KeepsLimit (limitOf r) (wrong (symbolOf c j s) (symbolOf c j (drop c rec)))
-        (lost (symbolOf c j (drop c rec)))) later-sent
-        (subst (λ (s : List ℕ). KeepsLimit (limitOf r) (wrong s (symbolOf c j (drop c rec)))
-        (lost (symbolOf c j (drop c rec)))) (sym (symbol-next c j sent))
-        (subst (λ (x : List ℕ). KeepsLimit (limitOf r) (wrong (symbolOf c (suc j) sent) x) (lost x))
+        subst (λ (s : List ℕ). KeepsLimit (limitOf r) (wrong (nthSymbol c j s) (nthSymbol c j (drop c rec)))
+        (lost (nthSymbol c j (drop c rec)))) later-sent
+        (subst (λ (s : List ℕ). KeepsLimit (limitOf r) (wrong s (nthSymbol c j (drop c rec)))
+        (lost (nthSymbol c j (drop c rec)))) (sym (symbol-next c j sent))
+        (subst (λ (x : List ℕ). KeepsLimit (limitOf r) (wrong (nthSymbol c (suc j) sent) x) (lost x))
         (sym (symbol-next c j rec)) (h (suc j) (omega arith))))
 
     module _ (l : n < numbers r) (a : isAllowed r n ≡ true) where

@@ -46,7 +46,7 @@ use Rattle.rules_damage.specs.Damage.{wrong, lost}
 use Rattle.rules_damage.specs.Plain.{SymbolAt, KeepsLimit, FrameStands}
 use Rattle.rules_damage.proofs.OneSymbol.{limitOf}
 use Rattle.rules_damage.proofs.Row.{
-  symbolOf,
+  nthSymbol,
   symbol-behind,
   symbol-from,
   SymbolsKeep,
@@ -160,11 +160,11 @@ module _ (kind : ℕ) (is-kind : isKind kind ≡ true) (r : Rate) (p : ℕ) (hea
 
     header-keep : SymbolsKeep 10 11 (headerSymbols k) (drop (preambleChips k) sent) (drop (preambleChips k) rec)
     header-keep j l =
-        subst (λ (i : ℕ). KeepsLimit 10 (wrong (symbolOf 11 j (drop i sent)) (symbolOf 11 j (drop i rec)))
-        (lost (symbolOf 11 j (drop i rec)))) (sym preamble-symbols)
-        (subst (λ (x : List ℕ). KeepsLimit 10 (wrong x (symbolOf 11 j (drop (11 * preambleLength k) rec)))
-        (lost (symbolOf 11 j (drop (11 * preambleLength k) rec)))) (sym (symbol-from 11 (preambleLength k) j sent))
-        (subst (λ (x : List ℕ). KeepsLimit 10 (wrong (symbolOf 11 (preambleLength k + j) sent) x) (lost x))
+        subst (λ (i : ℕ). KeepsLimit 10 (wrong (nthSymbol 11 j (drop i sent)) (nthSymbol 11 j (drop i rec)))
+        (lost (nthSymbol 11 j (drop i rec)))) (sym preamble-symbols)
+        (subst (λ (x : List ℕ). KeepsLimit 10 (wrong x (nthSymbol 11 j (drop (11 * preambleLength k) rec)))
+        (lost (nthSymbol 11 j (drop (11 * preambleLength k) rec)))) (sym (symbol-from 11 (preambleLength k) j sent))
+        (subst (λ (x : List ℕ). KeepsLimit 10 (wrong (nthSymbol 11 (preambleLength k + j) sent) x) (lost x))
         (sym (symbol-from 11 (preambleLength k) j rec))
         (front-keeps (preambleLength k + j) (omega (arith, front-symbols k, l)))))
 
@@ -259,8 +259,8 @@ module _ (kind : ℕ) (is-kind : isKind kind ≡ true) (r : Rate) (p : ℕ) (hea
     payload-keeps : SymbolsKeep (limitOf r) c (octetSymbols r * n) (drop (frontChips k) whole) (drop (frontChips k) rec)
     payload-keeps j l =
         let at = payload-symbol kind is-kind r n j l in
-        subst (λ (x : List ℕ). KeepsLimit (limitOf r) (wrong x (symbolOf c j (drop (frontChips k) rec)))
-        (lost (symbolOf c j (drop (frontChips k) rec)))) (sym (symbol-behind c (frontChips k) j whole))
+        subst (λ (x : List ℕ). KeepsLimit (limitOf r) (wrong x (nthSymbol c j (drop (frontChips k) rec)))
+        (lost (nthSymbol c j (drop (frontChips k) rec)))) (sym (symbol-behind c (frontChips k) j whole))
         (subst (λ (x : List ℕ). KeepsLimit (limitOf r) (wrong (take c (drop (frontChips k + c * j) whole)) x) (lost x))
         (sym (symbol-behind c (frontChips k) j rec))
         (keeps-at kind (codeOf r) n whole rec st _ _ _ _ at

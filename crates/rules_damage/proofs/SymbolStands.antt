@@ -1,12 +1,16 @@
 -- A symbol that keeps its limit is decided as the word sent, with a lead of a full chip at least, in plain numbers
--- (`SymbolSpoiled`, `KeepsLimit`); and what it takes to show that a symbol is spoiled so. Assumes nothing.
+-- (`SymbolSpoiled`, `KeepsLimit`); the words that are sent, in plain numbers, are those allowed. Assumes nothing.
 use mathlib.Core.Path.{_≡_, refl, sym, _∙_, subst}
 use mathlib.Core.List.{List, map}
-use Prim.Native.Nat.{ℕ, _≤_, _<_}
-use lib.Dec.{T}
+use Prim.Native.Nat.{ℕ, _+_, _*_, _/_, _%_, _≤_, _<_}
+use native.Mathlib.Omega.{arith}
+use lib.Dec.{T, eqb, eqb→eq}
 use lib.ListN.{length}
 use Rattle.base.specs.Below.{Below}
-use Rattle.rules_rates.specs.Rates.{rateOf, symbolChips}
+use Rattle.base.proofs.Tests.{implies, implied, all-at}
+use Rattle.rules_rates.specs.declared.Rate.{Rate}
+use Rattle.rules_rates.specs.declared.Rate.the-variants.{One, Two, Five, Eleven}
+use Rattle.rules_rates.specs.Rates.{codeOf, rateOf, symbolChips}
 use Rattle.rules_chips.specs.Chips.{takenCounts, hardRecording}
 use Rattle.rules_symbols.specs.Words.{wordOf}
 use Rattle.rules_symbols.specs.Choice.{numbers, isAllowed, decided, leadOf}
@@ -18,6 +22,11 @@ use Rattle.rules_damage.specs.Plain.{
   at-20,
   at-55,
   at-110,
+  SentAs,
+  phase-at-10,
+  phase-at-20,
+  word-at-55,
+  word-at-110,
   KeepsLimit,
   SymbolSpoiled,
 }
@@ -37,10 +46,51 @@ sent-chips : (rate n each chips limit : ℕ) → PayloadSymbols rate each chips 
 sent-chips rate n each chips limit u =
     word-length (rateOf rate) n ∙ its-symbol rate each chips limit u .0
 
-pub symbol-spoiled : (rate n : ℕ) (rec : List ℕ) (each chips limit : ℕ) → PayloadSymbols rate each chips limit
-    → length rec ≡ chips → Below 5 rec
+-- ---- the words that are sent are those allowed
+abbrev fiveNumber : ℕ → ℕ → ℕ → ℕ
+fiveNumber p1 d2 d3 = 64 * p1 + 16 * (2 * d2 + 1) + 2 * d3
+
+five-sent : (p1 d2 d3 : ℕ) → p1 < 4 → d2 < 2 → d3 < 2
+    → (fiveNumber p1 d2 d3 < 256) × T (isAllowed Five (fiveNumber p1 d2 d3))
+five-sent p1 d2 d3 h1 h2 h3 = (
+  omega arith,
+  subst (λ (n : ℕ). T (isAllowed Five n)) same
+      (all-at (λ j. isAllowed Five (fiveNumber (j / 4) (j / 2 % 2) (j % 2))) 16 tt j (omega arith)),
+)
+  where
+    j : ℕ
+    j = 4 * p1 + 2 * d2 + d3
+
+    same : fiveNumber ((4 * p1 + 2 * d2 + d3) / 4) ((4 * p1 + 2 * d2 + d3) / 2 % 2) ((4 * p1 + 2 * d2 + d3) % 2)
+        ≡ fiveNumber p1 d2 d3
+    same = omega arith
+
+pub word-sent : (rate n : ℕ) → SentAs rate n → (n < numbers (rateOf rate)) × T (isAllowed (rateOf rate) n)
+word-sent _ _ (phase-at-10 n l) = (l, tt)
+word-sent _ _ (phase-at-20 n l) = (l, tt)
+word-sent _ _ (word-at-55 p1 d2 d3 h1 h2 h3) = five-sent p1 d2 d3 h1 h2 h3
+word-sent _ _ (word-at-110 n l) = (l, tt)
+
+five-is : (n : ℕ) → n < 256 → T (isAllowed Five n) → n ≡ fiveNumber (n / 64) (n / 32 % 2) (n / 2 % 2)
+five-is n l a =
+    eqb→eq n (fiveNumber (n / 64) (n / 32 % 2) (n / 2 % 2))
+    (implied (isAllowed Five n) (eqb n (fiveNumber (n / 64) (n / 32 % 2) (n / 2 % 2)))
+    (all-at (λ n. implies (isAllowed Five n) (eqb n (fiveNumber (n / 64) (n / 32 % 2) (n / 2 % 2)))) 256 tt n l) a)
+
+pub sent-word : (r : Rate) (n : ℕ) → n < numbers r → T (isAllowed r n) → SentAs (codeOf r) n
+sent-word One n l a = phase-at-10 n l
+sent-word Two n l a = phase-at-20 n l
+sent-word Five n l a =
+    subst (SentAs 55) (sym (five-is n l a))
+    (word-at-55 (n / 64) (n / 32 % 2) (n / 2 % 2) (omega arith) (omega arith) (omega arith))
+sent-word Eleven n l a = word-at-110 n l
+
+-- ---- one symbol
+pub symbol-spoiled : (rate n : ℕ) (rec : List ℕ) (each chips limit : ℕ) → SentAs rate n
+    → PayloadSymbols rate each chips limit → length rec ≡ chips → Below 5 rec
     → SymbolSpoiled rate n rec limit (wrong (wordOf (rateOf rate) n) rec) (lost rec)
-symbol-spoiled rate n rec each chips limit u e b = record {
+symbol-spoiled rate n rec each chips limit word u e b = record {
+  word = word;
   each = each;
   chips = chips;
   symbol = u;
@@ -50,8 +100,11 @@ symbol-spoiled rate n rec each chips limit u e b = record {
   lost-are = lost-all chips rec e;
 }
 
-module _ (rate n : ℕ) (rec : List ℕ) (limit w t : ℕ) (l : n < numbers (rateOf rate))
-    (a : T (isAllowed (rateOf rate) n)) (s : SymbolSpoiled rate n rec limit w t) (few : KeepsLimit limit w t) where
+module _ (rate n : ℕ) (rec : List ℕ) (limit w t : ℕ) (s : SymbolSpoiled rate n rec limit w t)
+    (few : KeepsLimit limit w t) where
+  number : (n < numbers (rateOf rate)) × T (isAllowed (rateOf rate) n)
+  number = word-sent rate n (s .word)
+
   its : (symbolChips (rateOf rate) ≡ s .chips) × (limit ≡ limitOf (rateOf rate))
   its = its-symbol rate (s .each) (s .chips) limit (s .symbol)
 
@@ -74,8 +127,8 @@ module _ (rate n : ℕ) (rec : List ℕ) (limit w t : ℕ) (l : n < numbers (rat
 
   pub decided-sent : decided (rateOf rate) (map takenCounts (hardRecording rec)) ≡ n
   unfolding hardRecording
-  decided-sent = decided-spoiled (rateOf rate) n rec l a long (s .all-usable) keeps
+  decided-sent = decided-spoiled (rateOf rate) n rec (number .0) (number .1) long (s .all-usable) keeps
 
   pub lead-sent : 1024 ≤ leadOf (rateOf rate) (map takenCounts (hardRecording rec))
   unfolding hardRecording
-  lead-sent = lead-spoiled (rateOf rate) n rec l a long (s .all-usable) keeps
+  lead-sent = lead-spoiled (rateOf rate) n rec (number .0) (number .1) long (s .all-usable) keeps

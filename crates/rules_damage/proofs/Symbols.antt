@@ -42,7 +42,7 @@ use Rattle.rules_damage.specs.Plain.{
   in-payload,
   WrongAt,
   LostAt,
-  HowMany,
+  SoMany,
   KeepsLimit,
   FrameStands,
 }
@@ -240,20 +240,20 @@ module _ (kind : ℕ) (is-kind : isKind kind ≡ true) (r : Rate) (n : ℕ) wher
     next-twice j = omega arith
 
     abbrev Wrong : ℕ → ℕ → ℕ → ℕ → Type 0
-    Wrong s at chips limit = HowMany (WrongAt sent rec) at chips (getD row (2 * s) 0)
+    Wrong s at chips limit = SoMany (WrongAt sent rec) at chips (getD row (2 * s) 0)
 
     abbrev Lost : ℕ → ℕ → ℕ → ℕ → Type 0
-    Lost s at chips limit = HowMany (LostAt rec) at chips (getD row (suc (2 * s)) 0)
+    Lost s at chips limit = SoMany (LostAt rec) at chips (getD row (suc (2 * s)) 0)
 
     pub wrong-counted : (s at chips limit : ℕ) → SymbolAt kind (codeOf r) n s at chips limit → Wrong s at chips limit
     wrong-counted =
         by-part Wrong
-        (λ s l. subst (HowMany (WrongAt sent rec) (11 * s) 11)
+        (λ s l. subst (SoMany (WrongAt sent rec) (11 * s) 11)
         (sym (in-front-row (2 * s) (omega arith) ∙ wrong-at 11 (frontSymbols k) sent rec s l))
         (wrong-many 11 (11 * s) sent rec (omega (arith, front-eleven k)) (omega (arith, front-eleven k))))
         (λ j l. let h : frontChips k + c * j + c ≤ frameChips k r n
         = omega (arith, last-chips j (octetSymbols r * n) l, part-chips r n) in
-        subst (HowMany (WrongAt sent rec) (frontChips k + c * j) c)
+        subst (SoMany (WrongAt sent rec) (frontChips k + c * j) c)
         (sym (ap (λ (i : ℕ). getD row i 0) (twice j) ∙ in-payload-row (2 * j)
         ∙ wrong-at c (octetSymbols r * n) (drop (frontChips k) sent) (drop (frontChips k) rec) j l
         ∙ ap₂ {C = ℕ} (λ x y. wrong x y) (symbol-behind c (frontChips k) j sent)
@@ -263,10 +263,10 @@ module _ (kind : ℕ) (is-kind : isKind kind ≡ true) (r : Rate) (n : ℕ) wher
     pub lost-counted : (s at chips limit : ℕ) → SymbolAt kind (codeOf r) n s at chips limit → Lost s at chips limit
     lost-counted =
         by-part Lost
-        (λ s l. subst (HowMany (LostAt rec) (11 * s) 11)
+        (λ s l. subst (SoMany (LostAt rec) (11 * s) 11)
         (sym (in-front-row (suc (2 * s)) (omega arith) ∙ lost-at 11 (frontSymbols k) sent rec s l))
         (lost-many 11 (11 * s) rec (omega (arith, front-eleven k))))
-        (λ j l. subst (HowMany (LostAt rec) (frontChips k + c * j) c)
+        (λ j l. subst (SoMany (LostAt rec) (frontChips k + c * j) c)
         (sym (ap (λ (i : ℕ). getD row i 0) (next-twice j) ∙ in-payload-row (suc (2 * j))
         ∙ lost-at c (octetSymbols r * n) (drop (frontChips k) sent) (drop (frontChips k) rec) j l
         ∙ ap lost (symbol-behind c (frontChips k) j rec)))

@@ -28,7 +28,7 @@ pub data PayloadSymbols : ℕ → ℕ → ℕ → ℕ → Type 0 where
   at-110 : PayloadSymbols 110 1 8 3
 
 -- of a frame of n octets: symbol s, counted from 0 at the frame's first, with the place of its first chip, its chips
--- and its limit. A front's symbols are Barker symbols. Of no octets, the front alone
+-- and its limit. A front's symbols are Barker symbols. A frame of no octets has the symbols of its front only
 pub data SymbolAt (kind rate n : ℕ) : ℕ → ℕ → ℕ → ℕ → Type 0 where
   in-front : (f s : ℕ) → FrontSymbols kind f → s < f → SymbolAt kind rate n s (11 * s) 11 10
   in-payload : (f each chips limit j : ℕ) → FrontSymbols kind f → PayloadSymbols rate each chips limit → j < each * n
@@ -49,7 +49,7 @@ pub record SomeSymbol (kind rate n i : ℕ) : Type 0 where
 
 -- ---- wrong and lost chips
 
--- the chip at place i was recorded as another phase than the one sent; as a 4
+-- the chip at place i is wrong, recorded as another phase than the one sent; it is lost, recorded as a 4
 abbrev pub WrongAt : List ℕ → List ℕ → ℕ → Type 0
 WrongAt sent rec i = (getD rec i 0 < 4) × (getD rec i 0 ≡ getD sent i 0 → ⊥)
 
@@ -57,10 +57,10 @@ abbrev pub LostAt : List ℕ → ℕ → Type 0
 LostAt rec i = getD rec i 0 ≡ 4
 
 -- of so many places from `at` on, so many are such
-pub data HowMany (Such : ℕ → Type 0) : ℕ → ℕ → ℕ → Type 0 where
-  no-place : {at : ℕ} → HowMany Such at 0 0
-  such : {at places many : ℕ} → Such at → HowMany Such (suc at) places many → HowMany Such at (suc places) (suc many)
-  other : {at places many : ℕ} → (Such at → ⊥) → HowMany Such (suc at) places many → HowMany Such at (suc places) many
+pub data SoMany (Such : ℕ → Type 0) : ℕ → ℕ → ℕ → Type 0 where
+  no-place : {at : ℕ} → SoMany Such at 0 0
+  such : {at places many : ℕ} → Such at → SoMany Such (suc at) places many → SoMany Such at (suc places) (suc many)
+  other : {at places many : ℕ} → (Such at → ⊥) → SoMany Such (suc at) places many → SoMany Such at (suc places) many
 
 -- ---- what a symbol and a frame stand
 
@@ -68,18 +68,27 @@ pub data HowMany (Such : ℕ → Type 0) : ℕ → ℕ → ℕ → Type 0 where
 abbrev pub KeepsLimit : ℕ → ℕ → ℕ → Type 0
 KeepsLimit limit wrong lost = 2 * wrong + lost ≤ limit
 
+-- the words that are sent at a rate, by their numbers: the four phases at 1 and 2 Mbit/s; at 5.5 Mbit/s those whose p2
+-- is odd, whose p3 is 0 and whose p4 is even; at 11 Mbit/s all
+pub data SentAs : ℕ → ℕ → Type 0 where
+  phase-at-10 : (n : ℕ) → n < 4 → SentAs 10 n
+  phase-at-20 : (n : ℕ) → n < 4 → SentAs 20 n
+  word-at-55 : (p1 d2 d3 : ℕ) → p1 < 4 → d2 < 2 → d3 < 2 → SentAs 55 (64 * p1 + 16 * (2 * d2 + 1) + 2 * d3)
+  word-at-110 : (n : ℕ) → n < 256 → SentAs 110 n
+
 -- a payload's symbol, sent as word n at a rate and recorded as phases and 4s: its limit, and how many of its chips are
 -- wrong and how many lost
 pub record SymbolSpoiled (rate n : ℕ) (rec : List ℕ) (limit wrong lost : ℕ) : Type 0 where
+  pub word : SentAs rate n
   pub each : ℕ
   pub chips : ℕ
   pub symbol : PayloadSymbols rate each chips limit
   pub all-there : length rec ≡ chips
   pub all-usable : Below 5 rec
-  pub wrong-are : HowMany (WrongAt (wordOf (rateOf rate) n) rec) 0 chips wrong
-  pub lost-are : HowMany (LostAt rec) 0 chips lost
+  pub wrong-are : SoMany (WrongAt (wordOf (rateOf rate) n) rec) 0 chips wrong
+  pub lost-are : SoMany (LostAt rec) 0 chips lost
 
--- one past its limit it is decided as another word
+-- such a symbol that is one past its limit and is decided as another word
 pub record PastLimit (rate n : ℕ) (rec : List ℕ) (limit wrong lost other : ℕ) : Type 0 where
   pub spoiled : SymbolSpoiled rate n rec limit wrong lost
   pub past : KeepsLimit limit wrong lost → ⊥
@@ -92,14 +101,14 @@ pub record FrameStands (kind rate n : ℕ) (sent rec : List ℕ) : Type 0 where
   pub same-length : length rec ≡ length sent
   pub usable : Below 5 rec
   pub each : (s at chips limit wrong lost : ℕ) → SymbolAt kind rate n s at chips limit
-      → HowMany (WrongAt sent rec) at chips wrong → HowMany (LostAt rec) at chips lost → KeepsLimit limit wrong lost
+      → SoMany (WrongAt sent rec) at chips wrong → SoMany (LostAt rec) at chips lost → KeepsLimit limit wrong lost
 
--- a recording of such a frame in which just so many chips of each symbol are wrong and lost: of those in the front, and
--- of those in the payload
+-- a recording that stands, in which each symbol of the front has just `wrong` wrong and `lost` lost chips, and each of
+-- the payload `wrong′` and `lost′`
 pub record SpoiledBy (kind rate n : ℕ) (sent : List ℕ) (wrong lost wrong′ lost′ : ℕ) : Type 0 where
   pub rec : List ℕ
   pub stands : FrameStands kind rate n sent rec
   pub in-the-front : (f s at chips limit : ℕ) → FrontSymbols kind f → SymbolAt kind rate n s at chips limit → s < f
-      → HowMany (WrongAt sent rec) at chips wrong × HowMany (LostAt rec) at chips lost
+      → SoMany (WrongAt sent rec) at chips wrong × SoMany (LostAt rec) at chips lost
   pub in-the-payload : (f s at chips limit : ℕ) → FrontSymbols kind f → SymbolAt kind rate n s at chips limit → f ≤ s
-      → HowMany (WrongAt sent rec) at chips wrong′ × HowMany (LostAt rec) at chips lost′
+      → SoMany (WrongAt sent rec) at chips wrong′ × SoMany (LostAt rec) at chips lost′
