@@ -67,9 +67,11 @@ SpoiledReadBack =
     × (left ≡ payload ++ replicate (room - length payload) 0))
     × (room < length payload → a ≡ refused 17 l)
 
+-- The next two are of a front alone, which is a frame of no octets.
+
 -- promise: The front of a frame that was written, recorded as phases and 4s and its symbols each within their limit,
 -- tells what is coming, whatever became of the payload's chips; with fewer chips behind it than the payload's, 16 with
--- LENGTH. The front is a frame of no octets
+-- LENGTH
 -- rule: 6.28, 6.15
 -- code: dsss_write_2, dsss_read_front, small_calls::part
 abbrev pub SpoiledTold : Type 0
