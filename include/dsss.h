@@ -301,11 +301,11 @@ dsss_written dsss_write(uint64_t kind, uint64_t rate, uint64_t phase, uint64_t c
  *          payload; all else 0, the clock bit, the lead and its symbol too.
  * Buffer:  octets[] is the payload and then 0s; refused, all 0s.
  * Damage:  a chip is wrong if it was recorded as another phase than the one sent, lost if as
- *          DSSS_CHIP_LOST. A frame of dsss_write is read as it was written, but for the lead and its symbol,
- *          if in every symbol of 11 chips twice the wrong ones plus the lost ones is at most 10, and in every
- *          symbol of 8 chips at most 3; the lead is then at least DSSS_FULL_CHIP. Symbols of the front, and
- *          those of payloads at 1 and 2 Mbit/s, have 11 chips; at 5.5 and 11 Mbit/s they have 8. A lost chip
- *          more in one symbol may give another payload with number 0.
+ *          DSSS_CHIP_LOST. With room, a frame of dsss_write is read as it was written, but for the lead
+ *          and its symbol, if in every symbol of 11 chips twice the wrong ones plus the lost ones is at
+ *          most 10, and in every symbol of 8 chips at most 3; the lead is then at least DSSS_FULL_CHIP.
+ *          Symbols of the front, and those of payloads at 1 and 2 Mbit/s, have 11 chips; at 5.5 and 11
+ *          Mbit/s they have 8. A lost chip more in one symbol may give another payload with number 0.
  * Proved:  crates/dsss, dsss_read_hard_3, record ReadHard: answer and octets; of spoiled frames
  *          crates/promises_damage, SpoiledReadBack. */
 dsss_record dsss_read_hard(uint64_t kind, const uint8_t *chips, size_t chips_len, uint8_t *octets,
@@ -357,6 +357,7 @@ dsss_record dsss_read_bytes(uint64_t kind, const int8_t *bytes, size_t bytes_len
  *          same recording; all else 0, at and count too: the part is empty.
  * Buffer:  none is lent. The part handed back is chips + at, count chips, never a copy; it is good as
  *          long as chips is. Look at count first: after a refusal of no chips, chips may be NULL.
+ * Damage:  as of dsss_read_hard; the symbols of the front alone count.
  * NUMBER 0 SAYS NOTHING OF THE PAYLOAD'S CHIPS: a full read may still refuse with 9 or 10 there. With
  * room for n octets it never refuses with 17.
  * Proved:  crates/dsss, dsss_read_front, record ReadFront: answer. */
@@ -375,6 +376,7 @@ dsss_coming dsss_read_front(uint64_t kind, const uint8_t *chips, size_t chips_le
  * Refused: the number; all else 0. An empty recording, or one shorter than a front, is 19, never 8; 1
  *          and then 18 come first.
  * Buffer:  none is lent.
+ * Damage:  a front of dsss_write that is spoiled as dsss_read_hard has it is found where it starts, or before.
  * THE OFFSET FOUND IS SELDOM THE FRAME'S FIRST CHIP, AND A READ FROM IT MAY GIVE NUMBER 0 AND OTHER
  * OCTETS. Barker symbols can be read beside their grid too, at a lead of one chip: the front of a clean
  * frame may be accepted from 10, 8, 6, 4 or 2 chips before its first chip already, and as far behind
@@ -414,6 +416,7 @@ dsss_reason dsss_why(uint64_t kind, const uint8_t *chips, size_t chips_len, uint
  *          32,952,000. Below these limits nothing wraps round, whatever the numbers. some is a yes or no,
  *          and lead and recording may be any: they are not refused.
  * Buffer:  none is lent.
+ * Damage:  a frame that dsss_read_hard reads as it was written is counted as that frame.
  * Keep the report of every answer, refused or not: report = dsss_report_add(report, ..).report.
  * Proved:  crates/dsss, dsss_report_add, record Adds: answer. */
 dsss_counted dsss_report_add(dsss_report report, uint64_t kind, const uint8_t *chips, size_t chips_len);

@@ -87,8 +87,8 @@ SpoiledTold =
     × (length tail < s .sendable .octet * length payload → c ≡ refusedComing 16 0 l)
 
 -- promise: A frame that was written, its front recorded as phases and 4s and the symbols of it each within their limit,
--- is not missed by a search, whatever stands before it, became of its payload's chips or follows: a start is found
--- where it starts or before, and if there, it is the frame's
+-- is not missed by a search, whatever stands before or behind it and whatever became of its payload's chips: a start
+-- is found where it starts or before, and if there, it is the frame's
 -- rule: 6.28, 6.17
 -- code: dsss_write_2, dsss_find
 abbrev pub SpoiledFound : Type 0
@@ -109,7 +109,7 @@ pub record CountsAs (p : Report) (kind rate l n used clock : ℕ) (q : Report) :
   pub one-more : OneMore p (record { kind = kind; answer = good rate l n used clock lead symbol }) q
 
 -- promise: A frame that was written and recorded as phases and 4s, and whose symbols each keep their limit, is counted
--- in any report that takes one more as the frame that it was, whatever follows it
+-- in any report that takes one recording more (6.19) as the frame that it was, whatever follows it
 -- rule: 6.28, 6.19
 -- code: dsss_write_2, dsss_report_add
 -- with: CountsAs
@@ -159,7 +159,8 @@ WordsApart =
 
 -- ---- the symbols of a frame, and the row of its damage
 
--- promise: Each chip of a frame is in a symbol that keeps a limit, and in no other
+-- promise: Each chip of a frame is in exactly one symbol, which has one limit, and no symbol has a chip that is not the
+-- frame's
 -- rule: 3.10, 5.2, 5.4
 -- with: SymbolAt, HasChip
 abbrev pub InOneSymbol : Type 0
@@ -190,7 +191,7 @@ DamageRow =
     (getD (frameDamage (kindOf kind) (rateOf rate) n sent rec) (suc (2 * s)) 0))
     → FrameStands kind rate n sent rec)
 
--- promise: All damage that the limits allow does come: for any phases as long as a frame, and any two pairs of numbers
+-- promise: Every damage that the limits allow occurs: for any phases as long as a frame, and any two pairs of numbers
 -- that keep the limits, there is a recording in which each symbol of the front has just the first pair of wrong and
 -- lost chips, and each symbol of the payload the second
 -- rule: 3.10

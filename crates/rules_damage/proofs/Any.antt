@@ -1,4 +1,4 @@
--- All that the limits allow does come: for any chips that are phases, and any two pairs of numbers that keep the
+-- Every damage that the limits allow occurs: for any chips that are phases, and any two pairs of numbers that keep the
 -- limits, there is a recording in which each symbol of the front has just the first pair of wrong and lost chips, and
 -- each symbol of the payload the second (`any-damage`). The first chips of a symbol are turned by a quarter, the next
 -- ones are lost. Assumes nothing.

@@ -28,7 +28,7 @@ pub data PayloadSymbols : ℕ → ℕ → ℕ → ℕ → Type 0 where
   at-110 : PayloadSymbols 110 1 8 3
 
 -- of a frame of n octets: symbol s, counted from 0 at the frame's first, with the place of its first chip, its chips
--- and its limit. A front's symbols are Barker symbols. A frame of no octets has the symbols of its front only
+-- and its limit. A front's symbols are Barker symbols. With n = 0 there are the symbols of the front alone
 pub data SymbolAt (kind rate n : ℕ) : ℕ → ℕ → ℕ → ℕ → Type 0 where
   in-front : (f s : ℕ) → FrontSymbols kind f → s < f → SymbolAt kind rate n s (11 * s) 11 10
   in-payload : (f each chips limit j : ℕ) → FrontSymbols kind f → PayloadSymbols rate each chips limit → j < each * n
@@ -56,7 +56,7 @@ WrongAt sent rec i = (getD rec i 0 < 4) × (getD rec i 0 ≡ getD sent i 0 → �
 abbrev pub LostAt : List ℕ → ℕ → Type 0
 LostAt rec i = getD rec i 0 ≡ 4
 
--- of so many places from `at` on, so many are such
+-- `many` of the `places` places from `at` on are such
 pub data SoMany (Such : ℕ → Type 0) : ℕ → ℕ → ℕ → Type 0 where
   no-place : {at : ℕ} → SoMany Such at 0 0
   such : {at places many : ℕ} → Such at → SoMany Such (suc at) places many → SoMany Such at (suc places) (suc many)

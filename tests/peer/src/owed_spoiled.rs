@@ -16,12 +16,12 @@ use crate::symbols::{barker, cck, scores, Choice, ALLOWED_11, ALLOWED_5_5};
 type Row = (Spoiled, &'static str, u64);
 
 /// How often a frame of each kind and rate must be read back by each full read, without the clock bit and with it.
-const READ_BACK: [(&str, u64); 3] = [("read hard", 15), ("read soft", 4), ("read bytes", 4)];
+const READ_BACK: [(&str, u64); 3] = [("read hard", 15), ("read soft", 3), ("read bytes", 3)];
 
 /// Of one rate: a frame of 1, of 2 and of 4,095 octets, one of which every symbol is spoiled, or as far as its limit
 /// allows, one led by one full chip; fronts that tell of a whole frame, of one beyond the limits or unusable behind the
 /// front, of a cut one; frames counted as one more and in lists.
-const OF_EACH_RATE: [u64; 11] = [15, 30, 1, 90, 40, 90, 110, 290, 40, 13, 18];
+const OF_EACH_RATE: [u64; 11] = [15, 30, 1, 90, 40, 90, 110, 290, 35, 13, 18];
 
 const READ: [Row; 12] = [
     (Spoiled::LedByOne { rate: 10, front: false }, "led by one chip of the payload at 10", 25),
@@ -38,7 +38,16 @@ const READ: [Row; 12] = [
     (SameBy("read bytes"), "by bytes", 160),
 ];
 
-const FOUND: [Row; 2] = [(Found { early: false }, "where it starts", 250), (Found { early: true }, "before", 17)];
+const FOUND: [Row; 8] = [
+    (Found { early: false }, "where it starts", 250),
+    (Found { early: true }, "before", 13),
+    (Spoiled::FoundAtLast, "at the last offset", 2),
+    (Spoiled::Reasoned { refused: false }, "no reason", 800),
+    (Spoiled::Reasoned { refused: true }, "a reason", 700),
+    (Spoiled::CountedBehind, "counted with chips behind", 20),
+    (Spoiled::CountedUnder(9), "under 9", 5),
+    (Spoiled::CountedUnder(16), "under 16", 10),
+];
 
 /// The rule's own examples of symbols one beyond the limits that come out otherwise; the last two are of phase 1.
 const EXAMPLES: [(Spoiled, &str); 5] = [
@@ -228,7 +237,7 @@ pub fn spoiled(total: &Outcome) -> Vec<String> {
     read.push(("each unusable octet in the front", octets(true), 1));
     read.push(("behind it", octets(false), 1));
     short.extend(ways("spoiled", "frames", &read));
-    short.extend(ways("spoiled", "found", &rows(&FOUND)));
+    short.extend(ways("spoiled", "found, asked, counted", &rows(&FOUND)));
     short.extend(ways("spoiled", "examples", &EXAMPLES.map(|(what, shown)| (shown, count(what), 1))));
     short
 }

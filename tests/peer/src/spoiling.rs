@@ -53,17 +53,26 @@ pub fn symbols_of(kind: Kind, rate: Rate, chips: &[u8]) -> impl Iterator<Item = 
     front.chain(payload.chunks(rate.chips_per_symbol()).map(move |symbol| (rate, symbol)))
 }
 
+/// The symbols of a frame, or of its front, each with its rate, as it was sent and as it was recorded.
+pub fn beside<'a>(
+    kind: Kind,
+    rate: Rate,
+    sent: &'a [Phase],
+    recorded: &'a [u8],
+) -> impl Iterator<Item = (Rate, &'a [Phase], &'a [u8])> {
+    let both = symbols_of(kind, rate, sent).zip(symbols_of(kind, rate, recorded));
+    both.map(|((rate, sent), (_, recorded))| (rate, sent, recorded))
+}
+
 /// The damage of a frame, or of its front: each symbol's, in the order of the symbols.
 pub fn damage_row(kind: Kind, rate: Rate, sent: &[Phase], recorded: &[u8]) -> Vec<Damage> {
-    let both = symbols_of(kind, rate, sent).zip(symbols_of(kind, rate, recorded));
-    both.map(|((_, sent), (_, recorded))| Damage::of(sent, recorded)).collect()
+    beside(kind, rate, sent, recorded).map(|(_, sent, recorded)| Damage::of(sent, recorded)).collect()
 }
 
 /// Whether as many chips were recorded as were sent, each a phase or a 4, and every symbol keeps its limit.
 pub fn keeps_limits(kind: Kind, rate: Rate, sent: &[Phase], recorded: &[u8]) -> bool {
-    let mut both = symbols_of(kind, rate, sent).zip(symbols_of(kind, rate, recorded));
     recorded.len() == sent.len()
-        && both.all(|((rate, sent), (_, recorded))| {
+        && beside(kind, rate, sent, recorded).all(|(rate, sent, recorded)| {
             recorded.iter().all(|chip| *chip <= LOST) && Damage::of(sent, recorded).keeps(rate)
         })
 }

@@ -9,7 +9,7 @@ use crate::refusals::{ENDS, MOST_OFFSETS, OCTET_BUFFER, REPORT, UNUSABLE};
 use crate::relations::lead_as_sent;
 use crate::report::Report;
 use crate::report_calls::ReportCall;
-use crate::spoiling::{damage_row, keeps_limits, limit, pattern_of, symbols_of, word_of, Damage, Pattern, Way};
+use crate::spoiling::{beside, damage_row, keeps_limits, limit, pattern_of, word_of, Damage, Pattern, Way};
 
 /// What was seen to hold. A symbol is one of a frame that a hard read answered.
 #[derive(Clone, Copy, PartialEq, Eq, PartialOrd, Ord)]
@@ -48,8 +48,16 @@ pub enum Spoiled {
     ToldCut { rate: u64 },
     /// A front that keeps the limits isn't passed over: found where it starts, or before.
     Found { early: bool },
+    /// One that starts at the last offset that can be tried is found there, or before.
+    FoundAtLast,
+    /// Why a read of a spoiled frame is refused, or that it is not, is answered as it must be.
+    Reasoned { refused: bool },
     /// A frame that keeps the limits is counted as the frame that it was, as one more or in a list of such.
     Counted { listed: bool, rate: u64 },
+    /// One with chips behind it is, as one more.
+    CountedBehind,
+    /// One that is cut or has an unusable chip is counted under this number.
+    CountedUnder(u64),
     /// This octet, in the front or behind it, is refused with 9, all symbols else keeping the limits.
     Unusable { front: bool, octet: u8 },
     /// A CCK symbol alone is beyond the limits: the frame is read back, or something else comes of it.
@@ -208,24 +216,21 @@ impl Sent {
         seen.chain(far).chain(apart).collect()
     }
 
-    /// The symbols of this frame beside those of a recording that is at least as long.
-    fn beside<'a>(&'a self, recorded: &'a [u8]) -> impl Iterator<Item = (Rate, &'a [Phase], &'a [u8])> {
-        let both = symbols_of(self.kind, self.rate, &self.chips).zip(symbols_of(self.kind, self.rate, recorded));
-        both.map(|((rate, sent), (_, recorded))| (rate, sent, recorded))
-    }
-
     /// The symbols of a frame that is read back, each with how it was spoiled.
     fn symbols<'a>(&'a self, recorded: &'a [u8]) -> impl Iterator<Item = Spoiled> + 'a {
-        self.beside(recorded).map(|(rate, sent, recorded)| match how_spoiled(sent, recorded) {
-            How::Cck(word, pattern) => Spoiled::Cck { rate: u64::from(rate.code()), word, pattern },
-            How::Barker(phase, way) => Spoiled::Barker { phase, way },
+        beside(self.kind, self.rate, &self.chips, recorded).map(|(rate, sent, recorded)| {
+            match how_spoiled(sent, recorded) {
+                How::Cck(word, pattern) => Spoiled::Cck { rate: u64::from(rate.code()), word, pattern },
+                How::Barker(phase, way) => Spoiled::Barker { phase, way },
+            }
         })
     }
 
     /// What comes of a frame of which one symbol alone is beyond the limits.
     fn beyond(&self, recorded: &[u8], answer: &Answer) -> Option<Spoiled> {
         let (rate, other) = (self.rate(), answer.numbers[0] != 0 || !self.gave(answer));
-        let mut beyond = self.beside(recorded).filter(|(rate, sent, at)| !Damage::of(sent, at).keeps(*rate));
+        let symbols = beside(self.kind, self.rate, &self.chips, recorded);
+        let mut beyond = symbols.filter(|(rate, sent, at)| !Damage::of(sent, at).keeps(*rate));
         let (_, sent, recorded) = beyond.next()?;
         beyond.next().is_none().then(|| match how_spoiled(sent, recorded) {
             How::Cck(word, pattern) => Spoiled::Beyond { rate, word, pattern, other },
@@ -260,7 +265,7 @@ impl Sent {
             (Some([number, place, _]), _) => [number, place, 0, u64::from(recorded[place as usize])],
         };
         if numbers == reason {
-            Ok(Vec::new())
+            Ok(vec![Spoiled::Reasoned { refused: reason[0] != 0 }])
         } else {
             Err("a reason that doesn't go with what was written")
         }
@@ -338,7 +343,7 @@ impl Spoils {
             }
             Call::Find { kind, chips, offsets } => self.found(*kind, chips, *offsets, &answer.numbers),
             Call::Report(ReportCall::Add { report, kind, chips }) => {
-                self.asked_of(*kind, chips, |sent, state| added(sent, state, report, &answer.numbers))
+                self.asked_of(*kind, chips, |sent, state| added(sent, state, chips, report, &answer.numbers))
             }
             Call::Report(ReportCall::List { kinds, recordings }) => self.listed(kinds, recordings, &answer.numbers),
             _ => Ok(Vec::new()),
@@ -364,10 +369,9 @@ impl Spoils {
     /// The frame that a recording is of, and how it stands to it.
     fn of(&self, kind: u64, recorded: &[u8]) -> Option<(&Sent, State)> {
         let of_kind = self.sent.iter().filter(|sent| sent.kind.number() == kind);
-        let mut states = of_kind.filter_map(|sent| sent.state(recorded).map(|state| (sent, state)));
+        let states = || of_kind.clone().filter_map(|sent| sent.state(recorded).map(|state| (sent, state)));
         // Several frames may have the same front; the payload then says which it is.
-        let first = states.next();
-        first.filter(|(_, state)| *state != State::Beyond).or_else(|| states.next()).or(first)
+        states().find(|(_, state)| *state != State::Beyond).or_else(|| states().next())
     }
 
     fn asked_of(&self, kind: u64, recorded: &[u8], hold: impl Fn(&Sent, State) -> Holds) -> Holds {
@@ -390,17 +394,23 @@ impl Spoils {
         Ok(seen)
     }
 
-    /// A find: no offset below the number of offsets at which a front begins that keeps the limits is passed over.
+    /// A find: no offset below the number of offsets at which a front begins that keeps the limits is passed over; if
+    /// found there, it is told as what was written.
     fn found(&self, kind: u64, chips: &[u8], offsets: u64, numbers: &[u64]) -> Holds {
         let tried = if offsets <= MOST_OFFSETS { chips.len().min(offsets as usize) } else { 0 };
-        let begins = |at: &usize| self.sent.iter().any(|sent| sent.kind.number() == kind && sent.begins(&chips[*at..]));
-        match (0..tried).find(begins).map(|at| at as u64) {
-            None => Ok(Vec::new()),
-            Some(start) if numbers[0] == 0 && numbers[1] <= start => {
-                Ok(vec![Spoiled::Found { early: numbers[1] < start }])
-            }
-            Some(_) => Err("a front that keeps the limits is passed over"),
+        let of_kind =
+            |at: usize| self.sent.iter().filter(move |sent| sent.kind.number() == kind).map(move |sent| (at, sent));
+        let first = (0..tried).flat_map(of_kind).find(|(at, sent)| sent.begins(&chips[*at..]));
+        let Some((start, sent)) = first.map(|(at, sent)| (at as u64, sent)) else { return Ok(Vec::new()) };
+        if numbers[0] != 0 || numbers[1] > start {
+            return Err("a front that keeps the limits is passed over");
         }
+        let there = [0, start, sent.rate(), sent.length(), sent.clock, sent.n()];
+        if numbers[1] == start && numbers != there {
+            return Err("a front that keeps the limits is found, but told otherwise than was written");
+        }
+        let at_last = (start + 1 == MOST_OFFSETS).then_some(Spoiled::FoundAtLast);
+        Ok([Spoiled::Found { early: numbers[1] < start }].into_iter().chain(at_last).collect())
     }
 
     /// A list of frames that all keep the limits: its totals are theirs.
@@ -441,17 +451,23 @@ fn hard_chips(recording: Recording, most: usize) -> Option<Vec<u8>> {
 
 /// One recording more: a frame that keeps the limits is counted as what was written, a cut one under 16, one with an
 /// unusable chip under 9.
-fn added(sent: &Sent, state: State, before: &Report, numbers: &[u64]) -> Holds {
+fn added(sent: &Sent, state: State, recorded: &[u8], before: &Report, numbers: &[u64]) -> Holds {
     let after = Report::of_numbers(&numbers[1..]);
     if numbers[0] == REPORT || state == State::Beyond {
         return Ok(Vec::new());
     }
     let mut totals = before.clone();
+    let mut seen = Vec::new();
     match sent.refusal(state, u64::MAX) {
-        None => sent.count(&mut totals),
+        None => {
+            sent.count(&mut totals);
+            seen.push(Spoiled::Counted { listed: false, rate: sent.rate() });
+            seen.extend((recorded.len() > sent.chips.len()).then_some(Spoiled::CountedBehind));
+        }
         Some([number, ..]) => {
             totals.seen += 1;
             totals.refused[number as usize] += 1;
+            seen.push(Spoiled::CountedUnder(number));
         }
     }
     let stays = (after.some, after.lead, after.recording) == (before.some, before.lead, before.recording);
@@ -461,6 +477,5 @@ fn added(sent: &Sent, state: State, before: &Report, numbers: &[u64]) -> Holds {
     if totals != after || !led {
         return Err("a spoiled frame isn't counted as what was written");
     }
-    let counted = Spoiled::Counted { listed: false, rate: sent.rate() };
-    Ok((state == State::Kept).then_some(counted).into_iter().collect())
+    Ok(seen)
 }

@@ -8,8 +8,11 @@ use crate::calls::Call;
 use crate::chips::{growth, turned, Phase, LOST};
 use crate::frame::Kind;
 use crate::random::Random;
-use crate::spoiling::{barker_ways, cck_patterns, limit, spoil, word_of, Pattern};
+use crate::spoiling::{barker_ways, cck_patterns, cck_patterns_within, limit, spoil, word_of, Pattern};
 use crate::symbols::{ALLOWED_11, ALLOWED_5_5};
+
+/// The first five chips a quarter of a turn back, the sixth lost.
+const BACK: Pattern<11> = [3, 3, 3, 3, 3, LOST, 0, 0, 0, 0, 0];
 
 /// A frame of one octet with a word in the symbol of its payload at a place, which one of the 256 octets has.
 fn with_word(rate: Rate, word: u8, at: usize, random: &mut Random) -> Draft {
@@ -21,14 +24,16 @@ fn with_word(rate: Rate, word: u8, at: usize, random: &mut Random) -> Draft {
 }
 
 /// Frames with a word in a symbol of the payload that is spoiled by each of these patterns, a new frame for every few
-/// of them; all other symbols are spoiled within the limits.
-fn each_beyond(out: &mut Out, spoiler: &mut Spoiler, rate: Rate, word: u8, patterns: &[Pattern<8>]) {
+/// of them; all other symbols are spoiled within the limits, or are as sent if there is no spoiler.
+fn each_pattern(out: &mut Out, mut spoiler: Option<&mut Spoiler>, rate: Rate, word: u8, patterns: &[Pattern<8>]) {
     for some in patterns.chunks(60) {
         let at = out.random.below(8 / rate.bits_per_symbol());
         let draft = with_word(rate, word, at, &mut out.random);
         let sent = written(out, &draft);
         let mut chips = sent.clone();
-        spoiler.frame(draft.kind, rate, &mut chips, &mut out.random);
+        if let Some(spoiler) = spoiler.as_deref_mut() {
+            spoiler.frame(draft.kind, rate, &mut chips, &mut out.random);
+        }
         let place = draft.kind.front_chips() + 8 * at;
         for (case, pattern) in some.iter().enumerate() {
             chips[place..place + 8].copy_from_slice(&sent[place..place + 8]);
@@ -48,7 +53,7 @@ pub fn beyond_five(out: &mut Out) {
     let mut spoiler = Spoiler::new(&mut out.random);
     let beyond = cck_patterns(limit(Rate::Mbit5_5) + 1);
     for (word, _) in ALLOWED_5_5 {
-        each_beyond(out, &mut spoiler, Rate::Mbit5_5, word, &beyond);
+        each_pattern(out, Some(&mut spoiler), Rate::Mbit5_5, word, &beyond);
     }
 }
 
@@ -56,11 +61,11 @@ pub fn beyond_five(out: &mut Out) {
 /// second chip lost among them.
 pub fn beyond_eleven(out: &mut Out) {
     let mut spoiler = Spoiler::new(&mut out.random);
-    each_beyond(out, &mut spoiler, Rate::Mbit11, 16, &[[LOST, 0, LOST, 0, LOST, 0, LOST, 0]]);
+    each_pattern(out, Some(&mut spoiler), Rate::Mbit11, 16, &[[LOST, 0, LOST, 0, LOST, 0, LOST, 0]]);
     let beyond: Vec<Vec<Pattern<8>>> = (4..8).map(cck_patterns).collect();
     for (word, _) in ALLOWED_11 {
         let some = [0, 0, 0, 1, 2, 3].map(|more: usize| out.random.pick(&beyond[more]));
-        each_beyond(out, &mut spoiler, Rate::Mbit11, word, &some);
+        each_pattern(out, Some(&mut spoiler), Rate::Mbit11, word, &some);
     }
 }
 
@@ -84,7 +89,6 @@ fn barker_beyond(out: &mut Out, spoiler: &mut Spoiler, rate: Rate, phase: Phase,
 /// Barker symbols of each phase in each way that is one beyond the limit, at any places; and with the first five chips
 /// a quarter of a turn back and the sixth lost.
 pub fn beyond_barker(out: &mut Out) {
-    const BACK: Pattern<11> = [3, 3, 3, 3, 3, LOST, 0, 0, 0, 0, 0];
     let mut spoiler = Spoiler::new(&mut out.random);
     for rate in [Rate::Mbit1, Rate::Mbit2] {
         for phase in 0..4 {
@@ -107,6 +111,40 @@ pub fn words_apart(out: &mut Out) {
             let draft = Draft::new(kind, Rate::Mbit11, phase, vec![octet]);
             let chips = written(out, &draft.with_clock(kind == Kind::Short));
             out.alone(Call::hard(kind.number(), chips, 1));
+        }
+    }
+}
+
+/// A symbol of a payload spoiled within its limit and nothing else: the smallest lead is that symbol's own. Each
+/// pattern on each word of 5.5 Mbit/s; of 11 Mbit/s a few on each word, and all in the longer run.
+pub fn spoiled_leads(out: &mut Out) {
+    let within = cck_patterns_within();
+    for (word, _) in ALLOWED_5_5 {
+        each_pattern(out, None, Rate::Mbit5_5, word, &within);
+    }
+    for (word, _) in ALLOWED_11 {
+        let few: Vec<Pattern<8>> = (0..6).map(|_| out.random.pick(&within)).collect();
+        each_pattern(out, None, Rate::Mbit11, word, if out.long { &within } else { &few });
+    }
+}
+
+/// Each symbol of a front beyond its limit, all others within theirs: phase 2 with all chips lost, which is decided as
+/// its opposite, and phase 1 in the other way, which is decided as a quarter back. SFD and header then differ or a
+/// growth is odd, and nothing is put right by what was expected.
+pub fn beyond_front(out: &mut Out) {
+    let mut spoiler = Spoiler::new(&mut out.random);
+    for kind in Kind::BOTH {
+        for place in (0..kind.front_chips()).step_by(11) {
+            for (phase, pattern) in [(2, [LOST; 11]), (1, BACK)] {
+                let draft = Draft::random(kind, Rate::Mbit11, 2, &mut out.random);
+                let turn = growth(draft.chips()[place], phase);
+                let sent = written(out, &Draft { phase: turned(draft.phase, turn), ..draft });
+                let mut chips = sent.clone();
+                spoiler.frame(kind, Rate::Mbit11, &mut chips, &mut out.random);
+                chips[place..place + 11].copy_from_slice(&sent[place..place + 11]);
+                spoil(&pattern, &mut chips[place..place + 11]);
+                out.call(Call::hard(kind.number(), chips, 2));
+            }
         }
     }
 }

@@ -355,6 +355,10 @@ families! {
     1810 beyond::beyond_eleven: "patterns beyond the limit on every word of 11 Mbit/s, in one symbol alone",
     // for: LimitsTight, past-read, SpoiledTold
     1811 beyond::beyond_barker: "each way one beyond the limit on Barker symbols of each phase, in one symbol alone",
+    // for: LimitsTight
+    1813 beyond::beyond_front: "each symbol of a front beyond its limit, in two ways, all others within theirs",
+    // for: SymbolStands
+    1814 beyond::spoiled_leads: "one CCK symbol spoiled within its limit, by its lead",
     // for: WordsApart
     1812 beyond::words_apart: "each word of 11 Mbit/s as it was sent, by its lead",
 }

@@ -40,7 +40,7 @@ impl Spoiler {
 
     /// By a little: leads stay above those of symbols at the limit.
     fn by_little(random: &mut Random) -> Spoiler {
-        Spoiler::of((1..=4).flat_map(barker_ways).collect(), cck_patterns(1), random)
+        Spoiler::of((1..=4).flat_map(barker_ways).collect(), (1..=2).flat_map(cck_patterns).collect(), random)
     }
 
     /// By chips lost alone, as many as the limits allow.
@@ -200,8 +200,10 @@ fn rooms_and_cuts(out: &mut Out, kind: Kind, chips: &[u8], n: usize) {
     let longer = [chips, &out.random.octets(behind)].concat();
     let room = n + out.random.within(1, 70);
     out.call(Call::hard(kind.number(), longer, room));
-    let usable = [chips, &Before::Phases.chips(behind, &mut out.random)].concat();
-    read(out, 4, kind, &usable, room);
+    let before = out.random.pick(&[Before::Phases, Before::Lost]);
+    let usable = [chips, &before.chips(behind, &mut out.random)].concat();
+    let more = out.random.pick(&[0, 4095]);
+    read(out, 2, kind, &usable, room + more);
     let front = kind.front_chips();
     for end in [front, out.random.within(front, chips.len() - 1), chips.len() - 1] {
         read(out, 6, kind, &chips[..end], n);
@@ -231,6 +233,11 @@ pub fn spoiled_sizes(out: &mut Out) {
         }
         let chips = spoiled(out, &mut spoilers[0], pair, 4095);
         read(out, if out.long { 1 } else { 4 }, pair.0, &chips, 4095);
+        for _ in 0..out.cases(1) {
+            let n = out.random.within(750, 1500);
+            let chips = spoiled(out, &mut spoilers[2], pair, n);
+            read(out, 1, pair.0, &chips, n);
+        }
         for bits in [16, 20, 24] {
             if out.long || bits == 16 || pair == (Kind::Short, Rate::Mbit11) {
                 far_behind(out, &mut spoilers[1], pair, 1 << bits);
@@ -297,7 +304,11 @@ pub fn spoiled_starts(out: &mut Out) {
             which => spoiled_front(out, &mut spoilers[which], (kind, rate), n),
         };
         let far = out.random.within(0, ALL - 1);
-        let start = if case % 10 == 0 { far } else { out.random.below(120) };
+        let start = match case % 10 {
+            0 => far,
+            1 if case < 20 => ALL - 1,
+            _ => out.random.below(120),
+        };
         let before = out.random.pick(&Before::ALL);
         let mut chips = before.chips(start, &mut out.random);
         if out.random.once_in(4) {
@@ -319,12 +330,17 @@ pub fn spoiled_counted(out: &mut Out) {
         let mut of: Vec<Recorded> = Vec::new();
         for _ in 0..out.random.within(1, 8) {
             let (kind, rate) = any_pair(&mut out.random);
-            let draft = Draft::random(kind, rate, out.random.within(1, 20), &mut out.random);
+            let most = out.random.pick(&[20, 20, 20, 600]);
+            let draft = Draft::random(kind, rate, out.random.within(1, most), &mut out.random);
             let sent = written(out, &draft);
             for _ in 0..out.random.within(1, 2) {
                 let mut chips = sent.clone();
-                let which = out.random.below(4);
-                spoilers[which].frame(kind, rate, &mut chips, &mut out.random);
+                let which = out.random.below(5);
+                if which < 4 {
+                    spoilers[which].frame(kind, rate, &mut chips, &mut out.random);
+                }
+                let behind = out.random.pick(&[0, 0, 1, 30]);
+                chips.extend(out.random.octets(behind));
                 of.push((kind.number(), chips));
             }
         }
@@ -334,12 +350,17 @@ pub fn spoiled_counted(out: &mut Out) {
     }
 }
 
-/// Recordings added to a report one by one, some of them cut.
+/// Recordings added to a report one by one, some of them cut, some with an octet that is unusable.
 fn add_each(out: &mut Out, of: Vec<Recorded>) {
     let mut report = Report::default();
     for (kind, mut chips) in of {
-        if out.random.once_in(5) {
-            chips.pop();
+        match out.random.below(10) {
+            0 | 1 => chips.truncate(chips.len() - 31),
+            2 => {
+                let place = out.random.below(chips.len() - 30);
+                chips[place] = unusable(&mut out.random);
+            }
+            _ => {}
         }
         out.call(add(&report, &(kind, chips.clone())));
         report = one_more(&report, Reading::of(kind, &chips)).1;
