@@ -1,8 +1,8 @@
 -- Spoiled symbols one after the other: where each keeps its limit, each is decided as the word sent, with a lead of a
 -- full chip at least, and no chip is unusable. Assumes nothing.
 --     nthSymbol, symbol-first, symbol-behind, symbol-from, symbol-next    symbol j of a row
---     none-unusable                                                      no chip is
---     spoiled-words, spoiled-leads                                       what is decided, and by how much
+--     none-unusable                                                       no chip is unusable
+--     spoiled-words, spoiled-leads                                        what is decided, and by how much
 use mathlib.Core.Path.{_≡_, refl, sym, ap, ap₂, _∙_, subst}
 use mathlib.Core.Bool.{Bool, true, not, cond}
 use mathlib.Core.List.{List, [], _∷_, _++_, map, append-assoc}

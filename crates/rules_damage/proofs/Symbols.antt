@@ -1,11 +1,11 @@
 -- The symbols of a frame in plain numbers (`SymbolAt`) are those of the definitions: every chip of a frame is in just
 -- one of them; the row of a frame's damage has two numbers for each; and what a frame stands, by that row.
---     front-table, payload-table             the two tables, by kind and rate
---     has-symbol, chip-once                  each chip is in a symbol, and in no other
---     by-part, front-symbol, payload-symbol  a symbol is one of the front's or of the payload's
---     symbol-inside                          a symbol's chips are the frame's
---     damage-all, wrong-counted, lost-counted   the row: two numbers a symbol, its wrong and its lost chips
---     stands-by-row                          a frame whose row keeps every limit stands
+--     front-table, payload-table                 the two tables, by kind and rate
+--     has-symbol, chip-once                      each chip is in a symbol, and in no other
+--     by-part, front-symbol, payload-symbol      a symbol is one of the front's or of the payload's
+--     symbol-inside                              a symbol's chips are the frame's
+--     damage-all, wrong-counted, lost-counted    the row: two numbers a symbol, its wrong and its lost chips
+--     stands-by-row                              a frame whose row keeps every limit stands
 -- Assumes nothing.
 use mathlib.Core.Path.{_≡_, refl, sym, ap, ap₂, _∙_, subst}
 use mathlib.Core.Bool.{true}
