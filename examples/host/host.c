@@ -303,27 +303,26 @@ static void all_it_stands(void)
 {
     static const struct {
         size_t way;
-        uint64_t symbol, wrong, lost;
+        uint64_t front_wrong, front_lost, symbol, wrong, lost;
         const char *name;
     } spoiled[4] = {
-        {0, 11, 5, 0, "long, 1 Mbit/s, five chips of each symbol wrong"},
-        {4, 11, 0, 10, "short, 2 Mbit/s, ten chips of each symbol lost"},
-        {2, 8, 1, 1, "long, 5.5 Mbit/s, one of each wrong and one lost"},
-        {6, 8, 0, 3, "short, 11 Mbit/s, three of each lost"},
+        {0, 5, 0, 11, 5, 0, "long, 1 Mbit/s, five chips of each symbol wrong"},
+        {4, 0, 10, 11, 0, 10, "short, 2 Mbit/s, ten chips of each symbol lost"},
+        {2, 3, 4, 8, 1, 1, "long, 5.5 Mbit/s, three chips wrong and four lost of 11, one and one of 8"},
+        {6, 0, 10, 8, 0, 3, "short, 11 Mbit/s, ten chips lost of 11, three of 8"},
     };
 
     puts("\nEvery symbol spoiled, as far as a frame stands it");
     for (size_t k = 0; k < 4; k++) {
-        uint64_t kind = ways[spoiled[k].way].kind;
-        uint64_t front = DSSS_FRAME_CHIPS(kind, ways[spoiled[k].way].rate, 0);
-        uint64_t len = send_caption(kind, ways[spoiled[k].way].rate, 0, captions[k]).chips;
-        spoil_each(0, front, 11, k, 10 - 2 * k);
+        uint64_t kind = ways[spoiled[k].way].kind, rate = ways[spoiled[k].way].rate;
+        uint64_t front = DSSS_FRAME_CHIPS(kind, rate, 0), len = send_caption(kind, rate, 0, captions[k]).chips;
+        spoil_each(0, front, 11, spoiled[k].front_wrong, spoiled[k].front_lost);
         spoil_each(front, len, spoiled[k].symbol, spoiled[k].wrong, spoiled[k].lost);
         show_hard(spoiled[k].name, kind, len);
     }
     uint64_t len = send_caption(DSSS_SHORT, DSSS_RATE_11, 0, captions[3]).chips;
     spoil_each(DSSS_FRONT_SHORT, len, 8, 0, 4);
-    show_hard("beyond: four chips of each lost", DSSS_SHORT, len);
+    show_hard("beyond: short, 11 Mbit/s, four chips lost of 8", DSSS_SHORT, len);
 }
 
 /* Number 0 is not "the text is right", nor is a large lead: only the header has a check, the payload's is

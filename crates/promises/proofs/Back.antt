@@ -249,6 +249,9 @@ module _ (kind rate phase clock : ℕ) (payload : List ℕ) (w : Written) (chips
   taken =
       ap₂ {C = List ℕ} (λ j l. take j l) w-chips chips-are ∙ take-at sent (replicate (s .room - c) 4) c sent-length
 
+  pub taken-long : length (take (w .chips) chips) ≡ w .chips
+  taken-long = ap length taken ∙ sent-length ∙ sym w-chips
+
   pub phases : Below 4 sent
   phases = clean.phases kind r phase (clockOf clock) payload (pair .kind-is) lp
 

@@ -40,7 +40,7 @@ in-numbers k t rate clock front octet a b c d =
 -- ---- what a front tells that is read as the frame's, whatever follows it
 module _ (kind rate phase clock : ℕ) (payload : List ℕ) (w : Written) (chips : List ℕ)
     (s : Sent kind rate phase clock payload w chips) where
-  abbrev pub k : Kind
+  abbrev k : Kind
   k = kindOf kind
 
   abbrev r : Rate

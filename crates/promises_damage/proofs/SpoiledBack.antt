@@ -4,6 +4,7 @@ use mathlib.Core.Path.{_≡_, refl, sym, ap, _∙_, subst}
 use mathlib.Core.Bool.{true}
 use mathlib.Core.List.{List, _++_}
 use Prim.Native.Nat.{ℕ, _-_, _≤_, _<_}
+use native.Mathlib.Omega.{arith}
 use lib.ListN.{length, take, replicate}
 use Rattle.rules_rates.specs.declared.Rate.{Rate}
 use Rattle.rules_rates.specs.Rates.{codeOf, rateOf, lengthField}
@@ -26,6 +27,7 @@ use Rattle.rules_damage.proofs.ReadBack.{reading-spoiled, octets-spoiled, room-
 use Rattle.promises.specs.Calls.{ReadHard, good, refused, shown, Sent}
 use Rattle.promises.proofs.Back.{Known, shown-is}
 use Rattle.promises.proofs.Back as back
+use Rattle.promises.proofs.Fills.{read-fills}
 use Rattle.promises_report.specs.Calls.{Adds}
 use Rattle.promises_report.proofs.Kept as report
 use Rattle.promises_damage.specs.Promises.{SpoiledReadBack, SpoiledCounted, CountsAs}
@@ -91,9 +93,14 @@ module _ (kind rate phase clock : ℕ) (payload : List ℕ) (w : Written) (chips
         (pair .together) (s .sendable .some) (s .sendable .few) rec tail stands-sent room h)
         ∙ ap (refused 17) length-is
 
+    cleared : room < n → left ≡ replicate room 0
+    cleared h =
+        read-fills kind true (hardRecording (rec ++ tail)) room a left f .1
+        (λ e. omega (arith, e, ap (λ (b : Record). b .number) (too-small h)))
+
     read-spoiled : (n ≤ room → (a ≡ goodWith (leadAt (a .lead) (a .symbol))) × (1024 ≤ a .lead)
         × (left ≡ payload ++ replicate (room - n) 0))
-        × (room < n → a ≡ refused 17 l)
+        × (room < n → (a ≡ refused 17 l) × (left ≡ replicate room 0))
     read-spoiled = (
       (λ h.
           let e = answer h in (
@@ -101,7 +108,7 @@ module _ (kind rate phase clock : ℕ) (payload : List ℕ) (w : Written) (chips
             subst (λ (b : Record). 1024 ≤ b .lead) (sym e) clear,
             octets h,
           )),
-      too-small,
+      (λ h. (too-small h, cleared h)),
     )
 
   -- ---- in a report

@@ -54,8 +54,8 @@ module _ (kind rate phase clock : ℕ) (payload : List ℕ) (sw : Written) (chip
 
   sent-long : length sent ≡ front + count
   sent-long =
-      ap length (back.taken kind rate phase clock payload sw chips s)
-      ∙ back.sent-length kind rate phase clock payload sw chips s
+      back.taken-long kind rate phase clock payload sw chips s
+      ∙ back.w-chips kind rate phase clock payload sw chips s
       ∙ back.size kind rate phase clock payload sw chips s
 
   pub whole : SpoiledBy kind rate n sent w t w′ t′
@@ -69,7 +69,7 @@ module _ (kind rate phase clock : ℕ) (payload : List ℕ) (sw : Written) (chip
       → (n ≤ room
       → (a .number ≡ 0) × (a .rate ≡ rate) × (a .length ≡ l) × (a .n ≡ n) × (a .used ≡ sw .chips)
       × (a .clock ≡ shown clock) × (a .place ≡ 0) × (1024 ≤ a .lead) × (left ≡ payload ++ replicate (room - n) 0))
-      × (room < n → a ≡ refused 17 l)
+      × (room < n → (a ≡ refused 17 l) × (left ≡ replicate room 0))
   read-through tail room a left f =
       let told = kept .spoiled-read-back kind rate phase clock payload sw chips s l d (whole .rec) tail (whole .stands)
       room a left f in (

@@ -66,15 +66,9 @@ module _ (kind rate phase clock : ℕ) (payload : List ℕ) (w : Written) (chips
 
   sent-long : length (take (w .chips) chips) ≡ s .sendable .front + s .sendable .octet * n
   sent-long =
-      ap length (back.taken kind rate phase clock payload w chips s)
-      ∙ back.sent-length kind rate phase clock payload w chips s
+      back.taken-long kind rate phase clock payload w chips s
+      ∙ back.w-chips kind rate phase clock payload w chips s
       ∙ back.size kind rate phase clock payload w chips s
-
-  whole-long : length (take (w .chips) chips) ≡ w .chips
-  whole-long =
-      ap length (back.taken kind rate phase clock payload w chips s)
-      ∙ back.sent-length kind rate phase clock payload w chips s
-      ∙ sym (back.w-chips kind rate phase clock payload w chips s)
 
   -- the whole frame: read back, and counted
   module _ (e : length rec ≡ w .chips)
@@ -85,7 +79,8 @@ module _ (kind rate phase clock : ℕ) (payload : List ℕ) (w : Written) (chips
     whole-stands : FrameStands kind rate n (take (w .chips) chips) rec
     whole-stands =
         stands-so kind rate (s .sendable .front) (s .sendable .octet) n (s .sendable .goes) (take (w .chips) chips) rec
-        (omega (arith, sent-long)) (e ∙ sym whole-long) usable f each c limit table u few few′
+        (omega (arith, sent-long)) (e ∙ sym (back.taken-long kind rate phase clock payload w chips s)) usable f each c
+        limit table u few few′
 
     pub row-read : (room : ℕ) (a : Record) (left : List ℕ) → ReadHard kind (rec ++ tail) room a left → n ≤ room
         → (a .number ≡ 0) × (left ≡ payload ++ replicate (room - n) 0)

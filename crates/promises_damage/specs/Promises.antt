@@ -51,7 +51,8 @@ use Rattle.promises_report.specs.Calls.{Adds}
 
 -- promise: A frame that was written and recorded as phases and 4s, and whose symbols each keep their limit, is read
 -- back by the hard reader under its kind, whatever follows it: with room number 0, rate, LENGTH, n, chips used, clock
--- bit and payload are those written, and the lead is at least one full chip; with less room 17 with LENGTH
+-- bit and payload are those written, and the lead is at least one full chip; with less room 17 with LENGTH, and only
+-- zeros
 -- rule: 6.28, 3.10
 -- code: dsss_write_2, dsss_read_hard_3
 -- with: FrameStands, SymbolAt, SoMany, KeepsLimit
@@ -65,7 +66,7 @@ SpoiledReadBack =
     → (a ≡ good rate l (length payload) (w .chips) (shown clock) (a .lead) (a .symbol))
     × (1024 ≤ a .lead)
     × (left ≡ payload ++ replicate (room - length payload) 0))
-    × (room < length payload → a ≡ refused 17 l)
+    × (room < length payload → (a ≡ refused 17 l) × (left ≡ replicate room 0))
 
 -- The next two are of a front alone, which is a frame of no octets.
 

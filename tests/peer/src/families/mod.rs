@@ -65,7 +65,8 @@
 //! - A frame, or a front, not accepted for its damage: `spoiled_sizes`, `spoiled_fronts`. Passed over:
 //!   `spoiled_starts`. Not counted, or with another lead: `spoiled_counted`.
 //! - Symbols beyond the limits refused, or decided otherwise than by their scores: `beyond_five`, `beyond_eleven`,
-//!   `beyond_barker`.
+//!   `beyond_barker`. A symbol of the front put right by what was expected: `beyond_front`.
+//! - The lead of one word wrong behind some damage: `spoiled_leads`.
 //! - I and Q that may not be one row, a recording of a list that may not be named twice: `one_row`, `report_lists`.
 //! - What a lent row held before the call, a row of length 0 by a pointer or as NULL, a row kept between calls: every
 //!   family, as each call's rows are laid in any way (`laid.rs`).
@@ -355,12 +356,12 @@ families! {
     1810 beyond::beyond_eleven: "patterns beyond the limit on every word of 11 Mbit/s, in one symbol alone",
     // for: LimitsTight, past-read, SpoiledTold
     1811 beyond::beyond_barker: "each way one beyond the limit on Barker symbols of each phase, in one symbol alone",
+    // for: WordsApart
+    1812 beyond::words_apart: "each word of 11 Mbit/s as it was sent, by its lead",
     // for: LimitsTight
     1813 beyond::beyond_front: "each symbol of a front beyond its limit, in two ways, all others within theirs",
     // for: SymbolStands
     1814 beyond::spoiled_leads: "one CCK symbol spoiled within its limit, by its lead",
-    // for: WordsApart
-    1812 beyond::words_apart: "each word of 11 Mbit/s as it was sent, by its lead",
 }
 
 /// Where a family puts its calls.
