@@ -306,10 +306,10 @@ static void all_it_stands(void)
         uint64_t front_wrong, front_lost, symbol, wrong, lost;
         const char *name;
     } spoiled[4] = {
-        {0, 5, 0, 11, 5, 0, "long, 1 Mbit/s, five chips of each symbol wrong"},
-        {4, 0, 10, 11, 0, 10, "short, 2 Mbit/s, ten chips of each symbol lost"},
-        {2, 3, 4, 8, 1, 1, "long, 5.5 Mbit/s, three chips wrong and four lost of 11, one and one of 8"},
-        {6, 0, 10, 8, 0, 3, "short, 11 Mbit/s, ten chips lost of 11, three of 8"},
+        {0, 5, 0, 11, 5, 0, "long, 1 Mbit/s, of every 11 chips 5 wrong"},
+        {4, 0, 10, 11, 0, 10, "short, 2 Mbit/s, of every 11 chips 10 lost"},
+        {2, 3, 4, 8, 1, 1, "long, 5.5 Mbit/s, of every 11 chips 3 wrong and 4 lost, of every 8 one and one"},
+        {6, 0, 10, 8, 0, 3, "short, 11 Mbit/s, of every 11 chips 10 lost, of every 8 three"},
     };
 
     puts("\nEvery symbol spoiled, as far as a frame stands it");
@@ -322,7 +322,7 @@ static void all_it_stands(void)
     }
     uint64_t len = send_caption(DSSS_SHORT, DSSS_RATE_11, 0, captions[3]).chips;
     spoil_each(DSSS_FRONT_SHORT, len, 8, 0, 4);
-    show_hard("beyond: short, 11 Mbit/s, four chips lost of 8", DSSS_SHORT, len);
+    show_hard("beyond: short, 11 Mbit/s, of every 8 chips 4 lost", DSSS_SHORT, len);
 }
 
 /* Number 0 is not "the text is right", nor is a large lead: only the header has a check, the payload's is
