@@ -2,8 +2,9 @@
  *
  * The library writes a frame as chips, and reads a hard, soft or byte recording of chips back to the
  * payload; of a hard one it tells from the front alone what is coming, finds the first offset at which
- * a front can be read, and says why a read is refused. Of many hard ones it makes a report, and spells it
- * out as text. It lays out a table's radio settings as a store of a few octets, reads them and changes one.
+ * a front can be read, and says why a read is refused. It compares two hard ones, chips and payloads. Of
+ * many hard ones it makes a report, and spells it out as text. It lays out a table's radio settings as a
+ * store of a few octets, reads them and changes one.
  * What it answers is fixed by docs/RULES.md and proved for every input; docs/PROMISES.md says where. No
  * proof covers this header: it is written by hand and held to the source by a test.
  *
@@ -33,11 +34,12 @@
  *           front at the offset told: not that the frame starts there, nor that it is whole. Of a
  *           recording added to a report it says no more than that it was counted: its read may have
  *           been refused, and is counted as refused then. dsss_why answers the number of a read, so that
- *           a refusal is what it was asked for, and no fault of the call.
+ *           a refusal is what it was asked for, and no fault of the call. dsss_compare has no number of
+ *           its own: its two records have theirs, and the chips are compared whatever these are.
  * Fills     What a lent row held before does not matter. Each call writes every element of it,
  *           refused or not: a chip buffer is 4s but for the frame, an octet buffer is 0s but for
- *           the payload, the text or the store. A refused call leaves nothing else, so nothing old can
- *           be shown. ONE CALL IS OTHERWISE: dsss_store_change reads the store that it is lent, changes
+ *           the payload, the text or the store, a row of numbers 0s but for its list. A refused call
+ *           leaves nothing else, so nothing old can be shown. ONE CALL IS OTHERWISE: dsss_store_change reads the store that it is lent, changes
  *           one octet of it at most, and, refused, leaves every octet as it was.
  * Places    Places and offsets are chip indexes from the recording's start, which is 0.
  */
@@ -55,13 +57,13 @@ extern "C" {
  * added, PATCH when neither. A call whose record or parameters change gets a new symbol, which a
  * macro here stands for: an object built with an older header then does not link, and is built anew. */
 #define DSSS_VERSION_MAJOR 3
-#define DSSS_VERSION_MINOR 4
+#define DSSS_VERSION_MINOR 5
 #define DSSS_VERSION_PATCH 0
 #define DSSS_VERSION (10000 * DSSS_VERSION_MAJOR + 100 * DSSS_VERSION_MINOR + DSSS_VERSION_PATCH)
 
 /* The symbols of the calls. C and C++ write the plain names; what goes by symbols, as another language
- * or a debugger does, finds these. dsss_read_front, dsss_find, dsss_why, the three calls of the report and
- * the three of the store are their own symbols. */
+ * or a debugger does, finds these. dsss_read_front, dsss_find, dsss_why, dsss_compare, the three calls of
+ * the report and the three of the store are their own symbols. */
 #define dsss_write dsss_write_2
 #define dsss_read_hard dsss_read_hard_3
 #define dsss_read_soft dsss_read_soft_3
@@ -102,6 +104,10 @@ extern "C" {
                                A buffer of one octet more holds any store whole, and shows a longer file as
                                longer. Settings are one octet each, so that a read accepts 3,384 at most */
 
+/* Places of a row of numbers for so many entries of a list of differences. A list of chips has at most as
+ * many entries as the shorter recording has chips, a list of octets at most DSSS_PAYLOAD_MAX. */
+#define DSSS_LIST_PLACES(entries) ((size_t)3 * (size_t)(entries))
+
 /* The chips of an octet at a rate, and of a frame of n octets: the room that a write needs. Both are
  * constants where their arguments are; for a kind or rate that is none they mean nothing. A read of
  * any frame has room in DSSS_PAYLOAD_MAX octets, or in the n that dsss_read_front tells of it: refusal
@@ -116,7 +122,7 @@ extern "C" {
  * the front, 11 to 17, then 9 and 10 over the payload; each 9 through its whole part before 10. A
  * read of the front looks for 1, 8, then 9 and 10 over the front, 11 to 16, and for nothing more. A
  * find looks for 1 and 18, then for a front, and answers 19 if there is none. dsss_why looks as a read
- * does. A report's calls answer 31, of a list 7 before it, and its text 17; what the recordings are
+ * does, and dsss_compare as two reads do. A report's calls answer 31, of a list 7 before it, and its text 17; what the recordings are
  * refused with is counted, not answered. A read of a store looks for 21 to 28 in this order, each in the
  * whole store before the next; a change for these, then for 30, then for 28 in the settings as they would
  * be; a write of one for 28, then 29. */
@@ -232,6 +238,16 @@ typedef struct {
     uint64_t expected; /* as above */
     uint64_t found;    /* as above */
 } dsss_reason;
+
+/* The answer of dsss_compare. The records are those of two reads and have their own numbers: one recording may
+ * be refused and the other accepted. */
+typedef struct {
+    dsss_record a, b; /* what dsss_read_hard answers of each recording */
+    uint64_t chips;   /* chips that differ, all of them, also where their list does not fit its row */
+    uint64_t octets;  /* payload octets that differ, likewise; 0 unless both recordings are accepted */
+    uint64_t n_a;     /* octets of the first payload; 0 unless both recordings are accepted */
+    uint64_t n_b;     /* octets of the second payload, likewise */
+} dsss_compared;
 
 /* The month's report: what was counted of the hard recordings that it has seen, each read under its own
  * kind and with room for DSSS_PAYLOAD_MAX octets, so that 17 does not come. It begins with all zeros,
@@ -401,6 +417,36 @@ dsss_found dsss_find(uint64_t kind, const uint8_t *chips, size_t chips_len, uint
  *          1 Mbit/s for 10.
  * Proved:  crates/dsss, dsss_why, record Explains: answer. */
 dsss_reason dsss_why(uint64_t kind, const uint8_t *chips, size_t chips_len, uint64_t room);
+
+/* Compares two hard recordings of one kind, as of two receivers over one table: which chips differ, and, where
+ * both are accepted, which octets of their payloads. Each list goes to a row of numbers of its own, rising by
+ * index, three places an entry: the index, what the first recording or payload has there, what the second has.
+ *   kind       DSSS_LONG or DSSS_SHORT, for both                          refusal 1, in both records
+ *   a          the first recording, as for dsss_read_hard                 refusals 8 to 16, in its record
+ *   b          the second recording, likewise; the two may be of different lengths
+ *                                                                         refusals 8 to 16, in its record
+ *   chip_row   lent, for the chips that differ; DSSS_LIST_PLACES of the shorter recording's chips always
+ *              do, and it may be empty                                    no refusal
+ *   octet_row  lent, for the octets that differ; DSSS_LIST_PLACES(DSSS_PAYLOAD_MAX) places always do, and it
+ *              may be empty                                               no refusal
+ *   octets_a   lent, for the first payload; DSSS_PAYLOAD_MAX always do    refusal 17, in its record
+ *   octets_b   lent, for the second payload, likewise                     refusal 17, in its record
+ * Answer:  both records as dsss_read_hard answers them; how many chips differ, as far as the shorter recording
+ *          goes: whole recordings, not frames, and every octet counts, 5 to 255 too; how many octets differ,
+ *          as far as the shorter payload goes, and both payloads' octets. Of payloads of different lengths
+ *          the rest of the longer one is not listed: n_a and n_b differ then.
+ * Refused: a recording that is refused has its number in its own record; octets, n_a and n_b are then 0, and
+ *          the chips are compared all the same. The call itself is never refused.
+ * Buffer:  chip_row[] is the list and then 0s. A LIST THAT DOES NOT FIT LEAVES ITS ROW ALL 0s, not a part
+ *          of it; the other list is not touched by that, and the number of entries is told in full:
+ *          chips > chip_row_len / 3 says so, and the call may be made again with that many entries' places.
+ *          octet_row[] likewise, with octets. octets_a[] and octets_b[] are as dsss_read_hard leaves them:
+ *          a recording that is refused has all 0s in its own, and the other keeps its payload.
+ * Proved:  crates/dsss, dsss_compare, record Compares: answer, chips, octets, first and second. */
+dsss_compared dsss_compare(uint64_t kind, const uint8_t *a, size_t a_len, const uint8_t *b, size_t b_len,
+                           uint64_t *chip_row, size_t chip_row_len, uint64_t *octet_row,
+                           size_t octet_row_len, uint8_t *octets_a, size_t octets_a_len,
+                           uint8_t *octets_b, size_t octets_b_len);
 
 /* Counts one hard recording more into a report.
  *   report   the report so far, all zeros at first                        refusal 31

@@ -6,3 +6,4 @@ pub mod Below
 pub mod Lists
 pub mod Adding
 pub mod Puts
+pub mod SoMany

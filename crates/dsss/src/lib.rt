@@ -1,16 +1,18 @@
 // The board's C interface: each call is one of the proved functions below it, exported. include/dsss.h declares
 // them for C, by their names without a number: a symbol keeps its parameters and its record for ever. A contract
 // names the answer, and the lent buffer at the end where there is one, in one record: `answer` and `chips`, or `answer`
-// and `octets`.
+// and `octets`; of four lent rows each has its own member.
 ghost use mathlib.Core.List.{map};
 ghost use lib.ListN.{length};
 ghost use Rattle.promises.specs.Calls.{Wrote, ReadHard, ReadSoft, ReadBytes, ReadFront, Finds};
 ghost use Rattle.promises_report.specs.Calls.{Adds, Lists, Spells};
 ghost use Rattle.promises_store.specs.Calls.{StoreWrites, StoreReads, StoreChanges};
 ghost use Rattle.promises_why.specs.Calls.{Explains};
+ghost use Rattle.promises_compare.specs.Calls.{Compares};
 use rules_calls::Record;
 use rules_calls::Written;
 use rules_coming::Coming;
+use rules_compare::Compared;
 use rules_finding::Found;
 use rules_report::Counted;
 use rules_report::Report;
@@ -109,6 +111,26 @@ pub extern "C" fn dsss_why(kind: u64, chips: &[u8], room: u64) -> Reason
     ensures why { λ r. ⌜ Explains kind (now (chips .entry)) room r ⌝ }
 {
     small_calls::why::why(kind, chips, room)
+}
+
+// Two hard recordings of one kind, both read and compared: the chips that differ and the octets that differ, each list
+// in a row of its own, and zeros behind it, or everywhere where it does not fit.
+#[no_mangle]
+pub extern "C" fn dsss_compare(
+    kind: u64,
+    a: &[u8],
+    b: &[u8],
+    chip_row: &mut [u64],
+    octet_row: &mut [u64],
+    octets_a: &mut [u8],
+    octets_b: &mut [u8],
+) -> Compared
+    ensures compared { λ c. ⌜ Compares kind (now (a .entry)) (now (b .entry))
+        (length (now (chip_row .entry))) (length (now (octet_row .entry)))
+        (length (now (octets_a .entry))) (length (now (octets_b .entry)))
+        c (now (chip_row .exit)) (now (octet_row .exit)) (now (octets_a .exit)) (now (octets_b .exit)) ⌝ }
+{
+    small_calls::compare::compare(kind, a, b, chip_row, octet_row, octets_a, octets_b)
 }
 
 // A store with the three settings, 17 octets, and zeros behind it; zeros everywhere after a refusal.

@@ -23,6 +23,7 @@ use Rattle.rules_calls.specs.declared.Front.the-variants.{Refused, Fields}
 use Rattle.rules_calls.specs.declared.Reading.{Reading}
 use Rattle.rules_calls.specs.declared.Record.{Record}
 use Rattle.rules_calls.specs.Answers.{refusalPlace, recordOf}
+use Rattle.rules_calls.proofs.AnswerFacts.{some-number}
 use Rattle.rules_reading.specs.Reading.{frontOf, payloadOdd, payloadReading, afterFront}
 use Rattle.rules_reading.proofs.Payloads.{foundUnusable, room-refused, unusable-refused, odd-refused, payload-good}
 use Rattle.rules_reading.proofs.Telling.{TellingWhole}
@@ -74,7 +75,6 @@ use Rattle.promises.specs.Coming.{
   FrontOnly,
   HandedPart,
 }
-use Rattle.promises.proofs.Fills.{some-number}
 use Rattle.promises.proofs.Only.{goes, length-told}
 
 -- a kind's front, in the definition's words; it has one

@@ -41,6 +41,7 @@ use Rattle.rules_calls.specs.declared.Front.the-variants as front
 use Rattle.rules_calls.specs.declared.Reading.{Reading}
 use Rattle.rules_calls.specs.declared.Reading.the-variants as reading
 use Rattle.rules_calls.specs.Answers.{recordOf}
+use Rattle.rules_calls.proofs.AnswerFacts.{some-number}
 use Rattle.rules_reading.specs.Places.{UsableAt}
 use Rattle.rules_reading.specs.Leads.{decidedLeads, frontLeads, payloadLeads, frameLeads, leastOf}
 use Rattle.rules_reading.specs.Reading.{
@@ -68,7 +69,6 @@ use Rattle.promises.specs.Leads.{
   Sure,
   RowsSure,
 }
-use Rattle.promises.proofs.Fills.{some-number}
 use Rattle.promises.proofs.Only.{code-back}
 use Rattle.promises.proofs.Right.{
   word-at,

@@ -35,11 +35,11 @@ use Rattle.rules_calls.specs.declared.Least.{Least}
 use Rattle.rules_calls.specs.declared.Record.{Record}
 use Rattle.rules_calls.specs.Answers.{writtenOf, recordOf}
 use Rattle.rules_calls.specs.Writing.{writingOf}
+use Rattle.rules_calls.proofs.AnswerFacts.{some-number}
 use Rattle.rules_reading.specs.Reading.{frontOf, wholeOf, payloadReading, afterFront, readingOf}
 use Rattle.promises.specs.Calls.{Goes, long-1, long-2, long-5, long-11, short-2, short-5, short-11, Sent}
 use Rattle.promises.specs.Only.{OnlySent, Readable, OnlyReadable, RefusedShows}
 use Rattle.rules_reading.proofs.Refusals.{PayloadIf, payload-comes}
-use Rattle.promises.proofs.Fills.{some-number}
 
 -- ---- the kinds and the rates that go with them
 pub goes : (kind : ℕ) (r : Rate) → isKind kind ≡ true → goesWith (kindOf kind) r ≡ true

@@ -6,6 +6,7 @@ use Prim.Native.Nat.{ℕ, suc, _+_, _*_, _≤_, _<_}
 use native.Mathlib.Omega.{arith}
 use lib.ListN.{length, getD}
 use Rattle.base.specs.Below.{Below}
+use Rattle.base.specs.SoMany.{SoMany}
 use Rattle.rules_rates.specs.declared.Rate.{Rate}
 use Rattle.rules_rates.specs.Rates.{codeOf, rateOf, symbolChips, octetSymbols}
 use Rattle.rules_rates.proofs.Octets.{part-chips}
@@ -20,7 +21,6 @@ use Rattle.rules_damage.specs.Plain.{
   SomeSymbol,
   WrongAt,
   LostAt,
-  SoMany,
   KeepsLimit,
   FrameStands,
   SpoiledBy,

@@ -8,6 +8,7 @@ use native.Mathlib.Omega.{arith}
 use lib.ListN.{length, getD, take, replicate}
 use Rattle.base.specs.Below.{Below}
 use Rattle.base.proofs.Below.{below-take}
+use Rattle.base.proofs.SoMany.{many-once}
 use Rattle.rules_rates.specs.Rates.{rateOf}
 use Rattle.rules_rates.specs.Plain.{LengthOf}
 use Rattle.rules_frame.specs.Frame.{kindOf}
@@ -21,7 +22,6 @@ use Rattle.rules_report.specs.Report.{Limits}
 use Rattle.rules_report.specs.Shares.{rates, FullRows}
 use Rattle.rules_damage.specs.Damage.{frameDamage}
 use Rattle.rules_damage.specs.Plain.{FrontSymbols, PayloadSymbols, SymbolAt, SpoiledBy}
-use Rattle.rules_damage.proofs.Counted.{many-once}
 use Rattle.promises.specs.Calls.{ReadHard, ReadFront, Handed, Finds, refused, shown, Sent}
 use Rattle.promises.specs.Coming.{refusedComing, toldComing}
 use Rattle.promises.specs.Finding.{startFound}

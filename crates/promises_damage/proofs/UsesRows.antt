@@ -8,6 +8,7 @@ use native.Mathlib.Nat.{mul-zero}
 use native.Mathlib.Omega.{arith}
 use lib.ListN.{length, getD, take, drop, replicate}
 use Rattle.base.specs.Below.{Below}
+use Rattle.base.proofs.SoMany.{many-once}
 use Rattle.rules_rates.specs.Rates.{rateOf}
 use Rattle.rules_rates.specs.Plain.{LengthOf}
 use Rattle.rules_frame.specs.Frame.{kindOf}
@@ -21,7 +22,7 @@ use Rattle.rules_report.specs.Report.{Limits}
 use Rattle.rules_report.specs.Shares.{FullRows}
 use Rattle.rules_damage.specs.Damage.{wrong, lost, frameDamage}
 use Rattle.rules_damage.specs.Plain.{FrontSymbols, PayloadSymbols, SymbolAt, in-front, in-payload, FrameStands}
-use Rattle.rules_damage.proofs.Counted.{many-once, wrong-many, lost-many}
+use Rattle.rules_damage.proofs.Counted.{wrong-many, lost-many}
 use Rattle.rules_damage.proofs.Symbols.{one-front, one-payload}
 use Rattle.promises.specs.Calls.{Goes, ReadHard, ReadFront, Finds, shown, Sent}
 use Rattle.promises.specs.Coming.{toldComing}

@@ -10,6 +10,7 @@ use lib.ListN.{length, getD, take, replicate}
 use lib.IntN.{pos}
 use lib.Signed.{_≤ℤ_}
 use Rattle.base.specs.Below.{Below}
+use Rattle.base.specs.SoMany.{SoMany}
 use Rattle.rules_rates.specs.declared.Rate.the-variants.{Eleven}
 use Rattle.rules_rates.specs.Rates.{rateOf}
 use Rattle.rules_rates.specs.Plain.{LengthOf}
@@ -35,7 +36,6 @@ use Rattle.rules_damage.specs.Plain.{
   SomeSymbol,
   WrongAt,
   LostAt,
-  SoMany,
   KeepsLimit,
   SymbolSpoiled,
   PastLimit,

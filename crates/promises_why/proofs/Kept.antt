@@ -11,7 +11,7 @@ use Rattle.rules_calls.specs.declared.Reading.{Reading}
 use Rattle.rules_calls.specs.declared.Reading.the-variants.{Refused, Good}
 use Rattle.rules_calls.specs.Answers.{recordOf}
 use Rattle.rules_reading.specs.Reading.{readingOf}
-use Rattle.promises.proofs.Fills.{some-number}
+use Rattle.rules_calls.proofs.AnswerFacts.{some-number}
 use Rattle.rules_why.specs.declared.Reason.{Reason}
 use Rattle.rules_why.specs.Why.{reason, reasonOf}
 use Rattle.rules_why.specs.Plain.{LengthWanted}

@@ -5,6 +5,7 @@ use mathlib.Core.Path.{_≡_, refl}
 use mathlib.Core.Bool.{Bool, true, false}
 use mathlib.Core.List.{List, [], _∷_, map}
 use Prim.Native.Nat.{ℕ}
+use native.Mathlib.Omega.{arith}
 use lib.ListN.{replicate}
 use Rattle.rules_rates.specs.declared.Rate.the-variants.{Five}
 use Rattle.rules_calls.specs.declared.Refusal.{Refusal}
@@ -29,8 +30,28 @@ use Rattle.rules_calls.specs.declared.Refusal.the-variants.{
 }
 use Rattle.rules_calls.specs.declared.Reading.the-variants as reading
 use Rattle.rules_calls.specs.declared.Record.{Record}
-use Rattle.rules_calls.specs.Answers.{recordOf}
+use Rattle.rules_calls.specs.Answers.{refusalNumber, recordOf}
 use Rattle.rules_calls.specs.Headers.{told}
+
+-- every refusal has a number other than 0
+pub some-number : (e : Refusal) → refusalNumber e ≡ 0 → ⊥
+some-number NoKind h = omega arith
+some-number NoRate h = omega arith
+some-number ShortRate h = omega arith
+some-number PayloadSize h = omega arith
+some-number NoPhase h = omega arith
+some-number ChipRoom h = omega arith
+some-number RowsDiffer h = omega arith
+some-number ShorterThanFront h = omega arith
+some-number (Unusable p l) h = omega arith
+some-number (OddGrowth p l) h = omega arith
+some-number Sfd h = omega arith
+some-number Crc h = omega arith
+some-number (Signal l) h = omega arith
+some-number (Service l) h = omega arith
+some-number (Length l) h = omega arith
+some-number (Ends l) h = omega arith
+some-number (OctetRoom l) h = omega arith
 
 -- ---- refusals, for every place and every LENGTH
 abbrev answer : Refusal → Record

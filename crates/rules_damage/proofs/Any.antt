@@ -15,6 +15,8 @@ use lib.ListN.{length, getD, List·getD-eq-default}
 use Rattle.base.specs.Below.{Below}
 use Rattle.base.specs.Tables.{tabulate}
 use Rattle.base.proofs.Tables.{getD-tabulate, length-tabulate}
+use Rattle.base.specs.SoMany.{SoMany, no-place, such, other}
+use Rattle.base.proofs.SoMany.{many-once}
 use Rattle.rules_rates.specs.declared.Rate.{Rate}
 use Rattle.rules_rates.specs.declared.Rate.the-variants.{One, Two, Five, Eleven}
 use Rattle.rules_rates.specs.Rates.{codeOf, symbolChips, octetSymbols}
@@ -23,16 +25,11 @@ use Rattle.rules_frame.specs.Frame.{isKind, kindOf, frontChips, frontSymbols, f
 use Rattle.rules_damage.specs.Plain.{
   WrongAt,
   LostAt,
-  SoMany,
-  no-place,
-  such,
-  other,
   KeepsLimit,
   FrameStands,
   SpoiledBy,
 }
 use Rattle.rules_damage.proofs.OneSymbol.{limitOf}
-use Rattle.rules_damage.proofs.Counted.{many-once}
 use Rattle.rules_damage.proofs.Symbols.{
   front-table,
   one-front,

@@ -1,6 +1,5 @@
 -- Wrong and lost chips, counted by the definitions (`wrong`, `lost`, `damage`), are how many there are in plain numbers
 -- (`SoMany`).
---     many-once                              there is one number of places
 --     wrong-many, lost-many                  of a stretch of chips
 --     wrong-all, lost-all                    of whole rows
 --     damage-length, wrong-at, lost-at       a row of m symbols: two numbers a symbol, by the symbol's own chips
@@ -16,17 +15,10 @@ use borrow.Author.Tests.{eq-eqb, ne-eqb, lt-ltb, le-ltb}
 use lib.Dec.{ltb}
 use lib.ListN.{length, getD, take, drop}
 use lib.Seq.{drop-cons, take-all}
+use Rattle.base.specs.SoMany.{SoMany, no-place, such, other}
 use Rattle.rules_damage.specs.Damage.{isWrong, isLost, wrong, lost, damage}
-use Rattle.rules_damage.specs.Plain.{WrongAt, LostAt, SoMany, no-place, such, other}
+use Rattle.rules_damage.specs.Plain.{WrongAt, LostAt}
 use Rattle.rules_damage.proofs.Row.{nthSymbol, symbol-first, symbol-next}
-
-pub many-once : {Such : ℕ → Type 0} {at places many many′ : ℕ} → SoMany Such at places many
-    → SoMany Such at places many′ → many ≡ many′
-many-once no-place no-place = refl
-many-once (such h m) (such h′ m′) = ap suc (many-once m m′)
-many-once (such h m) (other h′ m′) = absurd (h′ h)
-many-once (other h m) (such h′ m′) = absurd (h h′)
-many-once (other h m) (other h′ m′) = many-once m m′
 
 -- ---- a chip that is wrong, and one that is not: it is right, or no phase
 wrong-chip : (p x : ℕ) → x < 4 → (x ≡ p → ⊥) → isWrong p x ≡ true

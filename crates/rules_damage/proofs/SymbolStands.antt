@@ -8,6 +8,7 @@ use lib.Dec.{T, eqb, eqb→eq}
 use lib.ListN.{length}
 use Rattle.base.specs.Below.{Below}
 use Rattle.base.proofs.Tests.{implies, implied, all-at}
+use Rattle.base.proofs.SoMany.{many-once}
 use Rattle.rules_rates.specs.declared.Rate.{Rate}
 use Rattle.rules_rates.specs.declared.Rate.the-variants.{One, Two, Five, Eleven}
 use Rattle.rules_rates.specs.Rates.{codeOf, rateOf, symbolChips}
@@ -31,7 +32,7 @@ use Rattle.rules_damage.specs.Plain.{
   SymbolSpoiled,
 }
 use Rattle.rules_damage.proofs.OneSymbol.{limitOf, decided-spoiled, lead-spoiled}
-use Rattle.rules_damage.proofs.Counted.{many-once, wrong-all, lost-all}
+use Rattle.rules_damage.proofs.Counted.{wrong-all, lost-all}
 
 -- the table, by the rate
 its-symbol : (rate each chips limit : ℕ) → PayloadSymbols rate each chips limit

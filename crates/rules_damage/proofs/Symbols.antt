@@ -18,6 +18,8 @@ use borrow.Author.Tests.{ltb-true}
 use lib.ListN.{length, getD, drop, length-append, List·getD-append}
 use lib.Seq.{getD-append-add}
 use Rattle.base.specs.Below.{Below}
+use Rattle.base.specs.SoMany.{SoMany}
+use Rattle.base.proofs.SoMany.{many-once}
 use Rattle.rules_rates.specs.declared.Rate.{Rate}
 use Rattle.rules_rates.specs.declared.Rate.the-variants.{One, Two, Five, Eleven}
 use Rattle.rules_rates.specs.Rates.{codeOf, symbolChips, octetSymbols}
@@ -42,14 +44,12 @@ use Rattle.rules_damage.specs.Plain.{
   in-payload,
   WrongAt,
   LostAt,
-  SoMany,
   KeepsLimit,
   FrameStands,
 }
 use Rattle.rules_damage.proofs.OneSymbol.{limitOf}
 use Rattle.rules_damage.proofs.Row.{symbol-behind}
 use Rattle.rules_damage.proofs.Counted.{
-  many-once,
   wrong-many,
   lost-many,
   damage-length,

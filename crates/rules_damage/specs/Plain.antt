@@ -7,6 +7,7 @@ use mathlib.Core.Path.{_≡_}
 use mathlib.Core.List.{List, map}
 use lib.ListN.{length, getD}
 use Rattle.base.specs.Below.{Below}
+use Rattle.base.specs.SoMany.{SoMany}
 use Rattle.rules_rates.specs.Rates.{rateOf}
 use Rattle.rules_chips.specs.Chips.{takenCounts, hardRecording}
 use Rattle.rules_symbols.specs.Words.{wordOf}
@@ -55,12 +56,6 @@ WrongAt sent rec i = (getD rec i 0 < 4) × (getD rec i 0 ≡ getD sent i 0 → �
 
 abbrev pub LostAt : List ℕ → ℕ → Type 0
 LostAt rec i = getD rec i 0 ≡ 4
-
--- `many` of the `places` places from `at` on are such
-pub data SoMany (Such : ℕ → Type 0) : ℕ → ℕ → ℕ → Type 0 where
-  no-place : {at : ℕ} → SoMany Such at 0 0
-  such : {at places many : ℕ} → Such at → SoMany Such (suc at) places many → SoMany Such at (suc places) (suc many)
-  other : {at places many : ℕ} → (Such at → ⊥) → SoMany Such (suc at) places many → SoMany Such at (suc places) many
 
 -- ---- what a symbol and a frame stand
 

@@ -18,3 +18,4 @@ pub mod FirstOdd
 pub mod Lowest
 pub mod Passes
 pub mod Halves
+pub mod Buffers

@@ -1,0 +1,2 @@
+-- What is promised of the call that compares two recordings.
+-- Definitions only. Assumes nothing.

@@ -1,0 +1,5 @@
+pub mod Facts
+pub mod Entries
+pub mod Shown
+pub mod Pairs
+pub mod Octets

@@ -1,0 +1,79 @@
+-- The payloads of two recordings, as they stand in the octet buffers.
+--     both             both readings are accepted, by the numbers of their records
+--     beside-is        the octets of a payload where both are accepted, by the records
+--     beside-fits      which are at most the room
+--     octets-are       the list of octets: that of the payloads in the buffers, or of nothing
+--     one-reading      one recording's list has no entry
+-- By the cases of both readings. Assumes nothing.
+use mathlib.Core.Path.{_≡_, refl, sym, ap, ap₂, _∙_}
+use mathlib.Core.Bool.{Bool, true, cond, _&&_}
+use mathlib.Core.List.{List, []}
+use Prim.Native.Nat.{ℕ, _≤_}
+use native.Mathlib.Omega.{arith}
+use borrow.Author.Tests.{ne-eqb}
+use lib.Dec.{eqb}
+use lib.ListN.{length, take}
+use Rattle.rules_chips.specs.Chips.{Taken, hardRecording}
+use Rattle.rules_frame.specs.declared.Kind.{Kind}
+use Rattle.rules_frame.specs.Frame.{kindOf}
+use Rattle.rules_calls.specs.declared.Reading.{Reading}
+use Rattle.rules_calls.specs.declared.Reading.the-variants.{Refused, Good}
+use Rattle.rules_calls.specs.Answers.{refusalNumber, recordOf}
+use Rattle.rules_calls.proofs.AnswerFacts.{some-number}
+use Rattle.rules_reading.specs.Reading.{octetsAfter, octetsFound}
+use Rattle.rules_reading.proofs.Buffers.{Fits, reading-fits, payload-front}
+use Rattle.rules_compare.specs.Differences.{Difference, differencesFrom, differences}
+use Rattle.rules_compare.specs.Compared.{hardReading, payloadDifferences, lengthBeside, octetList}
+
+-- both readings are accepted
+abbrev pub both : Reading → Reading → Bool
+both f s = eqb (recordOf f .number) 0 && eqb (recordOf s .number) 0
+
+refused-first : {A : Type 0} (m : ℕ) (b : Bool) (x y : A) → (m ≡ 0 → ⊥) → cond (eqb m 0 && b) x y ≡ y
+refused-first m b x y ne = rw (ne-eqb m 0 ne)
+
+pub beside-is : (f s : Reading) → lengthBeside f s ≡ cond (both f s) (recordOf f .n) 0
+beside-is (Refused e) s = sym (refused-first (refusalNumber e) (eqb (recordOf s .number) 0) 0 0 (some-number e))
+beside-is (Good t used least) (Refused e) = rw (ne-eqb (refusalNumber e) 0 (some-number e)) refl
+beside-is (Good t used least) (Good t′ used′ least′) = refl
+
+pub other-is : (f s : Reading) → lengthBeside s f ≡ cond (both f s) (recordOf s .n) 0
+other-is (Refused e) (Refused e′) = sym (refused-first (refusalNumber e) (eqb (refusalNumber e′) 0) 0 0 (some-number e))
+other-is (Refused e) (Good t used least) = sym (refused-first (refusalNumber e) true (t .n) 0 (some-number e))
+other-is (Good t used least) (Refused e) = rw (ne-eqb (refusalNumber e) 0 (some-number e)) refl
+other-is (Good t used least) (Good t′ used′ least′) = refl
+
+fits-beside : (room : ℕ) (f s : Reading) → Fits room f → lengthBeside f s ≤ room
+fits-beside room (Refused e) s h = omega arith
+fits-beside room (Good t used least) (Refused e) h = omega arith
+fits-beside room (Good t used least) (Good t′ used′ least′) h = h
+
+module _ (k : Kind) (a b : List Taken) (room room′ : ℕ) where
+  front-lists : (f s : Reading)
+      → payloadDifferences k a b f s
+      ≡ differences (take (lengthBeside f s) (octetsAfter k a room f)) (take (lengthBeside s f) (octetsAfter k b room′ s))
+  unfolding differencesFrom
+  front-lists (Refused e) (Refused e′) = refl
+  front-lists (Refused e) (Good t used least) = refl
+  front-lists (Good t used least) (Refused e) = refl
+  front-lists (Good t used least) (Good t′ used′ least′) =
+      ap₂ {C = List Difference} differences (sym (payload-front k a room t)) (sym (payload-front k b room′ t′))
+
+module _ (kind : ℕ) (a b : List ℕ) (room room′ : ℕ) where
+  abbrev f : Reading
+  f = hardReading kind a room
+
+  abbrev s : Reading
+  s = hardReading kind b room′
+
+  pub beside-fits : (lengthBeside f s ≤ room) × (lengthBeside s f ≤ room′)
+  beside-fits = (
+    fits-beside room f s (reading-fits kind true (hardRecording a) room),
+    fits-beside room′ s f (reading-fits kind true (hardRecording b) room′),
+  )
+
+  pub octets-are : octetList kind a b room room′
+      ≡ differences (take (lengthBeside f s) (octetsFound kind true (hardRecording a) room))
+      (take (lengthBeside s f) (octetsFound kind true (hardRecording b) room′))
+  unfolding octetList octetsFound
+  octets-are = front-lists (kindOf kind) (hardRecording a) (hardRecording b) room room′ f s
