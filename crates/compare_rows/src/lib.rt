@@ -2,8 +2,8 @@
 // their list fits its row they are listed. So no place of a row is written twice. Knows nothing of radio.
 ghost use mathlib.Core.Path.{_≡_};
 ghost use Prim.Native.Nat.{_+_, _*_, _≤_, _<_};
-ghost use lib.ListN.{length};
-ghost use Rattle.rules_compare.specs.Differences.{differences, laid};
+ghost use lib.ListN.{length, take};
+ghost use Rattle.rules_compare.specs.Differences.{differences, entryPlaces, laid};
 ghost use Rattle.compare_rows.specs.Left.{leftOver, Between, Put};
 
 // How far both rows go.
@@ -54,6 +54,13 @@ fn count(a: &[u8], b: &[u8]) -> usize
     n + in_part(a, b, at, end)
 }
 
+// An octet as a number.
+fn wide(x: u8) -> u64
+    ensures answer { λ r. ⌜ r ≡ x ⌝ }
+{
+    x as u64
+}
+
 // The entry of one index, put at a place of the row where the rows differ there; the place behind it.
 fn put_at(a: &[u8], b: &[u8], i: usize, row: &mut [u64], p: usize) -> usize
     requires { ⌜ (i < length (now a)) × (i < length (now b))
@@ -66,8 +73,8 @@ fn put_at(a: &[u8], b: &[u8], i: usize, row: &mut [u64], p: usize) -> usize
         return p;
     }
     row[p] = i as u64;
-    row[p + 1] = x as u64;
-    row[p + 2] = y as u64;
+    row[p + 1] = wide(x);
+    row[p + 2] = wide(y);
     p + 3
 }
 
@@ -99,11 +106,12 @@ fn put_block(a: &[u8], b: &[u8], at: usize, row: &mut [u64], p: usize) -> usize
     put_part(a, b, at, at + 64, row, p)
 }
 
-// All entries, from the row's first place on.
+// All entries, from the row's first place on; the place behind them.
 fn put_all(a: &[u8], b: &[u8], row: &mut [u64]) -> usize
-    requires { ⌜ 3 * leftOver (now a) (now b) 0 ≤ length (now row) ⌝ }
-    ensures answer { λ r. ⌜ Put (now (a .entry)) (now (b .entry)) 0 (length (now (a .entry)))
-        (now (row .entry)) 0 (now (row .exit)) r ⌝ }
+    requires { ⌜ 3 * length (differences (now a) (now b)) ≤ length (now row) ⌝ }
+    ensures answer { λ r. ⌜ (r ≡ 3 * length (differences (now (a .entry)) (now (b .entry))))
+        × (length (now (row .exit)) ≡ length (now (row .entry)))
+        × (take r (now (row .exit)) ≡ entryPlaces (differences (now (a .entry)) (now (b .entry)))) ⌝ }
 {
     let end = shorter(a, b);
     let mut at = 0;

@@ -1,0 +1,28 @@
+-- `compare_rows::shorter` meets its contract: where one of the rows ends nothing is left.
+-- Assumes nothing.
+use mathlib.Core.Path.{_≡_, ap}
+use mathlib.Core.List.{List}
+use mathlib.Core.Logic.{inl, inr}
+use Prim.Native.Nat.{ℕ, _≤_, _<_}
+use native.Mathlib.Nat.{le-refl}
+use native.Mathlib.Omega.{arith}
+use lib.ListN.{length}
+use denote.Ref.{now}
+use Rattle.compare_rows.specs.Left.{leftOver}
+use Rattle.compare_rows.proofs.Left.{ended}
+use Rattle.compare_rows.proofs.shorter.Statement.{statement}
+use Rattle.compare_rows.proofs.shorter.Tie as tie
+
+first : (a b : List ℕ) → length a < length b
+    → (length a ≤ length a) × (length a ≤ length b) × (leftOver a b (length a) ≡ 0)
+first a b h = (le-refl _, omega arith, ap length (ended a b (length a) (inl (le-refl _))))
+
+second : (a b : List ℕ) → length b ≤ length a
+    → (length b ≤ length a) × (length b ≤ length b) × (leftOver a b (length b) ≡ 0)
+second a b h = (h, le-refl _, ap length (ended a b (length b) (inr (le-refl _))))
+
+pub shorter-spec : {M : Type 1} → statement M
+shorter-spec =
+    tie.close
+    (tie.spec (λ c. first (now (c .before .args .a)) (now (c .before .args .b)) (omega arith))
+    (λ c. second (now (c .before .args .a)) (now (c .before .args .b)) (omega arith)))
