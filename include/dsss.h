@@ -38,9 +38,10 @@
  *           its own: its two records have theirs, and the chips are compared whatever these are.
  * Fills     What a lent row held before does not matter. Each call writes every element of it,
  *           refused or not: a chip buffer is 4s but for the frame, an octet buffer is 0s but for
- *           the payload, the text or the store, a row of numbers 0s but for its list. A refused call
- *           leaves nothing else, so nothing old can be shown. ONE CALL IS OTHERWISE: dsss_store_change reads the store that it is lent, changes
- *           one octet of it at most, and, refused, leaves every octet as it was.
+ *           the payload, the text or the store, a row of numbers is 0s but for its list. A refused
+ *           call leaves nothing else, so nothing old can be shown. ONE CALL IS OTHERWISE:
+ *           dsss_store_change reads the store that it is lent, changes one octet of it at most, and,
+ *           refused, leaves every octet as it was.
  * Places    Places and offsets are chip indexes from the recording's start, which is 0.
  */
 #ifndef DSSS_H
@@ -63,7 +64,8 @@ extern "C" {
 
 /* The symbols of the calls. C and C++ write the plain names; what goes by symbols, as another language
  * or a debugger does, finds these. dsss_read_front, dsss_find, dsss_why, dsss_compare, the three calls of
- * the report and the three of the store are their own symbols. */
+ * the report and the three of the store are their own symbols; dsss_compare answers two dsss_record and
+ * gets a new one when these change. */
 #define dsss_write dsss_write_2
 #define dsss_read_hard dsss_read_hard_3
 #define dsss_read_soft dsss_read_soft_3
@@ -122,8 +124,8 @@ extern "C" {
  * the front, 11 to 17, then 9 and 10 over the payload; each 9 through its whole part before 10. A
  * read of the front looks for 1, 8, then 9 and 10 over the front, 11 to 16, and for nothing more. A
  * find looks for 1 and 18, then for a front, and answers 19 if there is none. dsss_why looks as a read
- * does, and dsss_compare as two reads do. A report's calls answer 31, of a list 7 before it, and its text 17; what the recordings are
- * refused with is counted, not answered. A read of a store looks for 21 to 28 in this order, each in the
+ * does, and dsss_compare as two reads do, each for itself. A report's calls answer 31, of a list 7 before
+ * it, and its text 17; what the recordings are refused with is counted, not answered. A read of a store looks for 21 to 28 in this order, each in the
  * whole store before the next; a change for these, then for 30, then for 28 in the settings as they would
  * be; a write of one for 28, then 29. */
 #define DSSS_REFUSED_KIND 1        /* kind is neither 0 (long) nor 1 (short) */
@@ -244,7 +246,8 @@ typedef struct {
 typedef struct {
     dsss_record a, b; /* what dsss_read_hard answers of each recording */
     uint64_t chips;   /* chips that differ, all of them, also where their list does not fit its row */
-    uint64_t octets;  /* payload octets that differ, likewise; 0 unless both recordings are accepted */
+    uint64_t octets;  /* payload octets that differ, likewise; 0 unless both recordings are accepted, so that
+                         0 SAYS THAT NONE DIFFERS ONLY WHERE a.number AND b.number ARE 0 */
     uint64_t n_a;     /* octets of the first payload; 0 unless both recordings are accepted */
     uint64_t n_b;     /* octets of the second payload, likewise */
 } dsss_compared;
@@ -432,16 +435,19 @@ dsss_reason dsss_why(uint64_t kind, const uint8_t *chips, size_t chips_len, uint
  *   octets_a   lent, for the first payload; DSSS_PAYLOAD_MAX always do    refusal 17, in its record
  *   octets_b   lent, for the second payload, likewise                     refusal 17, in its record
  * Answer:  both records as dsss_read_hard answers them; how many chips differ, as far as the shorter recording
- *          goes: whole recordings, not frames, and every octet counts, 5 to 255 too; how many octets differ,
- *          as far as the shorter payload goes, and both payloads' octets. Of payloads of different lengths
- *          the rest of the longer one is not listed: n_a and n_b differ then.
+ *          goes: whole recordings, not frames, so that an index of a.used or more is behind the first frame,
+ *          and every octet counts, 5 to 255 too; how many octets differ, as far as the shorter payload goes,
+ *          and both payloads' octets. Of payloads of different lengths the rest of the longer one is not
+ *          listed: n_a and n_b differ then. Receivers need not share a phase: where one's phases are all
+ *          turned, every chip differs and no octet does.
  * Refused: a recording that is refused has its number in its own record; octets, n_a and n_b are then 0, and
  *          the chips are compared all the same. The call itself is never refused.
  * Buffer:  chip_row[] is the list and then 0s. A LIST THAT DOES NOT FIT LEAVES ITS ROW ALL 0s, not a part
  *          of it; the other list is not touched by that, and the number of entries is told in full:
  *          chips > chip_row_len / 3 says so, and the call may be made again with that many entries' places.
  *          octet_row[] likewise, with octets. octets_a[] and octets_b[] are as dsss_read_hard leaves them:
- *          a recording that is refused has all 0s in its own, and the other keeps its payload.
+ *          a recording that is refused has all 0s in its own, and the other keeps its payload, of a.n or
+ *          b.n octets.
  * Proved:  crates/dsss, dsss_compare, record Compares: answer, chips, octets, first and second. */
 dsss_compared dsss_compare(uint64_t kind, const uint8_t *a, size_t a_len, const uint8_t *b, size_t b_len,
                            uint64_t *chip_row, size_t chip_row_len, uint64_t *octet_row,

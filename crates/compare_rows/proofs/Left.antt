@@ -20,7 +20,7 @@ use native.Mathlib.Omega.{arith}
 use lib.ListN.{length, getD, set, take, drop, drop-of-length-le, length-set}
 use lib.Seq.{drop-cons, take-suc-set}
 use Rattle.rules_compare.specs.Differences.{Difference, differencesFrom, differences, entryPlaces}
-use Rattle.rules_compare.proofs.Entries.{same-head, other-head, none-behind, places-long}
+use Rattle.rules_compare.proofs.Entries.{same-head, other-head, none-behind}
 use Rattle.compare_rows.specs.Left.{left, leftOver, Between, Put}
 
 module _ (xs ys : List ℕ) where

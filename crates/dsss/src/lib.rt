@@ -126,9 +126,9 @@ pub extern "C" fn dsss_compare(
     octets_b: &mut [u8],
 ) -> Compared
     ensures compared { λ c. ⌜ Compares kind (now (a .entry)) (now (b .entry))
-        (length (now (chip_row .entry))) (length (now (octet_row .entry)))
-        (length (now (octets_a .entry))) (length (now (octets_b .entry)))
-        c (now (chip_row .exit)) (now (octet_row .exit)) (now (octets_a .exit)) (now (octets_b .exit)) ⌝ }
+        (length (now («chip_row» .entry))) (length (now («octet_row» .entry)))
+        (length (now («octets_a» .entry))) (length (now («octets_b» .entry)))
+        c (now («chip_row» .exit)) (now («octet_row» .exit)) (now («octets_a» .exit)) (now («octets_b» .exit)) ⌝ }
 {
     small_calls::compare::compare(kind, a, b, chip_row, octet_row, octets_a, octets_b)
 }

@@ -11,7 +11,7 @@ use native.Mathlib.Decide.{decLt, ℕ-discrete}
 use native.Mathlib.Omega.{arith}
 use lib.ListN.{length, getD}
 use Rattle.rules_compare.specs.Differences.{Difference, differencesFrom, differences, entryPlaces, laid}
-use Rattle.rules_compare.specs.Plain.{DifferAt, Lists}
+use Rattle.rules_compare.specs.Plain.{Lists, Exchanged}
 use Rattle.rules_compare.proofs.Entries.{same-head, other-head, none-behind}
 use Rattle.rules_compare.proofs.Shown.{fit-at, zeros-at}
 
@@ -72,13 +72,6 @@ turned-from at (x ∷ xs) (y ∷ ys) = by (ℕ-discrete x y) (turned-from (suc a
 turned-long : (ds : List Difference) → length (map turned ds) ≡ length ds
 turned-long [] = refl
 turned-long (d ∷ ds) = ap suc (turned-long ds)
-
--- entry k of two rows: one index, and octets exchanged
-abbrev pub Exchanged : List ℕ → List ℕ → ℕ → Type 0
-Exchanged row row′ k =
-    (getD row′ (3 * k) 0 ≡ getD row (3 * k) 0)
-    × (getD row′ (3 * k + 1) 0 ≡ getD row (3 * k + 2) 0)
-    × (getD row′ (3 * k + 2) 0 ≡ getD row (3 * k + 1) 0)
 
 turned-places : (ds : List Difference) (k : ℕ) → Exchanged (entryPlaces ds) (entryPlaces (map turned ds)) k
 unfolding entryPlaces

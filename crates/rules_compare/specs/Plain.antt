@@ -43,3 +43,10 @@ pub record Shows (xs ys : List ℕ) (places entries : ℕ) (row : List ℕ) : Ty
   pub whole : length row ≡ places
   pub fits : 3 * entries ≤ places → Lists xs ys row entries × ZerosFrom row (3 * entries)
   pub no-room : places < 3 * entries → ZerosFrom row 0
+
+-- entry k of two rows: one index, and octets exchanged
+abbrev pub Exchanged : List ℕ → List ℕ → ℕ → Type 0
+Exchanged row row′ k =
+    (getD row′ (3 * k) 0 ≡ getD row (3 * k) 0)
+    × (getD row′ (3 * k + 1) 0 ≡ getD row (3 * k + 2) 0)
+    × (getD row′ (3 * k + 2) 0 ≡ getD row (3 * k + 1) 0)

@@ -4,6 +4,7 @@
 --     reading-fits      which are at most the room
 --     filled-octets     the buffer keeps its length; zeros after a refusal, and behind a payload
 --     payload-front     the payload is the buffer's front
+--     found-long        a read leaves as many octets as there is room for
 -- Assumes nothing.
 use mathlib.Core.Path.{_≡_, refl, sym, _∙_, subst}
 use mathlib.Core.Bool.{Bool, not}
@@ -33,6 +34,7 @@ use Rattle.rules_reading.specs.Reading.{
   afterFront,
   readingOf,
   octetsAfter,
+  octetsFound,
 }
 use Rattle.rules_reading.proofs.Refusals.{PayloadIf, payload-comes}
 
@@ -78,3 +80,9 @@ pub payload-front : (k : Kind) (rec : List Taken) (room : ℕ) (t : Told)
 payload-front k rec room t =
     take-at (payloadOf k (t .rate) (t .n) rec) (replicate (room - t .n) 0) (t .n)
     (payload-length k (t .rate) (t .n) rec)
+
+pub found-long : (kind : ℕ) (agree : Bool) (rec : List Taken) (room : ℕ)
+    → length (octetsFound kind agree rec room) ≡ room
+unfolding octetsFound
+found-long kind agree rec room =
+    filled-octets (kindOf kind) rec room (readingOf kind agree rec room) (reading-fits kind agree rec room) .0

@@ -52,6 +52,6 @@ pub count-spec : {M : Type 1} → statement M
 count-spec =
     tie.close
     (tie.spec
-    Inv-loop μ-loop (λ c κs. tt) loop-holds (λ c. omega arith) in-block-requires (λ c. omega (arith, c .in-block .ensures .0))
-    (λ c. omega arith)
-    (λ c. omega arith) (λ c. omega arith) loop-again in-part-requires (λ c. omega arith) returns)
+    Inv-loop μ-loop (λ c κs. tt) loop-holds (λ c. omega arith) in-block-requires
+    (λ c. omega (arith, c .in-block .ensures .0)) (λ c. omega arith) (λ c. omega arith) (λ c. omega arith) loop-again
+    in-part-requires (λ c. omega arith) returns)

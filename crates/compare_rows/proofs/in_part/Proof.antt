@@ -1,7 +1,7 @@
 -- `compare_rows::in_part` meets its contract. The invariant: so many of the octets up to i differ.
 -- Assumes nothing.
 use mathlib.Core.Logic.{⊎-elim}
-use Prim.Native.Nat.{ℕ, _+_, _-_, _≤_, _<_}
+use Prim.Native.Nat.{_+_, _-_, _≤_}
 use native.Mathlib.Omega.{arith}
 use denote.Ref.{now}
 use Rattle.compare_rows.specs.Left.{Between}
