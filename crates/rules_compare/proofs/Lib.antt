@@ -3,3 +3,4 @@ pub mod Entries
 pub mod Shown
 pub mod Pairs
 pub mod Octets
+pub mod Itself
