@@ -125,9 +125,9 @@ extern "C" {
  * read of the front looks for 1, 8, then 9 and 10 over the front, 11 to 16, and for nothing more. A
  * find looks for 1 and 18, then for a front, and answers 19 if there is none. dsss_why looks as a read
  * does, and dsss_compare as two reads do, each for itself. A report's calls answer 31, of a list 7 before
- * it, and its text 17; what the recordings are refused with is counted, not answered. A read of a store looks for 21 to 28 in this order, each in the
- * whole store before the next; a change for these, then for 30, then for 28 in the settings as they would
- * be; a write of one for 28, then 29. */
+ * it, and its text 17; what the recordings are refused with is counted, not answered. A read of a store
+ * looks for 21 to 28 in this order, each in the whole store before the next; a change for these, then for
+ * 30, then for 28 in the settings as they would be; a write of one for 28, then 29. */
 #define DSSS_REFUSED_KIND 1        /* kind is neither 0 (long) nor 1 (short) */
 #define DSSS_REFUSED_RATE 2        /* rate code isn't one of the four */
 #define DSSS_REFUSED_SHORT_RATE 3  /* rate code 10 with the short kind */

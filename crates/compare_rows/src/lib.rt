@@ -41,7 +41,7 @@ fn in_part(a: &[u8], b: &[u8], from: usize, to: usize) -> usize
 }
 
 // How many differ in all.
-fn count(a: &[u8], b: &[u8]) -> usize
+fn how_many(a: &[u8], b: &[u8]) -> usize
     ensures answer { λ r. ⌜ r ≡ length (differences (now (a .entry)) (now (b .entry))) ⌝ }
 {
     let end = shorter(a, b);
@@ -130,7 +130,7 @@ pub fn list(a: &[u8], b: &[u8], row: &mut [u64]) -> u64
     ensures row { λ _. ⌜ now (row .exit)
         ≡ laid (length (now (row .entry))) (differences (now (a .entry)) (now (b .entry))) ⌝ }
 {
-    let n = count(a, b);
+    let n = how_many(a, b);
     if row.len() / 3 < n {
         common_rows::clear(row, 0);
         return n as u64;

@@ -1,1 +1,3 @@
+pub mod Answered
 pub mod Kept
+pub mod Uses

@@ -29,9 +29,11 @@ pub record Compares (kind : ℕ) (a b : List ℕ) (places places′ room room′
   -- rule: 6.29, 9.1
   -- code: dsss_compare, small_calls::compare, compare_rows::list
   pub octets : octet-row ≡ laid places′ (octetList kind a b room room′)
-  -- promise: Each octet buffer at the end is what a hard read of its own recording leaves
+  -- promise: The first octet buffer at the end is what a hard read of the first recording leaves
   -- rule: 6.29, 6.9, 9.1
   -- code: dsss_compare, small_calls::compare, read_frames::read_hard
-  -- with: Compares.second
   pub first : octets-a ≡ octetsFound kind true (hardRecording a) room
+  -- promise: The second octet buffer at the end is what a hard read of the second recording leaves
+  -- rule: 6.29, 6.9, 9.1
+  -- code: dsss_compare, small_calls::compare, read_frames::read_hard
   pub second : octets-b ≡ octetsFound kind true (hardRecording b) room′

@@ -5,14 +5,12 @@
 use Prim.Native.Nat.{ℕ, _*_, _≤_, _<_}
 use mathlib.Core.Path.{_≡_}
 use mathlib.Core.Logic.{_⊎_}
-use mathlib.Core.List.{List, _++_}
+use mathlib.Core.List.{List}
 use lib.ListN.{length, getD, take}
 use Rattle.rules_calls.specs.declared.Record.{Record}
-use Rattle.rules_calls.specs.declared.Written.{Written}
 use Rattle.rules_compare.specs.declared.Compared.{Compared}
 use Rattle.rules_compare.specs.Plain.{ZerosFrom, Shows, Exchanged}
-use Rattle.rules_damage.specs.Plain.{FrameStands}
-use Rattle.promises.specs.Calls.{ReadHard, Sent}
+use Rattle.promises.specs.Calls.{ReadHard}
 use Rattle.promises_compare.specs.Calls.{Compares}
 
 -- promise: Both records are those of the hard reader, each of its own recording under the same kind and with its own
@@ -41,7 +39,7 @@ pub record ShowsPayloads (places : ℕ) (c : Compared) (octets first second : Li
 -- where both are accepted. Nothing else is allowed
 -- rule: 6.29
 -- code: dsss_compare, compare_rows::list
--- with: ShowsPayloads, Shows
+-- with: ShowsPayloads, rules_compare/Shows
 abbrev pub ComparedShows : Type 0
 ComparedShows =
     (kind : ℕ) (a b : List ℕ) (places places′ room room′ : ℕ) (c : Compared) (chips octets first second : List ℕ)
@@ -64,8 +62,8 @@ ComparedFits =
     → (c .chips ≤ length a) × (c .chips ≤ length b)
     × (c .octets ≤ 4095) × (c .octets ≤ room) × (c .octets ≤ room′)
 
--- promise: A recording compared with itself has no difference, in chips or octets, whatever rows and rooms are lent: both
--- rows are zeros
+-- promise: A recording compared with itself has no difference, in chips or octets, whatever rows and rooms are lent:
+-- both rows are zeros
 -- rule: 6.29
 -- code: dsss_compare
 abbrev pub ComparedItself : Type 0
@@ -105,24 +103,6 @@ ComparedGives =
     → (a ≡ a′ → (i : ℕ) → i < length a → i < length b → i < length b′ → getD b i 0 ≡ getD b′ i 0)
     × (b ≡ b′ → (i : ℕ) → i < length b → i < length a → i < length a′ → getD a i 0 ≡ getD a′ i 0)
 
--- promise: Two frames that were written under one kind, one or two, and recorded each with its own damage within the
--- limits, whatever follows, compared with room for both: the octets listed are those at which the payloads handed to the
--- writer differ, so none where one frame was written; and the two numbers are their lengths
--- rule: 6.29, 6.28, 1.4 (2)
--- code: dsss_compare, dsss_write_2
--- with: FrameStands
-abbrev pub ComparedSent : Type 0
-ComparedSent =
-    (kind rate rate′ phase phase′ clock clock′ : ℕ) (p q : List ℕ) (w v : Written) (sent sent′ : List ℕ)
-    → Sent kind rate phase clock p w sent → Sent kind rate′ phase′ clock′ q v sent′
-    → (rec rec′ tail tail′ : List ℕ) → FrameStands kind rate (length p) (take (w .chips) sent) rec
-    → FrameStands kind rate′ (length q) (take (v .chips) sent′) rec′
-    → (places places′ room room′ : ℕ) (c : Compared) (chips octets first second : List ℕ)
-    → length p ≤ room → length q ≤ room′
-    → Compares kind (rec ++ tail) (rec′ ++ tail′) places places′ room room′ c chips octets first second
-    → Shows p q places′ (c .octets) octets × (c .«n_a» ≡ length p) × (c .«n_b» ≡ length q)
-    × (c .a .number ≡ 0) × (c .b .number ≡ 0)
-
 -- promise: The contract of the call that compares allows exactly one answer for each input, and one of each row
 -- rule: 9.2
 -- code: dsss_compare
@@ -143,5 +123,4 @@ pub record ComparePromised : Type 0 where
   pub compared-itself : ComparedItself
   pub compared-exchanged : ComparedExchanged
   pub compared-gives : ComparedGives
-  pub compared-sent : ComparedSent
   pub one-comparison : OneComparison

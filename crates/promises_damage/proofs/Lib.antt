@@ -2,7 +2,9 @@ pub mod Computed
 pub mod SpoiledBack
 pub mod SpoiledFront
 pub mod Symbols
+pub mod SpoiledCompared
 pub mod Kept
 pub mod Uses
 pub mod UsesRows
 pub mod UsesSymbols
+pub mod UsesCompared

@@ -1,8 +1,8 @@
 -- What is promised of frames that were written and whose chips were spoiled (RULES 3.10, 6.28): a wrong chip is another
 -- phase, a lost one a 4, and every symbol keeps its limit (`FrameStands` of rules_damage, in plain numbers). Statements
--- about a read, the front alone, a search and a report speak of answers that the contracts of the calls allow (`Wrote`,
--- `ReadHard`, `ReadFront`, `Finds`, `Adds`), so they are about the programs; those about symbols and rows, of the
--- definitions. Definitions only. Assumes nothing.
+-- about a read, the front alone, a search, a report and a comparison speak of answers that the contracts of the calls
+-- allow (`Wrote`, `ReadHard`, `ReadFront`, `Finds`, `Adds`, `Compares`), so they are about the programs; those about
+-- symbols and rows, of the definitions. Definitions only. Assumes nothing.
 use Prim.Native.Nat.{ℕ, suc, _+_, _-_, _*_, _≤_, _<_}
 use mathlib.Core.Path.{_≡_}
 use mathlib.Core.List.{List, [], _∷_, _++_, map}
@@ -27,6 +27,8 @@ use Rattle.rules_report.specs.declared.Report.{Report}
 use Rattle.rules_report.specs.declared.Counted.{Counted}
 use Rattle.rules_report.specs.Report.{Limits}
 use Rattle.rules_report.specs.Shares.{FullRows, OneMore}
+use Rattle.rules_compare.specs.declared.Compared.{Compared}
+use Rattle.rules_compare.specs.Plain.{Shows}
 use Rattle.rules_damage.specs.Damage.{frameDamage}
 use Rattle.rules_damage.specs.Plain.{
   FrontSymbols,
@@ -46,6 +48,7 @@ use Rattle.promises.specs.Calls.{ReadHard, ReadFront, Handed, Finds, good, refu
 use Rattle.promises.specs.Coming.{refusedComing, toldComing}
 use Rattle.promises.specs.Finding.{startFound}
 use Rattle.promises_report.specs.Calls.{Adds}
+use Rattle.promises_compare.specs.Calls.{Compares}
 
 -- ---- a frame
 
@@ -121,6 +124,23 @@ SpoiledCounted =
     → (rec tail : List ℕ) → FrameStands kind rate (length payload) (take (w .chips) chips) rec
     → (p : Report) (c : Counted) → Limits p → FullRows p → Adds p kind (rec ++ tail) c
     → (c .number ≡ 0) × CountsAs p kind rate l (length payload) (w .chips) (shown clock) (c .report)
+
+-- promise: Two frames that were written under one kind, or one frame, each recorded as phases and 4s with every symbol
+-- within its limit, whatever follows, and compared with room for both: both are accepted, the octets listed are those
+-- at which the payloads handed to the writer differ, none where it is one frame, and the two numbers are their lengths
+-- rule: 6.28, 6.29
+-- code: dsss_write_2, dsss_compare
+abbrev pub SpoiledCompared : Type 0
+SpoiledCompared =
+    (kind rate rate′ phase phase′ clock clock′ : ℕ) (p q : List ℕ) (w v : Written) (sent sent′ : List ℕ)
+    → Sent kind rate phase clock p w sent → Sent kind rate′ phase′ clock′ q v sent′
+    → (rec rec′ tail tail′ : List ℕ) → FrameStands kind rate (length p) (take (w .chips) sent) rec
+    → FrameStands kind rate′ (length q) (take (v .chips) sent′) rec′
+    → (places places′ room room′ : ℕ) (c : Compared) (chips octets first second : List ℕ)
+    → length p ≤ room → length q ≤ room′
+    → Compares kind (rec ++ tail) (rec′ ++ tail′) places places′ room room′ c chips octets first second
+    → Shows p q places′ (c .octets) octets × (c .«n_a» ≡ length p) × (c .«n_b» ≡ length q)
+    × (c .a .number ≡ 0) × (c .b .number ≡ 0)
 
 -- ---- a symbol
 
@@ -210,6 +230,7 @@ pub record DamagePromised : Type 0 where
   pub spoiled-told : SpoiledTold
   pub spoiled-found : SpoiledFound
   pub spoiled-counted : SpoiledCounted
+  pub spoiled-compared : SpoiledCompared
   pub symbol-stands : SymbolStands
   pub limits-tight : LimitsTight
   pub words-apart : WordsApart

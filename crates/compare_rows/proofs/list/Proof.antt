@@ -41,7 +41,7 @@ whole ds d e g p f l t h c =
 returns : tie.Need-returns
 returns c =
     let args = c .before .before .before .before .before .before .before .before .before .args in
-    let count = c .before .before .before .before .before .count in (
+    let count = c .before .before .before .before .before .how-many in (
       count .ensures,
       not-fit (differences (now (args .a)) (now (args .b))) (now (args .row)) (c .before .before .clear .last .0)
           (count .result) (count .ensures) (omega arith) (c .before .before .clear .ensures),
@@ -50,7 +50,7 @@ returns c =
 returns-2 : tie.Need-returns-2
 returns-2 c =
     let args = c .before .before .before .before .before .before .before .before .before .before .args in
-    let count = c .before .before .before .before .before .before .count in
+    let count = c .before .before .before .before .before .before .how-many in
     let nothing : length (differences (now (args .a)) (now (args .b))) ≡ 0 = omega (arith, count .ensures) in (
       sym nothing,
       none (differences (now (args .a)) (now (args .b))) (now (args .row)) (c .before .before .clear2 .last .0)
@@ -58,12 +58,12 @@ returns-2 c =
     )
 
 put-all-requires : tie.Need-put-all-requires
-put-all-requires c κs = omega (arith, c .before .before .before .count .ensures)
+put-all-requires c κs = omega (arith, c .before .before .before .how-many .ensures)
 
 clear-requires-3 : tie.Need-clear-requires-3
 clear-requires-3 c κs =
     let put = c .before .before .before .put-all .ensures in
-    let count = c .before .before .before .before .before .before .before .count in
+    let count = c .before .before .before .before .before .before .before .how-many in
     omega (arith, put .0, put .1, count .ensures)
 
 returns-3 : tie.Need-returns-3
@@ -71,7 +71,7 @@ returns-3 c =
     let args =
     c .before .before .before .before .before .before .before .before .before .before .before .before .before .before
     .args in
-    let count = c .before .before .before .before .before .before .before .before .before .before .count in
+    let count = c .before .before .before .before .before .before .before .before .before .before .how-many in
     let put = c .before .before .before .before .before .before .put-all in (
       count .ensures,
       whole (differences (now (args .a)) (now (args .b))) (now (args .row)) (put .last .1 .1 .0)

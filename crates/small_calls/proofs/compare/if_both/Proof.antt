@@ -9,7 +9,11 @@ pub if-both-spec : {M : Type 1} → statement M
 if-both-spec =
     tie.close
     (tie.spec (λ c. rw (ne-eqb (c .before .args .one) 0 (λ e. omega arith)))
-    (λ c. rw (eq-eqb (c .before .before .args .one) 0 (omega arith),
-    ne-eqb (c .before .before .args .other) 0 (λ e. omega arith)))
-    (λ c. rw (eq-eqb (c .before .before .args .one) 0 (omega arith),
-    eq-eqb (c .before .before .args .other) 0 (omega arith))))
+    (λ c. rw (
+      eq-eqb (c .before .before .args .one) 0 (omega arith),
+      ne-eqb (c .before .before .args .other) 0 (λ e. omega arith),
+    ))
+    (λ c. rw (
+      eq-eqb (c .before .before .args .one) 0 (omega arith),
+      eq-eqb (c .before .before .args .other) 0 (omega arith),
+    )))

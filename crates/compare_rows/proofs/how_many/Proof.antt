@@ -1,4 +1,4 @@
--- `compare_rows::count` meets its contract. The invariant: so many of the octets up to `at` differ.
+-- `compare_rows::how_many` meets its contract. The invariant: so many of the octets up to `at` differ.
 -- Assumes nothing.
 use mathlib.Core.Path.{refl}
 use Prim.Native.Nat.{_+_, _-_, _≤_}
@@ -6,8 +6,8 @@ use native.Mathlib.Omega.{arith}
 use denote.Ref.{now}
 use Rattle.compare_rows.specs.Left.{Between}
 use Rattle.compare_rows.proofs.Left.{between-none, between-then, between-all}
-use Rattle.compare_rows.proofs.count.Statement.{statement}
-use Rattle.compare_rows.proofs.count.Tie as tie
+use Rattle.compare_rows.proofs.how_many.Statement.{statement}
+use Rattle.compare_rows.proofs.how_many.Tie as tie
 
 abbrev Inv-loop : tie.InvT-loop
 Inv-loop a b end n₀ at₀ n at = (at ≤ end) × (n ≤ at) × Between a b 0 at n
@@ -48,8 +48,8 @@ returns c =
     (between-then a b 0 (loop .at) (shorter .result) (loop .n) (c .in-part .result) (loop .inv .2)
     (c .in-part .ensures .1))
 
-pub count-spec : {M : Type 1} → statement M
-count-spec =
+pub how-many-spec : {M : Type 1} → statement M
+how-many-spec =
     tie.close
     (tie.spec
     Inv-loop μ-loop (λ c κs. tt) loop-holds (λ c. omega arith) in-block-requires
