@@ -4,8 +4,8 @@
 
 LIB := target/staticlib/libdsss.a
 LEAVES := target/staticlib/libbench_leaves.a
-PLAIN := bench/plain_write.c bench/plain_choose.c bench/plain_read.c bench/plain_find.c bench/plain_report.c \
-	bench/plain_store.c
+PLAIN := bench/plain_write.c bench/plain_choose.c bench/plain_read.c bench/plain_find.c bench/plain_compare.c \
+	bench/plain_report.c bench/plain_store.c
 HOST := examples/host/host.c examples/host/compare.c examples/host/settings.c
 OUT := target/c
 STRICT := -std=c99 -Wall -Wextra -Wpedantic -Werror -Iinclude

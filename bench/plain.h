@@ -1,12 +1,12 @@
-/* plain.h: the thirteen calls of dsss.h in plain C, and the parts of them that are worth timing alone.
+/* plain.h: the fourteen calls of dsss.h in plain C, and the parts of them that are worth timing alone.
  *
  * The calls take, answer and fill what dsss_write, dsss_read_hard, dsss_read_soft, dsss_read_bytes, dsss_read_front,
- * dsss_find, dsss_why, dsss_report_add, dsss_report_list, dsss_report_text, dsss_store_write, dsss_store_read and
- * dsss_store_change do. Nothing here is proved; tests compare it with the second program.
+ * dsss_find, dsss_why, dsss_compare, dsss_report_add, dsss_report_list, dsss_report_text, dsss_store_write,
+ * dsss_store_read and dsss_store_change do. Nothing here is proved; tests compare it with the second program.
  *
- * Compiled with -DPLAIN_AS_DSSS, plain_write.c, plain_choose.c, plain_read.c, plain_find.c, plain_report.c and
- * plain_store.c define the calls of dsss.h themselves: a stand-in for the library, to test the tests (host, month,
- * bridge, bench, the second program) without it. */
+ * Compiled with -DPLAIN_AS_DSSS, plain_write.c, plain_choose.c, plain_read.c, plain_find.c, plain_compare.c,
+ * plain_report.c and plain_store.c define the calls of dsss.h themselves: a stand-in for the library, to test the tests
+ * (host, month, bridge, bench, the second program) without it. */
 #ifndef PLAIN_H
 #define PLAIN_H
 
@@ -20,6 +20,7 @@
 #define plain_read_front dsss_read_front
 #define plain_find dsss_find
 #define plain_why dsss_why
+#define plain_compare dsss_compare
 #define plain_report_add dsss_report_add
 #define plain_report_list dsss_report_list
 #define plain_report_text dsss_report_text
@@ -39,6 +40,9 @@ dsss_record plain_read_bytes(uint64_t kind, const int8_t *bytes, size_t bytes_le
 dsss_coming plain_read_front(uint64_t kind, const uint8_t *chips, size_t chips_len);
 dsss_found plain_find(uint64_t kind, const uint8_t *chips, size_t chips_len, uint64_t offsets);
 dsss_reason plain_why(uint64_t kind, const uint8_t *chips, size_t chips_len, uint64_t room);
+dsss_compared plain_compare(uint64_t kind, const uint8_t *a, size_t a_len, const uint8_t *b, size_t b_len,
+                            uint64_t *chip_row, size_t chip_row_len, uint64_t *octet_row, size_t octet_row_len,
+                            uint8_t *octets_a, size_t octets_a_len, uint8_t *octets_b, size_t octets_b_len);
 dsss_counted plain_report_add(dsss_report report, uint64_t kind, const uint8_t *chips, size_t chips_len);
 dsss_counted plain_report_list(const uint64_t *kinds, size_t kinds_len, const dsss_chips *list, size_t list_len);
 dsss_text plain_report_text(dsss_report report, uint8_t *text, size_t text_len);

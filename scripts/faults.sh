@@ -9,14 +9,14 @@ set -eu
 cd "$(dirname "$0")/.."
 families=empty_rows,read_rooms,write_edges,cut_recordings,long_refused,coming_rooms,leads_as_sent,find_edges
 families=$families,why_numbers,why_checks,report_lists,report_edges,report_text,store_written,store_orders
-families=$families,store_largest,one_row
+families=$families,store_largest,one_row,compare_refused,compare_itself,compare_lengths,compare_rows
 flags='-std=c99 -Wall -Wextra -Wpedantic -Werror -Iinclude -g'
 sanitized='-fsanitize=address,undefined -fno-sanitize-recover=all'
 if [ "$(uname -m)" = x86_64 ]; then
     library=target/staticlib/libdsss.a
 else
     library='-DPLAIN_AS_DSSS bench/plain_write.c bench/plain_choose.c bench/plain_read.c bench/plain_find.c
-        bench/plain_report.c bench/plain_store.c'
+        bench/plain_compare.c bench/plain_report.c bench/plain_store.c'
 fi
 mkdir -p target/c
 build() { # build PROGRAM FILES.. [FLAGS]: target/c/PROGRAM.faults with the sanitizers, target/c/PROGRAM.native without

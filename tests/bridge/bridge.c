@@ -17,15 +17,19 @@
  *   11, store write   u64 kind, rate, phase, store_len
  *   12, store read    u64 store_len; the store
  *   13, store change  u64 store_len, tag, value; the store
+ *   14, compare   u64 kind, a_len, b_len, chip_row_len, octet_row_len, octets_a_len, octets_b_len; the chips of the
+ *                 first recording, those of the second
  * A row for reading is a u64, how many of its elements are sent, and these; the others are zeros. An answer is the
  * record (1: number, chips; 2 to 4: number, place, rate, length, n, used, clock, lead, symbol; 5: number, place, rate,
  * length, clock, n, used, at, count; 6: number, offset, rate, length, clock, n; 7 and 8: number, the report as above,
  * 32 in all; 9: number, octets; 10: number, place, expected, found; 11 and 13: number; 12: number, kind, rate, phase;
- * u64 each), every octet of the lent buffer as the call left it, and a u64 guard, 0 if all is well: 1 if anything is
- * not as it was around the rows or in those lent for reading only, 2 if a call that was made again answered otherwise,
- * 4 if a call that was made in the middle of this one did. 5 to 8, 10 and 12 have no lent buffer: of 5 its part stands
- * there instead, `count` chips from the recording's own chips + at on, as far as they are in the recording. The lent
- * buffer of 13 is the store, sent as a row for reading is.
+ * 14: the two records of 2, chips, octets, n_a, n_b; u64 each), every octet of the lent buffer as the call left it, and
+ * a u64 guard, 0 if all is well: 1 if anything is not as it was around the rows or in those lent for reading only, 2 if
+ * a call that was made again answered otherwise, 4 if a call that was made in the middle of this one did. 5 to 8, 10
+ * and 12 have no lent buffer: of 5 its part stands there instead, `count` chips from the recording's own chips + at on,
+ * as far as they are in the recording. The lent buffer of 13 is the store, sent as a row for reading is. 14 has four
+ * lent rows in the order of their lengths: each is a u64, how many of its elements are sent, and these; the others,
+ * behind them, are zeros, and were seen to be.
  *
  * How the rows are laid, from the lowest bit on:
  *   8 bits   what the lent row holds before the call, at both ends if it is long: 0 0xAA, 1 zeros, 2 4s, 3 0xFF, 4 any
@@ -33,8 +37,8 @@
  *            version 1 or 9 by the lowest bit of the 16 at bit 16, and 0xFF behind it. Of 13 only 5 counts
  *   1 bit    a row of length 0 is passed by a pointer, and not as NULL
  *   1 bit    rows are one where they can be: Q stands in I's memory, `shift` elements further on, or, turned round, I
- *            so in Q's, where the two must be alike; a recording of a list that another of the last four begins or
- *            ends with stands in that one's
+ *            so in Q's, where the two must be alike; so do the two recordings of 14; a recording of a list that another
+ *            of the last four begins or ends with stands in that one's
  *   1 bit    in the middle of the call another is made: the last one of this op that was kept, over its own rows. See
  *            below
  *   1 bit    turned round
@@ -51,10 +55,10 @@
  * for valgrind, which then sees every touch beside a row, what a call makes of the buffer's old contents, and every
  * octet that it leaves unwritten.
  *
- * A call in the middle of another: two parts of the row for reading, and the lent row, are closed but for the first
- * part; of 11 and 13 the lent row has the two parts. Where the call touches one that is closed, a signal's handler
- * makes the call that was kept, opens that part and closes the others. So whatever the two calls share is seen to be
- * shared, each time in the same way. Only rows between guards are laid so.
+ * A call in the middle of another: two parts of the row for reading, and the lent rows, are closed but for the first
+ * part; of 11 and 13 the lent row has the two parts, of 14 the first recording. Where the call touches one that is
+ * closed, a signal's handler makes the call that was kept, opens that part and closes the others. So whatever the two
+ * calls share is seen to be shared, each time in the same way. Only rows between guards are laid so.
  *
  * Answers are flushed when no further input is at hand, so requests may be sent ahead of answers.
  * Status 0 at an end of input between requests; else 1 and a message on stderr. */
@@ -285,12 +289,12 @@ static void fill_old(uint8_t *octets, size_t len)
 }
 
 /* Of a long row both ends hold it, and all between is zeros. Where no row is for reading, this one may be split. */
-static struct row lent_row(uint64_t count, int split)
+static struct row lent_row(uint64_t count, size_t width, int split)
 {
     int in_middle = laid.within && count > (split ? 1 : 0);
     uint64_t open = in_middle && !split ? 0 : before_split(count, in_middle);
-    struct row row = make_row(count, 1, open, 1, in_middle);
-    size_t some = count < OLD_MOST ? (size_t)count : OLD_MOST;
+    struct row row = make_row(count, width, open, 1, in_middle);
+    size_t len = (size_t)count * width, some = len < OLD_MOST ? len : OLD_MOST;
 
     if (rows == EXACT)
         return row;
@@ -357,27 +361,43 @@ union answer {
     dsss_text text;
     dsss_reason reason;
     dsss_settings settings;
+    dsss_compared compared;
     uint64_t number;
 };
 
-/* A call: its numbers as they are in the request, its report, its rows for reading and the one lent for writing. The
+enum { LENT_MOST = 4 }; /* rows lent for writing; but of 14 there is one at most */
+
+/* A call: its numbers as they are in the request, its report, its rows for reading and those lent for writing. The
  * second row of 8 is the list, and its recordings are rows of their own. */
 struct call {
-    uint64_t op, numbers[6];
+    uint64_t op, numbers[7];
     dsss_report report;
-    struct row first, second, lent, *recordings;
+    struct row first, second, lent[LENT_MOST], *recordings;
     size_t sent; /* recordings */
     union answer answer;
 };
+
+static void run_compare(struct call *c)
+{
+    const uint64_t *n = c->numbers;
+    struct row *lent = c->lent;
+
+    c->answer.compared =
+        dsss_compare(n[0], c->first.pointer, (size_t)n[1], c->second.pointer, (size_t)n[2], lent[0].pointer,
+                     (size_t)n[3], lent[1].pointer, (size_t)n[4], lent[2].pointer, (size_t)n[5], lent[3].pointer,
+                     (size_t)n[6]);
+}
 
 static void run(struct call *c)
 {
     const uint64_t *n = c->numbers;
     const void *first = c->first.pointer, *second = c->second.pointer;
-    uint8_t *lent = c->lent.pointer;
+    uint8_t *lent = c->lent[0].pointer;
 
     memset(&c->answer, 0, sizeof c->answer);
-    if (c->op == 1)
+    if (c->op == 14)
+        run_compare(c);
+    else if (c->op == 1)
         c->answer.written = dsss_write(n[0], n[1], n[2], n[3], first, (size_t)n[4], lent, (size_t)n[5]);
     else if (c->op == 2)
         c->answer.record = dsss_read_hard(n[0], first, (size_t)n[1], lent, (size_t)n[2]);
@@ -411,21 +431,21 @@ static size_t answer_size(uint64_t op)
                                    sizeof(dsss_record),  sizeof(dsss_coming), sizeof(dsss_found),
                                    sizeof(dsss_counted), sizeof(dsss_counted), sizeof(dsss_text),
                                    sizeof(dsss_reason),  sizeof(uint64_t),    sizeof(dsss_settings),
-                                   sizeof(uint64_t)};
+                                   sizeof(uint64_t),     sizeof(dsss_compared)};
 
     return sizes[op - 1];
 }
 
 /* ---- A call in the middle of another --------------------------------------------------------- */
 
-enum { OPS = 13, PARTS = 3, TOUCHES = 24, NEAR = 64 };
+enum { OPS = 14, PARTS = 2 + LENT_MOST, TOUCHES = 24, NEAR = 64 };
 
-static struct call kept[OPS];             /* the last call of each op that was kept, if it has an op */
-static uint8_t *kept_octets[OPS];         /* and what it left in its lent row */
+static struct call kept[OPS];                /* the last call of each op that was kept, if it has an op */
+static uint8_t *kept_octets[OPS][LENT_MOST]; /* and what it left in its lent rows */
 static struct { uint8_t *from, *to; int open; } parts[PARTS];
-static uint8_t *touch;                    /* the last touch of a part that was closed */
+static uint8_t *touch;                       /* the last touch of a part that was closed */
 static unsigned touches;
-static uint64_t differs;                  /* the guard's 4 */
+static uint64_t differs;                     /* the guard's 4 */
 
 static void set_part(size_t part, int open)
 {
@@ -440,15 +460,19 @@ static void run_kept(uint64_t op)
 {
     struct call *c = &kept[op - 1];
     union answer before = c->answer;
-    size_t len = c->lent.to - c->lent.from;
 
     run(c);
-    if (memcmp(&before, &c->answer, sizeof before) != 0
-        || (len > 0 && memcmp(c->lent.memory + c->lent.from, kept_octets[op - 1], len) != 0))
+    if (memcmp(&before, &c->answer, sizeof before) != 0)
         differs = 4;
     c->answer = before;
-    if (len > 0)
-        memcpy(c->lent.memory + c->lent.from, kept_octets[op - 1], len);
+    for (size_t k = 0; k < LENT_MOST; k++) {
+        const struct row *lent = &c->lent[k];
+        size_t len = lent->to - lent->from;
+        if (len > 0 && memcmp(lent->memory + lent->from, kept_octets[op - 1][k], len) != 0)
+            differs = 4;
+        if (len > 0)
+            memcpy(lent->memory + lent->from, kept_octets[op - 1][k], len);
+    }
 }
 
 static uint64_t running; /* the op of the call that others are made in */
@@ -484,7 +508,7 @@ static void touched(int number, siginfo_t *info, void *context)
  * of the others the first row. */
 static void close_parts(struct call *c)
 {
-    struct row *split = c->op == 8 ? &c->second : c->op == 11 || c->op == 13 ? &c->lent : &c->first;
+    struct row *split = c->op == 8 ? &c->second : c->op == 11 || c->op == 13 ? &c->lent[0] : &c->first;
     struct sigaction action = {0};
 
     memset(parts, 0, sizeof parts);
@@ -493,10 +517,11 @@ static void close_parts(struct call *c)
         parts[0].to = parts[1].from = split->edge;
         parts[1].to = split->edge + split->closed;
     }
-    if (c->lent.all && split != &c->lent) {
-        parts[2].from = c->lent.edge;
-        parts[2].to = c->lent.edge + c->lent.closed;
-    }
+    for (size_t k = 0; k < LENT_MOST; k++)
+        if (c->lent[k].all && split != &c->lent[k]) {
+            parts[2 + k].from = c->lent[k].edge;
+            parts[2 + k].to = c->lent[k].edge + c->lent[k].closed;
+        }
     for (size_t part = 0; part < PARTS; part++)
         set_part(part, part == 0);
     touch = NULL;
@@ -518,10 +543,11 @@ static void open_parts(void)
 
 /* ---- Requests -------------------------------------------------------------------------------- */
 
-/* Q in the memory of I, or I in that of Q: the first row holds both, and the second has a pointer alone. */
-static void get_one_row(struct call *c)
+/* Q in the memory of I, or I in that of Q, or so the recordings of 14: the first row holds both, and the second has a
+ * pointer alone. */
+static void get_one_row(struct call *c, size_t width)
 {
-    const size_t width = sizeof(float), i_len = (size_t)c->numbers[1] * width, q_len = (size_t)c->numbers[2] * width;
+    const size_t i_len = (size_t)c->numbers[1] * width, q_len = (size_t)c->numbers[2] * width;
     const size_t shift = laid.shift * width, i_at = laid.turned ? shift : 0, q_at = laid.turned ? 0 : shift;
     const size_t i_end = i_at + i_len, q_end = q_at + q_len, end = i_end > q_end ? i_end : q_end;
     const size_t both = i_end < q_end ? i_end : q_end; /* from the shift on to here, both have elements */
@@ -534,7 +560,7 @@ static void get_one_row(struct call *c)
     get_elements(at + i_at, i_len, width);
     get_elements(q, q_len, width);
     if (both > shift && memcmp(at + shift, q + (shift - q_at), both - shift) != 0)
-        die("I and Q that cannot be one row");
+        die("two rows that cannot be one");
     memcpy(at + q_at, q, q_len);
     free(q);
     row->sent = end;
@@ -609,37 +635,54 @@ static void get_chips_to(struct call *c)
     c->first = laid.within ? read_row(len, 1, 1) : read_row_to(len, 1, open);
 }
 
+/* Two rows for reading, their lengths being the second number and the third. */
+static void get_two_rows(struct call *c, size_t width)
+{
+    if (laid.shared) {
+        get_one_row(c, width);
+        return;
+    }
+    c->first = read_row(c->numbers[1], width, 1);
+    c->second = read_row(c->numbers[2], width, 0);
+}
+
+/* The lent rows of 14: two of numbers, two of octets. */
+static void lend_four(struct call *c)
+{
+    for (size_t k = 0; k < LENT_MOST; k++)
+        c->lent[k] = lent_row(c->numbers[3 + k], k < 2 ? sizeof(uint64_t) : 1, 0);
+}
+
 static void get_call(struct call *c)
 {
-    static const unsigned counts[OPS] = {6, 3, 4, 3, 2, 3, 2, 0, 1, 3, 4, 1, 3};
+    static const unsigned counts[OPS] = {6, 3, 4, 3, 2, 3, 2, 0, 1, 3, 4, 1, 3, 7};
     uint64_t *n = c->numbers;
 
     memset(c, 0, sizeof *c);
     c->op = get_number();
     if (c->op < 1 || c->op > OPS)
-        die("an op that is not 1 to 13");
+        die("an op that is not 1 to 14");
     get_laid();
     laid.within = laid.within && kept[c->op - 1].op != 0;
     if (c->op == 7 || c->op == 9)
         get(&c->report, sizeof c->report);
     get(n, counts[c->op - 1] * sizeof n[0]);
-    if (c->op == 3 && laid.shared)
-        get_one_row(c);
-    else if (c->op == 3) {
-        c->first = read_row(n[1], sizeof(float), 1);
-        c->second = read_row(n[2], sizeof(float), 0);
-    } else if (c->op == 5 || c->op == 6)
+    if (c->op == 3 || c->op == 14)
+        get_two_rows(c, c->op == 3 ? sizeof(float) : 1);
+    else if (c->op == 5 || c->op == 6)
         get_chips_to(c);
     else if (c->op == 8)
         get_list(c);
     else if (c->op == 12)
         c->first = read_row(n[0], 1, 1);
     else if (c->op == 13)
-        c->lent = filled_row(n[0]);
+        c->lent[0] = filled_row(n[0]);
     else if (c->op != 9 && c->op != 11)
         c->first = read_row(c->op == 1 ? n[4] : n[1], 1, 1);
     if (c->op < 5 || c->op == 9 || c->op == 11)
-        c->lent = lent_row(n[counts[c->op - 1] - 1], c->op == 11);
+        c->lent[0] = lent_row(n[counts[c->op - 1] - 1], 1, c->op == 11);
+    if (c->op == 14)
+        lend_four(c);
 }
 
 /* ---- Answers --------------------------------------------------------------------------------- */
@@ -701,30 +744,65 @@ static void free_call(struct call *c)
     free(c->recordings);
     free_row(&c->first);
     free_row(&c->second);
-    free_row(&c->lent);
+    for (size_t k = 0; k < LENT_MOST; k++)
+        free_row(&c->lent[k]);
 }
 
-/* Keeps a call to be made again in the middle of another, if it is small and its rows are not pages. */
-static int keep(const struct call *c)
+/* Whether a call can be kept: it is small, and its rows are not pages. */
+static int can_be_kept(const struct call *c)
 {
-    const struct row *of[] = {&c->first, &c->second, &c->lent};
-    size_t at = (size_t)c->op - 1, len = c->lent.to - c->lent.from;
+    const struct row *of[2 + LENT_MOST] = {&c->first, &c->second};
 
-    for (size_t k = 0; k < 3; k++)
+    for (size_t k = 0; k < LENT_MOST; k++)
+        of[2 + k] = &c->lent[k];
+    for (size_t k = 0; k < 2 + LENT_MOST; k++)
         if (of[k]->all || of[k]->size > KEPT_MOST)
             return 0;
-    if (rows != GUARDS || (c->op == 8 && c->numbers[1] > 40))
+    return rows == GUARDS && !(c->op == 8 && c->numbers[1] > 40);
+}
+
+/* Keeps a call to be made again in the middle of another, if it can be. */
+static int keep(const struct call *c)
+{
+    size_t at = (size_t)c->op - 1;
+
+    if (!can_be_kept(c))
         return 0;
     if (kept[at].op != 0)
         free_call(&kept[at]);
-    free(kept_octets[at]);
     kept[at] = *c;
-    kept_octets[at] = malloc(len > 0 ? len : 1);
-    if (!kept_octets[at])
-        die("no memory for a call");
-    if (len > 0)
-        memcpy(kept_octets[at], c->lent.memory + c->lent.from, len);
+    for (size_t k = 0; k < LENT_MOST; k++) {
+        size_t len = c->lent[k].to - c->lent[k].from;
+        free(kept_octets[at][k]);
+        kept_octets[at][k] = malloc(len > 0 ? len : 1);
+        if (!kept_octets[at][k])
+            die("no memory for a call");
+        if (len > 0)
+            memcpy(kept_octets[at][k], c->lent[k].memory + c->lent[k].from, len);
+    }
     return 1;
+}
+
+/* A lent row of 14, without the zeros that end it. */
+static void put_row(const struct row *row, size_t width)
+{
+    const uint8_t *first = row->memory + row->from;
+    size_t len = row->to - row->from;
+
+    while (len > 0 && first[len - 1] == 0)
+        len--;
+    uint64_t sent = (len + width - 1) / width;
+    put(&sent, sizeof sent);
+    put(first, (size_t)sent * width);
+}
+
+/* What the call left in its lent rows. */
+static void put_lent(const struct call *c)
+{
+    for (size_t k = 0; c->op == 14 && k < LENT_MOST; k++)
+        put_row(&c->lent[k], k < 2 ? sizeof(uint64_t) : 1);
+    if (c->op != 14)
+        put(c->lent[0].memory + c->lent[0].from, c->lent[0].to - c->lent[0].from);
 }
 
 static void answer_call(void)
@@ -734,12 +812,14 @@ static void answer_call(void)
     get_call(&c);
     uint64_t guard = make_call(&c);
     put(&c.answer, answer_size(c.op));
-    put(c.lent.memory + c.lent.from, c.lent.to - c.lent.from);
+    put_lent(&c);
     if (c.op == 5)
         put_part(&c);
     for (size_t k = 0; k < c.sent; k++)
         guard |= changed(&c.recordings[k]);
-    guard |= changed(&c.first) | changed(&c.second) | changed(&c.lent);
+    guard |= changed(&c.first) | changed(&c.second);
+    for (size_t k = 0; k < LENT_MOST; k++)
+        guard |= changed(&c.lent[k]);
     put(&guard, sizeof guard);
     if (!keep(&c))
         free_call(&c);

@@ -4,6 +4,7 @@
 //! next is handed over only when it is written whole, so neither side waits for the other in a circle.
 
 use crate::calls::{Answer, Call, Expected, Met};
+use crate::compared;
 use crate::decided::{self, Seen};
 use crate::families::{Family, Out};
 use crate::figures::Figures;
@@ -93,6 +94,7 @@ impl Outcome {
         leads::count(call, expected, leads, &mut self.won);
         reported::count(call, expected, leads, &mut self.held);
         reasons::count(call, expected, &mut self.held);
+        compared::count(call, expected, &mut self.held);
         stored::count(call, expected, &mut self.held);
     }
 

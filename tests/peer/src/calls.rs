@@ -2,6 +2,7 @@
 
 use crate::chips::Recording;
 use crate::coming::{coming, Coming};
+use crate::compare_calls::{self, CompareCall};
 use crate::finding::{find, Found};
 use crate::laid::Laid;
 use crate::reading::read;
@@ -23,12 +24,13 @@ pub enum Call {
     ReadFront { kind: u64, chips: Vec<u8> },
     Find { kind: u64, chips: Vec<u8>, offsets: u64 },
     Why { kind: u64, chips: Vec<u8>, room: u64 },
+    Compare(CompareCall),
     Report(ReportCall),
     Store(StoreCall),
 }
 
 /// What a call answers: its numbers in the order of the record, and the lent buffer after the call, or the part that it
-/// hands back.
+/// hands back, or what is sent of several lent rows.
 #[derive(PartialEq, Eq)]
 pub struct Answer {
     pub numbers: Vec<u64>,
@@ -114,6 +116,7 @@ impl Call {
             Call::ReadFront { .. } => "read front",
             Call::Find { .. } => "find",
             Call::Why { .. } => "why",
+            Call::Compare(_) => "compare",
             Call::Report(call) => call.op(),
             Call::Store(call) => call.op(),
         }
@@ -125,20 +128,29 @@ impl Call {
             Call::ReadFront { .. } => &["number", "place", "rate", "length", "clock", "n", "used", "at", "count"],
             Call::Find { .. } => &["number", "offset", "rate", "length", "clock", "n"],
             Call::Why { .. } => &["number", "place", "expected", "found"],
+            Call::Compare(_) => &compare_calls::NAMES,
             Call::Report(call) => call.names(),
             Call::Store(call) => call.names(),
             _ => &["number", "place", "rate", "length", "n", "used", "clock", "lead", "symbol"],
         }
     }
 
-    /// The length of the row lent for writing, if there is one.
-    pub fn lent_len(&self) -> Option<usize> {
+    /// The lengths of the rows lent for writing, in elements.
+    pub fn lent_lens(&self) -> Vec<usize> {
+        match self {
+            Call::Compare(call) => call.lent_lens(),
+            _ => self.lent_len().into_iter().collect(),
+        }
+    }
+
+    /// The length of the buffer whose octets follow an answer's numbers, if it is lent for writing and the only one.
+    fn lent_len(&self) -> Option<usize> {
         match self {
             Call::Write { chips_len, .. } => Some(*chips_len),
             Call::ReadHard { octets_len, .. }
             | Call::ReadSoft { octets_len, .. }
             | Call::ReadBytes { octets_len, .. } => Some(*octets_len),
-            Call::ReadFront { .. } | Call::Find { .. } | Call::Why { .. } => None,
+            Call::ReadFront { .. } | Call::Find { .. } | Call::Why { .. } | Call::Compare(_) => None,
             Call::Report(call) => call.lent_len(),
             Call::Store(call) => call.lent_len(),
         }
@@ -154,6 +166,7 @@ impl Call {
             | Call::Why { chips: row, .. } => vec![row.len()],
             Call::ReadSoft { i, q, .. } => vec![i.len(), q.len()],
             Call::ReadBytes { bytes, .. } => vec![bytes.len()],
+            Call::Compare(call) => call.read_lens(),
             Call::Report(call) => call.read_lens(),
             Call::Store(call) => call.read_lens(),
         }
@@ -217,6 +230,7 @@ impl Call {
                 numbers(&[10, laid, *kind, chips.len() as u64, *room]);
                 put_octets(chips, to);
             }
+            Call::Compare(call) => call.request(laid, to),
             Call::Report(call) => call.request(laid, to),
             Call::Store(call) => call.request(laid, to),
         }
@@ -230,8 +244,14 @@ impl Call {
             from.read_exact(&mut number)?;
             numbers.push(u64::from_le_bytes(number));
         }
-        let mut buffer = vec![0; self.following(&numbers)];
-        from.read_exact(&mut buffer)?;
+        let buffer = match self {
+            Call::Compare(call) => call.rows(from)?,
+            _ => {
+                let mut buffer = vec![0; self.following(&numbers)];
+                from.read_exact(&mut buffer)?;
+                buffer
+            }
+        };
         from.read_exact(&mut number)?;
         Ok((Answer { numbers, buffer }, u64::from_le_bytes(number)))
     }
@@ -264,6 +284,11 @@ impl Call {
             }
             Call::Find { kind, chips, offsets } => found_record(find(*kind, chips, *offsets), chips.len()),
             Call::Why { kind, chips, room } => reason_record(why(*kind, chips, *room), chips.len()),
+            Call::Compare(call) => {
+                let (numbers, rows, first) = call.expected();
+                buffer = rows;
+                (numbers, Part::of(first.told, first.place, call.recordings[0].len()), first.clock_read)
+            }
             Call::Report(call) => (call.expected(&mut buffer, &mut leads), Part::Front, false),
             Call::Store(call) => (call.expected(&mut buffer), Part::Front, false),
             Call::ReadHard { kind, .. } | Call::ReadSoft { kind, .. } | Call::ReadBytes { kind, .. } => {
@@ -291,6 +316,7 @@ impl Call {
                 lines.push(format!("  q, the bits of each f32: {}", hex_row(q, cut)));
             }
             Call::ReadBytes { bytes, .. } => lines.push(format!("  bytes {}", hex(bytes, cut))),
+            Call::Compare(call) => lines.extend(call.shown_rows(cut)),
             Call::Report(call) => lines.extend(call.shown_rows(cut)),
             Call::Store(call) => lines.extend(call.shown_rows(cut)),
         }
@@ -329,6 +355,7 @@ impl Call {
             Call::ReadFront { kind, chips } => format!("kind {kind}, chips_len {}", chips.len()),
             Call::Find { kind, chips, offsets } => format!("kind {kind}, chips_len {}, offsets {offsets}", chips.len()),
             Call::Why { kind, chips, room } => format!("kind {kind}, chips_len {}, room {room}", chips.len()),
+            Call::Compare(call) => call.shown_numbers(),
             Call::Report(call) => call.shown_numbers(),
             Call::Store(call) => call.shown_numbers(),
         }
@@ -337,6 +364,7 @@ impl Call {
     fn buffer_name(&self) -> &'static str {
         match self {
             Call::ReadFront { .. } => "part",
+            Call::Compare(_) => "rows",
             _ => "buffer",
         }
     }

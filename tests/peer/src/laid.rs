@@ -2,6 +2,7 @@
 //! length 0 is passed, rows that are one, and a call in the middle of another.
 
 use crate::calls::Call;
+use crate::compare_calls::CompareCall;
 use crate::random::Random;
 use crate::store_calls::StoreCall;
 use std::collections::BTreeMap;
@@ -77,13 +78,17 @@ impl Laid {
         self.old | bits | u64::from(turned) << 11 | self.split << 16 | (shift as u64) << 32
     }
 
-    /// How far from I's first Q stands, or I from Q's, if the two can be one row.
+    /// How far from I's first Q stands, or I from Q's, or so the one recording from the other's, if the two can be one
+    /// row.
     fn shift(&self, call: &Call) -> Option<(usize, bool)> {
-        let Call::ReadSoft { i, q, .. } = call else { return None };
-        let alike = |one: &[f32], two: &[f32]| one.iter().zip(two).all(|(one, two)| one.to_bits() == two.to_bits());
-        let fits = |&(shift, turned): &(usize, bool)| {
-            let (one, other) = if turned { (q, i) } else { (i, q) };
-            i.len() > shift && i.len() == q.len() && alike(&one[shift..], other)
+        let fits = |&(shift, turned): &(usize, bool)| match call {
+            Call::ReadSoft { i, q, .. } => {
+                i.len() == q.len() && overlap(i, q, shift, turned, |one, two| one.to_bits() == two.to_bits())
+            }
+            Call::Compare(CompareCall { recordings: [a, b], .. }) => {
+                overlap(a, b, shift, turned, |one, two| one == two)
+            }
+            _ => false,
         };
         SHIFTS.into_iter().find(fits).filter(|_| self.shared)
     }
@@ -91,11 +96,11 @@ impl Laid {
     /// Counts how a call's rows are laid.
     pub fn count(&self, call: &Call, layings: &mut Layings) {
         let mut see = |what: Laying| *layings.entry((call.op(), what)).or_default() += 1;
-        let (read, lent) = (call.read_lens(), call.lent_len());
-        if lent.is_some_and(|len| len > 0) && !call.changes() {
+        let (read, lent) = (call.read_lens(), call.lent_lens());
+        if lent.iter().any(|len| *len > 0) && !call.changes() {
             see(Laying::Old(self.old as usize));
         }
-        if lent == Some(0) || read.contains(&0) {
+        if lent.contains(&0) || read.contains(&0) {
             see(Laying::Empty { pointed: self.pointed });
         }
         if self.shared {
@@ -107,7 +112,7 @@ impl Laid {
         }
         for bits in WIDTHS {
             let wide = |len: &usize| len >> bits > 0;
-            if lent.as_ref().is_some_and(wide) {
+            if lent.iter().any(wide) {
                 see(Laying::Wide { bits, lent: true });
             }
             if read.iter().any(wide) {
@@ -121,4 +126,11 @@ impl Laid {
         let old = OLD[self.old as usize];
         format!("lent row: {old}; length 0: {empty}; one row if it can be: {}; {within}call within", self.shared)
     }
+}
+
+/// Whether the second row can stand in the first one's memory, so much further on, or, turned round, the first one in
+/// the second's: where both have elements they are alike.
+fn overlap<T>(first: &[T], second: &[T], shift: usize, turned: bool, alike: impl Fn(&T, &T) -> bool) -> bool {
+    let (one, other) = if turned { (second, first) } else { (first, second) };
+    one.len() > shift && !other.is_empty() && one[shift..].iter().zip(other).all(|(one, other)| alike(one, other))
 }

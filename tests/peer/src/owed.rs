@@ -3,9 +3,9 @@
 //! are refused with each number, and full reads that go together with fronts in each way; symbols of 11 Mbit/s that are
 //! decided among words of one score, in each way; smallest leads in each part at each rate, shared ones, ties and those
 //! that refused reads keep; starts found of each kind and rate, at each remainder of 512, early, late and neither,
-//! behind offsets refused with each number; reasons, reports, stores, spoiled frames and rows as `owed_reasons`,
-//! `owed_reports`, `owed_stores`, `owed_spoiled` and `owed_laid` have them; and no family that spends a third of all
-//! calls on one number.
+//! behind offsets refused with each number; reasons, comparisons, reports, stores, spoiled frames and rows as
+//! `owed_reasons`, `owed_compared`, `owed_reports`, `owed_stores`, `owed_spoiled` and `owed_laid` have them; and no
+//! family that spends a third of all calls on one number.
 
 use crate::bits::Rate;
 use crate::bridge::Outcome;
@@ -16,6 +16,7 @@ use crate::leads::Lead::{
     self, Above, Alone, At as LeadAt, From, InBoth, InFront, Kept, Next, OfAllowed, Shared, Tied,
 };
 use crate::leads::Stands::{First, Header, Payload, Preamble};
+use crate::owed_compared::compared;
 use crate::owed_laid::laid;
 use crate::owed_reasons::reasons;
 use crate::owed_reports::reports;
@@ -41,7 +42,7 @@ const fn owed(op: &'static str, part: Part, shown: &'static str, least: &'static
     Owed { op, part, shown, least }
 }
 
-const OWED: [Owed; 37] = [
+const OWED: [Owed; 41] = [
     owed(
         "write",
         Part::Front,
@@ -223,6 +224,31 @@ const OWED: [Owed; 37] = [
         &[(0, 3_200, 3_100), (9, 290, 290), (10, 32, 28), (16, 11_000, 9_800), (17, 2_700, 2_800)],
     ),
     owed("why", Part::FarPlace, "places from 65,536", &[(9, 20, 17), (10, 13, 9)]),
+    // The number is that of the first recording.
+    owed(
+        "compare",
+        Part::Front,
+        "front",
+        &[
+            (1, 230, 0),
+            (8, 3_500, 0),
+            (9, 120, 0),
+            (10, 100, 0),
+            (11, 100, 0),
+            (12, 75, 0),
+            (13, 38, 36),
+            (14, 40, 32),
+            (15, 26, 40),
+        ],
+    ),
+    owed("compare", Part::LongFront, "front, 6,001 and more", &[(9, 14, 0), (10, 1, 0)]),
+    owed(
+        "compare",
+        Part::Payload,
+        "payload to 300 octets",
+        &[(0, 1_100, 750), (9, 45, 30), (10, 30, 40), (16, 90, 65), (17, 200, 120)],
+    ),
+    owed("compare", Part::LongPayload, "payload above 300", &[(0, 45, 30), (9, 3, 4), (16, 3, 5), (17, 12, 6)]),
     // No refusal of a recording: these are counted.
     owed("report add", Part::Front, "one recording more", &[(0, 2_500, 0), (31, 1_000, 0)]),
     owed("report list", Part::Front, "lists", &[(0, 120, 0), (7, 22, 0), (31, 24, 0)]),
@@ -560,7 +586,7 @@ pub fn met(total: &Outcome, largest: (u64, &str)) -> Result<(), String> {
             short.push(format!("{op} answered {number} {count} times where it can't"));
         }
     }
-    for of_total in [held, decided, leads, starts, reasons, reports, stores, spoiled, laid] {
+    for of_total in [held, decided, leads, starts, reasons, compared, reports, stores, spoiled, laid] {
         short.extend(of_total(total));
     }
     if total.calls < CALLS {

@@ -1,9 +1,10 @@
 //! How the answers over one hard recording go together, whatever this program expects of each: what its front tells,
-//! what full reads answer, why they are refused, and what is found in it; and how reports and stores go together, and
-//! recordings of frames with what was written.
+//! what full reads answer, why they are refused, and what is found in it; and how comparisons, reports and stores go
+//! together, and recordings of frames with what was written.
 
 use crate::bits::Rate;
 use crate::calls::{Answer, Call};
+use crate::compared::{Compared, Compares};
 use crate::frame::Kind;
 use crate::kept::Reports;
 use crate::reasons::{self, FullRead, Reasoned};
@@ -37,6 +38,8 @@ pub enum Held {
     Finds(Start),
     /// This, of a call that asks why.
     Reasons(Reasoned),
+    /// This, of a comparison of two recordings.
+    Compares(Compared),
     /// This, of a call of the month's report.
     Reports(Reported),
     /// This, of a call of a store.
@@ -53,12 +56,13 @@ struct Told {
     full: Option<FullRead>,
 }
 
-/// The last read of a front, the last find, the last reports, stores and frames written, to which those calls are held
-/// that follow them.
+/// The last read of a front, the last find, the last full reads and comparison, the last reports, stores and frames
+/// written, to which those calls are held that follow them.
 #[derive(Default)]
 pub struct Relations {
     last: Option<Told>,
     sought: Option<Sought>,
+    compares: Compares,
     reports: Reports,
     stores: Stores,
     spoils: Spoils,
@@ -96,6 +100,7 @@ impl Relations {
             }
             _ => {}
         }
+        self.compares.hold(call, answer)?.into_iter().for_each(|what| count(Some(Held::Compares(what))));
         count(self.stores.hold(call, answer)?.map(Held::Stores));
         self.spoils.hold(call, answer)?.into_iter().for_each(|spoil| count(Some(Held::Spoils(spoil))));
         self.starts(call, answer)?.into_iter().for_each(|start| count(Some(Held::Finds(start))));

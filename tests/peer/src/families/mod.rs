@@ -67,13 +67,22 @@
 //! - Symbols beyond the limits refused, or decided otherwise than by their scores: `beyond_five`, `beyond_eleven`,
 //!   `beyond_barker`. A symbol of the front put right by what was expected: `beyond_front`.
 //! - The lead of one word wrong behind some damage: `spoiled_leads`.
-//! - I and Q that may not be one row, a recording of a list that may not be named twice: `one_row`, `report_lists`.
+//! - Chips compared as far as the longer recording, or the frames; a last one left out: `compare_lengths`.
+//! - Octets above 4 not compared, or taken for one another: `compare_octets`. Lost chips: `compare_receivers`.
+//! - A list cut at what fits, or said not to fit, or taken with the other; a row not cleared: `compare_rows`.
+//! - Payloads compared by the longer n or by room, or not at all where rates or n differ: `compare_frames`.
+//! - Octets or n told where one recording is refused, the other's buffer cleared, or not read: `compare_refused`.
+//! - Nothing compared where the kind is none: `compare_numbers`. An index or a number of entries cut: `compare_wide`.
+//! - I and Q that may not be one row, a recording of a list that may not be named twice: `one_row`, `report_lists`. Two
+//!   recordings that may not be one row: `compare_itself`.
 //! - What a lent row held before the call, a row of length 0 by a pointer or as NULL, a row kept between calls: every
 //!   family, as each call's rows are laid in any way (`laid.rs`).
 
 mod beyond;
 mod bytes;
 mod coming;
+mod compare;
+mod compare_edges;
 mod damage;
 mod finding;
 mod finding_damage;
@@ -362,6 +371,25 @@ families! {
     1813 beyond::beyond_front: "each symbol of a front beyond its limit, in two ways, all others within theirs",
     // for: SymbolStands
     1814 beyond::spoiled_leads: "one CCK symbol spoiled within its limit, by its lead",
+    // for: Compares.answer, Compares.chips, Compares.octets, Compares.first, ComparedReads, ComparedShows
+    // for: ComparedExchanged, ComparedGives
+    1901 compare::compare_receivers: "one frame by two receivers, each with its own damage, all kinds and rates",
+    // for: Compares.answer, Compares.octets, ComparedShows, ComparedExchanged, ComparedGives
+    1902 compare::compare_frames: "other payloads, rates and n, payloads that begin alike, an octet at each place",
+    // for: Compares.answer, Compares.first, Compares.octets, ComparedReads, ComparedShows
+    1903 compare::compare_refused: "one refused or both, with each number, room on one side only",
+    // for: Compares.answer, Compares.chips, ComparedReads
+    1904 compare::compare_numbers: "kinds that are none, each bit more in a kind, chips compared all the same",
+    // for: ComparedItself, ComparedReads, Compares.answer, Compares.chips
+    1905 compare::compare_itself: "one recording twice, and parts of it, in one row or in two",
+    // for: Compares.answer, Compares.chips, ComparedShows, ComparedExchanged, ComparedGives
+    1906 compare_edges::compare_lengths: "recordings of every two lengths, differences at each place, behind frames",
+    // for: ComparedFits, Compares.chips, Compares.octets
+    1907 compare_edges::compare_rows: "rows of every size about three times the entries of each list",
+    // for: Compares.chips, Compares.answer, ComparedGives, ComparedExchanged
+    1908 compare_edges::compare_octets: "each octet beside each other one, as chips",
+    // for: Compares.answer, Compares.chips, Compares.octets, Compares.first, ComparedFits
+    1909 compare_edges::compare_wide: "recordings and rows of 2^16 to 2^24, more than 2^8, 2^16 and 2^20 entries",
 }
 
 /// Where a family puts its calls.
