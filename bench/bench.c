@@ -10,6 +10,7 @@
  * The variable DSSS_EMULATED, set by scripts/x86run, says that no real processor is timed: chips
  * per second and the multiple of 11 Mchip/s are left out then. */
 #define _POSIX_C_SOURCE 200809L
+#include "pairs.h"
 #include "recordings.h"
 #include "stores.h"
 #include "bench_leaves.h"
@@ -32,6 +33,8 @@ struct library {
     dsss_coming (*read_front)(uint64_t, const uint8_t *, size_t);
     dsss_found (*find)(uint64_t, const uint8_t *, size_t, uint64_t);
     dsss_reason (*why)(uint64_t, const uint8_t *, size_t, uint64_t);
+    dsss_compared (*compare)(uint64_t, const uint8_t *, size_t, const uint8_t *, size_t, uint64_t *, size_t, uint64_t *,
+                             size_t, uint8_t *, size_t, uint8_t *, size_t);
     dsss_counted (*report_add)(dsss_report, uint64_t, const uint8_t *, size_t);
     dsss_text (*report_text)(dsss_report, uint8_t *, size_t);
     uint64_t (*store_write)(uint64_t, uint64_t, uint64_t, uint8_t *, size_t);
@@ -47,11 +50,11 @@ enum { DSSS, PLAIN, BOTH };
 
 static const struct library libraries[BOTH] = {
     {dsss_write, dsss_read_hard, dsss_read_soft, dsss_read_bytes, dsss_read_front, dsss_find, dsss_why,
-     dsss_report_add, dsss_report_text, dsss_store_write, dsss_store_read, dsss_store_change, timed_count,
-     timed_decide, timed_eleven},
+     dsss_compare, dsss_report_add, dsss_report_text, dsss_store_write, dsss_store_read, dsss_store_change,
+     timed_count, timed_decide, timed_eleven},
     {plain_write, plain_read_hard, plain_read_soft, plain_read_bytes, plain_read_front, plain_find, plain_why,
-     plain_report_add, plain_report_text, plain_store_write, plain_store_read, plain_store_change, plain_count,
-     plain_decide, plain_eleven},
+     plain_compare, plain_report_add, plain_report_text, plain_store_write, plain_store_read, plain_store_change,
+     plain_count, plain_decide, plain_eleven},
 };
 
 static const struct {
@@ -443,6 +446,72 @@ static void whys(void)
     why_line("its CRC", rates[3].name);
 }
 
+/* ---- Comparisons ----------------------------------------------------------------------------- */
+
+static uint8_t second[DSSS_CHIPS_MAX], octets_b[DSSS_PAYLOAD_MAX];
+static uint64_t chip_row[DSSS_LIST_PLACES(DSSS_CHIPS_MAX)], octet_row[DSSS_LIST_PLACES(DSSS_PAYLOAD_MAX)];
+static size_t chip_places; /* just those of the chips that differ */
+
+static dsss_compared compare_by(const struct library *l)
+{
+    return l->compare(kind, chips, chips_len, second, chips_len, chip_row, chip_places, octet_row, 0, octets,
+                      payload_len, octets_b, payload_len);
+}
+
+static uint64_t compare_task(const struct library *l)
+{
+    return compare_by(l).chips;
+}
+
+static uint64_t two_reads_task(const struct library *l)
+{
+    return l->read_hard(kind, chips, chips_len, octets, payload_len).used
+           + l->read_hard(kind, second, chips_len, octets_b, payload_len).used;
+}
+
+/* Both libraries accept both recordings, and list the same chips, as many as differ. */
+static void comparisons_agree(size_t differ)
+{
+    static uint64_t first_row[DSSS_LIST_PLACES(DSSS_CHIPS_MAX)];
+    dsss_compared first = compare_by(&libraries[DSSS]);
+
+    memcpy(first_row, chip_row, chip_places * sizeof chip_row[0]);
+    dsss_compared other = compare_by(&libraries[PLAIN]);
+    if (memcmp(&first, &other, sizeof first) != 0
+        || memcmp(first_row, chip_row, chip_places * sizeof chip_row[0]) != 0)
+        fail("the comparisons differ");
+    if (first.a.number != 0 || first.b.number != 0 || first.chips != differ || first.octets != 0)
+        fail("a comparison is not the one expected");
+}
+
+/* A line of comparisons with a second recording, by both, and what a chip takes beside two hard reads of the same. */
+static void compare_line(size_t which)
+{
+    double ns[BOTH], reads[BOTH];
+    size_t differ = lay_second(which, chips, chips_len, second);
+
+    chip_places = DSSS_LIST_PLACES(differ);
+    comparisons_agree(differ);
+    measure(two_reads_task, reads);
+    measure(compare_task, ns);
+    printf("%-10s  %-8s  %4s  %6zu  %7zu  %12.0f  %12.0f  %6.2f  %10.3f  %11.3f\n", "compare",
+           second_recordings[which], rates[3].name, payload_len, chips_len, ns[DSSS], ns[PLAIN], ns[DSSS] / ns[PLAIN],
+           (ns[DSSS] - reads[DSSS]) / (double)chips_len, (ns[PLAIN] - reads[PLAIN]) / (double)chips_len);
+    fflush(stdout);
+}
+
+static void comparisons(void)
+{
+    printf("\ncomparisons of a frame with equal chips, with one chip in %d turned, and with all chips turned, long;\n"
+           "a chip: ns for each chip beside two hard reads of the same recordings, by the same\n",
+           FEW);
+    printf("%-10s  %-8s  %4s  %6s  %7s  %12s  %12s  %6s  %10s  %11s\n", "call", "with", "rate", "octets", "chips",
+           "dsss ns", "plain ns", "ratio", "dsss chip", "plain chip");
+    set_up(DSSS_LONG, DSSS_RATE_11, OCTETS);
+    for (size_t which = 0; which < PAIRS; which++)
+        compare_line(which);
+}
+
 /* ---- Reports --------------------------------------------------------------------------------- */
 
 static uint64_t add_empty_task(const struct library *l)
@@ -684,6 +753,7 @@ int main(int argc, char **argv)
     fronts();
     finds();
     whys();
+    comparisons();
     reports();
     kept();
     parts();

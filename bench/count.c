@@ -8,11 +8,14 @@
  * frame to a report, an add of an empty recording, a hard read of the frame with the room that an add gives it, or the
  * report's text, as CALL says: add, empty, read or text. With -DWHY a call asks why the frame is refused, which it is
  * not, or is a hard read of it, or the same of the frame with its CRC spoiled: why, read, why_crc or read_crc. With
- * -DSTORE a call is the one of stores.h that CALL names, KIND, RATE and OCTETS being of no use. With -DCHOICE a call is
- * the choice alone, of a block of 64 symbols of 11 Mbit/s, by the recorder hard, soft or bytes. The rows are made and a
- * call for one octet or offset, the choice or the call of a store, is made first, whatever TIMES is: the difference of
- * two runs with TIMES 0 and 1 is the instructions of one call, with nothing of the program's start.
- * scripts/instructions.sh builds what it needs and makes the two runs. */
+ * -DCOMPARE a call compares the frame with the recording of pairs.h that CALL names, with room for just the chips that
+ * differ, or is the two hard reads of both: equal, few, all, or these with _reads behind them. With -DSTORE a call is
+ * the one of stores.h that CALL names, KIND, RATE and OCTETS being of no use. With -DCHOICE a call is the choice alone,
+ * of a block of 64 symbols of 11 Mbit/s, by the recorder hard, soft or bytes. The rows are made and a call for one
+ * octet or offset, the choice or the call of a store, is made first, whatever TIMES is: the difference of two runs with
+ * TIMES 0 and 1 is the instructions of one call, with nothing of the program's start. scripts/instructions.sh builds
+ * what it needs and makes the two runs. */
+#include "pairs.h"
 #include "recordings.h"
 #include "stores.h"
 #include "bench_leaves.h"
@@ -189,6 +192,39 @@ static int call(const char *name, uint64_t kind, uint64_t rate, size_t n, size_t
         return OF(read_hard)(kind, chips, len, octets, n).number == number;
     return OF(why)(kind, chips, len, n).number == number;
 }
+#elif defined COMPARE
+enum { LEAST = 1 };
+
+static uint8_t second[DSSS_CHIPS_MAX], octets[DSSS_PAYLOAD_MAX], octets_b[DSSS_PAYLOAD_MAX];
+static uint64_t chip_row[DSSS_LIST_PLACES(DSSS_CHIPS_MAX)], octet_row[DSSS_LIST_PLACES(DSSS_PAYLOAD_MAX)];
+static size_t differ; /* chips */
+
+static uint64_t chips_of(size_t len)
+{
+    return len;
+}
+
+/* The pair that a call names; PAIRS if it names none. */
+static size_t which(const char *name)
+{
+    size_t k = 0;
+
+    while (k < PAIRS && strncmp(name, second_recordings[k], strlen(second_recordings[k])) != 0)
+        k++;
+    return k;
+}
+
+/* One call; whether it accepts both recordings and tells how many chips differ. */
+static int call(const char *name, uint64_t kind, uint64_t rate, size_t n, size_t len)
+{
+    (void)rate;
+    if (strstr(name, "reads"))
+        return OF(read_hard)(kind, chips, len, octets, n).used == len
+               && OF(read_hard)(kind, second, len, octets_b, n).used == len;
+    dsss_compared compared = OF(compare)(kind, chips, len, second, len, chip_row, DSSS_LIST_PLACES(differ), octet_row,
+                                         0, octets, n, octets_b, n);
+    return compared.a.used == len && compared.b.used == len && compared.chips == differ;
+}
 #else
 enum { LEAST = 1 };
 
@@ -230,6 +266,11 @@ static uint64_t set_up(const char *name, uint64_t kind, uint64_t rate, size_t n)
         record_bytes(len);
     if (strstr(name, "crc"))
         spoil_crc(kind, chips);
+#ifdef COMPARE
+    if (which(name) == PAIRS)
+        return 0;
+    differ = lay_second(which(name), chips, len, second);
+#endif
     return len;
 }
 #endif

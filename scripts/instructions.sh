@@ -1,5 +1,5 @@
 #!/bin/sh
-# instructions.sh [-l dsss|plain|all] [-c write|hard|soft|bytes|front|choice|find|why|report|store|all]
+# instructions.sh [-l dsss|plain|all] [-c write|hard|soft|bytes|front|choice|find|why|compare|report|store|all]
 #                 [-k long|short] [-r RATE|all] [-n OCTETS]
 #
 # Instructions a chip of whole calls: one line a call, rate and library, that is the library and plain C. A read of the
@@ -8,12 +8,14 @@
 # made in each recording of bench/recordings.h, with 4,096 offsets, in noise with fewer too, or with as many as -n
 # says; its figure is not instructions a chip, but how many reads of a long front by the same library they are. A call
 # that asks why is made of frames that are not refused, which takes it longest, and of one refused by its CRC; its
-# figure is how many hard reads of the same recording it is, and should be 1.10 at most. Of the report an add of an
-# empty recording, adds of frames and a text are counted; the figure of an add is what it takes more than a hard read
-# of the same frame with room for 4,095 octets. Of a store those calls are counted that bench/stores.h names. Each
-# figure is the difference of two runs, without the call and with it. On x86-64 valgrind counts (callgrind); elsewhere
-# the emulator of the kit logs each instruction that it runs, about a million a second, and the lines of its log are
-# counted. The archives of target/ are taken as they stand, and only those asked for: `make archives` makes all.
+# figure is how many hard reads of the same recording it is, and should be 1.10 at most. A comparison is made of a frame
+# and of each second recording that bench/pairs.h names, with a row for just the chips that differ; its figure is what
+# it takes more than the two hard reads, by the chip. Of the report an add of an empty recording, adds of frames and a
+# text are counted; the figure of an add is what it takes more than a hard read of the same frame with room for 4,095
+# octets. Of a store those calls are counted that bench/stores.h names. Each figure is the difference of two runs,
+# without the call and with it. On x86-64 valgrind counts (callgrind); elsewhere the emulator of the kit logs each
+# instruction that it runs, about a million a second, and the lines of its log are counted. The archives of target/ are
+# taken as they stand, and only those asked for: `make archives` makes all.
 set -eu
 cd "$(dirname "$0")/.."
 
@@ -29,13 +31,13 @@ while getopts l:c:k:r:n: option; do
     esac
 done
 [ "$library" != all ] || library='dsss plain'
-[ "$call" != all ] || call='write hard soft bytes front choice find why report store'
+[ "$call" != all ] || call='write hard soft bytes front choice find why compare report store'
 mkdir -p target/c
 work=$(mktemp -d)
 trap 'rm -rf "$work"' EXIT
 
-# build LIBRARY [CHOICE|FIND|WHY|REPORT|STORE]: $program counts its calls, or these, and is not older than what it is
-# made of
+# build LIBRARY [CHOICE|FIND|WHY|COMPARE|REPORT|STORE]: $program counts its calls, or these, and is not older than what
+# it is made of
 build() {
     program=target/c/count.$1${2:+.$2}
     case $1.$2 in
@@ -129,6 +131,21 @@ why_lines() { # why_lines LIBRARY: frames of each rate, and a front that is refu
     why_line "$1" crc "$(rates_or 110)" "${octets:-1500}"
 }
 
+compare_lines() { # compare_lines LIBRARY: a frame and each second recording
+    build "$1" COMPARE
+    for r in $(rates_or 110); do
+        [ "$kind $r" != 'short 10' ] || continue
+        for n in ${octets:-1500}; do
+            for pair in equal few all; do
+                reads=$(spent ${pair}_reads "$kind" "$r" "$n")
+                taken=$(spent $pair "$kind" "$r" "$n")
+                chips=$(cat "$work/chips")
+                row "$1" "compare $pair" "$kind" "$r" "$n" "$chips" "$taken" "$(by "($taken - $reads)" "$chips")"
+            done
+        done
+    done
+}
+
 report_lines() { # report_lines LIBRARY: an empty recording, frames of few and of many octets, and the text
     build "$1" REPORT
     row "$1" 'report empty' "$kind" - 0 0 "$(spent empty "$kind" 20 1)" -
@@ -168,7 +185,7 @@ lines() { # lines CALL RATES SIZES [CHOICE]: a choice is that of a block, whatev
 }
 
 case $call in
-find | why | report | store) ;;
+find | why | compare | report | store) ;;
 *) row of call kind rate octets chips instructions 'a chip' ;;
 esac
 for c in $call; do
@@ -188,6 +205,12 @@ for c in $call; do
         row of call kind rate octets chips instructions reads
         for l in $library; do
             why_lines "$l"
+        done
+        ;;
+    compare)
+        row of call kind rate octets chips instructions 'past reads'
+        for l in $library; do
+            compare_lines "$l"
         done
         ;;
     report)
