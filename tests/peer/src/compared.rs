@@ -1,53 +1,118 @@
 //! What is met of comparisons, by what is expected of them, and how they go together with full reads of the same
-//! recordings, with their own lists, and with the comparison the other way round, whatever this program expects.
+//! recordings, with their own lists, with the comparison the other way round, and with the frames that were written,
+//! whatever this program expects.
 
+use crate::bits::Rate;
 use crate::calls::{Answer, Call};
 use crate::compare_calls::{trimmed, CompareCall, Rows};
-use crate::comparing::Entry;
+use crate::comparing::{differences, Entry};
+use crate::frame::Kind;
 use crate::relations::Held;
+use crate::spoiling::keeps_limits;
 use std::collections::BTreeMap;
 
 /// What was met of a comparison, or was seen to hold of one. A list is that of the octets, or else of the chips.
 #[derive(Clone, Copy, PartialEq, Eq, PartialOrd, Ord)]
 pub enum Compared {
     /// A list of one entry or more beside the places of its row.
-    Places { octets: bool, fit: Fit },
+    Places {
+        octets: bool,
+        fit: Fit,
+    },
     /// One list has entries and fits, the other has and doesn't: the one that fits.
-    FitsAlone { octets: bool },
+    FitsAlone {
+        octets: bool,
+    },
     /// One recording alone is refused, with this number.
-    Refused { second: bool, number: u64 },
+    Refused {
+        second: bool,
+        number: u64,
+    },
     /// Both are, the first with this number and the second with this one.
-    BothRefused { numbers: [u64; 2] },
+    BothRefused {
+        numbers: [u64; 2],
+    },
     /// Both are accepted, of this kind, the first with this rate; whether the rates are one.
-    Accepted { kind: u64, rate: u64, alike: bool },
+    Accepted {
+        kind: u64,
+        rate: u64,
+        alike: bool,
+    },
     /// A recording is longer than the other, or a payload than the other; no list goes on behind the shorter one.
-    Longer { octets: bool, second: bool },
+    Longer {
+        octets: bool,
+        second: bool,
+    },
     /// A kind that is none, with chips that differ.
     NoKind,
     /// An octet listed, of the first recording or of the second.
-    Octet { second: bool, octet: u8 },
+    Octet {
+        second: bool,
+        octet: u8,
+    },
     /// The only index listed, as its place in a block of 64.
-    Alone { octets: bool, place: usize },
+    Alone {
+        octets: bool,
+        place: usize,
+    },
     /// The last index that is compared is listed, of a row with so many behind its last whole block of 64.
-    Last { octets: bool, rest: usize },
+    Last {
+        octets: bool,
+        rest: usize,
+    },
     /// All that is compared differs, one or more.
-    All { octets: bool },
+    All {
+        octets: bool,
+    },
     /// An index of 2^k or more is listed in the row, for k of 8, 16 and 20.
-    Far { bits: u32 },
+    Far {
+        bits: u32,
+    },
     /// 2^k entries or more, in a list that fits or not.
-    Many { octets: bool, bits: u32, fits: bool },
+    Many {
+        octets: bool,
+        bits: u32,
+        fits: bool,
+    },
     /// Chips differ behind both frames, or the frames are alike and nothing else is.
-    BehindFrames { alone: bool },
+    BehindFrames {
+        alone: bool,
+    },
     /// The record and the octets are those of a full read with as much room, refused with this number.
-    AsRead { second: bool, number: u64 },
+    AsRead {
+        second: bool,
+        number: u64,
+    },
     /// The list applied to the first gives the second, as far as both go.
-    Gives { octets: bool },
+    Gives {
+        octets: bool,
+    },
     /// A list that does not fit left its row zeros.
-    LeftZeros { octets: bool },
-    /// One recording twice, with as much room, refused with this number.
-    Itself { number: u64 },
+    LeftZeros {
+        octets: bool,
+    },
+    /// One recording twice, with as much room, refused with this number; or with other room.
+    Itself {
+        number: u64,
+    },
+    ItselfOtherwise,
+    /// Recordings of one frame that was written or of two, both within the limits: the octets listed are those at which
+    /// the payloads differ.
+    Sent {
+        frames: Frames,
+    },
     /// The comparison the other way round has the same entries exchanged; whether both are accepted.
-    Exchanged { accepted: bool },
+    Exchanged {
+        accepted: bool,
+    },
+}
+
+/// Frames that were written: one, two of one rate, or two of different rates.
+#[derive(Clone, Copy, PartialEq, Eq, PartialOrd, Ord)]
+pub enum Frames {
+    One,
+    Two,
+    TwoRates,
 }
 
 /// The entries of a list by the places of its row: three times as many, one more or two, one or two too few, three, a
@@ -205,9 +270,28 @@ struct Full {
     octets: Vec<u8>,
 }
 
-/// The last two full reads of hard recordings, and the last comparison.
+/// A frame that was written: its kind, rate and payload, and its chips.
+struct Wrote {
+    kind: u64,
+    rate: u64,
+    payload: Vec<u8>,
+    chips: Vec<u8>,
+}
+
+impl Wrote {
+    /// Whether a recording begins with the frame, within the limits, and there is room for its payload.
+    fn stands_in(&self, call: &CompareCall, side: usize) -> bool {
+        let (Some(kind), Some(rate)) = (Kind::of_number(self.kind), Rate::of_code(self.rate)) else { return false };
+        let recorded = call.recordings[side].get(..self.chips.len());
+        let stands = |recorded: &[u8]| keeps_limits(kind, rate, &self.chips, recorded);
+        self.kind == call.kind && self.payload.len() <= call.rooms[side] && recorded.is_some_and(stands)
+    }
+}
+
+/// The last two frames written, the last two full reads of hard recordings, and the last comparison.
 #[derive(Default)]
 pub struct Compares {
+    wrote: [Option<Wrote>; 2],
     full: [Option<Full>; 2],
     last: Option<(CompareCall, Vec<u64>, Rows)>,
 }
@@ -225,6 +309,12 @@ impl Compares {
                 self.full[1] = Some(full);
                 Ok(Vec::new())
             }
+            Call::Write { kind, rate, payload, .. } if answer.numbers[0] == 0 => {
+                let chips = answer.buffer[..answer.numbers[1] as usize].to_vec();
+                self.wrote.swap(0, 1);
+                self.wrote[1] = Some(Wrote { kind: *kind, rate: *rate, payload: payload.clone(), chips });
+                Ok(Vec::new())
+            }
             Call::Compare(call) => {
                 let rows = Rows::of(&answer.buffer);
                 let seen = Seen::of(call, &answer.numbers, &rows);
@@ -234,6 +324,7 @@ impl Compares {
                 }
                 holds.extend(itself(&seen)?);
                 holds.extend(self.exchanged(&seen)?);
+                holds.extend(self.sent(&seen)?);
                 self.last = Some((call.clone(), answer.numbers.clone(), rows));
                 Ok(holds)
             }
@@ -255,6 +346,26 @@ impl Compares {
             holds.push(Compared::AsRead { second: side == 1, number: full.numbers[0] });
         }
         Ok(holds)
+    }
+
+    /// The frames that stand in both recordings, if they do, give the octets that are listed.
+    fn sent(&self, seen: &Seen) -> Holds {
+        let stands = |side: usize| self.wrote.iter().flatten().find(move |wrote| wrote.stands_in(seen.call, side));
+        let (Some(first), Some(second)) = (stands(0), stands(1)) else { return Ok(Vec::new()) };
+        let list = differences(&first.payload, &second.payload);
+        let n = [first, second].map(|wrote| wrote.payload.len() as u64);
+        if !seen.accepted() || seen.n != n || seen.entries[1] != list.len() as u64 {
+            return Err("frames within the limits that are not compared as they were sent");
+        }
+        if seen.fits(1) && seen.list(1) != list {
+            return Err("a list that is not that of the payloads sent");
+        }
+        let frames = match (first.chips == second.chips, first.rate == second.rate) {
+            (true, _) => Frames::One,
+            (_, true) => Frames::Two,
+            _ => Frames::TwoRates,
+        };
+        Ok(vec![Compared::Sent { frames }])
     }
 
     /// Beside the comparison before it, if that was the other way round.
@@ -285,6 +396,9 @@ fn gives(seen: &Seen, list: usize) -> Holds {
         return if zeros { Ok(vec![Compared::LeftZeros { octets }]) } else { Err("a part of a list that doesn't fit") };
     }
     let both = seen.both(list) as usize;
+    if seen.entries[list] > both as u64 {
+        return Err("more entries than both have");
+    }
     let [mut first, second] = [0, 1].map(|side| {
         let row = if octets { &seen.rows.octets[side] } else { &seen.call.recordings[side] };
         row.iter().copied().chain(std::iter::repeat(0)).take(both).collect::<Vec<u8>>()
@@ -309,12 +423,13 @@ fn gives(seen: &Seen, list: usize) -> Holds {
 /// One recording twice has no difference.
 fn itself(seen: &Seen) -> Holds {
     let CompareCall { recordings, rooms, .. } = seen.call;
-    if recordings[0] != recordings[1] || rooms[0] != rooms[1] {
+    if recordings[0] != recordings[1] {
         return Ok(Vec::new());
     }
-    let [first, second] = seen.records;
-    if seen.entries != [0, 0] || first != second || seen.rows.octets[0] != seen.rows.octets[1] {
+    let ([first, second], [one, other]) = (seen.records, &seen.rows.octets);
+    let alike = rooms[0] == rooms[1];
+    if seen.entries != [0, 0] || alike && (first != second || one != other) {
         return Err("a recording that differs from itself");
     }
-    Ok(vec![Compared::Itself { number: first[0] }])
+    Ok(vec![if alike { Compared::Itself { number: first[0] } } else { Compared::ItselfOtherwise }])
 }

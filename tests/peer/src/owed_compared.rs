@@ -1,15 +1,16 @@
 //! What a whole run owes of comparisons: lists that fit exactly, with a place or two more, and those that are a place,
 //! two or an entry short, or have no row; one recording refused, either, with each number; both refused, with each two
 //! numbers; lengths and payloads that differ either way; each octet listed of either; differences at each place of a
-//! block, last and far; and comparisons that go together with full reads, with their lists, with themselves and with
-//! the same exchanged.
+//! block, last and far; and comparisons that go together with full reads, with their lists, with themselves, with the
+//! same exchanged and with frames that were written.
 
 use crate::bridge::Outcome;
 use crate::compared::Compared::{
     self, Accepted, All, Alone, AsRead, BehindFrames, BothRefused, Exchanged, Far, FitsAlone, Gives, Itself, Last,
-    LeftZeros, Longer, Many, NoKind, Octet, Places, Refused,
+    LeftZeros, Longer, Many, NoKind, Octet, Places, Refused, Sent,
 };
 use crate::compared::Fit::{Empty, EntryShort, Exactly, OneMore, OneShort, Roomy, Short, TwoMore, TwoShort};
+use crate::compared::Frames::{One, Two, TwoRates};
 use crate::families::pairs;
 use crate::owed::{ways, Way};
 use crate::relations::Held;
@@ -18,37 +19,41 @@ use crate::relations::Held;
 type Row = (fn(bool) -> Compared, &'static str, [u64; 2]);
 
 const LISTS: [Row; 14] = [
-    (|octets| Places { octets, fit: Exactly }, "fits exactly", [1_800, 160]),
-    (|octets| Places { octets, fit: OneMore }, "a place more", [520, 140]),
-    (|octets| Places { octets, fit: TwoMore }, "two more", [580, 120]),
-    (|octets| Places { octets, fit: Roomy }, "much more", [680, 160]),
-    (|octets| Places { octets, fit: OneShort }, "a place short", [850, 58]),
-    (|octets| Places { octets, fit: TwoShort }, "two short", [70, 43]),
-    (|octets| Places { octets, fit: EntryShort }, "an entry short", [400, 27]),
-    (|octets| Places { octets, fit: Short }, "shorter", [420, 75]),
-    (|octets| Places { octets, fit: Empty }, "an empty row", [650, 115]),
-    (|octets| FitsAlone { octets }, "fits, the other not", [150, 270]),
-    (|octets| All { octets }, "all differ", [260, 58]),
-    (|octets| Gives { octets }, "gives the other", [3_700, 600]),
-    (|octets| LeftZeros { octets }, "left zeros", [2_400, 320]),
-    (|octets| Many { octets, bits: 8, fits: true }, "2^8 entries", [1_500, 5]),
+    (|octets| Places { octets, fit: Exactly }, "fits exactly", [3_000, 170]),
+    (|octets| Places { octets, fit: OneMore }, "a place more", [1_050, 145]),
+    (|octets| Places { octets, fit: TwoMore }, "two more", [880, 125]),
+    (|octets| Places { octets, fit: Roomy }, "much more", [1_200, 260]),
+    (|octets| Places { octets, fit: OneShort }, "a place short", [1_400, 60]),
+    (|octets| Places { octets, fit: TwoShort }, "two short", [90, 45]),
+    (|octets| Places { octets, fit: EntryShort }, "an entry short", [670, 30]),
+    (|octets| Places { octets, fit: Short }, "shorter", [510, 100]),
+    (|octets| Places { octets, fit: Empty }, "an empty row", [950, 150]),
+    (|octets| FitsAlone { octets }, "fits, the other not", [190, 320]),
+    (|octets| All { octets }, "all differ", [270, 160]),
+    (|octets| Gives { octets }, "gives the other", [6_200, 700]),
+    (|octets| LeftZeros { octets }, "left zeros", [3_600, 390]),
+    (|octets| Many { octets, bits: 8, fits: true }, "2^8 entries", [1_800, 6]),
 ];
 
-const REST: [(Compared, &str, u64); 14] = [
+const REST: [(Compared, &str, u64); 18] = [
     (Many { octets: false, bits: 16, fits: true }, "2^16 chips listed", 2),
     (Many { octets: false, bits: 16, fits: false }, "not listed", 3),
     (Many { octets: false, bits: 20, fits: false }, "2^20", 1),
-    (Far { bits: 16 }, "an index of 2^16", 5),
+    (Far { bits: 16 }, "an index of 2^16", 60),
     (Far { bits: 20 }, "of 2^20", 3),
-    (Longer { octets: false, second: false }, "the first longer", 1_350),
-    (Longer { octets: false, second: true }, "the second", 1_500),
-    (Longer { octets: true, second: false }, "the first payload longer", 115),
-    (Longer { octets: true, second: true }, "the second", 110),
-    (BehindFrames { alone: false }, "behind the frames too", 95),
+    (Longer { octets: false, second: false }, "the first longer", 2_100),
+    (Longer { octets: false, second: true }, "the second", 2_200),
+    (Longer { octets: true, second: false }, "the first payload longer", 170),
+    (Longer { octets: true, second: true }, "the second", 160),
+    (BehindFrames { alone: false }, "behind the frames too", 110),
     (BehindFrames { alone: true }, "there alone", 8),
     (NoKind, "no kind", 200),
-    (Exchanged { accepted: true }, "exchanged, both accepted", 260),
-    (Exchanged { accepted: false }, "not both", 1_300),
+    (Exchanged { accepted: true }, "exchanged, both accepted", 320),
+    (Exchanged { accepted: false }, "not both", 1_900),
+    (Compared::ItselfOtherwise, "itself with other room", 140),
+    (Sent { frames: One }, "one frame sent", 48),
+    (Sent { frames: Two }, "two", 120),
+    (Sent { frames: TwoRates }, "of two rates", 40),
 ];
 
 /// The numbers that one recording can be refused with beside one that is accepted.
@@ -59,7 +64,7 @@ const NUMBERS: [u64; 10] = [8, 9, 10, 11, 12, 13, 14, 15, 16, 17];
 /// alone at each place of a block, of chips and of octets; the last of all, by how many stand behind whole blocks, of
 /// chips and of octets; each number as a full read has it, of the first and of the second; a recording twice, refused
 /// with each number, and accepted.
-const EACH: [u64; 14] = [15, 14, 2, 70, 18, 30, 27, 4, 3, 4, 1, 30, 33, 3];
+const EACH: [u64; 14] = [15, 14, 2, 100, 23, 480, 460, 4, 3, 24, 1, 30, 33, 7];
 
 /// The rarest of many ways stands for all.
 fn each(count: &impl Fn(Compared) -> u64) -> Vec<Way> {

@@ -29,7 +29,7 @@ const OWED: [Owed; 14] = [
     owed("read front", [0, 50, 1_500, 1, 0]),
     owed("find", [0, 20, 300, 1, 0]),
     owed("why", [0, 400, 3_900, 10, 0]),
-    owed("compare", [600, 2_000, 210, 1, 4]),
+    owed("compare", [1_000, 3_800, 350, 1, 4]),
     owed("report add", [0, 200, 100, 1, 0]),
     owed("report list", [0, 20, 5, 3, 0]),
     owed("report text", [100, 10, 50, 0, 1]),
@@ -39,7 +39,7 @@ const OWED: [Owed; 14] = [
 ];
 
 /// How often rows must be one, wholly and in part.
-const SHARED: [(&str, u64, u64); 3] = [("read soft", 12, 12), ("compare", 400, 100), ("report list", 4, 8)];
+const SHARED: [(&str, u64, u64); 3] = [("read soft", 12, 12), ("compare", 440, 110), ("report list", 4, 8)];
 
 /// Shows how often rows were laid in each way; what is short of it.
 pub fn laid(total: &Outcome) -> Vec<String> {

@@ -1,7 +1,7 @@
 //! Two recordings compared: one frame by two receivers, different frames, one or both refused, one recording twice.
 
 use super::refused::{wrong_reading, KIND, ROWS, WRONGS};
-use super::spoiled::Spoiler;
+use super::spoiled::{written, Spoiler};
 use super::{any_pair, pairs, Draft, Out, Recorder, KINDS};
 use crate::bits::Rate;
 use crate::calls::Call;
@@ -117,10 +117,45 @@ pub fn compare_receivers(out: &mut Out) {
     }
     for pair in pairs() {
         for case in 0..out.cases(96) {
-            let most = if case % 12 == 0 { 130 } else { 24 };
+            let most = if case % 12 == 0 { (3500 / pair.1.payload_chips(1)).min(130) } else { 24 };
             let (n, heard) = (out.random.within(1, most), out.random.pick(&HEARD));
             receivers(out, &mut spoiler, pair, n, heard);
         }
+    }
+}
+
+/// A frame that is written, and recordings of it or of it and another one of its kind, each spoiled within the limits
+/// or as sent, with anything behind; room for both, or a row too short.
+fn sent(out: &mut Out, spoiler: &mut Spoiler, (kind, rate): (Kind, Rate), case: usize) {
+    let rates: Vec<Rate> = Rate::ALL.into_iter().filter(|rate| kind.has(*rate)).collect();
+    let n = out.random.within(1, 40);
+    let first = Draft::random(kind, rate, n, &mut out.random);
+    let second = match case % 4 {
+        0 => first.clone(),
+        1 => {
+            let other = changed(&first.payload, &[out.random.below(n), n - 1], &mut out.random);
+            Draft::new(kind, rate, out.random.phase(), other)
+        }
+        2 => Draft::random(kind, rate, out.random.within(1, 40), &mut out.random),
+        _ => Draft::random(kind, out.random.pick(&rates), out.random.within(1, 40), &mut out.random),
+    };
+    let mut recordings = [written(out, &first), written(out, &second)];
+    for (recording, draft) in recordings.iter_mut().zip([&first, &second]) {
+        if !out.random.once_in(5) {
+            spoiler.frame(kind, draft.rate, recording, &mut out.random);
+        }
+        let behind = out.random.pick(&[0, 0, 3, 100]);
+        recording.extend(out.random.octets(behind));
+    }
+    let rooms = [&first, &second].map(|draft| draft.payload.len() + out.random.pick(&[0, 0, 7]));
+    ask_any(out, kind.number(), recordings, rooms, n.max(second.payload.len()));
+}
+
+/// Shows: octets listed that are not those sent, where both recordings keep the limits.
+pub fn compare_sent(out: &mut Out) {
+    let mut spoiler = Spoiler::new(&mut out.random);
+    for pair in pairs() {
+        (0..out.cases(24)).for_each(|case| sent(out, &mut spoiler, pair, case));
     }
 }
 
@@ -284,9 +319,10 @@ pub fn compare_numbers(out: &mut Out) {
 fn itself(out: &mut Out, kind: u64, chips: &[u8], room: usize) {
     let few = out.random.within(1, 9).min(chips.len());
     let late = chips.get(5..).unwrap_or(&[]);
-    for other in [chips, chips, chips, &chips[..chips.len() - few], late, &late[..late.len() / 2]] {
+    let others = [chips, chips, chips, &chips[..chips.len() - few], late, &late[..late.len() / 2]];
+    for (case, other) in others.into_iter().enumerate() {
         let places = some_places(differences(chips, other).len(), &mut out.random);
-        let rooms = [room, out.random.pick(&[room, room, 0, room + 1])];
+        let rooms = [room, if case < 2 { room } else { out.random.pick(&[room, 0, room + 1]) }];
         let one = CompareCall::new(kind, [chips.to_vec(), other.to_vec()], [places, places], rooms);
         let way = out.random.once_in(2);
         ask(out, if way { one } else { one.exchanged() });
@@ -302,7 +338,7 @@ pub fn compare_itself(out: &mut Out) {
         let room = out.random.pick(&[n, n, n + 4, n - 1]);
         itself(out, kind.number(), &chips, room);
     }
-    for of in (0..3).flat_map(|_| wrongs().chain([KIND])) {
+    for of in (0..out.cases(3)).flat_map(|_| wrongs().chain([KIND])) {
         let (kind, chips, room) = wrong(of, &mut out.random);
         itself(out, kind, &chips, room);
     }

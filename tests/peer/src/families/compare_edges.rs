@@ -56,6 +56,26 @@ fn behind_frames(out: &mut Out) {
     }
 }
 
+/// Each length short of a long front, the last chip and one more unlike.
+fn every_length(out: &mut Out) {
+    for len in 1..2112 {
+        let (any, more) = (out.random.below(len), out.random.pick(&[0, 0, 1, 40]));
+        let lens = out.random.pick(&[[len, len + more], [len + more, len]]);
+        alike_but(out, lens, &[any, len - 1, len]);
+    }
+}
+
+/// Recordings of which one chip in 64 differs, alone in its block, at each place of it; the list fits.
+fn one_a_block(out: &mut Out) {
+    let chips: Vec<u8> = (0..66_000).map(|_| out.random.below(256) as u8).collect();
+    for place in 0..64 {
+        let mut other = chips[..chips.len() - place].to_vec();
+        let each = other.iter_mut().skip(place).step_by(64);
+        let entries = each.map(|chip| *chip ^= out.random.within(1, 255) as u8).count();
+        out.alone(Call::Compare(CompareCall::new(0, [chips.clone(), other], [3 * entries, 0], [0, 0])));
+    }
+}
+
 /// Shows: a chip that is not compared, or one too many, at an edge of a block or of a recording.
 pub fn compare_lengths(out: &mut Out) {
     every_two_lengths(out);
@@ -70,6 +90,8 @@ pub fn compare_lengths(out: &mut Out) {
         }
     }
     behind_frames(out);
+    every_length(out);
+    one_a_block(out);
     for place in [0, 511, 512, 1023, 1024, 1055, 2047, 2048, 2111] {
         alike_but(out, [2111, 2111], &[place]);
         alike_but(out, [2112, 2113], &[place]);
@@ -95,12 +117,14 @@ fn sizes_about(out: &mut Out, differ: usize) {
 /// Shows: a list cut at what fits, one that is said not to fit, one that takes the other with it, a row not cleared.
 pub fn compare_rows(out: &mut Out) {
     [0, 1, 2, 9].into_iter().for_each(|differ| sizes_about(out, differ));
-    for entries in (0..=12).chain([21, 22, 42, 43, 85, 86, 127, 128, 129, 255, 256, 257]) {
+    for entries in 0..=300 {
         let (len, first) = (entries + 70, out.random.below(70));
         let chips: Vec<u8> = (0..len).map(|_| out.random.below(256) as u8).collect();
         let mut other = chips.clone();
         other[first..first + entries].iter_mut().for_each(|chip| *chip ^= out.random.within(1, 255) as u8);
-        for places in (0..3).chain((3 * entries).saturating_sub(4)..=3 * entries + 4).chain([3 * len]) {
+        let about = if entries < 13 || entries % 64 < 3 { 4 } else { 1 };
+        let few = (0..3).filter(|_| about > 1);
+        for places in few.chain((3 * entries).saturating_sub(about)..=3 * entries + about).chain([3 * len]) {
             let call = CompareCall::new(0, [chips.clone(), other.clone()], [places, entries % 4], [1, 0]);
             out.alone(Call::Compare(call));
         }

@@ -70,6 +70,7 @@
 //! - Chips compared as far as the longer recording, or the frames; a last one left out: `compare_lengths`.
 //! - Octets above 4 not compared, or taken for one another: `compare_octets`. Lost chips: `compare_receivers`.
 //! - A list cut at what fits, or said not to fit, or taken with the other; a row not cleared: `compare_rows`.
+//! - Two spoiled recordings of frames taken for others than those sent: `compare_sent`.
 //! - Payloads compared by the longer n or by room, or not at all where rates or n differ: `compare_frames`.
 //! - Octets or n told where one recording is refused, the other's buffer cleared, or not read: `compare_refused`.
 //! - Nothing compared where the kind is none: `compare_numbers`. An index or a number of entries cut: `compare_wide`.
@@ -371,15 +372,17 @@ families! {
     1813 beyond::beyond_front: "each symbol of a front beyond its limit, in two ways, all others within theirs",
     // for: SymbolStands
     1814 beyond::spoiled_leads: "one CCK symbol spoiled within its limit, by its lead",
-    // for: Compares.answer, Compares.chips, Compares.octets, Compares.first, ComparedReads, ComparedShows
-    // for: ComparedExchanged, ComparedGives
+    // for: Compares.answer, Compares.chips, Compares.octets, Compares.first, Compares.second, ComparedReads
+    // for: ComparedShows, ComparedExchanged, ComparedGives
     1901 compare::compare_receivers: "one frame by two receivers, each with its own damage, all kinds and rates",
     // for: Compares.answer, Compares.octets, ComparedShows, ComparedExchanged, ComparedGives
     1902 compare::compare_frames: "other payloads, rates and n, payloads that begin alike, an octet at each place",
-    // for: Compares.answer, Compares.first, Compares.octets, ComparedReads, ComparedShows
+    // for: Compares.answer, Compares.first, Compares.second, Compares.octets, ComparedReads, ComparedShows
     1903 compare::compare_refused: "one refused or both, with each number, room on one side only",
     // for: Compares.answer, Compares.chips, ComparedReads
     1904 compare::compare_numbers: "kinds that are none, each bit more in a kind, chips compared all the same",
+    // for: SpoiledCompared, Compares.octets, ComparedShows
+    1910 compare::compare_sent: "frames that were written, one or two, both recordings within the limits",
     // for: ComparedItself, ComparedReads, Compares.answer, Compares.chips
     1905 compare::compare_itself: "one recording twice, and parts of it, in one row or in two",
     // for: Compares.answer, Compares.chips, ComparedShows, ComparedExchanged, ComparedGives
@@ -388,7 +391,7 @@ families! {
     1907 compare_edges::compare_rows: "rows of every size about three times the entries of each list",
     // for: Compares.chips, Compares.answer, ComparedGives, ComparedExchanged
     1908 compare_edges::compare_octets: "each octet beside each other one, as chips",
-    // for: Compares.answer, Compares.chips, Compares.octets, Compares.first, ComparedFits
+    // for: Compares.answer, Compares.chips, Compares.octets, Compares.first, Compares.second, ComparedFits
     1909 compare_edges::compare_wide: "recordings and rows of 2^16 to 2^24, more than 2^8, 2^16 and 2^20 entries",
 }
 
