@@ -1,5 +1,5 @@
-// Two rows of octets compared, as far as the shorter goes: the differences are counted, 64 octets at a time, and where
-// their list fits its row they are listed. So no place of a row is written twice. Knows nothing of radio.
+// Two rows of octets compared, as far as the shorter goes, 64 octets at a time. Where their row might be too short the
+// differences are counted before they are listed, so that no place of a row is written twice. Knows nothing of radio.
 ghost use mathlib.Core.Path.{_≡_};
 ghost use Prim.Native.Nat.{_+_, _*_, _≤_, _<_};
 ghost use lib.ListN.{length, take};
@@ -9,7 +9,8 @@ ghost use Rattle.compare_rows.specs.Left.{leftOver, Between, Put};
 // How far both rows go.
 fn shorter(a: &[u8], b: &[u8]) -> usize
     ensures answer { λ r. ⌜ (r ≤ length (now (a .entry))) × (r ≤ length (now (b .entry)))
-        × (leftOver (now (a .entry)) (now (b .entry)) r ≡ 0) ⌝ }
+        × (leftOver (now (a .entry)) (now (b .entry)) r ≡ 0)
+        × (length (differences (now (a .entry)) (now (b .entry))) ≤ r) ⌝ }
 {
     if a.len() < b.len() { a.len() } else { b.len() }
 }
@@ -110,7 +111,7 @@ fn put_block(a: &[u8], b: &[u8], at: usize, row: &mut [u64], p: usize) -> usize
 fn put_all(a: &[u8], b: &[u8], row: &mut [u64]) -> usize
     requires { ⌜ 3 * length (differences (now a) (now b)) ≤ length (now row) ⌝ }
     ensures answer { λ r. ⌜ (r ≡ 3 * length (differences (now (a .entry)) (now (b .entry))))
-        × (length (now (row .exit)) ≡ length (now (row .entry)))
+        × (r ≤ length (now (row .entry))) × (length (now (row .exit)) ≡ length (now (row .entry)))
         × (take r (now (row .exit)) ≡ entryPlaces (differences (now (a .entry)) (now (b .entry)))) ⌝ }
 {
     let end = shorter(a, b);
@@ -124,22 +125,26 @@ fn put_all(a: &[u8], b: &[u8], row: &mut [u64]) -> usize
 }
 
 // Every index at which two rows differ, as far as the shorter goes, with both octets, three places an entry, and zeros
-// behind them; only zeros where they do not fit. The number of entries is told in any case.
+// behind them; only zeros where they do not fit. The number of entries is told in any case. They are counted first only
+// where the row might be too short.
 pub fn list(a: &[u8], b: &[u8], row: &mut [u64]) -> u64
     ensures answer { λ r. ⌜ r ≡ length (differences (now (a .entry)) (now (b .entry))) ⌝ }
     ensures row { λ _. ⌜ now (row .exit)
         ≡ laid (length (now (row .entry))) (differences (now (a .entry)) (now (b .entry))) ⌝ }
 {
-    let n = how_many(a, b);
-    if row.len() / 3 < n {
-        common_rows::clear(row, 0);
-        return n as u64;
-    }
-    if n == 0 {
-        common_rows::clear(row, 0);
-        return 0;
+    let most = row.len() / 3;
+    if most < shorter(a, b) {
+        let n = how_many(a, b);
+        if most < n {
+            common_rows::clear(row, 0);
+            return n as u64;
+        }
+        if n == 0 {
+            common_rows::clear(row, 0);
+            return 0;
+        }
     }
     let p = put_all(a, b, row);
     common_rows::clear(row, p);
-    n as u64
+    (p / 3) as u64
 }

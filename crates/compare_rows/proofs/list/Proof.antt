@@ -3,6 +3,7 @@
 -- Assumes nothing.
 use mathlib.Core.Path.{_≡_, sym, ap, ap₂, _∙_}
 use mathlib.Core.List.{List, [], _∷_, _++_}
+use mathlib.Core.Logic.{⊎-elim}
 use Prim.Native.Nat.{ℕ, _-_, _*_, _/_, _≤_, _<_}
 use native.Mathlib.Omega.{arith}
 use lib.ListN.{length, take, replicate}
@@ -40,7 +41,8 @@ whole ds d e g p f l t h c =
 
 returns : tie.Need-returns
 returns c =
-    let args = c .before .before .before .before .before .before .before .before .before .args in
+    let args =
+    c .before .before .before .before .before .before .before .before .before .before .before .args in
     let count = c .before .before .before .before .before .how-many in (
       count .ensures,
       not-fit (differences (now (args .a)) (now (args .b))) (now (args .row)) (c .before .before .clear .last .0)
@@ -49,7 +51,8 @@ returns c =
 
 returns-2 : tie.Need-returns-2
 returns-2 c =
-    let args = c .before .before .before .before .before .before .before .before .before .before .args in
+    let args =
+    c .before .before .before .before .before .before .before .before .before .before .before .before .args in
     let count = c .before .before .before .before .before .before .how-many in
     let nothing : length (differences (now (args .a)) (now (args .b))) ≡ 0 = omega (arith, count .ensures) in (
       sym nothing,
@@ -58,29 +61,28 @@ returns-2 c =
     )
 
 put-all-requires : tie.Need-put-all-requires
-put-all-requires c κs = omega (arith, c .before .before .before .how-many .ensures)
+put-all-requires c κs =
+    ⊎-elim (λ w. omega (arith, w .1 .ensures)) (λ w. omega (arith, c .before .before .shorter .ensures .3))
+    (c .before .if1 .came)
 
 clear-requires-3 : tie.Need-clear-requires-3
 clear-requires-3 c κs =
-    let put = c .before .before .before .put-all .ensures in
-    let count = c .before .before .before .before .before .before .before .how-many in
-    omega (arith, put .0, put .1, count .ensures)
+    let put = c .before .before .before .put-all .ensures in omega (arith, put .1, put .2)
 
 returns-3 : tie.Need-returns-3
 returns-3 c =
     let args =
-    c .before .before .before .before .before .before .before .before .before .before .before .before .before .before
+    c .before .before .before .before .before .before .before .before .before .before .before .before .before
     .args in
-    let count = c .before .before .before .before .before .before .before .before .before .before .how-many in
     let put = c .before .before .before .before .before .before .put-all in (
-      count .ensures,
+      omega (arith, put .ensures .0),
       whole (differences (now (args .a)) (now (args .b))) (now (args .row)) (put .last .1 .1 .0)
-          (c .before .before .clear3 .last .0) (put .result) (put .ensures .0) (put .ensures .1) (put .ensures .2)
-          (omega (arith, count .ensures)) (c .before .before .clear3 .ensures),
+          (c .before .before .clear3 .last .0) (put .result) (put .ensures .0) (put .ensures .2) (put .ensures .3)
+          (omega (arith, put .ensures .0, put .ensures .1)) (c .before .before .clear3 .ensures),
     )
 
 pub list-spec : {M : Type 1} → statement M
 list-spec =
     tie.close
-    (tie.spec (λ c κs. tt) (λ c κs. search needs) (λ c. search needs) returns (λ c κs. search needs)
+    (tie.spec (λ c κs. tt) (λ c κs. tt) (λ c κs. search needs) (λ c. search needs) returns (λ c κs. search needs)
     (λ c. search needs) returns-2 put-all-requires clear-requires-3 (λ c. search needs) returns-3)

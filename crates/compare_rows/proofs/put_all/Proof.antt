@@ -46,8 +46,10 @@ returns c =
     let loop = c .before .before .before .before .before .loop in
     let a = now (args .a) in
     let b = now (args .b) in
+    let all =
     put-ended a b (shorter .result) (shorter .ensures .2) refl
-    (put-then a b (loop .inv .1) (c .before .before .put-part .ensures))
+    (put-then a b (loop .inv .1) (c .before .before .put-part .ensures)) in
+    (all .0, omega (arith, all .0), all .1, all .2)
 
 pub put-all-spec : {M : Type 1} → statement M
 put-all-spec =

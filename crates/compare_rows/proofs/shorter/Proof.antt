@@ -1,4 +1,5 @@
--- `compare_rows::shorter` meets its contract: where one of the rows ends nothing is left.
+-- `compare_rows::shorter` meets its contract: where one of the rows ends nothing is left, and not more
+-- than it has elements are listed.
 -- Assumes nothing.
 use mathlib.Core.Path.{_≡_, ap}
 use mathlib.Core.List.{List}
@@ -8,6 +9,8 @@ use native.Mathlib.Nat.{le-refl}
 use native.Mathlib.Omega.{arith}
 use lib.ListN.{length}
 use denote.Ref.{now}
+use Rattle.rules_compare.specs.Differences.{differences}
+use Rattle.rules_compare.proofs.Pairs.{fewest}
 use Rattle.compare_rows.specs.Left.{leftOver}
 use Rattle.compare_rows.proofs.Left.{ended}
 use Rattle.compare_rows.proofs.shorter.Statement.{statement}
@@ -15,11 +18,13 @@ use Rattle.compare_rows.proofs.shorter.Tie as tie
 
 first : (a b : List ℕ) → length a < length b
     → (length a ≤ length a) × (length a ≤ length b) × (leftOver a b (length a) ≡ 0)
-first a b h = (le-refl _, omega arith, ap length (ended a b (length a) (inl (le-refl _))))
+    × (length (differences a b) ≤ length a)
+first a b h = (le-refl _, omega arith, ap length (ended a b (length a) (inl (le-refl _))), fewest a b .0)
 
 second : (a b : List ℕ) → length b ≤ length a
     → (length b ≤ length a) × (length b ≤ length b) × (leftOver a b (length b) ≡ 0)
-second a b h = (h, le-refl _, ap length (ended a b (length b) (inr (le-refl _))))
+    × (length (differences a b) ≤ length b)
+second a b h = (h, le-refl _, ap length (ended a b (length b) (inr (le-refl _))), fewest a b .1)
 
 pub shorter-spec : {M : Type 1} → statement M
 shorter-spec =
