@@ -5,14 +5,16 @@
 --     between-all                                  all are counted
 --     put-none, put-same, put-then                 nothing put, and one index more that is alike; a part behind a
 --                                                  part; put-to
---     put-room, put-entry                          one index more that differs: room for its three places, and these
+--     put-room, put-entry                          one index more that differs: room for its three places, and these;
+--                                                  of a part put-room-so-far and next-room
 --     put-skip                                     where nothing was counted, nothing is to be put
+--     put-counted                                  what was put and what is counted behind it are all
 --     put-ended                                    where nothing is left, the row's front is the list
 -- Assumes nothing.
 use mathlib.Core.Path.{_≡_, refl, sym, ap, _∙_, subst}
 use mathlib.Core.List.{List, [], _∷_, _++_, append-nil, append-assoc}
 use mathlib.Core.Logic.{_⊎_, inl, inr}
-use Prim.Native.Nat.{ℕ, zero, suc, _+_, _*_, _≤_, _<_}
+use Prim.Native.Nat.{ℕ, zero, suc, _+_, _-_, _*_, _≤_, _<_}
 use native.Mathlib.Decide.{ℕ-discrete}
 use native.Mathlib.Nat.{le-refl}
 use native.Mathlib.Numerals.{add-one}
@@ -21,7 +23,7 @@ use lib.ListN.{length, getD, set, take, drop, drop-of-length-le, length-set}
 use lib.Seq.{drop-cons, take-suc-set}
 use Rattle.rules_compare.specs.Differences.{Difference, differencesFrom, differences, entryPlaces}
 use Rattle.rules_compare.proofs.Entries.{same-head, other-head, none-behind}
-use Rattle.compare_rows.specs.Left.{left, leftOver, Between, Put}
+use Rattle.compare_rows.specs.Left.{left, leftOver, Between, RoomFor, Put}
 
 module _ (xs ys : List ℕ) where
   -- ---- one index
@@ -117,11 +119,11 @@ module _ (xs ys : List ℕ) where
       ∙ append-assoc (take p d) (u ∷ []) (v ∷ w ∷ []))
 
   pub put-room : (i : ℕ) (d : List ℕ) (p : ℕ) → i < length xs → i < length ys → (getD xs i 0 ≡ getD ys i 0 → ⊥)
-      → p + 3 * leftOver xs ys i ≤ length d → p + 2 < length d
+      → RoomFor xs ys i (i + 1) p d → p + 2 < length d
   put-room i d p h l ne r = let f = ap length (left-other i h l ne) in omega (arith, f, r)
 
   pub put-entry : (i : ℕ) (d : List ℕ) (p : ℕ) → i < length xs → i < length ys → (getD xs i 0 ≡ getD ys i 0 → ⊥)
-      → p + 3 * leftOver xs ys i ≤ length d
+      → RoomFor xs ys i (i + 1) p d
       → Put xs ys i (i + 1) d p (set (set (set d p i) (p + 1) (getD xs i 0)) (p + 2) (getD ys i 0)) (p + 3)
   unfolding entryPlaces
   put-entry i d p h l ne r = record {
@@ -142,6 +144,28 @@ module _ (xs ys : List ℕ) where
       let f = fewer i (omega arith) (omega arith) in
       let g = shrinks m (i + 1) (omega arith) (omega arith) in
       rw e (omega (arith, f, g))
+
+  -- room for a part is room for what was put of it, and for its next index
+  module _ (i j k : ℕ) (d e : List ℕ) (p q : ℕ) (r : RoomFor xs ys i k p d) (u : Put xs ys i j d p e q)
+      (l : k ≤ length xs) (m : k ≤ length ys) where
+    pub put-room-so-far : j ≤ k → q ≤ length e
+    put-room-so-far h =
+        let n : j + (k - j) ≡ k = omega arith in
+        let f =
+        subst (λ (x : ℕ). leftOver xs ys x ≤ leftOver xs ys j) n (shrinks (k - j) j (omega arith) (omega arith)) in
+        let s = u .room in
+        let t = u .long in
+        omega (arith, r, f, s, t)
+
+    pub next-room : j < k → RoomFor xs ys j (j + 1) q e
+    next-room h =
+        let n : j + 1 + (k - (j + 1)) ≡ k = omega arith in
+        let f =
+        subst (λ (x : ℕ). leftOver xs ys x ≤ leftOver xs ys (j + 1)) n
+        (shrinks (k - (j + 1)) (j + 1) (omega arith) (omega arith)) in
+        let s = u .room in
+        let t = u .long in
+        omega (arith, r, f, s, t)
 
   alike-behind : (m i : ℕ) → i + m ≤ length xs → i + m ≤ length ys → leftOver xs ys (i + m) ≡ leftOver xs ys i
       → left xs ys i ≡ left xs ys (i + m)
@@ -169,6 +193,11 @@ module _ (xs ys : List ℕ) where
   pub put-skip : (m i : ℕ) (d : List ℕ) (p n : ℕ) → i + m ≤ length xs → i + m ≤ length ys → n ≡ 0
       → Between xs ys i (i + m) n → Put xs ys i (i + m) d p d p
   put-skip m i d p n h l z b = put-alike i (i + m) d p (alike-behind m i h l (omega (arith, b, z)))
+
+  -- what was put and what is counted behind it are all
+  pub put-counted : {p : ℕ} {d e : List ℕ} (i j m : ℕ) → leftOver xs ys j ≡ 0 → Put xs ys 0 i d 0 e p
+      → Between xs ys i j m → p + 3 * m ≡ 3 * length (differences xs ys)
+  put-counted {p} i j m none u b = let r = u .room in omega (arith, r, b, none)
 
   pub put-ended : {p q : ℕ} {d e : List ℕ} (i : ℕ) → leftOver xs ys i ≡ 0 → p ≡ 0 → Put xs ys 0 i d p e q
       → (q ≡ 3 * length (differences xs ys)) × (length e ≡ length d)

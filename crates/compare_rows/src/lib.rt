@@ -1,10 +1,10 @@
-// Two rows of octets compared, as far as the shorter goes, 64 octets at a time. Where their row might be too short the
-// differences are counted before they are listed, so that no place of a row is written twice. Knows nothing of radio.
+// Two rows of octets compared, as far as the shorter goes, 64 octets at a time: the entries of a block are put where
+// they have room, and where a block's have none the rest is only counted. Knows nothing of radio.
 ghost use mathlib.Core.Path.{_≡_};
 ghost use Prim.Native.Nat.{_+_, _*_, _≤_, _<_};
-ghost use lib.ListN.{length, take};
-ghost use Rattle.rules_compare.specs.Differences.{differences, entryPlaces, laid};
-ghost use Rattle.compare_rows.specs.Left.{leftOver, Between, Put};
+ghost use lib.ListN.{length};
+ghost use Rattle.rules_compare.specs.Differences.{differences, laid};
+ghost use Rattle.compare_rows.specs.Left.{leftOver, Between, RoomFor, Put};
 
 // How far both rows go.
 fn shorter(a: &[u8], b: &[u8]) -> usize
@@ -41,13 +41,13 @@ fn in_part(a: &[u8], b: &[u8], from: usize, to: usize) -> usize
     n
 }
 
-// How many differ in all.
-fn how_many(a: &[u8], b: &[u8]) -> usize
-    ensures answer { λ r. ⌜ r ≡ length (differences (now (a .entry)) (now (b .entry))) ⌝ }
+// How many differ from an index on.
+fn how_many(a: &[u8], b: &[u8], from: usize, end: usize) -> usize
+    requires { ⌜ (from ≤ end) × (end ≤ length (now a)) × (end ≤ length (now b)) ⌝ }
+    ensures answer { λ r. ⌜ Between (now (a .entry)) (now (b .entry)) from end r ⌝ }
 {
-    let end = shorter(a, b);
     let mut n = 0;
-    let mut at = 0;
+    let mut at = from;
     while 64 <= end - at {
         n += in_block(a, b, at) as usize;
         at += 64;
@@ -64,8 +64,8 @@ fn wide(x: u8) -> u64
 
 // The entry of one index, put at a place of the row where the rows differ there; the place behind it.
 fn put_at(a: &[u8], b: &[u8], i: usize, row: &mut [u64], p: usize) -> usize
-    requires { ⌜ (i < length (now a)) × (i < length (now b))
-        × (p + 3 * leftOver (now a) (now b) i ≤ length (now row)) ⌝ }
+    requires { ⌜ (i < length (now a)) × (i < length (now b)) × (p ≤ length (now row))
+        × RoomFor (now a) (now b) i (i + 1) p (now row) ⌝ }
     ensures answer { λ r. ⌜ Put (now (a .entry)) (now (b .entry)) i (i + 1) (now (row .entry)) p (now (row .exit)) r ⌝ }
 {
     let x = a[i];
@@ -82,7 +82,7 @@ fn put_at(a: &[u8], b: &[u8], i: usize, row: &mut [u64], p: usize) -> usize
 // The entries from one index up to another.
 fn put_part(a: &[u8], b: &[u8], from: usize, to: usize, row: &mut [u64], p: usize) -> usize
     requires { ⌜ (from ≤ to) × (to ≤ length (now a)) × (to ≤ length (now b))
-        × (p + 3 * leftOver (now a) (now b) from ≤ length (now row)) ⌝ }
+        × RoomFor (now a) (now b) from to p (now row) ⌝ }
     ensures answer { λ r. ⌜ Put (now (a .entry)) (now (b .entry)) from to (now (row .entry)) p (now (row .exit)) r ⌝ }
 {
     let mut i = from;
@@ -94,57 +94,62 @@ fn put_part(a: &[u8], b: &[u8], from: usize, to: usize, row: &mut [u64], p: usiz
     q
 }
 
-// The entries of the 64 octets from an index on: octet by octet only where some differ.
-fn put_block(a: &[u8], b: &[u8], at: usize, row: &mut [u64], p: usize) -> usize
-    requires { ⌜ (at + 64 ≤ length (now a)) × (at + 64 ≤ length (now b))
-        × (p + 3 * leftOver (now a) (now b) at ≤ length (now row)) ⌝ }
+// The n entries of the 64 octets from an index on.
+fn put_block(a: &[u8], b: &[u8], at: usize, n: usize, row: &mut [u64], p: usize) -> usize
+    requires { ⌜ (at + 64 ≤ length (now a)) × (at + 64 ≤ length (now b)) × Between (now a) (now b) at (at + 64) n
+        × (p + 3 * n ≤ length (now row)) ⌝ }
     ensures answer { λ r. ⌜ Put (now (a .entry)) (now (b .entry)) at (at + 64)
         (now (row .entry)) p (now (row .exit)) r ⌝ }
 {
-    if in_block(a, b, at) == 0 {
+    if n == 0 {
         return p;
     }
     put_part(a, b, at, at + 64, row, p)
 }
 
-// All entries, from the row's first place on; the place behind them.
-fn put_all(a: &[u8], b: &[u8], row: &mut [u64]) -> usize
-    requires { ⌜ 3 * length (differences (now a) (now b)) ≤ length (now row) ⌝ }
-    ensures answer { λ r. ⌜ (r ≡ 3 * length (differences (now (a .entry)) (now (b .entry))))
-        × (r ≤ length (now (row .entry))) × (length (now (row .exit)) ≡ length (now (row .entry)))
-        × (take r (now (row .exit)) ≡ entryPlaces (differences (now (a .entry)) (now (b .entry)))) ⌝ }
+// How far the entries are put: those up to an index, which end at a place of the row.
+pub struct Reached {
+    pub at: usize,
+    pub p: usize,
+}
+
+// The entries of whole blocks, one behind the other, as far as they have room.
+fn put_blocks(a: &[u8], b: &[u8], end: usize, row: &mut [u64]) -> Reached
+    requires { ⌜ (end ≤ length (now a)) × (end ≤ length (now b)) ⌝ }
+    ensures answer { λ r. ⌜ (r .at ≤ end)
+        × Put (now (a .entry)) (now (b .entry)) 0 (r .at) (now (row .entry)) 0 (now (row .exit)) (r .p)
+        × (r .p ≤ length (now (row .entry))) ⌝ }
 {
-    let end = shorter(a, b);
     let mut at = 0;
     let mut p = 0;
     while 64 <= end - at {
-        p = put_block(a, b, at, row, p);
+        let n = in_block(a, b, at) as usize;
+        if row.len() - p < 3 * n {
+            return Reached { at, p };
+        }
+        p = put_block(a, b, at, n, row, p);
         at += 64;
     }
-    put_part(a, b, at, end, row, p)
+    Reached { at, p }
 }
 
 // Every index at which two rows differ, as far as the shorter goes, with both octets, three places an entry, and zeros
-// behind them; only zeros where they do not fit. The number of entries is told in any case. They are counted first only
-// where the row might be too short.
+// behind them; only zeros where they do not fit. The number of entries is told in any case.
 pub fn list(a: &[u8], b: &[u8], row: &mut [u64]) -> u64
     ensures answer { λ r. ⌜ r ≡ length (differences (now (a .entry)) (now (b .entry))) ⌝ }
     ensures row { λ _. ⌜ now (row .exit)
         ≡ laid (length (now (row .entry))) (differences (now (a .entry)) (now (b .entry))) ⌝ }
 {
-    let most = row.len() / 3;
-    if most < shorter(a, b) {
-        let n = how_many(a, b);
-        if most < n {
-            common_rows::clear(row, 0);
-            return n as u64;
-        }
-        if n == 0 {
-            common_rows::clear(row, 0);
-            return 0;
-        }
+    let end = shorter(a, b);
+    let reached = put_blocks(a, b, end, row);
+    let at = reached.at;
+    let p = reached.p;
+    let rest = how_many(a, b, at, end);
+    if (row.len() - p) / 3 < rest {
+        common_rows::clear(row, 0);
+        return (p / 3 + rest) as u64;
     }
-    let p = put_all(a, b, row);
-    common_rows::clear(row, p);
-    (p / 3) as u64
+    let q = put_part(a, b, at, end, row, p);
+    common_rows::clear(row, q);
+    (q / 3) as u64
 }

@@ -5,7 +5,7 @@ use native.Mathlib.Omega.{arith}
 use borrow.Author.Needs.{needs}
 use denote.Ref.{now}
 use Rattle.compare_rows.specs.Left.{Put}
-use Rattle.compare_rows.proofs.Left.{put-none, put-then, put-to}
+use Rattle.compare_rows.proofs.Left.{put-none, put-then, put-to, put-room-so-far, next-room}
 use Rattle.compare_rows.proofs.put_part.Statement.{statement}
 use Rattle.compare_rows.proofs.put_part.Tie as tie
 
@@ -22,8 +22,16 @@ loop-holds c =
 
 put-at-requires : tie.Need-put-at-requires Inv-loop μ-loop
 put-at-requires c κs =
-    let put = c .before .before .loop .inv .2 in
-    (omega arith, omega arith, omega (arith, put .room, put .long))
+    let start = c .before .before .before .before .before .before in
+    let args = start .args in
+    let loop = c .before .before .loop in
+    let so-far =
+    put-room-so-far (now (args .a)) (now (args .b)) (args .from) (loop .i) (args .to) (now (args .row)) (loop .row)
+    (args .p) (loop .q) (start .pre .3) (loop .inv .2) (start .pre .1) (start .pre .2) (omega arith) in
+    let next =
+    next-room (now (args .a)) (now (args .b)) (args .from) (loop .i) (args .to) (now (args .row)) (loop .row) (args .p)
+    (loop .q) (start .pre .3) (loop .inv .2) (start .pre .1) (start .pre .2) (omega arith) in
+    (omega arith, omega arith, so-far, next)
 
 loop-again : tie.Need-loop-again Inv-loop μ-loop
 loop-again c =
