@@ -1,44 +1,41 @@
 -- Laws of what is left to list from an index on.
---     between-none, between-same, between-other    none counted, and one index more: alike, or not; between-to
---     between-then                                 a part behind a part
---     ended                                        nothing is left where a row ends
---     between-all                                  all are counted
---     put-none, put-same, put-then                 nothing put, and one index more that is alike; a part behind a
---                                                  part; put-to
---     put-room, put-entry                          one index more that differs: room for its three places, and these;
---                                                  of a part put-room-so-far and next-room
---     put-skip                                     where nothing was counted, nothing is to be put
---     put-counted                                  what was put and what is counted behind it are all
---     put-ended                                    where nothing is left, the row's front is the list
+--     between-none, between-same, between-other
+--                                     none counted, and one index more: alike, or not
+--     between-then, between-to        a part behind a part; a part up to the same index
+--     put-none, put-same              nothing put, and one index more that is alike
+--     put-room, put-entry             one index more that differs: room for its three places, and these
+--     put-then, put-to                a part behind a part; a part up to the same index
+--     put-room-so-far, next-room      room for a part is room for what was put of it, and for its next index
+--     put-skip                        where nothing was counted, nothing is to be put
+--     put-counted                     what was put and what is counted behind it are all
+--     put-ended                       where nothing is left, the row's front is the list
 -- Assumes nothing.
 use mathlib.Core.Path.{_≡_, refl, sym, ap, _∙_, subst}
 use mathlib.Core.List.{List, [], _∷_, _++_, append-nil, append-assoc}
-use mathlib.Core.Logic.{_⊎_, inl, inr}
 use Prim.Native.Nat.{ℕ, zero, suc, _+_, _-_, _*_, _≤_, _<_}
 use native.Mathlib.Decide.{ℕ-discrete}
 use native.Mathlib.Nat.{le-refl}
 use native.Mathlib.Numerals.{add-one}
 use native.Mathlib.Omega.{arith}
-use lib.ListN.{length, getD, set, take, drop, drop-of-length-le, length-set}
-use lib.Seq.{drop-cons, take-suc-set}
-use Rattle.rules_compare.specs.Differences.{Difference, differencesFrom, differences, entryPlaces}
-use Rattle.rules_compare.proofs.Entries.{same-head, other-head, none-behind}
+use lib.ListN.{length, getD, set, take, drop, length-set}
+use lib.Seq.{take-suc-set}
+use Rattle.rules_compare.specs.Differences.{Difference, differences, entryPlaces}
+use Rattle.rules_compare.proofs.Entries.{same-head, other-head, left-cut}
 use Rattle.compare_rows.specs.Left.{left, leftOver, Between, RoomFor, Put}
 
 module _ (xs ys : List ℕ) where
   -- ---- one index
   module _ (i : ℕ) (h : i < length xs) (l : i < length ys) where
-    cut : left xs ys i ≡ differencesFrom i (getD xs i 0 ∷ drop (suc i) xs) (getD ys i 0 ∷ drop (suc i) ys)
-    cut = rw (drop-cons xs i 0 h, drop-cons ys i 0 l)
-
     left-same : getD xs i 0 ≡ getD ys i 0 → left xs ys i ≡ left xs ys (i + 1)
     left-same e =
-        rw (add-one i) (cut ∙ same-head i (getD xs i 0) (getD ys i 0) (drop (suc i) xs) (drop (suc i) ys) e)
+        rw (add-one i)
+        (left-cut xs ys i h l ∙ same-head i (getD xs i 0) (getD ys i 0) (drop (suc i) xs) (drop (suc i) ys) e)
 
     left-other : (getD xs i 0 ≡ getD ys i 0 → ⊥)
         → left xs ys i ≡ record { index = i; first = getD xs i 0; second = getD ys i 0 } ∷ left xs ys (i + 1)
     left-other ne =
-        rw (add-one i) (cut ∙ other-head i (getD xs i 0) (getD ys i 0) (drop (suc i) xs) (drop (suc i) ys) ne)
+        rw (add-one i)
+        (left-cut xs ys i h l ∙ other-head i (getD xs i 0) (getD ys i 0) (drop (suc i) xs) (drop (suc i) ys) ne)
 
     -- not more is left behind it
     fewer : leftOver xs ys (i + 1) ≤ leftOver xs ys i
@@ -47,11 +44,6 @@ module _ (xs ys : List ℕ) where
         by : Dec (getD xs i 0 ≡ getD ys i 0) → leftOver xs ys (i + 1) ≤ leftOver xs ys i
         by (yes e) = let f = ap length (left-same e) in omega (arith, f)
         by (no ne) = let f = ap length (left-other ne) in omega (arith, f)
-
-  pub ended : (i : ℕ) → (length xs ≤ i) ⊎ (length ys ≤ i) → left xs ys i ≡ []
-  unfolding differencesFrom
-  ended i (inl h) = ap (λ (l : List ℕ). differencesFrom i l (drop i ys)) (drop-of-length-le xs h)
-  ended i (inr h) = ap (differencesFrom i (drop i xs)) (drop-of-length-le ys h) ∙ none-behind i (drop i xs)
 
   -- ---- counted
   pub between-none : (i j : ℕ) → i ≡ j → Between xs ys i j 0
@@ -72,9 +64,6 @@ module _ (xs ys : List ℕ) where
 
   pub between-then : (i j k m n : ℕ) → Between xs ys i j m → Between xs ys j k n → Between xs ys i k (m + n)
   between-then i j k m n b c = omega (arith, b, c)
-
-  pub between-all : (i m : ℕ) → leftOver xs ys i ≡ 0 → Between xs ys 0 i m → m ≡ length (differences xs ys)
-  between-all i m none b = omega (arith, b, none)
 
   -- ---- put
   pub put-none : (i : ℕ) (d : List ℕ) (p : ℕ) → Put xs ys i i d p d p

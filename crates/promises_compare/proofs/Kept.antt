@@ -2,28 +2,20 @@
 -- Assumes nothing.
 use mathlib.Core.Path.{_≡_, sym, ap, ap₂, _∙_, subst}
 use mathlib.Core.List.{List}
-use Prim.Native.Nat.{ℕ, _-_, _*_, _<_}
+use Prim.Native.Nat.{ℕ, _*_, _≤_, _<_}
+use native.Mathlib.Nat.{min-le-right}
 use native.Mathlib.Omega.{arith}
-use lib.ListN.{length, getD, take}
-use lib.Seq.{getD-take}
+use lib.ListN.{length, getD, take, length-take}
+use lib.Seq.{getD-take, length-take-le}
 use Rattle.rules_compare.specs.declared.Compared.{Compared}
 use Rattle.rules_compare.specs.Differences.{Difference, differences, laid}
 use Rattle.rules_compare.specs.Compared.{octetList, comparedOf}
-use Rattle.rules_compare.specs.Plain.{Lists, ZerosFrom, Shows, Exchanged}
-use Rattle.rules_compare.proofs.Shown.{shows-once}
-use Rattle.rules_compare.proofs.Pairs.{itself, fewest, exchanged, gives-second, gives-first}
+use Rattle.rules_compare.specs.Plain.{Lists, Shows, Exchanged}
+use Rattle.rules_compare.proofs.Shown.{none-laid, shows-once}
+use Rattle.rules_compare.proofs.Pairs.{itself, few-shown, exchanged, gives-second, gives-first}
 use Rattle.rules_compare.proofs.Octets.{octets-are}
 use Rattle.rules_compare.proofs.Itself.{itself-octets}
-use Rattle.promises_compare.proofs.Answered.{
-  answered,
-  list,
-  shown-octets,
-  shown-chips,
-  both-shown,
-  payloads,
-  within,
-  few-octets,
-}
+use Rattle.promises_compare.proofs.Answered.{answered, shown-chips, payloads, few-octets, list}
 use Rattle.promises_compare.specs.Promises.{
   ComparedReads,
   ComparedShows,
@@ -43,40 +35,28 @@ compared-reads kind a b places places′ room room′ c chips octets first secon
 )
 
 compared-shows : ComparedShows
-compared-shows kind a b places places′ room room′ c chips octets first second m = (
-  shown-chips kind a b places places′ room room′ c chips octets first second m,
-  payloads kind a b places places′ room room′ c chips octets first second m,
-  λ entries row v. shows-once v (shown-chips kind a b places places′ room room′ c chips octets first second m),
-  λ p q entries row v.
-      shows-once v (both-shown kind a b places places′ room room′ c chips octets first second m p q),
-)
+compared-shows kind a b places places′ room room′ c chips octets first second m =
+    let of-chips = shown-chips kind a b places places′ room room′ c chips octets first second m in
+    let of-octets = payloads kind a b places places′ room room′ c chips octets first second m in (
+      of-chips,
+      of-octets,
+      λ entries row v. shows-once v of-chips,
+      λ p q entries row v. shows-once v (of-octets .both p q .0),
+    )
 
 compared-fits : ComparedFits
 compared-fits kind a b places places′ room room′ c chips octets first second m =
-    let n = answered kind a b places places′ room room′ c chips octets first second m .chips-are in
-    let fewer = fewest a b in
-    let few = few-octets kind a b places places′ room room′ c chips octets first second m in
-    let size = within kind a b places places′ room room′ c chips octets first second m in (
-      omega (arith, n, fewer .0),
-      omega (arith, n, fewer .1),
-      omega (arith, few .0, size .0),
-      omega (arith, few .0, size .1),
-      omega (arith, few .1, size .2),
-    )
-
--- a row that shows no entry
-zeros : {xs ys row : List ℕ} {places entries : ℕ} → entries ≡ 0 → Shows xs ys places entries row → ZerosFrom row 0
-zeros e v p h = v .fits (omega (arith, e)) .1 p (omega (arith, e))
+    let few = few-shown (shown-chips kind a b places places′ room room′ c chips octets first second m) in
+    let most = few-octets kind a b places places′ room room′ c chips octets first second m in
+    (few .0, few .1, most .0, most .1, most .2)
 
 compared-itself : ComparedItself
 compared-itself kind a places places′ room room′ c chips octets first second m =
-    let n = answered kind a a places places′ room room′ c chips octets first second m in
-    let no-chip = n .chips-are ∙ ap length (itself a) in
-    let no-octet = n .octets-are ∙ ap length (itself-octets kind a room room′) in (
-      no-chip,
-      no-octet,
-      zeros no-chip (shown-chips kind a a places places′ room room′ c chips octets first second m),
-      zeros no-octet (shown-octets kind a a places places′ room room′ c chips octets first second m),
+    let n = answered kind a a places places′ room room′ c chips octets first second m in (
+      n .chips-counted ∙ ap length (itself a),
+      n .octets-counted ∙ ap length (itself-octets kind a room room′),
+      rw (m .chips) (none-laid places (differences a a) (itself a)),
+      rw (m .octets) (none-laid places′ (octetList kind a a room room′) (itself-octets kind a room room′)),
     )
 
 compared-exchanged : ComparedExchanged
@@ -93,8 +73,8 @@ compared-exchanged kind a b places places′ room room′ c d chips octets first
     let swapped′ = exchanged (take (c .«n_a») first) (take (c .«n_b») second) places′ in (
       n′ .record-a ∙ sym (n .record-b),
       n′ .record-b ∙ sym (n .record-a),
-      n′ .chips-are ∙ swapped .0 ∙ sym (n .chips-are),
-      n′ .octets-are ∙ ap length one ∙ swapped′ .0 ∙ sym (n .octets-are ∙ ap length other),
+      n′ .chips-counted ∙ swapped .0 ∙ sym (n .chips-counted),
+      n′ .octets-counted ∙ ap length one ∙ swapped′ .0 ∙ sym (n .octets-counted ∙ ap length other),
       n′ .n-a ∙ sym (n .n-b),
       n′ .n-b ∙ sym (n .n-a),
       w .first ∙ sym (m .second),
@@ -108,7 +88,7 @@ compared-exchanged kind a b places places′ room room′ c d chips octets first
 
 compared-gives : ComparedGives
 compared-gives kind kind′ a a′ b b′ places places′ room room′ more more′ held held′ c d chips octets first second
-    chips′ octets′ first′ second′ m w e h h′ same = (
+    chips′ octets′ first′ second′ m w e h same = (
       λ q i j k l. gives-second (one .fits h .0) (subst (λ (x : List ℕ). Lists x b′ chips′ (c .chips)) (sym q) two)
           alike i j k l,
       λ q i j k l. gives-first (one .fits h .0) (subst (λ (x : List ℕ). Lists a′ x chips′ (c .chips)) (sym q) two)
@@ -118,10 +98,18 @@ compared-gives kind kind′ a a′ b b′ places places′ room room′ more mor
     one : Shows a b places (c .chips) chips
     one = shown-chips kind a b places places′ room room′ c chips octets first second m
 
+    other : Shows a′ b′ more (d .chips) chips′
+    other = shown-chips kind′ a′ b′ more more′ held held′ d chips′ octets′ first′ second′ w
+
+    -- the second row has as many places: the part that is alike is so long
+    room-too : 3 * d .chips ≤ more
+    room-too =
+        let long = length-take-le (3 * c .chips) chips (omega (arith, one .whole, h)) in
+        let part = length-take (3 * c .chips) chips′ in
+        omega (arith, long, part, ap length same, min-le-right (3 * c .chips) (length chips′), other .whole, e)
+
     two : Lists a′ b′ chips′ (c .chips)
-    two =
-        subst (λ (x : ℕ). Lists a′ b′ chips′ x) (sym e)
-        (shown-chips kind′ a′ b′ more more′ held held′ d chips′ octets′ first′ second′ w .fits h′ .0)
+    two = subst (λ (x : ℕ). Lists a′ b′ chips′ x) (sym e) (other .fits room-too .0)
 
     alike : (p : ℕ) → p < 3 * c .chips → getD chips p 0 ≡ getD chips′ p 0
     alike p l =

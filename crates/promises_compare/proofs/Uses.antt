@@ -1,17 +1,24 @@
--- Uses of what is promised of the call that compares: each takes a statement out of `kept`, with every kind, row and
--- room.
+-- Uses of what is promised of the call that compares: each takes a statement out of `kept`, and together they need
+-- every part of it.
 --     kind-none          a kind that is none: both records have 1, both buffers are zeros, and the chips are compared
+--     always-listed, by-room
+--                        rows that hold every list
+--     other-kept         a list of chips that does not fit does not touch that of octets
+--     both-read          two reads that are accepted: the lengths are theirs, and one row of octets is allowed
+--     second-refused     the second recording is refused: no octets, and the first buffer stands
+--     answered-once      another answer to the same input
+--     empty-beside       an empty recording beside any other: 8 and zeros, no octets, and the other's record and buffer
 --     two-differ         two recordings of four and six chips: their two entries, in a row that just holds them, and
 --                        zeros in one that lacks a place
---     other-kept         a list of chips that does not fit does not touch that of octets
---     empty-beside       an empty recording beside any other: 8 and zeros, no octets, and the other's record and buffer
---     always-listed      rows that hold every list
---     none-of-itself     a recording with itself
---     entry-exchanged    an entry, with the recordings exchanged
---     other-given        a recording as long as the other's, by its list
+--     none-of-itself, nothing-anywhere
+--                        a recording with itself: no entry, and zeros at every place
+--     entry-exchanged, exchanged-back
+--                        recordings exchanged: an entry, and all of the answer
+--     other-given, first-given
+--                        a recording as long as the other's, by its list
 -- Assumes nothing.
-use mathlib.Core.Path.{_≡_, refl, sym, ap, _∙_}
-use mathlib.Core.Logic.{inl}
+use mathlib.Core.Path.{_≡_, refl, sym, ap, _∙_, subst}
+use mathlib.Core.Logic.{_⊎_, inl, inr, ⊎-elim}
 use mathlib.Core.List.{List, [], _∷_}
 use Prim.Native.Nat.{ℕ, _+_, _*_, _≤_, _<_}
 use native.Mathlib.Omega.{arith}
@@ -61,13 +68,12 @@ module _ (kind : ℕ) (a b : List ℕ) (places places′ room room′ : ℕ) (c 
         λ p q. lists .1 .both p q .0 .fits (omega (arith, few .2, h′)) .0,
       )
 
-  -- what the rows of octets are, wherever the list of chips fits or not: with other places for the chips the same
-  other-kept : (more : ℕ) (d : Compared) (chips′ octets′ first′ second′ : List ℕ)
-      → Compares kind a b more places′ room room′ d chips′ octets′ first′ second′ → places < 3 * c .chips
-      → ZerosFrom chips 0 × (octets ≡ octets′)
-  other-kept more d chips′ octets′ first′ second′ w h =
+  -- the list of chips does not fit, and the one of octets does: it is listed all the same
+  other-kept : c .a .number ≡ 0 → c .b .number ≡ 0 → places < 3 * c .chips → 3 * c .octets ≤ places′
+      → ZerosFrom chips 0 × Lists (take (c .a .n) first) (take (c .b .n) second) octets (c .octets)
+  other-kept p q h h′ =
       let lists = kept .compared-shows kind a b places places′ room room′ c chips octets first second m in
-      (lists .0 .no-room h, m .octets ∙ sym (w .octets))
+      (lists .0 .no-room h, lists .1 .both p q .0 .fits h′ .0)
 
 -- an empty recording of the long kind
 reads-empty : (room : ℕ) → ReadHard 0 [] room (refused 8 0) (replicate room 0)
@@ -158,6 +164,105 @@ other-given kind a b b′ places room room′ c d chips octets first second chip
     let few = kept .compared-fits kind a b places 0 room room′ c chips octets first second m .1 in
     let given =
     kept .compared-gives kind kind a a b b′ places 0 room room′ places 0 room room′ c d chips octets first second chips′
-    octets′ first′ second′ m w n (omega (arith, few, h)) (omega (arith, few, h, n))
-    (ap (take (3 * c .chips)) s) .0 refl in
+    octets′ first′ second′ m w n (omega (arith, few, h)) (ap (take (3 * c .chips)) s) .0 refl in
     ext-getD 0 b b′ (sym e) (λ i j. given i (omega (arith, j, l)) j (omega (arith, j, e)))
+
+-- ---- the parts that are left
+module _ (kind : ℕ) (a b : List ℕ) (places places′ room room′ : ℕ) (c : Compared) (chips octets first second : List ℕ)
+    (m : Compares kind a b places places′ room room′ c chips octets first second) where
+  -- two hard reads that are accepted: the lengths are theirs, and only one row of octets is allowed
+  both-read : (r s : Record) (left left′ : List ℕ) → ReadHard kind a room r left → ReadHard kind b room′ s left′
+      → r .number ≡ 0 → s .number ≡ 0
+      → (c .«n_a» ≡ r .n) × (c .«n_b» ≡ s .n)
+      × ((entries : ℕ) (row : List ℕ) → Shows (take (r .n) left) (take (s .n) left′) places′ entries row
+      → (entries ≡ c .octets) × (row ≡ octets))
+  both-read r s left left′ x y p q =
+      let all = kept .compared-reads kind a b places places′ room room′ c chips octets first second m in
+      let one = all .0 r left x in
+      let other = all .1 s left′ y in
+      let lists = kept .compared-shows kind a b places places′ room room′ c chips octets first second m in
+      let p′ = ap (λ (t : Record). t .number) (one .0) ∙ p in
+      let q′ = ap (λ (t : Record). t .number) (other .0) ∙ q in
+      let both = lists .1 .both p′ q′ in (
+        both .1 ∙ ap (λ (t : Record). t .n) (one .0),
+        both .2 ∙ ap (λ (t : Record). t .n) (other .0),
+        λ entries row v. lists .3 p′ q′ entries row
+            (subst (λ (z : List ℕ × List ℕ). Shows (z .0) (z .1) places′ entries row)
+            (λ i. (take (sym (one .0) i .n) (sym (one .1) i), take (sym (other .0) i .n) (sym (other .1) i))) v),
+      )
+
+  -- the second recording is refused, the first may be accepted: no octets, no lengths, and the first buffer stands
+  second-refused : (r s : Record) (left left′ : List ℕ) → ReadHard kind a room r left → ReadHard kind b room′ s left′
+      → (s .number ≡ 0 → ⊥)
+      → (first ≡ left) × (c .a .n ≡ r .n) × (c .octets ≡ 0) × (c .«n_a» ≡ 0) × (c .«n_b» ≡ 0) × ZerosFrom octets 0
+  second-refused r s left left′ x y ne =
+      let all = kept .compared-reads kind a b places places′ room room′ c chips octets first second m in
+      let one = all .0 r left x in
+      let other = all .1 s left′ y in
+      let none =
+      kept .compared-shows kind a b places places′ room room′ c chips octets first second m .1 .not-both
+      (inr (λ e. ne (sym (ap (λ (t : Record). t .number) (other .0)) ∙ e))) in
+      (one .1, ap (λ (t : Record). t .n) (one .0), none .0, none .1, none .2, none .4)
+
+  -- a row with three places for each octet of either room
+  by-room : (3 * room ≤ places′) ⊎ (3 * room′ ≤ places′) → c .a .number ≡ 0 → c .b .number ≡ 0
+      → Lists (take (c .a .n) first) (take (c .b .n) second) octets (c .octets)
+  by-room h p q =
+      let few = kept .compared-fits kind a b places places′ room room′ c chips octets first second m in
+      kept .compared-shows kind a b places places′ room room′ c chips octets first second m .1 .both p q .0 .fits
+      (⊎-elim (λ l. omega (arith, few .3, l)) (λ l. omega (arith, few .4, l)) h) .0
+
+  -- another answer to the same
+  answered-once : (d : Compared) (chips′ octets′ first′ second′ : List ℕ)
+      → Compares kind a b places places′ room room′ d chips′ octets′ first′ second′
+      → (c ≡ d) × (chips ≡ chips′) × (octets ≡ octets′) × (first ≡ first′) × (second ≡ second′)
+  answered-once d chips′ octets′ first′ second′ w =
+      let e =
+      kept .one-comparison kind a b places places′ room room′ c d chips octets first second chips′ octets′ first′
+      second′ m w in
+      (e .0, e .1, e .2, e .3, e .4)
+
+-- every place of both rows
+nothing-anywhere : (kind : ℕ) (a : List ℕ) (places places′ room room′ : ℕ) (c : Compared)
+    (chips octets first second : List ℕ) → Compares kind a a places places′ room room′ c chips octets first second
+    → (p : ℕ) → (getD chips p 0 ≡ 0) × (getD octets p 0 ≡ 0)
+nothing-anywhere kind a places places′ room room′ c chips octets first second m p =
+    let none = kept .compared-itself kind a places places′ room room′ c chips octets first second m in
+    (none .2 p (omega arith), none .3 p (omega arith))
+
+-- exchanged twice, all of it
+exchanged-back : (kind : ℕ) (a b : List ℕ) (places places′ room room′ : ℕ) (c d : Compared)
+    (chips octets first second chips′ octets′ first′ second′ : List ℕ)
+    → Compares kind a b places places′ room room′ c chips octets first second
+    → Compares kind b a places places′ room′ room d chips′ octets′ first′ second′
+    → (d ≡ record { a = c .b; b = c .a; chips = c .chips; octets = c .octets; «n_a» = c .«n_b»; «n_b» = c .«n_a» })
+    × (first′ ≡ second) × (second′ ≡ first)
+    × ((k : ℕ) → (getD chips′ (3 * k) 0 ≡ getD chips (3 * k) 0)
+    × (getD chips′ (3 * k + 1) 0 ≡ getD chips (3 * k + 2) 0) × (getD chips′ (3 * k + 2) 0 ≡ getD chips (3 * k + 1) 0)
+    × (getD octets′ (3 * k) 0 ≡ getD octets (3 * k) 0)
+    × (getD octets′ (3 * k + 1) 0 ≡ getD octets (3 * k + 2) 0)
+    × (getD octets′ (3 * k + 2) 0 ≡ getD octets (3 * k + 1) 0))
+exchanged-back kind a b places places′ room room′ c d chips octets first second chips′ octets′ first′ second′ m w =
+    let e =
+    kept .compared-exchanged kind a b places places′ room room′ c d chips octets first second chips′ octets′ first′
+    second′ m w in (
+      λ i. record { a = e .0 i; b = e .1 i; chips = e .2 i; octets = e .3 i; «n_a» = e .4 i; «n_b» = e .5 i },
+      e .6,
+      e .7,
+      λ k. (e .8 k .0, e .8 k .1, e .8 k .2, e .9 k .0, e .9 k .1, e .9 k .2),
+    )
+
+-- the first recording from the second, over calls of two kinds and with rows of two sizes
+first-given : (kind kind′ : ℕ) (a a′ b : List ℕ) (places places′ room room′ more more′ held held′ : ℕ) (c d : Compared)
+    (chips octets first second chips′ octets′ first′ second′ : List ℕ)
+    → Compares kind a b places places′ room room′ c chips octets first second
+    → Compares kind′ a′ b more more′ held held′ d chips′ octets′ first′ second′
+    → length a ≤ length b → length a′ ≡ length a → 3 * length a ≤ places → c .chips ≡ d .chips
+    → take (3 * c .chips) chips ≡ take (3 * c .chips) chips′ → a ≡ a′
+first-given kind kind′ a a′ b places places′ room room′ more more′ held held′ c d chips octets first second chips′
+    octets′ first′ second′ m w l e h n s =
+    let few = kept .compared-fits kind a b places places′ room room′ c chips octets first second m .0 in
+    let given =
+    kept .compared-gives kind kind′ a a′ b b places places′ room room′ more more′ held held′ c d chips octets first
+    second chips′ octets′ first′ second′ m w n (omega (arith, few, h)) s .1 refl in
+    ext-getD 0 a a′ (sym e) (λ i j. given i (omega (arith, j, l)) j (omega (arith, j, e)))

@@ -4,12 +4,11 @@
 -- Definitions only. Assumes nothing.
 use Prim.Native.Nat.{ℕ, _*_, _≤_, _<_}
 use mathlib.Core.Path.{_≡_}
-use mathlib.Core.Logic.{_⊎_}
 use mathlib.Core.List.{List}
 use lib.ListN.{length, getD, take}
 use Rattle.rules_calls.specs.declared.Record.{Record}
 use Rattle.rules_compare.specs.declared.Compared.{Compared}
-use Rattle.rules_compare.specs.Plain.{ZerosFrom, Shows, Exchanged}
+use Rattle.rules_compare.specs.Plain.{ZerosFrom, Shows, Exchanged, ShowsPayloads}
 use Rattle.promises.specs.Calls.{ReadHard}
 use Rattle.promises_compare.specs.Calls.{Compares}
 
@@ -23,15 +22,6 @@ ComparedReads =
     → Compares kind a b places places′ room room′ c chips octets first second
     → ((r : Record) (left : List ℕ) → ReadHard kind a room r left → (c .a ≡ r) × (first ≡ left))
     × ((r : Record) (left : List ℕ) → ReadHard kind b room′ r left → (c .b ≡ r) × (second ≡ left))
-
--- the two payloads, by the records and the buffers: what is answered and left of them where both are accepted, and
--- where one is not
-pub record ShowsPayloads (places : ℕ) (c : Compared) (octets first second : List ℕ) : Type 0 where
-  pub both : c .a .number ≡ 0 → c .b .number ≡ 0
-      → Shows (take (c .a .n) first) (take (c .b .n) second) places (c .octets) octets
-      × (c .«n_a» ≡ c .a .n) × (c .«n_b» ≡ c .b .n)
-  pub not-both : (c .a .number ≡ 0 → ⊥) ⊎ (c .b .number ≡ 0 → ⊥)
-      → (c .octets ≡ 0) × (c .«n_a» ≡ 0) × (c .«n_b» ≡ 0) × (length octets ≡ places) × ZerosFrom octets 0
 
 -- promise: Each list in plain numbers: the number of entries is that of the indexes that differ, as far as the shorter
 -- goes, whether they fit or not; a list that fits, three places an entry, has each such index once, rising, with both
@@ -88,8 +78,8 @@ ComparedExchanged =
     × ((k : ℕ) → Exchanged chips chips′ k) × ((k : ℕ) → Exchanged octets octets′ k)
 
 -- promise: Equal lists and one recording give the other, as far as all go: where two comparisons have the same first
--- recording and the same list of chips, which fits in both, the second recordings are alike; and the first ones where
--- the second is the same
+-- recording and the same list of chips, which fits, the second recordings are alike; and the first ones where the
+-- second is the same
 -- rule: 6.29
 -- code: dsss_compare
 abbrev pub ComparedGives : Type 0
@@ -98,7 +88,7 @@ ComparedGives =
     (chips octets first second chips′ octets′ first′ second′ : List ℕ)
     → Compares kind a b places places′ room room′ c chips octets first second
     → Compares kind′ a′ b′ more more′ held held′ d chips′ octets′ first′ second′
-    → c .chips ≡ d .chips → 3 * c .chips ≤ places → 3 * d .chips ≤ more
+    → c .chips ≡ d .chips → 3 * c .chips ≤ places
     → take (3 * c .chips) chips ≡ take (3 * c .chips) chips′
     → (a ≡ a′ → (i : ℕ) → i < length a → i < length b → i < length b′ → getD b i 0 ≡ getD b′ i 0)
     × (b ≡ b′ → (i : ℕ) → i < length b → i < length a → i < length a′ → getD a i 0 ≡ getD a′ i 0)

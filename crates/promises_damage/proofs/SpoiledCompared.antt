@@ -14,7 +14,7 @@ use Rattle.rules_compare.specs.Plain.{Shows}
 use Rattle.rules_damage.specs.Plain.{FrameStands}
 use Rattle.promises.specs.Calls.{ReadHard, Sent}
 use Rattle.promises.proofs.Back.{known}
-use Rattle.promises_compare.proofs.Answered.{accepted, both-shown, read-a, read-b}
+use Rattle.promises_compare.proofs.Answered.{payloads, read-a, read-b}
 use Rattle.promises_damage.specs.Promises.{SpoiledCompared}
 use Rattle.promises_damage.proofs.SpoiledBack.{spoiled-read-back}
 
@@ -54,16 +54,16 @@ spoiled-compared kind rate rate′ phase phase′ clock clock′ p q w v sent se
     let y =
     back kind rate′ phase′ clock′ q v sent′ t rec′ tail′ stands′ room′ (c .b) second h′
     (read-b kind a b places places′ room room′ c chips octets first second m) in
-    let n =
-    accepted kind a b places places′ room room′ c chips octets first second m (x .number-is) (y .number-is) in (
+    let both =
+    payloads kind a b places places′ room room′ c chips octets first second m .both (x .number-is) (y .number-is) in (
       subst (λ (z : List ℕ × List ℕ). Shows (z .0) (z .1) places′ (c .octets) octets)
           (λ i. (
             (ap (λ (j : ℕ). take j first) (x .n-is) ∙ x .front-is) i,
             (ap (λ (j : ℕ). take j second) (y .n-is) ∙ y .front-is) i,
           ))
-          (both-shown kind a b places places′ room room′ c chips octets first second m (x .number-is) (y .number-is)),
-      n .0 ∙ x .n-is,
-      n .1 ∙ y .n-is,
+          (both .0),
+      both .1 ∙ x .n-is,
+      both .2 ∙ y .n-is,
       x .number-is,
       y .number-is,
     )

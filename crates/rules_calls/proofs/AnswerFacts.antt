@@ -1,6 +1,6 @@
 -- Answers to a read, computed from the definition and compared with RULES 6.4, 6.8 and 6.10: every refusal's number, 1
 -- to 17, a place with 9 and 10 alone, LENGTH with what is asked after the header, and nothing else; what a good read
--- shows. Assumes nothing.
+-- shows. And a law of all of them: a refusal's number is not 0 (`some-number`). Assumes nothing.
 use mathlib.Core.Path.{_≡_, refl}
 use mathlib.Core.Bool.{Bool, true, false}
 use mathlib.Core.List.{List, [], _∷_, map}

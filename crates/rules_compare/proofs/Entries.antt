@@ -5,10 +5,13 @@
 --     each-from                each entry is an index at which the rows differ
 --     all-from                 each such index is an entry
 --     rising-from              indexes rise
---     many-from                there are as many as there are such indexes
+--     left-ended, left-cut     what is left from an index on: nothing where a row ends, else its first elements
+--     many-from                there are as many entries as there are such indexes
+--     entry-next, entry-on     the places of the next entry
 -- By induction over the rows. Assumes nothing.
 use mathlib.Core.Path.{_≡_, refl, sym, ap, _∙_, subst}
 use mathlib.Core.List.{List, [], _∷_}
+use mathlib.Core.Logic.{_⊎_, inl, inr}
 use Prim.Native.Nat.{ℕ, zero, suc, _+_, _*_, _≤_, _<_}
 use native.Mathlib.Nat.{not-suc-le-zero, le-of-suc-le-suc}
 use native.Mathlib.Decide.{decLt, ℕ-discrete}
@@ -41,8 +44,14 @@ unfolding differencesFrom
 none-behind at [] = refl
 none-behind at (x ∷ xs) = refl
 
+pub entry-next : (k : ℕ) → 3 * suc k ≡ suc (suc (suc (3 * k)))
+entry-next k = omega arith
+
+pub entry-on : (k j : ℕ) → 3 * suc k + j ≡ suc (suc (suc (3 * k + j)))
+entry-on k j = omega arith
+
 -- ---- one element more in front of both rows
-pub further : {xs ys : List ℕ} {x y i : ℕ} → DifferAt xs ys i → DifferAt (x ∷ xs) (y ∷ ys) (suc i)
+further : {xs ys : List ℕ} {x y i : ℕ} → DifferAt xs ys i → DifferAt (x ∷ xs) (y ∷ ys) (suc i)
 further d = record {
   first-goes = let h = d .first-goes in omega (arith, h);
   second-goes = let h = d .second-goes in omega (arith, h);
@@ -96,19 +105,10 @@ module _ (at x y : ℕ) (xs ys : List ℕ) where
       → EntryFrom at (x ∷ xs) (y ∷ ys) (u ∷ v ∷ w ∷ row) (suc k) i
   behind {row} {k} {i} {u} {v} {w} e = record {
     differ-at = e .differ-at;
-    index-is = ap (λ (p : ℕ). getD (u ∷ v ∷ w ∷ row) p 0) (zeroth k) ∙ e .index-is;
-    first-is = ap (λ (p : ℕ). getD (u ∷ v ∷ w ∷ row) p 0) (one k) ∙ e .first-is;
-    second-is = ap (λ (p : ℕ). getD (u ∷ v ∷ w ∷ row) p 0) (two k) ∙ e .second-is;
+    index-is = ap (λ (p : ℕ). getD (u ∷ v ∷ w ∷ row) p 0) (entry-next k) ∙ e .index-is;
+    first-is = ap (λ (p : ℕ). getD (u ∷ v ∷ w ∷ row) p 0) (entry-on k 1) ∙ e .first-is;
+    second-is = ap (λ (p : ℕ). getD (u ∷ v ∷ w ∷ row) p 0) (entry-on k 2) ∙ e .second-is;
   }
-    where
-      zeroth : (k : ℕ) → 3 * suc k ≡ suc (suc (suc (3 * k)))
-      zeroth k = omega arith
-
-      one : (k : ℕ) → 3 * suc k + 1 ≡ suc (suc (suc (3 * k + 1)))
-      one k = omega arith
-
-      two : (k : ℕ) → 3 * suc k + 2 ≡ suc (suc (suc (3 * k + 2)))
-      two k = omega arith
 
   -- the entry of the first elements
   at-head : (row : List ℕ) → (x ≡ y → ⊥) → EntryFrom at (x ∷ xs) (y ∷ ys) (at ∷ x ∷ y ∷ row) 0 0
@@ -164,16 +164,13 @@ module _ (at x y : ℕ) (xs ys : List ℕ) where
   rising-more each before (yes e) = rw (same-head at x y xs ys e) before
   rising-more each before (no ne) = rw (other-head at x y xs ys ne) by
     where
-      next : (k : ℕ) → 3 * suc k ≡ suc (suc (suc (3 * k)))
-      next k = omega arith
-
       by : Rising (record { index = at; first = x; second = y } ∷ rest)
       by j zero l h = absurd (not-suc-le-zero l)
       by zero (suc k) l h =
           let s = each k (le-of-suc-le-suc h) in
           let e = s .is .index-is in
-          rw (next k) (omega (arith, e))
-      by (suc j) (suc k) l h = rw (next j, next k) (before j k (le-of-suc-le-suc l) (le-of-suc-le-suc h))
+          rw (entry-next k) (omega (arith, e))
+      by (suc j) (suc k) l h = rw (entry-next j, entry-next k) (before j k (le-of-suc-le-suc l) (le-of-suc-le-suc h))
 
 pub each-from : (at : ℕ) (xs ys : List ℕ) (k : ℕ) → k < length (differencesFrom at xs ys)
     → SomeIndex at xs ys (entryPlaces (differencesFrom at xs ys)) k
@@ -197,39 +194,37 @@ rising-from at (x ∷ xs) [] j k l h = absurd (not-suc-le-zero h)
 rising-from at (x ∷ xs) (y ∷ ys) j k l h =
     rising-more at x y xs ys (each-from (suc at) xs ys) (rising-from (suc at) xs ys) (ℕ-discrete x y) j k l h
 
--- ---- how many
+-- ---- from an index of both rows on
 module _ (xs ys : List ℕ) where
   abbrev left : ℕ → List Difference
   left at = differencesFrom at (drop at xs) (drop at ys)
 
-  ended : (at : ℕ) → length ys ≤ at → left at ≡ []
-  ended at h = ap (differencesFrom at (drop at xs)) (drop-of-length-le ys h) ∙ none-behind at (drop at xs)
+  pub left-ended : (at : ℕ) → (length xs ≤ at) ⊎ (length ys ≤ at) → left at ≡ []
+  unfolding differencesFrom
+  left-ended at (inl h) = ap (λ (l : List ℕ). differencesFrom at l (drop at ys)) (drop-of-length-le xs h)
+  left-ended at (inr h) = ap (differencesFrom at (drop at xs)) (drop-of-length-le ys h) ∙ none-behind at (drop at xs)
+
+  pub left-cut : (at : ℕ) → at < length xs → at < length ys
+      → left at ≡ differencesFrom at (getD xs at 0 ∷ drop (suc at) xs) (getD ys at 0 ∷ drop (suc at) ys)
+  left-cut at h l = rw (drop-cons xs at 0 h, drop-cons ys at 0 l)
 
   many-more : (at c : ℕ) → at < length xs → SoMany (DifferAt xs ys) (suc at) c (length (left (suc at)))
       → SoMany (DifferAt xs ys) at (suc c) (length (left at))
   many-more at c h more = by (decLt at (length ys)) (ℕ-discrete (getD xs at 0) (getD ys at 0))
     where
-      cut : at < length ys
-          → left at
-          ≡ differencesFrom at (getD xs at 0 ∷ drop (suc at) xs) (getD ys at 0 ∷ drop (suc at) ys)
-      cut l = rw (drop-cons xs at 0 h, drop-cons ys at 0 l)
-
       by : Dec (at < length ys) → Dec (getD xs at 0 ≡ getD ys at 0)
           → SoMany (DifferAt xs ys) at (suc c) (length (left at))
       by (yes l) (yes e) =
-          rw (cut l, same-head at (getD xs at 0) (getD ys at 0) (drop (suc at) xs) (drop (suc at) ys) e)
+          rw (left-cut at h l, same-head at (getD xs at 0) (getD ys at 0) (drop (suc at) xs) (drop (suc at) ys) e)
           (other (λ d. d .differ e) more)
       by (yes l) (no ne) =
-          rw (cut l, other-head at (getD xs at 0) (getD ys at 0) (drop (suc at) xs) (drop (suc at) ys) ne)
+          rw (left-cut at h l, other-head at (getD xs at 0) (getD ys at 0) (drop (suc at) xs) (drop (suc at) ys) ne)
           (such (record { first-goes = h; second-goes = l; differ = ne }) more)
       by (no g) e =
-          let here : length ys ≤ at = omega arith in
           let same : length (left (suc at)) ≡ length (left at) =
-          ap length (ended (suc at) (omega arith) ∙ sym (ended at here)) in
+          ap length (left-ended (suc at) (inr (omega arith)) ∙ sym (left-ended at (inr (omega arith)))) in
           subst (SoMany (DifferAt xs ys) at (suc c)) same (other (λ d. g (d .second-goes)) more)
 
   pub many-from : (c at : ℕ) → at + c ≡ length xs → SoMany (DifferAt xs ys) at c (length (left at))
-  unfolding differencesFrom
-  many-from zero at h =
-      rw (drop-of-length-le xs {i = at} (omega arith)) no-place
+  many-from zero at h = rw (left-ended at (inl (omega arith))) no-place
   many-from (suc c) at h = many-more at c (omega arith) (many-from c (suc at) (omega arith))

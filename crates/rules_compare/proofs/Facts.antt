@@ -4,6 +4,9 @@ use mathlib.Core.Path.{_≡_, refl}
 use mathlib.Core.List.{List, [], _∷_}
 use Prim.Native.Nat.{ℕ}
 use lib.ListN.{length}
+use Rattle.rules_reading.specs.Reading.{readingOf}
+use Rattle.rules_compare.specs.declared.Compared.{Compared}
+use Rattle.rules_compare.specs.Compared.{octetList, comparedOf}
 use Rattle.rules_compare.specs.Differences.{differencesFrom, differences, entryPlaces, laid}
 
 -- two rows of chips, the second one longer: they differ at 1 and at 3, and at 3 by an octet that is no chip
@@ -42,3 +45,11 @@ how-many = refl
 no-row : laid 0 (differences first second) ≡ []
 unfolding differencesFrom entryPlaces laid
 no-row = refl
+
+-- a kind that is none: both records have 1, and the chips are counted
+abbrev told : Compared → List ℕ
+told c = c .a .number ∷ c .b .number ∷ c .chips ∷ c .octets ∷ c .«n_a» ∷ c .«n_b» ∷ []
+
+no-kind : told (comparedOf 2 first second 4 4) ≡ 1 ∷ 1 ∷ 2 ∷ 0 ∷ 0 ∷ 0 ∷ []
+unfolding comparedOf octetList readingOf differencesFrom
+no-kind = refl

@@ -4,3 +4,4 @@ pub mod Shown
 pub mod Pairs
 pub mod Octets
 pub mod Itself
+pub mod Whole

@@ -1,6 +1,5 @@
 -- The payloads of two recordings, as they stand in the octet buffers.
 --     beside-is, other-is     the octets of each payload where both are accepted, by the numbers of the records
---     beside-fits             which are at most the room
 --     octets-are              the list of octets: that of the payloads in the buffers, or of nothing
 --     lengths-are, lengths-fit, list-is
 --                             the same from records and buffers that two reads answer and leave

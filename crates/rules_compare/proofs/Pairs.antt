@@ -1,6 +1,6 @@
 -- Lists of differences side by side.
 --     itself                      nothing differs from itself
---     fewest                      there are not more entries than either row has elements
+--     fewest, few-shown           there are not more entries than either row has elements
 --     exchanged                   rows exchanged: as many entries, and the same row with both octets exchanged
 --     gives-second, gives-first   equal lists and one row give the other, as far as all go
 -- Assumes nothing.
@@ -11,9 +11,9 @@ use native.Mathlib.Decide.{decLt, ℕ-discrete}
 use native.Mathlib.Omega.{arith}
 use lib.ListN.{length, getD}
 use Rattle.rules_compare.specs.Differences.{Difference, differencesFrom, differences, entryPlaces, laid}
-use Rattle.rules_compare.specs.Plain.{Lists, Exchanged}
-use Rattle.rules_compare.proofs.Entries.{same-head, other-head, none-behind}
-use Rattle.rules_compare.proofs.Shown.{fit-at, zeros-at}
+use Rattle.rules_compare.specs.Plain.{Lists, Shows, Exchanged}
+use Rattle.rules_compare.proofs.Entries.{same-head, other-head, none-behind, entry-next, entry-on}
+use Rattle.rules_compare.proofs.Shown.{fit-at, zeros-at, shows, shows-once}
 
 -- ---- one row with itself
 itself-from : (at : ℕ) (xs : List ℕ) → differencesFrom at xs xs ≡ []
@@ -50,6 +50,13 @@ fewest-from at (x ∷ xs) (y ∷ ys) = by (ℕ-discrete x y) (fewest-from (suc a
 pub fewest : (xs ys : List ℕ) → (length (differences xs ys) ≤ length xs) × (length (differences xs ys) ≤ length ys)
 fewest xs ys = fewest-from 0 xs ys
 
+pub few-shown : {xs ys row : List ℕ} {places entries : ℕ} → Shows xs ys places entries row
+    → (entries ≤ length xs) × (entries ≤ length ys)
+few-shown {xs} {ys} {row} {places} v =
+    let n = shows-once v (shows xs ys places) .0 in
+    let f = fewest xs ys in
+    (omega (arith, n, f .0), omega (arith, n, f .1))
+
 -- ---- rows exchanged
 abbrev turned : Difference → Difference
 turned d = record { index = d .index; first = d .second; second = d .first }
@@ -78,16 +85,11 @@ unfolding entryPlaces
 turned-places [] k = (refl, refl, refl)
 turned-places (d ∷ ds) zero = (refl, refl, refl)
 turned-places (d ∷ ds) (suc k) =
-    let t = turned-places ds k in (rw (next k) (t .0), rw (one-on k, two-on k) (t .1), rw (one-on k, two-on k) (t .2))
-  where
-    next : (k : ℕ) → 3 * suc k ≡ suc (suc (suc (3 * k)))
-    next k = omega arith
-
-    one-on : (k : ℕ) → 3 * suc k + 1 ≡ suc (suc (suc (3 * k + 1)))
-    one-on k = omega arith
-
-    two-on : (k : ℕ) → 3 * suc k + 2 ≡ suc (suc (suc (3 * k + 2)))
-    two-on k = omega arith
+    let t = turned-places ds k in (
+      rw (entry-next k) (t .0),
+      rw (entry-on k 1, entry-on k 2) (t .1),
+      rw (entry-on k 1, entry-on k 2) (t .2),
+    )
 
 pub exchanged : (xs ys : List ℕ) (places : ℕ)
     → (length (differences ys xs) ≡ length (differences xs ys))

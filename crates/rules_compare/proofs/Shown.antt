@@ -1,7 +1,7 @@
 -- What comparing two rows answers and leaves, in plain numbers: the definitions' list and row do as `Shows` says, and
 -- nothing else does.
 --     laid-fits, laid-zeros    a list that fits, and one that does not; by place fit-at, zeros-at
---     laid-long                a row keeps its length
+--     none-laid                an empty list leaves zeros
 --     shows                    the definitions' number and row
 --     shows-once               there is one number and one row
 -- Assumes nothing.
@@ -16,7 +16,7 @@ use lib.ListN.{length, getD, replicate, length-append, length-replicate, List·g
 use lib.Seq.{ext-getD}
 use Rattle.base.proofs.SoMany.{many-once}
 use Rattle.rules_compare.specs.Differences.{Difference, differences, entryPlaces, laid}
-use Rattle.rules_compare.specs.Plain.{EntryIs, Listed, Lists, Shows}
+use Rattle.rules_compare.specs.Plain.{EntryIs, Listed, Lists, ZerosFrom, Shows}
 use Rattle.rules_compare.proofs.Entries.{
   places-long,
   EntryFrom,
@@ -47,7 +47,7 @@ padded [] n p = zero-at n p
 padded (x ∷ l) n zero = refl
 padded (x ∷ l) n (suc p) = padded l n p
 
-pub laid-long : (places : ℕ) (ds : List Difference) → length (laid places ds) ≡ places
+laid-long : (places : ℕ) (ds : List Difference) → length (laid places ds) ≡ places
 laid-long places ds = by (decLt places (3 * length ds))
   where
     by : Dec (places < 3 * length ds) → length (laid places ds) ≡ places
@@ -65,6 +65,10 @@ fit-at places ds h p =
 
 pub zeros-at : (places : ℕ) (ds : List Difference) → places < 3 * length ds → (p : ℕ) → getD (laid places ds) p 0 ≡ 0
 zeros-at places ds h p = ap (λ (l : List ℕ). getD l p 0) (laid-zeros places ds h) ∙ zero-at places p
+
+pub none-laid : (places : ℕ) (ds : List Difference) → ds ≡ [] → ZerosFrom (laid places ds) 0
+unfolding entryPlaces
+none-laid places ds e p h = rw e (fit-at places [] (omega arith) p)
 
 -- ---- the definitions
 module _ (xs ys : List ℕ) (places : ℕ) where
@@ -158,7 +162,7 @@ module _ {xs ys : List ℕ} {entries : ℕ} {row row′ : List ℕ} (l : Lists x
       )
 
   -- a place below the entries' end is one of an entry's three
-  pub place-once : (p : ℕ) → p < 3 * entries → getD row p 0 ≡ getD row′ p 0
+  place-once : (p : ℕ) → p < 3 * entries → getD row p 0 ≡ getD row′ p 0
   place-once p h = by (p / 3) (p % 3) (omega arith) (omega arith)
     where
       by : (k r : ℕ) → p ≡ 3 * k + r → r < 3 → getD row p 0 ≡ getD row′ p 0

@@ -2,7 +2,7 @@
 -- numbers. Chips and octets alike.
 -- Definitions only. Assumes nothing.
 use Prim.Native.Nat.{ℕ, suc, _-_, _*_}
-use mathlib.Core.Bool.{cond}
+use mathlib.Core.Bool.{Bool, cond, not}
 use mathlib.Core.List.{List, [], _∷_, _++_}
 use lib.Dec.{eqb, ltb}
 use lib.ListN.{length, replicate}
@@ -29,8 +29,12 @@ unfoldable pub entryPlaces : List Difference → List ℕ
 entryPlaces [] = []
 entryPlaces (d ∷ ds) = d .index ∷ d .first ∷ d .second ∷ entryPlaces ds
 
+-- a list fits into so many places
+abbrev pub fits : ℕ → List Difference → Bool
+fits places ds = not (ltb places (3 * length ds))
+
 -- a row of so many places: the entries and then zeros where they fit, else only zeros
 unfoldable pub laid : ℕ → List Difference → List ℕ
 laid places ds =
-    cond (ltb places (3 * length ds)) (replicate places 0)
-    (entryPlaces ds ++ replicate (places - 3 * length ds) 0)
+    cond (fits places ds) (entryPlaces ds ++ replicate (places - 3 * length ds) 0)
+    (replicate places 0)

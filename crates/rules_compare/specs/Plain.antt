@@ -4,8 +4,10 @@
 use Prim.Native.Nat.{ℕ, _+_, _*_, _≤_, _<_}
 use mathlib.Core.Path.{_≡_}
 use mathlib.Core.List.{List}
-use lib.ListN.{length, getD}
+use mathlib.Core.Logic.{_⊎_}
+use lib.ListN.{length, getD, take}
 use Rattle.base.specs.SoMany.{SoMany}
+use Rattle.rules_compare.specs.declared.Compared.{Compared}
 
 -- both rows go as far as index i, and differ there
 pub record DifferAt (xs ys : List ℕ) (i : ℕ) : Type 0 where
@@ -37,7 +39,7 @@ abbrev pub ZerosFrom : List ℕ → ℕ → Type 0
 ZerosFrom row at = (p : ℕ) → at ≤ p → getD row p 0 ≡ 0
 
 -- what comparing two rows answers and leaves: how many indexes differ, and a row of so many places, which has the list
--- and then zeros where three places an entry are not more, and else only zeros
+-- and then zeros if three places an entry are at most the row's places, and else only zeros
 pub record Shows (xs ys : List ℕ) (places entries : ℕ) (row : List ℕ) : Type 0 where
   pub exact : SoMany (DifferAt xs ys) 0 (length xs) entries
   pub whole : length row ≡ places
@@ -50,3 +52,12 @@ Exchanged row row′ k =
     (getD row′ (3 * k) 0 ≡ getD row (3 * k) 0)
     × (getD row′ (3 * k + 1) 0 ≡ getD row (3 * k + 2) 0)
     × (getD row′ (3 * k + 2) 0 ≡ getD row (3 * k + 1) 0)
+
+-- the two payloads, by the records and the buffers: what is answered and left of them where both are accepted, and
+-- where one is not
+pub record ShowsPayloads (places : ℕ) (c : Compared) (octets first second : List ℕ) : Type 0 where
+  pub both : c .a .number ≡ 0 → c .b .number ≡ 0
+      → Shows (take (c .a .n) first) (take (c .b .n) second) places (c .octets) octets
+      × (c .«n_a» ≡ c .a .n) × (c .«n_b» ≡ c .b .n)
+  pub not-both : (c .a .number ≡ 0 → ⊥) ⊎ (c .b .number ≡ 0 → ⊥)
+      → (c .octets ≡ 0) × (c .«n_a» ≡ 0) × (c .«n_b» ≡ 0) × (length octets ≡ places) × ZerosFrom octets 0

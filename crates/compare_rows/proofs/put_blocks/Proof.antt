@@ -54,5 +54,5 @@ put-blocks-spec =
     tie.close
     (tie.spec
     Inv-loop μ-loop loop-holds (λ c. omega arith) in-block-requires (λ c. omega (arith, c .in-block .ensures .0))
-    sub-if1 (λ c. omega (arith, c .in-block .ensures .0)) (λ c. search needs) returns put-block-requires (λ c. omega arith) (λ c. omega arith) loop-again (λ c. search needs)
-    returns-2)
+    sub-if1 (λ c. omega (arith, c .in-block .ensures .0)) (λ c. search needs) returns put-block-requires
+    (λ c. omega arith) (λ c. omega arith) loop-again (λ c. search needs) returns-2)
