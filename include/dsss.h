@@ -42,7 +42,9 @@
  *           call leaves nothing else, so nothing old can be shown. ONE CALL IS OTHERWISE:
  *           dsss_store_change reads the store that it is lent, changes one octet of it at most, and,
  *           refused, leaves every octet as it was.
- * Places    Places and offsets are chip indexes from the recording's start, which is 0.
+ * Places    The place of a refusal and an offset are chip indexes from the recording's start, which is 0;
+ *           so is the index in a list of chips. In a list of octets it is an index into the payload. The
+ *           places of a row of numbers are its elements.
  */
 #ifndef DSSS_H
 #define DSSS_H
@@ -428,26 +430,27 @@ dsss_reason dsss_why(uint64_t kind, const uint8_t *chips, size_t chips_len, uint
  *   a          the first recording, as for dsss_read_hard                 refusals 8 to 16, in its record
  *   b          the second recording, likewise; the two may be of different lengths
  *                                                                         refusals 8 to 16, in its record
- *   chip_row   lent, for the chips that differ; DSSS_LIST_PLACES of the shorter recording's chips always
- *              do, and it may be empty                                    no refusal
- *   octet_row  lent, for the octets that differ; DSSS_LIST_PLACES(DSSS_PAYLOAD_MAX) places always do, and it
- *              may be empty                                               no refusal
+ *   chip_row   lent, for the chips that differ; DSSS_LIST_PLACES of the shorter recording's chips are always
+ *              enough, and it may be empty if only the number is wanted   no refusal
+ *   octet_row  lent, for the octets that differ; DSSS_LIST_PLACES(DSSS_PAYLOAD_MAX) places are always enough,
+ *              and it may be empty likewise                               no refusal
  *   octets_a   lent, for the first payload; DSSS_PAYLOAD_MAX always do    refusal 17, in its record
  *   octets_b   lent, for the second payload, likewise                     refusal 17, in its record
  * Answer:  both records as dsss_read_hard answers them; how many chips differ, as far as the shorter recording
- *          goes: whole recordings, not frames, so that an index of a.used or more is behind the first frame,
- *          and every octet counts, 5 to 255 too; how many octets differ, as far as the shorter payload goes,
- *          and both payloads' octets. Of payloads of different lengths the rest of the longer one is not
- *          listed: n_a and n_b differ then. Receivers need not share a phase: where one's phases are all
- *          turned, every chip differs and no octet does.
+ *          goes: whole recordings, not frames, so that, if a is accepted, an index of a.used or more is behind
+ *          its frame, and every octet counts, 5 to 255 too; how many octets differ, as far as the shorter
+ *          payload goes, and both payloads' octets. Of payloads of different lengths the rest of the longer
+ *          one is not listed: n_a and n_b differ then. Receivers need not share a phase: where all of one's
+ *          phases are turned by the same quarters, every chip that is not lost at both differs, and no octet
+ *          does.
  * Refused: a recording that is refused has its number in its own record; octets, n_a and n_b are then 0, and
  *          the chips are compared all the same. The call itself is never refused.
- * Buffer:  chip_row[] is the list and then 0s. A LIST THAT DOES NOT FIT LEAVES ITS ROW ALL 0s, not a part
- *          of it; the other list is not touched by that, and the number of entries is told in full:
- *          chips > chip_row_len / 3 says so, and the call may be made again with that many entries' places.
- *          octet_row[] likewise, with octets. octets_a[] and octets_b[] are as dsss_read_hard leaves them:
- *          a recording that is refused has all 0s in its own, and the other keeps its payload, of a.n or
- *          b.n octets.
+ * Buffer:  chip_row[] is the list and then 0s. A LIST THAT DOES NOT FIT LEAVES ITS ROW ALL 0s: no part of the
+ *          list stands there. The other list is as it would be anyway. The number of entries is told in full:
+ *          DSSS_LIST_PLACES(chips) > chip_row_len says that the list did not fit, and a second call with so
+ *          many places has it. octet_row[] likewise, with octets. octets_a[] and octets_b[] are as
+ *          dsss_read_hard leaves them: a recording that is refused has all 0s in its own, and the other keeps
+ *          its payload, of a.n or b.n octets.
  * Proved:  crates/dsss, dsss_compare, record Compares: answer, chips, octets, first and second. */
 dsss_compared dsss_compare(uint64_t kind, const uint8_t *a, size_t a_len, const uint8_t *b, size_t b_len,
                            uint64_t *chip_row, size_t chip_row_len, uint64_t *octet_row,

@@ -107,16 +107,18 @@ static void show_list(const char *of, const uint64_t *row, size_t places, uint64
 {
     if (entries == 0)
         return;
-    if (entries > places / 3) {
+    if (DSSS_LIST_PLACES(entries) > places) {
         printf("    %s: too many to list\n", of);
         return;
     }
     printf("    %s", of);
     for (size_t k = 0; k < entries; k++) {
-        printf("%s %" PRIu64 " (", k == 0 ? "" : ",", row[3 * k]);
-        show(row[3 * k + 1]);
+        const uint64_t *entry = row + DSSS_LIST_PLACES(k);
+
+        printf("%s %" PRIu64 " (", k == 0 ? "" : ",", entry[0]);
+        show(entry[1]);
         printf(", ");
-        show(row[3 * k + 2]);
+        show(entry[2]);
         putchar(')');
     }
     puts("");
@@ -175,7 +177,7 @@ static void show_compared(const char *what, size_t chip_places)
     dsss_compared compared = compare(chip_places);
 
     show_numbers(what, compared);
-    if (compared.chips > chip_places / 3 && compared.chips <= LISTED) {
+    if (DSSS_LIST_PLACES(compared.chips) > chip_places && compared.chips <= LISTED) {
         printf("    the list of chips does not fit %zu places, which are %s; asked again with %zu\n", chip_places,
                all_zeros(chip_places) ? "all 0" : "NOT ALL 0", DSSS_LIST_PLACES(compared.chips));
         chip_places = DSSS_LIST_PLACES(compared.chips);
@@ -248,7 +250,8 @@ static void turned(void)
 
 void compare_receivers(const char *caption, const char *other)
 {
-    puts("\nTwo receivers over one table: what differs, as index (first, second)");
+    puts("\nTwo receivers over one table: what differs, as index (first, second); a chip is its phase in quarter "
+         "turns, or lost");
     if (hear(&first, caption) && hear(&second, caption))
         spoiled();
     if (hear(&first, caption) && hear(&second, caption))

@@ -365,7 +365,7 @@ union answer {
     uint64_t number;
 };
 
-enum { LENT_MOST = 4 }; /* rows lent for writing; but of 14 there is one at most */
+enum { LENT_MOST = 4 }; /* rows lent for writing: op 14 has so many, every other at most one */
 
 /* A call: its numbers as they are in the request, its report, its rows for reading and those lent for writing. The
  * second row of 8 is the list, and its recordings are rows of their own. */

@@ -1,5 +1,5 @@
 // Two rows of octets compared, as far as the shorter goes, 64 octets at a time: the entries of a block are put where
-// they have room, and where a block's have none the rest is only counted. Knows nothing of radio.
+// they have room; from the first block on whose entries have none, entries are only counted. Knows nothing of radio.
 ghost use mathlib.Core.Path.{_≡_};
 ghost use Prim.Native.Nat.{_+_, _*_, _≤_, _<_};
 ghost use lib.ListN.{length};
@@ -41,7 +41,7 @@ fn in_part(a: &[u8], b: &[u8], from: usize, to: usize) -> usize
     n
 }
 
-// How many differ from an index on.
+// How many differ from an index up to the end, 64 octets at a time.
 fn how_many(a: &[u8], b: &[u8], from: usize, end: usize) -> usize
     requires { ⌜ (from ≤ end) × (end ≤ length (now a)) × (end ≤ length (now b)) ⌝ }
     ensures answer { λ r. ⌜ Between (now (a .entry)) (now (b .entry)) from end r ⌝ }

@@ -1,7 +1,7 @@
 // The board's C interface: each call is one of the proved functions below it, exported. include/dsss.h declares
 // them for C, by their names without a number: a symbol keeps its parameters and its record for ever. A contract
 // names the answer, and the lent buffer at the end where there is one, in one record: `answer` and `chips`, or `answer`
-// and `octets`; of four lent rows each has its own member.
+// and `octets`; where four rows are lent, each has a member of its own.
 ghost use mathlib.Core.List.{map};
 ghost use lib.ListN.{length};
 ghost use Rattle.promises.specs.Calls.{Wrote, ReadHard, ReadSoft, ReadBytes, ReadFront, Finds};
@@ -114,7 +114,7 @@ pub extern "C" fn dsss_why(kind: u64, chips: &[u8], room: u64) -> Reason
 }
 
 // Two hard recordings of one kind, both read and compared: the chips that differ and the octets that differ, each list
-// in a row of its own, and zeros behind it, or everywhere where it does not fit.
+// in a row of its own, with zeros behind it; a list that does not fit leaves only zeros.
 #[no_mangle]
 pub extern "C" fn dsss_compare(
     kind: u64,

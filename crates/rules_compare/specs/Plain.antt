@@ -15,14 +15,14 @@ pub record DifferAt (xs ys : List ℕ) (i : ℕ) : Type 0 where
   pub second-goes : i < length ys
   pub differ : getD xs i 0 ≡ getD ys i 0 → ⊥
 
--- entry k of a row is index i: the rows differ there, and what each has there stands behind the index
+-- entry k of a row is that of index i: the rows differ there, and what each has there stands behind the index
 pub record EntryIs (xs ys row : List ℕ) (k i : ℕ) : Type 0 where
   pub differ-at : DifferAt xs ys i
   pub index-is : getD row (3 * k) 0 ≡ i
   pub first-is : getD row (3 * k + 1) 0 ≡ getD xs i 0
   pub second-is : getD row (3 * k + 2) 0 ≡ getD ys i 0
 
--- some entry of a row is index i
+-- some entry of a row is that of index i
 pub record Listed (xs ys row : List ℕ) (entries i : ℕ) : Type 0 where
   pub entry : ℕ
   pub among : entry < entries

@@ -12,7 +12,7 @@ ghost use Rattle.rules_compare.specs.Compared.{octetList, comparedOf};
 use rules_calls::Record;
 use rules_compare::Compared;
 
-// A number of octets where two recordings are accepted, by the numbers of their records, else 0.
+// n if two records have number 0, else 0.
 fn if_both(one: u64, other: u64, n: u64) -> u64
     ensures answer { λ r. ⌜ r ≡ cond (eqb one 0 && eqb other 0) n 0 ⌝ }
 {
@@ -25,7 +25,7 @@ fn if_both(one: u64, other: u64, n: u64) -> u64
     n
 }
 
-// Where the payloads differ that stand at the front of two buffers, so many octets each; how many do.
+// Lists where the first n octets of one buffer and the first m of another differ; answers how many do.
 fn list_payloads(first: &[u8], n: usize, second: &[u8], m: usize, row: &mut [u64]) -> u64
     requires { ⌜ (n ≤ length (now first)) × (m ≤ length (now second)) ⌝ }
     ensures answer { λ r. ⌜ r ≡ length (differences (take n (now (first .entry))) (take m (now (second .entry)))) ⌝ }

@@ -74,7 +74,7 @@ pub enum Compared {
         bits: u32,
         fits: bool,
     },
-    /// Chips differ behind both frames, or the frames are alike and nothing else is.
+    /// Chips differ behind both frames; alone: only there.
     BehindFrames {
         alone: bool,
     },
@@ -115,8 +115,8 @@ pub enum Frames {
     TwoRates,
 }
 
-/// The entries of a list by the places of its row: three times as many, one more or two, one or two too few, three, a
-/// row of none, and much room or little.
+/// The entries of a list by the places of its row: three times as many, one more or two, one or two too few, an entry
+/// too few, no places at all, and much room or little.
 #[derive(Clone, Copy, PartialEq, Eq, PartialOrd, Ord)]
 pub enum Fit {
     Exactly,
@@ -310,7 +310,8 @@ impl Compares {
                 Ok(Vec::new())
             }
             Call::Write { kind, rate, payload, .. } if answer.numbers[0] == 0 => {
-                let chips = answer.buffer[..answer.numbers[1] as usize].to_vec();
+                let frame = answer.buffer.get(..answer.numbers[1] as usize);
+                let chips = frame.ok_or("a write tells of more chips than its buffer has")?.to_vec();
                 self.wrote.swap(0, 1);
                 self.wrote[1] = Some(Wrote { kind: *kind, rate: *rate, payload: payload.clone(), chips });
                 Ok(Vec::new())

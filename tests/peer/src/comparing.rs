@@ -8,7 +8,7 @@ use crate::reading::{read, Read};
 /// An entry of a list: the index, the octet of the first, and the octet of the second.
 pub type Entry = [u64; 3];
 
-/// The answer: the record of each reading, how many entries each list has, and the octets of both payloads.
+/// The answer: the record of each reading, how many entries each list has, and how many octets each payload has.
 pub struct Comparison {
     pub records: [Read; 2],
     pub chips: u64,

@@ -42,7 +42,7 @@ const fn owed(op: &'static str, part: Part, shown: &'static str, least: &'static
     Owed { op, part, shown, least }
 }
 
-const OWED: [Owed; 41] = [
+const OWED: [Owed; 42] = [
     owed(
         "write",
         Part::Front,
@@ -246,9 +246,10 @@ const OWED: [Owed; 41] = [
         "compare",
         Part::Payload,
         "payload to 300 octets",
-        &[(0, 1_250, 850), (9, 45, 30), (10, 30, 40), (16, 90, 65), (17, 170, 120)],
+        &[(0, 1_250, 850), (9, 45, 30), (10, 30, 40), (16, 75, 65), (17, 170, 120)],
     ),
-    owed("compare", Part::LongPayload, "payload above 300", &[(0, 45, 30), (9, 3, 4), (16, 3, 5), (17, 12, 6)]),
+    owed("compare", Part::LongPayload, "payload above 300", &[(0, 45, 30), (9, 3, 4), (16, 1, 5), (17, 7, 6)]),
+    owed("compare", Part::FarPlace, "places from 65,536", &[(9, 0, 2)]),
     // No refusal of a recording: these are counted.
     owed("report add", Part::Front, "one recording more", &[(0, 2_500, 0), (31, 1_000, 0)]),
     owed("report list", Part::Front, "lists", &[(0, 120, 0), (7, 22, 0), (31, 24, 0)]),

@@ -111,9 +111,11 @@ fn receivers(out: &mut Out, spoiler: &mut Spoiler, (kind, rate): (Kind, Rate), n
 /// Shows: records or octets that are not the reads', and differences missed or made up, in damage of every sort.
 pub fn compare_receivers(out: &mut Out) {
     let mut spoiler = Spoiler::new(&mut out.random);
-    let long = [(Rate::Mbit11, 1500), (Rate::Mbit11, 4095), (Rate::Mbit5_5, 1400), (Rate::Mbit2, 700)];
+    let long =
+        [(Rate::Mbit11, 1500), (Rate::Mbit11, 4095), (Rate::Mbit5_5, 1400), (Rate::Mbit2, 1500), (Rate::Mbit1, 800)];
     for (heard, kind) in HEARD.into_iter().flat_map(|heard| Kind::BOTH.map(|kind| (heard, kind))) {
-        long.into_iter().for_each(|(rate, n)| receivers(out, &mut spoiler, (kind, rate), n, heard));
+        let of_kind = long.into_iter().filter(|(rate, _)| kind.has(*rate));
+        of_kind.for_each(|(rate, n)| receivers(out, &mut spoiler, (kind, rate), n, heard));
     }
     for pair in pairs() {
         for case in 0..out.cases(96) {
@@ -216,6 +218,11 @@ pub fn compare_frames(out: &mut Out) {
             let n = out.random.within(1, 40);
             let payloads = [out.random.octets(n), out.random.octets(n)];
             frames(out, kind, pair, payloads);
+            for n in [63, 64, 65, 128, 150] {
+                let payload = out.random.octets(n);
+                let last = changed(&payload, &[n - 1], &mut out.random);
+                frames_beside(out, kind, pair, [payload, last], 3);
+            }
         }
     }
     let fast = [Rate::Mbit11; 2];
@@ -233,8 +240,14 @@ pub fn compare_frames(out: &mut Out) {
     }
     for n in [1, 2, 64, 255, 256, 257, 700, 4095] {
         let payload = out.random.octets(n);
-        let all = payload.iter().map(|octet| octet ^ out.random.within(1, 255) as u8).collect();
-        frames(out, Kind::Short, fast, [payload, all]);
+        let all: Vec<u8> = payload.iter().map(|octet| octet ^ out.random.within(1, 255) as u8).collect();
+        for places in [0, 2, 3 * n - 1, 3 * n] {
+            frames_beside(out, Kind::Short, fast, [payload.clone(), all.clone()], places);
+        }
+        for place in [0, n / 2, n.min(3001) - 1, n - 1] {
+            let other = changed(&payload, &[place], &mut out.random);
+            frames_beside(out, Kind::Short, fast, [payload.clone(), other], 3);
+        }
     }
 }
 

@@ -117,7 +117,7 @@ fn sizes_about(out: &mut Out, differ: usize) {
 /// Shows: a list cut at what fits, one that is said not to fit, one that takes the other with it, a row not cleared.
 pub fn compare_rows(out: &mut Out) {
     [0, 1, 2, 9].into_iter().for_each(|differ| sizes_about(out, differ));
-    for entries in 0..=300 {
+    for entries in (0..=300).chain([511, 512, 513, 1023, 1024, 1025, 4095, 4096, 4097]) {
         let (len, first) = (entries + 70, out.random.below(70));
         let chips: Vec<u8> = (0..len).map(|_| out.random.below(256) as u8).collect();
         let mut other = chips.clone();
@@ -168,7 +168,8 @@ fn far_chips(out: &mut Out, wide: usize) {
     let mut second = first.clone();
     second.resize(first.len() + out.random.below(100), 0);
     let powers = [8, 10, 15, 16, 17, 19, 20, 23, 24].into_iter().map(|bits| 1 << bits);
-    let about = powers.flat_map(|place: usize| [place - 1, place, place + 1]).chain([first.len() - 1]);
+    let about =
+        powers.flat_map(|place: usize| [place - 1, place, place + 1]).chain([first.len() - 20, first.len() - 1]);
     let mut entries = 0;
     for place in about.filter(|place| *place < first.len()) {
         second[place] ^= out.random.within(1, 7) as u8;
@@ -178,11 +179,47 @@ fn far_chips(out: &mut Out, wide: usize) {
     out.alone(Call::Compare(CompareCall::new(1, recordings, [3 * entries, 9], [3, 3])));
 }
 
-/// Recordings of which all chips differ: the list fits, or is a place short.
-fn all_differ(out: &mut Out, chips: usize, short: usize) {
+/// Recordings of which all chips differ, with so many places for their list.
+fn all_differ(out: &mut Out, chips: usize, places: usize) {
     let first: Vec<u8> = (0..chips).map(|_| out.random.below(256) as u8).collect();
     let second = first.iter().map(|octet| octet ^ out.random.within(1, 255) as u8).collect();
-    out.alone(Call::Compare(CompareCall::new(0, [first, second], [3 * chips - short, 0], [2, 2])));
+    out.alone(Call::Compare(CompareCall::new(0, [first, second], [places, 0], [2, 2])));
+}
+
+/// A frame with zeros behind it, 2^16 chips and more, beside itself, in rows of their own and with chips behind it.
+fn one_twice(out: &mut Out) {
+    let mut chips = Draft::random(Kind::Short, Rate::Mbit11, 3, &mut out.random).chips();
+    chips.resize(70_000, 0);
+    let more = [chips.clone(), vec![1; 9]].concat();
+    for other in [chips.clone(), more] {
+        out.alone(Call::Compare(CompareCall::new(1, [chips.clone(), other], [3, 3], [3, 3])));
+    }
+}
+
+/// A frame of 2^16 chips and more beside itself with an unusable chip about its end, either first.
+fn refused_far(out: &mut Out) {
+    let chips = Draft::random(Kind::Long, Rate::Mbit1, 800, &mut out.random).chips();
+    for place in [65_535, 65_536, chips.len() - 1] {
+        let mut other = chips.clone();
+        other[place] = 9;
+        let call = CompareCall::new(0, [chips.clone(), other], [3, 0], [800, 800]);
+        out.alone(Call::Compare(call.exchanged()));
+        out.alone(Call::Compare(call));
+    }
+}
+
+/// Wide rows where one recording is refused, or both.
+fn refused_wide(out: &mut Out) {
+    let good = Draft::random(Kind::Short, Rate::Mbit11, 2, &mut out.random).chips();
+    let cut = good[..900].to_vec();
+    for recordings in [[good.clone(), cut.clone()], [cut.clone(), good], [cut.clone(), cut]] {
+        for row in 0..4 {
+            let mut lens = [3, 6, 2, 2];
+            lens[row] = (1 << 16) + 1;
+            let (places, rooms) = ([lens[0], lens[1]], [lens[2], lens[3]]);
+            out.over_aa(Call::Compare(CompareCall::new(1, recordings.clone(), places, rooms)));
+        }
+    }
 }
 
 /// Rows of so many elements and a few more, one of the four after the other.
@@ -201,9 +238,13 @@ fn wide_rows(out: &mut Out, wide: usize) {
 pub fn compare_wide(out: &mut Out) {
     WIDTHS.into_iter().for_each(|bits| far_chips(out, 1 << bits));
     for chips in [255, 256, 257, 21_845, 21_846, 65_535, 65_536, 65_537] {
-        all_differ(out, chips, 0);
-        all_differ(out, chips, 1);
+        [3 * chips, 3 * chips - 1, 5, 0].into_iter().for_each(|places| all_differ(out, chips, places));
     }
-    all_differ(out, (1 << 20) + 3, 1);
+    all_differ(out, (1 << 20) + 3, 3 * (1 << 20) + 9);
+    all_differ(out, (1 << 22) + 3, 0);
+    all_differ(out, (1 << 24) + 3, 5);
+    one_twice(out);
+    refused_wide(out);
+    refused_far(out);
     WIDTHS.into_iter().for_each(|bits| wide_rows(out, 1 << bits));
 }
