@@ -66,8 +66,8 @@ extern "C" {
 
 /* The symbols of the calls. C and C++ write the plain names; what goes by symbols, as another language
  * or a debugger does, finds these. dsss_read_front, dsss_find, dsss_why, dsss_compare, the three calls of
- * the report and the three of the store are their own symbols; dsss_compare answers two dsss_record and
- * gets a new one when these change. */
+ * the report and the three of the store are their own symbols. dsss_compare answers two records of the type
+ * dsss_record, and gets a new symbol when that type changes. */
 #define dsss_write dsss_write_2
 #define dsss_read_hard dsss_read_hard_3
 #define dsss_read_soft dsss_read_soft_3
