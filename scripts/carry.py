@@ -15,7 +15,7 @@ import sys
 
 ROW = re.compile(r'^\| `([^`]+)` \| `([^`]+)` \| (renamed|joined|moved|named) \|', re.M)
 CITED = re.compile(r'Rattle·([a-z_0-9]+)(·specs|·proofs)?\.(specs|proofs)\.([\w·]+)')
-STACKED = re.compile(r'^([ +-]?)([a-z_]+):((?: [a-z_]+)*)$', re.M)
+STACKED = re.compile(r'^([ +-]?)([a-z_0-9]+):((?: [a-z_0-9]+)*)$', re.M)
 TAGGED = re.compile(r'^(\s*(?:--|//|#)? ?(?:with|for): )(.*)$', re.M)
 TEXTS = ('.antt', '.rt', '.edit', '.md', '.patch', '.diff')
 

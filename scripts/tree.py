@@ -87,8 +87,8 @@ def check_crates():
         own = [p for p in tracked() if p.startswith(f'crates/{name}/') and p.endswith(('.rt', '.antt'))]
         text = '\n'.join(re.sub(r'(--|//)[^\n]*', '', text_of(p)) for p in own)
         own_modules = set(re.findall(r'^(?:pub )?mod (\w+);', text, re.M))
-        called = set(re.findall(r'\b([a-z_]+)::', text)) - own_modules
-        used = set(re.findall(r'Rattle·([a-z_]+)\b', text)) | called
+        called = set(re.findall(r'\b([a-z_0-9]+)::', text)) - own_modules
+        used = set(re.findall(r'Rattle·([a-z_0-9]+)\b', text)) | called
         for dep in deps:
             if dep not in used:
                 faults.append(f'crates.txt: {name} does not use {dep}')

@@ -1,5 +1,6 @@
 // The header's six octets: what they tell a reader, and those that a writer sends.
 use rules_calls::Front;
+use rules_calls::Reader;
 use rules_calls::Refusal;
 use rules_calls::Told;
 use rules_frame::Kind;
@@ -14,7 +15,7 @@ ghost use Rattle.rules_rates.specs.Rates.{isCode, rateOf, wholeOctets};
 ghost use Rattle.rules_bits.specs.Bits.{numberOf, highestFirst, octetBits};
 ghost use Rattle.rules_bits.specs.Crc.{crcBits};
 ghost use Rattle.rules_frame.specs.Frame.{sfdOf, goesWith, headerBits, sentHeader};
-ghost use Rattle.rules_calls.specs.Headers.{serviceAllowed, ours, sameBits, fieldsOf, headerOf};
+ghost use Rattle.rules_calls.specs.Headers.{serviceAllowed, acceptedBy, sameBits, fieldsOf, headerOf};
 ghost use Rattle.common_header.specs.Code.{octetsTold};
 
 mod crc;
@@ -85,15 +86,40 @@ fn signal_allowed(k: Kind, code: u64) -> bool
     common_kinds::goes_with(k, rules_rates::rate_of(code))
 }
 
-// What the three fields tell: refusals 13, 14 and 15, in this order.
-fn fields_of(k: Kind, signal: u8, service: u8, length: usize) -> Front
+// 13: whether a reader accepts SIGNAL.
+fn signal_accepted(by: Reader, k: Kind, code: u64) -> bool
+    ensures answer { λ b. ⌜ b ≡ acceptedBy by .signals k code ⌝ }
+{
+    match by {
+        Reader::Ours => signal_allowed(k, code),
+        Reader::Of1997 => {
+            if code == 10 {
+                return true;
+            }
+            code == 20
+        }
+    }
+}
+
+// 14: whether a reader accepts SERVICE.
+fn service_accepted(by: Reader, r: Rate, service: u8) -> bool
+    ensures answer { λ b. ⌜ b ≡ acceptedBy by .services r service ⌝ }
+{
+    match by {
+        Reader::Ours => service_allowed(r, service),
+        Reader::Of1997 => service == 0,
+    }
+}
+
+// What the three fields tell a reader: refusals 13, 14 and 15, in this order.
+fn fields_of(by: Reader, k: Kind, signal: u8, service: u8, length: usize) -> Front
     requires { ⌜ length < 65536 ⌝ }
-    ensures answer { λ f. ⌜ f ≡ fieldsOf ours k signal service length ⌝ }
+    ensures answer { λ f. ⌜ f ≡ fieldsOf (acceptedBy by) k signal service length ⌝ }
 {
     let code = signal as u64;
     let r = rules_rates::rate_of(code);
-    let coded = signal_allowed(k, code);
-    let served = service_allowed(r, service);
+    let coded = signal_accepted(by, k, code);
+    let served = service_accepted(by, r, service);
     if !coded {
         return Front::Refused(Refusal::Signal { length });
     }
@@ -166,9 +192,9 @@ pub fn crc_read(header: [u8; 6]) -> usize
     crc::highest_first(header[4], header[5])
 }
 
-// What the SFD and the header tell: refusals 11 to 15, in this order.
-pub fn header_of(k: Kind, sfd: [u8; 2], header: [u8; 6]) -> Front
-    ensures answer { λ f. ⌜ f ≡ headerOf ours k (octetBits sfd) (octetBits header) ⌝ }
+// What the SFD and the header tell a reader: refusals 11 to 15, in this order.
+pub fn header_of(by: Reader, k: Kind, sfd: [u8; 2], header: [u8; 6]) -> Front
+    ensures answer { λ f. ⌜ f ≡ headerOf (acceptedBy by) k (octetBits sfd) (octetBits header) ⌝ }
 {
     let started = sfd_right(k, sfd);
     let summed = crc_right(header);
@@ -178,7 +204,7 @@ pub fn header_of(k: Kind, sfd: [u8; 2], header: [u8; 6]) -> Front
     if !summed {
         return Front::Refused(Refusal::Crc);
     }
-    fields_of(k, header[0], header[1], both(header[2], header[3]))
+    fields_of(by, k, header[0], header[1], both(header[2], header[3]))
 }
 
 // The six octets of any SIGNAL, SERVICE and LENGTH.

@@ -9,6 +9,7 @@ ghost use Rattle.promises_report.specs.Calls.{Adds, Lists, Spells};
 ghost use Rattle.promises_store.specs.Calls.{StoreWrites, StoreReads, StoreChanges};
 ghost use Rattle.promises_why.specs.Calls.{Explains};
 ghost use Rattle.promises_compare.specs.Calls.{Compares};
+ghost use Rattle.promises_1997.specs.Calls.{Read1997};
 use rules_calls::Record;
 use rules_calls::Written;
 use rules_coming::Coming;
@@ -61,6 +62,15 @@ pub extern "C" fn dsss_read_bytes_3(kind: u64, bytes: &[i8], octets: &mut [u8]) 
         a (now (octets .exit)) ⌝ }
 {
     read_frames::read_bytes(kind, bytes, octets)
+}
+
+// A hard recording as a guide of 1997 reads it, to its payload; zeros as above.
+#[no_mangle]
+pub extern "C" fn dsss_read_1997(chips: &[u8], octets: &mut [u8]) -> Record
+    ensures read { λ a. ⌜ Read1997 (now (chips .entry)) (length (now (octets .entry)))
+        a (now (octets .exit)) ⌝ }
+{
+    read_frames::read_1997(chips, octets)
 }
 
 // What is coming, from the front of a hard recording: what its header tells, the whole frame's chips, and where in the

@@ -10,6 +10,7 @@ ghost use Rattle.rules_finding.specs.Finding.{startOr, firstStart, findingOf, n
 ghost use Rattle.rules_finding.proofs.Laws.{Missed};
 use choose_recorders::Recorder;
 use rules_calls::Front;
+use rules_calls::Reader;
 use rules_calls::Told;
 use rules_finding::Finding;
 use rules_finding::Found;
@@ -70,7 +71,15 @@ fn front_at(kind: Kind, chips: &[u8], at: usize) -> Front
     let bytes = &byte[0..0];
     let sample = [0.0f32; 1];
     let row = &sample[0..0];
-    let opening = read_fronts::read_front(Recorder::Hard, &chips[at..], bytes, row, row, kind);
+    let opening = read_fronts::read_front(
+        Reader::Ours,
+        Recorder::Hard,
+        &chips[at..],
+        bytes,
+        row,
+        row,
+        kind,
+    );
     opening.front
 }
 

@@ -9,7 +9,7 @@ use lib.IntN.{ℤ, pos, negℤ}
 use lib.Ieee.{nan}
 use Rattle.rules_chips.specs.Chips.{hardRecording, byteRecording}
 use Rattle.rules_calls.specs.declared.Record.{Record}
-use Rattle.rules_reading.specs.Reading.{frontOf, readingOf}
+use Rattle.rules_reading.specs.Reading.{frontBy, readingOf}
 use Rattle.rules_clean.specs.Clean.{byteRow}
 use Rattle.rules_coming.specs.declared.Coming.{Coming}
 use Rattle.rules_coming.specs.Coming.{frontReading}
@@ -47,11 +47,11 @@ unfolding readingOf
 odd-row a left r = r .answer ∙ refl
 
 pub no-bytes : Answers 0 [] (refused 8 0)
-unfolding readingOf frontOf byteRecording
+unfolding readingOf frontBy byteRecording
 no-bytes a left r = r .answer ∙ refl
 
 pub two-bytes : Answers 0 (take 2 three) (refused 8 0)
-unfolding readingOf frontOf byteRecording
+unfolding readingOf frontBy byteRecording
 two-bytes a left r = r .answer ∙ refl
 
 -- soft rows of which either is longer: 7 too, before 8
@@ -90,7 +90,7 @@ unfolding frontReading
 front-no-kind c r = r .answer ∙ refl
 
 pub front-none : Tells 1 [] (refusedComing 8 0 0)
-unfolding frontReading frontOf hardRecording
+unfolding frontReading frontBy hardRecording
 front-none c r = r .answer ∙ refl
 
 pub front-told : Tells 1 (take 1056 clockFrame ++ replicate 9 9) (toldComing 110 1 1 1 1056 8)
@@ -116,5 +116,5 @@ unfolding findingOf
 many-offsets-found f r = r .answer ∙ refl
 
 pub find-nothing : Searches 1 1 19
-unfolding findingOf firstStart frontOf hardRecording
+unfolding findingOf firstStart frontBy hardRecording
 find-nothing f r = r .answer ∙ refl

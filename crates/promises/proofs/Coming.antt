@@ -23,6 +23,7 @@ use Rattle.rules_calls.specs.declared.Front.the-variants.{Refused, Fields}
 use Rattle.rules_calls.specs.declared.Reading.{Reading}
 use Rattle.rules_calls.specs.declared.Record.{Record}
 use Rattle.rules_calls.specs.Answers.{refusalPlace, recordOf}
+use Rattle.rules_calls.specs.Headers.{ours}
 use Rattle.rules_calls.proofs.AnswerFacts.{some-number}
 use Rattle.rules_reading.specs.Reading.{frontOf, payloadOdd, payloadReading, afterFront}
 use Rattle.rules_reading.proofs.Payloads.{foundUnusable, room-refused, unusable-refused, odd-refused, payload-good}
@@ -294,7 +295,7 @@ module _ (kind front : ℕ) (chips chips′ : List ℕ) (c c′ : Coming) (x : F
   same-coming : Same c c′
   same-coming =
       rw (f .answer, f′ .answer)
-      (by-front (frontOf kk one) refl (sym (front-same kk one other begin-alike)))
+      (by-front (frontOf kk one) refl (sym (front-same kk one other begin-alike ours)))
 
 pub front-only : FrontOnly
 front-only kind front chips chips′ c c′ x e f f′ = same-coming kind front chips chips′ c c′ x e f f′

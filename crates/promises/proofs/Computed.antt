@@ -56,7 +56,7 @@ use Rattle.rules_reading.specs.Reading.{
   frontOdd,
   frontHeard,
   frontBits,
-  frontOf,
+  frontBy,
   payloadWords,
   payloadOdd,
   payloadReading,
@@ -89,7 +89,7 @@ unfolding
     frameBits sentBits partsChips framed frame score those going firstLargest decided others leadOf decidedLeads
     frontLeads payloadLeads leastFrom leastOf numberOf octetsOf heardBits heard
     growthsOf lastHeard descramble sameBits fieldsOf headerOf firstUnusable firstOdd decidedWords preambleWords
-    headerWords reference headerPhase payloadPhase frontOdd frontHeard frontBits frontOf payloadWords payloadOdd
+    headerWords reference headerPhase payloadPhase frontOdd frontHeard frontBits frontBy payloadWords payloadOdd
     payloadReading readingOf
 read-back-is = refl
 
@@ -98,7 +98,7 @@ pub cut-in-front-is : Comes 1 (byteRow (take 1055 clockFrame))
 unfolding
     clockFrame byteRow byteRecording barkerWord cckWord bitsOf octetBits growth symbolOf symbolsFrom symbolsOf
     chipsFrom lastPhase mixed scramble addWhere crcStep remainder crcBits preambleBits fieldBits headerBits sentHeader
-    frameBits sentBits partsChips framed frame frontOf readingOf
+    frameBits sentBits partsChips framed frame frontBy readingOf
 cut-in-front-is = refl
 
 pub place-of-ten-is : Comes 1 (byteRow turnedFrame)
@@ -108,7 +108,7 @@ unfolding
     symbolsFrom symbolsOf
     chipsFrom lastPhase mixed scramble addWhere crcStep remainder crcBits preambleBits fieldBits headerBits sentHeader
     frameBits sentBits partsChips framed frame score those going firstLargest decided heardBits heard growthsOf
-    lastHeard firstUnusable firstOdd decidedWords preambleWords headerWords reference headerPhase frontOdd frontOf
+    lastHeard firstUnusable firstOdd decidedWords preambleWords headerWords reference headerPhase frontOdd frontBy
     readingOf
 place-of-ten-is = refl
 
@@ -120,7 +120,7 @@ unfolding
     chipsFrom lastPhase mixed scramble addWhere crcStep remainder crcBits preambleBits fieldBits headerBits sentHeader
     frameBits sentBits partsChips framed frame score those going firstLargest decided numberOf heardBits heard
     growthsOf lastHeard descramble sameBits fieldsOf headerOf firstUnusable firstOdd decidedWords preambleWords
-    headerWords reference headerPhase frontOdd frontHeard frontBits frontOf frontReading
+    headerWords reference headerPhase frontOdd frontHeard frontBits frontBy frontReading
 front-told-is = refl
 
 pub front-cut-is : Fronts 1 (take 1063 clockFrame)
@@ -130,5 +130,5 @@ unfolding
     chipsFrom lastPhase mixed scramble addWhere crcStep remainder crcBits preambleBits fieldBits headerBits sentHeader
     frameBits sentBits partsChips framed frame score those going firstLargest decided numberOf heardBits heard
     growthsOf lastHeard descramble sameBits fieldsOf headerOf firstUnusable firstOdd decidedWords preambleWords
-    headerWords reference headerPhase frontOdd frontHeard frontBits frontOf frontReading
+    headerWords reference headerPhase frontOdd frontHeard frontBits frontBy frontReading
 front-cut-is = refl

@@ -12,7 +12,7 @@ use lib.ListN.{length}
 use Rattle.rules_rates.specs.declared.Rate.the-variants.{One}
 use Rattle.rules_rates.specs.Rates.{rateOf, octetChips}
 use Rattle.rules_rates.specs.Plain.{LengthOf, SevenOf}
-use Rattle.rules_rates.proofs.Plain.{octets-once}
+use Rattle.rules_rates.proofs.Plain.{octets-once, length-some}
 use Rattle.rules_chips.specs.Chips.{Taken}
 use Rattle.rules_bits.specs.Bits.{numberOf}
 use Rattle.rules_bits.specs.Crc.{crcBits}
@@ -48,29 +48,12 @@ use Rattle.promises.specs.Reasons.{
   payload-9,
   payload-10,
   is-0,
-  SameButLead,
   ReadAnswers,
 }
+use Rattle.promises.proofs.Steps.{Once, Never, Step, stop, on, step-once, passed}
 use Rattle.promises.proofs.Back.{known}
 use Rattle.promises.proofs.Coming.{front-of, one-front}
 use Rattle.promises.proofs.Reasons.{read-says}
-
--- ---- steps
-abbrev Once : (Record → Type 0) → Type 0
-Once A = (a b : Record) → A a → A b → SameButLead a b
-
-abbrev Never : (Record → Type 0) → Type 0
-Never A = (a : Record) → A a → ⊥
-
-data Step (A B : Record → Type 0) (a : Record) : Type 0 where
-  stop : A a → Step A B a
-  on : Never A → B a → Step A B a
-
-step-once : {A B : Record → Type 0} → Once A → Once B → Once (Step A B)
-step-once f g a b (stop x) (stop y) = f a b x y
-step-once f g a b (stop x) (on n y) = absurd (n a x)
-step-once f g a b (on n x) (stop y) = absurd (n b y)
-step-once f g a b (on n x) (on m y) = g a b x y
 
 -- a kind's front has one SFD, at one place, and so many symbols at 1 Mbit/s
 pub one-bits : {kind at at′ sfd sfd′ ones ones′ : ℕ} → BitsOf kind at sfd ones → BitsOf kind at′ sfd′ ones′
@@ -360,6 +343,40 @@ module _ (kind : ℕ) (agree : Bool) (rec : List Taken) (room : ℕ) where
       behind-15 p
       (on (never-16 p t) (on (never-17 p m) (on (never-payload-9 p u)
       (on (never-payload-10 p v) (by-0 lead symbol p)))))
+
+  -- ---- an answer to a recording with a header, its SFD and CRC right, is 13 or one that comes after it: it shows the
+  -- header's LENGTH, and that is of some octets where its number is not above 12
+  fields-next : {a : Record} {signal service l : ℕ} → Headed signal service l → FromKind a → FromFields a
+  fields-next h x =
+      let b = h .has in
+      let f = b .has in
+      passed (never-12 h) (passed (never-11 (b .bits-are) (h .sfd-is))
+      (passed (never-front-10 (b .bits-are) (b .even)) (passed (never-front-9 (f .front-is) (b .usable))
+      (passed (never-8 (f .front-is) (f .long)) (passed (never-7 (f .rows-agree))
+      (passed (never-1 (a-kind (f .front-is))) x))))))
+
+  module _ {signal service l : ℕ} (h : Headed signal service l) where
+    abbrev Late : ℕ → ℕ → Type 0
+    Late number m = (m ≡ l) × (number ≤ 12 → 1 ≤ m)
+
+    by-number : {s v m : ℕ} (number : ℕ) → Headed s v m → 13 ≤ number → Late number m
+    by-number number g n = (one-header g h .2, λ z. absurd (omega arith))
+
+    by-octets : {r v m n f o : ℕ} (number : ℕ) → Told r v m n f o → Late number m
+    by-octets number p = (one-header (p .header) h .2, λ z. length-some (p .length-of) (p .some))
+
+    late : {a : Record} → FromFields a → Late (a .number) (a .length)
+    late (stop (by-13 g d)) = by-number 13 g (omega arith)
+    late (on m (stop (by-14 g d))) = by-number 14 g (omega arith)
+    late (on m (on o (stop (by-15 g d)))) = by-number 15 g (omega arith)
+    late (on m (on o (on q (stop (by-16 p d))))) = by-octets 16 p
+    late (on m (on o (on q (on r (stop (by-17 p d)))))) = by-octets 17 p
+    late (on m (on o (on q (on r (on s (stop (by-payload-9 p d u))))))) = by-octets 9 p
+    late (on m (on o (on q (on r (on s (on t (stop (by-payload-10 p e d u)))))))) = by-octets 10 p
+    late (on m (on o (on q (on r (on s (on t (on v (by-0 lead symbol p)))))))) = by-octets 0 p
+
+    pub headed-late : {a : Record} → ReadAnswer kind agree rec room a → Late (a .number) (a .length)
+    headed-late x = late (fields-next h (stops x))
 
 pub read-answers : ReadAnswers
 read-answers kind agree rec room a left f =

@@ -25,6 +25,7 @@ use Rattle.rules_calls.specs.declared.Reading.{Reading}
 use Rattle.rules_calls.specs.declared.Reading.the-variants as reading
 use Rattle.rules_calls.specs.declared.Record.{Record}
 use Rattle.rules_calls.specs.Answers.{recordOf}
+use Rattle.rules_calls.specs.Headers.{ours}
 use Rattle.rules_reading.specs.Reading.{frontOf, payloadReading, afterFront}
 use Rattle.rules_reading.proofs.Telling.{Telling, TellingIf, front-telling}
 use Rattle.rules_reading.proofs.Refusals.{
@@ -218,7 +219,7 @@ module _ (kind : ℕ) (chips : List ℕ) (b : isKind kind ≡ true) where
         take-hard m (begin ++ tail) ∙ ap hardRecording (take-at begin tail m long) ∙ sym (take-hard m chips) in
         f .answer
         ∙ ap (comingOf k)
-        (coming-told kind other b t (front-same k other rec alike ∙ q)
+        (coming-told kind other b t (front-same k other rec alike ours ∙ q)
         (omega (arith, l, length-hard (begin ++ tail), length-append begin tail, long)))
         ∙ in-numbers k t _ _ m (octetChips (t .rate)) refl refl refl refl
 

@@ -6,6 +6,7 @@ pub mod Begins
 pub mod Source
 pub mod Refusing
 pub mod Reasons
+pub mod Steps
 pub mod Exactly
 pub mod Decoded
 pub mod Coming

@@ -1,5 +1,5 @@
 -- A frame that was written is told of by its front, whatever follows it: any chips that are read as its front tell of
--- it (`tells`), and its own are. Its front is that of the clean frame (`front-is` of rules_clean), since a front is
+-- it (`tells`), and its own are. Its front is that of the clean frame (`front-sent` of rules_clean), since a front is
 -- read from its own chips (`front-same` of rules_reading). Assumes nothing.
 use mathlib.Core.Path.{_≡_, sym, ap, ap₂, _∙_}
 use mathlib.Core.List.{List, [], _++_, append-nil}
@@ -13,12 +13,13 @@ use Rattle.rules_rates.specs.Plain.{LengthOf}
 use Rattle.rules_chips.specs.Chips.{hardRecording}
 use Rattle.rules_chips.proofs.Recorders.{length-hard, take-hard}
 use Rattle.rules_frame.specs.declared.Kind.{Kind}
-use Rattle.rules_frame.specs.Frame.{kindOf, clockOf, clockBit, frontChips, frameChips}
+use Rattle.rules_frame.specs.Frame.{kindOf, clockOf, clockBit, serviceField, frontChips, frameChips}
 use Rattle.rules_calls.specs.declared.Written.{Written}
 use Rattle.rules_calls.specs.declared.Told.{Told}
 use Rattle.rules_calls.specs.declared.Front.the-variants.{Fields}
-use Rattle.rules_calls.specs.Headers.{told}
-use Rattle.rules_reading.specs.Reading.{frontOf}
+use Rattle.rules_calls.specs.Headers.{Accepted, ours, fieldsOf, told}
+use Rattle.rules_calls.proofs.ReadBack.{fields-back}
+use Rattle.rules_reading.specs.Reading.{frontBy, frontOf}
 use Rattle.rules_reading.proofs.Local.{front-same}
 use Rattle.rules_clean.proofs.Recorded.{hard-recorded}
 use Rattle.rules_clean.proofs.Back as clean
@@ -131,12 +132,19 @@ module _ (kind rate phase clock : ℕ) (payload : List ℕ) (w : Written) (chips
         ∙ ap₂ {C = List ℕ} (λ m l. take m l) (sym (pair .front-is)) (sym (append-nil sent)))
         ∙ sym (take-hard f (sent ++ []))
 
+    -- whoever reads, it comes to what its three fields do
+    pub begun-sent : (accepted : Accepted) → frontBy accepted k (hardRecording (begun ++ tail))
+        ≡ fieldsOf accepted k (codeOf r) (serviceField r (clockOf clock) n) (lengthField r n)
+    begun-sent accepted =
+        front-same k (hardRecording (begun ++ tail)) (hardRecording (sent ++ [])) begins accepted
+        ∙ ap (frontBy accepted k) (hard-recorded sent [] (back.phases kind rate phase clock payload w chips s))
+        ∙ clean.front-sent kind r phase (clockOf clock) payload (pair .kind-is) (s .sendable .phase-is)
+        (pair .together) (s .sendable .some) (s .sendable .few) (hardRecording []) accepted
+
     pub begun-told : frontOf k (hardRecording (begun ++ tail)) ≡ Fields sentTold
     begun-told =
-        front-same k (hardRecording (begun ++ tail)) (hardRecording (sent ++ [])) begins
-        ∙ ap (frontOf k) (hard-recorded sent [] (back.phases kind rate phase clock payload w chips s))
-        ∙ clean.front-is kind r phase (clockOf clock) payload (pair .kind-is) (s .sendable .phase-is) (pair .together)
-        (s .sendable .some) (s .sendable .few) (hardRecording [])
+        begun-sent ours
+        ∙ fields-back k r (clockOf clock) n (pair .together) (s .sendable .some) (s .sendable .few)
 
 pub sent-told : SentTold
 sent-told kind rate phase clock payload w chips s l d tail c f =

@@ -27,7 +27,7 @@ use lib.ListN.{length, getD, take, replicate}
 use lib.Seq.{ext-getD}
 use Rattle.rules_chips.specs.Chips.{hardRecording}
 use Rattle.rules_calls.specs.declared.Record.{Record}
-use Rattle.rules_reading.specs.Reading.{frontOf, readingOf, octetsFound}
+use Rattle.rules_reading.specs.Reading.{frontBy, readingOf, octetsFound}
 use Rattle.rules_compare.specs.declared.Compared.{Compared}
 use Rattle.rules_compare.specs.Differences.{differencesFrom, entryPlaces, laid}
 use Rattle.rules_compare.specs.Plain.{Lists, ZerosFrom, Shows}
@@ -77,7 +77,7 @@ module _ (kind : ℕ) (a b : List ℕ) (places places′ room room′ : ℕ) (c 
 
 -- an empty recording of the long kind
 reads-empty : (room : ℕ) → ReadHard 0 [] room (refused 8 0) (replicate room 0)
-unfolding readingOf frontOf octetsFound hardRecording
+unfolding readingOf frontBy octetsFound hardRecording
 reads-empty room = record { answer = refl; octets = refl }
 
 empty-beside : (b : List ℕ) (places places′ room room′ : ℕ) (c : Compared) (chips octets first second : List ℕ)

@@ -51,7 +51,7 @@ use Rattle.rules_reading.specs.Reading.{
   frontOdd,
   frontHeard,
   frontBits,
-  frontOf,
+  frontBy,
   payloadWords,
   payloadOdd,
   payloadOf,
@@ -98,5 +98,5 @@ unfolding
     lastHeard mixed scramble descramble addWhere crcStep remainder crcBits
     preambleBits fieldBits headerBits sentHeader frameBits sentBits partsChips framed frame
     firstUnusable firstOdd decidedWords preambleWords headerWords reference headerPhase payloadPhase frontOdd frontHeard
-    frontBits sameBits fieldsOf headerOf frontOf payloadWords payloadOdd payloadOf payloadReading readingOf octetsFound
+    frontBits sameBits fieldsOf headerOf frontBy payloadWords payloadOdd payloadOf payloadReading readingOf octetsFound
 past-read = refl

@@ -5,6 +5,7 @@ use Rattle.rules_damage.proofs.SymbolStands.{decided-sent, lead-sent}
 use Rattle.promises_damage.specs.Promises.{SymbolStands, LimitsTight, DamagePromised}
 use Rattle.promises_damage.proofs.SpoiledBack.{spoiled-read-back, spoiled-counted}
 use Rattle.promises_damage.proofs.SpoiledCompared.{spoiled-compared}
+use Rattle.promises_damage.proofs.Spoiled1997.{spoiled-1997}
 use Rattle.promises_damage.proofs.SpoiledFront.{spoiled-told, spoiled-found}
 use Rattle.promises_damage.proofs.Symbols.{in-one-symbol, damage-row, any-damage}
 
@@ -32,6 +33,7 @@ kept = record {
   spoiled-found = spoiled-found;
   spoiled-counted = spoiled-counted;
   spoiled-compared = spoiled-compared;
+  spoiled-1997 = spoiled-1997;
   symbol-stands = symbol-stands;
   limits-tight = limits-tight;
   words-apart = eleven-most;

@@ -3,8 +3,10 @@ pub mod SpoiledBack
 pub mod SpoiledFront
 pub mod Symbols
 pub mod SpoiledCompared
+pub mod Spoiled1997
 pub mod Kept
 pub mod Uses
 pub mod UsesRows
 pub mod UsesSymbols
 pub mod UsesCompared
+pub mod Uses1997

@@ -1,1 +1,2 @@
+pub mod Guides
 pub mod Promises

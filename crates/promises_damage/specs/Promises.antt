@@ -1,8 +1,9 @@
 -- What is promised of frames that were written and whose chips were spoiled (RULES 3.10, 6.28): a wrong chip is another
 -- phase, a lost one a 4, and every symbol keeps its limit (`FrameStands` of rules_damage, in plain numbers). Statements
 -- about a read, the front alone, a search, a report and a comparison speak of answers that the contracts of the calls
--- allow (`Wrote`, `ReadHard`, `ReadFront`, `Finds`, `Adds`, `Compares`), so they are about the programs; those about
--- symbols and rows, of the definitions. Definitions only. Assumes nothing.
+-- allow (`Wrote`, `ReadHard`, `ReadFront`, `Finds`, `Adds`, `Compares`), so they are about the programs, and so is the
+-- one about a guide of 1997 (Guides.antt); those about symbols and rows, of the definitions. Definitions only. Assumes
+-- nothing.
 use Prim.Native.Nat.{ℕ, suc, _+_, _-_, _*_, _≤_, _<_}
 use mathlib.Core.Path.{_≡_}
 use mathlib.Core.List.{List, [], _∷_, _++_, map}
@@ -49,6 +50,7 @@ use Rattle.promises.specs.Coming.{refusedComing, toldComing}
 use Rattle.promises.specs.Finding.{startFound}
 use Rattle.promises_report.specs.Calls.{Adds}
 use Rattle.promises_compare.specs.Calls.{Compares}
+use Rattle.promises_damage.specs.Guides.{Spoiled1997}
 
 -- ---- a frame
 
@@ -231,6 +233,7 @@ pub record DamagePromised : Type 0 where
   pub spoiled-found : SpoiledFound
   pub spoiled-counted : SpoiledCounted
   pub spoiled-compared : SpoiledCompared
+  pub spoiled-1997 : Spoiled1997
   pub symbol-stands : SymbolStands
   pub limits-tight : LimitsTight
   pub words-apart : WordsApart

@@ -50,7 +50,7 @@ use Rattle.rules_reading.specs.Reading.{
   frontOdd,
   frontHeard,
   frontBits,
-  frontOf,
+  frontBy,
   payloadWords,
   payloadOdd,
   payloadReading,
@@ -71,7 +71,7 @@ unfolding
     lastHeard mixed scramble descramble addWhere crcStep remainder crcBits
     preambleBits fieldBits headerBits sentHeader frameBits sentBits partsChips framed frame
     firstUnusable firstOdd decidedWords preambleWords headerWords reference headerPhase payloadPhase frontOdd frontHeard
-    frontBits sameBits fieldsOf headerOf frontOf payloadWords payloadOdd payloadReading readingOf whyOf
+    frontBits sameBits fieldsOf headerOf frontBy payloadWords payloadOdd payloadReading readingOf whyOf
 payload = refl
 
 -- 10, 11 and 12: its third symbol turned by a quarter, the SFD's fifth by half, and by half the header's ninth, which
@@ -87,7 +87,7 @@ unfolding
     lastHeard mixed scramble descramble addWhere crcStep remainder crcBits
     preambleBits fieldBits headerBits sentHeader frameBits sentBits partsChips framed frame
     firstUnusable firstOdd decidedWords preambleWords headerWords reference headerPhase frontOdd frontHeard
-    frontBits sameBits fieldsOf headerOf frontOf readingOf whyOf
+    frontBits sameBits fieldsOf headerOf frontBy readingOf whyOf
 front = refl
 
 -- 13, 14 and 15 of a front alone: SIGNAL 0; at 11 Mbit/s SERVICE CDh, and LENGTHs 4 and 0 with bit 7
@@ -105,5 +105,5 @@ unfolding
     lastHeard mixed scramble descramble addWhere crcStep remainder crcBits
     preambleBits fieldBits headerBits frameBits sentBits partsChips framed
     firstUnusable firstOdd decidedWords preambleWords headerWords reference headerPhase frontOdd frontHeard
-    frontBits sameBits fieldsOf headerOf frontOf readingOf whyOf
+    frontBits sameBits fieldsOf headerOf frontBy readingOf whyOf
 header = refl

@@ -1,6 +1,6 @@
 -- The order of refusals: for each way out of reading a payload and a whole recording, what the definition says there.
 -- Each follows by the tests that led there. Assumes nothing.
-use mathlib.Core.Path.{_≡_, refl, sym, ap, _∙_}
+use mathlib.Core.Path.{_≡_, refl, sym, ap, _∙_, subst}
 use mathlib.Core.Bool.{Bool, true, false}
 use mathlib.Core.List.{List}
 use Prim.Native.Nat.{ℕ, _-_, _*_, _≤_, _<_}
@@ -10,6 +10,7 @@ use borrow.Author.Tests.{lt-ltb, le-ltb}
 use Rattle.rules_rates.specs.Rates.{octetChips}
 use Rattle.rules_chips.specs.Chips.{Taken}
 use Rattle.rules_frame.specs.declared.Kind.{Kind}
+use Rattle.rules_frame.specs.declared.Kind.the-variants.{Long}
 use Rattle.rules_frame.specs.Frame.{isKind, kindOf, frontChips, frameChips}
 use Rattle.rules_calls.specs.declared.Refusal.{Refusal}
 use Rattle.rules_calls.specs.declared.Refusal.the-variants.{NoKind, RowsDiffer, Unusable, OctetRoom}
@@ -20,7 +21,18 @@ use Rattle.rules_calls.specs.declared.Reading.{Reading}
 use Rattle.rules_calls.specs.declared.Reading.the-variants.{Refused}
 use Rattle.rules_calls.specs.declared.Record.{Record}
 use Rattle.rules_calls.specs.Answers.{recordOf}
-use Rattle.rules_reading.specs.Reading.{firstUnusable, payloadOdd, payloadReading, readingOf, octetsAfter, octetsFound}
+use Rattle.rules_calls.specs.Headers.{Accepted, ours, of1997}
+use Rattle.rules_reading.specs.Reading.{
+  firstUnusable,
+  payloadOdd,
+  payloadReading,
+  readingBy,
+  readingOf,
+  octetsAfter,
+  octetsFound,
+  reading1997,
+  octets1997,
+}
 use Rattle.rules_reading.specs.Leads.{frameLeads, leastOf}
 use Rattle.choose_recorded.specs.declared.Place.{Place}
 use Rattle.choose_recorded.specs.declared.Place.the-variants.{Nothing, At}
@@ -75,6 +87,19 @@ module _ (k : Kind) (t : Told) (rec : List Taken) (room : ℕ) where
       rw (← s .whole, ← s .at-front, le-ltb room (t .n) (s .fits), ← s .is, e, ← p, ← l) in
       (w ∙ tests, rw w (q ∙ left all b o))
 
+-- ---- a recording of a kind, by who reads
+
+module _ (accepted : Accepted) (k : Kind) (rec : List Taken) (room : ℕ) (o : Opening) (x : OpensWhole accepted k rec o)
+  where
+    pub as-refused : (w : Refusal) (out : List ℕ) → o .front ≡ front.Refused w → out ≡ replicate room 0
+        → (Refused w ≡ readingBy accepted k rec room) × (out ≡ octetsAfter k rec room (Refused w))
+    as-refused w out t z = (rw (← x .told, t), z)
+
+    pub as-told : (t : Told) (g : Reading) (out : List ℕ) → o .front ≡ front.Fields t
+        → (g ≡ payloadReading k t rec room) × (out ≡ octetsAfter k rec room g)
+        → (g ≡ readingBy accepted k rec room) × (out ≡ octetsAfter k rec room g)
+    as-told t g out w p = (p .0 ∙ rw (← x .told, w), p .1)
+
 -- ---- the whole
 
 module _ (kind : ℕ) (agree : Bool) (rec : List Taken) (room : ℕ) where
@@ -91,19 +116,28 @@ module _ (kind : ℕ) (agree : Bool) (rec : List Taken) (room : ℕ) where
       → (Refused RowsDiffer ≡ readingOf kind agree rec room) × (out ≡ octetsFound kind agree rec room)
   read-rows out e a z = both (Refused RowsDiffer) out (unfold readingOf in rw (e, a)) z
 
-  module _
-      (e : isKind kind ≡ true) (a : agree ≡ true) (k : Kind) (c : k ≡ kindOf kind) (o : Opening)
-      (x : OpensWhole k rec o) where
-    pub read-refused : (w : Refusal) (out : List ℕ) → o .front ≡ front.Refused w → out ≡ replicate room 0
-        → (Refused w ≡ readingOf kind agree rec room) × (out ≡ octetsFound kind agree rec room)
-    read-refused w out t z = both (Refused w) out (unfold readingOf in rw (e, a, ← c, ← x .told, t)) z
+  pub read-ours : isKind kind ≡ true → agree ≡ true → (k : Kind) → k ≡ kindOf kind → (g : Reading) (out : List ℕ)
+      → (g ≡ readingBy ours k rec room) × (out ≡ octetsAfter k rec room g)
+      → (g ≡ readingOf kind agree rec room) × (out ≡ octetsFound kind agree rec room)
+  read-ours e a k c g out p =
+      both g out (p .0 ∙ (unfold readingOf in rw (e, a, ← c)))
+      (p .1 ∙ ap (λ (i : Kind). octetsAfter i rec room g) c)
 
-    pub read-told : (t : Told) (g : Reading) (out : List ℕ) → o .front ≡ front.Fields t → g
-        ≡ payloadReading k t rec room
-        → out ≡ octetsAfter k rec room g → (g ≡ readingOf kind agree rec room) × (out ≡ octetsFound kind agree rec room)
-    read-told t g out w p q =
-        both g out (p ∙ (unfold readingOf in rw (e, a, ← c, ← x .told, w)))
-        (q ∙ ap (λ (i : Kind). octetsAfter i rec room g) c)
+pub read-of-1997 : (rec : List Taken) (room : ℕ) (g : Reading) (out : List ℕ)
+    → (g ≡ readingBy of1997 Long rec room) × (out ≡ octetsAfter Long rec room g)
+    → (g ≡ reading1997 rec room) × (out ≡ octets1997 rec room)
+unfolding reading1997 octets1997
+read-of-1997 rec room g out p = (p .0, p .1 ∙ ap (octetsAfter Long rec room) (p .0))
+
+-- a buffer that was filled is zeros, and as long as it was
+pub cleared : (d z : List ℕ) → z ≡ replicate (length d) 0 → length z ≡ length d → z ≡ replicate (length z) 0
+cleared d z e f = e ∙ ap (λ (m : ℕ). replicate m 0) (sym f)
+
+pub as-long : (accepted : Accepted) (k : Kind) (rec : List Taken) (g : Reading) (out : List ℕ) (m room : ℕ) → m ≡ room
+    → (g ≡ readingBy accepted k rec m) × (out ≡ octetsAfter k rec m g)
+    → (g ≡ readingBy accepted k rec room) × (out ≡ octetsAfter k rec room g)
+as-long accepted k rec g out m room e h =
+    subst (λ (i : ℕ). (g ≡ readingBy accepted k rec i) × (out ≡ octetsAfter k rec i g)) e h
 
 -- a call answers the numbers of what reading comes to, and leaves what it leaves
 pub in-numbers : {g h : Reading} {r : Record} {out w : List ℕ} → r ≡ recordOf g → (g ≡ h) × (out ≡ w)

@@ -19,8 +19,8 @@ use Rattle.rules_calls.specs.declared.Refusal.the-variants.{ShorterThanFront, O
 use Rattle.rules_calls.specs.declared.Refusal.the-variants as refusal
 use Rattle.rules_calls.specs.declared.Front.{Front}
 use Rattle.rules_calls.specs.declared.Front.the-variants.{Refused}
-use Rattle.rules_calls.specs.Headers.{ours, headerOf}
-use Rattle.rules_reading.specs.Reading.{firstUnusable, frontOdd, frontOf}
+use Rattle.rules_calls.specs.Headers.{Accepted, headerOf}
+use Rattle.rules_reading.specs.Reading.{firstUnusable, frontOdd, frontBy}
 use Rattle.rules_reading.proofs.First.{unusable-first}
 use Rattle.choose_recorded.specs.declared.Place.{Place}
 use Rattle.choose_recorded.specs.declared.Place.the-variants.{Nothing, At}
@@ -42,22 +42,26 @@ opens-refused k rec f e o p q = record {
 }
 
 module _ (k : Kind) (rec : List Taken) where
-  pub usable-odd : (o : Opening) (f : Place) (place : ℕ) → f ≡ At place → whereFound f ≡ frontOdd k rec
-      → o .front ≡ Refused (OddGrowth place 0) → Opens k rec (afterUsable k rec) o
-  usable-odd o f place e g p = opens-refused k rec (afterUsable k rec) (OddGrowth place 0) o p (rw (← g, e))
+  pub usable-odd : (accepted : Accepted) (o : Opening) (f : Place) (place : ℕ) → f ≡ At place
+      → whereFound f ≡ frontOdd k rec → o .front ≡ Refused (OddGrowth place 0)
+      → Opens k rec (afterUsable accepted k rec) o
+  usable-odd accepted o f place e g p =
+      opens-refused k rec (afterUsable accepted k rec) (OddGrowth place 0) o p (rw (← g, e))
 
-  pub usable-header : (f : FrontHeard) (told : Front) → FrontKnown k rec f → f .part .heard .odd ≡ Nothing
-      → told ≡ headerOf ours k (octetBits (f .sfd)) (octetBits (f .header))
-      → Opens k rec (afterUsable k rec) (record { front = told; line = f .part .heard .line; least = f .part .least })
-  usable-header f told x e p = record {
-    told = rw (← x .odd, e) (p ∙ ap₂ {C = Front} (headerOf ours k) (x .sfd) (x .header));
+  pub usable-header : (accepted : Accepted) (f : FrontHeard) (told : Front) → FrontKnown k rec f
+      → f .part .heard .odd ≡ Nothing → told ≡ headerOf accepted k (octetBits (f .sfd)) (octetBits (f .header))
+      → Opens k rec (afterUsable accepted k rec)
+      (record { front = told; line = f .part .heard .line; least = f .part .least })
+  usable-header accepted f told x e p = record {
+    told = rw (← x .odd, e) (p ∙ ap₂ {C = Front} (headerOf accepted k) (x .sfd) (x .header));
     line = λ t w. x .line;
     least = λ t w. x .least;
   }
 
-  pub front-short : length rec < frontChips k → frontOf k rec ≡ Refused ShorterThanFront
-  unfolding frontOf
-  front-short h = rw (lt-ltb (length rec) (frontChips k) h)
+  pub front-short : length rec < frontChips k → (accepted : Accepted) → frontBy accepted k rec
+      ≡ Refused ShorterThanFront
+  unfolding frontBy
+  front-short h accepted = rw (lt-ltb (length rec) (frontChips k) h)
 
   module _
       (chips : ℕ) (f : Place) (e : chips ≡ frontChips k) (h : chips ≤ length rec)
@@ -70,33 +74,38 @@ module _ (k : Kind) (rec : List Taken) where
     enough = omega arith
 
     pub front-unusable : (place : ℕ) → f ≡ At place
-        → (frontOf k rec ≡ Refused (refusal.Unusable place 0)) × (place < length rec)
+        → ((accepted : Accepted) → frontBy accepted k rec ≡ Refused (refusal.Unusable place 0)) × (place < length rec)
     front-unusable place t =
         let first = unusable-first 0 (take (frontChips k) rec) place (searched ∙ ap whereFound t) in (
-          unfold frontOf in rw (le-ltb (length rec) (frontChips k) enough, searched, t),
+          (λ accepted. unfold frontBy in rw (le-ltb (length rec) (frontChips k) enough, searched, t)),
           omega (arith, enough, first .place-is, first .inside, length-take-le (frontChips k) rec enough),
         )
 
     pub front-usable : f ≡ Nothing
-        → (frontOf k rec ≡ afterUsable k rec) × (frontChips k ≤ length rec) × AllUsable rec 0 (frontChips k)
+        → ((accepted : Accepted) → frontBy accepted k rec ≡ afterUsable accepted k rec)
+        × (frontChips k ≤ length rec) × AllUsable rec 0 (frontChips k)
     front-usable t = (
-      unfold frontOf in rw (le-ltb (length rec) (frontChips k) enough, searched, t),
+      (λ accepted. unfold frontBy in rw (le-ltb (length rec) (frontChips k) enough, searched, t)),
       enough,
       none-usable rec 0 (frontChips k) (omega (arith, enough)) (searched ∙ ap whereFound t),
     )
 
   module _ (l : Look) (x : Looks k rec l) where
-    pub opens-shorter : (o : Opening) → l ≡ Shorter → o .front ≡ Refused ShorterThanFront
-        → Opens k rec (frontOf k rec) o
-    opens-shorter o e p = opens-refused k rec (frontOf k rec) ShorterThanFront o p (subst (Looks k rec) e x)
-
-    pub opens-unusable : (o : Opening) (place : ℕ) → l ≡ Unusable place → o .front ≡ Refused (refusal.Unusable place 0)
-        → Opens k rec (frontOf k rec) o
-    opens-unusable o place e p =
-        opens-refused k rec (frontOf k rec) (refusal.Unusable place 0) o p (subst (Looks k rec) e x .0)
-
     pub all-usable : l ≡ Usable → (frontChips k ≤ length rec) × AllUsable rec 0 (frontChips k)
     all-usable e = let y = subst (Looks k rec) e x in (y .1, y .2)
 
-    pub opens-usable : (o : Opening) → l ≡ Usable → Opens k rec (afterUsable k rec) o → Opens k rec (frontOf k rec) o
-    opens-usable o e t = rw (subst (Looks k rec) e x .0) t
+    module _ (accepted : Accepted) where
+      pub opens-shorter : (o : Opening) → l ≡ Shorter → o .front ≡ Refused ShorterThanFront
+          → Opens k rec (frontBy accepted k rec) o
+      opens-shorter o e p =
+          opens-refused k rec (frontBy accepted k rec) ShorterThanFront o p (subst (Looks k rec) e x accepted)
+
+      pub opens-unusable : (o : Opening) (place : ℕ) → l ≡ Unusable place
+          → o .front ≡ Refused (refusal.Unusable place 0) → Opens k rec (frontBy accepted k rec) o
+      opens-unusable o place e p =
+          opens-refused k rec (frontBy accepted k rec) (refusal.Unusable place 0) o p
+          (subst (Looks k rec) e x .0 accepted)
+
+      pub opens-usable : (o : Opening) → l ≡ Usable → Opens k rec (afterUsable accepted k rec) o
+          → Opens k rec (frontBy accepted k rec) o
+      opens-usable o e t = rw (subst (Looks k rec) e x .0 accepted) t

@@ -14,16 +14,16 @@ use Rattle.rules_calls.specs.declared.Refusal.the-variants.{Ends}
 use Rattle.rules_calls.specs.declared.Told.{Told}
 use Rattle.rules_calls.specs.declared.Front.the-variants.{Refused, Fields}
 use Rattle.rules_frame.specs.Frame.{frameChips}
-use Rattle.rules_calls.specs.Headers.{told}
-use Rattle.rules_reading.specs.Reading.{frontOf, wholeOf}
-use Rattle.rules_reading.proofs.Telling.{TellingIf, front-telling}
+use Rattle.rules_calls.specs.Headers.{Accepted, told}
+use Rattle.rules_reading.specs.Reading.{frontBy, wholeOf}
+use Rattle.rules_reading.proofs.Readers.{front-few}
 use Rattle.read_fronts.specs.Openings.{Opens, OpensWhole}
 use Rattle.read_fronts.specs.declared.Opening.{Opening}
 
 -- an opening that refuses needs neither line nor lead nor sizes
-opens-none : (k : Kind) (rec : List Taken) (o : Opening) (e : Refusal) → o .front ≡ Refused e
-    → wholeOf k rec (frontOf k rec) ≡ Refused e → OpensWhole k rec o
-opens-none k rec o e p q =
+opens-none : (accepted : Accepted) (k : Kind) (rec : List Taken) (o : Opening) (e : Refusal) → o .front ≡ Refused e
+    → wholeOf k rec (frontBy accepted k rec) ≡ Refused e → OpensWhole accepted k rec o
+opens-none accepted k rec o e p q =
     let none : (A : Type 0) (t : Told) → o .front ≡ Fields t → A =
     λ A t w. let z : _≡_ {A = ℕ} 0 1 = cc in absurd (omega arith) in
     record {
@@ -34,25 +34,27 @@ opens-none k rec o e p q =
       chips = λ t. none _ t;
     }
 
-module _ (k : Kind) (rec : List Taken) (a : Opening) (x : Opens k rec (frontOf k rec) a) where
-  pub whole-refused : (o : Opening) (e : Refusal) → a .front ≡ Refused e → o .front ≡ Refused e → OpensWhole k rec o
-  whole-refused o e f p = opens-none k rec o e p (rw (← x .told, f))
+module _ (accepted : Accepted) (k : Kind) (rec : List Taken) (a : Opening) (x : Opens k rec (frontBy accepted k rec) a)
+  where
+    pub whole-refused : (o : Opening) (e : Refusal) → a .front ≡ Refused e → o .front ≡ Refused e
+        → OpensWhole accepted k rec o
+    whole-refused o e f p = opens-none accepted k rec o e p (rw (← x .told, f))
 
-  module _ (t : Told) (f : a .front ≡ Fields t) where
-    pub whole-few : t .n ≤ 4095
-    whole-few = subst (TellingIf k) (sym (x .told) ∙ f) (front-telling k rec) .few
+    module _ (t : Told) (f : a .front ≡ Fields t) where
+      pub whole-few : t .n ≤ 4095
+      whole-few = front-few accepted k rec t (sym (x .told) ∙ f)
 
-    pub whole-ends : (o : Opening) → length rec < frameChips k (t .rate) (t .n) → o .front ≡ Refused (Ends (t .length))
-        → OpensWhole k rec o
-    whole-ends o h p =
-        opens-none k rec o (Ends (t .length)) p
-        (rw (← x .told, f, lt-ltb (length rec) (frameChips k (t .rate) (t .n)) h))
+      pub whole-ends : (o : Opening) → length rec < frameChips k (t .rate) (t .n)
+          → o .front ≡ Refused (Ends (t .length)) → OpensWhole accepted k rec o
+      whole-ends o h p =
+          opens-none accepted k rec o (Ends (t .length)) p
+          (rw (← x .told, f, lt-ltb (length rec) (frameChips k (t .rate) (t .n)) h))
 
-    pub whole-kept : frameChips k (t .rate) (t .n) ≤ length rec → OpensWhole k rec a
-    whole-kept h = record {
-      told = f ∙ sym (rw (← x .told, f, le-ltb (length rec) (frameChips k (t .rate) (t .n)) h));
-      line = x .line;
-      least = x .least;
-      few = λ u w. let e : t ≡ u = cc in subst (λ (v : Told). v .n ≤ 4095) e whole-few;
-      chips = λ u w. let e : t ≡ u = cc in subst (λ (v : Told). frameChips k (v .rate) (v .n) ≤ length rec) e h;
-    }
+      pub whole-kept : frameChips k (t .rate) (t .n) ≤ length rec → OpensWhole accepted k rec a
+      whole-kept h = record {
+        told = f ∙ sym (rw (← x .told, f, le-ltb (length rec) (frameChips k (t .rate) (t .n)) h));
+        line = x .line;
+        least = x .least;
+        few = λ u w. let e : t ≡ u = cc in subst (λ (v : Told). v .n ≤ 4095) e whole-few;
+        chips = λ u w. let e : t ≡ u = cc in subst (λ (v : Told). frameChips k (v .rate) (v .n) ≤ length rec) e h;
+      }

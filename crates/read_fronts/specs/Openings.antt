@@ -20,7 +20,7 @@ use Rattle.rules_calls.specs.declared.Refusal.the-variants as refusal
 use Rattle.rules_calls.specs.declared.Told.{Told}
 use Rattle.rules_calls.specs.declared.Front.{Front}
 use Rattle.rules_calls.specs.declared.Front.the-variants.{Refused, Fields}
-use Rattle.rules_calls.specs.Headers.{ours, headerOf}
+use Rattle.rules_calls.specs.Headers.{Accepted, headerOf}
 use Rattle.rules_reading.specs.Reading.{
   orElse,
   oddGrowth,
@@ -30,7 +30,7 @@ use Rattle.rules_reading.specs.Reading.{
   payloadPhase,
   frontOdd,
   frontHeard,
-  frontOf,
+  frontBy,
   wholeOf,
 }
 use Rattle.rules_reading.specs.Heard.{sfdHeard, headerHeard}
@@ -89,18 +89,21 @@ pub record FrontKnown (k : Kind) (rec : List Taken) (f : FrontHeard) : Type 0 wh
   pub line : Opened k rec (f .part .heard .line)
   pub least : f .part .least ≡ leastOf (frontLeads k rec)
 
--- what a front of usable chips tells: 10, then 11 to 15
-abbrev pub afterUsable : Kind → List Taken → Front
-afterUsable k rec =
+-- what a front of usable chips tells a reader that accepts these headers: 10, then 11 to 15
+abbrev pub afterUsable : Accepted → Kind → List Taken → Front
+afterUsable accepted k rec =
     orElse (frontOdd k rec) (λ place. Refused (OddGrowth place 0))
-    (headerOf ours k (sfdHeard k rec) (headerHeard k rec))
+    (headerOf accepted k (sfdHeard k rec) (headerHeard k rec))
 
--- a look at a front: 8, or 9 with its place, or all of it can be heard, and then 10 to 15 are left to be told
+-- a look at a front, the same whoever reads: 8, or 9 with its place, or all of it can be heard, and then 10 to 15 are
+-- left to be told
 abbrev pub Looks : Kind → List Taken → Look → Type 0
-Looks k rec Shorter = frontOf k rec ≡ Refused ShorterThanFront
-Looks k rec (Unusable place) = (frontOf k rec ≡ Refused (refusal.Unusable place 0)) × (place < length rec)
+Looks k rec Shorter = (accepted : Accepted) → frontBy accepted k rec ≡ Refused ShorterThanFront
+Looks k rec (Unusable place) =
+    ((accepted : Accepted) → frontBy accepted k rec ≡ Refused (refusal.Unusable place 0)) × (place < length rec)
 Looks k rec Usable =
-    (frontOf k rec ≡ afterUsable k rec) × (frontChips k ≤ length rec) × AllUsable rec 0 (frontChips k)
+    ((accepted : Accepted) → frontBy accepted k rec ≡ afterUsable accepted k rec)
+    × (frontChips k ≤ length rec) × AllUsable rec 0 (frontChips k)
 
 -- an opening that tells f: where that is fields, the line goes on from the front, and so does the smallest lead
 pub record Opens (k : Kind) (rec : List Taken) (f : Front) (o : Opening) : Type 0 where
@@ -110,8 +113,8 @@ pub record Opens (k : Kind) (rec : List Taken) (f : Front) (o : Opening) : Type 
 
 -- an opening that tells what a recording's front does, refusal 16 included: where that is fields, the recording has the
 -- whole frame
-pub record OpensWhole (k : Kind) (rec : List Taken) (o : Opening) : Type 0 where
-  pub told : o .front ≡ wholeOf k rec (frontOf k rec)
+pub record OpensWhole (accepted : Accepted) (k : Kind) (rec : List Taken) (o : Opening) : Type 0 where
+  pub told : o .front ≡ wholeOf k rec (frontBy accepted k rec)
   pub line : (t : Told) → o .front ≡ Fields t → Opened k rec (o .line)
   pub least : (t : Told) → o .front ≡ Fields t → o .least ≡ leastOf (frontLeads k rec)
   pub few : (t : Told) → o .front ≡ Fields t → t .n ≤ 4095

@@ -2,7 +2,8 @@
 ghost use mathlib.Core.Path.{_≡_};
 ghost use mathlib.Core.List.{List};
 ghost use Rattle.rules_chips.specs.Chips.{Taken};
-ghost use Rattle.rules_reading.specs.Reading.{frontOf};
+ghost use Rattle.rules_calls.specs.Headers.{acceptedBy};
+ghost use Rattle.rules_reading.specs.Reading.{frontBy};
 ghost use Rattle.choose_recorders.specs.Rows.{lent};
 ghost use Rattle.read_fronts.specs.Openings.{FrontKnown, afterUsable, Looks, Opens, OpensWhole};
 use choose_recorded::Place;
@@ -12,6 +13,7 @@ use hear_blocks::Hearing;
 use hear_parts::Part;
 use rules_calls::Front;
 use rules_calls::Least;
+use rules_calls::Reader;
 use rules_calls::Refusal;
 use rules_frame::Kind;
 use rules_rates::Rate;
@@ -56,11 +58,11 @@ fn refused(e: Refusal) -> Opening
     Opening { front, line, least }
 }
 
-// What a front that was heard tells, whatever recording it is of: 10, then 11 to 15. What these refusals are about
-// stands in what was heard: the place of the first symbol grown by 1 or 3, the SFD's octets and the header's.
-pub fn told(kind: Kind, known: FrontHeard) -> Opening
+// What a front that was heard tells a reader, whatever recording it is of: 10, then 11 to 15. What these refusals are
+// about stands in what was heard: the place of the first symbol grown by 1 or 3, the SFD's octets and the header's.
+pub fn told(by: Reader, kind: Kind, known: FrontHeard) -> Opening
     ensures answer { λ r. ⌜ ((rec : List Taken) → FrontKnown kind rec known →
-        Opens kind rec (afterUsable kind rec) r) ⌝ }
+        Opens kind rec (afterUsable (acceptedBy by) kind rec) r) ⌝ }
 {
     let part = known.part;
     let heard = part.heard;
@@ -70,7 +72,7 @@ pub fn told(kind: Kind, known: FrontHeard) -> Opening
         Place::Nothing => {
             let sfd = known.sfd;
             let header = known.header;
-            let front = common_header::header_of(kind, sfd, header);
+            let front = common_header::header_of(by, kind, sfd, header);
             let line = heard.line;
             let least = part.least;
             Opening { front, line, least }
@@ -100,8 +102,10 @@ pub fn look_at_front(
     }
 }
 
-// What a recording's front tells, with the line and lead that its payload goes on from: 8, 9, 10, and 11 to 15.
+// What a recording's front tells a reader, with the line and lead that its payload goes on from: 8, 9, 10, and 11 to
+// 15.
 pub fn read_front(
+    by: Reader,
     rec: Recorder,
     row: &[u8],
     bytes: &[i8],
@@ -110,7 +114,7 @@ pub fn read_front(
     kind: Kind,
 ) -> Opening
     ensures answer { λ r. ⌜ Opens kind (lent rec (row .entry) (bytes .entry) (i .entry) (q .entry))
-        (frontOf kind (lent rec (row .entry) (bytes .entry) (i .entry) (q .entry))) r ⌝ }
+        (frontBy (acceptedBy by) kind (lent rec (row .entry) (bytes .entry) (i .entry) (q .entry))) r ⌝ }
 {
     let looked = look_at_front(rec, row, bytes, i, q, kind);
     match looked {
@@ -118,13 +122,14 @@ pub fn read_front(
         Look::Unusable(place) => refused(Refusal::Unusable { place, length: 0 }),
         Look::Usable => {
             let known = heard::hear_front(rec, row, bytes, i, q, kind);
-            told(kind, known)
+            told(by, kind, known)
         }
     }
 }
 
 // The same, and 16: whether the recording has the chips of the frame that its front tells of.
 pub fn read_whole(
+    by: Reader,
     rec: Recorder,
     row: &[u8],
     bytes: &[i8],
@@ -132,10 +137,10 @@ pub fn read_whole(
     q: &[f32],
     kind: Kind,
 ) -> Opening
-    ensures answer { λ r. ⌜ OpensWhole kind
+    ensures answer { λ r. ⌜ OpensWhole (acceptedBy by) kind
         (lent rec (row .entry) (bytes .entry) (i .entry) (q .entry)) r ⌝ }
 {
-    let opening = read_front(rec, row, bytes, i, q, kind);
+    let opening = read_front(by, rec, row, bytes, i, q, kind);
     let told = opening.front;
     match told {
         Front::Refused(e) => refused(e),

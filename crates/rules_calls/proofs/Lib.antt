@@ -7,3 +7,4 @@ pub mod Accepting
 pub mod ReadBack
 pub mod HeaderOnly
 pub mod Fields
+pub mod Guides

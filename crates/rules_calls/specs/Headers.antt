@@ -1,4 +1,4 @@
--- What a header tells, from its bits: refusals 11 to 15, in this order (RULES 5.8 to 5.14, 6.4).
+-- What a header tells, from its bits, by who reads: refusals 11 to 15, in this order (RULES 5.8 to 5.14, 6.4, 6.30).
 -- Definitions only. Assumes nothing.
 use Prim.Native.Nat.{ℕ, _/_, _%_}
 use mathlib.Core.Bool.{Bool, true, false, cond, not, _&&_, _||_}
@@ -15,6 +15,8 @@ use Rattle.rules_frame.specs.declared.Kind.{Kind}
 use Rattle.rules_frame.specs.Frame.{sfdOf, goesWith}
 use Rattle.rules_calls.specs.declared.Refusal.the-variants.{Sfd, Crc, Signal, Service, Length}
 use Rattle.rules_calls.specs.declared.Told.{Told}
+use Rattle.rules_calls.specs.declared.Reader.{Reader}
+use Rattle.rules_calls.specs.declared.Reader.the-variants.{Ours, Of1997}
 use Rattle.rules_calls.specs.declared.Front.{Front}
 use Rattle.rules_calls.specs.declared.Front.the-variants as front
 
@@ -35,6 +37,15 @@ pub record Accepted : Type 0 where
 -- what our readers accept: the codes of the rates that go with the kind, and SERVICE as above
 abbrev pub ours : Accepted
 ours = record { signals = λ k signal. isCode signal && goesWith k (rateOf signal); services = serviceAllowed }
+
+-- what the guides of 1997 accept: SIGNAL 10 or 20, and SERVICE 0. They know the long kind alone, so it is not asked
+abbrev pub of1997 : Accepted
+of1997 = record { signals = λ k signal. eqb signal 10 || eqb signal 20; services = λ r s. eqb s 0 }
+
+-- each by who reads
+abbrev pub acceptedBy : Reader → Accepted
+acceptedBy Ours = ours
+acceptedBy Of1997 = of1997
 
 -- two rows of bits are the same
 unfoldable pub sameBits : List ℕ → List ℕ → Bool

@@ -1,3 +1,4 @@
 pub mod Answers
 pub mod Writing
 pub mod Headers
+pub mod Plain

@@ -67,14 +67,15 @@ pub enum Refusal {
     // code: header_of, crc_octets
     // with: crcBits
     Crc,
-    // promise: SIGNAL is not a rate of this kind
-    // rule: 6.4 (13), 5.8
-    // code: fields_of
+    // promise: SIGNAL is not a rate of this kind; of a guide of 1997, it is neither 10 nor 20
+    // rule: 6.4 (13), 5.8, 6.30
+    // code: fields_of, signal_accepted
     // with: fieldsOf
     Signal { length: usize },
-    // promise: at 11 Mbit/s SERVICE is none of 0, 4, 128 and 132; at the other rates it is neither 0 nor 4
-    // rule: 6.4 (14), 5.9, 5.14
-    // code: service_allowed
+    // promise: at 11 Mbit/s SERVICE is none of 0, 4, 128 and 132; at the other rates it is neither 0 nor 4; of a guide
+    // of 1997, it is not 0
+    // rule: 6.4 (14), 5.9, 5.14, 6.30
+    // code: service_allowed, service_accepted
     // with: serviceAllowed
     Service { length: usize },
     // promise: n is outside 1 to 4,095, or the writer's LENGTH and bit 7 for n differ from those read
@@ -110,6 +111,12 @@ pub struct Told {
     pub length: usize,
     pub n: usize,
     pub clock: bool,
+}
+
+// Who reads, and so which headers are accepted: our own readers, or the guides of 1997.
+pub enum Reader {
+    Ours,
+    Of1997,
 }
 
 // What a recording's front tells.

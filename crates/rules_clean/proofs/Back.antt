@@ -12,7 +12,7 @@ use lib.Seq.{take-take, length-take-le}
 use Rattle.base.specs.Below.{Below}
 use Rattle.rules_rates.specs.declared.Rate.{Rate}
 use Rattle.rules_rates.specs.declared.Rate.the-variants.{One}
-use Rattle.rules_rates.specs.Rates.{lengthField}
+use Rattle.rules_rates.specs.Rates.{codeOf, lengthField}
 use Rattle.rules_chips.specs.Chips.{Taken}
 use Rattle.rules_bits.specs.Code.{wordsChips}
 use Rattle.rules_frame.specs.declared.Kind.{Kind}
@@ -24,6 +24,7 @@ use Rattle.rules_frame.specs.Frame.{
   headerRate,
   goesWith,
   frontChips,
+  serviceField,
   sentHeader,
   frame,
   frameChips,
@@ -34,8 +35,9 @@ use Rattle.rules_calls.specs.declared.Told.{Told}
 use Rattle.rules_calls.specs.declared.Refusal.the-variants.{ShorterThanFront, Ends, OctetRoom}
 use Rattle.rules_calls.specs.declared.Front.the-variants as front
 use Rattle.rules_calls.specs.declared.Reading.the-variants as reading
-use Rattle.rules_calls.specs.Headers.{told}
+use Rattle.rules_calls.specs.Headers.{Accepted, ours, fieldsOf, told}
 use Rattle.rules_reading.specs.Reading.{
+  frontBy,
   frontOf,
   wholeOf,
   frontBits,
@@ -98,6 +100,10 @@ module _ (kind : ℕ) (r : Rate) (p : ℕ) (clock : Bool) (xs : List ℕ) (is-ki
     pub front-is : (rest : List Taken) → frontOf k (clean ++ rest) ≡ front.Fields t
     front-is rest = back.front-is kind r p clock xs is-kind l goes some few (clean ++ rest) (as-sent rest .front)
 
+    pub front-sent : (rest : List Taken) (accepted : Accepted)
+        → frontBy accepted k (clean ++ rest) ≡ fieldsOf accepted k (codeOf r) (serviceField r clock n) (lengthField r n)
+    front-sent rest = back.front-sent kind r p clock xs is-kind l goes some few (clean ++ rest) (as-sent rest .front)
+
     -- ---- whole, with anything after it
     module _ (rest : List Taken) (room : ℕ) (agree : Bool) (e : agree ≡ true) where
       pub good-reading : n ≤ room
@@ -131,7 +137,7 @@ module _ (kind : ℕ) (r : Rate) (p : ℕ) (clock : Bool) (xs : List ℕ) (is-ki
           back.opened kind is-kind agree cut room e ∙ ap (λ f. afterFront k cut room (wholeOf k cut f)) cut-refused
         where
           cut-refused : frontOf k cut ≡ front.Refused ShorterThanFront
-          cut-refused = unfold frontOf in rw (lt-ltb (length cut) (frontChips k) (omega (arith, cut-length)))
+          cut-refused = unfold frontBy in rw (lt-ltb (length cut) (frontChips k) (omega (arith, cut-length)))
 
       pub payload-refused : frontChips k ≤ j
           → readingOf kind agree cut room ≡ reading.Refused (Ends (lengthField r n))
@@ -142,7 +148,7 @@ module _ (kind : ℕ) (r : Rate) (p : ℕ) (clock : Bool) (xs : List ℕ) (is-ki
           known : frontOf k cut ≡ front.Fields t
           known =
               front-same k cut (clean ++ [])
-              (take-take (frontChips k) j clean h ∙ ap (take (frontChips k)) (sym (append-nil clean)))
+              (take-take (frontChips k) j clean h ∙ ap (take (frontChips k)) (sym (append-nil clean))) ours
               ∙ front-is []
 
           ends : wholeOf k cut (front.Fields t) ≡ front.Refused (Ends (lengthField r n))

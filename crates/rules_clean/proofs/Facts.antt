@@ -55,7 +55,7 @@ use Rattle.rules_reading.specs.Reading.{
   frontOdd,
   frontHeard,
   frontBits,
-  frontOf,
+  frontBy,
   payloadWords,
   payloadOdd,
   payloadOf,
@@ -111,7 +111,7 @@ unfolding
     lastHeard mixed scramble descramble addWhere crcStep remainder crcBits
     preambleBits fieldBits headerBits sentHeader frameBits sentBits partsChips framed frame
     firstUnusable firstOdd decidedWords preambleWords headerWords reference headerPhase payloadPhase frontOdd frontHeard
-    frontBits sameBits fieldsOf headerOf frontOf payloadWords payloadOdd payloadOf payloadReading readingOf octetsFound
+    frontBits sameBits fieldsOf headerOf frontBy payloadWords payloadOdd payloadOf payloadReading readingOf octetsFound
 bad = refl
 
 -- behind a front that tells what it does, with room for so many octets: 17 and 9; 9 and 10, the 9 at the part's end;
@@ -154,7 +154,7 @@ unfolding
     lastHeard mixed scramble descramble addWhere crcStep remainder crcBits
     preambleBits fieldBits headerBits sentHeader frameBits sentBits partsChips framed frame
     firstUnusable firstOdd decidedWords preambleWords headerWords reference headerPhase payloadPhase frontOdd frontHeard
-    frontBits sameBits fieldsOf headerOf frontOf payloadWords payloadOdd payloadOf payloadReading readingOf octetsFound
+    frontBits sameBits fieldsOf headerOf frontBy payloadWords payloadOdd payloadOf payloadReading readingOf octetsFound
 good = refl
 
 -- ---- the octet buffer: read, it is the payload, and zeros after it
@@ -167,5 +167,5 @@ unfolding
     lastHeard mixed scramble descramble addWhere crcStep remainder crcBits
     preambleBits fieldBits headerBits sentHeader frameBits sentBits partsChips framed frame
     firstUnusable firstOdd decidedWords preambleWords headerWords reference headerPhase payloadPhase frontOdd frontHeard
-    frontBits sameBits fieldsOf headerOf frontOf payloadWords payloadOdd payloadOf payloadReading readingOf octetsFound
+    frontBits sameBits fieldsOf headerOf frontBy payloadWords payloadOdd payloadOf payloadReading readingOf octetsFound
 octets = refl

@@ -7,19 +7,20 @@ use Prim.Native.Nat.{ℕ, _-_, _≤_, _<_}
 use lib.ListN.{length, replicate}
 use Rattle.base.specs.Below.{Below}
 use Rattle.rules_rates.specs.declared.Rate.{Rate}
-use Rattle.rules_rates.specs.Rates.{lengthField}
+use Rattle.rules_rates.specs.Rates.{codeOf, lengthField}
 use Rattle.rules_chips.specs.Chips.{Taken}
 use Rattle.rules_frame.specs.declared.Kind.{Kind}
-use Rattle.rules_frame.specs.Frame.{isKind, kindOf, goesWith, sentHeader, frameChips}
+use Rattle.rules_frame.specs.Frame.{isKind, kindOf, goesWith, serviceField, sentHeader, frameChips}
 use Rattle.rules_frame.proofs.Headers.{sent-length, sent-below}
-use Rattle.rules_calls.proofs.ReadBack.{header-back}
+use Rattle.rules_calls.proofs.ReadBack.{fields-back, header-sent}
 use Rattle.rules_calls.specs.declared.Told.{Told}
 use Rattle.rules_calls.specs.declared.Refusal.the-variants.{OctetRoom}
 use Rattle.rules_calls.specs.declared.Front.the-variants as front
 use Rattle.rules_calls.specs.declared.Reading.the-variants as reading
-use Rattle.rules_calls.specs.Headers.{told}
+use Rattle.rules_calls.specs.Headers.{Accepted, ours, fieldsOf, told}
 use Rattle.rules_reading.specs.Leads.{frameLeads, leastOf}
 use Rattle.rules_reading.specs.Reading.{
+  frontBy,
   frontOf,
   payloadOf,
   wholeOf,
@@ -52,10 +53,15 @@ module _ (kind : ℕ) (r : Rate) (p : ℕ) (clock : Bool) (xs : List ℕ) (is-ki
   abbrev t : Told
   t = told r (lengthField r n) n clock
 
+  -- the front comes to what the three fields do, whoever reads
+  pub front-sent : FrontAsSent k r p header xs rec → (accepted : Accepted)
+      → frontBy accepted k rec ≡ fieldsOf accepted k (codeOf r) (serviceField r clock n) (lengthField r n)
+  front-sent begun accepted =
+      whole.front-read k r p header xs (sent-length r clock n) rec l (sent-below r clock n) begun accepted
+      ∙ header-sent accepted k r clock n few
+
   pub front-is : FrontAsSent k r p header xs rec → frontOf k rec ≡ front.Fields t
-  front-is begun =
-      whole.front-read k r p header xs (sent-length r clock n) rec l (sent-below r clock n) begun
-      ∙ header-back k r clock n goes some few
+  front-is begun = front-sent begun ours ∙ fields-back k r clock n goes some few
 
   module _ (sent : AsSent k r p header xs rec) (room : ℕ) (agree : Bool) (e : agree ≡ true) where
     rec-is : readingOf kind agree rec room ≡ payloadReading k t rec room

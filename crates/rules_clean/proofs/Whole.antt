@@ -42,11 +42,11 @@ use Rattle.rules_calls.specs.declared.Told.{Told}
 use Rattle.rules_calls.specs.declared.Front.the-variants as front
 use Rattle.rules_calls.specs.declared.Reading.the-variants as reading
 use Rattle.rules_calls.specs.declared.Refusal.the-variants.{OctetRoom}
-use Rattle.rules_calls.specs.Headers.{ours, headerOf, told}
+use Rattle.rules_calls.specs.Headers.{Accepted, headerOf, told}
 use Rattle.rules_reading.specs.Leads.{frameLeads, leastOf}
 use Rattle.rules_reading.specs.Reading.{
   frontBits,
-  frontOf,
+  frontBy,
   preambleWords,
   headerWords,
   payloadWords,
@@ -197,10 +197,10 @@ module _ (k : Kind) (r : Rate) (p : ℕ) (header xs : List ℕ) (eh : length hea
             (append-assoc (replicate (syncBits k) (syncBit k)) (bitsOf 16 (sfdOf k)) (header))
             ∙ one-of (syncBits k) (syncBit k) j (bitsOf 16 (sfdOf k) ++ header) i
 
-    -- whatever the header's bits say, they are read
-    pub front-read : frontOf k rec ≡ headerOf ours k (bitsOf 16 (sfdOf k)) header
-    unfolding frontOf
-    front-read =
+    -- whatever the header's bits say, they are read, whoever reads
+    pub front-read : (accepted : Accepted) → frontBy accepted k rec ≡ headerOf accepted k (bitsOf 16 (sfdOf k)) header
+    unfolding frontBy
+    front-read accepted =
         rw (
           le-ltb (length rec) (frontChips k) (begun .front-there),
           begun .front-usable,

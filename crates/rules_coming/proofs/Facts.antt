@@ -65,7 +65,7 @@ use Rattle.rules_reading.specs.Reading.{
   frontOdd,
   frontHeard,
   frontBits,
-  frontOf,
+  frontBy,
 }
 use Rattle.rules_reading.proofs.Facts.{longFrame, shortFrame, spoilt, turnedBy}
 use Rattle.rules_coming.specs.declared.Coming.{Coming}
@@ -118,7 +118,7 @@ unfolding
     lastHeard mixed scramble descramble addWhere crcStep remainder crcBits
     preambleBits fieldBits headerBits sentHeader frameBits sentBits partsChips framed frame
     firstUnusable firstOdd decidedWords preambleWords headerWords reference headerPhase frontOdd frontHeard
-    frontBits sameBits fieldsOf headerOf frontOf frontReading
+    frontBits sameBits fieldsOf headerOf frontBy frontReading
 bad = refl
 
 -- told, whatever the payload's chips are: a frame whose payload's first symbol is grown by 1, with chips after it; a
@@ -132,7 +132,7 @@ unfolding
     lastHeard mixed scramble descramble addWhere crcStep remainder crcBits
     preambleBits fieldBits headerBits sentHeader frameBits sentBits partsChips framed frame
     firstUnusable firstOdd decidedWords preambleWords headerWords reference headerPhase frontOdd frontHeard
-    frontBits sameBits fieldsOf headerOf frontOf frontReading
+    frontBits sameBits fieldsOf headerOf frontBy frontReading
 good = refl
 
 -- ---- parts: chips from a place, exactly so many; none where the recording ends before

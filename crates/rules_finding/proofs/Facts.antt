@@ -53,7 +53,7 @@ use Rattle.rules_reading.specs.Reading.{
   frontOdd,
   frontHeard,
   frontBits,
-  frontOf,
+  frontBy,
 }
 use Rattle.rules_reading.proofs.Facts.{shortFrame, spoilt}
 use Rattle.rules_finding.specs.declared.NotFound.the-variants.{NoKind, NoOffsets, NoStart}
@@ -112,7 +112,7 @@ pub bad : find 2 0 [] ∷ find 256 1 [] ∷ find 1 0 [] ∷ find 0 4097 [] ∷ f
     ∷ find 1 3 (replicate 1055 0) ∷ []
     ≡ Refused NoKind ∷ Refused NoKind ∷ Refused NoOffsets ∷ Refused NoOffsets ∷ Refused NoStart ∷ Refused NoStart
     ∷ Refused NoStart ∷ []
-unfolding find hardRecording firstStart findingOf frontOf
+unfolding find hardRecording firstStart findingOf frontBy
 bad = refl
 
 -- a clean frame of the short kind: its front alone, whatever the payload's chips and whether they are there; behind two
@@ -128,7 +128,7 @@ unfolding
     lastHeard mixed scramble descramble addWhere crcStep remainder crcBits
     preambleBits fieldBits headerBits sentHeader frameBits sentBits partsChips framed frame
     firstUnusable firstOdd decidedWords preambleWords headerWords reference headerPhase frontOdd frontHeard
-    frontBits sameBits fieldsOf headerOf frontOf firstStart findingOf
+    frontBits sameBits fieldsOf headerOf frontBy firstStart findingOf
 starts = refl
 
 -- Barker's side values decide every symbol there as its opposite, which growths do not see, and the front meets none of
@@ -143,5 +143,5 @@ unfolding
     lastHeard mixed scramble descramble addWhere crcStep remainder crcBits
     preambleBits fieldBits headerBits sentHeader frameBits sentBits partsChips framed frame
     firstUnusable firstOdd decidedWords preambleWords headerWords reference headerPhase frontOdd frontHeard
-    frontBits sameBits fieldsOf headerOf frontOf firstStart findingOf
+    frontBits sameBits fieldsOf headerOf frontBy firstStart findingOf
 early = refl

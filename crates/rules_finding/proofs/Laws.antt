@@ -25,7 +25,7 @@ use Rattle.rules_frame.specs.Frame.{isKind, kindOf, frontChips}
 use Rattle.rules_calls.specs.declared.Told.{Told}
 use Rattle.rules_calls.specs.declared.Front.{Front}
 use Rattle.rules_calls.specs.declared.Front.the-variants as front
-use Rattle.rules_reading.specs.Reading.{frontOf}
+use Rattle.rules_reading.specs.Reading.{frontBy, frontOf}
 use Rattle.rules_reading.proofs.Places.{some-chips}
 use Rattle.rules_finding.specs.declared.NotFound.{NotFound}
 use Rattle.rules_finding.specs.declared.NotFound.the-variants.{NoKind, NoOffsets, NoStart}
@@ -162,7 +162,7 @@ module _ (k : Kind) where
           ∙ ap (λ (x : ℕ). Start x t) (sym (g .offset-is))
 
   pub short-missed : (rec : List Taken) → length rec < frontChips k → Missed (frontOf k rec)
-  unfolding frontOf
+  unfolding frontBy
   short-missed rec h = rw (lt-ltb (length rec) (frontChips k) h) tt
 
   pub start-there : (i : ℕ) (rec : List Taken) (t : Told) → frontOf k (drop i rec) ≡ front.Fields t

@@ -1,5 +1,6 @@
 -- The definitions of LENGTH and of bit 7 come to what is said of them in plain numbers, for every number of octets.
 --     length-is, length-only    LENGTH, and no other number is one
+--     length-some               of some octets it is not 0
 --     seven-is, seven-only      bit 7 beside any LENGTH of the octets, and no other
 --     whole-is, whole-once      what a reader takes of LENGTH before bit 7, and no other number is that
 --     octets-once               the two together are of one number of octets
@@ -52,6 +53,13 @@ length-once (length-1 n) (length-1 n′) = refl
 length-once (length-2 n) (length-2 n′) = refl
 length-once (length-5 n l a b) (length-5 n′ m c d) = omega arith
 length-once (length-11 n l a b) (length-11 n′ m c d) = omega arith
+
+-- of some octets it is not 0
+pub length-some : {rate n l : ℕ} → LengthOf rate n l → 1 ≤ n → 1 ≤ l
+length-some (length-1 n) h = omega arith
+length-some (length-2 n) h = omega arith
+length-some (length-5 n l a b) h = omega arith
+length-some (length-11 n l a b) h = omega arith
 
 pub length-only : (r : Rate) {n l : ℕ} → LengthOf (codeOf r) n l → l ≡ lengthField r n
 length-only r {n} h = length-once h (length-is r n)

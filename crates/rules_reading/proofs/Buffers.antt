@@ -1,7 +1,7 @@
 -- What a read leaves in the octet buffer, by the cases of what it comes to: a good reading holds its payload within the
 -- room.
 --     payload-length    a payload has the octets that the header tells
---     reading-fits      which are at most the room
+--     after-fits, reading-fits    which are at most the room
 --     filled-octets     the buffer keeps its length; zeros after a refusal, and behind a payload
 --     payload-front     the payload is the buffer's front
 --     found-long        a read leaves as many octets as there is room for
@@ -42,7 +42,7 @@ abbrev pub Fits : ℕ → Reading → Type 0
 Fits room (reading.Refused e) = Unit {0}
 Fits room (reading.Good t used least) = t .n ≤ room
 
-after-fits : (k : Kind) (rec : List Taken) (room : ℕ) (f : Front) → Fits room (afterFront k rec room f)
+pub after-fits : (k : Kind) (rec : List Taken) (room : ℕ) (f : Front) → Fits room (afterFront k rec room f)
 after-fits k rec room (front.Refused e) = tt
 after-fits k rec room (front.Fields t) = go (payloadReading k t rec room) (payload-comes k t rec room)
   where

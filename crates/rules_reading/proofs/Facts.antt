@@ -66,6 +66,7 @@ use Rattle.rules_reading.specs.Reading.{
   frontOdd,
   frontHeard,
   frontBits,
+  frontBy,
   frontOf,
   readingOf,
   octetsFound,
@@ -131,7 +132,7 @@ unfolding
     lastHeard mixed scramble descramble addWhere crcStep remainder crcBits
     preambleBits fieldBits headerBits sentHeader frameBits sentBits partsChips framed frame
     firstUnusable firstOdd decidedWords preambleWords headerWords reference headerPhase frontOdd frontHeard
-    frontBits sameBits fieldsOf headerOf frontOf
+    frontBits sameBits fieldsOf headerOf frontBy
 sync-turned = refl
 
 -- the smallest lead of the short frame is 4 full chips, at symbol 96, the payload's first
@@ -152,11 +153,11 @@ pub early : refused 2 true 1 [] ∷ refused 2 false 1 [] ∷ refused 256 true 1 
     ∷ (1 ∷ 0 ∷ 0 ∷ 0 ∷ 0 ∷ 0 ∷ 0 ∷ 0 ∷ 0 ∷ [])
     ∷ (7 ∷ 0 ∷ 0 ∷ 0 ∷ 0 ∷ 0 ∷ 0 ∷ 0 ∷ 0 ∷ []) ∷ (7 ∷ 0 ∷ 0 ∷ 0 ∷ 0 ∷ 0 ∷ 0 ∷ 0 ∷ 0 ∷ [])
     ∷ (8 ∷ 0 ∷ 0 ∷ 0 ∷ 0 ∷ 0 ∷ 0 ∷ 0 ∷ 0 ∷ []) ∷ (8 ∷ 0 ∷ 0 ∷ 0 ∷ 0 ∷ 0 ∷ 0 ∷ 0 ∷ 0 ∷ []) ∷ []
-unfolding fields refused hardRecording frontOf readingOf
+unfolding fields refused hardRecording frontBy readingOf
 early = refl
 
 -- the octet buffer of a refused read: zeros, the whole of it
 pub left : octetsFound 2 true [] 2 ∷ octetsFound 0 false [] 1 ∷ octetsFound 1 true [] 3 ∷ []
     ≡ (0 ∷ 0 ∷ []) ∷ (0 ∷ []) ∷ (0 ∷ 0 ∷ 0 ∷ []) ∷ []
-unfolding readingOf frontOf octetsFound
+unfolding readingOf frontBy octetsFound
 left = refl

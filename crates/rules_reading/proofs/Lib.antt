@@ -19,3 +19,5 @@ pub mod Lowest
 pub mod Passes
 pub mod Halves
 pub mod Buffers
+pub mod Readers
+pub mod Guides

@@ -23,6 +23,7 @@ use Rattle.rules_bits.specs.Scrambler.{descramble}
 use Rattle.rules_frame.specs.declared.Kind.{Kind}
 use Rattle.rules_frame.specs.declared.Kind.the-variants.{Long, Short}
 use Rattle.rules_frame.specs.Frame.{headerRate, start, frontChips, preambleLength, headerLength, preambleChips}
+use Rattle.rules_calls.specs.Headers.{Accepted}
 use Rattle.rules_reading.specs.Reading.{
   orElse,
   oddGrowth,
@@ -34,7 +35,7 @@ use Rattle.rules_reading.specs.Reading.{
   frontOdd,
   frontHeard,
   frontBits,
-  frontOf,
+  frontBy,
 }
 
 -- m symbols are decided from their chips
@@ -99,9 +100,9 @@ module _ (k : Kind) (rec : List Taken) where
       (ap₂ {C = List ℕ} (λ p w. heard One 0 p w) reference-local preamble-local)
       (ap₂ {C = List ℕ} (λ p w. heard (headerRate k) 0 p w) phase-local header-local)
 
-  front-local : frontChips k ≤ length rec → frontOf k begin ≡ frontOf k rec
-  unfolding frontOf
-  front-local h =
+  front-local : (accepted : Accepted) → frontChips k ≤ length rec → frontBy accepted k begin ≡ frontBy accepted k rec
+  unfolding frontBy
+  front-local accepted h =
       rw (
         le-ltb (length rec) (frontChips k) h,
         le-ltb (length begin) (frontChips k) (omega (arith, length-take-le (frontChips k) rec h)),
@@ -121,14 +122,15 @@ module _ (k : Kind) (rec rec′ : List Taken) (e : take (frontChips k) rec ≡ t
       let same : length (take f a) ≡ length (take f b) = ap length e in
       omega (arith, same, length-take-le f a h, ap length (take-all f b (omega arith)))
 
-  -- promise: A front is read from its own chips
-  -- rule: 6.2
-  pub front-same : frontOf k rec ≡ frontOf k rec′
-  front-same = by (decLe f (length rec)) (decLe f (length rec′))
+  -- promise: A front is read from its own chips, whoever reads
+  -- rule: 6.2, 6.30
+  pub front-same : (accepted : Accepted) → frontBy accepted k rec ≡ frontBy accepted k rec′
+  front-same accepted = by (decLe f (length rec)) (decLe f (length rec′))
     where
-      by : Dec (f ≤ length rec) → Dec (f ≤ length rec′) → frontOf k rec ≡ frontOf k rec′
-      by (yes a) (yes b) = sym (front-local k rec a) ∙ ap (frontOf k) e ∙ front-local k rec′ b
+      by : Dec (f ≤ length rec) → Dec (f ≤ length rec′) → frontBy accepted k rec ≡ frontBy accepted k rec′
+      by (yes a) (yes b) =
+          sym (front-local k rec accepted a) ∙ ap (frontBy accepted k) e ∙ front-local k rec′ accepted b
       by (yes a) (no b) = absurd (long-enough rec rec′ e a (omega (arith, b)))
       by (no a) (yes b) = absurd (long-enough rec′ rec (sym e) b (omega (arith, a)))
       by (no a) (no b) =
-          unfold frontOf in rw (lt-ltb (length rec) f (omega (arith, a)), lt-ltb (length rec′) f (omega (arith, b)))
+          unfold frontBy in rw (lt-ltb (length rec) f (omega (arith, a)), lt-ltb (length rec′) f (omega (arith, b)))

@@ -53,7 +53,15 @@ use Rattle.rules_calls.proofs.Accepting.{
 }
 use Rattle.rules_reading.specs.Leads.{frameLeads, leastOf}
 use Rattle.rules_reading.specs.Heard.{sfdHeard, headerHeard, signalHeard, serviceHeard, lengthHeard}
-use Rattle.rules_reading.specs.Reading.{firstUnusable, frontOdd, frontOf, payloadOdd, wholeOf, payloadReading}
+use Rattle.rules_reading.specs.Reading.{
+  firstUnusable,
+  frontOdd,
+  frontBy,
+  frontOf,
+  payloadOdd,
+  wholeOf,
+  payloadReading,
+}
 use Rattle.rules_reading.proofs.Payloads.{foundUnusable}
 use Rattle.rules_reading.proofs.Telling.{found-or-none, decided-by, searched}
 
@@ -129,7 +137,7 @@ module _ (k : Kind) (rec : List Taken) where
           record { sound = record { clear = clear; sfd-is = s; crc-is = c }; tells = h }
 
   pub front-refuses : FrontIf (frontOf k rec)
-  unfolding frontOf
+  unfolding frontBy
   front-refuses =
       decided-by FrontIf (ltb (length rec) (frontChips k)) _ _ (λ b. front-short (ltb-true _ _ b))
       (λ a. let long = ltb-false _ _ a in

@@ -18,7 +18,7 @@ use Rattle.rules_calls.specs.declared.Front.{Front}
 use Rattle.rules_calls.specs.declared.Front.the-variants.{Refused, Fields}
 use Rattle.rules_calls.specs.Headers.{ours, headerOf}
 use Rattle.rules_calls.proofs.HeaderOnly.{HeaderSends, header-only}
-use Rattle.rules_reading.specs.Reading.{orElse, firstUnusable, frontOdd, frontOf, wholeOf}
+use Rattle.rules_reading.specs.Reading.{orElse, firstUnusable, frontOdd, frontBy, frontOf, wholeOf}
 
 -- a search, with what it found, and what holds where it found nothing
 pub searched : {A : Type 0} (P : A → Type 0) (o : Option ℕ) (f : ℕ → A) (y : A) → ((p : ℕ) → o ≡ some p → P (f p)) → P y
@@ -57,7 +57,7 @@ header-telling k sfd header = go (headerOf ours k sfd header) (header-only k sfd
         record { goes = s .goes; some-octets = s .some; few = s .few; length-is = s .told-is ∙ s .length-is }
 
 pub front-telling : (k : Kind) (rec : List Taken) → TellingIf k (frontOf k rec)
-unfolding frontOf
+unfolding frontBy
 front-telling k rec =
     branch (TellingIf k) (ltb (length rec) (frontChips k)) _ _ tt
     (λ a. searched (TellingIf k) (firstUnusable 0 (take (frontChips k) rec)) _ _ (λ p e. tt)

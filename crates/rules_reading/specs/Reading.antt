@@ -1,6 +1,6 @@
--- Reading, once for every recorder: over a list of chips, each unusable or a pair of counts (RULES 2.7, 6.2 to 6.10,
--- 6.12). The order is 1, 7, 8, then 9 and 10 over the front, 11, 12, 13, 14, 15, 16, 17, then 9 and 10 over the
--- payload; in each part 9 is looked for through the whole part before 10.
+-- Reading, once for every recorder and for whoever reads: over a list of chips, each unusable or a pair of counts
+-- (RULES 2.7, 6.2 to 6.10, 6.12, 6.30). The order is 1, 7, 8, then 9 and 10 over the front, 11, 12, 13, 14, 15, 16,
+-- 17, then 9 and 10 over the payload; in each part 9 is looked for through the whole part before 10.
 -- Definitions only. Assumes nothing.
 use Prim.Native.Nat.{ℕ, zero, suc, _+_, _-_, _*_, _/_, _%_}
 use mathlib.Core.Bool.{Bool, cond, not}
@@ -17,6 +17,7 @@ use Rattle.rules_bits.specs.Bits.{octetsOf}
 use Rattle.rules_bits.specs.Growths.{heard, growthsOf, lastHeard}
 use Rattle.rules_bits.specs.Scrambler.{descramble}
 use Rattle.rules_frame.specs.declared.Kind.{Kind}
+use Rattle.rules_frame.specs.declared.Kind.the-variants.{Long}
 use Rattle.rules_calls.specs.declared.Refusal.the-variants.{
   NoKind,
   RowsDiffer,
@@ -31,7 +32,7 @@ use Rattle.rules_calls.specs.declared.Front.{Front}
 use Rattle.rules_calls.specs.declared.Front.the-variants as front
 use Rattle.rules_calls.specs.declared.Reading.{Reading}
 use Rattle.rules_calls.specs.declared.Reading.the-variants as reading
-use Rattle.rules_calls.specs.Headers.{ours, headerOf}
+use Rattle.rules_calls.specs.Headers.{Accepted, ours, of1997, headerOf}
 use Rattle.rules_reading.specs.Leads.{frameLeads, leastOf}
 use Rattle.rules_frame.specs.Frame.{
   isKind,
@@ -112,13 +113,17 @@ frontHeard k rec =
 unfoldable pub frontBits : Kind → List Taken → List ℕ
 frontBits k rec = descramble (start k) (frontHeard k rec)
 
--- 8, then 9 and 10 over the front, 11 to 15
-unfoldable pub frontOf : Kind → List Taken → Front
-frontOf k rec =
+-- 8, then 9 and 10 over the front, 11 to 15, for a reader that accepts these headers
+unfoldable pub frontBy : Accepted → Kind → List Taken → Front
+frontBy accepted k rec =
     cond (ltb (length rec) (frontChips k)) (front.Refused ShorterThanFront)
     (orElse (firstUnusable 0 (take (frontChips k) rec)) (λ place. front.Refused (Unusable place 0))
     (orElse (frontOdd k rec) (λ place. front.Refused (OddGrowth place 0))
-    (headerOf ours k (take 16 (drop (syncBits k) (frontBits k rec))) (drop (preambleLength k) (frontBits k rec)))))
+    (headerOf accepted k (take 16 (drop (syncBits k) (frontBits k rec))) (drop (preambleLength k) (frontBits k rec)))))
+
+-- and for our own readers
+abbrev pub frontOf : Kind → List Taken → Front
+frontOf k rec = frontBy ours k rec
 
 -- ---- the payload
 
@@ -155,6 +160,11 @@ abbrev pub afterFront : Kind → List Taken → ℕ → Front → Reading
 afterFront k rec room (front.Refused e) = reading.Refused e
 afterFront k rec room (front.Fields t) = payloadReading k t rec room
 
+-- 8 to 17, and 9 and 10 over the payload: a recording of a kind, for a reader that accepts these headers, with room for
+-- so many octets
+abbrev pub readingBy : Accepted → Kind → List Taken → ℕ → Reading
+readingBy accepted k rec room = afterFront k rec room (wholeOf k rec (frontBy accepted k rec))
+
 -- ---- the whole
 
 -- from a kind as a number, whether the recorder's rows agree, the recording, and room for so many octets
@@ -162,7 +172,7 @@ unfoldable pub readingOf : ℕ → Bool → List Taken → ℕ → Reading
 readingOf kind agree rec room =
     cond (not (isKind kind)) (reading.Refused NoKind)
     (cond (not agree) (reading.Refused RowsDiffer)
-    (afterFront (kindOf kind) rec room (wholeOf (kindOf kind) rec (frontOf (kindOf kind) rec))))
+    (readingBy ours (kindOf kind) rec room))
 
 -- octets past n are 0; after a refusal the octet buffer is zeros
 abbrev pub octetsAfter : Kind → List Taken → ℕ → Reading → List ℕ
@@ -172,3 +182,11 @@ octetsAfter k rec room (reading.Good t used least) = payloadOf k (t .rate) (t .n
 -- what a read leaves in the octet buffer
 unfoldable pub octetsFound : ℕ → Bool → List Taken → ℕ → List ℕ
 octetsFound kind agree rec room = octetsAfter (kindOf kind) rec room (readingOf kind agree rec room)
+
+-- ---- as a guide of 1997 reads: long fronts only, so no kind is asked for, and what such guides accept
+
+unfoldable pub reading1997 : List Taken → ℕ → Reading
+reading1997 rec room = readingBy of1997 Long rec room
+
+unfoldable pub octets1997 : List Taken → ℕ → List ℕ
+octets1997 rec room = octetsAfter Long rec room (reading1997 rec room)

@@ -11,7 +11,7 @@ use Rattle.base.specs.Tables.{tabulate}
 use Rattle.rules_chips.specs.Chips.{hardRecording}
 use Rattle.rules_frame.specs.declared.Kind.the-variants.{Long, Short}
 use Rattle.rules_frame.specs.Frame.{frontChips}
-use Rattle.rules_reading.specs.Reading.{firstUnusable, frontOf, readingOf}
+use Rattle.rules_reading.specs.Reading.{firstUnusable, frontBy, readingOf}
 use Rattle.rules_report.specs.Totals.{Recording, Outcome, outcomeOf, total, frontTime, closestFrom}
 use Rattle.rules_report.specs.Report.{
   reportOf,
@@ -200,7 +200,7 @@ pub called : countedOf zeros (none-of 2) ∷ countedOf zeros (none-of 4294967296
     ∷ counts 0 (report 1 (replicate 4 0) (replicate 4 0) (set (replicate 18 0) 8 1) 0 0 0 0)
     ∷ counts 0 (report 1 (replicate 4 0) (replicate 4 0) (set (replicate 18 0) 9 1) 0 0 0 0)
     ∷ counts 31 (full 1000 1 2 3 4 5 6 7) ∷ counts 31 (full 0 1001 0 0 0 0 0 0) ∷ []
-unfolding hardRecording firstUnusable readingOf frontOf more added atMost takesMore countedOf
+unfolding hardRecording firstUnusable readingOf frontBy more added atMost takesMore countedOf
 called = refl
 
 -- lists: of none; rows that differ in length, either way; kinds and chips in step
@@ -208,7 +208,7 @@ pub listed : listOf [] [] ∷ listOf (replicate 1001 2) [] ∷ listOf (2 ∷ 2 �
     ∷ listOf (2 ∷ []) ([] ∷ [] ∷ []) ∷ listOf (2 ∷ 1 ∷ 256 ∷ []) ((5 ∷ []) ∷ [] ∷ [] ∷ []) ∷ []
     ≡ counts 0 zeros ∷ counts 7 zeros ∷ counts 7 zeros ∷ counts 7 zeros
     ∷ counts 0 (report 3 (replicate 4 0) (replicate 4 0) (set (set (replicate 18 0) 1 2) 8 1) 0 0 0 0) ∷ []
-unfolding hardRecording total closestFrom tabulate readingOf frontOf reportOf recordings listOf
+unfolding hardRecording total closestFrom tabulate readingOf frontBy reportOf recordings listOf
 listed = refl
 
 -- 1,000 and 1,001 of no kind

@@ -13,7 +13,7 @@ use Rattle.rules_symbols.specs.Choice.{score, those, going, firstLargest, decid
 use Rattle.rules_bits.specs.Bits.{bitsOf, highestFirst}
 use Rattle.rules_bits.specs.Crc.{addWhere, crcStep, remainder, crcBits}
 use Rattle.rules_frame.specs.Frame.{fieldBits}
-use Rattle.rules_reading.specs.Reading.{frontOf, readingOf}
+use Rattle.rules_reading.specs.Reading.{frontBy, readingOf}
 use Rattle.rules_why.specs.Why.{growthAt, serviceLeft, lengthFor, reason, whyOf}
 
 -- before a chip is looked at: 1, by numbers past 255, 2^32 among them; 8, of an empty recording, of five chips, and a
@@ -23,7 +23,7 @@ early : whyOf 2 [] 1 ∷ whyOf 258 (7 ∷ []) 1 ∷ whyOf (2 ^ 32) [] 0
     ∷ []
     ≡ reason 1 0 0 2 ∷ reason 1 0 0 258 ∷ reason 1 0 0 4294967296
     ∷ reason 8 0 2112 0 ∷ reason 8 0 2112 5 ∷ reason 8 0 2112 2111 ∷ reason 8 0 1056 1055 ∷ []
-unfolding hardRecording frontOf readingOf whyOf
+unfolding hardRecording frontBy readingOf whyOf
 early = refl
 
 symbols : List ℕ

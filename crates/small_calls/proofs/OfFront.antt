@@ -99,11 +99,11 @@ module _ (kind : ℕ) (k : Kind) (chips : List ℕ) (room : ℕ) where
       let l = front-odd-at rec k p e in
       at-odd p 0 (omega (arith, f .place-is)) (omega (arith, f .place-is, l, ones-fit k))
 
-  front-shown : ShownIf (afterUsable k rec)
+  front-shown : ShownIf (afterUsable ours k rec)
   front-shown =
       found-or-none ShownIf (frontOdd k rec) (λ p. Refused (OddGrowth p 0)) _ odd-shown (λ e. header-shown)
 
-  module _ (e : Refusal) (told : afterUsable k rec ≡ Refused e) where
+  module _ (e : Refusal) (told : afterUsable ours k rec ≡ Refused e) where
     shown : Shows e
     shown = subst ShownIf told front-shown
 
@@ -122,7 +122,7 @@ module _ (kind : ℕ) (k : Kind) (chips : List ℕ) (room : ℕ) where
             )
         go (in-header n x y) q = absurd (n (ap refusalNumber q))
 
-    module _ (usable : frontOf k rec ≡ afterUsable k rec) where
+    module _ (usable : frontOf k rec ≡ afterUsable ours k rec) where
       is : afterTold kind k chips room (frontOf k rec) ≡ reasonOf kind k chips rec room (reading.Refused e)
       is = ap (afterTold kind k chips room) (usable ∙ told)
 

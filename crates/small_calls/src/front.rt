@@ -8,6 +8,7 @@ ghost use Rattle.rules_coming.specs.Coming.{frontReading, comingOf};
 ghost use Rattle.promises.specs.Calls.{Handed};
 use choose_recorders::Recorder;
 use rules_calls::Front;
+use rules_calls::Reader;
 use rules_calls::Refusal;
 use rules_calls::Told;
 use rules_coming::Coming;
@@ -65,7 +66,7 @@ pub fn read_front(kind: u64, chips: &[u8]) -> Coming
     let bytes = &byte[0..0];
     let sample = [0.0f32; 1];
     let row = &sample[0..0];
-    let opening = read_fronts::read_whole(Recorder::Hard, chips, bytes, row, row, k);
+    let opening = read_fronts::read_whole(Reader::Ours, Recorder::Hard, chips, bytes, row, row, k);
     let front = opening.front;
     match front {
         Front::Refused(e) => refused(k, e),

@@ -23,6 +23,7 @@ use read_fronts::Look;
 use read_fronts::Opening;
 use rules_calls::Front;
 use rules_calls::Least;
+use rules_calls::Reader;
 use rules_calls::Refusal;
 use rules_calls::Told;
 use rules_frame::Kind;
@@ -169,7 +170,7 @@ fn of_front(kind: Kind, chips: &[u8], room: u64, known: FrontHeard) -> Reason
 {
     let sfd = known.sfd;
     let header = known.header;
-    let opening = read_fronts::told(kind, known);
+    let opening = read_fronts::told(Reader::Ours, kind, known);
     let front = opening.front;
     match front {
         Front::Refused(e) => match e {

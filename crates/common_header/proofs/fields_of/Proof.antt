@@ -1,13 +1,12 @@
 -- `common_header::fields_of` meets its contract: at each return the tests before it were passed and its own failed,
 -- and the definition computes to that answer. Assumes nothing.
 use mathlib.Core.Path.{_≡_, ap, _∙_}
-use mathlib.Core.Bool.{true, _&&_}
+use mathlib.Core.Bool.{true}
 use Prim.Native.Nat.{_/_, _%_}
 use borrow.Author.Needs.{needs}
 use Rattle.rules_rates.specs.declared.Rate.{Rate}
-use Rattle.rules_rates.specs.Rates.{isCode, rateOf}
-use Rattle.rules_frame.specs.Frame.{goesWith}
-use Rattle.rules_calls.specs.Headers.{serviceAllowed, fieldsOf}
+use Rattle.rules_rates.specs.Rates.{rateOf}
+use Rattle.rules_calls.specs.Headers.{acceptedBy, fieldsOf}
 use Rattle.common_header.specs.Code.{octetsTold}
 use Rattle.common_header.proofs.Lengths.{told-fails, told-holds}
 use Rattle.base.proofs.Tests.{failed, passed}
@@ -15,13 +14,15 @@ use Rattle.common_header.proofs.fields_of.Statement.{statement}
 use Rattle.common_header.proofs.fields_of.Tie as tie
 
 -- what the functions say, of the rate that SIGNAL names
-service-is : (c : tie.After-service-allowed)
+service-is : (c : tie.After-service-accepted)
     → (let start = c .before .before .before in
-    c .service-allowed .result ≡ serviceAllowed (rateOf (start .args .signal)) (start .args .service))
+    c .service-accepted .result
+    ≡ acceptedBy (start .args .by) .services (rateOf (start .args .signal)) (start .args .service))
 service-is c =
     let start = c .before .before .before in
-    c .service-allowed .ensures
-    ∙ ap (λ (r : Rate). serviceAllowed r (start .args .service)) (c .before .before .rate-of .ensures)
+    c .service-accepted .ensures
+    ∙ ap (λ (r : Rate). acceptedBy (start .args .by) .services r (start .args .service))
+    (c .before .before .rate-of .ensures)
 
 told-is : (c : tie.After-octets-told)
     → (let start = c .before .before .before .before .before .before in
@@ -36,17 +37,17 @@ told-is c =
 -- what is known past the first two tests
 coded : (c : tie.Else1)
     → (let start = c .before .before .before .before in
-    isCode (start .args .signal) && goesWith (start .args .k) (rateOf (start .args .signal)) ≡ true)
-coded c = passed (c .before .before .signal-allowed .ensures) (c .if1 .left)
+    acceptedBy (start .args .by) .signals (start .args .k) (start .args .signal) ≡ true)
+coded c = passed (c .before .before .signal-accepted .ensures) (c .if1 .left)
 
 served : (c : tie.Else2)
     → (let start = c .before .before .before .before .before in
-    serviceAllowed (rateOf (start .args .signal)) (start .args .service) ≡ true)
+    acceptedBy (start .args .by) .services (rateOf (start .args .signal)) (start .args .service) ≡ true)
 served c = passed (service-is (c .before .before)) (c .if2 .left)
 
 returns : tie.Need-returns
 unfolding fieldsOf
-returns c = rw (failed (c .before .before .signal-allowed .ensures) (c .if1 .taken))
+returns c = rw (failed (c .before .before .signal-accepted .ensures) (c .if1 .taken))
 
 returns-2 : tie.Need-returns-2
 unfolding fieldsOf

@@ -14,13 +14,13 @@ use Rattle.common_header.proofs.header_of.Statement.{statement}
 use Rattle.common_header.proofs.header_of.Tie as tie
 
 -- the header is six octets
-six : (c : tie.Start) → length (c .args .t3) ≡ 6
+six : (c : tie.Start) → length (c .args .t4) ≡ 6
 six c = search needs
 
-fits : (c : tie.Start) (i : ℕ) → Fits w8 (getD (c .args .t3) i 0)
+fits : (c : tie.Start) (i : ℕ) → Fits w8 (getD (c .args .t4) i 0)
 fits c i = search needs
 
-octets : (c : tie.Start) → Below 256 (c .args .t3)
+octets : (c : tie.Start) → Below 256 (c .args .t4)
 octets c = record { at = λ i. fits c i .fits }
 
 returns : tie.Need-returns

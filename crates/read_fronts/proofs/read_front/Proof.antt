@@ -10,17 +10,17 @@ hear-front-requires c κs = all-usable _ _ _ (c .before .before .look-at-front .
 
 returns : tie.Need-returns
 returns c =
-    opens-shorter _ _ _ (c .before .before .before .look-at-front .ensures) _ (c .before .enum-told .given .1)
+    opens-shorter _ _ _ (c .before .before .before .look-at-front .ensures) _ _ (c .before .enum-told .given .1)
     (c .refused .ensures)
 
 returns-2 : tie.Need-returns-2
 returns-2 c =
-    opens-unusable _ _ _ (c .before .before .before .before .look-at-front .ensures) _ _
+    opens-unusable _ _ _ (c .before .before .before .before .look-at-front .ensures) _ _ _
     (c .before .before .looked .given .1) (c .refused2 .ensures)
 
 returns-3 : tie.Need-returns-3
 returns-3 c =
-    opens-usable _ _ _ (c .before .before .before .before .look-at-front .ensures) _
+    opens-usable _ _ _ (c .before .before .before .before .look-at-front .ensures) _ _
     (c .before .before .enum-told2 .given .1) (c .told .ensures _ (c .before .hear-front .ensures))
 
 pub read-front-spec : {M : Type 1} → statement M

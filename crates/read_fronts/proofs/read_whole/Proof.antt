@@ -16,25 +16,25 @@ within a b x y e f h = omega arith
 
 frame-chips-requires : tie.Need-frame-chips-requires
 frame-chips-requires c κs =
-    whole-few _ _ _ (c .before .before .before .read-front .ensures) _ (c .before .told2 .given .1)
+    whole-few _ _ _ _ (c .before .before .before .read-front .ensures) _ (c .before .told2 .given .1)
 
 returns : tie.Need-returns
 returns c =
     let told = c .before .before .before .before .before in
-    whole-ends _ _ _ (told .before .before .read-front .ensures) _ (told .told2 .given .1) _
+    whole-ends _ _ _ _ (told .before .before .read-front .ensures) _ (told .told2 .given .1) _
     (below _ _ _ _ (c .before .before .chip-count .ensures) (c .before .before .before .frame-chips .ensures)
     (c .before .if1 .taken))
     (c .refused2 .ensures)
 
 returns-2 : tie.Need-returns-2
 returns-2 c =
-    whole-refused _ _ _ (c .before .before .before .before .read-front .ensures) _ _ (c .before .before .told .given .1)
-    (c .refused .ensures)
+    whole-refused _ _ _ _ (c .before .before .before .before .read-front .ensures) _ _
+    (c .before .before .told .given .1) (c .refused .ensures)
 
 returns-3 : tie.Need-returns-3
 returns-3 c =
     let told = c .before .before .before .before in
-    whole-kept _ _ _ (told .before .before .read-front .ensures) _ (told .told2 .given .1)
+    whole-kept _ _ _ _ (told .before .before .read-front .ensures) _ (told .told2 .given .1)
     (within _ _ _ _ (c .before .chip-count .ensures) (c .before .before .frame-chips .ensures) (c .if1 .left))
 
 pub read-whole-spec : {M : Type 1} → statement M

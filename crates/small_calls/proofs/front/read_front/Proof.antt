@@ -12,6 +12,7 @@ use Rattle.rules_calls.specs.declared.Refusal.the-variants.{NoKind}
 use Rattle.rules_calls.specs.declared.Front.{Front}
 use Rattle.rules_calls.specs.declared.Front.the-variants.{Refused}
 use Rattle.rules_reading.specs.Reading.{frontOf, wholeOf}
+use Rattle.rules_calls.specs.Headers.{ours}
 use Rattle.rules_coming.specs.declared.Coming.{Coming}
 use Rattle.rules_coming.specs.Coming.{frontReading, comingOf}
 use Rattle.rules_coming.proofs.Laws.{coming-no-kind, coming-whole}
@@ -25,7 +26,7 @@ module _ (kind : ℕ) (rec : List Taken) (k : Kind) (r : Coming) (k-is : k ≡ k
       → r ≡ comingOf (kindOf kind) (frontReading kind rec)
   no-kind h e = e ∙ ap₂ {C = Coming} comingOf k-is (sym (coming-no-kind kind rec h))
 
-  known : (o : Opening) (f : Front) → isKind kind ≡ true → OpensWhole k rec o → o .front ≡ f → r ≡ comingOf k f
+  known : (o : Opening) (f : Front) → isKind kind ≡ true → OpensWhole ours k rec o → o .front ≡ f → r ≡ comingOf k f
       → r ≡ comingOf (kindOf kind) (frontReading kind rec)
   known o f h x g e =
       e

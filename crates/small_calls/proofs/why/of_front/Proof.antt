@@ -30,6 +30,7 @@ use Rattle.rules_calls.specs.declared.Refusal.the-variants.{
 }
 use Rattle.rules_calls.specs.declared.Front.the-variants.{Fields}
 use Rattle.rules_calls.specs.Answers.{refusalNumber}
+use Rattle.rules_calls.specs.Headers.{ours}
 use Rattle.rules_calls.proofs.Refusal as refusal
 use Rattle.rules_reading.specs.Reading.{frontOf}
 use Rattle.read_fronts.specs.Openings.{afterUsable, Opens}
@@ -66,7 +67,7 @@ abbrev begun : tie.After-told → tie.Start
 begun c = c .before .before .before .before
 
 opened : (c : tie.After-told) → let a = begun c .args in
-    Opens (a .kind) (hardRecording (a .chips .now)) (afterUsable (a .kind) (hardRecording (a .chips .now)))
+    Opens (a .kind) (hardRecording (a .chips .now)) (afterUsable ours (a .kind) (hardRecording (a .chips .now)))
     (c .told .result)
 opened c = let s = begun c in c .told .ensures (hardRecording (s .args .chips .now)) (s .pre .1)
 
@@ -86,7 +87,7 @@ returns c number =
     let told = front .before .before in
     let s = begun told in
     front-odd number (s .args .kind) (s .args .chips .now) (s .args .room) _
-    (sym (opened told .told) ∙ front .front .given .1) (s .pre .0 .0) _ _ (at .e .given .1)
+    (sym (opened told .told) ∙ front .front .given .1) (s .pre .0 .0 ours) _ _ (at .e .given .1)
     (c .before .growth-at .ensures) (c .refused .ensures)
 
 returns-2 : tie.Need-returns-2
@@ -96,7 +97,7 @@ returns-2 c number =
     let told = front .before .before in
     let s = begun told in
     front-header number (s .args .kind) (s .args .chips .now) (s .args .room) _
-    (sym (opened told .told) ∙ front .front .given .1) (s .pre .0 .0)
+    (sym (opened told .told) ∙ front .front .given .1) (s .pre .0 .0 ours)
     (not-odd (front .front .given .0 .0) (other .match2 .keys2)) (s .pre .1 .sfd) (s .pre .1 .header)
     (c .of-header .ensures)
 
@@ -105,7 +106,7 @@ fields : (c : tie.After-line) → let a = begun (c .before .before .before .befo
     frontOf (a .kind) (hardRecording (a .chips .now)) ≡ Fields (c .before .before .front2 .given .0 .0)
 fields c =
     let told = c .before .before .before .before in
-    begun told .pre .0 .0 ∙ sym (opened told .told) ∙ c .before .before .front2 .given .1
+    begun told .pre .0 .0 ours ∙ sym (opened told .told) ∙ c .before .before .front2 .given .1
 
 of-payload-requires : tie.Need-of-payload-requires
 of-payload-requires c κs =

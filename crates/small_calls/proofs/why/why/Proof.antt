@@ -5,6 +5,7 @@ use borrow.Author.Needs.{needs}
 use Rattle.base.proofs.Tests.{failed, passed}
 use Rattle.rules_chips.specs.Chips.{hardRecording}
 use Rattle.rules_chips.proofs.Recorders.{length-hard}
+use Rattle.rules_calls.specs.Headers.{ours}
 use Rattle.read_fronts.specs.declared.Look.{Look}
 use Rattle.read_fronts.specs.Openings.{Looks}
 use Rattle.small_calls.proofs.OfFront.{why-no-kind, why-told, why-shorter, why-unusable}
@@ -55,7 +56,7 @@ returns-2 c =
     let kind = known look in
     why-shorter (a .kind) (a .chips .now) (a .room) _
     (passed (kind .before .before .is-kind .ensures) (kind .before .if1 .left)) (kind .kind-of .ensures)
-    (looked look (short .enum-told .given .1)) (c .before .front-chips .ensures) (c .refused2 .ensures)
+    (looked look (short .enum-told .given .1) ours) (c .before .front-chips .ensures) (c .refused2 .ensures)
 
 returns-3 : tie.Need-returns-3
 returns-3 c =
@@ -65,7 +66,7 @@ returns-3 c =
     let kind = known look in
     why-unusable (a .kind) (a .chips .now) (a .room) _
     (passed (kind .before .before .is-kind .ensures) (kind .before .if1 .left)) (kind .kind-of .ensures) _
-    (looked look (at .looked .given .1) .0) (c .refused3 .ensures)
+    (looked look (at .looked .given .1) .0 ours) (c .refused3 .ensures)
 
 returns-4 : tie.Need-returns-4
 returns-4 c =

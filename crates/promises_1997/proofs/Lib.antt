@@ -1,0 +1,5 @@
+pub mod Beside
+pub mod Exactly
+pub mod SentTo
+pub mod Kept
+pub mod Uses

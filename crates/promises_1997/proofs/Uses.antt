@@ -1,0 +1,200 @@
+-- Uses of what is promised of the call that reads as the guides of 1997 do: each takes a statement out of `kept`, and
+-- together they need every part of it.
+--     not-1, not-7, not-18, cleared, behind, as-long
+--                            what is left, and numbers that do not come
+--     by-rate, by-clock      55 with the clock bit, 20 with it, whatever LENGTH says: 13 and 14 with that LENGTH
+--     as-long-read, as-cut   SIGNAL 10 and SERVICE 0, and a recording shorter than a front: what a long read has
+--     own-length             a LENGTH that is shown is a header's
+--     accepted-too, unheard-too, same-length
+--                            beside our own long read
+--     known-rate, no-clock   a frame that is accepted is of 10 or 20, without the clock bit
+--     from-ours              and one that ours accepts there is accepted; at 110 it is 13, with the clock bit 14
+--     caption, too-fast, clock-bit, cut-short, any-end
+--                            frames that were written
+--     answered-once          another answer to the same recording
+-- Assumes nothing.
+use mathlib.Core.Path.{_≡_, refl, sym, ap, _∙_, subst}
+use mathlib.Core.Bool.{true}
+use mathlib.Core.List.{List, [], _++_}
+use Prim.Native.Nat.{ℕ, _-_, _≤_}
+use native.Mathlib.Decide.{ℕ-discrete}
+use native.Mathlib.Omega.{arith}
+use lib.ListN.{length, take, drop, replicate}
+use lib.Seq.{take-at}
+use Rattle.rules_rates.specs.Plain.{LengthOf}
+use Rattle.rules_chips.specs.Chips.{Taken, hardRecording}
+use Rattle.rules_calls.specs.declared.Written.{Written}
+use Rattle.rules_calls.specs.declared.Record.{Record}
+use Rattle.rules_calls.specs.Plain.{Rate1997, at-1, at-2}
+use Rattle.promises.specs.Calls.{ReadHard, refused, Sent}
+use Rattle.promises.specs.Reasons.{HasHeader, ReadAnswer}
+use Rattle.promises.proofs.Exactly.{headed-late}
+use Rattle.promises_1997.specs.Calls.{Read1997}
+use Rattle.promises_1997.specs.Promises.{Answer1997, before-13, is-13, is-14, from-15}
+use Rattle.promises_1997.proofs.Kept.{kept}
+
+not-55 : {rate : ℕ} → rate ≡ 55 → Rate1997 rate → ⊥
+not-55 e at-1 = omega arith
+not-55 e at-2 = omega arith
+
+not-110 : {rate : ℕ} → rate ≡ 110 → Rate1997 rate → ⊥
+not-110 e at-1 = omega arith
+not-110 e at-2 = omega arith
+
+module _ (chips : List ℕ) (room : ℕ) (a : Record) (left : List ℕ) (f : Read1997 chips room a left) where
+  abbrev rec : List Taken
+  rec = hardRecording chips
+
+  -- ---- what is left, and numbers
+  not-1 : a .number ≡ 1 → ⊥
+  not-1 e = omega (arith, kept .fills-1997 chips room a left f .1 (λ z. omega arith) .1)
+
+  not-7 : a .number ≡ 7 → ⊥
+  not-7 e = omega (arith, kept .fills-1997 chips room a left f .1 (λ z. omega arith) .1)
+
+  not-18 : a .number ≡ 18 → ⊥
+  not-18 e = omega (arith, kept .fills-1997 chips room a left f .1 (λ z. omega arith) .2)
+
+  cleared : (a .number ≡ 0 → ⊥) → left ≡ replicate room 0
+  cleared z = kept .fills-1997 chips room a left f .1 z .0
+
+  behind : a .number ≡ 0 → drop (a .n) left ≡ replicate (room - a .n) 0
+  behind z = kept .fills-1997 chips room a left f .2 z
+
+  as-long : length left ≡ room
+  as-long = kept .fills-1997 chips room a left f .0
+
+  -- ---- its number, and why
+  by-rate : {l : ℕ} → HasHeader 0 true rec 55 4 l → (a .number ≡ 13) × (a .length ≡ l) × (a .place ≡ 0) × (a .n ≡ 0)
+  by-rate {l} h =
+      let e = kept .answers-1997 chips room a left f .0 (refused 13 l) (is-13 h (not-55 refl)) in
+      ((λ i. sym e i .number), (λ i. sym e i .length), (λ i. sym e i .place), λ i. sym e i .n)
+
+  by-clock : {l : ℕ} → HasHeader 0 true rec 20 4 l → (a .number ≡ 14) × (a .length ≡ l) × (a .place ≡ 0) × (a .rate ≡ 0)
+  by-clock {l} h =
+      let e = kept .answers-1997 chips room a left f .0 (refused 14 l) (is-14 h at-2 (λ z. omega arith)) in
+      ((λ i. sym e i .number), (λ i. sym e i .length), (λ i. sym e i .place), λ i. sym e i .rate)
+
+  as-long-read : {l : ℕ} (b : Record) → HasHeader 0 true rec 10 0 l → ReadAnswer 0 true rec room b
+      → (a .number ≡ b .number) × (a .place ≡ b .place) × (a .used ≡ b .used) × (a .clock ≡ b .clock)
+  as-long-read b h x =
+      let e = kept .answers-1997 chips room a left f .0 b (from-15 h at-1 x) in
+      ((λ i. sym e i .number), (λ i. sym e i .place), (λ i. sym e i .used), λ i. sym e i .clock)
+
+  as-cut : ReadAnswer 0 true rec room (refused 8 0) → a .number ≡ 8
+  as-cut x =
+      λ i. sym (kept .answers-1997 chips room a left f .0 (refused 8 0) (before-13 (omega arith) refl x)) i .number
+
+  -- a LENGTH that is shown is a header's
+  data Shown : ℕ → Type 0 where
+    nothing : Shown 0
+    of-header : {signal service l : ℕ} → HasHeader 0 true rec signal service l → Shown l
+
+  own-length : Shown (a .length)
+  own-length = by (kept .answers-1997 chips room a left f .1)
+    where
+      by : {c : Record} → Answer1997 rec room c → Shown (c .length)
+      by (before-13 n z x) = subst Shown (sym z) nothing
+      by (is-13 h n) = of-header h
+      by (is-14 h y n) = of-header h
+      by (from-15 h y x) = subst Shown (sym (headed-late 0 true rec room h x .0)) (of-header h)
+
+  -- ---- beside our own long read
+  module _ (b : Record) (octets : List ℕ) (g : ReadHard 0 chips room b octets) where
+    accepted-too : a .number ≡ 0 → (a ≡ b) × (left ≡ octets)
+    accepted-too z =
+        kept .beside-ours chips room a b left octets f g .0 (λ e. omega arith) (λ e. omega arith)
+
+    unheard-too : b ≡ refused 11 0 → (a ≡ refused 11 0) × (left ≡ octets)
+    unheard-too e =
+        let number : b .number ≡ 11 = λ i. e i .number in
+        let w = kept .beside-ours chips room a b left octets f g .1 (omega arith) (λ i. e i .length) in
+        (w .0 ∙ e, w .1)
+
+    same-length : a .length ≡ b .length
+    same-length = kept .beside-ours chips room a b left octets f g .2
+
+    -- ---- what is accepted
+    also-zero : a .number ≡ 0 → b .number ≡ 0
+    also-zero z = (λ i. sym (accepted-too z .0) i .number) ∙ z
+
+    known-rate : a .number ≡ 0 → (Rate1997 (b .rate) → ⊥) → ⊥
+    known-rate z n =
+        let e = kept .accepted-ours chips room a b left octets f g (also-zero z) .1 n in
+        let number : a .number ≡ 13 = λ i. e i .number in
+        omega arith
+
+    no-clock : a .number ≡ 0 → Rate1997 (b .rate) → b .clock ≡ 0
+    no-clock z y = by (ℕ-discrete (b .clock) 0)
+      where
+        by : Dec (b .clock ≡ 0) → b .clock ≡ 0
+        by (yes e) = e
+        by (no n) =
+            let e = kept .accepted-ours chips room a b left octets f g (also-zero z) .2 y n in
+            let number : a .number ≡ 14 = λ i. e i .number in
+            absurd (omega arith)
+
+    from-ours : b .number ≡ 0
+        → (b .rate ≡ 20 → b .clock ≡ 0 → (a ≡ b) × (left ≡ octets))
+        × (b .rate ≡ 110 → a ≡ refused 13 (b .length))
+        × (b .rate ≡ 10 → b .clock ≡ 1 → a ≡ refused 14 (b .length))
+    from-ours z =
+        let w = kept .accepted-ours chips room a b left octets f g z in (
+          (λ r c. w .0 (subst Rate1997 (sym r) at-2) c),
+          (λ r. w .1 (not-110 r)),
+          λ r c. w .2 (subst Rate1997 (sym r) at-1) (λ z. omega arith),
+        )
+
+-- ---- frames that were written
+module _ (phase : ℕ) (payload : List ℕ) (w : Written) (chips : List ℕ) (room : ℕ) (a : Record) (left : List ℕ) where
+  -- a caption at 1 Mbit/s, and chips of anything behind it
+  caption : Sent 0 10 phase 0 payload w chips → (tail : List ℕ) → Read1997 (take (w .chips) chips ++ tail) room a left
+      → length payload ≤ room → (l : ℕ) → LengthOf 10 (length payload) l
+      → (a .number ≡ 0) × (a .rate ≡ 10) × (a .length ≡ l) × (a .n ≡ length payload) × (a .used ≡ w .chips)
+      × (a .lead ≡ 11264) × (a .symbol ≡ 0) × (take (length payload) left ≡ payload)
+  caption s tail f h l d =
+      let v = kept .sent-1997 10 phase 0 payload w chips s l d tail room a left f .0 at-1 refl h in (
+        (λ i. v .0 i .number),
+        (λ i. v .0 i .rate),
+        (λ i. v .0 i .length),
+        (λ i. v .0 i .n),
+        (λ i. v .0 i .used),
+        (λ i. v .0 i .lead),
+        (λ i. v .0 i .symbol),
+        ap (take (length payload)) (v .1)
+            ∙ take-at payload (replicate (room - length payload) 0) (length payload) refl,
+      )
+
+  -- at 5.5 Mbit/s with the clock bit
+  too-fast : Sent 0 55 phase 1 payload w chips → Read1997 (take (w .chips) chips ++ []) room a left → (l : ℕ)
+      → LengthOf 55 (length payload) l → a ≡ refused 13 l
+  too-fast s f l d = kept .sent-1997 55 phase 1 payload w chips s l d [] room a left f .1 (not-55 refl)
+
+  -- at 2 Mbit/s with the clock bit, any number but 0
+  clock-bit : Sent 0 20 phase 7 payload w chips → Read1997 (take (w .chips) chips ++ []) room a left → (l : ℕ)
+      → LengthOf 20 (length payload) l → a ≡ refused 14 l
+  clock-bit s f l d =
+      kept .sent-1997 20 phase 7 payload w chips s l d [] room a left f .2 at-2 (λ z. omega arith)
+
+  -- nothing but the front: at 11 Mbit/s 13, with the clock bit 14
+  cut-short : (b : Record) (octets : List ℕ) → Read1997 (take 2112 chips ++ []) room a left
+      → ReadHard 0 (take 2112 chips ++ []) room b octets → (l : ℕ)
+      → (Sent 0 110 phase 0 payload w chips → LengthOf 110 (length payload) l → a ≡ refused 13 l)
+      × (Sent 0 10 phase 1 payload w chips → LengthOf 10 (length payload) l → a ≡ refused 14 l)
+  cut-short b octets f g l = (
+    (λ s d. kept .begun-1997 110 phase 0 payload w chips s l d [] room a b left octets f g .1 (not-110 refl)),
+    λ s d. kept .begun-1997 10 phase 1 payload w chips s l d [] room a b left octets f g .2 at-1 (λ z. omega arith),
+  )
+
+  -- a front of 2 Mbit/s, whatever follows it
+  any-end : Sent 0 20 phase 0 payload w chips → (tail : List ℕ) (b : Record) (octets : List ℕ)
+      → Read1997 (take 2112 chips ++ tail) room a left → ReadHard 0 (take 2112 chips ++ tail) room b octets → (l : ℕ)
+      → LengthOf 20 (length payload) l → (a ≡ b) × (left ≡ octets)
+  any-end s tail b octets f g l d =
+      kept .begun-1997 20 phase 0 payload w chips s l d tail room a b left octets f g .0 at-2 refl
+
+answered-once : (chips : List ℕ) (room : ℕ) (a b : Record) (left octets : List ℕ) → Read1997 chips room a left
+    → Read1997 chips room b octets → (a .number ≡ b .number) × (left ≡ octets)
+answered-once chips room a b left octets f g =
+    let w = kept .one-answer-1997 chips room a b left octets f g in
+    ((λ i. w .0 i .number), w .1)
