@@ -2,9 +2,10 @@
  *
  * The library writes a frame as chips, and reads a hard, soft or byte recording of chips back to the
  * payload; of a hard one it tells from the front alone what is coming, finds the first offset at which
- * a front can be read, and says why a read is refused. It compares two hard ones, chips and payloads. Of
- * many hard ones it makes a report, and spells it out as text. It lays out a table's radio settings as a
- * store of a few octets, reads them and changes one.
+ * a front can be read, and says why a read is refused. It reads a hard one as the oldest guides do, those
+ * of 1997. It compares two hard ones, chips and payloads. Of many hard ones it makes a report, and spells
+ * it out as text. It lays out a table's radio settings as a store of a few octets, reads them and changes
+ * one.
  * What it answers is fixed by docs/RULES.md and proved for every input; docs/PROMISES.md says where. No
  * proof covers this header: it is written by hand and held to the source by a test.
  *
@@ -36,6 +37,10 @@
  *           been refused, and is counted as refused then. dsss_why answers the number of a read, so that
  *           a refusal is what it was asked for, and no fault of the call. dsss_compare has no number of
  *           its own: its two records have theirs, and the chips are compared whatever these are.
+ * Reads     Four calls read a recording to its payload. dsss_read_hard, dsss_read_soft and dsss_read_bytes
+ *           are one for each recorder. dsss_read_1997 reads hard recordings as the guides of 1997 do, and
+ *           refuses more of them, with 13 and 14. No other call reads so: what dsss_read_front, dsss_find,
+ *           dsss_why, dsss_compare and the calls of the report say of a read, they say of dsss_read_hard.
  * Fills     What a lent row held before does not matter. Each call writes every element of it,
  *           refused or not: a chip buffer is 4s but for the frame, an octet buffer is 0s but for
  *           the payload, the text or the store, a row of numbers is 0s but for its list. A refused
@@ -60,14 +65,15 @@ extern "C" {
  * added, PATCH when neither. A call whose record or parameters change gets a new symbol, which a
  * macro here stands for: an object built with an older header then does not link, and is built anew. */
 #define DSSS_VERSION_MAJOR 3
-#define DSSS_VERSION_MINOR 5
+#define DSSS_VERSION_MINOR 6
 #define DSSS_VERSION_PATCH 0
 #define DSSS_VERSION (10000 * DSSS_VERSION_MAJOR + 100 * DSSS_VERSION_MINOR + DSSS_VERSION_PATCH)
 
 /* The symbols of the calls. C and C++ write the plain names; what goes by symbols, as another language
- * or a debugger does, finds these. dsss_read_front, dsss_find, dsss_why, dsss_compare, the three calls of
- * the report and the three of the store are their own symbols. dsss_compare answers two records of the type
- * dsss_record, and gets a new symbol when that type changes. */
+ * or a debugger does, finds these. dsss_read_1997, dsss_read_front, dsss_find, dsss_why, dsss_compare, the
+ * three calls of the report and the three of the store are their own symbols. When the type dsss_record
+ * changes, each call that answers it gets a new symbol: the four reads, dsss_read_1997 too, and
+ * dsss_compare, which answers two of it. */
 #define dsss_write dsss_write_2
 #define dsss_read_hard dsss_read_hard_3
 #define dsss_read_soft dsss_read_soft_3
@@ -123,7 +129,9 @@ extern "C" {
      + (size_t)DSSS_OCTET_CHIPS(rate) * (size_t)(n))
 
 /* Refusals. Writing looks for 1 to 6 in this order. Reading looks for 1, 7, 8, then 9 and 10 over
- * the front, 11 to 17, then 9 and 10 over the payload; each 9 through its whole part before 10. A
+ * the front, 11 to 17, then 9 and 10 over the payload; each 9 through its whole part before 10.
+ * dsss_read_1997 has this order too, without 1 and 7, and gives 13 and 14 for more: for every SIGNAL and
+ * every SERVICE that a guide of 1997 does not know. All other calls give them as dsss_read_hard does. A
  * read of the front looks for 1, 8, then 9 and 10 over the front, 11 to 16, and for nothing more. A
  * find looks for 1 and 18, then for a front, and answers 19 if there is none. dsss_why looks as a read
  * does, and dsss_compare as two reads do, each for itself. A report's calls answer 31, of a list 7 before
@@ -143,8 +151,8 @@ extern "C" {
 #define DSSS_REFUSED_GROWTH 10     /* a 1 Mbit/s symbol grown by 1 or 3; place: its first chip */
 #define DSSS_REFUSED_SFD 11        /* unscrambled SFD differs */
 #define DSSS_REFUSED_CRC 12        /* CRC differs */
-#define DSSS_REFUSED_SIGNAL 13     /* SIGNAL not a rate of this kind */
-#define DSSS_REFUSED_SERVICE 14    /* SERVICE not 0 or 4, nor 128 or 132 at 11 Mbit/s */
+#define DSSS_REFUSED_SIGNAL 13     /* SIGNAL not a rate of this kind; of dsss_read_1997, neither 10 nor 20 */
+#define DSSS_REFUSED_SERVICE 14    /* SERVICE not 0 or 4, nor 128 or 132 at 11 Mbit/s; of dsss_read_1997, not 0 */
 #define DSSS_REFUSED_LENGTH 15     /* LENGTH and bit 7 not those of 1 to 4,095 octets */
 #define DSSS_REFUSED_CUT 16        /* recording ends inside the payload */
 #define DSSS_REFUSED_OCTET_ROOM 17 /* octet buffer shorter than the payload, or than a report's text */
@@ -255,9 +263,11 @@ typedef struct {
 } dsss_compared;
 
 /* The month's report: what was counted of the hard recordings that it has seen, each read under its own
- * kind and with room for DSSS_PAYLOAD_MAX octets, so that 17 does not come. It begins with all zeros,
- * dsss_report report = {0} (in C++ dsss_report()), and is then kept by its calls alone. Rows of rates go by
- * rate code, rising: 10, 20, 55, 110. A frame is accepted if its read answers 0. */
+ * kind and with room for DSSS_PAYLOAD_MAX octets, so that 17 does not come. They are read as dsss_read_hard
+ * reads them, never as dsss_read_1997 does: a frame that only a guide of 1997 refuses counts as accepted.
+ * It begins with all zeros, dsss_report report = {0} (in C++ dsss_report()), and is then kept by its calls
+ * alone. Rows of rates go by rate code, rising: 10, 20, 55, 110. A frame is accepted if its read answers
+ * 0. */
 typedef struct {
     uint64_t seen;        /* recordings counted: all of frames and of refused; at most DSSS_RECORDINGS_MAX */
     uint64_t frames[4];   /* frames accepted, by rate */
@@ -331,6 +341,29 @@ dsss_written dsss_write(uint64_t kind, uint64_t rate, uint64_t phase, uint64_t c
  *          crates/promises_damage, SpoiledReadBack. */
 dsss_record dsss_read_hard(uint64_t kind, const uint8_t *chips, size_t chips_len, uint8_t *octets,
                            size_t octets_len);
+
+/* Reads the payload of one frame from a hard recording as the guides of 1997 do. They know only the long
+ * preamble, the rates 10 and 20, and a SERVICE of 0. No kind is handed in: every recording is read as
+ * DSSS_LONG.
+ *   chips    the recording, as for dsss_read_hard with DSSS_LONG          refusals 8 to 16
+ *   octets   lent, at least the payload's; DSSS_PAYLOAD_MAX always do     refusal 17
+ * Answer:  number 0, the rate code, 10 or 20, LENGTH, n, the chips used, the clock bit, which is 0, and
+ *          the smallest lead with its symbol; place 0.
+ * Refused: the number; the place of a 9 or 10; LENGTH for 13 to 17 and for a 9 or 10 in the payload; all
+ *          else 0, the lead and its symbol too. 13 is given if SIGNAL is neither 10 nor 20, so for 55 and
+ *          110 too, whatever SERVICE is. 14 is given if SERVICE is not 0, so for 4, the clock bit, too.
+ *          1 and 7 do not come. All else is refused as by dsss_read_hard with DSSS_LONG.
+ * Buffer:  octets[] is the payload and then 0s; refused, all 0s.
+ * Damage:  as of dsss_read_hard, for the frames that are read here.
+ * Unless it refuses with 13 or 14, record and octets are those of dsss_read_hard with DSSS_LONG over the same
+ * recording and with the same room; LENGTH is the same even then. A long frame of dsss_write, whole and with
+ * room, is read if its rate is 10 or 20 and it has no clock bit. At 55 and 110 it is refused with 13, with
+ * the clock bit or without; at 10 and 20 with the clock bit it is refused with 14.
+ * TO REACH A GUIDE OF 1997, WRITE WITH DSSS_LONG, DSSS_RATE_1 OR DSSS_RATE_2, AND CLOCK 0.
+ * The month's report does not read by this call, and dsss_why does not explain it: of a frame that is refused
+ * here with 13 or 14, dsss_why may say that a read is not refused.
+ * Proved:  crates/dsss, dsss_read_1997, record Read1997: answer and octets. */
+dsss_record dsss_read_1997(const uint8_t *chips, size_t chips_len, uint8_t *octets, size_t octets_len);
 
 /* Reads the payload of one frame from a soft recording, a full chip being 1.0.
  *   kind     DSSS_LONG or DSSS_SHORT                                      refusal 1
@@ -460,8 +493,9 @@ dsss_compared dsss_compare(uint64_t kind, const uint8_t *a, size_t a_len, const 
 /* Counts one hard recording more into a report.
  *   report   the report so far, all zeros at first                        refusal 31
  *   kind     as for dsss_read_hard; one that is none is counted under 1   no refusal
- *   chips    the recording as for dsss_read_hard, empty too; what its read is refused with is
- *            counted, not answered                                        no refusal
+ *   chips    the recording as for dsss_read_hard, empty too. It is read as by that call, not as by
+ *            dsss_read_1997; what its read is refused with is counted, not answered
+ *                                                                         no refusal
  * Answer:  number 0 and the report with the recording, accepted or refused. A frame accepted counts in
  *          frames, octets, airtime and, if its smallest lead is the first or below the one kept, in some,
  *          lead and recording; a recording refused counts under its number. Both count in seen.
@@ -597,9 +631,9 @@ static inline const char *dsss_sentence(uint64_t number)
     case DSSS_REFUSED_CRC:
         return "The CRC of the header differs.";
     case DSSS_REFUSED_SIGNAL:
-        return "SIGNAL is not a rate of this kind.";
+        return "SIGNAL is not a rate of this kind or, for a guide of 1997, neither 10 nor 20.";
     case DSSS_REFUSED_SERVICE:
-        return "SERVICE is not 0 or 4, nor 128 or 132 at 11 Mbit/s.";
+        return "SERVICE is not 0 or 4, nor 128 or 132 at 11 Mbit/s, or, for a guide of 1997, not 0.";
     case DSSS_REFUSED_LENGTH:
         return "LENGTH is not one that a writer makes for 1 to 4,095 octets.";
     case DSSS_REFUSED_CUT:

@@ -2,9 +2,10 @@
  *
  *   month FILE..
  *
- * Each file is one hard recording: its first octet is the kind, the others are the chips. They are counted
- * in the order given, and the report's text (docs/RULES.md, 6.20) goes to the standard output. Every word is
- * the name of a file, "-" and "--help" too; there are no options.
+ * Each file is one hard recording: its first octet is the kind, the others are the chips. They are read as
+ * dsss_read_hard reads them, never as dsss_read_1997 does, and counted in the order given; the report's text
+ * (docs/RULES.md, 6.20) goes to the standard output. Every word is the name of a file, "-" and "--help" too;
+ * there are no options.
  *
  * Left out are a file that cannot be opened or read to its end, an empty one, and one of more than 65,536
  * octets. The standard error has a line for each, with the reason, and then one that says how many recordings

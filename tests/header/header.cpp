@@ -9,6 +9,8 @@ namespace radio {
 using ::dsss_write;
 typedef dsss_record (*hard_reader)(uint64_t, const uint8_t *, size_t, uint8_t *, size_t);
 static const hard_reader read_hard = &dsss_read_hard;
+typedef dsss_record (*guide)(const uint8_t *, size_t, uint8_t *, size_t);
+static const guide read_1997 = &dsss_read_1997;
 typedef dsss_coming (*front_reader)(uint64_t, const uint8_t *, size_t);
 static const front_reader read_front = &dsss_read_front;
 typedef dsss_reason (*asker)(uint64_t, const uint8_t *, size_t, uint64_t);
@@ -68,11 +70,13 @@ int main()
     dsss_record hard = radio::read_hard(DSSS_SHORT, NULL, 0, NULL, 0);
     dsss_record soft = dsss_read_soft(DSSS_SHORT + 1, NULL, 0, NULL, 0, NULL, 0);
     dsss_record bytes = ::dsss_read_bytes(DSSS_LONG, NULL, 0, NULL, 0);
+    dsss_record guide = radio::read_1997(NULL, 0, NULL, 0);
     dsss_coming coming = radio::read_front(DSSS_SHORT, NULL, 0);
     dsss_found none = ::dsss_find(DSSS_SHORT, NULL, 0, 0), found = dsss_find(DSSS_LONG, NULL, 0, DSSS_OFFSETS_MAX);
 
     if (written.number != DSSS_REFUSED_PAYLOAD || hard.number != DSSS_REFUSED_FRONT
         || soft.number != DSSS_REFUSED_KIND || bytes.number != DSSS_REFUSED_FRONT
+        || guide.number != DSSS_REFUSED_FRONT || ::dsss_read_1997(NULL, 0, NULL, 0).length != 0
         || coming.number != DSSS_REFUSED_FRONT || coming.at != 0 || coming.count != 0
         || none.number != DSSS_REFUSED_OFFSETS || found.number != DSSS_REFUSED_NO_START || found.offset != 0
         || hard.lead != 0 || soft.symbol != 0 || bytes.lead != 0 || !reasons() || !reports()
