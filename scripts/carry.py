@@ -3,8 +3,8 @@
 
     scripts/carry.py docs/NAMES.md FOLDER
 
-FOLDER holds crates/, a folder a crate, and may hold crates.txt and patches of the tree. The table of the
-first file, "What became what", says which crate was renamed, which became a module of another, which file moved, and which type or
+FOLDER holds crates/, a folder a crate, and may hold crates.txt and patches of the tree. The table of the first file,
+"What became what", says which crate was renamed, which became a module of another, which file moved, and which type or
 definition has another name. Files are moved and rewritten in place, so work on a copy; `rt fmt` puts the layout right
 afterwards. Names are all that is rewritten: a patch may still not apply, and a proof may still want work.
 """

@@ -12,7 +12,7 @@ use Rattle.rules_calls.specs.Headers.{of1997}
 use Rattle.rules_reading.specs.Reading.{frontBy, wholeOf, reading1997, octets1997}
 use Rattle.rules_reading.proofs.Buffers.{after-fits, filled-octets}
 use Rattle.promises_1997.specs.Calls.{Read1997}
-use Rattle.promises_1997.specs.Promises.{Fills1997, OneAnswer1997, Promised1997}
+use Rattle.promises_1997.specs.Promises.{Fills1997, OneAnswer1997, GuidesPromised}
 use Rattle.promises_1997.proofs.Beside.{beside-ours, accepted-ours}
 use Rattle.promises_1997.proofs.Exactly.{numbers, answers-1997}
 use Rattle.promises_1997.proofs.SentTo.{sent-1997, begun-1997}
@@ -47,7 +47,7 @@ fills-1997 chips room a left f =
 one-answer-1997 : OneAnswer1997
 one-answer-1997 chips room a b left kept f g = (f .answer ∙ sym (g .answer), f .octets ∙ sym (g .octets))
 
-pub kept : Promised1997
+pub kept : GuidesPromised
 kept = record {
   fills-1997 = fills-1997;
   answers-1997 = answers-1997;

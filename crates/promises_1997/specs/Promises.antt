@@ -121,7 +121,7 @@ OneAnswer1997 =
     → Read1997 chips room a left → Read1997 chips room b kept → (a ≡ b) × (left ≡ kept)
 
 -- ---- all of it
-pub record Promised1997 : Type 0 where
+pub record GuidesPromised : Type 0 where
   pub fills-1997 : Fills1997
   pub answers-1997 : Answers1997
   pub beside-ours : BesideOurs

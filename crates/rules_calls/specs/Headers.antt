@@ -43,6 +43,7 @@ abbrev pub of1997 : Accepted
 of1997 = record { signals = λ k signal. eqb signal 10 || eqb signal 20; services = λ r s. eqb s 0 }
 
 -- each by who reads
+-- working notion: of the code, in which who reads is a value
 abbrev pub acceptedBy : Reader → Accepted
 acceptedBy Ours = ours
 acceptedBy Of1997 = of1997
