@@ -1,8 +1,9 @@
-/* plain.h: the fourteen calls of dsss.h in plain C, and the parts of them that are worth timing alone.
+/* plain.h: the fifteen calls of dsss.h in plain C, and the parts of them that are worth timing alone.
  *
- * The calls take, answer and fill what dsss_write, dsss_read_hard, dsss_read_soft, dsss_read_bytes, dsss_read_front,
- * dsss_find, dsss_why, dsss_compare, dsss_report_add, dsss_report_list, dsss_report_text, dsss_store_write,
- * dsss_store_read and dsss_store_change do. Nothing here is proved; tests compare it with the second program.
+ * The calls take, answer and fill what dsss_write, dsss_read_hard, dsss_read_soft, dsss_read_bytes, dsss_read_1997,
+ * dsss_read_front, dsss_find, dsss_why, dsss_compare, dsss_report_add, dsss_report_list, dsss_report_text,
+ * dsss_store_write, dsss_store_read and dsss_store_change do. Nothing here is proved; tests compare it with the second
+ * program.
  *
  * Compiled with -DPLAIN_AS_DSSS, plain_write.c, plain_choose.c, plain_read.c, plain_find.c, plain_compare.c,
  * plain_report.c and plain_store.c define the calls of dsss.h themselves: a stand-in for the library, to test the tests
@@ -17,6 +18,7 @@
 #define plain_read_hard dsss_read_hard
 #define plain_read_soft dsss_read_soft
 #define plain_read_bytes dsss_read_bytes
+#define plain_read_1997 dsss_read_1997
 #define plain_read_front dsss_read_front
 #define plain_find dsss_find
 #define plain_why dsss_why
@@ -37,6 +39,7 @@ dsss_record plain_read_soft(uint64_t kind, const float *i, size_t i_len, const f
                             size_t q_len, uint8_t *octets, size_t octets_len);
 dsss_record plain_read_bytes(uint64_t kind, const int8_t *bytes, size_t bytes_len, uint8_t *octets,
                              size_t octets_len);
+dsss_record plain_read_1997(const uint8_t *chips, size_t chips_len, uint8_t *octets, size_t octets_len);
 dsss_coming plain_read_front(uint64_t kind, const uint8_t *chips, size_t chips_len);
 dsss_found plain_find(uint64_t kind, const uint8_t *chips, size_t chips_len, uint64_t offsets);
 dsss_reason plain_why(uint64_t kind, const uint8_t *chips, size_t chips_len, uint64_t room);

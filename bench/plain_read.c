@@ -9,7 +9,17 @@
 
 /* ---- Reading --------------------------------------------------------------------------------- */
 
+/* Who reads: the fastest rate that they know, and the bits of SERVICE that they allow, below 11 Mbit/s and at it. */
+struct who {
+    unsigned fastest;
+    uint32_t service, service_11;
+};
+
+static const struct who ours = {DSSS_RATE_11, 0x04, 0x84}; /* the clock bit, and bit 7 */
+static const struct who guides_1997 = {DSSS_RATE_2, 0x00, 0x00};
+
 struct reader {
+    const struct who *who;
     const struct recording *from;
     size_t at;        /* the next symbol's first chip */
     unsigned phase;   /* of the last symbol */
@@ -206,14 +216,14 @@ static dsss_record refused(uint64_t number, size_t place, uint64_t length)
 }
 
 /* What the header's 32 bits tell, once the CRC is known to be right: the answer of a good read, or 13 to 16. */
-static dsss_record judge(const struct recording *from, uint64_t kind, uint32_t header)
+static dsss_record judge(const struct who *who, const struct recording *from, uint64_t kind, uint32_t header)
 {
     const struct rate *rate = rate_of(header & 0xFF);
     uint32_t service = header >> 8 & 0xFF, length = header >> 16, clock = service >> 2 & 1;
 
-    if (!rate || (kind == DSSS_SHORT && rate->code == DSSS_RATE_1))
+    if (!rate || rate->code > who->fastest || (kind == DSSS_SHORT && rate->code == DSSS_RATE_1))
         return refused(DSSS_REFUSED_SIGNAL, 0, length);
-    if ((service & ~(rate->code == DSSS_RATE_11 ? 0x84u : 0x04u)) != 0)
+    if ((service & ~(rate->code == DSSS_RATE_11 ? who->service_11 : who->service)) != 0)
         return refused(DSSS_REFUSED_SERVICE, 0, length);
     int32_t n = octets_of(rate, length, service >> 7);
     if (n < 1 || n > DSSS_PAYLOAD_MAX || service_length(rate, (uint32_t)n, clock) != header >> 8)
@@ -244,13 +254,14 @@ static dsss_record front_tells(struct reader *r, uint64_t kind)
         return refused(DSSS_REFUSED_SFD, 0, 0);
     if (crc_of((uint32_t)header) != header >> 32)
         return refused(DSSS_REFUSED_CRC, 0, 0);
-    return judge(from, kind, (uint32_t)header);
+    return judge(r->who, from, kind, (uint32_t)header);
 }
 
 /* All of a frame: what the front tells, then 17, then the payload with its 9 and 10. */
-static dsss_record read_frame(uint64_t kind, const struct recording *from, uint8_t *octets, size_t room)
+static dsss_record read_frame(const struct who *who, uint64_t kind, const struct recording *from, uint8_t *octets,
+                              size_t room)
 {
-    struct reader r = {.from = from, .least = {UINT64_MAX, 0, 0}};
+    struct reader r = {.who = who, .from = from, .least = {UINT64_MAX, 0, 0}};
     dsss_record told = front_tells(&r, kind);
 
     if (told.number != 0)
@@ -281,7 +292,7 @@ dsss_record plain_read_hard(uint64_t kind, const uint8_t *chips, size_t chips_le
 
     if (kind > DSSS_SHORT)
         return cleared(refused(DSSS_REFUSED_KIND, 0, 0), octets, octets_len);
-    return cleared(read_frame(kind, &from, octets, octets_len), octets, octets_len);
+    return cleared(read_frame(&ours, kind, &from, octets, octets_len), octets, octets_len);
 }
 
 dsss_record plain_read_soft(uint64_t kind, const float *i, size_t i_len, const float *q,
@@ -293,7 +304,7 @@ dsss_record plain_read_soft(uint64_t kind, const float *i, size_t i_len, const f
         return cleared(refused(DSSS_REFUSED_KIND, 0, 0), octets, octets_len);
     if (i_len != q_len)
         return cleared(refused(DSSS_REFUSED_ROWS, 0, 0), octets, octets_len);
-    return cleared(read_frame(kind, &from, octets, octets_len), octets, octets_len);
+    return cleared(read_frame(&ours, kind, &from, octets, octets_len), octets, octets_len);
 }
 
 dsss_record plain_read_bytes(uint64_t kind, const int8_t *bytes, size_t bytes_len, uint8_t *octets,
@@ -305,13 +316,20 @@ dsss_record plain_read_bytes(uint64_t kind, const int8_t *bytes, size_t bytes_le
         return cleared(refused(DSSS_REFUSED_KIND, 0, 0), octets, octets_len);
     if (bytes_len % 2 != 0)
         return cleared(refused(DSSS_REFUSED_ROWS, 0, 0), octets, octets_len);
-    return cleared(read_frame(kind, &from, octets, octets_len), octets, octets_len);
+    return cleared(read_frame(&ours, kind, &from, octets, octets_len), octets, octets_len);
+}
+
+dsss_record plain_read_1997(const uint8_t *chips, size_t chips_len, uint8_t *octets, size_t octets_len)
+{
+    const struct recording recorded = {chips, NULL, NULL, NULL, chips_len};
+
+    return cleared(read_frame(&guides_1997, DSSS_LONG, &recorded, octets, octets_len), octets, octets_len);
 }
 
 dsss_coming plain_read_front(uint64_t kind, const uint8_t *chips, size_t chips_len)
 {
     struct recording from = {chips, NULL, NULL, NULL, chips_len};
-    struct reader r = {.from = &from};
+    struct reader r = {.who = &ours, .from = &from};
     dsss_record told = kind > DSSS_SHORT ? refused(DSSS_REFUSED_KIND, 0, 0) : front_tells(&r, kind);
     size_t at = told.number == 0 ? r.at : 0;
     dsss_coming coming = {told.number, told.place, told.rate, told.length, told.clock,
@@ -421,7 +439,7 @@ static dsss_reason payload_reason(struct reader *r, dsss_record told, uint64_t r
 dsss_reason plain_why(uint64_t kind, const uint8_t *chips, size_t chips_len, uint64_t room)
 {
     struct recording hard = {chips, NULL, NULL, NULL, chips_len};
-    struct reader heard = {.from = &hard};
+    struct reader heard = {.who = &ours, .from = &hard};
 
     if (kind > DSSS_SHORT)
         return reason(refused(DSSS_REFUSED_KIND, 0, 0), 0, kind);
