@@ -19,17 +19,18 @@
  *   13, store change  u64 store_len, tag, value; the store
  *   14, compare   u64 kind, a_len, b_len, chip_row_len, octet_row_len, octets_a_len, octets_b_len; the chips of the
  *                 first recording, those of the second
+ *   15, read 1997 u64 chips_len, octets_len; the chips
  * A row for reading is a u64, how many of its elements are sent, and these; the others are zeros. An answer is the
- * record (1: number, chips; 2 to 4: number, place, rate, length, n, used, clock, lead, symbol; 5: number, place, rate,
- * length, clock, n, used, at, count; 6: number, offset, rate, length, clock, n; 7 and 8: number, the report as above,
- * 32 in all; 9: number, octets; 10: number, place, expected, found; 11 and 13: number; 12: number, kind, rate, phase;
- * 14: the two records of 2, chips, octets, n_a, n_b; u64 each), every octet of the lent buffer as the call left it, and
- * a u64 guard, 0 if all is well: 1 if anything is not as it was around the rows or in those lent for reading only, 2 if
- * a call that was made again answered otherwise, 4 if a call that was made in the middle of this one did. 5 to 8, 10
- * and 12 have no lent buffer: of 5 its part stands there instead, `count` chips from the recording's own chips + at on,
- * as far as they are in the recording. The lent buffer of 13 is the store, sent as a row for reading is. 14 has four
- * lent rows in the order of their lengths: each is a u64, how many of its elements are sent, and these; the others,
- * behind them, are zeros, and were seen to be.
+ * record (1: number, chips; 2 to 4 and 15: number, place, rate, length, n, used, clock, lead, symbol; 5: number, place,
+ * rate, length, clock, n, used, at, count; 6: number, offset, rate, length, clock, n; 7 and 8: number, the report as
+ * above, 32 in all; 9: number, octets; 10: number, place, expected, found; 11 and 13: number; 12: number, kind, rate,
+ * phase; 14: the two records of 2, chips, octets, n_a, n_b; u64 each), every octet of the lent buffer as the call left
+ * it, and a u64 guard, 0 if all is well: 1 if anything is not as it was around the rows or in those lent for reading
+ * only, 2 if a call that was made again answered otherwise, 4 if a call that was made in the middle of this one did. 5
+ * to 8, 10 and 12 have no lent buffer: of 5 its part stands there instead, `count` chips from the recording's own chips
+ * + at on, as far as they are in the recording. The lent buffer of 13 is the store, sent as a row for reading is. 14
+ * has four lent rows in the order of their lengths: each is a u64, how many of its elements are sent, and these; the
+ * others, behind them, are zeros, and were seen to be.
  *
  * How the rows are laid, from the lowest bit on:
  *   8 bits   what the lent row holds before the call, at both ends if it is long: 0 0xAA, 1 zeros, 2 4s, 3 0xFF, 4 any
@@ -397,6 +398,8 @@ static void run(struct call *c)
     memset(&c->answer, 0, sizeof c->answer);
     if (c->op == 14)
         run_compare(c);
+    else if (c->op == 15)
+        c->answer.record = dsss_read_1997(first, (size_t)n[0], lent, (size_t)n[1]);
     else if (c->op == 1)
         c->answer.written = dsss_write(n[0], n[1], n[2], n[3], first, (size_t)n[4], lent, (size_t)n[5]);
     else if (c->op == 2)
@@ -431,14 +434,14 @@ static size_t answer_size(uint64_t op)
                                    sizeof(dsss_record),  sizeof(dsss_coming), sizeof(dsss_found),
                                    sizeof(dsss_counted), sizeof(dsss_counted), sizeof(dsss_text),
                                    sizeof(dsss_reason),  sizeof(uint64_t),    sizeof(dsss_settings),
-                                   sizeof(uint64_t),     sizeof(dsss_compared)};
+                                   sizeof(uint64_t),     sizeof(dsss_compared), sizeof(dsss_record)};
 
     return sizes[op - 1];
 }
 
 /* ---- A call in the middle of another --------------------------------------------------------- */
 
-enum { OPS = 14, PARTS = 2 + LENT_MOST, TOUCHES = 24, NEAR = 64 };
+enum { OPS = 15, PARTS = 2 + LENT_MOST, TOUCHES = 24, NEAR = 64 };
 
 static struct call kept[OPS];                /* the last call of each op that was kept, if it has an op */
 static uint8_t *kept_octets[OPS][LENT_MOST]; /* and what it left in its lent rows */
@@ -655,13 +658,13 @@ static void lend_four(struct call *c)
 
 static void get_call(struct call *c)
 {
-    static const unsigned counts[OPS] = {6, 3, 4, 3, 2, 3, 2, 0, 1, 3, 4, 1, 3, 7};
+    static const unsigned counts[OPS] = {6, 3, 4, 3, 2, 3, 2, 0, 1, 3, 4, 1, 3, 7, 2};
     uint64_t *n = c->numbers;
 
     memset(c, 0, sizeof *c);
     c->op = get_number();
     if (c->op < 1 || c->op > OPS)
-        die("an op that is not 1 to 14");
+        die("an op that is not 1 to 15");
     get_laid();
     laid.within = laid.within && kept[c->op - 1].op != 0;
     if (c->op == 7 || c->op == 9)
@@ -673,13 +676,13 @@ static void get_call(struct call *c)
         get_chips_to(c);
     else if (c->op == 8)
         get_list(c);
-    else if (c->op == 12)
+    else if (c->op == 12 || c->op == 15)
         c->first = read_row(n[0], 1, 1);
     else if (c->op == 13)
         c->lent[0] = filled_row(n[0]);
     else if (c->op != 9 && c->op != 11)
         c->first = read_row(c->op == 1 ? n[4] : n[1], 1, 1);
-    if (c->op < 5 || c->op == 9 || c->op == 11)
+    if (c->op < 5 || c->op == 9 || c->op == 11 || c->op == 15)
         c->lent[0] = lent_row(n[counts[c->op - 1] - 1], 1, c->op == 11);
     if (c->op == 14)
         lend_four(c);

@@ -8,6 +8,7 @@ use crate::compared;
 use crate::decided::{self, Seen};
 use crate::families::{Family, Out};
 use crate::figures::Figures;
+use crate::guides;
 use crate::laid::{Laid, Layings};
 use crate::leads::{self, Won};
 use crate::reasons;
@@ -95,6 +96,7 @@ impl Outcome {
         reported::count(call, expected, leads, &mut self.held);
         reasons::count(call, expected, &mut self.held);
         compared::count(call, expected, &mut self.held);
+        guides::count(call, expected, &mut self.held);
         stored::count(call, expected, &mut self.held);
     }
 

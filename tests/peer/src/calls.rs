@@ -5,7 +5,7 @@ use crate::coming::{coming, Coming};
 use crate::compare_calls::{self, CompareCall};
 use crate::finding::{find, Found};
 use crate::laid::Laid;
-use crate::reading::read;
+use crate::reading::{read, read_1997};
 use crate::refusals::CHIP_BUFFER;
 use crate::report_calls::ReportCall;
 use crate::store_calls::StoreCall;
@@ -21,6 +21,7 @@ pub enum Call {
     ReadHard { kind: u64, chips: Vec<u8>, octets_len: usize },
     ReadSoft { kind: u64, i: Vec<f32>, q: Vec<f32>, octets_len: usize },
     ReadBytes { kind: u64, bytes: Vec<i8>, octets_len: usize },
+    Read1997 { chips: Vec<u8>, octets_len: usize },
     ReadFront { kind: u64, chips: Vec<u8> },
     Find { kind: u64, chips: Vec<u8>, offsets: u64 },
     Why { kind: u64, chips: Vec<u8>, room: u64 },
@@ -95,6 +96,10 @@ impl Call {
         Call::ReadBytes { kind, bytes, octets_len }
     }
 
+    pub fn read_1997(chips: Vec<u8>, octets_len: usize) -> Call {
+        Call::Read1997 { chips, octets_len }
+    }
+
     pub fn front(kind: u64, chips: Vec<u8>) -> Call {
         Call::ReadFront { kind, chips }
     }
@@ -113,6 +118,7 @@ impl Call {
             Call::ReadHard { .. } => "read hard",
             Call::ReadSoft { .. } => "read soft",
             Call::ReadBytes { .. } => "read bytes",
+            Call::Read1997 { .. } => "read 1997",
             Call::ReadFront { .. } => "read front",
             Call::Find { .. } => "find",
             Call::Why { .. } => "why",
@@ -149,7 +155,8 @@ impl Call {
             Call::Write { chips_len, .. } => Some(*chips_len),
             Call::ReadHard { octets_len, .. }
             | Call::ReadSoft { octets_len, .. }
-            | Call::ReadBytes { octets_len, .. } => Some(*octets_len),
+            | Call::ReadBytes { octets_len, .. }
+            | Call::Read1997 { octets_len, .. } => Some(*octets_len),
             Call::ReadFront { .. } | Call::Find { .. } | Call::Why { .. } | Call::Compare(_) => None,
             Call::Report(call) => call.lent_len(),
             Call::Store(call) => call.lent_len(),
@@ -161,6 +168,7 @@ impl Call {
         match self {
             Call::Write { payload: row, .. }
             | Call::ReadHard { chips: row, .. }
+            | Call::Read1997 { chips: row, .. }
             | Call::ReadFront { chips: row, .. }
             | Call::Find { chips: row, .. }
             | Call::Why { chips: row, .. } => vec![row.len()],
@@ -218,6 +226,10 @@ impl Call {
                 let sent = start_row(bytes, |byte| *byte == 0, to);
                 to.extend(sent.iter().map(|byte| *byte as u8));
             }
+            Call::Read1997 { chips, octets_len } => {
+                numbers(&[15, laid, chips.len() as u64, *octets_len as u64]);
+                put_octets(chips, to);
+            }
             Call::ReadFront { kind, chips } => {
                 numbers(&[5, laid, *kind, chips.len() as u64]);
                 put_octets(chips, to);
@@ -259,7 +271,7 @@ impl Call {
     /// The recording of which a full read is asked.
     pub fn recording(&self) -> Option<Recording<'_>> {
         match self {
-            Call::ReadHard { chips, .. } => Some(Recording::Hard(chips)),
+            Call::ReadHard { chips, .. } | Call::Read1997 { chips, .. } => Some(Recording::Hard(chips)),
             Call::ReadSoft { i, q, .. } => Some(Recording::Soft(i, q)),
             Call::ReadBytes { bytes, .. } => Some(Recording::Bytes(bytes)),
             _ => None,
@@ -297,6 +309,11 @@ impl Call {
                 leads = std::mem::take(&mut read.leads);
                 record(read, recording.chips())
             }
+            Call::Read1997 { chips, .. } => {
+                let mut read = read_1997(chips, &mut buffer);
+                leads = std::mem::take(&mut read.leads);
+                record(read, chips.len())
+            }
         };
         let met = Met { op: self.op(), part, number: numbers[0], clock };
         Expected { answer: Answer { numbers, buffer }, met, leads }
@@ -308,6 +325,7 @@ impl Call {
         match self {
             Call::Write { payload, .. } => lines.push(format!("  payload {}", hex(payload, cut))),
             Call::ReadHard { chips, .. }
+            | Call::Read1997 { chips, .. }
             | Call::ReadFront { chips, .. }
             | Call::Find { chips, .. }
             | Call::Why { chips, .. } => lines.push(format!("  chips {}", hex(chips, cut))),
@@ -352,6 +370,7 @@ impl Call {
             Call::ReadBytes { kind, bytes, octets_len } => {
                 format!("kind {kind}, bytes_len {}, octets_len {octets_len}", bytes.len())
             }
+            Call::Read1997 { chips, octets_len } => format!("chips_len {}, octets_len {octets_len}", chips.len()),
             Call::ReadFront { kind, chips } => format!("kind {kind}, chips_len {}", chips.len()),
             Call::Find { kind, chips, offsets } => format!("kind {kind}, chips_len {}, offsets {offsets}", chips.len()),
             Call::Why { kind, chips, room } => format!("kind {kind}, chips_len {}, room {room}", chips.len()),

@@ -4,7 +4,7 @@
 //! without the payload's 9 and 10. No chip behind the front is looked at.
 
 use crate::chips::Recording;
-use crate::reading::{read_front, told_by, Heard, Read};
+use crate::reading::{read_front, told_by, Heard, Read, Who};
 use crate::refusals;
 
 /// What is told. Of a refusal the part is empty, and all but number, place and LENGTH is 0.
@@ -34,7 +34,7 @@ pub fn coming(kind: u64, chips: &[u8]) -> Coming<'_> {
     };
     let header = front.header;
     let (length, clock_read) = (u64::from(header.length), header.clock());
-    let (rate, n) = match told_by(&front) {
+    let (rate, n) = match told_by(&front, Who::Ours) {
         Ok(told) => told,
         Err(number) => return Coming { number, length, clock_read, ..Coming::default() },
     };

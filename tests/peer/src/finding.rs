@@ -8,7 +8,7 @@
 use crate::bits::{decide, receive, Rate};
 use crate::chips::{Counts, Phase, Recording};
 use crate::frame::{Header, Kind};
-use crate::reading::{front_of, told_by};
+use crate::reading::{front_of, told_by, Who};
 use crate::refusals;
 
 /// What is found. Of a refusal all but the number is 0.
@@ -66,5 +66,5 @@ fn front_from(kind: Kind, symbols: &[Option<Phase>], offset: usize) -> Option<(R
         before = phase;
     }
     let front = front_of(kind, &scrambled).ok()?;
-    told_by(&front).ok().map(|(rate, n)| (rate, n, front.header))
+    told_by(&front, Who::Ours).ok().map(|(rate, n)| (rate, n, front.header))
 }

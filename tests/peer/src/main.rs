@@ -19,13 +19,14 @@
 //! then makes the calls of each family and compares every answer and every buffer. Before a hard recording is read, its
 //! front is asked what is coming, and behind it why the read is refused; the answers must go together, and so must
 //! finds over one recording, and reads from the offsets that they tried, reports of one list, what is written to a
-//! store and read from it, a frame that is written and the answers over a spoiled recording of it, and a comparison,
-//! its own lists, reads of the same recordings and the comparison exchanged. How the rows of a call are laid is drawn
-//! for each call, and no answer may hang on it. It ends with status 1 on a difference, on fewer calls than are owed, on
-//! a bridge that dies, and on a missing file of figures. A family or a replayed case alone owes no number of calls. In
-//! brief, only the families' lines are printed. Run until the first difference, it shows that one and ends there. A
-//! replay prints the whole call and both answers; as no call goes before it, none is made in its middle. Calls go ahead
-//! of the answers; sent singly, a call at which the bridge dies is known by its case.
+//! store and read from it, a frame that is written and the answers over a spoiled recording of it, a comparison, its
+//! own lists, reads of the same recordings and the comparison exchanged, and a read as the guides of 1997 read and ours
+//! of the same recording. How the rows of a call are laid is drawn for each call, and no answer may hang on it. It ends
+//! with status 1 on a difference, on fewer calls than are owed, on a bridge that dies, and on a missing file of
+//! figures. A family or a replayed case alone owes no number of calls. In brief, only the families' lines are printed.
+//! Run until the first difference, it shows that one and ends there. A replay prints the whole call and both answers;
+//! as no call goes before it, none is made in its middle. Calls go ahead of the answers; sent singly, a call at which
+//! the bridge dies is known by its case.
 //!
 //! Of a month no bridge is asked: the program runs over files that are laid for it, and what it prints is compared.
 //!
@@ -61,11 +62,13 @@ mod compared;
 mod decided;
 mod families;
 mod figures;
+mod guides;
 mod kept;
 mod laid;
 mod leads;
 mod owed;
 mod owed_compared;
+mod owed_guides;
 mod owed_laid;
 mod owed_reports;
 mod owed_reasons;

@@ -3,9 +3,9 @@
 //! are refused with each number, and full reads that go together with fronts in each way; symbols of 11 Mbit/s that are
 //! decided among words of one score, in each way; smallest leads in each part at each rate, shared ones, ties and those
 //! that refused reads keep; starts found of each kind and rate, at each remainder of 512, early, late and neither,
-//! behind offsets refused with each number; reasons, comparisons, reports, stores, spoiled frames and rows as
-//! `owed_reasons`, `owed_compared`, `owed_reports`, `owed_stores`, `owed_spoiled` and `owed_laid` have them; and no
-//! family that spends a third of all calls on one number.
+//! behind offsets refused with each number; reasons, comparisons, reads as the guides of 1997 read, reports, stores,
+//! spoiled frames and rows as `owed_reasons`, `owed_compared`, `owed_guides`, `owed_reports`, `owed_stores`,
+//! `owed_spoiled` and `owed_laid` have them; and no family that spends a third of all calls on one number.
 
 use crate::bits::Rate;
 use crate::bridge::Outcome;
@@ -17,6 +17,7 @@ use crate::leads::Lead::{
 };
 use crate::leads::Stands::{First, Header, Payload, Preamble};
 use crate::owed_compared::compared;
+use crate::owed_guides::guides;
 use crate::owed_laid::laid;
 use crate::owed_reasons::reasons;
 use crate::owed_reports::reports;
@@ -42,7 +43,7 @@ const fn owed(op: &'static str, part: Part, shown: &'static str, least: &'static
     Owed { op, part, shown, least }
 }
 
-const OWED: [Owed; 42] = [
+const OWED: [Owed; 47] = [
     owed(
         "write",
         Part::Front,
@@ -250,6 +251,41 @@ const OWED: [Owed; 42] = [
     ),
     owed("compare", Part::LongPayload, "payload above 300", &[(0, 45, 30), (9, 3, 4), (16, 1, 5), (17, 7, 6)]),
     owed("compare", Part::FarPlace, "places from 65,536", &[(9, 0, 2)]),
+    // No 1 and no 7, and the clock bit only with 13 and 14.
+    owed(
+        "read 1997",
+        Part::Front,
+        "front",
+        &[
+            (8, 420, 0),
+            (9, 1_300, 0),
+            (10, 790, 0),
+            (11, 430, 0),
+            (12, 235, 0),
+            (13, 1_900, 1_350),
+            (14, 660, 1_200),
+            (15, 150, 0),
+        ],
+    ),
+    owed(
+        "read 1997",
+        Part::LongFront,
+        "front, 6,001 and more",
+        &[(9, 95, 0), (10, 47, 0), (11, 19, 0), (12, 8, 0), (13, 160, 105), (14, 38, 110), (15, 10, 0)],
+    ),
+    owed(
+        "read 1997",
+        Part::Payload,
+        "payload to 300 octets",
+        &[(0, 480, 0), (9, 320, 0), (10, 25, 0), (16, 88, 0), (17, 30, 0)],
+    ),
+    owed(
+        "read 1997",
+        Part::LongPayload,
+        "payload above 300",
+        &[(0, 73, 0), (9, 9, 0), (10, 4, 0), (16, 36, 0), (17, 10, 0)],
+    ),
+    owed("read 1997", Part::FarPlace, "places from 65,536", &[(9, 2, 0), (10, 2, 0)]),
     // No refusal of a recording: these are counted.
     owed("report add", Part::Front, "one recording more", &[(0, 2_500, 0), (31, 1_000, 0)]),
     owed("report list", Part::Front, "lists", &[(0, 120, 0), (7, 22, 0), (31, 24, 0)]),
@@ -587,7 +623,7 @@ pub fn met(total: &Outcome, largest: (u64, &str)) -> Result<(), String> {
             short.push(format!("{op} answered {number} {count} times where it can't"));
         }
     }
-    for of_total in [held, decided, leads, starts, reasons, compared, reports, stores, spoiled, laid] {
+    for of_total in [held, decided, leads, starts, reasons, compared, guides, reports, stores, spoiled, laid] {
         short.extend(of_total(total));
     }
     if total.calls < CALLS {

@@ -21,7 +21,7 @@ const fn owed(op: &'static str, [old, empty, within, wide, wide_lent]: [u64; 5])
     Owed { op, old, empty, within, wide, wide_lent }
 }
 
-const OWED: [Owed; 14] = [
+const OWED: [Owed; 15] = [
     owed("write", [2_000, 2_000, 700, 2, 2]),
     owed("read hard", [3_000, 2_000, 1_500, 1, 1]),
     owed("read soft", [1_000, 600, 500, 2, 1]),
@@ -30,6 +30,7 @@ const OWED: [Owed; 14] = [
     owed("find", [0, 20, 300, 1, 0]),
     owed("why", [0, 400, 3_900, 10, 0]),
     owed("compare", [1_000, 3_800, 350, 1, 4]),
+    owed("read 1997", [870, 440, 360, 4, 1]),
     owed("report add", [0, 200, 100, 1, 0]),
     owed("report list", [0, 20, 5, 3, 0]),
     owed("report text", [100, 10, 50, 0, 1]),

@@ -39,12 +39,47 @@ impl Read {
     }
 }
 
-/// A good read leaves 0 past the n octets, a refusal leaves the octet buffer zeros.
+/// Who reads. The guides of 1997 know only the long preamble, the rates 10 and 20, and a SERVICE of 0.
+#[derive(Clone, Copy)]
+pub enum Who {
+    Ours,
+    Guides,
+}
+
+impl Who {
+    /// Whether SIGNAL may be this rate in a front of this kind.
+    fn know(self, kind: Kind, rate: Rate) -> bool {
+        match self {
+            Who::Ours => kind.has(rate),
+            Who::Guides => [Rate::Mbit1, Rate::Mbit2].contains(&rate),
+        }
+    }
+
+    /// What SERVICE may be at a rate.
+    fn services(self, rate: Rate) -> &'static [u8] {
+        match (self, rate) {
+            (Who::Guides, _) => &[0],
+            (Who::Ours, Rate::Mbit11) => &[0, 4, 128, 132],
+            (Who::Ours, _) => &[0, 4],
+        }
+    }
+}
+
+/// A hard recording read as the guides of 1997 do, who take no kind: their fronts are long.
+pub fn read_1997(chips: &[u8], octets: &mut [u8]) -> Read {
+    read_by(Who::Guides, Kind::Long.number(), Recording::Hard(chips), octets)
+}
+
 pub fn read(kind: u64, recording: Recording, octets: &mut [u8]) -> Read {
+    read_by(Who::Ours, kind, recording, octets)
+}
+
+/// A good read leaves 0 past the n octets, a refusal leaves the octet buffer zeros.
+fn read_by(who: Who, kind: u64, recording: Recording, octets: &mut [u8]) -> Read {
     octets.fill(0);
     let mut heard = Heard::default();
     let read = match read_front(kind, recording, &mut heard) {
-        Ok(front) => read_behind(front, recording, &mut heard, octets),
+        Ok(front) => read_behind(who, front, recording, &mut heard, octets),
         Err(refused) => refused,
     };
     Read { leads: heard.leads, ..read }
@@ -120,15 +155,14 @@ pub fn front_of(kind: Kind, scrambled: &[u8]) -> Result<Front, u64> {
     Ok(Front { kind, header })
 }
 
-/// 13, 14, 15: the rate and the octets that the front tells, or the refusal's number.
-pub fn told_by(front: &Front) -> Result<(Rate, usize), u64> {
+/// 13, 14, 15: the rate and the octets that the front tells who reads, or the refusal's number.
+pub fn told_by(front: &Front, who: Who) -> Result<(Rate, usize), u64> {
     let Front { kind, header } = *front;
     let rate = match Rate::of_code(u64::from(header.signal)) {
-        Some(rate) if kind.has(rate) => rate,
+        Some(rate) if who.know(kind, rate) => rate,
         _ => return Err(refusals::SIGNAL),
     };
-    let allowed: &[u8] = if rate == Rate::Mbit11 { &[0, 4, 128, 132] } else { &[0, 4] };
-    if !allowed.contains(&header.service) {
+    if !who.services(rate).contains(&header.service) {
         return Err(refusals::SERVICE);
     }
     let n = rate.octets_of(header.length, header.bit7());
@@ -139,9 +173,9 @@ pub fn told_by(front: &Front) -> Result<(Rate, usize), u64> {
 }
 
 /// 13, 14, 15, then the payload. From 13 on, in the reading order, a refusal shows the LENGTH field.
-fn read_behind(front: Front, recording: Recording, heard: &mut Heard, octets: &mut [u8]) -> Read {
+fn read_behind(who: Who, front: Front, recording: Recording, heard: &mut Heard, octets: &mut [u8]) -> Read {
     let (length, clock) = (u64::from(front.header.length), front.header.clock());
-    let (rate, n) = match told_by(&front) {
+    let (rate, n) = match told_by(&front, who) {
         Ok(told) => told,
         Err(number) => return Read { length, clock_read: clock, ..Read::refused(number) },
     };

@@ -1,10 +1,11 @@
 //! # What is refused, in this order
 //!
 //! Writing: 1, 2, 3, 4, 5, 6. Reading: 1, 7, 8, then 9 and 10 over the front, 11, 12, 13, 14, 15, 16, 17, then 9 and
-//! 10 over the payload. In each part, 9 is looked for through the whole part before 10. Telling what is coming: 1, 8,
-//! then 9 and 10 over the front, 11, 12, 13, 14, 15, 16. Finding the start: 1, 18, 19. A month's report: 31 alone; of a
-//! whole list 7, then 31; of its text 17. Reading a store: 21 to 28; writing one: 28, 29; changing a setting of one: 21
-//! to 28, 30, then 28 of the settings as they would be.
+//! 10 over the payload. In each part, 9 is looked for through the whole part before 10. Reading as the guides of 1997
+//! do: the same without 1 and 7, where 13 is a SIGNAL other than 10 and 20, and 14 a SERVICE other than 0. Telling what
+//! is coming: 1, 8, then 9 and 10 over the front, 11, 12, 13, 14, 15, 16. Finding the start: 1, 18, 19. A month's
+//! report: 31 alone; of a whole list 7, then 31; of its text 17. Reading a store: 21 to 28; writing one: 28, 29;
+//! changing a setting of one: 21 to 28, 30, then 28 of the settings as they would be.
 
 /// kind is neither 0 (long) nor 1 (short)
 pub const KIND: u64 = 1;

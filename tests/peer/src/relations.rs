@@ -1,11 +1,12 @@
 //! How the answers over one hard recording go together, whatever this program expects of each: what its front tells,
-//! what full reads answer, why they are refused, and what is found in it; and how comparisons, reports and stores go
-//! together, and recordings of frames with what was written.
+//! what full reads answer, also as the guides of 1997 read, why they are refused, and what is found in it; and how
+//! comparisons, reports and stores go together, and recordings of frames with what was written.
 
 use crate::bits::Rate;
 use crate::calls::{Answer, Call};
 use crate::compared::{Compared, Compares};
 use crate::frame::Kind;
+use crate::guides::{Guided, Guides};
 use crate::kept::Reports;
 use crate::reasons::{self, FullRead, Reasoned};
 use crate::refusals::{ENDS, GROWTH, OCTET_BUFFER, UNUSABLE};
@@ -40,6 +41,8 @@ pub enum Held {
     Reasons(Reasoned),
     /// This, of a comparison of two recordings.
     Compares(Compared),
+    /// This, of a read as the guides of 1997 read.
+    Guides(Guided),
     /// This, of a call of the month's report.
     Reports(Reported),
     /// This, of a call of a store.
@@ -63,6 +66,7 @@ pub struct Relations {
     last: Option<Told>,
     sought: Option<Sought>,
     compares: Compares,
+    guides: Guides,
     reports: Reports,
     stores: Stores,
     spoils: Spoils,
@@ -101,6 +105,7 @@ impl Relations {
             _ => {}
         }
         self.compares.hold(call, answer)?.into_iter().for_each(|what| count(Some(Held::Compares(what))));
+        count(self.guides.hold(call, answer)?.map(Held::Guides));
         count(self.stores.hold(call, answer)?.map(Held::Stores));
         self.spoils.hold(call, answer)?.into_iter().for_each(|spoil| count(Some(Held::Spoils(spoil))));
         self.starts(call, answer)?.into_iter().for_each(|start| count(Some(Held::Finds(start))));

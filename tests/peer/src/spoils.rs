@@ -5,7 +5,7 @@ use crate::bits::Rate;
 use crate::calls::{Answer, Call};
 use crate::chips::{Phase, Recording, LOST};
 use crate::frame::Kind;
-use crate::refusals::{ENDS, MOST_OFFSETS, OCTET_BUFFER, REPORT, UNUSABLE};
+use crate::refusals::{ENDS, MOST_OFFSETS, OCTET_BUFFER, REPORT, SERVICE, SIGNAL, UNUSABLE};
 use crate::relations::lead_as_sent;
 use crate::report::Report;
 use crate::report_calls::ReportCall;
@@ -38,6 +38,9 @@ pub enum Spoiled {
     Apart { word: u8 },
     /// Soft samples or bytes of the same chips are read as the hard recording was.
     SameBy(&'static str),
+    /// A long frame of this rate, without the clock bit or with it, is read as the guides of 1997 must read it: as it
+    /// was sent, whole and with room, or otherwise with a front that keeps the limits.
+    By1997 { rate: u64, clock: u64, as_sent: bool },
     /// One with less room than its octets is refused with 17.
     NoRoom,
     /// The front of one that is not clean tells of the frame.
@@ -189,6 +192,27 @@ impl Sent {
         Ok(seen)
     }
 
+    /// A read as the guides of 1997 read: 13 at the rates that they do not know, 14 with the clock bit, each with the
+    /// frame's LENGTH, whatever became of its payload; else as ours.
+    fn read_1997(&self, state: State, recorded: &[u8], answer: &Answer) -> Holds {
+        let refused = match (self.rate, self.clock) {
+            (Rate::Mbit1 | Rate::Mbit2, 0) => None,
+            (Rate::Mbit1 | Rate::Mbit2, _) => Some(SERVICE),
+            _ => Some(SIGNAL),
+        };
+        let in_front = matches!(state, State::Unusable(place) if place < self.front());
+        match refused.filter(|_| !in_front) {
+            None => drop(self.read(state, "read 1997", recorded, answer)?),
+            Some(number) if answer.numbers != [number, 0, 0, self.length(), 0, 0, 0, 0, 0] => {
+                return Err("a frame that the guides do not know isn't refused with 13 or 14 and its LENGTH");
+            }
+            Some(_) => {}
+        }
+        let whole = recorded.get(..self.chips.len()) == Some(&self.chips[..]);
+        let as_sent = whole && answer.buffer.len() >= self.payload.len();
+        Ok(vec![Spoiled::By1997 { rate: self.rate(), clock: self.clock, as_sent }])
+    }
+
     /// What is seen of a frame that is read back.
     fn of_frame(&self, op: &'static str, recorded: &[u8], answer: &Answer, row: &[Damage]) -> Vec<Spoiled> {
         let (kind, rate, n) = (self.kind.number(), self.rate(), self.n());
@@ -333,6 +357,9 @@ impl Spoils {
                 let (numbers, octets) = (answer.numbers.clone(), answer.buffer.clone());
                 self.last = seen.is_some().then(|| Read { kind: *kind, chips: chips.clone(), numbers, octets });
                 seen.unwrap_or(Ok(Vec::new()))
+            }
+            Call::Read1997 { chips, .. } => {
+                self.asked_of(Kind::Long.number(), chips, |sent, state| sent.read_1997(state, chips, answer))
             }
             Call::ReadSoft { kind, .. } | Call::ReadBytes { kind, .. } => self.by_another(*kind, call, answer),
             Call::ReadFront { kind, chips } => {

@@ -7,7 +7,7 @@
 use crate::bits::{decide, receive, Rate};
 use crate::chips::{growth, Counts, Phase, Recording, LOST};
 use crate::frame::{crc, number_highest_first, number_of, unscramble, Header, Kind};
-use crate::reading::{read_front, told_by, Heard, Read};
+use crate::reading::{read_front, told_by, Heard, Read, Who};
 use crate::refusals;
 
 #[derive(Default)]
@@ -34,7 +34,7 @@ fn refusal(kind: u64, chips: &[u8], room: u64) -> Reason {
         Err(Read { number, place, .. }) => return Reason { number, place, ..Reason::default() },
     };
     let clock_read = front.header.clock();
-    match told_by(&front) {
+    match told_by(&front, Who::Ours) {
         Ok((rate, n)) => {
             let (number, place) = payload_refusal(front.kind, rate, n, chips, room);
             Reason { number, place: place as u64, told: n as u64, clock_read, ..Reason::default() }

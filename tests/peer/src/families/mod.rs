@@ -74,6 +74,10 @@
 //! - Payloads compared by the longer n or by room, or not at all where rates or n differ: `compare_frames`.
 //! - Octets or n told where one recording is refused, the other's buffer cleared, or not read: `compare_refused`.
 //! - Nothing compared where the kind is none: `compare_numbers`. An index or a number of entries cut: `compare_wide`.
+//! - A rate or a clock bit that the guides of 1997 do not know, read by them: `read_1997_frames`. A SIGNAL or a SERVICE
+//!   taken for another, 13 and 14 asked in another place, without LENGTH: `read_1997_headers`, `read_1997_orders`.
+//! - A short front read by them: `read_1997_short_fronts`. A frame of ours read otherwise: `read_1997_sent`.
+//! - A length cut where they read: `read_1997_wide`.
 //! - I and Q that may not be one row, a recording of a list that may not be named twice: `one_row`, `report_lists`. Two
 //!   recordings that may not be one row: `compare_itself`.
 //! - What a lent row held before the call, a row of length 0 by a pointer or as NULL, a row kept between calls: every
@@ -92,6 +96,7 @@ mod headers;
 mod leads;
 mod long;
 mod published;
+mod read_1997;
 mod refused;
 pub mod report;
 mod report_edges;
@@ -393,6 +398,20 @@ families! {
     1908 compare_edges::compare_octets: "each octet beside each other one, as chips",
     // for: Compares.answer, Compares.chips, Compares.octets, Compares.first, Compares.second, ComparedFits
     1909 compare_edges::compare_wide: "recordings and rows of 2^16 to 2^24, more than 2^8, 2^16 and 2^20 entries",
+    // for: Read1997.answer, Read1997.octets, Fills1997, Answers1997, BesideOurs, AcceptedOurs
+    2001 read_1997::read_1997_frames: "as the guides of 1997 read: each rate, clock bit or not, whole, cut, spoiled",
+    // for: Read1997.answer, Read1997.octets, Fills1997, BesideOurs, AcceptedOurs
+    2007 read_1997::read_1997_spoiled: "unusable chips of each octet, symbols turned and lost, each place and far ones",
+    // for: Read1997.answer, Answers1997, BesideOurs
+    2002 read_1997::read_1997_headers: "each SIGNAL, each SERVICE of each rate, LENGTH or what is behind it wrong",
+    // for: Read1997.answer, Fills1997, Answers1997, BesideOurs
+    2003 read_1997::read_1997_orders: "each set of refusals that can hold of a recording at once",
+    // for: Read1997.answer, BesideOurs, AcceptedOurs
+    2004 read_1997::read_1997_short_fronts: "short frames, and long ones that start early or late",
+    // for: Sent1997, AcceptedOurs, BesideOurs
+    2005 read_1997::read_1997_sent: "long frames that were written, as sent and spoiled within the limits",
+    // for: Read1997.answer, Read1997.octets, Fills1997
+    2006 read_1997::read_1997_wide: "recordings and octet buffers of 2^16, 2^20, 2^22 and 2^24 and a few more",
 }
 
 /// Where a family puts its calls.

@@ -133,10 +133,10 @@ pub const LENGTH: usize = 9;
 pub const ENDS: usize = 10;
 const ROOM: usize = 11;
 const PAYLOAD_UNUSABLE: usize = 12;
-const PAYLOAD_GROWTH: usize = 13;
+pub const PAYLOAD_GROWTH: usize = 13;
 
 /// A draft with the wrongs of a set that are in its SFD and its header.
-fn wrong_draft(wrong: impl Fn(usize) -> bool, (kind, rate): (Kind, Rate), n: usize, random: &mut Random) -> Draft {
+pub fn wrong_draft(wrong: impl Fn(usize) -> bool, (kind, rate): (Kind, Rate), n: usize, random: &mut Random) -> Draft {
     let mut draft = Draft::random(kind, rate, n, random);
     if wrong(SIGNAL) {
         let others = [0, 11, 54, 111, 255, if kind == Kind::Short { 10 } else { 138 }];
@@ -158,15 +158,13 @@ fn wrong_draft(wrong: impl Fn(usize) -> bool, (kind, rate): (Kind, Rate), n: usi
     draft
 }
 
-/// A reading with the wrongs of a set (bit k for wrong k), the places and values at random.
-pub fn wrong_reading(set: usize, recorder: Recorder, random: &mut Random) -> Call {
-    let wrong = |k: usize| set >> k & 1 == 1;
-    let (kind, rate) = if wrong(PAYLOAD_GROWTH) { (Kind::Long, Rate::Mbit1) } else { any_pair(random) };
-    let n = random.within(1, 6);
-    let mut chips = wrong_draft(wrong, (kind, rate), n, random).chips();
-    let (front, frame) = (kind.front_chips(), chips.len());
+/// The chips of a draft, of 1 Mbit/s if a growth of its payload is wrong, and the room to read them with: with those
+/// wrongs of a set that are not in its header.
+pub fn wrong_chips(wrong: impl Fn(usize) -> bool, draft: &Draft, random: &mut Random) -> (Vec<u8>, usize) {
+    let (mut chips, n) = (draft.chips(), draft.payload.len());
+    let (front, frame) = (draft.kind.front_chips(), chips.len());
     if wrong(FRONT_GROWTH) {
-        let symbol = random.within(1, kind.bits_before_header() - 1);
+        let symbol = random.within(1, draft.kind.bits_before_header() - 1);
         turn(&mut chips[11 * symbol..11 * (symbol + 1)], random.pick(&[1, 3]));
     }
     if wrong(PAYLOAD_GROWTH) {
@@ -185,6 +183,16 @@ pub fn wrong_reading(set: usize, recorder: Recorder, random: &mut Random) -> Cal
         chips.truncate(random.within(front, frame - 1));
     }
     let room = if wrong(ROOM) { random.below(n) } else { random.within(n, n + 2) };
+    (chips, room)
+}
+
+/// A reading with the wrongs of a set (bit k for wrong k), the places and values at random.
+pub fn wrong_reading(set: usize, recorder: Recorder, random: &mut Random) -> Call {
+    let wrong = |k: usize| set >> k & 1 == 1;
+    let (kind, rate) = if wrong(PAYLOAD_GROWTH) { (Kind::Long, Rate::Mbit1) } else { any_pair(random) };
+    let n = random.within(1, 6);
+    let draft = wrong_draft(wrong, (kind, rate), n, random);
+    let (chips, room) = wrong_chips(wrong, &draft, random);
     let number = if wrong(KIND) { random.pick(&KINDS[2..]) } else { kind.number() };
     match recorder {
         Recorder::Hard => Call::hard(number, chips, room),
