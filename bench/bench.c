@@ -30,6 +30,7 @@ struct library {
     dsss_record (*read_soft)(uint64_t, const float *, size_t, const float *, size_t, uint8_t *,
                              size_t);
     dsss_record (*read_bytes)(uint64_t, const int8_t *, size_t, uint8_t *, size_t);
+    dsss_record (*read_1997)(const uint8_t *, size_t, uint8_t *, size_t);
     dsss_coming (*read_front)(uint64_t, const uint8_t *, size_t);
     dsss_found (*find)(uint64_t, const uint8_t *, size_t, uint64_t);
     dsss_reason (*why)(uint64_t, const uint8_t *, size_t, uint64_t);
@@ -49,12 +50,12 @@ struct library {
 enum { DSSS, PLAIN, BOTH };
 
 static const struct library libraries[BOTH] = {
-    {dsss_write, dsss_read_hard, dsss_read_soft, dsss_read_bytes, dsss_read_front, dsss_find, dsss_why,
+    {dsss_write, dsss_read_hard, dsss_read_soft, dsss_read_bytes, dsss_read_1997, dsss_read_front, dsss_find, dsss_why,
      dsss_compare, dsss_report_add, dsss_report_text, dsss_store_write, dsss_store_read, dsss_store_change,
      timed_count, timed_decide, timed_eleven},
-    {plain_write, plain_read_hard, plain_read_soft, plain_read_bytes, plain_read_front, plain_find, plain_why,
-     plain_compare, plain_report_add, plain_report_text, plain_store_write, plain_store_read, plain_store_change,
-     plain_count, plain_decide, plain_eleven},
+    {plain_write, plain_read_hard, plain_read_soft, plain_read_bytes, plain_read_1997, plain_read_front, plain_find,
+     plain_why, plain_compare, plain_report_add, plain_report_text, plain_store_write, plain_store_read,
+     plain_store_change, plain_count, plain_decide, plain_eleven},
 };
 
 static const struct {
@@ -417,16 +418,22 @@ static void reasons_agree(uint64_t number)
         fail("a reason is not the one expected");
 }
 
-/* A line of reasons, by both, and how many hard reads of the same recording each takes. */
-static void why_line(const char *what, const char *rate_name)
+/* A line of a call, by both, and how many hard reads of the same recording each takes. */
+static void beside_read_line(const char *name, task_fn task, const char *what, const char *rate_name)
 {
     double ns[BOTH], read[BOTH];
 
     measure(read_hard_task, read);
-    measure(why_task, ns);
-    printf("%-10s  %-8s  %4s  %6zu  %7zu  %12.0f  %12.0f  %6.2f  %10.2f  %11.2f\n", "why", what, rate_name, payload_len,
+    measure(task, ns);
+    printf("%-10s  %-8s  %4s  %6zu  %7zu  %12.0f  %12.0f  %6.2f  %10.2f  %11.2f\n", name, what, rate_name, payload_len,
            chips_len, ns[DSSS], ns[PLAIN], ns[DSSS] / ns[PLAIN], ns[DSSS] / read[DSSS], ns[PLAIN] / read[PLAIN]);
     fflush(stdout);
+}
+
+static void beside_read_head(void)
+{
+    printf("%-10s  %-8s  %4s  %6s  %7s  %12s  %12s  %6s  %10s  %11s\n", "call", "of", "rate", "octets", "chips",
+           "dsss ns", "plain ns", "ratio", "dsss reads", "plain reads");
 }
 
 /* A frame that is read takes longest: all of it is looked at. */
@@ -434,16 +441,51 @@ static void whys(void)
 {
     printf("\nwhy a read is refused, of frames that are not and of one refused by its CRC, long; reads: time by that\n"
            "of a hard read of the same recording, by the same\n");
-    printf("%-10s  %-8s  %4s  %6s  %7s  %12s  %12s  %6s  %10s  %11s\n", "call", "of", "rate", "octets", "chips",
-           "dsss ns", "plain ns", "ratio", "dsss reads", "plain reads");
+    beside_read_head();
     for (size_t r = 0; r < 4; r++) {
         set_up(DSSS_LONG, rates[r].code, OCTETS);
         reasons_agree(0);
-        why_line("a frame", rates[r].name);
+        beside_read_line("why", why_task, "a frame", rates[r].name);
     }
     spoil_crc(kind, chips);
     reasons_agree(DSSS_REFUSED_CRC);
-    why_line("its CRC", rates[3].name);
+    beside_read_line("why", why_task, "its CRC", rates[3].name);
+}
+
+/* ---- Reads as the guides of 1997 do ---------------------------------------------------------- */
+
+static uint64_t read_1997_task(const struct library *l)
+{
+    told = l->read_1997(chips, chips_len, octets, payload_len);
+    return told.used;
+}
+
+/* Both libraries answer as their hard read does, or refuse the frame with 13, its LENGTH and an empty buffer. */
+static void guides_agree(int know)
+{
+    static const uint8_t zeros[DSSS_PAYLOAD_MAX];
+
+    for (size_t l = 0; l < BOTH; l++) {
+        read_hard_task(&libraries[l]);
+        dsss_record refused = {DSSS_REFUSED_SIGNAL, 0, 0, told.length, 0, 0, 0, 0, 0}, right = know ? told : refused;
+        read_1997_task(&libraries[l]);
+        if (memcmp(&right, &told, sizeof told) != 0 || memcmp(know ? payload : zeros, octets, payload_len) != 0)
+            fail("a read as the guides of 1997 do is not the one expected");
+    }
+}
+
+/* A frame that they know takes as long as a hard read of it, one that they refuse as long as its front. */
+static void guides(void)
+{
+    printf("\nreads as the guides of 1997 do, of frames that they know and of one that they refuse, long; reads: time\n"
+           "by that of a hard read of the same recording, by the same\n");
+    beside_read_head();
+    for (size_t r = 0; r < 3; r++) {
+        int know = rates[r].code <= DSSS_RATE_2;
+        set_up(DSSS_LONG, rates[r].code, OCTETS);
+        guides_agree(know);
+        beside_read_line("read 1997", read_1997_task, know ? "a frame" : "refused", rates[r].name);
+    }
 }
 
 /* ---- Comparisons ----------------------------------------------------------------------------- */
@@ -753,6 +795,7 @@ int main(int argc, char **argv)
     fronts();
     finds();
     whys();
+    guides();
     comparisons();
     reports();
     kept();

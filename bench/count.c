@@ -2,19 +2,20 @@
  *
  *   count CALL KIND RATE OCTETS TIMES
  *
- * CALL is write, hard, soft, bytes or front, KIND is long or short, RATE a rate code. The calls are those of the
- * library, or with -DOF_PLAIN those of plain C. With -DFIND a call is a find in one of the recordings of recordings.h,
- * which CALL names, and OCTETS are the offsets to try, RATE being of no use. With -DREPORT a call is an add of the
- * frame to a report, an add of an empty recording, a hard read of the frame with the room that an add gives it, or the
- * report's text, as CALL says: add, empty, read or text. With -DWHY a call asks why the frame is refused, which it is
- * not, or is a hard read of it, or the same of the frame with its CRC spoiled: why, read, why_crc or read_crc. With
- * -DCOMPARE a call compares the frame with the recording of pairs.h that CALL names, with room for just the chips that
- * differ, or is the two hard reads of both: equal, few, all, or these with _reads behind them. With -DSTORE a call is
- * the one of stores.h that CALL names, KIND, RATE and OCTETS being of no use. With -DCHOICE a call is the choice alone,
- * of a block of 64 symbols of 11 Mbit/s, by the recorder hard, soft or bytes. The rows are made and a call for one
- * octet or offset, the choice or the call of a store, is made first, whatever TIMES is: the difference of two runs with
- * TIMES 0 and 1 is the instructions of one call, with nothing of the program's start. scripts/instructions.sh builds
- * what it needs and makes the two runs. */
+ * CALL is write, hard, soft, bytes, front, 1997 or refused_1997, KIND is long or short, RATE a rate code. The last two
+ * read a long frame as the guides of 1997 do, and are refused with 13 if so named. The calls are those of the library,
+ * or with -DOF_PLAIN those of plain C. With -DFIND a call is a find in one of the recordings of recordings.h, which
+ * CALL names, and OCTETS are the offsets to try, RATE being of no use. With -DREPORT a call is an add of the frame to a
+ * report, an add of an empty recording, a hard read of the frame with the room that an add gives it, or the report's
+ * text, as CALL says: add, empty, read or text. With -DWHY a call asks why the frame is refused, which it is not, or is
+ * a hard read of it, or the same of the frame with its CRC spoiled: why, read, why_crc or read_crc. With -DCOMPARE a
+ * call compares the frame with the recording of pairs.h that CALL names, with room for just the chips that differ, or
+ * is the two hard reads of both: equal, few, all, or these with _reads behind them. With -DSTORE a call is the one of
+ * stores.h that CALL names, KIND, RATE and OCTETS being of no use. With -DCHOICE a call is the choice alone, of a block
+ * of 64 symbols of 11 Mbit/s, by the recorder hard, soft or bytes. The rows are made and a call for one octet or
+ * offset, the choice or the call of a store, is made first, whatever TIMES is: the difference of two runs with TIMES 0
+ * and 1 is the instructions of one call, with nothing of the program's start. scripts/instructions.sh builds what it
+ * needs and makes the two runs. */
 #include "pairs.h"
 #include "recordings.h"
 #include "stores.h"
@@ -237,6 +238,10 @@ static uint64_t handled(const char *name, uint64_t kind, uint64_t rate, size_t n
         return OF(write)(kind, rate, 0, 0, payload, n, chips, len).chips;
     if (strcmp(name, "hard") == 0)
         return OF(read_hard)(kind, chips, len, octets, n).used;
+    if (strcmp(name, "1997") == 0)
+        return OF(read_1997)(chips, len, octets, n).used;
+    if (strcmp(name, "refused_1997") == 0)
+        return OF(read_1997)(chips, len, octets, n).number == DSSS_REFUSED_SIGNAL ? len : 0;
     if (strcmp(name, "front") == 0)
         return OF(read_front)(kind, chips, len).used;
     if (strcmp(name, "bytes") == 0)

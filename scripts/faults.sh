@@ -9,7 +9,7 @@ set -eu
 cd "$(dirname "$0")/.."
 families=empty_rows,read_rooms,write_edges,cut_recordings,long_refused,coming_rooms,leads_as_sent,find_edges
 families=$families,why_numbers,why_checks,report_lists,report_edges,report_text,store_written,store_orders
-families=$families,store_largest,one_row,compare_refused,compare_itself,compare_lengths,compare_rows
+families=$families,store_largest,one_row,compare_refused,compare_itself,compare_lengths,compare_rows,read_1997_orders
 flags='-std=c99 -Wall -Wextra -Wpedantic -Werror -Iinclude -g'
 sanitized='-fsanitize=address,undefined -fno-sanitize-recover=all'
 if [ "$(uname -m)" = x86_64 ]; then

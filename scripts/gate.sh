@@ -91,7 +91,8 @@ payloads_not_looked_at,ties_eleven_broken,leads_of_one_symbol,find_edges,find_da
 why_places,report_lists,report_edges,report_text,store_written,store_orders,store_changes,store_small,store_octets,\
 store_newer,store_largest,store_shapes,store_bodies,spoiled_sizes,spoiled_starts,one_row,wide_writes,wide_recordings,\
 wide_rooms,wide_searches,compare_receivers,compare_frames,compare_refused,compare_numbers,compare_sent,compare_itself,\
-compare_lengths,compare_rows,compare_octets,compare_wide \
+compare_lengths,compare_rows,compare_octets,compare_wide,read_1997_frames,read_1997_spoiled,read_1997_orders,\
+read_1997_short_fronts,read_1997_wide \
     -- scripts/x86run target/c/bridge pages
 
 stage 'wrong versions of plain C'

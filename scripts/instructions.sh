@@ -1,5 +1,5 @@
 #!/bin/sh
-# instructions.sh [-l dsss|plain|all] [-c write|hard|soft|bytes|front|choice|find|why|compare|report|store|all]
+# instructions.sh [-l dsss|plain|all] [-c write|hard|soft|bytes|front|choice|find|why|1997|compare|report|store|all]
 #                 [-k long|short] [-r RATE|all] [-n OCTETS]
 #
 # Instructions a chip of whole calls: one line a call, rate and library, that is the library and plain C. A read of the
@@ -8,14 +8,15 @@
 # made in each recording of bench/recordings.h, with 4,096 offsets, in noise with fewer too, or with as many as -n
 # says; its figure is not instructions a chip, but how many reads of a long front by the same library they are. A call
 # that asks why is made of frames that are not refused, which takes it longest, and of one refused by its CRC; its
-# figure is how many hard reads of the same recording it is, and should be 1.10 at most. A comparison is made of a frame
-# and of each second recording that bench/pairs.h names, with a row for just the chips that differ; its figure is what
-# it takes more than the two hard reads, by the chip. Of the report an add of an empty recording, adds of frames and a
-# text are counted; the figure of an add is what it takes more than a hard read of the same frame with room for 4,095
-# octets. Of a store those calls are counted that bench/stores.h names. Each figure is the difference of two runs,
-# without the call and with it. On x86-64 valgrind counts (callgrind); elsewhere the emulator of the kit logs each
-# instruction that it runs, about a million a second, and the lines of its log are counted. The archives of target/ are
-# taken as they stand, and only those asked for: `make archives` makes all.
+# figure is how many hard reads of the same recording it is, and should be 1.10 at most. A read as the guides of 1997 do
+# is made of long frames at 1 and 2 Mbit/s, and of one at 5.5 Mbit/s, which they refuse; its figure is how many hard
+# reads it is. A comparison is made of a frame and of each second recording that bench/pairs.h names, with a row for
+# just the chips that differ; its figure is what it takes more than the two hard reads, by the chip. Of the report an
+# add of an empty recording, adds of frames and a text are counted; the figure of an add is what it takes more than a
+# hard read of the same frame with room for 4,095 octets. Of a store those calls are counted that bench/stores.h names.
+# Each figure is the difference of two runs, without the call and with it. On x86-64 valgrind counts (callgrind);
+# elsewhere the emulator of the kit logs each instruction that it runs, about a million a second, and the lines of its
+# log are counted. The archives of target/ are taken as they stand, and only those asked for: `make archives` makes all.
 set -eu
 cd "$(dirname "$0")/.."
 
@@ -31,7 +32,7 @@ while getopts l:c:k:r:n: option; do
     esac
 done
 [ "$library" != all ] || library='dsss plain'
-[ "$call" != all ] || call='write hard soft bytes front choice find why compare report store'
+[ "$call" != all ] || call='write hard soft bytes front choice find why 1997 compare report store'
 mkdir -p target/c
 work=$(mktemp -d)
 trap 'rm -rf "$work"' EXIT
@@ -131,6 +132,24 @@ why_lines() { # why_lines LIBRARY: frames of each rate, and a front that is refu
     why_line "$1" crc "$(rates_or 110)" "${octets:-1500}"
 }
 
+guides_line() { # guides_line LIBRARY CALL RATE NAME: a long frame read as the guides of 1997 do
+    for n in ${octets:-1500}; do
+        read=$(spent hard long "$3" "$n")
+        taken=$(spent "$2" long "$3" "$n")
+        row "$1" "$4" long "$3" "$n" "$(cat "$work/chips")" "$taken" "$(by "$taken" "$read")"
+    done
+}
+
+guides_lines() { # guides_lines LIBRARY: frames of the rates that they know, and one that they refuse
+    build "$1" ''
+    for r in $(rates_or '10 20 55'); do
+        case $r in
+        10 | 20) guides_line "$1" 1997 "$r" 'read 1997' ;;
+        *) guides_line "$1" refused_1997 "$r" 'refused 1997' ;;
+        esac
+    done
+}
+
 compare_lines() { # compare_lines LIBRARY: a frame and each second recording
     build "$1" COMPARE
     for r in $(rates_or 110); do
@@ -185,7 +204,7 @@ lines() { # lines CALL RATES SIZES [CHOICE]: a choice is that of a block, whatev
 }
 
 case $call in
-find | why | compare | report | store) ;;
+find | why | 1997 | compare | report | store) ;;
 *) row of call kind rate octets chips instructions 'a chip' ;;
 esac
 for c in $call; do
@@ -205,6 +224,12 @@ for c in $call; do
         row of call kind rate octets chips instructions reads
         for l in $library; do
             why_lines "$l"
+        done
+        ;;
+    1997)
+        row of call kind rate octets chips instructions reads
+        for l in $library; do
+            guides_lines "$l"
         done
         ;;
     compare)
