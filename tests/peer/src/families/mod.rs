@@ -398,7 +398,7 @@ families! {
     1908 compare_edges::compare_octets: "each octet beside each other one, as chips",
     // for: Compares.answer, Compares.chips, Compares.octets, Compares.first, Compares.second, ComparedFits
     1909 compare_edges::compare_wide: "recordings and rows of 2^16 to 2^24, more than 2^8, 2^16 and 2^20 entries",
-    // for: Read1997.answer, Read1997.octets, Fills1997, Answers1997, BesideOurs, AcceptedOurs
+    // for: Read1997.answer, Read1997.octets, Fills1997, Answers1997, BesideOurs, AcceptedOurs, Begun1997
     2001 read_1997::read_1997_frames: "as the guides of 1997 read: each rate, clock bit or not, whole, cut, spoiled",
     // for: Read1997.answer, Read1997.octets, Fills1997, BesideOurs, AcceptedOurs
     2007 read_1997::read_1997_spoiled: "unusable chips of each octet, symbols turned and lost, each place and far ones",
@@ -408,7 +408,7 @@ families! {
     2003 read_1997::read_1997_orders: "each set of refusals that can hold of a recording at once",
     // for: Read1997.answer, BesideOurs, AcceptedOurs
     2004 read_1997::read_1997_short_fronts: "short frames, and long ones that start early or late",
-    // for: Sent1997, AcceptedOurs, BesideOurs
+    // for: Sent1997, Spoiled1997, AcceptedOurs, BesideOurs
     2005 read_1997::read_1997_sent: "long frames that were written, as sent and spoiled within the limits",
     // for: Read1997.answer, Read1997.octets, Fills1997
     2006 read_1997::read_1997_wide: "recordings and octet buffers of 2^16, 2^20, 2^22 and 2^24 and a few more",
