@@ -9,7 +9,8 @@ use Rattle.rules_frame.specs.declared.Kind.the-variants.{Long}
 use Rattle.rules_calls.specs.declared.Record.{Record}
 use Rattle.rules_calls.specs.Answers.{recordOf}
 use Rattle.rules_calls.specs.Headers.{of1997}
-use Rattle.rules_reading.specs.Reading.{frontBy, wholeOf, reading1997, octets1997}
+use Rattle.rules_reading.specs.Reading.{frontBy, wholeOf}
+use Rattle.rules_reading.specs.Guides.{reading1997, octets1997}
 use Rattle.rules_reading.proofs.Buffers.{after-fits, filled-octets}
 use Rattle.promises_1997.specs.Calls.{Read1997}
 use Rattle.promises_1997.specs.Promises.{Fills1997, OneAnswer1997, GuidesPromised}

@@ -7,7 +7,7 @@ use mathlib.Core.List.{List}
 use Rattle.rules_chips.specs.Chips.{hardRecording}
 use Rattle.rules_calls.specs.declared.Record.{Record}
 use Rattle.rules_calls.specs.Answers.{recordOf}
-use Rattle.rules_reading.specs.Reading.{reading1997, octets1997}
+use Rattle.rules_reading.specs.Guides.{reading1997, octets1997}
 
 -- a hard recording read as a guide of 1997 reads it: the answer, and the octet buffer of `room` octets at the end
 pub record Read1997 (chips : List ℕ) (room : ℕ) (a : Record) (left : List ℕ) : Type 0 where

@@ -30,9 +30,8 @@ use Rattle.rules_reading.specs.Reading.{
   readingOf,
   octetsAfter,
   octetsFound,
-  reading1997,
-  octets1997,
 }
+use Rattle.rules_reading.specs.Guides.{reading1997, octets1997}
 use Rattle.rules_reading.specs.Leads.{frameLeads, leastOf}
 use Rattle.choose_recorded.specs.declared.Place.{Place}
 use Rattle.choose_recorded.specs.declared.Place.the-variants.{Nothing, At}

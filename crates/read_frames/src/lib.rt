@@ -7,14 +7,8 @@ ghost use lib.ListN.{length, replicate};
 ghost use Rattle.rules_chips.specs.Chips.{hardRecording, softRecording, byteRecording};
 ghost use Rattle.rules_calls.specs.Answers.{recordOf};
 ghost use Rattle.rules_calls.specs.Headers.{acceptedBy};
-ghost use Rattle.rules_reading.specs.Reading.{
-  readingBy,
-  readingOf,
-  octetsAfter,
-  octetsFound,
-  reading1997,
-  octets1997,
-};
+ghost use Rattle.rules_reading.specs.Reading.{readingBy, readingOf, octetsAfter, octetsFound};
+ghost use Rattle.rules_reading.specs.Guides.{reading1997, octets1997};
 ghost use Rattle.choose_recorders.specs.Rows.{lent};
 use choose_recorders::Recorder;
 use rules_calls::Front;

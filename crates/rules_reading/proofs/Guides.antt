@@ -31,9 +31,8 @@ use Rattle.rules_reading.specs.Reading.{
   readingOf,
   octetsAfter,
   octetsFound,
-  reading1997,
-  octets1997,
 }
+use Rattle.rules_reading.specs.Guides.{reading1997, octets1997}
 use Rattle.rules_reading.proofs.Refusals.{Sound, FrontRefusal}
 use Rattle.rules_reading.proofs.Readers.{
   front-unheard,

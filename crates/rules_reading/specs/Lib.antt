@@ -3,3 +3,4 @@ pub mod Places
 pub mod Decoded
 pub mod Reading
 pub mod Heard
+pub mod Guides

@@ -17,7 +17,6 @@ use Rattle.rules_bits.specs.Bits.{octetsOf}
 use Rattle.rules_bits.specs.Growths.{heard, growthsOf, lastHeard}
 use Rattle.rules_bits.specs.Scrambler.{descramble}
 use Rattle.rules_frame.specs.declared.Kind.{Kind}
-use Rattle.rules_frame.specs.declared.Kind.the-variants.{Long}
 use Rattle.rules_calls.specs.declared.Refusal.the-variants.{
   NoKind,
   RowsDiffer,
@@ -32,7 +31,7 @@ use Rattle.rules_calls.specs.declared.Front.{Front}
 use Rattle.rules_calls.specs.declared.Front.the-variants as front
 use Rattle.rules_calls.specs.declared.Reading.{Reading}
 use Rattle.rules_calls.specs.declared.Reading.the-variants as reading
-use Rattle.rules_calls.specs.Headers.{Accepted, ours, of1997, headerOf}
+use Rattle.rules_calls.specs.Headers.{Accepted, ours, headerOf}
 use Rattle.rules_reading.specs.Leads.{frameLeads, leastOf}
 use Rattle.rules_frame.specs.Frame.{
   isKind,
@@ -182,11 +181,3 @@ octetsAfter k rec room (reading.Good t used least) = payloadOf k (t .rate) (t .n
 -- what a read leaves in the octet buffer
 unfoldable pub octetsFound : ℕ → Bool → List Taken → ℕ → List ℕ
 octetsFound kind agree rec room = octetsAfter (kindOf kind) rec room (readingOf kind agree rec room)
-
--- ---- as a guide of 1997 reads: long fronts only, so no kind is asked for, and what such guides accept
-
-unfoldable pub reading1997 : List Taken → ℕ → Reading
-reading1997 rec room = readingBy of1997 Long rec room
-
-unfoldable pub octets1997 : List Taken → ℕ → List ℕ
-octets1997 rec room = octetsAfter Long rec room (reading1997 rec room)
