@@ -5,7 +5,8 @@
 --     by-rate, by-clock      55 with the clock bit, 20 with it, whatever LENGTH says: 13 and 14 with that LENGTH
 --     as-long-read, as-cut   SIGNAL 10 and SERVICE 0, and a recording shorter than a front: what a long read has
 --     own-length             a LENGTH that is shown is a header's
---     accepted-too, unheard-too, same-length
+--     own-answer             13 and 14 show number and LENGTH, and all else 0, the lead and its symbol too
+--     accepted-too, unheard-too, same-length, only-13-14
 --                            beside our own long read
 --     known-rate, no-clock   a frame that is accepted is of 10 or 20, without the clock bit
 --     from-ours              and one that ours accepts there is accepted; at 110 it is 13, with the clock bit 14
@@ -15,7 +16,7 @@
 -- Assumes nothing.
 use mathlib.Core.Path.{_≡_, refl, sym, ap, _∙_, subst}
 use mathlib.Core.Bool.{true}
-use mathlib.Core.List.{List, [], _++_}
+use mathlib.Core.List.{List, _++_}
 use Prim.Native.Nat.{ℕ, _-_, _≤_}
 use native.Mathlib.Decide.{ℕ-discrete}
 use native.Mathlib.Omega.{arith}
@@ -26,7 +27,7 @@ use Rattle.rules_chips.specs.Chips.{Taken, hardRecording}
 use Rattle.rules_calls.specs.declared.Written.{Written}
 use Rattle.rules_calls.specs.declared.Record.{Record}
 use Rattle.rules_calls.specs.Plain.{Rate1997, at-1, at-2}
-use Rattle.promises.specs.Calls.{ReadHard, refused, Sent}
+use Rattle.promises.specs.Calls.{ReadHard, refusedAt, refused, Sent}
 use Rattle.promises.specs.Reasons.{HasHeader, ReadAnswer}
 use Rattle.promises.proofs.Exactly.{headed-late}
 use Rattle.promises_1997.specs.Calls.{Read1997}
@@ -99,20 +100,43 @@ module _ (chips : List ℕ) (room : ℕ) (a : Record) (left : List ℕ) (f : Rea
       by (is-14 h y n) = of-header h
       by (from-15 h y x) = subst Shown (sym (headed-late 0 true rec room h x .0)) (of-header h)
 
+  -- an answer is number and LENGTH, and all else 0, or one of a long read
+  data Bare : Record → Type 0 where
+    length-alone : (number l : ℕ) → Bare (refused number l)
+    of-long-read : {c : Record} → ReadAnswer 0 true rec room c → Bare c
+
+  own-answer : Bare a
+  own-answer = by (kept .answers-1997 chips room a left f .1)
+    where
+      by : {c : Record} → Answer1997 rec room c → Bare c
+      by (before-13 n z x) = of-long-read x
+      by (is-13 h n) = length-alone 13 _
+      by (is-14 h y n) = length-alone 14 _
+      by (from-15 h y x) = of-long-read x
+
   -- ---- beside our own long read
   module _ (b : Record) (octets : List ℕ) (g : ReadHard 0 chips room b octets) where
     accepted-too : a .number ≡ 0 → (a ≡ b) × (left ≡ octets)
     accepted-too z =
         kept .beside-ours chips room a b left octets f g .0 (λ e. omega arith) (λ e. omega arith)
 
-    unheard-too : b ≡ refused 11 0 → (a ≡ refused 11 0) × (left ≡ octets)
-    unheard-too e =
-        let number : b .number ≡ 11 = λ i. e i .number in
+    unheard-too : (number place : ℕ) → number ≤ 12 → b ≡ refusedAt number place 0
+        → (a ≡ refusedAt number place 0) × (left ≡ octets)
+    unheard-too number place n e =
+        let number-is : b .number ≡ number = λ i. e i .number in
         let w = kept .beside-ours chips room a b left octets f g .1 (omega arith) (λ i. e i .length) in
         (w .0 ∙ e, w .1)
 
     same-length : a .length ≡ b .length
     same-length = kept .beside-ours chips room a b left octets f g .2
+
+    -- a number that is not ours is 13 or 14
+    only-13-14 : (a .number ≡ b .number → ⊥) → (a .number ≡ 13 → ⊥) → a .number ≡ 14
+    only-13-14 d n = by (ℕ-discrete (a .number) 14)
+      where
+        by : Dec (a .number ≡ 14) → a .number ≡ 14
+        by (yes e) = e
+        by (no m) = absurd (d (λ i. kept .beside-ours chips room a b left octets f g .0 n m .0 i .number))
 
     -- ---- what is accepted
     also-zero : a .number ≡ 0 → b .number ≡ 0
@@ -150,40 +174,43 @@ module _ (phase : ℕ) (payload : List ℕ) (w : Written) (chips : List ℕ) (ro
   -- a caption at 1 Mbit/s, and chips of anything behind it
   caption : Sent 0 10 phase 0 payload w chips → (tail : List ℕ) → Read1997 (take (w .chips) chips ++ tail) room a left
       → length payload ≤ room → (l : ℕ) → LengthOf 10 (length payload) l
-      → (a .number ≡ 0) × (a .rate ≡ 10) × (a .length ≡ l) × (a .n ≡ length payload) × (a .used ≡ w .chips)
-      × (a .lead ≡ 11264) × (a .symbol ≡ 0) × (take (length payload) left ≡ payload)
+      → (a .number ≡ 0) × (a .place ≡ 0) × (a .rate ≡ 10) × (a .length ≡ l) × (a .n ≡ length payload)
+      × (a .used ≡ w .chips) × (a .clock ≡ 0) × (a .lead ≡ 11264) × (a .symbol ≡ 0)
+      × (take (length payload) left ≡ payload)
   caption s tail f h l d =
       let v = kept .sent-1997 10 phase 0 payload w chips s l d tail room a left f .0 at-1 refl h in (
         (λ i. v .0 i .number),
+        (λ i. v .0 i .place),
         (λ i. v .0 i .rate),
         (λ i. v .0 i .length),
         (λ i. v .0 i .n),
         (λ i. v .0 i .used),
+        (λ i. v .0 i .clock),
         (λ i. v .0 i .lead),
         (λ i. v .0 i .symbol),
         ap (take (length payload)) (v .1)
             ∙ take-at payload (replicate (room - length payload) 0) (length payload) refl,
       )
 
-  -- at 5.5 Mbit/s with the clock bit
-  too-fast : Sent 0 55 phase 1 payload w chips → Read1997 (take (w .chips) chips ++ []) room a left → (l : ℕ)
-      → LengthOf 55 (length payload) l → a ≡ refused 13 l
-  too-fast s f l d = kept .sent-1997 55 phase 1 payload w chips s l d [] room a left f .1 (not-55 refl)
+  -- at 5.5 Mbit/s with the clock bit, and chips of anything behind it
+  too-fast : Sent 0 55 phase 1 payload w chips → (tail : List ℕ) → Read1997 (take (w .chips) chips ++ tail) room a left
+      → (l : ℕ) → LengthOf 55 (length payload) l → a ≡ refused 13 l
+  too-fast s tail f l d = kept .sent-1997 55 phase 1 payload w chips s l d tail room a left f .1 (not-55 refl)
 
   -- at 2 Mbit/s with the clock bit, any number but 0
-  clock-bit : Sent 0 20 phase 7 payload w chips → Read1997 (take (w .chips) chips ++ []) room a left → (l : ℕ)
-      → LengthOf 20 (length payload) l → a ≡ refused 14 l
-  clock-bit s f l d =
-      kept .sent-1997 20 phase 7 payload w chips s l d [] room a left f .2 at-2 (λ z. omega arith)
+  clock-bit : Sent 0 20 phase 7 payload w chips → (tail : List ℕ) → Read1997 (take (w .chips) chips ++ tail) room a left
+      → (l : ℕ) → LengthOf 20 (length payload) l → a ≡ refused 14 l
+  clock-bit s tail f l d =
+      kept .sent-1997 20 phase 7 payload w chips s l d tail room a left f .2 at-2 (λ z. omega arith)
 
-  -- nothing but the front: at 11 Mbit/s 13, with the clock bit 14
-  cut-short : (b : Record) (octets : List ℕ) → Read1997 (take 2112 chips ++ []) room a left
-      → ReadHard 0 (take 2112 chips ++ []) room b octets → (l : ℕ)
+  -- the front, and anything or nothing behind it: at 11 Mbit/s 13, with the clock bit 14
+  cut-short : (tail : List ℕ) (b : Record) (octets : List ℕ) → Read1997 (take 2112 chips ++ tail) room a left
+      → ReadHard 0 (take 2112 chips ++ tail) room b octets → (l : ℕ)
       → (Sent 0 110 phase 0 payload w chips → LengthOf 110 (length payload) l → a ≡ refused 13 l)
       × (Sent 0 10 phase 1 payload w chips → LengthOf 10 (length payload) l → a ≡ refused 14 l)
-  cut-short b octets f g l = (
-    (λ s d. kept .begun-1997 110 phase 0 payload w chips s l d [] room a b left octets f g .1 (not-110 refl)),
-    λ s d. kept .begun-1997 10 phase 1 payload w chips s l d [] room a b left octets f g .2 at-1 (λ z. omega arith),
+  cut-short tail b octets f g l = (
+    (λ s d. kept .begun-1997 110 phase 0 payload w chips s l d tail room a b left octets f g .1 (not-110 refl)),
+    λ s d. kept .begun-1997 10 phase 1 payload w chips s l d tail room a b left octets f g .2 at-1 (λ z. omega arith),
   )
 
   -- a front of 2 Mbit/s, whatever follows it
@@ -193,8 +220,9 @@ module _ (phase : ℕ) (payload : List ℕ) (w : Written) (chips : List ℕ) (ro
   any-end s tail b octets f g l d =
       kept .begun-1997 20 phase 0 payload w chips s l d tail room a b left octets f g .0 at-2 refl
 
+-- what holds of one answer and what it leaves holds of the other
 answered-once : (chips : List ℕ) (room : ℕ) (a b : Record) (left octets : List ℕ) → Read1997 chips room a left
-    → Read1997 chips room b octets → (a .number ≡ b .number) × (left ≡ octets)
-answered-once chips room a b left octets f g =
+    → Read1997 chips room b octets → (P : Record → Type 0) (Q : List ℕ → Type 0) → P a → Q left → P b × Q octets
+answered-once chips room a b left octets f g P Q p q =
     let w = kept .one-answer-1997 chips room a b left octets f g in
-    ((λ i. w .0 i .number), w .1)
+    (subst P (w .0) p, subst Q (w .1) q)

@@ -23,11 +23,12 @@ module _ (phase : ℕ) (p : List ℕ) (w : Written) (sent rec tail : List ℕ) (
     (room-for : length p ≤ room) (f : Read1997 (rec ++ tail) room a left) (l : ℕ) where
   caption : Sent 0 20 phase 0 p w sent → LengthOf 20 (length p) l
       → FrameStands 0 20 (length p) (take (w .chips) sent) rec
-      → (a .number ≡ 0) × (a .rate ≡ 20) × (a .length ≡ l) × (a .n ≡ length p) × (a .used ≡ w .chips)
-      × (a .clock ≡ 0) × (1024 ≤ a .lead) × (take (length p) left ≡ p)
+      → (a .number ≡ 0) × (a .place ≡ 0) × (a .rate ≡ 20) × (a .length ≡ l) × (a .n ≡ length p)
+      × (a .used ≡ w .chips) × (a .clock ≡ 0) × (1024 ≤ a .lead) × (take (length p) left ≡ p)
   caption s d stands =
       let v = kept .spoiled-1997 20 phase 0 p w sent s l d rec tail stands room a left room-for f .0 at-2 refl in (
         (λ i. v .0 i .number),
+        (λ i. v .0 i .place),
         (λ i. v .0 i .rate),
         (λ i. v .0 i .length),
         (λ i. v .0 i .n),
