@@ -1,6 +1,6 @@
 -- A guide of 1997 beside our own long reader, for every recording: what its front comes to (`guide-front` of
 -- rules_reading) decides whether both answer alike, or it answers 13 or 14 with the LENGTH that ours shows too.
---     came             the four ways in which a guide answers, with what led there
+--     came, by-way     the four ways in which a guide answers, with what led there, and what follows from all of them
 --     beside-ours, accepted-ours    the statements
 -- Assumes nothing.
 use mathlib.Core.Path.{_≡_, refl, sym, ap, _∙_, subst}
@@ -160,68 +160,55 @@ module _ (chips : List ℕ) (room : ℕ) (a b : Record) (left kept : List ℕ) (
           ours-too (subst (λ (x : ℕ). Headed (signalHeard Long rec) x (lengthHeard Long rec)) z (header s)) y (v .0)
           (v .1)
 
-  -- ---- beside ours
-  abbrev Beside : Type 0
-  Beside =
-      ((a .number ≡ 13 → ⊥) → (a .number ≡ 14 → ⊥) → (a ≡ b) × (left ≡ kept))
-      × (b .number ≤ 12 → b .length ≡ 0 → (a ≡ b) × (left ≡ kept)) × (a .length ≡ b .length)
+  -- what follows in each of the four ways follows
+  by-way : {P : Type 0} → (a ≡ b → left ≡ kept → 8 ≤ b .number → P)
+      → ((signal service l : ℕ) → Headed signal service l → (Rate1997 signal → ⊥) → a ≡ refused 13 l → P)
+      → ((signal service l : ℕ) → Headed signal service l → Rate1997 signal → (service ≡ 0 → ⊥) → a ≡ refused 14 l → P)
+      → ((signal l : ℕ) → Headed signal 0 l → Rate1997 signal → a ≡ b → left ≡ kept → P) → Came → P
+  by-way u t v w (unheard e o from to none) = u e o from
+  by-way u t v w (thirteen h n e) = t _ _ _ h n e
+  by-way u t v w (fourteen h y n e) = v _ _ _ h y n e
+  by-way u t v w (ours-too h y e o) = w _ _ h y e o
 
-  both : a ≡ b → left ≡ kept → Beside
-  both e o = ((λ x y. (e, o)), (λ x y. (e, o)), ap (λ (v : Record). v .length) e)
+  -- where the header was heard, ours shows its LENGTH too, and that is not 0 where our number is at most 12
+  heard-late : {signal service l : ℕ} → Headed signal service l → (b .length ≡ l) × (b .number ≤ 12 → 1 ≤ b .length)
+  heard-late h = headed-late 0 true rec room h own
 
-  -- 13 or 14, with the LENGTH of a header: ours shows it too, and it is none of 8 to 12 for the front
-  other : {signal service l number : ℕ} → Headed signal service l → a ≡ refused number l
-      → ((number ≡ 13 → ⊥) → (number ≡ 14 → ⊥) → ⊥) → Beside
-  other h e out =
-      let w = headed-late 0 true rec room h own in (
-        (λ x y. absurd (out (λ z. x (ap (λ (v : Record). v .number) e ∙ z))
-            (λ z. y (ap (λ (v : Record). v .number) e ∙ z)))),
-        (λ n z. let some = w .1 n in absurd (omega arith)),
-        ap (λ (v : Record). v .length) e ∙ sym (w .0),
-      )
-
-  pub beside : Beside
-  beside = by came
-    where
-      by : Came → Beside
-      by (unheard e o from to none) = both e o
-      by (thirteen h n e) = other h e (λ x y. x refl)
-      by (fourteen h y n e) = other h e (λ x y. y refl)
-      by (ours-too h y e o) = both e o
-
-  -- ---- what ours accepts
-  module _ (zero : b .number ≡ 0) where
-    abbrev Accepted : Type 0
-    Accepted =
-        (Rate1997 (b .rate) → b .clock ≡ 0 → (a ≡ b) × (left ≡ kept))
-        × ((Rate1997 (b .rate) → ⊥) → a ≡ refused 13 (b .length))
-        × (Rate1997 (b .rate) → (b .clock ≡ 0 → ⊥) → a ≡ refused 14 (b .length))
-
-    pub accepted : Accepted
-    accepted = by (told-of own zero) came
-      where
-        by : ToldOf rec b → Came → Accepted
-        by t (unheard e o from to none) = absurd (omega (arith, zero))
-        by t (thirteen h n e) =
-            let w = one-header 0 true rec room h (t .header-is) in
-            let not-known : Rate1997 (b .rate) → ⊥ = λ y. n (subst Rate1997 (sym (w .0)) y) in
-            ((λ y c. absurd (not-known y)), (λ y. e ∙ ap (refused 13) (w .2)), λ y c. absurd (not-known y))
-        by t (fourteen h y n e) =
-            let w = one-header 0 true rec room h (t .header-is) in
-            let rate-known : Rate1997 (b .rate) = subst Rate1997 (w .0) y in (
-              (λ y c. absurd (n (w .1 ∙ no-clock rate-known (t .allowed) (sym (t .clock-is) ∙ c)))),
-              (λ x. absurd (x rate-known)),
-              λ y c. e ∙ ap (refused 14) (w .2),
-            )
-        by t (ours-too h y e o) =
-            let w = one-header 0 true rec room h (t .header-is) in (
-              (λ y c. (e, o)),
-              (λ x. absurd (x (subst Rate1997 (w .0) y))),
-              λ y c. absurd (c (t .clock-is ∙ ap (λ (v : ℕ). v / 4 % 2) (sym (w .1)))),
-            )
-
+-- ---- the statements
 pub beside-ours : BesideOurs
-beside-ours = beside
+beside-ours chips room a b left kept f g =
+    by-way chips room a b left kept f g
+    (λ e o from. ((λ x y. (e, o)), (λ x y. (e, o)), λ i. e i .length))
+    (λ s v l h n e. (
+      (λ x y. absurd (x (λ i. e i .number))),
+      (λ x z. let some = heard-late chips room a b left kept f g h .1 x in absurd (omega arith)),
+      (λ i. e i .length) ∙ sym (heard-late chips room a b left kept f g h .0),
+    ))
+    (λ s v l h y n e. (
+      (λ x z. absurd (z (λ i. e i .number))),
+      (λ x z. let some = heard-late chips room a b left kept f g h .1 x in absurd (omega arith)),
+      (λ i. e i .length) ∙ sym (heard-late chips room a b left kept f g h .0),
+    ))
+    (λ s l h y e o. ((λ x z. (e, o)), (λ x z. (e, o)), λ i. e i .length))
+    (came chips room a b left kept f g)
 
 pub accepted-ours : AcceptedOurs
-accepted-ours chips room a b left kept f g zero = accepted chips room a b left kept f g zero
+accepted-ours chips room a b left kept f g zero =
+    let t = told-of (own chips room a b left kept f g) zero in
+    by-way chips room a b left kept f g
+    (λ e o from. absurd (omega (arith, zero)))
+    (λ s v l h n e. let w = one-header 0 true (hardRecording chips) room h (t .header-is) in
+    let not-known : Rate1997 (b .rate) → ⊥ = λ y. n (subst Rate1997 (sym (w .0)) y) in
+    ((λ y c. absurd (not-known y)), (λ y. e ∙ ap (refused 13) (w .2)), λ y c. absurd (not-known y)))
+    (λ s v l h y n e. let w = one-header 0 true (hardRecording chips) room h (t .header-is) in
+    let rate-known : Rate1997 (b .rate) = subst Rate1997 (w .0) y in (
+      (λ y c. absurd (n (w .1 ∙ no-clock rate-known (t .allowed) (sym (t .clock-is) ∙ c)))),
+      (λ x. absurd (x rate-known)),
+      λ y c. e ∙ ap (refused 14) (w .2),
+    ))
+    (λ s l h y e o. let w = one-header 0 true (hardRecording chips) room h (t .header-is) in (
+      (λ y c. (e, o)),
+      (λ x. absurd (x (subst Rate1997 (w .0) y))),
+      λ y c. absurd (c (t .clock-is ∙ ap (λ (v : ℕ). v / 4 % 2) (sym (w .1)))),
+    ))
+    (came chips room a b left kept f g)

@@ -37,7 +37,7 @@ use Rattle.promises.proofs.Exactly.{one-header, headed-late, read-answers}
 use Rattle.promises_1997.specs.Calls.{Read1997}
 use Rattle.promises_1997.specs.Promises.{Answer1997, before-13, from-15, Answers1997}
 use Rattle.promises_1997.specs.Promises as answer
-use Rattle.promises_1997.proofs.Beside.{Came, unheard, thirteen, fourteen, ours-too, own, came, beside}
+use Rattle.promises_1997.proofs.Beside.{Came, unheard, thirteen, fourteen, ours-too, own, came, beside-ours}
 
 -- our own long read of a recording
 pub long-read : (chips : List ℕ) (room : ℕ)
@@ -111,7 +111,7 @@ module _ (chips : List ℕ) (room : ℕ) (a : Record) (left : List ℕ) (f : Rea
   is-one : {c : Record} → Answer1997 rec room c → Came chips room a b left kept f g → SameButLead a c
   is-one {c} (before-13 n z x) k =
       let e = one-b c x in
-      let w = beside chips room a b left kept f g .1 in
+      let w = beside-ours chips room a b left kept f g .1 in
       as-b c (w (subst (λ (m : ℕ). m ≤ 12) (λ i. e i .number) n) ((λ i. sym e i .length) ∙ z) .0) x
   is-one (answer.is-13 h n) (unheard e o from to none) = absurd (not-both h to none)
   is-one (answer.is-13 h n) (thirteen k m e) =

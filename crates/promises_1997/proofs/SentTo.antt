@@ -8,7 +8,7 @@ use mathlib.Core.Bool.{true}
 use mathlib.Core.List.{List, _++_, append-assoc}
 use Prim.Native.Nat.{ℕ, zero, suc, _+_, _-_, _≤_}
 use native.Mathlib.Omega.{arith}
-use lib.ListN.{length, take, drop, replicate, take-append-drop}
+use lib.ListN.{length, take, drop, take-append-drop}
 use lib.Seq.{take-take}
 use Rattle.rules_rates.specs.declared.Rate.{Rate}
 use Rattle.rules_rates.specs.Rates.{rateOf}
@@ -17,7 +17,6 @@ use Rattle.rules_chips.specs.Chips.{Taken, hardRecording}
 use Rattle.rules_frame.specs.declared.Kind.the-variants.{Long}
 use Rattle.rules_frame.specs.Frame.{clockOf, serviceField}
 use Rattle.rules_calls.specs.declared.Written.{Written}
-use Rattle.rules_calls.specs.declared.Record.{Record}
 use Rattle.rules_calls.specs.declared.Refusal.{Refusal}
 use Rattle.rules_calls.specs.declared.Refusal.the-variants.{Signal, Service}
 use Rattle.rules_calls.specs.declared.Front.the-variants as front
@@ -27,6 +26,7 @@ use Rattle.rules_calls.specs.Headers.{ours, of1997, fieldsOf}
 use Rattle.rules_calls.specs.Plain.{Rate1997, at-1, at-2}
 use Rattle.rules_calls.proofs.Guides.{signal-neither, service-set, fields-ours}
 use Rattle.rules_reading.specs.Reading.{frontBy, readingOf, octetsFound}
+use Rattle.rules_reading.specs.Guides.{reading1997, octets1997}
 use Rattle.rules_reading.proofs.Guides.{guide-alike, guide-refused}
 use Rattle.promises.specs.Calls.{
   ReadHard,
@@ -36,7 +36,6 @@ use Rattle.promises.specs.Calls.{
   long-5,
   long-11,
   good,
-  refused,
   shown,
   sentLead,
   sentSymbol,
@@ -77,8 +76,8 @@ module _ (rate phase clock : ℕ) (payload : List ℕ) (w : Written) (chips : Li
   abbrev service : ℕ
   service = serviceField r (clockOf clock) n
 
-  module _ (tail : List ℕ) (room : ℕ) (a b : Record) (left kept : List ℕ)
-      (f : Read1997 (take 2112 chips ++ tail) room a left) (g : ReadHard 0 (take 2112 chips ++ tail) room b kept) where
+  -- ---- a recording that begins with the frame's front
+  module _ (tail : List ℕ) where
     abbrev rec : List Taken
     rec = hardRecording (take 2112 chips ++ tail)
 
@@ -91,80 +90,75 @@ module _ (rate phase clock : ℕ) (payload : List ℕ) (w : Written) (chips : Li
         (back.pair 0 rate phase clock payload w chips s .code-back)
         (back.length-sent 0 rate phase clock payload w chips s d)
 
-    answered : (e : Refusal) → fieldsOf of1997 Long rate service l ≡ front.Refused e → a ≡ recordOf (reading.Refused e)
-    answered e v = f .answer ∙ ap recordOf (guide-refused rec room e (fields of1997 ∙ v) .0)
+    -- read alike where the fields come to the same for both, and refused where they are refused
+    alike : (room : ℕ) → fieldsOf of1997 Long rate service l ≡ fieldsOf ours Long rate service l
+        → (recordOf (reading1997 rec room) ≡ recordOf (readingOf 0 true rec room))
+        × (octets1997 rec room ≡ octetsFound 0 true rec room)
+    alike room e =
+        let v = guide-alike rec room (fields of1997 ∙ e ∙ sym (fields ours)) in
+        (ap recordOf (v .0), v .1)
 
-    pub begun : (Rate1997 rate → clock ≡ 0 → (a ≡ b) × (left ≡ kept))
-        × ((Rate1997 rate → ⊥) → a ≡ refused 13 l)
-        × (Rate1997 rate → (clock ≡ 0 → ⊥) → a ≡ refused 14 l)
-    begun = (
-      (λ y c. let v = guide-alike rec room
-          (fields of1997 ∙ fields-ours rate service l y (unset y clock n c) ∙ sym (fields ours)) in
-          (f .answer ∙ ap recordOf (v .0) ∙ sym (g .answer), f .octets ∙ v .1 ∙ sym (g .octets))),
-      (λ x. answered (Signal l) (signal-neither Long rate service l x)),
-      λ y c. answered (Service l) (service-set Long rate service l y (set r clock n c)),
-    )
-
-  -- ---- whole frames: the front, and what follows it
-  module _ (tail : List ℕ) (room : ℕ) (a : Record) (left : List ℕ)
-      (f : Read1997 (take (w .chips) chips ++ tail) room a left) where
-    abbrev rest : List ℕ
-    rest = drop 2112 (take (w .chips) chips) ++ tail
-
-    -- a frame is longer than its front
-    longer : 2112 ≤ w .chips
-    longer =
-        omega (
-          arith,
-          long-front (s .sendable .goes),
-          kept .written-frame 0 rate phase clock payload w chips s .1,
-        )
-
-    parted : take (w .chips) chips ++ tail ≡ take 2112 chips ++ rest
-    parted =
-        ap (λ (x : List ℕ). x ++ tail)
-        (sym (take-append-drop 2112 (take (w .chips) chips))
-        ∙ ap (λ (x : List ℕ). x ++ drop 2112 (take (w .chips) chips)) (take-take 2112 (w .chips) chips longer))
-        ∙ append-assoc (take 2112 chips) (drop 2112 (take (w .chips) chips)) tail
-
-    abbrev b : Record
-    b = recordOf (readingOf 0 true (hardRecording (take (w .chips) chips ++ tail)) room)
-
-    abbrev octets : List ℕ
-    octets = octetsFound 0 true (hardRecording (take (w .chips) chips ++ tail)) room
-
-    whole : (Rate1997 rate → clock ≡ 0 → (a ≡ b) × (left ≡ octets))
-        × ((Rate1997 rate → ⊥) → a ≡ refused 13 l)
-        × (Rate1997 rate → (clock ≡ 0 → ⊥) → a ≡ refused 14 l)
-    whole =
-        begun rest room a b left octets (subst (λ (x : List ℕ). Read1997 x room a left) parted f)
-        (subst (λ (x : List ℕ). ReadHard 0 x room b octets) parted (long-read (take (w .chips) chips ++ tail) room))
-
-    pub sent : (Rate1997 rate → clock ≡ 0 → n ≤ room
-        → (a ≡ good rate l n (w .chips) 0 11264 0) × (left ≡ payload ++ replicate (room - n) 0))
-        × ((Rate1997 rate → ⊥) → a ≡ refused 13 l)
-        × (Rate1997 rate → (clock ≡ 0 → ⊥) → a ≡ refused 14 l)
-    sent = ((λ y c h. let v = whole .0 y c in (v .0 ∙ clean y c h, v .1 ∙ read h .1)), whole .1, whole .2)
-      where
-        read : n ≤ room
-            → (b ≡ good rate l n (w .chips) (shown clock) (sentLead rate) (sentSymbol 0 rate))
-            × (octets ≡ payload ++ replicate (room - n) 0)
-        read =
-            kept .read-back 0 rate phase clock payload w chips s l d (length tail) room b octets
-            (of-hard tail refl (long-read (take (w .chips) chips ++ tail) room))
-
-        leads : {rate : ℕ} → Rate1997 rate → (sentLead rate ≡ 11264) × (sentSymbol 0 rate ≡ 0)
-        leads at-1 = (refl, refl)
-        leads at-2 = (refl, refl)
-
-        clean : Rate1997 rate → clock ≡ 0 → n ≤ room → b ≡ good rate l n (w .chips) 0 11264 0
-        clean y c h =
-            read h .0 ∙ (λ i. good rate l n (w .chips) (shown (c i)) (leads y .0 i) (leads y .1 i))
+    answered : (room : ℕ) (e : Refusal) → fieldsOf of1997 Long rate service l ≡ front.Refused e
+        → recordOf (reading1997 rec room) ≡ recordOf (reading.Refused e)
+    answered room e v = ap recordOf (guide-refused rec room e (fields of1997 ∙ v) .0)
 
 pub begun-1997 : Begun1997
 begun-1997 rate phase clock payload w chips s l d tail room a b left kept f g =
-    begun rate phase clock payload w chips s l d tail room a b left kept f g
+    let n = length payload in
+    let service = serviceField (rateOf rate) (clockOf clock) n in (
+      (λ y c. let v = alike rate phase clock payload w chips s l d tail room
+          (fields-ours rate service l y (unset y clock n c)) in
+          (f .answer ∙ v .0 ∙ sym (g .answer), f .octets ∙ v .1 ∙ sym (g .octets))),
+      (λ x. f .answer ∙ answered rate phase clock payload w chips s l d tail room (Signal l)
+          (signal-neither Long rate service l x)),
+      λ y c. f .answer ∙ answered rate phase clock payload w chips s l d tail room (Service l)
+          (service-set Long rate service l y (set (rateOf rate) clock n c)),
+    )
+
+-- ---- whole frames: the front, and what follows it
+module _ (rate phase clock : ℕ) (payload : List ℕ) (w : Written) (chips : List ℕ)
+    (s : Sent 0 rate phase clock payload w chips) (tail : List ℕ) where
+  abbrev rest : List ℕ
+  rest = drop 2112 (take (w .chips) chips) ++ tail
+
+  -- a frame is longer than its front
+  longer : 2112 ≤ w .chips
+  longer =
+      omega (
+        arith,
+        long-front (s .sendable .goes),
+        kept .written-frame 0 rate phase clock payload w chips s .1,
+      )
+
+  parted : take (w .chips) chips ++ tail ≡ take 2112 chips ++ rest
+  parted =
+      ap (λ (x : List ℕ). x ++ tail)
+      (sym (take-append-drop 2112 (take (w .chips) chips))
+      ∙ ap (λ (x : List ℕ). x ++ drop 2112 (take (w .chips) chips)) (take-take 2112 (w .chips) chips longer))
+      ∙ append-assoc (take 2112 chips) (drop 2112 (take (w .chips) chips)) tail
+
+-- the lead of a clean frame at a guide's rates
+leads : {rate : ℕ} → Rate1997 rate → (sentLead rate ≡ 11264) × (sentSymbol 0 rate ≡ 0)
+leads at-1 = (refl, refl)
+leads at-2 = (refl, refl)
 
 pub sent-1997 : Sent1997
 sent-1997 rate phase clock payload w chips s l d tail room a left f =
-    sent rate phase clock payload w chips s l d tail room a left f
+    let heard = take (w .chips) chips ++ tail in
+    let b = recordOf (readingOf 0 true (hardRecording heard) room) in
+    let octets = octetsFound 0 true (hardRecording heard) room in
+    let g = long-read heard room in
+    let same = parted rate phase clock payload w chips s tail in
+    let begun = begun-1997 rate phase clock payload w chips s l d (rest rate phase clock payload w chips s tail) room
+    a b left octets (subst (λ (x : List ℕ). Read1997 x room a left) same f)
+    (subst (λ (x : List ℕ). ReadHard 0 x room b octets) same g) in (
+      (λ y c h. let ours = begun .0 y c in
+          let read = kept .read-back 0 rate phase clock payload w chips s l d (length tail) room b octets
+          (of-hard tail refl g) h in (
+            ours .0 ∙ read .0
+                ∙ (λ i. good rate l (length payload) (w .chips) (shown (c i)) (leads y .0 i) (leads y .1 i)),
+            ours .1 ∙ read .1,
+          )),
+      begun .1,
+      begun .2,
+    )
