@@ -50,7 +50,7 @@ use Rattle.promises_1997.specs.Promises.{Sent1997, Begun1997}
 use Rattle.promises_1997.proofs.Exactly.{long-read}
 
 -- a long front is 2,112 chips
-long-front : {rate front octet : ℕ} → Goes 0 rate front octet → front ≡ 2112
+pub long-front : {rate front octet : ℕ} → Goes 0 rate front octet → front ≡ 2112
 long-front long-1 = refl
 long-front long-2 = refl
 long-front long-5 = refl

@@ -6,7 +6,7 @@
 --     as-long-read, as-cut   SIGNAL 10 and SERVICE 0, and a recording shorter than a front: what a long read has
 --     own-length             a LENGTH that is shown is a header's
 --     own-answer             13 and 14 show number and LENGTH, and all else 0, the lead and its symbol too
---     accepted-too, unheard-too, same-length, only-13-14
+--     accepted-too, unheard-too, in-front, same-length, only-13-14
 --                            beside our own long read
 --     known-rate, no-clock   a frame that is accepted is of 10 or 20, without the clock bit
 --     from-ours              and one that ours accepts there is accepted; at 110 it is 13, with the clock bit 14
@@ -17,7 +17,7 @@
 use mathlib.Core.Path.{_≡_, refl, sym, ap, _∙_, subst}
 use mathlib.Core.Bool.{true}
 use mathlib.Core.List.{List, _++_}
-use Prim.Native.Nat.{ℕ, _-_, _≤_}
+use Prim.Native.Nat.{ℕ, _-_, _≤_, _<_}
 use native.Mathlib.Decide.{ℕ-discrete}
 use native.Mathlib.Omega.{arith}
 use lib.ListN.{length, take, drop, replicate}
@@ -29,9 +29,11 @@ use Rattle.rules_calls.specs.declared.Record.{Record}
 use Rattle.rules_calls.specs.Plain.{Rate1997, at-1, at-2}
 use Rattle.promises.specs.Calls.{ReadHard, refusedAt, refused, Sent}
 use Rattle.promises.specs.Reasons.{HasHeader, ReadAnswer}
-use Rattle.promises.proofs.Exactly.{headed-late}
+use Rattle.promises.specs.Reasons as reasons
+use Rattle.promises.proofs.Exactly.{headed-late, read-answers}
 use Rattle.promises_1997.specs.Calls.{Read1997}
 use Rattle.promises_1997.specs.Promises.{Answer1997, before-13, is-13, is-14, from-15}
+use Rattle.promises_1997.proofs.SentTo.{long-front}
 use Rattle.promises_1997.proofs.Kept.{kept}
 
 not-55 : {rate : ℕ} → rate ≡ 55 → Rate1997 rate → ⊥
@@ -41,6 +43,25 @@ not-55 e at-2 = omega arith
 not-110 : {rate : ℕ} → rate ≡ 110 → Rate1997 rate → ⊥
 not-110 e at-1 = omega arith
 not-110 e at-2 = omega arith
+
+-- 8 to 12 of a long read with a place below 2,112 show no LENGTH
+front-length : {rec : List Taken} {room : ℕ} {c : Record} → ReadAnswer 0 true rec room c → 8 ≤ c .number
+    → c .number ≤ 12 → c .place < 2112 → c .length ≡ 0
+front-length (reasons.is-1 h) n m p = refl
+front-length (reasons.is-7 h d) n m p = refl
+front-length (reasons.is-8 h d l) n m p = refl
+front-length (reasons.front-9 h d u) n m p = refl
+front-length (reasons.front-10 h u b d o) n m p = refl
+front-length (reasons.is-11 h d o) n m p = refl
+front-length (reasons.is-12 h f s v l c d) n m p = refl
+front-length (reasons.is-13 h d) n m p = absurd (omega arith)
+front-length (reasons.is-14 h d o) n m p = absurd (omega arith)
+front-length (reasons.is-15 h d s o) n m p = absurd (omega arith)
+front-length (reasons.is-16 h d) n m p = absurd (omega arith)
+front-length (reasons.is-17 h t d) n m p = absurd (omega arith)
+front-length (reasons.payload-9 h t r f d u) n m p = let long = long-front (h .goes) in absurd (omega arith)
+front-length (reasons.payload-10 h t r u e f d o) n m p = let long = long-front (h .goes) in absurd (omega arith)
+front-length (reasons.is-0 lead symbol h t r u v) n m p = absurd (omega arith)
 
 module _ (chips : List ℕ) (room : ℕ) (a : Record) (left : List ℕ) (f : Read1997 chips room a left) where
   abbrev rec : List Taken
@@ -126,6 +147,12 @@ module _ (chips : List ℕ) (room : ℕ) (a : Record) (left : List ℕ) (f : Rea
         let number-is : b .number ≡ number = λ i. e i .number in
         let w = kept .beside-ours chips room a b left octets f g .1 (omega arith) (λ i. e i .length) in
         (w .0 ∙ e, w .1)
+
+    -- by the place: 9 and 10 below 2,112 are in the front
+    in-front : 8 ≤ b .number → b .number ≤ 12 → b .place < 2112 → (a ≡ b) × (left ≡ octets)
+    in-front from to p =
+        kept .beside-ours chips room a b left octets f g .1 to
+        (front-length (read-answers 0 true rec room b octets g .1) from to p)
 
     same-length : a .length ≡ b .length
     same-length = kept .beside-ours chips room a b left octets f g .2
