@@ -4,10 +4,9 @@
 --     fields-ours       else just what our own readers make of them under the long kind: 15, or what is told
 -- By the tests of the definition (`Accepting`), and what the guides' set of SIGNALs and SERVICEs has. Assumes nothing.
 use mathlib.Core.Path.{_≡_, refl, sym, subst}
-use mathlib.Core.Bool.{true, false, _||_}
+use mathlib.Core.Bool.{true, false}
 use Prim.Native.Nat.{ℕ}
 use borrow.Author.Tests.{ne-eqb}
-use lib.Dec.{eqb}
 use Rattle.rules_frame.specs.declared.Kind.{Kind}
 use Rattle.rules_frame.specs.declared.Kind.the-variants.{Long}
 use Rattle.rules_calls.specs.declared.Refusal.the-variants.{Signal, Service}
@@ -16,12 +15,12 @@ use Rattle.rules_calls.specs.Headers.{ours, of1997, fieldsOf}
 use Rattle.rules_calls.specs.Plain.{Rate1997, at-1, at-2}
 use Rattle.rules_calls.proofs.Accepting.{signal-refused, service-refused}
 
-known : {signal : ℕ} → Rate1997 signal → (eqb signal 10 || eqb signal 20) ≡ true
-known at-1 = refl
-known at-2 = refl
+known : (k : Kind) {signal : ℕ} → Rate1997 signal → of1997 .signals k signal ≡ true
+known k at-1 = refl
+known k at-2 = refl
 
-unknown : (signal : ℕ) → (Rate1997 signal → ⊥) → (eqb signal 10 || eqb signal 20) ≡ false
-unknown signal h =
+unknown : (k : Kind) (signal : ℕ) → (Rate1997 signal → ⊥) → of1997 .signals k signal ≡ false
+unknown k signal h =
     rw (
       ne-eqb signal 10 (λ e. h (subst Rate1997 (sym e) at-1)),
       ne-eqb signal 20 (λ e. h (subst Rate1997 (sym e) at-2)),
@@ -29,11 +28,11 @@ unknown signal h =
 
 pub signal-neither : (k : Kind) (signal service l : ℕ) → (Rate1997 signal → ⊥)
     → fieldsOf of1997 k signal service l ≡ front.Refused (Signal l)
-signal-neither k signal service l h = signal-refused of1997 k signal service l (unknown signal h)
+signal-neither k signal service l h = signal-refused of1997 k signal service l (unknown k signal h)
 
 pub service-set : (k : Kind) (signal service l : ℕ) → Rate1997 signal → (service ≡ 0 → ⊥)
     → fieldsOf of1997 k signal service l ≡ front.Refused (Service l)
-service-set k signal service l s h = service-refused of1997 k signal service l (known s) (ne-eqb service 0 h)
+service-set k signal service l s h = service-refused of1997 k signal service l (known k s) (ne-eqb service 0 h)
 
 -- promise: What three fields come to for a guide of 1997, for every SIGNAL, SERVICE and LENGTH: 13 where SIGNAL is
 -- neither 10 nor 20, then 14 where SERVICE is not 0, each with the LENGTH read and whatever is asked after it; else
