@@ -1,6 +1,6 @@
 -- Headers, computed from the definition and compared with what RULES 5.8 to 5.14 and 6.4 say of each: refusals 11 to 15
 -- with number, place and LENGTH, at their limits and where two hold together, and what a good header tells, all for
--- what our readers accept. Assumes nothing.
+-- what our readers accept; and what a guide of 1997 makes of a few (RULES 6.30). Assumes nothing.
 use mathlib.Core.Path.{_≡_, refl}
 use mathlib.Core.Bool.{cond}
 use mathlib.Core.List.{List, [], _∷_, _++_, map}
@@ -19,7 +19,7 @@ use Rattle.rules_calls.specs.declared.Front.{Front}
 use Rattle.rules_calls.specs.declared.Front.the-variants as front
 use Rattle.rules_calls.specs.declared.Reading.the-variants as reading
 use Rattle.rules_calls.specs.Answers.{recordOf}
-use Rattle.rules_calls.specs.Headers.{serviceAllowed, ours, sameBits, fieldsOf, headerOf}
+use Rattle.rules_calls.specs.Headers.{serviceAllowed, ours, of1997, sameBits, fieldsOf, headerOf}
 
 -- a refusal's number, place and LENGTH; or what a good header tells: 0, rate code, LENGTH, n, the clock bit
 abbrev refused : Record → List ℕ
@@ -169,3 +169,14 @@ pub crc-each : map
     ∷ (12 ∷ 0 ∷ 0 ∷ []) ∷ (12 ∷ 0 ∷ 0 ∷ []) ∷ (12 ∷ 0 ∷ 0 ∷ []) ∷ (12 ∷ 0 ∷ 0 ∷ []) ∷ (12 ∷ 0 ∷ 0 ∷ []) ∷ []
 unfolding fieldBits headerBits bitsOf numberOf addWhere crcStep remainder crcBits sameBits fieldsOf headerOf
 crc-each = refl
+
+-- a guide of 1997: SIGNAL 10 and 20 alone, whatever SERVICE and LENGTH are; then SERVICE 0 alone, whatever LENGTH is
+pub guides-facts : map (λ (s : ℕ). told (fieldsOf of1997 Long s 0 8)) (10 ∷ 20 ∷ 55 ∷ 110 ∷ 0 ∷ 11 ∷ [])
+    ++ map (λ (s : ℕ). told (fieldsOf of1997 Long s 4 9)) (10 ∷ 20 ∷ 55 ∷ 110 ∷ [])
+    ++ map (λ (s : ℕ). told (fieldsOf of1997 Long 10 s 9)) (0 ∷ 1 ∷ 128 ∷ [])
+    ≡ (0 ∷ 10 ∷ 8 ∷ 1 ∷ 0 ∷ []) ∷ (0 ∷ 20 ∷ 8 ∷ 2 ∷ 0 ∷ [])
+    ∷ (13 ∷ 0 ∷ 8 ∷ []) ∷ (13 ∷ 0 ∷ 8 ∷ []) ∷ (13 ∷ 0 ∷ 8 ∷ []) ∷ (13 ∷ 0 ∷ 8 ∷ [])
+    ∷ (14 ∷ 0 ∷ 9 ∷ []) ∷ (14 ∷ 0 ∷ 9 ∷ []) ∷ (13 ∷ 0 ∷ 9 ∷ []) ∷ (13 ∷ 0 ∷ 9 ∷ [])
+    ∷ (15 ∷ 0 ∷ 9 ∷ []) ∷ (14 ∷ 0 ∷ 9 ∷ []) ∷ (14 ∷ 0 ∷ 9 ∷ []) ∷ []
+unfolding fieldsOf
+guides-facts = refl
