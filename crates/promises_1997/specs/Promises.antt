@@ -31,8 +31,8 @@ Fills1997 =
 
 -- what a guide answers, of a recording and room for so many octets; each case asks that none before it holds
 pub data Answer1997 (rec : List Taken) (room : ℕ) : Record → Type 0 where
-  -- 8, 9 and 10 over the front, 11 and 12, as a read under the long kind has them. They show no LENGTH, and a payload's
-  -- 9 and 10 do
+  -- 8, 9 and 10 over the front, 11 and 12, as a read under the long kind has them. They show no LENGTH; all others with
+  -- a number up to 12, a payload's 9 and 10 and an accepted frame, do
   before-13 : {a : Record} → a .number ≤ 12 → a .length ≡ 0 → ReadAnswer 0 true rec room a → Answer1997 rec room a
   -- 13: SIGNAL is neither 10 nor 20; 14: SERVICE is not 0. Both with the header's LENGTH
   is-13 : {signal service l : ℕ} → HasHeader 0 true rec signal service l → (Rate1997 signal → ⊥)

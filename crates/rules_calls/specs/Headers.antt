@@ -42,7 +42,7 @@ ours = record { signals = λ k signal. isCode signal && goesWith k (rateOf signa
 abbrev pub of1997 : Accepted
 of1997 = record { signals = λ k signal. eqb signal 10 || eqb signal 20; services = λ r s. eqb s 0 }
 
--- each by who reads
+-- which of the two, from who reads
 -- working notion: of the code, in which who reads is a value
 abbrev pub acceptedBy : Reader → Accepted
 acceptedBy Ours = ours
