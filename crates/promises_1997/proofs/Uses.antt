@@ -225,19 +225,20 @@ module _ (phase : ℕ) (payload : List ℕ) (w : Written) (chips : List ℕ) (ro
   too-fast s tail f l d = kept .sent-1997 55 phase 1 payload w chips s l d tail room a left f .1 (not-55 refl)
 
   -- at 2 Mbit/s with the clock bit, any number but 0
-  clock-bit : Sent 0 20 phase 7 payload w chips → (tail : List ℕ) → Read1997 (take (w .chips) chips ++ tail) room a left
-      → (l : ℕ) → LengthOf 20 (length payload) l → a ≡ refused 14 l
-  clock-bit s tail f l d =
-      kept .sent-1997 20 phase 7 payload w chips s l d tail room a left f .2 at-2 (λ z. omega arith)
+  clock-bit : (clock : ℕ) → (clock ≡ 0 → ⊥) → Sent 0 20 phase clock payload w chips → (tail : List ℕ)
+      → Read1997 (take (w .chips) chips ++ tail) room a left → (l : ℕ) → LengthOf 20 (length payload) l
+      → a ≡ refused 14 l
+  clock-bit clock set s tail f l d = kept .sent-1997 20 phase clock payload w chips s l d tail room a left f .2 at-2 set
 
   -- the front, and anything or nothing behind it: at 11 Mbit/s 13, with the clock bit 14
   cut-short : (tail : List ℕ) (b : Record) (octets : List ℕ) → Read1997 (take 2112 chips ++ tail) room a left
       → ReadHard 0 (take 2112 chips ++ tail) room b octets → (l : ℕ)
       → (Sent 0 110 phase 0 payload w chips → LengthOf 110 (length payload) l → a ≡ refused 13 l)
-      × (Sent 0 10 phase 1 payload w chips → LengthOf 10 (length payload) l → a ≡ refused 14 l)
+      × ((clock : ℕ) → (clock ≡ 0 → ⊥) → Sent 0 10 phase clock payload w chips → LengthOf 10 (length payload) l
+      → a ≡ refused 14 l)
   cut-short tail b octets f g l = (
     (λ s d. kept .begun-1997 110 phase 0 payload w chips s l d tail room a b left octets f g .1 (not-110 refl)),
-    λ s d. kept .begun-1997 10 phase 1 payload w chips s l d tail room a b left octets f g .2 at-1 (λ z. omega arith),
+    λ clock set s d. kept .begun-1997 10 phase clock payload w chips s l d tail room a b left octets f g .2 at-1 set,
   )
 
   -- a front of 2 Mbit/s, whatever follows it

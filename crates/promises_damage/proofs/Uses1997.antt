@@ -43,7 +43,7 @@ module _ (phase : ℕ) (p : List ℕ) (w : Written) (sent rec tail : List ℕ) (
   too-fast s d stands =
       kept .spoiled-1997 110 phase 1 p w sent s l d rec tail stands room a left room-for f .1 (not-110 refl)
 
-  clock-bit : Sent 0 10 phase 3 p w sent → LengthOf 10 (length p) l
+  clock-bit : (clock : ℕ) → (clock ≡ 0 → ⊥) → Sent 0 10 phase clock p w sent → LengthOf 10 (length p) l
       → FrameStands 0 10 (length p) (take (w .chips) sent) rec → a ≡ refused 14 l
-  clock-bit s d stands =
-      kept .spoiled-1997 10 phase 3 p w sent s l d rec tail stands room a left room-for f .2 at-1 (λ z. omega arith)
+  clock-bit clock set s d stands =
+      kept .spoiled-1997 10 phase clock p w sent s l d rec tail stands room a left room-for f .2 at-1 set
