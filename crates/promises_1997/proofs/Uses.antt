@@ -198,14 +198,15 @@ module _ (chips : List ℕ) (room : ℕ) (a : Record) (left : List ℕ) (f : Rea
 
 -- ---- frames that were written
 module _ (phase : ℕ) (payload : List ℕ) (w : Written) (chips : List ℕ) (room : ℕ) (a : Record) (left : List ℕ) where
-  -- a caption at 1 Mbit/s, and chips of anything behind it
-  caption : Sent 0 10 phase 0 payload w chips → (tail : List ℕ) → Read1997 (take (w .chips) chips ++ tail) room a left
-      → length payload ≤ room → (l : ℕ) → LengthOf 10 (length payload) l
-      → (a .number ≡ 0) × (a .place ≡ 0) × (a .rate ≡ 10) × (a .length ≡ l) × (a .n ≡ length payload)
+  -- a caption at 1 or 2 Mbit/s, and chips of anything behind it
+  caption : {rate : ℕ} → Rate1997 rate → Sent 0 rate phase 0 payload w chips → (tail : List ℕ)
+      → Read1997 (take (w .chips) chips ++ tail) room a left → length payload ≤ room → (l : ℕ)
+      → LengthOf rate (length payload) l
+      → (a .number ≡ 0) × (a .place ≡ 0) × (a .rate ≡ rate) × (a .length ≡ l) × (a .n ≡ length payload)
       × (a .used ≡ w .chips) × (a .clock ≡ 0) × (a .lead ≡ 11264) × (a .symbol ≡ 0)
       × (take (length payload) left ≡ payload)
-  caption s tail f h l d =
-      let v = kept .sent-1997 10 phase 0 payload w chips s l d tail room a left f .0 at-1 refl h in (
+  caption {rate} y s tail f h l d =
+      let v = kept .sent-1997 rate phase 0 payload w chips s l d tail room a left f .0 y refl h in (
         (λ i. v .0 i .number),
         (λ i. v .0 i .place),
         (λ i. v .0 i .rate),
@@ -219,16 +220,21 @@ module _ (phase : ℕ) (payload : List ℕ) (w : Written) (chips : List ℕ) (ro
             ∙ take-at payload (replicate (room - length payload) 0) (length payload) refl,
       )
 
-  -- at 5.5 Mbit/s with the clock bit, and chips of anything behind it
-  too-fast : Sent 0 55 phase 1 payload w chips → (tail : List ℕ) → Read1997 (take (w .chips) chips ++ tail) room a left
-      → (l : ℕ) → LengthOf 55 (length payload) l → a ≡ refused 13 l
-  too-fast s tail f l d = kept .sent-1997 55 phase 1 payload w chips s l d tail room a left f .1 (not-55 refl)
+  -- at 5.5 and 11 Mbit/s, with the clock bit or without, and chips of anything behind it
+  too-fast : (tail : List ℕ) → Read1997 (take (w .chips) chips ++ tail) room a left → (clock l : ℕ)
+      → (Sent 0 55 phase clock payload w chips → LengthOf 55 (length payload) l → a ≡ refused 13 l)
+      × (Sent 0 110 phase clock payload w chips → LengthOf 110 (length payload) l → a ≡ refused 13 l)
+  too-fast tail f clock l = (
+    (λ s d. kept .sent-1997 55 phase clock payload w chips s l d tail room a left f .1 (not-55 refl)),
+    λ s d. kept .sent-1997 110 phase clock payload w chips s l d tail room a left f .1 (not-110 refl),
+  )
 
-  -- at 2 Mbit/s with the clock bit, any number but 0
-  clock-bit : (clock : ℕ) → (clock ≡ 0 → ⊥) → Sent 0 20 phase clock payload w chips → (tail : List ℕ)
-      → Read1997 (take (w .chips) chips ++ tail) room a left → (l : ℕ) → LengthOf 20 (length payload) l
-      → a ≡ refused 14 l
-  clock-bit clock set s tail f l d = kept .sent-1997 20 phase clock payload w chips s l d tail room a left f .2 at-2 set
+  -- at 1 or 2 Mbit/s with the clock bit, any number but 0
+  clock-bit : {rate : ℕ} → Rate1997 rate → (clock : ℕ) → (clock ≡ 0 → ⊥) → Sent 0 rate phase clock payload w chips
+      → (tail : List ℕ) → Read1997 (take (w .chips) chips ++ tail) room a left → (l : ℕ)
+      → LengthOf rate (length payload) l → a ≡ refused 14 l
+  clock-bit {rate} y clock set s tail f l d =
+      kept .sent-1997 rate phase clock payload w chips s l d tail room a left f .2 y set
 
   -- the front, and anything or nothing behind it: at 11 Mbit/s 13, with the clock bit 14
   cut-short : (tail : List ℕ) (b : Record) (octets : List ℕ) → Read1997 (take 2112 chips ++ tail) room a left

@@ -21,12 +21,12 @@ not-110 e at-2 = omega arith
 
 module _ (phase : ℕ) (p : List ℕ) (w : Written) (sent rec tail : List ℕ) (room : ℕ) (a : Record) (left : List ℕ)
     (room-for : length p ≤ room) (f : Read1997 (rec ++ tail) room a left) (l : ℕ) where
-  caption : Sent 0 20 phase 0 p w sent → LengthOf 20 (length p) l
-      → FrameStands 0 20 (length p) (take (w .chips) sent) rec
-      → (a .number ≡ 0) × (a .place ≡ 0) × (a .rate ≡ 20) × (a .length ≡ l) × (a .n ≡ length p)
+  caption : {rate : ℕ} → Rate1997 rate → Sent 0 rate phase 0 p w sent → LengthOf rate (length p) l
+      → FrameStands 0 rate (length p) (take (w .chips) sent) rec
+      → (a .number ≡ 0) × (a .place ≡ 0) × (a .rate ≡ rate) × (a .length ≡ l) × (a .n ≡ length p)
       × (a .used ≡ w .chips) × (a .clock ≡ 0) × (1024 ≤ a .lead) × (take (length p) left ≡ p)
-  caption s d stands =
-      let v = kept .spoiled-1997 20 phase 0 p w sent s l d rec tail stands room a left room-for f .0 at-2 refl in (
+  caption {rate} y s d stands =
+      let v = kept .spoiled-1997 rate phase 0 p w sent s l d rec tail stands room a left room-for f .0 y refl in (
         (λ i. v .0 i .number),
         (λ i. v .0 i .place),
         (λ i. v .0 i .rate),
@@ -38,12 +38,12 @@ module _ (phase : ℕ) (p : List ℕ) (w : Written) (sent rec tail : List ℕ) (
         ap (take (length p)) (v .2) ∙ take-at p (replicate (room - length p) 0) (length p) refl,
       )
 
-  too-fast : Sent 0 110 phase 1 p w sent → LengthOf 110 (length p) l
+  too-fast : (clock : ℕ) → Sent 0 110 phase clock p w sent → LengthOf 110 (length p) l
       → FrameStands 0 110 (length p) (take (w .chips) sent) rec → a ≡ refused 13 l
-  too-fast s d stands =
-      kept .spoiled-1997 110 phase 1 p w sent s l d rec tail stands room a left room-for f .1 (not-110 refl)
+  too-fast clock s d stands =
+      kept .spoiled-1997 110 phase clock p w sent s l d rec tail stands room a left room-for f .1 (not-110 refl)
 
-  clock-bit : (clock : ℕ) → (clock ≡ 0 → ⊥) → Sent 0 10 phase clock p w sent → LengthOf 10 (length p) l
-      → FrameStands 0 10 (length p) (take (w .chips) sent) rec → a ≡ refused 14 l
-  clock-bit clock set s d stands =
-      kept .spoiled-1997 10 phase clock p w sent s l d rec tail stands room a left room-for f .2 at-1 set
+  clock-bit : {rate : ℕ} → Rate1997 rate → (clock : ℕ) → (clock ≡ 0 → ⊥) → Sent 0 rate phase clock p w sent
+      → LengthOf rate (length p) l → FrameStands 0 rate (length p) (take (w .chips) sent) rec → a ≡ refused 14 l
+  clock-bit {rate} y clock set s d stands =
+      kept .spoiled-1997 rate phase clock p w sent s l d rec tail stands room a left room-for f .2 y set
