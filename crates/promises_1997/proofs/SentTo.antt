@@ -1,5 +1,6 @@
 -- Long frames that our writer makes, as a guide of 1997 reads them: their front comes to what their three fields do
--- (`begun-sent` of promises), and those are 13 at 55 and 110, 14 with the clock bit, and else what ours come to.
+-- (`begun-sent` of promises), and those are 13 at 55 and 110, 14 at 10 and 20 with the clock bit, and else what ours
+-- come to.
 --     begun-1997    recordings that begin with the front of such a frame, whatever follows
 --     sent-1997     whole frames, whatever follows
 -- Assumes nothing.
@@ -50,11 +51,11 @@ use Rattle.promises_1997.specs.Promises.{Sent1997, Begun1997}
 use Rattle.promises_1997.proofs.Exactly.{long-read}
 
 -- a long front is 2,112 chips
-pub long-front : {rate front octet : ℕ} → Goes 0 rate front octet → front ≡ 2112
-long-front long-1 = refl
-long-front long-2 = refl
-long-front long-5 = refl
-long-front long-11 = refl
+pub chips-before : {rate front octet : ℕ} → Goes 0 rate front octet → front ≡ 2112
+chips-before long-1 = refl
+chips-before long-2 = refl
+chips-before long-5 = refl
+chips-before long-11 = refl
 
 -- SERVICE that is sent at a guide's rates: 0 without the clock bit, and with it not
 unset : {rate : ℕ} → Rate1997 rate → (clock n : ℕ) → clock ≡ 0 → serviceField (rateOf rate) (clockOf clock) n ≡ 0
@@ -83,7 +84,7 @@ module _ (rate phase clock : ℕ) (payload : List ℕ) (w : Written) (chips : Li
 
     fields : (accepted : _) → frontBy accepted Long rec ≡ fieldsOf accepted Long rate service l
     fields accepted =
-        let e = long-front (s .sendable .goes) in
+        let e = chips-before (s .sendable .goes) in
         ap (λ (m : ℕ). frontBy accepted Long (hardRecording (take m chips ++ tail))) (sym e)
         ∙ begun-sent 0 rate phase clock payload w chips s tail accepted
         ∙ ap₂ (λ c m. fieldsOf accepted Long c service m)
@@ -126,7 +127,7 @@ module _ (rate phase clock : ℕ) (payload : List ℕ) (w : Written) (chips : Li
   longer =
       omega (
         arith,
-        long-front (s .sendable .goes),
+        chips-before (s .sendable .goes),
         kept .written-frame 0 rate phase clock payload w chips s .1,
       )
 

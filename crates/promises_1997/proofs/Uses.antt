@@ -27,22 +27,15 @@ use Rattle.rules_chips.specs.Chips.{Taken, hardRecording}
 use Rattle.rules_calls.specs.declared.Written.{Written}
 use Rattle.rules_calls.specs.declared.Record.{Record}
 use Rattle.rules_calls.specs.Plain.{Rate1997, at-1, at-2}
+use Rattle.rules_calls.proofs.Guides.{not-55, not-110}
 use Rattle.promises.specs.Calls.{ReadHard, refusedAt, refused, Sent}
 use Rattle.promises.specs.Reasons.{HasHeader, ReadAnswer}
 use Rattle.promises.specs.Reasons as reasons
 use Rattle.promises.proofs.Exactly.{headed-late, read-answers}
 use Rattle.promises_1997.specs.Calls.{Read1997}
 use Rattle.promises_1997.specs.Promises.{Answer1997, before-13, is-13, is-14, from-15}
-use Rattle.promises_1997.proofs.SentTo.{long-front}
+use Rattle.promises_1997.proofs.SentTo.{chips-before}
 use Rattle.promises_1997.proofs.Kept.{kept}
-
-not-55 : {rate : ℕ} → rate ≡ 55 → Rate1997 rate → ⊥
-not-55 e at-1 = omega arith
-not-55 e at-2 = omega arith
-
-not-110 : {rate : ℕ} → rate ≡ 110 → Rate1997 rate → ⊥
-not-110 e at-1 = omega arith
-not-110 e at-2 = omega arith
 
 -- 8 to 12 of a long read with a place below 2,112 show no LENGTH
 front-length : {rec : List Taken} {room : ℕ} {c : Record} → ReadAnswer 0 true rec room c → 8 ≤ c .number
@@ -59,8 +52,8 @@ front-length (reasons.is-14 h d o) n m p = absurd (omega arith)
 front-length (reasons.is-15 h d s o) n m p = absurd (omega arith)
 front-length (reasons.is-16 h d) n m p = absurd (omega arith)
 front-length (reasons.is-17 h t d) n m p = absurd (omega arith)
-front-length (reasons.payload-9 h t r f d u) n m p = let long = long-front (h .goes) in absurd (omega arith)
-front-length (reasons.payload-10 h t r u e f d o) n m p = let long = long-front (h .goes) in absurd (omega arith)
+front-length (reasons.payload-9 h t r f d u) n m p = let long = chips-before (h .goes) in absurd (omega arith)
+front-length (reasons.payload-10 h t r u e f d o) n m p = let long = chips-before (h .goes) in absurd (omega arith)
 front-length (reasons.is-0 lead symbol h t r u v) n m p = absurd (omega arith)
 
 module _ (chips : List ℕ) (room : ℕ) (a : Record) (left : List ℕ) (f : Read1997 chips room a left) where

@@ -19,7 +19,7 @@ use Rattle.promises.specs.Reasons.{HasHeader, ReadAnswer, SameButLead}
 use Rattle.promises_1997.specs.Calls.{Read1997}
 
 -- promise: A refused read as a guide of 1997 leaves only zeros; zeros follow the payload; the buffer keeps its length;
--- a refusal is none but 8 to 17, so 1 and 7 do not come
+-- a refusal is one of 8 to 17, so 1 and 7 do not come
 -- rule: 6.30, 1.4 (1), 6.9, 6.12
 -- code: dsss_read_1997
 abbrev pub Fills1997 : Type 0
@@ -69,7 +69,7 @@ BesideOurs =
     × (a .length ≡ b .length)
 
 -- promise: What our own long reader accepts, spoiled or not: a guide of 1997 reads it alike at 10 and 20 without the
--- clock bit; at other rates it answers 13, and with the clock bit 14, each with the LENGTH and all else 0
+-- clock bit; at 10 and 20 with the clock bit it answers 14, at the other rates 13, each with the LENGTH and all else 0
 -- rule: 6.30
 -- code: dsss_read_1997, dsss_read_hard_3
 abbrev pub AcceptedOurs : Type 0

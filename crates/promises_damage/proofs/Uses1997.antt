@@ -3,21 +3,17 @@
 use mathlib.Core.Path.{_≡_, refl, ap, _∙_}
 use mathlib.Core.List.{List, _++_}
 use Prim.Native.Nat.{ℕ, _-_, _≤_}
-use native.Mathlib.Omega.{arith}
 use lib.ListN.{length, take, replicate}
 use lib.Seq.{take-at}
 use Rattle.rules_rates.specs.Plain.{LengthOf}
 use Rattle.rules_calls.specs.declared.Record.{Record}
 use Rattle.rules_calls.specs.declared.Written.{Written}
-use Rattle.rules_calls.specs.Plain.{Rate1997, at-1, at-2}
+use Rattle.rules_calls.specs.Plain.{Rate1997}
+use Rattle.rules_calls.proofs.Guides.{not-110}
 use Rattle.rules_damage.specs.Plain.{FrameStands}
 use Rattle.promises.specs.Calls.{refused, Sent}
 use Rattle.promises_1997.specs.Calls.{Read1997}
 use Rattle.promises_damage.proofs.Kept.{kept}
-
-not-110 : {rate : ℕ} → rate ≡ 110 → Rate1997 rate → ⊥
-not-110 e at-1 = omega arith
-not-110 e at-2 = omega arith
 
 module _ (phase : ℕ) (p : List ℕ) (w : Written) (sent rec tail : List ℕ) (room : ℕ) (a : Record) (left : List ℕ)
     (room-for : length p ≤ room) (f : Read1997 (rec ++ tail) room a left) (l : ℕ) where

@@ -14,8 +14,8 @@ use Rattle.promises_1997.specs.Calls.{Read1997}
 
 -- promise: A long frame that was written and recorded as phases and 4s, and whose symbols each keep their limit, read
 -- with room as a guide of 1997 reads it, whatever follows it: at 10 and 20 without the clock bit the payload, rate,
--- LENGTH, n and chips used that were written, and a lead of at least one full chip; at 55 and 110 it answers 13, and
--- with the clock bit 14, each with the true LENGTH and all else 0
+-- LENGTH, n and chips used that were written, and a lead of at least one full chip; at 10 and 20 with the clock bit it
+-- answers 14, at 55 and 110 13, each with the true LENGTH and all else 0
 -- rule: 6.28, 6.30
 -- code: dsss_write_2, dsss_read_1997
 abbrev pub Spoiled1997 : Type 0

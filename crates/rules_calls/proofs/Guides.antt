@@ -1,11 +1,13 @@
 -- What three fields come to for a guide of 1997, for every SIGNAL, SERVICE and LENGTH.
 --     signal-neither    13 with LENGTH where SIGNAL is neither 10 nor 20, whatever SERVICE and LENGTH are
 --     service-set       14 with LENGTH where it is and SERVICE is not 0, whatever LENGTH is
+--     not-55, not-110   rates that a guide does not know
 --     fields-ours       else just what our own readers make of them under the long kind: 15, or what is told
 -- By the tests of the definition (`Accepting`), and what the guides' set of SIGNALs and SERVICEs has. Assumes nothing.
 use mathlib.Core.Path.{_≡_, refl, sym, subst}
 use mathlib.Core.Bool.{true, false}
 use Prim.Native.Nat.{ℕ}
+use native.Mathlib.Omega.{arith}
 use borrow.Author.Tests.{ne-eqb}
 use Rattle.rules_frame.specs.declared.Kind.{Kind}
 use Rattle.rules_frame.specs.declared.Kind.the-variants.{Long}
@@ -25,6 +27,14 @@ unknown k signal h =
       ne-eqb signal 10 (λ e. h (subst Rate1997 (sym e) at-1)),
       ne-eqb signal 20 (λ e. h (subst Rate1997 (sym e) at-2)),
     )
+
+pub not-55 : {rate : ℕ} → rate ≡ 55 → Rate1997 rate → ⊥
+not-55 e at-1 = omega arith
+not-55 e at-2 = omega arith
+
+pub not-110 : {rate : ℕ} → rate ≡ 110 → Rate1997 rate → ⊥
+not-110 e at-1 = omega arith
+not-110 e at-2 = omega arith
 
 pub signal-neither : (k : Kind) (signal service l : ℕ) → (Rate1997 signal → ⊥)
     → fieldsOf of1997 k signal service l ≡ front.Refused (Signal l)

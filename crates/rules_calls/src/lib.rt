@@ -44,7 +44,7 @@ pub enum Refusal {
     // promise: the recording is shorter than the front
     // rule: 6.4 (8)
     // code: look_at_front
-    // with: frontOf
+    // with: frontBy
     ShorterThanFront,
     // promise: a chip of the part is unusable; place: the first such chip. A byte recording has none
     // rule: 6.4 (9), 2.3, 2.4, 6.3
@@ -69,7 +69,7 @@ pub enum Refusal {
     Crc,
     // promise: SIGNAL is not a rate of this kind; of a guide of 1997, it is neither 10 nor 20
     // rule: 6.4 (13), 5.8, 6.30
-    // code: fields_of, signal_accepted
+    // code: fields_of, signal_accepted, signal_allowed
     // with: fieldsOf
     Signal { length: usize },
     // promise: at 11 Mbit/s SERVICE is none of 0, 4, 128 and 132; at the other rates it is neither 0 nor 4; of a guide

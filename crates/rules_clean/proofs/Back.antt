@@ -97,7 +97,7 @@ module _ (kind : ℕ) (r : Rate) (p : ℕ) (clock : Bool) (xs : List ℕ) (is-ki
       (as-sent rest .front)
 
   module _ (goes : goesWith k r ≡ true) (some : 1 ≤ n) (few : n ≤ 4095) where
-    pub front-is : (rest : List Taken) → frontOf k (clean ++ rest) ≡ front.Fields t
+    front-is : (rest : List Taken) → frontOf k (clean ++ rest) ≡ front.Fields t
     front-is rest = back.front-is kind r p clock xs is-kind l goes some few (clean ++ rest) (as-sent rest .front)
 
     pub front-sent : (rest : List Taken) (accepted : Accepted)
