@@ -40,8 +40,8 @@
  *   1 bit    rows are one where they can be: Q stands in I's memory, `shift` elements further on, or, turned round, I
  *            so in Q's, where the two must be alike; so do the two recordings of 14; a recording of a list that another
  *            of the last four begins or ends with stands in that one's
- *   1 bit    in the middle of the call another is made: the last one of this op that was kept, over its own rows. See
- *            below
+ *   1 bit    in the middle of the call another is made: the last one of this op that was kept, over its own rows; in
+ *            that of 2 and of 15 the last of the other too. See below
  *   1 bit    turned round
  *   16 bits  at bit 16, where the row for reading is split for that, in 1/65536 of it; also where the octets of 4 begin
  *   16 bits  at bit 32, the shift
@@ -464,6 +464,8 @@ static void run_kept(uint64_t op)
     struct call *c = &kept[op - 1];
     union answer before = c->answer;
 
+    if (c->op == 0)
+        return;
     run(c);
     if (memcmp(&before, &c->answer, sizeof before) != 0)
         differs = 4;
@@ -500,6 +502,8 @@ static void touched(int number, siginfo_t *info, void *context)
         return;
     }
     run_kept(running);
+    if (running == 2 || running == 15)
+        run_kept(running == 2 ? 15 : 2);
     int beside = touch && at - touch < NEAR && touch - at < NEAR;
     for (size_t other = 0; other < PARTS; other++)
         set_part(other, other == part || beside || touches >= TOUCHES);

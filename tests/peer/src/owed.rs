@@ -271,13 +271,13 @@ const OWED: [Owed; 47] = [
         "read 1997",
         Part::LongFront,
         "front, 6,001 and more",
-        &[(9, 95, 0), (10, 47, 0), (11, 19, 0), (12, 8, 0), (13, 160, 105), (14, 38, 110), (15, 10, 0)],
+        &[(9, 75, 0), (10, 47, 0), (11, 19, 0), (12, 8, 0), (13, 160, 105), (14, 38, 110), (15, 10, 0)],
     ),
     owed(
         "read 1997",
         Part::Payload,
         "payload to 300 octets",
-        &[(0, 480, 0), (9, 320, 0), (10, 25, 0), (16, 88, 0), (17, 30, 0)],
+        &[(0, 480, 0), (9, 450, 0), (10, 35, 0), (16, 95, 0), (17, 30, 0)],
     ),
     owed(
         "read 1997",
@@ -285,7 +285,7 @@ const OWED: [Owed; 47] = [
         "payload above 300",
         &[(0, 73, 0), (9, 9, 0), (10, 4, 0), (16, 36, 0), (17, 10, 0)],
     ),
-    owed("read 1997", Part::FarPlace, "places from 65,536", &[(9, 2, 0), (10, 2, 0)]),
+    owed("read 1997", Part::FarPlace, "places from 65,536", &[(9, 3, 0), (10, 4, 0)]),
     // No refusal of a recording: these are counted.
     owed("report add", Part::Front, "one recording more", &[(0, 2_500, 0), (31, 1_000, 0)]),
     owed("report list", Part::Front, "lists", &[(0, 120, 0), (7, 22, 0), (31, 24, 0)]),

@@ -3,7 +3,8 @@
 //! rows.
 
 use super::refused::{
-    wrong_chips, wrong_draft, CRC, ENDS, FRONT, KIND, LENGTH, PAYLOAD_GROWTH, ROWS, SERVICE, SFD, SIGNAL, WRONGS,
+    wrong_chips, wrong_draft, CRC, ENDS, FRONT, KIND, LENGTH, PAYLOAD_GROWTH, PAYLOAD_UNUSABLE, ROOM, ROWS, SERVICE,
+    SFD, SIGNAL, WRONGS,
 };
 use super::spoiled::{written, Spoiler};
 use super::{pairs, turn, Draft, Out};
@@ -20,10 +21,16 @@ const LONG: usize = 2112;
 /// The rates that the guides know.
 const KNOWN: [Rate; 2] = [Rate::Mbit1, Rate::Mbit2];
 
-/// A recording read with so much room, as we read and as the guides do.
+/// A recording read with so much room, as we read and as the guides do. What is then asked of it by front and reason
+/// must not hang on who read last.
 fn ask(out: &mut Out, chips: Vec<u8>, room: usize) {
-    out.alone(Call::hard(Kind::Long.number(), chips.clone(), room));
-    out.alone(Call::read_1997(chips, room));
+    let kind = Kind::Long.number();
+    out.alone(Call::hard(kind, chips.clone(), room));
+    out.alone(Call::read_1997(chips.clone(), room));
+    if out.random.once_in(10) {
+        out.alone(Call::front(kind, chips.clone()));
+        out.alone(Call::why(kind, chips, room as u64));
+    }
 }
 
 /// A long frame of n random octets at a rate.
@@ -86,7 +93,8 @@ fn each_way(out: &mut Out, spoiler: &mut Spoiler, draft: &Draft) {
     let more = out.random.pick(&[1, 9, 70, 4095]);
     ask(out, chips.clone(), n);
     ask(out, chips.clone(), n + more);
-    let behind = out.random.within(1, 70);
+    let most = out.random.pick(&[1, 70, 900]);
+    let behind = out.random.within(1, most);
     let longer = [&chips[..], &out.random.octets(behind)].concat();
     ask(out, longer, n);
     let mut within = chips.clone();
@@ -167,19 +175,22 @@ fn unusable(out: &mut Out, octet: u8) {
     }
 }
 
-/// An unusable chip and a symbol turned at each place of a payload, and at some of the front.
+/// An unusable chip and a symbol turned at each place of a payload, and at some of the front: SYNC, SFD, each field of
+/// the header and the front end with one.
 fn each_place(out: &mut Out, rate: Rate, clock: bool) {
-    let (draft, step) = (long(rate, 1, clock, &mut out.random), out.step(127));
-    let chips = draft.chips();
-    for at in (0..LONG).step_by(step).chain(LONG..chips.len()) {
+    let (n, step) = (out.random.within(1, 2), out.step(127));
+    let chips = long(rate, n, clock, &mut out.random).chips();
+    for at in (0..LONG).step_by(step).chain(LONG - 1..chips.len()) {
         let mut unusable = chips.clone();
         unusable[at] = out.random.within(5, 255) as u8;
-        ask(out, unusable, 1);
+        ask(out, unusable, n);
     }
-    for at in (11..LONG).step_by(11 * step.min(16)).chain((LONG..chips.len() - 10).step_by(11)) {
+    let ends = [128, 144, 152, 160, 176, 192].into_iter().flat_map(|end| [11 * (end - 1), 11 * end]);
+    let some = (11..LONG).step_by(11 * step.min(16)).chain(ends.filter(|at| *at < LONG));
+    for at in some.chain((LONG..chips.len() - 10).step_by(11)) {
         let mut turned = chips.clone();
         turn(&mut turned[at..at + 11], out.random.pick(&[1, 3]));
-        ask(out, turned, 1);
+        ask(out, turned, n);
     }
 }
 
@@ -198,12 +209,13 @@ fn one_symbol_led(out: &mut Out) {
     }
 }
 
-/// A symbol from place 66,000 on with an unusable chip, turned, and with a lost chip.
+/// A symbol from place 66,000 on, and of the longest payload from 264,000 on, with an unusable chip, turned, and with a
+/// lost chip.
 fn far_symbols(out: &mut Out) {
-    for (rate, n) in [(Rate::Mbit1, 900), (Rate::Mbit2, 1700)] {
+    for (rate, n, from) in [(Rate::Mbit1, 900, 6_000), (Rate::Mbit2, 1700, 6_000), (Rate::Mbit1, 4095, 24_000)] {
         let chips = long(rate, n, false, &mut out.random).chips();
         for case in 0..4 {
-            let (mut far, at) = (chips.clone(), 11 * out.random.within(6_000, chips.len() / 11 - 1));
+            let (mut far, at) = (chips.clone(), 11 * out.random.within(from, chips.len() / 11 - 1));
             match case {
                 0 => far[at] = 5,
                 1 => turn(&mut far[at..at + 11], 1),
@@ -249,7 +261,8 @@ fn header(out: &mut Out, rate: Rate, (signal, service): (u8, u8), other: Else) {
         chips[out.random.within(LONG, LONG + 7)] = out.random.within(5, 255) as u8;
     }
     if matches!(other, Else::Cut | Else::All) {
-        chips.truncate(out.random.within(LONG, chips.len() - 1));
+        let some = out.random.within(LONG, chips.len() - 1);
+        chips.truncate(out.random.pick(&[LONG, some]));
     }
     if matches!(other, Else::Nothing | Else::Length) && out.random.once_in(10) {
         put_much_behind(&mut chips, &mut out.random);
@@ -269,15 +282,17 @@ fn lengths(out: &mut Out, rate: Rate) {
         let refused = out.random.pick(&[(rate.code(), 4), (55, 0), (110, 0), (110, 128), (0, 0)]);
         for (signal, service) in [(rate.code(), 0), refused] {
             let mut chips = draft.clone().with_header(Header { signal, service, length }).chips();
-            if out.random.once_in(10) {
-                put_much_behind(&mut chips, &mut out.random);
+            match out.random.below(10) {
+                0 => put_much_behind(&mut chips, &mut out.random),
+                1 | 2 => chips.truncate(LONG),
+                _ => {}
             }
             ask(out, chips, 1);
         }
     }
 }
 
-/// Each bit of SFD and CRC wrong, any SYNC, which is not compared, and SFDs that are a short front's or turned round.
+/// Each bit of SFD and CRC wrong, any SYNC, which is not compared, SFDs that are a short front's, and both turned round.
 fn checks(out: &mut Out, rate: Rate, clock: bool) {
     for bit in 0..16 {
         let draft = long(rate, 1, clock, &mut out.random);
@@ -287,10 +302,19 @@ fn checks(out: &mut Out, rate: Rate, clock: bool) {
         ask(out, Draft { crc, ..draft.clone() }.chips(), 1);
         ask(out, Draft { sync, ..draft }.chips(), 1);
     }
-    for sfd in [Kind::Short.sfd(), Kind::Long.sfd().swap_bytes(), Kind::Long.sfd().reverse_bits(), 0, 0xFFFF] {
+    for sfd in [Kind::Short.sfd(), 0, 0xFFFF].into_iter().chain(turned_round(Kind::Long.sfd())) {
         let draft = long(rate, 1, clock, &mut out.random);
         ask(out, Draft { sfd, ..draft }.chips(), 1);
     }
+    let draft = long(rate, 1, clock, &mut out.random);
+    for crc in [0, 0xFFFF].into_iter().chain(turned_round(draft.crc)).filter(|crc| *crc != draft.crc) {
+        ask(out, Draft { crc, ..draft.clone() }.chips(), 1);
+    }
+}
+
+/// 16 bits inverted, with their octets exchanged, in the other order.
+fn turned_round(bits: u16) -> [u16; 3] {
+    [!bits, bits.swap_bytes(), bits.reverse_bits()]
 }
 
 /// Shows: a SIGNAL or a SERVICE taken for one that the guides know, 13 and 14 in another order or behind others.
@@ -300,8 +324,8 @@ pub fn read_1997_headers(out: &mut Out) {
         for other in [Else::Nothing, Else::Length, OTHERS[usize::from(signal) % 5]] {
             header(out, rate, (signal, 0), other);
         }
-        let some = out.random.within(1, 255) as u8;
-        let services: Vec<u8> = if out.long { (0..=255).collect() } else { vec![4, some] };
+        let (some, bit) = (out.random.within(1, 255) as u8, 1 << (signal % 8));
+        let services: Vec<u8> = if out.long { (0..=255).collect() } else { vec![4, bit, some] };
         services.into_iter().for_each(|service| header(out, rate, (signal, service), Else::Nothing));
     }
     KNOWN.into_iter().for_each(|rate| lengths(out, rate));
@@ -353,6 +377,22 @@ pub fn read_1997_orders(out: &mut Out) {
         }
         ask(out, chips, room);
     }
+    (FRONT..WRONGS).for_each(|wrong| longer_rows(out, wrong));
+}
+
+/// A recording with one wrong, or with both of its payload: read with more and more room, all of which is cleared, if
+/// room is not the wrong; and of 2^16 chips and more.
+fn longer_rows(out: &mut Out, wrong: usize) {
+    let set = 1 << wrong | usize::from(wrong == PAYLOAD_UNUSABLE) << PAYLOAD_GROWTH;
+    for more in [5, 60, 300, 4095, 1 << 16].into_iter().filter(|_| wrong != ROOM) {
+        let (chips, room) = wrong_for_guides(set, &mut out.random);
+        out.over_aa(Call::read_1997(chips, room + more));
+    }
+    let (mut chips, room) = wrong_for_guides(set, &mut out.random);
+    if ![FRONT, ENDS].contains(&wrong) {
+        chips.resize((1 << 16) + out.random.below(LONG), 0);
+    }
+    ask(out, chips, room);
 }
 
 /// Shows: a short front that is read, or a long one that starts late.
@@ -415,7 +455,7 @@ fn wide(out: &mut Out, bits: u32) {
     let wholly = if bits > 20 { &refused[..0] } else { &refused[..] };
     for (rate, clock) in known.iter().chain(wholly) {
         let chips = long(*rate, 9, *clock, &mut out.random).chips();
-        let room = wide + out.random.below(9);
+        let room = wide + out.random.within(1, 8);
         out.over_aa(Call::read_1997(chips, room));
     }
 }

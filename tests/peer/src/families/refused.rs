@@ -131,8 +131,8 @@ pub const SIGNAL: usize = 7;
 pub const SERVICE: usize = 8;
 pub const LENGTH: usize = 9;
 pub const ENDS: usize = 10;
-const ROOM: usize = 11;
-const PAYLOAD_UNUSABLE: usize = 12;
+pub const ROOM: usize = 11;
+pub const PAYLOAD_UNUSABLE: usize = 12;
 pub const PAYLOAD_GROWTH: usize = 13;
 
 /// A draft with the wrongs of a set that are in its SFD and its header.
