@@ -73,8 +73,9 @@ static int read_as_sent(const struct sending *sent, const char *caption, uint64_
 {
     size_t n = strlen(caption);
 
-    return record.number == 0 && record.rate == sent->rate && record.clock == sent->clock && record.n == n
-           && record.used == chips && record.length == (chips - DSSS_FRONT_LONG + 10) / 11 && holds(&ours, caption, n);
+    return record.number == 0 && record.place == 0 && record.rate == sent->rate && record.clock == sent->clock
+           && record.n == n && record.used == chips && record.length == (chips - DSSS_FRONT_LONG + 10) / 11
+           && holds(&ours, caption, n);
 }
 
 /* Whether the guide answers as it must, beside our own reader: the same record and caption, or, refused, number and
@@ -109,10 +110,15 @@ static void tell(const struct sending *sent, dsss_record record, dsss_record own
  * the reads both buffers are full of old octets. */
 static int send_and_tell(const struct sending *sent, const char *caption)
 {
-    dsss_written frame = dsss_write(DSSS_LONG, sent->rate, 0, sent->clock, (const uint8_t *)caption, strlen(caption),
-                                    recording.row, FRAME_MAX);
+    size_t n = strlen(caption);
+    dsss_written frame = dsss_write(DSSS_LONG, sent->rate, 0, sent->clock, (const uint8_t *)caption, n, recording.row,
+                                    FRAME_MAX);
     if (frame.number != 0) {
         printf("%s: NOT WRITTEN, %" PRIu64 ". %s\n", sent->what, frame.number, dsss_sentence(frame.number));
+        return 0;
+    }
+    if (frame.chips != DSSS_FRAME_CHIPS(DSSS_LONG, sent->rate, n)) {
+        printf("%s: WRITTEN with %" PRIu64 " chips, which are not the frame's\n", sent->what, frame.chips);
         return 0;
     }
     memset(guides.row, 'x', CAPTION_MAX);

@@ -77,7 +77,7 @@
 //! - A rate or a clock bit that the guides of 1997 do not know, read by them: `read_1997_frames`. A SIGNAL or a SERVICE
 //!   taken for another, 13 and 14 asked in another place, without LENGTH: `read_1997_headers`, `read_1997_orders`.
 //! - A short front read by them: `read_1997_short_fronts`. A frame of ours read otherwise: `read_1997_sent`.
-//! - A length cut where they read: `read_1997_wide`.
+//! - A length cut where they read: `read_1997_wide`. Who reads, kept for the next call: `read_1997_frames`.
 //! - I and Q that may not be one row, a recording of a list that may not be named twice: `one_row`, `report_lists`. Two
 //!   recordings that may not be one row: `compare_itself`.
 //! - What a lent row held before the call, a row of length 0 by a pointer or as NULL, a row kept between calls: every
@@ -405,7 +405,7 @@ families! {
     // for: Read1997.answer, Answers1997, BesideOurs
     2002 read_1997::read_1997_headers: "each SIGNAL, each SERVICE of each rate, LENGTH or what is behind it wrong",
     // for: Read1997.answer, Fills1997, Answers1997, BesideOurs
-    2003 read_1997::read_1997_orders: "each set of refusals that can hold of a recording at once",
+    2003 read_1997::read_1997_orders: "each set of refusals that can hold at once; each refusal with long rows",
     // for: Read1997.answer, BesideOurs, AcceptedOurs
     2004 read_1997::read_1997_short_fronts: "short frames, and long ones that start early or late",
     // for: Sent1997, Spoiled1997, AcceptedOurs, BesideOurs

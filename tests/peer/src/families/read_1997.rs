@@ -292,7 +292,7 @@ fn lengths(out: &mut Out, rate: Rate) {
     }
 }
 
-/// Each bit of SFD and CRC wrong, any SYNC, which is not compared, SFDs that are a short front's, and both turned round.
+/// Each bit of SFD and CRC wrong, any SYNC, which is not compared, a short front's SFD, and SFD and CRC turned round.
 fn checks(out: &mut Out, rate: Rate, clock: bool) {
     for bit in 0..16 {
         let draft = long(rate, 1, clock, &mut out.random);
