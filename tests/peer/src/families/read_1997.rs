@@ -232,6 +232,7 @@ fn far_symbols(out: &mut Out) {
 enum Else {
     Nothing,
     Length,
+    Length0,
     Cut,
     Room,
     Unusable,
@@ -250,6 +251,7 @@ fn header(out: &mut Out, rate: Rate, (signal, service): (u8, u8), other: Else) {
     let written = draft.header.length;
     let beside = if KNOWN.contains(&rate) { written + 1 } else { 0 };
     let length = match other {
+        Else::Length0 => 0,
         Else::Length | Else::All => out.random.pick(&[0, beside, written | 0x8000, 0xFFFF, 0xFF00 | written]),
         _ => written,
     };
@@ -324,8 +326,7 @@ pub fn read_1997_headers(out: &mut Out) {
         for other in [Else::Nothing, Else::Length, OTHERS[usize::from(signal) % 5]] {
             header(out, rate, (signal, 0), other);
         }
-        let (some, bit) = (out.random.within(1, 255) as u8, 1 << (signal % 8));
-        let services: Vec<u8> = if out.long { (0..=255).collect() } else { vec![4, bit, some] };
+        let services: Vec<u8> = if out.long { (0..=255).collect() } else { vec![4, 1 << (signal % 8), !signal] };
         services.into_iter().for_each(|service| header(out, rate, (signal, service), Else::Nothing));
     }
     KNOWN.into_iter().for_each(|rate| lengths(out, rate));
@@ -335,7 +336,8 @@ pub fn read_1997_headers(out: &mut Out) {
             header(out, rate, (rate.code(), service), other);
         }
         if [4, 128, 132].contains(&service) {
-            OTHERS.into_iter().for_each(|other| header(out, rate, (rate.code(), service), other));
+            let others = OTHERS.into_iter().chain([Else::Length0]);
+            others.for_each(|other| header(out, rate, (rate.code(), service), other));
         }
     }
 }
