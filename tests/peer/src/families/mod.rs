@@ -404,7 +404,7 @@ families! {
     2007 read_1997::read_1997_spoiled: "unusable chips of each octet, symbols turned and lost, each place and far ones",
     // for: Read1997.answer, Answers1997, BesideOurs
     2002 read_1997::read_1997_headers: "each SIGNAL, each SERVICE of each rate, LENGTH or what is behind it wrong",
-    // for: Read1997.answer, Fills1997, Answers1997, BesideOurs
+    // for: Read1997.answer, Fills1997, Answers1997, BesideOurs, guide-front
     2003 read_1997::read_1997_orders: "each set of refusals that can hold at once; each refusal with long rows",
     // for: Read1997.answer, BesideOurs, AcceptedOurs
     2004 read_1997::read_1997_short_fronts: "short frames, and long ones that start early or late",
