@@ -122,11 +122,13 @@ module _ (kind : ℕ) (agree : Bool) (rec : List Taken) (room : ℕ) where
       both g out (p .0 ∙ (unfold readingOf in rw (e, a, ← c)))
       (p .1 ∙ ap (λ (i : Kind). octetsAfter i rec room g) c)
 
-pub read-of-1997 : (rec : List Taken) (room : ℕ) (g : Reading) (out : List ℕ)
-    → (g ≡ readingBy of1997 Long rec room) × (out ≡ octetsAfter Long rec room g)
+pub read-of-1997 : (k : Kind) → k ≡ Long → (rec : List Taken) (room : ℕ) (g : Reading) (out : List ℕ)
+    → (g ≡ readingBy of1997 k rec room) × (out ≡ octetsAfter k rec room g)
     → (g ≡ reading1997 rec room) × (out ≡ octets1997 rec room)
 unfolding reading1997 octets1997
-read-of-1997 rec room g out p = (p .0, p .1 ∙ ap (octetsAfter Long rec room) (p .0))
+read-of-1997 k e rec room g out p =
+    let q = subst (λ (i : Kind). (g ≡ readingBy of1997 i rec room) × (out ≡ octetsAfter i rec room g)) e p in
+    (q .0, q .1 ∙ ap (octetsAfter Long rec room) (q .0))
 
 -- a buffer that was filled is zeros, and as long as it was
 pub cleared : (d z : List ℕ) → z ≡ replicate (length d) 0 → length z ≡ length d → z ≡ replicate (length z) 0

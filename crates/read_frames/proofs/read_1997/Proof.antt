@@ -1,5 +1,6 @@
 -- `read_frames::read_1997` meets its contract: it is what such a guide reads of a hard recording under the long kind,
 -- and the answer as numbers. Assumes nothing.
+use mathlib.Core.Path.{refl}
 use borrow.Author.Needs.{needs}
 use Rattle.read_frames.proofs.Order.{read-of-1997, cleared, as-long, in-numbers}
 use Rattle.read_frames.proofs.read_1997.Statement.{statement}
@@ -16,7 +17,7 @@ returns c =
     let read = c .before .before .before in
     let filled = read .before .before .before .before .before .before .before .before in
     in-numbers (c .record-of .ensures)
-    (read-of-1997 _ _ _ _ (as-long _ _ _ _ _ _ _ (filled .fill .kept .0) (read .read-as .ensures)))
+    (read-of-1997 _ refl _ _ _ _ (as-long _ _ _ _ _ _ _ (filled .fill .kept .0) (read .read-as .ensures)))
 
 pub read-1997-spec : {M : Type 1} → statement M
 read-1997-spec =
