@@ -11,7 +11,7 @@ log=target/staticlib.$name.log
 
 # The crates below NAME, by crates.txt, in its order.
 below=$(awk -F: -v name="$name" '
-    /^[a-z_]+:/ { order[++many] = $1; below[$1] = $2 }
+    /^[a-z_0-9]+:/ { order[++many] = $1; below[$1] = $2 }
     END {
         wanted[name] = 1
         for (k = many; k > 0; k--)
@@ -25,7 +25,7 @@ all=$(($(wc -w <<<"$below") + 1))
 
 told() { # told: from what rt says, a line for each crate as it is proved, and how many they are
     awk -v all="$all" '
-        /^rt: [a-z_]+ proved/ {
+        /^rt: [a-z_0-9]+ proved/ {
             sub(/^rt: /, "")
             sub(/unchanged since it was last proved/, "as before")
             printf "  %2d of %d: %s\n", ++done, all, $0
