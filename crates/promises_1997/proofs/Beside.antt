@@ -33,10 +33,10 @@ use Rattle.rules_reading.proofs.Refusals.{
   no-length,
   front-number,
 }
-use Rattle.rules_reading.proofs.Readers.{front-unheard}
+use Rattle.rules_reading.proofs.Readers.{front-unsound}
 use Rattle.rules_reading.proofs.Guides.{
   GuideFront,
-  as-unheard,
+  as-unsound,
   by-signal,
   by-service,
   as-ours,
@@ -126,7 +126,7 @@ module _ (chips : List ℕ) (room : ℕ) (a b : Record) (left kept : List ℕ) (
 
   -- the four ways in which a guide answers
   pub data Came : Type 0 where
-    unheard : a ≡ b → left ≡ kept → 8 ≤ b .number → b .number ≤ 12 → b .length ≡ 0 → Came
+    unsound : a ≡ b → left ≡ kept → 8 ≤ b .number → b .number ≤ 12 → b .length ≡ 0 → Came
     thirteen : {signal service l : ℕ} → Headed signal service l → (Rate1997 signal → ⊥) → a ≡ refused 13 l → Came
     fourteen : {signal service l : ℕ} → Headed signal service l → Rate1997 signal → (service ≡ 0 → ⊥) → a ≡ refused 14 l
         → Came
@@ -147,10 +147,10 @@ module _ (chips : List ℕ) (room : ℕ) (a b : Record) (left kept : List ℕ) (
   came = by (guide-front rec) refl
     where
       by : {x : Front} → GuideFront rec x → frontBy of1997 Long rec ≡ x → Came
-      by (as-unheard {e} r n) w =
-          let z = alike (w ∙ sym (front-unheard Long rec r n ours)) in
+      by (as-unsound {e} r n) w =
+          let z = alike (w ∙ sym (front-unsound Long rec r n ours)) in
           let is : b ≡ recordOf (reading.Refused e) = sym (z .0) ∙ answered e w in
-          unheard (z .0) (z .1) (subst (λ (v : Record). 8 ≤ v .number) (sym is) (front-number r .0))
+          unsound (z .0) (z .1) (subst (λ (v : Record). 8 ≤ v .number) (sym is) (front-number r .0))
           (subst (λ (v : Record). v .number ≤ 12) (sym is) n)
           (ap (λ (v : Record). v .length) is ∙ no-length-yet r n)
       by (by-signal s n) w = thirteen (header s) n (answered _ w)
@@ -165,14 +165,14 @@ module _ (chips : List ℕ) (room : ℕ) (a b : Record) (left kept : List ℕ) (
       → ((signal service l : ℕ) → Headed signal service l → (Rate1997 signal → ⊥) → a ≡ refused 13 l → P)
       → ((signal service l : ℕ) → Headed signal service l → Rate1997 signal → (service ≡ 0 → ⊥) → a ≡ refused 14 l → P)
       → ((signal l : ℕ) → Headed signal 0 l → Rate1997 signal → a ≡ b → left ≡ kept → P) → Came → P
-  by-way u t v w (unheard e o from to none) = u e o from
+  by-way u t v w (unsound e o from to none) = u e o from
   by-way u t v w (thirteen h n e) = t _ _ _ h n e
   by-way u t v w (fourteen h y n e) = v _ _ _ h y n e
   by-way u t v w (ours-too h y e o) = w _ _ h y e o
 
-  -- where the header was heard, ours shows its LENGTH too, and that is not 0 where our number is at most 12
-  heard-late : {signal service l : ℕ} → Headed signal service l → (b .length ≡ l) × (b .number ≤ 12 → 1 ≤ b .length)
-  heard-late h = headed-late 0 true rec room h own
+  -- where SFD and CRC are right, ours shows the header's LENGTH too, and that is not 0 where our number is at most 12
+  own-late : {signal service l : ℕ} → Headed signal service l → (b .length ≡ l) × (b .number ≤ 12 → 1 ≤ b .length)
+  own-late h = headed-late 0 true rec room h own
 
 -- ---- the statements
 pub beside-ours : BesideOurs
@@ -181,13 +181,13 @@ beside-ours chips room a b left kept f g =
     (λ e o from. ((λ x y. (e, o)), (λ x y. (e, o)), λ i. e i .length))
     (λ s v l h n e. (
       (λ x y. absurd (x (λ i. e i .number))),
-      (λ x z. let some = heard-late chips room a b left kept f g h .1 x in absurd (omega arith)),
-      (λ i. e i .length) ∙ sym (heard-late chips room a b left kept f g h .0),
+      (λ x z. let some = own-late chips room a b left kept f g h .1 x in absurd (omega arith)),
+      (λ i. e i .length) ∙ sym (own-late chips room a b left kept f g h .0),
     ))
     (λ s v l h y n e. (
       (λ x z. absurd (z (λ i. e i .number))),
-      (λ x z. let some = heard-late chips room a b left kept f g h .1 x in absurd (omega arith)),
-      (λ i. e i .length) ∙ sym (heard-late chips room a b left kept f g h .0),
+      (λ x z. let some = own-late chips room a b left kept f g h .1 x in absurd (omega arith)),
+      (λ i. e i .length) ∙ sym (own-late chips room a b left kept f g h .0),
     ))
     (λ s l h y e o. ((λ x z. (e, o)), (λ x z. (e, o)), λ i. e i .length))
     (came chips room a b left kept f g)

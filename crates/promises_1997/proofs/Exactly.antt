@@ -37,7 +37,7 @@ use Rattle.promises.proofs.Exactly.{one-header, headed-late, read-answers}
 use Rattle.promises_1997.specs.Calls.{Read1997}
 use Rattle.promises_1997.specs.Promises.{Answer1997, before-13, from-15, Answers1997}
 use Rattle.promises_1997.specs.Promises as answer
-use Rattle.promises_1997.proofs.Beside.{Came, unheard, thirteen, fourteen, ours-too, own, came, beside-ours}
+use Rattle.promises_1997.proofs.Beside.{Came, unsound, thirteen, fourteen, ours-too, own, came, beside-ours}
 
 -- our own long read of a recording
 pub long-read : (chips : List ℕ) (room : ℕ)
@@ -91,7 +91,7 @@ module _ (chips : List ℕ) (room : ℕ) (a : Record) (left : List ℕ) (f : Rea
   own-case = by came-by
     where
       by : Came chips room a b left kept f g → Answer1997 rec room a
-      by (unheard e o from to none) = subst (Answer1997 rec room) (sym e) (before-13 to none own-b)
+      by (unsound e o from to none) = subst (Answer1997 rec room) (sym e) (before-13 to none own-b)
       by (thirteen h n e) = subst (Answer1997 rec room) (sym e) (answer.is-13 h n)
       by (fourteen h y n e) = subst (Answer1997 rec room) (sym e) (answer.is-14 h y n)
       by (ours-too h y e o) = subst (Answer1997 rec room) (sym e) (from-15 h y own-b)
@@ -100,7 +100,7 @@ module _ (chips : List ℕ) (room : ℕ) (a : Record) (left : List ℕ) (f : Rea
   as-b : (c : Record) → a ≡ b → ReadAnswer 0 true rec room c → SameButLead a c
   as-b c e x = subst (λ (v : Record). SameButLead v c) (sym e) (one-b c x)
 
-  -- a header that was heard is not there where 8 to 12 come for the front
+  -- where 8 to 12 come for the front there is no header with SFD and CRC right
   not-both : {signal service l : ℕ} → HasHeader 0 true rec signal service l → b .number ≤ 12 → b .length ≡ 0 → ⊥
   not-both h n z = let some = headed-late 0 true rec room h own-b .1 n in omega arith
 
@@ -113,17 +113,17 @@ module _ (chips : List ℕ) (room : ℕ) (a : Record) (left : List ℕ) (f : Rea
       let e = one-b c x in
       let w = beside-ours chips room a b left kept f g .1 in
       as-b c (w (subst (λ (m : ℕ). m ≤ 12) (λ i. e i .number) n) ((λ i. sym e i .length) ∙ z) .0) x
-  is-one (answer.is-13 h n) (unheard e o from to none) = absurd (not-both h to none)
+  is-one (answer.is-13 h n) (unsound e o from to none) = absurd (not-both h to none)
   is-one (answer.is-13 h n) (thirteen k m e) =
       same-refused 13 (one-header 0 true rec room h k .2) e
   is-one (answer.is-13 h n) (fourteen k y m e) = absurd (n (subst Rate1997 (one-header 0 true rec room k h .0) y))
   is-one (answer.is-13 h n) (ours-too k y e o) = absurd (n (subst Rate1997 (one-header 0 true rec room k h .0) y))
-  is-one (answer.is-14 h y n) (unheard e o from to none) = absurd (not-both h to none)
+  is-one (answer.is-14 h y n) (unsound e o from to none) = absurd (not-both h to none)
   is-one (answer.is-14 h y n) (thirteen k m e) = absurd (m (subst Rate1997 (one-header 0 true rec room h k .0) y))
   is-one (answer.is-14 h y n) (fourteen k z m e) =
       same-refused 14 (one-header 0 true rec room h k .2) e
   is-one (answer.is-14 h y n) (ours-too k z e o) = absurd (n (one-header 0 true rec room h k .1))
-  is-one {c} (from-15 h y x) (unheard e o from to none) = as-b c e x
+  is-one {c} (from-15 h y x) (unsound e o from to none) = as-b c e x
   is-one (from-15 h y x) (thirteen k m e) = absurd (m (subst Rate1997 (one-header 0 true rec room h k .0) y))
   is-one (from-15 h y x) (fourteen k z m e) = absurd (m (sym (one-header 0 true rec room h k .1)))
   is-one {c} (from-15 h y x) (ours-too k z e o) = as-b c e x

@@ -6,7 +6,7 @@
 --     as-long-read, as-cut   SIGNAL 10 and SERVICE 0, and a recording shorter than a front: what a long read has
 --     own-length             a LENGTH that is shown is a header's
 --     own-answer             13 and 14 show number and LENGTH, and all else 0, the lead and its symbol too
---     accepted-too, unheard-too, in-front, same-length, only-13-14
+--     accepted-too, front-too, in-front, same-length, only-13-14
 --                            beside our own long read
 --     known-rate, no-clock   a frame that is accepted is of 10 or 20, without the clock bit
 --     from-ours              and one that ours accepts there is accepted; at 110 it is 13, with the clock bit 14
@@ -134,9 +134,9 @@ module _ (chips : List ℕ) (room : ℕ) (a : Record) (left : List ℕ) (f : Rea
     accepted-too z =
         kept .beside-ours chips room a b left octets f g .0 (λ e. omega arith) (λ e. omega arith)
 
-    unheard-too : (number place : ℕ) → number ≤ 12 → b ≡ refusedAt number place 0
+    front-too : (number place : ℕ) → number ≤ 12 → b ≡ refusedAt number place 0
         → (a ≡ refusedAt number place 0) × (left ≡ octets)
-    unheard-too number place n e =
+    front-too number place n e =
         let number-is : b .number ≡ number = λ i. e i .number in
         let w = kept .beside-ours chips room a b left octets f g .1 (omega arith) (λ i. e i .length) in
         (w .0 ∙ e, w .1)
@@ -229,23 +229,26 @@ module _ (phase : ℕ) (payload : List ℕ) (w : Written) (chips : List ℕ) (ro
   clock-bit {rate} y clock set s tail f l d =
       kept .sent-1997 rate phase clock payload w chips s l d tail room a left f .2 y set
 
-  -- the front, and anything or nothing behind it: at 11 Mbit/s 13, with the clock bit 14
-  cut-short : (tail : List ℕ) (b : Record) (octets : List ℕ) → Read1997 (take 2112 chips ++ tail) room a left
-      → ReadHard 0 (take 2112 chips ++ tail) room b octets → (l : ℕ)
-      → (Sent 0 110 phase 0 payload w chips → LengthOf 110 (length payload) l → a ≡ refused 13 l)
-      × ((clock : ℕ) → (clock ≡ 0 → ⊥) → Sent 0 10 phase clock payload w chips → LengthOf 10 (length payload) l
-      → a ≡ refused 14 l)
-  cut-short tail b octets f g l = (
-    (λ s d. kept .begun-1997 110 phase 0 payload w chips s l d tail room a b left octets f g .1 (not-110 refl)),
-    λ clock set s d. kept .begun-1997 10 phase clock payload w chips s l d tail room a b left octets f g .2 at-1 set,
-  )
+  -- the front, and anything or nothing behind it: at 5.5 and 11 Mbit/s 13, clock bit or not; at 1 and 2 Mbit/s with the
+  -- clock bit 14, and without it what our own long read has
+  module _ (tail : List ℕ) (b : Record) (octets : List ℕ) (f : Read1997 (take 2112 chips ++ tail) room a left)
+      (g : ReadHard 0 (take 2112 chips ++ tail) room b octets) (l : ℕ) where
+    cut-short : (clock : ℕ)
+        → (Sent 0 55 phase clock payload w chips → LengthOf 55 (length payload) l → a ≡ refused 13 l)
+        × (Sent 0 110 phase clock payload w chips → LengthOf 110 (length payload) l → a ≡ refused 13 l)
+        × ((rate : ℕ) → Rate1997 rate → (clock ≡ 0 → ⊥) → Sent 0 rate phase clock payload w chips
+        → LengthOf rate (length payload) l → a ≡ refused 14 l)
+    cut-short clock = (
+      (λ s d. kept .begun-1997 55 phase clock payload w chips s l d tail room a b left octets f g .1 (not-55 refl)),
+      (λ s d. kept .begun-1997 110 phase clock payload w chips s l d tail room a b left octets f g .1 (not-110 refl)),
+      λ rate y set s d.
+          kept .begun-1997 rate phase clock payload w chips s l d tail room a b left octets f g .2 y set,
+    )
 
-  -- a front of 2 Mbit/s, whatever follows it
-  any-end : Sent 0 20 phase 0 payload w chips → (tail : List ℕ) (b : Record) (octets : List ℕ)
-      → Read1997 (take 2112 chips ++ tail) room a left → ReadHard 0 (take 2112 chips ++ tail) room b octets → (l : ℕ)
-      → LengthOf 20 (length payload) l → (a ≡ b) × (left ≡ octets)
-  any-end s tail b octets f g l d =
-      kept .begun-1997 20 phase 0 payload w chips s l d tail room a b left octets f g .0 at-2 refl
+    any-end : {rate : ℕ} → Rate1997 rate → Sent 0 rate phase 0 payload w chips → LengthOf rate (length payload) l
+        → (a ≡ b) × (left ≡ octets)
+    any-end {rate} y s d =
+        kept .begun-1997 rate phase 0 payload w chips s l d tail room a b left octets f g .0 y refl
 
 -- what holds of one answer and what it leaves holds of the other
 answered-once : (chips : List ℕ) (room : ℕ) (a b : Record) (left octets : List ℕ) → Read1997 chips room a left

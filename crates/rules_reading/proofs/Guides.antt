@@ -35,12 +35,12 @@ use Rattle.rules_reading.specs.Reading.{
 use Rattle.rules_reading.specs.Guides.{reading1997, octets1997}
 use Rattle.rules_reading.proofs.Refusals.{Sound, FrontRefusal}
 use Rattle.rules_reading.proofs.Readers.{
-  front-unheard,
+  front-unsound,
   front-sound,
-  HeardOrNot,
-  heard,
-  unheard,
-  heard-or-not,
+  SoundOrNot,
+  is-sound,
+  not-sound,
+  sound-or-not,
 }
 
 module _ (rec : List Taken) where
@@ -52,7 +52,7 @@ module _ (rec : List Taken) where
 
   -- what a front comes to for a guide, and why
   pub data GuideFront : Front → Type 0 where
-    as-unheard : {e : Refusal} → FrontRefusal Long rec e → refusalNumber e ≤ 12 → GuideFront (front.Refused e)
+    as-unsound : {e : Refusal} → FrontRefusal Long rec e → refusalNumber e ≤ 12 → GuideFront (front.Refused e)
     by-signal : Sound Long rec → (Rate1997 signal → ⊥) → GuideFront (front.Refused (Signal (lengthHeard Long rec)))
     by-service : Sound Long rec → Rate1997 signal → (service ≡ 0 → ⊥)
         → GuideFront (front.Refused (Service (lengthHeard Long rec)))
@@ -75,7 +75,7 @@ module _ (rec : List Taken) where
   -- rule: 6.30
   -- with: guide-alike, guide-refused
   pub guide-front : GuideFront (frontBy of1997 Long rec)
-  guide-front = by (heard-or-not Long rec)
+  guide-front = by (sound-or-not Long rec)
     where
       of-fields : Sound Long rec → Dec (Rate1997 signal) → Dec (service ≡ 0) → GuideFront (frontBy of1997 Long rec)
       of-fields s (no n) d =
@@ -87,9 +87,9 @@ module _ (rec : List Taken) where
           (front-sound Long rec s ours ∙ sym (front-sound Long rec s of1997 ∙ fields-ours _ _ _ y z))
           (as-ours s y z)
 
-      by : HeardOrNot Long rec → GuideFront (frontBy of1997 Long rec)
-      by (heard s) = of-fields s known (ℕ-discrete service 0)
-      by (unheard r n) = subst GuideFront (sym (front-unheard Long rec r n of1997)) (as-unheard r n)
+      by : SoundOrNot Long rec → GuideFront (frontBy of1997 Long rec)
+      by (is-sound s) = of-fields s known (ℕ-discrete service 0)
+      by (not-sound r n) = subst GuideFront (sym (front-unsound Long rec r n of1997)) (as-unsound r n)
 
   module _ (room : ℕ) where
     pub guide-alike : frontBy of1997 Long rec ≡ frontOf Long rec
