@@ -1,8 +1,8 @@
 -- Laws of writing over a buffer's front, for words of any length.
 --     length_over     the buffer keeps its length
---     over-more       one element more, stored behind those written so far
---     over-next       a second write, over the part that starts where the first ended, is one write of both
---     over-filled     the part behind what was written, filled to the buffer's end
+--     over_more       one element more, stored behind those written so far
+--     over_next       a second write, over the part that starts where the first ended, is one write of both
+--     over_filled     the part behind what was written, filled to the buffer's end
 --     lent, back      a part that starts at n, as it is lent, and the buffer once it has come back
 -- Assumes nothing.
 use mathlib.Core.Path.{◌≡◌, refl, ap, ap₂, ◌∙◌}
@@ -28,13 +28,13 @@ copied (x ∷ w) [] i h k = absurd (not-suc-le-zero k)
 copied (x ∷ w) (y ∷ d) zero h k = refl
 copied (x ∷ w) (y ∷ d) (suc i) h k = ap (λ (l : List ℕ). x ∷ l) (copied w d i (le_of_suc-le-suc h) (le_of_suc-le-suc k))
 
-pub over-more : (o w d : List ℕ) (i : ℕ) → o ≡ take i w ++ drop i d → i < length w → i < length d
+pub over_more : (o w d : List ℕ) (i : ℕ) → o ≡ take i w ++ drop i d → i < length w → i < length d
     → set o i (get_or w i 0) ≡ take (i + 1) w ++ drop (i + 1) d
-over-more o w d i e h k = rw (e, add-one) (copied w d i h k)
+over_more o w d i e h k = rw (e, add-one) (copied w d i h k)
 
-pub over-whole : (o w d : List ℕ) (i : ℕ) → o ≡ take i w ++ drop i d → i ≡ length w → o ≡ over w d
+pub over_whole : (o w d : List ℕ) (i : ℕ) → o ≡ take i w ++ drop i d → i ≡ length w → o ≡ over w d
 unfolding over
-over-whole o w d i e h = e ∙ rw (h, take-length)
+over_whole o w d i e h = e ∙ rw (h, take-length)
 
 -- a part `&mut o[n..]` as it is lent, and o once y has come back for it
 pub lent : (o : List ℕ) (n : ℕ) → take (length o - n) (drop n o) ≡ drop n o
@@ -50,15 +50,15 @@ joined : (a b d o : List ℕ) (n : ℕ) → o ≡ over a d → length a ≡ n �
 unfolding over
 joined a b d o n e h = rw (e, ← h, take-append_seam, drop-append_seam, drop-drop, length-append, append_assoc)
 
-pub over-next : (a b d o y : List ℕ) (n : ℕ) → o ≡ over a d → length a ≡ n → y ≡ over b (take (length o - n) (drop n o))
+pub over_next : (a b d o y : List ℕ) (n : ℕ) → o ≡ over a d → length a ≡ n → y ≡ over b (take (length o - n) (drop n o))
     → put_mid n (length o - n) o y ≡ over (a ++ b) d
-over-next a b d o y n e h f = back o y n ∙ ap (λ (l : List ℕ). take n o ++ l) (f ∙ ap (over b) (lent o n))
+over_next a b d o y n e h f = back o y n ∙ ap (λ (l : List ℕ). take n o ++ l) (f ∙ ap (over b) (lent o n))
     ∙ joined a b d o n e h
 
-pub over-filled : (w d o z : List ℕ) (n v : ℕ) → o ≡ over w d → length w ≡ n → n ≤ length d
+pub over_filled : (w d o z : List ℕ) (n v : ℕ) → o ≡ over w d → length w ≡ n → n ≤ length d
     → z ≡ replicate (length (take (length o - n) (drop n o))) v
     → put_mid n (length o - n) o z ≡ w ++ replicate (length d - n) v
-over-filled w d o z n v e l g h =
+over_filled w d o z n v e l g h =
     let same : length o ≡ length d = ap length e ∙ length_over w d (omega arith) in
     let count : length (take (length o - n) (drop n o)) ≡ length d - n =
     ap length (lent o n) ∙ length-drop n o ∙ ap (λ (k : ℕ). k - n) same in

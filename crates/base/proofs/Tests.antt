@@ -30,9 +30,9 @@ abbrev pub all : (ℕ → Bool) → ℕ → Bool
 all f zero = true
 all f (suc n) = all f n && f n
 
-pub all-at : (f : ℕ → Bool) (n : ℕ) → T (all f n) → (k : ℕ) → k < n → T (f k)
-all-at f zero t k h = absurd (not-suc-le-zero h)
-all-at f (suc n) t k h = by (dec_lt k n) (all-at f n (both_left (all f n) (f n) t) k)
+pub all_at : (f : ℕ → Bool) (n : ℕ) → T (all f n) → (k : ℕ) → k < n → T (f k)
+all_at f zero t k h = absurd (not-suc-le-zero h)
+all_at f (suc n) t k h = by (dec_lt k n) (all_at f n (both_left (all f n) (f n) t) k)
   where
     by : Dec (k < n) → (k < n → T (f k)) → T (f k)
     by (yes p) rest = rest p

@@ -1,5 +1,5 @@
 -- Laws of whole numbers for `omega`, which reads naturals alone. Every z is up z - dn z, and one law for each operation
--- says so in ℕ, linearly: `add a b` of a sum, `neg-up a` and `neg-dn a` of a negation. Handed those of the sums that a
+-- says so in ℕ, linearly: `add a b` of a sum, `neg_up a` and `neg_dn a` of a negation. Handed those of the sums that a
 -- goal has, `omega` proves what `same`, `le_of` and `lt_of` turn into an equation or an order of ℤ. Assumes nothing.
 use mathlib.Core.Path.{◌≡◌, refl, ap, ◌∙◌}
 use mathlib.Core.Bool.{Bool, true, false, not, cond}
@@ -17,9 +17,9 @@ pub up_pos : (n : ℕ) → up (pos n) ≡ n
 unfolding up
 up_pos n = refl
 
-pub dn-pos : (n : ℕ) → dn (pos n) ≡ 0
+pub dn_pos : (n : ℕ) → dn (pos n) ≡ 0
 unfolding dn
-dn-pos n = refl
+dn_pos n = refl
 
 cond_ind : (c : Bool) (x y : ℤ) (P : ℤ → Type 0) → (T c → P x) → (T (not c) → P y) → P (cond c x y)
 cond_ind true x y P f g = f tt
@@ -43,17 +43,17 @@ add (pos a) (negsuc b) = omega (arith, sub a (suc b))
 add (negsuc a) (pos b) = omega (arith, sub b (suc a))
 add (negsuc a) (negsuc b) = omega arith
 
-pub neg-up : (a : ℤ) → up (neg_ℤ a) ≡ dn a
+pub neg_up : (a : ℤ) → up (neg_ℤ a) ≡ dn a
 unfolding up dn
-neg-up (pos zero) = refl
-neg-up (pos (suc n)) = refl
-neg-up (negsuc n) = refl
+neg_up (pos zero) = refl
+neg_up (pos (suc n)) = refl
+neg_up (negsuc n) = refl
 
-pub neg-dn : (a : ℤ) → dn (neg_ℤ a) ≡ up a
+pub neg_dn : (a : ℤ) → dn (neg_ℤ a) ≡ up a
 unfolding up dn
-neg-dn (pos zero) = refl
-neg-dn (pos (suc n)) = refl
-neg-dn (negsuc n) = refl
+neg_dn (pos zero) = refl
+neg_dn (pos (suc n)) = refl
+neg_dn (negsuc n) = refl
 
 -- an equation of ℤ from one of ℕ
 pub same : (a b : ℤ) → up a + dn b ≡ up b + dn a → a ≡ b
@@ -92,43 +92,43 @@ lt_of (pos a) (negsuc b) h = absurd (omega arith)
 lt_of (negsuc a) (pos b) h = record { lt = tt }
 lt_of (negsuc a) (negsuc b) h = record { lt = lt→ltb b a (omega arith) }
 
-pub fits-at : (w : Width) {b : ℕ} {z : ℤ} → Within b z → b < 2 ^ hbits w → SFits w z
+pub fits_at : (w : Width) {b : ℕ} {z : ℤ} → Within b z → b < 2 ^ hbits w → SFits w z
 unfolding up dn
-fits-at w {z = pos n} h k = record { sfits = omega (arith, h.high) }
-fits-at w {z = negsuc n} h k = record { sfits = omega (arith, h.low) }
+fits_at w {z = pos n} h k = record { sfits = omega (arith, h.high) }
+fits_at w {z = negsuc n} h k = record { sfits = omega (arith, h.low) }
 
-pub within-zero : (b : ℕ) → Within b (pos 0)
+pub within_zero : (b : ℕ) → Within b (pos 0)
 unfolding up dn
-within-zero b = record { high = omega arith; low = omega arith }
+within_zero b = record { high = omega arith; low = omega arith }
 
 pub within_more : {b d : ℕ} {z : ℤ} → Within b z → b ≤ d → Within d z
 within_more w h = record { high = omega (arith, w.high); low = omega (arith, w.low) }
 
-pub within-add : {b d : ℕ} {y z : ℤ} → Within b y → Within d z → Within (b + d) (y +ℤ z)
-within-add {b} {d} {y} {z} h k = record { high = omega (arith, add y z); low = omega (arith, add y z) }
+pub within_add : {b d : ℕ} {y z : ℤ} → Within b y → Within d z → Within (b + d) (y +ℤ z)
+within_add {b} {d} {y} {z} h k = record { high = omega (arith, add y z); low = omega (arith, add y z) }
 
-pub within-neg : {b : ℕ} {z : ℤ} → Within b z → Within b (neg_ℤ z)
-within-neg {b} {z} h = record { high = omega (arith, neg-up z, neg-dn z); low = omega (arith, neg-up z, neg-dn z) }
+pub within_neg : {b : ℕ} {z : ℤ} → Within b z → Within b (neg_ℤ z)
+within_neg {b} {z} h = record { high = omega (arith, neg_up z, neg_dn z); low = omega (arith, neg_up z, neg_dn z) }
 
 -- a byte is from -128 to 127
-pub byte-within : (z : ℤ) → mag z < 128 → Within 128 z
+pub byte_within : (z : ℤ) → mag z < 128 → Within 128 z
 unfolding up dn
-byte-within (pos n) h = record { high = omega arith; low = omega arith }
-byte-within (negsuc n) h = record { high = omega arith; low = omega arith }
+byte_within (pos n) h = record { high = omega arith; low = omega arith }
+byte_within (negsuc n) h = record { high = omega arith; low = omega arith }
 
 -- ---- a signed number of any width: its bits read back, a negation
 pub small : (w : Width) (b : ℕ) → b < 2 ^ hbits w → (z : ℤ) → Within b z → to_z w (of_z w z) ≡ z
-small w b k z h = to_z-of_z (fits-at w h k)
+small w b k z h = to_z-of_z (fits_at w h k)
 
-pub within-read : (w : Width) {b : ℕ} {z : ℤ} → b < 2 ^ hbits w → Within b z → Within b (to_z w (of_z w z))
-within-read w {b} {z} k h = rw (small w b k z h) h
+pub within_read : (w : Width) {b : ℕ} {z : ℤ} → b < 2 ^ hbits w → Within b z → Within b (to_z w (of_z w z))
+within_read w {b} {z} k h = rw (small w b k z h) h
 
 module _ (w : Width) (b : ℕ) (k : b < 2 ^ hbits w) (z : ℤ) (h : Within b z) where
-  is-neg : pos 0 -ℤ to_z w (of_z w z) ≡ neg_ℤ z
-  is-neg = ap (λ (y : ℤ). pos 0 -ℤ y) (small w b k z h) ∙ +ℤ_idl (neg_ℤ z)
+  is_neg : pos 0 -ℤ to_z w (of_z w z) ≡ neg_ℤ z
+  is_neg = ap (λ (y : ℤ). pos 0 -ℤ y) (small w b k z h) ∙ +ℤ_idl (neg_ℤ z)
 
-  pub neg-fits : SFits w (pos 0 -ℤ to_z w (of_z w z))
-  neg-fits = rw is-neg (fits-at w (within-neg h) k)
+  pub neg_fits : SFits w (pos 0 -ℤ to_z w (of_z w z))
+  neg_fits = rw is_neg (fits_at w (within_neg h) k)
 
-  pub neg-read : to_z w (of_z w (pos 0 -ℤ to_z w (of_z w z))) ≡ neg_ℤ z
-  neg-read = to_z-of_z neg-fits ∙ is-neg
+  pub neg_read : to_z w (of_z w (pos 0 -ℤ to_z w (of_z w z))) ≡ neg_ℤ z
+  neg_read = to_z-of_z neg_fits ∙ is_neg

@@ -1,10 +1,10 @@
 // Leaves of reading, exported so that bench/ times them beside plain C. No part of the board's interface.
 ghost use Rattle.std.specs.Prelude.{◌≡◌, min, ◌≤◌, length};
-ghost use Rattle.rules_rates.specs.Rates.{symbolChips};
-ghost use Rattle.rules_chips.specs.Floats.{countOf};
-ghost use Rattle.rules_chips.specs.Chips.{softRecording};
+ghost use Rattle.rules_rates.specs.Rates.{symbol_chips};
+ghost use Rattle.rules_chips.specs.Floats.{count_of};
+ghost use Rattle.rules_chips.specs.Chips.{soft_recording};
 ghost use Rattle.choose_recorders.specs.Rows.{lent};
-ghost use Rattle.bench_leaves.specs.Leaves.{first_word, decidedSoft, lastWord, recorderOf, decidedLast, CountsRow};
+ghost use Rattle.bench_leaves.specs.Leaves.{first_word, decided_soft, last_word, recorder_of, decided_last, CountsRow};
 
 use choose_recorded::Place;
 use choose_recorders::Recorder;
@@ -19,7 +19,7 @@ fn shorter(a: usize, b: usize) -> usize
 
 // The count of x; 0 of an x that is not usable.
 fn count_of(x: f32) -> i32
-    ensures answer { result ≡ countOf x }
+    ensures answer { result ≡ count_of x }
 {
     if choose_counts::usable(x) {
         choose_counts::count(x)
@@ -50,8 +50,8 @@ fn wide(x: u8) -> u64
 
 // The number of the word that the first symbol of soft rows is decided as, where all its chips are usable.
 fn first_word(r: Rate, i: &[f32], q: &[f32]) -> u64
-    requires { symbolChips r ≤ length (softRecording i.now q.now) }
-    ensures answer { result ≡ first_word r (softRecording i.now q.now) }
+    requires { symbol_chips r ≤ length (soft_recording i.now q.now) }
+    ensures answer { result ≡ first_word r (soft_recording i.now q.now) }
 {
     let octet = [0u8; 1];
     let row = &octet[0..0];
@@ -91,7 +91,7 @@ fn first_word(r: Rate, i: &[f32], q: &[f32]) -> u64
 // The number of the word that the first symbol of soft rows is decided as.
 #[unsafe(no_mangle)]
 pub extern "C" fn timed_decide(rate: u64, i: &[f32], q: &[f32]) -> u64
-    ensures answer { result ≡ decidedSoft rate i.now q.now }
+    ensures answer { result ≡ decided_soft rate i.now q.now }
 {
     let octet = [0u8; 1];
     let row = &octet[0..0];
@@ -110,7 +110,7 @@ pub extern "C" fn timed_decide(rate: u64, i: &[f32], q: &[f32]) -> u64
 // The number of the word that the last of 64 symbols is decided as, where all their chips are usable.
 fn last_word(rec: Recorder, octets: &[u8], bytes: &[i8], i: &[f32], q: &[f32]) -> u64
     requires { 512 ≤ length (lent rec octets bytes i q) }
-    ensures answer { result ≡ lastWord (lent rec octets.entry bytes.entry i.entry q.entry) }
+    ensures answer { result ≡ last_word (lent rec octets.entry bytes.entry i.entry q.entry) }
 {
     let bad = choose_recorders::first_unusable(rec, octets, bytes, i, q, 0, 512);
     match bad {
@@ -137,7 +137,7 @@ fn last_word(rec: Recorder, octets: &[u8], bytes: &[i8], i: &[f32], q: &[f32]) -
 
 // A recorder by its number.
 fn recorder_of(number: u64) -> Recorder
-    ensures answer { result ≡ recorderOf number }
+    ensures answer { result ≡ recorder_of number }
 {
     if number == 0 {
         return Recorder::Hard;
@@ -158,7 +158,7 @@ pub extern "C" fn timed_eleven(
     q: &[f32],
 ) -> u64
     ensures answer { result ≡
-        decidedLast recorder octets.now bytes.now i.now q.now }
+        decided_last recorder octets.now bytes.now i.now q.now }
 {
     if 2 < recorder {
         return 0;

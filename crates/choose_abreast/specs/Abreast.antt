@@ -15,9 +15,9 @@ pub record Merged (from to : List ℤ) : Type 0 where
   pub each : (j : ℕ) → j < length from → get_or to j (pos 0) ≡ get_or from (halved (length from) j) (pos 0)
 
 -- where it stood four such steps before
-abbrev pub turnedFrom : ℕ → ℕ → ℕ
-turnedFrom n j = halved n (halved n (halved n (halved n j)))
+abbrev pub turned_from : ℕ → ℕ → ℕ
+turned_from n j = halved n (halved n (halved n (halved n j)))
 
 pub record Turned (before after : List ℤ) : Type 0 where
   pub long : length after ≡ length before
-  pub each : (j : ℕ) → j < length before → get_or after j (pos 0) ≡ get_or before (turnedFrom (length before) j) (pos 0)
+  pub each : (j : ℕ) → j < length before → get_or after j (pos 0) ≡ get_or before (turned_from (length before) j) (pos 0)

@@ -2,15 +2,15 @@
 // chips are all of its own kind, so each takes its own variant apart, and in a loop over symbols the chips dissolve. Of
 // hard chips full chips are counted, not 1024ths of one: in octets sixteen symbols go side by side.
 ghost use Rattle.std.specs.Prelude.{◌≡◌, T};
-ghost use Rattle.rules_chips.specs.Chips.{countsOf};
+ghost use Rattle.rules_chips.specs.Chips.{counts_of};
 ghost use Rattle.choose_axes.specs.Axes.{
   along,
-  phaseOn,
-  countsAlong,
+  phase_on,
+  counts_along,
   unit_of,
-  unitsAlong,
-  softUsable,
-  octetOf,
+  units_along,
+  soft_usable,
+  octet_of,
   AllSoft,
 };
 
@@ -25,7 +25,7 @@ pub enum Axis {
 
 // The octet of a chip of a hard recording: the inverse of `hard_chip`; 4 of a soft one.
 fn octet_of(c: Chip) -> u8
-    ensures answer { result ≡ octetOf c }
+    ensures answer { result ≡ octet_of c }
 {
     match c {
         Chip::Lost => 4,
@@ -36,7 +36,7 @@ fn octet_of(c: Chip) -> u8
 
 // The sample of a soft chip.
 fn sample_of(c: Chip) -> Sample
-    requires { T (softUsable c) }
+    requires { T (soft_usable c) }
     ensures answer { c ≡ Chip.Soft result }
 {
     match c {
@@ -48,8 +48,8 @@ fn sample_of(c: Chip) -> Sample
 
 // The count of a soft chip on an axis.
 fn soft_count(c: Chip, axis: Axis) -> i32
-    requires { T (softUsable c) }
-    ensures answer { result ≡ along axis (countsOf c) }
+    requires { T (soft_usable c) }
+    ensures answer { result ≡ along axis (counts_of c) }
 {
     let s = sample_of(c);
     match axis {
@@ -61,7 +61,7 @@ fn soft_count(c: Chip, axis: Axis) -> i32
 // The counts of a CCK symbol's soft chips on an axis.
 pub fn soft_counts8(chips: [Chip; 8], axis: Axis) -> [i32; 8]
     requires { AllSoft 8 chips }
-    ensures answer { result ≡ countsAlong axis chips }
+    ensures answer { result ≡ counts_along axis chips }
 {
     let mut out = [0i32; 8];
     for k in 0..8 {
@@ -74,7 +74,7 @@ pub fn soft_counts8(chips: [Chip; 8], axis: Axis) -> [i32; 8]
 // The counts of a Barker symbol's soft chips on an axis.
 pub fn soft_counts11(chips: [Chip; 11], axis: Axis) -> [i32; 11]
     requires { AllSoft 11 chips }
-    ensures answer { result ≡ countsAlong axis chips }
+    ensures answer { result ≡ counts_along axis chips }
 {
     let mut out = [0i32; 11];
     for k in 0..11 {
@@ -86,7 +86,7 @@ pub fn soft_counts11(chips: [Chip; 11], axis: Axis) -> [i32; 11]
 
 // The phase of a chip of 1 on an axis.
 fn phase_on(axis: Axis) -> u8
-    ensures answer { result ≡ phaseOn axis }
+    ensures answer { result ≡ phase_on axis }
 {
     match axis {
         Axis::I => 0,
@@ -105,7 +105,7 @@ fn hard_unit(c: Chip, axis: Axis) -> i8
 
 // The units of a CCK symbol's hard chips on an axis.
 pub fn hard_units8(chips: [Chip; 8], axis: Axis) -> [i8; 8]
-    ensures answer { result ≡ unitsAlong axis chips }
+    ensures answer { result ≡ units_along axis chips }
 {
     let mut out = [0i8; 8];
     for k in 0..8 {
@@ -117,7 +117,7 @@ pub fn hard_units8(chips: [Chip; 8], axis: Axis) -> [i8; 8]
 
 // The units of a Barker symbol's hard chips on an axis.
 pub fn hard_units11(chips: [Chip; 11], axis: Axis) -> [i8; 11]
-    ensures answer { result ≡ unitsAlong axis chips }
+    ensures answer { result ≡ units_along axis chips }
 {
     let mut out = [0i8; 11];
     for k in 0..11 {

@@ -5,9 +5,9 @@ ghost use Rattle.std.specs.Prelude.{◌≡◌, ◌+◌, ◌*◌, ◌-◌, ◌/�
 ghost use Rattle.std.specs.Int.Signed.{non_neg};
 ghost use Rattle.base.specs.Whole.{Within};
 ghost use Rattle.base.specs.Tables.{tabulate};
-ghost use Rattle.rules_choosing.specs.Scores.{RowWithin, scoreAt, number5, ChosenAs};
-ghost use Rattle.rules_choosing.specs.Keys.{larger, smaller, keyOf, HoldsTwo};
-ghost use Rattle.choose_sums.specs.Sums.{bySigns, asChip, rows, crossed, key_at};
+ghost use Rattle.rules_choosing.specs.Scores.{RowWithin, score_at, number5, ChosenAs};
+ghost use Rattle.rules_choosing.specs.Keys.{larger, smaller, key_of, HoldsTwo};
+ghost use Rattle.choose_sums.specs.Sums.{by_signs, as_chip, rows, crossed, key_at};
 
 use rules_rates::Rate;
 
@@ -50,7 +50,7 @@ pub fn min(a: i16, b: i16) -> i16
 // The better key of the words n and n + 2 w, whose scores are s and -s.
 fn key(w: u8, s: i16, n: u8) -> i16
     requires { (w ≤ 4) × Within 1408 s × (n < w + w) }
-    ensures answer { result ≡ pos (keyOf (w + w) n s) }
+    ensures answer { result ≡ pos (key_of (w + w) n s) }
 {
     let m = w as i16;
     abs(4 * m * s + m) + ((3 * w - 1 - n) as i16)
@@ -59,8 +59,8 @@ fn key(w: u8, s: i16, n: u8) -> i16
 // The keys of two neighbours, the larger first: the words n and n + 1, whose scores are s and t, and their opposites.
 fn two_keys(w: u8, s: i16, n: u8, t: i16) -> Two
     requires { (w ≤ 4) × Within 1408 s × Within 1408 t × (n + 1 < w + w) }
-    ensures answer { (result.first ≡ larger (pos (keyOf (w + w) n s)) (pos (keyOf (w + w) (n + 1) t)))
-        × (result.second ≡ smaller (pos (keyOf (w + w) n s)) (pos (keyOf (w + w) (n + 1) t))) }
+    ensures answer { (result.first ≡ larger (pos (key_of (w + w) n s)) (pos (key_of (w + w) (n + 1) t)))
+        × (result.second ≡ smaller (pos (key_of (w + w) n s)) (pos (key_of (w + w) (n + 1) t))) }
 {
     let a = key(w, s, n);
     let b = key(w, t, n + 1);
@@ -105,7 +105,7 @@ fn lead_of(w: u8, keys: Two) -> u16
 // The sum of eleven bytes by the signs of a Barker symbol.
 fn by_signs(c: [i16; 11]) -> i16
     requires { RowWithin 128 c }
-    ensures answer { result ≡ bySigns c }
+    ensures answer { result ≡ by_signs c }
 {
     let turns = common_words::BARKER;
     let mut x: i16 = 0;
@@ -122,7 +122,7 @@ fn by_signs(c: [i16; 11]) -> i16
 // The choice by the sums over I and Q.
 fn choose(i: i16, q: i16) -> Choice
     requires { Within 1408 i × Within 1408 q }
-    ensures answer { ChosenAs Rate.One (asChip i q) result.number result.lead }
+    ensures answer { ChosenAs Rate.One (as_chip i q) result.number result.lead }
 {
     let top = two_keys(1, i, 0, q);
     Choice {
@@ -134,7 +134,7 @@ fn choose(i: i16, q: i16) -> Choice
 // The choice by eleven chips' bytes, I and Q apart.
 pub fn barker(i: [i16; 11], q: [i16; 11]) -> Choice
     requires { RowWithin 128 i × RowWithin 128 q }
-    ensures answer { ChosenAs Rate.One (asChip (bySigns i) (bySigns q)) result.number result.lead }
+    ensures answer { ChosenAs Rate.One (as_chip (by_signs i) (by_signs q)) result.number result.lead }
 {
     choose(by_signs(i), by_signs(q))
 }

@@ -2,7 +2,7 @@
 // word's chips are added up by themselves.
 ghost use Rattle.std.specs.Prelude.{◌≡◌};
 ghost use Rattle.base.specs.Tables.{tabulate};
-ghost use Rattle.rules_choosing.specs.Scores.{RowWithin, scoreAt, number5, ChosenAs};
+ghost use Rattle.rules_choosing.specs.Scores.{RowWithin, score_at, number5, ChosenAs};
 ghost use Rattle.choose_keys.specs.Floats.{FloatTwo};
 ghost use Rattle.choose_sums.specs.Sums.{rows, crossed, key_at};
 

@@ -2,7 +2,7 @@
 // and its lead over the best of the others is told.
 // Each function is called from one loop over symbols, in which its array of chips dissolves.
 ghost use Rattle.std.specs.Prelude.{map};
-ghost use Rattle.rules_chips.specs.Chips.{countsOf};
+ghost use Rattle.rules_chips.specs.Chips.{counts_of};
 ghost use Rattle.choose_axes.specs.Axes.{AllSoft};
 ghost use Rattle.rules_choosing.specs.Scores.{ChosenAs};
 
@@ -23,7 +23,7 @@ pub struct Choice {
 // The phase that a Barker symbol is decided as, at 1 and at 2 Mbit/s, and its lead.
 pub fn decide_barker(chips: [Chip; 11]) -> Choice
     requires { AllSoft 11 chips }
-    ensures answer { ChosenAs Rate.One (map countsOf chips) result.number result.lead }
+    ensures answer { ChosenAs Rate.One (map counts_of chips) result.number result.lead }
 {
     barker::decide(
         choose_axes::soft_counts11(chips, Axis::I),
@@ -34,7 +34,7 @@ pub fn decide_barker(chips: [Chip; 11]) -> Choice
 // The word that a symbol of 5.5 Mbit/s is decided as, and its lead.
 pub fn decide_five(chips: [Chip; 8]) -> Choice
     requires { AllSoft 8 chips }
-    ensures answer { ChosenAs Rate.Five (map countsOf chips) result.number result.lead }
+    ensures answer { ChosenAs Rate.Five (map counts_of chips) result.number result.lead }
 {
     five::decide(
         choose_axes::soft_counts8(chips, Axis::I),

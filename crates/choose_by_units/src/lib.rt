@@ -6,9 +6,9 @@ ghost use Rattle.std.specs.Prelude.{◌≡◌, ◌+◌, ◌*◌, ◌-◌, ◌/�
 ghost use Rattle.choose_axes.specs.Axes.{unit_of};
 ghost use Rattle.base.specs.Whole.{Within};
 ghost use Rattle.base.specs.Tables.{tabulate};
-ghost use Rattle.rules_choosing.specs.Scores.{RowWithin, scoreAt, number5, ChosenAs};
-ghost use Rattle.rules_choosing.specs.Keys.{bigger, lesser, keyOf, TwoLargest};
-ghost use Rattle.choose_sums.specs.Sums.{bySigns, asChip, rows, crossed, key_at};
+ghost use Rattle.rules_choosing.specs.Scores.{RowWithin, score_at, number5, ChosenAs};
+ghost use Rattle.rules_choosing.specs.Keys.{bigger, lesser, key_of, TwoLargest};
+ghost use Rattle.choose_sums.specs.Sums.{by_signs, as_chip, rows, crossed, key_at};
 
 use choose_axes::Axis;
 use rules_chips::Chip;
@@ -45,7 +45,7 @@ fn min(a: u8, b: u8) -> u8
 // The better key of the words n and n + 2 w, whose scores are s and -s.
 fn key(w: u8, s: i8, n: u8) -> u8
     requires { (w ≤ 4) × Within 11 s × (n < w + w) }
-    ensures answer { result ≡ keyOf (w + w) n s }
+    ensures answer { result ≡ key_of (w + w) n s }
 {
     if s < 0 {
         4 * w * ((-s) as u8) + (2 * w - 1 - n)
@@ -57,8 +57,8 @@ fn key(w: u8, s: i8, n: u8) -> u8
 // The keys of two neighbours, the larger first: the words n and n + 1, whose scores are s and t, and their opposites.
 fn two_keys(w: u8, s: i8, n: u8, t: i8) -> Two
     requires { (w ≤ 4) × Within 11 s × Within 11 t × (n + 1 < w + w) }
-    ensures answer { (result.first ≡ bigger (keyOf (w + w) n s) (keyOf (w + w) (n + 1) t))
-        × (result.second ≡ lesser (keyOf (w + w) n s) (keyOf (w + w) (n + 1) t)) }
+    ensures answer { (result.first ≡ bigger (key_of (w + w) n s) (key_of (w + w) (n + 1) t))
+        × (result.second ≡ lesser (key_of (w + w) n s) (key_of (w + w) (n + 1) t)) }
 {
     let a = key(w, s, n);
     let b = key(w, t, n + 1);
@@ -100,7 +100,7 @@ fn lead_of(w: u8, keys: Two) -> u8
 // The sum of eleven chips by the signs of a Barker symbol.
 fn by_signs(c: [i8; 11]) -> i8
     requires { RowWithin 1 c }
-    ensures answer { result ≡ bySigns c }
+    ensures answer { result ≡ by_signs c }
 {
     let turns = common_words::BARKER;
     let mut x: i8 = 0;
@@ -117,7 +117,7 @@ fn by_signs(c: [i8; 11]) -> i8
 // The choice by the sums over I and Q.
 fn choose(i: i8, q: i8) -> Choice
     requires { Within 11 i × Within 11 q }
-    ensures answer { ChosenAs Rate.One (asChip i q) result.number result.lead }
+    ensures answer { ChosenAs Rate.One (as_chip i q) result.number result.lead }
 {
     let top = two_keys(1, i, 0, q);
     Choice {
@@ -129,7 +129,7 @@ fn choose(i: i8, q: i8) -> Choice
 // The choice by eleven chips, I and Q apart.
 fn barker(i: [i8; 11], q: [i8; 11]) -> Choice
     requires { RowWithin 1 i × RowWithin 1 q }
-    ensures answer { ChosenAs Rate.One (asChip (bySigns i) (bySigns q)) result.number result.lead }
+    ensures answer { ChosenAs Rate.One (as_chip (by_signs i) (by_signs q)) result.number result.lead }
 {
     choose(by_signs(i), by_signs(q))
 }

@@ -4,12 +4,12 @@
 ghost use Rattle.std.specs.Prelude.{◌≡◌, ◌+◌, ◌*◌, ◌/◌, ◌<◌, ◌≤◌, length, get_or};
 ghost use Rattle.base.specs.Tables.{tabulate};
 ghost use Rattle.base.specs.Whole.{Within};
-ghost use Rattle.rules_chips.specs.Chips.{byteRecording};
-ghost use Rattle.rules_symbols.specs.Choice.{decided, leadOf};
+ghost use Rattle.rules_chips.specs.Chips.{byte_recording};
+ghost use Rattle.rules_symbols.specs.Choice.{decided, lead_of};
 ghost use Rattle.rules_choosing.specs.Scores.{RowWithin};
-ghost use Rattle.choose_sums.specs.Sums.{everyRow};
+ghost use Rattle.choose_sums.specs.Sums.{every_row};
 ghost use Rattle.choose_recorded.specs.Recorded.{DecidedAt, LeadsAt, Put};
-ghost use Rattle.choose_bytes.specs.Rows.{barkerAt, fiveAt};
+ghost use Rattle.choose_bytes.specs.Rows.{barker_at, five_at};
 
 use choose_by_bytes::Choice;
 use rules_rates::Rate;
@@ -25,7 +25,7 @@ fn wide(b: i8) -> i16
 // The bytes of one axis of a CCK symbol among sixteen abreast.
 fn eight(row: &[i8], from: usize) -> [i16; 8]
     requires { from + 224 < length row.now }
-    ensures answer { result ≡ everyRow row.now from 8 }
+    ensures answer { result ≡ every_row row.now from 8 }
     ensures small { RowWithin 128 result }
 {
     let mut out = [0i16; 8];
@@ -38,7 +38,7 @@ fn eight(row: &[i8], from: usize) -> [i16; 8]
 // The same of a Barker symbol.
 fn eleven(row: &[i8], from: usize) -> [i16; 11]
     requires { from + 320 < length row.now }
-    ensures answer { result ≡ everyRow row.now from 11 }
+    ensures answer { result ≡ every_row row.now from 11 }
     ensures small { RowWithin 128 result }
 {
     let mut out = [0i16; 11];
@@ -52,9 +52,9 @@ fn eleven(row: &[i8], from: usize) -> [i16; 11]
 fn sixteen_barkers(row: &[i8], l: usize, numbers: &mut [u8; 64], raw: &mut [u16; 64])
     requires { (length row.now ≡ 352) × (l + 16 ≤ 64) × (length numbers.old ≡ 64)
         × (length raw.old ≡ 64) }
-    ensures numbers { Put (λ s. decided Rate.One (barkerAt row.now s)) l numbers.old
+    ensures numbers { Put (λ s. decided Rate.One (barker_at row.now s)) l numbers.old
         numbers.new 16 }
-    ensures raw { Put (λ s. leadOf Rate.One (barkerAt row.now s)) l raw.old
+    ensures raw { Put (λ s. leadOf Rate.One (barker_at row.now s)) l raw.old
         raw.new 16 }
 {
     for s in 0..16 {
@@ -68,9 +68,9 @@ fn sixteen_barkers(row: &[i8], l: usize, numbers: &mut [u8; 64], raw: &mut [u16;
 fn sixteen_fives(row: &[i8], l: usize, numbers: &mut [u8; 64], raw: &mut [u16; 64])
     requires { (length row.now ≡ 256) × (l + 16 ≤ 64) × (length numbers.old ≡ 64)
         × (length raw.old ≡ 64) }
-    ensures numbers { Put (λ s. decided Rate.Five (fiveAt row.now s)) l numbers.old
+    ensures numbers { Put (λ s. decided Rate.Five (five_at row.now s)) l numbers.old
         numbers.new 16 }
-    ensures raw { Put (λ s. leadOf Rate.Five (fiveAt row.now s)) l raw.old
+    ensures raw { Put (λ s. leadOf Rate.Five (five_at row.now s)) l raw.old
         raw.new 16 }
 {
     for s in 0..16 {
@@ -101,8 +101,8 @@ fn in_counts(raw: &[u16; 64], leads: &mut [u32; 64])
 pub fn barkers(bytes: &[i8], at: usize, m: usize, numbers: &mut [u8; 64], leads: &mut [u32; 64])
     requires { (m ≤ 64) × (at + 11 * m ≤ length bytes.now / 2) × (length numbers.old ≡ 64)
         × (length leads.old ≡ 64) }
-    ensures numbers { DecidedAt Rate.One (byteRecording bytes.now) at m numbers.new }
-    ensures leads { LeadsAt Rate.One (byteRecording bytes.now) at m leads.new }
+    ensures numbers { DecidedAt Rate.One (byte_recording bytes.now) at m numbers.new }
+    ensures leads { LeadsAt Rate.One (byte_recording bytes.now) at m leads.new }
 {
     let mut row = [0i8; 352];
     let mut other = [0i8; 352];
@@ -122,8 +122,8 @@ pub fn barkers(bytes: &[i8], at: usize, m: usize, numbers: &mut [u8; 64], leads:
 pub fn fives(bytes: &[i8], at: usize, m: usize, numbers: &mut [u8; 64], leads: &mut [u32; 64])
     requires { (m ≤ 64) × (at + 8 * m ≤ length bytes.now / 2) × (length numbers.old ≡ 64)
         × (length leads.old ≡ 64) }
-    ensures numbers { DecidedAt Rate.Five (byteRecording bytes.now) at m numbers.new }
-    ensures leads { LeadsAt Rate.Five (byteRecording bytes.now) at m leads.new }
+    ensures numbers { DecidedAt Rate.Five (byte_recording bytes.now) at m numbers.new }
+    ensures leads { LeadsAt Rate.Five (byte_recording bytes.now) at m leads.new }
 {
     let mut row = [0i8; 256];
     let mut other = [0i8; 256];
@@ -143,8 +143,8 @@ pub fn fives(bytes: &[i8], at: usize, m: usize, numbers: &mut [u8; 64], leads: &
 pub fn elevens(bytes: &[i8], at: usize, m: usize, numbers: &mut [u8; 64], leads: &mut [u32; 64])
     requires { (m ≤ 64) × (at + 8 * m ≤ length bytes.now / 2) × (length numbers.old ≡ 64)
         × (length leads.old ≡ 64) }
-    ensures numbers { DecidedAt Rate.Eleven (byteRecording bytes.now) at m numbers.new }
-    ensures leads { LeadsAt Rate.Eleven (byteRecording bytes.now) at m leads.new }
+    ensures numbers { DecidedAt Rate.Eleven (byte_recording bytes.now) at m numbers.new }
+    ensures leads { LeadsAt Rate.Eleven (byte_recording bytes.now) at m leads.new }
 {
     let mut row = [0i8; 256];
     let mut other = [0i8; 256];

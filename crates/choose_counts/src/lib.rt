@@ -1,8 +1,8 @@
 // Chips looked at and counted: whether a sample is usable, its signed count, and what an octet is.
 ghost use Rattle.std.specs.Prelude.{◌≡◌, T};
 ghost use Rattle.rules_chips.specs.Floats as floats;
-ghost use Rattle.rules_chips.specs.Floats.{countOf};
-ghost use Rattle.rules_chips.specs.Chips.{usableSample, hardChip};
+ghost use Rattle.rules_chips.specs.Floats.{count_of};
+ghost use Rattle.rules_chips.specs.Chips.{usable_sample, hard_chip};
 
 use rules_chips::{Chip, Sample};
 
@@ -21,7 +21,7 @@ pub fn usable(x: f32) -> bool
 // count is, and the bit patterns there go up by one from each value to the next.
 pub fn count(x: f32) -> i32
     requires { T (floats.usable x) }
-    ensures answer { result ≡ countOf x }
+    ensures answer { result ≡ count_of x }
 {
     let b: u32 = f32::to_bits(x + 12288.0);
     (b as i32) - 0x4640_0000
@@ -29,14 +29,14 @@ pub fn count(x: f32) -> i32
 
 // Whether both I and Q are usable.
 pub fn usable_sample(s: Sample) -> bool
-    ensures answer { result ≡ usableSample s }
+    ensures answer { result ≡ usable_sample s }
 {
     usable(s.i) & usable(s.q)
 }
 
 // What an octet of a hard recording is: 4 the mark for no chip, any other a phase or no phase.
 pub fn hard_chip(x: u8) -> Chip
-    ensures answer { result ≡ hardChip x }
+    ensures answer { result ≡ hard_chip x }
 {
     if x == 4 { Chip::Lost } else { Chip::Hard(x) }
 }

@@ -3,9 +3,9 @@
 // octet that is none of the phases counts as nothing, so symbols are decided whatever their chips are.
 ghost use Rattle.std.specs.Prelude.{◌≡◌, true, not, ◌+◌, ◌*◌, ◌<◌, ◌≤◌, length, get_or};
 ghost use Rattle.base.specs.Tables.{tabulate};
-ghost use Rattle.rules_chips.specs.Chips.{unusable, isUnusable, hardRecording};
-ghost use Rattle.choose_recorded.specs.Columns.{ColumnSet, Columns, hardColumn};
-ghost use Rattle.choose_recorded.specs.Recorded.{hardPart, AllUsable, DecidedAt, LeadsAt};
+ghost use Rattle.rules_chips.specs.Chips.{unusable, is_unusable, hard_recording};
+ghost use Rattle.choose_recorded.specs.Columns.{ColumnSet, Columns, hard_column};
+ghost use Rattle.choose_recorded.specs.Recorded.{hard_part, AllUsable, DecidedAt, LeadsAt};
 
 use choose_axes::Axis;
 use choose_by_units::Choice;
@@ -15,7 +15,7 @@ use rules_rates::Rate;
 // Whether the chip at a place is usable.
 pub fn usable_at(octets: &[u8], at: usize) -> bool
     requires { at < length octets.now }
-    ensures answer { result ≡ not (isUnusable (get_or (hardRecording octets.now) at unusable)) }
+    ensures answer { result ≡ not (is_unusable (get_or (hard_recording octets.now) at unusable)) }
 {
     octets[at] <= 4
 }
@@ -23,7 +23,7 @@ pub fn usable_at(octets: &[u8], at: usize) -> bool
 // Whether 64 chips from a place are usable: a test for skipping them, so only its yes says something.
 pub fn clean(octets: &[u8], at: usize) -> bool
     requires { at + 64 ≤ length octets.now }
-    ensures answer { result ≡ true → AllUsable (hardRecording octets.now) at 64 }
+    ensures answer { result ≡ true → AllUsable (hard_recording octets.now) at 64 }
 {
     let mut top: u8 = 0;
     for k in 0..64 {
@@ -36,7 +36,7 @@ pub fn clean(octets: &[u8], at: usize) -> bool
 // The chips of a CCK symbol.
 fn eight(octets: &[u8], at: usize) -> [Chip; 8]
     requires { at + 8 ≤ length octets.now }
-    ensures answer { result ≡ hardPart octets.now at 8 }
+    ensures answer { result ≡ hard_part octets.now at 8 }
 {
     let mut chips = [Chip::Lost; 8];
     for k in 0..8 {
@@ -48,7 +48,7 @@ fn eight(octets: &[u8], at: usize) -> [Chip; 8]
 // The chips of a Barker symbol.
 fn eleven(octets: &[u8], at: usize) -> [Chip; 11]
     requires { at + 11 ≤ length octets.now }
-    ensures answer { result ≡ hardPart octets.now at 11 }
+    ensures answer { result ≡ hard_part octets.now at 11 }
 {
     let mut chips = [Chip::Lost; 11];
     for k in 0..11 {
@@ -78,8 +78,8 @@ fn in_counts(full: &[u8; 64], leads: &mut [u32; 64])
 pub fn barkers(octets: &[u8], at: usize, m: usize, numbers: &mut [u8; 64], leads: &mut [u32; 64])
     requires { (m ≤ 64) × (at + 11 * m ≤ length octets.now)
         × (length numbers.old ≡ 64) × (length leads.old ≡ 64) }
-    ensures numbers { DecidedAt Rate.One (hardRecording octets.now) at m numbers.new }
-    ensures leads { LeadsAt Rate.One (hardRecording octets.now) at m leads.new }
+    ensures numbers { DecidedAt Rate.One (hard_recording octets.now) at m numbers.new }
+    ensures leads { LeadsAt Rate.One (hard_recording octets.now) at m leads.new }
 {
     let mut full = [0u8; 64];
     let mut l: usize = 0;
@@ -96,8 +96,8 @@ pub fn barkers(octets: &[u8], at: usize, m: usize, numbers: &mut [u8; 64], leads
 pub fn fives(octets: &[u8], at: usize, m: usize, numbers: &mut [u8; 64], leads: &mut [u32; 64])
     requires { (m ≤ 64) × (at + 8 * m ≤ length octets.now)
         × (length numbers.old ≡ 64) × (length leads.old ≡ 64) }
-    ensures numbers { DecidedAt Rate.Five (hardRecording octets.now) at m numbers.new }
-    ensures leads { LeadsAt Rate.Five (hardRecording octets.now) at m leads.new }
+    ensures numbers { DecidedAt Rate.Five (hard_recording octets.now) at m numbers.new }
+    ensures leads { LeadsAt Rate.Five (hard_recording octets.now) at m leads.new }
 {
     let mut full = [0u8; 64];
     let mut l: usize = 0;
@@ -125,8 +125,8 @@ fn put_column(i: [i8; 8], q: [i8; 8], l: usize, row: &mut [i8])
 // Up to sixteen symbols of 11 Mbit/s as columns of a row, in full chips.
 fn columns(octets: &[u8], at: usize, count: usize, row: &mut [i8])
     requires { (count ≤ 16) × (at + 8 * count ≤ length octets.now) × (length row.old ≡ 256) }
-    ensures row { Columns (hardColumn Axis.I octets.now at)
-        (hardColumn Axis.Q octets.now at) row.new count }
+    ensures row { Columns (hard_column Axis.I octets.now at)
+        (hard_column Axis.Q octets.now at) row.new count }
 {
     let mut l: usize = 0;
     while l < count {
@@ -145,8 +145,8 @@ fn columns(octets: &[u8], at: usize, count: usize, row: &mut [i8])
 pub fn elevens(octets: &[u8], at: usize, m: usize, numbers: &mut [u8; 64], leads: &mut [u32; 64])
     requires { (m ≤ 64) × (at + 8 * m ≤ length octets.now)
         × (length numbers.old ≡ 64) × (length leads.old ≡ 64) }
-    ensures numbers { DecidedAt Rate.Eleven (hardRecording octets.now) at m numbers.new }
-    ensures leads { LeadsAt Rate.Eleven (hardRecording octets.now) at m leads.new }
+    ensures numbers { DecidedAt Rate.Eleven (hard_recording octets.now) at m numbers.new }
+    ensures leads { LeadsAt Rate.Eleven (hard_recording octets.now) at m leads.new }
 {
     let mut row = [0i8; 256];
     let mut z = [0i16; 256];

@@ -16,27 +16,27 @@ use lib.Ieee.Exact.{HasValue}
 use lib.Ieee.Order.{transfer}
 use lib.Ieee.Back.{round_whole, positive_back}
 use Rattle.rules_choosing.specs.Keys.{bigger, lesser}
-use Rattle.choose_sums.proofs.KeyTops.{two-of, two-merge, second-le}
-use Rattle.choose_keys.specs.Floats.{keyFloat, largerFloat, smallerFloat, FloatTwo}
+use Rattle.choose_sums.proofs.KeyTops.{two_of_lem, two_merge, second_le}
+use Rattle.choose_keys.specs.Floats.{key_float, larger_float, smaller_float, FloatTwo}
 
 -- ---- the order of numbers is that of their values
-ltb-same : (p q a b : ℕ) → (a < b → p < q) → (b ≤ a → q ≤ p) → ltb p q ≡ ltb a b
-ltb-same p q a b f g = by (dec_lt a b)
+ltb_same : (p q a b : ℕ) → (a < b → p < q) → (b ≤ a → q ≤ p) → ltb p q ≡ ltb a b
+ltb_same p q a b f g = by (dec_lt a b)
   where
     by : Dec (a < b) → ltb p q ≡ ltb a b
     by (yes h) = lt-ltb p q (f h) ∙ sym (lt-ltb a b h)
     by (no h) = let k : b ≤ a = omega arith in le-ltb p q (g k) ∙ sym (le-ltb a b k)
 
-lt-of-values : (x y : Float) (a b : ℕ) → HasValue x false a 1 → HasValue y false b 1 → lt x y ≡ ltb a b
+lt_of_values : (x y : Float) (a b : ℕ) → HasValue x false a 1 → HasValue y false b 1 → lt x y ≡ ltb a b
 unfolding lt
-lt-of-values nan y a b p q = absurd p
-lt-of-values (inf s) y a b p q = absurd p
-lt-of-values (fin s m e) nan a b p q = absurd q
-lt-of-values (fin s m e) (inf t) a b p q = absurd q
-lt-of-values (fin true m e) (fin t n d) a b p q = absurd (subst T p.0 tt)
-lt-of-values (fin false m e) (fin true n d) a b p q = absurd (subst T q.0 tt)
-lt-of-values (fin false m e) (fin false n d) a b p q =
-    ltb-same (m * up e * down d) (n * up d * down e) a b strict
+lt_of_values nan y a b p q = absurd p
+lt_of_values (inf s) y a b p q = absurd p
+lt_of_values (fin s m e) nan a b p q = absurd q
+lt_of_values (fin s m e) (inf t) a b p q = absurd q
+lt_of_values (fin true m e) (fin t n d) a b p q = absurd (subst T p.0 tt)
+lt_of_values (fin false m e) (fin true n d) a b p q = absurd (subst T q.0 tt)
+lt_of_values (fin false m e) (fin false n d) a b p q =
+    ltb_same (m * up e * down d) (n * up d * down e) a b strict
     (λ h. transfer (n * up d) (m * up e) (down d) (down e) b a 1 1 (lit< tt) (lit< tt) q.1 p.1 (omega arith))
   where
     strict : a < b → m * up e * down d < n * up d * down e
@@ -51,33 +51,33 @@ lt-of-values (fin false m e) (fin false n d) a b p q =
             absurd (omega (arith, back))
 
 -- ---- a key's number
-value : (n : ℕ) → n < 8388608 → HasValue (keyFloat n) false n 1
+value : (n : ℕ) → n < 8388608 → HasValue (key_float n) false n 1
 unfolding of_int
 value n h = round_whole binary32 false n (omega arith)
 
-order : (x y : ℕ) → x < 8388608 → y < 8388608 → lt (keyFloat x) (keyFloat y) ≡ ltb x y
-order x y h g = lt-of-values (keyFloat x) (keyFloat y) x y (value x h) (value y g)
+order : (x y : ℕ) → x < 8388608 → y < 8388608 → lt (key_float x) (key_float y) ≡ ltb x y
+order x y h g = lt_of_values (key_float x) (key_float y) x y (value x h) (value y g)
 
 -- it may be made of the key, and gives it back
-pub may-float : (x : ℕ) → x < 8388608 → T (in_float binary32 (pos x))
+pub may_float : (x : ℕ) → x < 8388608 → T (in_float binary32 (pos x))
 unfolding in_float
-may-float x h = le→leb x 16777216 (omega arith)
+may_float x h = le→leb x 16777216 (omega arith)
 
-back : (x : ℕ) → x < 8388608 → T (in_signed binary32 31 (keyFloat x)) × (to_signed 31 (keyFloat x) ≡ pos x)
-back x h = positive_back binary32 31 x (may-float x h) (omega arith)
+back : (x : ℕ) → x < 8388608 → T (in_signed binary32 31 (key_float x)) × (to_signed 31 (key_float x) ≡ pos x)
+back x h = positive_back binary32 31 x (may_float x h) (omega arith)
 
 -- ---- the larger and the smaller of two
-larger-is : (x y : ℕ) → x < 8388608 → y < 8388608 → largerFloat (keyFloat x) (keyFloat y) ≡ keyFloat (bigger x y)
-larger-is x y h g = (λ i. cond (order x y h g i) (keyFloat y) (keyFloat x)) ∙ by (ltb x y)
+larger_is : (x y : ℕ) → x < 8388608 → y < 8388608 → larger_float (key_float x) (key_float y) ≡ key_float (bigger x y)
+larger_is x y h g = (λ i. cond (order x y h g i) (key_float y) (key_float x)) ∙ by (ltb x y)
   where
-    by : (t : Bool) → cond t (keyFloat y) (keyFloat x) ≡ keyFloat (cond t y x)
+    by : (t : Bool) → cond t (key_float y) (key_float x) ≡ key_float (cond t y x)
     by true = refl
     by false = refl
 
-smaller-is : (x y : ℕ) → x < 8388608 → y < 8388608 → smallerFloat (keyFloat x) (keyFloat y) ≡ keyFloat (lesser x y)
-smaller-is x y h g = (λ i. cond (order x y h g i) (keyFloat x) (keyFloat y)) ∙ by (ltb x y)
+smaller_is : (x y : ℕ) → x < 8388608 → y < 8388608 → smaller_float (key_float x) (key_float y) ≡ key_float (lesser x y)
+smaller_is x y h g = (λ i. cond (order x y h g i) (key_float x) (key_float y)) ∙ by (ltb x y)
   where
-    by : (t : Bool) → cond t (keyFloat x) (keyFloat y) ≡ keyFloat (cond t x y)
+    by : (t : Bool) → cond t (key_float x) (key_float y) ≡ key_float (cond t x y)
     by true = refl
     by false = refl
 
@@ -89,54 +89,54 @@ either n x y h g = by (ltb x y)
     by false = (h, g)
 
 -- ---- the two largest
-pub float-two : (k : ℕ → ℕ) (a : ℕ) {f s : Float} → k a < 8388608 → k (suc a) < 8388608
-    → (f ≡ largerFloat (keyFloat (k a)) (keyFloat (k (suc a))))
-    × (s ≡ smallerFloat (keyFloat (k a)) (keyFloat (k (suc a)))) → FloatTwo k a (suc (suc a)) f s
-float-two k a h g e = record {
+pub float_two : (k : ℕ → ℕ) (a : ℕ) {f s : Float} → k a < 8388608 → k (suc a) < 8388608
+    → (f ≡ larger_float (key_float (k a)) (key_float (k (suc a))))
+    × (s ≡ smaller_float (key_float (k a)) (key_float (k (suc a)))) → FloatTwo k a (suc (suc a)) f s
+float_two k a h g e = record {
   x = bigger (k a) (k (suc a));
   y = lesser (k a) (k (suc a));
-  is_x = e.0 ∙ larger-is (k a) (k (suc a)) h g;
-  is_y = e.1 ∙ smaller-is (k a) (k (suc a)) h g;
+  is_x = e.0 ∙ larger_is (k a) (k (suc a)) h g;
+  is_y = e.1 ∙ smaller_is (k a) (k (suc a)) h g;
   few = (either 8388608 (k a) (k (suc a)) h g).0;
-  two = two-of k a;
+  two = two_of_lem k a;
 }
 
-pub float-merge : {k : ℕ → ℕ} {a b c : ℕ} {d e d' e' f s : Float} → FloatTwo k a b d e → FloatTwo k b c d' e'
-    → (f ≡ largerFloat d d') × (s ≡ largerFloat (smallerFloat d d') (largerFloat e e')) → FloatTwo k a c f s
-float-merge t u h =
+pub float_merge : {k : ℕ → ℕ} {a b c : ℕ} {d e d' e' f s : Float} → FloatTwo k a b d e → FloatTwo k b c d' e'
+    → (f ≡ larger_float d d') × (s ≡ larger_float (smaller_float d d') (larger_float e e')) → FloatTwo k a c f s
+float_merge t u h =
     let low = either 8388608 t.x u.x t.few u.few in
-    let yt : t.y < 8388608 = omega (arith, t.few, second-le t.two) in
-    let yu : u.y < 8388608 = omega (arith, u.few, second-le u.two) in
+    let yt : t.y < 8388608 = omega (arith, t.few, second_le t.two) in
+    let yu : u.y < 8388608 = omega (arith, u.few, second_le u.two) in
     record {
       x = bigger t.x u.x;
       y = bigger (lesser t.x u.x) (bigger t.y u.y);
-      is_x = h.0 ∙ (λ i. largerFloat (t.is_x i) (u.is_x i)) ∙ larger-is t.x u.x t.few u.few;
+      is_x = h.0 ∙ (λ i. largerFloat (t.is_x i) (u.is_x i)) ∙ larger_is t.x u.x t.few u.few;
       is_y =
           h.1
-          ∙ (λ i. largerFloat (smallerFloat (t.is_x i) (u.is_x i)) (largerFloat (t.is_y i) (u.is_y i)))
-          ∙ (λ i. largerFloat (smaller-is t.x u.x t.few u.few i) (larger-is t.y u.y yt yu i))
-          ∙ larger-is (lesser t.x u.x) (bigger t.y u.y) low.1 (either 8388608 t.y u.y yt yu).0;
+          ∙ (λ i. largerFloat (smaller_float (t.is_x i) (u.is_x i)) (larger_float (t.is_y i) (u.is_y i)))
+          ∙ (λ i. largerFloat (smaller_is t.x u.x t.few u.few i) (larger_is t.y u.y yt yu i))
+          ∙ larger_is (lesser t.x u.x) (bigger t.y u.y) low.1 (either 8388608 t.y u.y yt yu).0;
       few = low.0;
-      two = two-merge t.two u.two;
+      two = two_merge t.two u.two;
     }
 
 -- ---- the keys back
 abbrev Asked : Float → Type 0
 Asked v = T (in_signed binary32 31 v) × T (non_neg (to_signed 31 v)) × (nat_abs (to_signed 31 v) < 8388608)
 
-asked : (x : ℕ) → x < 8388608 → Asked (keyFloat x)
+asked : (x : ℕ) → x < 8388608 → Asked (key_float x)
 asked x h = let b = back x h in (b.0, rw b.1 tt, rw b.1 h)
 
 module _ {k : ℕ → ℕ} {a b : ℕ} {f s : Float} (t : FloatTwo k a b f s) where
   below : t.y < 8388608
-  below = omega (arith, t.few, second-le t.two)
+  below = omega (arith, t.few, second_le t.two)
 
   -- what is asked of a number, and what comes of it
-  pub first-asks : Asked f
-  first-asks = rw t.is_x (asked t.x t.few)
+  pub first_asks : Asked f
+  first_asks = rw t.is_x (asked t.x t.few)
 
-  pub second-asks : Asked s
-  second-asks = rw t.is_y (asked t.y below)
+  pub second_asks : Asked s
+  second_asks = rw t.is_y (asked t.y below)
 
   pub first_back : nat_abs (to_signed 31 f) ≡ t.x
   first_back = ap (λ (v : Float). nat_abs (to_signed 31 v)) t.is_x ∙ ap nat_abs (back t.x t.few).1

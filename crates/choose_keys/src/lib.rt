@@ -8,8 +8,8 @@ ghost use Rattle.std.specs.Float.{binary32};
 ghost use Rattle.std.specs.Float.Ieee.{of_int, in_float, in_signed, to_signed};
 ghost use Rattle.base.specs.Whole.{Within};
 ghost use Rattle.rules_choosing.specs.Scores.{number5};
-ghost use Rattle.rules_choosing.specs.Keys.{larger, smaller, keyOf};
-ghost use Rattle.choose_keys.specs.Floats.{keyFloat, largerFloat, smallerFloat};
+ghost use Rattle.rules_choosing.specs.Keys.{larger, smaller, key_of};
+ghost use Rattle.choose_keys.specs.Floats.{key_float, larger_float, smaller_float};
 
 // Two keys, the larger first, as f32: one instruction compares four of them, where i32 need several.
 #[derive(Drop)]
@@ -43,7 +43,7 @@ pub fn min(a: i32, b: i32) -> i32
 // The better key of the words n and n + 2 w, whose scores are s and -s.
 fn key(w: u8, s: i32, n: u8) -> i32
     requires { (w ≤ 4) × Within 90112 s × (n < w + w) }
-    ensures answer { result ≡ pos (keyOf (w + w) n s) }
+    ensures answer { result ≡ pos (key_of (w + w) n s) }
 {
     let m = w as i32;
     abs(4 * m * s + m) + ((3 * w - 1 - n) as i32)
@@ -68,14 +68,14 @@ pub fn key_of(x: f32) -> u32
 
 // The larger of two keys as f32.
 fn larger(a: f32, b: f32) -> f32
-    ensures answer { result ≡ largerFloat a b }
+    ensures answer { result ≡ larger_float a b }
 {
     if a < b { b } else { a }
 }
 
 // The smaller of them.
 fn smaller(a: f32, b: f32) -> f32
-    ensures answer { result ≡ smallerFloat a b }
+    ensures answer { result ≡ smaller_float a b }
 {
     if a < b { a } else { b }
 }
@@ -83,8 +83,8 @@ fn smaller(a: f32, b: f32) -> f32
 // The keys of two neighbours, the larger first: the words n and n + 1, whose scores are s and t, and their opposites.
 pub fn two_keys(w: u8, s: i32, n: u8, t: i32) -> Two
     requires { (w ≤ 4) × Within 90112 s × Within 90112 t × (n + 1 < w + w) }
-    ensures answer { (result.first ≡ largerFloat (keyFloat (keyOf (w + w) n s)) (keyFloat (keyOf (w + w) (n + 1) t)))
-        × (result.second ≡ smallerFloat (keyFloat (keyOf (w + w) n s)) (keyFloat (keyOf (w + w) (n + 1) t))) }
+    ensures answer { (result.first ≡ larger_float (key_float (key_of (w + w) n s)) (key_float (key_of (w + w) (n + 1) t)))
+        × (result.second ≡ smaller_float (key_float (key_of (w + w) n s)) (key_float (key_of (w + w) (n + 1) t))) }
 {
     let a = float_of(key(w, s, n));
     let b = float_of(key(w, t, n + 1));
@@ -96,9 +96,9 @@ pub fn two_keys(w: u8, s: i32, n: u8, t: i32) -> Two
 
 // The two largest of what a and b are the two largest of.
 pub fn merge(a: Two, b: Two) -> Two
-    ensures answer { (result.first ≡ largerFloat a.first b.first)
+    ensures answer { (result.first ≡ larger_float a.first b.first)
         × (result.second ≡
-        largerFloat (smallerFloat a.first b.first) (largerFloat a.second b.second)) }
+        larger_float (smaller_float a.first b.first) (larger_float a.second b.second)) }
 {
     let low = smaller(a.first, b.first);
     let other = larger(a.second, b.second);

@@ -1,8 +1,8 @@
 -- Symbols put into a row as columns, once for numbers of any width.
---     column-none, column-more      the chips of a column: before the loop, one chip more
---     columns-none, columns-more    the symbols of a row: before the loop, one column more
---     zeros_within, column-within   a row of zeros has small numbers, and a row that has stays so
---     hard-column, soft-column      a column is the recording's symbol: in full chips, in counts
+--     column_none, column_more      the chips of a column: before the loop, one chip more
+--     columns_none, columns_more    the symbols of a row: before the loop, one column more
+--     zeros_within, column_within   a row of zeros has small numbers, and a row that has stays so
+--     hard_column_lem, soft_column_lem      a column is the recording's symbol: in full chips, in counts
 -- Assumes nothing.
 use mathlib.Core.Path.{◌≡◌, refl, sym, ap, ◌∙◌, subst}
 use mathlib.Core.List.{List, map}
@@ -25,17 +25,17 @@ use lib.Seq.{get_or-set_same, get_or-set_other}
 use lib.IntN.{ℤ, pos}
 use lib.Ieee.{Float}
 use Rattle.base.specs.Whole.{Within}
-use Rattle.base.proofs.Whole.{within-zero}
-use Rattle.base.proofs.Tables.{length-tabulate, tabulate-ext, as-table}
+use Rattle.base.proofs.Whole.{within_zero}
+use Rattle.base.proofs.Tables.{length_tabulate, tabulate_ext, as_table}
 use Rattle.choose_axes.specs.declared.Axis.TheVariants.{I, Q}
 use Rattle.choose_axes.specs.Axes.{unit_of}
-use Rattle.rules_chips.specs.Chips.{takenCounts, softRecording}
+use Rattle.rules_chips.specs.Chips.{taken_counts, soft_recording}
 use Rattle.rules_choosing.specs.Scores.{RowWithin}
-use Rattle.choose_sums.specs.Sums.{rows, everyRow}
-use Rattle.choose_sums.proofs.Apart.{counts-eight, units-rows}
-use Rattle.choose_recorded.specs.Recorded.{hardPart, softPart}
-use Rattle.choose_recorded.specs.Columns.{ColumnSet, Columns, hardColumn, softColumn}
-use Rattle.choose_recorded.proofs.Gathered.{gathered-soft}
+use Rattle.choose_sums.specs.Sums.{rows, every_row}
+use Rattle.choose_sums.proofs.Apart.{counts_eight, units_rows}
+use Rattle.choose_recorded.specs.Recorded.{hard_part, soft_part}
+use Rattle.choose_recorded.specs.Columns.{ColumnSet, Columns, hard_column, soft_column}
+use Rattle.choose_recorded.proofs.Gathered.{gathered_soft}
 
 abbrev at : List ℤ → ℕ → ℤ
 at row j = get_or row j (pos 0)
@@ -45,21 +45,21 @@ module _ (row : List ℤ) (i q : ℕ) (v w : ℤ) where
   abbrev two : List ℤ
   two = set (set row i v) q w
 
-  two-long : length two ≡ length row
-  two-long = length-set (set row i v) q w ∙ length-set row i v
+  two_long : length two ≡ length row
+  two_long = length-set (set row i v) q w ∙ length-set row i v
 
-  two-first : i < length row → (i ≡ q → ⊥) → at two i ≡ v
-  two-first h d = get_or-set_other (set row i v) q i w (pos 0) d ∙ get_or-set_same row i v (pos 0) h
+  two_first : i < length row → (i ≡ q → ⊥) → at two i ≡ v
+  two_first h d = get_or-set_other (set row i v) q i w (pos 0) d ∙ get_or-set_same row i v (pos 0) h
 
-  two-second : q < length row → at two q ≡ w
-  two-second h = get_or-set_same (set row i v) q w (pos 0) (omega (arith, length-set row i v))
+  two_second : q < length row → at two q ≡ w
+  two_second h = get_or-set_same (set row i v) q w (pos 0) (omega (arith, length-set row i v))
 
-  two-other : (j : ℕ) → (j ≡ i → ⊥) → (j ≡ q → ⊥) → at two j ≡ at row j
-  two-other j d e = get_or-set_other (set row i v) q j w (pos 0) e ∙ get_or-set_other row i j v (pos 0) d
+  two_other : (j : ℕ) → (j ≡ i → ⊥) → (j ≡ q → ⊥) → at two j ≡ at row j
+  two_other j d e = get_or-set_other (set row i v) q j w (pos 0) e ∙ get_or-set_other row i j v (pos 0) d
 
 -- ---- a column, chip by chip
-pub column-none : (x y : List ℤ) (l : ℕ) (row : List ℤ) → ColumnSet x y l row 0 row
-column-none x y l row = record {
+pub column_none : (x y : List ℤ) (l : ℕ) (row : List ℤ) → ColumnSet x y l row 0 row
+column_none x y l row = record {
   long = refl;
   first = λ k h. absurd (omega arith);
   second = λ k h. absurd (omega arith);
@@ -73,26 +73,26 @@ module _ {x y : List ℤ} {l : ℕ} {before : List ℤ} {n : ℕ} {row : List �
 
   first_next : (k : ℕ) → k < n + 1 → Dec (k < n) → at next (l + 32 * k) ≡ at x k
   first_next k h (yes p) =
-      two-other row (32 * n + l) (32 * n + l + 16) v w (l + 32 * k) (λ e. omega arith) (λ e. omega arith) ∙ c.first k p
+      two_other row (32 * n + l) (32 * n + l + 16) v w (l + 32 * k) (λ e. omega arith) (λ e. omega arith) ∙ c.first k p
   first_next k h (no p) =
       let e : n ≡ k = omega arith in
       let d : 32 * n + l ≡ l + 32 * k = omega arith in
       (λ t. at next (sym d t))
-      ∙ two-first row (32 * n + l) (32 * n + l + 16) v w (omega (arith, c.long)) (λ g. omega arith) ∙ ev ∙ ap (at x) e
+      ∙ two_first row (32 * n + l) (32 * n + l + 16) v w (omega (arith, c.long)) (λ g. omega arith) ∙ ev ∙ ap (at x) e
 
-  second-next : (k : ℕ) → k < n + 1 → Dec (k < n) → at next (16 + l + 32 * k) ≡ at y k
-  second-next k h (yes p) =
-      two-other row (32 * n + l) (32 * n + l + 16) v w (16 + l + 32 * k) (λ e. omega arith) (λ e. omega arith)
+  second_next : (k : ℕ) → k < n + 1 → Dec (k < n) → at next (16 + l + 32 * k) ≡ at y k
+  second_next k h (yes p) =
+      two_other row (32 * n + l) (32 * n + l + 16) v w (16 + l + 32 * k) (λ e. omega arith) (λ e. omega arith)
       ∙ c.second k p
-  second-next k h (no p) =
+  second_next k h (no p) =
       let e : n ≡ k = omega arith in
       let d : 32 * n + l + 16 ≡ 16 + l + 32 * k = omega arith in
-      (λ t. at next (sym d t)) ∙ two-second row (32 * n + l) (32 * n + l + 16) v w (omega (arith, c.long)) ∙ ew
+      (λ t. at next (sym d t)) ∙ two_second row (32 * n + l) (32 * n + l + 16) v w (omega (arith, c.long)) ∙ ew
       ∙ ap (at y) e
 
-  pub column-more : ColumnSet x y l before (n + 1) (set (set row (32 * n + l) v) (32 * n + l + 16) w)
-  column-more = record {
-    long = two-long row (32 * n + l) (32 * n + l + 16) v w ∙ c.long;
+  pub column_more : ColumnSet x y l before (n + 1) (set (set row (32 * n + l) v) (32 * n + l + 16) w)
+  column_more = record {
+    long = two_long row (32 * n + l) (32 * n + l + 16) v w ∙ c.long;
     first = λ k h. first_next k h (dec_lt k n);
     second = λ k h. second-next k h (dec_lt k n);
     kept = λ j h. two-other row (32 * n + l) (32 * n + l + 16) v w j (λ e. h (omega arith)) (λ e. h (omega arith))
@@ -100,68 +100,68 @@ module _ {x y : List ℤ} {l : ℕ} {before : List ℤ} {n : ℕ} {row : List �
   }
 
 -- ---- a row, column by column
-pub columns-none : (x y : ℕ → List ℤ) (row : List ℤ) → length row ≡ 256 → Columns x y row 0
-columns-none x y row e =
+pub columns_none : (x y : ℕ → List ℤ) (row : List ℤ) → length row ≡ 256 → Columns x y row 0
+columns_none x y row e =
     record { long = e; first = λ s h. absurd (omega arith); second = λ s h. absurd (omega arith) }
 
 -- a column that was there, and one that was set
-same-column : {u v row after : List ℤ} {n : ℕ} → ColumnSet u v n row 8 after → (from : ℕ) → (from % 16 ≡ n → ⊥)
-    → everyRow after from 8 ≡ everyRow row from 8
-same-column c from h = tabulate-ext _ _ 8 (λ k l. c.kept (from + 32 * k) (λ e. h (omega arith)))
+same_column : {u v row after : List ℤ} {n : ℕ} → ColumnSet u v n row 8 after → (from : ℕ) → (from % 16 ≡ n → ⊥)
+    → every_row after from 8 ≡ every_row row from 8
+same_column c from h = tabulate_ext _ _ 8 (λ k l. c.kept (from + 32 * k) (λ e. h (omega arith)))
 
-set-column : (after z : List ℤ) (from : ℕ) → length z ≡ 8 → ((k : ℕ) → k < 8 → at after (from + 32 * k) ≡ at z k)
-    → everyRow after from 8 ≡ z
-set-column after z from e h = tabulate-ext _ (at z) 8 h ∙ sym (as-table z 8 (pos 0) e)
+set_column : (after z : List ℤ) (from : ℕ) → length z ≡ 8 → ((k : ℕ) → k < 8 → at after (from + 32 * k) ≡ at z k)
+    → every_row after from 8 ≡ z
+set_column after z from e h = tabulate_ext _ (at z) 8 h ∙ sym (as_table z 8 (pos 0) e)
 
-pub columns-more : {x y : ℕ → List ℤ} {row after u v : List ℤ} {n : ℕ} → Columns x y row n → n < 16
+pub columns_more : {x y : ℕ → List ℤ} {row after u v : List ℤ} {n : ℕ} → Columns x y row n → n < 16
     → ColumnSet u v n row 8 after → length u ≡ 8 → length v ≡ 8 → u ≡ x n → v ≡ y n → Columns x y after (n + 1)
-columns-more {x} {y} {row} {after} {u} {v} {n} b few c lu lv eu ev = record {
+columns_more {x} {y} {row} {after} {u} {v} {n} b few c lu lv eu ev = record {
   long = c.long ∙ b.long;
   first = λ s h. by_first s h (dec_lt s n);
   second = λ s h. by-second s h (dec_lt s n);
 }
   where
-    by_first : (s : ℕ) → s < n + 1 → Dec (s < n) → everyRow after s 8 ≡ x s
-    by_first s h (yes p) = same-column c s (λ e. omega arith) ∙ b.first s p
+    by_first : (s : ℕ) → s < n + 1 → Dec (s < n) → every_row after s 8 ≡ x s
+    by_first s h (yes p) = same_column c s (λ e. omega arith) ∙ b.first s p
     by_first s h (no p) =
         let e : n ≡ s = omega arith in
-        subst (λ (m : ℕ). everyRow after m 8 ≡ x m) e (set-column after u n lu c.first ∙ eu)
+        subst (λ (m : ℕ). everyRow after m 8 ≡ x m) e (set_column after u n lu c.first ∙ eu)
 
-    by-second : (s : ℕ) → s < n + 1 → Dec (s < n) → everyRow after (16 + s) 8 ≡ y s
-    by-second s h (yes p) = same-column c (16 + s) (λ e. omega arith) ∙ b.second s p
-    by-second s h (no p) =
+    by_second : (s : ℕ) → s < n + 1 → Dec (s < n) → every_row after (16 + s) 8 ≡ y s
+    by_second s h (yes p) = same_column c (16 + s) (λ e. omega arith) ∙ b.second s p
+    by_second s h (no p) =
         let e : n ≡ s = omega arith in
-        subst (λ (m : ℕ). everyRow after (16 + m) 8 ≡ y m) e (set-column after v (16 + n) lv c.second ∙ ev)
+        subst (λ (m : ℕ). everyRow after (16 + m) 8 ≡ y m) e (set_column after v (16 + n) lv c.second ∙ ev)
 
 -- ---- small numbers
 pub zeros_within : (b n : ℕ) → RowWithin b (replicate n (pos 0))
 zeros_within b n = record { at = λ j. by j (dec_lt j n) }
   where
     by : (j : ℕ) → Dec (j < n) → Within b (at (replicate n (pos 0)) j)
-    by j (yes h) = rw (get_or-replicate n j (pos 0) (pos 0) h) (within-zero b)
+    by j (yes h) = rw (get_or-replicate n j (pos 0) (pos 0) h) (within_zero b)
     by j (no h) =
         rw (get_or-eq_default (replicate n (pos 0)) (pos 0) {n = j} (omega (arith, length-replicate n (pos 0))))
-        (within-zero b)
+        (within_zero b)
 
 module _ {b : ℕ} {x y : List ℤ} {l : ℕ} {before after : List ℤ} (all : length before ≡ 256)
     (c : ColumnSet x y l before 8 after) (wx : RowWithin b x) (wy : RowWithin b y) (w : RowWithin b before) where
   -- in the column, on either axis; elsewhere; past the row
-  column-small : (j : ℕ) → j % 16 ≡ l → j < 256 → Dec (j % 32 < 16) → Within b (at after j)
-  column-small j e h (yes p) =
+  column_small : (j : ℕ) → j % 16 ≡ l → j < 256 → Dec (j % 32 < 16) → Within b (at after j)
+  column_small j e h (yes p) =
       let d : l + 32 * (j / 32) ≡ j = omega arith in
       subst (λ (m : ℕ). Within b (at after m)) d (rw (c.first (j / 32) (omega arith)) (wx.at (j / 32)))
-  column-small j e h (no p) =
+  column_small j e h (no p) =
       let d : 16 + l + 32 * (j / 32) ≡ j = omega arith in
       subst (λ (m : ℕ). Within b (at after m)) d (rw (c.second (j / 32) (omega arith)) (wy.at (j / 32)))
 
   small_at : (j : ℕ) → Dec (j < 256) → Dec (j % 16 < l) → Dec (l < j % 16) → Within b (at after j)
-  small_at j (yes p) (no q) (no r) = column-small j (omega arith) p (dec_lt (j % 32) 16)
+  small_at j (yes p) (no q) (no r) = column_small j (omega arith) p (dec_lt (j % 32) 16)
   small_at j (yes p) (yes q) d = rw (c.kept j (λ e. omega arith)) (w.at j)
   small_at j (yes p) (no q) (yes r) = rw (c.kept j (λ e. omega arith)) (w.at j)
-  small_at j (no p) d e = rw (get_or-eq_default after (pos 0) {n = j} (omega (arith, c.long))) (within-zero b)
+  small_at j (no p) d e = rw (get_or-eq_default after (pos 0) {n = j} (omega (arith, c.long))) (within_zero b)
 
-  pub column-within : RowWithin b after
-  column-within = record { at = λ j. small_at j (dec_lt j 256) (dec_lt (j % 16) l) (dec_lt l (j % 16)) }
+  pub column_within : RowWithin b after
+  column_within = record { at = λ j. small_at j (dec_lt j 256) (dec_lt (j % 16) l) (dec_lt l (j % 16)) }
 
 -- ---- what a column is: n symbols stand in a row, the first being the recording's symbol l from a place
 module _ (at l n s : ℕ) (there : s < n) where
@@ -169,24 +169,24 @@ module _ (at l n s : ℕ) (there : s < n) where
   on : at + 8 * l + 8 * s ≡ at + 8 * (l + s)
   on = omega arith
 
-  column-is : {x y : ℕ → List ℤ} {row : List ℤ} → Columns x y row n
-      → rows (everyRow row s 8) (everyRow row (16 + s) 8) ≡ rows (x s) (y s)
-  column-is c = λ i. rows (c.first s there i) (c.second s there i)
+  column_is : {x y : ℕ → List ℤ} {row : List ℤ} → Columns x y row n
+      → rows (every_row row s 8) (every_row row (16 + s) 8) ≡ rows (x s) (y s)
+  column_is c = λ i. rows (c.first s there i) (c.second s there i)
 
-  pub hard-column : {row : List ℤ} (xs : List ℕ)
-      → Columns (hardColumn I xs (at + 8 * l)) (hardColumn Q xs (at + 8 * l)) row n
-      → rows (everyRow row s 8) (everyRow row (16 + s) 8) ≡ map unit_of (hardPart xs (at + 8 * (l + s)) 8)
-  hard-column xs c =
-      column-is c ∙ units-rows (hardPart xs (at + 8 * l + 8 * s) 8) (length-tabulate _ 8)
-      ∙ ap (λ (m : ℕ). map unit_of (hardPart xs m 8)) on
+  pub hard_column_lem : {row : List ℤ} (xs : List ℕ)
+      → Columns (hard_column I xs (at + 8 * l)) (hard_column Q xs (at + 8 * l)) row n
+      → rows (every_row row s 8) (every_row row (16 + s) 8) ≡ map unit_of (hard_part xs (at + 8 * (l + s)) 8)
+  hard_column_lem xs c =
+      column_is c ∙ units_rows (hard_part xs (at + 8 * l + 8 * s) 8) (length_tabulate _ 8)
+      ∙ ap (λ (m : ℕ). map unit_of (hard_part xs m 8)) on
 
-  pub soft-column : {row : List ℤ} (xs ys : List Float)
-      → Columns (softColumn I xs ys (at + 8 * l)) (softColumn Q xs ys (at + 8 * l)) row n
+  pub soft_column_lem : {row : List ℤ} (xs ys : List Float)
+      → Columns (soft_column I xs ys (at + 8 * l)) (soft_column Q xs ys (at + 8 * l)) row n
       → at + 8 * l + 8 * n ≤ length xs → at + 8 * l + 8 * n ≤ length ys
-      → rows (everyRow row s 8) (everyRow row (16 + s) 8)
-      ≡ map takenCounts (take 8 (drop (at + 8 * (l + s)) (softRecording xs ys)))
-  soft-column xs ys c h k =
+      → rows (every_row row s 8) (every_row row (16 + s) 8)
+      ≡ map taken_counts (take 8 (drop (at + 8 * (l + s)) (soft_recording xs ys)))
+  soft_column_lem xs ys c h k =
       let from = at + 8 * l + 8 * s in
-      column-is c ∙ counts-eight (softPart xs ys from 8) (length-tabulate _ 8)
-      ∙ gathered-soft 8 xs ys from (omega arith, omega arith)
-      ∙ ap (λ (m : ℕ). map takenCounts (take 8 (drop m (softRecording xs ys)))) on
+      column_is c ∙ counts_eight (soft_part xs ys from 8) (length_tabulate _ 8)
+      ∙ gathered_soft 8 xs ys from (omega arith, omega arith)
+      ∙ ap (λ (m : ℕ). map taken_counts (take 8 (drop m (soft_recording xs ys)))) on

@@ -10,12 +10,12 @@ use lib.Seq.{get_or-set_same, get_or-set_other}
 use Rattle.choose_recorded.specs.Recorded.{Put}
 
 -- ---- one number more
-pub put-none : {f : ℕ → ℕ} {l : ℕ} (ns : List ℕ) → length ns ≡ 64 → Put f l ns ns 0
-put-none ns e = record { long = e; kept = λ j h. refl; each = λ s h. absurd (omega arith) }
+pub put_none : {f : ℕ → ℕ} {l : ℕ} (ns : List ℕ) → length ns ≡ 64 → Put f l ns ns 0
+put_none ns e = record { long = e; kept = λ j h. refl; each = λ s h. absurd (omega arith) }
 
-pub put-more : {f : ℕ → ℕ} {l : ℕ} {before after : List ℕ} {s : ℕ} (v : ℕ) → l + s < 64 → v ≡ f s
+pub put_more : {f : ℕ → ℕ} {l : ℕ} {before after : List ℕ} {s : ℕ} (v : ℕ) → l + s < 64 → v ≡ f s
     → Put f l before after s → Put f l before (set after (l + s) v) (s + 1)
-put-more {f} {l} {before} {after} {s} v h e p = record {
+put_more {f} {l} {before} {after} {s} v h e p = record {
   long = length-set after (l + s) v ∙ p.long;
   kept = λ j g. get_or-set_other after (l + s) j v 0 (λ q. omega arith) ∙ p.kept j g;
   each = λ t g. by t g (dec_lt t s);
@@ -29,6 +29,6 @@ put-more {f} {l} {before} {after} {s} v h e p = record {
         (get_or-set_same after (l + s) v 0 (omega (arith, p.long)) ∙ e)
 
 -- by another rule that answers the same
-pub put-ext : {f g : ℕ → ℕ} {l : ℕ} {before after : List ℕ} {n : ℕ} → Put f l before after n
+pub put_ext : {f g : ℕ → ℕ} {l : ℕ} {before after : List ℕ} {n : ℕ} → Put f l before after n
     → ((s : ℕ) → s < n → f s ≡ g s) → Put g l before after n
-put-ext p e = record { long = p.long; kept = p.kept; each = λ s h. p.each s h ∙ e s h }
+put_ext p e = record { long = p.long; kept = p.kept; each = λ s h. p.each s h ∙ e s h }

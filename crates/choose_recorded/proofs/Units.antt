@@ -7,29 +7,29 @@ use lib.Dec.{eqb}
 use lib.ListN.{get_or}
 use borrow.Author.Tests.{eqb-true}
 use Rattle.base.specs.Tables.{tabulate}
-use Rattle.base.proofs.Tables.{tabulate-ext, map-tabulate, length-tabulate, get_d_tabulate}
+use Rattle.base.proofs.Tables.{tabulate_ext, map_tabulate, length_tabulate, get_or_tabulate}
 use Rattle.choose_axes.specs.declared.Axis.{Axis}
 use Rattle.rules_chips.specs.declared.Chip.{Chip}
 use Rattle.rules_chips.specs.declared.Chip.TheVariants.{Lost, Hard}
-use Rattle.rules_chips.specs.Chips.{fullChip, hardChip}
-use Rattle.choose_axes.specs.Axes.{along, octetOf, unit_of, unitsAlong}
-use Rattle.choose_recorded.specs.Recorded.{hardPart}
+use Rattle.rules_chips.specs.Chips.{full_chip, hard_chip}
+use Rattle.choose_axes.specs.Axes.{along, octet_of, unit_of, units_along}
+use Rattle.choose_recorded.specs.Recorded.{hard_part}
 
-octet-back : (x : ℕ) → octetOf (hardChip x) ≡ x
-octet-back x = by (eqb x 4) (eqb-true x 4)
+octet_back : (x : ℕ) → octet_of (hard_chip x) ≡ x
+octet_back x = by (eqb x 4) (eqb-true x 4)
   where
-    by : (b : Bool) → (b ≡ true → x ≡ 4) → octetOf (cond b Lost (Hard x)) ≡ x
+    by : (b : Bool) → (b ≡ true → x ≡ 4) → octet_of (cond b Lost (Hard x)) ≡ x
     by true e = let f : x ≡ 4 = e refl in rw f refl
     by false e = refl
 
-pub units-part : (axis : Axis) (xs : List ℕ) (at n : ℕ)
-    → unitsAlong axis (hardPart xs at n) ≡ tabulate (λ j. along axis (fullChip 1 (get_or xs (at + j) 0))) n
-units-part axis xs at n =
-    map-tabulate (λ c. along axis (unit_of c)) (hardPart xs at n) n Lost (length-tabulate chipAt n)
-    ∙ tabulate-ext (λ k. along axis (unit_of (get_or (hardPart xs at n) k Lost)))
-    (λ j. along axis (fullChip 1 (get_or xs (at + j) 0))) n
-    (λ j l. ap (λ (c : Chip). along axis (unit_of c)) (get_d_tabulate chipAt n j Lost l)
-    ∙ ap (λ (p : ℕ). along axis (fullChip 1 p)) (octet-back (get_or xs (at + j) 0)))
+pub units_part : (axis : Axis) (xs : List ℕ) (at n : ℕ)
+    → units_along axis (hard_part xs at n) ≡ tabulate (λ j. along axis (full_chip 1 (get_or xs (at + j) 0))) n
+units_part axis xs at n =
+    map_tabulate (λ c. along axis (unit_of c)) (hard_part xs at n) n Lost (length_tabulate chip_at n)
+    ∙ tabulate_ext (λ k. along axis (unit_of (get_or (hard_part xs at n) k Lost)))
+    (λ j. along axis (full_chip 1 (get_or xs (at + j) 0))) n
+    (λ j l. ap (λ (c : Chip). along axis (unit_of c)) (get_or_tabulate chip_at n j Lost l)
+    ∙ ap (λ (p : ℕ). along axis (full_chip 1 p)) (octet_back (get_or xs (at + j) 0)))
   where
-    chipAt : ℕ → Chip
-    chipAt j = hardChip (get_or xs (at + j) 0)
+    chip_at : ℕ → Chip
+    chip_at j = hard_chip (get_or xs (at + j) 0)

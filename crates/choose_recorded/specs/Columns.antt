@@ -4,9 +4,9 @@
 -- working notion: of the code that chooses words; no promise needs it
 use Rattle.std.specs.Prelude.{◌≡◌, List, ℕ, ◌+◌, ◌*◌, ◌%◌, ◌<◌, length, get_or, ℤ, pos, Float}
 use Rattle.choose_axes.specs.declared.Axis.{Axis}
-use Rattle.choose_axes.specs.Axes.{countsAlong, unitsAlong}
-use Rattle.choose_sums.specs.Sums.{everyRow}
-use Rattle.choose_recorded.specs.Recorded.{hardPart, softPart}
+use Rattle.choose_axes.specs.Axes.{counts_along, units_along}
+use Rattle.choose_sums.specs.Sums.{every_row}
+use Rattle.choose_recorded.specs.Recorded.{hard_part, soft_part}
 
 -- the first n chips of column l are the numbers x of I and y of Q; the other columns of after are those of before
 pub record ColumnSet (x y : List ℤ) (l : ℕ) (before : List ℤ) (n : ℕ) (after : List ℤ) : Type 0 where
@@ -18,12 +18,12 @@ pub record ColumnSet (x y : List ℤ) (l : ℕ) (before : List ℤ) (n : ℕ) (a
 -- the first n columns of a row are symbols' numbers of I and of Q; of the others nothing is said
 pub record Columns (x y : ℕ → List ℤ) (row : List ℤ) (n : ℕ) : Type 0 where
   pub long : length row ≡ 256
-  pub first : (s : ℕ) → s < n → everyRow row s 8 ≡ x s
-  pub second : (s : ℕ) → s < n → everyRow row (16 + s) 8 ≡ y s
+  pub first : (s : ℕ) → s < n → every_row row s 8 ≡ x s
+  pub second : (s : ℕ) → s < n → every_row row (16 + s) 8 ≡ y s
 
 -- on one axis, symbol s of eight chips each from a place on: of hard chips in full chips, of soft ones in counts
-abbrev pub hardColumn : Axis → List ℕ → ℕ → ℕ → List ℤ
-hardColumn x octets at s = unitsAlong x (hardPart octets (at + 8 * s) 8)
+abbrev pub hard_column : Axis → List ℕ → ℕ → ℕ → List ℤ
+hard_column x octets at s = units_along x (hard_part octets (at + 8 * s) 8)
 
-abbrev pub softColumn : Axis → List Float → List Float → ℕ → ℕ → List ℤ
-softColumn x i q at s = countsAlong x (softPart i q (at + 8 * s) 8)
+abbrev pub soft_column : Axis → List Float → List Float → ℕ → ℕ → List ℤ
+soft_column x i q at s = counts_along x (soft_part i q (at + 8 * s) 8)

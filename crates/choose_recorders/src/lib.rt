@@ -1,11 +1,11 @@
 // Recorders: what reading asks of rows that are lent, whatever recorded them. A recorder is a variant here, its
 // chips in a crate of its own, and an arm in the functions below.
 ghost use Rattle.std.specs.Prelude.{◌≡◌, true, not, ◌+◌, ◌*◌, ◌-◌, ◌≤◌, ◌<◌, length, get_or, take, drop};
-ghost use Rattle.rules_rates.specs.Rates.{symbolChips};
-ghost use Rattle.rules_chips.specs.Chips.{unusable, isUnusable};
-ghost use Rattle.rules_reading.specs.Reading.{firstUnusable};
+ghost use Rattle.rules_rates.specs.Rates.{symbol_chips};
+ghost use Rattle.rules_chips.specs.Chips.{unusable, is_unusable};
+ghost use Rattle.rules_reading.specs.Reading.{first_unusable};
 ghost use Rattle.choose_recorders.specs.Rows.{lent};
-ghost use Rattle.choose_recorded.specs.Recorded.{whereFound, AllUsable, DecidedAt, LeadsAt};
+ghost use Rattle.choose_recorded.specs.Recorded.{where_found, AllUsable, DecidedAt, LeadsAt};
 
 use choose_recorded::Place;
 use rules_rates::Rate;
@@ -33,7 +33,7 @@ pub fn chip_count(rec: Recorder, octets: &[u8], bytes: &[i8], i: &[f32], q: &[f3
 // Whether the chip at a place is usable.
 fn usable_at(rec: Recorder, octets: &[u8], bytes: &[i8], i: &[f32], q: &[f32], at: usize) -> bool
     requires { at < length (lent rec octets bytes i q) }
-    ensures answer { result ≡ not (isUnusable (get_or
+    ensures answer { result ≡ not (is_unusable (get_or
         (lent rec octets.entry bytes.entry i.entry q.entry) at unusable)) }
 {
     match rec {
@@ -67,9 +67,9 @@ fn skip_clean(
     to: usize,
 ) -> usize
     requires { to ≤ length (lent rec octets bytes i q) }
-    ensures answer { firstUnusable from (take (to - from) (drop from
+    ensures answer { first_unusable from (take (to - from) (drop from
         (lent rec octets.entry bytes.entry i.entry q.entry)))
-        ≡ firstUnusable result (take (to - result) (drop result
+        ≡ first_unusable result (take (to - result) (drop result
         (lent rec octets.entry bytes.entry i.entry q.entry))) }
 {
     let mut at = from;
@@ -90,7 +90,7 @@ pub fn first_unusable(
     to: usize,
 ) -> Place
     requires { to ≤ length (lent rec octets bytes i q) }
-    ensures answer { whereFound result ≡ firstUnusable from (take (to - from) (drop from
+    ensures answer { where_found result ≡ first_unusable from (take (to - from) (drop from
         (lent rec octets.entry bytes.entry i.entry q.entry))) }
 {
     let mut at = skip_clean(rec, octets, bytes, i, q, from, to);
@@ -198,8 +198,8 @@ pub fn decide(
     numbers: &mut [u8; 64],
     leads: &mut [u32; 64],
 )
-    requires { (m ≤ 64) × (at + symbolChips rate * m ≤ length (lent rec octets bytes i q))
-        × AllUsable (lent rec octets bytes i q) at (symbolChips rate * m)
+    requires { (m ≤ 64) × (at + symbol_chips rate * m ≤ length (lent rec octets bytes i q))
+        × AllUsable (lent rec octets bytes i q) at (symbol_chips rate * m)
         × (length numbers.old ≡ 64) × (length leads.old ≡ 64) }
     ensures numbers { DecidedAt rate
         (lent rec octets.entry bytes.entry i.entry q.entry) at m numbers.new }

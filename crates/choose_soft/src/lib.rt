@@ -1,10 +1,10 @@
 // A soft recording: two rows of f32, I and Q, as far as both go. Each loop over symbols gathers a symbol's chips in an
 // array that dissolves in it; at 11 Mbit/s sixteen symbols stand abreast, as columns of a row.
 ghost use Rattle.std.specs.Prelude.{◌≡◌, true, not, ◌+◌, ◌*◌, ◌<◌, ◌≤◌, length, get_or};
-ghost use Rattle.rules_chips.specs.Chips.{unusable, isUnusable, softRecording};
+ghost use Rattle.rules_chips.specs.Chips.{unusable, is_unusable, soft_recording};
 ghost use Rattle.rules_choosing.specs.Scores.{RowWithin};
-ghost use Rattle.choose_recorded.specs.Columns.{ColumnSet, Columns, softColumn};
-ghost use Rattle.choose_recorded.specs.Recorded.{softPart, AllUsable, DecidedAt, LeadsAt};
+ghost use Rattle.choose_recorded.specs.Columns.{ColumnSet, Columns, soft_column};
+ghost use Rattle.choose_recorded.specs.Recorded.{soft_part, AllUsable, DecidedAt, LeadsAt};
 
 use choose_axes::Axis;
 use choose_by_counts::Choice;
@@ -15,7 +15,7 @@ use rules_rates::Rate;
 pub fn usable_at(i: &[f32], q: &[f32], at: usize) -> bool
     requires { (at < length i.now) × (at < length q.now) }
     ensures answer { result ≡
-        not (isUnusable (get_or (softRecording i.now q.now) at unusable)) }
+        not (is_unusable (get_or (soft_recording i.now q.now) at unusable)) }
 {
     let s = Sample { i: i[at], q: q[at] };
     choose_counts::usable_sample(s)
@@ -24,7 +24,7 @@ pub fn usable_at(i: &[f32], q: &[f32], at: usize) -> bool
 // Whether 64 chips from a place are usable: a test for skipping them, so only its yes says something.
 pub fn clean(i: &[f32], q: &[f32], at: usize) -> bool
     requires { (at + 64 ≤ length i.now) × (at + 64 ≤ length q.now) }
-    ensures answer { result ≡ true → AllUsable (softRecording i.now q.now) at 64 }
+    ensures answer { result ≡ true → AllUsable (soft_recording i.now q.now) at 64 }
 {
     let mut ok = true;
     for k in 0..64 {
@@ -40,7 +40,7 @@ pub fn clean(i: &[f32], q: &[f32], at: usize) -> bool
 // The chips of a CCK symbol.
 fn eight(i: &[f32], q: &[f32], at: usize) -> [Chip; 8]
     requires { (at + 8 ≤ length i.now) × (at + 8 ≤ length q.now) }
-    ensures answer { result ≡ softPart i.now q.now at 8 }
+    ensures answer { result ≡ soft_part i.now q.now at 8 }
 {
     let mut chips = [Chip::Lost; 8];
     for k in 0..8 {
@@ -56,7 +56,7 @@ fn eight(i: &[f32], q: &[f32], at: usize) -> [Chip; 8]
 // The chips of a Barker symbol.
 fn eleven(i: &[f32], q: &[f32], at: usize) -> [Chip; 11]
     requires { (at + 11 ≤ length i.now) × (at + 11 ≤ length q.now) }
-    ensures answer { result ≡ softPart i.now q.now at 11 }
+    ensures answer { result ≡ soft_part i.now q.now at 11 }
 {
     let mut chips = [Chip::Lost; 11];
     for k in 0..11 {
@@ -79,11 +79,11 @@ pub fn barkers(
     leads: &mut [u32; 64],
 )
     requires { (m ≤ 64) × (at + 11 * m ≤ length i.now) × (at + 11 * m ≤ length q.now)
-        × AllUsable (softRecording i.now q.now) at (11 * m) × (length numbers.old ≡ 64)
+        × AllUsable (soft_recording i.now q.now) at (11 * m) × (length numbers.old ≡ 64)
         × (length leads.old ≡ 64) }
-    ensures numbers { DecidedAt Rate.One (softRecording i.now q.now) at m
+    ensures numbers { DecidedAt Rate.One (soft_recording i.now q.now) at m
         numbers.new }
-    ensures leads { LeadsAt Rate.One (softRecording i.now q.now) at m
+    ensures leads { LeadsAt Rate.One (soft_recording i.now q.now) at m
         leads.new }
 {
     let mut l: usize = 0;
@@ -105,11 +105,11 @@ pub fn fives(
     leads: &mut [u32; 64],
 )
     requires { (m ≤ 64) × (at + 8 * m ≤ length i.now) × (at + 8 * m ≤ length q.now)
-        × AllUsable (softRecording i.now q.now) at (8 * m) × (length numbers.old ≡ 64)
+        × AllUsable (soft_recording i.now q.now) at (8 * m) × (length numbers.old ≡ 64)
         × (length leads.old ≡ 64) }
-    ensures numbers { DecidedAt Rate.Five (softRecording i.now q.now) at m
+    ensures numbers { DecidedAt Rate.Five (soft_recording i.now q.now) at m
         numbers.new }
-    ensures leads { LeadsAt Rate.Five (softRecording i.now q.now) at m
+    ensures leads { LeadsAt Rate.Five (soft_recording i.now q.now) at m
         leads.new }
 {
     let mut l: usize = 0;
@@ -136,10 +136,10 @@ fn put_column(i: [i32; 8], q: [i32; 8], l: usize, row: &mut [i32])
 // Up to sixteen symbols of 11 Mbit/s as columns of a row, in counts.
 fn columns(i: &[f32], q: &[f32], at: usize, count: usize, row: &mut [i32])
     requires { (count ≤ 16) × (at + 8 * count ≤ length i.now) × (at + 8 * count ≤ length q.now)
-        × AllUsable (softRecording i.now q.now) at (8 * count) × (length row.old ≡ 256)
+        × AllUsable (soft_recording i.now q.now) at (8 * count) × (length row.old ≡ 256)
         × RowWithin 8192 row.old }
-    ensures row { Columns (softColumn Axis.I i.now q.now at)
-        (softColumn Axis.Q i.now q.now at) row.new count }
+    ensures row { Columns (soft_column Axis.I i.now q.now at)
+        (soft_column Axis.Q i.now q.now at) row.new count }
     ensures small { RowWithin 8192 row.new }
 {
     let mut l: usize = 0;
@@ -165,11 +165,11 @@ pub fn elevens(
     leads: &mut [u32; 64],
 )
     requires { (m ≤ 64) × (at + 8 * m ≤ length i.now) × (at + 8 * m ≤ length q.now)
-        × AllUsable (softRecording i.now q.now) at (8 * m) × (length numbers.old ≡ 64)
+        × AllUsable (soft_recording i.now q.now) at (8 * m) × (length numbers.old ≡ 64)
         × (length leads.old ≡ 64) }
-    ensures numbers { DecidedAt Rate.Eleven (softRecording i.now q.now) at m
+    ensures numbers { DecidedAt Rate.Eleven (soft_recording i.now q.now) at m
         numbers.new }
-    ensures leads { LeadsAt Rate.Eleven (softRecording i.now q.now) at m
+    ensures leads { LeadsAt Rate.Eleven (soft_recording i.now q.now) at m
         leads.new }
 {
     let mut row = [0i32; 256];

@@ -17,11 +17,11 @@ use mir.Val.{to_z, of_z, hbits}
 use Rattle.base.specs.Whole.{Within}
 use Rattle.base.proofs.Whole.{small, within_more}
 use Rattle.rules_choosing.specs.Scores.{RowWithin}
-use Rattle.rules_choosing.specs.Keys.{larger, smaller, bigger, lesser, keyOf, Largest, TwoLargest, HoldsTwo}
+use Rattle.rules_choosing.specs.Keys.{larger, smaller, bigger, lesser, key_of, Largest, TwoLargest, HoldsTwo}
 use Rattle.choose_sums.specs.Sums.{key_at}
 
-pub second-le : {k : ℕ → ℕ} {a b x y : ℕ} → TwoLargest k a b x y → y ≤ x
-second-le t = omega (arith, t.is, t.largest.top t.q t.from t.to)
+pub second_le : {k : ℕ → ℕ} {a b x y : ℕ} → TwoLargest k a b x y → y ≤ x
+second_le t = omega (arith, t.is, t.largest.top t.q t.from t.to)
 
 pub two_is : {k : ℕ → ℕ} {a b x y v w : ℕ} → TwoLargest k a b x y → v ≡ x → w ≡ y → TwoLargest k a b v w
 two_is {k} {a} {b} t d e = rw (d, e) t
@@ -42,8 +42,8 @@ module _ (k : ℕ → ℕ) (a : ℕ) where
       by (yes x) = let e : a ≡ j = omega arith in subst P e u
       by (no x) = let e : b ≡ j = omega arith in subst P e v
 
-  pub two-of : TwoLargest k a (suc b) (bigger (k a) (k b)) (lesser (k a) (k b))
-  two-of = by (ltb (k a) (k b)) (ltb→lt (k a) (k b)) (nltb→le (k a) (k b))
+  pub two_of_lem : TwoLargest k a (suc b) (bigger (k a) (k b)) (lesser (k a) (k b))
+  two_of_lem = by (ltb (k a) (k b)) (ltb→lt (k a) (k b)) (nltb→le (k a) (k b))
     where
       by : (t : Bool) → (T t → k a < k b) → (T (not t) → k b ≤ k a)
           → TwoLargest k a (suc b) (cond t (k b) (k a)) (cond t (k a) (k b))
@@ -132,37 +132,37 @@ module _ {k : ℕ → ℕ} {a b c x y z w : ℕ} (t : TwoLargest k a b x y) (s :
   }
 
   -- where the next comes from
-  right-left : x ≤ z → w ≤ x → TwoLargest k a c z x
-  right-left le h = of_right le x left.p left.from (omega (arith, left.to, right.from, right.to))
+  right_left : x ≤ z → w ≤ x → TwoLargest k a c z x
+  right_left le h = of_right le x left.p left.from (omega (arith, left.to, right.from, right.to))
       (λ e. omega (arith, left.to, right.from)) left.is (omega arith) h
 
-  right-right : x ≤ z → x ≤ w → TwoLargest k a c z w
-  right-right le h = of_right le w s.q (omega (arith, left.from, left.to, s.from)) s.to s.other s.is h
+  right_right : x ≤ z → x ≤ w → TwoLargest k a c z w
+  right_right le h = of_right le w s.q (omega (arith, left.from, left.to, s.from)) s.to s.other s.is h
       (omega arith)
 
-  left-right : z ≤ x → y ≤ z → TwoLargest k a c x z
-  left-right le h = of_left le z right.p (omega (arith, left.from, left.to, right.from)) right.to
+  left_right : z ≤ x → y ≤ z → TwoLargest k a c x z
+  left_right le h = of_left le z right.p (omega (arith, left.from, left.to, right.from)) right.to
       (λ e. omega (arith, left.to, right.from)) right.is (omega arith) h
 
-  left-left : z ≤ x → z ≤ y → TwoLargest k a c x y
-  left-left le h = of_left le y t.q t.from (omega (arith, t.to, right.from, right.to)) t.other t.is h
+  left_left : z ≤ x → z ≤ y → TwoLargest k a c x y
+  left_left le h = of_left le y t.q t.from (omega (arith, t.to, right.from, right.to)) t.other t.is h
       (omega arith)
 
-  pub two-merge : TwoLargest k a c (bigger x z) (bigger (lesser x z) (bigger y w))
-  two-merge = by (ltb x z) (ltb→lt x z) (nltb→le x z)
+  pub two_merge : TwoLargest k a c (bigger x z) (bigger (lesser x z) (bigger y w))
+  two_merge = by (ltb x z) (ltb→lt x z) (nltb→le x z)
     where
-      from-right : x < z → (m : ℕ) (u : Bool) → (m ≡ y) ⊎ (m ≡ w) → y ≤ m → w ≤ m → (T u → x < m) → (T (not u) → m ≤ x)
+      from_right : x < z → (m : ℕ) (u : Bool) → (m ≡ y) ⊎ (m ≡ w) → y ≤ m → w ≤ m → (T u → x < m) → (T (not u) → m ≤ x)
           → TwoLargest k a c z (cond u m x)
-      from-right l m true (inl e) hy hw f g = absurd (omega (arith, f tt, second-le t))
-      from-right l m true (inr e) hy hw f g =
-          subst (TwoLargest k a c z) (sym e) (right-right (omega arith) (omega (arith, f tt)))
-      from-right l m false e hy hw f g = right-left (omega arith) (omega (arith, g tt))
+      from_right l m true (inl e) hy hw f g = absurd (omega (arith, f tt, second_le t))
+      from_right l m true (inr e) hy hw f g =
+          subst (TwoLargest k a c z) (sym e) (right_right (omega arith) (omega (arith, f tt)))
+      from_right l m false e hy hw f g = right_left (omega arith) (omega (arith, g tt))
 
-      from-left : z ≤ x → (m : ℕ) (u : Bool) → (m ≡ y) ⊎ (m ≡ w) → y ≤ m → w ≤ m → (T u → z < m) → (T (not u) → m ≤ z)
+      from_left : z ≤ x → (m : ℕ) (u : Bool) → (m ≡ y) ⊎ (m ≡ w) → y ≤ m → w ≤ m → (T u → z < m) → (T (not u) → m ≤ z)
           → TwoLargest k a c x (cond u m z)
-      from-left l m true (inl e) hy hw f g = subst (TwoLargest k a c x) (sym e) (left-left l (omega (arith, f tt)))
-      from-left l m true (inr e) hy hw f g = absurd (omega (arith, f tt, second-le s))
-      from-left l m false e hy hw f g = left-right l (omega (arith, g tt))
+      from_left l m true (inl e) hy hw f g = subst (TwoLargest k a c x) (sym e) (left_left l (omega (arith, f tt)))
+      from_left l m true (inr e) hy hw f g = absurd (omega (arith, f tt, second_le s))
+      from_left l m false e hy hw f g = left_right l (omega (arith, g tt))
 
       one : (u : Bool) → (cond u w y ≡ y) ⊎ (cond u w y ≡ w)
       one true = inr refl
@@ -174,74 +174,74 @@ module _ {k : ℕ → ℕ} {a b c x y z w : ℕ} (t : TwoLargest k a b x y) (s :
 
       by : (u : Bool) → (T u → x < z) → (T (not u) → z ≤ x)
           → TwoLargest k a c (cond u z x) (bigger (cond u x z) (bigger y w))
-      by true f g = from-right (f tt) (bigger y w) (ltb x (bigger y w)) (one (ltb y w))
+      by true f g = from_right (f tt) (bigger y w) (ltb x (bigger y w)) (one (ltb y w))
           (least (ltb y w) (ltb→lt y w) (nltb→le y w)).0 (least (ltb y w) (ltb→lt y w) (nltb→le y w)).1
           (ltb→lt x (bigger y w)) (nltb→le x (bigger y w))
-      by false f g = from-left (g tt) (bigger y w) (ltb z (bigger y w)) (one (ltb y w))
+      by false f g = from_left (g tt) (bigger y w) (ltb z (bigger y w)) (one (ltb y w))
           (least (ltb y w) (ltb→lt y w) (nltb→le y w)).0 (least (ltb y w) (ltb→lt y w) (nltb→le y w)).1
           (ltb→lt z (bigger y w)) (nltb→le z (bigger y w))
 
 -- ---- the whole numbers that hold them
-larger-held : {u v : ℤ} {x y : ℕ} → u ≡ pos x → v ≡ pos y → larger u v ≡ pos (bigger x y)
-larger-held {u} {v} {x} {y} d e = (λ i. larger (d i) (e i)) ∙ by (ltb x y)
+larger_held : {u v : ℤ} {x y : ℕ} → u ≡ pos x → v ≡ pos y → larger u v ≡ pos (bigger x y)
+larger_held {u} {v} {x} {y} d e = (λ i. larger (d i) (e i)) ∙ by (ltb x y)
   where
     by : (t : Bool) → cond t (pos y) (pos x) ≡ pos (cond t y x)
     by true = refl
     by false = refl
 
-smaller-held : {u v : ℤ} {x y : ℕ} → u ≡ pos x → v ≡ pos y → smaller u v ≡ pos (lesser x y)
-smaller-held {u} {v} {x} {y} d e = (λ i. smaller (d i) (e i)) ∙ by (ltb x y)
+smaller_held : {u v : ℤ} {x y : ℕ} → u ≡ pos x → v ≡ pos y → smaller u v ≡ pos (lesser x y)
+smaller_held {u} {v} {x} {y} d e = (λ i. smaller (d i) (e i)) ∙ by (ltb x y)
   where
     by : (t : Bool) → cond t (pos x) (pos y) ≡ pos (cond t x y)
     by true = refl
     by false = refl
 
-pub holds-two : (k : ℕ → ℕ) (a : ℕ) {u v f s : ℤ} → u ≡ pos (k a) → v ≡ pos (k (suc a)) → f ≡ larger u v
+pub holds_two : (k : ℕ → ℕ) (a : ℕ) {u v f s : ℤ} → u ≡ pos (k a) → v ≡ pos (k (suc a)) → f ≡ larger u v
     → s ≡ smaller u v → HoldsTwo k a (suc (suc a)) f s
-holds-two k a eu ev ef es = record {
+holds_two k a eu ev ef es = record {
   x = bigger (k a) (k (suc a));
   y = lesser (k a) (k (suc a));
-  is_x = ef ∙ larger-held eu ev;
-  is_y = es ∙ smaller-held eu ev;
-  two = two-of k a;
+  is_x = ef ∙ larger_held eu ev;
+  is_y = es ∙ smaller_held eu ev;
+  two = two_of_lem k a;
 }
 
-pub holds-merge : {k : ℕ → ℕ} {a b c : ℕ} {d e d' e' f s : ℤ} → HoldsTwo k a b d e → HoldsTwo k b c d' e'
+pub holds_merge : {k : ℕ → ℕ} {a b c : ℕ} {d e d' e' f s : ℤ} → HoldsTwo k a b d e → HoldsTwo k b c d' e'
     → (f ≡ larger d d') × (s ≡ larger (smaller d d') (larger e e')) → HoldsTwo k a c f s
-holds-merge t u h = record {
+holds_merge t u h = record {
   x = bigger t.x u.x;
   y = bigger (lesser t.x u.x) (bigger t.y u.y);
-  is_x = h.0 ∙ larger-held t.is_x u.is_x;
-  is_y = h.1 ∙ larger-held (smaller-held t.is_x u.is_x) (larger-held t.is_y u.is_y);
-  two = two-merge t.two u.two;
+  is_x = h.0 ∙ larger_held t.is_x u.is_x;
+  is_y = h.1 ∙ larger_held (smaller_held t.is_x u.is_x) (larger_held t.is_y u.is_y);
+  two = two_merge t.two u.two;
 }
 
 -- none is below 0, and they are in order
-pub holds-order : {k : ℕ → ℕ} {a b : ℕ} {f s : ℤ} → HoldsTwo k a b f s
+pub holds_order : {k : ℕ → ℕ} {a b : ℕ} {f s : ℤ} → HoldsTwo k a b f s
     → T (non_neg f) × T (non_neg s) × (nat_abs s ≤ nat_abs f)
-holds-order t = rw (t.is_x, t.is_y) (tt, tt, second-le t.two)
+holds_order t = rw (t.is_x, t.is_y) (tt, tt, second_le t.two)
 
 -- ---- two neighbours of eight scores, in signed numbers of any width
 module _ (w : Width) {b : ℕ} (room : b < 2 ^ hbits w) (h : List ℤ) (r : RowWithin b h) where
   abbrev read : ℤ → ℤ
   read z = to_z w (of_z w z)
 
-  pub score-read : (n : ℕ) → read (get_or h n (pos 0)) ≡ get_or h n (pos 0)
-  score-read n = small w b room _ (r.at n)
+  pub score_read : (n : ℕ) → read (get_or h n (pos 0)) ≡ get_or h n (pos 0)
+  score_read n = small w b room _ (r.at n)
 
-  pub within-two : (m j : ℕ) → b ≤ m → Within m (read (get_or h j (pos 0))) × Within m (read (get_or h (suc j) (pos 0)))
-  within-two m j l = (one j, one (suc j))
+  pub within_two : (m j : ℕ) → b ≤ m → Within m (read (get_or h j (pos 0))) × Within m (read (get_or h (suc j) (pos 0)))
+  within_two m j l = (one j, one (suc j))
     where
       one : (k : ℕ) → Within m (read (get_or h k (pos 0)))
-      one k = rw (score-read k) (within_more (r.at k) l)
+      one k = rw (score_read k) (within_more (r.at k) l)
 
   -- the key of place n by the score as it is read
-  abbrev readKey : ℕ → ℤ
-  readKey n = pos (keyOf 8 n (read (get_or h n (pos 0))))
+  abbrev read_key : ℕ → ℤ
+  read_key n = pos (key_of 8 n (read (get_or h n (pos 0))))
 
-  pub holds-keys : (j : ℕ) {f s : ℤ} → (f ≡ larger (readKey j) (readKey (suc j)))
-      × (s ≡ smaller (readKey j) (readKey (suc j))) → HoldsTwo (key_at h) j (suc (suc j)) f s
-  holds-keys j e = holds-two (key_at h) j (key j) (key (suc j)) e.0 e.1
+  pub holds_keys : (j : ℕ) {f s : ℤ} → (f ≡ larger (read_key j) (read_key (suc j)))
+      × (s ≡ smaller (read_key j) (read_key (suc j))) → HoldsTwo (key_at h) j (suc (suc j)) f s
+  holds_keys j e = holds_two (key_at h) j (key j) (key (suc j)) e.0 e.1
     where
-      key : (n : ℕ) → readKey n ≡ pos (key_at h n)
-      key n = λ i. pos (keyOf 8 n (score-read n i))
+      key : (n : ℕ) → read_key n ≡ pos (key_at h n)
+      key n = λ i. pos (key_of 8 n (score_read n i))

@@ -5,8 +5,8 @@ use Rattle.std.specs.Prelude.{ℕ, ◌+◌, ◌*◌, Bool, true, false, List, []
 use Rattle.base.specs.Tables.{tabulate}
 use Rattle.rules_chips.specs.declared.Counts.{Counts}
 use Rattle.rules_chips.specs.Chips.{pair}
-use Rattle.rules_symbols.specs.Words.{barkerSigns}
-use Rattle.rules_choosing.specs.Keys.{keyOf}
+use Rattle.rules_symbols.specs.Words.{barker_signs}
+use Rattle.rules_choosing.specs.Keys.{key_of}
 
 abbrev pub by_sign : Bool → ℤ → ℤ
 by_sign true z = z
@@ -18,12 +18,12 @@ signed [] zs = pos 0
 signed (s ∷ ss) [] = pos 0
 signed (s ∷ ss) (z ∷ zs) = by_sign s z +ℤ signed ss zs
 
-abbrev pub bySigns : List ℤ → ℤ
-bySigns zs = signed barkerSigns zs
+abbrev pub by_signs : List ℤ → ℤ
+by_signs zs = signed barker_signs zs
 
 -- a Barker symbol's sums over I and Q as the counts of one chip: it scores what the symbol does
-abbrev pub asChip : ℤ → ℤ → List Counts
-asChip i q = pair i q ∷ []
+abbrev pub as_chip : ℤ → ℤ → List Counts
+as_chip i q = pair i q ∷ []
 
 -- eight chips' counts of their rows of I and of Q
 abbrev pub rows : List ℤ → List ℤ → List Counts
@@ -49,12 +49,12 @@ crossed s t =
 
 -- the better key of pair j
 abbrev pub key_at : List ℤ → ℕ → ℕ
-key_at h j = keyOf 8 j (get_or h j (pos 0))
+key_at h j = key_of 8 j (get_or h j (pos 0))
 
 -- n numbers of a row from a place on, so many apart; of sixteen symbols abreast, whose rows are sixteen of I and then
 -- sixteen of Q, those of one axis
 abbrev pub spaced : ℕ → List ℤ → ℕ → ℕ → List ℤ
 spaced apart row from n = tabulate (λ j. get_or row (from + apart * j) (pos 0)) n
 
-abbrev pub everyRow : List ℤ → ℕ → ℕ → List ℤ
-everyRow row from n = spaced 32 row from n
+abbrev pub every_row : List ℤ → ℕ → ℕ → List ℤ
+every_row row from n = spaced 32 row from n

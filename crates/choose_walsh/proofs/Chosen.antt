@@ -14,30 +14,30 @@ use lib.Dec.{T, lit<}
 use lib.IntN.{ℤ, pos, negsuc, nat_abs, ◌+ℤ◌}
 use lib.Signed.{non_neg, ◌≤ℤ◌}
 use Rattle.base.specs.Whole.{up, dn}
-use Rattle.base.proofs.Whole.{add, of_le, of_lt, le_of, up_pos, dn-pos}
+use Rattle.base.proofs.Whole.{add, of_le, of_lt, le_of, up_pos, dn_pos}
 use Rattle.rules_rates.specs.declared.Rate.TheVariants.{Eleven}
 use Rattle.rules_chips.specs.declared.Counts.{Counts}
 use Rattle.rules_symbols.specs.Choice.{decided}
 use Rattle.rules_choosing.specs.Scores.{NextAs}
 use Rattle.rules_choosing.specs.Keys.{Largest}
-use Rattle.rules_choosing.proofs.KeyLaws.{Better, number-below, number_by}
-use Rattle.rules_choosing.proofs.Leads.{runnerUp, runner-next, lead_is}
-use Rattle.choose_walsh.specs.Rows.{elevenAt, elevenLead, Entered, Paired}
+use Rattle.rules_choosing.proofs.KeyLaws.{Better, number_below, number_by}
+use Rattle.rules_choosing.proofs.Leads.{runner_up, runner_next, lead_is}
+use Rattle.choose_walsh.specs.Rows.{eleven_at, eleven_lead, Entered, Paired}
 use Rattle.choose_walsh.specs.Search.{
-  groupTop,
-  groupNext,
+  group_top,
+  group_next,
   Held,
   Seeks,
   Sought,
   held_at,
   Keyed,
-  wordOfKey,
+  word_of_key,
   size_of,
-  leadOfKeys,
+  lead_of_keys,
 }
 use Rattle.choose_walsh.proofs.Tops.{Lifted, sides}
-use Rattle.choose_walsh.proofs.Pairs.{lifted-key, number_read, lifted-one, raise, up-minus, size-lifted}
-use Rattle.choose_walsh.proofs.Groups.{keyIn, Raised, TwoKeys, two-keys, top_above}
+use Rattle.choose_walsh.proofs.Pairs.{lifted_key, number_read, lifted_one, raise, up_minus, size_lifted}
+use Rattle.choose_walsh.proofs.Groups.{key_in, Raised, TwoKeys, two_keys, top_above}
 use Rattle.choose_walsh.proofs.Pairs as pairs
 
 -- ---- a column
@@ -63,7 +63,7 @@ module _ (row z a : List ℤ) (l : ℕ) (few : l < 16) (h : Entered row z) (p : 
   abbrev raised : (g : ℕ) → g < 16 → Raised (y g) (x g)
   raised = pairs.raised row z a l few h p
 
-  module _ (o : Held) (s : Seeks (groupTop a l) (groupNext a l) 16 o) where
+  module _ (o : Held) (s : Seeks (group_top a l) (group_next a l) 16 o) where
     abbrev v : ℤ
     v = o.first
 
@@ -74,58 +74,58 @@ module _ (row z a : List ℤ) (l : ℕ) (few : l < 16) (h : Entered row z) (p : 
     t = o.second
 
     abbrev two : (j : ℕ) → j < 16 → TwoKeys (y j) (x j)
-    two j b = two-keys (y j) (x j) (raised j b)
+    two j b = two_keys (y j) (x j) (raised j b)
 
     here : g < 16
     here = (s.leads.some (lit< tt)).0
 
-    is : v ≡ groupTop a l g
+    is : v ≡ group_top a l g
     is = (s.leads.some (lit< tt)).1
 
     abbrev best : TwoKeys (y g) (x g)
     best = two g here
 
-    lifted-best : Lifted 11 best.top v
-    lifted-best = subst (λ (u : ℤ). Lifted 11 best.top u) (sym is) best.top-lifted
+    lifted_best : Lifted 11 best.top v
+    lifted_best = subst (λ (u : ℤ). Lifted 11 best.top u) (sym is) best.top_lifted
 
     abbrev all : ℕ
     all = 16 * best.top + (15 - g)
 
     -- no group's key is above, and those of the groups before are below
-    at-most : (j : ℕ) (b : j < 16) → 16 * (two j b).top + (15 - j) ≤ all
-    at-most j b = by (dec_lt j g)
+    at_most_lem : (j : ℕ) (b : j < 16) → 16 * (two j b).top + (15 - j) ≤ all
+    at_most_lem j b = by (dec_lt j g)
       where
         by : Dec (j < g) → 16 * (two j b).top + (15 - j) ≤ all
         by (yes q) =
             omega (
               arith,
               here,
-              lifted-best.is,
-              (two j b).top-lifted.is,
-              of_lt (groupTop a l j) v (s.leads.first j q),
+              lifted_best.is,
+              (two j b).top_lifted.is,
+              of_lt (group_top a l j) v (s.leads.first j q),
             )
         by (no q) =
             omega (
               arith,
               here,
-              lifted-best.is,
-              (two j b).top-lifted.is,
-              of_le (groupTop a l j) v (s.leads.top j b),
+              lifted_best.is,
+              (two j b).top_lifted.is,
+              of_le (group_top a l j) v (s.leads.top j b),
             )
 
     abbrev won : ℕ
     won = 16 * best.largest.p + g
 
-    won-low : won < 128
-    won-low = omega (arith, here, best.largest.to)
+    won_low : won < 128
+    won_low = omega (arith, here, best.largest.to)
 
-    won-is : all ≡ key won
-    won-is =
+    won_is : all ≡ key won
+    won_is =
         ap (λ (n : ℕ). 16 * n + (15 - g)) best.largest.is
         ∙ sym (pairs.whole row z a l few h p best.largest.p g best.largest.to here)
 
     largest : Largest key 0 128 all
-    largest = record { p = won; from = omega arith; to = won-low; is = won-is; top = λ j b k. one j k }
+    largest = record { p = won; from = omega arith; to = won_low; is = won_is; top = λ j b k. one j k }
       where
         one : (j : ℕ) → j < 128 → key j ≤ all
         one j k =
@@ -133,7 +133,7 @@ module _ (row z a : List ℤ) (l : ℕ) (few : l < 16) (h : Entered row z) (p : 
             let bm : j / 16 < 8 = omega arith in
             let bo : j % 16 < 16 = omega arith in
             rw (sym e) (rw (pairs.whole row z a l few h p (j / 16) (j % 16) bm bo)
-            (omega (arith, at-most (j % 16) bo, (two (j % 16) bo).largest.top (j / 16) (omega arith) bm)))
+            (omega (arith, at_most_lem (j % 16) bo, (two (j % 16) bo).largest.top (j / 16) (omega arith) bm)))
 
     number_is : decided Eleven symbol ≡ 255 - all % 256
     unfolding decided
@@ -142,20 +142,20 @@ module _ (row z a : List ℤ) (l : ℕ) (few : l < 16) (h : Entered row z) (p : 
     above : pos 0 ≤ℤ v
     above = subst (λ (u : ℤ). pos 0 ≤ℤ u) (sym is) (top_above (y g) (x g) (raised g here))
 
-    key-natural : best.top ≡ nat_abs v + 11
-    key-natural = lifted-key v best.top lifted-best above
+    key_natural : best.top ≡ nat_abs v + 11
+    key_natural = lifted_key v best.top lifted_best above
 
-    pub chosen : wordOfKey v g ≡ elevenAt row l
-    chosen = sym (number_is ∙ number_read (nat_abs v) best.top g key-natural here)
+    pub chosen : word_of_key v g ≡ eleven_at row l
+    chosen = sym (number_is ∙ number_read (nat_abs v) best.top g key_natural here)
 
     -- ---- the lead
     abbrev winner : Better 128 f won (key won)
-    winner = one_of won won-low
+    winner = one_of won won_low
 
-    decided-is : decided Eleven symbol ≡ winner.number
-    decided-is =
-        number_is ∙ last all winner.size winner.number (won-is ∙ winner.is)
-        (number-below 128 f won-low winner)
+    decided_is : decided Eleven symbol ≡ winner.number
+    decided_is =
+        number_is ∙ last all winner.size winner.number (won_is ∙ winner.is)
+        (number_below 128 f won_low winner)
       where
         last : (k s n : ℕ) → k ≡ 256 * s + (255 - n) → n < 256 → 255 - k % 256 ≡ n
         last k s n e b = omega arith
@@ -164,12 +164,12 @@ module _ (row z a : List ℤ) (l : ℕ) (few : l < 16) (h : Entered row z) (p : 
     abbrev next : ℕ
     next = nat_abs (t +ℤ pos 11)
 
-    lifted-next : Lifted 11 next t
-    lifted-next = size-lifted t s.follows.low
+    lifted_next : Lifted 11 next t
+    lifted_next = size_lifted t s.follows.low
 
     -- the score of another pair is not above it
-    others-under : (j : ℕ) (b : j < 128) → (j ≡ won → ⊥) → (one_of j b).size ≤ next / 16
-    others-under j b d = rw (pairs.size_is row z a l few h p j b) (by (dec_lt i g) (dec_lt g i))
+    others_under : (j : ℕ) (b : j < 128) → (j ≡ won → ⊥) → (one_of j b).size ≤ next / 16
+    others_under j b d = rw (pairs.size_is row z a l few h p j b) (by (dec_lt i g) (dec_lt g i))
       where
         i : ℕ
         i = j % 16
@@ -180,48 +180,48 @@ module _ (row z a : List ℤ) (l : ℕ) (few : l < 16) (h : Entered row z) (p : 
         bm : j / 16 < 8
         bm = omega arith
 
-        far : (j % 16 ≡ g → ⊥) → keyIn (y (j % 16)) (x (j % 16)) (j / 16) / 16 ≤ next / 16
+        far : (j % 16 ≡ g → ⊥) → key_in (y (j % 16)) (x (j % 16)) (j / 16) / 16 ≤ next / 16
         far ne =
             omega (
               arith,
-              lifted-next.is,
-              (two (j % 16) bi).top-lifted.is,
+              lifted_next.is,
+              (two (j % 16) bi).top_lifted.is,
               (two (j % 16) bi).largest.top (j / 16) (omega arith) bm,
-              of_le (groupTop a l (j % 16)) t (s.follows.others (j % 16) bi ne),
+              of_le (group_top a l (j % 16)) t (s.follows.others (j % 16) bi ne),
             )
 
-        near : j % 16 ≡ g → keyIn (y (j % 16)) (x (j % 16)) (j / 16) / 16 ≤ next / 16
+        near : j % 16 ≡ g → key_in (y (j % 16)) (x (j % 16)) (j / 16) / 16 ≤ next / 16
         near e = rw e (omega (
           arith,
-          lifted-next.is,
-          best.next-lifted.is,
+          lifted_next.is,
+          best.next_lifted.is,
           best.over (j / 16) bm (λ q. d (placed j best.largest.p g q e)),
-          of_le (groupNext a l g) t (s.follows.nexts g here),
+          of_le (group_next a l g) t (s.follows.nexts g here),
         ))
           where
             placed : (j m g : ℕ) → j / 16 ≡ m → j % 16 ≡ g → j ≡ 16 * m + g
             placed j m g q e = omega arith
 
-        by : Dec (j % 16 < g) → Dec (g < j % 16) → keyIn (y (j % 16)) (x (j % 16)) (j / 16) / 16 ≤ next / 16
+        by : Dec (j % 16 < g) → Dec (g < j % 16) → key_in (y (j % 16)) (x (j % 16)) (j / 16) / 16 ≤ next / 16
         by (yes q) r = far (λ e. omega arith)
         by (no q) (yes r) = far (λ e. omega arith)
         by (no q) (no r) = near (omega arith)
 
     -- the score of the word next to the one decided
     abbrev second : ℕ
-    second = runnerUp Eleven symbol
+    second = runner_up Eleven symbol
 
     after : NextAs Eleven symbol (decided Eleven symbol) second
-    after = runner-next Eleven symbol
+    after = runner_next Eleven symbol
 
     -- it is not above
-    second-under : f second ≤ℤ pos (next / 16)
-    second-under = by (dec_lt second 128)
+    second_under : f second ≤ℤ pos (next / 16)
+    second_under = by (dec_lt second 128)
       where
         low : {r : ℤ} → r ≤ℤ pos 0 → r ≤ℤ pos (next / 16)
         low {r} k =
             le_of r (pos (next / 16))
-            (omega (arith, of_le r (pos 0) k, up_pos 0, dn-pos 0, up_pos (next / 16), dn-pos (next / 16)))
+            (omega (arith, of_le r (pos 0) k, up_pos 0, dn_pos 0, up_pos (next / 16), dn_pos (next / 16)))
 
         of_pair : (j : ℕ) (b : j < 128) → (second ≡ j) ⊎ (second ≡ j + 128) → f second ≤ℤ pos (next / 16)
         of_pair j b side = same (dec_lt second (one_of j b).number) (dec_lt (one_of j b).number second)
@@ -230,11 +230,11 @@ module _ (row z a : List ℤ) (l : ℕ) (few : l < 16) (h : Entered row z) (p : 
             other ne = low ((one_of j b).worse second side ne)
 
             lost : second ≡ (one_of j b).number → j ≡ won → ⊥
-            lost e q = after.other (e ∙ pairs.alike row z a l few h p j won b won-low q ∙ sym decided-is)
+            lost e q = after.other (e ∙ pairs.alike row z a l few h p j won b won_low q ∙ sym decided_is)
 
             this : second ≡ (one_of j b).number → f second ≤ℤ pos (next / 16)
             this e = subst (λ (r : ℤ). r ≤ℤ pos (next / 16)) (sym (ap f e ∙ (one_of j b).score))
-                (raise (one_of j b).size (next / 16) (others-under j b (lost e)))
+                (raise (one_of j b).size (next / 16) (others_under j b (lost e)))
 
             same : Dec (second < (one_of j b).number) → Dec ((one_of j b).number < second) → f second ≤ℤ pos (next / 16)
             same (yes q) r = other (λ e. omega arith)
@@ -252,11 +252,11 @@ module _ (row z a : List ℤ) (l : ℕ) (few : l < 16) (h : Entered row z) (p : 
           arith,
           of_le (pos (one_of j b).size) (f second)
               (subst (λ (r : ℤ). r ≤ℤ f second) (one_of j b).score
-              (after.top (one_of j b).number (number-below 128 f b (one_of j b)) tt
-              (λ e. apart j won (one_of j b).number winner.number (e ∙ decided-is) b won-low d (one_of j b).one_of
+              (after.top (one_of j b).number (number_below 128 f b (one_of j b)) tt
+              (λ e. apart j won (one_of j b).number winner.number (e ∙ decided_is) b won_low d (one_of j b).one_of
               winner.one_of))),
           up_pos (one_of j b).size,
-          dn-pos (one_of j b).size,
+          dn_pos (one_of j b).size,
         )
       where
         apart : (i j n m : ℕ) → n ≡ m → i < 128 → j < 128 → (i ≡ j → ⊥) → (n ≡ i) ⊎ (n ≡ i + 128)
@@ -276,112 +276,112 @@ module _ (row z a : List ℤ) (l : ℕ) (few : l < 16) (h : Entered row z) (p : 
         by (yes q) = none (f second) (omega (arith, pair_under 0 (lit< tt) (λ e. omega arith)))
         by (no q) = none (f second) (omega (arith, pair_under 1 (lit< tt) (λ e. omega arith)))
 
-    key-under : (m j : ℕ) → m < 8 → j < 16 → (16 * m + j ≡ won → ⊥) → keyIn (y j) (x j) m / 16 ≤ up (f second)
-    key-under m j b k d =
+    key_under : (m j : ℕ) → m < 8 → j < 16 → (16 * m + j ≡ won → ⊥) → key_in (y j) (x j) m / 16 ≤ up (f second)
+    key_under m j b k d =
         let c : 16 * m + j < 128 = omega arith in
-        omega (arith, pairs.size-at row z a l few h p m j b k c, pair_under (16 * m + j) c d)
+        omega (arith, pairs.size_at_lem row z a l few h p m j b k c, pair_under (16 * m + j) c d)
 
     next_under : next / 16 ≤ up (f second)
     next_under =
         let k = s.follows.least (pos (16 * up (f second) + 4)) low others nexts in
         omega (
           arith,
-          lifted-next.is,
+          lifted_next.is,
           of_le t (pos (16 * up (f second) + 4)) k,
           up_pos (16 * up (f second) + 4),
-          dn-pos (16 * up (f second) + 4),
+          dn_pos (16 * up (f second) + 4),
         )
       where
         below : {n : ℕ} {r : ℤ} → Lifted 11 n r → n / 16 ≤ up (f second) → r ≤ℤ pos (16 * up (f second) + 4)
         below {n} {r} h k =
             le_of r (pos (16 * up (f second) + 4))
-            (omega (arith, h.is, up_pos (16 * up (f second) + 4), dn-pos (16 * up (f second) + 4)))
+            (omega (arith, h.is, up_pos (16 * up (f second) + 4), dn_pos (16 * up (f second) + 4)))
 
         low : negsuc 1 ≤ℤ pos (16 * up (f second) + 4)
         low = record { le = tt }
 
-        top-under : (j : ℕ) (b : j < 16) → (j ≡ g → ⊥) → (two j b).top / 16 ≤ up (f second)
-        top-under j b ne =
+        top_under : (j : ℕ) (b : j < 16) → (j ≡ g → ⊥) → (two j b).top / 16 ≤ up (f second)
+        top_under j b ne =
             let w = (two j b).largest in
-            omega (arith, w.is, key-under w.p j w.to b (λ e. ne (groups w.p j best.largest.p g e b here)))
+            omega (arith, w.is, key_under w.p j w.to b (λ e. ne (groups w.p j best.largest.p g e b here)))
           where
             groups : (m i n k : ℕ) → 16 * m + i ≡ 16 * n + k → i < 16 → k < 16 → i ≡ k
             groups m i n k e b c = omega arith
 
-        others : (j : ℕ) → j < 16 → (j ≡ g → ⊥) → groupTop a l j ≤ℤ pos (16 * up (f second) + 4)
-        others j b ne = below (two j b).top-lifted (top-under j b ne)
+        others : (j : ℕ) → j < 16 → (j ≡ g → ⊥) → group_top a l j ≤ℤ pos (16 * up (f second) + 4)
+        others j b ne = below (two j b).top_lifted (top_under j b ne)
 
-        here-under : best.next / 16 ≤ up (f second)
-        here-under = best.least (up (f second))
+        here_under : best.next / 16 ≤ up (f second)
+        here_under = best.least (up (f second))
             (λ m b ne. key-under m g b here (λ e. ne (words m best.largest.p g e)))
           where
             words : (m n k : ℕ) → 16 * m + k ≡ 16 * n + k → m ≡ n
             words m n k e = omega arith
 
-        far : (j : ℕ) → j < 16 → (j ≡ g → ⊥) → groupNext a l j ≤ℤ pos (16 * up (f second) + 4)
+        far : (j : ℕ) → j < 16 → (j ≡ g → ⊥) → group_next a l j ≤ℤ pos (16 * up (f second) + 4)
         far j b ne =
-            let low : (two j b).next / 16 ≤ up (f second) = omega (arith, top-under j b ne, (two j b).below) in
-            below (two j b).next-lifted low
+            let low : (two j b).next / 16 ≤ up (f second) = omega (arith, top_under j b ne, (two j b).below) in
+            below (two j b).next_lifted low
 
-        nexts : (j : ℕ) → j < 16 → groupNext a l j ≤ℤ pos (16 * up (f second) + 4)
+        nexts : (j : ℕ) → j < 16 → group_next a l j ≤ℤ pos (16 * up (f second) + 4)
         nexts j b = by (dec_lt j g) (dec_lt g j)
           where
-            by : Dec (j < g) → Dec (g < j) → groupNext a l j ≤ℤ pos (16 * up (f second) + 4)
+            by : Dec (j < g) → Dec (g < j) → group_next a l j ≤ℤ pos (16 * up (f second) + 4)
             by (yes q) r = far j b (λ e. omega arith)
             by (no q) (yes r) = far j b (λ e. omega arith)
             by (no q) (no r) =
                 let e : g ≡ j = omega arith in
                 subst (λ (i : ℕ). groupNext a l i ≤ℤ pos (16 * up (f second) + 4)) e
-                (below best.next-lifted here-under)
+                (below best.next_lifted here_under)
 
     -- the score of the word decided
-    from-two : negsuc 1 ≤ℤ v
-    from-two = le_of (negsuc 1) v (omega (arith, of_le (pos 0) v above, up_pos 0, dn-pos 0, up-minus))
+    from_two : negsuc 1 ≤ℤ v
+    from_two = le_of (negsuc 1) v (omega (arith, of_le (pos 0) v above, up_pos 0, dn_pos 0, up_minus))
 
-    first-size : winner.size ≡ size_of v
-    first-size =
-        pairs.size-at row z a l few h p best.largest.p g best.largest.to here won-low
-        ∙ ap (λ (n : ℕ). n / 16) (sym best.largest.is ∙ lifted-one lifted-best (size-lifted v from-two))
+    first_size : winner.size ≡ size_of v
+    first_size =
+        pairs.size_at_lem row z a l few h p best.largest.p g best.largest.to here won_low
+        ∙ ap (λ (n : ℕ). n / 16) (sym best.largest.is ∙ lifted_one lifted_best (size_lifted v from_two))
 
-    pub led : leadOfKeys v t ≡ elevenLead row l
+    pub led : lead_of_keys v t ≡ eleven_lead row l
     led =
         let e = lead_is Eleven symbol second after in
-        let w : f (decided Eleven symbol) ≡ pos (size_of v) = ap f decided-is ∙ winner.score ∙ ap pos first-size in
+        let w : f (decided Eleven symbol) ≡ pos (size_of v) = ap f decided_is ∙ winner.score ∙ ap pos first_size in
         let sum = e ∙ w in
         omega (
           arith,
-          add (f second) (pos (elevenLead row l)),
+          add (f second) (pos (eleven_lead row l)),
           ap up sum,
           ap dn sum,
-          up_pos (elevenLead row l),
-          dn-pos (elevenLead row l),
+          up_pos (eleven_lead row l),
+          dn_pos (eleven_lead row l),
           up_pos (size_of v),
-          dn-pos (size_of v),
+          dn_pos (size_of v),
           natural,
           next_under,
-          of_le (f second) (pos (next / 16)) second-under,
+          of_le (f second) (pos (next / 16)) second_under,
           up_pos (next / 16),
-          dn-pos (next / 16),
+          dn_pos (next / 16),
         )
 
     -- what they are read off
     pub order : t ≤ℤ v
-    order = s.follows.least v from-two (λ j b d. s.leads.top j b) under
+    order = s.follows.least v from_two (λ j b d. s.leads.top j b) under
       where
-        under : (j : ℕ) → j < 16 → groupNext a l j ≤ℤ v
+        under : (j : ℕ) → j < 16 → group_next a l j ≤ℤ v
         under j b =
             let t = two j b in
-            le_of (groupNext a l j) v
+            le_of (group_next a l j) v
             (omega (
               arith,
-              t.next-lifted.is,
-              t.top-lifted.is,
+              t.next_lifted.is,
+              t.top_lifted.is,
               t.below,
-              of_le (groupTop a l j) v (s.leads.top j b),
+              of_le (group_top a l j) v (s.leads.top j b),
             ))
 
-    pub first-natural : T (non_neg v)
-    first-natural = plain v above
+    pub first_natural : T (non_neg v)
+    first_natural = plain v above
       where
         plain : (z : ℤ) → pos 0 ≤ℤ z → T (non_neg z)
         plain (pos n) k = tt
@@ -390,10 +390,10 @@ module _ (row z a : List ℤ) (l : ℕ) (few : l < 16) (h : Entered row z) (p : 
 pub keyed : {row z a first second : List ℤ} {at : List ℕ} → Entered row z → Paired z a → Sought a 16 first second at
     → Keyed first second at
 keyed {row} {z} {a} {first} {second} {at} h p s = record {
-  first-long = s.first-long;
-  second-long = s.second-long;
+  first_long = s.first_long;
+  second_long = s.second_long;
   at_long = s.at_long;
-  key = λ l few. first-natural row z a l few h p (held_at first second at l) (s.each l few);
+  key = λ l few. first_natural row z a l few h p (held_at first second at l) (s.each l few);
   place = λ l few. ((s.each l few).leads.some (lit< tt)).0;
   next = λ l few. (s.each l few).follows.low;
   order = λ l few. order row z a l few h p (held_at first second at l) (s.each l few);

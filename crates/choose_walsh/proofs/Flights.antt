@@ -1,6 +1,6 @@
 -- A turn of a butterfly's loop, at every width: eight numbers of one column, written sixteen apart.
 --     Flight, flight             what the code adds fits, and is read back as it is
---     flown-none, flown-eight    before the first column, and one column more
+--     flown_none, flown_eight    before the first column, and one column more
 -- Assumes nothing.
 use mathlib.Core.Path.{◌≡◌, refl, ap, ◌∙◌, subst}
 use mathlib.Core.List.{List, [], ◌∷◌}
@@ -14,11 +14,11 @@ use mir.Val.{SFits, to_z, of_z, hbits}
 use Rattle.rules_chips.specs.declared.Counts.{Counts}
 use Rattle.rules_chips.specs.Chips.{pair}
 use Rattle.rules_chips.specs.Bounds.{Bounded}
-use Rattle.base.proofs.Adding.{Reads, reads_of, reads-fits, reads-add, less-fits, reads-less}
+use Rattle.base.proofs.Adding.{Reads, reads_of, reads_fits, reads_add, less_fits, reads_less}
 use Rattle.rules_choosing.proofs.Clean.{phase}
 use Rattle.choose_walsh.specs.Turns.{fly}
 use Rattle.choose_walsh.specs.Rows.{row_at, Flown}
-use Rattle.base.proofs.Puts.{puts, length-puts, puts-other, puts-at}
+use Rattle.base.proofs.Puts.{puts, length_puts, puts_other, puts_at}
 
 -- ---- one column more
 -- the eight numbers of a butterfly of x and y, in the order of the writes
@@ -27,25 +27,25 @@ outs x y =
     (y.i +ℤ x.i) ∷ (y.q +ℤ x.q) ∷ (y.i +ℤ x.q) ∷ (y.q -ℤ x.i) ∷ (y.i -ℤ x.i) ∷ (y.q -ℤ x.q)
     ∷ (y.i -ℤ x.q) ∷ (y.q +ℤ x.i) ∷ []
 
-outs-at : (x y : Counts) (r : ℕ) → r < 4
+outs_at : (x y : Counts) (r : ℕ) → r < 4
     → pair (get_or (outs x y) (2 * r) (pos 0)) (get_or (outs x y) (2 * r + 1) (pos 0)) ≡ fly y x r
-outs-at x y r h =
+outs_at x y r h =
     phase (λ r. pair (get_or (outs x y) (2 * r) (pos 0)) (get_or (outs x y) (2 * r + 1) (pos 0)) ≡ fly y x r)
     refl refl refl refl r h
 
-pub flown-none : (s : List ℤ) (x y : ℕ) (o : List ℤ) (z : ℕ) → Flown s x y o z 0 o
-flown-none s x y o z = record {
+pub flown_none : (s : List ℤ) (x y : ℕ) (o : List ℤ) (z : ℕ) → Flown s x y o z 0 o
+flown_none s x y o z = record {
   long = refl;
   each = λ r l h k. absurd (omega arith);
   below = λ j h. refl;
   above = λ j h. refl;
 }
 
-flown-more : (s : List ℤ) (x y : ℕ) (o₀ : List ℤ) (z l : ℕ) (o vs : List ℤ)
+flown_more : (s : List ℤ) (x y : ℕ) (o₀ : List ℤ) (z l : ℕ) (o vs : List ℤ)
     → Flown s x y o₀ z l o → l < 16 → z + 128 ≤ length o₀ → vs ≡ outs (row_at s x l) (row_at s y l)
     → Flown s x y o₀ z (l + 1) (puts o (λ i. z + l + 16 * i) 0 vs)
-flown-more s x y o₀ z l o vs f hl hz e = record {
-  long = length-puts to vs o 0 ∙ f.long;
+flown_more s x y o₀ z l o vs f hl hz e = record {
+  long = length_puts to vs o 0 ∙ f.long;
   each = λ r k hr hk. by r k hr hk (dec_lt k l);
   below = λ j h. other j (λ i hi q. omega arith) ∙ f.below j h;
   above = λ j h. other j (λ i hi q. omega arith) ∙ f.above j h;
@@ -62,14 +62,14 @@ flown-more s x y o₀ z l o vs f hl hz e = record {
 
     other : (j : ℕ) → ((i : ℕ) → i < 8 → j ≡ z + l + 16 * i → ⊥)
         → get_or (puts o (λ i. z + l + 16 * i) 0 vs) j (pos 0) ≡ get_or o j (pos 0)
-    other j h = puts-other to vs o 0 j (λ i hi q. h i (omega (arith, eight)) (omega arith))
+    other j h = puts_other to vs o 0 j (λ i hi q. h i (omega (arith, eight)) (omega arith))
 
     here : (j i : ℕ) → i < 8 → z + l + 16 * i ≡ j
         → get_or (puts o (λ i. z + l + 16 * i) 0 vs) j (pos 0) ≡ get_or (outs (row_at s x l) (row_at s y l)) i (pos 0)
     here j i hi q =
         subst (λ (j : ℕ). get_or (puts o (λ i. z + l + 16 * i) 0 vs) j (pos 0)
         ≡ get_or (outs (row_at s x l) (row_at s y l)) i (pos 0)) q
-        (rw same_place (puts-at to one vs o 0 i (omega (arith, eight)) (λ k b. omega (arith, eight, f.long)))
+        (rw same_place (puts_at to one vs o 0 i (omega (arith, eight)) (λ k b. omega (arith, eight, f.long)))
         ∙ ap (λ (vs : List ℤ). get_or vs i (pos 0)) e)
       where
         same_place : z + l + 16 * i ≡ z + l + 16 * (0 + i)
@@ -78,8 +78,8 @@ flown-more s x y o₀ z l o vs f hl hz e = record {
     apart : (b r i k l : ℕ) → k < l → l < 16 → b + 32 * r + k ≡ b + l + 16 * i → ⊥
     apart b r i k l h g q = omega arith
 
-    apart-q : (b r i k l : ℕ) → k < l → l < 16 → b + 32 * r + k + 16 ≡ b + l + 16 * i → ⊥
-    apart-q b r i k l h g q = omega arith
+    apart_q : (b r i k l : ℕ) → k < l → l < 16 → b + 32 * r + k + 16 ≡ b + l + 16 * i → ⊥
+    apart_q b r i k l h g q = omega arith
 
     by : (r k : ℕ) → r < 4 → k < l + 1 → Dec (k < l)
         → row_at (puts o (λ i. z + l + 16 * i) 0 vs) (z + 32 * r) k ≡ fly (row_at s y k) (row_at s x k) r
@@ -95,7 +95,7 @@ flown-more s x y o₀ z l o vs f hl hz e = record {
         ((λ i. pair
         (here (z + 32 * r + l) (2 * r) (omega arith) (omega arith) i)
         (here (z + 32 * r + l + 16) (2 * r + 1) (omega arith) (omega arith) i))
-        ∙ outs-at (row_at s x l) (row_at s y l) r hr)
+        ∙ outs_at (row_at s x l) (row_at s y l) r hr)
 
 -- ---- what the code makes of a column
 module _ (w : Width) (x y : Counts) where
@@ -118,17 +118,17 @@ module _ (w : Width) (x y : Counts) where
 
   pub flight : (b : ℕ) → b + b < 2 ^ hbits w → Bounded b x → Bounded b y → Flight
   flight b room hx hy = record {
-    fits0 = reads-fits yi xi room;
-    fits1 = reads-fits yq xq room;
-    fits2 = reads-fits yi xq room;
-    fits3 = less-fits yq xi room;
-    fits4 = less-fits yi xi room;
-    fits5 = less-fits yq xq room;
-    fits6 = less-fits yi xq room;
-    fits7 = reads-fits yq xi room;
-    are = λ i. (reads-add yi xi room).is i ∷ (reads-add yq xq room).is i ∷ (reads-add yi xq room).is i
-        ∷ (reads-less yq xi room).is i ∷ (reads-less yi xi room).is i ∷ (reads-less yq xq room).is i
-        ∷ (reads-less yi xq room).is i ∷ (reads-add yq xi room).is i ∷ [];
+    fits0 = reads_fits yi xi room;
+    fits1 = reads_fits yq xq room;
+    fits2 = reads_fits yi xq room;
+    fits3 = less_fits yq xi room;
+    fits4 = less_fits yi xi room;
+    fits5 = less_fits yq xq room;
+    fits6 = less_fits yi xq room;
+    fits7 = reads_fits yq xi room;
+    are = λ i. (reads_add yi xi room).is i ∷ (reads_add yq xq room).is i ∷ (reads_add yi xq room).is i
+        ∷ (reads_less yq xi room).is i ∷ (reads_less yi xi room).is i ∷ (reads_less yq xq room).is i
+        ∷ (reads_less yi xq room).is i ∷ (reads_add yq xi room).is i ∷ [];
   }
     where
       xi : Reads w b (of_z w x.i) x.i
@@ -144,14 +144,14 @@ module _ (w : Width) (x y : Counts) where
       yq = reads_of (omega arith) hy.imag
 
 -- the turn with the eight as the code writes them
-pub flown-eight : {s : List ℤ} {x y : ℕ} {o₀ : List ℤ} {z l : ℕ} {o : List ℤ} {v0 v1 v2 v3 v4 v5 v6 v7 : ℤ}
+pub flown_eight : {s : List ℤ} {x y : ℕ} {o₀ : List ℤ} {z l : ℕ} {o : List ℤ} {v0 v1 v2 v3 v4 v5 v6 v7 : ℤ}
     → Flown s x y o₀ z l o → l < 16 → z + 128 ≤ length o₀
     → v0 ∷ v1 ∷ v2 ∷ v3 ∷ v4 ∷ v5 ∷ v6 ∷ v7 ∷ [] ≡ outs (row_at s x l) (row_at s y l)
     → Flown s x y o₀ z (l + 1)
     (set (set (set (set (set (set (set (set o (z + l) v0) (z + l + 16) v1) (z + l + 32) v2) (z + l + 48) v3)
     (z + l + 64) v4) (z + l + 80) v5) (z + l + 96) v6) (z + l + 112) v7)
-flown-eight {s} {x} {y} {o₀} {z} {l} {o} {v0} {v1} {v2} {v3} {v4} {v5} {v6} {v7} f hl hz e =
+flown_eight {s} {x} {y} {o₀} {z} {l} {o} {v0} {v1} {v2} {v3} {v4} {v5} {v6} {v7} f hl hz e =
     let vs : List ℤ = v1 ∷ v2 ∷ v3 ∷ v4 ∷ v5 ∷ v6 ∷ v7 ∷ [] in
     let q : z + l + 0 ≡ z + l = omega arith in
     subst (λ (c : ℕ). Flown s x y o₀ z (l + 1) (puts (set o c v0) (λ i. z + l + 16 * i) 1 vs)) q
-    (flown-more s x y o₀ z l o (v0 ∷ vs) f hl hz e)
+    (flown_more s x y o₀ z l o (v0 ∷ vs) f hl hz e)

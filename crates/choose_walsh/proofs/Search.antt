@@ -1,8 +1,8 @@
 -- The search for the two largest keys, group after group and column by column.
---     seeks-none, seeks-more           before the first group, and one more
---     top-low                          what a group's key is never below
---     quartered-none, quartered-more   the loop over columns: before the first, and one column more
---     sought-none, sought-quarter      before the first group, and the four of one p3 more
+--     seeks_none, seeks_more           before the first group, and one more
+--     top_low                          what a group's key is never below
+--     quartered_none, quartered_more   the loop over columns: before the first, and one column more
+--     sought_none, sought_quarter      before the first group, and the four of one p3 more
 -- Assumes nothing.
 use mathlib.Core.Path.{◌≡◌, refl, sym, ap, ◌∙◌, subst}
 use mathlib.Core.Bool.{Bool, true, false, cond, not}
@@ -16,19 +16,19 @@ use lib.Seq.{get_or-set_same, get_or-set_other}
 use lib.IntN.{ℤ, pos, negsuc, neg_ℤ, nat_abs, ◌+ℤ◌, ◌-ℤ◌}
 use lib.Signed.{lt_z, ◌≤ℤ◌, ◌<ℤ◌, lt_z_yes, lt_z_no, ≤ℤ_refl}
 use Rattle.base.specs.Whole.{up, dn}
-use Rattle.base.proofs.Whole.{add, neg-up, neg-dn, up_pos, dn-pos, le_of, lt_of, of_le, of_lt}
+use Rattle.base.proofs.Whole.{add, neg_up, neg_dn, up_pos, dn_pos, le_of, lt_of, of_le, of_lt}
 use Rattle.rules_chips.specs.declared.Counts.{Counts}
 use Rattle.rules_choosing.specs.Keys.{larger}
-use Rattle.choose_walsh.specs.Turns.{sided, credit, fourTop, top_of, next_of}
+use Rattle.choose_walsh.specs.Turns.{sided, credit, four_top, top_of, next_of}
 use Rattle.choose_walsh.specs.Rows.{row_at, evens, odds}
 use Rattle.choose_walsh.specs.Search.{
-  groupTop,
-  groupNext,
+  group_top,
+  group_next,
   Held,
   held,
   merged,
   met,
-  fourMore,
+  four_more,
   Leads,
   Follows,
   Seeks,
@@ -44,60 +44,60 @@ trans a b c h k = le_of a c (omega (arith, of_le a b h, of_le b c k))
 less : (a b : ℤ) → a <ℤ b → a ≤ℤ b
 less a b h = le_of a b (omega (arith, of_lt a b h))
 
-larger-left : (a b : ℤ) → a ≤ℤ larger a b
-larger-left a b = by (lt_z a b) (lt_z_yes {a = a} {b = b})
+larger_left : (a b : ℤ) → a ≤ℤ larger a b
+larger_left a b = by (lt_z a b) (lt_z_yes {a = a} {b = b})
   where
     by : (t : Bool) → (T t → a <ℤ b) → a ≤ℤ cond t b a
     by true f = less a b (f tt)
     by false f = ≤ℤ_refl a
 
-larger-right : (a b : ℤ) → b ≤ℤ larger a b
-larger-right a b = by (lt_z a b) (lt_z_no {a = a} {b = b})
+larger_right : (a b : ℤ) → b ≤ℤ larger a b
+larger_right a b = by (lt_z a b) (lt_z_no {a = a} {b = b})
   where
     by : (t : Bool) → (T (not t) → b ≤ℤ a) → b ≤ℤ cond t b a
     by true f = ≤ℤ_refl b
     by false f = f tt
 
-larger-least : (a b c : ℤ) → a ≤ℤ c → b ≤ℤ c → larger a b ≤ℤ c
-larger-least a b c h k = by (lt_z a b)
+larger_least : (a b c : ℤ) → a ≤ℤ c → b ≤ℤ c → larger a b ≤ℤ c
+larger_least a b c h k = by (lt_z a b)
   where
     by : (t : Bool) → cond t b a ≤ℤ c
     by true = k
     by false = h
 
-below-least : (v b : ℤ) → v <ℤ negsuc 0 → negsuc 1 ≤ℤ b → v ≤ℤ b
+below_least : (v b : ℤ) → v <ℤ negsuc 0 → negsuc 1 ≤ℤ b → v ≤ℤ b
 unfolding up dn
-below-least v b h k = le_of v b (omega (arith, of_lt v (negsuc 0) h, of_le (negsuc 1) b k))
+below_least v b h k = le_of v b (omega (arith, of_lt v (negsuc 0) h, of_le (negsuc 1) b k))
 
 -- ---- what a key is never below
-credit-low : (u : ℤ) → negsuc 0 ≤ℤ credit u
+credit_low : (u : ℤ) → negsuc 0 ≤ℤ credit u
 unfolding credit up dn
-credit-low u = by (lt_z u (negsuc 1 -ℤ u)) (lt_z_yes {a = u} {b = negsuc 1 -ℤ u}) (lt_z_no {a = u} {b = negsuc 1 -ℤ u})
+credit_low u = by (lt_z u (negsuc 1 -ℤ u)) (lt_z_yes {a = u} {b = negsuc 1 -ℤ u}) (lt_z_no {a = u} {b = negsuc 1 -ℤ u})
   where
     two : up (negsuc 1 -ℤ u) + (2 + up u) ≡ dn (negsuc 1 -ℤ u) + dn u
-    two = omega (arith, add (negsuc 1) (neg_ℤ u), neg-up u, neg-dn u)
+    two = omega (arith, add (negsuc 1) (neg_ℤ u), neg_up u, neg_dn u)
 
     by : (b : Bool) → (T b → u <ℤ (negsuc 1 -ℤ u)) → (T (not b) → (negsuc 1 -ℤ u) ≤ℤ u)
         → negsuc 0 ≤ℤ cond b (negsuc 1 -ℤ u) u
     by true f g = le_of (negsuc 0) (negsuc 1 -ℤ u) (omega (arith, two, of_lt u (negsuc 1 -ℤ u) (f tt)))
     by false f g = le_of (negsuc 0) u (omega (arith, two, of_le (negsuc 1 -ℤ u) u (g tt)))
 
-raised-low : (n : ℕ) (u : ℤ) → negsuc 0 ≤ℤ u → negsuc 0 ≤ℤ (pos n +ℤ u)
-raised-low n u h =
-    le_of (negsuc 0) (pos n +ℤ u) (omega (arith, of_le (negsuc 0) u h, add (pos n) u, up_pos n, dn-pos n))
+raised_low : (n : ℕ) (u : ℤ) → negsuc 0 ≤ℤ u → negsuc 0 ≤ℤ (pos n +ℤ u)
+raised_low n u h =
+    le_of (negsuc 0) (pos n +ℤ u) (omega (arith, of_le (negsuc 0) u h, add (pos n) u, up_pos n, dn_pos n))
 
-four_low : (y a b : ℤ) → negsuc 0 ≤ℤ fourTop y a b
-unfolding fourTop
+four_low : (y a b : ℤ) → negsuc 0 ≤ℤ four_top y a b
+unfolding four_top
 four_low y a b =
     let u = credit (sided y a) in
     let v = credit (sided y b) -ℤ pos 1 in
-    raised-low (nat_abs y) (larger u v) (trans (negsuc 0) u (larger u v) (credit-low (sided y a)) (larger-left u v))
+    raised_low (nat_abs y) (larger u v) (trans (negsuc 0) u (larger u v) (credit_low (sided y a)) (larger_left u v))
 
-pub top-low : (y x : Counts) → negsuc 0 ≤ℤ top_of y x
+pub top_low : (y x : Counts) → negsuc 0 ≤ℤ top_of y x
 unfolding top_of
-top-low y x =
-    trans (negsuc 0) (fourTop y.i x.i x.q) (top_of y x) (four_low y.i x.i x.q)
-    (larger-left (fourTop y.i x.i x.q) (fourTop y.q x.q (neg_ℤ x.i) -ℤ pos 4))
+top_low y x =
+    trans (negsuc 0) (four_top y.i x.i x.q) (top_of y x) (four_low y.i x.i x.q)
+    (larger_left (four_top y.i x.i x.q) (four_top y.q x.q (neg_ℤ x.i) -ℤ pos 4))
 
 -- ---- keys in turn
 -- those below n + 1 are those below n, and that of n
@@ -109,8 +109,8 @@ next P n f x j l = by (dec_lt j n)
     by (no b) = let e : n ≡ j = omega arith in subst P e x
 
 module _ (k m : ℕ → ℤ) where
-  pub seeks-none : (h : Held) → h.group ≡ 0 → h.first <ℤ negsuc 0 → h.second ≡ negsuc 1 → Seeks k m 0 h
-  seeks-none h e l s = record {
+  pub seeks_none : (h : Held) → h.group ≡ 0 → h.first <ℤ negsuc 0 → h.second ≡ negsuc 1 → Seeks k m 0 h
+  seeks_none h e l s = record {
     leads = record {
       top = λ j b. absurd (omega arith);
       first = λ j b. absurd (omega arith);
@@ -131,22 +131,22 @@ module _ (k m : ℕ → ℤ) where
     second u = larger t (larger u (m n))
 
     was : (u : ℤ) → t ≤ℤ second u
-    was u = larger-left t (larger u (m n))
+    was u = larger_left t (larger u (m n))
 
     lost : (u : ℤ) → u ≤ℤ second u
-    lost u = trans u (larger u (m n)) (second u) (larger-left u (m n)) (larger-right t (larger u (m n)))
+    lost u = trans u (larger u (m n)) (second u) (larger_left u (m n)) (larger_right t (larger u (m n)))
 
     own : (u : ℤ) → m n ≤ℤ second u
-    own u = trans (m n) (larger u (m n)) (second u) (larger-right u (m n)) (larger-right t (larger u (m n)))
+    own u = trans (m n) (larger u (m n)) (second u) (larger_right u (m n)) (larger_right t (larger u (m n)))
 
-    above-nexts : (u : ℤ) (j : ℕ) → j < n + 1 → m j ≤ℤ second u
-    above-nexts u = next (λ j. m j ≤ℤ second u) n (λ j b. trans (m j) t (second u) (f.nexts j b) (was u)) (own u)
+    above_nexts : (u : ℤ) (j : ℕ) → j < n + 1 → m j ≤ℤ second u
+    above_nexts u = next (λ j. m j ≤ℤ second u) n (λ j b. trans (m j) t (second u) (f.nexts j b) (was u)) (own u)
 
     under : (u b : ℤ) → t ≤ℤ b → u ≤ℤ b → m n ≤ℤ b → second u ≤ℤ b
-    under u b x y z = larger-least t (larger u (m n)) b x (larger-least u (m n) b y z)
+    under u b x y z = larger_least t (larger u (m n)) b x (larger_least u (m n) b y z)
 
-    low-two : (u : ℤ) → negsuc 1 ≤ℤ second u
-    low-two u = trans (negsuc 1) t (second u) f.low (was u)
+    low_two : (u : ℤ) → negsuc 1 ≤ℤ second u
+    low_two u = trans (negsuc 1) t (second u) f.low (was u)
 
     -- the group wins
     won : v <ℤ k n → Seeks k m (n + 1) (held (k n) (second v) n)
@@ -158,9 +158,9 @@ module _ (k m : ℕ → ℤ) where
         none = λ e. absurd (omega arith);
       };
       follows = record {
-        low = low-two v;
+        low = low_two v;
         others = λ j b d. trans (k j) v (second v) (s.top j (omega arith)) (lost v);
-        nexts = above-nexts v;
+        nexts = above_nexts v;
         least = λ b lo ho hm. under v b
             (f.least b lo (λ j c d. ho j (omega arith) (λ e. omega arith)) (λ j c. hm j (omega arith)))
             (behind b lo ho (dec_lt 0 n)) (hm n (omega arith));
@@ -173,7 +173,7 @@ module _ (k m : ℕ → ℤ) where
             rw c.1 (ho g (omega arith) (λ e. omega arith))
         behind b lo ho (no p) =
             let c = s.none (omega arith) in
-            below-least v b c.1 lo
+            below_least v b c.1 lo
 
     -- it does not
     stayed : k n ≤ℤ v → Seeks k m (n + 1) (held v (second (k n)) g)
@@ -185,10 +185,10 @@ module _ (k m : ℕ → ℤ) where
         none = λ e. absurd (omega arith);
       };
       follows = record {
-        low = low-two (k n);
+        low = low_two (k n);
         others = next (λ j. (j ≡ g → ⊥) → k j ≤ℤ second (k n)) n
             (λ j b d. trans (k j) t (second (k n)) (f.others j b d) (was (k n))) (λ d. lost (k n));
-        nexts = above-nexts (k n);
+        nexts = above_nexts (k n);
         least = λ b lo ho hm. under (k n) b
             (f.least b lo (λ j c d. ho j (omega arith) d) (λ j c. hm j (omega arith)))
             (ho n (omega arith) (λ e. omega (arith, here.0))) (hm n (omega arith));
@@ -217,36 +217,36 @@ module _ (k m : ℕ → ℤ) where
         by true x y = won (x tt)
         by false x y = stayed (y tt)
 
-  pub seeks-more : {n : ℕ} {h : Held} → Seeks k m n h → (y x : Counts) → top_of y x ≡ k n → next_of y x ≡ m n
+  pub seeks_more : {n : ℕ} {h : Held} → Seeks k m n h → (y x : Counts) → top_of y x ≡ k n → next_of y x ≡ m n
       → Seeks k m (n + 1) (met h y x n)
-  seeks-more {n} {h} s y x e d =
-      rw (e, d) (more s.leads s.follows (subst (λ (z : ℤ). negsuc 0 ≤ℤ z) e (top-low y x)))
+  seeks_more {n} {h} s y x e d =
+      rw (e, d) (more s.leads s.follows (subst (λ (z : ℤ). negsuc 0 ≤ℤ z) e (top_low y x)))
 
 -- ---- the loop over columns
-pub quartered-none : (a : List ℤ) (p3 : ℕ) (first second : List ℤ) (at : List ℕ)
+pub quartered_none : (a : List ℤ) (p3 : ℕ) (first second : List ℤ) (at : List ℕ)
     → Quartered a p3 first second at 0 first second at
-quartered-none a p3 first second at = record {
-  first-long = refl;
-  second-long = refl;
+quartered_none a p3 first second at = record {
+  first_long = refl;
+  second_long = refl;
   at_long = refl;
   each = λ l h. absurd (omega arith);
   kept = λ l h. refl;
 }
 
-pub quartered-more : {a : List ℤ} {p3 : ℕ} {first second : List ℤ} {at : List ℕ} {n : ℕ} {first' second' : List ℤ}
+pub quartered_more : {a : List ℤ} {p3 : ℕ} {first second : List ℤ} {at : List ℕ} {n : ℕ} {first' second' : List ℤ}
     {at' : List ℕ} (v t : ℤ) (g : ℕ) → Quartered a p3 first second at n first' second' at' → n < length first
     → n < length second → n < length at
-    → held v t g ≡ fourMore (held_at first' second' at' n) (row_at a (384 + 32 * p3) n) (row_at a (128 + 32 * p3) n)
+    → held v t g ≡ four_more (held_at first' second' at' n) (row_at a (384 + 32 * p3) n) (row_at a (128 + 32 * p3) n)
     (row_at a (256 + 32 * p3) n) (row_at a (0 + 32 * p3) n) (4 * p3)
     → Quartered a p3 first second at (n + 1) (set first' n v) (set second' n t) (set at' n g)
-quartered-more {a} {p3} {first} {second} {at} {n} {first'} {second'} {at'} v t g p hf hs ha e = record {
-  first-long = length-set first' n v ∙ p.first-long;
-  second-long = length-set second' n t ∙ p.second-long;
+quartered_more {a} {p3} {first} {second} {at} {n} {first'} {second'} {at'} v t g p hf hs ha e = record {
+  first_long = length-set first' n v ∙ p.first_long;
+  second_long = length-set second' n t ∙ p.second_long;
   at_long = length-set at' n g ∙ p.at_long;
   each = next (λ l. held_at (set first' n v) (set second' n t) (set at' n g) l ≡ four l (held_at first second at l)) n
       (λ l h. other l (λ q. omega arith) ∙ p.each l h)
-      ((λ i. held (get_or-set_same first' n v (pos 0) (omega (arith, p.first-long)) i)
-      (get_or-set_same second' n t (pos 0) (omega (arith, p.second-long)) i)
+      ((λ i. held (get_or-set_same first' n v (pos 0) (omega (arith, p.first_long)) i)
+      (get_or-set_same second' n t (pos 0) (omega (arith, p.second_long)) i)
       (get_or-set_same at' n g 0 (omega (arith, p.at_long)) i))
       ∙ e ∙ ap (four n) (p.kept n (omega arith)));
   kept = λ l h. other l (λ q. omega arith) ∙ p.kept l (omega arith);
@@ -254,7 +254,7 @@ quartered-more {a} {p3} {first} {second} {at} {n} {first'} {second'} {at'} v t g
   where
     four : ℕ → Held → Held
     four l h =
-        fourMore h (row_at a (384 + 32 * p3) l) (row_at a (128 + 32 * p3) l) (row_at a (256 + 32 * p3) l)
+        four_more h (row_at a (384 + 32 * p3) l) (row_at a (128 + 32 * p3) l) (row_at a (256 + 32 * p3) l)
         (row_at a (0 + 32 * p3) l) (4 * p3)
 
     other : (l : ℕ) → (l ≡ n → ⊥)
@@ -263,52 +263,52 @@ quartered-more {a} {p3} {first} {second} {at} {n} {first'} {second'} {at'} v t g
         (get_or-set_other at' n l g 0 d i)
 
 -- ---- the groups
-pub sought-none : (a first second : List ℤ) (at : List ℕ) → length first ≡ 16 → length second ≡ 16 → length at ≡ 16
+pub sought_none : (a first second : List ℤ) (at : List ℕ) → length first ≡ 16 → length second ≡ 16 → length at ≡ 16
     → ((l : ℕ) → l < 16 → get_or first l (pos 0) <ℤ negsuc 0) → ((l : ℕ) → l < 16 → get_or second l (pos 0) ≡ negsuc 1)
     → ((l : ℕ) → l < 16 → get_or at l 0 ≡ 0) → Sought a 0 first second at
-sought-none a first second at e f g low next start = record {
-  first-long = e;
-  second-long = f;
+sought_none a first second at e f g low next start = record {
+  first_long = e;
+  second_long = f;
   at_long = g;
-  each = λ l h. seeks-none (groupTop a l) (groupNext a l) (held_at first second at l) (start l h) (low l h) (next l h);
+  each = λ l h. seeks_none (group_top a l) (group_next a l) (held_at first second at l) (start l h) (low l h) (next l h);
 }
 
-pub sought-quarter : {a : List ℤ} {p3 : ℕ} {first second : List ℤ} {at : List ℕ} {first' second' : List ℤ}
+pub sought_quarter : {a : List ℤ} {p3 : ℕ} {first second : List ℤ} {at : List ℕ} {first' second' : List ℤ}
     {at' : List ℕ} → Sought a (4 * p3) first second at → Quartered a p3 first second at 16 first' second' at'
     → Sought a (4 * p3 + 4) first' second' at'
-unfolding fourMore
-sought-quarter {a} {p3} {first} {second} {at} {first'} {second'} {at'} s p = record {
-  first-long = p.first-long ∙ s.first-long;
-  second-long = p.second-long ∙ s.second-long;
+unfolding four_more
+sought_quarter {a} {p3} {first} {second} {at} {first'} {second'} {at'} s p = record {
+  first_long = p.first_long ∙ s.first_long;
+  second_long = p.second_long ∙ s.second_long;
   at_long = p.at_long ∙ s.at_long;
   each = λ l h. rw (p.each l h) (all l (s.each l h));
 }
   where
     -- group 4 p3 + p4 more
-    one : (l p4 : ℕ) {h : Held} → p4 < 4 → Seeks (groupTop a l) (groupNext a l) (4 * p3 + p4) h
-        → Seeks (groupTop a l) (groupNext a l) (4 * p3 + (p4 + 1))
+    one : (l p4 : ℕ) {h : Held} → p4 < 4 → Seeks (group_top a l) (group_next a l) (4 * p3 + p4) h
+        → Seeks (group_top a l) (group_next a l) (4 * p3 + (p4 + 1))
         (met h (odds a l p3 p4) (evens a l p3 p4) (4 * p3 + p4))
     one l p4 {h} few k =
         let e : p3 ≡ (4 * p3 + p4) / 4 = omega arith in
         let f : p4 ≡ (4 * p3 + p4) % 4 = omega arith in
         let n : 4 * p3 + p4 + 1 ≡ 4 * p3 + (p4 + 1) = omega arith in
-        subst (λ (n : ℕ). Seeks (groupTop a l) (groupNext a l) n
+        subst (λ (n : ℕ). Seeks (group_top a l) (group_next a l) n
         (met h (odds a l p3 p4) (evens a l p3 p4) (4 * p3 + p4))) n
-        (seeks-more (groupTop a l) (groupNext a l) k (odds a l p3 p4) (evens a l p3 p4)
+        (seeks_more (group_top a l) (group_next a l) k (odds a l p3 p4) (evens a l p3 p4)
         (λ i. top_of (odds a l (e i) (f i)) (evens a l (e i) (f i)))
         (λ i. next_of (odds a l (e i) (f i)) (evens a l (e i) (f i))))
 
     none : 4 * p3 ≡ 4 * p3 + 0
     none = omega arith
 
-    all : (l : ℕ) {h : Held} → Seeks (groupTop a l) (groupNext a l) (4 * p3) h
-        → Seeks (groupTop a l) (groupNext a l) (4 * p3 + 4)
-        (fourMore h (row_at a (384 + 32 * p3) l) (row_at a (128 + 32 * p3) l) (row_at a (256 + 32 * p3) l)
+    all : (l : ℕ) {h : Held} → Seeks (group_top a l) (group_next a l) (4 * p3) h
+        → Seeks (group_top a l) (group_next a l) (4 * p3 + 4)
+        (four_more h (row_at a (384 + 32 * p3) l) (row_at a (128 + 32 * p3) l) (row_at a (256 + 32 * p3) l)
         (row_at a (0 + 32 * p3) l) (4 * p3))
     all l {h} k = one l 3 (lit< tt) (one l 2 (lit< tt) (one l 1 (lit< tt) first_one))
       where
-        first_one : Seeks (groupTop a l) (groupNext a l) (4 * p3 + 1)
+        first_one : Seeks (group_top a l) (group_next a l) (4 * p3 + 1)
             (met h (odds a l p3 0) (evens a l p3 0) (4 * p3))
-        first_one = subst (λ (n : ℕ). Seeks (groupTop a l) (groupNext a l) (4 * p3 + 1)
+        first_one = subst (λ (n : ℕ). Seeks (group_top a l) (group_next a l) (4 * p3 + 1)
             (met h (odds a l p3 0) (evens a l p3 0) n)) (sym none)
-            (one l 0 (lit< tt) (subst (λ (n : ℕ). Seeks (groupTop a l) (groupNext a l) n h) none k))
+            (one l 0 (lit< tt) (subst (λ (n : ℕ). Seeks (group_top a l) (group_next a l) n h) none k))

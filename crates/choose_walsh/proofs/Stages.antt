@@ -1,10 +1,10 @@
 -- What enters the stages and what they leave, from what their calls do, and how large the numbers grow.
---     product-fits, raised-fits, raised_is      one number times a factor, and more
---     scaled-none, scaled-four                  a loop over the columns of four chips: before it, one more
+--     product_fits, raised_fits, raised_is      one number times a factor, and more
+--     scaled_none, scaled_four                  a loop over the columns of four chips: before it, one more
 --     entered                                   all eight chips have entered
---     four-none, four-more, four-both           numbers that are seen to be small on the way
+--     four_none, four_more_lem, four_both           numbers that are seen to be small on the way
 --     paired                                    four butterflies are the first stage
---     entered-rows, paired-rows                 numbers from -b to b grow to 16 b + 4, and then to 2 b
+--     entered_rows, paired_rows                 numbers from -b to b grow to 16 b + 4, and then to 2 b
 --     row_of                                    what a butterfly asks of a row that it is lent
 -- Assumes nothing.
 use mathlib.Core.Path.{◌≡◌, refl, sym, ap, ◌∙◌, subst}
@@ -20,21 +20,21 @@ use mir.Syntax.{Width}
 use mir.Val.{SFits, to_z, of_z, hbits}
 use Rattle.base.specs.Tables.{tabulate}
 use Rattle.base.specs.Whole.{Within}
-use Rattle.base.proofs.Tables.{length-tabulate, get_d_tabulate}
-use Rattle.base.proofs.Whole.{small, within-zero, within-neg, within_more, within-add}
+use Rattle.base.proofs.Tables.{length_tabulate, get_or_tabulate}
+use Rattle.base.proofs.Whole.{small, within_zero, within_neg, within_more, within_add}
 use Rattle.rules_chips.specs.declared.Counts.{Counts}
 use Rattle.rules_chips.specs.Chips.{pair}
 use Rattle.rules_chips.specs.Bounds.{Bounded}
 use Rattle.rules_choosing.specs.Scores.{RowWithin}
 use Rattle.base.proofs.Adding.{
   Reads,
-  made-fits,
+  made_fits,
   made,
   reads_of,
-  reads-fits,
-  reads-add,
-  within-pos,
-  within-mul,
+  reads_fits,
+  reads_add,
+  within_pos,
+  within_mul,
 }
 use Rattle.rules_choosing.proofs.Clean.{phase}
 use Rattle.choose_walsh.specs.Turns.{fly}
@@ -52,8 +52,8 @@ use Rattle.choose_walsh.specs.Rows.{
   Joined,
   Paired,
 }
-use Rattle.base.proofs.Puts.{puts, length-puts, puts-other, puts-at}
-use Rattle.choose_walsh.proofs.Turns.{turn, fly-bounded, eight-cases}
+use Rattle.base.proofs.Puts.{puts, length_puts, puts_other, puts_at}
+use Rattle.choose_walsh.proofs.Turns.{turn, fly_bounded, eight_cases}
 
 -- ---- chips that enter
 -- a number of any width times a factor, and more
@@ -65,20 +65,20 @@ module _ (w : Width) {b s : ℕ} {v times more : ℤ} (wide : 16 < 2 ^ hbits w) 
   multiplied : product ≡ times *ℤ v
   multiplied = λ i. small w 16 wide times ht i *ℤ h.is i
 
-  pub product-fits : SFits w product
-  product-fits = made-fits multiplied (within-mul ht h.within) (omega arith)
+  pub product_fits : SFits w product
+  product_fits = made_fits multiplied (within_mul ht h.within) (omega arith)
 
   number : Reads w (16 * b) (of_z w product) (times *ℤ v)
-  number = made multiplied (within-mul ht h.within) (omega arith)
+  number = made multiplied (within_mul ht h.within) (omega arith)
 
   quarter : Reads w 4 (of_z w more) more
   quarter = reads_of (omega arith) hm
 
-  pub raised-fits : SFits w (to_z w (of_z w product) +ℤ to_z w (of_z w more))
-  raised-fits = reads-fits number quarter room
+  pub raised_fits : SFits w (to_z w (of_z w product) +ℤ to_z w (of_z w more))
+  raised_fits = reads_fits number quarter room
 
   pub raised_is : to_z w (of_z w (to_z w (of_z w product) +ℤ to_z w (of_z w more))) ≡ (times *ℤ v) +ℤ more
-  raised_is = (reads-add number quarter room).is
+  raised_is = (reads_add number quarter room).is
 
 -- ---- four chips scaled, column after column, and all eight
 -- what is written of column l
@@ -86,16 +86,16 @@ abbrev four : List ℤ → ℕ → List ℤ → List ℤ → ℕ → ℕ → ℤ
 four row x times more l k =
     (get_or times k (pos 0) *ℤ get_or row (x + l + 32 * k) (pos 0)) +ℤ get_or more k (pos 0)
 
-pub scaled-none : {row : List ℤ} {x : ℕ} {times more z : List ℤ} → FourScaled row x times more z 0 z
-scaled-none = record { long = refl; each = λ k l h g. absurd (omega arith); kept = λ j h. refl }
+pub scaled_none : {row : List ℤ} {x : ℕ} {times more z : List ℤ} → FourScaled row x times more z 0 z
+scaled_none = record { long = refl; each = λ k l h g. absurd (omega arith); kept = λ j h. refl }
 
-scaled-more : (row : List ℤ) (x : ℕ) (times more z₀ : List ℤ) (l : ℕ) (z vs : List ℤ)
+scaled_more : (row : List ℤ) (x : ℕ) (times more z₀ : List ℤ) (l : ℕ) (z vs : List ℤ)
     → FourScaled row x times more z₀ l z → l < 32 → x + 128 ≤ length z₀ → vs ≡ tabulate (four row x times more l) 4
     → FourScaled row x times more z₀ (l + 1) (puts z (λ k. x + l + 32 * k) 0 vs)
-scaled-more row x times more z₀ l z vs s few room e = record {
-  long = length-puts to vs z 0 ∙ s.long;
+scaled_more row x times more z₀ l z vs s few room e = record {
+  long = length_puts to vs z 0 ∙ s.long;
   each = λ k j hk hj. by k j hk hj (dec_lt j l);
-  kept = λ j h. puts-other to vs z 0 j (λ i hi q. omega (arith, length-four)) ∙ s.kept j h;
+  kept = λ j h. puts-other to vs z 0 j (λ i hi q. omega (arith, length_four)) ∙ s.kept j h;
 }
   where
     to : ℕ → ℕ
@@ -104,13 +104,13 @@ scaled-more row x times more z₀ l z vs s few room e = record {
     one : (i k : ℕ) → x + l + 32 * i ≡ x + l + 32 * k → i ≡ k
     one i k q = omega arith
 
-    length-four : length vs ≡ 4
-    length-four = ap length e ∙ length-tabulate (four row x times more l) 4
+    length_four : length vs ≡ 4
+    length_four = ap length e ∙ length_tabulate (four row x times more l) 4
 
     by : (k j : ℕ) → k < 4 → j < l + 1 → Dec (j < l)
         → get_or (puts z (λ k. x + l + 32 * k) 0 vs) (x + j + 32 * k) (pos 0) ≡ four row x times more j k
     by k j hk hj (yes p) =
-        puts-other to vs z 0 (x + j + 32 * k) (λ i hi q. off i (omega (arith, length-four)) q) ∙ s.each k j hk p
+        puts_other to vs z 0 (x + j + 32 * k) (λ i hi q. off i (omega (arith, length_four)) q) ∙ s.each k j hk p
       where
         off : (i : ℕ) → i < 4 → x + j + 32 * k ≡ x + l + 32 * (0 + i) → ⊥
         off i hi q = omega arith
@@ -118,15 +118,15 @@ scaled-more row x times more z₀ l z vs s few room e = record {
         let q : l ≡ j = omega arith in
         subst (λ (j : ℕ). get_or (puts z (λ k. x + l + 32 * k) 0 vs) (x + j + 32 * k) (pos 0)
         ≡ four row x times more j k) q
-        (ap (λ (n : ℕ). get_or (puts z (λ k. x + l + 32 * k) 0 vs) n (pos 0)) from-none
-        ∙ puts-at to one vs z 0 k (omega (arith, length-four)) (λ i b. omega (arith, length-four, s.long))
-        ∙ ap (λ (vs : List ℤ). get_or vs k (pos 0)) e ∙ get_d_tabulate (four row x times more l) 4 k (pos 0) hk)
+        (ap (λ (n : ℕ). get_or (puts z (λ k. x + l + 32 * k) 0 vs) n (pos 0)) from_none
+        ∙ puts_at to one vs z 0 k (omega (arith, length_four)) (λ i b. omega (arith, length_four, s.long))
+        ∙ ap (λ (vs : List ℤ). get_or vs k (pos 0)) e ∙ get_or_tabulate (four row x times more l) 4 k (pos 0) hk)
       where
-        from-none : x + l + 32 * k ≡ x + l + 32 * (0 + k)
-        from-none = omega arith
+        from_none : x + l + 32 * k ≡ x + l + 32 * (0 + k)
+        from_none = omega arith
 
 -- the turn with the four as the code writes them
-pub scaled-four : {row : List ℤ} {x : ℕ} {t0 t1 t2 t3 m0 m1 m2 m3 : ℤ} {z₀ : List ℤ} {l : ℕ} {z : List ℤ}
+pub scaled_four : {row : List ℤ} {x : ℕ} {t0 t1 t2 t3 m0 m1 m2 m3 : ℤ} {z₀ : List ℤ} {l : ℕ} {z : List ℤ}
     {v0 v1 v2 v3 : ℤ}
     → FourScaled row x (t0 ∷ t1 ∷ t2 ∷ t3 ∷ []) (m0 ∷ m1 ∷ m2 ∷ m3 ∷ []) z₀ l z → l < 32 → x + 128 ≤ length z₀
     → v0 ≡ (t0 *ℤ get_or row (x + l) (pos 0)) +ℤ m0 → v1 ≡ (t1 *ℤ get_or row (x + l + 32) (pos 0)) +ℤ m1
@@ -134,13 +134,13 @@ pub scaled-four : {row : List ℤ} {x : ℕ} {t0 t1 t2 t3 m0 m1 m2 m3 : ℤ} {z�
     → FourScaled row x (t0 ∷ t1 ∷ t2 ∷ t3 ∷ []) (m0 ∷ m1 ∷ m2 ∷ m3 ∷ []) z₀ (l + 1)
     (set (set (set (set z (x + l) v0) (x + l + 32) v1) (x + l + 64) v2) (x + l + 96) v3)
 unfolding tabulate
-scaled-four {row} {x} {t0} {t1} {t2} {t3} {m0} {m1} {m2} {m3} {z₀} {l} {z} {v0} {v1} {v2} {v3} s few room e0 e1 e2
+scaled_four {row} {x} {t0} {t1} {t2} {t3} {m0} {m1} {m2} {m3} {z₀} {l} {z} {v0} {v1} {v2} {v3} s few room e0 e1 e2
     e3 =
     let q : x + l + 0 ≡ x + l = omega arith in
     let first : v0 ≡ (t0 *ℤ get_or row (x + l + 0) (pos 0)) +ℤ m0 = rw q e0 in
     subst (λ (n : ℕ). FourScaled row x (t0 ∷ t1 ∷ t2 ∷ t3 ∷ []) (m0 ∷ m1 ∷ m2 ∷ m3 ∷ []) z₀ (l + 1)
     (set (set (set (set z n v0) (x + l + 32) v1) (x + l + 64) v2) (x + l + 96) v3)) q
-    (scaled-more row x (t0 ∷ t1 ∷ t2 ∷ t3 ∷ []) (m0 ∷ m1 ∷ m2 ∷ m3 ∷ []) z₀ l z (v0 ∷ v1 ∷ v2 ∷ v3 ∷ []) s few room
+    (scaled_more row x (t0 ∷ t1 ∷ t2 ∷ t3 ∷ []) (m0 ∷ m1 ∷ m2 ∷ m3 ∷ []) z₀ l z (v0 ∷ v1 ∷ v2 ∷ v3 ∷ []) s few room
     (λ i. first i ∷ e1 i ∷ e2 i ∷ e3 i ∷ []))
 
 pub entered : {row z₀ z₁ z₂ : List ℤ} → length z₀ ≡ 256
@@ -170,13 +170,13 @@ entered {row} {z₀} {z₁} {z₂} e s₁ s₂ = record {
         rw q at (s₂.each k l h g)
 
 -- ---- numbers that are seen to be small on the way, as bytes are
-pub four-none : {b : ℕ} {row : List ℤ} {x : ℕ} → FourWithin b row x 0
-four-none = record { at = λ k l h g. absurd (omega arith) }
+pub four_none : {b : ℕ} {row : List ℤ} {x : ℕ} → FourWithin b row x 0
+four_none = record { at = λ k l h g. absurd (omega arith) }
 
-pub four-more : {b : ℕ} {row : List ℤ} {x n : ℕ} → FourWithin b row x n → Within b (get_or row (x + n) (pos 0))
+pub four_more_lem : {b : ℕ} {row : List ℤ} {x n : ℕ} → FourWithin b row x n → Within b (get_or row (x + n) (pos 0))
     → Within b (get_or row (x + n + 32) (pos 0)) → Within b (get_or row (x + n + 64) (pos 0))
     → Within b (get_or row (x + n + 96) (pos 0)) → FourWithin b row x (n + 1)
-four-more {b} {row} {x} {n} s h0 h1 h2 h3 = record {
+four_more_lem {b} {row} {x} {n} s h0 h1 h2 h3 = record {
   at = λ k l h. below_more (λ l. Within b (get_or row (x + l + 32 * k) (pos 0))) _ (λ j. s.at k j h)
       (phase (λ k. Within b (get_or row (x + n + 32 * k) (pos 0))) (rw none h0) h1 h2 h3 k h) l;
 }
@@ -184,9 +184,9 @@ four-more {b} {row} {x} {n} s h0 h1 h2 h3 = record {
     none : x + n + 32 * 0 ≡ x + n
     none = omega arith
 
-pub four-both : {b : ℕ} {row : List ℤ} → FourWithin b row 0 32 → FourWithin b row 128 32 → length row ≡ 256
+pub four_both : {b : ℕ} {row : List ℤ} → FourWithin b row 0 32 → FourWithin b row 128 32 → length row ≡ 256
     → RowWithin b row
-four-both {b} {row} s t e = record { at = λ j. by j (dec_lt j 128) (dec_lt j 256) }
+four_both {b} {row} s t e = record { at = λ j. by j (dec_lt j 128) (dec_lt j 256) }
   where
     by : (j : ℕ) → Dec (j < 128) → Dec (j < 256) → Within b (get_or row j (pos 0))
     by j (yes p) d =
@@ -195,11 +195,11 @@ four-both {b} {row} s t e = record { at = λ j. by j (dec_lt j 128) (dec_lt j 25
     by j (no p) (yes d) =
         let q : 128 + j % 32 + 32 * (j / 32 - 4) ≡ j = omega arith in
         subst (λ (i : ℕ). Within b (get_or row i (pos 0))) q (t.at (j / 32 - 4) (j % 32) (omega arith) (omega arith))
-    by j (no p) (no d) = rw (get_or-eq_default row (pos 0) {n = j} (omega arith)) (within-zero b)
+    by j (no p) (no d) = rw (get_or-eq_default row (pos 0) {n = j} (omega arith)) (within_zero b)
 
 -- ---- factors and what is added are small, so what has entered is
-within-cons : {b : ℕ} {v : ℤ} {t : List ℤ} → Within b v → RowWithin b t → RowWithin b (v ∷ t)
-within-cons {b} {v} {t} h r = record { at = by }
+within_cons : {b : ℕ} {v : ℤ} {t : List ℤ} → Within b v → RowWithin b t → RowWithin b (v ∷ t)
+within_cons {b} {v} {t} h r = record { at = by }
   where
     by : (k : ℕ) → Within b (get_or (v ∷ t) k (pos 0))
     by zero = h
@@ -208,21 +208,21 @@ within-cons {b} {v} {t} h r = record { at = by }
 within_none : {b : ℕ} → RowWithin b []
 within_none = record { at = λ k. within-zero _ }
 
-factors-within : RowWithin 16 factors
-factors-within =
-    let plus : Within 16 (pos 16) = within-pos 16 in
-    let minus : Within 16 (negsuc 15) = within-neg plus in
-    within-cons plus (within-cons plus (within-cons plus (within-cons minus (within-cons plus
-    (within-cons plus (within-cons minus (within-cons plus within_none)))))))
+factors_within : RowWithin 16 factors
+factors_within =
+    let plus : Within 16 (pos 16) = within_pos 16 in
+    let minus : Within 16 (negsuc 15) = within_neg plus in
+    within_cons plus (within_cons plus (within_cons plus (within_cons minus (within_cons plus
+    (within_cons plus (within_cons minus (within_cons plus within_none)))))))
 
-quarters-within : RowWithin 4 quarters
-quarters-within =
-    let none : Within 4 (pos 0) = within-zero 4 in
-    within-cons none (within-cons none (within-cons none (within-cons none (within-cons none
-    (within-cons none (within-cons none (within-cons (within-pos 4) within_none)))))))
+quarters_within : RowWithin 4 quarters
+quarters_within =
+    let none : Within 4 (pos 0) = within_zero 4 in
+    within_cons none (within_cons none (within_cons none (within_cons none (within_cons none
+    (within_cons none (within_cons none (within_cons (within_pos 4) within_none)))))))
 
-pub entered-rows : {b : ℕ} {row z : List ℤ} → Entered row z → RowWithin b row → RowsBounded (16 * b + 4) 8 z
-entered-rows {b} {row} {z} h r = record {
+pub entered_rows : {b : ℕ} {row z : List ℤ} → Entered row z → RowWithin b row → RowsBounded (16 * b + 4) 8 z
+entered_rows {b} {row} {z} h r = record {
   row = λ k hk. record {
     at = λ l hl. record {
       real = one k l hk (omega arith);
@@ -237,7 +237,7 @@ entered-rows {b} {row} {z} h r = record {
     one : (k l : ℕ) → k < 8 → l < 32 → Within (16 * b + 4) (get_or z (32 * k + l) (pos 0))
     one k l hk hl =
         subst (Within (16 * b + 4)) (sym (h.each k l hk hl))
-        (within-add (within-mul (factors-within.at k) (r.at (32 * k + l))) (quarters-within.at k))
+        (within_add (within_mul (factors_within.at k) (r.at (32 * k + l))) (quarters_within.at k))
 
 -- ---- rows that a butterfly leaves alone
 kept : {s : List ℤ} {x y : ℕ} {o : List ℤ} {z n : ℕ} {o' : List ℤ} → Flown s x y o z n o'
@@ -266,19 +266,19 @@ row_more h l = record {
       let c = h.at k g in record { real = within_more c.real l; imag = within_more c.imag l };
 }
 
-pub row-at : {b n : ℕ} {t : List ℤ} {x : ℕ} (k : ℕ) → RowsBounded b n t → k < n → 32 * k ≡ x → RowBounded b t x
-row-at {b} {n} {t} k h l e = subst (λ (x : ℕ). RowBounded b t x) e (h.row k l)
+pub row_at_lem : {b n : ℕ} {t : List ℤ} {x : ℕ} (k : ℕ) → RowsBounded b n t → k < n → 32 * k ≡ x → RowBounded b t x
+row_at_lem {b} {n} {t} k h l e = subst (λ (x : ℕ). RowBounded b t x) e (h.row k l)
 
 flies : {b : ℕ} {s t : List ℤ} {x y w : ℕ} (p : ℕ)
     → ((l : ℕ) → l < 16 → row_at t w l ≡ fly (row_at s y l) (row_at s x l) p) → RowBounded b s y → RowBounded b s x
     → RowBounded (b + b) t w
 flies {b} p e hy hx = record {
   at = λ l hl.
-      subst (λ (c : Counts). Bounded (b + b) c) (sym (e l hl)) (fly-bounded p (hy.at l hl) (hx.at l hl));
+      subst (λ (c : Counts). Bounded (b + b) c) (sym (e l hl)) (fly_bounded p (hy.at l hl) (hx.at l hl));
 }
 
-pub paired-rows : {b : ℕ} {z a : List ℤ} → Paired z a → RowsBounded b 8 z → RowsBounded (b + b) 16 a
-paired-rows {b} {z} {a} h r = record {
+pub paired_rows : {b : ℕ} {z a : List ℤ} → Paired z a → RowsBounded b 8 z → RowsBounded (b + b) 16 a
+paired_rows {b} {z} {a} h r = record {
   row = λ k hk.
       subst (λ (x : ℕ). RowBounded (b + b) a x) (four k)
       (phase (λ j. RowBounded (b + b) a (128 * j + 32 * (k % 4)))
@@ -294,9 +294,9 @@ paired-rows {b} {z} {a} h r = record {
 
     one : {x w : ℕ} → Joined z a x w → (i j : ℕ) → i < 8 → j < 8 → 32 * i ≡ x → 32 * j ≡ x + 64 → (p : ℕ) → p < 4
         → RowBounded (b + b) a (w + 32 * p)
-    one f i j hi hj ei ej p hp = flies p (λ l hl. f.at p l hp hl) (row-at j r hj ej) (row-at i r hi ei)
+    one f i j hi hj ei ej p hp = flies p (λ l hl. f.at p l hp hl) (row_at_lem j r hj ej) (row_at_lem i r hi ei)
 
 -- ---- what a butterfly asks of a row that it is lent
 pub row_of : {b d n : ℕ} {t : List ℤ} {x : ℕ} (k : ℕ) → RowsBounded b n t → b ≤ d → k < n → 32 * k ≡ x
     → RowBounded d t x
-row_of k r more h e = row_more (row-at k r h e) more
+row_of k r more h e = row_more (row_at_lem k r h e) more

@@ -8,17 +8,17 @@ use Rattle.rules_chips.specs.declared.Counts.{Counts}
 use Rattle.rules_chips.specs.Chips.{pair}
 use Rattle.rules_chips.specs.Bounds.{Bounded}
 use Rattle.rules_rates.specs.declared.Rate.TheVariants.{Eleven}
-use Rattle.rules_symbols.specs.Choice.{decided, leadOf}
-use Rattle.choose_sums.specs.Sums.{rows, everyRow}
+use Rattle.rules_symbols.specs.Choice.{decided, lead_of}
+use Rattle.choose_sums.specs.Sums.{rows, every_row}
 use Rattle.choose_walsh.specs.Turns.{fly}
 
 -- what symbol l of sixteen abreast is decided as
-abbrev pub elevenAt : List ℤ → ℕ → ℕ
-elevenAt row l = decided Eleven (rows (everyRow row l 8) (everyRow row (16 + l) 8))
+abbrev pub eleven_at : List ℤ → ℕ → ℕ
+eleven_at row l = decided Eleven (rows (every_row row l 8) (every_row row (16 + l) 8))
 
 -- and the lead of that choice
-abbrev pub elevenLead : List ℤ → ℕ → ℕ
-elevenLead row l = leadOf Eleven (rows (everyRow row l 8) (everyRow row (16 + l) 8))
+abbrev pub eleven_lead : List ℤ → ℕ → ℕ
+eleven_lead row l = lead_of Eleven (rows (every_row row l 8) (every_row row (16 + l) 8))
 
 -- the number in column l of the complex row that begins at x
 abbrev pub row_at : List ℤ → ℕ → ℕ → Counts

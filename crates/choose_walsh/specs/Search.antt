@@ -10,11 +10,11 @@ use Rattle.choose_walsh.specs.Turns.{fly, top_of, next_of}
 use Rattle.choose_walsh.specs.Rows.{row_at, evens, odds}
 
 -- the two keys of group g, 4 p3 + p4, in column l
-abbrev pub groupTop : List ℤ → ℕ → ℕ → ℤ
-groupTop a l g = top_of (odds a l (g / 4) (g % 4)) (evens a l (g / 4) (g % 4))
+abbrev pub group_top : List ℤ → ℕ → ℕ → ℤ
+group_top a l g = top_of (odds a l (g / 4) (g % 4)) (evens a l (g / 4) (g % 4))
 
-abbrev pub groupNext : List ℤ → ℕ → ℕ → ℤ
-groupNext a l g = next_of (odds a l (g / 4) (g % 4)) (evens a l (g / 4) (g % 4))
+abbrev pub group_next : List ℤ → ℕ → ℕ → ℤ
+group_next a l g = next_of (odds a l (g / 4) (g % 4)) (evens a l (g / 4) (g % 4))
 
 -- what a column has so far: the largest key, the next, and the group of the first
 pub record Held : Type 0 where
@@ -35,8 +35,8 @@ merged h v t g =
 abbrev pub met : Held → Counts → Counts → ℕ → Held
 met h y x g = merged h (top_of y x) (next_of y x) g
 
-unfoldable pub fourMore : Held → Counts → Counts → Counts → Counts → ℕ → Held
-fourMore h q p f e g =
+unfoldable pub four_more : Held → Counts → Counts → Counts → Counts → ℕ → Held
+four_more h q p f e g =
     met (met (met (met h (fly q p 0) (fly f e 0) g) (fly q p 1) (fly f e 1) (g + 1)) (fly q p 2) (fly f e 2) (g + 2))
     (fly q p 3) (fly f e 3) (g + 3)
 
@@ -66,26 +66,26 @@ held_at first second at l = held (get_or first l (pos 0)) (get_or second l (pos 
 
 -- so in each of sixteen columns, for the first n groups
 pub record Sought (a : List ℤ) (n : ℕ) (first second : List ℤ) (at : List ℕ) : Type 0 where
-  pub first-long : length first ≡ 16
-  pub second-long : length second ≡ 16
+  pub first_long : length first ≡ 16
+  pub second_long : length second ≡ 16
   pub at_long : length at ≡ 16
-  pub each : (l : ℕ) → l < 16 → Seeks (groupTop a l) (groupNext a l) n (held_at first second at l)
+  pub each : (l : ℕ) → l < 16 → Seeks (group_top a l) (group_next a l) n (held_at first second at l)
 
 -- the groups of one p3 more, in the columns below n
 pub record Quartered (a : List ℤ) (p3 : ℕ) (first second : List ℤ) (at : List ℕ) (n : ℕ) (first' second' : List ℤ)
     (at' : List ℕ) : Type 0 where
-  pub first-long : length first' ≡ length first
-  pub second-long : length second' ≡ length second
+  pub first_long : length first' ≡ length first
+  pub second_long : length second' ≡ length second
   pub at_long : length at' ≡ length at
   pub each : (l : ℕ) → l < n → held_at first' second' at' l
-      ≡ fourMore (held_at first second at l) (row_at a (384 + 32 * p3) l) (row_at a (128 + 32 * p3) l)
+      ≡ four_more (held_at first second at l) (row_at a (384 + 32 * p3) l) (row_at a (128 + 32 * p3) l)
       (row_at a (256 + 32 * p3) l) (row_at a (0 + 32 * p3) l) (4 * p3)
   pub kept : (l : ℕ) → n ≤ l → held_at first' second' at' l ≡ held_at first second at l
 
 -- two keys and a group in each of sixteen columns, of which a word and its lead can be read off
 pub record Keyed (first second : List ℤ) (at : List ℕ) : Type 0 where
-  pub first-long : length first ≡ 16
-  pub second-long : length second ≡ 16
+  pub first_long : length first ≡ 16
+  pub second_long : length second ≡ 16
   pub at_long : length at ≡ 16
   pub key : (l : ℕ) → l < 16 → T (non_neg (get_or first l (pos 0)))
   pub place : (l : ℕ) → l < 16 → get_or at l 0 < 16
@@ -93,12 +93,12 @@ pub record Keyed (first second : List ℤ) (at : List ℕ) : Type 0 where
   pub order : (l : ℕ) → l < 16 → get_or second l (pos 0) ≤ℤ get_or first l (pos 0)
 
 -- the number of the word that has a key, in the group g
-abbrev pub wordOfKey : ℤ → ℕ → ℕ
-wordOfKey v g = 16 * (15 - (nat_abs v % 16 + 11) % 16) + g
+abbrev pub word_of_key : ℤ → ℕ → ℕ
+word_of_key v g = 16 * (15 - (nat_abs v % 16 + 11) % 16) + g
 
 -- the score of a key, and what the first of two is ahead by
 abbrev pub size_of : ℤ → ℕ
 size_of v = nat_abs (v +ℤ pos 11) / 16
 
-abbrev pub leadOfKeys : ℤ → ℤ → ℕ
-leadOfKeys v t = size_of v - size_of t
+abbrev pub lead_of_keys : ℤ → ℤ → ℕ
+lead_of_keys v t = size_of v - size_of t

@@ -32,17 +32,17 @@ credit u = larger u (negsuc 1 -ℤ u)
 
 -- the larger key of the words whose sums are y + a and y - a and their opposites, and that of those with b, one place
 -- behind: the larger of the two, and the other
-unfoldable pub fourTop : ℤ → ℤ → ℤ → ℤ
-fourTop y a b = pos (nat_abs y) +ℤ larger (credit (sided y a)) (credit (sided y b) -ℤ pos 1)
+unfoldable pub four_top : ℤ → ℤ → ℤ → ℤ
+four_top y a b = pos (nat_abs y) +ℤ larger (credit (sided y a)) (credit (sided y b) -ℤ pos 1)
 
-unfoldable pub fourNext : ℤ → ℤ → ℤ → ℤ
-fourNext y a b = pos (nat_abs y) +ℤ smaller (credit (sided y a)) (credit (sided y b) -ℤ pos 1)
+unfoldable pub four_next : ℤ → ℤ → ℤ → ℤ
+four_next y a b = pos (nat_abs y) +ℤ smaller (credit (sided y a)) (credit (sided y b) -ℤ pos 1)
 
 -- of all words that y and x make, p1 being 0 and 1, the latter four behind: the largest key, and the next
 unfoldable pub top_of : Counts → Counts → ℤ
-top_of y x = larger (fourTop y.i x.i x.q) (fourTop y.q x.q (neg_ℤ x.i) -ℤ pos 4)
+top_of y x = larger (four_top y.i x.i x.q) (four_top y.q x.q (neg_ℤ x.i) -ℤ pos 4)
 
 unfoldable pub next_of : Counts → Counts → ℤ
 next_of y x =
-    larger (smaller (fourTop y.i x.i x.q) (fourTop y.q x.q (neg_ℤ x.i) -ℤ pos 4))
-    (larger (fourNext y.i x.i x.q) (fourNext y.q x.q (neg_ℤ x.i) -ℤ pos 4))
+    larger (smaller (four_top y.i x.i x.q) (four_top y.q x.q (neg_ℤ x.i) -ℤ pos 4))
+    (larger (four_next y.i x.i x.q) (four_next y.q x.q (neg_ℤ x.i) -ℤ pos 4))

@@ -6,8 +6,8 @@ ghost use Rattle.std.specs.Int.Signed.{lt_z};
 ghost use Rattle.base.specs.Whole.{Within};
 ghost use Rattle.rules_chips.specs.Bounds.{Bounded};
 ghost use Rattle.rules_chips.specs.Chips.{pair};
-ghost use Rattle.choose_walsh.specs.Turns.{plus, sided, credit, fourTop, fourNext, top_of, next_of};
-ghost use Rattle.choose_walsh.specs.Search.{held, merged, met, fourMore};
+ghost use Rattle.choose_walsh.specs.Turns.{plus, sided, credit, four_top, four_next, top_of, next_of};
+ghost use Rattle.choose_walsh.specs.Search.{held, merged, met, four_more};
 
 // Two keys of a group: the largest, and the next.
 #[derive(Drop)]
@@ -44,7 +44,7 @@ fn sided(y: i16, a: i16) -> i16
 // other. Opposite words count as one.
 fn four(y: i16, a: i16, b: i16) -> Two
     requires { Within 8208 y × Within 8208 a × Within 8208 b }
-    ensures answer { (result.first ≡ fourTop y a b) × (result.second ≡ fourNext y a b) }
+    ensures answer { (result.first ≡ four_top y a b) × (result.second ≡ four_next y a b) }
 {
     let t = credit(sided(y, a));
     let u = credit(sided(y, b)) - 1;
@@ -134,7 +134,7 @@ pub fn column(
     requires { Bounded 4104 (pair qr qi) × Bounded 4104 (pair pr pi) × Bounded 4104 (pair fr fi)
         × Bounded 4104 (pair er ei) × (g ≤ 12) }
     ensures answer { held result.first result.second result.group
-        ≡ fourMore (held b.first b.second b.group) (pair qr qi) (pair pr pi) (pair fr fi) (pair er ei) g }
+        ≡ four_more (held b.first b.second b.group) (pair qr qi) (pair pr pi) (pair fr fi) (pair er ei) g }
 {
     let ur = -pr;
     let ui = -pi;

@@ -4,8 +4,8 @@
 ghost use Rattle.std.specs.Prelude.{◌≡◌, ◌+◌, ◌*◌, ◌-◌, ◌≤◌, ◌<◌, T, length, get_or, pos, negsuc, ◌≤ℤ◌};
 ghost use Rattle.std.specs.Int.Signed.{non_neg};
 ghost use Rattle.choose_recorded.specs.Recorded.{Put};
-ghost use Rattle.choose_walsh.specs.Rows.{elevenAt, elevenLead, RowsBounded};
-ghost use Rattle.choose_walsh.specs.Search.{Sought, Keyed, wordOfKey, leadOfKeys};
+ghost use Rattle.choose_walsh.specs.Rows.{eleven_at, eleven_lead, RowsBounded};
+ghost use Rattle.choose_walsh.specs.Search.{Sought, Keyed, word_of_key, lead_of_keys};
 
 use crate::groups::Best;
 
@@ -64,7 +64,7 @@ fn search(a: &[i16], first: &mut [i16], second: &mut [i16], at: &mut [u16])
 // The number of the word that has a key in the group g.
 fn word_of(key: i16, g: u16) -> u8
     requires { T (non_neg key) × (g < 16) }
-    ensures answer { result ≡ wordOfKey key g }
+    ensures answer { result ≡ word_of_key key g }
 {
     let m = 15 - ((key as u16) % 16 + 11) % 16;
     (16 * m + g) as u8
@@ -73,7 +73,7 @@ fn word_of(key: i16, g: u16) -> u8
 // The lead of the word that has the first of two keys, in counts: so many to one of what its chips are told in.
 fn lead_of(unit: u32, first: i16, second: i16) -> u32
     requires { (unit ≤ 1024) × T (non_neg first) × (negsuc 1 ≤ℤ second) × (second ≤ℤ first) }
-    ensures answer { result ≡ unit * leadOfKeys first second }
+    ensures answer { result ≡ unit * lead_of_keys first second }
 {
     let next = choose_by_bytes::max(second, 0);
     let lead = (first as u16 + 11) / 16 - (next as u16 + 11) / 16;
@@ -95,7 +95,7 @@ fn put(
     ensures numbers { Put (λ s. wordOfKey (get_or first.now s (pos 0)) (get_or at.now s 0)) l
         numbers.old numbers.new 16 }
     ensures leads { Put
-        (λ s. unit * leadOfKeys (get_or first.now s (pos 0)) (get_or second.now s (pos 0))) l
+        (λ s. unit * lead_of_keys (get_or first.now s (pos 0)) (get_or second.now s (pos 0))) l
         leads.old leads.new 16 }
 {
     for s in 0..16 {
@@ -118,8 +118,8 @@ pub fn sixteen(
     requires { (length row.now ≡ 256) × (length z.old ≡ 256) × (length a.old ≡ 512) × (unit ≤ 1024)
         × (l + 16 ≤ 64) × (length numbers.old ≡ 64) × (length leads.old ≡ 64) }
     ensures lengths { (length z.new ≡ 256) × (length a.new ≡ 512) }
-    ensures numbers { Put (elevenAt row.now) l numbers.old numbers.new 16 }
-    ensures leads { Put (λ s. unit * elevenLead row.now s) l leads.old leads.new
+    ensures numbers { Put (eleven_at row.now) l numbers.old numbers.new 16 }
+    ensures leads { Put (λ s. unit * eleven_lead row.now s) l leads.old leads.new
         16 }
 {
     let mut first = [-2i16; 16];

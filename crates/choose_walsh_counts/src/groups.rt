@@ -6,8 +6,8 @@ ghost use Rattle.base.specs.Whole.{Within};
 ghost use Rattle.rules_chips.specs.Bounds.{Bounded};
 ghost use Rattle.rules_chips.specs.Chips.{pair};
 ghost use Rattle.rules_choosing.specs.Keys.{larger, smaller};
-ghost use Rattle.choose_walsh.specs.Turns.{plus, sided, credit, fourTop, fourNext, top_of, next_of};
-ghost use Rattle.choose_walsh.specs.Search.{held, merged, met, fourMore};
+ghost use Rattle.choose_walsh.specs.Turns.{plus, sided, credit, four_top, four_next, top_of, next_of};
+ghost use Rattle.choose_walsh.specs.Search.{held, merged, met, four_more};
 
 // Two keys of a group: the largest, and the next.
 #[derive(Drop)]
@@ -67,7 +67,7 @@ fn sided(y: i32, a: i32) -> i32
 // other. Opposite words count as one.
 fn four(y: i32, a: i32, b: i32) -> Two
     requires { Within 524304 y × Within 524304 a × Within 524304 b }
-    ensures answer { (result.first ≡ fourTop y a b) × (result.second ≡ fourNext y a b) }
+    ensures answer { (result.first ≡ four_top y a b) × (result.second ≡ four_next y a b) }
 {
     let t = credit(sided(y, a));
     let u = credit(sided(y, b)) - 1;
@@ -157,7 +157,7 @@ pub fn column(
     requires { Bounded 262152 (pair qr qi) × Bounded 262152 (pair pr pi) × Bounded 262152 (pair fr fi)
         × Bounded 262152 (pair er ei) × (g ≤ 12) }
     ensures answer { held result.first result.second result.group
-        ≡ fourMore (held b.first b.second b.group) (pair qr qi) (pair pr pi) (pair fr fi) (pair er ei) g }
+        ≡ four_more (held b.first b.second b.group) (pair qr qi) (pair pr pi) (pair fr fi) (pair er ei) g }
 {
     let ur = -pr;
     let ui = -pi;

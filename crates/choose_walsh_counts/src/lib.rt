@@ -3,8 +3,8 @@ ghost use Rattle.std.specs.Prelude.{◌≡◌, ◌+◌, ◌*◌, ◌-◌, ◌≤
 ghost use Rattle.std.specs.Int.Signed.{non_neg};
 ghost use Rattle.rules_choosing.specs.Scores.{RowWithin};
 ghost use Rattle.choose_recorded.specs.Recorded.{Put};
-ghost use Rattle.choose_walsh.specs.Rows.{elevenAt, elevenLead, RowsBounded};
-ghost use Rattle.choose_walsh.specs.Search.{Sought, Keyed, wordOfKey, leadOfKeys};
+ghost use Rattle.choose_walsh.specs.Rows.{eleven_at, eleven_lead, RowsBounded};
+ghost use Rattle.choose_walsh.specs.Search.{Sought, Keyed, word_of_key, lead_of_keys};
 
 use crate::groups::Best;
 
@@ -63,7 +63,7 @@ fn search(a: &[i32], first: &mut [i32], second: &mut [i32], at: &mut [u32])
 // The number of the word that has a key in the group g.
 fn word_of(key: i32, g: u32) -> u8
     requires { T (non_neg key) × (g < 16) }
-    ensures answer { result ≡ wordOfKey key g }
+    ensures answer { result ≡ word_of_key key g }
 {
     let m = 15 - ((key as u32) % 16 + 11) % 16;
     (16 * m + g) as u8
@@ -72,7 +72,7 @@ fn word_of(key: i32, g: u32) -> u8
 // The lead of the word that has the first of two keys.
 fn lead_of(first: i32, second: i32) -> u32
     requires { T (non_neg first) × (negsuc 1 ≤ℤ second) × (second ≤ℤ first) }
-    ensures answer { result ≡ leadOfKeys first second }
+    ensures answer { result ≡ lead_of_keys first second }
 {
     let next = choose_keys::max(second, 0);
     (first as u32 + 11) / 16 - (next as u32 + 11) / 16
@@ -114,8 +114,8 @@ pub fn sixteen(
     requires { (length row.now ≡ 256) × (length z.old ≡ 256) × (length a.old ≡ 512)
         × (l + 16 ≤ 64) × (length numbers.old ≡ 64) × (length leads.old ≡ 64) × RowWithin 8192 row.now }
     ensures lengths { (length z.new ≡ 256) × (length a.new ≡ 512) }
-    ensures numbers { Put (elevenAt row.now) l numbers.old numbers.new 16 }
-    ensures leads { Put (elevenLead row.now) l leads.old leads.new
+    ensures numbers { Put (eleven_at row.now) l numbers.old numbers.new 16 }
+    ensures leads { Put (eleven_lead row.now) l leads.old leads.new
         16 }
 {
     let mut first = [-2i32; 16];

@@ -2,13 +2,13 @@
 use rules_calls::{Reading, Record, Refusal, Writing, Written};
 // the type of a member that is passed over: a crate must know the types of what it takes apart
 ghost use Rattle.std.specs.Prelude.{◌≡◌};
-ghost use Rattle.rules_calls.specs.Answers.{refusalNumber, refusalPlace, refusalLength, written_of, recordOf};
+ghost use Rattle.rules_calls.specs.Answers.{refusal_number, refusal_place, refusal_length, written_of, record_of};
 
 use rules_frame::Kind;
 
 // The number of a refusal.
 pub fn number_of(e: Refusal) -> u64
-    ensures answer { result ≡ refusalNumber e }
+    ensures answer { result ≡ refusal_number e }
 {
     match e {
         Refusal::NoKind => 1,
@@ -39,7 +39,7 @@ pub fn number_of(e: Refusal) -> u64
 
 // A place, 0 but for 9 and 10.
 pub fn place_of(e: Refusal) -> u64
-    ensures answer { result ≡ refusalPlace e }
+    ensures answer { result ≡ refusal_place e }
 {
     match e {
         Refusal::NoKind => 0,
@@ -64,7 +64,7 @@ pub fn place_of(e: Refusal) -> u64
 
 // LENGTH, where the refusal tells it.
 pub fn length_of(e: Refusal) -> u64
-    ensures answer { result ≡ refusalLength e }
+    ensures answer { result ≡ refusal_length e }
 {
     match e {
         Refusal::NoKind => 0,
@@ -109,7 +109,7 @@ pub fn written_of(w: Writing) -> Written
 
 // A reader's answer.
 pub fn record_of(g: Reading) -> Record
-    ensures answer { result ≡ recordOf g }
+    ensures answer { result ≡ record_of g }
 {
     match g {
         Reading::Refused(e) => Record {

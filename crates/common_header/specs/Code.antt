@@ -2,8 +2,8 @@
 -- working notion: of the code that reads a header; no promise needs it
 use Rattle.std.specs.Prelude.{ℕ, cond, nat_abs}
 use Rattle.rules_rates.specs.declared.Rate.{Rate}
-use Rattle.rules_rates.specs.Rates.{octetsRead, lengthHolds}
+use Rattle.rules_rates.specs.Rates.{octets_read, length_holds}
 
 -- the octets that LENGTH and bit 7 tell, or 0 where refusal 15 comes
-unfoldable pub octetsTold : Rate → ℕ → ℕ → ℕ
-octetsTold r l seven = cond (lengthHolds r l seven) (nat_abs (octetsRead r l seven)) 0
+unfoldable pub octets_told : Rate → ℕ → ℕ → ℕ
+octets_told r l seven = cond (length_holds r l seven) (nat_abs (octets_read r l seven)) 0

@@ -5,9 +5,9 @@ use Rattle.common_header.specs.declared.crc.Eight.{Eight}
 use Rattle.common_header.specs.declared.crc.Sixteen.{Sixteen}
 
 -- eight bits, first in time first
-abbrev pub inTime : Eight → List ℕ
-inTime e = e.b0 ∷ e.b1 ∷ e.b2 ∷ e.b3 ∷ e.b4 ∷ e.b5 ∷ e.b6 ∷ e.b7 ∷ []
+abbrev pub in_time : Eight → List ℕ
+in_time e = e.b0 ∷ e.b1 ∷ e.b2 ∷ e.b3 ∷ e.b4 ∷ e.b5 ∷ e.b6 ∷ e.b7 ∷ []
 
 -- the CRC register, highest term first
 abbrev pub terms : Sixteen → List ℕ
-terms r = inTime r.first ++ inTime r.second
+terms r = in_time r.first ++ in_time r.second

@@ -1,9 +1,9 @@
 // The CRC of a header's octets, bit by bit. A bit is a u8, 0 or 1.
 ghost use Rattle.std.specs.Prelude.{◌≡◌, [], ◌∷◌, length};
 ghost use Rattle.base.specs.Below.{Below};
-ghost use Rattle.rules_bits.specs.Bits.{◌⊕◌, bits_of, number_of, highestFirst, octetBits};
-ghost use Rattle.rules_bits.specs.Crc.{crcStep, remainder, complement, crcBits};
-ghost use Rattle.common_header.specs.Registers.{inTime, terms};
+ghost use Rattle.rules_bits.specs.Bits.{◌⊕◌, bits_of, number_of, highest_first, octet_bits};
+ghost use Rattle.rules_bits.specs.Crc.{crc_step, remainder, complement, crc_bits};
+ghost use Rattle.common_header.specs.Registers.{in_time, terms};
 
 // Eight bits, b0 first in time.
 #[derive(Drop)]
@@ -34,7 +34,7 @@ fn xor(a: u8, b: u8) -> u8
 
 // The bits of an octet, lowest first.
 fn unpack(x: u8) -> Eight
-    ensures answer { inTime result ≡ bits_of 8 x }
+    ensures answer { in_time result ≡ bits_of 8 x }
 {
     let x1 = x / 2;
     let x2 = x1 / 2;
@@ -57,8 +57,8 @@ fn unpack(x: u8) -> Eight
 
 // The octet of eight bits, lowest first.
 fn pack(e: Eight) -> u8
-    requires { Below 2 (inTime e) }
-    ensures answer { result ≡ number_of (inTime e) }
+    requires { Below 2 (in_time e) }
+    ensures answer { result ≡ number_of (in_time e) }
 {
     let t6 = e.b6 + 2 * e.b7;
     let t5 = e.b5 + 2 * t6;
@@ -70,7 +70,7 @@ fn pack(e: Eight) -> u8
 }
 
 fn crc_step(r: Sixteen, b: u8) -> Sixteen
-    ensures answer { terms result ≡ crcStep (terms r) b }
+    ensures answer { terms result ≡ crc_step (terms r) b }
 {
     let h = r.first;
     let l = r.second;
@@ -102,7 +102,7 @@ fn crc_step(r: Sixteen, b: u8) -> Sixteen
 }
 
 fn crc_eight(r: Sixteen, x: Eight) -> Sixteen
-    ensures answer { terms result ≡ remainder (terms r) (inTime x) }
+    ensures answer { terms result ≡ remainder (terms r) (in_time x) }
 {
     let r1 = crc_step(r, x.b0);
     let r2 = crc_step(r1, x.b1);
@@ -121,7 +121,7 @@ fn crc_octet(r: Sixteen, x: u8) -> Sixteen
 }
 
 fn complement_eight(e: Eight) -> Eight
-    ensures answer { inTime result ≡ complement (inTime e) }
+    ensures answer { in_time result ≡ complement (in_time e) }
 {
     let b0 = xor(e.b0, 1);
     let b1 = xor(e.b1, 1);
@@ -145,14 +145,14 @@ fn complement_eight(e: Eight) -> Eight
 
 // The octet whose bits, lowest first, are the complements of e's.
 fn pack_not(e: Eight) -> u8
-    ensures answer { bits_of 8 result ≡ complement (inTime e) }
+    ensures answer { bits_of 8 result ≡ complement (in_time e) }
 {
     pack(complement_eight(e))
 }
 
 // The CRC of four octets, as two: the first bit sent is the first octet's lowest.
 pub fn crc_octets(a: u8, b: u8, c: u8, d: u8) -> [u8; 2]
-    ensures answer { (octetBits result ≡ crcBits (octetBits (a ∷ b ∷ c ∷ d ∷ []))) × (length result ≡ 2) }
+    ensures answer { (octet_bits result ≡ crc_bits (octet_bits (a ∷ b ∷ c ∷ d ∷ []))) × (length result ≡ 2) }
 {
     let ones = unpack(255);
     let r0 = Sixteen {
@@ -170,7 +170,7 @@ pub fn crc_octets(a: u8, b: u8, c: u8, d: u8) -> [u8; 2]
 
 // The number of eight bits of which the octet's lowest is the highest.
 fn turned(x: u8) -> u8
-    ensures answer { result ≡ highestFirst (bits_of 8 x) }
+    ensures answer { result ≡ highest_first (bits_of 8 x) }
 {
     let e = unpack(x);
     pack(Eight {
@@ -187,7 +187,7 @@ fn turned(x: u8) -> u8
 
 // Two octets of a CRC as a number: the first bit sent, the first octet's lowest, is the highest.
 pub fn highest_first(first: u8, second: u8) -> usize
-    ensures answer { result ≡ highestFirst (octetBits (first ∷ second ∷ [])) }
+    ensures answer { result ≡ highest_first (octet_bits (first ∷ second ∷ [])) }
 {
     256 * (turned(first) as usize) + turned(second) as usize
 }

@@ -1,11 +1,11 @@
 // The header's six octets: what they tell a reader, and those that a writer sends.
 ghost use Rattle.std.specs.Prelude.{◌≡◌, ◌&&◌, [], ◌∷◌, ◌-◌, ◌≤◌, ◌<◌, eqb, length, take, drop};
-ghost use Rattle.rules_rates.specs.Rates.{is_code, rateOf, wholeOctets};
-ghost use Rattle.rules_bits.specs.Bits.{number_of, highestFirst, octetBits};
-ghost use Rattle.rules_bits.specs.Crc.{crcBits};
-ghost use Rattle.rules_frame.specs.Frame.{sfdOf, goesWith, headerBits, sentHeader};
-ghost use Rattle.rules_calls.specs.Headers.{serviceAllowed, acceptedBy, sameBits, fields_of, headerOf};
-ghost use Rattle.common_header.specs.Code.{octetsTold};
+ghost use Rattle.rules_rates.specs.Rates.{is_code, rate_of, whole_octets};
+ghost use Rattle.rules_bits.specs.Bits.{number_of, highest_first, octet_bits};
+ghost use Rattle.rules_bits.specs.Crc.{crc_bits};
+ghost use Rattle.rules_frame.specs.Frame.{sfd_of, goes_with, header_bits, sent_header};
+ghost use Rattle.rules_calls.specs.Headers.{service_allowed, accepted_by, same_bits, fields_of, header_of};
+ghost use Rattle.common_header.specs.Code.{octets_told};
 
 use rules_calls::{Front, Reader, Refusal, Told};
 use rules_frame::Kind;
@@ -15,7 +15,7 @@ mod crc;
 
 // Whether SERVICE is one that a rate allows: 0 or 4, and at 11 Mbit/s 128 or 132.
 fn service_allowed(r: Rate, service: u8) -> bool
-    ensures answer { result ≡ serviceAllowed r service }
+    ensures answer { result ≡ service_allowed r service }
 {
     if service == 0 {
         return true;
@@ -40,7 +40,7 @@ fn service_allowed(r: Rate, service: u8) -> bool
 // take away.
 pub fn octets_or_none(r: Rate, length: usize, seven: u8) -> usize
     requires { (length < 65536) × (seven < 2) }
-    ensures answer { result ≡ wholeOctets r length - seven }
+    ensures answer { result ≡ whole_octets r length - seven }
 {
     let whole = r.whole_octets(length);
     let less = seven as usize;
@@ -54,7 +54,7 @@ pub fn octets_or_none(r: Rate, length: usize, seven: u8) -> usize
 // none or above 4,095.
 fn octets_told(r: Rate, length: usize, seven: u8) -> usize
     requires { (length < 65536) × (seven < 2) }
-    ensures answer { result ≡ octetsTold r length seven }
+    ensures answer { result ≡ octets_told r length seven }
 {
     let n = octets_or_none(r, length, seven);
     if !rules_rates::is_payload(n) {
@@ -71,7 +71,7 @@ fn octets_told(r: Rate, length: usize, seven: u8) -> usize
 
 // Whether SIGNAL is a rate of this kind.
 fn signal_allowed(k: Kind, code: u64) -> bool
-    ensures answer { result ≡ (is_code code && goesWith k (rateOf code)) }
+    ensures answer { result ≡ (is_code code && goes_with k (rate_of code)) }
 {
     if !rules_rates::is_code(code) {
         return false;
@@ -81,7 +81,7 @@ fn signal_allowed(k: Kind, code: u64) -> bool
 
 // 13: whether a reader accepts SIGNAL.
 fn signal_accepted(by: Reader, k: Kind, code: u64) -> bool
-    ensures answer { result ≡ (acceptedBy by).signals k code }
+    ensures answer { result ≡ (accepted_by by).signals k code }
 {
     match by {
         Reader::Ours => signal_allowed(k, code),
@@ -96,7 +96,7 @@ fn signal_accepted(by: Reader, k: Kind, code: u64) -> bool
 
 // 14: whether a reader accepts SERVICE.
 fn service_accepted(by: Reader, r: Rate, service: u8) -> bool
-    ensures answer { result ≡ (acceptedBy by).services r service }
+    ensures answer { result ≡ (accepted_by by).services r service }
 {
     match by {
         Reader::Ours => service_allowed(r, service),
@@ -107,7 +107,7 @@ fn service_accepted(by: Reader, r: Rate, service: u8) -> bool
 // What the three fields tell a reader: refusals 13, 14 and 15, in this order.
 fn fields_of(by: Reader, k: Kind, signal: u8, service: u8, length: usize) -> Front
     requires { length < 65536 }
-    ensures answer { result ≡ fields_of (acceptedBy by) k signal service length }
+    ensures answer { result ≡ fields_of (accepted_by by) k signal service length }
 {
     let code = signal as u64;
     let r = rules_rates::rate_of(code);
@@ -135,7 +135,7 @@ fn fields_of(by: Reader, k: Kind, signal: u8, service: u8, length: usize) -> Fro
 
 // The SFD of a kind, as a number.
 pub fn sfd_of(k: Kind) -> usize
-    ensures answer { result ≡ sfdOf k }
+    ensures answer { result ≡ sfd_of k }
 {
     match k {
         Kind::Long => 0xF3A0,
@@ -145,21 +145,21 @@ pub fn sfd_of(k: Kind) -> usize
 
 // The number of two octets, the lower first.
 pub fn both(low: u8, high: u8) -> usize
-    ensures answer { (result ≡ number_of (octetBits (low ∷ high ∷ []))) × (result < 65536) }
+    ensures answer { (result ≡ number_of (octet_bits (low ∷ high ∷ []))) × (result < 65536) }
 {
     low as usize + 256 * (high as usize)
 }
 
 // Whether the SFD is the kind's.
 fn sfd_right(k: Kind, sfd: [u8; 2]) -> bool
-    ensures answer { result ≡ eqb (number_of (octetBits sfd)) (sfdOf k) }
+    ensures answer { result ≡ eqb (number_of (octet_bits sfd)) (sfd_of k) }
 {
     both(sfd[0], sfd[1]) == sfd_of(k)
 }
 
 // Whether the last two octets of a header are the CRC of the four before them.
 fn crc_right(header: [u8; 6]) -> bool
-    ensures answer { result ≡ sameBits (crcBits (take 32 (octetBits header))) (drop 32 (octetBits header)) }
+    ensures answer { result ≡ same_bits (crc_bits (take 32 (octet_bits header))) (drop 32 (octet_bits header)) }
 {
     let crc = crc::crc_octets(header[0], header[1], header[2], header[3]);
     if crc[0] != header[4] {
@@ -173,21 +173,21 @@ fn crc_right(header: [u8; 6]) -> bool
 
 // The CRC worked out over a header's first four octets, as a number; and the one that is read in its last two.
 pub fn crc_worked_out(header: [u8; 6]) -> usize
-    ensures answer { result ≡ highestFirst (crcBits (take 32 (octetBits header))) }
+    ensures answer { result ≡ highest_first (crc_bits (take 32 (octet_bits header))) }
 {
     let crc = crc::crc_octets(header[0], header[1], header[2], header[3]);
     crc::highest_first(crc[0], crc[1])
 }
 
 pub fn crc_read(header: [u8; 6]) -> usize
-    ensures answer { result ≡ highestFirst (drop 32 (octetBits header)) }
+    ensures answer { result ≡ highest_first (drop 32 (octet_bits header)) }
 {
     crc::highest_first(header[4], header[5])
 }
 
 // What the SFD and the header tell a reader: refusals 11 to 15, in this order.
 pub fn header_of(by: Reader, k: Kind, sfd: [u8; 2], header: [u8; 6]) -> Front
-    ensures answer { result ≡ headerOf (acceptedBy by) k (octetBits sfd) (octetBits header) }
+    ensures answer { result ≡ header_of (accepted_by by) k (octet_bits sfd) (octet_bits header) }
 {
     let started = sfd_right(k, sfd);
     let summed = crc_right(header);
@@ -202,7 +202,7 @@ pub fn header_of(by: Reader, k: Kind, sfd: [u8; 2], header: [u8; 6]) -> Front
 
 // The six octets of any SIGNAL, SERVICE and LENGTH.
 pub fn octets_of(signal: u8, service: u8, micros: u16) -> [u8; 6]
-    ensures answer { (octetBits result ≡ headerBits signal service micros) × (length result ≡ 6) }
+    ensures answer { (octet_bits result ≡ header_bits signal service micros) × (length result ≡ 6) }
 {
     let low = (micros % 256) as u8;
     let high = (micros / 256) as u8;
@@ -213,7 +213,7 @@ pub fn octets_of(signal: u8, service: u8, micros: u16) -> [u8; 6]
 // The header of a frame of n octets, the clock bit set or not.
 pub fn header_octets(r: Rate, clock: bool, n: usize) -> [u8; 6]
     requires { n ≤ 4095 }
-    ensures answer { (octetBits result ≡ sentHeader r clock n) × (length result ≡ 6) }
+    ensures answer { (octet_bits result ≡ sent_header r clock n) × (length result ≡ 6) }
 {
     let signal = r.code() as u8;
     let service = 4 * (clock as u8) + 128 * r.bit7(n);

@@ -8,5 +8,5 @@ use Rattle.common_lines.specs.declared.Line.{Line}
 
 -- the scrambler's start, and an eighth output that nothing depends on; the phase that the first symbol grows from
 pub record Starts (k : Kind) (phase : ℕ) (l : Line) : Type 0 where
-  pub at-phase : l.phase ≡ phase
+  pub at_phase : l.phase ≡ phase
   pub past : past_of l.past ≡ start k ++ (0 ∷ [])

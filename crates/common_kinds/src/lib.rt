@@ -1,6 +1,6 @@
 // The two kinds of frame, and the numbers that go with a kind.
 ghost use Rattle.std.specs.Prelude.{◌≡◌, ◌≤◌};
-ghost use Rattle.rules_frame.specs.Frame.{isKind, kind_of, headerRate, goesWith, preambleChips, frontChips, frameChips};
+ghost use Rattle.rules_frame.specs.Frame.{is_kind, kind_of, header_rate, goes_with, preamble_chips, front_chips, frame_chips};
 ghost use Rattle.common_kinds.specs.Starts.{Starts};
 
 use common_lines::Line;
@@ -9,7 +9,7 @@ use rules_rates::Rate;
 
 // Whether a number is a kind.
 pub fn is_kind(kind: u64) -> bool
-    ensures answer { result ≡ isKind kind }
+    ensures answer { result ≡ is_kind kind }
 {
     kind < 2
 }
@@ -26,7 +26,7 @@ pub fn kind_of(kind: u64) -> Kind
 
 // The rate of a kind's header.
 pub fn header_rate(k: Kind) -> Rate
-    ensures answer { result ≡ headerRate k }
+    ensures answer { result ≡ header_rate k }
 {
     match k {
         Kind::Long => Rate::One,
@@ -36,7 +36,7 @@ pub fn header_rate(k: Kind) -> Rate
 
 // Whether a rate goes with a kind: short excludes 1 Mbit/s.
 pub fn goes_with(k: Kind, r: Rate) -> bool
-    ensures answer { result ≡ goesWith k r }
+    ensures answer { result ≡ goes_with k r }
 {
     match k {
         Kind::Long => true,
@@ -51,7 +51,7 @@ pub fn goes_with(k: Kind, r: Rate) -> bool
 
 // The chips of a kind's preamble, SYNC and SFD.
 pub fn preamble_chips(k: Kind) -> usize
-    ensures answer { result ≡ preambleChips k }
+    ensures answer { result ≡ preamble_chips k }
 {
     match k {
         Kind::Long => 1584,
@@ -61,7 +61,7 @@ pub fn preamble_chips(k: Kind) -> usize
 
 // The chips of a kind's front.
 pub fn front_chips(k: Kind) -> usize
-    ensures answer { result ≡ frontChips k }
+    ensures answer { result ≡ front_chips k }
 {
     match k {
         Kind::Long => 2112,
@@ -72,7 +72,7 @@ pub fn front_chips(k: Kind) -> usize
 // The chips of a frame of n octets.
 pub fn frame_chips(k: Kind, r: Rate, n: usize) -> usize
     requires { n ≤ 4095 }
-    ensures answer { result ≡ frameChips k r n }
+    ensures answer { result ≡ frame_chips k r n }
 {
     front_chips(k) + r.octet_chips() * n
 }

@@ -3,7 +3,7 @@ ghost use Rattle.std.specs.Prelude.{◌≡◌, ◌/◌, ◌%◌, ◌<◌};
 ghost use Rattle.rules_bits.specs.Bits.{bits_of, number_of};
 ghost use Rattle.rules_bits.specs.Growths.{growth};
 ghost use Rattle.rules_bits.specs.Scrambler.{scramble, descramble};
-ghost use Rattle.rules_bits.specs.Code.{past_of, pairsOf};
+ghost use Rattle.rules_bits.specs.Code.{past_of, pairs_of};
 
 // What stands between two octets of a frame: the last eight bits sent or received as an octet, the first
 // in time the lowest, and the phase of the last symbol.
@@ -31,7 +31,7 @@ pub fn descramble_octet(past: u8, x: u8) -> u8
 
 // The four pairs of an octet's bits, each with the first in time the higher: what a pair stands for directly.
 pub fn pairs(o: u8) -> u8
-    ensures answer { result ≡ pairsOf o }
+    ensures answer { result ≡ pairs_of o }
 {
     (o & 0x55) * 2 + (o & 0xAA) / 2
 }

@@ -1,6 +1,6 @@
--- Small numbers side by side in one, an octet for each, taken apart again: `quarters-octets`; the words made so.
---     cck-sums       a CCK word
---     five-sums      a word of 5.5 Mbit/s, from that of p1 = 0
+-- Small numbers side by side in one, an octet for each, taken apart again: `quarters_octets`; the words made so.
+--     cck_sums       a CCK word
+--     five_sums      a word of 5.5 Mbit/s, from that of p1 = 0
 -- By induction: the lowest octet leaves a remainder and the others a quotient. Assumes nothing.
 use mathlib.Core.Path.{◌≡◌, refl, ap, ap₂, ◌∙◌}
 use mathlib.Core.List.{List, [], ◌∷◌, map}
@@ -8,18 +8,18 @@ use Prim.Native.Nat.{ℕ, ◌+◌, ◌*◌, ◌/◌, ◌%◌, ◌≤◌, ◌<◌
 use native.Mathlib.Omega.{arith}
 use lib.ListN.{length, get_or}
 use Rattle.base.specs.Below.{Below}
-use Rattle.base.proofs.Below.{below-head, below-tail, below-eight}
+use Rattle.base.proofs.Below.{below_head, below_tail, below_eight}
 use Rattle.rules_chips.specs.Chips.{turned}
-use Rattle.rules_symbols.specs.Words.{cckWord}
+use Rattle.rules_symbols.specs.Words.{cck_word}
 use Rattle.common_words.specs.Octets.{together, quarters}
-use Rattle.rules_symbols.proofs.Words.{fiveTable, fiveWord, five-at, cck-turned}
+use Rattle.rules_symbols.proofs.Words.{five_table, five_word, five_at_lem, cck_turned}
 
-quarters-octets : (cs : List ℕ) → Below 256 cs → quarters (length cs) (together cs) ≡ map (λ (c : ℕ). c % 4) cs
+quarters_octets : (cs : List ℕ) → Below 256 cs → quarters (length cs) (together cs) ≡ map (λ (c : ℕ). c % 4) cs
 unfolding together quarters
-quarters-octets [] h = refl
-quarters-octets (c ∷ cs) h =
-    ap₂ {B = List ℕ} (λ x xs. x ∷ xs) (low c (together cs) (below-head h))
-    (ap (quarters (length cs)) (high c (together cs) (below-head h)) ∙ quarters-octets cs (below-tail h))
+quarters_octets [] h = refl
+quarters_octets (c ∷ cs) h =
+    ap₂ {B = List ℕ} (λ x xs. x ∷ xs) (low c (together cs) (below_head h))
+    (ap (quarters (length cs)) (high c (together cs) (below_head h)) ∙ quarters_octets cs (below_tail h))
   where
     low : (c t : ℕ) → c < 256 → (c + 256 * t) % 4 ≡ c % 4
     low c t l = omega arith
@@ -28,9 +28,9 @@ quarters-octets (c ∷ cs) h =
     high c t l = omega arith
 
 -- each octet of eight is a phase
-pub quarters-small : (w : ℕ) (q : List ℕ) → q ≡ quarters 8 w → (get_or q 3 0 < 4) × (get_or q 6 0 < 4)
+pub quarters_small : (w : ℕ) (q : List ℕ) → q ≡ quarters 8 w → (get_or q 3 0 < 4) × (get_or q 6 0 < 4)
 unfolding quarters
-quarters-small w q e = rw e (omega arith, omega arith)
+quarters_small w q e = rw e (omega arith, omega arith)
 
 -- ---- a CCK word: eight sums of phases below 64, two of them half a turn on
 module _ (p1 p2 p3 p4 : ℕ) where
@@ -46,9 +46,9 @@ module _ (p1 p2 p3 p4 : ℕ) where
       ∷ p1
       ∷ []
 
-  sums-below : p1 < 64 → p2 < 64 → p3 < 64 → p4 < 64 → Below 256 sums
-  sums-below h1 h2 h3 h4 =
-      below-eight (omega arith) (omega arith) (omega arith) (omega arith) (omega arith) (omega arith) (omega arith)
+  sums_below : p1 < 64 → p2 < 64 → p3 < 64 → p4 < 64 → Below 256 sums
+  sums_below h1 h2 h3 h4 =
+      below_eight (omega arith) (omega arith) (omega arith) (omega arith) (omega arith) (omega arith) (omega arith)
       (omega arith)
 
   sums-together :
@@ -63,17 +63,17 @@ halved q =
     get_or q 0 0 ∷ get_or q 1 0 ∷ get_or q 2 0 ∷ (get_or q 3 0 + 2) % 4 ∷ get_or q 4 0 ∷ get_or q 5 0 ∷ (get_or q 6 0 + 2) % 4
     ∷ get_or q 7 0 ∷ []
 
-pub cck-sums : (p1 p2 p3 p4 w : ℕ) (q : List ℕ)
+pub cck_sums : (p1 p2 p3 p4 w : ℕ) (q : List ℕ)
     → w
     ≡ 0x0101010101010101 * (p1 % 64) + 0x0001000100010001 * (p2 % 64) + 0x0000010100000101 * (p3 % 64)
     + 0x0000000001010101 * (p4 % 64)
-    → q ≡ quarters 8 w → halved q ≡ cckWord p1 p2 p3 p4
-unfolding cckWord
-cck-sums p1 p2 p3 p4 w q e f =
+    → q ≡ quarters 8 w → halved q ≡ cck_word p1 p2 p3 p4
+unfolding cck_word
+cck_sums p1 p2 p3 p4 w q e f =
     ap halved
     (f ∙ ap (quarters 8) (e ∙ sums-together (p1 % 64) (p2 % 64) (p3 % 64) (p4 % 64))
-    ∙ quarters-octets (sums (p1 % 64) (p2 % 64) (p3 % 64) (p4 % 64))
-    (sums-below _ _ _ _ (omega arith) (omega arith) (omega arith) (omega arith)))
+    ∙ quarters_octets (sums (p1 % 64) (p2 % 64) (p3 % 64) (p4 % 64))
+    (sums_below _ _ _ _ (omega arith) (omega arith) (omega arith) (omega arith)))
     ∙ (λ i.
     four p1 p2 p3 p4 i ∷ three p1 p3 p4 i ∷ three p1 p2 p4 i ∷ half p1 p4 i ∷ three p1 p2 p3 i ∷ two p1 p3 i
     ∷ half p1 p2 i ∷ one p1 i ∷ [])
@@ -113,11 +113,11 @@ module _ (c0 c1 c2 c3 c4 c5 c6 c7 p : ℕ) (h0 : c0 < 4) (h1 : c1 < 4) (h2 : c2 
   unfolding together
   raised = omega arith
 
-  row-turned : quarters 8 (together row + 0x0101010101010101 * (p % 4)) ≡ map (turned p) row
-  row-turned =
+  row_turned : quarters 8 (together row + 0x0101010101010101 * (p % 4)) ≡ map (turned p) row
+  row_turned =
       ap (quarters 8) raised
-      ∙ quarters-octets (map (λ (c : ℕ). c + p % 4) row)
-      (below-eight (omega arith) (omega arith) (omega arith) (omega arith) (omega arith) (omega arith) (omega arith)
+      ∙ quarters_octets (map (λ (c : ℕ). c + p % 4) row)
+      (below_eight (omega arith) (omega arith) (omega arith) (omega arith) (omega arith) (omega arith) (omega arith)
       (omega arith))
       ∙ (λ i. on c0 i ∷ on c1 i ∷ on c2 i ∷ on c3 i ∷ on c4 i ∷ on c5 i ∷ on c6 i ∷ on c7 i ∷ [])
     where
@@ -129,34 +129,34 @@ abbrev entries : List ℕ → List ℕ
 entries r =
     get_or r 0 0 ∷ get_or r 1 0 ∷ get_or r 2 0 ∷ get_or r 3 0 ∷ get_or r 4 0 ∷ get_or r 5 0 ∷ get_or r 6 0 ∷ get_or r 7 0 ∷ []
 
-entries-word : (p1 p2 p3 p4 : ℕ) → entries (cckWord p1 p2 p3 p4) ≡ cckWord p1 p2 p3 p4
-unfolding cckWord
-entries-word p1 p2 p3 p4 = refl
+entries_word : (p1 p2 p3 p4 : ℕ) → entries (cck_word p1 p2 p3 p4) ≡ cck_word p1 p2 p3 p4
+unfolding cck_word
+entries_word p1 p2 p3 p4 = refl
 
-word_small : (p1 p2 p3 p4 : ℕ) → together (cckWord p1 p2 p3 p4) ≤ 3 * 0x0101010101010101
-unfolding cckWord
+word_small : (p1 p2 p3 p4 : ℕ) → together (cck_word p1 p2 p3 p4) ≤ 3 * 0x0101010101010101
+unfolding cck_word
 word_small p1 p2 p3 p4 =
     row_small _ _ _ _ _ _ _ _ 0 (omega arith) (omega arith) (omega arith) (omega arith) (omega arith) (omega arith)
     (omega arith) (omega arith)
 
-word-turned : (p p1 p2 p3 p4 : ℕ)
-    → quarters 8 (together (cckWord p1 p2 p3 p4) + 0x0101010101010101 * (p % 4)) ≡ map (turned p) (cckWord p1 p2 p3 p4)
-unfolding cckWord
-word-turned p p1 p2 p3 p4 =
-    row-turned _ _ _ _ _ _ _ _ p (omega arith) (omega arith) (omega arith) (omega arith) (omega arith) (omega arith)
+word_turned : (p p1 p2 p3 p4 : ℕ)
+    → quarters 8 (together (cck_word p1 p2 p3 p4) + 0x0101010101010101 * (p % 4)) ≡ map (turned p) (cck_word p1 p2 p3 p4)
+unfolding cck_word
+word_turned p p1 p2 p3 p4 =
+    row_turned _ _ _ _ _ _ _ _ p (omega arith) (omega arith) (omega arith) (omega arith) (omega arith) (omega arith)
     (omega arith) (omega arith)
 
-row_is : (d : ℕ) → entries (get_or fiveTable (d % 4) []) ≡ fiveWord 0 (d % 4)
-row_is d = ap entries (five-at (d % 4) (omega arith)) ∙ entries-word _ _ _ _
+row_is : (d : ℕ) → entries (get_or five_table (d % 4) []) ≡ five_word 0 (d % 4)
+row_is d = ap entries (five_at_lem (d % 4) (omega arith)) ∙ entries_word _ _ _ _
 
-pub five-small : (d w : ℕ) → w ≡ together (entries (get_or fiveTable (d % 4) [])) → w ≤ 3 * 0x0101010101010101
-five-small d w e = rw (e, row_is d) (word_small _ _ _ _)
+pub five_small : (d w : ℕ) → w ≡ together (entries (get_or five_table (d % 4) [])) → w ≤ 3 * 0x0101010101010101
+five_small d w e = rw (e, row_is d) (word_small _ _ _ _)
 
-pub five-sums : (p d w : ℕ) (q : List ℕ) → w ≡ together (entries (get_or fiveTable (d % 4) []))
-    → q ≡ quarters 8 (w + 0x0101010101010101 * (p % 4)) → q ≡ cckWord p (2 * (d / 2 % 2) + 1) 0 (2 * (d % 2))
-five-sums p d w q e f =
+pub five_sums : (p d w : ℕ) (q : List ℕ) → w ≡ together (entries (get_or five_table (d % 4) []))
+    → q ≡ quarters 8 (w + 0x0101010101010101 * (p % 4)) → q ≡ cck_word p (2 * (d / 2 % 2) + 1) 0 (2 * (d % 2))
+five_sums p d w q e f =
     let high : d % 4 / 2 ≡ d / 2 % 2 = omega arith in
     let low : d % 4 % 2 ≡ d % 2 = omega arith in
     f
     ∙ ap (λ (t : ℕ). quarters 8 (t + 0x0101010101010101 * (p % 4))) (e ∙ ap together (row_is d))
-    ∙ word-turned p 0 _ _ _ ∙ cck-turned p _ _ _ ∙ rw (high, low)
+    ∙ word_turned p 0 _ _ _ ∙ cck_turned p _ _ _ ∙ rw (high, low)

@@ -1,7 +1,7 @@
 // The words of symbols, Barker and CCK, as arrays of phases by value.
 ghost use Rattle.std.specs.Prelude.{◌≡◌, [], ◌∷◌, ◌+◌, ◌*◌, ◌/◌, ◌%◌};
 ghost use Rattle.base.specs.Tables.{tabulate};
-ghost use Rattle.rules_symbols.specs.Words.{barkerWord, cckWord};
+ghost use Rattle.rules_symbols.specs.Words.{barker_word, cck_word};
 ghost use Rattle.common_words.specs.Octets.{together, quarters};
 
 // The signs + - + + - + + + - - - as turns: none for a plus, a half turn for a minus.
@@ -17,7 +17,7 @@ pub const FIVE: [[u8; 8]; 4] = [
 
 // The Barker symbol with phase p.
 fn barker_word(p: u8) -> [u8; 11]
-    ensures answer { result ≡ barkerWord p }
+    ensures answer { result ≡ barker_word p }
 {
     let mut word = [0u8; 11];
     for k in 0..11 {
@@ -28,7 +28,7 @@ fn barker_word(p: u8) -> [u8; 11]
 
 // The four Barker symbols by their phases, for a loop that writes many.
 pub fn barker_words() -> [[u8; 11]; 4]
-    ensures answer { result ≡ tabulate barkerWord 4 }
+    ensures answer { result ≡ tabulate barker_word 4 }
 {
     let w0 = barker_word(0);
     let w1 = barker_word(1);
@@ -63,7 +63,7 @@ fn quarters(w: u64) -> [u8; 8]
 
 // The CCK word of four phases. A phase below 64 is taken as it is: no sum of four fills an octet.
 pub fn cck_word(p1: u8, p2: u8, p3: u8, p4: u8) -> [u8; 8]
-    ensures answer { result ≡ cckWord p1 p2 p3 p4 }
+    ensures answer { result ≡ cck_word p1 p2 p3 p4 }
 {
     let w = 0x0101010101010101 * (p1 as u64 % 64)
         + 0x0001000100010001 * (p2 as u64 % 64)
@@ -97,7 +97,7 @@ fn together(c0: u8, c1: u8, c2: u8, c3: u8, c4: u8, c5: u8, c6: u8, c7: u8) -> u
 
 // The word of 5.5 Mbit/s with phase p1, by d = 2 d2 + d3: p2 = 2 d2 + 1, p3 = 0, p4 = 2 d3.
 pub fn five_word(p1: u8, d: u8) -> [u8; 8]
-    ensures answer { result ≡ cckWord p1 (2 * (d / 2 % 2) + 1) 0 (2 * (d % 2)) }
+    ensures answer { result ≡ cck_word p1 (2 * (d / 2 % 2) + 1) 0 (2 * (d % 2)) }
 {
     let r = FIVE[(d % 4) as usize];
     let w = together(r[0], r[1], r[2], r[3], r[4], r[5], r[6], r[7]);

@@ -2,12 +2,12 @@
 // they have room; from the first block on whose entries have none, entries are only counted. Knows nothing of radio.
 ghost use Rattle.std.specs.Prelude.{◌≡◌, ◌+◌, ◌*◌, ◌≤◌, ◌<◌, length};
 ghost use Rattle.rules_compare.specs.Differences.{differences, laid};
-ghost use Rattle.compare_rows.specs.Left.{leftOver, Between, RoomFor, Put};
+ghost use Rattle.compare_rows.specs.Left.{left_over, Between, RoomFor, Put};
 
 // How far both rows go.
 fn shorter(a: &[u8], b: &[u8]) -> usize
     ensures answer { (result ≤ length a.now) × (result ≤ length b.now)
-        × (leftOver a.now b.now result ≡ 0)
+        × (left_over a.now b.now result ≡ 0)
         × (length (differences a.now b.now) ≤ result) }
 {
     if a.len() < b.len() { a.len() } else { b.len() }

@@ -1,10 +1,10 @@
 // Finds the start of a front in a hard recording: the smallest of so many offsets from which a read meets none of 8 to
 // 15. An SFD is looked for at 256 offsets at once, and a whole front is read only where one is right.
 ghost use Rattle.std.specs.Prelude.{◌≡◌, ℕ, ◌+◌, ◌≤◌, ◌<◌, length, get_or, drop};
-ghost use Rattle.rules_chips.specs.Chips.{hardRecording};
-ghost use Rattle.rules_frame.specs.Frame.{frontChips};
-ghost use Rattle.rules_reading.specs.Reading.{frontOf};
-ghost use Rattle.rules_finding.specs.Finding.{startOr, firstStart, findingOf, notFoundNumber, foundOf};
+ghost use Rattle.rules_chips.specs.Chips.{hard_recording};
+ghost use Rattle.rules_frame.specs.Frame.{front_chips};
+ghost use Rattle.rules_reading.specs.Reading.{front_of};
+ghost use Rattle.rules_finding.specs.Finding.{start_or, first_start, finding_of, not_found_number, found_of};
 ghost use Rattle.rules_finding.proofs.Laws.{Missed};
 
 use choose_recorders::Recorder;
@@ -17,7 +17,7 @@ use rules_rates::Rate;
 
 // The number of a refusal.
 fn number_of(e: NotFound) -> u64
-    ensures answer { result ≡ notFoundNumber e }
+    ensures answer { result ≡ not_found_number e }
 {
     match e {
         NotFound::NoKind => 1,
@@ -28,7 +28,7 @@ fn number_of(e: NotFound) -> u64
 
 // A refusal in numbers: all else is 0.
 fn refused(e: NotFound) -> Found
-    ensures answer { result ≡ foundOf (Finding.Refused e) }
+    ensures answer { result ≡ found_of (Finding.Refused e) }
 {
     Found {
         number: number_of(e),
@@ -42,7 +42,7 @@ fn refused(e: NotFound) -> Found
 
 // A start's offset, and what its header tells, in numbers.
 fn started(offset: usize, t: Told) -> Found
-    ensures answer { result ≡ foundOf (Finding.Start offset t) }
+    ensures answer { result ≡ found_of (Finding.Start offset t) }
 {
     let rate = t.rate;
     Found {
@@ -60,7 +60,7 @@ fn started(offset: usize, t: Told) -> Found
 // What the front from an offset on tells.
 fn front_at(kind: Kind, chips: &[u8], at: usize) -> Front
     requires { at ≤ length chips.now }
-    ensures answer { result ≡ frontOf kind (drop at (hardRecording chips.now)) }
+    ensures answer { result ≡ front_of kind (drop at (hard_recording chips.now)) }
 {
     let byte = [0i8; 1];
     let bytes = &byte[0..0];
@@ -81,9 +81,9 @@ fn front_at(kind: Kind, chips: &[u8], at: usize) -> Front
 // Whether a front that tells starts at an offset; it is not read where there is no mark.
 fn try_at(kind: Kind, chips: &[u8], at: usize, mark: u8) -> Finding
     requires { (at ≤ length chips.now)
-        × (mark ≡ 0 → Missed (frontOf kind (drop at (hardRecording chips.now)))) }
+        × (mark ≡ 0 → Missed (front_of kind (drop at (hard_recording chips.now)))) }
     ensures answer { result ≡
-        startOr at (frontOf kind (drop at (hardRecording chips.now))) (Finding.Refused NotFound.NoStart) }
+        start_or at (front_of kind (drop at (hard_recording chips.now))) (Finding.Refused NotFound.NoStart) }
 {
     if mark == 0 {
         return Finding::Refused(NotFound::NoStart);
@@ -99,8 +99,8 @@ fn try_at(kind: Kind, chips: &[u8], at: usize, mark: u8) -> Finding
 fn seek(kind: Kind, chips: &[u8], at: usize, count: usize, marks: &[u8; 512]) -> Finding
     requires { (count ≤ 256) × (at + count ≤ length chips.now)
         × ((j : ℕ) → j < count → get_or marks.now j 0 ≡ 0
-        → Missed (frontOf kind (drop (at + j) (hardRecording chips.now)))) }
-    ensures answer { result ≡ firstStart kind at count (drop at (hardRecording chips.now)) }
+        → Missed (front_of kind (drop (at + j) (hard_recording chips.now)))) }
+    ensures answer { result ≡ first_start kind at count (drop at (hard_recording chips.now)) }
 {
     if !find_sweep::any(marks) {
         return Finding::Refused(NotFound::NoStart);
@@ -120,8 +120,8 @@ fn seek(kind: Kind, chips: &[u8], at: usize, count: usize, marks: &[u8; 512]) ->
 
 // Of so many offsets those that have the chips of a front behind them: the first so many.
 fn tries(kind: Kind, chips: usize, offsets: usize) -> usize
-    ensures answer { (result ≤ offsets) × (0 < result → result + frontChips kind ≤ chips + 1)
-        × ((j : ℕ) → result ≤ j → j < offsets → chips < j + frontChips kind) }
+    ensures answer { (result ≤ offsets) × (0 < result → result + front_chips kind ≤ chips + 1)
+        × ((j : ℕ) → result ≤ j → j < offsets → chips < j + front_chips kind) }
 {
     let front = common_kinds::front_chips(kind);
     if chips < front {
@@ -134,7 +134,7 @@ fn tries(kind: Kind, chips: usize, offsets: usize) -> usize
 // The search over all of them, 256 at once.
 fn search(kind: Kind, chips: &[u8], offsets: usize) -> Finding
     requires { offsets ≤ 4096 }
-    ensures answer { result ≡ firstStart kind 0 offsets (hardRecording chips.now) }
+    ensures answer { result ≡ first_start kind 0 offsets (hard_recording chips.now) }
 {
     let tried = tries(kind, chips.len(), offsets);
     let from = common_kinds::preamble_chips(kind) - 264;
@@ -162,7 +162,7 @@ fn search(kind: Kind, chips: &[u8], offsets: usize) -> Finding
 
 // Finds the start: 1, then 18, then the search.
 pub fn find(kind: u64, chips: &[u8], offsets: u64) -> Found
-    ensures answer { result ≡ foundOf (findingOf kind offsets (hardRecording chips.now)) }
+    ensures answer { result ≡ found_of (finding_of kind offsets (hard_recording chips.now)) }
 {
     let k = common_kinds::kind_of(kind);
     if !common_kinds::is_kind(kind) {

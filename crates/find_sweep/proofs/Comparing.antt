@@ -14,8 +14,8 @@ pub record Comparing (low high : ℕ) (before : List ℕ) (l : ℕ) (row : List 
   pub marked : MarkedOf low high before l row
   pub kept : (j : ℕ) → l ≤ j → get_or row j 0 ≡ get_or before j 0
 
-pub comparing-none : (low high : ℕ) (row : List ℕ) → length row ≡ 512 → Comparing low high row 0 row
-comparing-none low high row e = record {
+pub comparing_none : (low high : ℕ) (row : List ℕ) → length row ≡ 512 → Comparing low high row 0 row
+comparing_none low high row e = record {
   marked = record { long = e; each = λ j l. absurd (omega arith) };
   kept = λ j l. refl;
 }
@@ -26,9 +26,9 @@ Right low high xs j v =
     get_or xs j 0 ≡ low % 16 → get_or xs (j + 44) 0 ≡ low / 16 → get_or xs (j + 88) 0 ≡ high % 16
     → get_or xs (j + 132) 0 ≡ high / 16 → v ≡ 0 → ⊥
 
-pub comparing-more : {low high : ℕ} {before row : List ℕ} {l : ℕ} (v : ℕ) → l < 512 → Right low high row l v
+pub comparing_more : {low high : ℕ} {before row : List ℕ} {l : ℕ} (v : ℕ) → l < 512 → Right low high row l v
     → Comparing low high before l row → Comparing low high before (l + 1) (set row l v)
-comparing-more {low} {high} {before} {row} {l} v h e w = record {
+comparing_more {low} {high} {before} {row} {l} v h e w = record {
   marked = record { long = length-set row l v ∙ w.marked.long; each = λ j k. by j k (dec_lt j l) };
   kept = λ j k. get_or-set_other row l j v 0 (λ q. omega arith) ∙ w.kept j (omega arith);
 }
@@ -45,6 +45,6 @@ comparing-more {low} {high} {before} {row} {l} v h e w = record {
         let q : l ≡ j = omega arith in
         subst (λ (n : ℕ). Right low high before n (get_or (set row l v) n 0)) q here a b c d z
 
-pub comparing-all : {low high : ℕ} {before row : List ℕ} {l n : ℕ} → n ≤ l → Comparing low high before l row
+pub comparing_all : {low high : ℕ} {before row : List ℕ} {l n : ℕ} → n ≤ l → Comparing low high before l row
     → MarkedOf low high before n row
-comparing-all h w = record { long = w.marked.long; each = λ j k. w.marked.each j (omega arith) }
+comparing_all h w = record { long = w.marked.long; each = λ j k. w.marked.each j (omega arith) }

@@ -2,9 +2,9 @@
 -- and of equals the first wins: one of the last two wins where I and Q together are below 0. A chip's I and Q together
 -- are its side less 1.
 --     by_two        the half by two sums
---     side-is       a side, as the code has it
+--     side_is       a side, as the code has it
 --     half_is       the half by the sides of eleven octets
---     half-there    and by two rows of sides
+--     half_there    and by two rows of sides
 -- Assumes nothing.
 use mathlib.Core.Path.{◌≡◌, refl, sym, ap, ◌∙◌, subst}
 use mathlib.Core.Bool.{Bool, true, false}
@@ -20,58 +20,58 @@ use mir.Val.{bool_byte}
 use borrow.Author.Tests.{le-leb, lt-leb, ne_eqb}
 use Rattle.base.specs.Tables.{tabulate}
 use Rattle.base.specs.Whole.{up, dn}
-use Rattle.base.proofs.Whole.{up_pos, dn-pos, add, neg-up, neg-dn, of_le, of_lt}
+use Rattle.base.proofs.Whole.{up_pos, dn_pos, add, neg_up, neg_dn, of_le, of_lt}
 use Rattle.rules_rates.specs.declared.Rate.TheVariants.{One}
 use Rattle.choose_axes.specs.declared.Axis.{Axis}
 use Rattle.choose_axes.specs.declared.Axis.TheVariants.{I, Q}
-use Rattle.choose_axes.specs.Axes.{along, unitsAlong}
-use Rattle.rules_chips.specs.Chips.{pair, fullChip, hardRecording}
-use Rattle.rules_symbols.specs.Words.{barkerSigns}
+use Rattle.choose_axes.specs.Axes.{along, units_along}
+use Rattle.rules_chips.specs.Chips.{pair, full_chip, hard_recording}
+use Rattle.rules_symbols.specs.Words.{barker_signs}
 use Rattle.rules_symbols.specs.Choice.{term, decided}
-use Rattle.rules_choosing.specs.Scores.{scoreAt, DecidedAs}
-use Rattle.rules_choosing.proofs.Decided.{decided-best}
-use Rattle.choose_sums.specs.Sums.{signed, bySigns, asChip}
-use Rattle.choose_sums.proofs.Four.{score-chip}
-use Rattle.choose_sums.proofs.Apart.{units-barker}
-use Rattle.choose_recorded.specs.Recorded.{hardPart}
-use Rattle.choose_recorded.proofs.HardLeads.{hard-decided}
-use Rattle.find_sweep.specs.Sweep.{side_of, halfOfEleven, halfAt, Sides, half_of}
-use Rattle.choose_recorded.proofs.Units.{units-part}
+use Rattle.rules_choosing.specs.Scores.{score_at, DecidedAs}
+use Rattle.rules_choosing.proofs.Decided.{decided_best}
+use Rattle.choose_sums.specs.Sums.{signed, by_signs, as_chip}
+use Rattle.choose_sums.proofs.Four.{score_chip}
+use Rattle.choose_sums.proofs.Apart.{units_barker}
+use Rattle.choose_recorded.specs.Recorded.{hard_part}
+use Rattle.choose_recorded.proofs.HardLeads.{hard_decided}
+use Rattle.find_sweep.specs.Sweep.{side_of, half_of_eleven, half_at, Sides, half_of}
+use Rattle.choose_recorded.proofs.Units.{units_part}
 
 -- ---- the choice by two sums
 module _ (i q : ℤ) where
   abbrev f : ℕ → ℤ
-  f m = scoreAt One (asChip i q) m
+  f m = score_at One (as_chip i q) m
 
   abbrev t : ℕ → ℤ
   t m = term m (pair i q)
 
-  at-most : (m r : ℕ) → m < 4 → r < 4 → f m ≤ℤ f r → up (t m) + dn (t r) ≤ up (t r) + dn (t m)
-  at-most m r a b h =
+  at_most_lem : (m r : ℕ) → m < 4 → r < 4 → f m ≤ℤ f r → up (t m) + dn (t r) ≤ up (t r) + dn (t m)
+  at_most_lem m r a b h =
       of_le (t m) (t r)
-      (subst (λ (z : ℤ). z ≤ℤ t r) (score-chip i q m a) (subst (λ (z : ℤ). f m ≤ℤ z) (score-chip i q r b) h))
+      (subst (λ (z : ℤ). z ≤ℤ t r) (score_chip i q m a) (subst (λ (z : ℤ). f m ≤ℤ z) (score_chip i q r b) h))
 
   less : (m r : ℕ) → m < 4 → r < 4 → f m <ℤ f r → up (t m) + dn (t r) < up (t r) + dn (t m)
   less m r a b h =
       of_lt (t m) (t r)
-      (subst (λ (z : ℤ). z <ℤ t r) (score-chip i q m a) (subst (λ (z : ℤ). f m <ℤ z) (score-chip i q r b) h))
+      (subst (λ (z : ℤ). z <ℤ t r) (score_chip i q m a) (subst (λ (z : ℤ). f m <ℤ z) (score_chip i q r b) h))
 
-  below : (r : ℕ) → DecidedAs One (asChip i q) r → up i + up q < dn i + dn q → r / 2 ≡ 1
+  below : (r : ℕ) → DecidedAs One (as_chip i q) r → up i + up q < dn i + dn q → r / 2 ≡ 1
   below zero b h =
-      absurd (omega (arith, at-most 3 0 (lit< tt) (lit< tt) (b.top 3 (lit< tt) tt), neg-up q, neg-dn q))
+      absurd (omega (arith, at_most_lem 3 0 (lit< tt) (lit< tt) (b.top 3 (lit< tt) tt), neg_up q, neg_dn q))
   below (suc zero) b h =
-      absurd (omega (arith, at-most 2 1 (lit< tt) (lit< tt) (b.top 2 (lit< tt) tt), neg-up i, neg-dn i))
+      absurd (omega (arith, at_most_lem 2 1 (lit< tt) (lit< tt) (b.top 2 (lit< tt) tt), neg_up i, neg_dn i))
   below (suc (suc zero)) b h = refl
   below (suc (suc (suc zero))) b h = refl
   below (suc (suc (suc (suc r)))) b h = absurd (omega (arith, b.among))
 
-  above : (r : ℕ) → DecidedAs One (asChip i q) r → dn i + dn q ≤ up i + up q → r / 2 ≡ 0
+  above : (r : ℕ) → DecidedAs One (as_chip i q) r → dn i + dn q ≤ up i + up q → r / 2 ≡ 0
   above zero b h = refl
   above (suc zero) b h = refl
   above (suc (suc zero)) b h =
-      absurd (omega (arith, less 1 2 (lit< tt) (lit< tt) (b.first 1 (lit< tt) tt), neg-up i, neg-dn i))
+      absurd (omega (arith, less 1 2 (lit< tt) (lit< tt) (b.first 1 (lit< tt) tt), neg_up i, neg_dn i))
   above (suc (suc (suc zero))) b h =
-      absurd (omega (arith, less 0 3 (lit< tt) (lit< tt) (b.first 0 (lit< tt) tt), neg-up q, neg-dn q))
+      absurd (omega (arith, less 0 3 (lit< tt) (lit< tt) (b.first 0 (lit< tt) tt), neg_up q, neg_dn q))
   above (suc (suc (suc (suc r)))) b h = absurd (omega (arith, b.among))
 
   -- by two numbers that differ as the sums together do, and 1 more
@@ -80,47 +80,47 @@ module _ (i q : ℤ) where
   -- rule: 6.17
   -- code: find_sweep::decide
   -- with: front-even, front-bit
-  by_two : (p m : ℕ) → up i + up q + m + 1 ≡ dn i + dn q + p → bool_byte (leb p m) ≡ decided One (asChip i q) / 2
+  by_two : (p m : ℕ) → up i + up q + m + 1 ≡ dn i + dn q + p → bool_byte (leb p m) ≡ decided One (as_chip i q) / 2
   by_two p m e = by (dec_le p m)
     where
-      best : DecidedAs One (asChip i q) (decided One (asChip i q))
-      best = decided-best One (asChip i q)
+      best : DecidedAs One (as_chip i q) (decided One (as_chip i q))
+      best = decided_best One (as_chip i q)
 
-      by : Dec (p ≤ m) → bool_byte (leb p m) ≡ decided One (asChip i q) / 2
+      by : Dec (p ≤ m) → bool_byte (leb p m) ≡ decided One (as_chip i q) / 2
       by (yes h) = rw (le-leb p m h) (sym (below _ best (omega arith)))
       by (no h) = rw (lt-leb p m (omega arith)) (sym (above _ best (omega arith)))
 
 -- ---- sides
-pub byte-most : (b : Bool) → bool_byte b ≤ 1
-byte-most true = omega arith
-byte-most false = omega arith
+pub byte_most : (b : Bool) → bool_byte b ≤ 1
+byte_most true = omega arith
+byte_most false = omega arith
 
-pub side-is : (x : ℕ) → 1 + bool_byte (eqb (x / 2) 0) - bool_byte (eqb (x / 2) 1) ≡ side_of x
-side-is zero = refl
-side-is (suc zero) = refl
-side-is (suc (suc zero)) = refl
-side-is (suc (suc (suc zero))) = refl
-side-is (suc (suc (suc (suc x)))) =
+pub side_is : (x : ℕ) → 1 + bool_byte (eqb (x / 2) 0) - bool_byte (eqb (x / 2) 1) ≡ side_of x
+side_is zero = refl
+side_is (suc zero) = refl
+side_is (suc (suc zero)) = refl
+side_is (suc (suc (suc zero))) = refl
+side_is (suc (suc (suc (suc x)))) =
     let h : ℕ = suc (suc (suc (suc x))) / 2 in
     rw (ne_eqb h 0 (λ e. omega arith), ne_eqb h 1 (λ e. omega arith))
 
-pub side-most : (x : ℕ) → side_of x ≤ 2
-side-most zero = omega arith
-side-most (suc zero) = omega arith
-side-most (suc (suc zero)) = omega arith
-side-most (suc (suc (suc zero))) = omega arith
-side-most (suc (suc (suc (suc x)))) = omega arith
+pub side_most : (x : ℕ) → side_of x ≤ 2
+side_most zero = omega arith
+side_most (suc zero) = omega arith
+side_most (suc (suc zero)) = omega arith
+side_most (suc (suc (suc zero))) = omega arith
+side_most (suc (suc (suc (suc x)))) = omega arith
 
 abbrev unit : Axis → ℕ → ℤ
-unit a x = along a (fullChip 1 x)
+unit a x = along a (full_chip 1 x)
 
-unit-side : (x : ℕ) → up (unit I x) + up (unit Q x) + 1 ≡ dn (unit I x) + dn (unit Q x) + side_of x
+unit_side : (x : ℕ) → up (unit I x) + up (unit Q x) + 1 ≡ dn (unit I x) + dn (unit Q x) + side_of x
 unfolding up dn
-unit-side zero = refl
-unit-side (suc zero) = refl
-unit-side (suc (suc zero)) = refl
-unit-side (suc (suc (suc zero))) = refl
-unit-side (suc (suc (suc (suc x)))) = refl
+unit_side zero = refl
+unit_side (suc zero) = refl
+unit_side (suc (suc zero)) = refl
+unit_side (suc (suc (suc zero))) = refl
+unit_side (suc (suc (suc (suc x)))) = refl
 
 -- the sum of f over the numbers that have a sign
 unfoldable having : (ℕ → ℕ) → Bool → List Bool → List ℕ → ℕ
@@ -134,28 +134,28 @@ having f false (false ∷ ss) (x ∷ xs) = f x + having f false ss xs
 abbrev one : ℕ → ℕ
 one x = 1
 
-abbrev sumOn : Axis → List Bool → List ℕ → ℤ
-sumOn a ss xs = signed ss (map (unit a) xs)
+abbrev sum_on : Axis → List Bool → List ℕ → ℤ
+sum_on a ss xs = signed ss (map (unit a) xs)
 
 balance : (ss : List Bool) (xs : List ℕ)
-    → up (sumOn I ss xs) + up (sumOn Q ss xs) + (having side_of false ss xs + having one true ss xs)
-    ≡ dn (sumOn I ss xs) + dn (sumOn Q ss xs) + (having side_of true ss xs + having one false ss xs)
+    → up (sum_on I ss xs) + up (sum_on Q ss xs) + (having side_of false ss xs + having one true ss xs)
+    ≡ dn (sum_on I ss xs) + dn (sum_on Q ss xs) + (having side_of true ss xs + having one false ss xs)
 unfolding signed having
-balance [] xs = omega (arith, up_pos 0, dn-pos 0)
-balance (s ∷ ss) [] = omega (arith, up_pos 0, dn-pos 0)
+balance [] xs = omega (arith, up_pos 0, dn_pos 0)
+balance (s ∷ ss) [] = omega (arith, up_pos 0, dn_pos 0)
 balance (true ∷ ss) (x ∷ xs) =
-    omega (arith, balance ss xs, unit-side x, add (unit I x) (sumOn I ss xs), add (unit Q x) (sumOn Q ss xs))
+    omega (arith, balance ss xs, unit_side x, add (unit I x) (sum_on I ss xs), add (unit Q x) (sum_on Q ss xs))
 balance (false ∷ ss) (x ∷ xs) =
     omega (
       arith,
       balance ss xs,
-      unit-side x,
-      add (neg_ℤ (unit I x)) (sumOn I ss xs),
-      add (neg_ℤ (unit Q x)) (sumOn Q ss xs),
-      neg-up (unit I x),
-      neg-dn (unit I x),
-      neg-up (unit Q x),
-      neg-dn (unit Q x),
+      unit_side x,
+      add (neg_ℤ (unit I x)) (sum_on I ss xs),
+      add (neg_ℤ (unit Q x)) (sum_on Q ss xs),
+      neg_up (unit I x),
+      neg_dn (unit I x),
+      neg_up (unit Q x),
+      neg_dn (unit Q x),
     )
 
 -- ---- a hard recording's symbol
@@ -167,29 +167,29 @@ module _ (xs : List ℕ) (at : ℕ) (h : at + 11 ≤ length xs) where
   octets = tabulate (λ j. get_or xs (at + j) 0) 11
 
   abbrev sums : Axis → ℤ
-  sums a = bySigns (unitsAlong a (hardPart xs at 11))
+  sums a = by_signs (units_along a (hard_part xs at 11))
 
-  sums-are : (a : Axis) → sums a ≡ sumOn a barkerSigns octets
+  sums_are : (a : Axis) → sums a ≡ sum_on a barker_signs octets
   unfolding tabulate
-  sums-are a = ap bySigns (units-part a xs at 11)
+  sums_are a = ap by_signs (units_part a xs at 11)
 
   together : up (sums I) + up (sums Q) + (side 1 + side 4 + side 8 + side 9 + side 10) + 1
       ≡ dn (sums I) + dn (sums Q) + (side 0 + side 2 + side 3 + side 5 + side 6 + side 7)
   unfolding having tabulate
-  together = rw (sums-are I, sums-are Q) (omega (arith, balance barkerSigns octets))
+  together = rw (sums_are I, sums_are Q) (omega (arith, balance barker_signs octets))
 
   half_is :
-      halfOfEleven (side 0) (side 1) (side 2) (side 3) (side 4) (side 5) (side 6) (side 7) (side 8) (side 9) (side 10)
-      ≡ halfAt (hardRecording xs) at
-  unfolding halfAt
+      half_of_eleven (side 0) (side 1) (side 2) (side 3) (side 4) (side 5) (side 6) (side 7) (side 8) (side 9) (side 10)
+      ≡ half_at (hard_recording xs) at
+  unfolding half_at
   half_is =
       by_two (sums I) (sums Q) _ _ together
-      ∙ ap (λ (n : ℕ). n / 2) ((units-barker (hardPart xs at 11) (refl, refl)).0 ∙ hard-decided 11 One xs at h)
+      ∙ ap (λ (n : ℕ). n / 2) ((units_barker (hard_part xs at 11) (refl, refl)).0 ∙ hard_decided 11 One xs at h)
 
 module _ (xs : List ℕ) (at m : ℕ) {evens odds : List ℕ} (x : Sides xs at m evens) (y : Sides xs at m odds) where
-  pub half-there : (s : ℕ) → s + 11 ≤ m → at + s + 11 ≤ length xs
-      → half_of evens odds s ≡ halfAt (hardRecording xs) (at + s)
-  half-there s h k =
+  pub half_there : (s : ℕ) → s + 11 ≤ m → at + s + 11 ≤ length xs
+      → half_of evens odds s ≡ half_at (hard_recording xs) (at + s)
+  half_there s h k =
       (λ i. halfOfEleven (first i) (o 1 (omega arith) i) (e 2 (omega arith) i) (o 3 (omega arith) i)
       (e 4 (omega arith) i) (o 5 (omega arith) i) (e 6 (omega arith) i) (o 7 (omega arith) i) (e 8 (omega arith) i)
       (o 9 (omega arith) i) (e 10 (omega arith) i))
@@ -208,5 +208,5 @@ module _ (xs : List ℕ) (at m : ℕ) {evens odds : List ℕ} (x : Sides xs at m
       o j l = y.each (s + j) (omega arith) ∙ sided (omega arith)
 
   -- none is more than 2
-  pub sides-most : (row : List ℕ) → Sides xs at m row → (j : ℕ) → j < m → get_or row j 0 ≤ 2
-  sides-most row z j l = omega (arith, z.each j l, side-most (get_or xs (at + j) 0))
+  pub sides_most : (row : List ℕ) → Sides xs at m row → (j : ℕ) → j < m → get_or row j 0 ≤ 2
+  sides_most row z j l = omega (arith, z.each j l, side_most (get_or xs (at + j) 0))

@@ -1,8 +1,8 @@
 -- Rows of 512 filled or worked over entry by entry: those below l are by a rule.
---     row-none, row-less                      filled
---     sides-none, sides-more                  sides, in rows of 144
---     added_none, added_more, row-added       filled from a place on
---     worked-none, worked-more, worked-row    worked over: the others are as they were
+--     row_none, row_less                      filled
+--     sides_none, sides_more                  sides, in rows of 144
+--     added_none, added_more, row_added       filled from a place on
+--     worked_none, worked_more, worked_row    worked over: the others are as they were
 -- Assumes nothing.
 use mathlib.Core.Path.{◌≡◌, refl, ◌∙◌, subst}
 use mathlib.Core.List.{List}
@@ -13,16 +13,16 @@ use lib.ListN.{length, get_or, set, length-set}
 use lib.Seq.{get_or-set_same, get_or-set_other}
 use Rattle.find_sweep.specs.Sweep.{side_of, Sides, Row, Added, Worked}
 
-pub row-none : (f : ℕ → ℕ) (row : List ℕ) → length row ≡ 512 → Row f 0 row
-row-none f row e = record { long = e; each = λ j l. absurd (omega arith) }
+pub row_none : (f : ℕ → ℕ) (row : List ℕ) → length row ≡ 512 → Row f 0 row
+row_none f row e = record { long = e; each = λ j l. absurd (omega arith) }
 
-pub row-less : {f : ℕ → ℕ} {m : ℕ} {row : List ℕ} (n : ℕ) → n ≤ m → Row f m row → Row f n row
-row-less n h r = record { long = r.long; each = λ j l. r.each j (omega arith) }
+pub row_less : {f : ℕ → ℕ} {m : ℕ} {row : List ℕ} (n : ℕ) → n ≤ m → Row f m row → Row f n row
+row_less n h r = record { long = r.long; each = λ j l. r.each j (omega arith) }
 
 -- what holds below l of a row holds below l + 1, if its entry l is put
-put-more : {f : ℕ → ℕ} (row : List ℕ) {l : ℕ} (v : ℕ) → l < length row → v ≡ f l
+put_more : {f : ℕ → ℕ} (row : List ℕ) {l : ℕ} (v : ℕ) → l < length row → v ≡ f l
     → ((j : ℕ) → j < l → get_or row j 0 ≡ f j) → (j : ℕ) → j < l + 1 → get_or (set row l v) j 0 ≡ f j
-put-more {f} row {l} v h e r j k = by (dec_lt j l)
+put_more {f} row {l} v h e r j k = by (dec_lt j l)
   where
     by : Dec (j < l) → get_or (set row l v) j 0 ≡ f j
     by (yes p) = get_or-set_other row l j v 0 (λ q. omega arith) ∙ r j p
@@ -30,18 +30,18 @@ put-more {f} row {l} v h e r j k = by (dec_lt j l)
         let q : l ≡ j = omega arith in
         subst (λ (n : ℕ). get_or (set row l v) n 0 ≡ f n) q (get_or-set_same row l v 0 h ∙ e)
 
-pub sides-none : (octets : List ℕ) (at : ℕ) (row : List ℕ) → length row ≡ 144 → Sides octets at 0 row
-sides-none octets at row e = record { long = e; each = λ j l. absurd (omega arith) }
+pub sides_none : (octets : List ℕ) (at : ℕ) (row : List ℕ) → length row ≡ 144 → Sides octets at 0 row
+sides_none octets at row e = record { long = e; each = λ j l. absurd (omega arith) }
 
-pub sides-more : {octets row : List ℕ} {at k : ℕ} (v : ℕ) → k < 144 → v ≡ side_of (get_or octets (at + k) 0)
+pub sides_more : {octets row : List ℕ} {at k : ℕ} (v : ℕ) → k < 144 → v ≡ side_of (get_or octets (at + k) 0)
     → Sides octets at k row → Sides octets at (k + 1) (set row k v)
-sides-more {octets} {row} {at} {k} v h e s = record {
+sides_more {octets} {row} {at} {k} v h e s = record {
   long = length-set row k v ∙ s.long;
-  each = put-more {f = λ j. side_of (get_or octets (at + j) 0)} row v (omega (arith, s.long)) e s.each;
+  each = put_more {f = λ j. side_of (get_or octets (at + j) 0)} row v (omega (arith, s.long)) e s.each;
 }
 
-pub sides-less : {octets row : List ℕ} {at k : ℕ} (n : ℕ) → n ≤ k → Sides octets at k row → Sides octets at n row
-sides-less n h s = record { long = s.long; each = λ j l. s.each j (omega arith) }
+pub sides_less : {octets row : List ℕ} {at k : ℕ} (n : ℕ) → n ≤ k → Sides octets at k row → Sides octets at n row
+sides_less n h s = record { long = s.long; each = λ j l. s.each j (omega arith) }
 
 pub added_none : (f : ℕ → ℕ) (l : ℕ) (row : List ℕ) → length row ≡ 512 → Added f l row row 0
 added_none f l row e = record { long = e; kept = λ j h. refl; each = λ s h. absurd (omega arith) }
@@ -61,17 +61,17 @@ added_more {f} {l} {before} {row} {n} v h e a = record {
         subst (λ (i : ℕ). get_or (set row (l + n) v) (l + i) 0 ≡ f i) q
         (get_or-set_same row (l + n) v 0 (omega (arith, a.long)) ∙ e)
 
-pub added-less : {f : ℕ → ℕ} {l : ℕ} {before row : List ℕ} {n : ℕ} (m : ℕ) → m ≤ n → Added f l before row n
+pub added_less : {f : ℕ → ℕ} {l : ℕ} {before row : List ℕ} {n : ℕ} (m : ℕ) → m ≤ n → Added f l before row n
     → Added f l before row m
-added-less m h a = record { long = a.long; kept = a.kept; each = λ s k. a.each s (omega arith) }
+added_less m h a = record { long = a.long; kept = a.kept; each = λ s k. a.each s (omega arith) }
 
-pub added-as : {f g : ℕ → ℕ} {l : ℕ} {before row : List ℕ} {n : ℕ} → ((s : ℕ) → s < n → f s ≡ g s)
+pub added_as : {f g : ℕ → ℕ} {l : ℕ} {before row : List ℕ} {n : ℕ} → ((s : ℕ) → s < n → f s ≡ g s)
     → Added f l before row n → Added g l before row n
-added-as e a = record { long = a.long; kept = a.kept; each = λ s h. a.each s h ∙ e s h }
+added_as e a = record { long = a.long; kept = a.kept; each = λ s h. a.each s h ∙ e s h }
 
-pub row-added : {f g : ℕ → ℕ} {l : ℕ} {before row : List ℕ} {n : ℕ} → ((s : ℕ) → f s ≡ g (l + s))
+pub row_added : {f g : ℕ → ℕ} {l : ℕ} {before row : List ℕ} {n : ℕ} → ((s : ℕ) → f s ≡ g (l + s))
     → Row g l before → Added f l before row n → Row g (l + n) row
-row-added {f} {g} {l} {before} {row} {n} e r a = record { long = a.long; each = λ j h. by j h (dec_lt j l) }
+row_added {f} {g} {l} {before} {row} {n} e r a = record { long = a.long; each = λ j h. by j h (dec_lt j l) }
   where
     by : (j : ℕ) → j < l + n → Dec (j < l) → get_or row j 0 ≡ g j
     by j h (yes p) = a.kept j p ∙ r.each j p
@@ -79,16 +79,16 @@ row-added {f} {g} {l} {before} {row} {n} e r a = record { long = a.long; each = 
         let q : l + (j - l) ≡ j = omega arith in
         subst (λ (i : ℕ). get_or row i 0 ≡ g i) q (a.each (j - l) (omega arith) ∙ e (j - l))
 
-pub worked-none : (f : ℕ → ℕ) (row : List ℕ) → length row ≡ 512 → Worked f row 0 row
-worked-none f row e = record { long = e; each = λ j l. absurd (omega arith); kept = λ j l. refl }
+pub worked_none : (f : ℕ → ℕ) (row : List ℕ) → length row ≡ 512 → Worked f row 0 row
+worked_none f row e = record { long = e; each = λ j l. absurd (omega arith); kept = λ j l. refl }
 
-pub worked-more : {f : ℕ → ℕ} {before row : List ℕ} {l : ℕ} (v : ℕ) → l < 512 → v ≡ f l → Worked f before l row
+pub worked_more : {f : ℕ → ℕ} {before row : List ℕ} {l : ℕ} (v : ℕ) → l < 512 → v ≡ f l → Worked f before l row
     → Worked f before (l + 1) (set row l v)
-worked-more {f} {before} {row} {l} v h e w = record {
+worked_more {f} {before} {row} {l} v h e w = record {
   long = length-set row l v ∙ w.long;
-  each = put-more row v (omega (arith, w.long)) e w.each;
+  each = put_more row v (omega (arith, w.long)) e w.each;
   kept = λ j k. get_or-set_other row l j v 0 (λ q. omega arith) ∙ w.kept j (omega arith);
 }
 
-pub worked-row : {f : ℕ → ℕ} {before row : List ℕ} {l : ℕ} (n : ℕ) → n ≤ l → Worked f before l row → Row f n row
-worked-row n h w = record { long = w.long; each = λ j k. w.each j (omega arith) }
+pub worked_row : {f : ℕ → ℕ} {before row : List ℕ} {l : ℕ} (n : ℕ) → n ≤ l → Worked f before l row → Row f n row
+worked_row n h w = record { long = w.long; each = λ j k. w.each j (omega arith) }

@@ -11,30 +11,30 @@ use Rattle.rules_chips.specs.Chips.{Taken}
 use Rattle.rules_symbols.specs.Choice.{decided}
 use Rattle.rules_bits.specs.Bits.{◌⊕◌, number_of}
 use Rattle.rules_frame.specs.declared.Kind.{Kind}
-use Rattle.rules_frame.specs.Frame.{preambleChips}
+use Rattle.rules_frame.specs.Frame.{preamble_chips}
 use Rattle.choose_recorded.specs.Recorded.{symbol_at}
 
 -- ---- at a place of a recording
 
 -- 1 where the Barker symbol whose chips start there is decided as phase 2 or 3, else 0; unusable chips count as nothing
-unfoldable pub halfAt : List Taken → ℕ → ℕ
-halfAt rec p = decided One (symbol_at One rec p) / 2
+unfoldable pub half_at : List Taken → ℕ → ℕ
+half_at rec p = decided One (symbol_at One rec p) / 2
 
 -- the bit, as it was sent, of the symbol after that one, if its growth is even
 unfoldable pub bit_at : List Taken → ℕ → ℕ
-bit_at rec p = halfAt rec p ⊕ halfAt rec (p + 11)
+bit_at rec p = half_at rec p ⊕ half_at rec (p + 11)
 
 -- the bit 7 symbols after that one, unscrambled: by those 4 and 7 before it
-unfoldable pub plainAt : List Taken → ℕ → ℕ
-plainAt rec p = bit_at rec (p + 77) ⊕ bit_at rec (p + 33) ⊕ bit_at rec p
+unfoldable pub plain_at : List Taken → ℕ → ℕ
+plain_at rec p = bit_at rec (p + 77) ⊕ bit_at rec (p + 33) ⊕ bit_at rec p
 
 -- eight such bits, a symbol apart, as an octet
-unfoldable pub octetAt : List Taken → ℕ → ℕ
-octetAt rec p = number_of (tabulate (λ j. plainAt rec (p + 11 * j)) 8)
+unfoldable pub octet_at : List Taken → ℕ → ℕ
+octet_at rec p = number_of (tabulate (λ j. plainAt rec (p + 11 * j)) 8)
 
 -- the halves that the SFD of a front is read from are those of 24 symbols, the last ones of the preamble
-abbrev pub sfdFrom : Kind → ℕ
-sfdFrom k = preambleChips k - 264
+abbrev pub sfd_from : Kind → ℕ
+sfd_from k = preamble_chips k - 264
 
 -- ---- of octets of a hard recording
 
@@ -43,8 +43,8 @@ abbrev pub side_of : ℕ → ℕ
 side_of x = get_or (2 ∷ 2 ∷ 0 ∷ 0 ∷ []) x 1
 
 -- 1 where I and Q of a Barker symbol together are below 0, by the sides of its chips
-abbrev pub halfOfEleven : ℕ → ℕ → ℕ → ℕ → ℕ → ℕ → ℕ → ℕ → ℕ → ℕ → ℕ → ℕ
-halfOfEleven a b c d e f g h i j k = bool_byte (leb (a + c + d + f + g + h) (b + e + i + j + k))
+abbrev pub half_of_eleven : ℕ → ℕ → ℕ → ℕ → ℕ → ℕ → ℕ → ℕ → ℕ → ℕ → ℕ → ℕ
+half_of_eleven a b c d e f g h i j k = bool_byte (leb (a + c + d + f + g + h) (b + e + i + j + k))
 
 -- the first m of a row of 144 are the sides of the octets from a place
 pub record Sides (octets : List ℕ) (at m : ℕ) (row : List ℕ) : Type 0 where
@@ -73,7 +73,7 @@ pub record Worked (f : ℕ → ℕ) (before : List ℕ) (l : ℕ) (row : List �
 -- what each step makes of a row at entry j
 abbrev pub half_of : List ℕ → List ℕ → ℕ → ℕ
 half_of xs ys j =
-    halfOfEleven (get_or xs j 0) (get_or ys (j + 1) 0) (get_or xs (j + 2) 0) (get_or ys (j + 3) 0) (get_or xs (j + 4) 0)
+    half_of_eleven (get_or xs j 0) (get_or ys (j + 1) 0) (get_or xs (j + 2) 0) (get_or ys (j + 3) 0) (get_or xs (j + 4) 0)
     (get_or ys (j + 5) 0) (get_or xs (j + 6) 0) (get_or ys (j + 7) 0) (get_or xs (j + 8) 0) (get_or ys (j + 9) 0)
     (get_or xs (j + 10) 0)
 
@@ -84,8 +84,8 @@ abbrev pub plain_of : List ℕ → ℕ → ℕ
 plain_of xs j = bit_xor (bit_xor (get_or xs (j + 77) 0) (get_or xs (j + 33) 0)) (get_or xs j 0) % 2
 
 -- joined with the entry so far on, which counts so much
-abbrev pub joinedOf : ℕ → ℕ → List ℕ → ℕ → ℕ
-joinedOf apart by xs j = get_or xs j 0 + by * get_or xs (j + apart) 0
+abbrev pub joined_of : ℕ → ℕ → List ℕ → ℕ → ℕ
+joined_of apart by xs j = get_or xs j 0 + by * get_or xs (j + apart) 0
 
 -- the first m entries are below 4
 pub record Small (m : ℕ) (row : List ℕ) : Type 0 where
@@ -102,4 +102,4 @@ pub record MarkedOf (low high : ℕ) (fours : List ℕ) (m : ℕ) (marks : List 
 -- and of a recording's octets from a place on
 pub record Marked (low high : ℕ) (rec : List Taken) (at m : ℕ) (marks : List ℕ) : Type 0 where
   pub long : length marks ≡ 512
-  pub each : (j : ℕ) → j < m → octetAt rec (at + j) ≡ low → octetAt rec (at + j + 88) ≡ high → get_or marks j 0 ≡ 0 → ⊥
+  pub each : (j : ℕ) → j < m → octet_at rec (at + j) ≡ low → octet_at rec (at + j + 88) ≡ high → get_or marks j 0 ≡ 0 → ⊥

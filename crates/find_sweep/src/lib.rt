@@ -3,9 +3,9 @@
 // over a row of octets, so that the compiler takes sixteen places at a time; a row is worked over in place, from its
 // front, and no step looks at an entry that it has written.
 ghost use Rattle.std.specs.Prelude.{false, List, ◌≡◌, ℕ, ◌+◌, ◌*◌, ◌/◌, ◌%◌, ◌≤◌, ◌<◌, min, length, get_or};
-ghost use Rattle.rules_chips.specs.Chips.{Taken, hardRecording};
-ghost use Rattle.find_sweep.specs.Sweep.{side_of, halfOfEleven, Sides, halfAt, Row, Added, half_of};
-ghost use Rattle.find_sweep.specs.Sweep.{bit_of, plain_of, joinedOf, Small, MarkedOf, Marked};
+ghost use Rattle.rules_chips.specs.Chips.{Taken, hard_recording};
+ghost use Rattle.find_sweep.specs.Sweep.{side_of, half_of_eleven, Sides, half_at, Row, Added, half_of};
+ghost use Rattle.find_sweep.specs.Sweep.{bit_of, plain_of, joined_of, Small, MarkedOf, Marked};
 
 // ---- halves
 
@@ -20,7 +20,7 @@ fn side(octet: u8) -> u8
 fn half(a: u8, b: u8, c: u8, d: u8, e: u8, f: u8, g: u8, h: u8, i: u8, j: u8, k: u8) -> u8
     requires { (a ≤ 2) × (b ≤ 2) × (c ≤ 2) × (d ≤ 2) × (e ≤ 2) × (f ≤ 2) × (g ≤ 2) × (h ≤ 2) × (i ≤ 2) × (j ≤ 2)
         × (k ≤ 2) }
-    ensures answer { result ≡ halfOfEleven a b c d e f g h i j k }
+    ensures answer { result ≡ half_of_eleven a b c d e f g h i j k }
 {
     (a + c + d + f + g + h <= b + e + i + j + k) as u8
 }
@@ -75,7 +75,7 @@ fn fill(evens: &[u8; 144], odds: &[u8; 144], l: usize, count: usize, halves: &mu
 fn halves_from(octets: &[u8], at: usize, l: usize, count: usize, halves: &mut [u8; 512])
     requires { (count ≤ 128) × (l + count ≤ 512) × (at + count + 16 ≤ length octets.now)
         × (length halves.old ≡ 512) }
-    ensures halves { Added (λ s. halfAt (hardRecording octets.now) (at + s)) l halves.old
+    ensures halves { Added (λ s. halfAt (hard_recording octets.now) (at + s)) l halves.old
         halves.new count }
 {
     let mut evens = [0u8; 144];
@@ -94,8 +94,8 @@ pub fn at_most(left: usize, most: usize) -> usize
 // The halves at every chip from a place on, count of them, of which the first so many are known.
 pub fn decide(octets: &[u8], at: usize, known: usize, count: usize, halves: &mut [u8; 512])
     requires { (count ≤ 512) × (at + count + 16 ≤ length octets.now)
-        × Row (λ j. halfAt (hardRecording octets.now) (at + j)) known halves.old }
-    ensures halves { Row (λ j. halfAt (hardRecording octets.now) (at + j)) count
+        × Row (λ j. halfAt (hard_recording octets.now) (at + j)) known halves.old }
+    ensures halves { Row (λ j. halfAt (hard_recording octets.now) (at + j)) count
         halves.new }
 {
     let mut l = known;
@@ -149,7 +149,7 @@ fn two(by: u8, a: u8, b: u8) -> u8
 // Each of the first so many joined with the one so far on, which counts so much.
 fn join(apart: usize, by: u8, count: usize, row: &mut [u8; 512])
     requires { (by ≤ 4) × (count + apart ≤ 512) × Small (count + apart) row.old }
-    ensures row { Row (joinedOf apart by row.old) count row.new }
+    ensures row { Row (joined_of apart by row.old) count row.new }
 {
     let mut l: usize = 0;
     while l < count {

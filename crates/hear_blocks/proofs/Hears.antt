@@ -1,62 +1,62 @@
 -- A block heard, over the rate: from its rows to what the definitions of reading say of its words.
 --     block_odd                             the first odd growth, of any number of words
---     block-heard, block-octets             the line behind whole octets of them with that growth, and the octets
---     phases-low, growths-low, codes-low    the rows' entries are small
+--     block_heard, block_octets             the line behind whole octets of them with that growth, and the octets
+--     phases_low, growths_low, codes_low    the rows' entries are small
 -- Assumes nothing.
 use Rattle.std.proofs.Common.{◌≡◌, ℕ, zero, suc, ◌+◌, ◌*◌, ◌%◌, ◌^◌, ◌<◌, ◌≤◌, List, ◌∷◌, length, get_or, take, sym, refl, ap, ◌∙◌, subst, ap₂, add-one, arith, length-take-le, take_all, get_or-take, ext_get_or}
 use Rattle.base.specs.Below.{Below}
 use Rattle.base.specs.Tables.{tabulate}
-use Rattle.base.proofs.Tables.{length-tabulate, get_d_tabulate, tabulate-all}
+use Rattle.base.proofs.Tables.{length_tabulate, get_or_tabulate, tabulate_all}
 use Rattle.rules_rates.specs.declared.Rate.{Rate}
 use Rattle.rules_rates.specs.declared.Rate.TheVariants.{One, Two, Five, Eleven}
-use Rattle.rules_rates.specs.Rates.{symbolBits, octetSymbols}
-use Rattle.rules_rates.proofs.Octets.{part-bits}
-use Rattle.rules_symbols.specs.Words.{phaseOf}
+use Rattle.rules_rates.specs.Rates.{symbol_bits, octet_symbols}
+use Rattle.rules_rates.proofs.Octets.{part_bits}
+use Rattle.rules_symbols.specs.Words.{phase_of}
 use Rattle.rules_symbols.specs.Choice.{numbers}
-use Rattle.rules_bits.specs.Bits.{number_of, octetBits, octetsOf}
-use Rattle.rules_bits.specs.Growths.{grownBy, heardBits, heard, growthsOf, lastHeard}
+use Rattle.rules_bits.specs.Bits.{number_of, octet_bits, octets_of}
+use Rattle.rules_bits.specs.Growths.{grown_by, heard_bits, heard, growths_of, last_heard}
 use Rattle.rules_bits.specs.Scrambler.{descramble}
-use Rattle.rules_bits.specs.Code.{past_of, pastAfter}
+use Rattle.rules_bits.specs.Code.{past_of, past_after}
 use Rattle.common_lines.specs.declared.Line.{Line}
-use Rattle.rules_bits.proofs.Bits.{octets-length, octets-bits}
-use Rattle.rules_bits.proofs.Heard.{heard-length, heard-below}
-use Rattle.rules_reading.specs.Reading.{firstOdd, oddGrowth}
+use Rattle.rules_bits.proofs.Bits.{octets_length, octets_bits}
+use Rattle.rules_bits.proofs.Heard.{heard_length, heard_below}
+use Rattle.rules_reading.specs.Reading.{first_odd, odd_growth}
 use Rattle.choose_recorded.specs.declared.Place.{Place}
-use Rattle.choose_recorded.specs.Recorded.{whereFound}
-use Rattle.hear_codes.specs.Codes.{grownFor, wordBits, phaseBefore, octetAfter, behind, plain, AreWords}
-use Rattle.hear_blocks.specs.Heard.{plainOctets, Heard}
-use Rattle.hear_codes.proofs.Codes.{word-bits, code-small, octet-room}
-use Rattle.hear_codes.proofs.Plain.{from_first, past-last}
-use Rattle.hear_codes.proofs.Symbols.{Phases, phase-last, growths-row, octet-row}
+use Rattle.choose_recorded.specs.Recorded.{where_found}
+use Rattle.hear_codes.specs.Codes.{grown_for, word_bits, phase_before, octet_after, behind, plain, AreWords}
+use Rattle.hear_blocks.specs.Heard.{plain_octets, Heard}
+use Rattle.hear_codes.proofs.Codes.{word_bits_lem, code_small, octet_room}
+use Rattle.hear_codes.proofs.Plain.{from_first, past_last}
+use Rattle.hear_codes.proofs.Symbols.{Phases, phase_last, growths_row, octet_row}
 
 -- ---- a row that holds the octets of the bits received
 
-octets-row : (n : ℕ) (bs raw : List ℕ) → ((j : ℕ) → j < n → get_or raw (j + 1) 0 ≡ get_or (octetsOf n bs) j 0)
-    → behind raw n ≡ octetsOf n bs
-octets-row n bs raw e =
-    ext_get_or 0 (behind raw n) (octetsOf n bs) (length-tabulate _ n ∙ sym (octets-length n bs))
-    (λ j h. let k : j < n = omega (arith, length-tabulate (λ (j : ℕ). get_or raw (j + 1) 0) n) in
-    get_d_tabulate (λ j. get_or raw (j + 1) 0) n j 0 k ∙ e j k)
+octets_row : (n : ℕ) (bs raw : List ℕ) → ((j : ℕ) → j < n → get_or raw (j + 1) 0 ≡ get_or (octets_of n bs) j 0)
+    → behind raw n ≡ octets_of n bs
+octets_row n bs raw e =
+    ext_get_or 0 (behind raw n) (octets_of n bs) (length_tabulate _ n ∙ sym (octets_length n bs))
+    (λ j h. let k : j < n = omega (arith, length_tabulate (λ (j : ℕ). get_or raw (j + 1) 0) n) in
+    get_or_tabulate (λ j. get_or raw (j + 1) 0) n j 0 k ∙ e j k)
 
 module _ (r : Rate) (f n : ℕ) (l : Line) (ws raw : List ℕ) (size : length (heard r f l.phase ws) ≡ 8 * n)
     (first : get_or raw 0 0 ≡ l.past)
-    (row : (j : ℕ) → j < n → get_or raw (j + 1) 0 ≡ get_or (octetsOf n (heard r f l.phase ws)) j 0) where
-  all-bits : octetBits (behind raw n) ≡ heard r f l.phase ws
-  all-bits =
-      ap octetBits (octets-row n (heard r f l.phase ws) raw row)
-      ∙ octets-bits n (heard r f l.phase ws) (omega arith) (heard-below r f l.phase ws)
+    (row : (j : ℕ) → j < n → get_or raw (j + 1) 0 ≡ get_or (octets_of n (heard r f l.phase ws)) j 0) where
+  all_bits : octet_bits (behind raw n) ≡ heard r f l.phase ws
+  all_bits =
+      ap octet_bits (octets_row n (heard r f l.phase ws) raw row)
+      ∙ octets_bits n (heard r f l.phase ws) (omega arith) (heard_below r f l.phase ws)
       ∙ take_all (8 * n) _ (omega arith)
 
-  row-octets : plain n (get_or raw 0 0) (behind raw n) ≡ plainOctets r f n l ws
+  row_octets : plain n (get_or raw 0 0) (behind raw n) ≡ plain_octets r f n l ws
   unfolding plain
-  row-octets = ap₂ {C = List ℕ} (λ q bs. octetsOf n (descramble (past_of q) bs)) first all-bits
+  row_octets = ap₂ {C = List ℕ} (λ q bs. octetsOf n (descramble (past_of q) bs)) first all_bits
 
-  row-past : past_of (get_or raw n 0) ≡ take 8 (pastAfter (past_of l.past) (heard r f l.phase ws))
-  row-past =
+  row_past : past_of (get_or raw n 0) ≡ take 8 (past_after (past_of l.past) (heard r f l.phase ws))
+  row_past =
       sym
-      (ap₂ {C = List ℕ} (λ q bs. take 8 (pastAfter (past_of q) bs)) (sym first) (sym all-bits)
-      ∙ past-last (get_or raw 0 0) (behind raw n)
-      ∙ ap (λ (k : ℕ). past_of (get_or (get_or raw 0 0 ∷ behind raw n) k 0)) (length-tabulate _ n)
+      (ap₂ {C = List ℕ} (λ q bs. take 8 (past_after (past_of q) bs)) (sym first) (sym all_bits)
+      ∙ past_last (get_or raw 0 0) (behind raw n)
+      ∙ ap (λ (k : ℕ). past_of (get_or (get_or raw 0 0 ∷ behind raw n) k 0)) (length_tabulate _ n)
       ∙ ap past_of (from_first raw n n (omega arith)))
 
 -- ---- small entries
@@ -65,57 +65,57 @@ quarter : (x : ℕ) → x % 4 < 4
 quarter x = omega arith
 
 module _ (r : Rate) (p : ℕ) (ns : List ℕ) (h : p < 4) where
-  pub phases-low : (ps : List ℕ) → ps ≡ tabulate (phaseBefore r p ns) 65 → Below 4 ps
-  phases-low ps e = record {
+  pub phases_low : (ps : List ℕ) → ps ≡ tabulate (phase_before r p ns) 65 → Below 4 ps
+  phases_low ps e = record {
     at =
-        λ i. rw e (tabulate-all (λ (x : ℕ). x < 4) (phaseBefore r p ns) 65 0 (omega arith) by i);
+        λ i. rw e (tabulate_all (λ (x : ℕ). x < 4) (phase_before r p ns) 65 0 (omega arith) by i);
   }
     where
-      by : (j : ℕ) → phaseBefore r p ns j < 4
+      by : (j : ℕ) → phase_before r p ns j < 4
       by zero = h
-      by (suc j) = quarter (phaseOf r (get_or ns j 0))
+      by (suc j) = quarter (phase_of r (get_or ns j 0))
 
-grown-small : (r : Rate) (k p q : ℕ) → grownFor r k p q < 4
-grown-small One k p q = quarter _
-grown-small Two k p q = quarter _
-grown-small Five k p q = quarter _
-grown-small Eleven k p q = quarter _
+grown_small : (r : Rate) (k p q : ℕ) → grown_for r k p q < 4
+grown_small One k p q = quarter _
+grown_small Two k p q = quarter _
+grown_small Five k p q = quarter _
+grown_small Eleven k p q = quarter _
 
-pub growths-low : (r : Rate) (f : ℕ) (ps g : List ℕ)
+pub growths_low : (r : Rate) (f : ℕ) (ps g : List ℕ)
     → g ≡ tabulate (λ j. grownFor r (f + j) (get_or ps j 0) (get_or ps (j + 1) 0)) 64 → Below 4 g
-growths-low r f ps g e = record {
+growths_low r f ps g e = record {
   at = λ i. rw e
-      (tabulate-all (λ (x : ℕ). x < 4) (λ j. grownFor r (f + j) (get_or ps j 0) (get_or ps (j + 1) 0)) 64 0 (omega arith)
-      (λ j. grown-small r (f + j) _ _) i);
+      (tabulate_all (λ (x : ℕ). x < 4) (λ j. grownFor r (f + j) (get_or ps j 0) (get_or ps (j + 1) 0)) 64 0 (omega arith)
+      (λ j. grown_small r (f + j) _ _) i);
 }
 
-pub codes-low : (r : Rate) (g ns cs : List ℕ) → Below 4 g
-    → cs ≡ tabulate (λ j. number_of (wordBits r (get_or g j 0) (get_or ns j 0))) 64 → Below (2 ^ symbolBits r) cs
-codes-low r g ns cs b e = record {
+pub codes_low : (r : Rate) (g ns cs : List ℕ) → Below 4 g
+    → cs ≡ tabulate (λ j. number_of (word_bits r (get_or g j 0) (get_or ns j 0))) 64 → Below (2 ^ symbol_bits r) cs
+codes_low r g ns cs b e = record {
   at = λ i. rw e
-      (tabulate-all (λ (x : ℕ). x < 2 ^ symbolBits r) (λ j. number_of (wordBits r (get_or g j 0) (get_or ns j 0))) 64 0
+      (tabulate_all (λ (x : ℕ). x < 2 ^ symbol_bits r) (λ j. number_of (word_bits r (get_or g j 0) (get_or ns j 0))) 64 0
       (some r) (λ j. code-small r (get_or g j 0) (get_or ns j 0) (b.at j)) i);
 }
   where
-    some : (r : Rate) → 0 < 2 ^ symbolBits r
+    some : (r : Rate) → 0 < 2 ^ symbol_bits r
     some One = omega arith
     some Two = omega arith
     some Five = omega arith
     some Eleven = omega arith
 
 -- the phase of a word's number is a phase
-phase-small : (r : Rate) (n : ℕ) → n < numbers r → phaseOf r n % 4 ≡ phaseOf r n
-phase-small One n h = omega arith
-phase-small Two n h = omega arith
-phase-small Five n h = omega arith
-phase-small Eleven n h = omega arith
+phase_small : (r : Rate) (n : ℕ) → n < numbers r → phase_of r n % 4 ≡ phase_of r n
+phase_small One n h = omega arith
+phase_small Two n h = omega arith
+phase_small Five n h = omega arith
+phase_small Eleven n h = omega arith
 
 -- ---- the block: its words, and then its octets
 
 module _
     (r : Rate) (f : ℕ) (l : Line) (m : ℕ) (ns ps g : List ℕ) (room : m ≤ 64) (all : length ns ≡ 64)
     (words : AreWords r (take m ns))
-    (is-ps : ps ≡ tabulate (phaseBefore r l.phase ns) 65)
+    (is-ps : ps ≡ tabulate (phase_before r l.phase ns) 65)
     (is-g : g ≡ tabulate (λ j. grownFor r (f + j) (get_or ps j 0) (get_or ps (j + 1) 0)) 64) where
   abbrev ws : List ℕ
   ws = take m ns
@@ -128,93 +128,93 @@ module _
 
   phases : Phases r l.phase ws ps m
   phases = record {
-    first = ap (λ (xs : List ℕ). get_or xs 0 0) is-ps ∙ get_d_tabulate (phaseBefore r l.phase ns) 65 0 0 (omega arith);
+    first = ap (λ (xs : List ℕ). get_or xs 0 0) is-ps ∙ get_or_tabulate (phase_before r l.phase ns) 65 0 0 (omega arith);
     at = λ j h.
         ap (λ (xs : List ℕ). get_or xs (j + 1) 0) is-ps
-        ∙ get_d_tabulate (phaseBefore r l.phase ns) 65 (j + 1) 0 (omega arith)
-        ∙ ap (phaseBefore r l.phase ns) (add-one j)
+        ∙ get_or_tabulate (phase_before r l.phase ns) 65 (j + 1) 0 (omega arith)
+        ∙ ap (phase_before r l.phase ns) (add-one j)
         ∙ ap (λ (x : ℕ). phaseOf r x % 4) (sym (word_at j h))
-        ∙ phase-small r (get_or ws j 0) (words.at j);
+        ∙ phase_small r (get_or ws j 0) (words.at j);
   }
 
-  block-phase : get_or ps m 0 ≡ lastHeard r l.phase ws
-  block-phase = sym (phase-last ws ps long phases)
+  block_phase : get_or ps m 0 ≡ last_heard r l.phase ws
+  block_phase = sym (phase_last ws ps long phases)
 
-  grown-at : (j : ℕ) → j < m → get_or g j 0 ≡ grownFor r (f + j) (get_or ps j 0) (get_or ps (j + 1) 0)
-  grown-at j h =
+  grown_at : (j : ℕ) → j < m → get_or g j 0 ≡ grown_for r (f + j) (get_or ps j 0) (get_or ps (j + 1) 0)
+  grown_at j h =
       ap (λ (xs : List ℕ). get_or xs j 0) is-g
-      ∙ get_d_tabulate (λ j. grownFor r (f + j) (get_or ps j 0) (get_or ps (j + 1) 0)) 64 j 0 (omega arith)
+      ∙ get_or_tabulate (λ j. grownFor r (f + j) (get_or ps j 0) (get_or ps (j + 1) 0)) 64 j 0 (omega arith)
 
   -- at 1 Mbit/s the growths are those of the words; at the others none is odd
-  pub block_odd : (at : ℕ) → oddGrowth r at (take m g) ≡ oddGrowth r at (growthsOf r l.phase ws)
+  pub block_odd : (at : ℕ) → odd_growth r at (take m g) ≡ odd_growth r at (growths_of r l.phase ws)
   block_odd at = by r refl
     where
-      by : (s : Rate) → s ≡ r → oddGrowth s at (take m g) ≡ oddGrowth s at (growthsOf r l.phase ws)
+      by : (s : Rate) → s ≡ r → odd_growth s at (take m g) ≡ odd_growth s at (growths_of r l.phase ws)
       by One e =
-          ap (firstOdd at)
-          (growths-row ws ps long phases (take m g)
+          ap (first_odd at)
+          (growths_row ws ps long phases (take m g)
           (length-take-le m g (omega (
             arith,
             ap length is-g,
-            length-tabulate (λ (j : ℕ). grownFor r (f + j) (get_or ps j 0) (get_or ps (j + 1) 0)) 64,
+            length_tabulate (λ (j : ℕ). grownFor r (f + j) (get_or ps j 0) (get_or ps (j + 1) 0)) 64,
           )))
-          (λ j h. get_or-take m g j 0 h ∙ grown-at j h
+          (λ j h. get_or-take m g j 0 h ∙ grown_at j h
           ∙ subst (λ (s : Rate). grownFor s (f + j) (get_or ps j 0) (get_or ps (j + 1) 0)
-          ≡ grownBy (get_or ps j 0) (get_or ps (j + 1) 0))
+          ≡ grown_by (get_or ps j 0) (get_or ps (j + 1) 0))
           e refl))
       by Two e = refl
       by Five e = refl
       by Eleven e = refl
 
   module _
-      (n : ℕ) (cs raw : List ℕ) (is_m : m ≡ octetSymbols r * n)
-      (is_c : cs ≡ tabulate (λ j. number_of (wordBits r (get_or g j 0) (get_or ns j 0))) 64)
-      (is-raw : take (n + 1) raw ≡ tabulate (octetAfter r l.past cs) (n + 1)) where
-    code_at : (j : ℕ) → j < m → get_or cs j 0 ≡ number_of (heardBits r (f + j) (get_or ps j 0) (get_or ws j 0))
+      (n : ℕ) (cs raw : List ℕ) (is_m : m ≡ octet_symbols r * n)
+      (is_c : cs ≡ tabulate (λ j. number_of (word_bits r (get_or g j 0) (get_or ns j 0))) 64)
+      (is-raw : take (n + 1) raw ≡ tabulate (octet_after r l.past cs) (n + 1)) where
+    code_at : (j : ℕ) → j < m → get_or cs j 0 ≡ number_of (heard_bits r (f + j) (get_or ps j 0) (get_or ws j 0))
     code_at j h =
         ap (λ (xs : List ℕ). get_or xs j 0) is_c
-        ∙ get_d_tabulate (λ j. number_of (wordBits r (get_or g j 0) (get_or ns j 0))) 64 j 0 (omega arith)
-        ∙ ap₂ {C = ℕ} (λ x y. number_of (wordBits r x y))
-        (grown-at j h ∙ ap (grownFor r (f + j) (get_or ps j 0)) (phases.at j h)) (sym (word_at j h))
-        ∙ ap number_of (sym (word-bits r (f + j) (get_or ps j 0) (get_or ws j 0)))
+        ∙ get_or_tabulate (λ j. number_of (word_bits r (get_or g j 0) (get_or ns j 0))) 64 j 0 (omega arith)
+        ∙ ap₂ {C = ℕ} (λ x y. number_of (word_bits r x y))
+        (grown_at j h ∙ ap (grown_for r (f + j) (get_or ps j 0)) (phases.at j h)) (sym (word_at j h))
+        ∙ ap number_of (sym (word_bits_lem r (f + j) (get_or ps j 0) (get_or ws j 0)))
 
-    raw_at : (j : ℕ) → j < n + 1 → get_or raw j 0 ≡ octetAfter r l.past cs j
+    raw_at : (j : ℕ) → j < n + 1 → get_or raw j 0 ≡ octet_after r l.past cs j
     raw_at j h =
         sym (get_or-take (n + 1) raw j 0 h)
         ∙ ap (λ (xs : List ℕ). get_or xs j 0) is-raw
-        ∙ get_d_tabulate (octetAfter r l.past cs) (n + 1) j 0 h
+        ∙ get_or_tabulate (octet_after r l.past cs) (n + 1) j 0 h
 
-    row : (j : ℕ) → j < n → get_or raw (j + 1) 0 ≡ get_or (octetsOf n (heard r f l.phase ws)) j 0
+    row : (j : ℕ) → j < n → get_or raw (j + 1) 0 ≡ get_or (octets_of n (heard r f l.phase ws)) j 0
     row j h =
         raw_at (j + 1) (omega arith)
-        ∙ ap (octetAfter r l.past cs) (add-one j)
-        ∙ octet-row ws ps long phases f cs (omega (
+        ∙ ap (octet_after r l.past cs) (add-one j)
+        ∙ octet_row ws ps long phases f cs (omega (
           arith,
           ap length is_c,
-          length-tabulate
-              (λ (j : ℕ). number_of (wordBits r (get_or g j 0) (get_or ns j 0))) 64,
-        )) code_at n is_m j h (octet-room r j n m h (omega arith))
+          length_tabulate
+              (λ (j : ℕ). number_of (word_bits r (get_or g j 0) (get_or ns j 0))) 64,
+        )) code_at n is_m j h (octet_room r j n m h (omega arith))
 
     size : length (heard r f l.phase ws) ≡ 8 * n
-    size = heard-length r f l.phase ws ∙ ap (λ (k : ℕ). symbolBits r * k) (long ∙ is_m) ∙ part-bits r n
+    size = heard_length r f l.phase ws ∙ ap (λ (k : ℕ). symbolBits r * k) (long ∙ is_m) ∙ part_bits r n
 
-    block-past : past_of (get_or raw n 0) ≡ take 8 (pastAfter (past_of l.past) (heard r f l.phase ws))
-    block-past = row-past r f n l ws raw size (raw_at 0 (omega arith)) row
+    block_past : past_of (get_or raw n 0) ≡ take 8 (past_after (past_of l.past) (heard r f l.phase ws))
+    block_past = row_past r f n l ws raw size (raw_at 0 (omega arith)) row
 
-    pub block-octets : plain n (get_or raw 0 0) (behind raw n) ≡ plainOctets r f n l ws
-    block-octets = row-octets r f n l ws raw size (raw_at 0 (omega arith)) row
+    pub block_octets : plain n (get_or raw 0 0) (behind raw n) ≡ plain_octets r f n l ws
+    block_octets = row_octets r f n l ws raw size (raw_at 0 (omega arith)) row
 
     -- the symbols as the code counts them
-    counted : (s : ℕ) → s ≡ octetSymbols r → s * n ≡ m
+    counted : (s : ℕ) → s ≡ octet_symbols r → s * n ≡ m
     counted s e = ap (λ (k : ℕ). k * n) e ∙ sym is_m
 
     -- the line behind the block
-    pub block-heard : (s at : ℕ) (o : Place) → s ≡ octetSymbols r → l.phase < 4
-        → whereFound o ≡ oddGrowth r at (take (s * n) g)
+    pub block_heard : (s at : ℕ) (o : Place) → s ≡ octet_symbols r → l.phase < 4
+        → where_found o ≡ odd_growth r at (take (s * n) g)
         → Heard r f at l ws (record { line = record { past = get_or raw n 0; phase = get_or ps (s * n) 0 }; odd = o })
-    block-heard s at o e h w = record {
-      past = block-past;
-      phase = ap (λ (k : ℕ). get_or ps k 0) (counted s e) ∙ block-phase;
-      small = (phases-low r l.phase ns h ps is-ps).at (s * n);
+    block_heard s at o e h w = record {
+      past = block_past;
+      phase = ap (λ (k : ℕ). get_or ps k 0) (counted s e) ∙ block_phase;
+      small = (phases_low r l.phase ns h ps is-ps).at (s * n);
       place = w ∙ ap (λ (k : ℕ). oddGrowth r at (take k g)) (counted s e) ∙ block_odd at;
     }

@@ -1,6 +1,6 @@
 // The smallest lead of a block, and the first symbol that has it.
 ghost use Rattle.std.specs.Prelude.{◌≡◌, ℕ, ◌+◌, ◌^◌, ◌<◌, ◌≤◌, false, length, take, if◌then◌else◌, nat_lt, slice_index};
-ghost use Rattle.rules_reading.specs.Leads.{leadAt, leastFrom, leastOf};
+ghost use Rattle.rules_reading.specs.Leads.{lead_at, least_from, least_of};
 
 use rules_calls::Least;
 
@@ -31,7 +31,7 @@ fn any_lower(leads: &[u32; 64], m: usize, limit: u32) -> bool
 
 // The smallest lead so far, and then a symbol's: it takes the place only if it is smaller.
 fn lower(least: Least, lead: u32, symbol: usize) -> Least
-    ensures answer { result ≡ (if nat_lt lead least.lead then leadAt lead symbol else least) }
+    ensures answer { result ≡ (if nat_lt lead least.lead then lead_at lead symbol else least) }
 {
     let x = lead as usize;
     if x < least.lead {
@@ -44,7 +44,7 @@ fn lower(least: Least, lead: u32, symbol: usize) -> Least
 // The smallest lead so far, and then m symbols from a number on, symbol by symbol.
 fn least_by_symbol(least: Least, symbol: usize, leads: &[u32; 64], m: usize) -> Least
     requires { (m ≤ 64) × (symbol + m < 2 ^ 64) × (length leads.now ≡ 64) }
-    ensures answer { result ≡ leastFrom symbol least (take m leads.now) }
+    ensures answer { result ≡ least_from symbol least (take m leads.now) }
 {
     let mut low = least;
     for l in 0..m {
@@ -56,7 +56,7 @@ fn least_by_symbol(least: Least, symbol: usize, leads: &[u32; 64], m: usize) -> 
 // The same, after the quick test: few blocks have a smaller one.
 pub fn least_after(least: Least, symbol: usize, leads: &[u32; 64], m: usize) -> Least
     requires { (m ≤ 64) × (symbol + m < 2 ^ 64) × (length leads.now ≡ 64) }
-    ensures answer { result ≡ leastFrom symbol least (take m leads.now) }
+    ensures answer { result ≡ least_from symbol least (take m leads.now) }
 {
     let limit = least.lead;
     if limit <= 2147483648 {
@@ -77,7 +77,7 @@ fn wide(x: u32) -> usize
 // The smallest lead of a frame's first m symbols.
 pub fn least_of(leads: &[u32; 64], m: usize) -> Least
     requires { (0 < m) × (m ≤ 64) × (length leads.now ≡ 64) }
-    ensures answer { result ≡ leastOf (take m leads.now) }
+    ensures answer { result ≡ least_of (take m leads.now) }
 {
     let lead = wide(leads[0]);
     let first = Least { lead, symbol: 0 };

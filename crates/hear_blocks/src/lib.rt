@@ -4,13 +4,13 @@ ghost use Rattle.std.specs.Prelude.{◌≡◌, ◌+◌, ◌*◌, ◌^◌, ◌<�
 ghost use Rattle.base.specs.Below.{Below};
 ghost use Rattle.base.specs.Over.{over};
 ghost use Rattle.base.specs.Tables.{tabulate};
-ghost use Rattle.rules_rates.specs.Rates.{symbolBits, octetSymbols, octetChips};
+ghost use Rattle.rules_rates.specs.Rates.{symbol_bits, octet_symbols, octet_chips};
 ghost use Rattle.rules_bits.specs.Bits.{number_of};
-ghost use Rattle.rules_bits.specs.Growths.{growthsOf};
-ghost use Rattle.rules_reading.specs.Reading.{firstOdd};
-ghost use Rattle.choose_recorded.specs.Recorded.{whereFound};
-ghost use Rattle.hear_codes.specs.Codes.{grownFor, wordBits, phaseBefore, octetAfter, behind, plain, AreWords};
-ghost use Rattle.hear_blocks.specs.Heard.{plainOctets, Heard};
+ghost use Rattle.rules_bits.specs.Growths.{growths_of};
+ghost use Rattle.rules_reading.specs.Reading.{first_odd};
+ghost use Rattle.choose_recorded.specs.Recorded.{where_found};
+ghost use Rattle.hear_codes.specs.Codes.{grown_for, word_bits, phase_before, octet_after, behind, plain, AreWords};
+ghost use Rattle.hear_blocks.specs.Heard.{plain_octets, Heard};
 
 use choose_recorded::Place;
 use common_lines::Line;
@@ -28,7 +28,7 @@ pub struct Hearing {
 
 // The phase before the block, and behind it those of its words.
 fn phases(rate: Rate, before: u8, numbers: [u8; 64]) -> [u8; 65]
-    ensures answer { result ≡ tabulate (phaseBefore rate before numbers) 65 }
+    ensures answer { result ≡ tabulate (phase_before rate before numbers) 65 }
 {
     let mut out = [0u8; 65];
     out[0] = before;
@@ -55,7 +55,7 @@ fn growths(rate: Rate, symbol: usize, phases: [u8; 65]) -> [u8; 64]
 // The bits of each symbol as a number.
 fn codes(rate: Rate, g: [u8; 64], numbers: [u8; 64]) -> [u8; 64]
     requires { Below 4 g }
-    ensures answer { result ≡ tabulate (λ l. number_of (wordBits rate (slice_index g l) (slice_index numbers l))) 64 }
+    ensures answer { result ≡ tabulate (λ l. number_of (word_bits rate (slice_index g l) (slice_index numbers l))) 64 }
 {
     let mut out = [0u8; 64];
     for l in 0..64 {
@@ -66,8 +66,8 @@ fn codes(rate: Rate, g: [u8; 64], numbers: [u8; 64]) -> [u8; 64]
 
 // The octet received before the block, and behind it the block's first octets, so many.
 fn octets(rate: Rate, before: u8, c: [u8; 64], count: usize) -> [u8; 65]
-    requires { (octetSymbols rate * count ≤ 64) × (count ≤ 64) × Below (2 ^ symbolBits rate) c }
-    ensures answer { take (count + 1) result ≡ tabulate (octetAfter rate before c) (count + 1) }
+    requires { (octet_symbols rate * count ≤ 64) × (count ≤ 64) × Below (2 ^ symbol_bits rate) c }
+    ensures answer { take (count + 1) result ≡ tabulate (octet_after rate before c) (count + 1) }
 {
     let mut raw = [0u8; 65];
     raw[0] = before;
@@ -99,12 +99,12 @@ pub fn hear(
     count: usize,
     out: &mut [u8],
 ) -> Hearing
-    requires { (octetSymbols rate * count ≤ 64) × (count ≤ length out.old)
-        × (place + octetChips rate * count < 2 ^ 64) × (line.phase < 4) × (length numbers ≡ 64)
-        × AreWords rate (take (octetSymbols rate * count) numbers) }
-    ensures answer { Heard rate symbol place line (take (octetSymbols rate * count) numbers) result }
+    requires { (octet_symbols rate * count ≤ 64) × (count ≤ length out.old)
+        × (place + octet_chips rate * count < 2 ^ 64) × (line.phase < 4) × (length numbers ≡ 64)
+        × AreWords rate (take (octet_symbols rate * count) numbers) }
+    ensures answer { Heard rate symbol place line (take (octet_symbols rate * count) numbers) result }
     ensures out { out.new ≡
-        over (plainOctets rate symbol count line (take (octetSymbols rate * count) numbers)) out.old }
+        over (plain_octets rate symbol count line (take (octet_symbols rate * count) numbers)) out.old }
 {
     let symbols = rate.octet_symbols();
     let m = symbols * count;
@@ -125,7 +125,7 @@ pub fn hear(
 pub fn odd_growth(place: usize, before: u8, numbers: [u8; 64], m: usize) -> Place
     requires { (m ≤ 64) × (place + 11 * m < 2 ^ 64) × (before < 4) × (length numbers ≡ 64)
         × AreWords Rate.One (take m numbers) }
-    ensures answer { whereFound result ≡ firstOdd place (growthsOf Rate.One before (take m numbers)) }
+    ensures answer { where_found result ≡ first_odd place (growths_of Rate.One before (take m numbers)) }
 {
     let ps = phases(Rate::One, before, numbers);
     let g = growths(Rate::One, 0, ps);

@@ -1,8 +1,8 @@
 // The first symbol of a block that is grown by 1 or 3 at 1 Mbit/s.
 ghost use Rattle.std.specs.Prelude.{◌≡◌, ℕ, ◌+◌, ◌*◌, ◌%◌, ◌^◌, ◌<◌, ◌≤◌, false, take, slice_index};
-ghost use Rattle.rules_rates.specs.Rates.{symbolChips};
-ghost use Rattle.rules_reading.specs.Reading.{firstOdd, oddGrowth};
-ghost use Rattle.choose_recorded.specs.Recorded.{whereFound};
+ghost use Rattle.rules_rates.specs.Rates.{symbol_chips};
+ghost use Rattle.rules_reading.specs.Reading.{first_odd, odd_growth};
+ghost use Rattle.choose_recorded.specs.Recorded.{where_found};
 
 use choose_recorded::Place;
 use rules_rates::Rate;
@@ -22,7 +22,7 @@ fn any_odd(g: [u8; 64], m: usize) -> bool
 // The place of the first of them, symbol by symbol.
 fn first_odd(place: usize, g: [u8; 64], m: usize) -> Place
     requires { (m ≤ 64) × (place + 11 * m < 2 ^ 64) }
-    ensures answer { whereFound result ≡ firstOdd place (take m g) }
+    ensures answer { where_found result ≡ first_odd place (take m g) }
 {
     let mut l: usize = 0;
     while l < m {
@@ -37,7 +37,7 @@ fn first_odd(place: usize, g: [u8; 64], m: usize) -> Place
 // The same, after the quick test.
 fn odd_of_one(place: usize, g: [u8; 64], m: usize) -> Place
     requires { (m ≤ 64) × (place + 11 * m < 2 ^ 64) }
-    ensures answer { whereFound result ≡ firstOdd place (take m g) }
+    ensures answer { where_found result ≡ first_odd place (take m g) }
 {
     if any_odd(g, m) {
         first_odd(place, g, m)
@@ -48,8 +48,8 @@ fn odd_of_one(place: usize, g: [u8; 64], m: usize) -> Place
 
 // Of m symbols whose first chip is at a place; at the other rates a symbol may grow by anything.
 pub fn odd_in(rate: Rate, place: usize, g: [u8; 64], m: usize) -> Place
-    requires { (m ≤ 64) × (place + symbolChips rate * m < 2 ^ 64) }
-    ensures answer { whereFound result ≡ oddGrowth rate place (take m g) }
+    requires { (m ≤ 64) × (place + symbol_chips rate * m < 2 ^ 64) }
+    ensures answer { where_found result ≡ odd_growth rate place (take m g) }
 {
     match rate {
         Rate::One => odd_of_one(place, g, m),

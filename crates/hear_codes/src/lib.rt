@@ -2,16 +2,16 @@
 // of several words.
 ghost use Rattle.std.specs.Prelude.{◌≡◌, [], ◌∷◌, ◌+◌, ◌*◌, ◌%◌, ◌^◌, ◌≤◌, ◌<◌, length, take, drop};
 ghost use Rattle.base.specs.Below.{Below};
-ghost use Rattle.rules_rates.specs.Rates.{symbolBits, octetSymbols};
-ghost use Rattle.rules_symbols.specs.Words.{phaseOf};
+ghost use Rattle.rules_rates.specs.Rates.{symbol_bits, octet_symbols};
+ghost use Rattle.rules_symbols.specs.Words.{phase_of};
 ghost use Rattle.rules_bits.specs.Bits.{number_of};
-ghost use Rattle.hear_codes.specs.Codes.{grownFor, twoBits, fourBits, wordBits, packed};
+ghost use Rattle.hear_codes.specs.Codes.{grown_for, two_bits, four_bits, word_bits, packed};
 
 use rules_rates::Rate;
 
 // The phase of the word with number n: p of a Barker symbol, p1 of a CCK word.
 pub fn phase(rate: Rate, n: u8) -> u8
-    ensures answer { (result ≡ phaseOf rate n % 4) × (result < 4) }
+    ensures answer { (result ≡ phase_of rate n % 4) × (result < 4) }
 {
     match rate {
         Rate::One => n % 4,
@@ -25,7 +25,7 @@ pub fn phase(rate: Rate, n: u8) -> u8
 // symbol grew by a half turn more.
 pub fn grown(rate: Rate, first: u8, k: usize, p: u8, q: u8) -> u8
     requires { (first < 2) × (p < 4) × (q < 4) }
-    ensures answer { (result ≡ grownFor rate (first + k) p q) × (result < 4) }
+    ensures answer { (result ≡ grown_for rate (first + k) p q) × (result < 4) }
 {
     match rate {
         Rate::One => (q + 4 - p) % 4,
@@ -38,7 +38,7 @@ pub fn grown(rate: Rate, first: u8, k: usize, p: u8, q: u8) -> u8
 // The two bits of a growth, first in time the lower: 0, 2, 3, 1 for 0, 1, 2, 3.
 fn two_bits(g: u8) -> u8
     requires { g < 4 }
-    ensures answer { (result ≡ twoBits g) × (result < 4) }
+    ensures answer { (result ≡ two_bits g) × (result < 4) }
 {
     g / 2 + 2 * ((g + 1) / 2 % 2)
 }
@@ -46,7 +46,7 @@ fn two_bits(g: u8) -> u8
 // The four bits of a word of 5.5 Mbit/s that grew by g.
 fn four_bits(g: u8, n: u8) -> u8
     requires { g < 4 }
-    ensures answer { (result ≡ fourBits g n) × (result < 16) }
+    ensures answer { (result ≡ four_bits g n) × (result < 16) }
 {
     two_bits(g) + 4 * (n / 32 % 2) + 8 * (n / 2 % 2)
 }
@@ -54,7 +54,7 @@ fn four_bits(g: u8, n: u8) -> u8
 // The eight bits of a word of 11 Mbit/s that grew by g.
 fn eight_bits(g: u8, n: u8) -> u8
     requires { g < 4 }
-    ensures answer { result ≡ number_of (wordBits Rate.Eleven g n) }
+    ensures answer { result ≡ number_of (word_bits Rate.Eleven g n) }
 {
     let p2 = 4 * (n / 32 % 2) + 8 * (n / 16 % 2);
     let p3 = 16 * (n / 8 % 2) + 32 * (n / 4 % 2);
@@ -65,7 +65,7 @@ fn eight_bits(g: u8, n: u8) -> u8
 // The bits of the word with number n that grew by g, as a number, first in time the lowest.
 pub fn code(rate: Rate, g: u8, n: u8) -> u8
     requires { g < 4 }
-    ensures answer { (result ≡ number_of (wordBits rate g n)) × (result < 2 ^ symbolBits rate) }
+    ensures answer { (result ≡ number_of (word_bits rate g n)) × (result < 2 ^ symbol_bits rate) }
 {
     match rate {
         Rate::One => g / 2,
@@ -129,8 +129,8 @@ fn from_two(c: &[u8; 64], k: usize) -> u8
 
 // The octet whose first symbol is the k-th.
 pub fn octet(rate: Rate, c: &[u8; 64], k: usize) -> u8
-    requires { (k + octetSymbols rate ≤ 64) × (length c.now ≡ 64) × Below (2 ^ symbolBits rate) c.now }
-    ensures answer { result ≡ packed (symbolBits rate) (take (octetSymbols rate) (drop k c.now)) }
+    requires { (k + octet_symbols rate ≤ 64) × (length c.now ≡ 64) × Below (2 ^ symbol_bits rate) c.now }
+    ensures answer { result ≡ packed (symbol_bits rate) (take (octet_symbols rate) (drop k c.now)) }
 {
     match rate {
         Rate::One => from_eight(c, k),

@@ -3,14 +3,14 @@
 ghost use Rattle.std.specs.Prelude.{◌≡◌, ◌+◌, ◌*◌, ◌^◌, ◌≤◌, ◌<◌, length};
 ghost use Rattle.std.proofs.Math.Option.{some};
 ghost use Rattle.base.specs.Over.{over};
-ghost use Rattle.rules_rates.specs.Rates.{octetSymbols, octetChips};
+ghost use Rattle.rules_rates.specs.Rates.{octet_symbols, octet_chips};
 ghost use Rattle.rules_reading.specs.Reading.{or_else};
-ghost use Rattle.rules_reading.specs.Leads.{leastFrom};
+ghost use Rattle.rules_reading.specs.Leads.{least_from};
 ghost use Rattle.choose_recorders.specs.Rows.{lent};
-ghost use Rattle.choose_recorded.specs.Recorded.{whereFound, AllUsable};
+ghost use Rattle.choose_recorded.specs.Recorded.{where_found, AllUsable};
 ghost use Rattle.hear_codes.specs.Codes.{BlockOf};
-ghost use Rattle.hear_blocks.specs.Heard.{plainOctets, Heard};
-ghost use Rattle.hear_parts.specs.Hearing.{partWords, partLeads, PartHeard};
+ghost use Rattle.hear_blocks.specs.Heard.{plain_octets, Heard};
+ghost use Rattle.hear_parts.specs.Hearing.{part_words, part_leads, PartHeard};
 
 use choose_recorded::Place;
 use choose_recorders::Recorder;
@@ -28,7 +28,7 @@ pub struct Part {
 
 // The first of two places.
 fn first_of(a: Place, b: Place) -> Place
-    ensures answer { whereFound result ≡ or_else (whereFound a) (λ place. some place) (whereFound b) }
+    ensures answer { where_found result ≡ or_else (where_found a) (λ place. some place) (where_found b) }
 {
     match a {
         Place::At(place) => Place::At(place),
@@ -39,8 +39,8 @@ fn first_of(a: Place, b: Place) -> Place
 // What was heard first, and then a part.
 pub fn joined(a: Hearing, b: Part) -> Part
     ensures line { result.heard.line ≡ b.heard.line }
-    ensures odd { whereFound result.heard.odd ≡
-        or_else (whereFound a.odd) (λ place. some place) (whereFound b.heard.odd) }
+    ensures odd { where_found result.heard.odd ≡
+        or_else (where_found a.odd) (λ place. some place) (where_found b.heard.odd) }
     ensures least { result.least ≡ b.least }
 {
     let more = b.heard;
@@ -69,15 +69,15 @@ fn hear_block(
     count: usize,
     out: &mut [u8],
 ) -> Part
-    requires { (octetSymbols rate * count ≤ 64) × (count ≤ length out.old)
-        × (place + octetChips rate * count ≤ length (lent rec row bytes i q))
-        × AllUsable (lent rec row bytes i q) place (octetChips rate * count) × (line.phase < 4)
-        × (symbol + octetSymbols rate * count < 2 ^ 64) }
-    ensures answer { Heard rate symbol place line (partWords rate place count
+    requires { (octet_symbols rate * count ≤ 64) × (count ≤ length out.old)
+        × (place + octet_chips rate * count ≤ length (lent rec row bytes i q))
+        × AllUsable (lent rec row bytes i q) place (octet_chips rate * count) × (line.phase < 4)
+        × (symbol + octet_symbols rate * count < 2 ^ 64) }
+    ensures answer { Heard rate symbol place line (part_words rate place count
         (lent rec row.entry bytes.entry i.entry q.entry)) result.heard }
-    ensures least { result.least ≡ leastFrom symbol least (partLeads rate place count
+    ensures least { result.least ≡ least_from symbol least (part_leads rate place count
         (lent rec row.entry bytes.entry i.entry q.entry)) }
-    ensures out { out.new ≡ over (plainOctets rate symbol count line (partWords rate place count
+    ensures out { out.new ≡ over (plain_octets rate symbol count line (part_words rate place count
         (lent rec row.entry bytes.entry i.entry q.entry))) out.old }
 {
     let mut numbers = [0u8; 64];
@@ -125,9 +125,9 @@ pub fn hear_octets(
     least: Least,
     out: &mut [u8],
 ) -> Part
-    requires { (at + octetChips rate * length out.old ≤ length (lent rec row bytes i q))
-        × AllUsable (lent rec row bytes i q) at (octetChips rate * length out.old)
-        × (line.phase < 4) × (symbol + octetSymbols rate * length out.old < 2 ^ 64) }
+    requires { (at + octet_chips rate * length out.old ≤ length (lent rec row bytes i q))
+        × AllUsable (lent rec row bytes i q) at (octet_chips rate * length out.old)
+        × (line.phase < 4) × (symbol + octet_symbols rate * length out.old < 2 ^ 64) }
     ensures answer { PartHeard rate at (length out.old)
         (lent rec row.entry bytes.entry i.entry q.entry) line symbol least result out.new }
 {

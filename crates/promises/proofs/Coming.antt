@@ -10,55 +10,55 @@ use native.Mathlib.Omega.{arith}
 use borrow.Author.Tests.{le-ltb}
 use lib.Dec.{T}
 use lib.ListN.{length, take}
-use Rattle.rules_rates.specs.Rates.{code_of, octetChips}
-use Rattle.rules_chips.specs.Chips.{Taken, hardRecording}
-use Rattle.rules_chips.proofs.Recorders.{length-hard, take-hard}
+use Rattle.rules_rates.specs.Rates.{code_of, octet_chips}
+use Rattle.rules_chips.specs.Chips.{Taken, hard_recording}
+use Rattle.rules_chips.proofs.Recorders.{length_hard, take_hard}
 use Rattle.rules_frame.specs.declared.Kind.{Kind}
-use Rattle.rules_frame.specs.Frame.{isKind, kind_of, clockBit, frontChips, frameChips}
-use Rattle.rules_frame.proofs.Headers.{clock-lt}
+use Rattle.rules_frame.specs.Frame.{is_kind, kind_of, clock_bit, front_chips, frame_chips}
+use Rattle.rules_frame.proofs.Headers.{clock_lt}
 use Rattle.rules_calls.specs.declared.Refusal.{Refusal}
 use Rattle.rules_calls.specs.declared.Told.{Told}
 use Rattle.rules_calls.specs.declared.Front.{Front}
 use Rattle.rules_calls.specs.declared.Front.TheVariants.{Refused, Fields}
 use Rattle.rules_calls.specs.declared.Reading.{Reading}
 use Rattle.rules_calls.specs.declared.Record.{Record}
-use Rattle.rules_calls.specs.Answers.{refusalPlace, recordOf}
+use Rattle.rules_calls.specs.Answers.{refusal_place, record_of}
 use Rattle.rules_calls.specs.Headers.{ours}
 use Rattle.rules_calls.proofs.AnswerFacts.{some_number}
-use Rattle.rules_reading.specs.Reading.{frontOf, payloadOdd, payloadReading, afterFront}
-use Rattle.rules_reading.proofs.Payloads.{foundUnusable, room-refused, unusable-refused, odd_refused, payload-good}
+use Rattle.rules_reading.specs.Reading.{front_of, payload_odd, payload_reading, after_front}
+use Rattle.rules_reading.proofs.Payloads.{found_unusable, room_refused, unusable_refused, odd_refused, payload_good}
 use Rattle.rules_reading.proofs.Telling.{TellingWhole}
-use Rattle.rules_reading.proofs.Refusals.{whole-number}
-use Rattle.rules_reading.proofs.Places.{whole-place, payload-unusable-place, payload-odd-place, payload-odd-rate}
+use Rattle.rules_reading.proofs.Refusals.{whole_number}
+use Rattle.rules_reading.proofs.Places.{whole_place, payload_unusable_place, payload_odd_place, payload_odd_rate}
 use Rattle.rules_reading.proofs.Local.{front_same}
 use Rattle.rules_coming.specs.declared.Coming.{Coming}
-use Rattle.rules_coming.specs.Coming.{frontReading, comingOf}
+use Rattle.rules_coming.specs.Coming.{front_reading, coming_of}
 use Rattle.rules_coming.proofs.Laws.{
   ComingRefusal,
-  kind-is-none,
-  of-front,
+  kind_is_none,
+  of_front,
   reads_on,
   ComesIf,
-  coming-comes,
-  coming-refused,
-  coming-told,
-  coming-ends,
-  part-there,
+  coming_comes,
+  coming_refused,
+  coming_told,
+  coming_ends,
+  part_there,
   part_none,
 }
 use Rattle.promises.specs.Calls.{
   ReadHard,
   ReadFront,
   Handed,
-  refusedAt,
+  refused_at,
   refused,
-  long-1,
-  long-2,
-  long-5,
-  long-11,
-  short-2,
-  short-5,
-  short-11,
+  long_1,
+  long_2,
+  long_5,
+  long_11,
+  short_2,
+  short_5,
+  short_11,
 }
 use Rattle.promises.specs.Coming.{
   FrontOf,
@@ -69,89 +69,89 @@ use Rattle.promises.specs.Coming.{
   WhenTold,
   FrontTold,
   ComesTo,
-  comes-good,
-  comes-9,
-  comes-10,
+  comes_good,
+  comes_9,
+  comes_10,
   ToldAlike,
   FrontOnly,
   HandedPart,
 }
-use Rattle.promises.proofs.Only.{goes, length-told}
+use Rattle.promises.proofs.Only.{goes, length_told}
 
 -- a kind's front, in the definition's words; it has one
-pub front_of : {kind front : ℕ} → FrontOf kind front → (isKind kind ≡ true) × (frontChips (kind_of kind) ≡ front)
-front_of (front_at long-1) = (refl, refl)
-front_of (front_at long-2) = (refl, refl)
-front_of (front_at long-5) = (refl, refl)
-front_of (front_at long-11) = (refl, refl)
-front_of (front_at short-2) = (refl, refl)
-front_of (front_at short-5) = (refl, refl)
-front_of (front_at short-11) = (refl, refl)
+pub front_of_lem : {kind front : ℕ} → FrontOf kind front → (is_kind kind ≡ true) × (front_chips (kind_of kind) ≡ front)
+front_of_lem (front_at long_1) = (refl, refl)
+front_of_lem (front_at long_2) = (refl, refl)
+front_of_lem (front_at long_5) = (refl, refl)
+front_of_lem (front_at long_11) = (refl, refl)
+front_of_lem (front_at short_2) = (refl, refl)
+front_of_lem (front_at short_5) = (refl, refl)
+front_of_lem (front_at short_11) = (refl, refl)
 
-pub one-front : {kind front front' : ℕ} → FrontOf kind front → FrontOf kind front' → front ≡ front'
-one-front x y = sym (front_of x).1 ∙ (front_of y).1
+pub one_front : {kind front front' : ℕ} → FrontOf kind front → FrontOf kind front' → front ≡ front'
+one_front x y = sym (front_of_lem x).1 ∙ (front_of_lem y).1
 
-pub long-front : FrontOf 0 2112
-long-front = front_at long-1
+pub long_front : FrontOf 0 2112
+long_front = front_at long_1
 
-pub short-front : FrontOf 1 1056
-short-front = front_at short-2
+pub short_front : FrontOf 1 1056
+short_front = front_at short_2
 
 module _ (kind : ℕ) (chips : List ℕ) where
   abbrev k : Kind
   k = kind_of kind
 
   abbrev rec : List Taken
-  rec = hardRecording chips
+  rec = hard_recording chips
 
   -- ---- refused
-  empty-part : (e : Refusal) (part : List ℕ) → Handed (comingOf k (Refused e)) chips part → part ≡ []
-  empty-part e part h = h.chips-are ∙ part-there 0 0 chips (omega arith)
+  empty_part : (e : Refusal) (part : List ℕ) → Handed (coming_of k (Refused e)) chips part → part ≡ []
+  empty_part e part h = h.chips_are ∙ part_there 0 0 chips (omega arith)
 
-  nothing-comes : {e : Refusal} → ComingRefusal kind rec e → WhenRefused kind chips (comingOf k (Refused e))
-  nothing-comes {e} (kind-is-none b) = record {
+  nothing_comes : {e : Refusal} → ComingRefusal kind rec e → WhenRefused kind chips (coming_of k (Refused e))
+  nothing_comes {e} (kind_is_none b) = record {
     only = refl;
     no_kind = λ h. refl;
-    from-8 = λ f x. absurd (subst T (sym (front_of x).0 ∙ b) tt);
-    to-16 = omega arith;
-    in-front = λ f x. absurd (subst T (sym (front_of x).0 ∙ b) tt);
-    no_part = empty-part e;
+    from_8 = λ f x. absurd (subst T (sym (front_of_lem x).0 ∙ b) tt);
+    to_16 = omega arith;
+    in_front = λ f x. absurd (subst T (sym (front_of_lem x).0 ∙ b) tt);
+    no_part = empty_part e;
   }
-  nothing-comes {e} (of-front b w) = record {
+  nothing_comes {e} (of_front b w) = record {
     only = refl;
     no_kind = λ h. absurd (subst T (sym b ∙ le-ltb kind 2 h) tt);
-    from-8 = λ f x. (whole-number w).0;
-    to-16 = (whole-number w).1;
-    in-front = λ f x. subst (λ (m : ℕ). refusalPlace e < m) (front_of x).1 (whole-place k rec w);
-    no_part = empty-part e;
+    from_8 = λ f x. (whole_number w).0;
+    to_16 = (whole_number w).1;
+    in_front = λ f x. subst (λ (m : ℕ). refusalPlace e < m) (front_of_lem x).1 (whole_place k rec w);
+    no_part = empty_part e;
   }
 
-  refused-front : (g : Front) → ComesIf kind rec g → ((comingOf k g).number ≡ 0 → ⊥)
-      → WhenRefused kind chips (comingOf k g)
-  refused-front (Refused e) h z = nothing-comes h
-  refused-front (Fields t) h z = absurd (z refl)
+  refused_front : (g : Front) → ComesIf kind rec g → ((coming_of k g).number ≡ 0 → ⊥)
+      → WhenRefused kind chips (coming_of k g)
+  refused_front (Refused e) h z = nothing_comes h
+  refused_front (Fields t) h z = absurd (z refl)
 
-  alike : (room : ℕ) (g : Front) → ((comingOf k g).number ≡ 0 → ⊥)
-      → recordOf (afterFront k rec room g)
-      ≡ refusedAt (comingOf k g).number (comingOf k g).place (comingOf k g).length
+  alike : (room : ℕ) (g : Front) → ((coming_of k g).number ≡ 0 → ⊥)
+      → record_of (after_front k rec room g)
+      ≡ refused_at (coming_of k g).number (coming_of k g).place (coming_of k g).length
   alike room (Refused e) z = refl
   alike room (Fields t) z = absurd (z refl)
 
   -- ---- told
-  something-comes : (t : Told) → isKind kind ≡ true → TellingWhole k rec t
-      → WhenTold kind chips (comingOf k (Fields t))
-  something-comes t b h =
+  something_comes : (t : Told) → is_kind kind ≡ true → TellingWhole k rec t
+      → WhenTold kind chips (coming_of k (Fields t))
+  something_comes t b h =
       let r = t.rate in
-      let all = frameChips k r t.n in
-      let enough : all ≤ length chips = subst (λ (m : ℕ). all ≤ m) (length-hard chips) h.there in
+      let all = frame_chips k r t.n in
+      let enough : all ≤ length chips = subst (λ (m : ℕ). all ≤ m) (length_hard chips) h.there in
       record {
-        front = frontChips k;
-        octet = octetChips r;
+        front = front_chips k;
+        octet = octet_chips r;
         goes = goes kind r b h.telling.goes;
-        some = h.telling.some-octets;
+        some = h.telling.some_octets;
         few = h.telling.few;
-        clock-is = clock-lt t.clock;
-        length-is = length-told h.telling;
+        clock_is = clock_lt t.clock;
+        length_is = length_told h.telling;
         only =
             ap {B = Coming}
             (λ m. record {
@@ -159,84 +159,84 @@ module _ (kind : ℕ) (chips : List ℕ) where
               place = 0;
               rate = code_of r;
               length = t.length;
-              clock = clockBit t.clock;
+              clock = clock_bit t.clock;
               n = t.n;
               used = all;
-              at = frontChips k;
+              at = front_chips k;
               count = m;
             })
             (omega arith);
         there = enough;
-        part-is =
-            λ part f. f.chips-are ∙ part-there (frontChips k) (all - frontChips k) chips (omega (arith, enough));
+        part_is =
+            λ part f. f.chips_are ∙ part_there (front_chips k) (all - front_chips k) chips (omega (arith, enough));
       }
 
-  told-front : (g : Front) → ComesIf kind rec g → (comingOf k g).number ≡ 0 → WhenTold kind chips (comingOf k g)
-  told-front (Refused e) h z = absurd (some_number e z)
-  told-front (Fields t) h z = something-comes t h.0 h.1
+  told_front : (g : Front) → ComesIf kind rec g → (coming_of k g).number ≡ 0 → WhenTold kind chips (coming_of k g)
+  told_front (Refused e) h z = absurd (some_number e z)
+  told_front (Fields t) h z = something_comes t h.0 h.1
 
   comes : (t : Told) (room : ℕ) → t.n ≤ room
-      → ComesTo (comingOf k (Fields t)) (recordOf (payloadReading k t rec room))
-  comes t room h = by (foundUnusable k t rec) refl (payloadOdd k t.rate t.n rec) refl
+      → ComesTo (coming_of k (Fields t)) (record_of (payload_reading k t rec room))
+  comes t room h = by (found_unusable k t rec) refl (payload_odd k t.rate t.n rec) refl
     where
-      to : (g : Reading) → payloadReading (kind_of kind) t (hardRecording chips) room ≡ g
-          → ComesTo (comingOf (kind_of kind) (Fields t)) (recordOf g)
-          → ComesTo (comingOf (kind_of kind) (Fields t))
-          (recordOf (payloadReading (kind_of kind) t (hardRecording chips) room))
-      to g e = subst (λ (x : Reading). ComesTo (comingOf (kind_of kind) (Fields t)) (recordOf x)) (sym e)
+      to : (g : Reading) → payload_reading (kind_of kind) t (hard_recording chips) room ≡ g
+          → ComesTo (coming_of (kind_of kind) (Fields t)) (record_of g)
+          → ComesTo (coming_of (kind_of kind) (Fields t))
+          (record_of (payload_reading (kind_of kind) t (hard_recording chips) room))
+      to g e = subst (λ (x : Reading). ComesTo (coming_of (kind_of kind) (Fields t)) (record_of x)) (sym e)
 
-      by : (o : Option ℕ) → foundUnusable k t rec ≡ o → (q : Option ℕ) → payloadOdd k t.rate t.n rec ≡ q
-          → ComesTo (comingOf k (Fields t)) (recordOf (payloadReading k t rec room))
+      by : (o : Option ℕ) → found_unusable k t rec ≡ o → (q : Option ℕ) → payload_odd k t.rate t.n rec ≡ q
+          → ComesTo (coming_of k (Fields t)) (record_of (payload_reading k t rec room))
       by (some p) e q d =
-          let w = payload-unusable-place k rec p t e in
-          to _ (unusable-refused k t rec room p h e) (comes-9 p w.0 w.1)
+          let w = payload_unusable_place k rec p t e in
+          to _ (unusable_refused k t rec room p h e) (comes_9 p w.0 w.1)
       by none e (some p) d =
-          let w = payload-odd-place k rec p t d in
-          to _ (odd_refused k t rec room p h e d) (comes-10 p (ap code_of (payload-odd-rate k rec p t d)) w.0 w.1)
-      by none e none d = to _ (payload-good k t rec room h e d) (comes-good _ _)
+          let w = payload_odd_place k rec p t d in
+          to _ (odd_refused k t rec room p h e d) (comes_10 p (ap code_of (payload_odd_rate k rec p t d)) w.0 w.1)
+      by none e none d = to _ (payload_good k t rec room h e d) (comes_good _ _)
 
-  alike-told : (room : ℕ) (g : Front) → (comingOf k g).number ≡ 0
-      → ((comingOf k g).n ≤ room → ComesTo (comingOf k g) (recordOf (afterFront k rec room g)))
-      × (room < (comingOf k g).n → recordOf (afterFront k rec room g) ≡ refused 17 (comingOf k g).length)
-  alike-told room (Refused e) z = absurd (some_number e z)
-  alike-told room (Fields t) z = (comes t room, λ h. ap recordOf (room-refused k t rec room h))
+  alike_told : (room : ℕ) (g : Front) → (coming_of k g).number ≡ 0
+      → ((coming_of k g).n ≤ room → ComesTo (coming_of k g) (record_of (after_front k rec room g)))
+      × (room < (coming_of k g).n → record_of (after_front k rec room g) ≡ refused 17 (coming_of k g).length)
+  alike_told room (Refused e) z = absurd (some_number e z)
+  alike_told room (Fields t) z = (comes t room, λ h. ap record_of (room_refused k t rec room h))
 
   -- the full reader goes on from the front
   pub goes_on : (room : ℕ) (a : Record) (left : List ℕ) → ReadHard kind chips room a left
-      → a ≡ recordOf (afterFront k rec room (frontReading kind rec))
-  goes_on room a left f = f.answer ∙ ap recordOf (reads_on kind rec room)
+      → a ≡ record_of (after_front k rec room (front_reading kind rec))
+  goes_on room a left f = f.answer ∙ ap record_of (reads_on kind rec room)
 
-  number_of : (c : Coming) → ReadFront kind chips c → (comingOf k (frontReading kind rec)).number ≡ c.number
+  number_of : (c : Coming) → ReadFront kind chips c → (coming_of k (front_reading kind rec)).number ≡ c.number
   number_of c f = ap (λ (v : Coming). v.number) (sym f.answer)
 
-pub front-refused : FrontRefused
-front-refused kind chips c f z =
-    let rec = hardRecording chips in
+pub front_refused : FrontRefused
+front_refused kind chips c f z =
+    let rec = hard_recording chips in
     subst (WhenRefused kind chips) (sym f.answer)
-    (refused-front kind chips (frontReading kind rec) (coming-comes kind rec)
+    (refused_front kind chips (front_reading kind rec) (coming_comes kind rec)
     (λ y. z (sym (number_of kind chips c f) ∙ y)))
 
-pub refused-alike : RefusedAlike
-refused-alike kind chips c room a left f g z =
-    subst (λ (v : Coming). a ≡ refusedAt v.number v.place v.length) (sym f.answer)
+pub refused_alike : RefusedAlike
+refused_alike kind chips c room a left f g z =
+    subst (λ (v : Coming). a ≡ refused_at v.number v.place v.length) (sym f.answer)
     (goes_on kind chips room a left g
-    ∙ alike kind chips room (frontReading kind (hardRecording chips)) (λ y. z (sym (number_of kind chips c f) ∙ y)))
+    ∙ alike kind chips room (front_reading kind (hard_recording chips)) (λ y. z (sym (number_of kind chips c f) ∙ y)))
 
-pub front-told : FrontTold
-front-told kind chips c f z =
-    let rec = hardRecording chips in
+pub front_told : FrontTold
+front_told kind chips c f z =
+    let rec = hard_recording chips in
     subst (WhenTold kind chips) (sym f.answer)
-    (told-front kind chips (frontReading kind rec) (coming-comes kind rec) (number_of kind chips c f ∙ z))
+    (told_front kind chips (front_reading kind rec) (coming_comes kind rec) (number_of kind chips c f ∙ z))
 
-pub told-alike : ToldAlike
-told-alike kind chips c room a left f g z =
+pub told_alike : ToldAlike
+told_alike kind chips c room a left f g z =
     subst (λ (v : Coming). (v.n ≤ room → ComesTo v a) × (room < v.n → a ≡ refused 17 v.length)) (sym f.answer)
     (subst (λ (x : Record). (told.n ≤ room → ComesTo told x) × (room < told.n → x ≡ refused 17 told.length))
     (sym (goes_on kind chips room a left g))
-    (alike-told kind chips room (frontReading kind (hardRecording chips)) (number_of kind chips c f ∙ z)))
+    (alike_told kind chips room (front_reading kind (hard_recording chips)) (number_of kind chips c f ∙ z)))
   where
     told : Coming
-    told = comingOf (kind_of kind) (frontReading kind (hardRecording chips))
+    told = coming_of (kind_of kind) (front_reading kind (hard_recording chips))
 
 -- ---- the front only
 module _ (kind front : ℕ) (chips chips' : List ℕ) (c c' : Coming) (x : FrontOf kind front)
@@ -245,16 +245,16 @@ module _ (kind front : ℕ) (chips chips' : List ℕ) (c c' : Coming) (x : Front
   kk = kind_of kind
 
   abbrev one : List Taken
-  one = hardRecording chips
+  one = hard_recording chips
 
   abbrev other : List Taken
-  other = hardRecording chips'
+  other = hard_recording chips'
 
-  begin-alike : take (frontChips kk) one ≡ take (frontChips kk) other
-  begin-alike =
-      take-hard (frontChips kk) chips
-      ∙ ap hardRecording (subst (λ (m : ℕ). take m chips ≡ take m chips') (sym (front_of x).1) e)
-      ∙ sym (take-hard (frontChips kk) chips')
+  begin_alike : take (front_chips kk) one ≡ take (front_chips kk) other
+  begin_alike =
+      take_hard (front_chips kk) chips
+      ∙ ap hard_recording (subst (λ (m : ℕ). take m chips ≡ take m chips') (sym (front_of_lem x).1) e)
+      ∙ sym (take_hard (front_chips kk) chips')
 
   abbrev Same : Coming → Coming → Type 0
   Same d d' =
@@ -262,47 +262,47 @@ module _ (kind front : ℕ) (chips chips' : List ℕ) (c c' : Coming) (x : Front
       × ((d.number ≡ 0 → ⊥) → (d.number ≡ 16 → length chips' ≤ length chips) → d' ≡ d)
 
   -- each told or refused by its length
-  by-told : (t : Told) → frontOf kk one ≡ Fields t → frontOf kk other ≡ Fields t
-      → Dec (frameChips kk t.rate t.n ≤ length one) → Dec (frameChips kk t.rate t.n ≤ length other)
-      → Same (comingOf kk (frontReading kind one)) (comingOf kk (frontReading kind other))
-  by-told t a b (yes p) (yes q) =
-      rw (coming-told kind one (front_of x).0 t a p, coming-told kind other (front_of x).0 t b q)
+  by_told : (t : Told) → front_of kk one ≡ Fields t → front_of kk other ≡ Fields t
+      → Dec (frame_chips kk t.rate t.n ≤ length one) → Dec (frame_chips kk t.rate t.n ≤ length other)
+      → Same (coming_of kk (front_reading kind one)) (coming_of kk (front_reading kind other))
+  by_told t a b (yes p) (yes q) =
+      rw (coming_told kind one (front_of_lem x).0 t a p, coming_told kind other (front_of_lem x).0 t b q)
       ((λ z l. refl), λ z l. refl)
-  by-told t a b (yes p) (no q) =
-      rw (coming-told kind one (front_of x).0 t a p)
-      ((λ z l. absurd (q (omega (arith, l, length-hard chips')))), λ z l. absurd (z refl))
-  by-told t a b (no p) (yes q) =
-      rw (coming-ends kind one (front_of x).0 t a (omega (arith, p))) (
+  by_told t a b (yes p) (no q) =
+      rw (coming_told kind one (front_of_lem x).0 t a p)
+      ((λ z l. absurd (q (omega (arith, l, length_hard chips')))), λ z l. absurd (z refl))
+  by_told t a b (no p) (yes q) =
+      rw (coming_ends kind one (front_of_lem x).0 t a (omega (arith, p))) (
         (λ z l. absurd (omega (arith, z))),
-        λ z l. absurd (p (omega (arith, q, l refl, length-hard chips, length-hard chips'))),
+        λ z l. absurd (p (omega (arith, q, l refl, length_hard chips, length_hard chips'))),
       )
-  by-told t a b (no p) (no q) =
+  by_told t a b (no p) (no q) =
       rw (
-        coming-ends kind one (front_of x).0 t a (omega (arith, p)),
-        coming-ends kind other (front_of x).0 t b (omega (arith, q)),
+        coming_ends kind one (front_of_lem x).0 t a (omega (arith, p)),
+        coming_ends kind other (front_of_lem x).0 t b (omega (arith, q)),
       )
       ((λ z l. refl), λ z l. refl)
 
-  by_front : (g : Front) → frontOf kk one ≡ g → frontOf kk other ≡ g
-      → Same (comingOf kk (frontReading kind one)) (comingOf kk (frontReading kind other))
+  by_front : (g : Front) → front_of kk one ≡ g → front_of kk other ≡ g
+      → Same (coming_of kk (front_reading kind one)) (coming_of kk (front_reading kind other))
   by_front (Refused r) a b =
-      rw (coming-refused kind one (front_of x).0 r a, coming-refused kind other (front_of x).0 r b)
+      rw (coming_refused kind one (front_of_lem x).0 r a, coming_refused kind other (front_of_lem x).0 r b)
       ((λ z l. refl), λ z l. refl)
   by_front (Fields t) a b =
-      by-told t a b (dec_le (frameChips kk t.rate t.n) (length one))
-      (dec_le (frameChips kk t.rate t.n) (length other))
+      by_told t a b (dec_le (frame_chips kk t.rate t.n) (length one))
+      (dec_le (frame_chips kk t.rate t.n) (length other))
 
-  same-coming : Same c c'
-  same-coming =
+  same_coming : Same c c'
+  same_coming =
       rw (f.answer, f'.answer)
-      (by_front (frontOf kk one) refl (sym (front_same kk one other begin-alike ours)))
+      (by_front (front_of kk one) refl (sym (front_same kk one other begin_alike ours)))
 
-pub front-only : FrontOnly
-front-only kind front chips chips' c c' x e f f' = same-coming kind front chips chips' c c' x e f f'
+pub front_only : FrontOnly
+front_only kind front chips chips' c c' x e f f' = same_coming kind front chips chips' c c' x e f f'
 
 -- ---- parts
-pub handed-part : HandedPart
-handed-part c chips part f = (
-  (λ h. f.chips-are ∙ part-there c.at c.count chips h),
-  λ h. f.chips-are ∙ part_none c.at c.count chips h,
+pub handed_part : HandedPart
+handed_part c chips part f = (
+  (λ h. f.chips_are ∙ part_there c.at c.count chips h),
+  λ h. f.chips_are ∙ part_none c.at c.count chips h,
 )

@@ -14,12 +14,12 @@ use Rattle.rules_calls.specs.declared.Front.TheVariants as front
 use Rattle.rules_calls.specs.declared.Reading.TheVariants as reading
 use Rattle.rules_calls.specs.declared.Written.{Written}
 use Rattle.rules_calls.specs.declared.Record.{Record}
-use Rattle.rules_frame.specs.Frame.{frame, frameChips, kind_of, clockOf}
-use Rattle.rules_frame.proofs.Sizes.{frame-length}
+use Rattle.rules_frame.specs.Frame.{frame, frame_chips, kind_of, clock_of}
+use Rattle.rules_frame.proofs.Sizes.{frame_length}
 use Rattle.rules_calls.specs.Answers.{written_of}
-use Rattle.rules_calls.specs.Writing.{writingOf, chipsAfter, chipsWritten}
-use Rattle.rules_reading.specs.Reading.{reading_of, octetsFound}
-use Rattle.rules_reading.proofs.Buffers.{reading-fits, filled-octets}
+use Rattle.rules_calls.specs.Writing.{writing_of, chips_after, chips_written}
+use Rattle.rules_reading.specs.Reading.{reading_of, octets_found}
+use Rattle.rules_reading.proofs.Buffers.{reading_fits, filled_octets}
 use Rattle.rules_calls.proofs.WriteGood.{accepted}
 use Rattle.rules_calls.proofs.AnswerFacts.{some_number}
 use Rattle.promises.specs.Promises.{WriteFills, ReadFills}
@@ -27,24 +27,24 @@ use Rattle.promises.specs.Promises.{WriteFills, ReadFills}
 -- ---- writing
 abbrev Fitting : ℕ → ℕ → Writing → Type 0
 Fitting n room (writing.Refused e) = Unit {0}
-Fitting n room (writing.Good k r c) = (c ≡ frameChips k r n) × (c ≤ room)
+Fitting n room (writing.Good k r c) = (c ≡ frame_chips k r n) × (c ≤ room)
 
-fitting : (kind rate phase n room : ℕ) → Fitting n room (writingOf kind rate phase n room)
-fitting kind rate phase n room = go (writingOf kind rate phase n room) refl
+fitting : (kind rate phase n room : ℕ) → Fitting n room (writing_of kind rate phase n room)
+fitting kind rate phase n room = go (writing_of kind rate phase n room) refl
   where
-    go : (g : Writing) → writingOf kind rate phase n room ≡ g → Fitting n room g
+    go : (g : Writing) → writing_of kind rate phase n room ≡ g → Fitting n room g
     go (writing.Refused e) h = tt
     go (writing.Good k r c) h = let a = accepted kind rate phase n room k r c h in (a.2, a.3)
 
-filled-chips : (phase : ℕ) (clock : Bool) (payload : List ℕ) (room : ℕ) (g : Writing) → Fitting (length payload) room g
-    → (length (chipsAfter phase clock payload room g) ≡ room)
-    × (((written_of g).number ≡ 0 → ⊥) → chipsAfter phase clock payload room g ≡ replicate room 4)
+filled_chips : (phase : ℕ) (clock : Bool) (payload : List ℕ) (room : ℕ) (g : Writing) → Fitting (length payload) room g
+    → (length (chips_after phase clock payload room g) ≡ room)
+    × (((written_of g).number ≡ 0 → ⊥) → chips_after phase clock payload room g ≡ replicate room 4)
     × ((written_of g).number ≡ 0
-    → drop (written_of g).chips (chipsAfter phase clock payload room g) ≡ replicate (room - (written_of g).chips) 4)
-filled-chips phase clock payload room (writing.Refused e) h =
+    → drop (written_of g).chips (chips_after phase clock payload room g) ≡ replicate (room - (written_of g).chips) 4)
+filled_chips phase clock payload room (writing.Refused e) h =
     (length-replicate room 4, (λ z. refl), λ z. absurd (some_number e z))
-filled-chips phase clock payload room (writing.Good k r c) h =
-    let e : length (frame k r phase clock payload) ≡ c = frame-length k r phase clock payload ∙ sym h.0 in
+filled_chips phase clock payload room (writing.Good k r c) h =
+    let e : length (frame k r phase clock payload) ≡ c = frame_length k r phase clock payload ∙ sym h.0 in
     let within : c ≤ room = h.1 in (
       length-append (frame k r phase clock payload) (replicate (room - c) 4)
           ∙ omega (arith, length-replicate {A = ℕ} (room - c) 4),
@@ -52,10 +52,10 @@ filled-chips phase clock payload room (writing.Good k r c) h =
       λ z. drop_at (frame k r phase clock payload) (replicate (room - c) 4) c e,
     )
 
-pub write-fills : WriteFills
-unfolding chipsWritten
-write-fills kind rate phase clock payload room w left h =
-    let f = filled-chips phase (clockOf clock) payload room (writingOf kind rate phase (length payload) room)
+pub write_fills : WriteFills
+unfolding chips_written
+write_fills kind rate phase clock payload room w left h =
+    let f = filled_chips phase (clock_of clock) payload room (writing_of kind rate phase (length payload) room)
     (fitting kind rate phase (length payload) room) in (
       ap length h.chips ∙ f.0,
       (λ z. h.chips ∙ f.1 (λ y. z (ap (λ (v : Written). v.number) h.answer ∙ y))),
@@ -65,10 +65,10 @@ write-fills kind rate phase clock payload room w left h =
     )
 
 -- ---- reading
-pub read-fills : ReadFills
-unfolding octetsFound
-read-fills kind agree rec room a left h =
-    let f = filled-octets (kind_of kind) rec room (reading_of kind agree rec room) (reading-fits kind agree rec room) in (
+pub read_fills : ReadFills
+unfolding octets_found
+read_fills kind agree rec room a left h =
+    let f = filled_octets (kind_of kind) rec room (reading_of kind agree rec room) (reading_fits kind agree rec room) in (
       ap length h.octets ∙ f.0,
       (λ z. h.octets ∙ f.1 (λ y. z (ap (λ (v : Record). v.number) h.answer ∙ y))),
       λ z. ap₂ {C = List ℕ} (λ (v : Record) (l : List ℕ). drop v.n l) h.answer h.octets

@@ -14,152 +14,152 @@ use lib.Seq.{drop-drop, get_or-append-add}
 use Rattle.base.proofs.Tests.{branch}
 use Rattle.rules_rates.specs.declared.Rate.{Rate}
 use Rattle.rules_rates.specs.declared.Rate.TheVariants.{One}
-use Rattle.rules_rates.specs.Rates.{rateOf, symbolChips, symbolBits}
+use Rattle.rules_rates.specs.Rates.{rate_of, symbol_chips, symbol_bits}
 use Rattle.rules_chips.specs.declared.Counts.{Counts}
-use Rattle.rules_chips.specs.Chips.{Taken, takenCounts}
-use Rattle.rules_symbols.specs.Choice.{decided, leadOf}
+use Rattle.rules_chips.specs.Chips.{Taken, taken_counts}
+use Rattle.rules_symbols.specs.Choice.{decided, lead_of}
 use Rattle.rules_choosing.specs.Scores.{LeadsBy}
 use Rattle.rules_choosing.specs.Demand3.{LeadsExactly}
-use Rattle.rules_choosing.proofs.Leads.{leads-by, leads-once}
+use Rattle.rules_choosing.proofs.Leads.{leads_by, leads_once}
 use Rattle.rules_frame.specs.declared.Kind.{Kind}
 use Rattle.rules_frame.specs.declared.Kind.TheVariants.{Long, Short}
 use Rattle.rules_frame.specs.Frame.{
-  isKind,
+  is_kind,
   kind_of,
-  headerRate,
-  frontChips,
-  frontSymbols,
-  preambleLength,
-  headerLength,
-  preambleChips,
+  header_rate,
+  front_chips,
+  front_symbols,
+  preamble_length,
+  header_length,
+  preamble_chips,
 }
-use Rattle.rules_frame.proofs.Parity.{front-symbols}
+use Rattle.rules_frame.proofs.Parity.{front_symbols_lem}
 use Rattle.rules_calls.specs.declared.Told.{Told}
 use Rattle.rules_calls.specs.declared.Record.{Record}
 use Rattle.rules_calls.specs.declared.Front.{Front}
 use Rattle.rules_calls.specs.declared.Front.TheVariants as front
 use Rattle.rules_calls.specs.declared.Reading.{Reading}
 use Rattle.rules_calls.specs.declared.Reading.TheVariants as reading
-use Rattle.rules_calls.specs.Answers.{recordOf}
+use Rattle.rules_calls.specs.Answers.{record_of}
 use Rattle.rules_calls.proofs.AnswerFacts.{some_number}
 use Rattle.rules_reading.specs.Places.{UsableAt}
-use Rattle.rules_reading.specs.Leads.{decidedLeads, frontLeads, payloadLeads, frameLeads, leastOf}
+use Rattle.rules_reading.specs.Leads.{decided_leads, front_leads, payload_leads, frame_leads, least_of}
 use Rattle.rules_reading.specs.Reading.{
-  preambleWords,
-  headerWords,
-  payloadWords,
-  frontOf,
+  preamble_words,
+  header_words,
+  payload_words,
+  front_of,
   whole_of,
-  payloadReading,
-  afterFront,
+  payload_reading,
+  after_front,
   reading_of,
 }
-use Rattle.rules_reading.proofs.Leads.{leads-length, leads-at, LeastIs, least-is}
-use Rattle.rules_reading.proofs.Refusals.{PayloadIf, payload-comes}
-use Rattle.rules_reading.specs.Places.{countsFrom}
-use Rattle.promises.specs.Calls.{in-hard, in-soft, in_bytes}
-use Rattle.promises.specs.Right.{exactFrom, Keeps}
+use Rattle.rules_reading.proofs.Leads.{leads_length, leads_at, LeastIs, least_is}
+use Rattle.rules_reading.proofs.Refusals.{PayloadIf, payload_comes}
+use Rattle.rules_reading.specs.Places.{counts_from}
+use Rattle.promises.specs.Calls.{in_hard, in_soft, in_bytes}
+use Rattle.promises.specs.Right.{exact_from, Keeps}
 use Rattle.promises.specs.Leads.{
   SymbolOf,
-  of-preamble,
-  of-header,
-  of-payload,
+  of_preamble,
+  of_header,
+  of_payload,
   LeastIn,
   LeastTold,
   Sure,
   RowsSure,
 }
-use Rattle.promises.proofs.Only.{code-back}
+use Rattle.promises.proofs.Only.{code_back}
 use Rattle.promises.proofs.Right.{
   word_at,
-  word-from,
-  symbol-sure,
-  hard-keeps,
-  hard-good,
-  soft-keeps,
-  soft-good,
-  bytes-keep,
+  word_from_lem,
+  symbol_sure,
+  hard_keeps,
+  hard_good,
+  soft_keeps,
+  soft_good,
+  bytes_keep,
   bytes_good,
 }
 
 -- ---- the leads of a part that starts at place `at`
-lead-from : (r : Rate) (m at j : ℕ) (rec : List Taken) → j < m
-    → get_or (decidedLeads r m (drop at rec)) j 0 ≡ leadOf r (countsFrom r (at + j * symbolChips r) rec)
-lead-from r m at j rec h =
-    leads-at r m (drop at rec) j h
-    ∙ ap (λ (l : List Taken). leadOf r (map takenCounts (take (symbolChips r) l)))
-    (drop-drop (symbolChips r * j) at rec
-    ∙ ap (λ (k : ℕ). drop (at + k) rec) (mul_comm (symbolChips r) j))
+lead_from : (r : Rate) (m at j : ℕ) (rec : List Taken) → j < m
+    → get_or (decided_leads r m (drop at rec)) j 0 ≡ lead_of r (counts_from r (at + j * symbol_chips r) rec)
+lead_from r m at j rec h =
+    leads_at r m (drop at rec) j h
+    ∙ ap (λ (l : List Taken). leadOf r (map taken_counts (take (symbol_chips r) l)))
+    (drop-drop (symbol_chips r * j) at rec
+    ∙ ap (λ (k : ℕ). drop (at + k) rec) (mul_comm (symbol_chips r) j))
 
 module _ (k : Kind) (r : Rate) (n : ℕ) (rec : List Taken) where
   abbrev headers : ℕ
-  headers = headerLength / symbolBits (headerRate k)
+  headers = header_length / symbol_bits (header_rate k)
 
   abbrev payloads : ℕ
-  payloads = 8 * n / symbolBits r
+  payloads = 8 * n / symbol_bits r
 
   abbrev preamble : List ℕ
-  preamble = decidedLeads One (preambleLength k) rec
+  preamble = decided_leads One (preamble_length k) rec
 
   abbrev header : List ℕ
-  header = decidedLeads (headerRate k) headers (drop (preambleChips k) rec)
+  header = decided_leads (header_rate k) headers (drop (preamble_chips k) rec)
 
   abbrev payload : List ℕ
-  payload = decidedLeads r payloads (drop (frontChips k) rec)
+  payload = decided_leads r payloads (drop (front_chips k) rec)
 
-  leads-are : frameLeads k r n rec ≡ (preamble ++ header) ++ payload
-  unfolding frontLeads payloadLeads
-  leads-are = refl
+  leads_are : frame_leads k r n rec ≡ (preamble ++ header) ++ payload
+  unfolding front_leads payload_leads
+  leads_are = refl
 
-  front_length : length (preamble ++ header) ≡ frontSymbols k
+  front_length : length (preamble ++ header) ≡ front_symbols k
   front_length =
       length-append preamble header
-      ∙ (λ i. leads-length One (preambleLength k) rec i
-      + leads-length (headerRate k) headers (drop (preambleChips k) rec) i)
-      ∙ front-symbols k
+      ∙ (λ i. leads-length One (preamble_length k) rec i
+      + leads_length (header_rate k) headers (drop (preamble_chips k) rec) i)
+      ∙ front_symbols_lem k
 
-  leads-count : length (frameLeads k r n rec) ≡ frontSymbols k + payloads
-  leads-count =
-      ap length leads-are
+  leads_count : length (frame_leads k r n rec) ≡ front_symbols k + payloads
+  leads_count =
+      ap length leads_are
       ∙ length-append (preamble ++ header) payload
-      ∙ (λ i. front_length i + leads-length r payloads (drop (frontChips k) rec) i)
+      ∙ (λ i. front_length i + leads_length r payloads (drop (front_chips k) rec) i)
 
   -- ---- a symbol's number, word and lead
-  symbol-below : {s at w : ℕ} {q : Rate} → SymbolOf k r n rec s q at w → s < frontSymbols k + payloads
-  symbol-below (of-preamble j h) = omega (arith, front-symbols k)
-  symbol-below (of-header j h) = omega (arith, front-symbols k)
-  symbol-below (of-payload j h) = omega arith
+  symbol_below : {s at w : ℕ} {q : Rate} → SymbolOf k r n rec s q at w → s < front_symbols k + payloads
+  symbol_below (of_preamble j h) = omega (arith, front_symbols_lem k)
+  symbol_below (of_header j h) = omega (arith, front_symbols_lem k)
+  symbol_below (of_payload j h) = omega arith
 
-  symbol-word : {s at w : ℕ} {q : Rate} → SymbolOf k r n rec s q at w → w ≡ decided q (countsFrom q at rec)
-  unfolding preambleWords headerWords payloadWords
-  symbol-word (of-preamble j h) = word_at One (preambleLength k) j rec (omega arith)
-  symbol-word (of-header j h) = word-from (headerRate k) headers (preambleChips k) j rec h
-  symbol-word (of-payload j h) = word-from r payloads (frontChips k) j rec h
+  symbol_word_lem : {s at w : ℕ} {q : Rate} → SymbolOf k r n rec s q at w → w ≡ decided q (counts_from q at rec)
+  unfolding preamble_words header_words payload_words
+  symbol_word_lem (of_preamble j h) = word_at One (preamble_length k) j rec (omega arith)
+  symbol_word_lem (of_header j h) = word_from_lem (header_rate k) headers (preamble_chips k) j rec h
+  symbol_word_lem (of_payload j h) = word_from_lem r payloads (front_chips k) j rec h
 
-  abbrev leadOfSymbol : ℕ → ℕ
-  leadOfSymbol s = get_or (frameLeads k r n rec) s 0
+  abbrev lead_of_symbol : ℕ → ℕ
+  lead_of_symbol s = get_or (frame_leads k r n rec) s 0
 
-  in-front : (s : ℕ) → s < frontSymbols k → leadOfSymbol s ≡ get_or (preamble ++ header) s 0
-  in-front s h =
-      ap (λ (l : List ℕ). get_or l s 0) leads-are
+  in_front : (s : ℕ) → s < front_symbols k → lead_of_symbol s ≡ get_or (preamble ++ header) s 0
+  in_front s h =
+      ap (λ (l : List ℕ). get_or l s 0) leads_are
       ∙ get_or-append (preamble ++ header) payload 0 s (omega (arith, front_length))
 
-  symbol-lead : {s at w : ℕ} {q : Rate} → SymbolOf k r n rec s q at w → leadOfSymbol s ≡ leadOf q (countsFrom q at rec)
-  symbol-lead (of-preamble j h) =
-      in-front j (omega (arith, front-symbols k))
-      ∙ get_or-append preamble header 0 j (omega (arith, leads-length One (preambleLength k) rec))
-      ∙ lead-from One (preambleLength k) 0 j rec (omega arith)
-      ∙ ap (λ (x : ℕ). leadOf One (countsFrom One x rec)) (zero-add (j * symbolChips One))
-  symbol-lead (of-header j h) =
-      in-front (preambleLength k + j) (omega (arith, front-symbols k))
-      ∙ ap (λ (x : ℕ). get_or (preamble ++ header) (x + j) 0) (sym (leads-length One (preambleLength k) rec))
+  symbol_lead : {s at w : ℕ} {q : Rate} → SymbolOf k r n rec s q at w → lead_of_symbol s ≡ lead_of q (counts_from q at rec)
+  symbol_lead (of_preamble j h) =
+      in_front j (omega (arith, front_symbols_lem k))
+      ∙ get_or-append preamble header 0 j (omega (arith, leads_length One (preamble_length k) rec))
+      ∙ lead_from One (preamble_length k) 0 j rec (omega arith)
+      ∙ ap (λ (x : ℕ). leadOf One (counts_from One x rec)) (zero-add (j * symbol_chips One))
+  symbol_lead (of_header j h) =
+      in_front (preamble_length k + j) (omega (arith, front_symbols_lem k))
+      ∙ ap (λ (x : ℕ). get_or (preamble ++ header) (x + j) 0) (sym (leads_length One (preamble_length k) rec))
       ∙ get_or-append-add preamble header j 0
-      ∙ lead-from (headerRate k) headers (preambleChips k) j rec h
-  symbol-lead (of-payload j h) =
-      ap (λ (l : List ℕ). get_or l (frontSymbols k + j) 0) leads-are
+      ∙ lead_from (header_rate k) headers (preamble_chips k) j rec h
+  symbol_lead (of_payload j h) =
+      ap (λ (l : List ℕ). get_or l (front_symbols k + j) 0) leads_are
       ∙ ap (λ (x : ℕ). get_or ((preamble ++ header) ++ payload) (x + j) 0) (sym front_length)
       ∙ get_or-append-add (preamble ++ header) payload j 0
-      ∙ lead-from r payloads (frontChips k) j rec h
+      ∙ lead_from r payloads (front_chips k) j rec h
 
   -- each number is a symbol's
   record Numbered (s : ℕ) : Type 0 where
@@ -168,56 +168,56 @@ module _ (k : Kind) (r : Rate) (n : ℕ) (rec : List Taken) where
     word : ℕ
     is : SymbolOf k r n rec s rate at word
 
-  numbered : (s : ℕ) → s < frontSymbols k + payloads → Numbered s
-  numbered s h = by (dec_lt s (preambleLength k)) (dec_lt s (frontSymbols k))
+  numbered : (s : ℕ) → s < front_symbols k + payloads → Numbered s
+  numbered s h = by (dec_lt s (preamble_length k)) (dec_lt s (front_symbols k))
     where
-      by : Dec (s < preambleLength k) → Dec (s < frontSymbols k) → Numbered s
-      by (yes a) b = record { rate = One; at = s * symbolChips One; word = _; is = of-preamble s a }
+      by : Dec (s < preamble_length k) → Dec (s < front_symbols k) → Numbered s
+      by (yes a) b = record { rate = One; at = s * symbol_chips One; word = _; is = of_preamble s a }
       by (no a) (yes b) =
-          let e : preambleLength k + (s - preambleLength k) ≡ s = omega arith in
-          let l : s - preambleLength k < headers = omega (arith, front-symbols k) in
+          let e : preamble_length k + (s - preamble_length k) ≡ s = omega arith in
+          let l : s - preamble_length k < headers = omega (arith, front_symbols_lem k) in
           record {
-            rate = headerRate k;
-            at = preambleChips k + (s - preambleLength k) * symbolChips (headerRate k);
-            word = get_or (headerWords k rec) (s - preambleLength k) 0;
+            rate = header_rate k;
+            at = preamble_chips k + (s - preamble_length k) * symbol_chips (header_rate k);
+            word = get_or (header_words k rec) (s - preamble_length k) 0;
             is = subst
-                (λ (x : ℕ). SymbolOf k r n rec x (headerRate k)
-                (preambleChips k + (s - preambleLength k) * symbolChips (headerRate k))
-                (get_or (headerWords k rec) (s - preambleLength k) 0)) e (of-header (s - preambleLength k) l);
+                (λ (x : ℕ). SymbolOf k r n rec x (header_rate k)
+                (preamble_chips k + (s - preamble_length k) * symbol_chips (header_rate k))
+                (get_or (header_words k rec) (s - preamble_length k) 0)) e (of_header (s - preamble_length k) l);
           }
       by (no a) (no b) =
-          let e : frontSymbols k + (s - frontSymbols k) ≡ s = omega arith in
-          let l : s - frontSymbols k < payloads = omega arith in
+          let e : front_symbols k + (s - front_symbols k) ≡ s = omega arith in
+          let l : s - front_symbols k < payloads = omega arith in
           record {
             rate = r;
-            at = frontChips k + (s - frontSymbols k) * symbolChips r;
-            word = get_or (payloadWords k r n rec) (s - frontSymbols k) 0;
+            at = front_chips k + (s - front_symbols k) * symbol_chips r;
+            word = get_or (payload_words k r n rec) (s - front_symbols k) 0;
             is = subst
-                (λ (x : ℕ). SymbolOf k r n rec x r (frontChips k + (s - frontSymbols k) * symbolChips r)
-                (get_or (payloadWords k r n rec) (s - frontSymbols k) 0)) e (of-payload (s - frontSymbols k) l);
+                (λ (x : ℕ). SymbolOf k r n rec x r (front_chips k + (s - front_symbols k) * symbol_chips r)
+                (get_or (payload_words k r n rec) (s - front_symbols k) 0)) e (of_payload (s - front_symbols k) l);
           }
 
   -- ---- the smallest of the frame's leads
-  some-leads : 0 < length (frameLeads k r n rec)
-  some-leads = rw leads-count (by k)
+  some_leads : 0 < length (frame_leads k r n rec)
+  some_leads = rw leads_count (by k)
     where
-      by : (k : Kind) → 0 < frontSymbols k + payloads
+      by : (k : Kind) → 0 < front_symbols k + payloads
       by Long = omega arith
       by Short = omega arith
 
   led : {s at w : ℕ} {q : Rate} → SymbolOf k r n rec s q at w
-      → LeadsBy q (countsFrom q at rec) w (leadOfSymbol s)
+      → LeadsBy q (counts_from q at rec) w (lead_of_symbol s)
   led {s} {at} {w} {q} x =
-      subst (λ (v : ℕ). LeadsBy q (countsFrom q at rec) v (leadOfSymbol s)) (sym (symbol-word x))
-      (subst (LeadsBy q (countsFrom q at rec) (decided q (countsFrom q at rec))) (sym (symbol-lead x))
-      (leads-by q (countsFrom q at rec)))
+      subst (λ (v : ℕ). LeadsBy q (counts_from q at rec) v (lead_of_symbol s)) (sym (symbol_word_lem x))
+      (subst (LeadsBy q (counts_from q at rec) (decided q (counts_from q at rec))) (sym (symbol_lead x))
+      (leads_by q (counts_from q at rec)))
 
-  least-in : LeastIn k r n rec (leastOf (frameLeads k r n rec)).lead (leastOf (frameLeads k r n rec)).symbol
-  least-in = record {
+  least_in : LeastIn k r n rec (least_of (frame_leads k r n rec)).lead (least_of (frame_leads k r n rec)).symbol
+  least_in = record {
     each = λ s q at w x. record {
-      own = leadOfSymbol s;
+      own = lead_of_symbol s;
       by = led x;
-      low = d.low s (rw leads-count (symbol-below x));
+      low = d.low s (rw leads_count (symbol_below x));
       first = λ l. d.first s l;
     };
     just = record {
@@ -225,77 +225,77 @@ module _ (k : Kind) (r : Rate) (n : ℕ) (rec : List Taken) where
       at = here.at;
       word = here.word;
       is = here.is;
-      by = subst (LeadsBy here.rate (countsFrom here.rate here.at rec) here.word) d.has (led here.is);
+      by = subst (LeadsBy here.rate (counts_from here.rate here.at rec) here.word) d.has (led here.is);
     };
   }
     where
-      d : LeastIs (frameLeads k r n rec) (leastOf (frameLeads k r n rec))
-      d = least-is (frameLeads k r n rec) some-leads
+      d : LeastIs (frame_leads k r n rec) (least_of (frame_leads k r n rec))
+      d = least_is (frame_leads k r n rec) some_leads
 
-      here : Numbered (leastOf (frameLeads k r n rec)).symbol
-      here = numbered (leastOf (frameLeads k r n rec)).symbol (omega (arith, d.among, leads-count))
+      here : Numbered (least_of (frame_leads k r n rec)).symbol
+      here = numbered (least_of (frame_leads k r n rec)).symbol (omega (arith, d.among, leads_count))
 
 -- ---- a good reading has it
 abbrev LeastOf : ℕ → List Taken → Reading → Type 0
 LeastOf kind rec (reading.Refused e) = Unit {0}
-LeastOf kind rec (reading.Good t used least) = least ≡ leastOf (frameLeads (kind_of kind) t.rate t.n rec)
+LeastOf kind rec (reading.Good t used least) = least ≡ least_of (frame_leads (kind_of kind) t.rate t.n rec)
 
-has-least : (kind : ℕ) (agree : Bool) (rec : List Taken) (room : ℕ) → LeastOf kind rec (reading_of kind agree rec room)
+has_least : (kind : ℕ) (agree : Bool) (rec : List Taken) (room : ℕ) → LeastOf kind rec (reading_of kind agree rec room)
 unfolding reading_of
-has-least kind agree rec room =
-    branch (LeastOf kind rec) (not (isKind kind)) _ _ tt
+has_least kind agree rec room =
+    branch (LeastOf kind rec) (not (is_kind kind)) _ _ tt
     (λ a. branch (LeastOf kind rec) (not agree) _ _ tt
-    (λ b. after (whole_of (kind_of kind) rec (frontOf (kind_of kind) rec))))
+    (λ b. after (whole_of (kind_of kind) rec (front_of (kind_of kind) rec))))
   where
     told : (t : Told) (g : Reading) → PayloadIf (kind_of kind) t rec room g → LeastOf kind rec g
     told t (reading.Refused e) h = tt
     told t (reading.Good u used least) h =
-        h.3 ∙ ap (λ (v : Told). leastOf (frameLeads (kind_of kind) v.rate v.n rec)) (sym h.1)
+        h.3 ∙ ap (λ (v : Told). leastOf (frame_leads (kind_of kind) v.rate v.n rec)) (sym h.1)
 
-    after : (f : Front) → LeastOf kind rec (afterFront (kind_of kind) rec room f)
+    after : (f : Front) → LeastOf kind rec (after_front (kind_of kind) rec room f)
     after (front.Refused e) = tt
     after (front.Fields t) =
-        told t (payloadReading (kind_of kind) t rec room) (payload-comes (kind_of kind) t rec room)
+        told t (payload_reading (kind_of kind) t rec room) (payload_comes (kind_of kind) t rec room)
 
-pub least-told : LeastTold
-least-told kind agree rec room a left read zero_is =
-    subst (λ (v : Record). LeastIn (kind_of kind) (rateOf v.rate) v.n rec v.lead v.symbol)
+pub least_told : LeastTold
+least_told kind agree rec room a left read zero_is =
+    subst (λ (v : Record). LeastIn (kind_of kind) (rate_of v.rate) v.n rec v.lead v.symbol)
     (sym read.answer)
-    (go (reading_of kind agree rec room) (has-least kind agree rec room)
+    (go (reading_of kind agree rec room) (has_least kind agree rec room)
     (ap (λ (v : Record). v.number) (sym read.answer) ∙ zero_is))
   where
-    go : (g : Reading) → LeastOf kind rec g → (recordOf g).number ≡ 0
-        → LeastIn (kind_of kind) (rateOf (recordOf g).rate) (recordOf g).n rec (recordOf g).lead (recordOf g).symbol
+    go : (g : Reading) → LeastOf kind rec g → (record_of g).number ≡ 0
+        → LeastIn (kind_of kind) (rate_of (record_of g).rate) (record_of g).n rec (record_of g).lead (record_of g).symbol
     go (reading.Refused e) h z = absurd (some_number e z)
     go (reading.Good t used least) h z =
-        rw (code-back t.rate, h) (least-in (kind_of kind) t.rate t.n rec)
+        rw (code_back t.rate, h) (least_in (kind_of kind) t.rate t.n rec)
 
 -- ---- what a lead says of the exact numbers, once for every recorder
 sure : (half : ℕ) (above : Rate → ℕ) (good : ℕ → Type 0) (exact : List Counts) (rec : List Taken)
     → Keeps half exact rec → ((place : ℕ) → good place → UsableAt rec place)
-    → ((q : Rate) (lead : ℕ) → above q < lead → symbolChips q * (2 * half) < lead * 2 ^ 139)
+    → ((q : Rate) (lead : ℕ) → above q < lead → symbol_chips q * (2 * half) < lead * 2 ^ 139)
     → Sure above good exact rec
 sure half above good exact rec keeps usable enough k r n s q at w lead x ok by l =
-    let cs = countsFrom q at rec in
-    let e : w ≡ decided q cs = symbol-word k r n rec x in
-    let d : lead ≡ leadOf q cs = leads-once q cs w lead (leadOf q cs) by
-    (subst (λ (v : ℕ). LeadsBy q cs v (leadOf q cs)) (sym e) (leads-by q cs)) in
-    subst (LeadsExactly q (exactFrom q at exact)) (sym e)
-    (symbol-sure half exact rec keeps q at (λ i h. usable (at + i) (ok i h))
+    let cs = counts_from q at rec in
+    let e : w ≡ decided q cs = symbol_word_lem k r n rec x in
+    let d : lead ≡ lead_of q cs = leads_once q cs w lead (lead_of q cs) by
+    (subst (λ (v : ℕ). LeadsBy q cs v (lead_of q cs)) (sym e) (leads_by q cs)) in
+    subst (LeadsExactly q (exact_from q at exact)) (sym e)
+    (symbol_sure half exact rec keeps q at (λ i h. usable (at + i) (ok i h))
     (subst (λ (y : ℕ). symbolChips q * (2 * half) < y * 2 ^ 139) d (enough q lead l)))
 
 -- no error: any lead
-any-lead : (q : Rate) (lead : ℕ) → 0 < lead → symbolChips q * (2 * 0) < lead * 2 ^ 139
-any-lead q lead h = rw (mul-zero (symbolChips q)) (mul-pos lead (2 ^ 139) h (pow_pos 139))
+any_lead : (q : Rate) (lead : ℕ) → 0 < lead → symbol_chips q * (2 * 0) < lead * 2 ^ 139
+any_lead q lead h = rw (mul-zero (symbol_chips q)) (mul_pos lead (2 ^ 139) h (pow_pos 139))
   where
-    mul-pos : (a b : ℕ) → 0 < a → 0 < b → 0 < a * b
-    mul-pos a b ha hb = subst (λ (x : ℕ). x < a * b) (zero-mul b) (mul-lt-mul_of_pos_right ha hb)
+    mul_pos : (a b : ℕ) → 0 < a → 0 < b → 0 < a * b
+    mul_pos a b ha hb = subst (λ (x : ℕ). x < a * b) (zero-mul b) (mul-lt-mul_of_pos_right ha hb)
 
 -- half a count for each chip, twice
-more-chips : (q : Rate) (lead : ℕ) → symbolChips q < lead → symbolChips q * (2 * 2 ^ 138) < lead * 2 ^ 139
-more-chips q lead h = mul-lt-mul_of_pos_right h (pow_pos 139)
+more_chips : (q : Rate) (lead : ℕ) → symbol_chips q < lead → symbol_chips q * (2 * 2 ^ 138) < lead * 2 ^ 139
+more_chips q lead h = mul-lt-mul_of_pos_right h (pow_pos 139)
 
-pub rows-sure : RowsSure
-rows-sure (in-hard octets) = sure 0 (λ q. 0) _ _ _ (hard-keeps octets) (hard-good octets) any-lead
-rows-sure (in-soft i q) = sure (2 ^ 138) symbolChips _ _ _ (soft-keeps i q) (soft-good i q) more-chips
-rows-sure (in_bytes bytes) = sure 0 (λ q. 0) _ _ _ (bytes-keep bytes) (bytes_good bytes) any-lead
+pub rows_sure : RowsSure
+rows_sure (in_hard octets) = sure 0 (λ q. 0) _ _ _ (hard_keeps octets) (hard_good octets) any_lead
+rows_sure (in_soft i q) = sure (2 ^ 138) symbol_chips _ _ _ (soft_keeps i q) (soft_good i q) more_chips
+rows_sure (in_bytes bytes) = sure 0 (λ q. 0) _ _ _ (bytes_keep bytes) (bytes_good bytes) any_lead

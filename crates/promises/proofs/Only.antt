@@ -13,16 +13,16 @@ use Rattle.base.specs.Below.{Below}
 use Rattle.base.proofs.Tests.{held, left_is, right_is, branch}
 use Rattle.rules_rates.specs.declared.Rate.{Rate}
 use Rattle.rules_rates.specs.declared.Rate.TheVariants.{One, Two, Five, Eleven}
-use Rattle.rules_rates.specs.Rates.{code_of, is_code, rateOf, octetChips, isPayload}
+use Rattle.rules_rates.specs.Rates.{code_of, is_code, rate_of, octet_chips, is_payload}
 use Rattle.rules_rates.specs.Plain.{LengthOf}
-use Rattle.rules_rates.proofs.Facts.{no-other-code}
-use Rattle.rules_rates.proofs.Plain.{length-is}
-use Rattle.rules_reading.proofs.Telling.{Telling, TellingWhole, TellingWholeIf, whole-telling}
+use Rattle.rules_rates.proofs.Facts.{no_other_code}
+use Rattle.rules_rates.proofs.Plain.{length_is}
+use Rattle.rules_reading.proofs.Telling.{Telling, TellingWhole, TellingWholeIf, whole_telling}
 use Rattle.rules_chips.specs.Chips.{Taken}
 use Rattle.rules_frame.specs.declared.Kind.{Kind}
-use Rattle.rules_frame.specs.Frame.{isKind, kind_of, goesWith, isPhase, frontChips, frameChips}
-use Rattle.rules_frame.proofs.Phases.{phase-most}
-use Rattle.rules_frame.proofs.Headers.{clock-lt}
+use Rattle.rules_frame.specs.Frame.{is_kind, kind_of, goes_with, is_phase, front_chips, frame_chips}
+use Rattle.rules_frame.proofs.Phases.{phase_most}
+use Rattle.rules_frame.proofs.Headers.{clock_lt}
 use Rattle.rules_calls.specs.declared.Writing.{Writing}
 use Rattle.rules_calls.specs.declared.Writing.TheVariants as writing
 use Rattle.rules_calls.specs.declared.Told.{Told}
@@ -33,36 +33,36 @@ use Rattle.rules_calls.specs.declared.Reading.TheVariants as reading
 use Rattle.rules_calls.specs.declared.Written.{Written}
 use Rattle.rules_calls.specs.declared.Least.{Least}
 use Rattle.rules_calls.specs.declared.Record.{Record}
-use Rattle.rules_calls.specs.Answers.{written_of, recordOf}
-use Rattle.rules_calls.specs.Writing.{writingOf}
+use Rattle.rules_calls.specs.Answers.{written_of, record_of}
+use Rattle.rules_calls.specs.Writing.{writing_of}
 use Rattle.rules_calls.proofs.AnswerFacts.{some_number}
-use Rattle.rules_reading.specs.Reading.{frontOf, whole_of, payloadReading, afterFront, reading_of}
-use Rattle.promises.specs.Calls.{Goes, long-1, long-2, long-5, long-11, short-2, short-5, short-11, Sent}
+use Rattle.rules_reading.specs.Reading.{front_of, whole_of, payload_reading, after_front, reading_of}
+use Rattle.promises.specs.Calls.{Goes, long_1, long_2, long_5, long_11, short_2, short_5, short_11, Sent}
 use Rattle.promises.specs.Only.{OnlySent, Readable, OnlyReadable, RefusedShows}
-use Rattle.rules_reading.proofs.Refusals.{PayloadIf, payload-comes}
+use Rattle.rules_reading.proofs.Refusals.{PayloadIf, payload_comes}
 
 -- ---- the kinds and the rates that go with them
-pub goes : (kind : ℕ) (r : Rate) → isKind kind ≡ true → goesWith (kind_of kind) r ≡ true
-    → Goes kind (code_of r) (frontChips (kind_of kind)) (octetChips r)
-goes zero One a b = long-1
-goes zero Two a b = long-2
-goes zero Five a b = long-5
-goes zero Eleven a b = long-11
+pub goes : (kind : ℕ) (r : Rate) → is_kind kind ≡ true → goes_with (kind_of kind) r ≡ true
+    → Goes kind (code_of r) (front_chips (kind_of kind)) (octet_chips r)
+goes zero One a b = long_1
+goes zero Two a b = long_2
+goes zero Five a b = long_5
+goes zero Eleven a b = long_11
 goes (suc zero) One a b = absurd (subst T (sym b) tt)
-goes (suc zero) Two a b = short-2
-goes (suc zero) Five a b = short-5
-goes (suc zero) Eleven a b = short-11
+goes (suc zero) Two a b = short_2
+goes (suc zero) Five a b = short_5
+goes (suc zero) Eleven a b = short_11
 goes (suc (suc k)) r a b = absurd (subst T (sym a ∙ le-ltb (suc (suc k)) 2 (omega arith)) tt)
 
-pub code-back : (r : Rate) → rateOf (code_of r) ≡ r
-code-back One = refl
-code-back Two = refl
-code-back Five = refl
-code-back Eleven = refl
+pub code_back : (r : Rate) → rate_of (code_of r) ≡ r
+code_back One = refl
+code_back Two = refl
+code_back Five = refl
+code_back Eleven = refl
 
 -- LENGTH of a front that tells
-pub length-told : {k : Kind} {t : Told} → Telling k t → LengthOf (code_of t.rate) t.n t.length
-length-told {k} {t} h = subst (LengthOf (code_of t.rate) t.n) (sym h.length-is) (length-is t.rate t.n)
+pub length_told : {k : Kind} {t : Told} → Telling k t → LengthOf (code_of t.rate) t.n t.length
+length_told {k} {t} h = subst (LengthOf (code_of t.rate) t.n) (sym h.length_is) (length_is t.rate t.n)
 
 -- ---- writing
 module _ (kind rate phase : ℕ) (payload : List ℕ) (room : ℕ) (octets : Below 256 payload) where
@@ -72,31 +72,31 @@ module _ (kind rate phase : ℕ) (payload : List ℕ) (room : ℕ) (octets : Bel
   abbrev Sendable-in : Writing → Type 0
   Sendable-in (writing.Refused e) = Unit {0}
   Sendable-in (writing.Good k r c) =
-      Goes kind rate (frontChips (kind_of kind)) (octetChips (rateOf rate))
-      × (1 ≤ n) × (n ≤ 4095) × (phase ≤ 3) × (frameChips (kind_of kind) (rateOf rate) n ≤ room)
+      Goes kind rate (front_chips (kind_of kind)) (octet_chips (rate_of rate))
+      × (1 ≤ n) × (n ≤ 4095) × (phase ≤ 3) × (frame_chips (kind_of kind) (rate_of rate) n ≤ room)
 
-  sendable-in : Sendable-in (writingOf kind rate phase n room)
-  unfolding writingOf
-  sendable-in =
-      branch Sendable-in (not (isKind kind)) _ _ tt
+  sendable_in : Sendable-in (writing_of kind rate phase n room)
+  unfolding writing_of
+  sendable_in =
+      branch Sendable-in (not (is_kind kind)) _ _ tt
       (λ a. branch Sendable-in (not (is_code rate)) _ _ tt
-      (λ b. branch Sendable-in (not (goesWith (kind_of kind) (rateOf rate))) _ _ tt
-      (λ c. branch Sendable-in (not (isPayload (pos n))) _ _ tt
-      (λ d. branch Sendable-in (not (isPhase phase)) _ _ tt
-      (λ e. branch Sendable-in (ltb room (frameChips (kind_of kind) (rateOf rate) n)) _ _ tt
+      (λ b. branch Sendable-in (not (goes_with (kind_of kind) (rate_of rate))) _ _ tt
+      (λ c. branch Sendable-in (not (is_payload (pos n))) _ _ tt
+      (λ d. branch Sendable-in (not (is_phase phase)) _ _ tt
+      (λ e. branch Sendable-in (ltb room (frame_chips (kind_of kind) (rate_of rate) n)) _ _ tt
       (λ f. (
-        subst (λ (x : ℕ). Goes kind x (frontChips (kind_of kind)) (octetChips (rateOf rate)))
-            (sym (no-other-code rate (held _ b)))
-            (goes kind (rateOf rate) (held _ a) (held _ c)),
+        subst (λ (x : ℕ). Goes kind x (front_chips (kind_of kind)) (octet_chips (rate_of rate)))
+            (sym (no_other_code rate (held _ b)))
+            (goes kind (rate_of rate) (held _ a) (held _ c)),
         leb-true 1 n (left_is _ _ (held _ d)),
         leb-true n 4095 (right_is (leb 1 n) _ (held _ d)),
-        phase-most phase (held _ e),
-        nltb→le room (frameChips (kind_of kind) (rateOf rate) n) f,
+        phase_most phase (held _ e),
+        nltb→le room (frame_chips (kind_of kind) (rate_of rate) n) f,
       )))))))
 
-pub only-sent : OnlySent
-only-sent kind rate phase clock payload room w left octets wrote zero_is =
-    go (writingOf kind rate phase (length payload) room) (sendable-in kind rate phase payload room octets)
+pub only_sent : OnlySent
+only_sent kind rate phase clock payload room w left octets wrote zero_is =
+    go (writing_of kind rate phase (length payload) room) (sendable_in kind rate phase payload room octets)
     (ap (λ (v : Written). v.number) (sym wrote.answer) ∙ zero_is)
   where
     go : (g : Writing) → Sendable-in kind rate phase payload room octets g → (written_of g).number ≡ 0
@@ -105,12 +105,12 @@ only-sent kind rate phase clock payload room w left octets wrote zero_is =
     go (writing.Good k r c) p z = record {
       room = room;
       sendable = record {
-        front = frontChips (kind_of kind);
-        octet = octetChips (rateOf rate);
+        front = front_chips (kind_of kind);
+        octet = octet_chips (rate_of rate);
         goes = p.0;
         some = p.1;
         few = p.2;
-        phase-is = omega (arith, p.3);
+        phase_is = omega (arith, p.3);
         octets = octets;
       };
       holds = p.4;
@@ -118,34 +118,34 @@ only-sent kind rate phase clock payload room w left octets wrote zero_is =
     }
 
 -- ---- reading: what a front tells, then that the recording has the frame's chips, then room
-module _ (kind : ℕ) (rec : List Taken) (room : ℕ) (kind-is : isKind kind ≡ true) where
+module _ (kind : ℕ) (rec : List Taken) (room : ℕ) (kind-is : is_kind kind ≡ true) where
   abbrev k : Kind
   k = kind_of kind
 
   abbrev Readable-in : Reading → Type 0
   Readable-in (reading.Refused e) = Unit {0}
-  Readable-in (reading.Good t used least) = Readable kind (length rec) room (recordOf (reading.Good t used least))
+  Readable-in (reading.Good t used least) = Readable kind (length rec) room (record_of (reading.Good t used least))
 
   readable : (t : Told) → TellingWhole k rec t → t.n ≤ room
-      → (least : Least) → Readable-in (reading.Good t (frameChips k t.rate t.n) least)
+      → (least : Least) → Readable-in (reading.Good t (frame_chips k t.rate t.n) least)
   readable t h b least =
       let r = t.rate in
       record {
-        front = frontChips k;
-        octet = octetChips r;
+        front = front_chips k;
+        octet = octet_chips r;
         goes = goes kind r kind-is h.telling.goes;
-        some = h.telling.some-octets;
+        some = h.telling.some_octets;
         few = h.telling.few;
-        length-is = length-told h.telling;
-        used-is = refl;
+        length_is = length_told h.telling;
+        used_is = refl;
         there = h.there;
         fits = b;
-        clock-is = clock-lt t.clock;
+        clock_is = clock_lt t.clock;
       }
 
-  readable-in : (f : Front) → TellingWholeIf k rec f → Readable-in (afterFront k rec room f)
-  readable-in (front.Refused e) h = tt
-  readable-in (front.Fields t) h = go (payloadReading k t rec room) (payload-comes k t rec room)
+  readable_in : (f : Front) → TellingWholeIf k rec f → Readable-in (after_front k rec room f)
+  readable_in (front.Refused e) h = tt
+  readable_in (front.Fields t) h = go (payload_reading k t rec room) (payload_comes k t rec room)
     where
       go : (g : Reading) → PayloadIf k t rec room g → Readable-in g
       go (reading.Refused e) p = tt
@@ -157,32 +157,32 @@ module _ (kind : ℕ) (rec : List Taken) (room : ℕ) (kind-is : isKind kind ≡
 abbrev Agreed : ℕ → Bool → List Taken → ℕ → Reading → Type 0
 Agreed kind agree rec room (reading.Refused e) = Unit {0}
 Agreed kind agree rec room (reading.Good t used least) =
-    (agree ≡ true) × Readable kind (length rec) room (recordOf (reading.Good t used least))
+    (agree ≡ true) × Readable kind (length rec) room (record_of (reading.Good t used least))
 
 agreed : (kind : ℕ) (agree : Bool) (rec : List Taken) (room : ℕ)
     → Agreed kind agree rec room (reading_of kind agree rec room)
 unfolding reading_of
 agreed kind agree rec room =
-    branch (Agreed kind agree rec room) (not (isKind kind)) _ _ tt
+    branch (Agreed kind agree rec room) (not (is_kind kind)) _ _ tt
     (λ a. branch (Agreed kind agree rec room) (not agree) _ _ tt
-    (λ b. let f = whole_of (kind_of kind) rec (frontOf (kind_of kind) rec) in
-    let known = held (isKind kind) a in
-    with_rows known (held agree b) (afterFront (kind_of kind) rec room f)
-    (readable-in kind rec room known f (whole-telling (kind_of kind) rec))))
+    (λ b. let f = whole_of (kind_of kind) rec (front_of (kind_of kind) rec) in
+    let known = held (is_kind kind) a in
+    with_rows known (held agree b) (after_front (kind_of kind) rec room f)
+    (readable_in kind rec room known f (whole_telling (kind_of kind) rec))))
   where
-    with_rows : (known : isKind kind ≡ true) → agree ≡ true → (g : Reading) → Readable-in kind rec room known g
+    with_rows : (known : is_kind kind ≡ true) → agree ≡ true → (g : Reading) → Readable-in kind rec room known g
         → Agreed kind agree rec room g
     with_rows known e (reading.Refused x) h = tt
     with_rows known e (reading.Good t used least) h = (e, h)
 
-pub only-readable : OnlyReadable
-only-readable kind agree rec room a left read zero_is =
+pub only_readable : OnlyReadable
+only_readable kind agree rec room a left read zero_is =
     subst (λ (v : Record). (agree ≡ true) × Readable kind (length rec) room v) (sym read.answer)
     (go (reading_of kind agree rec room) (agreed kind agree rec room)
     (ap (λ (v : Record). v.number) (sym read.answer) ∙ zero_is))
   where
-    go : (g : Reading) → Agreed kind agree rec room g → (recordOf g).number ≡ 0
-        → (agree ≡ true) × Readable kind (length rec) room (recordOf g)
+    go : (g : Reading) → Agreed kind agree rec room g → (record_of g).number ≡ 0
+        → (agree ≡ true) × Readable kind (length rec) room (record_of g)
     go (reading.Refused e) p z = absurd (some_number e z)
     go (reading.Good t used least) p z = p
 
@@ -190,11 +190,11 @@ only-readable kind agree rec room a left read zero_is =
 abbrev Nothing : Record → Type 0
 Nothing v = (v.rate ≡ 0) × (v.n ≡ 0) × (v.used ≡ 0) × (v.clock ≡ 0) × (v.lead ≡ 0) × (v.symbol ≡ 0)
 
-pub refused-shows : RefusedShows
-refused-shows kind agree rec room a left read some_is =
+pub refused_shows : RefusedShows
+refused_shows kind agree rec room a left read some_is =
     subst (λ (v : Record). (v.number ≡ 0 → ⊥) → Nothing v) (sym read.answer) (go (reading_of kind agree rec room))
     some_is
   where
-    go : (g : Reading) → ((recordOf g).number ≡ 0 → ⊥) → Nothing (recordOf g)
+    go : (g : Reading) → ((record_of g).number ≡ 0 → ⊥) → Nothing (record_of g)
     go (reading.Refused e) h = (refl, refl, refl, refl, refl, refl)
     go (reading.Good t used least) h = absurd (h refl)

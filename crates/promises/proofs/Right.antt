@@ -15,76 +15,76 @@ use lib.IntN.{ℤ}
 use lib.Ieee.{Float, nan}
 use Rattle.rules_rates.specs.declared.Rate.{Rate}
 use Rattle.rules_rates.specs.declared.Rate.TheVariants.{One, Two, Five, Eleven}
-use Rattle.rules_rates.specs.Rates.{symbolChips, symbolBits, octetChips}
-use Rattle.rules_rates.proofs.Octets.{part-symbols, part-chips}
+use Rattle.rules_rates.specs.Rates.{symbol_chips, symbol_bits, octet_chips}
+use Rattle.rules_rates.proofs.Octets.{part_symbols, part_chips}
 use Rattle.rules_chips.specs.declared.Counts.{Counts}
 use Rattle.rules_chips.specs.declared.Chip.TheVariants.{Lost, Hard, Soft}
 use Rattle.rules_chips.specs.Floats.{usable}
 use Rattle.rules_chips.specs.Chips.{
   Taken,
   unusable,
-  isUnusable,
-  takenCounts,
+  is_unusable,
+  taken_counts,
   nothing,
-  usableSample,
-  countsOf,
-  exactOf,
-  hardChip,
-  hardTaken,
-  hardRecording,
-  softTaken,
-  softRecording,
-  byteRecording,
+  usable_sample,
+  counts_of,
+  exact_of,
+  hard_chip,
+  hard_taken,
+  hard_recording,
+  soft_taken,
+  soft_recording,
+  byte_recording,
 }
 use Rattle.rules_chips.specs.Bounds.{Apart}
-use Rattle.rules_chips.proofs.Bounds.{soft-near, hard-exact, lost-exact}
-use Rattle.rules_chips.proofs.Bytes.{bytes-usable, byte-exact}
-use Rattle.rules_chips.proofs.Recorders.{sample, taken-hard, taken-soft, unusable-hard, unusable-soft}
-use Rattle.rules_symbols.specs.Choice.{decided, leadOf}
+use Rattle.rules_chips.proofs.Bounds.{soft_near, hard_exact, lost_exact}
+use Rattle.rules_chips.proofs.Bytes.{bytes_usable, byte_exact_lem}
+use Rattle.rules_chips.proofs.Recorders.{sample, taken_hard, taken_soft, unusable_hard, unusable_soft}
+use Rattle.rules_symbols.specs.Choice.{decided, lead_of}
 use Rattle.rules_choosing.specs.Demand3.{RightUpTo, LeadsExactly}
-use Rattle.rules_choosing.proofs.Demand3.{demand-3, lead-says}
+use Rattle.rules_choosing.proofs.Demand3.{demand_3, lead_says}
 use Rattle.rules_frame.specs.declared.Kind.{Kind}
 use Rattle.rules_frame.specs.declared.Kind.TheVariants.{Long, Short}
-use Rattle.rules_frame.specs.Frame.{headerRate, frontChips, preambleLength, headerLength, preambleChips}
+use Rattle.rules_frame.specs.Frame.{header_rate, front_chips, preamble_length, header_length, preamble_chips}
 use Rattle.rules_reading.specs.Places.{UsableAt}
-use Rattle.rules_reading.specs.Reading.{decidedWords, preambleWords, headerWords, payloadWords}
-use Rattle.promises.specs.Calls.{in-hard, in-soft, in_bytes}
+use Rattle.rules_reading.specs.Reading.{decided_words, preamble_words, header_words, payload_words}
+use Rattle.promises.specs.Calls.{in_hard, in_soft, in_bytes}
 use Rattle.promises.specs.Right.{
-  exactFrom,
+  exact_from,
   EachRight,
   WholeRight,
   Keeps,
   RecordedRight,
-  exactHard,
-  exactSoft,
-  exactBytes,
+  exact_hard,
+  exact_soft,
+  exact_bytes,
   RowsRight,
 }
 
 -- the j-th of m words
 pub word_at : (r : Rate) (m j : ℕ) (cs : List Taken) → j < m
-    → get_or (decidedWords r m cs) j 0 ≡ decided r (map takenCounts (take (symbolChips r) (drop (j * symbolChips r) cs)))
-unfolding decidedWords
+    → get_or (decided_words r m cs) j 0 ≡ decided r (map taken_counts (take (symbol_chips r) (drop (j * symbol_chips r) cs)))
+unfolding decided_words
 word_at r zero j cs h = absurd (not-suc-le-zero h)
 word_at r (suc m) zero cs h =
-    ap (λ (x : ℕ). decided r (map takenCounts (take (symbolChips r) (drop x cs)))) (sym (zero-mul (symbolChips r)))
+    ap (λ (x : ℕ). decided r (map taken_counts (take (symbol_chips r) (drop x cs)))) (sym (zero-mul (symbol_chips r)))
 word_at r (suc m) (suc j) cs h =
-    word_at r m j (drop (symbolChips r) cs) (le_of_suc-le-suc h)
-    ∙ ap (λ (l : List Taken). decided r (map takenCounts (take (symbolChips r) l)))
-    (drop-drop (j * symbolChips r) (symbolChips r) cs
-    ∙ ap (λ (x : ℕ). drop x cs) (swapped (j * symbolChips r) (symbolChips r) ∙ sym (suc-mul j (symbolChips r))))
+    word_at r m j (drop (symbol_chips r) cs) (le_of_suc-le-suc h)
+    ∙ ap (λ (l : List Taken). decided r (map taken_counts (take (symbol_chips r) l)))
+    (drop-drop (j * symbol_chips r) (symbol_chips r) cs
+    ∙ ap (λ (x : ℕ). drop x cs) (swapped (j * symbol_chips r) (symbol_chips r) ∙ sym (suc-mul j (symbol_chips r))))
   where
     swapped : (a b : ℕ) → b + a ≡ a + b
     swapped a b = omega arith
 
 -- and of a part that starts at place `at`
-pub word-from : (r : Rate) (m at j : ℕ) (rec : List Taken) → j < m
-    → get_or (decidedWords r m (drop at rec)) j 0
-    ≡ decided r (map takenCounts (take (symbolChips r) (drop (at + j * symbolChips r) rec)))
-word-from r m at j rec h =
+pub word_from_lem : (r : Rate) (m at j : ℕ) (rec : List Taken) → j < m
+    → get_or (decided_words r m (drop at rec)) j 0
+    ≡ decided r (map taken_counts (take (symbol_chips r) (drop (at + j * symbol_chips r) rec)))
+word_from_lem r m at j rec h =
     word_at r m j (drop at rec) h
-    ∙ ap (λ (l : List Taken). decided r (map takenCounts (take (symbolChips r) l)))
-    (drop-drop (j * symbolChips r) at rec)
+    ∙ ap (λ (l : List Taken). decided r (map taken_counts (take (symbol_chips r) l)))
+    (drop-drop (j * symbol_chips r) at rec)
 
 -- ---- usable chips: each is one of the recording
 there : (rec : List Taken) (place : ℕ) → UsableAt rec place → place < length rec
@@ -92,96 +92,96 @@ there [] place t = absurd t
 there (c ∷ rec) zero t = omega arith
 there (c ∷ rec) (suc place) t = let h = there rec place t in omega arith
 
-some-chips : (r : Rate) → 0 < symbolChips r
-some-chips One = omega arith
-some-chips Two = omega arith
-some-chips Five = omega arith
-some-chips Eleven = omega arith
+some_chips : (r : Rate) → 0 < symbol_chips r
+some_chips One = omega arith
+some_chips Two = omega arith
+some_chips Five = omega arith
+some_chips Eleven = omega arith
 
 -- one symbol, whose chips are usable
 module _ (half : ℕ) (exact : List Counts) (rec : List Taken) (keeps : Keeps half exact rec) (r : Rate) (from : ℕ)
-    (ok : (i : ℕ) → i < symbolChips r → UsableAt rec (from + i)) where
+    (ok : (i : ℕ) → i < symbol_chips r → UsableAt rec (from + i)) where
   abbrev c : ℕ
-  c = symbolChips r
+  c = symbol_chips r
 
   abbrev counts : List Counts
-  counts = map takenCounts (take c (drop from rec))
+  counts = map taken_counts (take c (drop from rec))
 
   reaches : from + c ≤ length rec
-  reaches = omega (arith, some-chips r, there rec (from + (c - 1)) (ok (c - 1) (omega (arith, some-chips r))))
+  reaches = omega (arith, some_chips r, there rec (from + (c - 1)) (ok (c - 1) (omega (arith, some_chips r))))
 
-  counts-length : length counts ≡ c
-  counts-length =
-      length-map (take c (drop from rec)) takenCounts
+  counts_length : length counts ≡ c
+  counts_length =
+      length-map (take c (drop from rec)) taken_counts
       ∙ length-take-le c (drop from rec) (rw (length-drop from rec) (omega (arith, reaches)))
 
-  exact-length : length (take c (drop from exact)) ≡ c
-  exact-length =
+  exact_length : length (take c (drop from exact)) ≡ c
+  exact_length =
       length-take-le c (drop from exact) (rw (length-drop from exact, keeps.as_long) (omega (arith, reaches)))
 
-  counts-at : (i : ℕ) → i < c → get_or counts i nothing ≡ takenCounts (get_or rec (from + i) unusable)
-  counts-at i l =
-      get_or-map takenCounts (take c (drop from rec)) i unusable
-      ∙ ap takenCounts (get_or-take c (drop from rec) i unusable l ∙ get_or-drop from rec i unusable)
+  counts_at_lem : (i : ℕ) → i < c → get_or counts i nothing ≡ taken_counts (get_or rec (from + i) unusable)
+  counts_at_lem i l =
+      get_or-map taken_counts (take c (drop from rec)) i unusable
+      ∙ ap taken_counts (get_or-take c (drop from rec) i unusable l ∙ get_or-drop from rec i unusable)
 
-  exact-at : (i : ℕ) → i < c → get_or (take c (drop from exact)) i nothing ≡ get_or exact (from + i) nothing
-  exact-at i l = get_or-take c (drop from exact) i nothing l ∙ get_or-drop from exact i nothing
+  exact_at_lem : (i : ℕ) → i < c → get_or (take c (drop from exact)) i nothing ≡ get_or exact (from + i) nothing
+  exact_at_lem i l = get_or-take c (drop from exact) i nothing l ∙ get_or-drop from exact i nothing
 
   near : (i : ℕ) → i < c → Apart half (get_or counts i nothing) (get_or (take c (drop from exact)) i nothing)
-  near i l = rw (counts-at i l, exact-at i l) (keeps.near (from + i) (ok i l))
+  near i l = rw (counts_at_lem i l, exact_at_lem i l) (keeps.near (from + i) (ok i l))
 
-  symbol-right : RightUpTo (c * (2 * half)) r (take c (drop from exact)) (decided r counts)
-  symbol-right = demand-3 half r counts (take c (drop from exact)) counts-length exact-length near
+  symbol_right : RightUpTo (c * (2 * half)) r (take c (drop from exact)) (decided r counts)
+  symbol_right = demand_3 half r counts (take c (drop from exact)) counts_length exact_length near
 
-  pub symbol-sure : c * (2 * half) < leadOf r counts * 2 ^ 139
+  pub symbol_sure : c * (2 * half) < lead_of r counts * 2 ^ 139
       → LeadsExactly r (take c (drop from exact)) (decided r counts)
-  symbol-sure l = lead-says half r counts (take c (drop from exact)) counts-length exact-length near l
+  symbol_sure l = lead_says half r counts (take c (drop from exact)) counts_length exact_length near l
 
 module _ (half : ℕ) (exact : List Counts) (rec : List Taken) (keeps : Keeps half exact rec) (r : Rate) (m at : ℕ)
-    (ok : (place : ℕ) → at ≤ place → place < at + m * symbolChips r → UsableAt rec place) where
-  usable_at : (j : ℕ) → j < m → (i : ℕ) → i < symbolChips r → UsableAt rec (at + j * symbolChips r + i)
+    (ok : (place : ℕ) → at ≤ place → place < at + m * symbol_chips r → UsableAt rec place) where
+  usable_at : (j : ℕ) → j < m → (i : ℕ) → i < symbol_chips r → UsableAt rec (at + j * symbol_chips r + i)
   usable_at j h i l =
-      ok (at + j * symbolChips r + i) (omega arith)
-      (omega (arith, suc-mul j (symbolChips r), mul-le-mul_right (symbolChips r) h))
+      ok (at + j * symbol_chips r + i) (omega arith)
+      (omega (arith, suc-mul j (symbol_chips r), mul-le-mul_right (symbol_chips r) h))
 
-  pub each_right : EachRight half r m at (decidedWords r m (drop at rec)) exact
+  pub each_right : EachRight half r m at (decided_words r m (drop at rec)) exact
   each_right j h =
-      subst (RightUpTo (symbolChips r * (2 * half)) r (exactFrom r (at + j * symbolChips r) exact))
-      (sym (word-from r m at j rec h))
-      (symbol-right half exact rec keeps r (at + j * symbolChips r) (usable_at j h))
+      subst (RightUpTo (symbol_chips r * (2 * half)) r (exact_from r (at + j * symbol_chips r) exact))
+      (sym (word_from_lem r m at j rec h))
+      (symbol_right half exact rec keeps r (at + j * symbol_chips r) (usable_at j h))
 
 -- ---- the front's two parts, and the payload
-preamble-in : (k : Kind) → 0 + preambleLength k * symbolChips One ≤ frontChips k
-preamble-in Long = omega arith
-preamble-in Short = omega arith
+preamble_in : (k : Kind) → 0 + preamble_length k * symbol_chips One ≤ front_chips k
+preamble_in Long = omega arith
+preamble_in Short = omega arith
 
-header-in : (k : Kind)
-    → preambleChips k + headerLength / symbolBits (headerRate k) * symbolChips (headerRate k) ≤ frontChips k
-header-in Long = omega arith
-header-in Short = omega arith
+header_in : (k : Kind)
+    → preamble_chips k + header_length / symbol_bits (header_rate k) * symbol_chips (header_rate k) ≤ front_chips k
+header_in Long = omega arith
+header_in Short = omega arith
 
-whole-symbols : (r : Rate) (n : ℕ) → 8 * n / symbolBits r * symbolChips r ≡ octetChips r * n
-whole-symbols r n = mul_comm (8 * n / symbolBits r) (symbolChips r) ∙ rw (part-symbols r n) (part-chips r n)
+whole_symbols_lem : (r : Rate) (n : ℕ) → 8 * n / symbol_bits r * symbol_chips r ≡ octet_chips r * n
+whole_symbols_lem r n = mul_comm (8 * n / symbol_bits r) (symbol_chips r) ∙ rw (part_symbols r n) (part_chips r n)
 
-pub recorded-right : RecordedRight
-unfolding preambleWords headerWords payloadWords
-recorded-right half exact rec keeps =
+pub recorded_right : RecordedRight
+unfolding preamble_words header_words payload_words
+recorded_right half exact rec keeps =
     record {
       preamble = λ k ok.
-          each_right half exact rec keeps One (preambleLength k) 0
-          (λ place g h. ok place (omega (arith, preamble-in k)));
+          each_right half exact rec keeps One (preamble_length k) 0
+          (λ place g h. ok place (omega (arith, preamble_in k)));
       header = λ k ok.
-          each_right half exact rec keeps (headerRate k) (headerLength / symbolBits (headerRate k)) (preambleChips k)
-          (λ place g h. ok place (omega (arith, header-in k)));
+          each_right half exact rec keeps (header_rate k) (header_length / symbol_bits (header_rate k)) (preamble_chips k)
+          (λ place g h. ok place (omega (arith, header_in k)));
       payload = λ k r n ok.
-          each_right half exact rec keeps r (8 * n / symbolBits r) (frontChips k)
-          (λ place g h. ok place g (omega (arith, whole-symbols r n)));
+          each_right half exact rec keeps r (8 * n / symbol_bits r) (front_chips k)
+          (λ place g h. ok place g (omega (arith, whole_symbols_lem r n)));
     }
 
 -- ---- where other words say that chips are good
-where-good : {half : ℕ} {good better : ℕ → Type 0} {exact : List Counts} {rec : List Taken}
+where_good : {half : ℕ} {good better : ℕ → Type 0} {exact : List Counts} {rec : List Taken}
     → ((place : ℕ) → better place → good place) → WholeRight half good exact rec → WholeRight half better exact rec
-where-good f w =
+where_good f w =
     record {
       preamble = λ k ok. w.preamble k (λ place h. f place (ok place h));
       header = λ k ok. w.header k (λ place h. f place (ok place h));
@@ -189,98 +189,98 @@ where-good f w =
     }
 
 -- ---- hard recordings keep their chips exactly
-hard-apart : (x : ℕ) → Apart 0 (takenCounts (hardTaken x)) (exactOf (hardChip x))
-hard-apart x = subst (λ t. Apart 0 t (exactOf (hardChip x))) (sym (taken-hard x)) (go (eqb x 4))
+hard_apart : (x : ℕ) → Apart 0 (taken_counts (hard_taken x)) (exact_of (hard_chip x))
+hard_apart x = subst (λ t. Apart 0 t (exact_of (hard_chip x))) (sym (taken_hard x)) (go (eqb x 4))
   where
-    go : (b : Bool) → Apart 0 (countsOf (cond b Lost (Hard x))) (exactOf (cond b Lost (Hard x)))
-    go true = lost-exact
-    go false = hard-exact x
+    go : (b : Bool) → Apart 0 (counts_of (cond b Lost (Hard x))) (exact_of (cond b Lost (Hard x)))
+    go true = lost_exact
+    go false = hard_exact x
 
-pub hard-keeps : (octets : List ℕ) → Keeps 0 (exactHard octets) (hardRecording octets)
-unfolding hardRecording
-hard-keeps octets =
+pub hard_keeps : (octets : List ℕ) → Keeps 0 (exact_hard octets) (hard_recording octets)
+unfolding hard_recording
+hard_keeps octets =
     record {
-      as_long = length-map octets (λ x. exactOf (hardChip x)) ∙ sym (length-map octets hardTaken);
+      as_long = length-map octets (λ x. exactOf (hard_chip x)) ∙ sym (length-map octets hard_taken);
       near = near octets;
     }
   where
-    near : (octets : List ℕ) (place : ℕ) → UsableAt (map hardTaken octets) place
-        → Apart 0 (takenCounts (get_or (map hardTaken octets) place unusable)) (get_or (exactHard octets) place nothing)
+    near : (octets : List ℕ) (place : ℕ) → UsableAt (map hard_taken octets) place
+        → Apart 0 (taken_counts (get_or (map hard_taken octets) place unusable)) (get_or (exact_hard octets) place nothing)
     near [] place t = absurd t
-    near (x ∷ octets) zero t = hard-apart x
+    near (x ∷ octets) zero t = hard_apart x
     near (x ∷ octets) (suc place) t = near octets place t
 
-pub hard-good : (octets : List ℕ) (place : ℕ) → get_or octets place 5 ≤ 4 → UsableAt (hardRecording octets) place
-unfolding hardRecording
-hard-good octets place h =
+pub hard_good : (octets : List ℕ) (place : ℕ) → get_or octets place 5 ≤ 4 → UsableAt (hard_recording octets) place
+unfolding hard_recording
+hard_good octets place h =
     let x = get_or octets place 5 in
-    rw (get_or-map hardTaken octets place 5, unusable-hard x, le-leb x 4 h) tt
+    rw (get_or-map hard_taken octets place 5, unusable_hard x, le-leb x 4 h) tt
 
 -- ---- soft recordings keep theirs up to half a count
-pub soft-used : (x y : Float) → T (not (isUnusable (softTaken x y))) → T (usableSample (sample x y))
-soft-used x y t = go (usableSample (sample x y)) (isUnusable (softTaken x y)) (unusable-soft x y) t
+pub soft_used : (x y : Float) → T (not (is_unusable (soft_taken x y))) → T (usable_sample (sample x y))
+soft_used x y t = go (usable_sample (sample x y)) (is_unusable (soft_taken x y)) (unusable_soft x y) t
   where
     go : (u v : Bool) → v ≡ not u → T (not v) → T u
     go true v e t = tt
     go false v e t = subst (λ (b : Bool). T (not b)) e t
 
-soft-apart : (x y : Float) → T (not (isUnusable (softTaken x y)))
-    → Apart (2 ^ 138) (takenCounts (softTaken x y)) (exactOf (Soft (sample x y)))
-soft-apart x y t =
-    subst (λ t. Apart (2 ^ 138) t (exactOf (Soft (sample x y)))) (sym (taken-soft x y))
-    (soft-near (sample x y) (soft-used x y t))
+soft_apart : (x y : Float) → T (not (is_unusable (soft_taken x y)))
+    → Apart (2 ^ 138) (taken_counts (soft_taken x y)) (exact_of (Soft (sample x y)))
+soft_apart x y t =
+    subst (λ t. Apart (2 ^ 138) t (exact_of (Soft (sample x y)))) (sym (taken_soft x y))
+    (soft_near (sample x y) (soft_used x y t))
 
-pub soft-keeps : (i q : List Float) → Keeps (2 ^ 138) (exactSoft i q) (softRecording i q)
-unfolding exactSoft softRecording
-soft-keeps i q = record { as_long = as_long i q; near = near i q }
+pub soft_keeps : (i q : List Float) → Keeps (2 ^ 138) (exact_soft i q) (soft_recording i q)
+unfolding exact_soft soft_recording
+soft_keeps i q = record { as_long = as_long i q; near = near i q }
   where
-    as_long : (i q : List Float) → length (exactSoft i q) ≡ length (softRecording i q)
+    as_long : (i q : List Float) → length (exact_soft i q) ≡ length (soft_recording i q)
     as_long [] q = refl
     as_long (x ∷ i) [] = refl
     as_long (x ∷ i) (y ∷ q) = ap suc (as_long i q)
 
-    near : (i q : List Float) (place : ℕ) → UsableAt (softRecording i q) place
-        → Apart (2 ^ 138) (takenCounts (get_or (softRecording i q) place unusable)) (get_or (exactSoft i q) place nothing)
+    near : (i q : List Float) (place : ℕ) → UsableAt (soft_recording i q) place
+        → Apart (2 ^ 138) (taken_counts (get_or (soft_recording i q) place unusable)) (get_or (exact_soft i q) place nothing)
     near [] q place t = absurd t
     near (x ∷ i) [] place t = absurd t
-    near (x ∷ i) (y ∷ q) zero t = soft-apart x y t
+    near (x ∷ i) (y ∷ q) zero t = soft_apart x y t
     near (x ∷ i) (y ∷ q) (suc place) t = near i q place t
 
-pub soft-good : (i q : List Float) (place : ℕ) → T (usable (get_or i place nan)) × T (usable (get_or q place nan))
-    → UsableAt (softRecording i q) place
-unfolding softRecording usable
-soft-good [] q place u = absurd u.0
-soft-good (x ∷ i) [] place u = absurd u.1
-soft-good (x ∷ i) (y ∷ q) zero u = rw (unusable-soft x y) (twice (usable x) (usable y) u.0 u.1)
+pub soft_good : (i q : List Float) (place : ℕ) → T (usable (get_or i place nan)) × T (usable (get_or q place nan))
+    → UsableAt (soft_recording i q) place
+unfolding soft_recording usable
+soft_good [] q place u = absurd u.0
+soft_good (x ∷ i) [] place u = absurd u.1
+soft_good (x ∷ i) (y ∷ q) zero u = rw (unusable_soft x y) (twice (usable x) (usable y) u.0 u.1)
   where
     twice : (a b : Bool) → T a → T b → T (not (not (a && b)))
     twice true true s t = tt
     twice true false s t = t
     twice false b s t = s
-soft-good (x ∷ i) (y ∷ q) (suc place) u = soft-good i q place u
+soft_good (x ∷ i) (y ∷ q) (suc place) u = soft_good i q place u
 
 -- ---- byte recordings keep theirs exactly
-pub bytes-keep : (bytes : List ℤ) → Keeps 0 (exactBytes bytes) (byteRecording bytes)
-unfolding exactBytes byteRecording
-bytes-keep bytes = record { as_long = as_long bytes; near = near bytes }
+pub bytes_keep : (bytes : List ℤ) → Keeps 0 (exact_bytes bytes) (byte_recording bytes)
+unfolding exact_bytes byte_recording
+bytes_keep bytes = record { as_long = as_long bytes; near = near bytes }
   where
-    as_long : (bytes : List ℤ) → length (exactBytes bytes) ≡ length (byteRecording bytes)
+    as_long : (bytes : List ℤ) → length (exact_bytes bytes) ≡ length (byte_recording bytes)
     as_long [] = refl
     as_long (x ∷ []) = refl
     as_long (x ∷ y ∷ bytes) = ap suc (as_long bytes)
 
-    near : (bytes : List ℤ) (place : ℕ) → UsableAt (byteRecording bytes) place
-        → Apart 0 (takenCounts (get_or (byteRecording bytes) place unusable)) (get_or (exactBytes bytes) place nothing)
+    near : (bytes : List ℤ) (place : ℕ) → UsableAt (byte_recording bytes) place
+        → Apart 0 (taken_counts (get_or (byte_recording bytes) place unusable)) (get_or (exact_bytes bytes) place nothing)
     near [] place t = absurd t
     near (x ∷ []) place t = absurd t
-    near (x ∷ y ∷ bytes) zero t = byte-exact x y
+    near (x ∷ y ∷ bytes) zero t = byte_exact_lem x y
     near (x ∷ y ∷ bytes) (suc place) t = near bytes place t
 
-pub bytes_good : (bytes : List ℤ) (place : ℕ) → 2 * place + 1 < length bytes → UsableAt (byteRecording bytes) place
-bytes_good bytes place h = rw (bytes-usable bytes place (omega arith)) tt
+pub bytes_good : (bytes : List ℤ) (place : ℕ) → 2 * place + 1 < length bytes → UsableAt (byte_recording bytes) place
+bytes_good bytes place h = rw (bytes_usable bytes place (omega arith)) tt
 
 -- ---- so each of them is read right
 pub rows_right : RowsRight
-rows_right (in-hard octets) = where-good (hard-good octets) (recorded-right 0 _ _ (hard-keeps octets))
-rows_right (in-soft i q) = where-good (soft-good i q) (recorded-right (2 ^ 138) _ _ (soft-keeps i q))
-rows_right (in_bytes bytes) = where-good (bytes_good bytes) (recorded-right 0 _ _ (bytes-keep bytes))
+rows_right (in_hard octets) = where_good (hard_good octets) (recorded_right 0 _ _ (hard_keeps octets))
+rows_right (in_soft i q) = where_good (soft_good i q) (recorded_right (2 ^ 138) _ _ (soft_keeps i q))
+rows_right (in_bytes bytes) = where_good (bytes_good bytes) (recorded_right 0 _ _ (bytes_keep bytes))

@@ -9,101 +9,101 @@ use lib.Dec.{T}
 use lib.ListN.{length, take, drop}
 use lib.Seq.{drop_at}
 use Rattle.rules_rates.specs.declared.Rate.{Rate}
-use Rattle.rules_rates.specs.Rates.{rateOf, lengthField}
+use Rattle.rules_rates.specs.Rates.{rate_of, length_field}
 use Rattle.rules_rates.specs.Plain.{LengthOf}
-use Rattle.rules_chips.specs.Chips.{Taken, hardRecording}
-use Rattle.rules_chips.proofs.Recorders.{drop-hard}
+use Rattle.rules_chips.specs.Chips.{Taken, hard_recording}
+use Rattle.rules_chips.proofs.Recorders.{drop_hard}
 use Rattle.rules_frame.specs.declared.Kind.{Kind}
 use Rattle.rules_frame.specs.Frame.{kind_of}
 use Rattle.rules_calls.specs.declared.Written.{Written}
 use Rattle.rules_calls.specs.declared.Told.{Told}
 use Rattle.rules_calls.specs.declared.Front.TheVariants.{Fields}
-use Rattle.rules_reading.specs.Reading.{frontOf}
+use Rattle.rules_reading.specs.Reading.{front_of}
 use Rattle.rules_finding.specs.declared.NotFound.TheVariants.{NoKind, NoOffsets, NoStart}
 use Rattle.rules_finding.specs.declared.Finding.{Finding}
 use Rattle.rules_finding.specs.declared.Finding.TheVariants.{Refused, Start}
 use Rattle.rules_finding.specs.declared.Found.{Found}
-use Rattle.rules_finding.specs.Finding.{findingOf, foundOf}
-use Rattle.rules_finding.proofs.Laws.{Missed, StartsAt, offsets-tried, FindingIf, finding-comes}
+use Rattle.rules_finding.specs.Finding.{finding_of, found_of}
+use Rattle.rules_finding.proofs.Laws.{Missed, StartsAt, offsets_tried, FindingIf, finding_comes}
 use Rattle.promises.specs.Calls.{Finds, shown, Sent}
-use Rattle.promises.specs.Finding.{startFound, SentFound}
+use Rattle.promises.specs.Finding.{start_found, SentFound}
 use Rattle.promises.proofs.Back as back
-use Rattle.promises.proofs.SentTold.{sentTold, begun-told}
+use Rattle.promises.proofs.SentTold.{sent_told, begun_told}
 
 -- ---- chips that are read as the frame's front, behind others
 module _ (kind rate phase clock : ℕ) (payload : List ℕ) (w : Written) (chips : List ℕ)
     (s : Sent kind rate phase clock payload w chips) (behind : List ℕ)
-    (is-told : frontOf (kind_of kind) (hardRecording behind) ≡ Fields (sentTold kind rate phase clock payload w chips s))
+    (is-told : front_of (kind_of kind) (hard_recording behind) ≡ Fields (sent_told kind rate phase clock payload w chips s))
     (before : List ℕ) (offsets : ℕ) (below : length before < offsets) (few : offsets ≤ 4096) where
   abbrev k : Kind
   k = kind_of kind
 
   abbrev r : Rate
-  r = rateOf rate
+  r = rate_of rate
 
   abbrev n : ℕ
   n = length payload
 
   abbrev t : Told
-  t = sentTold kind rate phase clock payload w chips s
+  t = sent_told kind rate phase clock payload w chips s
 
   abbrev rec : List Taken
-  rec = hardRecording (before ++ behind)
+  rec = hard_recording (before ++ behind)
 
   pair : back.Known kind rate s.sendable.front s.sendable.octet
   pair = back.pair kind rate phase clock payload w chips s
 
-  told-there : frontOf k (drop (length before) rec) ≡ Fields t
-  told-there =
-      ap (frontOf k)
-      (drop-hard (length before) (before ++ behind)
-      ∙ ap hardRecording (drop_at before behind (length before) refl))
+  told_there : front_of k (drop (length before) rec) ≡ Fields t
+  told_there =
+      ap (front_of k)
+      (drop_hard (length before) (before ++ behind)
+      ∙ ap hard_recording (drop_at before behind (length before) refl))
       ∙ is-told
 
-  not-missed : Missed (frontOf k (drop (length before) rec)) → ⊥
-  not-missed h = subst Missed told-there h
+  not_missed : Missed (front_of k (drop (length before) rec)) → ⊥
+  not_missed h = subst Missed told_there h
 
   -- what is said of every answer
   abbrev Says : Found → Type 0
   Says f =
       (f.number ≡ 0) × (f.offset ≤ length before)
-      × (f.offset ≡ length before → f ≡ startFound (length before) rate (lengthField r n) (shown clock) n)
+      × (f.offset ≡ length before → f ≡ start_found (length before) rate (length_field r n) (shown clock) n)
 
-  the_frame : foundOf (Start (length before) t) ≡ startFound (length before) rate (lengthField r n) (shown clock) n
-  the_frame = rw (pair.code-back, back.shown-is clock)
+  the_frame : found_of (Start (length before) t) ≡ start_found (length before) rate (length_field r n) (shown clock) n
+  the_frame = rw (pair.code_back, back.shown_is clock)
 
   one_told : (u : Told) → Fields u ≡ Fields t → u ≡ t
   one_told u e = cc
 
-  start-says : (offset : ℕ) (u : Told) → StartsAt k 0 offsets rec offset u → Says (foundOf (Start offset u))
-  start-says offset u h =
-      let i : h.i ≡ offset = omega (arith, h.offset-is) in (
+  start_says : (offset : ℕ) (u : Told) → StartsAt k 0 offsets rec offset u → Says (found_of (Start offset u))
+  start_says offset u h =
+      let i : h.i ≡ offset = omega (arith, h.offset_is) in (
         refl,
         by (dec_le offset (length before)),
-        λ e. let same : frontOf k (drop (length before) rec) ≡ Fields u = rw (← e, ← i) h.told-there in
+        λ e. let same : front_of k (drop (length before) rec) ≡ Fields u = rw (← e, ← i) h.told_there in
             ap (λ (m : ℕ). foundOf (Start m u)) e
-            ∙ ap (λ (v : Told). foundOf (Start (length before) v)) (one_told u (sym same ∙ told-there)) ∙ the_frame,
+            ∙ ap (λ (v : Told). foundOf (Start (length before) v)) (one_told u (sym same ∙ told_there)) ∙ the_frame,
       )
     where
       by : Dec (offset ≤ length before) → offset ≤ length before
       by (yes l) = l
-      by (no l) = absurd (not-missed (h.before (length before) (omega (arith, h.offset-is, l))))
+      by (no l) = absurd (not_missed (h.before (length before) (omega (arith, h.offset_is, l))))
 
-  says : (g : Finding) → FindingIf kind offsets rec g → Says (foundOf g)
-  says (Refused NoKind) h = absurd (subst T (sym pair.kind-is ∙ h) tt)
+  says : (g : Finding) → FindingIf kind offsets rec g → Says (found_of g)
+  says (Refused NoKind) h = absurd (subst T (sym pair.kind_is ∙ h) tt)
   says (Refused NoOffsets) h =
-      absurd (subst T (sym (offsets-tried offsets (omega (arith, below)) few) ∙ h.1) tt)
-  says (Refused NoStart) h = absurd (not-missed (h.1 (length before) below))
-  says (Start offset u) h = start-says offset u h.1
+      absurd (subst T (sym (offsets_tried offsets (omega (arith, below)) few) ∙ h.1) tt)
+  says (Refused NoStart) h = absurd (not_missed (h.1 (length before) below))
+  says (Start offset u) h = start_says offset u h.1
 
-  pub found-there : (l : ℕ) → LengthOf rate n l → (f : Found) → Finds kind offsets (before ++ behind) f
+  pub found_there : (l : ℕ) → LengthOf rate n l → (f : Found) → Finds kind offsets (before ++ behind) f
       → (f.number ≡ 0) × (f.offset ≤ length before)
-      × (f.offset ≡ length before → f ≡ startFound (length before) rate l (shown clock) n)
-  found-there l d f x =
-      rw (← back.length-sent kind rate phase clock payload w chips s d)
-      (subst Says (sym x.answer) (says (findingOf kind offsets rec) (finding-comes kind offsets rec)))
+      × (f.offset ≡ length before → f ≡ start_found (length before) rate l (shown clock) n)
+  found_there l d f x =
+      rw (← back.length_sent kind rate phase clock payload w chips s d)
+      (subst Says (sym x.answer) (says (finding_of kind offsets rec) (finding_comes kind offsets rec)))
 
-pub sent-found : SentFound
-sent-found kind rate phase clock payload w chips s l d before tail offsets f below few x =
-    found-there kind rate phase clock payload w chips s (take s.sendable.front chips ++ tail)
-    (begun-told kind rate phase clock payload w chips s tail) before offsets below few l d f x
+pub sent_found : SentFound
+sent_found kind rate phase clock payload w chips s l d before tail offsets f below few x =
+    found_there kind rate phase clock payload w chips s (take s.sendable.front chips ++ tail)
+    (begun_told kind rate phase clock payload w chips s tail) before offsets below few l d f x

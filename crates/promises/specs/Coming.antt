@@ -7,11 +7,11 @@ use Rattle.rules_rates.specs.Plain.{LengthOf}
 use Rattle.rules_calls.specs.declared.Written.{Written}
 use Rattle.rules_calls.specs.declared.Record.{Record}
 use Rattle.rules_coming.specs.declared.Coming.{Coming}
-use Rattle.promises.specs.Calls.{ReadHard, ReadFront, Handed, good, refusedAt, refused, shown, Goes, Sent}
+use Rattle.promises.specs.Calls.{ReadHard, ReadFront, Handed, good, refused_at, refused, shown, Goes, Sent}
 
 -- an answer that refuses
-abbrev pub refusedComing : ℕ → ℕ → ℕ → Coming
-refusedComing number place l =
+abbrev pub refused_coming : ℕ → ℕ → ℕ → Coming
+refused_coming number place l =
     record {
       number = number;
       place = place;
@@ -25,8 +25,8 @@ refusedComing number place l =
     }
 
 -- and one that tells of n octets, their chips after the front
-abbrev pub toldComing : ℕ → ℕ → ℕ → ℕ → ℕ → ℕ → Coming
-toldComing rate l clock n front count =
+abbrev pub told_coming : ℕ → ℕ → ℕ → ℕ → ℕ → ℕ → Coming
+told_coming rate l clock n front count =
     record {
       number = 0;
       place = 0;
@@ -46,11 +46,11 @@ pub data FrontOf (kind front : ℕ) : Type 0 where
 -- ---- a refusal is 1 where the kind is none, and only there; else it is 8 to 16, and a place lies in the front. All
 -- else is 0, and the part is empty
 pub record WhenRefused (kind : ℕ) (chips : List ℕ) (c : Coming) : Type 0 where
-  pub only : c ≡ refusedComing c.number c.place c.length
-  pub no_kind : 2 ≤ kind → c ≡ refusedComing 1 0 0
-  pub from-8 : (front : ℕ) → FrontOf kind front → 8 ≤ c.number
-  pub to-16 : c.number ≤ 16
-  pub in-front : (front : ℕ) → FrontOf kind front → c.place < front
+  pub only : c ≡ refused_coming c.number c.place c.length
+  pub no_kind : 2 ≤ kind → c ≡ refused_coming 1 0 0
+  pub from_8 : (front : ℕ) → FrontOf kind front → 8 ≤ c.number
+  pub to_16 : c.number ≤ 16
+  pub in_front : (front : ℕ) → FrontOf kind front → c.place < front
   pub no_part : (part : List ℕ) → Handed c chips part → part ≡ []
 
 -- promise: A front refuses with 1 where the kind is none, else with 8 to 16, a place in the front; all else is 0 and
@@ -70,7 +70,7 @@ abbrev pub RefusedAlike : Type 0
 RefusedAlike =
     (kind : ℕ) (chips : List ℕ) (c : Coming) (room : ℕ) (a : Record) (left : List ℕ)
     → ReadFront kind chips c → ReadHard kind chips room a left → (c.number ≡ 0 → ⊥)
-    → a ≡ refusedAt c.number c.place c.length
+    → a ≡ refused_at c.number c.place c.length
 
 -- ---- an answer with number 0 tells a rate of its kind, 1 to 4,095 octets and their LENGTH, a clock bit, and the chips
 -- of a frame that the recording has; the part is the payload's chips
@@ -80,11 +80,11 @@ pub record WhenTold (kind : ℕ) (chips : List ℕ) (c : Coming) : Type 0 where
   pub goes : Goes kind c.rate front octet
   pub some : 1 ≤ c.n
   pub few : c.n ≤ 4095
-  pub clock-is : c.clock < 2
-  pub length-is : LengthOf c.rate c.n c.length
-  pub only : c ≡ toldComing c.rate c.length c.clock c.n front (octet * c.n)
+  pub clock_is : c.clock < 2
+  pub length_is : LengthOf c.rate c.n c.length
+  pub only : c ≡ told_coming c.rate c.length c.clock c.n front (octet * c.n)
   pub there : c.used ≤ length chips
-  pub part-is : (part : List ℕ) → Handed c chips part → part ≡ take (c.used - front) (drop front chips)
+  pub part_is : (part : List ℕ) → Handed c chips part → part ≡ take (c.used - front) (drop front chips)
 
 -- promise: A front that is not refused tells a rate of its kind, n from 1 to 4,095, its LENGTH, a clock bit of 0 or 1,
 -- and the chips of a frame that the recording has; the part is the payload's chips
@@ -98,10 +98,10 @@ FrontTold =
 -- the full reader, with room for n octets: good with the same rate, LENGTH, n, chips used and clock bit, and a lead
 -- that the front does not tell, or a 9 or 10 in the payload with the same LENGTH, a 10 at 1 Mbit/s only
 pub data ComesTo (c : Coming) : Record → Type 0 where
-  comes-good : (lead symbol : ℕ) → ComesTo c (good c.rate c.length c.n c.used c.clock lead symbol)
-  comes-9 : (place : ℕ) → c.at ≤ place → place < c.used → ComesTo c (refusedAt 9 place c.length)
-  comes-10 : (place : ℕ) → c.rate ≡ 10 → c.at ≤ place → place < c.used
-      → ComesTo c (refusedAt 10 place c.length)
+  comes_good : (lead symbol : ℕ) → ComesTo c (good c.rate c.length c.n c.used c.clock lead symbol)
+  comes_9 : (place : ℕ) → c.at ≤ place → place < c.used → ComesTo c (refused_at 9 place c.length)
+  comes_10 : (place : ℕ) → c.rate ≡ 10 → c.at ≤ place → place < c.used
+      → ComesTo c (refused_at 10 place c.length)
 
 -- promise: Where a front tells, the full reader with room for n is good with the same rate, LENGTH, n, chips used and
 -- clock bit, and a lead that no front tells, or refuses with 9, or at 1 Mbit/s with 10, at a place in the part with the
@@ -137,10 +137,10 @@ SentTold =
     → (tail : List ℕ) (c : Coming) → ReadFront kind (take s.sendable.front chips ++ tail) c
     → (s.sendable.octet * length payload ≤ length tail
     → (c
-    ≡ toldComing rate l (shown clock) (length payload) s.sendable.front (s.sendable.octet * length payload))
+    ≡ told_coming rate l (shown clock) (length payload) s.sendable.front (s.sendable.octet * length payload))
     × ((part : List ℕ) → Handed c (take s.sendable.front chips ++ tail) part
     → part ≡ take (s.sendable.octet * length payload) tail))
-    × (length tail < s.sendable.octet * length payload → c ≡ refusedComing 16 0 l)
+    × (length tail < s.sendable.octet * length payload → c ≡ refused_coming 16 0 l)
 
 -- promise: A part, for any record and any recording: those chips, or none where the recording does not have them
 -- rule: 6.15

@@ -12,8 +12,8 @@ use Rattle.promises.specs.Calls.{
   Read,
   ReadBytes,
   Rows,
-  in-hard,
-  in-soft,
+  in_hard,
+  in_soft,
   in_bytes,
   ReadRows,
   refused,
@@ -38,11 +38,11 @@ pub record Readable (kind : ℕ) (chips room : ℕ) (a : Record) : Type 0 where
   pub goes : Goes kind a.rate front octet
   pub some : 1 ≤ a.n
   pub few : a.n ≤ 4095
-  pub length-is : LengthOf a.rate a.n a.length
-  pub used-is : a.used ≡ front + octet * a.n
+  pub length_is : LengthOf a.rate a.n a.length
+  pub used_is : a.used ≡ front + octet * a.n
   pub there : a.used ≤ chips
   pub fits : a.n ≤ room
-  pub clock-is : a.clock < 2
+  pub clock_is : a.clock < 2
 
 -- promise: Nothing else is read: number 0 tells a kind and a rate that goes with it, n from 1 to 4,095, its LENGTH and
 -- chips, a clock bit of 0 or 1, and there was room
@@ -65,8 +65,8 @@ RefusedShows =
 
 -- rows that agree: as many of Q as of I, two bytes for each chip; hard ones always do
 abbrev pub Agree : Rows → Type 0
-Agree (in-hard octets) = Unit {0}
-Agree (in-soft i q) = length i ≡ length q
+Agree (in_hard octets) = Unit {0}
+Agree (in_soft i q) = length i ≡ length q
 Agree (in_bytes bytes) = length bytes % 2 ≡ 0
 
 -- promise: Soft rows that differ in length and an odd number of bytes are refused with 7 under either kind, whatever is

@@ -9,17 +9,17 @@
 use Rattle.std.specs.Prelude.{ℕ, ◌+◌, ◌-◌, ◌*◌, ◌%◌, ◌≤◌, ◌<◌, ◌≡◌, Bool, cond, List, [], ◌∷◌, ◌++◌, map, length, take, drop, replicate, T, eqb, Float}
 use Rattle.base.specs.Below.{Below}
 use Rattle.rules_rates.specs.declared.Rate.TheVariants.{One}
-use Rattle.rules_rates.specs.Rates.{rateOf}
+use Rattle.rules_rates.specs.Rates.{rate_of}
 use Rattle.rules_rates.specs.Plain.{LengthOf}
-use Rattle.rules_chips.specs.Floats.{usable, value_of, countOf, Nearest}
-use Rattle.rules_chips.specs.Chips.{Taken, hardRecording}
-use Rattle.rules_bits.specs.Code.{wordsChips}
+use Rattle.rules_chips.specs.Floats.{usable, value_of, count_of, Nearest}
+use Rattle.rules_chips.specs.Chips.{Taken, hard_recording}
+use Rattle.rules_bits.specs.Code.{words_chips}
 use Rattle.rules_calls.specs.declared.Written.{Written}
 use Rattle.rules_calls.specs.declared.Record.{Record}
-use Rattle.rules_frame.specs.Frame.{kind_of, headerRate, clockOf, frame}
+use Rattle.rules_frame.specs.Frame.{kind_of, header_rate, clock_of, frame}
 use Rattle.rules_frame.specs.TableP.{TableP}
-use Rattle.rules_reading.specs.Reading.{preambleWords, headerWords, payloadWords}
-use Rattle.rules_clean.specs.Clean.{Exactly, softI, softQ}
+use Rattle.rules_reading.specs.Reading.{preamble_words, header_words, payload_words}
+use Rattle.rules_clean.specs.Clean.{Exactly, soft_i, soft_q}
 use Rattle.promises.specs.Calls.{
   Wrote,
   Read,
@@ -29,8 +29,8 @@ use Rattle.promises.specs.Calls.{
   good,
   refused,
   shown,
-  sentLead,
-  sentSymbol,
+  sent_lead,
+  sent_symbol,
   Sent,
   ReadOf,
 }
@@ -92,7 +92,7 @@ WrittenFrame =
     (s : Sent kind rate phase clock payload w chips)
     → (w.number ≡ 0)
     × (w.chips ≡ s.sendable.front + s.sendable.octet * length payload)
-    × (take w.chips chips ≡ frame (kind_of kind) (rateOf rate) phase (clockOf clock) payload)
+    × (take w.chips chips ≡ frame (kind_of kind) (rate_of rate) phase (clock_of clock) payload)
 
 -- promise: Every chip of a frame that was written is that of the word that its symbol is read as
 -- rule: 1.4 (2), 3.1, 3.2
@@ -102,14 +102,14 @@ SentWords =
     (kind rate phase clock : ℕ) (payload : List ℕ) (w : Written) (chips : List ℕ)
     → Sent kind rate phase clock payload w chips
     → take w.chips chips
-    ≡ wordsChips One (preambleWords (kind_of kind) (hardRecording chips))
-    ++ (wordsChips (headerRate (kind_of kind)) (headerWords (kind_of kind) (hardRecording chips))
-    ++ wordsChips (rateOf rate) (payloadWords (kind_of kind) (rateOf rate) (length payload) (hardRecording chips)))
+    ≡ words_chips One (preamble_words (kind_of kind) (hard_recording chips))
+    ++ (words_chips (header_rate (kind_of kind)) (header_words (kind_of kind) (hard_recording chips))
+    ++ words_chips (rate_of rate) (payload_words (kind_of kind) (rate_of rate) (length payload) (hard_recording chips)))
 
 -- the phases of a frame's first eight symbols, by kind and starting phase: of the scrambled bits of Table P 1 and 2,
 -- each 1 is a half turn
-abbrev pub beginsWith : ℕ → ℕ → List ℕ
-beginsWith kind p =
+abbrev pub begins_with : ℕ → ℕ → List ℕ
+begins_with kind p =
     let h = (p + 2) % 4 in
     cond (eqb kind 0) (p ∷ h ∷ p ∷ h ∷ p ∷ h ∷ p ∷ p ∷ []) (p ∷ p ∷ p ∷ h ∷ p ∷ p ∷ p ∷ h ∷ [])
 
@@ -121,9 +121,9 @@ abbrev pub SentBegins : Type 0
 SentBegins =
     (kind rate phase clock : ℕ) (payload : List ℕ) (w : Written) (chips : List ℕ)
     → Sent kind rate phase clock payload w chips
-    → (take 88 chips ≡ wordsChips One (beginsWith kind phase))
+    → (take 88 chips ≡ words_chips One (begins_with kind phase))
     × ((at sfd ones b : ℕ) → BitsOf kind at sfd ones → 8 ≤ b → b < at
-    → FrontField kind (hardRecording chips) b 1 (1 - kind))
+    → FrontField kind (hard_recording chips) b 1 (1 - kind))
 
 -- promise: What was written is read back, whatever follows it, under its kind and with room: number 0, rate, LENGTH, n,
 -- chips used, clock bit, payload, and the lead of a clean frame (11,264 counts at symbol 0 at 1 and 2 Mbit/s, 8,192 at
@@ -138,7 +138,7 @@ ReadBack =
     → Sent kind rate phase clock payload w chips → (l : ℕ) → LengthOf rate (length payload) l
     → (after room : ℕ) (a : Record) (left : List ℕ) → ReadOf kind (take w.chips chips) after room a left
     → length payload ≤ room
-    → (a ≡ good rate l (length payload) w.chips (shown clock) (sentLead rate) (sentSymbol kind rate))
+    → (a ≡ good rate l (length payload) w.chips (shown clock) (sent_lead rate) (sent_symbol kind rate))
     × (left ≡ payload ++ replicate (room - length payload) 0)
 
 -- promise: For any phases there are soft rows that hold them as exact pairs, with either zero for 0
@@ -146,8 +146,8 @@ ReadBack =
 abbrev pub SoftRows : Type 0
 SoftRows =
     (phases : List ℕ) → Below 4 phases
-    → Exactly phases (map (softI 0) phases) (map (softQ 0) phases)
-    × Exactly phases (map (softI 0x8000_0000) phases) (map (softQ 0x8000_0000) phases)
+    → Exactly phases (map (soft_i 0) phases) (map (soft_q 0) phases)
+    × Exactly phases (map (soft_i 0x8000_0000) phases) (map (soft_q 0x8000_0000) phases)
 
 -- promise: What was written, from any of the three recorders: with too little room 17 with LENGTH; cut in the payload
 -- 16 with LENGTH, whatever the room; cut in the front 8; nothing else is shown
@@ -184,7 +184,7 @@ PhaseTurns =
 -- rule: 2.6
 -- code: count
 abbrev pub HalfACount : Type 0
-HalfACount = (x : Float) → T (usable x) → Nearest (value_of x) (countOf x)
+HalfACount = (x : Float) → T (usable x) → Nearest (value_of x) (count_of x)
 
 -- promise: The contract of each call allows exactly one answer for each input, and one final buffer or part
 -- rule: 9.2
@@ -195,39 +195,39 @@ OneAnswer = (c : Call) (v v' : Answer c) → Allows c v → Allows c v' → v �
 
 -- ---- all of it
 pub record Promised : Type 0 where
-  pub write-fills : WriteFills
-  pub read-fills : ReadFills
-  pub write-answers : WriteAnswers
-  pub read-answers : ReadAnswers
-  pub octets-decoded : OctetsDecoded
-  pub only-sent : OnlySent
-  pub only-readable : OnlyReadable
-  pub refused-shows : RefusedShows
-  pub rows-refused : RowsRefused
-  pub no-byte-unusable : NoByteUnusable
-  pub written-frame : WrittenFrame
-  pub sent-words : SentWords
-  pub sent-begins : SentBegins
+  pub write_fills : WriteFills
+  pub read_fills : ReadFills
+  pub write_answers : WriteAnswers
+  pub read_answers : ReadAnswers
+  pub octets_decoded : OctetsDecoded
+  pub only_sent : OnlySent
+  pub only_readable : OnlyReadable
+  pub refused_shows : RefusedShows
+  pub rows_refused : RowsRefused
+  pub no_byte_unusable : NoByteUnusable
+  pub written_frame : WrittenFrame
+  pub sent_words : SentWords
+  pub sent_begins : SentBegins
   pub read_back : ReadBack
-  pub not-read-back : NotReadBack
-  pub one-source : OneSource
-  pub phase-turns : PhaseTurns
-  pub soft-rows : SoftRows
-  pub half-a-count : HalfACount
-  pub recorded-right : RecordedRight
+  pub not_read_back : NotReadBack
+  pub one_source : OneSource
+  pub phase_turns : PhaseTurns
+  pub soft_rows : SoftRows
+  pub half_a_count : HalfACount
+  pub recorded_right : RecordedRight
   pub rows_right : RowsRight
-  pub least-told : LeastTold
-  pub rows-sure : RowsSure
+  pub least_told : LeastTold
+  pub rows_sure : RowsSure
   pub one_answer : OneAnswer
-  pub front-refused : FrontRefused
-  pub refused-alike : RefusedAlike
-  pub front-told : FrontTold
-  pub told-alike : ToldAlike
-  pub front-only : FrontOnly
-  pub sent-told : SentTold
-  pub handed-part : HandedPart
-  pub not-tried : NotTried
-  pub start-found : StartFound
+  pub front_refused : FrontRefused
+  pub refused_alike : RefusedAlike
+  pub front_told : FrontTold
+  pub told_alike : ToldAlike
+  pub front_only : FrontOnly
+  pub sent_told_lem : SentTold
+  pub handed_part : HandedPart
+  pub not_tried : NotTried
+  pub start_found_lem : StartFound
   pub none_found : NoneFound
-  pub sent-found : SentFound
-  pub table-p : TableP
+  pub sent_found : SentFound
+  pub table_p : TableP

@@ -11,21 +11,21 @@ pub data WriteAnswer (kind rate phase n room : ℕ) : ℕ → ℕ → Type 0 whe
   -- 1: kind is neither 0 nor 1
   no_kind : 2 ≤ kind → WriteAnswer kind rate phase n room 1 0
   -- 2: rate code is not one of the four
-  no-rate : kind < 2 → (rate ≡ 10 → ⊥) → (rate ≡ 20 → ⊥) → (rate ≡ 55 → ⊥) → (rate ≡ 110 → ⊥)
+  no_rate : kind < 2 → (rate ≡ 10 → ⊥) → (rate ≡ 20 → ⊥) → (rate ≡ 55 → ⊥) → (rate ≡ 110 → ⊥)
       → WriteAnswer kind rate phase n room 2 0
   -- 3: rate code 10 with the short kind
-  short-at-1 : kind ≡ 1 → rate ≡ 10 → WriteAnswer kind rate phase n room 3 0
+  short_at_1 : kind ≡ 1 → rate ≡ 10 → WriteAnswer kind rate phase n room 3 0
   -- 4: payload is 0 octets or above 4,095
-  no-octets : {front octet : ℕ} → Goes kind rate front octet → n ≡ 0 → WriteAnswer kind rate phase n room 4 0
-  many-octets : {front octet : ℕ} → Goes kind rate front octet → 4095 < n → WriteAnswer kind rate phase n room 4 0
+  no_octets : {front octet : ℕ} → Goes kind rate front octet → n ≡ 0 → WriteAnswer kind rate phase n room 4 0
+  many_octets : {front octet : ℕ} → Goes kind rate front octet → 4095 < n → WriteAnswer kind rate phase n room 4 0
   -- 5: starting phase above 3
-  no-phase : {front octet : ℕ} → Goes kind rate front octet → 1 ≤ n → n ≤ 4095 → 3 < phase
+  no_phase : {front octet : ℕ} → Goes kind rate front octet → 1 ≤ n → n ≤ 4095 → 3 < phase
       → WriteAnswer kind rate phase n room 5 0
   -- 6: chip buffer shorter than the frame
   no_room : {front octet : ℕ} → Goes kind rate front octet → 1 ≤ n → n ≤ 4095 → phase ≤ 3
       → room < front + octet * n → WriteAnswer kind rate phase n room 6 0
   -- else 0, and the frame's chips
-  is-written : {front octet : ℕ} → Goes kind rate front octet → 1 ≤ n → n ≤ 4095 → phase ≤ 3
+  is_written : {front octet : ℕ} → Goes kind rate front octet → 1 ≤ n → n ≤ 4095 → phase ≤ 3
       → front + octet * n ≤ room → WriteAnswer kind rate phase n room 0 (front + octet * n)
 
 -- promise: A write refuses with 1 to 6, each exactly when its rule says so and none before it holds, and tells no

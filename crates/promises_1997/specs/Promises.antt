@@ -6,7 +6,7 @@
 -- Definitions only. Assumes nothing.
 use Rattle.std.specs.Prelude.{ℕ, ◌-◌, ◌≤◌, ◌≡◌, true, List, ◌++◌, length, take, drop, replicate}
 use Rattle.rules_rates.specs.Plain.{LengthOf}
-use Rattle.rules_chips.specs.Chips.{Taken, hardRecording}
+use Rattle.rules_chips.specs.Chips.{Taken, hard_recording}
 use Rattle.rules_calls.specs.declared.Written.{Written}
 use Rattle.rules_calls.specs.declared.Record.{Record}
 use Rattle.rules_calls.specs.Plain.{Rate1997}
@@ -29,14 +29,14 @@ Fills1997 =
 pub data Answer1997 (rec : List Taken) (room : ℕ) : Record → Type 0 where
   -- 8, 9 and 10 over the front, 11 and 12, as a read under the long kind has them. They show no LENGTH; all others with
   -- a number up to 12, a payload's 9 and 10 and an accepted frame, do
-  before-13 : {a : Record} → a.number ≤ 12 → a.length ≡ 0 → ReadAnswer 0 true rec room a → Answer1997 rec room a
+  before_13 : {a : Record} → a.number ≤ 12 → a.length ≡ 0 → ReadAnswer 0 true rec room a → Answer1997 rec room a
   -- 13: SIGNAL is neither 10 nor 20; 14: SERVICE is not 0. Both with the header's LENGTH
-  is-13 : {signal service l : ℕ} → HasHeader 0 true rec signal service l → (Rate1997 signal → ⊥)
+  is_13 : {signal service l : ℕ} → HasHeader 0 true rec signal service l → (Rate1997 signal → ⊥)
       → Answer1997 rec room (refused 13 l)
-  is-14 : {signal service l : ℕ} → HasHeader 0 true rec signal service l → Rate1997 signal → (service ≡ 0 → ⊥)
+  is_14 : {signal service l : ℕ} → HasHeader 0 true rec signal service l → Rate1997 signal → (service ≡ 0 → ⊥)
       → Answer1997 rec room (refused 14 l)
   -- and what comes from 15 on, as a read under the long kind has it
-  from-15 : {a : Record} {signal l : ℕ} → HasHeader 0 true rec signal 0 l → Rate1997 signal
+  from_15 : {a : Record} {signal l : ℕ} → HasHeader 0 true rec signal 0 l → Rate1997 signal
       → ReadAnswer 0 true rec room a → Answer1997 rec room a
 
 -- promise: A guide of 1997 answers by the numbers, in their order, each exactly when its rule says so and none before
@@ -48,8 +48,8 @@ pub data Answer1997 (rec : List Taken) (room : ℕ) : Record → Type 0 where
 abbrev pub Answers1997 : Type 0
 Answers1997 =
     (chips : List ℕ) (room : ℕ) (a : Record) (left : List ℕ) → Read1997 chips room a left
-    → ((b : Record) → Answer1997 (hardRecording chips) room b → SameButLead a b)
-    × Answer1997 (hardRecording chips) room a
+    → ((b : Record) → Answer1997 (hard_recording chips) room b → SameButLead a b)
+    × Answer1997 (hard_recording chips) room a
 
 -- promise: Beside our own long read of the same recording: unless a guide answers 13 or 14, record and octets are ours,
 -- so what it accepts we accept alike; where we refuse with 8 to 12 for the front, it does, alike; and the LENGTH shown
@@ -118,10 +118,10 @@ OneAnswer1997 =
 
 -- ---- all of it
 pub record GuidesPromised : Type 0 where
-  pub fills-1997 : Fills1997
-  pub answers-1997 : Answers1997
-  pub beside-ours : BesideOurs
-  pub accepted-ours : AcceptedOurs
-  pub sent-1997 : Sent1997
-  pub begun-1997 : Begun1997
-  pub one-answer-1997 : OneAnswer1997
+  pub fills_1997 : Fills1997
+  pub answers_1997 : Answers1997
+  pub beside_ours : BesideOurs
+  pub accepted_ours : AcceptedOurs
+  pub sent_1997 : Sent1997
+  pub begun_1997 : Begun1997
+  pub one_answer_1997 : OneAnswer1997

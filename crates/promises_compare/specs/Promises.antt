@@ -104,10 +104,10 @@ OneComparison =
 
 -- ---- all of it
 pub record ComparePromised : Type 0 where
-  pub compared-reads : ComparedReads
-  pub compared-shows : ComparedShows
-  pub compared-fits : ComparedFits
-  pub compared-itself : ComparedItself
-  pub compared-exchanged : ComparedExchanged
-  pub compared-gives : ComparedGives
-  pub one-comparison : OneComparison
+  pub compared_reads : ComparedReads
+  pub compared_shows : ComparedShows
+  pub compared_fits : ComparedFits
+  pub compared_itself : ComparedItself
+  pub compared_exchanged : ComparedExchanged
+  pub compared_gives : ComparedGives
+  pub one_comparison : OneComparison

@@ -1,43 +1,43 @@
 -- What is promised of spoiled frames is kept. Assumes nothing.
-use Rattle.rules_damage.proofs.Facts.{eleven-past, five-lost, five-wrong, two-lost, two-wrong, one-lost, one-wrong}
-use Rattle.rules_damage.proofs.Most.{eleven-most}
-use Rattle.rules_damage.proofs.SymbolStands.{decided-sent, lead-sent}
+use Rattle.rules_damage.proofs.Facts.{eleven_past, five_lost, five_wrong, two_lost, two_wrong, one_lost, one_wrong}
+use Rattle.rules_damage.proofs.Most.{eleven_most}
+use Rattle.rules_damage.proofs.SymbolStands.{decided_sent, lead_sent}
 use Rattle.promises_damage.specs.Promises.{SymbolStands, LimitsTight, DamagePromised}
-use Rattle.promises_damage.proofs.SpoiledBack.{spoiled-read-back, spoiled-counted}
-use Rattle.promises_damage.proofs.SpoiledCompared.{spoiled-compared}
-use Rattle.promises_damage.proofs.Spoiled1997.{spoiled-1997}
-use Rattle.promises_damage.proofs.SpoiledFront.{spoiled-told, spoiled-found}
-use Rattle.promises_damage.proofs.Symbols.{in-one-symbol, damage-row, any-damage}
+use Rattle.promises_damage.proofs.SpoiledBack.{spoiled_read_back, spoiled_counted}
+use Rattle.promises_damage.proofs.SpoiledCompared.{spoiled_compared}
+use Rattle.promises_damage.proofs.Spoiled1997.{spoiled_1997}
+use Rattle.promises_damage.proofs.SpoiledFront.{spoiled_told, spoiled_found}
+use Rattle.promises_damage.proofs.Symbols.{in_one_symbol, damage_row, any_damage}
 
-symbol-stands : SymbolStands
-symbol-stands rate n rec limit wrong lost s few = (
-  decided-sent rate n rec limit wrong lost s few,
-  lead-sent rate n rec limit wrong lost s few,
+symbol_stands : SymbolStands
+symbol_stands rate n rec limit wrong lost s few = (
+  decided_sent rate n rec limit wrong lost s few,
+  lead_sent rate n rec limit wrong lost s few,
 )
 
-limits-tight : LimitsTight
-limits-tight = record {
-  eleven-lost = eleven-past;
-  five-lost = five-lost;
-  five-wrong = five-wrong;
-  two-lost = two-lost;
-  two-wrong = two-wrong;
-  one-lost = one-lost;
-  one-wrong = one-wrong;
+limits_tight : LimitsTight
+limits_tight = record {
+  eleven_lost = eleven_past;
+  five_lost = five_lost;
+  five_wrong = five_wrong;
+  two_lost = two_lost;
+  two_wrong = two_wrong;
+  one_lost = one_lost;
+  one_wrong = one_wrong;
 }
 
 pub kept : DamagePromised
 kept = record {
-  spoiled-read-back = spoiled-read-back;
-  spoiled-told = spoiled-told;
-  spoiled-found = spoiled-found;
-  spoiled-counted = spoiled-counted;
-  spoiled-compared = spoiled-compared;
-  spoiled-1997 = spoiled-1997;
-  symbol-stands = symbol-stands;
-  limits-tight = limits-tight;
-  words-apart = eleven-most;
-  in-one-symbol = in-one-symbol;
-  damage-row = damage-row;
-  any-damage = any-damage;
+  spoiled_read_back = spoiled_read_back;
+  spoiled_told = spoiled_told;
+  spoiled_found = spoiled_found;
+  spoiled_counted = spoiled_counted;
+  spoiled_compared = spoiled_compared;
+  spoiled_1997 = spoiled_1997;
+  symbol_stands = symbol_stands;
+  limits_tight = limits_tight;
+  words_apart = eleven_most;
+  in_one_symbol = in_one_symbol;
+  damage_row = damage_row;
+  any_damage = any_damage;
 }

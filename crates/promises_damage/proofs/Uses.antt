@@ -7,9 +7,9 @@ use native.Mathlib.Nat.{mul-zero}
 use native.Mathlib.Omega.{arith}
 use lib.ListN.{length, get_or, take, replicate}
 use Rattle.base.specs.Below.{Below}
-use Rattle.base.proofs.Below.{below-take}
-use Rattle.base.proofs.SoMany.{many-once}
-use Rattle.rules_rates.specs.Rates.{rateOf}
+use Rattle.base.proofs.Below.{below_take}
+use Rattle.base.proofs.SoMany.{many_once}
+use Rattle.rules_rates.specs.Rates.{rate_of}
 use Rattle.rules_rates.specs.Plain.{LengthOf}
 use Rattle.rules_frame.specs.Frame.{kind_of}
 use Rattle.rules_calls.specs.declared.Written.{Written}
@@ -20,13 +20,13 @@ use Rattle.rules_report.specs.declared.Report.{Report}
 use Rattle.rules_report.specs.declared.Counted.{Counted}
 use Rattle.rules_report.specs.Report.{Limits}
 use Rattle.rules_report.specs.Shares.{rates, FullRows}
-use Rattle.rules_damage.specs.Damage.{frameDamage}
+use Rattle.rules_damage.specs.Damage.{frame_damage}
 use Rattle.rules_damage.specs.Plain.{FrontSymbols, PayloadSymbols, SymbolAt, SpoiledBy}
 use Rattle.promises.specs.Calls.{ReadHard, ReadFront, Handed, Finds, refused, shown, Sent}
-use Rattle.promises.specs.Coming.{refusedComing, toldComing}
-use Rattle.promises.specs.Finding.{startFound}
+use Rattle.promises.specs.Coming.{refused_coming, told_coming}
+use Rattle.promises.specs.Finding.{start_found}
 use Rattle.promises.proofs.Back as back
-use Rattle.promises.proofs.SentTold.{begun-is, begun-long}
+use Rattle.promises.proofs.SentTold.{begun_is, begun_long}
 use Rattle.promises_report.specs.Calls.{Adds}
 use Rattle.promises_damage.proofs.Kept.{kept}
 
@@ -52,15 +52,15 @@ module _ (kind rate phase clock : ℕ) (payload : List ℕ) (sw : Written) (chip
       subst (λ (x : List ℕ). Below 4 x) (sym (back.taken kind rate phase clock payload sw chips s))
       (back.phases kind rate phase clock payload sw chips s)
 
-  sent-long : length sent ≡ front + count
-  sent-long =
-      back.taken-long kind rate phase clock payload sw chips s
-      ∙ back.w-chips kind rate phase clock payload sw chips s
+  sent_long : length sent ≡ front + count
+  sent_long =
+      back.taken_long kind rate phase clock payload sw chips s
+      ∙ back.w_chips kind rate phase clock payload sw chips s
       ∙ back.size kind rate phase clock payload sw chips s
 
   pub whole : SpoiledBy kind rate n sent w t w' t'
   whole =
-      kept.any-damage kind rate front s.sendable.octet n each c limit s.sendable.goes u sent phases sent-long
+      kept.any_damage kind rate front s.sendable.octet n each c limit s.sendable.goes u sent phases sent_long
       w t w' t' few few'
 
   -- it is read back, and its row of damage has just these numbers
@@ -71,7 +71,7 @@ module _ (kind rate phase clock : ℕ) (payload : List ℕ) (sw : Written) (chip
       × (a.clock ≡ shown clock) × (a.place ≡ 0) × (1024 ≤ a.lead) × (left ≡ payload ++ replicate (room - n) 0))
       × (room < n → (a ≡ refused 17 l) × (left ≡ replicate room 0))
   read_through tail room a left f =
-      let told = kept.spoiled-read-back kind rate phase clock payload sw chips s l d whole.rec tail whole.stands
+      let told = kept.spoiled_read_back kind rate phase clock payload sw chips s l d whole.rec tail whole.stands
       room a left f in (
         (λ h.
             let e = (told.0 h).0 in (
@@ -89,34 +89,34 @@ module _ (kind rate phase clock : ℕ) (payload : List ℕ) (sw : Written) (chip
       )
 
   abbrev row : List ℕ
-  row = frameDamage (kind_of kind) (rateOf rate) n sent whole.rec
+  row = frame_damage (kind_of kind) (rate_of rate) n sent whole.rec
 
-  rec-long : length whole.rec ≡ front + count
-  rec-long = whole.stands.same_length ∙ sent-long
+  rec_long : length whole.rec ≡ front + count
+  rec_long = whole.stands.same_length ∙ sent_long
 
-  pub row-front : (f x at chips' limit' : ℕ) → FrontSymbols kind f → SymbolAt kind rate n x at chips' limit' → x < f
+  pub row_front : (f x at chips' limit' : ℕ) → FrontSymbols kind f → SymbolAt kind rate n x at chips' limit' → x < f
       → (length row ≡ 2 * (f + each * n)) × (get_or row (2 * x) 0 ≡ w) × (get_or row (suc (2 * x)) 0 ≡ t)
-  row-front f x at chips' limit' table is below =
-      let counted = kept.damage-row kind rate front s.sendable.octet n s.sendable.goes sent whole.rec
-      (omega (arith, sent-long)) (omega (arith, rec-long)) in
-      let own = whole.in-the-front f x at chips' limit' table is below in (
+  row_front f x at chips' limit' table is below =
+      let counted = kept.damage_row kind rate front s.sendable.octet n s.sendable.goes sent whole.rec
+      (omega (arith, sent_long)) (omega (arith, rec_long)) in
+      let own = whole.in_the_front f x at chips' limit' table is below in (
         counted.0 f each c limit table u,
-        many-once (counted.1 x at chips' limit' is).0 own.0,
-        many-once (counted.1 x at chips' limit' is).1 own.1,
+        many_once (counted.1 x at chips' limit' is).0 own.0,
+        many_once (counted.1 x at chips' limit' is).1 own.1,
       )
 
-  pub row-payload : (f x at chips' limit' : ℕ) → FrontSymbols kind f → SymbolAt kind rate n x at chips' limit' → f ≤ x
+  pub row_payload : (f x at chips' limit' : ℕ) → FrontSymbols kind f → SymbolAt kind rate n x at chips' limit' → f ≤ x
       → (get_or row (2 * x) 0 ≡ w') × (get_or row (suc (2 * x)) 0 ≡ t')
-  row-payload f x at chips' limit' table is from =
-      let counted = kept.damage-row kind rate front s.sendable.octet n s.sendable.goes sent whole.rec
-      (omega (arith, sent-long)) (omega (arith, rec-long)) in
-      let own = whole.in-the-payload f x at chips' limit' table is from in (
-        many-once (counted.1 x at chips' limit' is).0 own.0,
-        many-once (counted.1 x at chips' limit' is).1 own.1,
+  row_payload f x at chips' limit' table is from =
+      let counted = kept.damage_row kind rate front s.sendable.octet n s.sendable.goes sent whole.rec
+      (omega (arith, sent_long)) (omega (arith, rec_long)) in
+      let own = whole.in_the_payload f x at chips' limit' table is from in (
+        many_once (counted.1 x at chips' limit' is).0 own.0,
+        many_once (counted.1 x at chips' limit' is).1 own.1,
       )
 
   -- ---- it is counted as the frame that it was
-  pub counted-through : (tail : List ℕ) (p : Report) (q : Counted) → Limits p → FullRows p
+  pub counted_through : (tail : List ℕ) (p : Report) (q : Counted) → Limits p → FullRows p
       → Adds p kind (whole.rec ++ tail) q
       → (q.number ≡ 0)
       × ((j : ℕ) → j < 4 → get_or rates j 0 ≡ rate
@@ -130,32 +130,32 @@ module _ (kind rate phase clock : ℕ) (payload : List ℕ) (sw : Written) (chip
       → (get_or q.report.frames j 0 ≡ get_or p.frames j 0 + 0)
       × (get_or q.report.octets j 0 ≡ get_or p.octets j 0 + 0))
       × ((number : ℕ) → number < 18 → get_or q.report.refused number 0 ≡ get_or p.refused number 0 + 0)
-  counted-through tail p q within rows adds =
-      let told = kept.spoiled-counted kind rate phase clock payload sw chips s l d whole.rec tail whole.stands
+  counted_through tail p q within rows adds =
+      let told = kept.spoiled_counted kind rate phase clock payload sw chips s l d whole.rec tail whole.stands
       p q within rows adds in
       let more = told.1.one_more in (
         told.0,
         (λ j h e. (
-          more.frames-more j 1 h ((λ x. refl), λ g. absurd (g (refl, sym e))),
-          more.octets-more j n h ((λ x. refl), λ g. absurd (g (refl, sym e))),
+          more.frames_more j 1 h ((λ x. refl), λ g. absurd (g (refl, sym e))),
+          more.octets_more j n h ((λ x. refl), λ g. absurd (g (refl, sym e))),
         )),
-        (λ e. more.airtime-more (192 + l) (record {
+        (λ e. more.airtime_more (192 + l) (record {
           long = λ x y. refl;
           short = λ x y. absurd (y e);
           refused = λ x. absurd (x refl);
         })),
-        (λ e. more.airtime-more (96 + l) (record {
+        (λ e. more.airtime_more (96 + l) (record {
           long = λ x y. absurd (e y);
           short = λ x y. refl;
           refused = λ x. absurd (x refl);
         })),
-        (λ e. subst (λ (x : ℕ). 1024 ≤ x) (sym (more.first-lead refl e).1) told.1.clear),
+        (λ e. subst (λ (x : ℕ). 1024 ≤ x) (sym (more.first_lead refl e).1) told.1.clear),
         more.seen_more,
         (λ j h ne. (
-          more.frames-more j 0 h ((λ x. absurd (ne (sym x.1))), λ g. refl),
-          more.octets-more j 0 h ((λ x. absurd (ne (sym x.1))), λ g. refl),
+          more.frames_more j 0 h ((λ x. absurd (ne (sym x.1))), λ g. refl),
+          more.octets_more j 0 h ((λ x. absurd (ne (sym x.1))), λ g. refl),
         )),
-        λ number h. more.refused-more number 0 h ((λ x. absurd (x.0 refl)), λ g. refl),
+        λ number h. more.refused_more number 0 h ((λ x. absurd (x.0 refl)), λ g. refl),
       )
 
   -- ---- its front alone, whatever follows it
@@ -164,27 +164,27 @@ module _ (kind rate phase clock : ℕ) (payload : List ℕ) (sw : Written) (chip
 
   pub alone : SpoiledBy kind rate 0 begun w t w' t'
   alone =
-      kept.any-damage kind rate front s.sendable.octet 0 each c limit s.sendable.goes u begun
-      (subst (λ (x : List ℕ). Below 4 x) (sym (begun-is kind rate phase clock payload sw chips s))
-      (below-take front (back.phases kind rate phase clock payload sw chips s)))
-      (begun-long kind rate phase clock payload sw chips s ∙ no-octets front s.sendable.octet)
+      kept.any_damage kind rate front s.sendable.octet 0 each c limit s.sendable.goes u begun
+      (subst (λ (x : List ℕ). Below 4 x) (sym (begun_is kind rate phase clock payload sw chips s))
+      (below_take front (back.phases kind rate phase clock payload sw chips s)))
+      (begun_long kind rate phase clock payload sw chips s ∙ no_octets front s.sendable.octet)
       w t w' t' few few'
     where
-      no-octets : (a b : ℕ) → a ≡ a + b * 0
-      no-octets a b = omega (arith, mul-zero b)
+      no_octets : (a b : ℕ) → a ≡ a + b * 0
+      no_octets a b = omega (arith, mul-zero b)
 
-  pub told-through : (tail : List ℕ) (x : Coming) → ReadFront kind (alone.rec ++ tail) x
+  pub told_through : (tail : List ℕ) (x : Coming) → ReadFront kind (alone.rec ++ tail) x
       → (count ≤ length tail
-      → (x ≡ toldComing rate l (shown clock) n front count)
+      → (x ≡ told_coming rate l (shown clock) n front count)
       × ((part : List ℕ) → Handed x (alone.rec ++ tail) part → part ≡ take count tail))
-      × (length tail < count → x ≡ refusedComing 16 0 l)
-  told-through tail x f =
-      kept.spoiled-told kind rate phase clock payload sw chips s l d alone.rec tail alone.stands x f
+      × (length tail < count → x ≡ refused_coming 16 0 l)
+  told_through tail x f =
+      kept.spoiled_told kind rate phase clock payload sw chips s l d alone.rec tail alone.stands x f
 
-  pub found-through : (before tail : List ℕ) (offsets : ℕ) (f : Found) → length before < offsets → offsets ≤ 4096
+  pub found_through : (before tail : List ℕ) (offsets : ℕ) (f : Found) → length before < offsets → offsets ≤ 4096
       → Finds kind offsets (before ++ (alone.rec ++ tail)) f
       → (f.number ≡ 0) × (f.offset ≤ length before)
-      × (f.offset ≡ length before → f ≡ startFound (length before) rate l (shown clock) n)
-  found-through before tail offsets f below most x =
-      kept.spoiled-found kind rate phase clock payload sw chips s l d alone.rec tail alone.stands before offsets
+      × (f.offset ≡ length before → f ≡ start_found (length before) rate l (shown clock) n)
+  found_through before tail offsets f below most x =
+      kept.spoiled_found kind rate phase clock payload sw chips s l d alone.rec tail alone.stands before offsets
       f below most x

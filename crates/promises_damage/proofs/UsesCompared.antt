@@ -1,5 +1,5 @@
 -- Uses of the statement about two recordings that stand their damage: one frame and two receivers, each with its own
--- damage, where no octet differs (`heard-alike`); and two frames (`heard-apart`). Assumes nothing.
+-- damage, where no octet differs (`heard_alike`); and two frames (`heard_apart`). Assumes nothing.
 use mathlib.Core.Path.{◌≡◌, ap, ◌∙◌}
 use mathlib.Core.List.{List, ◌++◌}
 use Prim.Native.Nat.{ℕ, ◌*◌, ◌≤◌}
@@ -7,7 +7,7 @@ use lib.ListN.{length, take}
 use Rattle.rules_calls.specs.declared.Written.{Written}
 use Rattle.rules_compare.specs.declared.Compared.{Compared}
 use Rattle.rules_compare.specs.Plain.{DifferAt, Listed}
-use Rattle.rules_compare.proofs.Shown.{shows, shows-once}
+use Rattle.rules_compare.proofs.Shown.{shows, shows_once}
 use Rattle.rules_compare.proofs.Pairs.{itself}
 use Rattle.rules_damage.specs.Plain.{FrameStands}
 use Rattle.promises.specs.Calls.{Sent}
@@ -15,7 +15,7 @@ use Rattle.promises_compare.specs.Calls.{Compares}
 use Rattle.promises_damage.proofs.Kept.{kept}
 
 -- one frame and two receivers, each with its own damage
-heard-alike : (kind rate phase clock : ℕ) (p : List ℕ) (w : Written) (sent : List ℕ)
+heard_alike : (kind rate phase clock : ℕ) (p : List ℕ) (w : Written) (sent : List ℕ)
     → Sent kind rate phase clock p w sent → (rec rec' tail tail' : List ℕ)
     → FrameStands kind rate (length p) (take w.chips sent) rec
     → FrameStands kind rate (length p) (take w.chips sent) rec'
@@ -23,15 +23,15 @@ heard-alike : (kind rate phase clock : ℕ) (p : List ℕ) (w : Written) (sent :
     → length p ≤ room → length p ≤ room'
     → Compares kind (rec ++ tail) (rec' ++ tail') places places' room room' c chips octets first second
     → (c.octets ≡ 0) × (c.n_a ≡ length p) × (c.n_b ≡ length p)
-heard-alike kind rate phase clock p w sent s rec rec' tail tail' stands stands' places places' room room' c chips octets
+heard_alike kind rate phase clock p w sent s rec rec' tail tail' stands stands' places places' room room' c chips octets
     first second h h' m =
     let told =
-    kept.spoiled-compared kind rate rate phase phase clock clock p p w w sent sent s s rec rec' tail tail' stands
+    kept.spoiled_compared kind rate rate phase phase clock clock p p w w sent sent s s rec rec' tail tail' stands
     stands' places places' room room' c chips octets first second h h' m in
-    ((shows-once told.0 (shows p p places')).0 ∙ ap length (itself p), told.1, told.2)
+    ((shows_once told.0 (shows p p places')).0 ∙ ap length (itself p), told.1, told.2)
 
 -- two frames, each with its own rate, phase and clock: both are accepted, and every octet that differs is listed
-heard-apart : (kind rate rate' phase phase' clock clock' : ℕ) (p q : List ℕ) (w v : Written) (sent sent' : List ℕ)
+heard_apart : (kind rate rate' phase phase' clock clock' : ℕ) (p q : List ℕ) (w v : Written) (sent sent' : List ℕ)
     → Sent kind rate phase clock p w sent → Sent kind rate' phase' clock' q v sent' → (rec rec' tail tail' : List ℕ)
     → FrameStands kind rate (length p) (take w.chips sent) rec
     → FrameStands kind rate' (length q) (take v.chips sent') rec'
@@ -41,9 +41,9 @@ heard-apart : (kind rate rate' phase phase' clock clock' : ℕ) (p q : List ℕ)
     → 3 * c.octets ≤ places'
     → (c.a.number ≡ 0) × (c.b.number ≡ 0) × (c.n_a ≡ length p) × (c.n_b ≡ length q)
     × ((i : ℕ) → DifferAt p q i → Listed p q octets c.octets i)
-heard-apart kind rate rate' phase phase' clock clock' p q w v sent sent' s t rec rec' tail tail' stands stands' places
+heard_apart kind rate rate' phase phase' clock clock' p q w v sent sent' s t rec rec' tail tail' stands stands' places
     places' room room' c chips octets first second h h' m fits =
     let told =
-    kept.spoiled-compared kind rate rate' phase phase' clock clock' p q w v sent sent' s t rec rec' tail tail' stands
+    kept.spoiled_compared kind rate rate' phase phase' clock clock' p q w v sent sent' s t rec rec' tail tail' stands
     stands' places places' room room' c chips octets first second h h' m in
     (told.3, told.4, told.1, told.2, (told.0.fits fits).0.all)

@@ -8,8 +8,8 @@ use native.Mathlib.Nat.{mul-zero}
 use native.Mathlib.Omega.{arith}
 use lib.ListN.{length, get_or, take, drop, replicate}
 use Rattle.base.specs.Below.{Below}
-use Rattle.base.proofs.SoMany.{many-once}
-use Rattle.rules_rates.specs.Rates.{rateOf}
+use Rattle.base.proofs.SoMany.{many_once}
+use Rattle.rules_rates.specs.Rates.{rate_of}
 use Rattle.rules_rates.specs.Plain.{LengthOf}
 use Rattle.rules_frame.specs.Frame.{kind_of}
 use Rattle.rules_calls.specs.declared.Written.{Written}
@@ -20,14 +20,14 @@ use Rattle.rules_report.specs.declared.Report.{Report}
 use Rattle.rules_report.specs.declared.Counted.{Counted}
 use Rattle.rules_report.specs.Report.{Limits}
 use Rattle.rules_report.specs.Shares.{FullRows}
-use Rattle.rules_damage.specs.Damage.{wrong, lost, frameDamage}
-use Rattle.rules_damage.specs.Plain.{FrontSymbols, PayloadSymbols, SymbolAt, in-front, in-payload, FrameStands}
-use Rattle.rules_damage.proofs.Counted.{wrong-many, lost-many}
-use Rattle.rules_damage.proofs.Symbols.{one-front, one-payload}
+use Rattle.rules_damage.specs.Damage.{wrong, lost, frame_damage}
+use Rattle.rules_damage.specs.Plain.{FrontSymbols, PayloadSymbols, SymbolAt, in_front, in_payload, FrameStands}
+use Rattle.rules_damage.proofs.Counted.{wrong_many, lost_many}
+use Rattle.rules_damage.proofs.Symbols.{one_front, one_payload}
 use Rattle.promises.specs.Calls.{Goes, ReadHard, ReadFront, Finds, shown, Sent}
-use Rattle.promises.specs.Coming.{toldComing}
+use Rattle.promises.specs.Coming.{told_coming}
 use Rattle.promises.proofs.Back as back
-use Rattle.promises.proofs.SentTold.{begun-long}
+use Rattle.promises.proofs.SentTold.{begun_long}
 use Rattle.promises_report.specs.Calls.{Adds}
 use Rattle.promises_damage.proofs.Kept.{kept}
 
@@ -36,23 +36,23 @@ module _ (kind rate front octet n : ℕ) (goes : Goes kind rate front octet) (se
     (long : front + octet * n ≤ length sent) (same : length rec ≡ length sent) (usable : Below 5 rec)
     (f each c limit : ℕ) (table : FrontSymbols kind f) (u : PayloadSymbols rate each c limit) where
   abbrev row : List ℕ
-  row = frameDamage (kind_of kind) (rateOf rate) n sent rec
+  row = frame_damage (kind_of kind) (rate_of rate) n sent rec
 
   module _ (in-limit : (s : ℕ) → s < f → 2 * get_or row (2 * s) 0 + get_or row (suc (2 * s)) 0 ≤ 10)
       (in-limit' : (j : ℕ) → j < each * n → 2 * get_or row (2 * (f + j)) 0 + get_or row (suc (2 * (f + j))) 0 ≤ limit) where
     keeps : (s at chips limit : ℕ) → SymbolAt kind rate n s at chips limit
         → 2 * get_or row (2 * s) 0 + get_or row (suc (2 * s)) 0 ≤ limit
-    keeps _ _ _ _ (in-front f' s t l) = in-limit s (subst (λ (x : ℕ). s < x) (one-front kind f' f t table) l)
-    keeps _ _ _ _ (in-payload f' each' chips limit' j t u' l) =
-        let same = one-payload rate each' chips limit' each c limit u' u in
+    keeps _ _ _ _ (in_front f' s t l) = in-limit s (subst (λ (x : ℕ). s < x) (one_front kind f' f t table) l)
+    keeps _ _ _ _ (in_payload f' each' chips limit' j t u' l) =
+        let same = one_payload rate each' chips limit' each c limit u' u in
         subst (λ (x : ℕ). 2 * get_or row (2 * (x + j)) 0 + get_or row (suc (2 * (x + j))) 0 ≤ limit')
-        (sym (one-front kind f' f t table))
+        (sym (one_front kind f' f t table))
         (subst (λ (x : ℕ). 2 * get_or row (2 * (f + j)) 0 + get_or row (suc (2 * (f + j))) 0 ≤ x) (sym same.2)
         (in-limit' j (subst (λ (x : ℕ). j < x * n) same.0 l)))
 
-    pub stands-so : FrameStands kind rate n sent rec
-    stands-so =
-        (kept.damage-row kind rate front octet n goes sent rec long (omega (arith, long, same))).2 same usable keeps
+    pub stands_so : FrameStands kind rate n sent rec
+    stands_so =
+        (kept.damage_row kind rate front octet n goes sent rec long (omega (arith, long, same))).2 same usable keeps
 
 -- ---- any frame, any such recording of it
 module _ (kind rate phase clock : ℕ) (payload : List ℕ) (w : Written) (chips : List ℕ)
@@ -63,12 +63,12 @@ module _ (kind rate phase clock : ℕ) (payload : List ℕ) (w : Written) (chips
   n = length payload
 
   abbrev row_of : ℕ → ℕ → List ℕ
-  row_of m x = frameDamage (kind_of kind) (rateOf rate) m (take x chips) rec
+  row_of m x = frame_damage (kind_of kind) (rate_of rate) m (take x chips) rec
 
-  sent-long : length (take w.chips chips) ≡ s.sendable.front + s.sendable.octet * n
-  sent-long =
-      back.taken-long kind rate phase clock payload w chips s
-      ∙ back.w-chips kind rate phase clock payload w chips s
+  sent_long : length (take w.chips chips) ≡ s.sendable.front + s.sendable.octet * n
+  sent_long =
+      back.taken_long kind rate phase clock payload w chips s
+      ∙ back.w_chips kind rate phase clock payload w chips s
       ∙ back.size kind rate phase clock payload w chips s
 
   -- the whole frame: read back, and counted
@@ -77,22 +77,22 @@ module _ (kind rate phase clock : ℕ) (payload : List ℕ) (w : Written) (chips
       → 2 * get_or (row_of n w.chips) (2 * x) 0 + get_or (row_of n w.chips) (suc (2 * x)) 0 ≤ 10)
       (few' : (j : ℕ) → j < each * n
       → 2 * get_or (row_of n w.chips) (2 * (f + j)) 0 + get_or (row_of n w.chips) (suc (2 * (f + j))) 0 ≤ limit) where
-    whole-stands : FrameStands kind rate n (take w.chips chips) rec
-    whole-stands =
-        stands-so kind rate s.sendable.front s.sendable.octet n s.sendable.goes (take w.chips chips) rec
-        (omega (arith, sent-long)) (e ∙ sym (back.taken-long kind rate phase clock payload w chips s)) usable f each c
+    whole_stands : FrameStands kind rate n (take w.chips chips) rec
+    whole_stands =
+        stands_so kind rate s.sendable.front s.sendable.octet n s.sendable.goes (take w.chips chips) rec
+        (omega (arith, sent_long)) (e ∙ sym (back.taken_long kind rate phase clock payload w chips s)) usable f each c
         limit table u few few'
 
     pub row_read : (room : ℕ) (a : Record) (left : List ℕ) → ReadHard kind (rec ++ tail) room a left → n ≤ room
         → (a.number ≡ 0) × (left ≡ payload ++ replicate (room - n) 0)
     row_read room a left r h =
-        let told = (kept.spoiled-read-back kind rate phase clock payload w chips s l d rec tail whole-stands room a left
+        let told = (kept.spoiled_read_back kind rate phase clock payload w chips s l d rec tail whole_stands room a left
         r).0 h in
         (ap (λ (b : Record). b.number) told.0, told.2)
 
-    pub row-counted : (p : Report) (q : Counted) → Limits p → FullRows p → Adds p kind (rec ++ tail) q → q.number ≡ 0
-    row-counted p q within rows adds =
-        (kept.spoiled-counted kind rate phase clock payload w chips s l d rec tail whole-stands p q within rows adds).0
+    pub row_counted : (p : Report) (q : Counted) → Limits p → FullRows p → Adds p kind (rec ++ tail) q → q.number ≡ 0
+    row_counted p q within rows adds =
+        (kept.spoiled_counted kind rate phase clock payload w chips s l d rec tail whole_stands p q within rows adds).0
 
   -- the front alone, as a frame of no octets: told, and found
   module _ (e : length rec ≡ s.sendable.front)
@@ -100,39 +100,39 @@ module _ (kind rate phase clock : ℕ) (payload : List ℕ) (w : Written) (chips
       → 2 * get_or (row_of 0 s.sendable.front) (2 * x) 0 + get_or (row_of 0 s.sendable.front) (suc (2 * x)) 0
       ≤ 10) where
     begun : length (take s.sendable.front chips) ≡ s.sendable.front
-    begun = begun-long kind rate phase clock payload w chips s
+    begun = begun_long kind rate phase clock payload w chips s
 
-    no-octets : (b : ℕ) → s.sendable.front + b * 0 ≤ length (take s.sendable.front chips)
-    no-octets b = omega (arith, mul-zero b, begun)
+    no_octets : (b : ℕ) → s.sendable.front + b * 0 ≤ length (take s.sendable.front chips)
+    no_octets b = omega (arith, mul-zero b, begun)
 
-    front-stands : FrameStands kind rate 0 (take s.sendable.front chips) rec
-    front-stands =
-        stands-so kind rate s.sendable.front s.sendable.octet 0 s.sendable.goes
-        (take s.sendable.front chips) rec (no-octets s.sendable.octet) (e ∙ sym begun) usable
+    front_stands : FrameStands kind rate 0 (take s.sendable.front chips) rec
+    front_stands =
+        stands_so kind rate s.sendable.front s.sendable.octet 0 s.sendable.goes
+        (take s.sendable.front chips) rec (no_octets s.sendable.octet) (e ∙ sym begun) usable
         f each c limit table u few (λ j g. absurd (omega (arith, g)))
 
     pub row_told : (x : Coming) → ReadFront kind (rec ++ tail) x → s.sendable.octet * n ≤ length tail
-        → x ≡ toldComing rate l (shown clock) n s.sendable.front (s.sendable.octet * n)
+        → x ≡ told_coming rate l (shown clock) n s.sendable.front (s.sendable.octet * n)
     row_told x r h =
-        ((kept.spoiled-told kind rate phase clock payload w chips s l d rec tail front-stands x r).0 h).0
+        ((kept.spoiled_told kind rate phase clock payload w chips s l d rec tail front_stands x r).0 h).0
 
-    pub row-found : (before : List ℕ) (offsets : ℕ) (x : Found) → length before < offsets → offsets ≤ 4096
+    pub row_found : (before : List ℕ) (offsets : ℕ) (x : Found) → length before < offsets → offsets ≤ 4096
         → Finds kind offsets (before ++ (rec ++ tail)) x → x.offset ≤ length before
-    row-found before offsets x below most r =
-        (kept.spoiled-found kind rate phase clock payload w chips s l d rec tail front-stands before offsets x below
+    row_found before offsets x below most r =
+        (kept.spoiled_found kind rate phase clock payload w chips s l d rec tail front_stands before offsets x below
         most r).1
 
 -- ---- the row of any two rows, long enough: by each symbol's own chips
 pub row_any : (kind rate front octet n : ℕ) → Goes kind rate front octet → (sent rec : List ℕ)
     → front + octet * n ≤ length sent → front + octet * n ≤ length rec
     → (s at chips limit : ℕ) → SymbolAt kind rate n s at chips limit → 1 ≤ chips
-    → (get_or (frameDamage (kind_of kind) (rateOf rate) n sent rec) (2 * s) 0
+    → (get_or (frame_damage (kind_of kind) (rate_of rate) n sent rec) (2 * s) 0
     ≡ wrong (take chips (drop at sent)) (take chips (drop at rec)))
-    × (get_or (frameDamage (kind_of kind) (rateOf rate) n sent rec) (suc (2 * s)) 0 ≡ lost (take chips (drop at rec)))
+    × (get_or (frame_damage (kind_of kind) (rate_of rate) n sent rec) (suc (2 * s)) 0 ≡ lost (take chips (drop at rec)))
 row_any kind rate front octet n goes sent rec hs hr s at chips limit is some =
-    let own = (kept.damage-row kind rate front octet n goes sent rec hs hr).1 s at chips limit is in
-    let last = (kept.in-one-symbol kind rate front octet n (at + chips - 1) goes).2 s at chips limit
+    let own = (kept.damage_row kind rate front octet n goes sent rec hs hr).1 s at chips limit is in
+    let last = (kept.in_one_symbol kind rate front octet n (at + chips - 1) goes).2 s at chips limit
     (record { symbol = is; from = omega arith; to = omega arith }) in (
-      many-once own.0 (wrong-many chips at sent rec (omega (arith, last, hs)) (omega (arith, last, hr))),
-      many-once own.1 (lost-many chips at rec (omega (arith, last, hr))),
+      many_once own.0 (wrong_many chips at sent rec (omega (arith, last, hs)) (omega (arith, last, hr))),
+      many_once own.1 (lost_many chips at rec (omega (arith, last, hr))),
     )

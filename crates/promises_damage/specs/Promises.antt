@@ -8,12 +8,12 @@ use Rattle.std.specs.Prelude.{ℕ, suc, ◌+◌, ◌-◌, ◌*◌, ◌≤◌, �
 use Rattle.base.specs.Below.{Below}
 use Rattle.base.specs.SoMany.{SoMany}
 use Rattle.rules_rates.specs.declared.Rate.TheVariants.{Eleven}
-use Rattle.rules_rates.specs.Rates.{rateOf}
+use Rattle.rules_rates.specs.Rates.{rate_of}
 use Rattle.rules_rates.specs.Plain.{LengthOf}
-use Rattle.rules_chips.specs.Chips.{takenCounts, hardRecording, fullChip}
-use Rattle.rules_symbols.specs.Words.{cckOf}
-use Rattle.rules_symbols.specs.Choice.{decided, leadOf}
-use Rattle.rules_choosing.specs.Scores.{scoreAt}
+use Rattle.rules_chips.specs.Chips.{taken_counts, hard_recording, full_chip}
+use Rattle.rules_symbols.specs.Words.{cck_of}
+use Rattle.rules_symbols.specs.Choice.{decided, lead_of}
+use Rattle.rules_choosing.specs.Scores.{score_at}
 use Rattle.rules_frame.specs.Frame.{kind_of}
 use Rattle.rules_calls.specs.declared.Written.{Written}
 use Rattle.rules_calls.specs.declared.Record.{Record}
@@ -25,7 +25,7 @@ use Rattle.rules_report.specs.Report.{Limits}
 use Rattle.rules_report.specs.Shares.{FullRows, OneMore}
 use Rattle.rules_compare.specs.declared.Compared.{Compared}
 use Rattle.rules_compare.specs.Plain.{Shows}
-use Rattle.rules_damage.specs.Damage.{frameDamage}
+use Rattle.rules_damage.specs.Damage.{frame_damage}
 use Rattle.rules_damage.specs.Plain.{
   FrontSymbols,
   PayloadSymbols,
@@ -41,8 +41,8 @@ use Rattle.rules_damage.specs.Plain.{
   SpoiledBy,
 }
 use Rattle.promises.specs.Calls.{ReadHard, ReadFront, Handed, Finds, good, refused, shown, Goes, Sent}
-use Rattle.promises.specs.Coming.{refusedComing, toldComing}
-use Rattle.promises.specs.Finding.{startFound}
+use Rattle.promises.specs.Coming.{refused_coming, told_coming}
+use Rattle.promises.specs.Finding.{start_found}
 use Rattle.promises_report.specs.Calls.{Adds}
 use Rattle.promises_compare.specs.Calls.{Compares}
 use Rattle.promises_damage.specs.Guides.{Spoiled1997}
@@ -83,9 +83,9 @@ SpoiledTold =
     → (c : Coming) → ReadFront kind (rec ++ tail) c
     → (s.sendable.octet * length payload ≤ length tail
     → (c
-    ≡ toldComing rate l (shown clock) (length payload) s.sendable.front (s.sendable.octet * length payload))
+    ≡ told_coming rate l (shown clock) (length payload) s.sendable.front (s.sendable.octet * length payload))
     × ((part : List ℕ) → Handed c (rec ++ tail) part → part ≡ take (s.sendable.octet * length payload) tail))
-    × (length tail < s.sendable.octet * length payload → c ≡ refusedComing 16 0 l)
+    × (length tail < s.sendable.octet * length payload → c ≡ refused_coming 16 0 l)
 
 -- promise: A frame that was written, its front recorded as phases and 4s and the symbols of it each within their limit,
 -- is not missed by a search, whatever stands before or behind it and whatever became of its payload's chips: a start
@@ -100,7 +100,7 @@ SpoiledFound =
     → (before : List ℕ) (offsets : ℕ) (f : Found) → length before < offsets → offsets ≤ 4096
     → Finds kind offsets (before ++ (rec ++ tail)) f
     → (f.number ≡ 0) × (f.offset ≤ length before)
-    × (f.offset ≡ length before → f ≡ startFound (length before) rate l (shown clock) (length payload))
+    × (f.offset ≡ length before → f ≡ start_found (length before) rate l (shown clock) (length payload))
 
 -- a report grew by one accepted frame of this kind, rate, LENGTH, n, chips and clock bit, its lead at least a full chip
 pub record CountsAs (p : Report) (kind rate l n used clock : ℕ) (q : Report) : Type 0 where
@@ -150,8 +150,8 @@ abbrev pub SymbolStands : Type 0
 SymbolStands =
     (rate n : ℕ) (rec : List ℕ) (limit wrong lost : ℕ)
     → SymbolSpoiled rate n rec limit wrong lost → KeepsLimit limit wrong lost
-    → (decided (rateOf rate) (map takenCounts (hardRecording rec)) ≡ n)
-    × (1024 ≤ leadOf (rateOf rate) (map takenCounts (hardRecording rec)))
+    → (decided (rate_of rate) (map taken_counts (hard_recording rec)) ≡ n)
+    × (1024 ≤ lead_of (rate_of rate) (map taken_counts (hard_recording rec)))
 
 -- promise: No limit can be raised: at each rate there is a symbol one past it that is decided as another word, at 11
 -- Mbit/s with four chips lost, at 5.5 Mbit/s with four lost or two wrong, at 1 and 2 Mbit/s with eleven lost or five
@@ -160,20 +160,20 @@ SymbolStands =
 -- code: dsss_read_hard_3
 -- with: PastLimit
 pub record LimitsTight : Type 0 where
-  pub eleven-lost : PastLimit 110 16 (4 ∷ 0 ∷ 4 ∷ 2 ∷ 4 ∷ 0 ∷ 4 ∷ 0 ∷ []) 3 0 4 0
-  pub five-lost : PastLimit 55 18 (4 ∷ 4 ∷ 4 ∷ 4 ∷ 1 ∷ 0 ∷ 3 ∷ 0 ∷ []) 3 0 4 16
-  pub five-wrong : PastLimit 55 18 (1 ∷ 0 ∷ 3 ∷ 0 ∷ 1 ∷ 0 ∷ 3 ∷ 0 ∷ []) 3 2 0 16
-  pub two-lost : PastLimit 20 1 (replicate 11 4) 10 0 11 0
-  pub two-wrong : PastLimit 20 1 (0 ∷ 2 ∷ 0 ∷ 0 ∷ 2 ∷ 4 ∷ 1 ∷ 1 ∷ 3 ∷ 3 ∷ 3 ∷ []) 10 5 1 0
-  pub one-lost : PastLimit 10 1 (replicate 11 4) 10 0 11 0
-  pub one-wrong : PastLimit 10 1 (0 ∷ 2 ∷ 0 ∷ 0 ∷ 2 ∷ 4 ∷ 1 ∷ 1 ∷ 3 ∷ 3 ∷ 3 ∷ []) 10 5 1 0
+  pub eleven_lost : PastLimit 110 16 (4 ∷ 0 ∷ 4 ∷ 2 ∷ 4 ∷ 0 ∷ 4 ∷ 0 ∷ []) 3 0 4 0
+  pub five_lost : PastLimit 55 18 (4 ∷ 4 ∷ 4 ∷ 4 ∷ 1 ∷ 0 ∷ 3 ∷ 0 ∷ []) 3 0 4 16
+  pub five_wrong : PastLimit 55 18 (1 ∷ 0 ∷ 3 ∷ 0 ∷ 1 ∷ 0 ∷ 3 ∷ 0 ∷ []) 3 2 0 16
+  pub two_lost : PastLimit 20 1 (replicate 11 4) 10 0 11 0
+  pub two_wrong : PastLimit 20 1 (0 ∷ 2 ∷ 0 ∷ 0 ∷ 2 ∷ 4 ∷ 1 ∷ 1 ∷ 3 ∷ 3 ∷ 3 ∷ []) 10 5 1 0
+  pub one_lost : PastLimit 10 1 (replicate 11 4) 10 0 11 0
+  pub one_wrong : PastLimit 10 1 (0 ∷ 2 ∷ 0 ∷ 0 ∷ 2 ∷ 4 ∷ 1 ∷ 1 ∷ 3 ∷ 3 ∷ 3 ∷ []) 10 5 1 0
 
 -- promise: On the clean chips of an 11 Mbit/s word no other word scores above 4 full chips
 -- rule: 3.10
 abbrev pub WordsApart : Type 0
 WordsApart =
     (n w : ℕ) → n < 256 → w < 256 → (n ≡ w → ⊥)
-    → scoreAt Eleven (map (fullChip 1024) (cckOf w)) n ≤ℤ pos (4 * 1024)
+    → score_at Eleven (map (full_chip 1024) (cck_of w)) n ≤ℤ pos (4 * 1024)
 
 -- ---- the symbols of a frame, and the row of its damage
 
@@ -199,14 +199,14 @@ DamageRow =
     (kind rate front octet n : ℕ) → Goes kind rate front octet → (sent rec : List ℕ)
     → front + octet * n ≤ length sent → front + octet * n ≤ length rec
     → ((f each chips limit : ℕ) → FrontSymbols kind f → PayloadSymbols rate each chips limit
-    → length (frameDamage (kind_of kind) (rateOf rate) n sent rec) ≡ 2 * (f + each * n))
+    → length (frame_damage (kind_of kind) (rate_of rate) n sent rec) ≡ 2 * (f + each * n))
     × ((s at chips limit : ℕ) → SymbolAt kind rate n s at chips limit
-    → SoMany (WrongAt sent rec) at chips (get_or (frameDamage (kind_of kind) (rateOf rate) n sent rec) (2 * s) 0)
-    × SoMany (LostAt rec) at chips (get_or (frameDamage (kind_of kind) (rateOf rate) n sent rec) (suc (2 * s)) 0))
+    → SoMany (WrongAt sent rec) at chips (get_or (frame_damage (kind_of kind) (rate_of rate) n sent rec) (2 * s) 0)
+    × SoMany (LostAt rec) at chips (get_or (frame_damage (kind_of kind) (rate_of rate) n sent rec) (suc (2 * s)) 0))
     × (length rec ≡ length sent → Below 5 rec
     → ((s at chips limit : ℕ) → SymbolAt kind rate n s at chips limit
-    → KeepsLimit limit (get_or (frameDamage (kind_of kind) (rateOf rate) n sent rec) (2 * s) 0)
-    (get_or (frameDamage (kind_of kind) (rateOf rate) n sent rec) (suc (2 * s)) 0))
+    → KeepsLimit limit (get_or (frame_damage (kind_of kind) (rate_of rate) n sent rec) (2 * s) 0)
+    (get_or (frame_damage (kind_of kind) (rate_of rate) n sent rec) (suc (2 * s)) 0))
     → FrameStands kind rate n sent rec)
 
 -- promise: Every damage that the limits allow occurs: for any phases as long as a frame, and any two pairs of numbers
@@ -223,15 +223,15 @@ AnyDamage =
 
 -- ---- all of it
 pub record DamagePromised : Type 0 where
-  pub spoiled-read-back : SpoiledReadBack
-  pub spoiled-told : SpoiledTold
-  pub spoiled-found : SpoiledFound
-  pub spoiled-counted : SpoiledCounted
-  pub spoiled-compared : SpoiledCompared
-  pub spoiled-1997 : Spoiled1997
-  pub symbol-stands : SymbolStands
-  pub limits-tight : LimitsTight
-  pub words-apart : WordsApart
-  pub in-one-symbol : InOneSymbol
-  pub damage-row : DamageRow
-  pub any-damage : AnyDamage
+  pub spoiled_read_back : SpoiledReadBack
+  pub spoiled_told : SpoiledTold
+  pub spoiled_found : SpoiledFound
+  pub spoiled_counted : SpoiledCounted
+  pub spoiled_compared : SpoiledCompared
+  pub spoiled_1997 : Spoiled1997
+  pub symbol_stands : SymbolStands
+  pub limits_tight : LimitsTight
+  pub words_apart : WordsApart
+  pub in_one_symbol : InOneSymbol
+  pub damage_row : DamageRow
+  pub any_damage : AnyDamage

@@ -9,14 +9,14 @@ use Rattle.rules_calls.specs.declared.Record.{Record}
 use Rattle.rules_receiving.specs.declared.Receiver.{Receiver}
 use Rattle.rules_receiving.specs.Calls.{takes, opened}
 use Rattle.rules_receiving.proofs.Histories.{
-  runs-long,
-  runs-buffer,
-  runs-answer,
-  runs-feed-other,
-  runs-close-other,
+  runs_long,
+  runs_buffer,
+  runs_answer,
+  runs_feed_other,
+  runs_close_other,
   runs_close,
-  shut-feed,
-  shut-close,
+  shut_feed,
+  shut_close,
 }
 use Rattle.promises_receiving.specs.Promises.{
   ReceiverOpened,
@@ -27,41 +27,41 @@ use Rattle.promises_receiving.specs.Promises.{
   AnyReceiver,
   ReceiverPromised,
 }
-use Rattle.promises_receiving.proofs.Shown.{received-shown, sent-shown}
-use Rattle.promises_receiving.proofs.Cleared.{received-cleared}
+use Rattle.promises_receiving.proofs.Shown.{received_shown, sent_shown}
+use Rattle.promises_receiving.proofs.Cleared.{received_cleared}
 
-receiver-opened : ReceiverOpened
-receiver-opened kind buf old out left u v a b x = (
-  x.answer-is,
-  x.buffer-is,
-  λ y e. x.receiver-is ∙ ap (opened kind) (sym e) ∙ sym y.receiver-is,
+receiver_opened : ReceiverOpened
+receiver_opened kind buf old out left u v a b x = (
+  x.answer_is,
+  x.buffer_is,
+  λ y e. x.receiver_is ∙ ap (opened kind) (sym e) ∙ sym y.receiver_is,
 )
 
-received-yet : ReceivedYet
-received-yet kind room fed s buf r = (runs-buffer r, runs-long r, λ batch out u a x. runs-answer r x)
+received_yet : ReceivedYet
+received_yet kind room fed s buf r = (runs_buffer r, runs_long r, λ batch out u a x. runs_answer r x)
 
-received-all : ReceivedAll
-received-all kind room fed s u buf out a r x =
+received_all : ReceivedAll
+received_all kind room fed s u buf out a r x =
     let e = runs_close r x in record { answer = e.0; octets = e.1 }
 
-receiver-refused : ReceiverRefused
-receiver-refused kind room fed s u buf other out r h =
-    ((λ batch a x. runs-feed-other r h x), λ a x. runs-close-other r h x)
+receiver_refused : ReceiverRefused
+receiver_refused kind room fed s u buf other out r h =
+    ((λ batch a x. runs_feed_other r h x), λ a x. runs_close_other r h x)
 
-shut-refused : ShutRefused
-shut-refused s u buf out h = ((λ batch a x. shut-feed h x), λ a x. shut-close h x)
+shut_refused : ShutRefused
+shut_refused s u buf out h = ((λ batch a x. shut-feed h x), λ a x. shut-close h x)
 
 -- a call is taken or refused
-by-takes : {A : Type 0} (s : Receiver) (n : ℕ) → (takes s.progress n ≡ true → A)
+by_takes : {A : Type 0} (s : Receiver) (n : ℕ) → (takes s.progress n ≡ true → A)
     → (takes s.progress n ≡ false → A) → A
-by-takes {A} s n f g = by (takes s.progress n) refl
+by_takes {A} s n f g = by (takes s.progress n) refl
   where
     by : (b : Bool) → takes s.progress n ≡ b → A
     by true e = f e
     by false e = g e
 
-any-receiver : AnyReceiver
-any-receiver s u buf out = (
+any_receiver : AnyReceiver
+any_receiver s u buf out = (
   (λ batch a x. (
     x.long,
     (λ d. by-takes s (length buf) x.taken (λ e. absurd (d (x.refused e).0))),
@@ -77,13 +77,13 @@ any-receiver s u buf out = (
 
 pub kept : ReceiverPromised
 kept = record {
-  receiver-opened = receiver-opened;
-  received-yet = received-yet;
-  received-all = received-all;
-  received-shown = received-shown;
-  sent-shown = sent-shown;
-  received-cleared = received-cleared;
-  receiver-refused = receiver-refused;
-  shut-refused = shut-refused;
-  any-receiver = any-receiver;
+  receiver_opened = receiver_opened;
+  received_yet = received_yet;
+  received_all = received_all;
+  received_shown = received_shown;
+  sent_shown = sent_shown;
+  received_cleared = received_cleared;
+  receiver_refused = receiver_refused;
+  shut_refused = shut_refused;
+  any_receiver = any_receiver;
 }

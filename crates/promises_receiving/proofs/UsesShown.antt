@@ -1,12 +1,12 @@
 -- Uses of what is promised to be shown, and to be cleared: each takes the statement as hypothesis, and together they
 -- need every part of it.
---     shown-any              after any number of chips it is said how many octets are shown
---     octet-there            an octet is in the buffer once its chips have come, whatever the kind and the rate
---     octet-later            until then it is 0
+--     shown_any              after any number of chips it is said how many octets are shown
+--     octet_there            an octet is in the buffer once its chips have come, whatever the kind and the rate
+--     octet_later            until then it is 0
 --     all_there              behind the frame the buffer is what the hard read leaves
---     two-batches            octets that come in one batch are all shown
---     sent-there, sent-later, seven-there    the same of a frame that was written: one octet of 7 is seen
---     spoiled, grown-odd, by_front, by-crc, by-later, by-room, by-reason    refusals that are certain: zeros
+--     two_batches            octets that come in one batch are all shown
+--     sent_there, sent_later, seven_there    the same of a frame that was written: one octet of 7 is seen
+--     spoiled, grown_odd, by_front, by_crc, by_later, by_room, by_reason    refusals that are certain: zeros
 --     none_stays             an octet of 7 that stays is not allowed
 -- Assumes nothing.
 use mathlib.Core.Path.{◌≡◌, refl, sym, ap, subst, ◌∙◌}
@@ -17,14 +17,14 @@ use native.Mathlib.Decide.{dec_lt}
 use native.Mathlib.Omega.{arith}
 use lib.ListN.{length, get_or, take, replicate, length-append, take-append-drop, get_or-append}
 use lib.Seq.{length-take-le, take_at, get_or-take, get_or-append-add}
-use Rattle.rules_chips.specs.Chips.{hardRecording}
+use Rattle.rules_chips.specs.Chips.{hard_recording}
 use Rattle.rules_calls.specs.declared.Written.{Written}
 use Rattle.rules_calls.specs.declared.Record.{Record}
 use Rattle.rules_calls.specs.declared.Reading.{Reading}
 use Rattle.rules_calls.specs.declared.Reading.TheVariants as reading
-use Rattle.rules_calls.specs.Answers.{recordOf}
+use Rattle.rules_calls.specs.Answers.{record_of}
 use Rattle.rules_reading.specs.Reading.{reading_of}
-use Rattle.rules_reading.proofs.Buffers.{Fits, reading-fits}
+use Rattle.rules_reading.proofs.Buffers.{Fits, reading_fits}
 use Rattle.rules_receiving.specs.declared.Receiver.{Receiver}
 use Rattle.rules_receiving.specs.Calls.{ReceiverOpens, ReceiverFeeds}
 use Rattle.rules_receiving.specs.Histories.{Runs, opens, feeds}
@@ -32,18 +32,18 @@ use Rattle.rules_reading.specs.Places.{UnusableFirst}
 use Rattle.promises.specs.Calls.{
   ReadHard,
   Goes,
-  long-1,
-  long-2,
-  long-5,
-  long-11,
-  short-2,
-  short-5,
-  short-11,
-  refusedAt,
+  long_1,
+  long_2,
+  long_5,
+  long_11,
+  short_2,
+  short_5,
+  short_11,
+  refused_at,
   refused,
   Sent,
 }
-use Rattle.promises.specs.Reasons.{HasPayload, payload-9}
+use Rattle.promises.specs.Reasons.{HasPayload, payload_9}
 use Rattle.promises.proofs.Kept as promises
 use Rattle.promises_receiving.specs.Promises.{
   Shown,
@@ -56,10 +56,10 @@ use Rattle.promises_receiving.specs.Promises.{
   unusable,
   grown,
   at_front,
-  by-header,
+  by_header,
   ReceivedCleared,
 }
-use Rattle.promises_receiving.proofs.Shown.{shown-most}
+use Rattle.promises_receiving.proofs.Shown.{shown_most}
 
 -- ---- how many octets are shown
 
@@ -78,8 +78,8 @@ below front octet c most (suc n) h l e =
     step (yes x) f = f x
     step (no x) f = record { m = n; shows = within {m = n} (omega (arith, x)) l (omega arith) }
 
-shown-any : (front octet n c : ℕ) → ShownSome front octet n c
-shown-any front octet n c = by (dec_lt c front) (dec_lt c (front + octet * n))
+shown_any : (front octet n c : ℕ) → ShownSome front octet n c
+shown_any front octet n c = by (dec_lt c front) (dec_lt c (front + octet * n))
   where
     by : Dec (c < front) → Dec (c < front + octet * n) → ShownSome front octet n c
     by (yes h) x = record { m = 0; shows = before h }
@@ -90,53 +90,53 @@ shown-any front octet n c = by (dec_lt c front) (dec_lt c (front + octet * n))
 among : {kind rate front octet n c m : ℕ} (j : ℕ) → Goes kind rate front octet → Shown front octet n c m → j < n
     → front + octet * suc j ≤ c → j < m
 among j g (before l) h e = absurd (omega (arith, l, e))
-among j long-1 (within a b l) h e = omega arith
-among j long-2 (within a b l) h e = omega arith
-among j long-5 (within a b l) h e = omega arith
-among j long-11 (within a b l) h e = omega arith
-among j short-2 (within a b l) h e = omega arith
-among j short-5 (within a b l) h e = omega arith
-among j short-11 (within a b l) h e = omega arith
+among j long_1 (within a b l) h e = omega arith
+among j long_2 (within a b l) h e = omega arith
+among j long_5 (within a b l) h e = omega arith
+among j long_11 (within a b l) h e = omega arith
+among j short_2 (within a b l) h e = omega arith
+among j short_5 (within a b l) h e = omega arith
+among j short_11 (within a b l) h e = omega arith
 among j g (behind a) h e = h
 
 not_yet : {kind rate front octet n c m : ℕ} (j : ℕ) → Goes kind rate front octet → Shown front octet n c m
     → c < front + octet * suc j → m ≤ j
 not_yet j g (before l) e = omega arith
-not_yet j long-1 (within a b l) e = omega arith
-not_yet j long-2 (within a b l) e = omega arith
-not_yet j long-5 (within a b l) e = omega arith
-not_yet j long-11 (within a b l) e = omega arith
-not_yet j short-2 (within a b l) e = omega arith
-not_yet j short-5 (within a b l) e = omega arith
-not_yet j short-11 (within a b l) e = omega arith
-not_yet j long-1 (behind a) e = omega arith
-not_yet j long-2 (behind a) e = omega arith
-not_yet j long-5 (behind a) e = omega arith
-not_yet j long-11 (behind a) e = omega arith
-not_yet j short-2 (behind a) e = omega arith
-not_yet j short-5 (behind a) e = omega arith
-not_yet j short-11 (behind a) e = omega arith
+not_yet j long_1 (within a b l) e = omega arith
+not_yet j long_2 (within a b l) e = omega arith
+not_yet j long_5 (within a b l) e = omega arith
+not_yet j long_11 (within a b l) e = omega arith
+not_yet j short_2 (within a b l) e = omega arith
+not_yet j short_5 (within a b l) e = omega arith
+not_yet j short_11 (within a b l) e = omega arith
+not_yet j long_1 (behind a) e = omega arith
+not_yet j long_2 (behind a) e = omega arith
+not_yet j long_5 (behind a) e = omega arith
+not_yet j long_11 (behind a) e = omega arith
+not_yet j short_2 (behind a) e = omega arith
+not_yet j short_5 (behind a) e = omega arith
+not_yet j short_11 (behind a) e = omega arith
 
 -- entries of so many octets and zeros
-entry-there : (m z j : ℕ) (l : List ℕ) → j < m → m ≤ length l → get_or (take m l ++ replicate z 0) j 0 ≡ get_or l j 0
-entry-there m z j l h e =
+entry_there : (m z j : ℕ) (l : List ℕ) → j < m → m ≤ length l → get_or (take m l ++ replicate z 0) j 0 ≡ get_or l j 0
+entry_there m z j l h e =
     get_or-append (take m l) (replicate z 0) 0 j (omega (arith, h, length-take-le m l e)) ∙ get_or-take m l j 0 h
 
-zero-at : (z i : ℕ) → get_or {A = ℕ} (replicate z 0) i 0 ≡ 0
-zero-at zero i = refl
-zero-at (suc z) zero = refl
-zero-at (suc z) (suc i) = zero-at z i
+zero_at : (z i : ℕ) → get_or {A = ℕ} (replicate z 0) i 0 ≡ 0
+zero_at zero i = refl
+zero_at (suc z) zero = refl
+zero_at (suc z) (suc i) = zero_at z i
 
-entry-later : (m z j : ℕ) (l : List ℕ) → m ≤ j → m ≤ length l → get_or (take m l ++ replicate z 0) j 0 ≡ 0
-entry-later m z j l h e =
+entry_later : (m z j : ℕ) (l : List ℕ) → m ≤ j → m ≤ length l → get_or (take m l ++ replicate z 0) j 0 ≡ 0
+entry_later m z j l h e =
     ap (λ (i : ℕ). get_or (take m l ++ replicate z 0) i 0) (omega (arith, h, length-take-le m l e))
     ∙ get_or-append-add (take m l) (replicate z 0) (j - m) 0
-    ∙ zero-at z (j - m)
+    ∙ zero_at z (j - m)
 
 -- the octets of a read are at most its room
-record-fits : (room : ℕ) (g : Reading) → Fits room g → (recordOf g).n ≤ room
-record-fits room (reading.Refused e) h = omega arith
-record-fits room (reading.Good t used least) h = h
+record_fits : (room : ℕ) (g : Reading) → Fits room g → (record_of g).n ≤ room
+record_fits room (reading.Refused e) h = omega arith
+record_fits room (reading.Good t used least) h = h
 
 -- ---- a recording that is accepted
 
@@ -146,36 +146,36 @@ module _
     (g : Goes kind b.rate front octet) where
   fits : b.n ≤ length kept
   fits =
-      let rec = hardRecording chips in
+      let rec = hard_recording chips in
       omega (
         arith,
-        record-fits room (reading_of kind true rec room) (reading-fits kind true rec room),
+        record_fits room (reading_of kind true rec room) (reading_fits kind true rec room),
         ap (λ (v : Record). v.n) f.answer,
-        ((promises.kept).read-fills kind true rec room b kept f).0,
+        ((promises.kept).read_fills kind true rec room b kept f).0,
       )
 
   module _ (c : ℕ) (s : Receiver) (buf : List ℕ) (r : Runs kind room (take c chips) s buf) where
-    octet-there : (j : ℕ) → j < b.n → front + octet * suc j ≤ c → get_or buf j 0 ≡ get_or kept j 0
-    octet-there j l e =
-        let x = shown-any front octet b.n c in
+    octet_there : (j : ℕ) → j < b.n → front + octet * suc j ≤ c → get_or buf j 0 ≡ get_or kept j 0
+    octet_there j l e =
+        let x = shown_any front octet b.n c in
         ap (λ (y : List ℕ). get_or y j 0)
         (promise kind room chips b kept f good front octet c x.m g x.shows s buf r)
-        ∙ entry-there x.m (room - x.m) j kept (among j g x.shows l e)
-        (omega (arith, fits, shown-most x.shows))
+        ∙ entry_there x.m (room - x.m) j kept (among j g x.shows l e)
+        (omega (arith, fits, shown_most x.shows))
 
-    octet-later : (j : ℕ) → c < front + octet * suc j → get_or buf j 0 ≡ 0
-    octet-later j e =
-        let x = shown-any front octet b.n c in
+    octet_later : (j : ℕ) → c < front + octet * suc j → get_or buf j 0 ≡ 0
+    octet_later j e =
+        let x = shown_any front octet b.n c in
         ap (λ (y : List ℕ). get_or y j 0)
         (promise kind room chips b kept f good front octet c x.m g x.shows s buf r)
-        ∙ entry-later x.m (room - x.m) j kept (not_yet j g x.shows e)
-        (omega (arith, fits, shown-most x.shows))
+        ∙ entry_later x.m (room - x.m) j kept (not_yet j g x.shows e)
+        (omega (arith, fits, shown_most x.shows))
 
     all_there : front + octet * b.n ≤ c → buf ≡ kept
     all_there e =
         promise kind room chips b kept f good front octet c b.n g (behind e) s buf r
         ∙ ap (λ (z : List ℕ). take b.n kept ++ z)
-        (sym (((promises.kept).read-fills kind true (hardRecording chips) room b kept f).2 good))
+        (sym (((promises.kept).read_fills kind true (hard_recording chips) room b kept f).2 good))
         ∙ take-append-drop b.n kept
 
   -- an open, the front in one batch, and m octets in another: all of them are shown
@@ -184,8 +184,8 @@ module _
       (cut : chips ≡ first ++ (second ++ rest)) (size : length old ≡ room)
       (first-is : length first ≡ front) (second_is : length second ≡ octet * m) (few : m ≤ b.n)
       (opening : ReceiverOpens kind old u a p) (feeding : ReceiverFeeds u p first v d q) (more : ReceiverFeeds v q second w e y) where
-    two-batches : y ≡ take m kept ++ replicate (room - m) 0
-    two-batches =
+    two_batches : y ≡ take m kept ++ replicate (room - m) 0
+    two_batches =
         promise kind room chips b kept f good front octet (length both) m g
         (within {m = m} (omega (arith, both_is)) (next g both_is) few) w y
         (subst (λ (x : List ℕ). Runs kind room x w y) (sym all_both) (feeds (feeds (opens size opening) feeding) more))
@@ -203,13 +203,13 @@ module _
 
         next : {kind rate front octet i : ℕ} → Goes kind rate front octet → i ≡ front + octet * m
             → i < front + octet * suc m
-        next long-1 e = omega arith
-        next long-2 e = omega arith
-        next long-5 e = omega arith
-        next long-11 e = omega arith
-        next short-2 e = omega arith
-        next short-5 e = omega arith
-        next short-11 e = omega arith
+        next long_1 e = omega arith
+        next long_2 e = omega arith
+        next long_5 e = omega arith
+        next long_11 e = omega arith
+        next short_2 e = omega arith
+        next short_5 e = omega arith
+        next short_11 e = omega arith
 
 -- ---- a frame that was written, and anything behind it
 
@@ -219,30 +219,30 @@ module _
     (g : Goes kind rate front octet) (c : ℕ) (tail : List ℕ) (s : Receiver) (buf : List ℕ)
     (r : Runs kind room (take c (take w.chips chips ++ tail)) s buf) where
   abbrev x : ShownSome front octet (length payload) c
-  x = shown-any front octet (length payload) c
+  x = shown_any front octet (length payload) c
 
-  shown-sent : buf ≡ take x.m payload ++ replicate (room - x.m) 0
-  shown-sent =
+  shown_sent : buf ≡ take x.m payload ++ replicate (room - x.m) 0
+  shown_sent =
       promise kind rate phase clock payload w chips sent room fits front octet c x.m g x.shows tail s buf r
 
-  sent-there : (j : ℕ) → j < length payload → front + octet * suc j ≤ c → get_or buf j 0 ≡ get_or payload j 0
-  sent-there j l e =
-      ap (λ (y : List ℕ). get_or y j 0) shown-sent
-      ∙ entry-there x.m (room - x.m) j payload (among j g x.shows l e) (shown-most x.shows)
+  sent_there : (j : ℕ) → j < length payload → front + octet * suc j ≤ c → get_or buf j 0 ≡ get_or payload j 0
+  sent_there j l e =
+      ap (λ (y : List ℕ). get_or y j 0) shown_sent
+      ∙ entry_there x.m (room - x.m) j payload (among j g x.shows l e) (shown_most x.shows)
 
-  sent-later : (j : ℕ) → c < front + octet * suc j → get_or buf j 0 ≡ 0
-  sent-later j e =
-      ap (λ (y : List ℕ). get_or y j 0) shown-sent
-      ∙ entry-later x.m (room - x.m) j payload (not_yet j g x.shows e) (shown-most x.shows)
+  sent_later : (j : ℕ) → c < front + octet * suc j → get_or buf j 0 ≡ 0
+  sent_later j e =
+      ap (λ (y : List ℕ). get_or y j 0) shown_sent
+      ∙ entry_later x.m (room - x.m) j payload (not_yet j g x.shows e) (shown_most x.shows)
 
   -- one octet of 7: a buffer that stays zeros until close is not allowed
-  seven-there : payload ≡ 7 ∷ [] → front + octet * 1 ≤ c → buf ≡ replicate room 0 → ⊥
-  seven-there e l z =
+  seven_there : payload ≡ 7 ∷ [] → front + octet * 1 ≤ c → buf ≡ replicate room 0 → ⊥
+  seven_there e l z =
       omega (
         arith,
-        sent-there 0 (omega (arith, ap length e)) l,
+        sent_there 0 (omega (arith, ap length e)) l,
         ap (λ (y : List ℕ). get_or y 0 0) e,
-        ap (λ (y : List ℕ). get_or y 0 0) z ∙ zero-at room 0,
+        ap (λ (y : List ℕ). get_or y 0 0) z ∙ zero_at room 0,
       )
 
 -- ---- refusals that are certain
@@ -255,37 +255,37 @@ module _
   cleared e x = promise kind room chips b kept f c (subst (λ (v : Record). Certain v c) (sym e) x) s buf r
 
   -- an unusable chip has come, or a whole symbol that is grown by 1 or 3
-  spoiled : (place l : ℕ) → b ≡ refusedAt 9 place l → suc place ≤ c → buf ≡ replicate room 0
+  spoiled : (place l : ℕ) → b ≡ refused_at 9 place l → suc place ≤ c → buf ≡ replicate room 0
   spoiled place l e h = cleared e (unusable refl h)
 
-  grown-odd : (place l : ℕ) → b ≡ refusedAt 10 place l → place + 11 ≤ c → buf ≡ replicate room 0
-  grown-odd place l e h = cleared e (grown refl h)
+  grown_odd : (place l : ℕ) → b ≡ refused_at 10 place l → place + 11 ≤ c → buf ≡ replicate room 0
+  grown_odd place l e h = cleared e (grown refl h)
 
   -- refusals of the front, with a place that has not come yet too; those by the header, and too little room
-  by_front : (number place : ℕ) → 1 ≤ number → b ≡ refusedAt number place 0 → buf ≡ replicate room 0
+  by_front : (number place : ℕ) → 1 ≤ number → b ≡ refused_at number place 0 → buf ≡ replicate room 0
   by_front number place h e = cleared e (at_front (λ z. omega (arith, z, h)) refl)
 
-  by-crc : b ≡ refused 12 0 → buf ≡ replicate room 0
-  by-crc e = by_front 12 0 (omega arith) e
+  by_crc : b ≡ refused 12 0 → buf ≡ replicate room 0
+  by_crc e = by_front 12 0 (omega arith) e
 
-  by-later : (number l : ℕ) → 11 ≤ number → (number ≡ 16 → ⊥) → b ≡ refused number l → buf ≡ replicate room 0
-  by-later number l h d e = cleared e (by-header h d)
+  by_later : (number l : ℕ) → 11 ≤ number → (number ≡ 16 → ⊥) → b ≡ refused number l → buf ≡ replicate room 0
+  by_later number l h d e = cleared e (by_header h d)
 
-  by-room : (l : ℕ) → b ≡ refused 17 l → buf ≡ replicate room 0
-  by-room l e = by-later 17 l (omega arith) (λ z. omega (arith, z)) e
+  by_room : (l : ℕ) → b ≡ refused 17 l → buf ≡ replicate room 0
+  by_room l e = by_later 17 l (omega arith) (λ z. omega (arith, z)) e
 
   -- an octet of 7 that is still there behind an unusable chip is not allowed, whichever octet it is
-  none_stays : (place l j : ℕ) → b ≡ refusedAt 9 place l → place < c → get_or buf j 0 ≡ 7 → ⊥
+  none_stays : (place l j : ℕ) → b ≡ refused_at 9 place l → place < c → get_or buf j 0 ≡ 7 → ⊥
   none_stays place l j e h z =
-      omega (arith, z, ap (λ (y : List ℕ). get_or y j 0) (spoiled place l e h) ∙ zero-at room j)
+      omega (arith, z, ap (λ (y : List ℕ). get_or y j 0) (spoiled place l e h) ∙ zero_at room j)
 
   -- by what the symbols say: a payload of n octets, room for them, and its first unusable chip
-  by-reason : {rate service l n front octet place : ℕ}
-      → HasPayload kind true (hardRecording chips) rate service l n front octet
-      → front + octet * n ≤ length (hardRecording chips) → n ≤ room → front ≤ place → place < front + octet * n
-      → UnusableFirst (hardRecording chips) place → place < c → buf ≡ replicate room 0
-  by-reason {l = l} {place = place} p long fits from to first h =
-      let e = ((promises.kept).read-answers kind true (hardRecording chips) room b kept f).0
-      (refusedAt 9 place l) (payload-9 p long fits from to first) in
+  by_reason : {rate service l n front octet place : ℕ}
+      → HasPayload kind true (hard_recording chips) rate service l n front octet
+      → front + octet * n ≤ length (hard_recording chips) → n ≤ room → front ≤ place → place < front + octet * n
+      → UnusableFirst (hard_recording chips) place → place < c → buf ≡ replicate room 0
+  by_reason {l = l} {place = place} p long fits from to first h =
+      let e = ((promises.kept).read_answers kind true (hard_recording chips) room b kept f).0
+      (refused_at 9 place l) (payload_9 p long fits from to first) in
       promise kind room chips b kept f c
       (unusable (λ i. (sym e i).number) (subst (λ (i : ℕ). i < c) (λ i. (e i).place) h)) s buf r

@@ -3,12 +3,12 @@
 -- the order that `Runs` and `Shut` name; `ReadHard` and `Sent` of promises), so they are about the programs.
 -- Definitions only. Assumes nothing.
 use Rattle.std.specs.Prelude.{ℕ, suc, ◌+◌, ◌-◌, ◌*◌, ◌≤◌, ◌<◌, ◌≡◌, List, ◌++◌, length, take, replicate}
-use Rattle.rules_chips.specs.Chips.{hardRecording}
+use Rattle.rules_chips.specs.Chips.{hard_recording}
 use Rattle.rules_calls.specs.declared.Written.{Written}
 use Rattle.rules_calls.specs.declared.Record.{Record}
 use Rattle.rules_receiving.specs.declared.Receiver.{Receiver}
-use Rattle.rules_receiving.specs.Yet.{bufferYet}
-use Rattle.rules_receiving.specs.Calls.{ReceiverOpens, ReceiverFeeds, ReceiverCloses, notOpen}
+use Rattle.rules_receiving.specs.Yet.{buffer_yet}
+use Rattle.rules_receiving.specs.Calls.{ReceiverOpens, ReceiverFeeds, ReceiverCloses, not_open}
 use Rattle.rules_receiving.specs.Histories.{Runs, Shut}
 use Rattle.promises.specs.Calls.{ReadHard, Goes, Sent}
 
@@ -29,7 +29,7 @@ ReceiverOpened =
 abbrev pub ReceivedYet : Type 0
 ReceivedYet =
     (kind room : ℕ) (fed : List ℕ) (s : Receiver) (buf : List ℕ) → Runs kind room fed s buf
-    → (buf ≡ bufferYet kind (hardRecording fed) room) × (length buf ≡ room)
+    → (buf ≡ buffer_yet kind (hard_recording fed) room) × (length buf ≡ room)
     × ((batch out : List ℕ) (u : Receiver) (a : ℕ) → ReceiverFeeds s buf batch u a out → a ≡ 0)
 
 -- promise: Close answers what a hard read of all batches joined answers, under the kind and with the buffer of the open,
@@ -79,7 +79,7 @@ pub data Certain (b : Record) (c : ℕ) : Type 0 where
   unusable : b.number ≡ 9 → b.place < c → Certain b c
   grown : b.number ≡ 10 → b.place + 11 ≤ c → Certain b c
   at_front : (b.number ≡ 0 → ⊥) → b.length ≡ 0 → Certain b c
-  by-header : 11 ≤ b.number → (b.number ≡ 16 → ⊥) → Certain b c
+  by_header : 11 ≤ b.number → (b.number ≡ 16 → ⊥) → Certain b c
 
 -- promise: A recording that a hard read refuses, fed in any batches: once the refusal is certain the buffer is zeros
 -- rule: 6.31, 6.9
@@ -100,7 +100,7 @@ ReceiverRefused =
     (kind room : ℕ) (fed : List ℕ) (s u : Receiver) (buf other out : List ℕ) → Runs kind room fed s buf
     → (length other ≡ room → ⊥)
     → ((batch : List ℕ) (a : ℕ) → ReceiverFeeds s other batch u a out → (a ≡ 20) × (u ≡ s) × (out ≡ other))
-    × ((a : Record) → ReceiverCloses s other u a out → (a ≡ notOpen) × (u ≡ s) × (out ≡ other))
+    × ((a : Record) → ReceiverCloses s other u a out → (a ≡ not_open) × (u ≡ s) × (out ≡ other))
 
 -- promise: A receiver that was never opened, or was closed, refuses every feed and close with 20; receiver and buffer
 -- are as they were
@@ -110,7 +110,7 @@ abbrev pub ShutRefused : Type 0
 ShutRefused =
     (s u : Receiver) (buf out : List ℕ) → Shut s
     → ((batch : List ℕ) (a : ℕ) → ReceiverFeeds s buf batch u a out → (a ≡ 20) × (u ≡ s) × (out ≡ buf))
-    × ((a : Record) → ReceiverCloses s buf u a out → (a ≡ notOpen) × (u ≡ s) × (out ≡ buf))
+    × ((a : Record) → ReceiverCloses s buf u a out → (a ≡ not_open) × (u ≡ s) × (out ≡ buf))
 
 -- promise: For every receiver whatever, one that no call left too: a feed answers 0 or 20, and 20 of a feed or of a
 -- close changes nothing; the buffer keeps its length
@@ -122,16 +122,16 @@ AnyReceiver =
     → ((batch : List ℕ) (a : ℕ) → ReceiverFeeds s buf batch u a out → (length out ≡ length buf)
     × ((a ≡ 20 → ⊥) → a ≡ 0) × (a ≡ 20 → (u ≡ s) × (out ≡ buf)))
     × ((a : Record) → ReceiverCloses s buf u a out → (length out ≡ length buf)
-    × (a ≡ notOpen → (u ≡ s) × (out ≡ buf)))
+    × (a ≡ not_open → (u ≡ s) × (out ≡ buf)))
 
 -- ---- all of it
 pub record ReceiverPromised : Type 0 where
-  pub receiver-opened : ReceiverOpened
-  pub received-yet : ReceivedYet
-  pub received-all : ReceivedAll
-  pub received-shown : ReceivedShown
-  pub sent-shown : SentShown
-  pub received-cleared : ReceivedCleared
-  pub receiver-refused : ReceiverRefused
-  pub shut-refused : ShutRefused
-  pub any-receiver : AnyReceiver
+  pub receiver_opened : ReceiverOpened
+  pub received_yet : ReceivedYet
+  pub received_all : ReceivedAll
+  pub received_shown : ReceivedShown
+  pub sent_shown : SentShown
+  pub received_cleared : ReceivedCleared
+  pub receiver_refused : ReceiverRefused
+  pub shut_refused : ShutRefused
+  pub any_receiver : AnyReceiver

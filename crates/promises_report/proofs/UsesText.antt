@@ -10,41 +10,41 @@ use Rattle.rules_report.specs.declared.Report.{Report}
 use Rattle.rules_report.specs.declared.Spelled.{Spelled}
 use Rattle.rules_report.specs.Text.{text_of}
 use Rattle.rules_report.specs.Said.{TextSaid, Fits}
-use Rattle.rules_report.proofs.Spelling.{text-most}
-use Rattle.rules_report.proofs.SaidOnly.{text-only}
+use Rattle.rules_report.proofs.Spelling.{text_most}
+use Rattle.rules_report.proofs.SaidOnly.{text_only}
 use Rattle.promises_report.specs.Calls.{Spells}
-use Rattle.promises_report.proofs.Kept.{kept-report}
+use Rattle.promises_report.proofs.Kept.{kept_report}
 
 -- ---- the text
-pub text-whole : (p : Report) (s : Spelled) (left : List ℕ) → Spells p 980 s left
+pub text_whole : (p : Report) (s : Spelled) (left : List ℕ) → Spells p 980 s left
     → (s.number ≡ 0) × (take s.octets left ≡ text_of p) × (drop s.octets left ≡ replicate (980 - s.octets) 0)
     × (length left ≡ 980)
-text-whole p s left f =
-    let t = kept-report.text-fills p 980 s left f in
-    let fits = t.1 (text-most p) in
+text_whole p s left f =
+    let t = kept_report.text_fills p 980 s left f in
+    let fits = t.1 (text_most p) in
     (t.3 (lit≤ tt), fits.2, fits.3, t.0)
 
-pub text-refused : (p : Report) (s : Spelled) (room : ℕ) (left : List ℕ) → Spells p room s left
+pub text_refused : (p : Report) (s : Spelled) (room : ℕ) (left : List ℕ) → Spells p room s left
     → room < length (text_of p) → (s ≡ record { number = 17; octets = 0 }) × (left ≡ replicate room 0)
-text-refused p s room left f h = (kept-report.text-fills p room s left f).2 h
+text_refused p s room left f h = (kept_report.text_fills p room s left f).2 h
 
-pub text-told : (p : Report) (s : Spelled) (room : ℕ) (left : List ℕ) → Spells p room s left
+pub text_told : (p : Report) (s : Spelled) (room : ℕ) (left : List ℕ) → Spells p room s left
     → (length (text_of p) ≤ room → (s.number ≡ 0) × (s.octets ≡ length (text_of p))) × (980 ≤ room → s.number ≡ 0)
-text-told p s room left f =
-    let t = kept-report.text-fills p room s left f in ((λ h. ((t.1 h).0, (t.1 h).1)), t.3)
+text_told p s room left f =
+    let t = kept_report.text_fills p room s left f in ((λ h. ((t.1 h).0, (t.1 h).1)), t.3)
 
 -- what it says: of any numbers of 64 bits and with any room that takes it, a text that says them is the one told
-pub text-one : (p : Report) (room : ℕ) (s : Spelled) (left text : List ℕ) → Spells p room s left → s.number ≡ 0
+pub text_one : (p : Report) (room : ℕ) (s : Spelled) (left text : List ℕ) → Spells p room s left → s.number ≡ 0
     → ((j : ℕ) → get_or p.frames j 0 < 2 ^ 64) → ((j : ℕ) → get_or p.octets j 0 < 2 ^ 64)
     → ((j : ℕ) → get_or p.refused j 0 < 2 ^ 64) → p.airtime < 2 ^ 64 → p.lead < 2 ^ 64 → p.recording < 2 ^ 64
     → TextSaid p text → take s.octets left ≡ text
-text-one p room s left text f z frames octets refused airtime lead recording said =
+text_one p room s left text f z frames octets refused airtime lead recording said =
     let fit : Fits p = record {
-      frames-fit = λ j. omega (arith, frames j);
-      octets-fit = λ j. omega (arith, octets j);
-      refused-fit = λ j. omega (arith, refused j);
-      airtime-fits = omega arith;
-      lead-fits = omega arith;
-      recording-fits = omega arith;
+      frames_fit = λ j. omega (arith, frames j);
+      octets_fit = λ j. omega (arith, octets j);
+      refused_fit = λ j. omega (arith, refused j);
+      airtime_fits = omega arith;
+      lead_fits = omega arith;
+      recording_fits = omega arith;
     } in
-    text-only (kept-report.text_says p room s left f fit z) said
+    text_only (kept_report.text_says p room s left f fit z) said

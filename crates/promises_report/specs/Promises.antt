@@ -35,7 +35,7 @@ pub record FrameAt (os : List Outcome) (j lead : ℕ) : Type 0 where
 
 -- none, if no frame was accepted; else the smallest lead, 0 too, of the first recording that has it
 pub data LeadTold (os : List Outcome) : ℕ → ℕ → ℕ → Type 0 where
-  no-frame : ((j lead : ℕ) → FrameAt os j lead → ⊥) → LeadTold os 0 0 0
+  no_frame : ((j lead : ℕ) → FrameAt os j lead → ⊥) → LeadTold os 0 0 0
   smallest : (lead recording : ℕ) → FrameAt os recording lead
       → ((j other : ℕ) → FrameAt os j other → lead ≤ other)
       → ((j other : ℕ) → FrameAt os j other → j < recording → lead < other)
@@ -48,12 +48,12 @@ sum_of [] = 0
 sum_of (x ∷ xs) = x + sum_of xs
 
 pub record TotalsOf (os : List Outcome) (p : Report) : Type 0 where
-  pub seen-is : p.seen ≡ length os
+  pub seen_is : p.seen ≡ length os
   pub rows_are : FullRows p
-  pub frames-are : (j : ℕ) → j < 4 → SumOf (FrameShare (get_or rates j 0)) os (get_or p.frames j 0)
-  pub octets-are : (j : ℕ) → j < 4 → SumOf (OctetShare (get_or rates j 0)) os (get_or p.octets j 0)
-  pub refused-are : (number : ℕ) → number < 18 → SumOf (RefusalShare number) os (get_or p.refused number 0)
-  pub airtime-is : SumOf AirtimeShare os p.airtime
+  pub frames_are : (j : ℕ) → j < 4 → SumOf (FrameShare (get_or rates j 0)) os (get_or p.frames j 0)
+  pub octets_are : (j : ℕ) → j < 4 → SumOf (OctetShare (get_or rates j 0)) os (get_or p.octets j 0)
+  pub refused_are : (number : ℕ) → number < 18 → SumOf (RefusalShare number) os (get_or p.refused number 0)
+  pub airtime_is : SumOf AirtimeShare os p.airtime
   pub lead_is : LeadTold os p.some p.lead p.recording
   -- frames and refusals together are the recordings counted; only 1 and 8 to 16 are met
   pub together : sum_of p.frames + sum_of p.refused ≡ p.seen
@@ -142,10 +142,10 @@ OneReport =
 
 -- ---- all of it
 pub record ReportPromised : Type 0 where
-  pub report-kept : ReportKept
-  pub kept-answers : KeptAnswers
-  pub any-report : AnyReport
-  pub list-alike : ListAlike
-  pub text-fills : TextFills
+  pub report_kept : ReportKept
+  pub kept_answers : KeptAnswers
+  pub any_report : AnyReport
+  pub list_alike : ListAlike
+  pub text_fills : TextFills
   pub text_says : TextSays
-  pub one-report : OneReport
+  pub one_report : OneReport

@@ -7,15 +7,15 @@ use Prim.Native.Nat.{ℕ}
 use lib.ListN.{length, take}
 use Rattle.rules_calls.specs.declared.Written.{Written}
 use Rattle.rules_store.specs.declared.Settings.{Settings}
-use Rattle.rules_store.specs.Store.{noSettings, settings, storeRead}
-use Rattle.rules_store.specs.Pieces.{laidOut}
+use Rattle.rules_store.specs.Store.{no_settings, settings, store_read}
+use Rattle.rules_store.specs.Pieces.{laid_out}
 use Rattle.rules_store.specs.Plain.{Writes, Changed, Changes}
-use Rattle.rules_store.proofs.Laying.{version-back, laid-octets, laid-most, tags-back, bodies-back}
-use Rattle.rules_store.proofs.Old.{old-reads, old-refuses, old-either}
-use Rattle.rules_store.proofs.OneChanged.{change-reads, change-refused}
-use Rattle.rules_store.proofs.Told.{told-allowed}
-use Rattle.rules_store.proofs.Written.{writes_are, are-writes, left-read, left-longer}
-use Rattle.rules_store.proofs.Changing.{changes-are, are-changes}
+use Rattle.rules_store.proofs.Laying.{version_back, laid_octets, laid_most, tags_back, bodies_back}
+use Rattle.rules_store.proofs.Old.{old_reads, old_refuses, old_either}
+use Rattle.rules_store.proofs.OneChanged.{change_reads, change_refused}
+use Rattle.rules_store.proofs.Told.{told_allowed}
+use Rattle.rules_store.proofs.Written.{writes_are, are_writes, left_read, left_longer}
+use Rattle.rules_store.proofs.Changing.{changes_are, are_changes}
 use Rattle.promises_store.specs.Promises.{
   WriteTells,
   StoreReadBack,
@@ -27,70 +27,70 @@ use Rattle.promises_store.specs.Promises.{
   OneStore,
   StorePromised,
 }
-use Rattle.promises_store.proofs.Table.{read-tells, store-largest}
-use Rattle.promises_store.proofs.Serves.{serves, same-refused}
+use Rattle.promises_store.proofs.Table.{read_tells, store_largest}
+use Rattle.promises_store.proofs.Serves.{serves, same_refused}
 
-write-tells : WriteTells
-write-tells kind rate phase room number left w = (
+write_tells : WriteTells
+write_tells kind rate phase room number left w = (
   subst (λ (x : ℕ × List ℕ). Writes kind rate phase room x.0 x.1)
       (λ i. (sym w.answer i, sym w.octets i)) (writes_are kind rate phase room),
-  λ m l v. let e = are-writes kind rate phase room v in (e.0 ∙ sym w.answer, e.1 ∙ sym w.octets),
+  λ m l v. let e = are_writes kind rate phase room v in (e.0 ∙ sym w.answer, e.1 ∙ sym w.octets),
 )
 
-store-read-back : StoreReadBack
-store-read-back kind rate phase room number left g h w = (
-  λ s r. r.answer ∙ ap (λ (l : List ℕ). storeRead (take 17 l)) w.octets ∙ left-read kind rate phase room g h,
+store_read_back : StoreReadBack
+store_read_back kind rate phase room number left g h w = (
+  λ s r. r.answer ∙ ap (λ (l : List ℕ). storeRead (take 17 l)) w.octets ∙ left_read kind rate phase room g h,
   λ m s a b r. r.answer ∙ ap (λ (l : List ℕ). storeRead (take m l)) w.octets
-      ∙ left-longer kind rate phase room g h m a b,
+      ∙ left_longer kind rate phase room g h m a b,
 )
 
-change-tells : ChangeTells
-change-tells octets tag value number left c = (
+change_tells : ChangeTells
+change_tells octets tag value number left c = (
   subst (λ (x : ℕ × List ℕ). Changes octets tag value x.0 x.1)
-      (λ i. (sym c.answer i, sym c.octets i)) (changes-are octets tag value),
-  λ m l v. let e = are-changes octets tag value v in (e.0 ∙ sym c.answer, e.1 ∙ sym c.octets),
+      (λ i. (sym c.answer i, sym c.octets i)) (changes_are octets tag value),
+  λ m l v. let e = are_changes octets tag value v in (e.0 ∙ sym c.answer, e.1 ∙ sym c.octets),
 )
 
-change-touches : ChangeTouches
-change-touches octets tag value number left c = (
-  λ n. c.octets ∙ change-refused octets tag value (λ z. n (c.answer ∙ z)),
+change_touches : ChangeTouches
+change_touches octets tag value number left c = (
+  λ n. c.octets ∙ change_refused octets tag value (λ z. n (c.answer ∙ z)),
   λ z s t r u.
       subst (λ (x : Settings × Settings). Changed value tag x.0 x.1)
-      (λ i. (sym r.answer i, sym (u.answer ∙ ap storeRead c.octets) i))
-      (change-reads octets tag value (sym c.answer ∙ z)),
+      (λ i. (sym r.answer i, sym (u.answer ∙ ap store_read c.octets) i))
+      (change_reads octets tag value (sym c.answer ∙ z)),
 )
 
-laid-back : LaidBack
-laid-back version ps v w = (
-  laid-octets version ps v w,
-  laid-most version ps w,
-  tags-back version ps,
-  bodies-back version ps,
-  version-back version ps,
+laid_back : LaidBack
+laid_back version ps v w = (
+  laid_octets version ps v w,
+  laid_most version ps w,
+  tags_back version ps,
+  bodies_back version ps,
+  version_back version ps,
 )
 
-old-readers : OldReaders
-old-readers version ps w s r = (
-  λ p m h. r.answer ∙ old-refuses version ps w.few w.rises p m h,
+old_readers : OldReaders
+old_readers version ps w s r = (
+  λ p m h. r.answer ∙ old_refuses version ps w.few w.rises p m h,
   λ kind rate phase t. (
-    λ below. r.answer ∙ old-reads version ps w.few w.rises kind rate phase t below,
-    by kind rate phase (old-either version ps w.few w.rises kind rate phase t),
+    λ below. r.answer ∙ old_reads version ps w.few w.rises kind rate phase t below,
+    by kind rate phase (old_either version ps w.few w.rises kind rate phase t),
   ),
 )
   where
     by : (kind rate phase : ℕ)
-        → (storeRead (laidOut version ps) ≡ settings kind rate phase)
-        ⊎ (storeRead (laidOut version ps) ≡ noSettings 25)
-        → (s ≡ settings kind rate phase) ⊎ (s ≡ noSettings 25)
+        → (store_read (laid_out version ps) ≡ settings kind rate phase)
+        ⊎ (store_read (laid_out version ps) ≡ no_settings 25)
+        → (s ≡ settings kind rate phase) ⊎ (s ≡ no_settings 25)
     by kind rate phase (inl e) = inl (r.answer ∙ e)
     by kind rate phase (inr e) = inr (r.answer ∙ e)
 
-store-serves : StoreServes
-store-serves clock payload room w chips some few = (
+store_serves : StoreServes
+store_serves clock payload room w chips some few = (
   λ octets s r z v.
       let t =
       serves s.kind s.rate s.phase (length payload) room some few
-      (told-allowed octets (read-tells octets s r).0 z) in
+      (told_allowed octets (read_tells octets s r).0 z) in
       record {
         front = t.front;
         octet = t.octet;
@@ -98,7 +98,7 @@ store-serves clock payload room w chips some few = (
         good = λ h. ap (λ (x : Written). x.number) v.answer ∙ t.good h;
       },
   λ kind rate phase held number left t v.
-      rw (t.answer, v.answer) (same-refused kind rate phase (length payload) room some few held),
+      rw (t.answer, v.answer) (same_refused kind rate phase (length payload) room some few held),
 )
 
 one_store : OneStore
@@ -110,14 +110,14 @@ one_store = (
 
 pub kept : StorePromised
 kept = record {
-  read-tells = read-tells;
-  write-tells = write-tells;
-  store-read-back = store-read-back;
-  change-tells = change-tells;
-  change-touches = change-touches;
-  laid-back = laid-back;
-  old-readers = old-readers;
-  store-largest = store-largest;
-  store-serves = store-serves;
+  read_tells = read_tells;
+  write_tells = write_tells;
+  store_read_back = store_read_back;
+  change_tells = change_tells;
+  change_touches = change_touches;
+  laid_back = laid_back;
+  old_readers = old_readers;
+  store_largest = store_largest;
+  store_serves = store_serves;
   one_store = one_store;
 }

@@ -8,8 +8,8 @@ use Rattle.rules_calls.specs.declared.Written.{Written}
 use Rattle.rules_store.specs.declared.Entry.{Entry}
 use Rattle.rules_store.specs.declared.Settings.{Settings}
 use Rattle.rules_store.specs.Store.{entries}
-use Rattle.rules_store.specs.Pieces.{Piece, laidOut, Writable, Carries}
-use Rattle.rules_store.specs.Plain.{onlyNumber, allThree, AllowedSettings, StoreTells, Writes, Changed, Changes}
+use Rattle.rules_store.specs.Pieces.{Piece, laid_out, Writable, Carries}
+use Rattle.rules_store.specs.Plain.{only_number, all_three, AllowedSettings, StoreTells, Writes, Changed, Changes}
 use Rattle.promises.specs.Calls.{Wrote, Goes}
 use Rattle.promises_store.specs.Calls.{StoreWrites, StoreReads, StoreChanges}
 
@@ -41,8 +41,8 @@ abbrev pub StoreReadBack : Type 0
 StoreReadBack =
     (kind rate phase room number : ℕ) (left : List ℕ) → AllowedSettings kind rate phase → 17 ≤ room
     → StoreWrites kind rate phase room number left
-    → ((s : Settings) → StoreReads (take 17 left) s → s ≡ allThree kind rate phase)
-    × ((m : ℕ) (s : Settings) → 17 < m → m ≤ room → StoreReads (take m left) s → s ≡ onlyNumber 24)
+    → ((s : Settings) → StoreReads (take 17 left) s → s ≡ all_three kind rate phase)
+    × ((m : ℕ) (s : Settings) → 17 < m → m ≤ room → StoreReads (take m left) s → s ≡ only_number 24)
 
 -- promise: What a change answers and leaves in plain numbers: as a read, 30, 28 for the settings as they would be, or
 -- one octet; nothing else is allowed
@@ -72,11 +72,11 @@ ChangeTouches =
 abbrev pub LaidBack : Type 0
 LaidBack =
     (version : ℕ) (ps : List Piece) → version < 256 → Writable ps
-    → Below 256 (laidOut version ps) × (length (laidOut version ps) ≤ 4146)
-    × (map (λ (e : Entry). e.tag) (entries (laidOut version ps)) ≡ map (λ (p : Piece). p.tag) ps)
-    × (map (λ (e : Entry). take e.size (drop e.offset (laidOut version ps))) (entries (laidOut version ps))
+    → Below 256 (laid_out version ps) × (length (laid_out version ps) ≤ 4146)
+    × (map (λ (e : Entry). e.tag) (entries (laid_out version ps)) ≡ map (λ (p : Piece). p.tag) ps)
+    × (map (λ (e : Entry). take e.size (drop e.offset (laid_out version ps))) (entries (laid_out version ps))
     ≡ map (λ (p : Piece). p.body) ps)
-    × (get_or (laidOut version ps) 0 0 ≡ version)
+    × (get_or (laid_out version ps) 0 0 ≡ version)
 
 -- promise: The old reader: whatever a newer writer lays out, of any version, is read as its three settings where every
 -- other tag is below 128, and is refused with 25 where one is 128 or more
@@ -85,11 +85,11 @@ LaidBack =
 -- with: Carries
 abbrev pub OldReaders : Type 0
 OldReaders =
-    (version : ℕ) (ps : List Piece) → Writable ps → (s : Settings) → StoreReads (laidOut version ps) s
-    → ((p : Piece) → Memᴰ p ps → 128 ≤ p.tag → s ≡ onlyNumber 25)
+    (version : ℕ) (ps : List Piece) → Writable ps → (s : Settings) → StoreReads (laid_out version ps) s
+    → ((p : Piece) → Memᴰ p ps → 128 ≤ p.tag → s ≡ only_number 25)
     × ((kind rate phase : ℕ) → Carries kind rate phase ps
-    → (((p : Piece) → Memᴰ p ps → p.tag < 128) → s ≡ allThree kind rate phase)
-    × ((s ≡ allThree kind rate phase) ⊎ (s ≡ onlyNumber 25)))
+    → (((p : Piece) → Memᴰ p ps → p.tag < 128) → s ≡ all_three kind rate phase)
+    × ((s ≡ all_three kind rate phase) ⊎ (s ≡ only_number 25)))
 
 -- promise: A row that is longer than the longest store that can be laid out, 4,146 octets, is refused with 22, 23 or 24
 -- rule: 6.25
@@ -97,14 +97,14 @@ OldReaders =
 abbrev pub StoreLargest : Type 0
 StoreLargest =
     (octets : List ℕ) (s : Settings) → Below 256 octets → 4146 < length octets → StoreReads octets s
-    → (s ≡ onlyNumber 22) ⊎ ((s ≡ onlyNumber 23) ⊎ (s ≡ onlyNumber 24))
+    → (s ≡ only_number 22) ⊎ ((s ≡ only_number 23) ⊎ (s ≡ only_number 24))
 
 -- the refusals of a frame's write that are about kind, rate code and starting phase
 pub data OfSettings : ℕ → Type 0 where
-  of-kind : OfSettings 1
-  of-rate : OfSettings 2
-  of-both : OfSettings 3
-  of-phase : OfSettings 5
+  of_kind : OfSettings 1
+  of_rate : OfSettings 2
+  of_both : OfSettings 3
+  of_phase : OfSettings 5
 
 -- a frame of n octets is written with the settings told, where the chip buffer holds it
 pub record Served (s : Settings) (n room number : ℕ) : Type 0 where
@@ -142,13 +142,13 @@ OneStore =
 
 -- ---- all of it
 pub record StorePromised : Type 0 where
-  pub read-tells : ReadTells
-  pub write-tells : WriteTells
-  pub store-read-back : StoreReadBack
-  pub change-tells : ChangeTells
-  pub change-touches : ChangeTouches
-  pub laid-back : LaidBack
-  pub old-readers : OldReaders
-  pub store-largest : StoreLargest
-  pub store-serves : StoreServes
+  pub read_tells : ReadTells
+  pub write_tells : WriteTells
+  pub store_read_back : StoreReadBack
+  pub change_tells : ChangeTells
+  pub change_touches : ChangeTouches
+  pub laid_back : LaidBack
+  pub old_readers : OldReaders
+  pub store_largest : StoreLargest
+  pub store_serves : StoreServes
   pub one_store : OneStore

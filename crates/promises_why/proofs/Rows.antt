@@ -1,4 +1,4 @@
--- Each refusal that a reading of a hard recording can come to (`reading-comes` of rules_reading) shows its row of the
+-- Each refusal that a reading of a hard recording can come to (`reading_comes` of rules_reading) shows its row of the
 -- table, and two numbers that differ but where `Alike` says. Assumes nothing.
 use mathlib.Core.Path.{◌≡◌, refl, sym, ◌∙◌, subst}
 use mathlib.Core.Bool.{true, false}
@@ -10,102 +10,102 @@ use native.Mathlib.Omega.{arith}
 use borrow.Author.Tests.{ltb-false}
 use lib.IntN.{pos}
 use lib.ListN.{length, take, drop}
-use Rattle.base.proofs.Below.{below-drop}
+use Rattle.base.proofs.Below.{below_drop}
 use Rattle.rules_rates.specs.declared.Rate.{Rate}
 use Rattle.rules_rates.specs.declared.Rate.TheVariants.{One}
-use Rattle.rules_rates.specs.Rates.{code_of, rateOf, octetChips, octetsRead, lengthHolds}
-use Rattle.rules_rates.proofs.Lengths.{octets-back}
-use Rattle.rules_rates.proofs.Plain.{holds-any}
-use Rattle.rules_chips.specs.Chips.{Taken, hardRecording}
-use Rattle.rules_chips.proofs.Recorders.{length-hard}
-use Rattle.rules_bits.specs.Bits.{highestFirst}
-use Rattle.rules_bits.specs.Crc.{crcBits}
-use Rattle.rules_bits.proofs.Crc.{crc-length, crc-below}
-use Rattle.rules_bits.proofs.Highest.{highest-only}
+use Rattle.rules_rates.specs.Rates.{code_of, rate_of, octet_chips, octets_read, length_holds}
+use Rattle.rules_rates.proofs.Lengths.{octets_back}
+use Rattle.rules_rates.proofs.Plain.{holds_any}
+use Rattle.rules_chips.specs.Chips.{Taken, hard_recording}
+use Rattle.rules_chips.proofs.Recorders.{length_hard}
+use Rattle.rules_bits.specs.Bits.{highest_first}
+use Rattle.rules_bits.specs.Crc.{crc_bits}
+use Rattle.rules_bits.proofs.Crc.{crc_length, crc_below}
+use Rattle.rules_bits.proofs.Highest.{highest_only}
 use Rattle.rules_frame.specs.declared.Kind.{Kind}
-use Rattle.rules_frame.specs.Frame.{isKind, kind_of, frontChips, frameChips}
+use Rattle.rules_frame.specs.Frame.{is_kind, kind_of, front_chips, frame_chips}
 use Rattle.rules_calls.specs.declared.Refusal.{Refusal}
 use Rattle.rules_calls.specs.declared.Refusal.TheVariants.{Unusable, OddGrowth, Crc, Service, Length, Ends, OctetRoom}
 use Rattle.rules_calls.specs.declared.Told.{Told}
 use Rattle.rules_calls.specs.declared.Reading.{Reading}
 use Rattle.rules_calls.specs.declared.Reading.TheVariants.{Refused}
-use Rattle.rules_calls.specs.Headers.{serviceAllowed, ours}
+use Rattle.rules_calls.specs.Headers.{service_allowed, ours}
 use Rattle.rules_reading.specs.Places.{UnusableFirst, FirstOddSymbol}
-use Rattle.rules_reading.specs.Heard.{headerHeard, signalHeard, serviceHeard, lengthHeard}
-use Rattle.rules_reading.specs.Reading.{payloadOdd, payloadReading}
-use Rattle.rules_reading.proofs.Payloads.{foundUnusable, room-refused, unusable-refused, odd_refused, payload-good}
-use Rattle.rules_reading.proofs.Fields.{signal-field, header-below}
+use Rattle.rules_reading.specs.Heard.{header_heard, signal_heard, service_heard, length_heard}
+use Rattle.rules_reading.specs.Reading.{payload_odd, payload_reading}
+use Rattle.rules_reading.proofs.Payloads.{found_unusable, room_refused, unusable_refused, odd_refused, payload_good}
+use Rattle.rules_reading.proofs.Fields.{signal_field, header_below}
 use Rattle.rules_reading.proofs.FirstPlaces.{
-  front-unusable-first,
-  payload-unusable-first,
-  front-odd-first,
-  payload-odd-first,
+  front_unusable_first,
+  payload_unusable_first,
+  front_odd_first,
+  payload_odd_first,
 }
 use Rattle.rules_reading.proofs.Refusals.{
   Clear,
   CrcHeard,
   Sound,
   FrontRefusal,
-  front-short,
-  front-unusable,
-  front-odd,
-  sfd-differs,
-  crc-differs,
-  no-signal,
-  no-service,
+  front_short,
+  front_unusable,
+  front_odd_lem,
+  sfd_differs,
+  crc_differs,
+  no_signal,
+  no_service,
   no_length,
   FrontHeard,
   WholeRefusal,
-  met-in-front,
-  frame-ends,
+  met_in_front,
+  frame_ends,
 }
-use Rattle.rules_reading.proofs.Comes.{ReadingComes, kind-none, rows_apart, by_front, by-payload, reading-comes}
+use Rattle.rules_reading.proofs.Comes.{ReadingComes, kind_none, rows_apart, by_front, by_payload, reading_comes}
 use Rattle.promises.specs.Reasons.{HasHeader, HasPayload}
 use Rattle.promises.proofs.Reasons.{
-  front-known,
+  front_known,
   clash,
-  has-bits,
-  at-24,
-  at-32,
-  has-header,
-  code-of,
-  has-payload,
+  has_bits,
+  at_24,
+  at_32,
+  has_header,
+  code_of_lem,
+  has_payload,
   free,
-  rate-of,
+  rate_of_lem,
 }
 use Rattle.rules_why.specs.declared.Reason.{Reason}
-use Rattle.rules_why.specs.Why.{serviceLeft, lengthFor, reason, reasonOf, whyOf}
+use Rattle.rules_why.specs.Why.{service_left, length_for, reason, reason_of, why_of}
 use Rattle.rules_why.specs.Plain.{Cleared, LengthWanted}
-use Rattle.rules_why.proofs.Numbers.{left-some, wanted-same}
+use Rattle.rules_why.proofs.Numbers.{left_some, wanted_same}
 use Rattle.rules_why.proofs.Laws.{
-  unusable-octet,
-  shown-10,
-  shown-11,
-  shown-12,
-  shown-14,
-  shown-15,
-  shown-16,
-  shown-17,
-  crc-sixteen,
-  service-below,
-  why-is,
+  unusable_octet,
+  shown_10,
+  shown_11,
+  shown_12,
+  shown_14,
+  shown_15,
+  shown_16,
+  shown_17,
+  crc_sixteen,
+  service_below,
+  why_is,
 }
 use Rattle.promises_why.specs.Table.{
   Table,
-  row-0,
-  row-1,
-  row-8,
-  row-9,
-  row-10,
-  row-11,
-  row-12,
-  row-13,
-  row-14,
-  row-15,
-  row-16,
-  row-17,
+  row_0,
+  row_1,
+  row_8,
+  row_9,
+  row_10,
+  row_11,
+  row_12,
+  row_13,
+  row_14,
+  row_15,
+  row_16,
+  row_17,
 }
-use Rattle.promises_why.specs.Promises.{Alike, all-zeros, signal-0, length-0}
+use Rattle.promises_why.specs.Promises.{Alike, all_zeros, signal_0, length_0}
 
 module _ (kind : ℕ) (chips : List ℕ) (room : ℕ) where
   pub record Shows (r : Reason) : Type 0 where
@@ -117,156 +117,156 @@ module _ (kind : ℕ) (chips : List ℕ) (room : ℕ) where
   differ t d = record { row = t; apart = λ e. absurd (d e) }
 
   -- what is shown, known by an equation
-  by-shown : {number place : ℕ} {x y : ℕ × ℕ} → x ≡ y → Shows (reason number place y.0 y.1)
+  by_shown : {number place : ℕ} {x y : ℕ × ℕ} → x ≡ y → Shows (reason number place y.0 y.1)
       → Shows (reason number place x.0 x.1)
-  by-shown {number} {place} e s =
+  by_shown {number} {place} e s =
       subst (λ (z : ℕ × ℕ). Shows (reason number place z.0 z.1)) (sym e) s
 
   abbrev rec : List Taken
-  rec = hardRecording chips
+  rec = hard_recording chips
 
   abbrev k : Kind
   k = kind_of kind
 
   abbrev ShowsIf : Reading → Type 0
-  ShowsIf g = Shows (reasonOf kind k chips rec room g)
+  ShowsIf g = Shows (reason_of kind k chips rec room g)
 
   abbrev signal : ℕ
-  signal = signalHeard k rec
+  signal = signal_heard k rec
 
   abbrev service : ℕ
-  service = serviceHeard k rec
+  service = service_heard k rec
 
   abbrev l : ℕ
-  l = lengthHeard k rec
+  l = length_heard k rec
 
   -- ---- 9 and 10, in the front and in the payload
-  unusable-shows : (p m : ℕ) → UnusableFirst rec p → ShowsIf (Refused (Unusable p m))
-  unusable-shows p m f =
-      let o = unusable-octet chips p f in
-      differ (row-9 p o) (λ e. omega (arith, e, o))
+  unusable_shows : (p m : ℕ) → UnusableFirst rec p → ShowsIf (Refused (Unusable p m))
+  unusable_shows p m f =
+      let o = unusable_octet chips p f in
+      differ (row_9 p o) (λ e. omega (arith, e, o))
 
-  odd-shows : (p m : ℕ) → FirstOddSymbol rec p → ShowsIf (Refused (OddGrowth p m))
-  odd-shows p m f =
-      let g = (shown-10 kind k chips rec room p m f).1 in
-      differ (row-10 g) (λ e. omega (arith, e, g.odd))
+  odd_shows : (p m : ℕ) → FirstOddSymbol rec p → ShowsIf (Refused (OddGrowth p m))
+  odd_shows p m f =
+      let g = (shown_10 kind k chips rec room p m f).1 in
+      differ (row_10 g) (λ e. omega (arith, e, g.odd))
 
-  module _ (known : isKind kind ≡ true) where
+  module _ (known : is_kind kind ≡ true) where
     -- ---- the front's
-    crc-shows : Clear k rec → (CrcHeard k rec → ⊥) → ShowsIf (Refused Crc)
-    crc-shows c d =
-        let header = headerHeard k rec in
-        let w = shown-12 kind k chips rec room in
+    crc_shows : Clear k rec → (CrcHeard k rec → ⊥) → ShowsIf (Refused Crc)
+    crc_shows c d =
+        let header = header_heard k rec in
+        let w = shown_12 kind k chips rec room in
         differ
-        (subst (λ (x : ℕ). Table kind chips room 12 0 x (highestFirst (drop 32 header))) (sym w.0)
-        (row-12 (has-bits kind true rec room known refl c) (signal-field k rec One 0)
-        (at-24 kind true rec room known refl) (at-32 kind true rec room known refl) w.1))
+        (subst (λ (x : ℕ). Table kind chips room 12 0 x (highest_first (drop 32 header))) (sym w.0)
+        (row_12 (has_bits kind true rec room known refl c) (signal_field k rec One 0)
+        (at_24 kind true rec room known refl) (at_32 kind true rec room known refl) w.1))
         (λ e. d
-        (highest-only (crcBits (take 32 header)) (drop 32 header)
-        (crc-length (take 32 header) ∙ sym (crc-sixteen kind k chips rec room)) (crc-below (take 32 header))
-        (below-drop 32 (header-below k rec)) e))
+        (highest_only (crc_bits (take 32 header)) (drop 32 header)
+        (crc_length (take 32 header) ∙ sym (crc_sixteen kind k chips rec room)) (crc_below (take 32 header))
+        (below_drop 32 (header_below k rec)) e))
 
     module _ (s : Sound k rec) (a : ours.signals k signal ≡ true) where
       abbrev rate : Rate
-      rate = rateOf signal
+      rate = rate_of signal
 
       header : HasHeader kind true rec signal service l
-      header = has-header kind true rec room known refl s
+      header = has_header kind true rec room known refl s
 
       coded : code_of rate ≡ signal
-      coded = code-of kind true rec room known refl signal a
+      coded = code_of_lem kind true rec room known refl signal a
 
-      service-shows : (m : ℕ) → serviceAllowed rate service ≡ false → ShowsIf (Refused (Service m))
-      service-shows m b =
-          let left = serviceLeft rate service in
+      service_shows : (m : ℕ) → service_allowed rate service ≡ false → ShowsIf (Refused (Service m))
+      service_shows m b =
+          let left = service_left rate service in
           differ
-          (row-14 header
-          (subst (λ (x : ℕ). Cleared x service left) coded (shown-14 kind k chips rec room m).1))
-          (λ e. left-some rate service (service-below kind k chips rec room) b (sym e))
+          (row_14 header
+          (subst (λ (x : ℕ). Cleared x service left) coded (shown_14 kind k chips rec room m).1))
+          (λ e. left-some rate service (service_below kind k chips rec room) b (sym e))
 
-      length-shows : lengthHolds rate l (service / 128 % 2) ≡ false → ShowsIf (Refused (Length l))
-      length-shows d =
+      length_shows : length_holds rate l (service / 128 % 2) ≡ false → ShowsIf (Refused (Length l))
+      length_shows d =
           let seven = service / 128 % 2 in
-          let wanted = lengthFor rate (octetsRead rate l seven) in
-          let w = (shown-15 kind k chips rec room l).0 in
+          let wanted = length_for rate (octets_read rate l seven) in
+          let w = (shown_15 kind k chips rec room l).0 in
           record {
-            row = row-15 header (subst (λ (x : ℕ). LengthWanted x l seven wanted) coded w);
+            row = row_15 header (subst (λ (x : ℕ). LengthWanted x l seven wanted) coded w);
             apart = λ e.
-                let z : l ≡ 0 = wanted-same w e (λ n h. clash (holds-any rate h) d) in
-                subst (λ (x : ℕ × ℕ). Alike (reason 15 0 x.0 x.1)) (λ i. (sym (e ∙ z) i, sym z i)) length-0;
+                let z : l ≡ 0 = wanted_same w e (λ n h. clash (holds_any rate h) d) in
+                subst (λ (x : ℕ × ℕ). Alike (reason 15 0 x.0 x.1)) (λ i. (sym (e ∙ z) i, sym z i)) length_0;
           }
 
-    in-front : {e : Refusal} → FrontRefusal k rec e → ShowsIf (Refused e)
-    in-front (front-short l) =
-        differ (row-8 (front-known kind known)) (λ e. omega (arith, l, e, length-hard chips))
-    in-front (front-unusable p l f) = unusable-shows p 0 (front-unusable-first k rec p l f)
-    in-front (front-odd p l u f) = odd-shows p 0 (front-odd-first rec k p f)
-    in-front (sfd-differs c d) =
-        differ (row-11 (has-bits kind true rec room known refl c) (shown-11 kind k chips rec room).1) (λ e. d (sym e))
-    in-front (crc-differs c s d) = crc-shows c d
-    in-front (no-signal s a) = record {
-      row = row-13 (has-header kind true rec room known refl s);
-      apart = λ e. subst (λ (x : ℕ). Alike (reason 13 0 0 x)) e signal-0;
+    in_front : {e : Refusal} → FrontRefusal k rec e → ShowsIf (Refused e)
+    in_front (front_short l) =
+        differ (row_8 (front_known kind known)) (λ e. omega (arith, l, e, length_hard chips))
+    in_front (front_unusable p l f) = unusable_shows p 0 (front_unusable_first k rec p l f)
+    in_front (front_odd_lem p l u f) = odd_shows p 0 (front_odd_first rec k p f)
+    in_front (sfd_differs c d) =
+        differ (row_11 (has_bits kind true rec room known refl c) (shown_11 kind k chips rec room).1) (λ e. d (sym e))
+    in_front (crc_differs c s d) = crc_shows c d
+    in_front (no_signal s a) = record {
+      row = row_13 (has_header kind true rec room known refl s);
+      apart = λ e. subst (λ (x : ℕ). Alike (reason 13 0 0 x)) e signal_0;
     }
-    in-front (no-service s a b) = service-shows s a l b
-    in-front (no_length s a b d) = length-shows s a d
+    in_front (no_service s a b) = service_shows s a l b
+    in_front (no_length s a b d) = length_shows s a d
 
     -- ---- what a front told
     module _ (t : Told) (h : FrontHeard k rec t) where
-      abbrev told : HasPayload kind true rec (code_of t.rate) service t.length t.n (frontChips k)
-          (octetChips t.rate)
-      told = has-payload kind true rec room known refl t h
+      abbrev told : HasPayload kind true rec (code_of t.rate) service t.length t.n (front_chips k)
+          (octet_chips t.rate)
+      told = has_payload kind true rec room known refl t h
 
-      octets-are : octetsRead (rateOf signal) l (service / 128 % 2) ≡ pos t.n
-      octets-are =
-          (λ i. octetsRead (sym h.tells.rate-is i) (h.tells.length-is i) (sym h.tells.seven_is i))
-          ∙ octets-back t.rate t.n
+      octets_are : octets_read (rate_of signal) l (service / 128 % 2) ≡ pos t.n
+      octets_are =
+          (λ i. octetsRead (sym h.tells.rate_is i) (h.tells.length_is i) (sym h.tells.seven_is i))
+          ∙ octets_back t.rate t.n
 
-      ends-shows : length rec < frameChips k t.rate t.n → ShowsIf (Refused (Ends t.length))
-      ends-shows m =
-          by-shown
-          (shown-16 kind k chips rec room t.n t.length octets-are
-          ∙ (λ i. (frontChips k + octetChips (sym h.tells.rate-is i) * t.n, length chips)))
-          (differ (row-16 told) (λ e. omega (arith, m, e, length-hard chips)))
+      ends_shows : length rec < frame_chips k t.rate t.n → ShowsIf (Refused (Ends t.length))
+      ends_shows m =
+          by_shown
+          (shown_16 kind k chips rec room t.n t.length octets_are
+          ∙ (λ i. (front_chips k + octet_chips (sym h.tells.rate_is i) * t.n, length chips)))
+          (differ (row_16 told) (λ e. omega (arith, m, e, length_hard chips)))
 
-      room-shows : room < t.n → ShowsIf (Refused (OctetRoom t.length))
-      room-shows m =
-          by-shown (shown-17 kind k chips rec room t.n t.length octets-are)
-          (differ (row-17 told) (λ e. omega (arith, m, e)))
+      room_shows : room < t.n → ShowsIf (Refused (OctetRoom t.length))
+      room_shows m =
+          by_shown (shown_17 kind k chips rec room t.n t.length octets_are)
+          (differ (row_17 told) (λ e. omega (arith, m, e)))
 
-      module _ (there : frameChips k t.rate t.n ≤ length rec) where
-        payload-shows : ShowsIf (payloadReading k t rec room)
-        payload-shows =
-            by (dec_lt room t.n) (foundUnusable k t rec) refl (payloadOdd k t.rate t.n rec) refl
+      module _ (there : frame_chips k t.rate t.n ≤ length rec) where
+        payload_shows : ShowsIf (payload_reading k t rec room)
+        payload_shows =
+            by (dec_lt room t.n) (found_unusable k t rec) refl (payload_odd k t.rate t.n rec) refl
           where
-            come : (g : Reading) → payloadReading k t rec room ≡ g → ShowsIf g → ShowsIf (payloadReading k t rec room)
+            come : (g : Reading) → payload_reading k t rec room ≡ g → ShowsIf g → ShowsIf (payload_reading k t rec room)
             come g e x = subst ShowsIf (sym e) x
 
-            by : Dec (room < t.n) → (o : Option ℕ) → foundUnusable k t rec ≡ o → (q : Option ℕ)
-                → payloadOdd k t.rate t.n rec ≡ q → ShowsIf (payloadReading k t rec room)
-            by (yes m) o e q d = come _ (room-refused k t rec room m) (room-shows m)
+            by : Dec (room < t.n) → (o : Option ℕ) → found_unusable k t rec ≡ o → (q : Option ℕ)
+                → payload_odd k t.rate t.n rec ≡ q → ShowsIf (payload_reading k t rec room)
+            by (yes m) o e q d = come _ (room_refused k t rec room m) (room_shows m)
             by (no m) (some p) e q d =
-                come _ (unusable-refused k t rec room p (omega (arith, m)) e)
-                (unusable-shows p t.length
-                (payload-unusable-first k rec t there (free kind true rec room known refl t h there) p e))
+                come _ (unusable_refused k t rec room p (omega (arith, m)) e)
+                (unusable_shows p t.length
+                (payload_unusable_first k rec t there (free kind true rec room known refl t h there) p e))
             by (no m) none e (some p) d =
                 come _ (odd_refused k t rec room p (omega (arith, m)) e d)
-                (odd-shows p t.length
-                (payload-odd-first rec k t.rate t.n p (rate-of kind true rec room known refl t h there)
+                (odd_shows p t.length
+                (payload_odd_first rec k t.rate t.n p (rate_of_lem kind true rec room known refl t h there)
                 h.sound.clear.even d))
             by (no m) none e none d =
-                come _ (payload-good k t rec room (omega (arith, m)) e d)
-                (record { row = row-0; apart = λ e. all-zeros })
+                come _ (payload_good k t rec room (omega (arith, m)) e d)
+                (record { row = row_0; apart = λ e. all-zeros })
 
-    whole-shows : {e : Refusal} → WholeRefusal k rec e → ShowsIf (Refused e)
-    whole-shows (met-in-front f) = in-front f
-    whole-shows (frame-ends t h m) = ends-shows t h m
+    whole_shows : {e : Refusal} → WholeRefusal k rec e → ShowsIf (Refused e)
+    whole_shows (met_in_front f) = in_front f
+    whole_shows (frame_ends t h m) = ends_shows t h m
 
-  comes-shows : {g : Reading} → ReadingComes kind true rec room g → ShowsIf g
-  comes-shows (kind-none b) = differ row-1 (λ e. omega (arith, e, ltb-false kind 2 b))
-  comes-shows (rows_apart b d) = absurd (clash refl d)
-  comes-shows (by_front b d w) = whole-shows b w
-  comes-shows (by-payload b d t h there) = payload-shows b t h there
+  comes_shows : {g : Reading} → ReadingComes kind true rec room g → ShowsIf g
+  comes_shows (kind_none b) = differ row_1 (λ e. omega (arith, e, ltb-false kind 2 b))
+  comes_shows (rows_apart b d) = absurd (clash refl d)
+  comes_shows (by_front b d w) = whole_shows b w
+  comes_shows (by_payload b d t h there) = payload_shows b t h there
 
-  pub why-shows : Shows (whyOf kind chips room)
-  why-shows = subst Shows (sym (why-is kind chips room)) (comes-shows (reading-comes kind true rec room))
+  pub why_shows : Shows (why_of kind chips room)
+  why_shows = subst Shows (sym (why_is kind chips room)) (comes_shows (reading_comes kind true rec room))

@@ -34,9 +34,9 @@ WhyTable =
 
 -- where both numbers are one: good reads, and two refusals that show 0 and 0, 13 of SIGNAL 0 and 15 of LENGTH 0
 pub data Alike : Reason → Type 0 where
-  all-zeros : Alike (reason 0 0 0 0)
-  signal-0 : Alike (reason 13 0 0 0)
-  length-0 : Alike (reason 15 0 0 0)
+  all_zeros : Alike (reason 0 0 0 0)
+  signal_0 : Alike (reason 13 0 0 0)
+  length_0 : Alike (reason 15 0 0 0)
 
 -- promise: What was expected and what was found differ for every refusal but two, 13 of SIGNAL 0 and 15 of LENGTH 0,
 -- and these two show 0 and 0
@@ -60,7 +60,7 @@ OneReason =
 
 -- ---- all of it
 pub record WhyPromised : Type 0 where
-  pub why-agrees : WhyAgrees
-  pub why-table : WhyTable
-  pub why-differs : WhyDiffers
-  pub one-reason : OneReason
+  pub why_agrees : WhyAgrees
+  pub why_table : WhyTable
+  pub why_differs : WhyDiffers
+  pub one_reason : OneReason

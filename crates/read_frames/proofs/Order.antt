@@ -7,11 +7,11 @@ use Prim.Native.Nat.{ℕ, ◌-◌, ◌*◌, ◌≤◌, ◌<◌}
 use native.Mathlib.Omega.{arith}
 use lib.ListN.{length, take, drop, replicate}
 use borrow.Author.Tests.{lt-ltb, le-ltb}
-use Rattle.rules_rates.specs.Rates.{octetChips}
+use Rattle.rules_rates.specs.Rates.{octet_chips}
 use Rattle.rules_chips.specs.Chips.{Taken}
 use Rattle.rules_frame.specs.declared.Kind.{Kind}
 use Rattle.rules_frame.specs.declared.Kind.TheVariants.{Long}
-use Rattle.rules_frame.specs.Frame.{isKind, kind_of, frontChips, frameChips}
+use Rattle.rules_frame.specs.Frame.{is_kind, kind_of, front_chips, frame_chips}
 use Rattle.rules_calls.specs.declared.Refusal.{Refusal}
 use Rattle.rules_calls.specs.declared.Refusal.TheVariants.{NoKind, RowsDiffer, Unusable, OctetRoom}
 use Rattle.rules_calls.specs.declared.Told.{Told}
@@ -20,69 +20,69 @@ use Rattle.rules_calls.specs.declared.Front.TheVariants as front
 use Rattle.rules_calls.specs.declared.Reading.{Reading}
 use Rattle.rules_calls.specs.declared.Reading.TheVariants.{Refused}
 use Rattle.rules_calls.specs.declared.Record.{Record}
-use Rattle.rules_calls.specs.Answers.{recordOf}
+use Rattle.rules_calls.specs.Answers.{record_of}
 use Rattle.rules_calls.specs.Headers.{Accepted, ours, of1997}
 use Rattle.rules_reading.specs.Reading.{
-  firstUnusable,
-  payloadOdd,
-  payloadReading,
-  readingBy,
+  first_unusable,
+  payload_odd,
+  payload_reading,
+  reading_by,
   reading_of,
-  octetsAfter,
-  octetsFound,
+  octets_after,
+  octets_found,
 }
 use Rattle.rules_reading.specs.Guides.{reading1997, octets1997}
-use Rattle.rules_reading.specs.Leads.{frameLeads, leastOf}
+use Rattle.rules_reading.specs.Leads.{frame_leads, least_of}
 use Rattle.choose_recorded.specs.declared.Place.{Place}
 use Rattle.choose_recorded.specs.declared.Place.TheVariants.{Nothing, At}
-use Rattle.choose_recorded.specs.Recorded.{whereFound, AllUsable}
-use Rattle.choose_recorded.proofs.Search.{none-usable}
+use Rattle.choose_recorded.specs.Recorded.{where_found, AllUsable}
+use Rattle.choose_recorded.proofs.Search.{none_usable}
 use Rattle.read_fronts.specs.declared.Opening.{Opening}
 use Rattle.read_fronts.specs.Openings.{OpensWhole}
-use Rattle.read_frames.specs.Payloads.{octetsHeard, afterHeard}
+use Rattle.read_frames.specs.Payloads.{octets_heard, after_heard}
 
 -- ---- the payload
 
 module _ (k : Kind) (t : Told) (rec : List Taken) (room : ℕ) where
-  pub payload-room : room < t.n → Refused (OctetRoom t.length) ≡ payloadReading k t rec room
-  unfolding payloadReading
-  payload-room h = rw (lt-ltb room t.n h)
+  pub payload_room : room < t.n → Refused (OctetRoom t.length) ≡ payload_reading k t rec room
+  unfolding payload_reading
+  payload_room h = rw (lt-ltb room t.n h)
 
   -- 17 is through, and the payload's chips are searched
   pub record Searched (all : ℕ) (f : Place) : Type 0 where
-    pub whole : all ≡ frameChips k t.rate t.n
+    pub whole : all ≡ frame_chips k t.rate t.n
     pub fits : t.n ≤ room
     pub from : ℕ
-    pub at_front : from ≡ frontChips k
-    pub is : whereFound f ≡ firstUnusable from (take (all - from) (drop from rec))
+    pub at_front : from ≡ front_chips k
+    pub is : where_found f ≡ first_unusable from (take (all - from) (drop from rec))
 
-  pub payload-unusable : {all : ℕ} {f : Place} (place : ℕ) → Searched all f → f ≡ At place
-      → Refused (Unusable place t.length) ≡ payloadReading k t rec room
-  unfolding payloadReading
-  payload-unusable {all} place s e = rw (← s.whole, ← s.at_front, le-ltb room t.n s.fits, ← s.is, e)
+  pub payload_unusable : {all : ℕ} {f : Place} (place : ℕ) → Searched all f → f ≡ At place
+      → Refused (Unusable place t.length) ≡ payload_reading k t rec room
+  unfolding payload_reading
+  payload_unusable {all} place s e = rw (← s.whole, ← s.at_front, le-ltb room t.n s.fits, ← s.is, e)
 
-  pub payload-usable : {all : ℕ} {f : Place} → Searched all f → f ≡ Nothing
-      → frameChips k t.rate t.n ≤ length rec → AllUsable rec (frontChips k) (octetChips t.rate * t.n)
-  payload-usable {all} s e h =
-      let part : all - s.from ≡ octetChips t.rate * t.n = omega (arith, s.whole, s.at_front) in
-      none-usable rec (frontChips k) (octetChips t.rate * t.n) h
-      (rw (← part, ← s.at_front) (sym s.is ∙ ap whereFound e))
+  pub payload_usable : {all : ℕ} {f : Place} → Searched all f → f ≡ Nothing
+      → frame_chips k t.rate t.n ≤ length rec → AllUsable rec (front_chips k) (octet_chips t.rate * t.n)
+  payload_usable {all} s e h =
+      let part : all - s.from ≡ octet_chips t.rate * t.n = omega (arith, s.whole, s.at_front) in
+      none_usable rec (front_chips k) (octet_chips t.rate * t.n) h
+      (rw (← part, ← s.at_front) (sym s.is ∙ ap where_found e))
 
   -- what hearing left is what reading leaves
   left : (all : ℕ) (b : Least) (o : Place)
-      → octetsHeard k t.rate t.n rec room (whereFound o)
-      ≡ octetsAfter k rec room (afterHeard t all b (whereFound o))
+      → octets_heard k t.rate t.n rec room (where_found o)
+      ≡ octets_after k rec room (after_heard t all b (where_found o))
   left all b Nothing = refl
   left all b (At place) = refl
 
-  pub payload-heard : {all : ℕ} {f : Place} (o : Place) (b : Least) (g : Reading) (out : List ℕ) → Searched all f
-      → f ≡ Nothing → whereFound o ≡ payloadOdd k t.rate t.n rec
-      → b ≡ leastOf (frameLeads k t.rate t.n rec)
-      → out ≡ octetsHeard k t.rate t.n rec room (whereFound o)
-      → g ≡ afterHeard t all b (whereFound o) → (g ≡ payloadReading k t rec room) × (out ≡ octetsAfter k rec room g)
-  unfolding payloadReading
-  payload-heard {all} o b g out s e p l q w =
-      let tests : afterHeard t all b (whereFound o) ≡ payloadReading k t rec room =
+  pub payload_heard : {all : ℕ} {f : Place} (o : Place) (b : Least) (g : Reading) (out : List ℕ) → Searched all f
+      → f ≡ Nothing → where_found o ≡ payload_odd k t.rate t.n rec
+      → b ≡ least_of (frame_leads k t.rate t.n rec)
+      → out ≡ octets_heard k t.rate t.n rec room (where_found o)
+      → g ≡ after_heard t all b (where_found o) → (g ≡ payload_reading k t rec room) × (out ≡ octets_after k rec room g)
+  unfolding payload_reading
+  payload_heard {all} o b g out s e p l q w =
+      let tests : after_heard t all b (where_found o) ≡ payload_reading k t rec room =
       rw (← s.whole, ← s.at_front, le-ltb room t.n s.fits, ← s.is, e, ← p, ← l) in
       (w ∙ tests, rw w (q ∙ left all b o))
 
@@ -90,57 +90,57 @@ module _ (k : Kind) (t : Told) (rec : List Taken) (room : ℕ) where
 
 module _ (accepted : Accepted) (k : Kind) (rec : List Taken) (room : ℕ) (o : Opening) (x : OpensWhole accepted k rec o)
   where
-    pub as-refused : (w : Refusal) (out : List ℕ) → o.front ≡ front.Refused w → out ≡ replicate room 0
-        → (Refused w ≡ readingBy accepted k rec room) × (out ≡ octetsAfter k rec room (Refused w))
-    as-refused w out t z = (rw (← x.told, t), z)
+    pub as_refused : (w : Refusal) (out : List ℕ) → o.front ≡ front.Refused w → out ≡ replicate room 0
+        → (Refused w ≡ reading_by accepted k rec room) × (out ≡ octets_after k rec room (Refused w))
+    as_refused w out t z = (rw (← x.told, t), z)
 
-    pub as-told : (t : Told) (g : Reading) (out : List ℕ) → o.front ≡ front.Fields t
-        → (g ≡ payloadReading k t rec room) × (out ≡ octetsAfter k rec room g)
-        → (g ≡ readingBy accepted k rec room) × (out ≡ octetsAfter k rec room g)
-    as-told t g out w p = (p.0 ∙ rw (← x.told, w), p.1)
+    pub as_told : (t : Told) (g : Reading) (out : List ℕ) → o.front ≡ front.Fields t
+        → (g ≡ payload_reading k t rec room) × (out ≡ octets_after k rec room g)
+        → (g ≡ reading_by accepted k rec room) × (out ≡ octets_after k rec room g)
+    as_told t g out w p = (p.0 ∙ rw (← x.told, w), p.1)
 
 -- ---- the whole
 
 module _ (kind : ℕ) (agree : Bool) (rec : List Taken) (room : ℕ) where
-  both : (g : Reading) (out : List ℕ) → g ≡ reading_of kind agree rec room → out ≡ octetsAfter (kind_of kind) rec room g
-      → (g ≡ reading_of kind agree rec room) × (out ≡ octetsFound kind agree rec room)
-  unfolding octetsFound
-  both g out e f = (e, f ∙ ap (octetsAfter (kind_of kind) rec room) e)
+  both : (g : Reading) (out : List ℕ) → g ≡ reading_of kind agree rec room → out ≡ octets_after (kind_of kind) rec room g
+      → (g ≡ reading_of kind agree rec room) × (out ≡ octets_found kind agree rec room)
+  unfolding octets_found
+  both g out e f = (e, f ∙ ap (octets_after (kind_of kind) rec room) e)
 
-  pub read-no-kind : (out : List ℕ) → isKind kind ≡ false → out ≡ replicate room 0
-      → (Refused NoKind ≡ reading_of kind agree rec room) × (out ≡ octetsFound kind agree rec room)
-  read-no-kind out e z = both (Refused NoKind) out (unfold reading_of in rw e) z
+  pub read_no_kind : (out : List ℕ) → is_kind kind ≡ false → out ≡ replicate room 0
+      → (Refused NoKind ≡ reading_of kind agree rec room) × (out ≡ octets_found kind agree rec room)
+  read_no_kind out e z = both (Refused NoKind) out (unfold reading_of in rw e) z
 
-  pub read-rows : (out : List ℕ) → isKind kind ≡ true → agree ≡ false → out ≡ replicate room 0
-      → (Refused RowsDiffer ≡ reading_of kind agree rec room) × (out ≡ octetsFound kind agree rec room)
-  read-rows out e a z = both (Refused RowsDiffer) out (unfold reading_of in rw (e, a)) z
+  pub read_rows : (out : List ℕ) → is_kind kind ≡ true → agree ≡ false → out ≡ replicate room 0
+      → (Refused RowsDiffer ≡ reading_of kind agree rec room) × (out ≡ octets_found kind agree rec room)
+  read_rows out e a z = both (Refused RowsDiffer) out (unfold reading_of in rw (e, a)) z
 
-  pub read-ours : isKind kind ≡ true → agree ≡ true → (k : Kind) → k ≡ kind_of kind → (g : Reading) (out : List ℕ)
-      → (g ≡ readingBy ours k rec room) × (out ≡ octetsAfter k rec room g)
-      → (g ≡ reading_of kind agree rec room) × (out ≡ octetsFound kind agree rec room)
-  read-ours e a k c g out p =
+  pub read_ours : is_kind kind ≡ true → agree ≡ true → (k : Kind) → k ≡ kind_of kind → (g : Reading) (out : List ℕ)
+      → (g ≡ reading_by ours k rec room) × (out ≡ octets_after k rec room g)
+      → (g ≡ reading_of kind agree rec room) × (out ≡ octets_found kind agree rec room)
+  read_ours e a k c g out p =
       both g out (p.0 ∙ (unfold reading_of in rw (e, a, ← c)))
       (p.1 ∙ ap (λ (i : Kind). octetsAfter i rec room g) c)
 
-pub read-of-1997 : (k : Kind) → k ≡ Long → (rec : List Taken) (room : ℕ) (g : Reading) (out : List ℕ)
-    → (g ≡ readingBy of1997 k rec room) × (out ≡ octetsAfter k rec room g)
+pub read_of_1997 : (k : Kind) → k ≡ Long → (rec : List Taken) (room : ℕ) (g : Reading) (out : List ℕ)
+    → (g ≡ reading_by of1997 k rec room) × (out ≡ octets_after k rec room g)
     → (g ≡ reading1997 rec room) × (out ≡ octets1997 rec room)
 unfolding reading1997 octets1997
-read-of-1997 k e rec room g out p =
-    let q = subst (λ (i : Kind). (g ≡ readingBy of1997 i rec room) × (out ≡ octetsAfter i rec room g)) e p in
-    (q.0, q.1 ∙ ap (octetsAfter Long rec room) q.0)
+read_of_1997 k e rec room g out p =
+    let q = subst (λ (i : Kind). (g ≡ reading_by of1997 i rec room) × (out ≡ octets_after i rec room g)) e p in
+    (q.0, q.1 ∙ ap (octets_after Long rec room) q.0)
 
 -- a buffer that was filled is zeros, and as long as it was
 pub cleared : (d z : List ℕ) → z ≡ replicate (length d) 0 → length z ≡ length d → z ≡ replicate (length z) 0
 cleared d z e f = e ∙ ap (λ (m : ℕ). replicate m 0) (sym f)
 
 pub as_long : (accepted : Accepted) (k : Kind) (rec : List Taken) (g : Reading) (out : List ℕ) (m room : ℕ) → m ≡ room
-    → (g ≡ readingBy accepted k rec m) × (out ≡ octetsAfter k rec m g)
-    → (g ≡ readingBy accepted k rec room) × (out ≡ octetsAfter k rec room g)
+    → (g ≡ reading_by accepted k rec m) × (out ≡ octets_after k rec m g)
+    → (g ≡ reading_by accepted k rec room) × (out ≡ octets_after k rec room g)
 as_long accepted k rec g out m room e h =
-    subst (λ (i : ℕ). (g ≡ readingBy accepted k rec i) × (out ≡ octetsAfter k rec i g)) e h
+    subst (λ (i : ℕ). (g ≡ reading_by accepted k rec i) × (out ≡ octets_after k rec i g)) e h
 
 -- a call answers the numbers of what reading comes to, and leaves what it leaves
-pub in-numbers : {g h : Reading} {r : Record} {out w : List ℕ} → r ≡ recordOf g → (g ≡ h) × (out ≡ w)
-    → (r ≡ recordOf h) × (out ≡ w)
-in-numbers e p = (e ∙ ap recordOf p.0, p.1)
+pub in_numbers : {g h : Reading} {r : Record} {out w : List ℕ} → r ≡ record_of g → (g ≡ h) × (out ≡ w)
+    → (r ≡ record_of h) × (out ≡ w)
+in_numbers e p = (e ∙ ap record_of p.0, p.1)

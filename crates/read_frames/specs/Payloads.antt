@@ -10,13 +10,13 @@ use Rattle.rules_calls.specs.declared.Told.{Told}
 use Rattle.rules_calls.specs.declared.Least.{Least}
 use Rattle.rules_calls.specs.declared.Reading.{Reading}
 use Rattle.rules_calls.specs.declared.Reading.TheVariants.{Refused, Good}
-use Rattle.rules_reading.specs.Reading.{or_else, payloadOf}
+use Rattle.rules_reading.specs.Reading.{or_else, payload_of}
 
 -- what a payload leaves in room for so many octets: zeros where a symbol is grown by 1 or 3
-abbrev pub octetsHeard : Kind → Rate → ℕ → List Taken → ℕ → Option ℕ → List ℕ
-octetsHeard k r n rec room none = payloadOf k r n rec ++ replicate (room - n) 0
-octetsHeard k r n rec room (some place) = replicate room 0
+abbrev pub octets_heard : Kind → Rate → ℕ → List Taken → ℕ → Option ℕ → List ℕ
+octets_heard k r n rec room none = payload_of k r n rec ++ replicate (room - n) 0
+octets_heard k r n rec room (some place) = replicate room 0
 
 -- what a payload of usable chips comes to: 10, or the whole answer
-abbrev pub afterHeard : Told → ℕ → Least → Option ℕ → Reading
-afterHeard t used least odd = or_else odd (λ place. Refused (OddGrowth place t.length)) (Good t used least)
+abbrev pub after_heard : Told → ℕ → Least → Option ℕ → Reading
+after_heard t used least odd = or_else odd (λ place. Refused (OddGrowth place t.length)) (Good t used least)

@@ -1,9 +1,9 @@
 // Reading: recordings to payloads, with every refusal in its order.
 ghost use Rattle.std.specs.Prelude.{◌≡◌, true, ◌%◌, eqb, length, replicate};
-ghost use Rattle.rules_chips.specs.Chips.{hardRecording, softRecording, byteRecording};
-ghost use Rattle.rules_calls.specs.Answers.{recordOf};
-ghost use Rattle.rules_calls.specs.Headers.{acceptedBy};
-ghost use Rattle.rules_reading.specs.Reading.{readingBy, reading_of, octetsAfter, octetsFound};
+ghost use Rattle.rules_chips.specs.Chips.{hard_recording, soft_recording, byte_recording};
+ghost use Rattle.rules_calls.specs.Answers.{record_of};
+ghost use Rattle.rules_calls.specs.Headers.{accepted_by};
+ghost use Rattle.rules_reading.specs.Reading.{reading_by, reading_of, octets_after, octets_found};
 ghost use Rattle.rules_reading.specs.Guides.{reading1997, octets1997};
 ghost use Rattle.choose_recorders.specs.Rows.{lent};
 
@@ -26,9 +26,9 @@ fn read_as(
     octets: &mut [u8],
 ) -> Reading
     requires { octets.old ≡ replicate (length octets.old) 0 }
-    ensures answer { result ≡ readingBy (acceptedBy by) kind
+    ensures answer { result ≡ reading_by (accepted_by by) kind
         (lent rec row.entry bytes.entry i.entry q.entry) (length octets.old) }
-    ensures octets { octets.new ≡ octetsAfter kind
+    ensures octets { octets.new ≡ octets_after kind
         (lent rec row.entry bytes.entry i.entry q.entry) (length octets.old) result }
 {
     let opening = read_fronts::read_whole(by, rec, row, bytes, i, q, kind);
@@ -57,7 +57,7 @@ fn read(
 ) -> Reading
     ensures answer { result ≡ reading_of kind agree
         (lent rec row.entry bytes.entry i.entry q.entry) (length octets.old) }
-    ensures octets { octets.new ≡ octetsFound kind agree
+    ensures octets { octets.new ≡ octets_found kind agree
         (lent rec row.entry bytes.entry i.entry q.entry) (length octets.old) }
 {
     common_rows::fill(octets, 0);
@@ -74,9 +74,9 @@ fn read(
 // A hard recording: octets, 0 to 3 a phase, 4 lost, 5 to 255 unusable.
 pub fn read_hard(kind: u64, chips: &[u8], octets: &mut [u8]) -> Record
     ensures answer { result ≡
-        recordOf (reading_of kind true (hardRecording chips.now) (length octets.old)) }
+        record_of (reading_of kind true (hard_recording chips.now) (length octets.old)) }
     ensures octets { octets.new ≡
-        octetsFound kind true (hardRecording chips.now) (length octets.old) }
+        octets_found kind true (hard_recording chips.now) (length octets.old) }
 {
     let byte = [0i8; 1];
     let bytes = &byte[0..0];
@@ -88,11 +88,11 @@ pub fn read_hard(kind: u64, chips: &[u8], octets: &mut [u8]) -> Record
 
 // A soft recording: two rows of f32, I and Q.
 pub fn read_soft(kind: u64, i: &[f32], q: &[f32], octets: &mut [u8]) -> Record
-    ensures answer { result ≡ recordOf (reading_of kind (eqb (length i.now) (length q.now))
-        (softRecording i.now q.now) (length octets.old)) }
+    ensures answer { result ≡ record_of (reading_of kind (eqb (length i.now) (length q.now))
+        (soft_recording i.now q.now) (length octets.old)) }
     ensures octets { octets.new ≡
-        octetsFound kind (eqb (length i.now) (length q.now))
-        (softRecording i.now q.now) (length octets.old) }
+        octets_found kind (eqb (length i.now) (length q.now))
+        (soft_recording i.now q.now) (length octets.old) }
 {
     let octet = [0u8; 1];
     let chips = &octet[0..0];
@@ -105,10 +105,10 @@ pub fn read_soft(kind: u64, i: &[f32], q: &[f32], octets: &mut [u8]) -> Record
 
 // A byte recording: signed bytes, I and Q in turn.
 pub fn read_bytes(kind: u64, bytes: &[i8], octets: &mut [u8]) -> Record
-    ensures answer { result ≡ recordOf (reading_of kind (eqb (length bytes.now % 2) 0)
-        (byteRecording bytes.now) (length octets.old)) }
-    ensures octets { octets.new ≡ octetsFound kind (eqb (length bytes.now % 2) 0)
-        (byteRecording bytes.now) (length octets.old) }
+    ensures answer { result ≡ record_of (reading_of kind (eqb (length bytes.now % 2) 0)
+        (byte_recording bytes.now) (length octets.old)) }
+    ensures octets { octets.new ≡ octets_found kind (eqb (length bytes.now % 2) 0)
+        (byte_recording bytes.now) (length octets.old) }
 {
     let octet = [0u8; 1];
     let chips = &octet[0..0];
@@ -122,9 +122,9 @@ pub fn read_bytes(kind: u64, bytes: &[i8], octets: &mut [u8]) -> Record
 // A hard recording as a guide of 1997 reads it: long fronts, SIGNAL 10 or 20, SERVICE 0.
 pub fn read_1997(chips: &[u8], octets: &mut [u8]) -> Record
     ensures answer { result ≡
-        recordOf (reading1997 (hardRecording chips.now) (length octets.old)) }
+        record_of (reading1997 (hard_recording chips.now) (length octets.old)) }
     ensures octets { octets.new ≡
-        octets1997 (hardRecording chips.now) (length octets.old) }
+        octets1997 (hard_recording chips.now) (length octets.old) }
 {
     common_rows::fill(octets, 0);
     let byte = [0i8; 1];

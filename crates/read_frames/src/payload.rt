@@ -1,13 +1,13 @@
 // The payload: refusal 17, and 9 and 10 over it.
 ghost use Rattle.std.specs.Prelude.{◌≡◌, ◌*◌, ◌≤◌, length, replicate};
-ghost use Rattle.rules_rates.specs.Rates.{octetChips};
-ghost use Rattle.rules_frame.specs.Frame.{frontChips, frameChips};
-ghost use Rattle.rules_reading.specs.Reading.{payloadOdd, payloadReading, octetsAfter};
-ghost use Rattle.rules_reading.specs.Leads.{frontLeads, frameLeads, leastOf};
+ghost use Rattle.rules_rates.specs.Rates.{octet_chips};
+ghost use Rattle.rules_frame.specs.Frame.{front_chips, frame_chips};
+ghost use Rattle.rules_reading.specs.Reading.{payload_odd, payload_reading, octets_after};
+ghost use Rattle.rules_reading.specs.Leads.{front_leads, frame_leads, least_of};
 ghost use Rattle.choose_recorders.specs.Rows.{lent};
-ghost use Rattle.choose_recorded.specs.Recorded.{whereFound, AllUsable};
+ghost use Rattle.choose_recorded.specs.Recorded.{where_found, AllUsable};
 ghost use Rattle.read_fronts.specs.Openings.{Opened};
-ghost use Rattle.read_frames.specs.Payloads.{octetsHeard, afterHeard};
+ghost use Rattle.read_frames.specs.Payloads.{octets_heard, after_heard};
 
 use choose_recorded::Place;
 use choose_recorders::Recorder;
@@ -39,18 +39,18 @@ fn hear_payload(
     least: Least,
     octets: &mut [u8],
 ) -> Payload
-    requires { (frameChips kind rate n ≤ length (lent rec row bytes i q))
-        × AllUsable (lent rec row bytes i q) (frontChips kind) (octetChips rate * n)
+    requires { (frame_chips kind rate n ≤ length (lent rec row bytes i q))
+        × AllUsable (lent rec row bytes i q) (front_chips kind) (octet_chips rate * n)
         × (n ≤ length octets.old) × (Opened kind (lent rec row bytes i q) line)
         × (octets.old ≡ replicate (length octets.old) 0)
-        × (least ≡ leastOf (frontLeads kind (lent rec row bytes i q))) }
-    ensures answer { whereFound result.odd ≡
-        payloadOdd kind rate n (lent rec row.entry bytes.entry i.entry q.entry) }
-    ensures least { result.least ≡ leastOf
-        (frameLeads kind rate n (lent rec row.entry bytes.entry i.entry q.entry)) }
-    ensures octets { octets.new ≡ octetsHeard kind rate n
+        × (least ≡ least_of (front_leads kind (lent rec row bytes i q))) }
+    ensures answer { where_found result.odd ≡
+        payload_odd kind rate n (lent rec row.entry bytes.entry i.entry q.entry) }
+    ensures least { result.least ≡ least_of
+        (frame_leads kind rate n (lent rec row.entry bytes.entry i.entry q.entry)) }
+    ensures octets { octets.new ≡ octets_heard kind rate n
         (lent rec row.entry bytes.entry i.entry q.entry)
-        (length octets.old) (whereFound result.odd) }
+        (length octets.old) (where_found result.odd) }
 {
     let from = common_kinds::front_chips(kind);
     // each symbol of the front is 11 chips
@@ -86,7 +86,7 @@ fn hear_payload(
 
 // What a payload of usable chips comes to: 10, or the whole answer.
 fn heard(told: Told, used: usize, least: Least, odd: Place) -> Reading
-    ensures answer { result ≡ afterHeard told used least (whereFound odd) }
+    ensures answer { result ≡ after_heard told used least (where_found odd) }
 {
     match odd {
         Place::At(place) => {
@@ -112,13 +112,13 @@ pub fn read_payload(
     octets: &mut [u8],
 ) -> Reading
     requires { (told.n ≤ 4095)
-        × (frameChips kind told.rate told.n ≤ length (lent rec row bytes i q))
+        × (frame_chips kind told.rate told.n ≤ length (lent rec row bytes i q))
         × (Opened kind (lent rec row bytes i q) line)
         × (octets.old ≡ replicate (length octets.old) 0)
-        × (least ≡ leastOf (frontLeads kind (lent rec row bytes i q))) }
-    ensures answer { result ≡ payloadReading kind told
+        × (least ≡ least_of (front_leads kind (lent rec row bytes i q))) }
+    ensures answer { result ≡ payload_reading kind told
         (lent rec row.entry bytes.entry i.entry q.entry) (length octets.old) }
-    ensures octets { octets.new ≡ octetsAfter kind
+    ensures octets { octets.new ≡ octets_after kind
         (lent rec row.entry bytes.entry i.entry q.entry) (length octets.old) result }
 {
     let n = told.n;

@@ -1,13 +1,13 @@
 // A front heard: SYNC, the SFD and the header, to their end, with the smallest lead of their symbols.
 ghost use Rattle.std.specs.Prelude.{◌≡◌, ◌+◌, ◌≤◌, length, take, drop};
-ghost use Rattle.rules_frame.specs.Frame.{frontChips};
-ghost use Rattle.rules_reading.specs.Leads.{leastOf};
+ghost use Rattle.rules_frame.specs.Frame.{front_chips};
+ghost use Rattle.rules_reading.specs.Leads.{least_of};
 ghost use Rattle.choose_recorders.specs.Rows.{lent};
 ghost use Rattle.choose_recorded.specs.Recorded.{AllUsable};
 ghost use Rattle.read_fronts.specs.Openings.{
-  syncOctets,
-  preambleOctets,
-  preambleLeads,
+  sync_octets,
+  preamble_octets,
+  preamble_leads,
   PreambleLine,
   PreambleKnown,
   FrontKnown,
@@ -24,7 +24,7 @@ use rules_rates::Rate;
 
 // How many octets SYNC and the SFD are.
 fn preamble_octets(kind: Kind) -> usize
-    ensures answer { result ≡ syncOctets kind + 2 }
+    ensures answer { result ≡ sync_octets kind + 2 }
 {
     match kind {
         Kind::Long => 18,
@@ -34,7 +34,7 @@ fn preamble_octets(kind: Kind) -> usize
 
 // The SFD's octets, those behind SYNC.
 fn behind_sync(kind: Kind, preamble: [u8; 18]) -> [u8; 2]
-    ensures answer { result ≡ take 2 (drop (syncOctets kind) preamble) }
+    ensures answer { result ≡ take 2 (drop (sync_octets kind) preamble) }
 {
     match kind {
         Kind::Long => [preamble[16], preamble[17]],
@@ -53,14 +53,14 @@ fn hear_sync(
     kind: Kind,
     octets: &mut [u8],
 ) -> Part
-    requires { (frontChips kind ≤ length (lent rec row bytes i q))
-        × AllUsable (lent rec row bytes i q) 0 (frontChips kind)
+    requires { (front_chips kind ≤ length (lent rec row bytes i q))
+        × AllUsable (lent rec row bytes i q) 0 (front_chips kind)
         × (length octets.old ≡ 18) }
     ensures answer { PreambleLine kind
         (lent rec row.entry bytes.entry i.entry q.entry) result.heard }
-    ensures least { result.least ≡ leastOf (preambleLeads kind
+    ensures least { result.least ≡ least_of (preamble_leads kind
         (lent rec row.entry bytes.entry i.entry q.entry)) }
-    ensures octets { take (syncOctets kind + 2) octets.new ≡ preambleOctets kind
+    ensures octets { take (sync_octets kind + 2) octets.new ≡ preamble_octets kind
         (lent rec row.entry bytes.entry i.entry q.entry) }
 {
     let mut numbers = [0u8; 64];
@@ -108,8 +108,8 @@ fn hear_preamble(
     q: &[f32],
     kind: Kind,
 ) -> Preamble
-    requires { (frontChips kind ≤ length (lent rec row bytes i q))
-        × AllUsable (lent rec row bytes i q) 0 (frontChips kind) }
+    requires { (front_chips kind ≤ length (lent rec row bytes i q))
+        × AllUsable (lent rec row bytes i q) 0 (front_chips kind) }
     ensures answer { PreambleKnown kind
         (lent rec row.entry bytes.entry i.entry q.entry) result }
 {
@@ -128,8 +128,8 @@ pub fn hear_front(
     q: &[f32],
     kind: Kind,
 ) -> FrontHeard
-    requires { (frontChips kind ≤ length (lent rec row bytes i q))
-        × AllUsable (lent rec row bytes i q) 0 (frontChips kind) }
+    requires { (front_chips kind ≤ length (lent rec row bytes i q))
+        × AllUsable (lent rec row bytes i q) 0 (front_chips kind) }
     ensures answer { FrontKnown kind
         (lent rec row.entry bytes.entry i.entry q.entry) result }
 {

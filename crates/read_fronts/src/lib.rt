@@ -2,11 +2,11 @@
 ghost use Rattle.std.specs.Prelude.{◌≡◌, List, ◌≤◌};
 ghost use Rattle.rules_chips.specs.Chips.{Taken};
 ghost use Rattle.rules_calls.specs.declared.Told.{Told};
-ghost use Rattle.rules_calls.specs.Answers.{refusalNumber};
-ghost use Rattle.rules_calls.specs.Headers.{acceptedBy};
-ghost use Rattle.rules_reading.specs.Reading.{frontBy};
+ghost use Rattle.rules_calls.specs.Answers.{refusal_number};
+ghost use Rattle.rules_calls.specs.Headers.{accepted_by};
+ghost use Rattle.rules_reading.specs.Reading.{front_by};
 ghost use Rattle.choose_recorders.specs.Rows.{lent};
-ghost use Rattle.read_fronts.specs.Openings.{FrontKnown, afterUsable, Looks, Opens, OpensWhole};
+ghost use Rattle.read_fronts.specs.Openings.{FrontKnown, after_usable, Looks, Opens, OpensWhole};
 
 use choose_recorded::Place;
 use choose_recorders::Recorder;
@@ -66,10 +66,10 @@ fn refused(e: Refusal) -> Opening
 // front of no recording, too, tells of 4,095 octets at most, and is refused with no other numbers.
 pub fn told(by: Reader, kind: Kind, known: FrontHeard) -> Opening
     ensures answer { (rec : List Taken) → FrontKnown kind rec known →
-        Opens kind rec (afterUsable (acceptedBy by) kind rec) result }
+        Opens kind rec (after_usable (accepted_by by) kind rec) result }
     ensures few { (t : Told) → result.front ≡ Front.Fields t → t.n ≤ 4095 }
     ensures refuses { (e : Refusal) → result.front ≡ Front.Refused e →
-        (10 ≤ refusalNumber e) × (refusalNumber e ≤ 15) }
+        (10 ≤ refusal_number e) × (refusal_number e ≤ 15) }
 {
     let part = known.part;
     let heard = part.heard;
@@ -121,7 +121,7 @@ pub fn read_front(
     kind: Kind,
 ) -> Opening
     ensures answer { Opens kind (lent rec row.entry bytes.entry i.entry q.entry)
-        (frontBy (acceptedBy by) kind (lent rec row.entry bytes.entry i.entry q.entry)) result }
+        (front_by (accepted_by by) kind (lent rec row.entry bytes.entry i.entry q.entry)) result }
 {
     let looked = look_at_front(rec, row, bytes, i, q, kind);
     match looked {
@@ -144,7 +144,7 @@ pub fn read_whole(
     q: &[f32],
     kind: Kind,
 ) -> Opening
-    ensures answer { OpensWhole (acceptedBy by) kind
+    ensures answer { OpensWhole (accepted_by by) kind
         (lent rec row.entry bytes.entry i.entry q.entry) result }
 {
     let opening = read_front(by, rec, row, bytes, i, q, kind);

@@ -1,7 +1,7 @@
 -- Pieces of a batch, one after the other.
 --     Gone          the first chips of a batch are taken
---     gone-none, gone-more, gone-all     no chip yet, a piece more, all of them
---     rest-long     what is left of a batch
+--     gone_none, gone_more, gone_all     no chip yet, a piece more, all of them
+--     rest_long     what is left of a batch
 -- Assumes nothing.
 use mathlib.Core.Path.{◌≡◌, refl, sym, ap, subst, ◌∙◌}
 use mathlib.Core.Bool.{true}
@@ -21,45 +21,45 @@ use Rattle.receive_calls.specs.Steps.{TakesSome, BatchIs}
 pub record Gone (p₀ : Progress) (hold₀ preamble₀ header₀ buf₀ batch : List ℕ) (at : ℕ) (p : Progress)
     (hold preamble header buf : List ℕ) : Type 0 where
   pub within : at ≤ length batch
-  pub takes-more : takes p (length buf) ≡ true
-  pub hold-long : length hold ≡ 88
-  pub preamble-long : length preamble ≡ 18
-  pub header-long : length header ≡ 6
+  pub takes_more_lem : takes p (length buf) ≡ true
+  pub hold_long : length hold ≡ 88
+  pub preamble_long : length preamble ≡ 18
+  pub header_long : length header ≡ 6
   pub long : length buf ≡ length buf₀
   pub receives : (kind : ℕ) (fed : List ℕ) → Going kind (length buf₀) fed p₀ hold₀ preamble₀ header₀ buf₀
       → Going kind (length buf₀) (fed ++ take at batch) p hold preamble header buf
 
-pub gone-none : (p : Progress) (hold preamble header buf batch : List ℕ) → takes p (length buf) ≡ true
+pub gone_none : (p : Progress) (hold preamble header buf batch : List ℕ) → takes p (length buf) ≡ true
     → length hold ≡ 88 → length preamble ≡ 18 → length header ≡ 6
     → Gone p hold preamble header buf batch 0 p hold preamble header buf
-gone-none p hold preamble header buf batch e a b c = record {
+gone_none p hold preamble header buf batch e a b c = record {
   within = omega arith;
-  takes-more = e;
-  hold-long = a;
-  preamble-long = b;
-  header-long = c;
+  takes_more_lem = e;
+  hold_long = a;
+  preamble_long = b;
+  header_long = c;
   long = refl;
   receives = λ kind fed x.
       subst (λ (l : List ℕ). Going kind (length buf) l p hold preamble header buf) (sym (append-nil fed)) x;
 }
 
-pub rest-long : (batch : List ℕ) (at : ℕ) → at ≤ length batch
+pub rest_long : (batch : List ℕ) (at : ℕ) → at ≤ length batch
     → length (take (length batch - at) (drop at batch)) ≡ length batch - at
-rest-long batch at h = length-take-le (length batch - at) (drop at batch) (omega (arith, length-drop at batch))
+rest_long batch at h = length-take-le (length batch - at) (drop at batch) (omega (arith, length-drop at batch))
 
 module _
     (p₀ : Progress) (hold₀ preamble₀ header₀ buf₀ batch : List ℕ) (at : ℕ) (p : Progress)
     (hold preamble header buf : List ℕ) (x : Gone p₀ hold₀ preamble₀ header₀ buf₀ batch at p hold preamble header buf)
   where
-    pub gone-more : (q : Pieced) (hold' preamble' header' out : List ℕ)
+    pub gone_more : (q : Pieced) (hold' preamble' header' out : List ℕ)
         → TakesSome p hold preamble header buf (take (length batch - at) (drop at batch)) q hold' preamble' header' out
         → Gone p₀ hold₀ preamble₀ header₀ buf₀ batch (at + q.taken) q.progress hold' preamble' header' out
-    gone-more q hold' preamble' header' out y = record {
-      within = omega (arith, y.most, rest-long batch at x.within, x.within);
-      takes-more = ap (takes q.progress) y.long ∙ y.takes-more;
-      hold-long = y.hold-long ∙ x.hold-long;
-      preamble-long = y.preamble-long ∙ x.preamble-long;
-      header-long = y.header-long ∙ x.header-long;
+    gone_more q hold' preamble' header' out y = record {
+      within = omega (arith, y.most, rest_long batch at x.within, x.within);
+      takes_more_lem = ap (takes q.progress) y.long ∙ y.takes_more_lem;
+      hold_long = y.hold_long ∙ x.hold_long;
+      preamble_long = y.preamble_long ∙ x.preamble_long;
+      header_long = y.header_long ∙ x.header_long;
       long = y.long ∙ x.long;
       receives = λ kind fed z.
           subst (λ (l : List ℕ). Going kind (length buf₀) l q.progress hold' preamble' header' out)
@@ -80,11 +80,11 @@ module _
             (take_all (length batch - at) (drop at batch) (omega (arith, length-drop at batch)))
             ∙ sym (take-add at q.taken batch)
 
-pub gone-all : (s : Receiver) (buf batch : List ℕ) (at : ℕ) (p : Progress) (hold preamble header out : List ℕ)
+pub gone_all : (s : Receiver) (buf batch : List ℕ) (at : ℕ) (p : Progress) (hold preamble header out : List ℕ)
     → length batch ≤ at
     → Gone s.progress s.hold s.preamble s.header buf batch at p hold preamble header out
     → BatchIs s buf batch (record { progress = p; hold = hold; preamble = preamble; header = header }) out
-gone-all s buf batch at p hold preamble header out h x = record {
+gone_all s buf batch at p hold preamble header out h x = record {
   long = x.long;
   receives = λ kind fed y.
       subst (λ (l : List ℕ). Going kind (length buf) (fed ++ l) p hold preamble header out)

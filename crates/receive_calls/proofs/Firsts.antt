@@ -1,7 +1,7 @@
 -- The first symbol of a front, whose chips are held until it is whole.
---     place-fits                          a place found is small
---     first-row                           the row that is decided
---     first-bad, first-held, first_done   a chip is unusable; the symbol is not whole; it is, and the line begins
+--     place_fits                          a place found is small
+--     first_row                           the row that is decided
+--     first_bad, first_held, first_done   a chip is unusable; the symbol is not whole; it is, and the line begins
 -- Assumes nothing.
 use mathlib.Core.Path.{◌≡◌, refl, sym, ap, ap₂, subst, ◌∙◌}
 use mathlib.Core.List.{List, ◌++◌, append_assoc, append-nil}
@@ -12,33 +12,33 @@ use lib.ListN.{length, take, drop, length-append, length-drop}
 use lib.Seq.{take_at, length-take-le, drop-length}
 use borrow.Rule.Slice.PartMut.{put_mid, same_len_mid}
 use Rattle.base.specs.Over.{over}
-use Rattle.rules_chips.specs.Chips.{hardRecording}
+use Rattle.rules_chips.specs.Chips.{hard_recording}
 use Rattle.rules_frame.specs.declared.Kind.{Kind}
 use Rattle.rules_frame.specs.declared.Kind.TheVariants.{Long, Short}
-use Rattle.rules_frame.specs.Frame.{frontChips}
-use Rattle.rules_reading.specs.Reading.{firstUnusable}
+use Rattle.rules_frame.specs.Frame.{front_chips}
+use Rattle.rules_reading.specs.Reading.{first_unusable}
 use Rattle.rules_receiving.specs.declared.Ear.{Ear}
 use Rattle.rules_receiving.specs.declared.Progress.{Progress}
 use Rattle.rules_receiving.specs.Receivers.{FrontTo}
-use Rattle.rules_receiving.proofs.FrontPieces.{number-none, front-first, first-unusable, first_some, first-whole}
+use Rattle.rules_receiving.proofs.FrontPieces.{number_none, front_first, first_unusable_lem, first_some, first_whole}
 use Rattle.choose_recorded.specs.declared.Place.{Place}
 use Rattle.choose_recorded.specs.declared.Place.TheVariants.{Nothing, At}
-use Rattle.choose_recorded.specs.Recorded.{whereFound}
+use Rattle.choose_recorded.specs.Recorded.{where_found}
 use Rattle.receive_parts.specs.Pieces.{PlaceBelow}
 use Rattle.receive_calls.specs.Steps.{advanced, Begun, FirstTakes}
 
-pub place-fits : (f : Place) (place : ℕ) → f ≡ At place → PlaceBelow f → place < 1000000
-place-fits f place e b = subst PlaceBelow e b
+pub place_fits : (f : Place) (place : ℕ) → f ≡ At place → PlaceBelow f → place < 1000000
+place_fits f place e b = subst PlaceBelow e b
 
 -- a row put behind the first h of another
 module _
     (h taken n : ℕ) (hold rest y : List ℕ) (most : taken ≤ length rest) (all : n ≡ h + taken) (room : n ≤ length hold)
     (y-is : y ≡ over (take (taken - 0) rest) (take (n - h) (drop h hold))) where
-  piece-long : length (take taken rest) ≡ taken
-  piece-long = length-take-le taken rest most
+  piece_long : length (take taken rest) ≡ taken
+  piece_long = length-take-le taken rest most
 
-  part-long : length (take (n - h) (drop h hold)) ≡ taken
-  part-long =
+  part_long : length (take (n - h) (drop h hold)) ≡ taken
+  part_long =
       length-take-le (n - h) (drop h hold) (omega (arith, room, all, length-drop h hold)) ∙ omega (arith, all)
 
   put_is : y ≡ take taken rest
@@ -48,21 +48,21 @@ module _
       let part = take (n - h) (drop h hold) in
       y-is
       ∙ ap (λ (i : ℕ). over (take i rest) part) z
-      ∙ ap (λ (i : ℕ). take taken rest ++ drop i part) (piece-long ∙ sym part-long)
+      ∙ ap (λ (i : ℕ). take taken rest ++ drop i part) (piece_long ∙ sym part_long)
       ∙ ap (λ (l : List ℕ). take taken rest ++ l) (drop-length part)
       ∙ append-nil (take taken rest)
 
-  put-row : take (n - 0) (put_mid h (n - h) hold y) ≡ take h hold ++ take taken rest
-  put-row =
+  put_row : take (n - 0) (put_mid h (n - h) hold y) ≡ take h hold ++ take taken rest
+  put_row =
       let z : n - 0 ≡ n = omega arith in
       ap₂ {C = List ℕ} (λ i w. take i (take h hold ++ (w ++ drop (n - h) (drop h hold)))) z put_is
       ∙ ap (take n) (sym (append_assoc (take h hold) (take taken rest) _))
       ∙ take_at (take h hold ++ take taken rest) _ n
       (length-append (take h hold) (take taken rest)
-      ∙ ap₂ {C = ℕ} (λ i j. i + j) (length-take-le h hold (omega (arith, room, all))) piece-long ∙ sym all)
+      ∙ ap₂ {C = ℕ} (λ i j. i + j) (length-take-le h hold (omega (arith, room, all))) piece_long ∙ sym all)
 
-  put-long : length (put_mid h (n - h) hold y) ≡ length hold
-  put-long = same_len_mid h (n - h) hold y (ap length put_is ∙ piece-long ∙ sym part-long)
+  put_long : length (put_mid h (n - h) hold y) ≡ length hold
+  put_long = same_len_mid h (n - h) hold y (ap length put_is ∙ piece_long ∙ sym part_long)
 
 module _
     (k : Kind) (p : Progress) (taken n : ℕ) (hold rest y : List ℕ)
@@ -72,7 +72,7 @@ module _
     (all : n ≡ p.count + taken)
     (y-is : y ≡ over (take (taken - 0) rest) (take (n - p.count) (drop p.count hold)))
     (f : Place)
-    (found : whereFound f ≡ firstUnusable 0 (hardRecording (take (n - 0) (put_mid p.count (n - p.count) hold y))))
+    (found : where_found f ≡ first_unusable 0 (hard_recording (take (n - 0) (put_mid p.count (n - p.count) hold y))))
   where
     abbrev piece : List ℕ
     piece = take taken rest
@@ -84,7 +84,7 @@ module _
     room = omega (arith, asked, least, all)
 
     row_is : take (n - 0) hold' ≡ take p.count hold ++ piece
-    row_is = put-row p.count taken n hold rest y least.0 all room y-is
+    row_is = put_row p.count taken n hold rest y least.0 all room y-is
 
     long : length piece ≡ taken
     long = length-take-le taken rest least.0
@@ -92,29 +92,29 @@ module _
     -- what the rows are where the front is as it is to be
     module _
         (preamble header fed : List ℕ) (x : FrontTo k fed p hold preamble header) where
-      usable : firstUnusable 0 (hardRecording fed) ≡ none
-      usable = number-none (firstUnusable 0 (hardRecording fed)) (sym x.bad-is ∙ asked.1)
+      usable : first_unusable 0 (hard_recording fed) ≡ none
+      usable = number_none (first_unusable 0 (hard_recording fed)) (sym x.bad_is ∙ asked.1)
 
       few : length fed < 11
-      few = omega (arith, x.count-is, asked.0)
+      few = omega (arith, x.count_is, asked.0)
 
-      inside : length fed + length piece ≤ frontChips k
+      inside : length fed + length piece ≤ front_chips k
       inside = by k
         where
-          by : (k : Kind) → length fed + length piece ≤ frontChips k
-          by Long = omega (arith, long, least.1, few, x.count-is)
-          by Short = omega (arith, long, least.1, few, x.count-is)
+          by : (k : Kind) → length fed + length piece ≤ front_chips k
+          by Long = omega (arith, long, least.1, few, x.count_is)
+          by Short = omega (arith, long, least.1, few, x.count_is)
 
-      row-fed : take (n - 0) hold' ≡ fed ++ piece
-      row-fed =
+      row_fed : take (n - 0) hold' ≡ fed ++ piece
+      row_fed =
           row_is
           ∙ ap (λ (l : List ℕ). l ++ piece)
-          (ap (λ (i : ℕ). take i hold) x.count-is
-          ∙ (front-first k fed p hold preamble header x usable few).0)
+          (ap (λ (i : ℕ). take i hold) x.count_is
+          ∙ (front_first k fed p hold preamble header x usable few).0)
 
-    count-more : (q : Progress) (bad odd : ℕ) (ear : Ear) → q ≡ advanced p n bad odd ear
+    count_more : (q : Progress) (bad odd : ℕ) (ear : Ear) → q ≡ advanced p n bad odd ear
         → q.count ≡ p.count + length piece
-    count-more q bad odd ear e = ap (λ (u : Progress). u.count) e ∙ all ∙ ap (λ (i : ℕ). p.count + i) (sym long)
+    count_more q bad odd ear e = ap (λ (u : Progress). u.count) e ∙ all ∙ ap (λ (i : ℕ). p.count + i) (sym long)
 
     takes_first : (q : Progress) (bad odd : ℕ) (ear : Ear) → q ≡ advanced p n bad odd ear → ear.phase < 4
         → ear.last < 4
@@ -122,70 +122,70 @@ module _
         → FrontTo k (fed ++ piece) q hold' preamble header)
         → FirstTakes k p hold rest (record { progress = q; taken = taken }) hold'
     takes_first q bad odd ear e phase last to preamble header = record {
-      some-taken = λ s. least.2 s (omega (arith, asked.0));
+      some_taken = λ s. least.2 s (omega (arith, asked.0));
       most = least.0;
       within = by k;
-      count-is = ap (λ (x : Progress). x.count) e ∙ all;
-      status-is = ap (λ (x : Progress). x.status) e;
-      kind-is = ap (λ (x : Progress). x.kind) e;
-      room-is = ap (λ (x : Progress). x.room) e;
+      count_is = ap (λ (x : Progress). x.count) e ∙ all;
+      status_is = ap (λ (x : Progress). x.status) e;
+      kind_is = ap (λ (x : Progress). x.kind) e;
+      room_is = ap (λ (x : Progress). x.room) e;
       small = rw e phase;
-      last-small = rw e last;
-      hold-long = put-long p.count taken n hold rest y least.0 all room y-is;
-      preamble-long = refl;
-      header-long = refl;
-      front-to = λ fed l x. to preamble header fed x;
+      last_small = rw e last;
+      hold_long = put_long p.count taken n hold rest y least.0 all room y-is;
+      preamble_long = refl;
+      header_long = refl;
+      front_to = λ fed l x. to preamble header fed x;
     }
       where
-        by : (k : Kind) → p.count + taken ≤ frontChips k
+        by : (k : Kind) → p.count + taken ≤ front_chips k
         by Long = omega (arith, least.1, asked.0)
         by Short = omega (arith, least.1, asked.0)
 
     -- the first symbol's chips
-    pub first-row : f ≡ Nothing → 11 ≤ n
-        → (length (take (n - 0) hold') ≡ 11) × (firstUnusable 0 (hardRecording (take (n - 0) hold')) ≡ none)
-    first-row t h =
+    pub first_row : f ≡ Nothing → 11 ≤ n
+        → (length (take (n - 0) hold') ≡ 11) × (first_unusable 0 (hard_recording (take (n - 0) hold')) ≡ none)
+    first_row t h =
         let size = length-append (take p.count hold) piece in
         let first = length-take-le p.count hold (omega (arith, asked)) in (
           ap length row_is ∙ size ∙ omega (arith, first, long, h, all, least, asked.0),
-          sym found ∙ ap whereFound t,
+          sym found ∙ ap where_found t,
         )
 
     -- a chip is unusable
-    pub first-bad : (q : Progress) (place : ℕ) → f ≡ At place → q ≡ advanced p n (place + 1) p.odd p.ear
+    pub first_bad : (q : Progress) (place : ℕ) → f ≡ At place → q ≡ advanced p n (place + 1) p.odd p.ear
         → FirstTakes k p hold rest (record { progress = q; taken = taken }) hold'
-    first-bad q place t e =
+    first_bad q place t e =
         takes_first q (place + 1) p.odd p.ear e asked.4 asked.5
         (λ preamble header fed x.
-        first-unusable k fed piece p q hold preamble header x (inside preamble header fed x) (count-more q _ _ _ e)
+        first_unusable_lem k fed piece p q hold preamble header x (inside preamble header fed x) (count_more q _ _ _ e)
         (usable preamble header fed x) hold' (few preamble header fed x) place
-        (ap (λ (l : List ℕ). firstUnusable 0 (hardRecording l)) (sym (row-fed preamble header fed x)) ∙ sym found
-        ∙ ap whereFound t)
+        (ap (λ (l : List ℕ). firstUnusable 0 (hard_recording l)) (sym (row_fed preamble header fed x)) ∙ sym found
+        ∙ ap where_found t)
         (ap (λ (u : Progress). u.bad) e ∙ omega arith))
 
     module _ (t : f ≡ Nothing) (q : Progress) (ear : Ear) (e : q ≡ advanced p n 0 p.odd ear) where
       clear : (preamble header fed : List ℕ) → FrontTo k fed p hold preamble header
-          → firstUnusable 0 (hardRecording (fed ++ piece)) ≡ none
+          → first_unusable 0 (hard_recording (fed ++ piece)) ≡ none
       clear preamble header fed x =
-          ap (λ (l : List ℕ). firstUnusable 0 (hardRecording l)) (sym (row-fed preamble header fed x)) ∙ sym found
-          ∙ ap whereFound t
+          ap (λ (l : List ℕ). firstUnusable 0 (hard_recording l)) (sym (row_fed preamble header fed x)) ∙ sym found
+          ∙ ap where_found t
 
       size : (preamble header fed : List ℕ) → FrontTo k fed p hold preamble header → length (fed ++ piece) ≡ n
       size preamble header fed x =
-          length-append fed piece ∙ ap₂ {C = ℕ} (λ i j. i + j) (sym x.count-is) long ∙ sym all
+          length-append fed piece ∙ ap₂ {C = ℕ} (λ i j. i + j) (sym x.count_is) long ∙ sym all
 
       held : (preamble header fed : List ℕ) → FrontTo k fed p hold preamble header
           → take (length (fed ++ piece)) hold' ≡ fed ++ piece
       held preamble header fed x =
           let z : n ≡ n - 0 = omega arith in
-          ap (λ (i : ℕ). take i hold') (size preamble header fed x ∙ z) ∙ row-fed preamble header fed x
+          ap (λ (i : ℕ). take i hold') (size preamble header fed x ∙ z) ∙ row_fed preamble header fed x
 
       -- the symbol is not whole
-      pub first-held : n < 11 → ear ≡ p.ear → FirstTakes k p hold rest (record { progress = q; taken = taken }) hold'
-      first-held h g =
+      pub first_held : n < 11 → ear ≡ p.ear → FirstTakes k p hold rest (record { progress = q; taken = taken }) hold'
+      first_held h g =
           takes_first q 0 p.odd ear e (rw g asked.4) (rw g asked.5)
           (λ preamble header fed x.
-          first_some k fed piece p q hold preamble header x (inside preamble header fed x) (count-more q _ _ _ e)
+          first_some k fed piece p q hold preamble header x (inside preamble header fed x) (count_more q _ _ _ e)
           (usable preamble header fed x) hold' (few preamble header fed x) (clear preamble header fed x)
           (ap (λ (u : Progress). u.bad) e) (ap (λ (u : Progress). u.odd) e ∙ asked.2) (held preamble header fed x)
           (omega (arith, h, size preamble header fed x)))
@@ -194,14 +194,14 @@ module _
       pub first_done : 11 ≤ n → Begun k (take (n - 0) hold') ear
           → FirstTakes k p hold rest (record { progress = q; taken = taken }) hold'
       first_done h b =
-          let all-eleven : n ≡ 11 = omega (arith, h, all, least, asked.0) in
+          let all_eleven : n ≡ 11 = omega (arith, h, all, least, asked.0) in
           takes_first q 0 p.odd ear e b.small (rw (b.last, ← b.phase) b.small)
           (λ preamble header fed x.
           let b : Begun k (fed ++ piece) q.ear =
-          subst (λ (l : List ℕ). Begun k l q.ear) (row-fed preamble header fed x)
+          subst (λ (l : List ℕ). Begun k l q.ear) (row_fed preamble header fed x)
           (subst (λ (u : Progress). Begun k (take (n - 0) hold') u.ear) (sym e) b) in
-          first-whole k fed piece p q hold preamble header x (inside preamble header fed x) (count-more q _ _ _ e)
+          first_whole k fed piece p q hold preamble header x (inside preamble header fed x) (count_more q _ _ _ e)
           (usable preamble header fed x) hold' (few preamble header fed x) (clear preamble header fed x)
           (ap (λ (u : Progress). u.bad) e) (ap (λ (u : Progress). u.odd) e ∙ asked.2) (held preamble header fed x)
-          (size preamble header fed x ∙ all-eleven)
+          (size preamble header fed x ∙ all_eleven)
           b.phase b.last b.past b.lead b.symbol)

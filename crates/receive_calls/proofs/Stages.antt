@@ -1,7 +1,7 @@
 -- A call of feed by the receiver's status, and its answer.
---     takes-own, paid-of     what it says that a receiver takes a batch
---     stays-some             a refusal that stays takes every chip and changes nothing
---     feed-taken, feed-refused     what feed answers
+--     takes_own, paid_of     what it says that a receiver takes a batch
+--     stays_some             a refusal that stays takes every chip and changes nothing
+--     feed_taken, feed_refused     what feed answers
 -- Assumes nothing.
 use mathlib.Core.Path.{◌≡◌, refl, sym, ap, subst, ◌∙◌}
 use mathlib.Core.Bool.{Bool, true, false}
@@ -10,48 +10,48 @@ use Prim.Native.Nat.{ℕ, ◌≤◌}
 use native.Mathlib.Omega.{arith}
 use lib.ListN.{length, take}
 use Rattle.rules_rates.specs.declared.Rate.{Rate}
-use Rattle.rules_rates.specs.Rates.{rateOf}
+use Rattle.rules_rates.specs.Rates.{rate_of}
 use Rattle.rules_frame.specs.declared.Kind.{Kind}
-use Rattle.rules_frame.specs.Frame.{kind_of, frontChips, frameChips}
+use Rattle.rules_frame.specs.Frame.{kind_of, front_chips, frame_chips}
 use Rattle.rules_receiving.specs.declared.Progress.{Progress}
 use Rattle.rules_receiving.specs.declared.Receiver.{Receiver}
 use Rattle.rules_receiving.specs.Calls.{takes, ReceiverFeeds}
-use Rattle.rules_receiving.proofs.Takes.{takes-room, takes-phase, takes-last, takes-payload}
-use Rattle.rules_receiving.proofs.Calls.{receives-takes}
-use Rattle.rules_receiving.proofs.Buffers.{stays-more}
+use Rattle.rules_receiving.proofs.Takes.{takes_room, takes_phase, takes_last, takes_payload}
+use Rattle.rules_receiving.proofs.Calls.{receives_takes}
+use Rattle.rules_receiving.proofs.Buffers.{stays_more}
 use Rattle.receive_calls.specs.Steps.{Paid, TakesSome, BatchIs}
 use Rattle.receive_calls.proofs.Closes.{never}
 
-pub takes-own : (p : Progress) (room : ℕ) → takes p room ≡ true → takes p p.room ≡ true
-takes-own p room e = ap (takes p) (takes-room p room e) ∙ e
+pub takes_own : (p : Progress) (room : ℕ) → takes p room ≡ true → takes p p.room ≡ true
+takes_own p room e = ap (takes p) (takes_room p room e) ∙ e
 
-pub paid-of : (p : Progress) (room : ℕ) (k : Kind) (r : Rate) → takes p room ≡ true → p.status ≡ 2
-    → k ≡ kind_of p.kind → r ≡ rateOf p.rate → Paid p k r
-paid-of p room k r e st ki ri =
-    let x = takes-payload p room e st in
+pub paid_of : (p : Progress) (room : ℕ) (k : Kind) (r : Rate) → takes p room ≡ true → p.status ≡ 2
+    → k ≡ kind_of p.kind → r ≡ rate_of p.rate → Paid p k r
+paid_of p room k r e st ki ri =
+    let x = takes_payload p room e st in
     record {
-      kind-is = sym ki;
-      is-kind = x.is-kind;
-      rate-is = sym ri;
-      is-code = x.is-code;
-      status-is = st;
+      kind_is = sym ki;
+      is_kind_lem = x.is_kind_lem;
+      rate_is = sym ri;
+      is_code_lem = x.is_code_lem;
+      status_is = st;
       few = x.few;
       from = subst (λ (c : Kind). frontChips c ≤ p.count) (sym ki) x.from;
-      to = subst (λ (c : Kind). p.count ≤ frameChips c r p.n) (sym ki)
-          (subst (λ (s : Rate). p.count ≤ frameChips (kind_of p.kind) s p.n) (sym ri) x.to);
-      small = takes-phase p room e;
-      last-small = takes-last p room e;
+      to = subst (λ (c : Kind). p.count ≤ frame_chips c r p.n) (sym ki)
+          (subst (λ (s : Rate). p.count ≤ frame_chips (kind_of p.kind) s p.n) (sym ri) x.to);
+      small = takes_phase p room e;
+      last_small = takes_last p room e;
     }
 
-pub stays-some : (p : Progress) (hold preamble header buf rest : List ℕ) → takes p (length buf) ≡ true → p.status ≡ 3
+pub stays_some : (p : Progress) (hold preamble header buf rest : List ℕ) → takes p (length buf) ≡ true → p.status ≡ 3
     → TakesSome p hold preamble header buf rest (record { progress = p; taken = length rest }) hold preamble header buf
-stays-some p hold preamble header buf rest e st = record {
-  some-taken = λ h. h;
+stays_some p hold preamble header buf rest e st = record {
+  some_taken = λ h. h;
   most = omega arith;
-  takes-more = e;
-  hold-long = refl;
-  preamble-long = refl;
-  header-long = refl;
+  takes_more_lem = e;
+  hold_long = refl;
+  preamble_long = refl;
+  header_long = refl;
   long = refl;
   receives = λ kind fed x.
       stays-more kind (length buf) fed (take (length rest) rest) p hold preamble header buf st x;
@@ -60,18 +60,18 @@ stays-some p hold preamble header buf rest e st = record {
 -- ---- the call
 
 module _ (s : Receiver) (buf batch : List ℕ) (b : Bool) (t : b ≡ takes s.progress (length buf)) where
-  pub feed-taken : (u : Receiver) (out : List ℕ) → b ≡ true → BatchIs s buf batch u out → ReceiverFeeds s buf batch u 0 out
-  feed-taken u out e x = record {
+  pub feed_taken : (u : Receiver) (out : List ℕ) → b ≡ true → BatchIs s buf batch u out → ReceiverFeeds s buf batch u 0 out
+  feed_taken u out e x = record {
     refused = λ g. never (sym e ∙ t ∙ g);
     taken = λ g. refl;
     long = x.long;
     receives = x.receives;
   }
 
-  pub feed-refused : b ≡ false → ReceiverFeeds s buf batch s 20 buf
-  feed-refused e = record {
+  pub feed_refused : b ≡ false → ReceiverFeeds s buf batch s 20 buf
+  feed_refused e = record {
     refused = λ g. (refl, refl, refl);
     taken = λ g. never (sym g ∙ sym t ∙ e);
     long = refl;
-    receives = λ kind fed y. never (sym (receives-takes kind (length buf) fed s buf y) ∙ sym t ∙ e);
+    receives = λ kind fed y. never (sym (receives_takes kind (length buf) fed s buf y) ∙ sym t ∙ e);
   }

@@ -2,24 +2,24 @@
 -- working notion: of the code of a receiver's calls; no promise needs it
 use Rattle.std.specs.Prelude.{◌≡◌, Bool, true, false, cond, List, ◌++◌, ℕ, ◌+◌, ◌≤◌, ◌<◌, eqb, length, take}
 use Rattle.rules_rates.specs.declared.Rate.{Rate}
-use Rattle.rules_rates.specs.Rates.{code_of, is_code, rateOf}
-use Rattle.rules_chips.specs.Chips.{hardRecording}
+use Rattle.rules_rates.specs.Rates.{code_of, is_code, rate_of}
+use Rattle.rules_chips.specs.Chips.{hard_recording}
 use Rattle.rules_bits.specs.Code.{past_of}
-use Rattle.rules_symbols.specs.Choice.{decided, leadOf}
+use Rattle.rules_symbols.specs.Choice.{decided, lead_of}
 use Rattle.rules_rates.specs.declared.Rate.TheVariants.{One}
 use Rattle.rules_frame.specs.declared.Kind.{Kind}
-use Rattle.rules_frame.specs.Frame.{isKind, kind_of, start, frontChips, frameChips, clockBit}
+use Rattle.rules_frame.specs.Frame.{is_kind, kind_of, start, front_chips, frame_chips, clock_bit}
 use Rattle.rules_calls.specs.declared.Refusal.{Refusal}
 use Rattle.rules_calls.specs.declared.Told.{Told}
-use Rattle.rules_calls.specs.Answers.{refusalNumber, refusalPlace, refusalLength}
-use Rattle.rules_reading.specs.Reading.{firstUnusable}
+use Rattle.rules_calls.specs.Answers.{refusal_number, refusal_place, refusal_length}
+use Rattle.rules_reading.specs.Reading.{first_unusable}
 use Rattle.rules_receiving.specs.declared.Ear.{Ear}
 use Rattle.rules_receiving.specs.declared.Progress.{Progress}
 use Rattle.rules_receiving.specs.Yet.{zeros}
 use Rattle.rules_receiving.specs.declared.Receiver.{Receiver}
-use Rattle.rules_receiving.specs.Receivers.{placeNumber, FrontTo, Held, Going, Receives}
+use Rattle.rules_receiving.specs.Receivers.{place_number, FrontTo, Held, Going, Receives}
 use Rattle.rules_receiving.specs.Calls.{takes}
-use Rattle.choose_recorded.specs.Recorded.{whereFound, symbol_at}
+use Rattle.choose_recorded.specs.Recorded.{where_found, symbol_at}
 use Rattle.receive_parts.specs.declared.Taking.{Taking}
 use Rattle.receive_calls.specs.declared.Pieced.{Pieced}
 
@@ -44,22 +44,22 @@ advanced p count bad odd ear =
 
 -- chips where a refusal is certain: they are counted, and looked through for 9 where only 10 was found. At most `left`
 -- of them are taken
-abbrev pub badBehind : Progress → List ℕ → ℕ
-badBehind p piece = cond (eqb p.bad 0) (placeNumber (firstUnusable p.count (hardRecording piece))) p.bad
+abbrev pub bad_behind : Progress → List ℕ → ℕ
+bad_behind p piece = cond (eqb p.bad 0) (place_number (first_unusable p.count (hard_recording piece))) p.bad
 
 pub record Passes (p : Progress) (rest : List ℕ) (left : ℕ) (q : Pieced) : Type 0 where
-  pub some-taken : 0 < length rest → 0 < left → 0 < q.taken
+  pub some_taken : 0 < length rest → 0 < left → 0 < q.taken
   pub most : q.taken ≤ length rest
   pub within : q.taken ≤ left
-  pub progress-is : q.progress
-      ≡ advanced p (p.count + q.taken) (badBehind p (take q.taken rest)) p.odd p.ear
+  pub progress_is : q.progress
+      ≡ advanced p (p.count + q.taken) (bad_behind p (take q.taken rest)) p.odd p.ear
 
 -- a piece of a part, kept
 pub record Keeps (p : Progress) (t : Taking) (q : Pieced) : Type 0 where
   pub taken_is : q.taken ≡ t.taken
-  pub progress-is : q.progress
-      ≡ advanced p (p.count + t.taken) (placeNumber (whereFound t.piece.bad))
-      (placeNumber (whereFound t.piece.odd)) t.piece.ear
+  pub progress_is : q.progress
+      ≡ advanced p (p.count + t.taken) (place_number (where_found t.piece.bad))
+      (place_number (where_found t.piece.odd)) t.piece.ear
 
 -- a refusal that stays
 abbrev pub stayed : Progress → Refusal → Progress
@@ -69,10 +69,10 @@ stayed p e =
       kind = p.kind;
       room = p.room;
       count = p.count;
-      number = refusalNumber e;
-      place = refusalPlace e;
+      number = refusal_number e;
+      place = refusal_place e;
       rate = p.rate;
-      length = refusalLength e;
+      length = refusal_length e;
       n = p.n;
       clock = p.clock;
       bad = p.bad;
@@ -93,7 +93,7 @@ telling p t =
       rate = code_of t.rate;
       length = t.length;
       n = t.n;
-      clock = clockBit t.clock;
+      clock = clock_bit t.clock;
       bad = 0;
       odd = 0;
       ear =
@@ -108,29 +108,29 @@ telling p t =
 
 -- the first symbol is whole: hearing starts from its phase and its lead
 pub record Begun (k : Kind) (row : List ℕ) (e : Ear) : Type 0 where
-  pub phase : e.phase ≡ decided One (symbol_at One (hardRecording row) 0)
-  pub last : e.last ≡ decided One (symbol_at One (hardRecording row) 0)
+  pub phase : e.phase ≡ decided One (symbol_at One (hard_recording row) 0)
+  pub last : e.last ≡ decided One (symbol_at One (hard_recording row) 0)
   pub small : e.phase < 4
   pub past : take 7 (past_of e.past) ≡ take 7 (start k)
-  pub lead : e.lead ≡ leadOf One (symbol_at One (hardRecording row) 0)
+  pub lead : e.lead ≡ lead_of One (symbol_at One (hard_recording row) 0)
   pub symbol : e.symbol ≡ 0
 
 -- chips of the front are taken, up to its end
 pub record FrontTakes (k : Kind) (p : Progress) (hold preamble header rest : List ℕ) (q : Pieced)
     (hold' preamble' header' : List ℕ) : Type 0 where
-  pub some-taken : 0 < length rest → 0 < q.taken
+  pub some_taken : 0 < length rest → 0 < q.taken
   pub most : q.taken ≤ length rest
-  pub within : p.count + q.taken ≤ frontChips k
-  pub count-is : q.progress.count ≡ p.count + q.taken
-  pub status-is : q.progress.status ≡ p.status
-  pub kind-is : q.progress.kind ≡ p.kind
-  pub room-is : q.progress.room ≡ p.room
+  pub within : p.count + q.taken ≤ front_chips k
+  pub count_is : q.progress.count ≡ p.count + q.taken
+  pub status_is : q.progress.status ≡ p.status
+  pub kind_is : q.progress.kind ≡ p.kind
+  pub room_is : q.progress.room ≡ p.room
   pub small : q.progress.ear.phase < 4
-  pub last-small : q.progress.ear.last < 4
-  pub hold-long : length hold' ≡ length hold
-  pub preamble-long : length preamble' ≡ length preamble
-  pub header-long : length header' ≡ length header
-  pub front-to : (fed : List ℕ) → length fed < frontChips k → FrontTo k fed p hold preamble header
+  pub last_small : q.progress.ear.last < 4
+  pub hold_long : length hold' ≡ length hold
+  pub preamble_long : length preamble' ≡ length preamble
+  pub header_long : length header' ≡ length header
+  pub front_to : (fed : List ℕ) → length fed < front_chips k → FrontTo k fed p hold preamble header
       → FrontTo k (fed ++ take q.taken rest) q.progress hold' preamble' header'
 
 -- chips of the first symbol, whatever stands in the rows for octets
@@ -140,37 +140,37 @@ FirstTakes k p hold rest q hold' =
 
 -- the front is whole: it is refused for good, or tells of a payload
 pub record FrontTold (k : Kind) (p : Progress) (preamble header : List ℕ) (u : Progress) : Type 0 where
-  pub takes-more : takes u p.room ≡ true
-  pub kind-is : u.kind ≡ p.kind
-  pub room-is : u.room ≡ p.room
+  pub takes_more_lem : takes u p.room ≡ true
+  pub kind_is : u.kind ≡ p.kind
+  pub room_is : u.room ≡ p.room
   pub small : u.ear.phase < 4
-  pub last-small : u.ear.last < 4
-  pub held : (kind : ℕ) (fed hold buf : List ℕ) → isKind kind ≡ true → kind_of kind ≡ k → length fed ≡ frontChips k
+  pub last_small : u.ear.last < 4
+  pub held : (kind : ℕ) (fed hold buf : List ℕ) → is_kind kind ≡ true → kind_of kind ≡ k → length fed ≡ front_chips k
       → FrontTo k fed p hold preamble header → buf ≡ zeros p.room
       → Held kind fed u hold preamble header buf
 
 -- the numbers of a receiver whose payload comes
 pub record Paid (p : Progress) (k : Kind) (r : Rate) : Type 0 where
-  pub kind-is : kind_of p.kind ≡ k
-  pub is-kind : isKind p.kind ≡ true
-  pub rate-is : rateOf p.rate ≡ r
-  pub is-code : is_code p.rate ≡ true
-  pub status-is : p.status ≡ 2
+  pub kind_is : kind_of p.kind ≡ k
+  pub is_kind_lem : is_kind p.kind ≡ true
+  pub rate_is : rate_of p.rate ≡ r
+  pub is_code_lem : is_code p.rate ≡ true
+  pub status_is : p.status ≡ 2
   pub few : p.n ≤ 4095
-  pub from : frontChips k ≤ p.count
-  pub to : p.count ≤ frameChips k r p.n
+  pub from : front_chips k ≤ p.count
+  pub to : p.count ≤ frame_chips k r p.n
   pub small : p.ear.phase < 4
-  pub last-small : p.ear.last < 4
+  pub last_small : p.ear.last < 4
 
 -- some of the chips left are taken, at least one if there are any; more is taken behind them
 pub record TakesSome (p : Progress) (hold preamble header buf rest : List ℕ) (q : Pieced)
     (hold' preamble' header' out : List ℕ) : Type 0 where
-  pub some-taken : 0 < length rest → 0 < q.taken
+  pub some_taken : 0 < length rest → 0 < q.taken
   pub most : q.taken ≤ length rest
-  pub takes-more : takes q.progress (length buf) ≡ true
-  pub hold-long : length hold' ≡ length hold
-  pub preamble-long : length preamble' ≡ length preamble
-  pub header-long : length header' ≡ length header
+  pub takes_more_lem : takes q.progress (length buf) ≡ true
+  pub hold_long : length hold' ≡ length hold
+  pub preamble_long : length preamble' ≡ length preamble
+  pub header_long : length header' ≡ length header
   pub long : length out ≡ length buf
   pub receives : (kind : ℕ) (fed : List ℕ) → Going kind (length buf) fed p hold preamble header buf
       → Going kind (length buf) (fed ++ take q.taken rest) q.progress hold' preamble' header' out

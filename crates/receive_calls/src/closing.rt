@@ -1,8 +1,8 @@
 // What a receiver's numbers tell at close.
 ghost use Rattle.std.specs.Prelude.{◌≡◌, List, ℕ, ◌≤◌, length, replicate};
-ghost use Rattle.rules_calls.specs.Answers.{recordOf};
+ghost use Rattle.rules_calls.specs.Answers.{record_of};
 ghost use Rattle.rules_receiving.specs.Receivers.{Going};
-ghost use Rattle.rules_receiving.specs.Calls.{keptRecord, notOpen, ReadsAll};
+ghost use Rattle.rules_receiving.specs.Calls.{kept_record, not_open, ReadsAll};
 
 use rules_calls::{Least, Reading, Record, Refusal, Told};
 use rules_frame::Kind;
@@ -11,7 +11,7 @@ use rules_receiving::{Ear, Progress};
 
 // A refusal, and zeros.
 pub fn refuse(e: Refusal, octets: &mut [u8]) -> Record
-    ensures answer { result ≡ recordOf (Reading.Refused e) }
+    ensures answer { result ≡ record_of (Reading.Refused e) }
     ensures octets { octets.new ≡ replicate (length octets.old) 0 }
 {
     common_rows::fill(octets, 0);
@@ -64,7 +64,7 @@ pub fn tell_payload(p: Progress, octets: &mut [u8]) -> Record
 
 // A refusal that stays, from its numbers, and zeros.
 pub fn kept(p: Progress, octets: &mut [u8]) -> Record
-    ensures answer { result ≡ keptRecord p }
+    ensures answer { result ≡ kept_record p }
     ensures octets { octets.new ≡ replicate (length octets.old) 0 }
 {
     common_rows::fill(octets, 0);
@@ -83,7 +83,7 @@ pub fn kept(p: Progress, octets: &mut [u8]) -> Record
 
 // The record of a close that is refused.
 pub fn not_open() -> Record
-    ensures answer { result ≡ notOpen }
+    ensures answer { result ≡ not_open }
 {
     Record {
         number: 20,

@@ -1,10 +1,10 @@
 // The front as it comes: its first symbol, the preamble, the header, and what it tells once it is whole.
 ghost use Rattle.std.specs.Prelude.{◌≡◌, true, ◌+◌, ◌-◌, ◌<◌, length, take, drop};
 ghost use Rattle.std.proofs.Math.Option.{none};
-ghost use Rattle.rules_chips.specs.Chips.{hardRecording};
-ghost use Rattle.rules_frame.specs.Frame.{isKind, kind_of, frontChips};
-ghost use Rattle.rules_reading.specs.Reading.{firstUnusable};
-ghost use Rattle.rules_receiving.specs.Receivers.{preambleCount};
+ghost use Rattle.rules_chips.specs.Chips.{hard_recording};
+ghost use Rattle.rules_frame.specs.Frame.{is_kind, kind_of, front_chips};
+ghost use Rattle.rules_reading.specs.Reading.{first_unusable};
+ghost use Rattle.rules_receiving.specs.Receivers.{preamble_count};
 ghost use Rattle.receive_calls.specs.Steps.{Begun, FirstTakes, FrontTakes, FrontTold, stayed, telling};
 
 use super::{Pieced, passing};
@@ -22,7 +22,7 @@ use rules_receiving::{Ear, Progress};
 
 // What hearing starts from: the phase and the lead of the first symbol, which serves only as reference.
 fn begin(kind: Kind, row: &[u8]) -> Ear
-    requires { (length row.now ≡ 11) × (firstUnusable 0 (hardRecording row.now) ≡ none) }
+    requires { (length row.now ≡ 11) × (first_unusable 0 (hard_recording row.now) ≡ none) }
     ensures answer { Begun kind row.now result }
 {
     let byte = [0i8; 1];
@@ -87,7 +87,7 @@ fn first_piece(p: Progress, kind: Kind, hold: &mut [u8], rest: &[u8]) -> Pieced
 
 // How many octets the preamble is.
 fn preamble_count(kind: Kind) -> usize
-    ensures answer { result ≡ preambleCount kind }
+    ensures answer { result ≡ preamble_count kind }
 {
     match kind {
         Kind::Long => 18,
@@ -104,7 +104,7 @@ pub fn front_piece(
     header: &mut [u8],
     rest: &[u8],
 ) -> Pieced
-    requires { (p.count < frontChips kind) × (length hold.old ≡ 88) × (length preamble.old ≡ 18)
+    requires { (p.count < front_chips kind) × (length hold.old ≡ 88) × (length preamble.old ≡ 18)
         × (length header.old ≡ 6) × (p.ear.phase < 4) × (p.ear.last < 4) }
     ensures answer { FrontTakes kind p hold.old preamble.old header.old
         rest.now result hold.new preamble.new header.new }
@@ -135,7 +135,7 @@ pub fn front_piece(
 // The SFD's octets, those behind SYNC.
 fn sfd_of(kind: Kind, preamble: &[u8]) -> [u8; 2]
     requires { length preamble.now ≡ 18 }
-    ensures answer { result ≡ take 2 (drop (preambleCount kind - 2) preamble.now) }
+    ensures answer { result ≡ take 2 (drop (preamble_count kind - 2) preamble.now) }
 {
     match kind {
         Kind::Long => [preamble[16], preamble[17]],
@@ -188,7 +188,7 @@ fn tell(p: Progress, t: Told) -> Progress
 
 // A front that is whole: 9, 10, then what was heard of it tells.
 pub fn front_told(p: Progress, kind: Kind, preamble: &[u8], header: &[u8]) -> Progress
-    requires { (p.count ≡ frontChips kind) × (isKind p.kind ≡ true) × (kind_of p.kind ≡ kind)
+    requires { (p.count ≡ front_chips kind) × (is_kind p.kind ≡ true) × (kind_of p.kind ≡ kind)
         × (length preamble.now ≡ 18) × (length header.now ≡ 6) × (p.ear.phase < 4) × (p.ear.last < 4) }
     ensures answer { FrontTold kind p preamble.now header.now result }
 {

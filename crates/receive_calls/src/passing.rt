@@ -1,7 +1,7 @@
 // Chips counted, and what was found and heard of them kept.
 ghost use Rattle.std.specs.Prelude.{◌≡◌, ◌+◌, ◌≤◌};
-ghost use Rattle.choose_recorded.specs.Recorded.{whereFound};
-ghost use Rattle.rules_receiving.specs.Receivers.{placeNumber};
+ghost use Rattle.choose_recorded.specs.Recorded.{where_found};
+ghost use Rattle.rules_receiving.specs.Receivers.{place_number};
 ghost use Rattle.receive_parts.specs.Pieces.{PlaceBelow};
 ghost use Rattle.receive_calls.specs.Steps.{advanced, Keeps, Passes};
 
@@ -13,7 +13,7 @@ use rules_receiving::{Ear, Progress};
 // A place as a number, 0 where there is none.
 pub fn number_of(found: Place) -> usize
     requires { PlaceBelow found }
-    ensures answer { result ≡ placeNumber (whereFound found) }
+    ensures answer { result ≡ place_number (where_found found) }
 {
     match found {
         Place::At(place) => place + 1,

@@ -1,7 +1,7 @@
 // Whether a receiver takes a feed or a close: it is open, the buffer has the length it was opened with, and its numbers
 // are such that no sum, index or part is out of range.
 ghost use Rattle.std.specs.Prelude.{◌≡◌};
-ghost use Rattle.rules_receiving.specs.Calls.{soundFront, soundPayload, soundRefused, takes};
+ghost use Rattle.rules_receiving.specs.Calls.{sound_front, sound_payload, sound_refused, takes};
 
 use rules_frame::Kind;
 use rules_rates::Rate;
@@ -9,7 +9,7 @@ use rules_receiving::{Ear, Progress};
 
 // The numbers of a receiver whose front comes.
 fn sound_front(p: Progress) -> bool
-    ensures answer { result ≡ soundFront p }
+    ensures answer { result ≡ sound_front p }
 {
     let kind = p.kind;
     if !common_kinds::is_kind(kind) {
@@ -22,7 +22,7 @@ fn sound_front(p: Progress) -> bool
 
 // The numbers of a receiver whose payload comes.
 fn sound_payload(p: Progress) -> bool
-    ensures answer { result ≡ soundPayload p }
+    ensures answer { result ≡ sound_payload p }
 {
     let kind = p.kind;
     let code = p.rate;
@@ -49,7 +49,7 @@ fn sound_payload(p: Progress) -> bool
 
 // The numbers of a receiver whose refusal stays: 1 where the kind is none, else one of a front that is whole.
 fn sound_refused(p: Progress) -> bool
-    ensures answer { result ≡ soundRefused p }
+    ensures answer { result ≡ sound_refused p }
 {
     let kind = p.kind;
     let number = p.number;

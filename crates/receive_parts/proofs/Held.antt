@@ -10,41 +10,41 @@ use lib.ListN.{length, take, drop, length-append}
 use lib.Seq.{drop_at, drop-drop, drop-append-add}
 use Rattle.rules_rates.specs.declared.Rate.{Rate}
 use Rattle.rules_rates.specs.declared.Rate.TheVariants.{One, Two, Five, Eleven}
-use Rattle.rules_rates.specs.Rates.{symbolChips, octetSymbols, octetChips}
-use Rattle.rules_chips.specs.Chips.{Taken, hardRecording}
-use Rattle.rules_chips.proofs.Recorders.{length-hard, append-hard}
-use Rattle.rules_bits.specs.Growths.{growthsOf, lastHeard}
-use Rattle.rules_bits.proofs.Heard.{lastHeard-append}
+use Rattle.rules_rates.specs.Rates.{symbol_chips, octet_symbols, octet_chips}
+use Rattle.rules_chips.specs.Chips.{Taken, hard_recording}
+use Rattle.rules_chips.proofs.Recorders.{length_hard, append_hard}
+use Rattle.rules_bits.specs.Growths.{growths_of, last_heard}
+use Rattle.rules_bits.proofs.Heard.{last_heard_append}
 use Rattle.rules_frame.specs.declared.Kind.{Kind}
-use Rattle.rules_reading.specs.Reading.{firstUnusable, oddGrowth, decidedWords}
+use Rattle.rules_reading.specs.Reading.{first_unusable, odd_growth, decided_words}
 use Rattle.rules_receiving.specs.declared.Ear.{Ear}
-use Rattle.rules_receiving.specs.Yet.{wholeSymbols}
-use Rattle.rules_receiving.specs.Sections.{Section, wordsYet, sectionUnusable, sectionOdd, GoesOn, SectionIs}
-use Rattle.rules_receiving.proofs.Advance.{nextWords, unusable-next, words-next, odd-next, symbols-whole}
-use Rattle.rules_receiving.proofs.Stands.{Stands, stands-goes, stands-ear, stands-longer}
+use Rattle.rules_receiving.specs.Yet.{whole_symbols}
+use Rattle.rules_receiving.specs.Sections.{Section, words_yet, section_unusable, section_odd, GoesOn, SectionIs}
+use Rattle.rules_receiving.proofs.Advance.{next_words, unusable_next, words_next, odd_next, symbols_whole}
+use Rattle.rules_receiving.proofs.Stands.{Stands, stands_goes, stands_ear, stands_longer}
 use Rattle.choose_recorded.specs.declared.Place.TheVariants.{Nothing}
-use Rattle.choose_recorded.specs.Recorded.{whereFound}
+use Rattle.choose_recorded.specs.Recorded.{where_found}
 use Rattle.receive_parts.specs.declared.Piece.{Piece}
-use Rattle.receive_parts.proofs.Whole.{nothing-found}
-use Rattle.receive_parts.specs.Pieces.{newWords, PartHeld}
+use Rattle.receive_parts.proofs.Whole.{nothing_found}
+use Rattle.receive_parts.specs.Pieces.{new_words, PartHeld}
 
-odd-phase : (r : Rate) (a b at : ℕ) (ws vs : List ℕ) → (r ≡ One → a ≡ lastHeard One b ws)
-    → oddGrowth r at (growthsOf r a vs) ≡ oddGrowth r at (growthsOf r (lastHeard r b ws) vs)
-odd-phase One a b at ws vs e = ap (λ (i : ℕ). oddGrowth One at (growthsOf One i vs)) (e refl)
-odd-phase Two a b at ws vs e = refl
-odd-phase Five a b at ws vs e = refl
-odd-phase Eleven a b at ws vs e = refl
+odd_phase : (r : Rate) (a b at : ℕ) (ws vs : List ℕ) → (r ≡ One → a ≡ last_heard One b ws)
+    → odd_growth r at (growths_of r a vs) ≡ odd_growth r at (growths_of r (last_heard r b ws) vs)
+odd_phase One a b at ws vs e = ap (λ (i : ℕ). oddGrowth One at (growths_of One i vs)) (e refl)
+odd_phase Two a b at ws vs e = refl
+odd_phase Five a b at ws vs e = refl
+odd_phase Eleven a b at ws vs e = refl
 
 module _
     (k : Kind) (p : Section) (m : ℕ) (first held piece : List ℕ) (e : Ear) (hold out : List ℕ) (x : Piece)
-    (at : length first ≡ p.from + octetChips p.rate * m)
-    (small : length held + length piece < octetChips p.rate)
-    (usable : sectionUnusable p (hardRecording first) ≡ none)
-    (even : sectionOdd p (hardRecording (first ++ held)) ≡ none)
-    (s : Stands k p m (hardRecording first) e out)
-    (last : p.rate ≡ One → e.last ≡ lastHeard One p.phase (wordsYet p (hardRecording (first ++ held))))
+    (at : length first ≡ p.from + octet_chips p.rate * m)
+    (small : length held + length piece < octet_chips p.rate)
+    (usable : section_unusable p (hard_recording first) ≡ none)
+    (even : section_odd p (hard_recording (first ++ held)) ≡ none)
+    (s : Stands k p m (hard_recording first) e out)
+    (last : p.rate ≡ One → e.last ≡ last_heard One p.phase (words_yet p (hard_recording (first ++ held))))
     (keeps : take (length held + length piece) hold ≡ held ++ piece)
-    (looked : PartHeld p.rate (p.from + octetChips p.rate * m) e (length held) (held ++ piece) x) where
+    (looked : PartHeld p.rate (p.from + octet_chips p.rate * m) e (length held) (held ++ piece) x) where
   abbrev q : Rate
   q = p.rate
 
@@ -56,107 +56,107 @@ module _
 
   -- the chips of the octets, those of the row; those before the piece, those of the piece
   abbrev octets : List Taken
-  octets = hardRecording first
+  octets = hard_recording first
 
   abbrev behind : List Taken
-  behind = hardRecording row
+  behind = hard_recording row
 
   abbrev old : List Taken
-  old = hardRecording (first ++ held)
+  old = hard_recording (first ++ held)
 
   abbrev new : List Taken
-  new = hardRecording piece
+  new = hard_recording piece
 
-  by-octets : hardRecording (first ++ row) ≡ octets ++ behind
-  by-octets = append-hard first row
+  by_octets : hard_recording (first ++ row) ≡ octets ++ behind
+  by_octets = append_hard first row
 
-  by-piece : hardRecording (first ++ row) ≡ old ++ new
-  by-piece = ap hardRecording (sym (append_assoc first held piece)) ∙ append-hard (first ++ held) piece
+  by_piece : hard_recording (first ++ row) ≡ old ++ new
+  by_piece = ap hard_recording (sym (append_assoc first held piece)) ∙ append_hard (first ++ held) piece
 
-  octets-end : length octets ≡ p.from + octetChips q * m
-  octets-end = length-hard first ∙ at
+  octets_end : length octets ≡ p.from + octet_chips q * m
+  octets_end = length_hard first ∙ at
 
-  row-long : length row ≡ h + length piece
-  row-long = length-append held piece
+  row_long : length row ≡ h + length piece
+  row_long = length-append held piece
 
-  old-long : length old ≡ p.from + octetChips q * m + h
-  old-long = length-hard (first ++ held) ∙ length-append first held ∙ ap (λ (i : ℕ). i + h) at
+  old_long : length old ≡ p.from + octet_chips q * m + h
+  old_long = length_hard (first ++ held) ∙ length-append first held ∙ ap (λ (i : ℕ). i + h) at
 
-  all-long : length (first ++ row) ≡ p.from + octetChips q * m + (h + length piece)
-  all-long = length-append first row ∙ ap₂ {C = ℕ} (λ a b. a + b) at row-long
+  all_long : length (first ++ row) ≡ p.from + octet_chips q * m + (h + length piece)
+  all_long = length-append first row ∙ ap₂ {C = ℕ} (λ a b. a + b) at row_long
 
-  before-is : wholeSymbols q p.from old ≡ octetSymbols q * m + h / symbolChips q
-  before-is = symbols-whole p m h old old-long
+  before_is : whole_symbols q p.from old ≡ octet_symbols q * m + h / symbol_chips q
+  before_is = symbols_whole p m h old old_long
 
-  after_is : wholeSymbols q p.from (old ++ new) ≡ octetSymbols q * m + length row / symbolChips q
+  after_is : whole_symbols q p.from (old ++ new) ≡ octet_symbols q * m + length row / symbol_chips q
   after_is =
-      symbols-whole p m (length row) (old ++ new)
-      (ap length (sym by-piece) ∙ length-hard (first ++ row) ∙ length-append first row
+      symbols_whole p m (length row) (old ++ new)
+      (ap length (sym by_piece) ∙ length_hard (first ++ row) ∙ length-append first row
       ∙ ap (λ (i : ℕ). i + length row) at)
 
   -- where the new symbols start
-  chips-before : (r : Rate) → symbolChips r * (octetSymbols r * m + h / symbolChips r)
-      ≡ octetChips r * m + symbolChips r * (h / symbolChips r)
-  chips-before One = omega arith
-  chips-before Two = omega arith
-  chips-before Five = omega arith
-  chips-before Eleven = omega arith
+  chips_before : (r : Rate) → symbol_chips r * (octet_symbols r * m + h / symbol_chips r)
+      ≡ octet_chips r * m + symbol_chips r * (h / symbol_chips r)
+  chips_before One = omega arith
+  chips_before Two = omega arith
+  chips_before Five = omega arith
+  chips_before Eleven = omega arith
 
-  place : p.from + symbolChips q * wholeSymbols q p.from old
-      ≡ p.from + octetChips q * m + symbolChips q * (h / symbolChips q)
+  place : p.from + symbol_chips q * whole_symbols q p.from old
+      ≡ p.from + octet_chips q * m + symbol_chips q * (h / symbol_chips q)
   place =
-      ap (λ (j : ℕ). p.from + symbolChips q * j) before-is
-      ∙ ap (λ (j : ℕ). p.from + j) (chips-before q)
-      ∙ by (octetChips q * m) (symbolChips q * (h / symbolChips q))
+      ap (λ (j : ℕ). p.from + symbol_chips q * j) before_is
+      ∙ ap (λ (j : ℕ). p.from + j) (chips_before q)
+      ∙ by (octet_chips q * m) (symbol_chips q * (h / symbol_chips q))
     where
       by : (a b : ℕ) → p.from + (a + b) ≡ p.from + a + b
       by a b = omega arith
 
-  next-is : nextWords p old new ≡ newWords q h row
-  next-is =
+  next_is : next_words p old new ≡ new_words q h row
+  next_is =
       ap₂ {C = List ℕ} (λ j cs. decidedWords q j cs)
-      (ap₂ {C = ℕ} (λ a b. a - b) after_is before-is ∙ less (octetSymbols q * m) (length row / symbolChips q) _)
-      (drop-drop (symbolChips q * wholeSymbols q p.from old) p.from (old ++ new)
+      (ap₂ {C = ℕ} (λ a b. a - b) after_is before_is ∙ less (octet_symbols q * m) (length row / symbol_chips q) _)
+      (drop-drop (symbol_chips q * whole_symbols q p.from old) p.from (old ++ new)
       ∙ ap₂ {C = List Taken} (λ j cs. drop j cs)
-      (place ∙ ap (λ (j : ℕ). j + symbolChips q * (h / symbolChips q)) (sym octets-end))
-      (sym by-piece ∙ by-octets)
-      ∙ drop-append-add octets behind (symbolChips q * (h / symbolChips q)))
+      (place ∙ ap (λ (j : ℕ). j + symbol_chips q * (h / symbol_chips q)) (sym octets_end))
+      (sym by_piece ∙ by_octets)
+      ∙ drop-append-add octets behind (symbol_chips q * (h / symbol_chips q)))
     where
       less : (a b c : ℕ) → a + b - (a + c) ≡ b - c
       less a b c = omega arith
 
-  part-bad : whereFound x.bad ≡ sectionUnusable p (hardRecording (first ++ row))
-  part-bad =
-      looked.bad-is
-      ∙ ap (λ (j : ℕ). firstUnusable j behind) (sym octets-end)
-      ∙ sym (ap (sectionUnusable p) by-octets ∙ unusable-next p octets behind (omega (arith, octets-end)) usable)
+  part_bad : where_found x.bad ≡ section_unusable p (hard_recording (first ++ row))
+  part_bad =
+      looked.bad_is
+      ∙ ap (λ (j : ℕ). firstUnusable j behind) (sym octets_end)
+      ∙ sym (ap (section_unusable p) by_octets ∙ unusable_next p octets behind (omega (arith, octets_end)) usable)
 
-  part-odd : x.bad ≡ Nothing → whereFound x.odd ≡ sectionOdd p (hardRecording (first ++ row))
-  part-odd n =
+  part_odd : x.bad ≡ Nothing → where_found x.odd ≡ section_odd p (hard_recording (first ++ row))
+  part_odd n =
       looked.odd_is n
-      ∙ odd-phase q e.last p.phase _ (wordsYet p old) (newWords q h row) last
-      ∙ sym (ap (sectionOdd p) by-piece
-      ∙ odd-next p old new (omega (arith, old-long)) even
-      ∙ ap₂ {C = Option ℕ} (λ j ws. oddGrowth q j (growthsOf q (lastHeard q p.phase (wordsYet p old)) ws)) place
-      next-is)
+      ∙ odd_phase q e.last p.phase _ (words_yet p old) (new_words q h row) last
+      ∙ sym (ap (section_odd p) by_piece
+      ∙ odd_next p old new (omega (arith, old_long)) even
+      ∙ ap₂ {C = Option ℕ} (λ j ws. oddGrowth q j (growths_of q (last_heard q p.phase (words_yet p old)) ws)) place
+      next_is)
 
-  part-goes : x.bad ≡ Nothing → x.odd ≡ Nothing → GoesOn k p (first ++ row) x.ear hold out
-  part-goes n f =
-      stands-goes k p m (h + length piece) (first ++ row) x.ear hold out all-long small
-      (stands-ear x.ear
-      (subst (λ (cs : List Taken). Stands k p m cs e out) (sym by-octets)
-      (stands-longer k p m octets behind e out octets-end s))
+  part_goes : x.bad ≡ Nothing → x.odd ≡ Nothing → GoesOn k p (first ++ row) x.ear hold out
+  part_goes n f =
+      stands_goes k p m (h + length piece) (first ++ row) x.ear hold out all_long small
+      (stands_ear x.ear
+      (subst (λ (cs : List Taken). Stands k p m cs e out) (sym by_octets)
+      (stands_longer k p m octets behind e out octets_end s))
       looked.past looked.phase looked.lead looked.symbol)
-      (keeps ∙ sym (drop_at first row (p.from + octetChips q * m) at))
-      (λ one. looked.last-is n f one
-      ∙ ap₂ {C = ℕ} (λ i ws. lastHeard One i ws) (last one) (sym next-is)
-      ∙ sym (lastHeard-append One p.phase (wordsYet p old) (nextWords p old new))
-      ∙ ap (lastHeard One p.phase)
-      (sym (ap (wordsYet p) by-piece ∙ words-next p old new (omega (arith, old-long)))))
+      (keeps ∙ sym (drop_at first row (p.from + octet_chips q * m) at))
+      (λ one. looked.last_is n f one
+      ∙ ap₂ {C = ℕ} (λ i ws. lastHeard One i ws) (last one) (sym next_is)
+      ∙ sym (last_heard_append One p.phase (words_yet p old) (next_words p old new))
+      ∙ ap (last_heard One p.phase)
+      (sym (ap (words_yet p) by_piece ∙ words_next p old new (omega (arith, old_long)))))
 
-  pub part_held : SectionIs k p (first ++ row) (whereFound x.bad) (whereFound x.odd) x.ear hold out
+  pub part_held : SectionIs k p (first ++ row) (where_found x.bad) (where_found x.odd) x.ear hold out
   part_held = record {
-    bad-is = part-bad;
-    odd_is = λ n. part-odd (nothing-found x.bad n);
-    goes = λ n f. part-goes (nothing-found x.bad n) (nothing-found x.odd f);
+    bad_is = part_bad;
+    odd_is = λ n. part-odd (nothing_found x.bad n);
+    goes = λ n f. part-goes (nothing_found x.bad n) (nothing_found x.odd f);
   }

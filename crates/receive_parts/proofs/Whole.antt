@@ -1,6 +1,6 @@
 -- Whole octets heard behind a part's m-th octet: chips held and a piece, or a piece alone.
---     nothing-found     no place found
---     whole-octets      what the part becomes
+--     nothing_found     no place found
+--     whole_octets_lem      what the part becomes
 -- Assumes nothing.
 use mathlib.Core.Path.{◌≡◌, refl, sym, ap, ap₂, subst, ◌∙◌}
 use mathlib.Core.List.{List, ◌++◌}
@@ -12,149 +12,149 @@ use lib.ListN.{length, take, drop, length-append}
 use lib.Seq.{drop_at, drop-drop, drop-length}
 use Rattle.rules_rates.specs.declared.Rate.{Rate}
 use Rattle.rules_rates.specs.declared.Rate.TheVariants.{One, Two, Five, Eleven}
-use Rattle.rules_rates.specs.Rates.{symbolChips, symbolBits, octetSymbols, octetChips}
-use Rattle.rules_rates.proofs.Octets.{part-chips}
-use Rattle.rules_chips.specs.Chips.{Taken, hardRecording}
-use Rattle.rules_chips.proofs.Recorders.{length-hard, append-hard}
-use Rattle.rules_bits.specs.Growths.{growthsOf, lastHeard}
+use Rattle.rules_rates.specs.Rates.{symbol_chips, symbol_bits, octet_symbols, octet_chips}
+use Rattle.rules_rates.proofs.Octets.{part_chips}
+use Rattle.rules_chips.specs.Chips.{Taken, hard_recording}
+use Rattle.rules_chips.proofs.Recorders.{length_hard, append_hard}
+use Rattle.rules_bits.specs.Growths.{growths_of, last_heard}
 use Rattle.rules_frame.specs.declared.Kind.{Kind}
-use Rattle.rules_reading.specs.Reading.{firstUnusable, oddGrowth, decidedWords}
+use Rattle.rules_reading.specs.Reading.{first_unusable, odd_growth, decided_words}
 use Rattle.rules_receiving.specs.declared.Ear.{Ear}
-use Rattle.rules_receiving.specs.Yet.{wholeSymbols}
-use Rattle.rules_receiving.specs.Sections.{Section, wordsYet, sectionUnusable, sectionOdd, GoesOn, SectionIs}
-use Rattle.rules_receiving.proofs.Advance.{nextWords, unusable-next, odd-next, symbols-whole, words-yet}
-use Rattle.rules_receiving.proofs.Stands.{Stands, stands-goes, stands-more}
+use Rattle.rules_receiving.specs.Yet.{whole_symbols}
+use Rattle.rules_receiving.specs.Sections.{Section, words_yet, section_unusable, section_odd, GoesOn, SectionIs}
+use Rattle.rules_receiving.proofs.Advance.{next_words, unusable_next, odd_next, symbols_whole, words_yet_lem}
+use Rattle.rules_receiving.proofs.Stands.{Stands, stands_goes, stands_more}
 use Rattle.choose_recorded.specs.declared.Place.{Place}
 use Rattle.choose_recorded.specs.declared.Place.TheVariants.{Nothing, At}
-use Rattle.choose_recorded.specs.Recorded.{whereFound}
+use Rattle.choose_recorded.specs.Recorded.{where_found}
 use Rattle.receive_parts.specs.declared.Piece.{Piece}
-use Rattle.receive_parts.specs.Pieces.{rowWords, WholeHeard}
+use Rattle.receive_parts.specs.Pieces.{row_words, WholeHeard}
 
-pub nothing-found : (o : Place) → whereFound o ≡ none → o ≡ Nothing
-nothing-found Nothing e = refl
-nothing-found (At place) e = absurd (let z : ◌≡◌ {A = ℕ} 0 1 = cc in omega arith)
+pub nothing_found : (o : Place) → where_found o ≡ none → o ≡ Nothing
+nothing_found Nothing e = refl
+nothing_found (At place) e = absurd (let z : ◌≡◌ {A = ℕ} 0 1 = cc in omega arith)
 
-some-chips : (r : Rate) → 0 < octetChips r
-some-chips One = omega arith
-some-chips Two = omega arith
-some-chips Five = omega arith
-some-chips Eleven = omega arith
+some_chips : (r : Rate) → 0 < octet_chips r
+some_chips One = omega arith
+some_chips Two = omega arith
+some_chips Five = omega arith
+some_chips Eleven = omega arith
 
 module _
     (k : Kind) (p : Section) (m w : ℕ) (fed row : List ℕ) (e : Ear) (hold out : List ℕ) (x : Piece) (y : List ℕ)
-    (at : length fed ≡ p.from + octetChips p.rate * m) (size : length row ≡ octetChips p.rate * w)
-    (usable : sectionUnusable p (hardRecording fed) ≡ none) (even : sectionOdd p (hardRecording fed) ≡ none)
-    (s : Stands k p m (hardRecording fed) e out) (parity : p.first % 2 ≡ 0) (room : m + w ≤ length out)
-    (heard : WholeHeard p.rate (p.from + octetChips p.rate * m) (p.first + octetSymbols p.rate * m) e row w
+    (at : length fed ≡ p.from + octet_chips p.rate * m) (size : length row ≡ octet_chips p.rate * w)
+    (usable : section_unusable p (hard_recording fed) ≡ none) (even : section_odd p (hard_recording fed) ≡ none)
+    (s : Stands k p m (hard_recording fed) e out) (parity : p.first % 2 ≡ 0) (room : m + w ≤ length out)
+    (heard : WholeHeard p.rate (p.from + octet_chips p.rate * m) (p.first + octet_symbols p.rate * m) e row w
     x y) where
   abbrev r : Rate
   r = p.rate
 
   abbrev rec : List Taken
-  rec = hardRecording fed
+  rec = hard_recording fed
 
   abbrev more : List Taken
-  more = hardRecording row
+  more = hard_recording row
 
-  split : hardRecording (fed ++ row) ≡ rec ++ more
-  split = append-hard fed row
+  split : hard_recording (fed ++ row) ≡ rec ++ more
+  split = append_hard fed row
 
-  at-end : length rec ≡ p.from + octetChips r * m
-  at-end = length-hard fed ∙ at
+  at_end : length rec ≡ p.from + octet_chips r * m
+  at_end = length_hard fed ∙ at
 
   whole : p.from ≤ length rec
-  whole = omega (arith, at-end)
+  whole = omega (arith, at_end)
 
-  all-long : length (rec ++ more) ≡ p.from + octetChips r * (m + w)
-  all-long =
+  all_long : length (rec ++ more) ≡ p.from + octet_chips r * (m + w)
+  all_long =
       length-append rec more
-      ∙ by (octetChips r * m) (octetChips r * w) (octetChips r * (m + w)) at-end (length-hard row ∙ size)
-      (mul-add (octetChips r) m w)
+      ∙ by (octet_chips r * m) (octet_chips r * w) (octet_chips r * (m + w)) at_end (length_hard row ∙ size)
+      (mul-add (octet_chips r) m w)
     where
       by : (a b c : ℕ) → length rec ≡ p.from + a → length more ≡ b → c ≡ a + b
           → length rec + length more ≡ p.from + c
       by a b c f g h = omega arith
 
-  next-is : nextWords p rec more ≡ rowWords r w row
-  next-is =
-      let before : wholeSymbols r p.from rec ≡ octetSymbols r * m =
-      symbols-whole p m 0 rec (omega (arith, at-end)) ∙ none_more r in
-      let after : wholeSymbols r p.from (rec ++ more) ≡ octetSymbols r * (m + w) =
-      symbols-whole p (m + w) 0 (rec ++ more) (omega (arith, all-long)) ∙ more-none r in
-      ap₂ {C = List ℕ} (λ a b. decidedWords r (a - b) (drop (symbolChips r * b) (drop p.from (rec ++ more))))
+  next_is : next_words p rec more ≡ row_words r w row
+  next_is =
+      let before : whole_symbols r p.from rec ≡ octet_symbols r * m =
+      symbols_whole p m 0 rec (omega (arith, at_end)) ∙ none_more r in
+      let after : whole_symbols r p.from (rec ++ more) ≡ octet_symbols r * (m + w) =
+      symbols_whole p (m + w) 0 (rec ++ more) (omega (arith, all_long)) ∙ more_none r in
+      ap₂ {C = List ℕ} (λ a b. decidedWords r (a - b) (drop (symbol_chips r * b) (drop p.from (rec ++ more))))
       after before
       ∙ ap₂ {C = List ℕ} (λ j cs. decidedWords r j cs) (less r)
-      (drop-drop (symbolChips r * (octetSymbols r * m)) p.from (rec ++ more)
-      ∙ drop_at rec more (p.from + symbolChips r * (octetSymbols r * m))
-      (at-end ∙ ap (λ (j : ℕ). p.from + j) (sym (part-chips r m))))
+      (drop-drop (symbol_chips r * (octet_symbols r * m)) p.from (rec ++ more)
+      ∙ drop_at rec more (p.from + symbol_chips r * (octet_symbols r * m))
+      (at_end ∙ ap (λ (j : ℕ). p.from + j) (sym (part_chips r m))))
     where
-      none_more : (q : Rate) → octetSymbols q * m + 0 / symbolChips q ≡ octetSymbols q * m
+      none_more : (q : Rate) → octet_symbols q * m + 0 / symbol_chips q ≡ octet_symbols q * m
       none_more One = omega arith
       none_more Two = omega arith
       none_more Five = omega arith
       none_more Eleven = omega arith
 
-      more-none : (q : Rate) → octetSymbols q * (m + w) + 0 / symbolChips q ≡ octetSymbols q * (m + w)
-      more-none One = omega arith
-      more-none Two = omega arith
-      more-none Five = omega arith
-      more-none Eleven = omega arith
+      more_none : (q : Rate) → octet_symbols q * (m + w) + 0 / symbol_chips q ≡ octet_symbols q * (m + w)
+      more_none One = omega arith
+      more_none Two = omega arith
+      more_none Five = omega arith
+      more_none Eleven = omega arith
 
-      less : (q : Rate) → octetSymbols q * (m + w) - octetSymbols q * m ≡ 8 * w / symbolBits q
+      less : (q : Rate) → octet_symbols q * (m + w) - octet_symbols q * m ≡ 8 * w / symbol_bits q
       less One = omega arith
       less Two = omega arith
       less Five = omega arith
       less Eleven = omega arith
 
-  bad-is : whereFound x.bad ≡ sectionUnusable p (hardRecording (fed ++ row))
-  bad-is =
-      heard.bad-is
-      ∙ ap (λ (j : ℕ). firstUnusable j more) (sym at-end)
-      ∙ sym (ap (sectionUnusable p) split ∙ unusable-next p rec more whole usable)
+  bad_is : where_found x.bad ≡ section_unusable p (hard_recording (fed ++ row))
+  bad_is =
+      heard.bad_is
+      ∙ ap (λ (j : ℕ). firstUnusable j more) (sym at_end)
+      ∙ sym (ap (section_unusable p) split ∙ unusable_next p rec more whole usable)
 
-  odd_is : x.bad ≡ Nothing → whereFound x.odd ≡ sectionOdd p (hardRecording (fed ++ row))
+  odd_is : x.bad ≡ Nothing → where_found x.odd ≡ section_odd p (hard_recording (fed ++ row))
   odd_is n =
       heard.odd_is n
-      ∙ sym (ap (sectionOdd p) split
-      ∙ odd-next p rec more whole even
-      ∙ ap₂ {C = Option ℕ} (λ j ws. oddGrowth r j (growthsOf r (lastHeard r p.phase ws) (nextWords p rec more)))
-      place (words-yet p m rec at-end)
-      ∙ ap₂ {C = Option ℕ} (λ i ws. oddGrowth r (p.from + octetChips r * m) (growthsOf r i ws)) (sym s.at-phase)
-      next-is)
+      ∙ sym (ap (section_odd p) split
+      ∙ odd_next p rec more whole even
+      ∙ ap₂ {C = Option ℕ} (λ j ws. oddGrowth r j (growths_of r (last_heard r p.phase ws) (next_words p rec more)))
+      place (words_yet_lem p m rec at_end)
+      ∙ ap₂ {C = Option ℕ} (λ i ws. oddGrowth r (p.from + octet_chips r * m) (growths_of r i ws)) (sym s.at_phase)
+      next_is)
     where
-      none_more : (q : Rate) → symbolChips q * (octetSymbols q * m + 0 / symbolChips q) ≡ octetChips q * m
+      none_more : (q : Rate) → symbol_chips q * (octet_symbols q * m + 0 / symbol_chips q) ≡ octet_chips q * m
       none_more One = omega arith
       none_more Two = omega arith
       none_more Five = omega arith
       none_more Eleven = omega arith
 
-      place : p.from + symbolChips r * wholeSymbols r p.from rec ≡ p.from + octetChips r * m
+      place : p.from + symbol_chips r * whole_symbols r p.from rec ≡ p.from + octet_chips r * m
       place =
-          ap (λ (j : ℕ). p.from + symbolChips r * j) (symbols-whole p m 0 rec (omega (arith, at-end)))
+          ap (λ (j : ℕ). p.from + symbol_chips r * j) (symbols_whole p m 0 rec (omega (arith, at_end)))
           ∙ ap (λ (j : ℕ). p.from + j) (none_more r)
 
-  more-octets : x.bad ≡ Nothing → Stands k p (m + w) (rec ++ more) x.ear (take m out ++ (y ++ drop (m + w) out))
-  more-octets n =
-      stands-more k p m rec more e out at-end s parity w x.ear y room (heard.past n) (heard.phase n)
+  more_octets : x.bad ≡ Nothing → Stands k p (m + w) (rec ++ more) x.ear (take m out ++ (y ++ drop (m + w) out))
+  more_octets n =
+      stands_more k p m rec more e out at_end s parity w x.ear y room (heard.past n) (heard.phase n)
       (heard.least n) (heard.octets n)
 
   goes : x.bad ≡ Nothing → GoesOn k p (fed ++ row) x.ear hold (take m out ++ (y ++ drop (m + w) out))
   goes n =
-      let long : length (fed ++ row) ≡ p.from + octetChips r * (m + w) =
-      sym (length-hard (fed ++ row)) ∙ ap length split ∙ all-long in
-      stands-goes k p (m + w) 0 (fed ++ row) x.ear hold _ (omega (arith, long)) (some-chips r)
+      let long : length (fed ++ row) ≡ p.from + octet_chips r * (m + w) =
+      sym (length_hard (fed ++ row)) ∙ ap length split ∙ all_long in
+      stands_goes k p (m + w) 0 (fed ++ row) x.ear hold _ (omega (arith, long)) (some_chips r)
       (subst (λ (cs : List Taken). Stands k p (m + w) cs x.ear (take m out ++ (y ++ drop (m + w) out))) (sym split)
-      (more-octets n))
+      (more_octets n))
       (sym (ap (λ (i : ℕ). drop i (fed ++ row)) (sym long) ∙ drop-length (fed ++ row)))
-      (λ one. heard.last n ∙ (more-octets n).at-phase
+      (λ one. heard.last n ∙ (more_octets n).at_phase
       ∙ ap (λ (ws : List ℕ). lastHeard r p.phase ws)
-      (sym (ap (wordsYet p) split ∙ words-yet p (m + w) (rec ++ more) all-long))
-      ∙ ap (λ (q : Rate). lastHeard q p.phase (wordsYet p (hardRecording (fed ++ row)))) one)
+      (sym (ap (words_yet p) split ∙ words_yet_lem p (m + w) (rec ++ more) all_long))
+      ∙ ap (λ (q : Rate). lastHeard q p.phase (words_yet p (hard_recording (fed ++ row)))) one)
 
-  pub whole-octets : SectionIs k p (fed ++ row) (whereFound x.bad) (whereFound x.odd) x.ear hold
+  pub whole_octets_lem : SectionIs k p (fed ++ row) (where_found x.bad) (where_found x.odd) x.ear hold
       (take m out ++ (y ++ drop (m + w) out))
-  whole-octets = record {
-    bad-is = bad-is;
-    odd_is = λ n. odd_is (nothing-found x.bad n);
-    goes = λ n f. goes (nothing-found x.bad n);
+  whole_octets_lem = record {
+    bad_is = bad_is;
+    odd_is = λ n. odd_is (nothing_found x.bad n);
+    goes = λ n f. goes (nothing_found x.bad n);
   }

@@ -1,10 +1,10 @@
 // A row of chips heard: whole octets, or the new symbols of an octet that is not whole.
 ghost use Rattle.std.specs.Prelude.{◌≡◌, ◌+◌, ◌*◌, ◌≤◌, ◌<◌, length};
 ghost use Rattle.std.proofs.Math.Option.{none};
-ghost use Rattle.rules_rates.specs.Rates.{octetChips};
-ghost use Rattle.rules_chips.specs.Chips.{hardRecording};
-ghost use Rattle.rules_reading.specs.Reading.{firstUnusable};
-ghost use Rattle.choose_recorded.specs.Recorded.{whereFound};
+ghost use Rattle.rules_rates.specs.Rates.{octet_chips};
+ghost use Rattle.rules_chips.specs.Chips.{hard_recording};
+ghost use Rattle.rules_reading.specs.Reading.{first_unusable};
+ghost use Rattle.choose_recorded.specs.Recorded.{where_found};
 ghost use Rattle.receive_parts.specs.Pieces.{
   PlaceBelow,
   moved,
@@ -28,7 +28,7 @@ use rules_receiving::Ear;
 // A place counted from a row's first chip, counted from the recording's.
 fn placed(found: Place, at: usize) -> Place
     requires { MovedBelow at found }
-    ensures answer { whereFound result ≡ moved at (whereFound found) }
+    ensures answer { where_found result ≡ moved at (where_found found) }
     ensures few { PlaceBelow result }
 {
     match found {
@@ -60,7 +60,7 @@ fn largest(row: &[u8]) -> u8
 // The first unusable chip of a row whose first chip is chip `at` of the recording.
 pub fn unusable_from(row: &[u8], at: usize) -> Place
     requires { at + length row.now ≤ 1000000 }
-    ensures answer { whereFound result ≡ firstUnusable at (hardRecording row.now) }
+    ensures answer { where_found result ≡ first_unusable at (hard_recording row.now) }
     ensures few { PlaceBelow result }
 {
     if largest(row) < 5 {
@@ -77,8 +77,8 @@ pub fn unusable_from(row: &[u8], at: usize) -> Place
 
 // Whole octets of usable chips.
 fn hear_usable(rate: Rate, at: usize, symbol: usize, ear: Ear, row: &[u8], out: &mut [u8]) -> Piece
-    requires { (length row.now ≡ octetChips rate * length out.old) × (at + length row.now ≤ 1000000)
-        × (symbol ≤ 1000000) × (ear.phase < 4) × (firstUnusable at (hardRecording row.now) ≡ none) }
+    requires { (length row.now ≡ octet_chips rate * length out.old) × (at + length row.now ≤ 1000000)
+        × (symbol ≤ 1000000) × (ear.phase < 4) × (first_unusable at (hard_recording row.now) ≡ none) }
     ensures answer { WholeHeard rate at symbol ear row.now (length out.old) result
         out.new }
 {
@@ -134,7 +134,7 @@ pub fn hear_whole(
     row: &[u8],
     out: &mut [u8],
 ) -> Piece
-    requires { (length row.now ≡ octetChips rate * length out.old) × (at + length row.now ≤ 1000000)
+    requires { (length row.now ≡ octet_chips rate * length out.old) × (at + length row.now ≤ 1000000)
         × (symbol ≤ 1000000) × (ear.phase < 4) × (ear.last < 4) }
     ensures answer { WholeHeard rate at symbol ear row.now (length out.old) result
         out.new }
@@ -154,7 +154,7 @@ pub fn hear_whole(
 // first chip is chip `at` of the recording; the symbol before the new ones has phase `last`.
 fn look(row: &[u8], at: usize, h: usize, last: u8) -> Grown
     requires { (length row.now ≤ 88) × (h ≤ length row.now) × (at ≤ 900000) × (last < 4)
-        × (firstUnusable at (hardRecording row.now) ≡ none) }
+        × (first_unusable at (hard_recording row.now) ≡ none) }
     ensures answer { Looked at h row.now last result }
 {
     let byte = [0i8; 1];
@@ -203,7 +203,7 @@ fn nothing_found(ear: Ear) -> Piece
 
 // An octet that is not whole, of which h chips were held before: 9, then 10 of its new whole symbols.
 pub fn hold_part(rate: Rate, at: usize, ear: Ear, h: usize, row: &[u8]) -> Piece
-    requires { (length row.now ≤ octetChips rate) × (h ≤ length row.now) × (at ≤ 900000) × (ear.last < 4) }
+    requires { (length row.now ≤ octet_chips rate) × (h ≤ length row.now) × (at ≤ 900000) × (ear.last < 4) }
     ensures answer { PartHeld rate at ear h row.now result }
 {
     let found = unusable_from(row, at);

@@ -1,7 +1,7 @@
 // A piece of a batch taken: whole octets straight from it, or chips behind those held.
 ghost use Rattle.std.specs.Prelude.{◌≡◌, ◌+◌, ◌-◌, ◌*◌, ◌/◌, ◌%◌, ◌≤◌, ◌<◌, length};
 ghost use Rattle.base.specs.Over.{over};
-ghost use Rattle.rules_rates.specs.Rates.{octetChips};
+ghost use Rattle.rules_rates.specs.Rates.{octet_chips};
 ghost use Rattle.receive_parts.specs.Pieces.{WholeCount, Joins, Takes};
 
 use super::{Piece, Taking, heard};
@@ -42,7 +42,7 @@ fn join(
     piece: &[u8],
     octet: &mut [u8],
 ) -> Piece
-    requires { (h + length piece.now ≤ octetChips rate) × (length octet.old ≡ 1) × (length hold.old ≡ 88)
+    requires { (h + length piece.now ≤ octet_chips rate) × (length octet.old ≡ 1) × (length hold.old ≡ 88)
         × (at ≤ 900000) × (symbol ≤ 1000000) × (ear.phase < 4) × (ear.last < 4) }
     ensures answer { Joins rate at symbol ear h hold.old piece.now octet.old result
         hold.new octet.new }
@@ -83,7 +83,7 @@ pub fn take_piece(
     rest: &[u8],
     out: &mut [u8],
 ) -> Taking
-    requires { (from ≤ count) × (count < from + octetChips rate * n) × (n ≤ length out.old) × (n ≤ 4095)
+    requires { (from ≤ count) × (count < from + octet_chips rate * n) × (n ≤ length out.old) × (n ≤ 4095)
         × (from ≤ 2112) × (first ≤ 192) × (length hold.old ≡ 88) × (ear.phase < 4) × (ear.last < 4) }
     ensures answer { Takes rate from first n count ear hold.old rest.now
         out.old result hold.new out.new }

@@ -1,14 +1,14 @@
 // The month's report kept: one recording more, read and counted, and a whole list of recordings at once.
 ghost use Rattle.std.specs.Prelude.{◌≡◌, true, ◌||◌, map, ◌≤◌, eqb, ltb};
-ghost use Rattle.rules_report.specs.Totals.{Outcome, outcomeOf, frontTime};
+ghost use Rattle.rules_report.specs.Totals.{Outcome, outcome_of, front_time};
 ghost use Rattle.rules_report.specs.Report.{
   empty,
-  entryOf,
-  withFrame,
-  withRefusal,
+  entry_of,
+  with_frame,
+  with_refusal,
   at_most,
-  takesMore,
-  countedOf,
+  takes_more,
+  counted_of,
   list_of,
 };
 
@@ -33,7 +33,7 @@ fn at_most(most: u64, row: &[u64]) -> bool
 
 // Whether a report can be one that was kept, with fewer than 1,000 seen.
 fn takes_more(p: Report) -> bool
-    ensures answer { result ≡ takesMore p }
+    ensures answer { result ≡ takes_more p }
 {
     if 1000 <= p.seen {
         return false;
@@ -57,7 +57,7 @@ fn takes_more(p: Report) -> bool
 
 // The entry of a rate, by its code.
 fn entry_of(code: u64) -> usize
-    ensures answer { result ≡ entryOf code }
+    ensures answer { result ≡ entry_of code }
 {
     match code {
         10 => 0,
@@ -69,7 +69,7 @@ fn entry_of(code: u64) -> usize
 
 // Microseconds of a front.
 fn front_time(kind: u64) -> u64
-    ensures answer { result ≡ frontTime kind }
+    ensures answer { result ≡ front_time kind }
 {
     if kind == 0 { 192 } else { 96 }
 }
@@ -86,8 +86,8 @@ fn is_closer(some: u64, least: u64, lead: u64) -> bool
 
 // One frame more: its octets, its airtime, and its lead if it is closer.
 fn with_frame(p: Report, kind: u64, a: Record) -> Report
-    requires { (takesMore p ≡ true) × (a.n ≤ 4095) × (a.length ≤ 32760) }
-    ensures answer { result ≡ withFrame p (record { kind = kind; answer = a }) }
+    requires { (takes_more p ≡ true) × (a.n ≤ 4095) × (a.length ≤ 32760) }
+    ensures answer { result ≡ with_frame p (record { kind = kind; answer = a }) }
 {
     let at = entry_of(a.rate);
     let closer = is_closer(p.some, p.lead, a.lead);
@@ -110,8 +110,8 @@ fn with_frame(p: Report, kind: u64, a: Record) -> Report
 
 // One refusal more, by its number.
 fn with_refusal(p: Report, number: u64) -> Report
-    requires { (takesMore p ≡ true) × (number ≤ 17) }
-    ensures answer { (o : Outcome) → o.answer.number ≡ number → result ≡ withRefusal p o }
+    requires { (takes_more p ≡ true) × (number ≤ 17) }
+    ensures answer { (o : Outcome) → o.answer.number ≡ number → result ≡ with_refusal p o }
 {
     let entry = number as usize;
     let mut q = p;
@@ -125,7 +125,7 @@ fn with_refusal(p: Report, number: u64) -> Report
 
 // What a full read with room for 4,095 octets answers.
 fn read(kind: u64, chips: &[u8]) -> Record
-    ensures answer { result ≡ (outcomeOf (record { kind = kind; chips = chips.now })).answer }
+    ensures answer { result ≡ (outcome_of (record { kind = kind; chips = chips.now })).answer }
 {
     let mut octets = [0u8; 4095];
     read_frames::read_hard(kind, chips, &mut octets)
@@ -133,7 +133,7 @@ fn read(kind: u64, chips: &[u8]) -> Record
 
 // One recording more: 31, and the report as it stood, where it takes no more; else 0, whatever the reading comes to.
 pub fn add(report: Report, kind: u64, chips: &[u8]) -> Counted
-    ensures answer { result ≡ countedOf report (record { kind = kind; chips = chips.now }) }
+    ensures answer { result ≡ counted_of report (record { kind = kind; chips = chips.now }) }
 {
     if !takes_more(report) {
         return Counted { number: 31, report };

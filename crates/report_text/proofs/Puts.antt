@@ -1,9 +1,9 @@
 -- Laws of putting octets into a row.
---     put-none, put-more      nothing put; one octet more
+--     put_none, put_more      nothing put; one octet more
 --     put_next                what is put where the first ended is one with it
---     put-pair                and so is a word and its number
---     four-long               how long four lists are together
---     lines-room, lines-turn  a loop that puts lines: there is room for the next, and it is put
+--     put_pair                and so is a word and its number
+--     four_long               how long four lists are together
+--     lines_room, lines_turn  a loop that puts lines: there is room for the next, and it is put
 -- Assumes nothing.
 use mathlib.Core.Path.{◌≡◌, refl, sym, ap, ◌∙◌}
 use mathlib.Core.List.{List, [], ◌∷◌, ◌++◌, append-nil, append_assoc}
@@ -15,16 +15,16 @@ use lib.ListN.{length, take, drop, set, length-append}
 use lib.Seq.{take-suc-set, drop-set-lt, drop-drop}
 use Rattle.report_text.specs.Placed.{Placed}
 
-pub put-none : (at n : ℕ) (d : List ℕ) → n ≡ at → Placed [] at d n d
-put-none at n d e = record { stop = omega arith; front = rw e (sym (append-nil (take at d))); rest = refl }
+pub put_none : (at n : ℕ) (d : List ℕ) → n ≡ at → Placed [] at d n d
+put_none at n d e = record { stop = omega arith; front = rw e (sym (append-nil (take at d))); rest = refl }
 
 -- what is so from n on is so from further on
 further : (e d : List ℕ) (n m : ℕ) → drop n e ≡ drop n d → drop (n + m) e ≡ drop (n + m) d
 further e d n m h = sym (drop-drop m n e) ∙ ap (drop m) h ∙ drop-drop m n d
 
-pub put-more : {w : List ℕ} {at : ℕ} {d : List ℕ} {n : ℕ} {e : List ℕ} (v : ℕ) → Placed w at d n e → n < length e
+pub put_more : {w : List ℕ} {at : ℕ} {d : List ℕ} {n : ℕ} {e : List ℕ} (v : ℕ) → Placed w at d n e → n < length e
     → Placed (w ++ (v ∷ [])) at d (n + 1) (set e n v)
-put-more {w} {at} {d} {n} {e} v p h = record {
+put_more {w} {at} {d} {n} {e} v p h = record {
   stop = rw length-append (omega (arith, p.stop));
   front = rw (add-one, take-suc-set e n v h, p.front) (append_assoc (take at d) w (v ∷ []));
   rest = drop-set-lt (n + 1) e n v (omega arith) ∙ further e d n 1 p.rest;
@@ -38,12 +38,12 @@ put_next {a} {b} {at} {d} {n} {e} {m} {f} p q = record {
   rest = q.rest ∙ rw q.stop (further e d n (length b) p.rest);
 }
 
-pub put-pair : {w : List ℕ} (a b : List ℕ) {at : ℕ} {d : List ℕ} {n : ℕ} {e : List ℕ} {m : ℕ} {f : List ℕ}
+pub put_pair : {w : List ℕ} (a b : List ℕ) {at : ℕ} {d : List ℕ} {n : ℕ} {e : List ℕ} {m : ℕ} {f : List ℕ}
     → Placed w at d n e → Placed (a ++ b) n e m f → Placed (w ++ a ++ b) at d m f
-put-pair {w} a b p q = rw (append_assoc w a b) (put_next p q)
+put_pair {w} a b p q = rw (append_assoc w a b) (put_next p q)
 
-pub four-long : (a b c d : List ℕ) → length (a ++ b ++ c ++ d) ≡ length a + length b + length c + length d
-four-long a b c d = simp length-append
+pub four_long : (a b c d : List ℕ) → length (a ++ b ++ c ++ d) ≡ length a + length b + length c + length d
+four_long a b c d = simp length-append
 
 -- ---- lines put one after the other: `all` are the first k of them, and `one` is the next
 
@@ -56,13 +56,13 @@ module _ (all one : ℕ → List ℕ) (step : (k : ℕ) → all (k + 1) ≡ all 
   grows k (suc j) =
       let e : k + suc j ≡ (k + j) + 1 = omega arith in rw (e, longer) (omega (arith, grows k j))
 
-  pub lines-room : (n k : ℕ) {at end : ℕ} {d o : List ℕ} → k < n → Placed (all k) at d end o
+  pub lines_room : (n k : ℕ) {at end : ℕ} {d o : List ℕ} → k < n → Placed (all k) at d end o
       → at + length (all n) ≤ length d → length o ≡ length d → end + length (one k) ≤ length o
-  lines-room n k h p g l =
+  lines_room n k h p g l =
       let e : k + 1 + (n - (k + 1)) ≡ n = omega arith in
       let within : length (all (k + 1)) ≤ length (all n) = rw e at (grows (k + 1) (n - (k + 1))) in
       omega (arith, p.stop, longer k)
 
-  pub lines-turn : (k : ℕ) {at end r : ℕ} {d o q : List ℕ} → Placed (all k) at d end o → Placed (one k) end o r q
+  pub lines_turn : (k : ℕ) {at end r : ℕ} {d o q : List ℕ} → Placed (all k) at d end o → Placed (one k) end o r q
       → Placed (all (k + 1)) at d r q
-  lines-turn k p q = rw (step k) (put_next p q)
+  lines_turn k p q = rw (step k) (put_next p q)

@@ -5,7 +5,7 @@ use Rattle.std.specs.Prelude.{◌≡◌, List, [], ◌++◌, ℕ, zero, suc, ◌
 use Rattle.rules_rates.specs.declared.Rate.TheVariants.{Eleven}
 use Rattle.rules_rates.specs.Rates.{code_of}
 use Rattle.rules_report.specs.Report.{codes}
-use Rattle.rules_report.specs.Text.{word, decimal, rateLine}
+use Rattle.rules_report.specs.Text.{word, decimal, rate_line}
 
 -- a row d with w put at `at` is a row e: its octets up to `end` are those of d up to `at`, and w; from there on they
 -- are as they were
@@ -15,14 +15,14 @@ pub record Placed (w : List ℕ) (at : ℕ) (d : List ℕ) (end : ℕ) (e : List
   pub rest : drop end e ≡ drop end d
 
 -- a line of two words, each with its number
-abbrev pub pairLine : List ℕ → ℕ → List ℕ → ℕ → List ℕ
-pairLine first x second y = first ++ decimal x ++ second ++ decimal y ++ word "\n"
+abbrev pub pair_line : List ℕ → ℕ → List ℕ → ℕ → List ℕ
+pair_line first x second y = first ++ decimal x ++ second ++ decimal y ++ word "\n"
 
 -- the rate code of an entry, and the lines of the first k rates
 abbrev pub code_at : ℕ → ℕ
 code_at k = get_or codes k (code_of Eleven)
 
-unfoldable pub rateLines : ℕ → List ℕ → List ℕ → List ℕ
-rateLines zero frames octets = []
-rateLines (suc k) frames octets =
-    rateLines k frames octets ++ rateLine (code_at k) (get_or frames k 0) (get_or octets k 0)
+unfoldable pub rate_lines : ℕ → List ℕ → List ℕ → List ℕ
+rate_lines zero frames octets = []
+rate_lines (suc k) frames octets =
+    rate_lines k frames octets ++ rate_line (code_at k) (get_or frames k 0) (get_or octets k 0)

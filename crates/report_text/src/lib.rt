@@ -1,10 +1,10 @@
 // The report's text: words and decimal numbers, line after line, into a row of its own, and from there into the octet
 // buffer. Whatever comes of it, the whole buffer is written.
 ghost use Rattle.std.specs.Prelude.{◌≡◌, ◌++◌, ◌+◌, ◌≤◌, length};
-ghost use Rattle.rules_report.specs.Text.{decimal, rateLine, refusedLine, refusedLines, airtimeLine, leadLine};
-ghost use Rattle.rules_report.specs.Text.{text_of, spelledOf, textLeft};
+ghost use Rattle.rules_report.specs.Text.{decimal, rate_line, refused_line, refused_lines, airtime_line, lead_line};
+ghost use Rattle.rules_report.specs.Text.{text_of, spelled_of, text_left};
 ghost use Rattle.rules_report.specs.Text.{places as Text·places};
-ghost use Rattle.report_text.specs.Placed.{Placed, pairLine, code_at, rateLines};
+ghost use Rattle.report_text.specs.Placed.{Placed, pair_line, code_at, rate_lines};
 
 use rules_report::{Report, Spelled};
 
@@ -64,8 +64,8 @@ fn put_both(word: &[u8], x: u64, at: usize, out: &mut [u8]) -> usize
 
 // Two words, each with its number, and a line feed.
 fn put_line(first: &[u8], x: u64, second: &[u8], y: u64, at: usize, out: &mut [u8]) -> usize
-    requires { at + length (pairLine first.now x second.now y) ≤ length out.old }
-    ensures answer { Placed (pairLine first.now x second.now y) at out.old
+    requires { at + length (pair_line first.now x second.now y) ≤ length out.old }
+    ensures answer { Placed (pair_line first.now x second.now y) at out.old
         result out.new }
 {
     let a = put_both(first, x, at, out);
@@ -76,8 +76,8 @@ fn put_line(first: &[u8], x: u64, second: &[u8], y: u64, at: usize, out: &mut [u
 
 // A rate's line.
 fn rate_line(rate: u64, frames: u64, octets: u64, at: usize, out: &mut [u8]) -> usize
-    requires { at + length (rateLine rate frames octets) ≤ length out.old }
-    ensures answer { Placed (rateLine rate frames octets) at out.old result out.new }
+    requires { at + length (rate_line rate frames octets) ≤ length out.old }
+    ensures answer { Placed (rate_line rate frames octets) at out.old result out.new }
 {
     let a = put_both(b"rate ", rate, at, out);
     put_line(b" frames ", frames, b" octets ", octets, a, out)
@@ -85,8 +85,8 @@ fn rate_line(rate: u64, frames: u64, octets: u64, at: usize, out: &mut [u8]) -> 
 
 // The line of a refusal that was met, and nothing for one that was not.
 fn refused_line(number: u64, count: u64, at: usize, out: &mut [u8]) -> usize
-    requires { at + length (refusedLine number count) ≤ length out.old }
-    ensures answer { Placed (refusedLine number count) at out.old result out.new }
+    requires { at + length (refused_line number count) ≤ length out.old }
+    ensures answer { Placed (refused_line number count) at out.old result out.new }
 {
     if count == 0 {
         return at;
@@ -96,8 +96,8 @@ fn refused_line(number: u64, count: u64, at: usize, out: &mut [u8]) -> usize
 
 // The lines of refusals 1 to 17.
 fn refused_lines(refused: [u64; 18], at: usize, out: &mut [u8]) -> usize
-    requires { at + length (refusedLines 17 refused) ≤ length out.old }
-    ensures answer { Placed (refusedLines 17 refused) at out.old result out.new }
+    requires { at + length (refused_lines 17 refused) ≤ length out.old }
+    ensures answer { Placed (refused_lines 17 refused) at out.old result out.new }
 {
     let mut end = at;
     let mut number = 0;
@@ -110,8 +110,8 @@ fn refused_lines(refused: [u64; 18], at: usize, out: &mut [u8]) -> usize
 
 // The airtime's line.
 fn airtime_line(airtime: u64, at: usize, out: &mut [u8]) -> usize
-    requires { at + length (airtimeLine airtime) ≤ length out.old }
-    ensures answer { Placed (airtimeLine airtime) at out.old result out.new }
+    requires { at + length (airtime_line airtime) ≤ length out.old }
+    ensures answer { Placed (airtime_line airtime) at out.old result out.new }
 {
     let a = put_both(b"airtime ", airtime, at, out);
     out[a] = 10;
@@ -120,8 +120,8 @@ fn airtime_line(airtime: u64, at: usize, out: &mut [u8]) -> usize
 
 // The line of the smallest lead, or of none.
 fn lead_line(some: u64, lead: u64, recording: u64, at: usize, out: &mut [u8]) -> usize
-    requires { at + length (leadLine some lead recording) ≤ length out.old }
-    ensures answer { Placed (leadLine some lead recording) at out.old result out.new }
+    requires { at + length (lead_line some lead recording) ≤ length out.old }
+    ensures answer { Placed (lead_line some lead recording) at out.old result out.new }
 {
     if some == 0 {
         return put_word(b"lead none\n", at, out);
@@ -143,8 +143,8 @@ fn code_of(k: usize) -> u64
 
 // The lines of all four rates.
 fn rate_lines(frames: [u64; 4], octets: [u64; 4], out: &mut [u8]) -> usize
-    requires { length (rateLines 4 frames octets) ≤ length out.old }
-    ensures answer { Placed (rateLines 4 frames octets) 0 out.old result out.new }
+    requires { length (rate_lines 4 frames octets) ≤ length out.old }
+    ensures answer { Placed (rate_lines 4 frames octets) 0 out.old result out.new }
 {
     let mut end = 0;
     let mut k = 0;
@@ -171,8 +171,8 @@ fn put_text(report: Report, out: &mut [u8]) -> usize
 
 // The text and zeros to the buffer's end, or 17 and zeros where the buffer is shorter than the text.
 pub fn text(report: Report, octets: &mut [u8]) -> Spelled
-    ensures answer { result ≡ spelledOf report (length octets.old) }
-    ensures octets { octets.new ≡ textLeft report (length octets.old) }
+    ensures answer { result ≡ spelled_of report (length octets.old) }
+    ensures octets { octets.new ≡ text_left report (length octets.old) }
 {
     common_rows::fill(octets, 0);
     let mut row = [0u8; 980];

@@ -5,23 +5,23 @@ use mathlib.Core.Path.{◌≡◌, refl}
 use mathlib.Core.List.{List, [], ◌∷◌, map}
 use Prim.Native.Nat.{ℕ, ◌%◌}
 use Rattle.rules_rates.specs.declared.Rate.TheVariants.{One, Two, Five, Eleven}
-use Rattle.rules_symbols.specs.Words.{barkerWord, cckWord, cckNumber}
-use Rattle.rules_bits.specs.Bits.{bits_of, number_of, octetBits, octetsOf}
+use Rattle.rules_symbols.specs.Words.{barker_word, cck_word, cck_number}
+use Rattle.rules_bits.specs.Bits.{bits_of, number_of, octet_bits, octets_of}
 use Rattle.rules_bits.specs.Growths.{
   growth,
   Symbol,
   symbol_of,
-  symbolsOf,
+  symbols_of,
   symbols_from,
-  chipsFrom,
-  lastPhase,
-  heardBits,
+  chips_from,
+  last_phase,
+  heard_bits,
   heard,
-  growthsOf,
-  lastHeard,
+  growths_of,
+  last_heard,
 }
 use Rattle.rules_bits.specs.Scrambler.{mixed, scramble, descramble}
-use Rattle.rules_bits.specs.Crc.{addWhere, crcStep, remainder, crcBits}
+use Rattle.rules_bits.specs.Crc.{add_where, crc_step, remainder, crc_bits}
 
 abbrev phases : Symbol → List ℕ
 phases s = s.p2 ∷ s.p3 ∷ s.p4 ∷ []
@@ -39,10 +39,10 @@ computed =
     ∷ phases (symbol_of Eleven 0 (0 ∷ 0 ∷ 0 ∷ 1 ∷ 1 ∷ 0 ∷ 1 ∷ 1 ∷ []))
     ∷ phases (symbol_of Five 0 (0 ∷ 0 ∷ 1 ∷ 1 ∷ []))
     ∷ phases (symbol_of Five 0 (0 ∷ 0 ∷ 0 ∷ 1 ∷ []))
-    ∷ grown (symbolsOf One pairs)
-    ∷ grown (symbolsOf Two pairs)
-    ∷ grown (symbolsOf Five (octetBits (0x12 ∷ 0x03 ∷ [])))
-    ∷ grown (symbolsOf Eleven (octetBits (2 ∷ 1 ∷ 3 ∷ 0 ∷ [])))
+    ∷ grown (symbols_of One pairs)
+    ∷ grown (symbols_of Two pairs)
+    ∷ grown (symbols_of Five (octet_bits (0x12 ∷ 0x03 ∷ [])))
+    ∷ grown (symbols_of Eleven (octet_bits (2 ∷ 1 ∷ 3 ∷ 0 ∷ [])))
     ∷ []
 
 abbrev pub document : List (List ℕ)
@@ -58,18 +58,18 @@ document =
     ∷ []
 
 pub facts : computed ≡ document
-unfolding growth symbol_of symbolsOf symbols_from bits_of octetBits
+unfolding growth symbol_of symbols_of symbols_from bits_of octet_bits
 facts = refl
 
 -- chips of an octet or two after phase 1, and the phase that the last symbol ends with
 abbrev pub sent : List (List ℕ)
 sent =
-    chipsFrom One 1 (symbolsOf One (1 ∷ 0 ∷ []))
-    ∷ chipsFrom Two 1 (symbolsOf Two (0 ∷ 1 ∷ 1 ∷ 0 ∷ []))
-    ∷ chipsFrom Five 1 (symbolsOf Five (bits_of 8 0x72))
-    ∷ chipsFrom Eleven 1 (symbolsOf Eleven (octetBits (0xD9 ∷ 0x02 ∷ [])))
-    ∷ (lastPhase 1 (symbolsOf Two (0 ∷ 1 ∷ 1 ∷ 0 ∷ []))
-    ∷ lastPhase 1 (symbolsOf Eleven (octetBits (0xD9 ∷ 0x02 ∷ [])))
+    chips_from One 1 (symbols_of One (1 ∷ 0 ∷ []))
+    ∷ chips_from Two 1 (symbols_of Two (0 ∷ 1 ∷ 1 ∷ 0 ∷ []))
+    ∷ chips_from Five 1 (symbols_of Five (bits_of 8 0x72))
+    ∷ chips_from Eleven 1 (symbols_of Eleven (octet_bits (0xD9 ∷ 0x02 ∷ [])))
+    ∷ (last_phase 1 (symbols_of Two (0 ∷ 1 ∷ 1 ∷ 0 ∷ []))
+    ∷ last_phase 1 (symbols_of Eleven (octet_bits (0xD9 ∷ 0x02 ∷ [])))
     ∷ [])
     ∷ []
 
@@ -84,22 +84,22 @@ chips =
 
 -- promise: Growths of bits at each rate, the order of a CCK word's phases, and the half turn of odd symbols
 -- rule: 4.1 to 4.5, 8.2, 8.3
--- with: facts, read-facts
-pub sent-facts : sent ≡ chips
-unfolding growth symbol_of symbolsOf symbols_from bits_of octetBits chipsFrom lastPhase barkerWord cckWord
-sent-facts = refl
+-- with: facts, read_facts
+pub sent_facts : sent ≡ chips
+unfolding growth symbol_of symbols_of symbols_from bits_of octet_bits chips_from last_phase barker_word cck_word
+sent_facts = refl
 
 -- words back to bits, the first after phase 1; how far each grew; and the phase of the last
 abbrev pub read : List (List ℕ)
 read =
     heard One 0 1 (1 ∷ 3 ∷ 3 ∷ [])
     ∷ heard Two 0 1 (2 ∷ 1 ∷ 3 ∷ 3 ∷ [])
-    ∷ heard Five 0 1 (cckNumber 2 3 0 2 ∷ cckNumber 3 3 0 0 ∷ [])
-    ∷ heard Eleven 0 1 (cckNumber 2 1 2 3 ∷ cckNumber 3 0 0 0 ∷ [])
-    ∷ growthsOf Two 1 (2 ∷ 1 ∷ 3 ∷ 3 ∷ [])
-    ∷ growthsOf Eleven 1 (cckNumber 2 3 3 3 ∷ cckNumber 1 0 1 1 ∷ [])
-    ∷ (lastHeard Two 1 (2 ∷ 1 ∷ 3 ∷ []) ∷ lastHeard Eleven 1 (cckNumber 2 3 3 3 ∷ []) ∷ [])
-    ∷ octetsOf 2 (octetBits (0x1B ∷ 0xC6 ∷ []))
+    ∷ heard Five 0 1 (cck_number 2 3 0 2 ∷ cck_number 3 3 0 0 ∷ [])
+    ∷ heard Eleven 0 1 (cck_number 2 1 2 3 ∷ cck_number 3 0 0 0 ∷ [])
+    ∷ growths_of Two 1 (2 ∷ 1 ∷ 3 ∷ 3 ∷ [])
+    ∷ growths_of Eleven 1 (cck_number 2 3 3 3 ∷ cck_number 1 0 1 1 ∷ [])
+    ∷ (last_heard Two 1 (2 ∷ 1 ∷ 3 ∷ []) ∷ last_heard Eleven 1 (cck_number 2 3 3 3 ∷ []) ∷ [])
+    ∷ octets_of 2 (octet_bits (0x1B ∷ 0xC6 ∷ []))
     ∷ []
 
 abbrev pub bits : List (List ℕ)
@@ -114,22 +114,22 @@ bits =
     ∷ (0x1B ∷ 0xC6 ∷ [])
     ∷ []
 
-pub read-facts : read ≡ bits
-unfolding bits_of number_of octetBits octetsOf heardBits heard growthsOf lastHeard
-read-facts = refl
+pub read_facts : read ≡ bits
+unfolding bits_of number_of octet_bits octets_of heard_bits heard growths_of last_heard
+read_facts = refl
 
 -- one run of the scrambler from no output, the same undone, and the CRC of the standard's example
 abbrev pub runs : List (List ℕ)
 runs =
     scramble (0 ∷ 0 ∷ 0 ∷ 0 ∷ 0 ∷ 0 ∷ 0 ∷ []) (bits_of 8 1)
     ∷ descramble (0 ∷ 0 ∷ 0 ∷ 0 ∷ 0 ∷ 0 ∷ 0 ∷ []) (bits_of 8 1)
-    ∷ crcBits (bits_of 32 0x00C0000A)
+    ∷ crc_bits (bits_of 32 0x00C0000A)
     ∷ []
 
-pub run-facts : runs
+pub run_facts : runs
     ≡ (1 ∷ 0 ∷ 0 ∷ 0 ∷ 1 ∷ 0 ∷ 0 ∷ 1 ∷ [])
     ∷ (1 ∷ 0 ∷ 0 ∷ 0 ∷ 1 ∷ 0 ∷ 0 ∷ 1 ∷ [])
     ∷ (0 ∷ 1 ∷ 0 ∷ 1 ∷ 1 ∷ 0 ∷ 1 ∷ 1 ∷ 0 ∷ 1 ∷ 0 ∷ 1 ∷ 0 ∷ 1 ∷ 1 ∷ 1 ∷ [])
     ∷ []
-unfolding bits_of mixed scramble descramble addWhere crcStep remainder crcBits
-run-facts = refl
+unfolding bits_of mixed scramble descramble add_where crc_step remainder crc_bits
+run_facts = refl

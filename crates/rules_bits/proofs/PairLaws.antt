@@ -1,25 +1,25 @@
 -- Laws of the pairs of an octet's bits.
---     pairs-masked              two masks exchange the bits of every pair: computed for each octet
---     pair-bits, pair-phases    a pair's two bits, and the number they are
+--     pairs_masked              two masks exchange the bits of every pair: computed for each octet
+--     pair_bits, pair_phases    a pair's two bits, and the number they are
 -- Assumes nothing.
 use mathlib.Core.Path.{◌≡◌}
 use Prim.Native.Nat.{ℕ, ◌+◌, ◌*◌, ◌/◌, ◌%◌, ◌<◌}
 use native.Mathlib.Omega.{arith}
 use lib.Bits.{bit_and}
 use lib.Dec.{eqb, eqb→eq, T}
-use Rattle.base.proofs.Tests.{all, all-at}
+use Rattle.base.proofs.Tests.{all, all_at}
 use Rattle.rules_bits.specs.Growths.{direct}
-use Rattle.rules_bits.specs.Code.{pairsOf}
+use Rattle.rules_bits.specs.Code.{pairs_of}
 
 abbrev masked : ℕ → ℕ
 masked o = bit_and o 0x55 * 2 + bit_and o 0xAA / 2
 
-tested : T (all (λ o. eqb (masked o) (pairsOf o)) 256)
-unfolding pairsOf
+tested : T (all (λ o. eqb (masked o) (pairs_of o)) 256)
+unfolding pairs_of
 tested = tt
 
-pub pairs-masked : (o : ℕ) → o < 256 → masked o ≡ pairsOf o
-pairs-masked o h = eqb→eq (masked o) (pairsOf o) (all-at (λ k. eqb (masked k) (pairsOf k)) 256 tested o h)
+pub pairs_masked : (o : ℕ) → o < 256 → masked o ≡ pairs_of o
+pairs_masked o h = eqb→eq (masked o) (pairs_of o) (all_at (λ k. eqb (masked k) (pairs_of k)) 256 tested o h)
 
 -- eight bits in pairs, taken apart
 module _ (b0 b1 b2 b3 b4 b5 b6 b7 : ℕ) (h0 : b0 < 2) (h1 : b1 < 2) (h2 : b2 < 2) (h3 : b3 < 2) (h4 : b4 < 2)
@@ -51,19 +51,19 @@ bit : (x : ℕ) → x % 2 < 2
 bit x = omega arith
 
 -- the pairs of an octet have its bits
-pub pair-bits : (o s : ℕ) → s ≡ pairsOf o
+pub pair_bits : (o s : ℕ) → s ≡ pairs_of o
     → (s / 2 % 2 ≡ o % 2) × (s % 2 ≡ o / 2 % 2) × (s / 4 / 2 % 2 ≡ o / 2 / 2 % 2) × (s / 4 % 2 ≡ o / 2 / 2 / 2 % 2)
     × (s / 16 / 2 % 2 ≡ o / 2 / 2 / 2 / 2 % 2) × (s / 16 % 2 ≡ o / 2 / 2 / 2 / 2 / 2 % 2)
     × (s / 64 / 2 % 2 ≡ o / 2 / 2 / 2 / 2 / 2 / 2 % 2) × (s / 64 % 2 ≡ o / 2 / 2 / 2 / 2 / 2 / 2 / 2 % 2)
-unfolding pairsOf
-pair-bits o s e =
+unfolding pairs_of
+pair_bits o s e =
     rw e (each _ _ _ _ _ _ _ _ (bit _) (bit _) (bit _) (bit _) (bit _) (bit _) (bit _) (bit _))
 
 -- and what they stand for directly
-pub pair-phases : (o s : ℕ) → s ≡ pairsOf o
+pub pair_phases : (o s : ℕ) → s ≡ pairs_of o
     → (s / 4 % 4 ≡ direct (o / 2 / 2 % 2) (o / 2 / 2 / 2 % 2))
     × (s / 16 % 4 ≡ direct (o / 2 / 2 / 2 / 2 % 2) (o / 2 / 2 / 2 / 2 / 2 % 2))
     × (s / 64 % 4 ≡ direct (o / 2 / 2 / 2 / 2 / 2 / 2 % 2) (o / 2 / 2 / 2 / 2 / 2 / 2 / 2 % 2))
-unfolding pairsOf
-pair-phases o s e =
+unfolding pairs_of
+pair_phases o s e =
     rw e (whole _ _ _ _ _ _ _ _ (bit _) (bit _) (bit _) (bit _) (bit _) (bit _) (bit _) (bit _))

@@ -19,15 +19,15 @@ number_of [] = 0
 number_of (b ∷ bs) = b + 2 * number_of bs
 
 -- and of bits that go highest first
-unfoldable pub highestFirst : List ℕ → ℕ
-highestFirst [] = 0
-highestFirst (b ∷ bs) = b * 2 ^ length bs + highestFirst bs
+unfoldable pub highest_first : List ℕ → ℕ
+highest_first [] = 0
+highest_first (b ∷ bs) = b * 2 ^ length bs + highest_first bs
 
 -- the bits of octets, and n octets of bits
-unfoldable pub octetBits : List ℕ → List ℕ
-octetBits [] = []
-octetBits (x ∷ xs) = bits_of 8 x ++ octetBits xs
+unfoldable pub octet_bits : List ℕ → List ℕ
+octet_bits [] = []
+octet_bits (x ∷ xs) = bits_of 8 x ++ octet_bits xs
 
-unfoldable pub octetsOf : ℕ → List ℕ → List ℕ
-octetsOf zero bs = []
-octetsOf (suc n) bs = number_of (take 8 bs) ∷ octetsOf n (drop 8 bs)
+unfoldable pub octets_of : ℕ → List ℕ → List ℕ
+octets_of zero bs = []
+octets_of (suc n) bs = number_of (take 8 bs) ∷ octets_of n (drop 8 bs)

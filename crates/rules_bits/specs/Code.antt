@@ -4,7 +4,7 @@ use Rattle.std.specs.Prelude.{ℕ, ◌+◌, ◌*◌, ◌/◌, ◌%◌, ◌<◌, 
 use Rattle.rules_rates.specs.declared.Rate.{Rate}
 use Rattle.rules_rates.specs.declared.Rate.TheVariants.{One, Two, Five, Eleven}
 use Rattle.rules_chips.specs.Chips.{turned}
-use Rattle.rules_symbols.specs.Words.{cckNumber, word_of}
+use Rattle.rules_symbols.specs.Words.{cck_number, word_of}
 use Rattle.rules_bits.specs.Bits.{bits_of}
 use Rattle.rules_bits.specs.Growths.{Symbol, direct}
 
@@ -15,8 +15,8 @@ past_of x = reverse (bits_of 8 x)
 
 -- the pairs of an octet's bits as numbers, the first in time lowest; in a pair the first in time is the higher
 -- working notion: of the code that sends and hears octets
-unfoldable pub pairsOf : ℕ → ℕ
-pairsOf o =
+unfoldable pub pairs_of : ℕ → ℕ
+pairs_of o =
     direct (o % 2) (o / 2 % 2)
     + 4 * direct (o / 2 / 2 % 2) (o / 2 / 2 / 2 % 2)
     + 16 * direct (o / 2 / 2 / 2 / 2 % 2) (o / 2 / 2 / 2 / 2 / 2 % 2)
@@ -24,28 +24,28 @@ pairsOf o =
 
 -- the past once more outputs have been made, first in time first
 -- working notion: of the code that sends and hears octets
-unfoldable pub pastAfter : List ℕ → List ℕ → List ℕ
-pastAfter past [] = past
-pastAfter past (o ∷ os) = pastAfter (o ∷ past) os
+unfoldable pub past_after : List ℕ → List ℕ → List ℕ
+past_after past [] = past
+past_after past (o ∷ os) = past_after (o ∷ past) os
 
 -- the number of the word of a symbol whose phase is p
 -- working notion: of the code that sends and hears octets
-abbrev pub symbolNumber : Rate → ℕ → Symbol → ℕ
-symbolNumber One p s = p
-symbolNumber Two p s = p
-symbolNumber Five p s = cckNumber p s.p2 s.p3 s.p4
-symbolNumber Eleven p s = cckNumber p s.p2 s.p3 s.p4
+abbrev pub symbol_number : Rate → ℕ → Symbol → ℕ
+symbol_number One p s = p
+symbol_number Two p s = p
+symbol_number Five p s = cck_number p s.p2 s.p3 s.p4
+symbol_number Eleven p s = cck_number p s.p2 s.p3 s.p4
 
 -- the numbers of symbols' words, each grown from the one before it, the first from phase p
 -- working notion: of the code that sends and hears octets
-unfoldable pub numbersFrom : Rate → ℕ → List Symbol → List ℕ
-numbersFrom r p [] = []
-numbersFrom r p (s ∷ ss) = symbolNumber r (turned p s.grows) s ∷ numbersFrom r (turned p s.grows) ss
+unfoldable pub numbers_from : Rate → ℕ → List Symbol → List ℕ
+numbers_from r p [] = []
+numbers_from r p (s ∷ ss) = symbol_number r (turned p s.grows) s ∷ numbers_from r (turned p s.grows) ss
 
 -- the chips of words by their numbers
-unfoldable pub wordsChips : Rate → List ℕ → List ℕ
-wordsChips r [] = []
-wordsChips r (n ∷ ns) = word_of r n ++ wordsChips r ns
+unfoldable pub words_chips : Rate → List ℕ → List ℕ
+words_chips r [] = []
+words_chips r (n ∷ ns) = word_of r n ++ words_chips r ns
 
 -- a CCK word's other phases are phases
 -- working notion: of the code that sends and hears octets

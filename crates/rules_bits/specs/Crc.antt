@@ -10,22 +10,22 @@ abbrev pub polynomial : List ℕ
 polynomial = 0 ∷ 0 ∷ 0 ∷ 1 ∷ 0 ∷ 0 ∷ 0 ∷ 0 ∷ 0 ∷ 0 ∷ 1 ∷ 0 ∷ 0 ∷ 0 ∷ 0 ∷ 1 ∷ []
 
 -- the bit f added wherever the polynomial has a term
-unfoldable pub addWhere : ℕ → List ℕ → List ℕ → List ℕ
-addWhere f register [] = []
-addWhere f [] (t ∷ ts) = []
-addWhere f (x ∷ xs) (zero ∷ ts) = x ∷ addWhere f xs ts
-addWhere f (x ∷ xs) (suc t ∷ ts) = (x ⊕ f) ∷ addWhere f xs ts
+unfoldable pub add_where : ℕ → List ℕ → List ℕ → List ℕ
+add_where f register [] = []
+add_where f [] (t ∷ ts) = []
+add_where f (x ∷ xs) (zero ∷ ts) = x ∷ add_where f xs ts
+add_where f (x ∷ xs) (suc t ∷ ts) = (x ⊕ f) ∷ add_where f xs ts
 
 -- the register moves up by one term; where the term that leaves and the bit differ, the polynomial is added
-unfoldable pub crcStep : List ℕ → ℕ → List ℕ
-crcStep register b = addWhere (get_or register 0 0 ⊕ b) (drop 1 register ++ (0 ∷ [])) polynomial
+unfoldable pub crc_step : List ℕ → ℕ → List ℕ
+crc_step register b = add_where (get_or register 0 0 ⊕ b) (drop 1 register ++ (0 ∷ [])) polynomial
 
 unfoldable pub remainder : List ℕ → List ℕ → List ℕ
 remainder register [] = register
-remainder register (b ∷ bs) = remainder (crcStep register b) bs
+remainder register (b ∷ bs) = remainder (crc_step register b) bs
 
 abbrev pub complement : List ℕ → List ℕ
 complement bs = map (λ (b : ℕ). b ⊕ 1) bs
 
-unfoldable pub crcBits : List ℕ → List ℕ
-crcBits bs = complement (remainder (replicate 16 1) bs)
+unfoldable pub crc_bits : List ℕ → List ℕ
+crc_bits bs = complement (remainder (replicate 16 1) bs)

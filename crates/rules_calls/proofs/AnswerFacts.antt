@@ -30,11 +30,11 @@ use Rattle.rules_calls.specs.declared.Refusal.TheVariants.{
 }
 use Rattle.rules_calls.specs.declared.Reading.TheVariants as reading
 use Rattle.rules_calls.specs.declared.Record.{Record}
-use Rattle.rules_calls.specs.Answers.{refusalNumber, recordOf}
+use Rattle.rules_calls.specs.Answers.{refusal_number, record_of}
 use Rattle.rules_calls.specs.Headers.{told}
 
 -- every refusal has a number other than 0
-pub some_number : (e : Refusal) → refusalNumber e ≡ 0 → ⊥
+pub some_number : (e : Refusal) → refusal_number e ≡ 0 → ⊥
 some_number NoKind h = omega arith
 some_number NoRate h = omega arith
 some_number ShortRate h = omega arith
@@ -55,7 +55,7 @@ some_number (OctetRoom l) h = omega arith
 
 -- ---- refusals, for every place and every LENGTH
 abbrev answer : Refusal → Record
-answer e = recordOf (reading.Refused e)
+answer e = record_of (reading.Refused e)
 
 module _ (place l : ℕ) where
   abbrev every : List Refusal
@@ -90,7 +90,7 @@ module _ (place l : ℕ) where
 module _ (l n used lead symbol : ℕ) where
   abbrev answered : Bool → List ℕ
   answered clock =
-      let a = recordOf (reading.Good (told Five l n clock) used (record { lead = lead; symbol = symbol })) in
+      let a = record_of (reading.Good (told Five l n clock) used (record { lead = lead; symbol = symbol })) in
       a.number ∷ a.place ∷ a.rate ∷ a.length ∷ a.n ∷ a.used ∷ a.clock ∷ a.lead ∷ a.symbol ∷ []
 
   pub goods : answered false ∷ answered true ∷ []

@@ -2,7 +2,7 @@
 -- Definitions only. Assumes nothing.
 use Rattle.std.specs.Prelude.{ℕ}
 use Rattle.rules_rates.specs.Rates.{code_of}
-use Rattle.rules_frame.specs.Frame.{clockBit}
+use Rattle.rules_frame.specs.Frame.{clock_bit}
 use Rattle.rules_calls.specs.declared.Refusal.{Refusal}
 use Rattle.rules_calls.specs.declared.Refusal.TheVariants.{
   NoKind,
@@ -31,86 +31,86 @@ use Rattle.rules_calls.specs.declared.Written.{Written}
 use Rattle.rules_calls.specs.declared.Record.{Record}
 
 -- the number of a refusal
-abbrev pub refusalNumber : Refusal → ℕ
-refusalNumber NoKind = 1
-refusalNumber NoRate = 2
-refusalNumber ShortRate = 3
-refusalNumber PayloadSize = 4
-refusalNumber NoPhase = 5
-refusalNumber ChipRoom = 6
-refusalNumber RowsDiffer = 7
-refusalNumber ShorterThanFront = 8
-refusalNumber (Unusable place l) = 9
-refusalNumber (OddGrowth place l) = 10
-refusalNumber Sfd = 11
-refusalNumber Crc = 12
-refusalNumber (Signal l) = 13
-refusalNumber (Service l) = 14
-refusalNumber (Length l) = 15
-refusalNumber (Ends l) = 16
-refusalNumber (OctetRoom l) = 17
+abbrev pub refusal_number : Refusal → ℕ
+refusal_number NoKind = 1
+refusal_number NoRate = 2
+refusal_number ShortRate = 3
+refusal_number PayloadSize = 4
+refusal_number NoPhase = 5
+refusal_number ChipRoom = 6
+refusal_number RowsDiffer = 7
+refusal_number ShorterThanFront = 8
+refusal_number (Unusable place l) = 9
+refusal_number (OddGrowth place l) = 10
+refusal_number Sfd = 11
+refusal_number Crc = 12
+refusal_number (Signal l) = 13
+refusal_number (Service l) = 14
+refusal_number (Length l) = 15
+refusal_number (Ends l) = 16
+refusal_number (OctetRoom l) = 17
 
 -- a place, 0 but for 9 and 10
-abbrev pub refusalPlace : Refusal → ℕ
-refusalPlace NoKind = 0
-refusalPlace NoRate = 0
-refusalPlace ShortRate = 0
-refusalPlace PayloadSize = 0
-refusalPlace NoPhase = 0
-refusalPlace ChipRoom = 0
-refusalPlace RowsDiffer = 0
-refusalPlace ShorterThanFront = 0
-refusalPlace (Unusable place l) = place
-refusalPlace (OddGrowth place l) = place
-refusalPlace Sfd = 0
-refusalPlace Crc = 0
-refusalPlace (Signal l) = 0
-refusalPlace (Service l) = 0
-refusalPlace (Length l) = 0
-refusalPlace (Ends l) = 0
-refusalPlace (OctetRoom l) = 0
+abbrev pub refusal_place : Refusal → ℕ
+refusal_place NoKind = 0
+refusal_place NoRate = 0
+refusal_place ShortRate = 0
+refusal_place PayloadSize = 0
+refusal_place NoPhase = 0
+refusal_place ChipRoom = 0
+refusal_place RowsDiffer = 0
+refusal_place ShorterThanFront = 0
+refusal_place (Unusable place l) = place
+refusal_place (OddGrowth place l) = place
+refusal_place Sfd = 0
+refusal_place Crc = 0
+refusal_place (Signal l) = 0
+refusal_place (Service l) = 0
+refusal_place (Length l) = 0
+refusal_place (Ends l) = 0
+refusal_place (OctetRoom l) = 0
 
 -- the LENGTH field if the refusal is 13 or later in the reading order, which has a payload's 9 and 10 at its end
-abbrev pub refusalLength : Refusal → ℕ
-refusalLength NoKind = 0
-refusalLength NoRate = 0
-refusalLength ShortRate = 0
-refusalLength PayloadSize = 0
-refusalLength NoPhase = 0
-refusalLength ChipRoom = 0
-refusalLength RowsDiffer = 0
-refusalLength ShorterThanFront = 0
-refusalLength (Unusable place l) = l
-refusalLength (OddGrowth place l) = l
-refusalLength Sfd = 0
-refusalLength Crc = 0
-refusalLength (Signal l) = l
-refusalLength (Service l) = l
-refusalLength (Length l) = l
-refusalLength (Ends l) = l
-refusalLength (OctetRoom l) = l
+abbrev pub refusal_length : Refusal → ℕ
+refusal_length NoKind = 0
+refusal_length NoRate = 0
+refusal_length ShortRate = 0
+refusal_length PayloadSize = 0
+refusal_length NoPhase = 0
+refusal_length ChipRoom = 0
+refusal_length RowsDiffer = 0
+refusal_length ShorterThanFront = 0
+refusal_length (Unusable place l) = l
+refusal_length (OddGrowth place l) = l
+refusal_length Sfd = 0
+refusal_length Crc = 0
+refusal_length (Signal l) = l
+refusal_length (Service l) = l
+refusal_length (Length l) = l
+refusal_length (Ends l) = l
+refusal_length (OctetRoom l) = l
 
 -- a good write answers number 0 and the chips written, the frame's; a refusal its number, all else 0
 abbrev pub written_of : Writing → Written
-written_of (writing.Refused e) = record { number = refusalNumber e; chips = 0 }
+written_of (writing.Refused e) = record { number = refusal_number e; chips = 0 }
 written_of (writing.Good k r c) = record { number = 0; chips = c }
 
 -- a good read answers number 0, the rate code, LENGTH, n, chips used, the clock bit, the smallest lead and its symbol;
 -- a refusal its number, place and LENGTH, all else 0
-abbrev pub recordOf : Reading → Record
-recordOf (reading.Refused e) =
+abbrev pub record_of : Reading → Record
+record_of (reading.Refused e) =
     record {
-      number = refusalNumber e;
-      place = refusalPlace e;
+      number = refusal_number e;
+      place = refusal_place e;
       rate = 0;
-      length = refusalLength e;
+      length = refusal_length e;
       n = 0;
       used = 0;
       clock = 0;
       lead = 0;
       symbol = 0;
     }
-recordOf (reading.Good t used least) =
+record_of (reading.Good t used least) =
     record {
       number = 0;
       place = 0;
@@ -118,7 +118,7 @@ recordOf (reading.Good t used least) =
       length = t.length;
       n = t.n;
       used = used;
-      clock = clockBit t.clock;
+      clock = clock_bit t.clock;
       lead = least.lead;
       symbol = least.symbol;
     }

@@ -5,4 +5,4 @@ use Rattle.std.specs.Prelude.{ℕ}
 
 pub data Rate1997 : ℕ → Type 0 where
   at_1 : Rate1997 10
-  at-2 : Rate1997 20
+  at_2 : Rate1997 20

@@ -1,4 +1,4 @@
--- What `countOf` means: the count of a usable x is nearest to its value (`counted`), no other whole number is
+-- What `count_of` means: the count of a usable x is nearest to its value (`counted`), no other whole number is
 -- (`no_other`), and it is from -8192 to 8192. Magnitudes go by `Rounds`; a number with the other sign is too far off.
 -- Assumes nothing.
 use mathlib.Core.Path.{◌≡◌, refl, sym, ap, ◌∙◌, subst⁻¹}
@@ -11,22 +11,22 @@ use lib.IntN.{ℤ, pos, negsuc, neg_ℤ, nat_abs, sub_ℕ, ◌-ℤ◌, ◌*ℤ�
 use lib.Pow.{pow_pos}
 use lib.Ieee.{Float, nan, inf, fin}
 use Rattle.base.specs.Whole.{Within, up, dn}
-use Rattle.base.proofs.Whole.{within-zero}
-use Rattle.rules_chips.specs.Floats.{steps, negative, usable, nearest, signed, countOf, value_of, Nearest}
-use Rattle.rules_chips.specs.Bounds.{offBy}
-use Rattle.rules_chips.proofs.Rounding.{Rounds, only, nearest-near, nearest-le}
+use Rattle.base.proofs.Whole.{within_zero}
+use Rattle.rules_chips.specs.Floats.{steps, negative, usable, nearest, signed, count_of, value_of, Nearest}
+use Rattle.rules_chips.specs.Bounds.{off_by}
+use Rattle.rules_chips.proofs.Rounding.{Rounds, only, nearest_near, nearest_le}
 use Rattle.rules_chips.proofs.Sum.{cond_yes}
 
 -- ---- usable
-steps-under : (x : Float) → T (usable x) → steps x ≤ 8 * 2 ^ 149
+steps_under : (x : Float) → T (usable x) → steps x ≤ 8 * 2 ^ 149
 unfolding usable
-steps-under nan u = absurd u
-steps-under (inf s) u = absurd u
-steps-under (fin s m e) u = leb→le (steps (fin s m e)) (8 * 2 ^ 149) u
+steps_under nan u = absurd u
+steps_under (inf s) u = absurd u
+steps_under (fin s m e) u = leb→le (steps (fin s m e)) (8 * 2 ^ 149) u
 
-usable-count : (x : Float) → T (usable x) → countOf x ≡ signed (negative x) (nearest (steps x))
-unfolding countOf
-usable-count x u = cond_yes (usable x) (signed (negative x) (nearest (steps x))) (pos 0) u
+usable_count : (x : Float) → T (usable x) → count_of x ≡ signed (negative x) (nearest (steps x))
+unfolding count_of
+usable_count x u = cond_yes (usable x) (signed (negative x) (nearest (steps x))) (pos 0) u
 
 -- ---- the range
 size : (s : Bool) (a : ℕ) → nat_abs (signed s a) ≡ a
@@ -34,21 +34,21 @@ size false a = refl
 size true zero = refl
 size true (suc a) = refl
 
-pub abs-within : (b : ℕ) (z : ℤ) → nat_abs z ≤ b → Within b z
+pub abs_within : (b : ℕ) (z : ℤ) → nat_abs z ≤ b → Within b z
 unfolding up dn
-abs-within b (pos n) h = record { high = omega arith; low = omega arith }
-abs-within b (negsuc n) h = record { high = omega arith; low = omega arith }
+abs_within b (pos n) h = record { high = omega arith; low = omega arith }
+abs_within b (negsuc n) h = record { high = omega arith; low = omega arith }
 
-pub count-within : (x : Float) → Within 8192 (countOf x)
-unfolding countOf
-count-within x = go (usable x) (steps-under x)
+pub count_within : (x : Float) → Within 8192 (count_of x)
+unfolding count_of
+count_within x = go (usable x) (steps_under x)
   where
     go : (b : Bool) → (T b → steps x ≤ 8 * 2 ^ 149)
         → Within 8192 (cond b (signed (negative x) (nearest (steps x))) (pos 0))
     go true f =
-        abs-within 8192 (signed (negative x) (nearest (steps x)))
-        (rw (size (negative x) (nearest (steps x))) (nearest-le (steps x) (f tt)))
-    go false f = within-zero 8192
+        abs_within 8192 (signed (negative x) (nearest (steps x)))
+        (rw (size (negative x) (nearest (steps x))) (nearest_le (steps x) (f tt)))
+    go false f = within_zero 8192
 
 -- ---- distances
 gap : (a b : ℕ) → nat_abs (sub_ℕ a b) ≡ (a - b) + (b - a)
@@ -91,26 +91,26 @@ module _ (h : ℕ) (s : Bool) (n a : ℕ) where
   close_of : Rounds h n a → 2 * distance ≤ h
   close_of p = rw apart (omega arith)
 
-  even-of : Rounds h n a → 2 * distance ≡ h → nat_abs (signed s a) % 2 ≡ 0
-  even-of p e = rw (size s a) (go (rw apart at e))
+  even_of : Rounds h n a → 2 * distance ≡ h → nat_abs (signed s a) % 2 ≡ 0
+  even_of p e = rw (size s a) (go (rw apart at e))
     where
       go : 2 * (a * h - n + (n - a * h)) ≡ h → a % 2 ≡ 0
       go e = either (leb n (a * h)) (leb→le n (a * h)) (nleb→lt n (a * h))
         where
           either : (b : Bool) → (T b → n ≤ a * h) → (T (not b) → a * h < n) → a % 2 ≡ 0
-          either true f g = let l : n ≤ a * h = f tt in p.tie-above (omega arith)
-          either false f g = let l : a * h < n = g tt in p.tie-below (omega arith)
+          either true f g = let l : n ≤ a * h = f tt in p.tie_above (omega arith)
+          either false f g = let l : a * h < n = g tt in p.tie_below (omega arith)
 
-  rounds-of : 2 * distance ≤ h → (2 * distance ≡ h → nat_abs (signed s a) % 2 ≡ 0) → Rounds h n a
-  rounds-of c e =
+  rounds_of : 2 * distance ≤ h → (2 * distance ≡ h → nat_abs (signed s a) % 2 ≡ 0) → Rounds h n a
+  rounds_of c e =
       go (rw apart at c) (λ (t : 2 * (a * h - n + (n - a * h)) ≡ h). rw (size s a) at (e (rw apart t)))
     where
       go : 2 * (a * h - n + (n - a * h)) ≤ h → (2 * (a * h - n + (n - a * h)) ≡ h → a % 2 ≡ 0) → Rounds h n a
       go c e = record {
         above = omega arith;
         below = omega arith;
-        tie-above = λ t. e (omega arith);
-        tie-below = λ t. e (omega arith);
+        tie_above = λ t. e (omega arith);
+        tie_below = λ t. e (omega arith);
       }
 
 -- a number with the other sign is too far off, but for 0
@@ -127,34 +127,34 @@ too_far h s n a H c =
 -- other number is; the error is at most half a count
 -- rule: 2.6, 8.6
 -- code: count
--- with: no_other, count-near, worked-counts
-pub counted : (x : Float) → T (usable x) → Nearest (value_of x) (countOf x)
+-- with: no_other, count_near, worked-counts
+pub counted : (x : Float) → T (usable x) → Nearest (value_of x) (count_of x)
 counted x u =
     let s = negative x in
     let n = steps x in
-    subst⁻¹ (Nearest (value_of x)) (usable-count x u)
+    subst⁻¹ (Nearest (value_of x)) (usable_count x u)
     (record {
-      close = close_of (2 ^ 139) s n (nearest n) (nearest-near n);
-      even = even-of (2 ^ 139) s n (nearest n) (nearest-near n);
+      close = close_of (2 ^ 139) s n (nearest n) (nearest_near n);
+      even = even_of (2 ^ 139) s n (nearest n) (nearest_near n);
     })
 
-pub no_other : (x : Float) (k : ℤ) → T (usable x) → Nearest (value_of x) k → k ≡ countOf x
-no_other x k u p = go (negative x) (steps x) k p.close p.even ∙ sym (usable-count x u)
+pub no_other : (x : Float) (k : ℤ) → T (usable x) → Nearest (value_of x) k → k ≡ count_of x
+no_other x k u p = go (negative x) (steps x) k p.close p.even ∙ sym (usable_count x u)
   where
     one : (s : Bool) (n a : ℕ) → Rounds (2 ^ 139) n a → signed s a ≡ signed s (nearest n)
-    one s n a q = ap (signed s) (only (2 ^ 139) n a (nearest n) (pow_pos 139) q (nearest-near n))
+    one s n a q = ap (signed s) (only (2 ^ 139) n a (nearest n) (pow_pos 139) q (nearest_near n))
 
     go : (s : Bool) (n : ℕ) (k : ℤ) → 2 * nat_abs (k *ℤ pos (2 ^ 139) -ℤ signed s n) ≤ 2 ^ 139
         → (2 * nat_abs (k *ℤ pos (2 ^ 139) -ℤ signed s n) ≡ 2 ^ 139 → nat_abs k % 2 ≡ 0) → k ≡ signed s (nearest n)
-    go false n (pos a) c e = one false n a (rounds-of (2 ^ 139) false n a c e)
+    go false n (pos a) c e = one false n a (rounds_of (2 ^ 139) false n a c e)
     go false n (negsuc a) c e = absurd (too_far (2 ^ 139) true n a (pow_pos 139) c)
-    go true n (pos zero) c e = one true n 0 (rounds-of (2 ^ 139) true n 0 c e)
+    go true n (pos zero) c e = one true n 0 (rounds_of (2 ^ 139) true n 0 c e)
     go true n (pos (suc a)) c e = absurd (too_far (2 ^ 139) false n a (pow_pos 139) c)
-    go true n (negsuc a) c e = one true n (suc a) (rounds-of (2 ^ 139) true n (suc a) c e)
+    go true n (negsuc a) c e = one true n (suc a) (rounds_of (2 ^ 139) true n (suc a) c e)
 
 -- ---- the error
 half : (h : ℕ) (z : ℤ) → 2 * nat_abs z ≤ 2 * h → Within h z
-half h z c = abs-within h z (omega arith)
+half h z c = abs_within h z (omega arith)
 
-pub count-near : (x : Float) → T (usable x) → Within (2 ^ 138) (offBy (countOf x) (value_of x))
-count-near x u = half (2 ^ 138) (offBy (countOf x) (value_of x)) (counted x u).close
+pub count_near : (x : Float) → T (usable x) → Within (2 ^ 138) (off_by (count_of x) (value_of x))
+count_near x u = half (2 ^ 138) (off_by (count_of x) (value_of x)) (counted x u).close

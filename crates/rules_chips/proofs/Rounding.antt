@@ -22,25 +22,25 @@ use Rattle.rules_chips.specs.Floats.{nearest}
 pub record Rounds (h n k : ℕ) : Type 0 where
   pub above : 2 * (k * h) ≤ 2 * n + h
   pub below : 2 * n ≤ 2 * (k * h) + h
-  pub tie-above : 2 * (k * h) ≡ 2 * n + h → k % 2 ≡ 0
-  pub tie-below : 2 * n ≡ 2 * (k * h) + h → k % 2 ≡ 0
+  pub tie_above : 2 * (k * h) ≡ 2 * n + h → k % 2 ≡ 0
+  pub tie_below : 2 * n ≡ 2 * (k * h) + h → k % 2 ≡ 0
 
 -- ---- there is one such number
-not-less : (h n k j : ℕ) → 0 < h → Rounds h n k → Rounds h n j → k < j → ⊥
-not-less h n k j H p q l =
+not_less : (h n k j : ℕ) → 0 < h → Rounds h n k → Rounds h n j → k < j → ⊥
+not_less h n k j H p q l =
     let m : suc k * h ≤ j * h = mul-le-mul_right h l in
     let s : suc k * h ≡ k * h + h = suc-mul k h in
     let a : 2 * (j * h) ≤ 2 * n + h = q.above in
     let b : 2 * n ≤ 2 * (k * h) + h = p.below in
-    let e : k % 2 ≡ 0 = p.tie-below (omega arith) in
-    let f : j % 2 ≡ 0 = q.tie-above (omega arith) in
+    let e : k % 2 ≡ 0 = p.tie_below (omega arith) in
+    let f : j % 2 ≡ 0 = q.tie_above (omega arith) in
     let g : j ≤ suc k = le_of_mul-le-mul_right {k = h} (omega arith) H in
     omega arith
 
 pub only : (h n k j : ℕ) → 0 < h → Rounds h n k → Rounds h n j → k ≡ j
 only h n k j H p q =
-    let a : ¬ (k < j) = not-less h n k j H p q in
-    let b : ¬ (j < k) = not-less h n j k H q p in
+    let a : ¬ (k < j) = not_less h n k j H p q in
+    let b : ¬ (j < k) = not_less h n j k H q p in
     omega arith
 
 -- ---- from the quotient q and the remainder r
@@ -49,8 +49,8 @@ module _ (h n q r : ℕ) (e : q * h + r ≡ n) where
   at_less l = record {
     above = omega arith;
     below = omega arith;
-    tie-above = λ t. absurd (omega arith);
-    tie-below = λ t. absurd (omega arith);
+    tie_above = λ t. absurd (omega arith);
+    tie_below = λ t. absurd (omega arith);
   }
 
   at_more : h < 2 * r → r < h → Rounds h n (suc q)
@@ -59,12 +59,12 @@ module _ (h n q r : ℕ) (e : q * h + r ≡ n) where
       record {
         above = omega arith;
         below = omega arith;
-        tie-above = λ t. absurd (omega arith);
-        tie-below = λ t. absurd (omega arith);
+        tie_above = λ t. absurd (omega arith);
+        tie_below = λ t. absurd (omega arith);
       }
 
-  at-half : 2 * r ≡ h → Rounds h n (q + q % 2)
-  at-half l = go (q % 2) refl (omega arith)
+  at_half : 2 * r ≡ h → Rounds h n (q + q % 2)
+  at_half l = go (q % 2) refl (omega arith)
     where
       go : (b : ℕ) → q % 2 ≡ b → b < 2 → Rounds h n (q + b)
       go b p m =
@@ -72,7 +72,7 @@ module _ (h n q r : ℕ) (e : q * h + r ≡ n) where
           let t : b * h ≤ 1 * h = mul-le-mul_right h (omega arith) in
           let u : 1 * h ≡ h = one-mul h in
           let even : (q + b) % 2 ≡ 0 = omega arith in
-          record { above = omega arith; below = omega arith; tie-above = λ t. even; tie-below = λ t. even }
+          record { above = omega arith; below = omega arith; tie_above = λ t. even; tie_below = λ t. even }
 
 -- ---- the logic's `closest`, and this crate's `nearest`
 abbrev Cmp : Ordering → ℕ → ℕ → Type 0
@@ -91,20 +91,20 @@ cmp a b =
     go Ordering.eq h k e n = e tt
     go Ordering.gt h k e n = k tt
 
-pub closest-near : (h n : ℕ) → 0 < h → Rounds h n (closest n h)
-closest-near h n H = go (compare (n % h * 2) h) (cmp (n % h * 2) h)
+pub closest_near : (h n : ℕ) → 0 < h → Rounds h n (closest n h)
+closest_near h n H = go (compare (n % h * 2) h) (cmp (n % h * 2) h)
   where
     e : n / h * h + n % h ≡ n
     e = div-add-mod' n h
 
     go : (o : Ordering) → Cmp o (n % h * 2) h → Rounds h n (ieee.nearest (n / h) o)
     go Ordering.lt l = at_less h n (n / h) (n % h) e (omega arith)
-    go Ordering.eq l = at-half h n (n / h) (n % h) e (omega arith)
+    go Ordering.eq l = at_half h n (n / h) (n % h) e (omega arith)
     go Ordering.gt l = at_more h n (n / h) (n % h) e (omega arith) (mod-lt n H)
 
-pub nearest-near : (n : ℕ) → Rounds (2 ^ 139) n (nearest n)
+pub nearest_near : (n : ℕ) → Rounds (2 ^ 139) n (nearest n)
 unfolding nearest
-nearest-near n = go (2 ^ 139) (n / 2 ^ 139) (n % 2 ^ 139) (div-add-mod' n (2 ^ 139)) (mod-lt n (pow_pos 139))
+nearest_near n = go (2 ^ 139) (n / 2 ^ 139) (n % 2 ^ 139) (div-add-mod' n (2 ^ 139)) (mod-lt n (pow_pos 139))
   where
     go : (h q r : ℕ) → q * h + r ≡ n → r < h
         → Rounds h n (cond (ltb (2 * r) h) q (cond (ltb h (2 * r)) (q + 1) (q + q % 2)))
@@ -117,7 +117,7 @@ nearest-near n = go (2 ^ 139) (n / 2 ^ 139) (n % 2 ^ 139) (div-add-mod' n (2 ^ 1
             → Rounds h n (cond b q (cond d (q + 1) (q + q % 2)))
         by true x y d z w = at_less h n q r e (x tt)
         by false x y true z w = rw add-one (at_more h n q r e (z tt) m)
-        by false x y false z w = at-half h n q r e (le_antisymm (w tt) (y tt))
+        by false x y false z w = at_half h n q r e (le_antisymm (w tt) (y tt))
 
 -- ---- with an even number M of h's
 pub plus : (h n k M : ℕ) → M % 2 ≡ 0 → Rounds h n k → Rounds h (M * h + n) (M + k)
@@ -126,8 +126,8 @@ plus h n k M v p =
     record {
       above = omega arith;
       below = omega arith;
-      tie-above = λ t. let u : k % 2 ≡ 0 = p.tie-above (omega arith) in omega arith;
-      tie-below = λ t. let u : k % 2 ≡ 0 = p.tie-below (omega arith) in omega arith;
+      tie_above = λ t. let u : k % 2 ≡ 0 = p.tie_above (omega arith) in omega arith;
+      tie_below = λ t. let u : k % 2 ≡ 0 = p.tie_below (omega arith) in omega arith;
     }
 
 pub less : (h n k M : ℕ) → M % 2 ≡ 0 → n ≤ M * h → k ≤ M → Rounds h n k → Rounds h (M * h - n) (M - k)
@@ -136,20 +136,20 @@ less h n k M v l m p =
     record {
       above = omega arith;
       below = omega arith;
-      tie-above = λ t. let u : k % 2 ≡ 0 = p.tie-below (omega arith) in omega arith;
-      tie-below = λ t. let u : k % 2 ≡ 0 = p.tie-above (omega arith) in omega arith;
+      tie_above = λ t. let u : k % 2 ≡ 0 = p.tie_below (omega arith) in omega arith;
+      tie_below = λ t. let u : k % 2 ≡ 0 = p.tie_above (omega arith) in omega arith;
     }
 
 -- what is nearest to n / h is at most M where n is at most M * h
-pub at-most : (h n k M : ℕ) → 0 < h → n ≤ M * h → Rounds h n k → k ≤ M
-at-most h n k M H l p = le-of-not-less (λ (g : M < k).
+pub at_most_lem : (h n k M : ℕ) → 0 < h → n ≤ M * h → Rounds h n k → k ≤ M
+at_most_lem h n k M H l p = le_of_not_less (λ (g : M < k).
     let a : suc M * h ≤ k * h = mul-le-mul_right h g in
     let s : suc M * h ≡ M * h + h = suc-mul M h in
     omega arith)
   where
-    le-of-not-less : ¬ (M < k) → k ≤ M
-    le-of-not-less x = omega arith
+    le_of_not_less : ¬ (M < k) → k ≤ M
+    le_of_not_less x = omega arith
 
 -- 8 is 8192 counts
-pub nearest-le : (n : ℕ) → n ≤ 8 * 2 ^ 149 → nearest n ≤ 8192
-nearest-le n h = at-most (2 ^ 139) n (nearest n) 8192 (pow_pos 139) h (nearest-near n)
+pub nearest_le : (n : ℕ) → n ≤ 8 * 2 ^ 149 → nearest n ≤ 8192
+nearest_le n h = at_most_lem (2 ^ 139) n (nearest n) 8192 (pow_pos 139) h (nearest_near n)

@@ -1,5 +1,5 @@
--- A finite f32 is a whole number of steps: the division in `steps` leaves no remainder (`steps-exact`). So `usable` is
--- what the two comparisons with -8 and 8 find (`usable-is`).
+-- A finite f32 is a whole number of steps: the division in `steps` leaves no remainder (`steps_exact`). So `usable` is
+-- what the two comparisons with -8 and 8 find (`usable_is`).
 -- Assumes nothing.
 use mathlib.Core.Path.{◌≡◌, refl, sym, ap, ◌∙◌}
 use mathlib.Core.Logic.{inl, inr}
@@ -17,26 +17,26 @@ use lib.Ieee.Fits.{down_pos, and_l, and_r, and_i, eq→eqb}
 use Rattle.rules_chips.specs.Floats.{steps, usable}
 
 -- ---- the division
-exponent-le : (i j : ℕ) → 2 ^ i ≤ 2 ^ j → i ≤ j
-exponent-le i j h = le_of_suc-le-suc (lt_of_not-le (λ (g : suc j ≤ i). not-le_of_lt (pow-lt g) h))
+exponent_le : (i j : ℕ) → 2 ^ i ≤ 2 ^ j → i ≤ j
+exponent_le i j h = le_of_suc-le-suc (lt_of_not-le (λ (g : suc j ≤ i). not-le_of_lt (pow-lt g) h))
 
 divides : (e : ℤ) → down e ≤ 2 ^ 149 → (j : ℕ) × (2 ^ 149 ≡ j * down e)
 divides (pos k) h = (2 ^ 149, refl)
 divides (negsuc k) h = (
   2 ^ (149 - suc k),
-  ap (λ (x : ℕ). 2 ^ x) (sym (back 149 (suc k) (exponent-le (suc k) 149 h))) ∙ pow-add 2 (149 - suc k) (suc k),
+  ap (λ (x : ℕ). 2 ^ x) (sym (back 149 (suc k) (exponent_le (suc k) 149 h))) ∙ pow-add 2 (149 - suc k) (suc k),
 )
 
 whole : (a d c : ℕ) → 0 < d → a ≡ c * d → a / d * d ≡ a
 whole a d c p h = ap (λ (x : ℕ). x * d) (ap (λ (x : ℕ). x / d) h ∙ mul-div_cancel c p) ∙ sym h
 
-pub steps-exact : (s : Bool) (m : ℕ) (e : ℤ) → T (fits binary32 (fin s m e))
+pub steps_exact : (s : Bool) (m : ℕ) (e : ℤ) → T (fits binary32 (fin s m e))
     → steps (fin s m e) * down e ≡ m * up e * 2 ^ 149
 unfolding steps fits
-steps-exact s zero e t =
+steps_exact s zero e t =
     whole (0 * up e * 2 ^ 149) (down e) 0 (down_pos e)
     (ap (λ (x : ℕ). x * 2 ^ 149) (zero-mul (up e)) ∙ sym (zero-mul (down e)))
-steps-exact s (suc m) e t =
+steps_exact s (suc m) e t =
     let A = eqb (suc m % 2) 1 && ltb (suc m) (2 ^ 24) in
     let C = leb (down e) (2 ^ 149) in
     let D = ltb (suc m * up e) (2 ^ 128 * down e) in
@@ -88,46 +88,46 @@ above x = le (fin true 1 (pos 3)) x
 abbrev below : Float → Bool
 below x = le x (fin false 1 (pos 3))
 
-eight-up : (s : Bool) (m : ℕ) (e : ℤ) → T (above (fin s m e) && below (fin s m e)) → m * up e ≤ 8 * down e
+eight_up : (s : Bool) (m : ℕ) (e : ℤ) → T (above (fin s m e) && below (fin s m e)) → m * up e ≤ 8 * down e
 unfolding le
-eight-up false m e t =
+eight_up false m e t =
     let a = m * up e * 1 in
     let b = 8 * down e in
     let h : a ≤ b = from_le a b (eqb a b) true (λ (y : T (eqb a b)). le_of_eq (eqb→eq a b y))
     (and_r (above (fin false m e)) (below (fin false m e)) t) in
     omega arith
-eight-up true m e t =
+eight_up true m e t =
     let a = m * up e * 1 in
     let b = 8 * down e in
     let h : a ≤ b = from_le a b (eqb b a) true (λ (y : T (eqb b a)). le_of_eq (sym (eqb→eq b a y)))
     (and_l (above (fin true m e)) (below (fin true m e)) t) in
     omega arith
 
-eight-down : (s : Bool) (m : ℕ) (e : ℤ) → m * up e ≤ 8 * down e → T (above (fin s m e) && below (fin s m e))
+eight_down : (s : Bool) (m : ℕ) (e : ℤ) → m * up e ≤ 8 * down e → T (above (fin s m e) && below (fin s m e))
 unfolding le
-eight-down false m e h =
+eight_down false m e h =
     let a = m * up e * 1 in
     let b = 8 * down e in
     and_i (above (fin false m e)) (below (fin false m e))
     (first (ltb 0 (b + a)) (eqb b a && eqb b 0) (lt→ltb 0 (b + a) (omega (arith, down_pos e))))
     (to_le a b (eqb a b) (λ (p : a ≡ b). eq→eqb p) (omega arith))
-eight-down true m e h =
+eight_down true m e h =
     let a = m * up e * 1 in
     let b = 8 * down e in
     and_i (above (fin true m e)) (below (fin true m e))
     (to_le a b (eqb b a) (λ (p : a ≡ b). eq→eqb (sym p)) (omega arith))
     (first (ltb 0 (a + b)) (eqb a b && eqb a 0) (lt→ltb 0 (a + b) (omega (arith, down_pos e))))
 
-pub usable-is : (x : Float) → T (fits binary32 x) → usable x ≡ (le (fin true 1 (pos 3)) x && le x (fin false 1 (pos 3)))
+pub usable_is : (x : Float) → T (fits binary32 x) → usable x ≡ (le (fin true 1 (pos 3)) x && le x (fin false 1 (pos 3)))
 unfolding usable le
-usable-is nan t = refl
-usable-is (inf true) t = refl
-usable-is (inf false) t = refl
-usable-is (fin s m e) t =
+usable_is nan t = refl
+usable_is (inf true) t = refl
+usable_is (inf false) t = refl
+usable_is (fin s m e) t =
     let n = steps (fin s m e) in
-    let x = steps-exact s m e t in
+    let x = steps_exact s m e t in
     same (leb n (8 * 2 ^ 149)) (above (fin s m e) && below (fin s m e))
     (λ (h : T (leb n (8 * 2 ^ 149))). eight-down s m e
     (under n (m * up e) (down e) (2 ^ 149) (down_pos e) (pow_pos 149) x (leb→le n (8 * 2 ^ 149) h)))
     (λ (h : T (above (fin s m e) && below (fin s m e))). le→leb n (8 * 2 ^ 149)
-    (over n (m * up e) (down e) (2 ^ 149) (down_pos e) (pow_pos 149) x (eight-up s m e h)))
+    (over n (m * up e) (down e) (2 ^ 149) (down_pos e) (pow_pos 149) x (eight_up s m e h)))

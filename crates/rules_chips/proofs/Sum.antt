@@ -19,8 +19,8 @@ use lib.Ieee.Exact.{HasValue, units_val}
 use lib.Ieee.Nearest.{closest, closest_same}
 use lib.Ieee.Scale.{round_same}
 use Rattle.rules_chips.specs.Floats.{steps, negative, usable, nearest}
-use Rattle.rules_chips.proofs.Rounding.{Rounds, only, closest-near, nearest-near, nearest-le, plus, less}
-use Rattle.rules_chips.proofs.Steps.{steps-exact, under}
+use Rattle.rules_chips.proofs.Rounding.{Rounds, only, closest_near, nearest_near, nearest_le, plus, less}
+use Rattle.rules_chips.proofs.Steps.{steps_exact, under}
 
 -- M ± n
 abbrev pub moved : Bool → ℕ → ℕ → ℕ
@@ -38,9 +38,9 @@ size_is n l u =
     (lt_of_not-le (λ (g : size n ≤ 162). not-le_of_lt (lt_of_lt_of_le (size-lt n) (pow_mono g)) l))
 
 -- so the format keeps its whole counts
-round-counts : (n : ℕ) → 2 ^ 162 ≤ n → n < 2 ^ 163
+round_counts : (n : ℕ) → 2 ^ 162 ≤ n → n < 2 ^ 163
     → round binary32 false n (2 ^ 149) ≡ units binary32 false (closest n (2 ^ 139)) 139
-round-counts n l u =
+round_counts n l u =
     round_is binary32 false n (2 ^ 149)
     ∙ ap (λ (z : ℕ). core binary32 false (n * 2 ^ 149) (2 ^ 149) (z - 24))
     (ap size (mul-div_cancel n (pow_pos 149)) ∙ size_is n l u)
@@ -49,8 +49,8 @@ round-counts n l u =
     (mul_assoc n (2 ^ 149) (2 ^ 139)))
 
 -- ---- from the float's own fraction a / d to its n steps, of which l are 1
-plus-is : (n a d l : ℕ) → n * d ≡ a * l → (a * 1 + 12288 * d) * l ≡ (12288 * l + n) * (d * 1)
-plus-is n a d l h =
+plus_is : (n a d l : ℕ) → n * d ≡ a * l → (a * 1 + 12288 * d) * l ≡ (12288 * l + n) * (d * 1)
+plus_is n a d l h =
     let p : (a * 1 + 12288 * d) * l ≡ a * 1 * l + 12288 * d * l = add-mul (a * 1) (12288 * d) l in
     let q : (12288 * l + n) * (d * 1) ≡ 12288 * l * (d * 1) + n * (d * 1) = add-mul (12288 * l) n (d * 1) in
     let r : 12288 * l * (d * 1) ≡ 12288 * d * l =
@@ -66,9 +66,9 @@ left a b x y l d h k p q =
     let t : (y - x) * d + x * d ≡ y * d = sym (add-mul (y - x) x d) ∙ ap (λ (z : ℕ). z * d) (back y x k) in
     omega arith
 
-less-is : (n a d l : ℕ) → n * d ≡ a * l → a ≤ 8 * d → n ≤ 8 * l
+less_is : (n a d l : ℕ) → n * d ≡ a * l → a ≤ 8 * d → n ≤ 8 * l
     → (12288 * d - a * 1) * l ≡ (12288 * l - n) * (d * 1)
-less-is n a d l h i j =
+less_is n a d l h i j =
     left (a * 1) (12288 * d) n (12288 * l) l (d * 1) (omega arith) (omega arith)
     (mul_right_comm 12288 d l ∙ ap (λ (x : ℕ). 12288 * l * x) (sym (mul-one d)))
     (ap (λ (x : ℕ). x * l) (mul-one a) ∙ sym h ∙ ap (λ (x : ℕ). n * x) (sym (mul-one d)))
@@ -81,10 +81,10 @@ unfolding add
 sum_is false m e t h =
     round_same binary32 false (m * up e * 1 + 12288 * down e) (down e * 1)
     (12288 * 2 ^ 149 + steps (fin false m e)) (2 ^ 149) (mul-pos (down_pos e) (omega arith)) (pow_pos 149)
-    (plus-is (steps (fin false m e)) (m * up e) (down e) (2 ^ 149) (steps-exact false m e t))
+    (plus_is (steps (fin false m e)) (m * up e) (down e) (2 ^ 149) (steps_exact false m e t))
 sum_is true m e t h =
     let n = steps (fin true m e) in
-    let x = steps-exact true m e t in
+    let x = steps_exact true m e t in
     let a = m * up e * 1 in
     let b = 12288 * down e in
     let u : m * up e ≤ 8 * down e = under n (m * up e) (down e) (2 ^ 149) (down_pos e) (pow_pos 149) x h in
@@ -92,7 +92,7 @@ sum_is true m e t h =
     cond_yes (ltb a b) (round binary32 false (b - a) (down e * 1)) (round binary32 (ltb b a) (a - b) (down e * 1))
     (lt→ltb a b p)
     ∙ round_same binary32 false (b - a) (down e * 1) (12288 * 2 ^ 149 - n) (2 ^ 149)
-    (mul-pos (down_pos e) (omega arith)) (pow_pos 149) (less-is n (m * up e) (down e) (2 ^ 149) x u h)
+    (mul-pos (down_pos e) (omega arith)) (pow_pos 149) (less_is n (m * up e) (down e) (2 ^ 149) x u h)
 
 -- ---- the bounds: the sum is from 8192 up and below 16384
 range : (s : Bool) (n l : ℕ) → 0 < l → n ≤ 8 * l
@@ -106,21 +106,21 @@ kept : (s : Bool) (n : ℕ) → n ≤ 8 * 2 ^ 149
 kept s n h =
     let N = moved s (12288 * 2 ^ 149) n in
     only (2 ^ 139) N (closest N (2 ^ 139)) (moved s 12582912 (nearest n)) (pow_pos 139)
-    (closest-near (2 ^ 139) N (pow_pos 139)) (go s)
+    (closest_near (2 ^ 139) N (pow_pos 139)) (go s)
   where
     go : (s : Bool) → Rounds (2 ^ 139) (moved s (12288 * 2 ^ 149) n) (moved s 12582912 (nearest n))
-    go false = plus (2 ^ 139) n (nearest n) 12582912 refl (nearest-near n)
+    go false = plus (2 ^ 139) n (nearest n) 12582912 refl (nearest_near n)
     go true =
-        less (2 ^ 139) n (nearest n) 12582912 refl (le_trans h (lit≤ tt)) (le_trans (nearest-le n h) (lit≤ tt))
-        (nearest-near n)
+        less (2 ^ 139) n (nearest n) 12582912 refl (le_trans h (lit≤ tt)) (le_trans (nearest_le n h) (lit≤ tt))
+        (nearest_near n)
 
-sum-counts : (s : Bool) (m : ℕ) (e : ℤ) → T (fits binary32 (fin s m e)) → steps (fin s m e) ≤ 8 * 2 ^ 149
+sum_counts : (s : Bool) (m : ℕ) (e : ℤ) → T (fits binary32 (fin s m e)) → steps (fin s m e) ≤ 8 * 2 ^ 149
     → add binary32 (fin s m e) (fin false 3 (pos 12))
     ≡ units binary32 false (moved s 12582912 (nearest (steps (fin s m e)))) 139
-sum-counts s m e t h =
+sum_counts s m e t h =
     let n = steps (fin s m e) in
     let r = range s n (2 ^ 149) (pow_pos 149) h in
-    sum_is s m e t h ∙ round-counts (moved s (12288 * 2 ^ 149) n) r.0 r.1
+    sum_is s m e t h ∙ round_counts (moved s (12288 * 2 ^ 149) n) r.0 r.1
     ∙ ap (λ (q : ℕ). units binary32 false q 139) (kept s n h)
 
 -- ---- the bit pattern of q counts, where q has 24 digits
@@ -165,11 +165,11 @@ summed (fin s m e) t u =
     let n = steps (fin s m e) in
     let z = add binary32 (fin s m e) (fin false 3 (pos 12)) in
     let h : n ≤ 8 * 2 ^ 149 = leb→le n (8 * 2 ^ 149) u in
-    let few : nearest n ≤ 8192 = nearest-le n h in
+    let few : nearest n ≤ 8192 = nearest_le n h in
     let q = moved s 12582912 (nearest n) in
     let i = moved_in s (nearest n) few in
     let v : HasValue z false (q * 2 ^ 139) (2 ^ 149) =
-    subst⁻¹ (λ (z : Float). HasValue z false (q * 2 ^ 139) (2 ^ 149)) (sum-counts s m e t h)
+    subst⁻¹ (λ (z : Float). HasValue z false (q * 2 ^ 139) (2 ^ 149)) (sum_counts s m e t h)
     (units_val binary32 false q 139
     (lt_of_lt_of_le (digits q (2 ^ 139) i.0 i.1 (pow_pos 139)).1 (lit≤ tt))) in
     record { few = few; no_nan = number z (q * 2 ^ 139) (2 ^ 149) v; bits = pattern z q i.0 i.1 v }

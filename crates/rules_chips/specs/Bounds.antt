@@ -11,10 +11,10 @@ pub record Bounded (b : ℕ) (c : Counts) : Type 0 where
   pub imag : Within b c.q
 
 -- k counts less m steps, in steps
-abbrev pub offBy : ℤ → ℤ → ℤ
-offBy k m = (k *ℤ pos (2 ^ 139)) -ℤ m
+abbrev pub off_by : ℤ → ℤ → ℤ
+off_by k m = (k *ℤ pos (2 ^ 139)) -ℤ m
 
 -- the counts c are at most `half` steps from the exact value e, in I and in Q: with no step they are that value
 pub record Apart (half : ℕ) (c e : Counts) : Type 0 where
-  pub real : Within half (offBy c.i e.i)
-  pub imag : Within half (offBy c.q e.q)
+  pub real : Within half (off_by c.i e.i)
+  pub imag : Within half (off_by c.q e.q)

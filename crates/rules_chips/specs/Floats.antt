@@ -39,12 +39,12 @@ nearest n =
     cond (ltb (2 * r) (2 ^ 139)) q (cond (ltb (2 ^ 139) (2 * r)) (q + 1) (q + q % 2))
 
 -- the count: the whole number nearest to 1024 times the exact value, ties to the even one; 0 of what is not usable
-unfoldable pub countOf : Float → ℤ
+unfoldable pub count_of : Float → ℤ
 unfolding steps usable nearest
-countOf x = cond (usable x) (signed (negative x) (nearest (steps x))) (pos 0)
+count_of x = cond (usable x) (signed (negative x) (nearest (steps x))) (pos 0)
 
 -- The same said without a way to find it: k counts are nearest to m steps when twice the distance is at most a count,
--- and where it is just a count, k is even. The laws in proofs/Meaning.antt show that this leaves one answer, `countOf`.
+-- and where it is just a count, k is even. The laws in proofs/Meaning.antt show that this leaves one answer, `count_of`.
 pub record Nearest (m k : ℤ) : Type 0 where
   pub close : 2 * nat_abs (k *ℤ pos (2 ^ 139) -ℤ m) ≤ 2 ^ 139
   pub even : 2 * nat_abs (k *ℤ pos (2 ^ 139) -ℤ m) ≡ 2 ^ 139 → nat_abs k % 2 ≡ 0

@@ -15,11 +15,11 @@ use lib.ListN.{length, length-append}
 use lib.IntN.{ℤ}
 use lib.Signed.{lt_z, ◌≤ℤ◌, ◌<ℤ◌, lt_z_yes, lt_z_no, clash_ℤ, ≤ℤ_refl}
 use Rattle.base.proofs.Whole.{le_of, lt_of, of_le, of_lt}
-use Rattle.rules_symbols.specs.Choice.{those, going, firstLargest}
+use Rattle.rules_symbols.specs.Choice.{those, going, first_largest}
 use Rattle.rules_choosing.specs.Scores.{up_to, BestOf}
 
-pub best-unique : {ok : ℕ → Bool} {n : ℕ} {f : ℕ → ℤ} {r s : ℕ} → BestOf ok n f r → BestOf ok n f s → r ≡ s
-best-unique {ok} {n} {f} {r} {s} p q = by (dec_lt r s) (dec_lt s r)
+pub best_unique : {ok : ℕ → Bool} {n : ℕ} {f : ℕ → ℤ} {r s : ℕ} → BestOf ok n f r → BestOf ok n f s → r ≡ s
+best_unique {ok} {n} {f} {r} {s} p q = by (dec_lt r s) (dec_lt s r)
   where
     by : Dec (r < s) → Dec (s < r) → r ≡ s
     by (yes h) k = clash_ℤ (q.first r h p.allowed) (p.top s q.among q.allowed)
@@ -27,17 +27,17 @@ best-unique {ok} {n} {f} {r} {s} p q = by (dec_lt r s) (dec_lt s r)
     by (no h) (no k) = omega arith
 
 -- ---- one number more at the end of a list
-going-snoc : (f : ℕ → ℤ) (best : ℕ) (ns : List ℕ) (n : ℕ)
+going_snoc : (f : ℕ → ℤ) (best : ℕ) (ns : List ℕ) (n : ℕ)
     → going f best (ns ++ (n ∷ [])) ≡ cond (lt_z (f (going f best ns)) (f n)) n (going f best ns)
 unfolding going
-going-snoc f best [] n = refl
-going-snoc f best (m ∷ ns) n = going-snoc f (cond (lt_z (f best) (f m)) m best) ns n
+going_snoc f best [] n = refl
+going_snoc f best (m ∷ ns) n = going_snoc f (cond (lt_z (f best) (f m)) m best) ns n
 
-pub first-snoc : (f : ℕ → ℤ) (ns : List ℕ) (n : ℕ) → 0 < length ns
-    → firstLargest f (ns ++ (n ∷ [])) ≡ cond (lt_z (f (firstLargest f ns)) (f n)) n (firstLargest f ns)
-unfolding firstLargest
-first-snoc f [] n h = absurd (not-suc-le-zero h)
-first-snoc f (m ∷ ns) n h = going-snoc f m ns n
+pub first_snoc : (f : ℕ → ℤ) (ns : List ℕ) (n : ℕ) → 0 < length ns
+    → first_largest f (ns ++ (n ∷ [])) ≡ cond (lt_z (f (first_largest f ns)) (f n)) n (first_largest f ns)
+unfolding first_largest
+first_snoc f [] n h = absurd (not-suc-le-zero h)
+first_snoc f (m ∷ ns) n h = going_snoc f m ns n
 
 -- ---- the first largest of those that a test allows is the best
 <-≤ : {a b : ℤ} → a <ℤ b → a ≤ℤ b
@@ -73,8 +73,8 @@ module _ (ok : ℕ → Bool) where
         by (yes p) = below m p a
         by (no q) = let e : n ≡ m = omega arith in subst P e (at (subst (λ (k : ℕ). T (ok k)) (sym e) a))
 
-    not-allowed : {r : ℕ} → ok n ≡ false → BestOf ok n f r → BestOf ok (suc n) f r
-    not-allowed {r} e b = record {
+    not_allowed : {r : ℕ} → ok n ≡ false → BestOf ok n f r → BestOf ok (suc n) f r
+    not_allowed {r} e b = record {
       among = omega (arith, b.among);
       allowed = b.allowed;
       top = last (λ m. f m ≤ℤ f r) b.top (λ a. absurd (subst T e a));
@@ -108,25 +108,25 @@ module _ (ok : ℕ → Bool) where
     }
 
   -- a number that is allowed, after those before it
-  then-best : (f : ℕ → ℤ) (n : ℕ) (ns : List ℕ) → ns ≡ those ok n → ok n ≡ true
-      → (0 < length ns → BestOf ok n f (firstLargest f ns))
-      → BestOf ok (suc n) f (firstLargest f (ns ++ (n ∷ [])))
-  unfolding firstLargest going
-  then-best f n [] x e before = alone f n e (ap length (sym x))
-  then-best f n (m ∷ ns) x e before =
-      rw (first-snoc f (m ∷ ns) n (omega arith)) (one_more f n e (before (omega arith)) _ refl)
+  then_best : (f : ℕ → ℤ) (n : ℕ) (ns : List ℕ) → ns ≡ those ok n → ok n ≡ true
+      → (0 < length ns → BestOf ok n f (first_largest f ns))
+      → BestOf ok (suc n) f (first_largest f (ns ++ (n ∷ [])))
+  unfolding first_largest going
+  then_best f n [] x e before = alone f n e (ap length (sym x))
+  then_best f n (m ∷ ns) x e before =
+      rw (first_snoc f (m ∷ ns) n (omega arith)) (one_more f n e (before (omega arith)) _ refl)
 
-  pub first-best : (f : ℕ → ℤ) (n : ℕ) → 0 < length (those ok n) → BestOf ok n f (firstLargest f (those ok n))
+  pub first_best : (f : ℕ → ℤ) (n : ℕ) → 0 < length (those ok n) → BestOf ok n f (first_largest f (those ok n))
   unfolding those
-  first-best f zero h = absurd (not-suc-le-zero h)
-  first-best f (suc n) h = by (ok n) refl h (first-best f n)
+  first_best f zero h = absurd (not-suc-le-zero h)
+  first_best f (suc n) h = by (ok n) refl h (first_best f n)
     where
       by : (t : Bool) → ok n ≡ t → 0 < length (those ok n ++ cond t (n ∷ []) [])
-          → (0 < length (those ok n) → BestOf ok n f (firstLargest f (those ok n)))
-          → BestOf ok (suc n) f (firstLargest f (those ok n ++ cond t (n ∷ []) []))
-      by true e k before = then-best f n (those ok n) refl e before
+          → (0 < length (those ok n) → BestOf ok n f (first_largest f (those ok n)))
+          → BestOf ok (suc n) f (first_largest f (those ok n ++ cond t (n ∷ []) []))
+      by true e k before = then_best f n (those ok n) refl e before
       by false e k before = rw (append-nil (those ok n))
-          (not-allowed f n e (before (rw (append-nil (those ok n)) at k)))
+          (not_allowed f n e (before (rw (append-nil (those ok n)) at k)))
 
 -- ---- among all numbers below n
 length_up : (n : ℕ) → length (up_to n) ≡ n
@@ -134,24 +134,24 @@ unfolding those
 length_up zero = refl
 length_up (suc n) = length-append (up_to n) (n ∷ []) ∙ ap (λ (k : ℕ). k + 1) (length_up n) ∙ add-one n
 
-pub up-best : (f : ℕ → ℤ) (n : ℕ) → 0 < n → BestOf (λ j. true) n f (firstLargest f (up_to n))
-up-best f n h = first-best (λ j. true) f n (subst (λ (k : ℕ). 0 < k) (sym (length_up n)) h)
+pub up_best : (f : ℕ → ℤ) (n : ℕ) → 0 < n → BestOf (λ j. true) n f (first_largest f (up_to n))
+up_best f n h = first_best (λ j. true) f n (subst (λ (k : ℕ). 0 < k) (sym (length_up n)) h)
 
 -- ---- a list of numbers that are made of others
-going-map : (f : ℕ → ℤ) (g : ℕ → ℕ) (best : ℕ) (ns : List ℕ)
+going_map : (f : ℕ → ℤ) (g : ℕ → ℕ) (best : ℕ) (ns : List ℕ)
     → going f (g best) (map g ns) ≡ g (going (λ k. f (g k)) best ns)
 unfolding going
-going-map f g best [] = refl
-going-map f g best (n ∷ ns) =
+going_map f g best [] = refl
+going_map f g best (n ∷ ns) =
     ap (λ (b : ℕ). going f b (map g ns)) (either (lt_z (f (g best)) (f (g n))))
-    ∙ going-map f g (cond (lt_z (f (g best)) (f (g n))) n best) ns
+    ∙ going_map f g (cond (lt_z (f (g best)) (f (g n))) n best) ns
   where
     either : (t : Bool) → cond t (g n) (g best) ≡ g (cond t n best)
     either true = refl
     either false = refl
 
-pub first-map : (f : ℕ → ℤ) (g : ℕ → ℕ) (ns : List ℕ) → 0 < length ns
-    → firstLargest f (map g ns) ≡ g (firstLargest (λ k. f (g k)) ns)
-unfolding firstLargest
-first-map f g [] h = absurd (not-suc-le-zero h)
-first-map f g (n ∷ ns) h = going-map f g n ns
+pub first_map : (f : ℕ → ℤ) (g : ℕ → ℕ) (ns : List ℕ) → 0 < length ns
+    → first_largest f (map g ns) ≡ g (first_largest (λ k. f (g k)) ns)
+unfolding first_largest
+first_map f g [] h = absurd (not-suc-le-zero h)
+first_map f g (n ∷ ns) h = going_map f g n ns

@@ -15,15 +15,15 @@ use lib.ListN.{length}
 use lib.IntN.{ℤ, pos, neg_ℤ, ◌+ℤ◌}
 use lib.Signed.{◌<ℤ◌}
 use Rattle.base.specs.Whole.{up, dn}
-use Rattle.base.proofs.Whole.{up_pos, dn-pos, neg-up, neg-dn, add, lt_of}
+use Rattle.base.proofs.Whole.{up_pos, dn_pos, neg_up, neg_dn, add, lt_of}
 use Rattle.rules_rates.specs.declared.Rate.{Rate}
-use Rattle.rules_chips.specs.Chips.{turned, fullChip}
+use Rattle.rules_chips.specs.Chips.{turned, full_chip}
 use Rattle.rules_symbols.specs.Words.{word_of}
-use Rattle.rules_symbols.specs.Choice.{term, score, numbers, isAllowed, decided}
-use Rattle.rules_symbols.proofs.Words.{Phases, phases-tail, word-phases, word-length}
-use Rattle.rules_symbols.proofs.Numbers.{word-one}
+use Rattle.rules_symbols.specs.Choice.{term, score, numbers, is_allowed, decided}
+use Rattle.rules_symbols.proofs.Words.{Phases, phases_tail, word_phases, word_length}
+use Rattle.rules_symbols.proofs.Numbers.{word_one}
 use Rattle.rules_symbols.proofs.Agreement.{one, agreeing, opposed, clean}
-use Rattle.rules_choosing.proofs.Decided.{decided-leads}
+use Rattle.rules_choosing.proofs.Decided.{decided_leads_lem}
 
 -- four phases
 pub phase : (P : ℕ → Type 0) → P 0 → P 1 → P 2 → P 3 → (p : ℕ) → p < 4 → P p
@@ -38,47 +38,47 @@ module _ (full : ℕ) where
   pub record Full (z : ℤ) (more less : ℕ) : Type 0 where
     pub is : up z + full * less ≡ dn z + full * more
 
-  zero-full : Full (pos 0) 0 0
-  zero-full = record { is = omega (arith, up_pos 0, dn-pos 0) }
+  zero_full : Full (pos 0) 0 0
+  zero_full = record { is = omega (arith, up_pos 0, dn_pos 0) }
 
-  plus-full : Full (pos full) 1 0
-  plus-full = record { is = omega (arith, up_pos full, dn-pos full) }
+  plus_full : Full (pos full) 1 0
+  plus_full = record { is = omega (arith, up_pos full, dn_pos full) }
 
-  neg-full : {z : ℤ} {a b : ℕ} → Full z a b → Full (neg_ℤ z) b a
-  neg-full {z} {a} {b} h = record { is = omega (arith, h.is, neg-up z, neg-dn z) }
+  neg_full : {z : ℤ} {a b : ℕ} → Full z a b → Full (neg_ℤ z) b a
+  neg_full {z} {a} {b} h = record { is = omega (arith, h.is, neg_up z, neg_dn z) }
 
-  add-full : {y z : ℤ} {a b c d : ℕ} → Full y a b → Full z c d → Full (y +ℤ z) (a + c) (b + d)
-  add-full {y} {z} {a} {b} {c} {d} h k = record {
+  add_full : {y z : ℤ} {a b c d : ℕ} → Full y a b → Full z c d → Full (y +ℤ z) (a + c) (b + d)
+  add_full {y} {z} {a} {b} {c} {d} h k = record {
     is = rw (mul-add full a c, mul-add full b d)
         (omega (arith, h.is, k.is, add y z));
   }
 
   -- one chip
   abbrev Chip : ℕ → ℕ → Type 0
-  Chip p q = Full (term p (fullChip full q)) (one (eqb p q)) (one (eqb (turned p 2) q))
+  Chip p q = Full (term p (full_chip full q)) (one (eqb p q)) (one (eqb (turned p 2) q))
 
-  chip-full : (p q : ℕ) → p < 4 → q < 4 → Chip p q
-  chip-full p q hp hq =
-      let minus = neg-full plus-full in
+  chip_full : (p q : ℕ) → p < 4 → q < 4 → Chip p q
+  chip_full p q hp hq =
+      let minus = neg_full plus_full in
       phase (λ p. (q : ℕ) → q < 4 → Chip p q)
-      (phase (Chip 0) plus-full zero-full minus zero-full)
-      (phase (Chip 1) zero-full plus-full zero-full minus)
-      (phase (Chip 2) minus zero-full (neg-full minus) zero-full)
-      (phase (Chip 3) zero-full minus zero-full (neg-full minus))
+      (phase (Chip 0) plus_full zero_full minus zero_full)
+      (phase (Chip 1) zero_full plus_full zero_full minus)
+      (phase (Chip 2) minus zero_full (neg_full minus) zero_full)
+      (phase (Chip 3) zero_full minus zero_full (neg_full minus))
       p hp q hq
 
-  pub score-full : (v w : List ℕ) → Phases v → Phases w → Full (score v (clean full w)) (agreeing v w) (opposed v w)
+  pub score_full : (v w : List ℕ) → Phases v → Phases w → Full (score v (clean full w)) (agreeing v w) (opposed v w)
   unfolding score agreeing opposed
-  score-full [] w hv hw = zero-full
-  score-full (p ∷ v) [] hv hw = zero-full
-  score-full (p ∷ v) (q ∷ w) hv hw =
-      add-full (chip-full p q (hv.at 0) (hw.at 0)) (score-full v w (phases-tail hv) (phases-tail hw))
+  score_full [] w hv hw = zero_full
+  score_full (p ∷ v) [] hv hw = zero_full
+  score_full (p ∷ v) (q ∷ w) hv hw =
+      add_full (chip_full p q (hv.at 0) (hw.at 0)) (score_full v w (phases_tail hv) (phases_tail hw))
 
 -- ---- a word agrees with itself, and another of its length not wholly
-pub agreeing-self : (w : List ℕ) → agreeing w w ≡ length w
+pub agreeing_self : (w : List ℕ) → agreeing w w ≡ length w
 unfolding agreeing
-agreeing-self [] = refl
-agreeing-self (p ∷ w) = rw (eq-eqb p p refl, agreeing-self w) (omega arith)
+agreeing_self [] = refl
+agreeing_self (p ∷ w) = rw (eq-eqb p p refl, agreeing_self w) (omega arith)
 
 -- no chip is both the same and a half turn apart: what is left of the length is a quarter turn apart
 either : (p q : ℕ) (s t : Bool) → eqb p q ≡ s → eqb (turned p 2) q ≡ t → one s + one t ≤ 1
@@ -90,18 +90,18 @@ either p q true false e f = lit≤ tt
 either p q false true e f = lit≤ tt
 either p q false false e f = lit≤ tt
 
-pub agreeing-opposed : (v w : List ℕ) → agreeing v w + opposed v w ≤ length v
+pub agreeing_opposed : (v w : List ℕ) → agreeing v w + opposed v w ≤ length v
 unfolding agreeing opposed
-agreeing-opposed [] w = lit≤ tt
-agreeing-opposed (p ∷ v) [] = omega arith
-agreeing-opposed (p ∷ v) (q ∷ w) = omega (arith, either p q _ _ refl refl, agreeing-opposed v w)
+agreeing_opposed [] w = lit≤ tt
+agreeing_opposed (p ∷ v) [] = omega arith
+agreeing_opposed (p ∷ v) (q ∷ w) = omega (arith, either p q _ _ refl refl, agreeing_opposed v w)
 
-pub agreeing-all : (v w : List ℕ) → length v ≡ length w → length v ≤ agreeing v w → v ≡ w
+pub agreeing_all : (v w : List ℕ) → length v ≡ length w → length v ≤ agreeing v w → v ≡ w
 unfolding agreeing
-agreeing-all [] [] e h = refl
-agreeing-all [] (q ∷ w) e h = absurd (omega arith)
-agreeing-all (p ∷ v) [] e h = absurd (omega arith)
-agreeing-all (p ∷ v) (q ∷ w) e h = by (eqb p q) refl h (agreeing-all v w (omega arith)) (agreeing-opposed v w)
+agreeing_all [] [] e h = refl
+agreeing_all [] (q ∷ w) e h = absurd (omega arith)
+agreeing_all (p ∷ v) [] e h = absurd (omega arith)
+agreeing_all (p ∷ v) (q ∷ w) e h = by (eqb p q) refl h (agreeing_all v w (omega arith)) (agreeing_opposed v w)
   where
     by : (b : Bool) → eqb p q ≡ b → suc (length v) ≤ one b + agreeing v w → (length v ≤ agreeing v w → v ≡ w)
         → agreeing v w + opposed v w ≤ length v → (p ∷ v) ≡ (q ∷ w)
@@ -109,31 +109,31 @@ agreeing-all (p ∷ v) (q ∷ w) e h = by (eqb p q) refl h (agreeing-all v w (om
     by false x k tail le = absurd (omega arith)
 
 -- ---- a clean word is decided as itself
-pub score-self : (full : ℕ) (w : List ℕ) → Phases w → Full full (score w (clean full w)) (length w) 0
-score-self full w h =
-    let o : opposed w w ≡ 0 = omega (arith, agreeing-opposed w w, agreeing-self w) in
-    subst (λ (a : ℕ). Full full (score w (clean full w)) a 0) (agreeing-self w)
-    (subst (λ (b : ℕ). Full full (score w (clean full w)) (agreeing w w) b) o (score-full full w w h h))
+pub score_self : (full : ℕ) (w : List ℕ) → Phases w → Full full (score w (clean full w)) (length w) 0
+score_self full w h =
+    let o : opposed w w ≡ 0 = omega (arith, agreeing_opposed w w, agreeing_self w) in
+    subst (λ (a : ℕ). Full full (score w (clean full w)) a 0) (agreeing_self w)
+    (subst (λ (b : ℕ). Full full (score w (clean full w)) (agreeing w w) b) o (score_full full w w h h))
 
-pub score-other : (full : ℕ) → 0 < full → (v w : List ℕ) → Phases v → Phases w → length v ≡ length w → (v ≡ w → ⊥)
+pub score_other : (full : ℕ) → 0 < full → (v w : List ℕ) → Phases v → Phases w → length v ≡ length w → (v ≡ w → ⊥)
     → score v (clean full w) <ℤ score w (clean full w)
-score-other full pos-full v w hv hw e ne =
-    let a = (score-full full v w hv hw).is in
-    let b = (score-self full w hw).is in
+score_other full pos-full v w hv hw e ne =
+    let a = (score_full full v w hv hw).is in
+    let b = (score_self full w hw).is in
     let few : agreeing v w < length w = by (dec_lt (agreeing v w) (length w)) in
     let k : full * agreeing v w < full * length w = mul-lt-mul_of_pos_left few pos-full in
     lt_of (score v (clean full w)) (score w (clean full w)) (omega arith)
   where
     by : Dec (agreeing v w < length w) → agreeing v w < length w
     by (yes p) = p
-    by (no q) = absurd (ne (agreeing-all v w e (omega arith)))
+    by (no q) = absurd (ne (agreeing_all v w e (omega arith)))
 
 -- promise: Clean words are chosen as themselves; a word that leads is chosen
 -- rule: 3.6
--- with: decided-leads
-pub decided-clean : (full : ℕ) → 0 < full → (r : Rate) (n : ℕ) → n < numbers r → T (isAllowed r n)
+-- with: decided_leads_lem
+pub decided_clean : (full : ℕ) → 0 < full → (r : Rate) (n : ℕ) → n < numbers r → T (is_allowed r n)
     → decided r (clean full (word_of r n)) ≡ n
-decided-clean full h r n below a =
-    decided-leads r (clean full (word_of r n)) n below a
-    (λ m k b ne. score-other full h (word_of r m) (word_of r n) (word-phases r m) (word-phases r n)
-    (word-length r m ∙ sym (word-length r n)) (λ e. ne (word-one r m n k below e)))
+decided_clean full h r n below a =
+    decided_leads_lem r (clean full (word_of r n)) n below a
+    (λ m k b ne. score-other full h (word_of r m) (word_of r n) (word_phases r m) (word_phases r n)
+    (word_length r m ∙ sym (word_length r n)) (λ e. ne (word_one r m n k below e)))

@@ -15,41 +15,41 @@ use Rattle.base.proofs.Whole.{le_of, of_lt}
 use Rattle.rules_rates.specs.declared.Rate.{Rate}
 use Rattle.rules_rates.specs.declared.Rate.TheVariants.{One, Two, Five, Eleven}
 use Rattle.rules_chips.specs.declared.Counts.{Counts}
-use Rattle.rules_symbols.specs.Choice.{numbers, isAllowed, allowed, decided}
-use Rattle.rules_choosing.specs.Scores.{scoreAt, BestOf, DecidedAs}
-use Rattle.rules_choosing.proofs.Best.{first-best, some_of, best-unique}
+use Rattle.rules_symbols.specs.Choice.{numbers, is_allowed, allowed, decided}
+use Rattle.rules_choosing.specs.Scores.{score_at, BestOf, DecidedAs}
+use Rattle.rules_choosing.proofs.Best.{first_best, some_of, best_unique}
 
 -- at every rate some word is allowed
-some-allowed : (r : Rate) → 0 < length (allowed r)
-some-allowed One = some_of (isAllowed One) 4 0 (lit< tt) tt
-some-allowed Two = some_of (isAllowed Two) 4 0 (lit< tt) tt
-some-allowed Five = some_of (isAllowed Five) 256 16 (lit< tt) tt
-some-allowed Eleven = some_of (isAllowed Eleven) 256 0 (lit< tt) tt
+some_allowed : (r : Rate) → 0 < length (allowed r)
+some_allowed One = some_of (is_allowed One) 4 0 (lit< tt) tt
+some_allowed Two = some_of (is_allowed Two) 4 0 (lit< tt) tt
+some_allowed Five = some_of (is_allowed Five) 256 16 (lit< tt) tt
+some_allowed Eleven = some_of (is_allowed Eleven) 256 0 (lit< tt) tt
 
 -- promise: The chosen word is allowed, none scores more, each smaller allowed number scores less; any two such are
 -- equal
 -- rule: 3.6
--- with: best-unique
-pub decided-best : (r : Rate) (cs : List Counts) → DecidedAs r cs (decided r cs)
+-- with: best_unique
+pub decided_best : (r : Rate) (cs : List Counts) → DecidedAs r cs (decided r cs)
 unfolding decided
-decided-best r cs = first-best (isAllowed r) (scoreAt r cs) (numbers r) (some-allowed r)
+decided_best r cs = first_best (is_allowed r) (score_at r cs) (numbers r) (some_allowed r)
 
 -- whatever is best is the one decided
-pub decided-is : (r : Rate) (cs : List Counts) (n : ℕ) → DecidedAs r cs n → decided r cs ≡ n
-decided-is r cs n b = best-unique (decided-best r cs) b
+pub decided_is : (r : Rate) (cs : List Counts) (n : ℕ) → DecidedAs r cs n → decided r cs ≡ n
+decided_is r cs n b = best_unique (decided_best r cs) b
 
-pub decided-below : (r : Rate) (cs : List Counts) → decided r cs < numbers r
-decided-below r cs = (decided-best r cs).among
+pub decided_below : (r : Rate) (cs : List Counts) → decided r cs < numbers r
+decided_below r cs = (decided_best r cs).among
 
 -- at 1 and 2 Mbit/s the same
-pub decided-barker : (cs : List Counts) → decided Two cs ≡ decided One cs
+pub decided_barker : (cs : List Counts) → decided Two cs ≡ decided One cs
 unfolding decided
-decided-barker cs = refl
+decided_barker cs = refl
 
 -- a number that leads every other is the best
-pub leads-best : {ok : ℕ → Bool} {n : ℕ} {f : ℕ → ℤ} {r : ℕ} → r < n → T (ok r)
+pub leads_best : {ok : ℕ → Bool} {n : ℕ} {f : ℕ → ℤ} {r : ℕ} → r < n → T (ok r)
     → ((m : ℕ) → m < n → T (ok m) → (m ≡ r → ⊥) → f m <ℤ f r) → BestOf ok n f r
-leads-best {ok} {n} {f} {r} h a lead = record {
+leads_best {ok} {n} {f} {r} h a lead = record {
   among = h;
   allowed = a;
   top = top;
@@ -68,6 +68,6 @@ leads-best {ok} {n} {f} {r} h a lead = record {
         by (no p) (yes q) = le m (lead m k b (λ e. absurd (omega arith)))
         by (no p) (no q) = let e : m ≡ r = omega arith in rw e (≤ℤ_refl (f r))
 
-pub decided-leads : (r : Rate) (cs : List Counts) (n : ℕ) → n < numbers r → T (isAllowed r n)
-    → ((m : ℕ) → m < numbers r → T (isAllowed r m) → (m ≡ n → ⊥) → scoreAt r cs m <ℤ scoreAt r cs n) → decided r cs ≡ n
-decided-leads r cs n h a lead = decided-is r cs n (leads-best h a lead)
+pub decided_leads_lem : (r : Rate) (cs : List Counts) (n : ℕ) → n < numbers r → T (is_allowed r n)
+    → ((m : ℕ) → m < numbers r → T (is_allowed r m) → (m ≡ n → ⊥) → score_at r cs m <ℤ score_at r cs n) → decided r cs ≡ n
+decided_leads_lem r cs n h a lead = decided_is r cs n (leads_best h a lead)

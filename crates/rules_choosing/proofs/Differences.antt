@@ -1,7 +1,7 @@
 -- How two CCK words stand to each other hangs on their phases' differences alone: the chips at which they agree and
 -- those at which they are opposed are counted by the turns from one to the other.
---     difference, difference_below, difference-none    the difference of two numbers, and that of one number
---     cck-agreeing, cck-opposed                        the chips of two words, by their difference
+--     difference, difference_below, difference_none    the difference of two numbers, and that of one number
+--     cck_agreeing, cck_opposed                        the chips of two words, by their difference
 -- Assumes nothing.
 use mathlib.Core.Path.{◌≡◌, refl, sym, ap, ◌∙◌, subst}
 use mathlib.Core.Bool.{Bool, true, false}
@@ -11,9 +11,9 @@ use native.Mathlib.Omega.{arith}
 use lib.Dec.{T, eqb, eqb→eq}
 use borrow.Author.Tests.{eq-eqb}
 use Rattle.rules_chips.specs.Chips.{turned}
-use Rattle.rules_symbols.specs.Words.{cckWord, cckNumber, cckOf, p1Of, p2Of, p3Of, p4Of}
+use Rattle.rules_symbols.specs.Words.{cck_word, cck_number, cck_of, p1_of, p2_of, p3_of, p4_of}
 use Rattle.rules_symbols.proofs.Words.{turn}
-use Rattle.rules_symbols.proofs.Numbers.{number-back, p1-back, p2-back, p3-back, p4-back, number-below}
+use Rattle.rules_symbols.proofs.Numbers.{number_back, p1_back, p2_back, p3_back, p4_back, number_below}
 use Rattle.rules_symbols.proofs.Agreement.{one, agreeing, opposed}
 
 iff : (a b : Bool) → (T a → T b) → (T b → T a) → a ≡ b
@@ -30,8 +30,8 @@ is x y e = subst T (sym (eq-eqb x y e)) tt
 abbrev pub between : ℕ → ℕ → ℕ
 between a b = (b + 3 * a) % 4
 
-same-chip : (a b : ℕ) → eqb (a % 4) (b % 4) ≡ eqb (between a b) 0
-same-chip a b =
+same_chip : (a b : ℕ) → eqb (a % 4) (b % 4) ≡ eqb (between a b) 0
+same_chip a b =
     iff (eqb (a % 4) (b % 4)) (eqb (between a b) 0)
     (λ t. is (between a b) 0 (there (eqb→eq (a % 4) (b % 4) t)))
     (λ t. is (a % 4) (b % 4) (back (eqb→eq (between a b) 0 t)))
@@ -42,8 +42,8 @@ same-chip a b =
     back : between a b ≡ 0 → a % 4 ≡ b % 4
     back e = omega arith
 
-half-chip : (a b : ℕ) → eqb (turned (a % 4) 2) (b % 4) ≡ eqb (between a b) 2
-half-chip a b =
+half_chip : (a b : ℕ) → eqb (turned (a % 4) 2) (b % 4) ≡ eqb (between a b) 2
+half_chip a b =
     iff (eqb (turned (a % 4) 2) (b % 4)) (eqb (between a b) 2)
     (λ t. is (between a b) 2 (there (eqb→eq (turned (a % 4) 2) (b % 4) t)))
     (λ t. is (turned (a % 4) 2) (b % 4) (back (eqb→eq (between a b) 2 t)))
@@ -59,24 +59,24 @@ turns [] bs = []
 turns (a ∷ xs) [] = []
 turns (a ∷ xs) (b ∷ bs) = between a b ∷ turns xs bs
 
-unfoldable pub howMany : ℕ → List ℕ → ℕ
-howMany j [] = 0
-howMany j (x ∷ xs) = one (eqb x j) + howMany j xs
+unfoldable pub how_many : ℕ → List ℕ → ℕ
+how_many j [] = 0
+how_many j (x ∷ xs) = one (eqb x j) + how_many j xs
 
 abbrev phases : List ℕ → List ℕ
 phases xs = map (λ a. a % 4) xs
 
-agreeing-turns : (xs bs : List ℕ) → agreeing (phases xs) (phases bs) ≡ howMany 0 (turns xs bs)
-unfolding agreeing turns howMany
-agreeing-turns [] bs = refl
-agreeing-turns (a ∷ xs) [] = refl
-agreeing-turns (a ∷ xs) (b ∷ bs) = λ i. one (same-chip a b i) + agreeing-turns xs bs i
+agreeing_turns : (xs bs : List ℕ) → agreeing (phases xs) (phases bs) ≡ how_many 0 (turns xs bs)
+unfolding agreeing turns how_many
+agreeing_turns [] bs = refl
+agreeing_turns (a ∷ xs) [] = refl
+agreeing_turns (a ∷ xs) (b ∷ bs) = λ i. one (same_chip a b i) + agreeing_turns xs bs i
 
-opposed-turns : (xs bs : List ℕ) → opposed (phases xs) (phases bs) ≡ howMany 2 (turns xs bs)
-unfolding opposed turns howMany
-opposed-turns [] bs = refl
-opposed-turns (a ∷ xs) [] = refl
-opposed-turns (a ∷ xs) (b ∷ bs) = λ i. one (half-chip a b i) + opposed-turns xs bs i
+opposed_turns : (xs bs : List ℕ) → opposed (phases xs) (phases bs) ≡ how_many 2 (turns xs bs)
+unfolding opposed turns how_many
+opposed_turns [] bs = refl
+opposed_turns (a ∷ xs) [] = refl
+opposed_turns (a ∷ xs) (b ∷ bs) = λ i. one (half_chip a b i) + opposed_turns xs bs i
 
 -- ---- the turns between two CCK words
 -- a word's chips before they are taken modulo 4
@@ -92,9 +92,9 @@ sums p1 p2 p3 p4 =
     ∷ p1
     ∷ []
 
-cck-sums : (p1 p2 p3 p4 : ℕ) → cckWord p1 p2 p3 p4 ≡ phases (sums p1 p2 p3 p4)
-unfolding cckWord
-cck-sums p1 p2 p3 p4 = refl
+cck_sums : (p1 p2 p3 p4 : ℕ) → cck_word p1 p2 p3 p4 ≡ phases (sums p1 p2 p3 p4)
+unfolding cck_word
+cck_sums p1 p2 p3 p4 = refl
 
 -- those between words whose phases differ by so much: the two minus signs are gone
 abbrev pub apart : ℕ → ℕ → ℕ → ℕ → List ℕ
@@ -164,67 +164,67 @@ module _ (p1 p2 p3 p4 q1 q2 q3 q4 : ℕ) where
   c6 : between (p1 + p2 + 2) (q1 + q2 + 2) ≡ (u1 % 4 + u2 % 4) % 4
   c6 = mod4 {b = u1 + u2 + 8} (omega arith) (eight u1 u2)
 
-  turns-apart : turns (sums p1 p2 p3 p4) (sums q1 q2 q3 q4) ≡ apart (u1 % 4) (u2 % 4) (u3 % 4) (u4 % 4)
+  turns_apart : turns (sums p1 p2 p3 p4) (sums q1 q2 q3 q4) ≡ apart (u1 % 4) (u2 % 4) (u3 % 4) (u4 % 4)
   unfolding turns
-  turns-apart = λ i. c0 i ∷ c1 i ∷ c2 i ∷ c3 i ∷ c4 i ∷ c5 i ∷ c6 i ∷ once u1 i ∷ []
+  turns_apart = λ i. c0 i ∷ c1 i ∷ c2 i ∷ c3 i ∷ c4 i ∷ c5 i ∷ c6 i ∷ once u1 i ∷ []
 
 -- the number of a difference, and the turns of a number
-abbrev pub apartOf : ℕ → List ℕ
-apartOf d = apart (p1Of d) (p2Of d) (p3Of d) (p4Of d)
+abbrev pub apart_of : ℕ → List ℕ
+apart_of d = apart (p1_of d) (p2_of d) (p3_of d) (p4_of d)
 
 module _ (n w : ℕ) where
   abbrev pub d1 : ℕ
-  d1 = between (p1Of n) (p1Of w)
+  d1 = between (p1_of n) (p1_of w)
 
   abbrev pub d2 : ℕ
-  d2 = between (p2Of n) (p2Of w)
+  d2 = between (p2_of n) (p2_of w)
 
   abbrev pub d3 : ℕ
-  d3 = between (p3Of n) (p3Of w)
+  d3 = between (p3_of n) (p3_of w)
 
   abbrev pub d4 : ℕ
-  d4 = between (p4Of n) (p4Of w)
+  d4 = between (p4_of n) (p4_of w)
 
   abbrev pub difference : ℕ
-  difference = cckNumber d1 d2 d3 d4
+  difference = cck_number d1 d2 d3 d4
 
   pub difference_below : difference < 256
-  difference_below = number-below d1 d2 d3 d4 (turn _) (turn _) (turn _) (turn _)
+  difference_below = number_below d1 d2 d3 d4 (turn _) (turn _) (turn _) (turn _)
 
-  cck-turns : turns (sums (p1Of n) (p2Of n) (p3Of n) (p4Of n)) (sums (p1Of w) (p2Of w) (p3Of w) (p4Of w))
-      ≡ apartOf difference
-  cck-turns =
-      turns-apart (p1Of n) (p2Of n) (p3Of n) (p4Of n) (p1Of w) (p2Of w) (p3Of w) (p4Of w)
+  cck_turns : turns (sums (p1_of n) (p2_of n) (p3_of n) (p4_of n)) (sums (p1_of w) (p2_of w) (p3_of w) (p4_of w))
+      ≡ apart_of difference
+  cck_turns =
+      turns_apart (p1_of n) (p2_of n) (p3_of n) (p4_of n) (p1_of w) (p2_of w) (p3_of w) (p4_of w)
       ∙ (λ i. apart
-      (sym (p1-back d1 d2 d3 d4 (turn _) (turn _) (turn _) (turn _)) i)
-      (sym (p2-back d1 d2 d3 d4 (turn _) (turn _) (turn _) (turn _)) i)
-      (sym (p3-back d1 d2 d3 d4 (turn _) (turn _) (turn _) (turn _)) i)
-      (sym (p4-back d1 d2 d3 d4 (turn _) (turn _) (turn _) (turn _)) i))
+      (sym (p1_back d1 d2 d3 d4 (turn _) (turn _) (turn _) (turn _)) i)
+      (sym (p2_back d1 d2 d3 d4 (turn _) (turn _) (turn _) (turn _)) i)
+      (sym (p3_back d1 d2 d3 d4 (turn _) (turn _) (turn _) (turn _)) i)
+      (sym (p4_back d1 d2 d3 d4 (turn _) (turn _) (turn _) (turn _)) i))
 
-  pub cck-agreeing : agreeing (cckOf n) (cckOf w) ≡ howMany 0 (apartOf difference)
-  cck-agreeing =
-      (λ i. agreeing (cck-sums (p1Of n) (p2Of n) (p3Of n) (p4Of n) i) (cck-sums (p1Of w) (p2Of w) (p3Of w) (p4Of w) i))
-      ∙ agreeing-turns (sums (p1Of n) (p2Of n) (p3Of n) (p4Of n)) (sums (p1Of w) (p2Of w) (p3Of w) (p4Of w))
-      ∙ ap (howMany 0) cck-turns
+  pub cck_agreeing : agreeing (cck_of n) (cck_of w) ≡ how_many 0 (apart_of difference)
+  cck_agreeing =
+      (λ i. agreeing (cck_sums (p1_of n) (p2_of n) (p3_of n) (p4_of n) i) (cck_sums (p1_of w) (p2_of w) (p3_of w) (p4_of w) i))
+      ∙ agreeing_turns (sums (p1_of n) (p2_of n) (p3_of n) (p4_of n)) (sums (p1_of w) (p2_of w) (p3_of w) (p4_of w))
+      ∙ ap (how_many 0) cck_turns
 
-  pub cck-opposed : opposed (cckOf n) (cckOf w) ≡ howMany 2 (apartOf difference)
-  cck-opposed =
-      (λ i. opposed (cck-sums (p1Of n) (p2Of n) (p3Of n) (p4Of n) i) (cck-sums (p1Of w) (p2Of w) (p3Of w) (p4Of w) i))
-      ∙ opposed-turns (sums (p1Of n) (p2Of n) (p3Of n) (p4Of n)) (sums (p1Of w) (p2Of w) (p3Of w) (p4Of w))
-      ∙ ap (howMany 2) cck-turns
+  pub cck_opposed : opposed (cck_of n) (cck_of w) ≡ how_many 2 (apart_of difference)
+  cck_opposed =
+      (λ i. opposed (cck_sums (p1_of n) (p2_of n) (p3_of n) (p4_of n) i) (cck_sums (p1_of w) (p2_of w) (p3_of w) (p4_of w) i))
+      ∙ opposed_turns (sums (p1_of n) (p2_of n) (p3_of n) (p4_of n)) (sums (p1_of w) (p2_of w) (p3_of w) (p4_of w))
+      ∙ ap (how_many 2) cck_turns
 
   -- words that do not differ are one
-  pub difference-none : n < 256 → w < 256 → difference ≡ 0 → n ≡ w
-  difference-none hn hw e =
-      sym (number-back n hn)
+  pub difference_none : n < 256 → w < 256 → difference ≡ 0 → n ≡ w
+  difference_none hn hw e =
+      sym (number_back n hn)
       ∙ (λ i. cckNumber
-      (alike (p1Of n) (p1Of w) (turn _) (turn _) none.0 i)
-      (alike (p2Of n) (p2Of w) (turn _) (turn _) none.1 i)
-      (alike (p3Of n) (p3Of w) (turn _) (turn _) none.2 i)
-      (alike (p4Of n) (p4Of w) (turn _) (turn _) none.3 i))
-      ∙ number-back w hw
+      (alike (p1_of n) (p1_of w) (turn _) (turn _) none.0 i)
+      (alike (p2_of n) (p2_of w) (turn _) (turn _) none.1 i)
+      (alike (p3_of n) (p3_of w) (turn _) (turn _) none.2 i)
+      (alike (p4_of n) (p4_of w) (turn _) (turn _) none.3 i))
+      ∙ number_back w hw
     where
-      zeros : (a b c d : ℕ) → cckNumber a b c d ≡ 0 → (a ≡ 0) × (b ≡ 0) × (c ≡ 0) × (d ≡ 0)
+      zeros : (a b c d : ℕ) → cck_number a b c d ≡ 0 → (a ≡ 0) × (b ≡ 0) × (c ≡ 0) × (d ≡ 0)
       zeros a b c d z = (omega arith, omega arith, omega arith, omega arith)
 
       none : (d1 ≡ 0) × (d2 ≡ 0) × (d3 ≡ 0) × (d4 ≡ 0)

@@ -6,15 +6,15 @@ use lib.ListN.{replicate}
 use lib.IntN.{pos, neg_ℤ}
 use Rattle.rules_rates.specs.declared.Rate.TheVariants.{Eleven}
 use Rattle.rules_chips.specs.declared.Chip.TheVariants.{Lost}
-use Rattle.rules_chips.specs.Chips.{countsOf}
-use Rattle.rules_symbols.specs.Words.{cckWord}
-use Rattle.rules_symbols.specs.Choice.{score, those, going, firstLargest, decided}
+use Rattle.rules_chips.specs.Chips.{counts_of}
+use Rattle.rules_symbols.specs.Words.{cck_word}
+use Rattle.rules_symbols.specs.Choice.{score, those, going, first_largest, decided}
 use Rattle.rules_choosing.specs.Keys.{larger, smaller, bigger, lesser}
 
 -- eight lost chips at 11 Mbit/s are word 0
-pub lost-eleven : decided Eleven (map countsOf (replicate 8 Lost)) ≡ 0
-unfolding cckWord score those going firstLargest decided
-lost-eleven = refl
+pub lost_eleven : decided Eleven (map counts_of (replicate 8 Lost)) ≡ 0
+unfolding cck_word score those going first_largest decided
+lost_eleven = refl
 
 -- of whole numbers and of keys, in either order
 pub of_two :

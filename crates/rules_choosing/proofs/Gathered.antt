@@ -1,6 +1,6 @@
 -- Bytes gathered out of rows of sixteen symbols, one from each pair of rows: the first k of n stand in the array, and
 -- they are small.
---     gathered_none, gathered-more, gathered-all    before the loop, one byte more, at its end
+--     gathered_none, gathered_more, gathered_all    before the loop, one byte more, at its end
 -- Assumes nothing.
 use mathlib.Core.Path.{◌≡◌}
 use mathlib.Core.List.{List}
@@ -11,8 +11,8 @@ use lib.IntN.{ℤ, pos}
 use borrow.Author.Count.{below_more}
 use Rattle.base.specs.Tables.{tabulate, Filled}
 use Rattle.base.specs.Whole.{Within}
-use Rattle.base.proofs.Tables.{filled_none, filled_more, filled-all, filled-with}
-use Rattle.base.proofs.Whole.{within-zero}
+use Rattle.base.proofs.Tables.{filled_none, filled_more, filled_all, filled_with}
+use Rattle.base.proofs.Whole.{within_zero}
 use Rattle.rules_choosing.specs.Scores.{RowWithin}
 
 abbrev pub byte_at : List ℤ → ℕ → ℕ → ℤ
@@ -27,13 +27,13 @@ gathered_none n row from out e =
     record { filled = filled_none (byte_at row from) n out e; small = λ j h. absurd (omega arith) }
 
 module _ {n : ℕ} {row : List ℤ} {from : ℕ} {out : List ℤ} {k : ℕ} (g : Gathered n row from out k) where
-  pub gathered-more : (v : ℤ) → k < n → v ≡ byte_at row from k → Within 128 (byte_at row from k)
+  pub gathered_more : (v : ℤ) → k < n → v ≡ byte_at row from k → Within 128 (byte_at row from k)
       → Gathered n row from (set out k v) (k + 1)
-  gathered-more v l e s =
+  gathered_more v l e s =
       record { filled = filled_more v g.filled l e; small = below_more _ _ g.small s }
 
-  pub gathered-all : n ≤ k → (out ≡ tabulate (byte_at row from) n) × RowWithin 128 out
-  gathered-all l = (
-    filled-all g.filled l,
-    record { at = filled-with (Within 128) (pos 0) (within-zero 128) g.filled g.small l },
+  pub gathered_all : n ≤ k → (out ≡ tabulate (byte_at row from) n) × RowWithin 128 out
+  gathered_all l = (
+    filled_all g.filled l,
+    record { at = filled_with (Within 128) (pos 0) (within_zero 128) g.filled g.small l },
   )

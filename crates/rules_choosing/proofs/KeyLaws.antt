@@ -10,11 +10,11 @@ use native.Mathlib.Decide.{dec_lt}
 use native.Mathlib.Omega.{arith}
 use lib.IntN.{ℤ, pos, negsuc, neg_ℤ}
 use lib.Signed.{◌≤ℤ◌, ◌<ℤ◌, ≤ℤ_refl}
-use Rattle.base.proofs.Whole.{le_of, lt_of, of_le, of_lt, up_pos, dn-pos}
-use Rattle.rules_symbols.specs.Choice.{firstLargest}
+use Rattle.base.proofs.Whole.{le_of, lt_of, of_le, of_lt, up_pos, dn_pos}
+use Rattle.rules_symbols.specs.Choice.{first_largest}
 use Rattle.rules_choosing.specs.Scores.{up_to, BestOf, NextTo}
-use Rattle.rules_choosing.specs.Keys.{keyOf, Largest, TwoLargest}
-use Rattle.rules_choosing.proofs.Best.{best-unique, up-best}
+use Rattle.rules_choosing.specs.Keys.{key_of, Largest, TwoLargest}
+use Rattle.rules_choosing.proofs.Best.{best_unique, up_best}
 
 module _ (h : ℕ) (f : ℕ → ℤ) where
   -- the better word of n and n + h, and its key
@@ -32,8 +32,8 @@ module _ (h : ℕ) (f : ℕ → ℤ) where
   at P m j z e d t = subst P (sym (ap f e ∙ d)) t
 
   -- the key made of the score
-  pub better : (n : ℕ) (z : ℤ) → n < h → f n ≡ z → f (n + h) ≡ neg_ℤ z → Better n (keyOf h n z)
-  unfolding keyOf
+  pub better : (n : ℕ) (z : ℤ) → n < h → f n ≡ z → f (n + h) ≡ neg_ℤ z → Better n (key_of h n z)
+  unfolding key_of
   better n (pos s) l a b = record {
     number = n;
     size = s;
@@ -58,16 +58,16 @@ module _ (h : ℕ) (f : ℕ → ℤ) where
   }
 
   module _ {n k : ℕ} (l : n < h) (b : Better n k) where
-    pub number-below : b.number < h + h
-    number-below = ⊎_elim (λ e. omega arith) (λ e. omega arith) b.one_of
+    pub number_below : b.number < h + h
+    number_below = ⊎_elim (λ e. omega arith) (λ e. omega arith) b.one_of
 
     -- neither is above the size
-    at-most : (m : ℕ) → (m ≡ n) ⊎ (m ≡ n + h) → f m ≤ℤ pos b.size
-    at-most m w = by (dec_lt m b.number) (dec_lt b.number m)
+    at_most_lem : (m : ℕ) → (m ≡ n) ⊎ (m ≡ n + h) → f m ≤ℤ pos b.size
+    at_most_lem m w = by (dec_lt m b.number) (dec_lt b.number m)
       where
         low : f m ≤ℤ pos 0 → f m ≤ℤ pos b.size
         low c = le_of (f m) (pos b.size)
-            (omega (arith, of_le (f m) (pos 0) c, up_pos 0, dn-pos 0, up_pos b.size, dn-pos b.size))
+            (omega (arith, of_le (f m) (pos 0) c, up_pos 0, dn_pos 0, up_pos b.size, dn_pos b.size))
 
         by : Dec (m < b.number) → Dec (b.number < m) → f m ≤ℤ pos b.size
         by (yes x) y = low (b.worse m w (λ e. omega arith))
@@ -104,13 +104,13 @@ module _ (h : ℕ) (f : ℕ → ℤ) (k : ℕ → ℕ) (b : (j : ℕ) → j < h 
   top j l = omega (arith, t.top j (omega arith) l, t.is)
 
   -- of two keys, one not above the other
-  size-le : (i j : ℕ) (li : i < h) (lj : j < h) → k i ≤ k j → (b i li).size ≤ (b j lj).size
-  size-le i j li lj le =
+  size_le : (i j : ℕ) (li : i < h) (lj : j < h) → k i ≤ k j → (b i li).size ≤ (b j lj).size
+  size_le i j li lj le =
       sizes (h + h) (b i li).size (b j lj).size (h + h - 1 - (b i li).number) (h + h - 1 - (b j lj).number)
       (omega arith) (omega arith) (omega (arith, (b i li).is, (b j lj).is))
 
   size_top : (j : ℕ) (l : j < h) → (b j l).size ≤ bp.size
-  size_top j l = size-le j t.p l t.to (top j l)
+  size_top j l = size_le j t.p l t.to (top j l)
 
   ties : (j : ℕ) (l : j < h) → (b j l).size ≡ bp.size → bp.number ≤ (b j l).number
   ties j l e =
@@ -120,29 +120,29 @@ module _ (h : ℕ) (f : ℕ → ℤ) (k : ℕ → ℕ) (b : (j : ℕ) → j < h 
         (b j l).is,
         bp.is,
         ap (λ (s : ℕ). (h + h) * s) e,
-        number-below h f l (b j l),
-        number-below h f t.to bp,
+        number_below h f l (b j l),
+        number_below h f t.to bp,
       )
 
   below : (m s r : ℕ) → f m ≤ℤ pos s → s < r → f m <ℤ pos r
-  below m s r c l = lt_of (f m) (pos r) (omega (arith, of_le (f m) (pos s) c, up_pos s, dn-pos s, up_pos r, dn-pos r))
+  below m s r c l = lt_of (f m) (pos r) (omega (arith, of_le (f m) (pos s) c, up_pos s, dn_pos s, up_pos r, dn_pos r))
 
   upto : (m s r : ℕ) → f m ≤ℤ pos s → s ≤ r → f m ≤ℤ pos r
-  upto m s r c l = le_of (f m) (pos r) (omega (arith, of_le (f m) (pos s) c, up_pos s, dn-pos s, up_pos r, dn-pos r))
+  upto m s r c l = le_of (f m) (pos r) (omega (arith, of_le (f m) (pos s) c, up_pos s, dn_pos s, up_pos r, dn_pos r))
 
   under : (m r : ℕ) → f m <ℤ pos 0 → f m <ℤ pos r
-  under m r c = lt_of (f m) (pos r) (omega (arith, of_lt (f m) (pos 0) c, up_pos 0, dn-pos 0, up_pos r, dn-pos r))
+  under m r c = lt_of (f m) (pos r) (omega (arith, of_lt (f m) (pos 0) c, up_pos 0, dn_pos 0, up_pos r, dn_pos r))
 
-  keys-best : BestOf (λ j. true) (h + h) f bp.number
-  keys-best = record {
-    among = number-below h f t.to bp;
+  keys_best : BestOf (λ j. true) (h + h) f bp.number
+  keys_best = record {
+    among = number_below h f t.to bp;
     allowed = tt;
     top = λ m l a. rw bp.score (high m (pair_of h f m l));
-    first = λ m l a. rw bp.score (strict m l (pair_of h f m (omega (arith, number-below h f t.to bp))));
+    first = λ m l a. rw bp.score (strict m l (pair_of h f m (omega (arith, number_below h f t.to bp))));
   }
     where
       high : (m : ℕ) → PairOf h f m → f m ≤ℤ pos bp.size
-      high m o = upto m (b o.n o.low).size bp.size (at-most h f o.low (b o.n o.low) m o.side)
+      high m o = upto m (b o.n o.low).size bp.size (at_most_lem h f o.low (b o.n o.low) m o.side)
           (size_top o.n o.low)
 
       strict : (m : ℕ) → m < bp.number → PairOf h f m → f m <ℤ pos bp.size
@@ -152,7 +152,7 @@ module _ (h : ℕ) (f : ℕ → ℤ) (k : ℕ → ℕ) (b : (j : ℕ) → j < h 
           bj = b o.n o.low
 
           by : Dec (bj.size < bp.size) → f m <ℤ pos bp.size
-          by (yes y) = below m bj.size bp.size (at-most h f o.low bj m o.side) y
+          by (yes y) = below m bj.size bp.size (at_most_lem h f o.low bj m o.side) y
           by (no y) =
               let e : bj.size ≡ bp.size = omega (arith, size_top o.n o.low) in
               under m bp.size (bj.less m o.side (omega (arith, ties o.n o.low e)))
@@ -160,11 +160,11 @@ module _ (h : ℕ) (f : ℕ → ℤ) (k : ℕ → ℕ) (b : (j : ℕ) → j < h 
   -- the number of the word and its score are read off a key
   module _ {n y : ℕ} (l : n < h) (e : y ≡ k n) where
     few : h + h - 1 - (b n l).number < h + h
-    few = let m = number-below h f l (b n l) in omega arith
+    few = let m = number_below h f l (b n l) in omega arith
 
     number_is : (b n l).number ≡ h + h - 1 - y % (h + h)
     number_is =
-        let m = number-below h f l (b n l) in
+        let m = number_below h f l (b n l) in
         let rest : y % (h + h) ≡ h + h - 1 - (b n l).number =
         ap (λ (z : ℕ). z % (h + h)) (e ∙ (b n l).is)
         ∙ mul-add-mod_self_left (h + h) (b n l).size (h + h - 1 - (b n l).number)
@@ -177,9 +177,9 @@ module _ (h : ℕ) (f : ℕ → ℤ) (k : ℕ → ℕ) (b : (j : ℕ) → j < h 
         ∙ mul-add-div (omega arith) (b n l).size (h + h - 1 - (b n l).number)
         ∙ ap (λ (z : ℕ). (b n l).size + z) (div-eq_of_lt few) ∙ omega arith)
 
-  pub number_by : firstLargest f (up_to (h + h)) ≡ h + h - 1 - x % (h + h)
+  pub number_by : first_largest f (up_to (h + h)) ≡ h + h - 1 - x % (h + h)
   number_by =
-      best-unique (up-best f (h + h) (omega (arith, t.to))) keys-best ∙ number_is t.to t.is
+      best_unique (up_best f (h + h) (omega (arith, t.to))) keys_best ∙ number_is t.to t.is
 
 -- the words of the two largest keys: the best, the one next to it, and their scores
 pub record Ranked (h : ℕ) (f : ℕ → ℤ) (x y : ℕ) : Type 0 where
@@ -187,7 +187,7 @@ pub record Ranked (h : ℕ) (f : ℕ → ℤ) (x y : ℕ) : Type 0 where
   pub best : BestOf (λ j. true) (h + h) f (h + h - 1 - x % (h + h))
   pub next : NextTo (λ j. true) (h + h) f (h + h - 1 - x % (h + h)) second
   pub score : f (h + h - 1 - x % (h + h)) ≡ pos (x / (h + h))
-  pub score-next : f second ≡ pos (y / (h + h))
+  pub score_next : f second ≡ pos (y / (h + h))
 
 module _ (h : ℕ) (f : ℕ → ℤ) (k : ℕ → ℕ) (b : (j : ℕ) → j < h → Better h f j (k j)) {x y : ℕ}
     (t : TwoLargest k 0 h x y) where
@@ -200,9 +200,9 @@ module _ (h : ℕ) (f : ℕ → ℤ) (k : ℕ → ℕ) (b : (j : ℕ) → j < h 
   abbrev second : Better h f t.q (k t.q)
   second = b t.q t.to
 
-  keys-next : NextTo (λ j. true) (h + h) f first.number second.number
-  keys-next = record {
-    among = number-below h f t.to second;
+  keys_next : NextTo (λ j. true) (h + h) f first.number second.number
+  keys_next = record {
+    among = number_below h f t.to second;
     allowed = tt;
     other = λ e. apart e first.one_of second.one_of;
     top = λ m l a d. rw second.score (rest m d (pair_of h f m l));
@@ -220,8 +220,8 @@ module _ (h : ℕ) (f : ℕ → ℤ) (k : ℕ → ℕ) (b : (j : ℕ) → j < h 
         where
           others : (o.n ≡ p → ⊥) → f m ≤ℤ pos second.size
           others ne = upto h f k b t.largest m (b o.n o.low).size second.size
-              (at-most h f o.low (b o.n o.low) m o.side)
-              (size-le h f k b t.largest o.n t.q o.low t.to
+              (at_most_lem h f o.low (b o.n o.low) m o.side)
+              (size_le h f k b t.largest o.n t.q o.low t.to
               (omega (arith, t.next o.n (omega arith) o.low ne, t.is)))
 
           by : Dec (o.n < p) → Dec (p < o.n) → f m ≤ℤ pos second.size
@@ -237,9 +237,9 @@ module _ (h : ℕ) (f : ℕ → ℤ) (k : ℕ → ℕ) (b : (j : ℕ) → j < h 
       let e = number_is h f k b t.largest t.largest.to t.largest.is in
       record {
         second = second.number;
-        best = subst (BestOf (λ j. true) (h + h) f) e (keys-best h f k b t.largest);
-        next = subst (λ (n : ℕ). NextTo (λ j. true) (h + h) f n second.number) e keys-next;
+        best = subst (BestOf (λ j. true) (h + h) f) e (keys_best h f k b t.largest);
+        next = subst (λ (n : ℕ). NextTo (λ j. true) (h + h) f n second.number) e keys_next;
         score = ap f (sym e) ∙ first.score
             ∙ ap pos (size_is h f k b t.largest t.largest.to t.largest.is);
-        score-next = second.score ∙ ap pos (size_is h f k b t.largest t.to t.is);
+        score_next = second.score ∙ ap pos (size_is h f k b t.largest t.to t.is);
       }

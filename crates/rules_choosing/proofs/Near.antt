@@ -14,20 +14,20 @@ use lib.ListN.{length}
 use lib.IntN.{ℤ, pos, negsuc, neg_ℤ, ◌+ℤ◌, ◌-ℤ◌, ◌*ℤ◌}
 use lib.Signed.{◌≤ℤ◌, ◌<ℤ◌}
 use Rattle.base.specs.Whole.{up, dn, Within}
-use Rattle.base.proofs.Whole.{add, neg-up, neg-dn, up_pos, dn-pos, le_of, of_le, of_lt, lt_of}
+use Rattle.base.proofs.Whole.{add, neg_up, neg_dn, up_pos, dn_pos, le_of, of_le, of_lt, lt_of}
 use Rattle.rules_chips.specs.declared.Counts.{Counts}
 use Rattle.rules_symbols.specs.Choice.{term, score}
 use Rattle.rules_choosing.specs.Scores.{BestOf}
 
-mul-up : (z : ℤ) (u : ℕ) → up (z *ℤ pos u) ≡ up z * u
+mul_up : (z : ℤ) (u : ℕ) → up (z *ℤ pos u) ≡ up z * u
 unfolding up
-mul-up (pos n) u = refl
-mul-up (negsuc n) u = neg-up (pos (suc n * u)) ∙ dn-pos (suc n * u) ∙ sym (zero-mul u)
+mul_up (pos n) u = refl
+mul_up (negsuc n) u = neg_up (pos (suc n * u)) ∙ dn_pos (suc n * u) ∙ sym (zero-mul u)
 
-mul-dn : (z : ℤ) (u : ℕ) → dn (z *ℤ pos u) ≡ dn z * u
+mul_dn : (z : ℤ) (u : ℕ) → dn (z *ℤ pos u) ≡ dn z * u
 unfolding dn
-mul-dn (pos n) u = sym (zero-mul u)
-mul-dn (negsuc n) u = neg-dn (pos (suc n * u)) ∙ up_pos (suc n * u)
+mul_dn (pos n) u = sym (zero-mul u)
+mul_dn (negsuc n) u = neg_dn (pos (suc n * u)) ∙ up_pos (suc n * u)
 
 module _ (u : ℕ) where
   -- k counts of u steps each are at most b steps from m
@@ -35,35 +35,35 @@ module _ (u : ℕ) where
     pub high : up k * u + dn m ≤ b + (dn k * u + up m)
     pub low : dn k * u + up m ≤ b + (up k * u + dn m)
 
-  pub off-within : {b : ℕ} (k m : ℤ) → Within b ((k *ℤ pos u) -ℤ m) → Off b k m
-  off-within {b} k m w = record {
-    high = omega (arith, w.high, add (k *ℤ pos u) (neg_ℤ m), neg-up m, neg-dn m, mul-up k u, mul-dn k u);
-    low = omega (arith, w.low, add (k *ℤ pos u) (neg_ℤ m), neg-up m, neg-dn m, mul-up k u, mul-dn k u);
+  pub off_within : {b : ℕ} (k m : ℤ) → Within b ((k *ℤ pos u) -ℤ m) → Off b k m
+  off_within {b} k m w = record {
+    high = omega (arith, w.high, add (k *ℤ pos u) (neg_ℤ m), neg_up m, neg_dn m, mul_up k u, mul_dn k u);
+    low = omega (arith, w.low, add (k *ℤ pos u) (neg_ℤ m), neg_up m, neg_dn m, mul_up k u, mul_dn k u);
   }
 
-  off-none : (b : ℕ) → Off b (pos 0) (pos 0)
+  off_none : (b : ℕ) → Off b (pos 0) (pos 0)
   unfolding up dn
-  off-none b = record { high = omega arith; low = omega arith }
+  off_none b = record { high = omega arith; low = omega arith }
 
-  off-more : {b d : ℕ} {k m : ℤ} → b ≤ d → Off b k m → Off d k m
-  off-more le h = record { high = omega (arith, h.high); low = omega (arith, h.low) }
+  off_more : {b d : ℕ} {k m : ℤ} → b ≤ d → Off b k m → Off d k m
+  off_more le h = record { high = omega (arith, h.high); low = omega (arith, h.low) }
 
-  off-neg : {b : ℕ} (k m : ℤ) → Off b k m → Off b (neg_ℤ k) (neg_ℤ m)
-  off-neg k m h = record {
-    high = rw (neg-up k, neg-dn k, neg-up m, neg-dn m) h.low;
+  off_neg : {b : ℕ} (k m : ℤ) → Off b k m → Off b (neg_ℤ k) (neg_ℤ m)
+  off_neg k m h = record {
+    high = rw (neg_up k, neg_dn k, neg_up m, neg_dn m) h.low;
     low = rw
-        (neg-up k, neg-dn k, neg-up m, neg-dn m) h.high;
+        (neg_up k, neg_dn k, neg_up m, neg_dn m) h.high;
   }
 
   -- a sum of counts in steps
-  add-steps : (k j : ℤ) → up (k +ℤ j) * u + (dn k * u + dn j * u) ≡ dn (k +ℤ j) * u + (up k * u + up j * u)
-  add-steps k j =
+  add_steps : (k j : ℤ) → up (k +ℤ j) * u + (dn k * u + dn j * u) ≡ dn (k +ℤ j) * u + (up k * u + up j * u)
+  add_steps k j =
       simp add-mul at (ap (λ (n : ℕ). n * u) (add k j))
 
-  off-add : {b d : ℕ} (k m j n : ℤ) → Off b k m → Off d j n → Off (b + d) (k +ℤ j) (m +ℤ n)
-  off-add k m j n h g = record {
-    high = omega (arith, h.high, g.high, add-steps k j, add m n);
-    low = omega (arith, h.low, g.low, add-steps k j, add m n);
+  off_add : {b d : ℕ} (k m j n : ℤ) → Off b k m → Off d j n → Off (b + d) (k +ℤ j) (m +ℤ n)
+  off_add k m j n h g = record {
+    high = omega (arith, h.high, g.high, add_steps k j, add m n);
+    low = omega (arith, h.low, g.low, add_steps k j, add m n);
   }
 
   -- counts and exact values of one chip, and of a row of chips
@@ -75,20 +75,20 @@ module _ (u : ℕ) where
     none : OffAll b [] []
     more : {c e : Counts} {cs es : List Counts} → OffChip b c e → OffAll b cs es → OffAll b (c ∷ cs) (e ∷ es)
 
-  off-term : {b : ℕ} (p : ℕ) {c e : Counts} → OffChip b c e → Off b (term p c) (term p e)
-  off-term zero h = h.real
-  off-term (suc zero) h = h.imag
-  off-term (suc (suc zero)) h = off-neg _ _ h.real
-  off-term (suc (suc (suc zero))) h = off-neg _ _ h.imag
-  off-term (suc (suc (suc (suc n)))) h = off-none _
+  off_term : {b : ℕ} (p : ℕ) {c e : Counts} → OffChip b c e → Off b (term p c) (term p e)
+  off_term zero h = h.real
+  off_term (suc zero) h = h.imag
+  off_term (suc (suc zero)) h = off_neg _ _ h.real
+  off_term (suc (suc (suc zero))) h = off_neg _ _ h.imag
+  off_term (suc (suc (suc (suc n)))) h = off_none _
 
-  pub off-score : {b : ℕ} (w : List ℕ) {cs es : List Counts} → OffAll b cs es
+  pub off_score : {b : ℕ} (w : List ℕ) {cs es : List Counts} → OffAll b cs es
       → Off (b * length w) (score w cs) (score w es)
   unfolding score
-  off-score [] h = off-none _
-  off-score (p ∷ w) none = off-none _
-  off-score {b} (p ∷ w) (more h t) =
-      off-more (rw (mul-suc b (length w)) (omega arith)) (off-add _ _ _ _ (off-term p h) (off-score w t))
+  off_score [] h = off_none _
+  off_score (p ∷ w) none = off_none _
+  off_score {b} (p ∷ w) (more h t) =
+      off_more (rw (mul-suc b (length w)) (omega arith)) (off_add _ _ _ _ (off_term p h) (off_score w t))
 
 -- ---- the choice by counts, seen by exact scores
 module _ (u e : ℕ) {ok : ℕ → Bool} {n r : ℕ} {f g : ℕ → ℤ} (best : BestOf ok n f r)
@@ -108,13 +108,13 @@ module _ (u e : ℕ) {ok : ℕ → Bool} {n r : ℕ} {f g : ℕ → ℤ} (best :
         y.high,
         add (g r) (pos (e + e)),
         up_pos (e + e),
-        dn-pos
+        dn_pos
             (e + e),
       ))
 
 -- a number that is behind by so many counts that they are more steps than both errors is behind in the exact scores
-pub behind-exact : (u e l : ℕ) (a b x y : ℤ) → Off u e a x → Off u e b y → (a +ℤ pos l) ≤ℤ b → e + e < l * u → x <ℤ y
-behind-exact u e l a b x y oa ob le above =
+pub behind_exact : (u e l : ℕ) (a b x y : ℤ) → Off u e a x → Off u e b y → (a +ℤ pos l) ≤ℤ b → e + e < l * u → x <ℤ y
+behind_exact u e l a b x y oa ob le above =
     lt_of x y (omega (
       arith,
       oa.low,
@@ -123,14 +123,14 @@ behind-exact u e l a b x y oa ob le above =
       simp add-mul at (mul-le-mul_right u (of_le (a +ℤ pos l) b le)),
       simp add-mul at (ap (λ (n : ℕ). n * u) (add a (pos l))),
       ap (λ (n : ℕ). n * u) (up_pos l),
-      ap (λ (n : ℕ). n * u) (dn-pos l),
+      ap (λ (n : ℕ). n * u) (dn_pos l),
       zero-mul u,
     ))
 
 -- a number that leads every other by more than that can be no other than the chosen one
-pub leader-chosen : (d : ℕ) (ok : ℕ → Bool) (g : ℕ → ℤ) {n r : ℕ} → r < n → T (ok r) → (m : ℕ)
+pub leader_chosen : (d : ℕ) (ok : ℕ → Bool) (g : ℕ → ℤ) {n r : ℕ} → r < n → T (ok r) → (m : ℕ)
     → g m ≤ℤ (g r +ℤ pos d) → ((j : ℕ) → j < n → T (ok j) → (j ≡ m → ⊥) → (g j +ℤ pos d) <ℤ g m) → r ≡ m
-leader-chosen d ok g {n} {r} h a m le lead = by (dec_lt r m) (dec_lt m r)
+leader_chosen d ok g {n} {r} h a m le lead = by (dec_lt r m) (dec_lt m r)
   where
     other : (r ≡ m → ⊥) → r ≡ m
     other ne = absurd (omega (arith, of_le (g m) (g r +ℤ pos d) le, of_lt (g r +ℤ pos d) (g m) (lead r h a ne)))

@@ -19,14 +19,14 @@ use lib.Dec.{T}
 use lib.IntN.{ℤ, pos, neg_ℤ, ◌+ℤ◌, ◌*ℤ◌}
 use lib.Signed.{lt_z, ◌≤ℤ◌}
 use Rattle.base.specs.Whole.{up, dn}
-use Rattle.base.proofs.Whole.{add, neg-up, neg-dn, up_pos, dn-pos, same, of_lt, lt_of, of_le, le_of}
+use Rattle.base.proofs.Whole.{add, neg_up, neg_dn, up_pos, dn_pos, same, of_lt, lt_of, of_le, le_of}
 use Rattle.rules_rates.specs.declared.Rate.{Rate}
 use Rattle.rules_chips.specs.declared.Counts.{Counts}
 use Rattle.rules_symbols.specs.Words.{word_of}
-use Rattle.rules_symbols.specs.Choice.{term, score, going, firstLargest, allowed, decided, leadOf}
-use Rattle.rules_choosing.specs.Scores.{scoreAt, NextAs}
-use Rattle.base.proofs.Adding.{times-up, times-dn}
-use Rattle.rules_choosing.proofs.Leads.{runnerUp, runner-next, lead_is}
+use Rattle.rules_symbols.specs.Choice.{term, score, going, first_largest, allowed, decided, lead_of}
+use Rattle.rules_choosing.specs.Scores.{score_at, NextAs}
+use Rattle.base.proofs.Adding.{times_up, times_dn}
+use Rattle.rules_choosing.proofs.Leads.{runner_up, runner_next, lead_is}
 
 iff : (a b : Bool) → (T a → T b) → (T b → T a) → a ≡ b
 iff true true f g = refl
@@ -43,17 +43,17 @@ module _ (t : ℕ) (some : 0 < t) where
   abbrev pub k : ℤ → ℤ
   k z = pos t *ℤ z
 
-  k-neg : (z : ℤ) → neg_ℤ (k z) ≡ k (neg_ℤ z)
-  k-neg z = same (neg_ℤ (k z)) (k (neg_ℤ z)) (omega (
+  k_neg : (z : ℤ) → neg_ℤ (k z) ≡ k (neg_ℤ z)
+  k_neg z = same (neg_ℤ (k z)) (k (neg_ℤ z)) (omega (
     arith,
-    neg-up (k z),
-    neg-dn (k z),
-    ap (λ (x : ℕ). t * x) (neg-up z),
-    ap (λ (x : ℕ). t * x) (neg-dn z),
-    times-up t z,
-    times-dn t z,
-    times-up t (neg_ℤ z),
-    times-dn t (neg_ℤ z),
+    neg_up (k z),
+    neg_dn (k z),
+    ap (λ (x : ℕ). t * x) (neg_up z),
+    ap (λ (x : ℕ). t * x) (neg_dn z),
+    times_up t z,
+    times_dn t z,
+    times_up t (neg_ℤ z),
+    times_dn t (neg_ℤ z),
   ))
 
   pub k_add : (a b : ℤ) → k a +ℤ k b ≡ k (a +ℤ b)
@@ -63,19 +63,19 @@ module _ (t : ℕ) (some : 0 < t) where
     spread (up (a +ℤ b)) (dn a) (dn b),
     spread (dn (a +ℤ b)) (up a) (up b),
     ap (λ (x : ℕ). t * x) (add a b),
-    times-up t a,
-    times-dn t a,
-    times-up t b,
-    times-dn t b,
-    times-up t (a +ℤ b),
-    times-dn t (a +ℤ b),
+    times_up t a,
+    times_dn t a,
+    times_up t b,
+    times_dn t b,
+    times_up t (a +ℤ b),
+    times_dn t (a +ℤ b),
   ))
     where
       spread : (x y z : ℕ) → t * (x + (y + z)) ≡ t * x + (t * y + t * z)
       spread x y z = mul-add t x (y + z) ∙ ap (λ (w : ℕ). t * x + w) (mul-add t y z)
 
-  lt-times : {x y : ℕ} → x < y → t * x < t * y
-  lt-times {x} {y} h = rw (mul_comm t x, mul_comm t y) (mul-lt-mul_of_pos_right h some)
+  lt_times : {x y : ℕ} → x < y → t * x < t * y
+  lt_times {x} {y} h = rw (mul_comm t x, mul_comm t y) (mul-lt-mul_of_pos_right h some)
 
   lt_back : {x y : ℕ} → t * x < t * y → x < y
   lt_back {x} {y} h = lt_of_not-le (λ (g : y ≤ x). not-le_of_lt h (mul-le-mul_left t g))
@@ -84,12 +84,12 @@ module _ (t : ℕ) (some : 0 < t) where
   k_lt a b =
       iff (lt_z (k a) (k b)) (lt_z a b)
       (λ l. (lt_of a b (lt_back (scaled (of_lt (k a) (k b) (record { lt = l }))))).lt)
-      (λ l. (lt_of (k a) (k b) (unscaled (lt-times (of_lt a b (record { lt = l }))))).lt)
+      (λ l. (lt_of (k a) (k b) (unscaled (lt_times (of_lt a b (record { lt = l }))))).lt)
     where
       scaled : up (k a) + dn (k b) < up (k b) + dn (k a) → t * (up a + dn b) < t * (up b + dn a)
       scaled h =
           rw (mul-add t (up a) (dn b), mul-add t (up b) (dn a))
-          (omega (arith, times-up t a, times-dn t a, times-up t b, times-dn t b))
+          (omega (arith, times_up t a, times_dn t a, times_up t b, times_dn t b))
 
       unscaled : t * (up a + dn b) < t * (up b + dn a) → up (k a) + dn (k b) < up (k b) + dn (k a)
       unscaled h =
@@ -97,39 +97,39 @@ module _ (t : ℕ) (some : 0 < t) where
             arith,
             mul-add t (up a) (dn b),
             mul-add t (up b) (dn a),
-            times-up t a,
-            times-dn t a,
-            times-up t b,
-            times-dn t b,
+            times_up t a,
+            times_dn t a,
+            times_up t b,
+            times_dn t b,
           )
 
-  k-le : (a b : ℤ) → a ≤ℤ b → k a ≤ℤ k b
-  k-le a b h =
+  k_le : (a b : ℤ) → a ≤ℤ b → k a ≤ℤ k b
+  k_le a b h =
       le_of (k a) (k b) (omega (
         arith,
         mul-le-mul_left t (of_le a b h),
         mul-add t (up a) (dn b),
         mul-add t (up b) (dn a),
-        times-up t a,
-        times-dn t a,
-        times-up t b,
-        times-dn t b,
+        times_up t a,
+        times_dn t a,
+        times_up t b,
+        times_dn t b,
       ))
 
   -- ---- scores
-  pub term-times : (p : ℕ) {c u : Counts} → Times t c u → term p c ≡ k (term p u)
-  term-times zero h = h.real
-  term-times (suc zero) h = h.imag
-  term-times (suc (suc zero)) {c} {u} h = ap neg_ℤ h.real ∙ k-neg u.i
-  term-times (suc (suc (suc zero))) {c} {u} h = ap neg_ℤ h.imag ∙ k-neg u.q
-  term-times (suc (suc (suc (suc p)))) h = ap pos (sym (mul-zero t))
+  pub term_times : (p : ℕ) {c u : Counts} → Times t c u → term p c ≡ k (term p u)
+  term_times zero h = h.real
+  term_times (suc zero) h = h.imag
+  term_times (suc (suc zero)) {c} {u} h = ap neg_ℤ h.real ∙ k_neg u.i
+  term_times (suc (suc (suc zero))) {c} {u} h = ap neg_ℤ h.imag ∙ k_neg u.q
+  term_times (suc (suc (suc (suc p)))) h = ap pos (sym (mul-zero t))
 
   module _ {A : Type 0} (f g : A → Counts) (h : (a : A) → Times t (f a) (g a)) where
-    score-times : (w : List ℕ) (l : List A) → score w (map f l) ≡ k (score w (map g l))
+    score_times : (w : List ℕ) (l : List A) → score w (map f l) ≡ k (score w (map g l))
     unfolding score
-    score-times [] l = ap pos (sym (mul-zero t))
-    score-times (p ∷ w) [] = ap pos (sym (mul-zero t))
-    score-times (p ∷ w) (a ∷ l) = (λ i. term-times p (h a) i +ℤ score-times w l i)
+    score_times [] l = ap pos (sym (mul-zero t))
+    score_times (p ∷ w) [] = ap pos (sym (mul-zero t))
+    score_times (p ∷ w) (a ∷ l) = (λ i. term_times p (h a) i +ℤ score_times w l i)
         ∙ k_add (term p (g a)) (score w (map g l))
 
   -- ---- the first largest
@@ -137,27 +137,27 @@ module _ (t : ℕ) (some : 0 < t) where
     lt_same : (a b : ℕ) → lt_z (f a) (f b) ≡ lt_z (g a) (g b)
     lt_same a b = (λ i. lt_z (e a i) (e b i)) ∙ k_lt (g a) (g b)
 
-    going-same : (b : ℕ) (ns : List ℕ) → going f b ns ≡ going g b ns
+    going_same : (b : ℕ) (ns : List ℕ) → going f b ns ≡ going g b ns
     unfolding going
-    going-same b [] = refl
-    going-same b (n ∷ ns) =
-        ap (λ (t : Bool). going f (cond t n b) ns) (lt_same b n) ∙ going-same (cond (lt_z (g b) (g n)) n b) ns
+    going_same b [] = refl
+    going_same b (n ∷ ns) =
+        ap (λ (t : Bool). going f (cond t n b) ns) (lt_same b n) ∙ going_same (cond (lt_z (g b) (g n)) n b) ns
 
-    first-same : (ns : List ℕ) → firstLargest f ns ≡ firstLargest g ns
-    unfolding firstLargest
-    first-same [] = refl
-    first-same (n ∷ ns) = going-same n ns
+    first_same : (ns : List ℕ) → first_largest f ns ≡ first_largest g ns
+    unfolding first_largest
+    first_same [] = refl
+    first_same (n ∷ ns) = going_same n ns
 
   module _ {A : Type 0} (f g : A → Counts) (h : (a : A) → Times t (f a) (g a)) (r : Rate) (l : List A) where
-    scores : (n : ℕ) → scoreAt r (map f l) n ≡ k (scoreAt r (map g l) n)
-    scores n = score-times f g h (word_of r n) l
+    scores : (n : ℕ) → score_at r (map f l) n ≡ k (score_at r (map g l) n)
+    scores n = score_times f g h (word_of r n) l
 
     -- promise: Bytes as they are choose the word that their counts do
     -- rule: 2.8
     -- code: choose_bytes::barkers, choose_bytes::fives, choose_bytes::elevens
-    pub decided-times : decided r (map f l) ≡ decided r (map g l)
+    pub decided_times : decided r (map f l) ≡ decided r (map g l)
     unfolding decided
-    decided-times = first-same (scoreAt r (map f l)) (scoreAt r (map g l)) scores (allowed r)
+    decided_times = first_same (score_at r (map f l)) (score_at r (map g l)) scores (allowed r)
 
     abbrev few : List Counts
     few = map g l
@@ -166,43 +166,43 @@ module _ (t : ℕ) (some : 0 < t) where
     many = map f l
 
     -- the word next to it is the same
-    next-times : NextAs r many (decided r many) (runnerUp r few)
-    next-times = subst (λ (w : ℕ). NextAs r many w (runnerUp r few)) (sym decided-times) (record {
+    next_times : NextAs r many (decided r many) (runner_up r few)
+    next_times = subst (λ (w : ℕ). NextAs r many w (runner_up r few)) (sym decided_times) (record {
       among = x.among;
       allowed = x.allowed;
       other = x.other;
-      top = λ j h a d. rw (scores j, scores (runnerUp r few))
-          (k-le (scoreAt r few j) (scoreAt r few (runnerUp r few)) (x.top j h a d));
+      top = λ j h a d. rw (scores j, scores (runner_up r few))
+          (k_le (score_at r few j) (score_at r few (runner_up r few)) (x.top j h a d));
     })
       where
-        x : NextAs r few (decided r few) (runnerUp r few)
-        x = runner-next r few
+        x : NextAs r few (decided r few) (runner_up r few)
+        x = runner_next r few
 
     -- promise: Counts that are so many times others have so many times their lead
     -- rule: 2.5, 2.8
-    pub lead-times : leadOf r many ≡ t * leadOf r few
-    lead-times =
-        let m = scoreAt r few (runnerUp r few) in
-        let w = scoreAt r few (decided r few) in
-        let mine : k m +ℤ pos (leadOf r many) ≡ k w =
-        ap (λ (z : ℤ). z +ℤ pos (leadOf r many)) (sym (scores (runnerUp r few)))
-        ∙ lead_is r many (runnerUp r few) next-times
-        ∙ ap (scoreAt r many) decided-times
+    pub lead_times : lead_of r many ≡ t * lead_of r few
+    lead_times =
+        let m = score_at r few (runner_up r few) in
+        let w = score_at r few (decided r few) in
+        let mine : k m +ℤ pos (lead_of r many) ≡ k w =
+        ap (λ (z : ℤ). z +ℤ pos (lead_of r many)) (sym (scores (runner_up r few)))
+        ∙ lead_is r many (runner_up r few) next_times
+        ∙ ap (score_at r many) decided_times
         ∙ scores (decided r few) in
-        let theirs : k m +ℤ k (pos (leadOf r few)) ≡ k w =
-        k_add m (pos (leadOf r few)) ∙ ap k (lead_is r few (runnerUp r few) (runner-next r few)) in
+        let theirs : k m +ℤ k (pos (lead_of r few)) ≡ k w =
+        k_add m (pos (lead_of r few)) ∙ ap k (lead_is r few (runner_up r few) (runner_next r few)) in
         omega (
           arith,
           ap up mine,
           ap dn mine,
           ap up theirs,
           ap dn theirs,
-          add (k m) (pos (leadOf r many)),
-          add (k m) (k (pos (leadOf r few))),
-          up_pos (leadOf r many),
-          dn-pos (leadOf r many),
-          times-up t (pos (leadOf r few)),
-          times-dn t (pos (leadOf r few)),
-          ap (λ (x : ℕ). t * x) (up_pos (leadOf r few)),
-          ap (λ (x : ℕ). t * x) (dn-pos (leadOf r few)),
+          add (k m) (pos (lead_of r many)),
+          add (k m) (k (pos (lead_of r few))),
+          up_pos (lead_of r many),
+          dn_pos (lead_of r many),
+          times_up t (pos (lead_of r few)),
+          times_dn t (pos (lead_of r few)),
+          ap (λ (x : ℕ). t * x) (up_pos (lead_of r few)),
+          ap (λ (x : ℕ). t * x) (dn_pos (lead_of r few)),
         )

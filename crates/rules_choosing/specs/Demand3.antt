@@ -4,28 +4,28 @@
 -- Assumes nothing.
 use Rattle.std.specs.Prelude.{ℕ, ◌*◌, ◌^◌, ◌<◌, ◌≡◌, List, length, get_or, T, ℤ, pos, ◌+ℤ◌, ◌≤ℤ◌, ◌<ℤ◌}
 use Rattle.rules_rates.specs.declared.Rate.{Rate}
-use Rattle.rules_rates.specs.Rates.{symbolChips}
+use Rattle.rules_rates.specs.Rates.{symbol_chips}
 use Rattle.rules_chips.specs.declared.Counts.{Counts}
 use Rattle.rules_chips.specs.Chips.{nothing}
 use Rattle.rules_chips.specs.Bounds.{Apart}
 use Rattle.rules_symbols.specs.Words.{word_of}
-use Rattle.rules_symbols.specs.Choice.{score, numbers, isAllowed, decided, leadOf}
+use Rattle.rules_symbols.specs.Choice.{score, numbers, is_allowed, decided, lead_of}
 
 -- the exact score of the word with number n, over chips' exact values
-abbrev pub exactAt : Rate → List Counts → ℕ → ℤ
-exactAt r exact n = score (word_of r n) exact
+abbrev pub exact_at : Rate → List Counts → ℕ → ℤ
+exact_at r exact n = score (word_of r n) exact
 
 -- The word with number `w` is right up to an error of so many steps: it is allowed; (a) no allowed word's exact score
 -- is above its own by more; (b) an allowed word whose exact score is above that of every other allowed one by more is
 -- it.
 pub record RightUpTo (error : ℕ) (r : Rate) (exact : List Counts) (w : ℕ) : Type 0 where
   pub among : w < numbers r
-  pub allowed : T (isAllowed r w)
-  pub none_above : (n : ℕ) → n < numbers r → T (isAllowed r n)
-      → exactAt r exact n ≤ℤ (exactAt r exact w +ℤ pos error)
-  pub leader-chosen : (n : ℕ) → n < numbers r → T (isAllowed r n)
-      → ((m : ℕ) → m < numbers r → T (isAllowed r m) → (m ≡ n → ⊥)
-      → (exactAt r exact m +ℤ pos error) <ℤ exactAt r exact n)
+  pub allowed : T (is_allowed r w)
+  pub none_above : (n : ℕ) → n < numbers r → T (is_allowed r n)
+      → exact_at r exact n ≤ℤ (exact_at r exact w +ℤ pos error)
+  pub leader_chosen : (n : ℕ) → n < numbers r → T (is_allowed r n)
+      → ((m : ℕ) → m < numbers r → T (is_allowed r m) → (m ≡ n → ⊥)
+      → (exact_at r exact m +ℤ pos error) <ℤ exact_at r exact n)
       → w ≡ n
 
 -- where the counts of a symbol are so, the word decided from them is right up to twice `half` for each chip: half a
@@ -33,23 +33,23 @@ pub record RightUpTo (error : ℕ) (r : Rate) (exact : List Counts) (w : ℕ) : 
 -- working notion: one symbol of `RecordedRight`
 abbrev pub Demand3 : Type 0
 Demand3 =
-    (half : ℕ) (r : Rate) (counts exact : List Counts) → length counts ≡ symbolChips r
-    → length exact ≡ symbolChips r
-    → ((j : ℕ) → j < symbolChips r → Apart half (get_or counts j nothing) (get_or exact j nothing))
-    → RightUpTo (symbolChips r * (2 * half)) r exact (decided r counts)
+    (half : ℕ) (r : Rate) (counts exact : List Counts) → length counts ≡ symbol_chips r
+    → length exact ≡ symbol_chips r
+    → ((j : ℕ) → j < symbol_chips r → Apart half (get_or counts j nothing) (get_or exact j nothing))
+    → RightUpTo (symbol_chips r * (2 * half)) r exact (decided r counts)
 
 -- the word with number `w` leads in the exact numbers: every other allowed word's exact score is below its own
 abbrev pub LeadsExactly : Rate → List Counts → ℕ → Type 0
 LeadsExactly r exact w =
-    (n : ℕ) → n < numbers r → T (isAllowed r n) → (n ≡ w → ⊥) → exactAt r exact n <ℤ exactAt r exact w
+    (n : ℕ) → n < numbers r → T (is_allowed r n) → (n ≡ w → ⊥) → exact_at r exact n <ℤ exact_at r exact w
 
 -- where the counts of a symbol are so, and its lead is above that error, the word decided does. From half a count the
 -- lead must be above 8 counts, or 11 for Barker; with no error of the counts above 0
 -- working notion: one symbol of `RowsSure`
 abbrev pub LeadSays : Type 0
 LeadSays =
-    (half : ℕ) (r : Rate) (counts exact : List Counts) → length counts ≡ symbolChips r
-    → length exact ≡ symbolChips r
-    → ((j : ℕ) → j < symbolChips r → Apart half (get_or counts j nothing) (get_or exact j nothing))
-    → symbolChips r * (2 * half) < leadOf r counts * 2 ^ 139
+    (half : ℕ) (r : Rate) (counts exact : List Counts) → length counts ≡ symbol_chips r
+    → length exact ≡ symbol_chips r
+    → ((j : ℕ) → j < symbol_chips r → Apart half (get_or counts j nothing) (get_or exact j nothing))
+    → symbol_chips r * (2 * half) < lead_of r counts * 2 ^ 139
     → LeadsExactly r exact (decided r counts)

@@ -18,9 +18,9 @@ abbrev pub lesser : ℕ → ℕ → ℕ
 lesser x y = cond (ltb x y) x y
 
 -- the key of the better of words n and n + h, whose scores are z and -z
-unfoldable pub keyOf : ℕ → ℕ → ℤ → ℕ
-keyOf h n (pos s) = (h + h) * s + (h + h - 1 - n)
-keyOf h n (negsuc s) = (h + h) * suc s + (h + h - 1 - (n + h))
+unfoldable pub key_of : ℕ → ℕ → ℤ → ℕ
+key_of h n (pos s) = (h + h) * s + (h + h - 1 - n)
+key_of h n (negsuc s) = (h + h) * suc s + (h + h - 1 - (n + h))
 
 -- x is the largest of the keys from a to before b: that of p
 pub record Largest (k : ℕ → ℕ) (a b x : ℕ) : Type 0 where

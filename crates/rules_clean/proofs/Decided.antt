@@ -11,93 +11,93 @@ use lib.Dec.{T, lit<}
 use lib.ListN.{length, take, drop, replicate, length-map}
 use lib.Seq.{take_at, drop_at}
 use Rattle.rules_rates.specs.declared.Rate.{Rate}
-use Rattle.rules_rates.specs.Rates.{symbolChips}
+use Rattle.rules_rates.specs.Rates.{symbol_chips}
 use Rattle.rules_chips.specs.declared.Counts.{Counts}
-use Rattle.rules_chips.specs.Chips.{Taken, takenCounts, fullChip}
+use Rattle.rules_chips.specs.Chips.{Taken, taken_counts, full_chip}
 use Rattle.rules_symbols.specs.Words.{word_of}
-use Rattle.rules_symbols.specs.Choice.{decided, leadOf}
-use Rattle.rules_symbols.proofs.Words.{word-length}
-use Rattle.rules_symbols.proofs.Agreement.{cleanLead}
-use Rattle.rules_choosing.proofs.Clean.{decided-clean}
-use Rattle.rules_choosing.proofs.CleanLeads.{lead-clean}
-use Rattle.rules_reading.specs.Leads.{decidedLeads}
-use Rattle.rules_reading.specs.Reading.{firstUnusable, decidedWords}
-use Rattle.rules_bits.specs.Code.{wordsChips}
-use Rattle.rules_clean.specs.Clean.{cleanTaken, cleanRecording}
+use Rattle.rules_symbols.specs.Choice.{decided, lead_of}
+use Rattle.rules_symbols.proofs.Words.{word_length}
+use Rattle.rules_symbols.proofs.Agreement.{clean_lead}
+use Rattle.rules_choosing.proofs.Clean.{decided_clean}
+use Rattle.rules_choosing.proofs.CleanLeads.{lead_clean}
+use Rattle.rules_reading.specs.Leads.{decided_leads}
+use Rattle.rules_reading.specs.Reading.{first_unusable, decided_words}
+use Rattle.rules_bits.specs.Code.{words_chips}
+use Rattle.rules_clean.specs.Clean.{clean_taken, clean_recording}
 use Rattle.rules_bits.proofs.Sent.{Allowed, none, more}
 
-counts-clean : (w : List ℕ) → map takenCounts (map cleanTaken w) ≡ map (fullChip 1024) w
-counts-clean [] = refl
-counts-clean (p ∷ w) = ap {B = List Counts} (λ l. fullChip 1024 p ∷ l) (counts-clean w)
+counts_clean : (w : List ℕ) → map taken_counts (map clean_taken w) ≡ map (full_chip 1024) w
+counts_clean [] = refl
+counts_clean (p ∷ w) = ap {B = List Counts} (λ l. fullChip 1024 p ∷ l) (counts_clean w)
 
-pub clean-append : (a b : List ℕ) → cleanRecording (a ++ b) ≡ cleanRecording a ++ cleanRecording b
-unfolding cleanRecording
-clean-append a b = map-append cleanTaken a b
+pub clean_append : (a b : List ℕ) → clean_recording (a ++ b) ≡ clean_recording a ++ clean_recording b
+unfolding clean_recording
+clean_append a b = map-append clean_taken a b
 
-pub clean-length : (a : List ℕ) → length (cleanRecording a) ≡ length a
-unfolding cleanRecording
-clean-length a = length-map a cleanTaken
+pub clean_length : (a : List ℕ) → length (clean_recording a) ≡ length a
+unfolding clean_recording
+clean_length a = length-map a clean_taken
 
-pub clean_drop : (j : ℕ) (a : List ℕ) → drop j (cleanRecording a) ≡ cleanRecording (drop j a)
-unfolding cleanRecording
+pub clean_drop : (j : ℕ) (a : List ℕ) → drop j (clean_recording a) ≡ clean_recording (drop j a)
+unfolding clean_recording
 clean_drop zero a = refl
 clean_drop (suc j) [] = refl
 clean_drop (suc j) (p ∷ a) = clean_drop j a
 
-pub clean-take : (j : ℕ) (a : List ℕ) → take j (cleanRecording a) ≡ cleanRecording (take j a)
-unfolding cleanRecording
-clean-take zero a = refl
-clean-take (suc j) [] = refl
-clean-take (suc j) (p ∷ a) = ap (λ (l : List Taken). cleanTaken p ∷ l) (clean-take j a)
+pub clean_take : (j : ℕ) (a : List ℕ) → take j (clean_recording a) ≡ clean_recording (take j a)
+unfolding clean_recording
+clean_take zero a = refl
+clean_take (suc j) [] = refl
+clean_take (suc j) (p ∷ a) = ap (λ (l : List Taken). cleanTaken p ∷ l) (clean_take j a)
 
 -- no chip of a clean recording is unusable
-pub none-unusable : (at m : ℕ) (chips : List ℕ) (rest : List Taken) → m ≤ length chips
-    → firstUnusable at (take m (cleanRecording chips ++ rest)) ≡ none
-unfolding firstUnusable cleanRecording
-none-unusable at zero chips rest h = refl
-none-unusable at (suc m) [] rest h = absurd (not-suc-le-zero h)
-none-unusable at (suc m) (p ∷ chips) rest h = none-unusable (suc at) m chips rest (le_of_suc-le-suc h)
+pub none_unusable : (at m : ℕ) (chips : List ℕ) (rest : List Taken) → m ≤ length chips
+    → first_unusable at (take m (clean_recording chips ++ rest)) ≡ none
+unfolding first_unusable clean_recording
+none_unusable at zero chips rest h = refl
+none_unusable at (suc m) [] rest h = absurd (not-suc-le-zero h)
+none_unusable at (suc m) (p ∷ chips) rest h = none_unusable (suc at) m chips rest (le_of_suc-le-suc h)
 
 -- words that begin a recording: the first of them, and the rest
 module _ (r : Rate) (n : ℕ) (ns : List ℕ) (rest : List Taken) where
   abbrev later : List Taken
-  later = cleanRecording (wordsChips r ns) ++ rest
+  later = clean_recording (words_chips r ns) ++ rest
 
-  cut : cleanRecording (word_of r n ++ wordsChips r ns) ++ rest ≡ cleanRecording (word_of r n) ++ later
+  cut : clean_recording (word_of r n ++ words_chips r ns) ++ rest ≡ clean_recording (word_of r n) ++ later
   cut =
-      ap (λ (x : List Taken). x ++ rest) (clean-append (word_of r n) (wordsChips r ns))
-      ∙ append_assoc (cleanRecording (word_of r n)) (cleanRecording (wordsChips r ns)) rest
+      ap (λ (x : List Taken). x ++ rest) (clean_append (word_of r n) (words_chips r ns))
+      ∙ append_assoc (clean_recording (word_of r n)) (clean_recording (words_chips r ns)) rest
 
-  word-chips : length (cleanRecording (word_of r n)) ≡ symbolChips r
-  word-chips = clean-length (word_of r n) ∙ word-length r n
+  word_chips : length (clean_recording (word_of r n)) ≡ symbol_chips r
+  word_chips = clean_length (word_of r n) ∙ word_length r n
 
-  first-counts : map takenCounts (take (symbolChips r) (cleanRecording (word_of r n ++ wordsChips r ns) ++ rest))
-      ≡ map (fullChip 1024) (word_of r n)
-  first-counts =
-      ap (λ (x : List Taken). map takenCounts (take (symbolChips r) x)) cut
-      ∙ ap (map takenCounts) (take_at (cleanRecording (word_of r n)) later (symbolChips r) word-chips)
-      ∙ (unfold cleanRecording in counts-clean (word_of r n))
+  first_counts : map taken_counts (take (symbol_chips r) (clean_recording (word_of r n ++ words_chips r ns) ++ rest))
+      ≡ map (full_chip 1024) (word_of r n)
+  first_counts =
+      ap (λ (x : List Taken). map taken_counts (take (symbol_chips r) x)) cut
+      ∙ ap (map taken_counts) (take_at (clean_recording (word_of r n)) later (symbol_chips r) word_chips)
+      ∙ (unfold clean_recording in counts_clean (word_of r n))
 
-  then : drop (symbolChips r) (cleanRecording (word_of r n ++ wordsChips r ns) ++ rest) ≡ later
-  then = ap (drop (symbolChips r)) cut ∙ drop_at (cleanRecording (word_of r n)) later (symbolChips r) word-chips
+  then : drop (symbol_chips r) (clean_recording (word_of r n ++ words_chips r ns) ++ rest) ≡ later
+  then = ap (drop (symbol_chips r)) cut ∙ drop_at (clean_recording (word_of r n)) later (symbol_chips r) word_chips
 
-pub decided-words : (r : Rate) (ns : List ℕ) (rest : List Taken) → Allowed r ns
-    → decidedWords r (length ns) (cleanRecording (wordsChips r ns) ++ rest) ≡ ns
-unfolding decidedWords wordsChips
-decided-words r [] rest h = refl
-decided-words r (n ∷ ns) rest (more l a h) =
+pub decided_words_lem : (r : Rate) (ns : List ℕ) (rest : List Taken) → Allowed r ns
+    → decided_words r (length ns) (clean_recording (words_chips r ns) ++ rest) ≡ ns
+unfolding decided_words words_chips
+decided_words_lem r [] rest h = refl
+decided_words_lem r (n ∷ ns) rest (more l a h) =
     ap₂ {C = List ℕ} (λ x xs. x ∷ xs)
-    (ap (decided r) (first-counts r n ns rest)
-    ∙ decided-clean 1024 (lit< tt) r n l (subst (λ (b : Bool). T b) (sym a) tt))
-    (ap (decidedWords r (length ns)) (then r n ns rest) ∙ decided-words r ns rest h)
+    (ap (decided r) (first_counts r n ns rest)
+    ∙ decided_clean 1024 (lit< tt) r n l (subst (λ (b : Bool). T b) (sym a) tt))
+    (ap (decided_words r (length ns)) (then r n ns rest) ∙ decided_words_lem r ns rest h)
 
-pub decided-leads : (r : Rate) (ns : List ℕ) (rest : List Taken) → Allowed r ns
-    → decidedLeads r (length ns) (cleanRecording (wordsChips r ns) ++ rest)
-    ≡ replicate (length ns) (1024 * cleanLead r)
-unfolding decidedLeads wordsChips
-decided-leads r [] rest h = refl
-decided-leads r (n ∷ ns) rest (more l a h) =
+pub decided_leads_lem : (r : Rate) (ns : List ℕ) (rest : List Taken) → Allowed r ns
+    → decided_leads r (length ns) (clean_recording (words_chips r ns) ++ rest)
+    ≡ replicate (length ns) (1024 * clean_lead r)
+unfolding decided_leads words_chips
+decided_leads_lem r [] rest h = refl
+decided_leads_lem r (n ∷ ns) rest (more l a h) =
     ap₂ {C = List ℕ} (λ x xs. x ∷ xs)
-    (ap (leadOf r) (first-counts r n ns rest)
-    ∙ lead-clean 1024 (lit< tt) r n l (subst (λ (b : Bool). T b) (sym a) tt))
-    (ap (decidedLeads r (length ns)) (then r n ns rest) ∙ decided-leads r ns rest h)
+    (ap (lead_of r) (first_counts r n ns rest)
+    ∙ lead_clean 1024 (lit< tt) r n l (subst (λ (b : Bool). T b) (sym a) tt))
+    (ap (decided_leads r (length ns)) (then r n ns rest) ∙ decided_leads_lem r ns rest h)

@@ -8,62 +8,62 @@ use mathlib.Core.List.{List, [], ◌∷◌, ◌++◌}
 use Prim.Native.Nat.{ℕ, ◌+◌}
 use lib.ListN.{take, drop, replicate}
 use Rattle.rules_rates.specs.declared.Rate.TheVariants.{One, Eleven}
-use Rattle.rules_chips.specs.Chips.{hardRecording}
-use Rattle.rules_symbols.specs.Words.{barkerWord, cckWord}
-use Rattle.rules_symbols.specs.Choice.{score, those, going, firstLargest, decided, others, leadOf}
-use Rattle.rules_bits.specs.Bits.{bits_of, octetBits, number_of, octetsOf}
+use Rattle.rules_chips.specs.Chips.{hard_recording}
+use Rattle.rules_symbols.specs.Words.{barker_word, cck_word}
+use Rattle.rules_symbols.specs.Choice.{score, those, going, first_largest, decided, others, lead_of}
+use Rattle.rules_bits.specs.Bits.{bits_of, octet_bits, number_of, octets_of}
 use Rattle.rules_bits.specs.Growths.{
   growth,
   symbol_of,
   symbols_from,
-  symbolsOf,
-  chipsFrom,
-  lastPhase,
-  heardBits,
+  symbols_of,
+  chips_from,
+  last_phase,
+  heard_bits,
   heard,
-  growthsOf,
-  lastHeard,
+  growths_of,
+  last_heard,
 }
 use Rattle.rules_bits.specs.Scrambler.{mixed, scramble, descramble}
-use Rattle.rules_bits.specs.Crc.{addWhere, crcStep, remainder, crcBits}
+use Rattle.rules_bits.specs.Crc.{add_where, crc_step, remainder, crc_bits}
 use Rattle.rules_frame.specs.declared.Kind.{Kind}
 use Rattle.rules_frame.specs.declared.Kind.TheVariants.{Long, Short}
 use Rattle.rules_calls.specs.declared.Told.{Told}
 use Rattle.rules_frame.specs.Frame.{
-  preambleBits,
-  fieldBits,
-  headerBits,
-  sentHeader,
-  frameBits,
-  sentBits,
-  partsChips,
+  preamble_bits,
+  field_bits,
+  header_bits,
+  sent_header,
+  frame_bits,
+  sent_bits,
+  parts_chips,
   framed,
   frame,
 }
-use Rattle.rules_calls.specs.Answers.{recordOf}
-use Rattle.rules_calls.specs.Headers.{told, sameBits, fields_of, headerOf}
-use Rattle.rules_reading.specs.Leads.{decidedLeads, frontLeads, payloadLeads, leastFrom, leastOf}
+use Rattle.rules_calls.specs.Answers.{record_of}
+use Rattle.rules_calls.specs.Headers.{told, same_bits, fields_of, header_of}
+use Rattle.rules_reading.specs.Leads.{decided_leads, front_leads, payload_leads, least_from, least_of}
 use Rattle.rules_reading.specs.Reading.{
-  firstUnusable,
-  firstOdd,
-  decidedWords,
-  preambleWords,
-  headerWords,
+  first_unusable,
+  first_odd,
+  decided_words,
+  preamble_words,
+  header_words,
   reference,
-  headerPhase,
-  payloadPhase,
-  frontOdd,
-  frontHeard,
-  frontBits,
-  frontBy,
-  payloadWords,
-  payloadOdd,
-  payloadOf,
-  payloadReading,
+  header_phase,
+  payload_phase,
+  front_odd,
+  front_heard,
+  front_bits,
+  front_by,
+  payload_words,
+  payload_odd,
+  payload_of,
+  payload_reading,
   reading_of,
-  octetsFound,
+  octets_found,
 }
-use Rattle.rules_reading.proofs.Facts.{fields, refused, longFrame, shortFrame, spoilt, turnedBy}
+use Rattle.rules_reading.proofs.Facts.{fields, refused, long_frame, short_frame, spoilt, turned_by}
 
 -- so many chips from a place lost
 unfoldable pub lost : ℕ → ℕ → List ℕ → List ℕ
@@ -79,18 +79,18 @@ lost at m chips = take at chips ++ (replicate m 4 ++ drop (at + m) chips)
 -- comes before 17
 -- rule: 6.2 to 6.6
 -- with: good, payloads, rules_reading/parts
-pub bad : refused 2 true 1 longFrame ∷ refused 2 false 1 longFrame ∷ refused 256 true 1 longFrame
-    ∷ refused 0 false 1 longFrame ∷ refused 1 false 1 []
-    ∷ refused 0 true 1 (take 2111 (spoilt 0 5 longFrame)) ∷ refused 1 true 1 (take 1055 shortFrame)
-    ∷ refused 0 true 1 (spoilt 2111 5 (turnedBy 55 1 longFrame))
-    ∷ refused 1 true 1 (spoilt 700 5 (spoilt 900 255 shortFrame))
-    ∷ refused 1 true 1 (spoilt 0 5 shortFrame)
-    ∷ refused 1 true 1 (turnedBy 0 1 shortFrame) ∷ refused 1 true 1 (turnedBy 781 1 shortFrame)
-    ∷ refused 0 true 1 (turnedBy 0 1 longFrame) ∷ refused 0 true 1 (turnedBy 1573 1 longFrame)
-    ∷ refused 0 true 1 (turnedBy 1584 1 longFrame) ∷ refused 0 true 1 (turnedBy 2101 1 longFrame)
-    ∷ refused 1 true 1 (turnedBy 682 2 shortFrame) ∷ refused 1 true 1 (turnedBy 792 1 shortFrame)
-    ∷ refused 1 true 0 (take 1063 (spoilt 1060 5 shortFrame)) ∷ refused 0 true 1 (take 2287 longFrame)
-    ∷ refused 0 true 2 (turnedBy 2112 1 longFrame) ∷ refused 0 true 2 (turnedBy 2277 1 longFrame) ∷ []
+pub bad : refused 2 true 1 long_frame ∷ refused 2 false 1 long_frame ∷ refused 256 true 1 long_frame
+    ∷ refused 0 false 1 long_frame ∷ refused 1 false 1 []
+    ∷ refused 0 true 1 (take 2111 (spoilt 0 5 long_frame)) ∷ refused 1 true 1 (take 1055 short_frame)
+    ∷ refused 0 true 1 (spoilt 2111 5 (turned_by 55 1 long_frame))
+    ∷ refused 1 true 1 (spoilt 700 5 (spoilt 900 255 short_frame))
+    ∷ refused 1 true 1 (spoilt 0 5 short_frame)
+    ∷ refused 1 true 1 (turned_by 0 1 short_frame) ∷ refused 1 true 1 (turned_by 781 1 short_frame)
+    ∷ refused 0 true 1 (turned_by 0 1 long_frame) ∷ refused 0 true 1 (turned_by 1573 1 long_frame)
+    ∷ refused 0 true 1 (turned_by 1584 1 long_frame) ∷ refused 0 true 1 (turned_by 2101 1 long_frame)
+    ∷ refused 1 true 1 (turned_by 682 2 short_frame) ∷ refused 1 true 1 (turned_by 792 1 short_frame)
+    ∷ refused 1 true 0 (take 1063 (spoilt 1060 5 short_frame)) ∷ refused 0 true 1 (take 2287 long_frame)
+    ∷ refused 0 true 2 (turned_by 2112 1 long_frame) ∷ refused 0 true 2 (turned_by 2277 1 long_frame) ∷ []
     ≡ (1 ∷ 0 ∷ 0 ∷ 0 ∷ 0 ∷ 0 ∷ 0 ∷ 0 ∷ 0 ∷ []) ∷ (1 ∷ 0 ∷ 0 ∷ 0 ∷ 0 ∷ 0 ∷ 0 ∷ 0 ∷ 0 ∷ [])
     ∷ (1 ∷ 0 ∷ 0 ∷ 0 ∷ 0 ∷ 0 ∷ 0 ∷ 0 ∷ 0 ∷ [])
     ∷ (7 ∷ 0 ∷ 0 ∷ 0 ∷ 0 ∷ 0 ∷ 0 ∷ 0 ∷ 0 ∷ []) ∷ (7 ∷ 0 ∷ 0 ∷ 0 ∷ 0 ∷ 0 ∷ 0 ∷ 0 ∷ 0 ∷ [])
@@ -104,32 +104,32 @@ pub bad : refused 2 true 1 longFrame ∷ refused 2 false 1 longFrame ∷ refused
     ∷ (16 ∷ 0 ∷ 0 ∷ 1 ∷ 0 ∷ 0 ∷ 0 ∷ 0 ∷ 0 ∷ []) ∷ (16 ∷ 0 ∷ 0 ∷ 16 ∷ 0 ∷ 0 ∷ 0 ∷ 0 ∷ 0 ∷ [])
     ∷ (10 ∷ 2112 ∷ 0 ∷ 16 ∷ 0 ∷ 0 ∷ 0 ∷ 0 ∷ 0 ∷ []) ∷ (10 ∷ 2277 ∷ 0 ∷ 16 ∷ 0 ∷ 0 ∷ 0 ∷ 0 ∷ 0 ∷ []) ∷ []
 unfolding
-    fields refused longFrame shortFrame spoilt turnedBy hardRecording
-    barkerWord cckWord score those going firstLargest decided
-    bits_of octetBits number_of octetsOf growth symbol_of symbols_from symbolsOf chipsFrom lastPhase heardBits heard
-    growthsOf
-    lastHeard mixed scramble descramble addWhere crcStep remainder crcBits
-    preambleBits fieldBits headerBits sentHeader frameBits sentBits partsChips framed frame
-    firstUnusable firstOdd decidedWords preambleWords headerWords reference headerPhase payloadPhase frontOdd frontHeard
-    frontBits sameBits fields_of headerOf frontBy payloadWords payloadOdd payloadOf payloadReading reading_of octetsFound
+    fields refused long_frame short_frame spoilt turned_by hard_recording
+    barker_word cck_word score those going first_largest decided
+    bits_of octet_bits number_of octets_of growth symbol_of symbols_from symbols_of chips_from last_phase heard_bits heard
+    growths_of
+    last_heard mixed scramble descramble add_where crc_step remainder crc_bits
+    preamble_bits field_bits header_bits sent_header frame_bits sent_bits parts_chips framed frame
+    first_unusable first_odd decided_words preamble_words header_words reference header_phase payload_phase front_odd front_heard
+    front_bits same_bits fields_of header_of front_by payload_words payload_odd payload_of payload_reading reading_of octets_found
 bad = refl
 
 -- behind a front that tells what it does, with room for so many octets: 17 and 9; 9 and 10, the 9 at the part's end;
 -- two 9s, the first at its start; LENGTH 16; a short frame's 9 at its end, LENGTH 1
 abbrev behind : Kind → Told → ℕ → List ℕ → List ℕ
-behind k t room chips = fields (recordOf (payloadReading k t (hardRecording chips) room))
+behind k t room chips = fields (record_of (payload_reading k t (hard_recording chips) room))
 
-pub payloads : behind Long (told One 16 2 true) 0 (spoilt 2199 5 longFrame)
-    ∷ behind Long (told One 16 2 true) 2 (spoilt 2287 5 (turnedBy 2112 1 longFrame))
-    ∷ behind Long (told One 16 2 true) 2 (spoilt 2112 5 (spoilt 2200 5 longFrame))
-    ∷ behind Short (told Eleven 1 1 false) 1 (spoilt 1063 77 shortFrame) ∷ []
+pub payloads : behind Long (told One 16 2 true) 0 (spoilt 2199 5 long_frame)
+    ∷ behind Long (told One 16 2 true) 2 (spoilt 2287 5 (turned_by 2112 1 long_frame))
+    ∷ behind Long (told One 16 2 true) 2 (spoilt 2112 5 (spoilt 2200 5 long_frame))
+    ∷ behind Short (told Eleven 1 1 false) 1 (spoilt 1063 77 short_frame) ∷ []
     ≡ (17 ∷ 0 ∷ 0 ∷ 16 ∷ 0 ∷ 0 ∷ 0 ∷ 0 ∷ 0 ∷ []) ∷ (9 ∷ 2287 ∷ 0 ∷ 16 ∷ 0 ∷ 0 ∷ 0 ∷ 0 ∷ 0 ∷ [])
     ∷ (9 ∷ 2112 ∷ 0 ∷ 16 ∷ 0 ∷ 0 ∷ 0 ∷ 0 ∷ 0 ∷ []) ∷ (9 ∷ 1063 ∷ 0 ∷ 1 ∷ 0 ∷ 0 ∷ 0 ∷ 0 ∷ 0 ∷ []) ∷ []
 unfolding
-    fields longFrame shortFrame spoilt turnedBy hardRecording barkerWord cckWord bits_of octetBits growth
+    fields long_frame short_frame spoilt turned_by hard_recording barker_word cck_word bits_of octet_bits growth
     symbol_of symbols_from
-    symbolsOf chipsFrom lastPhase mixed scramble addWhere crcStep remainder crcBits
-    preambleBits fieldBits headerBits sentHeader frameBits sentBits partsChips framed frame firstUnusable payloadReading
+    symbols_of chips_from last_phase mixed scramble add_where crc_step remainder crc_bits
+    preamble_bits field_bits header_bits sent_header frame_bits sent_bits parts_chips framed frame first_unusable payload_reading
 payloads = refl
 
 -- good: chips after the frame are not looked at, nor are SYNC bits compared: of the long one a symbol is turned by
@@ -137,35 +137,35 @@ payloads = refl
 -- may. The smallest lead is 11 full chips at symbol 0, and 4 at symbol 96, the payload's first; with a chip lost in
 -- symbols 145 and 207, and in 0 and 200, it is 10 at the first of the two; with a wrong chip in the payload's 2. With
 -- eight chips lost in symbol 80, of the short header, it is 3 there
-pub good : refused 0 true 2 (turnedBy 1309 2 (longFrame ++ (9 ∷ 9 ∷ [])))
-    ∷ refused 1 true 2 (turnedBy 0 2 (turnedBy 55 2 (turnedBy 517 2 shortFrame)))
-    ∷ refused 0 true 2 (spoilt 2277 4 (spoilt 1600 4 longFrame))
-    ∷ refused 0 true 2 (spoilt 3 4 (spoilt 2200 4 longFrame))
-    ∷ refused 1 true 1 (spoilt 1057 2 shortFrame) ∷ refused 1 true 1 (lost 880 8 shortFrame) ∷ []
+pub good : refused 0 true 2 (turned_by 1309 2 (long_frame ++ (9 ∷ 9 ∷ [])))
+    ∷ refused 1 true 2 (turned_by 0 2 (turned_by 55 2 (turned_by 517 2 short_frame)))
+    ∷ refused 0 true 2 (spoilt 2277 4 (spoilt 1600 4 long_frame))
+    ∷ refused 0 true 2 (spoilt 3 4 (spoilt 2200 4 long_frame))
+    ∷ refused 1 true 1 (spoilt 1057 2 short_frame) ∷ refused 1 true 1 (lost 880 8 short_frame) ∷ []
     ≡ (0 ∷ 0 ∷ 10 ∷ 16 ∷ 2 ∷ 2288 ∷ 1 ∷ 11264 ∷ 0 ∷ []) ∷ (0 ∷ 0 ∷ 110 ∷ 1 ∷ 1 ∷ 1064 ∷ 0 ∷ 4096 ∷ 96 ∷ [])
     ∷ (0 ∷ 0 ∷ 10 ∷ 16 ∷ 2 ∷ 2288 ∷ 1 ∷ 10240 ∷ 145 ∷ []) ∷ (0 ∷ 0 ∷ 10 ∷ 16 ∷ 2 ∷ 2288 ∷ 1 ∷ 10240 ∷ 0 ∷ [])
     ∷ (0 ∷ 0 ∷ 110 ∷ 1 ∷ 1 ∷ 1064 ∷ 0 ∷ 2048 ∷ 96 ∷ []) ∷ (0 ∷ 0 ∷ 110 ∷ 1 ∷ 1 ∷ 1064 ∷ 0 ∷ 3072 ∷ 80 ∷ []) ∷ []
 unfolding
-    fields refused longFrame shortFrame spoilt lost turnedBy hardRecording
-    barkerWord cckWord score those going firstLargest decided others leadOf decidedLeads
-    frontLeads payloadLeads leastFrom leastOf
-    bits_of octetBits number_of octetsOf growth symbol_of symbols_from symbolsOf chipsFrom lastPhase heardBits heard
-    growthsOf
-    lastHeard mixed scramble descramble addWhere crcStep remainder crcBits
-    preambleBits fieldBits headerBits sentHeader frameBits sentBits partsChips framed frame
-    firstUnusable firstOdd decidedWords preambleWords headerWords reference headerPhase payloadPhase frontOdd frontHeard
-    frontBits sameBits fields_of headerOf frontBy payloadWords payloadOdd payloadOf payloadReading reading_of octetsFound
+    fields refused long_frame short_frame spoilt lost turned_by hard_recording
+    barker_word cck_word score those going first_largest decided others lead_of decided_leads
+    front_leads payload_leads least_from least_of
+    bits_of octet_bits number_of octets_of growth symbol_of symbols_from symbols_of chips_from last_phase heard_bits heard
+    growths_of
+    last_heard mixed scramble descramble add_where crc_step remainder crc_bits
+    preamble_bits field_bits header_bits sent_header frame_bits sent_bits parts_chips framed frame
+    first_unusable first_odd decided_words preamble_words header_words reference header_phase payload_phase front_odd front_heard
+    front_bits same_bits fields_of header_of front_by payload_words payload_odd payload_of payload_reading reading_of octets_found
 good = refl
 
 -- ---- the octet buffer: read, it is the payload, and zeros after it
-pub octets : octetsFound 1 true (hardRecording shortFrame) 3 ≡ 61 ∷ 0 ∷ 0 ∷ []
+pub octets : octets_found 1 true (hard_recording short_frame) 3 ≡ 61 ∷ 0 ∷ 0 ∷ []
 unfolding
-    shortFrame hardRecording
-    barkerWord cckWord score those going firstLargest decided
-    bits_of octetBits number_of octetsOf growth symbol_of symbols_from symbolsOf chipsFrom lastPhase heardBits heard
-    growthsOf
-    lastHeard mixed scramble descramble addWhere crcStep remainder crcBits
-    preambleBits fieldBits headerBits sentHeader frameBits sentBits partsChips framed frame
-    firstUnusable firstOdd decidedWords preambleWords headerWords reference headerPhase payloadPhase frontOdd frontHeard
-    frontBits sameBits fields_of headerOf frontBy payloadWords payloadOdd payloadOf payloadReading reading_of octetsFound
+    short_frame hard_recording
+    barker_word cck_word score those going first_largest decided
+    bits_of octet_bits number_of octets_of growth symbol_of symbols_from symbols_of chips_from last_phase heard_bits heard
+    growths_of
+    last_heard mixed scramble descramble add_where crc_step remainder crc_bits
+    preamble_bits field_bits header_bits sent_header frame_bits sent_bits parts_chips framed frame
+    first_unusable first_odd decided_words preamble_words header_words reference header_phase payload_phase front_odd front_heard
+    front_bits same_bits fields_of header_of front_by payload_words payload_odd payload_of payload_reading reading_of octets_found
 octets = refl

@@ -7,40 +7,40 @@ use Prim.Native.Nat.{ℕ, ◌-◌, ◌≤◌, ◌<◌}
 use lib.ListN.{length, replicate}
 use Rattle.base.specs.Below.{Below}
 use Rattle.rules_rates.specs.declared.Rate.{Rate}
-use Rattle.rules_rates.specs.Rates.{code_of, lengthField}
+use Rattle.rules_rates.specs.Rates.{code_of, length_field}
 use Rattle.rules_chips.specs.Chips.{Taken}
 use Rattle.rules_frame.specs.declared.Kind.{Kind}
-use Rattle.rules_frame.specs.Frame.{isKind, kind_of, goesWith, serviceField, sentHeader, frameChips}
-use Rattle.rules_frame.proofs.Headers.{sent-length, sent-below}
-use Rattle.rules_calls.proofs.ReadBack.{fields_back, header-sent}
+use Rattle.rules_frame.specs.Frame.{is_kind, kind_of, goes_with, service_field, sent_header, frame_chips}
+use Rattle.rules_frame.proofs.Headers.{sent_length, sent_below}
+use Rattle.rules_calls.proofs.ReadBack.{fields_back, header_sent_lem}
 use Rattle.rules_calls.specs.declared.Told.{Told}
 use Rattle.rules_calls.specs.declared.Refusal.TheVariants.{OctetRoom}
 use Rattle.rules_calls.specs.declared.Front.TheVariants as front
 use Rattle.rules_calls.specs.declared.Reading.TheVariants as reading
 use Rattle.rules_calls.specs.Headers.{Accepted, ours, fields_of, told}
-use Rattle.rules_reading.specs.Leads.{frameLeads, leastOf}
+use Rattle.rules_reading.specs.Leads.{frame_leads, least_of}
 use Rattle.rules_reading.specs.Reading.{
-  frontBy,
-  frontOf,
-  payloadOf,
+  front_by,
+  front_of,
+  payload_of,
   whole_of,
-  payloadReading,
-  afterFront,
+  payload_reading,
+  after_front,
   reading_of,
-  octetsAfter,
-  octetsFound,
+  octets_after,
+  octets_found,
 }
 use Rattle.rules_clean.proofs.FrameWords.{FrontAsSent, AsSent}
 use Rattle.rules_clean.proofs.Whole as whole
 
-pub opened : (kind : ℕ) → isKind kind ≡ true → (agree : Bool) (rec : List Taken) (room : ℕ) → agree ≡ true
+pub opened : (kind : ℕ) → is_kind kind ≡ true → (agree : Bool) (rec : List Taken) (room : ℕ) → agree ≡ true
     → reading_of kind agree rec room
-    ≡ afterFront (kind_of kind) rec room (whole_of (kind_of kind) rec (frontOf (kind_of kind) rec))
+    ≡ after_front (kind_of kind) rec room (whole_of (kind_of kind) rec (front_of (kind_of kind) rec))
 unfolding reading_of
 opened kind is-kind agree rec room e = rw (is-kind, e)
 
-module _ (kind : ℕ) (r : Rate) (p : ℕ) (clock : Bool) (xs : List ℕ) (is-kind : isKind kind ≡ true) (l : p < 4)
-    (goes : goesWith (kind_of kind) r ≡ true) (some : 1 ≤ length xs) (few : length xs ≤ 4095) (rec : List Taken) where
+module _ (kind : ℕ) (r : Rate) (p : ℕ) (clock : Bool) (xs : List ℕ) (is-kind : is_kind kind ≡ true) (l : p < 4)
+    (goes : goes_with (kind_of kind) r ≡ true) (some : 1 ≤ length xs) (few : length xs ≤ 4095) (rec : List Taken) where
   abbrev k : Kind
   k = kind_of kind
 
@@ -48,47 +48,47 @@ module _ (kind : ℕ) (r : Rate) (p : ℕ) (clock : Bool) (xs : List ℕ) (is-ki
   n = length xs
 
   abbrev header : List ℕ
-  header = sentHeader r clock n
+  header = sent_header r clock n
 
   abbrev t : Told
-  t = told r (lengthField r n) n clock
+  t = told r (length_field r n) n clock
 
   -- the front comes to what the three fields do, whoever reads
-  pub front-sent : FrontAsSent k r p header xs rec → (accepted : Accepted)
-      → frontBy accepted k rec ≡ fields_of accepted k (code_of r) (serviceField r clock n) (lengthField r n)
-  front-sent begun accepted =
-      whole.front_read k r p header xs (sent-length r clock n) rec l (sent-below r clock n) begun accepted
-      ∙ header-sent accepted k r clock n few
+  pub front_sent_lem : FrontAsSent k r p header xs rec → (accepted : Accepted)
+      → front_by accepted k rec ≡ fields_of accepted k (code_of r) (service_field r clock n) (length_field r n)
+  front_sent_lem begun accepted =
+      whole.front_read k r p header xs (sent_length r clock n) rec l (sent_below r clock n) begun accepted
+      ∙ header_sent_lem accepted k r clock n few
 
-  pub front-is : FrontAsSent k r p header xs rec → frontOf k rec ≡ front.Fields t
-  front-is begun = front-sent begun ours ∙ fields_back k r clock n goes some few
+  pub front_is : FrontAsSent k r p header xs rec → front_of k rec ≡ front.Fields t
+  front_is begun = front_sent_lem begun ours ∙ fields_back k r clock n goes some few
 
   module _ (sent : AsSent k r p header xs rec) (room : ℕ) (agree : Bool) (e : agree ≡ true) where
-    rec-is : reading_of kind agree rec room ≡ payloadReading k t rec room
-    rec-is =
+    rec_is : reading_of kind agree rec room ≡ payload_reading k t rec room
+    rec_is =
         opened kind is-kind agree rec room e
-        ∙ ap (λ f. afterFront k rec room (whole_of k rec f)) (front-is sent.front)
-        ∙ ap (afterFront k rec room)
-        (whole.whole-there k r p header xs (sent-length r clock n) rec l (sent-below r clock n) sent
-        (lengthField r n) clock)
+        ∙ ap (λ f. afterFront k rec room (whole_of k rec f)) (front_is sent.front)
+        ∙ ap (after_front k rec room)
+        (whole.whole_there k r p header xs (sent_length r clock n) rec l (sent_below r clock n) sent
+        (length_field r n) clock)
 
-    pub good-reading : n ≤ room
-        → reading_of kind agree rec room ≡ reading.Good t (frameChips k r n) (leastOf (frameLeads k r n rec))
-    good-reading h =
-        rec-is
-        ∙ whole.payload-good k r p header xs (sent-length r clock n) rec l (sent-below r clock n) sent
-        (lengthField r n) clock room h
+    pub good_reading : n ≤ room
+        → reading_of kind agree rec room ≡ reading.Good t (frame_chips k r n) (least_of (frame_leads k r n rec))
+    good_reading h =
+        rec_is
+        ∙ whole.payload_good k r p header xs (sent_length r clock n) rec l (sent_below r clock n) sent
+        (length_field r n) clock room h
 
-    pub good-octets : n ≤ room → Below 256 xs → octetsFound kind agree rec room ≡ xs ++ replicate (room - n) 0
-    good-octets h o =
+    pub good_octets : n ≤ room → Below 256 xs → octets_found kind agree rec room ≡ xs ++ replicate (room - n) 0
+    good_octets h o =
         found ∙ ap (λ (x : List ℕ). x ++ replicate (room - n) 0)
-        (whole.payload-read k r p header xs (sent-length r clock n) rec l (sent-below r clock n) sent o)
+        (whole.payload_read k r p header xs (sent_length r clock n) rec l (sent_below r clock n) sent o)
       where
-        found : octetsFound kind agree rec room ≡ payloadOf k r n rec ++ replicate (room - n) 0
-        found = unfold octetsFound in ap (octetsAfter k rec room) (good-reading h)
+        found : octets_found kind agree rec room ≡ payload_of k r n rec ++ replicate (room - n) 0
+        found = unfold octets_found in ap (octets_after k rec room) (good_reading h)
 
-    pub room-refused : room < n → reading_of kind agree rec room ≡ reading.Refused (OctetRoom (lengthField r n))
-    room-refused h =
-        rec-is
-        ∙ whole.no_room k r p header xs (sent-length r clock n) rec l (sent-below r clock n) sent
-        (lengthField r n) clock room h
+    pub room_refused : room < n → reading_of kind agree rec room ≡ reading.Refused (OctetRoom (length_field r n))
+    room_refused h =
+        rec_is
+        ∙ whole.no_room k r p header xs (sent_length r clock n) rec l (sent_below r clock n) sent
+        (length_field r n) clock room h

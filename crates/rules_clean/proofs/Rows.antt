@@ -7,41 +7,41 @@ use native.Mathlib.Omega.{arith}
 use lib.Dec.{T}
 use lib.Ieee.{of_bits}
 use Rattle.base.specs.Below.{Below}
-use Rattle.base.proofs.Below.{below-head, below-tail}
+use Rattle.base.proofs.Below.{below_head, below_tail}
 use Rattle.rules_chips.specs.declared.Chip.TheVariants.{Soft}
 use Rattle.rules_chips.specs.Floats.{steps, usable}
-use Rattle.rules_chips.specs.Chips.{fullChip, usableSample, exactOf}
-use Rattle.rules_clean.specs.Clean.{sampleOf, Exactly, none, more, softI, softQ}
+use Rattle.rules_chips.specs.Chips.{full_chip, usable_sample, exact_of}
+use Rattle.rules_clean.specs.Clean.{sample_of, Exactly, none, more, soft_i, soft_q}
 
 -- a zero by whose bits each phase is usable and exact
 pub record Serves (z p : ℕ) : Type 0 where
-  pub usable-so : T (usableSample (sampleOf (softI z p) (softQ z p)))
-  pub exact : exactOf (Soft (sampleOf (softI z p) (softQ z p))) ≡ fullChip (2 ^ 149) p
+  pub usable_so : T (usable_sample (sample_of (soft_i z p) (soft_q z p)))
+  pub exact : exact_of (Soft (sample_of (soft_i z p) (soft_q z p))) ≡ full_chip (2 ^ 149) p
 
 plus : (p : ℕ) → p < 4 → Serves 0 p
 unfolding of_bits steps usable
-plus zero h = record { usable-so = tt; exact = refl }
-plus (suc zero) h = record { usable-so = tt; exact = refl }
-plus (suc (suc zero)) h = record { usable-so = tt; exact = refl }
-plus (suc (suc (suc zero))) h = record { usable-so = tt; exact = refl }
+plus zero h = record { usable_so = tt; exact = refl }
+plus (suc zero) h = record { usable_so = tt; exact = refl }
+plus (suc (suc zero)) h = record { usable_so = tt; exact = refl }
+plus (suc (suc (suc zero))) h = record { usable_so = tt; exact = refl }
 plus (suc (suc (suc (suc p)))) h = absurd (omega arith)
 
 minus : (p : ℕ) → p < 4 → Serves 0x8000_0000 p
 unfolding of_bits steps usable
-minus zero h = record { usable-so = tt; exact = refl }
-minus (suc zero) h = record { usable-so = tt; exact = refl }
-minus (suc (suc zero)) h = record { usable-so = tt; exact = refl }
-minus (suc (suc (suc zero))) h = record { usable-so = tt; exact = refl }
+minus zero h = record { usable_so = tt; exact = refl }
+minus (suc zero) h = record { usable_so = tt; exact = refl }
+minus (suc (suc zero)) h = record { usable_so = tt; exact = refl }
+minus (suc (suc (suc zero))) h = record { usable_so = tt; exact = refl }
 minus (suc (suc (suc (suc p)))) h = absurd (omega arith)
 
 rows : (z : ℕ) → ((p : ℕ) → p < 4 → Serves z p) → (phases : List ℕ) → Below 4 phases
-    → Exactly phases (map (softI z) phases) (map (softQ z) phases)
+    → Exactly phases (map (soft_i z) phases) (map (soft_q z) phases)
 rows z s [] h = none
 rows z s (p ∷ phases) h =
-    let here = s p (below-head h) in
-    more here.usable-so here.exact (rows z s phases (below-tail h))
+    let here = s p (below_head h) in
+    more here.usable_so here.exact (rows z s phases (below_tail h))
 
-pub soft-rows : (phases : List ℕ) → Below 4 phases
-    → Exactly phases (map (softI 0) phases) (map (softQ 0) phases)
-    × Exactly phases (map (softI 0x8000_0000) phases) (map (softQ 0x8000_0000) phases)
-soft-rows phases h = (rows 0 plus phases h, rows 0x8000_0000 minus phases h)
+pub soft_rows : (phases : List ℕ) → Below 4 phases
+    → Exactly phases (map (soft_i 0) phases) (map (soft_q 0) phases)
+    × Exactly phases (map (soft_i 0x8000_0000) phases) (map (soft_q 0x8000_0000) phases)
+soft_rows phases h = (rows 0 plus phases h, rows 0x8000_0000 minus phases h)

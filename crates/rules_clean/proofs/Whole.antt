@@ -13,75 +13,75 @@ use lib.Seq.{take_at, drop_at, drop-drop}
 use Rattle.rules_rates.specs.declared.Rate.{Rate}
 use Rattle.rules_rates.specs.declared.Rate.TheVariants.{One}
 use Rattle.rules_chips.specs.Chips.{Taken}
-use Rattle.rules_bits.specs.Bits.{bits_of, octetBits, octetsOf}
+use Rattle.rules_bits.specs.Bits.{bits_of, octet_bits, octets_of}
 use Rattle.rules_bits.specs.Scrambler.{descramble}
 use Rattle.base.specs.Below.{Below}
-use Rattle.rules_bits.specs.Code.{pastAfter, wordsChips}
-use Rattle.base.proofs.Below.{below-append, below-replicate}
-use Rattle.rules_bits.proofs.Bits.{bits-length, bits_below, octet-bits-below, octets-back}
-use Rattle.rules_bits.proofs.Scrambler.{unscrambled, descramble-length, descramble-append, first-unknown}
+use Rattle.rules_bits.specs.Code.{past_after, words_chips}
+use Rattle.base.proofs.Below.{below_append, below_replicate}
+use Rattle.rules_bits.proofs.Bits.{bits_length, bits_below, octet_bits_below, octets_back}
+use Rattle.rules_bits.proofs.Scrambler.{unscrambled, descramble_length, descramble_append, first_unknown}
 use Rattle.rules_frame.specs.declared.Kind.{Kind}
 use Rattle.rules_frame.specs.declared.Kind.TheVariants.{Long, Short}
 use Rattle.rules_frame.specs.Frame.{
-  syncBits,
-  syncBit,
-  sfdOf,
-  headerRate,
+  sync_bits,
+  sync_bit,
+  sfd_of,
+  header_rate,
   start,
-  frontChips,
-  preambleBits,
-  frameBits,
-  preambleLength,
-  headerLength,
-  sentBits,
+  front_chips,
+  preamble_bits,
+  frame_bits,
+  preamble_length,
+  header_length,
+  sent_bits,
   framed,
-  frameChips,
+  frame_chips,
 }
-use Rattle.rules_frame.proofs.Sizes.{preamble-length}
+use Rattle.rules_frame.proofs.Sizes.{preamble_length_lem}
 use Rattle.rules_calls.specs.declared.Told.{Told}
 use Rattle.rules_calls.specs.declared.Front.TheVariants as front
 use Rattle.rules_calls.specs.declared.Reading.TheVariants as reading
 use Rattle.rules_calls.specs.declared.Refusal.TheVariants.{OctetRoom}
-use Rattle.rules_calls.specs.Headers.{Accepted, headerOf, told}
-use Rattle.rules_reading.specs.Leads.{frameLeads, leastOf}
+use Rattle.rules_calls.specs.Headers.{Accepted, header_of, told}
+use Rattle.rules_reading.specs.Leads.{frame_leads, least_of}
 use Rattle.rules_reading.specs.Reading.{
-  frontBits,
-  frontBy,
-  preambleWords,
-  headerWords,
-  payloadWords,
-  payloadOf,
+  front_bits,
+  front_by,
+  preamble_words,
+  header_words,
+  payload_words,
+  payload_of,
   whole_of,
-  payloadReading,
+  payload_reading,
 }
 use Rattle.rules_clean.proofs.FrameWords.{FrontAsSent, AsSent}
 use Rattle.rules_clean.proofs.FrameWords as words
 use Rattle.rules_clean.proofs.Listened.{
-  firstBit,
-  laterBits,
-  preamble-headed,
-  front-none,
-  front-heard,
-  payload-odd,
-  payload-heard,
+  first_bit,
+  later_bits,
+  preamble_headed,
+  front_none,
+  front_heard_lem,
+  payload_odd_lem,
+  payload_heard,
 }
 
 -- ---- the frame's bits: how many, and each a bit
-both-length : (k : Kind) (header : List ℕ) → length header ≡ headerLength
-    → length (preambleBits k ++ header) ≡ preambleLength k + headerLength
-both-length k header e = length-append (preambleBits k) header ∙ ap₂ {C = ℕ} (λ i j. i + j) (preamble-length k) e
+both_length : (k : Kind) (header : List ℕ) → length header ≡ header_length
+    → length (preamble_bits k ++ header) ≡ preamble_length k + header_length
+both_length k header e = length-append (preamble_bits k) header ∙ ap₂ {C = ℕ} (λ i j. i + j) (preamble_length_lem k) e
 
-sync-below : (k : Kind) → syncBit k < 2
-sync-below Long = omega arith
-sync-below Short = omega arith
+sync_below : (k : Kind) → sync_bit k < 2
+sync_below Long = omega arith
+sync_below Short = omega arith
 
-preamble-below : (k : Kind) → Below 2 (preambleBits k)
-unfolding preambleBits
-preamble-below k = below-append (below-replicate (syncBits k) (sync-below k)) (bits_below 16 (sfdOf k))
+preamble_below : (k : Kind) → Below 2 (preamble_bits k)
+unfolding preamble_bits
+preamble_below k = below_append (below_replicate (sync_bits k) (sync_below k)) (bits_below 16 (sfd_of k))
 
-frame_below : (k : Kind) (header xs : List ℕ) → Below 2 header → Below 2 (frameBits k header xs)
-unfolding frameBits
-frame_below k header xs h = below-append (preamble-below k) (below-append h (octet-bits-below xs))
+frame_below : (k : Kind) (header xs : List ℕ) → Below 2 header → Below 2 (frame_bits k header xs)
+unfolding frame_bits
+frame_below k header xs h = below_append (preamble_below k) (below_append h (octet_bits_below xs))
 
 -- past the eighth bit the first output is forgotten
 forgotten : (j : ℕ) (h : List ℕ) (x y : ℕ) (os : List ℕ) → 8 ≤ j
@@ -90,13 +90,13 @@ forgotten j h x y os l =
     let e : 8 + (j - 8) ≡ j = omega arith in
     ap (λ (i : ℕ). drop i (descramble h (x ∷ os))) (sym e)
     ∙ sym (drop-drop (j - 8) 8 (descramble h (x ∷ os)))
-    ∙ ap (drop (j - 8)) (first-unknown h h x y os)
+    ∙ ap (drop (j - 8)) (first_unknown h h x y os)
     ∙ drop-drop (j - 8) 8 (descramble h (y ∷ os))
     ∙ ap (λ (i : ℕ). drop i (descramble h (y ∷ os))) e
 
-sync-eight : (k : Kind) → 8 ≤ syncBits k
-sync-eight Long = omega arith
-sync-eight Short = omega arith
+sync_eight : (k : Kind) → 8 ≤ sync_bits k
+sync_eight Long = omega arith
+sync_eight Short = omega arith
 
 -- one of a row of equal numbers
 one_of : (n x j : ℕ) (ys : List ℕ) → j < n → take 1 (drop j (replicate n x ++ ys)) ≡ x ∷ []
@@ -104,25 +104,25 @@ one_of zero x j ys h = absurd (not-suc-le-zero h)
 one_of (suc n) x zero ys h = refl
 one_of (suc n) x (suc j) ys h = one_of n x j ys (omega arith)
 
-module _ (k : Kind) (r : Rate) (p : ℕ) (header xs : List ℕ) (eh : length header ≡ headerLength) (rec : List Taken)
+module _ (k : Kind) (r : Rate) (p : ℕ) (header xs : List ℕ) (eh : length header ≡ header_length) (rec : List Taken)
     (l : p < 4) (bh : Below 2 header) where
   abbrev n : ℕ
   n = length xs
 
   abbrev s : List ℕ
-  s = sentBits k header xs
+  s = sent_bits k header xs
 
   abbrev m : ℕ
-  m = preambleLength k
+  m = preamble_length k
 
   abbrev x : List ℕ
-  x = words.preambleOut k r p header xs
+  x = words.preamble_out k r p header xs
 
   abbrev y : List ℕ
-  y = words.headerOut k r p header xs
+  y = words.header_out k r p header xs
 
   abbrev z : List ℕ
-  z = words.payloadOut k r p header xs
+  z = words.payload_out k r p header xs
 
   joined : x ++ (y ++ z) ≡ s
   joined =
@@ -131,133 +131,133 @@ module _ (k : Kind) (r : Rate) (p : ℕ) (header xs : List ℕ) (eh : length hea
       ∙ take-append-drop m s
 
   -- unscrambled
-  whole : descramble (start k) s ≡ frameBits k header xs
-  unfolding sentBits
-  whole = unscrambled (start k) (frameBits k header xs) (frame_below k header xs bh)
+  whole : descramble (start k) s ≡ frame_bits k header xs
+  unfolding sent_bits
+  whole = unscrambled (start k) (frame_bits k header xs) (frame_below k header xs bh)
 
   module _ (begun : FrontAsSent k r p header xs rec) where
     abbrev b : ℕ
-    b = firstBit k r p header xs eh rec l begun
+    b = first_bit k r p header xs eh rec l begun
 
     abbrev tail : List ℕ
-    tail = laterBits k r p header xs eh rec l begun ++ y
+    tail = later_bits k r p header xs eh rec l begun ++ y
 
-    s-is : (b ∷ tail) ++ z ≡ s
-    s-is =
-        append_assoc (b ∷ laterBits k r p header xs eh rec l begun) y z
-        ∙ ap (λ (t : List ℕ). t ++ (y ++ z)) (sym (preamble-headed k r p header xs eh rec l begun)) ∙ joined
+    s_is : (b ∷ tail) ++ z ≡ s
+    s_is =
+        append_assoc (b ∷ later_bits k r p header xs eh rec l begun) y z
+        ∙ ap (λ (t : List ℕ). t ++ (y ++ z)) (sym (preamble_headed k r p header xs eh rec l begun)) ∙ joined
 
-    tail-length : length (b ∷ tail) ≡ m + 48
-    tail-length =
-        ap (λ (t : List ℕ). length (t ++ y)) (sym (preamble-headed k r p header xs eh rec l begun))
+    tail_length : length (b ∷ tail) ≡ m + 48
+    tail_length =
+        ap (λ (t : List ℕ). length (t ++ y)) (sym (preamble_headed k r p header xs eh rec l begun))
         ∙ length-append x y
-        ∙ ap₂ {C = ℕ} (λ i j. i + j) (words.preamble-length k r p header xs eh) (words.header-length k r p header xs eh)
+        ∙ ap₂ {C = ℕ} (λ i j. i + j) (words.preamble_length_lem k r p header xs eh) (words.header_length_lem k r p header xs eh)
 
-    front-sent : descramble (start k) (b ∷ tail) ≡ preambleBits k ++ header
-    front-sent =
-        sym (take_at (descramble (start k) (b ∷ tail)) (descramble (pastAfter (start k) (b ∷ tail)) z) (m + 48)
-        (descramble-length (start k) (b ∷ tail) ∙ tail-length))
+    front_sent_lem : descramble (start k) (b ∷ tail) ≡ preamble_bits k ++ header
+    front_sent_lem =
+        sym (take_at (descramble (start k) (b ∷ tail)) (descramble (past_after (start k) (b ∷ tail)) z) (m + 48)
+        (descramble_length (start k) (b ∷ tail) ∙ tail_length))
         ∙ ap (take (m + 48))
-        (sym (descramble-append (start k) (b ∷ tail) z) ∙ ap (descramble (start k)) s-is ∙ whole ∙ parts)
-        ∙ take_at (preambleBits k ++ header) (octetBits xs) (m + 48) (both-length k header eh)
+        (sym (descramble_append (start k) (b ∷ tail) z) ∙ ap (descramble (start k)) s_is ∙ whole ∙ parts)
+        ∙ take_at (preamble_bits k ++ header) (octet_bits xs) (m + 48) (both_length k header eh)
       where
-        parts : frameBits k header xs ≡ (preambleBits k ++ header) ++ octetBits xs
-        parts = unfold frameBits in sym (append_assoc (preambleBits k) (header) (octetBits xs))
+        parts : frame_bits k header xs ≡ (preamble_bits k ++ header) ++ octet_bits xs
+        parts = unfold frame_bits in sym (append_assoc (preamble_bits k) (header) (octet_bits xs))
 
-    front-from : (j : ℕ) → 8 ≤ j → drop j (frontBits k rec) ≡ drop j (preambleBits k ++ header)
-    unfolding frontBits
-    front-from j h =
-        ap (λ (t : List ℕ). drop j (descramble (start k) t)) (front-heard k r p header xs eh rec l begun)
-        ∙ forgotten j (start k) 0 b tail h ∙ ap (drop j) front-sent
+    front_from : (j : ℕ) → 8 ≤ j → drop j (front_bits k rec) ≡ drop j (preamble_bits k ++ header)
+    unfolding front_bits
+    front_from j h =
+        ap (λ (t : List ℕ). drop j (descramble (start k) t)) (front_heard_lem k r p header xs eh rec l begun)
+        ∙ forgotten j (start k) 0 b tail h ∙ ap (drop j) front_sent_lem
 
-    sfd-read : take 16 (drop (syncBits k) (frontBits k rec)) ≡ bits_of 16 (sfdOf k)
-    sfd-read =
-        ap (take 16) (front-from (syncBits k) (sync-eight k) ∙ cut)
-        ∙ take_at (bits_of 16 (sfdOf k)) (header) 16 (bits-length 16 (sfdOf k))
+    sfd_read : take 16 (drop (sync_bits k) (front_bits k rec)) ≡ bits_of 16 (sfd_of k)
+    sfd_read =
+        ap (take 16) (front_from (sync_bits k) (sync_eight k) ∙ cut)
+        ∙ take_at (bits_of 16 (sfd_of k)) (header) 16 (bits_length 16 (sfd_of k))
       where
-        cut : drop (syncBits k) (preambleBits k ++ header) ≡ bits_of 16 (sfdOf k) ++ header
+        cut : drop (sync_bits k) (preamble_bits k ++ header) ≡ bits_of 16 (sfd_of k) ++ header
         cut =
-            unfold preambleBits in
-            ap (drop (syncBits k)) (append_assoc (replicate (syncBits k) (syncBit k)) (bits_of 16 (sfdOf k)) (header))
-            ∙ drop_at (replicate (syncBits k) (syncBit k)) (bits_of 16 (sfdOf k) ++ header) (syncBits k)
-            (length-replicate (syncBits k) (syncBit k))
+            unfold preamble_bits in
+            ap (drop (sync_bits k)) (append_assoc (replicate (sync_bits k) (sync_bit k)) (bits_of 16 (sfd_of k)) (header))
+            ∙ drop_at (replicate (sync_bits k) (sync_bit k)) (bits_of 16 (sfd_of k) ++ header) (sync_bits k)
+            (length-replicate (sync_bits k) (sync_bit k))
 
-    header_read : drop m (frontBits k rec) ≡ header
+    header_read : drop m (front_bits k rec) ≡ header
     header_read =
-        front-from m (omega (arith, sync-eight k)) ∙ drop_at (preambleBits k) (header) m (preamble-length k)
+        front_from m (omega (arith, sync_eight k)) ∙ drop_at (preamble_bits k) (header) m (preamble_length_lem k)
 
     -- SYNC, from its ninth bit on
-    pub sync-read : (j : ℕ) → 8 ≤ j → j < syncBits k → take 1 (drop j (frontBits k rec)) ≡ syncBit k ∷ []
-    sync-read j h i = ap (take 1) (front-from j h) ∙ cut
+    pub sync_read : (j : ℕ) → 8 ≤ j → j < sync_bits k → take 1 (drop j (front_bits k rec)) ≡ sync_bit k ∷ []
+    sync_read j h i = ap (take 1) (front_from j h) ∙ cut
       where
-        cut : take 1 (drop j (preambleBits k ++ header)) ≡ syncBit k ∷ []
+        cut : take 1 (drop j (preamble_bits k ++ header)) ≡ sync_bit k ∷ []
         cut =
-            unfold preambleBits in
+            unfold preamble_bits in
             ap (λ (t : List ℕ). take 1 (drop j t))
-            (append_assoc (replicate (syncBits k) (syncBit k)) (bits_of 16 (sfdOf k)) (header))
-            ∙ one_of (syncBits k) (syncBit k) j (bits_of 16 (sfdOf k) ++ header) i
+            (append_assoc (replicate (sync_bits k) (sync_bit k)) (bits_of 16 (sfd_of k)) (header))
+            ∙ one_of (sync_bits k) (sync_bit k) j (bits_of 16 (sfd_of k) ++ header) i
 
     -- whatever the header's bits say, they are read, whoever reads
-    pub front_read : (accepted : Accepted) → frontBy accepted k rec ≡ headerOf accepted k (bits_of 16 (sfdOf k)) header
-    unfolding frontBy
+    pub front_read : (accepted : Accepted) → front_by accepted k rec ≡ header_of accepted k (bits_of 16 (sfd_of k)) header
+    unfolding front_by
     front_read accepted =
         rw (
-          le-ltb (length rec) (frontChips k) begun.front-there,
-          begun.front-usable,
-          front-none k r p header xs eh rec l begun,
-          sfd-read,
+          le-ltb (length rec) (front_chips k) begun.front_there,
+          begun.front_usable,
+          front_none k r p header xs eh rec l begun,
+          sfd_read,
           header_read,
         )
 
   -- ---- and the payload behind it
   module _ (sent : AsSent k r p header xs rec) where
     -- every chip is one of the word that its symbol is read as
-    pub words-sent : framed k r p header xs
-        ≡ wordsChips One (preambleWords k rec)
-        ++ (wordsChips (headerRate k) (headerWords k rec) ++ wordsChips r (payloadWords k r n rec))
-    words-sent =
-        let e1 = sent.front.preamble-words in
-        let e2 = sent.front.header-words in
-        let e3 = sent.payload-words in
+    pub words_sent : framed k r p header xs
+        ≡ words_chips One (preamble_words k rec)
+        ++ (words_chips (header_rate k) (header_words k rec) ++ words_chips r (payload_words k r n rec))
+    words_sent =
+        let e1 = sent.front.preamble_words_lem in
+        let e2 = sent.front.header_words_lem in
+        let e3 = sent.payload_words_lem in
         words.words_are k r p header xs eh
-        ∙ (λ i. wordsChips One (sym e1 i) ++ (wordsChips (headerRate k) (sym e2 i) ++ wordsChips r (sym e3 i)))
+        ∙ (λ i. wordsChips One (sym e1 i) ++ (words_chips (header_rate k) (sym e2 i) ++ words_chips r (sym e3 i)))
 
-    pub payload-read : Below 256 xs → payloadOf k r n rec ≡ xs
-    unfolding payloadOf
-    payload-read h256 =
+    pub payload_read : Below 256 xs → payload_of k r n rec ≡ xs
+    unfolding payload_of
+    payload_read h256 =
         ap₂ {C = List ℕ} (λ f t. octetsOf n (drop (m + 48) (descramble (start k) (f ++ t))))
-        (front-heard k r p header xs eh rec l sent.front)
-        (payload-heard k r p header xs eh rec l sent.front sent)
-        ∙ ap (octetsOf n)
+        (front_heard_lem k r p header xs eh rec l sent.front)
+        (payload_heard k r p header xs eh rec l sent.front sent)
+        ∙ ap (octets_of n)
         (forgotten (m + 48) (start k) 0 (b sent.front) (tail sent.front ++ z) (omega arith)
-        ∙ ap (λ (t : List ℕ). drop (m + 48) (descramble (start k) t)) (s-is sent.front)
+        ∙ ap (λ (t : List ℕ). drop (m + 48) (descramble (start k) t)) (s_is sent.front)
         ∙ ap (drop (m + 48)) whole ∙ cut)
-        ∙ octets-back xs h256
+        ∙ octets_back xs h256
       where
-        cut : drop (m + 48) (frameBits k header xs) ≡ octetBits xs
+        cut : drop (m + 48) (frame_bits k header xs) ≡ octet_bits xs
         cut =
-            unfold frameBits in
-            ap (drop (m + 48)) (sym (append_assoc (preambleBits k) (header) (octetBits xs)))
-            ∙ drop_at (preambleBits k ++ header) (octetBits xs) (m + 48) (both-length k header eh)
+            unfold frame_bits in
+            ap (drop (m + 48)) (sym (append_assoc (preamble_bits k) (header) (octet_bits xs)))
+            ∙ drop_at (preamble_bits k ++ header) (octet_bits xs) (m + 48) (both_length k header eh)
 
     -- what comes of a header that tells this rate and so many octets
     module _ (lf : ℕ) (clock : Bool) where
       abbrev t : Told
       t = told r lf n clock
 
-      pub whole-there : whole_of k rec (front.Fields t) ≡ front.Fields t
-      whole-there = rw (le-ltb _ (frameChips k r n) sent.frame-there)
+      pub whole_there : whole_of k rec (front.Fields t) ≡ front.Fields t
+      whole_there = rw (le-ltb _ (frame_chips k r n) sent.frame_there)
 
-      pub payload-good : (room : ℕ) → n ≤ room
-          → payloadReading k t rec room ≡ reading.Good t (frameChips k r n) (leastOf (frameLeads k r n rec))
-      unfolding payloadReading
-      payload-good room h =
+      pub payload_good : (room : ℕ) → n ≤ room
+          → payload_reading k t rec room ≡ reading.Good t (frame_chips k r n) (least_of (frame_leads k r n rec))
+      unfolding payload_reading
+      payload_good room h =
           rw (
             le-ltb room n h,
-            sent.payload-usable,
-            payload-odd k r p header xs eh rec l sent.front sent,
+            sent.payload_usable,
+            payload_odd_lem k r p header xs eh rec l sent.front sent,
           )
 
-      pub no_room : (room : ℕ) → room < n → payloadReading k t rec room ≡ reading.Refused (OctetRoom lf)
-      unfolding payloadReading
+      pub no_room : (room : ℕ) → room < n → payload_reading k t rec room ≡ reading.Refused (OctetRoom lf)
+      unfolding payload_reading
       no_room room h = rw (lt-ltb room n h)

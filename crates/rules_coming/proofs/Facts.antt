@@ -8,34 +8,34 @@ use mathlib.Core.List.{List, [], ◌∷◌, ◌++◌}
 use Prim.Native.Nat.{ℕ}
 use lib.ListN.{take, replicate}
 use Rattle.rules_rates.specs.declared.Rate.TheVariants.{One, Two, Five, Eleven}
-use Rattle.rules_chips.specs.Chips.{hardRecording}
-use Rattle.rules_symbols.specs.Words.{barkerWord, cckWord}
-use Rattle.rules_symbols.specs.Choice.{score, those, going, firstLargest, decided}
-use Rattle.rules_bits.specs.Bits.{bits_of, octetBits, number_of}
+use Rattle.rules_chips.specs.Chips.{hard_recording}
+use Rattle.rules_symbols.specs.Words.{barker_word, cck_word}
+use Rattle.rules_symbols.specs.Choice.{score, those, going, first_largest, decided}
+use Rattle.rules_bits.specs.Bits.{bits_of, octet_bits, number_of}
 use Rattle.rules_bits.specs.Growths.{
   growth,
   symbol_of,
   symbols_from,
-  symbolsOf,
-  chipsFrom,
-  lastPhase,
-  heardBits,
+  symbols_of,
+  chips_from,
+  last_phase,
+  heard_bits,
   heard,
-  growthsOf,
-  lastHeard,
+  growths_of,
+  last_heard,
 }
 use Rattle.rules_bits.specs.Scrambler.{mixed, scramble, descramble}
-use Rattle.rules_bits.specs.Crc.{addWhere, crcStep, remainder, crcBits}
+use Rattle.rules_bits.specs.Crc.{add_where, crc_step, remainder, crc_bits}
 use Rattle.rules_frame.specs.declared.Kind.{Kind}
 use Rattle.rules_frame.specs.declared.Kind.TheVariants.{Long, Short}
 use Rattle.rules_frame.specs.Frame.{
-  preambleBits,
-  fieldBits,
-  headerBits,
-  sentHeader,
-  frameBits,
-  sentBits,
-  partsChips,
+  preamble_bits,
+  field_bits,
+  header_bits,
+  sent_header,
+  frame_bits,
+  sent_bits,
+  parts_chips,
   framed,
   frame,
 }
@@ -53,23 +53,23 @@ use Rattle.rules_calls.specs.declared.Refusal.TheVariants.{
 }
 use Rattle.rules_calls.specs.declared.Front.{Front}
 use Rattle.rules_calls.specs.declared.Front.TheVariants.{Refused, Fields}
-use Rattle.rules_calls.specs.Headers.{told, sameBits, fields_of, headerOf}
+use Rattle.rules_calls.specs.Headers.{told, same_bits, fields_of, header_of}
 use Rattle.rules_reading.specs.Reading.{
-  firstUnusable,
-  firstOdd,
-  decidedWords,
-  preambleWords,
-  headerWords,
+  first_unusable,
+  first_odd,
+  decided_words,
+  preamble_words,
+  header_words,
   reference,
-  headerPhase,
-  frontOdd,
-  frontHeard,
-  frontBits,
-  frontBy,
+  header_phase,
+  front_odd,
+  front_heard,
+  front_bits,
+  front_by,
 }
-use Rattle.rules_reading.proofs.Facts.{longFrame, shortFrame, spoilt, turnedBy}
+use Rattle.rules_reading.proofs.Facts.{long_frame, short_frame, spoilt, turned_by}
 use Rattle.rules_coming.specs.declared.Coming.{Coming}
-use Rattle.rules_coming.specs.Coming.{frontReading, comingOf, part_of}
+use Rattle.rules_coming.specs.Coming.{front_reading, coming_of, part_of}
 
 pub fields : Coming → List ℕ
 fields c =
@@ -79,7 +79,7 @@ fields c =
 
 abbrev answers : Kind → List Front → List (List ℕ)
 answers k [] = []
-answers k (f ∷ fs) = fields (comingOf k f) ∷ answers k fs
+answers k (f ∷ fs) = fields (coming_of k f) ∷ answers k fs
 
 pub refusals : answers Long
     (Refused NoKind ∷ Refused ShorterThanFront ∷ Refused (Unusable 2111 0) ∷ Refused (OddGrowth 2101 0)
@@ -104,35 +104,35 @@ tells = refl
 
 -- what the front of a hard recording comes to under a kind
 pub read : ℕ → List ℕ → Front
-read kind chips = frontReading kind (hardRecording chips)
+read kind chips = front_reading kind (hard_recording chips)
 
 -- refused: 1 and 8; 1; 8; 9 and 10, the 9 at the front's end; 16 and the payload's 9, where a chip of the payload is
 -- missing. That these are a reading's refusals up to 16, for every recording, is `coming-whole` of Laws.antt
-pub bad : read 2 [] ∷ read 256 shortFrame ∷ read 1 [] ∷ read 1 (spoilt 1055 5 (turnedBy 55 1 shortFrame))
-    ∷ read 1 (take 1063 (spoilt 1056 5 shortFrame)) ∷ []
+pub bad : read 2 [] ∷ read 256 short_frame ∷ read 1 [] ∷ read 1 (spoilt 1055 5 (turned_by 55 1 short_frame))
+    ∷ read 1 (take 1063 (spoilt 1056 5 short_frame)) ∷ []
     ≡ Refused NoKind ∷ Refused NoKind ∷ Refused ShorterThanFront ∷ Refused (Unusable 1055 0) ∷ Refused (Ends 1) ∷ []
 unfolding
-    read shortFrame spoilt turnedBy hardRecording
-    barkerWord cckWord score those going firstLargest decided
-    bits_of octetBits number_of growth symbol_of symbols_from symbolsOf chipsFrom lastPhase heardBits heard growthsOf
-    lastHeard mixed scramble descramble addWhere crcStep remainder crcBits
-    preambleBits fieldBits headerBits sentHeader frameBits sentBits partsChips framed frame
-    firstUnusable firstOdd decidedWords preambleWords headerWords reference headerPhase frontOdd frontHeard
-    frontBits sameBits fields_of headerOf frontBy frontReading
+    read short_frame spoilt turned_by hard_recording
+    barker_word cck_word score those going first_largest decided
+    bits_of octet_bits number_of growth symbol_of symbols_from symbols_of chips_from last_phase heard_bits heard growths_of
+    last_heard mixed scramble descramble add_where crc_step remainder crc_bits
+    preamble_bits field_bits header_bits sent_header frame_bits sent_bits parts_chips framed frame
+    first_unusable first_odd decided_words preamble_words header_words reference header_phase front_odd front_heard
+    front_bits same_bits fields_of header_of front_by front_reading
 bad = refl
 
 -- told, whatever the payload's chips are: a frame whose payload's first symbol is grown by 1, with chips after it; a
 -- front with as many chips behind it as its payload has, all unusable
-pub good : read 0 (turnedBy 2112 1 (longFrame ++ (9 ∷ 9 ∷ []))) ∷ read 1 (take 1056 shortFrame ++ replicate 8 9) ∷ []
+pub good : read 0 (turned_by 2112 1 (long_frame ++ (9 ∷ 9 ∷ []))) ∷ read 1 (take 1056 short_frame ++ replicate 8 9) ∷ []
     ≡ Fields (told One 16 2 true) ∷ Fields (told Eleven 1 1 false) ∷ []
 unfolding
-    read longFrame shortFrame spoilt turnedBy hardRecording
-    barkerWord cckWord score those going firstLargest decided
-    bits_of octetBits number_of growth symbol_of symbols_from symbolsOf chipsFrom lastPhase heardBits heard growthsOf
-    lastHeard mixed scramble descramble addWhere crcStep remainder crcBits
-    preambleBits fieldBits headerBits sentHeader frameBits sentBits partsChips framed frame
-    firstUnusable firstOdd decidedWords preambleWords headerWords reference headerPhase frontOdd frontHeard
-    frontBits sameBits fields_of headerOf frontBy frontReading
+    read long_frame short_frame spoilt turned_by hard_recording
+    barker_word cck_word score those going first_largest decided
+    bits_of octet_bits number_of growth symbol_of symbols_from symbols_of chips_from last_phase heard_bits heard growths_of
+    last_heard mixed scramble descramble add_where crc_step remainder crc_bits
+    preamble_bits field_bits header_bits sent_header frame_bits sent_bits parts_chips framed frame
+    first_unusable first_odd decided_words preamble_words header_words reference header_phase front_odd front_heard
+    front_bits same_bits fields_of header_of front_by front_reading
 good = refl
 
 -- ---- parts: chips from a place, exactly so many; none where the recording ends before

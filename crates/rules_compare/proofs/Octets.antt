@@ -1,9 +1,9 @@
 -- The payloads of two recordings, as they stand in the octet buffers.
---     beside-is, other-is     the octets of each payload where both are accepted, by the numbers of the records
---     octets-are              the list of octets: that of the payloads in the buffers, or of nothing
---     lengths-are, lengths-fit, list-is
+--     beside_is, other_is     the octets of each payload where both are accepted, by the numbers of the records
+--     octets_are              the list of octets: that of the payloads in the buffers, or of nothing
+--     lengths_are, lengths_fit, list_is
 --                             the same from records and buffers that two reads answer and leave
---     answer-is               and the whole answer
+--     answer_is               and the whole answer
 -- By the cases of both readings. Assumes nothing.
 use mathlib.Core.Path.{◌≡◌, refl, sym, ap, ap₂, ◌∙◌}
 use mathlib.Core.Bool.{Bool, true, cond, ◌&&◌}
@@ -13,108 +13,108 @@ use native.Mathlib.Omega.{arith}
 use borrow.Author.Tests.{ne_eqb}
 use lib.Dec.{eqb}
 use lib.ListN.{length, take}
-use Rattle.rules_chips.specs.Chips.{Taken, hardRecording}
+use Rattle.rules_chips.specs.Chips.{Taken, hard_recording}
 use Rattle.rules_frame.specs.declared.Kind.{Kind}
 use Rattle.rules_frame.specs.Frame.{kind_of}
 use Rattle.rules_calls.specs.declared.Reading.{Reading}
 use Rattle.rules_calls.specs.declared.Reading.TheVariants.{Refused, Good}
 use Rattle.rules_calls.specs.declared.Record.{Record}
-use Rattle.rules_calls.specs.Answers.{refusalNumber, recordOf}
+use Rattle.rules_calls.specs.Answers.{refusal_number, record_of}
 use Rattle.rules_calls.proofs.AnswerFacts.{some_number}
-use Rattle.rules_reading.specs.Reading.{octetsAfter, octetsFound}
-use Rattle.rules_reading.proofs.Buffers.{Fits, reading-fits, payload-front, found-long}
+use Rattle.rules_reading.specs.Reading.{octets_after, octets_found}
+use Rattle.rules_reading.proofs.Buffers.{Fits, reading_fits, payload_front, found_long}
 use Rattle.rules_compare.specs.declared.Compared.{Compared}
-use Rattle.rules_compare.specs.Differences.{Difference, differencesFrom, differences}
-use Rattle.rules_compare.specs.Compared.{hardReading, payloadDifferences, lengthBeside, octetList, comparedOf}
+use Rattle.rules_compare.specs.Differences.{Difference, differences_from, differences}
+use Rattle.rules_compare.specs.Compared.{hard_reading, payload_differences, length_beside, octet_list, compared_of}
 
 -- both readings are accepted
 abbrev both : Reading → Reading → Bool
-both f s = eqb (recordOf f).number 0 && eqb (recordOf s).number 0
+both f s = eqb (record_of f).number 0 && eqb (record_of s).number 0
 
-refused-first : {A : Type 0} (m : ℕ) (b : Bool) (x y : A) → (m ≡ 0 → ⊥) → cond (eqb m 0 && b) x y ≡ y
-refused-first m b x y ne = rw (ne_eqb m 0 ne)
+refused_first : {A : Type 0} (m : ℕ) (b : Bool) (x y : A) → (m ≡ 0 → ⊥) → cond (eqb m 0 && b) x y ≡ y
+refused_first m b x y ne = rw (ne_eqb m 0 ne)
 
-pub beside-is : (f s : Reading) → lengthBeside f s ≡ cond (both f s) (recordOf f).n 0
-beside-is (Refused e) s = sym (refused-first (refusalNumber e) (eqb (recordOf s).number 0) 0 0 (some_number e))
-beside-is (Good t used least) (Refused e) = rw (ne_eqb (refusalNumber e) 0 (some_number e)) refl
-beside-is (Good t used least) (Good t' used' least') = refl
+pub beside_is : (f s : Reading) → length_beside f s ≡ cond (both f s) (record_of f).n 0
+beside_is (Refused e) s = sym (refused_first (refusal_number e) (eqb (record_of s).number 0) 0 0 (some_number e))
+beside_is (Good t used least) (Refused e) = rw (ne_eqb (refusal_number e) 0 (some_number e)) refl
+beside_is (Good t used least) (Good t' used' least') = refl
 
-pub other-is : (f s : Reading) → lengthBeside s f ≡ cond (both f s) (recordOf s).n 0
-other-is (Refused e) (Refused e') = sym (refused-first (refusalNumber e) (eqb (refusalNumber e') 0) 0 0 (some_number e))
-other-is (Refused e) (Good t used least) = sym (refused-first (refusalNumber e) true t.n 0 (some_number e))
-other-is (Good t used least) (Refused e) = rw (ne_eqb (refusalNumber e) 0 (some_number e)) refl
-other-is (Good t used least) (Good t' used' least') = refl
+pub other_is : (f s : Reading) → length_beside s f ≡ cond (both f s) (record_of s).n 0
+other_is (Refused e) (Refused e') = sym (refused_first (refusal_number e) (eqb (refusal_number e') 0) 0 0 (some_number e))
+other_is (Refused e) (Good t used least) = sym (refused_first (refusal_number e) true t.n 0 (some_number e))
+other_is (Good t used least) (Refused e) = rw (ne_eqb (refusal_number e) 0 (some_number e)) refl
+other_is (Good t used least) (Good t' used' least') = refl
 
-fits-beside : (room : ℕ) (f s : Reading) → Fits room f → lengthBeside f s ≤ room
-fits-beside room (Refused e) s h = omega arith
-fits-beside room (Good t used least) (Refused e) h = omega arith
-fits-beside room (Good t used least) (Good t' used' least') h = h
+fits_beside : (room : ℕ) (f s : Reading) → Fits room f → length_beside f s ≤ room
+fits_beside room (Refused e) s h = omega arith
+fits_beside room (Good t used least) (Refused e) h = omega arith
+fits_beside room (Good t used least) (Good t' used' least') h = h
 
 module _ (k : Kind) (a b : List Taken) (room room' : ℕ) where
   front_lists : (f s : Reading)
-      → payloadDifferences k a b f s
-      ≡ differences (take (lengthBeside f s) (octetsAfter k a room f))
-      (take (lengthBeside s f) (octetsAfter k b room' s))
-  unfolding differencesFrom
+      → payload_differences k a b f s
+      ≡ differences (take (length_beside f s) (octets_after k a room f))
+      (take (length_beside s f) (octets_after k b room' s))
+  unfolding differences_from
   front_lists (Refused e) (Refused e') = refl
   front_lists (Refused e) (Good t used least) = refl
   front_lists (Good t used least) (Refused e) = refl
   front_lists (Good t used least) (Good t' used' least') =
-      ap₂ {C = List Difference} differences (sym (payload-front k a room t)) (sym (payload-front k b room' t'))
+      ap₂ {C = List Difference} differences (sym (payload_front k a room t)) (sym (payload_front k b room' t'))
 
 module _ (kind : ℕ) (a b : List ℕ) (room room' : ℕ) where
   abbrev f : Reading
-  f = hardReading kind a room
+  f = hard_reading kind a room
 
   abbrev s : Reading
-  s = hardReading kind b room'
+  s = hard_reading kind b room'
 
-  beside-fits : (lengthBeside f s ≤ room) × (lengthBeside s f ≤ room')
-  beside-fits = (
-    fits-beside room f s (reading-fits kind true (hardRecording a) room),
-    fits-beside room' s f (reading-fits kind true (hardRecording b) room'),
+  beside_fits : (length_beside f s ≤ room) × (length_beside s f ≤ room')
+  beside_fits = (
+    fits_beside room f s (reading_fits kind true (hard_recording a) room),
+    fits_beside room' s f (reading_fits kind true (hard_recording b) room'),
   )
 
-  pub octets-are : octetList kind a b room room'
-      ≡ differences (take (lengthBeside f s) (octetsFound kind true (hardRecording a) room))
-      (take (lengthBeside s f) (octetsFound kind true (hardRecording b) room'))
-  unfolding octetList octetsFound
-  octets-are = front_lists (kind_of kind) (hardRecording a) (hardRecording b) room room' f s
+  pub octets_are : octet_list kind a b room room'
+      ≡ differences (take (length_beside f s) (octets_found kind true (hard_recording a) room))
+      (take (length_beside s f) (octets_found kind true (hard_recording b) room'))
+  unfolding octet_list octets_found
+  octets_are = front_lists (kind_of kind) (hard_recording a) (hard_recording b) room room' f s
 
   -- both numbers of octets, from the records that two reads answer
-  pub lengths-are : (one other : Record) (n m : ℕ) → one ≡ recordOf f → other ≡ recordOf s
+  pub lengths_are : (one other : Record) (n m : ℕ) → one ≡ record_of f → other ≡ record_of s
       → n ≡ cond (eqb one.number 0 && eqb other.number 0) one.n 0
       → m ≡ cond (eqb one.number 0 && eqb other.number 0) other.n 0
-      → (n ≡ lengthBeside f s) × (m ≡ lengthBeside s f)
-  lengths-are one other n m p q e g = (
+      → (n ≡ length_beside f s) × (m ≡ length_beside s f)
+  lengths_are one other n m p q e g = (
     e ∙ ap₂ {C = ℕ} (λ (x y : Record). cond (eqb x.number 0 && eqb y.number 0) x.n 0) p q
-        ∙ sym (beside-is f s),
+        ∙ sym (beside_is f s),
     g ∙ ap₂ {C = ℕ} (λ (x y : Record). cond (eqb x.number 0 && eqb y.number 0) y.n 0) p q
-        ∙ sym (other-is f s),
+        ∙ sym (other_is f s),
   )
 
   -- which the buffers that they leave hold
-  pub lengths-fit : (n m : ℕ) (l k : List ℕ) → n ≡ lengthBeside f s → m ≡ lengthBeside s f
-      → l ≡ octetsFound kind true (hardRecording a) room → k ≡ octetsFound kind true (hardRecording b) room'
+  pub lengths_fit : (n m : ℕ) (l k : List ℕ) → n ≡ length_beside f s → m ≡ length_beside s f
+      → l ≡ octets_found kind true (hard_recording a) room → k ≡ octets_found kind true (hard_recording b) room'
       → (n ≤ length l) × (m ≤ length k)
-  lengths-fit n m l k e g p q =
-      let h = ap length p ∙ found-long kind true (hardRecording a) room in
-      let j = ap length q ∙ found-long kind true (hardRecording b) room' in
-      (omega (arith, beside-fits.0, e, h), omega (arith, beside-fits.1, g, j))
+  lengths_fit n m l k e g p q =
+      let h = ap length p ∙ found_long kind true (hard_recording a) room in
+      let j = ap length q ∙ found_long kind true (hard_recording b) room' in
+      (omega (arith, beside_fits.0, e, h), omega (arith, beside_fits.1, g, j))
 
   -- the list of octets, from the buffers that they leave
-  pub list-is : (n m : ℕ) (l k : List ℕ) → n ≡ lengthBeside f s → m ≡ lengthBeside s f
-      → l ≡ octetsFound kind true (hardRecording a) room → k ≡ octetsFound kind true (hardRecording b) room'
-      → differences (take n l) (take m k) ≡ octetList kind a b room room'
-  list-is n m l k e g p q = rw (e, g, p, q) (sym octets-are)
+  pub list_is : (n m : ℕ) (l k : List ℕ) → n ≡ length_beside f s → m ≡ length_beside s f
+      → l ≡ octets_found kind true (hard_recording a) room → k ≡ octets_found kind true (hard_recording b) room'
+      → differences (take n l) (take m k) ≡ octet_list kind a b room room'
+  list_is n m l k e g p q = rw (e, g, p, q) (sym octets_are)
 
   -- the answer
-  pub answer-is : (one other : Record) (n m chips octets : ℕ) → one ≡ recordOf f → other ≡ recordOf s
-      → n ≡ lengthBeside f s → m ≡ lengthBeside s f → chips ≡ length (differences a b)
-      → octets ≡ length (octetList kind a b room room')
+  pub answer_is : (one other : Record) (n m chips octets : ℕ) → one ≡ record_of f → other ≡ record_of s
+      → n ≡ length_beside f s → m ≡ length_beside s f → chips ≡ length (differences a b)
+      → octets ≡ length (octet_list kind a b room room')
       → ◌≡◌ {A = Compared}
       (record { a = one; b = other; chips = chips; octets = octets; n_a = n; n_b = m })
-      (comparedOf kind a b room room')
-  unfolding comparedOf
-  answer-is one other n m chips octets p q e g c o =
+      (compared_of kind a b room room')
+  unfolding compared_of
+  answer_is one other n m chips octets p q e g c o =
       λ i. record { a = p i; b = q i; chips = c i; octets = o i; n_a = e i; n_b = g i }

@@ -1,8 +1,8 @@
 -- Lists of differences side by side.
 --     itself                      nothing differs from itself
---     fewest, few-shown           there are not more entries than either row has elements
+--     fewest, few_shown           there are not more entries than either row has elements
 --     exchanged                   rows exchanged: as many entries, and the same row with both octets exchanged
---     gives-second, gives-first   equal lists and one row give the other, as far as all go
+--     gives_second, gives_first   equal lists and one row give the other, as far as all go
 -- Assumes nothing.
 use mathlib.Core.Path.{◌≡◌, refl, sym, ap, ◌∙◌}
 use mathlib.Core.List.{List, [], ◌∷◌, map}
@@ -10,33 +10,33 @@ use Prim.Native.Nat.{ℕ, zero, suc, ◌+◌, ◌*◌, ◌≤◌, ◌<◌}
 use native.Mathlib.Decide.{dec_lt, ℕ_discrete}
 use native.Mathlib.Omega.{arith}
 use lib.ListN.{length, get_or}
-use Rattle.rules_compare.specs.Differences.{Difference, differencesFrom, differences, entryPlaces, laid}
+use Rattle.rules_compare.specs.Differences.{Difference, differences_from, differences, entry_places, laid}
 use Rattle.rules_compare.specs.Plain.{Lists, Shows, Exchanged}
-use Rattle.rules_compare.proofs.Entries.{same_head, other-head, none-behind, entry_next, entry-on}
-use Rattle.rules_compare.proofs.Shown.{fit_at, zeros-at, shows, shows-once}
+use Rattle.rules_compare.proofs.Entries.{same_head, other_head, none_behind, entry_next, entry_on}
+use Rattle.rules_compare.proofs.Shown.{fit_at, zeros_at, shows, shows_once}
 
 -- ---- one row with itself
-itself-from : (at : ℕ) (xs : List ℕ) → differencesFrom at xs xs ≡ []
-unfolding differencesFrom
-itself-from at [] = refl
-itself-from at (x ∷ xs) = same_head at x x xs xs refl ∙ itself-from (suc at) xs
+itself_from : (at : ℕ) (xs : List ℕ) → differences_from at xs xs ≡ []
+unfolding differences_from
+itself_from at [] = refl
+itself_from at (x ∷ xs) = same_head at x x xs xs refl ∙ itself_from (suc at) xs
 
 pub itself : (xs : List ℕ) → differences xs xs ≡ []
-itself xs = itself-from 0 xs
+itself xs = itself_from 0 xs
 
 -- ---- how many at most
-fewest-from : (at : ℕ) (xs ys : List ℕ)
-    → (length (differencesFrom at xs ys) ≤ length xs) × (length (differencesFrom at xs ys) ≤ length ys)
-unfolding differencesFrom
-fewest-from at [] ys = (omega arith, omega arith)
-fewest-from at (x ∷ xs) [] = (omega arith, omega arith)
-fewest-from at (x ∷ xs) (y ∷ ys) = by (ℕ_discrete x y) (fewest-from (suc at) xs ys)
+fewest_from : (at : ℕ) (xs ys : List ℕ)
+    → (length (differences_from at xs ys) ≤ length xs) × (length (differences_from at xs ys) ≤ length ys)
+unfolding differences_from
+fewest_from at [] ys = (omega arith, omega arith)
+fewest_from at (x ∷ xs) [] = (omega arith, omega arith)
+fewest_from at (x ∷ xs) (y ∷ ys) = by (ℕ_discrete x y) (fewest_from (suc at) xs ys)
   where
     rest : List Difference
-    rest = differencesFrom (suc at) xs ys
+    rest = differences_from (suc at) xs ys
 
     all : List Difference
-    all = differencesFrom at (x ∷ xs) (y ∷ ys)
+    all = differences_from at (x ∷ xs) (y ∷ ys)
 
     by : Dec (x ≡ y) → (length rest ≤ length xs) × (length rest ≤ length ys)
         → (length all ≤ suc (length xs)) × (length all ≤ suc (length ys))
@@ -44,16 +44,16 @@ fewest-from at (x ∷ xs) (y ∷ ys) = by (ℕ_discrete x y) (fewest-from (suc a
         let n = ap length (same_head at x y xs ys e) in
         (omega (arith, n, f.0), omega (arith, n, f.1))
     by (no ne) f =
-        let n = ap length (other-head at x y xs ys ne) in
+        let n = ap length (other_head at x y xs ys ne) in
         (omega (arith, n, f.0), omega (arith, n, f.1))
 
 pub fewest : (xs ys : List ℕ) → (length (differences xs ys) ≤ length xs) × (length (differences xs ys) ≤ length ys)
-fewest xs ys = fewest-from 0 xs ys
+fewest xs ys = fewest_from 0 xs ys
 
-pub few-shown : {xs ys row : List ℕ} {places entries : ℕ} → Shows xs ys places entries row
+pub few_shown : {xs ys row : List ℕ} {places entries : ℕ} → Shows xs ys places entries row
     → (entries ≤ length xs) × (entries ≤ length ys)
-few-shown {xs} {ys} {row} {places} v =
-    let n = (shows-once v (shows xs ys places)).0 in
+few_shown {xs} {ys} {row} {places} v =
+    let n = (shows_once v (shows xs ys places)).0 in
     let f = fewest xs ys in
     (omega (arith, n, f.0), omega (arith, n, f.1))
 
@@ -61,34 +61,34 @@ few-shown {xs} {ys} {row} {places} v =
 abbrev turned : Difference → Difference
 turned d = record { index = d.index; first = d.second; second = d.first }
 
-turned-from : (at : ℕ) (xs ys : List ℕ) → differencesFrom at ys xs ≡ map turned (differencesFrom at xs ys)
-unfolding differencesFrom
-turned-from at [] ys = none-behind at ys
-turned-from at (x ∷ xs) [] = refl
-turned-from at (x ∷ xs) (y ∷ ys) = by (ℕ_discrete x y) (turned-from (suc at) xs ys)
+turned_from_lem : (at : ℕ) (xs ys : List ℕ) → differences_from at ys xs ≡ map turned (differences_from at xs ys)
+unfolding differences_from
+turned_from_lem at [] ys = none_behind at ys
+turned_from_lem at (x ∷ xs) [] = refl
+turned_from_lem at (x ∷ xs) (y ∷ ys) = by (ℕ_discrete x y) (turned_from_lem (suc at) xs ys)
   where
-    by : Dec (x ≡ y) → differencesFrom (suc at) ys xs ≡ map turned (differencesFrom (suc at) xs ys)
-        → differencesFrom at (y ∷ ys) (x ∷ xs) ≡ map turned (differencesFrom at (x ∷ xs) (y ∷ ys))
+    by : Dec (x ≡ y) → differences_from (suc at) ys xs ≡ map turned (differences_from (suc at) xs ys)
+        → differences_from at (y ∷ ys) (x ∷ xs) ≡ map turned (differences_from at (x ∷ xs) (y ∷ ys))
     by (yes e) h =
         same_head at y x ys xs (sym e) ∙ h ∙ ap (map turned) (sym (same_head at x y xs ys e))
     by (no ne) h =
-        other-head at y x ys xs (λ e. ne (sym e))
+        other_head at y x ys xs (λ e. ne (sym e))
         ∙ ap (λ (ds : List Difference). record { index = at; first = y; second = x } ∷ ds) h
-        ∙ ap (map turned) (sym (other-head at x y xs ys ne))
+        ∙ ap (map turned) (sym (other_head at x y xs ys ne))
 
-turned-long : (ds : List Difference) → length (map turned ds) ≡ length ds
-turned-long [] = refl
-turned-long (d ∷ ds) = ap suc (turned-long ds)
+turned_long : (ds : List Difference) → length (map turned ds) ≡ length ds
+turned_long [] = refl
+turned_long (d ∷ ds) = ap suc (turned_long ds)
 
-turned-places : (ds : List Difference) (k : ℕ) → Exchanged (entryPlaces ds) (entryPlaces (map turned ds)) k
-unfolding entryPlaces
-turned-places [] k = (refl, refl, refl)
-turned-places (d ∷ ds) zero = (refl, refl, refl)
-turned-places (d ∷ ds) (suc k) =
-    let t = turned-places ds k in (
+turned_places : (ds : List Difference) (k : ℕ) → Exchanged (entry_places ds) (entry_places (map turned ds)) k
+unfolding entry_places
+turned_places [] k = (refl, refl, refl)
+turned_places (d ∷ ds) zero = (refl, refl, refl)
+turned_places (d ∷ ds) (suc k) =
+    let t = turned_places ds k in (
       rw (entry_next k) t.0,
-      rw (entry-on k 1, entry-on k 2) t.1,
-      rw (entry-on k 1, entry-on k 2) t.2,
+      rw (entry_on k 1, entry_on k 2) t.1,
+      rw (entry_on k 1, entry_on k 2) t.2,
     )
 
 pub exchanged : (xs ys : List ℕ) (places : ℕ)
@@ -100,12 +100,12 @@ exchanged xs ys places = (as_many, λ k. by k (dec_lt places (3 * length ds)))
     ds = differences xs ys
 
     as_many : length (differences ys xs) ≡ length ds
-    as_many = ap length (turned-from 0 xs ys) ∙ turned-long ds
+    as_many = ap length (turned_from_lem 0 xs ys) ∙ turned_long ds
 
     by : (k : ℕ) → Dec (places < 3 * length ds) → Exchanged (laid places ds) (laid places (differences ys xs)) k
     by k (yes h) =
-        let z = zeros-at places (differences xs ys) h in
-        let z' = zeros-at places (differences ys xs) (omega (arith, as_many)) in (
+        let z = zeros_at places (differences xs ys) h in
+        let z' = zeros_at places (differences ys xs) (omega (arith, as_many)) in (
           z' (3 * k) ∙ sym (z (3 * k)),
           z' (3 * k + 1) ∙ sym (z (3 * k + 2)),
           z' (3 * k + 2) ∙ sym (z (3 * k + 1)),
@@ -113,8 +113,8 @@ exchanged xs ys places = (as_many, λ k. by k (dec_lt places (3 * length ds)))
     by k (no g) =
         let f = fit_at places ds (omega arith) in
         let f' = fit_at places (differences ys xs) (omega (arith, as_many)) in
-        let t : Exchanged (entryPlaces ds) (entryPlaces (differences ys xs)) k =
-        rw (turned-from 0 xs ys) (turned-places ds k) in (
+        let t : Exchanged (entry_places ds) (entry_places (differences ys xs)) k =
+        rw (turned_from_lem 0 xs ys) (turned_places ds k) in (
           f' (3 * k) ∙ t.0 ∙ sym (f (3 * k)),
           f' (3 * k + 1) ∙ t.1 ∙ sym (f (3 * k + 2)),
           f' (3 * k + 2) ∙ t.2 ∙ sym (f (3 * k + 1)),
@@ -134,9 +134,9 @@ module _ {known other other' row row' : List ℕ} {entries c : ℕ} (v : Half kn
     (w : Half known other' row' entries c) (c-is : c < 3)
     (same : (p : ℕ) → p < 3 * entries → get_or row p 0 ≡ get_or row' p 0) where
   -- where the first differs at i and is listed, so does the second
-  listed-too : (i : ℕ) → i < length known → i < length other → (get_or known i 0 ≡ get_or other i 0 → ⊥)
+  listed_too : (i : ℕ) → i < length known → i < length other → (get_or known i 0 ≡ get_or other i 0 → ⊥)
       → get_or other i 0 ≡ get_or other' i 0
-  listed-too i h l ne =
+  listed_too i h l ne =
       let k = v.entry i h l ne in
       let a = v.among i h l ne in
       let e = v.index i h l ne in
@@ -152,32 +152,32 @@ module _ {known other other' row row' : List ℕ} {entries c : ℕ} (v : Half kn
     where
       by : Dec (get_or known i 0 ≡ get_or other i 0) → Dec (get_or known i 0 ≡ get_or other' i 0)
           → get_or other i 0 ≡ get_or other' i 0
-      by (no ne) e = listed-too v w c-is same i h l ne
+      by (no ne) e = listed_too v w c-is same i h l ne
       by (yes e) (yes e') = sym e ∙ e'
-      by (yes e) (no ne) = sym (listed-too w v c-is (λ p b. sym (same p b)) i h l' ne)
+      by (yes e) (no ne) = sym (listed_too w v c-is (λ p b. sym (same p b)) i h l' ne)
 
-second-half : {xs ys row : List ℕ} {entries : ℕ} → Lists xs ys row entries → Half xs ys row entries 2
-second-half l = record {
+second_half : {xs ys row : List ℕ} {entries : ℕ} → Lists xs ys row entries → Half xs ys row entries 2
+second_half l = record {
   told = λ k h. (l.each k h).second_is;
-  entry = λ i h g ne. (l.all i (record { first_goes = h; second-goes = g; differ = ne })).entry;
-  among = λ i h g ne. (l.all i (record { first_goes = h; second-goes = g; differ = ne })).among;
-  index = λ i h g ne. (l.all i (record { first_goes = h; second-goes = g; differ = ne })).is.index_is;
+  entry = λ i h g ne. (l.all i (record { first_goes = h; second_goes = g; differ = ne })).entry;
+  among = λ i h g ne. (l.all i (record { first_goes = h; second_goes = g; differ = ne })).among;
+  index = λ i h g ne. (l.all i (record { first_goes = h; second_goes = g; differ = ne })).is.index_is;
 }
 
-first-half : {xs ys row : List ℕ} {entries : ℕ} → Lists xs ys row entries → Half ys xs row entries 1
-first-half l = record {
-  told = λ k h. (l.each k h).first-is;
-  entry = λ i h g ne. (l.all i (record { first_goes = g; second-goes = h; differ = λ e. ne (sym e) })).entry;
-  among = λ i h g ne. (l.all i (record { first_goes = g; second-goes = h; differ = λ e. ne (sym e) })).among;
-  index = λ i h g ne. (l.all i (record { first_goes = g; second-goes = h; differ = λ e. ne (sym e) })).is.index_is;
+first_half : {xs ys row : List ℕ} {entries : ℕ} → Lists xs ys row entries → Half ys xs row entries 1
+first_half l = record {
+  told = λ k h. (l.each k h).first_is;
+  entry = λ i h g ne. (l.all i (record { first_goes = g; second_goes = h; differ = λ e. ne (sym e) })).entry;
+  among = λ i h g ne. (l.all i (record { first_goes = g; second_goes = h; differ = λ e. ne (sym e) })).among;
+  index = λ i h g ne. (l.all i (record { first_goes = g; second_goes = h; differ = λ e. ne (sym e) })).is.index_is;
 }
 
-pub gives-second : {xs ys ys' row row' : List ℕ} {entries : ℕ} → Lists xs ys row entries → Lists xs ys' row' entries
+pub gives_second : {xs ys ys' row row' : List ℕ} {entries : ℕ} → Lists xs ys row entries → Lists xs ys' row' entries
     → ((p : ℕ) → p < 3 * entries → get_or row p 0 ≡ get_or row' p 0)
     → (i : ℕ) → i < length xs → i < length ys → i < length ys' → get_or ys i 0 ≡ get_or ys' i 0
-gives-second l l' same = gives (second-half l) (second-half l') (omega arith) same
+gives_second l l' same = gives (second_half l) (second_half l') (omega arith) same
 
-pub gives-first : {xs xs' ys row row' : List ℕ} {entries : ℕ} → Lists xs ys row entries → Lists xs' ys row' entries
+pub gives_first : {xs xs' ys row row' : List ℕ} {entries : ℕ} → Lists xs ys row entries → Lists xs' ys row' entries
     → ((p : ℕ) → p < 3 * entries → get_or row p 0 ≡ get_or row' p 0)
     → (i : ℕ) → i < length ys → i < length xs → i < length xs' → get_or xs i 0 ≡ get_or xs' i 0
-gives-first l l' same = gives (first-half l) (first-half l') (omega arith) same
+gives_first l l' same = gives (first_half l) (first_half l') (omega arith) same

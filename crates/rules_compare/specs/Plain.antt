@@ -8,14 +8,14 @@ use Rattle.rules_compare.specs.declared.Compared.{Compared}
 -- both rows go as far as index i, and differ there
 pub record DifferAt (xs ys : List ℕ) (i : ℕ) : Type 0 where
   pub first_goes : i < length xs
-  pub second-goes : i < length ys
+  pub second_goes : i < length ys
   pub differ : get_or xs i 0 ≡ get_or ys i 0 → ⊥
 
 -- entry k of a row is that of index i: the rows differ there, and what each has there stands behind the index
 pub record EntryIs (xs ys row : List ℕ) (k i : ℕ) : Type 0 where
-  pub differ-at : DifferAt xs ys i
+  pub differ_at : DifferAt xs ys i
   pub index_is : get_or row (3 * k) 0 ≡ i
-  pub first-is : get_or row (3 * k + 1) 0 ≡ get_or xs i 0
+  pub first_is : get_or row (3 * k + 1) 0 ≡ get_or xs i 0
   pub second_is : get_or row (3 * k + 2) 0 ≡ get_or ys i 0
 
 -- some entry of a row is that of index i
@@ -55,5 +55,5 @@ pub record ShowsPayloads (places : ℕ) (c : Compared) (octets first second : Li
   pub both : c.a.number ≡ 0 → c.b.number ≡ 0
       → Shows (take c.a.n first) (take c.b.n second) places c.octets octets
       × (c.n_a ≡ c.a.n) × (c.n_b ≡ c.b.n)
-  pub not-both : (c.a.number ≡ 0 → ⊥) ⊎ (c.b.number ≡ 0 → ⊥)
+  pub not_both : (c.a.number ≡ 0 → ⊥) ⊎ (c.b.number ≡ 0 → ⊥)
       → (c.octets ≡ 0) × (c.n_a ≡ 0) × (c.n_b ≡ 0) × (length octets ≡ places) × ZerosFrom octets 0

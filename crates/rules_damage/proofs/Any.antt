@@ -1,6 +1,6 @@
 -- Every damage that the limits allow occurs: for any chips that are phases, and any two pairs of numbers that keep the
 -- limits, there is a recording in which each symbol of the front has just the first pair of wrong and lost chips, and
--- each symbol of the payload the second (`any-damage`). The first chips of a symbol are turned by a quarter, the next
+-- each symbol of the payload the second (`any_damage`). The first chips of a symbol are turned by a quarter, the next
 -- ones are lost. Assumes nothing.
 use mathlib.Core.Path.{◌≡◌, sym, ap, ◌∙◌, subst}
 use mathlib.Core.Bool.{true, cond}
@@ -14,14 +14,14 @@ use lib.Dec.{ltb}
 use lib.ListN.{length, get_or, get_or-eq_default}
 use Rattle.base.specs.Below.{Below}
 use Rattle.base.specs.Tables.{tabulate}
-use Rattle.base.proofs.Tables.{get_d_tabulate, length-tabulate}
+use Rattle.base.proofs.Tables.{get_or_tabulate, length_tabulate}
 use Rattle.base.specs.SoMany.{SoMany, no_place, such, other}
-use Rattle.base.proofs.SoMany.{many-once}
+use Rattle.base.proofs.SoMany.{many_once}
 use Rattle.rules_rates.specs.declared.Rate.{Rate}
 use Rattle.rules_rates.specs.declared.Rate.TheVariants.{One, Two, Five, Eleven}
-use Rattle.rules_rates.specs.Rates.{code_of, symbolChips, octetSymbols}
+use Rattle.rules_rates.specs.Rates.{code_of, symbol_chips, octet_symbols}
 use Rattle.rules_frame.specs.declared.Kind.{Kind}
-use Rattle.rules_frame.specs.Frame.{isKind, kind_of, frontChips, frontSymbols, frameChips}
+use Rattle.rules_frame.specs.Frame.{is_kind, kind_of, front_chips, front_symbols, frame_chips}
 use Rattle.rules_damage.specs.Plain.{
   WrongAt,
   LostAt,
@@ -29,14 +29,14 @@ use Rattle.rules_damage.specs.Plain.{
   FrameStands,
   SpoiledBy,
 }
-use Rattle.rules_damage.proofs.OneSymbol.{limitOf}
+use Rattle.rules_damage.proofs.OneSymbol.{limit_of}
 use Rattle.rules_damage.proofs.Symbols.{
-  front-table,
-  one-front,
-  front-eleven,
+  front_table,
+  one_front,
+  front_eleven,
   by_part,
-  payload-symbol,
-  symbol-inside,
+  payload_symbol,
+  symbol_inside,
 }
 
 -- ---- of c places from `at` on, x are not such, the next y are, and no more
@@ -71,28 +71,28 @@ module _ (Such : ℕ → Type 0) where
 abbrev spoil : ℕ → ℕ → ℕ → ℕ → ℕ
 spoil w t i x = cond (ltb i w) ((x + 1) % 4) (cond (ltb i (w + t)) 4 x)
 
-spoil-wrong : (w t i x : ℕ) → i < w → spoil w t i x ≡ (x + 1) % 4
-spoil-wrong w t i x l = rw (lt-ltb i w l)
+spoil_wrong : (w t i x : ℕ) → i < w → spoil w t i x ≡ (x + 1) % 4
+spoil_wrong w t i x l = rw (lt-ltb i w l)
 
-spoil-lost : (w t i x : ℕ) → w ≤ i → i < w + t → spoil w t i x ≡ 4
-spoil-lost w t i x l m = rw (le-ltb i w l, lt-ltb i (w + t) m)
+spoil_lost : (w t i x : ℕ) → w ≤ i → i < w + t → spoil w t i x ≡ 4
+spoil_lost w t i x l m = rw (le-ltb i w l, lt-ltb i (w + t) m)
 
-spoil-not : (w t i x : ℕ) → w + t ≤ i → spoil w t i x ≡ x
-spoil-not w t i x l = let m : w ≤ i = omega arith in rw (le-ltb i w m, le-ltb i (w + t) l)
+spoil_not : (w t i x : ℕ) → w + t ≤ i → spoil w t i x ≡ x
+spoil_not w t i x l = let m : w ≤ i = omega arith in rw (le-ltb i w m, le-ltb i (w + t) l)
 
-spoil-usable : (w t i x : ℕ) → x < 4 → spoil w t i x < 5
-spoil-usable w t i x l = by (dec_lt i w) (dec_lt i (w + t))
+spoil_usable : (w t i x : ℕ) → x < 4 → spoil w t i x < 5
+spoil_usable w t i x l = by (dec_lt i w) (dec_lt i (w + t))
   where
     by : Dec (i < w) → Dec (i < w + t) → spoil w t i x < 5
-    by (yes m) d = rw (spoil-wrong w t i x m) (omega arith)
-    by (no g) (yes m) = rw (spoil-lost w t i x (omega arith) m) (omega arith)
-    by (no g) (no h) = rw (spoil-not w t i x (omega arith)) (omega arith)
+    by (yes m) d = rw (spoil_wrong w t i x m) (omega arith)
+    by (no g) (yes m) = rw (spoil_lost w t i x (omega arith) m) (omega arith)
+    by (no g) (no h) = rw (spoil_not w t i x (omega arith)) (omega arith)
 
 -- ---- a symbol that is spoiled so
 module _ (sent rec : List ℕ) (at c w t : ℕ) (fits : w + t ≤ c) (phases : Below 4 sent)
     (rule : (i : ℕ) → i < c → get_or rec (at + i) 0 ≡ spoil w t i (get_or sent (at + i) 0)) where
-  wrong-so : SoMany (WrongAt sent rec) at c w
-  wrong-so =
+  wrong_so : SoMany (WrongAt sent rec) at c w
+  wrong_so =
       stretch (WrongAt sent rec) c at 0 w (omega arith)
       (λ i l s. omega (arith, l))
       (λ i l m. turned i m)
@@ -101,152 +101,152 @@ module _ (sent rec : List ℕ) (at c w t : ℕ) (fits : w + t ≤ c) (phases : B
       turned : (i : ℕ) → i < 0 + w → WrongAt sent rec (at + i)
       turned i m =
           let x = get_or sent (at + i) 0 in
-          let e : get_or rec (at + i) 0 ≡ (x + 1) % 4 = rule i (omega arith) ∙ spoil-wrong w t i x (omega arith) in
+          let e : get_or rec (at + i) 0 ≡ (x + 1) % 4 = rule i (omega arith) ∙ spoil_wrong w t i x (omega arith) in
           (omega (arith, e), λ h. omega (arith, e, h, phases.at (at + i)))
 
-      not-wrong : (i : ℕ) → 0 + w ≤ i → i < c → WrongAt sent rec (at + i) → ⊥
-      not-wrong i l m s = by (dec_lt i (w + t))
+      not_wrong : (i : ℕ) → 0 + w ≤ i → i < c → WrongAt sent rec (at + i) → ⊥
+      not_wrong i l m s = by (dec_lt i (w + t))
         where
           by : Dec (i < w + t) → ⊥
           by (yes n) =
-              omega (arith, s.0, rule i m ∙ spoil-lost w t i (get_or sent (at + i) 0) (omega arith) n)
-          by (no g) = s.1 (rule i m ∙ spoil-not w t i (get_or sent (at + i) 0) (omega arith))
+              omega (arith, s.0, rule i m ∙ spoil_lost w t i (get_or sent (at + i) 0) (omega arith) n)
+          by (no g) = s.1 (rule i m ∙ spoil_not w t i (get_or sent (at + i) 0) (omega arith))
 
-  lost-so : SoMany (LostAt rec) at c t
-  lost-so =
+  lost_so : SoMany (LostAt rec) at c t
+  lost_so =
       stretch (LostAt rec) c at w t fits
       (λ i l s. omega (
         arith,
         s,
-        rule i (omega arith) ∙ spoil-wrong w t i (get_or sent (at + i) 0) l,
+        rule i (omega arith) ∙ spoil_wrong w t i (get_or sent (at + i) 0) l,
       ))
-      (λ i l m. rule i (omega arith) ∙ spoil-lost w t i (get_or sent (at + i) 0) l m)
+      (λ i l m. rule i (omega arith) ∙ spoil_lost w t i (get_or sent (at + i) 0) l m)
       (λ i l m s. omega (
         arith,
         s,
-        rule i m ∙ spoil-not w t i (get_or sent (at + i) 0) l,
+        rule i m ∙ spoil_not w t i (get_or sent (at + i) 0) l,
         phases.at (at + i),
       ))
 
 -- ---- a whole frame
-in-symbol : (r : Rate) (j i : ℕ) → i < symbolChips r → (symbolChips r * j + i) % symbolChips r ≡ i
-in-symbol One j i l = omega arith
-in-symbol Two j i l = omega arith
-in-symbol Five j i l = omega arith
-in-symbol Eleven j i l = omega arith
+in_symbol : (r : Rate) (j i : ℕ) → i < symbol_chips r → (symbol_chips r * j + i) % symbol_chips r ≡ i
+in_symbol One j i l = omega arith
+in_symbol Two j i l = omega arith
+in_symbol Five j i l = omega arith
+in_symbol Eleven j i l = omega arith
 
-room_for : (r : Rate) (w t : ℕ) → KeepsLimit (limitOf r) w t → w + t ≤ symbolChips r
+room_for : (r : Rate) (w t : ℕ) → KeepsLimit (limit_of r) w t → w + t ≤ symbol_chips r
 room_for One w t h = omega (arith, h)
 room_for Two w t h = omega (arith, h)
 room_for Five w t h = omega (arith, h)
 room_for Eleven w t h = omega (arith, h)
 
-module _ (kind : ℕ) (is-kind : isKind kind ≡ true) (r : Rate) (n : ℕ) (sent : List ℕ) (phases : Below 4 sent)
-    (long : length sent ≡ frameChips (kind_of kind) r n) (w t w' t' : ℕ) (keeps : KeepsLimit 10 w t)
-    (keeps' : KeepsLimit (limitOf r) w' t') where
+module _ (kind : ℕ) (is-kind : is_kind kind ≡ true) (r : Rate) (n : ℕ) (sent : List ℕ) (phases : Below 4 sent)
+    (long : length sent ≡ frame_chips (kind_of kind) r n) (w t w' t' : ℕ) (keeps : KeepsLimit 10 w t)
+    (keeps' : KeepsLimit (limit_of r) w' t') where
   abbrev k : Kind
   k = kind_of kind
 
   abbrev c : ℕ
-  c = symbolChips r
+  c = symbol_chips r
 
   abbrev rule : ℕ → ℕ
   rule i =
-      cond (ltb i (frontChips k)) (spoil w t (i % 11) (get_or sent i 0))
-      (spoil w' t' ((i - frontChips k) % c) (get_or sent i 0))
+      cond (ltb i (front_chips k)) (spoil w t (i % 11) (get_or sent i 0))
+      (spoil w' t' ((i - front_chips k) % c) (get_or sent i 0))
 
   abbrev so : List ℕ
   so = tabulate rule (length sent)
 
-  front-rule : (s : ℕ) → s < frontSymbols k → (i : ℕ) → i < 11
+  front_rule : (s : ℕ) → s < front_symbols k → (i : ℕ) → i < 11
       → get_or so (11 * s + i) 0 ≡ spoil w t i (get_or sent (11 * s + i) 0)
-  front-rule s l i m =
-      get_d_tabulate rule (length sent) (11 * s + i) 0 (omega (arith, long, front-eleven k))
-      ∙ rw (lt-ltb (11 * s + i) (frontChips k) (omega (arith, front-eleven k)))
+  front_rule s l i m =
+      get_or_tabulate rule (length sent) (11 * s + i) 0 (omega (arith, long, front_eleven k))
+      ∙ rw (lt-ltb (11 * s + i) (front_chips k) (omega (arith, front_eleven k)))
       (ap (λ (j : ℕ). spoil w t j (get_or sent (11 * s + i) 0)) place)
     where
       place : (11 * s + i) % 11 ≡ i
       place = omega arith
 
-  payload-rule : (j : ℕ) → frontChips k + c * j + c ≤ length sent → (i : ℕ) → i < c
-      → get_or so (frontChips k + c * j + i) 0 ≡ spoil w' t' i (get_or sent (frontChips k + c * j + i) 0)
-  payload-rule j h i m =
-      get_d_tabulate rule (length sent) (frontChips k + c * j + i) 0 (omega (arith, h, m))
-      ∙ rw (le-ltb (frontChips k + c * j + i) (frontChips k) (omega arith))
-      (ap (λ (x : ℕ). spoil w' t' x (get_or sent (frontChips k + c * j + i) 0)) place)
+  payload_rule : (j : ℕ) → front_chips k + c * j + c ≤ length sent → (i : ℕ) → i < c
+      → get_or so (front_chips k + c * j + i) 0 ≡ spoil w' t' i (get_or sent (front_chips k + c * j + i) 0)
+  payload_rule j h i m =
+      get_or_tabulate rule (length sent) (front_chips k + c * j + i) 0 (omega (arith, h, m))
+      ∙ rw (le-ltb (front_chips k + c * j + i) (front_chips k) (omega arith))
+      (ap (λ (x : ℕ). spoil w' t' x (get_or sent (front_chips k + c * j + i) 0)) place)
     where
-      behind : frontChips k + c * j + i - frontChips k ≡ c * j + i
+      behind : front_chips k + c * j + i - front_chips k ≡ c * j + i
       behind = omega arith
 
-      place : (frontChips k + c * j + i - frontChips k) % c ≡ i
-      place = ap (λ (x : ℕ). x % c) behind ∙ in-symbol r j i m
+      place : (front_chips k + c * j + i - front_chips k) % c ≡ i
+      place = ap (λ (x : ℕ). x % c) behind ∙ in_symbol r j i m
 
   abbrev Counts : ℕ → ℕ → ℕ → ℕ → Type 0
   Counts at chips x y = SoMany (WrongAt sent so) at chips x × SoMany (LostAt so) at chips y
 
-  front-counts : (s : ℕ) → s < frontSymbols k → Counts (11 * s) 11 w t
-  front-counts s l =
+  front_counts : (s : ℕ) → s < front_symbols k → Counts (11 * s) 11 w t
+  front_counts s l =
       let fits : w + t ≤ 11 = omega (arith, keeps) in (
-        wrong-so sent so (11 * s) 11 w t fits phases (front-rule s l),
-        lost-so sent so (11 * s) 11 w t fits phases (front-rule s l),
+        wrong_so sent so (11 * s) 11 w t fits phases (front_rule s l),
+        lost_so sent so (11 * s) 11 w t fits phases (front_rule s l),
       )
 
-  payload-counts : (j : ℕ) → frontChips k + c * j + c ≤ length sent → Counts (frontChips k + c * j) c w' t'
-  payload-counts j h =
+  payload_counts : (j : ℕ) → front_chips k + c * j + c ≤ length sent → Counts (front_chips k + c * j) c w' t'
+  payload_counts j h =
       let fits = room_for r w' t' keeps' in (
-        wrong-so sent so (frontChips k + c * j) c w' t' fits phases (payload-rule j h),
-        lost-so sent so (frontChips k + c * j) c w' t' fits phases (payload-rule j h),
+        wrong_so sent so (front_chips k + c * j) c w' t' fits phases (payload_rule j h),
+        lost_so sent so (front_chips k + c * j) c w' t' fits phases (payload_rule j h),
       )
 
-  payload-there : (j : ℕ) → j < octetSymbols r * n → frontChips k + c * j + c ≤ length sent
-  payload-there j l =
-      rw long (symbol-inside kind is-kind r n _ _ _ _ (payload-symbol kind is-kind r n j l))
+  payload_there : (j : ℕ) → j < octet_symbols r * n → front_chips k + c * j + c ≤ length sent
+  payload_there j l =
+      rw long (symbol_inside kind is-kind r n _ _ _ _ (payload_symbol kind is-kind r n j l))
 
   usable : Below 5 so
   usable = record { at = λ i. by i (dec_lt i (length sent)) }
     where
       ruled : (i : ℕ) → rule i < 5
-      ruled i = by (dec_lt i (frontChips k))
+      ruled i = by (dec_lt i (front_chips k))
         where
-          by : Dec (i < frontChips k) → rule i < 5
-          by (yes l) = rw (lt-ltb i (frontChips k) l) (spoil-usable w t (i % 11) (get_or sent i 0) (phases.at i))
+          by : Dec (i < front_chips k) → rule i < 5
+          by (yes l) = rw (lt-ltb i (front_chips k) l) (spoil_usable w t (i % 11) (get_or sent i 0) (phases.at i))
           by (no g) =
-              rw (le-ltb i (frontChips k) (omega arith))
-              (spoil-usable w' t' ((i - frontChips k) % c) (get_or sent i 0) (phases.at i))
+              rw (le-ltb i (front_chips k) (omega arith))
+              (spoil_usable w' t' ((i - front_chips k) % c) (get_or sent i 0) (phases.at i))
 
       by : (i : ℕ) → Dec (i < length sent) → get_or so i 0 < 5
-      by i (yes l) = rw (get_d_tabulate rule (length sent) i 0 l) (ruled i)
+      by i (yes l) = rw (get_or_tabulate rule (length sent) i 0 l) (ruled i)
       by i (no g) =
-          rw (get_or-eq_default so 0 {n = i} (omega (arith, g, length-tabulate rule (length sent)))) (omega arith)
+          rw (get_or-eq_default so 0 {n = i} (omega (arith, g, length_tabulate rule (length sent)))) (omega arith)
 
   held : {at chips limit x y x' y' : ℕ} → Counts at chips x y → KeepsLimit limit x y
       → SoMany (WrongAt sent so) at chips x' → SoMany (LostAt so) at chips y' → KeepsLimit limit x' y'
   held {at} {chips} {limit} {x} {y} {x'} {y'} h few mw ml =
-      subst (λ (j : ℕ). KeepsLimit limit j y') (many-once h.0 mw)
-      (subst (KeepsLimit limit x) (many-once h.1 ml) few)
+      subst (λ (j : ℕ). KeepsLimit limit j y') (many_once h.0 mw)
+      (subst (KeepsLimit limit x) (many_once h.1 ml) few)
 
-  so-stands : FrameStands kind (code_of r) n sent so
-  so-stands = record {
-    same_length = length-tabulate rule (length sent);
+  so_stands : FrameStands kind (code_of r) n sent so
+  so_stands = record {
+    same_length = length_tabulate rule (length sent);
     usable = usable;
     each = λ s at chips limit x y is mw ml.
         by_part kind is-kind r n
         (λ s at chips limit. SoMany (WrongAt sent so) at chips x → SoMany (LostAt so) at chips y
         → KeepsLimit limit x y)
-        (λ s l. held (front-counts s l) keeps)
-        (λ j l. held (payload-counts j (payload-there j l)) keeps') s at chips limit is mw ml;
+        (λ s l. held (front_counts s l) keeps)
+        (λ j l. held (payload_counts j (payload_there j l)) keeps') s at chips limit is mw ml;
   }
 
-  pub any-damage : SpoiledBy kind (code_of r) n sent w t w' t'
-  any-damage = record {
+  pub any_damage : SpoiledBy kind (code_of r) n sent w t w' t'
+  any_damage = record {
     rec = so;
-    stands = so-stands;
-    in-the-front = λ f s at chips limit table is below.
-        by_part kind is-kind r n (λ s at chips limit. s < frontSymbols k → Counts at chips w t)
+    stands = so_stands;
+    in_the_front = λ f s at chips limit table is below.
+        by_part kind is-kind r n (λ s at chips limit. s < front_symbols k → Counts at chips w t)
         (λ s l m. front-counts s l) (λ j l m. absurd (omega (arith, m))) s at chips limit is
-        (subst (λ (x : ℕ). s < x) (one-front kind f (frontSymbols k) table (front-table kind is-kind)) below);
-    in-the-payload = λ f s at chips limit table is from.
+        (subst (λ (x : ℕ). s < x) (one_front kind f (front_symbols k) table (front_table kind is-kind)) below);
+    in_the_payload = λ f s at chips limit table is from.
         by_part kind is-kind r n (λ s at chips limit. frontSymbols k ≤ s → Counts at chips w' t')
-        (λ s l m. absurd (omega (arith, l, m))) (λ j l m. payload-counts j (payload-there j l)) s at chips limit is
-        (subst (λ (x : ℕ). x ≤ s) (one-front kind f (frontSymbols k) table (front-table kind is-kind)) from);
+        (λ s l m. absurd (omega (arith, l, m))) (λ j l m. payload-counts j (payload_there j l)) s at chips limit is
+        (subst (λ (x : ℕ). x ≤ s) (one_front kind f (front_symbols k) table (front_table kind is-kind)) from);
   }

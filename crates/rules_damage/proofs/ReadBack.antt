@@ -8,26 +8,26 @@ use Prim.Native.Nat.{ℕ, ◌-◌, ◌≤◌, ◌<◌}
 use lib.ListN.{length, take, replicate}
 use Rattle.base.specs.Below.{Below}
 use Rattle.rules_rates.specs.declared.Rate.{Rate}
-use Rattle.rules_rates.specs.Rates.{code_of, lengthField}
-use Rattle.rules_chips.specs.Chips.{Taken, hardRecording}
-use Rattle.rules_chips.proofs.Recorders.{append-hard}
+use Rattle.rules_rates.specs.Rates.{code_of, length_field}
+use Rattle.rules_chips.specs.Chips.{Taken, hard_recording}
+use Rattle.rules_chips.proofs.Recorders.{append_hard}
 use Rattle.rules_frame.specs.declared.Kind.{Kind}
-use Rattle.rules_frame.specs.Frame.{isKind, kind_of, goesWith, frontChips, sentHeader, frame, frameChips}
-use Rattle.rules_frame.proofs.Headers.{sent-length}
+use Rattle.rules_frame.specs.Frame.{is_kind, kind_of, goes_with, front_chips, sent_header, frame, frame_chips}
+use Rattle.rules_frame.proofs.Headers.{sent_length}
 use Rattle.rules_calls.specs.declared.Told.{Told}
 use Rattle.rules_calls.specs.declared.Refusal.TheVariants.{OctetRoom}
 use Rattle.rules_calls.specs.declared.Front.TheVariants as front
 use Rattle.rules_calls.specs.declared.Reading.TheVariants as reading
 use Rattle.rules_calls.specs.Headers.{told}
-use Rattle.rules_reading.specs.Leads.{frameLeads, leastOf}
-use Rattle.rules_reading.specs.Reading.{frontOf, reading_of, octetsFound}
+use Rattle.rules_reading.specs.Leads.{frame_leads, least_of}
+use Rattle.rules_reading.specs.Reading.{front_of, reading_of, octets_found}
 use Rattle.rules_clean.proofs.FrameWords.{AsSent}
 use Rattle.rules_clean.proofs.ReadBack as back
 use Rattle.rules_damage.specs.Plain.{FrameStands}
-use Rattle.rules_damage.proofs.SpoiledSent.{spoiled-alone, spoiled-sent, spoiled-least}
+use Rattle.rules_damage.proofs.SpoiledSent.{spoiled_alone, spoiled_sent, spoiled_least}
 
-module _ (kind : ℕ) (r : Rate) (p : ℕ) (clock : Bool) (xs : List ℕ) (is-kind : isKind kind ≡ true) (l : p < 4)
-    (goes : goesWith (kind_of kind) r ≡ true) (some : 1 ≤ length xs) (few : length xs ≤ 4095) (rec tail : List ℕ) where
+module _ (kind : ℕ) (r : Rate) (p : ℕ) (clock : Bool) (xs : List ℕ) (is-kind : is_kind kind ≡ true) (l : p < 4)
+    (goes : goes_with (kind_of kind) r ≡ true) (some : 1 ≤ length xs) (few : length xs ≤ 4095) (rec tail : List ℕ) where
   abbrev k : Kind
   k = kind_of kind
 
@@ -35,52 +35,52 @@ module _ (kind : ℕ) (r : Rate) (p : ℕ) (clock : Bool) (xs : List ℕ) (is-ki
   n = length xs
 
   abbrev t : Told
-  t = told r (lengthField r n) n clock
+  t = told r (length_field r n) n clock
 
   abbrev sent : List ℕ
   sent = frame k r p clock xs
 
   abbrev recording : List Taken
-  recording = hardRecording rec ++ hardRecording tail
+  recording = hard_recording rec ++ hard_recording tail
 
   -- ---- the front alone, whatever follows it
-  pub front-spoiled : FrameStands kind (code_of r) 0 (take (frontChips k) sent) rec
-      → frontOf k (hardRecording (rec ++ tail)) ≡ front.Fields t
+  pub front_spoiled : FrameStands kind (code_of r) 0 (take (front_chips k) sent) rec
+      → front_of k (hard_recording (rec ++ tail)) ≡ front.Fields t
   unfolding frame
-  front-spoiled st =
-      ap (frontOf k) (append-hard rec tail)
-      ∙ back.front-is kind r p clock xs is-kind l goes some few recording
-      (spoiled-alone kind is-kind r p (sentHeader r clock n) xs (sent-length r clock n) rec (hardRecording tail) st)
+  front_spoiled st =
+      ap (front_of k) (append_hard rec tail)
+      ∙ back.front_is kind r p clock xs is-kind l goes some few recording
+      (spoiled_alone kind is-kind r p (sent_header r clock n) xs (sent_length r clock n) rec (hard_recording tail) st)
 
   -- ---- the whole frame
   module _ (st : FrameStands kind (code_of r) n sent rec) where
-    as-sent : AsSent k r p (sentHeader r clock n) xs recording
+    as_sent : AsSent k r p (sent_header r clock n) xs recording
     unfolding frame
-    as-sent =
-        spoiled-sent kind is-kind r p (sentHeader r clock n) xs (sent-length r clock n) rec (hardRecording tail) st
+    as_sent =
+        spoiled_sent kind is-kind r p (sent_header r clock n) xs (sent_length r clock n) rec (hard_recording tail) st
 
-    pub least-spoiled : 1024 ≤ (leastOf (frameLeads k r n (hardRecording (rec ++ tail)))).lead
+    pub least_spoiled : 1024 ≤ (least_of (frame_leads k r n (hard_recording (rec ++ tail)))).lead
     unfolding frame
-    least-spoiled =
-        rw (append-hard rec tail)
-        (spoiled-least kind is-kind r p (sentHeader r clock n) xs (sent-length r clock n) rec (hardRecording tail) st)
+    least_spoiled =
+        rw (append_hard rec tail)
+        (spoiled_least kind is-kind r p (sent_header r clock n) xs (sent_length r clock n) rec (hard_recording tail) st)
 
     module _ (room : ℕ) where
-      pub reading-spoiled : n ≤ room
-          → reading_of kind true (hardRecording (rec ++ tail)) room
-          ≡ reading.Good t (frameChips k r n) (leastOf (frameLeads k r n (hardRecording (rec ++ tail))))
-      reading-spoiled h =
-          rw (append-hard rec tail)
-          (back.good-reading kind r p clock xs is-kind l goes some few recording as-sent room true refl h)
+      pub reading_spoiled : n ≤ room
+          → reading_of kind true (hard_recording (rec ++ tail)) room
+          ≡ reading.Good t (frame_chips k r n) (least_of (frame_leads k r n (hard_recording (rec ++ tail))))
+      reading_spoiled h =
+          rw (append_hard rec tail)
+          (back.good_reading kind r p clock xs is-kind l goes some few recording as_sent room true refl h)
 
-      pub octets-spoiled : n ≤ room → Below 256 xs
-          → octetsFound kind true (hardRecording (rec ++ tail)) room ≡ xs ++ replicate (room - n) 0
-      octets-spoiled h o =
-          rw (append-hard rec tail)
-          (back.good-octets kind r p clock xs is-kind l goes some few recording as-sent room true refl h o)
+      pub octets_spoiled : n ≤ room → Below 256 xs
+          → octets_found kind true (hard_recording (rec ++ tail)) room ≡ xs ++ replicate (room - n) 0
+      octets_spoiled h o =
+          rw (append_hard rec tail)
+          (back.good_octets kind r p clock xs is-kind l goes some few recording as_sent room true refl h o)
 
-      pub room-spoiled : room < n
-          → reading_of kind true (hardRecording (rec ++ tail)) room ≡ reading.Refused (OctetRoom (lengthField r n))
-      room-spoiled h =
-          rw (append-hard rec tail)
-          (back.room-refused kind r p clock xs is-kind l goes some few recording as-sent room true refl h)
+      pub room_spoiled : room < n
+          → reading_of kind true (hard_recording (rec ++ tail)) room ≡ reading.Refused (OctetRoom (length_field r n))
+      room_spoiled h =
+          rw (append_hard rec tail)
+          (back.room_refused kind r p clock xs is-kind l goes some few recording as_sent room true refl h)

@@ -7,129 +7,129 @@ use native.Mathlib.Omega.{arith}
 use lib.Dec.{T, eqb, eqb→eq}
 use lib.ListN.{length}
 use Rattle.base.specs.Below.{Below}
-use Rattle.base.proofs.Tests.{implies, implied, all-at}
-use Rattle.base.proofs.SoMany.{many-once}
+use Rattle.base.proofs.Tests.{implies, implied, all_at}
+use Rattle.base.proofs.SoMany.{many_once}
 use Rattle.rules_rates.specs.declared.Rate.{Rate}
 use Rattle.rules_rates.specs.declared.Rate.TheVariants.{One, Two, Five, Eleven}
-use Rattle.rules_rates.specs.Rates.{code_of, rateOf, symbolChips}
-use Rattle.rules_chips.specs.Chips.{takenCounts, hardRecording}
+use Rattle.rules_rates.specs.Rates.{code_of, rate_of, symbol_chips}
+use Rattle.rules_chips.specs.Chips.{taken_counts, hard_recording}
 use Rattle.rules_symbols.specs.Words.{word_of}
-use Rattle.rules_symbols.specs.Choice.{numbers, isAllowed, decided, leadOf}
-use Rattle.rules_symbols.proofs.Words.{word-length}
+use Rattle.rules_symbols.specs.Choice.{numbers, is_allowed, decided, lead_of}
+use Rattle.rules_symbols.proofs.Words.{word_length}
 use Rattle.rules_damage.specs.Damage.{wrong, lost}
 use Rattle.rules_damage.specs.Plain.{
   PayloadSymbols,
-  at-10,
-  at-20,
-  at-55,
-  at-110,
+  at_10,
+  at_20,
+  at_55,
+  at_110,
   SentAs,
-  phase-at-10,
-  phase-at-20,
-  word-at-55,
-  word-at-110,
+  phase_at_10,
+  phase_at_20,
+  word_at_55,
+  word_at_110,
   KeepsLimit,
   SymbolSpoiled,
 }
-use Rattle.rules_damage.proofs.OneSymbol.{limitOf, decided-spoiled, lead-spoiled}
-use Rattle.rules_damage.proofs.Counted.{wrong-all, lost-all}
+use Rattle.rules_damage.proofs.OneSymbol.{limit_of, decided_spoiled, lead_spoiled}
+use Rattle.rules_damage.proofs.Counted.{wrong_all, lost_all}
 
 -- the table, by the rate
-its-symbol : (rate each chips limit : ℕ) → PayloadSymbols rate each chips limit
-    → (symbolChips (rateOf rate) ≡ chips) × (limit ≡ limitOf (rateOf rate))
-its-symbol _ _ _ _ at-10 = (refl, refl)
-its-symbol _ _ _ _ at-20 = (refl, refl)
-its-symbol _ _ _ _ at-55 = (refl, refl)
-its-symbol _ _ _ _ at-110 = (refl, refl)
+its_symbol : (rate each chips limit : ℕ) → PayloadSymbols rate each chips limit
+    → (symbol_chips (rate_of rate) ≡ chips) × (limit ≡ limit_of (rate_of rate))
+its_symbol _ _ _ _ at_10 = (refl, refl)
+its_symbol _ _ _ _ at_20 = (refl, refl)
+its_symbol _ _ _ _ at_55 = (refl, refl)
+its_symbol _ _ _ _ at_110 = (refl, refl)
 
-sent-chips : (rate n each chips limit : ℕ) → PayloadSymbols rate each chips limit
-    → length (word_of (rateOf rate) n) ≡ chips
-sent-chips rate n each chips limit u =
-    word-length (rateOf rate) n ∙ (its-symbol rate each chips limit u).0
+sent_chips : (rate n each chips limit : ℕ) → PayloadSymbols rate each chips limit
+    → length (word_of (rate_of rate) n) ≡ chips
+sent_chips rate n each chips limit u =
+    word_length (rate_of rate) n ∙ (its_symbol rate each chips limit u).0
 
 -- ---- the words that are sent are those allowed
-abbrev fiveNumber : ℕ → ℕ → ℕ → ℕ
-fiveNumber p1 d2 d3 = 64 * p1 + 16 * (2 * d2 + 1) + 2 * d3
+abbrev five_number : ℕ → ℕ → ℕ → ℕ
+five_number p1 d2 d3 = 64 * p1 + 16 * (2 * d2 + 1) + 2 * d3
 
-five-sent : (p1 d2 d3 : ℕ) → p1 < 4 → d2 < 2 → d3 < 2
-    → (fiveNumber p1 d2 d3 < 256) × T (isAllowed Five (fiveNumber p1 d2 d3))
-five-sent p1 d2 d3 h1 h2 h3 = (
+five_sent : (p1 d2 d3 : ℕ) → p1 < 4 → d2 < 2 → d3 < 2
+    → (five_number p1 d2 d3 < 256) × T (is_allowed Five (five_number p1 d2 d3))
+five_sent p1 d2 d3 h1 h2 h3 = (
   omega arith,
-  subst (λ (n : ℕ). T (isAllowed Five n)) same
-      (all-at (λ j. isAllowed Five (fiveNumber (j / 4) (j / 2 % 2) (j % 2))) 16 tt j (omega arith)),
+  subst (λ (n : ℕ). T (is_allowed Five n)) same
+      (all_at (λ j. isAllowed Five (five_number (j / 4) (j / 2 % 2) (j % 2))) 16 tt j (omega arith)),
 )
   where
     j : ℕ
     j = 4 * p1 + 2 * d2 + d3
 
-    same : fiveNumber ((4 * p1 + 2 * d2 + d3) / 4) ((4 * p1 + 2 * d2 + d3) / 2 % 2) ((4 * p1 + 2 * d2 + d3) % 2)
-        ≡ fiveNumber p1 d2 d3
+    same : five_number ((4 * p1 + 2 * d2 + d3) / 4) ((4 * p1 + 2 * d2 + d3) / 2 % 2) ((4 * p1 + 2 * d2 + d3) % 2)
+        ≡ five_number p1 d2 d3
     same = omega arith
 
-pub word-sent : (rate n : ℕ) → SentAs rate n → (n < numbers (rateOf rate)) × T (isAllowed (rateOf rate) n)
-word-sent _ _ (phase-at-10 n l) = (l, tt)
-word-sent _ _ (phase-at-20 n l) = (l, tt)
-word-sent _ _ (word-at-55 p1 d2 d3 h1 h2 h3) = five-sent p1 d2 d3 h1 h2 h3
-word-sent _ _ (word-at-110 n l) = (l, tt)
+pub word_sent : (rate n : ℕ) → SentAs rate n → (n < numbers (rate_of rate)) × T (is_allowed (rate_of rate) n)
+word_sent _ _ (phase_at_10 n l) = (l, tt)
+word_sent _ _ (phase_at_20 n l) = (l, tt)
+word_sent _ _ (word_at_55 p1 d2 d3 h1 h2 h3) = five_sent p1 d2 d3 h1 h2 h3
+word_sent _ _ (word_at_110 n l) = (l, tt)
 
-five-is : (n : ℕ) → n < 256 → T (isAllowed Five n) → n ≡ fiveNumber (n / 64) (n / 32 % 2) (n / 2 % 2)
-five-is n l a =
-    eqb→eq n (fiveNumber (n / 64) (n / 32 % 2) (n / 2 % 2))
-    (implied (isAllowed Five n) (eqb n (fiveNumber (n / 64) (n / 32 % 2) (n / 2 % 2)))
-    (all-at (λ n. implies (isAllowed Five n) (eqb n (fiveNumber (n / 64) (n / 32 % 2) (n / 2 % 2)))) 256 tt n l) a)
+five_is : (n : ℕ) → n < 256 → T (is_allowed Five n) → n ≡ five_number (n / 64) (n / 32 % 2) (n / 2 % 2)
+five_is n l a =
+    eqb→eq n (five_number (n / 64) (n / 32 % 2) (n / 2 % 2))
+    (implied (is_allowed Five n) (eqb n (five_number (n / 64) (n / 32 % 2) (n / 2 % 2)))
+    (all_at (λ n. implies (is_allowed Five n) (eqb n (five_number (n / 64) (n / 32 % 2) (n / 2 % 2)))) 256 tt n l) a)
 
-pub sent_word : (r : Rate) (n : ℕ) → n < numbers r → T (isAllowed r n) → SentAs (code_of r) n
-sent_word One n l a = phase-at-10 n l
-sent_word Two n l a = phase-at-20 n l
+pub sent_word : (r : Rate) (n : ℕ) → n < numbers r → T (is_allowed r n) → SentAs (code_of r) n
+sent_word One n l a = phase_at_10 n l
+sent_word Two n l a = phase_at_20 n l
 sent_word Five n l a =
-    subst (SentAs 55) (sym (five-is n l a))
-    (word-at-55 (n / 64) (n / 32 % 2) (n / 2 % 2) (omega arith) (omega arith) (omega arith))
-sent_word Eleven n l a = word-at-110 n l
+    subst (SentAs 55) (sym (five_is n l a))
+    (word_at_55 (n / 64) (n / 32 % 2) (n / 2 % 2) (omega arith) (omega arith) (omega arith))
+sent_word Eleven n l a = word_at_110 n l
 
 -- ---- one symbol
-pub symbol-spoiled : (rate n : ℕ) (rec : List ℕ) (each chips limit : ℕ) → SentAs rate n
+pub symbol_spoiled : (rate n : ℕ) (rec : List ℕ) (each chips limit : ℕ) → SentAs rate n
     → PayloadSymbols rate each chips limit → length rec ≡ chips → Below 5 rec
-    → SymbolSpoiled rate n rec limit (wrong (word_of (rateOf rate) n) rec) (lost rec)
-symbol-spoiled rate n rec each chips limit word u e b = record {
+    → SymbolSpoiled rate n rec limit (wrong (word_of (rate_of rate) n) rec) (lost rec)
+symbol_spoiled rate n rec each chips limit word u e b = record {
   word = word;
   each = each;
   chips = chips;
   symbol = u;
   all_there = e;
-  all-usable = b;
-  wrong-are = wrong-all chips (word_of (rateOf rate) n) rec (sent-chips rate n each chips limit u) e;
-  lost-are = lost-all chips rec e;
+  all_usable = b;
+  wrong_are = wrong_all chips (word_of (rate_of rate) n) rec (sent_chips rate n each chips limit u) e;
+  lost_are = lost_all chips rec e;
 }
 
 module _ (rate n : ℕ) (rec : List ℕ) (limit w t : ℕ) (s : SymbolSpoiled rate n rec limit w t)
     (few : KeepsLimit limit w t) where
-  number : (n < numbers (rateOf rate)) × T (isAllowed (rateOf rate) n)
-  number = word-sent rate n s.word
+  number : (n < numbers (rate_of rate)) × T (is_allowed (rate_of rate) n)
+  number = word_sent rate n s.word
 
-  its : (symbolChips (rateOf rate) ≡ s.chips) × (limit ≡ limitOf (rateOf rate))
-  its = its-symbol rate s.each s.chips limit s.symbol
+  its : (symbol_chips (rate_of rate) ≡ s.chips) × (limit ≡ limit_of (rate_of rate))
+  its = its_symbol rate s.each s.chips limit s.symbol
 
-  long : length rec ≡ symbolChips (rateOf rate)
+  long : length rec ≡ symbol_chips (rate_of rate)
   long = s.all_there ∙ sym its.0
 
-  wrong-is : w ≡ wrong (word_of (rateOf rate) n) rec
-  wrong-is =
-      many-once s.wrong-are
-      (wrong-all s.chips (word_of (rateOf rate) n) rec
-      (sent-chips rate n s.each s.chips limit s.symbol) s.all_there)
+  wrong_is : w ≡ wrong (word_of (rate_of rate) n) rec
+  wrong_is =
+      many_once s.wrong_are
+      (wrong_all s.chips (word_of (rate_of rate) n) rec
+      (sent_chips rate n s.each s.chips limit s.symbol) s.all_there)
 
-  lost-is : t ≡ lost rec
-  lost-is = many-once s.lost-are (lost-all s.chips rec s.all_there)
+  lost_is : t ≡ lost rec
+  lost_is = many_once s.lost_are (lost_all s.chips rec s.all_there)
 
-  keeps : KeepsLimit (limitOf (rateOf rate)) (wrong (word_of (rateOf rate) n) rec) (lost rec)
+  keeps : KeepsLimit (limit_of (rate_of rate)) (wrong (word_of (rate_of rate) n) rec) (lost rec)
   keeps =
-      subst (λ (x : ℕ). KeepsLimit x (wrong (word_of (rateOf rate) n) rec) (lost rec)) its.1
-      (subst (λ (x : ℕ). KeepsLimit limit x (lost rec)) wrong-is (subst (KeepsLimit limit w) lost-is few))
+      subst (λ (x : ℕ). KeepsLimit x (wrong (word_of (rate_of rate) n) rec) (lost rec)) its.1
+      (subst (λ (x : ℕ). KeepsLimit limit x (lost rec)) wrong_is (subst (KeepsLimit limit w) lost_is few))
 
-  pub decided-sent : decided (rateOf rate) (map takenCounts (hardRecording rec)) ≡ n
-  unfolding hardRecording
-  decided-sent = decided-spoiled (rateOf rate) n rec number.0 number.1 long s.all-usable keeps
+  pub decided_sent : decided (rate_of rate) (map taken_counts (hard_recording rec)) ≡ n
+  unfolding hard_recording
+  decided_sent = decided_spoiled (rate_of rate) n rec number.0 number.1 long s.all_usable keeps
 
-  pub lead-sent : 1024 ≤ leadOf (rateOf rate) (map takenCounts (hardRecording rec))
-  unfolding hardRecording
-  lead-sent = lead-spoiled (rateOf rate) n rec number.0 number.1 long s.all-usable keeps
+  pub lead_sent : 1024 ≤ lead_of (rate_of rate) (map taken_counts (hard_recording rec))
+  unfolding hard_recording
+  lead_sent = lead_spoiled (rate_of rate) n rec number.0 number.1 long s.all_usable keeps

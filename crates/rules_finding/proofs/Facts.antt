@@ -8,59 +8,59 @@ use Prim.Native.Nat.{ℕ}
 use lib.ListN.{take, replicate}
 use Rattle.rules_rates.specs.declared.Rate.TheVariants.{One, Two, Five, Eleven}
 use Rattle.rules_rates.specs.Rates.{code_of}
-use Rattle.rules_chips.specs.Chips.{hardRecording}
-use Rattle.rules_symbols.specs.Words.{barkerWord, cckWord}
-use Rattle.rules_symbols.specs.Choice.{score, those, going, firstLargest, decided}
-use Rattle.rules_bits.specs.Bits.{bits_of, octetBits, number_of}
+use Rattle.rules_chips.specs.Chips.{hard_recording}
+use Rattle.rules_symbols.specs.Words.{barker_word, cck_word}
+use Rattle.rules_symbols.specs.Choice.{score, those, going, first_largest, decided}
+use Rattle.rules_bits.specs.Bits.{bits_of, octet_bits, number_of}
 use Rattle.rules_bits.specs.Growths.{
   growth,
   symbol_of,
   symbols_from,
-  symbolsOf,
-  chipsFrom,
-  lastPhase,
-  heardBits,
+  symbols_of,
+  chips_from,
+  last_phase,
+  heard_bits,
   heard,
-  growthsOf,
-  lastHeard,
+  growths_of,
+  last_heard,
 }
 use Rattle.rules_bits.specs.Scrambler.{mixed, scramble, descramble}
-use Rattle.rules_bits.specs.Crc.{addWhere, crcStep, remainder, crcBits}
+use Rattle.rules_bits.specs.Crc.{add_where, crc_step, remainder, crc_bits}
 use Rattle.rules_frame.specs.Frame.{
-  clockBit,
-  preambleBits,
-  fieldBits,
-  headerBits,
-  sentHeader,
-  frameBits,
-  sentBits,
-  partsChips,
+  clock_bit,
+  preamble_bits,
+  field_bits,
+  header_bits,
+  sent_header,
+  frame_bits,
+  sent_bits,
+  parts_chips,
   framed,
   frame,
 }
 use Rattle.rules_calls.specs.declared.Refusal.TheVariants.{Crc}
 use Rattle.rules_calls.specs.declared.Front.TheVariants as front
 use Rattle.rules_calls.specs.declared.Told.{Told}
-use Rattle.rules_calls.specs.Headers.{told, sameBits, fields_of, headerOf}
+use Rattle.rules_calls.specs.Headers.{told, same_bits, fields_of, header_of}
 use Rattle.rules_reading.specs.Reading.{
-  firstUnusable,
-  firstOdd,
-  decidedWords,
-  preambleWords,
-  headerWords,
+  first_unusable,
+  first_odd,
+  decided_words,
+  preamble_words,
+  header_words,
   reference,
-  headerPhase,
-  frontOdd,
-  frontHeard,
-  frontBits,
-  frontBy,
+  header_phase,
+  front_odd,
+  front_heard,
+  front_bits,
+  front_by,
 }
-use Rattle.rules_reading.proofs.Facts.{shortFrame, spoilt}
+use Rattle.rules_reading.proofs.Facts.{short_frame, spoilt}
 use Rattle.rules_finding.specs.declared.NotFound.TheVariants.{NoKind, NoOffsets, NoStart}
 use Rattle.rules_finding.specs.declared.Finding.{Finding}
 use Rattle.rules_finding.specs.declared.Finding.TheVariants.{Refused, Start}
 use Rattle.rules_finding.specs.declared.Found.{Found}
-use Rattle.rules_finding.specs.Finding.{isOffsets, startOr, firstStart, findingOf, foundOf}
+use Rattle.rules_finding.specs.Finding.{is_offsets, start_or, first_start, finding_of, found_of}
 
 pub fields : Found → List ℕ
 fields f = f.number ∷ f.offset ∷ f.rate ∷ f.length ∷ f.clock ∷ f.n ∷ []
@@ -68,7 +68,7 @@ fields f = f.number ∷ f.offset ∷ f.rate ∷ f.length ∷ f.clock ∷ f.n ∷
 -- ---- answers: each refusal, and starts
 abbrev answers : List Finding → List (List ℕ)
 answers [] = []
-answers (f ∷ fs) = fields (foundOf f) ∷ answers fs
+answers (f ∷ fs) = fields (found_of f) ∷ answers fs
 
 pub answered : answers
     (Refused NoKind ∷ Refused NoOffsets ∷ Refused NoStart ∷ Start 0 (told One 16 2 true)
@@ -80,13 +80,13 @@ answered = refl
 
 -- and every start, whatever its offset and its header
 pub started : (at : ℕ) (t : Told)
-    → fields (foundOf (Start at t)) ≡ 0 ∷ at ∷ code_of t.rate ∷ t.length ∷ clockBit t.clock ∷ t.n ∷ []
+    → fields (found_of (Start at t)) ≡ 0 ∷ at ∷ code_of t.rate ∷ t.length ∷ clock_bit t.clock ∷ t.n ∷ []
 unfolding fields
 started at t = refl
 
 -- ---- the offsets to try: 1 to 4,096
-pub offsets : isOffsets 0 ∷ isOffsets 1 ∷ isOffsets 2 ∷ isOffsets 4095 ∷ isOffsets 4096 ∷ isOffsets 4097
-    ∷ isOffsets 4352 ∷ isOffsets 65537 ∷ isOffsets 4294967297 ∷ []
+pub offsets : is_offsets 0 ∷ is_offsets 1 ∷ is_offsets 2 ∷ is_offsets 4095 ∷ is_offsets 4096 ∷ is_offsets 4097
+    ∷ is_offsets 4352 ∷ is_offsets 65537 ∷ is_offsets 4294967297 ∷ []
     ≡ false ∷ true ∷ true ∷ true ∷ true ∷ false ∷ false ∷ false ∷ false ∷ []
 offsets = refl
 
@@ -95,16 +95,16 @@ offsets = refl
 abbrev found : Finding
 found = Start 8 (told Two 5 1 false)
 
-pub smallest : startOr 7 (front.Fields (told Eleven 8 11 true)) found ∷ startOr 7 (front.Refused Crc) found
-    ∷ startOr 7 (front.Fields (told Eleven 8 11 true)) (Refused NoStart)
-    ∷ startOr 7 (front.Refused Crc) (Refused NoStart) ∷ []
+pub smallest : start_or 7 (front.Fields (told Eleven 8 11 true)) found ∷ start_or 7 (front.Refused Crc) found
+    ∷ start_or 7 (front.Fields (told Eleven 8 11 true)) (Refused NoStart)
+    ∷ start_or 7 (front.Refused Crc) (Refused NoStart) ∷ []
     ≡ Start 7 (told Eleven 8 11 true) ∷ found ∷ Start 7 (told Eleven 8 11 true) ∷ Refused NoStart ∷ []
 smallest = refl
 
 -- ---- recordings
 
 pub find : ℕ → ℕ → List ℕ → Finding
-find kind offsets chips = findingOf kind offsets (hardRecording chips)
+find kind offsets chips = finding_of kind offsets (hard_recording chips)
 
 -- refused: 1 and 18, 1, and 18 at both ends, before the recording is looked at; 19 for a recording of no chips, and for
 -- one that is a chip short of a front
@@ -112,36 +112,36 @@ pub bad : find 2 0 [] ∷ find 256 1 [] ∷ find 1 0 [] ∷ find 0 4097 [] ∷ f
     ∷ find 1 3 (replicate 1055 0) ∷ []
     ≡ Refused NoKind ∷ Refused NoKind ∷ Refused NoOffsets ∷ Refused NoOffsets ∷ Refused NoStart ∷ Refused NoStart
     ∷ Refused NoStart ∷ []
-unfolding find hardRecording firstStart findingOf frontBy
+unfolding find hard_recording first_start finding_of front_by
 bad = refl
 
 -- a clean frame of the short kind: its front alone, whatever the payload's chips and whether they are there; behind two
 -- chips that are unusable, with two offsets tried and with three; and not where a chip of the front is unusable
-pub starts : find 1 1 (take 1056 shortFrame) ∷ find 1 4096 (spoilt 1056 5 shortFrame)
-    ∷ find 1 2 (5 ∷ 255 ∷ shortFrame) ∷ find 1 3 (5 ∷ 255 ∷ shortFrame) ∷ find 1 2 (spoilt 1055 5 shortFrame) ∷ []
+pub starts : find 1 1 (take 1056 short_frame) ∷ find 1 4096 (spoilt 1056 5 short_frame)
+    ∷ find 1 2 (5 ∷ 255 ∷ short_frame) ∷ find 1 3 (5 ∷ 255 ∷ short_frame) ∷ find 1 2 (spoilt 1055 5 short_frame) ∷ []
     ≡ Start 0 (told Eleven 1 1 false) ∷ Start 0 (told Eleven 1 1 false) ∷ Refused NoStart
     ∷ Start 2 (told Eleven 1 1 false) ∷ Refused NoStart ∷ []
 unfolding
-    find shortFrame spoilt hardRecording
-    barkerWord cckWord score those going firstLargest decided
-    bits_of octetBits number_of growth symbol_of symbols_from symbolsOf chipsFrom lastPhase heardBits heard growthsOf
-    lastHeard mixed scramble descramble addWhere crcStep remainder crcBits
-    preambleBits fieldBits headerBits sentHeader frameBits sentBits partsChips framed frame
-    firstUnusable firstOdd decidedWords preambleWords headerWords reference headerPhase frontOdd frontHeard
-    frontBits sameBits fields_of headerOf frontBy firstStart findingOf
+    find short_frame spoilt hard_recording
+    barker_word cck_word score those going first_largest decided
+    bits_of octet_bits number_of growth symbol_of symbols_from symbols_of chips_from last_phase heard_bits heard growths_of
+    last_heard mixed scramble descramble add_where crc_step remainder crc_bits
+    preamble_bits field_bits header_bits sent_header frame_bits sent_bits parts_chips framed frame
+    first_unusable first_odd decided_words preamble_words header_words reference header_phase front_odd front_heard
+    front_bits same_bits fields_of header_of front_by first_start finding_of
 starts = refl
 
 -- Barker's side values decide every symbol there as its opposite, which growths do not see, and the front meets none of
 -- 8 to 15. More offsets change nothing (`start-found` of Laws.antt)
 -- promise: THE LETTER AND THE TRUTH: behind 12 lost chips a clean frame is found at offset 2, 10 chips before it starts
 -- rule: 6.18
-pub early : find 1 3 (replicate 12 4 ++ shortFrame) ≡ Start 2 (told Eleven 1 1 false)
+pub early : find 1 3 (replicate 12 4 ++ short_frame) ≡ Start 2 (told Eleven 1 1 false)
 unfolding
-    find shortFrame spoilt hardRecording
-    barkerWord cckWord score those going firstLargest decided
-    bits_of octetBits number_of growth symbol_of symbols_from symbolsOf chipsFrom lastPhase heardBits heard growthsOf
-    lastHeard mixed scramble descramble addWhere crcStep remainder crcBits
-    preambleBits fieldBits headerBits sentHeader frameBits sentBits partsChips framed frame
-    firstUnusable firstOdd decidedWords preambleWords headerWords reference headerPhase frontOdd frontHeard
-    frontBits sameBits fields_of headerOf frontBy firstStart findingOf
+    find short_frame spoilt hard_recording
+    barker_word cck_word score those going first_largest decided
+    bits_of octet_bits number_of growth symbol_of symbols_from symbols_of chips_from last_phase heard_bits heard growths_of
+    last_heard mixed scramble descramble add_where crc_step remainder crc_bits
+    preamble_bits field_bits header_bits sent_header frame_bits sent_bits parts_chips framed frame
+    first_unusable first_odd decided_words preamble_words header_words reference header_phase front_odd front_heard
+    front_bits same_bits fields_of header_of front_by first_start finding_of
 early = refl

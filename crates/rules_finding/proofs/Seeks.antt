@@ -12,61 +12,61 @@ use Rattle.rules_frame.specs.declared.Kind.{Kind}
 use Rattle.rules_calls.specs.declared.Told.{Told}
 use Rattle.rules_calls.specs.declared.Front.{Front}
 use Rattle.rules_calls.specs.declared.Front.TheVariants as front
-use Rattle.rules_reading.specs.Reading.{frontOf}
+use Rattle.rules_reading.specs.Reading.{front_of}
 use Rattle.rules_finding.specs.declared.NotFound.{NotFound}
 use Rattle.rules_finding.specs.declared.NotFound.TheVariants.{NoStart}
 use Rattle.rules_finding.specs.declared.Finding.{Finding}
 use Rattle.rules_finding.specs.declared.Finding.TheVariants.{Refused, Start}
-use Rattle.rules_finding.specs.Finding.{startOr, firstStart}
-use Rattle.rules_finding.proofs.Laws.{Missed, AllMissed, start-found, start_none}
+use Rattle.rules_finding.specs.Finding.{start_or, first_start}
+use Rattle.rules_finding.proofs.Laws.{Missed, AllMissed, start_found_lem, start_none}
 
 -- a search that found something is none that did not
 abbrev IsFound : Finding → Type 0
 IsFound (Refused e) = ⊥
 IsFound (Start offset t) = Unit {0}
 
-pub not-both : {f : Finding} {e : NotFound} {offset : ℕ} {t : Told} → f ≡ Start offset t → f ≡ Refused e → ⊥
-not-both a b = subst IsFound (sym a ∙ b) tt
+pub not_both : {f : Finding} {e : NotFound} {offset : ℕ} {t : Told} → f ≡ Start offset t → f ≡ Refused e → ⊥
+not_both a b = subst IsFound (sym a ∙ b) tt
 
 module _ (kind : Kind) (rec : List Taken) (at : ℕ) where
   abbrev try : ℕ → Front → Finding
-  try j f = startOr (at + j) f (Refused NoStart)
+  try j f = start_or (at + j) f (Refused NoStart)
 
-  abbrev frontAt : ℕ → Front
-  frontAt j = frontOf kind (drop (at + j) rec)
+  abbrev front_at : ℕ → Front
+  front_at j = front_of kind (drop (at + j) rec)
 
-  front-there : (j : ℕ) → frontOf kind (drop j (drop at rec)) ≡ frontAt j
-  front-there j = ap (frontOf kind) (drop-drop j at rec)
+  front_there : (j : ℕ) → front_of kind (drop j (drop at rec)) ≡ front_at j
+  front_there j = ap (front_of kind) (drop-drop j at rec)
 
   -- a front that tells at the j-th
   pub seek_hit : (j count : ℕ) → j < count → AllMissed kind j (drop at rec) → (f : Finding) (offset : ℕ) (t : Told)
-      → f ≡ Start offset t → f ≡ try j (frontAt j) → Start offset t ≡ firstStart kind at count (drop at rec)
-  seek_hit j count h m f offset t a b = by (frontAt j) refl
+      → f ≡ Start offset t → f ≡ try j (front_at j) → Start offset t ≡ first_start kind at count (drop at rec)
+  seek_hit j count h m f offset t a b = by (front_at j) refl
     where
-      by : (x : Front) → frontAt j ≡ x → Start offset t ≡ firstStart kind at count (drop at rec)
-      by (front.Refused r) e = absurd (not-both a (b ∙ ap {B = Finding} (try j) e))
+      by : (x : Front) → front_at j ≡ x → Start offset t ≡ first_start kind at count (drop at rec)
+      by (front.Refused r) e = absurd (not_both a (b ∙ ap {B = Finding} (try j) e))
       by (front.Fields u) e =
           sym a ∙ b ∙ ap {B = Finding} (try j) e
-          ∙ sym (start-found kind at count j (drop at rec) u h (front-there j ∙ e) m)
+          ∙ sym (start_found_lem kind at count j (drop at rec) u h (front_there j ∙ e) m)
 
   -- one that does not
-  pub seek-miss : (j : ℕ) → AllMissed kind j (drop at rec) → (f : Finding) (e : NotFound) → f ≡ Refused e
-      → f ≡ try j (frontAt j) → AllMissed kind (j + 1) (drop at rec)
-  seek-miss j m f e a b i l = by (dec_lt i j)
+  pub seek_miss : (j : ℕ) → AllMissed kind j (drop at rec) → (f : Finding) (e : NotFound) → f ≡ Refused e
+      → f ≡ try j (front_at j) → AllMissed kind (j + 1) (drop at rec)
+  seek_miss j m f e a b i l = by (dec_lt i j)
     where
-      missed : (x : Front) → frontAt j ≡ x → Missed x
+      missed : (x : Front) → front_at j ≡ x → Missed x
       missed (front.Refused r) g = tt
-      missed (front.Fields u) g = not-both (b ∙ ap {B = Finding} (try j) g) a
+      missed (front.Fields u) g = not_both (b ∙ ap {B = Finding} (try j) g) a
 
-      by : Dec (i < j) → Missed (frontOf kind (drop i (drop at rec)))
+      by : Dec (i < j) → Missed (front_of kind (drop i (drop at rec)))
       by (yes p) = m i p
       by (no p) =
           let q : j ≡ i = omega arith in
-          subst (λ (n : ℕ). Missed (frontOf kind (drop n (drop at rec)))) q
-          (subst Missed (sym (front-there j)) (missed (frontAt j) refl))
+          subst (λ (n : ℕ). Missed (front_of kind (drop n (drop at rec)))) q
+          (subst Missed (sym (front_there j)) (missed (front_at j) refl))
 
   -- none of so many has a mark
-  pub seek-none : (count : ℕ) → ((j : ℕ) → j < count → Missed (frontAt j))
-      → Refused NoStart ≡ firstStart kind at count (drop at rec)
-  seek-none count m =
-      sym (start_none kind at count (drop at rec) (λ j l. subst Missed (sym (front-there j)) (m j l)))
+  pub seek_none : (count : ℕ) → ((j : ℕ) → j < count → Missed (front_at j))
+      → Refused NoStart ≡ first_start kind at count (drop at rec)
+  seek_none count m =
+      sym (start_none kind at count (drop at rec) (λ j l. subst Missed (sym (front_there j)) (m j l)))

@@ -11,48 +11,48 @@ use lib.ListN.{take, drop}
 use Rattle.rules_rates.specs.declared.Rate.{Rate}
 use Rattle.rules_rates.specs.declared.Rate.TheVariants.{One, Two, Five, Eleven}
 use Rattle.rules_rates.specs.Rates.{code_of}
-use Rattle.rules_symbols.specs.Words.{barkerWord, cckWord}
-use Rattle.rules_bits.specs.Bits.{bits_of, octetBits}
-use Rattle.rules_bits.specs.Growths.{growth, symbol_of, symbols_from, symbolsOf, chipsFrom, lastPhase}
+use Rattle.rules_symbols.specs.Words.{barker_word, cck_word}
+use Rattle.rules_bits.specs.Bits.{bits_of, octet_bits}
+use Rattle.rules_bits.specs.Growths.{growth, symbol_of, symbols_from, symbols_of, chips_from, last_phase}
 use Rattle.rules_bits.specs.Scrambler.{mixed, scramble}
-use Rattle.rules_bits.specs.Crc.{addWhere, crcStep, remainder, crcBits}
+use Rattle.rules_bits.specs.Crc.{add_where, crc_step, remainder, crc_bits}
 use Rattle.rules_frame.specs.declared.Kind.{Kind}
 use Rattle.rules_frame.specs.declared.Kind.TheVariants.{Long, Short}
 use Rattle.rules_frame.specs.Frame.{
-  isKind,
+  is_kind,
   kind_of,
-  syncBits,
-  syncBit,
-  sfdOf,
-  headerRate,
-  frontChips,
-  goesWith,
-  clockOf,
-  clockBit,
-  serviceField,
-  preambleBits,
-  fieldBits,
-  headerBits,
-  sentHeader,
-  frameBits,
-  sentBits,
-  preambleLength,
-  partsChips,
+  sync_bits,
+  sync_bit,
+  sfd_of,
+  header_rate,
+  front_chips,
+  goes_with,
+  clock_of,
+  clock_bit,
+  service_field,
+  preamble_bits,
+  field_bits,
+  header_bits,
+  sent_header,
+  frame_bits,
+  sent_bits,
+  preamble_length,
+  parts_chips,
   framed,
   frame,
-  frameChips,
+  frame_chips,
 }
 
 -- the numbers of the kinds: 0 long, 1 short, no other
 pub numbered : map kind_of (0 ∷ 1 ∷ []) ≡ Long ∷ Short ∷ []
 numbered = refl
 
-pub no-kinds : map isKind (0 ∷ 1 ∷ 2 ∷ 3 ∷ 256 ∷ []) ≡ true ∷ true ∷ false ∷ false ∷ false ∷ []
-no-kinds = refl
+pub no_kinds : map is_kind (0 ∷ 1 ∷ 2 ∷ 3 ∷ 256 ∷ []) ≡ true ∷ true ∷ false ∷ false ∷ false ∷ []
+no_kinds = refl
 
 -- of each kind: SYNC's bits and their value, SFD, bits of SYNC and SFD, chips of the front, the header's rate
 pub kinds : map
-    (λ (k : Kind). syncBits k ∷ syncBit k ∷ sfdOf k ∷ preambleLength k ∷ frontChips k ∷ code_of (headerRate k) ∷ [])
+    (λ (k : Kind). syncBits k ∷ sync_bit k ∷ sfd_of k ∷ preamble_length k ∷ front_chips k ∷ code_of (header_rate k) ∷ [])
     (Long ∷ Short ∷ [])
     ≡ (128 ∷ 1 ∷ 0xF3A0 ∷ 144 ∷ 2112 ∷ 10 ∷ []) ∷ (56 ∷ 0 ∷ 0x05CF ∷ 72 ∷ 1056 ∷ 20 ∷ []) ∷ []
 kinds = refl
@@ -61,28 +61,28 @@ abbrev rates : List Rate
 rates = One ∷ Two ∷ Five ∷ Eleven ∷ []
 
 -- short excludes 1 Mbit/s, and nothing else is excluded
-pub pairs : map (goesWith Long) rates ++ map (goesWith Short) rates
+pub pairs : map (goes_with Long) rates ++ map (goes_with Short) rates
     ≡ true ∷ true ∷ true ∷ true ∷ false ∷ true ∷ true ∷ true ∷ []
 pairs = refl
 
 -- chips of a frame of two octets, and of none
-pub sizes : map (λ (r : Rate). frameChips Long r 2 ∷ frameChips Short r 2 ∷ frameChips Long r 0 ∷ []) rates
+pub sizes : map (λ (r : Rate). frameChips Long r 2 ∷ frame_chips Short r 2 ∷ frame_chips Long r 0 ∷ []) rates
     ≡ (2288 ∷ 1232 ∷ 2112 ∷ []) ∷ (2200 ∷ 1144 ∷ 2112 ∷ []) ∷ (2144 ∷ 1088 ∷ 2112 ∷ [])
     ∷ (2128 ∷ 1072 ∷ 2112 ∷ []) ∷ []
 sizes = refl
 
 -- the clock: 0 is no, any other number yes
-pub clocks : map clockOf (0 ∷ 1 ∷ 2 ∷ 4 ∷ 255 ∷ 256 ∷ (2 ^ 32) ∷ (2 ^ 40) ∷ (2 ^ 64 - 1) ∷ [])
+pub clocks : map clock_of (0 ∷ 1 ∷ 2 ∷ 4 ∷ 255 ∷ 256 ∷ (2 ^ 32) ∷ (2 ^ 40) ∷ (2 ^ 64 - 1) ∷ [])
     ≡ false ∷ true ∷ true ∷ true ∷ true ∷ true ∷ true ∷ true ∷ true ∷ []
 clocks = refl
 
-pub clock-bits : map clockBit (false ∷ true ∷ []) ≡ 0 ∷ 1 ∷ []
-clock-bits = refl
+pub clock_bits : map clock_bit (false ∷ true ∷ []) ≡ 0 ∷ 1 ∷ []
+clock_bits = refl
 
 -- SERVICE of 3 and of 4 octets, the clock bit not set and set
 pub services : map
     (λ (r : Rate).
-    serviceField r false 3 ∷ serviceField r true 3 ∷ serviceField r false 4 ∷ serviceField r true 4 ∷ []) rates
+    serviceField r false 3 ∷ service_field r true 3 ∷ service_field r false 4 ∷ service_field r true 4 ∷ []) rates
     ≡ (0 ∷ 4 ∷ 0 ∷ 4 ∷ []) ∷ (0 ∷ 4 ∷ 0 ∷ 4 ∷ []) ∷ (0 ∷ 4 ∷ 0 ∷ 4 ∷ []) ∷ (128 ∷ 132 ∷ 0 ∷ 4 ∷ []) ∷ []
 services = refl
 
@@ -92,10 +92,10 @@ some = 0x1B ∷ 0xC6 ∷ []
 -- the clock bit not set
 pub computed : List (List ℕ)
 computed =
-    drop 128 (preambleBits Long)
-    ∷ drop 56 (preambleBits Short)
-    ∷ sentHeader Two false 300
-    ∷ sentHeader Eleven false 3
+    drop 128 (preamble_bits Long)
+    ∷ drop 56 (preamble_bits Short)
+    ∷ sent_header Two false 300
+    ∷ sent_header Eleven false 3
     ∷ take 22 (drop 1584 (frame Long One 1 false some))
     ∷ take 22 (drop 792 (frame Short Two 1 false some))
     ∷ drop 1034 (frame Short Two 1 false [])
@@ -106,10 +106,10 @@ computed =
     ∷ take 16 (drop 1056 (frame Short Five 1 false some))
     ∷ take 16 (drop 2112 (frame Long Eleven 1 false some))
     ∷ take 16 (drop 1056 (frame Short Eleven 1 false some))
-    ∷ take 8 (drop 144 (sentBits Long (sentHeader Five false 2) some))
-    ∷ take 8 (drop 192 (sentBits Long (sentHeader Five false 2) some))
-    ∷ take 8 (drop 72 (sentBits Short (sentHeader Eleven false 2) some))
-    ∷ take 8 (drop 120 (sentBits Short (sentHeader Eleven false 2) some))
+    ∷ take 8 (drop 144 (sent_bits Long (sent_header Five false 2) some))
+    ∷ take 8 (drop 192 (sent_bits Long (sent_header Five false 2) some))
+    ∷ take 8 (drop 72 (sent_bits Short (sent_header Eleven false 2) some))
+    ∷ take 8 (drop 120 (sent_bits Short (sent_header Eleven false 2) some))
     ∷ []
 
 pub expected : List (List ℕ)
@@ -139,18 +139,18 @@ expected =
 pub facts : computed ≡ expected
 unfolding
     computed expected some
-    barkerWord cckWord
-    bits_of octetBits growth symbol_of symbols_from symbolsOf chipsFrom lastPhase mixed scramble addWhere crcStep remainder
-    crcBits
-    preambleBits fieldBits headerBits sentHeader frameBits sentBits partsChips framed frame
+    barker_word cck_word
+    bits_of octet_bits growth symbol_of symbols_from symbols_of chips_from last_phase mixed scramble add_where crc_step remainder
+    crc_bits
+    preamble_bits field_bits header_bits sent_header frame_bits sent_bits parts_chips framed frame
 facts = refl
 
 -- the clock bit set: SERVICE and CRC of two headers; from the bit's own symbol on the chips of a long and of a short
 -- header; the end of the CRC; payloads, which the scrambler carries it into
-pub computed-clock : List (List ℕ)
-computed-clock =
-    sentHeader Two true 300
-    ∷ sentHeader Eleven true 3
+pub computed_clock : List (List ℕ)
+computed_clock =
+    sent_header Two true 300
+    ∷ sent_header Eleven true 3
     ∷ take 22 (drop 1694 (frame Long One 1 true some))
     ∷ take 22 (drop 847 (frame Short Two 1 true some))
     ∷ take 22 (drop 1034 (frame Short Two 1 true some))
@@ -158,8 +158,8 @@ computed-clock =
     ∷ take 16 (drop 1056 (frame Short Eleven 1 true some))
     ∷ []
 
-pub expected-clock : List (List ℕ)
-expected-clock =
+pub expected_clock : List (List ℕ)
+expected_clock =
     (0 ∷ 0 ∷ 1 ∷ 0 ∷ 1 ∷ 0 ∷ 0 ∷ 0 ∷ 0 ∷ 0 ∷ 1 ∷ 0 ∷ 0 ∷ 0 ∷ 0 ∷ 0 ∷ 0 ∷ 0 ∷ 0 ∷ 0 ∷ 1 ∷ 1 ∷ 0 ∷ 1 ∷ 0 ∷ 0 ∷ 1 ∷ 0 ∷ 0
     ∷ 0 ∷ 0 ∷ 0 ∷ 0 ∷ 0 ∷ 0 ∷ 1 ∷ 1 ∷ 1 ∷ 0 ∷ 1 ∷ 0 ∷ 1 ∷ 0 ∷ 0 ∷ 1 ∷ 0 ∷ 1 ∷ 0 ∷ [])
     ∷ (0 ∷ 1 ∷ 1 ∷ 1 ∷ 0 ∷ 1 ∷ 1 ∷ 0 ∷ 0 ∷ 0 ∷ 1 ∷ 0 ∷ 0 ∷ 0 ∷ 0 ∷ 1 ∷ 1 ∷ 1 ∷ 0 ∷ 0 ∷ 0 ∷ 0 ∷ 0 ∷ 0 ∷ 0 ∷ 0 ∷ 0 ∷ 0
@@ -175,11 +175,11 @@ expected-clock =
 -- the clock bit too
 -- rule: 5.3 to 5.5, 5.9, 5.14, 8.2 to 8.5
 -- with: facts, kinds, services
-pub facts-clock : computed-clock ≡ expected-clock
+pub facts_clock : computed_clock ≡ expected_clock
 unfolding
-    computed-clock expected-clock some
-    barkerWord cckWord
-    bits_of octetBits growth symbol_of symbols_from symbolsOf chipsFrom lastPhase mixed scramble addWhere crcStep remainder
-    crcBits
-    preambleBits fieldBits headerBits sentHeader frameBits sentBits partsChips framed frame
-facts-clock = refl
+    computed_clock expected_clock some
+    barker_word cck_word
+    bits_of octet_bits growth symbol_of symbols_from symbols_of chips_from last_phase mixed scramble add_where crc_step remainder
+    crc_bits
+    preamble_bits field_bits header_bits sent_header frame_bits sent_bits parts_chips framed frame
+facts_clock = refl

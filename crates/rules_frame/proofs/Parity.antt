@@ -4,27 +4,27 @@
 use mathlib.Core.Path.{◌≡◌, refl}
 use Prim.Native.Nat.{ℕ, ◌+◌, ◌/◌}
 use native.Mathlib.Omega.{arith}
-use Rattle.rules_rates.specs.Rates.{symbolBits}
-use Rattle.rules_bits.specs.Growths.{halfTurn}
+use Rattle.rules_rates.specs.Rates.{symbol_bits}
+use Rattle.rules_bits.specs.Growths.{half_turn}
 use Rattle.rules_frame.specs.declared.Kind.{Kind}
 use Rattle.rules_frame.specs.declared.Kind.TheVariants.{Long, Short}
-use Rattle.rules_frame.specs.Frame.{preambleLength, headerLength, headerRate, frontSymbols}
+use Rattle.rules_frame.specs.Frame.{preamble_length, header_length, header_rate, front_symbols}
 
-abbrev pub headerSymbols : Kind → ℕ
-headerSymbols k = headerLength / symbolBits (headerRate k)
+abbrev pub header_symbols : Kind → ℕ
+header_symbols k = header_length / symbol_bits (header_rate k)
 
 -- a front's symbols are the preamble's and the header's
-pub front-symbols : (k : Kind) → preambleLength k + headerSymbols k ≡ frontSymbols k
-front-symbols Long = refl
-front-symbols Short = refl
+pub front_symbols_lem : (k : Kind) → preamble_length k + header_symbols k ≡ front_symbols k
+front_symbols_lem Long = refl
+front_symbols_lem Short = refl
 
 -- promise: Headers and fronts have even numbers of symbols
 -- rule: 8.3
 -- with: from_start
-pub from-header : (k : Kind) (j : ℕ) → halfTurn (headerSymbols k + j) ≡ halfTurn j
-from-header Long j = omega arith
-from-header Short j = omega arith
+pub from_header : (k : Kind) (j : ℕ) → half_turn (header_symbols k + j) ≡ half_turn j
+from_header Long j = omega arith
+from_header Short j = omega arith
 
-pub from_start : (k : Kind) (j : ℕ) → halfTurn (frontSymbols k + j) ≡ halfTurn j
+pub from_start : (k : Kind) (j : ℕ) → half_turn (front_symbols k + j) ≡ half_turn j
 from_start Long j = omega arith
 from_start Short j = omega arith

@@ -5,13 +5,13 @@ use mathlib.Core.Bool.{true, false}
 use Prim.Native.Nat.{ℕ, ◌≤◌, ◌<◌}
 use native.Mathlib.Omega.{arith}
 use borrow.Author.Tests.{lt-ltb, le-ltb, ltb-true}
-use Rattle.rules_frame.specs.Frame.{isPhase}
+use Rattle.rules_frame.specs.Frame.{is_phase}
 
-pub is-phase : (phase : ℕ) → phase ≤ 3 → isPhase phase ≡ true
-is-phase phase h = lt-ltb phase 4 (omega arith)
+pub is_phase_lem : (phase : ℕ) → phase ≤ 3 → is_phase phase ≡ true
+is_phase_lem phase h = lt-ltb phase 4 (omega arith)
 
-pub no-phase : (phase : ℕ) → 3 < phase → isPhase phase ≡ false
-no-phase phase h = le-ltb phase 4 (omega arith)
+pub no_phase : (phase : ℕ) → 3 < phase → is_phase phase ≡ false
+no_phase phase h = le-ltb phase 4 (omega arith)
 
-pub phase-most : (phase : ℕ) → isPhase phase ≡ true → phase ≤ 3
-phase-most phase e = omega (arith, ltb-true phase 4 e)
+pub phase_most : (phase : ℕ) → is_phase phase ≡ true → phase ≤ 3
+phase_most phase e = omega (arith, ltb-true phase 4 e)

@@ -1,29 +1,29 @@
 -- Table P holds: its twelve entries are computed together. Assumes nothing.
 use mathlib.Core.Path.{refl}
-use Rattle.rules_symbols.specs.Words.{barkerWord, cckWord}
-use Rattle.rules_symbols.specs.Choice.{score, those, going, firstLargest, decided}
-use Rattle.rules_bits.specs.Bits.{bits_of, octetBits}
-use Rattle.rules_bits.specs.Growths.{growth, symbol_of, symbols_from, symbolsOf, chipsFrom, lastPhase}
+use Rattle.rules_symbols.specs.Words.{barker_word, cck_word}
+use Rattle.rules_symbols.specs.Choice.{score, those, going, first_largest, decided}
+use Rattle.rules_bits.specs.Bits.{bits_of, octet_bits}
+use Rattle.rules_bits.specs.Growths.{growth, symbol_of, symbols_from, symbols_of, chips_from, last_phase}
 use Rattle.rules_bits.specs.Scrambler.{mixed, scramble}
-use Rattle.rules_bits.specs.Crc.{addWhere, crcStep, remainder, crcBits}
+use Rattle.rules_bits.specs.Crc.{add_where, crc_step, remainder, crc_bits}
 use Rattle.rules_frame.specs.Frame.{
-  preambleBits,
-  fieldBits,
-  headerBits,
-  sentHeader,
-  frameBits,
-  sentBits,
-  partsChips,
+  preamble_bits,
+  field_bits,
+  header_bits,
+  sent_header,
+  frame_bits,
+  sent_bits,
+  parts_chips,
   framed,
   frame,
 }
 use Rattle.rules_frame.specs.TableP.{TableP, computed, printed, five}
 
-pub table-p : TableP
+pub table_p : TableP
 unfolding
     computed printed five
-    barkerWord cckWord score those going firstLargest decided
-    bits_of octetBits growth symbol_of symbols_from symbolsOf chipsFrom lastPhase mixed scramble addWhere crcStep
-    remainder crcBits
-    preambleBits fieldBits headerBits sentHeader frameBits sentBits partsChips framed frame
-table-p r payload = refl
+    barker_word cck_word score those going first_largest decided
+    bits_of octet_bits growth symbol_of symbols_from symbols_of chips_from last_phase mixed scramble add_where crc_step
+    remainder crc_bits
+    preamble_bits field_bits header_bits sent_header frame_bits sent_bits parts_chips framed frame
+table_p r payload = refl

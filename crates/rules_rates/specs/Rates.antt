@@ -17,69 +17,69 @@ code_of Eleven = 110
 abbrev pub is_code : ℕ → Bool
 is_code c = eqb c (code_of One) || eqb c (code_of Two) || eqb c (code_of Five) || eqb c (code_of Eleven)
 
-abbrev pub rateOf : ℕ → Rate
-rateOf c =
+abbrev pub rate_of : ℕ → Rate
+rate_of c =
     cond (eqb c (code_of One)) One (cond (eqb c (code_of Two)) Two (cond (eqb c (code_of Five)) Five Eleven))
 
 -- Barker, 11 chips, at 1 and 2 Mbit/s; CCK, 8 chips, at 5.5 and 11
-abbrev pub symbolChips : Rate → ℕ
-symbolChips One = 11
-symbolChips Two = 11
-symbolChips Five = 8
-symbolChips Eleven = 8
+abbrev pub symbol_chips : Rate → ℕ
+symbol_chips One = 11
+symbol_chips Two = 11
+symbol_chips Five = 8
+symbol_chips Eleven = 8
 
 -- a symbol carries one, two, four or eight bits
-abbrev pub symbolBits : Rate → ℕ
-symbolBits One = 1
-symbolBits Two = 2
-symbolBits Five = 4
-symbolBits Eleven = 8
+abbrev pub symbol_bits : Rate → ℕ
+symbol_bits One = 1
+symbol_bits Two = 2
+symbol_bits Five = 4
+symbol_bits Eleven = 8
 
 -- so an octet is eight, four, two or one symbols
-abbrev pub octetSymbols : Rate → ℕ
-octetSymbols One = 8
-octetSymbols Two = 4
-octetSymbols Five = 2
-octetSymbols Eleven = 1
+abbrev pub octet_symbols : Rate → ℕ
+octet_symbols One = 8
+octet_symbols Two = 4
+octet_symbols Five = 2
+octet_symbols Eleven = 1
 
 -- payload of n octets: 88 n, 44 n, 16 n, 8 n chips
-abbrev pub octetChips : Rate → ℕ
-octetChips One = 88
-octetChips Two = 44
-octetChips Five = 16
-octetChips Eleven = 8
+abbrev pub octet_chips : Rate → ℕ
+octet_chips One = 88
+octet_chips Two = 44
+octet_chips Five = 16
+octet_chips Eleven = 8
 
 -- LENGTH in microseconds: 8 n, 4 n, 16 n / 11 rounded up, 8 n / 11 rounded up
-abbrev pub lengthField : Rate → ℕ → ℕ
-lengthField One n = 8 * n
-lengthField Two n = 4 * n
-lengthField Five n = (16 * n + 10) / 11
-lengthField Eleven n = (8 * n + 10) / 11
+abbrev pub length_field : Rate → ℕ → ℕ
+length_field One n = 8 * n
+length_field Two n = 4 * n
+length_field Five n = (16 * n + 10) / 11
+length_field Eleven n = (8 * n + 10) / 11
 
 -- at 11 Mbit/s bit 7 is 1 exactly when rounding added 8/11 or more
 abbrev pub bit7 : Rate → ℕ → ℕ
 bit7 One n = 0
 bit7 Two n = 0
 bit7 Five n = 0
-bit7 Eleven n = cond (leb (8 * n + 8) (11 * lengthField Eleven n)) 1 0
+bit7 Eleven n = cond (leb (8 * n + 8) (11 * length_field Eleven n)) 1 0
 
 -- the reader takes LENGTH / 8, LENGTH / 4, LENGTH · 11 / 16, LENGTH · 11 / 8, rounded down,
-abbrev pub wholeOctets : Rate → ℕ → ℕ
-wholeOctets One l = l / 8
-wholeOctets Two l = l / 4
-wholeOctets Five l = l * 11 / 16
-wholeOctets Eleven l = l * 11 / 8
+abbrev pub whole_octets : Rate → ℕ → ℕ
+whole_octets One l = l / 8
+whole_octets Two l = l / 4
+whole_octets Five l = l * 11 / 16
+whole_octets Eleven l = l * 11 / 8
 
 -- less 1 where bit 7 is 1: LENGTH 0 with bit 7 set gives -1
-abbrev pub octetsRead : Rate → ℕ → ℕ → ℤ
-octetsRead r l seven = pos (wholeOctets r l) -ℤ pos seven
+abbrev pub octets_read : Rate → ℕ → ℕ → ℤ
+octets_read r l seven = pos (whole_octets r l) -ℤ pos seven
 
 -- a payload is 1 to 4,095 octets
-abbrev pub isPayload : ℤ → Bool
-isPayload n = le_z (pos 1) n && le_z n (pos 4095)
+abbrev pub is_payload : ℤ → Bool
+is_payload n = le_z (pos 1) n && le_z n (pos 4095)
 
 -- whether LENGTH l and bit 7 are those that the writer makes for some n from 1 to 4,095, the n that they give
-abbrev pub lengthHolds : Rate → ℕ → ℕ → Bool
-lengthHolds r l seven =
-    let n = octetsRead r l seven in
-    isPayload n && eqb (lengthField r (nat_abs n)) l && eqb (bit7 r (nat_abs n)) seven
+abbrev pub length_holds : Rate → ℕ → ℕ → Bool
+length_holds r l seven =
+    let n = octets_read r l seven in
+    is_payload n && eqb (length_field r (nat_abs n)) l && eqb (bit7 r (nat_abs n)) seven

@@ -3,14 +3,14 @@ ghost use Rattle.std.specs.Prelude.{◌≡◌, ◌≤◌, ◌<◌, pos};
 ghost use Rattle.rules_rates.specs.Rates.{
   code_of,
   is_code,
-  rateOf,
-  symbolChips,
-  octetSymbols,
-  octetChips,
-  lengthField,
+  rate_of,
+  symbol_chips,
+  octet_symbols,
+  octet_chips,
+  length_field,
   bit7,
-  wholeOctets,
-  isPayload,
+  whole_octets,
+  is_payload,
 };
 
 #[derive(Drop)]
@@ -55,7 +55,7 @@ impl Rate {
     }
 
     pub fn symbol_chips(self) -> usize
-        ensures answer { result ≡ symbolChips self }
+        ensures answer { result ≡ symbol_chips self }
     {
         match self {
             Rate::One => Rate::BARKER_CHIPS,
@@ -66,7 +66,7 @@ impl Rate {
     }
 
     pub fn octet_chips(self) -> usize
-        ensures answer { result ≡ octetChips self }
+        ensures answer { result ≡ octet_chips self }
     {
         match self {
             Rate::One => Rate::OCTET_CHIPS_ONE,
@@ -78,7 +78,7 @@ impl Rate {
 
     // The symbols of an octet.
     pub fn octet_symbols(self) -> usize
-        ensures answer { result ≡ octetSymbols self }
+        ensures answer { result ≡ octet_symbols self }
     {
         match self {
             Rate::One => 8,
@@ -91,7 +91,7 @@ impl Rate {
     // LENGTH of n octets, in microseconds.
     pub fn length_field(self, n: usize) -> usize
         requires { n ≤ 4095 }
-        ensures answer { (result ≡ lengthField self n) × (result < 65536) }
+        ensures answer { (result ≡ length_field self n) × (result < 65536) }
     {
         match self {
             Rate::One => 8 * n,
@@ -123,7 +123,7 @@ impl Rate {
     // The octets of a LENGTH, before bit 7 is asked.
     pub fn whole_octets(self, length: usize) -> usize
         requires { length < 65536 }
-        ensures answer { result ≡ wholeOctets self length }
+        ensures answer { result ≡ whole_octets self length }
     {
         match self {
             Rate::One => length / 8,
@@ -136,7 +136,7 @@ impl Rate {
 
 // Whether n octets are a payload: 1 to 4,095.
 pub fn is_payload(n: usize) -> bool
-    ensures answer { result ≡ isPayload (pos n) }
+    ensures answer { result ≡ is_payload (pos n) }
 {
     if n < 1 {
         return false;
@@ -162,7 +162,7 @@ pub fn is_code(code: u64) -> bool
 
 // The rate of a code; of a number that is none, 11 Mbit/s.
 pub fn rate_of(code: u64) -> Rate
-    ensures answer { result ≡ rateOf code }
+    ensures answer { result ≡ rate_of code }
 {
     if code == Rate::CODE_ONE {
         return Rate::One;

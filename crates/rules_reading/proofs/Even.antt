@@ -1,5 +1,5 @@
 -- A front that meets none of 8 to 15 has no odd growth in its preamble: 10 was looked for and not found.
---     front-even    each growth there, by the words of two symbols
+--     front_even    each growth there, by the words of two symbols
 -- Assumes nothing.
 use mathlib.Core.Path.{◌≡◌, refl, sym, ap, ◌∙◌, subst}
 use mathlib.Core.List.{List}
@@ -9,43 +9,43 @@ use native.Mathlib.Omega.{arith}
 use lib.ListN.{length, get_or}
 use Rattle.rules_rates.specs.declared.Rate.TheVariants.{One}
 use Rattle.rules_chips.specs.Chips.{Taken}
-use Rattle.rules_bits.specs.Growths.{grownBy, growthsOf}
-use Rattle.rules_bits.proofs.Heard.{growthsOf-length, growth-at}
+use Rattle.rules_bits.specs.Growths.{grown_by, growths_of}
+use Rattle.rules_bits.proofs.Heard.{growths_of_length, growth_at_lem}
 use Rattle.rules_frame.specs.declared.Kind.{Kind}
-use Rattle.rules_frame.specs.Frame.{syncBits}
+use Rattle.rules_frame.specs.Frame.{sync_bits}
 use Rattle.rules_calls.specs.declared.Told.{Told}
 use Rattle.rules_calls.specs.declared.Front.TheVariants.{Fields}
-use Rattle.rules_reading.specs.Reading.{or_else, firstOdd, frontOdd, frontOf, reference, preambleWords}
-use Rattle.rules_reading.proofs.Refusals.{FrontIf, front-refuses}
-use Rattle.rules_reading.proofs.First.{no_place, odd-none}
-use Rattle.rules_reading.proofs.Sfd.{word_at, words-length, word-here}
+use Rattle.rules_reading.specs.Reading.{or_else, first_odd, front_odd, front_of, reference, preamble_words}
+use Rattle.rules_reading.proofs.Refusals.{FrontIf, front_refuses}
+use Rattle.rules_reading.proofs.First.{no_place, odd_none}
+use Rattle.rules_reading.proofs.Sfd.{word_at, words_length, word_here}
 
 -- ---- a search that found nothing
-or-none : (o rest : Option ℕ) → or_else o (λ p. some p) rest ≡ none → o ≡ none
-or-none none rest e = refl
-or-none (some p) rest e = absurd (no_place e refl)
+or_none : (o rest : Option ℕ) → or_else o (λ p. some p) rest ≡ none → o ≡ none
+or_none none rest e = refl
+or_none (some p) rest e = absurd (no_place e refl)
 
 -- ---- the front
 module _ (k : Kind) (rec : List Taken) where
   abbrev growths : List ℕ
-  growths = growthsOf One (reference k rec) (preambleWords k rec)
+  growths = growths_of One (reference k rec) (preamble_words k rec)
 
-  none-odd : frontOdd k rec ≡ none → firstOdd 0 growths ≡ none
-  unfolding frontOdd
-  none-odd e = or-none (firstOdd 0 growths) _ e
+  none_odd : front_odd k rec ≡ none → first_odd 0 growths ≡ none
+  unfolding front_odd
+  none_odd e = or_none (first_odd 0 growths) _ e
 
-  pub front-even : (t : Told) → frontOf k rec ≡ Fields t → (n : ℕ) → n + 1 < syncBits k + 16
-      → grownBy (word_at One rec n) (word_at One rec (n + 1)) % 2 ≡ 0
-  front-even t e n h =
+  pub front_even : (t : Told) → front_of k rec ≡ Fields t → (n : ℕ) → n + 1 < sync_bits k + 16
+      → grown_by (word_at One rec n) (word_at One rec (n + 1)) % 2 ≡ 0
+  front_even t e n h =
       ap (λ (g : ℕ). g % 2) (sym grown)
-      ∙ odd-none 0 growths (none-odd (subst (FrontIf k rec) e (front-refuses k rec)).sound.clear.even) (n + 1) inside
+      ∙ odd_none 0 growths (none_odd (subst (FrontIf k rec) e (front_refuses k rec)).sound.clear.even) (n + 1) inside
     where
       inside : n + 1 < length growths
       inside =
           omega
-          (arith, growthsOf-length One (reference k rec) (preambleWords k rec), words-length k rec)
+          (arith, growths_of_length One (reference k rec) (preamble_words k rec), words_length k rec)
 
-      grown : get_or growths (n + 1) 0 ≡ grownBy (word_at One rec n) (word_at One rec (n + 1))
+      grown : get_or growths (n + 1) 0 ≡ grown_by (word_at One rec n) (word_at One rec (n + 1))
       grown =
-          growth-at (reference k rec) (preambleWords k rec) n (omega (arith, words-length k rec))
-          ∙ (λ i. grownBy (word-here k rec n (omega arith) i) (word-here k rec (n + 1) h i))
+          growth_at_lem (reference k rec) (preamble_words k rec) n (omega (arith, words_length k rec))
+          ∙ (λ i. grownBy (word_here k rec n (omega arith) i) (word_here k rec (n + 1) h i))

@@ -1,6 +1,6 @@
 -- What the two searches for a place find: the first, and nothing only where there is none.
---     unusable-first, unusable-none    a chip that cannot be read, all before it can
---     odd-first, odd-none              a growth by 1 or 3, all before it by 0 or 2
+--     unusable_first, unusable_none    a chip that cannot be read, all before it can
+--     odd_first, odd_none              a growth by 1 or 3, all before it by 0 or 2
 -- By induction on what is searched. Assumes nothing.
 use mathlib.Core.Path.{◌≡◌, refl, sym, ◌∙◌, subst}
 use mathlib.Core.Bool.{Bool, true, false, cond, not}
@@ -11,8 +11,8 @@ use native.Mathlib.Omega.{arith}
 use borrow.Author.Tests.{eqb-true, eqb-false}
 use lib.Dec.{T, eqb}
 use lib.ListN.{length, get_or}
-use Rattle.rules_chips.specs.Chips.{Taken, unusable, counted, isUnusable}
-use Rattle.rules_reading.specs.Reading.{firstUnusable, firstOdd}
+use Rattle.rules_chips.specs.Chips.{Taken, unusable, counted, is_unusable}
+use Rattle.rules_reading.specs.Reading.{first_unusable, first_odd}
 
 -- ---- a place that was found
 one_place : {p q : ℕ} → some p ≡ some q → p ≡ q
@@ -30,13 +30,13 @@ pub record FirstUnusable (at : ℕ) (cs : List Taken) (p : ℕ) : Type 0 where
   pub index : ℕ
   pub place_is : p ≡ at + index
   pub inside : index < length cs
-  pub is_one : T (isUnusable (get_or cs index unusable))
-  pub before : (i : ℕ) → i < index → T (not (isUnusable (get_or cs i unusable)))
+  pub is_one : T (is_unusable (get_or cs index unusable))
+  pub before : (i : ℕ) → i < index → T (not (is_unusable (get_or cs i unusable)))
 
-pub unusable-first : (at : ℕ) (cs : List Taken) (p : ℕ) → firstUnusable at cs ≡ some p → FirstUnusable at cs p
-unfolding firstUnusable
-unusable-first at [] p e = absurd (no_place refl e)
-unusable-first at (unusable ∷ cs) p e =
+pub unusable_first : (at : ℕ) (cs : List Taken) (p : ℕ) → first_unusable at cs ≡ some p → FirstUnusable at cs p
+unfolding first_unusable
+unusable_first at [] p e = absurd (no_place refl e)
+unusable_first at (unusable ∷ cs) p e =
     let f : at ≡ p = one_place e in
     record {
       index = 0;
@@ -45,8 +45,8 @@ unusable-first at (unusable ∷ cs) p e =
       is_one = tt;
       before = λ i l. absurd (omega (arith, l));
     }
-unusable-first at (counted c ∷ cs) p e =
-    let f = unusable-first (suc at) cs p e in
+unusable_first at (counted c ∷ cs) p e =
+    let f = unusable_first (suc at) cs p e in
     record {
       index = suc f.index;
       place_is = omega (arith, f.place_is);
@@ -56,17 +56,17 @@ unusable-first at (counted c ∷ cs) p e =
     }
   where
     go : (f : FirstUnusable (suc at) cs p) (i : ℕ) → i < suc f.index
-        → T (not (isUnusable (get_or (counted c ∷ cs) i unusable)))
+        → T (not (is_unusable (get_or (counted c ∷ cs) i unusable)))
     go f zero l = tt
     go f (suc i) l = f.before i (omega (arith, l))
 
-pub unusable-none : (at : ℕ) (cs : List Taken) → firstUnusable at cs ≡ none → (i : ℕ) → i < length cs
-    → T (not (isUnusable (get_or cs i unusable)))
-unfolding firstUnusable
-unusable-none at [] e i h = absurd (omega arith)
-unusable-none at (unusable ∷ cs) e i h = absurd (no_place e refl)
-unusable-none at (counted c ∷ cs) e zero h = tt
-unusable-none at (counted c ∷ cs) e (suc i) h = unusable-none (suc at) cs e i (omega arith)
+pub unusable_none : (at : ℕ) (cs : List Taken) → first_unusable at cs ≡ none → (i : ℕ) → i < length cs
+    → T (not (is_unusable (get_or cs i unusable)))
+unfolding first_unusable
+unusable_none at [] e i h = absurd (omega arith)
+unusable_none at (unusable ∷ cs) e i h = absurd (no_place e refl)
+unusable_none at (counted c ∷ cs) e zero h = tt
+unusable_none at (counted c ∷ cs) e (suc i) h = unusable_none (suc at) cs e i (omega arith)
 
 -- ---- 10
 pub record FirstOdd (at : ℕ) (gs : List ℕ) (p : ℕ) : Type 0 where
@@ -84,11 +84,11 @@ even x n = go (x % 2) (omega arith) n
     go (suc zero) a b = absurd (b refl)
     go (suc (suc y)) a b = absurd (omega arith)
 
-pub odd-first : (at : ℕ) (gs : List ℕ) (p : ℕ) → firstOdd at gs ≡ some p → FirstOdd at gs p
-unfolding firstOdd
-odd-first at [] p e = absurd (no_place refl e)
-odd-first at (g ∷ gs) p e =
-    by (eqb (g % 2) 1) e (eqb-true (g % 2) 1) (eqb-false (g % 2) 1) (odd-first (at + 11) gs p)
+pub odd_first : (at : ℕ) (gs : List ℕ) (p : ℕ) → first_odd at gs ≡ some p → FirstOdd at gs p
+unfolding first_odd
+odd_first at [] p e = absurd (no_place refl e)
+odd_first at (g ∷ gs) p e =
+    by (eqb (g % 2) 1) e (eqb-true (g % 2) 1) (eqb-false (g % 2) 1) (odd_first (at + 11) gs p)
   where
     here : at ≡ p → g % 2 ≡ 1 → FirstOdd at (g ∷ gs) p
     here f o =
@@ -114,19 +114,19 @@ odd-first at (g ∷ gs) p e =
         go zero l = even g n
         go (suc i) l = f.before i (omega (arith, l))
 
-    by : (b : Bool) → cond b (some at) (firstOdd (at + 11) gs) ≡ some p → (b ≡ true → g % 2 ≡ 1)
-        → (b ≡ false → g % 2 ≡ 1 → ⊥) → (firstOdd (at + 11) gs ≡ some p → FirstOdd (at + 11) gs p)
+    by : (b : Bool) → cond b (some at) (first_odd (at + 11) gs) ≡ some p → (b ≡ true → g % 2 ≡ 1)
+        → (b ≡ false → g % 2 ≡ 1 → ⊥) → (first_odd (at + 11) gs ≡ some p → FirstOdd (at + 11) gs p)
         → FirstOdd at (g ∷ gs) p
     by true e y n more = here (one_place e) (y refl)
     by false e y n more = later (n refl) (more e)
 
-pub odd-none : (at : ℕ) (gs : List ℕ) → firstOdd at gs ≡ none → (i : ℕ) → i < length gs → get_or gs i 0 % 2 ≡ 0
-unfolding firstOdd
-odd-none at [] e i h = absurd (omega arith)
-odd-none at (g ∷ gs) e i h = by (eqb (g % 2) 1) e (eqb-false (g % 2) 1) (odd-none (at + 11) gs) i h
+pub odd_none : (at : ℕ) (gs : List ℕ) → first_odd at gs ≡ none → (i : ℕ) → i < length gs → get_or gs i 0 % 2 ≡ 0
+unfolding first_odd
+odd_none at [] e i h = absurd (omega arith)
+odd_none at (g ∷ gs) e i h = by (eqb (g % 2) 1) e (eqb-false (g % 2) 1) (odd_none (at + 11) gs) i h
   where
-    by : (b : Bool) → cond b (some at) (firstOdd (at + 11) gs) ≡ none → (b ≡ false → g % 2 ≡ 1 → ⊥)
-        → (firstOdd (at + 11) gs ≡ none → (i : ℕ) → i < length gs → get_or gs i 0 % 2 ≡ 0) → (i : ℕ)
+    by : (b : Bool) → cond b (some at) (first_odd (at + 11) gs) ≡ none → (b ≡ false → g % 2 ≡ 1 → ⊥)
+        → (first_odd (at + 11) gs ≡ none → (i : ℕ) → i < length gs → get_or gs i 0 % 2 ≡ 0) → (i : ℕ)
         → i < suc (length gs) → get_or (g ∷ gs) i 0 % 2 ≡ 0
     by true e n more i h = absurd (no_place e refl)
     by false e n more zero h = even g (n refl)

@@ -1,8 +1,8 @@
 -- What a recording is refused with, past its kind and its rows, and why: each refusal that its front can meet, 16
 -- besides, and each that its payload can, with the tests passed before it and the one that failed.
---     front-refuses, front-number      fronts, whatever follows them: 8 to 15
---     whole-refuses, whole-number      fronts, and recordings that end in the payload: 8 to 16
---     payload-comes, payload-number    payloads, and that a good one had room
+--     front_refuses, front_number      fronts, whatever follows them: 8 to 15
+--     whole_refuses, whole_number      fronts, and recordings that end in the payload: 8 to 16
+--     payload_comes, payload_number    payloads, and that a good one had room
 -- By the tests of the definitions, followed to their ends. Assumes nothing.
 use mathlib.Core.Path.{◌≡◌, refl}
 use mathlib.Core.Bool.{true, false}
@@ -13,12 +13,12 @@ use native.Mathlib.Omega.{arith}
 use borrow.Author.Tests.{ltb-true, ltb-false}
 use lib.Dec.{ltb}
 use lib.ListN.{length, take, drop}
-use Rattle.rules_rates.specs.Rates.{rateOf, lengthHolds}
+use Rattle.rules_rates.specs.Rates.{rate_of, length_holds}
 use Rattle.rules_chips.specs.Chips.{Taken}
 use Rattle.rules_bits.specs.Bits.{number_of}
-use Rattle.rules_bits.specs.Crc.{crcBits}
+use Rattle.rules_bits.specs.Crc.{crc_bits}
 use Rattle.rules_frame.specs.declared.Kind.{Kind}
-use Rattle.rules_frame.specs.Frame.{sfdOf, frontChips, frameChips}
+use Rattle.rules_frame.specs.Frame.{sfd_of, front_chips, frame_chips}
 use Rattle.rules_calls.specs.declared.Refusal.{Refusal}
 use Rattle.rules_calls.specs.declared.Refusal.TheVariants.{
   ShorterThanFront,
@@ -37,80 +37,80 @@ use Rattle.rules_calls.specs.declared.Front.{Front}
 use Rattle.rules_calls.specs.declared.Front.TheVariants as front
 use Rattle.rules_calls.specs.declared.Reading.{Reading}
 use Rattle.rules_calls.specs.declared.Reading.TheVariants as reading
-use Rattle.rules_calls.specs.Answers.{refusalNumber}
-use Rattle.rules_calls.specs.Headers.{ours, headerOf}
+use Rattle.rules_calls.specs.Answers.{refusal_number}
+use Rattle.rules_calls.specs.Headers.{ours, header_of}
 use Rattle.rules_calls.proofs.Accepting.{
   Tells,
-  signal-out,
-  service-out,
-  length-out,
+  signal_out,
+  service_out,
+  length_out,
   fields_told,
   HeaderComes,
-  sfd-other,
-  crc-other,
-  fields-behind,
-  header-comes,
+  sfd_other,
+  crc_other,
+  fields_behind,
+  header_comes,
 }
-use Rattle.rules_reading.specs.Leads.{frameLeads, leastOf}
-use Rattle.rules_reading.specs.Heard.{sfdHeard, headerHeard, signalHeard, serviceHeard, lengthHeard}
+use Rattle.rules_reading.specs.Leads.{frame_leads, least_of}
+use Rattle.rules_reading.specs.Heard.{sfd_heard, header_heard, signal_heard, service_heard, length_heard}
 use Rattle.rules_reading.specs.Reading.{
-  firstUnusable,
-  frontOdd,
-  frontBy,
-  frontOf,
-  payloadOdd,
+  first_unusable,
+  front_odd,
+  front_by,
+  front_of,
+  payload_odd,
   whole_of,
-  payloadReading,
+  payload_reading,
 }
-use Rattle.rules_reading.proofs.Payloads.{foundUnusable}
-use Rattle.rules_reading.proofs.Telling.{found-or-none, decided-by, searched}
+use Rattle.rules_reading.proofs.Payloads.{found_unusable}
+use Rattle.rules_reading.proofs.Telling.{found_or_none, decided_by, searched}
 
 -- ---- fronts
 
 -- what passed 8, 9 and 10; what passed 11 and 12 too; and then 13
 pub record Clear (k : Kind) (rec : List Taken) : Type 0 where
-  pub long : frontChips k ≤ length rec
-  pub usable : firstUnusable 0 (take (frontChips k) rec) ≡ none
-  pub even : frontOdd k rec ≡ none
+  pub long : front_chips k ≤ length rec
+  pub usable : first_unusable 0 (take (front_chips k) rec) ≡ none
+  pub even : front_odd k rec ≡ none
 
 module _ (k : Kind) (rec : List Taken) where
   abbrev pub SfdHeard : Type 0
-  SfdHeard = number_of (sfdHeard k rec) ≡ sfdOf k
+  SfdHeard = number_of (sfd_heard k rec) ≡ sfd_of k
 
   abbrev pub CrcHeard : Type 0
-  CrcHeard = crcBits (take 32 (headerHeard k rec)) ≡ drop 32 (headerHeard k rec)
+  CrcHeard = crc_bits (take 32 (header_heard k rec)) ≡ drop 32 (header_heard k rec)
 
 pub record Sound (k : Kind) (rec : List Taken) : Type 0 where
   pub clear : Clear k rec
-  pub sfd-is : SfdHeard k rec
-  pub crc-is : CrcHeard k rec
+  pub sfd_is : SfdHeard k rec
+  pub crc_is : CrcHeard k rec
 
 pub data FrontRefusal (k : Kind) (rec : List Taken) : Refusal → Type 0 where
-  front-short : length rec < frontChips k → FrontRefusal k rec ShorterThanFront
-  front-unusable : (p : ℕ) → frontChips k ≤ length rec → firstUnusable 0 (take (frontChips k) rec) ≡ some p
+  front_short : length rec < front_chips k → FrontRefusal k rec ShorterThanFront
+  front_unusable : (p : ℕ) → front_chips k ≤ length rec → first_unusable 0 (take (front_chips k) rec) ≡ some p
       → FrontRefusal k rec (Unusable p 0)
-  front-odd : (p : ℕ) → frontChips k ≤ length rec → firstUnusable 0 (take (frontChips k) rec) ≡ none
-      → frontOdd k rec ≡ some p → FrontRefusal k rec (OddGrowth p 0)
-  sfd-differs : Clear k rec → (SfdHeard k rec → ⊥) → FrontRefusal k rec Sfd
-  crc-differs : Clear k rec → SfdHeard k rec → (CrcHeard k rec → ⊥) → FrontRefusal k rec Crc
-  no-signal : Sound k rec → ours.signals k (signalHeard k rec) ≡ false
-      → FrontRefusal k rec (Signal (lengthHeard k rec))
-  no-service : Sound k rec → ours.signals k (signalHeard k rec) ≡ true
-      → ours.services (rateOf (signalHeard k rec)) (serviceHeard k rec) ≡ false
-      → FrontRefusal k rec (Service (lengthHeard k rec))
-  no_length : Sound k rec → ours.signals k (signalHeard k rec) ≡ true
-      → ours.services (rateOf (signalHeard k rec)) (serviceHeard k rec) ≡ true
-      → lengthHolds (rateOf (signalHeard k rec)) (lengthHeard k rec) (serviceHeard k rec / 128 % 2) ≡ false
-      → FrontRefusal k rec (Length (lengthHeard k rec))
+  front_odd_lem : (p : ℕ) → front_chips k ≤ length rec → first_unusable 0 (take (front_chips k) rec) ≡ none
+      → front_odd k rec ≡ some p → FrontRefusal k rec (OddGrowth p 0)
+  sfd_differs : Clear k rec → (SfdHeard k rec → ⊥) → FrontRefusal k rec Sfd
+  crc_differs : Clear k rec → SfdHeard k rec → (CrcHeard k rec → ⊥) → FrontRefusal k rec Crc
+  no_signal : Sound k rec → ours.signals k (signal_heard k rec) ≡ false
+      → FrontRefusal k rec (Signal (length_heard k rec))
+  no_service : Sound k rec → ours.signals k (signal_heard k rec) ≡ true
+      → ours.services (rate_of (signal_heard k rec)) (service_heard k rec) ≡ false
+      → FrontRefusal k rec (Service (length_heard k rec))
+  no_length : Sound k rec → ours.signals k (signal_heard k rec) ≡ true
+      → ours.services (rate_of (signal_heard k rec)) (service_heard k rec) ≡ true
+      → length_holds (rate_of (signal_heard k rec)) (length_heard k rec) (service_heard k rec / 128 % 2) ≡ false
+      → FrontRefusal k rec (Length (length_heard k rec))
 
 -- a front that is told: it passed them all, and its fields are those of the bits
 pub record FrontHeard (k : Kind) (rec : List Taken) (t : Told) : Type 0 where
   pub sound : Sound k rec
-  pub tells : Tells ours k (signalHeard k rec) (serviceHeard k rec) (lengthHeard k rec) t
+  pub tells : Tells ours k (signal_heard k rec) (service_heard k rec) (length_heard k rec) t
 
 pub data WholeRefusal (k : Kind) (rec : List Taken) : Refusal → Type 0 where
-  met-in-front : {e : Refusal} → FrontRefusal k rec e → WholeRefusal k rec e
-  frame-ends : (t : Told) → FrontHeard k rec t → length rec < frameChips k t.rate t.n
+  met_in_front : {e : Refusal} → FrontRefusal k rec e → WholeRefusal k rec e
+  frame_ends : (t : Told) → FrontHeard k rec t → length rec < frame_chips k t.rate t.n
       → WholeRefusal k rec (Ends t.length)
 
 module _ (k : Kind) (rec : List Taken) where
@@ -120,88 +120,88 @@ module _ (k : Kind) (rec : List Taken) where
 
   abbrev pub RefusesIf : Front → Type 0
   RefusesIf (front.Refused e) = WholeRefusal k rec e
-  RefusesIf (front.Fields t) = FrontHeard k rec t × (frameChips k t.rate t.n ≤ length rec)
+  RefusesIf (front.Fields t) = FrontHeard k rec t × (frame_chips k t.rate t.n ≤ length rec)
 
-  header-refuses : Clear k rec → FrontIf (headerOf ours k (sfdHeard k rec) (headerHeard k rec))
-  header-refuses clear = go (header-comes ours k (sfdHeard k rec) (headerHeard k rec))
+  header_refuses : Clear k rec → FrontIf (header_of ours k (sfd_heard k rec) (header_heard k rec))
+  header_refuses clear = go (header_comes ours k (sfd_heard k rec) (header_heard k rec))
     where
-      go : {f : Front} → HeaderComes ours k (sfdHeard k rec) (headerHeard k rec) f → FrontIf f
-      go (sfd-other s) = sfd-differs clear s
-      go (crc-other s c) = crc-differs clear s c
-      go (fields-behind s c (signal-out a)) = no-signal (record { clear = clear; sfd-is = s; crc-is = c }) a
-      go (fields-behind s c (service-out a b)) =
-          no-service (record { clear = clear; sfd-is = s; crc-is = c }) a b
-      go (fields-behind s c (length-out a b d)) =
-          no_length (record { clear = clear; sfd-is = s; crc-is = c }) a b d
-      go (fields-behind s c (fields_told t h)) =
-          record { sound = record { clear = clear; sfd-is = s; crc-is = c }; tells = h }
+      go : {f : Front} → HeaderComes ours k (sfd_heard k rec) (header_heard k rec) f → FrontIf f
+      go (sfd_other s) = sfd_differs clear s
+      go (crc_other s c) = crc_differs clear s c
+      go (fields_behind s c (signal_out a)) = no_signal (record { clear = clear; sfd_is = s; crc_is = c }) a
+      go (fields_behind s c (service_out a b)) =
+          no_service (record { clear = clear; sfd_is = s; crc_is = c }) a b
+      go (fields_behind s c (length_out a b d)) =
+          no_length (record { clear = clear; sfd_is = s; crc_is = c }) a b d
+      go (fields_behind s c (fields_told t h)) =
+          record { sound = record { clear = clear; sfd_is = s; crc_is = c }; tells = h }
 
-  pub front-refuses : FrontIf (frontOf k rec)
-  unfolding frontBy
-  front-refuses =
-      decided-by FrontIf (ltb (length rec) (frontChips k)) _ _ (λ b. front-short (ltb-true _ _ b))
+  pub front_refuses : FrontIf (front_of k rec)
+  unfolding front_by
+  front_refuses =
+      decided_by FrontIf (ltb (length rec) (front_chips k)) _ _ (λ b. front_short (ltb-true _ _ b))
       (λ a. let long = ltb-false _ _ a in
-      found-or-none FrontIf (firstUnusable 0 (take (frontChips k) rec)) (λ p. front.Refused (Unusable p 0)) _
-      (λ p e. front-unusable p long e)
-      (λ u. found-or-none FrontIf (frontOdd k rec) (λ p. front.Refused (OddGrowth p 0)) _
-      (λ p e. front-odd p long u e)
+      found_or_none FrontIf (first_unusable 0 (take (front_chips k) rec)) (λ p. front.Refused (Unusable p 0)) _
+      (λ p e. front_unusable p long e)
+      (λ u. found-or-none FrontIf (front_odd k rec) (λ p. front.Refused (OddGrowth p 0)) _
+      (λ p e. front_odd_lem p long u e)
       (λ o. header-refuses (record { long = long; usable = u; even = o }))))
 
   -- promise: What a front and a payload can be refused with; a place lies in its part
   -- rule: 6.2, 6.4
-  -- with: payload-comes, whole-place, payload-unusable-place, payload-odd-place
-  pub whole-refuses : RefusesIf (whole_of k rec (frontOf k rec))
-  whole-refuses = go (frontOf k rec) front-refuses
+  -- with: payload_comes, whole-place, payload-unusable-place, payload-odd-place
+  pub whole_refuses : RefusesIf (whole_of k rec (front_of k rec))
+  whole_refuses = go (front_of k rec) front_refuses
     where
       go : (f : Front) → FrontIf f → RefusesIf (whole_of k rec f)
-      go (front.Refused e) h = met-in-front h
+      go (front.Refused e) h = met_in_front h
       go (front.Fields t) h =
-          decided-by RefusesIf (ltb (length rec) (frameChips k t.rate t.n)) _ _
+          decided_by RefusesIf (ltb (length rec) (frame_chips k t.rate t.n)) _ _
           (λ b. frame-ends t h (ltb-true _ _ b)) (λ a. (h, ltb-false _ _ a))
 
 -- their numbers
-pub front-number : {k : Kind} {rec : List Taken} {e : Refusal} → FrontRefusal k rec e
-    → (8 ≤ refusalNumber e) × (refusalNumber e ≤ 15)
-front-number (front-short l) = (omega arith, omega arith)
-front-number (front-unusable p l f) = (omega arith, omega arith)
-front-number (front-odd p l u f) = (omega arith, omega arith)
-front-number (sfd-differs c d) = (omega arith, omega arith)
-front-number (crc-differs c s d) = (omega arith, omega arith)
-front-number (no-signal s a) = (omega arith, omega arith)
-front-number (no-service s a b) = (omega arith, omega arith)
-front-number (no_length s a b d) = (omega arith, omega arith)
+pub front_number : {k : Kind} {rec : List Taken} {e : Refusal} → FrontRefusal k rec e
+    → (8 ≤ refusal_number e) × (refusal_number e ≤ 15)
+front_number (front_short l) = (omega arith, omega arith)
+front_number (front_unusable p l f) = (omega arith, omega arith)
+front_number (front_odd_lem p l u f) = (omega arith, omega arith)
+front_number (sfd_differs c d) = (omega arith, omega arith)
+front_number (crc_differs c s d) = (omega arith, omega arith)
+front_number (no_signal s a) = (omega arith, omega arith)
+front_number (no_service s a b) = (omega arith, omega arith)
+front_number (no_length s a b d) = (omega arith, omega arith)
 
-pub whole-number : {k : Kind} {rec : List Taken} {e : Refusal} → WholeRefusal k rec e
-    → (8 ≤ refusalNumber e) × (refusalNumber e ≤ 16)
-whole-number (met-in-front h) = let n = front-number h in (n.0, omega (arith, n.1))
-whole-number (frame-ends t h l) = (omega arith, omega arith)
+pub whole_number : {k : Kind} {rec : List Taken} {e : Refusal} → WholeRefusal k rec e
+    → (8 ≤ refusal_number e) × (refusal_number e ≤ 16)
+whole_number (met_in_front h) = let n = front_number h in (n.0, omega (arith, n.1))
+whole_number (frame_ends t h l) = (omega arith, omega arith)
 
 -- ---- payloads
 
 pub data PayloadRefusal (k : Kind) (t : Told) (rec : List Taken) : Refusal → Type 0 where
   no_room : PayloadRefusal k t rec (OctetRoom t.length)
-  payload-unusable : (p : ℕ) → foundUnusable k t rec ≡ some p → PayloadRefusal k t rec (Unusable p t.length)
-  payload-odd : (p : ℕ) → payloadOdd k t.rate t.n rec ≡ some p → PayloadRefusal k t rec (OddGrowth p t.length)
+  payload_unusable : (p : ℕ) → found_unusable k t rec ≡ some p → PayloadRefusal k t rec (Unusable p t.length)
+  payload_odd_lem : (p : ℕ) → payload_odd k t.rate t.n rec ≡ some p → PayloadRefusal k t rec (OddGrowth p t.length)
 
-pub payload-number : {k : Kind} {t : Told} {rec : List Taken} {e : Refusal} → PayloadRefusal k t rec e
-    → 9 ≤ refusalNumber e
-payload-number no_room = omega arith
-payload-number (payload-unusable p f) = omega arith
-payload-number (payload-odd p f) = omega arith
+pub payload_number : {k : Kind} {t : Told} {rec : List Taken} {e : Refusal} → PayloadRefusal k t rec e
+    → 9 ≤ refusal_number e
+payload_number no_room = omega arith
+payload_number (payload_unusable p f) = omega arith
+payload_number (payload_odd_lem p f) = omega arith
 
 module _ (k : Kind) (t : Told) (rec : List Taken) (room : ℕ) where
   abbrev pub PayloadIf : Reading → Type 0
   PayloadIf (reading.Refused e) = PayloadRefusal k t rec e
   PayloadIf (reading.Good u used least) =
       (t.n ≤ room) × (u ≡ t)
-      × (used ≡ frameChips k t.rate t.n)
-      × (least ≡ leastOf (frameLeads k t.rate t.n rec))
+      × (used ≡ frame_chips k t.rate t.n)
+      × (least ≡ least_of (frame_leads k t.rate t.n rec))
 
-  pub payload-comes : PayloadIf (payloadReading k t rec room)
-  unfolding payloadReading
-  payload-comes =
-      decided-by PayloadIf (ltb room t.n) _ _ (λ b. no_room)
-      (λ a. searched PayloadIf (foundUnusable k t rec) (λ p. reading.Refused (Unusable p t.length)) _
-      payload-unusable
-      (searched PayloadIf (payloadOdd k t.rate t.n rec) (λ p. reading.Refused (OddGrowth p t.length)) _
-      payload-odd (ltb-false room t.n a, refl, refl, refl)))
+  pub payload_comes : PayloadIf (payload_reading k t rec room)
+  unfolding payload_reading
+  payload_comes =
+      decided_by PayloadIf (ltb room t.n) _ _ (λ b. no_room)
+      (λ a. searched PayloadIf (found_unusable k t rec) (λ p. reading.Refused (Unusable p t.length)) _
+      payload_unusable
+      (searched PayloadIf (payload_odd k t.rate t.n rec) (λ p. reading.Refused (OddGrowth p t.length)) _
+      payload_odd_lem (ltb-false room t.n a, refl, refl, refl)))

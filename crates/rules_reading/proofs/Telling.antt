@@ -1,5 +1,5 @@
 -- What a front tells, where it is not refused: a rate of the kind, 1 to 4,095 octets, and their LENGTH; and where 16 is
--- not given either, that the recording has the frame's chips. It is the header's own law (`header-only` of
+-- not given either, that the recording has the frame's chips. It is the header's own law (`header_only` of
 -- rules_calls), behind the tests before it. Assumes nothing.
 use mathlib.Core.Path.{◌≡◌, refl, ◌∙◌}
 use mathlib.Core.Bool.{Bool, true, false, cond}
@@ -9,16 +9,16 @@ use Prim.Native.Nat.{ℕ, ◌≤◌}
 use lib.Dec.{ltb, nltb→le}
 use lib.ListN.{length, take}
 use Rattle.base.proofs.Tests.{branch}
-use Rattle.rules_rates.specs.Rates.{lengthField}
+use Rattle.rules_rates.specs.Rates.{length_field}
 use Rattle.rules_chips.specs.Chips.{Taken}
 use Rattle.rules_frame.specs.declared.Kind.{Kind}
-use Rattle.rules_frame.specs.Frame.{goesWith, frontChips, frameChips}
+use Rattle.rules_frame.specs.Frame.{goes_with, front_chips, frame_chips}
 use Rattle.rules_calls.specs.declared.Told.{Told}
 use Rattle.rules_calls.specs.declared.Front.{Front}
 use Rattle.rules_calls.specs.declared.Front.TheVariants.{Refused, Fields}
-use Rattle.rules_calls.specs.Headers.{ours, headerOf}
-use Rattle.rules_calls.proofs.HeaderOnly.{HeaderSends, header-only}
-use Rattle.rules_reading.specs.Reading.{or_else, firstUnusable, frontOdd, frontBy, frontOf, whole_of}
+use Rattle.rules_calls.specs.Headers.{ours, header_of}
+use Rattle.rules_calls.proofs.HeaderOnly.{HeaderSends, header_only}
+use Rattle.rules_reading.specs.Reading.{or_else, first_unusable, front_odd, front_by, front_of, whole_of}
 
 -- a search, with what it found, and what holds where it found nothing
 pub searched : {A : Type 0} (P : A → Type 0) (o : Option ℕ) (f : ℕ → A) (y : A) → ((p : ℕ) → o ≡ some p → P (f p)) → P y
@@ -26,58 +26,58 @@ pub searched : {A : Type 0} (P : A → Type 0) (o : Option ℕ) (f : ℕ → A) 
 searched P none f y h k = k
 searched P (some p) f y h k = h p refl
 
-pub found-or-none : {A : Type 0} (P : A → Type 0) (o : Option ℕ) (f : ℕ → A) (y : A) → ((p : ℕ) → o ≡ some p → P (f p))
+pub found_or_none : {A : Type 0} (P : A → Type 0) (o : Option ℕ) (f : ℕ → A) (y : A) → ((p : ℕ) → o ≡ some p → P (f p))
     → (o ≡ none → P y) → P (or_else o f y)
-found-or-none P none f y h k = k refl
-found-or-none P (some p) f y h k = h p refl
+found_or_none P none f y h k = k refl
+found_or_none P (some p) f y h k = h p refl
 
 -- a test, with what it came to
-pub decided-by : {A : Type 0} (P : A → Type 0) (b : Bool) (x y : A) → (b ≡ true → P x) → (b ≡ false → P y)
+pub decided_by : {A : Type 0} (P : A → Type 0) (b : Bool) (x y : A) → (b ≡ true → P x) → (b ≡ false → P y)
     → P (cond b x y)
-decided-by P true x y h k = h refl
-decided-by P false x y h k = k refl
+decided_by P true x y h k = h refl
+decided_by P false x y h k = k refl
 
 pub record Telling (k : Kind) (t : Told) : Type 0 where
-  pub goes : goesWith k t.rate ≡ true
-  pub some-octets : 1 ≤ t.n
+  pub goes : goes_with k t.rate ≡ true
+  pub some_octets : 1 ≤ t.n
   pub few : t.n ≤ 4095
-  pub length-is : t.length ≡ lengthField t.rate t.n
+  pub length_is : t.length ≡ length_field t.rate t.n
 
 abbrev pub TellingIf : Kind → Front → Type 0
 TellingIf k (Refused e) = Unit {0}
 TellingIf k (Fields t) = Telling k t
 
-header-telling : (k : Kind) (sfd header : List ℕ) → TellingIf k (headerOf ours k sfd header)
-header-telling k sfd header = go (headerOf ours k sfd header) (header-only k sfd header)
+header_telling : (k : Kind) (sfd header : List ℕ) → TellingIf k (header_of ours k sfd header)
+header_telling k sfd header = go (header_of ours k sfd header) (header_only k sfd header)
   where
     go : (f : Front) → HeaderSends k sfd header f → TellingIf k f
     go (Refused e) h = tt
     go (Fields t) h =
         let s = h.2 in
-        record { goes = s.goes; some-octets = s.some; few = s.few; length-is = s.told_is ∙ s.length-is }
+        record { goes = s.goes; some_octets = s.some; few = s.few; length_is = s.told_is ∙ s.length_is }
 
-pub front-telling : (k : Kind) (rec : List Taken) → TellingIf k (frontOf k rec)
-unfolding frontBy
-front-telling k rec =
-    branch (TellingIf k) (ltb (length rec) (frontChips k)) _ _ tt
-    (λ a. searched (TellingIf k) (firstUnusable 0 (take (frontChips k) rec)) _ _ (λ p e. tt)
-    (searched (TellingIf k) (frontOdd k rec) _ _ (λ p e. tt) (header-telling k _ _)))
+pub front_telling : (k : Kind) (rec : List Taken) → TellingIf k (front_of k rec)
+unfolding front_by
+front_telling k rec =
+    branch (TellingIf k) (ltb (length rec) (front_chips k)) _ _ tt
+    (λ a. searched (TellingIf k) (first_unusable 0 (take (front_chips k) rec)) _ _ (λ p e. tt)
+    (searched (TellingIf k) (front_odd k rec) _ _ (λ p e. tt) (header_telling k _ _)))
 
 -- and behind refusal 16, that the recording has the frame's chips
 pub record TellingWhole (k : Kind) (rec : List Taken) (t : Told) : Type 0 where
   pub telling : Telling k t
-  pub there : frameChips k t.rate t.n ≤ length rec
+  pub there : frame_chips k t.rate t.n ≤ length rec
 
 abbrev pub TellingWholeIf : Kind → List Taken → Front → Type 0
 TellingWholeIf k rec (Refused e) = Unit {0}
 TellingWholeIf k rec (Fields t) = TellingWhole k rec t
 
-pub whole-telling : (k : Kind) (rec : List Taken) → TellingWholeIf k rec (whole_of k rec (frontOf k rec))
-whole-telling k rec = go (frontOf k rec) (front-telling k rec)
+pub whole_telling : (k : Kind) (rec : List Taken) → TellingWholeIf k rec (whole_of k rec (front_of k rec))
+whole_telling k rec = go (front_of k rec) (front_telling k rec)
   where
     go : (f : Front) → TellingIf k f → TellingWholeIf k rec (whole_of k rec f)
     go (Refused e) h = tt
     go (Fields t) h =
-        let all = frameChips k t.rate t.n in
+        let all = frame_chips k t.rate t.n in
         branch (TellingWholeIf k rec) (ltb (length rec) all) _ _ tt
         (λ a. record { telling = h; there = nltb→le (length rec) all a })

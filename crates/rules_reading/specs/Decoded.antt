@@ -7,49 +7,49 @@ use Rattle.std.specs.Prelude.{ℕ, suc, ◌+◌, ◌-◌, ◌*◌, ◌%◌, ◌<
 use Rattle.base.specs.Tables.{tabulate}
 use Rattle.rules_rates.specs.declared.Rate.{Rate}
 use Rattle.rules_rates.specs.declared.Rate.TheVariants.{One}
-use Rattle.rules_rates.specs.Rates.{symbolChips, symbolBits, octetSymbols}
+use Rattle.rules_rates.specs.Rates.{symbol_chips, symbol_bits, octet_symbols}
 use Rattle.rules_chips.specs.Chips.{Taken}
-use Rattle.rules_symbols.specs.Words.{phaseOf}
+use Rattle.rules_symbols.specs.Words.{phase_of}
 use Rattle.rules_bits.specs.Bits.{number_of}
-use Rattle.rules_bits.specs.Growths.{heardBits}
+use Rattle.rules_bits.specs.Growths.{heard_bits}
 use Rattle.rules_frame.specs.declared.Kind.{Kind}
-use Rattle.rules_frame.specs.Frame.{headerRate, frontChips, frontSymbols, preambleLength, headerLength}
-use Rattle.rules_reading.specs.Places.{wordFrom}
+use Rattle.rules_frame.specs.Frame.{header_rate, front_chips, front_symbols, preamble_length, header_length}
+use Rattle.rules_reading.specs.Places.{word_from}
 
 -- ---- the symbols of a frame with a payload at rate r, counted from 0 at its first: the rate of each, the place of its
 -- first chip, and the number of its first bit in the frame
 module _ (k : Kind) (r : Rate) where
-  abbrev pub rateAt : ℕ → Rate
-  rateAt s = cond (ltb s (preambleLength k)) One (cond (ltb s (frontSymbols k)) (headerRate k) r)
+  abbrev pub rate_at : ℕ → Rate
+  rate_at s = cond (ltb s (preamble_length k)) One (cond (ltb s (front_symbols k)) (header_rate k) r)
 
-  abbrev pub placeAt : ℕ → ℕ
-  placeAt s = cond (ltb s (frontSymbols k)) (11 * s) (frontChips k + symbolChips r * (s - frontSymbols k))
+  abbrev pub place_at : ℕ → ℕ
+  place_at s = cond (ltb s (front_symbols k)) (11 * s) (front_chips k + symbol_chips r * (s - front_symbols k))
 
   abbrev pub bit_at : ℕ → ℕ
   bit_at s =
-      cond (ltb s (preambleLength k)) s
-      (cond (ltb s (frontSymbols k)) (preambleLength k + symbolBits (headerRate k) * (s - preambleLength k))
-      (preambleLength k + headerLength + symbolBits r * (s - frontSymbols k)))
+      cond (ltb s (preamble_length k)) s
+      (cond (ltb s (front_symbols k)) (preamble_length k + symbol_bits (header_rate k) * (s - preamble_length k))
+      (preamble_length k + header_length + symbol_bits r * (s - front_symbols k)))
 
   -- how many a frame of n octets has
-  abbrev pub symbolsIn : ℕ → ℕ
-  symbolsIn n = frontSymbols k + octetSymbols r * n
+  abbrev pub symbols_in : ℕ → ℕ
+  symbols_in n = front_symbols k + octet_symbols r * n
 
   module _ (rec : List Taken) where
     -- the word of symbol s, and its bits as they were sent: by how far it grew from the symbol before it, across all
     -- changes of rate. CCK symbols are numbered from 0 at the first payload symbol
-    abbrev pub wordOfSymbol : ℕ → ℕ
-    wordOfSymbol s = wordFrom (rateAt s) (placeAt s) rec
+    abbrev pub word_of_symbol : ℕ → ℕ
+    word_of_symbol s = word_from (rate_at s) (place_at s) rec
 
-    abbrev pub bitsBehind : ℕ → List ℕ
-    bitsBehind s =
-        heardBits (rateAt (suc s)) (suc s - frontSymbols k) (phaseOf (rateAt s) (wordOfSymbol s)) (wordOfSymbol (suc s))
+    abbrev pub bits_behind : ℕ → List ℕ
+    bits_behind s =
+        heard_bits (rate_at (suc s)) (suc s - front_symbols k) (phase_of (rate_at s) (word_of_symbol s)) (word_of_symbol (suc s))
 
     module _ (n : ℕ) where
       -- bit b of the frame as it was sent; the first symbol is only a reference, and has none
       pub data SentBit : ℕ → ℕ → Type 0 where
-        of-symbol : (s i : ℕ) → suc s < symbolsIn n → i < symbolBits (rateAt (suc s))
-            → SentBit (bit_at (suc s) + i) (get_or (bitsBehind s) i 0)
+        of_symbol : (s i : ℕ) → suc s < symbols_in n → i < symbol_bits (rate_at (suc s))
+            → SentBit (bit_at (suc s) + i) (get_or (bits_behind s) i 0)
 
       -- and unscrambled: with the bits sent 4 and 7 before it
       pub data PlainBit : ℕ → ℕ → Type 0 where
@@ -60,4 +60,4 @@ module _ (k : Kind) (r : Rate) where
       pub record FieldAt (from count value : ℕ) : Type 0 where
         pub bit : ℕ → ℕ
         pub each : (i : ℕ) → i < count → PlainBit (from + i) (bit i)
-        pub value-is : value ≡ number_of (tabulate bit count)
+        pub value_is : value ≡ number_of (tabulate bit count)

@@ -6,12 +6,12 @@ use Rattle.rules_chips.specs.Chips.{Taken}
 use Rattle.rules_frame.specs.declared.Kind.TheVariants.{Long}
 use Rattle.rules_calls.specs.declared.Reading.{Reading}
 use Rattle.rules_calls.specs.Headers.{of1997}
-use Rattle.rules_reading.specs.Reading.{readingBy, octetsAfter}
+use Rattle.rules_reading.specs.Reading.{reading_by, octets_after}
 
 -- what a recording comes to, with room for so many octets
 unfoldable pub reading1997 : List Taken → ℕ → Reading
-reading1997 rec room = readingBy of1997 Long rec room
+reading1997 rec room = reading_by of1997 Long rec room
 
 -- and what is left in the octet buffer
 unfoldable pub octets1997 : List Taken → ℕ → List ℕ
-octets1997 rec room = octetsAfter Long rec room (reading1997 rec room)
+octets1997 rec room = octets_after Long rec room (reading1997 rec room)

@@ -5,20 +5,20 @@ use Rattle.std.specs.Prelude.{ℕ, List, take, drop}
 use Rattle.rules_chips.specs.Chips.{Taken}
 use Rattle.rules_bits.specs.Bits.{number_of}
 use Rattle.rules_frame.specs.declared.Kind.{Kind}
-use Rattle.rules_frame.specs.Frame.{syncBits, preambleLength}
-use Rattle.rules_reading.specs.Reading.{frontBits}
+use Rattle.rules_frame.specs.Frame.{sync_bits, preamble_length}
+use Rattle.rules_reading.specs.Reading.{front_bits}
 
-abbrev pub sfdHeard : Kind → List Taken → List ℕ
-sfdHeard k rec = take 16 (drop (syncBits k) (frontBits k rec))
+abbrev pub sfd_heard : Kind → List Taken → List ℕ
+sfd_heard k rec = take 16 (drop (sync_bits k) (front_bits k rec))
 
-abbrev pub headerHeard : Kind → List Taken → List ℕ
-headerHeard k rec = drop (preambleLength k) (frontBits k rec)
+abbrev pub header_heard : Kind → List Taken → List ℕ
+header_heard k rec = drop (preamble_length k) (front_bits k rec)
 
-abbrev pub signalHeard : Kind → List Taken → ℕ
-signalHeard k rec = number_of (take 8 (headerHeard k rec))
+abbrev pub signal_heard : Kind → List Taken → ℕ
+signal_heard k rec = number_of (take 8 (header_heard k rec))
 
-abbrev pub serviceHeard : Kind → List Taken → ℕ
-serviceHeard k rec = number_of (take 8 (drop 8 (headerHeard k rec)))
+abbrev pub service_heard : Kind → List Taken → ℕ
+service_heard k rec = number_of (take 8 (drop 8 (header_heard k rec)))
 
-abbrev pub lengthHeard : Kind → List Taken → ℕ
-lengthHeard k rec = number_of (take 16 (drop 16 (headerHeard k rec)))
+abbrev pub length_heard : Kind → List Taken → ℕ
+length_heard k rec = number_of (take 16 (drop 16 (header_heard k rec)))

@@ -1,8 +1,8 @@
 -- What the buffer shows of a recording's first c chips, whatever c, by what the whole recording is read as.
---     kind-yet, front-yet            a kind that is none, or a front that is refused: zeros
---     short-yet                      a front that is not whole: zeros
---     room-yet, unusable-yet, odd-yet    17, and 9 and 10 of the payload once they are certain: zeros
---     clean-within, clean-behind     else the octets whose chips have all come
+--     kind_yet, front_yet            a kind that is none, or a front that is refused: zeros
+--     short_yet                      a front that is not whole: zeros
+--     room_yet, unusable_yet_lem, odd_yet_lem    17, and 9 and 10 of the payload once they are certain: zeros
+--     clean_within, clean_behind     else the octets whose chips have all come
 -- Assumes nothing.
 use mathlib.Core.Path.{◌≡◌, refl, sym, ap, ◌∙◌}
 use mathlib.Core.Bool.{Bool, true, false, cond, not}
@@ -17,165 +17,165 @@ use lib.ListN.{length, take, drop, length-take, take-append-drop}
 use lib.Seq.{length-take-le, take_all, take-take}
 use Rattle.rules_rates.specs.declared.Rate.{Rate}
 use Rattle.rules_rates.specs.declared.Rate.TheVariants.{One, Two, Five, Eleven}
-use Rattle.rules_rates.specs.Rates.{octetChips}
+use Rattle.rules_rates.specs.Rates.{octet_chips}
 use Rattle.rules_chips.specs.Chips.{Taken}
 use Rattle.rules_frame.specs.declared.Kind.{Kind}
-use Rattle.rules_frame.specs.Frame.{isKind, kind_of, frontChips, frameChips}
+use Rattle.rules_frame.specs.Frame.{is_kind, kind_of, front_chips, frame_chips}
 use Rattle.rules_calls.specs.declared.Refusal.{Refusal}
 use Rattle.rules_calls.specs.declared.Refusal.TheVariants.{ShorterThanFront}
 use Rattle.rules_calls.specs.declared.Told.{Told}
 use Rattle.rules_calls.specs.declared.Front.TheVariants as front
-use Rattle.rules_reading.specs.Reading.{or_else, oddGrowth, frontOf, payloadOdd, payloadOf}
-use Rattle.rules_reading.proofs.Payloads.{foundUnusable}
-use Rattle.rules_reading.proofs.Places.{payload-unusable-place, payload-odd-place, payload-odd-rate}
-use Rattle.rules_reading.proofs.First.{no_place, odd-first}
-use Rattle.rules_receiving.specs.Yet.{zeros, unusableYet, oddYet, octetsYet, payloadYet, afterFrontYet, bufferYet}
-use Rattle.rules_receiving.proofs.Prefix.{front-prefix}
-use Rattle.rules_receiving.proofs.Payload.{payload-prefix}
-use Rattle.rules_receiving.proofs.Close.{short-front}
-use Rattle.rules_receiving.proofs.Telling.{good-yet}
+use Rattle.rules_reading.specs.Reading.{or_else, odd_growth, front_of, payload_odd, payload_of}
+use Rattle.rules_reading.proofs.Payloads.{found_unusable}
+use Rattle.rules_reading.proofs.Places.{payload_unusable_place, payload_odd_place, payload_odd_rate}
+use Rattle.rules_reading.proofs.First.{no_place, odd_first}
+use Rattle.rules_receiving.specs.Yet.{zeros, unusable_yet, odd_yet, octets_yet, payload_yet, after_front_yet, buffer_yet}
+use Rattle.rules_receiving.proofs.Prefix.{front_prefix}
+use Rattle.rules_receiving.proofs.Payload.{payload_prefix}
+use Rattle.rules_receiving.proofs.Close.{short_front}
+use Rattle.rules_receiving.proofs.Telling.{good_yet}
 use Rattle.rules_receiving.proofs.Shown.{
-  payload-begins,
-  usable-yet,
-  unusable-come,
-  even-yet,
-  odd-come,
+  payload_begins,
+  usable_yet,
+  unusable_come,
+  even_yet,
+  odd_come,
 }
 
 -- ---- no payload
 
-pub kind-yet : (kind room : ℕ) (rec : List Taken) → isKind kind ≡ false → bufferYet kind rec room ≡ zeros room
-unfolding bufferYet
-kind-yet kind room rec e = rw e
+pub kind_yet : (kind room : ℕ) (rec : List Taken) → is_kind kind ≡ false → buffer_yet kind rec room ≡ zeros room
+unfolding buffer_yet
+kind_yet kind room rec e = rw e
 
 either : (b : Bool) (l : List ℕ) → cond (not b) l l ≡ l
 either true l = refl
 either false l = refl
 
-refused-yet : (kind room : ℕ) (rec : List Taken) (e : Refusal) → frontOf (kind_of kind) rec ≡ front.Refused e
-    → bufferYet kind rec room ≡ zeros room
-unfolding bufferYet
-refused-yet kind room rec e f = rw f (either (isKind kind) (zeros room))
+refused_yet : (kind room : ℕ) (rec : List Taken) (e : Refusal) → front_of (kind_of kind) rec ≡ front.Refused e
+    → buffer_yet kind rec room ≡ zeros room
+unfolding buffer_yet
+refused_yet kind room rec e f = rw f (either (is_kind kind) (zeros room))
 
-take-most : (c : ℕ) (rec : List Taken) → length (take c rec) ≤ c
-take-most c rec = omega (arith, length-take c rec)
+take_most : (c : ℕ) (rec : List Taken) → length (take c rec) ≤ c
+take_most c rec = omega (arith, length-take c rec)
 
-pub short-yet : (kind room c : ℕ) (rec : List Taken) → c < frontChips (kind_of kind)
-    → bufferYet kind (take c rec) room ≡ zeros room
-short-yet kind room c rec h =
-    refused-yet kind room (take c rec) ShorterThanFront
-    (short-front (kind_of kind) (take c rec) (omega (arith, take-most c rec)))
+pub short_yet : (kind room c : ℕ) (rec : List Taken) → c < front_chips (kind_of kind)
+    → buffer_yet kind (take c rec) room ≡ zeros room
+short_yet kind room c rec h =
+    refused_yet kind room (take c rec) ShorterThanFront
+    (short_front (kind_of kind) (take c rec) (omega (arith, take_most c rec)))
 
 -- the front of the first chips is that of all, or it is not whole
-front_cut : (k : Kind) (c : ℕ) (rec : List Taken) → frontChips k ≤ length (take c rec)
-    → frontOf k (take c rec) ≡ frontOf k rec
-front_cut k c rec h = sym (front-prefix k (take c rec) (drop c rec) h) ∙ ap (frontOf k) (take-append-drop c rec)
+front_cut : (k : Kind) (c : ℕ) (rec : List Taken) → front_chips k ≤ length (take c rec)
+    → front_of k (take c rec) ≡ front_of k rec
+front_cut k c rec h = sym (front_prefix k (take c rec) (drop c rec) h) ∙ ap (front_of k) (take-append-drop c rec)
 
-pub front-yet : (kind room c : ℕ) (rec : List Taken) (e : Refusal) → frontOf (kind_of kind) rec ≡ front.Refused e
-    → bufferYet kind (take c rec) room ≡ zeros room
-front-yet kind room c rec e f = by (dec_lt (length (take c rec)) (frontChips (kind_of kind)))
+pub front_yet : (kind room c : ℕ) (rec : List Taken) (e : Refusal) → front_of (kind_of kind) rec ≡ front.Refused e
+    → buffer_yet kind (take c rec) room ≡ zeros room
+front_yet kind room c rec e f = by (dec_lt (length (take c rec)) (front_chips (kind_of kind)))
   where
-    by : Dec (length (take c rec) < frontChips (kind_of kind)) → bufferYet kind (take c rec) room ≡ zeros room
+    by : Dec (length (take c rec) < front_chips (kind_of kind)) → buffer_yet kind (take c rec) room ≡ zeros room
     by (yes h) =
-        refused-yet kind room (take c rec) ShorterThanFront (short-front (kind_of kind) (take c rec) h)
-    by (no h) = refused-yet kind room (take c rec) e (front_cut (kind_of kind) c rec (omega (arith, h)) ∙ f)
+        refused_yet kind room (take c rec) ShorterThanFront (short_front (kind_of kind) (take c rec) h)
+    by (no h) = refused_yet kind room (take c rec) e (front_cut (kind_of kind) c rec (omega (arith, h)) ∙ f)
 
 -- ---- how far a frame of so many chips has come after c chips
 
 data AsFar (c all : ℕ) : ℕ → Type 0 where
-  short-of : c ≤ all → AsFar c all c
-  at-end : all ≤ c → AsFar c all all
+  short_of : c ≤ all → AsFar c all c
+  at_end : all ≤ c → AsFar c all all
 
-far-most : {c all d : ℕ} → AsFar c all d → d ≤ all
-far-most (short-of h) = h
-far-most (at-end h) = omega arith
+far_most : {c all d : ℕ} → AsFar c all d → d ≤ all
+far_most (short_of h) = h
+far_most (at_end h) = omega arith
 
 far_from : {c all d : ℕ} → AsFar c all d → (x : ℕ) → x ≤ c → x ≤ all → x ≤ d
-far_from (short-of h) x a b = a
-far_from (at-end h) x a b = b
+far_from (short_of h) x a b = a
+far_from (at_end h) x a b = b
 
-cut-frame : {c all d : ℕ} (rec : List Taken) → AsFar c all d → take all (take c rec) ≡ take d rec
-cut-frame {c} {all} rec (short-of h) = take_all all (take c rec) (omega (arith, take-most c rec))
-cut-frame {c} {all} rec (at-end h) = take-take all c rec h
+cut_frame : {c all d : ℕ} (rec : List Taken) → AsFar c all d → take all (take c rec) ≡ take d rec
+cut_frame {c} {all} rec (short_of h) = take_all all (take c rec) (omega (arith, take_most c rec))
+cut_frame {c} {all} rec (at_end h) = take-take all c rec h
 
-by-far : {A : Type 0} (c all : ℕ) → ((d : ℕ) → AsFar c all d → A) → A
-by-far {A} c all f = by (dec_lt c all)
+by_far : {A : Type 0} (c all : ℕ) → ((d : ℕ) → AsFar c all d → A) → A
+by_far {A} c all f = by (dec_lt c all)
   where
     by : Dec (c < all) → A
-    by (yes h) = f c (short-of (omega arith))
-    by (no h) = f all (at-end (omega (arith, h)))
+    by (yes h) = f c (short_of (omega arith))
+    by (no h) = f all (at_end (omega (arith, h)))
 
 -- the octets that are whole there
 abbrev Whole : Rate → ℕ → ℕ → ℕ → Type 0
-Whole r f d m = ((d - f) / octetChips r ≡ m) × (f + octetChips r * m ≤ d)
+Whole r f d m = ((d - f) / octet_chips r ≡ m) × (f + octet_chips r * m ≤ d)
 
-octets-within : (r : Rate) (f n m : ℕ) {c d : ℕ} → AsFar c (f + octetChips r * n) d → f + octetChips r * m ≤ c
-    → c < f + octetChips r * suc m → m ≤ n → Whole r f d m
-octets-within One f n m (short-of h) a b l = (omega arith, omega arith)
-octets-within Two f n m (short-of h) a b l = (omega arith, omega arith)
-octets-within Five f n m (short-of h) a b l = (omega arith, omega arith)
-octets-within Eleven f n m (short-of h) a b l = (omega arith, omega arith)
-octets-within One f n m (at-end h) a b l = (omega arith, omega arith)
-octets-within Two f n m (at-end h) a b l = (omega arith, omega arith)
-octets-within Five f n m (at-end h) a b l = (omega arith, omega arith)
-octets-within Eleven f n m (at-end h) a b l = (omega arith, omega arith)
+octets_within : (r : Rate) (f n m : ℕ) {c d : ℕ} → AsFar c (f + octet_chips r * n) d → f + octet_chips r * m ≤ c
+    → c < f + octet_chips r * suc m → m ≤ n → Whole r f d m
+octets_within One f n m (short_of h) a b l = (omega arith, omega arith)
+octets_within Two f n m (short_of h) a b l = (omega arith, omega arith)
+octets_within Five f n m (short_of h) a b l = (omega arith, omega arith)
+octets_within Eleven f n m (short_of h) a b l = (omega arith, omega arith)
+octets_within One f n m (at_end h) a b l = (omega arith, omega arith)
+octets_within Two f n m (at_end h) a b l = (omega arith, omega arith)
+octets_within Five f n m (at_end h) a b l = (omega arith, omega arith)
+octets_within Eleven f n m (at_end h) a b l = (omega arith, omega arith)
 
-octets-behind : (r : Rate) (f n : ℕ) {c d : ℕ} → AsFar c (f + octetChips r * n) d → f + octetChips r * n ≤ c
+octets_behind : (r : Rate) (f n : ℕ) {c d : ℕ} → AsFar c (f + octet_chips r * n) d → f + octet_chips r * n ≤ c
     → Whole r f d n
-octets-behind One f n (short-of h) a = (omega arith, omega arith)
-octets-behind Two f n (short-of h) a = (omega arith, omega arith)
-octets-behind Five f n (short-of h) a = (omega arith, omega arith)
-octets-behind Eleven f n (short-of h) a = (omega arith, omega arith)
-octets-behind One f n (at-end h) a = (omega arith, omega arith)
-octets-behind Two f n (at-end h) a = (omega arith, omega arith)
-octets-behind Five f n (at-end h) a = (omega arith, omega arith)
-octets-behind Eleven f n (at-end h) a = (omega arith, omega arith)
+octets_behind One f n (short_of h) a = (omega arith, omega arith)
+octets_behind Two f n (short_of h) a = (omega arith, omega arith)
+octets_behind Five f n (short_of h) a = (omega arith, omega arith)
+octets_behind Eleven f n (short_of h) a = (omega arith, omega arith)
+octets_behind One f n (at_end h) a = (omega arith, omega arith)
+octets_behind Two f n (at_end h) a = (omega arith, omega arith)
+octets_behind Five f n (at_end h) a = (omega arith, omega arith)
+octets_behind Eleven f n (at_end h) a = (omega arith, omega arith)
 
 -- ---- zeros, by the tests
 
-zeros-room : (k : Kind) (t : Told) (rec : List Taken) (room : ℕ) → room < t.n → payloadYet k t rec room ≡ zeros room
-unfolding payloadYet
-zeros-room k t rec room h = rw (lt-ltb room t.n h)
+zeros_room : (k : Kind) (t : Told) (rec : List Taken) (room : ℕ) → room < t.n → payload_yet k t rec room ≡ zeros room
+unfolding payload_yet
+zeros_room k t rec room h = rw (lt-ltb room t.n h)
 
-same-else : (b : Bool) (l : List ℕ) → cond b l l ≡ l
-same-else true l = refl
-same-else false l = refl
+same_else : (b : Bool) (l : List ℕ) → cond b l l ≡ l
+same_else true l = refl
+same_else false l = refl
 
-zeros-unusable : (k : Kind) (t : Told) (rec : List Taken) (room : ℕ) → (unusableYet k rec ≡ none → ⊥)
-    → payloadYet k t rec room ≡ zeros room
-unfolding payloadYet
-zeros-unusable k t rec room h =
-    by (unusableYet k rec) h
-    (or_else (oddYet k t.rate rec) (λ place. zeros room) (octetsYet k t.rate rec room))
+zeros_unusable : (k : Kind) (t : Told) (rec : List Taken) (room : ℕ) → (unusable_yet k rec ≡ none → ⊥)
+    → payload_yet k t rec room ≡ zeros room
+unfolding payload_yet
+zeros_unusable k t rec room h =
+    by (unusable_yet k rec) h
+    (or_else (odd_yet k t.rate rec) (λ place. zeros room) (octets_yet k t.rate rec room))
   where
     by : (o : Option ℕ) → (o ≡ none → ⊥) → (l : List ℕ)
         → cond (ltb room t.n) (zeros room) (or_else o (λ place. zeros room) l) ≡ zeros room
     by none h l = absurd (h refl)
-    by (some p) h l = same-else (ltb room t.n) (zeros room)
+    by (some p) h l = same_else (ltb room t.n) (zeros room)
 
-zeros-odd : (k : Kind) (t : Told) (rec : List Taken) (room : ℕ) → (oddYet k t.rate rec ≡ none → ⊥)
-    → payloadYet k t rec room ≡ zeros room
-unfolding payloadYet
-zeros-odd k t rec room h =
-    by (unusableYet k rec) (oddYet k t.rate rec) h (octetsYet k t.rate rec room)
+zeros_odd : (k : Kind) (t : Told) (rec : List Taken) (room : ℕ) → (odd_yet k t.rate rec ≡ none → ⊥)
+    → payload_yet k t rec room ≡ zeros room
+unfolding payload_yet
+zeros_odd k t rec room h =
+    by (unusable_yet k rec) (odd_yet k t.rate rec) h (octets_yet k t.rate rec room)
   where
     by : (u o : Option ℕ) → (o ≡ none → ⊥) → (l : List ℕ)
         → cond (ltb room t.n) (zeros room) (or_else u (λ place. zeros room) (or_else o (λ place. zeros room) l))
         ≡ zeros room
     by u none h l = absurd (h refl)
-    by none (some p) h l = same-else (ltb room t.n) (zeros room)
-    by (some q) (some p) h l = same-else (ltb room t.n) (zeros room)
+    by none (some p) h l = same_else (ltb room t.n) (zeros room)
+    by (some q) (some p) h l = same_else (ltb room t.n) (zeros room)
 
 -- the symbol of an odd growth ends inside the frame
-odd-ends : (k : Kind) (t : Told) (rec : List Taken) (p : ℕ) → payloadOdd k t.rate t.n rec ≡ some p
-    → p + 11 ≤ frameChips k t.rate t.n
-unfolding payloadOdd
-odd-ends k t rec p e =
-    by t.rate (payload-odd-rate k rec p t e) t.n _ e (payload-odd-place k rec p t e).1
+odd_ends : (k : Kind) (t : Told) (rec : List Taken) (p : ℕ) → payload_odd k t.rate t.n rec ≡ some p
+    → p + 11 ≤ frame_chips k t.rate t.n
+unfolding payload_odd
+odd_ends k t rec p e =
+    by t.rate (payload_odd_rate k rec p t e) t.n _ e (payload_odd_place k rec p t e).1
   where
-    by : (r : Rate) → r ≡ One → (n : ℕ) (gs : List ℕ) → oddGrowth r (frontChips k) gs ≡ some p
-        → p < frameChips k r n → p + 11 ≤ frameChips k r n
-    by One i n gs e h = omega (arith, (odd-first (frontChips k) gs p e).place_is)
+    by : (r : Rate) → r ≡ One → (n : ℕ) (gs : List ℕ) → odd_growth r (front_chips k) gs ≡ some p
+        → p < frame_chips k r n → p + 11 ≤ frame_chips k r n
+    by One i n gs e h = omega (arith, (odd_first (front_chips k) gs p e).place_is)
     by Two i n gs e h = absurd (no_place refl e)
     by Five i n gs e h = absurd (no_place refl e)
     by Eleven i n gs e h = absurd (no_place refl e)
@@ -183,9 +183,9 @@ odd-ends k t rec p e =
 -- ---- a front that told, and a frame that is whole
 
 module _
-    (kind room : ℕ) (rec : List Taken) (t : Told) (is : isKind kind ≡ true)
-    (told : frontOf (kind_of kind) rec ≡ front.Fields t)
-    (long : frameChips (kind_of kind) t.rate t.n ≤ length rec) where
+    (kind room : ℕ) (rec : List Taken) (t : Told) (is : is_kind kind ≡ true)
+    (told : front_of (kind_of kind) rec ≡ front.Fields t)
+    (long : frame_chips (kind_of kind) t.rate t.n ≤ length rec) where
   abbrev k : Kind
   k = kind_of kind
 
@@ -193,35 +193,35 @@ module _
   r = t.rate
 
   abbrev from : ℕ
-  from = frontChips k
+  from = front_chips k
 
   abbrev all : ℕ
-  all = frameChips k t.rate t.n
+  all = frame_chips k t.rate t.n
 
-  yet-told : {c d : ℕ} → AsFar c all d → from ≤ c → bufferYet kind (take c rec) room ≡ payloadYet k t (take d rec) room
-  yet-told {c} {d} f h =
+  yet_told : {c d : ℕ} → AsFar c all d → from ≤ c → buffer_yet kind (take c rec) room ≡ payload_yet k t (take d rec) room
+  yet_told {c} {d} f h =
       opened
-      ∙ ap (afterFrontYet k (take c rec) room) (front_cut k c rec (omega (arith, length-take c rec, long)) ∙ told)
-      ∙ ap (λ (x : List Taken). payloadYet k t x room) (cut-frame rec f)
+      ∙ ap (after_front_yet k (take c rec) room) (front_cut k c rec (omega (arith, length-take c rec, long)) ∙ told)
+      ∙ ap (λ (x : List Taken). payloadYet k t x room) (cut_frame rec f)
     where
-      opened : bufferYet kind (take c rec) room ≡ afterFrontYet k (take c rec) room (frontOf k (take c rec))
-      opened = unfold bufferYet in rw is
+      opened : buffer_yet kind (take c rec) room ≡ after_front_yet k (take c rec) room (front_of k (take c rec))
+      opened = unfold buffer_yet in rw is
 
   -- of the first c chips: zeros where the front is not whole, and else what the chips of the frame come to
-  by-cut : (c : ℕ) (l : List ℕ) → (c < from → l ≡ zeros room)
-      → ((d : ℕ) → AsFar c all d → from ≤ d → length (take d rec) ≡ d → payloadYet k t (take d rec) room ≡ l)
-      → bufferYet kind (take c rec) room ≡ l
-  by-cut c l z f = by-far c all (λ d a. by d a (dec_lt c from))
+  by_cut : (c : ℕ) (l : List ℕ) → (c < from → l ≡ zeros room)
+      → ((d : ℕ) → AsFar c all d → from ≤ d → length (take d rec) ≡ d → payload_yet k t (take d rec) room ≡ l)
+      → buffer_yet kind (take c rec) room ≡ l
+  by_cut c l z f = by_far c all (λ d a. by d a (dec_lt c from))
     where
-      by : (d : ℕ) → AsFar c all d → Dec (c < from) → bufferYet kind (take c rec) room ≡ l
-      by d a (yes h) = short-yet kind room c rec h ∙ sym (z h)
+      by : (d : ℕ) → AsFar c all d → Dec (c < from) → buffer_yet kind (take c rec) room ≡ l
+      by d a (yes h) = short_yet kind room c rec h ∙ sym (z h)
       by d a (no h) =
-          yet-told a (omega (arith, h))
+          yet_told a (omega (arith, h))
           ∙ f d a (far_from a from (omega (arith, h)) (omega arith))
-          (length-take-le d rec (omega (arith, far-most a, long)))
+          (length-take-le d rec (omega (arith, far_most a, long)))
 
-  pub room-yet : room < t.n → (c : ℕ) → bufferYet kind (take c rec) room ≡ zeros room
-  room-yet h c = by-cut c (zeros room) (λ l. refl) (λ d a g e. zeros-room k t (take d rec) room h)
+  pub room_yet : room < t.n → (c : ℕ) → buffer_yet kind (take c rec) room ≡ zeros room
+  room_yet h c = by_cut c (zeros room) (λ l. refl) (λ d a g e. zeros-room k t (take d rec) room h)
 
   -- the frame's first d chips, and those behind
   module _ {c d : ℕ} (a : AsFar c all d) (g : from ≤ d) (e : length (take d rec) ≡ d) where
@@ -238,57 +238,57 @@ module _
     whole = omega (arith, e, g)
 
     to : length cut ≤ all
-    to = omega (arith, e, far-most a)
+    to = omega (arith, e, far_most a)
 
-    unusable-here : (p : ℕ) → foundUnusable k t rec ≡ some p → p < c → payloadYet k t cut room ≡ zeros room
-    unusable-here p f h =
-        zeros-unusable k t cut room (λ z.
-        let few = unusable-come k t cut more whole to p (joined (foundUnusable k t) ∙ f) z in
-        let there = far_from a (suc p) h (payload-unusable-place k rec p t f).1 in
+    unusable_here : (p : ℕ) → found_unusable k t rec ≡ some p → p < c → payload_yet k t cut room ≡ zeros room
+    unusable_here p f h =
+        zeros_unusable k t cut room (λ z.
+        let few = unusable_come k t cut more whole to p (joined (found_unusable k t) ∙ f) z in
+        let there = far_from a (suc p) h (payload_unusable_place k rec p t f).1 in
         omega (arith, few, there, e))
 
-    odd-here : (p : ℕ) → payloadOdd k r t.n rec ≡ some p → p + 11 ≤ c → payloadYet k t cut room ≡ zeros room
-    odd-here p f h =
-        zeros-odd k t cut room (λ z.
-        let few = odd-come k t cut more whole to p (joined (payloadOdd k r t.n) ∙ f) z in
-        let there = far_from a (p + 11) h (odd-ends k t rec p f) in
+    odd_here : (p : ℕ) → payload_odd k r t.n rec ≡ some p → p + 11 ≤ c → payload_yet k t cut room ≡ zeros room
+    odd_here p f h =
+        zeros_odd k t cut room (λ z.
+        let few = odd_come k t cut more whole to p (joined (payload_odd k r t.n) ∙ f) z in
+        let there = far_from a (p + 11) h (odd_ends k t rec p f) in
         omega (arith, few, there, e))
 
     -- what has come of a clean frame
-    clean-here : (m : ℕ) → t.n ≤ room → foundUnusable k t rec ≡ none → payloadOdd k r t.n rec ≡ none
+    clean_here : (m : ℕ) → t.n ≤ room → found_unusable k t rec ≡ none → payload_odd k r t.n rec ≡ none
         → m ≤ t.n → Whole r from d m
-        → payloadYet k t cut room ≡ take m (payloadOf k r t.n rec) ++ zeros (room - m)
-    clean-here m fits u o few w =
-        good-yet k t cut room fits (usable-yet k t cut more whole to (joined (foundUnusable k t) ∙ u))
-        (even-yet k t cut more whole to (joined (payloadOdd k r t.n) ∙ o))
-        ∙ ap (λ (i : ℕ). payloadOf k r i cut ++ zeros (room - i)) (ap (λ (i : ℕ). (i - from) / octetChips r) e ∙ w.0)
+        → payload_yet k t cut room ≡ take m (payload_of k r t.n rec) ++ zeros (room - m)
+    clean_here m fits u o few w =
+        good_yet k t cut room fits (usable_yet k t cut more whole to (joined (found_unusable k t) ∙ u))
+        (even_yet k t cut more whole to (joined (payload_odd k r t.n) ∙ o))
+        ∙ ap (λ (i : ℕ). payloadOf k r i cut ++ zeros (room - i)) (ap (λ (i : ℕ). (i - from) / octet_chips r) e ∙ w.0)
         ∙ ap (λ (x : List ℕ). x ++ zeros (room - m))
-        (sym (payload-prefix k r m cut more (omega (arith, e, w.1)))
-        ∙ joined (payloadOf k r m)
-        ∙ sym (payload-begins k r m (t.n - m) rec)
-        ∙ ap (λ (i : ℕ). take m (payloadOf k r i rec)) (parted few))
+        (sym (payload_prefix k r m cut more (omega (arith, e, w.1)))
+        ∙ joined (payload_of k r m)
+        ∙ sym (payload_begins k r m (t.n - m) rec)
+        ∙ ap (λ (i : ℕ). take m (payload_of k r i rec)) (parted few))
       where
         parted : {x y : ℕ} → x ≤ y → x + (y - x) ≡ y
         parted h = omega arith
 
-  pub unusable-yet : (p c : ℕ) → foundUnusable k t rec ≡ some p → p < c → bufferYet kind (take c rec) room ≡ zeros room
-  unusable-yet p c f h = by-cut c (zeros room) (λ l. refl) (λ d a g e. unusable-here a g e p f h)
+  pub unusable_yet_lem : (p c : ℕ) → found_unusable k t rec ≡ some p → p < c → buffer_yet kind (take c rec) room ≡ zeros room
+  unusable_yet_lem p c f h = by_cut c (zeros room) (λ l. refl) (λ d a g e. unusable-here a g e p f h)
 
-  pub odd-yet : (p c : ℕ) → payloadOdd k r t.n rec ≡ some p → p + 11 ≤ c
-      → bufferYet kind (take c rec) room ≡ zeros room
-  odd-yet p c f h = by-cut c (zeros room) (λ l. refl) (λ d a g e. odd-here a g e p f h)
+  pub odd_yet_lem : (p c : ℕ) → payload_odd k r t.n rec ≡ some p → p + 11 ≤ c
+      → buffer_yet kind (take c rec) room ≡ zeros room
+  odd_yet_lem p c f h = by_cut c (zeros room) (λ l. refl) (λ d a g e. odd-here a g e p f h)
 
   module _
-      (fits : t.n ≤ room) (u : foundUnusable k t rec ≡ none) (o : payloadOdd k r t.n rec ≡ none) (c : ℕ) where
+      (fits : t.n ≤ room) (u : found_unusable k t rec ≡ none) (o : payload_odd k r t.n rec ≡ none) (c : ℕ) where
     abbrev Shows : ℕ → Type 0
-    Shows m = bufferYet kind (take c rec) room ≡ take m (payloadOf k r t.n rec) ++ zeros (room - m)
+    Shows m = buffer_yet kind (take c rec) room ≡ take m (payload_of k r t.n rec) ++ zeros (room - m)
 
-    pub clean-within : (m : ℕ) → from + octetChips r * m ≤ c → c < from + octetChips r * suc m → m ≤ t.n → Shows m
-    clean-within m x y l =
-        by-cut c _ (λ z. absurd (omega (arith, x, z)))
-        (λ d a g e. clean-here a g e m fits u o l (octets-within r from t.n m a x y l))
+    pub clean_within : (m : ℕ) → from + octet_chips r * m ≤ c → c < from + octet_chips r * suc m → m ≤ t.n → Shows m
+    clean_within m x y l =
+        by_cut c _ (λ z. absurd (omega (arith, x, z)))
+        (λ d a g e. clean-here a g e m fits u o l (octets_within r from t.n m a x y l))
 
-    pub clean-behind : all ≤ c → Shows t.n
-    clean-behind x =
-        by-cut c _ (λ z. absurd (omega (arith, x, z)))
-        (λ d a g e. clean-here a g e t.n fits u o (omega arith) (octets-behind r from t.n a x))
+    pub clean_behind : all ≤ c → Shows t.n
+    clean_behind x =
+        by_cut c _ (λ z. absurd (omega (arith, x, z)))
+        (λ d a g e. clean-here a g e t.n fits u o (omega arith) (octets_behind r from t.n a x))

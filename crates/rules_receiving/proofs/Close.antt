@@ -1,8 +1,8 @@
 -- What the chips fed come to at close: the reading of all of them, by what the receiver holds.
---     reads-no-kind, reads_short, reads-refused     1, 8, and what the front is refused with
---     reads-ends, reads-room, reads-unusable, reads-odd, reads-good    16, 17, 9, 10, or good, once the front told
---     octets-good                                   what a good reading leaves in the buffer
---     yet-is                                        the buffer until close, once the front told
+--     reads_no_kind, reads_short, reads_refused     1, 8, and what the front is refused with
+--     reads_ends, reads_room, reads_unusable, reads_odd, reads_good    16, 17, 9, 10, or good, once the front told
+--     octets_good                                   what a good reading leaves in the buffer
+--     yet_is                                        the buffer until close, once the front told
 -- Assumes nothing.
 use mathlib.Core.Path.{◌≡◌, sym, ap, ap₂, subst, ◌∙◌}
 use mathlib.Core.Bool.{true, false}
@@ -13,15 +13,15 @@ use native.Mathlib.Omega.{arith}
 use borrow.Author.Tests.{lt-ltb, le-ltb}
 use lib.ListN.{length, take, drop, replicate, length-take, take-append-drop}
 use lib.Seq.{length-take-le}
-use Rattle.base.proofs.Lists.{drop-take}
+use Rattle.base.proofs.Lists.{drop_take}
 use Rattle.rules_rates.specs.declared.Rate.{Rate}
 use Rattle.rules_rates.specs.declared.Rate.TheVariants.{One, Two, Five, Eleven}
-use Rattle.rules_rates.specs.Rates.{symbolChips, symbolBits, octetChips}
-use Rattle.rules_chips.proofs.Recorders.{length-hard, take-hard}
-use Rattle.rules_chips.specs.Chips.{Taken, hardRecording}
-use Rattle.rules_bits.specs.Growths.{growthsOf}
+use Rattle.rules_rates.specs.Rates.{symbol_chips, symbol_bits, octet_chips}
+use Rattle.rules_chips.proofs.Recorders.{length_hard, take_hard}
+use Rattle.rules_chips.specs.Chips.{Taken, hard_recording}
+use Rattle.rules_bits.specs.Growths.{growths_of}
 use Rattle.rules_frame.specs.declared.Kind.{Kind}
-use Rattle.rules_frame.specs.Frame.{isKind, kind_of, frontChips, frameChips}
+use Rattle.rules_frame.specs.Frame.{is_kind, kind_of, front_chips, frame_chips}
 use Rattle.rules_calls.specs.declared.Refusal.{Refusal}
 use Rattle.rules_calls.specs.declared.Refusal.TheVariants.{
   NoKind,
@@ -36,101 +36,101 @@ use Rattle.rules_calls.specs.declared.Front.{Front}
 use Rattle.rules_calls.specs.declared.Front.TheVariants as front
 use Rattle.rules_calls.specs.declared.Reading.{Reading}
 use Rattle.rules_calls.specs.declared.Reading.TheVariants as reading
-use Rattle.rules_reading.specs.Leads.{frameLeads, leastOf}
+use Rattle.rules_reading.specs.Leads.{frame_leads, least_of}
 use Rattle.rules_reading.specs.Reading.{
-  firstUnusable,
-  oddGrowth,
-  decidedWords,
-  payloadPhase,
-  frontBy,
-  frontOf,
-  payloadWords,
-  payloadOdd,
-  payloadOf,
+  first_unusable,
+  odd_growth,
+  decided_words,
+  payload_phase,
+  front_by,
+  front_of,
+  payload_words,
+  payload_odd,
+  payload_of,
   whole_of,
-  payloadReading,
-  afterFront,
+  payload_reading,
+  after_front,
   reading_of,
-  octetsAfter,
-  octetsFound,
+  octets_after,
+  octets_found,
 }
-use Rattle.rules_reading.proofs.Payloads.{foundUnusable, room-refused, unusable-refused, odd_refused, payload-good}
+use Rattle.rules_reading.proofs.Payloads.{found_unusable, room_refused, unusable_refused, odd_refused, payload_good}
 use Rattle.rules_receiving.specs.declared.Progress.{Progress}
 use Rattle.rules_receiving.specs.Yet.{
   zeros,
-  wholeSymbols,
-  wholeOctets,
-  unusableYet,
-  oddYet,
-  octetsYet,
-  payloadYet,
-  afterFrontYet,
-  bufferYet,
+  whole_symbols,
+  whole_octets,
+  unusable_yet,
+  odd_yet,
+  octets_yet,
+  payload_yet,
+  after_front_yet,
+  buffer_yet,
 }
 use Rattle.rules_receiving.specs.Receivers.{PayloadComes}
-use Rattle.rules_receiving.proofs.Prefix.{phase-prefix, front-prefix}
+use Rattle.rules_receiving.proofs.Prefix.{phase_prefix, front_prefix}
 use Rattle.rules_receiving.proofs.Payload.{
-  payload-words-prefix,
-  payload-prefix,
-  frame-leads-prefix,
+  payload_words_prefix,
+  payload_prefix,
+  frame_leads_prefix,
 }
 
 -- the reading of hard chips
 abbrev pub read_all : ℕ → List ℕ → ℕ → Reading
-read_all kind fed room = reading_of kind true (hardRecording fed) room
+read_all kind fed room = reading_of kind true (hard_recording fed) room
 
 -- a refusal leaves zeros
-pub zeros-found : (kind room : ℕ) (fed : List ℕ) (e : Refusal) → read_all kind fed room ≡ reading.Refused e
-    → octetsFound kind true (hardRecording fed) room ≡ zeros room
-unfolding octetsFound
-zeros-found kind room fed e h = ap (octetsAfter (kind_of kind) (hardRecording fed) room) h
+pub zeros_found : (kind room : ℕ) (fed : List ℕ) (e : Refusal) → read_all kind fed room ≡ reading.Refused e
+    → octets_found kind true (hard_recording fed) room ≡ zeros room
+unfolding octets_found
+zeros_found kind room fed e h = ap (octets_after (kind_of kind) (hard_recording fed) room) h
 
-pub reads-no-kind : (kind room : ℕ) (fed : List ℕ) → isKind kind ≡ false
+pub reads_no_kind : (kind room : ℕ) (fed : List ℕ) → is_kind kind ≡ false
     → read_all kind fed room ≡ reading.Refused NoKind
 unfolding reading_of
-reads-no-kind kind room fed e = rw e
+reads_no_kind kind room fed e = rw e
 
-pub by_front : (kind room : ℕ) (fed : List ℕ) → isKind kind ≡ true
+pub by_front : (kind room : ℕ) (fed : List ℕ) → is_kind kind ≡ true
     → read_all kind fed room
-    ≡ afterFront (kind_of kind) (hardRecording fed) room
-    (whole_of (kind_of kind) (hardRecording fed) (frontOf (kind_of kind) (hardRecording fed)))
+    ≡ after_front (kind_of kind) (hard_recording fed) room
+    (whole_of (kind_of kind) (hard_recording fed) (front_of (kind_of kind) (hard_recording fed)))
 unfolding reading_of
 by_front kind room fed e = rw e
 
-pub reads-refused : (kind room : ℕ) (fed : List ℕ) (e : Refusal) → isKind kind ≡ true
-    → frontOf (kind_of kind) (hardRecording fed) ≡ front.Refused e → read_all kind fed room ≡ reading.Refused e
-reads-refused kind room fed e h f =
+pub reads_refused : (kind room : ℕ) (fed : List ℕ) (e : Refusal) → is_kind kind ≡ true
+    → front_of (kind_of kind) (hard_recording fed) ≡ front.Refused e → read_all kind fed room ≡ reading.Refused e
+reads_refused kind room fed e h f =
     by_front kind room fed h
-    ∙ ap (λ (x : Front). afterFront (kind_of kind) (hardRecording fed) room
-    (whole_of (kind_of kind) (hardRecording fed) x)) f
+    ∙ ap (λ (x : Front). afterFront (kind_of kind) (hard_recording fed) room
+    (whole_of (kind_of kind) (hard_recording fed) x)) f
 
-pub short-front : (k : Kind) (rec : List Taken) → length rec < frontChips k
-    → frontOf k rec ≡ front.Refused ShorterThanFront
-unfolding frontBy
-short-front k rec h = rw (lt-ltb (length rec) (frontChips k) h)
+pub short_front : (k : Kind) (rec : List Taken) → length rec < front_chips k
+    → front_of k rec ≡ front.Refused ShorterThanFront
+unfolding front_by
+short_front k rec h = rw (lt-ltb (length rec) (front_chips k) h)
 
-pub reads_short : (kind room : ℕ) (fed : List ℕ) → isKind kind ≡ true → length fed < frontChips (kind_of kind)
+pub reads_short : (kind room : ℕ) (fed : List ℕ) → is_kind kind ≡ true → length fed < front_chips (kind_of kind)
     → read_all kind fed room ≡ reading.Refused ShorterThanFront
 reads_short kind room fed h l =
-    reads-refused kind room fed ShorterThanFront h
-    (short-front (kind_of kind) (hardRecording fed) (omega (arith, length-hard fed)))
+    reads_refused kind room fed ShorterThanFront h
+    (short_front (kind_of kind) (hard_recording fed) (omega (arith, length_hard fed)))
 
 -- whole symbols and octets of a whole payload
-all-symbols : (r : Rate) (n : ℕ) → octetChips r * n / symbolChips r ≡ 8 * n / symbolBits r
-all-symbols One n = omega arith
-all-symbols Two n = omega arith
-all-symbols Five n = omega arith
-all-symbols Eleven n = omega arith
+all_symbols_lem : (r : Rate) (n : ℕ) → octet_chips r * n / symbol_chips r ≡ 8 * n / symbol_bits r
+all_symbols_lem One n = omega arith
+all_symbols_lem Two n = omega arith
+all_symbols_lem Five n = omega arith
+all_symbols_lem Eleven n = omega arith
 
-all-octets : (r : Rate) (n : ℕ) → octetChips r * n / octetChips r ≡ n
-all-octets One n = omega arith
-all-octets Two n = omega arith
-all-octets Five n = omega arith
-all-octets Eleven n = omega arith
+all_octets : (r : Rate) (n : ℕ) → octet_chips r * n / octet_chips r ≡ n
+all_octets One n = omega arith
+all_octets Two n = omega arith
+all_octets Five n = omega arith
+all_octets Eleven n = omega arith
 
 module _
-    (kind room : ℕ) (fed : List ℕ) (t : Told) (p : Progress) (hold buf : List ℕ) (is : isKind kind ≡ true)
-    (c : PayloadComes (kind_of kind) t (take (frameChips (kind_of kind) t.rate t.n) fed) p hold buf) where
+    (kind room : ℕ) (fed : List ℕ) (t : Told) (p : Progress) (hold buf : List ℕ) (is : is_kind kind ≡ true)
+    (c : PayloadComes (kind_of kind) t (take (frame_chips (kind_of kind) t.rate t.n) fed) p hold buf) where
   abbrev k : Kind
   k = kind_of kind
 
@@ -138,140 +138,140 @@ module _
   r = t.rate
 
   abbrev all : ℕ
-  all = frameChips k t.rate t.n
+  all = frame_chips k t.rate t.n
 
   -- the chips fed, and those of the frame
   abbrev rec : List Taken
-  rec = hardRecording fed
+  rec = hard_recording fed
 
   abbrev cut : List Taken
-  cut = hardRecording (take all fed)
+  cut = hard_recording (take all fed)
 
   apart : cut ++ drop all rec ≡ rec
-  apart = ap (λ (x : List Taken). x ++ drop all rec) (sym (take-hard all fed)) ∙ take-append-drop all rec
+  apart = ap (λ (x : List Taken). x ++ drop all rec) (sym (take_hard all fed)) ∙ take-append-drop all rec
 
-  from_cut : frontChips k ≤ length cut
-  from_cut = omega (arith, c.from, length-hard (take all fed))
+  from_cut : front_chips k ≤ length cut
+  from_cut = omega (arith, c.from, length_hard (take all fed))
 
-  told-all : frontOf k rec ≡ front.Fields t
-  told-all = subst (λ (x : List Taken). frontOf k x ≡ front.Fields t) apart
-      (front-prefix k cut (drop all rec) from_cut ∙ c.told)
+  told_all : front_of k rec ≡ front.Fields t
+  told_all = subst (λ (x : List Taken). frontOf k x ≡ front.Fields t) apart
+      (front_prefix k cut (drop all rec) from_cut ∙ c.told)
 
   -- the buffer until close is by the chips of the frame
-  pub yet-is : bufferYet kind rec room ≡ payloadYet k t cut room
-  yet-is =
+  pub yet_is : buffer_yet kind rec room ≡ payload_yet k t cut room
+  yet_is =
       opened
-      ∙ ap (afterFrontYet k rec room) told-all
-      ∙ ap (λ (x : List Taken). payloadYet k t x room) (take-hard all fed)
+      ∙ ap (after_front_yet k rec room) told_all
+      ∙ ap (λ (x : List Taken). payloadYet k t x room) (take_hard all fed)
     where
-      opened : bufferYet kind rec room ≡ afterFrontYet k rec room (frontOf k rec)
-      opened = unfold bufferYet in rw is
+      opened : buffer_yet kind rec room ≡ after_front_yet k rec room (front_of k rec)
+      opened = unfold buffer_yet in rw is
 
-  ends-whole : length rec < all → whole_of k rec (front.Fields t) ≡ front.Refused (Ends t.length)
-  ends-whole h = rw (lt-ltb (length rec) all h)
+  ends_whole : length rec < all → whole_of k rec (front.Fields t) ≡ front.Refused (Ends t.length)
+  ends_whole h = rw (lt-ltb (length rec) all h)
 
-  there-whole : all ≤ length rec → whole_of k rec (front.Fields t) ≡ front.Fields t
-  there-whole h = rw (le-ltb (length rec) all h)
+  there_whole : all ≤ length rec → whole_of k rec (front.Fields t) ≡ front.Fields t
+  there_whole h = rw (le-ltb (length rec) all h)
 
   -- 16: too few chips were counted
-  pub reads-ends : p.count < all → read_all kind fed room ≡ reading.Refused (Ends t.length)
-  reads-ends h =
-      let few : length rec < all = few-chips (lt c.count-is h) in
+  pub reads_ends : p.count < all → read_all kind fed room ≡ reading.Refused (Ends t.length)
+  reads_ends h =
+      let few : length rec < all = few_chips (lt c.count_is h) in
       by_front kind room fed is
-      ∙ ap (λ (x : Front). afterFront k rec room (whole_of k rec x)) told-all
-      ∙ ap (afterFront k rec room) (ends-whole few)
+      ∙ ap (λ (x : Front). afterFront k rec room (whole_of k rec x)) told_all
+      ∙ ap (after_front k rec room) (ends_whole few)
     where
       lt : {a b d : ℕ} → a ≡ b → a < d → b < d
       lt e h = omega arith
 
-      few-chips : length (take all fed) < all → length rec < all
-      few-chips h = omega (arith, length-hard fed, length-take all fed, h)
+      few_chips : length (take all fed) < all → length rec < all
+      few_chips h = omega (arith, length_hard fed, length-take all fed, h)
 
   module _ (enough : all ≤ p.count) where
     long : all ≤ length fed
-    long = omega (arith, c.count-is, enough, length-take all fed)
+    long = omega (arith, c.count_is, enough, length-take all fed)
 
-    cut-long : length cut ≡ all
-    cut-long = length-hard (take all fed) ∙ length-take-le all fed long
+    cut_long : length cut ≡ all
+    cut_long = length_hard (take all fed) ∙ length-take-le all fed long
 
-    by-payload : read_all kind fed room ≡ payloadReading k t rec room
-    by-payload =
+    by_payload : read_all kind fed room ≡ payload_reading k t rec room
+    by_payload =
         by_front kind room fed is
-        ∙ ap (λ (x : Front). afterFront k rec room (whole_of k rec x)) told-all
-        ∙ ap (afterFront k rec room) (there-whole (omega (arith, long, length-hard fed)))
+        ∙ ap (λ (x : Front). afterFront k rec room (whole_of k rec x)) told_all
+        ∙ ap (after_front k rec room) (there_whole (omega (arith, long, length_hard fed)))
 
-    found-is : foundUnusable k t rec ≡ unusableYet k cut
-    found-is =
-        ap (firstUnusable (frontChips k))
-        (sym (drop-take (frontChips k) all rec) ∙ ap (drop (frontChips k)) (take-hard all fed))
+    found_is : found_unusable k t rec ≡ unusable_yet k cut
+    found_is =
+        ap (first_unusable (front_chips k))
+        (sym (drop_take (front_chips k) all rec) ∙ ap (drop (front_chips k)) (take_hard all fed))
 
-    there : frontChips k + octetChips r * t.n ≤ length cut
-    there = omega (arith, cut-long)
+    there : front_chips k + octet_chips r * t.n ≤ length cut
+    there = omega (arith, cut_long)
 
-    symbols-are : wholeSymbols r (frontChips k) cut ≡ 8 * t.n / symbolBits r
-    symbols-are =
-        ap (λ (i : ℕ). i / symbolChips r) (behind (octetChips r * t.n) cut-long) ∙ all-symbols r t.n
+    symbols_are : whole_symbols r (front_chips k) cut ≡ 8 * t.n / symbol_bits r
+    symbols_are =
+        ap (λ (i : ℕ). i / symbol_chips r) (behind (octet_chips r * t.n) cut_long) ∙ all_symbols_lem r t.n
       where
-        behind : (x : ℕ) → length cut ≡ frontChips k + x → length cut - frontChips k ≡ x
+        behind : (x : ℕ) → length cut ≡ front_chips k + x → length cut - front_chips k ≡ x
         behind x e = omega arith
 
-    octets-are : wholeOctets r (frontChips k) cut ≡ t.n
-    octets-are =
-        ap (λ (i : ℕ). i / octetChips r) (behind (octetChips r * t.n) cut-long) ∙ all-octets r t.n
+    octets_are : whole_octets r (front_chips k) cut ≡ t.n
+    octets_are =
+        ap (λ (i : ℕ). i / octet_chips r) (behind (octet_chips r * t.n) cut_long) ∙ all_octets r t.n
       where
-        behind : (x : ℕ) → length cut ≡ frontChips k + x → length cut - frontChips k ≡ x
+        behind : (x : ℕ) → length cut ≡ front_chips k + x → length cut - front_chips k ≡ x
         behind x e = omega arith
 
-    odd_is : payloadOdd k r t.n rec ≡ oddYet k r cut
-    odd_is = subst (λ (x : List Taken). payloadOdd k r t.n x ≡ oddYet k r cut) apart shorter
+    odd_is : payload_odd k r t.n rec ≡ odd_yet k r cut
+    odd_is = subst (λ (x : List Taken). payloadOdd k r t.n x ≡ odd_yet k r cut) apart shorter
       where
-        last : oddGrowth r (frontChips k) (growthsOf r (payloadPhase k cut) (payloadWords k r t.n cut))
-            ≡ oddYet k r cut
+        last : odd_growth r (front_chips k) (growths_of r (payload_phase k cut) (payload_words k r t.n cut))
+            ≡ odd_yet k r cut
         last =
-            unfold oddYet payloadWords in
-            ap (λ (i : ℕ). oddGrowth r (frontChips k)
-            (growthsOf r (payloadPhase k cut) (decidedWords r i (drop (frontChips k) cut)))) (sym symbols-are)
+            unfold odd_yet payload_words in
+            ap (λ (i : ℕ). oddGrowth r (front_chips k)
+            (growths_of r (payload_phase k cut) (decided_words r i (drop (front_chips k) cut)))) (sym symbols_are)
 
-        shorter : payloadOdd k r t.n (cut ++ drop all rec) ≡ oddYet k r cut
+        shorter : payload_odd k r t.n (cut ++ drop all rec) ≡ odd_yet k r cut
         shorter =
-            unfold payloadOdd in
-            ap₂ {C = Option ℕ} (λ x y. oddGrowth r (frontChips k) (growthsOf r x y))
-            (phase-prefix k cut (drop all rec) from_cut)
-            (payload-words-prefix k r t.n cut (drop all rec) there)
+            unfold payload_odd in
+            ap₂ {C = Option ℕ} (λ x y. oddGrowth r (front_chips k) (growths_of r x y))
+            (phase_prefix k cut (drop all rec) from_cut)
+            (payload_words_prefix k r t.n cut (drop all rec) there)
             ∙ last
 
-    pub reads-room : room < t.n → read_all kind fed room ≡ reading.Refused (OctetRoom t.length)
-    reads-room h = by-payload ∙ room-refused k t rec room h
+    pub reads_room : room < t.n → read_all kind fed room ≡ reading.Refused (OctetRoom t.length)
+    reads_room h = by_payload ∙ room_refused k t rec room h
 
-    pub reads-unusable : (at : ℕ) → t.n ≤ room → unusableYet k cut ≡ some at
+    pub reads_unusable : (at : ℕ) → t.n ≤ room → unusable_yet k cut ≡ some at
         → read_all kind fed room ≡ reading.Refused (Unusable at t.length)
-    reads-unusable at h e = by-payload ∙ unusable-refused k t rec room at h (found-is ∙ e)
+    reads_unusable at h e = by_payload ∙ unusable_refused k t rec room at h (found_is ∙ e)
 
-    pub reads-odd : (at : ℕ) → t.n ≤ room → unusableYet k cut ≡ none → oddYet k r cut ≡ some at
+    pub reads_odd : (at : ℕ) → t.n ≤ room → unusable_yet k cut ≡ none → odd_yet k r cut ≡ some at
         → read_all kind fed room ≡ reading.Refused (OddGrowth at t.length)
-    reads-odd at h e o = by-payload ∙ odd_refused k t rec room at h (found-is ∙ e) (odd_is ∙ o)
+    reads_odd at h e o = by_payload ∙ odd_refused k t rec room at h (found_is ∙ e) (odd_is ∙ o)
 
-    pub reads-good : t.n ≤ room → unusableYet k cut ≡ none → oddYet k r cut ≡ none
-        → read_all kind fed room ≡ reading.Good t all (leastOf (frameLeads k r (wholeOctets r (frontChips k) cut) cut))
-    reads-good h e o =
-        by-payload
-        ∙ payload-good k t rec room h (found-is ∙ e) (odd_is ∙ o)
-        ∙ ap (λ (x : List ℕ). reading.Good t all (leastOf x))
-        (subst (λ (x : List Taken). frameLeads k r t.n x ≡ frameLeads k r t.n cut) apart
-        (frame-leads-prefix k r t.n cut (drop all rec) there)
-        ∙ ap (λ (m : ℕ). frameLeads k r m cut) (sym octets-are))
+    pub reads_good : t.n ≤ room → unusable_yet k cut ≡ none → odd_yet k r cut ≡ none
+        → read_all kind fed room ≡ reading.Good t all (least_of (frame_leads k r (whole_octets r (front_chips k) cut) cut))
+    reads_good h e o =
+        by_payload
+        ∙ payload_good k t rec room h (found_is ∙ e) (odd_is ∙ o)
+        ∙ ap (λ (x : List ℕ). reading.Good t all (least_of x))
+        (subst (λ (x : List Taken). frameLeads k r t.n x ≡ frame_leads k r t.n cut) apart
+        (frame_leads_prefix k r t.n cut (drop all rec) there)
+        ∙ ap (λ (m : ℕ). frameLeads k r m cut) (sym octets_are))
 
-    pub octets-good : t.n ≤ room → unusableYet k cut ≡ none → oddYet k r cut ≡ none
-        → octetsFound kind true rec room ≡ octetsYet k r cut room
-    octets-good h e o =
-        found (reads-good h e o)
+    pub octets_good : t.n ≤ room → unusable_yet k cut ≡ none → odd_yet k r cut ≡ none
+        → octets_found kind true rec room ≡ octets_yet k r cut room
+    octets_good h e o =
+        found (reads_good h e o)
         ∙ ap₂ {C = List ℕ} (λ x m. x ++ replicate (room - m) 0)
-        (subst (λ (x : List Taken). payloadOf k r t.n x ≡ payloadOf k r t.n cut) apart
-        (payload-prefix k r t.n cut (drop all rec) there)
-        ∙ ap (λ (m : ℕ). payloadOf k r m cut) (sym octets-are))
-        (sym octets-are)
+        (subst (λ (x : List Taken). payloadOf k r t.n x ≡ payload_of k r t.n cut) apart
+        (payload_prefix k r t.n cut (drop all rec) there)
+        ∙ ap (λ (m : ℕ). payloadOf k r m cut) (sym octets_are))
+        (sym octets_are)
       where
         found : read_all kind fed room
-            ≡ reading.Good t all (leastOf (frameLeads k r (wholeOctets r (frontChips k) cut) cut))
-            → octetsFound kind true rec room ≡ payloadOf k r t.n rec ++ replicate (room - t.n) 0
-        found e = unfold octetsFound in ap (octetsAfter k rec room) e
+            ≡ reading.Good t all (least_of (frame_leads k r (whole_octets r (front_chips k) cut) cut))
+            → octets_found kind true rec room ≡ payload_of k r t.n rec ++ replicate (room - t.n) 0
+        found e = unfold octets_found in ap (octets_after k rec room) e

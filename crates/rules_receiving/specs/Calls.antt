@@ -2,36 +2,36 @@
 -- one that is not open (RULES 6.31).
 -- Definitions only. Assumes nothing.
 use Rattle.std.specs.Prelude.{◌≡◌, Bool, true, false, cond, ◌&&◌, List, ◌++◌, ℕ, eqb, ltb, leb, length, replicate}
-use Rattle.rules_rates.specs.Rates.{is_code, rateOf}
-use Rattle.rules_chips.specs.Chips.{hardRecording}
-use Rattle.rules_frame.specs.Frame.{isKind, kind_of, frontChips, frameChips}
+use Rattle.rules_rates.specs.Rates.{is_code, rate_of}
+use Rattle.rules_chips.specs.Chips.{hard_recording}
+use Rattle.rules_frame.specs.Frame.{is_kind, kind_of, front_chips, frame_chips}
 use Rattle.rules_calls.specs.declared.Record.{Record}
-use Rattle.rules_calls.specs.Answers.{recordOf}
-use Rattle.rules_reading.specs.Reading.{reading_of, octetsFound}
+use Rattle.rules_calls.specs.Answers.{record_of}
+use Rattle.rules_reading.specs.Reading.{reading_of, octets_found}
 use Rattle.rules_receiving.specs.declared.Progress.{Progress}
 use Rattle.rules_receiving.specs.declared.Receiver.{Receiver}
 use Rattle.rules_receiving.specs.Yet.{zeros}
 use Rattle.rules_receiving.specs.Receivers.{Receives}
 
 -- the numbers of a receiver whose front comes, and of one whose payload comes
-abbrev pub soundFront : Progress → Bool
-soundFront p = isKind p.kind && ltb p.count (frontChips (kind_of p.kind))
+abbrev pub sound_front : Progress → Bool
+sound_front p = is_kind p.kind && ltb p.count (front_chips (kind_of p.kind))
 
-abbrev pub soundPayload : Progress → Bool
-soundPayload p =
-    isKind p.kind && is_code p.rate && leb p.n 4095 && leb (frontChips (kind_of p.kind)) p.count
-    && leb p.count (frameChips (kind_of p.kind) (rateOf p.rate) p.n)
+abbrev pub sound_payload : Progress → Bool
+sound_payload p =
+    is_kind p.kind && is_code p.rate && leb p.n 4095 && leb (front_chips (kind_of p.kind)) p.count
+    && leb p.count (frame_chips (kind_of p.kind) (rate_of p.rate) p.n)
 
 -- those of one whose refusal stays: 1 where the kind is none, else one of a front that is whole, 9 to 15
-abbrev pub soundRefused : Progress → Bool
-soundRefused p = cond (isKind p.kind) (leb 9 p.number && leb p.number 15) (eqb p.number 1)
+abbrev pub sound_refused : Progress → Bool
+sound_refused p = cond (is_kind p.kind) (leb 9 p.number && leb p.number 15) (eqb p.number 1)
 
 -- whether a receiver takes a feed or a close with a buffer of so many octets
 unfoldable pub takes : Progress → ℕ → Bool
 takes p room =
     eqb p.room room && ltb p.ear.phase 4 && ltb p.ear.last 4
-    && cond (eqb p.status 1) (soundFront p)
-    (cond (eqb p.status 2) (soundPayload p) (eqb p.status 3 && soundRefused p))
+    && cond (eqb p.status 1) (sound_front p)
+    (cond (eqb p.status 2) (sound_payload p) (eqb p.status 3 && sound_refused p))
 
 -- a receiver that has been fed nothing
 abbrev pub fresh : ℕ → ℕ → ℕ → ℕ → Receiver
@@ -60,12 +60,12 @@ fresh status kind room number =
 
 -- the receiver that an open leaves, whatever was there: a kind that is none is refused at close
 abbrev pub opened : ℕ → ℕ → Receiver
-opened kind room = cond (isKind kind) (fresh 1 kind room 0) (fresh 3 kind room 1)
+opened kind room = cond (is_kind kind) (fresh 1 kind room 0) (fresh 3 kind room 1)
 
 pub record ReceiverOpens (kind : ℕ) (buf : List ℕ) (u : Receiver) (answer : ℕ) (out : List ℕ) : Type 0 where
-  pub answer-is : answer ≡ 0
-  pub receiver-is : u ≡ opened kind (length buf)
-  pub buffer-is : out ≡ zeros (length buf)
+  pub answer_is : answer ≡ 0
+  pub receiver_is : u ≡ opened kind (length buf)
+  pub buffer_is : out ≡ zeros (length buf)
 
 pub record ReceiverFeeds (s : Receiver) (buf batch : List ℕ) (u : Receiver) (answer : ℕ) (out : List ℕ) : Type 0 where
   pub refused : takes s.progress (length buf) ≡ false → (answer ≡ 20) × (u ≡ s) × (out ≡ buf)
@@ -75,8 +75,8 @@ pub record ReceiverFeeds (s : Receiver) (buf batch : List ℕ) (u : Receiver) (a
       → Receives kind (length buf) (fed ++ batch) u out
 
 -- a record that refuses with 20
-abbrev pub notOpen : Record
-notOpen =
+abbrev pub not_open : Record
+not_open =
     record {
       number = 20;
       place = 0;
@@ -117,11 +117,11 @@ shut s =
 -- what close answers and leaves, of all chips fed
 abbrev pub ReadsAll : ℕ → ℕ → List ℕ → Record → List ℕ → Type 0
 ReadsAll kind room fed a out =
-    (a ≡ recordOf (reading_of kind true (hardRecording fed) room))
-    × (out ≡ octetsFound kind true (hardRecording fed) room)
+    (a ≡ record_of (reading_of kind true (hard_recording fed) room))
+    × (out ≡ octets_found kind true (hard_recording fed) room)
 
 pub record ReceiverCloses (s : Receiver) (buf : List ℕ) (u : Receiver) (answer : Record) (out : List ℕ) : Type 0 where
-  pub refused : takes s.progress (length buf) ≡ false → (answer ≡ notOpen) × (u ≡ s) × (out ≡ buf)
+  pub refused : takes s.progress (length buf) ≡ false → (answer ≡ not_open) × (u ≡ s) × (out ≡ buf)
   pub taken : takes s.progress (length buf) ≡ true → u ≡ shut s
   pub other : takes s.progress (length buf) ≡ true → answer.number ≡ 20 → ⊥
   pub long : length out ≡ length buf
@@ -129,8 +129,8 @@ pub record ReceiverCloses (s : Receiver) (buf : List ℕ) (u : Receiver) (answer
       → ReadsAll kind (length buf) fed answer out
 
 -- the record of a refusal kept as numbers
-abbrev pub keptRecord : Progress → Record
-keptRecord p =
+abbrev pub kept_record : Progress → Record
+kept_record p =
     record {
       number = p.number;
       place = p.place;

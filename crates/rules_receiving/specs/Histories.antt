@@ -12,16 +12,16 @@ pub data Runs (kind room : ℕ) : List ℕ → Receiver → List ℕ → Type 0 
       → Runs kind room [] u out
   feeds : {fed batch : List ℕ} {s u : Receiver} {buf out : List ℕ} {a : ℕ} → Runs kind room fed s buf
       → ReceiverFeeds s buf batch u a out → Runs kind room (fed ++ batch) u out
-  feeds-other : {fed batch : List ℕ} {s u : Receiver} {buf other out : List ℕ} {a : ℕ} → Runs kind room fed s buf
+  feeds_other : {fed batch : List ℕ} {s u : Receiver} {buf other out : List ℕ} {a : ℕ} → Runs kind room fed s buf
       → (length other ≡ room → ⊥) → ReceiverFeeds s other batch u a out → Runs kind room fed u buf
-  closes-other : {fed : List ℕ} {s u : Receiver} {buf other out : List ℕ} {a : Record} → Runs kind room fed s buf
+  closes_other : {fed : List ℕ} {s u : Receiver} {buf other out : List ℕ} {a : Record} → Runs kind room fed s buf
       → (length other ≡ room → ⊥) → ReceiverCloses s other u a out → Runs kind room fed u buf
 
 -- a receiver that is not open: all zeros, or opened, fed and closed with the buffer as the last call left it; feeds and
 -- closes may follow, with any buffer
 pub data Shut : Receiver → Type 0 where
-  never-opened : Shut (fresh 0 0 0 0)
+  never_opened : Shut (fresh 0 0 0 0)
   closes : {kind room : ℕ} {fed : List ℕ} {s u : Receiver} {buf out : List ℕ} {a : Record} → Runs kind room fed s buf
       → ReceiverCloses s buf u a out → Shut u
-  feeds-shut : {s u : Receiver} {buf batch out : List ℕ} {a : ℕ} → Shut s → ReceiverFeeds s buf batch u a out → Shut u
-  closes-shut : {s u : Receiver} {buf out : List ℕ} {a : Record} → Shut s → ReceiverCloses s buf u a out → Shut u
+  feeds_shut : {s u : Receiver} {buf batch out : List ℕ} {a : ℕ} → Shut s → ReceiverFeeds s buf batch u a out → Shut u
+  closes_shut : {s u : Receiver} {buf out : List ℕ} {a : Record} → Shut s → ReceiverCloses s buf u a out → Shut u

@@ -1,6 +1,6 @@
 -- Laws of the totals of a list of readings, with one reading more.
---     total-more, total-most       one reading more in a total, and the most that a total comes to
---     closest-more                 one more behind the smallest lead so far
+--     total_more, total_most       one reading more in a total, and the most that a total comes to
+--     closest_more                 one more behind the smallest lead so far
 -- Assumes nothing.
 use mathlib.Core.Path.{◌≡◌, refl, sym, ap, ◌∙◌}
 use mathlib.Core.Bool.{Bool, true, false, cond}
@@ -16,27 +16,27 @@ use lib.ListN.{length}
 use Rattle.rules_report.specs.Totals.{
   Recording,
   Outcome,
-  outcomeOf,
+  outcome_of,
   total,
   accepted,
   Closest,
   closer,
-  closestFrom,
+  closest_from,
 }
 
 -- ---- totals
 
-pub total-more : (f : Outcome → ℕ) (os : List Outcome) (o : Outcome) → total f (os ++ (o ∷ [])) ≡ total f os + f o
+pub total_more : (f : Outcome → ℕ) (os : List Outcome) (o : Outcome) → total f (os ++ (o ∷ [])) ≡ total f os + f o
 unfolding total
-total-more f [] o = omega arith
-total-more f (p ∷ os) o = ap (λ (n : ℕ). f p + n) (total-more f os o) ∙ sym (add_assoc (f p) (total f os) (f o))
+total_more f [] o = omega arith
+total_more f (p ∷ os) o = ap (λ (n : ℕ). f p + n) (total_more f os o) ∙ sym (add_assoc (f p) (total f os) (f o))
 
 -- of recordings that each count for at most m
-pub total-most : (f : Outcome → ℕ) (m : ℕ) → ((r : Recording) → f (outcomeOf r) ≤ m) → (rs : List Recording)
-    → total f (map outcomeOf rs) ≤ m * length rs
+pub total_most : (f : Outcome → ℕ) (m : ℕ) → ((r : Recording) → f (outcome_of r) ≤ m) → (rs : List Recording)
+    → total f (map outcome_of rs) ≤ m * length rs
 unfolding total
-total-most f m h [] = rw mul-zero (omega arith)
-total-most f m h (r ∷ rs) = rw (mul-suc m (length rs)) (omega (arith, h r, total-most f m h rs))
+total_most f m h [] = rw mul-zero (omega arith)
+total_most f m h (r ∷ rs) = rw (mul-suc m (length rs)) (omega (arith, h r, total_most f m h rs))
 
 -- ---- the smallest lead
 
@@ -48,10 +48,10 @@ nearest lead at (some c) = cond (ltb lead c.lead) (record { lead = lead; recordi
 abbrev pub behind : Bool → ℕ → ℕ → Option Closest → Option Closest
 behind good lead at c = cond good (some (nearest lead at c)) c
 
-closer-behind : (a i l j : ℕ) (c : Option Closest)
+closer_behind : (a i l j : ℕ) (c : Option Closest)
     → closer a i (some (nearest l j c)) ≡ nearest l j (some (closer a i c))
-closer-behind a i l j none = refl
-closer-behind a i l j (some c) = by (dec_lt l c.lead) (dec_lt c.lead a) (dec_lt l a)
+closer_behind a i l j none = refl
+closer_behind a i l j (some c) = by (dec_lt l c.lead) (dec_lt c.lead a) (dec_lt l a)
   where
     by : Dec (l < c.lead) → Dec (c.lead < a) → Dec (l < a)
         → closer a i (some (nearest l j (some c))) ≡ nearest l j (some (closer a i (some c)))
@@ -61,14 +61,14 @@ closer-behind a i l j (some c) = by (dec_lt l c.lead) (dec_lt c.lead a) (dec_lt 
     by (no p) (no q) d =
         simp (le-ltb l c.lead (omega arith), le-ltb c.lead a (omega arith), le-ltb l a (omega arith))
 
-pub closest-more : (at : ℕ) (os : List Outcome) (o : Outcome)
-    → closestFrom at (os ++ (o ∷ [])) ≡ behind (accepted o) o.answer.lead (at + length os) (closestFrom at os)
-unfolding closestFrom
-closest-more at [] o = rw add-zero
-closest-more at (p ∷ os) o =
-    ap (λ (c : Option Closest). cond (accepted p) (some (closer p.answer.lead at c)) c) (closest-more (suc at) os o)
+pub closest_more : (at : ℕ) (os : List Outcome) (o : Outcome)
+    → closest_from at (os ++ (o ∷ [])) ≡ behind (accepted o) o.answer.lead (at + length os) (closest_from at os)
+unfolding closest_from
+closest_more at [] o = rw add-zero
+closest_more at (p ∷ os) o =
+    ap (λ (c : Option Closest). cond (accepted p) (some (closer p.answer.lead at c)) c) (closest_more (suc at) os o)
     ∙ by (accepted p) (accepted o) (suc at + length os) (at + suc (length os)) (next (length os))
-    (closestFrom (suc at) os)
+    (closest_from (suc at) os)
   where
     next : (n : ℕ) → suc at + n ≡ at + suc n
     next n = omega arith
@@ -76,7 +76,7 @@ closest-more at (p ∷ os) o =
     by : (s t : Bool) (i j : ℕ) → i ≡ j → (c : Option Closest)
         → cond s (some (closer p.answer.lead at (behind t o.answer.lead i c))) (behind t o.answer.lead i c)
         ≡ behind t o.answer.lead j (cond s (some (closer p.answer.lead at c)) c)
-    by true true i j e c = rw (← e) (ap some (closer-behind p.answer.lead at o.answer.lead i c))
+    by true true i j e c = rw (← e) (ap some (closer_behind p.answer.lead at o.answer.lead i c))
     by true false i j e c = refl
     by false true i j e c = rw e
     by false false i j e c = refl

@@ -1,8 +1,8 @@
 -- What one reading counts for, for every outcome, list and report, in plain numbers (RULES 6.19).
---     frames-sum, octets-sum, refused-sum, airtime-sum        a total is the sum of the readings' shares
---     frames-only, octets-only, refused-only, airtime-only    and their shares come to nothing else
---     added-any                                               one reading more in any report
---     more-only                                               what is said of that leaves one report
+--     frames_sum, octets_sum, refused_sum, airtime_sum        a total is the sum of the readings' shares
+--     frames_only, octets_only, refused_only, airtime_only    and their shares come to nothing else
+--     added_any                                               one reading more in any report
+--     more_only                                               what is said of that leaves one report
 -- Assumes nothing.
 use mathlib.Core.Path.{◌≡◌, refl, sym, ap, ◌∙◌, subst}
 use mathlib.Core.Bool.{Bool, true, false, cond, not, ◌&&◌, ◌||◌}
@@ -23,13 +23,13 @@ use Rattle.rules_report.specs.Totals.{
   Outcome,
   total,
   accepted,
-  acceptedAt,
-  framesAt,
-  octetsAt,
-  refusedWith,
-  airtimeOf,
+  accepted_at,
+  frames_at,
+  octets_at,
+  refused_with,
+  airtime_of,
 }
-use Rattle.rules_report.specs.Report.{more, entryOf, isCloser, withFrame, withRefusal, added}
+use Rattle.rules_report.specs.Report.{more, entry_of, is_closer, with_frame, with_refusal, added}
 use Rattle.rules_report.specs.Shares.{
   rates,
   FullRows,
@@ -41,13 +41,13 @@ use Rattle.rules_report.specs.Shares.{
   RefusalShare,
   AirtimeShare,
   SumOf,
-  no-share,
-  and-share,
+  no_share,
+  and_share,
   LeadIs,
   OneMore,
 }
 use Rattle.rules_report.proofs.Outcomes.{Fair}
-use Rattle.rules_report.proofs.Added.{length_more, getD-more}
+use Rattle.rules_report.proofs.Added.{length_more, get_or_more}
 
 -- ---- shares that a test decides
 
@@ -58,16 +58,16 @@ record Decides (P : Type 0) (t : Bool) : Type 0 where
   passes : P → t ≡ true
   so : t ≡ true → P
 
-by-test : {P : Type 0} {t : Bool} (much : ℕ) → Decides P t → OnlyIf P much (cond t much 0)
-by-test {t = true} much d = ((λ h. refl), λ n. absurd (n (d.so refl)))
-by-test {t = false} much d = ((λ h. absurd (differ (d.passes h))), λ n. refl)
+by_test : {P : Type 0} {t : Bool} (much : ℕ) → Decides P t → OnlyIf P much (cond t much 0)
+by_test {t = true} much d = ((λ h. refl), λ n. absurd (n (d.so refl)))
+by_test {t = false} much d = ((λ h. absurd (differ (d.passes h))), λ n. refl)
 
-by-test-only : {P : Type 0} {t : Bool} (much x : ℕ) → Decides P t → OnlyIf P much x → x ≡ cond t much 0
-by-test-only {t = true} much x d s = s.0 (d.so refl)
-by-test-only {t = false} much x d s = s.1 (λ h. differ (d.passes h))
+by_test_only : {P : Type 0} {t : Bool} (much x : ℕ) → Decides P t → OnlyIf P much x → x ≡ cond t much 0
+by_test_only {t = true} much x d s = s.0 (d.so refl)
+by_test_only {t = false} much x d s = s.1 (λ h. differ (d.passes h))
 
-frame-decides : (code : ℕ) (o : Outcome) → Decides (IsFrameAt code o) (acceptedAt code o)
-frame-decides code o =
+frame_decides : (code : ℕ) (o : Outcome) → Decides (IsFrameAt code o) (accepted_at code o)
+frame_decides code o =
     let good = accepted o in
     let at-it = eqb o.answer.rate code in
     record {
@@ -78,9 +78,9 @@ frame-decides code o =
       );
     }
 
-refusal-decides : (number : ℕ) (o : Outcome) → Decides ((IsFrame o → ⊥) × (o.answer.number ≡ number))
+refusal_decides : (number : ℕ) (o : Outcome) → Decides ((IsFrame o → ⊥) × (o.answer.number ≡ number))
     (not (accepted o) && eqb o.answer.number number)
-refusal-decides number o =
+refusal_decides number o =
     let n = o.answer.number in
     let bad = not (accepted o) in
     record {
@@ -123,43 +123,43 @@ timed o = by (ℕ_discrete o.answer.number 0) (ℕ_discrete o.kind 0)
 sums : (Share : Outcome → ℕ → Type 0) (f : Outcome → ℕ) → ((o : Outcome) → Share o (f o)) → (os : List Outcome)
     → SumOf Share os (total f os)
 unfolding total
-sums Share f h [] = no-share
-sums Share f h (o ∷ os) = and-share o os (f o) (total f os) (h o) (sums Share f h os)
+sums Share f h [] = no_share
+sums Share f h (o ∷ os) = and_share o os (f o) (total f os) (h o) (sums Share f h os)
 
-sums-only : (Share : Outcome → ℕ → Type 0) (f : Outcome → ℕ) → ((o : Outcome) (x : ℕ) → Share o x → x ≡ f o)
+sums_only : (Share : Outcome → ℕ → Type 0) (f : Outcome → ℕ) → ((o : Outcome) (x : ℕ) → Share o x → x ≡ f o)
     → (os : List Outcome) (n : ℕ) → SumOf Share os n → n ≡ total f os
 unfolding total
-sums-only Share f h _ _ no-share = refl
-sums-only Share f h _ _ (and-share o os x rest s more) = omega (arith, h o x s, sums-only Share f h os rest more)
+sums_only Share f h _ _ no_share = refl
+sums_only Share f h _ _ (and_share o os x rest s more) = omega (arith, h o x s, sums_only Share f h os rest more)
 
 module _ (code : ℕ) (os : List Outcome) where
   -- promise: A total of a list is the sum of what each reading counts for, for every list and in plain numbers: a frame
   -- 1 in those of its rate, n in their octets, 192 or 96 and LENGTH in the airtime; a refusal 1 in those of its number
   -- rule: 6.19
-  -- with: octets-sum, refused-sum, airtime-sum, SumOf
-  pub frames-sum : SumOf (FrameShare code) os (framesAt code os)
-  frames-sum = sums (FrameShare code) _ (λ o. by-test 1 (frame-decides code o)) os
+  -- with: octets_sum, refused_sum, airtime_sum, SumOf
+  pub frames_sum : SumOf (FrameShare code) os (frames_at code os)
+  frames_sum = sums (FrameShare code) _ (λ o. by-test 1 (frame_decides code o)) os
 
-  pub octets-sum : SumOf (OctetShare code) os (octetsAt code os)
-  octets-sum = sums (OctetShare code) _ (λ o. by-test o.answer.n (frame-decides code o)) os
+  pub octets_sum : SumOf (OctetShare code) os (octets_at code os)
+  octets_sum = sums (OctetShare code) _ (λ o. by-test o.answer.n (frame_decides code o)) os
 
-  pub frames-only : (n : ℕ) → SumOf (FrameShare code) os n → n ≡ framesAt code os
-  frames-only n s = sums-only (FrameShare code) _ (λ o x. by-test-only 1 x (frame-decides code o)) os n s
+  pub frames_only : (n : ℕ) → SumOf (FrameShare code) os n → n ≡ frames_at code os
+  frames_only n s = sums_only (FrameShare code) _ (λ o x. by-test-only 1 x (frame_decides code o)) os n s
 
-  pub octets-only : (n : ℕ) → SumOf (OctetShare code) os n → n ≡ octetsAt code os
-  octets-only n s =
-      sums-only (OctetShare code) _ (λ o x. by-test-only o.answer.n x (frame-decides code o)) os n s
+  pub octets_only : (n : ℕ) → SumOf (OctetShare code) os n → n ≡ octets_at code os
+  octets_only n s =
+      sums_only (OctetShare code) _ (λ o x. by-test-only o.answer.n x (frame_decides code o)) os n s
 
 module _ (number : ℕ) (os : List Outcome) where
-  pub refused-sum : SumOf (RefusalShare number) os (refusedWith number os)
-  refused-sum = sums (RefusalShare number) _ (λ o. by-test 1 (refusal-decides number o)) os
+  pub refused_sum : SumOf (RefusalShare number) os (refused_with number os)
+  refused_sum = sums (RefusalShare number) _ (λ o. by-test 1 (refusal_decides number o)) os
 
-  pub refused-only : (n : ℕ) → SumOf (RefusalShare number) os n → n ≡ refusedWith number os
-  refused-only n s = sums-only (RefusalShare number) _ (λ o x. by-test-only 1 x (refusal-decides number o)) os n s
+  pub refused_only : (n : ℕ) → SumOf (RefusalShare number) os n → n ≡ refused_with number os
+  refused_only n s = sums_only (RefusalShare number) _ (λ o x. by-test-only 1 x (refusal_decides number o)) os n s
 
 module _ (os : List Outcome) where
-  pub airtime-sum : SumOf AirtimeShare os (airtimeOf os)
-  airtime-sum =
+  pub airtime_sum : SumOf AirtimeShare os (airtime_of os)
+  airtime_sum =
       sums AirtimeShare _
       (λ o. record {
         long = λ z k. rw (eq-eqb o.answer.number 0 z, eq-eqb o.kind 0 k);
@@ -168,26 +168,26 @@ module _ (os : List Outcome) where
       })
       os
 
-  pub airtime-only : (n : ℕ) → SumOf AirtimeShare os n → n ≡ airtimeOf os
-  airtime-only n s =
+  pub airtime_only : (n : ℕ) → SumOf AirtimeShare os n → n ≡ airtime_of os
+  airtime_only n s =
       let f : Outcome → ℕ = λ o. (timed o).much in
       let only : (o : Outcome) (x : ℕ) → AirtimeShare o x → x ≡ f o = λ o. (timed o).only in
-      sums-only AirtimeShare f only os n s ∙ sym (sums-only AirtimeShare f only os (airtimeOf os) airtime-sum)
+      sums_only AirtimeShare f only os n s ∙ sym (sums_only AirtimeShare f only os (airtime_of os) airtime_sum)
 
 -- ---- the entry of a rate
 
-entry-code : (r : Rate) → code_of r ≡ get_or rates (entryOf (code_of r)) 0
-entry-code One = refl
-entry-code Two = refl
-entry-code Five = refl
-entry-code Eleven = refl
+entry_code : (r : Rate) → code_of r ≡ get_or rates (entry_of (code_of r)) 0
+entry_code One = refl
+entry_code Two = refl
+entry_code Five = refl
+entry_code Eleven = refl
 
-code-entry : (j : ℕ) → j < 4 → entryOf (get_or rates j 0) ≡ j
-code-entry zero h = refl
-code-entry (suc zero) h = refl
-code-entry (suc (suc zero)) h = refl
-code-entry (suc (suc (suc zero))) h = refl
-code-entry (suc (suc (suc (suc j)))) h = absurd (omega arith)
+code_entry : (j : ℕ) → j < 4 → entry_of (get_or rates j 0) ≡ j
+code_entry zero h = refl
+code_entry (suc zero) h = refl
+code_entry (suc (suc zero)) h = refl
+code_entry (suc (suc (suc zero))) h = refl
+code_entry (suc (suc (suc (suc j)))) h = absurd (omega arith)
 
 -- ---- one reading more in any report
 
@@ -200,81 +200,81 @@ either_true false = refl
 
 module _ (p : Report) (o : Outcome) (fair : Fair o.answer) (rows : FullRows p) where
   -- a row of rates, with so much more for a frame at the entry of its rate
-  rate-more : IsFrame o → (row : List ℕ) (much : ℕ) → length row ≡ 4 → (j x : ℕ) → j < 4
+  rate_more : IsFrame o → (row : List ℕ) (much : ℕ) → length row ≡ 4 → (j x : ℕ) → j < 4
       → OnlyIf (IsFrameAt (get_or rates j 0) o) much x
-      → get_or (more (entryOf o.answer.rate) much row) j 0 ≡ get_or row j 0 + x
-  rate-more z row much four j x h s =
-      getD-more (entryOf o.answer.rate) much row j (omega arith)
+      → get_or (more (entry_of o.answer.rate) much row) j 0 ≡ get_or row j 0 + x
+  rate_more z row much four j x h s =
+      get_or_more (entry_of o.answer.rate) much row j (omega arith)
       ∙ ap (λ (n : ℕ). get_or row j 0 + n) (by (ℕ_discrete o.answer.rate (get_or rates j 0)))
     where
-      its-code : o.answer.rate ≡ get_or rates (entryOf o.answer.rate) 0
-      its-code = rw (fair.rate-is z) (entry-code fair.rate)
+      its_code : o.answer.rate ≡ get_or rates (entry_of o.answer.rate) 0
+      its_code = rw (fair.rate_is z) (entry_code fair.rate)
 
-      by : Dec (o.answer.rate ≡ get_or rates j 0) → cond (eqb (entryOf o.answer.rate) j) much 0 ≡ x
+      by : Dec (o.answer.rate ≡ get_or rates j 0) → cond (eqb (entry_of o.answer.rate) j) much 0 ≡ x
       by (yes e) =
           ap (λ (t : Bool). cond t much 0)
-          (eq-eqb (entryOf o.answer.rate) j (ap entryOf e ∙ code-entry j h)) ∙ sym (s.0 (z, e))
+          (eq-eqb (entry_of o.answer.rate) j (ap entry_of e ∙ code_entry j h)) ∙ sym (s.0 (z, e))
       by (no n) =
           ap (λ (t : Bool). cond t much 0)
-          (ne_eqb (entryOf o.answer.rate) j (λ e. n (its-code ∙ ap (λ (k : ℕ). get_or rates k 0) e)))
+          (ne_eqb (entry_of o.answer.rate) j (λ e. n (its_code ∙ ap (λ (k : ℕ). get_or rates k 0) e)))
           ∙ sym (s.1 (λ w. n w.1))
 
   number_more : (IsFrame o → ⊥) → (k x : ℕ) → k < 18 → RefusalShare k o x
       → get_or (more o.answer.number 1 p.refused) k 0 ≡ get_or p.refused k 0 + x
   number_more bad k x h s =
-      getD-more o.answer.number 1 p.refused k (omega (arith, rows.refused-eighteen))
+      get_or_more o.answer.number 1 p.refused k (omega (arith, rows.refused_eighteen))
       ∙ ap (λ (n : ℕ). get_or p.refused k 0 + n) (by (ℕ_discrete o.answer.number k))
     where
       by : Dec (o.answer.number ≡ k) → cond (eqb o.answer.number k) 1 0 ≡ x
       by (yes e) = ap (λ (t : Bool). cond t 1 0) (eq-eqb o.answer.number k e) ∙ sym (s.0 (bad, e))
       by (no n) = ap (λ (t : Bool). cond t 1 0) (ne_eqb o.answer.number k n) ∙ sym (s.1 (λ w. n w.1))
 
-  time-more : IsFrame o → (x : ℕ) → AirtimeShare o x → (withFrame p o).airtime ≡ p.airtime + x
-  time-more z x s = by (ℕ_discrete o.kind 0)
+  time_more : IsFrame o → (x : ℕ) → AirtimeShare o x → (with_frame p o).airtime ≡ p.airtime + x
+  time_more z x s = by (ℕ_discrete o.kind 0)
     where
-      by : Dec (o.kind ≡ 0) → (withFrame p o).airtime ≡ p.airtime + x
+      by : Dec (o.kind ≡ 0) → (with_frame p o).airtime ≡ p.airtime + x
       by (yes k) = rw (s.long z k, eq-eqb o.kind 0 k)
       by (no m) = rw (s.short z m, ne_eqb o.kind 0 m)
 
-  taken : isCloser p o.answer.lead ≡ true → LeadIs (withFrame p o) 1 o.answer.lead p.seen
+  taken : is_closer p o.answer.lead ≡ true → LeadIs (with_frame p o) 1 o.answer.lead p.seen
   taken e = (rw e, rw e, rw e)
 
-  kept : isCloser p o.answer.lead ≡ false → LeadIs (withFrame p o) p.some p.lead p.recording
+  kept : is_closer p o.answer.lead ≡ false → LeadIs (with_frame p o) p.some p.lead p.recording
   kept e = (rw e, rw e, rw e)
 
-  frame-more : IsFrame o → OneMore p o (withFrame p o)
-  frame-more z = record {
+  frame_more : IsFrame o → OneMore p o (with_frame p o)
+  frame_more z = record {
     seen_more = refl;
     rows_stay = record {
-      frames-four = length_more (entryOf o.answer.rate) 1 p.frames ∙ rows.frames-four;
-      octets-four = length_more (entryOf o.answer.rate) o.answer.n p.octets ∙ rows.octets-four;
-      refused-eighteen = rows.refused-eighteen;
+      frames_four = length_more (entry_of o.answer.rate) 1 p.frames ∙ rows.frames_four;
+      octets_four = length_more (entry_of o.answer.rate) o.answer.n p.octets ∙ rows.octets_four;
+      refused_eighteen = rows.refused_eighteen;
     };
-    frames-more = rate-more z p.frames 1 rows.frames-four;
-    octets-more = rate-more z p.octets o.answer.n rows.octets-four;
-    refused-more = λ number x h s. unchanged (get_or p.refused number 0) x (s.1 (λ w. w.0 z));
-    airtime-more = time-more z;
-    first-lead = λ _ e. taken (rw (eq-eqb p.some 0 e));
-    smaller-lead = λ _ h. taken (rw (lt-ltb o.answer.lead p.lead h) (either_true (eqb p.some 0)));
-    other-lead = λ _ n h. kept (rw (ne_eqb p.some 0 n, le-ltb o.answer.lead p.lead h));
+    frames_more = rate_more z p.frames 1 rows.frames_four;
+    octets_more = rate_more z p.octets o.answer.n rows.octets_four;
+    refused_more = λ number x h s. unchanged (get_or p.refused number 0) x (s.1 (λ w. w.0 z));
+    airtime_more = time_more z;
+    first_lead = λ _ e. taken (rw (eq-eqb p.some 0 e));
+    smaller_lead = λ _ h. taken (rw (lt-ltb o.answer.lead p.lead h) (either_true (eqb p.some 0)));
+    other_lead = λ _ n h. kept (rw (ne_eqb p.some 0 n, le-ltb o.answer.lead p.lead h));
     no_lead = λ n. absurd (n z);
   }
 
-  refusal-more : (IsFrame o → ⊥) → OneMore p o (withRefusal p o)
-  refusal-more bad = record {
+  refusal_more : (IsFrame o → ⊥) → OneMore p o (with_refusal p o)
+  refusal_more bad = record {
     seen_more = refl;
     rows_stay = record {
-      frames-four = rows.frames-four;
-      octets-four = rows.octets-four;
-      refused-eighteen = length_more o.answer.number 1 p.refused ∙ rows.refused-eighteen;
+      frames_four = rows.frames_four;
+      octets_four = rows.octets_four;
+      refused_eighteen = length_more o.answer.number 1 p.refused ∙ rows.refused_eighteen;
     };
-    frames-more = λ j x h s. unchanged (get_or p.frames j 0) x (s.1 (λ w. bad w.0));
-    octets-more = λ j x h s. unchanged (get_or p.octets j 0) x (s.1 (λ w. bad w.0));
-    refused-more = number_more bad;
-    airtime-more = λ x s. unchanged p.airtime x (s.refused bad);
-    first-lead = λ z. absurd (bad z);
-    smaller-lead = λ z. absurd (bad z);
-    other-lead = λ z. absurd (bad z);
+    frames_more = λ j x h s. unchanged (get_or p.frames j 0) x (s.1 (λ w. bad w.0));
+    octets_more = λ j x h s. unchanged (get_or p.octets j 0) x (s.1 (λ w. bad w.0));
+    refused_more = number_more bad;
+    airtime_more = λ x s. unchanged p.airtime x (s.refused bad);
+    first_lead = λ z. absurd (bad z);
+    smaller_lead = λ z. absurd (bad z);
+    other_lead = λ z. absurd (bad z);
     no_lead = λ _. (refl, refl, refl);
   }
 
@@ -283,13 +283,13 @@ module _ (p : Report) (o : Outcome) (fair : Fair o.answer) (rows : FullRows p) w
   -- rule: 6.19
   -- code: with_frame, with_refusal
   -- with: OneMore
-  pub added-any : OneMore p o (added p o)
+  pub added_any : OneMore p o (added p o)
   unfolding added
-  added-any = by (ℕ_discrete o.answer.number 0)
+  added_any = by (ℕ_discrete o.answer.number 0)
     where
-      by : Dec (o.answer.number ≡ 0) → OneMore p o (cond (accepted o) (withFrame p o) (withRefusal p o))
-      by (yes z) = rw (eq-eqb o.answer.number 0 z) (frame-more z)
-      by (no n) = rw (ne_eqb o.answer.number 0 n) (refusal-more n)
+      by : Dec (o.answer.number ≡ 0) → OneMore p o (cond (accepted o) (with_frame p o) (with_refusal p o))
+      by (yes z) = rw (eq-eqb o.answer.number 0 z) (frame_more z)
+      by (no n) = rw (ne_eqb o.answer.number 0 n) (refusal_more n)
 
 -- ---- and no other report is
 
@@ -302,25 +302,25 @@ module _ (p : Report) (o : Outcome) (q r : Report) (a : OneMore p o q) (b : OneM
       → LeadIs q r.some r.lead r.recording
   alike s t = (s.0 ∙ sym t.0, s.1 ∙ sym t.1, s.2 ∙ sym t.2)
 
-  lead-only : Dec (o.answer.number ≡ 0) → Dec (p.some ≡ 0) → Dec (o.answer.lead < p.lead)
+  lead_only : Dec (o.answer.number ≡ 0) → Dec (p.some ≡ 0) → Dec (o.answer.lead < p.lead)
       → LeadIs q r.some r.lead r.recording
-  lead-only (no n) s l = alike (a.no_lead n) (b.no_lead n)
-  lead-only (yes z) (yes s) l = alike (a.first-lead z s) (b.first-lead z s)
-  lead-only (yes z) (no s) (yes l) = alike (a.smaller-lead z l) (b.smaller-lead z l)
-  lead-only (yes z) (no s) (no l) = alike (a.other-lead z s (omega arith)) (b.other-lead z s (omega arith))
+  lead_only (no n) s l = alike (a.no_lead n) (b.no_lead n)
+  lead_only (yes z) (yes s) l = alike (a.first_lead z s) (b.first_lead z s)
+  lead_only (yes z) (no s) (yes l) = alike (a.smaller_lead z l) (b.smaller_lead z l)
+  lead_only (yes z) (no s) (no l) = alike (a.other_lead z s (omega arith)) (b.other_lead z s (omega arith))
 
-  pub more-only : q ≡ r
-  more-only =
+  pub more_only : q ≡ r
+  more_only =
       let lead =
-      lead-only (ℕ_discrete o.answer.number 0) (ℕ_discrete p.some 0) (dec_lt o.answer.lead p.lead) in
+      lead_only (ℕ_discrete o.answer.number 0) (ℕ_discrete p.some 0) (dec_lt o.answer.lead p.lead) in
       λ i. record {
         seen = (a.seen_more ∙ sym b.seen_more) i;
-        frames = same_row 4 q.frames r.frames a.rows_stay.frames-four b.rows_stay.frames-four frames i;
-        octets = same_row 4 q.octets r.octets a.rows_stay.octets-four b.rows_stay.octets-four octets i;
+        frames = same_row 4 q.frames r.frames a.rows_stay.frames_four b.rows_stay.frames_four frames i;
+        octets = same_row 4 q.octets r.octets a.rows_stay.octets_four b.rows_stay.octets_four octets i;
         refused =
-            same_row 18 q.refused r.refused a.rows_stay.refused-eighteen b.rows_stay.refused-eighteen
+            same_row 18 q.refused r.refused a.rows_stay.refused_eighteen b.rows_stay.refused_eighteen
             refused i;
-        airtime = (a.airtime-more _ (timed o).is_share ∙ sym (b.airtime-more _ (timed o).is_share)) i;
+        airtime = (a.airtime_more _ (timed o).is_share ∙ sym (b.airtime_more _ (timed o).is_share)) i;
         some = lead.0 i;
         lead = lead.1 i;
         recording = lead.2 i;
@@ -328,14 +328,14 @@ module _ (p : Report) (o : Outcome) (q r : Report) (a : OneMore p o q) (b : OneM
     where
       frames : (j : ℕ) → j < 4 → get_or q.frames j 0 ≡ get_or r.frames j 0
       frames j h =
-          let s = by-test 1 (frame-decides (get_or rates j 0) o) in
-          a.frames-more j _ h s ∙ sym (b.frames-more j _ h s)
+          let s = by_test 1 (frame_decides (get_or rates j 0) o) in
+          a.frames_more j _ h s ∙ sym (b.frames_more j _ h s)
 
       octets : (j : ℕ) → j < 4 → get_or q.octets j 0 ≡ get_or r.octets j 0
       octets j h =
-          let s = by-test o.answer.n (frame-decides (get_or rates j 0) o) in
-          a.octets-more j _ h s ∙ sym (b.octets-more j _ h s)
+          let s = by_test o.answer.n (frame_decides (get_or rates j 0) o) in
+          a.octets_more j _ h s ∙ sym (b.octets_more j _ h s)
 
       refused : (j : ℕ) → j < 18 → get_or q.refused j 0 ≡ get_or r.refused j 0
       refused j h =
-          let s = by-test 1 (refusal-decides j o) in a.refused-more j _ h s ∙ sym (b.refused-more j _ h s)
+          let s = by_test 1 (refusal_decides j o) in a.refused_more j _ h s ∙ sym (b.refused_more j _ h s)

@@ -6,7 +6,7 @@ use mathlib.Core.List.{List, [], ◌∷◌, ◌++◌}
 use Prim.Native.Nat.{ℕ}
 use lib.ListN.{length, replicate}
 use Rattle.rules_report.specs.declared.Report.{Report}
-use Rattle.rules_report.specs.Text.{word, digits, places, decimal, refusedLines, text_of, spelledOf, textLeft}
+use Rattle.rules_report.specs.Text.{word, digits, places, decimal, refused_lines, text_of, spelled_of, text_left}
 
 -- ---- words and numbers
 
@@ -34,10 +34,10 @@ unfolding word digits places decimal
 large = (refl, refl, refl)
 
 -- the rate codes
-pub code-digits : (length (decimal 10) ≡ 2) × (length (decimal 20) ≡ 2) × (length (decimal 55) ≡ 2)
+pub code_digits : (length (decimal 10) ≡ 2) × (length (decimal 20) ≡ 2) × (length (decimal 55) ≡ 2)
     × (length (decimal 110) ≡ 3)
 unfolding digits places decimal
-code-digits = (refl, refl, refl, refl)
+code_digits = (refl, refl, refl, refl)
 
 -- ---- whole texts
 
@@ -55,11 +55,11 @@ zeros =
       recording = 0;
     }
 
-zeros-text : text_of zeros
+zeros_text : text_of zeros
     ≡ word "rate 10 frames 0 octets 0\n" ++ word "rate 20 frames 0 octets 0\n" ++ word "rate 55 frames 0 octets 0\n"
     ++ word "rate 110 frames 0 octets 0\n" ++ word "airtime 0\n" ++ word "lead none\n"
-unfolding word digits places decimal refusedLines text_of
-zeros-text = refl
+unfolding word digits places decimal refused_lines text_of
+zeros_text = refl
 
 -- all numbers different: refusals from 1 on, and no line of what was seen or of entry 0; lead 0 is a lead
 abbrev different : Report
@@ -77,7 +77,7 @@ different =
       recording = 56;
     }
 
-different-text : text_of different
+different_text : text_of different
     ≡ word "rate 10 frames 31 octets 45\n" ++ word "rate 20 frames 32 octets 46\n"
     ++ word "rate 55 frames 33 octets 47\n" ++ word "rate 110 frames 34 octets 48\n" ++ word "refused 1 count 101\n"
     ++ word "refused 2 count 102\n" ++ word "refused 3 count 103\n" ++ word "refused 4 count 104\n"
@@ -86,8 +86,8 @@ different-text : text_of different
     ++ word "refused 11 count 111\n" ++ word "refused 12 count 112\n" ++ word "refused 13 count 113\n"
     ++ word "refused 14 count 114\n" ++ word "refused 15 count 115\n" ++ word "refused 16 count 116\n"
     ++ word "refused 17 count 117\n" ++ word "airtime 78901\n" ++ word "lead 0 recording 56\n"
-unfolding word digits places decimal refusedLines text_of
-different-text = refl
+unfolding word digits places decimal refused_lines text_of
+different_text = refl
 
 -- refusals met, and no others; any number but 0 tells that there is a lead, and 0 that there is none
 abbrev few : ℕ → ℕ → ℕ → Report
@@ -103,17 +103,17 @@ few some lead recording =
       recording = recording;
     }
 
-abbrev fewLines : List ℕ
-fewLines =
+abbrev few_lines : List ℕ
+few_lines =
     word "rate 10 frames 1 octets 4095\n" ++ word "rate 20 frames 0 octets 0\n"
     ++ word "rate 55 frames 0 octets 0\n" ++ word "rate 110 frames 0 octets 0\n" ++ word "refused 1 count 5\n"
     ++ word "refused 12 count 3\n" ++ word "refused 17 count 1\n" ++ word "airtime 33\n"
 
-few-text : (text_of (few 7 5 0) ≡ fewLines ++ word "lead 5 recording 0\n")
-    × (text_of (few 1 0 3) ≡ fewLines ++ word "lead 0 recording 3\n")
-    × (text_of (few 0 5 3) ≡ fewLines ++ word "lead none\n")
-unfolding word digits places decimal refusedLines text_of
-few-text = (refl, refl, refl)
+few_text : (text_of (few 7 5 0) ≡ few_lines ++ word "lead 5 recording 0\n")
+    × (text_of (few 1 0 3) ≡ few_lines ++ word "lead 0 recording 3\n")
+    × (text_of (few 0 5 3) ≡ few_lines ++ word "lead none\n")
+unfolding word digits places decimal refused_lines text_of
+few_text = (refl, refl, refl)
 
 -- the longest: all numbers are the largest of 64 bits
 abbrev all : ℕ → Report
@@ -130,22 +130,22 @@ all n =
     }
 
 longest : length (text_of (all 18446744073709551615)) ≡ 980
-unfolding word digits places decimal refusedLines text_of
+unfolding word digits places decimal refused_lines text_of
 longest = refl
 
 -- ---- the call
 
 -- 125 octets of text: no room for the last, just room, and two octets behind it
-no_room : (spelledOf zeros 124 ≡ record { number = 17; octets = 0 }) × (textLeft zeros 124 ≡ replicate 124 0)
-    × (textLeft zeros 0 ≡ [])
-unfolding word digits places decimal refusedLines text_of spelledOf textLeft
+no_room : (spelled_of zeros 124 ≡ record { number = 17; octets = 0 }) × (text_left zeros 124 ≡ replicate 124 0)
+    × (text_left zeros 0 ≡ [])
+unfolding word digits places decimal refused_lines text_of spelled_of text_left
 no_room = (refl, refl, refl)
 
-just-room : (spelledOf zeros 125 ≡ record { number = 0; octets = 125 }) × (textLeft zeros 125 ≡ text_of zeros)
-unfolding word digits places decimal refusedLines text_of spelledOf textLeft
-just-room = (refl, refl)
+just_room : (spelled_of zeros 125 ≡ record { number = 0; octets = 125 }) × (text_left zeros 125 ≡ text_of zeros)
+unfolding word digits places decimal refused_lines text_of spelled_of text_left
+just_room = (refl, refl)
 
-more_room : (spelledOf zeros 127 ≡ record { number = 0; octets = 125 })
-    × (textLeft zeros 127 ≡ text_of zeros ++ (0 ∷ 0 ∷ []))
-unfolding word digits places decimal refusedLines text_of spelledOf textLeft
+more_room : (spelled_of zeros 127 ≡ record { number = 0; octets = 125 })
+    × (text_left zeros 127 ≡ text_of zeros ++ (0 ∷ 0 ∷ []))
+unfolding word digits places decimal refused_lines text_of spelled_of text_left
 more_room = (refl, refl)

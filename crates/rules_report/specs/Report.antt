@@ -6,19 +6,19 @@ use Rattle.std.proofs.Math.Option.{Option, none, some}
 use Rattle.base.specs.Tables.{tabulate}
 use Rattle.rules_rates.specs.declared.Rate.{Rate}
 use Rattle.rules_rates.specs.declared.Rate.TheVariants.{One, Two, Five, Eleven}
-use Rattle.rules_rates.specs.Rates.{code_of, rateOf}
+use Rattle.rules_rates.specs.Rates.{code_of, rate_of}
 use Rattle.rules_report.specs.Totals.{
   Recording,
   Outcome,
-  outcomeOf,
+  outcome_of,
   accepted,
-  framesAt,
-  octetsAt,
-  refusedWith,
-  frontTime,
-  airtimeOf,
+  frames_at,
+  octets_at,
+  refused_with,
+  front_time,
+  airtime_of,
   Closest,
-  closestFrom,
+  closest_from,
 }
 use Rattle.rules_report.specs.declared.Report.{Report}
 use Rattle.rules_report.specs.declared.Counted.{Counted}
@@ -30,17 +30,17 @@ abbrev pub codes : List ℕ
 codes = code_of One ∷ code_of Two ∷ code_of Five ∷ code_of Eleven ∷ []
 
 -- whether there is a smallest lead, and what is told of it: lead 0 is a lead
-abbrev pub isThere : Option Closest → ℕ
-isThere none = 0
-isThere (some c) = 1
+abbrev pub is_there : Option Closest → ℕ
+is_there none = 0
+is_there (some c) = 1
 
-abbrev pub leadTold : Option Closest → ℕ
-leadTold none = 0
-leadTold (some c) = c.lead
+abbrev pub lead_told : Option Closest → ℕ
+lead_told none = 0
+lead_told (some c) = c.lead
 
-abbrev pub recordingTold : Option Closest → ℕ
-recordingTold none = 0
-recordingTold (some c) = c.recording
+abbrev pub recording_told : Option Closest → ℕ
+recording_told none = 0
+recording_told (some c) = c.recording
 
 -- the report at first: all zeros. It is the report of no recording (`none-counted` of proofs/Lists.antt)
 abbrev pub empty : Report
@@ -56,17 +56,17 @@ empty =
       recording = 0;
     }
 
-unfoldable pub reportOf : List Outcome → Report
-reportOf os =
+unfoldable pub report_of : List Outcome → Report
+report_of os =
     record {
       seen = length os;
       frames = map (λ code. framesAt code os) codes;
       octets = map (λ code. octetsAt code os) codes;
       refused = tabulate (λ number. refusedWith number os) 18;
-      airtime = airtimeOf os;
-      some = isThere (closestFrom 0 os);
-      lead = leadTold (closestFrom 0 os);
-      recording = recordingTold (closestFrom 0 os);
+      airtime = airtime_of os;
+      some = is_there (closest_from 0 os);
+      lead = lead_told (closest_from 0 os);
+      recording = recording_told (closest_from 0 os);
     }
 
 -- ---- one recording more, whatever the report
@@ -78,36 +78,36 @@ more zero x (y ∷ ys) = (y + x) ∷ ys
 more (suc k) x (y ∷ ys) = y ∷ more k x ys
 
 -- the entry of a rate, by its code
-abbrev pub rateEntry : Rate → ℕ
-rateEntry One = 0
-rateEntry Two = 1
-rateEntry Five = 2
-rateEntry Eleven = 3
+abbrev pub rate_entry : Rate → ℕ
+rate_entry One = 0
+rate_entry Two = 1
+rate_entry Five = 2
+rate_entry Eleven = 3
 
-abbrev pub entryOf : ℕ → ℕ
-entryOf code = rateEntry (rateOf code)
+abbrev pub entry_of : ℕ → ℕ
+entry_of code = rate_entry (rate_of code)
 
 -- a frame's lead is taken if none was before, or if it is smaller: so the first of equals stays
-abbrev pub isCloser : Report → ℕ → Bool
-isCloser p lead = eqb p.some 0 || ltb lead p.lead
+abbrev pub is_closer : Report → ℕ → Bool
+is_closer p lead = eqb p.some 0 || ltb lead p.lead
 
-abbrev pub withFrame : Report → Outcome → Report
-withFrame p o =
+abbrev pub with_frame : Report → Outcome → Report
+with_frame p o =
     let a = o.answer in
-    let closer = isCloser p a.lead in
+    let closer = is_closer p a.lead in
     record {
       seen = p.seen + 1;
-      frames = more (entryOf a.rate) 1 p.frames;
-      octets = more (entryOf a.rate) a.n p.octets;
+      frames = more (entry_of a.rate) 1 p.frames;
+      octets = more (entry_of a.rate) a.n p.octets;
       refused = p.refused;
-      airtime = p.airtime + (frontTime o.kind + a.length);
+      airtime = p.airtime + (front_time o.kind + a.length);
       some = cond closer 1 p.some;
       lead = cond closer a.lead p.lead;
       recording = cond closer p.seen p.recording;
     }
 
-abbrev pub withRefusal : Report → Outcome → Report
-withRefusal p o =
+abbrev pub with_refusal : Report → Outcome → Report
+with_refusal p o =
     record {
       seen = p.seen + 1;
       frames = p.frames;
@@ -120,7 +120,7 @@ withRefusal p o =
     }
 
 unfoldable pub added : Report → Outcome → Report
-added p o = cond (accepted o) (withFrame p o) (withRefusal p o)
+added p o = cond (accepted o) (with_frame p o) (with_refusal p o)
 
 -- ---- the calls
 
@@ -136,8 +136,8 @@ at_most m (x ∷ xs) = leb x m && at_most m xs
 -- rule: 6.4 (31), 6.19
 -- code: takes_more, of_list
 -- with: list_of
-unfoldable pub takesMore : Report → Bool
-takesMore p =
+unfoldable pub takes_more : Report → Bool
+takes_more p =
     ltb p.seen 1000 && at_most 1000 p.frames && at_most 4095000 p.octets && at_most 1000 p.refused
     && leb p.airtime 32952000
 
@@ -145,15 +145,15 @@ takesMore p =
 -- that the code computes. `takes` and `limits-take` of proofs/Lists.antt join the two.
 pub record Limits (p : Report) : Type 0 where
   pub seen_below : p.seen < 1000
-  pub frames-within : (j : ℕ) → get_or p.frames j 0 ≤ 1000
-  pub octets-within : (j : ℕ) → get_or p.octets j 0 ≤ 4095000
-  pub refused-within : (j : ℕ) → get_or p.refused j 0 ≤ 1000
-  pub airtime-within : p.airtime ≤ 32952000
+  pub frames_within : (j : ℕ) → get_or p.frames j 0 ≤ 1000
+  pub octets_within : (j : ℕ) → get_or p.octets j 0 ≤ 4095000
+  pub refused_within : (j : ℕ) → get_or p.refused j 0 ≤ 1000
+  pub airtime_within : p.airtime ≤ 32952000
 
 -- 31: it takes no more, and stays as it stood. Else 0, though the recording's reading may be a refusal
-unfoldable pub countedOf : Report → Recording → Counted
-countedOf p r =
-    cond (takesMore p) (record { number = 0; report = added p (outcomeOf r) }) (record { number = 31; report = p })
+unfoldable pub counted_of : Report → Recording → Counted
+counted_of p r =
+    cond (takes_more p) (record { number = 0; report = added p (outcome_of r) }) (record { number = 31; report = p })
 
 -- recordings from a row of kinds and rows of chips
 unfoldable pub recordings : List ℕ → List (List ℕ) → List Recording
@@ -168,6 +168,6 @@ list_of kinds list =
     cond (eqb (length kinds) (length list))
     (record {
       number = cond (leb (length list) 1000) 0 31;
-      report = reportOf (map outcomeOf (take 1000 (recordings kinds list)));
+      report = report_of (map outcome_of (take 1000 (recordings kinds list)));
     })
     (record { number = 7; report = empty })

@@ -7,9 +7,9 @@ use Rattle.rules_report.specs.declared.Report.{Report}
 use Rattle.rules_report.specs.Text.{word}
 
 -- a number read from its digits, the highest first, behind those read before
-unfoldable pub valueFrom : ℕ → List ℕ → ℕ
-valueFrom before [] = before
-valueFrom before (d ∷ ds) = valueFrom (10 * before + (d - 48)) ds
+unfoldable pub value_from : ℕ → List ℕ → ℕ
+value_from before [] = before
+value_from before (d ∷ ds) = value_from (10 * before + (d - 48)) ds
 
 -- the octets of the digits 0 to 9
 abbrev pub IsDigit : ℕ → Type 0
@@ -17,7 +17,7 @@ IsDigit d = (48 ≤ d) × (d ≤ 57)
 
 -- the decimal digits of a number: at least one, none but digits, and no zero in front of others
 pub record DigitsOf (n : ℕ) (ds : List ℕ) : Type 0 where
-  pub value : valueFrom 0 ds ≡ n
+  pub value : value_from 0 ds ≡ n
   pub some : 1 ≤ length ds
   pub each : (i : ℕ) → i < length ds → IsDigit (get_or ds i 0)
   pub front : 1 < length ds → 48 < get_or ds 0 0
@@ -28,17 +28,17 @@ pub record RateSaid (rate frames octets : ℕ) (line : List ℕ) : Type 0 where
   pub r : List ℕ
   pub f : List ℕ
   pub o : List ℕ
-  pub rate-is : DigitsOf rate r
-  pub frames-are : DigitsOf frames f
-  pub octets-are : DigitsOf octets o
-  pub line-is : line ≡ word "rate " ++ r ++ word " frames " ++ f ++ word " octets " ++ o ++ word "\n"
+  pub rate_is : DigitsOf rate r
+  pub frames_are : DigitsOf frames f
+  pub octets_are : DigitsOf octets o
+  pub line_is : line ≡ word "rate " ++ r ++ word " frames " ++ f ++ word " octets " ++ o ++ word "\n"
 
 pub record CountSaid (number count : ℕ) (line : List ℕ) : Type 0 where
   pub n : List ℕ
   pub c : List ℕ
   pub number_is : DigitsOf number n
-  pub count-is : DigitsOf count c
-  pub line-is : line ≡ word "refused " ++ n ++ word " count " ++ c ++ word "\n"
+  pub count_is : DigitsOf count c
+  pub line_is : line ≡ word "refused " ++ n ++ word " count " ++ c ++ word "\n"
 
 -- no line of a number that was not met
 pub record RefusedSaid (number count : ℕ) (line : List ℕ) : Type 0 where
@@ -53,15 +53,15 @@ pub data RefusalsSaid (refused : List ℕ) : ℕ → List ℕ → Type 0 where
 
 pub record AirtimeSaid (airtime : ℕ) (line : List ℕ) : Type 0 where
   pub a : List ℕ
-  pub airtime-is : DigitsOf airtime a
-  pub line-is : line ≡ word "airtime " ++ a ++ word "\n"
+  pub airtime_is : DigitsOf airtime a
+  pub line_is : line ≡ word "airtime " ++ a ++ word "\n"
 
 pub record WonBySaid (lead recording : ℕ) (line : List ℕ) : Type 0 where
   pub l : List ℕ
   pub r : List ℕ
   pub lead_is : DigitsOf lead l
-  pub recording-is : DigitsOf recording r
-  pub line-is : line ≡ word "lead " ++ l ++ word " recording " ++ r ++ word "\n"
+  pub recording_is : DigitsOf recording r
+  pub line_is : line ≡ word "lead " ++ l ++ word " recording " ++ r ++ word "\n"
 
 pub record LeadSaid (some lead recording : ℕ) (line : List ℕ) : Type 0 where
   pub none : some ≡ 0 → line ≡ word "lead none\n"
@@ -77,20 +77,20 @@ pub record TextSaid (p : Report) (text : List ℕ) : Type 0 where
   pub refusals : List ℕ
   pub airtime : List ℕ
   pub lead : List ℕ
-  pub at-10 : RateSaid 10 (get_or p.frames 0 0) (get_or p.octets 0 0) r10
-  pub at-20 : RateSaid 20 (get_or p.frames 1 0) (get_or p.octets 1 0) r20
-  pub at-55 : RateSaid 55 (get_or p.frames 2 0) (get_or p.octets 2 0) r55
-  pub at-110 : RateSaid 110 (get_or p.frames 3 0) (get_or p.octets 3 0) r110
-  pub refusals-are : RefusalsSaid p.refused 17 refusals
-  pub airtime-is : AirtimeSaid p.airtime airtime
+  pub at_10 : RateSaid 10 (get_or p.frames 0 0) (get_or p.octets 0 0) r10
+  pub at_20 : RateSaid 20 (get_or p.frames 1 0) (get_or p.octets 1 0) r20
+  pub at_55 : RateSaid 55 (get_or p.frames 2 0) (get_or p.octets 2 0) r55
+  pub at_110 : RateSaid 110 (get_or p.frames 3 0) (get_or p.octets 3 0) r110
+  pub refusals_are : RefusalsSaid p.refused 17 refusals
+  pub airtime_is : AirtimeSaid p.airtime airtime
   pub lead_is : LeadSaid p.some p.lead p.recording lead
-  pub text-is : text ≡ r10 ++ r20 ++ r55 ++ r110 ++ refusals ++ airtime ++ lead
+  pub text_is : text ≡ r10 ++ r20 ++ r55 ++ r110 ++ refusals ++ airtime ++ lead
 
 -- numbers of 64 bits are below 10 ^ 20: twenty digits hold each
 pub record Fits (p : Report) : Type 0 where
-  pub frames-fit : (j : ℕ) → get_or p.frames j 0 < 10 ^ 20
-  pub octets-fit : (j : ℕ) → get_or p.octets j 0 < 10 ^ 20
-  pub refused-fit : (j : ℕ) → get_or p.refused j 0 < 10 ^ 20
-  pub airtime-fits : p.airtime < 10 ^ 20
-  pub lead-fits : p.lead < 10 ^ 20
-  pub recording-fits : p.recording < 10 ^ 20
+  pub frames_fit : (j : ℕ) → get_or p.frames j 0 < 10 ^ 20
+  pub octets_fit : (j : ℕ) → get_or p.octets j 0 < 10 ^ 20
+  pub refused_fit : (j : ℕ) → get_or p.refused j 0 < 10 ^ 20
+  pub airtime_fits : p.airtime < 10 ^ 20
+  pub lead_fits : p.lead < 10 ^ 20
+  pub recording_fits : p.recording < 10 ^ 20

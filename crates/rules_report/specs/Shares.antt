@@ -12,9 +12,9 @@ rates = 10 ∷ 20 ∷ 55 ∷ 110 ∷ []
 
 -- four rates, and the numbers 0 to 17: the rows of every report in the machine
 pub record FullRows (p : Report) : Type 0 where
-  pub frames-four : length p.frames ≡ 4
-  pub octets-four : length p.octets ≡ 4
-  pub refused-eighteen : length p.refused ≡ 18
+  pub frames_four : length p.frames ≡ 4
+  pub octets_four : length p.octets ≡ 4
+  pub refused_eighteen : length p.refused ≡ 18
 
 -- ---- the share of one reading
 
@@ -46,8 +46,8 @@ pub record AirtimeShare (o : Outcome) (x : ℕ) : Type 0 where
 
 -- ---- the shares of a list of readings, together
 pub data SumOf (Share : Outcome → ℕ → Type 0) : List Outcome → ℕ → Type 0 where
-  no-share : SumOf Share [] 0
-  and-share : (o : Outcome) (os : List Outcome) (x rest : ℕ) → Share o x → SumOf Share os rest
+  no_share : SumOf Share [] 0
+  and_share : (o : Outcome) (os : List Outcome) (x rest : ℕ) → Share o x → SumOf Share os rest
       → SumOf Share (o ∷ os) (x + rest)
 
 -- ---- one reading more in any report
@@ -60,15 +60,15 @@ LeadIs q some lead recording = (q.some ≡ some) × (q.lead ≡ lead) × (q.reco
 pub record OneMore (p : Report) (o : Outcome) (q : Report) : Type 0 where
   pub seen_more : q.seen ≡ p.seen + 1
   pub rows_stay : FullRows q
-  pub frames-more : (j x : ℕ) → j < 4 → FrameShare (get_or rates j 0) o x
+  pub frames_more : (j x : ℕ) → j < 4 → FrameShare (get_or rates j 0) o x
       → get_or q.frames j 0 ≡ get_or p.frames j 0 + x
-  pub octets-more : (j x : ℕ) → j < 4 → OctetShare (get_or rates j 0) o x
+  pub octets_more : (j x : ℕ) → j < 4 → OctetShare (get_or rates j 0) o x
       → get_or q.octets j 0 ≡ get_or p.octets j 0 + x
-  pub refused-more : (number x : ℕ) → number < 18 → RefusalShare number o x
+  pub refused_more : (number x : ℕ) → number < 18 → RefusalShare number o x
       → get_or q.refused number 0 ≡ get_or p.refused number 0 + x
-  pub airtime-more : (x : ℕ) → AirtimeShare o x → q.airtime ≡ p.airtime + x
-  pub first-lead : IsFrame o → p.some ≡ 0 → LeadIs q 1 o.answer.lead p.seen
-  pub smaller-lead : IsFrame o → o.answer.lead < p.lead → LeadIs q 1 o.answer.lead p.seen
-  pub other-lead : IsFrame o → (p.some ≡ 0 → ⊥) → p.lead ≤ o.answer.lead
+  pub airtime_more : (x : ℕ) → AirtimeShare o x → q.airtime ≡ p.airtime + x
+  pub first_lead : IsFrame o → p.some ≡ 0 → LeadIs q 1 o.answer.lead p.seen
+  pub smaller_lead : IsFrame o → o.answer.lead < p.lead → LeadIs q 1 o.answer.lead p.seen
+  pub other_lead : IsFrame o → (p.some ≡ 0 → ⊥) → p.lead ≤ o.answer.lead
       → LeadIs q p.some p.lead p.recording
   pub no_lead : (IsFrame o → ⊥) → LeadIs q p.some p.lead p.recording

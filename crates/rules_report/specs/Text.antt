@@ -32,47 +32,47 @@ decimal n = digits (places 19 n) n
 
 -- ---- lines
 
-abbrev pub rateLine : ℕ → ℕ → ℕ → List ℕ
-rateLine rate frames octets =
+abbrev pub rate_line : ℕ → ℕ → ℕ → List ℕ
+rate_line rate frames octets =
     word "rate " ++ decimal rate ++ word " frames " ++ decimal frames ++ word " octets " ++ decimal octets ++ word "\n"
 
 -- only of numbers met
-abbrev pub refusedLine : ℕ → ℕ → List ℕ
-refusedLine number count =
+abbrev pub refused_line : ℕ → ℕ → List ℕ
+refused_line number count =
     cond (eqb count 0) [] (word "refused " ++ decimal number ++ word " count " ++ decimal count ++ word "\n")
 
 -- of the numbers 1 to m, rising
-unfoldable pub refusedLines : ℕ → List ℕ → List ℕ
-refusedLines zero refused = []
-refusedLines (suc m) refused = refusedLines m refused ++ refusedLine (suc m) (get_or refused (suc m) 0)
+unfoldable pub refused_lines : ℕ → List ℕ → List ℕ
+refused_lines zero refused = []
+refused_lines (suc m) refused = refused_lines m refused ++ refused_line (suc m) (get_or refused (suc m) 0)
 
-abbrev pub airtimeLine : ℕ → List ℕ
-airtimeLine airtime = word "airtime " ++ decimal airtime ++ word "\n"
+abbrev pub airtime_line : ℕ → List ℕ
+airtime_line airtime = word "airtime " ++ decimal airtime ++ word "\n"
 
-abbrev pub leadLine : ℕ → ℕ → ℕ → List ℕ
-leadLine some lead recording =
+abbrev pub lead_line : ℕ → ℕ → ℕ → List ℕ
+lead_line some lead recording =
     cond (eqb some 0) (word "lead none\n")
     (word "lead " ++ decimal lead ++ word " recording " ++ decimal recording ++ word "\n")
 
 unfoldable pub text_of : Report → List ℕ
 text_of p =
-    rateLine (code_of One) (get_or p.frames 0 0) (get_or p.octets 0 0)
-    ++ rateLine (code_of Two) (get_or p.frames 1 0) (get_or p.octets 1 0)
-    ++ rateLine (code_of Five) (get_or p.frames 2 0) (get_or p.octets 2 0)
-    ++ rateLine (code_of Eleven) (get_or p.frames 3 0) (get_or p.octets 3 0)
-    ++ refusedLines 17 p.refused
-    ++ airtimeLine p.airtime
-    ++ leadLine p.some p.lead p.recording
+    rate_line (code_of One) (get_or p.frames 0 0) (get_or p.octets 0 0)
+    ++ rate_line (code_of Two) (get_or p.frames 1 0) (get_or p.octets 1 0)
+    ++ rate_line (code_of Five) (get_or p.frames 2 0) (get_or p.octets 2 0)
+    ++ rate_line (code_of Eleven) (get_or p.frames 3 0) (get_or p.octets 3 0)
+    ++ refused_lines 17 p.refused
+    ++ airtime_line p.airtime
+    ++ lead_line p.some p.lead p.recording
 
 -- ---- the call
 
 -- 17: the octet buffer is shorter than the text
-unfoldable pub spelledOf : Report → ℕ → Spelled
-spelledOf p room =
+unfoldable pub spelled_of : Report → ℕ → Spelled
+spelled_of p room =
     cond (ltb room (length (text_of p))) (record { number = 17; octets = 0 })
     (record { number = 0; octets = length (text_of p) })
 
 -- as much of the text as is told, the whole or nothing, and zeros after it
-unfoldable pub textLeft : Report → ℕ → List ℕ
-textLeft p room =
-    let told = (spelledOf p room).octets in take told (text_of p) ++ replicate (room - told) 0
+unfoldable pub text_left : Report → ℕ → List ℕ
+text_left p room =
+    let told = (spelled_of p room).octets in take told (text_of p) ++ replicate (room - told) 0

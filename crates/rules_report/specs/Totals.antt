@@ -2,9 +2,9 @@
 -- Definitions only. Assumes nothing.
 use Rattle.std.specs.Prelude.{ℕ, suc, ◌+◌, Bool, true, cond, not, ◌&&◌, List, [], ◌∷◌, eqb, ltb}
 use Rattle.std.proofs.Math.Option.{Option, none, some}
-use Rattle.rules_chips.specs.Chips.{hardRecording}
+use Rattle.rules_chips.specs.Chips.{hard_recording}
 use Rattle.rules_calls.specs.declared.Record.{Record}
-use Rattle.rules_calls.specs.Answers.{recordOf}
+use Rattle.rules_calls.specs.Answers.{record_of}
 use Rattle.rules_reading.specs.Reading.{reading_of}
 
 -- a recording as it is handed in: a kind, which may be none, and hard chips
@@ -18,9 +18,9 @@ pub record Outcome : Type 0 where
   pub answer : Record
 
 -- each is read with room for 4,095 octets
-abbrev pub outcomeOf : Recording → Outcome
-outcomeOf r =
-    record { kind = r.kind; answer = recordOf (reading_of r.kind true (hardRecording r.chips) 4095) }
+abbrev pub outcome_of : Recording → Outcome
+outcome_of r =
+    record { kind = r.kind; answer = record_of (reading_of r.kind true (hard_recording r.chips) 4095) }
 
 -- ---- totals
 
@@ -32,27 +32,27 @@ total f (o ∷ os) = f o + total f os
 abbrev pub accepted : Outcome → Bool
 accepted o = eqb o.answer.number 0
 
-abbrev pub acceptedAt : ℕ → Outcome → Bool
-acceptedAt code o = accepted o && eqb o.answer.rate code
+abbrev pub accepted_at : ℕ → Outcome → Bool
+accepted_at code o = accepted o && eqb o.answer.rate code
 
 -- frames accepted of a rate, by its code, and their octets
-abbrev pub framesAt : ℕ → List Outcome → ℕ
-framesAt code os = total (λ o. cond (acceptedAt code o) 1 0) os
+abbrev pub frames_at : ℕ → List Outcome → ℕ
+frames_at code os = total (λ o. cond (accepted_at code o) 1 0) os
 
-abbrev pub octetsAt : ℕ → List Outcome → ℕ
-octetsAt code os = total (λ o. cond (acceptedAt code o) o.answer.n 0) os
+abbrev pub octets_at : ℕ → List Outcome → ℕ
+octets_at code os = total (λ o. cond (accepted_at code o) o.answer.n 0) os
 
 -- recordings refused with a number
-abbrev pub refusedWith : ℕ → List Outcome → ℕ
-refusedWith number os = total (λ o. cond (not (accepted o) && eqb o.answer.number number) 1 0) os
+abbrev pub refused_with : ℕ → List Outcome → ℕ
+refused_with number os = total (λ o. cond (not (accepted o) && eqb o.answer.number number) 1 0) os
 
 -- microseconds of a front: 192 of a long one, 96 of a short one, by the kind handed in
-abbrev pub frontTime : ℕ → ℕ
-frontTime kind = cond (eqb kind 0) 192 96
+abbrev pub front_time : ℕ → ℕ
+front_time kind = cond (eqb kind 0) 192 96
 
 -- microseconds of the frames accepted: each its front and LENGTH
-abbrev pub airtimeOf : List Outcome → ℕ
-airtimeOf os = total (λ o. cond (accepted o) (frontTime o.kind + o.answer.length) 0) os
+abbrev pub airtime_of : List Outcome → ℕ
+airtime_of os = total (λ o. cond (accepted o) (front_time o.kind + o.answer.length) 0) os
 
 -- ---- the smallest lead of the frames accepted, and the recording that it came from
 
@@ -66,7 +66,7 @@ closer lead at none = record { lead = lead; recording = at }
 closer lead at (some c) = cond (ltb c.lead lead) c (record { lead = lead; recording = at })
 
 -- recordings are counted from `at` on, refused ones too; none, if no frame was accepted
-unfoldable pub closestFrom : ℕ → List Outcome → Option Closest
-closestFrom at [] = none
-closestFrom at (o ∷ os) =
-    cond (accepted o) (some (closer o.answer.lead at (closestFrom (suc at) os))) (closestFrom (suc at) os)
+unfoldable pub closest_from : ℕ → List Outcome → Option Closest
+closest_from at [] = none
+closest_from at (o ∷ os) =
+    cond (accepted o) (some (closer o.answer.lead at (closest_from (suc at) os))) (closest_from (suc at) os)

@@ -1,6 +1,6 @@
 -- The order of reading, followed once: what a store that is not refused has passed, and what passes is read.
---     read-twenty-one to read-twenty-seven, read-full      each refusal, past those before it
---     read-passed, read-good      a store that is read has passed them all
+--     read_twenty_one to read_twenty_seven, read_full      each refusal, past those before it
+--     read_passed, read_good      a store that is read has passed them all
 -- Assumes nothing.
 use mathlib.Core.Path.{◌≡◌, refl, sym, ap, ◌∙◌}
 use mathlib.Core.Bool.{Bool, true, false, cond, not}
@@ -21,11 +21,11 @@ use Rattle.rules_store.specs.Store.{
   passable,
   complete,
   single,
-  allowedSettings,
+  allowed_settings,
   value_of,
-  noSettings,
+  no_settings,
   settings,
-  storeRead,
+  store_read,
 }
 
 -- past refusals 21 to 24
@@ -45,34 +45,34 @@ pub record Full (octets : List ℕ) : Type 0 where
 abbrev pub values_of : List ℕ → Settings
 values_of octets = settings (value_of 1 octets) (value_of 2 octets) (value_of 3 octets)
 
-abbrev pub valuesAllowed : List ℕ → Bool
-valuesAllowed octets = allowedSettings (value_of 1 octets) (value_of 2 octets) (value_of 3 octets)
+abbrev pub values_allowed : List ℕ → Bool
+values_allowed octets = allowed_settings (value_of 1 octets) (value_of 2 octets) (value_of 3 octets)
 
 -- the order as a function of the tests
 order : Bool → Bool → Bool → Bool → Bool → Bool → Bool → Bool → Settings → Settings
 order long most rises out passes whole ones good s =
-    cond (not long) (noSettings 21)
-    (cond (not most) (noSettings 22)
-    (cond (not rises) (noSettings 23)
-    (cond (not out) (noSettings 24)
-    (cond (not passes) (noSettings 25)
-    (cond (not whole) (noSettings 26) (cond (not ones) (noSettings 27) (cond (not good) (noSettings 28) s)))))))
+    cond (not long) (no_settings 21)
+    (cond (not most) (no_settings 22)
+    (cond (not rises) (no_settings 23)
+    (cond (not out) (no_settings 24)
+    (cond (not passes) (no_settings 25)
+    (cond (not whole) (no_settings 26) (cond (not ones) (no_settings 27) (cond (not good) (no_settings 28) s)))))))
 
 abbrev tests : List ℕ → Bool → Bool → Settings
 tests octets long most =
     order long most (rising 0 (entries octets))
     (laid (table_end (count octets)) (entries octets) (length octets)) (passable (entries octets))
-    (complete (entries octets)) (single (entries octets)) (valuesAllowed octets) (values_of octets)
+    (complete (entries octets)) (single (entries octets)) (values_allowed octets) (values_of octets)
 
-ordered : (octets : List ℕ) → storeRead octets
+ordered : (octets : List ℕ) → store_read octets
     ≡ tests octets (tabled octets) (few octets)
-unfolding storeRead order
+unfolding store_read order
 ordered octets = refl
 
-read-on : (octets : List ℕ) → Sound octets → storeRead octets
+read_on : (octets : List ℕ) → Sound octets → store_read octets
     ≡ order true true true true (passable (entries octets)) (complete (entries octets)) (single (entries octets))
-    (valuesAllowed octets) (values_of octets)
-read-on octets s =
+    (values_allowed octets) (values_of octets)
+read_on octets s =
     ordered octets
     ∙ rw (
       le-leb (table_end (count octets)) (length octets) s.long,
@@ -81,88 +81,88 @@ read-on octets s =
       s.out,
     )
 
-pub read-twenty-one : (octets : List ℕ) → length octets < table_end (count octets) → storeRead octets ≡ noSettings 21
+pub read_twenty_one : (octets : List ℕ) → length octets < table_end (count octets) → store_read octets ≡ no_settings 21
 unfolding order
-read-twenty-one octets h = ordered octets ∙ rw (lt-leb (table_end (count octets)) (length octets) h)
+read_twenty_one octets h = ordered octets ∙ rw (lt-leb (table_end (count octets)) (length octets) h)
 
 module _ (octets : List ℕ) (h : table_end (count octets) ≤ length octets) where
   long : tabled octets ≡ true
   long = le-leb (table_end (count octets)) (length octets) h
 
-  pub read-twenty-two : 16 < count octets → storeRead octets ≡ noSettings 22
+  pub read_twenty_two : 16 < count octets → store_read octets ≡ no_settings 22
   unfolding order
-  read-twenty-two k = ordered octets ∙ rw (long, lt-leb (count octets) 16 k)
+  read_twenty_two k = ordered octets ∙ rw (long, lt-leb (count octets) 16 k)
 
-  pub read-twenty-three : count octets ≤ 16 → rising 0 (entries octets) ≡ false → storeRead octets ≡ noSettings 23
+  pub read_twenty_three : count octets ≤ 16 → rising 0 (entries octets) ≡ false → store_read octets ≡ no_settings 23
   unfolding order
-  read-twenty-three k e = ordered octets ∙ rw (long, le-leb (count octets) 16 k, e)
+  read_twenty_three k e = ordered octets ∙ rw (long, le-leb (count octets) 16 k, e)
 
-  pub read-twenty-four : count octets ≤ 16 → rising 0 (entries octets) ≡ true
-      → laid (table_end (count octets)) (entries octets) (length octets) ≡ false → storeRead octets ≡ noSettings 24
+  pub read_twenty_four : count octets ≤ 16 → rising 0 (entries octets) ≡ true
+      → laid (table_end (count octets)) (entries octets) (length octets) ≡ false → store_read octets ≡ no_settings 24
   unfolding order
-  read-twenty-four k r e = ordered octets ∙ rw (long, le-leb (count octets) 16 k, r, e)
+  read_twenty_four k r e = ordered octets ∙ rw (long, le-leb (count octets) 16 k, r, e)
 
-pub read-twenty-five : (octets : List ℕ) → Sound octets → passable (entries octets) ≡ false
-    → storeRead octets ≡ noSettings 25
+pub read_twenty_five : (octets : List ℕ) → Sound octets → passable (entries octets) ≡ false
+    → store_read octets ≡ no_settings 25
 unfolding order
-read-twenty-five octets s e = read-on octets s ∙ rw e
+read_twenty_five octets s e = read_on octets s ∙ rw e
 
-pub read-twenty-six : (octets : List ℕ) → Sound octets → passable (entries octets) ≡ true
-    → complete (entries octets) ≡ false → storeRead octets ≡ noSettings 26
+pub read_twenty_six : (octets : List ℕ) → Sound octets → passable (entries octets) ≡ true
+    → complete (entries octets) ≡ false → store_read octets ≡ no_settings 26
 unfolding order
-read-twenty-six octets s p e = read-on octets s ∙ rw (p, e)
+read_twenty_six octets s p e = read_on octets s ∙ rw (p, e)
 
-pub read-twenty-seven : (octets : List ℕ) → Sound octets → passable (entries octets) ≡ true
-    → complete (entries octets) ≡ true → single (entries octets) ≡ false → storeRead octets ≡ noSettings 27
+pub read_twenty_seven : (octets : List ℕ) → Sound octets → passable (entries octets) ≡ true
+    → complete (entries octets) ≡ true → single (entries octets) ≡ false → store_read octets ≡ no_settings 27
 unfolding order
-read-twenty-seven octets s p w e = read-on octets s ∙ rw (p, w, e)
+read_twenty_seven octets s p w e = read_on octets s ∙ rw (p, w, e)
 
-pub read-full : (octets : List ℕ) → Full octets → storeRead octets
-    ≡ cond (not (valuesAllowed octets)) (noSettings 28) (values_of octets)
+pub read_full : (octets : List ℕ) → Full octets → store_read octets
+    ≡ cond (not (values_allowed octets)) (no_settings 28) (values_of octets)
 unfolding order
-read-full octets f = read-on octets f.sound ∙ rw (f.passes, f.whole, f.ones)
+read_full octets f = read_on octets f.sound ∙ rw (f.passes, f.whole, f.ones)
 
 record Passed (long most rises out passes whole ones good : Bool) : Type 0 where
-  is-long : long ≡ true
-  is-most : most ≡ true
-  they-rise : rises ≡ true
-  are-out : out ≡ true
-  they-pass : passes ≡ true
-  are-whole : whole ≡ true
-  are-ones : ones ≡ true
-  are-good : good ≡ true
+  is_long : long ≡ true
+  is_most : most ≡ true
+  they_rise : rises ≡ true
+  are_out : out ≡ true
+  they_pass : passes ≡ true
+  are_whole : whole ≡ true
+  are_ones : ones ≡ true
+  are_good : good ≡ true
 
-passed-all : (long most rises out passes whole ones good : Bool) (s : Settings)
+passed_all : (long most rises out passes whole ones good : Bool) (s : Settings)
     → (order long most rises out passes whole ones good s).number ≡ 0
     → Passed long most rises out passes whole ones good
 unfolding order
-passed-all false most rises out passes whole ones good s e = absurd (omega arith)
-passed-all true false rises out passes whole ones good s e = absurd (omega arith)
-passed-all true true false out passes whole ones good s e = absurd (omega arith)
-passed-all true true true false passes whole ones good s e = absurd (omega arith)
-passed-all true true true true false whole ones good s e = absurd (omega arith)
-passed-all true true true true true false ones good s e = absurd (omega arith)
-passed-all true true true true true true false good s e = absurd (omega arith)
-passed-all true true true true true true true false s e = absurd (omega arith)
-passed-all true true true true true true true true s e = record {
-  is-long = refl;
-  is-most = refl;
-  they-rise = refl;
-  are-out = refl;
-  they-pass = refl;
-  are-whole = refl;
-  are-ones = refl;
-  are-good = refl;
+passed_all false most rises out passes whole ones good s e = absurd (omega arith)
+passed_all true false rises out passes whole ones good s e = absurd (omega arith)
+passed_all true true false out passes whole ones good s e = absurd (omega arith)
+passed_all true true true false passes whole ones good s e = absurd (omega arith)
+passed_all true true true true false whole ones good s e = absurd (omega arith)
+passed_all true true true true true false ones good s e = absurd (omega arith)
+passed_all true true true true true true false good s e = absurd (omega arith)
+passed_all true true true true true true true false s e = absurd (omega arith)
+passed_all true true true true true true true true s e = record {
+  is_long = refl;
+  is_most = refl;
+  they_rise = refl;
+  are_out = refl;
+  they_pass = refl;
+  are_whole = refl;
+  are_ones = refl;
+  are_good = refl;
 }
 
 pub record Good (octets : List ℕ) : Type 0 where
   pub full : Full octets
-  pub right : valuesAllowed octets ≡ true
+  pub right : values_allowed octets ≡ true
 
-pub read-passed : (octets : List ℕ) → (storeRead octets).number ≡ 0 → Good octets
-read-passed octets e =
+pub read_passed : (octets : List ℕ) → (store_read octets).number ≡ 0 → Good octets
+read_passed octets e =
     let p =
-    passed-all _ _ _ _ _ _ _ _ (values_of octets) (sym (ap (λ (s : Settings). s.number) (ordered octets)) ∙ e) in
+    passed_all _ _ _ _ _ _ _ _ (values_of octets) (sym (ap (λ (s : Settings). s.number) (ordered octets)) ∙ e) in
     record {
       full =
           record {
@@ -180,5 +180,5 @@ read-passed octets e =
       right = p.are-good;
     }
 
-pub read-good : (octets : List ℕ) → Good octets → storeRead octets ≡ values_of octets
-read-good octets g = read-full octets g.full ∙ rw g.right
+pub read_good : (octets : List ℕ) → Good octets → store_read octets ≡ values_of octets
+read_good octets g = read_full octets g.full ∙ rw g.right

@@ -1,6 +1,6 @@
 -- Where bodies stand, and what a write behind the table leaves.
 --     inside, apart              a body found stands between the table and the end; two of them stand apart
---     entries-kept, full-kept    the entries stay, and with them what was passed
+--     entries_kept, full_kept    the entries stay, and with them what was passed
 -- Assumes nothing.
 use mathlib.Core.Path.{◌≡◌, refl, sym, ap, ◌∙◌}
 use mathlib.Core.Bool.{Bool, true, false}
@@ -13,7 +13,7 @@ use lib.Seq.{get_or-set_other, drop-set-add}
 use lib.Dec.{eqb}
 use Rattle.base.proofs.Tests.{left_is, right_is}
 use Rattle.rules_store.specs.declared.Entry.{Entry}
-use Rattle.rules_store.specs.Store.{entryOf, entriesIn, count, table_end, entries, laid, body_of}
+use Rattle.rules_store.specs.Store.{entry_of, entries_in, count, table_end, entries, laid, body_of}
 use Rattle.rules_store.proofs.Order.{Full}
 
 pub never : false ≡ true → ⊥
@@ -26,11 +26,11 @@ pub record Inside (at end : ℕ) (tag : ℕ) (es : List Entry) : Type 0 where
   pub low : at ≤ (body_of tag es).offset
   pub high : (body_of tag es).offset + (body_of tag es).size ≤ end
 
-end-least : (at : ℕ) (es : List Entry) (end : ℕ) → laid at es end ≡ true → at ≤ end
+end_least : (at : ℕ) (es : List Entry) (end : ℕ) → laid at es end ≡ true → at ≤ end
 unfolding laid
-end-least at [] end l = let e : at ≡ end = eqb-true at end l in omega arith
-end-least at (x ∷ es) end l =
-    omega (arith, end-least (at + x.size) es end (right_is (eqb x.offset at) (laid (at + x.size) es end) l))
+end_least at [] end l = let e : at ≡ end = eqb-true at end l in omega arith
+end_least at (x ∷ es) end l =
+    omega (arith, end_least (at + x.size) es end (right_is (eqb x.offset at) (laid (at + x.size) es end) l))
 
 pub inside : (tag at : ℕ) (es : List Entry) (end : ℕ) → laid at es end ≡ true → (body_of tag es).there ≡ true
     → Inside at end tag es
@@ -48,7 +48,7 @@ inside tag at (x ∷ es) end l t = by (eqb x.tag tag) refl (λ u. inside tag (at
         → Inside at end tag (x ∷ es)
     by true e on = record {
       low = rw e (omega (arith, here));
-      high = rw e (omega (arith, here, end-least (at + x.size) es end rest));
+      high = rw e (omega (arith, here, end_least (at + x.size) es end rest));
     }
     by false e on =
         let i = on (rw e at t) in record { low = rw e (omega (arith, i.low)); high = rw e i.high }
@@ -90,7 +90,7 @@ apart a b at (x ∷ es) end l n s t u v =
 
 -- ---- a write behind the table
 
-entry_set : (l : List ℕ) (j v : ℕ) → entryOf (set l (4 + j) v) ≡ entryOf l
+entry_set : (l : List ℕ) (j v : ℕ) → entry_of (set l (4 + j) v) ≡ entry_of l
 entry_set l j v =
     let a = get_or-set_other l (4 + j) 0 v 0 (λ e. omega arith) in
     let b = get_or-set_other l (4 + j) 1 v 0 (λ e. omega arith) in
@@ -98,39 +98,39 @@ entry_set l j v =
     let d = get_or-set_other l (4 + j) 3 v 0 (λ e. omega arith) in
     λ i. record { tag = a i; offset = b i + 256 * c i; size = d i }
 
-entries-set : (n : ℕ) (l : List ℕ) (i v : ℕ) → 4 * n ≤ i → entriesIn n (set l i v) ≡ entriesIn n l
-unfolding entriesIn
-entries-set zero l i v h = refl
-entries-set (suc n) l i v h =
+entries_set : (n : ℕ) (l : List ℕ) (i v : ℕ) → 4 * n ≤ i → entries_in n (set l i v) ≡ entries_in n l
+unfolding entries_in
+entries_set zero l i v h = refl
+entries_set (suc n) l i v h =
     let e : i ≡ 4 + (i - 4) = omega arith in
-    let first : entryOf (set l i v) ≡ entryOf l = ap (λ (k : ℕ). entryOf (set l k v)) e ∙ entry_set l (i - 4) v in
+    let first : entry_of (set l i v) ≡ entry_of l = ap (λ (k : ℕ). entryOf (set l k v)) e ∙ entry_set l (i - 4) v in
     let moved : drop 4 (set l i v) ≡ set (drop 4 l) (i - 4) v =
     ap (λ (k : ℕ). drop 4 (set l k v)) e ∙ drop-set-add 4 l (i - 4) v in
-    let rest : entriesIn n (drop 4 (set l i v)) ≡ entriesIn n (drop 4 l) =
-    ap (entriesIn n) moved ∙ entries-set n (drop 4 l) (i - 4) v (omega arith) in
+    let rest : entries_in n (drop 4 (set l i v)) ≡ entries_in n (drop 4 l) =
+    ap (entries_in n) moved ∙ entries_set n (drop 4 l) (i - 4) v (omega arith) in
     λ k. first k ∷ rest k
 
 module _ (l : List ℕ) (i v : ℕ) (h : table_end (count l) ≤ i) where
   count_kept : count (set l i v) ≡ count l
   count_kept = get_or-set_other l i 1 v 0 (λ e. omega arith)
 
-  pub entries-kept : entries (set l i v) ≡ entries l
-  entries-kept =
+  pub entries_kept : entries (set l i v) ≡ entries l
+  entries_kept =
       let e : i ≡ 2 + (i - 2) = omega arith in
       let moved : drop 2 (set l i v) ≡ set (drop 2 l) (i - 2) v =
       ap (λ (k : ℕ). drop 2 (set l k v)) e ∙ drop-set-add 2 l (i - 2) v in
-      rw (count_kept, moved) (entries-set (count l) (drop 2 l) (i - 2) v (omega arith))
+      rw (count_kept, moved) (entries_set (count l) (drop 2 l) (i - 2) v (omega arith))
 
-  pub full-kept : Full l → Full (set l i v)
-  full-kept f = record {
+  pub full_kept : Full l → Full (set l i v)
+  full_kept f = record {
     sound =
         record {
           long = rw (count_kept, length-set l i v) f.sound.long;
           most = rw count_kept f.sound.most;
-          rises = rw entries-kept f.sound.rises;
-          out = rw (entries-kept, count_kept, length-set l i v) f.sound.out;
+          rises = rw entries_kept f.sound.rises;
+          out = rw (entries_kept, count_kept, length-set l i v) f.sound.out;
         };
-    passes = rw entries-kept f.passes;
-    whole = rw entries-kept f.whole;
-    ones = rw entries-kept f.ones;
+    passes = rw entries_kept f.passes;
+    whole = rw entries_kept f.whole;
+    ones = rw entries_kept f.ones;
   }

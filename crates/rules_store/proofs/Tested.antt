@@ -18,26 +18,26 @@ pub record Some (n : ℕ) (Q : ℕ → Type 0) : Type 0 where
 
 module _ {A : Type 0} (n : ℕ) (Q : ℕ → Type 0) (T : ℕ → A) where
   data Upto (k : ℕ) : Type 0 where
-    all-good : ((j : ℕ) → j < k → Q j) → Upto k
+    all_good : ((j : ℕ) → j < k → Q j) → Upto k
     stopped : (i : ℕ) → i < k → ((j : ℕ) → j < i → Q j) → (Q i → ⊥) → Upto k
 
   upto : ((i : ℕ) → Dec (Q i)) → (k : ℕ) → Upto k
-  upto decided zero = all-good (λ j h. absurd (omega arith))
+  upto decided zero = all_good (λ j h. absurd (omega arith))
   upto decided (suc k) = by (upto decided k) (decided k)
     where
       by : Upto k → Dec (Q k) → Upto (suc k)
-      by (all-good a) (yes q) = all-good (λ j h. last j h (dec_lt j k))
+      by (all_good a) (yes q) = all_good (λ j h. last j h (dec_lt j k))
         where
           last : (j : ℕ) → j < suc k → Dec (j < k) → Q j
           last j h (yes l) = a j l
           last j h (no m) = let e : k ≡ j = omega arith in subst Q e q
-      by (all-good a) (no q) = stopped k (omega arith) a q
+      by (all_good a) (no q) = stopped k (omega arith) a q
       by (stopped i h a q) d = stopped i (omega arith) a q
 
   -- it comes to the end, or to the first at which Q does not hold
   pub data Walked : Type 0 where
     to_end : ((j : ℕ) → j < n → Q j) → T 0 ≡ T n → Walked
-    to-first : (i : ℕ) → i < n → (Q i → ⊥) → T 0 ≡ T i → Walked
+    to_first : (i : ℕ) → i < n → (Q i → ⊥) → T 0 ≡ T i → Walked
 
   module _ (decided : (i : ℕ) → Dec (Q i)) (more : (i : ℕ) → i < n → Q i → T (suc i) ≡ T i) where
     reached : (i : ℕ) → i ≤ n → ((j : ℕ) → j < i → Q j) → T 0 ≡ T i
@@ -49,8 +49,8 @@ module _ {A : Type 0} (n : ℕ) (Q : ℕ → Type 0) (T : ℕ → A) where
     walked = by (upto decided n)
       where
         by : Upto n → Walked
-        by (all-good a) = to_end a (reached n (omega arith) a)
-        by (stopped i h a q) = to-first i h q (reached i (omega arith) a)
+        by (all_good a) = to_end a (reached n (omega arith) a)
+        by (stopped i h a q) = to_first i h q (reached i (omega arith) a)
 
 -- a test: it fails where Q does not hold
 pub record Test (n : ℕ) (Q : ℕ → Type 0) (T : ℕ → Bool) : Type 0 where
@@ -64,14 +64,14 @@ module _ {n : ℕ} {Q : ℕ → Type 0} {T : ℕ → Bool} (t : Test n Q T) wher
     where
       by : Walked n Q T → ((j : ℕ) → j < n → Q j) × (T n ≡ true)
       by (to_end a s) = (a, sym s ∙ e)
-      by (to-first i h q s) = absurd (never (sym (s ∙ t.past i h q) ∙ e))
+      by (to_first i h q s) = absurd (never (sym (s ∙ t.past i h q) ∙ e))
 
   pub failed : T 0 ≡ false → Some n Q ⊎ (T n ≡ false)
   failed e = by (walked n Q T t.decided t.more)
     where
       by : Walked n Q T → Some n Q ⊎ (T n ≡ false)
       by (to_end a s) = inr (sym s ∙ e)
-      by (to-first i h q s) = inl (record { i = i; listed = h; not_so = q })
+      by (to_first i h q s) = inl (record { i = i; listed = h; not_so = q })
 
   pub passes : ((j : ℕ) → j < n → Q j) → T 0 ≡ T n
   passes = reached n Q T t.decided t.more n (omega arith)
@@ -81,4 +81,4 @@ module _ {n : ℕ} {Q : ℕ → Type 0} {T : ℕ → Bool} (t : Test n Q T) wher
     where
       by : Walked n Q T → T 0 ≡ false
       by (to_end a s) = absurd (x.not_so (a x.i x.listed))
-      by (to-first i h q s) = s ∙ t.past i h q
+      by (to_first i h q s) = s ∙ t.past i h q

@@ -1,8 +1,8 @@
 -- The tags of the three settings, and a test of all three: `f 1 && f 2 && f 3`.
---     tag-low, tag-high, tag-right     1, 2 and 3, and no others
+--     tag_low, tag_high, tag_right     1, 2 and 3, and no others
 --     in_three              what holds of these holds of each
 --     each, each_of         it holds where each of them does
---     some_of, not-each     it fails where one of them does
+--     some_of, not_each     it fails where one of them does
 -- Assumes nothing.
 use mathlib.Core.Path.{◌≡◌, refl, sym, ◌∙◌}
 use mathlib.Core.Bool.{Bool, true, false, ◌&&◌}
@@ -11,19 +11,19 @@ use native.Mathlib.Omega.{arith}
 use borrow.Author.Tests.{leb-true, lt-leb, le-leb}
 use lib.Dec.{leb}
 use Rattle.base.proofs.Tests.{right_is}
-use Rattle.rules_store.specs.Store.{isSetting}
+use Rattle.rules_store.specs.Store.{is_setting}
 use Rattle.rules_store.proofs.Places.{never}
 
-pub tag-low : (tag : ℕ) → tag < 1 → isSetting tag ≡ false
-tag-low tag h = rw (lt-leb 1 tag h)
+pub tag_low : (tag : ℕ) → tag < 1 → is_setting tag ≡ false
+tag_low tag h = rw (lt-leb 1 tag h)
 
-pub tag-high : (tag : ℕ) → 1 ≤ tag → 3 < tag → isSetting tag ≡ false
-tag-high tag h k = rw (le-leb 1 tag h, lt-leb tag 3 k)
+pub tag_high : (tag : ℕ) → 1 ≤ tag → 3 < tag → is_setting tag ≡ false
+tag_high tag h k = rw (le-leb 1 tag h, lt-leb tag 3 k)
 
-pub tag-right : (tag : ℕ) → 1 ≤ tag → tag ≤ 3 → isSetting tag ≡ true
-tag-right tag h k = rw (le-leb 1 tag h, le-leb tag 3 k)
+pub tag_right : (tag : ℕ) → 1 ≤ tag → tag ≤ 3 → is_setting tag ≡ true
+tag_right tag h k = rw (le-leb 1 tag h, le-leb tag 3 k)
 
-pub in_three : (P : ℕ → Type 0) → P 1 → P 2 → P 3 → (t : ℕ) → isSetting t ≡ true → P t
+pub in_three : (P : ℕ → Type 0) → P 1 → P 2 → P 3 → (t : ℕ) → is_setting t ≡ true → P t
 in_three P one two three zero e = absurd (never e)
 in_three P one two three (suc zero) e = one
 in_three P one two three (suc (suc zero)) e = two
@@ -43,10 +43,10 @@ module _ (f : ℕ → Bool) where
   abbrev pub three : Bool
   three = f 1 && f 2 && f 3
 
-  pub each : three ≡ true → (t : ℕ) → isSetting t ≡ true → f t ≡ true
+  pub each : three ≡ true → (t : ℕ) → is_setting t ≡ true → f t ≡ true
   each = by (f 1) (f 2) (f 3) refl refl refl
     where
-      by : (a b c : Bool) → f 1 ≡ a → f 2 ≡ b → f 3 ≡ c → (a && b && c) ≡ true → (t : ℕ) → isSetting t ≡ true
+      by : (a b c : Bool) → f 1 ≡ a → f 2 ≡ b → f 3 ≡ c → (a && b && c) ≡ true → (t : ℕ) → is_setting t ≡ true
           → f t ≡ true
       by true true true p q r e = in_three (λ t. f t ≡ true) p q r
       by false b c p q r e = absurd (never e)
@@ -68,9 +68,9 @@ module _ (f : ℕ → Bool) where
       by true true false p q r e = at 3 (omega arith) (omega arith) r
       by true true true p q r e = absurd (never (sym e))
 
-  pub not-each : (t : ℕ) → 1 ≤ t → t ≤ 3 → f t ≡ false → three ≡ false
-  not-each t l h e = by three refl
+  pub not_each : (t : ℕ) → 1 ≤ t → t ≤ 3 → f t ≡ false → three ≡ false
+  not_each t l h e = by three refl
     where
       by : (b : Bool) → three ≡ b → b ≡ false
       by false s = refl
-      by true s = absurd (never (sym e ∙ each s t (tag-right t l h)))
+      by true s = absurd (never (sym e ∙ each s t (tag_right t l h)))

@@ -12,13 +12,13 @@ use lib.ListN.{get_or, drop}
 use lib.Seq.{drop-drop, get_or-drop}
 use lib.Dec.{eqb}
 use Rattle.rules_store.specs.declared.Entry.{Entry}
-use Rattle.rules_store.specs.Store.{entryOf, entriesIn, rising, laid, passable, body_of}
+use Rattle.rules_store.specs.Store.{entry_of, entries_in, rising, laid, passable, body_of}
 
 -- an entry from its four octets
-pub entry-is : (l : List ℕ) (at a b c d : ℕ) → a ≡ get_or l at 0 → b ≡ get_or l (at + 1) 0 → c ≡ get_or l (at + 2) 0
+pub entry_is : (l : List ℕ) (at a b c d : ℕ) → a ≡ get_or l at 0 → b ≡ get_or l (at + 1) 0 → c ≡ get_or l (at + 2) 0
     → d ≡ get_or l (at + 3) 0
-    → ◌≡◌ {A = Entry} (record { tag = a; offset = b + 256 * c; size = d }) (entryOf (drop at l))
-entry-is l at a b c d e f g h =
+    → ◌≡◌ {A = Entry} (record { tag = a; offset = b + 256 * c; size = d }) (entry_of (drop at l))
+entry_is l at a b c d e f g h =
     let none : at + 0 ≡ at = omega arith in
     let p : a ≡ get_or (drop at l) 0 0 = e ∙ sym (get_or-drop at l 0 0 ∙ ap (λ (k : ℕ). get_or l k 0) none) in
     let q = f ∙ sym (get_or-drop at l 1 0) in
@@ -27,76 +27,76 @@ entry-is l at a b c d e f g h =
     λ i. record { tag = p i; offset = q i + 256 * r i; size = s i }
 
 abbrev pub left : List ℕ → ℕ → ℕ → List Entry
-left l n i = entriesIn (n - i) (drop (2 + 4 * i) l)
+left l n i = entries_in (n - i) (drop (2 + 4 * i) l)
 
-pub left-all : (l : List ℕ) (n : ℕ) → left l n 0 ≡ entriesIn n (drop 2 l)
-left-all l n = let e : n - 0 ≡ n = omega arith in ap (λ (k : ℕ). entriesIn k (drop 2 l)) e
+pub left_all : (l : List ℕ) (n : ℕ) → left l n 0 ≡ entries_in n (drop 2 l)
+left_all l n = let e : n - 0 ≡ n = omega arith in ap (λ (k : ℕ). entriesIn k (drop 2 l)) e
 
-left-none : (l : List ℕ) (n i : ℕ) → n ≤ i → left l n i ≡ []
-unfolding entriesIn
-left-none l n i h = let e : n - i ≡ 0 = omega arith in rw e
+left_none : (l : List ℕ) (n i : ℕ) → n ≤ i → left l n i ≡ []
+unfolding entries_in
+left_none l n i h = let e : n - i ≡ 0 = omega arith in rw e
 
-pub left-next : (l : List ℕ) (n i : ℕ) → i < n → left l n i ≡ entryOf (drop (2 + 4 * i) l) ∷ left l n (i + 1)
-unfolding entriesIn
-left-next l n i h =
+pub left_next : (l : List ℕ) (n i : ℕ) → i < n → left l n i ≡ entry_of (drop (2 + 4 * i) l) ∷ left l n (i + 1)
+unfolding entries_in
+left_next l n i h =
     let e : n - i ≡ suc (n - (i + 1)) = omega arith in
     let f : 2 + 4 * i + 4 ≡ 2 + 4 * (i + 1) = omega arith in
     let rest : drop 4 (drop (2 + 4 * i) l) ≡ drop (2 + 4 * (i + 1)) l =
     drop-drop 4 (2 + 4 * i) l ∙ ap (λ (k : ℕ). drop k l) f in
     ap (λ (k : ℕ). entriesIn k (drop (2 + 4 * i) l)) e
-    ∙ ap (λ (m : List ℕ). entryOf (drop (2 + 4 * i) l) ∷ entriesIn (n - (i + 1)) m) rest
+    ∙ ap (λ (m : List ℕ). entryOf (drop (2 + 4 * i) l) ∷ entries_in (n - (i + 1)) m) rest
 
 module _ (l : List ℕ) (n i : ℕ) where
-  pub rising-end : (least : ℕ) → n ≤ i → rising least (left l n i) ≡ true
+  pub rising_end : (least : ℕ) → n ≤ i → rising least (left l n i) ≡ true
   unfolding rising
-  rising-end least h = rw (left-none l n i h)
+  rising_end least h = rw (left_none l n i h)
 
   pub laid_end : (at end : ℕ) → n ≤ i → laid at (left l n i) end ≡ eqb at end
   unfolding laid
-  laid_end at end h = rw (left-none l n i h)
+  laid_end at end h = rw (left_none l n i h)
 
-  pub passable-end : n ≤ i → passable (left l n i) ≡ true
+  pub passable_end : n ≤ i → passable (left l n i) ≡ true
   unfolding passable
-  passable-end h = rw (left-none l n i h)
+  passable_end h = rw (left_none l n i h)
 
   pub body_end : (tag : ℕ) → n ≤ i → body_of tag (left l n i) ≡ record { there = false; offset = 0; size = 0 }
   unfolding body_of
-  body_end tag h = rw (left-none l n i h)
+  body_end tag h = rw (left_none l n i h)
 
-  module _ (e : Entry) (s : e ≡ entryOf (drop (2 + 4 * i) l)) (h : i < n) where
+  module _ (e : Entry) (s : e ≡ entry_of (drop (2 + 4 * i) l)) (h : i < n) where
     pub step : left l n i ≡ e ∷ left l n (i + 1)
-    step = left-next l n i h ∙ ap (λ (x : Entry). x ∷ left l n (i + 1)) (sym s)
+    step = left_next l n i h ∙ ap (λ (x : Entry). x ∷ left l n (i + 1)) (sym s)
 
-    pub rising-more : (least : ℕ) → least ≤ e.tag → rising (e.tag + 1) (left l n (i + 1)) ≡ rising least (left l n i)
+    pub rising_more : (least : ℕ) → least ≤ e.tag → rising (e.tag + 1) (left l n (i + 1)) ≡ rising least (left l n i)
     unfolding rising
-    rising-more least g = rw (step, le-leb least e.tag g, add-one e.tag)
+    rising_more least g = rw (step, le-leb least e.tag g, add-one e.tag)
 
-    pub rising-past : (least : ℕ) → e.tag < least → rising least (left l n i) ≡ false
+    pub rising_past : (least : ℕ) → e.tag < least → rising least (left l n i) ≡ false
     unfolding rising
-    rising-past least g = rw (step, lt-leb least e.tag g)
+    rising_past least g = rw (step, lt-leb least e.tag g)
 
     pub laid_more : (at end : ℕ) → e.offset ≡ at → laid (at + e.size) (left l n (i + 1)) end
         ≡ laid at (left l n i) end
     unfolding laid
     laid_more at end g = rw (step, eq-eqb e.offset at g)
 
-    pub laid-past : (at end : ℕ) → (e.offset ≡ at → ⊥) → laid at (left l n i) end ≡ false
+    pub laid_past : (at end : ℕ) → (e.offset ≡ at → ⊥) → laid at (left l n i) end ≡ false
     unfolding laid
-    laid-past at end g = rw (step, ne_eqb e.offset at g)
+    laid_past at end g = rw (step, ne_eqb e.offset at g)
 
-    pub passable-more : e.tag < 128 → passable (left l n (i + 1)) ≡ passable (left l n i)
+    pub passable_more : e.tag < 128 → passable (left l n (i + 1)) ≡ passable (left l n i)
     unfolding passable
-    passable-more g = rw (step, lt-ltb e.tag 128 g)
+    passable_more g = rw (step, lt-ltb e.tag 128 g)
 
-    pub passable-past : 128 ≤ e.tag → passable (left l n i) ≡ false
+    pub passable_past : 128 ≤ e.tag → passable (left l n i) ≡ false
     unfolding passable
-    passable-past g = rw (step, le-ltb e.tag 128 g)
+    passable_past g = rw (step, le-ltb e.tag 128 g)
 
     pub body_more : (tag : ℕ) → (e.tag ≡ tag → ⊥) → body_of tag (left l n (i + 1)) ≡ body_of tag (left l n i)
     unfolding body_of
     body_more tag g = rw (step, ne_eqb e.tag tag g)
 
-    pub body-here : (tag : ℕ) → e.tag ≡ tag
+    pub body_here : (tag : ℕ) → e.tag ≡ tag
         → body_of tag (left l n i) ≡ record { there = true; offset = e.offset; size = e.size }
     unfolding body_of
-    body-here tag g = rw (step, eq-eqb e.tag tag g)
+    body_here tag g = rw (step, eq-eqb e.tag tag g)

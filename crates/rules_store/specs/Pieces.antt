@@ -4,7 +4,7 @@
 use Rattle.std.specs.Prelude.{ℕ, suc, ◌+◌, ◌-◌, ◌/◌, ◌%◌, ◌≤◌, ◌<◌, cond, not, length, replicate, eqb, ltb}
 use mathlib.Core.List.{List, [], ◌∷◌, ◌++◌, Memᴰ}
 use Rattle.base.specs.Below.{Below}
-use Rattle.rules_store.specs.Store.{table_end, allowedSettings}
+use Rattle.rules_store.specs.Store.{table_end, allowed_settings}
 use Rattle.rules_store.specs.Plain.{AllowedSettings}
 
 pub record Piece : Type 0 where
@@ -12,17 +12,17 @@ pub record Piece : Type 0 where
   pub body : List ℕ
 
 -- the table's octets, the first body being at `at`
-unfoldable pub tableFrom : ℕ → List Piece → List ℕ
-tableFrom at [] = []
-tableFrom at (p ∷ ps) =
-    p.tag ∷ at % 256 ∷ at / 256 ∷ length p.body ∷ tableFrom (at + length p.body) ps
+unfoldable pub table_from : ℕ → List Piece → List ℕ
+table_from at [] = []
+table_from at (p ∷ ps) =
+    p.tag ∷ at % 256 ∷ at / 256 ∷ length p.body ∷ table_from (at + length p.body) ps
 
 unfoldable pub bodies : List Piece → List ℕ
 bodies [] = []
 bodies (p ∷ ps) = p.body ++ bodies ps
 
-unfoldable pub laidOut : ℕ → List Piece → List ℕ
-laidOut version ps = version ∷ length ps ∷ (tableFrom (table_end (length ps)) ps ++ bodies ps)
+unfoldable pub laid_out : ℕ → List Piece → List ℕ
+laid_out version ps = version ∷ length ps ∷ (table_from (table_end (length ps)) ps ++ bodies ps)
 
 -- ---- what some writer, perhaps a newer one, may lay out
 
@@ -44,29 +44,29 @@ setting tag value = record { tag = tag; body = value ∷ [] }
 
 -- pieces with the three required, one octet each, with allowed values
 pub record Carries (kind rate phase : ℕ) (ps : List Piece) : Type 0 where
-  pub kind-there : Memᴰ (setting 1 kind) ps
-  pub rate-there : Memᴰ (setting 2 rate) ps
-  pub phase-there : Memᴰ (setting 3 phase) ps
+  pub kind_there : Memᴰ (setting 1 kind) ps
+  pub rate_there : Memᴰ (setting 2 rate) ps
+  pub phase_there : Memᴰ (setting 3 phase) ps
   pub good : AllowedSettings kind rate phase
 
 -- ---- writing: version 1, three entries
 
 abbrev pub store_of : ℕ → ℕ → ℕ → List ℕ
-store_of kind rate phase = laidOut 1 (setting 1 kind ∷ setting 2 rate ∷ setting 3 phase ∷ [])
+store_of kind rate phase = laid_out 1 (setting 1 kind ∷ setting 2 rate ∷ setting 3 phase ∷ [])
 
-abbrev pub storeOctets : ℕ
-storeOctets = 17
+abbrev pub store_octets : ℕ
+store_octets = 17
 
 -- 28, then 29
 -- promise: in writing a store, the octet buffer is shorter than 17 octets
 -- rule: 6.4 (29), 6.26
 -- code: store_keep::write
-unfoldable pub storeWritten : ℕ → ℕ → ℕ → ℕ → ℕ
-storeWritten kind rate phase room =
-    cond (not (allowedSettings kind rate phase)) 28 (cond (ltb room storeOctets) 29 0)
+unfoldable pub store_written : ℕ → ℕ → ℕ → ℕ → ℕ
+store_written kind rate phase room =
+    cond (not (allowed_settings kind rate phase)) 28 (cond (ltb room store_octets) 29 0)
 
 -- zeros after the store are no part of it; zeros after either refusal
-unfoldable pub writeLeft : ℕ → ℕ → ℕ → ℕ → List ℕ
-writeLeft kind rate phase room =
-    cond (eqb (storeWritten kind rate phase room) 0) (store_of kind rate phase ++ replicate (room - storeOctets) 0)
+unfoldable pub write_left : ℕ → ℕ → ℕ → ℕ → List ℕ
+write_left kind rate phase room =
+    cond (eqb (store_written kind rate phase room) 0) (store_of kind rate phase ++ replicate (room - store_octets) 0)
     (replicate room 0)

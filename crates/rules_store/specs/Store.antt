@@ -2,20 +2,20 @@
 -- a test over that list, the order as one chain; what a change answers and leaves.
 -- Definitions only. Assumes nothing.
 use Rattle.std.specs.Prelude.{ℕ, zero, suc, ◌+◌, ◌*◌, Bool, true, false, cond, not, ◌&&◌, List, [], ◌∷◌, length, get_or, drop, set, eqb, ltb, leb}
-use Rattle.rules_rates.specs.Rates.{is_code, rateOf}
-use Rattle.rules_frame.specs.Frame.{isKind, kind_of, goesWith, isPhase}
+use Rattle.rules_rates.specs.Rates.{is_code, rate_of}
+use Rattle.rules_frame.specs.Frame.{is_kind, kind_of, goes_with, is_phase}
 use Rattle.rules_store.specs.declared.Entry.{Entry}
 use Rattle.rules_store.specs.declared.Settings.{Settings}
 
 -- ---- entries
 
 -- four octets: the tag, the offset of its body with the low octet first, the body's length
-abbrev pub entryOf : List ℕ → Entry
-entryOf l = record { tag = get_or l 0 0; offset = get_or l 1 0 + 256 * get_or l 2 0; size = get_or l 3 0 }
+abbrev pub entry_of : List ℕ → Entry
+entry_of l = record { tag = get_or l 0 0; offset = get_or l 1 0 + 256 * get_or l 2 0; size = get_or l 3 0 }
 
-unfoldable pub entriesIn : ℕ → List ℕ → List Entry
-entriesIn zero l = []
-entriesIn (suc n) l = entryOf l ∷ entriesIn n (drop 4 l)
+unfoldable pub entries_in : ℕ → List ℕ → List Entry
+entries_in zero l = []
+entries_in (suc n) l = entry_of l ∷ entries_in n (drop 4 l)
 
 -- how many entries octet 1 says there are
 abbrev pub count : List ℕ → ℕ
@@ -26,7 +26,7 @@ abbrev pub table_end : ℕ → ℕ
 table_end n = 2 + 4 * n
 
 abbrev pub entries : List ℕ → List Entry
-entries octets = entriesIn (count octets) (drop 2 octets)
+entries octets = entries_in (count octets) (drop 2 octets)
 
 -- ---- the tests, one for each refusal
 
@@ -97,8 +97,8 @@ single es = eqb (body_of 1 es).size 1 && eqb (body_of 2 es).size 1 && eqb (body_
 -- promise: kind, rate code and starting phase, together, are not what 1, 2, 3 and 5 allow
 -- rule: 6.4 (28), 6.24 to 6.27
 -- code: store_keep::allowed, store_keep::stands
-abbrev pub allowedSettings : ℕ → ℕ → ℕ → Bool
-allowedSettings kind rate phase = isKind kind && is_code rate && goesWith (kind_of kind) (rateOf rate) && isPhase phase
+abbrev pub allowed_settings : ℕ → ℕ → ℕ → Bool
+allowed_settings kind rate phase = is_kind kind && is_code rate && goes_with (kind_of kind) (rate_of rate) && is_phase phase
 
 -- the octet where the body of a tag starts
 abbrev pub value_of : ℕ → List ℕ → ℕ
@@ -106,23 +106,23 @@ value_of tag octets = get_or octets (body_of tag (entries octets)).offset 0
 
 -- ---- reading
 
-abbrev pub noSettings : ℕ → Settings
-noSettings number = record { number = number; kind = 0; rate = 0; phase = 0 }
+abbrev pub no_settings : ℕ → Settings
+no_settings number = record { number = number; kind = 0; rate = 0; phase = 0 }
 
 abbrev pub settings : ℕ → ℕ → ℕ → Settings
 settings kind rate phase = record { number = 0; kind = kind; rate = rate; phase = phase }
 
 -- 21 to 28, in this order
-unfoldable pub storeRead : List ℕ → Settings
-storeRead octets =
-    cond (not (tabled octets)) (noSettings 21)
-    (cond (not (few octets)) (noSettings 22)
-    (cond (not (rising 0 (entries octets))) (noSettings 23)
-    (cond (not (laid (table_end (count octets)) (entries octets) (length octets))) (noSettings 24)
-    (cond (not (passable (entries octets))) (noSettings 25)
-    (cond (not (complete (entries octets))) (noSettings 26)
-    (cond (not (single (entries octets))) (noSettings 27)
-    (cond (not (allowedSettings (value_of 1 octets) (value_of 2 octets) (value_of 3 octets))) (noSettings 28)
+unfoldable pub store_read : List ℕ → Settings
+store_read octets =
+    cond (not (tabled octets)) (no_settings 21)
+    (cond (not (few octets)) (no_settings 22)
+    (cond (not (rising 0 (entries octets))) (no_settings 23)
+    (cond (not (laid (table_end (count octets)) (entries octets) (length octets))) (no_settings 24)
+    (cond (not (passable (entries octets))) (no_settings 25)
+    (cond (not (complete (entries octets))) (no_settings 26)
+    (cond (not (single (entries octets))) (no_settings 27)
+    (cond (not (allowed_settings (value_of 1 octets) (value_of 2 octets) (value_of 3 octets))) (no_settings 28)
     (settings (value_of 1 octets) (value_of 2 octets) (value_of 3 octets)))))))))
 
 -- ---- a change of one setting
@@ -131,8 +131,8 @@ storeRead octets =
 -- promise: the tag of a change is none of 1, 2 and 3
 -- rule: 6.4 (30), 6.27
 -- code: store_keep::change
-abbrev pub isSetting : ℕ → Bool
-isSetting tag = leb 1 tag && leb tag 3
+abbrev pub is_setting : ℕ → Bool
+is_setting tag = leb 1 tag && leb tag 3
 
 -- settings with the one of a tag changed
 abbrev pub changed : ℕ → ℕ → Settings → Settings
@@ -144,18 +144,18 @@ changed tag value s =
       phase = cond (eqb tag 3) value s.phase;
     }
 
-abbrev pub allowedIn : Settings → Bool
-allowedIn s = allowedSettings s.kind s.rate s.phase
+abbrev pub allowed_in : Settings → Bool
+allowed_in s = allowed_settings s.kind s.rate s.phase
 
 -- as a read, then 30, then 28 for the settings as they would be
-unfoldable pub storeChanged : List ℕ → ℕ → ℕ → ℕ
-storeChanged octets tag value =
-    cond (not (eqb (storeRead octets).number 0)) (storeRead octets).number
-    (cond (not (isSetting tag)) 30
-    (cond (not (allowedIn (changed tag value (storeRead octets)))) 28
+unfoldable pub store_changed : List ℕ → ℕ → ℕ → ℕ
+store_changed octets tag value =
+    cond (not (eqb (store_read octets).number 0)) (store_read octets).number
+    (cond (not (is_setting tag)) 30
+    (cond (not (allowed_in (changed tag value (store_read octets)))) 28
     0))
 
 -- refused, the store stays as it was; else only the body's octet is another
-unfoldable pub changeLeft : List ℕ → ℕ → ℕ → List ℕ
-changeLeft octets tag value =
-    cond (eqb (storeChanged octets tag value) 0) (set octets (body_of tag (entries octets)).offset value) octets
+unfoldable pub change_left : List ℕ → ℕ → ℕ → List ℕ
+change_left octets tag value =
+    cond (eqb (store_changed octets tag value) 0) (set octets (body_of tag (entries octets)).offset value) octets

@@ -8,7 +8,7 @@ use lib.Dec.{eqb}
 use Rattle.rules_rates.specs.declared.Rate.{Rate}
 use Rattle.rules_rates.specs.declared.Rate.TheVariants.{One, Two, Five, Eleven}
 use Rattle.rules_chips.specs.declared.Counts.{Counts}
-use Rattle.rules_chips.specs.Chips.{turned, fullChip}
+use Rattle.rules_chips.specs.Chips.{turned, full_chip}
 
 abbrev pub one : Bool → ℕ
 one b = cond b 1 0
@@ -27,12 +27,12 @@ opposed (p ∷ v) (q ∷ w) = one (eqb (turned p 2) q) + opposed v w
 
 -- the counts of a word whose chips are all full and right
 abbrev pub clean : ℕ → List ℕ → List Counts
-clean full w = map (fullChip full) w
+clean full w = map (full_chip full) w
 
 -- the lead of a symbol whose chips are all full and right, in full chips: no other Barker or 5.5 Mbit/s word scores
 -- more than 0 against it, but at 11 Mbit/s one scores 4 of 8
-abbrev pub cleanLead : Rate → ℕ
-cleanLead One = 11
-cleanLead Two = 11
-cleanLead Five = 8
-cleanLead Eleven = 4
+abbrev pub clean_lead : Rate → ℕ
+clean_lead One = 11
+clean_lead Two = 11
+clean_lead Five = 8
+clean_lead Eleven = 4

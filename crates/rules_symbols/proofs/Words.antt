@@ -8,65 +8,65 @@ use native.Mathlib.Omega.{arith}
 use lib.ListN.{length, get_or}
 use lib.Dec.{lit<}
 use Rattle.base.specs.Tables.{tabulate}
-use Rattle.base.proofs.Tables.{get_d_tabulate, map-tabulate}
+use Rattle.base.proofs.Tables.{get_or_tabulate, map_tabulate}
 use Rattle.rules_rates.specs.declared.Rate.{Rate}
 use Rattle.rules_rates.specs.declared.Rate.TheVariants.{One, Two, Five, Eleven}
-use Rattle.rules_rates.specs.Rates.{symbolChips}
+use Rattle.rules_rates.specs.Rates.{symbol_chips}
 use Rattle.rules_chips.specs.Chips.{turned}
-use Rattle.rules_symbols.specs.Words.{barkerWord, cckWord, word_of}
+use Rattle.rules_symbols.specs.Words.{barker_word, cck_word, word_of}
 
 -- every chip of the list is a phase, and so is what stands for one past its end
 pub record Phases (w : List ℕ) : Type 0 where
   pub at : (j : ℕ) → get_or w j 0 < 4
 
-pub phases-none : Phases []
-phases-none = record { at = λ j. lit< tt }
+pub phases_none : Phases []
+phases_none = record { at = λ j. lit< tt }
 
-pub phases-cons : {x : ℕ} {w : List ℕ} → x < 4 → Phases w → Phases (x ∷ w)
-phases-cons {x} {w} h t = record { at = at }
+pub phases_cons : {x : ℕ} {w : List ℕ} → x < 4 → Phases w → Phases (x ∷ w)
+phases_cons {x} {w} h t = record { at = at }
   where
     at : (j : ℕ) → get_or (x ∷ w) j 0 < 4
     at zero = h
     at (suc j) = t.at j
 
-pub phases-tail : {x : ℕ} {w : List ℕ} → Phases (x ∷ w) → Phases w
-phases-tail h = record { at = λ j. h.at (suc j) }
+pub phases_tail : {x : ℕ} {w : List ℕ} → Phases (x ∷ w) → Phases w
+phases_tail h = record { at = λ j. h.at (suc j) }
 
 pub turn : (x : ℕ) → x % 4 < 4
 turn x = omega arith
 
-pub cck-phases : (p1 p2 p3 p4 : ℕ) → Phases (cckWord p1 p2 p3 p4)
-unfolding cckWord
-cck-phases p1 p2 p3 p4 =
-    phases-cons (turn _) (phases-cons (turn _) (phases-cons (turn _) (phases-cons (turn _)
-    (phases-cons (turn _) (phases-cons (turn _) (phases-cons (turn _) (phases-cons (turn _) phases-none)))))))
+pub cck_phases : (p1 p2 p3 p4 : ℕ) → Phases (cck_word p1 p2 p3 p4)
+unfolding cck_word
+cck_phases p1 p2 p3 p4 =
+    phases_cons (turn _) (phases_cons (turn _) (phases_cons (turn _) (phases_cons (turn _)
+    (phases_cons (turn _) (phases_cons (turn _) (phases_cons (turn _) (phases_cons (turn _) phases_none)))))))
 
-pub barker-phases : (p : ℕ) → Phases (barkerWord p)
-unfolding barkerWord
-barker-phases p =
-    phases-cons (turn _) (phases-cons (turn _) (phases-cons (turn _) (phases-cons (turn _)
-    (phases-cons (turn _) (phases-cons (turn _) (phases-cons (turn _) (phases-cons (turn _)
-    (phases-cons (turn _) (phases-cons (turn _) (phases-cons (turn _) phases-none))))))))))
+pub barker_phases : (p : ℕ) → Phases (barker_word p)
+unfolding barker_word
+barker_phases p =
+    phases_cons (turn _) (phases_cons (turn _) (phases_cons (turn _) (phases_cons (turn _)
+    (phases_cons (turn _) (phases_cons (turn _) (phases_cons (turn _) (phases_cons (turn _)
+    (phases_cons (turn _) (phases_cons (turn _) (phases_cons (turn _) phases_none))))))))))
 
-pub word-phases : (r : Rate) (n : ℕ) → Phases (word_of r n)
-word-phases One n = barker-phases n
-word-phases Two n = barker-phases n
-word-phases Five n = cck-phases _ _ _ _
-word-phases Eleven n = cck-phases _ _ _ _
+pub word_phases : (r : Rate) (n : ℕ) → Phases (word_of r n)
+word_phases One n = barker_phases n
+word_phases Two n = barker_phases n
+word_phases Five n = cck_phases _ _ _ _
+word_phases Eleven n = cck_phases _ _ _ _
 
-pub cck-length : (p1 p2 p3 p4 : ℕ) → length (cckWord p1 p2 p3 p4) ≡ 8
-unfolding cckWord
-cck-length p1 p2 p3 p4 = refl
+pub cck_length : (p1 p2 p3 p4 : ℕ) → length (cck_word p1 p2 p3 p4) ≡ 8
+unfolding cck_word
+cck_length p1 p2 p3 p4 = refl
 
-pub barker-length : (p : ℕ) → length (barkerWord p) ≡ 11
-unfolding barkerWord
-barker-length p = refl
+pub barker_length : (p : ℕ) → length (barker_word p) ≡ 11
+unfolding barker_word
+barker_length p = refl
 
-pub word-length : (r : Rate) (n : ℕ) → length (word_of r n) ≡ symbolChips r
-word-length One n = barker-length n
-word-length Two n = barker-length n
-word-length Five n = cck-length _ _ _ _
-word-length Eleven n = cck-length _ _ _ _
+pub word_length : (r : Rate) (n : ℕ) → length (word_of r n) ≡ symbol_chips r
+word_length One n = barker_length n
+word_length Two n = barker_length n
+word_length Five n = cck_length _ _ _ _
+word_length Eleven n = cck_length _ _ _ _
 
 -- the chips of two words, each turned by the other's
 unfoldable pub together : List ℕ → List ℕ → List ℕ
@@ -75,34 +75,34 @@ together (x ∷ v) [] = []
 together (x ∷ v) (y ∷ w) = turned x y ∷ together v w
 
 -- ---- a turn of the phase turns every chip
-turn-turn : (p s : ℕ) → turned p (s % 4) ≡ turned p s
-turn-turn p s = omega arith
+turn_turn : (p s : ℕ) → turned p (s % 4) ≡ turned p s
+turn_turn p s = omega arith
 
-one-turn : (p s t : ℕ) → p + s ≡ t → turned p (s % 4) ≡ t % 4
-one-turn p s t e = turn-turn p s ∙ ap (λ (n : ℕ). n % 4) e
+one_turn : (p s t : ℕ) → p + s ≡ t → turned p (s % 4) ≡ t % 4
+one_turn p s t e = turn_turn p s ∙ ap (λ (n : ℕ). n % 4) e
 
 -- a phase may be reduced first
-pub turn-mod : (p x : ℕ) → turned (p % 4) x ≡ turned p x
-turn-mod p x = omega arith
+pub turn_mod : (p x : ℕ) → turned (p % 4) x ≡ turned p x
+turn_mod p x = omega arith
 
-pub cck-turned : (p1 p2 p3 p4 : ℕ) → map (turned p1) (cckWord 0 p2 p3 p4) ≡ cckWord p1 p2 p3 p4
-unfolding cckWord
-cck-turned p1 p2 p3 p4 =
+pub cck_turned : (p1 p2 p3 p4 : ℕ) → map (turned p1) (cck_word 0 p2 p3 p4) ≡ cck_word p1 p2 p3 p4
+unfolding cck_word
+cck_turned p1 p2 p3 p4 =
     λ i.
     one-turn p1 (0 + p2 + p3 + p4) (p1 + p2 + p3 + p4) (omega arith) i
-    ∷ one-turn p1 (0 + p3 + p4) (p1 + p3 + p4) (omega arith) i
-    ∷ one-turn p1 (0 + p2 + p4) (p1 + p2 + p4) (omega arith) i
-    ∷ one-turn p1 (0 + p4 + 2) (p1 + p4 + 2) (omega arith) i
-    ∷ one-turn p1 (0 + p2 + p3) (p1 + p2 + p3) (omega arith) i
-    ∷ one-turn p1 (0 + p3) (p1 + p3) (omega arith) i
-    ∷ one-turn p1 (0 + p2 + 2) (p1 + p2 + 2) (omega arith) i
-    ∷ one-turn p1 0 p1 (omega arith) i
+    ∷ one_turn p1 (0 + p3 + p4) (p1 + p3 + p4) (omega arith) i
+    ∷ one_turn p1 (0 + p2 + p4) (p1 + p2 + p4) (omega arith) i
+    ∷ one_turn p1 (0 + p4 + 2) (p1 + p4 + 2) (omega arith) i
+    ∷ one_turn p1 (0 + p2 + p3) (p1 + p2 + p3) (omega arith) i
+    ∷ one_turn p1 (0 + p3) (p1 + p3) (omega arith) i
+    ∷ one_turn p1 (0 + p2 + 2) (p1 + p2 + 2) (omega arith) i
+    ∷ one_turn p1 0 p1 (omega arith) i
     ∷ []
 
 -- the other phases may be reduced first
-pub cck-mod : (p1 p2 p3 p4 : ℕ) → cckWord p1 (p2 % 4) (p3 % 4) (p4 % 4) ≡ cckWord p1 p2 p3 p4
-unfolding cckWord
-cck-mod p1 p2 p3 p4 =
+pub cck_mod : (p1 p2 p3 p4 : ℕ) → cck_word p1 (p2 % 4) (p3 % 4) (p4 % 4) ≡ cck_word p1 p2 p3 p4
+unfolding cck_word
+cck_mod p1 p2 p3 p4 =
     λ i.
     three p1 p2 p3 p4 i ∷ two p1 p3 p4 i ∷ two p1 p2 p4 i ∷ half p1 p4 i ∷ two p1 p2 p3 i ∷ one p1 p3 i ∷ half p1 p2 i
     ∷ p1 % 4 ∷ []
@@ -126,11 +126,11 @@ cck-mod p1 p2 p3 p4 =
 -- phases. With the words of each phase alone, which are computed, that leaves one word for each number
 -- rule: 3.2
 -- code: cck_word
-pub cck-adds : (p1 p2 p3 p4 q1 q2 q3 q4 : ℕ)
-    → together (cckWord p1 p2 p3 p4) (cckWord q1 q2 q3 q4)
-    ≡ together (cckWord (p1 + q1) (p2 + q2) (p3 + q3) (p4 + q4)) (cckWord 0 0 0 0)
-unfolding cckWord together
-cck-adds p1 p2 p3 p4 q1 q2 q3 q4 =
+pub cck_adds : (p1 p2 p3 p4 q1 q2 q3 q4 : ℕ)
+    → together (cck_word p1 p2 p3 p4) (cck_word q1 q2 q3 q4)
+    ≡ together (cck_word (p1 + q1) (p2 + q2) (p3 + q3) (p4 + q4)) (cck_word 0 0 0 0)
+unfolding cck_word together
+cck_adds p1 p2 p3 p4 q1 q2 q3 q4 =
     λ i.
     both (p1 + p2 + p3 + p4) (q1 + q2 + q3 + q4) (p1 + q1 + (p2 + q2) + (p3 + q3) + (p4 + q4)) 0 (omega arith) i
     ∷ both (p1 + p3 + p4) (q1 + q3 + q4) (p1 + q1 + (p3 + q3) + (p4 + q4)) 0 (omega arith) i
@@ -148,61 +148,61 @@ cck-adds p1 p2 p3 p4 q1 q2 q3 q4 =
     both : (x y z w : ℕ) → x + y ≡ z + w → (x % 4 + y % 4) % 4 ≡ (z % 4 + w % 4) % 4
     both x y z w e = sums x y ∙ ap (λ (n : ℕ). n % 4) e ∙ sym (sums z w)
 
-pub barker-turned : (p : ℕ) → map (turned p) (barkerWord 0) ≡ barkerWord p
-unfolding barkerWord
-barker-turned p = refl
+pub barker_turned : (p : ℕ) → map (turned p) (barker_word 0) ≡ barker_word p
+unfolding barker_word
+barker_turned p = refl
 
 -- a turn of a word that has a phase already
-turns-add : (q p : ℕ) (w : List ℕ) → map (turned (turned q p)) w ≡ map (turned q) (map (turned p) w)
-turns-add q p [] = refl
-turns-add q p (c ∷ w) = λ i. both i ∷ turns-add q p w i
+turns_add : (q p : ℕ) (w : List ℕ) → map (turned (turned q p)) w ≡ map (turned q) (map (turned p) w)
+turns_add q p [] = refl
+turns_add q p (c ∷ w) = λ i. both i ∷ turns_add q p w i
   where
     both : turned (turned q p) c ≡ turned q (turned p c)
     both = omega arith
 
-pub cck-turns : (q p1 p2 p3 p4 : ℕ) → map (turned q) (cckWord p1 p2 p3 p4) ≡ cckWord (turned q p1) p2 p3 p4
-cck-turns q p1 p2 p3 p4 =
-    ap (map (turned q)) (sym (cck-turned p1 p2 p3 p4)) ∙ sym (turns-add q p1 (cckWord 0 p2 p3 p4))
-    ∙ cck-turned (turned q p1) p2 p3 p4
+pub cck_turns : (q p1 p2 p3 p4 : ℕ) → map (turned q) (cck_word p1 p2 p3 p4) ≡ cck_word (turned q p1) p2 p3 p4
+cck_turns q p1 p2 p3 p4 =
+    ap (map (turned q)) (sym (cck_turned p1 p2 p3 p4)) ∙ sym (turns_add q p1 (cck_word 0 p2 p3 p4))
+    ∙ cck_turned (turned q p1) p2 p3 p4
 
-pub barker-turns : (q p : ℕ) → map (turned q) (barkerWord p) ≡ barkerWord (turned q p)
-barker-turns q p =
-    ap (map (turned q)) (sym (barker-turned p)) ∙ sym (turns-add q p (barkerWord 0)) ∙ barker-turned (turned q p)
+pub barker_turns_lem : (q p : ℕ) → map (turned q) (barker_word p) ≡ barker_word (turned q p)
+barker_turns_lem q p =
+    ap (map (turned q)) (sym (barker_turned p)) ∙ sym (turns_add q p (barker_word 0)) ∙ barker_turned (turned q p)
 
 -- ---- the tables
-abbrev pub barkerTurns : List ℕ
-barkerTurns = 0 ∷ 2 ∷ 0 ∷ 0 ∷ 2 ∷ 0 ∷ 0 ∷ 0 ∷ 2 ∷ 2 ∷ 2 ∷ []
+abbrev pub barker_turns : List ℕ
+barker_turns = 0 ∷ 2 ∷ 0 ∷ 0 ∷ 2 ∷ 0 ∷ 0 ∷ 0 ∷ 2 ∷ 2 ∷ 2 ∷ []
 
-pub barker-rule : barkerTurns ≡ barkerWord 0
-unfolding barkerWord
-barker-rule = refl
+pub barker_rule : barker_turns ≡ barker_word 0
+unfolding barker_word
+barker_rule = refl
 
 -- the word of 5.5 Mbit/s by d = 2 d2 + d3
-abbrev pub fiveWord : ℕ → ℕ → List ℕ
-fiveWord p1 d = cckWord p1 (2 * (d / 2) + 1) 0 (2 * (d % 2))
+abbrev pub five_word : ℕ → ℕ → List ℕ
+five_word p1 d = cck_word p1 (2 * (d / 2) + 1) 0 (2 * (d % 2))
 
-abbrev pub fiveTable : List (List ℕ)
-fiveTable =
+abbrev pub five_table : List (List ℕ)
+five_table =
     (1 ∷ 0 ∷ 1 ∷ 2 ∷ 1 ∷ 0 ∷ 3 ∷ 0 ∷ [])
     ∷ (3 ∷ 2 ∷ 3 ∷ 0 ∷ 1 ∷ 0 ∷ 3 ∷ 0 ∷ [])
     ∷ (3 ∷ 0 ∷ 3 ∷ 2 ∷ 3 ∷ 0 ∷ 1 ∷ 0 ∷ [])
     ∷ (1 ∷ 2 ∷ 1 ∷ 0 ∷ 3 ∷ 0 ∷ 1 ∷ 0 ∷ [])
     ∷ []
 
-pub five-rule : fiveTable ≡ tabulate (fiveWord 0) 4
-unfolding tabulate cckWord
-five-rule = refl
+pub five_rule : five_table ≡ tabulate (five_word 0) 4
+unfolding tabulate cck_word
+five_rule = refl
 
-pub five-at : (d : ℕ) → d < 4 → get_or fiveTable d [] ≡ fiveWord 0 d
-five-at d h = ap (λ (t : List (List ℕ)). get_or t d []) five-rule ∙ get_d_tabulate (fiveWord 0) 4 d [] h
+pub five_at_lem : (d : ℕ) → d < 4 → get_or five_table d [] ≡ five_word 0 d
+five_at_lem d h = ap (λ (t : List (List ℕ)). get_or t d []) five_rule ∙ get_or_tabulate (five_word 0) 4 d [] h
 
 -- ---- a loop that turns every sign has made the word
-abbrev pub turnedAt : ℕ → List ℕ → ℕ → ℕ
-turnedAt p w j = turned p (get_or w j 0)
+abbrev pub turned_at : ℕ → List ℕ → ℕ → ℕ
+turned_at p w j = turned p (get_or w j 0)
 
-pub barker-filled : (p : ℕ) → tabulate (turnedAt p barkerTurns) 11 ≡ barkerWord p
-barker-filled p = sym (map-tabulate (turned p) barkerTurns 11 0 refl) ∙ ap (map (turned p)) barker-rule
-    ∙ barker-turned p
+pub barker_filled : (p : ℕ) → tabulate (turned_at p barker_turns) 11 ≡ barker_word p
+barker_filled p = sym (map_tabulate (turned p) barker_turns 11 0 refl) ∙ ap (map (turned p)) barker_rule
+    ∙ barker_turned p
 
-pub barker-turns-phases : Phases barkerTurns
-barker-turns-phases = rw barker-rule (barker-phases 0)
+pub barker_turns_phases : Phases barker_turns
+barker_turns_phases = rw barker_rule (barker_phases 0)

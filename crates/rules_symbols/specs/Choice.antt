@@ -7,7 +7,7 @@ use Rattle.std.specs.Int.Signed.{lt_z}
 use Rattle.rules_rates.specs.declared.Rate.{Rate}
 use Rattle.rules_rates.specs.declared.Rate.TheVariants.{One, Two, Five, Eleven}
 use Rattle.rules_chips.specs.declared.Counts.{Counts}
-use Rattle.rules_symbols.specs.Words.{word_of, p2Of, p3Of, p4Of}
+use Rattle.rules_symbols.specs.Words.{word_of, p2_of, p3_of, p4_of}
 
 -- I, Q, -I or -Q, as the word's chip is 0, 1, 2 or 3
 abbrev pub term : ℕ → Counts → ℤ
@@ -27,11 +27,11 @@ numbers Five = 256
 numbers Eleven = 256
 
 -- allowed at 11 Mbit/s are all 256 words; at 5.5 those with p3 = 0, p2 odd, p4 even; for Barker the four phases
-abbrev pub isAllowed : Rate → ℕ → Bool
-isAllowed One n = true
-isAllowed Two n = true
-isAllowed Five n = eqb (p3Of n) 0 && eqb (p2Of n % 2) 1 && eqb (p4Of n % 2) 0
-isAllowed Eleven n = true
+abbrev pub is_allowed : Rate → ℕ → Bool
+is_allowed One n = true
+is_allowed Two n = true
+is_allowed Five n = eqb (p3_of n) 0 && eqb (p2_of n % 2) 1 && eqb (p4_of n % 2) 0
+is_allowed Eleven n = true
 
 -- the numbers below n that pass a test, rising
 unfoldable pub those : (ℕ → Bool) → ℕ → List ℕ
@@ -39,20 +39,20 @@ those test zero = []
 those test (suc n) = those test n ++ cond (test n) (n ∷ []) []
 
 abbrev pub allowed : Rate → List ℕ
-allowed r = those (isAllowed r) (numbers r)
+allowed r = those (is_allowed r) (numbers r)
 
 -- the first of a list at which f is largest: a later one takes the place only of a smaller value
 unfoldable pub going : (ℕ → ℤ) → ℕ → List ℕ → ℕ
 going f best [] = best
 going f best (n ∷ ns) = going f (cond (lt_z (f best) (f n)) n best) ns
 
-unfoldable pub firstLargest : (ℕ → ℤ) → List ℕ → ℕ
-firstLargest f [] = 0
-firstLargest f (n ∷ ns) = going f n ns
+unfoldable pub first_largest : (ℕ → ℤ) → List ℕ → ℕ
+first_largest f [] = 0
+first_largest f (n ∷ ns) = going f n ns
 
 -- the number of the word that a symbol's counts are decided as
 unfoldable pub decided : Rate → List Counts → ℕ
-decided r cs = firstLargest (λ n. score (word_of r n) cs) (allowed r)
+decided r cs = first_largest (λ n. score (word_of r n) cs) (allowed r)
 
 -- the numbers of a list but one
 unfoldable pub others : ℕ → List ℕ → List ℕ
@@ -61,7 +61,7 @@ others w (n ∷ ns) = cond (eqb n w) (others w ns) (n ∷ others w ns)
 
 -- the lead of the word decided: its score less the best score among the other allowed words, in counts; 0 at a tie.
 -- No other scores more, so the difference is never below 0 (`lead_is` of rules_choosing)
-unfoldable pub leadOf : Rate → List Counts → ℕ
-leadOf r cs =
+unfoldable pub lead_of : Rate → List Counts → ℕ
+lead_of r cs =
     let f : ℕ → ℤ = λ n. score (word_of r n) cs in
-    nat_abs (f (decided r cs) -ℤ f (firstLargest f (others (decided r cs) (allowed r))))
+    nat_abs (f (decided r cs) -ℤ f (first_largest f (others (decided r cs) (allowed r))))

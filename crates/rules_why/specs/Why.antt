@@ -4,13 +4,13 @@
 use Rattle.std.specs.Prelude.{ℕ, ◌-◌, ◌*◌, ◌/◌, ◌%◌, true, cond, List, length, get_or, take, drop, ℤ, nat_abs}
 use Rattle.rules_rates.specs.declared.Rate.{Rate}
 use Rattle.rules_rates.specs.declared.Rate.TheVariants.{One, Two, Five, Eleven}
-use Rattle.rules_rates.specs.Rates.{rateOf, lengthField, octetsRead, isPayload}
-use Rattle.rules_chips.specs.Chips.{Taken, hardRecording}
-use Rattle.rules_bits.specs.Bits.{number_of, highestFirst}
-use Rattle.rules_bits.specs.Growths.{grownBy}
-use Rattle.rules_bits.specs.Crc.{crcBits}
+use Rattle.rules_rates.specs.Rates.{rate_of, length_field, octets_read, is_payload}
+use Rattle.rules_chips.specs.Chips.{Taken, hard_recording}
+use Rattle.rules_bits.specs.Bits.{number_of, highest_first}
+use Rattle.rules_bits.specs.Growths.{grown_by}
+use Rattle.rules_bits.specs.Crc.{crc_bits}
 use Rattle.rules_frame.specs.declared.Kind.{Kind}
-use Rattle.rules_frame.specs.Frame.{kind_of, sfdOf, frontChips, frameChips}
+use Rattle.rules_frame.specs.Frame.{kind_of, sfd_of, front_chips, frame_chips}
 use Rattle.rules_calls.specs.declared.Refusal.{Refusal}
 use Rattle.rules_calls.specs.declared.Refusal.TheVariants.{
   NoKind,
@@ -33,35 +33,35 @@ use Rattle.rules_calls.specs.declared.Refusal.TheVariants.{
 }
 use Rattle.rules_calls.specs.declared.Reading.{Reading}
 use Rattle.rules_calls.specs.declared.Reading.TheVariants.{Refused, Good}
-use Rattle.rules_calls.specs.Answers.{refusalNumber, refusalPlace}
-use Rattle.rules_reading.specs.Places.{wordFrom}
-use Rattle.rules_reading.specs.Heard.{sfdHeard, headerHeard, signalHeard, serviceHeard, lengthHeard}
+use Rattle.rules_calls.specs.Answers.{refusal_number, refusal_place}
+use Rattle.rules_reading.specs.Places.{word_from}
+use Rattle.rules_reading.specs.Heard.{sfd_heard, header_heard, signal_heard, service_heard, length_heard}
 use Rattle.rules_reading.specs.Reading.{reading_of}
 use Rattle.rules_why.specs.declared.Reason.{Reason}
 
 -- ---- what is shown
 
 -- 10: how far the 1 Mbit/s symbol at a place grew from the symbol before it
-abbrev pub growthAt : ℕ → List Taken → ℕ
-growthAt place rec = grownBy (wordFrom One (place - 11) rec) (wordFrom One place rec)
+abbrev pub growth_at : ℕ → List Taken → ℕ
+growth_at place rec = grown_by (word_from One (place - 11) rec) (word_from One place rec)
 
 -- 14: SERVICE with its allowed bits cleared: bit 2, and at 11 Mbit/s bit 7
-abbrev pub serviceLeft : Rate → ℕ → ℕ
-serviceLeft One s = s - 4 * (s / 4 % 2)
-serviceLeft Two s = s - 4 * (s / 4 % 2)
-serviceLeft Five s = s - 4 * (s / 4 % 2)
-serviceLeft Eleven s = s - 4 * (s / 4 % 2) - 128 * (s / 128 % 2)
+abbrev pub service_left : Rate → ℕ → ℕ
+service_left One s = s - 4 * (s / 4 % 2)
+service_left Two s = s - 4 * (s / 4 % 2)
+service_left Five s = s - 4 * (s / 4 % 2)
+service_left Eleven s = s - 4 * (s / 4 % 2) - 128 * (s / 128 % 2)
 
 -- 15: the LENGTH that the writer makes for n octets; 0 where n is outside 1 to 4,095
-abbrev pub lengthFor : Rate → ℤ → ℕ
-lengthFor r n = cond (isPayload n) (lengthField r (nat_abs n)) 0
+abbrev pub length_for : Rate → ℤ → ℕ
+length_for r n = cond (is_payload n) (length_field r (nat_abs n)) 0
 
 -- 14 to 17: the rate that SIGNAL says, and the octets n that LENGTH and bit 7 then say
-abbrev pub rateHeard : Kind → List Taken → Rate
-rateHeard k rec = rateOf (signalHeard k rec)
+abbrev pub rate_heard : Kind → List Taken → Rate
+rate_heard k rec = rate_of (signal_heard k rec)
 
-abbrev pub octetsSaid : Kind → List Taken → ℤ
-octetsSaid k rec = octetsRead (rateHeard k rec) (lengthHeard k rec) (serviceHeard k rec / 128 % 2)
+abbrev pub octets_said : Kind → List Taken → ℤ
+octets_said k rec = octets_read (rate_heard k rec) (length_heard k rec) (service_heard k rec / 128 % 2)
 
 abbrev pub reason : ℕ → ℕ → ℕ → ℕ → Reason
 reason number place expected found =
@@ -70,32 +70,32 @@ reason number place expected found =
 -- ---- the table: for each refusal of a read what was expected, and what was found. 2 to 7 cannot come
 
 module _ (kind : ℕ) (k : Kind) (chips : List ℕ) (rec : List Taken) (room : ℕ) where
-  abbrev pub shownOf : Refusal → ℕ × ℕ
-  shownOf NoKind = (0, kind)
-  shownOf NoRate = (0, 0)
-  shownOf ShortRate = (0, 0)
-  shownOf PayloadSize = (0, 0)
-  shownOf NoPhase = (0, 0)
-  shownOf ChipRoom = (0, 0)
-  shownOf RowsDiffer = (0, 0)
-  shownOf ShorterThanFront = (frontChips k, length chips)
-  shownOf (Unusable place l) = (0, get_or chips place 0)
-  shownOf (OddGrowth place l) = (0, growthAt place rec)
-  shownOf Sfd = (sfdOf k, number_of (sfdHeard k rec))
-  shownOf Crc = (highestFirst (crcBits (take 32 (headerHeard k rec))), highestFirst (drop 32 (headerHeard k rec)))
-  shownOf (Signal l) = (0, signalHeard k rec)
-  shownOf (Service l) = (0, serviceLeft (rateHeard k rec) (serviceHeard k rec))
-  shownOf (Length l) = (lengthFor (rateHeard k rec) (octetsSaid k rec), l)
-  shownOf (Ends l) = (frameChips k (rateHeard k rec) (nat_abs (octetsSaid k rec)), length chips)
-  shownOf (OctetRoom l) = (nat_abs (octetsSaid k rec), room)
+  abbrev pub shown_of : Refusal → ℕ × ℕ
+  shown_of NoKind = (0, kind)
+  shown_of NoRate = (0, 0)
+  shown_of ShortRate = (0, 0)
+  shown_of PayloadSize = (0, 0)
+  shown_of NoPhase = (0, 0)
+  shown_of ChipRoom = (0, 0)
+  shown_of RowsDiffer = (0, 0)
+  shown_of ShorterThanFront = (front_chips k, length chips)
+  shown_of (Unusable place l) = (0, get_or chips place 0)
+  shown_of (OddGrowth place l) = (0, growth_at place rec)
+  shown_of Sfd = (sfd_of k, number_of (sfd_heard k rec))
+  shown_of Crc = (highest_first (crc_bits (take 32 (header_heard k rec))), highest_first (drop 32 (header_heard k rec)))
+  shown_of (Signal l) = (0, signal_heard k rec)
+  shown_of (Service l) = (0, service_left (rate_heard k rec) (service_heard k rec))
+  shown_of (Length l) = (length_for (rate_heard k rec) (octets_said k rec), l)
+  shown_of (Ends l) = (frame_chips k (rate_heard k rec) (nat_abs (octets_said k rec)), length chips)
+  shown_of (OctetRoom l) = (nat_abs (octets_said k rec), room)
 
   -- a refusal answers its number, its place and its row of the table; a good read answers four zeros
-  abbrev pub reasonOf : Reading → Reason
-  reasonOf (Refused e) = reason (refusalNumber e) (refusalPlace e) (shownOf e).0 (shownOf e).1
-  reasonOf (Good t used least) = reason 0 0 0 0
+  abbrev pub reason_of : Reading → Reason
+  reason_of (Refused e) = reason (refusal_number e) (refusal_place e) (shown_of e).0 (shown_of e).1
+  reason_of (Good t used least) = reason 0 0 0 0
 
 -- from a kind as a number, the octets of a hard recording, and room for so many octets, as a number
-unfoldable pub whyOf : ℕ → List ℕ → ℕ → Reason
-whyOf kind chips room =
-    let rec = hardRecording chips in
-    reasonOf kind (kind_of kind) chips rec room (reading_of kind true rec room)
+unfoldable pub why_of : ℕ → List ℕ → ℕ → Reason
+why_of kind chips room =
+    let rec = hard_recording chips in
+    reason_of kind (kind_of kind) chips rec room (reading_of kind true rec room)

@@ -4,13 +4,13 @@
 -- working notion: of the code that says why; no promise needs it
 use Rattle.std.specs.Prelude.{◌≡◌, List, ℕ, ◌/◌, ◌%◌, ◌<◌, take, drop}
 use Rattle.rules_rates.specs.declared.Rate.TheVariants.{One}
-use Rattle.rules_rates.specs.Rates.{rateOf, octetsRead}
-use Rattle.rules_chips.specs.Chips.{hardRecording}
-use Rattle.rules_bits.specs.Bits.{number_of, highestFirst}
-use Rattle.rules_bits.specs.Growths.{growthsOf, lastHeard}
-use Rattle.rules_bits.specs.Crc.{crcBits}
+use Rattle.rules_rates.specs.Rates.{rate_of, octets_read}
+use Rattle.rules_chips.specs.Chips.{hard_recording}
+use Rattle.rules_bits.specs.Bits.{number_of, highest_first}
+use Rattle.rules_bits.specs.Growths.{growths_of, last_heard}
+use Rattle.rules_bits.specs.Crc.{crc_bits}
 use Rattle.rules_frame.specs.declared.Kind.{Kind}
-use Rattle.rules_frame.specs.Frame.{sfdOf}
+use Rattle.rules_frame.specs.Frame.{sfd_of}
 use Rattle.rules_calls.specs.declared.Refusal.{Refusal}
 use Rattle.rules_calls.specs.declared.Refusal.TheVariants.{
   NoKind,
@@ -32,11 +32,11 @@ use Rattle.rules_calls.specs.declared.Refusal.TheVariants.{
   OctetRoom,
 }
 use Rattle.rules_calls.specs.declared.Front.{Front}
-use Rattle.rules_calls.specs.Answers.{refusalNumber, refusalPlace}
-use Rattle.rules_reading.specs.Reading.{firstOdd, whole_of, afterFront}
-use Rattle.choose_recorded.specs.Recorded.{whereFound}
+use Rattle.rules_calls.specs.Answers.{refusal_number, refusal_place}
+use Rattle.rules_reading.specs.Reading.{first_odd, whole_of, after_front}
+use Rattle.choose_recorded.specs.Recorded.{where_found}
 use Rattle.rules_why.specs.declared.Reason.{Reason}
-use Rattle.rules_why.specs.Why.{serviceLeft, lengthFor, reason, reasonOf}
+use Rattle.rules_why.specs.Why.{service_left, length_for, reason, reason_of}
 use Rattle.small_calls.specs.declared.odd.Grown.{Grown}
 
 -- 11 to 15: what was expected and what was found, by the bits of the SFD and of the header; of no other refusal do they
@@ -51,37 +51,37 @@ module _ (k : Kind) (sfd header : List ℕ) where
   abbrev micros : ℕ
   micros = number_of (take 16 (drop 16 header))
 
-  abbrev pub headerRow : Refusal → ℕ × ℕ
-  headerRow NoKind = (0, 0)
-  headerRow NoRate = (0, 0)
-  headerRow ShortRate = (0, 0)
-  headerRow PayloadSize = (0, 0)
-  headerRow NoPhase = (0, 0)
-  headerRow ChipRoom = (0, 0)
-  headerRow RowsDiffer = (0, 0)
-  headerRow ShorterThanFront = (0, 0)
-  headerRow (Unusable place l) = (0, 0)
-  headerRow (OddGrowth place l) = (0, 0)
-  headerRow Sfd = (sfdOf k, number_of sfd)
-  headerRow Crc = (highestFirst (crcBits (take 32 header)), highestFirst (drop 32 header))
-  headerRow (Signal l) = (0, signal)
-  headerRow (Service l) = (0, serviceLeft (rateOf signal) service)
-  headerRow (Length l) = (lengthFor (rateOf signal) (octetsRead (rateOf signal) micros (service / 128 % 2)), micros)
-  headerRow (Ends l) = (0, 0)
-  headerRow (OctetRoom l) = (0, 0)
+  abbrev pub header_row : Refusal → ℕ × ℕ
+  header_row NoKind = (0, 0)
+  header_row NoRate = (0, 0)
+  header_row ShortRate = (0, 0)
+  header_row PayloadSize = (0, 0)
+  header_row NoPhase = (0, 0)
+  header_row ChipRoom = (0, 0)
+  header_row RowsDiffer = (0, 0)
+  header_row ShorterThanFront = (0, 0)
+  header_row (Unusable place l) = (0, 0)
+  header_row (OddGrowth place l) = (0, 0)
+  header_row Sfd = (sfd_of k, number_of sfd)
+  header_row Crc = (highest_first (crc_bits (take 32 header)), highest_first (drop 32 header))
+  header_row (Signal l) = (0, signal)
+  header_row (Service l) = (0, service_left (rate_of signal) service)
+  header_row (Length l) = (length_for (rate_of signal) (octets_read (rate_of signal) micros (service / 128 % 2)), micros)
+  header_row (Ends l) = (0, 0)
+  header_row (OctetRoom l) = (0, 0)
 
-  abbrev pub headerShown : Refusal → Reason
-  headerShown e = reason (refusalNumber e) (refusalPlace e) (headerRow e).0 (headerRow e).1
+  abbrev pub header_shown : Refusal → Reason
+  header_shown e = reason (refusal_number e) (refusal_place e) (header_row e).0 (header_row e).1
 
 -- what is answered of a recording whose front tells f, for a kind as a number
-abbrev pub afterTold : ℕ → Kind → List ℕ → ℕ → Front → Reason
-afterTold kind k chips room f =
-    let rec = hardRecording chips in
-    reasonOf kind k chips rec room (afterFront k rec room (whole_of k rec f))
+abbrev pub after_told : ℕ → Kind → List ℕ → ℕ → Front → Reason
+after_told kind k chips room f =
+    let rec = hard_recording chips in
+    reason_of kind k chips rec room (after_front k rec room (whole_of k rec f))
 
 -- words at 1 Mbit/s from a place, the first of them grown from a phase: the first that is grown by 1 or 3, and the
 -- phase of the last
 pub record GrownOver (at phase : ℕ) (words : List ℕ) (g : Grown) : Type 0 where
-  pub odd : whereFound g.odd ≡ firstOdd at (growthsOf One phase words)
-  pub last : g.last ≡ lastHeard One phase words
+  pub odd : where_found g.odd ≡ first_odd at (growths_of One phase words)
+  pub last : g.last ≡ last_heard One phase words
   pub small : g.last < 4

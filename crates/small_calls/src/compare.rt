@@ -1,10 +1,10 @@
 // Two hard recordings of one kind compared: both are read, each into a buffer of its own, and then the chips are
 // compared, whatever came of that, and the payloads where both were accepted.
 ghost use Rattle.std.specs.Prelude.{◌≡◌, true, cond, ◌&&◌, ◌≤◌, eqb, length, take};
-ghost use Rattle.rules_chips.specs.Chips.{hardRecording};
-ghost use Rattle.rules_reading.specs.Reading.{octetsFound};
+ghost use Rattle.rules_chips.specs.Chips.{hard_recording};
+ghost use Rattle.rules_reading.specs.Reading.{octets_found};
 ghost use Rattle.rules_compare.specs.Differences.{differences, laid};
-ghost use Rattle.rules_compare.specs.Compared.{octetList, comparedOf};
+ghost use Rattle.rules_compare.specs.Compared.{octet_list, compared_of};
 
 use rules_calls::Record;
 use rules_compare::Compared;
@@ -42,17 +42,17 @@ pub fn compare(
     first: &mut [u8],
     second: &mut [u8],
 ) -> Compared
-    ensures answer { result ≡ comparedOf kind a.now b.now
+    ensures answer { result ≡ compared_of kind a.now b.now
         (length first.old) (length second.old) }
     ensures chips { chips.new
         ≡ laid (length chips.old) (differences a.now b.now) }
     ensures octets { octets.new
-        ≡ laid (length octets.old) (octetList kind a.now b.now
+        ≡ laid (length octets.old) (octet_list kind a.now b.now
         (length first.old) (length second.old)) }
     ensures first { first.new
-        ≡ octetsFound kind true (hardRecording a.now) (length first.old) }
+        ≡ octets_found kind true (hard_recording a.now) (length first.old) }
     ensures second { second.new
-        ≡ octetsFound kind true (hardRecording b.now) (length second.old) }
+        ≡ octets_found kind true (hard_recording b.now) (length second.old) }
 {
     let read_a = read_frames::read_hard(kind, a, first);
     let read_b = read_frames::read_hard(kind, b, second);

@@ -1,9 +1,9 @@
 // What is coming: a hard recording's front read, and none of its payload's chips; and the part of the recording that
 // holds those.
 ghost use Rattle.std.specs.Prelude.{◌≡◌, ◌≤◌};
-ghost use Rattle.rules_chips.specs.Chips.{hardRecording};
+ghost use Rattle.rules_chips.specs.Chips.{hard_recording};
 ghost use Rattle.rules_frame.specs.Frame.{kind_of};
-ghost use Rattle.rules_coming.specs.Coming.{frontReading, comingOf};
+ghost use Rattle.rules_coming.specs.Coming.{front_reading, coming_of};
 ghost use Rattle.promises.specs.Calls.{Handed};
 
 use choose_recorders::Recorder;
@@ -14,7 +14,7 @@ use rules_rates::Rate;
 
 // A refusal in numbers: all else is 0.
 fn refused(kind: Kind, e: Refusal) -> Coming
-    ensures answer { result ≡ comingOf kind (Front.Refused e) }
+    ensures answer { result ≡ coming_of kind (Front.Refused e) }
 {
     Coming {
         number: common_answers::number_of(e),
@@ -32,7 +32,7 @@ fn refused(kind: Kind, e: Refusal) -> Coming
 // What a header tells in numbers, the whole frame's chips, and where the payload's are.
 fn told(kind: Kind, t: Told) -> Coming
     requires { t.n ≤ 4095 }
-    ensures answer { result ≡ comingOf kind (Front.Fields t) }
+    ensures answer { result ≡ coming_of kind (Front.Fields t) }
 {
     let rate = t.rate;
     let at = common_kinds::front_chips(kind);
@@ -53,7 +53,7 @@ fn told(kind: Kind, t: Told) -> Coming
 // What is coming: 1, 8, then 9 and 10 over the front, 11 to 16.
 pub fn read_front(kind: u64, chips: &[u8]) -> Coming
     ensures answer { result ≡
-        comingOf (kind_of kind) (frontReading kind (hardRecording chips.now)) }
+        coming_of (kind_of kind) (front_reading kind (hard_recording chips.now)) }
 {
     let k = common_kinds::kind_of(kind);
     if !common_kinds::is_kind(kind) {

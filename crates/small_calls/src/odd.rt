@@ -1,13 +1,13 @@
 // Growths at 1 Mbit/s in a hard recording: how far one symbol grew, and the first symbol of a payload that is grown by
 // 1 or 3, block after block. No octet is worked out.
 ghost use Rattle.std.specs.Prelude.{◌≡◌, ◌+◌, ◌-◌, ◌*◌, ◌≤◌, ◌<◌, length};
-ghost use Rattle.rules_rates.specs.Rates.{octetChips};
-ghost use Rattle.rules_chips.specs.Chips.{hardRecording};
-ghost use Rattle.rules_bits.specs.Growths.{growthsOf};
-ghost use Rattle.rules_reading.specs.Reading.{firstOdd, oddGrowth};
-ghost use Rattle.rules_why.specs.Why.{growthAt};
-ghost use Rattle.choose_recorded.specs.Recorded.{whereFound, AllUsable, DecidedAt};
-ghost use Rattle.hear_parts.specs.Hearing.{partWords};
+ghost use Rattle.rules_rates.specs.Rates.{octet_chips};
+ghost use Rattle.rules_chips.specs.Chips.{hard_recording};
+ghost use Rattle.rules_bits.specs.Growths.{growths_of};
+ghost use Rattle.rules_reading.specs.Reading.{first_odd, odd_growth};
+ghost use Rattle.rules_why.specs.Why.{growth_at};
+ghost use Rattle.choose_recorded.specs.Recorded.{where_found, AllUsable, DecidedAt};
+ghost use Rattle.hear_parts.specs.Hearing.{part_words};
 ghost use Rattle.small_calls.specs.Why.{GrownOver};
 
 use choose_recorded::Place;
@@ -24,8 +24,8 @@ pub struct Grown {
 // Symbols at 1 Mbit/s from a place, at most 64, decided as reading decides them.
 fn decide(chips: &[u8], place: usize, m: usize, numbers: &mut [u8; 64])
     requires { (m ≤ 64) × (place + 11 * m ≤ length chips.now)
-        × AllUsable (hardRecording chips.now) place (11 * m) × (length numbers.old ≡ 64) }
-    ensures numbers { DecidedAt Rate.One (hardRecording chips.now) place m numbers.new }
+        × AllUsable (hard_recording chips.now) place (11 * m) × (length numbers.old ≡ 64) }
+    ensures numbers { DecidedAt Rate.One (hard_recording chips.now) place m numbers.new }
 {
     let byte = [0i8; 1];
     let bytes = &byte[0..0];
@@ -49,8 +49,8 @@ fn decide(chips: &[u8], place: usize, m: usize, numbers: &mut [u8; 64])
 // 10: how far the symbol at a place grew from the one before it.
 pub fn growth_at(chips: &[u8], place: usize) -> u64
     requires { (11 ≤ place) × (place + 11 ≤ length chips.now)
-        × AllUsable (hardRecording chips.now) (place - 11) 22 }
-    ensures answer { result ≡ growthAt place (hardRecording chips.now) }
+        × AllUsable (hard_recording chips.now) (place - 11) 22 }
+    ensures answer { result ≡ growth_at place (hard_recording chips.now) }
 {
     let mut numbers = [0u8; 64];
     decide(chips, place - 11, 2, &mut numbers);
@@ -68,9 +68,9 @@ fn at_most_8(left: usize) -> usize
 // Octets at 1 Mbit/s that start at a place, at most a block of them, the first symbol grown from a phase.
 fn block(chips: &[u8], place: usize, count: usize, before: u8) -> Grown
     requires { (0 < count) × (count ≤ 8) × (place + 88 * count ≤ length chips.now) × (before < 4)
-        × AllUsable (hardRecording chips.now) place (88 * count) }
+        × AllUsable (hard_recording chips.now) place (88 * count) }
     ensures answer { GrownOver place before
-        (partWords Rate.One place count (hardRecording chips.now)) result }
+        (part_words Rate.One place count (hard_recording chips.now)) result }
 {
     let mut numbers = [0u8; 64];
     let m = 8 * count;
@@ -84,9 +84,9 @@ fn block(chips: &[u8], place: usize, count: usize, before: u8) -> Grown
 // first of them from a phase.
 fn first_odd(chips: &[u8], from: usize, n: usize, phase: u8) -> Place
     requires { (from + 88 * n ≤ length chips.now) × (phase < 4)
-        × AllUsable (hardRecording chips.now) from (88 * n) }
-    ensures answer { whereFound result ≡ firstOdd from (growthsOf Rate.One phase
-        (partWords Rate.One from n (hardRecording chips.now))) }
+        × AllUsable (hard_recording chips.now) from (88 * n) }
+    ensures answer { where_found result ≡ first_odd from (growths_of Rate.One phase
+        (part_words Rate.One from n (hard_recording chips.now))) }
 {
     let mut place = from;
     let mut left = n;
@@ -107,10 +107,10 @@ fn first_odd(chips: &[u8], from: usize, n: usize, phase: u8) -> Place
 
 // 10 over a payload: symbols of the other rates may grow by anything, and none is looked at.
 pub fn odd_in_payload(chips: &[u8], from: usize, rate: Rate, n: usize, phase: u8) -> Place
-    requires { (from + octetChips rate * n ≤ length chips.now) × (phase < 4)
-        × AllUsable (hardRecording chips.now) from (octetChips rate * n) }
-    ensures answer { whereFound result ≡ oddGrowth rate from (growthsOf rate phase
-        (partWords rate from n (hardRecording chips.now))) }
+    requires { (from + octet_chips rate * n ≤ length chips.now) × (phase < 4)
+        × AllUsable (hard_recording chips.now) from (octet_chips rate * n) }
+    ensures answer { where_found result ≡ odd_growth rate from (growths_of rate phase
+        (part_words rate from n (hard_recording chips.now))) }
 {
     match rate {
         Rate::One => first_odd(chips, from, n, phase),

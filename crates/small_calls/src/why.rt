@@ -1,16 +1,16 @@
 // Why a read of a hard recording is refused: reading's own functions look for the refusal, and what it is about stands
 // in what they heard. No octet of a payload is worked out.
 ghost use Rattle.std.specs.Prelude.{◌≡◌, ℕ, ◌≤◌, ◌<◌, length};
-ghost use Rattle.rules_rates.specs.Rates.{octetsRead};
-ghost use Rattle.rules_chips.specs.Chips.{hardRecording};
-ghost use Rattle.rules_bits.specs.Bits.{octetBits};
-ghost use Rattle.rules_frame.specs.Frame.{frontChips, frameChips};
-ghost use Rattle.rules_calls.specs.Answers.{refusalNumber, refusalPlace};
-ghost use Rattle.rules_reading.specs.Reading.{payloadPhase, frontOf, payloadReading};
-ghost use Rattle.rules_why.specs.Why.{reason, serviceLeft, lengthFor, reasonOf, whyOf};
+ghost use Rattle.rules_rates.specs.Rates.{octets_read};
+ghost use Rattle.rules_chips.specs.Chips.{hard_recording};
+ghost use Rattle.rules_bits.specs.Bits.{octet_bits};
+ghost use Rattle.rules_frame.specs.Frame.{front_chips, frame_chips};
+ghost use Rattle.rules_calls.specs.Answers.{refusal_number, refusal_place};
+ghost use Rattle.rules_reading.specs.Reading.{payload_phase, front_of, payload_reading};
+ghost use Rattle.rules_why.specs.Why.{reason, service_left, length_for, reason_of, why_of};
 ghost use Rattle.choose_recorded.specs.Recorded.{AllUsable};
 ghost use Rattle.read_fronts.specs.Openings.{FrontKnown, Looks};
-ghost use Rattle.small_calls.specs.Why.{headerShown, afterTold};
+ghost use Rattle.small_calls.specs.Why.{header_shown, after_told};
 
 use choose_recorded::Place;
 use choose_recorders::Recorder;
@@ -25,7 +25,7 @@ use rules_why::Reason;
 
 // A refusal in numbers, with what was expected and what was found.
 fn refused(e: Refusal, expected: u64, found: u64) -> Reason
-    ensures answer { result ≡ reason (refusalNumber e) (refusalPlace e) expected found }
+    ensures answer { result ≡ reason (refusal_number e) (refusal_place e) expected found }
 {
     Reason {
         number: common_answers::number_of(e),
@@ -49,7 +49,7 @@ fn good() -> Reason
 
 // 14: SERVICE with its allowed bits cleared.
 fn service_left(r: Rate, service: u8) -> u8
-    ensures answer { result ≡ serviceLeft r service }
+    ensures answer { result ≡ service_left r service }
 {
     let two = service - 4 * (service / 4 % 2);
     match r {
@@ -64,7 +64,7 @@ fn service_left(r: Rate, service: u8) -> u8
 // 4,095.
 fn length_for(r: Rate, length: usize, seven: u8) -> usize
     requires { (length < 65536) × (seven < 2) }
-    ensures answer { result ≡ lengthFor r (octetsRead r length seven) }
+    ensures answer { result ≡ length_for r (octets_read r length seven) }
 {
     let n = common_header::octets_or_none(r, length, seven);
     if !rules_rates::is_payload(n) {
@@ -75,7 +75,7 @@ fn length_for(r: Rate, length: usize, seven: u8) -> usize
 
 // What the SFD and the header show for a refusal of theirs: 11 to 15.
 fn of_header(kind: Kind, sfd: [u8; 2], header: [u8; 6], e: Refusal) -> Reason
-    ensures answer { result ≡ headerShown kind (octetBits sfd) (octetBits header) e }
+    ensures answer { result ≡ header_shown kind (octet_bits sfd) (octet_bits header) e }
 {
     let r = rules_rates::rate_of(header[0] as u64);
     match e {
@@ -102,12 +102,12 @@ fn of_header(kind: Kind, sfd: [u8; 2], header: [u8; 6], e: Refusal) -> Reason
 
 // The payload that a front tells of, in a recording that has it, with room for it: 9, then 10 over it.
 fn of_chips(kind: Kind, chips: &[u8], told: Told, phase: u8) -> Reason
-    requires { (told.n ≤ 4095) × (frameChips kind told.rate told.n ≤ length chips.now)
-        × (phase ≡ payloadPhase kind (hardRecording chips.now)) × (phase < 4)
-        × AllUsable (hardRecording chips.now) 0 (frontChips kind) }
-    ensures answer { (number room : ℕ) → told.n ≤ room → result ≡ reasonOf number kind chips.now
-        (hardRecording chips.now) room
-        (payloadReading kind told (hardRecording chips.now) room) }
+    requires { (told.n ≤ 4095) × (frame_chips kind told.rate told.n ≤ length chips.now)
+        × (phase ≡ payload_phase kind (hard_recording chips.now)) × (phase < 4)
+        × AllUsable (hard_recording chips.now) 0 (front_chips kind) }
+    ensures answer { (number room : ℕ) → told.n ≤ room → result ≡ reason_of number kind chips.now
+        (hard_recording chips.now) room
+        (payload_reading kind told (hard_recording chips.now) room) }
 {
     let n = told.n;
     let rate = told.rate;
@@ -135,11 +135,11 @@ fn of_chips(kind: Kind, chips: &[u8], told: Told, phase: u8) -> Reason
 
 // What a front that told comes to: 16, 17, then 9 and 10 over the payload.
 fn of_payload(kind: Kind, chips: &[u8], room: u64, told: Told, phase: u8) -> Reason
-    requires { (frontOf kind (hardRecording chips.now) ≡ Front.Fields told)
-        × (phase ≡ payloadPhase kind (hardRecording chips.now)) × (phase < 4)
-        × AllUsable (hardRecording chips.now) 0 (frontChips kind) }
+    requires { (front_of kind (hard_recording chips.now) ≡ Front.Fields told)
+        × (phase ≡ payload_phase kind (hard_recording chips.now)) × (phase < 4)
+        × AllUsable (hard_recording chips.now) 0 (front_chips kind) }
     ensures answer { (number : ℕ) → result ≡
-        afterTold number kind chips.now room (Front.Fields told) }
+        after_told number kind chips.now room (Front.Fields told) }
 {
     let n = told.n;
     let rate = told.rate;
@@ -156,10 +156,10 @@ fn of_payload(kind: Kind, chips: &[u8], room: u64, told: Told, phase: u8) -> Rea
 
 // What a front that was heard comes to: 10, 11 to 15, and then its payload.
 fn of_front(kind: Kind, chips: &[u8], room: u64, known: FrontHeard) -> Reason
-    requires { Looks kind (hardRecording chips.now) Look.Usable
-        × FrontKnown kind (hardRecording chips.now) known }
-    ensures answer { (number : ℕ) → result ≡ afterTold number kind chips.now room
-        (frontOf kind (hardRecording chips.now)) }
+    requires { Looks kind (hard_recording chips.now) Look.Usable
+        × FrontKnown kind (hard_recording chips.now) known }
+    ensures answer { (number : ℕ) → result ≡ after_told number kind chips.now room
+        (front_of kind (hard_recording chips.now)) }
 {
     let sfd = known.sfd;
     let header = known.header;
@@ -183,7 +183,7 @@ fn of_front(kind: Kind, chips: &[u8], room: u64, known: FrontHeard) -> Reason
 
 // Why a read of a hard recording with room for so many octets is refused. Room is any number.
 pub fn why(kind: u64, chips: &[u8], room: u64) -> Reason
-    ensures answer { result ≡ whyOf kind chips.now room }
+    ensures answer { result ≡ why_of kind chips.now room }
 {
     if !common_kinds::is_kind(kind) {
         return refused(Refusal::NoKind, 0, kind);

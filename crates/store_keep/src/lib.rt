@@ -1,11 +1,11 @@
 // The store of a table's radio settings, read, written and changed. `table` is what is asked of its table of contents.
 ghost use Rattle.std.specs.Prelude.{◌≡◌, true, cond, not, ◌++◌, ◌+◌, ◌-◌, ◌≤◌, ◌<◌, length, get_or, replicate};
 ghost use Rattle.base.specs.Over.{over};
-ghost use Rattle.rules_rates.specs.Rates.{rateOf};
-ghost use Rattle.rules_frame.specs.Frame.{kind_of, goesWith};
-ghost use Rattle.rules_store.specs.Store.{noSettings, settings, storeRead, storeChanged, changeLeft};
-ghost use Rattle.rules_store.specs.Store.{allowedSettings, allowedIn, isSetting, changed};
-ghost use Rattle.rules_store.specs.Pieces.{store_of, storeWritten, writeLeft};
+ghost use Rattle.rules_rates.specs.Rates.{rate_of};
+ghost use Rattle.rules_frame.specs.Frame.{kind_of, goes_with};
+ghost use Rattle.rules_store.specs.Store.{no_settings, settings, store_read, store_changed, change_left};
+ghost use Rattle.rules_store.specs.Store.{allowed_settings, allowed_in, is_setting, changed};
+ghost use Rattle.rules_store.specs.Pieces.{store_of, store_written, write_left};
 
 use rules_frame::Kind;
 use rules_store::Settings;
@@ -17,7 +17,7 @@ mod table;
 
 // Whether the rate of a code goes with the kind of a number.
 fn goes(kind: u64, rate: u64) -> bool
-    ensures answer { result ≡ goesWith (kind_of kind) (rateOf rate) }
+    ensures answer { result ≡ goes_with (kind_of kind) (rate_of rate) }
 {
     let k: Kind = common_kinds::kind_of(kind);
     common_kinds::goes_with(k, rules_rates::rate_of(rate))
@@ -25,7 +25,7 @@ fn goes(kind: u64, rate: u64) -> bool
 
 // What refusals 1, 2, 3 and 5 allow, the three together.
 fn allowed(kind: u64, rate: u64, phase: u64) -> bool
-    ensures answer { result ≡ allowedSettings kind rate phase }
+    ensures answer { result ≡ allowed_settings kind rate phase }
 {
     if !common_kinds::is_kind(kind) {
         return false;
@@ -41,7 +41,7 @@ fn allowed(kind: u64, rate: u64, phase: u64) -> bool
 
 // A refusal: zeros beside its number.
 fn refused(number: u64) -> Settings
-    ensures answer { result ≡ noSettings number }
+    ensures answer { result ≡ no_settings number }
 {
     Settings {
         number,
@@ -56,9 +56,9 @@ fn refused(number: u64) -> Settings
 // The three settings of a store by where they were found, or refusals 26 to 28.
 fn values(store: &[u8], three: Three) -> Settings
     requires { three.there ≡ true → three.ones ≡ true → three.at + 2 < length store.now }
-    ensures answer { result ≡ cond (not three.there) (noSettings 26) (cond (not three.ones) (noSettings 27)
-        (cond (not (allowedSettings (get_or store.now three.at 0)
-        (get_or store.now (three.at + 1) 0) (get_or store.now (three.at + 2) 0))) (noSettings 28)
+    ensures answer { result ≡ cond (not three.there) (no_settings 26) (cond (not three.ones) (no_settings 27)
+        (cond (not (allowed_settings (get_or store.now three.at 0)
+        (get_or store.now (three.at + 1) 0) (get_or store.now (three.at + 2) 0))) (no_settings 28)
         (settings (get_or store.now three.at 0)
         (get_or store.now (three.at + 1) 0) (get_or store.now (three.at + 2) 0)))) }
 {
@@ -85,7 +85,7 @@ fn values(store: &[u8], three: Three) -> Settings
 
 // What a store tells: its three settings, or refusals 21 to 28, in this order.
 pub fn read(store: &[u8]) -> Settings
-    ensures answer { result ≡ storeRead store.now }
+    ensures answer { result ≡ store_read store.now }
 {
     if store.len() < 2 {
         return refused(21);
@@ -133,8 +133,8 @@ fn put(kind: u8, rate: u8, phase: u8, store: &mut [u8])
 
 // A store of 17 octets, then zeros that are no part of it; or 28 or 29, and zeros.
 pub fn write(kind: u64, rate: u64, phase: u64, store: &mut [u8]) -> u64
-    ensures answer { result ≡ storeWritten kind rate phase (length store.old) }
-    ensures store { store.new ≡ writeLeft kind rate phase (length store.old) }
+    ensures answer { result ≡ store_written kind rate phase (length store.old) }
+    ensures store { store.new ≡ write_left kind rate phase (length store.old) }
 {
     if !allowed(kind, rate, phase) {
         common_rows::fill(store, 0);
@@ -153,8 +153,8 @@ pub fn write(kind: u64, rate: u64, phase: u64, store: &mut [u8]) -> u64
 // Whether a value is allowed as the setting of a tag beside the other two of allowed settings: only what it changes is
 // asked.
 fn stands(tag: u64, value: u64, s: Settings) -> bool
-    requires { (isSetting tag ≡ true) × (allowedIn s ≡ true) }
-    ensures answer { result ≡ allowedIn (changed tag value s) }
+    requires { (is_setting tag ≡ true) × (allowed_in s ≡ true) }
+    ensures answer { result ≡ allowed_in (changed tag value s) }
 {
     if tag == 1 {
         return common_kinds::is_kind(value) & goes(value, s.rate);
@@ -167,8 +167,8 @@ fn stands(tag: u64, value: u64, s: Settings) -> bool
 
 // One octet of the store is another; or a refusal as of a read, 30 or 28, and the store is as it was.
 pub fn change(store: &mut [u8], tag: u64, value: u64) -> u64
-    ensures answer { result ≡ storeChanged store.old tag value }
-    ensures store { store.new ≡ changeLeft store.old tag value }
+    ensures answer { result ≡ store_changed store.old tag value }
+    ensures store { store.new ≡ change_left store.old tag value }
 {
     let s = read(store);
     if s.number != 0 {

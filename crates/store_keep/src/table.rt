@@ -1,6 +1,6 @@
 // The table of contents of a store: its entries, what is asked of all of them, and where the three settings stand.
 ghost use Rattle.std.specs.Prelude.{◌≡◌, true, cond, not, ◌+◌, ◌*◌, ◌≤◌, ◌<◌, length, drop};
-ghost use Rattle.rules_store.specs.Store.{entryOf, entriesIn, table_end, rising, passable, body_of, complete, single};
+ghost use Rattle.rules_store.specs.Store.{entry_of, entries_in, table_end, rising, passable, body_of, complete, single};
 ghost use Rattle.rules_store.specs.Store.{count, entries, laid as Store·laid};
 
 use rules_store::Entry;
@@ -24,7 +24,7 @@ pub fn wide(x: u8) -> usize
 // The i-th entry.
 fn entry(store: &[u8], i: usize) -> Entry
     requires { table_end (i + 1) ≤ length store.now }
-    ensures answer { (result ≡ entryOf (drop (2 + 4 * i) store.now)) × (result.tag < 256) × (result.size < 256) }
+    ensures answer { (result ≡ entry_of (drop (2 + 4 * i) store.now)) × (result.tag < 256) × (result.size < 256) }
 {
     let at = 2 + 4 * i;
     let tag = wide(store[at]);
@@ -42,9 +42,9 @@ fn entry(store: &[u8], i: usize) -> Entry
 // the end is not as laid out, 25 where a tag is 128 or more; else 0. Tags that rise are below 128 if the last one is.
 pub fn ask(store: &[u8], n: usize) -> u64
     requires { (table_end n ≤ length store.now) × (n ≤ 16) }
-    ensures answer { result ≡ cond (not (rising 0 (entriesIn n (drop 2 store.now)))) 23
-        (cond (not (Store·laid (table_end n) (entriesIn n (drop 2 store.now))
-        (length store.now))) 24 (cond (not (passable (entriesIn n (drop 2 store.now)))) 25 0)) }
+    ensures answer { result ≡ cond (not (rising 0 (entries_in n (drop 2 store.now)))) 23
+        (cond (not (Store·laid (table_end n) (entries_in n (drop 2 store.now))
+        (length store.now))) 24 (cond (not (passable (entries_in n (drop 2 store.now)))) 25 0)) }
 {
     let mut laid = true;
     let mut least = 0;
@@ -75,10 +75,10 @@ pub fn ask(store: &[u8], n: usize) -> u64
 // The three settings among n entries. Tags rise, so they are the first three, or stand behind an entry of tag 0; and
 // the third of those has tag 3 only if all are there.
 pub fn find_three(store: &[u8], n: usize) -> Three
-    requires { (table_end n ≤ length store.now) × (rising 0 (entriesIn n (drop 2 store.now)) ≡ true) }
-    ensures answer { (result.there ≡ complete (entriesIn n (drop 2 store.now)))
-        × (result.there ≡ true → (result.ones ≡ single (entriesIn n (drop 2 store.now)))
-        × (result.at ≡ (body_of 1 (entriesIn n (drop 2 store.now))).offset)) }
+    requires { (table_end n ≤ length store.now) × (rising 0 (entries_in n (drop 2 store.now)) ≡ true) }
+    ensures answer { (result.there ≡ complete (entries_in n (drop 2 store.now)))
+        × (result.there ≡ true → (result.ones ≡ single (entries_in n (drop 2 store.now)))
+        × (result.at ≡ (body_of 1 (entries_in n (drop 2 store.now))).offset)) }
 {
     if n < 3 {
         return Three {

@@ -1,12 +1,12 @@
 // The order of checks before a chip is written.
 ghost use Rattle.std.specs.Prelude.{◌≡◌};
-ghost use Rattle.rules_calls.specs.Writing.{writingOf};
+ghost use Rattle.rules_calls.specs.Writing.{writing_of};
 
 use rules_calls::{Refusal, Writing};
 
 // What a write of n octets into room for so many chips comes to: refusals 1 to 6, in this order.
 pub fn check_write(kind: u64, rate: u64, phase: u64, n: usize, room: usize) -> Writing
-    ensures answer { result ≡ writingOf kind rate phase n room }
+    ensures answer { result ≡ writing_of kind rate phase n room }
 {
     let known = common_kinds::is_kind(kind);
     let coded = rules_rates::is_code(rate);

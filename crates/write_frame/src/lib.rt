@@ -2,12 +2,12 @@
 // first; whatever comes of it, the whole chip buffer is written.
 ghost use Rattle.std.specs.Prelude.{◌≡◌, ◌++◌, ◌-◌, ◌≤◌, length, replicate};
 ghost use Rattle.base.specs.Over.{over};
-ghost use Rattle.rules_frame.specs.Frame.{preambleChips, frontChips, frameChips, frame};
-ghost use Rattle.rules_calls.specs.Writing.{writingOf, chipsWritten};
+ghost use Rattle.rules_frame.specs.Frame.{preamble_chips, front_chips, frame_chips, frame};
+ghost use Rattle.rules_calls.specs.Writing.{writing_of, chips_written};
 ghost use Rattle.rules_calls.specs.Answers.{written_of};
 ghost use Rattle.write_octets.specs.Sending.{run, ran};
 ghost use Rattle.write_octets.specs.Line.{state};
-ghost use Rattle.write_frame.specs.Parts.{preambleOctets, frontSent, afterFront};
+ghost use Rattle.write_frame.specs.Parts.{preamble_octets, front_sent, after_front};
 
 use common_lines::Line;
 use rules_calls::{Writing, Written};
@@ -24,9 +24,9 @@ const LONG: [u8; 18] = [
 const SHORT: [u8; 9] = [0, 0, 0, 0, 0, 0, 0, 0xCF, 0x05];
 
 fn put_preamble(k: Kind, l: Line, chips: &mut [u8]) -> Line
-    requires { preambleChips k ≤ length chips.old }
-    ensures answer { state result ≡ ran Rate.One 0 (state l) (preambleOctets k) }
-    ensures chips { chips.new ≡ over (run Rate.One 0 (state l) (preambleOctets k))
+    requires { preamble_chips k ≤ length chips.old }
+    ensures answer { state result ≡ ran Rate.One 0 (state l) (preamble_octets k) }
+    ensures chips { chips.new ≡ over (run Rate.One 0 (state l) (preamble_octets k))
         chips.old }
 {
     match k {
@@ -43,9 +43,9 @@ fn put_preamble(k: Kind, l: Line, chips: &mut [u8]) -> Line
 
 // The preamble and a header of six octets.
 pub fn put_front(k: Kind, p: u8, header: &[u8], chips: &mut [u8]) -> Line
-    requires { (length header.now ≡ 6) × (frontChips k ≤ length chips.old) }
-    ensures answer { state result ≡ afterFront k p header.now }
-    ensures chips { chips.new ≡ over (frontSent k p header.now) chips.old }
+    requires { (length header.now ≡ 6) × (front_chips k ≤ length chips.old) }
+    ensures answer { state result ≡ after_front k p header.now }
+    ensures chips { chips.new ≡ over (front_sent k p header.now) chips.old }
 {
     let l0 = common_kinds::first_line(k, p);
     let l1 = put_preamble(k, l0, chips);
@@ -55,7 +55,7 @@ pub fn put_front(k: Kind, p: u8, header: &[u8], chips: &mut [u8]) -> Line
 
 // The whole frame, and 4s to the buffer's end.
 fn put_frame(k: Kind, r: Rate, p: u8, clock: bool, payload: &[u8], count: usize, chips: &mut [u8])
-    requires { (length payload.now ≤ 4095) × (count ≡ frameChips k r (length payload.now))
+    requires { (length payload.now ≤ 4095) × (count ≡ frame_chips k r (length payload.now))
         × (count ≤ length chips.old) }
     ensures chips { chips.new
         ≡ frame k r p clock payload.now ++ replicate (length chips.old - count) 4 }
@@ -78,9 +78,9 @@ pub fn write(
     chips: &mut [u8],
 ) -> Written
     ensures answer { result ≡ written_of
-        (writingOf kind rate phase (length payload.now) (length chips.old)) }
+        (writing_of kind rate phase (length payload.now) (length chips.old)) }
     ensures chips { chips.new
-        ≡ chipsWritten kind rate phase clock payload.now (length chips.old) }
+        ≡ chips_written kind rate phase clock payload.now (length chips.old) }
 {
     let writing = checks::check_write(kind, rate, phase, payload.len(), chips.len());
     let written = common_answers::written_of(writing);

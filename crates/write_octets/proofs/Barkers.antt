@@ -5,24 +5,24 @@ use Prim.Native.Nat.{ℕ, ◌+◌, ◌*◌, ◌%◌}
 use native.Mathlib.Omega.{arith}
 use lib.ListN.{length, get_or}
 use Rattle.base.specs.Tables.{tabulate}
-use Rattle.base.proofs.Tables.{get_d_tabulate}
-use Rattle.rules_symbols.specs.Words.{barkerWord}
-use Rattle.write_octets.specs.Line.{barkerWords}
+use Rattle.base.proofs.Tables.{get_or_tabulate}
+use Rattle.rules_symbols.specs.Words.{barker_word}
+use Rattle.write_octets.specs.Line.{barker_words}
 
-pub barkers-snoc : (ps : List ℕ) (p : ℕ) → barkerWords (ps ++ p ∷ []) ≡ barkerWords ps ++ barkerWord p
-unfolding barkerWords
-barkers-snoc [] p = append-nil (barkerWord p)
-barkers-snoc (q ∷ ps) p = rw (barkers-snoc ps p, append_assoc)
+pub barkers_snoc : (ps : List ℕ) (p : ℕ) → barker_words (ps ++ p ∷ []) ≡ barker_words ps ++ barker_word p
+unfolding barker_words
+barkers_snoc [] p = append-nil (barker_word p)
+barkers_snoc (q ∷ ps) p = rw (barkers_snoc ps p, append_assoc)
 
-pub length-barkers : (ps : List ℕ) → length (barkerWords ps) ≡ 11 * length ps
-unfolding barkerWords barkerWord
-length-barkers [] = refl
-length-barkers (q ∷ ps) = omega (arith, length-barkers ps)
+pub length_barkers : (ps : List ℕ) → length (barker_words ps) ≡ 11 * length ps
+unfolding barker_words barker_word
+length_barkers [] = refl
+length_barkers (q ∷ ps) = omega (arith, length_barkers ps)
 
 -- a phase may be reduced first
-barker-mod : (p : ℕ) → barkerWord (p % 4) ≡ barkerWord p
-unfolding barkerWord
-barker-mod p = λ i. a i ∷ b i ∷ a i ∷ a i ∷ b i ∷ a i ∷ a i ∷ a i ∷ b i ∷ b i ∷ b i ∷ []
+barker_mod : (p : ℕ) → barker_word (p % 4) ≡ barker_word p
+unfolding barker_word
+barker_mod p = λ i. a i ∷ b i ∷ a i ∷ a i ∷ b i ∷ a i ∷ a i ∷ a i ∷ b i ∷ b i ∷ b i ∷ []
   where
     a : (p % 4 + 0) % 4 ≡ (p + 0) % 4
     a = omega arith
@@ -31,9 +31,9 @@ barker-mod p = λ i. a i ∷ b i ∷ a i ∷ a i ∷ b i ∷ a i ∷ a i ∷ a i
     b = omega arith
 
 -- a word of the table of the four, by its phase
-pub barker-entry : (t : List (List ℕ)) (p : ℕ) → t ≡ tabulate barkerWord 4 → get_or t (p % 4) [] ≡ barkerWord p
-barker-entry t p e = rw e (get_d_tabulate barkerWord 4 (p % 4) [] (omega arith) ∙ barker-mod p)
+pub barker_entry : (t : List (List ℕ)) (p : ℕ) → t ≡ tabulate barker_word 4 → get_or t (p % 4) [] ≡ barker_word p
+barker_entry t p e = rw e (get_or_tabulate barker_word 4 (p % 4) [] (omega arith) ∙ barker_mod p)
 
-pub length-entry : (t : List (List ℕ)) (p : ℕ) → t ≡ tabulate barkerWord 4 → length (get_or t (p % 4) []) ≡ 11
-unfolding barkerWord
-length-entry t p e = ap length (barker-entry t p e)
+pub length_entry : (t : List (List ℕ)) (p : ℕ) → t ≡ tabulate barker_word 4 → length (get_or t (p % 4) []) ≡ 11
+unfolding barker_word
+length_entry t p e = ap length (barker_entry t p e)

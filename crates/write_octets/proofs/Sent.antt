@@ -9,81 +9,81 @@ use native.Mathlib.Omega.{arith}
 use lib.ListN.{length, take}
 use Rattle.rules_rates.specs.declared.Rate.{Rate}
 use Rattle.rules_rates.specs.declared.Rate.TheVariants.{One, Two, Five, Eleven}
-use Rattle.rules_rates.specs.Rates.{symbolBits, octetSymbols}
-use Rattle.rules_rates.proofs.Octets.{part-symbols}
-use Rattle.rules_bits.specs.Bits.{bits_of, octetBits}
-use Rattle.rules_bits.specs.Growths.{Symbol, symbol_of, symbols_from, symbolsOf, chipsFrom, lastPhase}
+use Rattle.rules_rates.specs.Rates.{symbol_bits, octet_symbols}
+use Rattle.rules_rates.proofs.Octets.{part_symbols}
+use Rattle.rules_bits.specs.Bits.{bits_of, octet_bits}
+use Rattle.rules_bits.specs.Growths.{Symbol, symbol_of, symbols_from, symbols_of, chips_from, last_phase}
 use Rattle.rules_bits.specs.Scrambler.{mixed, scramble}
-use Rattle.rules_bits.specs.Code.{pastAfter}
-use Rattle.rules_bits.proofs.Bits.{octet-bits-length}
-use Rattle.rules_bits.proofs.Growths.{symbolsFrom-append, chipsFrom-append, lastPhase-append}
-use Rattle.rules_bits.proofs.Scrambler.{scramble-append, scramble-length, scramble-window, past-append}
-use Rattle.write_octets.specs.Sending.{State, symbolsAt, emit, step, run, ran}
+use Rattle.rules_bits.specs.Code.{past_after}
+use Rattle.rules_bits.proofs.Bits.{octet_bits_length}
+use Rattle.rules_bits.proofs.Growths.{symbols_from_append, chips_from_append, last_phase_append}
+use Rattle.rules_bits.proofs.Scrambler.{scramble_append, scramble_length, scramble_window, past_append}
+use Rattle.write_octets.specs.Sending.{State, symbols_at, emit, step, run, ran}
 
 -- the outputs so far, after bits more
 abbrev pub after : List ℕ → List ℕ → List ℕ
-after h bs = pastAfter h (scramble h bs)
+after h bs = past_after h (scramble h bs)
 
 -- two pasts from which the same is sent
 abbrev pub Agree : List ℕ → List ℕ → Type 0
 Agree h k = (bs : List ℕ) → scramble h bs ≡ scramble k bs
 
-after-append : (h a b : List ℕ) → after h (a ++ b) ≡ after (after h a) b
-after-append h a b = ap (pastAfter h) (scramble-append h a b) ∙ past-append h (scramble h a) _
+after_append : (h a b : List ℕ) → after h (a ++ b) ≡ after (after h a) b
+after_append h a b = ap (past_after h) (scramble_append h a b) ∙ past_append h (scramble h a) _
 
 -- an octet's symbols are as many bits as the octet
-octet-bits : (r : Rate) (past : List ℕ) (x : ℕ) → length (scramble past (bits_of 8 x)) ≡ octetSymbols r * symbolBits r
+octet_bits_lem : (r : Rate) (past : List ℕ) (x : ℕ) → length (scramble past (bits_of 8 x)) ≡ octet_symbols r * symbol_bits r
 unfolding scramble bits_of mixed
-octet-bits One past x = refl
-octet-bits Two past x = refl
-octet-bits Five past x = refl
-octet-bits Eleven past x = refl
+octet_bits_lem One past x = refl
+octet_bits_lem Two past x = refl
+octet_bits_lem Five past x = refl
+octet_bits_lem Eleven past x = refl
 
 -- eight outputs are past enough
-octet-past : (h : List ℕ) (x : ℕ) → Agree (after h (bits_of 8 x)) (reverse (scramble h (bits_of 8 x)))
-octet-past h x bs = scramble-window _ _ bs (seven h x)
+octet_past : (h : List ℕ) (x : ℕ) → Agree (after h (bits_of 8 x)) (reverse (scramble h (bits_of 8 x)))
+octet_past h x bs = scramble_window _ _ bs (seven h x)
   where
     seven : (h : List ℕ) (x : ℕ) → take 7 (after h (bits_of 8 x)) ≡ take 7 (reverse (scramble h (bits_of 8 x)))
-    seven h x = unfold scramble bits_of mixed pastAfter in refl
+    seven h x = unfold scramble bits_of mixed past_after in refl
 
 -- all the symbols of octets, from the outputs h so far, numbered from k
-unfoldable pub allSymbols : Rate → List ℕ → ℕ → List ℕ → List Symbol
-allSymbols r h k xs = symbols_from r k (octetSymbols r * length xs) (scramble h (octetBits xs))
+unfoldable pub all_symbols : Rate → List ℕ → ℕ → List ℕ → List Symbol
+all_symbols r h k xs = symbols_from r k (octet_symbols r * length xs) (scramble h (octet_bits xs))
 
-pub symbolsOf-octets : (r : Rate) (h xs : List ℕ) → symbolsOf r (scramble h (octetBits xs)) ≡ allSymbols r h 0 xs
-unfolding symbolsOf allSymbols
-symbolsOf-octets r h xs = rw (scramble-length h (octetBits xs), octet-bits-length xs, part-symbols r (length xs))
+pub symbols_of_octets : (r : Rate) (h xs : List ℕ) → symbols_of r (scramble h (octet_bits xs)) ≡ all_symbols r h 0 xs
+unfolding symbols_of all_symbols
+symbols_of_octets r h xs = rw (scramble_length h (octet_bits xs), octet_bits_length xs, part_symbols r (length xs))
 
 -- octets from the k-th of a part, whose first symbol is its n-th
 pub record Sent (r : Rate) (k n : ℕ) (s : State) (h xs : List ℕ) : Type 0 where
-  pub chips : run r k s xs ≡ chipsFrom r s.phase (allSymbols r h n xs)
-  pub phase : (ran r k s xs).phase ≡ lastPhase s.phase (allSymbols r h n xs)
-  pub past : Agree (after h (octetBits xs)) (ran r k s xs).past
+  pub chips : run r k s xs ≡ chips_from r s.phase (all_symbols r h n xs)
+  pub phase : (ran r k s xs).phase ≡ last_phase s.phase (all_symbols r h n xs)
+  pub past : Agree (after h (octet_bits xs)) (ran r k s xs).past
 
-all_nil : (r : Rate) (h : List ℕ) (k : ℕ) → allSymbols r h k [] ≡ []
-unfolding allSymbols symbols_from symbol_of
-all_nil r h k = rw (mul-zero (octetSymbols r))
+all_nil : (r : Rate) (h : List ℕ) (k : ℕ) → all_symbols r h k [] ≡ []
+unfolding all_symbols symbols_from symbol_of
+all_nil r h k = rw (mul-zero (octet_symbols r))
 
 all_cons : (r : Rate) (h : List ℕ) (k x : ℕ) (xs : List ℕ)
-    → allSymbols r h k (x ∷ xs)
-    ≡ symbols_from r k (octetSymbols r) (scramble h (bits_of 8 x)) ++ allSymbols r (after h (bits_of 8 x))
-    (k + octetSymbols r) xs
-unfolding allSymbols octetBits
+    → all_symbols r h k (x ∷ xs)
+    ≡ symbols_from r k (octet_symbols r) (scramble h (bits_of 8 x)) ++ all_symbols r (after h (bits_of 8 x))
+    (k + octet_symbols r) xs
+unfolding all_symbols octet_bits
 all_cons r h k x xs =
-    let m = octetSymbols r in
-    rw (mul-suc m (length xs), add_comm (m * length xs) m, scramble-append h (bits_of 8 x) (octetBits xs))
-    (symbolsFrom-append r k m (m * length xs) _ _ (octet-bits r h x))
+    let m = octet_symbols r in
+    rw (mul-suc m (length xs), add_comm (m * length xs) m, scramble_append h (bits_of 8 x) (octet_bits xs))
+    (symbols_from_append r k m (m * length xs) _ _ (octet_bits_lem r h x))
 
 -- an octet's symbols do not depend on which of two agreeing pasts they come from
-first : (r : Rate) (s : State) (h : List ℕ) (k n x : ℕ) → n ≡ octetSymbols r * k → Agree h s.past
-    → symbolsAt r (octetSymbols r * k) (scramble s.past (bits_of 8 x))
-    ≡ symbols_from r n (octetSymbols r) (scramble h (bits_of 8 x))
-unfolding symbolsAt
+first : (r : Rate) (s : State) (h : List ℕ) (k n x : ℕ) → n ≡ octet_symbols r * k → Agree h s.past
+    → symbols_at r (octet_symbols r * k) (scramble s.past (bits_of 8 x))
+    ≡ symbols_from r n (octet_symbols r) (scramble h (bits_of 8 x))
+unfolding symbols_at
 first r s h k n x e a = rw (e, a (bits_of 8 x))
 
-pub sent : (r : Rate) (k n : ℕ) (s : State) (h xs : List ℕ) → n ≡ octetSymbols r * k → Agree h s.past
+pub sent : (r : Rate) (k n : ℕ) (s : State) (h xs : List ℕ) → n ≡ octet_symbols r * k → Agree h s.past
     → Sent r k n s h xs
-unfolding run ran emit step octetBits
+unfolding run ran emit step octet_bits
 sent r k n s h [] e a = record {
   chips = rw (all_nil r h n) nothing;
   phase = rw (all_nil r h n) still;
@@ -91,22 +91,22 @@ sent r k n s h [] e a = record {
 }
   where
     none : (bs : List ℕ) → scramble (after h []) bs ≡ scramble h bs
-    none bs = unfold pastAfter scramble in refl
+    none bs = unfold past_after scramble in refl
 
-    nothing : [] ≡ chipsFrom r s.phase []
-    nothing = unfold chipsFrom in refl
+    nothing : [] ≡ chips_from r s.phase []
+    nothing = unfold chips_from in refl
 
-    still : s.phase ≡ lastPhase s.phase []
-    still = unfold lastPhase in refl
+    still : s.phase ≡ last_phase s.phase []
+    still = unfold last_phase in refl
 sent r k n s h (x ∷ xs) e a =
     let o = bits_of 8 x in
     let agree : Agree (after h o) (step r k s x).past =
     λ bs. octet-past h x bs ∙ ap (λ (l : List ℕ). scramble (reverse l) bs) (a o) in
-    let next : n + octetSymbols r ≡ octetSymbols r * suc k = omega (arith, mul-suc (octetSymbols r) k) in
-    let rest = sent r (suc k) (n + octetSymbols r) (step r k s x) (after h o) xs next agree in
+    let next : n + octet_symbols r ≡ octet_symbols r * suc k = omega (arith, mul-suc (octet_symbols r) k) in
+    let rest = sent r (suc k) (n + octet_symbols r) (step r k s x) (after h o) xs next agree in
     let one = first r s h k n x e a in
     record {
-      chips = rw (all_cons r h n x xs, chipsFrom-append, ← one, rest.chips);
-      phase = rw (all_cons r h n x xs, lastPhase-append, ← one, rest.phase);
-      past = λ bs. ap (λ (l : List ℕ). scramble l bs) (after-append h o (octetBits xs)) ∙ rest.past bs;
+      chips = rw (all_cons r h n x xs, chips_from_append, ← one, rest.chips);
+      phase = rw (all_cons r h n x xs, last_phase_append, ← one, rest.phase);
+      past = λ bs. ap (λ (l : List ℕ). scramble l bs) (after_append h o (octet_bits xs)) ∙ rest.past bs;
     }

@@ -2,12 +2,12 @@
 ghost use Rattle.std.specs.Prelude.{◌≡◌, ◌+◌, ◌*◌, ◌/◌, ◌%◌, ◌≤◌, length};
 ghost use Rattle.base.specs.Over.{over};
 ghost use Rattle.base.specs.Tables.{tabulate};
-ghost use Rattle.rules_rates.specs.Rates.{octetSymbols, octetChips};
+ghost use Rattle.rules_rates.specs.Rates.{octet_symbols, octet_chips};
 ghost use Rattle.rules_chips.specs.Chips.{turned};
-ghost use Rattle.rules_symbols.specs.Words.{barkerWord};
+ghost use Rattle.rules_symbols.specs.Words.{barker_word};
 ghost use Rattle.rules_bits.specs.Bits.{bits_of};
-ghost use Rattle.rules_bits.specs.Growths.{growth, halfTurn, chipsFrom, lastPhase};
-ghost use Rattle.write_octets.specs.Sending.{symbolsAt, emit, step, run, ran};
+ghost use Rattle.rules_bits.specs.Growths.{growth, half_turn, chips_from, last_phase};
+ghost use Rattle.write_octets.specs.Sending.{symbols_at, emit, step, run, ran};
 ghost use Rattle.write_octets.specs.Line.{state};
 
 use common_lines::Line;
@@ -31,16 +31,16 @@ fn grown(p: u8, n: u8) -> u8
 
 // The phase p1 of the k-th CCK symbol: odd ones grow by 2 more.
 fn grown_cck(p: u8, k: usize, n: u8) -> u8
-    ensures answer { result ≡ turned p (growth (n / 2 % 2) (n % 2) + halfTurn k) }
+    ensures answer { result ≡ turned p (growth (n / 2 % 2) (n % 2) + half_turn k) }
 {
     (p % 4 + common_lines::growth(n) + (k % 2) as u8 * 2) % 4
 }
 
 // Eight scrambled bits as chips, at each rate; the answer is the last symbol's phase. `barkers` are the Barker words.
 fn put_one(barkers: &[[u8; 11]; 4], p: u8, o: u8, chips: &mut [u8]) -> u8
-    requires { (barkers.now ≡ tabulate barkerWord 4) × (88 ≤ length chips.old) }
-    ensures answer { result ≡ lastPhase p (symbolsAt Rate.One 0 (bits_of 8 o)) }
-    ensures chips { chips.new ≡ over (chipsFrom Rate.One p (symbolsAt Rate.One 0 (bits_of 8 o)))
+    requires { (barkers.now ≡ tabulate barker_word 4) × (88 ≤ length chips.old) }
+    ensures answer { result ≡ last_phase p (symbols_at Rate.One 0 (bits_of 8 o)) }
+    ensures chips { chips.new ≡ over (chips_from Rate.One p (symbols_at Rate.One 0 (bits_of 8 o)))
         chips.old }
 {
     let o1 = o / 2;
@@ -64,9 +64,9 @@ fn put_one(barkers: &[[u8; 11]; 4], p: u8, o: u8, chips: &mut [u8]) -> u8
 }
 
 fn put_two(barkers: &[[u8; 11]; 4], p: u8, o: u8, chips: &mut [u8]) -> u8
-    requires { (barkers.now ≡ tabulate barkerWord 4) × (44 ≤ length chips.old) }
-    ensures answer { result ≡ lastPhase p (symbolsAt Rate.Two 0 (bits_of 8 o)) }
-    ensures chips { chips.new ≡ over (chipsFrom Rate.Two p (symbolsAt Rate.Two 0 (bits_of 8 o)))
+    requires { (barkers.now ≡ tabulate barker_word 4) × (44 ≤ length chips.old) }
+    ensures answer { result ≡ last_phase p (symbols_at Rate.Two 0 (bits_of 8 o)) }
+    ensures chips { chips.new ≡ over (chips_from Rate.Two p (symbols_at Rate.Two 0 (bits_of 8 o)))
         chips.old }
 {
     let s = common_lines::pairs(o);
@@ -81,8 +81,8 @@ fn put_two(barkers: &[[u8; 11]; 4], p: u8, o: u8, chips: &mut [u8]) -> u8
 
 fn put_five(p: u8, o: u8, chips: &mut [u8]) -> u8
     requires { 16 ≤ length chips.old }
-    ensures answer { result ≡ lastPhase p (symbolsAt Rate.Five 0 (bits_of 8 o)) }
-    ensures chips { chips.new ≡ over (chipsFrom Rate.Five p (symbolsAt Rate.Five 0 (bits_of 8 o)))
+    ensures answer { result ≡ last_phase p (symbols_at Rate.Five 0 (bits_of 8 o)) }
+    ensures chips { chips.new ≡ over (chips_from Rate.Five p (symbols_at Rate.Five 0 (bits_of 8 o)))
         chips.old }
 {
     let s = common_lines::pairs(o);
@@ -98,8 +98,8 @@ fn put_five(p: u8, o: u8, chips: &mut [u8]) -> u8
 // The same for a part's k-th octet, which at 11 Mbit/s is its k-th symbol.
 fn put_eleven(p: u8, k: usize, o: u8, chips: &mut [u8]) -> u8
     requires { 8 ≤ length chips.old }
-    ensures answer { result ≡ lastPhase p (symbolsAt Rate.Eleven k (bits_of 8 o)) }
-    ensures chips { chips.new ≡ over (chipsFrom Rate.Eleven p (symbolsAt Rate.Eleven k (bits_of 8 o)))
+    ensures answer { result ≡ last_phase p (symbols_at Rate.Eleven k (bits_of 8 o)) }
+    ensures chips { chips.new ≡ over (chips_from Rate.Eleven p (symbols_at Rate.Eleven k (bits_of 8 o)))
         chips.old }
 {
     let s = common_lines::pairs(o);
@@ -111,10 +111,10 @@ fn put_eleven(p: u8, k: usize, o: u8, chips: &mut [u8]) -> u8
 
 // Eight scrambled bits at a rate, the k-th octet of their part. At the other rates an octet starts even.
 fn put_bits(barkers: &[[u8; 11]; 4], r: Rate, p: u8, k: usize, o: u8, chips: &mut [u8]) -> u8
-    requires { (barkers.now ≡ tabulate barkerWord 4) × (octetChips r ≤ length chips.old) }
-    ensures answer { result ≡ lastPhase p (symbolsAt r (octetSymbols r * k) (bits_of 8 o)) }
+    requires { (barkers.now ≡ tabulate barker_word 4) × (octet_chips r ≤ length chips.old) }
+    ensures answer { result ≡ last_phase p (symbols_at r (octet_symbols r * k) (bits_of 8 o)) }
     ensures chips { chips.new
-        ≡ over (chipsFrom r p (symbolsAt r (octetSymbols r * k) (bits_of 8 o))) chips.old }
+        ≡ over (chips_from r p (symbols_at r (octet_symbols r * k) (bits_of 8 o))) chips.old }
 {
     match r {
         Rate::One => put_one(barkers, p, o, chips),
@@ -133,7 +133,7 @@ fn put_octet(
     x: u8,
     chips: &mut [u8],
 ) -> Line
-    requires { (barkers.now ≡ tabulate barkerWord 4) × (octetChips r ≤ length chips.old) }
+    requires { (barkers.now ≡ tabulate barker_word 4) × (octet_chips r ≤ length chips.old) }
     ensures answer { state result ≡ step r k (state line) x }
     ensures chips { chips.new ≡ over (emit r k (state line) x) chips.old }
 {
@@ -144,7 +144,7 @@ fn put_octet(
 
 // A part's octets as chips over the front of chips.
 pub fn put_octets(r: Rate, line: Line, octets: &[u8], chips: &mut [u8]) -> Line
-    requires { octetChips r * length octets.now ≤ length chips.old }
+    requires { octet_chips r * length octets.now ≤ length chips.old }
     ensures answer { state result ≡ ran r 0 (state line) octets.now }
     ensures chips { chips.new
         ≡ over (run r 0 (state line) octets.now) chips.old }

@@ -5,21 +5,21 @@ use lib.Dec.{T}
 use mir.Syntax.{w32}
 use mir.Val.{to_z, of_z}
 use borrow.Author.Rules.{rules}
-use Rattle.rules_chips.specs.Floats.{countOf}
+use Rattle.rules_chips.specs.Floats.{count_of}
 use Rattle.bench_leaves.proofs.count_of.Statement.{statement}
 use Rattle.bench_leaves.proofs.count_of.Tie as tie
 
-count-requires : tie.Need-count-requires
-count-requires c κs = subst T (sym c.if1.true ∙ c.before.usable.ensures) tt
+count_requires : tie.Need-count-requires
+count_requires c κs = subst T (sym c.if1.true ∙ c.before.usable.ensures) tt
 
 returns : tie.Need-returns
 returns c =
     let read : to_z w32 (of_z w32 c.count.result) ≡ c.count.result = search rules in
     read ∙ c.count.ensures
 
-returns-2 : tie.Need-returns-2
-unfolding countOf
-returns-2 c = rw (sym c.before.usable.ensures ∙ c.if1.false)
+returns_2 : tie.Need-returns-2
+unfolding count_of
+returns_2 c = rw (sym c.before.usable.ensures ∙ c.if1.false)
 
-pub count-of-spec : {M : Type 1} → statement M
-count-of-spec = tie.close (tie.spec (λ c κs. search rules) count-requires returns returns-2)
+pub count_of_spec : {M : Type 1} → statement M
+count_of_spec = tie.close (tie.spec (λ c κs. search rules) count_requires returns returns_2)

@@ -8,77 +8,77 @@ use lib.Dec.{lit≤, lit<}
 use lib.ListN.{length, get_or, take, drop}
 use borrow.Author.Rules.{rules}
 use Rattle.rules_rates.specs.declared.Rate.{Rate}
-use Rattle.rules_rates.specs.Rates.{symbolChips}
-use Rattle.rules_chips.specs.Chips.{Taken, takenCounts, softRecording}
+use Rattle.rules_rates.specs.Rates.{symbol_chips}
+use Rattle.rules_chips.specs.Chips.{Taken, taken_counts, soft_recording}
 use Rattle.rules_symbols.specs.Choice.{decided}
-use Rattle.rules_reading.specs.Reading.{firstUnusable}
+use Rattle.rules_reading.specs.Reading.{first_unusable}
 use Rattle.choose_recorded.specs.declared.Place.{Place}
 use Rattle.choose_recorded.specs.declared.Place.TheVariants.{Nothing, At}
-use Rattle.choose_recorded.specs.Recorded.{whereFound, AllUsable, DecidedAt}
+use Rattle.choose_recorded.specs.Recorded.{where_found, AllUsable, DecidedAt}
 use Rattle.bench_leaves.specs.Leaves.{first_word}
 use Rattle.choose_recorded.proofs.Searched.{bad, good, usable}
 use Rattle.bench_leaves.proofs.first_word.Statement.{statement}
 use Rattle.bench_leaves.proofs.first_word.Tie as tie
 
-module _ (r : Rate) (rec : List Taken) (n : ℕ) (f : Place) (e : n ≡ symbolChips r)
-    (g : whereFound f ≡ firstUnusable 0 (take (n - 0) (drop 0 rec))) where
-  of-symbol : whereFound f ≡ firstUnusable 0 (take (symbolChips r - 0) (drop 0 rec))
-  of-symbol = g ∙ ap (λ (m : ℕ). firstUnusable 0 (take (m - 0) rec)) e
+module _ (r : Rate) (rec : List Taken) (n : ℕ) (f : Place) (e : n ≡ symbol_chips r)
+    (g : where_found f ≡ first_unusable 0 (take (n - 0) (drop 0 rec))) where
+  of_symbol : where_found f ≡ first_unusable 0 (take (symbol_chips r - 0) (drop 0 rec))
+  of_symbol = g ∙ ap (λ (m : ℕ). firstUnusable 0 (take (m - 0) rec)) e
 
   none : (place : ℕ) → f ≡ At place → 0 ≡ first_word r rec
   unfolding first_word
-  none place h = bad rec (symbolChips r) f of-symbol _ place h
+  none place h = bad rec (symbol_chips r) f of_symbol _ place h
 
-  clean : f ≡ Nothing → symbolChips r ≤ length rec → AllUsable rec 0 (symbolChips r * 1)
-  clean h l = let k : symbolChips r * 1 ≡ symbolChips r = omega arith in
-      rw k (usable rec (symbolChips r) f of-symbol h l)
+  clean : f ≡ Nothing → symbol_chips r ≤ length rec → AllUsable rec 0 (symbol_chips r * 1)
+  clean h l = let k : symbol_chips r * 1 ≡ symbol_chips r = omega arith in
+      rw k (usable rec (symbol_chips r) f of_symbol h l)
 
   word : f ≡ Nothing → (ns : List ℕ) → DecidedAt r rec 0 1 ns → get_or ns 0 0 ≡ first_word r rec
   unfolding first_word
   word h ns d =
-      let k : 0 + symbolChips r * 0 ≡ 0 = omega arith in
+      let k : 0 + symbol_chips r * 0 ≡ 0 = omega arith in
       d.number 0 (lit< tt)
-      ∙ ap (λ (m : ℕ). decided r (map takenCounts (take (symbolChips r) (drop m rec)))) k
-      ∙ good rec (symbolChips r) f of-symbol _ h
+      ∙ ap (λ (m : ℕ). decided r (map taken_counts (take (symbol_chips r) (drop m rec)))) k
+      ∙ good rec (symbol_chips r) f of_symbol _ h
 
 -- what the search tells, and where it began
 abbrev start : tie.After-first-unusable → tie.Start
 start c = c.before.before.before.before.before.before.before.before
 
 abbrev rec : tie.After-first-unusable → List Taken
-rec c = softRecording (start c).args.i.now (start c).args.q.now
+rec c = soft_recording (start c).args.i.now (start c).args.q.now
 
 returns : tie.Need-returns
 returns c =
     let found = c.before.before in
     none (start found).args.r (rec found) _ _ found.before.symbol-chips.ensures
-    found.first-unusable.ensures _ c.enum_told.given.1
+    found.first_unusable_lem.ensures _ c.enum_told.given.1
 
-decide-requires : tie.Need-decide-requires
-decide-requires c κs =
+decide_requires : tie.Need-decide-requires
+decide_requires c κs =
     let found = c.before.before.before.before in
     let l = (start found).requires in (
       lit≤ tt,
       omega arith,
       clean (start found).args.r (rec found) _ _ found.before.symbol-chips.ensures
-          found.first-unusable.ensures c.before.before.enum-told2.given.1 l,
+          found.first_unusable_lem.ensures c.before.before.enum-told2.given.1 l,
       search rules,
       search rules,
     )
 
-returns-2 : tie.Need-returns-2
-returns-2 c =
+returns_2 : tie.Need-returns-2
+returns_2 c =
     let found = c.before.before.before.before.before.before in
     c.wide.ensures
     ∙ word (start found).args.r (rec found) _ _ found.before.symbol-chips.ensures
-    found.first-unusable.ensures
+    found.first_unusable_lem.ensures
     c.before.before.before.before.enum-told2.given.1 _ c.before.decide.ensures.0
 
-pub first-word-spec : {M : Type 1} → statement M
-first-word-spec =
+pub first_word_spec : {M : Type 1} → statement M
+first_word_spec =
     tie.close
     (tie.spec (λ c. search rules) (λ c. search rules) (λ c. search rules) (λ c. search rules) (λ c. search rules)
     (λ c. search rules) (λ c κs. search rules)
     (λ c κs. omega (arith, c.symbol-chips.ensures, c.before.before.before.before.before.before.before.requires))
-    (λ c. search rules) (λ c. search rules) decide-requires (λ c. search rules)
-    (λ c κs. search rules) returns returns-2)
+    (λ c. search rules) (λ c. search rules) decide_requires (λ c. search rules)
+    (λ c κs. search rules) returns returns_2)

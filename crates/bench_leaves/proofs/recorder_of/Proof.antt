@@ -7,11 +7,11 @@ use Rattle.bench_leaves.proofs.recorder_of.Tie as tie
 returns : tie.Need-returns
 returns c = rw (eq-eqb _ 0 c.if1.true)
 
-returns-2 : tie.Need-returns-2
-returns-2 c = rw (ne_eqb _ 0 c.before.if1.false, eq-eqb _ 1 c.if2.true)
+returns_2 : tie.Need-returns-2
+returns_2 c = rw (ne_eqb _ 0 c.before.if1.false, eq-eqb _ 1 c.if2.true)
 
-returns-3 : tie.Need-returns-3
-returns-3 c = rw (ne_eqb _ 0 c.before.if1.false, ne_eqb _ 1 c.if2.false)
+returns_3 : tie.Need-returns-3
+returns_3 c = rw (ne_eqb _ 0 c.before.if1.false, ne_eqb _ 1 c.if2.false)
 
-pub recorder-of-spec : {M : Type 1} → statement M
-recorder-of-spec = tie.close (tie.spec returns returns-2 returns-3)
+pub recorder_of_spec : {M : Type 1} → statement M
+recorder_of_spec = tie.close (tie.spec returns returns_2 returns_3)

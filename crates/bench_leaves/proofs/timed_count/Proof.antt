@@ -13,51 +13,51 @@ use lib.IntN.{pos}
 use lib.Ieee.{nan}
 use borrow.Author.Rules.{rules}
 use borrow.Author.Count.{below_more, below_none}
-use Rattle.rules_chips.specs.Floats.{countOf}
+use Rattle.rules_chips.specs.Floats.{count_of}
 use Rattle.bench_leaves.proofs.timed_count.Statement.{statement}
 use Rattle.bench_leaves.proofs.timed_count.Tie as tie
 
-abbrev invariant-loop : tie.invariant-loop
-invariant-loop xs counts₀ n k₀ counts k =
-    (length counts ≡ length counts₀) × (k ≤ n) × ((j : ℕ) → j < k → get_or counts j (pos 0) ≡ countOf (get_or xs j nan))
+abbrev invariant_loop : tie.invariant-loop
+invariant_loop xs counts₀ n k₀ counts k =
+    (length counts ≡ length counts₀) × (k ≤ n) × ((j : ℕ) → j < k → get_or counts j (pos 0) ≡ count_of (get_or xs j nan))
     × ((j : ℕ) → k ≤ j → get_or counts j (pos 0) ≡ get_or counts₀ j (pos 0))
 
-abbrev decreases-loop : tie.decreases-loop
-decreases-loop xs counts₀ n k₀ counts k = n - k
+abbrev decreases_loop : tie.decreases-loop
+decreases_loop xs counts₀ n k₀ counts k = n - k
 
-loop-holds : tie.Need-loop-init invariant-loop decreases-loop
-loop-holds c = (refl, omega arith, below_none _, λ j h. refl)
+loop_holds : tie.Need-loop-init invariant_loop decreases_loop
+loop_holds c = (refl, omega arith, below_none _, λ j h. refl)
 
-mul-count-of : tie.Need-overflow-mul-count-of invariant-loop decreases-loop
-mul-count-of c = omega (arith, c.before.before.before.before.well-formed.0.1)
+mul_count_of : tie.Need-overflow-mul-count-of invariant_loop decreases_loop
+mul_count_of c = omega (arith, c.before.before.before.before.well-formed.0.1)
 
-shared-slice-read-count-of : tie.Need-shared-slice-read-count-of invariant-loop decreases-loop
-shared-slice-read-count-of c = omega arith
+shared_slice_read_count_of : tie.Need-shared-slice-read-count-of invariant_loop decreases_loop
+shared_slice_read_count_of c = omega arith
 
-mul-t12 : tie.Need-overflow-mul-t12 invariant-loop decreases-loop
-mul-t12 c = omega (arith, c.before.before.before.before.before.before.well-formed.0.1)
+mul_t12 : tie.Need-overflow-mul-t12 invariant_loop decreases_loop
+mul_t12 c = omega (arith, c.before.before.before.before.before.before.well-formed.0.1)
 
-slice-set-from-counts : tie.Need-slice-set-from-counts invariant-loop decreases-loop
-slice-set-from-counts c = omega arith
+slice_set_from_counts : tie.Need-slice-set-from-counts invariant_loop decreases_loop
+slice_set_from_counts c = omega arith
 
-loop-again : tie.Need-loop-preserved invariant-loop decreases-loop
-loop-again c =
+loop_again : tie.Need-loop-preserved invariant_loop decreases_loop
+loop_again c =
     let at-loop = c.before.before.before in
     let counts = at-loop.loop.counts in
     let k = at-loop.loop.k in
     let xs = at-loop.before.before.before.args.xs.now in
     let v = to_z w32 (of_z w32 c.count_of.result) in
-    let e : v ≡ countOf (get_or xs k nan) =
+    let e : v ≡ count_of (get_or xs k nan) =
     to_z-of_z w32 c.count_of.result (record { sfits = c.count_of.type-inv }) ∙ c.count_of.ensures in (
       simp length-set (omega arith),
       omega arith,
-      below_more (λ (j : ℕ). get_or (set counts k v) j (pos 0) ≡ countOf (get_or xs j nan)) k
+      below_more (λ (j : ℕ). get_or (set counts k v) j (pos 0) ≡ count_of (get_or xs j nan)) k
           (λ j h. get_or-set_other counts k j v (pos 0) (ne_of_lt h) ∙ at-loop.loop.invariant.2 j h)
           (get_or-set_same counts k v (pos 0) (omega arith) ∙ e),
       λ j h. get_or-set_other counts k j v (pos 0) (omega arith) ∙ at-loop.loop.invariant.3 j (omega arith),
     )
 
-returns : tie.Need-returns invariant-loop decreases-loop
+returns : tie.Need-returns invariant_loop decreases_loop
 returns c = let i = c.before.loop.invariant in
     record {
       as_long = i.0;
@@ -65,9 +65,9 @@ returns c = let i = c.before.loop.invariant in
       kept = λ k h. i.3 k (omega arith);
     }
 
-pub timed-count-spec : {M : Type 1} → statement M
-timed-count-spec =
+pub timed_count_spec : {M : Type 1} → statement M
+timed_count_spec =
     tie.close
-    (tie.spec invariant-loop decreases-loop (λ c κs. search rules) loop-holds mul-count-of shared-slice-read-count-of
-    (λ c κs. search rules) mul-t12 slice-set-from-counts (λ c. search rules) (λ c. search rules) loop-again
+    (tie.spec invariant_loop decreases_loop (λ c κs. search rules) loop_holds mul_count_of shared_slice_read_count_of
+    (λ c κs. search rules) mul_t12 slice_set_from_counts (λ c. search rules) (λ c. search rules) loop_again
     (λ c. omega arith) returns)

@@ -10,48 +10,48 @@ use lib.Ieee.{Float}
 use borrow.Author.Rules.{rules}
 use borrow.Author.Tests.{le-leb, lt-leb, not-true, not-false}
 use Rattle.rules_rates.specs.declared.Rate.{Rate}
-use Rattle.rules_rates.specs.Rates.{is_code, rateOf, symbolChips}
-use Rattle.rules_chips.specs.Chips.{softRecording}
-use Rattle.bench_leaves.specs.Leaves.{first_word, decidedSoft}
+use Rattle.rules_rates.specs.Rates.{is_code, rate_of, symbol_chips}
+use Rattle.rules_chips.specs.Chips.{soft_recording}
+use Rattle.bench_leaves.specs.Leaves.{first_word, decided_soft}
 use Rattle.bench_leaves.proofs.timed_decide.Statement.{statement}
 use Rattle.bench_leaves.proofs.timed_decide.Tie as tie
 
-no_code : (n : ℕ) (i q : List Float) → is_code n ≡ false → 0 ≡ decidedSoft n i q
-unfolding decidedSoft
+no_code : (n : ℕ) (i q : List Float) → is_code n ≡ false → 0 ≡ decided_soft n i q
+unfolding decided_soft
 no_code n i q e = rw e
 
-and-false : (b : Bool) → b && false ≡ false
-and-false true = refl
-and-false false = refl
+and_false : (b : Bool) → b && false ≡ false
+and_false true = refl
+and_false false = refl
 
-too_short : (n : ℕ) (i q : List Float) → length (softRecording i q) < symbolChips (rateOf n) → 0 ≡ decidedSoft n i q
-unfolding decidedSoft
-too_short n i q h = rw (lt-leb (symbolChips (rateOf n)) (length (softRecording i q)) h, and-false)
+too_short : (n : ℕ) (i q : List Float) → length (soft_recording i q) < symbol_chips (rate_of n) → 0 ≡ decided_soft n i q
+unfolding decided_soft
+too_short n i q h = rw (lt-leb (symbol_chips (rate_of n)) (length (soft_recording i q)) h, and_false)
 
 -- the rate r of the code n, and the number d that the first symbol is decided as
-whole : (n : ℕ) (r : Rate) (d : ℕ) (i q : List Float) → r ≡ rateOf n → is_code n ≡ true
-    → symbolChips r ≤ length (softRecording i q) → d ≡ first_word r (softRecording i q) → d ≡ decidedSoft n i q
-unfolding decidedSoft
-whole n r d i q e c h t = t ∙ rw (← e, c, le-leb (symbolChips r) (length (softRecording i q)) h)
+whole : (n : ℕ) (r : Rate) (d : ℕ) (i q : List Float) → r ≡ rate_of n → is_code n ≡ true
+    → symbol_chips r ≤ length (soft_recording i q) → d ≡ first_word r (soft_recording i q) → d ≡ decided_soft n i q
+unfolding decided_soft
+whole n r d i q e c h t = t ∙ rw (← e, c, le-leb (symbol_chips r) (length (soft_recording i q)) h)
 
 returns : tie.Need-returns
-returns c = no_code _ _ _ (sym c.before.is-code.ensures ∙ not-true _ c.if1.true)
+returns c = no_code _ _ _ (sym c.before.is_code_lem.ensures ∙ not-true _ c.if1.true)
 
-returns-2 : tie.Need-returns-2
-returns-2 c =
-    let e = ap symbolChips c.before.before.before.rate-of.ensures in
+returns_2 : tie.Need-returns-2
+returns_2 c =
+    let e = ap symbol_chips c.before.before.before.rate_of_lem.ensures in
     too_short _ _ _ (omega arith)
 
-returns-3 : tie.Need-returns-3
-returns-3 c =
+returns_3 : tie.Need-returns-3
+returns_3 c =
     let rated = c.before.before.before.before in
-    whole _ _ _ _ _ rated.rate-of.ensures
-    (sym rated.before.before.is-code.ensures ∙ not-false _ rated.before.if1.false) (omega arith)
+    whole _ _ _ _ _ rated.rate_of_lem.ensures
+    (sym rated.before.before.is_code_lem.ensures ∙ not-false _ rated.before.if1.false) (omega arith)
     c.first-word.ensures
 
-pub timed-decide-spec : {M : Type 1} → statement M
-timed-decide-spec =
+pub timed_decide_spec : {M : Type 1} → statement M
+timed_decide_spec =
     tie.close
     (tie.spec (λ c. search rules) (λ c. search rules) (λ c. search rules) (λ c. search rules) (λ c. search rules)
     (λ c. search rules) (λ c κs. search rules) returns (λ c κs. search rules) (λ c κs. search rules)
-    (λ c κs. search rules) returns-2 (λ c κs. search rules) returns-3)
+    (λ c κs. search rules) returns_2 (λ c κs. search rules) returns_3)

@@ -10,40 +10,40 @@ use lib.Ieee.{Float}
 use borrow.Author.Rules.{rules}
 use borrow.Author.Tests.{le-leb, lt-leb}
 use Rattle.choose_recorders.specs.declared.Recorder.{Recorder}
-use Rattle.choose_recorders.specs.Rows.{recordingOf}
-use Rattle.bench_leaves.specs.Leaves.{lastWord, recorderOf, decidedLast}
+use Rattle.choose_recorders.specs.Rows.{recording_of}
+use Rattle.bench_leaves.specs.Leaves.{last_word, recorder_of, decided_last}
 use Rattle.bench_leaves.proofs.timed_eleven.Statement.{statement}
 use Rattle.bench_leaves.proofs.timed_eleven.Tie as tie
 
 module _ (n : ℕ) (octets : List ℕ) (bytes : List ℤ) (i q : List Float) where
-  no-recorder : 2 < n → 0 ≡ decidedLast n octets bytes i q
-  unfolding decidedLast
-  no-recorder h = rw (lt-leb n 2 h)
+  no_recorder : 2 < n → 0 ≡ decided_last n octets bytes i q
+  unfolding decided_last
+  no_recorder h = rw (lt-leb n 2 h)
 
-  module _ (rec : Recorder) (e : rec ≡ recorderOf n) (h : n ≤ 2) where
-    too_short : length (recordingOf rec octets bytes i q) < 512 → 0 ≡ decidedLast n octets bytes i q
-    unfolding decidedLast
-    too_short l = rw (← e, le-leb n 2 h, lt-leb 512 (length (recordingOf rec octets bytes i q)) l)
+  module _ (rec : Recorder) (e : rec ≡ recorder_of n) (h : n ≤ 2) where
+    too_short : length (recording_of rec octets bytes i q) < 512 → 0 ≡ decided_last n octets bytes i q
+    unfolding decided_last
+    too_short l = rw (← e, le-leb n 2 h, lt-leb 512 (length (recording_of rec octets bytes i q)) l)
 
-    whole : (d : ℕ) → 512 ≤ length (recordingOf rec octets bytes i q) → d ≡ lastWord (recordingOf rec octets bytes i q)
-        → d ≡ decidedLast n octets bytes i q
-    unfolding decidedLast
-    whole d l t = t ∙ rw (← e, le-leb n 2 h, le-leb 512 (length (recordingOf rec octets bytes i q)) l)
+    whole : (d : ℕ) → 512 ≤ length (recording_of rec octets bytes i q) → d ≡ last_word (recording_of rec octets bytes i q)
+        → d ≡ decided_last n octets bytes i q
+    unfolding decided_last
+    whole d l t = t ∙ rw (← e, le-leb n 2 h, le-leb 512 (length (recording_of rec octets bytes i q)) l)
 
 returns : tie.Need-returns
-returns c = no-recorder _ _ _ _ _ c.if1.true
+returns c = no_recorder _ _ _ _ _ c.if1.true
 
-returns-2 : tie.Need-returns-2
-returns-2 c =
+returns_2 : tie.Need-returns-2
+returns_2 c =
     let told = c.before.before in
     too_short _ _ _ _ _ _ told.recorder-of.ensures told.before.if1.false (omega arith)
 
-returns-3 : tie.Need-returns-3
-returns-3 c =
+returns_3 : tie.Need-returns-3
+returns_3 c =
     let told = c.before.before.before in
     whole _ _ _ _ _ _ told.recorder-of.ensures told.before.if1.false _ (omega arith) c.last_word.ensures
 
-pub timed-eleven-spec : {M : Type 1} → statement M
-timed-eleven-spec =
+pub timed_eleven_spec : {M : Type 1} → statement M
+timed_eleven_spec =
     tie.close
-    (tie.spec returns (λ c κs. search rules) (λ c κs. search rules) returns-2 (λ c κs. search rules) returns-3)
+    (tie.spec returns (λ c κs. search rules) (λ c κs. search rules) returns_2 (λ c κs. search rules) returns_3)

@@ -8,37 +8,37 @@ use lib.IntN.{pos}
 use borrow.Author.Rules.{rules}
 use mir.Syntax.{w8}
 use mir.Val.{to_z, of_z}
-use Rattle.choose_abreast.proofs.Rows.{Filling, filling-none, filling-two, halves, merged}
+use Rattle.choose_abreast.proofs.Rows.{Filling, filling_none, filling_two, halves, merged}
 use Rattle.choose_abreast.proofs.merge.Statement.{statement}
 use Rattle.choose_abreast.proofs.merge.Tie as tie
 
-abbrev invariant-loop : tie.invariant-loop
-invariant-loop from to₀ half k₀ to k = Filling (halves from) (length from) to (2 * k)
+abbrev invariant_loop : tie.invariant-loop
+invariant_loop from to₀ half k₀ to k = Filling (halves from) (length from) to (2 * k)
 
-abbrev decreases-loop : tie.decreases-loop
-decreases-loop from to₀ half k₀ to k = half - k
+abbrev decreases_loop : tie.decreases-loop
+decreases_loop from to₀ half k₀ to k = half - k
 
-set-second : tie.Need-slice-set-from-to-2 invariant-loop decreases-loop
-set-second c = rw length-set (omega (arith, c.before.before.before.loop.invariant.long))
+set_second : tie.Need-slice-set-from-to-2 invariant_loop decreases_loop
+set_second c = rw length-set (omega (arith, c.before.before.before.loop.invariant.long))
 
-loop-again : tie.Need-loop-preserved invariant-loop decreases-loop
-loop-again c =
+loop_again : tie.Need-loop-preserved invariant_loop decreases_loop
+loop_again c =
     let turn = c.before.before.before in
     let from = turn.before.args.from.now in
     let k = turn.loop.k in
     let first : to_z w8 (of_z w8 (get_or from k (pos 0))) ≡ get_or from k (pos 0) = search rules in
     let other = get_or from (length from / 2 + k) (pos 0) in
     let second : to_z w8 (of_z w8 other) ≡ other = search rules in
-    filling-two from k _ _ (omega arith) first second turn.loop.invariant
+    filling_two from k _ _ (omega arith) first second turn.loop.invariant
 
-returns : tie.Need-returns invariant-loop decreases-loop
+returns : tie.Need-returns invariant_loop decreases_loop
 returns c =
     let s = c.before.before in
     merged c.before.loop.k c.before.loop.invariant (omega (arith, s.requires.0, s.requires.1)) c.loop-test.false
 
-pub merge-spec : {M : Type 1} → statement M
-merge-spec =
+pub merge_spec : {M : Type 1} → statement M
+merge_spec =
     tie.close
-    (tie.spec invariant-loop decreases-loop (λ c. filling-none _ (sym c.requires.0)) (λ c. omega arith) (λ c. omega arith)
+    (tie.spec invariant_loop decreases_loop (λ c. filling-none _ (sym c.requires.0)) (λ c. omega arith) (λ c. omega arith)
     (λ c. omega (arith, c.before.before.loop.invariant.long)) (λ c. omega arith) (λ c. omega arith) (λ c. omega arith)
-    (λ c. omega arith) set-second (λ c. omega arith) (λ c. omega arith) loop-again (λ c. search rules) returns)
+    (λ c. omega arith) set_second (λ c. omega arith) (λ c. omega arith) loop_again (λ c. search rules) returns)

@@ -8,30 +8,30 @@ use lib.IntN.{pos}
 use borrow.Author.Rules.{rules}
 use mir.Syntax.{w8}
 use mir.Val.{to_z, of_z}
-use Rattle.choose_abreast.proofs.Rows.{Filling, filling-none, filling-more}
+use Rattle.choose_abreast.proofs.Rows.{Filling, filling_none, filling_more}
 use Rattle.choose_abreast.proofs.take_in.Statement.{statement}
 use Rattle.choose_abreast.proofs.take_in.Tie as tie
 
-abbrev invariant-loop : tie.invariant-loop
-invariant-loop bytes from count row₀ k₀ row k = Filling (λ j. get_or bytes (from + j) (pos 0)) (length row₀) row k
+abbrev invariant_loop : tie.invariant-loop
+invariant_loop bytes from count row₀ k₀ row k = Filling (λ j. get_or bytes (from + j) (pos 0)) (length row₀) row k
 
-abbrev decreases-loop : tie.decreases-loop
-decreases-loop bytes from count row₀ k₀ row k = count - k
+abbrev decreases_loop : tie.decreases-loop
+decreases_loop bytes from count row₀ k₀ row k = count - k
 
-loop-again : tie.Need-loop-preserved invariant-loop decreases-loop
-loop-again c =
+loop_again : tie.Need-loop-preserved invariant_loop decreases_loop
+loop_again c =
     let turn = c.before.before in
     let s = turn.before in
     let b = get_or s.args.bytes.now (s.args.from + turn.loop.k) (pos 0) in
     let byte : to_z w8 (of_z w8 b) ≡ b = search rules in
-    filling-more _ (omega arith) byte turn.loop.invariant
+    filling_more _ (omega arith) byte turn.loop.invariant
 
-returns : tie.Need-returns invariant-loop decreases-loop
+returns : tie.Need-returns invariant_loop decreases_loop
 returns c = record { each = λ j h. c.before.loop.invariant.each j (omega arith) }
 
-pub take-in-spec : {M : Type 1} → statement M
-take-in-spec =
+pub take_in_spec : {M : Type 1} → statement M
+take_in_spec =
     tie.close
-    (tie.spec invariant-loop decreases-loop (λ c. filling-none _ refl) (λ c. omega arith)
+    (tie.spec invariant_loop decreases_loop (λ c. filling-none _ refl) (λ c. omega arith)
     (λ c. omega arith) (λ c. omega (arith, c.before.before.loop.invariant.long)) (λ c. omega arith) (λ c. omega arith)
-    loop-again (λ c. search rules) returns)
+    loop_again (λ c. search rules) returns)

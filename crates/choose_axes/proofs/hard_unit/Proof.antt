@@ -7,31 +7,31 @@ use lib.Dec.{lit≤, eqb}
 use borrow.Author.Rules.{rules}
 use Rattle.choose_axes.specs.declared.Axis.{Axis}
 use Rattle.choose_axes.specs.declared.Axis.TheVariants.{I, Q}
-use Rattle.rules_chips.specs.Chips.{fullChip}
-use Rattle.choose_axes.specs.Axes.{along, phaseOn}
-use Rattle.choose_axes.proofs.Axes.{made, unit-fits, unit-made}
+use Rattle.rules_chips.specs.Chips.{full_chip}
+use Rattle.choose_axes.specs.Axes.{along, phase_on}
+use Rattle.choose_axes.proofs.Axes.{made, unit_fits, unit_made}
 use Rattle.choose_axes.proofs.hard_unit.Statement.{statement}
 use Rattle.choose_axes.proofs.hard_unit.Tie as tie
 
-few : (x : Axis) → phaseOn x ≤ 1
+few : (x : Axis) → phase_on x ≤ 1
 few I = lit≤ tt
 few Q = lit≤ tt
 
-sub-result : tie.Need-overflow-sub-result
-sub-result c =
+sub_result : tie.Need-overflow-sub-result
+sub_result c =
     let octet = c.before.octet-of.result in
-    unit-fits (eqb octet c.phase-on.result) (eqb octet (c.phase-on.result + 2))
+    unit_fits (eqb octet c.phase-on.result) (eqb octet (c.phase-on.result + 2))
 
 returns : tie.Need-returns
 returns c =
     let x = c.before.before.args.axis in
     ap (λ (p : ℕ). made c.before.octet-of.result p) c.phase-on.ensures
-    ∙ unit-made x c.before.octet-of.result
-    ∙ ap (λ (p : ℕ). along x (fullChip 1 p)) c.before.octet-of.ensures
+    ∙ unit_made x c.before.octet-of.result
+    ∙ ap (λ (p : ℕ). along x (full_chip 1 p)) c.before.octet-of.ensures
 
-pub hard-unit-spec : {M : Type 1} → statement M
-hard-unit-spec =
+pub hard_unit_spec : {M : Type 1} → statement M
+hard_unit_spec =
     tie.close
     (tie.spec (λ c κs. search rules) (λ c κs. search rules) (λ c. search rules)
     (λ c. omega (arith, c.phase-on.ensures, few c.before.before.args.axis)) (λ c. search rules)
-    sub-result returns)
+    sub_result returns)

@@ -7,32 +7,32 @@ use borrow.Author.Rules.{rules}
 use mir.Syntax.{w8}
 use mir.Val.{to_z, of_z}
 use Rattle.base.specs.Tables.{Filled}
-use Rattle.base.proofs.Tables.{filled_none, filled_more, filled-all, map-tabulate}
+use Rattle.base.proofs.Tables.{filled_none, filled_more, filled_all, map_tabulate}
 use Rattle.rules_chips.specs.declared.Chip.TheVariants.{Lost}
 use Rattle.choose_axes.specs.Axes.{along, unit_of}
 use Rattle.choose_axes.proofs.hard_units11.Statement.{statement}
 use Rattle.choose_axes.proofs.hard_units11.Tie as tie
 
-abbrev invariant-loop : tie.invariant-loop
-invariant-loop axis chips out₀ k₀ out k = Filled (λ j. along axis (unit_of (get_or chips j Lost))) 11 out k
+abbrev invariant_loop : tie.invariant-loop
+invariant_loop axis chips out₀ k₀ out k = Filled (λ j. along axis (unit_of (get_or chips j Lost))) 11 out k
 
-abbrev decreases-loop : tie.decreases-loop
-decreases-loop axis chips out₀ k₀ out k = 11 - k
+abbrev decreases_loop : tie.decreases-loop
+decreases_loop axis chips out₀ k₀ out k = 11 - k
 
-loop-again : tie.Need-loop-preserved invariant-loop decreases-loop
-loop-again c =
+loop_again : tie.Need-loop-preserved invariant_loop decreases_loop
+loop_again c =
     let read : to_z w8 (of_z w8 c.hard-unit.result) ≡ c.hard-unit.result = search rules in
     filled_more _ c.before.before.before.loop.invariant (search rules) (read ∙ c.hard-unit.ensures)
 
-returns : tie.Need-returns invariant-loop decreases-loop
+returns : tie.Need-returns invariant_loop decreases_loop
 returns c =
     let start = c.before.before in
-    filled-all c.before.loop.invariant c.loop-test.false
-    ∙ sym (map-tabulate (λ d. along start.args.axis (unit_of d)) start.args.t1 11 Lost (search rules))
+    filled_all c.before.loop.invariant c.loop-test.false
+    ∙ sym (map_tabulate (λ d. along start.args.axis (unit_of d)) start.args.t1 11 Lost (search rules))
 
-pub hard-units11-spec : {M : Type 1} → statement M
-hard-units11-spec =
+pub hard_units11_spec : {M : Type 1} → statement M
+hard_units11_spec =
     tie.close
-    (tie.spec invariant-loop decreases-loop (λ c. filled_none _ 11 _ refl) (λ c. search rules) (λ c. search rules)
+    (tie.spec invariant_loop decreases_loop (λ c. filled_none _ 11 _ refl) (λ c. search rules) (λ c. search rules)
     (λ c κs. search rules) (λ c. search rules) (λ c. search rules) (λ c. search rules)
-    loop-again returns)
+    loop_again returns)

@@ -4,18 +4,18 @@ use mathlib.Core.Path.{subst}
 use lib.Dec.{T}
 use borrow.Author.Rules.{rules}
 use Rattle.rules_chips.specs.declared.Chip.{Chip}
-use Rattle.choose_axes.specs.Axes.{softUsable}
+use Rattle.choose_axes.specs.Axes.{soft_usable}
 use Rattle.choose_axes.proofs.sample_of.Statement.{statement}
 use Rattle.choose_axes.proofs.sample_of.Tie as tie
 
 returns : tie.Need-returns
 returns c =
-    absurd (subst (λ (d : Chip). T (softUsable d)) c.enum_told.given.1 c.before.before.requires)
+    absurd (subst (λ (d : Chip). T (soft_usable d)) c.enum_told.given.1 c.before.before.requires)
 
-returns-2 : tie.Need-returns-2
-returns-2 c =
-    absurd (subst (λ (d : Chip). T (softUsable d)) c.enum-told2.given.1 c.before.before.requires)
+returns_2 : tie.Need-returns-2
+returns_2 c =
+    absurd (subst (λ (d : Chip). T (soft_usable d)) c.enum-told2.given.1 c.before.before.requires)
 
-pub sample-of-spec : {M : Type 1} → statement M
-sample-of-spec = tie.close (tie.spec (λ c. search rules) (λ c. search rules) (λ c. search rules) returns returns-2
+pub sample_of_spec : {M : Type 1} → statement M
+sample_of_spec = tie.close (tie.spec (λ c. search rules) (λ c. search rules) (λ c. search rules) returns returns_2
     (λ c. search rules))

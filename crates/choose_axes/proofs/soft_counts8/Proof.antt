@@ -7,36 +7,36 @@ use borrow.Author.Rules.{rules}
 use mir.Syntax.{w32}
 use mir.Val.{to_z, of_z}
 use Rattle.base.specs.Tables.{Filled}
-use Rattle.base.proofs.Tables.{filled_none, filled_more, filled-all, map-tabulate}
+use Rattle.base.proofs.Tables.{filled_none, filled_more, filled_all, map_tabulate}
 use Rattle.rules_chips.specs.declared.Chip.TheVariants.{Lost}
-use Rattle.rules_chips.specs.Chips.{countsOf}
+use Rattle.rules_chips.specs.Chips.{counts_of}
 use Rattle.choose_axes.specs.Axes.{along}
 use Rattle.choose_axes.proofs.soft_counts8.Statement.{statement}
 use Rattle.choose_axes.proofs.soft_counts8.Tie as tie
 
-abbrev invariant-loop : tie.invariant-loop
-invariant-loop axis chips out₀ k₀ out k = Filled (λ j. along axis (countsOf (get_or chips j Lost))) 8 out k
+abbrev invariant_loop : tie.invariant-loop
+invariant_loop axis chips out₀ k₀ out k = Filled (λ j. along axis (counts_of (get_or chips j Lost))) 8 out k
 
-abbrev decreases-loop : tie.decreases-loop
-decreases-loop axis chips out₀ k₀ out k = 8 - k
+abbrev decreases_loop : tie.decreases-loop
+decreases_loop axis chips out₀ k₀ out k = 8 - k
 
-count-requires : tie.Need-soft-count-requires invariant-loop decreases-loop
-count-requires c κs = c.before.before.before.requires.at c.before.before.loop.k (search rules)
+count_requires : tie.Need-soft-count-requires invariant_loop decreases_loop
+count_requires c κs = c.before.before.before.requires.at c.before.before.loop.k (search rules)
 
-loop-again : tie.Need-loop-preserved invariant-loop decreases-loop
-loop-again c =
+loop_again : tie.Need-loop-preserved invariant_loop decreases_loop
+loop_again c =
     let read : to_z w32 (of_z w32 c.soft-count.result) ≡ c.soft-count.result = search rules in
     filled_more _ c.before.before.before.loop.invariant (search rules) (read ∙ c.soft-count.ensures)
 
-returns : tie.Need-returns invariant-loop decreases-loop
+returns : tie.Need-returns invariant_loop decreases_loop
 returns c =
     let start = c.before.before in
-    filled-all c.before.loop.invariant c.loop-test.false
-    ∙ sym (map-tabulate (λ d. along start.args.axis (countsOf d)) start.args.t1 8 Lost (search rules))
+    filled_all c.before.loop.invariant c.loop-test.false
+    ∙ sym (map_tabulate (λ d. along start.args.axis (counts_of d)) start.args.t1 8 Lost (search rules))
 
-pub soft-counts8-spec : {M : Type 1} → statement M
-soft-counts8-spec =
+pub soft_counts8_spec : {M : Type 1} → statement M
+soft_counts8_spec =
     tie.close
-    (tie.spec invariant-loop decreases-loop (λ c. filled_none _ 8 _ refl) (λ c. search rules) (λ c. search rules)
-    count-requires (λ c. search rules) (λ c. search rules) (λ c. search rules) (λ c. search rules)
-    loop-again returns)
+    (tie.spec invariant_loop decreases_loop (λ c. filled_none _ 8 _ refl) (λ c. search rules) (λ c. search rules)
+    count_requires (λ c. search rules) (λ c. search rules) (λ c. search rules) (λ c. search rules)
+    loop_again returns)

@@ -8,28 +8,28 @@ use borrow.Author.Rules.{rules}
 use Rattle.rules_rates.specs.declared.Rate.TheVariants.{One}
 use Rattle.rules_chips.specs.declared.Counts.{Counts}
 use Rattle.rules_choosing.specs.Scores.{ChosenAs}
-use Rattle.choose_sums.specs.Sums.{bySigns, asChip}
-use Rattle.choose_sums.proofs.Signs.{by-signs-within}
+use Rattle.choose_sums.specs.Sums.{by_signs, as_chip}
+use Rattle.choose_sums.proofs.Signs.{by_signs_within}
 use Rattle.choose_by_bytes.proofs.barker.Statement.{statement}
 use Rattle.choose_by_bytes.proofs.barker.Tie as tie
 
 -- both sums, as they are read back
-sum-i : (c : tie.After-by-signs2) → to_z w16 (of_z w16 c.before.by-signs.result)
-    ≡ bySigns c.before.before.args.i
-sum-i c = search rules ∙ c.before.by-signs.ensures
+sum_i : (c : tie.After-by-signs2) → to_z w16 (of_z w16 c.before.by-signs.result)
+    ≡ by_signs c.before.before.args.i
+sum_i c = search rules ∙ c.before.by-signs.ensures
 
-sum-q : (c : tie.After-by-signs2) → to_z w16 (of_z w16 c.by-signs2.result) ≡ bySigns c.before.before.args.q
-sum-q c = search rules ∙ c.by-signs2.ensures
+sum_q : (c : tie.After-by-signs2) → to_z w16 (of_z w16 c.by-signs2.result) ≡ by_signs c.before.before.args.q
+sum_q c = search rules ∙ c.by-signs2.ensures
 
-choose-requires : tie.Need-choose-requires
-choose-requires c κs =
+choose_requires : tie.Need-choose-requires
+choose_requires c κs =
     let pre = c.before.before.requires in
-    (rw (sum-i c) (by-signs-within 128 _ pre.0), rw (sum-q c) (by-signs-within 128 _ pre.1))
+    (rw (sum_i c) (by_signs_within 128 _ pre.0), rw (sum_q c) (by_signs_within 128 _ pre.1))
 
 returns : tie.Need-returns
 returns c =
     subst (λ (cs : List Counts). ChosenAs One cs c.choose.result.number c.choose.result.lead)
-    (λ j. asChip (sum-i c.before j) (sum-q c.before j)) c.choose.ensures
+    (λ j. asChip (sum_i c.before j) (sum_q c.before j)) c.choose.ensures
 
-pub barker-spec : {M : Type 1} → statement M
-barker-spec = tie.close (tie.spec (λ c κs. search rules) (λ c κs. search rules) choose-requires returns)
+pub barker_spec : {M : Type 1} → statement M
+barker_spec = tie.close (tie.spec (λ c κs. search rules) (λ c κs. search rules) choose_requires returns)

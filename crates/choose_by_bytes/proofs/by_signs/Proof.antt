@@ -7,42 +7,42 @@ use lib.Dec.{lit<}
 use lib.ListN.{length}
 use mir.Syntax.{w16}
 use borrow.Author.Rules.{rules}
-use Rattle.choose_sums.proofs.Signs.{Summed, summed-none, plus-fits, plus-sum, minus-fits, minus-sum, summed-all}
+use Rattle.choose_sums.proofs.Signs.{Summed, summed_none, plus_fits, plus_sum, minus_fits, minus_sum, summed_all}
 use Rattle.choose_by_bytes.proofs.by_signs.Statement.{statement}
 use Rattle.choose_by_bytes.proofs.by_signs.Tie as tie
 
-abbrev invariant-loop : tie.invariant-loop
-invariant-loop c turns x₀ k₀ x k = Summed w16 128 c x k
+abbrev invariant_loop : tie.invariant-loop
+invariant_loop c turns x₀ k₀ x k = Summed w16 128 c x k
 
-abbrev decreases-loop : tie.decreases-loop
-decreases-loop c turns x₀ k₀ x k = 11 - k
+abbrev decreases_loop : tie.decreases-loop
+decreases_loop c turns x₀ k₀ x k = 11 - k
 
-add-x : tie.Need-overflow-add-x invariant-loop decreases-loop
-add-x c =
+add_x : tie.Need-overflow-add-x invariant_loop decreases_loop
+add_x c =
     let a = c.before.before.before in
     let l : length a.before.args.t1 ≡ 11 = search rules in
-    plus-fits (lit< tt) a.loop.invariant a.before.requires l (search rules) c.before.if1.true
+    plus_fits (lit< tt) a.loop.invariant a.before.requires l (search rules) c.before.if1.true
 
-sub-x : tie.Need-overflow-sub-x invariant-loop decreases-loop
-sub-x c =
+sub_x : tie.Need-overflow-sub-x invariant_loop decreases_loop
+sub_x c =
     let a = c.before.before.before in
     let l : length a.before.args.t1 ≡ 11 = search rules in
-    minus-fits (lit< tt) a.loop.invariant a.before.requires l (search rules) c.before.if1.false
+    minus_fits (lit< tt) a.loop.invariant a.before.requires l (search rules) c.before.if1.false
 
-loop-again : tie.Need-loop-preserved invariant-loop decreases-loop
-loop-again c =
+loop_again : tie.Need-loop-preserved invariant_loop decreases_loop
+loop_again c =
     let a = c.before.before in
     let l : length a.before.args.t1 ≡ 11 = search rules in
-    ⊎_elim (λ w. rw w.2 (plus-sum (lit< tt) a.loop.invariant a.before.requires l (search rules) w.0.taken))
-    (λ w. rw w.2 (minus-sum (lit< tt) a.loop.invariant a.before.requires l (search rules) w.0.left))
+    ⊎_elim (λ w. rw w.2 (plus_sum (lit< tt) a.loop.invariant a.before.requires l (search rules) w.0.taken))
+    (λ w. rw w.2 (minus_sum (lit< tt) a.loop.invariant a.before.requires l (search rules) w.0.left))
     c.if1.branch
 
-returns : tie.Need-returns invariant-loop decreases-loop
-returns c = summed-all c.before.loop.invariant c.loop-test.false
+returns : tie.Need-returns invariant_loop decreases_loop
+returns c = summed_all c.before.loop.invariant c.loop-test.false
 
-pub by-signs-spec : {M : Type 1} → statement M
-by-signs-spec =
+pub by_signs_spec : {M : Type 1} → statement M
+by_signs_spec =
     tie.close
-    (tie.spec invariant-loop decreases-loop (λ c. summed-none w16 128 _ refl) (λ c. search rules) (λ c. search rules)
-    (λ c. search rules) add-x
-    (λ c. search rules) (λ c. search rules) sub-x (λ c. search rules) (λ c. search rules) loop-again returns)
+    (tie.spec invariant_loop decreases_loop (λ c. summed-none w16 128 _ refl) (λ c. search rules) (λ c. search rules)
+    (λ c. search rules) add_x
+    (λ c. search rules) (λ c. search rules) sub_x (λ c. search rules) (λ c. search rules) loop_again returns)

@@ -9,9 +9,9 @@ use mir.Val.{to_z, of_z}
 use borrow.Author.Rules.{rules}
 use Rattle.base.specs.Whole.{Within}
 use Rattle.base.proofs.Whole.{small}
-use Rattle.rules_choosing.specs.Keys.{keyOf, HoldsTwo}
-use Rattle.choose_sums.proofs.Four.{sumKey, phase-held}
-use Rattle.choose_sums.proofs.KeyTops.{holds-two, holds-order}
+use Rattle.rules_choosing.specs.Keys.{key_of, HoldsTwo}
+use Rattle.choose_sums.proofs.Four.{sum_key, phase_held}
+use Rattle.choose_sums.proofs.KeyTops.{holds_two, holds_order}
 use Rattle.choose_by_bytes.proofs.choose.Statement.{statement}
 use Rattle.choose_by_bytes.proofs.choose.Tie as tie
 
@@ -22,31 +22,31 @@ module _ (c : tie.After-two-keys) where
   abbrev q : ℤ
   q = c.before.args.q
 
-  read : to_z w16 (of_z w16 c.two-keys.result.first) ≡ c.two-keys.result.first
+  read : to_z w16 (of_z w16 c.two_keys.result.first) ≡ c.two_keys.result.first
   read = search rules
 
   score : (s : ℤ) → Within 1408 s → to_z w16 (of_z w16 s) ≡ s
   score s h = small w16 1408 (lit< tt) s h
 
-  top : HoldsTwo (sumKey i q) 0 2 c.two-keys.result.first c.two-keys.result.second
-  top = holds-two (sumKey i q) 0 (λ j. pos (keyOf 2 0 (score i c.before.requires.0 j)))
-      (λ j. pos (keyOf 2 1 (score q c.before.requires.1 j))) c.two-keys.ensures.0 c.two-keys.ensures.1
+  top : HoldsTwo (sum_key i q) 0 2 c.two_keys.result.first c.two_keys.result.second
+  top = holds_two (sum_key i q) 0 (λ j. pos (key_of 2 0 (score i c.before.requires.0 j)))
+      (λ j. pos (key_of 2 1 (score q c.before.requires.1 j))) c.two_keys.ensures.0 c.two_keys.ensures.1
 
-number-of-requires : tie.Need-number-of-requires
-number-of-requires c κs = (lit< tt, lit≤ tt, rw (read c.before) (holds-order (top c.before)).0)
+number_of_requires : tie.Need-number-of-requires
+number_of_requires c κs = (lit< tt, lit≤ tt, rw (read c.before) (holds_order (top c.before)).0)
 
-lead-of-requires : tie.Need-lead-of-requires
-lead-of-requires c κs =
-    let order = holds-order (top c.before.before) in
+lead_of_requires : tie.Need-lead-of-requires
+lead_of_requires c κs =
+    let order = holds_order (top c.before.before) in
     (lit< tt, lit≤ tt, order.0, order.1, order.2)
 
 returns : tie.Need-returns
 returns c =
     let m = c.before.before.before in
-    let chosen = phase-held (i m) (q m) (top m) in (
+    let chosen = phase_held (i m) (q m) (top m) in (
       c.before.number_of.ensures ∙ ap (λ (z : ℤ). 3 - nat_abs z % 4) (read m) ∙ chosen.0,
       c.lead-of.ensures ∙ chosen.1,
     )
 
 pub choose_spec : {M : Type 1} → statement M
-choose_spec = tie.close (tie.spec (λ c κs. search rules) number-of-requires lead-of-requires returns)
+choose_spec = tie.close (tie.spec (λ c κs. search rules) number_of_requires lead_of_requires returns)

@@ -16,36 +16,36 @@ use Rattle.choose_by_bytes.proofs.lead_of.Tie as tie
 read_first : (c : tie.Start) → to_z w16 (of_z w16 c.args.keys.first) ≡ c.args.keys.first
 read_first c = search rules
 
-read-second : (c : tie.Start) → to_z w16 (of_z w16 c.args.keys.second) ≡ c.args.keys.second
-read-second c = search rules
+read_second : (c : tie.Start) → to_z w16 (of_z w16 c.args.keys.second) ≡ c.args.keys.second
+read_second c = search rules
 
 fits : (z : ℤ) → SFits w16 z → T (non_neg z) → Fits w16 (nat_abs z)
 fits (pos n) f t = record { fits = omega (arith, f.sfits) }
 fits (negsuc n) f t = absurd t
 
-cast-result : tie.Need-overflow-cast-result
-cast-result c =
+cast_result : tie.Need-overflow-cast-result
+cast_result c =
     let s = c.before.before in
     rw (read_first s) (s.requires.2, fits s.args.keys.first (search rules) s.requires.2)
 
-cast-result-2 : tie.Need-overflow-cast-result-2
-cast-result-2 c =
+cast_result_2 : tie.Need-overflow-cast-result-2
+cast_result_2 c =
     let s = c.before.before.before.before in
-    rw (read-second s) (s.requires.3, fits s.args.keys.second (search rules) s.requires.3)
+    rw (read_second s) (s.requires.3, fits s.args.keys.second (search rules) s.requires.3)
 
-sub-result : tie.Need-overflow-sub-result
-sub-result c =
+sub_result : tie.Need-overflow-sub-result
+sub_result c =
     let s = c.before.before.before.before in
-    rw (read_first s, read-second s) (quotients (4 * s.args.w) (omega (arith, s.requires.0)) s.requires.4)
+    rw (read_first s, read_second s) (quotients (4 * s.args.w) (omega (arith, s.requires.0)) s.requires.4)
 
 returns : tie.Need-returns
 returns c =
     let s = c.before.before.before.before in
     let m = 4 * s.args.w in
-    λ i. nat_abs (read_first s i) / m - nat_abs (read-second s i) / m
+    λ i. nat_abs (read_first s i) / m - nat_abs (read_second s i) / m
 
-pub lead-of-spec : {M : Type 1} → statement M
-lead-of-spec =
+pub lead_of_spec : {M : Type 1} → statement M
+lead_of_spec =
     tie.close
-    (tie.spec (λ c. omega (arith, c.requires.1)) cast-result (λ c. omega (arith, c.before.before.requires.0)) cast-result-2
-    (λ c. omega (arith, c.before.before.before.before.requires.0)) sub-result returns)
+    (tie.spec (λ c. omega (arith, c.requires.1)) cast_result (λ c. omega (arith, c.before.before.requires.0)) cast_result_2
+    (λ c. omega (arith, c.before.before.before.before.requires.0)) sub_result returns)

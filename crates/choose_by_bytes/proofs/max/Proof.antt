@@ -15,12 +15,12 @@ returns c =
     let b : to_z w16 (of_z w16 s.b) ≡ s.b = search rules in
     b ∙ sym (ap (λ (t : Bool). cond t s.b s.a) (rw (a, b) at c.if1.true))
 
-returns-2 : tie.Need-returns-2
-returns-2 c =
+returns_2 : tie.Need-returns-2
+returns_2 c =
     let s = c.before.args in
     let a : to_z w16 (of_z w16 s.a) ≡ s.a = search rules in
     let b : to_z w16 (of_z w16 s.b) ≡ s.b = search rules in
     a ∙ sym (ap (λ (t : Bool). cond t s.b s.a) (rw (a, b) at c.if1.false))
 
-pub max-spec : {M : Type 1} → statement M
-max-spec = tie.close (tie.spec returns returns-2)
+pub max_spec : {M : Type 1} → statement M
+max_spec = tie.close (tie.spec returns returns_2)

@@ -22,15 +22,15 @@ returns c =
     let other : to_z w16 (of_z w16 m1.max.result) ≡ m1.max.result = search rules in
     let top : to_z w16 (of_z w16 m2.max2.result) ≡ m2.max2.result = search rules in
     let next : to_z w16 (of_z w16 c.max3.result) ≡ c.max3.result = search rules in
-    let is-low : n1.min.result ≡ smaller s.args.a.first s.args.b.first =
+    let is_low : n1.min.result ≡ smaller s.args.a.first s.args.b.first =
     rw (af, bf) at n1.min.ensures in
-    let is-other : m1.max.result ≡ larger s.args.a.second s.args.b.second =
+    let is_other : m1.max.result ≡ larger s.args.a.second s.args.b.second =
     rw (an, bn) at m1.max.ensures in (
       top ∙ rw (af, bf) at m2.max2.ensures,
-      next ∙ c.max3.ensures ∙ (λ i. larger ((low ∙ is-low) i) ((other ∙ is-other) i)),
+      next ∙ c.max3.ensures ∙ (λ i. larger ((low ∙ is_low) i) ((other ∙ is_other) i)),
     )
 
-pub merge-spec : {M : Type 1} → statement M
-merge-spec =
+pub merge_spec : {M : Type 1} → statement M
+merge_spec =
     tie.close
     (tie.spec (λ c κs. search rules) (λ c κs. search rules) (λ c κs. search rules) (λ c κs. search rules) returns)

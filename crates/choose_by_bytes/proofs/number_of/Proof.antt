@@ -20,18 +20,18 @@ fits : (z : ℤ) → SFits w16 z → T (non_neg z) → Fits w16 (nat_abs z)
 fits (pos n) f t = record { fits = omega (arith, f.sfits) }
 fits (negsuc n) f t = absurd t
 
-cast-result : tie.Need-overflow-cast-result
-cast-result c = rw (read c) (c.requires.2, fits c.args.key (search rules) c.requires.2)
+cast_result : tie.Need-overflow-cast-result
+cast_result c = rw (read c) (c.requires.2, fits c.args.key (search rules) c.requires.2)
 
 returns : tie.Need-returns
 returns c =
     let m = 4 * c.args.w in
     ap (λ (z : ℤ). m - 1 - nat_abs z % m) (read c)
 
-pub number-of-spec : {M : Type 1} → statement M
-number-of-spec =
+pub number_of_spec : {M : Type 1} → statement M
+number_of_spec =
     tie.close
-    (tie.spec (λ c. omega (arith, c.requires.1)) (λ c. omega (arith, c.requires.0)) cast-result
+    (tie.spec (λ c. omega (arith, c.requires.1)) (λ c. omega (arith, c.requires.0)) cast_result
     (λ c. omega (arith, c.requires.0))
     (λ c. omega (
       arith,

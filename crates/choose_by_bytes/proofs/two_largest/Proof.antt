@@ -11,7 +11,7 @@ use mir.Val.{to_z, of_z}
 use borrow.Author.Rules.{rules}
 use Rattle.base.specs.Whole.{Within}
 use Rattle.rules_choosing.specs.Scores.{RowWithin}
-use Rattle.choose_sums.proofs.KeyTops.{within-two, holds-keys, holds-merge}
+use Rattle.choose_sums.proofs.KeyTops.{within_two, holds_keys, holds_merge}
 use Rattle.choose_by_bytes.proofs.two_largest.Statement.{statement}
 use Rattle.choose_by_bytes.proofs.two_largest.Tie as tie
 
@@ -21,7 +21,7 @@ read z = to_z w16 (of_z w16 z)
 -- what is asked of the places j and j + 1
 asks : (h : List ℤ) (j : ℕ) → suc j < 8 → RowWithin 1024 h
     → (4 ≤ 4) × Within 1408 (read (get_or h j (pos 0))) × Within 1408 (read (get_or h (suc j) (pos 0))) × (suc j < 8)
-asks h j l r = let two = within-two w16 (lit< tt) h r 1408 j (lit≤ tt) in (lit≤ tt, two.0, two.1, l)
+asks h j l r = let two = within_two w16 (lit< tt) h r 1408 j (lit≤ tt) in (lit≤ tt, two.0, two.1, l)
 
 returns : tie.Need-returns
 returns c =
@@ -31,15 +31,15 @@ returns c =
     let k1 = k2.before.before.before in
     let start = k1.before.before.before in
     let row = start.args.t1 in
-    holds-merge
-    (holds-merge (holds-keys w16 (lit< tt) row start.requires 0 k1.two-keys.ensures)
-    (holds-keys w16 (lit< tt) row start.requires 2 k2.two-keys2.ensures) c.before.before.merge.ensures)
-    (holds-merge (holds-keys w16 (lit< tt) row start.requires 4 k3.two-keys3.ensures)
-    (holds-keys w16 (lit< tt) row start.requires 6 k4.two-keys4.ensures) c.before.merge2.ensures)
+    holds_merge
+    (holds_merge (holds_keys w16 (lit< tt) row start.requires 0 k1.two_keys.ensures)
+    (holds_keys w16 (lit< tt) row start.requires 2 k2.two-keys2.ensures) c.before.before.merge.ensures)
+    (holds_merge (holds_keys w16 (lit< tt) row start.requires 4 k3.two-keys3.ensures)
+    (holds_keys w16 (lit< tt) row start.requires 6 k4.two-keys4.ensures) c.before.merge2.ensures)
     c.merge3.ensures
 
-pub two-largest-spec : {M : Type 1} → statement M
-two-largest-spec =
+pub two_largest_spec : {M : Type 1} → statement M
+two_largest_spec =
     tie.close
     (tie.spec (λ c. search rules) (λ c. search rules) (λ c κs. asks _ 0 (lit< tt) c.before.before.requires)
     (λ c. search rules) (λ c. search rules)

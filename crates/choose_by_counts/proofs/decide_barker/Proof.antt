@@ -7,26 +7,26 @@ use Rattle.rules_rates.specs.declared.Rate.TheVariants.{One}
 use Rattle.choose_axes.specs.declared.Axis.TheVariants.{I, Q}
 use Rattle.rules_chips.specs.declared.Counts.{Counts}
 use Rattle.rules_choosing.specs.Scores.{RowWithin, ChosenAs}
-use Rattle.choose_sums.specs.Sums.{bySigns, asChip}
-use Rattle.choose_sums.proofs.Apart.{counts-small, counts-barker}
+use Rattle.choose_sums.specs.Sums.{by_signs, as_chip}
+use Rattle.choose_sums.proofs.Apart.{counts_small, counts_barker}
 use Rattle.choose_by_counts.proofs.decide_barker.Statement.{statement}
 use Rattle.choose_by_counts.proofs.decide_barker.Tie as tie
 
-decide-requires : tie.Need-decide-requires
-decide-requires c κs =
+decide_requires : tie.Need-decide-requires
+decide_requires c κs =
     let chips = c.before.before.args.chips in (
-      subst (RowWithin 8192) (sym c.before.soft-counts11.ensures) (counts-small I chips),
-      subst (RowWithin 8192) (sym c.soft-counts112.ensures) (counts-small Q chips),
+      subst (RowWithin 8192) (sym c.before.soft-counts11.ensures) (counts_small I chips),
+      subst (RowWithin 8192) (sym c.soft-counts112.ensures) (counts_small Q chips),
     )
 
 returns : tie.Need-returns
 returns c =
     let second = c.before in
-    counts-barker second.before.before.args.chips
+    counts_barker second.before.before.args.chips
     (subst (λ (cs : List Counts). ChosenAs One cs c.decide.result.number c.decide.result.lead)
-    (λ i. asChip (bySigns (second.before.soft-counts11.ensures i)) (bySigns (second.soft-counts112.ensures i)))
+    (λ i. asChip (by_signs (second.before.soft-counts11.ensures i)) (by_signs (second.soft-counts112.ensures i)))
     c.decide.ensures)
 
-pub decide-barker-spec : {M : Type 1} → statement M
-decide-barker-spec =
-    tie.close (tie.spec (λ c κs. search rules) (λ c κs. search rules) decide-requires returns)
+pub decide_barker_spec : {M : Type 1} → statement M
+decide_barker_spec =
+    tie.close (tie.spec (λ c κs. search rules) (λ c κs. search rules) decide_requires returns)

@@ -9,15 +9,15 @@ use Rattle.choose_axes.specs.declared.Axis.TheVariants.{I, Q}
 use Rattle.rules_chips.specs.declared.Counts.{Counts}
 use Rattle.rules_choosing.specs.Scores.{RowWithin, ChosenAs}
 use Rattle.choose_sums.specs.Sums.{rows}
-use Rattle.choose_sums.proofs.Apart.{counts-small, counts-eight}
+use Rattle.choose_sums.proofs.Apart.{counts_small, counts_eight}
 use Rattle.choose_by_counts.proofs.decide_five.Statement.{statement}
 use Rattle.choose_by_counts.proofs.decide_five.Tie as tie
 
-decide-requires : tie.Need-decide-requires
-decide-requires c κs =
+decide_requires : tie.Need-decide-requires
+decide_requires c κs =
     let chips = c.before.before.args.chips in (
-      subst (RowWithin 8192) (sym c.before.soft-counts8.ensures) (counts-small I chips),
-      subst (RowWithin 8192) (sym c.soft-counts82.ensures) (counts-small Q chips),
+      subst (RowWithin 8192) (sym c.before.soft-counts8.ensures) (counts_small I chips),
+      subst (RowWithin 8192) (sym c.soft-counts82.ensures) (counts_small Q chips),
     )
 
 returns : tie.Need-returns
@@ -27,8 +27,8 @@ returns c =
     let eight : length chips ≡ 8 = search rules in
     subst (λ (cs : List Counts). ChosenAs Five cs c.decide.result.number c.decide.result.lead)
     ((λ i. rows (second.before.soft-counts8.ensures i) (second.soft-counts82.ensures i))
-    ∙ counts-eight chips eight) c.decide.ensures
+    ∙ counts_eight chips eight) c.decide.ensures
 
-pub decide-five-spec : {M : Type 1} → statement M
-decide-five-spec =
-    tie.close (tie.spec (λ c κs. search rules) (λ c κs. search rules) decide-requires returns)
+pub decide_five_spec : {M : Type 1} → statement M
+decide_five_spec =
+    tie.close (tie.spec (λ c κs. search rules) (λ c κs. search rules) decide_requires returns)

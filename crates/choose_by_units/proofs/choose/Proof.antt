@@ -7,18 +7,18 @@ use mir.Syntax.{w8}
 use mir.Val.{to_z, of_z}
 use borrow.Author.Rules.{rules}
 use Rattle.base.specs.Whole.{Within}
-use Rattle.rules_choosing.specs.Keys.{bigger, lesser, keyOf, TwoLargest}
+use Rattle.rules_choosing.specs.Keys.{bigger, lesser, key_of, TwoLargest}
 use Rattle.base.proofs.Adding.{reads_of}
-use Rattle.choose_sums.proofs.Four.{sumKey, phase-by}
-use Rattle.choose_sums.proofs.KeyTops.{two-of, two_is, second-le}
+use Rattle.choose_sums.proofs.Four.{sum_key, phase_by}
+use Rattle.choose_sums.proofs.KeyTops.{two_of_lem, two_is, second_le}
 use Rattle.choose_by_units.proofs.choose.Statement.{statement}
 use Rattle.choose_by_units.proofs.choose.Tie as tie
 
 score : (s : ℤ) → Within 11 s → to_z w8 (of_z w8 s) ≡ s
 score s h = (reads_of {w = w8} (lit< tt) h).is
 
-two-keys-requires : tie.Need-two-keys-requires
-two-keys-requires c κs =
+two_keys_requires : tie.Need-two-keys-requires
+two_keys_requires c κs =
     (lit≤ tt, rw (score _ c.requires.0) c.requires.0, rw (score _ c.requires.1) c.requires.1, lit< tt)
 
 module _ (c : tie.After-two-keys) where
@@ -28,25 +28,25 @@ module _ (c : tie.After-two-keys) where
   abbrev q : ℤ
   q = c.before.args.q
 
-  first : keyOf 2 0 (to_z w8 (of_z w8 i)) ≡ sumKey i q 0
+  first : key_of 2 0 (to_z w8 (of_z w8 i)) ≡ sum_key i q 0
   first = λ j. keyOf 2 0 (score i c.before.requires.0 j)
 
-  second : keyOf 2 1 (to_z w8 (of_z w8 q)) ≡ sumKey i q 1
+  second : key_of 2 1 (to_z w8 (of_z w8 q)) ≡ sum_key i q 1
   second = λ j. keyOf 2 1 (score q c.before.requires.1 j)
 
-  top : TwoLargest (sumKey i q) 0 2 c.two-keys.result.first c.two-keys.result.second
+  top : TwoLargest (sum_key i q) 0 2 c.two_keys.result.first c.two_keys.result.second
   top =
-      two_is (two-of (sumKey i q) 0) (c.two-keys.ensures.0 ∙ (λ j. bigger (first j) (second j)))
-      (c.two-keys.ensures.1 ∙ (λ j. lesser (first j) (second j)))
+      two_is (two_of_lem (sum_key i q) 0) (c.two_keys.ensures.0 ∙ (λ j. bigger (first j) (second j)))
+      (c.two_keys.ensures.1 ∙ (λ j. lesser (first j) (second j)))
 
 returns : tie.Need-returns
 returns c =
     let m = c.before.before in
-    let chosen = phase-by (i m) (q m) (top m) in
+    let chosen = phase_by (i m) (q m) (top m) in
     (c.before.number_of.ensures ∙ chosen.0, c.lead-of.ensures ∙ chosen.1)
 
 pub choose_spec : {M : Type 1} → statement M
 choose_spec =
     tie.close
-    (tie.spec two-keys-requires (λ c κs. search rules)
-    (λ c κs. (lit< tt, lit≤ tt, second-le (top c.before))) returns)
+    (tie.spec two_keys_requires (λ c κs. search rules)
+    (λ c κs. (lit< tt, lit≤ tt, second_le (top c.before))) returns)

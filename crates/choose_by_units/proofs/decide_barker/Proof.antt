@@ -7,13 +7,13 @@ use Rattle.rules_rates.specs.declared.Rate.TheVariants.{One}
 use Rattle.choose_axes.specs.declared.Axis.TheVariants.{I, Q}
 use Rattle.rules_chips.specs.declared.Counts.{Counts}
 use Rattle.rules_choosing.specs.Scores.{RowWithin, ChosenAs}
-use Rattle.choose_sums.specs.Sums.{bySigns, asChip}
-use Rattle.choose_sums.proofs.Apart.{units_small, units-barker}
+use Rattle.choose_sums.specs.Sums.{by_signs, as_chip}
+use Rattle.choose_sums.proofs.Apart.{units_small, units_barker}
 use Rattle.choose_by_units.proofs.decide_barker.Statement.{statement}
 use Rattle.choose_by_units.proofs.decide_barker.Tie as tie
 
-barker-requires : tie.Need-barker-requires
-barker-requires c κs =
+barker_requires : tie.Need-barker-requires
+barker_requires c κs =
     let chips = c.before.before.args.chips in (
       subst (RowWithin 1) (sym c.before.hard-units11.ensures) (units_small I chips),
       subst (RowWithin 1) (sym c.hard-units112.ensures) (units_small Q chips),
@@ -22,11 +22,11 @@ barker-requires c κs =
 returns : tie.Need-returns
 returns c =
     let second = c.before in
-    units-barker second.before.before.args.chips
+    units_barker second.before.before.args.chips
     (subst (λ (cs : List Counts). ChosenAs One cs c.barker.result.number c.barker.result.lead)
-    (λ i. asChip (bySigns (second.before.hard-units11.ensures i)) (bySigns (second.hard-units112.ensures i)))
+    (λ i. asChip (by_signs (second.before.hard-units11.ensures i)) (by_signs (second.hard-units112.ensures i)))
     c.barker.ensures)
 
-pub decide-barker-spec : {M : Type 1} → statement M
-decide-barker-spec =
-    tie.close (tie.spec (λ c κs. search rules) (λ c κs. search rules) barker-requires returns)
+pub decide_barker_spec : {M : Type 1} → statement M
+decide_barker_spec =
+    tie.close (tie.spec (λ c κs. search rules) (λ c κs. search rules) barker_requires returns)

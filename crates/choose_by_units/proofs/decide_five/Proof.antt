@@ -9,12 +9,12 @@ use Rattle.choose_axes.specs.declared.Axis.TheVariants.{I, Q}
 use Rattle.rules_chips.specs.declared.Counts.{Counts}
 use Rattle.rules_choosing.specs.Scores.{RowWithin, ChosenAs}
 use Rattle.choose_sums.specs.Sums.{rows}
-use Rattle.choose_sums.proofs.Apart.{units_small, units-rows}
+use Rattle.choose_sums.proofs.Apart.{units_small, units_rows}
 use Rattle.choose_by_units.proofs.decide_five.Statement.{statement}
 use Rattle.choose_by_units.proofs.decide_five.Tie as tie
 
-five-requires : tie.Need-five-requires
-five-requires c κs =
+five_requires : tie.Need-five-requires
+five_requires c κs =
     let chips = c.before.before.args.chips in (
       subst (RowWithin 1) (sym c.before.hard-units8.ensures) (units_small I chips),
       subst (RowWithin 1) (sym c.hard-units82.ensures) (units_small Q chips),
@@ -26,9 +26,9 @@ returns c =
     let chips = second.before.before.args.chips in
     let eight : length chips ≡ 8 = search rules in
     subst (λ (cs : List Counts). ChosenAs Five cs c.five.result.number c.five.result.lead)
-    ((λ i. rows (second.before.hard-units8.ensures i) (second.hard-units82.ensures i)) ∙ units-rows chips eight)
+    ((λ i. rows (second.before.hard-units8.ensures i) (second.hard-units82.ensures i)) ∙ units_rows chips eight)
     c.five.ensures
 
-pub decide-five-spec : {M : Type 1} → statement M
-decide-five-spec =
-    tie.close (tie.spec (λ c κs. search rules) (λ c κs. search rules) five-requires returns)
+pub decide_five_spec : {M : Type 1} → statement M
+decide_five_spec =
+    tie.close (tie.spec (λ c κs. search rules) (λ c κs. search rules) five_requires returns)

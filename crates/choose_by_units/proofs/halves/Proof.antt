@@ -1,7 +1,7 @@
 -- `choose_by_units::halves` meets its contract: its sums are those of the two crossed pairs of rows, I with Q and Q
 -- with I. Assumes nothing.
 use borrow.Author.Rules.{rules}
-use Rattle.choose_sums.proofs.Crossed.{eight-scores}
+use Rattle.choose_sums.proofs.Crossed.{eight_scores}
 use Rattle.choose_by_units.proofs.halves.Statement.{statement}
 use Rattle.choose_by_units.proofs.halves.Tie as tie
 
@@ -10,11 +10,11 @@ returns c =
     let at = c.before.before.before.before.before.before.before.before in
     let start = at.before.before in
     let scores =
-    eight-scores _ _ start.args.i start.args.q at.before.crossed.ensures at.crossed2.ensures in
+    eight_scores _ _ start.args.i start.args.q at.before.crossed.ensures at.crossed2.ensures in
     search (rules, scores)
 
-pub halves-spec : {M : Type 1} → statement M
-halves-spec =
+pub halves_spec : {M : Type 1} → statement M
+halves_spec =
     tie.close
     (tie.spec
     (λ c κs. search rules) (λ c κs. search rules) (λ c. search rules) (λ c. search rules) (λ c. search rules)

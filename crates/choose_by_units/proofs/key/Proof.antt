@@ -8,9 +8,9 @@ use lib.Dec.{lit<}
 use lib.IntN.{ℤ, pos, neg_ℤ, nat_abs, ◌-ℤ◌, +ℤ_idl}
 use mir.Syntax.{w8}
 use mir.Val.{to_z, of_z}
-use Rattle.base.proofs.Whole.{within-neg}
-use Rattle.base.proofs.Adding.{reads_of, made, made-fits}
-use Rattle.rules_choosing.proofs.Wide.{abs-below, abs-above, abs-le, key_below, key_above}
+use Rattle.base.proofs.Whole.{within_neg}
+use Rattle.base.proofs.Adding.{reads_of, made, made_fits}
+use Rattle.rules_choosing.proofs.Wide.{abs_below, abs_above, abs_le, key_below, key_above}
 use Rattle.choose_by_units.proofs.key.Statement.{statement}
 use Rattle.choose_by_units.proofs.key.Tie as tie
 
@@ -28,19 +28,19 @@ module _ (c : tie.Start) where
   minus = ap (λ (z : ℤ). pos 0 -ℤ z) score ∙ +ℤ_idl (neg_ℤ s)
 
   opposite : to_z w8 (of_z w8 (pos 0 -ℤ to_z w8 (of_z w8 s))) ≡ neg_ℤ s
-  opposite = (made {w = w8} minus (within-neg c.requires.1) (lit< tt)).is
+  opposite = (made {w = w8} minus (within_neg c.requires.1) (lit< tt)).is
 
   -- what is added up fits an octet
   few : 4 * w * nat_abs s ≤ 176
-  few = omega (arith, c.requires.0, mul-le-mul_left (4 * w) (abs-le c.requires.1))
+  few = omega (arith, c.requires.0, mul-le-mul_left (4 * w) (abs_le c.requires.1))
 
 module _ (c : tie.Then1) where
   below : to_z w8 (of_z w8 (pos 0 -ℤ to_z w8 (of_z w8 (s c.before)))) ≡ pos (nat_abs (s c.before))
-  below = opposite c.before ∙ abs-below (s c.before) (rw (score c.before) at c.if1.true)
+  below = opposite c.before ∙ abs_below (s c.before) (rw (score c.before) at c.if1.true)
 
 module _ (c : tie.Else1) where
   above : to_z w8 (of_z w8 (s c.before)) ≡ pos (nat_abs (s c.before))
-  above = score c.before ∙ abs-above (s c.before) (rw (score c.before) at c.if1.false)
+  above = score c.before ∙ abs_above (s c.before) (rw (score c.before) at c.if1.false)
 
 returns : tie.Need-returns
 returns c =
@@ -48,8 +48,8 @@ returns c =
     ap (λ (z : ℤ). 4 * w start * nat_abs z + (2 * w start - 1 - start.args.n)) (below c)
     ∙ key_below (w start) start.args.n (s start) (rw (score start) at c.if1.true) start.requires.2
 
-returns-2 : tie.Need-returns-2
-returns-2 c =
+returns_2 : tie.Need-returns-2
+returns_2 c =
     let start = c.before in
     ap (λ (z : ℤ). 4 * w start * nat_abs z + (4 * w start - 1 - start.args.n)) (above c)
     ∙ key_above (w start) start.args.n (s start) (rw (score start) at c.if1.false) start.requires.2
@@ -58,15 +58,15 @@ pub key_spec : {M : Type 1} → statement M
 key_spec =
     tie.close
     (tie.spec (λ c. omega (arith, c.before.requires.0))
-    (λ c. made-fits (minus c.before) (within-neg c.before.requires.1) (lit< tt))
-    (λ c. rw (below c) (tt, record { fits = omega (arith, abs-le c.before.requires.1) }))
+    (λ c. made_fits (minus c.before) (within_neg c.before.requires.1) (lit< tt))
+    (λ c. rw (below c) (tt, record { fits = omega (arith, abs_le c.before.requires.1) }))
     (λ c. rw (below c) (record { fits = omega (arith, few c.before) }))
     (λ c. omega (arith, c.before.requires.0)) (λ c. omega (arith, c.before.requires.2))
     (λ c. omega (arith, c.before.requires.2))
     (λ c. rw (below c) (record { fits = omega (arith, few c.before, c.before.requires.0) }))
     (λ c. omega (arith, c.before.requires.0))
-    (λ c. rw (above c) (tt, record { fits = omega (arith, abs-le c.before.requires.1) }))
+    (λ c. rw (above c) (tt, record { fits = omega (arith, abs_le c.before.requires.1) }))
     (λ c. rw (above c) (record { fits = omega (arith, few c.before) }))
     (λ c. omega (arith, c.before.requires.0)) (λ c. omega (arith, c.before.requires.2))
     (λ c. omega (arith, c.before.requires.2))
-    (λ c. rw (above c) (record { fits = omega (arith, few c.before, c.before.requires.0) })) returns returns-2)
+    (λ c. rw (above c) (record { fits = omega (arith, few c.before, c.before.requires.0) })) returns returns_2)

@@ -7,8 +7,8 @@ use Rattle.choose_sums.proofs.KeyTops.{quotients}
 use Rattle.choose_by_units.proofs.lead_of.Statement.{statement}
 use Rattle.choose_by_units.proofs.lead_of.Tie as tie
 
-pub lead-of-spec : {M : Type 1} → statement M
-lead-of-spec =
+pub lead_of_spec : {M : Type 1} → statement M
+lead_of_spec =
     tie.close
     (tie.spec (λ c. record { fits = omega (arith, c.requires.1) }) (λ c. omega (arith, c.before.requires.0))
     (λ c. record { fits = omega (arith, c.before.requires.1) }) (λ c. omega (arith, c.before.before.requires.0))

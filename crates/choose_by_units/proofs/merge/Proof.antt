@@ -13,7 +13,7 @@ returns c =
     let low = other.before in
     (top.max2.ensures, c.max3.ensures ∙ (λ i. bigger (low.min.ensures i) (other.max.ensures i)))
 
-pub merge-spec : {M : Type 1} → statement M
-merge-spec =
+pub merge_spec : {M : Type 1} → statement M
+merge_spec =
     tie.close
     (tie.spec (λ c κs. search rules) (λ c κs. search rules) (λ c κs. search rules) (λ c κs. search rules) returns)

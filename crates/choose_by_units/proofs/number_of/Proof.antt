@@ -7,8 +7,8 @@ use native.Mathlib.Omega.{arith}
 use Rattle.choose_by_units.proofs.number_of.Statement.{statement}
 use Rattle.choose_by_units.proofs.number_of.Tie as tie
 
-pub number-of-spec : {M : Type 1} → statement M
-number-of-spec =
+pub number_of_spec : {M : Type 1} → statement M
+number_of_spec =
     tie.close
     (tie.spec (λ c. omega (arith, c.requires.1)) (λ c. omega (arith, c.requires.0)) (λ c. omega (arith, c.requires.1))
     (λ c. omega (arith, c.requires.0))

@@ -9,7 +9,7 @@ use mir.Syntax.{w8}
 use mir.Val.{to_z, of_z}
 use borrow.Author.Rules.{rules}
 use Rattle.base.specs.Whole.{Within}
-use Rattle.rules_choosing.specs.Keys.{bigger, lesser, keyOf}
+use Rattle.rules_choosing.specs.Keys.{bigger, lesser, key_of}
 use Rattle.base.proofs.Adding.{reads_of}
 use Rattle.choose_by_units.proofs.two_keys.Statement.{statement}
 use Rattle.choose_by_units.proofs.two_keys.Tie as tie
@@ -17,11 +17,11 @@ use Rattle.choose_by_units.proofs.two_keys.Tie as tie
 score : (s : ℤ) → Within 11 s → to_z w8 (of_z w8 s) ≡ s
 score s h = (reads_of {w = w8} (lit< tt) h).is
 
-key-requires : tie.Need-key-requires
-key-requires c κs = (c.requires.0, rw (score _ c.requires.1) c.requires.1, omega (arith, c.requires.3))
+key_requires : tie.Need-key-requires
+key_requires c κs = (c.requires.0, rw (score _ c.requires.1) c.requires.1, omega (arith, c.requires.3))
 
-key-requires-2 : tie.Need-key-requires-2
-key-requires-2 c κs =
+key_requires_2 : tie.Need-key-requires-2
+key_requires_2 c κs =
     let start = c.before in
     (start.requires.0, rw (score _ start.requires.2) start.requires.2, start.requires.3)
 
@@ -30,12 +30,12 @@ returns c =
     let top = c.before in
     let start = top.before.before.before in
     let h = start.args.w + start.args.w in
-    let first = top.before.before.key.ensures ∙ ap (keyOf h start.args.n) (score _ start.requires.1) in
-    let second = top.before.key2.ensures ∙ ap (keyOf h (start.args.n + 1)) (score _ start.requires.2) in
+    let first = top.before.before.key.ensures ∙ ap (key_of h start.args.n) (score _ start.requires.1) in
+    let second = top.before.key2.ensures ∙ ap (key_of h (start.args.n + 1)) (score _ start.requires.2) in
     (top.max.ensures ∙ (λ i. bigger (first i) (second i)), c.min.ensures ∙ (λ i. lesser (first i) (second i)))
 
-pub two-keys-spec : {M : Type 1} → statement M
-two-keys-spec =
+pub two_keys_spec : {M : Type 1} → statement M
+two_keys_spec =
     tie.close
-    (tie.spec key-requires (λ c. omega (arith, c.before.requires.0, c.before.requires.3)) key-requires-2
+    (tie.spec key_requires (λ c. omega (arith, c.before.requires.0, c.before.requires.3)) key_requires_2
     (λ c κs. search rules) (λ c κs. search rules) returns)

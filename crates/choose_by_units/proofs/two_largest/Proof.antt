@@ -13,10 +13,10 @@ use borrow.Author.Rules.{rules}
 use Rattle.base.specs.Whole.{Within}
 use Rattle.base.proofs.Whole.{within_more}
 use Rattle.rules_choosing.specs.Scores.{RowWithin}
-use Rattle.rules_choosing.specs.Keys.{bigger, lesser, keyOf, TwoLargest}
+use Rattle.rules_choosing.specs.Keys.{bigger, lesser, key_of, TwoLargest}
 use Rattle.choose_sums.specs.Sums.{key_at}
 use Rattle.base.proofs.Adding.{reads_of}
-use Rattle.choose_sums.proofs.KeyTops.{two-of, two_is, two-merge}
+use Rattle.choose_sums.proofs.KeyTops.{two_of_lem, two_is, two_merge}
 use Rattle.choose_by_units.proofs.two_largest.Statement.{statement}
 use Rattle.choose_by_units.proofs.two_largest.Tie as tie
 
@@ -36,17 +36,17 @@ asks h j l r = (lit≤ tt, asked j, asked (suc j), l)
 
 -- the keys of the places j and j + 1
 two : (h : List ℤ) (j : ℕ) → RowWithin 8 h → {x y : ℕ}
-    → (x ≡ bigger (keyOf 8 j (read (get_or h j (pos 0)))) (keyOf 8 (suc j) (read (get_or h (suc j) (pos 0)))))
-    × (y ≡ lesser (keyOf 8 j (read (get_or h j (pos 0)))) (keyOf 8 (suc j) (read (get_or h (suc j) (pos 0)))))
+    → (x ≡ bigger (key_of 8 j (read (get_or h j (pos 0)))) (key_of 8 (suc j) (read (get_or h (suc j) (pos 0)))))
+    × (y ≡ lesser (key_of 8 j (read (get_or h j (pos 0)))) (key_of 8 (suc j) (read (get_or h (suc j) (pos 0)))))
     → TwoLargest (key_at h) j (suc (suc j)) x y
 two h j r e =
-    two_is (two-of (key_at h) j)
-    (e.0 ∙ (λ i. bigger (keyOf 8 j (same h j r i)) (keyOf 8 (suc j) (same h (suc j) r i))))
-    (e.1 ∙ (λ i. lesser (keyOf 8 j (same h j r i)) (keyOf 8 (suc j) (same h (suc j) r i))))
+    two_is (two_of_lem (key_at h) j)
+    (e.0 ∙ (λ i. bigger (key_of 8 j (same h j r i)) (key_of 8 (suc j) (same h (suc j) r i))))
+    (e.1 ∙ (λ i. lesser (key_of 8 j (same h j r i)) (key_of 8 (suc j) (same h (suc j) r i))))
 
 both : {k : ℕ → ℕ} {a b c x y z w u v : ℕ} → TwoLargest k a b x y → TwoLargest k b c z w
     → (u ≡ bigger x z) × (v ≡ bigger (lesser x z) (bigger y w)) → TwoLargest k a c u v
-both t s e = two_is (two-merge t s) e.0 e.1
+both t s e = two_is (two_merge t s) e.0 e.1
 
 returns : tie.Need-returns
 returns c =
@@ -57,14 +57,14 @@ returns c =
     let start = k1.before.before.before in
     let row = start.args.t1 in
     both
-    (both (two row 0 start.requires k1.two-keys.ensures) (two row 2 start.requires k2.two-keys2.ensures)
+    (both (two row 0 start.requires k1.two_keys.ensures) (two row 2 start.requires k2.two-keys2.ensures)
     c.before.before.merge.ensures)
     (both (two row 4 start.requires k3.two-keys3.ensures) (two row 6 start.requires k4.two-keys4.ensures)
     c.before.merge2.ensures)
     c.merge3.ensures
 
-pub two-largest-spec : {M : Type 1} → statement M
-two-largest-spec =
+pub two_largest_spec : {M : Type 1} → statement M
+two_largest_spec =
     tie.close
     (tie.spec (λ c. search rules) (λ c. search rules) (λ c κs. asks _ 0 (lit< tt) c.before.before.requires)
     (λ c. search rules) (λ c. search rules)

@@ -7,29 +7,29 @@ use borrow.Author.Rules.{rules}
 use mir.Syntax.{w8, w16}
 use mir.Val.{to_z, of_z}
 use Rattle.base.specs.Whole.{Within}
-use Rattle.rules_choosing.proofs.Gathered.{byte_at, Gathered, gathered_none, gathered-more, gathered-all}
+use Rattle.rules_choosing.proofs.Gathered.{byte_at, Gathered, gathered_none, gathered_more, gathered_all}
 use Rattle.choose_bytes.proofs.eight.Statement.{statement}
 use Rattle.choose_bytes.proofs.eight.Tie as tie
 
-abbrev invariant-loop : tie.invariant-loop
-invariant-loop row from out₀ k₀ out k = Gathered 8 row from out k
+abbrev invariant_loop : tie.invariant-loop
+invariant_loop row from out₀ k₀ out k = Gathered 8 row from out k
 
-abbrev decreases-loop : tie.decreases-loop
-decreases-loop row from out₀ k₀ out k = 8 - k
+abbrev decreases_loop : tie.decreases-loop
+decreases_loop row from out₀ k₀ out k = 8 - k
 
-loop-again : tie.Need-loop-preserved invariant-loop decreases-loop
-loop-again c =
+loop_again : tie.Need-loop-preserved invariant_loop decreases_loop
+loop_again c =
     let turn = c.before.before.before in
     let b = byte_at turn.before.args.row.now turn.before.args.from turn.loop.k in
     let byte : to_z w8 (of_z w8 b) ≡ b = search rules in
     let read : to_z w16 (of_z w16 c.wide.result) ≡ c.wide.result = search rules in
     let is = c.wide.ensures.0 ∙ byte in
-    gathered-more turn.loop.invariant _ (search rules) (read ∙ is) (subst (Within 128) is c.wide.ensures.1)
+    gathered_more turn.loop.invariant _ (search rules) (read ∙ is) (subst (Within 128) is c.wide.ensures.1)
 
-pub eight-spec : {M : Type 1} → statement M
-eight-spec =
+pub eight_spec : {M : Type 1} → statement M
+eight_spec =
     tie.close
     (tie.spec
-    invariant-loop decreases-loop (λ c. gathered_none 8 _ _ _ refl) (λ c. omega arith) (λ c. omega arith)
+    invariant_loop decreases_loop (λ c. gathered_none 8 _ _ _ refl) (λ c. omega arith) (λ c. omega arith)
     (λ c. omega arith) (λ c κs. search rules) (λ c. search rules) (λ c. search rules) (λ c. omega arith)
-    (λ c. omega arith) loop-again (λ c. gathered-all c.before.loop.invariant c.loop-test.false))
+    (λ c. omega arith) loop_again (λ c. gathered_all c.before.loop.invariant c.loop-test.false))

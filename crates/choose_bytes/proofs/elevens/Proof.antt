@@ -8,41 +8,41 @@ use lib.Dec.{lit≤}
 use lib.ListN.{length}
 use borrow.Author.Rules.{rules}
 use Rattle.rules_rates.specs.declared.Rate.TheVariants.{Eleven}
-use Rattle.rules_chips.specs.Chips.{byteRecording}
+use Rattle.rules_chips.specs.Chips.{byte_recording}
 use Rattle.rules_chips.specs.declared.Counts.{Counts}
-use Rattle.rules_symbols.specs.Choice.{decided, leadOf}
+use Rattle.rules_symbols.specs.Choice.{decided, lead_of}
 use Rattle.choose_recorded.proofs.Firsts.{
   Firsts,
-  firsts-none,
-  firsts-sixteen,
+  firsts_none,
+  firsts_sixteen,
   number_at,
-  leadAt,
-  all-decided,
-  all-leads,
+  lead_at,
+  all_decided,
+  all_leads,
 }
-use Rattle.choose_bytes.specs.Rows.{fiveAt, fiveBytes}
-use Rattle.choose_bytes.proofs.Units.{eight-units}
-use Rattle.choose_bytes.proofs.Groups.{five-group}
+use Rattle.choose_bytes.specs.Rows.{five_at, five_bytes}
+use Rattle.choose_bytes.proofs.Units.{eight_units}
+use Rattle.choose_bytes.proofs.Groups.{five_group}
 use Rattle.choose_bytes.proofs.elevens.Statement.{statement}
 use Rattle.choose_bytes.proofs.elevens.Tie as tie
 
-abbrev invariant-loop : tie.invariant-loop
-invariant-loop bytes at m numbers₀ leads₀ row₀ other₀ z₀ a₀ l₀ numbers leads row other z a l =
-    Firsts (number_at Eleven (byteRecording bytes) at) m numbers l
-    × Firsts (leadAt Eleven (byteRecording bytes) at) m leads l × (l % 16 ≡ 0)
+abbrev invariant_loop : tie.invariant-loop
+invariant_loop bytes at m numbers₀ leads₀ row₀ other₀ z₀ a₀ l₀ numbers leads row other z a l =
+    Firsts (number_at Eleven (byte_recording bytes) at) m numbers l
+    × Firsts (lead_at Eleven (byte_recording bytes) at) m leads l × (l % 16 ≡ 0)
     × (length row ≡ 256) × (length other ≡ 256) × (length z ≡ 256) × (length a ≡ 512)
 
-abbrev decreases-loop : tie.decreases-loop
-decreases-loop bytes at m numbers₀ leads₀ row₀ other₀ z₀ a₀ l₀ numbers leads row other z a l = m - l
+abbrev decreases_loop : tie.decreases-loop
+decreases_loop bytes at m numbers₀ leads₀ row₀ other₀ z₀ a₀ l₀ numbers leads row other z a l = m - l
 
-take-in-requires : tie.Need-take-in-requires invariant-loop decreases-loop
-take-in-requires c κs =
+take_in_requires : tie.Need-take-in-requires invariant_loop decreases_loop
+take_in_requires c κs =
     let turn = c.before.before.before in
     let few = c.before.at-most-16.ensures in
     (omega (arith, few, turn.before.requires.1), omega (arith, few, turn.loop.invariant.3))
 
-sixteen-requires : tie.Need-sixteen-requires invariant-loop decreases-loop
-sixteen-requires c κs =
+sixteen_requires : tie.Need-sixteen-requires invariant_loop decreases_loop
+sixteen_requires c κs =
     let turned = c.before.before.before.before.before.before.before in
     let counted = turned.before.before.before.before.before.before in
     let turn = counted.before.before in
@@ -56,8 +56,8 @@ sixteen-requires c κs =
       turn.loop.invariant.1.long,
     )
 
-loop-again : tie.Need-loop-preserved invariant-loop decreases-loop
-loop-again c =
+loop_again : tie.Need-loop-preserved invariant_loop decreases_loop
+loop_again c =
     let found = c.before.before in
     let turned = found.before.before.before.before.before.before.before.before in
     let taken = turned.before.before.before.before in
@@ -68,16 +68,16 @@ loop-again c =
     let h = counted.before.loop-test.true in
     let row = turned.turn.new.0 in
     let group : (j : ℕ) → j < 16 → l + j < s.args.m
-    → fiveAt row j ≡ fiveBytes s.args.bytes.now (s.args.at + 8 * (l + j)) =
-    λ j few there. five-group s.args.bytes.now taken.take_in.new.1.1.1.0 row s.args.at l
+    → five_at row j ≡ five_bytes s.args.bytes.now (s.args.at + 8 * (l + j)) =
+    λ j few there. five_group s.args.bytes.now taken.take_in.new.1.1.1.0 row s.args.at l
     counted.at-most-16.result j turned.turn.ensures few (omega (arith, counted.at-most-16.ensures))
     (search rules) taken.take_in.ensures in (
-      firsts-sixteen _ _ _ turn.loop.invariant.0 found.sixteen.ensures.1.0
+      firsts_sixteen _ _ _ turn.loop.invariant.0 found.sixteen.ensures.1.0
           (λ j few there. ap (decided Eleven) (group j few there)
-          ∙ (eight-units Eleven s.args.bytes.now (s.args.at + 8 * (l + j)) (omega (arith, s.requires.1))).0),
-      firsts-sixteen _ _ _ turn.loop.invariant.1 found.sixteen.ensures.1.1
-          (λ j few there. ap (λ (cs : List Counts). 16 * leadOf Eleven cs) (group j few there)
-          ∙ (eight-units Eleven s.args.bytes.now (s.args.at + 8 * (l + j)) (omega (arith, s.requires.1))).1),
+          ∙ (eight_units Eleven s.args.bytes.now (s.args.at + 8 * (l + j)) (omega (arith, s.requires.1))).0),
+      firsts_sixteen _ _ _ turn.loop.invariant.1 found.sixteen.ensures.1.1
+          (λ j few there. ap (λ (cs : List Counts). 16 * lead_of Eleven cs) (group j few there)
+          ∙ (eight_units Eleven s.args.bytes.now (s.args.at + 8 * (l + j)) (omega (arith, s.requires.1))).1),
       omega (arith, turn.loop.invariant.2),
       search rules,
       search rules,
@@ -85,22 +85,22 @@ loop-again c =
       found.sixteen.ensures.0.1,
     )
 
-returns : tie.Need-returns invariant-loop decreases-loop
+returns : tie.Need-returns invariant_loop decreases_loop
 returns c =
     let turn = c.before in
     let s = turn.before in
-    let rec = byteRecording s.args.bytes.now in (
-      all-decided Eleven rec s.args.at turn.loop.invariant.0 c.loop-test.false,
-      all-leads Eleven rec s.args.at turn.loop.invariant.1 c.loop-test.false,
+    let rec = byte_recording s.args.bytes.now in (
+      all_decided Eleven rec s.args.at turn.loop.invariant.0 c.loop-test.false,
+      all_leads Eleven rec s.args.at turn.loop.invariant.1 c.loop-test.false,
     )
 
-pub elevens-spec : {M : Type 1} → statement M
-elevens-spec =
+pub elevens_spec : {M : Type 1} → statement M
+elevens_spec =
     tie.close
-    (tie.spec invariant-loop decreases-loop
-    (λ c. (firsts-none _ _ _ c.requires.2, firsts-none _ _ _ c.requires.3, refl, refl, refl, refl, refl))
+    (tie.spec invariant_loop decreases_loop
+    (λ c. (firsts_none _ _ _ c.requires.2, firsts_none _ _ _ c.requires.3, refl, refl, refl, refl, refl))
     (λ c. omega arith) (λ c κs. search rules) (λ c. omega arith) (λ c. omega arith)
     (λ c. omega arith) (λ c. record { fits = omega (arith, c.at-most-16.ensures) }) (λ c. search rules)
-    take-in-requires (λ c. search rules) (λ c. search rules) (λ c κs. search rules) (λ c. search rules)
+    take_in_requires (λ c. search rules) (λ c. search rules) (λ c κs. search rules) (λ c. search rules)
     (λ c. search rules) (λ c. search rules)
-    sixteen-requires (λ c. omega arith) (λ c. omega arith) loop-again returns)
+    sixteen_requires (λ c. omega arith) (λ c. omega arith) loop_again returns)

@@ -15,8 +15,8 @@ use mir.Syntax.{w32}
 use mir.Val.{SFits, to_z}
 use mir.ValLaws.{to_z_pos, to_z-of_z}
 use Rattle.base.specs.Whole.{up, dn, Within}
-use Rattle.base.proofs.Whole.{add, neg-up, neg-dn, up_pos, dn-pos, fits-at}
-use Rattle.rules_chips.specs.Floats.{steps, negative, usable, nearest, signed, countOf}
+use Rattle.base.proofs.Whole.{add, neg_up, neg_dn, up_pos, dn_pos, fits_at}
+use Rattle.rules_chips.specs.Floats.{steps, negative, usable, nearest, signed, count_of}
 use Rattle.rules_chips.proofs.Sum.{cond_yes, moved, Summed, summed}
 use Rattle.choose_counts.proofs.count.Statement.{statement}
 use Rattle.choose_counts.proofs.count.Tie as tie
@@ -26,20 +26,20 @@ small : (s : Bool) (k : ℕ) → k ≤ 8192 → 1166016512 + moved s 12582912 k 
 small false k h = omega arith
 small true k h = omega arith
 
-pattern-less : (s : Bool) (k : ℕ) → k ≤ 8192 → pos (1166016512 + moved s 12582912 k) -ℤ pos 1178599424 ≡ signed s k
-pattern-less false k h =
+pattern_less : (s : Bool) (k : ℕ) → k ≤ 8192 → pos (1166016512 + moved s 12582912 k) -ℤ pos 1178599424 ≡ signed s k
+pattern_less false k h =
     simp (le-ltb (1166016512 + (12582912 + k)) 1178599424 (omega arith)) (ap pos (omega arith))
-pattern-less true zero h = refl
-pattern-less true (suc k) h =
+pattern_less true zero h = refl
+pattern_less true (suc k) h =
     simp (lt-ltb (1166016512 + (12582912 - suc k)) 1178599424 (omega arith)) (ap negsuc (omega arith))
 
 -- the difference of any two such numbers is one
-sub-fits : (a b : ℕ) → a < 2147483648 → b < 2147483648 → SFits w32 (to_z w32 a -ℤ pos b)
-sub-fits a b h k =
+sub_fits : (a b : ℕ) → a < 2147483648 → b < 2147483648 → SFits w32 (to_z w32 a -ℤ pos b)
+sub_fits a b h k =
     let e : up (pos a -ℤ pos b) + b ≡ dn (pos a -ℤ pos b) + a =
-    omega (arith, add (pos a) (neg_ℤ (pos b)), neg-up (pos b), neg-dn (pos b), up_pos a, dn-pos a, up_pos b, dn-pos b) in
+    omega (arith, add (pos a) (neg_ℤ (pos b)), neg_up (pos b), neg_dn (pos b), up_pos a, dn_pos a, up_pos b, dn_pos b) in
     let w : Within 2147483647 (pos a -ℤ pos b) = record { high = omega arith; low = omega arith } in
-    rw (to_z_pos w32 a h) (fits-at w32 w (omega arith))
+    rw (to_z_pos w32 a h) (fits_at w32 w (omega arith))
 
 abbrev code : Float → ℕ
 code x = to_bits binary32 (ieee.add binary32 x (of_bits binary32 1178599424))
@@ -56,26 +56,26 @@ module _ (x : Float) (y : Summed x) where
       let k = nearest (steps x) in
       ap (λ (n : ℕ). to_z w32 n -ℤ pos 1178599424) y.bits
       ∙ ap (λ (z : ℤ). z -ℤ pos 1178599424) (to_z_pos w32 (1166016512 + moved s 12582912 k) (small s k y.few))
-      ∙ pattern-less s k y.few
+      ∙ pattern_less s k y.few
 
 have : (c : tie.Start) → Summed c.args.x
 have c = summed c.args.x (subst T (sym c.well-formed.0.1) tt) c.requires
 
-float-to-bits-b : tie.Need-float-to-bits-b
+float_to_bits_b : tie.Need-float-to-bits-b
 unfolding of_bits
-float-to-bits-b c = (have c).no_nan
+float_to_bits_b c = (have c).no_nan
 
-cast-result : tie.Need-overflow-cast-result
-cast-result c = record { sfits = fits_bits c.args.x (have c) }
+cast_result : tie.Need-overflow-cast-result
+cast_result c = record { sfits = fits_bits c.args.x (have c) }
 
-sub-result : tie.Need-overflow-sub-result
-sub-result c = search (rules, sub-fits (code c.args.x), fits_bits c.args.x (have c))
+sub_result : tie.Need-overflow-sub-result
+sub_result c = search (rules, sub_fits (code c.args.x), fits_bits c.args.x (have c))
 
 returns : tie.Need-returns
-unfolding countOf
+unfolding count_of
 returns c =
-    to_z-of_z w32 (to_z w32 (code c.args.x) -ℤ pos 1178599424) (sub-result c) ∙ difference c.args.x (have c)
+    to_z-of_z w32 (to_z w32 (code c.args.x) -ℤ pos 1178599424) (sub_result c) ∙ difference c.args.x (have c)
     ∙ sym (cond_yes (usable c.args.x) _ (pos 0) c.requires)
 
 pub count_spec : {M : Type 1} → statement M
-count_spec = tie.close (tie.spec float-to-bits-b cast-result sub-result returns)
+count_spec = tie.close (tie.spec float_to_bits_b cast_result sub_result returns)

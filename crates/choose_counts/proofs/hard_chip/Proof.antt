@@ -7,8 +7,8 @@ use Rattle.choose_counts.proofs.hard_chip.Tie as tie
 returns : tie.Need-returns
 returns c = simp (eq-eqb _ _ c.if1.true)
 
-returns-2 : tie.Need-returns-2
-returns-2 c = simp (ne_eqb _ _ c.if1.false)
+returns_2 : tie.Need-returns-2
+returns_2 c = simp (ne_eqb _ _ c.if1.false)
 
-pub hard-chip-spec : {M : Type 1} → statement M
-hard-chip-spec = tie.close (tie.spec returns returns-2)
+pub hard_chip_spec : {M : Type 1} → statement M
+hard_chip_spec = tie.close (tie.spec returns returns_2)

@@ -8,15 +8,15 @@ use native.Mathlib.Decide.{dec_lt}
 use native.Mathlib.Omega.{arith}
 use lib.ListN.{get_or}
 use borrow.Author.Tests.{ltb-true, le-leb}
-use Rattle.rules_chips.proofs.Usable.{hard-at}
+use Rattle.rules_chips.proofs.Usable.{hard_at}
 use Rattle.choose_hard.proofs.clean.Statement.{statement}
 use Rattle.choose_hard.proofs.clean.Tie as tie
 
-abbrev invariant-loop : tie.invariant-loop
-invariant-loop octets at top₀ k₀ top k = (k ≤ 64) × ((j : ℕ) → j < k → get_or octets (at + j) 0 ≤ top)
+abbrev invariant_loop : tie.invariant-loop
+invariant_loop octets at top₀ k₀ top k = (k ≤ 64) × ((j : ℕ) → j < k → get_or octets (at + j) 0 ≤ top)
 
-abbrev decreases-loop : tie.decreases-loop
-decreases-loop octets at top₀ k₀ top k = 64 - k
+abbrev decreases_loop : tie.decreases-loop
+decreases_loop octets at top₀ k₀ top k = 64 - k
 
 -- a bound of the first k, raised to bound the next
 raised : (xs : List ℕ) (at k a b : ℕ) → ((j : ℕ) → j < k → get_or xs (at + j) 0 ≤ a) → a ≤ b → get_or xs (at + k) 0 ≤ b
@@ -27,8 +27,8 @@ raised xs at k a b h l m j i = by (dec_lt j k)
     by (yes p) = omega (arith, h j p)
     by (no q) = let e : j ≡ k = omega arith in rw e m
 
-loop-again : tie.Need-loop-preserved invariant-loop decreases-loop
-loop-again c =
+loop_again : tie.Need-loop-preserved invariant_loop decreases_loop
+loop_again c =
     let loop = c.before.before.before.loop in
     let start = c.before.before.before.before in
     let step = raised start.args.octets.now start.args.at loop.k loop.top c.if1.top
@@ -38,7 +38,7 @@ loop-again c =
           (⊎_elim (λ w. omega arith) (λ w. omega arith) c.if1.branch),
     )
 
-returns : tie.Need-returns invariant-loop decreases-loop
+returns : tie.Need-returns invariant_loop decreases_loop
 returns c e =
     let start = c.before.before in
     let xs = start.args.octets.now in
@@ -47,12 +47,12 @@ returns c e =
       each = λ k h.
           let small : get_or xs (start.args.at + k) 0 ≤ 4 =
           omega (arith, loop.invariant.1 k (omega arith), ltb-true loop.top 5 e) in
-          rw (hard-at xs (start.args.at + k) (omega arith), le-leb (get_or xs (start.args.at + k) 0) 4 small);
+          rw (hard_at xs (start.args.at + k) (omega arith), le-leb (get_or xs (start.args.at + k) 0) 4 small);
     }
 
-pub clean-spec : {M : Type 1} → statement M
-clean-spec =
+pub clean_spec : {M : Type 1} → statement M
+clean_spec =
     tie.close
     (tie.spec
-    invariant-loop decreases-loop (λ c. (omega arith, λ j h. absurd (omega arith))) (λ c. omega arith) (λ c. omega arith)
-    (λ c. omega arith) (λ c. omega arith) loop-again returns)
+    invariant_loop decreases_loop (λ c. (omega arith, λ j h. absurd (omega arith))) (λ c. omega arith) (λ c. omega arith)
+    (λ c. omega arith) (λ c. omega arith) loop_again returns)

@@ -6,39 +6,39 @@ use native.Mathlib.Omega.{arith}
 use lib.ListN.{length}
 use borrow.Author.Rules.{rules}
 use Rattle.choose_axes.specs.declared.Axis.TheVariants.{I, Q}
-use Rattle.choose_axes.specs.Axes.{unitsAlong}
-use Rattle.choose_recorded.specs.Columns.{Columns, hardColumn}
-use Rattle.choose_recorded.proofs.Columns.{columns-none, columns-more}
+use Rattle.choose_axes.specs.Axes.{units_along}
+use Rattle.choose_recorded.specs.Columns.{Columns, hard_column}
+use Rattle.choose_recorded.proofs.Columns.{columns_none, columns_more}
 use Rattle.choose_hard.proofs.columns.Statement.{statement}
 use Rattle.choose_hard.proofs.columns.Tie as tie
 
-abbrev invariant-loop : tie.invariant-loop
-invariant-loop octets at count row₀ l₀ row l = (l ≤ count) × Columns (hardColumn I octets at) (hardColumn Q octets at) row l
+abbrev invariant_loop : tie.invariant-loop
+invariant_loop octets at count row₀ l₀ row l = (l ≤ count) × Columns (hard_column I octets at) (hard_column Q octets at) row l
 
-abbrev decreases-loop : tie.decreases-loop
-decreases-loop octets at count row₀ l₀ row l = count - l
+abbrev decreases_loop : tie.decreases-loop
+decreases_loop octets at count row₀ l₀ row l = count - l
 
-put-column-requires : tie.Need-put-column-requires invariant-loop decreases-loop
-put-column-requires c κs =
+put_column_requires : tie.Need-put-column-requires invariant_loop decreases_loop
+put_column_requires c κs =
     let turn = c.before.before.before.before.before in
     (omega (arith, turn.before.before.requires.0), turn.loop.invariant.1.long)
 
-loop-again : tie.Need-loop-preserved invariant-loop decreases-loop
-loop-again c =
+loop_again : tie.Need-loop-preserved invariant_loop decreases_loop
+loop_again c =
     let second = c.before.before.before in
     let gathered = second.before.before in
     let turn = gathered.before.before in
     let i = second.before.hard-units8.result in
     let q = second.hard-units82.result in
-    let long-i : length i ≡ 8 = search rules in
-    let long-q : length q ≡ 8 = search rules in (
+    let long_i : length i ≡ 8 = search rules in
+    let long_q : length q ≡ 8 = search rules in (
       omega arith,
-      columns-more turn.loop.invariant.1 (omega (arith, turn.before.before.requires.0)) c.before.put-column.ensures
-          long-i long-q (second.before.hard-units8.ensures ∙ ap (unitsAlong I) gathered.eight.ensures)
-          (second.hard-units82.ensures ∙ ap (unitsAlong Q) gathered.eight.ensures),
+      columns_more turn.loop.invariant.1 (omega (arith, turn.before.before.requires.0)) c.before.put-column.ensures
+          long_i long_q (second.before.hard-units8.ensures ∙ ap (units_along I) gathered.eight.ensures)
+          (second.hard-units82.ensures ∙ ap (units_along Q) gathered.eight.ensures),
     )
 
-returns : tie.Need-returns invariant-loop decreases-loop
+returns : tie.Need-returns invariant_loop decreases_loop
 returns c =
     let s = c.before.before.before in
     let all : c.before.loop.l ≡ s.args.count = omega arith in
@@ -47,6 +47,6 @@ returns c =
 pub columns_spec : {M : Type 1} → statement M
 columns_spec =
     tie.close
-    (tie.spec invariant-loop decreases-loop (λ c. (omega arith, columns-none _ _ _ c.before.requires.2)) (λ c. omega arith)
-    (λ c. omega arith) (λ c κs. omega arith) (λ c κs. search rules) (λ c κs. search rules) put-column-requires
-    (λ c. omega arith) (λ c. omega arith) loop-again (λ c. search rules) returns)
+    (tie.spec invariant_loop decreases_loop (λ c. (omega arith, columns_none _ _ _ c.before.requires.2)) (λ c. omega arith)
+    (λ c. omega arith) (λ c κs. omega arith) (λ c κs. search rules) (λ c κs. search rules) put_column_requires
+    (λ c. omega arith) (λ c. omega arith) loop_again (λ c. search rules) returns)

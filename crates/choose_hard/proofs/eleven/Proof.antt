@@ -5,27 +5,27 @@ use native.Mathlib.Omega.{arith}
 use lib.ListN.{get_or}
 use borrow.Author.Rules.{rules}
 use Rattle.base.specs.Tables.{Filled}
-use Rattle.base.proofs.Tables.{filled_none, filled_more, filled-all}
-use Rattle.rules_chips.specs.Chips.{hardChip}
+use Rattle.base.proofs.Tables.{filled_none, filled_more, filled_all}
+use Rattle.rules_chips.specs.Chips.{hard_chip}
 use Rattle.choose_hard.proofs.eleven.Statement.{statement}
 use Rattle.choose_hard.proofs.eleven.Tie as tie
 
-abbrev invariant-loop : tie.invariant-loop
-invariant-loop octets at chips₀ k₀ chips k = Filled (λ j. hardChip (get_or octets (at + j) 0)) 11 chips k
+abbrev invariant_loop : tie.invariant-loop
+invariant_loop octets at chips₀ k₀ chips k = Filled (λ j. hardChip (get_or octets (at + j) 0)) 11 chips k
 
-abbrev decreases-loop : tie.decreases-loop
-decreases-loop octets at chips₀ k₀ chips k = 11 - k
+abbrev decreases_loop : tie.decreases-loop
+decreases_loop octets at chips₀ k₀ chips k = 11 - k
 
-loop-again : tie.Need-loop-preserved invariant-loop decreases-loop
-loop-again c = filled_more _ c.before.before.before.loop.invariant c.before.before.loop-test.true
+loop_again : tie.Need-loop-preserved invariant_loop decreases_loop
+loop_again c = filled_more _ c.before.before.before.loop.invariant c.before.before.loop-test.true
     c.hard-chip.ensures
 
-returns : tie.Need-returns invariant-loop decreases-loop
-returns c = filled-all c.before.loop.invariant c.loop-test.false
+returns : tie.Need-returns invariant_loop decreases_loop
+returns c = filled_all c.before.loop.invariant c.loop-test.false
 
-pub eleven-spec : {M : Type 1} → statement M
-eleven-spec =
+pub eleven_spec : {M : Type 1} → statement M
+eleven_spec =
     tie.close
     (tie.spec
-    invariant-loop decreases-loop (λ c. filled_none _ 11 _ refl) (λ c. omega arith) (λ c. omega arith) (λ c κs. search rules)
-    (λ c. search rules) (λ c. search rules) (λ c. omega arith) (λ c. omega arith) loop-again returns)
+    invariant_loop decreases_loop (λ c. filled_none _ 11 _ refl) (λ c. omega arith) (λ c. omega arith) (λ c κs. search rules)
+    (λ c. search rules) (λ c. search rules) (λ c. omega arith) (λ c. omega arith) loop_again returns)

@@ -5,27 +5,27 @@ use native.Mathlib.Omega.{arith}
 use lib.ListN.{get_or}
 use borrow.Author.Rules.{rules}
 use Rattle.base.specs.Tables.{Filled}
-use Rattle.base.proofs.Tables.{filled_none, filled_more, filled-all}
+use Rattle.base.proofs.Tables.{filled_none, filled_more, filled_all}
 use Rattle.choose_hard.proofs.in_counts.Statement.{statement}
 use Rattle.choose_hard.proofs.in_counts.Tie as tie
 
-abbrev invariant-loop : tie.invariant-loop
-invariant-loop full leads₀ l₀ leads l = Filled (λ j. 1024 * get_or full j 0) 64 leads l
+abbrev invariant_loop : tie.invariant-loop
+invariant_loop full leads₀ l₀ leads l = Filled (λ j. 1024 * get_or full j 0) 64 leads l
 
-abbrev decreases-loop : tie.decreases-loop
-decreases-loop full leads₀ l₀ leads l = 64 - l
+abbrev decreases_loop : tie.decreases-loop
+decreases_loop full leads₀ l₀ leads l = 64 - l
 
-loop-again : tie.Need-loop-preserved invariant-loop decreases-loop
-loop-again c =
+loop_again : tie.Need-loop-preserved invariant_loop decreases_loop
+loop_again c =
     let turn = c.before.before in
     filled_more _ turn.before.loop.invariant turn.loop-test.true c.lead-counts.ensures
 
-returns : tie.Need-returns invariant-loop decreases-loop
-returns c = filled-all c.before.loop.invariant c.loop-test.false
+returns : tie.Need-returns invariant_loop decreases_loop
+returns c = filled_all c.before.loop.invariant c.loop-test.false
 
-pub in-counts-spec : {M : Type 1} → statement M
-in-counts-spec =
+pub in_counts_spec : {M : Type 1} → statement M
+in_counts_spec =
     tie.close
-    (tie.spec invariant-loop decreases-loop (λ c. filled_none _ 64 _ c.requires.1) (λ c. omega (arith, c.before.before.requires.0))
+    (tie.spec invariant_loop decreases_loop (λ c. filled_none _ 64 _ c.requires.1) (λ c. omega (arith, c.before.before.requires.0))
     (λ c κs. search rules) (λ c. search rules) (λ c. omega (arith, c.before.before.before.loop.invariant.len))
-    (λ c. omega arith) (λ c. omega arith) loop-again returns)
+    (λ c. omega arith) (λ c. omega arith) loop_again returns)

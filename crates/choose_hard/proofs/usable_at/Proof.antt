@@ -3,14 +3,14 @@
 use mathlib.Core.Path.{sym, ap, ◌∙◌}
 use mathlib.Core.Bool.{not, not-not}
 use borrow.Author.Rules.{rules}
-use Rattle.rules_chips.proofs.Usable.{hard-at}
+use Rattle.rules_chips.proofs.Usable.{hard_at}
 use Rattle.choose_hard.proofs.usable_at.Statement.{statement}
 use Rattle.choose_hard.proofs.usable_at.Tie as tie
 
 returns : tie.Need-returns
 returns c =
     let start = c.before in
-    sym (ap not (hard-at start.args.octets.now start.args.at start.requires) ∙ not-not _)
+    sym (ap not (hard_at start.args.octets.now start.args.at start.requires) ∙ not-not _)
 
-pub usable-at-spec : {M : Type 1} → statement M
-usable-at-spec = tie.close (tie.spec (λ c. search rules) returns)
+pub usable_at_spec : {M : Type 1} → statement M
+usable_at_spec = tie.close (tie.spec (λ c. search rules) returns)

@@ -3,22 +3,22 @@
 use mathlib.Core.Path.{◌∙◌}
 use lib.Dec.{lit<}
 use mir.Syntax.{w32}
-use Rattle.base.proofs.Whole.{small, neg-fits, neg-read}
-use Rattle.rules_choosing.proofs.Wide.{abs-below, abs-above}
+use Rattle.base.proofs.Whole.{small, neg_fits, neg_read}
+use Rattle.rules_choosing.proofs.Wide.{abs_below, abs_above}
 use Rattle.choose_keys.proofs.abs.Statement.{statement}
 use Rattle.choose_keys.proofs.abs.Tie as tie
 
-sub-result : tie.Need-overflow-sub-result
-sub-result c = neg-fits w32 2147483647 (lit< tt) _ c.before.requires
+sub_result : tie.Need-overflow-sub-result
+sub_result c = neg_fits w32 2147483647 (lit< tt) _ c.before.requires
 
 returns : tie.Need-returns
-returns c = neg-read w32 2147483647 (lit< tt) _ c.before.requires
-    ∙ abs-below c.before.args.s (rw (small w32 2147483647 (lit< tt) _ c.before.requires) at c.if1.true)
+returns c = neg_read w32 2147483647 (lit< tt) _ c.before.requires
+    ∙ abs_below c.before.args.s (rw (small w32 2147483647 (lit< tt) _ c.before.requires) at c.if1.true)
 
-returns-2 : tie.Need-returns-2
-returns-2 c =
+returns_2 : tie.Need-returns-2
+returns_2 c =
     let e = small w32 2147483647 (lit< tt) _ c.before.requires in
-    e ∙ abs-above c.before.args.s (rw e at c.if1.false)
+    e ∙ abs_above c.before.args.s (rw e at c.if1.false)
 
-pub abs-spec : {M : Type 1} → statement M
-abs-spec = tie.close (tie.spec sub-result returns returns-2)
+pub abs_spec : {M : Type 1} → statement M
+abs_spec = tie.close (tie.spec sub_result returns returns_2)

@@ -6,38 +6,38 @@ use lib.Dec.{lit<}
 use mir.Syntax.{w32}
 use mir.Val.{hbits}
 use borrow.Author.Rules.{rules}
-use Rattle.rules_choosing.proofs.Wide.{words-fit, product-fits, raised-fits, raised-within, key_fits, key-is}
+use Rattle.rules_choosing.proofs.Wide.{words_fit, product_fits, raised_fits, raised_within, key_fits, key_is}
 use Rattle.choose_keys.proofs.key.Statement.{statement}
 use Rattle.choose_keys.proofs.key.Tie as tie
 
 room : (c : tie.Start) → 4 * c.args.w * 90112 + 4 * c.args.w < 2 ^ hbits w32
 room c = omega (arith, c.requires.0)
 
-mul-abs : tie.Need-overflow-mul-abs
-mul-abs c = words-fit w32 90112 _ _ c.args.s (lit< tt) (room c) c.requires.1 c.requires.2
+mul_abs : tie.Need-overflow-mul-abs
+mul_abs c = words_fit w32 90112 _ _ c.args.s (lit< tt) (room c) c.requires.1 c.requires.2
 
-mul-abs-2 : tie.Need-overflow-mul-abs-2
-mul-abs-2 c = product-fits w32 90112 _ _ _ (lit< tt) (room c) c.requires.1 c.requires.2
+mul_abs_2 : tie.Need-overflow-mul-abs-2
+mul_abs_2 c = product_fits w32 90112 _ _ _ (lit< tt) (room c) c.requires.1 c.requires.2
 
-add-abs : tie.Need-overflow-add-abs
-add-abs c = raised-fits w32 90112 _ _ _ (lit< tt) (room c) c.requires.1 c.requires.2
+add_abs : tie.Need-overflow-add-abs
+add_abs c = raised_fits w32 90112 _ _ _ (lit< tt) (room c) c.requires.1 c.requires.2
 
-abs-requires : tie.Need-abs-requires
-abs-requires c κs =
-    raised-within w32 90112 _ _ _ (lit< tt) (room c) c.requires.1 c.requires.2 (omega (arith, c.requires.0))
+abs_requires : tie.Need-abs-requires
+abs_requires c κs =
+    raised_within w32 90112 _ _ _ (lit< tt) (room c) c.requires.1 c.requires.2 (omega (arith, c.requires.0))
 
-add-result : tie.Need-overflow-add-result
-add-result c =
+add_result : tie.Need-overflow-add-result
+add_result c =
     let s = c.before in
     key_fits w32 90112 _ _ _ (lit< tt) (room s) s.requires.1 s.requires.2 c.abs.ensures
 
 returns : tie.Need-returns
 returns c =
     let s = c.before in
-    key-is w32 90112 _ _ _ (lit< tt) (room s) s.requires.1 s.requires.2 c.abs.ensures
+    key_is w32 90112 _ _ _ (lit< tt) (room s) s.requires.1 s.requires.2 c.abs.ensures
 
 pub key_spec : {M : Type 1} → statement M
 key_spec =
     tie.close
-    (tie.spec (λ c. search rules) mul-abs mul-abs-2 add-abs abs-requires (λ c. omega arith) (λ c. omega arith)
-    (λ c. omega arith) (λ c. search rules) add-result returns)
+    (tie.spec (λ c. search rules) mul_abs mul_abs_2 add_abs abs_requires (λ c. omega arith) (λ c. omega arith)
+    (λ c. omega arith) (λ c. search rules) add_result returns)

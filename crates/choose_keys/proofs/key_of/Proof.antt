@@ -20,8 +20,8 @@ natural (negsuc n) t = absurd t
 read : (c : tie.Start) → to_z w32 (of_z w32 (to_signed 31 c.args.x)) ≡ pos (nat_abs (to_signed 31 c.args.x))
 read c = held w32 (natural (to_signed 31 c.args.x) c.requires.1) (omega (arith, c.requires.2))
 
-pub key-of-spec : {M : Type 1} → statement M
-key-of-spec =
+pub key_of_spec : {M : Type 1} → statement M
+key_of_spec =
     tie.close
     (tie.spec (λ c. search rules) (λ c. rw (read c.before) (tt, record { fits = omega (arith, c.before.requires.2) }))
     (λ c. ap nat_abs (read c.before)))

@@ -2,7 +2,7 @@
 -- Assumes nothing.
 use mathlib.Core.Path.{◌∙◌}
 use borrow.Author.Rules.{rules}
-use Rattle.choose_keys.specs.Floats.{largerFloat}
+use Rattle.choose_keys.specs.Floats.{larger_float}
 use Rattle.choose_keys.proofs.merge.Statement.{statement}
 use Rattle.choose_keys.proofs.merge.Tie as tie
 
@@ -15,7 +15,7 @@ returns c =
       c.larger3.ensures ∙ (λ i. largerFloat (low.smaller.ensures i) (other.larger.ensures i)),
     )
 
-pub merge-spec : {M : Type 1} → statement M
-merge-spec =
+pub merge_spec : {M : Type 1} → statement M
+merge_spec =
     tie.close
     (tie.spec (λ c κs. search rules) (λ c κs. search rules) (λ c κs. search rules) (λ c κs. search rules) returns)

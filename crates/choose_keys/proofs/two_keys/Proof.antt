@@ -11,10 +11,10 @@ use mir.Val.{to_z, of_z, hbits}
 use borrow.Author.Rules.{rules}
 use Rattle.base.specs.Whole.{Within}
 use Rattle.base.proofs.Whole.{small}
-use Rattle.rules_choosing.specs.Keys.{keyOf}
-use Rattle.rules_choosing.proofs.Wide.{key-read, key-small}
-use Rattle.choose_keys.specs.Floats.{largerFloat, smallerFloat}
-use Rattle.choose_keys.proofs.Floats.{may-float}
+use Rattle.rules_choosing.specs.Keys.{key_of}
+use Rattle.rules_choosing.proofs.Wide.{key_read, key_small}
+use Rattle.choose_keys.specs.Floats.{larger_float, smaller_float}
+use Rattle.choose_keys.proofs.Floats.{may_float}
 use Rattle.choose_keys.proofs.two_keys.Statement.{statement}
 use Rattle.choose_keys.proofs.two_keys.Tie as tie
 
@@ -24,14 +24,14 @@ score s h = small w32 90112 (lit< tt) s h
 room : (c : tie.Start) → 4 * c.args.w * 90112 + 4 * c.args.w < 2 ^ hbits w32
 room c = omega (arith, c.requires.0)
 
-few : (c : tie.Start) (n : ℕ) (s : ℤ) → Within 90112 s → keyOf (c.args.w + c.args.w) n s < 8388608
-few c n s h = omega (arith, c.requires.0, key-small (c.args.w + c.args.w) n s h)
+few : (c : tie.Start) (n : ℕ) (s : ℤ) → Within 90112 s → key_of (c.args.w + c.args.w) n s < 8388608
+few c n s h = omega (arith, c.requires.0, key_small (c.args.w + c.args.w) n s h)
 
-key-requires : tie.Need-key-requires
-key-requires c κs = (c.requires.0, rw (score _ c.requires.1) c.requires.1, omega (arith, c.requires.3))
+key_requires : tie.Need-key-requires
+key_requires c κs = (c.requires.0, rw (score _ c.requires.1) c.requires.1, omega (arith, c.requires.3))
 
-key-requires-2 : tie.Need-key-requires-2
-key-requires-2 c κs =
+key_requires_2 : tie.Need-key-requires-2
+key_requires_2 c κs =
     let start = c.before.before in
     (start.requires.0, rw (score _ start.requires.2) start.requires.2, start.requires.3)
 
@@ -40,8 +40,8 @@ module _ (c : tie.After-key) where
   abbrev s : tie.Start
   s = c.before
 
-  first : to_z w32 (of_z w32 c.key.result) ≡ pos (keyOf (s.args.w + s.args.w) s.args.n s.args.s)
-  first = key-read w32 90112 s.args.w s.args.n s.args.s (lit< tt) (room s) s.pre.1
+  first : to_z w32 (of_z w32 c.key.result) ≡ pos (key_of (s.args.w + s.args.w) s.args.n s.args.s)
+  first = key_read w32 90112 s.args.w s.args.n s.args.s (lit< tt) (room s) s.pre.1
       (omega (arith, s.pre.3)) c.key.ensures
 
 module _ (c : tie.After-key2) where
@@ -49,8 +49,8 @@ module _ (c : tie.After-key2) where
   start = c.before.before.before
 
   second : to_z w32 (of_z w32 c.key2.result)
-      ≡ pos (keyOf (start.args.w + start.args.w) (start.args.n + 1) start.args.t)
-  second = key-read w32 90112 start.args.w (start.args.n + 1) start.args.t (lit< tt) (room start)
+      ≡ pos (key_of (start.args.w + start.args.w) (start.args.n + 1) start.args.t)
+  second = key_read w32 90112 start.args.w (start.args.n + 1) start.args.t (lit< tt) (room start)
       start.pre.2 start.pre.3 c.key2.ensures
 
 returns : tie.Need-returns
@@ -64,11 +64,11 @@ returns c =
       c.smaller.ensures ∙ (λ i. smallerFloat (a i) (b i)),
     )
 
-pub two-keys-spec : {M : Type 1} → statement M
-two-keys-spec =
+pub two_keys_spec : {M : Type 1} → statement M
+two_keys_spec =
     tie.close
-    (tie.spec key-requires
-    (λ c κs. rw (first c) (may-float _ (few c.before _ _ c.before.requires.1)))
-    (λ c. omega (arith, c.before.before.requires.0, c.before.before.requires.3)) key-requires-2
-    (λ c κs. rw (second c) (may-float _ (few (start c) _ _ (start c).requires.2)))
+    (tie.spec key_requires
+    (λ c κs. rw (first c) (may_float _ (few c.before _ _ c.before.requires.1)))
+    (λ c. omega (arith, c.before.before.requires.0, c.before.before.requires.3)) key_requires_2
+    (λ c κs. rw (second c) (may_float _ (few (start c) _ _ (start c).requires.2)))
     (λ c κs. search rules) (λ c κs. search rules) returns)

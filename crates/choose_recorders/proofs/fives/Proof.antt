@@ -2,41 +2,41 @@
 -- Assumes nothing.
 use Prim.Native.Nat.{◌+◌, ◌*◌}
 use borrow.Author.Rules.{rules}
-use Rattle.choose_recorders.proofs.Rows.{room-hard, room-soft, room-bytes}
+use Rattle.choose_recorders.proofs.Rows.{room_hard, room_soft, room_bytes}
 use Rattle.choose_recorders.proofs.fives.Statement.{statement}
 use Rattle.choose_recorders.proofs.fives.Tie as tie
 
-fives-requires : tie.Need-fives-requires
-fives-requires c κs =
+fives_requires : tie.Need-fives-requires
+fives_requires c κs =
     let s = c.before.before.before.before.before.before.before in
     let e = c.before.before.enum_told.given.1 in
-    let room = room-hard _ _ _ _ (s.args.at + 8 * s.args.m) e s.requires.1 in
+    let room = room_hard _ _ _ _ (s.args.at + 8 * s.args.m) e s.requires.1 in
     (s.requires.0, room, s.requires.3, s.requires.4)
 
-fives-requires-2 : tie.Need-fives-requires-2
-fives-requires-2 c κs =
+fives_requires_2 : tie.Need-fives-requires-2
+fives_requires_2 c κs =
     let s = c.before.before.before.before.before.before.before in
     let e = c.before.before.enum-told2.given.1 in
-    let room = room-soft _ _ _ _ (s.args.at + 8 * s.args.m) e s.requires.1 in
+    let room = room_soft _ _ _ _ (s.args.at + 8 * s.args.m) e s.requires.1 in
     (s.requires.0, room.0, room.1, rw e at s.requires.2, s.requires.3, s.requires.4)
 
-fives-requires-3 : tie.Need-fives-requires-3
-fives-requires-3 c κs =
+fives_requires_3 : tie.Need-fives-requires-3
+fives_requires_3 c κs =
     let s = c.before.before.before.before.before.before.before in
     let e = c.before.before.enum-told3.given.1 in
-    (s.requires.0, room-bytes _ _ _ _ (s.args.at + 8 * s.args.m) e s.requires.1, s.requires.3, s.requires.4)
+    (s.requires.0, room_bytes _ _ _ _ (s.args.at + 8 * s.args.m) e s.requires.1, s.requires.3, s.requires.4)
 
 returns : tie.Need-returns
 returns c = rw c.before.before.before.enum_told.given.1 c.fives.ensures
 
-returns-2 : tie.Need-returns-2
-returns-2 c = rw c.before.before.before.enum-told2.given.1 c.fives2.ensures
+returns_2 : tie.Need-returns-2
+returns_2 c = rw c.before.before.before.enum-told2.given.1 c.fives2.ensures
 
-returns-3 : tie.Need-returns-3
-returns-3 c = rw c.before.before.before.enum-told3.given.1 c.fives3.ensures
+returns_3 : tie.Need-returns-3
+returns_3 c = rw c.before.before.before.enum-told3.given.1 c.fives3.ensures
 
-pub fives-spec : {M : Type 1} → statement M
-fives-spec =
+pub fives_spec : {M : Type 1} → statement M
+fives_spec =
     tie.close
-    (tie.spec (λ c. search rules) fives-requires (λ c. search rules) fives-requires-2 (λ c. search rules)
-    fives-requires-3 returns returns-2 returns-3)
+    (tie.spec (λ c. search rules) fives_requires (λ c. search rules) fives_requires_2 (λ c. search rules)
+    fives_requires_3 returns returns_2 returns_3)

@@ -9,32 +9,32 @@ use lib.ListN.{get_or}
 use lib.Ieee.{Float, nan}
 use borrow.Author.Count.{below_more}
 use borrow.Author.Rules.{rules}
-use Rattle.rules_chips.specs.Chips.{usableSample}
+use Rattle.rules_chips.specs.Chips.{usable_sample}
 use Rattle.rules_chips.proofs.Recorders.{sample}
-use Rattle.rules_chips.proofs.Usable.{soft-at}
+use Rattle.rules_chips.proofs.Usable.{soft_at}
 use Rattle.choose_soft.proofs.clean.Statement.{statement}
 use Rattle.choose_soft.proofs.clean.Tie as tie
 
-abbrev usableAt : List Float → List Float → ℕ → Bool
-usableAt i q k = usableSample (sample (get_or i k nan) (get_or q k nan))
+abbrev usable_at : List Float → List Float → ℕ → Bool
+usable_at i q k = usable_sample (sample (get_or i k nan) (get_or q k nan))
 
-abbrev invariant-loop : tie.invariant-loop
-invariant-loop i q at ok₀ k₀ ok k = (k ≤ 64) × (ok ≡ true → (j : ℕ) → j < k → usableAt i q (at + j) ≡ true)
+abbrev invariant_loop : tie.invariant-loop
+invariant_loop i q at ok₀ k₀ ok k = (k ≤ 64) × (ok ≡ true → (j : ℕ) → j < k → usable_at i q (at + j) ≡ true)
 
-abbrev decreases-loop : tie.decreases-loop
-decreases-loop i q at ok₀ k₀ ok k = 64 - k
+abbrev decreases_loop : tie.decreases-loop
+decreases_loop i q at ok₀ k₀ ok k = 64 - k
 
 both : (a b : Bool) → a && b ≡ true → (a ≡ true) × (b ≡ true)
 both true b e = (refl, e)
 both false b e = absurd (let z : ◌≡◌ {A = ℕ} 0 1 = cc in omega arith)
 
 -- the first k are usable, and so is the next
-more : (xs ys : List Float) (at k : ℕ) (a b : Bool) → (a ≡ true → (j : ℕ) → j < k → usableAt xs ys (at + j) ≡ true)
-    → b ≡ usableAt xs ys (at + k) → a && b ≡ true → (j : ℕ) → j < k + 1 → usableAt xs ys (at + j) ≡ true
+more : (xs ys : List Float) (at k : ℕ) (a b : Bool) → (a ≡ true → (j : ℕ) → j < k → usable_at xs ys (at + j) ≡ true)
+    → b ≡ usable_at xs ys (at + k) → a && b ≡ true → (j : ℕ) → j < k + 1 → usable_at xs ys (at + j) ≡ true
 more xs ys at k a b h u e = below_more _ _ (h (both a b e).0) (sym u ∙ (both a b e).1)
 
-loop-again : tie.Need-loop-preserved invariant-loop decreases-loop
-loop-again c =
+loop_again : tie.Need-loop-preserved invariant_loop decreases_loop
+loop_again c =
     let loop = c.before.before.before.before.loop in
     let start = c.before.before.before.before.before.before.before in (
       omega arith,
@@ -42,22 +42,22 @@ loop-again c =
           loop.invariant.1 c.usable-sample.ensures,
     )
 
-returns : tie.Need-returns invariant-loop decreases-loop
+returns : tie.Need-returns invariant_loop decreases_loop
 returns c e =
     let start = c.before.before.before.before in
     let xs = start.args.i.now in
     let ys = start.args.q.now in
     record {
       each = λ k h. rw (
-        soft-at xs ys (start.args.at + k) (omega arith) (omega arith),
+        soft_at xs ys (start.args.at + k) (omega arith) (omega arith),
         c.before.loop.invariant.1 e k (omega arith),
       );
     }
 
-pub clean-spec : {M : Type 1} → statement M
-clean-spec =
+pub clean_spec : {M : Type 1} → statement M
+clean_spec =
     tie.close
     (tie.spec
-    invariant-loop decreases-loop (λ c. (omega arith, λ e j h. absurd (omega arith))) (λ c. omega arith) (λ c. search rules)
+    invariant_loop decreases_loop (λ c. (omega arith, λ e j h. absurd (omega arith))) (λ c. omega arith) (λ c. search rules)
     (λ c. omega arith) (λ c. omega arith) (λ c. search rules) (λ c. omega arith) (λ c κs. search rules)
-    (λ c. omega arith) (λ c. omega arith) loop-again returns)
+    (λ c. omega arith) (λ c. omega arith) loop_again returns)

@@ -7,64 +7,64 @@ use native.Mathlib.Omega.{arith}
 use lib.ListN.{length}
 use borrow.Author.Rules.{rules}
 use Rattle.choose_axes.specs.declared.Axis.TheVariants.{I, Q}
-use Rattle.choose_axes.specs.Axes.{countsAlong, AllSoft}
+use Rattle.choose_axes.specs.Axes.{counts_along, AllSoft}
 use Rattle.rules_choosing.specs.Scores.{RowWithin}
-use Rattle.choose_sums.proofs.Apart.{counts-small}
-use Rattle.choose_recorded.specs.Columns.{Columns, softColumn}
-use Rattle.choose_recorded.proofs.Search.{usable-part}
-use Rattle.choose_recorded.proofs.Gathered.{usable-soft}
-use Rattle.choose_recorded.proofs.Columns.{columns-none, columns-more, column-within}
+use Rattle.choose_sums.proofs.Apart.{counts_small}
+use Rattle.choose_recorded.specs.Columns.{Columns, soft_column}
+use Rattle.choose_recorded.proofs.Search.{usable_part}
+use Rattle.choose_recorded.proofs.Gathered.{usable_soft}
+use Rattle.choose_recorded.proofs.Columns.{columns_none, columns_more, column_within}
 use Rattle.choose_soft.proofs.columns.Statement.{statement}
 use Rattle.choose_soft.proofs.columns.Tie as tie
 
-abbrev invariant-loop : tie.invariant-loop
-invariant-loop i q at count row₀ l₀ row l =
-    (l ≤ count) × Columns (softColumn I i q at) (softColumn Q i q at) row l × RowWithin 8192 row
+abbrev invariant_loop : tie.invariant-loop
+invariant_loop i q at count row₀ l₀ row l =
+    (l ≤ count) × Columns (soft_column I i q at) (soft_column Q i q at) row l × RowWithin 8192 row
 
-abbrev decreases-loop : tie.decreases-loop
-decreases-loop i q at count row₀ l₀ row l = count - l
+abbrev decreases_loop : tie.decreases-loop
+decreases_loop i q at count row₀ l₀ row l = count - l
 
 -- the chips gathered are usable
-usable : (c : tie.After-eight invariant-loop decreases-loop) → AllSoft 8 c.eight.result
+usable : (c : tie.After-eight invariant_loop decreases_loop) → AllSoft 8 c.eight.result
 usable c =
     let turn = c.before.before in
     let s = turn.before.before.before in
     let l = turn.loop.l in
     let h = c.before.loop-test.true in
     rw c.eight.ensures
-    (usable-soft 8 s.args.i.now s.args.q.now (s.args.at + 8 * l)
+    (usable_soft 8 s.args.i.now s.args.q.now (s.args.at + 8 * l)
     (omega (arith, s.requires.1), omega (arith, s.requires.2))
-    (usable-part (8 * l) 8 s.requires.3 (omega arith)))
+    (usable_part (8 * l) 8 s.requires.3 (omega arith)))
 
-eight-requires : tie.Need-eight-requires invariant-loop decreases-loop
-eight-requires c κs = let s = c.before.before.before.before in (omega (arith, s.requires.1), omega (arith, s.requires.2))
+eight_requires : tie.Need-eight-requires invariant_loop decreases_loop
+eight_requires c κs = let s = c.before.before.before.before in (omega (arith, s.requires.1), omega (arith, s.requires.2))
 
-put-column-requires : tie.Need-put-column-requires invariant-loop decreases-loop
-put-column-requires c κs =
+put_column_requires : tie.Need-put-column-requires invariant_loop decreases_loop
+put_column_requires c κs =
     let turn = c.before.before.before.before.before in
     (omega (arith, turn.before.before.before.requires.0), turn.loop.invariant.1.long)
 
-loop-again : tie.Need-loop-preserved invariant-loop decreases-loop
-loop-again c =
+loop_again : tie.Need-loop-preserved invariant_loop decreases_loop
+loop_again c =
     let second = c.before.before.before in
     let gathered = second.before.before in
     let chips = gathered.eight.result in
     let turn = gathered.before.before in
     let i = second.before.soft-counts8.result in
     let q = second.soft-counts82.result in
-    let long-i : length i ≡ 8 = search rules in
-    let long-q : length q ≡ 8 = search rules in (
+    let long_i : length i ≡ 8 = search rules in
+    let long_q : length q ≡ 8 = search rules in (
       omega arith,
-      columns-more turn.loop.invariant.1 (omega (arith, turn.before.before.before.requires.0))
-          c.before.put-column.ensures long-i long-q
-          (second.before.soft-counts8.ensures ∙ ap (countsAlong I) gathered.eight.ensures)
-          (second.soft-counts82.ensures ∙ ap (countsAlong Q) gathered.eight.ensures),
-      column-within turn.loop.invariant.1.long c.before.put-column.ensures
-          (subst (RowWithin 8192) (sym second.before.soft-counts8.ensures) (counts-small I chips))
-          (subst (RowWithin 8192) (sym second.soft-counts82.ensures) (counts-small Q chips)) turn.loop.invariant.2,
+      columns_more turn.loop.invariant.1 (omega (arith, turn.before.before.before.requires.0))
+          c.before.put-column.ensures long_i long_q
+          (second.before.soft-counts8.ensures ∙ ap (counts_along I) gathered.eight.ensures)
+          (second.soft-counts82.ensures ∙ ap (counts_along Q) gathered.eight.ensures),
+      column_within turn.loop.invariant.1.long c.before.put-column.ensures
+          (subst (RowWithin 8192) (sym second.before.soft-counts8.ensures) (counts_small I chips))
+          (subst (RowWithin 8192) (sym second.soft-counts82.ensures) (counts_small Q chips)) turn.loop.invariant.2,
     )
 
-returns : tie.Need-returns invariant-loop decreases-loop
+returns : tie.Need-returns invariant_loop decreases_loop
 returns c =
     let s = c.before.before.before.before in
     let all : c.before.loop.l ≡ s.args.count = omega arith in
@@ -73,7 +73,7 @@ returns c =
 pub columns_spec : {M : Type 1} → statement M
 columns_spec =
     tie.close
-    (tie.spec invariant-loop decreases-loop
-    (λ c. (omega arith, columns-none _ _ _ c.before.before.requires.4, c.before.before.requires.5)) (λ c. omega arith)
-    (λ c. omega arith) eight-requires (λ c κs. usable c) (λ c κs. usable c.before) put-column-requires
-    (λ c. omega arith) (λ c. omega arith) loop-again (λ c. search rules) returns)
+    (tie.spec invariant_loop decreases_loop
+    (λ c. (omega arith, columns_none _ _ _ c.before.before.requires.4, c.before.before.requires.5)) (λ c. omega arith)
+    (λ c. omega arith) eight_requires (λ c κs. usable c) (λ c κs. usable c.before) put_column_requires
+    (λ c. omega arith) (λ c. omega arith) loop_again (λ c. search rules) returns)

@@ -9,39 +9,39 @@ use borrow.Author.Rules.{rules}
 use mir.Syntax.{w32}
 use mir.Val.{to_z, of_z}
 use Rattle.choose_recorded.specs.Columns.{ColumnSet}
-use Rattle.choose_recorded.proofs.Columns.{column-none, column-more}
+use Rattle.choose_recorded.proofs.Columns.{column_none, column_more}
 use Rattle.choose_soft.proofs.put_column.Statement.{statement}
 use Rattle.choose_soft.proofs.put_column.Tie as tie
 
-abbrev invariant-loop : tie.invariant-loop
-invariant-loop l row₀ i q k₀ row k = (k ≤ 8) × ColumnSet i q l row₀ k row
+abbrev invariant_loop : tie.invariant-loop
+invariant_loop l row₀ i q k₀ row k = (k ≤ 8) × ColumnSet i q l row₀ k row
 
-abbrev decreases-loop : tie.decreases-loop
-decreases-loop l row₀ i q k₀ row k = 8 - k
+abbrev decreases_loop : tie.decreases-loop
+decreases_loop l row₀ i q k₀ row k = 8 - k
 
-slice_set : tie.Need-slice-set-from-row invariant-loop decreases-loop
+slice_set : tie.Need-slice-set-from-row invariant_loop decreases_loop
 slice_set c = omega (arith, c.before.before.loop.invariant.1.long)
 
-slice-set-2 : tie.Need-slice-set-from-row-2 invariant-loop decreases-loop
-slice-set-2 c = rw length-set (omega (arith, c.before.before.before.loop.invariant.1.long))
+slice_set_2 : tie.Need-slice-set-from-row-2 invariant_loop decreases_loop
+slice_set_2 c = rw length-set (omega (arith, c.before.before.before.loop.invariant.1.long))
 
-loop-again : tie.Need-loop-preserved invariant-loop decreases-loop
-loop-again c =
+loop_again : tie.Need-loop-preserved invariant_loop decreases_loop
+loop_again c =
     let turn = c.before.before.before in
     let s = turn.before in
     let i = get_or s.args.t1 turn.loop.k (pos 0) in
     let q = get_or s.args.t2 turn.loop.k (pos 0) in
-    let is-i : to_z w32 (of_z w32 i) ≡ i = search rules in
-    let is-q : to_z w32 (of_z w32 q) ≡ q = search rules in
-    (omega arith, column-more _ _ turn.loop.invariant.1 (omega arith) s.requires.0 s.requires.1 is-i is-q)
+    let is_i : to_z w32 (of_z w32 i) ≡ i = search rules in
+    let is_q : to_z w32 (of_z w32 q) ≡ q = search rules in
+    (omega arith, column_more _ _ turn.loop.invariant.1 (omega arith) s.requires.0 s.requires.1 is_i is_q)
 
-returns : tie.Need-returns invariant-loop decreases-loop
+returns : tie.Need-returns invariant_loop decreases_loop
 returns c = let all : c.before.loop.k ≡ 8 = omega arith in rw all at c.before.loop.invariant.1
 
-pub put-column-spec : {M : Type 1} → statement M
-put-column-spec =
+pub put_column_spec : {M : Type 1} → statement M
+put_column_spec =
     tie.close
-    (tie.spec invariant-loop decreases-loop (λ c. (omega arith, column-none _ _ _ _)) (λ c. omega arith) (λ c. omega arith)
+    (tie.spec invariant_loop decreases_loop (λ c. (omega arith, column_none _ _ _ _)) (λ c. omega arith) (λ c. omega arith)
     (λ c. omega arith) (λ c. search rules) (λ c. omega arith) slice_set (λ c. omega arith) (λ c. search rules)
-    (λ c. omega arith) (λ c. omega arith) slice-set-2 (λ c. omega arith) (λ c. omega arith) loop-again
+    (λ c. omega arith) (λ c. omega arith) slice_set_2 (λ c. omega arith) (λ c. omega arith) loop_again
     (λ c. search rules) returns)

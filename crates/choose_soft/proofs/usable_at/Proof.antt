@@ -3,7 +3,7 @@
 use mathlib.Core.Path.{sym, ap, ◌∙◌}
 use mathlib.Core.Bool.{not, not-not}
 use borrow.Author.Rules.{rules}
-use Rattle.rules_chips.proofs.Usable.{soft-at}
+use Rattle.rules_chips.proofs.Usable.{soft_at}
 use Rattle.choose_soft.proofs.usable_at.Statement.{statement}
 use Rattle.choose_soft.proofs.usable_at.Tie as tie
 
@@ -11,10 +11,10 @@ returns : tie.Need-returns
 returns c =
     let start = c.before.before.before.before.before in
     c.usable-sample.ensures
-    ∙ sym (ap not (soft-at start.args.i.now start.args.q.now start.args.at start.requires.0
+    ∙ sym (ap not (soft_at start.args.i.now start.args.q.now start.args.at start.requires.0
     start.requires.1)
     ∙ not-not _)
 
-pub usable-at-spec : {M : Type 1} → statement M
-usable-at-spec = tie.close (tie.spec (λ c. search rules) (λ c. search rules) (λ c. search rules) (λ c. search rules)
+pub usable_at_spec : {M : Type 1} → statement M
+usable_at_spec = tie.close (tie.spec (λ c. search rules) (λ c. search rules) (λ c. search rules) (λ c. search rules)
     (λ c κs. search rules) returns)

@@ -11,44 +11,44 @@ use mir.Syntax.{w8, w16, w64}
 use mir.Val.{Fits, to_z, of_z}
 use borrow.Author.Rules.{rules}
 use Rattle.base.specs.Whole.{Within}
-use Rattle.base.proofs.Whole.{small, within-zero}
-use Rattle.base.proofs.Adding.{within-pos}
+use Rattle.base.proofs.Whole.{small, within_zero}
+use Rattle.base.proofs.Adding.{within_pos}
 use Rattle.choose_walsh.specs.Rows.{FourWithin, FourScaled}
-use Rattle.choose_walsh.proofs.Stages.{scaled-none, scaled-four, four-none, four-more}
+use Rattle.choose_walsh.proofs.Stages.{scaled_none, scaled_four, four_none, four_more_lem}
 use Rattle.choose_stages_bytes.proofs.four.Statement.{statement}
 use Rattle.choose_stages_bytes.proofs.four.Tie as tie
 
-abbrev invariant-loop : tie.invariant-loop
-invariant-loop row x third fourth more z₀ l₀ z l =
+abbrev invariant_loop : tie.invariant-loop
+invariant_loop row x third fourth more z₀ l₀ z l =
     (l ≤ 32) × FourScaled row x (pos 16 ∷ pos 16 ∷ to_z w16 third ∷ to_z w16 fourth ∷ [])
     (pos 0 ∷ pos 0 ∷ pos 0 ∷ to_z w16 more ∷ []) z₀ l z × FourWithin 128 row x l
 
-abbrev decreases-loop : tie.decreases-loop
-decreases-loop row x third fourth more z₀ l₀ z l = 32 - l
+abbrev decreases_loop : tie.decreases-loop
+decreases_loop row x third fourth more z₀ l₀ z l = 32 - l
 
 -- the factors and what is added, as they are read
-module _ (c : tie.Start invariant-loop decreases-loop) where
-  third-is : to_z w16 (of_z w16 c.args.third) ≡ c.args.third
-  third-is = small w16 16 (lit< tt) _ c.requires.3
+module _ (c : tie.Start invariant_loop decreases_loop) where
+  third_is : to_z w16 (of_z w16 c.args.third) ≡ c.args.third
+  third_is = small w16 16 (lit< tt) _ c.requires.3
 
-  fourth-is : to_z w16 (of_z w16 c.args.fourth) ≡ c.args.fourth
-  fourth-is = small w16 16 (lit< tt) _ c.requires.4
+  fourth_is : to_z w16 (of_z w16 c.args.fourth) ≡ c.args.fourth
+  fourth_is = small w16 16 (lit< tt) _ c.requires.4
 
-  more-is : to_z w16 (of_z w16 c.args.more) ≡ c.args.more
-  more-is = small w16 4 (lit< tt) _ c.requires.5
+  more_is : to_z w16 (of_z w16 c.args.more) ≡ c.args.more
+  more_is = small w16 4 (lit< tt) _ c.requires.5
 
-  third-within : Within 16 (to_z w16 (of_z w16 c.args.third))
-  third-within = rw third-is c.requires.3
+  third_within : Within 16 (to_z w16 (of_z w16 c.args.third))
+  third_within = rw third_is c.requires.3
 
-  fourth-within : Within 16 (to_z w16 (of_z w16 c.args.fourth))
-  fourth-within = rw fourth-is c.requires.4
+  fourth_within : Within 16 (to_z w16 (of_z w16 c.args.fourth))
+  fourth_within = rw fourth_is c.requires.4
 
   more_within : Within 4 (to_z w16 (of_z w16 c.args.more))
-  more_within = rw more-is c.requires.5
+  more_within = rw more_is c.requires.5
 
 -- a turn: its places in both rows
-module _ (c : tie.In-loop invariant-loop decreases-loop) where
-  abbrev start : tie.Start invariant-loop decreases-loop
+module _ (c : tie.In-loop invariant_loop decreases_loop) where
+  abbrev start : tie.Start invariant_loop decreases_loop
   start = c.before.before
 
   abbrev a : ℕ
@@ -63,11 +63,11 @@ module _ (c : tie.In-loop invariant-loop decreases-loop) where
   size : Fits w64 (a * 2)
   size = record { fits = omega (arith, below) }
 
-  place-on : (k : ℕ) → k < 97 → Fits w64 (a + k)
-  place-on k h = record { fits = omega (arith, below) }
+  place_on : (k : ℕ) → k < 97 → Fits w64 (a + k)
+  place_on k h = record { fits = omega (arith, below) }
 
-  size-on : (k : ℕ) → k < 97 → Fits w64 ((a + k) * 2)
-  size-on k h = record { fits = omega (arith, below) }
+  size_on : (k : ℕ) → k < 97 → Fits w64 ((a + k) * 2)
+  size_on k h = record { fits = omega (arith, below) }
 
   next : Fits w64 (c.before.loop.l + 1)
   next = record { fits = omega (arith, c.loop-test.true) }
@@ -84,20 +84,20 @@ module _ (c : tie.In-loop invariant-loop decreases-loop) where
   room : a < length c.before.loop.z
   room = omega (arith, long, below)
 
-  room-on : (k : ℕ) → k < 97 → a + k < length c.before.loop.z
-  room-on k h = omega (arith, long, below)
+  room_on : (k : ℕ) → k < 97 → a + k < length c.before.loop.z
+  room_on k h = omega (arith, long, below)
 
 -- the turn that a step is in: k chips are scaled
-abbrev by1 : tie.After-scaled invariant-loop decreases-loop → tie.In-loop invariant-loop decreases-loop
+abbrev by1 : tie.After-scaled invariant_loop decreases_loop → tie.In-loop invariant_loop decreases_loop
 by1 c = c.before.before
 
-abbrev by2 : tie.After-scaled2 invariant-loop decreases-loop → tie.In-loop invariant-loop decreases-loop
+abbrev by2 : tie.After-scaled2 invariant_loop decreases_loop → tie.In-loop invariant_loop decreases_loop
 by2 c = by1 c.before.before
 
-abbrev by3 : tie.After-scaled3 invariant-loop decreases-loop → tie.In-loop invariant-loop decreases-loop
+abbrev by3 : tie.After-scaled3 invariant_loop decreases_loop → tie.In-loop invariant_loop decreases_loop
 by3 c = by2 c.before.before
 
-abbrev by4 : tie.After-scaled4 invariant-loop decreases-loop → tie.In-loop invariant-loop decreases-loop
+abbrev by4 : tie.After-scaled4 invariant_loop decreases_loop → tie.In-loop invariant_loop decreases_loop
 by4 c = by3 c.before.before
 
 -- a byte as it is read, scaled, and written
@@ -108,8 +108,8 @@ entry times more e f g = e ∙ f ∙ ap (λ (v : ℤ). (times *ℤ v) +ℤ more)
 seen : {b : ℤ} → Within 128 (to_z w8 (of_z w8 b)) → to_z w8 (of_z w8 b) ≡ b → Within 128 b
 seen h g = subst (Within 128) g h
 
-loop-again : tie.Need-loop-preserved invariant-loop decreases-loop
-loop-again c =
+loop_again : tie.Need-loop-preserved invariant_loop decreases_loop
+loop_again c =
     let s3 = c in
     let s2 = s3.before.before in
     let s1 = s2.before.before in
@@ -127,40 +127,40 @@ loop-again c =
     let b2 : to_z w8 (of_z w8 (get_or row (a + 64) (pos 0))) ≡ get_or row (a + 64) (pos 0) = search rules in
     let b3 : to_z w8 (of_z w8 (get_or row (a + 96) (pos 0))) ≡ get_or row (a + 96) (pos 0) = search rules in (
       omega (arith, few),
-      scaled-four inv.1 few (omega (arith, start.pre.1, start.pre.2))
+      scaled_four inv.1 few (omega (arith, start.pre.1, start.pre.2))
           (entry (pos 16) (pos 0) (search rules) s0.scaled.ensures.0 b0)
           (entry (pos 16) (pos 0) (search rules) s1.scaled2.ensures.0 b1)
           (entry third (pos 0) (search rules) s2.scaled3.ensures.0 b2)
           (entry fourth more (search rules) s3.scaled4.ensures.0 b3),
-      four-more inv.2 (seen s0.scaled.ensures.1 b0) (seen s1.scaled2.ensures.1 b1)
+      four_more_lem inv.2 (seen s0.scaled.ensures.1 b0) (seen s1.scaled2.ensures.1 b1)
           (seen s2.scaled3.ensures.1 b2) (seen s3.scaled4.ensures.1 b3),
     )
 
-returns : tie.Need-returns invariant-loop decreases-loop
+returns : tie.Need-returns invariant_loop decreases_loop
 returns c =
     let at = c.before in
     let s = at.before in
     let e : at.loop.l ≡ 32 = omega (arith, at.loop.invariant.0, c.loop-test.false) in
-    (rw (e, third-is s, fourth-is s, more-is s) at at.loop.invariant.1, rw e at at.loop.invariant.2)
+    (rw (e, third_is s, fourth_is s, more_is s) at at.loop.invariant.1, rw e at at.loop.invariant.2)
 
-pub four-spec : {M : Type 1} → statement M
-four-spec =
+pub four_spec : {M : Type 1} → statement M
+four_spec =
     tie.close
-    (tie.spec invariant-loop decreases-loop (λ c. (omega arith, scaled-none, four-none)) (λ c. place c)
+    (tie.spec invariant_loop decreases_loop (λ c. (omega arith, scaled_none, four_none)) (λ c. place c)
     (λ c. inside c)
-    (λ c κs. (within-pos 16, within-zero 4))
+    (λ c κs. (within_pos 16, within_zero 4))
     (λ c. place-on (by1 c) 32 (lit< tt)) (λ c. inside_on (by1 c) 32 (lit< tt))
-    (λ c κs. (within-pos 16, within-zero 4))
+    (λ c κs. (within_pos 16, within_zero 4))
     (λ c. place-on (by2 c) 64 (lit< tt)) (λ c. inside_on (by2 c) 64 (lit< tt))
-    (λ c κs. (third-within (start (by2 c.before)), within-zero 4))
+    (λ c κs. (third_within (start (by2 c.before)), within_zero 4))
     (λ c. place-on (by3 c) 96 (lit< tt)) (λ c. inside_on (by3 c) 96 (lit< tt))
-    (λ c κs. (fourth-within (start (by3 c.before)), more_within (start (by3 c.before))))
+    (λ c κs. (fourth_within (start (by3 c.before)), more_within (start (by3 c.before))))
     (λ c. size (by4 c)) (λ c. room (by4 c))
     (λ c. place-on (by4 c) 32 (lit< tt)) (λ c. size-on (by4 c) 32 (lit< tt))
-    (λ c. simp length-set (room-on (by4 c) 32 (lit< tt)))
+    (λ c. simp length-set (room_on (by4 c) 32 (lit< tt)))
     (λ c. place-on (by4 c) 64 (lit< tt)) (λ c. size-on (by4 c) 64 (lit< tt))
-    (λ c. simp length-set (room-on (by4 c) 64 (lit< tt)))
+    (λ c. simp length-set (room_on (by4 c) 64 (lit< tt)))
     (λ c. place-on (by4 c) 96 (lit< tt)) (λ c. size-on (by4 c) 96 (lit< tt))
-    (λ c. simp length-set (room-on (by4 c) 96 (lit< tt)))
-    (λ c. next (by4 c)) (λ c. omega (arith, (by4 c).loop-test.true)) loop-again
+    (λ c. simp length-set (room_on (by4 c) 96 (lit< tt)))
+    (λ c. next (by4 c)) (λ c. omega (arith, (by4 c).loop-test.true)) loop_again
     (λ c. c.before.loop.invariant.1.long) returns)

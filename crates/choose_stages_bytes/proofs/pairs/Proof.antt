@@ -7,8 +7,8 @@ use Rattle.choose_walsh.proofs.Stages.{row_of, paired}
 use Rattle.choose_stages_bytes.proofs.pairs.Statement.{statement}
 use Rattle.choose_stages_bytes.proofs.pairs.Tie as tie
 
-butterfly-requires : tie.Need-butterfly-requires
-butterfly-requires c κs =
+butterfly_requires : tie.Need-butterfly-requires
+butterfly_requires c κs =
     let pre = c.before.requires in (
       pre.0,
       pre.1,
@@ -19,8 +19,8 @@ butterfly-requires c κs =
       row_of 2 pre.2 (lit≤ tt) (lit< tt) refl,
     )
 
-butterfly-requires-2 : tie.Need-butterfly-requires-2
-butterfly-requires-2 c κs =
+butterfly_requires_2 : tie.Need-butterfly-requires-2
+butterfly_requires_2 c κs =
     let one = c.before.before in
     let pre = one.before.before.requires in (
       pre.0,
@@ -32,8 +32,8 @@ butterfly-requires-2 c κs =
       row_of 3 pre.2 (lit≤ tt) (lit< tt) refl,
     )
 
-butterfly-requires-3 : tie.Need-butterfly-requires-3
-butterfly-requires-3 c κs =
+butterfly_requires_3 : tie.Need-butterfly-requires-3
+butterfly_requires_3 c κs =
     let two = c.before.before in
     let one = two.before.before.before in
     let pre = one.before.before.requires in (
@@ -46,8 +46,8 @@ butterfly-requires-3 c κs =
       row_of 6 pre.2 (lit≤ tt) (lit< tt) refl,
     )
 
-butterfly-requires-4 : tie.Need-butterfly-requires-4
-butterfly-requires-4 c κs =
+butterfly_requires_4 : tie.Need-butterfly-requires-4
+butterfly_requires_4 c κs =
     let three = c.before.before in
     let two = three.before.before.before in
     let one = two.before.before.before in
@@ -70,8 +70,8 @@ returns c =
     paired one.before.before.requires.1 one.butterfly.ensures two.butterfly2.ensures
     three.butterfly3.ensures four.butterfly4.ensures
 
-pub pairs-spec : {M : Type 1} → statement M
-pairs-spec =
+pub pairs_spec : {M : Type 1} → statement M
+pairs_spec =
     tie.close
-    (tie.spec butterfly-requires butterfly-requires-2 butterfly-requires-3 butterfly-requires-4 (λ c. search rules)
+    (tie.spec butterfly_requires butterfly_requires_2 butterfly_requires_3 butterfly_requires_4 (λ c. search rules)
     returns)

@@ -5,9 +5,9 @@ use lib.Dec.{lit<}
 use mir.Syntax.{w8, w16}
 use mir.Val.{to_z, of_z}
 use mir.Facts.{to_z-of_z}
-use Rattle.base.proofs.Whole.{byte-within}
-use Rattle.base.proofs.Adding.{Reads, made-fits, made}
-use Rattle.choose_walsh.proofs.Stages.{product-fits, raised-fits, raised_is}
+use Rattle.base.proofs.Whole.{byte_within}
+use Rattle.base.proofs.Adding.{Reads, made_fits, made}
+use Rattle.choose_walsh.proofs.Stages.{product_fits, raised_fits, raised_is}
 use Rattle.choose_stages_bytes.proofs.scaled.Statement.{statement}
 use Rattle.choose_stages_bytes.proofs.scaled.Tie as tie
 
@@ -16,12 +16,12 @@ module _ (c : tie.Start) where
   read = to_z-of_z (record { sfits = c.well-formed.0 })
 
   byte : Reads w16 128 (of_z w16 (to_z w8 (of_z w8 c.args.b))) c.args.b
-  byte = made read (byte-within _ c.well-formed.0) (lit< tt)
+  byte = made read (byte_within _ c.well-formed.0) (lit< tt)
 
-pub scaled-spec : {M : Type 1} → statement M
-scaled-spec =
+pub scaled_spec : {M : Type 1} → statement M
+scaled_spec =
     tie.close
-    (tie.spec (λ c. made-fits (read c) (byte c).within (lit< tt))
-    (λ c. product-fits w16 (lit< tt) (lit< tt) (byte c) c.requires.0 c.requires.1)
-    (λ c. raised-fits w16 (lit< tt) (lit< tt) (byte c) c.requires.0 c.requires.1)
+    (tie.spec (λ c. made_fits (read c) (byte c).within (lit< tt))
+    (λ c. product_fits w16 (lit< tt) (lit< tt) (byte c) c.requires.0 c.requires.1)
+    (λ c. raised_fits w16 (lit< tt) (lit< tt) (byte c) c.requires.0 c.requires.1)
     (λ c. (raised_is w16 (lit< tt) (lit< tt) (byte c) c.requires.0 c.requires.1, (byte c).within)))

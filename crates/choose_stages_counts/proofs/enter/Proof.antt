@@ -3,27 +3,27 @@
 use mathlib.Core.Path.{◌∙◌}
 use lib.Dec.{lit≤}
 use borrow.Author.Rules.{rules}
-use Rattle.base.proofs.Whole.{within-zero, within-neg}
-use Rattle.base.proofs.Adding.{within-pos}
+use Rattle.base.proofs.Whole.{within_zero, within_neg}
+use Rattle.base.proofs.Adding.{within_pos}
 use Rattle.choose_walsh.proofs.Stages.{entered}
 use Rattle.choose_stages_counts.proofs.enter.Statement.{statement}
 use Rattle.choose_stages_counts.proofs.enter.Tie as tie
 
-four-requires : tie.Need-four-requires
-four-requires c κs =
+four_requires : tie.Need-four-requires
+four_requires c κs =
     let pre = c.before.requires in
-    (pre.0, pre.1, lit≤ tt, within-pos 16, within-neg (within-pos 16), within-zero 4, pre.2)
+    (pre.0, pre.1, lit≤ tt, within_pos 16, within_neg (within_pos 16), within_zero 4, pre.2)
 
-four-requires-2 : tie.Need-four-requires-2
-four-requires-2 c κs =
+four_requires_2 : tie.Need-four-requires-2
+four_requires_2 c κs =
     let one = c.before.before in
     let pre = one.before.before.requires in (
       pre.0,
       one.four.ensures.long ∙ pre.1,
       lit≤ tt,
-      within-neg (within-pos 16),
-      within-pos 16,
-      within-pos 4,
+      within_neg (within_pos 16),
+      within_pos 16,
+      within_pos 4,
       pre.2,
     )
 
@@ -35,4 +35,4 @@ returns c =
     entered pre.1 one.four.ensures two.four2.ensures
 
 pub enter_spec : {M : Type 1} → statement M
-enter_spec = tie.close (tie.spec four-requires four-requires-2 (λ c. search rules) returns)
+enter_spec = tie.close (tie.spec four_requires four_requires_2 (λ c. search rules) returns)

@@ -11,44 +11,44 @@ use mir.Syntax.{w32, w64}
 use mir.Val.{Fits, to_z, of_z}
 use borrow.Author.Rules.{rules}
 use Rattle.base.specs.Whole.{Within}
-use Rattle.base.proofs.Whole.{small, within-zero}
-use Rattle.base.proofs.Adding.{within-pos}
+use Rattle.base.proofs.Whole.{small, within_zero}
+use Rattle.base.proofs.Adding.{within_pos}
 use Rattle.choose_walsh.specs.Rows.{FourScaled}
-use Rattle.choose_walsh.proofs.Stages.{scaled-none, scaled-four}
+use Rattle.choose_walsh.proofs.Stages.{scaled_none, scaled_four}
 use Rattle.choose_stages_counts.proofs.four.Statement.{statement}
 use Rattle.choose_stages_counts.proofs.four.Tie as tie
 
-abbrev invariant-loop : tie.invariant-loop
-invariant-loop row x third fourth more z₀ l₀ z l =
+abbrev invariant_loop : tie.invariant-loop
+invariant_loop row x third fourth more z₀ l₀ z l =
     (l ≤ 32) × FourScaled row x (pos 16 ∷ pos 16 ∷ to_z w32 third ∷ to_z w32 fourth ∷ [])
     (pos 0 ∷ pos 0 ∷ pos 0 ∷ to_z w32 more ∷ []) z₀ l z
 
-abbrev decreases-loop : tie.decreases-loop
-decreases-loop row x third fourth more z₀ l₀ z l = 32 - l
+abbrev decreases_loop : tie.decreases-loop
+decreases_loop row x third fourth more z₀ l₀ z l = 32 - l
 
 -- the factors and what is added, as they are read
-module _ (c : tie.Start invariant-loop decreases-loop) where
-  third-is : to_z w32 (of_z w32 c.args.third) ≡ c.args.third
-  third-is = small w32 16 (lit< tt) _ c.requires.3
+module _ (c : tie.Start invariant_loop decreases_loop) where
+  third_is : to_z w32 (of_z w32 c.args.third) ≡ c.args.third
+  third_is = small w32 16 (lit< tt) _ c.requires.3
 
-  fourth-is : to_z w32 (of_z w32 c.args.fourth) ≡ c.args.fourth
-  fourth-is = small w32 16 (lit< tt) _ c.requires.4
+  fourth_is : to_z w32 (of_z w32 c.args.fourth) ≡ c.args.fourth
+  fourth_is = small w32 16 (lit< tt) _ c.requires.4
 
-  more-is : to_z w32 (of_z w32 c.args.more) ≡ c.args.more
-  more-is = small w32 4 (lit< tt) _ c.requires.5
+  more_is : to_z w32 (of_z w32 c.args.more) ≡ c.args.more
+  more_is = small w32 4 (lit< tt) _ c.requires.5
 
-  third-within : Within 16 (to_z w32 (of_z w32 c.args.third))
-  third-within = rw third-is c.requires.3
+  third_within : Within 16 (to_z w32 (of_z w32 c.args.third))
+  third_within = rw third_is c.requires.3
 
-  fourth-within : Within 16 (to_z w32 (of_z w32 c.args.fourth))
-  fourth-within = rw fourth-is c.requires.4
+  fourth_within : Within 16 (to_z w32 (of_z w32 c.args.fourth))
+  fourth_within = rw fourth_is c.requires.4
 
   more_within : Within 4 (to_z w32 (of_z w32 c.args.more))
-  more_within = rw more-is c.requires.5
+  more_within = rw more_is c.requires.5
 
 -- a turn: its places in both rows
-module _ (c : tie.In-loop invariant-loop decreases-loop) where
-  abbrev start : tie.Start invariant-loop decreases-loop
+module _ (c : tie.In-loop invariant_loop decreases_loop) where
+  abbrev start : tie.Start invariant_loop decreases_loop
   start = c.before.before
 
   abbrev a : ℕ
@@ -63,11 +63,11 @@ module _ (c : tie.In-loop invariant-loop decreases-loop) where
   size : Fits w64 (a * 4)
   size = record { fits = omega (arith, below) }
 
-  place-on : (k : ℕ) → k < 97 → Fits w64 (a + k)
-  place-on k h = record { fits = omega (arith, below) }
+  place_on : (k : ℕ) → k < 97 → Fits w64 (a + k)
+  place_on k h = record { fits = omega (arith, below) }
 
-  size-on : (k : ℕ) → k < 97 → Fits w64 ((a + k) * 4)
-  size-on k h = record { fits = omega (arith, below) }
+  size_on : (k : ℕ) → k < 97 → Fits w64 ((a + k) * 4)
+  size_on k h = record { fits = omega (arith, below) }
 
   next : Fits w64 (c.before.loop.l + 1)
   next = record { fits = omega (arith, c.loop-test.true) }
@@ -84,37 +84,37 @@ module _ (c : tie.In-loop invariant-loop decreases-loop) where
   room : a < length c.before.loop.z
   room = omega (arith, long, below)
 
-  room-on : (k : ℕ) → k < 97 → a + k < length c.before.loop.z
-  room-on k h = omega (arith, long, below)
+  room_on : (k : ℕ) → k < 97 → a + k < length c.before.loop.z
+  room_on k h = omega (arith, long, below)
 
 -- the turn that a step is in: k chips are scaled
-abbrev by1 : tie.After-scaled invariant-loop decreases-loop → tie.In-loop invariant-loop decreases-loop
+abbrev by1 : tie.After-scaled invariant_loop decreases_loop → tie.In-loop invariant_loop decreases_loop
 by1 c = c.before.before
 
-abbrev by2 : tie.After-scaled2 invariant-loop decreases-loop → tie.In-loop invariant-loop decreases-loop
+abbrev by2 : tie.After-scaled2 invariant_loop decreases_loop → tie.In-loop invariant_loop decreases_loop
 by2 c = by1 c.before.before
 
-abbrev by3 : tie.After-scaled3 invariant-loop decreases-loop → tie.In-loop invariant-loop decreases-loop
+abbrev by3 : tie.After-scaled3 invariant_loop decreases_loop → tie.In-loop invariant_loop decreases_loop
 by3 c = by2 c.before.before
 
-abbrev by4 : tie.After-scaled4 invariant-loop decreases-loop → tie.In-loop invariant-loop decreases-loop
+abbrev by4 : tie.After-scaled4 invariant_loop decreases_loop → tie.In-loop invariant_loop decreases_loop
 by4 c = by3 c.before.before
 
 -- a count as it is read, and as it is scaled and written
-module _ (c : tie.In-loop invariant-loop decreases-loop) (k : ℕ) where
-  count-is : to_z w32 (of_z w32 (get_or (start c).args.row.now k (pos 0))) ≡ get_or (start c).args.row.now k (pos 0)
-  count-is = small w32 8192 (lit< tt) _ ((start c).requires.6.at k)
+module _ (c : tie.In-loop invariant_loop decreases_loop) (k : ℕ) where
+  count_is : to_z w32 (of_z w32 (get_or (start c).args.row.now k (pos 0))) ≡ get_or (start c).args.row.now k (pos 0)
+  count_is = small w32 8192 (lit< tt) _ ((start c).requires.6.at k)
 
   count : Within 8192 (to_z w32 (of_z w32 (get_or (start c).args.row.now k (pos 0))))
-  count = rw count-is ((start c).requires.6.at k)
+  count = rw count_is ((start c).requires.6.at k)
 
   entry : (times more : ℤ) {r : ℤ} → to_z w32 (of_z w32 r) ≡ r
       → r ≡ (times *ℤ to_z w32 (of_z w32 (get_or (start c).args.row.now k (pos 0)))) +ℤ more
       → to_z w32 (of_z w32 r) ≡ (times *ℤ get_or (start c).args.row.now k (pos 0)) +ℤ more
-  entry times more e f = e ∙ f ∙ ap (λ (v : ℤ). (times *ℤ v) +ℤ more) count-is
+  entry times more e f = e ∙ f ∙ ap (λ (v : ℤ). (times *ℤ v) +ℤ more) count_is
 
-loop-again : tie.Need-loop-preserved invariant-loop decreases-loop
-loop-again c =
+loop_again : tie.Need-loop-preserved invariant_loop decreases_loop
+loop_again c =
     let s3 = c in
     let s2 = s3.before.before in
     let s1 = s2.before.before in
@@ -128,41 +128,41 @@ loop-again c =
     let fourth = to_z w32 (of_z w32 start.args.fourth) in
     let more = to_z w32 (of_z w32 start.args.more) in (
       omega (arith, few),
-      scaled-four inv.1 few (omega (arith, start.pre.1, start.pre.2))
+      scaled_four inv.1 few (omega (arith, start.pre.1, start.pre.2))
           (entry turn a (pos 16) (pos 0) (search rules) s0.scaled.ensures)
           (entry turn (a + 32) (pos 16) (pos 0) (search rules) s1.scaled2.ensures)
           (entry turn (a + 64) third (pos 0) (search rules) s2.scaled3.ensures)
           (entry turn (a + 96) fourth more (search rules) s3.scaled4.ensures),
     )
 
-returns : tie.Need-returns invariant-loop decreases-loop
+returns : tie.Need-returns invariant_loop decreases_loop
 returns c =
     let at = c.before in
     let s = at.before in
     let e : at.loop.l ≡ 32 = omega (arith, at.loop.invariant.0, c.loop-test.false) in
-    rw (e, third-is s, fourth-is s, more-is s) at at.loop.invariant.1
+    rw (e, third_is s, fourth_is s, more_is s) at at.loop.invariant.1
 
-pub four-spec : {M : Type 1} → statement M
-four-spec =
+pub four_spec : {M : Type 1} → statement M
+four_spec =
     tie.close
-    (tie.spec invariant-loop decreases-loop (λ c. (omega arith, scaled-none)) (λ c. place c)
+    (tie.spec invariant_loop decreases_loop (λ c. (omega arith, scaled_none)) (λ c. place c)
     (λ c. size c) (λ c. inside c)
-    (λ c κs. (count c.before (a c.before), within-pos 16, within-zero 4))
+    (λ c κs. (count c.before (a c.before), within_pos 16, within_zero 4))
     (λ c. place-on (by1 c) 32 (lit< tt)) (λ c. size-on (by1 c) 32 (lit< tt)) (λ c. inside_on (by1 c) 32 (lit< tt))
-    (λ c κs. (count (by1 c.before) (a (by1 c.before) + 32), within-pos 16, within-zero 4))
+    (λ c κs. (count (by1 c.before) (a (by1 c.before) + 32), within_pos 16, within_zero 4))
     (λ c. place-on (by2 c) 64 (lit< tt)) (λ c. size-on (by2 c) 64 (lit< tt)) (λ c. inside_on (by2 c) 64 (lit< tt))
     (λ c κs.
-    let turn = by2 c.before in (count turn (a turn + 64), third-within (start turn), within-zero 4))
+    let turn = by2 c.before in (count turn (a turn + 64), third_within (start turn), within_zero 4))
     (λ c. place-on (by3 c) 96 (lit< tt)) (λ c. size-on (by3 c) 96 (lit< tt)) (λ c. inside_on (by3 c) 96 (lit< tt))
     (λ c κs.
     let turn = by3 c.before in
-    (count turn (a turn + 96), fourth-within (start turn), more_within (start turn)))
+    (count turn (a turn + 96), fourth_within (start turn), more_within (start turn)))
     (λ c. size (by4 c)) (λ c. room (by4 c))
     (λ c. place-on (by4 c) 32 (lit< tt)) (λ c. size-on (by4 c) 32 (lit< tt))
-    (λ c. simp length-set (room-on (by4 c) 32 (lit< tt)))
+    (λ c. simp length-set (room_on (by4 c) 32 (lit< tt)))
     (λ c. place-on (by4 c) 64 (lit< tt)) (λ c. size-on (by4 c) 64 (lit< tt))
-    (λ c. simp length-set (room-on (by4 c) 64 (lit< tt)))
+    (λ c. simp length-set (room_on (by4 c) 64 (lit< tt)))
     (λ c. place-on (by4 c) 96 (lit< tt)) (λ c. size-on (by4 c) 96 (lit< tt))
-    (λ c. simp length-set (room-on (by4 c) 96 (lit< tt)))
-    (λ c. next (by4 c)) (λ c. omega (arith, (by4 c).loop-test.true)) loop-again
+    (λ c. simp length-set (room_on (by4 c) 96 (lit< tt)))
+    (λ c. next (by4 c)) (λ c. omega (arith, (by4 c).loop-test.true)) loop_again
     (λ c. c.before.loop.invariant.1.long) returns)

@@ -11,7 +11,7 @@ use mir.Syntax.{w16, w32}
 use mir.Val.{Fits, SFits, to_z, of_z}
 use borrow.Author.Rules.{rules}
 use Rattle.rules_choosing.specs.Keys.{larger}
-use Rattle.choose_walsh.proofs.Machine.{size-of-first, size-of-next, next-natural, next_under}
+use Rattle.choose_walsh.proofs.Machine.{size_of_first, size_of_next, next_natural, next_under}
 use Rattle.choose_walsh_bytes.proofs.lead_of.Statement.{statement}
 use Rattle.choose_walsh_bytes.proofs.lead_of.Tie as tie
 
@@ -39,14 +39,14 @@ module _ (c : tie.After-max) where
   next = result ∙ c.max.ensures ∙ ap (λ (z : ℤ). larger z (pos 0)) second
 
   -- both are below 2 ^ 15
-  first-natural : T (non_neg (to_z w16 (of_z w16 start.args.first)))
-  first-natural = rw first start.pre.1
+  first_natural : T (non_neg (to_z w16 (of_z w16 start.args.first)))
+  first_natural = rw first start.pre.1
 
   first_below : nat_abs (to_z w16 (of_z w16 start.args.first)) < 32768
   first_below = rw first (below start.args.first (search rules) start.pre.1)
 
   natural : T (non_neg (to_z w16 (of_z w16 c.max.result)))
-  natural = rw next (next-natural start.args.second)
+  natural = rw next (next_natural start.args.second)
 
   under : nat_abs (to_z w16 (of_z w16 c.max.result)) ≤ nat_abs (to_z w16 (of_z w16 start.args.first))
   under = rw (next, first) (next_under start.args.second start.args.first start.pre.1 start.pre.3)
@@ -55,14 +55,14 @@ returns : tie.Need-returns
 returns c =
     let s = start c in
     λ i. s.args.unit
-    * ((ap (λ (z : ℤ). (nat_abs z + 11) / 16) (first c) ∙ size-of-first s.args.first s.pre.1) i
-    - (ap (λ (z : ℤ). (nat_abs z + 11) / 16) (next c) ∙ size-of-next s.args.second s.pre.2) i)
+    * ((ap (λ (z : ℤ). (nat_abs z + 11) / 16) (first c) ∙ size_of_first s.args.first s.pre.1) i
+    - (ap (λ (z : ℤ). (nat_abs z + 11) / 16) (next c) ∙ size_of_next s.args.second s.pre.2) i)
 
-pub lead-of-spec : {M : Type 1} → statement M
-lead-of-spec =
+pub lead_of_spec : {M : Type 1} → statement M
+lead_of_spec =
     tie.close
     (tie.spec (λ c κs. search rules)
-    (λ c. (first-natural c, record { fits = omega (arith, first_below c) }))
+    (λ c. (first_natural c, record { fits = omega (arith, first_below c) }))
     (λ c. record { fits = omega (arith, first_below c) })
     (λ c. (natural c, record { fits = omega (arith, first_below c, under c) }))
     (λ c. record { fits = omega (arith, first_below c, under c) }) (λ c. omega (arith, under c))

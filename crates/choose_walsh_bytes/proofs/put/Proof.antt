@@ -9,74 +9,74 @@ use mir.Syntax.{w16}
 use mir.Val.{to_z, of_z}
 use borrow.Author.Rules.{rules}
 use Rattle.choose_recorded.specs.Recorded.{Put}
-use Rattle.choose_recorded.proofs.Sixteen.{put-none, put-more}
-use Rattle.choose_walsh.specs.Search.{wordOfKey, leadOfKeys}
+use Rattle.choose_recorded.proofs.Sixteen.{put_none, put_more}
+use Rattle.choose_walsh.specs.Search.{word_of_key, lead_of_keys}
 use Rattle.choose_walsh_bytes.proofs.put.Statement.{statement}
 use Rattle.choose_walsh_bytes.proofs.put.Tie as tie
 
-abbrev invariant-loop : tie.invariant-loop
-invariant-loop first second at unit l numbers₀ leads₀ s₀ numbers leads s =
+abbrev invariant_loop : tie.invariant-loop
+invariant_loop first second at unit l numbers₀ leads₀ s₀ numbers leads s =
     (s ≤ 16) × Put (λ j. wordOfKey (get_or first j (pos 0)) (get_or at j 0)) l numbers₀ numbers s
-    × Put (λ j. unit * leadOfKeys (get_or first j (pos 0)) (get_or second j (pos 0))) l leads₀ leads s
+    × Put (λ j. unit * lead_of_keys (get_or first j (pos 0)) (get_or second j (pos 0))) l leads₀ leads s
 
-abbrev decreases-loop : tie.decreases-loop
-decreases-loop first second at unit l numbers₀ leads₀ s₀ numbers leads s = 16 - s
+abbrev decreases_loop : tie.decreases-loop
+decreases_loop first second at unit l numbers₀ leads₀ s₀ numbers leads s = 16 - s
 
 -- the turn that the word is found in, and that the lead is
-module _ (c : tie.After-shared-slice-known2 invariant-loop decreases-loop) where
-  abbrev turn : tie.In-loop invariant-loop decreases-loop
+module _ (c : tie.After-shared-slice-known2 invariant_loop decreases_loop) where
+  abbrev turn : tie.In-loop invariant_loop decreases_loop
   turn = c.before.before
 
-  abbrev start : tie.Start invariant-loop decreases-loop
+  abbrev start : tie.Start invariant_loop decreases_loop
   start = turn.before.before.before
 
-  first-is : to_z w16 (of_z w16 (get_or start.args.first.now turn.before.loop.s (pos 0)))
+  first_is : to_z w16 (of_z w16 (get_or start.args.first.now turn.before.loop.s (pos 0)))
       ≡ get_or start.args.first.now turn.before.loop.s (pos 0)
-  first-is = search rules
+  first_is = search rules
 
-module _ (c : tie.After-lead-of-arg2 invariant-loop decreases-loop) where
-  abbrev word : tie.After-shared-slice-known2 invariant-loop decreases-loop
+module _ (c : tie.After-lead-of-arg2 invariant_loop decreases_loop) where
+  abbrev word : tie.After-shared-slice-known2 invariant_loop decreases_loop
   word = c.before.before.before
 
   second_is : to_z w16 (of_z w16 (get_or (start word).args.second.now (turn word).before.loop.s (pos 0)))
       ≡ get_or (start word).args.second.now (turn word).before.loop.s (pos 0)
   second_is = search rules
 
-word-of-requires : tie.Need-word-of-requires invariant-loop decreases-loop
-word-of-requires c κs =
+word_of_requires : tie.Need-word-of-requires invariant_loop decreases_loop
+word_of_requires c κs =
     let k = (start c).requires.0 in
     let few = (turn c).loop-test.true in
-    (rw (first-is c) (k.key _ few), k.place _ few)
+    (rw (first_is c) (k.key _ few), k.place _ few)
 
-lead-of-requires : tie.Need-lead-of-requires invariant-loop decreases-loop
-lead-of-requires c κs =
+lead_of_requires : tie.Need-lead-of-requires invariant_loop decreases_loop
+lead_of_requires c κs =
     let w = word c in
     let k = (start w).pre.0 in
     let few = (turn w).loop-test.taken in (
       (start w).pre.1,
-      rw (first-is w) (k.key _ few),
+      rw (first_is w) (k.key _ few),
       rw (second_is c) (k.next _ few),
-      rw (second_is c, first-is w) (k.order _ few),
+      rw (second_is c, first_is w) (k.order _ few),
     )
 
-loop-again : tie.Need-loop-preserved invariant-loop decreases-loop
-loop-again c =
+loop_again : tie.Need-loop-preserved invariant_loop decreases_loop
+loop_again c =
     let lead = c.before in
     let w = word lead in
     let at = (turn w).before in
     let s = start w in
     let few = (turn w).loop-test.taken in (
       omega arith,
-      put-more _ (omega (arith, s.pre.2))
+      put_more _ (omega (arith, s.pre.2))
           (lead.before.before.word_of.ensures
-          ∙ ap (λ (z : ℤ). wordOfKey z (get_or s.args.at.now at.loop.s 0)) (first-is w))
+          ∙ ap (λ (z : ℤ). wordOfKey z (get_or s.args.at.now at.loop.s 0)) (first_is w))
           at.loop.inv.1,
-      put-more _ (omega (arith, s.pre.2))
-          (c.lead-of.ensures ∙ (λ i. s.args.unit * leadOfKeys (first-is w i) (second_is lead i)))
+      put_more _ (omega (arith, s.pre.2))
+          (c.lead-of.ensures ∙ (λ i. s.args.unit * lead_of_keys (first_is w i) (second_is lead i)))
           at.loop.inv.2,
     )
 
-returns : tie.Need-returns invariant-loop decreases-loop
+returns : tie.Need-returns invariant_loop decreases_loop
 returns c =
     let all : c.before.loop.s ≡ 16 = omega (arith, c.before.loop.invariant.0) in
     (rw all at c.before.loop.invariant.1, rw all at c.before.loop.invariant.2)
@@ -84,12 +84,12 @@ returns c =
 pub put_spec : {M : Type 1} → statement M
 put_spec =
     tie.close
-    (tie.spec invariant-loop decreases-loop
-    (λ c. (omega arith, put-none _ c.before.requires.3, put-none _ c.before.requires.4)) (λ c. search rules)
-    (λ c. omega (arith, c.before.before.before.requires.0.first-long)) (λ c. search rules)
-    (λ c. omega (arith, c.before.before.before.before.before.requires.0.at_long)) word-of-requires
+    (tie.spec invariant_loop decreases_loop
+    (λ c. (omega arith, put_none _ c.before.requires.3, put_none _ c.before.requires.4)) (λ c. search rules)
+    (λ c. omega (arith, c.before.before.before.requires.0.first_long)) (λ c. search rules)
+    (λ c. omega (arith, c.before.before.before.before.before.requires.0.at_long)) word_of_requires
     (λ c. search rules) (λ c. search rules) (λ c. search rules)
-    (λ c. omega (arith, (start c.before).pre.0.first-long)) (λ c. search rules)
-    (λ c. omega (arith, (start c.before.before).pre.0.second-long)) lead-of-requires
-    (λ c. search rules) (λ c. search rules) (λ c. search rules) (λ c. search rules) (λ c. search rules) loop-again
+    (λ c. omega (arith, (start c.before).pre.0.first_long)) (λ c. search rules)
+    (λ c. omega (arith, (start c.before.before).pre.0.second_long)) lead_of_requires
+    (λ c. search rules) (λ c. search rules) (λ c. search rules) (λ c. search rules) (λ c. search rules) loop_again
     returns)

@@ -8,36 +8,36 @@ use Rattle.choose_walsh.specs.Search.{Sought}
 use Rattle.choose_walsh_bytes.proofs.search.Statement.{statement}
 use Rattle.choose_walsh_bytes.proofs.search.Tie as tie
 
-abbrev invariant-loop : tie.invariant-loop
-invariant-loop a first₀ second₀ at₀ p3₀ first second at p3 = (p3 ≤ 4) × Sought a (4 * p3) first second at
+abbrev invariant_loop : tie.invariant-loop
+invariant_loop a first₀ second₀ at₀ p3₀ first second at p3 = (p3 ≤ 4) × Sought a (4 * p3) first second at
 
-abbrev decreases-loop : tie.decreases-loop
-decreases-loop a first₀ second₀ at₀ p3₀ first second at p3 = 4 - p3
+abbrev decreases_loop : tie.decreases-loop
+decreases_loop a first₀ second₀ at₀ p3₀ first second at p3 = 4 - p3
 
-quarter-requires : tie.Need-quarter-requires invariant-loop decreases-loop
-quarter-requires c κs =
+quarter_requires : tie.Need-quarter-requires invariant_loop decreases_loop
+quarter_requires c κs =
     let turn = c.before.before.before in
     let at = turn.before in
     let pre = at.before.before.requires in
     (pre.0, turn.loop-test.true, pre.1, at.loop.invariant.1)
 
-loop-again : tie.Need-loop-preserved invariant-loop decreases-loop
-loop-again c =
+loop_again : tie.Need-loop-preserved invariant_loop decreases_loop
+loop_again c =
     let quarter = c.before.before.before.before in
     let turn = quarter.before.before.before.before in
     let few = turn.loop-test.true in
     let e : 4 * turn.before.loop.p3 + 4 ≡ 4 * (turn.before.loop.p3 + 1) = omega arith in
     (omega arith, rw e at quarter.quarter.ensures)
 
-returns : tie.Need-returns invariant-loop decreases-loop
+returns : tie.Need-returns invariant_loop decreases_loop
 returns c =
     let inv = c.before.loop.invariant in
     let e : 4 * c.before.loop.p3 ≡ 16 = omega (arith, inv.0, c.loop-test.false) in
     rw e at inv.1
 
-pub search-spec : {M : Type 1} → statement M
-search-spec =
+pub search_spec : {M : Type 1} → statement M
+search_spec =
     tie.close
-    (tie.spec invariant-loop decreases-loop (λ c. (omega arith, c.before.requires.2)) quarter-requires
-    (λ c. search rules) (λ c. search rules) loop-again (λ c. search rules) (λ c. search rules) (λ c. search rules)
+    (tie.spec invariant_loop decreases_loop (λ c. (omega arith, c.before.requires.2)) quarter_requires
+    (λ c. search rules) (λ c. search rules) loop_again (λ c. search rules) (λ c. search rules) (λ c. search rules)
     returns)

@@ -6,29 +6,29 @@ use lib.ListN.{get_or-replicate}
 use lib.IntN.{ℤ, pos, negsuc}
 use lib.Signed.{◌<ℤ◌}
 use borrow.Author.Rules.{rules}
-use Rattle.choose_recorded.proofs.Sixteen.{put-ext}
-use Rattle.choose_walsh.proofs.Stages.{entered-rows, paired-rows}
-use Rattle.choose_walsh.proofs.Search.{sought-none}
+use Rattle.choose_recorded.proofs.Sixteen.{put_ext}
+use Rattle.choose_walsh.proofs.Stages.{entered_rows, paired_rows}
+use Rattle.choose_walsh.proofs.Search.{sought_none}
 use Rattle.choose_walsh.proofs.Chosen.{chosen, led, keyed}
 use Rattle.choose_walsh_counts.proofs.sixteen.Statement.{statement}
 use Rattle.choose_walsh_counts.proofs.sixteen.Tie as tie
 
-pairs-requires : tie.Need-pairs-requires
-pairs-requires c κs =
+pairs_requires : tie.Need-pairs-requires
+pairs_requires c κs =
     let enter = c.before.before.before in
     let e = enter.enter.ensures in
     let s = enter.before.before in
-    (e.long, s.requires.2, entered-rows e s.requires.6)
+    (e.long, s.requires.2, entered_rows e s.requires.6)
 
-search-requires : tie.Need-search-requires
-search-requires c κs =
+search_requires : tie.Need-search-requires
+search_requires c κs =
     let pairs = c.before.before.before.before.before in
     let enter = pairs.before.before.before.before in
     let e = enter.enter.ensures in
     let p = pairs.pairs.ensures in (
       p.long,
-      paired-rows p (entered-rows e enter.before.before.requires.6),
-      sought-none _ _ _ _ refl refl refl
+      paired_rows p (entered_rows e enter.before.before.requires.6),
+      sought_none _ _ _ _ refl refl refl
           (λ l few. subst⁻¹ (λ (z : ℤ). z <ℤ negsuc 0) (get_or-replicate 16 l (negsuc 1) (pos 0) few)
           (record { lt = tt }))
           (λ l few. get_or-replicate 16 l (negsuc 1) (pos 0) few) (λ l few. get_or-replicate 16 l 0 0 few),
@@ -42,8 +42,8 @@ module _ (c : tie.After-search) where
   abbrev enter : tie.After-enter
   enter = pairs.before.before.before.before
 
-put-requires : tie.Need-put-requires
-put-requires c κs =
+put_requires : tie.Need-put-requires
+put_requires c κs =
     let searched = c.before.before.before.before.before.before.before.before in
     let s = (enter searched).before.before in (
       keyed (enter searched).enter.ensures (pairs searched).pairs.ensures searched.search.ensures,
@@ -60,14 +60,14 @@ returns c =
     let f = searched.search.ensures in (
       (e.long, p.long),
       (
-        put-ext c.put.ensures.0 (λ s few. chosen _ _ _ s few e p _ (f.each s few)),
-        put-ext c.put.ensures.1 (λ s few. led _ _ _ s few e p _ (f.each s few)),
+        put_ext c.put.ensures.0 (λ s few. chosen _ _ _ s few e p _ (f.each s few)),
+        put_ext c.put.ensures.1 (λ s few. led _ _ _ s few e p _ (f.each s few)),
       ),
     )
 
-pub sixteen-spec : {M : Type 1} → statement M
-sixteen-spec =
+pub sixteen_spec : {M : Type 1} → statement M
+sixteen_spec =
     tie.close
-    (tie.spec (λ c κs. search rules) pairs-requires (λ c. search rules) (λ c. search rules) (λ c. search rules)
-    search-requires (λ c. search rules) (λ c. search rules) (λ c. search rules) put-requires (λ c. search rules)
+    (tie.spec (λ c κs. search rules) pairs_requires (λ c. search rules) (λ c. search rules) (λ c. search rules)
+    search_requires (λ c. search rules) (λ c. search rules) (λ c. search rules) put_requires (λ c. search rules)
     (λ c. search rules) returns)

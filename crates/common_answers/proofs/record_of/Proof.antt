@@ -4,19 +4,19 @@ use Prim.Native.Nat.{ℕ}
 use mir.Val.{bool_byte}
 use borrow.Author.Rules.{rules}
 use Rattle.rules_rates.specs.Rates.{code_of}
-use Rattle.rules_frame.proofs.Headers.{clock-byte}
+use Rattle.rules_frame.proofs.Headers.{clock_byte}
 use Rattle.rules_calls.specs.declared.Refusal.{Refusal}
 use Rattle.rules_calls.specs.declared.Told.{Told}
 use Rattle.rules_calls.specs.declared.Least.{Least}
 use Rattle.rules_calls.specs.declared.Reading.{Reading}
 use Rattle.rules_calls.specs.declared.Reading.TheVariants.{Refused, Good}
 use Rattle.rules_calls.specs.declared.Record.{Record}
-use Rattle.rules_calls.specs.Answers.{refusalNumber, refusalPlace, refusalLength, recordOf}
+use Rattle.rules_calls.specs.Answers.{refusal_number, refusal_place, refusal_length, record_of}
 use Rattle.common_answers.proofs.record_of.Statement.{statement}
 use Rattle.common_answers.proofs.record_of.Tie as tie
 
 refused : (g : Reading) (e : Refusal) (number place length : ℕ) → g ≡ Refused e
-    → number ≡ refusalNumber e → place ≡ refusalPlace e → length ≡ refusalLength e
+    → number ≡ refusal_number e → place ≡ refusal_place e → length ≡ refusal_length e
     → ◌≡◌ {A = Record}
     (record {
       number = number;
@@ -29,7 +29,7 @@ refused : (g : Reading) (e : Refusal) (number place length : ℕ) → g ≡ Refu
       lead = 0;
       symbol = 0;
     })
-    (recordOf g)
+    (record_of g)
 refused g e number place length q a b c = rw (q, a, b, c)
 
 good : (g : Reading) (t : Told) (code used : ℕ) (least : Least) → g ≡ Good t used least → code ≡ code_of t.rate
@@ -45,20 +45,20 @@ good : (g : Reading) (t : Told) (code used : ℕ) (least : Least) → g ≡ Good
       lead = least.lead;
       symbol = least.symbol;
     })
-    (recordOf g)
-good g t code used least q a = rw (q, a, clock-byte t.clock)
+    (record_of g)
+good g t code used least q a = rw (q, a, clock_byte t.clock)
 
 returns : tie.Need-returns
 returns c =
     refused _ _ _ _ _ c.before.before.before.before.g.given.1 c.before.before.number_of.ensures
-    c.before.place_of.ensures c.length-of.ensures
+    c.before.place_of.ensures c.length_of.ensures
 
-returns-2 : tie.Need-returns-2
-returns-2 c = good _ _ _ _ _ c.before.before.before.g2.given.1 c.before.code.ensures
+returns_2 : tie.Need-returns-2
+returns_2 c = good _ _ _ _ _ c.before.before.before.g2.given.1 c.before.code.ensures
 
-pub record-of-spec : {M : Type 1} → statement M
-record-of-spec =
+pub record_of_spec : {M : Type 1} → statement M
+record_of_spec =
     tie.close
     (tie.spec
     (λ c. search rules) (λ c κs. search rules) (λ c κs. search rules) (λ c κs. search rules) (λ c. search rules)
-    (λ c κs. search rules) (λ c. search rules) returns returns-2)
+    (λ c κs. search rules) (λ c. search rules) returns returns_2)

@@ -2,8 +2,8 @@
 use mathlib.Core.Path.{◌≡◌, sym, ap, ◌∙◌}
 use lib.ListN.{length}
 use borrow.Author.Rules.{rules}
-use Rattle.rules_bits.specs.Bits.{highestFirst}
-use Rattle.rules_calls.proofs.Fields.{last-two}
+use Rattle.rules_bits.specs.Bits.{highest_first}
+use Rattle.rules_calls.proofs.Fields.{last_two}
 use Rattle.common_header.proofs.crc_read.Statement.{statement}
 use Rattle.common_header.proofs.crc_read.Tie as tie
 
@@ -11,7 +11,7 @@ six : (c : tie.Start) → length c.args.t1 ≡ 6
 six c = search rules
 
 returns : tie.Need-returns
-returns c = c.highest-first.ensures ∙ sym (ap highestFirst (last-two _ (six c.before)))
+returns c = c.highest-first.ensures ∙ sym (ap highest_first (last_two _ (six c.before)))
 
-pub crc-read-spec : {M : Type 1} → statement M
-crc-read-spec = tie.close (tie.spec (λ c. search rules) (λ c. search rules) (λ c κs. search rules) returns)
+pub crc_read_spec : {M : Type 1} → statement M
+crc_read_spec = tie.close (tie.spec (λ c. search rules) (λ c. search rules) (λ c κs. search rules) returns)

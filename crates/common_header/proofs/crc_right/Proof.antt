@@ -8,7 +8,7 @@ use mir.Syntax.{w8}
 use mir.Val.{Fits}
 use borrow.Author.Rules.{rules}
 use Rattle.base.specs.Below.{Below}
-use Rattle.rules_calls.proofs.Fields.{two_is, crc-other, crc-same}
+use Rattle.rules_calls.proofs.Fields.{two_is, crc_other, crc_same}
 use Rattle.common_header.proofs.crc_right.Statement.{statement}
 use Rattle.common_header.proofs.crc_right.Tie as tie
 
@@ -22,36 +22,36 @@ fits c i = search rules
 octets : (c : tie.Start) → Below 256 c.args.t1
 octets c = record { at = λ i. (fits c i).fits }
 
-crc-fits : (c : tie.After-crc-octets) (i : ℕ) → Fits w8 (get_or c.crc-octets.result i 0)
-crc-fits c i = search rules
+crc_fits : (c : tie.After-crc-octets) (i : ℕ) → Fits w8 (get_or c.crc-octets.result i 0)
+crc_fits c i = search rules
 
 crcs : (c : tie.After-crc-octets) → Below 256 c.crc-octets.result
-crcs c = record { at = λ i. (crc-fits c i).fits }
+crcs c = record { at = λ i. (crc_fits c i).fits }
 
 returns : tie.Need-returns
 returns c =
     let crc = c.before in
-    crc-other _ (six crc.before) (octets crc.before) crc.crc-octets.result
+    crc_other _ (six crc.before) (octets crc.before) crc.crc-octets.result
     crc.crc-octets.ensures.1 (crcs crc) crc.crc-octets.ensures.0
     (λ e. c.if1.true (ap (λ (l : List ℕ). get_or l 0 0) e))
 
-returns-2 : tie.Need-returns-2
-returns-2 c =
+returns_2 : tie.Need-returns-2
+returns_2 c =
     let crc = c.before.before in
-    crc-other _ (six crc.before) (octets crc.before) crc.crc-octets.result
+    crc_other _ (six crc.before) (octets crc.before) crc.crc-octets.result
     crc.crc-octets.ensures.1 (crcs crc) crc.crc-octets.ensures.0
     (λ e. c.if2.true (ap (λ (l : List ℕ). get_or l 1 0) e))
 
-returns-3 : tie.Need-returns-3
-returns-3 c =
+returns_3 : tie.Need-returns-3
+returns_3 c =
     let crc = c.before.before in
-    crc-same _ (six crc.before) crc.crc-octets.result crc.crc-octets.ensures.0
+    crc_same _ (six crc.before) crc.crc-octets.result crc.crc-octets.ensures.0
     (two_is crc.crc-octets.result crc.crc-octets.ensures.1
     ∙ ap₂ {C = List ℕ} (λ x y. x ∷ y ∷ []) c.before.if1.false c.if2.false)
 
-pub crc-right-spec : {M : Type 1} → statement M
-crc-right-spec =
+pub crc_right_spec : {M : Type 1} → statement M
+crc_right_spec =
     tie.close
     (tie.spec
     (λ c. search rules) (λ c. search rules) (λ c. search rules) (λ c. search rules) (λ c κs. search rules)
-    (λ c. search rules) (λ c. search rules) returns (λ c. search rules) (λ c. search rules) returns-2 returns-3)
+    (λ c. search rules) (λ c. search rules) returns (λ c. search rules) (λ c. search rules) returns_2 returns_3)

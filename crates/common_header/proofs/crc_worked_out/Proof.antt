@@ -3,9 +3,9 @@
 use mathlib.Core.Path.{◌≡◌, sym, ap, ◌∙◌}
 use lib.ListN.{length}
 use borrow.Author.Rules.{rules}
-use Rattle.rules_bits.specs.Bits.{highestFirst, octetBits}
-use Rattle.rules_bits.specs.Crc.{crcBits}
-use Rattle.rules_calls.proofs.Fields.{two_is, first-four}
+use Rattle.rules_bits.specs.Bits.{highest_first, octet_bits}
+use Rattle.rules_bits.specs.Crc.{crc_bits}
+use Rattle.rules_calls.proofs.Fields.{two_is, first_four}
 use Rattle.common_header.proofs.crc_worked_out.Statement.{statement}
 use Rattle.common_header.proofs.crc_worked_out.Tie as tie
 
@@ -16,13 +16,13 @@ returns : tie.Need-returns
 returns c =
     let crc = c.before.crc-octets in
     c.highest-first.ensures
-    ∙ ap highestFirst
-    (sym (ap octetBits (two_is crc.result crc.ensures.1))
+    ∙ ap highest_first
+    (sym (ap octet_bits (two_is crc.result crc.ensures.1))
     ∙ crc.ensures.0
-    ∙ sym (ap crcBits (first-four _ (six c.before.before))))
+    ∙ sym (ap crc_bits (first_four _ (six c.before.before))))
 
-pub crc-worked-out-spec : {M : Type 1} → statement M
-crc-worked-out-spec =
+pub crc_worked_out_spec : {M : Type 1} → statement M
+crc_worked_out_spec =
     tie.close
     (tie.spec
     (λ c. search rules) (λ c. search rules) (λ c. search rules) (λ c. search rules) (λ c κs. search rules)

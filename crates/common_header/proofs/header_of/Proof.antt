@@ -7,8 +7,8 @@ use mir.Syntax.{w8}
 use mir.Val.{Fits}
 use borrow.Author.Rules.{rules}
 use Rattle.base.specs.Below.{Below}
-use Rattle.rules_calls.specs.Headers.{headerOf}
-use Rattle.rules_calls.proofs.Fields.{fields-cut}
+use Rattle.rules_calls.specs.Headers.{header_of}
+use Rattle.rules_calls.proofs.Fields.{fields_cut}
 use Rattle.base.proofs.Tests.{failed, passed}
 use Rattle.common_header.proofs.header_of.Statement.{statement}
 use Rattle.common_header.proofs.header_of.Tie as tie
@@ -24,31 +24,31 @@ octets : (c : tie.Start) → Below 256 c.args.t4
 octets c = record { at = λ i. (fits c i).fits }
 
 returns : tie.Need-returns
-unfolding headerOf
+unfolding header_of
 returns c = rw (failed c.before.before.sfd-right.ensures c.if1.true)
 
-returns-2 : tie.Need-returns-2
-unfolding headerOf
-returns-2 c =
+returns_2 : tie.Need-returns-2
+unfolding header_of
+returns_2 c =
     rw (
       passed c.before.before.before.sfd-right.ensures c.before.if1.false,
       failed c.before.before.crc-right.ensures c.if2.true,
     )
 
-returns-3 : tie.Need-returns-3
-unfolding headerOf
-returns-3 c =
+returns_3 : tie.Need-returns-3
+unfolding header_of
+returns_3 c =
     let two = c.before.before in
     let start = two.before.before.before.before in
     rw (
       passed two.before.before.before.sfd-right.ensures two.before.if1.false,
       passed two.before.before.crc-right.ensures two.if2.false,
     )
-    (fields-cut _ _ _ (six start) (octets start) _ _ c.before.both.ensures.0 c.fields-of.ensures)
+    (fields_cut _ _ _ (six start) (octets start) _ _ c.before.both.ensures.0 c.fields-of.ensures)
 
-pub header-of-spec : {M : Type 1} → statement M
-header-of-spec =
+pub header_of_spec : {M : Type 1} → statement M
+header_of_spec =
     tie.close
     (tie.spec
-    (λ c κs. search rules) (λ c κs. search rules) returns returns-2 (λ c. search rules) (λ c. search rules)
-    (λ c. search rules) (λ c. search rules) (λ c κs. search rules) (λ c κs. search rules) returns-3)
+    (λ c κs. search rules) (λ c κs. search rules) returns returns_2 (λ c. search rules) (λ c. search rules)
+    (λ c. search rules) (λ c. search rules) (λ c κs. search rules) (λ c κs. search rules) returns_3)

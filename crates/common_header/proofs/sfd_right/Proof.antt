@@ -6,7 +6,7 @@ use Prim.Native.Nat.{ℕ}
 use lib.Dec.{eqb}
 use lib.ListN.{length}
 use borrow.Author.Rules.{rules}
-use Rattle.rules_bits.specs.Bits.{number_of, octetBits}
+use Rattle.rules_bits.specs.Bits.{number_of, octet_bits}
 use Rattle.rules_calls.proofs.Fields.{two_is}
 use Rattle.common_header.proofs.sfd_right.Statement.{statement}
 use Rattle.common_header.proofs.sfd_right.Tie as tie
@@ -19,10 +19,10 @@ returns c =
     let start = c.before.before in
     ap₂ {C = Bool} (λ x y. eqb x y)
     (c.before.both.ensures.0
-    ∙ sym (ap (λ (l : List ℕ). number_of (octetBits l)) (two_is start.args.t2 (two start))))
+    ∙ sym (ap (λ (l : List ℕ). number_of (octet_bits l)) (two_is start.args.t2 (two start))))
     c.sfd-of.ensures
 
-pub sfd-right-spec : {M : Type 1} → statement M
-sfd-right-spec =
+pub sfd_right_spec : {M : Type 1} → statement M
+sfd_right_spec =
     tie.close
     (tie.spec (λ c. search rules) (λ c. search rules) (λ c κs. search rules) (λ c κs. search rules) returns)

@@ -8,11 +8,11 @@ use Rattle.common_kinds.proofs.first_line.Tie as tie
 
 returns : tie.Need-returns
 unfolding bits_of
-returns c = rw c.enum_told.given.1 (record { at-phase = refl; past = refl })
+returns c = rw c.enum_told.given.1 (record { at_phase = refl; past = refl })
 
-returns-2 : tie.Need-returns-2
+returns_2 : tie.Need-returns-2
 unfolding bits_of
-returns-2 c = rw c.enum-told2.given.1 (record { at-phase = refl; past = refl })
+returns_2 c = rw c.enum-told2.given.1 (record { at_phase = refl; past = refl })
 
-pub first-line-spec : {M : Type 1} → statement M
-first-line-spec = tie.close (tie.spec (λ c. search rules) (λ c. search rules) returns returns-2)
+pub first_line_spec : {M : Type 1} → statement M
+first_line_spec = tie.close (tie.spec (λ c. search rules) (λ c. search rules) returns returns_2)

@@ -8,14 +8,14 @@ use Rattle.rules_frame.proofs.Sizes.{frame_small}
 use Rattle.common_kinds.proofs.frame_chips.Statement.{statement}
 use Rattle.common_kinds.proofs.frame_chips.Tie as tie
 
-mul-result : tie.Need-overflow-mul-result
-mul-result c =
+mul_result : tie.Need-overflow-mul-result
+mul_result c =
     let start = c.before.before in
     rw c.octet-chips.ensures
     (omega (arith, frame_small start.args.k start.args.r start.args.n start.requires))
 
-add-result : tie.Need-overflow-add-result
-add-result c =
+add_result : tie.Need-overflow-add-result
+add_result c =
     let start = c.before.before in
     rw (c.octet-chips.ensures, c.before.front-chips.ensures)
     (omega (arith, frame_small start.args.k start.args.r start.args.n start.requires))
@@ -24,5 +24,5 @@ returns : tie.Need-returns
 returns c =
     ap₂ {C = ℕ} (λ a b. a + b * c.before.before.args.n) c.before.front-chips.ensures c.octet-chips.ensures
 
-pub frame-chips-spec : {M : Type 1} → statement M
-frame-chips-spec = tie.close (tie.spec (λ c κs. search rules) (λ c κs. search rules) mul-result add-result returns)
+pub frame_chips_spec : {M : Type 1} → statement M
+frame_chips_spec = tie.close (tie.spec (λ c κs. search rules) (λ c κs. search rules) mul_result add_result returns)

@@ -3,5 +3,5 @@ use borrow.Author.Tests.{eq-eqb, ne_eqb}
 use Rattle.common_kinds.proofs.kind_of.Statement.{statement}
 use Rattle.common_kinds.proofs.kind_of.Tie as tie
 
-pub kind-of-spec : {M : Type 1} → statement M
-kind-of-spec = tie.close (tie.spec (λ c. rw (eq-eqb _ _ c.if1.true)) (λ c. rw (ne_eqb _ _ c.if1.false)))
+pub kind_of_spec : {M : Type 1} → statement M
+kind_of_spec = tie.close (tie.spec (λ c. rw (eq-eqb _ _ c.if1.true)) (λ c. rw (ne_eqb _ _ c.if1.false)))

@@ -7,8 +7,8 @@ use Rattle.common_kinds.proofs.preamble_chips.Tie as tie
 returns : tie.Need-returns
 returns c = rw c.enum_told.given.1 refl
 
-returns-2 : tie.Need-returns-2
-returns-2 c = rw c.enum-told2.given.1 refl
+returns_2 : tie.Need-returns-2
+returns_2 c = rw c.enum-told2.given.1 refl
 
-pub preamble-chips-spec : {M : Type 1} → statement M
-preamble-chips-spec = tie.close (tie.spec (λ c. search rules) (λ c. search rules) returns returns-2)
+pub preamble_chips_spec : {M : Type 1} → statement M
+preamble_chips_spec = tie.close (tie.spec (λ c. search rules) (λ c. search rules) returns returns_2)

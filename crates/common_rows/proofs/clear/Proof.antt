@@ -11,17 +11,17 @@ use borrow.Author.Rules.{rules}
 use Rattle.common_rows.proofs.clear.Statement.{statement}
 use Rattle.common_rows.proofs.clear.Tie as tie
 
-abbrev invariant-loop : tie.invariant-loop
-invariant-loop row₀ from i₀ row i = (from ≤ i) × (i ≤ length row₀) × (length row ≡ length row₀)
+abbrev invariant_loop : tie.invariant-loop
+invariant_loop row₀ from i₀ row i = (from ≤ i) × (i ≤ length row₀) × (length row ≡ length row₀)
     × (take i row ≡ take from row₀ ++ replicate (i - from) 0)
 
-abbrev decreases-loop : tie.decreases-loop
-decreases-loop row₀ from i₀ row i = length row₀ - i
+abbrev decreases_loop : tie.decreases-loop
+decreases_loop row₀ from i₀ row i = length row₀ - i
 
 -- one zero more at the end of zeros
-zeros-more : (m : ℕ) → replicate {A = ℕ} m 0 ++ (0 ∷ []) ≡ replicate (suc m) 0
-zeros-more zero = refl
-zeros-more (suc m) = ap (λ (l : List ℕ). 0 ∷ l) (zeros-more m)
+zeros_more : (m : ℕ) → replicate {A = ℕ} m 0 ++ (0 ∷ []) ≡ replicate (suc m) 0
+zeros_more zero = refl
+zeros_more (suc m) = ap (λ (l : List ℕ). 0 ∷ l) (zeros_more m)
 
 turn : (s d : List ℕ) (i from : ℕ) → take i s ≡ take from d ++ replicate (i - from) 0 → i < length s → from ≤ i
     → take (i + 1) (set s i 0) ≡ take from d ++ replicate (i + 1 - from) 0
@@ -30,7 +30,7 @@ turn s d i from e h l =
     rw (n, add-one i)
     (take-suc-set s i 0 h ∙ ap (λ (l : List ℕ). l ++ (0 ∷ [])) e
     ∙ append_assoc (take from d) (replicate (i - from) 0) (0 ∷ [])
-    ∙ ap (λ (l : List ℕ). take from d ++ l) (zeros-more (i - from)))
+    ∙ ap (λ (l : List ℕ). take from d ++ l) (zeros_more (i - from)))
 
 first : (d : List ℕ) (from : ℕ) → take from d ≡ take from d ++ replicate (from - from) 0
 first d from =
@@ -42,8 +42,8 @@ whole : (s d : List ℕ) (i from : ℕ) → take i s ≡ take from d ++ replicat
 whole s d i from e h l =
     sym (take_all i s (omega arith)) ∙ e ∙ ap (λ (k : ℕ). take from d ++ replicate (k - from) 0) h
 
-loop-again : tie.Need-loop-preserved invariant-loop decreases-loop
-loop-again c =
+loop_again : tie.Need-loop-preserved invariant_loop decreases_loop
+loop_again c =
     let loop = c.before.loop in
     let args = c.before.before.args in (
       omega arith,
@@ -52,7 +52,7 @@ loop-again c =
       turn loop.row args.row.now loop.i args.from loop.invariant.3 (omega arith) (omega arith),
     )
 
-returns : tie.Need-returns invariant-loop decreases-loop
+returns : tie.Need-returns invariant_loop decreases_loop
 returns c =
     let loop = c.before.loop in
     let args = c.before.before.args in
@@ -62,6 +62,6 @@ pub clear_spec : {M : Type 1} → statement M
 clear_spec =
     tie.close
     (tie.spec
-    invariant-loop decreases-loop (λ c. (omega arith, omega arith, refl, first c.args.row.now c.args.from))
-    (λ c. search rules) (λ c. search rules) (λ c. omega arith) (λ c. omega arith) loop-again (λ c. search rules)
+    invariant_loop decreases_loop (λ c. (omega arith, omega arith, refl, first c.args.row.now c.args.from))
+    (λ c. search rules) (λ c. search rules) (λ c. omega arith) (λ c. omega arith) loop_again (λ c. search rules)
     returns)

@@ -5,31 +5,31 @@ use Prim.Native.Nat.{◌-◌}
 use native.Mathlib.Omega.{arith}
 use borrow.Author.Rules.{rules}
 use Rattle.base.specs.Tables.{Filled}
-use Rattle.base.proofs.Tables.{filled_none, filled_more, filled-all}
-use Rattle.rules_symbols.proofs.Words.{barkerTurns, turnedAt, turn-mod, barker-filled, barker-turns-phases}
+use Rattle.base.proofs.Tables.{filled_none, filled_more, filled_all}
+use Rattle.rules_symbols.proofs.Words.{barker_turns, turned_at, turn_mod, barker_filled, barker_turns_phases}
 use Rattle.common_words.proofs.barker_word.Statement.{statement}
 use Rattle.common_words.proofs.barker_word.Tie as tie
 
-abbrev invariant-loop : tie.invariant-loop
-invariant-loop p word₀ k₀ word k = Filled (turnedAt p barkerTurns) 11 word k
+abbrev invariant_loop : tie.invariant-loop
+invariant_loop p word₀ k₀ word k = Filled (turned_at p barker_turns) 11 word k
 
-abbrev decreases-loop : tie.decreases-loop
-decreases-loop p word₀ k₀ word k = 11 - k
+abbrev decreases_loop : tie.decreases-loop
+decreases_loop p word₀ k₀ word k = 11 - k
 
-loop-holds : tie.Need-loop-init invariant-loop decreases-loop
-loop-holds c = filled_none _ 11 _ refl
+loop_holds : tie.Need-loop-init invariant_loop decreases_loop
+loop_holds c = filled_none _ 11 _ refl
 
-loop-again : tie.Need-loop-preserved invariant-loop decreases-loop
-loop-again c = filled_more _ c.before.loop.invariant c.loop-test.true (turn-mod _ _)
+loop_again : tie.Need-loop-preserved invariant_loop decreases_loop
+loop_again c = filled_more _ c.before.loop.invariant c.loop-test.true (turn_mod _ _)
 
-add-word : tie.Need-overflow-add-word invariant-loop decreases-loop
-add-word c = omega (arith, barker-turns-phases.at c.before.loop.k)
+add_word : tie.Need-overflow-add-word invariant_loop decreases_loop
+add_word c = omega (arith, barker_turns_phases.at c.before.loop.k)
 
-returns : tie.Need-returns invariant-loop decreases-loop
-returns c = filled-all c.before.loop.invariant c.loop-test.false ∙ barker-filled _
+returns : tie.Need-returns invariant_loop decreases_loop
+returns c = filled_all c.before.loop.invariant c.loop-test.false ∙ barker_filled _
 
-pub barker-word-spec : {M : Type 1} → statement M
-barker-word-spec =
+pub barker_word_spec : {M : Type 1} → statement M
+barker_word_spec =
     tie.close
-    (tie.spec invariant-loop decreases-loop loop-holds (λ c. search rules) add-word (λ c. search rules) (λ c. search rules)
-    (λ c. search rules) loop-again returns)
+    (tie.spec invariant_loop decreases_loop loop_holds (λ c. search rules) add_word (λ c. search rules) (λ c. search rules)
+    (λ c. search rules) loop_again returns)

@@ -8,7 +8,7 @@ returns : tie.Need-returns
 unfolding tabulate
 returns c = cc
 
-pub barker-words-spec : {M : Type 1} → statement M
-barker-words-spec =
+pub barker_words_spec : {M : Type 1} → statement M
+barker_words_spec =
     tie.close
     (tie.spec (λ c κs. search rules) (λ c κs. search rules) (λ c κs. search rules) (λ c κs. search rules) returns)

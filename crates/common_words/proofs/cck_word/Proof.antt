@@ -1,27 +1,27 @@
--- `common_words::cck_word` meets its contract: `cck-sums`. Assumes nothing.
+-- `common_words::cck_word` meets its contract: `cck_sums`. Assumes nothing.
 use mathlib.Core.Path.{refl}
 use native.Mathlib.Omega.{arith}
 use borrow.Author.Rules.{rules}
-use Rattle.common_words.proofs.Octets.{quarters-small, cck-sums}
+use Rattle.common_words.proofs.Octets.{quarters_small, cck_sums}
 use Rattle.common_words.proofs.cck_word.Statement.{statement}
 use Rattle.common_words.proofs.cck_word.Tie as tie
 
-add-t34 : tie.Need-overflow-add-t34
-add-t34 c = omega (arith, (quarters-small _ _ c.quarters.ensures).0)
+add_t34 : tie.Need-overflow-add-t34
+add_t34 c = omega (arith, (quarters_small _ _ c.quarters.ensures).0)
 
-add-t45 : tie.Need-overflow-add-t45
-add-t45 c = omega (arith, (quarters-small _ _ c.quarters.ensures).1)
+add_t45 : tie.Need-overflow-add-t45
+add_t45 c = omega (arith, (quarters_small _ _ c.quarters.ensures).1)
 
 returns : tie.Need-returns
 returns c =
     let start = c.before in
-    cck-sums start.args.p1 start.args.p2 start.args.p3 start.args.p4 _ _ refl
+    cck_sums start.args.p1 start.args.p2 start.args.p3 start.args.p4 _ _ refl
     c.quarters.ensures
 
-pub cck-word-spec : {M : Type 1} → statement M
-cck-word-spec =
+pub cck_word_spec : {M : Type 1} → statement M
+cck_word_spec =
     tie.close
     (tie.spec (λ c. search rules) (λ c. search rules) (λ c. search rules) (λ c. search rules) (λ c. search rules)
     (λ c. search rules) (λ c. search rules) (λ c κs. search rules) (λ c. search rules) (λ c. search rules)
-    (λ c. search rules) (λ c. search rules) add-t34 (λ c. search rules) (λ c. search rules) (λ c. search rules) add-t45
+    (λ c. search rules) (λ c. search rules) add_t34 (λ c. search rules) (λ c. search rules) (λ c. search rules) add_t45
     (λ c. search rules) returns)

@@ -9,8 +9,8 @@ returns : tie.Need-returns
 unfolding quarters
 returns c = refl
 
-pub quarters-spec : {M : Type 1} → statement M
-quarters-spec =
+pub quarters_spec : {M : Type 1} → statement M
+quarters_spec =
     tie.close
     (tie.spec (λ c. search rules) (λ c. search rules) (λ c. search rules) (λ c. search rules) (λ c. search rules)
     (λ c. search rules) (λ c. search rules) (λ c. search rules) returns)

@@ -4,23 +4,23 @@ use mathlib.Core.Logic.{⊎_elim}
 use Prim.Native.Nat.{◌+◌, ◌-◌, ◌≤◌}
 use native.Mathlib.Omega.{arith}
 use Rattle.compare_rows.specs.Left.{Between}
-use Rattle.compare_rows.proofs.Left.{between_none, between-same, between-other, between-to}
+use Rattle.compare_rows.proofs.Left.{between_none, between_same, between_other, between_to}
 use Rattle.compare_rows.proofs.in_block.Statement.{statement}
 use Rattle.compare_rows.proofs.in_block.Tie as tie
 
-abbrev invariant-loop : tie.invariant-loop
-invariant-loop a b at n₀ k₀ n k = (k ≤ 64) × (n ≤ k) × Between a b at (at + k) n
+abbrev invariant_loop : tie.invariant-loop
+invariant_loop a b at n₀ k₀ n k = (k ≤ 64) × (n ≤ k) × Between a b at (at + k) n
 
-abbrev decreases-loop : tie.decreases-loop
-decreases-loop a b at n₀ k₀ n k = 64 - k
+abbrev decreases_loop : tie.decreases-loop
+decreases_loop a b at n₀ k₀ n k = 64 - k
 
-loop-holds : tie.Need-loop-init invariant-loop decreases-loop
-loop-holds c =
+loop_holds : tie.Need-loop-init invariant_loop decreases_loop
+loop_holds c =
     let start = c.args in
     (omega arith, omega arith, between_none start.a.now start.b.now start.at (start.at + 0) (omega arith))
 
-loop-again : tie.Need-loop-preserved invariant-loop decreases-loop
-loop-again c =
+loop_again : tie.Need-loop-preserved invariant_loop decreases_loop
+loop_again c =
     let loop = c.before.before.before.before.loop in
     let start = c.before.before.before.before.before.args in
     let a = start.a.now in
@@ -29,25 +29,25 @@ loop-again c =
       omega arith,
       ⊎_elim (λ w. omega arith) (λ w. omega arith) c.if1.branch,
       ⊎_elim
-          (λ w. between-same a b at (at + loop.k) (at + (loop.k + 1)) c.if1.n loop.n (omega arith)
+          (λ w. between_same a b at (at + loop.k) (at + (loop.k + 1)) c.if1.n loop.n (omega arith)
           (omega arith) (omega arith) (omega arith) w.1 loop.invariant.2)
-          (λ w. between-other a b at (at + loop.k) (at + (loop.k + 1)) c.if1.n loop.n (omega arith)
+          (λ w. between_other a b at (at + loop.k) (at + (loop.k + 1)) c.if1.n loop.n (omega arith)
           (omega arith) (λ e. omega arith) (omega arith) w.1 loop.invariant.2)
           c.if1.branch,
     )
 
-returns : tie.Need-returns invariant-loop decreases-loop
+returns : tie.Need-returns invariant_loop decreases_loop
 returns c =
     let loop = c.before.loop in
     let start = c.before.before.args in
     let at = start.at in (
       omega arith,
-      between-to start.a.now start.b.now at (at + loop.k) (at + 64) loop.n (omega arith) loop.invariant.2,
+      between_to start.a.now start.b.now at (at + loop.k) (at + 64) loop.n (omega arith) loop.invariant.2,
     )
 
-pub in-block-spec : {M : Type 1} → statement M
-in-block-spec =
+pub in_block_spec : {M : Type 1} → statement M
+in_block_spec =
     tie.close
     (tie.spec
-    invariant-loop decreases-loop loop-holds (λ c. omega arith) (λ c. omega arith) (λ c. omega arith) (λ c. omega arith)
-    (λ c. omega arith) (λ c. omega arith) (λ c. omega arith) loop-again returns)
+    invariant_loop decreases_loop loop_holds (λ c. omega arith) (λ c. omega arith) (λ c. omega arith) (λ c. omega arith)
+    (λ c. omega arith) (λ c. omega arith) (λ c. omega arith) loop_again returns)

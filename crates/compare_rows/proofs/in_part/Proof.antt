@@ -4,18 +4,18 @@ use mathlib.Core.Logic.{⊎_elim}
 use Prim.Native.Nat.{◌+◌, ◌-◌, ◌≤◌}
 use native.Mathlib.Omega.{arith}
 use Rattle.compare_rows.specs.Left.{Between}
-use Rattle.compare_rows.proofs.Left.{between_none, between-same, between-other, between-to}
+use Rattle.compare_rows.proofs.Left.{between_none, between_same, between_other, between_to}
 use Rattle.compare_rows.proofs.in_part.Statement.{statement}
 use Rattle.compare_rows.proofs.in_part.Tie as tie
 
-abbrev invariant-loop : tie.invariant-loop
-invariant-loop a b from to n₀ i₀ n i = (from ≤ i) × (i ≤ to) × (n + from ≤ i) × Between a b from i n
+abbrev invariant_loop : tie.invariant-loop
+invariant_loop a b from to n₀ i₀ n i = (from ≤ i) × (i ≤ to) × (n + from ≤ i) × Between a b from i n
 
-abbrev decreases-loop : tie.decreases-loop
-decreases-loop a b from to n₀ i₀ n i = to - i
+abbrev decreases_loop : tie.decreases-loop
+decreases_loop a b from to n₀ i₀ n i = to - i
 
-loop-holds : tie.Need-loop-init invariant-loop decreases-loop
-loop-holds c =
+loop_holds : tie.Need-loop-init invariant_loop decreases_loop
+loop_holds c =
     let start = c.args in (
       omega arith,
       omega arith,
@@ -23,8 +23,8 @@ loop-holds c =
       between_none start.a.now start.b.now start.from start.from (omega arith),
     )
 
-loop-again : tie.Need-loop-preserved invariant-loop decreases-loop
-loop-again c =
+loop_again : tie.Need-loop-preserved invariant_loop decreases_loop
+loop_again c =
     let loop = c.before.before.before.before.loop in
     let start = c.before.before.before.before.before.args in
     let a = start.a.now in
@@ -33,25 +33,25 @@ loop-again c =
       omega arith,
       ⊎_elim (λ w. omega arith) (λ w. omega arith) c.if1.branch,
       ⊎_elim
-          (λ w. between-same a b start.from loop.i (loop.i + 1) c.if1.n loop.n (omega arith)
+          (λ w. between_same a b start.from loop.i (loop.i + 1) c.if1.n loop.n (omega arith)
           (omega arith) (omega arith) (omega arith) w.1 loop.invariant.3)
-          (λ w. between-other a b start.from loop.i (loop.i + 1) c.if1.n loop.n (omega arith)
+          (λ w. between_other a b start.from loop.i (loop.i + 1) c.if1.n loop.n (omega arith)
           (omega arith) (λ e. omega arith) (omega arith) w.1 loop.invariant.3)
           c.if1.branch,
     )
 
-returns : tie.Need-returns invariant-loop decreases-loop
+returns : tie.Need-returns invariant_loop decreases_loop
 returns c =
     let loop = c.before.loop in
     let start = c.before.before.args in (
       omega arith,
-      between-to start.a.now start.b.now start.from loop.i start.to loop.n (omega arith)
+      between_to start.a.now start.b.now start.from loop.i start.to loop.n (omega arith)
           loop.invariant.3,
     )
 
-pub in-part-spec : {M : Type 1} → statement M
-in-part-spec =
+pub in_part_spec : {M : Type 1} → statement M
+in_part_spec =
     tie.close
     (tie.spec
-    invariant-loop decreases-loop loop-holds (λ c. omega arith) (λ c. omega arith) (λ c. omega arith) (λ c. omega arith)
-    (λ c. omega arith) loop-again returns)
+    invariant_loop decreases_loop loop_holds (λ c. omega arith) (λ c. omega arith) (λ c. omega arith) (λ c. omega arith)
+    (λ c. omega arith) loop_again returns)

@@ -7,9 +7,9 @@ use Prim.Native.Nat.{ℕ, ◌-◌, ◌*◌, ◌≤◌, ◌<◌}
 use native.Mathlib.Omega.{arith}
 use lib.ListN.{length, take, replicate}
 use borrow.Author.Rules.{rules}
-use Rattle.rules_compare.specs.Differences.{Difference, differences, entryPlaces, laid}
-use Rattle.rules_compare.proofs.Shown.{laid-fits, laid-zeros}
-use Rattle.compare_rows.proofs.Left.{put-counted, put_then, put_ended}
+use Rattle.rules_compare.specs.Differences.{Difference, differences, entry_places, laid}
+use Rattle.rules_compare.proofs.Shown.{laid_fits, laid_zeros}
+use Rattle.compare_rows.proofs.Left.{put_counted, put_then, put_ended}
 use Rattle.compare_rows.proofs.list.Statement.{statement}
 use Rattle.compare_rows.proofs.list.Tie as tie
 
@@ -17,26 +17,26 @@ use Rattle.compare_rows.proofs.list.Tie as tie
 cleared : (d e : List ℕ) → e ≡ take 0 d ++ replicate (length d - 0) 0 → e ≡ replicate (length d) 0
 cleared d e h = let n : length d - 0 ≡ length d = omega arith in h ∙ ap (λ (k : ℕ). replicate k 0) n
 
-not-fit : (ds : List Difference) (d f e : List ℕ) → length f ≡ length d → length d < 3 * length ds
+not_fit : (ds : List Difference) (d f e : List ℕ) → length f ≡ length d → length d < 3 * length ds
     → e ≡ take 0 f ++ replicate (length f - 0) 0 → e ≡ laid (length d) ds
-not-fit ds d f e l h c =
-    cleared f e c ∙ ap (λ (k : ℕ). replicate k 0) l ∙ sym (laid-zeros (length d) ds h)
+not_fit ds d f e l h c =
+    cleared f e c ∙ ap (λ (k : ℕ). replicate k 0) l ∙ sym (laid_zeros (length d) ds h)
 
 whole : (ds : List Difference) (d e g : List ℕ) (p : ℕ) → p ≡ 3 * length ds → length e ≡ length d
-    → take p e ≡ entryPlaces ds → 3 * length ds ≤ length d → g ≡ take p e ++ replicate (length e - p) 0
+    → take p e ≡ entry_places ds → 3 * length ds ≤ length d → g ≡ take p e ++ replicate (length e - p) 0
     → g ≡ laid (length d) ds
 whole ds d e g p f l t h c =
     let n : length e - p ≡ length d - 3 * length ds = omega (arith, f, l) in
-    c ∙ ap₂ {C = List ℕ} (λ x y. x ++ y) t (ap (λ (k : ℕ). replicate k 0) n) ∙ sym (laid-fits (length d) ds h)
+    c ∙ ap₂ {C = List ℕ} (λ x y. x ++ y) t (ap (λ (k : ℕ). replicate k 0) n) ∙ sym (laid_fits (length d) ds h)
 
-add-result : tie.Need-overflow-add-result
-add-result c =
+add_result : tie.Need-overflow-add-result
+add_result c =
     let count = c.before.before.before.before.before in
     let put = count.before.before.before in
     let shorter = put.before.before.shorter in
     let args = put.before.before.before.before.before.before.args in
     let all =
-    put-counted args.a.now args.b.now put.put-blocks.result.at shorter.result
+    put_counted args.a.now args.b.now put.put-blocks.result.at shorter.result
     count.how-many.result shorter.ensures.2 put.put-blocks.ensures.1 count.how-many.ensures in
     omega (arith, all, shorter.ensures.3)
 
@@ -48,16 +48,16 @@ returns c =
     let args = put.before.before.before.before.before.before.args in
     let done = put.put-blocks.ensures.1 in
     let all =
-    put-counted args.a.now args.b.now put.put-blocks.result.at shorter.result
+    put_counted args.a.now args.b.now put.put-blocks.result.at shorter.result
     count.how-many.result shorter.ensures.2 done count.how-many.ensures in (
       omega (arith, all),
-      not-fit (differences args.a.now args.b.now) args.row.now put.put-blocks.new.1.1.1.0
+      not_fit (differences args.a.now args.b.now) args.row.now put.put-blocks.new.1.1.1.0
           c.before.before.clear.new.0 done.long (omega (arith, all, done.long))
           c.before.before.clear.ensures,
     )
 
-returns-2 : tie.Need-returns-2
-returns-2 c =
+returns_2 : tie.Need-returns-2
+returns_2 c =
     let part = c.before.before.before.before.before.before in
     let count = part.before.before.before in
     let put = count.before.before.before in
@@ -67,7 +67,7 @@ returns-2 c =
     let b = args.b.now in
     let done = put.put-blocks.ensures.1 in
     let all =
-    put-counted a b put.put-blocks.result.at shorter.result count.how-many.result shorter.ensures.2 done
+    put_counted a b put.put-blocks.result.at shorter.result count.how-many.result shorter.ensures.2 done
     count.how-many.ensures in
     let whole-list =
     put_ended a b shorter.result shorter.ensures.2 refl (put_then a b done part.put-part.ensures) in (
@@ -77,8 +77,8 @@ returns-2 c =
           whole-list.2 (omega (arith, all, done.long)) c.before.before.clear2.ensures,
     )
 
-pub list-spec : {M : Type 1} → statement M
-list-spec =
+pub list_spec : {M : Type 1} → statement M
+list_spec =
     tie.close
     (tie.spec (λ c κs. tt) (λ c κs. search rules) (λ c κs. search rules) (λ c. search rules) (λ c κs. search rules)
-    add-result (λ c. search rules) returns (λ c κs. search rules) (λ c κs. search rules) (λ c. search rules) returns-2)
+    add_result (λ c. search rules) returns (λ c κs. search rules) (λ c κs. search rules) (λ c. search rules) returns_2)

@@ -2,7 +2,7 @@
 -- Assumes nothing.
 use native.Mathlib.Omega.{arith}
 use borrow.Author.Rules.{rules}
-use Rattle.compare_rows.proofs.Left.{put-skip}
+use Rattle.compare_rows.proofs.Left.{put_skip}
 use Rattle.compare_rows.proofs.put_block.Statement.{statement}
 use Rattle.compare_rows.proofs.put_block.Tie as tie
 
@@ -10,15 +10,15 @@ returns : tie.Need-returns
 returns c =
     let start = c.before.before.before.before in
     let args = start.args in
-    put-skip args.a.now args.b.now 64 args.at args.row.now args.p args.n (omega arith)
+    put_skip args.a.now args.b.now 64 args.at args.row.now args.p args.n (omega arith)
     (omega arith) (omega arith) start.requires.2
 
-put-part-requires : tie.Need-put-part-requires
-put-part-requires c κs =
+put_part_requires : tie.Need-put-part-requires
+put_part_requires c κs =
     let start = c.before.before.before.before.before in
     let few = start.requires.2 in (omega arith, omega arith, omega arith, omega (arith, few, start.requires.3))
 
-pub put-block-spec : {M : Type 1} → statement M
-put-block-spec =
+pub put_block_spec : {M : Type 1} → statement M
+put_block_spec =
     tie.close
-    (tie.spec returns (λ c. search rules) put-part-requires (λ c. search rules) (λ c. search rules))
+    (tie.spec returns (λ c. search rules) put_part_requires (λ c. search rules) (λ c. search rules))

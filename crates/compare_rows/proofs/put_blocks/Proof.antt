@@ -5,37 +5,37 @@ use native.Mathlib.Omega.{arith}
 use lib.ListN.{length}
 use borrow.Author.Rules.{rules}
 use Rattle.compare_rows.specs.Left.{Put}
-use Rattle.compare_rows.proofs.Left.{put-none, put_then}
+use Rattle.compare_rows.proofs.Left.{put_none, put_then}
 use Rattle.compare_rows.proofs.put_blocks.Statement.{statement}
 use Rattle.compare_rows.proofs.put_blocks.Tie as tie
 
-abbrev invariant-loop : tie.invariant-loop
-invariant-loop a b end row₀ at₀ p₀ row at p = (at ≤ end) × Put a b 0 at row₀ 0 row p × (p ≤ length row₀)
+abbrev invariant_loop : tie.invariant-loop
+invariant_loop a b end row₀ at₀ p₀ row at p = (at ≤ end) × Put a b 0 at row₀ 0 row p × (p ≤ length row₀)
 
-abbrev decreases-loop : tie.decreases-loop
-decreases-loop a b end row₀ at₀ p₀ row at p = end - at
+abbrev decreases_loop : tie.decreases-loop
+decreases_loop a b end row₀ at₀ p₀ row at p = end - at
 
-loop-holds : tie.Need-loop-init invariant-loop decreases-loop
-loop-holds c =
+loop_holds : tie.Need-loop-init invariant_loop decreases_loop
+loop_holds c =
     let args = c.before.before.before.args in
-    (omega arith, put-none args.a.now args.b.now 0 args.row.now 0, omega arith)
+    (omega arith, put_none args.a.now args.b.now 0 args.row.now 0, omega arith)
 
-in-block-requires : tie.Need-in-block-requires invariant-loop decreases-loop
-in-block-requires c κs = (omega arith, omega arith)
+in_block_requires : tie.Need-in-block-requires invariant_loop decreases_loop
+in_block_requires c κs = (omega arith, omega arith)
 
-sub-if1 : tie.Need-overflow-sub-if1 invariant-loop decreases-loop
-sub-if1 c = let put = c.before.before.loop.invariant in omega (arith, put.1.long, put.2)
+sub_if1 : tie.Need-overflow-sub-if1 invariant_loop decreases_loop
+sub_if1 c = let put = c.before.before.loop.invariant in omega (arith, put.1.long, put.2)
 
-returns : tie.Need-returns invariant-loop decreases-loop
+returns : tie.Need-returns invariant_loop decreases_loop
 returns c = c.before.before.before.loop.invariant
 
-put-block-requires : tie.Need-put-block-requires invariant-loop decreases-loop
-put-block-requires c κs =
+put_block_requires : tie.Need-put-block-requires invariant_loop decreases_loop
+put_block_requires c κs =
     let put = c.before.before.before.before.loop.invariant in
     (omega arith, omega arith, c.before.before.in_block.ensures.1, omega (arith, put.1.long, put.2))
 
-loop-again : tie.Need-loop-preserved invariant-loop decreases-loop
-loop-again c =
+loop_again : tie.Need-loop-preserved invariant_loop decreases_loop
+loop_again c =
     let args = c.before.before.before.before.before.before.before.before.before.before.before.args in
     let loop = c.before.before.before.before.before.before.before.loop in
     let counted = c.before.before.before.before.before.in_block.ensures.1 in
@@ -45,13 +45,13 @@ loop-again c =
       omega (arith, put.room, counted, loop.invariant.1.long, loop.invariant.2),
     )
 
-returns-2 : tie.Need-returns-2 invariant-loop decreases-loop
-returns-2 c = c.before.loop.invariant
+returns_2 : tie.Need-returns-2 invariant_loop decreases_loop
+returns_2 c = c.before.loop.invariant
 
-pub put-blocks-spec : {M : Type 1} → statement M
-put-blocks-spec =
+pub put_blocks_spec : {M : Type 1} → statement M
+put_blocks_spec =
     tie.close
     (tie.spec
-    invariant-loop decreases-loop loop-holds (λ c. omega arith) in-block-requires (λ c. omega (arith, c.in_block.ensures.0))
-    sub-if1 (λ c. omega (arith, c.in_block.ensures.0)) (λ c. search rules) returns put-block-requires
-    (λ c. omega arith) (λ c. omega arith) loop-again (λ c. search rules) returns-2)
+    invariant_loop decreases_loop loop_holds (λ c. omega arith) in_block_requires (λ c. omega (arith, c.in_block.ensures.0))
+    sub_if1 (λ c. omega (arith, c.in_block.ensures.0)) (λ c. search rules) returns put_block_requires
+    (λ c. omega arith) (λ c. omega arith) loop_again (λ c. search rules) returns_2)

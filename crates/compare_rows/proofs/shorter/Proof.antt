@@ -11,17 +11,17 @@ use lib.ListN.{length}
 use Rattle.rules_compare.specs.Differences.{differences}
 use Rattle.rules_compare.proofs.Entries.{left_ended}
 use Rattle.rules_compare.proofs.Pairs.{fewest}
-use Rattle.compare_rows.specs.Left.{leftOver}
+use Rattle.compare_rows.specs.Left.{left_over}
 use Rattle.compare_rows.proofs.shorter.Statement.{statement}
 use Rattle.compare_rows.proofs.shorter.Tie as tie
 
 first : (a b : List ℕ) → length a < length b
-    → (length a ≤ length a) × (length a ≤ length b) × (leftOver a b (length a) ≡ 0)
+    → (length a ≤ length a) × (length a ≤ length b) × (left_over a b (length a) ≡ 0)
     × (length (differences a b) ≤ length a)
 first a b h = (le_refl _, omega arith, ap length (left_ended a b (length a) (inl (le_refl _))), (fewest a b).0)
 
 second : (a b : List ℕ) → length b ≤ length a
-    → (length b ≤ length a) × (length b ≤ length b) × (leftOver a b (length b) ≡ 0)
+    → (length b ≤ length a) × (length b ≤ length b) × (left_over a b (length b) ≡ 0)
     × (length (differences a b) ≤ length b)
 second a b h = (h, le_refl _, ap length (left_ended a b (length b) (inr (le_refl _))), (fewest a b).1)
 

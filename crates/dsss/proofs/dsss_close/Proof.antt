@@ -71,23 +71,23 @@ Says h octets r octets' = ReceiverCloses h octets r.receiver r.answer octets'
 module _ {M : Type 1} {𝓤 : Ura M} (𝓛 : Logic 𝓤) (at_mem : Memory → SProp 𝓤) (run : Routine → Fun 𝓤) (κ₀ κ₁ : Lft) (q₀ q₁ : Share) (b o : ℕ) (γ : GName) (h : Receiver) (b-octets o-octets : ℕ) (γ-octets : GName) (octets : List ℕ) where
   open 𝓛 use {H}
 
-  abbrev x-octets : MutBor (List ℕ)
-  x-octets = record { ref_ptr = (b-octets, o-octets); ghost_name = γ-octets; now = octets }
+  abbrev x_octets : MutBor (List ℕ)
+  x_octets = record { ref_ptr = (b-octets, o-octets); ghost_name = γ-octets; now = octets }
 
-  abbrev s-octets : Val
-  s-octets = slice_val (b-octets, o-octets) (length octets)
+  abbrev s_octets : Val
+  s_octets = slice_val (b-octets, o-octets) (length octets)
 
   abbrev Arg : Type 0
   Arg = MutBor Receiver × (MutBor (List ℕ) × Unit {0})
 
   abbrev a : Arg
-  a = (record { ref_ptr = (b, o); ghost_name = γ; now = h }, (x-octets, tt))
+  a = (record { ref_ptr = (b, o); ghost_name = γ; now = h }, (x_octets, tt))
 
   abbrev Vs : Type 0
   Vs = List Val × (List Val × Unit {0})
 
   abbrev vals : Vs
-  vals = (vptr b o ∷ [], (s-octets ∷ [], tt))
+  vals = (vptr b o ∷ [], (s_octets ∷ [], tt))
 
   -- the machine value of a state
   abbrev mach : Receiver → Val
@@ -104,10 +104,10 @@ module _ {M : Type 1} {𝓤 : Ura M} (𝓛 : Logic 𝓤) (at_mem : Memory → SP
   Arg' = Receiver × (MutBor (List ℕ) × Unit {0})
 
   abbrev a' : Arg'
-  a' = (h, (x-octets, tt))
+  a' = (h, (x_octets, tt))
 
   abbrev vals' : Vs
-  vals' = (mach h ∷ [], (s-octets ∷ [], tt))
+  vals' = (mach h ∷ [], (s_octets ∷ [], tt))
 
   abbrev to : (Called 𝓛 at_mem run).Ghost
   to = (((κ₁, tt), (q₁, tt), tt, a', vals'), tt)
@@ -123,9 +123,9 @@ module _ {M : Type 1} {𝓤 : Ura M} (𝓛 : Logic 𝓤) (at_mem : Memory → SP
       move ! (2 ∷ 3 ∷ []) $ join ! $ frame ! $ feq_i ! (List Val) (vptr b o ∷ []) (vptr b o ∷ []) refl $ fjoin3 ! $ nothing ! $ move ! (2 ∷ 0 ∷ []) $ fjoin ! $ move ! (1 ∷ 0 ∷ []) $ fjoin ! $ owned ! O.the_row (Is O.the_row) (LL.makes O.the_type O'.the_plain 𝓛) r.answer (answer r ∷ []) is $ move ! (1 ∷ 0 ∷ []) $ done !
 
   module _ (C : Calls 𝓤 H) (Λ : Loops 𝓤 H) (fm : FmC 𝓤 H 𝓛.laws C) (known : Triple 𝓤 (C #receive_calls·close-in) (Called 𝓛 at_mem run)) where
-    walk : Room u8 (length octets) → ent 𝓤 (on_entry 𝓛 dsss-close.signature (κ₀, (κ₁, tt)) (q₀, (q₁, tt)) a vals) (WpFn 𝓤 H C Λ code.function (vptr b o ∷ s-octets ∷ []) Post)
+    walk : Room u8 (length octets) → ent 𝓤 (on_entry 𝓛 dsss-close.signature (κ₀, (κ₁, tt)) (q₀, (q₁, tt)) a vals) (WpFn 𝓤 H C Λ code.function (vptr b o ∷ s_octets ∷ []) Post)
     walk octets-room =
-        qed 𝓛 ((‵ (flft κ₀ q₀) ⊛ ‵ (flft κ₁ q₁) ⊛ ‵ ftrue) ∷ ‵ (owns (MutRef (named 0) κ₀ T.the_row ∷ MutSlice (named 1) κ₁ u8 ∷ []) a vals) ∷ []) ∵ enter ! C Λ code.function (vptr b o ∷ s-octets ∷ []) _ $
+        qed 𝓛 ((‵ (flft κ₀ q₀) ⊛ ‵ (flft κ₁ q₁) ⊛ ‵ ftrue) ∷ ‵ (owns (MutRef (named 0) κ₀ T.the_row ∷ MutSlice (named 1) κ₁ u8 ∷ []) a vals) ∷ []) ∵ enter ! C Λ code.function (vptr b o ∷ s_octets ∷ []) _ $
         alloc1 ! (λ l₀. alloc1 ! (λ l₁. alloc1 ! (λ l₂. alloc1 ! (λ l₃. alloc1 ! (λ l₄. alloc1 ! (λ l₅. alloc1 ! (λ l₆. alloc0 ! $ params1 ! $
         pass1 ! (init ! 10 refl (tt, tt)) $ pass1 ! (init ! 8 refl (tt, (tt, (record { fits = octets-room.0 }, tt)))) $ pass0 ! $
         -- the borrow of the state is opened
@@ -159,22 +159,22 @@ module _ {M : Type 1} {𝓤 : Ura M} (𝓛 : Logic 𝓤) (at_mem : Memory → SP
 module _ {M : Type 1} {𝓤 : Ura M} (𝓛 : Logic 𝓤) (mem : Memory → SProp 𝓤) (run : Routine → Fun 𝓤) where
   open 𝓛 use {H}
 
-  dsss-close-walks : (C : Calls 𝓤 H) (Λ : Loops 𝓤 H) → FmC 𝓤 H 𝓛.laws C → Triple 𝓤 (C #receive_calls·close-in) (Called 𝓛 mem run) → Walks 𝓛 dsss-close.ended stayed (WpFn 𝓤 H C Λ code.function) (dsss-close.clauses 𝓛 mem run)
-  dsss-close-walks C Λ fm known = walked 𝓛 dsss-close.ended stayed (dsss-close.clauses 𝓛 mem run) (WpFn 𝓤 H C Λ code.function) (λ κs. (mut_vals, (mut_slice_vals, tt)))
+  dsss_close_walks : (C : Calls 𝓤 H) (Λ : Loops 𝓤 H) → FmC 𝓤 H 𝓛.laws C → Triple 𝓤 (C #receive_calls·close-in) (Called 𝓛 mem run) → Walks 𝓛 dsss-close.ended stayed (WpFn 𝓤 H C Λ code.function) (dsss-close.clauses 𝓛 mem run)
+  dsss_close_walks C Λ fm known = walked 𝓛 dsss-close.ended stayed (dsss-close.clauses 𝓛 mem run) (WpFn 𝓤 H C Λ code.function) (λ κs. (mut_vals, (mut_slice_vals, tt)))
       (λ κs. (mut_Tells (named 0) κs.0 T.the_row, (mut_slice_Tells (named 1) κs.1.0 u8, tt)))
       (λ κs qs bounds a _ are. via 𝓤 _ (fst∗ 𝓤 _ (emp 𝓤))
       (walk 𝓛 mem run κs.0 κs.1.0 qs.0 qs.1.0 a.0.ref_ptr.0 a.0.ref_ptr.1 a.0.ghost_name a.0.now a.1.0.ref_ptr.0 a.1.0.ref_ptr.1 a.1.0.ghost_name a.1.0.now C Λ fm known are.1.0.0.1))
 
-dsss-close-meets : {M : Type 1} {𝓤 : Ura M} (𝓛 : Logic 𝓤) (mem : Memory → SProp 𝓤) (run : Routine → Fun 𝓤) (𝓣 : Tables 𝓤 𝓛.H)
+dsss_close_meets : {M : Type 1} {𝓤 : Ura M} (𝓛 : Logic 𝓤) (mem : Memory → SProp 𝓤) (run : Routine → Fun 𝓤) (𝓣 : Tables 𝓤 𝓛.H)
     → Triple 𝓤 (𝓣.C #receive_calls·close-in) (Called 𝓛 mem run) → Meets 𝓛 dsss-close.signature (WpFn 𝓤 𝓛.H 𝓣.C 𝓣.Λ code.function) (dsss-close.spec 𝓛 mem run)
-dsss-close-meets {𝓤 = 𝓤} 𝓛 mem run 𝓣 known =
+dsss_close_meets {𝓤 = 𝓤} 𝓛 mem run 𝓣 known =
     walk_Meets 𝓛 dsss-close.ended stayed (Goes-ref 𝓛 2 0 tt (plain (λ _. T.the_row)), (Goes-gave_slice 𝓛 2 1 tt (plain (λ _. u8)), tt))
-    (dsss-close.clauses 𝓛 mem run) (WpFn 𝓤 𝓛.H 𝓣.C 𝓣.Λ code.function) (WpFn-mono 𝓤 𝓛.H 𝓛.laws 𝓣 code.function) (dsss-close-walks 𝓛 mem run 𝓣.C 𝓣.Λ (fm_of 𝓤 𝓛.H 𝓛.laws 𝓣) known)
+    (dsss-close.clauses 𝓛 mem run) (WpFn 𝓤 𝓛.H 𝓣.C 𝓣.Λ code.function) (WpFn-mono 𝓤 𝓛.H 𝓛.laws 𝓣 code.function) (dsss_close_walks 𝓛 mem run 𝓣.C 𝓣.Λ (fm_of 𝓤 𝓛.H 𝓛.laws 𝓣) known)
 
-pub dsss-close-spec : {M : Type 1} → stated.statement M
+pub dsss_close_spec : {M : Type 1} → stated.statement M
 unfolding code.routine tables_of
-dsss-close-spec 𝓤 𝓛 𝓜 𝓡 =
+dsss_close_spec 𝓤 𝓛 𝓜 𝓡 =
     entered 𝓤 𝓛.H (triple_of 𝓛 dsss-close.signature (dsss-close.spec 𝓛 𝓜.mem 𝓡.run))
     (tables 𝓤 𝓛.H 𝓜 𝓡 code.env).C (tables 𝓤 𝓛.H 𝓜 𝓡 code.env).Λ #dsss·dsss-close code.function (code.unfolded 𝓤 𝓛.H 𝓜 𝓡)
-    (dsss-close-meets 𝓛 𝓜.mem 𝓡.run (tables_of 𝓤 𝓛.H 𝓜 (tables 𝓤 𝓛.H 𝓜 𝓡 code.env))
+    (dsss_close_meets 𝓛 𝓜.mem 𝓡.run (tables_of 𝓤 𝓛.H 𝓜 (tables 𝓤 𝓛.H 𝓜 𝓡 code.env))
     (cited 𝓤 𝓛.H (Called 𝓛 𝓜.mem 𝓡.run) 𝓜 𝓡 code.env #receive_calls·close-in close-in-def.routine code.calls-receive-calls::close-in (close-in-thm.met 𝓤 𝓛 𝓜 𝓡)))

@@ -70,29 +70,29 @@ Says h octets chips r octets' = ReceiverFeeds h octets chips r.receiver r.answer
 module _ {M : Type 1} {𝓤 : Ura M} (𝓛 : Logic 𝓤) (at_mem : Memory → SProp 𝓤) (run : Routine → Fun 𝓤) (κ₀ κ₁ κ₂ : Lft) (q₀ q₁ q₂ : Share) (b o : ℕ) (γ : GName) (h : Receiver) (b-octets o-octets : ℕ) (γ-octets : GName) (octets : List ℕ) (b-chips o-chips : ℕ) (γ-chips : GName) (chips : List ℕ) where
   open 𝓛 use {H}
 
-  abbrev x-octets : MutBor (List ℕ)
-  x-octets = record { ref_ptr = (b-octets, o-octets); ghost_name = γ-octets; now = octets }
+  abbrev x_octets : MutBor (List ℕ)
+  x_octets = record { ref_ptr = (b-octets, o-octets); ghost_name = γ-octets; now = octets }
 
-  abbrev s-octets : Val
-  s-octets = slice_val (b-octets, o-octets) (length octets)
+  abbrev s_octets : Val
+  s_octets = slice_val (b-octets, o-octets) (length octets)
 
-  abbrev x-chips : Bor (List ℕ)
-  x-chips = record { ref_ptr = (b-chips, o-chips); ghost_name = γ-chips; now = chips }
+  abbrev x_chips : Bor (List ℕ)
+  x_chips = record { ref_ptr = (b-chips, o-chips); ghost_name = γ-chips; now = chips }
 
-  abbrev s-chips : Val
-  s-chips = slice_val (b-chips, o-chips) (length chips)
+  abbrev s_chips : Val
+  s_chips = slice_val (b-chips, o-chips) (length chips)
 
   abbrev Arg : Type 0
   Arg = Bor Receiver × (Bor (List ℕ) × (Bor (List ℕ) × Unit {0}))
 
   abbrev a : Arg
-  a = (record { ref_ptr = (b, o); ghost_name = γ; now = h }, (x-octets, (x-chips, tt)))
+  a = (record { ref_ptr = (b, o); ghost_name = γ; now = h }, (x_octets, (x_chips, tt)))
 
   abbrev Vs : Type 0
   Vs = List Val × (List Val × (List Val × Unit {0}))
 
   abbrev vals : Vs
-  vals = (vptr b o ∷ [], (s-octets ∷ [], (s-chips ∷ [], tt)))
+  vals = (vptr b o ∷ [], (s_octets ∷ [], (s_chips ∷ [], tt)))
 
   -- the machine value of a state
   abbrev mach : Receiver → Val
@@ -109,10 +109,10 @@ module _ {M : Type 1} {𝓤 : Ura M} (𝓛 : Logic 𝓤) (at_mem : Memory → SP
   Arg' = Receiver × (Bor (List ℕ) × (Bor (List ℕ) × Unit {0}))
 
   abbrev a' : Arg'
-  a' = (h, (x-octets, (x-chips, tt)))
+  a' = (h, (x_octets, (x_chips, tt)))
 
   abbrev vals' : Vs
-  vals' = (mach h ∷ [], (s-octets ∷ [], (s-chips ∷ [], tt)))
+  vals' = (mach h ∷ [], (s_octets ∷ [], (s_chips ∷ [], tt)))
 
   abbrev to : (Called 𝓛 at_mem run).Ghost
   to = (((κ₁, (κ₂, tt)), (q₁, (q₂, tt)), tt, a', vals'), tt)
@@ -128,9 +128,9 @@ module _ {M : Type 1} {𝓤 : Ura M} (𝓛 : Logic 𝓤) (at_mem : Memory → SP
       move ! (2 ∷ 3 ∷ []) $ join ! $ frame ! $ feq_i ! (List Val) (vptr b o ∷ []) (vptr b o ∷ []) refl $ fjoin3 ! $ nothing ! $ nothing ! $ fjoin ! $ move ! (2 ∷ 0 ∷ []) $ fjoin ! $ move ! (1 ∷ 0 ∷ []) $ fjoin ! $ owned ! u64 (Is u64) (uint_Makes 𝓛 w64) r.answer _ (refl, is) $ move ! (1 ∷ 0 ∷ []) $ done !
 
   module _ (C : Calls 𝓤 H) (Λ : Loops 𝓤 H) (fm : FmC 𝓤 H 𝓛.laws C) (known : Triple 𝓤 (C #receive_calls·feed-in) (Called 𝓛 at_mem run)) where
-    walk : Room u8 (length octets) → Room u8 (length chips) → ent 𝓤 (on_entry 𝓛 dsss-feed.signature (κ₀, (κ₁, (κ₂, tt))) (q₀, (q₁, (q₂, tt))) a vals) (WpFn 𝓤 H C Λ code.function (vptr b o ∷ s-octets ∷ s-chips ∷ []) Post)
+    walk : Room u8 (length octets) → Room u8 (length chips) → ent 𝓤 (on_entry 𝓛 dsss-feed.signature (κ₀, (κ₁, (κ₂, tt))) (q₀, (q₁, (q₂, tt))) a vals) (WpFn 𝓤 H C Λ code.function (vptr b o ∷ s_octets ∷ s_chips ∷ []) Post)
     walk octets-room chips-room =
-        qed 𝓛 ((‵ (flft κ₀ q₀) ⊛ ‵ (flft κ₁ q₁) ⊛ ‵ (flft κ₂ q₂) ⊛ ‵ ftrue) ∷ ‵ (owns (MutRef (named 0) κ₀ T.the_row ∷ MutSlice (named 1) κ₁ u8 ∷ ShrSlice (named 2) κ₂ u8 ∷ []) a vals) ∷ []) ∵ enter ! C Λ code.function (vptr b o ∷ s-octets ∷ s-chips ∷ []) _ $
+        qed 𝓛 ((‵ (flft κ₀ q₀) ⊛ ‵ (flft κ₁ q₁) ⊛ ‵ (flft κ₂ q₂) ⊛ ‵ ftrue) ∷ ‵ (owns (MutRef (named 0) κ₀ T.the_row ∷ MutSlice (named 1) κ₁ u8 ∷ ShrSlice (named 2) κ₂ u8 ∷ []) a vals) ∷ []) ∵ enter ! C Λ code.function (vptr b o ∷ s_octets ∷ s_chips ∷ []) _ $
         alloc1 ! (λ l₀. alloc1 ! (λ l₁. alloc1 ! (λ l₂. alloc1 ! (λ l₃. alloc1 ! (λ l₄. alloc1 ! (λ l₅. alloc1 ! (λ l₆. alloc1 ! (λ l₇. alloc0 ! $ params1 ! $
         pass1 ! (init ! 12 refl (tt, tt)) $ pass1 ! (init ! 10 refl (tt, (tt, (record { fits = octets-room.0 }, tt)))) $ pass1 ! (init ! 8 refl (tt, (tt, (record { fits = chips-room.0 }, tt)))) $ pass0 ! $
         -- the borrow of the state is opened
@@ -164,22 +164,22 @@ module _ {M : Type 1} {𝓤 : Ura M} (𝓛 : Logic 𝓤) (at_mem : Memory → SP
 module _ {M : Type 1} {𝓤 : Ura M} (𝓛 : Logic 𝓤) (mem : Memory → SProp 𝓤) (run : Routine → Fun 𝓤) where
   open 𝓛 use {H}
 
-  dsss-feed-walks : (C : Calls 𝓤 H) (Λ : Loops 𝓤 H) → FmC 𝓤 H 𝓛.laws C → Triple 𝓤 (C #receive_calls·feed-in) (Called 𝓛 mem run) → Walks 𝓛 dsss-feed.ended stayed (WpFn 𝓤 H C Λ code.function) (dsss-feed.clauses 𝓛 mem run)
-  dsss-feed-walks C Λ fm known = walked 𝓛 dsss-feed.ended stayed (dsss-feed.clauses 𝓛 mem run) (WpFn 𝓤 H C Λ code.function) (λ κs. (shr_vals, (shr_slice_vals, (shr_slice_vals, tt))))
+  dsss_feed_walks : (C : Calls 𝓤 H) (Λ : Loops 𝓤 H) → FmC 𝓤 H 𝓛.laws C → Triple 𝓤 (C #receive_calls·feed-in) (Called 𝓛 mem run) → Walks 𝓛 dsss-feed.ended stayed (WpFn 𝓤 H C Λ code.function) (dsss-feed.clauses 𝓛 mem run)
+  dsss_feed_walks C Λ fm known = walked 𝓛 dsss-feed.ended stayed (dsss-feed.clauses 𝓛 mem run) (WpFn 𝓤 H C Λ code.function) (λ κs. (shr_vals, (shr_slice_vals, (shr_slice_vals, tt))))
       (λ κs. (mut_Tells (named 0) κs.0 T.the_row, (mut_slice_Tells (named 1) κs.1.0 u8, (shr_slice_Tells (named 2) κs.1.1.0 u8, tt))))
       (λ κs qs bounds a _ are. via 𝓤 _ (fst∗ 𝓤 _ (emp 𝓤))
       (walk 𝓛 mem run κs.0 κs.1.0 κs.1.1.0 qs.0 qs.1.0 qs.1.1.0 a.0.ref_ptr.0 a.0.ref_ptr.1 a.0.ghost_name a.0.now a.1.0.ref_ptr.0 a.1.0.ref_ptr.1 a.1.0.ghost_name a.1.0.now a.1.1.0.ref_ptr.0 a.1.1.0.ref_ptr.1 a.1.1.0.ghost_name a.1.1.0.now C Λ fm known are.1.0.0.1 are.1.1.0.0.1))
 
-dsss-feed-meets : {M : Type 1} {𝓤 : Ura M} (𝓛 : Logic 𝓤) (mem : Memory → SProp 𝓤) (run : Routine → Fun 𝓤) (𝓣 : Tables 𝓤 𝓛.H)
+dsss_feed_meets : {M : Type 1} {𝓤 : Ura M} (𝓛 : Logic 𝓤) (mem : Memory → SProp 𝓤) (run : Routine → Fun 𝓤) (𝓣 : Tables 𝓤 𝓛.H)
     → Triple 𝓤 (𝓣.C #receive_calls·feed-in) (Called 𝓛 mem run) → Meets 𝓛 dsss-feed.signature (WpFn 𝓤 𝓛.H 𝓣.C 𝓣.Λ code.function) (dsss-feed.spec 𝓛 mem run)
-dsss-feed-meets {𝓤 = 𝓤} 𝓛 mem run 𝓣 known =
+dsss_feed_meets {𝓤 = 𝓤} 𝓛 mem run 𝓣 known =
     walk_Meets 𝓛 dsss-feed.ended stayed (Goes-ref 𝓛 3 0 tt (plain (λ _. T.the_row)), (Goes-gave_slice 𝓛 3 1 tt (plain (λ _. u8)), (Goes-dropped 𝓛 3 (shr_slice_of (2 ∷ []) tt (plain (λ _. u8))) yes (λ κs x f. refl), tt)))
-    (dsss-feed.clauses 𝓛 mem run) (WpFn 𝓤 𝓛.H 𝓣.C 𝓣.Λ code.function) (WpFn-mono 𝓤 𝓛.H 𝓛.laws 𝓣 code.function) (dsss-feed-walks 𝓛 mem run 𝓣.C 𝓣.Λ (fm_of 𝓤 𝓛.H 𝓛.laws 𝓣) known)
+    (dsss-feed.clauses 𝓛 mem run) (WpFn 𝓤 𝓛.H 𝓣.C 𝓣.Λ code.function) (WpFn-mono 𝓤 𝓛.H 𝓛.laws 𝓣 code.function) (dsss_feed_walks 𝓛 mem run 𝓣.C 𝓣.Λ (fm_of 𝓤 𝓛.H 𝓛.laws 𝓣) known)
 
-pub dsss-feed-spec : {M : Type 1} → stated.statement M
+pub dsss_feed_spec : {M : Type 1} → stated.statement M
 unfolding code.routine tables_of
-dsss-feed-spec 𝓤 𝓛 𝓜 𝓡 =
+dsss_feed_spec 𝓤 𝓛 𝓜 𝓡 =
     entered 𝓤 𝓛.H (triple_of 𝓛 dsss-feed.signature (dsss-feed.spec 𝓛 𝓜.mem 𝓡.run))
     (tables 𝓤 𝓛.H 𝓜 𝓡 code.env).C (tables 𝓤 𝓛.H 𝓜 𝓡 code.env).Λ #dsss·dsss-feed code.function (code.unfolded 𝓤 𝓛.H 𝓜 𝓡)
-    (dsss-feed-meets 𝓛 𝓜.mem 𝓡.run (tables_of 𝓤 𝓛.H 𝓜 (tables 𝓤 𝓛.H 𝓜 𝓡 code.env))
+    (dsss_feed_meets 𝓛 𝓜.mem 𝓡.run (tables_of 𝓤 𝓛.H 𝓜 (tables 𝓤 𝓛.H 𝓜 𝓡 code.env))
     (cited 𝓤 𝓛.H (Called 𝓛 𝓜.mem 𝓡.run) 𝓜 𝓡 code.env #receive_calls·feed-in feed-in-def.routine code.calls-receive-calls::feed-in (feed-in-thm.met 𝓤 𝓛 𝓜 𝓡)))

@@ -4,9 +4,9 @@ use mathlib.Core.List.{List}
 use Prim.Native.Nat.{ℕ}
 use borrow.Author.Rules.{rules}
 use Rattle.base.proofs.Over.{lent}
-use Rattle.rules_chips.specs.Chips.{hardRecording}
-use Rattle.rules_chips.proofs.Recorders.{drop-hard}
-use Rattle.rules_reading.specs.Reading.{frontOf}
+use Rattle.rules_chips.specs.Chips.{hard_recording}
+use Rattle.rules_chips.proofs.Recorders.{drop_hard}
+use Rattle.rules_reading.specs.Reading.{front_of}
 use Rattle.find_start.proofs.front_at.Statement.{statement}
 use Rattle.find_start.proofs.front_at.Tie as tie
 
@@ -14,11 +14,11 @@ returns : tie.Need-returns
 returns c =
     let args = c.before.before.before.before.before.before.before.args in
     c.read-front.ensures.told
-    ∙ ap (λ (xs : List ℕ). frontOf args.kind (hardRecording xs)) (lent args.chips.now args.at)
-    ∙ ap (frontOf args.kind) (sym (drop-hard args.at args.chips.now))
+    ∙ ap (λ (xs : List ℕ). frontOf args.kind (hard_recording xs)) (lent args.chips.now args.at)
+    ∙ ap (front_of args.kind) (sym (drop_hard args.at args.chips.now))
 
-pub front-at-spec : {M : Type 1} → statement M
-front-at-spec =
+pub front_at_spec : {M : Type 1} → statement M
+front_at_spec =
     tie.close
     (tie.spec (λ c. search rules) (λ c. search rules) (λ c. search rules) (λ c. search rules) (λ c. search rules)
     (λ c. search rules) (λ c. search rules) (λ c. search rules) (λ c. search rules) (λ c κs. search rules) returns)

@@ -11,5 +11,5 @@ returns c =
     ap {B = Found} (λ (x : ℕ). record { number = x; offset = 0; rate = 0; length = 0; clock = 0; n = 0 })
     c.number_of.ensures
 
-pub refused-spec : {M : Type 1} → statement M
-refused-spec = tie.close (tie.spec (λ c κs. search rules) returns)
+pub refused_spec : {M : Type 1} → statement M
+refused_spec = tie.close (tie.spec (λ c κs. search rules) returns)

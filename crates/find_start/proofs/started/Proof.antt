@@ -4,15 +4,15 @@ use Prim.Native.Nat.{ℕ}
 use mir.Val.{bool_byte}
 use borrow.Author.Rules.{rules}
 use Rattle.rules_rates.specs.Rates.{code_of}
-use Rattle.rules_frame.proofs.Headers.{clock-byte}
+use Rattle.rules_frame.proofs.Headers.{clock_byte}
 use Rattle.rules_calls.specs.declared.Told.{Told}
 use Rattle.rules_finding.specs.declared.Finding.TheVariants.{Start}
 use Rattle.rules_finding.specs.declared.Found.{Found}
-use Rattle.rules_finding.specs.Finding.{foundOf}
+use Rattle.rules_finding.specs.Finding.{found_of}
 use Rattle.find_start.proofs.started.Statement.{statement}
 use Rattle.find_start.proofs.started.Tie as tie
 
-in-numbers : (offset : ℕ) (t : Told) (code : ℕ) → code ≡ code_of t.rate
+in_numbers : (offset : ℕ) (t : Told) (code : ℕ) → code ≡ code_of t.rate
     → ◌≡◌ {A = Found}
     (record {
       number = 0;
@@ -22,11 +22,11 @@ in-numbers : (offset : ℕ) (t : Told) (code : ℕ) → code ≡ code_of t.rate
       clock = bool_byte t.clock;
       n = t.n;
     })
-    (foundOf (Start offset t))
-in-numbers offset t code e = rw (e, clock-byte t.clock)
+    (found_of (Start offset t))
+in_numbers offset t code e = rw (e, clock_byte t.clock)
 
 returns : tie.Need-returns
-returns c = let args = c.before.before.args in in-numbers args.offset args.t _ c.before.code.ensures
+returns c = let args = c.before.before.args in in_numbers args.offset args.t _ c.before.code.ensures
 
-pub started-spec : {M : Type 1} → statement M
-started-spec = tie.close (tie.spec (λ c κs. search rules) (λ c. search rules) returns)
+pub started_spec : {M : Type 1} → statement M
+started_spec = tie.close (tie.spec (λ c κs. search rules) (λ c. search rules) returns)

@@ -1,17 +1,17 @@
 -- `find_start::tries` meets its contract: an offset has a front behind it just below the chips less a front's, and one.
 -- Assumes nothing.
 use native.Mathlib.Omega.{arith}
-use Rattle.rules_reading.proofs.Places.{some-chips}
+use Rattle.rules_reading.proofs.Places.{some_chips}
 use Rattle.find_start.proofs.tries.Statement.{statement}
 use Rattle.find_start.proofs.tries.Tie as tie
 
-pub tries-spec : {M : Type 1} → statement M
-tries-spec =
+pub tries_spec : {M : Type 1} → statement M
+tries_spec =
     tie.close
     (tie.spec (λ c κs. tt)
     (λ c. let e = c.before.front-chips.ensures in
     (omega arith, (λ h. omega (arith, e)), λ j h l. omega (arith, e, c.if1.true)))
-    (λ c. let e = c.before.front-chips.ensures in omega (arith, e, some-chips c.before.before.args.kind))
+    (λ c. let e = c.before.front-chips.ensures in omega (arith, e, some_chips c.before.before.args.kind))
     (λ c. let e = c.before.before.front-chips.ensures in
     let h = c.before.if1.false in
     (omega (arith, c.if2.true), (λ z. omega (arith, e, h)), λ j l m. omega (arith, e, h)))

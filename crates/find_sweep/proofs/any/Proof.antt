@@ -14,8 +14,8 @@ use Rattle.find_sweep.proofs.any.Statement.{statement}
 use Rattle.find_sweep.proofs.any.Tie as tie
 
 -- what is gathered is nothing only where nothing was
-or-none : (a b : ℕ) → bit_or a b ≡ 0 → a ≡ 0
-or-none =
+or_none : (a b : ℕ) → bit_or a b ≡ 0 → a ≡ 0
+or_none =
     bin_ind (λ (n : ℕ). (b : ℕ) → bit_or n b ≡ 0 → n ≡ 0) (λ b e. refl)
     (λ n ih b e.
     let low = ih (b / 2) (omega (arith, or_step n b)) in
@@ -26,28 +26,28 @@ below_next : (xs : List ℕ) (l a : ℕ) → (a ≡ 0 → (j : ℕ) → j < l �
 below_next xs l a h e j k = by (dec_lt j l)
   where
     by : Dec (j < l) → get_or xs j 0 ≡ 0
-    by (yes p) = h (or-none a (get_or xs l 0) e) j p
+    by (yes p) = h (or_none a (get_or xs l 0) e) j p
     by (no p) =
         let q : j ≡ l = omega arith in
-        rw q (or-none (get_or xs l 0) a (or_comm (get_or xs l 0) a ∙ e))
+        rw q (or_none (get_or xs l 0) a (or_comm (get_or xs l 0) a ∙ e))
 
-abbrev invariant-loop : tie.invariant-loop
-invariant-loop marks all₀ l₀ all l = (l ≤ 256) × (all ≡ 0 → (j : ℕ) → j < l → get_or marks j 0 ≡ 0)
+abbrev invariant_loop : tie.invariant-loop
+invariant_loop marks all₀ l₀ all l = (l ≤ 256) × (all ≡ 0 → (j : ℕ) → j < l → get_or marks j 0 ≡ 0)
 
-abbrev decreases-loop : tie.decreases-loop
-decreases-loop marks all₀ l₀ all l = 256 - l
+abbrev decreases_loop : tie.decreases-loop
+decreases_loop marks all₀ l₀ all l = 256 - l
 
-loop-again : tie.Need-loop-preserved invariant-loop decreases-loop
-loop-again c =
+loop_again : tie.Need-loop-preserved invariant_loop decreases_loop
+loop_again c =
     let turn = c.before.before in
     let marks = turn.before.args.marks.now in
     (omega arith, λ e. below_next marks turn.loop.l turn.loop.all turn.loop.invariant.1 e)
 
-returns : tie.Need-returns invariant-loop decreases-loop
+returns : tie.Need-returns invariant_loop decreases_loop
 returns c e j h = c.before.loop.invariant.1 (eqb-true _ _ (not-false _ e)) j (omega arith)
 
 pub any_spec : {M : Type 1} → statement M
 any_spec =
     tie.close
-    (tie.spec invariant-loop decreases-loop (λ c. (omega arith, λ e j h. absurd (omega arith))) (λ c. omega arith)
-    (λ c. omega arith) (λ c. omega arith) loop-again returns)
+    (tie.spec invariant_loop decreases_loop (λ c. (omega arith, λ e j h. absurd (omega arith))) (λ c. omega arith)
+    (λ c. omega arith) (λ c. omega arith) loop_again returns)

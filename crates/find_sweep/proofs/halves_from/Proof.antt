@@ -3,16 +3,16 @@
 use Prim.Native.Nat.{◌+◌, ◌-◌}
 use native.Mathlib.Omega.{arith}
 use borrow.Author.Rules.{rules}
-use Rattle.find_sweep.proofs.Rows.{added-as}
-use Rattle.find_sweep.proofs.Halves.{half-there, sides-most}
+use Rattle.find_sweep.proofs.Rows.{added_as}
+use Rattle.find_sweep.proofs.Halves.{half_there, sides_most}
 use Rattle.find_sweep.proofs.halves_from.Statement.{statement}
 use Rattle.find_sweep.proofs.halves_from.Tie as tie
 
-fill-requires : tie.Need-fill-requires
-fill-requires c κs =
+fill_requires : tie.Need-fill-requires
+fill_requires c κs =
     let made = c.before.before.before.sides.ensures in
     let s = c.before.before.before.before.before.before.before in
-    let most = sides-most s.args.octets.now s.args.at (s.args.count + 16) made.0 made.1 in (
+    let most = sides_most s.args.octets.now s.args.at (s.args.count + 16) made.0 made.1 in (
       s.requires.0,
       s.requires.1,
       made.0.long,
@@ -26,11 +26,11 @@ returns : tie.Need-returns
 returns c =
     let made = c.before.before.before.before.sides.ensures in
     let s = c.before.before.before.before.before.before.before.before in
-    added-as
-    (λ j h. half-there s.args.octets.now s.args.at (s.args.count + 16) made.0 made.1 j (omega arith)
+    added_as
+    (λ j h. half_there s.args.octets.now s.args.at (s.args.count + 16) made.0 made.1 j (omega arith)
     (omega (arith, s.requires.2)))
     c.fill.ensures
 
-pub halves-from-spec : {M : Type 1} → statement M
-halves-from-spec =
-    tie.close (tie.spec (λ c. search rules) (λ c κs. search rules) fill-requires returns)
+pub halves_from_spec : {M : Type 1} → statement M
+halves_from_spec =
+    tie.close (tie.spec (λ c. search rules) (λ c κs. search rules) fill_requires returns)

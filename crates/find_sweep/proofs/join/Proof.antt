@@ -3,19 +3,19 @@
 use mathlib.Core.Path.{◌∙◌}
 use Prim.Native.Nat.{ℕ, ◌+◌, ◌-◌, ◌*◌}
 use native.Mathlib.Omega.{arith}
-use Rattle.find_sweep.specs.Sweep.{Worked, joinedOf}
-use Rattle.find_sweep.proofs.Rows.{worked-none, worked-more, worked-row}
+use Rattle.find_sweep.specs.Sweep.{Worked, joined_of}
+use Rattle.find_sweep.proofs.Rows.{worked_none, worked_more, worked_row}
 use Rattle.find_sweep.proofs.join.Statement.{statement}
 use Rattle.find_sweep.proofs.join.Tie as tie
 
-abbrev invariant-loop : tie.invariant-loop
-invariant-loop apart by count row₀ l₀ row l = Worked (joinedOf apart by row₀) row₀ l row
+abbrev invariant_loop : tie.invariant-loop
+invariant_loop apart by count row₀ l₀ row l = Worked (joined_of apart by row₀) row₀ l row
 
-abbrev decreases-loop : tie.decreases-loop
-decreases-loop apart by count row₀ l₀ row l = count - l
+abbrev decreases_loop : tie.decreases-loop
+decreases_loop apart by count row₀ l₀ row l = count - l
 
-two-requires : tie.Need-two-requires invariant-loop decreases-loop
-two-requires c κs =
+two_requires : tie.Need-two-requires invariant_loop decreases_loop
+two_requires c κs =
     let turn = c.before.before.before in
     let s = turn.before in
     let was = turn.loop.invariant.kept in
@@ -27,21 +27,21 @@ two-requires c κs =
       omega (arith, was next (omega arith), small next (omega arith)),
     )
 
-loop-again : tie.Need-loop-preserved invariant-loop decreases-loop
-loop-again c =
+loop_again : tie.Need-loop-preserved invariant_loop decreases_loop
+loop_again c =
     let turn = c.before.before.before.before in
     let s = turn.before in
     let was = turn.loop.invariant.kept in
     let l = turn.loop.l in
     let here = was l (omega arith) in
     let next = was (l + s.args.apart) (omega arith) in
-    worked-more _ (omega arith) (c.two.ensures ∙ (λ i. here i + s.args.by * next i)) turn.loop.invariant
+    worked_more _ (omega arith) (c.two.ensures ∙ (λ i. here i + s.args.by * next i)) turn.loop.invariant
 
-returns : tie.Need-returns invariant-loop decreases-loop
-returns c = worked-row _ c.loop-test.false c.before.loop.invariant
+returns : tie.Need-returns invariant_loop decreases_loop
+returns c = worked_row _ c.loop-test.false c.before.loop.invariant
 
-pub join-spec : {M : Type 1} → statement M
-join-spec =
+pub join_spec : {M : Type 1} → statement M
+join_spec =
     tie.close
-    (tie.spec invariant-loop decreases-loop (λ c. worked-none _ _ c.requires.2.long) (λ c. omega arith) (λ c. omega arith)
-    (λ c. omega arith) two-requires (λ c. omega arith) (λ c. omega arith) (λ c. omega arith) loop-again returns)
+    (tie.spec invariant_loop decreases_loop (λ c. worked-none _ _ c.requires.2.long) (λ c. omega arith) (λ c. omega arith)
+    (λ c. omega arith) two_requires (λ c. omega arith) (λ c. omega arith) (λ c. omega arith) loop_again returns)

@@ -2,12 +2,12 @@
 use Prim.Native.Nat.{◌-◌}
 use native.Mathlib.Omega.{arith}
 use Rattle.find_sweep.proofs.Chain.{
-  plains-small,
+  plains_small,
   twos_small,
-  bits-row,
-  plains-row,
-  twos-row,
-  fours-row,
+  bits_row,
+  plains_row,
+  twos_row,
+  fours_row,
   marked_row,
 }
 use borrow.Author.Rules.{rules}
@@ -21,18 +21,18 @@ returns c rec at m few p =
     let second = three.before.before in
     let first = second.before.before in
     marked_row rec at m few _ _ _ _
-    (fours-row rec at m few _ _
-    (twos-row rec at m few _ _
-    (plains-row rec at m few _ _ (bits-row rec at m few _ _ p first.bits.ensures) second.plains.ensures)
+    (fours_row rec at m few _ _
+    (twos_row rec at m few _ _
+    (plains_row rec at m few _ _ (bits_row rec at m few _ _ p first.bits.ensures) second.plains.ensures)
     three.join.ensures)
     four.join2.ensures)
     c.compare.ensures
 
-pub marks-spec : {M : Type 1} → statement M
-marks-spec =
+pub marks_spec : {M : Type 1} → statement M
+marks_spec =
     tie.close
     (tie.spec (λ c κs. search rules) (λ c κs. search rules)
-    (λ c κs. (omega arith, omega arith, plains-small (λ j. omega arith) c.before.plains.ensures))
+    (λ c κs. (omega arith, omega arith, plains_small (λ j. omega arith) c.before.plains.ensures))
     (λ c κs.
     let small = twos_small (λ j. omega arith) c.before.before.before.plains.ensures c.before.join.ensures in
     (omega arith, omega arith, small))

@@ -4,32 +4,32 @@ use Prim.Native.Nat.{◌+◌, ◌-◌, ◌%◌}
 use native.Mathlib.Omega.{arith}
 use lib.Bits.{bit_xor}
 use Rattle.find_sweep.specs.Sweep.{Worked, plain_of}
-use Rattle.find_sweep.proofs.Rows.{worked-none, worked-more, worked-row}
+use Rattle.find_sweep.proofs.Rows.{worked_none, worked_more, worked_row}
 use Rattle.find_sweep.proofs.plains.Statement.{statement}
 use Rattle.find_sweep.proofs.plains.Tie as tie
 
-abbrev invariant-loop : tie.invariant-loop
-invariant-loop row₀ l₀ row l = Worked (plain_of row₀) row₀ l row
+abbrev invariant_loop : tie.invariant-loop
+invariant_loop row₀ l₀ row l = Worked (plain_of row₀) row₀ l row
 
-abbrev decreases-loop : tie.decreases-loop
-decreases-loop row₀ l₀ row l = 424 - l
+abbrev decreases_loop : tie.decreases-loop
+decreases_loop row₀ l₀ row l = 424 - l
 
-loop-again : tie.Need-loop-preserved invariant-loop decreases-loop
-loop-again c =
+loop_again : tie.Need-loop-preserved invariant_loop decreases_loop
+loop_again c =
     let turn = c.before.before.before.before in
     let was = turn.loop.invariant.kept in
     let l = turn.loop.l in
     let last = was (l + 77) (omega arith) in
     let four = was (l + 33) (omega arith) in
     let seven = was l (omega arith) in
-    worked-more _ (omega arith) (λ i. bit_xor (bit_xor (last i) (four i)) (seven i) % 2) turn.loop.invariant
+    worked_more _ (omega arith) (λ i. bit_xor (bit_xor (last i) (four i)) (seven i) % 2) turn.loop.invariant
 
-returns : tie.Need-returns invariant-loop decreases-loop
-returns c = worked-row _ c.loop-test.false c.before.loop.invariant
+returns : tie.Need-returns invariant_loop decreases_loop
+returns c = worked_row _ c.loop-test.false c.before.loop.invariant
 
-pub plains-spec : {M : Type 1} → statement M
-plains-spec =
+pub plains_spec : {M : Type 1} → statement M
+plains_spec =
     tie.close
-    (tie.spec invariant-loop decreases-loop (λ c. worked-none _ _ c.requires) (λ c. omega arith) (λ c. omega arith)
+    (tie.spec invariant_loop decreases_loop (λ c. worked-none _ _ c.requires) (λ c. omega arith) (λ c. omega arith)
     (λ c. omega arith) (λ c. omega arith) (λ c. omega arith) (λ c. omega arith) (λ c. omega arith) (λ c. omega arith)
-    loop-again returns)
+    loop_again returns)

@@ -10,8 +10,8 @@ use Rattle.find_sweep.proofs.two.Tie as tie
 few : (by b : ℕ) → by ≤ 4 → b < 4 → by * b ≤ 12
 few by b h k = let l : b ≤ 3 = omega arith in omega (arith, mul-le-mul_left by l)
 
-pub two-spec : {M : Type 1} → statement M
-two-spec =
+pub two_spec : {M : Type 1} → statement M
+two_spec =
     tie.close
     (tie.spec (λ c. omega (arith, few _ _ c.requires.0 c.requires.2))
     (λ c. omega (arith, c.requires.1, few _ _ c.requires.0 c.requires.2)) (λ c. search rules))

@@ -1,27 +1,27 @@
 -- `hear_blocks::codes` meets its contract. The invariant: the first l entries are filled. Assumes nothing.
 use Rattle.std.proofs.Common.{◌-◌, get_or, refl, arith}
 use Rattle.base.specs.Tables.{Filled}
-use Rattle.base.proofs.Tables.{filled_none, filled_more, filled-all}
+use Rattle.base.proofs.Tables.{filled_none, filled_more, filled_all}
 use Rattle.rules_bits.specs.Bits.{number_of}
-use Rattle.hear_codes.specs.Codes.{wordBits}
+use Rattle.hear_codes.specs.Codes.{word_bits}
 use Rattle.hear_blocks.proofs.codes.Statement.{statement}
 use Rattle.hear_blocks.proofs.codes.Tie as tie
 
-abbrev invariant-loop : tie.invariant-loop
-invariant-loop rate g numbers out₀ l₀ out l = Filled (λ j. number_of (wordBits rate (get_or g j 0) (get_or numbers j 0))) 64 out l
+abbrev invariant_loop : tie.invariant-loop
+invariant_loop rate g numbers out₀ l₀ out l = Filled (λ j. number_of (word_bits rate (get_or g j 0) (get_or numbers j 0))) 64 out l
 
-abbrev decreases-loop : tie.decreases-loop
-decreases-loop rate g numbers out₀ l₀ out l = 64 - l
+abbrev decreases_loop : tie.decreases-loop
+decreases_loop rate g numbers out₀ l₀ out l = 64 - l
 
-loop-again : tie.Need-loop-preserved invariant-loop decreases-loop
-loop-again c = filled_more _ c.before.before.loop.invariant c.before.loop-test.true c.code.ensures.0
+loop_again : tie.Need-loop-preserved invariant_loop decreases_loop
+loop_again c = filled_more _ c.before.before.loop.invariant c.before.loop-test.true c.code.ensures.0
 
-returns : tie.Need-returns invariant-loop decreases-loop
-returns c = filled-all c.before.loop.invariant c.loop-test.false
+returns : tie.Need-returns invariant_loop decreases_loop
+returns c = filled_all c.before.loop.invariant c.loop-test.false
 
-pub codes-spec : {M : Type 1} → statement M
-codes-spec =
+pub codes_spec : {M : Type 1} → statement M
+codes_spec =
     tie.close
     (tie.spec
-    invariant-loop decreases-loop (λ c. filled_none _ 64 _ refl) (λ c. omega arith) (λ c. omega arith)
-    (λ c κs. c.before.before.requires.at _) (λ c. omega arith) (λ c. omega arith) (λ c. omega arith) loop-again returns)
+    invariant_loop decreases_loop (λ c. filled_none _ 64 _ refl) (λ c. omega arith) (λ c. omega arith)
+    (λ c κs. c.before.before.requires.at _) (λ c. omega arith) (λ c. omega arith) (λ c. omega arith) loop_again returns)

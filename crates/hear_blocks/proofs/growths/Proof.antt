@@ -1,38 +1,38 @@
 -- `hear_blocks::growths` meets its contract. The invariant: the first l entries are filled. Assumes nothing.
 use Rattle.std.proofs.Common.{◌≡◌, ℕ, ◌+◌, ◌-◌, ◌%◌, get_or, refl, ◌∙◌, arith}
 use Rattle.base.specs.Tables.{Filled}
-use Rattle.base.proofs.Tables.{filled_none, filled_more, filled-all}
-use Rattle.hear_codes.specs.Codes.{grownFor}
-use Rattle.hear_codes.proofs.Codes.{grown-parity}
+use Rattle.base.proofs.Tables.{filled_none, filled_more, filled_all}
+use Rattle.hear_codes.specs.Codes.{grown_for}
+use Rattle.hear_codes.proofs.Codes.{grown_parity}
 use Rattle.hear_blocks.proofs.growths.Statement.{statement}
 use Rattle.hear_blocks.proofs.growths.Tie as tie
 
-abbrev invariant-loop : tie.invariant-loop
-invariant-loop rate symbol phases first out₀ l₀ out l =
+abbrev invariant_loop : tie.invariant-loop
+invariant_loop rate symbol phases first out₀ l₀ out l =
     Filled (λ j. grownFor rate (symbol + j) (get_or phases j 0) (get_or phases (j + 1) 0)) 64 out l
 
-abbrev decreases-loop : tie.decreases-loop
-decreases-loop rate symbol phases first out₀ l₀ out l = 64 - l
+abbrev decreases_loop : tie.decreases-loop
+decreases_loop rate symbol phases first out₀ l₀ out l = 64 - l
 
 -- the loop goes by the first symbol's number modulo 2
 parity : (s l : ℕ) → (s % 2 + l) % 2 ≡ (s + l) % 2
 parity s l = omega arith
 
-loop-again : tie.Need-loop-preserved invariant-loop decreases-loop
-loop-again c =
+loop_again : tie.Need-loop-preserved invariant_loop decreases_loop
+loop_again c =
     let start = c.before.before.before in
     filled_more _ c.before.before.loop.invariant c.before.loop-test.true
     (c.grown.ensures.0
-    ∙ grown-parity start.args.rate _ _ _ _ (parity start.args.symbol c.before.before.loop.l))
+    ∙ grown_parity start.args.rate _ _ _ _ (parity start.args.symbol c.before.before.loop.l))
 
-returns : tie.Need-returns invariant-loop decreases-loop
-returns c = filled-all c.before.loop.invariant c.loop-test.false
+returns : tie.Need-returns invariant_loop decreases_loop
+returns c = filled_all c.before.loop.invariant c.loop-test.false
 
-pub growths-spec : {M : Type 1} → statement M
-growths-spec =
+pub growths_spec : {M : Type 1} → statement M
+growths_spec =
     tie.close
     (tie.spec
-    invariant-loop decreases-loop (λ c. record { fits = omega arith }) (λ c. filled_none _ 64 _ refl) (λ c. omega arith)
+    invariant_loop decreases_loop (λ c. record { fits = omega arith }) (λ c. filled_none _ 64 _ refl) (λ c. omega arith)
     (λ c. omega arith) (λ c. omega arith)
     (λ c κs. (omega arith, c.before.before.requires.at _, c.before.before.requires.at _)) (λ c. omega arith)
-    (λ c. omega arith) (λ c. omega arith) loop-again returns)
+    (λ c. omega arith) (λ c. omega arith) loop_again returns)

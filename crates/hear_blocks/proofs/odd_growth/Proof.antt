@@ -3,14 +3,14 @@
 use Rattle.std.proofs.Common.{◌∙◌, rules}
 use Rattle.rules_rates.specs.declared.Rate.TheVariants.{One}
 use Rattle.common_lines.specs.declared.Line.{Line}
-use Rattle.hear_blocks.proofs.Hears.{phases-low, block_odd}
+use Rattle.hear_blocks.proofs.Hears.{phases_low, block_odd}
 use Rattle.hear_blocks.proofs.odd_growth.Statement.{statement}
 use Rattle.hear_blocks.proofs.odd_growth.Tie as tie
 
-growths-requires : tie.Need-growths-requires
-growths-requires c κs =
+growths_requires : tie.Need-growths-requires
+growths_requires c κs =
     let start = c.before in
-    phases-low One start.args.before start.args.numbers start.requires.2 _ c.phases.ensures
+    phases_low One start.args.before start.args.numbers start.requires.2 _ c.phases.ensures
 
 returns : tie.Need-returns
 returns c =
@@ -20,6 +20,6 @@ returns c =
     ∙ block_odd One 0 line start.args.m start.args.numbers _ _ start.requires.0 start.requires.3 start.requires.4
     c.before.before.phases.ensures c.before.growths.ensures start.args.place
 
-pub odd-growth-spec : {M : Type 1} → statement M
-odd-growth-spec =
-    tie.close (tie.spec (λ c κs. search rules) growths-requires (λ c κs. search rules) returns)
+pub odd_growth_spec : {M : Type 1} → statement M
+odd_growth_spec =
+    tie.close (tie.spec (λ c κs. search rules) growths_requires (λ c κs. search rules) returns)

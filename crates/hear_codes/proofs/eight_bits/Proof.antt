@@ -1,23 +1,23 @@
 -- `hear_codes::eight_bits` meets its contract. Assumes nothing.
 use Prim.Native.Nat.{◌/◌}
 use borrow.Author.Rules.{rules}
-use Rattle.hear_codes.proofs.Codes.{eight-number, room-2, room-4, room-6}
+use Rattle.hear_codes.proofs.Codes.{eight_number, room_2, room_4, room_6}
 use Rattle.hear_codes.proofs.eight_bits.Statement.{statement}
 use Rattle.hear_codes.proofs.eight_bits.Tie as tie
 
 returns : tie.Need-returns
-returns c = eight-number c.before.args.g c.before.args.n c.two-bits.result c.before.requires
+returns c = eight_number c.before.args.g c.before.args.n c.two-bits.result c.before.requires
     c.two-bits.ensures.0
 
-pub eight-bits-spec : {M : Type 1} → statement M
-eight-bits-spec =
+pub eight_bits_spec : {M : Type 1} → statement M
+eight_bits_spec =
     tie.close
     (tie.spec
     (λ c. search rules) (λ c. search rules) (λ c. search rules) (λ c. search rules) (λ c. search rules)
     (λ c. search rules) (λ c. search rules) (λ c. search rules) (λ c. search rules) (λ c κs. search rules)
-    (λ c. let n = c.before.args.n in record { fits = room-2 _ (n / 32) (n / 16) c.two-bits.ensures.1 })
+    (λ c. let n = c.before.args.n in record { fits = room_2 _ (n / 32) (n / 16) c.two-bits.ensures.1 })
     (λ c. let n = c.before.args.n in
-    record { fits = room-4 _ (n / 32) (n / 16) (n / 8) (n / 4) c.two-bits.ensures.1 })
+    record { fits = room_4 _ (n / 32) (n / 16) (n / 8) (n / 4) c.two-bits.ensures.1 })
     (λ c. let n = c.before.args.n in
-    record { fits = room-6 _ (n / 32) (n / 16) (n / 8) (n / 4) (n / 2) n c.two-bits.ensures.1 })
+    record { fits = room_6 _ (n / 32) (n / 16) (n / 8) (n / 4) (n / 2) n c.two-bits.ensures.1 })
     returns)

@@ -3,12 +3,12 @@ use mathlib.Core.Path.{sym, ap, ◌∙◌}
 use native.Mathlib.Omega.{arith}
 use borrow.Author.Rules.{rules}
 use Rattle.hear_codes.specs.Codes.{packed}
-use Rattle.hear_codes.proofs.Codes.{eight-from}
+use Rattle.hear_codes.proofs.Codes.{eight_from}
 use Rattle.hear_codes.proofs.from_eight.Statement.{statement}
 use Rattle.hear_codes.proofs.from_eight.Tie as tie
 
-of-eight-requires : tie.Need-of-eight-requires
-of-eight-requires c κs =
+of_eight_requires : tie.Need-of-eight-requires
+of_eight_requires c κs =
     let low = c.before.before.before.before.before.before.before.before.requires.2.at in
     (low _, low _, low _, low _, low _, low _, low _, low _)
 
@@ -16,13 +16,13 @@ returns : tie.Need-returns
 returns c =
     let start = c.before.before.before.before.before.before.before.before.before in
     c.of-eight.ensures
-    ∙ ap (packed 1) (sym (eight-from start.args.c.now start.args.k (omega (arith, start.requires.1))))
+    ∙ ap (packed 1) (sym (eight_from start.args.c.now start.args.k (omega (arith, start.requires.1))))
 
-pub from-eight-spec : {M : Type 1} → statement M
-from-eight-spec =
+pub from_eight_spec : {M : Type 1} → statement M
+from_eight_spec =
     tie.close
     (tie.spec
     (λ c. search rules) (λ c. search rules) (λ c. search rules) (λ c. search rules) (λ c. search rules)
     (λ c. search rules) (λ c. search rules) (λ c. search rules) (λ c. search rules) (λ c. search rules)
     (λ c. search rules) (λ c. search rules) (λ c. search rules) (λ c. search rules) (λ c. search rules)
-    of-eight-requires returns)
+    of_eight_requires returns)

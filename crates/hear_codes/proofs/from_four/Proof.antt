@@ -3,12 +3,12 @@ use mathlib.Core.Path.{sym, ap, ◌∙◌}
 use native.Mathlib.Omega.{arith}
 use borrow.Author.Rules.{rules}
 use Rattle.hear_codes.specs.Codes.{packed}
-use Rattle.hear_codes.proofs.Codes.{four-from}
+use Rattle.hear_codes.proofs.Codes.{four_from}
 use Rattle.hear_codes.proofs.from_four.Statement.{statement}
 use Rattle.hear_codes.proofs.from_four.Tie as tie
 
-of-four-requires : tie.Need-of-four-requires
-of-four-requires c κs =
+of_four_requires : tie.Need-of-four-requires
+of_four_requires c κs =
     let low = c.before.before.before.before.requires.2.at in
     (low _, low _, low _, low _)
 
@@ -16,11 +16,11 @@ returns : tie.Need-returns
 returns c =
     let start = c.before.before.before.before.before in
     c.of_four.ensures
-    ∙ ap (packed 2) (sym (four-from start.args.c.now start.args.k (omega (arith, start.requires.1))))
+    ∙ ap (packed 2) (sym (four_from start.args.c.now start.args.k (omega (arith, start.requires.1))))
 
-pub from-four-spec : {M : Type 1} → statement M
-from-four-spec =
+pub from_four_spec : {M : Type 1} → statement M
+from_four_spec =
     tie.close
     (tie.spec
     (λ c. search rules) (λ c. search rules) (λ c. search rules) (λ c. search rules) (λ c. search rules)
-    (λ c. search rules) (λ c. search rules) of-four-requires returns)
+    (λ c. search rules) (λ c. search rules) of_four_requires returns)

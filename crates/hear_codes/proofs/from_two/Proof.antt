@@ -7,8 +7,8 @@ use Rattle.hear_codes.proofs.Codes.{two_from}
 use Rattle.hear_codes.proofs.from_two.Statement.{statement}
 use Rattle.hear_codes.proofs.from_two.Tie as tie
 
-of-two-requires : tie.Need-of-two-requires
-of-two-requires c κs =
+of_two_requires : tie.Need-of-two-requires
+of_two_requires c κs =
     let low = c.before.before.requires.2.at in
     (low _, low _)
 
@@ -18,8 +18,8 @@ returns c =
     c.of_two.ensures
     ∙ ap (packed 4) (sym (two_from start.args.c.now start.args.k (omega (arith, start.requires.1))))
 
-pub from-two-spec : {M : Type 1} → statement M
-from-two-spec =
+pub from_two_spec : {M : Type 1} → statement M
+from_two_spec =
     tie.close
     (tie.spec
-    (λ c. search rules) (λ c. search rules) (λ c. search rules) of-two-requires returns)
+    (λ c. search rules) (λ c. search rules) (λ c. search rules) of_two_requires returns)

@@ -8,8 +8,8 @@ returns : tie.Need-returns
 unfolding packed
 returns c = search rules
 
-pub of-eight-spec : {M : Type 1} → statement M
-of-eight-spec =
+pub of_eight_spec : {M : Type 1} → statement M
+of_eight_spec =
     tie.close
     (tie.spec
     (λ c. search rules) (λ c. search rules) (λ c. search rules) (λ c. search rules) (λ c. search rules)

@@ -8,8 +8,8 @@ returns : tie.Need-returns
 unfolding packed
 returns c = search rules
 
-pub of-four-spec : {M : Type 1} → statement M
-of-four-spec =
+pub of_four_spec : {M : Type 1} → statement M
+of_four_spec =
     tie.close
     (tie.spec
     (λ c. search rules) (λ c. search rules) (λ c. search rules) (λ c. search rules) (λ c. search rules)

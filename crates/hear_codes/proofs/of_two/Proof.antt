@@ -8,8 +8,8 @@ returns : tie.Need-returns
 unfolding packed
 returns c = search rules
 
-pub of-two-spec : {M : Type 1} → statement M
-of-two-spec =
+pub of_two_spec : {M : Type 1} → statement M
+of_two_spec =
     tie.close
     (tie.spec
     (λ c. search rules) (λ c. search rules) returns)

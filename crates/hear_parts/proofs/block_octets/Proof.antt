@@ -3,26 +3,26 @@ use Prim.Native.Nat.{◌<◌}
 use native.Mathlib.Omega.{arith}
 use Rattle.rules_rates.specs.declared.Rate.{Rate}
 use Rattle.rules_rates.specs.declared.Rate.TheVariants.{One, Two, Five, Eleven}
-use Rattle.rules_rates.specs.Rates.{octetSymbols}
+use Rattle.rules_rates.specs.Rates.{octet_symbols}
 use borrow.Author.Rules.{rules}
-use Rattle.hear_codes.proofs.Codes.{block-rest, block-whole}
+use Rattle.hear_codes.proofs.Codes.{block_rest, block_whole}
 use Rattle.hear_parts.proofs.block_octets.Statement.{statement}
 use Rattle.hear_parts.proofs.block_octets.Tie as tie
 
-some : (r : Rate) → 0 < octetSymbols r
+some : (r : Rate) → 0 < octet_symbols r
 some One = omega arith
 some Two = omega arith
 some Five = omega arith
 some Eleven = omega arith
 
-div-whole : tie.Need-nonzero-div-whole
-div-whole c = rw c.octet-symbols.ensures (some c.before.args.rate)
+div_whole : tie.Need-nonzero-div-whole
+div_whole c = rw c.octet-symbols.ensures (some c.before.args.rate)
 
 returns : tie.Need-returns
-returns c = block-rest _ _ c.before.before.args.rate c.before.octet-symbols.ensures c.if1.true
+returns c = block_rest _ _ c.before.before.args.rate c.before.octet-symbols.ensures c.if1.true
 
-returns-2 : tie.Need-returns-2
-returns-2 c = block-whole _ _ c.before.before.args.rate c.before.octet-symbols.ensures c.if1.false
+returns_2 : tie.Need-returns-2
+returns_2 c = block_whole _ _ c.before.before.args.rate c.before.octet-symbols.ensures c.if1.false
 
-pub block-octets-spec : {M : Type 1} → statement M
-block-octets-spec = tie.close (tie.spec (λ c κs. search rules) div-whole returns returns-2)
+pub block_octets_spec : {M : Type 1} → statement M
+block_octets_spec = tie.close (tie.spec (λ c κs. search rules) div_whole returns returns_2)

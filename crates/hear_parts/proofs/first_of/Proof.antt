@@ -6,5 +6,5 @@ use Rattle.hear_parts.proofs.first_of.Tie as tie
 returns : tie.Need-returns
 returns c = rw c.before.a.given.1
 
-pub first-of-spec : {M : Type 1} → statement M
-first-of-spec = tie.close (tie.spec (λ c. search rules) (λ c. search rules) returns (λ c. search rules))
+pub first_of_spec : {M : Type 1} → statement M
+first_of_spec = tie.close (tie.spec (λ c. search rules) (λ c. search rules) returns (λ c. search rules))

@@ -6,42 +6,42 @@ use Prim.Native.Nat.{ℕ, ◌+◌, ◌*◌, ◌^◌, ◌≤◌, ◌<◌}
 use native.Mathlib.Omega.{arith}
 use Rattle.base.specs.Over.{over}
 use Rattle.rules_rates.specs.declared.Rate.{Rate}
-use Rattle.rules_rates.specs.Rates.{symbolChips, octetSymbols, octetChips}
-use Rattle.rules_rates.proofs.Octets.{part-chips}
+use Rattle.rules_rates.specs.Rates.{symbol_chips, octet_symbols, octet_chips}
+use Rattle.rules_rates.proofs.Octets.{part_chips}
 use Rattle.rules_chips.specs.Chips.{Taken}
-use Rattle.rules_reading.specs.Leads.{leastFrom}
-use Rattle.choose_recorders.specs.Rows.{recordingOf}
+use Rattle.rules_reading.specs.Leads.{least_from}
+use Rattle.choose_recorders.specs.Rows.{recording_of}
 use Rattle.choose_recorded.specs.Recorded.{AllUsable}
-use Rattle.choose_recorders.proofs.Rows.{recording-fits}
+use Rattle.choose_recorders.proofs.Rows.{recording_fits}
 use borrow.Author.Rules.{rules}
-use Rattle.hear_blocks.specs.Heard.{plainOctets, Heard}
-use Rattle.hear_parts.proofs.Parts.{block_words, block-are-words, block-leads}
+use Rattle.hear_blocks.specs.Heard.{plain_octets, Heard}
+use Rattle.hear_parts.proofs.Parts.{block_words, block_are_words, block_leads}
 use Rattle.hear_parts.proofs.hear_block.Statement.{statement}
 use Rattle.hear_parts.proofs.hear_block.Tie as tie
 
 -- the symbols as the code counts them
-module _ (r : Rate) (s n : ℕ) (e : s ≡ octetSymbols r) where
-  within : octetSymbols r * n ≤ 64 → s * n ≤ 64
+module _ (r : Rate) (s n : ℕ) (e : s ≡ octet_symbols r) where
+  within : octet_symbols r * n ≤ 64 → s * n ≤ 64
   within h = rw e h
 
-  room : (place m : ℕ) → place + octetChips r * n ≤ m → place + symbolChips r * (s * n) ≤ m
-  room place m h = rw (e, part-chips r n) h
+  room : (place m : ℕ) → place + octet_chips r * n ≤ m → place + symbol_chips r * (s * n) ≤ m
+  room place m h = rw (e, part_chips r n) h
 
-  usable : (rec : List Taken) (place : ℕ) → AllUsable rec place (octetChips r * n)
-      → AllUsable rec place (symbolChips r * (s * n))
-  usable rec place h = rw (e, part-chips r n) h
+  usable : (rec : List Taken) (place : ℕ) → AllUsable rec place (octet_chips r * n)
+      → AllUsable rec place (symbol_chips r * (s * n))
+  usable rec place h = rw (e, part_chips r n) h
 
-  numbered : (symbol : ℕ) → symbol + octetSymbols r * n < 2 ^ 64 → symbol + s * n < 2 ^ 64
+  numbered : (symbol : ℕ) → symbol + octet_symbols r * n < 2 ^ 64 → symbol + s * n < 2 ^ 64
   numbered symbol h = rw e h
 
-mul-m : tie.Need-overflow-mul-m
-mul-m c =
+mul_m : tie.Need-overflow-mul-m
+mul_m c =
     let start = c.before.before.before.before.before in
     let h = within start.args.rate _ start.args.count c.octet-symbols.ensures start.requires.0 in
     record { fits = omega arith }
 
-decide-requires : tie.Need-decide-requires
-decide-requires c κs =
+decide_requires : tie.Need-decide-requires
+decide_requires c κs =
     let start = c.before.before.before.before.before.before.before in
     let e = c.before.before.octet-symbols.ensures in (
       within start.args.rate _ start.args.count e start.requires.0,
@@ -53,19 +53,19 @@ decide-requires c κs =
 
 -- the block's last chip
 ends : (c : tie.After-decide) → let a = c.before.before.before.before.before.before.before.before.args in
-    a.place + octetChips a.rate * a.count < 2 ^ 64
+    a.place + octet_chips a.rate * a.count < 2 ^ 64
 ends c =
     let start = c.before.before.before.before.before.before.before.before in
     let a = start.args in
     omega (
       arith,
       start.requires.2,
-      recording-fits a.rec a.row.now a.bytes.now a.i.now a.q.now (2 ^ 64) start.well-formed.1.0.0
+      recording_fits a.rec a.row.now a.bytes.now a.i.now a.q.now (2 ^ 64) start.well-formed.1.0.0
           start.well-formed.1.1.0.0 start.well-formed.1.1.1.0.0,
     )
 
-hear-requires : tie.Need-hear-requires
-hear-requires c κs =
+hear_requires : tie.Need-hear-requires
+hear_requires c κs =
     let start = c.before.before.before.before.before.before.before.before.before in
     let a = start.args in
     let d = c.before.decide.ensures.0 in (
@@ -74,12 +74,12 @@ hear-requires c κs =
       ends c.before,
       start.requires.4,
       d.long,
-      block-are-words a.rate _ a.count c.before.before.before.before.octet-symbols.ensures
-          (recordingOf a.rec a.row.now a.bytes.now a.i.now a.q.now) a.place _ d start.requires.0,
+      block_are_words a.rate _ a.count c.before.before.before.before.octet-symbols.ensures
+          (recording_of a.rec a.row.now a.bytes.now a.i.now a.q.now) a.place _ d start.requires.0,
     )
 
-least-after-requires : tie.Need-least-after-requires
-least-after-requires c κs =
+least_after_requires : tie.Need-least-after-requires
+least_after_requires c κs =
     let decided = c.before.before.before.before.before in
     let start = decided.before.before.before.before.before.before.before.before in
     let a = start.args in
@@ -96,22 +96,22 @@ returns c =
     let start = decided.before.before.before.before.before.before.before.before in
     let a = start.args in
     let e = decided.before.before.before.octet-symbols.ensures in
-    let rec = recordingOf a.rec a.row.now a.bytes.now a.i.now a.q.now in
+    let rec = recording_of a.rec a.row.now a.bytes.now a.i.now a.q.now in
     let words = block_words a.rate _ a.count e rec a.place _ decided.decide.ensures.0 start.requires.0 in (
       subst (λ (ws : List ℕ). Heard a.rate a.symbol a.place a.line ws heard.hear.result) words
           heard.hear.ensures.0,
       (
         c.least-after.ensures
-            ∙ ap (leastFrom a.symbol a.least)
-            (block-leads a.rate _ a.count e rec a.place _ decided.decide.ensures.1 start.requires.0),
+            ∙ ap (least_from a.symbol a.least)
+            (block_leads a.rate _ a.count e rec a.place _ decided.decide.ensures.1 start.requires.0),
         heard.hear.ensures.1
-            ∙ ap (λ (ws : List ℕ). over (plainOctets a.rate a.symbol a.count a.line ws) a.out.now)
+            ∙ ap (λ (ws : List ℕ). over (plain_octets a.rate a.symbol a.count a.line ws) a.out.now)
             words,
       ),
     )
 
-pub hear-block-spec : {M : Type 1} → statement M
-hear-block-spec =
+pub hear_block_spec : {M : Type 1} → statement M
+hear_block_spec =
     tie.close
     (tie.spec
-    (λ c κs. search rules) mul-m decide-requires hear-requires least-after-requires (λ c. search rules) returns)
+    (λ c κs. search rules) mul_m decide_requires hear_requires least_after_requires (λ c. search rules) returns)

@@ -4,49 +4,49 @@ use Prim.Native.Nat.{◌+◌, ◌-◌, ◌*◌, ◌^◌, ◌≤◌, ◌<◌}
 use native.Mathlib.Omega.{arith}
 use lib.ListN.{length, length-drop}
 use Rattle.base.proofs.Over.{lent}
-use Rattle.rules_rates.specs.Rates.{octetSymbols, octetChips}
-use Rattle.choose_recorders.specs.Rows.{recordingOf}
-use Rattle.choose_recorders.proofs.Rows.{recording-fits}
+use Rattle.rules_rates.specs.Rates.{octet_symbols, octet_chips}
+use Rattle.choose_recorders.specs.Rows.{recording_of}
+use Rattle.choose_recorders.proofs.Rows.{recording_fits}
 use borrow.Author.Rules.{rules}
 use Rattle.hear_parts.proofs.Parts.{
   Parts,
   parts_none,
-  parts-long,
+  parts_long,
   parts_more,
   parts_all,
   block_room,
-  block-usable,
-  block-symbol,
+  block_usable,
+  block_symbol,
 }
 use Rattle.hear_parts.proofs.hear_octets.Statement.{statement}
 use Rattle.hear_parts.proofs.hear_octets.Tie as tie
 
-abbrev invariant-loop : tie.invariant-loop
-invariant-loop rec row bytes i q rate at symbol out₀ chips symbols part₀ place₀ k₀ out part place k =
-    Parts rate at (recordingOf rec row bytes i q) part₀.heard.line symbol part₀.least out₀ part place k out
+abbrev invariant_loop : tie.invariant-loop
+invariant_loop rec row bytes i q rate at symbol out₀ chips symbols part₀ place₀ k₀ out part place k =
+    Parts rate at (recording_of rec row bytes i q) part₀.heard.line symbol part₀.least out₀ part place k out
 
-abbrev decreases-loop : tie.decreases-loop
-decreases-loop rec row bytes i q rate at symbol out₀ chips symbols part₀ place₀ k₀ out part place k = length out₀ - k
+abbrev decreases_loop : tie.decreases-loop
+decreases_loop rec row bytes i q rate at symbol out₀ chips symbols part₀ place₀ k₀ out part place k = length out₀ - k
 
 -- before the loop
-abbrev begun : tie.At-loop invariant-loop decreases-loop → tie.Start invariant-loop decreases-loop
+abbrev begun : tie.At-loop invariant_loop decreases_loop → tie.Start invariant_loop decreases_loop
 begun c = c.before.before.before.before.before.before.before
 
 -- in a turn there are octets left
-left : (c : tie.In-loop invariant-loop decreases-loop) → c.before.loop.k < length (begun c.before).args.out.now
-left c = omega (arith, parts-long c.before.loop.invariant)
+left : (c : tie.In-loop invariant_loop decreases_loop) → c.before.loop.k < length (begun c.before).args.out.now
+left c = omega (arith, parts_long c.before.loop.invariant)
 
 -- what the block asks of the recording
-held : (c : tie.After-block-octets invariant-loop decreases-loop) → let a = (begun c.before.before).args in
-    c.before.before.loop.place + octetChips a.rate * c.block-octets.result
-    ≤ length (recordingOf a.rec a.row.now a.bytes.now a.i.now a.q.now)
+held : (c : tie.After-block-octets invariant_loop decreases_loop) → let a = (begun c.before.before).args in
+    c.before.before.loop.place + octet_chips a.rate * c.block_octets.result
+    ≤ length (recording_of a.rec a.row.now a.bytes.now a.i.now a.q.now)
 held c =
-    block_room _ _ _ _ _ _ _ _ _ _ _ _ c.before.before.loop.invariant (left c.before) c.block-octets.ensures _
+    block_room _ _ _ _ _ _ _ _ _ _ _ _ c.before.before.loop.invariant (left c.before) c.block_octets.ensures _
     (begun c.before.before).pre.0
 
 -- and the product of its octets and chips
-ends : (c : tie.After-block-octets invariant-loop decreases-loop)
-    → c.before.before.loop.place + c.before.before.before.before.octet-chips.result * c.block-octets.result
+ends : (c : tie.After-block-octets invariant_loop decreases_loop)
+    → c.before.before.loop.place + c.before.before.before.before.octet-chips.result * c.block_octets.result
     < 2 ^ 64
 ends c =
     let start = begun c.before.before in
@@ -56,60 +56,60 @@ ends c =
     (omega (
       arith,
       h,
-      recording-fits a.rec a.row.now a.bytes.now a.i.now a.q.now (2 ^ 64) start.good.1.0.0
+      recording_fits a.rec a.row.now a.bytes.now a.i.now a.q.now (2 ^ 64) start.good.1.0.0
           start.good.1.1.0.0 start.good.1.1.1.0.0,
     ))
 
 -- the numbers of its symbols
-numbered : (c : tie.After-block-octets invariant-loop decreases-loop) → let a = (begun c.before.before).args in
+numbered : (c : tie.After-block-octets invariant_loop decreases_loop) → let a = (begun c.before.before).args in
     a.symbol + c.before.before.before.octet-symbols.result * c.before.before.loop.k
-    + octetSymbols a.rate * c.block-octets.result < 2 ^ 64
+    + octet_symbols a.rate * c.block_octets.result < 2 ^ 64
 numbered c =
-    block-symbol _ _ _ _ _ _ _ _ _ _ _ _ c.before.before.loop.invariant (left c.before)
-    c.block-octets.ensures _ _ c.before.before.before.octet-symbols.ensures
+    block_symbol _ _ _ _ _ _ _ _ _ _ _ _ c.before.before.loop.invariant (left c.before)
+    c.block_octets.ensures _ _ c.before.before.before.octet-symbols.ensures
     (begun c.before.before).pre.3
 
-loop-holds : tie.Need-loop-init invariant-loop decreases-loop
-loop-holds c = parts_none _ _ _ _ _ _ _ c.before.before.before.before.before.before.requires.2
+loop_holds : tie.Need-loop-init invariant_loop decreases_loop
+loop_holds c = parts_none _ _ _ _ _ _ _ c.before.before.before.before.before.before.requires.2
 
-mul-number : tie.Need-overflow-mul-number invariant-loop decreases-loop
-mul-number c = record { fits = omega (arith, numbered c) }
+mul_number : tie.Need-overflow-mul-number invariant_loop decreases_loop
+mul_number c = record { fits = omega (arith, numbered c) }
 
-add-number : tie.Need-overflow-add-number invariant-loop decreases-loop
-add-number c = record { fits = omega (arith, numbered c) }
+add_number : tie.Need-overflow-add-number invariant_loop decreases_loop
+add_number c = record { fits = omega (arith, numbered c) }
 
 -- a turn's block, once its octets are lent
-abbrev block : tie.After-hear-block-arg invariant-loop decreases-loop → tie.After-block-octets invariant-loop decreases-loop
+abbrev block : tie.After-hear-block-arg invariant_loop decreases_loop → tie.After-block-octets invariant_loop decreases_loop
 block c = c.before.before.before.before
 
-hear-block-requires : tie.Need-hear-block-requires invariant-loop decreases-loop
-hear-block-requires c κs =
+hear_block_requires : tie.Need-hear-block-requires invariant_loop decreases_loop
+hear_block_requires c κs =
     let loop = (block c).before.before.loop in
-    let w = (block c).block-octets.ensures in
+    let w = (block c).block_octets.ensures in
     let b = left (block c).before in (
       w.fits,
       rw (lent, length-drop) w.within,
       held (block c),
-      block-usable _ _ _ _ _ _ _ _ _ _ _ _ loop.inv b w (begun (block c).before.before).pre.1,
+      block_usable _ _ _ _ _ _ _ _ _ _ _ _ loop.inv b w (begun (block c).before.before).pre.1,
       loop.inv.line.small,
       numbered (block c),
     )
 
 -- and once it is heard
-abbrev turn : tie.After-joined invariant-loop decreases-loop → tie.After-block-octets invariant-loop decreases-loop
+abbrev turn : tie.After-joined invariant_loop decreases_loop → tie.After-block-octets invariant_loop decreases_loop
 turn c = block c.before.before.before.before
 
-mul-place : tie.Need-overflow-mul-place invariant-loop decreases-loop
-mul-place c = let h = ends (turn c) in record { fits = omega arith }
+mul_place : tie.Need-overflow-mul-place invariant_loop decreases_loop
+mul_place c = let h = ends (turn c) in record { fits = omega arith }
 
-add-place : tie.Need-overflow-add-place invariant-loop decreases-loop
-add-place c = record { fits = ends (turn c) }
+add_place : tie.Need-overflow-add-place invariant_loop decreases_loop
+add_place c = record { fits = ends (turn c) }
 
-add-k : tie.Need-overflow-add-k invariant-loop decreases-loop
-add-k c =
-    let w = (turn c).block-octets.ensures in
+add_k : tie.Need-overflow-add-k invariant_loop decreases_loop
+add_k c =
+    let w = (turn c).block_octets.ensures in
     let b = left (turn c).before in
-    let long = parts-long (turn c).before.before.loop.invariant in
+    let long = parts_long (turn c).before.before.loop.invariant in
     record {
       fits = omega (
         arith,
@@ -118,28 +118,28 @@ add-k c =
       );
     }
 
-loop-less : tie.Need-loop-smaller invariant-loop decreases-loop
-loop-less c =
-    let w = (turn c).block-octets.ensures in
+loop_less : tie.Need-loop-smaller invariant_loop decreases_loop
+loop_less c =
+    let w = (turn c).block_octets.ensures in
     let b = left (turn c).before in
-    omega (arith, w.some (omega (arith, parts-long (turn c).before.before.loop.invariant)))
+    omega (arith, w.some (omega (arith, parts_long (turn c).before.before.loop.invariant)))
 
-loop-again : tie.Need-loop-preserved invariant-loop decreases-loop
-loop-again c =
+loop_again : tie.Need-loop-preserved invariant_loop decreases_loop
+loop_again c =
     let at = (turn c).before.before in
     let call = c.before.before.before.hear-block.ensures in
-    parts_more _ _ _ _ _ _ _ _ _ _ _ _ at.loop.inv (left (turn c).before) (turn c).block-octets.ensures
+    parts_more _ _ _ _ _ _ _ _ _ _ _ _ at.loop.inv (left (turn c).before) (turn c).block_octets.ensures
     _ _ _ _ _ call.0 call.1.0 call.1.1 c.joined.ensures at.before.before.octet-chips.ensures
     at.before.octet-symbols.ensures
 
-returns : tie.Need-returns invariant-loop decreases-loop
-returns c = parts_all c.before.loop.invariant (omega (arith, parts-long c.before.loop.invariant))
+returns : tie.Need-returns invariant_loop decreases_loop
+returns c = parts_all c.before.loop.invariant (omega (arith, parts_long c.before.loop.invariant))
 
-pub hear-octets-spec : {M : Type 1} → statement M
-hear-octets-spec =
+pub hear_octets_spec : {M : Type 1} → statement M
+hear_octets_spec =
     tie.close
     (tie.spec
-    invariant-loop decreases-loop (λ c κs. search rules) (λ c κs. search rules) loop-holds (λ c. omega arith) (λ c κs. search rules)
-    mul-number add-number (λ c. omega arith) (λ c. search rules) (λ c. search rules) hear-block-requires
-    (λ c κs. search rules) mul-place add-place add-k loop-less loop-again (λ c. parts-long c.before.loop.invariant)
+    invariant_loop decreases_loop (λ c κs. search rules) (λ c κs. search rules) loop_holds (λ c. omega arith) (λ c κs. search rules)
+    mul_number add_number (λ c. omega arith) (λ c. search rules) (λ c. search rules) hear_block_requires
+    (λ c κs. search rules) mul_place add_place add_k loop_less loop_again (λ c. parts-long c.before.loop.invariant)
     returns)

@@ -2,12 +2,12 @@
 -- and the answer as numbers. Assumes nothing.
 use mathlib.Core.Path.{refl}
 use borrow.Author.Rules.{rules}
-use Rattle.read_frames.proofs.Order.{read-of-1997, cleared, as_long, in-numbers}
+use Rattle.read_frames.proofs.Order.{read_of_1997, cleared, as_long, in_numbers}
 use Rattle.read_frames.proofs.read_1997.Statement.{statement}
 use Rattle.read_frames.proofs.read_1997.Tie as tie
 
-read-as-requires : tie.Need-read-as-requires
-read-as-requires c κs =
+read_as_requires : tie.Need-read-as-requires
+read_as_requires c κs =
     let filled = c.before.before.before.before.before.before.before in
     cleared filled.before.before.before.before.args.octets.now _ filled.fill.ensures
     filled.fill.auto.0
@@ -16,12 +16,12 @@ returns : tie.Need-returns
 returns c =
     let read = c.before.before.before in
     let filled = read.before.before.before.before.before.before.before.before in
-    in-numbers c.record_of.ensures
-    (read-of-1997 _ refl _ _ _ _ (as_long _ _ _ _ _ _ _ filled.fill.auto.0 read.read_as.ensures))
+    in_numbers c.record_of.ensures
+    (read_of_1997 _ refl _ _ _ _ (as_long _ _ _ _ _ _ _ filled.fill.auto.0 read.read_as.ensures))
 
-pub read-1997-spec : {M : Type 1} → statement M
-read-1997-spec =
+pub read_1997_spec : {M : Type 1} → statement M
+read_1997_spec =
     tie.close
     (tie.spec
     (λ c κs. search rules) (λ c. search rules) (λ c. search rules) (λ c. search rules) (λ c. search rules)
-    (λ c. search rules) (λ c. search rules) read-as-requires (λ c κs. search rules) (λ c. search rules) returns)
+    (λ c. search rules) (λ c. search rules) read_as_requires (λ c κs. search rules) (λ c. search rules) returns)

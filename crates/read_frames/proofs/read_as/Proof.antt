@@ -6,27 +6,27 @@ use Prim.Native.Nat.{ℕ, ◌≤◌}
 use lib.ListN.{length, replicate}
 use Rattle.rules_chips.specs.Chips.{Taken}
 use Rattle.rules_frame.specs.declared.Kind.{Kind}
-use Rattle.rules_frame.specs.Frame.{frameChips}
+use Rattle.rules_frame.specs.Frame.{frame_chips}
 use Rattle.rules_calls.specs.declared.Told.{Told}
 use Rattle.rules_calls.specs.declared.Front.TheVariants.{Fields}
 use Rattle.rules_calls.specs.Headers.{Accepted}
-use Rattle.rules_reading.specs.Leads.{frontLeads, leastOf}
+use Rattle.rules_reading.specs.Leads.{front_leads, least_of}
 use Rattle.read_fronts.specs.declared.Opening.{Opening}
 use Rattle.read_fronts.specs.Openings.{Opened, OpensWhole}
 use borrow.Author.Rules.{rules}
-use Rattle.read_frames.proofs.Order.{as-refused, as-told}
+use Rattle.read_frames.proofs.Order.{as_refused, as_told}
 use Rattle.read_frames.proofs.read_as.Statement.{statement}
 use Rattle.read_frames.proofs.read_as.Tie as tie
 
 -- what a front that tells fields hands on to the payload
 handed : (accepted : Accepted) (k : Kind) (rec : List Taken) (o : Opening) (t : Told) (z : List ℕ)
     → OpensWhole accepted k rec o → o.front ≡ Fields t → z ≡ replicate (length z) 0
-    → (t.n ≤ 4095) × (frameChips k t.rate t.n ≤ length rec) × (Opened k rec o.line)
-    × (z ≡ replicate (length z) 0) × (o.least ≡ leastOf (frontLeads k rec))
+    → (t.n ≤ 4095) × (frame_chips k t.rate t.n ≤ length rec) × (Opened k rec o.line)
+    × (z ≡ replicate (length z) 0) × (o.least ≡ least_of (front_leads k rec))
 handed accepted k rec o t z x w e = (x.few t w, x.chips t w, x.line t w, e, x.least t w)
 
-read-payload-requires : tie.Need-read-payload-requires
-read-payload-requires c κs =
+read_payload_requires : tie.Need-read-payload-requires
+read_payload_requires c κs =
     let opened = c.before.before.before.before.before.before in
     handed _ _ _ _ _ _ opened.read_whole.ensures c.before.before.before.before.told2.given.1
     opened.before.before.before.before.before.requires
@@ -34,19 +34,19 @@ read-payload-requires c κs =
 returns : tie.Need-returns
 returns c =
     let opened = c.before.before.before in
-    as-refused _ _ _ _ _ opened.read_whole.ensures _ _ c.before.told.given.1
+    as_refused _ _ _ _ _ opened.read_whole.ensures _ _ c.before.told.given.1
     opened.before.before.before.before.before.requires
 
-returns-2 : tie.Need-returns-2
-returns-2 c =
+returns_2 : tie.Need-returns-2
+returns_2 c =
     let opened = c.before.before.before.before.before.before.before.before.before in
-    as-told _ _ _ _ _ opened.read_whole.ensures _ _ _
+    as_told _ _ _ _ _ opened.read_whole.ensures _ _ _
     c.before.before.before.before.before.before.before.told2.given.1
-    c.before.before.read-payload.ensures
+    c.before.before.read_payload.ensures
 
-pub read-as-spec : {M : Type 1} → statement M
-read-as-spec =
+pub read_as_spec : {M : Type 1} → statement M
+read_as_spec =
     tie.close
     (tie.spec
-    (λ c κs. search rules) (λ c. search rules) (λ c. search rules) read-payload-requires returns (λ c. search rules)
-    returns-2)
+    (λ c κs. search rules) (λ c. search rules) (λ c. search rules) read_payload_requires returns (λ c. search rules)
+    returns_2)

@@ -3,7 +3,7 @@ use mathlib.Core.Path.{◌≡◌}
 use Prim.Native.Nat.{ℕ, ◌≤◌, ◌<◌}
 use native.Mathlib.Omega.{arith}
 use borrow.Author.Rules.{rules}
-use Rattle.read_fronts.proofs.Order.{front-short, front-unusable, front-usable}
+use Rattle.read_fronts.proofs.Order.{front_short, front_unusable, front_usable}
 use Rattle.read_fronts.proofs.look_at_front.Statement.{statement}
 use Rattle.read_fronts.proofs.look_at_front.Tie as tie
 
@@ -16,28 +16,28 @@ within a b x e h = omega arith
 
 returns : tie.Need-returns
 returns c =
-    front-short _ _ (below _ _ _ _ c.before.chip-count.ensures c.before.before.front-chips.ensures
+    front_short _ _ (below _ _ _ _ c.before.chip-count.ensures c.before.before.front-chips.ensures
     c.if1.true)
 
-returns-2 : tie.Need-returns-2
-returns-2 c =
+returns_2 : tie.Need-returns-2
+returns_2 c =
     let searched = c.before.before.before in
     let tested = searched.before in
-    front-unusable _ _ _ _ tested.before.before.front-chips.ensures
-    (within _ _ _ tested.before.chip-count.ensures tested.if1.false) searched.first-unusable.ensures _
+    front_unusable _ _ _ _ tested.before.before.front-chips.ensures
+    (within _ _ _ tested.before.chip-count.ensures tested.if1.false) searched.first_unusable_lem.ensures _
     c.before.bad.given.1
 
-returns-3 : tie.Need-returns-3
-returns-3 c =
+returns_3 : tie.Need-returns-3
+returns_3 c =
     let searched = c.before.before in
     let tested = searched.before in
-    front-usable _ _ _ _ tested.before.before.front-chips.ensures
-    (within _ _ _ tested.before.chip-count.ensures tested.if1.false) searched.first-unusable.ensures
+    front_usable _ _ _ _ tested.before.before.front-chips.ensures
+    (within _ _ _ tested.before.chip-count.ensures tested.if1.false) searched.first_unusable_lem.ensures
     c.enum_told.given.1
 
-pub look-at-front-spec : {M : Type 1} → statement M
-look-at-front-spec =
+pub look_at_front_spec : {M : Type 1} → statement M
+look_at_front_spec =
     tie.close
     (tie.spec
     (λ c κs. search rules) (λ c κs. search rules) returns (λ c κs. search rules) (λ c. search rules)
-    (λ c. search rules) returns-2 returns-3)
+    (λ c. search rules) returns_2 returns_3)

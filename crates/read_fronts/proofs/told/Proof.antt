@@ -1,21 +1,21 @@
 -- `read_fronts::told` meets its contract: 10, then what the header tells. Assumes nothing.
 use mathlib.Core.Path.{◌≡◌, sym, ◌∙◌}
 use borrow.Author.Rules.{rules}
-use Rattle.read_fronts.proofs.Order.{usable-odd, usable-header}
-use Rattle.read_fronts.proofs.Sizes.{header-few, refused-few, header-late, odd-late}
+use Rattle.read_fronts.proofs.Order.{usable_odd, usable_header}
+use Rattle.read_fronts.proofs.Sizes.{header_few, refused_few, header_late, odd_late}
 use Rattle.read_fronts.proofs.told.Statement.{statement}
 use Rattle.read_fronts.proofs.told.Tie as tie
 
 returns : tie.Need-returns
 returns c = (
-  (λ rec x. usable-odd _ rec _ _ _ _ c.before.before.odd.given.1 x.odd c.refused.ensures),
-  (refused-few _ _ c.refused.ensures, odd-late _ _ _ c.refused.ensures),
+  (λ rec x. usable_odd _ rec _ _ _ _ c.before.before.odd.given.1 x.odd c.refused.ensures),
+  (refused_few _ _ c.refused.ensures, odd_late _ _ _ c.refused.ensures),
 )
 
-returns-2 : tie.Need-returns-2
-returns-2 c = (
+returns_2 : tie.Need-returns-2
+returns_2 c = (
   (λ rec x.
-      usable-header _ rec _ _ _ x c.before.before.before.before.before.enum_told.given.1
+      usable_header _ rec _ _ _ x c.before.before.before.before.before.enum_told.given.1
       c.before.before.header_of.ensures),
   (
     (λ t w. header-few _ _ _ _ t (sym c.before.before.header_of.ensures ∙ w)),
@@ -23,8 +23,8 @@ returns-2 c = (
   ),
 )
 
-pub told-spec : {M : Type 1} → statement M
-told-spec =
+pub told_spec : {M : Type 1} → statement M
+told_spec =
     tie.close
     (tie.spec
-    (λ c. search rules) (λ c κs. search rules) (λ c. search rules) (λ c κs. search rules) returns returns-2)
+    (λ c. search rules) (λ c κs. search rules) (λ c. search rules) (λ c κs. search rules) returns returns_2)

@@ -3,14 +3,14 @@ use mathlib.Core.Path.{refl, sym, ◌∙◌}
 use native.Mathlib.Omega.{arith}
 use borrow.Author.Rules.{rules}
 use Rattle.rules_calls.specs.declared.Refusal.TheVariants.{ShorterThanFront}
-use Rattle.rules_receiving.proofs.Takes.{takes-payload, takes-stays, takes-refused}
+use Rattle.rules_receiving.proofs.Takes.{takes_payload, takes_stays, takes_refused}
 use Rattle.receive_calls.proofs.Closes.{
-  refused-other,
-  kept-other,
-  close-taken,
-  close-refused,
-  way-short,
-  way-stays,
+  refused_other,
+  kept_other,
+  close_taken,
+  close_refused,
+  way_short,
+  way_stays,
 }
 use Rattle.receive_calls.proofs.close_in.Statement.{statement}
 use Rattle.receive_calls.proofs.close_in.Tie as tie
@@ -21,53 +21,53 @@ returns c =
     let test = call.before.before in
     let asked = test.before.before in
     let a = asked.before.before.before.args in
-    close-taken a.s a.octets.now _ asked.takes.ensures _ _ call.refuse.new.1.0
-    test.before.if1.true refl (refused-other _ ShorterThanFront call.refuse.ensures.0 (omega arith))
+    close_taken a.s a.octets.now _ asked.takes.ensures _ _ call.refuse.new.1.0
+    test.before.if1.true refl (refused_other _ ShorterThanFront call.refuse.ensures.0 (omega arith))
     call.refuse.auto.1.0
-    (way-short a.s a.octets.now _ _ call.refuse.ensures.1 test.if2.true call.refuse.ensures.0)
+    (way_short a.s a.octets.now _ _ call.refuse.ensures.1 test.if2.true call.refuse.ensures.0)
 
-tell-payload-requires : tie.Need-tell-payload-requires
-tell-payload-requires c κs =
+tell_payload_requires : tie.Need-tell-payload-requires
+tell_payload_requires c κs =
     let test = c.before in
     let asked = test.before.before.before in
     let a = asked.before.before.before.args in
-    (takes-payload a.s.progress _ (sym asked.takes.ensures ∙ test.before.before.if1.true)
+    (takes_payload a.s.progress _ (sym asked.takes.ensures ∙ test.before.before.if1.true)
     test.if3.true).few
 
-returns-2 : tie.Need-returns-2
-returns-2 c =
+returns_2 : tie.Need-returns-2
+returns_2 c =
     let call = c.before.before in
     let test = call.before.before in
     let asked = test.before.before.before in
     let a = asked.before.before.before.args in
-    close-taken a.s a.octets.now _ asked.takes.ensures _ _ call.tell-payload.new.1.0
+    close_taken a.s a.octets.now _ asked.takes.ensures _ _ call.tell-payload.new.1.0
     test.before.before.if1.true refl call.tell-payload.ensures.1 call.tell-payload.auto.1.0
     (λ kind fed y. call.tell-payload.ensures.0 kind fed a.s.hold a.s.preamble a.s.header
     test.if3.true y)
 
-returns-3 : tie.Need-returns-3
-returns-3 c =
+returns_3 : tie.Need-returns-3
+returns_3 c =
     let call = c.before.before in
     let test = call.before.before in
     let asked = test.before.before.before in
     let a = asked.before.before.before.args in
     let taken = sym asked.takes.ensures ∙ test.before.before.if1.true in
-    let stays = takes-stays a.s.progress _ taken test.before.if2.false test.if3.false in
-    close-taken a.s a.octets.now _ asked.takes.ensures _ _ call.kept.new.1.0
+    let stays = takes_stays a.s.progress _ taken test.before.if2.false test.if3.false in
+    close_taken a.s a.octets.now _ asked.takes.ensures _ _ call.kept.new.1.0
     test.before.before.if1.true refl
-    (kept-other a.s.progress _ call.kept.ensures.0 (takes-refused a.s.progress _ taken stays))
-    call.kept.auto.1.0 (way-stays a.s a.octets.now _ _ call.kept.ensures.1 stays call.kept.ensures.0)
+    (kept_other a.s.progress _ call.kept.ensures.0 (takes_refused a.s.progress _ taken stays))
+    call.kept.auto.1.0 (way_stays a.s a.octets.now _ _ call.kept.ensures.1 stays call.kept.ensures.0)
 
-returns-4 : tie.Need-returns-4
-returns-4 c =
+returns_4 : tie.Need-returns-4
+returns_4 c =
     let asked = c.before.before in
     let a = asked.before.before.before.args in
-    close-refused a.s a.octets.now _ asked.takes.ensures _ c.before.if1.false c.not-open.ensures
+    close_refused a.s a.octets.now _ asked.takes.ensures _ c.before.if1.false c.not-open.ensures
 
-pub close-in-spec : {M : Type 1} → statement M
-close-in-spec =
+pub close_in_spec : {M : Type 1} → statement M
+close_in_spec =
     tie.close
     (tie.spec
-    (λ c κs. search rules) (λ c κs. search rules) (λ c. search rules) returns tell-payload-requires
-    (λ c. search rules) returns-2 (λ c κs. search rules) (λ c. search rules) returns-3 (λ c κs. search rules)
-    returns-4)
+    (λ c κs. search rules) (λ c κs. search rules) (λ c. search rules) returns tell_payload_requires
+    (λ c. search rules) returns_2 (λ c κs. search rules) (λ c. search rules) returns_3 (λ c κs. search rules)
+    returns_4)

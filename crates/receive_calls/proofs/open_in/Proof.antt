@@ -1,7 +1,7 @@
 -- `receive_calls::open_in` meets its contract, by the kind. Assumes nothing.
 use mathlib.Core.Path.{refl}
 use borrow.Author.Rules.{rules}
-use Rattle.receive_calls.proofs.Opens.{opens-kind, opens-none}
+use Rattle.receive_calls.proofs.Opens.{opens_kind, opens_none}
 use Rattle.receive_calls.proofs.open_in.Statement.{statement}
 use Rattle.receive_calls.proofs.open_in.Tie as tie
 
@@ -10,28 +10,28 @@ returns c =
     let asked = c.before.before in
     let fill = asked.before.before.before.fill in
     record {
-      answer-is = refl;
-      receiver-is =
-          opens-kind _ _ _ _ _ fill.auto.0 asked.is-kind.ensures c.fresh-receiver.ensures
+      answer_is = refl;
+      receiver_is =
+          opens_kind _ _ _ _ _ fill.auto.0 asked.is_kind_lem.ensures c.fresh-receiver.ensures
           c.before.if1.true;
-      buffer-is = fill.ensures;
+      buffer_is = fill.ensures;
     }
 
-returns-2 : tie.Need-returns-2
-returns-2 c =
+returns_2 : tie.Need-returns-2
+returns_2 c =
     let asked = c.before.before in
     let fill = asked.before.before.before.fill in
     record {
-      answer-is = refl;
-      receiver-is =
-          opens-none _ _ _ _ _ fill.auto.0 asked.is-kind.ensures c.fresh-receiver2.ensures
+      answer_is = refl;
+      receiver_is =
+          opens_none _ _ _ _ _ fill.auto.0 asked.is_kind_lem.ensures c.fresh-receiver2.ensures
           c.before.if1.false;
-      buffer-is = fill.ensures;
+      buffer_is = fill.ensures;
     }
 
-pub open-in-spec : {M : Type 1} → statement M
-open-in-spec =
+pub open_in_spec : {M : Type 1} → statement M
+open_in_spec =
     tie.close
     (tie.spec
     (λ c κs. search rules) (λ c κs. search rules) (λ c κs. search rules) (λ c. search rules) returns
-    (λ c κs. search rules) (λ c. search rules) returns-2)
+    (λ c κs. search rules) (λ c. search rules) returns_2)

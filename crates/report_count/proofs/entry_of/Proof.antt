@@ -6,17 +6,17 @@ use Rattle.report_count.proofs.entry_of.Tie as tie
 returns : tie.Need-returns
 returns c = rw c.match.keys1
 
-returns-2 : tie.Need-returns-2
-returns-2 c = rw c.match.keys2
+returns_2 : tie.Need-returns-2
+returns_2 c = rw c.match.keys2
 
-returns-3 : tie.Need-returns-3
-returns-3 c = rw c.match.keys3
+returns_3 : tie.Need-returns-3
+returns_3 c = rw c.match.keys3
 
-returns-4 : tie.Need-returns-4
-returns-4 c =
+returns_4 : tie.Need-returns-4
+returns_4 c =
     let code = c.before.args.code in
     let h = c.match.rest in
     rw (ne_eqb code 10 h.0.0.1, ne_eqb code 20 h.0.1, ne_eqb code 55 h.1)
 
-pub entry-of-spec : {M : Type 1} → statement M
-entry-of-spec = tie.close (tie.spec returns returns-2 returns-3 returns-4)
+pub entry_of_spec : {M : Type 1} → statement M
+entry_of_spec = tie.close (tie.spec returns returns_2 returns_3 returns_4)

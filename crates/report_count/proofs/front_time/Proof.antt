@@ -6,8 +6,8 @@ use Rattle.report_count.proofs.front_time.Tie as tie
 returns : tie.Need-returns
 returns c = rw (eq-eqb c.before.args.kind 0 c.if1.true)
 
-returns-2 : tie.Need-returns-2
-returns-2 c = rw (ne_eqb c.before.args.kind 0 c.if1.false)
+returns_2 : tie.Need-returns-2
+returns_2 c = rw (ne_eqb c.before.args.kind 0 c.if1.false)
 
-pub front-time-spec : {M : Type 1} → statement M
-front-time-spec = tie.close (tie.spec returns returns-2)
+pub front_time_spec : {M : Type 1} → statement M
+front_time_spec = tie.close (tie.spec returns returns_2)

@@ -6,8 +6,8 @@ use Rattle.report_count.proofs.is_closer.Tie as tie
 returns : tie.Need-returns
 returns c = rw (eq-eqb c.before.args.some 0 c.if1.true)
 
-returns-2 : tie.Need-returns-2
-returns-2 c = rw (ne_eqb c.before.args.some 0 c.if1.false)
+returns_2 : tie.Need-returns-2
+returns_2 c = rw (ne_eqb c.before.args.some 0 c.if1.false)
 
-pub is-closer-spec : {M : Type 1} → statement M
-is-closer-spec = tie.close (tie.spec returns returns-2)
+pub is_closer_spec : {M : Type 1} → statement M
+is_closer_spec = tie.close (tie.spec returns returns_2)

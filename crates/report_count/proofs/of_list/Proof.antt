@@ -9,12 +9,12 @@ use denote.Ref.{Bor}
 use lib.ListN.{length, get_or, take, length-take, length-map, get_or-map}
 use lib.Seq.{take_all}
 use borrow.Author.Tests.{eq-eqb, ne_eqb, le-leb, lt-leb}
-use Rattle.rules_report.specs.Totals.{Recording, outcomeOf}
-use Rattle.rules_report.specs.Report.{empty, reportOf, countedOf, recordings, list_of}
+use Rattle.rules_report.specs.Totals.{Recording, outcome_of}
+use Rattle.rules_report.specs.Report.{empty, report_of, counted_of, recordings, list_of}
 use Rattle.rules_report.specs.declared.Report.{Report}
 use Rattle.rules_report.specs.declared.Counted.{Counted}
 use Rattle.rules_report.proofs.Taking.{counted_next}
-use Rattle.rules_report.proofs.Lists.{none-counted, length-recordings, recordings-next}
+use Rattle.rules_report.proofs.Lists.{none_counted, length_recordings, recordings_next}
 use Rattle.report_count.proofs.of_list.Statement.{statement}
 use Rattle.report_count.proofs.of_list.Tie as tie
 
@@ -23,7 +23,7 @@ rows list = map (λ r. r.now) list
 
 -- the report of the first so many
 abbrev firsts : List ℕ → List (Bor (List ℕ)) → ℕ → Report
-firsts kinds list i = reportOf (map outcomeOf (take i (recordings kinds (rows list))))
+firsts kinds list i = report_of (map outcome_of (take i (recordings kinds (rows list))))
 
 -- no recording: what a row holds past its end
 abbrev nothing : Bor (List ℕ)
@@ -43,11 +43,11 @@ module _ (kinds : List ℕ) (list : List (Bor (List ℕ))) where
 
     long : length all ≡ length list
     long =
-        length-recordings kinds (rows list) (same ∙ sym (length-map list (λ r. r.now)))
+        length_recordings kinds (rows list) (same ∙ sym (length-map list (λ r. r.now)))
         ∙ length-map list (λ r. r.now)
 
     next : (i : ℕ) (p : Report) (c : Counted) → i < length list → i < 1000 → p ≡ firsts kinds list i
-        → c ≡ countedOf p (record { kind = get_or kinds i 0; chips = (get_or list i nothing).now })
+        → c ≡ counted_of p (record { kind = get_or kinds i 0; chips = (get_or list i nothing).now })
         → c.report ≡ firsts kinds list (i + 1)
     next i p c h few is e =
         let r : Recording = record { kind = get_or kinds i 0; chips = get_or (rows list) i [] } in
@@ -55,9 +55,9 @@ module _ (kinds : List ℕ) (list : List (Bor (List ℕ))) where
         ap (λ (x : Counted). x.report)
         (e ∙ (λ j. countedOf (is j) (record { kind = get_or kinds i 0; chips = here j }))
         ∙ counted_next (take i all) r (omega (arith, length-take i all)))
-        ∙ ap (λ (rs : List Recording). reportOf (map outcomeOf rs))
+        ∙ ap (λ (rs : List Recording). reportOf (map outcome_of rs))
         (sym
-        (recordings-next kinds (rows list) i (omega (arith, same)) (omega (arith, length-map list (λ r. r.now)))))
+        (recordings_next kinds (rows list) i (omega (arith, same)) (omega (arith, length-map list (λ r. r.now)))))
 
     many : (i : ℕ) (p : Report) → i ≡ 1000 → i < length list → p ≡ firsts kinds list i
         → answer 31 p ≡ list_of kinds (rows list)
@@ -70,26 +70,26 @@ module _ (kinds : List ℕ) (list : List (Bor (List ℕ))) where
         → answer 0 p ≡ list_of kinds (rows list)
     unfolding list_of
     whole i p h few e =
-        let to-all : take i all ≡ take 1000 all =
+        let to_all : take i all ≡ take 1000 all =
         take_all i all (omega (arith, long)) ∙ sym (take_all 1000 all (omega (arith, long))) in
-        rw (e, to-all, length-map, eq-eqb (length kinds) (length list) same, le-leb (length list) 1000 (omega arith))
+        rw (e, to_all, length-map, eq-eqb (length kinds) (length list) same, le-leb (length list) 1000 (omega arith))
 
-abbrev invariant-loop : tie.invariant-loop
-invariant-loop kinds list report₀ i₀ report i = (i ≤ length list) × (i ≤ 1000) × (report ≡ firsts kinds list i)
+abbrev invariant_loop : tie.invariant-loop
+invariant_loop kinds list report₀ i₀ report i = (i ≤ length list) × (i ≤ 1000) × (report ≡ firsts kinds list i)
 
-abbrev decreases-loop : tie.decreases-loop
-decreases-loop kinds list report₀ i₀ report i = length list - i
+abbrev decreases_loop : tie.decreases-loop
+decreases_loop kinds list report₀ i₀ report i = length list - i
 
-returns : tie.Need-returns invariant-loop decreases-loop
+returns : tie.Need-returns invariant_loop decreases_loop
 returns c =
     let a = c.before.before.before.args in
     ap (answer 7) c.before.none.ensures ∙ differ a.kinds.now a.list.now (λ e. omega (arith, c.if1.true))
 
-loop-holds : tie.Need-loop-init invariant-loop decreases-loop
-loop-holds c = (omega arith, omega arith, c.before.none.ensures ∙ none-counted)
+loop_holds : tie.Need-loop-init invariant_loop decreases_loop
+loop_holds c = (omega arith, omega arith, c.before.none.ensures ∙ none_counted)
 
-returns-2 : tie.Need-returns-2 invariant-loop decreases-loop
-returns-2 c =
+returns_2 : tie.Need-returns-2 invariant_loop decreases_loop
+returns_2 c =
     let turn = c.before in
     let alike = turn.before.before in
     let a = alike.before.before.before.args in
@@ -97,8 +97,8 @@ returns-2 c =
     let last : turn.before.loop.i ≡ 1000 = omega (arith, turn.before.loop.invariant.1, c.if2.true) in
     many a.kinds.now a.list.now same _ _ last turn.loop-test.true turn.before.loop.invariant.2
 
-loop-again : tie.Need-loop-preserved invariant-loop decreases-loop
-loop-again c =
+loop_again : tie.Need-loop-preserved invariant_loop decreases_loop
+loop_again c =
     let counted = c.before in
     let short = counted.before.before.before in
     let turn = short.before in
@@ -112,16 +112,16 @@ loop-again c =
           counted.add.ensures,
     )
 
-returns-3 : tie.Need-returns-3 invariant-loop decreases-loop
-returns-3 c =
+returns_3 : tie.Need-returns-3 invariant_loop decreases_loop
+returns_3 c =
     let alike = c.before.before in
     let a = alike.before.before.before.args in
     let same : length a.kinds.now ≡ length a.list.now = omega (arith, alike.if1.false) in
     whole a.kinds.now a.list.now same _ _ c.loop-test.false c.before.loop.invariant.1
     c.before.loop.invariant.2
 
-pub of-list-spec : {M : Type 1} → statement M
-of-list-spec =
+pub of_list_spec : {M : Type 1} → statement M
+of_list_spec =
     tie.close
-    (tie.spec invariant-loop decreases-loop (λ c κs. tt) returns loop-holds returns-2 (λ c. omega arith) (λ c. omega arith)
-    (λ c. omega arith) (λ c. omega arith) (λ c κs. tt) (λ c. omega arith) (λ c. omega arith) loop-again returns-3)
+    (tie.spec invariant_loop decreases_loop (λ c κs. tt) returns loop_holds returns_2 (λ c. omega arith) (λ c. omega arith)
+    (λ c. omega arith) (λ c. omega arith) (λ c κs. tt) (λ c. omega arith) (λ c. omega arith) loop_again returns_3)

@@ -6,48 +6,48 @@ use lib.Dec.{leb}
 use borrow.Author.Rules.{rules}
 use borrow.Author.Tests.{lt-ltb, le-ltb}
 use Rattle.base.proofs.Tests.{failed, passed}
-use Rattle.rules_report.specs.Report.{at_most, takesMore}
+use Rattle.rules_report.specs.Report.{at_most, takes_more}
 use Rattle.rules_report.specs.declared.Report.{Report}
 use Rattle.report_count.proofs.takes_more.Statement.{statement}
 use Rattle.report_count.proofs.takes_more.Tie as tie
 
 -- one test that fails is enough
 module _ (p : Report) where
-  full : 1000 ≤ p.seen → false ≡ takesMore p
-  unfolding takesMore
+  full : 1000 ≤ p.seen → false ≡ takes_more p
+  unfolding takes_more
   full h = simp (le-ltb p.seen 1000 h)
 
-  frames-many : at_most 1000 p.frames ≡ false → false ≡ takesMore p
-  unfolding takesMore
-  frames-many h = simp (h, and-false)
+  frames_many : at_most 1000 p.frames ≡ false → false ≡ takes_more p
+  unfolding takes_more
+  frames_many h = simp (h, and-false)
 
-  octets-many : at_most 4095000 p.octets ≡ false → false ≡ takesMore p
-  unfolding takesMore
-  octets-many h = simp (h, and-false)
+  octets_many : at_most 4095000 p.octets ≡ false → false ≡ takes_more p
+  unfolding takes_more
+  octets_many h = simp (h, and-false)
 
-  refused-many : at_most 1000 p.refused ≡ false → false ≡ takesMore p
-  unfolding takesMore
-  refused-many h = simp (h, and-false)
+  refused_many : at_most 1000 p.refused ≡ false → false ≡ takes_more p
+  unfolding takes_more
+  refused_many h = simp (h, and-false)
 
-  all-few : p.seen < 1000 → at_most 1000 p.frames ≡ true → at_most 4095000 p.octets ≡ true
-      → at_most 1000 p.refused ≡ true → leb p.airtime 32952000 ≡ takesMore p
-  unfolding takesMore
-  all-few h f o r = simp (lt-ltb p.seen 1000 h, f, o, r)
+  all_few : p.seen < 1000 → at_most 1000 p.frames ≡ true → at_most 4095000 p.octets ≡ true
+      → at_most 1000 p.refused ≡ true → leb p.airtime 32952000 ≡ takes_more p
+  unfolding takes_more
+  all_few h f o r = simp (lt-ltb p.seen 1000 h, f, o, r)
 
-returns-5 : tie.Need-returns-5
-returns-5 c =
+returns_5 : tie.Need-returns-5
+returns_5 c =
     let third = c.before in
     let second = third.before.before.before.before in
     let first = second.before.before.before.before in
     let few = first.before.before.before.before in
-    all-few _ few.if1.false (passed first.before.at-most.ensures first.if2.false)
+    all_few _ few.if1.false (passed first.before.at-most.ensures first.if2.false)
     (passed second.before.at-most2.ensures second.if3.false)
     (passed third.before.at-most3.ensures third.if4.false)
 
-pub takes-more-spec : {M : Type 1} → statement M
-takes-more-spec =
+pub takes_more_spec : {M : Type 1} → statement M
+takes_more_spec =
     tie.close
     (tie.spec (λ c. full _ c.if1.true) (λ c. search rules) (λ c κs. tt)
     (λ c. frames-many _ (failed c.before.at-most.ensures c.if2.true)) (λ c. search rules) (λ c κs. tt)
     (λ c. octets-many _ (failed c.before.at-most2.ensures c.if3.true)) (λ c. search rules) (λ c κs. tt)
-    (λ c. refused-many _ (failed c.before.at-most3.ensures c.if4.true)) returns-5)
+    (λ c. refused-many _ (failed c.before.at-most3.ensures c.if4.true)) returns_5)

@@ -5,21 +5,21 @@ use Prim.Native.Nat.{ℕ, ◌+◌, ◌<◌, ◌^◌}
 use native.Mathlib.Omega.{arith}
 use lib.ListN.{get_or}
 use borrow.Author.Rules.{rules}
-use Rattle.rules_report.specs.Report.{takesMore}
+use Rattle.rules_report.specs.Report.{takes_more}
 use Rattle.rules_report.specs.declared.Report.{Report}
-use Rattle.rules_report.proofs.Lists.{takes, more-set}
+use Rattle.rules_report.proofs.Lists.{takes, more_set}
 use Rattle.report_count.proofs.with_refusal.Statement.{statement}
 use Rattle.report_count.proofs.with_refusal.Tie as tie
 
 -- an entry takes one more
-fits : (p : Report) → takesMore p ≡ true → (j : ℕ) → get_or p.refused j 0 + 1 < 2 ^ 64
-fits p h j = omega (arith, (takes p h).refused-within j)
+fits : (p : Report) → takes_more p ≡ true → (j : ℕ) → get_or p.refused j 0 + 1 < 2 ^ 64
+fits p h j = omega (arith, (takes p h).refused_within j)
 
-one-fits : tie.Need-overflow-add-q-2
-one-fits c = let s = c.before in record { fits = fits s.args.p s.requires.0 _ }
+one_fits : tie.Need-overflow-add-q-2
+one_fits c = let s = c.before in record { fits = fits s.args.p s.requires.0 _ }
 
-pub with-refusal-spec : {M : Type 1} → statement M
-with-refusal-spec =
+pub with_refusal_spec : {M : Type 1} → statement M
+with_refusal_spec =
     tie.close
     (tie.spec (λ c. omega (arith, (takes c.args.p c.requires.0).seen_below)) (λ c. search rules) (λ c. search rules)
-    one-fits (λ c. search rules) (λ c. search rules) (λ c o e. rw (e, more-set)))
+    one_fits (λ c. search rules) (λ c. search rules) (λ c o e. rw (e, more_set)))

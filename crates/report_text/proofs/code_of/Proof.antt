@@ -13,8 +13,8 @@ other (suc (suc zero)) a b c = absurd (c refl)
 other (suc (suc (suc zero))) a b c = refl
 other (suc (suc (suc (suc k)))) a b c = refl
 
-pub code-of-spec : {M : Type 1} → statement M
-code-of-spec =
+pub code_of_spec : {M : Type 1} → statement M
+code_of_spec =
     tie.close
     (tie.spec
     (λ c. rw c.match.keys1) (λ c. rw c.match.keys2) (λ c. rw c.match.keys3)

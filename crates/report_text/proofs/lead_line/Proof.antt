@@ -4,21 +4,21 @@ use Prim.Native.Nat.{ℕ}
 use mathlib.Core.Path.{◌≡◌}
 use borrow.Author.Rules.{rules}
 use borrow.Author.Tests.{eq-eqb, ne_eqb}
-use Rattle.rules_report.specs.Text.{word, leadLine}
-use Rattle.report_text.specs.Placed.{pairLine}
+use Rattle.rules_report.specs.Text.{word, lead_line}
+use Rattle.report_text.specs.Placed.{pair_line}
 use Rattle.report_text.proofs.lead_line.Statement.{statement}
 use Rattle.report_text.proofs.lead_line.Tie as tie
 
-none : (some lead recording : ℕ) → some ≡ 0 → leadLine some lead recording ≡ word "lead none\n"
+none : (some lead recording : ℕ) → some ≡ 0 → lead_line some lead recording ≡ word "lead none\n"
 none some lead recording h = rw (eq-eqb some 0 h)
 
-there : (some lead recording : ℕ) → (some ≡ 0 → ⊥) → leadLine some lead recording
-    ≡ pairLine (word "lead ") lead (word " recording ") recording
+there : (some lead recording : ℕ) → (some ≡ 0 → ⊥) → lead_line some lead recording
+    ≡ pair_line (word "lead ") lead (word " recording ") recording
 there some lead recording h = rw (ne_eqb some 0 h)
 
-put-word-requires : tie.Need-put-word-requires
+put_word_requires : tie.Need-put-word-requires
 unfolding word
-put-word-requires c κs =
+put_word_requires c κs =
     let test = c.before.before in
     let start = test.before.before.args in
     rw (none start.some start.lead start.recording test.if1.true) at test.before.before.requires
@@ -30,23 +30,23 @@ returns c =
     let start = test.before.before.args in
     rw (none start.some start.lead start.recording test.if1.true) c.before.before.put_word.ensures
 
-put-line-requires : tie.Need-put-line-requires
+put_line_requires : tie.Need-put-line-requires
 unfolding word
-put-line-requires c κs =
+put_line_requires c κs =
     let test = c.before.before.before in
     let start = test.before.before.args in
     rw (there start.some start.lead start.recording test.if1.false) at test.before.before.requires
 
-returns-2 : tie.Need-returns-2
+returns_2 : tie.Need-returns-2
 unfolding word
-returns-2 c =
+returns_2 c =
     let test = c.before.before.before.before.before.before in
     let start = test.before.before.args in
     rw (there start.some start.lead start.recording test.if1.false) c.before.before.put-line.ensures
 
-pub lead-line-spec : {M : Type 1} → statement M
-lead-line-spec =
+pub lead_line_spec : {M : Type 1} → statement M
+lead_line_spec =
     tie.close
     (tie.spec
-    (λ c. search rules) put-word-requires (λ c. search rules) returns (λ c. search rules) (λ c. search rules)
-    put-line-requires (λ c. search rules) returns-2)
+    (λ c. search rules) put_word_requires (λ c. search rules) returns (λ c. search rules) (λ c. search rules)
+    put_line_requires (λ c. search rules) returns_2)

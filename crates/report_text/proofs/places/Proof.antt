@@ -6,15 +6,15 @@ use Prim.Native.Nat.{ℕ, suc, ◌+◌, ◌-◌, ◌/◌, ◌≤◌, ◌<◌}
 use native.Mathlib.Omega.{arith}
 use borrow.Author.Rules.{rules}
 use Rattle.rules_report.specs.Text.{places}
-use Rattle.rules_report.proofs.Spelling.{places-one, places-more}
+use Rattle.rules_report.proofs.Spelling.{places_one, places_more}
 use Rattle.report_text.proofs.places.Statement.{statement}
 use Rattle.report_text.proofs.places.Tie as tie
 
-abbrev invariant-loop : tie.invariant-loop
-invariant-loop x rest₀ k₀ rest k = (k ≤ 20) × (1 + places 19 x ≡ k + places (20 - k) rest)
+abbrev invariant_loop : tie.invariant-loop
+invariant_loop x rest₀ k₀ rest k = (k ≤ 20) × (1 + places 19 x ≡ k + places (20 - k) rest)
 
-abbrev decreases-loop : tie.decreases-loop
-decreases-loop x rest₀ k₀ rest k = 20 - k
+abbrev decreases_loop : tie.decreases-loop
+decreases_loop x rest₀ k₀ rest k = 20 - k
 
 -- one digit more
 more : (n rest k : ℕ) → k < 20 → 10 ≤ rest → n ≡ k + places (20 - k) rest
@@ -22,35 +22,35 @@ more : (n rest k : ℕ) → k < 20 → 10 ≤ rest → n ≡ k + places (20 - k)
 more n rest k h g e =
     let left : 20 - k ≡ suc (20 - (k + 1)) = omega arith in
     let step : places (20 - k) rest ≡ suc (places (20 - (k + 1)) (rest / 10)) =
-    ap (λ (m : ℕ). places m rest) left ∙ places-more (20 - (k + 1)) rest g in
+    ap (λ (m : ℕ). places m rest) left ∙ places_more (20 - (k + 1)) rest g in
     omega arith
 
 done : (n rest k : ℕ) → rest < 10 → 1 + n ≡ k + places (20 - k) rest → k ≡ n
-done n rest k h e = omega (arith, places-one (20 - k) rest h)
+done n rest k h e = omega (arith, places_one (20 - k) rest h)
 
 full : (n rest k : ℕ) → k ≡ 20 → 1 + n ≡ k + places (20 - k) rest → 20 ≡ n
 unfolding places
 full n rest k h e = let last : places (20 - k) rest ≡ 1 = ap (λ (j : ℕ). places (20 - j) rest) h in omega arith
 
-loop-holds : tie.Need-loop-init invariant-loop decreases-loop
-loop-holds c = search rules
+loop_holds : tie.Need-loop-init invariant_loop decreases_loop
+loop_holds c = search rules
 
-returns : tie.Need-returns invariant-loop decreases-loop
+returns : tie.Need-returns invariant_loop decreases_loop
 returns c = done _ c.before.before.loop.rest _ c.if1.true c.before.before.loop.invariant.1
 
-add-k : tie.Need-overflow-add-k invariant-loop decreases-loop
-add-k c = omega arith
+add_k : tie.Need-overflow-add-k invariant_loop decreases_loop
+add_k c = omega arith
 
-loop-less : tie.Need-loop-smaller invariant-loop decreases-loop
-loop-less c = omega arith
+loop_less : tie.Need-loop-smaller invariant_loop decreases_loop
+loop_less c = omega arith
 
-loop-again : tie.Need-loop-preserved invariant-loop decreases-loop
-loop-again c =
+loop_again : tie.Need-loop-preserved invariant_loop decreases_loop
+loop_again c =
     let now = c.before.before.loop in (omega arith, more _ now.rest _ (omega arith) c.if1.false now.invariant.1)
 
-returns-2 : tie.Need-returns-2 invariant-loop decreases-loop
-returns-2 c = full _ c.before.loop.rest c.before.loop.k (omega arith) c.before.loop.invariant.1
+returns_2 : tie.Need-returns-2 invariant_loop decreases_loop
+returns_2 c = full _ c.before.loop.rest c.before.loop.k (omega arith) c.before.loop.invariant.1
 
-pub places-spec : {M : Type 1} → statement M
-places-spec =
-    tie.close (tie.spec invariant-loop decreases-loop loop-holds returns add-k loop-less loop-again returns-2)
+pub places_spec : {M : Type 1} → statement M
+places_spec =
+    tie.close (tie.spec invariant_loop decreases_loop loop_holds returns add_k loop_less loop_again returns_2)

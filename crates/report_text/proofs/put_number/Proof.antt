@@ -19,18 +19,18 @@ use lib.Seq.{
 }
 use borrow.Author.Rules.{rules}
 use Rattle.rules_report.specs.Text.{digits, places, decimal}
-use Rattle.rules_report.proofs.Spelling.{length-decimal}
+use Rattle.rules_report.proofs.Spelling.{length_decimal}
 use Rattle.report_text.specs.Placed.{Placed}
 use Rattle.report_text.proofs.put_number.Statement.{statement}
 use Rattle.report_text.proofs.put_number.Tie as tie
 
-abbrev invariant-loop : tie.invariant-loop
-invariant-loop x at out₀ end rest₀ i₀ out rest i = (at ≤ i) × (i ≤ end) × (length out ≡ length out₀)
+abbrev invariant_loop : tie.invariant-loop
+invariant_loop x at out₀ end rest₀ i₀ out rest i = (at ≤ i) × (i ≤ end) × (length out ≡ length out₀)
     × (take at out ≡ take at out₀) × (drop end out ≡ drop end out₀)
     × (digits (end - at) x ≡ digits (i - at) rest ++ slice i end out)
 
-abbrev decreases-loop : tie.decreases-loop
-decreases-loop x at out₀ end rest₀ i₀ out rest i = i
+abbrev decreases_loop : tie.decreases-loop
+decreases_loop x at out₀ end rest₀ i₀ out rest i = i
 
 start : (x at end : ℕ) (d : List ℕ) → digits (end - at) x ≡ digits (end - at) x ++ slice end end d
 start x at end d = rw (slice_empty end d) (sym (append-nil (digits (end - at) x)))
@@ -74,22 +74,22 @@ whole x at n i rest d e h z f r g =
     let count : at + n - at ≡ places 19 x = omega arith in
     let put : digits (places 19 x) x ≡ slice at (at + n) e = rw (z, none, count) at g in
     record {
-      stop = omega (arith, length-decimal x);
+      stop = omega (arith, length_decimal x);
       front = sym (take-append-drop at (take (at + n) e)) ∙ rw (take-take at (at + n) e (omega arith), f, put);
       rest = r;
     }
 
-add-end : tie.Need-overflow-add-end invariant-loop decreases-loop
-add-end c = omega (arith, length-decimal c.before.before.args.x)
+add_end : tie.Need-overflow-add-end invariant_loop decreases_loop
+add_end c = omega (arith, length_decimal c.before.before.args.x)
 
-loop-holds : tie.Need-loop-init invariant-loop decreases-loop
-loop-holds c = (omega arith, omega arith, refl, refl, refl, start _ _ _ _)
+loop_holds : tie.Need-loop-init invariant_loop decreases_loop
+loop_holds c = (omega arith, omega arith, refl, refl, refl, start _ _ _ _)
 
-slice-write-out : tie.Need-slice-write-out invariant-loop decreases-loop
-slice-write-out c = omega (arith, length-decimal c.before.before.before.before.args.x)
+slice_write_out : tie.Need-slice-write-out invariant_loop decreases_loop
+slice_write_out c = omega (arith, length_decimal c.before.before.before.before.args.x)
 
-loop-again : tie.Need-loop-preserved invariant-loop decreases-loop
-loop-again c =
+loop_again : tie.Need-loop-preserved invariant_loop decreases_loop
+loop_again c =
     let start = c.before.before.before.before in
     let now = c.before.loop in
     let end = start.args.at + c.before.before.places.result in (
@@ -99,18 +99,18 @@ loop-again c =
       kept _ now.out start.args.at now.i _ (omega arith) now.invariant.3,
       after _ now.out now.i end _ (omega arith) (omega arith) now.invariant.4,
       turn _ now.out start.args.at now.i end now.rest (omega arith) (omega arith)
-          (omega (arith, length-decimal start.args.x)) now.invariant.5,
+          (omega (arith, length_decimal start.args.x)) now.invariant.5,
     )
 
-returns : tie.Need-returns invariant-loop decreases-loop
+returns : tie.Need-returns invariant_loop decreases_loop
 returns c =
     let now = c.before.loop in
     whole _ _ _ now.i now.rest _ now.out c.before.before.places.ensures (omega arith) now.invariant.3
     now.invariant.4 now.invariant.5
 
-pub put-number-spec : {M : Type 1} → statement M
-put-number-spec =
+pub put_number_spec : {M : Type 1} → statement M
+put_number_spec =
     tie.close
     (tie.spec
-    invariant-loop decreases-loop (λ c κs. search rules) add-end loop-holds (λ c. omega arith) (λ c. omega arith)
-    (λ c. omega arith) slice-write-out (λ c. omega arith) loop-again (λ c. search rules) returns)
+    invariant_loop decreases_loop (λ c κs. search rules) add_end loop_holds (λ c. omega arith) (λ c. omega arith)
+    (λ c. omega arith) slice_write_out (λ c. omega arith) loop_again (λ c. search rules) returns)

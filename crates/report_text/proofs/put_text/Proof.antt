@@ -6,40 +6,40 @@ use native.Mathlib.Omega.{arith}
 use lib.ListN.{length}
 use borrow.Author.Rules.{rules}
 use Rattle.rules_report.specs.declared.Report.{Report}
-use Rattle.rules_report.specs.Text.{refusedLines, airtimeLine, leadLine, text_of}
-use Rattle.report_text.specs.Placed.{rateLines}
-use Rattle.report_text.proofs.Puts.{put_next, four-long}
+use Rattle.rules_report.specs.Text.{refused_lines, airtime_line, lead_line, text_of}
+use Rattle.report_text.specs.Placed.{rate_lines}
+use Rattle.report_text.proofs.Puts.{put_next, four_long}
 use Rattle.report_text.proofs.put_text.Statement.{statement}
 use Rattle.report_text.proofs.put_text.Tie as tie
 
 size : (p : Report) → length (text_of p)
-    ≡ length (rateLines 4 p.frames p.octets) + length (refusedLines 17 p.refused)
-    + length (airtimeLine p.airtime) + length (leadLine p.some p.lead p.recording)
-unfolding text_of rateLines
+    ≡ length (rate_lines 4 p.frames p.octets) + length (refused_lines 17 p.refused)
+    + length (airtime_line p.airtime) + length (lead_line p.some p.lead p.recording)
+unfolding text_of rate_lines
 size p =
-    four-long (rateLines 4 p.frames p.octets) (refusedLines 17 p.refused) (airtimeLine p.airtime)
-    (leadLine p.some p.lead p.recording)
+    four_long (rate_lines 4 p.frames p.octets) (refused_lines 17 p.refused) (airtime_line p.airtime)
+    (lead_line p.some p.lead p.recording)
 
-rate-lines-requires : tie.Need-rate-lines-requires
-rate-lines-requires c κs = omega (arith, size c.before.before.before.before.before.args.report)
+rate_lines_requires : tie.Need-rate-lines-requires
+rate_lines_requires c κs = omega (arith, size c.before.before.before.before.before.args.report)
 
-refused-lines-requires : tie.Need-refused-lines-requires
-refused-lines-requires c κs =
+refused_lines_requires : tie.Need-refused-lines-requires
+refused_lines_requires c κs =
     let start = c.before.before.before.before.before.before.before.before.before in
     omega (arith, size start.args.report)
 
-airtime-line-requires : tie.Need-airtime-line-requires
-airtime-line-requires c κs =
+airtime_line_requires : tie.Need-airtime-line-requires
+airtime_line_requires c κs =
     let start = c.before.before.before.before.before.before.before.before.before.before.before.before.before in
     omega (arith, size start.args.report)
 
-lead-line-requires : tie.Need-lead-line-requires
-lead-line-requires c κs =
+lead_line_requires : tie.Need-lead-line-requires
+lead_line_requires c κs =
     let start = c.before.before.before.before.before.before.before.before.before.before.before.before.before.before.before.before.before in
     omega (arith, size start.args.report)
 
 returns : tie.Need-returns
-unfolding text_of rateLines
+unfolding text_of rate_lines
 returns c =
     let lead = c.before.before in
     let airtime = lead.before.before.before.before in
@@ -48,8 +48,8 @@ returns c =
     let front = put_next rates.rate-lines.ensures refused.refused-lines.ensures in
     put_next (put_next front airtime.airtime-line.ensures) lead.lead-line.ensures
 
-pub put-text-spec : {M : Type 1} → statement M
-put-text-spec =
+pub put_text_spec : {M : Type 1} → statement M
+put_text_spec =
     tie.close
     (tie.spec
-    rate-lines-requires refused-lines-requires airtime-line-requires lead-line-requires (λ c. search rules) returns)
+    rate_lines_requires refused_lines_requires airtime_line_requires lead_line_requires (λ c. search rules) returns)

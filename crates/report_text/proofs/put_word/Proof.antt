@@ -9,53 +9,53 @@ use lib.ListN.{length, get_or, set, take, length-set}
 use lib.Seq.{take-suc, take_all}
 use borrow.Author.Rules.{rules}
 use Rattle.report_text.specs.Placed.{Placed}
-use Rattle.report_text.proofs.Puts.{put-none, put-more}
+use Rattle.report_text.proofs.Puts.{put_none, put_more}
 use Rattle.report_text.proofs.put_word.Statement.{statement}
 use Rattle.report_text.proofs.put_word.Tie as tie
 
-abbrev invariant-loop : tie.invariant-loop
-invariant-loop word at out₀ i₀ out i = (i ≤ length word) × (length out ≡ length out₀)
+abbrev invariant_loop : tie.invariant-loop
+invariant_loop word at out₀ i₀ out i = (i ≤ length word) × (length out ≡ length out₀)
     × Placed (take i word) at out₀ (at + i) out
 
-abbrev decreases-loop : tie.decreases-loop
-decreases-loop word at out₀ i₀ out i = length word - i
+abbrev decreases_loop : tie.decreases-loop
+decreases_loop word at out₀ i₀ out i = length word - i
 
 turn : (w : List ℕ) (at : ℕ) (d : List ℕ) (i : ℕ) (e : List ℕ) → i < length w → at + i < length e
     → Placed (take i w) at d (at + i) e → Placed (take (i + 1) w) at d (at + (i + 1)) (set e (at + i) (get_or w i 0))
 turn w at d i e h k p =
     let same : at + (i + 1) ≡ at + i + 1 = omega arith in
-    rw (same, add-one i, take-suc w i 0 h) (put-more (get_or w i 0) p k)
+    rw (same, add-one i, take-suc w i 0 h) (put_more (get_or w i 0) p k)
 
 whole : (w : List ℕ) (at : ℕ) (d : List ℕ) (i : ℕ) (e : List ℕ) → length w ≤ i → Placed (take i w) at d (at + i) e
     → Placed w at d (at + i) e
 whole w at d i e h p = rw (take_all i w h) at p
 
-loop-holds : tie.Need-loop-init invariant-loop decreases-loop
-loop-holds c = (search rules, search rules, put-none _ _ _ (omega arith))
+loop_holds : tie.Need-loop-init invariant_loop decreases_loop
+loop_holds c = (search rules, search rules, put_none _ _ _ (omega arith))
 
-loop-again : tie.Need-loop-preserved invariant-loop decreases-loop
-loop-again c = (
+loop_again : tie.Need-loop-preserved invariant_loop decreases_loop
+loop_again c = (
   omega arith,
   simp length-set (omega arith),
   turn _ _ _ _ _ (omega arith) (omega arith) c.before.before.loop.invariant.2,
 )
 
-returns : tie.Need-returns invariant-loop decreases-loop
+returns : tie.Need-returns invariant_loop decreases_loop
 returns c = whole _ _ _ _ _ (omega arith) c.before.loop.invariant.2
 
-pub put-word-spec : {M : Type 1} → statement M
-put-word-spec =
+pub put_word_spec : {M : Type 1} → statement M
+put_word_spec =
     tie.close
     (tie.spec
-    invariant-loop
-    decreases-loop
-    loop-holds
+    invariant_loop
+    decreases_loop
+    loop_holds
     (λ c. search rules)
     (λ c. omega arith)
     (λ c. omega arith)
     (λ c. omega arith)
     (λ c. omega arith)
-    loop-again
+    loop_again
     (λ c. omega arith)
     (λ c. search rules)
     returns)

@@ -6,30 +6,30 @@ use Prim.Native.Nat.{ℕ, ◌+◌}
 use native.Mathlib.Omega.{arith}
 use lib.ListN.{length, length-append}
 use borrow.Author.Rules.{rules}
-use Rattle.rules_report.specs.Text.{word, decimal, rateLine}
-use Rattle.report_text.specs.Placed.{Placed, pairLine}
+use Rattle.rules_report.specs.Text.{word, decimal, rate_line}
+use Rattle.report_text.specs.Placed.{Placed, pair_line}
 use Rattle.report_text.proofs.Puts.{put_next}
 use Rattle.report_text.proofs.rate_line.Statement.{statement}
 use Rattle.report_text.proofs.rate_line.Tie as tie
 
-size : (rate frames octets : ℕ) → length (rateLine rate frames octets)
-    ≡ length (word "rate " ++ decimal rate) + length (pairLine (word " frames ") frames (word " octets ") octets)
+size : (rate frames octets : ℕ) → length (rate_line rate frames octets)
+    ≡ length (word "rate " ++ decimal rate) + length (pair_line (word " frames ") frames (word " octets ") octets)
 size rate frames octets = simp length-append (omega arith)
 
 line : (rate frames octets : ℕ) {at a r : ℕ} {d o e : List ℕ} → Placed (word "rate " ++ decimal rate) at d a o
-    → Placed (pairLine (word " frames ") frames (word " octets ") octets) a o r e
-    → Placed (rateLine rate frames octets) at d r e
+    → Placed (pair_line (word " frames ") frames (word " octets ") octets) a o r e
+    → Placed (rate_line rate frames octets) at d r e
 line rate frames octets p q = simp append_assoc (simp append_assoc at (put_next p q))
 
-put-both-requires : tie.Need-put-both-requires
+put_both_requires : tie.Need-put-both-requires
 unfolding word
-put-both-requires c κs =
+put_both_requires c κs =
     let start = c.before.before.before.args in
     omega (arith, size start.rate start.frames start.octets)
 
-put-line-requires : tie.Need-put-line-requires
+put_line_requires : tie.Need-put-line-requires
 unfolding word
-put-line-requires c κs =
+put_line_requires c κs =
     let start = c.before.before.before.before.before.before.before.before.before.args in
     omega (arith, size start.rate start.frames start.octets)
 
@@ -41,9 +41,9 @@ returns c =
     let start = first.before.before.before.before.args in
     line start.rate start.frames start.octets first.put_both.ensures last.put-line.ensures
 
-pub rate-line-spec : {M : Type 1} → statement M
-rate-line-spec =
+pub rate_line_spec : {M : Type 1} → statement M
+rate_line_spec =
     tie.close
     (tie.spec
-    (λ c. search rules) put-both-requires (λ c. search rules) (λ c. search rules) put-line-requires (λ c. search rules)
+    (λ c. search rules) put_both_requires (λ c. search rules) (λ c. search rules) put_line_requires (λ c. search rules)
     returns)

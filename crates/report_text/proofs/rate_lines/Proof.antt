@@ -7,68 +7,68 @@ use native.Mathlib.Numerals.{add-one}
 use native.Mathlib.Omega.{arith}
 use lib.ListN.{length, get_or}
 use borrow.Author.Rules.{rules}
-use Rattle.rules_report.specs.Text.{rateLine}
-use Rattle.report_text.specs.Placed.{Placed, code_at, rateLines}
-use Rattle.report_text.proofs.Puts.{put-none, lines-room, lines-turn}
+use Rattle.rules_report.specs.Text.{rate_line}
+use Rattle.report_text.specs.Placed.{Placed, code_at, rate_lines}
+use Rattle.report_text.proofs.Puts.{put_none, lines_room, lines_turn}
 use Rattle.report_text.proofs.rate_lines.Statement.{statement}
 use Rattle.report_text.proofs.rate_lines.Tie as tie
 
-abbrev invariant-loop : tie.invariant-loop
-invariant-loop out₀ frames octets end₀ k₀ out end k = (k ≤ 4) × (length out ≡ length out₀)
-    × Placed (rateLines k frames octets) 0 out₀ end out
+abbrev invariant_loop : tie.invariant-loop
+invariant_loop out₀ frames octets end₀ k₀ out end k = (k ≤ 4) × (length out ≡ length out₀)
+    × Placed (rate_lines k frames octets) 0 out₀ end out
 
-abbrev decreases-loop : tie.decreases-loop
-decreases-loop out₀ frames octets end₀ k₀ out end k = 4 - k
+abbrev decreases_loop : tie.decreases-loop
+decreases_loop out₀ frames octets end₀ k₀ out end k = 4 - k
 
 abbrev line : List ℕ → List ℕ → ℕ → List ℕ
-line f o k = rateLine (code_at k) (get_or f k 0) (get_or o k 0)
+line f o k = rate_line (code_at k) (get_or f k 0) (get_or o k 0)
 
-step : (f o : List ℕ) (k : ℕ) → rateLines (k + 1) f o ≡ rateLines k f o ++ line f o k
-unfolding rateLines
+step : (f o : List ℕ) (k : ℕ) → rate_lines (k + 1) f o ≡ rate_lines k f o ++ line f o k
+unfolding rate_lines
 step f o k = rw add-one
 
-none : (f o d : List ℕ) → Placed (rateLines 0 f o) 0 d 0 d
-unfolding rateLines
-none f o d = put-none 0 0 d refl
+none : (f o d : List ℕ) → Placed (rate_lines 0 f o) 0 d 0 d
+unfolding rate_lines
+none f o d = put_none 0 0 d refl
 
-room : (f o d e : List ℕ) (k code end : ℕ) → k < 4 → code ≡ code_at k → Placed (rateLines k f o) 0 d end e
-    → length (rateLines 4 f o) ≤ length d → length e ≡ length d
-    → end + length (rateLine code (get_or f k 0) (get_or o k 0)) ≤ length e
+room : (f o d e : List ℕ) (k code end : ℕ) → k < 4 → code ≡ code_at k → Placed (rate_lines k f o) 0 d end e
+    → length (rate_lines 4 f o) ≤ length d → length e ≡ length d
+    → end + length (rate_line code (get_or f k 0) (get_or o k 0)) ≤ length e
 room f o d e k code end h c p g l =
-    rw c (lines-room (λ j. rateLines j f o) (line f o) (step f o) 4 k h p (omega arith) l)
+    rw c (lines_room (λ j. rateLines j f o) (line f o) (step f o) 4 k h p (omega arith) l)
 
-turn : (f o : List ℕ) {d e q : List ℕ} (k code : ℕ) {end r : ℕ} → code ≡ code_at k → Placed (rateLines k f o) 0 d end e
-    → Placed (rateLine code (get_or f k 0) (get_or o k 0)) end e r q → Placed (rateLines (k + 1) f o) 0 d r q
-turn f o k code c p t = lines-turn (λ j. rateLines j f o) (line f o) (step f o) k p (rw c at t)
+turn : (f o : List ℕ) {d e q : List ℕ} (k code : ℕ) {end r : ℕ} → code ≡ code_at k → Placed (rate_lines k f o) 0 d end e
+    → Placed (rate_line code (get_or f k 0) (get_or o k 0)) end e r q → Placed (rate_lines (k + 1) f o) 0 d r q
+turn f o k code c p t = lines_turn (λ j. rateLines j f o) (line f o) (step f o) k p (rw c at t)
 
-whole : (f o d e : List ℕ) (k end : ℕ) → k ≡ 4 → Placed (rateLines k f o) 0 d end e → Placed (rateLines 4 f o) 0 d end e
+whole : (f o d e : List ℕ) (k end : ℕ) → k ≡ 4 → Placed (rate_lines k f o) 0 d end e → Placed (rate_lines 4 f o) 0 d end e
 whole f o d e k end h p = rw h at p
 
-loop-holds : tie.Need-loop-init invariant-loop decreases-loop
-loop-holds c = (search rules, refl, none _ _ _)
+loop_holds : tie.Need-loop-init invariant_loop decreases_loop
+loop_holds c = (search rules, refl, none _ _ _)
 
-rate-line-requires : tie.Need-rate-line-requires invariant-loop decreases-loop
-rate-line-requires c κs =
+rate_line_requires : tie.Need-rate-line-requires invariant_loop decreases_loop
+rate_line_requires c κs =
     let start = c.before.before.before.before.before in
     let now = c.before.before.before.loop in
-    room start.args.t1 start.args.t2 _ now.out now.k _ _ (omega arith) c.before.code-of.ensures
+    room start.args.t1 start.args.t2 _ now.out now.k _ _ (omega arith) c.before.code_of_lem.ensures
     now.invariant.2 start.requires now.invariant.1
 
-loop-again : tie.Need-loop-preserved invariant-loop decreases-loop
-loop-again c =
+loop_again : tie.Need-loop-preserved invariant_loop decreases_loop
+loop_again c =
     let now = c.before.before.before.before.before.before.loop in (
       omega arith,
       omega arith,
-      turn _ _ now.k _ c.before.before.before.before.code-of.ensures now.invariant.2
+      turn _ _ now.k _ c.before.before.before.before.code_of_lem.ensures now.invariant.2
           c.before.before.rate-line.ensures,
     )
 
-returns : tie.Need-returns invariant-loop decreases-loop
+returns : tie.Need-returns invariant_loop decreases_loop
 returns c = whole _ _ _ _ c.before.loop.k _ (omega arith) c.before.loop.invariant.2
 
-pub rate-lines-spec : {M : Type 1} → statement M
-rate-lines-spec =
+pub rate_lines_spec : {M : Type 1} → statement M
+rate_lines_spec =
     tie.close
     (tie.spec
-    invariant-loop decreases-loop loop-holds (λ c κs. search rules) (λ c. omega arith) (λ c. omega arith) (λ c. omega arith)
-    (λ c. omega arith) rate-line-requires (λ c. omega arith) (λ c. omega arith) loop-again (λ c. search rules) returns)
+    invariant_loop decreases_loop loop_holds (λ c κs. search rules) (λ c. omega arith) (λ c. omega arith) (λ c. omega arith)
+    (λ c. omega arith) rate_line_requires (λ c. omega arith) (λ c. omega arith) loop_again (λ c. search rules) returns)

@@ -5,37 +5,37 @@ use mathlib.Core.Path.{◌≡◌, refl}
 use mathlib.Core.List.{List}
 use borrow.Author.Rules.{rules}
 use borrow.Author.Tests.{eq-eqb, ne_eqb}
-use Rattle.rules_report.specs.Text.{word, refusedLine}
-use Rattle.report_text.specs.Placed.{Placed, pairLine}
-use Rattle.report_text.proofs.Puts.{put-none}
+use Rattle.rules_report.specs.Text.{word, refused_line}
+use Rattle.report_text.specs.Placed.{Placed, pair_line}
+use Rattle.report_text.proofs.Puts.{put_none}
 use Rattle.report_text.proofs.refused_line.Statement.{statement}
 use Rattle.report_text.proofs.refused_line.Tie as tie
 
-none : (number count at : ℕ) (d : List ℕ) → count ≡ 0 → Placed (refusedLine number count) at d at d
-none number count at d h = rw (eq-eqb count 0 h) (put-none at at d refl)
+none : (number count at : ℕ) (d : List ℕ) → count ≡ 0 → Placed (refused_line number count) at d at d
+none number count at d h = rw (eq-eqb count 0 h) (put_none at at d refl)
 
-met : (number count : ℕ) → (count ≡ 0 → ⊥) → refusedLine number count
-    ≡ pairLine (word "refused ") number (word " count ") count
+met : (number count : ℕ) → (count ≡ 0 → ⊥) → refused_line number count
+    ≡ pair_line (word "refused ") number (word " count ") count
 met number count h = rw (ne_eqb count 0 h)
 
 returns : tie.Need-returns
 returns c = none _ _ _ _ c.if1.true
 
-put-line-requires : tie.Need-put-line-requires
+put_line_requires : tie.Need-put-line-requires
 unfolding word
-put-line-requires c κs =
+put_line_requires c κs =
     let test = c.before.before.before in
     let start = test.before.before.args in
     rw (met start.number start.count test.if1.false) at test.before.before.requires
 
-returns-2 : tie.Need-returns-2
+returns_2 : tie.Need-returns-2
 unfolding word
-returns-2 c =
+returns_2 c =
     let test = c.before.before.before.before.before.before in
     let start = test.before.before.args in
     rw (met start.number start.count test.if1.false) c.before.before.put-line.ensures
 
-pub refused-line-spec : {M : Type 1} → statement M
-refused-line-spec =
+pub refused_line_spec : {M : Type 1} → statement M
+refused_line_spec =
     tie.close
-    (tie.spec returns (λ c. search rules) (λ c. search rules) put-line-requires (λ c. search rules) returns-2)
+    (tie.spec returns (λ c. search rules) (λ c. search rules) put_line_requires (λ c. search rules) returns_2)

@@ -8,8 +8,8 @@ use lib.ListN.{length, take, drop, replicate, take-append-drop, length-replicate
 use borrow.Author.Rules.{rules}
 use Rattle.rules_report.specs.declared.Report.{Report}
 use Rattle.rules_report.specs.declared.Spelled.{Spelled}
-use Rattle.rules_report.specs.Text.{text_of, spelledOf, textLeft}
-use Rattle.rules_report.proofs.Spelling.{spelled-whole, spelled-refused, text-most}
+use Rattle.rules_report.specs.Text.{text_of, spelled_of, text_left}
+use Rattle.rules_report.proofs.Spelling.{spelled_whole, spelled_refused, text_most}
 use Rattle.report_text.specs.Placed.{Placed}
 use Rattle.report_text.proofs.text.Statement.{statement}
 use Rattle.report_text.proofs.text.Tie as tie
@@ -19,9 +19,9 @@ answer number octets = record { number = number; octets = octets }
 
 -- no room: the zeros stay
 refused : (p : Report) (d z row zs : List ℕ) (n : ℕ) → Placed (text_of p) 0 zs n row → z ≡ replicate (length d) 0
-    → length z < n → (answer 17 0 ≡ spelledOf p (length d)) × (z ≡ textLeft p (length d))
+    → length z < n → (answer 17 0 ≡ spelled_of p (length d)) × (z ≡ text_left p (length d))
 refused p d z row zs n put e h =
-    let none = spelled-refused p (length d)
+    let none = spelled_refused p (length d)
     (omega (arith, put.stop, ap length e, length-replicate {A = ℕ} (length d) 0)) in
     (sym none.0, e ∙ sym none.1)
 
@@ -36,9 +36,9 @@ zeros (suc k) (suc n) = let e : suc n - suc k ≡ n - k = omega arith in rw e (z
 
 copied : (p : Report) (d z row zs o : List ℕ) (n e : ℕ) → Placed (text_of p) 0 zs n row → z ≡ replicate (length d) 0
     → n ≤ length z → Placed (take n row) 0 z e o
-    → (answer 0 e ≡ spelledOf p (length d)) × (o ≡ textLeft p (length d))
+    → (answer 0 e ≡ spelled_of p (length d)) × (o ≡ text_left p (length d))
 copied p d z row zs o n e put f h copy =
-    let whole = spelled-whole p (length d)
+    let whole = spelled_whole p (length d)
     (omega (arith, put.stop, ap length f, length-replicate {A = ℕ} (length d) 0)) in
     let end : e ≡ length (text_of p) = omega (arith, copy.stop, ap length put.front) in
     let text : take e o ≡ text_of p = copy.front ∙ put.front in
@@ -48,8 +48,8 @@ copied p d z row zs o n e put f h copy =
       sym (take-append-drop e o) ∙ ap₂ {C = List ℕ} (λ a b. a ++ b) text rest ∙ sym whole.1,
     )
 
-put-text-requires : tie.Need-put-text-requires
-put-text-requires c κs = text-most c.before.before.before.before.before.before.args.report
+put_text_requires : tie.Need-put-text-requires
+put_text_requires c κs = text_most c.before.before.before.before.before.before.args.report
 
 returns : tie.Need-returns
 returns c =
@@ -58,28 +58,28 @@ returns c =
     refused _ fill.before.before.before.args.octets.now _ _ _ _ put.put-text.ensures fill.fill.ensures
     c.if1.true
 
-array-share-prefix-row : tie.Need-array-share-prefix-row
-array-share-prefix-row c =
+array_share_prefix_row : tie.Need-array-share-prefix-row
+array_share_prefix_row c =
     let put = c.before.before in
     let start = put.before.before.before.before.before.before.before in
-    omega (arith, put.put-text.ensures.stop, text-most start.args.report)
+    omega (arith, put.put-text.ensures.stop, text_most start.args.report)
 
-slice-aggregate-put-word : tie.Need-slice-aggregate-put-word
-slice-aggregate-put-word c = counted _ _ _ _ c.before.before.before.put-text.ensures
+slice_aggregate_put_word : tie.Need-slice-aggregate-put-word
+slice_aggregate_put_word c = counted _ _ _ _ c.before.before.before.put-text.ensures
 
-put-word-requires : tie.Need-put-word-requires
-put-word-requires c κs = omega (arith, counted _ _ _ _ c.before.before.before.before.put-text.ensures)
+put_word_requires : tie.Need-put-word-requires
+put_word_requires c κs = omega (arith, counted _ _ _ _ c.before.before.before.before.put-text.ensures)
 
-returns-2 : tie.Need-returns-2
-returns-2 c =
+returns_2 : tie.Need-returns-2
+returns_2 c =
     let test = c.before.before.before.before.before in
     let fill = test.before.before.before.before.before.before in
     copied _ fill.before.before.before.args.octets.now _ _ _ _ _ _ test.before.before.put-text.ensures
     fill.fill.ensures test.if1.false c.before.before.put_word.ensures
 
-pub text-spec : {M : Type 1} → statement M
-text-spec =
+pub text_spec : {M : Type 1} → statement M
+text_spec =
     tie.close
     (tie.spec
-    (λ c κs. search rules) (λ c. search rules) put-text-requires (λ c. search rules) returns array-share-prefix-row
-    slice-aggregate-put-word put-word-requires (λ c. search rules) returns-2)
+    (λ c κs. search rules) (λ c. search rules) put_text_requires (λ c. search rules) returns array_share_prefix_row
+    slice_aggregate_put_word put_word_requires (λ c. search rules) returns_2)

@@ -7,16 +7,16 @@ use Rattle.rules_rates.proofs.is_code.Tie as tie
 returns : tie.Need-returns
 returns c = rw (eq-eqb _ _ c.if1.true)
 
-returns-2 : tie.Need-returns-2
-returns-2 c = rw (ne_eqb _ _ c.before.if1.false, eq-eqb _ _ c.if2.true)
+returns_2 : tie.Need-returns-2
+returns_2 c = rw (ne_eqb _ _ c.before.if1.false, eq-eqb _ _ c.if2.true)
 
-returns-3 : tie.Need-returns-3
-returns-3 c =
+returns_3 : tie.Need-returns-3
+returns_3 c =
     rw (ne_eqb _ _ c.before.before.if1.false, ne_eqb _ _ c.before.if2.false, eq-eqb _ _ c.if3.true)
 
-returns-4 : tie.Need-returns-4
-returns-4 c =
+returns_4 : tie.Need-returns-4
+returns_4 c =
     rw (ne_eqb _ _ c.before.before.if1.false, ne_eqb _ _ c.before.if2.false, ne_eqb _ _ c.if3.false)
 
-pub is-code-spec : {M : Type 1} → statement M
-is-code-spec = tie.close (tie.spec returns returns-2 returns-3 returns-4)
+pub is_code_spec : {M : Type 1} → statement M
+is_code_spec = tie.close (tie.spec returns returns_2 returns_3 returns_4)

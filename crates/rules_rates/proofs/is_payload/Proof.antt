@@ -3,6 +3,6 @@ use borrow.Author.Tests.{lt-leb, le-leb}
 use Rattle.rules_rates.proofs.is_payload.Statement.{statement}
 use Rattle.rules_rates.proofs.is_payload.Tie as tie
 
-pub is-payload-spec : {M : Type 1} → statement M
-is-payload-spec =
+pub is_payload_spec : {M : Type 1} → statement M
+is_payload_spec =
     tie.close (tie.spec (λ c. rw (lt-leb _ _ c.if1.true)) (λ c. rw (le-leb _ _ c.if1.false)))

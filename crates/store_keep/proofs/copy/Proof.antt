@@ -6,33 +6,33 @@ use Prim.Native.Nat.{◌-◌, ◌≤◌}
 use native.Mathlib.Omega.{arith}
 use lib.ListN.{length, take, drop, length-set}
 use borrow.Author.Rules.{rules}
-use Rattle.base.proofs.Over.{over-more, over-whole}
+use Rattle.base.proofs.Over.{over_more, over_whole}
 use Rattle.store_keep.proofs.copy.Statement.{statement}
 use Rattle.store_keep.proofs.copy.Tie as tie
 
-abbrev invariant-loop : tie.invariant-loop
-invariant-loop row out₀ i₀ out i = (i ≤ length row) × (length out ≡ length out₀) × (out ≡ take i row ++ drop i out₀)
+abbrev invariant_loop : tie.invariant-loop
+invariant_loop row out₀ i₀ out i = (i ≤ length row) × (length out ≡ length out₀) × (out ≡ take i row ++ drop i out₀)
 
-abbrev decreases-loop : tie.decreases-loop
-decreases-loop row out₀ i₀ out i = length row - i
+abbrev decreases_loop : tie.decreases-loop
+decreases_loop row out₀ i₀ out i = length row - i
 
-loop-holds : tie.Need-loop-init invariant-loop decreases-loop
-loop-holds c = (omega arith, refl, refl)
+loop_holds : tie.Need-loop-init invariant_loop decreases_loop
+loop_holds c = (omega arith, refl, refl)
 
-loop-again : tie.Need-loop-preserved invariant-loop decreases-loop
-loop-again c =
+loop_again : tie.Need-loop-preserved invariant_loop decreases_loop
+loop_again c =
     let turn = c.before.before in (
       omega arith,
       simp length-set (omega arith),
-      over-more _ turn.before.args.row.now _ turn.loop.i turn.loop.invariant.2 (omega arith) (omega arith),
+      over_more _ turn.before.args.row.now _ turn.loop.i turn.loop.invariant.2 (omega arith) (omega arith),
     )
 
-returns : tie.Need-returns invariant-loop decreases-loop
-returns c = over-whole _ _ _ c.before.loop.i c.before.loop.invariant.2 (omega arith)
+returns : tie.Need-returns invariant_loop decreases_loop
+returns c = over_whole _ _ _ c.before.loop.i c.before.loop.invariant.2 (omega arith)
 
 pub copy_spec : {M : Type 1} → statement M
 copy_spec =
     tie.close
     (tie.spec
-    invariant-loop decreases-loop loop-holds (λ c. omega arith) (λ c. omega arith) (λ c. omega arith) (λ c. omega arith) loop-again
+    invariant_loop decreases_loop loop_holds (λ c. omega arith) (λ c. omega arith) (λ c. omega arith) (λ c. omega arith) loop_again
     (λ c. search rules) returns)

@@ -3,14 +3,14 @@
 use mathlib.Core.Path.{ap₂, ◌∙◌}
 use mathlib.Core.Bool.{Bool}
 use borrow.Author.Rules.{rules}
-use Rattle.rules_frame.specs.Frame.{goesWith}
+use Rattle.rules_frame.specs.Frame.{goes_with}
 use Rattle.store_keep.proofs.goes.Statement.{statement}
 use Rattle.store_keep.proofs.goes.Tie as tie
 
 returns : tie.Need-returns
 returns c =
     c.Goes-with.ensures
-    ∙ ap₂ {C = Bool} (λ k r. goesWith k r) c.before.before.kind-of.ensures c.before.rate-of.ensures
+    ∙ ap₂ {C = Bool} (λ k r. goesWith k r) c.before.before.kind_of_lem.ensures c.before.rate_of_lem.ensures
 
-pub goes-spec : {M : Type 1} → statement M
-goes-spec = tie.close (tie.spec (λ c κs. search rules) (λ c κs. search rules) (λ c κs. search rules) returns)
+pub goes_spec : {M : Type 1} → statement M
+goes_spec = tie.close (tie.spec (λ c κs. search rules) (λ c κs. search rules) (λ c κs. search rules) returns)

@@ -2,18 +2,18 @@
 -- Assumes nothing.
 use mathlib.Core.Path.{refl}
 use borrow.Author.Rules.{rules}
-use Rattle.base.proofs.Over.{over-filled}
-use Rattle.rules_store.specs.Pieces.{tableFrom, bodies, laidOut, store_of}
+use Rattle.base.proofs.Over.{over_filled}
+use Rattle.rules_store.specs.Pieces.{table_from, bodies, laid_out, store_of}
 use Rattle.store_keep.proofs.put.Statement.{statement}
 use Rattle.store_keep.proofs.put.Tie as tie
 
 returns : tie.Need-returns
-unfolding tableFrom bodies laidOut
+unfolding table_from bodies laid_out
 returns c =
     let fill = c.before.before in
     let copy = fill.before.before.before.before in
     let start = copy.before.before.before.before in
-    over-filled (store_of start.args.kind start.args.rate start.args.phase) _ _ _ 17 0
+    over_filled (store_of start.args.kind start.args.rate start.args.phase) _ _ _ 17 0
     copy.copy.ensures refl start.requires fill.fill.ensures
 
 pub put_spec : {M : Type 1} → statement M

@@ -22,30 +22,30 @@ returns c =
     let three = c.before.before.before.before.args.three in
     c.refused.ensures ∙ rw (not-true three.there c.before.if1.true)
 
-returns-2 : tie.Need-returns-2
-returns-2 c =
+returns_2 : tie.Need-returns-2
+returns_2 c =
     let there = c.before.before.before in
     let three = there.before.before.before.args.three in
     c.refused2.ensures
     ∙ rw (not-false three.there there.if1.false, not-true three.ones c.before.if2.true)
 
-shared-slice-read-wide : tie.Need-shared-slice-read-wide
-shared-slice-read-wide c = omega (arith, inside c.before)
+shared_slice_read_wide : tie.Need-shared-slice-read-wide
+shared_slice_read_wide c = omega (arith, inside c.before)
 
 add_wide : tie.Need-overflow-add-wide
 add_wide c = omega (arith, inside c.before.before)
 
-shared-slice-read-wide-2 : tie.Need-shared-slice-read-wide-2
-shared-slice-read-wide-2 c = omega (arith, inside c.before.before.before)
+shared_slice_read_wide_2 : tie.Need-shared-slice-read-wide-2
+shared_slice_read_wide_2 c = omega (arith, inside c.before.before.before)
 
-add-wide-2 : tie.Need-overflow-add-wide-2
-add-wide-2 c = omega (arith, inside c.before.before.before.before)
+add_wide_2 : tie.Need-overflow-add-wide-2
+add_wide_2 c = omega (arith, inside c.before.before.before.before)
 
-shared-slice-read-wide-3 : tie.Need-shared-slice-read-wide-3
-shared-slice-read-wide-3 c = omega (arith, inside c.before.before.before.before.before)
+shared_slice_read_wide_3 : tie.Need-shared-slice-read-wide-3
+shared_slice_read_wide_3 c = omega (arith, inside c.before.before.before.before.before)
 
-returns-3 : tie.Need-returns-3
-returns-3 c =
+returns_3 : tie.Need-returns-3
+returns_3 c =
     let asked = c.before.before in
     let third = asked.before in
     let second = third.before.before in
@@ -62,8 +62,8 @@ returns-3 c =
       failed asked.allowed.ensures c.before.if3.true,
     )
 
-returns-4 : tie.Need-returns-4
-returns-4 c =
+returns_4 : tie.Need-returns-4
+returns_4 c =
     let asked = c.before in
     let third = asked.before in
     let second = third.before.before in
@@ -79,10 +79,10 @@ returns-4 c =
       passed asked.allowed.ensures c.if3.false,
     )
 
-pub values-spec : {M : Type 1} → statement M
-values-spec =
+pub values_spec : {M : Type 1} → statement M
+values_spec =
     tie.close
     (tie.spec
-    (λ c κs. search rules) returns (λ c κs. search rules) returns-2 shared-slice-read-wide (λ c κs. search rules)
-    add_wide shared-slice-read-wide-2 (λ c κs. search rules) add-wide-2 shared-slice-read-wide-3
-    (λ c κs. search rules) (λ c κs. search rules) (λ c κs. search rules) returns-3 returns-4)
+    (λ c κs. search rules) returns (λ c κs. search rules) returns_2 shared_slice_read_wide (λ c κs. search rules)
+    add_wide shared_slice_read_wide_2 (λ c κs. search rules) add_wide_2 shared_slice_read_wide_3
+    (λ c κs. search rules) (λ c κs. search rules) (λ c κs. search rules) returns_3 returns_4)

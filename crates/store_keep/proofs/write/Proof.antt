@@ -4,8 +4,8 @@ use Prim.Native.Nat.{◌<◌}
 use native.Mathlib.Omega.{arith}
 use borrow.Author.Rules.{rules}
 use Rattle.base.proofs.Tests.{failed, passed}
-use Rattle.rules_store.proofs.Allowed.{allowed-octets}
-use Rattle.rules_store.proofs.Returns.{wrong-left, short-left, put-left}
+use Rattle.rules_store.proofs.Allowed.{allowed_octets}
+use Rattle.rules_store.proofs.Returns.{wrong_left, short_left, put_left}
 use Rattle.store_keep.proofs.write.Statement.{statement}
 use Rattle.store_keep.proofs.write.Tie as tie
 
@@ -14,16 +14,16 @@ returns c =
     let fill = c.before.before in
     let wrong = fill.before.before in
     let start = wrong.before.before.before in
-    wrong-left _ _ _ start.args.store.now _ fill.fill.ensures
+    wrong_left _ _ _ start.args.store.now _ fill.fill.ensures
     (failed wrong.before.allowed.ensures wrong.if1.true)
 
-returns-2 : tie.Need-returns-2
-returns-2 c =
+returns_2 : tie.Need-returns-2
+returns_2 c =
     let fill = c.before.before in
     let short = fill.before.before in
     let right = short.before in
     let start = right.before.before.before in
-    short-left _ _ _ start.args.store.now (passed right.before.allowed.ensures right.if1.false) _
+    short_left _ _ _ start.args.store.now (passed right.before.allowed.ensures right.if1.false) _
     fill.fill2.ensures short.if2.true
 
 -- the three are octets
@@ -32,25 +32,25 @@ octets : (c : tie.Else1)
     (start.args.kind < 256) × (start.args.rate < 256) × (start.args.phase < 256))
 octets c =
     let start = c.before.before.before in
-    allowed-octets start.args.kind start.args.rate start.args.phase
+    allowed_octets start.args.kind start.args.rate start.args.phase
     (passed c.before.allowed.ensures c.if1.false)
 
-cast-put : tie.Need-overflow-cast-put
-cast-put c = omega (arith, (octets c.before).0)
+cast_put : tie.Need-overflow-cast-put
+cast_put c = omega (arith, (octets c.before).0)
 
-cast-put-2 : tie.Need-overflow-cast-put-2
-cast-put-2 c = omega (arith, (octets c.before).1)
+cast_put_2 : tie.Need-overflow-cast-put-2
+cast_put_2 c = omega (arith, (octets c.before).1)
 
-cast-put-3 : tie.Need-overflow-cast-put-3
-cast-put-3 c = omega (arith, (octets c.before).2)
+cast_put_3 : tie.Need-overflow-cast-put-3
+cast_put_3 c = omega (arith, (octets c.before).2)
 
-returns-3 : tie.Need-returns-3
-returns-3 c =
+returns_3 : tie.Need-returns-3
+returns_3 c =
     let put = c.before.before in
     let room = put.before.before in
     let right = room.before in
     let start = right.before.before.before in
-    put-left _ _ _ start.args.store.now (passed right.before.allowed.ensures right.if1.false) _
+    put_left _ _ _ start.args.store.now (passed right.before.allowed.ensures right.if1.false) _
     room.if2.false put.put.ensures
 
 pub write_spec : {M : Type 1} → statement M
@@ -58,4 +58,4 @@ write_spec =
     tie.close
     (tie.spec
     (λ c κs. search rules) (λ c κs. search rules) (λ c. search rules) returns (λ c κs. search rules)
-    (λ c. search rules) returns-2 cast-put cast-put-2 cast-put-3 (λ c κs. search rules) (λ c. search rules) returns-3)
+    (λ c. search rules) returns_2 cast_put cast_put_2 cast_put_3 (λ c κs. search rules) (λ c. search rules) returns_3)

@@ -8,34 +8,34 @@ use lib.ListN.{length, take, drop, replicate, length-append}
 use borrow.Author.Rules.{rules}
 use borrow.Rule.Slice.PartMut.{put_mid}
 use Rattle.base.specs.Over.{over}
-use Rattle.base.proofs.Over.{over-next, over-filled}
+use Rattle.base.proofs.Over.{over_next, over_filled}
 use Rattle.rules_rates.specs.declared.Rate.{Rate}
-use Rattle.rules_bits.specs.Bits.{octetBits}
+use Rattle.rules_bits.specs.Bits.{octet_bits}
 use Rattle.rules_frame.specs.declared.Kind.{Kind}
-use Rattle.rules_frame.specs.Frame.{frontChips, frameChips, sentHeader, frame}
+use Rattle.rules_frame.specs.Frame.{front_chips, frame_chips, sent_header, frame}
 use Rattle.write_octets.specs.Sending.{State, run}
 use Rattle.write_octets.proofs.Run.{length_run}
-use Rattle.write_frame.specs.Parts.{frontSent, afterFront}
-use Rattle.write_frame.proofs.Fusion.{frame-parts, length_front}
+use Rattle.write_frame.specs.Parts.{front_sent, after_front}
+use Rattle.write_frame.proofs.Fusion.{frame_parts, length_front}
 use Rattle.write_frame.proofs.put_frame.Statement.{statement}
 use Rattle.write_frame.proofs.put_frame.Tie as tie
 
 all : (k : Kind) (r : Rate) (p : ℕ) (clock : Bool) (b e : ℕ) (h xs d o y z : List ℕ) (s : State)
-    → octetBits h ≡ sentHeader r clock (length xs) → length h ≡ 6
-    → s ≡ afterFront k p h → o ≡ over (frontSent k p h) d → b ≡ frontChips k
-    → y ≡ over (run r 0 s xs) (take (length o - b) (drop b o)) → e ≡ frameChips k r (length xs) → e ≤ length d
+    → octet_bits h ≡ sent_header r clock (length xs) → length h ≡ 6
+    → s ≡ after_front k p h → o ≡ over (front_sent k p h) d → b ≡ front_chips k
+    → y ≡ over (run r 0 s xs) (take (length o - b) (drop b o)) → e ≡ frame_chips k r (length xs) → e ≤ length d
     → (let m = put_mid b (length o - b) o y in z ≡ replicate (length (take (length m - e) (drop e m))) 4)
     → (let m = put_mid b (length o - b) o y in put_mid e (length m - e) m z
     ≡ frame k r p clock xs ++ replicate (length d - e) 4)
 all k r p clock b e h xs d o y z s eh six es eo eb ey ee room ez =
     let m = put_mid b (length o - b) o y in
-    let w = frontSent k p h ++ run r 0 s xs in
+    let w = front_sent k p h ++ run r 0 s xs in
     let count : length w ≡ e =
-    length-append (frontSent k p h) (run r 0 s xs)
+    length-append (front_sent k p h) (run r 0 s xs)
     ∙ ap₂ {C = ℕ} (λ a c. a + c) (length_front k p h six) (length_run r 0 s xs) ∙ sym ee in
     let is : w ≡ frame k r p clock xs = ap (λ (t : State). frontSent k p h ++ run r 0 t xs) es
-    ∙ sym (frame-parts k r p clock h xs eh six) in
-    over-filled w d m z e 4 (over-next (frontSent k p h) (run r 0 s xs) d o y b eo (length_front k p h six ∙ sym eb) ey)
+    ∙ sym (frame_parts k r p clock h xs eh six) in
+    over_filled w d m z e 4 (over_next (front_sent k p h) (run r 0 s xs) d o y b eo (length_front k p h six ∙ sym eb) ey)
     count room ez
     ∙ ap (λ (v : List ℕ). v ++ replicate (length d - e) 4) is
 
@@ -52,8 +52,8 @@ returns c =
     c.before.before.before.before.before.before.before.before.front-chips.ensures rest.ensures.1
     start.pre.1 start.pre.2 c.before.before.fill.ensures
 
-pub put-frame-spec : {M : Type 1} → statement M
-put-frame-spec =
+pub put_frame_spec : {M : Type 1} → statement M
+put_frame_spec =
     tie.close
     (tie.spec
     (λ c κs. search rules) (λ c. search rules) (λ c κs. search rules) (λ c κs. search rules) (λ c. search rules)

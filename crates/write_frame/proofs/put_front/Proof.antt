@@ -11,55 +11,55 @@ use lib.ListN.{length, take, drop, length-take, length-drop}
 use borrow.Author.Rules.{rules}
 use borrow.Rule.Slice.PartMut.{put_mid}
 use Rattle.base.specs.Over.{over}
-use Rattle.base.proofs.Over.{over-next}
+use Rattle.base.proofs.Over.{over_next}
 use Rattle.rules_rates.specs.declared.Rate.{Rate}
 use Rattle.rules_rates.specs.declared.Rate.TheVariants.{One}
-use Rattle.rules_rates.specs.Rates.{octetChips}
+use Rattle.rules_rates.specs.Rates.{octet_chips}
 use Rattle.rules_frame.specs.declared.Kind.{Kind}
 use Rattle.rules_frame.specs.declared.Kind.TheVariants.{Long, Short}
-use Rattle.rules_frame.specs.Frame.{preambleChips, headerRate, frontChips}
+use Rattle.rules_frame.specs.Frame.{preamble_chips, header_rate, front_chips}
 use Rattle.write_octets.specs.Sending.{State, run, ran}
 use Rattle.write_octets.proofs.Run.{length_run}
 use Rattle.common_kinds.specs.Starts.{Starts}
 use Rattle.common_lines.specs.declared.Line.{Line}
 use Rattle.write_octets.specs.Line.{state}
-use Rattle.write_frame.specs.Parts.{preambleOctets, firstState, afterPreamble, frontSent, afterFront}
+use Rattle.write_frame.specs.Parts.{preamble_octets, first_state, after_preamble, front_sent, after_front}
 use Rattle.write_frame.proofs.put_front.Statement.{statement}
 use Rattle.write_frame.proofs.put_front.Tie as tie
 
-shorter : (k : Kind) → preambleChips k ≤ frontChips k
+shorter : (k : Kind) → preamble_chips k ≤ front_chips k
 shorter Long = lit≤ tt
 shorter Short = lit≤ tt
 
-preamble-count : (k : Kind) → 88 * length (preambleOctets k) ≡ preambleChips k
-unfolding preambleOctets
-preamble-count Long = refl
-preamble-count Short = refl
+preamble_count_lem : (k : Kind) → 88 * length (preamble_octets k) ≡ preamble_chips k
+unfolding preamble_octets
+preamble_count_lem Long = refl
+preamble_count_lem Short = refl
 
 -- the header's chips fit behind the preamble's
-header-room : (k : Kind) (r : Rate) (n a : ℕ) (o : List ℕ) → r ≡ headerRate k → n ≡ 6 → a ≡ preambleChips k
-    → frontChips k ≤ length o
-    → octetChips r * n ≤ length (take (length o - a) (drop a o))
-header-room Long r n a o e f g h = rw (e, f, g, length-take, length-drop) (omega arith)
-header-room Short r n a o e f g h = rw (e, f, g, length-take, length-drop) (omega arith)
+header_room : (k : Kind) (r : Rate) (n a : ℕ) (o : List ℕ) → r ≡ header_rate k → n ≡ 6 → a ≡ preamble_chips k
+    → front_chips k ≤ length o
+    → octet_chips r * n ≤ length (take (length o - a) (drop a o))
+header_room Long r n a o e f g h = rw (e, f, g, length-take, length-drop) (omega arith)
+header_room Short r n a o e f g h = rw (e, f, g, length-take, length-drop) (omega arith)
 
-front : (k : Kind) (p n : ℕ) (r : Rate) (h d o y : List ℕ) (s0 s1 s2 : State) → s0 ≡ firstState k p
-    → (s1 ≡ ran One 0 s0 (preambleOctets k)) × (o ≡ over (run One 0 s0 (preambleOctets k)) d) → n ≡ preambleChips k
-    → r ≡ headerRate k → (s2 ≡ ran r 0 s1 h) × (y ≡ over (run r 0 s1 h) (take (length o - n) (drop n o)))
-    → (s2 ≡ afterFront k p h) × (put_mid n (length o - n) o y ≡ over (frontSent k p h) d)
-unfolding afterFront afterPreamble frontSent
+front : (k : Kind) (p n : ℕ) (r : Rate) (h d o y : List ℕ) (s0 s1 s2 : State) → s0 ≡ first_state k p
+    → (s1 ≡ ran One 0 s0 (preamble_octets k)) × (o ≡ over (run One 0 s0 (preamble_octets k)) d) → n ≡ preamble_chips k
+    → r ≡ header_rate k → (s2 ≡ ran r 0 s1 h) × (y ≡ over (run r 0 s1 h) (take (length o - n) (drop n o)))
+    → (s2 ≡ after_front k p h) × (put_mid n (length o - n) o y ≡ over (front_sent k p h) d)
+unfolding after_front after_preamble front_sent
 front k p n r h d o y s0 s1 s2 e0 e1 en er e2 =
-    let count : length (run One 0 s0 (preambleOctets k)) ≡ n = length_run One 0 s0 (preambleOctets k)
-    ∙ preamble-count k ∙ sym en in
-    (cc, over-next (run One 0 s0 (preambleOctets k)) (run r 0 s1 h) d o y n e1.1 count e2.1 ∙ cc)
+    let count : length (run One 0 s0 (preamble_octets k)) ≡ n = length_run One 0 s0 (preamble_octets k)
+    ∙ preamble_count_lem k ∙ sym en in
+    (cc, over_next (run One 0 s0 (preamble_octets k)) (run r 0 s1 h) d o y n e1.1 count e2.1 ∙ cc)
 
-starts : (k : Kind) (p : ℕ) (l : Line) → Starts k p l → state l ≡ firstState k p
-unfolding firstState
-starts k p l s = ap₂ {C = State} (λ a b. record { past = a; phase = b }) s.past s.at-phase
+starts : (k : Kind) (p : ℕ) (l : Line) → Starts k p l → state l ≡ first_state k p
+unfolding first_state
+starts k p l s = ap₂ {C = State} (λ a b. record { past = a; phase = b }) s.past s.at_phase
 
 -- the buffer keeps its length, and the preamble is within
 long : (c : tie.After-header-rate)
-    → frontChips c.before.before.before.before.before.before.before.before.before.args.k ≤
+    → front_chips c.before.before.before.before.before.before.before.before.before.args.k ≤
     length c.before.before.before.before.put-preamble.new.1.1.0
 long c =
     rw c.before.before.before.before.put-preamble.auto.1.1.0
@@ -70,15 +70,15 @@ inside c =
     rw c.before.preamble-chips.ensures
     (le_trans (shorter c.before.before.before.before.before.before.before.before.before.args.k) (long c))
 
-put-preamble-requires : tie.Need-put-preamble-requires
-put-preamble-requires c κs =
+put_preamble_requires : tie.Need-put-preamble-requires
+put_preamble_requires c κs =
     let start = c.before.before.before.before in le_trans (shorter start.args.k) start.requires.1
 
-put-octets-requires : tie.Need-put-octets-requires
-put-octets-requires c κs =
+put_octets_requires : tie.Need-put-octets-requires
+put_octets_requires c κs =
     let at = c.before in
     let start = at.before.before.before.before.before.before.before.before.before in
-    header-room start.args.k _ _ _ at.before.before.before.before.put-preamble.new.1.1.0
+    header_room start.args.k _ _ _ at.before.before.before.before.put-preamble.new.1.1.0
     at.header-rate.ensures start.requires.0 at.before.preamble-chips.ensures (long at)
 
 returns : tie.Need-returns
@@ -91,9 +91,9 @@ returns c =
     (starts _ _ _ at.before.before.before.before.before.before.first-line.ensures) first.ensures
     at.before.preamble-chips.ensures at.header-rate.ensures rest.ensures
 
-pub put-front-spec : {M : Type 1} → statement M
-put-front-spec =
+pub put_front_spec : {M : Type 1} → statement M
+put_front_spec =
     tie.close
     (tie.spec
-    (λ c κs. search rules) put-preamble-requires (λ c κs. search rules) (λ c κs. search rules)
-    (λ c. inside c) (λ c. inside c) (λ c. search rules) put-octets-requires (λ c. search rules) returns)
+    (λ c κs. search rules) put_preamble_requires (λ c κs. search rules) (λ c κs. search rules)
+    (λ c. inside c) (λ c. inside c) (λ c. search rules) put_octets_requires (λ c. search rules) returns)

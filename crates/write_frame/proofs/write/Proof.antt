@@ -11,34 +11,34 @@ use Rattle.rules_calls.specs.declared.Refusal.{Refusal}
 use Rattle.rules_calls.specs.declared.Writing.{Writing}
 use Rattle.rules_calls.specs.declared.Writing.TheVariants.{Refused, Good}
 use Rattle.rules_calls.specs.declared.Written.{Written}
-use Rattle.rules_frame.specs.Frame.{clockOf, frame}
-use Rattle.rules_calls.specs.Writing.{writingOf, chipsWritten}
+use Rattle.rules_frame.specs.Frame.{clock_of, frame}
+use Rattle.rules_calls.specs.Writing.{writing_of, chips_written}
 use Rattle.rules_calls.specs.Answers.{written_of}
 use Rattle.rules_calls.proofs.WriteGood.{accepted}
 use Rattle.write_frame.proofs.write.Statement.{statement}
 use Rattle.write_frame.proofs.write.Tie as tie
 
 refused : (kind rate phase clock m : ℕ) (xs z : List ℕ) (w : Writing) (a : Written) (e : Refusal)
-    → w ≡ writingOf kind rate phase (length xs) m → a ≡ written_of w → w ≡ Refused e → z ≡ replicate m 4
-    → (a ≡ written_of (writingOf kind rate phase (length xs) m)) × (z ≡ chipsWritten kind rate phase clock xs m)
-unfolding chipsWritten
+    → w ≡ writing_of kind rate phase (length xs) m → a ≡ written_of w → w ≡ Refused e → z ≡ replicate m 4
+    → (a ≡ written_of (writing_of kind rate phase (length xs) m)) × (z ≡ chips_written kind rate phase clock xs m)
+unfolding chips_written
 refused kind rate phase clock m xs z w a e ew ea ee ez = (rw (← ew) ea, rw (← ew, ee) ez)
 
 framed : (kind rate phase clock m : ℕ) (xs z : List ℕ) (w : Writing) (a : Written) (k : Kind) (r : Rate) (c : ℕ)
-    → w ≡ writingOf kind rate phase (length xs) m → a ≡ written_of w → w ≡ Good k r c
-    → z ≡ frame k r phase (clockOf clock) xs ++ replicate (m - c) 4
-    → (a ≡ written_of (writingOf kind rate phase (length xs) m)) × (z ≡ chipsWritten kind rate phase clock xs m)
-unfolding chipsWritten
+    → w ≡ writing_of kind rate phase (length xs) m → a ≡ written_of w → w ≡ Good k r c
+    → z ≡ frame k r phase (clock_of clock) xs ++ replicate (m - c) 4
+    → (a ≡ written_of (writing_of kind rate phase (length xs) m)) × (z ≡ chips_written kind rate phase clock xs m)
+unfolding chips_written
 framed kind rate phase clock m xs z w a k r c ew ea ee ez = (rw (← ew) ea, rw (← ew, ee) ez)
 
-cast-put-frame : tie.Need-overflow-cast-put-frame
-cast-put-frame c =
+cast_put_frame : tie.Need-overflow-cast-put-frame
+cast_put_frame c =
     let small = (accepted _ _ _ _ _ _ _ _ (sym c.before.before.before.before.check-write.ensures
     ∙ c.before.writing.given.1)).1 in
     record { fits = omega arith }
 
-put-frame-requires : tie.Need-put-frame-requires
-put-frame-requires c κs =
+put_frame_requires : tie.Need-put-frame-requires
+put_frame_requires c κs =
     let g = accepted _ _ _ _ _ _ _ _ (sym c.before.before.before.before.before.check-write.ensures
     ∙ c.before.before.writing.given.1) in
     (g.0, g.2, g.3)
@@ -50,8 +50,8 @@ returns c =
     c.before.before.before.before.enum_told.given.1
     c.before.before.fill.ensures
 
-returns-2 : tie.Need-returns-2
-returns-2 c =
+returns_2 : tie.Need-returns-2
+returns_2 c =
     framed _ _ _ _ _ _ _ _ _ _ _ _ c.before.before.before.before.before.before.before.before.check-write.ensures c.before.before.before.before.before.before.before.written_of_lem.ensures
     c.before.before.before.before.before.writing.given.1
     c.before.before.put-frame.ensures
@@ -61,5 +61,5 @@ write_spec =
     tie.close
     (tie.spec
     (λ c κs. search rules) (λ c κs. search rules) (λ c. search rules) (λ c κs. search rules) (λ c. search rules)
-    cast-put-frame
-    put-frame-requires (λ c. search rules) returns (λ c. search rules) returns-2)
+    cast_put_frame
+    put_frame_requires (λ c. search rules) returns (λ c. search rules) returns_2)

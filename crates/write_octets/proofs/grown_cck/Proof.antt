@@ -7,8 +7,8 @@ use Rattle.write_octets.proofs.grown_cck.Tie as tie
 returns : tie.Need-returns
 returns c = omega arith
 
-pub grown-cck-spec : {M : Type 1} → statement M
-grown-cck-spec =
+pub grown_cck_spec : {M : Type 1} → statement M
+grown_cck_spec =
     tie.close
     (tie.spec (λ c κs. search rules) (λ c. search rules) (λ c. search rules) (λ c. search rules) (λ c. search rules)
     returns)

@@ -6,18 +6,18 @@ use Prim.Native.Nat.{ℕ, ◌*◌}
 use borrow.Author.Rules.{rules}
 use Rattle.base.specs.Over.{over}
 use Rattle.rules_rates.specs.declared.Rate.{Rate}
-use Rattle.rules_rates.specs.Rates.{octetSymbols}
+use Rattle.rules_rates.specs.Rates.{octet_symbols}
 use Rattle.rules_bits.specs.Bits.{bits_of}
-use Rattle.rules_bits.specs.Growths.{chipsFrom, lastPhase}
+use Rattle.rules_bits.specs.Growths.{chips_from, last_phase}
 use Rattle.rules_bits.specs.Scrambler.{scramble}
-use Rattle.write_octets.specs.Sending.{State, symbolsAt, step, emit}
+use Rattle.write_octets.specs.Sending.{State, symbols_at, step, emit}
 use Rattle.write_octets.specs.Line.{state}
 use Rattle.write_octets.proofs.put_octet.Statement.{statement}
 use Rattle.write_octets.proofs.put_octet.Tie as tie
 
 octet : (r : Rate) (k : ℕ) (s : State) (x q : ℕ) (bs o d : List ℕ) → bs ≡ scramble s.past (bits_of 8 x)
-    → (q ≡ lastPhase s.phase (symbolsAt r (octetSymbols r * k) bs))
-    × (o ≡ over (chipsFrom r s.phase (symbolsAt r (octetSymbols r * k) bs)) d)
+    → (q ≡ last_phase s.phase (symbols_at r (octet_symbols r * k) bs))
+    × (o ≡ over (chips_from r s.phase (symbols_at r (octet_symbols r * k) bs)) d)
     → (record { past = reverse bs; phase = q } ≡ step r k s x) × (o ≡ over (emit r k s x) d)
 unfolding step emit
 octet r k s x q bs o d b h = (cc, cc)
@@ -28,5 +28,5 @@ returns c =
     octet start.args.r _ (state start.args.line) _ _ _ _ _
     c.before.before.before.before.scramble-octet.ensures c.before.before.put-bits.ensures
 
-pub put-octet-spec : {M : Type 1} → statement M
-put-octet-spec = tie.close (tie.spec (λ c κs. search rules) (λ c κs. search rules) (λ c. search rules) returns)
+pub put_octet_spec : {M : Type 1} → statement M
+put_octet_spec = tie.close (tie.spec (λ c κs. search rules) (λ c κs. search rules) (λ c. search rules) returns)

@@ -12,28 +12,28 @@ use borrow.Author.Rules.{rules}
 use borrow.Rule.Slice.PartMut.{put_mid, same_len_mid}
 use Rattle.base.specs.Over.{over}
 use Rattle.base.specs.Tables.{tabulate}
-use Rattle.base.proofs.Over.{over-next}
+use Rattle.base.proofs.Over.{over_next}
 use Rattle.rules_rates.specs.declared.Rate.{Rate}
-use Rattle.rules_rates.specs.Rates.{octetChips}
-use Rattle.rules_symbols.specs.Words.{barkerWord}
+use Rattle.rules_rates.specs.Rates.{octet_chips}
+use Rattle.rules_symbols.specs.Words.{barker_word}
 use Rattle.write_octets.specs.Sending.{State, emit, step, run, ran}
 use Rattle.write_octets.specs.Line.{state}
 use Rattle.base.proofs.Lists.{run_room}
-use Rattle.write_octets.proofs.Run.{length_run, run-snoc, ran-snoc}
+use Rattle.write_octets.proofs.Run.{length_run, run_snoc, ran_snoc}
 use Rattle.write_octets.proofs.put_octets.Statement.{statement}
 use Rattle.write_octets.proofs.put_octets.Tie as tie
 
-abbrev invariant-loop : tie.invariant-loop
-invariant-loop r octets chips₀ per barkers l₀ i₀ at₀ chips l i at =
-    (i ≤ length octets) × (at ≡ octetChips r * i) × (length chips ≡ length chips₀) × (per ≡ octetChips r)
-    × (barkers ≡ tabulate barkerWord 4) × (state l ≡ ran r 0 (state l₀) (take i octets))
+abbrev invariant_loop : tie.invariant-loop
+invariant_loop r octets chips₀ per barkers l₀ i₀ at₀ chips l i at =
+    (i ≤ length octets) × (at ≡ octet_chips r * i) × (length chips ≡ length chips₀) × (per ≡ octet_chips r)
+    × (barkers ≡ tabulate barker_word 4) × (state l ≡ ran r 0 (state l₀) (take i octets))
     × (chips ≡ over (run r 0 (state l₀) (take i octets)) chips₀)
 
-abbrev decreases-loop : tie.decreases-loop
-decreases-loop r octets chips₀ per barkers l₀ i₀ at₀ chips l i at = length octets - i
+abbrev decreases_loop : tie.decreases-loop
+decreases_loop r octets chips₀ per barkers l₀ i₀ at₀ chips l i at = length octets - i
 
 -- in a turn there is room for an octet more
-within : (c : tie.In-loop invariant-loop decreases-loop)
+within : (c : tie.In-loop invariant_loop decreases_loop)
     → c.before.loop.at + c.before.before.before.octet-chips.result ≤ length c.before.loop.chips
 within c =
     let start = c.before.before.before.before.before.before in
@@ -46,7 +46,7 @@ more k i n p e f = rw add-one (omega (arith, mul-suc k i))
 -- one octet more
 turn : (r : Rate) (s t u : State) (xs d o y : List ℕ) (i n : ℕ) → t ≡ ran r 0 s (take i xs)
     → o ≡ over (run r 0 s (take i xs)) d
-    → n ≡ octetChips r * i → i < length xs
+    → n ≡ octet_chips r * i → i < length xs
     → (u ≡ step r i t (get_or xs i 0)) × (y ≡ over (emit r i t (get_or xs i 0)) (take (length o - n) (drop n o)))
     → (u ≡ ran r 0 s (take (i + 1) xs)) × (put_mid n (length o - n) o y ≡ over (run r 0 s (take (i + 1) xs)) d)
 turn r s t u xs d o y i n e f g h m =
@@ -55,7 +55,7 @@ turn r s t u xs d o y i n e f g h m =
     let count : length (run r 0 s (take i xs)) ≡ n =
     length_run r 0 s (take i xs) ∙ ap (λ (k : ℕ). octetChips r * k) long ∙ sym g in
     let at : 0 + length (take i xs) ≡ i = zero-add _ ∙ long in
-    (rw (next, ran-snoc, at) (cc), over-next _ _ d o y n f count m.1 ∙ rw (next, run-snoc, at) (cc))
+    (rw (next, ran_snoc, at) (cc), over_next _ _ d o y n f count m.1 ∙ rw (next, run_snoc, at) (cc))
 
 whole : (r : Rate) (s t : State) (xs d o : List ℕ) (i : ℕ) → t ≡ ran r 0 s (take i xs)
     → o ≡ over (run r 0 s (take i xs)) d → i ≡ length xs
@@ -64,9 +64,9 @@ whole r s t xs d o i e f h =
     let all : take i xs ≡ xs = rw (h, take-length) in
     (e ∙ ap (ran r 0 s) all, f ∙ ap (λ (l : List ℕ). over (run r 0 s l) d) all)
 
-loop-holds : tie.Need-loop-init invariant-loop decreases-loop
+loop_holds : tie.Need-loop-init invariant_loop decreases_loop
 unfolding over run ran
-loop-holds c = (
+loop_holds c = (
   omega arith,
   sym (mul-zero _),
   refl,
@@ -76,20 +76,20 @@ loop-holds c = (
   refl,
 )
 
-put-octet-requires : tie.Need-put-octet-requires invariant-loop decreases-loop
-put-octet-requires c κs =
+put_octet_requires : tie.Need-put-octet-requires invariant_loop decreases_loop
+put_octet_requires c κs =
     let l = c.before.before.before.before.loop in (
       l.invariant.4,
       simp (length-take, length-drop) (omega (arith, within c.before.before.before, l.invariant.3)),
     )
 
-add_at : tie.Need-overflow-add-at invariant-loop decreases-loop
+add_at : tie.Need-overflow-add-at invariant_loop decreases_loop
 add_at c =
     let turn = c.before.before.before.before.before.before in
     omega (arith, within turn, turn.before.before.before.before.before.before.well-formed)
 
-loop-again : tie.Need-loop-preserved invariant-loop decreases-loop
-loop-again c =
+loop_again : tie.Need-loop-preserved invariant_loop decreases_loop
+loop_again c =
     let l = c.before.before.before.before.before.before.before.loop in
     let call = c.before.before.put-octet in
     let next = turn _ _ _ _ _ _ _ call.new.1.1.1.1.1.0 l.i l.at l.invariant.5 l.invariant.6 l.invariant.1
@@ -104,14 +104,14 @@ loop-again c =
       next.1,
     )
 
-returns : tie.Need-returns invariant-loop decreases-loop
+returns : tie.Need-returns invariant_loop decreases_loop
 returns c = whole _ _ _ _ _ _ c.before.loop.i c.before.loop.invariant.5 c.before.loop.invariant.6 (omega arith)
 
-pub put-octets-spec : {M : Type 1} → statement M
-put-octets-spec =
+pub put_octets_spec : {M : Type 1} → statement M
+put_octets_spec =
     tie.close
     (tie.spec
-    invariant-loop decreases-loop (λ c κs. search rules) (λ c κs. search rules) loop-holds (λ c. omega arith)
+    invariant_loop decreases_loop (λ c κs. search rules) (λ c κs. search rules) loop_holds (λ c. omega arith)
     (λ c. omega (arith, within c.before.before)) (λ c. omega (arith, within c.before.before))
-    (λ c. search rules) put-octet-requires add_at (λ c. omega arith) (λ c. omega arith) loop-again (λ c. search rules)
+    (λ c. search rules) put_octet_requires add_at (λ c. omega arith) (λ c. omega arith) loop_again (λ c. search rules)
     returns)

@@ -8,11 +8,11 @@ use Rattle.base.specs.Over.{over}
 use Rattle.rules_rates.specs.declared.Rate.TheVariants.{Two}
 use Rattle.rules_chips.specs.Chips.{turned}
 use Rattle.rules_bits.specs.Bits.{bits_of}
-use Rattle.rules_bits.specs.Growths.{growth, symbol_of, symbols_from, chipsFrom, lastPhase}
-use Rattle.rules_bits.specs.Code.{pairsOf}
-use Rattle.rules_bits.proofs.PairLaws.{pair-bits}
-use Rattle.write_octets.specs.Sending.{symbolsAt}
-use Rattle.write_octets.specs.Line.{barkerWords}
+use Rattle.rules_bits.specs.Growths.{growth, symbol_of, symbols_from, chips_from, last_phase}
+use Rattle.rules_bits.specs.Code.{pairs_of}
+use Rattle.rules_bits.proofs.PairLaws.{pair_bits}
+use Rattle.write_octets.specs.Sending.{symbols_at}
+use Rattle.write_octets.specs.Line.{barker_words}
 use Rattle.write_octets.proofs.put_two.Statement.{statement}
 use Rattle.write_octets.proofs.put_two.Tie as tie
 
@@ -24,17 +24,17 @@ four : (p o q0 q1 q2 q3 : ℕ) (z d : List ℕ) → q0 ≡ turned p (growth (o %
     → q1 ≡ turned q0 (growth (o / 2 / 2 % 2) (o / 2 / 2 / 2 % 2))
     → q2 ≡ turned q1 (growth (o / 2 / 2 / 2 / 2 % 2) (o / 2 / 2 / 2 / 2 / 2 % 2))
     → q3 ≡ turned q2 (growth (o / 2 / 2 / 2 / 2 / 2 / 2 % 2) (o / 2 / 2 / 2 / 2 / 2 / 2 / 2 % 2))
-    → z ≡ over (barkerWords (q0 ∷ q1 ∷ q2 ∷ q3 ∷ [])) d
-    → (q3 ≡ lastPhase p (symbolsAt Two 0 (bits_of 8 o))) × (z ≡ over (chipsFrom Two p (symbolsAt Two 0 (bits_of 8 o))) d)
-unfolding bits_of symbol_of symbols_from symbolsAt chipsFrom lastPhase barkerWords
+    → z ≡ over (barker_words (q0 ∷ q1 ∷ q2 ∷ q3 ∷ [])) d
+    → (q3 ≡ last_phase p (symbols_at Two 0 (bits_of 8 o))) × (z ≡ over (chips_from Two p (symbols_at Two 0 (bits_of 8 o))) d)
+unfolding bits_of symbol_of symbols_from symbols_at chips_from last_phase barker_words
 four p o q0 q1 q2 q3 z d e0 e1 e2 e3 f = (cc, cc)
 
-two : (p o s q0 q1 q2 q3 : ℕ) (z d : List ℕ) → s ≡ pairsOf o → q0 ≡ turned p (growth (s / 2 % 2) (s % 2))
+two : (p o s q0 q1 q2 q3 : ℕ) (z d : List ℕ) → s ≡ pairs_of o → q0 ≡ turned p (growth (s / 2 % 2) (s % 2))
     → q1 ≡ turned q0 (growth (s / 4 / 2 % 2) (s / 4 % 2)) → q2 ≡ turned q1 (growth (s / 16 / 2 % 2) (s / 16 % 2))
-    → q3 ≡ turned q2 (growth (s / 64 / 2 % 2) (s / 64 % 2)) → z ≡ over (barkerWords (q0 ∷ q1 ∷ q2 ∷ q3 ∷ [])) d
-    → (q3 ≡ lastPhase p (symbolsAt Two 0 (bits_of 8 o))) × (z ≡ over (chipsFrom Two p (symbolsAt Two 0 (bits_of 8 o))) d)
+    → q3 ≡ turned q2 (growth (s / 64 / 2 % 2) (s / 64 % 2)) → z ≡ over (barker_words (q0 ∷ q1 ∷ q2 ∷ q3 ∷ [])) d
+    → (q3 ≡ last_phase p (symbols_at Two 0 (bits_of 8 o))) × (z ≡ over (chips_from Two p (symbols_at Two 0 (bits_of 8 o))) d)
 two p o s q0 q1 q2 q3 z d e e0 e1 e2 e3 f =
-    let b = pair-bits o s e in
+    let b = pair_bits o s e in
     four p o q0 q1 q2 q3 z d (same _ _ _ _ _ _ e0 b.0 b.1) (same _ _ _ _ _ _ e1 b.2 b.3)
     (same _ _ _ _ _ _ e2 b.4 b.5) (same _ _ _ _ _ _ e3 b.6 b.7) f
 
@@ -45,8 +45,8 @@ returns c =
     calls.before.before.before.grown.ensures calls.before.before.grown2.ensures
     calls.before.grown3.ensures calls.grown4.ensures c.before.before.put-barkers.ensures
 
-pub put-two-spec : {M : Type 1} → statement M
-put-two-spec =
+pub put_two_spec : {M : Type 1} → statement M
+put_two_spec =
     tie.close
     (tie.spec
     (λ c κs. search rules) (λ c κs. search rules) (λ c κs. search rules) (λ c κs. search rules)

@@ -10,12 +10,12 @@ use mir.Val.{to_z, of_z}
 use borrow.Author.Rules.{rules}
 use Rattle.base.specs.Whole.{Within}
 use Rattle.base.proofs.Whole.{small}
-use Rattle.rules_choosing.specs.Keys.{keyOf}
-use Rattle.rules_choosing.proofs.Wide.{key-small}
-use Rattle.choose_sums.proofs.Four.{sumKey, phase-by}
-use Rattle.choose_sums.proofs.KeyTops.{second-le}
-use Rattle.choose_keys.specs.Floats.{keyFloat, largerFloat, smallerFloat, FloatTwo}
-use Rattle.choose_keys.proofs.Floats.{float-two, first-asks, second-asks, first_back, second_back}
+use Rattle.rules_choosing.specs.Keys.{key_of}
+use Rattle.rules_choosing.proofs.Wide.{key_small}
+use Rattle.choose_sums.proofs.Four.{sum_key, phase_by}
+use Rattle.choose_sums.proofs.KeyTops.{second_le}
+use Rattle.choose_keys.specs.Floats.{key_float, larger_float, smaller_float, FloatTwo}
+use Rattle.choose_keys.proofs.Floats.{float_two, first_asks, second_asks, first_back, second_back}
 use Rattle.choose_by_counts.proofs.barker.choose.Statement.{statement}
 use Rattle.choose_by_counts.proofs.barker.choose.Tie as tie
 
@@ -29,17 +29,17 @@ module _ (c : tie.After-two-keys) where
   score : (s : ℤ) → Within 90112 s → to_z w32 (of_z w32 s) ≡ s
   score s h = small w32 90112 (lit< tt) s h
 
-  key-i : keyOf 2 0 (to_z w32 (of_z w32 i)) ≡ sumKey i q 0
-  key-i = ap (keyOf 2 0) (score i c.before.requires.0)
+  key_i : key_of 2 0 (to_z w32 (of_z w32 i)) ≡ sum_key i q 0
+  key_i = ap (key_of 2 0) (score i c.before.requires.0)
 
-  key-q : keyOf 2 1 (to_z w32 (of_z w32 q)) ≡ sumKey i q 1
-  key-q = ap (keyOf 2 1) (score q c.before.requires.1)
+  key_q : key_of 2 1 (to_z w32 (of_z w32 q)) ≡ sum_key i q 1
+  key_q = ap (key_of 2 1) (score q c.before.requires.1)
 
-  top : FloatTwo (sumKey i q) 0 2 c.two-keys.result.first c.two-keys.result.second
-  top = float-two (sumKey i q) 0 (omega (arith, key-small 2 0 i c.before.requires.0))
-      (omega (arith, key-small 2 1 q c.before.requires.1)) (
-        c.two-keys.ensures.0 ∙ (λ j. largerFloat (keyFloat (key-i j)) (keyFloat (key-q j))),
-        c.two-keys.ensures.1 ∙ (λ j. smallerFloat (keyFloat (key-i j)) (keyFloat (key-q j))),
+  top : FloatTwo (sum_key i q) 0 2 c.two_keys.result.first c.two_keys.result.second
+  top = float_two (sum_key i q) 0 (omega (arith, key_small 2 0 i c.before.requires.0))
+      (omega (arith, key_small 2 1 q c.before.requires.1)) (
+        c.two_keys.ensures.0 ∙ (λ j. largerFloat (key_float (key_i j)) (key_float (key_q j))),
+        c.two_keys.ensures.1 ∙ (λ j. smallerFloat (key_float (key_i j)) (key_float (key_q j))),
       )
 
 module _ (c : tie.After-key-of2) where
@@ -52,15 +52,15 @@ module _ (c : tie.After-key-of2) where
   second : c.key-of2.result ≡ (top m).y
   second = c.key-of2.ensures ∙ second_back (top m)
 
-lead-of-requires : tie.Need-lead-of-requires
-lead-of-requires c κs =
+lead_of_requires : tie.Need-lead-of-requires
+lead_of_requires c κs =
     let d = c.before in
-    (lit< tt, lit≤ tt, omega (arith, first d, second d, second-le (top (m d)).two))
+    (lit< tt, lit≤ tt, omega (arith, first d, second d, second_le (top (m d)).two))
 
 returns : tie.Need-returns
 returns c =
     let d = c.before.before in
-    let chosen = phase-by (i (m d)) (q (m d)) (top (m d)).two in (
+    let chosen = phase_by (i (m d)) (q (m d)) (top (m d)).two in (
       c.before.number_of.ensures ∙ ap (λ (x : ℕ). 3 - x % 4) (first d) ∙ chosen.0,
       c.lead-of.ensures ∙ (λ j. first d j / 4 - second d j / 4) ∙ chosen.1,
     )
@@ -68,5 +68,5 @@ returns c =
 pub choose_spec : {M : Type 1} → statement M
 choose_spec =
     tie.close
-    (tie.spec (λ c κs. search rules) (λ c κs. first-asks (top c)) (λ c κs. second-asks (top c.before))
-    (λ c κs. search rules) lead-of-requires returns)
+    (tie.spec (λ c κs. search rules) (λ c κs. first_asks (top c)) (λ c κs. second_asks (top c.before))
+    (λ c κs. search rules) lead_of_requires returns)

@@ -13,14 +13,14 @@ of c = sums w32 _ _ 8192 (lit< tt) c.requires.0 c.requires.1
 abbrev from : tie.After-d2 → tie.Start
 from c = c.before.before.before.before.before.before.before.before
 
-pub crossed-spec : {M : Type 1} → statement M
-crossed-spec =
+pub crossed_spec : {M : Type 1} → statement M
+crossed_spec =
     tie.close
     (tie.spec
-    (λ c. search rules) (λ c. search rules) (λ c. (of c.before.before).a-fits)
-    (λ c. search rules) (λ c. search rules) (λ c. (of c.before.before.before.before).b-fits)
-    (λ c. search rules) (λ c. search rules) (λ c. (of c.before.before.before.before.before.before).c-fits)
-    (λ c. search rules) (λ c. search rules) (λ c. (of (from c)).d-fits)
-    (λ c. (of (from c)).u-fits) (λ c. (of (from c)).x_fits) (λ c. (of (from c)).v-fits) (λ c. (of (from c)).y-fits)
+    (λ c. search rules) (λ c. search rules) (λ c. (of c.before.before).a_fits)
+    (λ c. search rules) (λ c. search rules) (λ c. (of c.before.before.before.before).b_fits)
+    (λ c. search rules) (λ c. search rules) (λ c. (of c.before.before.before.before.before.before).c_fits)
+    (λ c. search rules) (λ c. search rules) (λ c. (of (from c)).d_fits)
+    (λ c. (of (from c)).u_fits) (λ c. (of (from c)).x_fits) (λ c. (of (from c)).v_fits) (λ c. (of (from c)).y_fits)
     (λ c. (of (from c)).fits0) (λ c. (of (from c)).fits1) (λ c. (of (from c)).fits2) (λ c. (of (from c)).fits3)
     (λ c. (of (from c)).are))

@@ -6,16 +6,16 @@ use native.Mathlib.Omega.{arith}
 use lib.Dec.{lit<, lit≤}
 use borrow.Author.Rules.{rules}
 use Rattle.rules_choosing.specs.Scores.{number5}
-use Rattle.choose_sums.proofs.KeyTops.{second-le}
-use Rattle.choose_sums.proofs.Eight.{eight-by, eight-within}
-use Rattle.choose_keys.proofs.Floats.{first-asks, second-asks, first_back, second_back}
+use Rattle.choose_sums.proofs.KeyTops.{second_le}
+use Rattle.choose_sums.proofs.Eight.{eight_by, eight_within}
+use Rattle.choose_keys.proofs.Floats.{first_asks, second_asks, first_back, second_back}
 use Rattle.choose_by_counts.proofs.five.decide.Statement.{statement}
 use Rattle.choose_by_counts.proofs.five.decide.Tie as tie
 
-two-largest-requires : tie.Need-two-largest-requires
-two-largest-requires c κs =
+two_largest_requires : tie.Need-two-largest-requires
+two_largest_requires c κs =
     let start = c.before in
-    eight-within 8192 start.args.i start.args.q _ c.halves.ensures start.requires.0 start.requires.1
+    eight_within 8192 start.args.i start.args.q _ c.halves.ensures start.requires.0 start.requires.1
 
 module _ (c : tie.After-key-of2) where
   abbrev found : tie.After-two-largest
@@ -27,28 +27,28 @@ module _ (c : tie.After-key-of2) where
   second : c.key-of2.result ≡ found.two-largest.ensures.y
   second = c.key-of2.ensures ∙ second_back found.two-largest.ensures
 
-number-requires : tie.Need-number-requires
-number-requires c κs = omega (arith, c.number_of.ensures)
+number_requires : tie.Need-number-requires
+number_requires c κs = omega (arith, c.number_of.ensures)
 
-lead-of-requires : tie.Need-lead-of-requires
-lead-of-requires c κs =
+lead_of_requires : tie.Need-lead-of-requires
+lead_of_requires c κs =
     let d = c.before.before in
-    (lit< tt, lit≤ tt, omega (arith, first d, second d, second-le (found d).two-largest.ensures.two))
+    (lit< tt, lit≤ tt, omega (arith, first d, second d, second_le (found d).two-largest.ensures.two))
 
 returns : tie.Need-returns
 returns c =
     let number = c.before in
     let d = number.before.before in
-    let chosen = eight-by _ _ (found d).before.halves.ensures (found d).two-largest.ensures.two in (
+    let chosen = eight_by _ _ (found d).before.halves.ensures (found d).two-largest.ensures.two in (
       number.number.ensures
           ∙ ap number5 (number.before.number_of.ensures ∙ ap (λ (x : ℕ). 15 - x % 16) (first d))
           ∙ chosen.0,
       c.lead-of.ensures ∙ (λ j. first d j / 16 - second d j / 16) ∙ chosen.1,
     )
 
-pub decide-spec : {M : Type 1} → statement M
-decide-spec =
+pub decide_spec : {M : Type 1} → statement M
+decide_spec =
     tie.close
-    (tie.spec (λ c κs. search rules) two-largest-requires (λ c κs. first-asks c.two-largest.ensures)
-    (λ c κs. second-asks c.before.two-largest.ensures) (λ c κs. search rules) number-requires lead-of-requires
+    (tie.spec (λ c κs. search rules) two_largest_requires (λ c κs. first_asks c.two-largest.ensures)
+    (λ c κs. second_asks c.before.two-largest.ensures) (λ c κs. search rules) number_requires lead_of_requires
     returns)

@@ -14,12 +14,12 @@ use mir.Val.{to_z, of_z}
 use borrow.Author.Rules.{rules}
 use Rattle.base.specs.Whole.{Within}
 use Rattle.rules_choosing.specs.Scores.{RowWithin}
-use Rattle.rules_choosing.specs.Keys.{keyOf}
+use Rattle.rules_choosing.specs.Keys.{key_of}
 use Rattle.choose_sums.specs.Sums.{key_at}
-use Rattle.choose_sums.proofs.KeyTops.{within-two, score-read}
-use Rattle.rules_choosing.proofs.Wide.{key-small}
-use Rattle.choose_keys.specs.Floats.{keyFloat, largerFloat, smallerFloat, FloatTwo}
-use Rattle.choose_keys.proofs.Floats.{float-two, float-merge}
+use Rattle.choose_sums.proofs.KeyTops.{within_two, score_read}
+use Rattle.rules_choosing.proofs.Wide.{key_small}
+use Rattle.choose_keys.specs.Floats.{key_float, larger_float, smaller_float, FloatTwo}
+use Rattle.choose_keys.proofs.Floats.{float_two, float_merge}
 use Rattle.choose_by_counts.proofs.five.two_largest.Statement.{statement}
 use Rattle.choose_by_counts.proofs.five.two_largest.Tie as tie
 
@@ -29,25 +29,25 @@ read z = to_z w32 (of_z w32 z)
 -- what is asked of the places j and j + 1
 asks : (h : List ℤ) (j : ℕ) → suc j < 8 → RowWithin 65536 h
     → (4 ≤ 4) × Within 90112 (read (get_or h j (pos 0))) × Within 90112 (read (get_or h (suc j) (pos 0))) × (suc j < 8)
-asks h j l r = let two = within-two w32 (lit< tt) h r 90112 j (lit≤ tt) in (lit≤ tt, two.0, two.1, l)
+asks h j l r = let two = within_two w32 (lit< tt) h r 90112 j (lit≤ tt) in (lit≤ tt, two.0, two.1, l)
 
 -- the keys of the places j and j + 1
 two : (h : List ℤ) (j : ℕ) (r : RowWithin 65536 h) → {f s : Float}
-    → (f ≡ largerFloat (keyFloat (keyOf 8 j (read (get_or h j (pos 0)))))
-    (keyFloat (keyOf 8 (suc j) (read (get_or h (suc j) (pos 0))))))
-    × (s ≡ smallerFloat (keyFloat (keyOf 8 j (read (get_or h j (pos 0)))))
-    (keyFloat (keyOf 8 (suc j) (read (get_or h (suc j) (pos 0))))))
+    → (f ≡ larger_float (key_float (key_of 8 j (read (get_or h j (pos 0)))))
+    (key_float (key_of 8 (suc j) (read (get_or h (suc j) (pos 0))))))
+    × (s ≡ smaller_float (key_float (key_of 8 j (read (get_or h j (pos 0)))))
+    (key_float (key_of 8 (suc j) (read (get_or h (suc j) (pos 0))))))
     → FloatTwo (key_at h) j (suc (suc j)) f s
-two h j r e = float-two (key_at h) j (few j) (few (suc j)) (
-  e.0 ∙ (λ i. largerFloat (keyFloat (key j i)) (keyFloat (key (suc j) i))),
-  e.1 ∙ (λ i. smallerFloat (keyFloat (key j i)) (keyFloat (key (suc j) i))),
+two h j r e = float_two (key_at h) j (few j) (few (suc j)) (
+  e.0 ∙ (λ i. largerFloat (key_float (key j i)) (key_float (key (suc j) i))),
+  e.1 ∙ (λ i. smallerFloat (key_float (key j i)) (key_float (key (suc j) i))),
 )
   where
-    key : (n : ℕ) → keyOf 8 n (read (get_or h n (pos 0))) ≡ key_at h n
-    key n = ap (keyOf 8 n) (score-read w32 (lit< tt) h r n)
+    key : (n : ℕ) → key_of 8 n (read (get_or h n (pos 0))) ≡ key_at h n
+    key n = ap (key_of 8 n) (score_read w32 (lit< tt) h r n)
 
     few : (n : ℕ) → key_at h n < 8388608
-    few n = omega (arith, key-small 8 n (get_or h n (pos 0)) (r.at n))
+    few n = omega (arith, key_small 8 n (get_or h n (pos 0)) (r.at n))
 
 returns : tie.Need-returns
 returns c =
@@ -57,15 +57,15 @@ returns c =
     let k1 = k2.before.before.before in
     let start = k1.before.before.before in
     let row = start.args.t1 in
-    float-merge
-    (float-merge (two row 0 start.requires k1.two-keys.ensures) (two row 2 start.requires k2.two-keys2.ensures)
+    float_merge
+    (float_merge (two row 0 start.requires k1.two_keys.ensures) (two row 2 start.requires k2.two-keys2.ensures)
     c.before.before.merge.ensures)
-    (float-merge (two row 4 start.requires k3.two-keys3.ensures) (two row 6 start.requires k4.two-keys4.ensures)
+    (float_merge (two row 4 start.requires k3.two-keys3.ensures) (two row 6 start.requires k4.two-keys4.ensures)
     c.before.merge2.ensures)
     c.merge3.ensures
 
-pub two-largest-spec : {M : Type 1} → statement M
-two-largest-spec =
+pub two_largest_spec : {M : Type 1} → statement M
+two_largest_spec =
     tie.close
     (tie.spec (λ c. search rules) (λ c. search rules) (λ c κs. asks _ 0 (lit< tt) c.before.before.requires)
     (λ c. search rules) (λ c. search rules)

@@ -7,12 +7,12 @@ use mir.Syntax.{w16}
 use mir.Val.{to_z, of_z}
 use borrow.Author.Rules.{rules}
 use Rattle.base.specs.Whole.{Within}
-use Rattle.base.proofs.Whole.{small, neg-fits, neg-read, within-neg, within-read}
+use Rattle.base.proofs.Whole.{small, neg_fits, neg_read, within_neg, within_read}
 use Rattle.rules_chips.specs.Bounds.{Bounded}
 use Rattle.rules_chips.specs.Chips.{pair}
 use Rattle.choose_walsh.specs.Turns.{plus}
-use Rattle.choose_walsh.specs.Search.{fourMore}
-use Rattle.choose_walsh.proofs.Machine.{met-as}
+use Rattle.choose_walsh.specs.Search.{four_more}
+use Rattle.choose_walsh.proofs.Machine.{met_as}
 use Rattle.choose_walsh_bytes.proofs.groups.column.Statement.{statement}
 use Rattle.choose_walsh_bytes.proofs.groups.column.Tie as tie
 
@@ -21,13 +21,13 @@ is : {z : ℤ} → Within 4104 z → to_z w16 (of_z w16 z) ≡ z
 is {z} h = small w16 4104 (lit< tt) z h
 
 not : {z : ℤ} → Within 4104 z → to_z w16 (of_z w16 (pos 0 -ℤ to_z w16 (of_z w16 z))) ≡ neg_ℤ z
-not {z} h = neg-read w16 4104 (lit< tt) z h
+not {z} h = neg_read w16 4104 (lit< tt) z h
 
 plain : {z : ℤ} → Within 4104 z → Within 4104 (to_z w16 (of_z w16 z))
-plain h = within-read w16 (lit< tt) h
+plain h = within_read w16 (lit< tt) h
 
-turned-small : {z : ℤ} → Within 4104 z → Within 4104 (to_z w16 (of_z w16 (pos 0 -ℤ to_z w16 (of_z w16 z))))
-turned-small h = rw (not h) (within-neg h)
+turned_small : {z : ℤ} → Within 4104 z → Within 4104 (to_z w16 (of_z w16 (pos 0 -ℤ to_z w16 (of_z w16 z))))
+turned_small h = rw (not h) (within_neg h)
 
 module _ (c : tie.Start) where
   pr : Within 4104 c.args.pr
@@ -42,41 +42,41 @@ module _ (c : tie.Start) where
   ei : Within 4104 c.args.ei
   ei = c.requires.3.imag
 
-  q-small : Bounded 4104 (pair (to_z w16 (of_z w16 c.args.qr)) (to_z w16 (of_z w16 c.args.qi)))
-  q-small = record { real = plain c.requires.0.real; imag = plain c.requires.0.imag }
+  q_small : Bounded 4104 (pair (to_z w16 (of_z w16 c.args.qr)) (to_z w16 (of_z w16 c.args.qi)))
+  q_small = record { real = plain c.requires.0.real; imag = plain c.requires.0.imag }
 
-  f-small : Bounded 4104 (pair (to_z w16 (of_z w16 c.args.fr)) (to_z w16 (of_z w16 c.args.fi)))
-  f-small = record { real = plain c.requires.2.real; imag = plain c.requires.2.imag }
+  f_small : Bounded 4104 (pair (to_z w16 (of_z w16 c.args.fr)) (to_z w16 (of_z w16 c.args.fi)))
+  f_small = record { real = plain c.requires.2.real; imag = plain c.requires.2.imag }
 
 two : tie.Need-meet-requires-2
 two c κs =
     let s = c.before in (
-      q-small s,
-      record { real = plain (pi s); imag = turned-small (pr s) },
-      f-small s,
-      record { real = plain (ei s); imag = turned-small (er s) },
+      q_small s,
+      record { real = plain (pi s); imag = turned_small (pr s) },
+      f_small s,
+      record { real = plain (ei s); imag = turned_small (er s) },
     )
 
 three : tie.Need-meet-requires-3
 three c κs =
     let s = c.before.before in (
-      q-small s,
-      record { real = turned-small (pr s); imag = turned-small (pi s) },
-      f-small s,
-      record { real = turned-small (er s); imag = turned-small (ei s) },
+      q_small s,
+      record { real = turned_small (pr s); imag = turned_small (pi s) },
+      f_small s,
+      record { real = turned_small (er s); imag = turned_small (ei s) },
     )
 
 four : tie.Need-meet-requires-4
 four c κs =
     let s = c.before.before.before in (
-      q-small s,
-      record { real = turned-small (pi s); imag = plain (pr s) },
-      f-small s,
-      record { real = turned-small (ei s); imag = plain (er s) },
+      q_small s,
+      record { real = turned_small (pi s); imag = plain (pr s) },
+      f_small s,
+      record { real = turned_small (ei s); imag = plain (er s) },
     )
 
 returns : tie.Need-returns
-unfolding fourMore
+unfolding four_more
 returns c =
     let m3 = c.before in
     let m2 = m3.before in
@@ -85,10 +85,10 @@ returns c =
     let q = s.requires.0 in
     let f = s.requires.2 in
     let g = s.args.g in
-    met-as _ c.meet4.ensures
-    (met-as _ m3.meet3.ensures
-    (met-as _ m2.meet2.ensures
-    (met-as _ m1.meet.ensures refl
+    met_as _ c.meet4.ensures
+    (met_as _ m3.meet3.ensures
+    (met_as _ m2.meet2.ensures
+    (met_as _ m1.meet.ensures refl
     (λ i. plus (pair (is q.real i) (is q.imag i)) (pair (is (pr s) i) (is (pi s) i)))
     (λ i. plus (pair (is f.real i) (is f.imag i)) (pair (is (er s) i) (is (ei s) i))))
     (λ i. plus (pair (is q.real i) (is q.imag i)) (pair (is (pi s) i) (not (pr s) i)))
@@ -98,9 +98,9 @@ returns c =
     (λ i. plus (pair (is q.real i) (is q.imag i)) (pair (not (pi s) i) (is (pr s) i)))
     (λ i. plus (pair (is f.real i) (is f.imag i)) (pair (not (ei s) i) (is (er s) i)))
 
-pub column-spec : {M : Type 1} → statement M
-column-spec =
+pub column_spec : {M : Type 1} → statement M
+column_spec =
     tie.close
-    (tie.spec (λ c. neg-fits w16 4104 (lit< tt) _ (pr c)) (λ c. neg-fits w16 4104 (lit< tt) _ (pi c))
-    (λ c. neg-fits w16 4104 (lit< tt) _ (er c)) (λ c. neg-fits w16 4104 (lit< tt) _ (ei c)) (λ c κs. search rules)
+    (tie.spec (λ c. neg_fits w16 4104 (lit< tt) _ (pr c)) (λ c. neg_fits w16 4104 (lit< tt) _ (pi c))
+    (λ c. neg_fits w16 4104 (lit< tt) _ (er c)) (λ c. neg_fits w16 4104 (lit< tt) _ (ei c)) (λ c κs. search rules)
     (λ c. search rules) two (λ c. search rules) three (λ c. search rules) four returns)

@@ -5,18 +5,18 @@ use lib.IntN.{pos, nat_abs, ◌-ℤ◌}
 use mir.Syntax.{w16}
 use mir.Val.{to_z, of_z}
 use borrow.Author.Rules.{rules}
-use Rattle.base.proofs.Whole.{within_more, within-read}
+use Rattle.base.proofs.Whole.{within_more, within_read}
 use Rattle.rules_choosing.specs.Keys.{larger, smaller}
-use Rattle.base.proofs.Adding.{Reads, reads_of, reads-fits, reads-add, less-fits, reads-less}
-use Rattle.choose_walsh.specs.Turns.{sided, credit, fourTop, fourNext}
+use Rattle.base.proofs.Adding.{Reads, reads_of, reads_fits, reads_add, less_fits, reads_less}
+use Rattle.choose_walsh.specs.Turns.{sided, credit, four_top, four_next}
 use Rattle.choose_walsh.proofs.Machine.{
   reads_more,
-  reads-abs,
-  reads-const,
-  reads-larger,
-  reads-smaller,
-  reads-sided,
-  reads-credit,
+  reads_abs,
+  reads_const,
+  reads_larger,
+  reads_smaller,
+  reads_sided,
+  reads_credit,
 }
 use Rattle.choose_walsh_bytes.proofs.groups.four.Statement.{statement}
 use Rattle.choose_walsh_bytes.proofs.groups.four.Tie as tie
@@ -32,62 +32,62 @@ module _ (c : tie.Start) where
   b = reads_of (lit< tt) c.requires.2
 
 -- a and b as they are added to the magnitude
-a-sided : (c : tie.After-sided)
+a_sided : (c : tie.After-sided)
     → Reads w16 8208 (of_z w16 c.sided.result) (sided c.before.args.y c.before.args.a)
-a-sided c = reads-sided (lit< tt) (y c.before) (a c.before) c.sided.ensures
+a_sided c = reads_sided (lit< tt) (y c.before) (a c.before) c.sided.ensures
 
-a-credit : (c : tie.After-credit) → Reads w16 8210 (of_z w16 c.credit.result)
+a_credit : (c : tie.After-credit) → Reads w16 8210 (of_z w16 c.credit.result)
     (credit (sided c.before.before.args.y c.before.before.args.a))
-a-credit c = reads-credit (lit< tt) (a-sided c.before) c.credit.ensures
+a_credit c = reads_credit (lit< tt) (a_sided c.before) c.credit.ensures
 
-b-sided : (c : tie.After-sided2) → Reads w16 8208 (of_z w16 c.sided2.result)
+b_sided : (c : tie.After-sided2) → Reads w16 8208 (of_z w16 c.sided2.result)
     (sided c.before.before.before.args.y c.before.before.before.args.b)
-b-sided c =
+b_sided c =
     let s = c.before.before.before in
-    reads-sided (lit< tt) (y s) (b s) c.sided2.ensures
+    reads_sided (lit< tt) (y s) (b s) c.sided2.ensures
 
-b-credit : (c : tie.After-credit2) → Reads w16 8210 (of_z w16 c.credit2.result)
+b_credit : (c : tie.After-credit2) → Reads w16 8210 (of_z w16 c.credit2.result)
     (credit (sided c.before.before.before.before.args.y c.before.before.before.before.args.b))
-b-credit c = reads-credit (lit< tt) (b-sided c.before) c.credit2.ensures
+b_credit c = reads_credit (lit< tt) (b_sided c.before) c.credit2.ensures
 
 module _ (c : tie.After-abs) where
   abbrev start : tie.Start
   start = c.before.before.before.before.before
 
   size : Reads w16 8208 (of_z w16 c.abs.result) (pos (nat_abs start.args.y))
-  size = reads-abs (lit< tt) (y start) c.abs.ensures
+  size = reads_abs (lit< tt) (y start) c.abs.ensures
 
   t : Reads w16 8211 (of_z w16 c.before.before.before.credit.result)
       (credit (sided start.args.y start.args.a))
-  t = reads_more (a-credit c.before.before.before) (lit≤ tt)
+  t = reads_more (a_credit c.before.before.before) (lit≤ tt)
 
   u : Reads w16 8211 (of_z w16 (to_z w16 (of_z w16 c.before.credit2.result) -ℤ pos 1))
       (credit (sided start.args.y start.args.b) -ℤ pos 1)
-  u = reads-less (b-credit c.before) (reads-const {c = 1} (lit< tt)) (lit< tt)
+  u = reads_less (b_credit c.before) (reads_const {c = 1} (lit< tt)) (lit< tt)
 
 first : (c : tie.After-max) → Reads w16 8211 (of_z w16 c.max.result)
     (larger (credit (sided (start c.before).args.y (start c.before).args.a))
     (credit (sided (start c.before).args.y (start c.before).args.b) -ℤ pos 1))
-first c = reads-larger (lit< tt) (t c.before) (u c.before) c.max.ensures
+first c = reads_larger (lit< tt) (t c.before) (u c.before) c.max.ensures
 
 second : (c : tie.After-min) → Reads w16 8211 (of_z w16 c.min.result)
     (smaller (credit (sided (start c.before.before).args.y (start c.before.before).args.a))
     (credit (sided (start c.before.before).args.y (start c.before.before).args.b) -ℤ pos 1))
-second c = reads-smaller (lit< tt) (t c.before.before) (u c.before.before) c.min.ensures
+second c = reads_smaller (lit< tt) (t c.before.before) (u c.before.before) c.min.ensures
 
 returns : tie.Need-returns
-unfolding fourTop fourNext
+unfolding four_top four_next
 returns c = (
-  (reads-add (size c.before.before) (first c.before) (lit< tt)).is,
-  (reads-add (size c.before.before) (second c) (lit< tt)).is,
+  (reads_add (size c.before.before) (first c.before) (lit< tt)).is,
+  (reads_add (size c.before.before) (second c) (lit< tt)).is,
 )
 
-pub four-spec : {M : Type 1} → statement M
-four-spec =
+pub four_spec : {M : Type 1} → statement M
+four_spec =
     tie.close
-    (tie.spec (λ c κs. search rules) (λ c κs. rw (a-sided c).is (a-sided c).within) (λ c κs. search rules)
-    (λ c κs. rw (b-sided c).is (b-sided c).within)
-    (λ c. less-fits (b-credit c) (reads-const {c = 1} (lit< tt)) (lit< tt))
+    (tie.spec (λ c κs. search rules) (λ c κs. rw (a_sided c).is (a_sided c).within) (λ c κs. search rules)
+    (λ c κs. rw (b_sided c).is (b_sided c).within)
+    (λ c. less_fits (b_credit c) (reads_const {c = 1} (lit< tt)) (lit< tt))
     (λ c κs. within-read w16 (lit< tt) (within_more (y c.before.before.before.before).within (lit≤ tt)))
-    (λ c κs. search rules) (λ c. reads-fits (size c.before) (first c) (lit< tt)) (λ c κs. search rules)
-    (λ c. reads-fits (size c.before.before) (second c) (lit< tt)) returns)
+    (λ c κs. search rules) (λ c. reads_fits (size c.before) (first c) (lit< tt)) (λ c κs. search rules)
+    (λ c. reads_fits (size c.before.before) (second c) (lit< tt)) returns)

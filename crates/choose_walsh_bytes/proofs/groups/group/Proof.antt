@@ -6,16 +6,16 @@ use lib.IntN.{pos, neg_ℤ, ◌-ℤ◌}
 use mir.Syntax.{w16}
 use mir.Val.{to_z, of_z}
 use borrow.Author.Rules.{rules}
-use Rattle.base.proofs.Whole.{within-read, within-neg, neg-fits, neg-read}
-use Rattle.base.proofs.Adding.{Reads, reads_of, less-fits, reads-less}
-use Rattle.choose_walsh.specs.Turns.{fourTop, fourNext, top_of, next_of}
+use Rattle.base.proofs.Whole.{within_read, within_neg, neg_fits, neg_read}
+use Rattle.base.proofs.Adding.{Reads, reads_of, less_fits, reads_less}
+use Rattle.choose_walsh.specs.Turns.{four_top, four_next, top_of, next_of}
 use Rattle.choose_walsh.proofs.Machine.{
   reads_more,
-  reads-const,
-  reads-larger,
-  reads-smaller,
-  reads-four,
-  reads-four-next,
+  reads_const,
+  reads_larger,
+  reads_smaller,
+  reads_four,
+  reads_four_next,
 }
 use Rattle.choose_walsh_bytes.proofs.groups.group.Statement.{statement}
 use Rattle.choose_walsh_bytes.proofs.groups.group.Tie as tie
@@ -33,41 +33,41 @@ module _ (c : tie.Start) where
   xi : Reads w16 8208 (of_z w16 c.args.xi) c.args.xi
   xi = reads_of (lit< tt) c.requires.3
 
-  turned-reads : Reads w16 8208 (of_z w16 (pos 0 -ℤ to_z w16 (of_z w16 c.args.xr))) (neg_ℤ c.args.xr)
-  turned-reads = record {
-    is = neg-read w16 8208 (lit< tt) c.args.xr c.requires.2;
-    within = within-neg c.requires.2;
+  turned_reads : Reads w16 8208 (of_z w16 (pos 0 -ℤ to_z w16 (of_z w16 c.args.xr))) (neg_ℤ c.args.xr)
+  turned_reads = record {
+    is = neg_read w16 8208 (lit< tt) c.args.xr c.requires.2;
+    within = within_neg c.requires.2;
   }
 
 module _ (c : tie.After-four2) where
   abbrev start : tie.Start
   start = c.before.before
 
-  p-first : Reads w16 16423 (of_z w16 c.before.four.result.first)
-      (fourTop start.args.yr start.args.xr start.args.xi)
-  p-first =
-      reads_more (reads-four (lit< tt) (yr start) (xr start) (xi start) c.before.four.ensures.0) (lit≤ tt)
+  p_first : Reads w16 16423 (of_z w16 c.before.four.result.first)
+      (four_top start.args.yr start.args.xr start.args.xi)
+  p_first =
+      reads_more (reads_four (lit< tt) (yr start) (xr start) (xi start) c.before.four.ensures.0) (lit≤ tt)
 
-  p-second : Reads w16 16423 (of_z w16 c.before.four.result.second)
-      (fourNext start.args.yr start.args.xr start.args.xi)
-  p-second =
-      reads_more (reads-four-next (lit< tt) (yr start) (xr start) (xi start) c.before.four.ensures.1) (lit≤ tt)
+  p_second : Reads w16 16423 (of_z w16 c.before.four.result.second)
+      (four_next start.args.yr start.args.xr start.args.xi)
+  p_second =
+      reads_more (reads_four_next (lit< tt) (yr start) (xr start) (xi start) c.before.four.ensures.1) (lit≤ tt)
 
-  q-first : Reads w16 16419 (of_z w16 c.four2.result.first)
-      (fourTop start.args.yi start.args.xi (neg_ℤ start.args.xr))
-  q-first = reads-four (lit< tt) (yi start) (xi start) (turned-reads start) c.four2.ensures.0
+  q_first : Reads w16 16419 (of_z w16 c.four2.result.first)
+      (four_top start.args.yi start.args.xi (neg_ℤ start.args.xr))
+  q_first = reads_four (lit< tt) (yi start) (xi start) (turned_reads start) c.four2.ensures.0
 
-  q-second : Reads w16 16419 (of_z w16 c.four2.result.second)
-      (fourNext start.args.yi start.args.xi (neg_ℤ start.args.xr))
-  q-second = reads-four-next (lit< tt) (yi start) (xi start) (turned-reads start) c.four2.ensures.1
+  q_second : Reads w16 16419 (of_z w16 c.four2.result.second)
+      (four_next start.args.yi start.args.xi (neg_ℤ start.args.xr))
+  q_second = reads_four_next (lit< tt) (yi start) (xi start) (turned_reads start) c.four2.ensures.1
 
   u : Reads w16 16423 (of_z w16 (to_z w16 (of_z w16 c.four2.result.first) -ℤ pos 4))
-      (fourTop start.args.yi start.args.xi (neg_ℤ start.args.xr) -ℤ pos 4)
-  u = reads-less q-first (reads-const {c = 4} (lit< tt)) (lit< tt)
+      (four_top start.args.yi start.args.xi (neg_ℤ start.args.xr) -ℤ pos 4)
+  u = reads_less q_first (reads_const {c = 4} (lit< tt)) (lit< tt)
 
   v : Reads w16 16423 (of_z w16 (to_z w16 (of_z w16 c.four2.result.second) -ℤ pos 4))
-      (fourNext start.args.yi start.args.xi (neg_ℤ start.args.xr) -ℤ pos 4)
-  v = reads-less q-second (reads-const {c = 4} (lit< tt)) (lit< tt)
+      (four_next start.args.yi start.args.xi (neg_ℤ start.args.xr) -ℤ pos 4)
+  v = reads_less q_second (reads_const {c = 4} (lit< tt)) (lit< tt)
 
 returns : tie.Need-returns
 unfolding top_of next_of
@@ -75,21 +75,21 @@ returns c =
     let two = c.before.before in
     let one = two.before in
     let f = one.before.before.before.before.before.before.before in (
-      (reads-larger (lit< tt) (p-first f) (u f) two.max2.ensures).is,
-      (reads-larger (lit< tt) (reads-smaller (lit< tt) (p-first f) (u f) c.before.min.ensures)
-          (reads-larger (lit< tt) (p-second f) (v f) one.max.ensures) c.max3.ensures
+      (reads_larger (lit< tt) (p_first f) (u f) two.max2.ensures).is,
+      (reads_larger (lit< tt) (reads_smaller (lit< tt) (p_first f) (u f) c.before.min.ensures)
+          (reads_larger (lit< tt) (p_second f) (v f) one.max.ensures) c.max3.ensures
           ).is,
     )
 
-pub group-spec : {M : Type 1} → statement M
-group-spec =
+pub group_spec : {M : Type 1} → statement M
+group_spec =
     tie.close
-    (tie.spec (λ c κs. search rules) (λ c. neg-fits w16 8208 (lit< tt) _ c.before.requires.2)
+    (tie.spec (λ c κs. search rules) (λ c. neg_fits w16 8208 (lit< tt) _ c.before.requires.2)
     (λ c κs. (
-      within-read w16 (lit< tt) c.before.requires.1,
-      within-read w16 (lit< tt) c.before.requires.3,
-      rw (turned-reads c.before).is (turned-reads c.before).within,
+      within_read w16 (lit< tt) c.before.requires.1,
+      within_read w16 (lit< tt) c.before.requires.3,
+      rw (turned_reads c.before).is (turned_reads c.before).within,
     ))
-    (λ c. less-fits (q-first c.before.before.before) (reads-const {c = 4} (lit< tt)) (lit< tt))
-    (λ c. less-fits (q-second c.before.before.before.before.before) (reads-const {c = 4} (lit< tt)) (lit< tt))
+    (λ c. less_fits (q_first c.before.before.before) (reads_const {c = 4} (lit< tt)) (lit< tt))
+    (λ c. less_fits (q_second c.before.before.before.before.before) (reads_const {c = 4} (lit< tt)) (lit< tt))
     (λ c κs. search rules) (λ c κs. search rules) (λ c κs. search rules) (λ c κs. search rules) returns)

@@ -7,7 +7,7 @@ use mir.Syntax.{w16}
 use mir.Val.{to_z, of_z}
 use borrow.Author.Rules.{rules}
 use Rattle.rules_chips.specs.Chips.{pair}
-use Rattle.base.proofs.Adding.{Reads, reads_of, reads-fits, reads-add}
+use Rattle.base.proofs.Adding.{Reads, reads_of, reads_fits, reads_add}
 use Rattle.choose_walsh.specs.Turns.{top_of, next_of}
 use Rattle.choose_walsh.specs.Search.{held, merged}
 use Rattle.choose_walsh_bytes.proofs.groups.meet.Statement.{statement}
@@ -16,19 +16,19 @@ use Rattle.choose_walsh_bytes.proofs.groups.meet.Tie as tie
 module _ (c : tie.Start) where
   yr : Reads w16 8208 (of_z w16 (to_z w16 (of_z w16 c.args.yr) +ℤ to_z w16 (of_z w16 c.args.ar)))
       (c.args.yr +ℤ c.args.ar)
-  yr = reads-add (reads_of (lit< tt) c.requires.0.real) (reads_of (lit< tt) c.requires.1.real) (lit< tt)
+  yr = reads_add (reads_of (lit< tt) c.requires.0.real) (reads_of (lit< tt) c.requires.1.real) (lit< tt)
 
   yi : Reads w16 8208 (of_z w16 (to_z w16 (of_z w16 c.args.yi) +ℤ to_z w16 (of_z w16 c.args.ai)))
       (c.args.yi +ℤ c.args.ai)
-  yi = reads-add (reads_of (lit< tt) c.requires.0.imag) (reads_of (lit< tt) c.requires.1.imag) (lit< tt)
+  yi = reads_add (reads_of (lit< tt) c.requires.0.imag) (reads_of (lit< tt) c.requires.1.imag) (lit< tt)
 
   xr : Reads w16 8208 (of_z w16 (to_z w16 (of_z w16 c.args.xr) +ℤ to_z w16 (of_z w16 c.args.cr)))
       (c.args.xr +ℤ c.args.cr)
-  xr = reads-add (reads_of (lit< tt) c.requires.2.real) (reads_of (lit< tt) c.requires.3.real) (lit< tt)
+  xr = reads_add (reads_of (lit< tt) c.requires.2.real) (reads_of (lit< tt) c.requires.3.real) (lit< tt)
 
   xi : Reads w16 8208 (of_z w16 (to_z w16 (of_z w16 c.args.xi) +ℤ to_z w16 (of_z w16 c.args.ci)))
       (c.args.xi +ℤ c.args.ci)
-  xi = reads-add (reads_of (lit< tt) c.requires.2.imag) (reads_of (lit< tt) c.requires.3.imag) (lit< tt)
+  xi = reads_add (reads_of (lit< tt) c.requires.2.imag) (reads_of (lit< tt) c.requires.3.imag) (lit< tt)
 
 returns : tie.Need-returns
 returns c =
@@ -41,13 +41,13 @@ returns c =
     ((g.group.ensures.1
     ∙ (λ j. next_of (pair ((yr s).is j) ((yi s).is j)) (pair ((xr s).is j) ((xi s).is j)))) i) s.args.g)
 
-pub meet-spec : {M : Type 1} → statement M
-meet-spec =
+pub meet_spec : {M : Type 1} → statement M
+meet_spec =
     tie.close
-    (tie.spec (λ c. reads-fits (reads_of (lit< tt) c.requires.0.real) (reads_of (lit< tt) c.requires.1.real) (lit< tt))
-    (λ c. reads-fits (reads_of (lit< tt) c.requires.0.imag) (reads_of (lit< tt) c.requires.1.imag) (lit< tt))
-    (λ c. reads-fits (reads_of (lit< tt) c.requires.2.real) (reads_of (lit< tt) c.requires.3.real) (lit< tt))
-    (λ c. reads-fits (reads_of (lit< tt) c.requires.2.imag) (reads_of (lit< tt) c.requires.3.imag) (lit< tt))
+    (tie.spec (λ c. reads_fits (reads_of (lit< tt) c.requires.0.real) (reads_of (lit< tt) c.requires.1.real) (lit< tt))
+    (λ c. reads_fits (reads_of (lit< tt) c.requires.0.imag) (reads_of (lit< tt) c.requires.1.imag) (lit< tt))
+    (λ c. reads_fits (reads_of (lit< tt) c.requires.2.real) (reads_of (lit< tt) c.requires.3.real) (lit< tt))
+    (λ c. reads_fits (reads_of (lit< tt) c.requires.2.imag) (reads_of (lit< tt) c.requires.3.imag) (lit< tt))
     (λ c κs. (
       rw (yr c).is (yr c).within,
       rw (yi c).is (yi c).within,

@@ -15,12 +15,12 @@ returns c =
     let b : to_z w16 (of_z w16 s.key) ≡ s.key = search rules in
     sym (ap (λ (t : Bool). cond t s.g s.was) (rw (a, b) at c.if1.true))
 
-returns-2 : tie.Need-returns-2
-returns-2 c =
+returns_2 : tie.Need-returns-2
+returns_2 c =
     let s = c.before.args in
     let a : to_z w16 (of_z w16 s.best) ≡ s.best = search rules in
     let b : to_z w16 (of_z w16 s.key) ≡ s.key = search rules in
     sym (ap (λ (t : Bool). cond t s.g s.was) (rw (a, b) at c.if1.false))
 
-pub place-spec : {M : Type 1} → statement M
-place-spec = tie.close (tie.spec returns returns-2)
+pub place_spec : {M : Type 1} → statement M
+place_spec = tie.close (tie.spec returns returns_2)

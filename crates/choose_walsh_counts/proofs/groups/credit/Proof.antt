@@ -6,9 +6,9 @@ use lib.IntN.{◌+ℤ◌}
 use mir.Syntax.{w32}
 use mir.Val.{to_z, of_z}
 use borrow.Author.Rules.{rules}
-use Rattle.base.proofs.Adding.{Reads, made-fits, made, reads_of}
+use Rattle.base.proofs.Adding.{Reads, made_fits, made, reads_of}
 use Rattle.choose_walsh.specs.Turns.{credit}
-use Rattle.choose_walsh.proofs.Machine.{reads-credit, credit-by}
+use Rattle.choose_walsh.proofs.Machine.{reads_credit, credit_by}
 use Rattle.choose_walsh_counts.proofs.groups.credit.Statement.{statement}
 use Rattle.choose_walsh_counts.proofs.groups.credit.Tie as tie
 
@@ -20,7 +20,7 @@ module _ (c : tie.After-sign) where
   u = reads_of (lit< tt) start.pre
 
   small : Reads w32 524306 (of_z w32 (credit (to_z w32 (of_z w32 start.args.u)))) (credit start.args.u)
-  small = reads-credit (lit< tt) u refl
+  small = reads_credit (lit< tt) u refl
 
   ones : to_z w32 (of_z w32 c.before.ones.result) ≡ c.before.ones.result
   ones = search rules
@@ -31,10 +31,10 @@ module _ (c : tie.After-sign) where
   sum : to_z w32 (of_z w32 c.before.ones.result) +ℤ to_z w32 (of_z w32 c.sign.result) ≡ credit start.args.u
   sum =
       (λ i. (ones ∙ c.before.ones.ensures) i +ℤ (sign ∙ c.sign.ensures) i)
-      ∙ credit-by (to_z w32 (of_z w32 start.args.u)) ∙ ap credit u.is
+      ∙ credit_by (to_z w32 (of_z w32 start.args.u)) ∙ ap credit u.is
 
-pub credit-spec : {M : Type 1} → statement M
-credit-spec =
+pub credit_spec : {M : Type 1} → statement M
+credit_spec =
     tie.close
-    (tie.spec (λ c κs. search rules) (λ c κs. search rules) (λ c. made-fits (sum c) (small c).within (lit< tt))
+    (tie.spec (λ c κs. search rules) (λ c κs. search rules) (λ c. made_fits (sum c) (small c).within (lit< tt))
     (λ c. (made (sum c) (small c).within (lit< tt)).is))

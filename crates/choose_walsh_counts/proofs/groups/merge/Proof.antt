@@ -35,8 +35,8 @@ returns c =
     ((second ∙ three.max3.ensures ∙ (λ j. larger (v j) (rest j))) i)
     ((c.place.ensures ∙ (λ j. cond (lt_z (t j) (u j)) s.g s.b.group)) i)
 
-pub merge-spec : {M : Type 1} → statement M
-merge-spec =
+pub merge_spec : {M : Type 1} → statement M
+merge_spec =
     tie.close
     (tie.spec (λ c κs. search rules) (λ c κs. search rules) (λ c κs. search rules) (λ c κs. search rules)
     (λ c κs. search rules) returns)

@@ -7,8 +7,8 @@ use lib.IntN.{ℤ, negsuc, ◌-ℤ◌}
 use mir.Syntax.{w32}
 use mir.Val.{to_z, of_z}
 use borrow.Author.Rules.{rules}
-use Rattle.base.proofs.Whole.{within-add, within-neg}
-use Rattle.base.proofs.Adding.{made-fits, made, within-pos}
+use Rattle.base.proofs.Whole.{within_add, within_neg}
+use Rattle.base.proofs.Adding.{made_fits, made, within_pos}
 use Rattle.choose_walsh_counts.proofs.groups.ones.Statement.{statement}
 use Rattle.choose_walsh_counts.proofs.groups.ones.Tie as tie
 
@@ -16,22 +16,22 @@ returns : tie.Need-returns
 returns c =
     let s = c.before.args in
     let u : to_z w32 (of_z w32 s.u) ≡ s.u = search rules in
-    (made (ap (λ (z : ℤ). negsuc 0 -ℤ z) u) (within-add (within-neg (within-pos 1)) (within-neg c.before.requires))
+    (made (ap (λ (z : ℤ). negsuc 0 -ℤ z) u) (within_add (within_neg (within_pos 1)) (within_neg c.before.requires))
     (lit< tt)).is
     ∙ sym (ap (λ (t : Bool). cond t (negsuc 0 -ℤ s.u) s.u) (rw u at c.if1.true))
 
-returns-2 : tie.Need-returns-2
-returns-2 c =
+returns_2 : tie.Need-returns-2
+returns_2 c =
     let s = c.before.args in
     let u : to_z w32 (of_z w32 s.u) ≡ s.u = search rules in
     u ∙ sym (ap (λ (t : Bool). cond t (negsuc 0 -ℤ s.u) s.u) (rw u at c.if1.false))
 
-sub-result : tie.Need-overflow-sub-result
-sub-result c =
+sub_result : tie.Need-overflow-sub-result
+sub_result c =
     let s = c.before.args in
     let u : to_z w32 (of_z w32 s.u) ≡ s.u = search rules in
-    made-fits (ap (λ (z : ℤ). negsuc 0 -ℤ z) u) (within-add (within-neg (within-pos 1)) (within-neg c.before.requires))
+    made_fits (ap (λ (z : ℤ). negsuc 0 -ℤ z) u) (within_add (within_neg (within_pos 1)) (within_neg c.before.requires))
     (lit< tt)
 
-pub ones-spec : {M : Type 1} → statement M
-ones-spec = tie.close (tie.spec sub-result returns returns-2)
+pub ones_spec : {M : Type 1} → statement M
+ones_spec = tie.close (tie.spec sub_result returns returns_2)

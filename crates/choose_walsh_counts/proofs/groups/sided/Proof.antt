@@ -7,7 +7,7 @@ use lib.IntN.{neg_ℤ}
 use mir.Syntax.{w32}
 use mir.Val.{to_z, of_z}
 use borrow.Author.Rules.{rules}
-use Rattle.base.proofs.Whole.{neg-fits, neg-read}
+use Rattle.base.proofs.Whole.{neg_fits, neg_read}
 use Rattle.choose_walsh.specs.Turns.{sided}
 use Rattle.choose_walsh_counts.proofs.groups.sided.Statement.{statement}
 use Rattle.choose_walsh_counts.proofs.groups.sided.Tie as tie
@@ -17,16 +17,16 @@ unfolding sided
 returns c =
     let s = c.before.args in
     let y : to_z w32 (of_z w32 s.y) ≡ s.y = search rules in
-    neg-read w32 524304 (lit< tt) s.a c.before.requires
+    neg_read w32 524304 (lit< tt) s.a c.before.requires
     ∙ sym (ap (λ (t : Bool). cond t (neg_ℤ s.a) s.a) (rw y at c.if1.true))
 
-returns-2 : tie.Need-returns-2
+returns_2 : tie.Need-returns-2
 unfolding sided
-returns-2 c =
+returns_2 c =
     let s = c.before.args in
     let y : to_z w32 (of_z w32 s.y) ≡ s.y = search rules in
     let a : to_z w32 (of_z w32 s.a) ≡ s.a = search rules in
     a ∙ sym (ap (λ (t : Bool). cond t (neg_ℤ s.a) s.a) (rw y at c.if1.false))
 
-pub sided-spec : {M : Type 1} → statement M
-sided-spec = tie.close (tie.spec (λ c. neg-fits w32 524304 (lit< tt) _ c.before.requires) returns returns-2)
+pub sided_spec : {M : Type 1} → statement M
+sided_spec = tie.close (tie.spec (λ c. neg_fits w32 524304 (lit< tt) _ c.before.requires) returns returns_2)

@@ -15,11 +15,11 @@ returns c =
     let u : to_z w32 (of_z w32 s.u) ≡ s.u = search rules in
     sym (ap (λ (t : Bool). cond t (negsuc 0) (pos 0)) (rw u at c.if1.true))
 
-returns-2 : tie.Need-returns-2
-returns-2 c =
+returns_2 : tie.Need-returns-2
+returns_2 c =
     let s = c.before.args in
     let u : to_z w32 (of_z w32 s.u) ≡ s.u = search rules in
     sym (ap (λ (t : Bool). cond t (negsuc 0) (pos 0)) (rw u at c.if1.false))
 
-pub sign-spec : {M : Type 1} → statement M
-sign-spec = tie.close (tie.spec returns returns-2)
+pub sign_spec : {M : Type 1} → statement M
+sign_spec = tie.close (tie.spec returns returns_2)

@@ -8,8 +8,8 @@ returns : tie.Need-returns
 unfolding remainder
 returns c = cc
 
-pub crc-eight-spec : {M : Type 1} → statement M
-crc-eight-spec =
+pub crc_eight_spec : {M : Type 1} → statement M
+crc_eight_spec =
     tie.close
     (tie.spec
     (λ c κs. search rules) (λ c κs. search rules) (λ c κs. search rules) (λ c κs. search rules)

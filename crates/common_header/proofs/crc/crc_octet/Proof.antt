@@ -9,5 +9,5 @@ use Rattle.common_header.proofs.crc.crc_octet.Tie as tie
 returns : tie.Need-returns
 returns c = c.crc-eight.ensures ∙ ap (remainder _) c.before.unpack.ensures
 
-pub crc-octet-spec : {M : Type 1} → statement M
-crc-octet-spec = tie.close (tie.spec (λ c κs. search rules) (λ c κs. search rules) returns)
+pub crc_octet_spec : {M : Type 1} → statement M
+crc_octet_spec = tie.close (tie.spec (λ c κs. search rules) (λ c κs. search rules) returns)

@@ -2,15 +2,15 @@
 -- and both halves of the register are complemented. Assumes nothing.
 use mathlib.Core.Path.{refl}
 use borrow.Author.Rules.{rules}
-use Rattle.common_header.specs.Registers.{inTime}
-use Rattle.rules_bits.proofs.Crc.{crc-is}
+use Rattle.common_header.specs.Registers.{in_time}
+use Rattle.rules_bits.proofs.Crc.{crc_is}
 use Rattle.common_header.proofs.crc.crc_octets.Statement.{statement}
 use Rattle.common_header.proofs.crc.crc_octets.Tie as tie
 
 returns : tie.Need-returns
 returns c =
     let last = c.before.before.before.before.crc-octet4 in (
-      crc-is _ _ _ _ _ _ _ _ _ _ (inTime last.result.first) (inTime last.result.second)
+      crc_is _ _ _ _ _ _ _ _ _ _ (in_time last.result.first) (in_time last.result.second)
           c.before.before.before.before.before.before.before.before.unpack.ensures
           c.before.before.before.before.before.before.before.crc-octet.ensures
           c.before.before.before.before.before.before.crc-octet2.ensures
@@ -19,8 +19,8 @@ returns c =
       refl,
     )
 
-pub crc-octets-spec : {M : Type 1} → statement M
-crc-octets-spec =
+pub crc_octets_spec : {M : Type 1} → statement M
+crc_octets_spec =
     tie.close
     (tie.spec
     (λ c κs. search rules) (λ c κs. search rules) (λ c κs. search rules) (λ c κs. search rules) (λ c κs. search rules)

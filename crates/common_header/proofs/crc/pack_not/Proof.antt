@@ -4,21 +4,21 @@
 use mathlib.Core.Path.{refl, ap, ◌∙◌}
 use borrow.Author.Rules.{rules}
 use Rattle.rules_bits.specs.Bits.{bits_of}
-use Rattle.common_header.specs.Registers.{inTime}
-use Rattle.rules_bits.proofs.Bits.{bits-number}
-use Rattle.rules_bits.proofs.Crc.{complement-below}
+use Rattle.common_header.specs.Registers.{in_time}
+use Rattle.rules_bits.proofs.Bits.{bits_number}
+use Rattle.rules_bits.proofs.Crc.{complement_below}
 use Rattle.common_header.proofs.crc.pack_not.Statement.{statement}
 use Rattle.common_header.proofs.crc.pack_not.Tie as tie
 
-pack-requires : tie.Need-pack-requires
-pack-requires c κs = rw c.complement-eight.ensures (complement-below (inTime c.before.args.e))
+pack_requires : tie.Need-pack-requires
+pack_requires c κs = rw c.complement-eight.ensures (complement_below (in_time c.before.args.e))
 
 returns : tie.Need-returns
 returns c =
     ap (bits_of 8) c.pack.ensures
-    ∙ bits-number 8 _ refl
-    (rw c.before.complement-eight.ensures (complement-below (inTime c.before.before.args.e)))
+    ∙ bits_number 8 _ refl
+    (rw c.before.complement-eight.ensures (complement_below (in_time c.before.before.args.e)))
     ∙ c.before.complement-eight.ensures
 
-pub pack-not-spec : {M : Type 1} → statement M
-pack-not-spec = tie.close (tie.spec (λ c κs. search rules) pack-requires returns)
+pub pack_not_spec : {M : Type 1} → statement M
+pack_not_spec = tie.close (tie.spec (λ c κs. search rules) pack_requires returns)

@@ -9,39 +9,39 @@ abbrev None : List ℕ → ℕ → ℕ → ℕ → Type 0
 None xs limit l any = any < 2147483648 → (j : ℕ) → j < l → limit ≤ get_or xs j 0
 
 -- what is gathered is no less than each part of it
-from-left : (a b : ℕ) → a ≤ bit_or a b
-from-left a b = omega (arith, or_add_and a b, and_le_r a b)
+from_left : (a b : ℕ) → a ≤ bit_or a b
+from_left a b = omega (arith, or_add_and a b, and_le_r a b)
 
-from-right : (a b : ℕ) → b ≤ bit_or a b
-from-right a b = omega (arith, or_add_and a b, and_le_l a b)
+from_right : (a b : ℕ) → b ≤ bit_or a b
+from_right a b = omega (arith, or_add_and a b, and_le_l a b)
 
 -- a difference below 2^31 did not wrap
 no_wrap : (d limit x : ℕ) → (d + limit) % 2 ^ 32 ≡ x → limit ≤ 2147483648 → d < 2147483648 → limit ≤ x
 no_wrap d limit x e h l = omega arith
 
-abbrev invariant-loop : tie.invariant-loop
-invariant-loop leads m limit any₀ l₀ any l = (l ≤ m) × None leads limit l any
+abbrev invariant_loop : tie.invariant-loop
+invariant_loop leads m limit any₀ l₀ any l = (l ≤ m) × None leads limit l any
 
-abbrev decreases-loop : tie.decreases-loop
-decreases-loop leads m limit any₀ l₀ any l = m - l
+abbrev decreases_loop : tie.decreases-loop
+decreases_loop leads m limit any₀ l₀ any l = m - l
 
-loop-again : tie.Need-loop-preserved invariant-loop decreases-loop
-loop-again c =
+loop_again : tie.Need-loop-preserved invariant_loop decreases_loop
+loop_again c =
     let loop = c.before.before.before.loop in
     let s = c.before.before.before.before in
     let d = c.wrapping-sub-u32.result in (
       omega arith,
-      λ low. below_more _ _ (loop.invariant.1 (omega (arith, low, from-left loop.any d)))
+      λ low. below_more _ _ (loop.invariant.1 (omega (arith, low, from_left loop.any d)))
           (no_wrap d s.args.limit _ c.wrapping-sub-u32.ensures s.requires.1
-          (omega (arith, low, from-right loop.any d))),
+          (omega (arith, low, from_right loop.any d))),
     )
 
-returns : tie.Need-returns invariant-loop decreases-loop
+returns : tie.Need-returns invariant_loop decreases_loop
 returns c e j h = c.before.loop.invariant.1 (omega (arith, leb-false 2147483648 c.before.loop.any e)) j (omega arith)
 
-pub any-below-spec : {M : Type 1} → statement M
-any-below-spec =
+pub any_below_spec : {M : Type 1} → statement M
+any_below_spec =
     tie.close
     (tie.spec
-    invariant-loop decreases-loop (λ c. (omega arith, λ n j h. absurd (omega arith))) (λ c. search rules) (λ c. search rules)
-    (λ c κs. search rules) (λ c. omega arith) (λ c. omega arith) loop-again returns)
+    invariant_loop decreases_loop (λ c. (omega arith, λ n j h. absurd (omega arith))) (λ c. search rules) (λ c. search rules)
+    (λ c κs. search rules) (λ c. omega arith) (λ c. omega arith) loop_again returns)

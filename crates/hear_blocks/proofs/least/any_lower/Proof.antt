@@ -6,6 +6,6 @@ use Rattle.hear_blocks.proofs.least.any_lower.Tie as tie
 returns : tie.Need-returns
 returns c e j h = c.any_below.ensures e j (omega arith)
 
-pub any-lower-spec : {M : Type 1} → statement M
-any-lower-spec = tie.close (tie.spec (λ c κs. (omega arith, c.before.requires.1)) (λ c κs. c.before.requires) returns
+pub any_lower_spec : {M : Type 1} → statement M
+any_lower_spec = tie.close (tie.spec (λ c κs. (omega arith, c.before.requires.1)) (λ c κs. c.before.requires) returns
     (λ c. c.any-below2.ensures))

@@ -12,8 +12,8 @@ returns c =
     sym (row_kept start.args.symbol start.args.least start.args.leads.now start.args.m (omega arith)
     (c.before.any-lower.ensures (not-true _ c.if2.true)))
 
-pub least-after-spec : {M : Type 1} → statement M
-least-after-spec =
+pub least_after_spec : {M : Type 1} → statement M
+least_after_spec =
     tie.close
     (tie.spec
     (λ c. search rules) (λ c κs. search rules) returns (λ c κs. search rules) (λ c. search rules))

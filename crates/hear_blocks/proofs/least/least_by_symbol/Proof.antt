@@ -1,23 +1,23 @@
 -- `hear_blocks::least::least_by_symbol` meets its contract. The invariant: low is the smallest lead after the first l.
 -- Assumes nothing.
 use Rattle.std.proofs.Common.{◌≡◌, ℕ, ◌-◌, ◌≤◌, take, refl, ◌∙◌, subst, arith}
-use Rattle.rules_reading.specs.Leads.{leastFrom}
+use Rattle.rules_reading.specs.Leads.{least_from}
 use Rattle.rules_reading.proofs.Lowest.{row_more}
 use Rattle.hear_blocks.proofs.least.least_by_symbol.Statement.{statement}
 use Rattle.hear_blocks.proofs.least.least_by_symbol.Tie as tie
 
-abbrev invariant-loop : tie.invariant-loop
-invariant-loop symbol leads m low₀ l₀ low l = (l ≤ m) × (low ≡ leastFrom symbol low₀ (take l leads))
+abbrev invariant_loop : tie.invariant-loop
+invariant_loop symbol leads m low₀ l₀ low l = (l ≤ m) × (low ≡ least_from symbol low₀ (take l leads))
 
-abbrev decreases-loop : tie.decreases-loop
-decreases-loop symbol leads m low₀ l₀ low l = m - l
+abbrev decreases_loop : tie.decreases-loop
+decreases_loop symbol leads m low₀ l₀ low l = m - l
 
-loop-holds : tie.Need-loop-init invariant-loop decreases-loop
-unfolding leastFrom
-loop-holds c = (omega arith, refl)
+loop_holds : tie.Need-loop-init invariant_loop decreases_loop
+unfolding least_from
+loop_holds c = (omega arith, refl)
 
-loop-again : tie.Need-loop-preserved invariant-loop decreases-loop
-loop-again c =
+loop_again : tie.Need-loop-preserved invariant_loop decreases_loop
+loop_again c =
     let loop = c.before.before.before.loop in
     let start = c.before.before.before.before in (
       omega arith,
@@ -26,16 +26,16 @@ loop-again c =
           (omega arith) loop.invariant.1,
     )
 
-returns : tie.Need-returns invariant-loop decreases-loop
+returns : tie.Need-returns invariant_loop decreases_loop
 returns c =
     let loop = c.before.loop in
     let a = c.before.before.args in
     let e : loop.l ≡ a.m = omega arith in
-    subst (λ (n : ℕ). loop.low ≡ leastFrom a.symbol a.least (take n a.leads.now)) e loop.invariant.1
+    subst (λ (n : ℕ). loop.low ≡ least_from a.symbol a.least (take n a.leads.now)) e loop.invariant.1
 
-pub least-by-symbol-spec : {M : Type 1} → statement M
-least-by-symbol-spec =
+pub least_by_symbol_spec : {M : Type 1} → statement M
+least_by_symbol_spec =
     tie.close
     (tie.spec
-    invariant-loop decreases-loop loop-holds (λ c. omega arith) (λ c. omega arith) (λ c. record { fits = omega arith }) (λ c κs. tt)
-    (λ c. omega arith) (λ c. omega arith) loop-again returns)
+    invariant_loop decreases_loop loop_holds (λ c. omega arith) (λ c. omega arith) (λ c. record { fits = omega arith }) (λ c κs. tt)
+    (λ c. omega arith) (λ c. omega arith) loop_again returns)

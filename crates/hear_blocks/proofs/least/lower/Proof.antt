@@ -6,8 +6,8 @@ use Rattle.hear_blocks.proofs.least.lower.Tie as tie
 returns : tie.Need-returns
 returns c = rw (lt-ltb _ _ c.if1.true)
 
-returns-2 : tie.Need-returns-2
-returns-2 c = rw (le-ltb _ _ c.if1.false)
+returns_2 : tie.Need-returns-2
+returns_2 c = rw (le-ltb _ _ c.if1.false)
 
 pub lower_spec : {M : Type 1} → statement M
-lower_spec = tie.close (tie.spec returns returns-2)
+lower_spec = tie.close (tie.spec returns returns_2)

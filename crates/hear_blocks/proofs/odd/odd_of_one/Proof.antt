@@ -1,15 +1,15 @@
 -- `hear_blocks::odd::odd_of_one` meets its contract: what the quick test passes has none. Assumes nothing.
 use Rattle.std.proofs.Common.{sym, arith, rules}
-use Rattle.rules_reading.proofs.FirstOdd.{row-none}
+use Rattle.rules_reading.proofs.FirstOdd.{row_none}
 use Rattle.hear_blocks.proofs.odd.odd_of_one.Statement.{statement}
 use Rattle.hear_blocks.proofs.odd.odd_of_one.Tie as tie
 
-returns-2 : tie.Need-returns-2
-returns-2 c =
+returns_2 : tie.Need-returns-2
+returns_2 c =
     let start = c.before.before in
-    sym (row-none start.args.place start.args.g start.args.m (omega arith)
+    sym (row_none start.args.place start.args.g start.args.m (omega arith)
     (c.before.any-odd.ensures c.if1.false))
 
-pub odd-of-one-spec : {M : Type 1} → statement M
-odd-of-one-spec =
-    tie.close (tie.spec (λ c κs. search rules) (λ c κs. search rules) (λ c. search rules) returns-2)
+pub odd_of_one_spec : {M : Type 1} → statement M
+odd_of_one_spec =
+    tie.close (tie.spec (λ c κs. search rules) (λ c κs. search rules) (λ c. search rules) returns_2)

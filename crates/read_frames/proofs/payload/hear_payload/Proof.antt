@@ -8,79 +8,79 @@ use native.Mathlib.Omega.{arith}
 use lib.ListN.{length, take, drop, replicate}
 use lib.Seq.{length_front}
 use Rattle.rules_rates.specs.declared.Rate.{Rate}
-use Rattle.rules_rates.specs.Rates.{octetSymbols, octetChips}
+use Rattle.rules_rates.specs.Rates.{octet_symbols, octet_chips}
 use Rattle.rules_chips.specs.Chips.{Taken}
 use Rattle.common_lines.specs.declared.Line.{Line}
 use Rattle.rules_frame.specs.declared.Kind.{Kind}
-use Rattle.rules_frame.specs.Frame.{frontChips, frameChips}
-use Rattle.rules_reading.specs.Reading.{payloadOdd, payloadOf}
+use Rattle.rules_frame.specs.Frame.{front_chips, frame_chips}
+use Rattle.rules_reading.specs.Reading.{payload_odd, payload_of}
 use Rattle.rules_calls.specs.declared.Least.{Least}
-use Rattle.rules_reading.specs.Leads.{frontLeads, frameLeads, leastOf}
+use Rattle.rules_reading.specs.Leads.{front_leads, frame_leads, least_of}
 use Rattle.choose_recorded.specs.declared.Place.TheVariants.{Nothing, At}
-use Rattle.choose_recorded.specs.Recorded.{whereFound, AllUsable}
+use Rattle.choose_recorded.specs.Recorded.{where_found, AllUsable}
 use Rattle.hear_parts.specs.declared.Part.{Part}
 use Rattle.hear_parts.specs.Hearing.{PartHeard}
-use Rattle.hear_parts.proofs.Parts.{few-symbols}
-use Rattle.choose_recorders.proofs.Rows.{recording-fits}
+use Rattle.hear_parts.proofs.Parts.{few_symbols}
+use Rattle.choose_recorders.proofs.Rows.{recording_fits}
 use Rattle.read_fronts.specs.Openings.{Opened}
 use borrow.Author.Rules.{rules}
-use Rattle.read_fronts.proofs.Behind.{payload-odd, payload-octets, payload-least, lent-long, octets-back}
+use Rattle.read_fronts.proofs.Behind.{payload_odd_lem, payload_octets, payload_least, lent_long, octets_back}
 use Rattle.read_frames.proofs.payload.hear_payload.Statement.{statement}
 use Rattle.read_frames.proofs.payload.hear_payload.Tie as tie
 
-room : (k : Kind) (r : Rate) (n from m all : ℕ) → from ≡ frontChips k → m ≡ n → frameChips k r n ≤ all
-    → from + octetChips r * m ≤ all
+room : (k : Kind) (r : Rate) (n from m all : ℕ) → from ≡ front_chips k → m ≡ n → frame_chips k r n ≤ all
+    → from + octet_chips r * m ≤ all
 room k r n from m all e f h = rw (e, f) h
 
 -- there are fewer symbols than chips, so that their numbers do not wrap
-numbers : (k : Kind) (r : Rate) (n from m all : ℕ) → from ≡ frontChips k → m ≡ n → frameChips k r n < all
-    → from / 11 + octetSymbols r * m < all
-numbers k r n from m all e f h = omega (arith, room k r n from m (frameChips k r n) e f (omega arith), few-symbols r m)
+numbers : (k : Kind) (r : Rate) (n from m all : ℕ) → from ≡ front_chips k → m ≡ n → frame_chips k r n < all
+    → from / 11 + octet_symbols r * m < all
+numbers k r n from m all e f h = omega (arith, room k r n from m (frame_chips k r n) e f (omega arith), few_symbols r m)
 
-usable : (k : Kind) (r : Rate) (n from m : ℕ) (rec : List Taken) → from ≡ frontChips k → m ≡ n
-    → AllUsable rec (frontChips k) (octetChips r * n) → AllUsable rec from (octetChips r * m)
+usable : (k : Kind) (r : Rate) (n from m : ℕ) (rec : List Taken) → from ≡ front_chips k → m ≡ n
+    → AllUsable rec (front_chips k) (octet_chips r * n) → AllUsable rec from (octet_chips r * m)
 usable k r n from m rec e f u = rw (e, f) u
 
 module _
     (k : Kind) (r : Rate) (n from : ℕ) (rec : List Taken) (l : Line) (b : Least) (p : Part) (d out : List ℕ)
-    (o : Opened k rec l) (e : from ≡ frontChips k) (fits : n ≤ length d) (zeros : d ≡ replicate (length d) 0)
-    (first : b ≡ leastOf (frontLeads k rec))
+    (o : Opened k rec l) (e : from ≡ front_chips k) (fits : n ≤ length d) (zeros : d ≡ replicate (length d) 0)
+    (first : b ≡ least_of (front_leads k rec))
     (x : PartHeard r from (length (take (n - 0) d)) rec l (from / 11) b p out)
   where
-    part : PartHeard r (frontChips k) n rec l (frontChips k / 11) b p out
+    part : PartHeard r (front_chips k) n rec l (front_chips k / 11) b p out
     part =
         subst (λ (i : ℕ). PartHeard r i n rec l (i / 11) b p out) e
         (subst (λ (i : ℕ). PartHeard r from i rec l (from / 11) b p out)
-        (lent-long n d fits) x)
+        (lent_long n d fits) x)
 
     odd : (place : ℕ) (z : List ℕ) → p.heard.odd ≡ At place → length out ≡ length (take (n - 0) d)
         → z ≡ replicate (length (out ++ drop (n - 0) d)) 0
-        → (some place ≡ payloadOdd k r n rec)
-        × ((p.least ≡ leastOf (frameLeads k r n rec)) × (z ≡ replicate (length d) 0))
+        → (some place ≡ payload_odd k r n rec)
+        × ((p.least ≡ least_of (frame_leads k r n rec)) × (z ≡ replicate (length d) 0))
     odd place z t kept q = (
-      sym (ap whereFound t) ∙ payload-odd k r n rec l b p out o part,
+      sym (ap where_found t) ∙ payload_odd_lem k r n rec l b p out o part,
       (
-        payload-least k r n rec l b p out o part first,
+        payload_least k r n rec l b p out o part first,
         q ∙ ap (λ (m : ℕ). replicate m 0) (length_front d out (n - 0) kept),
       ),
     )
 
-    good : p.heard.odd ≡ Nothing → (none ≡ payloadOdd k r n rec)
-        × ((p.least ≡ leastOf (frameLeads k r n rec))
-        × (out ++ drop (n - 0) d ≡ payloadOf k r n rec ++ replicate (length d - n) 0))
+    good : p.heard.odd ≡ Nothing → (none ≡ payload_odd k r n rec)
+        × ((p.least ≡ least_of (frame_leads k r n rec))
+        × (out ++ drop (n - 0) d ≡ payload_of k r n rec ++ replicate (length d - n) 0))
     good t = (
-      sym (ap whereFound t) ∙ payload-odd k r n rec l b p out o part,
+      sym (ap where_found t) ∙ payload_odd_lem k r n rec l b p out o part,
       (
-        payload-least k r n rec l b p out o part first,
-        octets-back n d out (payloadOf k r n rec) zeros (payload-octets k r n rec l b p out o part),
+        payload_least k r n rec l b p out o part first,
+        octets_back n d out (payload_of k r n rec) zeros (payload_octets k r n rec l b p out o part),
       ),
     )
 
-hear-octets-requires : tie.Need-hear-octets-requires
-hear-octets-requires c κs =
+hear_octets_requires : tie.Need-hear-octets-requires
+hear_octets_requires c κs =
     let start = c.before.before.before.before.before.before in
     let a = start.args in
-    let long = lent-long a.n a.octets.now start.requires.2 in
+    let long = lent_long a.n a.octets.now start.requires.2 in
     let from = c.before.front-chips.ensures in (
       room a.kind a.rate a.n _ _ _ from long start.requires.0,
       usable a.kind a.rate a.n _ _ _ from long start.requires.1,
@@ -89,7 +89,7 @@ hear-octets-requires c κs =
           (omega (
             arith,
             start.requires.0,
-            recording-fits a.rec a.row.now a.bytes.now a.i.now a.q.now (2 ^ 64)
+            recording_fits a.rec a.row.now a.bytes.now a.i.now a.q.now (2 ^ 64)
                 start.well-formed.1.0.0 start.well-formed.1.1.0.0 start.well-formed.1.1.1.0.0,
           )),
     )
@@ -107,8 +107,8 @@ returns c =
     _ _ c.before.before.before.before.before.odd.given.1
     call.auto.1.1.1.1.1.1.1.1.1.1.0 c.before.before.fill.ensures
 
-returns-2 : tie.Need-returns-2
-returns-2 c =
+returns_2 : tie.Need-returns-2
+returns_2 c =
     let told = c.before in
     let call = told.before.before.before.before.before.hear-octets in
     let start = told.before.before.before.before.before.before.before.before.before.before.before.before in
@@ -119,10 +119,10 @@ returns-2 c =
     start.requires.2 start.requires.4 start.requires.5 call.ensures
     c.enum_told.given.1
 
-pub hear-payload-spec : {M : Type 1} → statement M
-hear-payload-spec =
+pub hear_payload_spec : {M : Type 1} → statement M
+hear_payload_spec =
     tie.close
     (tie.spec
     (λ c κs. search rules) (λ c. search rules) (λ c. search rules) (λ c. search rules)
-    hear-octets-requires (λ c. search rules) (λ c κs. search rules) (λ c. search rules) (λ c. search rules) returns
-    (λ c. search rules) returns-2)
+    hear_octets_requires (λ c. search rules) (λ c κs. search rules) (λ c. search rules) (λ c. search rules) returns
+    (λ c. search rules) returns_2)

@@ -6,8 +6,8 @@ use Rattle.read_frames.proofs.payload.heard.Tie as tie
 returns : tie.Need-returns
 returns c = rw c.before.odd.given.1
 
-returns-2 : tie.Need-returns-2
-returns-2 c = rw c.enum_told.given.1
+returns_2 : tie.Need-returns-2
+returns_2 c = rw c.enum_told.given.1
 
-pub heard-spec : {M : Type 1} → statement M
-heard-spec = tie.close (tie.spec (λ c. search rules) (λ c. search rules) returns returns-2)
+pub heard_spec : {M : Type 1} → statement M
+heard_spec = tie.close (tie.spec (λ c. search rules) (λ c. search rules) returns returns_2)

@@ -12,14 +12,14 @@ returns c =
     let long : length c.before.before.args.t2 ≡ 18 = search rules in
     rw c.enum_told.given.1 (sym (two_from c.before.before.args.t2 16 (omega arith)))
 
-returns-2 : tie.Need-returns-2
-returns-2 c =
+returns_2 : tie.Need-returns-2
+returns_2 c =
     let long : length c.before.before.args.t2 ≡ 18 = search rules in
     rw c.enum-told2.given.1 (sym (two_from c.before.before.args.t2 7 (omega arith)))
 
-pub behind-sync-spec : {M : Type 1} → statement M
-behind-sync-spec =
+pub behind_sync_spec : {M : Type 1} → statement M
+behind_sync_spec =
     tie.close
     (tie.spec
     (λ c. search rules) (λ c. search rules) (λ c. search rules) (λ c. search rules) (λ c. search rules)
-    (λ c. search rules) returns returns-2)
+    (λ c. search rules) returns returns_2)

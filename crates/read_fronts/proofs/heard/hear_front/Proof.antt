@@ -5,52 +5,52 @@ use Prim.Native.Nat.{ℕ, ◌+◌, ◌*◌, ◌/◌, ◌≤◌}
 use native.Mathlib.Nat.{zero-add}
 use native.Mathlib.Omega.{arith}
 use Rattle.rules_rates.specs.declared.Rate.{Rate}
-use Rattle.rules_rates.specs.Rates.{octetChips}
+use Rattle.rules_rates.specs.Rates.{octet_chips}
 use Rattle.rules_chips.specs.Chips.{Taken}
 use Rattle.rules_frame.specs.declared.Kind.{Kind}
 use Rattle.rules_frame.specs.declared.Kind.TheVariants.{Long, Short}
-use Rattle.rules_frame.specs.Frame.{frontChips, headerRate, preambleChips}
+use Rattle.rules_frame.specs.Frame.{front_chips, header_rate, preamble_chips}
 use Rattle.choose_recorded.specs.Recorded.{AllUsable}
-use Rattle.choose_recorded.proofs.Search.{usable-part}
+use Rattle.choose_recorded.proofs.Search.{usable_part}
 use Rattle.rules_calls.specs.declared.Least.{Least}
 use Rattle.hear_parts.specs.declared.Part.{Part}
 use Rattle.hear_parts.specs.Hearing.{PartHeard}
-use Rattle.hear_parts.proofs.Parts.{few-symbols}
+use Rattle.hear_parts.proofs.Parts.{few_symbols}
 use Rattle.common_lines.specs.declared.Line.{Line}
 use mathlib.Core.List.{List}
 use borrow.Author.Rules.{rules}
-use Rattle.read_fronts.proofs.Whole.{front-known}
+use Rattle.read_fronts.proofs.Whole.{front_known}
 use Rattle.read_fronts.proofs.heard.hear_front.Statement.{statement}
 use Rattle.read_fronts.proofs.heard.hear_front.Tie as tie
 
 -- the header ends where the front does
-module _ (k : Kind) (r : Rate) (from : ℕ) (e : r ≡ headerRate k) (f : from ≡ preambleChips k) where
-  ends : from + octetChips r * 6 ≡ frontChips k
+module _ (k : Kind) (r : Rate) (from : ℕ) (e : r ≡ header_rate k) (f : from ≡ preamble_chips k) where
+  ends : from + octet_chips r * 6 ≡ front_chips k
   ends = rw (e, f) (by k)
     where
-      by : (k : Kind) → preambleChips k + octetChips (headerRate k) * 6 ≡ frontChips k
+      by : (k : Kind) → preamble_chips k + octet_chips (header_rate k) * 6 ≡ front_chips k
       by Long = refl
       by Short = refl
 
-  few : frontChips k ≤ 2112
+  few : front_chips k ≤ 2112
   few = by k
     where
-      by : (k : Kind) → frontChips k ≤ 2112
+      by : (k : Kind) → front_chips k ≤ 2112
       by Long = omega arith
       by Short = omega arith
 
-  usable : (rec : List Taken) → AllUsable rec 0 (frontChips k) → AllUsable rec from (octetChips r * 6)
-  usable rec u = rw (zero-add from) at (usable-part from (octetChips r * 6) u (omega (arith, ends)))
+  usable : (rec : List Taken) → AllUsable rec 0 (front_chips k) → AllUsable rec from (octet_chips r * 6)
+  usable rec u = rw (zero-add from) at (usable_part from (octet_chips r * 6) u (omega (arith, ends)))
 
   part : (rec : List Taken) (l : Line) (b : Least) (h : Part) (out : List ℕ)
       → PartHeard r from 6 rec l (from / 11) b h out
-      → PartHeard (headerRate k) (preambleChips k) 6 rec l (preambleChips k / 11) b h out
+      → PartHeard (header_rate k) (preamble_chips k) 6 rec l (preamble_chips k / 11) b h out
   part rec l b h out z =
-      subst (λ (i : ℕ). PartHeard (headerRate k) i 6 rec l (i / 11) b h out) f
+      subst (λ (i : ℕ). PartHeard (header_rate k) i 6 rec l (i / 11) b h out) f
       (subst (λ (s : Rate). PartHeard s from 6 rec l (from / 11) b h out) e z)
 
-hear-octets-requires : tie.Need-hear-octets-requires
-hear-octets-requires c κs =
+hear_octets_requires : tie.Need-hear-octets-requires
+hear_octets_requires c κs =
     let start = c.before.before.before.before.before.before.before.before.before.before.before in
     let k = start.args.kind in
     let e = c.before.before.header-rate.ensures in
@@ -58,22 +58,22 @@ hear-octets-requires c κs =
       omega (arith, ends k _ _ e f, start.requires.0),
       usable k _ _ e f _ start.requires.1,
       c.before.before.before.before.before.before.before.hear-preamble.ensures.line.small,
-      omega (arith, ends k _ _ e f, few-symbols c.before.before.header-rate.result 6, few k _ _ e f),
+      omega (arith, ends k _ _ e f, few_symbols c.before.before.header-rate.result 6, few k _ _ e f),
     )
 
 returns : tie.Need-returns
 returns c =
     let first = c.before.before.before.before.before.before.before.before.before.before.before in
     let k = first.before.before.before.before.args.kind in
-    front-known k _ _ _ _ _ first.hear-preamble.ensures
+    front_known k _ _ _ _ _ first.hear-preamble.ensures
     (part k _ _ c.before.before.before.before.before.before.header-rate.ensures
     c.before.before.before.before.before.preamble-chips.ensures _ _ _ _ _
     c.before.before.before.hear-octets.ensures)
     c.before.joined.ensures
 
-pub hear-front-spec : {M : Type 1} → statement M
-hear-front-spec =
+pub hear_front_spec : {M : Type 1} → statement M
+hear_front_spec =
     tie.close
     (tie.spec
-    (λ c κs. search rules) (λ c κs. search rules) (λ c κs. search rules) (λ c. search rules) hear-octets-requires
+    (λ c κs. search rules) (λ c κs. search rules) (λ c κs. search rules) (λ c. search rules) hear_octets_requires
     (λ c κs. search rules) returns)

@@ -1,6 +1,6 @@
 -- `read_fronts::heard::hear_preamble` meets its contract: the octets behind SYNC are the SFD's. Assumes nothing.
 use borrow.Author.Rules.{rules}
-use Rattle.read_fronts.proofs.Preambles.{preamble-sfd}
+use Rattle.read_fronts.proofs.Preambles.{preamble_sfd}
 use Rattle.read_fronts.proofs.heard.hear_preamble.Statement.{statement}
 use Rattle.read_fronts.proofs.heard.hear_preamble.Tie as tie
 
@@ -9,11 +9,11 @@ returns c =
     let call = c.before.before.hear-sync in
     record {
       line = call.ensures.0;
-      sfd = preamble-sfd c.before.before.before.before.before.before.before.args.kind _ _ _
+      sfd = preamble_sfd c.before.before.before.before.before.before.before.args.kind _ _ _
           call.ensures.1.1 c.behind-sync.ensures;
       least = call.ensures.1.0;
     }
 
-pub hear-preamble-spec : {M : Type 1} → statement M
-hear-preamble-spec =
+pub hear_preamble_spec : {M : Type 1} → statement M
+hear_preamble_spec =
     tie.close (tie.spec (λ c. search rules) (λ c κs. search rules) (λ c κs. search rules) returns)

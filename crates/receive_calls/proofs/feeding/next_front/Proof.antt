@@ -3,25 +3,25 @@ use mathlib.Core.Path.{sym, ap, subst, ◌∙◌}
 use Prim.Native.Nat.{ℕ, ◌≤◌, ◌<◌}
 use native.Mathlib.Omega.{arith}
 use Rattle.rules_frame.specs.declared.Kind.{Kind}
-use Rattle.rules_frame.specs.Frame.{isKind, kind_of, frontChips}
-use Rattle.rules_receiving.proofs.Takes.{takes-phase, takes-last, takes_front}
-use Rattle.receive_calls.proofs.NextFronts.{front-stays, front_ends}
+use Rattle.rules_frame.specs.Frame.{is_kind, kind_of, front_chips}
+use Rattle.rules_receiving.proofs.Takes.{takes_phase, takes_last, takes_front}
+use Rattle.receive_calls.proofs.NextFronts.{front_stays, front_ends}
 use borrow.Author.Rules.{rules}
 use Rattle.receive_calls.proofs.feeding.next_front.Statement.{statement}
 use Rattle.receive_calls.proofs.feeding.next_front.Tie as tie
 
-front-piece-requires : tie.Need-front-piece-requires
-front-piece-requires c κs =
+front_piece_requires : tie.Need-front-piece-requires
+front_piece_requires c κs =
     let kind = c.before.before.before in
     let start = kind.before.before.before.before.before in
     let p = start.args.p in (
-      subst (λ (k : Kind). p.count < frontChips k) (sym kind.kind-of.ensures)
+      subst (λ (k : Kind). p.count < front_chips k) (sym kind.kind_of_lem.ensures)
           (takes_front p p.room start.requires.0 start.requires.1).short,
       start.requires.2,
       start.requires.3,
       start.requires.4,
-      takes-phase p p.room start.requires.0,
-      takes-last p p.room start.requires.0,
+      takes_phase p p.room start.requires.0,
+      takes_last p p.room start.requires.0,
     )
 
 -- the call, once the front's chips are counted
@@ -37,44 +37,44 @@ returns c =
     let kind = begun piece in
     let start = kind.before.before.before.before.before in
     let a = start.args in
-    front-stays a.p _ a.hold.now a.preamble.now a.header.now a.rest.now piece.front-piece.result
-    _ _ _ start.pre.1 kind.kind-of.ensures piece.front-piece.ensures
+    front_stays a.p _ a.hold.now a.preamble.now a.header.now a.rest.now piece.front-piece.result
+    _ _ _ start.pre.1 kind.kind_of_lem.ensures piece.front-piece.ensures
     (subst (λ (n : ℕ). piece.front-piece.result.progress.count < n) c.before.before.front-chips.ensures
     c.if1.true)
 
-front-told-requires : tie.Need-front-told-requires
-front-told-requires c κs =
+front_told_requires : tie.Need-front-told-requires
+front_told_requires c κs =
     let test = c.before.before in
     let piece = call test.before in
     let kind = begun piece in
     let start = kind.before.before.before.before.before in
     let a = start.args in
     let x = piece.front-piece.ensures in (
-      omega (arith, x.count-is, x.within, test.if1.false, test.before.before.front-chips.ensures),
-      ap isKind x.kind-is ∙ (takes_front a.p a.p.room start.pre.0 start.pre.1).is-kind,
-      ap kind_of x.kind-is ∙ sym kind.kind-of.ensures,
-      x.preamble-long ∙ start.pre.3,
-      x.header-long ∙ start.pre.4,
+      omega (arith, x.count_is, x.within, test.if1.false, test.before.before.front-chips.ensures),
+      ap is_kind x.kind_is ∙ (takes_front a.p a.p.room start.pre.0 start.pre.1).is_kind_lem,
+      ap kind_of x.kind_is ∙ sym kind.kind_of_lem.ensures,
+      x.preamble_long ∙ start.pre.3,
+      x.header_long ∙ start.pre.4,
       x.small,
-      x.last-small,
+      x.last_small,
     )
 
-returns-2 : tie.Need-returns-2
-returns-2 c =
+returns_2 : tie.Need-returns-2
+returns_2 c =
     let test = c.before.before.before in
     let piece = call test.before in
     let kind = begun piece in
     let start = kind.before.before.before.before.before in
     let a = start.args in
     front_ends a.p _ a.hold.now a.preamble.now a.header.now a.rest.now piece.front-piece.result
-    _ _ _ start.pre.1 kind.kind-of.ensures piece.front-piece.ensures _
+    _ _ _ start.pre.1 kind.kind_of_lem.ensures piece.front-piece.ensures _
     (subst (λ (n : ℕ). n ≤ piece.front-piece.result.progress.count) test.before.before.front-chips.ensures
-    test.if1.false) c.front-told.ensures
+    test.if1.false) c.front_told.ensures
 
-pub next-front-spec : {M : Type 1} → statement M
-next-front-spec =
+pub next_front_spec : {M : Type 1} → statement M
+next_front_spec =
     tie.close
     (tie.spec
-    (λ c κs. search rules) front-piece-requires (λ c κs. search rules) (λ c. search rules) (λ c. search rules)
-    (λ c. search rules) returns front-told-requires (λ c. search rules) (λ c. search rules) (λ c. search rules)
-    returns-2)
+    (λ c κs. search rules) front_piece_requires (λ c κs. search rules) (λ c. search rules) (λ c. search rules)
+    (λ c. search rules) returns front_told_requires (λ c. search rules) (λ c. search rules) (λ c. search rules)
+    returns_2)

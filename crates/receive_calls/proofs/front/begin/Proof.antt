@@ -9,64 +9,64 @@ use lib.ListN.{length, get_or, take}
 use lib.Seq.{take_all}
 use borrow.Author.Tests.{le-ltb}
 use Rattle.rules_rates.specs.declared.Rate.TheVariants.{One}
-use Rattle.rules_chips.specs.Chips.{hardRecording}
-use Rattle.rules_chips.proofs.Recorders.{length-hard}
-use Rattle.rules_choosing.proofs.Decided.{decided-below}
+use Rattle.rules_chips.specs.Chips.{hard_recording}
+use Rattle.rules_chips.proofs.Recorders.{length_hard}
+use Rattle.rules_choosing.proofs.Decided.{decided_below}
 use Rattle.rules_frame.specs.declared.Kind.{Kind}
-use Rattle.rules_reading.specs.Reading.{firstUnusable}
+use Rattle.rules_reading.specs.Reading.{first_unusable}
 use Rattle.rules_calls.specs.declared.Least.{Least}
-use Rattle.rules_reading.specs.Leads.{leadAt, leastFrom, leastOf}
+use Rattle.rules_reading.specs.Leads.{lead_at, least_from, least_of}
 use Rattle.choose_recorded.specs.Recorded.{AllUsable, DecidedAt, LeadsAt}
-use Rattle.choose_recorded.proofs.Search.{none-usable}
+use Rattle.choose_recorded.proofs.Search.{none_usable}
 use Rattle.common_lines.specs.declared.Line.{Line}
 use Rattle.common_kinds.specs.Starts.{Starts}
-use Rattle.read_fronts.proofs.Preambles.{start-seven}
+use Rattle.read_fronts.proofs.Preambles.{start_seven}
 use borrow.Author.Rules.{rules}
 use Rattle.receive_calls.specs.Steps.{Begun}
 use Rattle.receive_calls.proofs.front.begin.Statement.{statement}
 use Rattle.receive_calls.proofs.front.begin.Tie as tie
 
-all-usable : (row : List ℕ) → length row ≡ 11 → firstUnusable 0 (hardRecording row) ≡ none
-    → AllUsable (hardRecording row) 0 11
-all-usable row e u =
-    none-usable (hardRecording row) 0 11 (omega (arith, e, length-hard row))
-    (ap (firstUnusable 0) (take_all 11 (hardRecording row) (omega (arith, e, length-hard row))) ∙ u)
+all_usable : (row : List ℕ) → length row ≡ 11 → first_unusable 0 (hard_recording row) ≡ none
+    → AllUsable (hard_recording row) 0 11
+all_usable row e u =
+    none_usable (hard_recording row) 0 11 (omega (arith, e, length_hard row))
+    (ap (first_unusable 0) (take_all 11 (hard_recording row) (omega (arith, e, length_hard row))) ∙ u)
 
 -- the smallest of one lead
-one-lead : (leads : List ℕ) → length leads ≡ 64 → leastOf (take 1 leads) ≡ leadAt (get_or leads 0 0) 0
-unfolding leastOf leastFrom
-one-lead [] e = absurd (omega (arith, e))
-one-lead (x ∷ leads) e = rw (le-ltb x x (omega arith))
+one_lead : (leads : List ℕ) → length leads ≡ 64 → least_of (take 1 leads) ≡ lead_at (get_or leads 0 0) 0
+unfolding least_of least_from
+one_lead [] e = absurd (omega (arith, e))
+one_lead (x ∷ leads) e = rw (le-ltb x x (omega arith))
 
 begun : (k : Kind) (row numbers leads : List ℕ) (l : Line) (least : Least)
-    → DecidedAt One (hardRecording row) 0 1 numbers
-    → LeadsAt One (hardRecording row) 0 1 leads → Starts k (get_or numbers 0 0) l → least ≡ leastOf (take 1 leads)
+    → DecidedAt One (hard_recording row) 0 1 numbers
+    → LeadsAt One (hard_recording row) 0 1 leads → Starts k (get_or numbers 0 0) l → least ≡ least_of (take 1 leads)
     → Begun k row
     (record { lead = least.lead; symbol = least.symbol; past = l.past; phase = l.phase; last = l.phase })
 begun k row numbers leads l least d s x f =
-    let one = f ∙ one-lead leads s.long in
-    let phase = x.at-phase ∙ d.number 0 (omega arith) in
+    let one = f ∙ one_lead leads s.long in
+    let phase = x.at_phase ∙ d.number 0 (omega arith) in
     record {
       phase = phase;
       last = phase;
-      small = rw phase (decided-below One _);
-      past = ap (take 7) x.past ∙ start-seven k;
+      small = rw phase (decided_below One _);
+      past = ap (take 7) x.past ∙ start_seven k;
       lead = ap (λ (a : Least). a.lead) one ∙ s.lead 0 (omega arith);
       symbol = ap (λ (a : Least). a.symbol) one;
     }
 
-decide-requires : tie.Need-decide-requires
-decide-requires c κs =
+decide_requires : tie.Need-decide-requires
+decide_requires c κs =
     let first = c.before.before.before.before.before.before.before in
     let row = first.args.row.now in
-    let usable = all-usable row first.requires.0 first.requires.1 in
-    (omega arith, omega (arith, first.requires, length-hard row), usable, refl, refl)
+    let usable = all_usable row first.requires.0 first.requires.1 in
+    (omega arith, omega (arith, first.requires, length_hard row), usable, refl, refl)
 
-first-line-requires : tie.Need-first-line-requires
-first-line-requires c κs = search rules
+first_line_requires : tie.Need-first-line-requires
+first_line_requires c κs = search rules
 
-least-of-requires : tie.Need-least-of-requires
-least-of-requires c κs = (omega arith, omega arith, c.before.before.decide.ensures.1.long)
+least_of_requires : tie.Need-least-of-requires
+least_of_requires c κs = (omega arith, omega arith, c.before.before.decide.ensures.1.long)
 
 returns : tie.Need-returns
 returns c =
@@ -75,9 +75,9 @@ returns c =
     begun first.args.kind first.args.row.now _ _ _ _ heard.decide.ensures.0 heard.decide.ensures.1
     c.before.before.first-line.ensures c.least-of.ensures
 
-pub begin-spec : {M : Type 1} → statement M
-begin-spec =
+pub begin_spec : {M : Type 1} → statement M
+begin_spec =
     tie.close
     (tie.spec
     (λ c. search rules) (λ c. search rules) (λ c. search rules) (λ c. search rules) (λ c. search rules)
-    (λ c. search rules) decide-requires (λ c. search rules) first-line-requires least-of-requires returns)
+    (λ c. search rules) decide_requires (λ c. search rules) first_line_requires least_of_requires returns)

@@ -12,15 +12,15 @@ returns c =
     rw c.before.before.enum_told.given.1
     (sym (two_from start.args.preamble.now 16 (omega (arith, start.requires))))
 
-returns-2 : tie.Need-returns-2
-returns-2 c =
+returns_2 : tie.Need-returns-2
+returns_2 c =
     let start = c.before.before.before.before in
     rw c.before.before.enum-told2.given.1
     (sym (two_from start.args.preamble.now 7 (omega (arith, start.requires))))
 
-pub sfd-of-spec : {M : Type 1} → statement M
-sfd-of-spec =
+pub sfd_of_spec : {M : Type 1} → statement M
+sfd_of_spec =
     tie.close
     (tie.spec
     (λ c. search rules) (λ c. search rules) (λ c. search rules) (λ c. search rules) (λ c. search rules)
-    (λ c. search rules) returns returns-2)
+    (λ c. search rules) returns returns_2)

@@ -3,7 +3,7 @@ use mathlib.Core.Path.{◌≡◌, ap}
 use Rattle.rules_calls.specs.declared.Refusal.{Refusal}
 use Rattle.rules_calls.specs.declared.Reading.TheVariants as reading
 use Rattle.rules_calls.specs.declared.Record.{Record}
-use Rattle.rules_calls.specs.Answers.{recordOf}
+use Rattle.rules_calls.specs.Answers.{record_of}
 use Rattle.rules_receiving.specs.declared.Progress.{Progress}
 use borrow.Author.Rules.{rules}
 use Rattle.receive_calls.specs.Steps.{stayed}
@@ -29,11 +29,11 @@ staying p x =
       ear = p.ear;
     }
 
-stays : (p : Progress) (e : Refusal) (x : Record) → x ≡ recordOf (reading.Refused e) → staying p x ≡ stayed p e
+stays : (p : Progress) (e : Refusal) (x : Record) → x ≡ record_of (reading.Refused e) → staying p x ≡ stayed p e
 stays p e x f = ap (staying p) f
 
 returns : tie.Need-returns
 returns c = stays c.before.args.p c.before.args.e _ c.record_of.ensures
 
-pub stay-spec : {M : Type 1} → statement M
-stay-spec = tie.close (tie.spec (λ c κs. search rules) returns)
+pub stay_spec : {M : Type 1} → statement M
+stay_spec = tie.close (tie.spec (λ c κs. search rules) returns)

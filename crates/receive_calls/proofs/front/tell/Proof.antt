@@ -2,8 +2,8 @@
 use mathlib.Core.Path.{◌≡◌, ap₂}
 use Prim.Native.Nat.{ℕ}
 use Rattle.rules_rates.specs.Rates.{code_of}
-use Rattle.rules_frame.specs.Frame.{clockBit}
-use Rattle.rules_frame.proofs.Headers.{clock-byte}
+use Rattle.rules_frame.specs.Frame.{clock_bit}
+use Rattle.rules_frame.proofs.Headers.{clock_byte}
 use Rattle.rules_calls.specs.declared.Told.{Told}
 use Rattle.rules_receiving.specs.declared.Progress.{Progress}
 use borrow.Author.Rules.{rules}
@@ -37,14 +37,14 @@ with p t rate clock =
           };
     }
 
-tells : (p : Progress) (t : Told) (rate clock : ℕ) → rate ≡ code_of t.rate → clock ≡ clockBit t.clock
+tells : (p : Progress) (t : Told) (rate clock : ℕ) → rate ≡ code_of t.rate → clock ≡ clock_bit t.clock
     → with p t rate clock ≡ telling p t
 tells p t rate clock e f = ap₂ {C = Progress} (with p t) e f
 
 returns : tie.Need-returns
 returns c =
     let start = c.before.before.before in
-    tells start.args.p start.args.t _ _ c.before.code.ensures (clock-byte start.args.t.clock)
+    tells start.args.p start.args.t _ _ c.before.code.ensures (clock_byte start.args.t.clock)
 
-pub tell-spec : {M : Type 1} → statement M
-tell-spec = tie.close (tie.spec (λ c κs. search rules) (λ c. search rules) returns)
+pub tell_spec : {M : Type 1} → statement M
+tell_spec = tie.close (tie.spec (λ c κs. search rules) (λ c. search rules) returns)

@@ -15,7 +15,7 @@ returns c =
     let a = bad.before.before.before.args in
     record {
       taken_is = refl;
-      progress-is = c.advance.ensures
+      progress_is = c.advance.ensures
           ∙ ap₂ {C = Progress} (λ x y. advanced a.p (a.p.count + a.t.taken) x y a.t.piece.ear)
           bad.number_of.ensures odd.number-of2.ensures;
     }

@@ -4,8 +4,8 @@ use Prim.Native.Nat.{ℕ, suc, ◌+◌, ◌<◌}
 use native.Mathlib.Omega.{arith}
 use Rattle.choose_recorded.specs.declared.Place.{Place}
 use Rattle.choose_recorded.specs.declared.Place.TheVariants.{At}
-use Rattle.choose_recorded.specs.Recorded.{whereFound}
-use Rattle.rules_receiving.specs.Receivers.{placeNumber}
+use Rattle.choose_recorded.specs.Recorded.{where_found}
+use Rattle.rules_receiving.specs.Receivers.{place_number}
 use Rattle.receive_parts.specs.Pieces.{PlaceBelow}
 use borrow.Author.Rules.{rules}
 use Rattle.receive_calls.proofs.passing.number_of.Statement.{statement}
@@ -14,18 +14,18 @@ use Rattle.receive_calls.proofs.passing.number_of.Tie as tie
 below : (found : Place) (place : ℕ) → found ≡ At place → PlaceBelow found → place < 1000000
 below found place e h = subst PlaceBelow e h
 
-number : (found : Place) (place : ℕ) → found ≡ At place → place + 1 ≡ placeNumber (whereFound found)
+number : (found : Place) (place : ℕ) → found ≡ At place → place + 1 ≡ place_number (where_found found)
 number found place e =
     let next : place + 1 ≡ suc place = omega arith in
-    next ∙ sym (ap (λ (x : Place). placeNumber (whereFound x)) e)
+    next ∙ sym (ap (λ (x : Place). placeNumber (where_found x)) e)
 
-add-result : tie.Need-overflow-add-result
-add-result c =
+add_result : tie.Need-overflow-add-result
+add_result c =
     let h = below _ _ c.before.found.given.1 c.before.before.before.requires in
     record { fits = omega (arith, h) }
 
 returns : tie.Need-returns
 returns c = number _ _ c.before.found.given.1
 
-pub number-of-spec : {M : Type 1} → statement M
-number-of-spec = tie.close (tie.spec (λ c. search rules) add-result (λ c. search rules) returns (λ c. search rules))
+pub number_of_spec : {M : Type 1} → statement M
+number_of_spec = tie.close (tie.spec (λ c. search rules) add_result (λ c. search rules) returns (λ c. search rules))

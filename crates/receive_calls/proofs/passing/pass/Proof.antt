@@ -1,6 +1,6 @@
 -- `receive_calls::passing::pass` meets its contract, whether 9 was found before or not. Assumes nothing.
 use borrow.Author.Rules.{rules}
-use Rattle.receive_calls.proofs.Kept.{passes-bad, passes-odd}
+use Rattle.receive_calls.proofs.Kept.{passes_bad, passes_odd}
 use Rattle.receive_calls.proofs.passing.pass.Statement.{statement}
 use Rattle.receive_calls.proofs.passing.pass.Tie as tie
 
@@ -8,16 +8,16 @@ returns : tie.Need-returns
 returns c =
     let n = c.before.before.before in
     let a = n.before.before.args in
-    passes-bad a.p _ a.rest.now a.left _ n.at-most.ensures c.before.if1.true c.advance.ensures
+    passes_bad a.p _ a.rest.now a.left _ n.at-most.ensures c.before.if1.true c.advance.ensures
 
-returns-2 : tie.Need-returns-2
-returns-2 c =
+returns_2 : tie.Need-returns-2
+returns_2 c =
     let bad = c.before in
     let found = bad.before in
     let test = found.before.before in
     let n = test.before.before in
     let a = n.before.before.args in
-    passes-odd a.p _ a.rest.now a.left _ n.at-most.ensures
+    passes_odd a.p _ a.rest.now a.left _ n.at-most.ensures
     found.unusable-from.result _ test.if1.false
     found.unusable-from.ensures.0 bad.number_of.ensures c.advance2.ensures
 
@@ -26,4 +26,4 @@ pass_spec =
     tie.close
     (tie.spec
     (λ c κs. search rules) (λ c. search rules) (λ c κs. search rules) returns (λ c. search rules) (λ c. search rules)
-    (λ c. search rules) (λ c κs. search rules) (λ c κs. search rules) (λ c κs. search rules) returns-2)
+    (λ c. search rules) (λ c κs. search rules) (λ c κs. search rules) (λ c κs. search rules) returns_2)

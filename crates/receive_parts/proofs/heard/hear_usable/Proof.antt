@@ -2,47 +2,47 @@
 -- row. Assumes nothing.
 use native.Mathlib.Omega.{arith}
 use borrow.Author.Rules.{rules}
-use Rattle.rules_chips.proofs.Recorders.{length-hard}
-use Rattle.receive_parts.proofs.Rows.{odd-moved, row-usable, symbols-few, chips-few, usable-heard}
+use Rattle.rules_chips.proofs.Recorders.{length_hard}
+use Rattle.receive_parts.proofs.Rows.{odd_moved, row_usable, symbols_few, chips_few, usable_heard}
 use Rattle.receive_parts.proofs.heard.hear_usable.Statement.{statement}
 use Rattle.receive_parts.proofs.heard.hear_usable.Tie as tie
 
 abbrev begun : tie.After-hear-octets-arg → tie.Start
 begun c = c.before.before.before.before.before.before.before
 
-hear-octets-requires : tie.Need-hear-octets-requires
-hear-octets-requires c κs =
+hear_octets_requires : tie.Need-hear-octets-requires
+hear_octets_requires c κs =
     let start = begun c in
     let a = start.args in (
-      omega (arith, start.pre.0, length-hard a.row.now),
-      row-usable a.at _ a.row.now start.pre.0 start.pre.4,
+      omega (arith, start.pre.0, length_hard a.row.now),
+      row_usable a.at _ a.row.now start.pre.0 start.pre.4,
       start.pre.3,
-      symbols-few a.rate a.symbol _ _ start.pre.0 (omega (arith, start.pre.1)) start.pre.2,
+      symbols_few a.rate a.symbol _ _ start.pre.0 (omega (arith, start.pre.1)) start.pre.2,
     )
 
 abbrev heard : tie.After-low → tie.After-hear-octets
 heard c = c.before.before.before.before.before
 
-placed-requires : tie.Need-placed-requires
-placed-requires c κs =
+placed_requires : tie.Need-placed-requires
+placed_requires c κs =
     let call = heard c in
     let start = begun call.before in
     let a = start.args in
-    odd-moved a.rate a.at a.ear.phase _ call.hear-octets.result.heard.odd _
+    odd_moved a.rate a.at a.ear.phase _ call.hear-octets.result.heard.odd _
     call.hear-octets.ensures.line.place
-    (chips-few a.rate a.at _ _ start.pre.0 start.pre.1)
+    (chips_few a.rate a.at _ _ start.pre.0 start.pre.1)
 
 returns : tie.Need-returns
 returns c =
     let call = heard c.before in
     let start = begun call.before in
     let a = start.args in
-    usable-heard a.rate a.at a.symbol a.ear a.row.now _ _ c.placed.result _
+    usable_heard a.rate a.at a.symbol a.ear a.row.now _ _ c.placed.result _
     call.hear-octets.ensures start.pre.4 c.placed.ensures.0 c.placed.ensures.1
 
-pub hear-usable-spec : {M : Type 1} → statement M
-hear-usable-spec =
+pub hear_usable_spec : {M : Type 1} → statement M
+hear_usable_spec =
     tie.close
     (tie.spec
     (λ c. search rules) (λ c. search rules) (λ c. search rules) (λ c. search rules) (λ c. search rules)
-    (λ c. search rules) hear-octets-requires placed-requires (λ c. search rules) returns)
+    (λ c. search rules) hear_octets_requires placed_requires (λ c. search rules) returns)

@@ -9,24 +9,24 @@ use Rattle.receive_parts.specs.Pieces.{NoneAbove}
 use Rattle.receive_parts.proofs.heard.largest.Statement.{statement}
 use Rattle.receive_parts.proofs.heard.largest.Tie as tie
 
-abbrev invariant-loop : tie.invariant-loop
-invariant-loop row most₀ k₀ most k = (k ≤ length row) × NoneAbove most row k
+abbrev invariant_loop : tie.invariant-loop
+invariant_loop row most₀ k₀ most k = (k ≤ length row) × NoneAbove most row k
 
-abbrev decreases-loop : tie.decreases-loop
-decreases-loop row most₀ k₀ most k = length row - k
+abbrev decreases_loop : tie.decreases-loop
+decreases_loop row most₀ k₀ most k = length row - k
 
-loop-again : tie.Need-loop-preserved invariant-loop decreases-loop
-loop-again c =
+loop_again : tie.Need-loop-preserved invariant_loop decreases_loop
+loop_again c =
     let loop = c.before.before.before.loop in
     let m = c.larger.ensures in
     (omega arith, below_more _ _ (λ j h. omega (arith, loop.invariant.1 j h, m.0)) m.1)
 
-returns : tie.Need-returns invariant-loop decreases-loop
+returns : tie.Need-returns invariant_loop decreases_loop
 returns c j h = c.before.loop.invariant.1 j (omega arith)
 
-pub largest-spec : {M : Type 1} → statement M
-largest-spec =
+pub largest_spec : {M : Type 1} → statement M
+largest_spec =
     tie.close
     (tie.spec
-    invariant-loop decreases-loop (λ c. (omega arith, λ j h. absurd (omega arith))) (λ c. search rules) (λ c κs. search rules)
-    (λ c. omega arith) (λ c. omega arith) loop-again returns)
+    invariant_loop decreases_loop (λ c. (omega arith, λ j h. absurd (omega arith))) (λ c. search rules) (λ c κs. search rules)
+    (λ c. omega arith) (λ c. omega arith) loop_again returns)

@@ -4,8 +4,8 @@ use borrow.Author.Rules.{rules}
 use Rattle.receive_parts.proofs.heard.placed.Statement.{statement}
 use Rattle.receive_parts.proofs.heard.placed.Tie as tie
 
-add-t5 : tie.Need-overflow-add-t5
-add-t5 c =
+add_t5 : tie.Need-overflow-add-t5
+add_t5 c =
     let below = rw c.before.found.given.1 at c.before.before.before.requires in
     omega (arith, below)
 
@@ -14,8 +14,8 @@ returns c =
     let below = rw c.before.found.given.1 at c.before.before.before.requires in
     (rw c.before.found.given.1, below)
 
-returns-2 : tie.Need-returns-2
-returns-2 c = (rw c.enum_told.given.1, tt)
+returns_2 : tie.Need-returns-2
+returns_2 c = (rw c.enum_told.given.1, tt)
 
-pub placed-spec : {M : Type 1} → statement M
-placed-spec = tie.close (tie.spec (λ c. search rules) add-t5 (λ c. search rules) returns returns-2)
+pub placed_spec : {M : Type 1} → statement M
+placed_spec = tie.close (tie.spec (λ c. search rules) add_t5 (λ c. search rules) returns returns_2)

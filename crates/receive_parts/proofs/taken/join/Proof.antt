@@ -4,16 +4,16 @@ use Prim.Native.Nat.{◌+◌, ◌-◌, ◌≤◌}
 use native.Mathlib.Omega.{arith}
 use borrow.Author.Rules.{rules}
 use lib.ListN.{length}
-use Rattle.receive_parts.proofs.Looks.{chips-most}
+use Rattle.receive_parts.proofs.Looks.{chips_most}
 use Rattle.receive_parts.proofs.Joined.{
-  put-fits,
-  hold-joined,
-  hold-long,
-  row-joined,
-  row-long,
-  one-octet,
-  joined-whole,
-  joined-part,
+  put_fits,
+  hold_joined,
+  hold_long,
+  row_joined,
+  row_long,
+  one_octet,
+  joined_whole,
+  joined_part,
 }
 use Rattle.receive_parts.proofs.taken.join.Statement.{statement}
 use Rattle.receive_parts.proofs.taken.join.Tie as tie
@@ -21,39 +21,39 @@ use Rattle.receive_parts.proofs.taken.join.Tie as tie
 abbrev begun : tie.After-octet-chips → tie.Start
 begun c = c.before.before.before.before
 
-add-n : tie.Need-overflow-add-n
-add-n c = let start = begun c in omega (arith, start.pre.0, chips-most start.args.rate)
+add_n : tie.Need-overflow-add-n
+add_n c = let start = begun c in omega (arith, start.pre.0, chips_most start.args.rate)
 
 -- there is room behind the chips held
 room : (c : tie.After-octet-chips) → let a = (begun c).args in a.h + length a.piece.now ≤ length a.hold.now
-room c = let start = begun c in omega (arith, start.pre.0, start.pre.2, chips-most start.args.rate)
+room c = let start = begun c in omega (arith, start.pre.0, start.pre.2, chips_most start.args.rate)
 
-put-requires : tie.Need-put-requires
-put-requires c κs =
+put_requires : tie.Need-put-requires
+put_requires c κs =
     let a = (begun c.before).args in
-    omega (arith, put-fits a.hold.now a.piece.now a.h _ refl (room c.before))
+    omega (arith, put_fits a.hold.now a.piece.now a.h _ refl (room c.before))
 
 -- where the piece was put
 abbrev chips : tie.After-put → tie.After-octet-chips
 chips c = c.before.before
 
-part-row-end : tie.Need-slice-bounds-row-end
-part-row-end c =
+part_row_end : tie.Need-slice-bounds-row-end
+part_row_end c =
     let put = c.before.before.before in
     let a = (begun (chips put)).args in
     let r = room (chips put) in
-    omega (arith, hold-long a.hold.now a.piece.now _ a.h _ refl r put.put.ensures)
+    omega (arith, hold_long a.hold.now a.piece.now _ a.h _ refl r put.put.ensures)
 
-hear-whole-requires : tie.Need-hear-whole-requires
-hear-whole-requires c κs =
+hear_whole_requires : tie.Need-hear-whole-requires
+hear_whole_requires c κs =
     let put = c.before.before.before.before.before.before in
     let start = begun (chips put) in
     let a = start.args in
     let p = start.pre in
     let r = room (chips put) in
-    let long = row-long a.hold.now a.piece.now _ a.h _ refl r put.put.ensures in (
-      long ∙ one-octet a.rate _ _ _ c.before.if1.true (chips put).octet-chips.ensures p.1,
-      omega (arith, long, p.0, p.3, chips-most a.rate),
+    let long = row_long a.hold.now a.piece.now _ a.h _ refl r put.put.ensures in (
+      long ∙ one_octet a.rate _ _ _ c.before.if1.true (chips put).octet-chips.ensures p.1,
+      omega (arith, long, p.0, p.3, chips_most a.rate),
       p.4,
       p.5,
       p.6,
@@ -68,38 +68,38 @@ returns c =
     let a = start.args in
     let r = room (chips put) in
     let y = put.put.ensures in
-    joined-whole a.rate a.at a.symbol a.ear a.h a.hold.now a.piece.now a.octet.now
-    call.hear-whole.result _ _ _ (hold-joined a.hold.now a.piece.now _ a.h _ refl r y)
-    (row-joined a.hold.now a.piece.now _ a.h _ refl r y)
+    joined_whole a.rate a.at a.symbol a.ear a.h a.hold.now a.piece.now a.octet.now
+    call.hear-whole.result _ _ _ (hold_joined a.hold.now a.piece.now _ a.h _ refl r y)
+    (row_joined a.hold.now a.piece.now _ a.h _ refl r y)
     (test.if1.true ∙ (chips put).octet-chips.ensures) _ start.pre.1 call.hear-whole.ensures
 
-hold-part-requires : tie.Need-hold-part-requires
-hold-part-requires c κs =
+hold_part_requires : tie.Need-hold-part-requires
+hold_part_requires c κs =
     let put = c.before.before.before.before.before in
     let start = begun (chips put) in
     let a = start.args in
     let p = start.pre in
     let r = room (chips put) in
-    let long = row-long a.hold.now a.piece.now _ a.h _ refl r put.put.ensures in
+    let long = row_long a.hold.now a.piece.now _ a.h _ refl r put.put.ensures in
     (omega (arith, long, p.0), omega (arith, long), p.3, p.6)
 
-returns-2 : tie.Need-returns-2
-returns-2 c =
+returns_2 : tie.Need-returns-2
+returns_2 c =
     let test = c.before in
     let put = test.before.before.before.before.before in
     let start = begun (chips put) in
     let a = start.args in
     let r = room (chips put) in
     let y = put.put.ensures in
-    joined-part a.rate a.at a.symbol a.ear a.h a.hold.now a.piece.now a.octet.now
-    c.hold-part.result _ _ _ (hold-joined a.hold.now a.piece.now _ a.h _ refl r y)
-    (row-joined a.hold.now a.piece.now _ a.h _ refl r y)
+    joined_part a.rate a.at a.symbol a.ear a.h a.hold.now a.piece.now a.octet.now
+    c.hold-part.result _ _ _ (hold_joined a.hold.now a.piece.now _ a.h _ refl r y)
+    (row_joined a.hold.now a.piece.now _ a.h _ refl r y)
     (λ z. test.if1.false (z ∙ sym (chips put).octet-chips.ensures)) refl c.hold-part.ensures
 
-pub join-spec : {M : Type 1} → statement M
-join-spec =
+pub join_spec : {M : Type 1} → statement M
+join_spec =
     tie.close
     (tie.spec
-    (λ c κs. search rules) add-n (λ c. search rules) (λ c. search rules) room put-requires (λ c. search rules)
-    (λ c. search rules) part-row-end hear-whole-requires (λ c. search rules) (λ c. search rules) returns
-    hold-part-requires (λ c. search rules) returns-2)
+    (λ c κs. search rules) add_n (λ c. search rules) (λ c. search rules) room put_requires (λ c. search rules)
+    (λ c. search rules) part_row_end hear_whole_requires (λ c. search rules) (λ c. search rules) returns
+    hold_part_requires (λ c. search rules) returns_2)

@@ -6,30 +6,30 @@ use Prim.Native.Nat.{◌≤◌, ◌-◌}
 use native.Mathlib.Omega.{arith}
 use lib.ListN.{length, take, drop, length-set}
 use borrow.Author.Rules.{rules}
-use Rattle.base.proofs.Over.{over-more, over-whole}
+use Rattle.base.proofs.Over.{over_more, over_whole}
 use Rattle.receive_parts.proofs.taken.put.Statement.{statement}
 use Rattle.receive_parts.proofs.taken.put.Tie as tie
 
-abbrev invariant-loop : tie.invariant-loop
-invariant-loop from out₀ i₀ out i = (i ≤ length from) × (length out ≡ length out₀) × (out ≡ take i from ++ drop i out₀)
+abbrev invariant_loop : tie.invariant-loop
+invariant_loop from out₀ i₀ out i = (i ≤ length from) × (length out ≡ length out₀) × (out ≡ take i from ++ drop i out₀)
 
-abbrev decreases-loop : tie.decreases-loop
-decreases-loop from out₀ i₀ out i = length from - i
+abbrev decreases_loop : tie.decreases-loop
+decreases_loop from out₀ i₀ out i = length from - i
 
-loop-again : tie.Need-loop-preserved invariant-loop decreases-loop
-loop-again c = (
+loop_again : tie.Need-loop-preserved invariant_loop decreases_loop
+loop_again c = (
   omega arith,
   simp length-set (omega arith),
-  over-more _ _ _ _ c.before.before.loop.invariant.2 (omega arith) (omega arith),
+  over_more _ _ _ _ c.before.before.loop.invariant.2 (omega arith) (omega arith),
 )
 
-returns : tie.Need-returns invariant-loop decreases-loop
-returns c = over-whole _ _ _ c.before.loop.i c.before.loop.invariant.2 (omega arith)
+returns : tie.Need-returns invariant_loop decreases_loop
+returns c = over_whole _ _ _ c.before.loop.i c.before.loop.invariant.2 (omega arith)
 
 pub put_spec : {M : Type 1} → statement M
 put_spec =
     tie.close
     (tie.spec
-    invariant-loop decreases-loop (λ c. search rules) (λ c. omega arith) (λ c. omega arith) (λ c. omega arith) (λ c. omega arith)
-    loop-again
+    invariant_loop decreases_loop (λ c. search rules) (λ c. omega arith) (λ c. omega arith) (λ c. omega arith) (λ c. omega arith)
+    loop_again
     (λ c. search rules) returns)

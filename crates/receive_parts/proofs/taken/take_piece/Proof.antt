@@ -7,13 +7,13 @@ use borrow.Author.Rules.{rules}
 use Rattle.receive_parts.proofs.Ways.{
   Counted,
   counted,
-  few-chips,
-  few-numbers,
-  chips-there,
+  few_chips,
+  few_numbers,
+  chips_there,
   front_long,
-  part-long,
-  joins-taken,
-  heard-taken,
+  part_long,
+  joins_taken,
+  heard_taken,
 }
 use Rattle.receive_parts.proofs.taken.take_piece.Statement.{statement}
 use Rattle.receive_parts.proofs.taken.take_piece.Tie as tie
@@ -42,19 +42,19 @@ returns c =
     let start = begun counts in
     let a = start.args in
     let least = size.at-most.ensures in
-    joins-taken a.rate a.from a.first a.n a.count _ _ _ _ a.ear a.hold.now a.rest.now
+    joins_taken a.rate a.from a.first a.n a.count _ _ _ _ a.ear a.hold.now a.rest.now
     a.out.now call.join.result _ _ call.join.new.1.1.1.1.1.1.1.0
     counts.before.octet-chips.ensures counts.octet-symbols.ensures (known counts) start.pre.2
     start.pre.6 start.pre.7 least.0 least.1 least.2 call.join.ensures
     call.join.auto.1.1.1.1.1.1.1.0
 
-returns-2 : tie.Need-returns-2
-returns-2 c =
+returns_2 : tie.Need-returns-2
+returns_2 c =
     let call = c.before.before in
     let counts = call.before.before.before.before.before in
     let start = begun counts in
     let a = start.args in
-    heard-taken a.rate a.from a.first a.n a.count _ _ _ _ _ a.ear a.hold.now a.rest.now
+    heard_taken a.rate a.from a.first a.n a.count _ _ _ _ _ a.ear a.hold.now a.rest.now
     a.out.now call.hear-whole.result call.hear-whole.new.1.1.1.1.1.0
     counts.before.octet-chips.ensures counts.octet-symbols.ensures (known counts) start.pre.2
     call.before.before.before.before.whole-count.ensures
@@ -62,30 +62,30 @@ returns-2 c =
     call.hear-whole.ensures call.hear-whole.auto.1.1.1.1.1.0
 
 -- the rows that were lent are as long as before
-same-hold : tie.Need-same-length
-same-hold c = (returns c).hold-long
+same_hold : tie.Need-same-length
+same_hold c = (returns c).hold_long
 
 same_out : tie.Need-same-length-2
-same_out c = (returns c).out-long
+same_out c = (returns c).out_long
 
-same-out-2 : tie.Need-same-length-3
-same-out-2 c = (returns-2 c).out-long
+same_out_2 : tie.Need-same-length-3
+same_out_2 c = (returns_2 c).out_long
 
 -- there are few octets, chips and symbols
 few : (c : tie.After-octet-symbols) → octets c ≤ 4095
 few c = omega (arith, (known c).before, (begun c).requires.3)
 
-chips-few : (c : tie.After-octet-symbols) → c.before.octet-chips.result * octets c ≤ 360360
-chips-few c = few-chips (begun c).args.rate _ (octets c) c.before.octet-chips.ensures (few c)
+chips_few : (c : tie.After-octet-symbols) → c.before.octet-chips.result * octets c ≤ 360360
+chips_few c = few_chips (begun c).args.rate _ (octets c) c.before.octet-chips.ensures (few c)
 
-symbols-few : (c : tie.After-octet-symbols) → c.octet-symbols.result * octets c ≤ 360360
-symbols-few c = few-numbers (begun c).args.rate _ (octets c) c.octet-symbols.ensures (few c)
+symbols_few : (c : tie.After-octet-symbols) → c.octet-symbols.result * octets c ≤ 360360
+symbols_few c = few_numbers (begun c).args.rate _ (octets c) c.octet-symbols.ensures (few c)
 
-some-chips : (c : tie.After-octet-symbols) → 0 < c.before.octet-chips.result
-some-chips c = omega (arith, (known c).part, c.before.octet-chips.ensures)
+some_chips : (c : tie.After-octet-symbols) → 0 < c.before.octet-chips.result
+some_chips c = omega (arith, (known c).part, c.before.octet-chips.ensures)
 
-join-requires : tie.Need-join-requires
-join-requires c κs =
+join_requires : tie.Need-join-requires
+join_requires c κs =
     let size = c.before.before.before in
     let counts = size.before.before.before in
     let start = begun counts in
@@ -93,10 +93,10 @@ join-requires c κs =
     let least = size.at-most.ensures in
     let chips = counts.before.octet-chips.ensures in (
       omega (arith, front_long size.at-most.result a.rest.now least.0, least.1, (known counts).part, chips),
-      part-long (octets counts) 1 a.out.now (omega (arith, (known counts).before, start.pre.2)),
+      part_long (octets counts) 1 a.out.now (omega (arith, (known counts).before, start.pre.2)),
       start.pre.6,
-      omega (arith, chips-few counts, start.pre.4),
-      omega (arith, symbols-few counts, start.pre.5),
+      omega (arith, chips_few counts, start.pre.4),
+      omega (arith, symbols_few counts, start.pre.5),
       start.pre.7,
       start.pre.8,
     )
@@ -105,45 +105,45 @@ join-requires c κs =
 abbrev straight : tie.After-whole-count → ℕ
 straight c = c.whole-count.result
 
-straight-few : (c : tie.After-whole-count) → c.before.before.octet-chips.result * straight c ≤ 360360
-straight-few c =
-    few-chips (begun c.before).args.rate _ (straight c) c.before.before.octet-chips.ensures
+straight_few : (c : tie.After-whole-count) → c.before.before.octet-chips.result * straight c ≤ 360360
+straight_few c =
+    few_chips (begun c.before).args.rate _ (straight c) c.before.before.octet-chips.ensures
     (omega (arith, c.whole-count.ensures.within, (begun c.before).requires.3))
 
-straight-there : (c : tie.After-whole-count) → c.before.before.octet-chips.result * straight c
+straight_there : (c : tie.After-whole-count) → c.before.before.octet-chips.result * straight c
     ≤ length (begun c.before).args.rest.now
-straight-there c =
-    chips-there (begun c.before).args.rate _ (straight c) _ c.before.before.octet-chips.ensures
+straight_there c =
+    chips_there (begun c.before).args.rate _ (straight c) _ c.before.before.octet-chips.ensures
     c.whole-count.ensures.there
 
-straight-room : (c : tie.After-whole-count) → octets c.before + straight c
+straight_room : (c : tie.After-whole-count) → octets c.before + straight c
     ≤ length (begun c.before).args.out.now
-straight-room c = omega (arith, c.whole-count.ensures.within, (begun c.before).requires.2)
+straight_room c = omega (arith, c.whole-count.ensures.within, (begun c.before).requires.2)
 
-hear-whole-requires : tie.Need-hear-whole-requires
-hear-whole-requires c κs =
+hear_whole_requires : tie.Need-hear-whole-requires
+hear_whole_requires c κs =
     let count = c.before.before.before in
     let counts = count.before in
     let start = begun counts in
     let a = start.args in
-    let row = front_long _ a.rest.now (straight-there count) in
-    let lent = part-long (octets counts) (straight count) a.out.now (straight-room count) in (
+    let row = front_long _ a.rest.now (straight_there count) in
+    let lent = part_long (octets counts) (straight count) a.out.now (straight_room count) in (
       row ∙ ap₂ {C = ℕ} (λ i j. i * j) counts.before.octet-chips.ensures (sym lent),
-      omega (arith, row, chips-few counts, straight-few count, start.pre.4),
-      omega (arith, symbols-few counts, start.pre.5),
+      omega (arith, row, chips_few counts, straight_few count, start.pre.4),
+      omega (arith, symbols_few counts, start.pre.5),
       start.pre.7,
       start.pre.8,
     )
 
-pub take-piece-spec : {M : Type 1} → statement M
-take-piece-spec =
+pub take_piece_spec : {M : Type 1} → statement M
+take_piece_spec =
     tie.close
     (tie.spec
-    (λ c κs. search rules) (λ c κs. search rules) (λ c. (begun c).requires.0) some-chips some-chips
-    (λ c. let h = chips-few c in record { fits = omega arith })
-    (λ c. let h = chips-few c in record { fits = omega (arith, (begun c).requires.4) })
-    (λ c. let h = symbols-few c in record { fits = omega arith })
-    (λ c. let h = symbols-few c in record { fits = omega (arith, (begun c).requires.5) })
+    (λ c κs. search rules) (λ c κs. search rules) (λ c. (begun c).requires.0) some_chips some_chips
+    (λ c. let h = chips_few c in record { fits = omega arith })
+    (λ c. let h = chips_few c in record { fits = omega (arith, (begun c).requires.4) })
+    (λ c. let h = symbols_few c in record { fits = omega arith })
+    (λ c. let h = symbols_few c in record { fits = omega (arith, (begun c).requires.5) })
     (λ c κs. (known c).before)
     (λ c. let b = c.before.before in omega (arith, (known b).part, b.before.octet-chips.ensures))
     (λ c κs. search rules)
@@ -151,9 +151,9 @@ take-piece-spec =
     (λ c. search rules) (λ c. search rules) (λ c. c.before.at-most.ensures.0) (λ c. search rules)
     (λ c. omega arith)
     (λ c. let b = c.before.before.before.before.before in omega (arith, (known b).before, (begun b).requires.2))
-    join-requires same-hold same_out returns
-    (λ c. let h = straight-few c.before in record { fits = omega arith })
-    (λ c. let h = straight-room c.before in record { fits = omega (arith, few c.before.before) })
+    join_requires same_hold same_out returns
+    (λ c. let h = straight_few c.before in record { fits = omega arith })
+    (λ c. let h = straight_room c.before in record { fits = omega (arith, few c.before.before) })
     (λ c. search rules) (λ c. search rules) (λ c. straight-there c.before) (λ c. search rules)
     (λ c. omega arith) (λ c. straight-room c.before.before)
-    hear-whole-requires same-out-2 returns-2)
+    hear_whole_requires same_out_2 returns_2)

@@ -4,13 +4,13 @@ use mathlib.Core.Path.{ap, ◌∙◌}
 use lib.ListN.{length}
 use borrow.Author.Rules.{rules}
 use Rattle.rules_compare.specs.Differences.{laid}
-use Rattle.rules_compare.proofs.Octets.{lengths-are, lengths-fit, list-is, answer-is}
+use Rattle.rules_compare.proofs.Octets.{lengths_are, lengths_fit, list_is, answer_is}
 use Rattle.small_calls.proofs.compare.compare.Statement.{statement}
 use Rattle.small_calls.proofs.compare.compare.Tie as tie
 
 -- what is known where the payloads are compared: both reads, and the two numbers of octets
-list-payloads-requires : tie.Need-list-payloads-requires
-list-payloads-requires c κs =
+list_payloads_requires : tie.Need-list-payloads-requires
+list_payloads_requires c κs =
     let other = c.before.before.before.before.before.before.before in
     let one = other.before in
     let read-b = one.before.before.before in
@@ -22,10 +22,10 @@ list-payloads-requires c κs =
     let room = length args.first.now in
     let room' = length args.second.now in
     let lengths =
-    lengths-are kind a b room room' read_a.read-hard.result read-b.read-hard2.result one.if-both.result
+    lengths_are kind a b room room' read_a.read-hard.result read-b.read-hard2.result one.if-both.result
     other.if-both2.result read_a.read-hard.ensures.0 read-b.read-hard2.ensures.0 one.if-both.ensures
     other.if-both2.ensures in
-    lengths-fit kind a b room room' one.if-both.result other.if-both2.result read_a.read-hard.new.1.1.0
+    lengths_fit kind a b room room' one.if-both.result other.if-both2.result read_a.read-hard.new.1.1.0
     read-b.read-hard2.new.1.1.0 lengths.0 lengths.1 read_a.read-hard.ensures.1
     read-b.read-hard2.ensures.1
 
@@ -44,14 +44,14 @@ returns c =
     let room = length args.first.now in
     let room' = length args.second.now in
     let lengths =
-    lengths-are kind a b room room' read_a.read-hard.result read-b.read-hard2.result one.if-both.result
+    lengths_are kind a b room room' read_a.read-hard.result read-b.read-hard2.result one.if-both.result
     other.if-both2.result read_a.read-hard.ensures.0 read-b.read-hard2.ensures.0 one.if-both.ensures
     other.if-both2.ensures in
     let list =
-    list-is kind a b room room' one.if-both.result other.if-both2.result read_a.read-hard.new.1.1.0
+    list_is kind a b room room' one.if-both.result other.if-both2.result read_a.read-hard.new.1.1.0
     read-b.read-hard2.new.1.1.0 lengths.0 lengths.1 read_a.read-hard.ensures.1
     read-b.read-hard2.ensures.1 in (
-      answer-is kind a b room room' read_a.read-hard.result read-b.read-hard2.result one.if-both.result
+      answer_is kind a b room room' read_a.read-hard.result read-b.read-hard2.result one.if-both.result
           other.if-both2.result chips.list.result payloads.list-payloads.result
           read_a.read-hard.ensures.0 read-b.read-hard2.ensures.0 lengths.0 lengths.1
           chips.list.ensures.0 (payloads.list-payloads.ensures.0 ∙ ap length list),
@@ -64,9 +64,9 @@ returns c =
       ),
     )
 
-pub compare-spec : {M : Type 1} → statement M
-compare-spec =
+pub compare_spec : {M : Type 1} → statement M
+compare_spec =
     tie.close
     (tie.spec (λ c κs. search rules) (λ c κs. search rules) (λ c κs. search rules) (λ c κs. search rules)
-    (λ c κs. search rules) list-payloads-requires (λ c. search rules) (λ c. search rules) (λ c. search rules)
+    (λ c κs. search rules) list_payloads_requires (λ c. search rules) (λ c. search rules) (λ c. search rules)
     (λ c. search rules) returns)

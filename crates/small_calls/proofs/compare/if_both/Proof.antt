@@ -5,8 +5,8 @@ use borrow.Author.Tests.{eq-eqb, ne_eqb}
 use Rattle.small_calls.proofs.compare.if_both.Statement.{statement}
 use Rattle.small_calls.proofs.compare.if_both.Tie as tie
 
-pub if-both-spec : {M : Type 1} → statement M
-if-both-spec =
+pub if_both_spec : {M : Type 1} → statement M
+if_both_spec =
     tie.close
     (tie.spec (λ c. rw (ne_eqb c.before.args.one 0 (λ e. omega arith)))
     (λ c. rw (

@@ -24,8 +24,8 @@ returns c =
     let same = fronts args.first.now args.second.now args.n args.m in
     (list.ensures.0 ∙ ap length same, list.ensures.1 ∙ ap (laid (length args.row.now)) same)
 
-pub list-payloads-spec : {M : Type 1} → statement M
-list-payloads-spec =
+pub list_payloads_spec : {M : Type 1} → statement M
+list_payloads_spec =
     tie.close
     (tie.spec (λ c. search rules) (λ c. search rules) (λ c. search rules) (λ c. search rules) (λ c. search rules)
     (λ c. search rules) (λ c κs. search rules) (λ c. search rules) returns)

@@ -5,14 +5,14 @@ use borrow.Author.Rules.{rules}
 use Rattle.rules_frame.specs.declared.Kind.{Kind}
 use Rattle.rules_calls.specs.declared.Refusal.{Refusal}
 use Rattle.rules_calls.specs.declared.Front.TheVariants.{Refused}
-use Rattle.rules_calls.specs.Answers.{refusalNumber, refusalPlace, refusalLength}
+use Rattle.rules_calls.specs.Answers.{refusal_number, refusal_place, refusal_length}
 use Rattle.rules_coming.specs.declared.Coming.{Coming}
-use Rattle.rules_coming.specs.Coming.{comingOf}
+use Rattle.rules_coming.specs.Coming.{coming_of}
 use Rattle.small_calls.proofs.front.refused.Statement.{statement}
 use Rattle.small_calls.proofs.front.refused.Tie as tie
 
-in-numbers : (k : Kind) (e : Refusal) (number place length : ℕ) → number ≡ refusalNumber e → place ≡ refusalPlace e
-    → length ≡ refusalLength e
+in_numbers : (k : Kind) (e : Refusal) (number place length : ℕ) → number ≡ refusal_number e → place ≡ refusal_place e
+    → length ≡ refusal_length e
     → ◌≡◌ {A = Coming}
     (record {
       number = number;
@@ -25,14 +25,14 @@ in-numbers : (k : Kind) (e : Refusal) (number place length : ℕ) → number ≡
       at = 0;
       count = 0;
     })
-    (comingOf k (Refused e))
-in-numbers k e number place length a b c = rw (a, b, c)
+    (coming_of k (Refused e))
+in_numbers k e number place length a b c = rw (a, b, c)
 
 returns : tie.Need-returns
 returns c =
     let args = c.before.before.before.args in
-    in-numbers args.kind args.e _ _ _ c.before.before.number_of.ensures
-    c.before.place_of.ensures c.length-of.ensures
+    in_numbers args.kind args.e _ _ _ c.before.before.number_of.ensures
+    c.before.place_of.ensures c.length_of.ensures
 
-pub refused-spec : {M : Type 1} → statement M
-refused-spec = tie.close (tie.spec (λ c κs. search rules) (λ c κs. search rules) (λ c κs. search rules) returns)
+pub refused_spec : {M : Type 1} → statement M
+refused_spec = tie.close (tie.spec (λ c κs. search rules) (λ c κs. search rules) (λ c κs. search rules) returns)

@@ -6,17 +6,17 @@ use mir.Val.{bool_byte}
 use borrow.Author.Rules.{rules}
 use Rattle.rules_rates.specs.Rates.{code_of}
 use Rattle.rules_frame.specs.declared.Kind.{Kind}
-use Rattle.rules_frame.specs.Frame.{frontChips, frameChips}
-use Rattle.rules_frame.proofs.Headers.{clock-byte}
+use Rattle.rules_frame.specs.Frame.{front_chips, frame_chips}
+use Rattle.rules_frame.proofs.Headers.{clock_byte}
 use Rattle.rules_calls.specs.declared.Told.{Told}
 use Rattle.rules_calls.specs.declared.Front.TheVariants.{Fields}
 use Rattle.rules_coming.specs.declared.Coming.{Coming}
-use Rattle.rules_coming.specs.Coming.{comingOf}
+use Rattle.rules_coming.specs.Coming.{coming_of}
 use Rattle.small_calls.proofs.front.told.Statement.{statement}
 use Rattle.small_calls.proofs.front.told.Tie as tie
 
-in-numbers : (k : Kind) (t : Told) (code at used : ℕ) → code ≡ code_of t.rate → at ≡ frontChips k
-    → used ≡ frameChips k t.rate t.n
+in_numbers : (k : Kind) (t : Told) (code at used : ℕ) → code ≡ code_of t.rate → at ≡ front_chips k
+    → used ≡ frame_chips k t.rate t.n
     → ◌≡◌ {A = Coming}
     (record {
       number = 0;
@@ -29,17 +29,17 @@ in-numbers : (k : Kind) (t : Told) (code at used : ℕ) → code ≡ code_of t.r
       at = at;
       count = used - at;
     })
-    (comingOf k (Fields t))
-in-numbers k t code at used a b c = rw (a, b, c, clock-byte t.clock)
+    (coming_of k (Fields t))
+in_numbers k t code at used a b c = rw (a, b, c, clock_byte t.clock)
 
 returns : tie.Need-returns
 returns c =
     let args = c.before.before.before.before.args in
-    in-numbers args.kind args.t _ _ _ c.before.code.ensures c.before.before.before.front-chips.ensures
+    in_numbers args.kind args.t _ _ _ c.before.code.ensures c.before.before.before.front-chips.ensures
     c.before.before.frame-chips.ensures
 
-pub told-spec : {M : Type 1} → statement M
-told-spec =
+pub told_spec : {M : Type 1} → statement M
+told_spec =
     tie.close
     (tie.spec
     (λ c κs. search rules) (λ c κs. search rules) (λ c κs. search rules) (λ c. search rules) (λ c. search rules)

@@ -1,15 +1,15 @@
 -- `small_calls::odd::decide` meets its contract: what is decided of a hard recorder's row. Assumes nothing.
 use native.Mathlib.Omega.{arith}
 use borrow.Author.Rules.{rules}
-use Rattle.rules_chips.proofs.Recorders.{length-hard}
+use Rattle.rules_chips.proofs.Recorders.{length_hard}
 use Rattle.small_calls.proofs.odd.decide.Statement.{statement}
 use Rattle.small_calls.proofs.odd.decide.Tie as tie
 
-decide-requires : tie.Need-decide-requires
-decide-requires c κs =
+decide_requires : tie.Need-decide-requires
+decide_requires c κs =
     let s = c.before.before.before.before.before.before.before in (
       s.requires.0,
-      omega (arith, s.requires.1, length-hard s.args.chips.now),
+      omega (arith, s.requires.1, length_hard s.args.chips.now),
       s.requires.2,
       s.requires.3,
       search rules,
@@ -18,9 +18,9 @@ decide-requires c κs =
 returns : tie.Need-returns
 returns c = c.decide.ensures.0
 
-pub decide-spec : {M : Type 1} → statement M
-decide-spec =
+pub decide_spec : {M : Type 1} → statement M
+decide_spec =
     tie.close
     (tie.spec
     (λ c. search rules) (λ c. search rules) (λ c. search rules) (λ c. search rules) (λ c. search rules)
-    (λ c. search rules) decide-requires returns)
+    (λ c. search rules) decide_requires returns)

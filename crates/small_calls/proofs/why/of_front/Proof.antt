@@ -7,7 +7,7 @@ use native.Mathlib.Omega.{arith}
 use types.Run.{OneOf, miss}
 use denote.Enum.Declared.{tag_of}
 use borrow.Author.Rules.{rules}
-use Rattle.rules_chips.specs.Chips.{hardRecording}
+use Rattle.rules_chips.specs.Chips.{hard_recording}
 use Rattle.rules_calls.specs.declared.Refusal.{Refusal}
 use Rattle.rules_calls.specs.declared.Refusal.TheVariants.{
   NoKind,
@@ -29,13 +29,13 @@ use Rattle.rules_calls.specs.declared.Refusal.TheVariants.{
   OctetRoom,
 }
 use Rattle.rules_calls.specs.declared.Front.TheVariants.{Fields}
-use Rattle.rules_calls.specs.Answers.{refusalNumber}
+use Rattle.rules_calls.specs.Answers.{refusal_number}
 use Rattle.rules_calls.specs.Headers.{ours}
 use Rattle.rules_calls.specs.contracts.Refusal as refusal
-use Rattle.rules_reading.specs.Reading.{frontOf}
-use Rattle.read_fronts.specs.Openings.{afterUsable, Opens}
-use Rattle.small_calls.specs.Why.{afterTold}
-use Rattle.small_calls.proofs.OfFront.{odd-front, front-odd, front-header}
+use Rattle.rules_reading.specs.Reading.{front_of}
+use Rattle.read_fronts.specs.Openings.{after_usable, Opens}
+use Rattle.small_calls.specs.Why.{after_told}
+use Rattle.small_calls.proofs.OfFront.{odd_front, front_odd_lem, front_header}
 use Rattle.small_calls.proofs.why.of_front.Statement.{statement}
 use Rattle.small_calls.proofs.why.of_front.Tie as tie
 
@@ -43,41 +43,41 @@ use Rattle.small_calls.proofs.why.of_front.Tie as tie
 abbrev others : List ℕ
 others = 0 ∷ 1 ∷ 2 ∷ 3 ∷ 4 ∷ 5 ∷ 6 ∷ 7 ∷ 8 ∷ 10 ∷ 11 ∷ 12 ∷ 13 ∷ 14 ∷ 15 ∷ 16 ∷ []
 
-not-odd : (e : Refusal) → OneOf others (tag_of refusal.the_type e) → refusalNumber e ≡ 10 → ⊥
-not-odd NoKind h q = omega arith
-not-odd NoRate h q = omega arith
-not-odd ShortRate h q = omega arith
-not-odd PayloadSize h q = omega arith
-not-odd NoPhase h q = omega arith
-not-odd ChipRoom h q = omega arith
-not-odd RowsDiffer h q = omega arith
-not-odd ShorterThanFront h q = omega arith
-not-odd (Unusable place l) h q = omega arith
-not-odd (OddGrowth place l) h q = miss others 9 tt h
-not-odd Sfd h q = omega arith
-not-odd Crc h q = omega arith
-not-odd (Signal l) h q = omega arith
-not-odd (Service l) h q = omega arith
-not-odd (Length l) h q = omega arith
-not-odd (Ends l) h q = omega arith
-not-odd (OctetRoom l) h q = omega arith
+not_odd : (e : Refusal) → OneOf others (tag_of refusal.the_type e) → refusal_number e ≡ 10 → ⊥
+not_odd NoKind h q = omega arith
+not_odd NoRate h q = omega arith
+not_odd ShortRate h q = omega arith
+not_odd PayloadSize h q = omega arith
+not_odd NoPhase h q = omega arith
+not_odd ChipRoom h q = omega arith
+not_odd RowsDiffer h q = omega arith
+not_odd ShorterThanFront h q = omega arith
+not_odd (Unusable place l) h q = omega arith
+not_odd (OddGrowth place l) h q = miss others 9 tt h
+not_odd Sfd h q = omega arith
+not_odd Crc h q = omega arith
+not_odd (Signal l) h q = omega arith
+not_odd (Service l) h q = omega arith
+not_odd (Length l) h q = omega arith
+not_odd (Ends l) h q = omega arith
+not_odd (OctetRoom l) h q = omega arith
 
 -- what was told
 abbrev begun : tie.After-told → tie.Start
 begun c = c.before.before.before.before
 
 opened : (c : tie.After-told) → let a = (begun c).args in
-    Opens a.kind (hardRecording a.chips.now) (afterUsable ours a.kind (hardRecording a.chips.now))
+    Opens a.kind (hard_recording a.chips.now) (after_usable ours a.kind (hard_recording a.chips.now))
     c.told.result
-opened c = let s = begun c in c.told.ensures.0 (hardRecording s.args.chips.now) s.pre.1
+opened c = let s = begun c in c.told.ensures.0 (hard_recording s.args.chips.now) s.pre.1
 
-growth-at-requires : tie.Need-growth-at-requires
-growth-at-requires c κs =
+growth_at_requires : tie.Need-growth-at-requires
+growth_at_requires c κs =
     let at = c.before in
     let front = at.before.before.before in
     let told = front.before.before in
     let s = begun told in
-    odd-front 0 s.args.kind s.args.chips.now s.args.room _
+    odd_front 0 s.args.kind s.args.chips.now s.args.room _
     (sym (opened told).told ∙ front.front.given.1) _ _ at.e.given.1 s.pre.0.1 s.pre.0.2
 
 returns : tie.Need-returns
@@ -86,43 +86,43 @@ returns c number =
     let front = at.before.before.before in
     let told = front.before.before in
     let s = begun told in
-    front-odd number s.args.kind s.args.chips.now s.args.room _
+    front_odd_lem number s.args.kind s.args.chips.now s.args.room _
     (sym (opened told).told ∙ front.front.given.1) (s.pre.0.0 ours) _ _ at.e.given.1
     c.before.growth-at.ensures c.refused.ensures
 
-returns-2 : tie.Need-returns-2
-returns-2 c number =
+returns_2 : tie.Need-returns-2
+returns_2 c number =
     let other = c.before in
     let front = other.before.before in
     let told = front.before.before in
     let s = begun told in
-    front-header number s.args.kind s.args.chips.now s.args.room _
+    front_header number s.args.kind s.args.chips.now s.args.room _
     (sym (opened told).told ∙ front.front.given.1) (s.pre.0.0 ours)
-    (not-odd front.front.given.0.0 other.match2.keys2) s.pre.1.sfd s.pre.1.header
+    (not_odd front.front.given.0.0 other.match2.keys2) s.pre.1.sfd s.pre.1.header
     c.of-header.ensures
 
 -- a front that told
 fields : (c : tie.After-line) → let a = (begun c.before.before.before.before).args in
-    frontOf a.kind (hardRecording a.chips.now) ≡ Fields c.before.before.front2.given.0.0
+    front_of a.kind (hard_recording a.chips.now) ≡ Fields c.before.before.front2.given.0.0
 fields c =
     let told = c.before.before.before.before in
     (begun told).requires.0.0 ours ∙ sym (opened told).told ∙ c.before.before.front2.given.1
 
-of-payload-requires : tie.Need-of-payload-requires
-of-payload-requires c κs =
+of_payload_requires : tie.Need-of-payload-requires
+of_payload_requires c κs =
     let told = c.before.before.before.before in
     let line = (opened told).line _ c.before.before.front2.given.1 in
-    (fields c, line.at-phase, line.small, (begun told).requires.0.2)
+    (fields c, line.at_phase, line.small, (begun told).requires.0.2)
 
-returns-3 : tie.Need-returns-3
-returns-3 c number =
+returns_3 : tie.Need-returns-3
+returns_3 c number =
     let a = (begun c.before.before.before.before.before).args in
     c.of-payload.ensures number
-    ∙ sym (ap (afterTold number a.kind a.chips.now a.room) (fields c.before))
+    ∙ sym (ap (after_told number a.kind a.chips.now a.room) (fields c.before))
 
-pub of-front-spec : {M : Type 1} → statement M
-of-front-spec =
+pub of_front_spec : {M : Type 1} → statement M
+of_front_spec =
     tie.close
     (tie.spec
-    (λ c κs. search rules) (λ c. search rules) (λ c. search rules) growth-at-requires (λ c κs. search rules)
-    (λ c κs. search rules) (λ c. search rules) of-payload-requires returns returns-2 returns-3)
+    (λ c κs. search rules) (λ c. search rules) (λ c. search rules) growth_at_requires (λ c κs. search rules)
+    (λ c κs. search rules) (λ c. search rules) of_payload_requires returns returns_2 returns_3)

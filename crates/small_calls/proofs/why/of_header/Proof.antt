@@ -9,7 +9,7 @@ use types.Run.{OneOf, miss}
 use denote.Enum.Declared.{tag_of}
 use borrow.Author.Rules.{rules}
 use Rattle.base.specs.Below.{Below}
-use Rattle.rules_bits.specs.Bits.{octetBits}
+use Rattle.rules_bits.specs.Bits.{octet_bits}
 use Rattle.rules_frame.specs.declared.Kind.{Kind}
 use Rattle.rules_calls.specs.declared.Refusal.{Refusal}
 use Rattle.rules_calls.specs.declared.Refusal.TheVariants.{
@@ -32,8 +32,8 @@ use Rattle.rules_calls.specs.declared.Refusal.TheVariants.{
   OctetRoom,
 }
 use Rattle.rules_calls.specs.contracts.Refusal as refusal
-use Rattle.small_calls.specs.Why.{headerRow}
-use Rattle.small_calls.proofs.Header.{row_of, sfd-octets, signal-row, service-row, length-row, micros-row}
+use Rattle.small_calls.specs.Why.{header_row}
+use Rattle.small_calls.proofs.Header.{row_of, sfd_octets, signal_row, service_row, length_row, micros_row}
 use Rattle.small_calls.proofs.why.of_header.Statement.{statement}
 use Rattle.small_calls.proofs.why.of_header.Tie as tie
 
@@ -56,7 +56,7 @@ others = 0 ∷ 1 ∷ 2 ∷ 3 ∷ 4 ∷ 5 ∷ 6 ∷ 7 ∷ 8 ∷ 9 ∷ 15 ∷ 16 �
 
 module _ (k : Kind) (sfd header : List ℕ) where
   abbrev Nothing-shown : Refusal → Type 0
-  Nothing-shown e = (0 ≡ (headerRow k sfd header e).0) × (0 ≡ (headerRow k sfd header e).1)
+  Nothing-shown e = (0 ≡ (header_row k sfd header e).0) × (0 ≡ (header_row k sfd header e).1)
 
   nothing : (e : Refusal) → OneOf others (tag_of refusal.the_type e) → Nothing-shown e
   nothing NoKind h = (refl, refl)
@@ -82,60 +82,60 @@ returns c =
     let told = c.before.before.before in
     let s = told.before.before.before in
     let a = s.args in
-    row_of a.kind (octetBits a.t2) (octetBits a.t3) a.e Sfd c.refused.ensures
+    row_of a.kind (octet_bits a.t2) (octet_bits a.t3) a.e Sfd c.refused.ensures
     told.enum_told.given.1 c.before.before.sfd-of.ensures
-    (sfd-octets a.t2 (two s) c.before.both.ensures.0)
+    (sfd_octets a.t2 (two s) c.before.both.ensures.0)
 
-returns-2 : tie.Need-returns-2
-returns-2 c =
+returns_2 : tie.Need-returns-2
+returns_2 c =
     let told = c.before.before.before in
     let s = told.before.before.before in
     let a = s.args in
-    row_of a.kind (octetBits a.t2) (octetBits a.t3) a.e Crc c.refused2.ensures
+    row_of a.kind (octet_bits a.t2) (octet_bits a.t3) a.e Crc c.refused2.ensures
     told.enum-told2.given.1 c.before.before.crc-worked-out.ensures c.before.crc-read.ensures
 
-returns-3 : tie.Need-returns-3
-returns-3 c =
+returns_3 : tie.Need-returns-3
+returns_3 c =
     let told = c.before in
     let s = told.before.before.before in
     let a = s.args in
-    row_of a.kind (octetBits a.t2) (octetBits a.t3) a.e (Signal _) c.refused3.ensures
-    told.enum-told3.given.1 refl (signal-row a.t3 (six s) (octets s))
+    row_of a.kind (octet_bits a.t2) (octet_bits a.t3) a.e (Signal _) c.refused3.ensures
+    told.enum-told3.given.1 refl (signal_row a.t3 (six s) (octets s))
 
-returns-4 : tie.Need-returns-4
-returns-4 c =
+returns_4 : tie.Need-returns-4
+returns_4 c =
     let told = c.before.before in
     let rate = told.before.before in
     let s = rate.before in
     let a = s.args in
-    row_of a.kind (octetBits a.t2) (octetBits a.t3) a.e (Service _) c.refused4.ensures
+    row_of a.kind (octet_bits a.t2) (octet_bits a.t3) a.e (Service _) c.refused4.ensures
     told.enum-told4.given.1 refl
-    (service-row a.t3 (six s) (octets s) _ rate.rate-of.ensures c.before.service-left.ensures)
+    (service_row a.t3 (six s) (octets s) _ rate.rate_of_lem.ensures c.before.service-left.ensures)
 
-returns-5 : tie.Need-returns-5
-returns-5 c =
+returns_5 : tie.Need-returns-5
+returns_5 c =
     let read = c.before.before in
     let told = read.before in
     let rate = told.before.before in
     let s = rate.before in
     let a = s.args in
-    row_of a.kind (octetBits a.t2) (octetBits a.t3) a.e (Length _) c.refused5.ensures
+    row_of a.kind (octet_bits a.t2) (octet_bits a.t3) a.e (Length _) c.refused5.ensures
     told.enum-told5.given.1
-    (length-row a.t3 (six s) (octets s) _ rate.rate-of.ensures _ read.both2.ensures.0
+    (length_row a.t3 (six s) (octets s) _ rate.rate_of_lem.ensures _ read.both2.ensures.0
     c.before.length-for.ensures)
-    (micros-row a.t3 (six s) (octets s) _ read.both2.ensures.0)
+    (micros_row a.t3 (six s) (octets s) _ read.both2.ensures.0)
 
-returns-6 : tie.Need-returns-6
-returns-6 c =
+returns_6 : tie.Need-returns-6
+returns_6 c =
     let other = c.before in
     let s = other.before.before in
     let a = s.args in
-    let row = nothing a.kind (octetBits a.t2) (octetBits a.t3) a.e other.match.keys6 in
-    row_of a.kind (octetBits a.t2) (octetBits a.t3) a.e a.e c.refused6.ensures refl row.0
+    let row = nothing a.kind (octet_bits a.t2) (octet_bits a.t3) a.e other.match.keys6 in
+    row_of a.kind (octet_bits a.t2) (octet_bits a.t3) a.e a.e c.refused6.ensures refl row.0
     row.1
 
-pub of-header-spec : {M : Type 1} → statement M
-of-header-spec =
+pub of_header_spec : {M : Type 1} → statement M
+of_header_spec =
     tie.close
     (tie.spec
     (λ c. search rules) (λ c. search rules) (λ c κs. search rules) (λ c. search rules) (λ c κs. search rules)
@@ -144,4 +144,4 @@ of-header-spec =
     (λ c. search rules) (λ c κs. search rules) (λ c. search rules) (λ c. search rules) (λ c κs. search rules)
     (λ c. search rules) (λ c κs. search rules) (λ c. search rules) (λ c. search rules) (λ c. search rules)
     (λ c κs. search rules) (λ c. search rules) (λ c κs. search rules) (λ c κs. search rules) (λ c κs. search rules)
-    returns returns-2 returns-3 returns-4 returns-5 returns-6)
+    returns returns_2 returns_3 returns_4 returns_5 returns_6)

@@ -13,5 +13,5 @@ returns c =
     ap₂ {C = Reason} (λ number place. reason number place a.expected a.found) c.before.number_of.ensures
     c.place_of.ensures
 
-pub refused-spec : {M : Type 1} → statement M
-refused-spec = tie.close (tie.spec (λ c κs. search rules) (λ c κs. search rules) returns)
+pub refused_spec : {M : Type 1} → statement M
+refused_spec = tie.close (tie.spec (λ c κs. search rules) (λ c κs. search rules) returns)

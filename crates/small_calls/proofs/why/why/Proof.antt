@@ -3,12 +3,12 @@ use mathlib.Core.Path.{◌≡◌, subst}
 use native.Mathlib.Omega.{arith}
 use borrow.Author.Rules.{rules}
 use Rattle.base.proofs.Tests.{failed, passed}
-use Rattle.rules_chips.specs.Chips.{hardRecording}
-use Rattle.rules_chips.proofs.Recorders.{length-hard}
+use Rattle.rules_chips.specs.Chips.{hard_recording}
+use Rattle.rules_chips.proofs.Recorders.{length_hard}
 use Rattle.rules_calls.specs.Headers.{ours}
 use Rattle.read_fronts.specs.declared.Look.{Look}
 use Rattle.read_fronts.specs.Openings.{Looks}
-use Rattle.small_calls.proofs.OfFront.{why-no-kind, why-told, why-shorter, why-unusable}
+use Rattle.small_calls.proofs.OfFront.{why_no_kind, why_told, why_shorter, why_unusable}
 use Rattle.small_calls.proofs.why.why.Statement.{statement}
 use Rattle.small_calls.proofs.why.why.Tie as tie
 
@@ -16,7 +16,7 @@ returns : tie.Need-returns
 returns c =
     let asked = c.before.before in
     let a = asked.before.before.args in
-    why-no-kind a.kind a.chips.now a.room (failed asked.is-kind.ensures c.before.if1.true)
+    why_no_kind a.kind a.chips.now a.room (failed asked.is_kind_lem.ensures c.before.if1.true)
     c.refused.ensures
 
 -- before the look
@@ -27,62 +27,62 @@ abbrev begun : tie.After-look-at-front → tie.Start
 begun c = (known c).before.before.before.before
 
 looked : (c : tie.After-look-at-front) {l : Look} → c.look-at-front.result ≡ l
-    → Looks (known c).kind-of.result (hardRecording (begun c).args.chips.now) l
+    → Looks (known c).kind_of_lem.result (hard_recording (begun c).args.chips.now) l
 looked c e =
-    subst (Looks (known c).kind-of.result (hardRecording (begun c).args.chips.now)) e c.look-at-front.ensures
+    subst (Looks (known c).kind_of_lem.result (hard_recording (begun c).args.chips.now)) e c.look-at-front.ensures
 
-shared-slice-read-refused : tie.Need-shared-slice-read-refused
-shared-slice-read-refused c =
+shared_slice_read_refused : tie.Need-shared-slice-read-refused
+shared_slice_read_refused c =
     let at = c.before.before in
     let look = at.before.before in
-    omega (arith, (looked look at.looked.given.1).1, length-hard (begun look).args.chips.now)
+    omega (arith, (looked look at.looked.given.1).1, length_hard (begun look).args.chips.now)
 
-cast-refused : tie.Need-overflow-cast-refused
-cast-refused c = record { fits = omega (arith, c.shared-slice-known2.given c.before.before.looked.given.0.0) }
+cast_refused : tie.Need-overflow-cast-refused
+cast_refused c = record { fits = omega (arith, c.shared-slice-known2.given c.before.before.looked.given.0.0) }
 
-hear-front-requires : tie.Need-hear-front-requires
-hear-front-requires c κs = let w = looked c.before.before c.enum-told2.given.1 in (w.1, w.2)
+hear_front_requires : tie.Need-hear-front-requires
+hear_front_requires c κs = let w = looked c.before.before c.enum-told2.given.1 in (w.1, w.2)
 
-of-front-requires : tie.Need-of-front-requires
-of-front-requires c κs =
+of_front_requires : tie.Need-of-front-requires
+of_front_requires c κs =
     let usable = c.before in
     (looked usable.before.before usable.enum-told2.given.1, c.hear-front.ensures)
 
-returns-2 : tie.Need-returns-2
-returns-2 c =
+returns_2 : tie.Need-returns-2
+returns_2 c =
     let short = c.before.before in
     let look = short.before.before in
     let a = (begun look).args in
     let kind = known look in
-    why-shorter a.kind a.chips.now a.room _
-    (passed kind.before.before.is-kind.ensures kind.before.if1.left) kind.kind-of.ensures
+    why_shorter a.kind a.chips.now a.room _
+    (passed kind.before.before.is_kind_lem.ensures kind.before.if1.left) kind.kind_of_lem.ensures
     (looked look short.enum_told.given.1 ours) c.before.front-chips.ensures c.refused2.ensures
 
-returns-3 : tie.Need-returns-3
-returns-3 c =
+returns_3 : tie.Need-returns-3
+returns_3 c =
     let at = c.before.before.before in
     let look = at.before.before in
     let a = (begun look).args in
     let kind = known look in
-    why-unusable a.kind a.chips.now a.room _
-    (passed kind.before.before.is-kind.ensures kind.before.if1.left) kind.kind-of.ensures _
+    why_unusable a.kind a.chips.now a.room _
+    (passed kind.before.before.is_kind_lem.ensures kind.before.if1.left) kind.kind_of_lem.ensures _
     ((looked look at.looked.given.1).0 ours) c.refused3.ensures
 
-returns-4 : tie.Need-returns-4
-returns-4 c =
+returns_4 : tie.Need-returns-4
+returns_4 c =
     let look = c.before.before.before.before in
     let a = (begun look).args in
     let kind = known look in
-    why-told a.kind a.chips.now a.room _
-    (passed kind.before.before.is-kind.ensures kind.before.if1.left) kind.kind-of.ensures
+    why_told a.kind a.chips.now a.room _
+    (passed kind.before.before.is_kind_lem.ensures kind.before.if1.left) kind.kind_of_lem.ensures
     (c.of-front.ensures a.kind)
 
-pub why-spec : {M : Type 1} → statement M
-why-spec =
+pub why_spec : {M : Type 1} → statement M
+why_spec =
     tie.close
     (tie.spec
     (λ c κs. search rules) (λ c κs. search rules) returns (λ c κs. search rules) (λ c. search rules) (λ c. search rules)
     (λ c. search rules) (λ c. search rules) (λ c. search rules) (λ c. search rules) (λ c κs. search rules)
-    (λ c. search rules) (λ c κs. search rules) (λ c κs. search rules) (λ c. search rules) shared-slice-read-refused
-    cast-refused (λ c κs. search rules) (λ c. search rules) hear-front-requires of-front-requires returns-2 returns-3
-    returns-4)
+    (λ c. search rules) (λ c κs. search rules) (λ c κs. search rules) (λ c. search rules) shared_slice_read_refused
+    cast_refused (λ c κs. search rules) (λ c. search rules) hear_front_requires of_front_requires returns_2 returns_3
+    returns_4)

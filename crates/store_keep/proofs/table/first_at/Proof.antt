@@ -6,12 +6,12 @@ use mir.Val.{bool_byte}
 use borrow.Author.Rules.{rules}
 use lib.Dec.{eqb}
 use Rattle.rules_store.specs.Store.{count}
-use Rattle.rules_store.proofs.Firsts.{First, first-is, least-three, enough, first-place}
+use Rattle.rules_store.proofs.Firsts.{First, first_is, least_three, enough, first_place}
 use Rattle.store_keep.proofs.table.first_at.Statement.{statement}
 use Rattle.store_keep.proofs.table.first_at.Tie as tie
 
 least : (c : tie.Start) → 3 ≤ count c.args.store.now
-least c = least-three c.args.store.now _ c.requires.1 c.requires.2
+least c = least_three c.args.store.now _ c.requires.1 c.requires.2
 
 first : (c : tie.After-struct-known)
     → (let start = c.before.before.before in
@@ -19,20 +19,20 @@ first : (c : tie.After-struct-known)
     (bool_byte (eqb c.before.entry.result.tag 0)))
 first c =
     let start = c.before.before.before in
-    first-is _ _ (omega (arith, least start)) start.requires.1 _ c.before.entry.ensures.0
+    first_is _ _ (omega (arith, least start)) start.requires.1 _ c.before.entry.ensures.0
 
-entry-requires : tie.Need-entry-requires
-entry-requires c κs = omega (arith, c.before.requires.0, least c.before)
+entry_requires : tie.Need-entry-requires
+entry_requires c κs = omega (arith, c.before.requires.0, least c.before)
 
-entry-requires-2 : tie.Need-entry-requires-2
-entry-requires-2 c κs =
+entry_requires_2 : tie.Need-entry-requires-2
+entry_requires_2 c κs =
     let start = c.before.before.before in
     omega (arith, start.requires.0, enough _ _ _ (first c) start.requires.2)
 
 returns : tie.Need-returns
 returns c =
     let start = c.before.before.before.before in
-    first-place _ _ _ (first c.before) start.requires.2 _ c.entry2.ensures.0
+    first_place _ _ _ (first c.before) start.requires.2 _ c.entry2.ensures.0
 
-pub first-at-spec : {M : Type 1} → statement M
-first-at-spec = tie.close (tie.spec entry-requires (λ c. search rules) entry-requires-2 returns)
+pub first_at_spec : {M : Type 1} → statement M
+first_at_spec = tie.close (tie.spec entry_requires (λ c. search rules) entry_requires_2 returns)
