@@ -122,8 +122,9 @@ class Tree:
                 out.append(word)
             if not word.isspace():
                 before = (before + [word])[-3:]
-            elif kind == 'other' and before[-1:] != ['.']:
-                pass
+            elif before[-1:] == ['.']:
+                # a dot with a blank behind it ends the variables of a λ
+                before = before[:-1] + ['λ']
         together = [(new, sorted(old)) for new, old in met.items() if len(old) > 1]
         together += [(new, sorted(old) + ['(as it is)']) for new, old in met.items() if new in stay]
         return ''.join(out), together

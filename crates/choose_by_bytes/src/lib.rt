@@ -162,7 +162,7 @@ fn crossed(s: [i16; 8], t: [i16; 8]) -> [i16; 4]
 // The scores of the first eight allowed words of 5.5 Mbit/s, in the order of their numbers.
 fn halves(i: [i16; 8], q: [i16; 8]) -> [i16; 8]
     requires { RowWithin 128 i × RowWithin 128 q }
-    ensures answer { result ≡ tabulate (λ k. scoreAt Rate.Five (rows i q) (number5 k)) 8 }
+    ensures answer { result ≡ tabulate (λ k. score_at Rate.Five (rows i q) (number5 k)) 8 }
 {
     let m = crossed(i, q);
     let n = crossed(q, i);

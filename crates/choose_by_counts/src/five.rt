@@ -33,7 +33,7 @@ fn crossed(s: [i32; 8], t: [i32; 8]) -> [i32; 4]
 // The scores of the first eight allowed words, in the order of their numbers.
 fn halves(i: [i32; 8], q: [i32; 8]) -> [i32; 8]
     requires { RowWithin 8192 i × RowWithin 8192 q }
-    ensures answer { result ≡ tabulate (λ k. scoreAt Rate.Five (rows i q) (number5 k)) 8 }
+    ensures answer { result ≡ tabulate (λ k. score_at Rate.Five (rows i q) (number5 k)) 8 }
 {
     let m = crossed(i, q);
     let n = crossed(q, i);

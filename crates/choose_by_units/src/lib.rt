@@ -157,7 +157,7 @@ fn crossed(s: [i8; 8], t: [i8; 8]) -> [i8; 4]
 // The scores of the first eight allowed words of 5.5 Mbit/s, in the order of their numbers.
 fn halves(i: [i8; 8], q: [i8; 8]) -> [i8; 8]
     requires { RowWithin 1 i × RowWithin 1 q }
-    ensures answer { result ≡ tabulate (λ k. scoreAt Rate.Five (rows i q) (number5 k)) 8 }
+    ensures answer { result ≡ tabulate (λ k. score_at Rate.Five (rows i q) (number5 k)) 8 }
 {
     let m = crossed(i, q);
     let n = crossed(q, i);

@@ -22,8 +22,8 @@ module _ (bytes before after : List ℤ) (at l count s : ℕ) (turned : Turned b
       let i = first_axis 22 11 bytes before after from count (lit≤ tt) long stood_barker begins turned s few there in
       let q = second_axis 22 11 bytes before after from count (lit≤ tt) long stood_barker begins turned s few there in
       let e : from + 22 * s ≡ 2 * (at + 11 * (l + s)) = omega arith in
-      (λ k. asChip (by_signs (i k)) (by_signs (q k)))
-      ∙ ap (λ (f : ℕ). asChip (by_signs (every_second bytes f 11)) (by_signs (every_second bytes (f + 1) 11))) e
+      (λ k. as_chip (by_signs (i k)) (by_signs (q k)))
+      ∙ ap (λ (f : ℕ). as_chip (by_signs (every_second bytes f 11)) (by_signs (every_second bytes (f + 1) 11))) e
 
   pub five_group : length before ≡ 256 → Begins bytes (2 * (at + 8 * l)) (16 * count) before
       → five_at after s ≡ five_bytes bytes (at + 8 * (l + s))

@@ -49,7 +49,7 @@ module _ (bytes : List ℤ) (at n : ℕ) where
 
   -- they are those of the recording's chip there
   place : (j : ℕ) → times (unit j) ≡ counts_at bytes (at + j)
-  place j = λ i. byteCounts (get_or bytes (first i) (pos 0)) (get_or bytes (second i) (pos 0))
+  place j = λ i. byte_counts (get_or bytes (first i) (pos 0)) (get_or bytes (second i) (pos 0))
     where
       first : 2 * at + 2 * j ≡ 2 * (at + j)
       first = sym (mul-add 2 at j)
@@ -59,7 +59,7 @@ module _ (bytes : List ℤ) (at n : ℕ) where
 
   counts_are : at + n ≤ length bytes / 2 → map times units ≡ map taken_counts (take n (drop at (byte_recording bytes)))
   counts_are h =
-      mapped times ∙ tabulate_ext (λ j. times (unit j)) (λ j. countsAt bytes (at + j)) n (λ j l. place j)
+      mapped times ∙ tabulate_ext (λ j. times (unit j)) (λ j. counts_at bytes (at + j)) n (λ j l. place j)
       ∙ sym (part_bytes bytes at n h)
 
   -- counts 16 times as large decide the same word, with 16 times the lead
@@ -78,7 +78,7 @@ pub barker_units : (bytes : List ℤ) (at : ℕ) → at + 11 ≤ length bytes / 
     → Sixteenth One (barker_bytes bytes at) (map taken_counts (take 11 (drop at (byte_recording bytes))))
 barker_units bytes at h =
     subst (λ (cs : List Counts). Sixteenth One cs (map taken_counts (take 11 (drop at (byte_recording bytes)))))
-    (λ i. asChip (by_signs (mapped bytes at 11 (along I) i)) (by_signs (mapped bytes at 11 (along Q) i)))
+    (λ i. as_chip (by_signs (mapped bytes at 11 (along I) i)) (by_signs (mapped bytes at 11 (along Q) i)))
     (alike.0 ∙ all.0, ap (λ (t : ℕ). 16 * t) alike.1 ∙ all.1)
   where
     sums : List Counts

@@ -54,7 +54,7 @@ fn sixteen_barkers(row: &[i8], l: usize, numbers: &mut [u8; 64], raw: &mut [u16;
         × (length raw.old ≡ 64) }
     ensures numbers { Put (λ s. decided Rate.One (barker_at row.now s)) l numbers.old
         numbers.new 16 }
-    ensures raw { Put (λ s. leadOf Rate.One (barker_at row.now s)) l raw.old
+    ensures raw { Put (λ s. lead_of Rate.One (barker_at row.now s)) l raw.old
         raw.new 16 }
 {
     for s in 0..16 {
@@ -70,7 +70,7 @@ fn sixteen_fives(row: &[i8], l: usize, numbers: &mut [u8; 64], raw: &mut [u16; 6
         × (length raw.old ≡ 64) }
     ensures numbers { Put (λ s. decided Rate.Five (five_at row.now s)) l numbers.old
         numbers.new 16 }
-    ensures raw { Put (λ s. leadOf Rate.Five (five_at row.now s)) l raw.old
+    ensures raw { Put (λ s. lead_of Rate.Five (five_at row.now s)) l raw.old
         raw.new 16 }
 {
     for s in 0..16 {

@@ -110,11 +110,11 @@ float_merge t u h =
     record {
       x = bigger t.x u.x;
       y = bigger (lesser t.x u.x) (bigger t.y u.y);
-      is_x = h.0 ∙ (λ i. largerFloat (t.is_x i) (u.is_x i)) ∙ larger_is t.x u.x t.few u.few;
+      is_x = h.0 ∙ (λ i. larger_float (t.is_x i) (u.is_x i)) ∙ larger_is t.x u.x t.few u.few;
       is_y =
           h.1
-          ∙ (λ i. largerFloat (smaller_float (t.is_x i) (u.is_x i)) (larger_float (t.is_y i) (u.is_y i)))
-          ∙ (λ i. largerFloat (smaller_is t.x u.x t.few u.few i) (larger_is t.y u.y yt yu i))
+          ∙ (λ i. larger_float (smaller_float (t.is_x i) (u.is_x i)) (larger_float (t.is_y i) (u.is_y i)))
+          ∙ (λ i. larger_float (smaller_is t.x u.x t.few u.few i) (larger_is t.y u.y yt yu i))
           ∙ larger_is (lesser t.x u.x) (bigger t.y u.y) low.1 (either 8388608 t.y u.y yt yu).0;
       few = low.0;
       two = two_merge t.two u.two;

@@ -94,8 +94,8 @@ module _ {x y : List ℤ} {l : ℕ} {before : List ℤ} {n : ℕ} {row : List �
   column_more = record {
     long = two_long row (32 * n + l) (32 * n + l + 16) v w ∙ c.long;
     first = λ k h. first_next k h (dec_lt k n);
-    second = λ k h. second-next k h (dec_lt k n);
-    kept = λ j h. two-other row (32 * n + l) (32 * n + l + 16) v w j (λ e. h (omega arith)) (λ e. h (omega arith))
+    second = λ k h. second_next k h (dec_lt k n);
+    kept = λ j h. two_other row (32 * n + l) (32 * n + l + 16) v w j (λ e. h (omega arith)) (λ e. h (omega arith))
         ∙ c.kept j h;
   }
 
@@ -118,20 +118,20 @@ pub columns_more : {x y : ℕ → List ℤ} {row after u v : List ℤ} {n : ℕ}
 columns_more {x} {y} {row} {after} {u} {v} {n} b few c lu lv eu ev = record {
   long = c.long ∙ b.long;
   first = λ s h. by_first s h (dec_lt s n);
-  second = λ s h. by-second s h (dec_lt s n);
+  second = λ s h. by_second s h (dec_lt s n);
 }
   where
     by_first : (s : ℕ) → s < n + 1 → Dec (s < n) → every_row after s 8 ≡ x s
     by_first s h (yes p) = same_column c s (λ e. omega arith) ∙ b.first s p
     by_first s h (no p) =
         let e : n ≡ s = omega arith in
-        subst (λ (m : ℕ). everyRow after m 8 ≡ x m) e (set_column after u n lu c.first ∙ eu)
+        subst (λ (m : ℕ). every_row after m 8 ≡ x m) e (set_column after u n lu c.first ∙ eu)
 
     by_second : (s : ℕ) → s < n + 1 → Dec (s < n) → every_row after (16 + s) 8 ≡ y s
     by_second s h (yes p) = same_column c (16 + s) (λ e. omega arith) ∙ b.second s p
     by_second s h (no p) =
         let e : n ≡ s = omega arith in
-        subst (λ (m : ℕ). everyRow after (16 + m) 8 ≡ y m) e (set_column after v (16 + n) lv c.second ∙ ev)
+        subst (λ (m : ℕ). every_row after (16 + m) 8 ≡ y m) e (set_column after v (16 + n) lv c.second ∙ ev)
 
 -- ---- small numbers
 pub zeros_within : (b n : ℕ) → RowWithin b (replicate n (pos 0))

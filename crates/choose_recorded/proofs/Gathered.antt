@@ -43,7 +43,7 @@ gathered_soft n xs ys at h =
 -- ---- of their recorder
 pub all_hard : (n : ℕ) (xs : List ℕ) (at : ℕ) → AllHard n (hard_part xs at n)
 all_hard n xs at = record {
-  at = λ k l. rw (get_or_tabulate (λ j. hardChip (get_or xs (at + j) 0)) n k Lost l) (hard_one (get_or xs (at + k) 0));
+  at = λ k l. rw (get_or_tabulate (λ j. hard_chip (get_or xs (at + j) 0)) n k Lost l) (hard_one (get_or xs (at + k) 0));
 }
   where
     hard_one : (x : ℕ) → T (is_hard (hard_chip x))

@@ -27,7 +27,7 @@ module _ (n : ℕ) (r : Rate) (xs : List ℕ) (at : ℕ) (h : at + n ≤ length 
   symbol = map taken_counts (take n (drop at (hard_recording xs)))
 
   long : length (hard_part xs at n) ≡ n
-  long = length_tabulate (λ j. hardChip (get_or xs (at + j) 0)) n
+  long = length_tabulate (λ j. hard_chip (get_or xs (at + j) 0)) n
 
   pub hard_decided : decided r units ≡ decided r symbol
   hard_decided =

@@ -15,7 +15,7 @@ use Rattle.choose_recorded.proofs.Search.{none_usable}
 
 module _ (rec : List Taken) (n : ℕ) (f : Place) (g : where_found f ≡ first_unusable 0 (take (n - 0) (drop 0 rec))) where
   searched : first_unusable 0 (take n rec) ≡ where_found f
-  searched = let e : n - 0 ≡ n = omega arith in sym (g ∙ ap (λ (m : ℕ). firstUnusable 0 (take m rec)) e)
+  searched = let e : n - 0 ≡ n = omega arith in sym (g ∙ ap (λ (m : ℕ). first_unusable 0 (take m rec)) e)
 
   pub bad : (v place : ℕ) → f ≡ At place → 0 ≡ or_else (first_unusable 0 (take n rec)) (λ at. 0) v
   bad v place h = rw (searched ∙ ap where_found h)

@@ -22,7 +22,7 @@ where_found (At place) = some place
 
 -- n chips of a row of octets from a place, and of two rows of f32
 abbrev pub hard_part : List ℕ → ℕ → ℕ → List Chip
-hard_part xs at n = tabulate (λ j. hardChip (get_or xs (at + j) 0)) n
+hard_part xs at n = tabulate (λ j. hard_chip (get_or xs (at + j) 0)) n
 
 abbrev pub soft_part : List Float → List Float → ℕ → ℕ → List Chip
 soft_part xs ys at n = tabulate (λ j. chip.Soft (record { i = get_or xs (at + j) nan; q = get_or ys (at + j) nan })) n

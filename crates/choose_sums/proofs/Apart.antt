@@ -58,7 +58,7 @@ module _ (f : Chip → Counts) (none : f Lost ≡ nothing) where
   by_sums chips {w} {t} h =
       sums_chosen (map f chips)
       (subst (λ (cs : List Counts). ChosenAs One cs w t)
-      (λ i. asChip (by_signs (map_along I chips i)) (by_signs (map_along Q chips i))) h)
+      (λ i. as_chip (by_signs (map_along I chips i)) (by_signs (map_along Q chips i))) h)
 
   -- eight chips by their two rows
   by_rows : (chips : List Chip) → length chips ≡ 8 → rows (row_on I chips) (row_on Q chips) ≡ map f chips
@@ -98,7 +98,7 @@ unit_within (suc (suc (suc (suc p)))) =
     record { real = record { high = lit≤ tt; low = lit≤ tt }; imag = record { high = lit≤ tt; low = lit≤ tt } }
 
 pub units_small : (x : Axis) (chips : List Chip) → RowWithin 1 (row_on unit_of refl x chips)
-units_small = row_small unit_of refl 1 (λ c. unit-within (octet_of c))
+units_small = row_small unit_of refl 1 (λ c. unit_within (octet_of c))
 
 full_times : (p : ℕ) → Times 1024 (full_chip 1024 p) (full_chip 1 p)
 full_times zero = record { real = refl; imag = refl }
@@ -109,21 +109,21 @@ full_times (suc (suc (suc (suc p)))) = record { real = refl; imag = refl }
 
 -- hard chips decide by full chips what they decide by counts, and their lead is 1024 times as large
 module _ (n : ℕ) (r : Rate) (chips : List Chip) (e : length chips ≡ n) (h : AllHard n chips) where
-  counts_are : map (λ c. fullChip 1024 (octet_of c)) chips ≡ map counts_of chips
+  counts_are : map (λ c. full_chip 1024 (octet_of c)) chips ≡ map counts_of chips
   counts_are =
-      map_tabulate (λ c. fullChip 1024 (octet_of c)) chips n Lost e
-      ∙ tabulate_ext (λ k. fullChip 1024 (octet_of (get_or chips k Lost))) (λ k. countsOf (get_or chips k Lost)) n
-      (λ k l. hard-counts (get_or chips k Lost) (h.at k l))
+      map_tabulate (λ c. full_chip 1024 (octet_of c)) chips n Lost e
+      ∙ tabulate_ext (λ k. full_chip 1024 (octet_of (get_or chips k Lost))) (λ k. counts_of (get_or chips k Lost)) n
+      (λ k l. hard_counts (get_or chips k Lost) (h.at k l))
       ∙ sym (map_tabulate counts_of chips n Lost e)
 
   pub units_decided : decided r (map unit_of chips) ≡ decided r (map counts_of chips)
   units_decided =
-      sym (decided_times 1024 (lit≤ tt) (λ c. fullChip 1024 (octet_of c)) unit_of (λ c. full-times (octet_of c)) r chips)
+      sym (decided_times 1024 (lit≤ tt) (λ c. full_chip 1024 (octet_of c)) unit_of (λ c. full_times (octet_of c)) r chips)
       ∙ ap (decided r) counts_are
 
   pub units_lead : 1024 * lead_of r (map unit_of chips) ≡ lead_of r (map counts_of chips)
   units_lead =
-      sym (lead_times 1024 (lit≤ tt) (λ c. fullChip 1024 (octet_of c)) unit_of (λ c. full-times (octet_of c)) r chips)
+      sym (lead_times 1024 (lit≤ tt) (λ c. full_chip 1024 (octet_of c)) unit_of (λ c. full_times (octet_of c)) r chips)
       ∙ ap (lead_of r) counts_are
 
 pub units_barker : (chips : List Chip) {w t : ℕ}

@@ -56,7 +56,7 @@ module _ (a b c d e f g h : ℤ) where
   shape1 : ((f +ℤ h) +ℤ (e -ℤ g)) -ℤ ((b -ℤ d) +ℤ (a +ℤ c))
       ≡ neg_ℤ a +ℤ (neg_ℤ b +ℤ (neg_ℤ c +ℤ (d +ℤ (e +ℤ (f +ℤ (neg_ℤ g +ℤ (h +ℤ pos 0)))))))
   shape1 =
-      ap (λ (z : ℤ). ((f +ℤ h) +ℤ (e -ℤ g)) +ℤ z) (neg_ℤ-+ℤ (b -ℤ d) (a +ℤ c) ∙ (λ i. neg-diff b d i +ℤ neg_ℤ-+ℤ a c i))
+      ap (λ (z : ℤ). ((f +ℤ h) +ℤ (e -ℤ g)) +ℤ z) (neg_ℤ-+ℤ (b -ℤ d) (a +ℤ c) ∙ (λ i. neg_diff b d i +ℤ neg_ℤ-+ℤ a c i))
       ∙ sum8 (neg_ℤ a) (neg_ℤ b) (neg_ℤ c) d e f (neg_ℤ g) h
 
   shape2 : ((f +ℤ h) -ℤ (e -ℤ g)) +ℤ ((b -ℤ d) -ℤ (a +ℤ c))
@@ -68,7 +68,7 @@ module _ (a b c d e f g h : ℤ) where
       ≡ a +ℤ (neg_ℤ b +ℤ (c +ℤ (d +ℤ (neg_ℤ e +ℤ (f +ℤ (g +ℤ (h +ℤ pos 0)))))))
   shape3 =
       (λ i. ((f +ℤ h) +ℤ neg_diff e g i)
-      +ℤ (neg_ℤ-+ℤ (b -ℤ d) (neg_ℤ (a +ℤ c)) ∙ (λ j. neg-diff b d j +ℤ neg_ℤ-neg_ℤ (a +ℤ c) j)) i)
+      +ℤ (neg_ℤ-+ℤ (b -ℤ d) (neg_ℤ (a +ℤ c)) ∙ (λ j. neg_diff b d j +ℤ neg_ℤ-neg_ℤ (a +ℤ c) j)) i)
       ∙ sum8 a (neg_ℤ b) c d (neg_ℤ e) f g h
 
 -- ---- what the code makes of two rows
@@ -180,6 +180,6 @@ module _ (w : Width) (s t : List ℤ) where
 pub eight_scores : (m n i q : List ℤ) → m ≡ crossed i q → n ≡ crossed q i
     → get_or m 0 (pos 0) ∷ get_or m 1 (pos 0) ∷ get_or m 2 (pos 0) ∷ get_or m 3 (pos 0)
     ∷ get_or n 2 (pos 0) ∷ get_or n 3 (pos 0) ∷ get_or n 0 (pos 0) ∷ get_or n 1 (pos 0) ∷ []
-    ≡ tabulate (λ k. scoreAt Five (rows i q) (number5 k)) 8
+    ≡ tabulate (λ k. score_at Five (rows i q) (number5 k)) 8
 unfolding tabulate cck_word score
 eight_scores m n i q e f = rw (e, f) refl

@@ -22,7 +22,7 @@ use Rattle.rules_choosing.proofs.HalfTurns.{five_half, cck_within}
 use Rattle.rules_choosing.proofs.KeyLaws.{better, ranked}
 
 -- eight scores make the choice
-module _ (cs : List Counts) (h : List ℤ) (e : h ≡ tabulate (λ k. scoreAt Five cs (number5 k)) 8) where
+module _ (cs : List Counts) (h : List ℤ) (e : h ≡ tabulate (λ k. score_at Five cs (number5 k)) 8) where
   abbrev f : ℕ → ℤ
   f k = score_at Five cs (number5 k)
 
@@ -47,12 +47,12 @@ module _ (cs : List Counts) (h : List ℤ) (e : h ≡ tabulate (λ k. scoreAt Fi
   eight_held t = rw (t.is_x, t.is_y) (eight_by t.two)
 
 -- eight scores of small counts are small
-pub eight_within : (b : ℕ) (i q h : List ℤ) → h ≡ tabulate (λ k. scoreAt Five (rows i q) (number5 k)) 8 → RowWithin b i
+pub eight_within : (b : ℕ) (i q h : List ℤ) → h ≡ tabulate (λ k. score_at Five (rows i q) (number5 k)) 8 → RowWithin b i
     → RowWithin b q → RowWithin (b * 8) h
 eight_within b i q h e wi wq = record {
   at = λ k. subst (λ (l : List ℤ). Within (b * 8) (get_or l k (pos 0))) (sym e)
-      (tabulate_all (Within (b * 8)) (λ j. scoreAt Five (rows i q) (number5 j)) 8 (pos 0) (within_zero _)
-      (λ j. cck-within b (number5 j) small_rows) k);
+      (tabulate_all (Within (b * 8)) (λ j. score_at Five (rows i q) (number5 j)) 8 (pos 0) (within_zero _)
+      (λ j. cck_within b (number5 j) small_rows) k);
 }
   where
     small_rows : AllBounded b (rows i q)

@@ -313,7 +313,7 @@ module _ (row z a : List ℤ) (l : ℕ) (few : l < 16) (h : Entered row z) (p : 
 
         here_under : best.next / 16 ≤ up (f second)
         here_under = best.least (up (f second))
-            (λ m b ne. key-under m g b here (λ e. ne (words m best.largest.p g e)))
+            (λ m b ne. key_under m g b here (λ e. ne (words m best.largest.p g e)))
           where
             words : (m n k : ℕ) → 16 * m + k ≡ 16 * n + k → m ≡ n
             words m n k e = omega arith
@@ -331,7 +331,7 @@ module _ (row z a : List ℤ) (l : ℕ) (few : l < 16) (h : Entered row z) (p : 
             by (no q) (yes r) = far j b (λ e. omega arith)
             by (no q) (no r) =
                 let e : g ≡ j = omega arith in
-                subst (λ (i : ℕ). groupNext a l i ≤ℤ pos (16 * up (f second) + 4)) e
+                subst (λ (i : ℕ). group_next a l i ≤ℤ pos (16 * up (f second) + 4)) e
                 (below best.next_lifted here_under)
 
     -- the score of the word decided

@@ -86,7 +86,7 @@ flown_more s x y o₀ z l o vs f hl hz e = record {
     by r k hr hk (yes p) =
         (λ i. pair
         (other (z + 32 * r + k) (λ n hn q. apart z r n k l p hl q) i)
-        (other (z + 32 * r + k + 16) (λ n hn q. apart-q z r n k l p hl q) i))
+        (other (z + 32 * r + k + 16) (λ n hn q. apart_q z r n k l p hl q) i))
         ∙ f.each r k hr p
     by r k hr hk (no p) =
         let q : l ≡ k = omega arith in

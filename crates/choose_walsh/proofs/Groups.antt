@@ -113,10 +113,10 @@ little_by : (P : Type 0) (y x z w : ℤ) → (nat_abs (y +ℤ x) ≤ nat_abs (y 
     → (nat_abs (y +ℤ x) ≤ nat_abs (w -ℤ x) → P) → (nat_abs (y -ℤ x) ≤ nat_abs (w +ℤ x) → P)
     → (nat_abs (y -ℤ x) ≤ nat_abs (w -ℤ x) → P) → P
 little_by P y x z w f0 f1 f2 f3 f4 f5 f6 f7 =
-    low_of y x P (λ h. high-of y z P (λ g. f0 (omega arith)) (λ g. f1 (omega arith)))
-    (λ h. high-of y z P (λ g. f2 (omega arith)) (λ g. f3 (omega arith)))
-    (λ h. high-of-x w x P (λ g. f4 (omega arith)) (λ g. f5 (omega arith)))
-    (λ h. high-of-x w x P (λ g. f6 (omega arith)) (λ g. f7 (omega arith)))
+    low_of y x P (λ h. high_of y z P (λ g. f0 (omega arith)) (λ g. f1 (omega arith)))
+    (λ h. high_of y z P (λ g. f2 (omega arith)) (λ g. f3 (omega arith)))
+    (λ h. high_of_x w x P (λ g. f4 (omega arith)) (λ g. f5 (omega arith)))
+    (λ h. high_of_x w x P (λ g. f6 (omega arith)) (λ g. f7 (omega arith)))
 
 -- of three words of the same two, two are the same
 fours : (a c : ℕ) → 2 * (a / 4) + a % 2 ≡ 2 * (c / 4) + c % 2 → a / 4 ≡ c / 4

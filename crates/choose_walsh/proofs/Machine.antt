@@ -156,7 +156,7 @@ module _ {w : Width} {b : ℕ} (few : b + (2 + b + 1) < 2 ^ hbits w) {y a c : �
       → Reads w (b + (2 + b + 1)) (of_z w r) (four_top y a c)
   unfolding four_top
   reads_four e =
-      made (e ∙ (λ i. fourTop (hy.is i) (ha.is i) (hc.is i)))
+      made (e ∙ (λ i. four_top (hy.is i) (ha.is i) (hc.is i)))
       (within_add size_within
       (within_one (lt_z (credit (sided y a)) (credit (sided y c) -ℤ pos 1)) other_within first_within)) few
 
@@ -164,7 +164,7 @@ module _ {w : Width} {b : ℕ} (few : b + (2 + b + 1) < 2 ^ hbits w) {y a c : �
       → Reads w (b + (2 + b + 1)) (of_z w r) (four_next y a c)
   unfolding four_next
   reads_four_next e =
-      made (e ∙ (λ i. fourNext (hy.is i) (ha.is i) (hc.is i)))
+      made (e ∙ (λ i. four_next (hy.is i) (ha.is i) (hc.is i)))
       (within_add size_within
       (within_one (lt_z (credit (sided y a)) (credit (sided y c) -ℤ pos 1)) first_within other_within)) few
 
@@ -185,7 +185,7 @@ natural (pos n) k = tt
 natural (negsuc n) k = absurd k.le
 
 pub size_of_next : (t : ℤ) → negsuc 1 ≤ℤ t → (nat_abs (larger t (pos 0)) + 11) / 16 ≡ size_of t
-size_of_next t low = by_sign (λ z. (nat_abs z + 11) / 16 ≡ size_of t) t (λ h. size-of-first t (natural t h)) (few t low)
+size_of_next t low = by_sign (λ z. (nat_abs z + 11) / 16 ≡ size_of t) t (λ h. size_of_first t (natural t h)) (few t low)
   where
     few : (t : ℤ) → negsuc 1 ≤ℤ t → t <ℤ pos 0 → 11 / 16 ≡ size_of t
     few (pos n) l h = absurd (omega (arith, of_lt (pos n) (pos 0) h, up_pos n, dn_pos n, up_pos 0, dn_pos 0))

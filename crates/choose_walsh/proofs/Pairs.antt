@@ -38,7 +38,7 @@ joined m g (negsuc s) h k = omega arith
 
 -- the word of number 16 m + g
 word_is : (m g : ℕ) → m < 8 → g < 16 → cck_word (m / 4) (m % 4) (g / 4) (g % 4) ≡ cck_of (16 * m + g)
-word_is m g h k = λ i. cckWord (e1 i) (e2 i) (e3 i) (e4 i)
+word_is m g h k = λ i. cck_word (e1 i) (e2 i) (e3 i) (e4 i)
   where
     e1 : m / 4 ≡ (16 * m + g) / 64 % 4
     e1 = let d : (16 * m + g) / 64 ≡ m / 4 = omega arith in rw d (omega arith)
@@ -115,7 +115,7 @@ module _ (row z a : List ℤ) (l : ℕ) (few : l < 16) (h : Entered row z) (p : 
   key_is m g b k =
       ap (λ (s : ℤ). nat_abs s + (11 - m)) ((raised g k).is m b)
       ∙ key_abs 4 m (score (cck_word (m / 4) (m % 4) (g / 4) (g % 4)) symbol) b
-      ∙ ap (λ (w : List ℕ). keyOf 8 m (score w symbol)) (word_is m g b k)
+      ∙ ap (λ (w : List ℕ). key_of 8 m (score w symbol)) (word_is m g b k)
 
   abbrev pub key : ℕ → ℕ
   key j = key_of 128 j (f j)

@@ -95,7 +95,7 @@ scaled_more : (row : List ℤ) (x : ℕ) (times more z₀ : List ℤ) (l : ℕ) 
 scaled_more row x times more z₀ l z vs s few room e = record {
   long = length_puts to vs z 0 ∙ s.long;
   each = λ k j hk hj. by k j hk hj (dec_lt j l);
-  kept = λ j h. puts-other to vs z 0 j (λ i hi q. omega (arith, length_four)) ∙ s.kept j h;
+  kept = λ j h. puts_other to vs z 0 j (λ i hi q. omega (arith, length_four)) ∙ s.kept j h;
 }
   where
     to : ℕ → ℕ
@@ -150,7 +150,7 @@ pub entered : {row z₀ z₁ z₂ : List ℤ} → length z₀ ≡ 256
 entered {row} {z₀} {z₁} {z₂} e s₁ s₂ = record {
   long = s₂.long ∙ s₁.long ∙ e;
   each = λ k l h g.
-      eight-cases (λ k. get_or z₂ (32 * k + l) (pos 0) ≡ entering k (get_or row (32 * k + l) (pos 0)))
+      eight_cases (λ k. get_or z₂ (32 * k + l) (pos 0) ≡ entering k (get_or row (32 * k + l) (pos 0)))
       (first 0 l (lit< tt) g) (first 1 l (lit< tt) g) (first 2 l (lit< tt) g) (first 3 l (lit< tt) g)
       (second 0 l (lit< tt) g) (second 1 l (lit< tt) g) (second 2 l (lit< tt) g) (second 3 l (lit< tt) g) k h;
 }
@@ -206,7 +206,7 @@ within_cons {b} {v} {t} h r = record { at = by }
     by (suc k) = r.at k
 
 within_none : {b : ℕ} → RowWithin b []
-within_none = record { at = λ k. within-zero _ }
+within_none = record { at = λ k. within_zero _ }
 
 factors_within : RowWithin 16 factors
 factors_within =

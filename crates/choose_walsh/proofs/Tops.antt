@@ -191,17 +191,17 @@ module _ (k : ℕ → ℕ) where
   pub over_next : (i o : ℕ) → i < 4 → o < 4 → (o ≡ i → ⊥) → ((j : ℕ) → j < 4 → duel j ≤ duel i) → duel o ≤ next_key
   over_next i o hi ho = phase (λ i. (o ≡ i → ⊥) → ((j : ℕ) → j < 4 → duel j ≤ duel i) → duel o ≤ next_key)
       (phase (λ o. (o ≡ 0 → ⊥) → ((j : ℕ) → j < 4 → duel j ≤ duel 0) → duel o ≤ next_key)
-      (λ d h. absurd (d refl)) (λ d h. inner-low 1 (h 1 (lit< tt)) (omega arith))
+      (λ d h. absurd (d refl)) (λ d h. inner_low 1 (h 1 (lit< tt)) (omega arith))
       (λ d h. outer 2 (by_low 0 (h 2 (lit< tt)) ll) rl) (λ d h. outer 3 (by_low 0 (h 3 (lit< tt)) ll) rr) o ho)
       (phase (λ o. (o ≡ 1 → ⊥) → ((j : ℕ) → j < 4 → duel j ≤ duel 1) → duel o ≤ next_key)
-      (λ d h. inner-low 0 (omega arith) (h 0 (lit< tt))) (λ d h. absurd (d refl))
+      (λ d h. inner_low 0 (omega arith) (h 0 (lit< tt))) (λ d h. absurd (d refl))
       (λ d h. outer 2 (by_low 1 (h 2 (lit< tt)) lr) rl) (λ d h. outer 3 (by_low 1 (h 3 (lit< tt)) lr) rr) o ho)
       (phase (λ o. (o ≡ 2 → ⊥) → ((j : ℕ) → j < 4 → duel j ≤ duel 2) → duel o ≤ next_key)
       (λ d h. outer 0 ll (by_high 2 (h 0 (lit< tt)) rl)) (λ d h. outer 1 lr (by_high 2 (h 1 (lit< tt)) rl))
-      (λ d h. absurd (d refl)) (λ d h. inner-high 3 (h 3 (lit< tt)) (omega arith)) o ho)
+      (λ d h. absurd (d refl)) (λ d h. inner_high 3 (h 3 (lit< tt)) (omega arith)) o ho)
       (phase (λ o. (o ≡ 3 → ⊥) → ((j : ℕ) → j < 4 → duel j ≤ duel 3) → duel o ≤ next_key)
       (λ d h. outer 0 ll (by_high 3 (h 0 (lit< tt)) rr)) (λ d h. outer 1 lr (by_high 3 (h 1 (lit< tt)) rr))
-      (λ d h. inner-high 2 (omega arith) (h 2 (lit< tt))) (λ d h. absurd (d refl)) o ho)
+      (λ d h. inner_high 2 (omega arith) (h 2 (lit< tt))) (λ d h. absurd (d refl)) o ho)
       i hi
     where
       ll : duel 0 ≤ low

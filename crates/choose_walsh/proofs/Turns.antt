@@ -138,7 +138,7 @@ module _ (c0 c1 c2 c3 c4 c5 c6 c7 : Counts) (p1 p2 p3 p4 : ℕ) (h1 : p1 < 4) (h
         let c : Counts = fly (back 2 c6) c4 p3 in
         let d : Counts = fly c2 c0 p3 in
         term_fly p1 p2 (fly a b p4) (fly c d p4) ((p1 + p2) % 4) h1 h2 refl
-        ∙ (λ i. term-fly p1 p4 a b ((p1 + p4) % 4) h1 h4 refl i
+        ∙ (λ i. term_fly p1 p4 a b ((p1 + p4) % 4) h1 h4 refl i
         +ℤ term_fly ((p1 + p2) % 4) p4 c d ((p1 + p2 + p4) % 4) (turn _) h4 (turn_more (p1 + p2) p4) i)
         ∙ (λ i. (t57 i +ℤ t13 i) +ℤ (t46 i +ℤ t02 i))
         ∙ sum8 (term ((p1 + p2 + p3 + p4) % 4) c0) (term ((p1 + p3 + p4) % 4) c1) (term ((p1 + p2 + p4) % 4) c2)

@@ -89,10 +89,10 @@ fn put(
 )
     requires { Keyed first.now second.now at.now × (l + 16 ≤ 64)
         × (length numbers.old ≡ 64) × (length leads.old ≡ 64) }
-    ensures numbers { Put (λ s. wordOfKey (get_or first.now s (pos 0)) (get_or at.now s 0)) l
+    ensures numbers { Put (λ s. word_of_key (get_or first.now s (pos 0)) (get_or at.now s 0)) l
         numbers.old numbers.new 16 }
     ensures leads { Put
-        (λ s. leadOfKeys (get_or first.now s (pos 0)) (get_or second.now s (pos 0))) l
+        (λ s. lead_of_keys (get_or first.now s (pos 0)) (get_or second.now s (pos 0))) l
         leads.old leads.new 16 }
 {
     for s in 0..16 {

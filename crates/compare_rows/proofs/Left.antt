@@ -141,7 +141,7 @@ module _ (xs ys : List ℕ) where
     put_room_so_far h =
         let n : j + (k - j) ≡ k = omega arith in
         let f =
-        subst (λ (x : ℕ). leftOver xs ys x ≤ left_over xs ys j) n (shrinks (k - j) j (omega arith) (omega arith)) in
+        subst (λ (x : ℕ). left_over xs ys x ≤ left_over xs ys j) n (shrinks (k - j) j (omega arith) (omega arith)) in
         let s = u.room in
         let t = u.long in
         omega (arith, r, f, s, t)
@@ -150,7 +150,7 @@ module _ (xs ys : List ℕ) where
     next_room h =
         let n : j + 1 + (k - (j + 1)) ≡ k = omega arith in
         let f =
-        subst (λ (x : ℕ). leftOver xs ys x ≤ left_over xs ys (j + 1)) n
+        subst (λ (x : ℕ). left_over xs ys x ≤ left_over xs ys (j + 1)) n
         (shrinks (k - (j + 1)) (j + 1) (omega arith) (omega arith)) in
         let s = u.room in
         let t = u.long in

@@ -64,12 +64,12 @@ module _ (kind : Kind) (rec : List Taken) where
         let rest : ℕ = offsets - at - count in
         let s : offsets ≡ at + (count + rest) = omega arith in
         sym
-        (ap (λ (n : ℕ). firstStart kind 0 n rec) s
+        (ap (λ (n : ℕ). first_start kind 0 n rec) s
         ∙ start_past kind 0 at (count + rest) rec (λ j k. missed j k (omega arith))
-        ∙ ap (λ (n : ℕ). firstStart kind n (count + rest) (drop at rec)) (zero-add at)
+        ∙ ap (λ (n : ℕ). first_start kind n (count + rest) (drop at rec)) (zero-add at)
         ∙ start_joined kind at count rest (drop at rec)
         ∙ ap {B = Finding}
-        (λ (g : Finding). orElsewhere kind g (first_start kind (at + count) rest (drop count (drop at rec))))
+        (λ (g : Finding). or_elsewhere kind g (first_start kind (at + count) rest (drop count (drop at rec))))
         (sym found ∙ e))
 
     -- no start: the next offsets meet one of 8 to 15 too
@@ -105,8 +105,8 @@ module _ (kind : Kind) (rec : List Taken) where
 
 -- the halves that the next 256 offsets begin with
 pub carried : (rec : List Taken) (from at count : ℕ) (halves after : List ℕ) → 256 ≤ count
-    → Row (λ j. halfAt rec (from + at + j)) (count + 253) halves → Row (λ j. get_or halves (j + 256) 0) 256 after
-    → Row (λ j. halfAt rec (from + (at + 256) + j)) 253 after
+    → Row (λ j. half_at rec (from + at + j)) (count + 253) halves → Row (λ j. get_or halves (j + 256) 0) 256 after
+    → Row (λ j. half_at rec (from + (at + 256) + j)) 253 after
 carried rec from at count halves after h p a = record {
   long = a.long;
   each = λ j l.

@@ -102,7 +102,7 @@ module _ (rec : List Taken) (at m : ℕ) (few : m ≤ 256) where
   further : (f : ℕ → ℕ) (j k : ℕ) → f (at + (j + k)) ≡ f (at + j + k)
   further f j k = let e : at + (j + k) ≡ at + j + k = omega arith in ap f e
 
-  pub bits_row : (halves row : List ℕ) → Row (λ j. halfAt rec (at + j)) (m + 253) halves → Row (bit_of halves) 501 row
+  pub bits_row : (halves row : List ℕ) → Row (λ j. half_at rec (at + j)) (m + 253) halves → Row (bit_of halves) 501 row
       → Row (λ j. bit_at rec (at + j)) (m + 242) row
   unfolding bit_at
   bits_row halves row p r = record { long = r.long; each = λ j l. r.each j (omega arith) ∙ one j l }
@@ -114,7 +114,7 @@ module _ (rec : List Taken) (at m : ℕ) (few : m ≤ 256) where
           (λ i. bit_xor (here i) (next i)) ∙ xor_bits_lem _ _ (half_lt rec _) (half_lt rec _)
 
   pub plains_row : (bits row : List ℕ) → Row (λ j. bit_at rec (at + j)) (m + 242) bits → Row (plain_of bits) 424 row
-      → Row (λ j. plainAt rec (at + j)) (m + 165) row
+      → Row (λ j. plain_at rec (at + j)) (m + 165) row
   unfolding plain_at
   plains_row bits row b r = record { long = r.long; each = λ j l. r.each j (omega arith) ∙ one j l }
     where
@@ -138,21 +138,21 @@ module _ (rec : List Taken) (at m : ℕ) (few : m ≤ 256) where
           let next = x.each (j + apart) (omega arith) ∙ further f j apart in
           λ i. here i + by * next i
 
-  pub twos_row : (plains row : List ℕ) → Row (λ j. plainAt rec (at + j)) (m + 165) plains
-      → Row (joined_of 11 2 plains) 413 row → Row (λ j. twoAt rec (at + j)) (m + 154) row
+  pub twos_row : (plains row : List ℕ) → Row (λ j. plain_at rec (at + j)) (m + 165) plains
+      → Row (joined_of 11 2 plains) 413 row → Row (λ j. two_at rec (at + j)) (m + 154) row
   twos_row plains row p r = joined_row (plain_at rec) 11 2 (m + 154) 413 plains row (less p) (omega arith) r
     where
-      less : Row (λ j. plainAt rec (at + j)) (m + 165) plains → Row (λ j. plainAt rec (at + j)) (m + 154 + 11) plains
+      less : Row (λ j. plain_at rec (at + j)) (m + 165) plains → Row (λ j. plain_at rec (at + j)) (m + 154 + 11) plains
       less q = record { long = q.long; each = λ j l. q.each j (omega arith) }
 
-  pub fours_row : (twos row : List ℕ) → Row (λ j. twoAt rec (at + j)) (m + 154) twos
-      → Row (joined_of 22 4 twos) 391 row → Row (λ j. fourAt rec (at + j)) (m + 132) row
+  pub fours_row : (twos row : List ℕ) → Row (λ j. two_at rec (at + j)) (m + 154) twos
+      → Row (joined_of 22 4 twos) 391 row → Row (λ j. four_at rec (at + j)) (m + 132) row
   fours_row twos row t r = joined_row (two_at rec) 22 4 (m + 132) 391 twos row (less t) (omega arith) r
     where
-      less : Row (λ j. twoAt rec (at + j)) (m + 154) twos → Row (λ j. twoAt rec (at + j)) (m + 132 + 22) twos
+      less : Row (λ j. two_at rec (at + j)) (m + 154) twos → Row (λ j. two_at rec (at + j)) (m + 132 + 22) twos
       less q = record { long = q.long; each = λ j l. q.each j (omega arith) }
 
-  pub marked_row : (low high : ℕ) (fours marks : List ℕ) → Row (λ j. fourAt rec (at + j)) (m + 132) fours
+  pub marked_row : (low high : ℕ) (fours marks : List ℕ) → Row (λ j. four_at rec (at + j)) (m + 132) fours
       → MarkedOf low high fours 256 marks → Marked low high rec at m marks
   marked_row low high fours marks o r = record { long = r.long; each = one }
     where

@@ -190,7 +190,7 @@ module _ (xs : List ℕ) (at m : ℕ) {evens odds : List ℕ} (x : Sides xs at m
   pub half_there : (s : ℕ) → s + 11 ≤ m → at + s + 11 ≤ length xs
       → half_of evens odds s ≡ half_at (hard_recording xs) (at + s)
   half_there s h k =
-      (λ i. halfOfEleven (first i) (o 1 (omega arith) i) (e 2 (omega arith) i) (o 3 (omega arith) i)
+      (λ i. half_of_eleven (first i) (o 1 (omega arith) i) (e 2 (omega arith) i) (o 3 (omega arith) i)
       (e 4 (omega arith) i) (o 5 (omega arith) i) (e 6 (omega arith) i) (o 7 (omega arith) i) (e 8 (omega arith) i)
       (o 9 (omega arith) i) (e 10 (omega arith) i))
       ∙ half_is xs (at + s) k

@@ -72,8 +72,8 @@ module _ (rec : List Taken) (o : ℕ) where
     unfolding octet_at
     octet_is b h =
         ap number_of
-        (tabulate_ext (λ j. plainAt rec (o + sfd_from k + 11 * b + 11 * j)) (λ j. get_or (bits_of 16 (sfd_of k)) (b + j) 0) 8
-        (λ j l. plain-is b j (omega arith)))
+        (tabulate_ext (λ j. plain_at rec (o + sfd_from k + 11 * b + 11 * j)) (λ j. get_or (bits_of 16 (sfd_of k)) (b + j) 0) 8
+        (λ j l. plain_is b j (omega arith)))
 
     low_octet : (x : Kind) → number_of (tabulate (λ j. get_or (bits_of 16 (sfd_of x)) (0 + j) 0) 8) ≡ sfd_of x % 256
     unfolding tabulate number_of bits_of

@@ -30,7 +30,7 @@ plain_at rec p = bit_at rec (p + 77) ⊕ bit_at rec (p + 33) ⊕ bit_at rec p
 
 -- eight such bits, a symbol apart, as an octet
 unfoldable pub octet_at : List Taken → ℕ → ℕ
-octet_at rec p = number_of (tabulate (λ j. plainAt rec (p + 11 * j)) 8)
+octet_at rec p = number_of (tabulate (λ j. plain_at rec (p + 11 * j)) 8)
 
 -- the halves that the SFD of a front is read from are those of 24 symbols, the last ones of the preamble
 abbrev pub sfd_from : Kind → ℕ

@@ -75,7 +75,7 @@ fn fill(evens: &[u8; 144], odds: &[u8; 144], l: usize, count: usize, halves: &mu
 fn halves_from(octets: &[u8], at: usize, l: usize, count: usize, halves: &mut [u8; 512])
     requires { (count ≤ 128) × (l + count ≤ 512) × (at + count + 16 ≤ length octets.now)
         × (length halves.old ≡ 512) }
-    ensures halves { Added (λ s. halfAt (hard_recording octets.now) (at + s)) l halves.old
+    ensures halves { Added (λ s. half_at (hard_recording octets.now) (at + s)) l halves.old
         halves.new count }
 {
     let mut evens = [0u8; 144];
@@ -94,8 +94,8 @@ pub fn at_most(left: usize, most: usize) -> usize
 // The halves at every chip from a place on, count of them, of which the first so many are known.
 pub fn decide(octets: &[u8], at: usize, known: usize, count: usize, halves: &mut [u8; 512])
     requires { (count ≤ 512) × (at + count + 16 ≤ length octets.now)
-        × Row (λ j. halfAt (hard_recording octets.now) (at + j)) known halves.old }
-    ensures halves { Row (λ j. halfAt (hard_recording octets.now) (at + j)) count
+        × Row (λ j. half_at (hard_recording octets.now) (at + j)) known halves.old }
+    ensures halves { Row (λ j. half_at (hard_recording octets.now) (at + j)) count
         halves.new }
 {
     let mut l = known;
@@ -181,7 +181,7 @@ fn compare(low: u8, high: u8, row: &mut [u8; 512])
 pub fn marks(low: u8, high: u8, halves: &[u8; 512], row: &mut [u8; 512])
     requires { (length halves.now ≡ 512) × (length row.old ≡ 512) }
     ensures row { (rec : List Taken) (at m : ℕ) → m ≤ 256
-        → Row (λ j. halfAt rec (at + j)) (m + 253) halves.now
+        → Row (λ j. half_at rec (at + j)) (m + 253) halves.now
         → Marked low high rec at m row.new }
 {
     bits(halves, row);

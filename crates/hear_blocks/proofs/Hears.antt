@@ -49,7 +49,7 @@ module _ (r : Rate) (f n : ℕ) (l : Line) (ws raw : List ℕ) (size : length (h
 
   row_octets : plain n (get_or raw 0 0) (behind raw n) ≡ plain_octets r f n l ws
   unfolding plain
-  row_octets = ap₂ {C = List ℕ} (λ q bs. octetsOf n (descramble (past_of q) bs)) first all_bits
+  row_octets = ap₂ {C = List ℕ} (λ q bs. octets_of n (descramble (past_of q) bs)) first all_bits
 
   row_past : past_of (get_or raw n 0) ≡ take 8 (past_after (past_of l.past) (heard r f l.phase ws))
   row_past =
@@ -82,10 +82,10 @@ grown_small Five k p q = quarter _
 grown_small Eleven k p q = quarter _
 
 pub growths_low : (r : Rate) (f : ℕ) (ps g : List ℕ)
-    → g ≡ tabulate (λ j. grownFor r (f + j) (get_or ps j 0) (get_or ps (j + 1) 0)) 64 → Below 4 g
+    → g ≡ tabulate (λ j. grown_for r (f + j) (get_or ps j 0) (get_or ps (j + 1) 0)) 64 → Below 4 g
 growths_low r f ps g e = record {
   at = λ i. rw e
-      (tabulate_all (λ (x : ℕ). x < 4) (λ j. grownFor r (f + j) (get_or ps j 0) (get_or ps (j + 1) 0)) 64 0 (omega arith)
+      (tabulate_all (λ (x : ℕ). x < 4) (λ j. grown_for r (f + j) (get_or ps j 0) (get_or ps (j + 1) 0)) 64 0 (omega arith)
       (λ j. grown_small r (f + j) _ _) i);
 }
 
@@ -94,7 +94,7 @@ pub codes_low : (r : Rate) (g ns cs : List ℕ) → Below 4 g
 codes_low r g ns cs b e = record {
   at = λ i. rw e
       (tabulate_all (λ (x : ℕ). x < 2 ^ symbol_bits r) (λ j. number_of (word_bits r (get_or g j 0) (get_or ns j 0))) 64 0
-      (some r) (λ j. code-small r (get_or g j 0) (get_or ns j 0) (b.at j)) i);
+      (some r) (λ j. code_small r (get_or g j 0) (get_or ns j 0) (b.at j)) i);
 }
   where
     some : (r : Rate) → 0 < 2 ^ symbol_bits r
@@ -116,7 +116,7 @@ module _
     (r : Rate) (f : ℕ) (l : Line) (m : ℕ) (ns ps g : List ℕ) (room : m ≤ 64) (all : length ns ≡ 64)
     (words : AreWords r (take m ns))
     (is-ps : ps ≡ tabulate (phase_before r l.phase ns) 65)
-    (is-g : g ≡ tabulate (λ j. grownFor r (f + j) (get_or ps j 0) (get_or ps (j + 1) 0)) 64) where
+    (is-g : g ≡ tabulate (λ j. grown_for r (f + j) (get_or ps j 0) (get_or ps (j + 1) 0)) 64) where
   abbrev ws : List ℕ
   ws = take m ns
 
@@ -133,7 +133,7 @@ module _
         ap (λ (xs : List ℕ). get_or xs (j + 1) 0) is-ps
         ∙ get_or_tabulate (phase_before r l.phase ns) 65 (j + 1) 0 (omega arith)
         ∙ ap (phase_before r l.phase ns) (add-one j)
-        ∙ ap (λ (x : ℕ). phaseOf r x % 4) (sym (word_at j h))
+        ∙ ap (λ (x : ℕ). phase_of r x % 4) (sym (word_at j h))
         ∙ phase_small r (get_or ws j 0) (words.at j);
   }
 
@@ -143,7 +143,7 @@ module _
   grown_at : (j : ℕ) → j < m → get_or g j 0 ≡ grown_for r (f + j) (get_or ps j 0) (get_or ps (j + 1) 0)
   grown_at j h =
       ap (λ (xs : List ℕ). get_or xs j 0) is-g
-      ∙ get_or_tabulate (λ j. grownFor r (f + j) (get_or ps j 0) (get_or ps (j + 1) 0)) 64 j 0 (omega arith)
+      ∙ get_or_tabulate (λ j. grown_for r (f + j) (get_or ps j 0) (get_or ps (j + 1) 0)) 64 j 0 (omega arith)
 
   -- at 1 Mbit/s the growths are those of the words; at the others none is odd
   pub block_odd : (at : ℕ) → odd_growth r at (take m g) ≡ odd_growth r at (growths_of r l.phase ws)
@@ -156,10 +156,10 @@ module _
           (length-take-le m g (omega (
             arith,
             ap length is-g,
-            length_tabulate (λ (j : ℕ). grownFor r (f + j) (get_or ps j 0) (get_or ps (j + 1) 0)) 64,
+            length_tabulate (λ (j : ℕ). grown_for r (f + j) (get_or ps j 0) (get_or ps (j + 1) 0)) 64,
           )))
           (λ j h. get_or-take m g j 0 h ∙ grown_at j h
-          ∙ subst (λ (s : Rate). grownFor s (f + j) (get_or ps j 0) (get_or ps (j + 1) 0)
+          ∙ subst (λ (s : Rate). grown_for s (f + j) (get_or ps j 0) (get_or ps (j + 1) 0)
           ≡ grown_by (get_or ps j 0) (get_or ps (j + 1) 0))
           e refl))
       by Two e = refl
@@ -196,7 +196,7 @@ module _
         )) code_at n is_m j h (octet_room r j n m h (omega arith))
 
     size : length (heard r f l.phase ws) ≡ 8 * n
-    size = heard_length r f l.phase ws ∙ ap (λ (k : ℕ). symbolBits r * k) (long ∙ is_m) ∙ part_bits r n
+    size = heard_length r f l.phase ws ∙ ap (λ (k : ℕ). symbol_bits r * k) (long ∙ is_m) ∙ part_bits r n
 
     block_past : past_of (get_or raw n 0) ≡ take 8 (past_after (past_of l.past) (heard r f l.phase ws))
     block_past = row_past r f n l ws raw size (raw_at 0 (omega arith)) row
@@ -216,5 +216,5 @@ module _
       past = block_past;
       phase = ap (λ (k : ℕ). get_or ps k 0) (counted s e) ∙ block_phase;
       small = (phases_low r l.phase ns h ps is-ps).at (s * n);
-      place = w ∙ ap (λ (k : ℕ). oddGrowth r at (take k g)) (counted s e) ∙ block_odd at;
+      place = w ∙ ap (λ (k : ℕ). odd_growth r at (take k g)) (counted s e) ∙ block_odd at;
     }

@@ -42,7 +42,7 @@ fn phases(rate: Rate, before: u8, numbers: [u8; 64]) -> [u8; 65]
 fn growths(rate: Rate, symbol: usize, phases: [u8; 65]) -> [u8; 64]
     requires { Below 4 phases }
     ensures answer { result ≡
-        tabulate (λ l. grownFor rate (symbol + l) (slice_index phases l) (slice_index phases (l + 1))) 64 }
+        tabulate (λ l. grown_for rate (symbol + l) (slice_index phases l) (slice_index phases (l + 1))) 64 }
 {
     let first = (symbol % 2) as u8;
     let mut out = [0u8; 64];

@@ -84,14 +84,14 @@ module _ {r : Rate} {p m : ℕ} (ws ps : List ℕ) (long : length ws ≡ m) (ph 
       (ap (heard r f p) (sym (take-append-drop k ws)) ∙ heard_append r f p (take k ws) (drop k ws))
       ∙ ap (take (symbol_bits r * e))
       (drop_at (heard r f p (take k ws)) _ (symbol_bits r * k)
-      (heard_length r f p (take k ws) ∙ ap (λ (n : ℕ). symbolBits r * n) (length-take-le k ws (omega arith)))
+      (heard_length r f p (take k ws) ∙ ap (λ (n : ℕ). symbol_bits r * n) (length-take-le k ws (omega arith)))
       ∙ ap₂ {C = List ℕ} (λ n q. heard r n q (drop k ws))
       (ap (λ (n : ℕ). f + n) (length-take-le k ws (omega arith))) (phase_at k (omega arith))
       ∙ ap (heard r (f + k) (get_or ps k 0)) (sym (take-append-drop e (drop k ws)))
       ∙ heard_append r (f + k) (get_or ps k 0) (take e (drop k ws)) (drop e (drop k ws)))
       ∙ take_at (heard r (f + k) (get_or ps k 0) (take e (drop k ws))) _ (symbol_bits r * e)
       (heard_length r (f + k) (get_or ps k 0) (take e (drop k ws))
-      ∙ ap (λ (n : ℕ). symbolBits r * n) (length-take-le e (drop k ws) (rw length-drop (omega arith))))
+      ∙ ap (λ (n : ℕ). symbol_bits r * n) (length-take-le e (drop k ws) (rw length-drop (omega arith))))
 
   module _ (f : ℕ) (cs : List ℕ) (enough : m ≤ length cs)
       (codes : (l : ℕ) → l < m → get_or cs l 0 ≡ number_of (heard_bits r (f + l) (get_or ps l 0) (get_or ws l 0))) where

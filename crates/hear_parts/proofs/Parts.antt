@@ -95,7 +95,7 @@ leads_row r rec at m ls d h =
     (λ l k. let b : l < m = omega (arith, long) in
     get_or-take m ls l 0 b
     ∙ d.lead l b
-    ∙ ap (λ (us : List Taken). leadOf r (map taken_counts (take (symbol_chips r) us)))
+    ∙ ap (λ (us : List Taken). lead_of r (map taken_counts (take (symbol_chips r) us)))
     (sym (drop-drop (symbol_chips r * l) at rec))
     ∙ sym (leads_at r m (drop at rec) l b))
 
@@ -132,7 +132,7 @@ pub block_leads : (r : Rate) (s n : ℕ) → s ≡ octet_symbols r → (rec : Li
     → LeadsAt r rec at (s * n) ls → octet_symbols r * n ≤ 64 → take (s * n) ls ≡ part_leads r at n rec
 block_leads r s n e rec at ls d h =
     leads_row r rec at (s * n) ls d (rw e h)
-    ∙ ap (λ (m : ℕ). decidedLeads r m (drop at rec)) (ap (λ (k : ℕ). k * n) e ∙ sym (part_symbols r n))
+    ∙ ap (λ (m : ℕ). decided_leads r m (drop at rec)) (ap (λ (k : ℕ). k * n) e ∙ sym (part_symbols r n))
 
 sum : (r : Rate) (i j : ℕ) → octet_symbols r * (i + j) ≡ octet_symbols r * i + octet_symbols r * j
 sum One i j = omega arith
@@ -178,7 +178,7 @@ part_least r at i j s k b rec e =
     let then = part_leads r (at + octet_chips r * i) j rec in
     ap (least_from k b) (part_leads_lem r at i j rec)
     ∙ least_joined k b first then
-    ∙ ap (λ (n : ℕ). leastFrom (k + n) (least_from k b first) then)
+    ∙ ap (λ (n : ℕ). least_from (k + n) (least_from k b first) then)
     (part_leads_length r at i rec ∙ ap (λ (n : ℕ). n * i) (sym e))
 
 pub plain_length : (r : Rate) (f : ℕ) (l : Line) (ws : List ℕ) → length (plain_bits r f l ws) ≡ symbol_bits r * length ws
@@ -204,12 +204,12 @@ module _ (r : Rate) (n at : ℕ) (l : Line) (a b : List ℕ) (h : Hearing) (x : 
           ∙ past_take 8 _ _
           ∙ ap (take 8) (sym (past_append (past_of l.past) (received r n l a) _))
           ∙ ap (λ (bs : List ℕ). take 8 (past_after (past_of l.past) bs)) (sym (heard_append r n l.phase a b));
-      phase = ap (λ (m : Line). m.phase) e ∙ y.phase ∙ ap (λ (p : ℕ). lastHeard r p b) x.phase
+      phase = ap (λ (m : Line). m.phase) e ∙ y.phase ∙ ap (λ (p : ℕ). last_heard r p b) x.phase
           ∙ sym (last_heard_append r l.phase a b);
       small = rw e y.small;
       place = f ∙ ap₂ {C = Option ℕ} (λ o p. or_else o (λ place. some place) p) x.place
-          (y.place ∙ ap (λ (p : ℕ). oddGrowth r (at + symbol_chips r * length a) (growths_of r p b)) x.phase
-          ∙ ap (λ (m : ℕ). oddGrowth r (at + symbol_chips r * m) (growths_of r (last_heard r l.phase a) b))
+          (y.place ∙ ap (λ (p : ℕ). odd_growth r (at + symbol_chips r * length a) (growths_of r p b)) x.phase
+          ∙ ap (λ (m : ℕ). odd_growth r (at + symbol_chips r * m) (growths_of r (last_heard r l.phase a) b))
           (sym (growths_of_length r l.phase a)))
           ∙ sym (odd_growth_append r at (growths_of r l.phase a) _)
           ∙ ap (odd_growth r at) (sym (growths_of_append r l.phase a b));
@@ -220,7 +220,7 @@ module _ (r : Rate) (n at : ℕ) (l : Line) (a b : List ℕ) (h : Hearing) (x : 
         let p = past_of l.past in
         ap (descramble p) (heard_append r n l.phase a b)
         ∙ descramble_append p (received r n l a) _
-        ∙ ap (λ (cs : List ℕ). plainBits r n l a ++ cs)
+        ∙ ap (λ (cs : List ℕ). plain_bits r n l a ++ cs)
         (ap (descramble (past_after p (received r n l a))) (sym same)
         ∙ sym (descramble_take 8 (past_after p (received r n l a)) (received r (n + length a) h.line b) (omega arith))
         ∙ ap (λ (q : List ℕ). descramble q (received r (n + length a) h.line b)) (sym x.past))
@@ -231,7 +231,7 @@ module _ (r : Rate) (n at : ℕ) (l : Line) (a b : List ℕ) (h : Hearing) (x : 
     blocks_octets i j size =
         ap (octets_of (i + j)) blocks_bits
         ∙ octets_append i j (plain_bits r n l a) (plain_bits r (n + length a) h.line b)
-        (plain_length r n l a ∙ ap (λ (m : ℕ). symbolBits r * m) size ∙ part_bits r i)
+        (plain_length r n l a ∙ ap (λ (m : ℕ). symbol_bits r * m) size ∙ part_bits r i)
 
 -- ---- the loop over blocks
 
@@ -334,7 +334,7 @@ module _
         let vs = part_words r place n rec in
         let there : place ≡ at + symbol_chips r * length ws =
         s.at_place
-        ∙ ap (λ (i : ℕ). at + i) (sym (ap (λ (i : ℕ). symbolChips r * i) (part_length r at k rec) ∙ part_chips r k)) in
+        ∙ ap (λ (i : ℕ). at + i) (sym (ap (λ (i : ℕ). symbol_chips r * i) (part_length r at k rec) ∙ part_chips r k)) in
         let number : f + symbols * k ≡ f + length ws =
         ap (λ (c : ℕ). f + c) (ap (λ (c : ℕ). c * k) i ∙ sym (part_length r at k rec)) in
         let words : part_words r at (k + n) rec ≡ ws ++ vs =
@@ -354,10 +354,10 @@ module _
               ∙ ap (λ (u : List ℕ). over u d)
               (sym (ap (plain_octets r f (k + n) l) words
               ∙ blocks_octets r f at l ws vs h s.line k n (part_length r at k rec)
-              ∙ ap (λ (q : ℕ). plainOctets r f k l ws ++ plain_octets r q n h.line vs) (sym number)));
+              ∙ ap (λ (q : ℕ). plain_octets r f k l ws ++ plain_octets r q n h.line vs) (sym number)));
           least =
               j.1.1 ∙ o
-              ∙ ap₂ {C = Least} (λ q c. leastFrom (f + symbols * k) c (part_leads r q n rec)) s.at_place s.least
+              ∙ ap₂ {C = Least} (λ q c. least_from (f + symbols * k) c (part_leads r q n rec)) s.at_place s.least
               ∙ sym (part_least r at k n symbols f a rec i);
         }
 
@@ -375,6 +375,6 @@ parts_all {r} {at} {rec} {l} {f} {a} {d} {p} {place} {k} {out} s b =
       octets =
           s.stored
           ∙ over_all (plain_octets r f k l (part_words r at k rec)) d (rw octets_length b)
-          ∙ ap (λ (n : ℕ). plainOctets r f n l (part_words r at n rec)) is;
-      least = s.least ∙ ap (λ (n : ℕ). leastFrom f a (part_leads r at n rec)) is;
+          ∙ ap (λ (n : ℕ). plain_octets r f n l (part_words r at n rec)) is;
+      least = s.least ∙ ap (λ (n : ℕ). least_from f a (part_leads r at n rec)) is;
     }

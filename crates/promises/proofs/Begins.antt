@@ -116,7 +116,7 @@ module _ (kind rate phase clock : ℕ) (payload : List ℕ) (w : Written) (chips
       ∙ clean.words_back kind (rate_of rate) phase (clock_of clock) payload
       (pair kind rate phase clock payload w chips s).kind_is s.sendable.phase_is (hard_recording tail)
       ∙ ap
-      (λ (t : List Taken). wordsChips One (preamble_words k t)
+      (λ (t : List Taken). words_chips One (preamble_words k t)
       ++ (words_chips (header_rate k) (header_words k t)
       ++ words_chips (rate_of rate) (payload_words k (rate_of rate) (length payload) t)))
       (sym recorded)

@@ -122,7 +122,7 @@ module _ (kind : ℕ) (chips : List ℕ) where
     no_kind = λ h. absurd (subst T (sym b ∙ le-ltb kind 2 h) tt);
     from_8 = λ f x. (whole_number w).0;
     to_16 = (whole_number w).1;
-    in_front = λ f x. subst (λ (m : ℕ). refusalPlace e < m) (front_of_lem x).1 (whole_place k rec w);
+    in_front = λ f x. subst (λ (m : ℕ). refusal_place e < m) (front_of_lem x).1 (whole_place k rec w);
     no_part = empty_part e;
   }
 

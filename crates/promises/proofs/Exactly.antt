@@ -154,10 +154,10 @@ module _ (kind : ℕ) (agree : Bool) (rec : List Taken) (room : ℕ) where
       let w' = known q.goes in
       let octets : n ≡ n' =
       header_moved (λ r v l. LengthOf r n l → SevenOf r n l (v / 128 % 2) → n ≡ n') q.header p.header
-      (λ x y. octets-once x q.length_of y q.seven_of refl refl) p.length_of p.seven_of in
+      (λ x y. octets_once x q.length_of y q.seven_of refl refl) p.length_of p.seven_of in
       let fronts : f ≡ f' = sym w.front_is ∙ w'.front_is in
       let sizes : o ≡ o' =
-      sym w.octet_is ∙ ap (λ (r : ℕ). octetChips (rate_of r)) (one_header p.header q.header).0
+      sym w.octet_is ∙ ap (λ (r : ℕ). octet_chips (rate_of r)) (one_header p.header q.header).0
       ∙ w'.octet_is in
       (octets, λ i. fronts i + sizes i * octets i)
 
@@ -236,10 +236,10 @@ module _ (kind : ℕ) (agree : Bool) (rec : List Taken) (room : ℕ) where
   once_8 a b (by_8 f h) (by_8 g d) = refl
 
   once_front_9 : Once Front9
-  once_front_9 a b (by_front_9 f h u) (by_front_9 g d v) = λ i. refusedAt 9 (unusable_once rec v u i) 0
+  once_front_9 a b (by_front_9 f h u) (by_front_9 g d v) = λ i. refused_at 9 (unusable_once rec v u i) 0
 
   once_front_10 : Once Front10
-  once_front_10 a b (by_front_10 f h o) (by_front_10 g d w) = λ i. refusedAt 10 (odd_once rec w o i) 0
+  once_front_10 a b (by_front_10 f h o) (by_front_10 g d w) = λ i. refused_at 10 (odd_once rec w o i) 0
 
   once_11 : Once Is11
   once_11 a b (by_11 f h d) (by_11 g k e) = refl
@@ -264,11 +264,11 @@ module _ (kind : ℕ) (agree : Bool) (rec : List Taken) (room : ℕ) where
 
   once_payload_9 : Once Payload9
   once_payload_9 a b (by_payload_9 p d u) (by_payload_9 q e v) =
-      λ i. refusedAt 9 (unusable_once rec v u i) ((one_header q.header p.header).2 i)
+      λ i. refused_at 9 (unusable_once rec v u i) ((one_header q.header p.header).2 i)
 
   once_payload_10 : Once Payload10
   once_payload_10 a b (by_payload_10 p r d o) (by_payload_10 q t e w) =
-      λ i. refusedAt 10 (odd_once rec w o i) ((one_header q.header p.header).2 i)
+      λ i. refused_at 10 (odd_once rec w o i) ((one_header q.header p.header).2 i)
 
   once_0 : Once Is0
   once_0 a b (by_0 lead symbol p) (by_0 lead' symbol' q) =
@@ -381,4 +381,4 @@ module _ (kind : ℕ) (agree : Bool) (rec : List Taken) (room : ℕ) where
 pub read_answers : ReadAnswers
 read_answers kind agree rec room a left f =
     let x = read_says kind agree rec room a left f in
-    ((λ b y. kind-once kind agree rec room a b (stops kind agree rec room x) (stops kind agree rec room y)), x)
+    ((λ b y. kind_once kind agree rec room a b (stops kind agree rec room x) (stops kind agree rec room y)), x)

@@ -114,7 +114,7 @@ module _ (kind : ℕ) (chips : List ℕ) (b : is_kind kind ≡ true) where
   read_from : (g : Front) → front_reading kind rec ≡ g → (room : ℕ) (a : Record) (left : List ℕ)
       → ReadHard kind chips room a left → a ≡ record_of (after_front k rec room g)
   read_from g e room a left f =
-      goes_on kind chips room a left f ∙ ap (λ (x : Front). recordOf (after_front k rec room x)) e
+      goes_on kind chips room a left f ∙ ap (λ (x : Front). record_of (after_front k rec room x)) e
 
   told_from : (g : Front) → front_reading kind rec ≡ g → (c : Coming) → ReadFront kind chips c → c ≡ coming_of k g
   told_from g e c f = f.answer ∙ ap (coming_of k) e
@@ -323,7 +323,7 @@ none_found = (
   (λ kind offsets chips f x h m.
       let s = search_is kind offsets chips h in
       x.answer
-      ∙ all_missed kind offsets chips s (λ o l. missed-at kind offsets chips s o (m o (omega (arith, l))))),
+      ∙ all_missed kind offsets chips s (λ o l. missed_at kind offsets chips s o (m o (omega (arith, l))))),
   λ kind offsets chips f x h z.
       let e = number_is kind offsets chips f x in
       e

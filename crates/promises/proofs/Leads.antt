@@ -87,7 +87,7 @@ lead_from : (r : Rate) (m at j : ℕ) (rec : List Taken) → j < m
     → get_or (decided_leads r m (drop at rec)) j 0 ≡ lead_of r (counts_from r (at + j * symbol_chips r) rec)
 lead_from r m at j rec h =
     leads_at r m (drop at rec) j h
-    ∙ ap (λ (l : List Taken). leadOf r (map taken_counts (take (symbol_chips r) l)))
+    ∙ ap (λ (l : List Taken). lead_of r (map taken_counts (take (symbol_chips r) l)))
     (drop-drop (symbol_chips r * j) at rec
     ∙ ap (λ (k : ℕ). drop (at + k) rec) (mul_comm (symbol_chips r) j))
 
@@ -114,7 +114,7 @@ module _ (k : Kind) (r : Rate) (n : ℕ) (rec : List Taken) where
   front_length : length (preamble ++ header) ≡ front_symbols k
   front_length =
       length-append preamble header
-      ∙ (λ i. leads-length One (preamble_length k) rec i
+      ∙ (λ i. leads_length One (preamble_length k) rec i
       + leads_length (header_rate k) headers (drop (preamble_chips k) rec) i)
       ∙ front_symbols_lem k
 
@@ -149,7 +149,7 @@ module _ (k : Kind) (r : Rate) (n : ℕ) (rec : List Taken) where
       in_front j (omega (arith, front_symbols_lem k))
       ∙ get_or-append preamble header 0 j (omega (arith, leads_length One (preamble_length k) rec))
       ∙ lead_from One (preamble_length k) 0 j rec (omega arith)
-      ∙ ap (λ (x : ℕ). leadOf One (counts_from One x rec)) (zero-add (j * symbol_chips One))
+      ∙ ap (λ (x : ℕ). lead_of One (counts_from One x rec)) (zero-add (j * symbol_chips One))
   symbol_lead (of_header j h) =
       in_front (preamble_length k + j) (omega (arith, front_symbols_lem k))
       ∙ ap (λ (x : ℕ). get_or (preamble ++ header) (x + j) 0) (sym (leads_length One (preamble_length k) rec))
@@ -250,7 +250,7 @@ has_least kind agree rec room =
     told : (t : Told) (g : Reading) → PayloadIf (kind_of kind) t rec room g → LeastOf kind rec g
     told t (reading.Refused e) h = tt
     told t (reading.Good u used least) h =
-        h.3 ∙ ap (λ (v : Told). leastOf (frame_leads (kind_of kind) v.rate v.n rec)) (sym h.1)
+        h.3 ∙ ap (λ (v : Told). least_of (frame_leads (kind_of kind) v.rate v.n rec)) (sym h.1)
 
     after : (f : Front) → LeastOf kind rec (after_front (kind_of kind) rec room f)
     after (front.Refused e) = tt
@@ -282,7 +282,7 @@ sure half above good exact rec keeps usable enough k r n s q at w lead x ok by l
     (subst (λ (v : ℕ). LeadsBy q cs v (lead_of q cs)) (sym e) (leads_by q cs)) in
     subst (LeadsExactly q (exact_from q at exact)) (sym e)
     (symbol_sure half exact rec keeps q at (λ i h. usable (at + i) (ok i h))
-    (subst (λ (y : ℕ). symbolChips q * (2 * half) < y * 2 ^ 139) d (enough q lead l)))
+    (subst (λ (y : ℕ). symbol_chips q * (2 * half) < y * 2 ^ 139) d (enough q lead l)))
 
 -- no error: any lead
 any_lead : (q : Rate) (lead : ℕ) → 0 < lead → symbol_chips q * (2 * 0) < lead * 2 ^ 139

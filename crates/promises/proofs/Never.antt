@@ -157,7 +157,7 @@ not_nine k agree rec e u (by_payload t (payload_odd_lem p f)) z = omega arith
 pub no_byte_unusable : NoByteUnusable
 no_byte_unusable kind bytes room a left read =
     unanswered 9 (λ z. omega arith) kind (eqb (length bytes % 2) 0) (byte_recording bytes) room a left read
-    (λ e. not-nine _ _ _ e (bytes_all bytes))
+    (λ e. not_nine _ _ _ e (bytes_all bytes))
 
 -- ---- 7 where the rows agree
 not_seven : (k : Kind) (agree : Bool) (rec : List Taken) (e : Refusal) → agree ≡ true → ReadingRefusal k agree rec e
@@ -170,7 +170,7 @@ not_seven k agree rec e same (by_payload t w) z = omega (arith, z, payload_numbe
 agreeing : (rec : List Taken) (kind : ℕ) (agree : Bool) (room : ℕ) (a : Record) (left : List ℕ)
     → Read kind agree rec room a left → agree ≡ true → a.number ≡ 7 → ⊥
 agreeing rec kind agree room a left read same =
-    unanswered 7 (λ z. omega arith) kind agree rec room a left read (λ e. not-seven _ _ _ e same)
+    unanswered 7 (λ z. omega arith) kind agree rec room a left read (λ e. not_seven _ _ _ e same)
 
 differing : (rec : List Taken) (kind : ℕ) (agree : Bool) (room : ℕ) (a : Record) (left : List ℕ)
     → Read kind agree rec room a left → kind < 2 → agree ≡ false → a ≡ refused 7 0

@@ -200,7 +200,7 @@ pub hard_keeps : (octets : List ℕ) → Keeps 0 (exact_hard octets) (hard_recor
 unfolding hard_recording
 hard_keeps octets =
     record {
-      as_long = length-map octets (λ x. exactOf (hard_chip x)) ∙ sym (length-map octets hard_taken);
+      as_long = length-map octets (λ x. exact_of (hard_chip x)) ∙ sym (length-map octets hard_taken);
       near = near octets;
     }
   where

@@ -81,8 +81,8 @@ module _ (kind rate phase clock : ℕ) (payload : List ℕ) (w : Written) (chips
         refl,
         by (dec_le offset (length before)),
         λ e. let same : front_of k (drop (length before) rec) ≡ Fields u = rw (← e, ← i) h.told_there in
-            ap (λ (m : ℕ). foundOf (Start m u)) e
-            ∙ ap (λ (v : Told). foundOf (Start (length before) v)) (one_told u (sym same ∙ told_there)) ∙ the_frame,
+            ap (λ (m : ℕ). found_of (Start m u)) e
+            ∙ ap (λ (v : Told). found_of (Start (length before) v)) (one_told u (sym same ∙ told_there)) ∙ the_frame,
       )
     where
       by : Dec (offset ≤ length before) → offset ≤ length before

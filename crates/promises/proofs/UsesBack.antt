@@ -170,7 +170,7 @@ pub from_2 : (rate phase clock : ℕ) (payload : List ℕ) (w : Written) (chips 
     → Sent 1 rate phase clock payload w chips → phase ≡ 2
     → take 88 chips ≡ words_chips One (2 ∷ 2 ∷ 2 ∷ 0 ∷ 2 ∷ 2 ∷ 2 ∷ 0 ∷ [])
 from_2 rate phase clock payload w chips s e =
-    (kept.sent_begins 1 rate phase clock payload w chips s).0 ∙ ap (λ (p : ℕ). wordsChips One (begins_with 1 p)) e
+    (kept.sent_begins 1 rate phase clock payload w chips s).0 ∙ ap (λ (p : ℕ). words_chips One (begins_with 1 p)) e
 
 pub from_3 : (kind rate clock : ℕ) (payload : List ℕ) (w w' : Written) (chips chips' : List ℕ)
     → Sent kind rate 3 clock payload w chips → Sent kind rate 0 clock payload w' chips'
@@ -202,7 +202,7 @@ pub words_alike : (kind rate phase phase' clock clock' : ℕ) (payload payload' 
     → take w.chips chips ≡ take w'.chips chips'
 words_alike kind rate phase phase' clock clock' payload payload' w w' chips chips' s t n a b c =
     kept.sent_words kind rate phase clock payload w chips s
-    ∙ (λ i. wordsChips One (a i) ++ (words_chips (header_rate (kind_of kind)) (b i) ++ words_chips (rate_of rate) (c i)))
+    ∙ (λ i. words_chips One (a i) ++ (words_chips (header_rate (kind_of kind)) (b i) ++ words_chips (rate_of rate) (c i)))
     ∙ sym (kept.sent_words kind rate phase' clock' payload' w' chips' t)
 
 -- ---- soft rows that hold the chips there are, with either zero

@@ -120,7 +120,7 @@ module _ (kind room : ℕ) (a : Record) (left : List ℕ) (z : a.number ≡ 0) w
   soft_frame_sure i q f l s p at w x =
       let e = (kept.least_told kind _ _ room a left f z).each s p at w x in
       kept.rows_sure (in_soft i q) (kind_of kind) (rate_of a.rate) a.n s p at w e.own x
-      (λ j h. usable-soft i q (at + j) (symbol_usable kind _ _ room a left f z x j h)) e.by
+      (λ j h. usable_soft i q (at + j) (symbol_usable kind _ _ room a left f z x j h)) e.by
       (omega (arith, e.low, at_most_11 p))
 
   pub hard_frame_sure : (octets : List ℕ) → ReadHard kind octets room a left → 0 < a.lead
@@ -129,7 +129,7 @@ module _ (kind room : ℕ) (a : Record) (left : List ℕ) (z : a.number ≡ 0) w
   hard_frame_sure octets f l s p at w x =
       let e = (kept.least_told kind _ _ room a left f z).each s p at w x in
       kept.rows_sure (in_hard octets) (kind_of kind) (rate_of a.rate) a.n s p at w e.own x
-      (λ j h. usable-hard octets (at + j) (symbol_usable kind _ _ room a left f z x j h)) e.by
+      (λ j h. usable_hard octets (at + j) (symbol_usable kind _ _ room a left f z x j h)) e.by
       (omega (arith, e.low))
 
   pub bytes_frame_sure : (bytes : List ℤ) → ReadBytes kind bytes room a left → 0 < a.lead

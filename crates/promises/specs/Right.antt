@@ -61,7 +61,7 @@ RecordedRight =
 
 -- the exact values of their rows
 abbrev pub exact_hard : List ℕ → List Counts
-exact_hard octets = map (λ x. exactOf (hard_chip x)) octets
+exact_hard octets = map (λ x. exact_of (hard_chip x)) octets
 
 unfoldable pub exact_soft : List Float → List Float → List Counts
 exact_soft [] q = []

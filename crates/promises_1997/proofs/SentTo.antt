@@ -85,7 +85,7 @@ module _ (rate phase clock : ℕ) (payload : List ℕ) (w : Written) (chips : Li
     fields : (accepted : _) → front_by accepted Long rec ≡ fields_of accepted Long rate service l
     fields accepted =
         let e = chips_before s.sendable.goes in
-        ap (λ (m : ℕ). frontBy accepted Long (hard_recording (take m chips ++ tail))) (sym e)
+        ap (λ (m : ℕ). front_by accepted Long (hard_recording (take m chips ++ tail))) (sym e)
         ∙ begun_sent 0 rate phase clock payload w chips s tail accepted
         ∙ ap₂ (λ c m. fields_of accepted Long c service m)
         (back.pair 0 rate phase clock payload w chips s).code_back

@@ -40,8 +40,8 @@ compared_shows kind a b places places' room room' c chips octets first second m 
     let of-octets = payloads kind a b places places' room room' c chips octets first second m in (
       of-chips,
       of-octets,
-      λ entries row v. shows-once v of-chips,
-      λ p q entries row v. shows-once v (of-octets.both p q).0,
+      λ entries row v. shows_once v of-chips,
+      λ p q entries row v. shows_once v (of-octets.both p q).0,
     )
 
 compared_fits : ComparedFits
@@ -89,9 +89,9 @@ compared_exchanged kind a b places places' room room' c d chips octets first sec
 compared_gives : ComparedGives
 compared_gives kind kind' a a' b b' places places' room room' more more' held held' c d chips octets first second
     chips' octets' first' second' m w e h same = (
-      λ q i j k l. gives-second (one.fits h).0 (subst (λ (x : List ℕ). Lists x b' chips' c.chips) (sym q) two)
+      λ q i j k l. gives_second (one.fits h).0 (subst (λ (x : List ℕ). Lists x b' chips' c.chips) (sym q) two)
           alike i j k l,
-      λ q i j k l. gives-first (one.fits h).0 (subst (λ (x : List ℕ). Lists a' x chips' c.chips) (sym q) two)
+      λ q i j k l. gives_first (one.fits h).0 (subst (λ (x : List ℕ). Lists a' x chips' c.chips) (sym q) two)
           alike i j k l,
     )
   where

@@ -42,6 +42,6 @@ spoiled_1997 rate phase clock payload w chips s l d rec tail stands room a left 
         same.1 ∙ told.2,
       )),
       (λ n. w97.1 (λ y. n (subst Rate1997 rate_is y)) ∙ ap (refused 13) length_is),
-      λ y c. w97.2 (subst Rate1997 (sym rate_is) y) (λ z. shown-set clock c (sym clock_is ∙ z))
+      λ y c. w97.2 (subst Rate1997 (sym rate_is) y) (λ z. shown_set clock c (sym clock_is ∙ z))
           ∙ ap (refused 14) length_is,
     )

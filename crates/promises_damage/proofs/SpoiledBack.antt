@@ -104,7 +104,7 @@ module _ (kind rate phase clock : ℕ) (payload : List ℕ) (w : Written) (chips
     read_spoiled = (
       (λ h.
           let e = answer h in (
-            e ∙ (λ i. goodWith (lead_at (sym e i).lead (sym e i).symbol)),
+            e ∙ (λ i. good_with (lead_at (sym e i).lead (sym e i).symbol)),
             subst (λ (b : Record). 1024 ≤ b.lead) (sym e) clear,
             octets h,
           )),

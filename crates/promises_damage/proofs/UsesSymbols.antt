@@ -139,11 +139,11 @@ pub limits_are : (n at s chips limit : ℕ)
     × (HasChip 1 55 n 1056 s at chips limit → 1 ≤ n → (s ≡ 96) × (at ≡ 1056) × (chips ≡ 8) × (limit ≡ 3))
     × (HasChip 0 110 n 2112 s at chips limit → 1 ≤ n → (s ≡ 192) × (at ≡ 2112) × (chips ≡ 8) × (limit ≡ 3))
 limits_are n at s chips limit = (
-  (λ h l. chip-of-payload 0 10 2112 88 n 192 8 11 10 0 0 s at chips limit long_1 of_long at_10 (omega arith) (lit< tt)
+  (λ h l. chip_of_payload 0 10 2112 88 n 192 8 11 10 0 0 s at chips limit long_1 of_long at_10 (omega arith) (lit< tt)
       h),
-  (λ h l. chip-of-payload 1 20 1056 44 n 96 4 11 10 0 0 s at chips limit short_2 of_short at_20 (omega arith) (lit< tt)
+  (λ h l. chip_of_payload 1 20 1056 44 n 96 4 11 10 0 0 s at chips limit short_2 of_short at_20 (omega arith) (lit< tt)
       h),
-  (λ h l. chip-of-payload 1 55 1056 16 n 96 2 8 3 0 0 s at chips limit short_5 of_short at_55 (omega arith) (lit< tt)
+  (λ h l. chip_of_payload 1 55 1056 16 n 96 2 8 3 0 0 s at chips limit short_5 of_short at_55 (omega arith) (lit< tt)
       h),
-  λ h l. chip-of-payload 0 110 2112 8 n 192 1 8 3 0 0 s at chips limit long_11 of_long at_110 (omega arith) (lit< tt) h,
+  λ h l. chip_of_payload 0 110 2112 8 n 192 1 8 3 0 0 s at chips limit long_11 of_long at_110 (omega arith) (lit< tt) h,
 )

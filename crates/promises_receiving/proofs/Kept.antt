@@ -49,7 +49,7 @@ receiver_refused kind room fed s u buf other out r h =
     ((λ batch a x. runs_feed_other r h x), λ a x. runs_close_other r h x)
 
 shut_refused : ShutRefused
-shut_refused s u buf out h = ((λ batch a x. shut-feed h x), λ a x. shut-close h x)
+shut_refused s u buf out h = ((λ batch a x. shut_feed h x), λ a x. shut_close h x)
 
 -- a call is taken or refused
 by_takes : {A : Type 0} (s : Receiver) (n : ℕ) → (takes s.progress n ≡ true → A)
@@ -64,13 +64,13 @@ any_receiver : AnyReceiver
 any_receiver s u buf out = (
   (λ batch a x. (
     x.long,
-    (λ d. by-takes s (length buf) x.taken (λ e. absurd (d (x.refused e).0))),
-    λ e. by-takes s (length buf) (λ t. absurd (omega (arith, e, x.taken t)))
+    (λ d. by_takes s (length buf) x.taken (λ e. absurd (d (x.refused e).0))),
+    λ e. by_takes s (length buf) (λ t. absurd (omega (arith, e, x.taken t)))
         (λ t. ((x.refused t).1, (x.refused t).2)),
   )),
   λ a x. (
     x.long,
-    λ e. by-takes s (length buf) (λ t. absurd (x.other t (ap (λ (v : Record). v.number) e)))
+    λ e. by_takes s (length buf) (λ t. absurd (x.other t (ap (λ (v : Record). v.number) e)))
         (λ t. ((x.refused t).1, (x.refused t).2)),
   ),
 )

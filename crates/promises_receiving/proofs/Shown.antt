@@ -96,7 +96,7 @@ module _ (kind room : ℕ) (rec : List Taken) (c : ℕ) where
 pub cut_buffer : (c : ℕ) (chips : List ℕ) {kind room : ℕ} {s : Receiver} {buf : List ℕ}
     → Runs kind room (take c chips) s buf → buf ≡ buffer_yet kind (take c (hard_recording chips)) room
 cut_buffer c chips {kind} {room} x =
-    runs_buffer x ∙ ap (λ (y : List Taken). bufferYet kind y room) (sym (take_hard c chips))
+    runs_buffer x ∙ ap (λ (y : List Taken). buffer_yet kind y room) (sym (take_hard c chips))
 
 found_is : (kind room : ℕ) (rec : List Taken)
     → octets_found kind true rec room ≡ octets_after (kind_of kind) rec room (reading_of kind true rec room)

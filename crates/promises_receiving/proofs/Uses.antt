@@ -95,7 +95,7 @@ module _ (promise : ReceivedYet) where
       → Runs kind room fed' t buf' → fed ≡ fed' → buf ≡ buf'
   same_buffer kind room fed fed' s t buf buf' r q e =
       (promise kind room fed s buf r).0
-      ∙ ap (λ (x : List ℕ). bufferYet kind (hard_recording x) room) e
+      ∙ ap (λ (x : List ℕ). buffer_yet kind (hard_recording x) room) e
       ∙ sym (promise kind room fed' t buf' q).0
 
   -- three batches, or the first alone and the others joined, each after an open of its own
@@ -112,7 +112,7 @@ module _ (promise : ReceivedYet) where
       → buf ≡ replicate room 0
   quiet_front room fed s buf r h =
       (promise 0 room fed s buf r).0
-      ∙ ap (λ (x : List Taken). bufferYet 0 x room) (sym (take-length (hard_recording fed)))
+      ∙ ap (λ (x : List Taken). buffer_yet 0 x room) (sym (take-length (hard_recording fed)))
       ∙ short_yet 0 room (length (hard_recording fed)) (hard_recording fed) (omega (arith, h, length_hard fed))
 
   keeps_long : (kind : ℕ) (old batch o p : List ℕ) (u v : Receiver) (a b : ℕ) → ReceiverOpens kind old u a o

@@ -58,7 +58,7 @@ readings_are _ _ (one_read kind chips a left rs os read more) =
 take_map : (n : ℕ) (rs : List Recording) → take n (map outcome_of rs) ≡ map outcome_of (take n rs)
 take_map zero rs = refl
 take_map (suc n) [] = refl
-take_map (suc n) (r ∷ rs) = ap (λ (os : List Outcome). outcomeOf r ∷ os) (take_map n rs)
+take_map (suc n) (r ∷ rs) = ap (λ (os : List Outcome). outcome_of r ∷ os) (take_map n rs)
 
 take_long : (n : ℕ) (rs qs : List Recording) → n ≤ length rs → take n (rs ++ qs) ≡ take n rs
 take_long zero rs qs h = refl
@@ -76,7 +76,7 @@ module _ (rs : List Recording) (r : Recording) (c : Counted) (answer : c ≡ cou
       let with_it : take 1000 (rs ++ (r ∷ [])) ≡ rs ++ (r ∷ []) =
       take_all 1000 (rs ++ (r ∷ [])) (omega (arith, length-append rs (r ∷ []))) in
       answer
-      ∙ ap (λ (l : List Recording). countedOf (report_of (map outcome_of l)) r) all
+      ∙ ap (λ (l : List Recording). counted_of (report_of (map outcome_of l)) r) all
       ∙ counted_next rs r h
       ∙ ap (λ (l : List Recording). record { number = 0; report = report_of (map outcome_of l) }) (sym with_it)
 
@@ -96,14 +96,14 @@ module _ (rs : List Recording) (r : Recording) (c : Counted) (answer : c ≡ cou
       by (yes p) = ap (λ (v : Counted). v.report) (few p)
       by (no q) =
           ap (λ (v : Counted). v.report) (many (omega arith))
-          ∙ ap (λ (l : List Recording). reportOf (map outcome_of l)) (sym (take_long 1000 rs (r ∷ []) (omega arith)))
+          ∙ ap (λ (l : List Recording). report_of (map outcome_of l)) (sym (take_long 1000 rs (r ∷ []) (omega arith)))
 
 -- what a report kept is
 is_kept : (rs : List Recording) (p : Report) → Kept rs p → p ≡ firsts rs
 is_kept _ _ nothing_yet = none_counted
 is_kept _ _ (one_more rs p kind chips c k a) =
     grown rs (record { kind = kind; chips = chips }) c
-    (a.answer ∙ ap (λ (q : Report). countedOf q (record { kind = kind; chips = chips })) (is_kept rs p k))
+    (a.answer ∙ ap (λ (q : Report). counted_of q (record { kind = kind; chips = chips })) (is_kept rs p k))
 
 -- the totals of the first 1,000 readings
 firsts_totals : (rs : List Recording) (os : List Outcome) → Readings rs os → TotalsOf (take 1000 os) (firsts rs)
@@ -120,7 +120,7 @@ kept_answers : KeptAnswers
 kept_answers rs p kind chips c k a =
     let r : Recording = record { kind = kind; chips = chips } in
     let e : p ≡ firsts rs = is_kept rs p k in
-    let answer : c ≡ counted_of (firsts rs) r = a.answer ∙ ap (λ (q : Report). countedOf q r) e in (
+    let answer : c ≡ counted_of (firsts rs) r = a.answer ∙ ap (λ (q : Report). counted_of q r) e in (
       (λ h. ap (λ (v : Counted). v.number) (few rs r c answer h)),
       λ h. many rs r c answer h ∙ ap (λ (q : Report). record { number = 31; report = q }) (sym e),
     )
@@ -175,7 +175,7 @@ list_alike kinds list c l = (
       let report_is : c.report ≡ firsts (recordings kinds list) = ap (λ (v : Counted). v.report) answer in (
         (λ h. ap (λ (v : Counted). v.number) answer ∙ ap (λ (t : Bool). cond t 0 31) (le-leb (length list) 1000 h)),
         (λ h. ap (λ (v : Counted). v.number) answer ∙ ap (λ (t : Bool). cond t 0 31) (lt-leb (length list) 1000 h)),
-        (λ p k. report-is ∙ sym (is_kept (recordings kinds list) p k)),
+        (λ p k. report_is ∙ sym (is_kept (recordings kinds list) p k)),
         λ os reads. subst (TotalsOf (take 1000 os)) (sym report_is) (firsts_totals (recordings kinds list) os reads),
       ),
 )

@@ -124,11 +124,11 @@ rate_at_lem f (suc (suc (suc (suc j)))) h = absurd (omega arith)
 module _ (os : List Outcome) where
   pub frames_at_lem : (j : ℕ) → j < 4 → frames_at (get_or rates j 0) os ≡ get_or (report_of os).frames j 0
   unfolding report_of
-  frames_at_lem j h = rate_at_lem (λ code. framesAt code os) j h
+  frames_at_lem j h = rate_at_lem (λ code. frames_at code os) j h
 
   pub octets_at_lem : (j : ℕ) → j < 4 → octets_at (get_or rates j 0) os ≡ get_or (report_of os).octets j 0
   unfolding report_of
-  octets_at_lem j h = rate_at_lem (λ code. octetsAt code os) j h
+  octets_at_lem j h = rate_at_lem (λ code. octets_at code os) j h
 
   pub refused_at_lem : (number : ℕ) → number < 18 → refused_with number os ≡ get_or (report_of os).refused number 0
   unfolding report_of

@@ -39,8 +39,8 @@ write_tells kind rate phase room number left w = (
 
 store_read_back : StoreReadBack
 store_read_back kind rate phase room number left g h w = (
-  λ s r. r.answer ∙ ap (λ (l : List ℕ). storeRead (take 17 l)) w.octets ∙ left_read kind rate phase room g h,
-  λ m s a b r. r.answer ∙ ap (λ (l : List ℕ). storeRead (take m l)) w.octets
+  λ s r. r.answer ∙ ap (λ (l : List ℕ). store_read (take 17 l)) w.octets ∙ left_read kind rate phase room g h,
+  λ m s a b r. r.answer ∙ ap (λ (l : List ℕ). store_read (take m l)) w.octets
       ∙ left_longer kind rate phase room g h m a b,
 )
 

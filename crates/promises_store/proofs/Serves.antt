@@ -69,7 +69,7 @@ module _ (kind rate phase n room : ℕ) (some : 1 ≤ n) (few : n ≤ 4095) wher
             subst (λ (x : ℕ). Goes kind x front octet) (sym (no_other_code rate p.rate_is))
             (goes kind (rate_of rate) (lt-ltb kind 2 p.kind_is) p.together);
         good =
-            λ h. at-number (write_0 kind rate phase n room p.kind_is p.rate_is p.together some few
+            λ h. at_number (write_0 kind rate phase n room p.kind_is p.rate_is p.together some few
             p.phase_is h);
       }
 
@@ -133,7 +133,7 @@ module _ (kind rate phase n room : ℕ) (some : 1 ≤ n) (few : n ≤ 4095) wher
       → (store_written kind rate phase held ≡ 28 → OfSettings number)
       × (OfSettings number → store_written kind rate phase held ≡ 28)
   same_refused held =
-      (λ e. refused-by (only_bad kind rate phase held e), λ o. by o (allowed_settings kind rate phase) refl)
+      (λ e. refused_by (only_bad kind rate phase held e), λ o. by o (allowed_settings kind rate phase) refl)
     where
       by : OfSettings number → (b : Bool) → allowed_settings kind rate phase ≡ b → store_written kind rate phase held ≡ 28
       by o true e = absurd (allowed_by e o)

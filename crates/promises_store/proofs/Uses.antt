@@ -146,7 +146,7 @@ full_back =
       rises = full_rises 0 240 16 (omega arith);
       tags = full_each (λ p. p.tag < 256) 256 (λ t h. h) 240 16 (omega arith);
       sizes = full_each (λ p. length p.body ≤ 255) 256 (λ t h. omega arith) 240 16 (omega arith);
-      octets = full_each (λ p. Below 256 p.body) 256 (λ t h. below-replicate 255 (omega arith)) 240 16 (omega arith);
+      octets = full_each (λ p. Below 256 p.body) 256 (λ t h. below_replicate 255 (omega arith)) 240 16 (omega arith);
     }) in
     (l.0, l.1)
 

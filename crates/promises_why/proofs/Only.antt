@@ -47,7 +47,7 @@ module _ (kind : ℕ) (chips : List ℕ) (room : ℕ) where
       (e.1, field_once (kind_of kind) One rec 0 (subst (λ (i : ℕ). FrontField kind rec i 16 heard) e.0 f) g)
   row_once (row_12 b s v l h) (row_12 c t w m g) =
       let e = (one_bits b.bits_are c.bits_are).0 in (
-        (λ i. highestFirst (crc_bits (field_bits (one_field kind true rec room 16 e s t i)
+        (λ i. highest_first (crc_bits (field_bits (one_field kind true rec room 16 e s t i)
             (one_field kind true rec room 24 e v w i) (one_field kind true rec room 32 e l m i)))),
         highest_once h g (ap (λ (i : ℕ). i + 48) e),
       )

@@ -182,7 +182,7 @@ module _ (kind : ℕ) (chips : List ℕ) (room : ℕ) where
           differ
           (row_14 header
           (subst (λ (x : ℕ). Cleared x service left) coded (shown_14 kind k chips rec room m).1))
-          (λ e. left-some rate service (service_below kind k chips rec room) b (sym e))
+          (λ e. left_some rate service (service_below kind k chips rec room) b (sym e))
 
       length_shows : length_holds rate l (service / 128 % 2) ≡ false → ShowsIf (Refused (Length l))
       length_shows d =
@@ -219,7 +219,7 @@ module _ (kind : ℕ) (chips : List ℕ) (room : ℕ) where
 
       octets_are : octets_read (rate_of signal) l (service / 128 % 2) ≡ pos t.n
       octets_are =
-          (λ i. octetsRead (sym h.tells.rate_is i) (h.tells.length_is i) (sym h.tells.seven_is i))
+          (λ i. octets_read (sym h.tells.rate_is i) (h.tells.length_is i) (sym h.tells.seven_is i))
           ∙ octets_back t.rate t.n
 
       ends_shows : length rec < frame_chips k t.rate t.n → ShowsIf (Refused (Ends t.length))
@@ -256,7 +256,7 @@ module _ (kind : ℕ) (chips : List ℕ) (room : ℕ) where
                 h.sound.clear.even d))
             by (no m) none e none d =
                 come _ (payload_good k t rec room (omega (arith, m)) e d)
-                (record { row = row_0; apart = λ e. all-zeros })
+                (record { row = row_0; apart = λ e. all_zeros })
 
     whole_shows : {e : Refusal} → WholeRefusal k rec e → ShowsIf (Refused e)
     whole_shows (met_in_front f) = in_front f

@@ -239,7 +239,7 @@ module _ (kind : ℕ) (chips : List ℕ) (room : ℕ) (r : Reason) (x : Explains
       → (e ≡ highest_first (crc_bits (field_bits signal service l))) × HighestAt (kind_of kind) rec (at + 48) 16 f
   crc_row {f = f} (row_12 c t w m g) b s v l =
       let e = (one_bits c.bits_are b.bits_are).0 in (
-        (λ i. highestFirst (crc_bits (field_bits (one_field kind true rec room 16 e t s i)
+        (λ i. highest_first (crc_bits (field_bits (one_field kind true rec room 16 e t s i)
             (one_field kind true rec room 24 e w v i) (one_field kind true rec room 32 e m l i)))),
         subst (λ (i : ℕ). HighestAt (kind_of kind) rec (i + 48) 16 f) e g,
       )

@@ -120,7 +120,7 @@ module _ (kind : ℕ) (agree : Bool) (rec : List Taken) (room : ℕ) where
       → (g ≡ reading_of kind agree rec room) × (out ≡ octets_found kind agree rec room)
   read_ours e a k c g out p =
       both g out (p.0 ∙ (unfold reading_of in rw (e, a, ← c)))
-      (p.1 ∙ ap (λ (i : Kind). octetsAfter i rec room g) c)
+      (p.1 ∙ ap (λ (i : Kind). octets_after i rec room g) c)
 
 pub read_of_1997 : (k : Kind) → k ≡ Long → (rec : List Taken) (room : ℕ) (g : Reading) (out : List ℕ)
     → (g ≡ reading_by of1997 k rec room) × (out ≡ octets_after k rec room g)

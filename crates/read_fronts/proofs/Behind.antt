@@ -76,7 +76,7 @@ module _
   unfolding payload_odd payload_words
   payload_odd_lem =
       x.line.place
-      ∙ ap (λ (p : ℕ). oddGrowth r (front_chips k)
+      ∙ ap (λ (p : ℕ). odd_growth r (front_chips k)
       (growths_of r p (decided_words r (8 * n / symbol_bits r) (drop (front_chips k) rec)))) o.at_phase
 
   pub payload_octets : out ≡ payload_of k r n rec
@@ -85,7 +85,7 @@ module _
       let ws = decided_words r (8 * n / symbol_bits r) (drop (front_chips k) rec) in
       let bits = heard r 0 (payload_phase k rec) ws in
       x.octets
-      ∙ ap (λ (bs : List ℕ). octetsOf n (descramble (past_of l.past) bs))
+      ∙ ap (λ (bs : List ℕ). octets_of n (descramble (past_of l.past) bs))
       (heard_parity r (front_chips k / 11) 0 l.phase ws (even k) ∙ ap (λ (p : ℕ). heard r 0 p ws) o.at_phase)
       ∙ ap (octets_of n)
       (descramble_window (past_of l.past) (past_after (start k) (front_heard k rec)) bits o.past
@@ -97,7 +97,7 @@ module _
   pub payload_least : b ≡ least_of (front_leads k rec) → p.least ≡ least_of (frame_leads k r n rec)
   payload_least e =
       x.least
-      ∙ ap (λ (y : Least). leastFrom (front_chips k / 11) y (part_leads r (front_chips k) n rec)) e
+      ∙ ap (λ (y : Least). least_from (front_chips k / 11) y (part_leads r (front_chips k) n rec)) e
       ∙ sym (frame_least k rec r n)
 
 -- the first n octets of a buffer, as they are lent

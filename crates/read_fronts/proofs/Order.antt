@@ -68,7 +68,7 @@ module _ (k : Kind) (rec : List Taken) where
       (g : where_found f ≡ first_unusable 0 (take (chips - 0) (drop 0 rec))) where
     searched : first_unusable 0 (take (front_chips k) rec) ≡ where_found f
     searched = let z : chips - 0 ≡ front_chips k = omega arith in sym
-        (g ∙ ap (λ (m : ℕ). firstUnusable 0 (take m rec)) z)
+        (g ∙ ap (λ (m : ℕ). first_unusable 0 (take m rec)) z)
 
     enough : front_chips k ≤ length rec
     enough = omega arith

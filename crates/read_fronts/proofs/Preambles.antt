@@ -162,7 +162,7 @@ module _
   both_words : A ++ B ≡ preamble_words k rec
   both_words =
       sym (part_more One 0 8 (sync_octets k - 6) rec)
-      ∙ ap (λ (n : ℕ). partWords One 0 n rec) (rest k) ∙ preamble_words_lem k rec
+      ∙ ap (λ (n : ℕ). part_words One 0 n rec) (rest k) ∙ preamble_words_lem k rec
 
   both : Heard One 0 0 l (preamble_words k rec) p.heard
   both =
@@ -186,19 +186,19 @@ module _
       two_parts (plain_octets One 0 8 l A) y d o 8 (sync_octets k - 6) (sync_octets k + 2)
       (ox ∙ ap (λ (ws : List ℕ). over (plain_octets One 0 8 l ws) d) first_words) (octets_length 8 (plain_bits One 0 l A))
       (ap length z.octets ∙ octets_length (sync_octets k - 6) (plain_bits One 64 a.line B)) (rest k)
-      ∙ ap (λ (w : List ℕ). plainOctets One 0 8 l A ++ w) z.octets
-      ∙ ap (λ (n : ℕ). plainOctets One 0 8 l A ++ plain_octets One (0 + n) (sync_octets k - 6) a.line B)
+      ∙ ap (λ (w : List ℕ). plain_octets One 0 8 l A ++ w) z.octets
+      ∙ ap (λ (n : ℕ). plain_octets One 0 8 l A ++ plain_octets One (0 + n) (sync_octets k - 6) a.line B)
       (sym (part_length One 0 8 rec))
       ∙ sym (blocks_octets One 0 0 l A B a first 8 (sync_octets k - 6) (part_length One 0 8 rec))
-      ∙ ap₂ {C = List ℕ} (λ n ws. plainOctets One 0 n l ws) (rest k) both_words
+      ∙ ap₂ {C = List ℕ} (λ n ws. plain_octets One 0 n l ws) (rest k) both_words
       ∙ ap (octets_of (sync_octets k + 2))
       (descramble_window (past_of l.past) (start k) (received One 0 l (preamble_words k rec)) from_start
       ∙ ap (descramble (start k)) bits)
 
   preamble_line : PreambleLine k rec p.heard
   preamble_line = record {
-    odd = both.place ∙ ap (λ (q : ℕ). oddGrowth One 0 (growths_of One q (preamble_words k rec))) reference_phase;
-    at_phase = both.phase ∙ ap (λ (q : ℕ). lastHeard One q (preamble_words k rec)) reference_phase
+    odd = both.place ∙ ap (λ (q : ℕ). odd_growth One 0 (growths_of One q (preamble_words k rec))) reference_phase;
+    at_phase = both.phase ∙ ap (λ (q : ℕ). last_heard One q (preamble_words k rec)) reference_phase
         ∙ (unfold header_phase in refl);
     small = both.small;
     past = goes_on (start k) One 0 0 l (preamble_words k rec) p.heard from_start both
@@ -210,11 +210,11 @@ module _
       let C = part_leads One 0 8 rec in
       let D = part_leads One 704 (sync_octets k - 6) rec in
       ab.1.1 ∙ z.least
-      ∙ ap (λ (x : Least). leastFrom 64 x D) (lo ∙ ap least_of (block_leads One 8 8 refl rec 0 ls lead (omega arith)))
-      ∙ ap (λ (n : ℕ). leastFrom n (least_of C) D) (sym (part_leads_length One 0 8 rec))
+      ∙ ap (λ (x : Least). least_from 64 x D) (lo ∙ ap least_of (block_leads One 8 8 refl rec 0 ls lead (omega arith)))
+      ∙ ap (λ (n : ℕ). least_from n (least_of C) D) (sym (part_leads_length One 0 8 rec))
       ∙ sym (least_of_joined C D (rw (part_leads_length One 0 8 rec) (omega arith)))
       ∙ ap least_of (sym (part_leads_lem One 0 8 (sync_octets k - 6) rec)
-      ∙ ap (λ (n : ℕ). partLeads One 0 n rec) (rest k) ∙ preamble_leads_lem k rec)
+      ∙ ap (λ (n : ℕ). part_leads One 0 n rec) (rest k) ∙ preamble_leads_lem k rec)
 
 -- the same, as the code counts the rest
 pub sync_heard : (k : Kind) (rec : List Taken) (ns ls : List ℕ) (l : Line) (f : Least) (a : Hearing) (b p : Part)

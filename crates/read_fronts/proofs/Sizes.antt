@@ -127,5 +127,5 @@ module _ (accepted : Accepted) (k : Kind) (rec : List Taken) (a : Opening) (x : 
         line = x.line;
         least = x.least;
         few = λ u w. let e : t ≡ u = cc in subst (λ (v : Told). v.n ≤ 4095) e whole_few;
-        chips = λ u w. let e : t ≡ u = cc in subst (λ (v : Told). frameChips k v.rate v.n ≤ length rec) e h;
+        chips = λ u w. let e : t ≡ u = cc in subst (λ (v : Told). frame_chips k v.rate v.n ≤ length rec) e h;
       }

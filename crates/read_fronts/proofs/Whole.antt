@@ -115,7 +115,7 @@ module _
 
   all_heard : front_heard k rec ≡ preamble_heard k rec ++ received (header_rate k) F L (header_words k rec)
   unfolding front_heard
-  all_heard = sym (ap (λ (bs : List ℕ). preambleHeard k rec ++ bs) header_heard_lem)
+  all_heard = sym (ap (λ (bs : List ℕ). preamble_heard k rec ++ bs) header_heard_lem)
 
   -- the front's bits, part by part
   bits_are : front_bits k rec
@@ -138,13 +138,13 @@ module _
       let bs = plain_bits (header_rate k) F L (header_words k rec) in
       let long = header_bits_lem k rec F L in
       ap octet_bits
-      (z.octets ∙ ap (λ (ws : List ℕ). octetsOf 6 (plain_bits (header_rate k) F L ws)) (header_words_lem k rec))
+      (z.octets ∙ ap (λ (ws : List ℕ). octets_of 6 (plain_bits (header_rate k) F L ws)) (header_words_lem k rec))
       ∙ octets_bits 6 bs (omega arith) (descramble_below _ _)
       ∙ take_all 48 bs (omega arith)
 
   opened : Opened k rec c.heard.line
   opened = record {
-    at_phase = header_part.phase ∙ ap (λ (q : ℕ). lastHeard (header_rate k) q (header_words k rec)) x.line.at_phase
+    at_phase = header_part.phase ∙ ap (λ (q : ℕ). last_heard (header_rate k) q (header_words k rec)) x.line.at_phase
         ∙ (unfold payload_phase in refl);
     small = header_part.small;
     past =
@@ -161,7 +161,7 @@ module _
         pc.1.0
         ∙ ap₂ {C = Option ℕ} (λ o q. or_else o (λ place. some place) q) x.line.odd
         (header_part.place
-        ∙ ap (λ (q : ℕ). oddGrowth (header_rate k) (preamble_chips k) (growths_of (header_rate k) q (header_words k rec)))
+        ∙ ap (λ (q : ℕ). odd_growth (header_rate k) (preamble_chips k) (growths_of (header_rate k) q (header_words k rec)))
         x.line.at_phase)
         ∙ (unfold front_odd in refl);
     sfd =

@@ -44,7 +44,7 @@ module _
       → Going kind (length buf) fed p hold preamble header buf → ReadsAll kind (length buf) fed a out
 
   all_is : all ≡ all_of p
-  all_is = ai ∙ ap₂ {C = ℕ} (λ x y. frameChips x y p.n) ki ri
+  all_is = ai ∙ ap₂ {C = ℕ} (λ x y. frame_chips x y p.n) ki ri
 
   pub way_ends : (a : Record) (out : List ℕ) → p.count < all → a ≡ record_of (reading.Refused (Ends p.length))
       → out ≡ replicate (length buf) 0 → Answers a out

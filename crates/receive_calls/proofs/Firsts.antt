@@ -159,7 +159,7 @@ module _
         (λ preamble header fed x.
         first_unusable_lem k fed piece p q hold preamble header x (inside preamble header fed x) (count_more q _ _ _ e)
         (usable preamble header fed x) hold' (few preamble header fed x) place
-        (ap (λ (l : List ℕ). firstUnusable 0 (hard_recording l)) (sym (row_fed preamble header fed x)) ∙ sym found
+        (ap (λ (l : List ℕ). first_unusable 0 (hard_recording l)) (sym (row_fed preamble header fed x)) ∙ sym found
         ∙ ap where_found t)
         (ap (λ (u : Progress). u.bad) e ∙ omega arith))
 
@@ -167,7 +167,7 @@ module _
       clear : (preamble header fed : List ℕ) → FrontTo k fed p hold preamble header
           → first_unusable 0 (hard_recording (fed ++ piece)) ≡ none
       clear preamble header fed x =
-          ap (λ (l : List ℕ). firstUnusable 0 (hard_recording l)) (sym (row_fed preamble header fed x)) ∙ sym found
+          ap (λ (l : List ℕ). first_unusable 0 (hard_recording l)) (sym (row_fed preamble header fed x)) ∙ sym found
           ∙ ap where_found t
 
       size : (preamble header fed : List ℕ) → FrontTo k fed p hold preamble header → length (fed ++ piece) ≡ n

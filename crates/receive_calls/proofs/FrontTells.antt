@@ -223,7 +223,7 @@ module _
         last_small = last;
         held = λ kind fed hold buf a kind-is at x clear.
             refused a refl e (omega (arith, at, ap front_chips kind-is))
-            (ap (λ (j : Kind). frontOf j (hard_recording fed)) kind-is ∙ tells fed hold at x)
+            (ap (λ (j : Kind). front_of j (hard_recording fed)) kind-is ∙ tells fed hold at x)
             (record { number_is = refl; place_is = refl; length_is = refl });
       })
 
@@ -264,7 +264,7 @@ module _
     bad_is = λ f. ap place_number (sym (none_unusable fed at));
     odd_is = λ f n. ap place_number (sym (none_odd t.rate fed at));
     goes = λ f n o.
-        payload-starts k t.rate fed p.ear (telling p t).ear hold header buf at ends refl refl refl refl refl
+        payload_starts k t.rate fed p.ear (telling p t).ear hold header buf at ends refl refl refl refl refl
         (clear ∙ ap zeros (sym (ap length clear ∙ length-replicate p.room 0)));
   }
 

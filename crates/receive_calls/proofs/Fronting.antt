@@ -91,7 +91,7 @@ module _
     hold_long = refl;
     preamble_long = refl;
     header_long = refl;
-    front_to = λ fed l y. passes-to certain fed y;
+    front_to = λ fed l y. passes_to certain fed y;
   }
 
 -- ---- a piece of a part

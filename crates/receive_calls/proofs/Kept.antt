@@ -50,7 +50,7 @@ module _
       looked =
           rw (eq-eqb p.bad 0 h)
           (ap place_number
-          (ap (λ (n : ℕ). firstUnusable p.count (hard_recording (take n rest))) (sym same) ∙ sym f))
+          (ap (λ (n : ℕ). first_unusable p.count (hard_recording (take n rest))) (sym same) ∙ sym f))
 
 -- ---- the octets
 

@@ -116,7 +116,7 @@ module _
         is_kind_lem = ap is_kind x.kind_is ∙ a.is_kind_lem;
         is_code_lem = ap is_code x.rate_is ∙ a.is_code_lem;
         few = omega (arith, x.n_is, a.few);
-        from = subst (λ (c : Kind). frontChips c ≤ u.count) (sym kinds) (omega (arith, a.from, x.count_is));
+        from = subst (λ (c : Kind). front_chips c ≤ u.count) (sym kinds) (omega (arith, a.from, x.count_is));
         to = subst (λ (i : ℕ). u.count ≤ i) (sym all)
             (subst (λ (i : ℕ). i ≤ frame_chips k r p.n) (sym x.count_is) to);
       })
@@ -126,7 +126,7 @@ module _
 
       all : frame_chips (kind_of u.kind) (rate_of u.rate) u.n ≡ frame_chips k r p.n
       all =
-          ap₂ {C = ℕ} (λ c s. frameChips c s u.n) kinds (ap rate_of x.rate_is ∙ a.rate_is)
+          ap₂ {C = ℕ} (λ c s. frame_chips c s u.n) kinds (ap rate_of x.rate_is ∙ a.rate_is)
           ∙ ap (frame_chips k r) x.n_is
 
   none_counted : Counts p p 0

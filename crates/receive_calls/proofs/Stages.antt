@@ -36,7 +36,7 @@ paid_of p room k r e st ki ri =
       is_code_lem = x.is_code_lem;
       status_is = st;
       few = x.few;
-      from = subst (λ (c : Kind). frontChips c ≤ p.count) (sym ki) x.from;
+      from = subst (λ (c : Kind). front_chips c ≤ p.count) (sym ki) x.from;
       to = subst (λ (c : Kind). p.count ≤ frame_chips c r p.n) (sym ki)
           (subst (λ (s : Rate). p.count ≤ frame_chips (kind_of p.kind) s p.n) (sym ri) x.to);
       small = takes_phase p room e;
@@ -54,7 +54,7 @@ stays_some p hold preamble header buf rest e st = record {
   header_long = refl;
   long = refl;
   receives = λ kind fed x.
-      stays-more kind (length buf) fed (take (length rest) rest) p hold preamble header buf st x;
+      stays_more kind (length buf) fed (take (length rest) rest) p hold preamble header buf st x;
 }
 
 -- ---- the call

@@ -66,7 +66,7 @@ module _ (p : Progress) where
           where
             last : leb p.count (frame_chips (kind_of p.kind) (rate_of p.rate) p.n) ≡ leb p.count all
             last =
-                ap (leb p.count) (sym (ai ∙ ap₂ {C = ℕ} (λ x y. frameChips x y p.n) ki ri))
+                ap (leb p.count) (sym (ai ∙ ap₂ {C = ℕ} (λ x y. frame_chips x y p.n) ki ri))
 
             first : leb (front_chips (kind_of p.kind)) p.count ≡ true
             first = ap (λ (i : ℕ). leb i p.count) front_is ∙ le-leb front p.count l

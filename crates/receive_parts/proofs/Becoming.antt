@@ -52,9 +52,9 @@ cut k p m h fed e hold out size part u o g = record {
   held_long = long;
   held_is = ap (λ (i : ℕ). take i hold) (sym long) ∙ held_is k p m first held e hold out at small goes;
   usable = unusable_first p (hard_recording first) (hard_recording held) whole
-      (subst (λ (cs : List Taken). sectionUnusable p cs ≡ none) split u);
+      (subst (λ (cs : List Taken). section_unusable p cs ≡ none) split u);
   even = odd_first p (hard_recording first) (hard_recording held) whole
-      (subst (λ (cs : List Taken). sectionOdd p cs ≡ none) split o);
+      (subst (λ (cs : List Taken). section_odd p cs ≡ none) split o);
   stands = resume k p m first held e hold out at small goes;
 }
   where
@@ -139,8 +139,8 @@ held_behind k p m h fed e hold out piece x hold' size part u o g keeps looked =
     let long : h ≡ length c.held = sym c.held_long in
     subst (λ (l : List ℕ). SectionIs k p l (where_found x.bad) (where_found x.odd) x.ear hold' out) all
     (part_held k p m c.first c.held piece e hold' out x c.at (omega (arith, part, long)) c.usable
-    (subst (λ (l : List ℕ). sectionOdd p (hard_recording l) ≡ none) old o) c.stands
-    (λ one. g.last_is one ∙ ap (λ (l : List ℕ). lastHeard One p.phase (words_yet p (hard_recording l))) old)
+    (subst (λ (l : List ℕ). section_odd p (hard_recording l) ≡ none) old o) c.stands
+    (λ one. g.last_is one ∙ ap (λ (l : List ℕ). last_heard One p.phase (words_yet p (hard_recording l))) old)
     (ap (λ (i : ℕ). take (i + length piece) hold') (sym long) ∙ keeps ∙ row)
     (subst (λ (i : ℕ). PartHeld p.rate (p.from + octet_chips p.rate * m) e i (c.held ++ piece) x) long
     (subst (λ (l : List ℕ). PartHeld p.rate (p.from + octet_chips p.rate * m) e h l x) row looked)))

@@ -30,7 +30,7 @@ use Rattle.receive_parts.specs.Pieces.{new_words, PartHeld}
 
 odd_phase : (r : Rate) (a b at : ℕ) (ws vs : List ℕ) → (r ≡ One → a ≡ last_heard One b ws)
     → odd_growth r at (growths_of r a vs) ≡ odd_growth r at (growths_of r (last_heard r b ws) vs)
-odd_phase One a b at ws vs e = ap (λ (i : ℕ). oddGrowth One at (growths_of One i vs)) (e refl)
+odd_phase One a b at ws vs e = ap (λ (i : ℕ). odd_growth One at (growths_of One i vs)) (e refl)
 odd_phase Two a b at ws vs e = refl
 odd_phase Five a b at ws vs e = refl
 odd_phase Eleven a b at ws vs e = refl
@@ -114,7 +114,7 @@ module _
 
   next_is : next_words p old new ≡ new_words q h row
   next_is =
-      ap₂ {C = List ℕ} (λ j cs. decidedWords q j cs)
+      ap₂ {C = List ℕ} (λ j cs. decided_words q j cs)
       (ap₂ {C = ℕ} (λ a b. a - b) after_is before_is ∙ less (octet_symbols q * m) (length row / symbol_chips q) _)
       (drop-drop (symbol_chips q * whole_symbols q p.from old) p.from (old ++ new)
       ∙ ap₂ {C = List Taken} (λ j cs. drop j cs)
@@ -128,7 +128,7 @@ module _
   part_bad : where_found x.bad ≡ section_unusable p (hard_recording (first ++ row))
   part_bad =
       looked.bad_is
-      ∙ ap (λ (j : ℕ). firstUnusable j behind) (sym octets_end)
+      ∙ ap (λ (j : ℕ). first_unusable j behind) (sym octets_end)
       ∙ sym (ap (section_unusable p) by_octets ∙ unusable_next p octets behind (omega (arith, octets_end)) usable)
 
   part_odd : x.bad ≡ Nothing → where_found x.odd ≡ section_odd p (hard_recording (first ++ row))
@@ -137,7 +137,7 @@ module _
       ∙ odd_phase q e.last p.phase _ (words_yet p old) (new_words q h row) last
       ∙ sym (ap (section_odd p) by_piece
       ∙ odd_next p old new (omega (arith, old_long)) even
-      ∙ ap₂ {C = Option ℕ} (λ j ws. oddGrowth q j (growths_of q (last_heard q p.phase (words_yet p old)) ws)) place
+      ∙ ap₂ {C = Option ℕ} (λ j ws. odd_growth q j (growths_of q (last_heard q p.phase (words_yet p old)) ws)) place
       next_is)
 
   part_goes : x.bad ≡ Nothing → x.odd ≡ Nothing → GoesOn k p (first ++ row) x.ear hold out
@@ -149,7 +149,7 @@ module _
       looked.past looked.phase looked.lead looked.symbol)
       (keeps ∙ sym (drop_at first row (p.from + octet_chips q * m) at))
       (λ one. looked.last_is n f one
-      ∙ ap₂ {C = ℕ} (λ i ws. lastHeard One i ws) (last one) (sym next_is)
+      ∙ ap₂ {C = ℕ} (λ i ws. last_heard One i ws) (last one) (sym next_is)
       ∙ sym (last_heard_append One p.phase (words_yet p old) (next_words p old new))
       ∙ ap (last_heard One p.phase)
       (sym (ap (words_yet p) by_piece ∙ words_next p old new (omega (arith, old_long)))))
@@ -157,6 +157,6 @@ module _
   pub part_held : SectionIs k p (first ++ row) (where_found x.bad) (where_found x.odd) x.ear hold out
   part_held = record {
     bad_is = part_bad;
-    odd_is = λ n. part-odd (nothing_found x.bad n);
-    goes = λ n f. part-goes (nothing_found x.bad n) (nothing_found x.odd f);
+    odd_is = λ n. part_odd (nothing_found x.bad n);
+    goes = λ n f. part_goes (nothing_found x.bad n) (nothing_found x.odd f);
   }

@@ -44,7 +44,7 @@ module _
   row_words : take m ns ≡ new_words One h row
   row_words =
       decided_row One (hard_recording row) (11 * (h / 11)) m ns d (omega arith)
-      ∙ ap (λ (i : ℕ). decidedWords One i (drop (11 * (h / 11)) (hard_recording row))) e
+      ∙ ap (λ (i : ℕ). decided_words One i (drop (11 * (h / 11)) (hard_recording row))) e
 
   pub row_long : length (new_words One h row) ≡ m
   row_long =
@@ -71,7 +71,7 @@ pub record Looks (at q last : ℕ) (ws : List ℕ) (l p : ℕ) : Type 0 where
 pub looks_none : (at q last : ℕ) (ws : List ℕ) → last < 4 → Looks at q last ws 0 last
 looks_none at q last ws h = record {
   small = h;
-  odd = ap (λ (i : ℕ). firstOdd (at + 11 * i) (growths_of One last ws)) (sym (add-zero q));
+  odd = ap (λ (i : ℕ). first_odd (at + 11 * i) (growths_of One last ws)) (sym (add-zero q));
   ends = refl;
 }
 
@@ -96,7 +96,7 @@ module _
       (first_odd (at + 11 * (q + l) + 11) (growths_of One n (drop (l + 1) ws)))
   next =
       s.odd
-      ∙ ap (λ (vs : List ℕ). firstOdd (at + 11 * (q + l)) (growths_of One p vs)) words_left
+      ∙ ap (λ (vs : List ℕ). first_odd (at + 11 * (q + l)) (growths_of One p vs)) words_left
       ∙ odd_cons (at + 11 * (q + l)) p n (drop (l + 1) ws) s.small below
 
   pub looks_odd : (n + p) % 2 ≡ 1 → first_odd (at + 11 * q) (growths_of One last ws) ≡ some (at + 11 * (q + l))
@@ -106,7 +106,7 @@ module _
   looks_more f = record {
     small = below;
     odd = next ∙ rw (ne_eqb ((n + p) % 2) 1 f)
-        (ap (λ (i : ℕ). firstOdd i (growths_of One n (drop (l + 1) ws))) (step at q l));
+        (ap (λ (i : ℕ). first_odd i (growths_of One n (drop (l + 1) ws))) (step at q l));
     ends = s.ends ∙ ap (last_heard One p) words_left ∙ last_cons p n (drop (l + 1) ws);
   }
     where
@@ -125,7 +125,7 @@ pub looks_all : (at q last : ℕ) (ws : List ℕ) (l p : ℕ) → Looks at q las
     → (first_odd (at + 11 * q) (growths_of One last ws) ≡ none) × (last_heard One last ws ≡ p)
 looks_all at q last ws l p s b =
     let over : drop l ws ≡ [] = drop_of_length-le ws {i = l} b in (
-      s.odd ∙ ap (λ (vs : List ℕ). firstOdd (at + 11 * (q + l)) (growths_of One p vs)) over
+      s.odd ∙ ap (λ (vs : List ℕ). first_odd (at + 11 * (q + l)) (growths_of One p vs)) over
           ∙ over_odd (at + 11 * (q + l)) p,
       s.ends ∙ ap (last_heard One p) over ∙ over_last p,
     )
@@ -154,12 +154,12 @@ pub held_bad : (r : Rate) (at : ℕ) (e : Ear) (h : ℕ) (row : List ℕ) (q : �
     → PartHeld r at e h row (record { ear = e; bad = At q; odd = Nothing })
 held_bad r at e h row q i b l = record {
   bad_is = i;
-  odd_is = λ z. found-place q z;
+  odd_is = λ z. found_place q z;
   past = refl;
   phase = refl;
   lead = refl;
   symbol = refl;
-  last_is = λ z. found-place q z;
+  last_is = λ z. found_place q z;
   last_small = l;
   bad_few = b;
   odd_few = tt;

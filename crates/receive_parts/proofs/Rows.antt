@@ -46,7 +46,7 @@ pub unusable_shift : (d at : ℕ) (cs : List Taken) → first_unusable (d + at) 
 unfolding first_unusable
 unusable_shift d at [] = refl
 unusable_shift d at (c ∷ cs) =
-    by (is_unusable c) (ap (λ (i : ℕ). firstUnusable i cs) (sym (add-suc d at)) ∙ unusable_shift d (suc at) cs)
+    by (is_unusable c) (ap (λ (i : ℕ). first_unusable i cs) (sym (add-suc d at)) ∙ unusable_shift d (suc at) cs)
   where
     by : (b : Bool) → first_unusable (suc (d + at)) cs ≡ moved d (first_unusable (suc at) cs)
         → cond b (some (d + at)) (first_unusable (suc (d + at)) cs)
@@ -58,7 +58,7 @@ first_shift : (d at : ℕ) (gs : List ℕ) → first_odd (d + at) gs ≡ moved d
 unfolding first_odd
 first_shift d at [] = refl
 first_shift d at (g ∷ gs) =
-    by (eqb (g % 2) 1) (ap (λ (i : ℕ). firstOdd i gs) next ∙ first_shift d (at + 11) gs)
+    by (eqb (g % 2) 1) (ap (λ (i : ℕ). first_odd i gs) next ∙ first_shift d (at + 11) gs)
   where
     next : d + at + 11 ≡ d + (at + 11)
     next = omega arith
@@ -106,7 +106,7 @@ row_unusable at row f g n s e i =
     let all : take n (hard_recording row) ≡ hard_recording row =
     take_all n (hard_recording row) (omega (arith, length_hard row)) in
     i ∙ ap (moved at) (e ∙ ap (first_unusable 0) all) ∙ sym (unusable_shift at 0 (hard_recording row))
-    ∙ ap (λ (i : ℕ). firstUnusable i (hard_recording row)) (add-zero at)
+    ∙ ap (λ (i : ℕ). first_unusable i (hard_recording row)) (add-zero at)
 
 -- a row with no octet above 4 has no unusable chip
 pub row_none : (at most : ℕ) (row : List ℕ) → NoneAbove most row (length row) → most < 5
@@ -125,7 +125,7 @@ row_usable at n row s e =
     let all : take n rec ≡ rec = take_all n rec (omega (arith, length_hard row)) in
     let here : first_unusable 0 rec ≡ none =
     moved_none at (first_unusable 0 rec)
-    (sym (unusable_shift at 0 rec) ∙ ap (λ (i : ℕ). firstUnusable i rec) (add-zero at) ∙ e) in
+    (sym (unusable_shift at 0 rec) ∙ ap (λ (i : ℕ). first_unusable i rec) (add-zero at) ∙ e) in
     none_usable rec 0 n (omega (arith, length_hard row)) (ap (first_unusable 0) all ∙ here)
 
 -- ---- whole octets
@@ -160,7 +160,7 @@ usable_heard r at symbol e row w p odd out x u i b = record {
   bad_is = sym u;
   odd_is = λ z. i ∙ ap (moved at) x.line.place
       ∙ sym (odd_shift r at 0 (growths_of r e.phase (row_words r w row)))
-      ∙ ap (λ (i : ℕ). oddGrowth r i (growths_of r e.phase (row_words r w row))) (add-zero at);
+      ∙ ap (λ (i : ℕ). odd_growth r i (growths_of r e.phase (row_words r w row))) (add-zero at);
   past = λ z. x.line.past;
   phase = λ z. x.line.phase;
   last = λ z. refl;
@@ -180,12 +180,12 @@ pub unusable_heard : (r : Rate) (at symbol : ℕ) (e : Ear) (row : List ℕ) (w 
     → WholeHeard r at symbol e row w (record { ear = e; bad = At q; odd = Nothing }) out
 unusable_heard r at symbol e row w q out i b s l = record {
   bad_is = i;
-  odd_is = λ z. found-place q z;
-  past = λ z. found-place q z;
-  phase = λ z. found-place q z;
-  last = λ z. found-place q z;
-  least = λ z. found-place q z;
-  octets = λ z. found-place q z;
+  odd_is = λ z. found_place q z;
+  past = λ z. found_place q z;
+  phase = λ z. found_place q z;
+  last = λ z. found_place q z;
+  least = λ z. found_place q z;
+  octets = λ z. found_place q z;
   small = s;
   last_small = l;
   bad_few = b;

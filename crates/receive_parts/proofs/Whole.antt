@@ -81,9 +81,9 @@ module _
       symbols_whole p m 0 rec (omega (arith, at_end)) ∙ none_more r in
       let after : whole_symbols r p.from (rec ++ more) ≡ octet_symbols r * (m + w) =
       symbols_whole p (m + w) 0 (rec ++ more) (omega (arith, all_long)) ∙ more_none r in
-      ap₂ {C = List ℕ} (λ a b. decidedWords r (a - b) (drop (symbol_chips r * b) (drop p.from (rec ++ more))))
+      ap₂ {C = List ℕ} (λ a b. decided_words r (a - b) (drop (symbol_chips r * b) (drop p.from (rec ++ more))))
       after before
-      ∙ ap₂ {C = List ℕ} (λ j cs. decidedWords r j cs) (less r)
+      ∙ ap₂ {C = List ℕ} (λ j cs. decided_words r j cs) (less r)
       (drop-drop (symbol_chips r * (octet_symbols r * m)) p.from (rec ++ more)
       ∙ drop_at rec more (p.from + symbol_chips r * (octet_symbols r * m))
       (at_end ∙ ap (λ (j : ℕ). p.from + j) (sym (part_chips r m))))
@@ -109,7 +109,7 @@ module _
   bad_is : where_found x.bad ≡ section_unusable p (hard_recording (fed ++ row))
   bad_is =
       heard.bad_is
-      ∙ ap (λ (j : ℕ). firstUnusable j more) (sym at_end)
+      ∙ ap (λ (j : ℕ). first_unusable j more) (sym at_end)
       ∙ sym (ap (section_unusable p) split ∙ unusable_next p rec more whole usable)
 
   odd_is : x.bad ≡ Nothing → where_found x.odd ≡ section_odd p (hard_recording (fed ++ row))
@@ -117,9 +117,9 @@ module _
       heard.odd_is n
       ∙ sym (ap (section_odd p) split
       ∙ odd_next p rec more whole even
-      ∙ ap₂ {C = Option ℕ} (λ j ws. oddGrowth r j (growths_of r (last_heard r p.phase ws) (next_words p rec more)))
+      ∙ ap₂ {C = Option ℕ} (λ j ws. odd_growth r j (growths_of r (last_heard r p.phase ws) (next_words p rec more)))
       place (words_yet_lem p m rec at_end)
-      ∙ ap₂ {C = Option ℕ} (λ i ws. oddGrowth r (p.from + octet_chips r * m) (growths_of r i ws)) (sym s.at_phase)
+      ∙ ap₂ {C = Option ℕ} (λ i ws. odd_growth r (p.from + octet_chips r * m) (growths_of r i ws)) (sym s.at_phase)
       next_is)
     where
       none_more : (q : Rate) → symbol_chips q * (octet_symbols q * m + 0 / symbol_chips q) ≡ octet_chips q * m
@@ -147,9 +147,9 @@ module _
       (more_octets n))
       (sym (ap (λ (i : ℕ). drop i (fed ++ row)) (sym long) ∙ drop-length (fed ++ row)))
       (λ one. heard.last n ∙ (more_octets n).at_phase
-      ∙ ap (λ (ws : List ℕ). lastHeard r p.phase ws)
+      ∙ ap (λ (ws : List ℕ). last_heard r p.phase ws)
       (sym (ap (words_yet p) split ∙ words_yet_lem p (m + w) (rec ++ more) all_long))
-      ∙ ap (λ (q : Rate). lastHeard q p.phase (words_yet p (hard_recording (fed ++ row)))) one)
+      ∙ ap (λ (q : Rate). last_heard q p.phase (words_yet p (hard_recording (fed ++ row)))) one)
 
   pub whole_octets_lem : SectionIs k p (fed ++ row) (where_found x.bad) (where_found x.odd) x.ear hold
       (take m out ++ (y ++ drop (m + w) out))

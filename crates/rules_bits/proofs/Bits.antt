@@ -190,4 +190,4 @@ number_two a b h k =
 -- octets with the same bits are the same
 pub octets_same : (a b : List ℕ) → length a ≡ length b → Below 256 a → Below 256 b → octet_bits a ≡ octet_bits b → a ≡ b
 octets_same a b e h k q =
-    sym (octets_back a h) ∙ ap₂ {C = List ℕ} (λ n bs. octetsOf n bs) e q ∙ octets_back b k
+    sym (octets_back a h) ∙ ap₂ {C = List ℕ} (λ n bs. octets_of n bs) e q ∙ octets_back b k

@@ -56,7 +56,7 @@ growth_of r p [] j h = absurd (omega arith)
 growth_of r p (n ∷ ns) zero h = refl
 growth_of r p (n ∷ ns) (suc j) h =
     growth_of r (phase_of r n) ns j (omega arith)
-    ∙ ap (λ (q : ℕ). grownBy q (phase_of r (get_or ns j 0))) (sym (before_next r p n ns j))
+    ∙ ap (λ (q : ℕ). grown_by q (phase_of r (get_or ns j 0))) (sym (before_next r p n ns j))
 
 pub last_heard_lem : (r : Rate) (p : ℕ) (ns : List ℕ) → last_heard r p ns ≡ before r p ns (length ns)
 unfolding last_heard

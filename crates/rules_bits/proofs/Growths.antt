@@ -156,4 +156,4 @@ pub last_phase_turned : (q p : ℕ) (ss : List Symbol) → last_phase (turned q 
 unfolding last_phase
 last_phase_turned q p [] = refl
 last_phase_turned q p (s ∷ ss) =
-    ap (λ (x : ℕ). lastPhase x ss) (grown_turned q p s.grows) ∙ last_phase_turned q (turned p s.grows) ss
+    ap (λ (x : ℕ). last_phase x ss) (grown_turned q p s.grows) ∙ last_phase_turned q (turned p s.grows) ss

@@ -237,7 +237,7 @@ last_number r k p (suc m) bs h =
     let s = symbol_of r k d in
     let q = turned p s.grows in
     let rest = symbols_from r (suc k) m (drop (symbol_bits r) bs) in
-    ap (λ (x : ℕ). lastHeard r x (numbers_from r q rest))
+    ap (λ (x : ℕ). last_heard r x (numbers_from r q rest))
     (number_phase q s (omega arith) (symbol_proper r k d (below_take (symbol_bits r) h)) r)
     ∙ last_number r (suc k) q m (drop (symbol_bits r) bs) (below_drop (symbol_bits r) h)
 
@@ -255,7 +255,7 @@ pub growths_of_append : (r : Rate) (p : ℕ) (a b : List ℕ)
 unfolding growths_of last_heard
 growths_of_append r p [] b = refl
 growths_of_append r p (n ∷ a) b =
-    ap {B = List ℕ} (λ l. grownBy p (phase_of r n) ∷ l) (growths_of_append r (phase_of r n) a b)
+    ap {B = List ℕ} (λ l. grown_by p (phase_of r n) ∷ l) (growths_of_append r (phase_of r n) a b)
 
 pub last_heard_append : (r : Rate) (p : ℕ) (a b : List ℕ) → last_heard r p (a ++ b) ≡ last_heard r (last_heard r p a) b
 unfolding last_heard

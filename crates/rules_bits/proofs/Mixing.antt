@@ -55,7 +55,7 @@ moved_4 : (q : ℕ) → q < 256
 unfolding bits_of
 moved_4 q l =
     λ i.
-    at-0 q i ∷ at_1 q i ∷ at_2 q i ∷ at_3 q i ∷ none (q / 16) (omega arith) i ∷ none (q / 16 / 2) (omega arith) i
+    at_0 q i ∷ at_1 q i ∷ at_2 q i ∷ at_3 q i ∷ none (q / 16) (omega arith) i ∷ none (q / 16 / 2) (omega arith) i
     ∷ none (q / 16 / 2 / 2) (omega arith) i ∷ none (q / 16 / 2 / 2 / 2) (omega arith) i ∷ []
   where
     at_0 : (q : ℕ) → q / 16 % 2 ≡ q / 2 / 2 / 2 / 2 % 2
@@ -87,7 +87,7 @@ moved_1 q l = λ i. q / 2 % 2 ∷ q / 2 / 2 % 2 ∷ q / 2 / 2 / 2 % 2 ∷ q / 2 
 -- the octet's own first outputs, moved by 4 and by 7
 again_4 : (t : ℕ) → bits_of 8 (t % 16 * 16) ≡ 0 ∷ 0 ∷ 0 ∷ 0 ∷ t % 2 ∷ t / 2 % 2 ∷ t / 2 / 2 % 2 ∷ t / 2 / 2 / 2 % 2 ∷ []
 unfolding bits_of
-again_4 t = λ i. at-0 t i ∷ at_1 t i ∷ at_2 t i ∷ at_3 t i ∷ at_4 t i ∷ at_5 t i ∷ at_6 t i ∷ at_7 t i ∷ []
+again_4 t = λ i. at_0 t i ∷ at_1 t i ∷ at_2 t i ∷ at_3 t i ∷ at_4 t i ∷ at_5 t i ∷ at_6 t i ∷ at_7 t i ∷ []
   where
     at_0 : (t : ℕ) → (t % 16 * 16) % 2 ≡ 0
     at_0 t = omega arith
@@ -115,7 +115,7 @@ again_4 t = λ i. at-0 t i ∷ at_1 t i ∷ at_2 t i ∷ at_3 t i ∷ at_4 t i �
 
 again_7 : (t : ℕ) → bits_of 8 (t % 2 * 128) ≡ 0 ∷ 0 ∷ 0 ∷ 0 ∷ 0 ∷ 0 ∷ 0 ∷ t % 2 ∷ []
 unfolding bits_of
-again_7 t = λ i. at-0 t i ∷ at_1 t i ∷ at_2 t i ∷ at_3 t i ∷ at_4 t i ∷ at_5 t i ∷ at_6 t i ∷ at_7 t i ∷ []
+again_7 t = λ i. at_0 t i ∷ at_1 t i ∷ at_2 t i ∷ at_3 t i ∷ at_4 t i ∷ at_5 t i ∷ at_6 t i ∷ at_7 t i ∷ []
   where
     at_0 : (t : ℕ) → (t % 2 * 128) % 2 ≡ 0
     at_0 t = omega arith

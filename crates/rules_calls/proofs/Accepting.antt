@@ -46,7 +46,7 @@ same_eq (x ∷ xs) (y ∷ ys) e =
     (same_eq xs ys (right_is (eqb x y) (same_bits xs ys) e))
 
 same_is : (xs ys : List ℕ) → xs ≡ ys → same_bits xs ys ≡ true
-same_is xs ys e = subst (λ (zs : List ℕ). sameBits xs zs ≡ true) e (same_refl xs)
+same_is xs ys e = subst (λ (zs : List ℕ). same_bits xs zs ≡ true) e (same_refl xs)
 
 -- fields that are accepted, and what they tell: 1 to 4,095 octets, LENGTH and bit 7 being those sent for them
 pub record Tells (accepted : Accepted) (k : Kind) (signal service l : ℕ) (t : Told) : Type 0 where

@@ -34,7 +34,7 @@ pub with_crc : (a b c d : ℕ) (crc : List ℕ) → length crc ≡ 2 → octet_b
     ≡ octet_bits (a ∷ b ∷ c ∷ d ∷ []) ++ crc_bits (octet_bits (a ∷ b ∷ c ∷ d ∷ []))
 with_crc a b c d crc e q =
     octet_bits_append (a ∷ b ∷ c ∷ d ∷ []) (get_or crc 0 0 ∷ get_or crc 1 0 ∷ [])
-    ∙ ap (λ (l : List ℕ). octetBits (a ∷ b ∷ c ∷ d ∷ []) ++ l) (sym (ap octet_bits (two_is crc e)) ∙ q)
+    ∙ ap (λ (l : List ℕ). octet_bits (a ∷ b ∷ c ∷ d ∷ []) ++ l) (sym (ap octet_bits (two_is crc e)) ∙ q)
 
 pub field_octets : (s v l : ℕ) → octet_bits (s ∷ v ∷ l % 256 ∷ l / 256 ∷ []) ≡ field_bits s v l
 unfolding octet_bits field_bits

@@ -85,7 +85,7 @@ ours_sends k signal service l t h =
     let named = rate_of signal in
     record {
       goes =
-          subst (λ (r : Rate). goesWith k r ≡ true) (sym h.rate_is)
+          subst (λ (r : Rate). goes_with k r ≡ true) (sym h.rate_is)
           (right_is (is_code signal) (goes_with k named) coded);
       some = h.some;
       few = h.few;

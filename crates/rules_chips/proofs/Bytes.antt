@@ -57,7 +57,7 @@ bytes_usable bytes k h = ap is_unusable (get_or_bytes bytes k h)
 
 -- a part of w chips from a place
 pub part_bytes : (bytes : List ℤ) (place w : ℕ) → place + w ≤ length bytes / 2
-    → map taken_counts (take w (drop place (byte_recording bytes))) ≡ tabulate (λ j. countsAt bytes (place + j)) w
+    → map taken_counts (take w (drop place (byte_recording bytes))) ≡ tabulate (λ j. counts_at bytes (place + j)) w
 part_bytes bytes place w h =
     part_counts (byte_recording bytes) (counts_at bytes) place w (omega (arith, length_bytes bytes))
     (λ k l. ap taken_counts (get_or_bytes bytes k (omega (arith, length_bytes bytes))))

@@ -116,7 +116,7 @@ byte_row_lem = refl
 -- every byte, from -128 to 127: as I and as Q 16 times itself
 abbrev pub ByteTable : Type 0
 ByteTable =
-    tabulate (λ k. byteCounts (pos k -ℤ pos 128) (pos 127 -ℤ pos k)) 256
+    tabulate (λ k. byte_counts (pos k -ℤ pos 128) (pos 127 -ℤ pos k)) 256
     ≡ tabulate (λ k. pair (pos (16 * k) -ℤ pos 2048) (pos 2032 -ℤ pos (16 * k))) 256
 
 pub byte_table : ByteTable

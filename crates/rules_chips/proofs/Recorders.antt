@@ -81,7 +81,7 @@ pub take_hard : (n : ℕ) (xs : List ℕ) → take n (hard_recording xs) ≡ har
 unfolding hard_recording
 take_hard zero xs = refl
 take_hard (suc n) [] = refl
-take_hard (suc n) (x ∷ xs) = ap (λ (r : List Taken). hardTaken x ∷ r) (take_hard n xs)
+take_hard (suc n) (x ∷ xs) = ap (λ (r : List Taken). hard_taken x ∷ r) (take_hard n xs)
 
 pub drop_hard : (n : ℕ) (xs : List ℕ) → drop n (hard_recording xs) ≡ hard_recording (drop n xs)
 unfolding hard_recording
@@ -92,7 +92,7 @@ drop_hard (suc n) (x ∷ xs) = drop_hard n xs
 pub append_hard : (xs ys : List ℕ) → hard_recording (xs ++ ys) ≡ hard_recording xs ++ hard_recording ys
 unfolding hard_recording
 append_hard [] ys = refl
-append_hard (x ∷ xs) ys = ap (λ (r : List Taken). hardTaken x ∷ r) (append_hard xs ys)
+append_hard (x ∷ xs) ys = ap (λ (r : List Taken). hard_taken x ∷ r) (append_hard xs ys)
 
 -- ---- a soft recording
 pub length_soft : (xs ys : List Float) → length (soft_recording xs ys) ≡ min (length xs) (length ys)
@@ -122,7 +122,7 @@ unfolding soft_recording
 take_soft zero xs ys = refl
 take_soft (suc n) [] ys = refl
 take_soft (suc n) (x ∷ xs) [] = refl
-take_soft (suc n) (x ∷ xs) (y ∷ ys) = ap (λ (r : List Taken). softTaken x y ∷ r) (take_soft n xs ys)
+take_soft (suc n) (x ∷ xs) (y ∷ ys) = ap (λ (r : List Taken). soft_taken x y ∷ r) (take_soft n xs ys)
 
 pub drop_soft : (n : ℕ) (xs ys : List Float) → drop n (soft_recording xs ys) ≡ soft_recording (drop n xs) (drop n ys)
 unfolding soft_recording
@@ -138,7 +138,7 @@ pub part_counts : (rec : List Taken) (counts : ℕ → Counts) (place w : ℕ) �
 part_counts rec counts place w h f =
     map_tabulate taken_counts (take w (drop place rec)) w unusable
     (length-take-le w (drop place rec) (omega (arith, length-drop place rec)))
-    ∙ tabulate_ext (λ k. takenCounts (get_or (take w (drop place rec)) k unusable)) (λ k. counts (place + k)) w
+    ∙ tabulate_ext (λ k. taken_counts (get_or (take w (drop place rec)) k unusable)) (λ k. counts (place + k)) w
     (λ k l. ap taken_counts (get_or-take w (drop place rec) k unusable l ∙ get_or-drop place rec k unusable)
     ∙ f (place + k) (omega arith))
 
@@ -148,16 +148,16 @@ pub part_taken : (rec : List Taken) (chip : ℕ → Chip) (place w : ℕ) → pl
     → map taken_counts (take w (drop place rec)) ≡ map counts_of (tabulate (λ j. chip (place + j)) w)
 part_taken rec chip place w h f =
     let cs = tabulate (λ j. chip (place + j)) w in
-    part_counts rec (λ k. countsOf (chip k)) place w h f
+    part_counts rec (λ k. counts_of (chip k)) place w h f
     ∙ sym (map_tabulate counts_of cs w Lost (length_tabulate (λ j. chip (place + j)) w)
-    ∙ tabulate_ext (λ k. countsOf (get_or cs k Lost)) (λ k. countsOf (chip (place + k))) w
+    ∙ tabulate_ext (λ k. counts_of (get_or cs k Lost)) (λ k. counts_of (chip (place + k))) w
     (λ k l. ap counts_of (get_or_tabulate (λ j. chip (place + j)) w k Lost l)))
 
 pub part_hard : (xs : List ℕ) (place w : ℕ) → place + w ≤ length xs
     → map taken_counts (take w (drop place (hard_recording xs)))
-    ≡ map counts_of (tabulate (λ j. hardChip (get_or xs (place + j) 0)) w)
+    ≡ map counts_of (tabulate (λ j. hard_chip (get_or xs (place + j) 0)) w)
 part_hard xs place w h =
-    part_taken (hard_recording xs) (λ k. hardChip (get_or xs k 0)) place w (omega (arith, length_hard xs))
+    part_taken (hard_recording xs) (λ k. hard_chip (get_or xs k 0)) place w (omega (arith, length_hard xs))
     (λ k l. ap taken_counts (get_or_hard xs k unusable 0 (omega (arith, length_hard xs))) ∙ taken_hard (get_or xs k 0))
 
 pub part_soft : (xs ys : List Float) (place w : ℕ) (d : Float) → length xs ≡ length ys → place + w ≤ length xs

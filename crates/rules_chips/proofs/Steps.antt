@@ -127,7 +127,7 @@ usable_is (fin s m e) t =
     let n = steps (fin s m e) in
     let x = steps_exact s m e t in
     same (leb n (8 * 2 ^ 149)) (above (fin s m e) && below (fin s m e))
-    (λ (h : T (leb n (8 * 2 ^ 149))). eight-down s m e
+    (λ (h : T (leb n (8 * 2 ^ 149))). eight_down s m e
     (under n (m * up e) (down e) (2 ^ 149) (down_pos e) (pow_pos 149) x (leb→le n (8 * 2 ^ 149) h)))
     (λ (h : T (above (fin s m e) && below (fin s m e))). le→leb n (8 * 2 ^ 149)
     (over n (m * up e) (down e) (2 ^ 149) (down_pos e) (pow_pos 149) x (eight_up s m e h)))

@@ -28,9 +28,9 @@ module _ (r : Rate) (cs ds : List Counts) (e : (n : ℕ) → n < numbers r → s
         among = b.among;
         allowed = b.allowed;
         top = λ m l a. subst (λ z. z ≤ℤ score_at r ds (decided r cs)) (e m l)
-            (subst (λ z. scoreAt r cs m ≤ℤ z) (e (decided r cs) b.among) (b.top m l a));
+            (subst (λ z. score_at r cs m ≤ℤ z) (e (decided r cs) b.among) (b.top m l a));
         first = λ m l a. subst (λ z. z <ℤ score_at r ds (decided r cs)) (e m (omega (arith, b.among)))
-            (subst (λ z. scoreAt r cs m <ℤ z) (e (decided r cs) b.among) (b.first m l a));
+            (subst (λ z. score_at r cs m <ℤ z) (e (decided r cs) b.among) (b.first m l a));
       }
 
   decided_alike : decided r cs ≡ decided r ds
@@ -47,7 +47,7 @@ module _ (r : Rate) (cs ds : List Counts) (e : (n : ℕ) → n < numbers r → s
         allowed = x.allowed;
         other = x.other;
         top = λ j l a d. subst (λ z. z ≤ℤ score_at r ds m) (e j l)
-            (subst (λ z. scoreAt r cs j ≤ℤ z) (e m x.among) (x.top j l a d));
+            (subst (λ z. score_at r cs j ≤ℤ z) (e m x.among) (x.top j l a d));
       })
 
   lead_alike : lead_of r cs ≡ lead_of r ds

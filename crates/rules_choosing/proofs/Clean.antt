@@ -135,5 +135,5 @@ pub decided_clean : (full : ℕ) → 0 < full → (r : Rate) (n : ℕ) → n < n
     → decided r (clean full (word_of r n)) ≡ n
 decided_clean full h r n below a =
     decided_leads_lem r (clean full (word_of r n)) n below a
-    (λ m k b ne. score-other full h (word_of r m) (word_of r n) (word_phases r m) (word_phases r n)
+    (λ m k b ne. score_other full h (word_of r m) (word_of r n) (word_phases r m) (word_phases r n)
     (word_length r m ∙ sym (word_length r n)) (λ e. ne (word_one r m n k below e)))

@@ -85,7 +85,7 @@ barker_near_lem n w hn hw ne =
     let ew : (4 * n + w) % 4 ≡ w = omega arith in
     let t : T (barker_near n w) = subst (λ (x : ℕ). T (barker_near x w)) en
     (subst (λ (y : ℕ). T (barker_near ((4 * n + w) / 4) y)) ew
-    (all_at (λ j. barkerNear (j / 4) (j % 4)) 16 tt (4 * n + w) (omega arith))) in
+    (all_at (λ j. barker_near (j / 4) (j % 4)) 16 tt (4 * n + w) (omega arith))) in
     let le = leb→le (agreeing (barker_word n) (barker_word w)) (opposed (barker_word n) (barker_word w))
     (implied (not (eqb n w)) _ t (unequal n w ne)) in
     omega (arith, le)

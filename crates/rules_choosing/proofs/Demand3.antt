@@ -93,6 +93,6 @@ demand_3 half r counts exact d e a = record {
     above : (n : ℕ) → n < numbers r → T (is_allowed r n)
         → exact_at r exact n ≤ℤ (exact_at r exact (decided r counts) +ℤ pos error)
     above n h t =
-        subst (λ (x : ℕ). exactAt r exact n ≤ℤ (exact_at r exact (decided r counts) +ℤ pos x))
+        subst (λ (x : ℕ). exact_at r exact n ≤ℤ (exact_at r exact (decided r counts) +ℤ pos x))
         (twice half (symbol_chips r))
         (none_above count (half * symbol_chips r) best (off_each half r counts exact d e a) n h t)

@@ -217,7 +217,7 @@ module _ (n w : ℕ) where
   pub difference_none : n < 256 → w < 256 → difference ≡ 0 → n ≡ w
   difference_none hn hw e =
       sym (number_back n hn)
-      ∙ (λ i. cckNumber
+      ∙ (λ i. cck_number
       (alike (p1_of n) (p1_of w) (turn _) (turn _) none.0 i)
       (alike (p2_of n) (p2_of w) (turn _) (turn _) none.1 i)
       (alike (p3_of n) (p3_of w) (turn _) (turn _) none.2 i)

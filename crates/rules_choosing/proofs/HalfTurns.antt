@@ -32,13 +32,13 @@ unfolding score
 score_half [] cs h = refl
 score_half (p ∷ w) [] h = refl
 score_half (p ∷ w) (c ∷ cs) h =
-    (λ i. term-half p c (h.at 0) i +ℤ score_half w cs (phases_tail h) i) ∙ sym (neg_ℤ-+ℤ (term p c) (score w cs))
+    (λ i. term_half p c (h.at 0) i +ℤ score_half w cs (phases_tail h) i) ∙ sym (neg_ℤ-+ℤ (term p c) (score w cs))
 
 -- the words of the upper numbers are those of the lower ones, turned by a half
 abbrev half_turned : List ℕ → List ℕ
 half_turned w = map (λ p. turned p 2) w
 
-cck_halves : tabulate (λ n. cckOf (128 + n)) 128 ≡ tabulate (λ n. halfTurned (cck_of n)) 128
+cck_halves : tabulate (λ n. cck_of (128 + n)) 128 ≡ tabulate (λ n. half_turned (cck_of n)) 128
 unfolding tabulate cck_word
 cck_halves = refl
 
@@ -46,9 +46,9 @@ pub cck_half : (cs : List Counts) (n : ℕ) → n < 128 → neg_ℤ (score (cck_
 cck_half cs n h =
     sym (score_half (cck_of n) cs (cck_phases _ _ _ _))
     ∙ ap (λ (w : List ℕ). score w cs)
-    (sym (get_or_tabulate (λ j. halfTurned (cck_of j)) 128 n [] h)
+    (sym (get_or_tabulate (λ j. half_turned (cck_of j)) 128 n [] h)
     ∙ ap (λ (t : List (List ℕ)). get_or t n []) (sym cck_halves)
-    ∙ get_or_tabulate (λ j. cckOf (128 + j)) 128 n [] h)
+    ∙ get_or_tabulate (λ j. cck_of (128 + j)) 128 n [] h)
 
 -- the same of the sixteen words of 5.5 Mbit/s
 abbrev pub five_score : List Counts → ℕ → ℤ

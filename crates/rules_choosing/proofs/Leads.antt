@@ -44,7 +44,7 @@ others_those : (ok : ℕ → Bool) (w n : ℕ) → others w (those ok n) ≡ tho
 unfolding those others
 others_those ok w zero = refl
 others_those ok w (suc n) =
-    others_append w (those ok n) (cond (ok n) (n ∷ []) []) ∙ (λ i. others-those ok w n i ++ last (ok n) i)
+    others_append w (those ok n) (cond (ok n) (n ∷ []) []) ∙ (λ i. others_those ok w n i ++ last (ok n) i)
   where
     flip : (b : Bool) → cond b [] (n ∷ []) ≡ cond (not b) (n ∷ []) []
     flip true = refl

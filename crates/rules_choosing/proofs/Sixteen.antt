@@ -46,11 +46,11 @@ number_below : (k : ℕ) → k < 16 → number5 k < 256
 number_below k l = ltb→lt _ _ (all_at (λ j. ltb (number5 j) 256) 16 tt k l)
 
 number_allowed : (k : ℕ) → k < 16 → T (is_allowed Five (number5 k))
-number_allowed = all_at (λ j. isAllowed Five (number5 j)) 16 tt
+number_allowed = all_at (λ j. is_allowed Five (number5 j)) 16 tt
 
 -- ---- what is best and next among the places is so among the allowed
-module _ (cs : List Counts) (w m s t : ℕ) (b : BestOf (λ j. true) 16 (λ k. scoreAt Five cs (number5 k)) w)
-    (x : NextTo (λ j. true) 16 (λ k. scoreAt Five cs (number5 k)) w m) where
+module _ (cs : List Counts) (w m s t : ℕ) (b : BestOf (λ j. true) 16 (λ k. score_at Five cs (number5 k)) w)
+    (x : NextTo (λ j. true) 16 (λ k. score_at Five cs (number5 k)) w m) where
   abbrev f : ℕ → ℤ
   f = score_at Five cs
 

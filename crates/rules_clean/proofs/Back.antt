@@ -134,7 +134,7 @@ module _ (kind : ℕ) (r : Rate) (p : ℕ) (clock : Bool) (xs : List ℕ) (is-ki
 
       pub front_refused : j < front_chips k → reading_of kind agree cut room ≡ reading.Refused ShorterThanFront
       front_refused h =
-          back.opened kind is-kind agree cut room e ∙ ap (λ f. afterFront k cut room (whole_of k cut f)) cut_refused
+          back.opened kind is-kind agree cut room e ∙ ap (λ f. after_front k cut room (whole_of k cut f)) cut_refused
         where
           cut_refused : front_of k cut ≡ front.Refused ShorterThanFront
           cut_refused = unfold front_by in rw (lt-ltb (length cut) (front_chips k) (omega (arith, cut_length)))
@@ -142,7 +142,7 @@ module _ (kind : ℕ) (r : Rate) (p : ℕ) (clock : Bool) (xs : List ℕ) (is-ki
       pub payload_refused : front_chips k ≤ j
           → reading_of kind agree cut room ≡ reading.Refused (Ends (length_field r n))
       payload_refused h =
-          back.opened kind is-kind agree cut room e ∙ ap (λ f. afterFront k cut room (whole_of k cut f)) known
+          back.opened kind is-kind agree cut room e ∙ ap (λ f. after_front k cut room (whole_of k cut f)) known
           ∙ ap (after_front k cut room) ends
         where
           known : front_of k cut ≡ front.Fields t

@@ -49,11 +49,11 @@ module _ (r : Rate) (ns : List ℕ) (rest : List Taken) (m : ℕ) (a : Allowed r
   begun = clean_recording (words_chips r ns) ++ rest
 
   begins : decided_words r m begun ≡ ns
-  begins = ap (λ (j : ℕ). decidedWords r j begun) (sym e) ∙ decided_words_lem r ns rest a
+  begins = ap (λ (j : ℕ). decided_words r j begun) (sym e) ∙ decided_words_lem r ns rest a
 
   begins_leads : decided_leads r m begun ≡ replicate m (1024 * clean_lead r)
   begins_leads =
-      ap (λ (j : ℕ). decidedLeads r j begun) (sym e) ∙ decided_leads_lem r ns rest a
+      ap (λ (j : ℕ). decided_leads r j begun) (sym e) ∙ decided_leads_lem r ns rest a
       ∙ ap (λ (j : ℕ). replicate j (1024 * clean_lead r)) e
 
   follows : drop (m * symbol_chips r) begun ≡ rest
@@ -156,7 +156,7 @@ module _ (k : Kind) (r : Rate) (p : ℕ) (header xs : List ℕ) (rest : List Tak
   no_unusable : first_unusable (front_chips k) (take (frame_chips k r n - front_chips k) (drop (front_chips k) recording))
       ≡ none
   no_unusable =
-      ap (λ (t : List Taken). firstUnusable (front_chips k) (take (frame_chips k r n - front_chips k) t)) dropped
+      ap (λ (t : List Taken). first_unusable (front_chips k) (take (frame_chips k r n - front_chips k) t)) dropped
       ∙ none_unusable (front_chips k) (frame_chips k r n - front_chips k)
       (drop (front_chips k) (framed k r p header xs)) rest
       (rw (length-drop, framed_length k r p header xs eh) (omega arith))

@@ -28,7 +28,7 @@ use Rattle.rules_bits.proofs.Sent.{Allowed, none, more}
 
 counts_clean : (w : List ℕ) → map taken_counts (map clean_taken w) ≡ map (full_chip 1024) w
 counts_clean [] = refl
-counts_clean (p ∷ w) = ap {B = List Counts} (λ l. fullChip 1024 p ∷ l) (counts_clean w)
+counts_clean (p ∷ w) = ap {B = List Counts} (λ l. full_chip 1024 p ∷ l) (counts_clean w)
 
 pub clean_append : (a b : List ℕ) → clean_recording (a ++ b) ≡ clean_recording a ++ clean_recording b
 unfolding clean_recording
@@ -48,7 +48,7 @@ pub clean_take : (j : ℕ) (a : List ℕ) → take j (clean_recording a) ≡ cle
 unfolding clean_recording
 clean_take zero a = refl
 clean_take (suc j) [] = refl
-clean_take (suc j) (p ∷ a) = ap (λ (l : List Taken). cleanTaken p ∷ l) (clean_take j a)
+clean_take (suc j) (p ∷ a) = ap (λ (l : List Taken). clean_taken p ∷ l) (clean_take j a)
 
 -- no chip of a clean recording is unusable
 pub none_unusable : (at m : ℕ) (chips : List ℕ) (rest : List Taken) → m ≤ length chips

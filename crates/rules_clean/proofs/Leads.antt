@@ -29,7 +29,7 @@ taken : (k : ℕ) (b : Least) (m x : ℕ) → 0 < m → x < b.lead → least_fro
 taken k b m x s h =
     least_found k b (replicate m x) 0 (rw (length-replicate m x) s) (rw (entry 0 s) h)
     (λ j l. rw (entry 0 s, entry j (rw (length-replicate m x) at l)) (omega arith)) (λ j l. absurd (not-suc-le-zero l))
-    ∙ (λ i. leadAt (entry 0 s i) (add-zero k i))
+    ∙ (λ i. lead_at (entry 0 s i) (add-zero k i))
   where
     entry : (j : ℕ) → j < m → get_or (replicate m x) j 0 ≡ x
     entry j l = get_or-replicate m j x 0 l
@@ -38,13 +38,13 @@ taken k b m x s h =
 alike : (a b x : ℕ) → 0 < a → least_of (replicate a x ++ replicate b x) ≡ lead_at x 0
 alike a b x s =
     least_of_joined (replicate a x) (replicate b x) (rw (length-replicate a x) s)
-    ∙ ap (λ (c : Least). leastFrom (length (replicate a x)) c (replicate b x)) first
+    ∙ ap (λ (c : Least). least_from (length (replicate a x)) c (replicate b x)) first
     ∙ kept (length (replicate a x)) (lead_at x 0) b x (omega arith)
   where
     first : least_of (replicate a x) ≡ lead_at x 0
     first =
         unfold least_of in
-        ap (λ (y : ℕ). leastFrom 0 (lead_at y 0) (replicate a x)) (get_or-replicate a 0 x 0 s)
+        ap (λ (y : ℕ). least_from 0 (lead_at y 0) (replicate a x)) (get_or-replicate a 0 x 0 s)
         ∙ kept 0 (lead_at x 0) a x (omega arith)
 
 -- behind it a payload's, of which there are some
@@ -68,7 +68,7 @@ pub clean_least_lem : (k : Kind) (r : Rate) (n : ℕ) (rec : List Taken) → 1 �
     → least_of (frame_leads k r n rec) ≡ clean_least k r
 clean_least_lem k r n rec some f p =
     least_of_joined (front_leads k rec) (payload_leads k r n rec) (rw many (symbols k))
-    ∙ (λ i. leastFrom (many i) (front i) (p i))
+    ∙ (λ i. least_from (many i) (front i) (p i))
     ∙ payload k r (8 * n / symbol_bits r) (some_symbols r n some)
   where
     symbols : (k : Kind) → 0 < front_symbols k

@@ -120,24 +120,24 @@ module _ (k : Kind) (r : Rate) (p : ℕ) (header xs : List ℕ) (eh : length hea
   header_phase_lem : header_phase k rec ≡ q1
   unfolding header_phase
   header_phase_lem =
-      ap₂ {C = ℕ} (λ f w. lastHeard One f w) reference_is preamble_words_lem
+      ap₂ {C = ℕ} (λ f w. last_heard One f w) reference_is preamble_words_lem
       ∙ last_own p first_bit later_bits l
-      ∙ ap (λ (t : List ℕ). lastHeard One p (words_of One p t)) (sym preamble_headed)
+      ∙ ap (λ (t : List ℕ). last_heard One p (words_of One p t)) (sym preamble_headed)
       ∙ last_of One p preamble (words.preamble_below k r p header xs eh)
 
   payload_phase_lem : payload_phase k rec ≡ q2
   unfolding payload_phase
   payload_phase_lem =
-      ap₂ {C = ℕ} (λ f w. lastHeard rate f w) header_phase_lem begun.header_words_lem
+      ap₂ {C = ℕ} (λ f w. last_heard rate f w) header_phase_lem begun.header_words_lem
       ∙ last_of rate q1 header_bits (words.header_below k r p header xs eh)
 
   pub front_none : front_odd k rec ≡ none
   unfolding front_odd
   front_none =
       ap₂ {C = Option ℕ} (λ x y. or_else x (λ place. some place) y)
-      (ap₂ {C = Option ℕ} (λ f w. firstOdd 0 (growths_of One f w)) reference_is preamble_words_lem
+      (ap₂ {C = Option ℕ} (λ f w. first_odd 0 (growths_of One f w)) reference_is preamble_words_lem
       ∙ none_own p first_bit later_bits l 0)
-      (ap₂ {C = Option ℕ} (λ f w. oddGrowth rate (preamble_chips k) (growths_of rate f w)) header_phase_lem
+      (ap₂ {C = Option ℕ} (λ f w. odd_growth rate (preamble_chips k) (growths_of rate f w)) header_phase_lem
       begun.header_words_lem
       ∙ header_none k (preamble_chips k) q1 header_bits lq1)
 
@@ -155,7 +155,7 @@ module _ (k : Kind) (r : Rate) (p : ℕ) (header xs : List ℕ) (eh : length hea
     pub payload_odd_lem : payload_odd k r n rec ≡ none
     unfolding payload_odd
     payload_odd_lem =
-        ap₂ {C = Option ℕ} (λ f w. oddGrowth r (front_chips k) (growths_of r f w)) payload_phase_lem sent.payload_words_lem
+        ap₂ {C = Option ℕ} (λ f w. odd_growth r (front_chips k) (growths_of r f w)) payload_phase_lem sent.payload_words_lem
         ∙ payload_none r (front_chips k) q2 payload lq2
 
     pub payload_heard : heard r 0 (payload_phase k rec) (payload_words k r n rec) ≡ payload

@@ -149,7 +149,7 @@ module _ (p : ℕ) (b : ℕ) (bs : List ℕ) (l : p < 4) where
   pub none_own : (at : ℕ) → first_odd at (growths_of One first words) ≡ none
   unfolding later
   none_own at =
-      ap (λ (w : List ℕ). firstOdd at (growths_of One first w)) cons_words
+      ap (λ (w : List ℕ). first_odd at (growths_of One first w)) cons_words
       ∙ skip at
       ∙ none_odd (at + 11) 1 first (length bs) bs (quarter p (2 * b))
 

@@ -67,7 +67,7 @@ module _ (kind : ℕ) (r : Rate) (p : ℕ) (clock : Bool) (xs : List ℕ) (is-ki
     rec_is : reading_of kind agree rec room ≡ payload_reading k t rec room
     rec_is =
         opened kind is-kind agree rec room e
-        ∙ ap (λ f. afterFront k rec room (whole_of k rec f)) (front_is sent.front)
+        ∙ ap (λ f. after_front k rec room (whole_of k rec f)) (front_is sent.front)
         ∙ ap (after_front k rec room)
         (whole.whole_there k r p header xs (sent_length r clock n) rec l (sent_below r clock n) sent
         (length_field r n) clock)

@@ -220,12 +220,12 @@ module _ (k : Kind) (r : Rate) (p : ℕ) (header xs : List ℕ) (eh : length hea
         let e2 = sent.front.header_words_lem in
         let e3 = sent.payload_words_lem in
         words.words_are k r p header xs eh
-        ∙ (λ i. wordsChips One (sym e1 i) ++ (words_chips (header_rate k) (sym e2 i) ++ words_chips r (sym e3 i)))
+        ∙ (λ i. words_chips One (sym e1 i) ++ (words_chips (header_rate k) (sym e2 i) ++ words_chips r (sym e3 i)))
 
     pub payload_read : Below 256 xs → payload_of k r n rec ≡ xs
     unfolding payload_of
     payload_read h256 =
-        ap₂ {C = List ℕ} (λ f t. octetsOf n (drop (m + 48) (descramble (start k) (f ++ t))))
+        ap₂ {C = List ℕ} (λ f t. octets_of n (drop (m + 48) (descramble (start k) (f ++ t))))
         (front_heard_lem k r p header xs eh rec l sent.front)
         (payload_heard k r p header xs eh rec l sent.front sent)
         ∙ ap (octets_of n)

@@ -201,7 +201,7 @@ module _ (xs ys : List ℕ) where
 
   pub left_ended : (at : ℕ) → (length xs ≤ at) ⊎ (length ys ≤ at) → left at ≡ []
   unfolding differences_from
-  left_ended at (inl h) = ap (λ (l : List ℕ). differencesFrom at l (drop at ys)) (drop_of_length-le xs h)
+  left_ended at (inl h) = ap (λ (l : List ℕ). differences_from at l (drop at ys)) (drop_of_length-le xs h)
   left_ended at (inr h) = ap (differences_from at (drop at xs)) (drop_of_length-le ys h) ∙ none_behind at (drop at xs)
 
   pub left_cut : (at : ℕ) → at < length xs → at < length ys

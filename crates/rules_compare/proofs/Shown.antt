@@ -106,7 +106,7 @@ module _ (xs ys : List ℕ) (places : ℕ) where
       λ p l. fit_at places ds h p
           ∙ get_or-eq_default (entry_places ds) 0 {n = p} (let e = places_long ds in omega (arith, e)),
     );
-    no_room = λ h p l. zeros-at places ds h p;
+    no_room = λ h p l. zeros_at places ds h p;
   }
 
 -- ---- nothing else
@@ -142,7 +142,7 @@ module _ {xs ys : List ℕ} {entries : ℕ} {row row' : List ℕ} (l : Lists xs 
   index_once zero k b h = absurd (not-suc-le-zero b)
   index_once (suc n) k b h =
       let before : (j : ℕ) → j < k → get_or row (3 * j) 0 ≡ get_or row' (3 * j) 0 =
-      λ j m. index-once n j (omega arith) (omega arith) in
+      λ j m. index_once n j (omega arith) (omega arith) in
       let one = not_above l l' k h before in
       let two = not_above l' l k h (λ j m. sym (before j m)) in
       omega (arith, one, two)

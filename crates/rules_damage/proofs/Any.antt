@@ -96,7 +96,7 @@ module _ (sent rec : List ℕ) (at c w t : ℕ) (fits : w + t ≤ c) (phases : B
       stretch (WrongAt sent rec) c at 0 w (omega arith)
       (λ i l s. omega (arith, l))
       (λ i l m. turned i m)
-      (λ i l m s. not-wrong i l m s)
+      (λ i l m s. not_wrong i l m s)
     where
       turned : (i : ℕ) → i < 0 + w → WrongAt sent rec (at + i)
       turned i m =
@@ -243,10 +243,10 @@ module _ (kind : ℕ) (is-kind : is_kind kind ≡ true) (r : Rate) (n : ℕ) (se
     stands = so_stands;
     in_the_front = λ f s at chips limit table is below.
         by_part kind is-kind r n (λ s at chips limit. s < front_symbols k → Counts at chips w t)
-        (λ s l m. front-counts s l) (λ j l m. absurd (omega (arith, m))) s at chips limit is
+        (λ s l m. front_counts s l) (λ j l m. absurd (omega (arith, m))) s at chips limit is
         (subst (λ (x : ℕ). s < x) (one_front kind f (front_symbols k) table (front_table kind is-kind)) below);
     in_the_payload = λ f s at chips limit table is from.
-        by_part kind is-kind r n (λ s at chips limit. frontSymbols k ≤ s → Counts at chips w' t')
-        (λ s l m. absurd (omega (arith, l, m))) (λ j l m. payload-counts j (payload_there j l)) s at chips limit is
+        by_part kind is-kind r n (λ s at chips limit. front_symbols k ≤ s → Counts at chips w' t')
+        (λ s l m. absurd (omega (arith, l, m))) (λ j l m. payload_counts j (payload_there j l)) s at chips limit is
         (subst (λ (x : ℕ). x ≤ s) (one_front kind f (front_symbols k) table (front_table kind is-kind)) from);
   }

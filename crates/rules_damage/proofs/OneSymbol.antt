@@ -75,7 +75,7 @@ chip_test v w x hv hw hx =
     subst (λ (a : ℕ). T (chip_ahead a w x)) ev
     (subst (λ (b : ℕ). T (chip_ahead (j / 20) b x)) ew
     (subst (λ (c : ℕ). T (chip_ahead (j / 20) (j / 5 % 4) c)) ex
-    (all_at (λ j. chipAhead (j / 20) (j / 5 % 4) (j % 5)) 80 tt j (omega arith))))
+    (all_at (λ j. chip_ahead (j / 20) (j / 5 % 4) (j % 5)) 80 tt j (omega arith))))
   where
     j : ℕ
     j = 20 * v + 5 * w + x
@@ -185,7 +185,7 @@ barker_apart_lem n w hn hw ne =
     let ew : (4 * n + w) % 4 ≡ w = omega arith in
     let t : T (barker_apart n w) = subst (λ (x : ℕ). T (barker_apart x w)) en
     (subst (λ (y : ℕ). T (barker_apart ((4 * n + w) / 4) y)) ew
-    (all_at (λ j. barkerApart (j / 4) (j % 4)) 16 tt (4 * n + w) (omega arith))) in
+    (all_at (λ j. barker_apart (j / 4) (j % 4)) 16 tt (4 * n + w) (omega arith))) in
     implied (not (eqb n w)) _ t (unequal n w ne)
 
 apart_all : (r : Rate) (n w : ℕ) → n < numbers r → w < numbers r → (n ≡ w → ⊥)

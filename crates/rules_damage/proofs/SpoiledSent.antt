@@ -83,7 +83,7 @@ begins r ns after sent rec rest m al e b long es h =
     subst (λ (j : ℕ). Begins r j ns (hard_recording rec ++ rest)) e (record {
       words = spoiled_words r ns after rec rest al b long' h';
       leads = record {
-        at = λ j l. spoiled-leads r ns after rec rest al b long' h' j
+        at = λ j l. spoiled_leads r ns after rec rest al b long' h' j
             (subst (λ (i : ℕ). j < i) (leads_length r (length ns) (hard_recording rec ++ rest)) l);
       };
     })
@@ -172,7 +172,7 @@ module _ (kind : ℕ) (is-kind : is_kind kind ≡ true) (r : Rate) (p : ℕ) (he
     preamble_begins =
         begins One words1 (words_chips rate words2 ++ after) sent rec rest (preamble_length k)
         (words.preamble_allowed k r p header xs eh) (words.preamble_count_lem k r p header xs eh) st.usable
-        preamble_there sent_is (λ j l. front-keeps j (omega (arith, front_symbols_lem k, l)))
+        preamble_there sent_is (λ j l. front_keeps j (omega (arith, front_symbols_lem k, l)))
 
     header_sent_lem : drop (preamble_chips k) sent ≡ words_chips rate words2 ++ after
     header_sent_lem =
@@ -224,7 +224,7 @@ module _ (kind : ℕ) (is-kind : is_kind kind ≡ true) (r : Rate) (p : ℕ) (he
         ap (take (front_chips k))
         (whole_is ∙ sym (append_assoc (words_chips One words1) (words_chips rate words2) (words_chips r words3)))
         ∙ take_at (words_chips One words1 ++ words_chips rate words2) (words_chips r words3) (front_chips k) front_words
-        ∙ ap (λ (t : List ℕ). wordsChips One words1 ++ t) (sym (append-nil (words_chips rate words2)))
+        ∙ ap (λ (t : List ℕ). words_chips One words1 ++ t) (sym (append-nil (words_chips rate words2)))
 
     pub spoiled_alone : FrontAsSent k r p header xs (hard_recording rec ++ rest)
     spoiled_alone =

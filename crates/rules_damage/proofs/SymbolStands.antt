@@ -56,7 +56,7 @@ five_sent : (p1 d2 d3 : ℕ) → p1 < 4 → d2 < 2 → d3 < 2
 five_sent p1 d2 d3 h1 h2 h3 = (
   omega arith,
   subst (λ (n : ℕ). T (is_allowed Five n)) same
-      (all_at (λ j. isAllowed Five (five_number (j / 4) (j / 2 % 2) (j % 2))) 16 tt j (omega arith)),
+      (all_at (λ j. is_allowed Five (five_number (j / 4) (j / 2 % 2) (j % 2))) 16 tt j (omega arith)),
 )
   where
     j : ℕ

@@ -73,10 +73,10 @@ module _ (k : Kind) where
   start_past at (suc n) m rec h =
       let e : suc n + m ≡ suc (n + m) = omega arith in
       let f : suc at + n ≡ at + suc n = omega arith in
-      ap (λ (i : ℕ). firstStart k at i rec) e
+      ap (λ (i : ℕ). first_start k at i rec) e
       ∙ start_next at (n + m) rec (h 0 (omega arith))
       ∙ start_past (suc at) n m (drop 1 rec) (missed_behind n rec h)
-      ∙ ap (λ (i : ℕ). firstStart k i m (drop n (drop 1 rec))) f
+      ∙ ap (λ (i : ℕ). first_start k i m (drop n (drop 1 rec))) f
       ∙ ap (first_start k (at + suc n) m) (drop_one n rec)
 
   -- ---- where the search ends
@@ -134,7 +134,7 @@ module _ (k : Kind) where
   start_found_lem at m i rec t l e h =
       let n : ℕ = m - i - 1 in
       let s : m ≡ i + suc n = omega arith in
-      ap (λ (x : ℕ). firstStart k at x rec) s ∙ start_past at i (suc n) rec h ∙ start_here (at + i) n (drop i rec) t e
+      ap (λ (x : ℕ). first_start k at x rec) s ∙ start_past at i (suc n) rec h ∙ start_here (at + i) n (drop i rec) t e
 
   pub start_none : (at m : ℕ) (rec : List Taken) → AllMissed m rec → first_start k at m rec ≡ Refused NoStart
   start_none at m rec h = by (first_start k at m rec) (start_comes at m rec)

@@ -100,7 +100,7 @@ framed_turned k r p header xs h =
     let s = sent_bits k header xs in
     let m = preamble_length k in
     let itself : p ≡ turned p 0 = omega arith in
-    ap (λ (x : ℕ). partsChips k r x (take m s) (take header_length (drop m s)) (drop (m + header_length) s)) itself
+    ap (λ (x : ℕ). parts_chips k r x (take m s) (take header_length (drop m s)) (drop (m + header_length) s)) itself
     ∙ parts_turned k r p (take m s) (take header_length (drop m s)) (drop (m + header_length) s)
 
 pub frame_turned : (k : Kind) (r : Rate) (p : ℕ) (clock : Bool) (xs : List ℕ) → p < 4

@@ -52,7 +52,7 @@ no_kinds = refl
 
 -- of each kind: SYNC's bits and their value, SFD, bits of SYNC and SFD, chips of the front, the header's rate
 pub kinds : map
-    (λ (k : Kind). syncBits k ∷ sync_bit k ∷ sfd_of k ∷ preamble_length k ∷ front_chips k ∷ code_of (header_rate k) ∷ [])
+    (λ (k : Kind). sync_bits k ∷ sync_bit k ∷ sfd_of k ∷ preamble_length k ∷ front_chips k ∷ code_of (header_rate k) ∷ [])
     (Long ∷ Short ∷ [])
     ≡ (128 ∷ 1 ∷ 0xF3A0 ∷ 144 ∷ 2112 ∷ 10 ∷ []) ∷ (56 ∷ 0 ∷ 0x05CF ∷ 72 ∷ 1056 ∷ 20 ∷ []) ∷ []
 kinds = refl
@@ -66,7 +66,7 @@ pub pairs : map (goes_with Long) rates ++ map (goes_with Short) rates
 pairs = refl
 
 -- chips of a frame of two octets, and of none
-pub sizes : map (λ (r : Rate). frameChips Long r 2 ∷ frame_chips Short r 2 ∷ frame_chips Long r 0 ∷ []) rates
+pub sizes : map (λ (r : Rate). frame_chips Long r 2 ∷ frame_chips Short r 2 ∷ frame_chips Long r 0 ∷ []) rates
     ≡ (2288 ∷ 1232 ∷ 2112 ∷ []) ∷ (2200 ∷ 1144 ∷ 2112 ∷ []) ∷ (2144 ∷ 1088 ∷ 2112 ∷ [])
     ∷ (2128 ∷ 1072 ∷ 2112 ∷ []) ∷ []
 sizes = refl
@@ -82,7 +82,7 @@ clock_bits = refl
 -- SERVICE of 3 and of 4 octets, the clock bit not set and set
 pub services : map
     (λ (r : Rate).
-    serviceField r false 3 ∷ service_field r true 3 ∷ service_field r false 4 ∷ service_field r true 4 ∷ []) rates
+    service_field r false 3 ∷ service_field r true 3 ∷ service_field r false 4 ∷ service_field r true 4 ∷ []) rates
     ≡ (0 ∷ 4 ∷ 0 ∷ 4 ∷ []) ∷ (0 ∷ 4 ∷ 0 ∷ 4 ∷ []) ∷ (0 ∷ 4 ∷ 0 ∷ 4 ∷ []) ∷ (128 ∷ 132 ∷ 0 ∷ 4 ∷ []) ∷ []
 services = refl
 

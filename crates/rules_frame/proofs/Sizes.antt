@@ -62,8 +62,8 @@ part_length : (r : Rate) (p : ℕ) (bs : List ℕ) (n : ℕ) → length bs ≡ n
 unfolding symbols_of
 part_length r p bs n e =
     chips_from_length r p _
-    ∙ ap (λ (m : ℕ). symbolChips r * m) (symbols_from_length r 0 (length bs / symbol_bits r) bs)
-    ∙ ap (λ (m : ℕ). symbolChips r * (m / symbol_bits r)) e
+    ∙ ap (λ (m : ℕ). symbol_chips r * m) (symbols_from_length r 0 (length bs / symbol_bits r) bs)
+    ∙ ap (λ (m : ℕ). symbol_chips r * (m / symbol_bits r)) e
 
 -- the three parts together
 parts_sum : (k : Kind) (r : Rate) (n : ℕ)

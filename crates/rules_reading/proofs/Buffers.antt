@@ -55,7 +55,7 @@ unfolding reading_of
 reading_fits kind agree rec room =
     branch (Fits room) (not (is_kind kind)) _ _ tt
     (λ a. branch (Fits room) (not agree) _ _ tt
-    (λ b. after-fits (kind_of kind) rec room (whole_of (kind_of kind) rec (front_of (kind_of kind) rec))))
+    (λ b. after_fits (kind_of kind) rec room (whole_of (kind_of kind) rec (front_of (kind_of kind) rec))))
 
 pub payload_length : (k : Kind) (r : Rate) (n : ℕ) (rec : List Taken) → length (payload_of k r n rec) ≡ n
 unfolding payload_of

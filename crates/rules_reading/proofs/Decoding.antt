@@ -101,7 +101,7 @@ module _ (k : Kind) (r : Rate) (rec : List Taken) (n : ℕ) where
 
   word_is : (s : ℕ) (q : Rate) (at : ℕ) → rate_at k r s ≡ q → place_at k r s ≡ at
       → word_of_symbol k r rec s ≡ word_from q at rec
-  word_is s q at e f = λ i. wordFrom (e i) (f i) rec
+  word_is s q at e f = λ i. word_from (e i) (f i) rec
 
   -- ---- a row of words: symbols suc S, suc S + 1, .., grown from symbol S
   module _ (S : ℕ) (q : Rate) (p : ℕ) (ws : List ℕ) (B : ℕ) (p-is : p ≡ phase_of (rate_at k r S) (word_of_symbol k r rec S))
@@ -115,12 +115,12 @@ module _ (k : Kind) (r : Rate) (rec : List Taken) (n : ℕ) where
     before_is zero l = let e : S + 0 ≡ S = omega arith in rw e p-is
     before_is (suc j) l =
         let e : S + suc j ≡ suc (S + j) = omega arith in
-        rw e (λ i. phaseOf (sym (rates-are j (omega arith)) i) (words_are j (omega arith) i))
+        rw e (λ i. phase_of (sym (rates-are j (omega arith)) i) (words_are j (omega arith) i))
 
     bits_there : (j : ℕ) → j < length ws → heard_bits q j (before q p ws j) (get_or ws j 0) ≡ bits_behind k r rec (S + j)
     bits_there j l =
         number_is j (before q p ws j) (get_or ws j 0)
-        ∙ (λ i. heardBits (sym (rates-are j l) i) (suc (S + j) - F) (before_is j l i) (words_are j l i))
+        ∙ (λ i. heard_bits (sym (rates-are j l) i) (suc (S + j) - F) (before_is j l i) (words_are j l i))
 
     in_row : (c : ℕ) → c < symbol_bits q * length ws → SentBit k r rec n (B + c) (get_or (heard q 0 p ws) c 0)
     in_row c h =
@@ -165,7 +165,7 @@ module _ (k : Kind) (r : Rate) (rec : List Taken) (n : ℕ) where
       of_symbol s 0 (omega (arith, l, within)) (subst (λ (x : Rate). 0 < symbol_bits x) (sym g.0) (omega arith)) in
       let at : bit_at k r (suc s) + 0 ≡ suc s = omega (arith, g.2) in
       let phase : phase_of (rate_at k r s) (word_of_symbol k r rec s) ≡ get_or ws s 0 =
-      λ i. phaseOf (h.0 i) (sym (preamble_word s (omega arith)) i) in
+      λ i. phase_of (h.0 i) (sym (preamble_word s (omega arith)) i) in
       let value : get_or (bits_behind k r rec s) 0 0 ≡ get_or preamble (suc s) 0 =
       (λ i. get_or (heard_bits (g.0 i) (suc s - F) (phase i) (sym (preamble_word (suc s) l) i)) 0 0)
       ∙ ap (λ (x : List ℕ). get_or x 0 0) (one_number (suc s - F) (0 + suc s) (get_or ws s 0) (get_or ws (suc s) 0))
@@ -189,7 +189,7 @@ module _ (k : Kind) (r : Rate) (rec : List Taken) (n : ℕ) where
       let at : preamble_chips k + symbol_chips hr * j ≡ 11 * (P + j) =
       omega (arith, ap (λ (c : ℕ). c * j) (header_chips k)) in
       word_in hr (header_symbols k) (preamble_chips k) j rec l
-      ∙ ap (λ (x : ℕ). wordFrom hr x rec) at ∙ sym (word_is (P + j) hr (11 * (P + j)) h.0 h.1)
+      ∙ ap (λ (x : ℕ). word_from hr x rec) at ∙ sym (word_is (P + j) hr (11 * (P + j)) h.0 h.1)
 
   -- the last symbol of the preamble, and of the header
   last_in : (s : ℕ) → suc s ≡ P → header_phase k rec ≡ phase_of (rate_at k r s) (word_of_symbol k r rec s)
@@ -199,7 +199,7 @@ module _ (k : Kind) (r : Rate) (rec : List Taken) (n : ℕ) where
       let l : s < P = omega (arith, e) in
       last_heard_lem One (reference k rec) ws
       ∙ ap (before One (reference k rec) ws) (preamble_words_lem ∙ sym e)
-      ∙ (λ i. phaseOf (sym (in_preamble_lem s l).0 i) (preamble_word s l i))
+      ∙ (λ i. phase_of (sym (in_preamble_lem s l).0 i) (preamble_word s l i))
 
   abbrev header : List ℕ
   header = heard hr 0 (header_phase k rec) (header_words k rec)
@@ -212,11 +212,11 @@ module _ (k : Kind) (r : Rate) (rec : List Taken) (n : ℕ) where
       let few : (j : ℕ) → j < length (header_words k rec) → j < m = λ j l. omega (arith, l, header_words_lem) in
       let there : (j : ℕ) → j < m → suc (S + j) < F = λ j l. omega (arith, l, front_symbols_lem k) in
       in_row S hr (header_phase k rec) (header_words k rec) P (last_in S (omega arith))
-      (λ j l. header-word j (few j l) ∙ ap (word_of_symbol k r rec) (sym (next j)))
+      (λ j l. header_word j (few j l) ∙ ap (word_of_symbol k r rec) (sym (next j)))
       (λ j l. (in_header_lem (suc (S + j)) (omega arith) (there j (few j l))).0)
       (λ j l. (in_header_lem (suc (S + j)) (omega arith) (there j (few j l))).2
       ∙ ap (λ (i : ℕ). P + symbol_bits hr * i) (omega arith))
-      (λ j x y. barker-number k j (suc (S + j) - F) x y)
+      (λ j x y. barker_number k j (suc (S + j) - F) x y)
       (omega (arith, header_words_lem, front_symbols_lem k))
       c (subst (λ (i : ℕ). c < symbol_bits hr * i) (sym header_words_lem) (subst (λ (i : ℕ). c < i) (sym (header_bits_lem k)) h))
 
@@ -247,7 +247,7 @@ module _ (k : Kind) (r : Rate) (rec : List Taken) (n : ℕ) where
         arith,
         preamble_length_lem,
         heard_length hr 0 (header_phase k rec) (header_words k rec)
-            ∙ ap (λ (m : ℕ). symbolBits hr * m) header_words_lem ∙ header_bits_lem k,
+            ∙ ap (λ (m : ℕ). symbol_bits hr * m) header_words_lem ∙ header_bits_lem k,
       )
 
   -- ---- the payload
@@ -261,7 +261,7 @@ module _ (k : Kind) (r : Rate) (rec : List Taken) (n : ℕ) where
       let h = in_payload (F + j) (omega arith) in
       word_in r (8 * n / symbol_bits r) (front_chips k) j rec (omega (arith, l, part_symbols r n))
       ∙ sym (word_is (F + j) r (front_chips k + symbol_chips r * j) h.0
-      (h.1 ∙ ap (λ (i : ℕ). frontChips k + symbol_chips r * i) (omega arith)))
+      (h.1 ∙ ap (λ (i : ℕ). front_chips k + symbol_chips r * i) (omega arith)))
 
   last_of_front : (s : ℕ) → suc s ≡ F → payload_phase k rec ≡ phase_of (rate_at k r s) (word_of_symbol k r rec s)
   unfolding payload_phase
@@ -273,9 +273,9 @@ module _ (k : Kind) (r : Rate) (rec : List Taken) (n : ℕ) where
       let l : m < header_symbols k = omega (arith, some_symbols) in
       last_heard_lem hr (header_phase k rec) ws
       ∙ ap (before hr (header_phase k rec) ws) (header_words_lem ∙ sym some_symbols)
-      ∙ (λ i. phaseOf (sym (in_header_lem (P + m) (omega arith) (omega (arith, l, front_symbols_lem k))).0 i)
+      ∙ (λ i. phase_of (sym (in_header_lem (P + m) (omega arith) (omega (arith, l, front_symbols_lem k))).0 i)
       (header_word m l i))
-      ∙ ap (λ (x : ℕ). phaseOf (rate_at k r x) (word_of_symbol k r rec x)) at
+      ∙ ap (λ (x : ℕ). phase_of (rate_at k r x) (word_of_symbol k r rec x)) at
     where
       header_some : (k : Kind) → 1 ≤ header_symbols k
       header_some Long = omega arith
@@ -292,11 +292,11 @@ module _ (k : Kind) (r : Rate) (rec : List Taken) (n : ℕ) where
       λ j l. omega (arith, l, payload_words_lem) in
       in_row S r (payload_phase k rec) (payload_words k r n rec) (P + header_length)
       (last_of_front S (omega (arith, within)))
-      (λ j l. payload-word j (few j l) ∙ ap (word_of_symbol k r rec) (sym (next j)))
+      (λ j l. payload_word j (few j l) ∙ ap (word_of_symbol k r rec) (sym (next j)))
       (λ j l. (in_payload (suc (S + j)) (omega (arith, within))).0)
       (λ j l. (in_payload (suc (S + j)) (omega (arith, within))).2
       ∙ ap (λ (i : ℕ). P + header_length + symbol_bits r * i) (omega (arith, within)))
-      (λ j x y. ap (λ (i : ℕ). heardBits r i x y) (omega (arith, within)))
+      (λ j x y. ap (λ (i : ℕ). heard_bits r i x y) (omega (arith, within)))
       (omega (arith, payload_words_lem, within))
       c
       (subst (λ (i : ℕ). c < symbol_bits r * i) (sym payload_words_lem) (subst (λ (i : ℕ). c < i) (sym (part_bits r n)) h))
@@ -312,7 +312,7 @@ module _ (k : Kind) (r : Rate) (rec : List Taken) (n : ℕ) where
         arith,
         front_length,
         heard_length r 0 (payload_phase k rec) (payload_words k r n rec)
-            ∙ ap (λ (m : ℕ). symbolBits r * m) payload_words_lem ∙ part_bits r n,
+            ∙ ap (λ (m : ℕ). symbol_bits r * m) payload_words_lem ∙ part_bits r n,
       )
 
   sent_all : (b : ℕ) → 1 ≤ b → b < P + header_length + 8 * n → SentBit k r rec n b (get_or all b 0)

@@ -48,4 +48,4 @@ module _ (k : Kind) (rec : List Taken) where
       grown : get_or growths (n + 1) 0 ≡ grown_by (word_at One rec n) (word_at One rec (n + 1))
       grown =
           growth_at_lem (reference k rec) (preamble_words k rec) n (omega (arith, words_length k rec))
-          ∙ (λ i. grownBy (word_here k rec n (omega arith) i) (word_here k rec (n + 1) h i))
+          ∙ (λ i. grown_by (word_here k rec n (omega arith) i) (word_here k rec (n + 1) h i))

@@ -159,8 +159,8 @@ module _ (rec : List Taken) where
         let e : suc b + j ≡ suc (b + j) = omega arith in
         ap (λ (g : ℕ). g % 2)
         (growth_of One p ws j (omega (arith, l, decided_words_length One m (drop (11 * suc b) rec)))
-        ∙ ap₂ {C = ℕ} (λ x y. grownBy x y) (before_is j l)
-        (word_is j l ∙ ap (λ (s : ℕ). wordFrom One (11 * s) rec) e))
+        ∙ ap₂ {C = ℕ} (λ x y. grown_by x y) (before_is j l)
+        (word_is j l ∙ ap (λ (s : ℕ). word_from One (11 * s) rec) e))
 
     part_odd : (q : ℕ) → first_odd (11 * suc b) gs ≡ some q → FirstOddSymbol rec q
     part_odd q e =
@@ -178,7 +178,7 @@ module _ (rec : List Taken) where
         by s (no h) l =
             let f = odd_first (11 * suc b) gs q e in
             let back : b + (s - b) ≡ s = omega (arith, h) in
-            subst (λ (t : ℕ). oddBehind rec t ≡ 0) back
+            subst (λ (t : ℕ). odd_behind rec t ≡ 0) back
             (sym (grown_is (s - b) (omega (arith, h, l, f.inside, gs_length)))
             ∙ f.before (s - b) (omega (arith, h, l)))
 
@@ -189,7 +189,7 @@ module _ (rec : List Taken) where
         by (yes h) = even s h
         by (no h) =
             let back : b + (s - b) ≡ s = omega (arith, h) in
-            subst (λ (t : ℕ). oddBehind rec t ≡ 0) back
+            subst (λ (t : ℕ). odd_behind rec t ≡ 0) back
             (sym (grown_is (s - b) (omega (arith, h, l)))
             ∙ odd_none (11 * suc b) gs e (s - b) (omega (arith, h, l, gs_length)))
 
@@ -220,7 +220,7 @@ module _ (rec : List Taken) where
     grown_next j l =
         ap (λ (g : ℕ). g % 2)
         (growth_of One (get_or firsts 0 0) firsts (suc j) (omega (arith, l, decided_words_length One m rec))
-        ∙ ap₂ {C = ℕ} (λ x y. grownBy x y) (first_is j (omega arith)) (first_is (suc j) l))
+        ∙ ap₂ {C = ℕ} (λ x y. grown_by x y) (first_is j (omega arith)) (first_is (suc j) l))
 
     preamble_odd : (q : ℕ) → first_odd 0 grown ≡ some q → FirstOddSymbol rec q
     preamble_odd q e = by f.index refl
@@ -301,8 +301,8 @@ module _ (rec : List Taken) where
   pub front_odd_first : (k : Kind) (p : ℕ) → front_odd k rec ≡ some p → FirstOddSymbol rec p
   front_odd_first Long p e =
       or_some (in_preamble Long) (in_header Long) p (sym (front_search Long) ∙ e) (preamble_odd rec 144 (omega arith) p)
-      (λ a. part-odd rec 143 48 (header_phase Long rec) long_header_phase
-      (λ s l. preamble-even rec 144 (omega arith) a s (omega arith)) p)
+      (λ a. part_odd rec 143 48 (header_phase Long rec) long_header_phase
+      (λ s l. preamble_even rec 144 (omega arith) a s (omega arith)) p)
   front_odd_first Short p e =
       or_some (in_preamble Short) (in_header Short) p (sym (front_search Short) ∙ e)
       (preamble_odd rec 72 (omega arith) p) (λ a b. absurd (some_none b))
@@ -318,7 +318,7 @@ module _ (rec : List Taken) where
   long_front_even e =
       let o = or_neither (in_preamble Long) (in_header Long) (sym (front_search Long) ∙ e) in
       part_even rec 143 48 (header_phase Long rec) long_header_phase
-      (λ s l. preamble-even rec 144 (omega arith) o.0 s (omega arith)) o.1
+      (λ s l. preamble_even rec 144 (omega arith) o.0 s (omega arith)) o.1
 
   -- and a short one's up to the header
   pub front_even_ones : (k : Kind) → front_odd k rec ≡ none → (s : ℕ) → suc s < ones_of k → odd_behind rec s ≡ 0

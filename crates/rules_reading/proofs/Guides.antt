@@ -96,14 +96,14 @@ module _ (rec : List Taken) where
         → (reading1997 rec room ≡ reading_of 0 true rec room) × (octets1997 rec room ≡ octets_found 0 true rec room)
     unfolding reading1997 octets1997 reading_of octets_found
     guide_alike e = (
-      ap (λ (f : Front). afterFront Long rec room (whole_of Long rec f)) e,
-      ap (λ (f : Front). octetsAfter Long rec room (after_front Long rec room (whole_of Long rec f))) e,
+      ap (λ (f : Front). after_front Long rec room (whole_of Long rec f)) e,
+      ap (λ (f : Front). octets_after Long rec room (after_front Long rec room (whole_of Long rec f))) e,
     )
 
     pub guide_refused : (e : Refusal) → front_by of1997 Long rec ≡ front.Refused e
         → (reading1997 rec room ≡ reading.Refused e) × (octets1997 rec room ≡ replicate room 0)
     unfolding reading1997 octets1997
     guide_refused e w = (
-      ap (λ (f : Front). afterFront Long rec room (whole_of Long rec f)) w,
-      ap (λ (f : Front). octetsAfter Long rec room (after_front Long rec room (whole_of Long rec f))) w,
+      ap (λ (f : Front). after_front Long rec room (whole_of Long rec f)) w,
+      ap (λ (f : Front). octets_after Long rec room (after_front Long rec room (whole_of Long rec f))) w,
     )

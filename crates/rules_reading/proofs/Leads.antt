@@ -59,7 +59,7 @@ leads_at r zero cs l h = absurd (not-suc-le-zero h)
 leads_at r (suc m) cs zero h = rw mul-zero
 leads_at r (suc m) cs (suc l) h =
     leads_at r m (drop (symbol_chips r) cs) l (le_of_suc-le-suc h)
-    ∙ ap (λ (us : List Taken). leadOf r (map taken_counts (take (symbol_chips r) us)))
+    ∙ ap (λ (us : List Taken). lead_of r (map taken_counts (take (symbol_chips r) us)))
     (drop-drop (symbol_chips r * l) (symbol_chips r) cs
     ∙ ap (λ (k : ℕ). drop k cs) (add_comm (symbol_chips r) (symbol_chips r * l) ∙ sym (mul-suc (symbol_chips r) l)))
 
@@ -85,7 +85,7 @@ least_joined k b [] ys = rw add-zero
 least_joined k b (x ∷ xs) ys =
     let c = cond (ltb x b.lead) (lead_at x k) b in
     least_joined (suc k) c xs ys
-    ∙ ap (λ (n : ℕ). leastFrom n (least_from (suc k) c xs) ys) (next (length xs))
+    ∙ ap (λ (n : ℕ). least_from n (least_from (suc k) c xs) ys) (next (length xs))
   where
     next : (n : ℕ) → suc k + n ≡ k + suc n
     next n = omega arith
@@ -99,7 +99,7 @@ unfolding least_of
 least_of_joined [] ys h = absurd (not-suc-le-zero h)
 least_of_joined (x ∷ xs) ys h =
     least_joined 0 (lead_at x 0) (x ∷ xs) ys
-    ∙ ap (λ (n : ℕ). leastFrom n (least_from 0 (lead_at x 0) (x ∷ xs)) ys) (zero-add (suc (length xs)))
+    ∙ ap (λ (n : ℕ). least_from n (least_from 0 (lead_at x 0) (x ∷ xs)) ys) (zero-add (suc (length xs)))
 
 -- ---- a list behind a lead
 
@@ -249,7 +249,7 @@ module _ (k : Kind) (rec : List Taken) where
   unfolding front_leads
   front_least =
       least_of_joined preamble_leads header_leads some_leads
-      ∙ ap (λ (n : ℕ). leastFrom n (least_of preamble_leads) header_leads)
+      ∙ ap (λ (n : ℕ). least_from n (least_of preamble_leads) header_leads)
       (leads_length One (preamble_length k) rec ∙ by k)
     where
       by : (k : Kind) → preamble_length k ≡ preamble_chips k / 11
@@ -263,7 +263,7 @@ module _ (k : Kind) (rec : List Taken) where
   unfolding payload_leads
   frame_least r n =
       least_of_joined (front_leads k rec) (payload_leads k r n rec) (rw front_length (some k))
-      ∙ ap (λ (m : ℕ). leastFrom m (least_of (front_leads k rec)) (payload_leads k r n rec)) front_length
+      ∙ ap (λ (m : ℕ). least_from m (least_of (front_leads k rec)) (payload_leads k r n rec)) front_length
     where
       some : (k : Kind) → 0 < front_chips k / 11
       some Long = omega arith

@@ -83,14 +83,14 @@ module _ (k : Kind) (rec : List Taken) where
 
   phase_local : header_phase k begin ≡ header_phase k rec
   unfolding header_phase
-  phase_local = ap₂ {C = ℕ} (λ p w. lastHeard One p w) reference_local preamble_local
+  phase_local = ap₂ {C = ℕ} (λ p w. last_heard One p w) reference_local preamble_local
 
   odd_local : front_odd k begin ≡ front_odd k rec
   unfolding front_odd
   odd_local =
       ap₂ {C = Option ℕ} (λ x y. or_else x (λ place. some place) y)
-      (ap₂ {C = Option ℕ} (λ p w. oddGrowth One 0 (growths_of One p w)) reference_local preamble_local)
-      (ap₂ {C = Option ℕ} (λ p w. oddGrowth (header_rate k) (preamble_chips k) (growths_of (header_rate k) p w)) phase_local
+      (ap₂ {C = Option ℕ} (λ p w. odd_growth One 0 (growths_of One p w)) reference_local preamble_local)
+      (ap₂ {C = Option ℕ} (λ p w. odd_growth (header_rate k) (preamble_chips k) (growths_of (header_rate k) p w)) phase_local
       header_local)
 
   bits_local : front_bits k begin ≡ front_bits k rec

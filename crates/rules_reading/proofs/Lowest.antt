@@ -35,5 +35,5 @@ row_more k b c xs l h e =
 pub row_least : (xs : List ℕ) (m x : ℕ) → 0 < m → x ≡ get_or xs 0 0
     → least_from 0 (lead_at x 0) (take m xs) ≡ least_of (take m xs)
 row_least xs m x h e =
-    ap (λ (y : ℕ). leastFrom 0 (lead_at y 0) (take m xs)) (e ∙ sym (get_or-take m xs 0 0 h))
+    ap (λ (y : ℕ). least_from 0 (lead_at y 0) (take m xs)) (e ∙ sym (get_or-take m xs 0 0 h))
     ∙ sym (least_of_from (take m xs))

@@ -143,9 +143,9 @@ module _ (k : Kind) (rec : List Taken) where
       (λ a. let long = ltb-false _ _ a in
       found_or_none FrontIf (first_unusable 0 (take (front_chips k) rec)) (λ p. front.Refused (Unusable p 0)) _
       (λ p e. front_unusable p long e)
-      (λ u. found-or-none FrontIf (front_odd k rec) (λ p. front.Refused (OddGrowth p 0)) _
+      (λ u. found_or_none FrontIf (front_odd k rec) (λ p. front.Refused (OddGrowth p 0)) _
       (λ p e. front_odd_lem p long u e)
-      (λ o. header-refuses (record { long = long; usable = u; even = o }))))
+      (λ o. header_refuses (record { long = long; usable = u; even = o }))))
 
   -- promise: What a front and a payload can be refused with; a place lies in its part
   -- rule: 6.2, 6.4
@@ -157,7 +157,7 @@ module _ (k : Kind) (rec : List Taken) where
       go (front.Refused e) h = met_in_front h
       go (front.Fields t) h =
           decided_by RefusesIf (ltb (length rec) (frame_chips k t.rate t.n)) _ _
-          (λ b. frame-ends t h (ltb-true _ _ b)) (λ a. (h, ltb-false _ _ a))
+          (λ b. frame_ends t h (ltb-true _ _ b)) (λ a. (h, ltb-false _ _ a))
 
 -- their numbers
 pub front_number : {k : Kind} {rec : List Taken} {e : Refusal} → FrontRefusal k rec e

@@ -98,7 +98,7 @@ module _ (k : Kind) (rec : List Taken) where
   sent_bit n h =
       heard_here (n + 1) h
       ∙ heard_at 0 (reference k rec) words n (omega (arith, words_length))
-      ∙ (λ i. grownBy (word_here n (omega arith) i) (word_here (n + 1) h i) / 2)
+      ∙ (λ i. grown_by (word_here n (omega arith) i) (word_here (n + 1) h i) / 2)
 
   -- and of symbol n + 8, unscrambled
   plain_bit : (n : ℕ) → n + 8 < sync_bits k + 16

@@ -83,13 +83,13 @@ module _ (p : Section) (m : ℕ) (rec more : List Taken) (at : length rec ≡ p.
   words_first =
       ap (decided_words r done) (drop-append-le from rec more whole)
       ∙ words_prefix r done (drop from rec) more fits
-      ∙ ap (λ (j : ℕ). decidedWords r j (drop from rec)) (sym (part_symbols r m))
+      ∙ ap (λ (j : ℕ). decided_words r j (drop from rec)) (sym (part_symbols r m))
 
   leads_first : decided_leads r done (drop from all) ≡ decided_leads r (8 * m / symbol_bits r) (drop from rec)
   leads_first =
       ap (decided_leads r done) (drop-append-le from rec more whole)
       ∙ leads_prefix r done (drop from rec) more fits
-      ∙ ap (λ (j : ℕ). decidedLeads r j (drop from rec)) (sym (part_symbols r m))
+      ∙ ap (λ (j : ℕ). decided_leads r j (drop from rec)) (sym (part_symbols r m))
 
   pub words_length : length (words_to p rec m) ≡ done
   words_length = decided_words_length r (8 * m / symbol_bits r) (drop from rec) ∙ part_symbols r m
@@ -101,25 +101,25 @@ module _ (p : Section) (m : ℕ) (rec more : List Taken) (at : length rec ≡ p.
   -- the m octets, whatever follows
 
   pub words_same : words_to p all m ≡ words_to p rec m
-  words_same = ap (λ (j : ℕ). decidedWords r j (drop from all)) (part_symbols r m) ∙ words_first
+  words_same = ap (λ (j : ℕ). decided_words r j (drop from all)) (part_symbols r m) ∙ words_first
 
   pub least_same : least_to p all m ≡ least_to p rec m
   least_same =
       ap (least_from p.first p.least)
-      (ap (λ (j : ℕ). decidedLeads r j (drop from all)) (part_symbols r m) ∙ leads_first)
+      (ap (λ (j : ℕ). decided_leads r j (drop from all)) (part_symbols r m) ∙ leads_first)
 
   pub heard_same : heard_to p all m ≡ heard_to p rec m
   heard_same = ap (λ (ws : List ℕ). p.before ++ heard r 0 p.phase ws) words_same
 
   pub octets_same : (k : Kind) → octets_to p all k m ≡ octets_to p rec k m
   octets_same k =
-      ap (λ (bs : List ℕ). octetsOf m (drop (length p.before) (descramble (start k) bs))) heard_same
+      ap (λ (bs : List ℕ). octets_of m (drop (length p.before) (descramble (start k) bs))) heard_same
 
   -- w octets more
 
   pub words_more : (w : ℕ) → words_to p all (m + w) ≡ words_to p rec m ++ new w
   words_more w =
-      ap (λ (j : ℕ). decidedWords r j (drop from all)) (symbols_more w)
+      ap (λ (j : ℕ). decided_words r j (drop from all)) (symbols_more w)
       ∙ decided_words_append r done (8 * w / symbol_bits r) (drop from all)
       ∙ ap₂ {C = List ℕ} (λ a b. a ++ b) words_first (ap (decided_words r (8 * w / symbol_bits r)) behind)
 
@@ -129,11 +129,11 @@ module _ (p : Section) (m : ℕ) (rec more : List Taken) (at : length rec ≡ p.
       let x = 8 * w / symbol_bits r in
       let before = decided_leads r (8 * m / symbol_bits r) (drop from rec) in
       ap (least_from p.first p.least)
-      (ap (λ (j : ℕ). decidedLeads r j (drop from all)) (symbols_more w)
+      (ap (λ (j : ℕ). decided_leads r j (drop from all)) (symbols_more w)
       ∙ leads_append r done x (drop from all)
       ∙ ap₂ {C = List ℕ} (λ a b. a ++ b) leads_first (ap (decided_leads r x) behind))
       ∙ least_joined p.first p.least before (decided_leads r x more)
-      ∙ ap (λ (j : ℕ). leastFrom (p.first + j) (least_from p.first p.least before) (decided_leads r x more))
+      ∙ ap (λ (j : ℕ). least_from (p.first + j) (least_from p.first p.least before) (decided_leads r x more))
       (leads_length r (8 * m / symbol_bits r) (drop from rec) ∙ part_symbols r m)
 
   module _ (even : p.first % 2 ≡ 0) (w : ℕ) where
@@ -170,8 +170,8 @@ module _ (p : Section) (m : ℕ) (rec more : List Taken) (at : length rec ≡ p.
         ∙ length-append p.before (heard r 0 p.phase (words_to p rec m))
         ∙ ap (λ (j : ℕ). b + j)
         (heard_length r 0 p.phase (words_to p rec m)
-        ∙ ap (λ (j : ℕ). symbolBits r * j) words_length ∙ part_bits r m) in
-        ap (λ (bs : List ℕ). octetsOf (m + w) (drop b bs))
+        ∙ ap (λ (j : ℕ). symbol_bits r * j) words_length ∙ part_bits r m) in
+        ap (λ (bs : List ℕ). octets_of (m + w) (drop b bs))
         (ap (descramble s) heard_more ∙ descramble_append s (heard_to p rec m) bits)
         ∙ ap (octets_of (m + w)) (drop-append-le b plain rest (omega (arith, size)))
         ∙ octets_append m w (drop b plain) rest (length-drop b plain ∙ omega (arith, size))
@@ -243,7 +243,7 @@ module _ (p : Section) (rec more : List Taken) (whole : p.from ≤ length rec) w
 
   pub words_next : words_yet p (rec ++ more) ≡ words_yet p rec ++ next_words p rec more
   words_next =
-      ap (λ (j : ℕ). decidedWords rate j (drop p.from (rec ++ more))) grows
+      ap (λ (j : ℕ). decided_words rate j (drop p.from (rec ++ more))) grows
       ∙ decided_words_append rate before (after - before) (drop p.from (rec ++ more))
       ∙ ap (λ (ws : List ℕ). ws ++ next)
       (ap (decided_words rate before) (drop-append-le p.from rec more whole)
@@ -259,7 +259,7 @@ module _ (p : Section) (rec more : List Taken) (whole : p.from ≤ length rec) w
       let h = p.phase in
       let ws = words_yet p rec in
       let then = growths_of rate (last_heard rate h ws) next in
-      ap (λ (l : List ℕ). oddGrowth rate f (growths_of rate h l)) words_next
+      ap (λ (l : List ℕ). odd_growth rate f (growths_of rate h l)) words_next
       ∙ ap (odd_growth rate f) (growths_of_append rate h ws next)
       ∙ odd_growth_append rate f (growths_of rate h ws) then
       ∙ ap (λ (j : ℕ). or_else (odd_growth rate f (growths_of rate h ws)) (λ place. some place)
@@ -294,7 +294,7 @@ symbols_whole p m h rec e =
 pub words_yet_lem : (p : Section) (m : ℕ) (rec : List Taken) → length rec ≡ p.from + octet_chips p.rate * m
     → words_yet p rec ≡ words_to p rec m
 words_yet_lem p m rec e =
-    ap (λ (j : ℕ). decidedWords p.rate j (drop p.from rec))
+    ap (λ (j : ℕ). decided_words p.rate j (drop p.from rec))
     (symbols_whole p m 0 rec (omega (arith, e)) ∙ by p.rate)
   where
     by : (r : Rate) → octet_symbols r * m + 0 / symbol_chips r ≡ 8 * m / symbol_bits r

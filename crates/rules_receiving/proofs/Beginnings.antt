@@ -202,7 +202,7 @@ module _
   yet_told {c} {d} f h =
       opened
       ∙ ap (after_front_yet k (take c rec) room) (front_cut k c rec (omega (arith, length-take c rec, long)) ∙ told)
-      ∙ ap (λ (x : List Taken). payloadYet k t x room) (cut_frame rec f)
+      ∙ ap (λ (x : List Taken). payload_yet k t x room) (cut_frame rec f)
     where
       opened : buffer_yet kind (take c rec) room ≡ after_front_yet k (take c rec) room (front_of k (take c rec))
       opened = unfold buffer_yet in rw is
@@ -221,7 +221,7 @@ module _
           (length-take-le d rec (omega (arith, far_most a, long)))
 
   pub room_yet : room < t.n → (c : ℕ) → buffer_yet kind (take c rec) room ≡ zeros room
-  room_yet h c = by_cut c (zeros room) (λ l. refl) (λ d a g e. zeros-room k t (take d rec) room h)
+  room_yet h c = by_cut c (zeros room) (λ l. refl) (λ d a g e. zeros_room k t (take d rec) room h)
 
   -- the frame's first d chips, and those behind
   module _ {c d : ℕ} (a : AsFar c all d) (g : from ≤ d) (e : length (take d rec) ≡ d) where
@@ -261,7 +261,7 @@ module _
     clean_here m fits u o few w =
         good_yet k t cut room fits (usable_yet k t cut more whole to (joined (found_unusable k t) ∙ u))
         (even_yet k t cut more whole to (joined (payload_odd k r t.n) ∙ o))
-        ∙ ap (λ (i : ℕ). payloadOf k r i cut ++ zeros (room - i)) (ap (λ (i : ℕ). (i - from) / octet_chips r) e ∙ w.0)
+        ∙ ap (λ (i : ℕ). payload_of k r i cut ++ zeros (room - i)) (ap (λ (i : ℕ). (i - from) / octet_chips r) e ∙ w.0)
         ∙ ap (λ (x : List ℕ). x ++ zeros (room - m))
         (sym (payload_prefix k r m cut more (omega (arith, e, w.1)))
         ∙ joined (payload_of k r m)
@@ -272,11 +272,11 @@ module _
         parted h = omega arith
 
   pub unusable_yet_lem : (p c : ℕ) → found_unusable k t rec ≡ some p → p < c → buffer_yet kind (take c rec) room ≡ zeros room
-  unusable_yet_lem p c f h = by_cut c (zeros room) (λ l. refl) (λ d a g e. unusable-here a g e p f h)
+  unusable_yet_lem p c f h = by_cut c (zeros room) (λ l. refl) (λ d a g e. unusable_here a g e p f h)
 
   pub odd_yet_lem : (p c : ℕ) → payload_odd k r t.n rec ≡ some p → p + 11 ≤ c
       → buffer_yet kind (take c rec) room ≡ zeros room
-  odd_yet_lem p c f h = by_cut c (zeros room) (λ l. refl) (λ d a g e. odd-here a g e p f h)
+  odd_yet_lem p c f h = by_cut c (zeros room) (λ l. refl) (λ d a g e. odd_here a g e p f h)
 
   module _
       (fits : t.n ≤ room) (u : found_unusable k t rec ≡ none) (o : payload_odd k r t.n rec ≡ none) (c : ℕ) where
@@ -286,9 +286,9 @@ module _
     pub clean_within : (m : ℕ) → from + octet_chips r * m ≤ c → c < from + octet_chips r * suc m → m ≤ t.n → Shows m
     clean_within m x y l =
         by_cut c _ (λ z. absurd (omega (arith, x, z)))
-        (λ d a g e. clean-here a g e m fits u o l (octets_within r from t.n m a x y l))
+        (λ d a g e. clean_here a g e m fits u o l (octets_within r from t.n m a x y l))
 
     pub clean_behind : all ≤ c → Shows t.n
     clean_behind x =
         by_cut c _ (λ z. absurd (omega (arith, x, z)))
-        (λ d a g e. clean-here a g e t.n fits u o (omega arith) (octets_behind r from t.n a x))
+        (λ d a g e. clean_here a g e t.n fits u o (omega arith) (octets_behind r from t.n a x))

@@ -114,7 +114,7 @@ told_buffer kind room fed h = opened ∙ by (front_of k rec)
     by (front.Refused e) = either (is_kind kind) (zeros room)
     by (front.Fields t) =
         ap (cond (not (is_kind kind)) (zeros room))
-        (ap (λ (x : List Taken). payloadYet k t x room)
+        (ap (λ (x : List Taken). payload_yet k t x room)
         (take_all (frame_chips k t.rate t.n) rec (omega (arith, at)))
         ∙ first_octets k t rec at room)
         ∙ either (is_kind kind) (zeros room)

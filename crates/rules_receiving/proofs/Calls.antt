@@ -112,7 +112,7 @@ open_front kind room = record {
   count_is = refl;
   bad_is = rw empty_usable;
   odd_is = λ e. rw (empty_even (kind_of kind));
-  goes = λ e f. in-first (omega arith) refl refl refl;
+  goes = λ e f. in_first (omega arith) refl refl refl;
 }
 
 open_by : (kind room : ℕ) (b : Bool) → is_kind kind ≡ b
@@ -173,7 +173,7 @@ payload_sound kind t fed p hold buf k i c = record {
   is_kind_lem = ap is_kind k ∙ i;
   is_code_lem = ap is_code c.tells.rate_is ∙ code_is t.rate;
   few = omega (arith, c.tells.n_is, comes_few (kind_of kind) t fed p hold buf c);
-  from = subst (λ (j : ℕ). frontChips (kind_of j) ≤ p.count) (sym k) (omega (arith, c.count_is, c.from));
+  from = subst (λ (j : ℕ). front_chips (kind_of j) ≤ p.count) (sym k) (omega (arith, c.count_is, c.from));
   to = subst (λ (j : ℕ). p.count ≤ j) (sym all_is) (rw c.count_is c.to);
 }
   where

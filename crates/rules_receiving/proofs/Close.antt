@@ -101,7 +101,7 @@ pub reads_refused : (kind room : ℕ) (fed : List ℕ) (e : Refusal) → is_kind
     → front_of (kind_of kind) (hard_recording fed) ≡ front.Refused e → read_all kind fed room ≡ reading.Refused e
 reads_refused kind room fed e h f =
     by_front kind room fed h
-    ∙ ap (λ (x : Front). afterFront (kind_of kind) (hard_recording fed) room
+    ∙ ap (λ (x : Front). after_front (kind_of kind) (hard_recording fed) room
     (whole_of (kind_of kind) (hard_recording fed) x)) f
 
 pub short_front : (k : Kind) (rec : List Taken) → length rec < front_chips k
@@ -154,7 +154,7 @@ module _
   from_cut = omega (arith, c.from, length_hard (take all fed))
 
   told_all : front_of k rec ≡ front.Fields t
-  told_all = subst (λ (x : List Taken). frontOf k x ≡ front.Fields t) apart
+  told_all = subst (λ (x : List Taken). front_of k x ≡ front.Fields t) apart
       (front_prefix k cut (drop all rec) from_cut ∙ c.told)
 
   -- the buffer until close is by the chips of the frame
@@ -162,7 +162,7 @@ module _
   yet_is =
       opened
       ∙ ap (after_front_yet k rec room) told_all
-      ∙ ap (λ (x : List Taken). payloadYet k t x room) (take_hard all fed)
+      ∙ ap (λ (x : List Taken). payload_yet k t x room) (take_hard all fed)
     where
       opened : buffer_yet kind rec room ≡ after_front_yet k rec room (front_of k rec)
       opened = unfold buffer_yet in rw is
@@ -178,7 +178,7 @@ module _
   reads_ends h =
       let few : length rec < all = few_chips (lt c.count_is h) in
       by_front kind room fed is
-      ∙ ap (λ (x : Front). afterFront k rec room (whole_of k rec x)) told_all
+      ∙ ap (λ (x : Front). after_front k rec room (whole_of k rec x)) told_all
       ∙ ap (after_front k rec room) (ends_whole few)
     where
       lt : {a b d : ℕ} → a ≡ b → a < d → b < d
@@ -197,7 +197,7 @@ module _
     by_payload : read_all kind fed room ≡ payload_reading k t rec room
     by_payload =
         by_front kind room fed is
-        ∙ ap (λ (x : Front). afterFront k rec room (whole_of k rec x)) told_all
+        ∙ ap (λ (x : Front). after_front k rec room (whole_of k rec x)) told_all
         ∙ ap (after_front k rec room) (there_whole (omega (arith, long, length_hard fed)))
 
     found_is : found_unusable k t rec ≡ unusable_yet k cut
@@ -223,19 +223,19 @@ module _
         behind x e = omega arith
 
     odd_is : payload_odd k r t.n rec ≡ odd_yet k r cut
-    odd_is = subst (λ (x : List Taken). payloadOdd k r t.n x ≡ odd_yet k r cut) apart shorter
+    odd_is = subst (λ (x : List Taken). payload_odd k r t.n x ≡ odd_yet k r cut) apart shorter
       where
         last : odd_growth r (front_chips k) (growths_of r (payload_phase k cut) (payload_words k r t.n cut))
             ≡ odd_yet k r cut
         last =
             unfold odd_yet payload_words in
-            ap (λ (i : ℕ). oddGrowth r (front_chips k)
+            ap (λ (i : ℕ). odd_growth r (front_chips k)
             (growths_of r (payload_phase k cut) (decided_words r i (drop (front_chips k) cut)))) (sym symbols_are)
 
         shorter : payload_odd k r t.n (cut ++ drop all rec) ≡ odd_yet k r cut
         shorter =
             unfold payload_odd in
-            ap₂ {C = Option ℕ} (λ x y. oddGrowth r (front_chips k) (growths_of r x y))
+            ap₂ {C = Option ℕ} (λ x y. odd_growth r (front_chips k) (growths_of r x y))
             (phase_prefix k cut (drop all rec) from_cut)
             (payload_words_prefix k r t.n cut (drop all rec) there)
             ∙ last
@@ -257,18 +257,18 @@ module _
         by_payload
         ∙ payload_good k t rec room h (found_is ∙ e) (odd_is ∙ o)
         ∙ ap (λ (x : List ℕ). reading.Good t all (least_of x))
-        (subst (λ (x : List Taken). frameLeads k r t.n x ≡ frame_leads k r t.n cut) apart
+        (subst (λ (x : List Taken). frame_leads k r t.n x ≡ frame_leads k r t.n cut) apart
         (frame_leads_prefix k r t.n cut (drop all rec) there)
-        ∙ ap (λ (m : ℕ). frameLeads k r m cut) (sym octets_are))
+        ∙ ap (λ (m : ℕ). frame_leads k r m cut) (sym octets_are))
 
     pub octets_good : t.n ≤ room → unusable_yet k cut ≡ none → odd_yet k r cut ≡ none
         → octets_found kind true rec room ≡ octets_yet k r cut room
     octets_good h e o =
         found (reads_good h e o)
         ∙ ap₂ {C = List ℕ} (λ x m. x ++ replicate (room - m) 0)
-        (subst (λ (x : List Taken). payloadOf k r t.n x ≡ payload_of k r t.n cut) apart
+        (subst (λ (x : List Taken). payload_of k r t.n x ≡ payload_of k r t.n cut) apart
         (payload_prefix k r t.n cut (drop all rec) there)
-        ∙ ap (λ (m : ℕ). payloadOf k r m cut) (sym octets_are))
+        ∙ ap (λ (m : ℕ). payload_of k r m cut) (sym octets_are))
         (sym octets_are)
       where
         found : read_all kind fed room

@@ -78,14 +78,14 @@ module _
 
   told_all : front_of k rec ≡ front.Fields t
   told_all =
-      subst (λ (x : List Taken). frontOf k x ≡ front.Fields t) apart
+      subst (λ (x : List Taken). front_of k x ≡ front.Fields t) apart
       (front_prefix k cut (drop all rec) (omega (arith, c.from, length_hard (take all fed))) ∙ c.told)
 
   yet_is : buffer_yet kind rec room ≡ payload_yet k t cut room
   yet_is =
       opened
       ∙ ap (after_front_yet k rec room) told_all
-      ∙ ap (λ (x : List Taken). payloadYet k t x room) (take_hard all fed)
+      ∙ ap (λ (x : List Taken). payload_yet k t x room) (take_hard all fed)
     where
       opened : buffer_yet kind rec room ≡ after_front_yet k rec room (front_of k rec)
       opened = unfold buffer_yet in rw is
@@ -116,7 +116,7 @@ module _
         kind_of_lem = kinds;
         rate_of_lem = rates;
         n_of = c.tells.n_is;
-        all_of = ap₂ {C = ℕ} (λ c s. frameChips c s p.n) kinds rates
+        all_of = ap₂ {C = ℕ} (λ c s. frame_chips c s p.n) kinds rates
             ∙ ap (frame_chips (kind_of kind) t.rate) c.tells.n_is;
       }
 

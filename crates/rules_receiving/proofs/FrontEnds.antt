@@ -95,7 +95,7 @@ module _ (k : Kind) (rec : List Taken) (at : length rec ≡ front_chips k) where
   unfolding preamble_words
   preamble_words_lem =
       let pc = preamble_chips k in
-      ap (λ (n : ℕ). decidedWords One n (take pc rec)) (by k first_long)
+      ap (λ (n : ℕ). decided_words One n (take pc rec)) (by k first_long)
       ∙ sym (words_prefix One (preamble_length k) (take pc rec) (drop pc rec) (omega (arith, first_long)))
       ∙ ap (decided_words One (preamble_length k)) (take-append-drop pc rec)
     where
@@ -107,7 +107,7 @@ module _ (k : Kind) (rec : List Taken) (at : length rec ≡ front_chips k) where
   header_words_lem : words_yet (header_section k rec) rec ≡ header_words k rec
   unfolding header_words
   header_words_lem =
-      ap (λ (n : ℕ). decidedWords (header_rate k) n (drop (preamble_chips k) rec)) (by k at)
+      ap (λ (n : ℕ). decided_words (header_rate k) n (drop (preamble_chips k) rec)) (by k at)
     where
       by : (k : Kind) → length rec ≡ front_chips k
           → (length rec - preamble_chips k) / symbol_chips (header_rate k) ≡ header_length / symbol_bits (header_rate k)
@@ -188,11 +188,11 @@ module _
   words_are : words_to H all (octets_done H all) ≡ header_words k all
   unfolding header_words
   words_are =
-      ap (λ (m : ℕ). decidedWords (header_rate k) (8 * m / symbol_bits (header_rate k)) (drop (preamble_chips k) all)) six
+      ap (λ (m : ℕ). decided_words (header_rate k) (8 * m / symbol_bits (header_rate k)) (drop (preamble_chips k) all)) six
 
   bits_are : heard_to H all (octets_done H all) ≡ front_heard k all
   unfolding front_heard
-  bits_are = ap (λ (ws : List ℕ). preambleHeard k all ++ heard (header_rate k) 0 (header_phase k all) ws) words_are
+  bits_are = ap (λ (ws : List ℕ). preamble_heard k all ++ heard (header_rate k) 0 (header_phase k all) ws) words_are
 
   phase_is : last_heard (header_rate k) (header_phase k all) (header_words k all) ≡ payload_phase k all
   unfolding payload_phase
@@ -203,11 +203,11 @@ module _
   octets_are =
       let none_left : length header - octets_done H all ≡ 0 = omega (arith, size, six) in
       g.octets
-      ∙ ap (λ (n : ℕ). octetsTo H all k (octets_done H all) ++ zeros n) none_left
+      ∙ ap (λ (n : ℕ). octets_to H all k (octets_done H all) ++ zeros n) none_left
       ∙ append-nil (octets_to H all k (octets_done H all))
-      ∙ ap₂ {C = List ℕ} (λ m bs. octetsOf m (drop (length (preamble_heard k all)) (descramble (start k) bs)))
+      ∙ ap₂ {C = List ℕ} (λ m bs. octets_of m (drop (length (preamble_heard k all)) (descramble (start k) bs)))
       six bits_are
-      ∙ ap (λ (n : ℕ). octetsOf 6 (drop n (descramble (start k) (front_heard k all)))) (preamble_long k all)
+      ∙ ap (λ (n : ℕ). octets_of 6 (drop n (descramble (start k) (front_heard k all)))) (preamble_long k all)
 
   pub header_ends : Ends k all e header
   header_ends = record {
@@ -215,7 +215,7 @@ module _
     behind = g.behind ∙ ap (λ (bs : List ℕ). take 7 (past_after (start k) bs)) bits_are;
     least =
         g.least
-        ∙ ap (λ (m : ℕ). leastFrom (preamble_chips k / 11) (least_of (decided_leads One (preamble_length k) all))
+        ∙ ap (λ (m : ℕ). least_from (preamble_chips k / 11) (least_of (decided_leads One (preamble_length k) all))
         (decided_leads (header_rate k) (8 * m / symbol_bits (header_rate k)) (drop (preamble_chips k) all))) six
         ∙ sym (front_least k all);
     octets = octets_are;

@@ -85,7 +85,7 @@ usable_parts n rec h e =
     let at : 0 + length (take n rec) ≡ n = zero-add _ ∙ length-take-le n rec h in
     let both = neither (first_unusable 0 (take n rec)) (first_unusable (0 + length (take n rec)) (drop n rec))
     (sym (unusable_append 0 (take n rec) (drop n rec)) ∙ ap (first_unusable 0) (take-append-drop n rec) ∙ e) in
-    (both.0, ap (λ (i : ℕ). firstUnusable i (drop n rec)) (sym at) ∙ both.1)
+    (both.0, ap (λ (i : ℕ). first_unusable i (drop n rec)) (sym at) ∙ both.1)
 
 -- chips behind n usable ones
 pub unusable_behind : (n : ℕ) (rec : List Taken) → n ≤ length rec → first_unusable 0 (take n rec) ≡ none
@@ -94,7 +94,7 @@ unusable_behind n rec h e =
     let at : 0 + length (take n rec) ≡ n = zero-add _ ∙ length-take-le n rec h in
     ap (first_unusable 0) (sym (take-append-drop n rec))
     ∙ unusable_append 0 (take n rec) (drop n rec)
-    ∙ rw e (ap (λ (i : ℕ). firstUnusable i (drop n rec)) at)
+    ∙ rw e (ap (λ (i : ℕ). first_unusable i (drop n rec)) at)
 
 -- ---- what a front is that goes on, by its chips
 
@@ -181,7 +181,7 @@ module _
         let at : p.count ≡ 0 + length rec = omega (arith, x.count_is, length_hard fed) in
         let found : first_unusable 0 all ≡ first_unusable p.count more =
         ap (first_unusable 0) split ∙ unusable_append 0 rec more
-        ∙ rw n (ap (λ (i : ℕ). firstUnusable i more) (sym at)) in
+        ∙ rw n (ap (λ (i : ℕ). first_unusable i more) (sym at)) in
         let grown : front_odd_yet k all ≡ some place = ap (front_odd_yet k) split ∙ yet_stays k rec more place e in
         record {
           within = inside;
@@ -217,7 +217,7 @@ module _
               count_is = counted;
               bad_is = bad ∙ ap place_number (sym clear);
               odd_is = λ n. odd ∙ ap place_number (sym even);
-              goes = λ n o. in-first h held start.1 start.2;
+              goes = λ n o. in_first h held start.1 start.2;
             }
 
         pub first_whole : length (fed ++ piece) ≡ 11 → q.ear.phase ≡ decided One (map taken_counts (take 11 all))
@@ -310,7 +310,7 @@ module _
                 let good : bad ≡ none = is.bad_is ∙ sym found ∙ c in
                 in_header_lem (omega (arith, h, long))
                 (here.0
-                ∙ ap (λ (bs : List ℕ). octetsOf (preamble_count k) (descramble (start k) bs))
+                ∙ ap (λ (bs : List ℕ). octets_of (preamble_count k) (descramble (start k) bs))
                 (sym (ap (preamble_heard k) split ∙ preamble_bits_lem k rec more there)))
                 (is.goes good (is.odd_is good ∙ sym behind ∙ o));
           }

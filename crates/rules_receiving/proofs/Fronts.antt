@@ -75,7 +75,7 @@ module _ (k : Kind) (rec more : List Taken) (whole : preamble_chips k ≤ length
 pub odd_early : (p : Section) (rec : List Taken) → length rec < p.from + symbol_chips p.rate → section_odd p rec ≡ none
 unfolding section_odd decided_words growths_of first_odd
 odd_early p rec h =
-    ap (λ (n : ℕ). oddGrowth p.rate p.from
+    ap (λ (n : ℕ). odd_growth p.rate p.from
     (growths_of p.rate p.phase (decided_words p.rate n (drop p.from rec)))) (few p.rate h)
     ∙ nothing p.rate
   where
@@ -112,12 +112,12 @@ odd_stays p rec more place whole e =
     let ws = decided_words r q (drop from rec) in
     let vs = decided_words r x (drop (symbol_chips r * q) (drop from (rec ++ more))) in
     let words : decided_words r (whole_symbols r from (rec ++ more)) (drop from (rec ++ more)) ≡ ws ++ vs =
-    ap (λ (i : ℕ). decidedWords r i (drop from (rec ++ more))) later.0
+    ap (λ (i : ℕ). decided_words r i (drop from (rec ++ more))) later.0
     ∙ decided_words_append r q x (drop from (rec ++ more))
     ∙ ap (λ (l : List ℕ). l ++ vs)
     (ap (decided_words r q) (drop-append-le from rec more whole)
     ∙ words_prefix r q (drop from rec) more (omega (arith, later.1, length-drop from rec))) in
-    ap (λ (l : List ℕ). oddGrowth r from (growths_of r p.phase l)) words
+    ap (λ (l : List ℕ). odd_growth r from (growths_of r p.phase l)) words
     ∙ ap (odd_growth r from) (growths_of_append r p.phase ws vs)
     ∙ odd_growth_append r from (growths_of r p.phase ws) (growths_of r (last_heard r p.phase ws) vs)
     ∙ rw e

@@ -55,9 +55,9 @@ module _ (kind : ℕ) (rec : List Taken) (room : ℕ) where
   unfolding payload_reading
   payload t w =
       decided_by HardComes (ltb room t.n) _ _ (λ b. no_room t w (ltb-true _ _ b))
-      (λ a. found-or-none HardComes (found_unusable k t rec) (λ p. reading.Refused (Unusable p t.length)) _
+      (λ a. found_or_none HardComes (found_unusable k t rec) (λ p. reading.Refused (Unusable p t.length)) _
       (unusable t w)
-      (λ u. found-or-none HardComes (payload_odd k t.rate t.n rec)
+      (λ u. found_or_none HardComes (payload_odd k t.rate t.n rec)
       (λ p. reading.Refused (OddGrowth p t.length)) _ (odd t w) (accepted t w (ltb-false _ _ a) u)))
 
   behind : is_kind kind ≡ true → (f : Front) → front_of k rec ≡ f → HardComes (after_front k rec room (whole_of k rec f))

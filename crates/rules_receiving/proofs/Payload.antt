@@ -48,7 +48,7 @@ module _
   unfolding payload_of
   payload_prefix =
       ap₂ {C = List ℕ}
-      (λ x y. octetsOf m (drop (preamble_length k + header_length) (descramble (start k) (x ++ y))))
+      (λ x y. octets_of m (drop (preamble_length k + header_length) (descramble (start k) (x ++ y))))
       (heard_prefix k rec more whole)
       (ap₂ {C = List ℕ} (λ x y. heard r 0 x y) (phase_prefix k rec more whole) payload_words_prefix)
 

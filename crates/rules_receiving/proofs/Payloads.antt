@@ -55,7 +55,7 @@ part_octets : (k : Kind) (r : Rate) (m : ℕ) (rec : List Taken) → octets_to (
     ≡ payload_of k r m rec
 unfolding payload_of payload_words
 part_octets k r m rec =
-    ap (λ (i : ℕ). octetsOf m (drop i (descramble (start k) (heard_to (payload_section k r rec) rec m))))
+    ap (λ (i : ℕ). octets_of m (drop i (descramble (start k) (heard_to (payload_section k r rec) rec m))))
     (front_length k r rec m)
 
 -- ---- what comes
@@ -156,7 +156,7 @@ module _
   odd_on : (place : ℕ) → odd_yet k r rec ≡ some place → odd_yet k r all ≡ some place
   odd_on place e =
       part_odd k r all
-      ∙ ap₂ {C = Option ℕ} (λ q c. sectionOdd q c) (sym part_on) (append_hard fed piece)
+      ∙ ap₂ {C = Option ℕ} (λ q c. section_odd q c) (sym part_on) (append_hard fed piece)
       ∙ odd_stays (payload_section k r rec) rec more place whole (sym (part_odd k r rec) ∙ e)
 
   -- 17 is certain
@@ -203,7 +203,7 @@ module _
             → cond (eqb p.bad 0) (place_number (first_unusable p.count more)) p.bad
             ≡ place_number (or_else o (λ place. some place) (first_unusable (length fed) more))
         looked none e =
-            rw (eq-eqb p.bad 0 e) (ap (λ (i : ℕ). placeNumber (first_unusable i more)) w.comes.count_is)
+            rw (eq-eqb p.bad 0 e) (ap (λ (i : ℕ). place_number (first_unusable i more)) w.comes.count_is)
         looked (some place) e = rw (ne_eqb p.bad 0 (λ z. omega (arith, e, z))) e
 
         grown : unusable_yet k rec ≡ none → (o : Option ℕ) → odd_yet k r rec ≡ o

@@ -76,7 +76,7 @@ module _
 
   no_words : words_to p rec (octets_done p rec) ≡ []
   unfolding decided_words
-  no_words = ap (λ (n : ℕ). decidedWords p.rate n (drop p.from rec)) no_symbols
+  no_words = ap (λ (n : ℕ). decided_words p.rate n (drop p.from rec)) no_symbols
 
   no_bits : heard_to p rec (octets_done p rec) ≡ p.before
   unfolding heard
@@ -84,13 +84,13 @@ module _
 
   no_leads : least_to p rec (octets_done p rec) ≡ p.least
   unfolding decided_leads least_from
-  no_leads = ap (λ (n : ℕ). leastFrom p.first p.least (decided_leads p.rate n (drop p.from rec))) no_symbols
+  no_leads = ap (λ (n : ℕ). least_from p.first p.least (decided_leads p.rate n (drop p.from rec))) no_symbols
 
   no_octets : octets_to p rec k (octets_done p rec) ++ zeros (length out - octets_done p rec) ≡ zeros (length out)
   unfolding octets_of
   no_octets =
       let all : length out - 0 ≡ length out = omega arith in
-      ap (λ (m : ℕ). octetsTo p rec k m ++ zeros (length out - m)) done ∙ ap zeros all
+      ap (λ (m : ℕ). octets_to p rec k m ++ zeros (length out - m)) done ∙ ap zeros all
 
   at_start : octet_end p rec ≡ p.from
   at_start = ap (λ (m : ℕ). p.from + octet_chips p.rate * m) done ∙ by p.rate
@@ -121,7 +121,7 @@ module _
 pub none_yet : (p : Section) (fed : List ℕ) → length fed ≡ p.from → words_yet p (hard_recording fed) ≡ []
 unfolding decided_words
 none_yet p fed e =
-    ap (λ (n : ℕ). decidedWords p.rate n (drop p.from (hard_recording fed))) (by p.rate)
+    ap (λ (n : ℕ). decided_words p.rate n (drop p.from (hard_recording fed))) (by p.rate)
   where
     by : (r : Rate) → (length (hard_recording fed) - p.from) / symbol_chips r ≡ 0
     by One = omega (arith, length_hard fed, e)
@@ -162,11 +162,11 @@ module _
 
   words_are : words_to P all (octets_done P all) ≡ preamble_words k all
   unfolding preamble_words
-  words_are = ap (λ (n : ℕ). decidedWords One n all) whole_symbols_lem
+  words_are = ap (λ (n : ℕ). decided_words One n all) whole_symbols_lem
 
   yet_are : words_yet P all ≡ preamble_words k all
   unfolding preamble_words
-  yet_are = ap (λ (n : ℕ). decidedWords One n all) (by k at)
+  yet_are = ap (λ (n : ℕ). decided_words One n all) (by k at)
     where
       by : (k : Kind) → length fed ≡ preamble_chips k → (length all - 0) / 11 ≡ preamble_length k
       by Long f = omega (arith, length_hard fed, f)
@@ -184,7 +184,7 @@ module _
   unfolding least_of
   least_is =
       g.least
-      ∙ ap₂ {C = Least} (λ x n. leastFrom 0 (lead_at x 0) (decided_leads One n all)) first_lead whole_symbols_lem
+      ∙ ap₂ {C = Least} (λ x n. least_from 0 (lead_at x 0) (decided_leads One n all)) first_lead whole_symbols_lem
 
   phase_is : last_heard One (reference k all) (preamble_words k all) ≡ header_phase k all
   unfolding header_phase
@@ -196,7 +196,7 @@ module _
       ap (take (preamble_count k)) g.octets
       ∙ ap (λ (m : ℕ). take (preamble_count k) (octets_to P all k m ++ zeros (length preamble - m))) whole_octets_lem
       ∙ take_at (octets_to P all k (preamble_count k)) _ (preamble_count k) (octets_length (preamble_count k) _)
-      ∙ ap (λ (ws : List ℕ). octetsOf (preamble_count k) (descramble (start k) (heard One 0 (reference k all) ws)))
+      ∙ ap (λ (ws : List ℕ). octets_of (preamble_count k) (descramble (start k) (heard One 0 (reference k all) ws)))
       (ap (λ (m : ℕ). words_to P all m) (sym whole_octets_lem) ∙ words_are)
 
   pub preamble_ends : header ≡ zeros 6 → FrontGoes k fed e hold preamble header
@@ -236,7 +236,7 @@ module _ (k : Kind) (fed : List ℕ) (size : length fed ≡ 11) where
   unfolding decided_words
   one_word =
       let one : (length chips - 0) / 11 ≡ 1 = omega (arith, length_hard fed, size) in
-      ap (λ (n : ℕ). decidedWords One n chips) one
+      ap (λ (n : ℕ). decided_words One n chips) one
 
   -- the first symbol is grown by 0 from itself
   pub first_even : front_odd_yet k chips ≡ none
@@ -244,7 +244,7 @@ module _ (k : Kind) (fed : List ℕ) (size : length fed ≡ 11) where
   first_even =
       let none_grown : (word + 4 - word) % 4 ≡ 0 = omega arith in
       yet_before k chips (some_few k)
-      ∙ ap₂ {C = Option ℕ} (λ p ws. firstOdd 0 (growths_of One p ws)) reference_is one_word
+      ∙ ap₂ {C = Option ℕ} (λ p ws. first_odd 0 (growths_of One p ws)) reference_is one_word
       ∙ rw none_grown
     where
       some_few : (k : Kind) → length chips ≤ preamble_chips k

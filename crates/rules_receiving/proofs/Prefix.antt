@@ -62,7 +62,7 @@ leads_prefix r (suc m) cs more h =
     let rest : decided_leads r m (drop c (cs ++ more)) ≡ decided_leads r m (drop c cs) =
     ap (decided_leads r m) (drop-append-le c cs more (omega arith))
     ∙ leads_prefix r m (drop c cs) more (omega (arith, length-drop c cs)) in
-    ap₂ {C = List ℕ} (λ (x : List Taken) (ws : List ℕ). leadOf r (map taken_counts x) ∷ ws)
+    ap₂ {C = List ℕ} (λ (x : List Taken) (ws : List ℕ). lead_of r (map taken_counts x) ∷ ws)
     (take-append-le c cs more (omega arith)) rest
 
 -- ---- the first unusable chip of two parts
@@ -99,7 +99,7 @@ module _ (k : Kind) (rec more : List Taken) (whole : preamble_chips k ≤ length
 
   pub header_phase_prefix : header_phase k (rec ++ more) ≡ header_phase k rec
   unfolding header_phase
-  header_phase_prefix = ap₂ {C = ℕ} (λ p w. lastHeard One p w) reference_prefix preamble_prefix
+  header_phase_prefix = ap₂ {C = ℕ} (λ p w. last_heard One p w) reference_prefix preamble_prefix
 
 -- ---- the front, once it is whole
 
@@ -118,7 +118,7 @@ module _ (k : Kind) (rec more : List Taken) (whole : front_chips k ≤ length re
   pub phase_prefix : payload_phase k (rec ++ more) ≡ payload_phase k rec
   unfolding payload_phase
   phase_prefix =
-      ap₂ {C = ℕ} (λ p w. lastHeard (header_rate k) p w) (header_phase_prefix k rec more before) header_prefix
+      ap₂ {C = ℕ} (λ p w. last_heard (header_rate k) p w) (header_phase_prefix k rec more before) header_prefix
 
   pub heard_prefix : front_heard k (rec ++ more) ≡ front_heard k rec
   unfolding front_heard

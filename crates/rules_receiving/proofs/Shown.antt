@@ -72,7 +72,7 @@ payload_begins k r m w rec =
     words_are : payload_words k r (m + w) rec ≡ words ++ rest
     words_are =
         unfold payload_words in
-        ap (λ (i : ℕ). decidedWords r i (drop (front_chips k) rec)) (octets_sum r m w)
+        ap (λ (i : ℕ). decided_words r i (drop (front_chips k) rec)) (octets_sum r m w)
         ∙ decided_words_append r (8 * m / symbol_bits r) (octet_symbols r * w) (drop (front_chips k) rec)
 
     phase : ℕ
@@ -86,8 +86,8 @@ payload_begins k r m w rec =
 
     bits_are : front_heard k rec ++ heard r 0 phase (payload_words k r (m + w) rec) ≡ bits ++ more
     bits_are =
-        ap (λ (x : List ℕ). frontHeard k rec ++ heard r 0 phase x) words_are
-        ∙ ap (λ (x : List ℕ). frontHeard k rec ++ x) (heard_append r 0 phase words rest)
+        ap (λ (x : List ℕ). front_heard k rec ++ heard r 0 phase x) words_are
+        ∙ ap (λ (x : List ℕ). front_heard k rec ++ x) (heard_append r 0 phase words rest)
         ∙ sym (append_assoc (front_heard k rec) (heard r 0 phase words) more)
 
     front : ℕ
@@ -96,7 +96,7 @@ payload_begins k r m w rec =
     words_long : symbol_bits r * length words ≡ 8 * m
     words_long =
         unfold payload_words in
-        ap (λ (i : ℕ). symbolBits r * i)
+        ap (λ (i : ℕ). symbol_bits r * i)
         (decided_words_length r (8 * m / symbol_bits r) (drop (front_chips k) rec) ∙ part_symbols r m)
         ∙ part_bits r m
 
@@ -112,8 +112,8 @@ payload_begins k r m w rec =
     parted : payload_of k r (m + w) rec ≡ payload_of k r m rec ++ behind
     parted =
         unfold payload_of in
-        ap (λ (x : List ℕ). octetsOf (m + w) (drop front (descramble (start k) x))) bits_are
-        ∙ ap (λ (x : List ℕ). octetsOf (m + w) (drop front x)) (descramble_append (start k) bits more)
+        ap (λ (x : List ℕ). octets_of (m + w) (drop front (descramble (start k) x))) bits_are
+        ∙ ap (λ (x : List ℕ). octets_of (m + w) (drop front x)) (descramble_append (start k) bits more)
         ∙ ap (octets_of (m + w))
         (drop-append-le front (descramble (start k) bits) (descramble (past_after (start k) bits) more)
         (omega (arith, bits_long)))
@@ -197,7 +197,7 @@ module _
   words_parted : payload_words k r t.n (cut ++ more) ≡ words ++ others
   unfolding payload_words
   words_parted =
-      ap (λ (i : ℕ). decidedWords r i (drop from (cut ++ more))) (parted within.0)
+      ap (λ (i : ℕ). decided_words r i (drop from (cut ++ more))) (parted within.0)
       ∙ decided_words_append r come left (drop from (cut ++ more))
       ∙ ap (λ (x : List ℕ). x ++ others)
       (ap (decided_words r come) (drop-append-le from cut more whole)
@@ -213,7 +213,7 @@ module _
       ≡ or_else (odd_yet k r cut) (λ place. some place) (odd_growth r (from + symbol_chips r * come) grown)
   unfolding payload_odd odd_yet
   odd_parted =
-      ap₂ {C = Option ℕ} (λ x y. oddGrowth r from (growths_of r x y)) (phase_prefix k cut more whole) words_parted
+      ap₂ {C = Option ℕ} (λ x y. odd_growth r from (growths_of r x y)) (phase_prefix k cut more whole) words_parted
       ∙ ap (odd_growth r from) (growths_of_append r (payload_phase k cut) words others)
       ∙ odd_growth_append r from (growths_of r (payload_phase k cut) words) grown
       ∙ ap (λ (i : ℕ). or_else (odd_yet k r cut) (λ place. some place) (odd_growth r (from + symbol_chips r * i) grown))

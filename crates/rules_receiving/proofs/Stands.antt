@@ -189,13 +189,13 @@ module _
     same = ap (λ (i : ℕ). heard p.rate symbol i new) s.at_phase
 
     all_heard : heard_to p (rec ++ more) (m + w) ≡ heard_to p rec m ++ bits
-    all_heard = heard_more p m rec more at even w ∙ ap (λ (bs : List ℕ). heardTo p rec m ++ bs) (sym same)
+    all_heard = heard_more p m rec more at even w ∙ ap (λ (bs : List ℕ). heard_to p rec m ++ bs) (sym same)
 
     all_octets : octets_to p (rec ++ more) k (m + w)
         ≡ octets_to p rec k m ++ octets_of w (descramble (past_of e.past) bits)
     all_octets =
         octets_more p m rec more at even w k
-        ∙ ap (λ (bs : List ℕ). octetsTo p rec k m ++ octets_of w bs)
+        ∙ ap (λ (bs : List ℕ). octets_to p rec k m ++ octets_of w bs)
         (ap (descramble (past_after (start k) (heard_to p rec m))) (sym same)
         ∙ sym (descramble_window (past_of e.past) (past_after (start k) (heard_to p rec m)) bits s.behind))
 
@@ -207,7 +207,7 @@ module _
         → Stands k p (m + w) (rec ++ more) u (take m out ++ (y ++ drop (m + w) out))
     stands_more past phase least octets = record {
       at_phase =
-          phase ∙ ap (λ (i : ℕ). lastHeard p.rate i new) s.at_phase
+          phase ∙ ap (λ (i : ℕ). last_heard p.rate i new) s.at_phase
           ∙ sym (last_heard_append p.rate p.phase (words_to p rec m) new)
           ∙ ap (last_heard p.rate p.phase) (sym (words_more p m rec more at w));
       behind =
@@ -221,7 +221,7 @@ module _
           ∙ ap (past_after (start k)) (sym all_heard));
       least =
           least
-          ∙ ap (λ (b : Least). leastFrom symbol b (decided_leads p.rate (8 * w / symbol_bits p.rate) more))
+          ∙ ap (λ (b : Least). least_from symbol b (decided_leads p.rate (8 * w / symbol_bits p.rate) more))
           s.least
           ∙ sym (least_more p m rec more at w);
       octets = filled;

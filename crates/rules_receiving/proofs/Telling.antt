@@ -160,7 +160,7 @@ module _ (kind room : ℕ) (fed : List ℕ) (p : Progress) (hold preamble header
   module _ (x : Holds) (st : p.status ≡ 2) (kind-is : p.kind ≡ kind) (room-is : p.room ≡ room) where
     all_is : (t : Told) → Told-of t → all_of p ≡ frame_chips (kind_of kind) t.rate t.n
     all_is t c =
-        ap₂ {C = ℕ} (λ k r. frameChips (kind_of k) r p.n) kind-is
+        ap₂ {C = ℕ} (λ k r. frame_chips (kind_of k) r p.n) kind-is
         (ap rate_of c.tells.rate_is ∙ rate_back t.rate)
         ∙ ap (frame_chips (kind_of kind) t.rate) c.tells.n_is
 

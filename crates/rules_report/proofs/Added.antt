@@ -89,10 +89,10 @@ row_same g os o e = simp (total_more, e, add-zero)
 -- ---- refusals by number
 
 refused_more : (os : List Outcome) (o : Outcome) → accepted o ≡ false
-    → more o.answer.number 1 (tabulate (λ k. refusedWith k os) 18)
-    ≡ tabulate (λ k. refusedWith k (os ++ (o ∷ []))) 18
+    → more o.answer.number 1 (tabulate (λ k. refused_with k os) 18)
+    ≡ tabulate (λ k. refused_with k (os ++ (o ∷ []))) 18
 refused_more os o e =
-    let l = tabulate (λ k. refusedWith k os) 18 in
+    let l = tabulate (λ k. refused_with k os) 18 in
     let long : length l ≡ 18 = length_tabulate _ 18 in
     ext_get_or 0 _ _ (length_more _ 1 l ∙ long ∙ sym (length_tabulate _ 18))
     (λ j h. let below : j < 18 = omega (arith, h, length_more o.answer.number 1 l, long) in
@@ -101,7 +101,7 @@ refused_more os o e =
     ∙ sym (get_or_tabulate _ 18 j 0 below ∙ total_more _ os o ∙ simp e))
 
 refused_same : (os : List Outcome) (o : Outcome) → accepted o ≡ true
-    → tabulate (λ k. refusedWith k os) 18 ≡ tabulate (λ k. refusedWith k (os ++ (o ∷ []))) 18
+    → tabulate (λ k. refused_with k os) 18 ≡ tabulate (λ k. refused_with k (os ++ (o ∷ []))) 18
 refused_same os o e = tabulate_ext _ _ 18 (λ j h. sym (total_more _ os o ∙ simp (e, add-zero)))
 
 -- ---- airtime

@@ -104,4 +104,4 @@ fair r =
     let k = kind_of r.kind in
     let rec = hard_recording r.chips in
     branch Fairly (not (is_kind r.kind)) _ _ (refused NoKind (lit≤ tt) (lit≤ tt) (λ z. omega arith))
-    (λ a. front-fair k rec (whole_of k rec (front_of k rec)) (whole_telling k rec) (whole_refuses k rec))
+    (λ a. front_fair k rec (whole_of k rec (front_of k rec)) (whole_telling k rec) (whole_refuses k rec))

@@ -37,7 +37,7 @@ digits_of n h = record {
   value = decimal_value n h;
   some = decimal_least n;
   each = decimal_digit n;
-  front = λ more. decimal-front n (positive more (dec_lt 0 n)) h;
+  front = λ more. decimal_front n (positive more (dec_lt 0 n)) h;
 }
   where
     positive : 1 < length (decimal n) → Dec (0 < n) → 0 < n
@@ -100,7 +100,7 @@ text_said p f =
     let octets : ℕ → ℕ = λ j. get_or p.octets j 0 in
     let rate : (code j : ℕ) → code < 10 ^ 20
     → RateSaid code (frames j) (octets j) (rate_line code (frames j) (octets j)) =
-    λ code j h. rate-said code (frames j) (octets j) h (f.frames_fit j) (f.octets_fit j) in
+    λ code j h. rate_said code (frames j) (octets j) h (f.frames_fit j) (f.octets_fit j) in
     record {
       r10 = rate_line 10 (get_or p.frames 0 0) (get_or p.octets 0 0);
       r20 = rate_line 20 (get_or p.frames 1 0) (get_or p.octets 1 0);

@@ -117,7 +117,7 @@ module _ {l m : List ℕ} where
 refusals_only : (refused : List ℕ) (k : ℕ) (l m : List ℕ) → RefusalsSaid refused k l → RefusalsSaid refused k m → l ≡ m
 refusals_only refused _ _ _ no_more no_more = refl
 refusals_only refused _ _ _ (and_then k l a p s) (and_then _ m b q t) =
-    λ i. refusals-only refused k l m p q i ++ refused_only s t i
+    λ i. refusals_only refused k l m p q i ++ refused_only s t i
 
 -- ---- the text
 

@@ -138,24 +138,24 @@ module _ (code : ℕ) (os : List Outcome) where
   -- rule: 6.19
   -- with: octets_sum, refused_sum, airtime_sum, SumOf
   pub frames_sum : SumOf (FrameShare code) os (frames_at code os)
-  frames_sum = sums (FrameShare code) _ (λ o. by-test 1 (frame_decides code o)) os
+  frames_sum = sums (FrameShare code) _ (λ o. by_test 1 (frame_decides code o)) os
 
   pub octets_sum : SumOf (OctetShare code) os (octets_at code os)
-  octets_sum = sums (OctetShare code) _ (λ o. by-test o.answer.n (frame_decides code o)) os
+  octets_sum = sums (OctetShare code) _ (λ o. by_test o.answer.n (frame_decides code o)) os
 
   pub frames_only : (n : ℕ) → SumOf (FrameShare code) os n → n ≡ frames_at code os
-  frames_only n s = sums_only (FrameShare code) _ (λ o x. by-test-only 1 x (frame_decides code o)) os n s
+  frames_only n s = sums_only (FrameShare code) _ (λ o x. by_test_only 1 x (frame_decides code o)) os n s
 
   pub octets_only : (n : ℕ) → SumOf (OctetShare code) os n → n ≡ octets_at code os
   octets_only n s =
-      sums_only (OctetShare code) _ (λ o x. by-test-only o.answer.n x (frame_decides code o)) os n s
+      sums_only (OctetShare code) _ (λ o x. by_test_only o.answer.n x (frame_decides code o)) os n s
 
 module _ (number : ℕ) (os : List Outcome) where
   pub refused_sum : SumOf (RefusalShare number) os (refused_with number os)
-  refused_sum = sums (RefusalShare number) _ (λ o. by-test 1 (refusal_decides number o)) os
+  refused_sum = sums (RefusalShare number) _ (λ o. by_test 1 (refusal_decides number o)) os
 
   pub refused_only : (n : ℕ) → SumOf (RefusalShare number) os n → n ≡ refused_with number os
-  refused_only n s = sums_only (RefusalShare number) _ (λ o x. by-test-only 1 x (refusal_decides number o)) os n s
+  refused_only n s = sums_only (RefusalShare number) _ (λ o x. by_test_only 1 x (refusal_decides number o)) os n s
 
 module _ (os : List Outcome) where
   pub airtime_sum : SumOf AirtimeShare os (airtime_of os)

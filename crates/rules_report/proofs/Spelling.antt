@@ -143,7 +143,7 @@ unfolding digits places
 digits_front zero n z h = omega arith
 digits_front (suc m) n z h =
     let more : 10 ^ suc (suc m) ≡ 10 * 10 ^ suc m = pow-succ' 10 (suc m) in
-    by (dec_lt n 10) (λ q. digits-front m (n / 10) (omega arith) (omega arith))
+    by (dec_lt n 10) (λ q. digits_front m (n / 10) (omega arith) (omega arith))
   where
     by : Dec (n < 10) → (10 ≤ n → 48 < get_or (digits (places m (n / 10)) (n / 10)) 0 0)
         → 48 < get_or (digits (places (suc m) n) n) 0 0

@@ -49,17 +49,17 @@ front_time_lem kind = either_most (eqb kind 0) _ _ 192 (lit≤ tt) (lit≤ tt)
 module _ (rs : List Recording) where
   frames_most : (code : ℕ) → frames_at code (map outcome_of rs) ≤ 1 * length rs
   frames_most code =
-      total_most _ 1 (λ r. one-most (accepted_at code (outcome_of r)) 1 1 (λ e. le_refl 1)) rs
+      total_most _ 1 (λ r. one_most (accepted_at code (outcome_of r)) 1 1 (λ e. le_refl 1)) rs
 
   octets_most : (code : ℕ) → octets_at code (map outcome_of rs) ≤ 4095 * length rs
   octets_most code =
-      total_most _ 4095 (λ r. one-most (accepted_at code (outcome_of r)) (outcome_of r).answer.n 4095 (λ e. (fair r).few))
+      total_most _ 4095 (λ r. one_most (accepted_at code (outcome_of r)) (outcome_of r).answer.n 4095 (λ e. (fair r).few))
       rs
 
   refused_most : (number : ℕ) → refused_with number (map outcome_of rs) ≤ 1 * length rs
   refused_most number =
       total_most _ 1
-      (λ r. one-most (not (accepted (outcome_of r)) && eqb (outcome_of r).answer.number number) 1 1 (λ e. le_refl 1)) rs
+      (λ r. one_most (not (accepted (outcome_of r)) && eqb (outcome_of r).answer.number number) 1 1 (λ e. le_refl 1)) rs
 
   airtime_most : airtime_of (map outcome_of rs) ≤ 32952 * length rs
   airtime_most =
@@ -83,11 +83,11 @@ within rs h =
     record {
       seen_below = omega (arith, length-map rs outcome_of);
       frames_within =
-          row_most 1000 (λ code. framesAt code os) (λ code. omega (arith, frames_most rs code)) codes;
+          row_most 1000 (λ code. frames_at code os) (λ code. omega (arith, frames_most rs code)) codes;
       octets_within =
-          row_most 4095000 (λ code. octetsAt code os) (λ code. omega (arith, octets_most rs code)) codes;
+          row_most 4095000 (λ code. octets_at code os) (λ code. omega (arith, octets_most rs code)) codes;
       refused_within =
-          tabulate_all (λ (n : ℕ). n ≤ 1000) (λ number. refusedWith number os) 18 0 (omega arith)
+          tabulate_all (λ (n : ℕ). n ≤ 1000) (λ number. refused_with number os) 18 0 (omega arith)
           (λ number. omega (arith, refused_most rs number));
       airtime_within = omega (arith, airtime_most rs);
     }
@@ -102,7 +102,7 @@ takes_more_lem rs h = limits_take (report_of (map outcome_of rs)) (within rs h)
 pub map_more : (rs : List Recording) (r : Recording)
     → map outcome_of rs ++ (outcome_of r ∷ []) ≡ map outcome_of (rs ++ (r ∷ []))
 map_more [] r = refl
-map_more (q ∷ rs) r = ap (λ (os : List Outcome). outcomeOf q ∷ os) (map_more rs r)
+map_more (q ∷ rs) r = ap (λ (os : List Outcome). outcome_of q ∷ os) (map_more rs r)
 
 -- ---- a call
 

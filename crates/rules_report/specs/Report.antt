@@ -60,9 +60,9 @@ unfoldable pub report_of : List Outcome → Report
 report_of os =
     record {
       seen = length os;
-      frames = map (λ code. framesAt code os) codes;
-      octets = map (λ code. octetsAt code os) codes;
-      refused = tabulate (λ number. refusedWith number os) 18;
+      frames = map (λ code. frames_at code os) codes;
+      octets = map (λ code. octets_at code os) codes;
+      refused = tabulate (λ number. refused_with number os) 18;
       airtime = airtime_of os;
       some = is_there (closest_from 0 os);
       lead = lead_told (closest_from 0 os);

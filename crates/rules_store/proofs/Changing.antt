@@ -167,13 +167,13 @@ module _ (octets : List ℕ) (tag value : ℕ) where
       let e = sym (tells_is octets t) in
       stays 28
       (refused_28 (ap number_of e ∙ m.read) m.tagged
-      (ap (λ (s : Settings). allowedIn (changed tag value s)) e ∙ ap allowed_in m.are
+      (ap (λ (s : Settings). allowed_in (changed tag value s)) e ∙ ap allowed_in m.are
       ∙ not_allowed kind rate phase d)) (λ z. omega arith)
   are_changes (changes_one {left = l} t c g i h a o) =
       let m = made c in
       let e = sym (tells_is octets t) in
       let z : (store_read octets).number ≡ 0 = ap number_of e ∙ m.read in
-      let n = good z m.tagged (ap (λ (s : Settings). allowedIn (changed tag value s)) e ∙ ap allowed_in m.are
+      let n = good z m.tagged (ap (λ (s : Settings). allowed_in (changed tag value s)) e ∙ ap allowed_in m.are
       ∙ allowed_is g) in
       let f = (read_passed octets z).full in
       let p : (body_of tag (entries octets)).offset ≡ offset_at octets i =
@@ -205,7 +205,7 @@ module _ (octets : List ℕ) (tag value : ℕ) where
 
           right : {c : Bool} → allowed_in (changed tag value (store_read octets)) ≡ c
               → allowed_in (changed tag value (values_of octets)) ≡ c
-          right e = ap (λ (s : Settings). allowedIn (changed tag value s)) (sym is) ∙ e
+          right e = ap (λ (s : Settings). allowed_in (changed tag value s)) (sym is) ∙ e
 
           row : is_setting tag ≡ true → Changed value tag (values_of octets) (changed tag value (values_of octets))
           row = changed_of (value_of 1 octets) (value_of 2 octets) (value_of 3 octets) value tag

@@ -191,10 +191,10 @@ module _ (l : List ℕ) (n f : ℕ) (k : First l n f) where
     heads : left l n f ≡ a ∷ b ∷ c ∷ left l n (f + 1 + 1 + 1)
     heads =
         let e : f + 1 + 1 ≡ f + 2 = omega arith in
-        let third = ap (λ (j : ℕ). entryOf (drop (2 + 4 * j) l)) e ∙ sym u in
+        let third = ap (λ (j : ℕ). entry_of (drop (2 + 4 * j) l)) e ∙ sym u in
         left_next l n f (omega arith)
-        ∙ ap (λ (m : List Entry). entryOf (drop (2 + 4 * f) l) ∷ m) (left_next l n (f + 1) (omega arith))
-        ∙ ap (λ (m : List Entry). entryOf (drop (2 + 4 * f) l) ∷ entry_of (drop (2 + 4 * (f + 1)) l) ∷ m)
+        ∙ ap (λ (m : List Entry). entry_of (drop (2 + 4 * f) l) ∷ m) (left_next l n (f + 1) (omega arith))
+        ∙ ap (λ (m : List Entry). entry_of (drop (2 + 4 * f) l) ∷ entry_of (drop (2 + 4 * (f + 1)) l) ∷ m)
         (left_next l n (f + 1 + 1) (omega arith))
         ∙ (λ i. sym s i ∷ sym t i ∷ third i ∷ left l n (f + 1 + 1 + 1))
 

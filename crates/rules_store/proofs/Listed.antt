@@ -143,7 +143,7 @@ module _ (octets : List ℕ) where
 
   -- ---- 24
 
-  laid_test : (end : ℕ) → Test n (λ i. offsetAt octets i ≡ start_at octets n i)
+  laid_test : (end : ℕ) → Test n (λ i. offset_at octets i ≡ start_at octets n i)
       (λ i. laid (start_at octets n i) (left octets n i) end)
   unfolding start_at
   laid_test end = record {
@@ -173,16 +173,16 @@ module _ (octets : List ℕ) where
         sym (laid_whole end) ∙ passes (laid_test end) a ∙ at_end ∙ eq-eqb (start_at octets n n) end e
 
     pub laid_not : laid (table_end n) (entries octets) end ≡ false
-        → Some n (λ i. offsetAt octets i ≡ start_at octets n i) ⊎ (start_at octets n n ≡ end → ⊥)
+        → Some n (λ i. offset_at octets i ≡ start_at octets n i) ⊎ (start_at octets n n ≡ end → ⊥)
     laid_not e = by (failed (laid_test end) (laid_whole end ∙ e))
       where
-        by : Some n (λ i. offsetAt octets i ≡ start_at octets n i)
+        by : Some n (λ i. offset_at octets i ≡ start_at octets n i)
             ⊎ (laid (start_at octets n n) (left octets n n) end ≡ false)
-            → Some n (λ i. offsetAt octets i ≡ start_at octets n i) ⊎ (start_at octets n n ≡ end → ⊥)
+            → Some n (λ i. offset_at octets i ≡ start_at octets n i) ⊎ (start_at octets n n ≡ end → ⊥)
         by (inl s) = inl s
         by (inr f) = inr (eqb-false (start_at octets n n) end (sym at_end ∙ f))
 
-    pub not_laid : Some n (λ i. offsetAt octets i ≡ start_at octets n i) → laid (table_end n) (entries octets) end ≡ false
+    pub not_laid : Some n (λ i. offset_at octets i ≡ start_at octets n i) → laid (table_end n) (entries octets) end ≡ false
     not_laid s = sym (laid_whole end) ∙ fails (laid_test end) s
 
     -- nor where the end is not the store's

@@ -103,7 +103,7 @@ unfolding entries_in
 entries_set zero l i v h = refl
 entries_set (suc n) l i v h =
     let e : i ≡ 4 + (i - 4) = omega arith in
-    let first : entry_of (set l i v) ≡ entry_of l = ap (λ (k : ℕ). entryOf (set l k v)) e ∙ entry_set l (i - 4) v in
+    let first : entry_of (set l i v) ≡ entry_of l = ap (λ (k : ℕ). entry_of (set l k v)) e ∙ entry_set l (i - 4) v in
     let moved : drop 4 (set l i v) ≡ set (drop 4 l) (i - 4) v =
     ap (λ (k : ℕ). drop 4 (set l k v)) e ∙ drop-set-add 4 l (i - 4) v in
     let rest : entries_in n (drop 4 (set l i v)) ≡ entries_in n (drop 4 l) =

@@ -134,7 +134,7 @@ module _ (octets : List ℕ) (tag value : ℕ) (s : Settings) (e : s ≡ store_r
       module _ (a : allowed_in (changed tag value s) ≡ true) where
         pub value_fits : value < 256
         value_fits =
-            in_three (λ k. allowedIn (changed k value s) ≡ true → value < 256)
+            in_three (λ k. allowed_in (changed k value s) ≡ true → value < 256)
             (λ h. (allowed_octets value s.rate s.phase h).0)
             (λ h. (allowed_octets s.kind value s.phase h).1)
             (λ h. (allowed_octets s.kind s.rate value h).2) tag t a

@@ -60,7 +60,7 @@ module _ (octets : List ℕ) (n : ℕ) (e : n ≡ count octets) where
   es = entries_in n (drop 2 octets)
 
   same : es ≡ entries octets
-  same = ap (λ (k : ℕ). entriesIn k (drop 2 octets)) e
+  same = ap (λ (k : ℕ). entries_in k (drop 2 octets)) e
 
   moved : laid (table_end n) es (length octets) ≡ laid (table_end (count octets)) (entries octets) (length octets)
   moved = λ i. laid (table_end (e i)) (same i) (length octets)

@@ -323,7 +323,7 @@ module _ (octets : List ℕ) where
   row_24 : Past octets 23 → Row
   row_24 p = by (laid (table_end n) es (length octets)) refl
     where
-      of : Some n (λ i. offsetAt octets i ≡ start_at octets n i) ⊎ (start_at octets n n ≡ length octets → ⊥) → Row
+      of : Some n (λ i. offset_at octets i ≡ start_at octets n i) ⊎ (start_at octets n n ≡ length octets → ⊥) → Row
       of (inl s) = row (is_24 p s.i s.listed s.not_so)
       of (inr q) = row (is_24_end p q)
 

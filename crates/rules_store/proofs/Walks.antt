@@ -30,7 +30,7 @@ abbrev pub left : List ℕ → ℕ → ℕ → List Entry
 left l n i = entries_in (n - i) (drop (2 + 4 * i) l)
 
 pub left_all : (l : List ℕ) (n : ℕ) → left l n 0 ≡ entries_in n (drop 2 l)
-left_all l n = let e : n - 0 ≡ n = omega arith in ap (λ (k : ℕ). entriesIn k (drop 2 l)) e
+left_all l n = let e : n - 0 ≡ n = omega arith in ap (λ (k : ℕ). entries_in k (drop 2 l)) e
 
 left_none : (l : List ℕ) (n i : ℕ) → n ≤ i → left l n i ≡ []
 unfolding entries_in
@@ -43,8 +43,8 @@ left_next l n i h =
     let f : 2 + 4 * i + 4 ≡ 2 + 4 * (i + 1) = omega arith in
     let rest : drop 4 (drop (2 + 4 * i) l) ≡ drop (2 + 4 * (i + 1)) l =
     drop-drop 4 (2 + 4 * i) l ∙ ap (λ (k : ℕ). drop k l) f in
-    ap (λ (k : ℕ). entriesIn k (drop (2 + 4 * i) l)) e
-    ∙ ap (λ (m : List ℕ). entryOf (drop (2 + 4 * i) l) ∷ entries_in (n - (i + 1)) m) rest
+    ap (λ (k : ℕ). entries_in k (drop (2 + 4 * i) l)) e
+    ∙ ap (λ (m : List ℕ). entry_of (drop (2 + 4 * i) l) ∷ entries_in (n - (i + 1)) m) rest
 
 module _ (l : List ℕ) (n i : ℕ) where
   pub rising_end : (least : ℕ) → n ≤ i → rising least (left l n i) ≡ true

@@ -116,7 +116,7 @@ module _ (kind rate phase : ℕ) where
 
       pub left_read : store_read (take 17 left) ≡ settings kind rate phase
       left_read =
-          ap (λ (l : List ℕ). storeRead (take 17 l)) is
+          ap (λ (l : List ℕ). store_read (take 17 l)) is
           ∙ ap store_read (take_at row (replicate (room - 17) 0) 17 refl ∙ sym named)
           ∙ written_read kind rate phase g
 

@@ -114,7 +114,7 @@ unfolding others
 others-left = refl
 
 -- no lead where nothing was recorded, nor halfway between two phases: two words score alike, and one is left out
-pub ties_lead : map (λ r. leadOf r (replicate (symbol_chips r) nothing)) rates ≡ 0 ∷ 0 ∷ 0 ∷ 0 ∷ []
+pub ties_lead : map (λ r. lead_of r (replicate (symbol_chips r) nothing)) rates ≡ 0 ∷ 0 ∷ 0 ∷ 0 ∷ []
 unfolding barker_word cck_word score those going first_largest decided others lead_of
 ties_lead = refl
 
@@ -124,8 +124,8 @@ between_lead = refl
 
 -- clean words lead by 11 full chips of 11, by 8 of 8 among the sixteen of 5.5 Mbit/s, and by 4 of 8 among all
 pub clean-lead :
-    map (λ r. leadOf r (map (full_chip 1024) (word_of r 178))) (Five ∷ Eleven ∷ [])
-    ∷ map (λ r. leadOf r (map (full_chip 1024) (word_of r 3))) (One ∷ Two ∷ [])
+    map (λ r. lead_of r (map (full_chip 1024) (word_of r 178))) (Five ∷ Eleven ∷ [])
+    ∷ map (λ r. lead_of r (map (full_chip 1024) (word_of r 3))) (One ∷ Two ∷ [])
     ∷ []
     ≡ (8192 ∷ 4096 ∷ []) ∷ (11264 ∷ 11264 ∷ []) ∷ []
 unfolding barker_word cck_word score those going first_largest decided others lead_of

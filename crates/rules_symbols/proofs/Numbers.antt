@@ -39,7 +39,7 @@ module _ (p1 p2 p3 p4 : ℕ) (h1 : p1 < 4) (h2 : p2 < 4) (h3 : p3 < 4) (h4 : p4 
 
   -- the word of phases is that of their number
   pub cck_of_number : cck_of (cck_number p1 p2 p3 p4) ≡ cck_word p1 p2 p3 p4
-  cck_of_number = λ i. cckWord (p1_back i) (p2_back i) (p3_back i) (p4_back i)
+  cck_of_number = λ i. cck_word (p1_back i) (p2_back i) (p3_back i) (p4_back i)
 
 -- ---- words of different numbers differ
 chip_of : (k : ℕ) {v w : List ℕ} → v ≡ w → get_or v k 0 ≡ get_or w k 0
@@ -74,7 +74,7 @@ module _ (p1 p2 p3 p4 q1 q2 q3 q4 : ℕ) (h1 : p1 < 4) (h2 : p2 < 4) (h3 : p3 < 
   fourth_phase = unturned_half q1 p4 q4 h4 k4 (ap (λ (t : ℕ). (t + p4 + 2) % 4) (sym first_phase_lem) ∙ chip_of 3 e)
 
   pub cck_one : cck_number p1 p2 p3 p4 ≡ cck_number q1 q2 q3 q4
-  cck_one = λ i. cckNumber (first_phase_lem i) (second_phase i) (third_phase i) (fourth_phase i)
+  cck_one = λ i. cck_number (first_phase_lem i) (second_phase i) (third_phase i) (fourth_phase i)
 
 cck_number_one : (m n : ℕ) → m < 256 → n < 256 → cck_of m ≡ cck_of n → m ≡ n
 cck_number_one m n hm hn e =

@@ -89,7 +89,7 @@ pub cck_turned : (p1 p2 p3 p4 : ℕ) → map (turned p1) (cck_word 0 p2 p3 p4) �
 unfolding cck_word
 cck_turned p1 p2 p3 p4 =
     λ i.
-    one-turn p1 (0 + p2 + p3 + p4) (p1 + p2 + p3 + p4) (omega arith) i
+    one_turn p1 (0 + p2 + p3 + p4) (p1 + p2 + p3 + p4) (omega arith) i
     ∷ one_turn p1 (0 + p3 + p4) (p1 + p3 + p4) (omega arith) i
     ∷ one_turn p1 (0 + p2 + p4) (p1 + p2 + p4) (omega arith) i
     ∷ one_turn p1 (0 + p4 + 2) (p1 + p4 + 2) (omega arith) i

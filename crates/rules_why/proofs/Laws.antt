@@ -155,7 +155,7 @@ module _ (kind : ℕ) (k : Kind) (chips : List ℕ) (rec : List Taken) (room : �
 
       grown_is : growth_at place rec
           ≡ grown_by (word_from One (11 * f.symbol) rec) (word_from One (11 * suc f.symbol) rec)
-      grown_is = λ i. grownBy (word_from One (back i) rec) (word_from One (f.place_is i) rec)
+      grown_is = λ i. grown_by (word_from One (back i) rec) (word_from One (f.place_is i) rec)
 
   pub shown_11 : ((shown Sfd).0 ≡ sfd_of k) × FieldAt k One rec 0 (sync_bits k) 16 (shown Sfd).1
   shown_11 = (refl, sfd_field k rec One 0)
@@ -166,7 +166,7 @@ module _ (kind : ℕ) (k : Kind) (chips : List ℕ) (rec : List Taken) (room : �
   pub shown_12 : ((shown Crc).0
       ≡ highest_first (crc_bits (field_bits (signal_heard k rec) (service_heard k rec) (length_heard k rec))))
       × HighestAt k rec (sync_bits k + 48) 16 (shown Crc).1
-  shown_12 = (ap (λ (bs : List ℕ). highestFirst (crc_bits bs)) (sym (fields_are k rec)), found)
+  shown_12 = (ap (λ (bs : List ℕ). highest_first (crc_bits bs)) (sym (fields_are k rec)), found)
     where
       from_sync : FieldAt k One rec 0 (sync_bits k + 48) 16 (number_of (drop 32 (header_heard k rec)))
       from_sync =

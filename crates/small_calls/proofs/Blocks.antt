@@ -89,7 +89,7 @@ module _ (rec : List Taken) (at p count left : ℕ) (g : Grown) (within : count 
   joined : part_words One at left rec ≡ block ++ behind
   joined =
       let e : left ≡ count + (left - count) = omega arith in
-      ap (λ (n : ℕ). partWords One at n rec) e ∙ part_more One at count (left - count) rec
+      ap (λ (n : ℕ). part_words One at n rec) e ∙ part_more One at count (left - count) rec
 
   -- what is found in the block, or behind it
   block_then : first_odd at (growths_of One p (part_words One at left rec))
@@ -98,11 +98,11 @@ module _ (rec : List Taken) (at p count left : ℕ) (g : Grown) (within : count 
       let size : length (growths_of One p block) ≡ 8 * count =
       growths_of_length One p block ∙ part_length One at count rec in
       let place : at + 11 * length (growths_of One p block) ≡ at + 88 * count = omega arith in
-      ap (λ (ws : List ℕ). firstOdd at (growths_of One p ws)) joined
+      ap (λ (ws : List ℕ). first_odd at (growths_of One p ws)) joined
       ∙ ap (first_odd at) (growths_of_append One p block behind)
       ∙ odd_growth_append One at (growths_of One p block) (growths_of One (last_heard One p block) behind)
       ∙ ap₂ {C = Option ℕ} (λ o r. or_else o (λ q. some q) r) (sym x.odd)
-      (ap₂ {C = Option ℕ} (λ a q. firstOdd a (growths_of One q behind)) place (sym x.last))
+      (ap₂ {C = Option ℕ} (λ a q. first_odd a (growths_of One q behind)) place (sym x.last))
 
 -- what is found from here on is what is found from the start
 pub record Sought (rec : List Taken) (from n phase place left last : ℕ) : Type 0 where
@@ -160,4 +160,4 @@ module _ (rec : List Taken) (from n phase : ℕ) where
   sought_all {place} {left} {last} s h =
       let e : left ≡ 0 = omega arith in
       none_left place last
-      ∙ sym (s.same ∙ ap (λ (m : ℕ). firstOdd place (growths_of One last (part_words One place m rec))) e)
+      ∙ sym (s.same ∙ ap (λ (m : ℕ). first_odd place (growths_of One last (part_words One place m rec))) e)

@@ -101,7 +101,7 @@ module _ (kind : ℕ) (k : Kind) (chips : List ℕ) (room : ℕ) where
 
   front_shown : ShownIf (after_usable ours k rec)
   front_shown =
-      found_or_none ShownIf (front_odd k rec) (λ p. Refused (OddGrowth p 0)) _ odd_shown (λ e. header-shown)
+      found_or_none ShownIf (front_odd k rec) (λ p. Refused (OddGrowth p 0)) _ odd_shown (λ e. header_shown_lem)
 
   module _ (e : Refusal) (told : after_usable ours k rec ≡ Refused e) where
     shown : Shows e
@@ -131,12 +131,12 @@ module _ (kind : ℕ) (k : Kind) (chips : List ℕ) (room : ℕ) where
       front_odd_lem p l q x h =
           h
           ∙ ap (reason 10 p 0) x
-          ∙ sym (is ∙ ap (λ (d : Refusal). reasonOf kind k chips rec room (reading.Refused d)) q)
+          ∙ sym (is ∙ ap (λ (d : Refusal). reason_of kind k chips rec room (reading.Refused d)) q)
 
       pub front_header : {r : Reason} {s h : List ℕ} → (refusal_number e ≡ 10 → ⊥) → s ≡ sfd → h ≡ header
           → r ≡ header_shown k s h e → r ≡ after_told kind k chips room (front_of k rec)
       front_header {r} {s} {h} other a b q =
-          q ∙ ap₂ {C = Reason} (λ x y. headerShown k x y e) a b ∙ go shown other ∙ sym is
+          q ∙ ap₂ {C = Reason} (λ x y. header_shown k x y e) a b ∙ go shown other ∙ sym is
         where
           go : {e : Refusal} → Shows e → (refusal_number e ≡ 10 → ⊥)
               → header_shown k sfd header e ≡ reason_of kind k chips rec room (reading.Refused e)

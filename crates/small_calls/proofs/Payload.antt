@@ -133,14 +133,14 @@ module _ (k : Kind) (chips : List ℕ) (t : Told) where
   -- ---- what is searched
   pub unusable_is : {from to : ℕ} (f : Place) → from ≡ front_chips k → to ≡ all
       → where_found f ≡ first_unusable from (take (to - from) (drop from rec)) → where_found f ≡ found_unusable k t rec
-  unusable_is f a b c = c ∙ ap₂ (λ x y. firstUnusable x (take (y - x) (drop x rec))) a b
+  unusable_is f a b c = c ∙ ap₂ (λ x y. first_unusable x (take (y - x) (drop x rec))) a b
 
   pub odd_is : {from phase : ℕ} (o : Place) → from ≡ front_chips k → phase ≡ payload_phase k rec
       → where_found o ≡ odd_growth t.rate from (growths_of t.rate phase (part_words t.rate from t.n rec))
       → where_found o ≡ payload_odd k t.rate t.n rec
   unfolding payload_odd payload_words
   odd_is o a b c =
-      c ∙ ap₂ (λ x y. oddGrowth t.rate x (growths_of t.rate y (part_words t.rate x t.n rec))) a b
+      c ∙ ap₂ (λ x y. odd_growth t.rate x (growths_of t.rate y (part_words t.rate x t.n rec))) a b
 
   -- ---- what a front told
   module _ (told : front_of k rec ≡ Fields t) where

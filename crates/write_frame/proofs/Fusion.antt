@@ -105,7 +105,7 @@ unfolding front_sent
 length_front k p header e =
     length-append (run One 0 (first_state k p) (preamble_octets k)) (run (header_rate k) 0 (after_preamble k p) header)
     ∙ ap₂ {C = ℕ} (λ a b. a + b) (length_run One 0 (first_state k p) (preamble_octets k))
-    (length_run (header_rate k) 0 (after_preamble k p) header ∙ ap (λ (n : ℕ). octetChips (header_rate k) * n) e)
+    (length_run (header_rate k) 0 (after_preamble k p) header ∙ ap (λ (n : ℕ). octet_chips (header_rate k) * n) e)
     ∙ sum k
   where
     sum : (k : Kind) → 88 * length (preamble_octets k) + octet_chips (header_rate k) * 6 ≡ front_chips k

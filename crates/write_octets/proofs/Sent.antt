@@ -101,7 +101,7 @@ sent r k n s h [] e a = record {
 sent r k n s h (x ∷ xs) e a =
     let o = bits_of 8 x in
     let agree : Agree (after h o) (step r k s x).past =
-    λ bs. octet-past h x bs ∙ ap (λ (l : List ℕ). scramble (reverse l) bs) (a o) in
+    λ bs. octet_past h x bs ∙ ap (λ (l : List ℕ). scramble (reverse l) bs) (a o) in
     let next : n + octet_symbols r ≡ octet_symbols r * suc k = omega (arith, mul-suc (octet_symbols r) k) in
     let rest = sent r (suc k) (n + octet_symbols r) (step r k s x) (after h o) xs next agree in
     let one = first r s h k n x e a in

@@ -23,7 +23,7 @@ use Rattle.bench_leaves.proofs.first_word.Tie as tie
 module _ (r : Rate) (rec : List Taken) (n : ℕ) (f : Place) (e : n ≡ symbol_chips r)
     (g : where_found f ≡ first_unusable 0 (take (n - 0) (drop 0 rec))) where
   of_symbol : where_found f ≡ first_unusable 0 (take (symbol_chips r - 0) (drop 0 rec))
-  of_symbol = g ∙ ap (λ (m : ℕ). firstUnusable 0 (take (m - 0) rec)) e
+  of_symbol = g ∙ ap (λ (m : ℕ). first_unusable 0 (take (m - 0) rec)) e
 
   none : (place : ℕ) → f ≡ At place → 0 ≡ first_word r rec
   unfolding first_word

@@ -39,6 +39,6 @@ returns c =
 pub merge_spec : {M : Type 1} → statement M
 merge_spec =
     tie.close
-    (tie.spec invariant_loop decreases_loop (λ c. filling-none _ (sym c.requires.0)) (λ c. omega arith) (λ c. omega arith)
+    (tie.spec invariant_loop decreases_loop (λ c. filling_none _ (sym c.requires.0)) (λ c. omega arith) (λ c. omega arith)
     (λ c. omega (arith, c.before.before.loop.invariant.long)) (λ c. omega arith) (λ c. omega arith) (λ c. omega arith)
     (λ c. omega arith) set_second (λ c. omega arith) (λ c. omega arith) loop_again (λ c. search rules) returns)

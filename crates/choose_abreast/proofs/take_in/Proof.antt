@@ -32,6 +32,6 @@ returns c = record { each = λ j h. c.before.loop.invariant.each j (omega arith)
 pub take_in_spec : {M : Type 1} → statement M
 take_in_spec =
     tie.close
-    (tie.spec invariant_loop decreases_loop (λ c. filling-none _ refl) (λ c. omega arith)
+    (tie.spec invariant_loop decreases_loop (λ c. filling_none _ refl) (λ c. omega arith)
     (λ c. omega arith) (λ c. omega (arith, c.before.before.loop.invariant.long)) (λ c. omega arith) (λ c. omega arith)
     loop_again (λ c. search rules) returns)

@@ -43,6 +43,6 @@ returns c = summed_all c.before.loop.invariant c.loop-test.false
 pub by_signs_spec : {M : Type 1} → statement M
 by_signs_spec =
     tie.close
-    (tie.spec invariant_loop decreases_loop (λ c. summed-none w16 128 _ refl) (λ c. search rules) (λ c. search rules)
+    (tie.spec invariant_loop decreases_loop (λ c. summed_none w16 128 _ refl) (λ c. search rules) (λ c. search rules)
     (λ c. search rules) add_x
     (λ c. search rules) (λ c. search rules) sub_x (λ c. search rules) (λ c. search rules) loop_again returns)

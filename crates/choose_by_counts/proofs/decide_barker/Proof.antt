@@ -24,7 +24,7 @@ returns c =
     let second = c.before in
     counts_barker second.before.before.args.chips
     (subst (λ (cs : List Counts). ChosenAs One cs c.decide.result.number c.decide.result.lead)
-    (λ i. asChip (by_signs (second.before.soft-counts11.ensures i)) (by_signs (second.soft-counts112.ensures i)))
+    (λ i. as_chip (by_signs (second.before.soft-counts11.ensures i)) (by_signs (second.soft-counts112.ensures i)))
     c.decide.ensures)
 
 pub decide_barker_spec : {M : Type 1} → statement M

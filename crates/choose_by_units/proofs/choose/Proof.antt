@@ -29,10 +29,10 @@ module _ (c : tie.After-two-keys) where
   q = c.before.args.q
 
   first : key_of 2 0 (to_z w8 (of_z w8 i)) ≡ sum_key i q 0
-  first = λ j. keyOf 2 0 (score i c.before.requires.0 j)
+  first = λ j. key_of 2 0 (score i c.before.requires.0 j)
 
   second : key_of 2 1 (to_z w8 (of_z w8 q)) ≡ sum_key i q 1
-  second = λ j. keyOf 2 1 (score q c.before.requires.1 j)
+  second = λ j. key_of 2 1 (score q c.before.requires.1 j)
 
   top : TwoLargest (sum_key i q) 0 2 c.two_keys.result.first c.two_keys.result.second
   top =

@@ -24,7 +24,7 @@ returns c =
     let second = c.before in
     units_barker second.before.before.args.chips
     (subst (λ (cs : List Counts). ChosenAs One cs c.barker.result.number c.barker.result.lead)
-    (λ i. asChip (by_signs (second.before.hard-units11.ensures i)) (by_signs (second.hard-units112.ensures i)))
+    (λ i. as_chip (by_signs (second.before.hard-units11.ensures i)) (by_signs (second.hard-units112.ensures i)))
     c.barker.ensures)
 
 pub decide_barker_spec : {M : Type 1} → statement M

@@ -19,7 +19,7 @@ use Rattle.choose_bytes.proofs.barkers.Tie as tie
 abbrev invariant_loop : tie.invariant-loop
 invariant_loop bytes at m numbers₀ leads row₀ other₀ raw₀ l₀ numbers row other raw l =
     Firsts (number_at One (byte_recording bytes) at) m numbers l
-    × Firsts (λ k. leadOf One (barker_bytes bytes (at + 11 * k))) m raw l
+    × Firsts (λ k. lead_of One (barker_bytes bytes (at + 11 * k))) m raw l
     × (l % 16 ≡ 0) × (length row ≡ 352) × (length other ≡ 352)
 
 abbrev decreases_loop : tie.decreases-loop

@@ -19,7 +19,7 @@ use Rattle.choose_bytes.proofs.fives.Tie as tie
 abbrev invariant_loop : tie.invariant-loop
 invariant_loop bytes at m numbers₀ leads row₀ other₀ raw₀ l₀ numbers row other raw l =
     Firsts (number_at Five (byte_recording bytes) at) m numbers l
-    × Firsts (λ k. leadOf Five (five_bytes bytes (at + 8 * k))) m raw l
+    × Firsts (λ k. lead_of Five (five_bytes bytes (at + 8 * k))) m raw l
     × (l % 16 ≡ 0) × (length row ≡ 256) × (length other ≡ 256)
 
 abbrev decreases_loop : tie.decreases-loop

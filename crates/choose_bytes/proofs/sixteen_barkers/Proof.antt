@@ -36,7 +36,7 @@ loop_again c =
     let s = turn.before in
     let symbol : as_chip (by_signs c.before.before.eleven.result) (by_signs c.before.eleven2.result)
     ≡ barker_at s.args.row.now turn.loop.s =
-    λ i. asChip (by_signs (c.before.before.eleven.ensures.0 i)) (by_signs (c.before.eleven2.ensures.0 i)) in (
+    λ i. as_chip (by_signs (c.before.before.eleven.ensures.0 i)) (by_signs (c.before.eleven2.ensures.0 i)) in (
       put_more _ (omega (arith, s.requires.1)) (c.barker.ensures.0 ∙ ap (decided One) symbol) turn.loop.invariant.0,
       put_more _ (omega (arith, s.requires.1)) (c.barker.ensures.1 ∙ ap (lead_of One) symbol) turn.loop.invariant.1,
       omega arith,

@@ -18,7 +18,7 @@ use Rattle.choose_hard.proofs.barkers.Tie as tie
 abbrev invariant_loop : tie.invariant-loop
 invariant_loop octets at m numbers₀ leads full₀ l₀ numbers full l =
     Firsts (number_at One (hard_recording octets) at) m numbers l
-    × Firsts (λ k. leadOf One (units_at One octets at k)) m full l
+    × Firsts (λ k. lead_of One (units_at One octets at k)) m full l
 
 abbrev decreases_loop : tie.decreases-loop
 decreases_loop octets at m numbers₀ leads full₀ l₀ numbers full l = m - l
@@ -35,7 +35,7 @@ loop_again c =
           ∙ number_hard One s.args.octets.now s.args.at s.args.m s.requires.1
           turn.loop.l h) turn.loop.invariant.0,
       firsts_more _ _ _ (omega (arith, s.requires.0))
-          (chosen.1 ∙ ap (λ (x : List Chip). leadOf One (map unit_of x)) chips) turn.loop.invariant.1,
+          (chosen.1 ∙ ap (λ (x : List Chip). lead_of One (map unit_of x)) chips) turn.loop.invariant.1,
     )
 
 returns : tie.Need-returns invariant_loop decreases_loop

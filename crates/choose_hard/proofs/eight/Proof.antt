@@ -11,7 +11,7 @@ use Rattle.choose_hard.proofs.eight.Statement.{statement}
 use Rattle.choose_hard.proofs.eight.Tie as tie
 
 abbrev invariant_loop : tie.invariant-loop
-invariant_loop octets at chips₀ k₀ chips k = Filled (λ j. hardChip (get_or octets (at + j) 0)) 8 chips k
+invariant_loop octets at chips₀ k₀ chips k = Filled (λ j. hard_chip (get_or octets (at + j) 0)) 8 chips k
 
 abbrev decreases_loop : tie.decreases-loop
 decreases_loop octets at chips₀ k₀ chips k = 8 - k

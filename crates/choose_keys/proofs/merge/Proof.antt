@@ -12,7 +12,7 @@ returns c =
     let other = top.before in
     let low = other.before in (
       top.larger2.ensures,
-      c.larger3.ensures ∙ (λ i. largerFloat (low.smaller.ensures i) (other.larger.ensures i)),
+      c.larger3.ensures ∙ (λ i. larger_float (low.smaller.ensures i) (other.larger.ensures i)),
     )
 
 pub merge_spec : {M : Type 1} → statement M

@@ -60,8 +60,8 @@ returns c =
     let a = two.before.before.float_of.ensures
     ∙ ap (of_int binary32) (first two.before.before.before) in
     let b = two.float-of2.ensures ∙ ap (of_int binary32) (second two.before) in (
-      top.larger.ensures ∙ (λ i. largerFloat (a i) (b i)),
-      c.smaller.ensures ∙ (λ i. smallerFloat (a i) (b i)),
+      top.larger.ensures ∙ (λ i. larger_float (a i) (b i)),
+      c.smaller.ensures ∙ (λ i. smaller_float (a i) (b i)),
     )
 
 pub two_keys_spec : {M : Type 1} → statement M

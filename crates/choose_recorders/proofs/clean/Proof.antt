@@ -27,7 +27,7 @@ returns_3 c good =
     let start = c.before.before.before.before.before in
     let e = c.enum-told3.given.1 in
     let room = room_bytes _ _ _ _ (start.args.at + 64) e start.requires in
-    rw e (record { each = λ k h. bytes-usable start.args.bytes.now (start.args.at + k) (omega (arith, room)) })
+    rw e (record { each = λ k h. bytes_usable start.args.bytes.now (start.args.at + k) (omega (arith, room)) })
 
 pub clean_spec : {M : Type 1} → statement M
 clean_spec =

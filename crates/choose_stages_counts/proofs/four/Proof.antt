@@ -148,21 +148,21 @@ four_spec =
     (tie.spec invariant_loop decreases_loop (λ c. (omega arith, scaled_none)) (λ c. place c)
     (λ c. size c) (λ c. inside c)
     (λ c κs. (count c.before (a c.before), within_pos 16, within_zero 4))
-    (λ c. place-on (by1 c) 32 (lit< tt)) (λ c. size-on (by1 c) 32 (lit< tt)) (λ c. inside_on (by1 c) 32 (lit< tt))
+    (λ c. place_on (by1 c) 32 (lit< tt)) (λ c. size_on (by1 c) 32 (lit< tt)) (λ c. inside_on (by1 c) 32 (lit< tt))
     (λ c κs. (count (by1 c.before) (a (by1 c.before) + 32), within_pos 16, within_zero 4))
-    (λ c. place-on (by2 c) 64 (lit< tt)) (λ c. size-on (by2 c) 64 (lit< tt)) (λ c. inside_on (by2 c) 64 (lit< tt))
+    (λ c. place_on (by2 c) 64 (lit< tt)) (λ c. size_on (by2 c) 64 (lit< tt)) (λ c. inside_on (by2 c) 64 (lit< tt))
     (λ c κs.
     let turn = by2 c.before in (count turn (a turn + 64), third_within (start turn), within_zero 4))
-    (λ c. place-on (by3 c) 96 (lit< tt)) (λ c. size-on (by3 c) 96 (lit< tt)) (λ c. inside_on (by3 c) 96 (lit< tt))
+    (λ c. place_on (by3 c) 96 (lit< tt)) (λ c. size_on (by3 c) 96 (lit< tt)) (λ c. inside_on (by3 c) 96 (lit< tt))
     (λ c κs.
     let turn = by3 c.before in
     (count turn (a turn + 96), fourth_within (start turn), more_within (start turn)))
     (λ c. size (by4 c)) (λ c. room (by4 c))
-    (λ c. place-on (by4 c) 32 (lit< tt)) (λ c. size-on (by4 c) 32 (lit< tt))
+    (λ c. place_on (by4 c) 32 (lit< tt)) (λ c. size_on (by4 c) 32 (lit< tt))
     (λ c. simp length-set (room_on (by4 c) 32 (lit< tt)))
-    (λ c. place-on (by4 c) 64 (lit< tt)) (λ c. size-on (by4 c) 64 (lit< tt))
+    (λ c. place_on (by4 c) 64 (lit< tt)) (λ c. size_on (by4 c) 64 (lit< tt))
     (λ c. simp length-set (room_on (by4 c) 64 (lit< tt)))
-    (λ c. place-on (by4 c) 96 (lit< tt)) (λ c. size-on (by4 c) 96 (lit< tt))
+    (λ c. place_on (by4 c) 96 (lit< tt)) (λ c. size_on (by4 c) 96 (lit< tt))
     (λ c. simp length-set (room_on (by4 c) 96 (lit< tt)))
     (λ c. next (by4 c)) (λ c. omega (arith, (by4 c).loop-test.true)) loop_again
     (λ c. c.before.loop.invariant.1.long) returns)

@@ -16,7 +16,7 @@ use Rattle.choose_walsh_bytes.proofs.put.Tie as tie
 
 abbrev invariant_loop : tie.invariant-loop
 invariant_loop first second at unit l numbers₀ leads₀ s₀ numbers leads s =
-    (s ≤ 16) × Put (λ j. wordOfKey (get_or first j (pos 0)) (get_or at j 0)) l numbers₀ numbers s
+    (s ≤ 16) × Put (λ j. word_of_key (get_or first j (pos 0)) (get_or at j 0)) l numbers₀ numbers s
     × Put (λ j. unit * lead_of_keys (get_or first j (pos 0)) (get_or second j (pos 0))) l leads₀ leads s
 
 abbrev decreases_loop : tie.decreases-loop
@@ -69,7 +69,7 @@ loop_again c =
       omega arith,
       put_more _ (omega (arith, s.pre.2))
           (lead.before.before.word_of.ensures
-          ∙ ap (λ (z : ℤ). wordOfKey z (get_or s.args.at.now at.loop.s 0)) (first_is w))
+          ∙ ap (λ (z : ℤ). word_of_key z (get_or s.args.at.now at.loop.s 0)) (first_is w))
           at.loop.inv.1,
       put_more _ (omega (arith, s.pre.2))
           (c.lead-of.ensures ∙ (λ i. s.args.unit * lead_of_keys (first_is w i) (second_is lead i)))

@@ -16,8 +16,8 @@ use Rattle.choose_walsh_counts.proofs.put.Tie as tie
 
 abbrev invariant_loop : tie.invariant-loop
 invariant_loop first second at l numbers₀ leads₀ s₀ numbers leads s =
-    (s ≤ 16) × Put (λ j. wordOfKey (get_or first j (pos 0)) (get_or at j 0)) l numbers₀ numbers s
-    × Put (λ j. leadOfKeys (get_or first j (pos 0)) (get_or second j (pos 0))) l leads₀ leads s
+    (s ≤ 16) × Put (λ j. word_of_key (get_or first j (pos 0)) (get_or at j 0)) l numbers₀ numbers s
+    × Put (λ j. lead_of_keys (get_or first j (pos 0)) (get_or second j (pos 0))) l leads₀ leads s
 
 abbrev decreases_loop : tie.decreases-loop
 decreases_loop first second at l numbers₀ leads₀ s₀ numbers leads s = 16 - s
@@ -68,10 +68,10 @@ loop_again c =
       omega arith,
       put_more _ (omega (arith, s.pre.1))
           (lead.before.before.word_of.ensures
-          ∙ ap (λ (z : ℤ). wordOfKey z (get_or s.args.at.now at.loop.s 0)) (first_is w))
+          ∙ ap (λ (z : ℤ). word_of_key z (get_or s.args.at.now at.loop.s 0)) (first_is w))
           at.loop.inv.1,
       put_more _ (omega (arith, s.pre.1))
-          (c.lead-of.ensures ∙ (λ i. leadOfKeys (first_is w i) (second_is lead i)))
+          (c.lead-of.ensures ∙ (λ i. lead_of_keys (first_is w i) (second_is lead i)))
           at.loop.inv.2,
     )
 

@@ -31,7 +31,7 @@ told_is : (c : tie.After-octets-told)
 told_is c =
     let start = c.before.before.before.before.before.before in
     c.octets-told.ensures
-    ∙ ap (λ (r : Rate). octetsTold r start.args.length (start.args.service / 128 % 2))
+    ∙ ap (λ (r : Rate). octets_told r start.args.length (start.args.service / 128 % 2))
     c.before.before.before.before.before.rate_of_lem.ensures
 
 -- what is known past the first two tests

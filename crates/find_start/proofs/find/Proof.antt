@@ -40,7 +40,7 @@ module _ (kind offsets : ℕ) (rec : List Taken) (r : Found) where
     known k f g k-is some few found is e =
         e
         ∙ ap found_of
-        (sym is ∙ found ∙ ap (λ (j : Kind). firstStart j 0 offsets rec) k-is
+        (sym is ∙ found ∙ ap (λ (j : Kind). first_start j 0 offsets rec) k-is
         ∙ sym (finding_first kind offsets rec h (offsets_tried offsets some few)))
 
 returns : tie.Need-returns

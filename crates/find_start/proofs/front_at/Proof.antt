@@ -14,7 +14,7 @@ returns : tie.Need-returns
 returns c =
     let args = c.before.before.before.before.before.before.before.args in
     c.read-front.ensures.told
-    ∙ ap (λ (xs : List ℕ). frontOf args.kind (hard_recording xs)) (lent args.chips.now args.at)
+    ∙ ap (λ (xs : List ℕ). front_of args.kind (hard_recording xs)) (lent args.chips.now args.at)
     ∙ ap (front_of args.kind) (sym (drop_hard args.at args.chips.now))
 
 pub front_at_spec : {M : Type 1} → statement M

@@ -21,7 +21,7 @@ abbrev invariant_loop : tie.invariant-loop
 invariant_loop kind chips offsets tried from sfd low high halves₀ marks₀ known₀ at₀ halves marks known at =
     (length halves ≡ 512) × (length marks ≡ 512)
     × MissedBelow kind (hard_recording chips) at tried
-    × (at < tried → Row (λ j. halfAt (hard_recording chips) (from + at + j)) known halves)
+    × (at < tried → Row (λ j. half_at (hard_recording chips) (from + at + j)) known halves)
 
 abbrev decreases_loop : tie.decreases-loop
 decreases_loop kind chips offsets tried from sfd low high halves₀ marks₀ known₀ at₀ halves marks known at = tried - at

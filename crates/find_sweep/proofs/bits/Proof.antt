@@ -22,5 +22,5 @@ returns c = worked_row _ c.loop-test.false c.before.loop.invariant
 pub bits_spec : {M : Type 1} → statement M
 bits_spec =
     tie.close
-    (tie.spec invariant_loop decreases_loop (λ c. worked-none _ _ c.requires.1) (λ c. omega arith) (λ c. omega arith)
+    (tie.spec invariant_loop decreases_loop (λ c. worked_none _ _ c.requires.1) (λ c. omega arith) (λ c. omega arith)
     (λ c. omega arith) (λ c. omega arith) (λ c. omega arith) (λ c. omega arith) loop_again returns)

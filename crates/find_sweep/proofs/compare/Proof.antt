@@ -23,6 +23,6 @@ returns c = comparing_all c.loop-test.false c.before.loop.invariant
 pub compare_spec : {M : Type 1} → statement M
 compare_spec =
     tie.close
-    (tie.spec invariant_loop decreases_loop (λ c. comparing-none _ _ _ c.requires) (λ c. omega arith) (λ c. omega arith)
+    (tie.spec invariant_loop decreases_loop (λ c. comparing_none _ _ _ c.requires) (λ c. omega arith) (λ c. omega arith)
     (λ c. omega arith) (λ c. omega arith) (λ c. omega arith) (λ c. omega arith) (λ c. omega arith)
     (λ c κs. omega arith) (λ c. omega arith) (λ c. omega arith) (λ c. omega arith) loop_again returns)

@@ -9,7 +9,7 @@ use Rattle.find_sweep.proofs.decide.Statement.{statement}
 use Rattle.find_sweep.proofs.decide.Tie as tie
 
 abbrev invariant_loop : tie.invariant-loop
-invariant_loop octets at known count halves₀ l₀ halves l = Row (λ j. halfAt (hard_recording octets) (at + j)) l halves
+invariant_loop octets at known count halves₀ l₀ halves l = Row (λ j. half_at (hard_recording octets) (at + j)) l halves
 
 abbrev decreases_loop : tie.decreases-loop
 decreases_loop octets at known count halves₀ l₀ halves l = count - l

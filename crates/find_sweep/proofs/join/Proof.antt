@@ -43,5 +43,5 @@ returns c = worked_row _ c.loop-test.false c.before.loop.invariant
 pub join_spec : {M : Type 1} → statement M
 join_spec =
     tie.close
-    (tie.spec invariant_loop decreases_loop (λ c. worked-none _ _ c.requires.2.long) (λ c. omega arith) (λ c. omega arith)
+    (tie.spec invariant_loop decreases_loop (λ c. worked_none _ _ c.requires.2.long) (λ c. omega arith) (λ c. omega arith)
     (λ c. omega arith) two_requires (λ c. omega arith) (λ c. omega arith) (λ c. omega arith) loop_again returns)

@@ -9,7 +9,7 @@ use Rattle.hear_blocks.proofs.growths.Tie as tie
 
 abbrev invariant_loop : tie.invariant-loop
 invariant_loop rate symbol phases first out₀ l₀ out l =
-    Filled (λ j. grownFor rate (symbol + j) (get_or phases j 0) (get_or phases (j + 1) 0)) 64 out l
+    Filled (λ j. grown_for rate (symbol + j) (get_or phases j 0) (get_or phases (j + 1) 0)) 64 out l
 
 abbrev decreases_loop : tie.decreases-loop
 decreases_loop rate symbol phases first out₀ l₀ out l = 64 - l

@@ -141,5 +141,5 @@ hear_octets_spec =
     (tie.spec
     invariant_loop decreases_loop (λ c κs. search rules) (λ c κs. search rules) loop_holds (λ c. omega arith) (λ c κs. search rules)
     mul_number add_number (λ c. omega arith) (λ c. search rules) (λ c. search rules) hear_block_requires
-    (λ c κs. search rules) mul_place add_place add_k loop_less loop_again (λ c. parts-long c.before.loop.invariant)
+    (λ c κs. search rules) mul_place add_place add_k loop_less loop_again (λ c. parts_long c.before.loop.invariant)
     returns)

@@ -18,8 +18,8 @@ returns_2 c = (
       usable_header _ rec _ _ _ x c.before.before.before.before.before.enum_told.given.1
       c.before.before.header_of.ensures),
   (
-    (λ t w. header-few _ _ _ _ t (sym c.before.before.header_of.ensures ∙ w)),
-    (λ e w. header-late _ _ _ _ e (sym c.before.before.header_of.ensures ∙ w)),
+    (λ t w. header_few _ _ _ _ t (sym c.before.before.header_of.ensures ∙ w)),
+    (λ e w. header_late _ _ _ _ e (sym c.before.before.header_of.ensures ∙ w)),
   ),
 )
 

@@ -53,9 +53,9 @@ module _ (kinds : List ℕ) (list : List (Bor (List ℕ))) where
         let r : Recording = record { kind = get_or kinds i 0; chips = get_or (rows list) i [] } in
         let here = sym (get_or-map (λ r. r.now) list i nothing) in
         ap (λ (x : Counted). x.report)
-        (e ∙ (λ j. countedOf (is j) (record { kind = get_or kinds i 0; chips = here j }))
+        (e ∙ (λ j. counted_of (is j) (record { kind = get_or kinds i 0; chips = here j }))
         ∙ counted_next (take i all) r (omega (arith, length-take i all)))
-        ∙ ap (λ (rs : List Recording). reportOf (map outcome_of rs))
+        ∙ ap (λ (rs : List Recording). report_of (map outcome_of rs))
         (sym
         (recordings_next kinds (rows list) i (omega (arith, same)) (omega (arith, length-map list (λ r. r.now)))))
 

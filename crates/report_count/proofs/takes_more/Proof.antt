@@ -48,6 +48,6 @@ pub takes_more_spec : {M : Type 1} → statement M
 takes_more_spec =
     tie.close
     (tie.spec (λ c. full _ c.if1.true) (λ c. search rules) (λ c κs. tt)
-    (λ c. frames-many _ (failed c.before.at-most.ensures c.if2.true)) (λ c. search rules) (λ c κs. tt)
-    (λ c. octets-many _ (failed c.before.at-most2.ensures c.if3.true)) (λ c. search rules) (λ c κs. tt)
-    (λ c. refused-many _ (failed c.before.at-most3.ensures c.if4.true)) returns_5)
+    (λ c. frames_many _ (failed c.before.at-most.ensures c.if2.true)) (λ c. search rules) (λ c κs. tt)
+    (λ c. octets_many _ (failed c.before.at-most2.ensures c.if3.true)) (λ c. search rules) (λ c κs. tt)
+    (λ c. refused_many _ (failed c.before.at-most3.ensures c.if4.true)) returns_5)

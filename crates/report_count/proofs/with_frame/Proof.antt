@@ -96,7 +96,7 @@ with_frame_spec =
     (tie.spec (λ c κs. tt) (λ c κs. tt)
     (λ c. let s = c.before.before in omega (arith, (takes s.args.p s.requires.0).seen_below))
     (λ c. omega (arith, entry_few c.before.before.args.a.rate _ c.before.entry_of.ensures))
-    (λ c. entry-few c.before.before.args.a.rate _ c.before.entry_of.ensures)
+    (λ c. entry_few c.before.before.args.a.rate _ c.before.entry_of.ensures)
     frames_fit
     (λ c. let r = c.before.before in omega (arith, entry_few r.before.args.a.rate _ r.entry_of.ensures))
     (λ c. let r = c.before.before in entry_few r.before.args.a.rate _ r.entry_of.ensures)

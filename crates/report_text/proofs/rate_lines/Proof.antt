@@ -35,11 +35,11 @@ room : (f o d e : List ℕ) (k code end : ℕ) → k < 4 → code ≡ code_at k 
     → length (rate_lines 4 f o) ≤ length d → length e ≡ length d
     → end + length (rate_line code (get_or f k 0) (get_or o k 0)) ≤ length e
 room f o d e k code end h c p g l =
-    rw c (lines_room (λ j. rateLines j f o) (line f o) (step f o) 4 k h p (omega arith) l)
+    rw c (lines_room (λ j. rate_lines j f o) (line f o) (step f o) 4 k h p (omega arith) l)
 
 turn : (f o : List ℕ) {d e q : List ℕ} (k code : ℕ) {end r : ℕ} → code ≡ code_at k → Placed (rate_lines k f o) 0 d end e
     → Placed (rate_line code (get_or f k 0) (get_or o k 0)) end e r q → Placed (rate_lines (k + 1) f o) 0 d r q
-turn f o k code c p t = lines_turn (λ j. rateLines j f o) (line f o) (step f o) k p (rw c at t)
+turn f o k code c p t = lines_turn (λ j. rate_lines j f o) (line f o) (step f o) k p (rw c at t)
 
 whole : (f o d e : List ℕ) (k end : ℕ) → k ≡ 4 → Placed (rate_lines k f o) 0 d end e → Placed (rate_lines 4 f o) 0 d end e
 whole f o d e k end h p = rw h at p

@@ -42,7 +42,7 @@ refused_line_requires : tie.Need-refused-line-requires invariant_loop decreases_
 refused_line_requires c κs =
     let start = c.before.before.before.before in
     let now = c.before.before.loop in
-    lines_room (λ k. refusedLines k start.args.t1) (next start.args.t1) (step start.args.t1) 17
+    lines_room (λ k. refused_lines k start.args.t1) (next start.args.t1) (step start.args.t1) 17
     now.number (omega arith) now.invariant.2 start.requires now.invariant.1
 
 loop_again : tie.Need-loop-preserved invariant_loop decreases_loop
@@ -51,7 +51,7 @@ loop_again c =
     let now = c.before.before.before.before.before.loop in (
       omega arith,
       omega arith,
-      lines_turn (λ k. refusedLines k refused) (next refused) (step refused) now.number now.invariant.2
+      lines_turn (λ k. refused_lines k refused) (next refused) (step refused) now.number now.invariant.2
           c.before.before.refused-line.ensures,
     )
 

@@ -10,7 +10,7 @@ use Rattle.store_keep.proofs.goes.Tie as tie
 returns : tie.Need-returns
 returns c =
     c.Goes-with.ensures
-    ∙ ap₂ {C = Bool} (λ k r. goesWith k r) c.before.before.kind_of_lem.ensures c.before.rate_of_lem.ensures
+    ∙ ap₂ {C = Bool} (λ k r. goes_with k r) c.before.before.kind_of_lem.ensures c.before.rate_of_lem.ensures
 
 pub goes_spec : {M : Type 1} → statement M
 goes_spec = tie.close (tie.spec (λ c κs. search rules) (λ c κs. search rules) (λ c κs. search rules) returns)

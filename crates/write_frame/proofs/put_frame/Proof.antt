@@ -33,7 +33,7 @@ all k r p clock b e h xs d o y z s eh six es eo eb ey ee room ez =
     let count : length w ≡ e =
     length-append (front_sent k p h) (run r 0 s xs)
     ∙ ap₂ {C = ℕ} (λ a c. a + c) (length_front k p h six) (length_run r 0 s xs) ∙ sym ee in
-    let is : w ≡ frame k r p clock xs = ap (λ (t : State). frontSent k p h ++ run r 0 t xs) es
+    let is : w ≡ frame k r p clock xs = ap (λ (t : State). front_sent k p h ++ run r 0 t xs) es
     ∙ sym (frame_parts k r p clock h xs eh six) in
     over_filled w d m z e 4 (over_next (front_sent k p h) (run r 0 s xs) d o y b eo (length_front k p h six ∙ sym eb) ey)
     count room ez

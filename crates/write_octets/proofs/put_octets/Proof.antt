@@ -53,7 +53,7 @@ turn r s t u xs d o y i n e f g h m =
     let next : take (i + 1) xs ≡ take i xs ++ get_or xs i 0 ∷ [] = rw (add-one, take-suc xs i 0) in
     let long : length (take i xs) ≡ i = length-take-le i xs (omega arith) in
     let count : length (run r 0 s (take i xs)) ≡ n =
-    length_run r 0 s (take i xs) ∙ ap (λ (k : ℕ). octetChips r * k) long ∙ sym g in
+    length_run r 0 s (take i xs) ∙ ap (λ (k : ℕ). octet_chips r * k) long ∙ sym g in
     let at : 0 + length (take i xs) ≡ i = zero-add _ ∙ long in
     (rw (next, ran_snoc, at) (cc), over_next _ _ d o y n f count m.1 ∙ rw (next, run_snoc, at) (cc))
 

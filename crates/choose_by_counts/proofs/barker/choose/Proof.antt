@@ -38,8 +38,8 @@ module _ (c : tie.After-two-keys) where
   top : FloatTwo (sum_key i q) 0 2 c.two_keys.result.first c.two_keys.result.second
   top = float_two (sum_key i q) 0 (omega (arith, key_small 2 0 i c.before.requires.0))
       (omega (arith, key_small 2 1 q c.before.requires.1)) (
-        c.two_keys.ensures.0 ∙ (λ j. largerFloat (key_float (key_i j)) (key_float (key_q j))),
-        c.two_keys.ensures.1 ∙ (λ j. smallerFloat (key_float (key_i j)) (key_float (key_q j))),
+        c.two_keys.ensures.0 ∙ (λ j. larger_float (key_float (key_i j)) (key_float (key_q j))),
+        c.two_keys.ensures.1 ∙ (λ j. smaller_float (key_float (key_i j)) (key_float (key_q j))),
       )
 
 module _ (c : tie.After-key-of2) where

@@ -29,7 +29,7 @@ choose_requires c κs =
 returns : tie.Need-returns
 returns c =
     subst (λ (cs : List Counts). ChosenAs One cs c.choose.result.number c.choose.result.lead)
-    (λ j. asChip (sum_i c.before j) (sum_q c.before j)) c.choose.ensures
+    (λ j. as_chip (sum_i c.before j) (sum_q c.before j)) c.choose.ensures
 
 pub decide_spec : {M : Type 1} → statement M
 decide_spec = tie.close (tie.spec (λ c κs. search rules) (λ c κs. search rules) choose_requires returns)

@@ -39,8 +39,8 @@ two : (h : List ℤ) (j : ℕ) (r : RowWithin 65536 h) → {f s : Float}
     (key_float (key_of 8 (suc j) (read (get_or h (suc j) (pos 0))))))
     → FloatTwo (key_at h) j (suc (suc j)) f s
 two h j r e = float_two (key_at h) j (few j) (few (suc j)) (
-  e.0 ∙ (λ i. largerFloat (key_float (key j i)) (key_float (key (suc j) i))),
-  e.1 ∙ (λ i. smallerFloat (key_float (key j i)) (key_float (key (suc j) i))),
+  e.0 ∙ (λ i. larger_float (key_float (key j i)) (key_float (key (suc j) i))),
+  e.1 ∙ (λ i. smaller_float (key_float (key j i)) (key_float (key (suc j) i))),
 )
   where
     key : (n : ℕ) → key_of 8 n (read (get_or h n (pos 0))) ≡ key_at h n

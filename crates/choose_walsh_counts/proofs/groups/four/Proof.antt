@@ -97,6 +97,6 @@ four_spec =
     (tie.spec (λ c κs. search rules) (λ c κs. rw (a_sided c).is (a_sided c).within) (λ c κs. search rules)
     (λ c κs. rw (b_sided c).is (b_sided c).within)
     (λ c. less_fits (b_credit c) (reads_const {c = 1} (lit< tt)) (lit< tt))
-    (λ c κs. within-read w32 (lit< tt) (within_more (y c.before.before.before.before).within (lit≤ tt)))
+    (λ c κs. within_read w32 (lit< tt) (within_more (y c.before.before.before.before).within (lit≤ tt)))
     (λ c κs. search rules) lower_requires (λ c. reads_fits (size c.before.before) (first c.before) (lit< tt))
     (λ c. reads_fits (size c.before.before) (second c) (lit< tt)) returns)

@@ -17,7 +17,7 @@ below found place e h = subst PlaceBelow e h
 number : (found : Place) (place : ℕ) → found ≡ At place → place + 1 ≡ place_number (where_found found)
 number found place e =
     let next : place + 1 ≡ suc place = omega arith in
-    next ∙ sym (ap (λ (x : Place). placeNumber (where_found x)) e)
+    next ∙ sym (ap (λ (x : Place). place_number (where_found x)) e)
 
 add_result : tie.Need-overflow-add-result
 add_result c =

@@ -96,7 +96,7 @@ returns c =
       odd_is = sym (looks_odd a.at (a.h / 11) a.last (new_words One a.h a.row.now) l _ _
           turn.before.loop.invariant.1 (rw (row_long a.row.now _ a.h _ refl few d) b)
           (row_each a.row.now _ a.h _ refl few d l b) n c.if1.true);
-      last_is = λ z. found-place _ z;
+      last_is = λ z. found_place _ z;
       small = n;
       odd_few = omega (arith, start.pre.0, start.pre.2);
     }

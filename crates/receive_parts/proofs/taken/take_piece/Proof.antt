@@ -154,6 +154,6 @@ take_piece_spec =
     join_requires same_hold same_out returns
     (λ c. let h = straight_few c.before in record { fits = omega arith })
     (λ c. let h = straight_room c.before in record { fits = omega (arith, few c.before.before) })
-    (λ c. search rules) (λ c. search rules) (λ c. straight-there c.before) (λ c. search rules)
-    (λ c. omega arith) (λ c. straight-room c.before.before)
+    (λ c. search rules) (λ c. search rules) (λ c. straight_there c.before) (λ c. search rules)
+    (λ c. omega arith) (λ c. straight_room c.before.before)
     hear_whole_requires same_out_2 returns_2)

@@ -43,7 +43,7 @@ returns c =
     record {
       odd =
           c.odd-growth.ensures
-          ∙ ap (λ (ws : List ℕ). firstOdd s.args.place (growths_of One s.args.before ws))
+          ∙ ap (λ (ws : List ℕ). first_odd s.args.place (growths_of One s.args.before ws))
           (row_is rec s.args.place s.args.count _ d s.requires.0 s.requires.1);
       last = block_last rec s.args.place s.args.count _ d s.requires.0 s.requires.1 s.args.before;
       small = block_small rec s.args.place s.args.count _ d s.requires.0 s.requires.1;

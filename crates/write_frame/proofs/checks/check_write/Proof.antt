@@ -21,7 +21,7 @@ goes_is : (c : tie.After-is-payload)
     c.before.Goes-with.result ≡ goes_with (kind_of start.args.kind) (rate_of start.args.rate))
 goes_is c =
     c.before.Goes-with.ensures
-    ∙ ap₂ {C = Bool} (λ k r. goesWith k r)
+    ∙ ap₂ {C = Bool} (λ k r. goes_with k r)
     c.before.before.before.kind_of_lem.ensures c.before.before.rate_of_lem.ensures
 
 frames : (c : tie.After-frame-chips)
@@ -32,7 +32,7 @@ frames c =
     let all = c.before.before.before.before.before.before in
     let start = all.before.before.before.before.before.before in
     c.frame-chips.ensures
-    ∙ ap₂ {C = ℕ} (λ k r. frameChips k r start.args.n)
+    ∙ ap₂ {C = ℕ} (λ k r. frame_chips k r start.args.n)
     all.before.before.before.kind_of_lem.ensures all.before.before.rate_of_lem.ensures
 
 -- what is known past the first four tests

@@ -31,7 +31,7 @@ turn : (ps w d o y : List ℕ) (i n : ℕ) → o ≡ over (barker_words (take i 
     → put_mid n (length o - n) o y ≡ over (barker_words (take (i + 1) ps)) d
 turn ps w d o y i n e h k g f =
     over_next _ w d o y n e (length_barkers _ ∙ rw length-take (omega arith)) f
-    ∙ ap (λ (v : List ℕ). over v d) (ap (λ (v : List ℕ). barkerWords (take i ps) ++ v) g ∙ sym (barkers_snoc _ _))
+    ∙ ap (λ (v : List ℕ). over v d) (ap (λ (v : List ℕ). barker_words (take i ps) ++ v) g ∙ sym (barkers_snoc _ _))
     ∙ rw (add-one, take-suc ps i 0)
 
 whole : (ps d o : List ℕ) (i : ℕ) → o ≡ over (barker_words (take i ps)) d → i ≡ length ps → o ≡ over (barker_words ps) d
