@@ -1,1 +1,2 @@
 // No code: laws of lists, whole numbers and tables that every crate above may cite.
+#![tactic(auto)]

@@ -1,4 +1,6 @@
 // Leaves of reading, exported so that bench/ times them beside plain C. No part of the board's interface.
+#![tactic(auto)]
+
 ghost use Rattle.std.specs.Prelude.{◌≡◌, min, ◌≤◌, length};
 ghost use Rattle.rules_rates.specs.Rates.{symbol_chips};
 ghost use Rattle.rules_chips.specs.Floats.{count_of};

@@ -1,5 +1,7 @@
 // Symbols abreast: sixteen symbols of bytes, one after the other, become rows of sixteen, in which the same byte of all
 // sixteen stands side by side. Then one step does for all of them what it did for one.
+#![tactic(auto)]
+
 ghost use Rattle.std.specs.Prelude.{◌≡◌, ◌+◌, ◌*◌, ◌%◌, ◌≤◌, min, length};
 ghost use Rattle.choose_abreast.specs.Abreast.{Begins, Merged, Turned};
 

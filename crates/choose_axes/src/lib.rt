@@ -1,6 +1,8 @@
 // Counts of a symbol's chips, I and Q apart: arrays of chips by value to arrays of whole numbers by value. A recorder's
 // chips are all of its own kind, so each takes its own variant apart, and in a loop over symbols the chips dissolve. Of
 // hard chips full chips are counted, not 1024ths of one: in octets sixteen symbols go side by side.
+#![tactic(auto)]
+
 ghost use Rattle.std.specs.Prelude.{◌≡◌, T};
 ghost use Rattle.rules_chips.specs.Chips.{counts_of};
 ghost use Rattle.choose_axes.specs.Axes.{
@@ -17,7 +19,7 @@ ghost use Rattle.choose_axes.specs.Axes.{
 use rules_chips::{Chip, Sample};
 
 // One of the two numbers of a chip.
-#[derive(Drop)]
+#[derive(Clone, Copy)]
 pub enum Axis {
     I,
     Q,

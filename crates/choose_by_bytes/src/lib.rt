@@ -1,6 +1,8 @@
 // The choice of a word from a symbol's signed bytes, I and Q apart, at 1, 2 and 5.5 Mbit/s: what
 // `choose_by_counts` does with counts. Sums and keys of bytes fit i16, so eight symbols go side by side where counts
 // have room for four. Each public function is called from one loop over symbols.
+#![tactic(auto)]
+
 ghost use Rattle.std.specs.Prelude.{◌≡◌, ◌+◌, ◌*◌, ◌-◌, ◌/◌, ◌%◌, ◌<◌, ◌≤◌, T, pos, nat_abs};
 ghost use Rattle.std.specs.Int.Signed.{non_neg};
 ghost use Rattle.base.specs.Whole.{Within};
@@ -12,14 +14,14 @@ ghost use Rattle.choose_sums.specs.Sums.{by_signs, as_chip, rows, crossed, key_a
 use rules_rates::Rate;
 
 // Two keys, the larger first.
-#[derive(Drop)]
+#[derive(Clone, Copy)]
 struct Two {
     first: i16,
     second: i16,
 }
 
 // The number of the word decided, and its lead in 64ths of a full chip, as bytes are.
-#[derive(Drop)]
+#[derive(Clone, Copy)]
 pub struct Choice {
     pub number: u8,
     pub lead: u16,

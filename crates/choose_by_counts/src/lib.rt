@@ -1,6 +1,8 @@
 // The choice of a word from counts, at 1, 2 and 5.5 Mbit/s: the largest score wins, among equals the smallest number,
 // and its lead over the best of the others is told.
 // Each function is called from one loop over symbols, in which its array of chips dissolves.
+#![tactic(auto)]
+
 ghost use Rattle.std.specs.Prelude.{map};
 ghost use Rattle.rules_chips.specs.Chips.{counts_of};
 ghost use Rattle.choose_axes.specs.Axes.{AllSoft};
@@ -14,7 +16,7 @@ mod barker;
 mod five;
 
 // The number of the word decided, and its lead in counts.
-#[derive(Drop)]
+#[derive(Clone, Copy)]
 pub struct Choice {
     pub number: u8,
     pub lead: u32,

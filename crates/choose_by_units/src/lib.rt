@@ -2,6 +2,8 @@
 // counts. A full chip of a hard recording counts 1024, so the same word is chosen, its lead in counts is 1024 times as
 // large, and sixteen symbols go side by side where counts have room for four. Arrays of chips dissolve in the one loop
 // over symbols that calls `decide_barker` or `decide_five`.
+#![tactic(auto)]
+
 ghost use Rattle.std.specs.Prelude.{◌≡◌, ◌+◌, ◌*◌, ◌-◌, ◌/◌, ◌%◌, ◌<◌, ◌≤◌, map};
 ghost use Rattle.choose_axes.specs.Axes.{unit_of};
 ghost use Rattle.base.specs.Whole.{Within};
@@ -15,14 +17,14 @@ use rules_chips::Chip;
 use rules_rates::Rate;
 
 // Two keys, the larger first.
-#[derive(Drop)]
+#[derive(Clone, Copy)]
 struct Two {
     first: u8,
     second: u8,
 }
 
 // The number of the word decided, and its lead in full chips.
-#[derive(Drop)]
+#[derive(Clone, Copy)]
 pub struct Choice {
     pub number: u8,
     pub lead: u8,

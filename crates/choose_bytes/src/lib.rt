@@ -1,6 +1,8 @@
 // A byte recording: signed bytes, I and Q in turn, a full chip being 64; no chip is unusable. Symbols are decided
 // sixteen abreast, from bytes as they are: counts are 16 times as large, all of them, and choose the same word, by a
 // lead 16 times as large.
+#![tactic(auto)]
+
 ghost use Rattle.std.specs.Prelude.{◌≡◌, ◌+◌, ◌*◌, ◌/◌, ◌<◌, ◌≤◌, length, get_or};
 ghost use Rattle.base.specs.Tables.{tabulate};
 ghost use Rattle.base.specs.Whole.{Within};

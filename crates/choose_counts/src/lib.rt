@@ -1,4 +1,6 @@
 // Chips looked at and counted: whether a sample is usable, its signed count, and what an octet is.
+#![tactic(auto)]
+
 ghost use Rattle.std.specs.Prelude.{◌≡◌, T};
 ghost use Rattle.rules_chips.specs.Floats as floats;
 ghost use Rattle.rules_chips.specs.Floats.{count_of};

@@ -1,6 +1,8 @@
 // A hard recording: a row of octets, 0 to 3 a phase, 4 lost, 5 to 255 unusable. Each loop over symbols gathers a
 // symbol's chips in an array that dissolves in it; at 11 Mbit/s sixteen symbols stand abreast, as columns of a row. An
 // octet that is none of the phases counts as nothing, so symbols are decided whatever their chips are.
+#![tactic(auto)]
+
 ghost use Rattle.std.specs.Prelude.{◌≡◌, true, not, ◌+◌, ◌*◌, ◌<◌, ◌≤◌, length, get_or};
 ghost use Rattle.base.specs.Tables.{tabulate};
 ghost use Rattle.rules_chips.specs.Chips.{unusable, is_unusable, hard_recording};

@@ -2,6 +2,8 @@
 // largest key is the largest score and, among equals, the smallest number. Of two opposite words only the better one
 // can win, so half as many keys give the number. The other one's score is not above 0, so the second largest of these
 // keys is that of the best other word, and gives the lead.
+#![tactic(auto)]
+
 ghost use Rattle.std.specs.Prelude.{◌≡◌, ◌+◌, ◌*◌, ◌-◌, ◌/◌, ◌%◌, ◌<◌, ◌≤◌, T, pos, nat_abs};
 ghost use Rattle.std.specs.Int.Signed.{non_neg};
 ghost use Rattle.std.specs.Float.{binary32};
@@ -12,7 +14,7 @@ ghost use Rattle.rules_choosing.specs.Keys.{larger, smaller, key_of};
 ghost use Rattle.choose_keys.specs.Floats.{key_float, larger_float, smaller_float};
 
 // Two keys, the larger first, as f32: one instruction compares four of them, where i32 need several.
-#[derive(Drop)]
+#[derive(Clone, Copy)]
 pub struct Two {
     pub first: f32,
     pub second: f32,

@@ -1,5 +1,7 @@
 // Recorders: what reading asks of rows that are lent, whatever recorded them. A recorder is a variant here, its
 // chips in a crate of its own, and an arm in the functions below.
+#![tactic(auto)]
+
 ghost use Rattle.std.specs.Prelude.{◌≡◌, true, not, ◌+◌, ◌*◌, ◌-◌, ◌≤◌, ◌<◌, length, get_or, take, drop};
 ghost use Rattle.rules_rates.specs.Rates.{symbol_chips};
 ghost use Rattle.rules_chips.specs.Chips.{unusable, is_unusable};
@@ -12,7 +14,7 @@ use rules_rates::Rate;
 
 // What recorded the chips. A hard recording is the row of octets, a soft one two rows of f32, one of bytes the row of
 // signed bytes. The rows that a recorder does not use are empty.
-#[derive(Drop)]
+#[derive(Clone, Copy)]
 pub enum Recorder {
     Hard,
     Soft,

@@ -1,5 +1,7 @@
 // A soft recording: two rows of f32, I and Q, as far as both go. Each loop over symbols gathers a symbol's chips in an
 // array that dissolves in it; at 11 Mbit/s sixteen symbols stand abreast, as columns of a row.
+#![tactic(auto)]
+
 ghost use Rattle.std.specs.Prelude.{◌≡◌, true, not, ◌+◌, ◌*◌, ◌<◌, ◌≤◌, length, get_or};
 ghost use Rattle.rules_chips.specs.Chips.{unusable, is_unusable, soft_recording};
 ghost use Rattle.rules_choosing.specs.Scores.{RowWithin};

@@ -1,6 +1,8 @@
 // The first stage of butterflies, over sixteen symbols of counts abreast: what `choose_stages_bytes` does with small
 // numbers. A complex row is sixteen numbers of I and then sixteen of Q; each loop goes over the columns of rows, and
 // the compiler does four of them at once. Rows to work in are lent.
+#![tactic(auto)]
+
 ghost use Rattle.std.specs.Prelude.{◌≡◌, [], ◌∷◌, ◌+◌, ◌*◌, ◌≤◌, length, pos, ◌+ℤ◌, ◌*ℤ◌};
 ghost use Rattle.base.specs.Whole.{Within};
 ghost use Rattle.rules_choosing.specs.Scores.{RowWithin};

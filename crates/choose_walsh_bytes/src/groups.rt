@@ -10,14 +10,14 @@ ghost use Rattle.choose_walsh.specs.Turns.{plus, sided, credit, four_top, four_n
 ghost use Rattle.choose_walsh.specs.Search.{held, merged, met, four_more};
 
 // Two keys of a group: the largest, and the next.
-#[derive(Drop)]
+#[derive(Clone, Copy)]
 struct Two {
     first: i16,
     second: i16,
 }
 
 // What a column has so far: the largest key, the next, and the group of the first.
-#[derive(Drop)]
+#[derive(Clone, Copy)]
 pub struct Best {
     pub first: i16,
     pub second: i16,

@@ -1,6 +1,8 @@
 // The choice at 11 Mbit/s, from sixteen symbols of small numbers abreast: signed bytes, or hard chips in full chips.
 // For one p3 after the other, the loop over columns reads a column's eight numbers of the first stage and goes through
 // the four groups of that p3, in their order, so that of equal keys the first stays: the smallest number.
+#![tactic(auto)]
+
 ghost use Rattle.std.specs.Prelude.{◌≡◌, ◌+◌, ◌*◌, ◌-◌, ◌≤◌, ◌<◌, T, length, get_or, pos, negsuc, ◌≤ℤ◌};
 ghost use Rattle.std.specs.Int.Signed.{non_neg};
 ghost use Rattle.choose_recorded.specs.Recorded.{Put};

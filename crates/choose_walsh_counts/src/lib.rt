@@ -1,4 +1,6 @@
 // The choice at 11 Mbit/s, from sixteen symbols of counts abreast: what `choose_walsh_bytes` does with small numbers.
+#![tactic(auto)]
+
 ghost use Rattle.std.specs.Prelude.{◌≡◌, ◌+◌, ◌*◌, ◌-◌, ◌≤◌, ◌<◌, T, length, get_or, pos, negsuc, ◌≤ℤ◌};
 ghost use Rattle.std.specs.Int.Signed.{non_neg};
 ghost use Rattle.rules_choosing.specs.Scores.{RowWithin};

@@ -1,4 +1,6 @@
 // The answers of the calls as numbers: for each case of an enum its number and values.
+#![tactic(auto)]
+
 use rules_calls::{Reading, Record, Refusal, Writing, Written};
 // the type of a member that is passed over: a crate must know the types of what it takes apart
 ghost use Rattle.std.specs.Prelude.{◌≡◌};

@@ -6,7 +6,7 @@ ghost use Rattle.rules_bits.specs.Crc.{crc_step, remainder, complement, crc_bits
 ghost use Rattle.common_header.specs.Registers.{in_time, terms};
 
 // Eight bits, b0 first in time.
-#[derive(Drop)]
+#[derive(Clone, Copy)]
 pub struct Eight {
     pub b0: u8,
     pub b1: u8,
@@ -19,7 +19,7 @@ pub struct Eight {
 }
 
 // The CRC register, highest term first.
-#[derive(Drop)]
+#[derive(Clone, Copy)]
 pub struct Sixteen {
     pub first: Eight,
     pub second: Eight,

@@ -1,4 +1,6 @@
 // The header's six octets: what they tell a reader, and those that a writer sends.
+#![tactic(auto)]
+
 ghost use Rattle.std.specs.Prelude.{◌≡◌, ◌&&◌, [], ◌∷◌, ◌-◌, ◌≤◌, ◌<◌, eqb, length, take, drop};
 ghost use Rattle.rules_rates.specs.Rates.{is_code, rate_of, whole_octets};
 ghost use Rattle.rules_bits.specs.Bits.{number_of, highest_first, octet_bits};

@@ -1,4 +1,6 @@
 // The two kinds of frame, and the numbers that go with a kind.
+#![tactic(auto)]
+
 ghost use Rattle.std.specs.Prelude.{◌≡◌, ◌≤◌};
 ghost use Rattle.rules_frame.specs.Frame.{is_kind, kind_of, header_rate, goes_with, preamble_chips, front_chips, frame_chips};
 ghost use Rattle.common_kinds.specs.Starts.{Starts};

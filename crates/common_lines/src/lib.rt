@@ -1,4 +1,6 @@
 // A line: what stands between two octets of a frame. Octets scrambled and back, pairs of bits to growths.
+#![tactic(auto)]
+
 ghost use Rattle.std.specs.Prelude.{◌≡◌, ◌/◌, ◌%◌, ◌<◌};
 ghost use Rattle.rules_bits.specs.Bits.{bits_of, number_of};
 ghost use Rattle.rules_bits.specs.Growths.{growth};
@@ -7,7 +9,7 @@ ghost use Rattle.rules_bits.specs.Code.{past_of, pairs_of};
 
 // What stands between two octets of a frame: the last eight bits sent or received as an octet, the first
 // in time the lowest, and the phase of the last symbol.
-#[derive(Drop)]
+#[derive(Clone, Copy)]
 pub struct Line {
     pub past: u8,
     pub phase: u8,

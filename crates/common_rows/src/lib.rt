@@ -1,4 +1,6 @@
 // Rows lent for writing: what every call does to a whole buffer of octets, and to what is left of a row of numbers.
+#![tactic(auto)]
+
 ghost use Rattle.std.specs.Prelude.{◌≡◌, ◌++◌, ◌-◌, ◌≤◌, length, take, replicate};
 
 // All of a row set to v.

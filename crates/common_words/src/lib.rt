@@ -1,4 +1,6 @@
 // The words of symbols, Barker and CCK, as arrays of phases by value.
+#![tactic(auto)]
+
 ghost use Rattle.std.specs.Prelude.{◌≡◌, [], ◌∷◌, ◌+◌, ◌*◌, ◌/◌, ◌%◌};
 ghost use Rattle.base.specs.Tables.{tabulate};
 ghost use Rattle.rules_symbols.specs.Words.{barker_word, cck_word};

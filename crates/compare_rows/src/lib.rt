@@ -1,5 +1,7 @@
 // Two rows of octets compared, as far as the shorter goes, 64 octets at a time: the entries of a block are put where
 // they have room; from the first block on whose entries have none, entries are only counted. Knows nothing of radio.
+#![tactic(auto)]
+
 ghost use Rattle.std.specs.Prelude.{◌≡◌, ◌+◌, ◌*◌, ◌≤◌, ◌<◌, length};
 ghost use Rattle.rules_compare.specs.Differences.{differences, laid};
 ghost use Rattle.compare_rows.specs.Left.{left_over, Between, RoomFor, Put};
@@ -106,7 +108,7 @@ fn put_block(a: &[u8], b: &[u8], at: usize, n: usize, row: &mut [u64], p: usize)
 }
 
 // How far the entries are put: those up to an index, which end at a place of the row.
-#[derive(Drop)]
+#[derive(Clone, Copy)]
 pub struct Reached {
     pub at: usize,
     pub p: usize,

@@ -2,6 +2,8 @@
 // them for C, by their names without a number: a symbol keeps its parameters and its record for ever. A contract
 // names the answer, and the lent buffer at the end where there is one, in one record: `answer` and `chips`, or `answer`
 // and `octets`; where four rows are lent, each has a member of its own.
+#![tactic(auto)]
+
 ghost use Rattle.std.specs.Prelude.{map, length};
 ghost use Rattle.promises.specs.Calls.{Wrote, ReadHard, ReadSoft, ReadBytes, ReadFront, Finds};
 ghost use Rattle.promises_report.specs.Calls.{Adds, Lists, Spells};

@@ -1,5 +1,7 @@
 // Finds the start of a front in a hard recording: the smallest of so many offsets from which a read meets none of 8 to
 // 15. An SFD is looked for at 256 offsets at once, and a whole front is read only where one is right.
+#![tactic(auto)]
+
 ghost use Rattle.std.specs.Prelude.{◌≡◌, ℕ, ◌+◌, ◌≤◌, ◌<◌, length, get_or, drop};
 ghost use Rattle.rules_chips.specs.Chips.{hard_recording};
 ghost use Rattle.rules_frame.specs.Frame.{front_chips};

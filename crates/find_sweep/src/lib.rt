@@ -2,6 +2,8 @@
 // SFD is right: in a front that no odd growth refuses, bits at 1 Mbit/s hang on nothing else. Each function is one loop
 // over a row of octets, so that the compiler takes sixteen places at a time; a row is worked over in place, from its
 // front, and no step looks at an entry that it has written.
+#![tactic(auto)]
+
 ghost use Rattle.std.specs.Prelude.{false, List, ◌≡◌, ℕ, ◌+◌, ◌*◌, ◌/◌, ◌%◌, ◌≤◌, ◌<◌, min, length, get_or};
 ghost use Rattle.rules_chips.specs.Chips.{Taken, hard_recording};
 ghost use Rattle.find_sweep.specs.Sweep.{side_of, half_of_eleven, Sides, half_at, Row, Added, half_of};

@@ -1,5 +1,7 @@
 // A block of up to 64 decided words, which are whole octets, heard. Each function is one loop over the block, of octets
 // only, so that the compiler takes sixteen at a time.
+#![tactic(auto)]
+
 ghost use Rattle.std.specs.Prelude.{◌≡◌, ◌+◌, ◌*◌, ◌^◌, ◌<◌, ◌≤◌, length, take, slice_index};
 ghost use Rattle.base.specs.Below.{Below};
 ghost use Rattle.base.specs.Over.{over};
@@ -20,7 +22,7 @@ pub mod least;
 mod odd;
 
 // A line, and the place of the first symbol that is grown by 1 or 3 at 1 Mbit/s.
-#[derive(Drop)]
+#[derive(Clone, Copy)]
 pub struct Hearing {
     pub line: Line,
     pub odd: Place,

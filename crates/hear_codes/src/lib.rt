@@ -1,5 +1,7 @@
 // What one decided word comes to, at each rate: its phase, what its bits turned it by, its bits, and the octet of those
 // of several words.
+#![tactic(auto)]
+
 ghost use Rattle.std.specs.Prelude.{◌≡◌, [], ◌∷◌, ◌+◌, ◌*◌, ◌%◌, ◌^◌, ◌≤◌, ◌<◌, length, take, drop};
 ghost use Rattle.base.specs.Below.{Below};
 ghost use Rattle.rules_rates.specs.Rates.{symbol_bits, octet_symbols};

@@ -1,5 +1,7 @@
 // Hearing: octets of a recording, block after block of up to 64 symbols, on a line that goes by value; and the smallest
 // lead of their symbols.
+#![tactic(auto)]
+
 ghost use Rattle.std.specs.Prelude.{◌≡◌, ◌+◌, ◌*◌, ◌^◌, ◌≤◌, ◌<◌, length};
 ghost use Rattle.std.proofs.Math.Option.{some};
 ghost use Rattle.base.specs.Over.{over};
@@ -20,7 +22,7 @@ use rules_calls::Least;
 use rules_rates::Rate;
 
 // A part heard: the line behind it with the place of the first symbol grown by 1 or 3, and the smallest lead so far.
-#[derive(Drop)]
+#[derive(Clone, Copy)]
 pub struct Part {
     pub heard: Hearing,
     pub least: Least,

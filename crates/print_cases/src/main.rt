@@ -1,6 +1,8 @@
 // What a program in Rattle calls: a frame is written, read, asked what is coming, spoilt and read again; then readings
 // that are refused. Nothing is proved of what a program writes but that it is safe and ends; what it writes is compared
 // with the file stdout.
+#![tactic(auto)]
+
 use libc::STDOUT_FILENO;
 use rules_calls::{Record, Written};
 use rules_coming::Coming;

@@ -1,1 +1,2 @@
 // No code: what the calls promise together, in specs/ the statements and in proofs/ their proofs.
+#![tactic(auto)]

@@ -1,4 +1,6 @@
 // Reading: recordings to payloads, with every refusal in its order.
+#![tactic(auto)]
+
 ghost use Rattle.std.specs.Prelude.{◌≡◌, true, ◌%◌, eqb, length, replicate};
 ghost use Rattle.rules_chips.specs.Chips.{hard_recording, soft_recording, byte_recording};
 ghost use Rattle.rules_calls.specs.Answers.{record_of};

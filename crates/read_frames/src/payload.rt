@@ -19,7 +19,7 @@ use rules_frame::Kind;
 use rules_rates::Rate;
 
 // A payload heard: the place of its first symbol grown by 1 or 3 at 1 Mbit/s, and the frame's smallest lead.
-#[derive(Drop)]
+#[derive(Clone, Copy)]
 pub struct Payload {
     pub odd: Place,
     pub least: Least,

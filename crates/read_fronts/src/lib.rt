@@ -1,4 +1,6 @@
 // The front of a recording: refusals 8, 9 and 10 over it, and 11 to 15.
+#![tactic(auto)]
+
 ghost use Rattle.std.specs.Prelude.{◌≡◌, List, ◌≤◌};
 ghost use Rattle.rules_chips.specs.Chips.{Taken};
 ghost use Rattle.rules_calls.specs.declared.Told.{Told};
@@ -20,14 +22,14 @@ use rules_rates::Rate;
 pub mod heard;
 
 // A preamble heard: the line at its end with the first symbol grown by 1 or 3, the smallest lead, and the SFD's octets.
-#[derive(Drop)]
+#[derive(Clone, Copy)]
 pub struct Preamble {
     pub part: Part,
     pub sfd: [u8; 2],
 }
 
 // A front heard: the same at its end, and the header's octets.
-#[derive(Drop)]
+#[derive(Clone, Copy)]
 pub struct FrontHeard {
     pub part: Part,
     pub sfd: [u8; 2],
@@ -36,7 +38,7 @@ pub struct FrontHeard {
 
 // Whether a front can be heard: the recording is shorter, or its chip at a place is the first unusable one, or all of
 // them are usable.
-#[derive(Drop)]
+#[derive(Clone, Copy)]
 pub enum Look {
     Shorter,
     Unusable(usize),
@@ -44,7 +46,7 @@ pub enum Look {
 }
 
 // A front read, the line that the payload starts on, and the smallest lead before it.
-#[derive(Drop)]
+#[derive(Clone, Copy)]
 pub struct Opening {
     pub front: Front,
     pub line: Line,

@@ -1,4 +1,6 @@
 // Open, feed and close of a receiver, by value: each takes a receiver and gives it back beside its answer.
+#![tactic(auto)]
+
 ghost use Rattle.rules_receiving.specs.Calls.{ReceiverOpens, ReceiverFeeds, ReceiverCloses};
 
 use rules_calls::{Record, Refusal};
@@ -13,7 +15,7 @@ mod payload;
 mod sound;
 
 // How far a receiver has come behind a piece of a batch, and how many chips the piece took.
-#[derive(Drop)]
+#[derive(Clone, Copy)]
 pub struct Pieced {
     pub progress: Progress,
     pub taken: usize,

@@ -1,5 +1,7 @@
 // Chips of a part of a frame as they come: whole octets heard straight from a batch, or a piece behind the chips that
 // are held. Preamble, header and payload alike.
+#![tactic(auto)]
+
 use choose_recorded::Place;
 use rules_receiving::Ear;
 
@@ -7,7 +9,7 @@ pub mod heard;
 pub mod taken;
 
 // What a piece leaves: what hearing goes on from, the first unusable chip, and the first symbol grown by 1 or 3.
-#[derive(Drop)]
+#[derive(Clone, Copy)]
 pub struct Piece {
     pub ear: Ear,
     pub bad: Place,
@@ -15,14 +17,14 @@ pub struct Piece {
 }
 
 // A piece, and how many chips of a batch it took.
-#[derive(Drop)]
+#[derive(Clone, Copy)]
 pub struct Taking {
     pub piece: Piece,
     pub taken: usize,
 }
 
 // Symbols looked at: the first one grown by 1 or 3, and the phase of the last.
-#[derive(Drop)]
+#[derive(Clone, Copy)]
 pub struct Grown {
     pub odd: Place,
     pub last: u8,

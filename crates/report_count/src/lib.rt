@@ -1,4 +1,6 @@
 // The month's report kept: one recording more, read and counted, and a whole list of recordings at once.
+#![tactic(auto)]
+
 ghost use Rattle.std.specs.Prelude.{◌≡◌, true, ◌||◌, map, ◌≤◌, eqb, ltb};
 ghost use Rattle.rules_report.specs.Totals.{Outcome, outcome_of, front_time};
 ghost use Rattle.rules_report.specs.Report.{

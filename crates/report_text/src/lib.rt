@@ -1,5 +1,7 @@
 // The report's text: words and decimal numbers, line after line, into a row of its own, and from there into the octet
 // buffer. Whatever comes of it, the whole buffer is written.
+#![tactic(auto)]
+
 ghost use Rattle.std.specs.Prelude.{◌≡◌, ◌++◌, ◌+◌, ◌≤◌, length};
 ghost use Rattle.rules_report.specs.Text.{decimal, rate_line, refused_line, refused_lines, airtime_line, lead_line};
 ghost use Rattle.rules_report.specs.Text.{text_of, spelled_of, text_left};

@@ -1,10 +1,12 @@
 // The calls and their numbers: the refusals, and what writing and reading answer. Types only.
+#![tactic(auto)]
+
 use rules_frame::Kind;
 use rules_rates::Rate;
 
 // Every refusal of writing and reading, in the order of its number, 1 to 17. A place is a chip's index from the
 // recording's start; a length is the LENGTH field, 0 where it is not to be told.
-#[derive(Drop)]
+#[derive(Clone, Copy)]
 pub enum Refusal {
     // promise: the kind is neither 0 (long) nor 1 (short)
     // rule: 6.4 (1), 5.4, 6.14
@@ -97,7 +99,7 @@ pub enum Refusal {
 }
 
 // What a write comes to, before a chip is written.
-#[derive(Drop)]
+#[derive(Clone, Copy)]
 pub enum Writing {
     Refused(Refusal),
     Good {
@@ -108,7 +110,7 @@ pub enum Writing {
 }
 
 // What a good header tells: the rate, LENGTH, the payload's octets, and whether the clock bit is set.
-#[derive(Drop)]
+#[derive(Clone, Copy)]
 pub struct Told {
     pub rate: Rate,
     pub length: usize,
@@ -117,28 +119,28 @@ pub struct Told {
 }
 
 // Who reads, and so which headers are accepted: our own readers, or the guides of 1997.
-#[derive(Drop)]
+#[derive(Clone, Copy)]
 pub enum Reader {
     Ours,
     Of1997,
 }
 
 // What a recording's front tells.
-#[derive(Drop)]
+#[derive(Clone, Copy)]
 pub enum Front {
     Refused(Refusal),
     Fields(Told),
 }
 
 // The smallest lead of symbols, in counts, and the number of the first symbol that has it.
-#[derive(Drop)]
+#[derive(Clone, Copy)]
 pub struct Least {
     pub lead: usize,
     pub symbol: usize,
 }
 
 // What a reading comes to: what its header tells, the chips of the whole frame, and the smallest lead in it.
-#[derive(Drop)]
+#[derive(Clone, Copy)]
 pub enum Reading {
     Refused(Refusal),
     Good {
@@ -150,7 +152,7 @@ pub enum Reading {
 
 // The writer's answer.
 #[repr(C)]
-#[derive(Drop)]
+#[derive(Clone, Copy)]
 pub struct Written {
     pub number: u64,
     pub chips: u64,
@@ -158,7 +160,7 @@ pub struct Written {
 
 // The readers' answer.
 #[repr(C)]
-#[derive(Drop)]
+#[derive(Clone, Copy)]
 pub struct Record {
     pub number: u64,
     pub place: u64,

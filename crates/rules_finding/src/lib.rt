@@ -1,8 +1,10 @@
 // Finding the start: what the call that looks for a front answers, and why it may refuse. Types only.
+#![tactic(auto)]
+
 use rules_calls::Told;
 
 // Why no start is told: 1, 18 and 19. None has a place or a LENGTH.
-#[derive(Drop)]
+#[derive(Clone, Copy)]
 pub enum NotFound {
     NoKind,
     // promise: the number of offsets to try is 0 or above 4,096
@@ -18,7 +20,7 @@ pub enum NotFound {
 }
 
 // What a search for a front comes to: the smallest offset from which one is told, and what its header tells.
-#[derive(Drop)]
+#[derive(Clone, Copy)]
 pub enum Finding {
     Refused(NotFound),
     Start { offset: usize, told: Told },
@@ -26,7 +28,7 @@ pub enum Finding {
 
 // The answer: number 0, the offset and what the header there tells, or a refusal's number.
 #[repr(C)]
-#[derive(Drop)]
+#[derive(Clone, Copy)]
 pub struct Found {
     pub number: u64,
     pub offset: u64,

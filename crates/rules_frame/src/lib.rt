@@ -1,7 +1,8 @@
 // The two kinds of frame. Types only; no code.
+#![tactic(auto)]
 
 // The preamble's kind.
-#[derive(Drop)]
+#[derive(Clone, Copy)]
 pub enum Kind {
     Long,
     Short,

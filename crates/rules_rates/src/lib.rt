@@ -1,4 +1,6 @@
 // What a rate is: 1, 2, 5.5 or 11 Mbit/s, its code, the chips of an octet, LENGTH and bit 7.
+#![tactic(auto)]
+
 ghost use Rattle.std.specs.Prelude.{◌≡◌, ◌≤◌, ◌<◌, pos};
 ghost use Rattle.rules_rates.specs.Rates.{
   code_of,
@@ -13,7 +15,7 @@ ghost use Rattle.rules_rates.specs.Rates.{
   is_payload,
 };
 
-#[derive(Drop)]
+#[derive(Clone, Copy)]
 pub enum Rate {
     One,
     Two,

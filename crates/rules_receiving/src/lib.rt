@@ -1,10 +1,12 @@
 // A receiver of hard chips that come in batches: what it holds between two calls. Types only.
+#![tactic(auto)]
+
 use rules_calls::Record;
 
 // What hearing goes on from in the middle of a section: the smallest lead so far and its symbol, the line behind the last
 // whole octet, and the phase of the last whole symbol.
 #[repr(C)]
-#[derive(Drop)]
+#[derive(Clone, Copy)]
 pub struct Ear {
     pub lead: usize,
     pub symbol: usize,
@@ -16,7 +18,7 @@ pub struct Ear {
 // How far a receiver has come. status: 0 shut, 1 the front comes, 2 the front told of a payload, 3 refused whatever
 // follows.
 #[repr(C)]
-#[derive(Drop)]
+#[derive(Clone, Copy)]
 pub struct Progress {
     pub status: u64,
     pub kind: u64,
@@ -40,7 +42,7 @@ pub struct Progress {
 
 // A receiver, numbers and rows only, so that a host may own it. All zeros: never opened.
 #[repr(C)]
-#[derive(Drop)]
+#[derive(Clone, Copy)]
 pub struct Receiver {
     pub progress: Progress,
     // the chips of an octet that is not whole
@@ -51,14 +53,14 @@ pub struct Receiver {
 }
 
 // The answer of open and feed, and the receiver after it.
-#[derive(Drop)]
+#[derive(Clone, Copy)]
 pub struct Fed {
     pub receiver: Receiver,
     pub answer: u64,
 }
 
 // The answer of close, and the receiver after it.
-#[derive(Drop)]
+#[derive(Clone, Copy)]
 pub struct Closed {
     pub receiver: Receiver,
     pub answer: Record,

@@ -1,10 +1,11 @@
 // The month's report: what the calls that count recordings, and the one that makes their text, answer. Types only.
+#![tactic(auto)]
 
 // What was counted. Rows of rates go by rate code, rising: 10, 20, 55, 110; `refused` goes by the refusal's number, up
 // to 17. `lead` is the smallest of all frames, `recording` the first that has it, and `some` is 1; with no frame all
 // three are 0.
 #[repr(C)]
-#[derive(Drop)]
+#[derive(Clone, Copy)]
 pub struct Report {
     pub seen: u64,
     pub frames: [u64; 4],
@@ -18,7 +19,7 @@ pub struct Report {
 
 // The answer of a call that counts: 0 or 31, of a list also 7, and the report.
 #[repr(C)]
-#[derive(Drop)]
+#[derive(Clone, Copy)]
 pub struct Counted {
     pub number: u64,
     pub report: Report,
@@ -26,7 +27,7 @@ pub struct Counted {
 
 // The answer of the call that makes the text: 0 and the text's octets, or 17.
 #[repr(C)]
-#[derive(Drop)]
+#[derive(Clone, Copy)]
 pub struct Spelled {
     pub number: u64,
     pub octets: u64,

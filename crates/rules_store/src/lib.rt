@@ -1,7 +1,8 @@
 // The store of a table's radio settings: its entries, and what a read of it answers. Types only; no code.
+#![tactic(auto)]
 
 // An entry of the table of contents: a tag, where its body starts, and how many octets the body has.
-#[derive(Drop)]
+#[derive(Clone, Copy)]
 pub struct Entry {
     pub tag: usize,
     pub offset: usize,
@@ -10,7 +11,7 @@ pub struct Entry {
 
 // The answer of the call that reads: 0 and the three settings, or the refusal and zeros.
 #[repr(C)]
-#[derive(Drop)]
+#[derive(Clone, Copy)]
 pub struct Settings {
     pub number: u64,
     pub kind: u64,

@@ -15,7 +15,7 @@ use choose_recorders::Recorder;
 use rules_rates::Rate;
 
 // Symbols at 1 Mbit/s: the place of the first that is grown by 1 or 3, and the phase of the last.
-#[derive(Drop)]
+#[derive(Clone, Copy)]
 pub struct Grown {
     pub odd: Place,
     pub last: u8,

@@ -1,4 +1,6 @@
 // The store of a table's radio settings, read, written and changed. `table` is what is asked of its table of contents.
+#![tactic(auto)]
+
 ghost use Rattle.std.specs.Prelude.{◌≡◌, true, cond, not, ◌++◌, ◌+◌, ◌-◌, ◌≤◌, ◌<◌, length, get_or, replicate};
 ghost use Rattle.base.specs.Over.{over};
 ghost use Rattle.rules_rates.specs.Rates.{rate_of};

@@ -7,7 +7,7 @@ use rules_store::Entry;
 
 // The three settings among the entries: whether all three are there, and if so whether each has one octet, and where
 // the first of them stands.
-#[derive(Drop)]
+#[derive(Clone, Copy)]
 pub struct Three {
     pub there: bool,
     pub ones: bool,

@@ -1,5 +1,7 @@
 // The writer: payload, rate, kind, starting phase and clock to the chips of a frame. Every argument is checked
 // first; whatever comes of it, the whole chip buffer is written.
+#![tactic(auto)]
+
 ghost use Rattle.std.specs.Prelude.{◌≡◌, ◌++◌, ◌-◌, ◌≤◌, length, replicate};
 ghost use Rattle.base.specs.Over.{over};
 ghost use Rattle.rules_frame.specs.Frame.{preamble_chips, front_chips, frame_chips, frame};
