@@ -10,16 +10,17 @@ use Rattle.bench_leaves.proofs.count_of.Statement.{statement}
 use Rattle.bench_leaves.proofs.count_of.Tie as tie
 
 count_requires : tie.Need-count-requires
-count_requires c κs = subst T (sym c.if1.true ∙ c.before.usable.ensures) tt
+count_requires c κs = subst T (sym c.if-usable.true ∙ c.usable.ensures) tt
 
-returns : tie.Need-returns
+returns : tie.Need-returns-then-usable
 returns c =
     let read : to_z w32 (of_z w32 c.count.result) ≡ c.count.result = search rules in
     read ∙ c.count.ensures
 
-returns_2 : tie.Need-returns-2
+returns_2 : tie.Need-returns-else-usable
 unfolding count_of
-returns_2 c = rw (sym c.before.usable.ensures ∙ c.if1.false)
+returns_2 c = rw (sym c.usable.ensures ∙ c.if-usable.false)
 
 pub count_of_spec : {M : Type 1} → statement M
-count_of_spec = tie.close (tie.spec (λ c κs. search rules) count_requires returns returns_2)
+count_of_spec = tie.close (tie.spec
+    (λ c κs. search rules) count_requires returns returns_2)

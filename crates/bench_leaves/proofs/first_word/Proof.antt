@@ -42,43 +42,40 @@ module _ (r : Rate) (rec : List Taken) (n : ℕ) (f : Place) (e : n ≡ symbol_c
       ∙ good rec (symbol_chips r) f of_symbol _ h
 
 -- what the search tells, and where it began
-abbrev start : tie.After-first-unusable → tie.Start
-start c = c.before.before.before.before.before.before.before.before
+abbrev start : tie.After-first_unusable-bad → tie.Start
+start c = c.before.before.before.before.before.before
 
-abbrev rec : tie.After-first-unusable → List Taken
+abbrev rec : tie.After-first_unusable-bad → List Taken
 rec c = soft_recording (start c).args.i.now (start c).args.q.now
 
-returns : tie.Need-returns
+returns : tie.Need-returns-in-At
 returns c =
-    let found = c.before.before in
-    none (start found).args.r (rec found) _ _ found.before.symbol-chips.ensures
-    found.first_unusable_lem.ensures _ c.enum_told.given.1
+    none (start c.before.before).args.r (rec c.before.before) _ _ c.symbol_chips.ensures
+    c.first_unusable-bad.ensures _ c.in-At.is
 
 decide_requires : tie.Need-decide-requires
 decide_requires c κs =
-    let found = c.before.before.before.before in
-    let l = (start found).requires in (
+    let l = (start c.before.before.before.before).requires in (
       lit≤ tt,
       omega arith,
-      clean (start found).args.r (rec found) _ _ found.before.symbol-chips.ensures
-          found.first_unusable_lem.ensures c.before.before.enum-told2.given.1 l,
+      clean (start c.before.before.before.before).args.r (rec c.before.before.before.before) _ _ c.symbol_chips.ensures
+          c.first_unusable-bad.ensures c.in-Nothing.is l,
       search rules,
       search rules,
     )
 
-returns_2 : tie.Need-returns-2
+returns_2 : tie.Need-returns-in-Nothing
 returns_2 c =
-    let found = c.before.before.before.before.before.before in
     c.wide.ensures
-    ∙ word (start found).args.r (rec found) _ _ found.before.symbol-chips.ensures
-    found.first_unusable_lem.ensures
-    c.before.before.before.before.enum-told2.given.1 _ c.before.decide.ensures.0
+    ∙ word (start c.before.before.before.before.before.before).args.r (rec c.before.before.before.before.before.before) _ _ c.symbol_chips.ensures
+    c.first_unusable-bad.ensures
+    c.in-Nothing.is _ c.decide.ensures.numbers
 
 pub first_word_spec : {M : Type 1} → statement M
 first_word_spec =
     tie.close
-    (tie.spec (λ c. search rules) (λ c. search rules) (λ c. search rules) (λ c. search rules) (λ c. search rules)
-    (λ c. search rules) (λ c κs. search rules)
-    (λ c κs. omega (arith, c.symbol-chips.ensures, c.before.before.before.before.before.before.before.requires))
-    (λ c. search rules) (λ c. search rules) decide_requires (λ c. search rules)
-    (λ c κs. search rules) returns returns_2)
+    (tie.spec
+    (λ c. search rules) (λ c. search rules) (λ c. search rules) (λ c. search rules) (λ c. search rules)
+    (λ c. search rules) (λ c κs. search rules) (λ c κs. omega (arith, c.symbol_chips.ensures, c.requires))
+    (λ c. search rules) (λ c. search rules) decide_requires (λ c. search rules) (λ c κs. search rules) returns
+    returns_2)

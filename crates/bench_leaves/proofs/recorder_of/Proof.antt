@@ -4,14 +4,15 @@ use borrow.Author.Tests.{eq-eqb, ne_eqb}
 use Rattle.bench_leaves.proofs.recorder_of.Statement.{statement}
 use Rattle.bench_leaves.proofs.recorder_of.Tie as tie
 
-returns : tie.Need-returns
-returns c = rw (eq-eqb _ 0 c.if1.true)
+returns : tie.Need-returns-then-number-eq0
+returns c = rw (eq-eqb _ 0 c.if-number-eq0.true)
 
-returns_2 : tie.Need-returns-2
-returns_2 c = rw (ne_eqb _ 0 c.before.if1.false, eq-eqb _ 1 c.if2.true)
+returns_2 : tie.Need-returns-then-number-eq1
+returns_2 c = rw (ne_eqb _ 0 c.if-number-eq0.false, eq-eqb _ 1 c.if-number-eq1.true)
 
-returns_3 : tie.Need-returns-3
-returns_3 c = rw (ne_eqb _ 0 c.before.if1.false, ne_eqb _ 1 c.if2.false)
+returns_3 : tie.Need-returns
+returns_3 c = rw (ne_eqb _ 0 c.if-number-eq0.false, ne_eqb _ 1 c.if-number-eq1.false)
 
 pub recorder_of_spec : {M : Type 1} → statement M
-recorder_of_spec = tie.close (tie.spec returns returns_2 returns_3)
+recorder_of_spec = tie.close (tie.spec
+    returns returns_2 returns_3)

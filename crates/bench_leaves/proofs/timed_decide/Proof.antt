@@ -34,24 +34,24 @@ whole : (n : ℕ) (r : Rate) (d : ℕ) (i q : List Float) → r ≡ rate_of n �
 unfolding decided_soft
 whole n r d i q e c h t = t ∙ rw (← e, c, le-leb (symbol_chips r) (length (soft_recording i q)) h)
 
-returns : tie.Need-returns
-returns c = no_code _ _ _ (sym c.before.is_code_lem.ensures ∙ not-true _ c.if1.true)
+returns : tie.Need-returns-then-not-is_code
+returns c = no_code _ _ _ (sym c.is_code.ensures ∙ not-true _ c.if-not-is_code.true)
 
-returns_2 : tie.Need-returns-2
+returns_2 : tie.Need-returns-then-chip_count-symbol_chips
 returns_2 c =
-    let e = ap symbol_chips c.before.before.before.rate_of_lem.ensures in
+    let e = ap symbol_chips c.rate_of-r.ensures in
     too_short _ _ _ (omega arith)
 
-returns_3 : tie.Need-returns-3
+returns_3 : tie.Need-returns
 returns_3 c =
-    let rated = c.before.before.before.before in
-    whole _ _ _ _ _ rated.rate_of_lem.ensures
-    (sym rated.before.before.is_code_lem.ensures ∙ not-false _ rated.before.if1.false) (omega arith)
-    c.first-word.ensures
+    whole _ _ _ _ _ c.rate_of-r.ensures
+    (sym c.is_code.ensures ∙ not-false _ c.if-not-is_code.false) (omega arith)
+    c.first_word.ensures
 
 pub timed_decide_spec : {M : Type 1} → statement M
 timed_decide_spec =
     tie.close
-    (tie.spec (λ c. search rules) (λ c. search rules) (λ c. search rules) (λ c. search rules) (λ c. search rules)
+    (tie.spec
+    (λ c. search rules) (λ c. search rules) (λ c. search rules) (λ c. search rules) (λ c. search rules)
     (λ c. search rules) (λ c κs. search rules) returns (λ c κs. search rules) (λ c κs. search rules)
     (λ c κs. search rules) returns_2 (λ c κs. search rules) returns_3)

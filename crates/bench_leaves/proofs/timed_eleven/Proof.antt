@@ -30,20 +30,19 @@ module _ (n : ℕ) (octets : List ℕ) (bytes : List ℤ) (i q : List Float) whe
     unfolding decided_last
     whole d l t = t ∙ rw (← e, le-leb n 2 h, le-leb 512 (length (recording_of rec octets bytes i q)) l)
 
-returns : tie.Need-returns
-returns c = no_recorder _ _ _ _ _ c.if1.true
+returns : tie.Need-returns-then-recorder-gt2
+returns c = no_recorder _ _ _ _ _ c.if-recorder-gt2.true
 
-returns_2 : tie.Need-returns-2
+returns_2 : tie.Need-returns-then-chip_count-lt512
 returns_2 c =
-    let told = c.before.before in
-    too_short _ _ _ _ _ _ told.recorder-of.ensures told.before.if1.false (omega arith)
+    too_short _ _ _ _ _ _ c.recorder_of-rec.ensures c.if-recorder-gt2.false (omega arith)
 
-returns_3 : tie.Need-returns-3
+returns_3 : tie.Need-returns
 returns_3 c =
-    let told = c.before.before.before in
-    whole _ _ _ _ _ _ told.recorder-of.ensures told.before.if1.false _ (omega arith) c.last_word.ensures
+    whole _ _ _ _ _ _ c.recorder_of-rec.ensures c.if-recorder-gt2.false _ (omega arith) c.last_word.ensures
 
 pub timed_eleven_spec : {M : Type 1} → statement M
 timed_eleven_spec =
     tie.close
-    (tie.spec returns (λ c κs. search rules) (λ c κs. search rules) returns_2 (λ c κs. search rules) returns_3)
+    (tie.spec
+    returns (λ c κs. search rules) (λ c κs. search rules) returns_2 (λ c κs. search rules) returns_3)

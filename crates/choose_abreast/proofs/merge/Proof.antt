@@ -12,33 +12,32 @@ use Rattle.choose_abreast.proofs.Rows.{Filling, filling_none, filling_two, halve
 use Rattle.choose_abreast.proofs.merge.Statement.{statement}
 use Rattle.choose_abreast.proofs.merge.Tie as tie
 
-abbrev invariant_loop : tie.invariant-loop
+abbrev invariant_loop : tie.invariant-loop-k
 invariant_loop from to₀ half k₀ to k = Filling (halves from) (length from) to (2 * k)
 
-abbrev decreases_loop : tie.decreases-loop
+abbrev decreases_loop : tie.decreases-loop-k
 decreases_loop from to₀ half k₀ to k = half - k
 
-set_second : tie.Need-slice-set-from-to-2 invariant_loop decreases_loop
-set_second c = rw length-set (omega (arith, c.before.before.before.loop.invariant.long))
+set_second : tie.Need-bounds-to-k-in-loop-k invariant_loop decreases_loop
+set_second c = rw length-set (omega (arith, c.loop-k.invariant.long))
 
-loop_again : tie.Need-loop-preserved invariant_loop decreases_loop
+loop_again : tie.Need-loop-k-preserved invariant_loop decreases_loop
 loop_again c =
-    let turn = c.before.before.before in
-    let from = turn.before.args.from.now in
-    let k = turn.loop.k in
+    let from = c.args.from.now in
+    let k = c.loop-k.k in
     let first : to_z w8 (of_z w8 (get_or from k (pos 0))) ≡ get_or from k (pos 0) = search rules in
     let other = get_or from (length from / 2 + k) (pos 0) in
     let second : to_z w8 (of_z w8 other) ≡ other = search rules in
-    filling_two from k _ _ (omega arith) first second turn.loop.invariant
+    filling_two from k _ _ (omega arith) first second c.loop-k.invariant
 
 returns : tie.Need-returns invariant_loop decreases_loop
 returns c =
-    let s = c.before.before in
-    merged c.before.loop.k c.before.loop.invariant (omega (arith, s.requires.0, s.requires.1)) c.loop-test.false
+    merged c.loop-k.k c.loop-k.invariant (omega (arith, c.requires.0, c.requires.1)) c.loop-k-test.false
 
 pub merge_spec : {M : Type 1} → statement M
 merge_spec =
     tie.close
-    (tie.spec invariant_loop decreases_loop (λ c. filling_none _ (sym c.requires.0)) (λ c. omega arith) (λ c. omega arith)
-    (λ c. omega (arith, c.before.before.loop.invariant.long)) (λ c. omega arith) (λ c. omega arith) (λ c. omega arith)
+    (tie.spec
+    invariant_loop decreases_loop (λ c. filling_none _ (sym c.requires.0)) (λ c. omega arith) (λ c. omega arith)
+    (λ c. omega (arith, c.loop-k.invariant.long)) (λ c. omega arith) (λ c. omega arith) (λ c. omega arith)
     (λ c. omega arith) set_second (λ c. omega arith) (λ c. omega arith) loop_again (λ c. search rules) returns)

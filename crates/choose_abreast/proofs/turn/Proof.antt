@@ -7,15 +7,12 @@ use Rattle.choose_abreast.proofs.turn.Tie as tie
 
 returns : tie.Need-returns
 returns c =
-    let fourth = c.before in
-    let third = fourth.before.before.before.before in
-    let second = third.before.before.before.before in
-    let first = second.before.before.before.before in
-    rows_turned first.before.before.before.requires.1 first.merge.ensures second.merge2.ensures
-    third.merge3.ensures fourth.merge4.ensures
+    rows_turned c.requires.1 c.merge.ensures c.merge-2.ensures
+    c.merge-3.ensures c.merge-4.ensures
 
 pub turn_spec : {M : Type 1} → statement M
 turn_spec =
     tie.close
-    (tie.spec (λ c κs. search rules) (λ c κs. search rules) (λ c κs. search rules) (λ c κs. search rules)
-    (λ c. search rules) (λ c. search rules) returns)
+    (tie.spec
+    (λ c κs. search rules) (λ c κs. search rules) (λ c κs. search rules) (λ c κs. search rules) (λ c. search rules)
+    (λ c. search rules) returns)

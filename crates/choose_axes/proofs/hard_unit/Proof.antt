@@ -17,21 +17,21 @@ few : (x : Axis) → phase_on x ≤ 1
 few I = lit≤ tt
 few Q = lit≤ tt
 
-sub_result : tie.Need-overflow-sub-result
+sub_result : tie.Need-overflow_sub-result
 sub_result c =
-    let octet = c.before.octet-of.result in
-    unit_fits (eqb octet c.phase-on.result) (eqb octet (c.phase-on.result + 2))
+    let octet = c.octet_of-x.result in
+    unit_fits (eqb octet c.phase_on-plus.result) (eqb octet (c.phase_on-plus.result + 2))
 
 returns : tie.Need-returns
 returns c =
-    let x = c.before.before.args.axis in
-    ap (λ (p : ℕ). made c.before.octet-of.result p) c.phase-on.ensures
-    ∙ unit_made x c.before.octet-of.result
-    ∙ ap (λ (p : ℕ). along x (full_chip 1 p)) c.before.octet-of.ensures
+    let x = c.args.axis in
+    ap (λ (p : ℕ). made c.octet_of-x.result p) c.phase_on-plus.ensures
+    ∙ unit_made x c.octet_of-x.result
+    ∙ ap (λ (p : ℕ). along x (full_chip 1 p)) c.octet_of-x.ensures
 
 pub hard_unit_spec : {M : Type 1} → statement M
 hard_unit_spec =
     tie.close
-    (tie.spec (λ c κs. search rules) (λ c κs. search rules) (λ c. search rules)
-    (λ c. omega (arith, c.phase-on.ensures, few c.before.before.args.axis)) (λ c. search rules)
-    sub_result returns)
+    (tie.spec
+    (λ c κs. search rules) (λ c κs. search rules) (λ c. search rules)
+    (λ c. omega (arith, c.phase_on-plus.ensures, few c.args.axis)) (λ c. search rules) sub_result returns)

@@ -13,26 +13,25 @@ use Rattle.choose_axes.specs.Axes.{along, unit_of}
 use Rattle.choose_axes.proofs.hard_units11.Statement.{statement}
 use Rattle.choose_axes.proofs.hard_units11.Tie as tie
 
-abbrev invariant_loop : tie.invariant-loop
+abbrev invariant_loop : tie.invariant-loop-k
 invariant_loop axis chips out₀ k₀ out k = Filled (λ j. along axis (unit_of (get_or chips j Lost))) 11 out k
 
-abbrev decreases_loop : tie.decreases-loop
+abbrev decreases_loop : tie.decreases-loop-k
 decreases_loop axis chips out₀ k₀ out k = 11 - k
 
-loop_again : tie.Need-loop-preserved invariant_loop decreases_loop
+loop_again : tie.Need-loop-k-preserved invariant_loop decreases_loop
 loop_again c =
-    let read : to_z w8 (of_z w8 c.hard-unit.result) ≡ c.hard-unit.result = search rules in
-    filled_more _ c.before.before.before.loop.invariant (search rules) (read ∙ c.hard-unit.ensures)
+    let read : to_z w8 (of_z w8 c.hard_unit.result) ≡ c.hard_unit.result = search rules in
+    filled_more _ c.loop-k.invariant (search rules) (read ∙ c.hard_unit.ensures)
 
 returns : tie.Need-returns invariant_loop decreases_loop
 returns c =
-    let start = c.before.before in
-    filled_all c.before.loop.invariant c.loop-test.false
-    ∙ sym (map_tabulate (λ d. along start.args.axis (unit_of d)) start.args.t1 11 Lost (search rules))
+    filled_all c.loop-k.invariant c.loop-k-test.false
+    ∙ sym (map_tabulate (λ d. along c.args.axis (unit_of d)) c.args.t1 11 Lost (search rules))
 
 pub hard_units11_spec : {M : Type 1} → statement M
 hard_units11_spec =
     tie.close
-    (tie.spec invariant_loop decreases_loop (λ c. filled_none _ 11 _ refl) (λ c. search rules) (λ c. search rules)
-    (λ c κs. search rules) (λ c. search rules) (λ c. search rules) (λ c. search rules)
-    loop_again returns)
+    (tie.spec
+    invariant_loop decreases_loop (λ c. filled_none _ 11 _ refl) (λ c. search rules) (λ c. search rules)
+    (λ c κs. search rules) (λ c. search rules) (λ c. search rules) (λ c. search rules) loop_again returns)

@@ -6,11 +6,12 @@ use Rattle.choose_axes.specs.Axes.{phase_on}
 use Rattle.choose_axes.proofs.phase_on.Statement.{statement}
 use Rattle.choose_axes.proofs.phase_on.Tie as tie
 
-returns : tie.Need-returns
-returns c = sym (ap phase_on c.enum_told.given.1)
+returns : tie.Need-returns-in-I
+returns c = sym (ap phase_on c.in-I.is)
 
-returns_2 : tie.Need-returns-2
-returns_2 c = sym (ap phase_on c.enum-told2.given.1)
+returns_2 : tie.Need-returns-in-Q
+returns_2 c = sym (ap phase_on c.in-Q.is)
 
 pub phase_on_spec : {M : Type 1} → statement M
-phase_on_spec = tie.close (tie.spec (λ c. search rules) (λ c. search rules) returns returns_2)
+phase_on_spec = tie.close (tie.spec
+    (λ c. search rules) (λ c. search rules) returns returns_2)

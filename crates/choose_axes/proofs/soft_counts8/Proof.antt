@@ -14,29 +14,29 @@ use Rattle.choose_axes.specs.Axes.{along}
 use Rattle.choose_axes.proofs.soft_counts8.Statement.{statement}
 use Rattle.choose_axes.proofs.soft_counts8.Tie as tie
 
-abbrev invariant_loop : tie.invariant-loop
+abbrev invariant_loop : tie.invariant-loop-k
 invariant_loop axis chips out₀ k₀ out k = Filled (λ j. along axis (counts_of (get_or chips j Lost))) 8 out k
 
-abbrev decreases_loop : tie.decreases-loop
+abbrev decreases_loop : tie.decreases-loop-k
 decreases_loop axis chips out₀ k₀ out k = 8 - k
 
-count_requires : tie.Need-soft-count-requires invariant_loop decreases_loop
-count_requires c κs = c.before.before.before.requires.at c.before.before.loop.k (search rules)
+count_requires : tie.Need-soft_count-requires invariant_loop decreases_loop
+count_requires c κs = c.requires.at c.loop-k.k (search rules)
 
-loop_again : tie.Need-loop-preserved invariant_loop decreases_loop
+loop_again : tie.Need-loop-k-preserved invariant_loop decreases_loop
 loop_again c =
-    let read : to_z w32 (of_z w32 c.soft-count.result) ≡ c.soft-count.result = search rules in
-    filled_more _ c.before.before.before.loop.invariant (search rules) (read ∙ c.soft-count.ensures)
+    let read : to_z w32 (of_z w32 c.soft_count.result) ≡ c.soft_count.result = search rules in
+    filled_more _ c.loop-k.invariant (search rules) (read ∙ c.soft_count.ensures)
 
 returns : tie.Need-returns invariant_loop decreases_loop
 returns c =
-    let start = c.before.before in
-    filled_all c.before.loop.invariant c.loop-test.false
-    ∙ sym (map_tabulate (λ d. along start.args.axis (counts_of d)) start.args.t1 8 Lost (search rules))
+    filled_all c.loop-k.invariant c.loop-k-test.false
+    ∙ sym (map_tabulate (λ d. along c.args.axis (counts_of d)) c.args.t1 8 Lost (search rules))
 
 pub soft_counts8_spec : {M : Type 1} → statement M
 soft_counts8_spec =
     tie.close
-    (tie.spec invariant_loop decreases_loop (λ c. filled_none _ 8 _ refl) (λ c. search rules) (λ c. search rules)
-    count_requires (λ c. search rules) (λ c. search rules) (λ c. search rules) (λ c. search rules)
-    loop_again returns)
+    (tie.spec
+    invariant_loop decreases_loop (λ c. filled_none _ 8 _ refl) (λ c. search rules) (λ c. search rules)
+    count_requires (λ c. search rules) (λ c. search rules) (λ c. search rules) (λ c. search rules) loop_again
+    returns)

@@ -14,16 +14,16 @@ use Rattle.choose_by_bytes.proofs.barker.Statement.{statement}
 use Rattle.choose_by_bytes.proofs.barker.Tie as tie
 
 -- both sums, as they are read back
-sum_i : (c : tie.After-by-signs2) → to_z w16 (of_z w16 c.before.by-signs.result)
-    ≡ by_signs c.before.before.args.i
-sum_i c = search rules ∙ c.before.by-signs.ensures
+sum_i : (c : tie.After-by_signs-2) → to_z w16 (of_z w16 c.by_signs.result)
+    ≡ by_signs c.args.i
+sum_i c = search rules ∙ c.by_signs.ensures
 
-sum_q : (c : tie.After-by-signs2) → to_z w16 (of_z w16 c.by-signs2.result) ≡ by_signs c.before.before.args.q
-sum_q c = search rules ∙ c.by-signs2.ensures
+sum_q : (c : tie.After-by_signs-2) → to_z w16 (of_z w16 c.by_signs-2.result) ≡ by_signs c.args.q
+sum_q c = search rules ∙ c.by_signs-2.ensures
 
 choose_requires : tie.Need-choose-requires
 choose_requires c κs =
-    let pre = c.before.before.requires in
+    let pre = c.requires in
     (rw (sum_i c) (by_signs_within 128 _ pre.0), rw (sum_q c) (by_signs_within 128 _ pre.1))
 
 returns : tie.Need-returns
@@ -32,4 +32,5 @@ returns c =
     (λ j. as_chip (sum_i c.before j) (sum_q c.before j)) c.choose.ensures
 
 pub barker_spec : {M : Type 1} → statement M
-barker_spec = tie.close (tie.spec (λ c κs. search rules) (λ c κs. search rules) choose_requires returns)
+barker_spec = tie.close (tie.spec
+    (λ c κs. search rules) (λ c κs. search rules) choose_requires returns)

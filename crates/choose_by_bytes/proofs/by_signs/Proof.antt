@@ -11,38 +11,36 @@ use Rattle.choose_sums.proofs.Signs.{Summed, summed_none, plus_fits, plus_sum, m
 use Rattle.choose_by_bytes.proofs.by_signs.Statement.{statement}
 use Rattle.choose_by_bytes.proofs.by_signs.Tie as tie
 
-abbrev invariant_loop : tie.invariant-loop
+abbrev invariant_loop : tie.invariant-loop-k
 invariant_loop c turns x₀ k₀ x k = Summed w16 128 c x k
 
-abbrev decreases_loop : tie.decreases-loop
+abbrev decreases_loop : tie.decreases-loop-k
 decreases_loop c turns x₀ k₀ x k = 11 - k
 
-add_x : tie.Need-overflow-add-x invariant_loop decreases_loop
+add_x : tie.Need-overflow_add-x invariant_loop decreases_loop
 add_x c =
-    let a = c.before.before.before in
-    let l : length a.before.args.t1 ≡ 11 = search rules in
-    plus_fits (lit< tt) a.loop.invariant a.before.requires l (search rules) c.before.if1.true
+    let l : length c.args.t1 ≡ 11 = search rules in
+    plus_fits (lit< tt) c.loop-k.invariant c.requires l (search rules) c.if-turns-k-eq0.true
 
-sub_x : tie.Need-overflow-sub-x invariant_loop decreases_loop
+sub_x : tie.Need-overflow_sub-x invariant_loop decreases_loop
 sub_x c =
-    let a = c.before.before.before in
-    let l : length a.before.args.t1 ≡ 11 = search rules in
-    minus_fits (lit< tt) a.loop.invariant a.before.requires l (search rules) c.before.if1.false
+    let l : length c.args.t1 ≡ 11 = search rules in
+    minus_fits (lit< tt) c.loop-k.invariant c.requires l (search rules) c.if-turns-k-eq0.false
 
-loop_again : tie.Need-loop-preserved invariant_loop decreases_loop
+loop_again : tie.Need-loop-k-preserved invariant_loop decreases_loop
 loop_again c =
-    let a = c.before.before in
-    let l : length a.before.args.t1 ≡ 11 = search rules in
-    ⊎_elim (λ w. rw w.2 (plus_sum (lit< tt) a.loop.invariant a.before.requires l (search rules) w.0.taken))
-    (λ w. rw w.2 (minus_sum (lit< tt) a.loop.invariant a.before.requires l (search rules) w.0.left))
-    c.if1.branch
+    let l : length c.args.t1 ≡ 11 = search rules in
+    ⊎_elim (λ w. rw w.2 (plus_sum (lit< tt) c.loop-k.invariant c.requires l (search rules) w.0.taken))
+    (λ w. rw w.2 (minus_sum (lit< tt) c.loop-k.invariant c.requires l (search rules) w.0.left))
+    c.if-turns-k-eq0.branch
 
 returns : tie.Need-returns invariant_loop decreases_loop
-returns c = summed_all c.before.loop.invariant c.loop-test.false
+returns c = summed_all c.loop-k.invariant c.loop-k-test.false
 
 pub by_signs_spec : {M : Type 1} → statement M
 by_signs_spec =
     tie.close
-    (tie.spec invariant_loop decreases_loop (λ c. summed_none w16 128 _ refl) (λ c. search rules) (λ c. search rules)
-    (λ c. search rules) add_x
-    (λ c. search rules) (λ c. search rules) sub_x (λ c. search rules) (λ c. search rules) loop_again returns)
+    (tie.spec
+    invariant_loop decreases_loop (λ c. summed_none w16 128 _ refl) (λ c. search rules) (λ c. search rules)
+    (λ c. search rules) add_x (λ c. search rules) (λ c. search rules) sub_x (λ c. search rules) (λ c. search rules)
+    loop_again returns)

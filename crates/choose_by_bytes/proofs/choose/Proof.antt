@@ -15,7 +15,7 @@ use Rattle.choose_sums.proofs.KeyTops.{holds_two, holds_order}
 use Rattle.choose_by_bytes.proofs.choose.Statement.{statement}
 use Rattle.choose_by_bytes.proofs.choose.Tie as tie
 
-module _ (c : tie.After-two-keys) where
+module _ (c : tie.After-two_keys-top) where
   abbrev i : ℤ
   i = c.before.args.i
 
@@ -32,21 +32,21 @@ module _ (c : tie.After-two-keys) where
   top = holds_two (sum_key i q) 0 (λ j. pos (key_of 2 0 (score i c.before.requires.0 j)))
       (λ j. pos (key_of 2 1 (score q c.before.requires.1 j))) c.two_keys.ensures.0 c.two_keys.ensures.1
 
-number_of_requires : tie.Need-number-of-requires
-number_of_requires c κs = (lit< tt, lit≤ tt, rw (read c.before) (holds_order (top c.before)).0)
+number_of_requires : tie.Need-number_of-requires
+number_of_requires c κs = (lit< tt, lit≤ tt, rw (read c) (holds_order (top c)).0)
 
-lead_of_requires : tie.Need-lead-of-requires
+lead_of_requires : tie.Need-lead_of-requires
 lead_of_requires c κs =
-    let order = holds_order (top c.before.before) in
+    let order = holds_order (top c) in
     (lit< tt, lit≤ tt, order.0, order.1, order.2)
 
 returns : tie.Need-returns
 returns c =
-    let m = c.before.before.before in
-    let chosen = phase_held (i m) (q m) (top m) in (
-      c.before.number_of.ensures ∙ ap (λ (z : ℤ). 3 - nat_abs z % 4) (read m) ∙ chosen.0,
-      c.lead-of.ensures ∙ chosen.1,
+    let chosen = phase_held (i c) (q c) (top c) in (
+      c.number_of.ensures ∙ ap (λ (z : ℤ). 3 - nat_abs z % 4) (read c) ∙ chosen.0,
+      c.lead_of.ensures ∙ chosen.1,
     )
 
 pub choose_spec : {M : Type 1} → statement M
-choose_spec = tie.close (tie.spec (λ c κs. search rules) number_of_requires lead_of_requires returns)
+choose_spec = tie.close (tie.spec
+    (λ c κs. search rules) number_of_requires lead_of_requires returns)

@@ -10,17 +10,16 @@ of : (c : tie.Start) → Sums w16 c.args.t1 c.args.t2
 of c = sums w16 _ _ 128 (lit< tt) c.requires.0 c.requires.1
 
 -- where all chips have been read
-abbrev from : tie.After-d2 → tie.Start
+abbrev from : tie.After-d-2-1 → tie.Start
 from c = c.before.before.before.before.before.before.before.before
 
 pub crossed_spec : {M : Type 1} → statement M
 crossed_spec =
     tie.close
     (tie.spec
-    (λ c. search rules) (λ c. search rules) (λ c. (of c.before.before).a_fits)
-    (λ c. search rules) (λ c. search rules) (λ c. (of c.before.before.before.before).b_fits)
-    (λ c. search rules) (λ c. search rules) (λ c. (of c.before.before.before.before.before.before).c_fits)
-    (λ c. search rules) (λ c. search rules) (λ c. (of (from c)).d_fits)
-    (λ c. (of (from c)).u_fits) (λ c. (of (from c)).x_fits) (λ c. (of (from c)).v_fits) (λ c. (of (from c)).y_fits)
-    (λ c. (of (from c)).fits0) (λ c. (of (from c)).fits1) (λ c. (of (from c)).fits2) (λ c. (of (from c)).fits3)
-    (λ c. (of (from c)).are))
+    (λ c. search rules) (λ c. search rules) (λ c. (of c.before.before).a_fits) (λ c. search rules)
+    (λ c. search rules) (λ c. (of c.before.before.before.before).b_fits) (λ c. search rules) (λ c. search rules)
+    (λ c. (of c.before.before.before.before.before.before).c_fits) (λ c. search rules) (λ c. search rules)
+    (λ c. (of (from c)).d_fits) (λ c. (of (from c)).u_fits) (λ c. (of (from c)).x_fits) (λ c. (of (from c)).v_fits)
+    (λ c. (of (from c)).y_fits) (λ c. (of (from c)).fits0) (λ c. (of (from c)).fits1) (λ c. (of (from c)).fits2)
+    (λ c. (of (from c)).fits3) (λ c. (of (from c)).are))

@@ -13,31 +13,30 @@ use Rattle.choose_by_bytes.proofs.key.Tie as tie
 room : (c : tie.Start) → 4 * c.args.w * 1408 + 4 * c.args.w < 2 ^ hbits w16
 room c = omega (arith, c.requires.0)
 
-mul_abs : tie.Need-overflow-mul-abs
+mul_abs : tie.Need-overflow_mul-m
 mul_abs c = words_fit w16 1408 _ _ c.args.s (lit< tt) (room c) c.requires.1 c.requires.2
 
-mul_abs_2 : tie.Need-overflow-mul-abs-2
+mul_abs_2 : tie.Need-overflow_mul-m-2
 mul_abs_2 c = product_fits w16 1408 _ _ _ (lit< tt) (room c) c.requires.1 c.requires.2
 
-add_abs : tie.Need-overflow-add-abs
+add_abs : tie.Need-overflow_add-m
 add_abs c = raised_fits w16 1408 _ _ _ (lit< tt) (room c) c.requires.1 c.requires.2
 
 abs_requires : tie.Need-abs-requires
 abs_requires c κs =
     raised_within w16 1408 _ _ _ (lit< tt) (room c) c.requires.1 c.requires.2 (omega (arith, c.requires.0))
 
-add_result : tie.Need-overflow-add-result
+add_result : tie.Need-overflow_add-result
 add_result c =
-    let s = c.before in
-    key_fits w16 1408 _ _ _ (lit< tt) (room s) s.requires.1 s.requires.2 c.abs.ensures
+    key_fits w16 1408 _ _ _ (lit< tt) (room c.before) c.requires.1 c.requires.2 c.abs.ensures
 
 returns : tie.Need-returns
 returns c =
-    let s = c.before in
-    key_is w16 1408 _ _ _ (lit< tt) (room s) s.requires.1 s.requires.2 c.abs.ensures
+    key_is w16 1408 _ _ _ (lit< tt) (room c.before) c.requires.1 c.requires.2 c.abs.ensures
 
 pub key_spec : {M : Type 1} → statement M
 key_spec =
     tie.close
-    (tie.spec (λ c. search rules) mul_abs mul_abs_2 add_abs abs_requires (λ c. omega arith) (λ c. omega arith)
+    (tie.spec
+    (λ c. search rules) mul_abs mul_abs_2 add_abs abs_requires (λ c. omega arith) (λ c. omega arith)
     (λ c. omega arith) (λ c. search rules) add_result returns)

@@ -23,29 +23,26 @@ fits : (z : ℤ) → SFits w16 z → T (non_neg z) → Fits w16 (nat_abs z)
 fits (pos n) f t = record { fits = omega (arith, f.sfits) }
 fits (negsuc n) f t = absurd t
 
-cast_result : tie.Need-overflow-cast-result
+cast_result : tie.Need-overflow_cast-result
 cast_result c =
-    let s = c.before.before in
-    rw (read_first s) (s.requires.2, fits s.args.keys.first (search rules) s.requires.2)
+    rw (read_first c.before.before) (c.requires.2, fits c.args.keys.first (search rules) c.requires.2)
 
-cast_result_2 : tie.Need-overflow-cast-result-2
+cast_result_2 : tie.Need-overflow_cast-result-2
 cast_result_2 c =
-    let s = c.before.before.before.before in
-    rw (read_second s) (s.requires.3, fits s.args.keys.second (search rules) s.requires.3)
+    rw (read_second c.before.before.before.before) (c.requires.3, fits c.args.keys.second (search rules) c.requires.3)
 
-sub_result : tie.Need-overflow-sub-result
+sub_result : tie.Need-overflow_sub-result
 sub_result c =
-    let s = c.before.before.before.before in
-    rw (read_first s, read_second s) (quotients (4 * s.args.w) (omega (arith, s.requires.0)) s.requires.4)
+    rw (read_first c.before.before.before.before, read_second c.before.before.before.before) (quotients (4 * c.args.w) (omega (arith, c.requires.0)) c.requires.4)
 
 returns : tie.Need-returns
 returns c =
-    let s = c.before.before.before.before in
-    let m = 4 * s.args.w in
-    λ i. nat_abs (read_first s i) / m - nat_abs (read_second s i) / m
+    let m = 4 * c.args.w in
+    λ i. nat_abs (read_first c.before.before.before.before i) / m - nat_abs (read_second c.before.before.before.before i) / m
 
 pub lead_of_spec : {M : Type 1} → statement M
 lead_of_spec =
     tie.close
-    (tie.spec (λ c. omega (arith, c.requires.1)) cast_result (λ c. omega (arith, c.before.before.requires.0)) cast_result_2
-    (λ c. omega (arith, c.before.before.before.before.requires.0)) sub_result returns)
+    (tie.spec
+    (λ c. omega (arith, c.requires.1)) cast_result (λ c. omega (arith, c.requires.0)) cast_result_2
+    (λ c. omega (arith, c.requires.0)) sub_result returns)

@@ -8,19 +8,20 @@ use borrow.Author.Rules.{rules}
 use Rattle.choose_by_bytes.proofs.max.Statement.{statement}
 use Rattle.choose_by_bytes.proofs.max.Tie as tie
 
-returns : tie.Need-returns
+returns : tie.Need-returns-then-a-b
 returns c =
-    let s = c.before.args in
+    let s = c.args in
     let a : to_z w16 (of_z w16 s.a) ≡ s.a = search rules in
     let b : to_z w16 (of_z w16 s.b) ≡ s.b = search rules in
-    b ∙ sym (ap (λ (t : Bool). cond t s.b s.a) (rw (a, b) at c.if1.true))
+    b ∙ sym (ap (λ (t : Bool). cond t s.b s.a) (rw (a, b) at c.if-a-b.true))
 
-returns_2 : tie.Need-returns-2
+returns_2 : tie.Need-returns-else-a-b
 returns_2 c =
-    let s = c.before.args in
+    let s = c.args in
     let a : to_z w16 (of_z w16 s.a) ≡ s.a = search rules in
     let b : to_z w16 (of_z w16 s.b) ≡ s.b = search rules in
-    a ∙ sym (ap (λ (t : Bool). cond t s.b s.a) (rw (a, b) at c.if1.false))
+    a ∙ sym (ap (λ (t : Bool). cond t s.b s.a) (rw (a, b) at c.if-a-b.false))
 
 pub max_spec : {M : Type 1} → statement M
-max_spec = tie.close (tie.spec returns returns_2)
+max_spec = tie.close (tie.spec
+    returns returns_2)

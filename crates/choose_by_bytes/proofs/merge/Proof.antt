@@ -10,27 +10,24 @@ use Rattle.choose_by_bytes.proofs.merge.Tie as tie
 
 returns : tie.Need-returns
 returns c =
-    let m2 = c.before in
-    let m1 = m2.before.before.before in
-    let n1 = m1.before.before.before in
-    let s = n1.before.before.before in
-    let af : to_z w16 (of_z w16 s.args.a.first) ≡ s.args.a.first = search rules in
-    let bf : to_z w16 (of_z w16 s.args.b.first) ≡ s.args.b.first = search rules in
-    let an : to_z w16 (of_z w16 s.args.a.second) ≡ s.args.a.second = search rules in
-    let bn : to_z w16 (of_z w16 s.args.b.second) ≡ s.args.b.second = search rules in
-    let low : to_z w16 (of_z w16 n1.min.result) ≡ n1.min.result = search rules in
-    let other : to_z w16 (of_z w16 m1.max.result) ≡ m1.max.result = search rules in
-    let top : to_z w16 (of_z w16 m2.max2.result) ≡ m2.max2.result = search rules in
-    let next : to_z w16 (of_z w16 c.max3.result) ≡ c.max3.result = search rules in
-    let is_low : n1.min.result ≡ smaller s.args.a.first s.args.b.first =
-    rw (af, bf) at n1.min.ensures in
-    let is_other : m1.max.result ≡ larger s.args.a.second s.args.b.second =
-    rw (an, bn) at m1.max.ensures in (
-      top ∙ rw (af, bf) at m2.max2.ensures,
-      next ∙ c.max3.ensures ∙ (λ i. larger ((low ∙ is_low) i) ((other ∙ is_other) i)),
+    let af : to_z w16 (of_z w16 c.args.a.first) ≡ c.args.a.first = search rules in
+    let bf : to_z w16 (of_z w16 c.args.b.first) ≡ c.args.b.first = search rules in
+    let an : to_z w16 (of_z w16 c.args.a.second) ≡ c.args.a.second = search rules in
+    let bn : to_z w16 (of_z w16 c.args.b.second) ≡ c.args.b.second = search rules in
+    let low : to_z w16 (of_z w16 c.min-low.result) ≡ c.min-low.result = search rules in
+    let other : to_z w16 (of_z w16 c.max-other.result) ≡ c.max-other.result = search rules in
+    let top : to_z w16 (of_z w16 c.max.result) ≡ c.max.result = search rules in
+    let next : to_z w16 (of_z w16 c.max-2.result) ≡ c.max-2.result = search rules in
+    let is_low : c.min-low.result ≡ smaller c.args.a.first c.args.b.first =
+    rw (af, bf) at c.min-low.ensures in
+    let is_other : c.max-other.result ≡ larger c.args.a.second c.args.b.second =
+    rw (an, bn) at c.max-other.ensures in (
+      top ∙ rw (af, bf) at c.max.ensures,
+      next ∙ c.max-2.ensures ∙ (λ i. larger ((low ∙ is_low) i) ((other ∙ is_other) i)),
     )
 
 pub merge_spec : {M : Type 1} → statement M
 merge_spec =
     tie.close
-    (tie.spec (λ c κs. search rules) (λ c κs. search rules) (λ c κs. search rules) (λ c κs. search rules) returns)
+    (tie.spec
+    (λ c κs. search rules) (λ c κs. search rules) (λ c κs. search rules) (λ c κs. search rules) returns)

@@ -20,7 +20,7 @@ fits : (z : ℤ) → SFits w16 z → T (non_neg z) → Fits w16 (nat_abs z)
 fits (pos n) f t = record { fits = omega (arith, f.sfits) }
 fits (negsuc n) f t = absurd t
 
-cast_result : tie.Need-overflow-cast-result
+cast_result : tie.Need-overflow_cast-result
 cast_result c = rw (read c) (c.requires.2, fits c.args.key (search rules) c.requires.2)
 
 returns : tie.Need-returns
@@ -31,11 +31,8 @@ returns c =
 pub number_of_spec : {M : Type 1} → statement M
 number_of_spec =
     tie.close
-    (tie.spec (λ c. omega (arith, c.requires.1)) (λ c. omega (arith, c.requires.0)) cast_result
+    (tie.spec
+    (λ c. omega (arith, c.requires.1)) (λ c. omega (arith, c.requires.0)) cast_result
     (λ c. omega (arith, c.requires.0))
-    (λ c. omega (
-      arith,
-      mod-lt (nat_abs (to_z w16 (of_z w16 c.args.key))) {m = 4 * c.args.w}
-          (omega (arith, c.requires.0)),
-    ))
+    (λ c. omega (arith, mod-lt (nat_abs (to_z w16 (of_z w16 c.args.key))) {m = 4 * c.args.w} (omega (arith, c.requires.0))))
     (λ c. omega (arith, c.requires.1)) returns)

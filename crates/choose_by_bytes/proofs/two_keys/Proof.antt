@@ -21,32 +21,30 @@ score s h = small w16 1408 (lit< tt) s h
 room : (c : tie.Start) → 4 * c.args.w * 1408 + 4 * c.args.w < 2 ^ hbits w16
 room c = omega (arith, c.requires.0)
 
-key_requires : tie.Need-key-requires
+key_requires : tie.Need-key-a-requires
 key_requires c κs = (c.requires.0, rw (score _ c.requires.1) c.requires.1, omega (arith, c.requires.3))
 
-key_requires_2 : tie.Need-key-requires-2
+key_requires_2 : tie.Need-key-b-requires
 key_requires_2 c κs =
-    let start = c.before in
-    (start.requires.0, rw (score _ start.requires.2) start.requires.2, start.requires.3)
+    (c.requires.0, rw (score _ c.requires.2) c.requires.2, c.requires.3)
 
 returns : tie.Need-returns
 returns c =
-    let top = c.before in
-    let s = top.before.before.before in
-    let w = s.args.w in
-    let n = s.args.n in
-    let high : to_z w16 (of_z w16 top.max.result) ≡ top.max.result = search rules in
+    let w = c.args.w in
+    let n = c.args.n in
+    let high : to_z w16 (of_z w16 c.max.result) ≡ c.max.result = search rules in
     let low : to_z w16 (of_z w16 c.min.result) ≡ c.min.result = search rules in
-    let first = key_read w16 1408 w n s.args.s (lit< tt) (room s) s.requires.1 (omega (arith, s.requires.3))
-    top.before.before.key.ensures in
-    let second = key_read w16 1408 w (n + 1) s.args.t (lit< tt) (room s) s.requires.2 s.requires.3
-    top.before.key2.ensures in (
-      high ∙ top.max.ensures ∙ (λ i. larger (first i) (second i)),
+    let first = key_read w16 1408 w n c.args.s (lit< tt) (room c.before.before.before.before) c.requires.1 (omega (arith, c.requires.3))
+    c.key-a.ensures in
+    let second = key_read w16 1408 w (n + 1) c.args.t (lit< tt) (room c.before.before.before.before) c.requires.2 c.requires.3
+    c.key-b.ensures in (
+      high ∙ c.max.ensures ∙ (λ i. larger (first i) (second i)),
       low ∙ c.min.ensures ∙ (λ i. smaller (first i) (second i)),
     )
 
 pub two_keys_spec : {M : Type 1} → statement M
 two_keys_spec =
     tie.close
-    (tie.spec key_requires (λ c. omega (arith, c.before.requires.0, c.before.requires.3)) key_requires_2
-    (λ c κs. search rules) (λ c κs. search rules) returns)
+    (tie.spec
+    key_requires (λ c. omega (arith, c.requires.0, c.requires.3)) key_requires_2 (λ c κs. search rules)
+    (λ c κs. search rules) returns)

@@ -25,28 +25,20 @@ asks h j l r = let two = within_two w16 (lit< tt) h r 1408 j (lit≤ tt) in (lit
 
 returns : tie.Need-returns
 returns c =
-    let k4 = c.before.before.before in
-    let k3 = k4.before.before.before in
-    let k2 = k3.before.before.before in
-    let k1 = k2.before.before.before in
-    let start = k1.before.before.before in
-    let row = start.args.t1 in
+    let row = c.args.t1 in
     holds_merge
-    (holds_merge (holds_keys w16 (lit< tt) row start.requires 0 k1.two_keys.ensures)
-    (holds_keys w16 (lit< tt) row start.requires 2 k2.two-keys2.ensures) c.before.before.merge.ensures)
-    (holds_merge (holds_keys w16 (lit< tt) row start.requires 4 k3.two-keys3.ensures)
-    (holds_keys w16 (lit< tt) row start.requires 6 k4.two-keys4.ensures) c.before.merge2.ensures)
-    c.merge3.ensures
+    (holds_merge (holds_keys w16 (lit< tt) row c.requires 0 c.two_keys-a.ensures)
+    (holds_keys w16 (lit< tt) row c.requires 2 c.two_keys-b.ensures) c.merge.ensures)
+    (holds_merge (holds_keys w16 (lit< tt) row c.requires 4 c.two_keys-c.ensures)
+    (holds_keys w16 (lit< tt) row c.requires 6 c.two_keys-d.ensures) c.merge-2.ensures)
+    c.merge-3.ensures
 
 pub two_largest_spec : {M : Type 1} → statement M
 two_largest_spec =
     tie.close
-    (tie.spec (λ c. search rules) (λ c. search rules) (λ c κs. asks _ 0 (lit< tt) c.before.before.requires)
-    (λ c. search rules) (λ c. search rules)
-    (λ c κs. asks _ 2 (lit< tt) c.before.before.before.before.before.requires)
-    (λ c. search rules) (λ c. search rules)
-    (λ c κs. asks _ 4 (lit< tt) c.before.before.before.before.before.before.before.before.requires)
-    (λ c. search rules) (λ c. search rules)
-    (λ c κs. asks _ 6 (lit< tt)
-    c.before.before.before.before.before.before.before.before.before.before.before.requires)
-    (λ c κs. search rules) (λ c κs. search rules) (λ c κs. search rules) returns)
+    (tie.spec
+    (λ c. search rules) (λ c. search rules) (λ c κs. asks _ 0 (lit< tt) c.requires) (λ c. search rules)
+    (λ c. search rules) (λ c κs. asks _ 2 (lit< tt) c.requires) (λ c. search rules) (λ c. search rules)
+    (λ c κs. asks _ 4 (lit< tt) c.requires) (λ c. search rules) (λ c. search rules)
+    (λ c κs. asks _ 6 (lit< tt) c.requires) (λ c κs. search rules) (λ c κs. search rules) (λ c κs. search rules)
+    returns)

@@ -15,20 +15,20 @@ use Rattle.choose_by_counts.proofs.decide_five.Tie as tie
 
 decide_requires : tie.Need-decide-requires
 decide_requires c κs =
-    let chips = c.before.before.args.chips in (
-      subst (RowWithin 8192) (sym c.before.soft-counts8.ensures) (counts_small I chips),
-      subst (RowWithin 8192) (sym c.soft-counts82.ensures) (counts_small Q chips),
+    let chips = c.args.chips in (
+      subst (RowWithin 8192) (sym c.soft_counts8.ensures) (counts_small I chips),
+      subst (RowWithin 8192) (sym c.soft_counts8-2.ensures) (counts_small Q chips),
     )
 
 returns : tie.Need-returns
 returns c =
-    let second = c.before in
-    let chips = second.before.before.args.chips in
+    let chips = c.args.chips in
     let eight : length chips ≡ 8 = search rules in
     subst (λ (cs : List Counts). ChosenAs Five cs c.decide.result.number c.decide.result.lead)
-    ((λ i. rows (second.before.soft-counts8.ensures i) (second.soft-counts82.ensures i))
+    ((λ i. rows (c.soft_counts8.ensures i) (c.soft_counts8-2.ensures i))
     ∙ counts_eight chips eight) c.decide.ensures
 
 pub decide_five_spec : {M : Type 1} → statement M
 decide_five_spec =
-    tie.close (tie.spec (λ c κs. search rules) (λ c κs. search rules) decide_requires returns)
+    tie.close (tie.spec
+    (λ c κs. search rules) (λ c κs. search rules) decide_requires returns)

@@ -17,22 +17,22 @@ use Rattle.choose_by_units.proofs.choose.Tie as tie
 score : (s : ℤ) → Within 11 s → to_z w8 (of_z w8 s) ≡ s
 score s h = (reads_of {w = w8} (lit< tt) h).is
 
-two_keys_requires : tie.Need-two-keys-requires
+two_keys_requires : tie.Need-two_keys-top-requires
 two_keys_requires c κs =
     (lit≤ tt, rw (score _ c.requires.0) c.requires.0, rw (score _ c.requires.1) c.requires.1, lit< tt)
 
-module _ (c : tie.After-two-keys) where
+module _ (c : tie.After-two_keys-top) where
   abbrev i : ℤ
-  i = c.before.args.i
+  i = c.args.i
 
   abbrev q : ℤ
-  q = c.before.args.q
+  q = c.args.q
 
   first : key_of 2 0 (to_z w8 (of_z w8 i)) ≡ sum_key i q 0
-  first = λ j. key_of 2 0 (score i c.before.requires.0 j)
+  first = λ j. key_of 2 0 (score i c.requires.0 j)
 
   second : key_of 2 1 (to_z w8 (of_z w8 q)) ≡ sum_key i q 1
-  second = λ j. key_of 2 1 (score q c.before.requires.1 j)
+  second = λ j. key_of 2 1 (score q c.requires.1 j)
 
   top : TwoLargest (sum_key i q) 0 2 c.two_keys.result.first c.two_keys.result.second
   top =
@@ -41,12 +41,11 @@ module _ (c : tie.After-two-keys) where
 
 returns : tie.Need-returns
 returns c =
-    let m = c.before.before in
-    let chosen = phase_by (i m) (q m) (top m) in
-    (c.before.number_of.ensures ∙ chosen.0, c.lead-of.ensures ∙ chosen.1)
+    let chosen = phase_by (i c) (q c) (top c) in
+    (c.number_of.ensures ∙ chosen.0, c.lead_of.ensures ∙ chosen.1)
 
 pub choose_spec : {M : Type 1} → statement M
 choose_spec =
     tie.close
-    (tie.spec two_keys_requires (λ c κs. search rules)
-    (λ c κs. (lit< tt, lit≤ tt, second_le (top c.before))) returns)
+    (tie.spec
+    two_keys_requires (λ c κs. search rules) (λ c κs. (lit< tt, lit≤ tt, second_le (top c))) returns)

@@ -14,19 +14,19 @@ use Rattle.choose_by_units.proofs.decide_barker.Tie as tie
 
 barker_requires : tie.Need-barker-requires
 barker_requires c κs =
-    let chips = c.before.before.args.chips in (
-      subst (RowWithin 1) (sym c.before.hard-units11.ensures) (units_small I chips),
-      subst (RowWithin 1) (sym c.hard-units112.ensures) (units_small Q chips),
+    let chips = c.args.chips in (
+      subst (RowWithin 1) (sym c.hard_units11.ensures) (units_small I chips),
+      subst (RowWithin 1) (sym c.hard_units11-2.ensures) (units_small Q chips),
     )
 
 returns : tie.Need-returns
 returns c =
-    let second = c.before in
-    units_barker second.before.before.args.chips
+    units_barker c.args.chips
     (subst (λ (cs : List Counts). ChosenAs One cs c.barker.result.number c.barker.result.lead)
-    (λ i. as_chip (by_signs (second.before.hard-units11.ensures i)) (by_signs (second.hard-units112.ensures i)))
+    (λ i. as_chip (by_signs (c.hard_units11.ensures i)) (by_signs (c.hard_units11-2.ensures i)))
     c.barker.ensures)
 
 pub decide_barker_spec : {M : Type 1} → statement M
 decide_barker_spec =
-    tie.close (tie.spec (λ c κs. search rules) (λ c κs. search rules) barker_requires returns)
+    tie.close (tie.spec
+    (λ c κs. search rules) (λ c κs. search rules) barker_requires returns)

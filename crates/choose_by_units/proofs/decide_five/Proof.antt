@@ -15,20 +15,20 @@ use Rattle.choose_by_units.proofs.decide_five.Tie as tie
 
 five_requires : tie.Need-five-requires
 five_requires c κs =
-    let chips = c.before.before.args.chips in (
-      subst (RowWithin 1) (sym c.before.hard-units8.ensures) (units_small I chips),
-      subst (RowWithin 1) (sym c.hard-units82.ensures) (units_small Q chips),
+    let chips = c.args.chips in (
+      subst (RowWithin 1) (sym c.hard_units8.ensures) (units_small I chips),
+      subst (RowWithin 1) (sym c.hard_units8-2.ensures) (units_small Q chips),
     )
 
 returns : tie.Need-returns
 returns c =
-    let second = c.before in
-    let chips = second.before.before.args.chips in
+    let chips = c.args.chips in
     let eight : length chips ≡ 8 = search rules in
     subst (λ (cs : List Counts). ChosenAs Five cs c.five.result.number c.five.result.lead)
-    ((λ i. rows (second.before.hard-units8.ensures i) (second.hard-units82.ensures i)) ∙ units_rows chips eight)
+    ((λ i. rows (c.hard_units8.ensures i) (c.hard_units8-2.ensures i)) ∙ units_rows chips eight)
     c.five.ensures
 
 pub decide_five_spec : {M : Type 1} → statement M
 decide_five_spec =
-    tie.close (tie.spec (λ c κs. search rules) (λ c κs. search rules) five_requires returns)
+    tie.close (tie.spec
+    (λ c κs. search rules) (λ c κs. search rules) five_requires returns)

@@ -34,39 +34,34 @@ module _ (c : tie.Start) where
   few : 4 * w * nat_abs s ≤ 176
   few = omega (arith, c.requires.0, mul-le-mul_left (4 * w) (abs_le c.requires.1))
 
-module _ (c : tie.Then1) where
+module _ (c : tie.Then-s-lt0) where
   below : to_z w8 (of_z w8 (pos 0 -ℤ to_z w8 (of_z w8 (s c.before)))) ≡ pos (nat_abs (s c.before))
   below = opposite c.before ∙ abs_below (s c.before) (rw (score c.before) at c.if1.true)
 
-module _ (c : tie.Else1) where
+module _ (c : tie.Else-s-lt0) where
   above : to_z w8 (of_z w8 (s c.before)) ≡ pos (nat_abs (s c.before))
   above = score c.before ∙ abs_above (s c.before) (rw (score c.before) at c.if1.false)
 
-returns : tie.Need-returns
+returns : tie.Need-returns-then-s-lt0
 returns c =
-    let start = c.before in
-    ap (λ (z : ℤ). 4 * w start * nat_abs z + (2 * w start - 1 - start.args.n)) (below c)
-    ∙ key_below (w start) start.args.n (s start) (rw (score start) at c.if1.true) start.requires.2
+    ap (λ (z : ℤ). 4 * w c * nat_abs z + (2 * w c - 1 - c.args.n)) (below c)
+    ∙ key_below (w c) c.args.n (s c) (rw (score c) at c.if-s-lt0.true) c.requires.2
 
-returns_2 : tie.Need-returns-2
+returns_2 : tie.Need-returns-else-s-lt0
 returns_2 c =
-    let start = c.before in
-    ap (λ (z : ℤ). 4 * w start * nat_abs z + (4 * w start - 1 - start.args.n)) (above c)
-    ∙ key_above (w start) start.args.n (s start) (rw (score start) at c.if1.false) start.requires.2
+    ap (λ (z : ℤ). 4 * w c * nat_abs z + (4 * w c - 1 - c.args.n)) (above c)
+    ∙ key_above (w c) c.args.n (s c) (rw (score c) at c.if-s-lt0.false) c.requires.2
 
 pub key_spec : {M : Type 1} → statement M
 key_spec =
     tie.close
-    (tie.spec (λ c. omega (arith, c.before.requires.0))
-    (λ c. made_fits (minus c.before) (within_neg c.before.requires.1) (lit< tt))
-    (λ c. rw (below c) (tt, record { fits = omega (arith, abs_le c.before.requires.1) }))
-    (λ c. rw (below c) (record { fits = omega (arith, few c.before) }))
-    (λ c. omega (arith, c.before.requires.0)) (λ c. omega (arith, c.before.requires.2))
-    (λ c. omega (arith, c.before.requires.2))
-    (λ c. rw (below c) (record { fits = omega (arith, few c.before, c.before.requires.0) }))
-    (λ c. omega (arith, c.before.requires.0))
-    (λ c. rw (above c) (tt, record { fits = omega (arith, abs_le c.before.requires.1) }))
-    (λ c. rw (above c) (record { fits = omega (arith, few c.before) }))
-    (λ c. omega (arith, c.before.requires.0)) (λ c. omega (arith, c.before.requires.2))
-    (λ c. omega (arith, c.before.requires.2))
-    (λ c. rw (above c) (record { fits = omega (arith, few c.before, c.before.requires.0) })) returns returns_2)
+    (tie.spec
+    (λ c. omega (arith, c.requires.0)) (λ c. made_fits (minus c) (within_neg c.requires.1) (lit< tt))
+    (λ c. rw (below c) (tt, record { fits = omega (arith, abs_le c.requires.1) }))
+    (λ c. rw (below c) (record { fits = omega (arith, few c) })) (λ c. omega (arith, c.requires.0))
+    (λ c. omega (arith, c.requires.2)) (λ c. omega (arith, c.requires.2))
+    (λ c. rw (below c) (record { fits = omega (arith, few c, c.requires.0) })) (λ c. omega (arith, c.requires.0))
+    (λ c. rw (above c) (tt, record { fits = omega (arith, abs_le c.requires.1) }))
+    (λ c. rw (above c) (record { fits = omega (arith, few c) })) (λ c. omega (arith, c.requires.0))
+    (λ c. omega (arith, c.requires.2)) (λ c. omega (arith, c.requires.2))
+    (λ c. rw (above c) (record { fits = omega (arith, few c, c.requires.0) })) returns returns_2)

@@ -10,6 +10,7 @@ use Rattle.choose_by_units.proofs.lead_of.Tie as tie
 pub lead_of_spec : {M : Type 1} → statement M
 lead_of_spec =
     tie.close
-    (tie.spec (λ c. record { fits = omega (arith, c.requires.1) }) (λ c. omega (arith, c.before.requires.0))
-    (λ c. record { fits = omega (arith, c.before.requires.1) }) (λ c. omega (arith, c.before.before.requires.0))
-    (λ c. let s = c.before.before in quotients (4 * s.args.w) (omega (arith, s.requires.0)) s.requires.2) (λ c. refl))
+    (tie.spec
+    (λ c. record { fits = omega (arith, c.requires.1) }) (λ c. omega (arith, c.requires.0))
+    (λ c. record { fits = omega (arith, c.requires.1) }) (λ c. omega (arith, c.requires.0))
+    (λ c. quotients (4 * c.args.w) (omega (arith, c.requires.0)) c.requires.2) (λ c. refl))

@@ -8,12 +8,10 @@ use Rattle.choose_by_units.proofs.merge.Tie as tie
 
 returns : tie.Need-returns
 returns c =
-    let top = c.before in
-    let other = top.before in
-    let low = other.before in
-    (top.max2.ensures, c.max3.ensures ∙ (λ i. bigger (low.min.ensures i) (other.max.ensures i)))
+    (c.max.ensures, c.max-2.ensures ∙ (λ i. bigger (c.min-low.ensures i) (c.max-other.ensures i)))
 
 pub merge_spec : {M : Type 1} → statement M
 merge_spec =
     tie.close
-    (tie.spec (λ c κs. search rules) (λ c κs. search rules) (λ c κs. search rules) (λ c κs. search rules) returns)
+    (tie.spec
+    (λ c κs. search rules) (λ c κs. search rules) (λ c κs. search rules) (λ c κs. search rules) returns)

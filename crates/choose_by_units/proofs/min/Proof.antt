@@ -4,11 +4,12 @@ use borrow.Author.Tests.{lt-ltb, le-ltb}
 use Rattle.choose_by_units.proofs.min.Statement.{statement}
 use Rattle.choose_by_units.proofs.min.Tie as tie
 
-returns : tie.Need-returns
-returns c = simp (lt-ltb _ _ c.if1.true)
+returns : tie.Need-returns-then-a-b
+returns c = simp (lt-ltb _ _ c.if-a-b.true)
 
-returns_2 : tie.Need-returns-2
-returns_2 c = simp (le-ltb _ _ c.if1.false)
+returns_2 : tie.Need-returns-else-a-b
+returns_2 c = simp (le-ltb _ _ c.if-a-b.false)
 
 pub min_spec : {M : Type 1} → statement M
-min_spec = tie.close (tie.spec returns returns_2)
+min_spec = tie.close (tie.spec
+    returns returns_2)

@@ -10,6 +10,7 @@ use Rattle.choose_by_units.proofs.number_of.Tie as tie
 pub number_of_spec : {M : Type 1} → statement M
 number_of_spec =
     tie.close
-    (tie.spec (λ c. omega (arith, c.requires.1)) (λ c. omega (arith, c.requires.0)) (λ c. omega (arith, c.requires.1))
+    (tie.spec
+    (λ c. omega (arith, c.requires.1)) (λ c. omega (arith, c.requires.0)) (λ c. omega (arith, c.requires.1))
     (λ c. omega (arith, c.requires.0))
     (λ c. omega (arith, mod-lt c.args.key {m = 4 * c.args.w} (omega (arith, c.requires.0)))) (λ c. refl))

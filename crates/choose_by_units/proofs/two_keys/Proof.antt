@@ -17,25 +17,23 @@ use Rattle.choose_by_units.proofs.two_keys.Tie as tie
 score : (s : ℤ) → Within 11 s → to_z w8 (of_z w8 s) ≡ s
 score s h = (reads_of {w = w8} (lit< tt) h).is
 
-key_requires : tie.Need-key-requires
+key_requires : tie.Need-key-a-requires
 key_requires c κs = (c.requires.0, rw (score _ c.requires.1) c.requires.1, omega (arith, c.requires.3))
 
-key_requires_2 : tie.Need-key-requires-2
+key_requires_2 : tie.Need-key-b-requires
 key_requires_2 c κs =
-    let start = c.before in
-    (start.requires.0, rw (score _ start.requires.2) start.requires.2, start.requires.3)
+    (c.requires.0, rw (score _ c.requires.2) c.requires.2, c.requires.3)
 
 returns : tie.Need-returns
 returns c =
-    let top = c.before in
-    let start = top.before.before.before in
-    let h = start.args.w + start.args.w in
-    let first = top.before.before.key.ensures ∙ ap (key_of h start.args.n) (score _ start.requires.1) in
-    let second = top.before.key2.ensures ∙ ap (key_of h (start.args.n + 1)) (score _ start.requires.2) in
-    (top.max.ensures ∙ (λ i. bigger (first i) (second i)), c.min.ensures ∙ (λ i. lesser (first i) (second i)))
+    let h = c.args.w + c.args.w in
+    let first = c.key-a.ensures ∙ ap (key_of h c.args.n) (score _ c.requires.1) in
+    let second = c.key-b.ensures ∙ ap (key_of h (c.args.n + 1)) (score _ c.requires.2) in
+    (c.max.ensures ∙ (λ i. bigger (first i) (second i)), c.min.ensures ∙ (λ i. lesser (first i) (second i)))
 
 pub two_keys_spec : {M : Type 1} → statement M
 two_keys_spec =
     tie.close
-    (tie.spec key_requires (λ c. omega (arith, c.before.requires.0, c.before.requires.3)) key_requires_2
-    (λ c κs. search rules) (λ c κs. search rules) returns)
+    (tie.spec
+    key_requires (λ c. omega (arith, c.requires.0, c.requires.3)) key_requires_2 (λ c κs. search rules)
+    (λ c κs. search rules) returns)

@@ -11,20 +11,19 @@ use Rattle.rules_choosing.proofs.Gathered.{byte_at, Gathered, gathered_none, gat
 use Rattle.choose_bytes.proofs.eight.Statement.{statement}
 use Rattle.choose_bytes.proofs.eight.Tie as tie
 
-abbrev invariant_loop : tie.invariant-loop
+abbrev invariant_loop : tie.invariant-loop-k
 invariant_loop row from out₀ k₀ out k = Gathered 8 row from out k
 
-abbrev decreases_loop : tie.decreases-loop
+abbrev decreases_loop : tie.decreases-loop-k
 decreases_loop row from out₀ k₀ out k = 8 - k
 
-loop_again : tie.Need-loop-preserved invariant_loop decreases_loop
+loop_again : tie.Need-loop-k-preserved invariant_loop decreases_loop
 loop_again c =
-    let turn = c.before.before.before in
-    let b = byte_at turn.before.args.row.now turn.before.args.from turn.loop.k in
+    let b = byte_at c.args.row.now c.args.from c.loop-k.k in
     let byte : to_z w8 (of_z w8 b) ≡ b = search rules in
     let read : to_z w16 (of_z w16 c.wide.result) ≡ c.wide.result = search rules in
-    let is = c.wide.ensures.0 ∙ byte in
-    gathered_more turn.loop.invariant _ (search rules) (read ∙ is) (subst (Within 128) is c.wide.ensures.1)
+    let is = c.wide.ensures.answer ∙ byte in
+    gathered_more c.loop-k.invariant _ (search rules) (read ∙ is) (subst (Within 128) is c.wide.ensures.small)
 
 pub eight_spec : {M : Type 1} → statement M
 eight_spec =
@@ -32,4 +31,5 @@ eight_spec =
     (tie.spec
     invariant_loop decreases_loop (λ c. gathered_none 8 _ _ _ refl) (λ c. omega arith) (λ c. omega arith)
     (λ c. omega arith) (λ c κs. search rules) (λ c. search rules) (λ c. search rules) (λ c. omega arith)
-    (λ c. omega arith) loop_again (λ c. gathered_all c.before.loop.invariant c.loop-test.false))
+    (λ c. omega arith) loop_again
+    (λ c. let both = (gathered_all c.loop-k.invariant c.loop-k-test.false) in record { answer = both.0; small = both.1 }))

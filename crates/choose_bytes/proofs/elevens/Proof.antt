@@ -26,81 +26,66 @@ use Rattle.choose_bytes.proofs.Groups.{five_group}
 use Rattle.choose_bytes.proofs.elevens.Statement.{statement}
 use Rattle.choose_bytes.proofs.elevens.Tie as tie
 
-abbrev invariant_loop : tie.invariant-loop
+abbrev invariant_loop : tie.invariant-loop-l
 invariant_loop bytes at m numbers₀ leads₀ row₀ other₀ z₀ a₀ l₀ numbers leads row other z a l =
     Firsts (number_at Eleven (byte_recording bytes) at) m numbers l
     × Firsts (lead_at Eleven (byte_recording bytes) at) m leads l × (l % 16 ≡ 0)
     × (length row ≡ 256) × (length other ≡ 256) × (length z ≡ 256) × (length a ≡ 512)
 
-abbrev decreases_loop : tie.decreases-loop
+abbrev decreases_loop : tie.decreases-loop-l
 decreases_loop bytes at m numbers₀ leads₀ row₀ other₀ z₀ a₀ l₀ numbers leads row other z a l = m - l
 
-take_in_requires : tie.Need-take-in-requires invariant_loop decreases_loop
+take_in_requires : tie.Need-take_in-requires invariant_loop decreases_loop
 take_in_requires c κs =
-    let turn = c.before.before.before in
-    let few = c.before.at-most-16.ensures in
-    (omega (arith, few, turn.before.requires.1), omega (arith, few, turn.loop.invariant.3))
+    let few = c.at_most_16-count.ensures in
+    (omega (arith, few, c.requires.1), omega (arith, few, c.loop-l.invariant.3))
 
 sixteen_requires : tie.Need-sixteen-requires invariant_loop decreases_loop
 sixteen_requires c κs =
-    let turned = c.before.before.before.before.before.before.before in
-    let counted = turned.before.before.before.before.before.before in
-    let turn = counted.before.before in
-    let h = counted.before.loop-test.true in (
+    let h = c.loop-l-test.true in (
       search rules,
-      turn.loop.invariant.5,
-      turn.loop.invariant.6,
+      c.loop-l.invariant.5,
+      c.loop-l.invariant.6,
       lit≤ tt,
-      omega (arith, turn.loop.invariant.2, turn.before.requires.0),
-      turn.loop.invariant.0.long,
-      turn.loop.invariant.1.long,
+      omega (arith, c.loop-l.invariant.2, c.requires.0),
+      c.loop-l.invariant.0.long,
+      c.loop-l.invariant.1.long,
     )
 
-loop_again : tie.Need-loop-preserved invariant_loop decreases_loop
+loop_again : tie.Need-loop-l-preserved invariant_loop decreases_loop
 loop_again c =
-    let found = c.before.before in
-    let turned = found.before.before.before.before.before.before.before.before in
-    let taken = turned.before.before.before.before in
-    let counted = taken.before.before in
-    let turn = counted.before.before in
-    let s = turn.before in
-    let l = turn.loop.l in
-    let h = counted.before.loop-test.true in
-    let row = turned.turn.new.0 in
-    let group : (j : ℕ) → j < 16 → l + j < s.args.m
-    → five_at row j ≡ five_bytes s.args.bytes.now (s.args.at + 8 * (l + j)) =
-    λ j few there. five_group s.args.bytes.now taken.take_in.new.1.1.1.0 row s.args.at l
-    counted.at-most-16.result j turned.turn.ensures few (omega (arith, counted.at-most-16.ensures))
-    (search rules) taken.take_in.ensures in (
-      firsts_sixteen _ _ _ turn.loop.invariant.0 found.sixteen.ensures.1.0
+    let l = c.loop-l.l in
+    let h = c.loop-l-test.true in
+    let row = c.turn.new.row in
+    let group : (j : ℕ) → j < 16 → l + j < c.args.m
+    → five_at row j ≡ five_bytes c.args.bytes.now (c.args.at + 8 * (l + j)) =
+    λ j few there. five_group c.args.bytes.now c.take_in.new.row row c.args.at l
+    c.at_most_16-count.result j c.turn.ensures few (omega (arith, c.at_most_16-count.ensures))
+    (search rules) c.take_in.ensures in (
+      firsts_sixteen _ _ _ c.loop-l.invariant.0 c.sixteen.ensures.numbers
           (λ j few there. ap (decided Eleven) (group j few there)
-          ∙ (eight_units Eleven s.args.bytes.now (s.args.at + 8 * (l + j)) (omega (arith, s.requires.1))).0),
-      firsts_sixteen _ _ _ turn.loop.invariant.1 found.sixteen.ensures.1.1
+          ∙ (eight_units Eleven c.args.bytes.now (c.args.at + 8 * (l + j)) (omega (arith, c.requires.1))).0),
+      firsts_sixteen _ _ _ c.loop-l.invariant.1 c.sixteen.ensures.leads
           (λ j few there. ap (λ (cs : List Counts). 16 * lead_of Eleven cs) (group j few there)
-          ∙ (eight_units Eleven s.args.bytes.now (s.args.at + 8 * (l + j)) (omega (arith, s.requires.1))).1),
-      omega (arith, turn.loop.invariant.2),
+          ∙ (eight_units Eleven c.args.bytes.now (c.args.at + 8 * (l + j)) (omega (arith, c.requires.1))).1),
+      omega (arith, c.loop-l.invariant.2),
       search rules,
       search rules,
-      found.sixteen.ensures.0.0,
-      found.sixteen.ensures.0.1,
+      c.sixteen.ensures.lengths.0,
+      c.sixteen.ensures.lengths.1,
     )
 
 returns : tie.Need-returns invariant_loop decreases_loop
 returns c =
-    let turn = c.before in
-    let s = turn.before in
-    let rec = byte_recording s.args.bytes.now in (
-      all_decided Eleven rec s.args.at turn.loop.invariant.0 c.loop-test.false,
-      all_leads Eleven rec s.args.at turn.loop.invariant.1 c.loop-test.false,
-    )
+    let rec = byte_recording c.args.bytes.now in record { numbers = all_decided Eleven rec c.args.at c.loop-l.invariant.0 c.loop-l-test.false; leads = all_leads Eleven rec c.args.at c.loop-l.invariant.1 c.loop-l-test.false }
 
 pub elevens_spec : {M : Type 1} → statement M
 elevens_spec =
     tie.close
-    (tie.spec invariant_loop decreases_loop
+    (tie.spec
+    invariant_loop decreases_loop
     (λ c. (firsts_none _ _ _ c.requires.2, firsts_none _ _ _ c.requires.3, refl, refl, refl, refl, refl))
-    (λ c. omega arith) (λ c κs. search rules) (λ c. omega arith) (λ c. omega arith)
-    (λ c. omega arith) (λ c. record { fits = omega (arith, c.at-most-16.ensures) }) (λ c. search rules)
-    take_in_requires (λ c. search rules) (λ c. search rules) (λ c κs. search rules) (λ c. search rules)
-    (λ c. search rules) (λ c. search rules)
-    sixteen_requires (λ c. omega arith) (λ c. omega arith) loop_again returns)
+    (λ c. omega arith) (λ c κs. search rules) (λ c. omega arith) (λ c. omega arith) (λ c. omega arith)
+    (λ c. record { fits = omega (arith, c.at_most_16-count.ensures) }) (λ c. search rules) take_in_requires
+    (λ c. search rules) (λ c. search rules) (λ c κs. search rules) (λ c. search rules) (λ c. search rules)
+    (λ c. search rules) sixteen_requires (λ c. omega arith) (λ c. omega arith) loop_again returns)

@@ -9,24 +9,23 @@ use Rattle.base.proofs.Tables.{filled_none, filled_more, filled_all}
 use Rattle.choose_bytes.proofs.in_counts.Statement.{statement}
 use Rattle.choose_bytes.proofs.in_counts.Tie as tie
 
-abbrev invariant_loop : tie.invariant-loop
+abbrev invariant_loop : tie.invariant-loop-l
 invariant_loop raw leads₀ l₀ leads l = Filled (λ j. 16 * get_or raw j 0) 64 leads l
 
-abbrev decreases_loop : tie.decreases-loop
+abbrev decreases_loop : tie.decreases-loop-l
 decreases_loop raw leads₀ l₀ leads l = 64 - l
 
-loop_again : tie.Need-loop-preserved invariant_loop decreases_loop
+loop_again : tie.Need-loop-l-preserved invariant_loop decreases_loop
 loop_again c =
-    let turn = c.before.before in
-    filled_more _ turn.before.loop.invariant turn.loop-test.true c.lead-counts.ensures
+    filled_more _ c.loop-l.invariant c.loop-l-test.true c.lead_counts.ensures
 
 returns : tie.Need-returns invariant_loop decreases_loop
-returns c = filled_all c.before.loop.invariant c.loop-test.false
+returns c = filled_all c.loop-l.invariant c.loop-l-test.false
 
 pub in_counts_spec : {M : Type 1} → statement M
 in_counts_spec =
     tie.close
-    (tie.spec invariant_loop decreases_loop (λ c. filled_none _ 64 _ c.requires.1) (λ c. omega arith)
-    (λ c. omega (arith, c.before.before.requires.0))
-    (λ c κs. search rules) (λ c. search rules) (λ c. omega (arith, c.before.before.before.loop.invariant.len))
-    (λ c. omega arith) (λ c. omega arith) loop_again returns)
+    (tie.spec
+    invariant_loop decreases_loop (λ c. filled_none _ 64 _ c.requires.1) (λ c. omega arith)
+    (λ c. omega (arith, c.requires.0)) (λ c κs. search rules) (λ c. search rules)
+    (λ c. omega (arith, c.loop-l.invariant.len)) (λ c. omega arith) (λ c. omega arith) loop_again returns)

@@ -20,41 +20,36 @@ number row s = decided One (barker_at row s)
 abbrev lead : List ℤ → ℕ → ℕ
 lead row s = lead_of One (barker_at row s)
 
-abbrev invariant_loop : tie.invariant-loop
+abbrev invariant_loop : tie.invariant-loop-s
 invariant_loop row l numbers₀ raw₀ s₀ numbers raw s =
     Put (number row) l numbers₀ numbers s × Put (lead row) l raw₀ raw s × (s ≤ 16)
 
-abbrev decreases_loop : tie.decreases-loop
+abbrev decreases_loop : tie.decreases-loop-s
 decreases_loop row l numbers₀ raw₀ s₀ numbers raw s = 16 - s
 
-barker_requires : tie.Need-barker-requires invariant_loop decreases_loop
-barker_requires c κs = (c.before.eleven.ensures.1, c.eleven2.ensures.1)
+barker_requires : tie.Need-barker-c-requires invariant_loop decreases_loop
+barker_requires c κs = (c.eleven.ensures.small, c.eleven-in-loop-s.ensures.small)
 
-loop_again : tie.Need-loop-preserved invariant_loop decreases_loop
+loop_again : tie.Need-loop-s-preserved invariant_loop decreases_loop
 loop_again c =
-    let turn = c.before.before.before.before in
-    let s = turn.before in
-    let symbol : as_chip (by_signs c.before.before.eleven.result) (by_signs c.before.eleven2.result)
-    ≡ barker_at s.args.row.now turn.loop.s =
-    λ i. as_chip (by_signs (c.before.before.eleven.ensures.0 i)) (by_signs (c.before.eleven2.ensures.0 i)) in (
-      put_more _ (omega (arith, s.requires.1)) (c.barker.ensures.0 ∙ ap (decided One) symbol) turn.loop.invariant.0,
-      put_more _ (omega (arith, s.requires.1)) (c.barker.ensures.1 ∙ ap (lead_of One) symbol) turn.loop.invariant.1,
+    let symbol : as_chip (by_signs c.eleven.result) (by_signs c.eleven-in-loop-s.result)
+    ≡ barker_at c.args.row.now c.loop-s.s =
+    λ i. as_chip (by_signs (c.eleven.ensures.answer i)) (by_signs (c.eleven-in-loop-s.ensures.answer i)) in (
+      put_more _ (omega (arith, c.requires.1)) (c.barker-c.ensures.0 ∙ ap (decided One) symbol) c.loop-s.invariant.0,
+      put_more _ (omega (arith, c.requires.1)) (c.barker-c.ensures.1 ∙ ap (lead_of One) symbol) c.loop-s.invariant.1,
       omega arith,
     )
 
 returns : tie.Need-returns invariant_loop decreases_loop
 returns c =
-    let turn = c.before in
-    let all : turn.loop.s ≡ 16 = omega (arith, turn.loop.invariant.2) in
-    let s = turn.before in
-    let row = s.args.row.now in (
-      subst (Put (number row) s.args.l s.args.numbers.now turn.loop.numbers) all turn.loop.invariant.0,
-      subst (Put (lead row) s.args.l s.args.raw.now turn.loop.raw) all turn.loop.invariant.1,
-    )
+    let all : c.loop-s.s ≡ 16 = omega (arith, c.loop-s.invariant.2) in
+    let row = c.args.row.now in record { numbers = subst (Put (number row) c.args.l c.args.numbers.now c.loop-s.numbers) all c.loop-s.invariant.0; raw = subst (Put (lead row) c.args.l c.args.raw.now c.loop-s.raw) all c.loop-s.invariant.1 }
 
 pub sixteen_barkers_spec : {M : Type 1} → statement M
 sixteen_barkers_spec =
     tie.close
-    (tie.spec invariant_loop decreases_loop (λ c. (put_none _ c.requires.2, put_none _ c.requires.3, omega arith)) (λ c κs. omega arith)
-    (λ c. omega arith) (λ c κs. omega arith) barker_requires (λ c. omega arith) (λ c. omega arith) (λ c. omega arith)
-    (λ c. omega arith) (λ c. omega arith) (λ c. omega arith) (λ c. omega arith) loop_again returns)
+    (tie.spec
+    invariant_loop decreases_loop (λ c. (put_none _ c.requires.2, put_none _ c.requires.3, omega arith))
+    (λ c κs. omega arith) (λ c. omega arith) (λ c κs. omega arith) barker_requires (λ c. omega arith)
+    (λ c. omega arith) (λ c. omega arith) (λ c. omega arith) (λ c. omega arith) (λ c. omega arith)
+    (λ c. omega arith) loop_again returns)

@@ -20,41 +20,36 @@ number row s = decided Five (five_at row s)
 abbrev lead : List ℤ → ℕ → ℕ
 lead row s = lead_of Five (five_at row s)
 
-abbrev invariant_loop : tie.invariant-loop
+abbrev invariant_loop : tie.invariant-loop-s
 invariant_loop row l numbers₀ raw₀ s₀ numbers raw s =
     Put (number row) l numbers₀ numbers s × Put (lead row) l raw₀ raw s × (s ≤ 16)
 
-abbrev decreases_loop : tie.decreases-loop
+abbrev decreases_loop : tie.decreases-loop-s
 decreases_loop row l numbers₀ raw₀ s₀ numbers raw s = 16 - s
 
-five_requires : tie.Need-five-requires invariant_loop decreases_loop
-five_requires c κs = (c.before.eight.ensures.1, c.eight2.ensures.1)
+five_requires : tie.Need-five-c-requires invariant_loop decreases_loop
+five_requires c κs = (c.eight.ensures.small, c.eight-in-loop-s.ensures.small)
 
-loop_again : tie.Need-loop-preserved invariant_loop decreases_loop
+loop_again : tie.Need-loop-s-preserved invariant_loop decreases_loop
 loop_again c =
-    let turn = c.before.before.before.before in
-    let s = turn.before in
-    let symbol : rows c.before.before.eight.result c.before.eight2.result
-    ≡ five_at s.args.row.now turn.loop.s =
-    λ i. rows (c.before.before.eight.ensures.0 i) (c.before.eight2.ensures.0 i) in (
-      put_more _ (omega (arith, s.requires.1)) (c.five.ensures.0 ∙ ap (decided Five) symbol) turn.loop.invariant.0,
-      put_more _ (omega (arith, s.requires.1)) (c.five.ensures.1 ∙ ap (lead_of Five) symbol) turn.loop.invariant.1,
+    let symbol : rows c.eight.result c.eight-in-loop-s.result
+    ≡ five_at c.args.row.now c.loop-s.s =
+    λ i. rows (c.eight.ensures.answer i) (c.eight-in-loop-s.ensures.answer i) in (
+      put_more _ (omega (arith, c.requires.1)) (c.five-c.ensures.0 ∙ ap (decided Five) symbol) c.loop-s.invariant.0,
+      put_more _ (omega (arith, c.requires.1)) (c.five-c.ensures.1 ∙ ap (lead_of Five) symbol) c.loop-s.invariant.1,
       omega arith,
     )
 
 returns : tie.Need-returns invariant_loop decreases_loop
 returns c =
-    let turn = c.before in
-    let all : turn.loop.s ≡ 16 = omega (arith, turn.loop.invariant.2) in
-    let s = turn.before in
-    let row = s.args.row.now in (
-      subst (Put (number row) s.args.l s.args.numbers.now turn.loop.numbers) all turn.loop.invariant.0,
-      subst (Put (lead row) s.args.l s.args.raw.now turn.loop.raw) all turn.loop.invariant.1,
-    )
+    let all : c.loop-s.s ≡ 16 = omega (arith, c.loop-s.invariant.2) in
+    let row = c.args.row.now in record { numbers = subst (Put (number row) c.args.l c.args.numbers.now c.loop-s.numbers) all c.loop-s.invariant.0; raw = subst (Put (lead row) c.args.l c.args.raw.now c.loop-s.raw) all c.loop-s.invariant.1 }
 
 pub sixteen_fives_spec : {M : Type 1} → statement M
 sixteen_fives_spec =
     tie.close
-    (tie.spec invariant_loop decreases_loop (λ c. (put_none _ c.requires.2, put_none _ c.requires.3, omega arith)) (λ c κs. omega arith)
-    (λ c. omega arith) (λ c κs. omega arith) five_requires (λ c. omega arith) (λ c. omega arith) (λ c. omega arith)
-    (λ c. omega arith) (λ c. omega arith) (λ c. omega arith) (λ c. omega arith) loop_again returns)
+    (tie.spec
+    invariant_loop decreases_loop (λ c. (put_none _ c.requires.2, put_none _ c.requires.3, omega arith))
+    (λ c κs. omega arith) (λ c. omega arith) (λ c κs. omega arith) five_requires (λ c. omega arith)
+    (λ c. omega arith) (λ c. omega arith) (λ c. omega arith) (λ c. omega arith) (λ c. omega arith)
+    (λ c. omega arith) loop_again returns)

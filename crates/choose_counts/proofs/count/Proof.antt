@@ -59,16 +59,16 @@ module _ (x : Float) (y : Summed x) where
       ∙ pattern_less s k y.few
 
 have : (c : tie.Start) → Summed c.args.x
-have c = summed c.args.x (subst T (sym c.well-formed.0.1) tt) c.requires
+have c = summed c.args.x (subst T (sym c.well_formed.0.1) tt) c.requires
 
-float_to_bits_b : tie.Need-float-to-bits-b
+float_to_bits_b : tie.Need-float_to_bits-b
 unfolding of_bits
 float_to_bits_b c = (have c).no_nan
 
-cast_result : tie.Need-overflow-cast-result
+cast_result : tie.Need-overflow_cast-result
 cast_result c = record { sfits = fits_bits c.args.x (have c) }
 
-sub_result : tie.Need-overflow-sub-result
+sub_result : tie.Need-overflow_sub-result
 sub_result c = search (rules, sub_fits (code c.args.x), fits_bits c.args.x (have c))
 
 returns : tie.Need-returns
@@ -78,4 +78,5 @@ returns c =
     ∙ sym (cond_yes (usable c.args.x) _ (pos 0) c.requires)
 
 pub count_spec : {M : Type 1} → statement M
-count_spec = tie.close (tie.spec float_to_bits_b cast_result sub_result returns)
+count_spec = tie.close (tie.spec
+    float_to_bits_b cast_result sub_result returns)

@@ -10,11 +10,12 @@ use Rattle.choose_counts.proofs.usable.Tie as tie
 
 -- what owning an `f32` tells: the format holds it
 held : (c : tie.Start) → T (fits binary32 c.args.x)
-held c = subst T (sym c.well-formed.0.1) tt
+held c = subst T (sym c.well_formed.0.1) tt
 
 returns : tie.Need-returns
 unfolding of_bits neg
 returns c = sym (usable_is c.args.x (held c))
 
 pub usable_spec : {M : Type 1} → statement M
-usable_spec = tie.close (tie.spec returns)
+usable_spec = tie.close (tie.spec
+    returns)

@@ -15,46 +15,40 @@ use Rattle.choose_recorded.proofs.HardLeads.{units_at, number_hard, lead_hard}
 use Rattle.choose_hard.proofs.barkers.Statement.{statement}
 use Rattle.choose_hard.proofs.barkers.Tie as tie
 
-abbrev invariant_loop : tie.invariant-loop
+abbrev invariant_loop : tie.invariant-loop-l
 invariant_loop octets at m numbers₀ leads full₀ l₀ numbers full l =
     Firsts (number_at One (hard_recording octets) at) m numbers l
     × Firsts (λ k. lead_of One (units_at One octets at k)) m full l
 
-abbrev decreases_loop : tie.decreases-loop
+abbrev decreases_loop : tie.decreases-loop-l
 decreases_loop octets at m numbers₀ leads full₀ l₀ numbers full l = m - l
 
-loop_again : tie.Need-loop-preserved invariant_loop decreases_loop
+loop_again : tie.Need-loop-l-preserved invariant_loop decreases_loop
 loop_again c =
-    let turn = c.before.before.before in
-    let s = turn.before.before in
-    let h = c.before.before.loop-test.true in
-    let chips = c.before.eleven.ensures in
-    let chosen = c.decide-barker.ensures in (
-      firsts_more _ _ _ (omega (arith, s.requires.0))
+    let h = c.loop-l-test.true in
+    let chips = c.eleven.ensures in
+    let chosen = c.decide_barker-c.ensures in (
+      firsts_more _ _ _ (omega (arith, c.requires.0))
           (chosen.0 ∙ ap (λ (x : List Chip). decided One (map unit_of x)) chips
-          ∙ number_hard One s.args.octets.now s.args.at s.args.m s.requires.1
-          turn.loop.l h) turn.loop.invariant.0,
-      firsts_more _ _ _ (omega (arith, s.requires.0))
-          (chosen.1 ∙ ap (λ (x : List Chip). lead_of One (map unit_of x)) chips) turn.loop.invariant.1,
+          ∙ number_hard One c.args.octets.now c.args.at c.args.m c.requires.1
+          c.loop-l.l h) c.loop-l.invariant.0,
+      firsts_more _ _ _ (omega (arith, c.requires.0))
+          (chosen.1 ∙ ap (λ (x : List Chip). lead_of One (map unit_of x)) chips) c.loop-l.invariant.1,
     )
 
 returns : tie.Need-returns invariant_loop decreases_loop
-returns c =
-    let end = c.before.before.before in
-    let turn = end.before in
-    let s = turn.before.before in (
-      all_decided One (hard_recording s.args.octets.now) s.args.at turn.loop.invariant.0 end.loop-test.false,
-      leads_times One (hard_recording s.args.octets.now) s.args.at 1024 turn.loop.invariant.1
-          end.loop-test.false s.requires.0 c.in-counts.ensures
-          (lead_hard One s.args.octets.now s.args.at s.args.m s.requires.1),
-    )
+returns c = record {
+  numbers = all_decided One (hard_recording c.args.octets.now) c.args.at c.loop-l.invariant.0 c.loop-l-test.false;
+  leads = leads_times One (hard_recording c.args.octets.now) c.args.at 1024 c.loop-l.invariant.1
+      c.loop-l-test.false c.requires.0 c.in_counts.ensures
+      (lead_hard One c.args.octets.now c.args.at c.args.m c.requires.1);
+}
 
 pub barkers_spec : {M : Type 1} → statement M
 barkers_spec =
     tie.close
-    (tie.spec invariant_loop decreases_loop
-    (λ c. (firsts_none _ _ _ c.before.requires.2, firsts_none _ _ _ (search rules))) (λ c. omega arith)
-    (λ c. omega arith)
-    (λ c κs. let s = c.before.before.before in omega (arith, s.requires.1)) (λ c κs. search rules) (λ c. search rules)
-    (λ c. search rules) (λ c. omega arith) (λ c. omega arith) loop_again
+    (tie.spec
+    invariant_loop decreases_loop (λ c. (firsts_none _ _ _ c.requires.2, firsts_none _ _ _ (search rules)))
+    (λ c. omega arith) (λ c. omega arith) (λ c κs. omega (arith, c.requires.1)) (λ c κs. search rules)
+    (λ c. search rules) (λ c. search rules) (λ c. omega arith) (λ c. omega arith) loop_again
     (λ c κs. (search rules, search rules)) returns)

@@ -12,10 +12,10 @@ use Rattle.rules_chips.proofs.Usable.{hard_at}
 use Rattle.choose_hard.proofs.clean.Statement.{statement}
 use Rattle.choose_hard.proofs.clean.Tie as tie
 
-abbrev invariant_loop : tie.invariant-loop
+abbrev invariant_loop : tie.invariant-loop-k
 invariant_loop octets at top₀ k₀ top k = (k ≤ 64) × ((j : ℕ) → j < k → get_or octets (at + j) 0 ≤ top)
 
-abbrev decreases_loop : tie.decreases-loop
+abbrev decreases_loop : tie.decreases-loop-k
 decreases_loop octets at top₀ k₀ top k = 64 - k
 
 -- a bound of the first k, raised to bound the next
@@ -27,32 +27,30 @@ raised xs at k a b h l m j i = by (dec_lt j k)
     by (yes p) = omega (arith, h j p)
     by (no q) = let e : j ≡ k = omega arith in rw e m
 
-loop_again : tie.Need-loop-preserved invariant_loop decreases_loop
+loop_again : tie.Need-loop-k-preserved invariant_loop decreases_loop
 loop_again c =
-    let loop = c.before.before.before.loop in
-    let start = c.before.before.before.before in
-    let step = raised start.args.octets.now start.args.at loop.k loop.top c.if1.top
+    let loop = c.loop-k in
+    let step = raised c.args.octets.now c.args.at loop.k loop.top c.if-top-x.top
     loop.invariant.1 in (
       omega arith,
-      step (⊎_elim (λ w. omega arith) (λ w. omega arith) c.if1.branch)
-          (⊎_elim (λ w. omega arith) (λ w. omega arith) c.if1.branch),
+      step (⊎_elim (λ w. omega arith) (λ w. omega arith) c.if-top-x.branch)
+          (⊎_elim (λ w. omega arith) (λ w. omega arith) c.if-top-x.branch),
     )
 
 returns : tie.Need-returns invariant_loop decreases_loop
 returns c e =
-    let start = c.before.before in
-    let xs = start.args.octets.now in
-    let loop = c.before.loop in
+    let xs = c.args.octets.now in
+    let loop = c.loop-k in
     record {
       each = λ k h.
-          let small : get_or xs (start.args.at + k) 0 ≤ 4 =
+          let small : get_or xs (c.args.at + k) 0 ≤ 4 =
           omega (arith, loop.invariant.1 k (omega arith), ltb-true loop.top 5 e) in
-          rw (hard_at xs (start.args.at + k) (omega arith), le-leb (get_or xs (start.args.at + k) 0) 4 small);
+          rw (hard_at xs (c.args.at + k) (omega arith), le-leb (get_or xs (c.args.at + k) 0) 4 small);
     }
 
 pub clean_spec : {M : Type 1} → statement M
 clean_spec =
     tie.close
     (tie.spec
-    invariant_loop decreases_loop (λ c. (omega arith, λ j h. absurd (omega arith))) (λ c. omega arith) (λ c. omega arith)
-    (λ c. omega arith) (λ c. omega arith) loop_again returns)
+    invariant_loop decreases_loop (λ c. (omega arith, λ j h. absurd (omega arith))) (λ c. omega arith)
+    (λ c. omega arith) (λ c. omega arith) (λ c. omega arith) loop_again returns)

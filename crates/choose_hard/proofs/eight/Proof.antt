@@ -10,22 +10,23 @@ use Rattle.rules_chips.specs.Chips.{hard_chip}
 use Rattle.choose_hard.proofs.eight.Statement.{statement}
 use Rattle.choose_hard.proofs.eight.Tie as tie
 
-abbrev invariant_loop : tie.invariant-loop
+abbrev invariant_loop : tie.invariant-loop-k
 invariant_loop octets at chips₀ k₀ chips k = Filled (λ j. hard_chip (get_or octets (at + j) 0)) 8 chips k
 
-abbrev decreases_loop : tie.decreases-loop
+abbrev decreases_loop : tie.decreases-loop-k
 decreases_loop octets at chips₀ k₀ chips k = 8 - k
 
-loop_again : tie.Need-loop-preserved invariant_loop decreases_loop
-loop_again c = filled_more _ c.before.before.before.loop.invariant c.before.before.loop-test.true
-    c.hard-chip.ensures
+loop_again : tie.Need-loop-k-preserved invariant_loop decreases_loop
+loop_again c = filled_more _ c.loop-k.invariant c.loop-k-test.true
+    c.hard_chip.ensures
 
 returns : tie.Need-returns invariant_loop decreases_loop
-returns c = filled_all c.before.loop.invariant c.loop-test.false
+returns c = filled_all c.loop-k.invariant c.loop-k-test.false
 
 pub eight_spec : {M : Type 1} → statement M
 eight_spec =
     tie.close
     (tie.spec
-    invariant_loop decreases_loop (λ c. filled_none _ 8 _ refl) (λ c. omega arith) (λ c. omega arith) (λ c κs. search rules)
-    (λ c. search rules) (λ c. search rules) (λ c. omega arith) (λ c. omega arith) loop_again returns)
+    invariant_loop decreases_loop (λ c. filled_none _ 8 _ refl) (λ c. omega arith) (λ c. omega arith)
+    (λ c κs. search rules) (λ c. search rules) (λ c. search rules) (λ c. omega arith) (λ c. omega arith) loop_again
+    returns)

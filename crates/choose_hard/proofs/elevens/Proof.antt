@@ -26,77 +26,65 @@ use Rattle.choose_recorded.proofs.Columns.{hard_column_lem}
 use Rattle.choose_hard.proofs.elevens.Statement.{statement}
 use Rattle.choose_hard.proofs.elevens.Tie as tie
 
-abbrev invariant_loop : tie.invariant-loop
+abbrev invariant_loop : tie.invariant-loop-l
 invariant_loop octets at m numbers₀ leads₀ row₀ z₀ a₀ l₀ numbers leads row z a l =
     Firsts (number_at Eleven (hard_recording octets) at) m numbers l
     × Firsts (lead_at Eleven (hard_recording octets) at) m leads l × (l % 16 ≡ 0)
     × (length row ≡ 256) × (length z ≡ 256) × (length a ≡ 512)
 
-abbrev decreases_loop : tie.decreases-loop
+abbrev decreases_loop : tie.decreases-loop-l
 decreases_loop octets at m numbers₀ leads₀ row₀ z₀ a₀ l₀ numbers leads row z a l = m - l
 
 columns_requires : tie.Need-columns-requires invariant_loop decreases_loop
 columns_requires c κs =
-    let turn = c.before.before.before in
-    let few = c.before.at-most-16.ensures in
-    (omega (arith, few), omega (arith, few, turn.before.before.requires.1), turn.loop.invariant.3)
+    let few = c.at_most_16-count.ensures in
+    (omega (arith, few), omega (arith, few, c.requires.1), c.loop-l.invariant.3)
 
 sixteen_requires : tie.Need-sixteen-requires invariant_loop decreases_loop
 sixteen_requires c κs =
-    let set = c.before.before.before.before.before.before in
-    let turn = set.before.before.before.before in
-    let h = set.before.before.before.loop-test.true in (
-      set.columns.ensures.long,
-      turn.loop.invariant.4,
-      turn.loop.invariant.5,
+    let h = c.loop-l-test.true in (
+      c.columns.ensures.long,
+      c.loop-l.invariant.4,
+      c.loop-l.invariant.5,
       lit≤ tt,
-      omega (arith, turn.loop.invariant.2, turn.before.before.requires.0),
-      turn.loop.invariant.0.long,
-      turn.loop.invariant.1.long,
+      omega (arith, c.loop-l.invariant.2, c.requires.0),
+      c.loop-l.invariant.0.long,
+      c.loop-l.invariant.1.long,
     )
 
-loop_again : tie.Need-loop-preserved invariant_loop decreases_loop
+loop_again : tie.Need-loop-l-preserved invariant_loop decreases_loop
 loop_again c =
-    let decided-sixteen = c.before.before in
-    let set = decided-sixteen.before.before.before.before.before.before.before in
-    let counted = set.before.before in
-    let turn = counted.before.before in
-    let s = turn.before.before in
-    let octets = s.args.octets.now in
-    let row = set.columns.new.1.1.1.0 in
-    let l = turn.loop.l in
-    let n = counted.at-most-16.result in
-    let h = counted.before.loop-test.true in
-    let units : (j : ℕ) → j < 16 → l + j < s.args.m
-    → rows (every_row row j 8) (every_row row (16 + j) 8) ≡ units_at Eleven octets s.args.at (l + j) =
-    λ j few there. hard_column_lem s.args.at l n j (omega (arith, counted.at-most-16.ensures)) octets
-    set.columns.ensures in (
-      firsts_sixteen _ _ _ turn.loop.invariant.0 decided-sixteen.sixteen.ensures.1.0
+    let octets = c.args.octets.now in
+    let row = c.columns.new.row in
+    let l = c.loop-l.l in
+    let n = c.at_most_16-count.result in
+    let h = c.loop-l-test.true in
+    let units : (j : ℕ) → j < 16 → l + j < c.args.m
+    → rows (every_row row j 8) (every_row row (16 + j) 8) ≡ units_at Eleven octets c.args.at (l + j) =
+    λ j few there. hard_column_lem c.args.at l n j (omega (arith, c.at_most_16-count.ensures)) octets
+    c.columns.ensures in (
+      firsts_sixteen _ _ _ c.loop-l.invariant.0 c.sixteen.ensures.numbers
           (λ j few there. ap (decided Eleven) (units j few there)
-          ∙ number_hard Eleven octets s.args.at s.args.m s.requires.1 (l + j) there),
-      firsts_sixteen _ _ _ turn.loop.invariant.1 decided-sixteen.sixteen.ensures.1.1
+          ∙ number_hard Eleven octets c.args.at c.args.m c.requires.1 (l + j) there),
+      firsts_sixteen _ _ _ c.loop-l.invariant.1 c.sixteen.ensures.leads
           (λ j few there. ap (λ (cs : List Counts). 1024 * lead_of Eleven cs) (units j few there)
-          ∙ lead_hard Eleven octets s.args.at s.args.m s.requires.1 (l + j) there),
-      omega (arith, turn.loop.invariant.2),
-      set.columns.ensures.long,
-      decided-sixteen.sixteen.ensures.0.0,
-      decided-sixteen.sixteen.ensures.0.1,
+          ∙ lead_hard Eleven octets c.args.at c.args.m c.requires.1 (l + j) there),
+      omega (arith, c.loop-l.invariant.2),
+      c.columns.ensures.long,
+      c.sixteen.ensures.lengths.0,
+      c.sixteen.ensures.lengths.1,
     )
 
 returns : tie.Need-returns invariant_loop decreases_loop
 returns c =
-    let turn = c.before in
-    let s = turn.before.before in
-    let rec = hard_recording s.args.octets.now in (
-      all_decided Eleven rec s.args.at turn.loop.invariant.0 c.loop-test.false,
-      all_leads Eleven rec s.args.at turn.loop.invariant.1 c.loop-test.false,
-    )
+    let rec = hard_recording c.args.octets.now in record { numbers = all_decided Eleven rec c.args.at c.loop-l.invariant.0 c.loop-l-test.false; leads = all_leads Eleven rec c.args.at c.loop-l.invariant.1 c.loop-l-test.false }
 
 pub elevens_spec : {M : Type 1} → statement M
 elevens_spec =
     tie.close
-    (tie.spec invariant_loop decreases_loop
-    (λ c. (firsts_none _ _ _ c.before.requires.2, firsts_none _ _ _ c.before.requires.3, refl, refl, refl, refl))
-    (λ c. omega arith) (λ c κs. search rules) (λ c. omega arith) (λ c. omega arith) (λ c. search rules) columns_requires
-    (λ c. search rules) (λ c. search rules) (λ c. search rules) sixteen_requires (λ c. omega arith)
+    (tie.spec
+    invariant_loop decreases_loop
+    (λ c. (firsts_none _ _ _ c.requires.2, firsts_none _ _ _ c.requires.3, refl, refl, refl, refl))
+    (λ c. omega arith) (λ c κs. search rules) (λ c. omega arith) (λ c. omega arith) (λ c. search rules)
+    columns_requires (λ c. search rules) (λ c. search rules) (λ c. search rules) sixteen_requires (λ c. omega arith)
     (λ c. omega arith) loop_again returns)

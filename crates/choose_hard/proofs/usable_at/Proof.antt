@@ -9,8 +9,8 @@ use Rattle.choose_hard.proofs.usable_at.Tie as tie
 
 returns : tie.Need-returns
 returns c =
-    let start = c.before in
-    sym (ap not (hard_at start.args.octets.now start.args.at start.requires) ∙ not-not _)
+    sym (ap not (hard_at c.args.octets.now c.args.at c.requires) ∙ not-not _)
 
 pub usable_at_spec : {M : Type 1} → statement M
-usable_at_spec = tie.close (tie.spec (λ c. search rules) returns)
+usable_at_spec = tie.close (tie.spec
+    (λ c. search rules) returns)

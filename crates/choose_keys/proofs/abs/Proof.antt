@@ -8,17 +8,18 @@ use Rattle.rules_choosing.proofs.Wide.{abs_below, abs_above}
 use Rattle.choose_keys.proofs.abs.Statement.{statement}
 use Rattle.choose_keys.proofs.abs.Tie as tie
 
-sub_result : tie.Need-overflow-sub-result
-sub_result c = neg_fits w32 2147483647 (lit< tt) _ c.before.requires
+sub_result : tie.Need-overflow_sub-result
+sub_result c = neg_fits w32 2147483647 (lit< tt) _ c.requires
 
-returns : tie.Need-returns
-returns c = neg_read w32 2147483647 (lit< tt) _ c.before.requires
-    ∙ abs_below c.before.args.s (rw (small w32 2147483647 (lit< tt) _ c.before.requires) at c.if1.true)
+returns : tie.Need-returns-then-s-lt0
+returns c = neg_read w32 2147483647 (lit< tt) _ c.requires
+    ∙ abs_below c.args.s (rw (small w32 2147483647 (lit< tt) _ c.requires) at c.if-s-lt0.true)
 
-returns_2 : tie.Need-returns-2
+returns_2 : tie.Need-returns-else-s-lt0
 returns_2 c =
-    let e = small w32 2147483647 (lit< tt) _ c.before.requires in
-    e ∙ abs_above c.before.args.s (rw e at c.if1.false)
+    let e = small w32 2147483647 (lit< tt) _ c.requires in
+    e ∙ abs_above c.args.s (rw e at c.if-s-lt0.false)
 
 pub abs_spec : {M : Type 1} → statement M
-abs_spec = tie.close (tie.spec sub_result returns returns_2)
+abs_spec = tie.close (tie.spec
+    sub_result returns returns_2)

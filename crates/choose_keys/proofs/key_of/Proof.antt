@@ -23,5 +23,6 @@ read c = held w32 (natural (to_signed 31 c.args.x) c.requires.1) (omega (arith, 
 pub key_of_spec : {M : Type 1} → statement M
 key_of_spec =
     tie.close
-    (tie.spec (λ c. search rules) (λ c. rw (read c.before) (tt, record { fits = omega (arith, c.before.requires.2) }))
+    (tie.spec
+    (λ c. search rules) (λ c. rw (read c.before) (tt, record { fits = omega (arith, c.requires.2) }))
     (λ c. ap nat_abs (read c.before)))

@@ -10,5 +10,6 @@ use Rattle.choose_keys.proofs.lead_of.Tie as tie
 pub lead_of_spec : {M : Type 1} → statement M
 lead_of_spec =
     tie.close
-    (tie.spec (λ c. search rules) (λ c. search rules) (λ c. search rules)
+    (tie.spec
+    (λ c. search rules) (λ c. search rules) (λ c. search rules)
     (λ c. quotients (4 * c.args.w) (omega (arith, c.requires.0)) c.requires.2) (λ c. search rules))

@@ -7,15 +7,13 @@ use Rattle.choose_keys.proofs.merge.Statement.{statement}
 use Rattle.choose_keys.proofs.merge.Tie as tie
 
 returns : tie.Need-returns
-returns c =
-    let top = c.before in
-    let other = top.before in
-    let low = other.before in (
-      top.larger2.ensures,
-      c.larger3.ensures ∙ (λ i. larger_float (low.smaller.ensures i) (other.larger.ensures i)),
-    )
+returns c = (
+  c.larger.ensures,
+  c.larger-2.ensures ∙ (λ i. larger_float (c.smaller-low.ensures i) (c.larger-other.ensures i)),
+)
 
 pub merge_spec : {M : Type 1} → statement M
 merge_spec =
     tie.close
-    (tie.spec (λ c κs. search rules) (λ c κs. search rules) (λ c κs. search rules) (λ c κs. search rules) returns)
+    (tie.spec
+    (λ c κs. search rules) (λ c κs. search rules) (λ c κs. search rules) (λ c κs. search rules) returns)

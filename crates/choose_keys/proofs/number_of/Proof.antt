@@ -10,6 +10,7 @@ use Rattle.choose_keys.proofs.number_of.Tie as tie
 pub number_of_spec : {M : Type 1} → statement M
 number_of_spec =
     tie.close
-    (tie.spec (λ c. search rules) (λ c. search rules) (λ c. search rules)
+    (tie.spec
+    (λ c. search rules) (λ c. search rules) (λ c. search rules)
     (λ c. omega (arith, mod-lt c.args.key {m = 4 * c.args.w} (omega (arith, c.requires.0)))) (λ c. search rules)
     (λ c. search rules))

@@ -7,44 +7,44 @@ use Rattle.choose_recorders.proofs.decide.Tie as tie
 
 barkers_requires : tie.Need-barkers-requires
 barkers_requires c κs =
-    let s = c.before.before.before.before.before.before.before in
-    let p = rw c.before.before.enum_told.given.1 at s.requires in
+    let p = rw c.in-One.is at c.requires in
     (p.0, p.1, p.2, p.3, p.4)
 
-barkers_requires_2 : tie.Need-barkers-requires-2
+barkers_requires_2 : tie.Need-barkers-requires-in-Two
 barkers_requires_2 c κs =
-    let s = c.before.before.before.before.before.before.before in
-    let p = rw c.before.before.enum-told2.given.1 at s.requires in
+    let p = rw c.in-Two.is at c.requires in
     (p.0, p.1, p.2, p.3, p.4)
 
 fives_requires : tie.Need-fives-requires
 fives_requires c κs =
-    let s = c.before.before.before.before.before.before.before in
-    let p = rw c.before.before.enum-told3.given.1 at s.requires in
+    let p = rw c.in-Five.is at c.requires in
     (p.0, p.1, p.2, p.3, p.4)
 
 elevens_requires : tie.Need-elevens-requires
 elevens_requires c κs =
-    let s = c.before.before.before.before.before.before.before in
-    let p = rw c.before.before.enum-told4.given.1 at s.requires in
+    let p = rw c.in-Eleven.is at c.requires in
     (p.0, p.1, p.2, p.3, p.4)
 
-returns : tie.Need-returns
-returns c = rw c.before.before.before.enum_told.given.1 c.barkers.ensures
+returns : tie.Need-returns-in-One
+returns c =
+    let both = (rw c.in-One.is c.barkers.ensures) in record { numbers = both.0; leads = both.1 }
 
-returns_2 : tie.Need-returns-2
+returns_2 : tie.Need-returns-in-Two
 returns_2 c =
-    rw c.before.before.before.enum-told2.given.1
-    (decided_two _ _ _ _ c.barkers2.ensures.0, leads_two _ _ _ _ c.barkers2.ensures.1)
+    let both = (rw c.in-Two.is
+    (decided_two _ _ _ _ c.barkers-in-Two.ensures.numbers, leads_two _ _ _ _ c.barkers-in-Two.ensures.leads)) in record { numbers = both.0; leads = both.1 }
 
-returns_3 : tie.Need-returns-3
-returns_3 c = rw c.before.before.before.enum-told3.given.1 c.fives.ensures
+returns_3 : tie.Need-returns-in-Five
+returns_3 c =
+    let both = (rw c.in-Five.is c.fives.ensures) in record { numbers = both.0; leads = both.1 }
 
-returns_4 : tie.Need-returns-4
-returns_4 c = rw c.before.before.before.enum-told4.given.1 c.elevens.ensures
+returns_4 : tie.Need-returns-in-Eleven
+returns_4 c =
+    let both = (rw c.in-Eleven.is c.elevens.ensures) in record { numbers = both.0; leads = both.1 }
 
 pub decide_spec : {M : Type 1} → statement M
 decide_spec =
     tie.close
-    (tie.spec (λ c. search rules) barkers_requires (λ c. search rules) barkers_requires_2 (λ c. search rules)
-    fives_requires (λ c. search rules) elevens_requires returns returns_2 returns_3 returns_4)
+    (tie.spec
+    (λ c. search rules) barkers_requires (λ c. search rules) barkers_requires_2 (λ c. search rules) fives_requires
+    (λ c. search rules) elevens_requires returns returns_2 returns_3 returns_4)

@@ -14,40 +14,38 @@ use Rattle.choose_recorded.proofs.Search.{search_on, search_here, search_over}
 use Rattle.choose_recorders.proofs.first_unusable.Statement.{statement}
 use Rattle.choose_recorders.proofs.first_unusable.Tie as tie
 
-abbrev invariant_loop : tie.invariant-loop
+abbrev invariant_loop : tie.invariant-loop-at
 invariant_loop rec octets bytes i q from to at₀ at =
     let chips = recording_of rec octets bytes i q in
     first_unusable from (take (to - from) (drop from chips)) ≡ first_unusable at (take (to - at) (drop at chips))
 
-abbrev decreases_loop : tie.decreases-loop
+abbrev decreases_loop : tie.decreases-loop-at
 decreases_loop rec octets bytes i q from to at₀ at = to - at
 
-returns : tie.Need-returns invariant_loop decreases_loop
+returns : tie.Need-returns-then-not-usable_at invariant_loop decreases_loop
 returns c =
-    let start = c.before.before.before.before.before.before.before.before in
-    let a = start.args in
-    let loop = c.before.before.before.loop in
+    let a = c.args in
+    let loop = c.loop-at in
     sym (loop.invariant
     ∙ search_here (recording_of a.rec a.octets.now a.bytes.now a.i.now a.q.now) loop.at a.to
-    unusable c.before.before.loop-test.true start.requires
-    (not-false _ (sym c.before.usable_at.ensures ∙ not-true _ c.if1.true)))
+    unusable c.loop-at-test.true c.requires
+    (not-false _ (sym c.usable_at.ensures ∙ not-true _ c.if-not-usable_at.true)))
 
-loop_again : tie.Need-loop-preserved invariant_loop decreases_loop
+loop_again : tie.Need-loop-at-preserved invariant_loop decreases_loop
 loop_again c =
-    let start = c.before.before.before.before.before.before.before.before in
-    let a = start.args in
-    let loop = c.before.before.before.loop in
+    let a = c.args in
+    let loop = c.loop-at in
     loop.invariant
     ∙ search_on (recording_of a.rec a.octets.now a.bytes.now a.i.now a.q.now) loop.at a.to
-    unusable c.before.before.loop-test.true start.requires
-    (not-true _ (sym c.before.usable_at.ensures ∙ not-false _ c.if1.false))
+    unusable c.loop-at-test.true c.requires
+    (not-true _ (sym c.usable_at.ensures ∙ not-false _ c.if-not-usable_at.false))
 
-returns_2 : tie.Need-returns-2 invariant_loop decreases_loop
-returns_2 c = sym (c.before.loop.invariant ∙ search_over _ c.before.loop.at _ c.loop-test.false)
+returns_2 : tie.Need-returns invariant_loop decreases_loop
+returns_2 c = sym (c.loop-at.invariant ∙ search_over _ c.loop-at.at _ c.loop-at-test.false)
 
 pub first_unusable_spec : {M : Type 1} → statement M
 first_unusable_spec =
     tie.close
     (tie.spec
-    invariant_loop decreases_loop (λ c κs. search rules) (λ c. c.skip-clean.ensures) (λ c κs. search rules) returns
-    (λ c. omega arith) (λ c. omega arith) loop_again returns_2)
+    invariant_loop decreases_loop (λ c κs. search rules) (λ c. c.skip_clean-at.ensures) (λ c κs. search rules)
+    returns (λ c. omega arith) (λ c. omega arith) loop_again returns_2)

@@ -17,15 +17,15 @@ use Rattle.choose_recorded.proofs.Columns.{columns_none, columns_more, column_wi
 use Rattle.choose_soft.proofs.columns.Statement.{statement}
 use Rattle.choose_soft.proofs.columns.Tie as tie
 
-abbrev invariant_loop : tie.invariant-loop
+abbrev invariant_loop : tie.invariant-loop-l
 invariant_loop i q at count row₀ l₀ row l =
     (l ≤ count) × Columns (soft_column I i q at) (soft_column Q i q at) row l × RowWithin 8192 row
 
-abbrev decreases_loop : tie.decreases-loop
+abbrev decreases_loop : tie.decreases-loop-l
 decreases_loop i q at count row₀ l₀ row l = count - l
 
 -- the chips gathered are usable
-usable : (c : tie.After-eight invariant_loop decreases_loop) → AllSoft 8 c.eight.result
+usable : (c : tie.After-eight-chips invariant_loop decreases_loop) → AllSoft 8 c.eight.result
 usable c =
     let turn = c.before.before in
     let s = turn.before.before.before in
@@ -36,44 +36,38 @@ usable c =
     (omega (arith, s.requires.1), omega (arith, s.requires.2))
     (usable_part (8 * l) 8 s.requires.3 (omega arith)))
 
-eight_requires : tie.Need-eight-requires invariant_loop decreases_loop
-eight_requires c κs = let s = c.before.before.before.before in (omega (arith, s.requires.1), omega (arith, s.requires.2))
+eight_requires : tie.Need-eight-chips-requires invariant_loop decreases_loop
+eight_requires c κs = (omega (arith, c.requires.1), omega (arith, c.requires.2))
 
-put_column_requires : tie.Need-put-column-requires invariant_loop decreases_loop
+put_column_requires : tie.Need-put_column-requires invariant_loop decreases_loop
 put_column_requires c κs =
-    let turn = c.before.before.before.before.before in
-    (omega (arith, turn.before.before.before.requires.0), turn.loop.invariant.1.long)
+    (omega (arith, c.requires.0), c.loop-l.invariant.1.long)
 
-loop_again : tie.Need-loop-preserved invariant_loop decreases_loop
+loop_again : tie.Need-loop-l-preserved invariant_loop decreases_loop
 loop_again c =
-    let second = c.before.before.before in
-    let gathered = second.before.before in
-    let chips = gathered.eight.result in
-    let turn = gathered.before.before in
-    let i = second.before.soft-counts8.result in
-    let q = second.soft-counts82.result in
+    let chips = c.eight-chips.result in
+    let i = c.soft_counts8.result in
+    let q = c.soft_counts8-in-loop-l.result in
     let long_i : length i ≡ 8 = search rules in
     let long_q : length q ≡ 8 = search rules in (
       omega arith,
-      columns_more turn.loop.invariant.1 (omega (arith, turn.before.before.before.requires.0))
-          c.before.put-column.ensures long_i long_q
-          (second.before.soft-counts8.ensures ∙ ap (counts_along I) gathered.eight.ensures)
-          (second.soft-counts82.ensures ∙ ap (counts_along Q) gathered.eight.ensures),
-      column_within turn.loop.invariant.1.long c.before.put-column.ensures
-          (subst (RowWithin 8192) (sym second.before.soft-counts8.ensures) (counts_small I chips))
-          (subst (RowWithin 8192) (sym second.soft-counts82.ensures) (counts_small Q chips)) turn.loop.invariant.2,
+      columns_more c.loop-l.invariant.1 (omega (arith, c.requires.0))
+          c.put_column.ensures long_i long_q
+          (c.soft_counts8.ensures ∙ ap (counts_along I) c.eight-chips.ensures)
+          (c.soft_counts8-in-loop-l.ensures ∙ ap (counts_along Q) c.eight-chips.ensures),
+      column_within c.loop-l.invariant.1.long c.put_column.ensures
+          (subst (RowWithin 8192) (sym c.soft_counts8.ensures) (counts_small I chips))
+          (subst (RowWithin 8192) (sym c.soft_counts8-in-loop-l.ensures) (counts_small Q chips)) c.loop-l.invariant.2,
     )
 
 returns : tie.Need-returns invariant_loop decreases_loop
 returns c =
-    let s = c.before.before.before.before in
-    let all : c.before.loop.l ≡ s.args.count = omega arith in
-    (rw all at c.before.loop.invariant.1, c.before.loop.invariant.2)
+    let all : c.loop-l.l ≡ c.args.count = omega arith in record { row = rw all at c.loop-l.invariant.1; small = c.loop-l.invariant.2 }
 
 pub columns_spec : {M : Type 1} → statement M
 columns_spec =
     tie.close
-    (tie.spec invariant_loop decreases_loop
-    (λ c. (omega arith, columns_none _ _ _ c.before.before.requires.4, c.before.before.requires.5)) (λ c. omega arith)
-    (λ c. omega arith) eight_requires (λ c κs. usable c) (λ c κs. usable c.before) put_column_requires
+    (tie.spec
+    invariant_loop decreases_loop (λ c. (omega arith, columns_none _ _ _ c.requires.4, c.requires.5))
+    (λ c. omega arith) (λ c. omega arith) eight_requires (λ c κs. usable c) (λ c κs. usable c) put_column_requires
     (λ c. omega arith) (λ c. omega arith) loop_again (λ c. search rules) returns)

@@ -11,23 +11,23 @@ use Rattle.rules_chips.specs.declared.Chip.TheVariants.{Soft}
 use Rattle.choose_soft.proofs.eleven.Statement.{statement}
 use Rattle.choose_soft.proofs.eleven.Tie as tie
 
-abbrev invariant_loop : tie.invariant-loop
+abbrev invariant_loop : tie.invariant-loop-k
 invariant_loop i q at chips₀ k₀ chips k = Filled (λ j. Soft (record { i = get_or i (at + j) nan; q = get_or q (at + j) nan })) 11
     chips k
 
-abbrev decreases_loop : tie.decreases-loop
+abbrev decreases_loop : tie.decreases-loop-k
 decreases_loop i q at chips₀ k₀ chips k = 11 - k
 
-loop_again : tie.Need-loop-preserved invariant_loop decreases_loop
-loop_again c = filled_more _ c.before.before.before.loop.invariant c.before.before.loop-test.true refl
+loop_again : tie.Need-loop-k-preserved invariant_loop decreases_loop
+loop_again c = filled_more _ c.loop-k.invariant c.loop-k-test.true refl
 
 returns : tie.Need-returns invariant_loop decreases_loop
-returns c = filled_all c.before.loop.invariant c.loop-test.false
+returns c = filled_all c.loop-k.invariant c.loop-k-test.false
 
 pub eleven_spec : {M : Type 1} → statement M
 eleven_spec =
     tie.close
     (tie.spec
-    invariant_loop decreases_loop (λ c. filled_none _ 11 _ refl) (λ c. omega arith) (λ c. search rules) (λ c. omega arith)
-    (λ c. omega arith) (λ c. search rules) (λ c. omega arith) (λ c. search rules) (λ c. search rules) (λ c. omega arith)
-    (λ c. omega arith) loop_again returns)
+    invariant_loop decreases_loop (λ c. filled_none _ 11 _ refl) (λ c. omega arith) (λ c. search rules)
+    (λ c. omega arith) (λ c. omega arith) (λ c. search rules) (λ c. omega arith) (λ c. search rules)
+    (λ c. search rules) (λ c. omega arith) (λ c. omega arith) loop_again returns)

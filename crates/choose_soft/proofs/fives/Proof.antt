@@ -15,56 +15,47 @@ use Rattle.choose_recorded.proofs.Firsts.{Firsts, firsts_none, firsts_more, numb
 use Rattle.choose_soft.proofs.fives.Statement.{statement}
 use Rattle.choose_soft.proofs.fives.Tie as tie
 
-abbrev invariant_loop : tie.invariant-loop
+abbrev invariant_loop : tie.invariant-loop-l
 invariant_loop i q at m numbers₀ leads₀ l₀ numbers leads l =
     Firsts (number_at Five (soft_recording i q) at) m numbers l × Firsts (lead_at Five (soft_recording i q) at) m leads l
 
-abbrev decreases_loop : tie.decreases-loop
+abbrev decreases_loop : tie.decreases-loop-l
 decreases_loop i q at m numbers₀ leads₀ l₀ numbers leads l = m - l
 
 eight_requires : tie.Need-eight-requires invariant_loop decreases_loop
-eight_requires c κs = let s = c.before.before.before.before in (omega (arith, s.requires.1), omega (arith, s.requires.2))
+eight_requires c κs = (omega (arith, c.requires.1), omega (arith, c.requires.2))
 
-decide_five_requires : tie.Need-decide-five-requires invariant_loop decreases_loop
+decide_five_requires : tie.Need-decide_five-c-requires invariant_loop decreases_loop
 decide_five_requires c κs =
-    let turn = c.before.before in
-    let s = turn.before.before.before in
-    let l = turn.loop.l in
-    let h = c.before.loop-test.true in
+    let l = c.loop-l.l in
+    let h = c.loop-l-test.true in
     rw c.eight.ensures
-    (usable_soft 8 s.args.i.now s.args.q.now (s.args.at + 8 * l)
-    (omega (arith, s.requires.1), omega (arith, s.requires.2))
-    (usable_part (8 * l) 8 s.requires.3 (omega arith)))
+    (usable_soft 8 c.args.i.now c.args.q.now (c.args.at + 8 * l)
+    (omega (arith, c.requires.1), omega (arith, c.requires.2))
+    (usable_part (8 * l) 8 c.requires.3 (omega arith)))
 
-loop_again : tie.Need-loop-preserved invariant_loop decreases_loop
+loop_again : tie.Need-loop-l-preserved invariant_loop decreases_loop
 loop_again c =
-    let turn = c.before.before.before in
-    let s = turn.before.before.before in
-    let l = turn.loop.l in
-    let h = c.before.before.loop-test.true in
-    let chosen = c.decide-five.ensures in
-    let symbol : map counts_of c.before.eight.result
-    ≡ symbol_at Five (soft_recording s.args.i.now s.args.q.now) (s.args.at + 8 * l) =
-    ap (map counts_of) c.before.eight.ensures
-    ∙ gathered_soft 8 s.args.i.now s.args.q.now (s.args.at + 8 * l)
-    (omega (arith, s.requires.1), omega (arith, s.requires.2)) in (
-      firsts_more _ _ _ (omega (arith, s.requires.0)) (chosen.0 ∙ ap (decided Five) symbol) turn.loop.invariant.0,
-      firsts_more _ _ _ (omega (arith, s.requires.0)) (chosen.1 ∙ ap (lead_of Five) symbol) turn.loop.invariant.1,
+    let l = c.loop-l.l in
+    let h = c.loop-l-test.true in
+    let chosen = c.decide_five-c.ensures in
+    let symbol : map counts_of c.eight.result
+    ≡ symbol_at Five (soft_recording c.args.i.now c.args.q.now) (c.args.at + 8 * l) =
+    ap (map counts_of) c.eight.ensures
+    ∙ gathered_soft 8 c.args.i.now c.args.q.now (c.args.at + 8 * l)
+    (omega (arith, c.requires.1), omega (arith, c.requires.2)) in (
+      firsts_more _ _ _ (omega (arith, c.requires.0)) (chosen.0 ∙ ap (decided Five) symbol) c.loop-l.invariant.0,
+      firsts_more _ _ _ (omega (arith, c.requires.0)) (chosen.1 ∙ ap (lead_of Five) symbol) c.loop-l.invariant.1,
     )
 
 returns : tie.Need-returns invariant_loop decreases_loop
 returns c =
-    let turn = c.before in
-    let s = turn.before.before.before in
-    let rec = soft_recording s.args.i.now s.args.q.now in (
-      all_decided Five rec s.args.at turn.loop.invariant.0 c.loop-test.false,
-      all_leads Five rec s.args.at turn.loop.invariant.1 c.loop-test.false,
-    )
+    let rec = soft_recording c.args.i.now c.args.q.now in record { numbers = all_decided Five rec c.args.at c.loop-l.invariant.0 c.loop-l-test.false; leads = all_leads Five rec c.args.at c.loop-l.invariant.1 c.loop-l-test.false }
 
 pub fives_spec : {M : Type 1} → statement M
 fives_spec =
     tie.close
-    (tie.spec invariant_loop decreases_loop
-    (λ c. (firsts_none _ _ _ c.before.before.requires.4, firsts_none _ _ _ c.before.before.requires.5))
-    (λ c. omega arith) (λ c. omega arith) eight_requires decide_five_requires (λ c. search rules) (λ c. search rules)
-    (λ c. search rules) (λ c. search rules) (λ c. search rules) loop_again returns)
+    (tie.spec
+    invariant_loop decreases_loop (λ c. (firsts_none _ _ _ c.requires.4, firsts_none _ _ _ c.requires.5))
+    (λ c. omega arith) (λ c. omega arith) eight_requires decide_five_requires (λ c. search rules)
+    (λ c. search rules) (λ c. search rules) (λ c. search rules) (λ c. search rules) loop_again returns)

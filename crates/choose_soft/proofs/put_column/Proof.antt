@@ -13,35 +13,34 @@ use Rattle.choose_recorded.proofs.Columns.{column_none, column_more}
 use Rattle.choose_soft.proofs.put_column.Statement.{statement}
 use Rattle.choose_soft.proofs.put_column.Tie as tie
 
-abbrev invariant_loop : tie.invariant-loop
+abbrev invariant_loop : tie.invariant-loop-k
 invariant_loop l row₀ i q k₀ row k = (k ≤ 8) × ColumnSet i q l row₀ k row
 
-abbrev decreases_loop : tie.decreases-loop
+abbrev decreases_loop : tie.decreases-loop-k
 decreases_loop l row₀ i q k₀ row k = 8 - k
 
-slice_set : tie.Need-slice-set-from-row invariant_loop decreases_loop
-slice_set c = omega (arith, c.before.before.loop.invariant.1.long)
+slice_set : tie.Need-bounds-row-at invariant_loop decreases_loop
+slice_set c = omega (arith, c.loop-k.invariant.1.long)
 
-slice_set_2 : tie.Need-slice-set-from-row-2 invariant_loop decreases_loop
-slice_set_2 c = rw length-set (omega (arith, c.before.before.before.loop.invariant.1.long))
+slice_set_2 : tie.Need-bounds-row-at-in-loop-k invariant_loop decreases_loop
+slice_set_2 c = rw length-set (omega (arith, c.loop-k.invariant.1.long))
 
-loop_again : tie.Need-loop-preserved invariant_loop decreases_loop
+loop_again : tie.Need-loop-k-preserved invariant_loop decreases_loop
 loop_again c =
-    let turn = c.before.before.before in
-    let s = turn.before in
-    let i = get_or s.args.t1 turn.loop.k (pos 0) in
-    let q = get_or s.args.t2 turn.loop.k (pos 0) in
+    let i = get_or c.args.t1 c.loop-k.k (pos 0) in
+    let q = get_or c.args.t2 c.loop-k.k (pos 0) in
     let is_i : to_z w32 (of_z w32 i) ≡ i = search rules in
     let is_q : to_z w32 (of_z w32 q) ≡ q = search rules in
-    (omega arith, column_more _ _ turn.loop.invariant.1 (omega arith) s.requires.0 s.requires.1 is_i is_q)
+    (omega arith, column_more _ _ c.loop-k.invariant.1 (omega arith) c.requires.0 c.requires.1 is_i is_q)
 
 returns : tie.Need-returns invariant_loop decreases_loop
-returns c = let all : c.before.loop.k ≡ 8 = omega arith in rw all at c.before.loop.invariant.1
+returns c = let all : c.loop-k.k ≡ 8 = omega arith in rw all at c.loop-k.invariant.1
 
 pub put_column_spec : {M : Type 1} → statement M
 put_column_spec =
     tie.close
-    (tie.spec invariant_loop decreases_loop (λ c. (omega arith, column_none _ _ _ _)) (λ c. omega arith) (λ c. omega arith)
+    (tie.spec
+    invariant_loop decreases_loop (λ c. (omega arith, column_none _ _ _ _)) (λ c. omega arith) (λ c. omega arith)
     (λ c. omega arith) (λ c. search rules) (λ c. omega arith) slice_set (λ c. omega arith) (λ c. search rules)
     (λ c. omega arith) (λ c. omega arith) slice_set_2 (λ c. omega arith) (λ c. omega arith) loop_again
     (λ c. search rules) returns)

@@ -9,12 +9,11 @@ use Rattle.choose_soft.proofs.usable_at.Tie as tie
 
 returns : tie.Need-returns
 returns c =
-    let start = c.before.before.before.before.before in
-    c.usable-sample.ensures
-    ∙ sym (ap not (soft_at start.args.i.now start.args.q.now start.args.at start.requires.0
-    start.requires.1)
+    c.usable_sample.ensures
+    ∙ sym (ap not (soft_at c.args.i.now c.args.q.now c.args.at c.requires.0
+    c.requires.1)
     ∙ not-not _)
 
 pub usable_at_spec : {M : Type 1} → statement M
-usable_at_spec = tie.close (tie.spec (λ c. search rules) (λ c. search rules) (λ c. search rules) (λ c. search rules)
-    (λ c κs. search rules) returns)
+usable_at_spec = tie.close (tie.spec
+    (λ c. search rules) (λ c. search rules) (λ c. search rules) (λ c. search rules) (λ c κs. search rules) returns)

@@ -11,15 +11,14 @@ use Rattle.choose_stages_bytes.proofs.enter.Tie as tie
 
 four_requires : tie.Need-four-requires
 four_requires c κs =
-    let pre = c.before.requires in
+    let pre = c.requires in
     (pre.0, pre.1, lit≤ tt, within_pos 16, within_neg (within_pos 16), within_zero 4)
 
 four_requires_2 : tie.Need-four-requires-2
 four_requires_2 c κs =
-    let one = c.before.before in
-    let pre = one.before.before.requires in (
+    let pre = c.requires in (
       pre.0,
-      one.four.ensures.0.long ∙ pre.1,
+      c.four.ensures.z.long ∙ pre.1,
       lit≤ tt,
       within_neg (within_pos 16),
       within_pos 16,
@@ -28,12 +27,8 @@ four_requires_2 c κs =
 
 returns : tie.Need-returns
 returns c =
-    let two = c.before in
-    let one = two.before.before.before in
-    let pre = one.before.before.requires in (
-      entered pre.1 one.four.ensures.0 two.four2.ensures.0,
-      four_both one.four.ensures.1 two.four2.ensures.1 pre.0,
-    )
+    let pre = c.requires in record { z = entered pre.1 c.four.ensures.z c.four-2.ensures.z; bytes = four_both c.four.ensures.bytes c.four-2.ensures.bytes pre.0 }
 
 pub enter_spec : {M : Type 1} → statement M
-enter_spec = tie.close (tie.spec four_requires four_requires_2 (λ c. search rules) returns)
+enter_spec = tie.close (tie.spec
+    four_requires four_requires_2 (λ c. search rules) returns)

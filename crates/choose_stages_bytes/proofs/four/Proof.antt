@@ -18,12 +18,12 @@ use Rattle.choose_walsh.proofs.Stages.{scaled_none, scaled_four, four_none, four
 use Rattle.choose_stages_bytes.proofs.four.Statement.{statement}
 use Rattle.choose_stages_bytes.proofs.four.Tie as tie
 
-abbrev invariant_loop : tie.invariant-loop
+abbrev invariant_loop : tie.invariant-loop-l
 invariant_loop row x third fourth more z₀ l₀ z l =
     (l ≤ 32) × FourScaled row x (pos 16 ∷ pos 16 ∷ to_z w16 third ∷ to_z w16 fourth ∷ [])
     (pos 0 ∷ pos 0 ∷ pos 0 ∷ to_z w16 more ∷ []) z₀ l z × FourWithin 128 row x l
 
-abbrev decreases_loop : tie.decreases-loop
+abbrev decreases_loop : tie.decreases-loop-l
 decreases_loop row x third fourth more z₀ l₀ z l = 32 - l
 
 -- the factors and what is added, as they are read
@@ -47,7 +47,7 @@ module _ (c : tie.Start invariant_loop decreases_loop) where
   more_within = rw more_is c.requires.5
 
 -- a turn: its places in both rows
-module _ (c : tie.In-loop invariant_loop decreases_loop) where
+module _ (c : tie.In-loop-l invariant_loop decreases_loop) where
   abbrev start : tie.Start invariant_loop decreases_loop
   start = c.before.before
 
@@ -88,16 +88,16 @@ module _ (c : tie.In-loop invariant_loop decreases_loop) where
   room_on k h = omega (arith, long, below)
 
 -- the turn that a step is in: k chips are scaled
-abbrev by1 : tie.After-scaled invariant_loop decreases_loop → tie.In-loop invariant_loop decreases_loop
+abbrev by1 : tie.After-scaled-c0 invariant_loop decreases_loop → tie.In-loop-l invariant_loop decreases_loop
 by1 c = c.before.before
 
-abbrev by2 : tie.After-scaled2 invariant_loop decreases_loop → tie.In-loop invariant_loop decreases_loop
+abbrev by2 : tie.After-scaled-c1 invariant_loop decreases_loop → tie.In-loop-l invariant_loop decreases_loop
 by2 c = by1 c.before.before
 
-abbrev by3 : tie.After-scaled3 invariant_loop decreases_loop → tie.In-loop invariant_loop decreases_loop
+abbrev by3 : tie.After-scaled-c2 invariant_loop decreases_loop → tie.In-loop-l invariant_loop decreases_loop
 by3 c = by2 c.before.before
 
-abbrev by4 : tie.After-scaled4 invariant_loop decreases_loop → tie.In-loop invariant_loop decreases_loop
+abbrev by4 : tie.After-scaled-c3 invariant_loop decreases_loop → tie.In-loop-l invariant_loop decreases_loop
 by4 c = by3 c.before.before
 
 -- a byte as it is read, scaled, and written
@@ -108,12 +108,8 @@ entry times more e f g = e ∙ f ∙ ap (λ (v : ℤ). (times *ℤ v) +ℤ more)
 seen : {b : ℤ} → Within 128 (to_z w8 (of_z w8 b)) → to_z w8 (of_z w8 b) ≡ b → Within 128 b
 seen h g = subst (Within 128) g h
 
-loop_again : tie.Need-loop-preserved invariant_loop decreases_loop
+loop_again : tie.Need-loop-l-preserved invariant_loop decreases_loop
 loop_again c =
-    let s3 = c in
-    let s2 = s3.before.before in
-    let s1 = s2.before.before in
-    let s0 = s1.before.before in
     let start = start (by4 c) in
     let row = start.args.row.now in
     let a = a (by4 c) in
@@ -128,39 +124,31 @@ loop_again c =
     let b3 : to_z w8 (of_z w8 (get_or row (a + 96) (pos 0))) ≡ get_or row (a + 96) (pos 0) = search rules in (
       omega (arith, few),
       scaled_four inv.1 few (omega (arith, start.pre.1, start.pre.2))
-          (entry (pos 16) (pos 0) (search rules) s0.scaled.ensures.0 b0)
-          (entry (pos 16) (pos 0) (search rules) s1.scaled2.ensures.0 b1)
-          (entry third (pos 0) (search rules) s2.scaled3.ensures.0 b2)
-          (entry fourth more (search rules) s3.scaled4.ensures.0 b3),
-      four_more_lem inv.2 (seen s0.scaled.ensures.1 b0) (seen s1.scaled2.ensures.1 b1)
-          (seen s2.scaled3.ensures.1 b2) (seen s3.scaled4.ensures.1 b3),
+          (entry (pos 16) (pos 0) (search rules) c.scaled-c0.ensures.answer b0)
+          (entry (pos 16) (pos 0) (search rules) c.scaled-c1.ensures.answer b1)
+          (entry third (pos 0) (search rules) c.scaled-c2.ensures.answer b2)
+          (entry fourth more (search rules) c.scaled-c3.ensures.answer b3),
+      four_more_lem inv.2 (seen c.scaled-c0.ensures.byte b0) (seen c.scaled-c1.ensures.byte b1)
+          (seen c.scaled-c2.ensures.byte b2) (seen c.scaled-c3.ensures.byte b3),
     )
 
 returns : tie.Need-returns invariant_loop decreases_loop
 returns c =
-    let at = c.before in
-    let s = at.before in
-    let e : at.loop.l ≡ 32 = omega (arith, at.loop.invariant.0, c.loop-test.false) in
-    (rw (e, third_is s, fourth_is s, more_is s) at at.loop.invariant.1, rw e at at.loop.invariant.2)
+    let e : c.loop-l.l ≡ 32 = omega (arith, c.loop-l.invariant.0, c.loop-l-test.false) in record { z = rw (e, third_is c, fourth_is c, more_is c) c c.loop-l.invariant.1; bytes = rw e c c.loop-l.invariant.2 }
 
 pub four_spec : {M : Type 1} → statement M
 four_spec =
     tie.close
-    (tie.spec invariant_loop decreases_loop (λ c. (omega arith, scaled_none, four_none)) (λ c. place c)
-    (λ c. inside c)
-    (λ c κs. (within_pos 16, within_zero 4))
-    (λ c. place_on (by1 c) 32 (lit< tt)) (λ c. inside_on (by1 c) 32 (lit< tt))
-    (λ c κs. (within_pos 16, within_zero 4))
+    (tie.spec
+    invariant_loop decreases_loop (λ c. (omega arith, scaled_none, four_none)) (λ c. place c) (λ c. inside c)
+    (λ c κs. (within_pos 16, within_zero 4)) (λ c. place_on (by1 c) 32 (lit< tt))
+    (λ c. inside_on (by1 c) 32 (lit< tt)) (λ c κs. (within_pos 16, within_zero 4))
     (λ c. place_on (by2 c) 64 (lit< tt)) (λ c. inside_on (by2 c) 64 (lit< tt))
-    (λ c κs. (third_within (start (by2 c.before)), within_zero 4))
-    (λ c. place_on (by3 c) 96 (lit< tt)) (λ c. inside_on (by3 c) 96 (lit< tt))
-    (λ c κs. (fourth_within (start (by3 c.before)), more_within (start (by3 c.before))))
-    (λ c. size (by4 c)) (λ c. room (by4 c))
-    (λ c. place_on (by4 c) 32 (lit< tt)) (λ c. size_on (by4 c) 32 (lit< tt))
-    (λ c. simp length-set (room_on (by4 c) 32 (lit< tt)))
-    (λ c. place_on (by4 c) 64 (lit< tt)) (λ c. size_on (by4 c) 64 (lit< tt))
-    (λ c. simp length-set (room_on (by4 c) 64 (lit< tt)))
+    (λ c κs. (third_within (start (by2 c)), within_zero 4)) (λ c. place_on (by3 c) 96 (lit< tt))
+    (λ c. inside_on (by3 c) 96 (lit< tt)) (λ c κs. (fourth_within (start (by3 c)), more_within (start (by3 c))))
+    (λ c. size (by4 c)) (λ c. room (by4 c)) (λ c. place_on (by4 c) 32 (lit< tt)) (λ c. size_on (by4 c) 32 (lit< tt))
+    (λ c. simp length-set (room_on (by4 c) 32 (lit< tt))) (λ c. place_on (by4 c) 64 (lit< tt))
+    (λ c. size_on (by4 c) 64 (lit< tt)) (λ c. simp length-set (room_on (by4 c) 64 (lit< tt)))
     (λ c. place_on (by4 c) 96 (lit< tt)) (λ c. size_on (by4 c) 96 (lit< tt))
-    (λ c. simp length-set (room_on (by4 c) 96 (lit< tt)))
-    (λ c. next (by4 c)) (λ c. omega (arith, (by4 c).loop-test.true)) loop_again
-    (λ c. c.before.loop.invariant.1.long) returns)
+    (λ c. simp length-set (room_on (by4 c) 96 (lit< tt))) (λ c. next (by4 c))
+    (λ c. omega (arith, (by4 c).loop-test.true)) loop_again (λ c. c.loop-l.invariant.1.long) returns)

@@ -9,7 +9,7 @@ use Rattle.choose_stages_bytes.proofs.pairs.Tie as tie
 
 butterfly_requires : tie.Need-butterfly-requires
 butterfly_requires c κs =
-    let pre = c.before.requires in (
+    let pre = c.requires in (
       pre.0,
       pre.1,
       lit≤ tt,
@@ -21,10 +21,9 @@ butterfly_requires c κs =
 
 butterfly_requires_2 : tie.Need-butterfly-requires-2
 butterfly_requires_2 c κs =
-    let one = c.before.before in
-    let pre = one.before.before.requires in (
+    let pre = c.requires in (
       pre.0,
-      one.butterfly.ensures.long ∙ pre.1,
+      c.butterfly.ensures.long ∙ pre.1,
       lit≤ tt,
       lit≤ tt,
       lit≤ tt,
@@ -34,11 +33,9 @@ butterfly_requires_2 c κs =
 
 butterfly_requires_3 : tie.Need-butterfly-requires-3
 butterfly_requires_3 c κs =
-    let two = c.before.before in
-    let one = two.before.before.before in
-    let pre = one.before.before.requires in (
+    let pre = c.requires in (
       pre.0,
-      two.butterfly2.ensures.long ∙ one.butterfly.ensures.long ∙ pre.1,
+      c.butterfly-2.ensures.long ∙ c.butterfly.ensures.long ∙ pre.1,
       lit≤ tt,
       lit≤ tt,
       lit≤ tt,
@@ -48,12 +45,9 @@ butterfly_requires_3 c κs =
 
 butterfly_requires_4 : tie.Need-butterfly-requires-4
 butterfly_requires_4 c κs =
-    let three = c.before.before in
-    let two = three.before.before.before in
-    let one = two.before.before.before in
-    let pre = one.before.before.requires in (
+    let pre = c.requires in (
       pre.0,
-      three.butterfly3.ensures.long ∙ two.butterfly2.ensures.long ∙ one.butterfly.ensures.long ∙ pre.1,
+      c.butterfly-3.ensures.long ∙ c.butterfly-2.ensures.long ∙ c.butterfly.ensures.long ∙ pre.1,
       lit≤ tt,
       lit≤ tt,
       lit≤ tt,
@@ -63,15 +57,11 @@ butterfly_requires_4 c κs =
 
 returns : tie.Need-returns
 returns c =
-    let four = c.before in
-    let three = four.before.before.before in
-    let two = three.before.before.before in
-    let one = two.before.before.before in
-    paired one.before.before.requires.1 one.butterfly.ensures two.butterfly2.ensures
-    three.butterfly3.ensures four.butterfly4.ensures
+    paired c.requires.1 c.butterfly.ensures c.butterfly-2.ensures
+    c.butterfly-3.ensures c.butterfly-4.ensures
 
 pub pairs_spec : {M : Type 1} → statement M
 pairs_spec =
     tie.close
-    (tie.spec butterfly_requires butterfly_requires_2 butterfly_requires_3 butterfly_requires_4 (λ c. search rules)
-    returns)
+    (tie.spec
+    butterfly_requires butterfly_requires_2 butterfly_requires_3 butterfly_requires_4 (λ c. search rules) returns)

@@ -21,7 +21,8 @@ module _ (c : tie.Start) where
 pub scaled_spec : {M : Type 1} → statement M
 scaled_spec =
     tie.close
-    (tie.spec (λ c. made_fits (read c) (byte c).within (lit< tt))
+    (tie.spec
+    (λ c. made_fits (read c) (byte c).within (lit< tt))
     (λ c. product_fits w16 (lit< tt) (lit< tt) (byte c) c.requires.0 c.requires.1)
     (λ c. raised_fits w16 (lit< tt) (lit< tt) (byte c) c.requires.0 c.requires.1)
-    (λ c. (raised_is w16 (lit< tt) (lit< tt) (byte c) c.requires.0 c.requires.1, (byte c).within)))
+    (λ c. record { answer = raised_is w16 (lit< tt) (lit< tt) (byte c) c.requires.0 c.requires.1; byte = (byte c).within }))

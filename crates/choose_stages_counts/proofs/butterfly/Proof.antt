@@ -12,14 +12,14 @@ use Rattle.choose_walsh.proofs.Flights.{Flight, flight, flown_none, flown_eight}
 use Rattle.choose_stages_counts.proofs.butterfly.Statement.{statement}
 use Rattle.choose_stages_counts.proofs.butterfly.Tie as tie
 
-abbrev invariant_loop : tie.invariant-loop
+abbrev invariant_loop : tie.invariant-loop-l
 invariant_loop s x y o₀ z l₀ o l = (l ≤ 16) × Flown s x y o₀ z l o
 
-abbrev decreases_loop : tie.decreases-loop
+abbrev decreases_loop : tie.decreases-loop-l
 decreases_loop s x y o₀ z l₀ o l = 16 - l
 
 -- a turn: its places in both rows
-module _ (c : tie.In-loop invariant_loop decreases_loop) where
+module _ (c : tie.In-loop-l invariant_loop decreases_loop) where
   abbrev start : tie.Start invariant_loop decreases_loop
   start = c.before.before
 
@@ -60,20 +60,20 @@ module _ (c : tie.In-loop invariant_loop decreases_loop) where
   room_on k h = omega (arith, c.before.loop.invariant.1.long, start.pre.1, start.pre.4, below)
 
 -- the turn that a step is in: so many numbers are read
-abbrev by1 : tie.After-xr invariant_loop decreases_loop → tie.In-loop invariant_loop decreases_loop
+abbrev by1 : tie.After-xr-1 invariant_loop decreases_loop → tie.In-loop-l invariant_loop decreases_loop
 by1 c = c.before
 
-abbrev by2 : tie.After-xi invariant_loop decreases_loop → tie.In-loop invariant_loop decreases_loop
+abbrev by2 : tie.After-xi-1 invariant_loop decreases_loop → tie.In-loop-l invariant_loop decreases_loop
 by2 c = by1 c.before
 
-abbrev by3 : tie.After-yr invariant_loop decreases_loop → tie.In-loop invariant_loop decreases_loop
+abbrev by3 : tie.After-yr-1 invariant_loop decreases_loop → tie.In-loop-l invariant_loop decreases_loop
 by3 c = by2 c.before
 
-abbrev by4 : tie.After-yi invariant_loop decreases_loop → tie.In-loop invariant_loop decreases_loop
+abbrev by4 : tie.After-yi-1 invariant_loop decreases_loop → tie.In-loop-l invariant_loop decreases_loop
 by4 c = by3 c.before
 
 -- a turn, once its column is read
-module _ (c : tie.After-yi invariant_loop decreases_loop) where
+module _ (c : tie.After-yi-1 invariant_loop decreases_loop) where
   of : Flight w32 (row_at (start (by4 c)).args.s.now (start (by4 c)).args.x (l (by4 c)))
       (row_at (start (by4 c)).args.s.now (start (by4 c)).args.y (l (by4 c)))
   of =
@@ -86,7 +86,7 @@ module _ (c : tie.After-yi invariant_loop decreases_loop) where
   sized : (k : ℕ) → k < 113 → Fits w64 (((start (by4 c)).args.z + l (by4 c) + k) * 4)
   sized k h = size_on (by4 c) (start (by4 c)).args.z k (start (by4 c)).pre.4 h
 
-loop_again : tie.Need-loop-preserved invariant_loop decreases_loop
+loop_again : tie.Need-loop-l-preserved invariant_loop decreases_loop
 loop_again c =
     let s = start (by4 c) in
     let end : s.args.z + 128 ≤ length s.args.o.now = omega (arith, s.pre.1, s.pre.4) in
@@ -94,37 +94,32 @@ loop_again c =
 
 returns : tie.Need-returns invariant_loop decreases_loop
 returns c =
-    let e : c.before.loop.l ≡ 16 = omega (arith, c.before.loop.invariant.0, c.loop-test.false) in
-    rw e at c.before.loop.invariant.1
+    let e : c.loop-l.l ≡ 16 = omega (arith, c.loop-l.invariant.0, c.loop-l-test.false) in
+    rw e at c.loop-l.invariant.1
 
 pub butterfly_spec : {M : Type 1} → statement M
 butterfly_spec =
     tie.close
-    (tie.spec invariant_loop decreases_loop (λ c. (omega arith, flown_none _ _ _ _ _))
+    (tie.spec
+    invariant_loop decreases_loop (λ c. (omega arith, flown_none _ _ _ _ _))
     (λ c. place c _ (few c _ (start c).requires.2)) (λ c. place c _ (few c _ (start c).requires.3))
-    (λ c. place c _ (start c).requires.4)
-    (λ c. size c _ (few c _ (start c).requires.2)) (λ c. inside c _ (start c).requires.2)
+    (λ c. place c _ (start c).requires.4) (λ c. size c _ (few c _ (start c).requires.2))
+    (λ c. inside c _ (start c).requires.2)
     (λ c. place_on (by1 c) _ 16 (few (by1 c) _ (start (by1 c)).pre.2) (lit< tt))
     (λ c. size_on (by1 c) _ 16 (few (by1 c) _ (start (by1 c)).pre.2) (lit< tt))
-    (λ c. inside_on (by1 c) _ (start (by1 c)).pre.2)
-    (λ c. size (by2 c) _ (few (by2 c) _ (start (by2 c)).pre.3)) (λ c. inside (by2 c) _ (start (by2 c)).pre.3)
+    (λ c. inside_on (by1 c) _ (start (by1 c)).pre.2) (λ c. size (by2 c) _ (few (by2 c) _ (start (by2 c)).pre.3))
+    (λ c. inside (by2 c) _ (start (by2 c)).pre.3)
     (λ c. place_on (by3 c) _ 16 (few (by3 c) _ (start (by3 c)).pre.3) (lit< tt))
     (λ c. size_on (by3 c) _ 16 (few (by3 c) _ (start (by3 c)).pre.3) (lit< tt))
-    (λ c. inside_on (by3 c) _ (start (by3 c)).pre.3)
-    (λ c. (of c).fits0) (λ c. size (by4 c) _ (start (by4 c)).pre.4) (λ c. room (by4 c))
-    (λ c. (of c).fits1) (λ c. on c 16 (lit< tt)) (λ c. sized c 16 (lit< tt))
-    (λ c. simp length-set (room_on (by4 c) 16 (lit< tt)))
-    (λ c. (of c).fits2) (λ c. on c 32 (lit< tt)) (λ c. sized c 32 (lit< tt))
-    (λ c. simp length-set (room_on (by4 c) 32 (lit< tt)))
-    (λ c. (of c).fits3) (λ c. on c 48 (lit< tt)) (λ c. sized c 48 (lit< tt))
-    (λ c. simp length-set (room_on (by4 c) 48 (lit< tt)))
+    (λ c. inside_on (by3 c) _ (start (by3 c)).pre.3) (λ c. (of c).fits0) (λ c. size (by4 c) _ (start (by4 c)).pre.4)
+    (λ c. room (by4 c)) (λ c. (of c).fits1) (λ c. on c 16 (lit< tt)) (λ c. sized c 16 (lit< tt))
+    (λ c. simp length-set (room_on (by4 c) 16 (lit< tt))) (λ c. (of c).fits2) (λ c. on c 32 (lit< tt))
+    (λ c. sized c 32 (lit< tt)) (λ c. simp length-set (room_on (by4 c) 32 (lit< tt))) (λ c. (of c).fits3)
+    (λ c. on c 48 (lit< tt)) (λ c. sized c 48 (lit< tt)) (λ c. simp length-set (room_on (by4 c) 48 (lit< tt)))
     (λ c. (of c).fits4) (λ c. on c 64 (lit< tt)) (λ c. sized c 64 (lit< tt))
-    (λ c. simp length-set (room_on (by4 c) 64 (lit< tt)))
-    (λ c. (of c).fits5) (λ c. on c 80 (lit< tt)) (λ c. sized c 80 (lit< tt))
-    (λ c. simp length-set (room_on (by4 c) 80 (lit< tt)))
-    (λ c. (of c).fits6) (λ c. on c 96 (lit< tt)) (λ c. sized c 96 (lit< tt))
-    (λ c. simp length-set (room_on (by4 c) 96 (lit< tt)))
+    (λ c. simp length-set (room_on (by4 c) 64 (lit< tt))) (λ c. (of c).fits5) (λ c. on c 80 (lit< tt))
+    (λ c. sized c 80 (lit< tt)) (λ c. simp length-set (room_on (by4 c) 80 (lit< tt))) (λ c. (of c).fits6)
+    (λ c. on c 96 (lit< tt)) (λ c. sized c 96 (lit< tt)) (λ c. simp length-set (room_on (by4 c) 96 (lit< tt)))
     (λ c. (of c).fits7) (λ c. on c 112 (lit< tt)) (λ c. sized c 112 (lit< tt))
-    (λ c. simp length-set (room_on (by4 c) 112 (lit< tt)))
-    (λ c. next (by4 c)) (λ c. omega (arith, below (by4 c))) loop_again
-    (λ c. c.before.loop.invariant.1.long) returns)
+    (λ c. simp length-set (room_on (by4 c) 112 (lit< tt))) (λ c. next (by4 c)) (λ c. omega (arith, below (by4 c)))
+    loop_again (λ c. c.loop-l.invariant.1.long) returns)

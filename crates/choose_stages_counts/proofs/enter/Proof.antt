@@ -11,15 +11,14 @@ use Rattle.choose_stages_counts.proofs.enter.Tie as tie
 
 four_requires : tie.Need-four-requires
 four_requires c κs =
-    let pre = c.before.requires in
+    let pre = c.requires in
     (pre.0, pre.1, lit≤ tt, within_pos 16, within_neg (within_pos 16), within_zero 4, pre.2)
 
 four_requires_2 : tie.Need-four-requires-2
 four_requires_2 c κs =
-    let one = c.before.before in
-    let pre = one.before.before.requires in (
+    let pre = c.requires in (
       pre.0,
-      one.four.ensures.long ∙ pre.1,
+      c.four.ensures.long ∙ pre.1,
       lit≤ tt,
       within_neg (within_pos 16),
       within_pos 16,
@@ -29,10 +28,9 @@ four_requires_2 c κs =
 
 returns : tie.Need-returns
 returns c =
-    let two = c.before in
-    let one = two.before.before.before in
-    let pre = one.before.before.requires in
-    entered pre.1 one.four.ensures two.four2.ensures
+    let pre = c.requires in
+    entered pre.1 c.four.ensures c.four-2.ensures
 
 pub enter_spec : {M : Type 1} → statement M
-enter_spec = tie.close (tie.spec four_requires four_requires_2 (λ c. search rules) returns)
+enter_spec = tie.close (tie.spec
+    four_requires four_requires_2 (λ c. search rules) returns)

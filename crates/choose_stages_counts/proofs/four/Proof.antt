@@ -18,12 +18,12 @@ use Rattle.choose_walsh.proofs.Stages.{scaled_none, scaled_four}
 use Rattle.choose_stages_counts.proofs.four.Statement.{statement}
 use Rattle.choose_stages_counts.proofs.four.Tie as tie
 
-abbrev invariant_loop : tie.invariant-loop
+abbrev invariant_loop : tie.invariant-loop-l
 invariant_loop row x third fourth more z₀ l₀ z l =
     (l ≤ 32) × FourScaled row x (pos 16 ∷ pos 16 ∷ to_z w32 third ∷ to_z w32 fourth ∷ [])
     (pos 0 ∷ pos 0 ∷ pos 0 ∷ to_z w32 more ∷ []) z₀ l z
 
-abbrev decreases_loop : tie.decreases-loop
+abbrev decreases_loop : tie.decreases-loop-l
 decreases_loop row x third fourth more z₀ l₀ z l = 32 - l
 
 -- the factors and what is added, as they are read
@@ -47,7 +47,7 @@ module _ (c : tie.Start invariant_loop decreases_loop) where
   more_within = rw more_is c.requires.5
 
 -- a turn: its places in both rows
-module _ (c : tie.In-loop invariant_loop decreases_loop) where
+module _ (c : tie.In-loop-l invariant_loop decreases_loop) where
   abbrev start : tie.Start invariant_loop decreases_loop
   start = c.before.before
 
@@ -88,20 +88,20 @@ module _ (c : tie.In-loop invariant_loop decreases_loop) where
   room_on k h = omega (arith, long, below)
 
 -- the turn that a step is in: k chips are scaled
-abbrev by1 : tie.After-scaled invariant_loop decreases_loop → tie.In-loop invariant_loop decreases_loop
+abbrev by1 : tie.After-scaled-c0 invariant_loop decreases_loop → tie.In-loop-l invariant_loop decreases_loop
 by1 c = c.before.before
 
-abbrev by2 : tie.After-scaled2 invariant_loop decreases_loop → tie.In-loop invariant_loop decreases_loop
+abbrev by2 : tie.After-scaled-c1 invariant_loop decreases_loop → tie.In-loop-l invariant_loop decreases_loop
 by2 c = by1 c.before.before
 
-abbrev by3 : tie.After-scaled3 invariant_loop decreases_loop → tie.In-loop invariant_loop decreases_loop
+abbrev by3 : tie.After-scaled-c2 invariant_loop decreases_loop → tie.In-loop-l invariant_loop decreases_loop
 by3 c = by2 c.before.before
 
-abbrev by4 : tie.After-scaled4 invariant_loop decreases_loop → tie.In-loop invariant_loop decreases_loop
+abbrev by4 : tie.After-scaled-c3 invariant_loop decreases_loop → tie.In-loop-l invariant_loop decreases_loop
 by4 c = by3 c.before.before
 
 -- a count as it is read, and as it is scaled and written
-module _ (c : tie.In-loop invariant_loop decreases_loop) (k : ℕ) where
+module _ (c : tie.In-loop-l invariant_loop decreases_loop) (k : ℕ) where
   count_is : to_z w32 (of_z w32 (get_or (start c).args.row.now k (pos 0))) ≡ get_or (start c).args.row.now k (pos 0)
   count_is = small w32 8192 (lit< tt) _ ((start c).requires.6.at k)
 
@@ -113,12 +113,8 @@ module _ (c : tie.In-loop invariant_loop decreases_loop) (k : ℕ) where
       → to_z w32 (of_z w32 r) ≡ (times *ℤ get_or (start c).args.row.now k (pos 0)) +ℤ more
   entry times more e f = e ∙ f ∙ ap (λ (v : ℤ). (times *ℤ v) +ℤ more) count_is
 
-loop_again : tie.Need-loop-preserved invariant_loop decreases_loop
+loop_again : tie.Need-loop-l-preserved invariant_loop decreases_loop
 loop_again c =
-    let s3 = c in
-    let s2 = s3.before.before in
-    let s1 = s2.before.before in
-    let s0 = s1.before.before in
     let turn = by4 c in
     let start = start turn in
     let a = a turn in
@@ -129,40 +125,32 @@ loop_again c =
     let more = to_z w32 (of_z w32 start.args.more) in (
       omega (arith, few),
       scaled_four inv.1 few (omega (arith, start.pre.1, start.pre.2))
-          (entry turn a (pos 16) (pos 0) (search rules) s0.scaled.ensures)
-          (entry turn (a + 32) (pos 16) (pos 0) (search rules) s1.scaled2.ensures)
-          (entry turn (a + 64) third (pos 0) (search rules) s2.scaled3.ensures)
-          (entry turn (a + 96) fourth more (search rules) s3.scaled4.ensures),
+          (entry turn a (pos 16) (pos 0) (search rules) c.scaled-c0.ensures)
+          (entry turn (a + 32) (pos 16) (pos 0) (search rules) c.scaled-c1.ensures)
+          (entry turn (a + 64) third (pos 0) (search rules) c.scaled-c2.ensures)
+          (entry turn (a + 96) fourth more (search rules) c.scaled-c3.ensures),
     )
 
 returns : tie.Need-returns invariant_loop decreases_loop
 returns c =
-    let at = c.before in
-    let s = at.before in
-    let e : at.loop.l ≡ 32 = omega (arith, at.loop.invariant.0, c.loop-test.false) in
-    rw (e, third_is s, fourth_is s, more_is s) at at.loop.invariant.1
+    let e : c.loop-l.l ≡ 32 = omega (arith, c.loop-l.invariant.0, c.loop-l-test.false) in
+    rw (e, third_is c, fourth_is c, more_is c) c c.loop-l.invariant.1
 
 pub four_spec : {M : Type 1} → statement M
 four_spec =
     tie.close
-    (tie.spec invariant_loop decreases_loop (λ c. (omega arith, scaled_none)) (λ c. place c)
-    (λ c. size c) (λ c. inside c)
-    (λ c κs. (count c.before (a c.before), within_pos 16, within_zero 4))
-    (λ c. place_on (by1 c) 32 (lit< tt)) (λ c. size_on (by1 c) 32 (lit< tt)) (λ c. inside_on (by1 c) 32 (lit< tt))
-    (λ c κs. (count (by1 c.before) (a (by1 c.before) + 32), within_pos 16, within_zero 4))
-    (λ c. place_on (by2 c) 64 (lit< tt)) (λ c. size_on (by2 c) 64 (lit< tt)) (λ c. inside_on (by2 c) 64 (lit< tt))
-    (λ c κs.
-    let turn = by2 c.before in (count turn (a turn + 64), third_within (start turn), within_zero 4))
+    (tie.spec
+    invariant_loop decreases_loop (λ c. (omega arith, scaled_none)) (λ c. place c) (λ c. size c) (λ c. inside c)
+    (λ c κs. (count c (a c), within_pos 16, within_zero 4)) (λ c. place_on (by1 c) 32 (lit< tt))
+    (λ c. size_on (by1 c) 32 (lit< tt)) (λ c. inside_on (by1 c) 32 (lit< tt))
+    (λ c κs. (count (by1 c) (a (by1 c) + 32), within_pos 16, within_zero 4)) (λ c. place_on (by2 c) 64 (lit< tt))
+    (λ c. size_on (by2 c) 64 (lit< tt)) (λ c. inside_on (by2 c) 64 (lit< tt))
+    (λ c κs. let turn = by2 c.before in (count turn (a turn + 64), third_within (start turn), within_zero 4))
     (λ c. place_on (by3 c) 96 (lit< tt)) (λ c. size_on (by3 c) 96 (lit< tt)) (λ c. inside_on (by3 c) 96 (lit< tt))
-    (λ c κs.
-    let turn = by3 c.before in
-    (count turn (a turn + 96), fourth_within (start turn), more_within (start turn)))
-    (λ c. size (by4 c)) (λ c. room (by4 c))
-    (λ c. place_on (by4 c) 32 (lit< tt)) (λ c. size_on (by4 c) 32 (lit< tt))
-    (λ c. simp length-set (room_on (by4 c) 32 (lit< tt)))
-    (λ c. place_on (by4 c) 64 (lit< tt)) (λ c. size_on (by4 c) 64 (lit< tt))
-    (λ c. simp length-set (room_on (by4 c) 64 (lit< tt)))
+    (λ c κs. let turn = by3 c.before in (count turn (a turn + 96), fourth_within (start turn), more_within (start turn)))
+    (λ c. size (by4 c)) (λ c. room (by4 c)) (λ c. place_on (by4 c) 32 (lit< tt)) (λ c. size_on (by4 c) 32 (lit< tt))
+    (λ c. simp length-set (room_on (by4 c) 32 (lit< tt))) (λ c. place_on (by4 c) 64 (lit< tt))
+    (λ c. size_on (by4 c) 64 (lit< tt)) (λ c. simp length-set (room_on (by4 c) 64 (lit< tt)))
     (λ c. place_on (by4 c) 96 (lit< tt)) (λ c. size_on (by4 c) 96 (lit< tt))
-    (λ c. simp length-set (room_on (by4 c) 96 (lit< tt)))
-    (λ c. next (by4 c)) (λ c. omega (arith, (by4 c).loop-test.true)) loop_again
-    (λ c. c.before.loop.invariant.1.long) returns)
+    (λ c. simp length-set (room_on (by4 c) 96 (lit< tt))) (λ c. next (by4 c))
+    (λ c. omega (arith, (by4 c).loop-test.true)) loop_again (λ c. c.loop-l.invariant.1.long) returns)

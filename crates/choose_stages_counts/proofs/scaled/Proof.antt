@@ -14,6 +14,7 @@ count c = reads_of (lit< tt) c.requires.0
 pub scaled_spec : {M : Type 1} → statement M
 scaled_spec =
     tie.close
-    (tie.spec (λ c. product_fits w32 (lit< tt) (lit< tt) (count c) c.requires.1 c.requires.2)
+    (tie.spec
+    (λ c. product_fits w32 (lit< tt) (lit< tt) (count c) c.requires.1 c.requires.2)
     (λ c. raised_fits w32 (lit< tt) (lit< tt) (count c) c.requires.1 c.requires.2)
     (λ c. raised_is w32 (lit< tt) (lit< tt) (count c) c.requires.1 c.requires.2))

@@ -22,7 +22,7 @@ below (negsuc n) f t = absurd t
 product : (u n : ℕ) → u ≤ 1024 → n ≤ 4096 → Fits w32 (u * n)
 product u n h k = record { fits = omega (arith, mul-le-mul_right n h) }
 
-module _ (c : tie.After-max) where
+module _ (c : tie.After-max-next) where
   abbrev start : tie.Start
   start = c.before
 
@@ -61,8 +61,8 @@ returns c =
 pub lead_of_spec : {M : Type 1} → statement M
 lead_of_spec =
     tie.close
-    (tie.spec (λ c κs. search rules)
-    (λ c. (first_natural c, record { fits = omega (arith, first_below c) }))
+    (tie.spec
+    (λ c κs. search rules) (λ c. (first_natural c, record { fits = omega (arith, first_below c) }))
     (λ c. record { fits = omega (arith, first_below c) })
     (λ c. (natural c, record { fits = omega (arith, first_below c, under c) }))
     (λ c. record { fits = omega (arith, first_below c, under c) }) (λ c. omega (arith, under c))

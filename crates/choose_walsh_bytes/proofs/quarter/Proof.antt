@@ -38,15 +38,15 @@ in_row k p l a b c d = omega arith
 in_row_q : (k p l : ℕ) {n : ℕ} → k ≤ 384 → p < 4 → l < 16 → n ≡ 512 → k + 32 * p + l + 16 < n
 in_row_q k p l a b c d = omega arith
 
-abbrev invariant_loop : tie.invariant-loop
+abbrev invariant_loop : tie.invariant-loop-l
 invariant_loop a p3 first₀ second₀ at₀ e p f q g l₀ first second at l =
     (l ≤ 16) × Quartered a p3 first₀ second₀ at₀ l first second at
 
-abbrev decreases_loop : tie.decreases-loop
+abbrev decreases_loop : tie.decreases-loop-l
 decreases_loop a p3 first₀ second₀ at₀ e p f q g l₀ first second at l = 16 - l
 
 -- the places of a turn: k + 32 p3 + l, and sixteen on
-module _ (c : tie.In-loop invariant_loop decreases_loop) where
+module _ (c : tie.In-loop-l invariant_loop decreases_loop) where
   abbrev b3 : ℕ
   b3 = c.before.before.before.args.p3
 
@@ -95,19 +95,19 @@ module _ (c : tie.In-loop invariant_loop decreases_loop) where
   in_at = omega (arith, c.before.loop.invariant.1.at_long, c.before.before.before.requires.3.at_long, few_of)
 
 -- what the column has, as it is read
-first_is : (c : tie.After-column-arg invariant_loop decreases_loop)
+first_is : (c : tie.After-b-1 invariant_loop decreases_loop)
     → to_z w16 (of_z w16 (get_or c.before.before.loop.first c.before.before.loop.l (pos 0)))
     ≡ get_or c.before.before.loop.first c.before.before.loop.l (pos 0)
 first_is c = search rules
 
-second_is : (c : tie.After-column-arg2 invariant_loop decreases_loop)
+second_is : (c : tie.After-b-in-loop-l-1 invariant_loop decreases_loop)
     → to_z w16 (of_z w16 (get_or c.before.before.before.loop.second c.before.before.before.loop.l (pos 0)))
     ≡ get_or c.before.before.before.loop.second c.before.before.before.loop.l (pos 0)
 second_is c = search rules
 
 -- a turn, once its column is read
-module _ (c : tie.After-column-arg10 invariant_loop decreases_loop) where
-  abbrev turn : tie.In-loop invariant_loop decreases_loop
+module _ (c : tie.After-column-arg-in-loop-l-7-1 invariant_loop decreases_loop) where
+  abbrev turn : tie.In-loop-l invariant_loop decreases_loop
   turn = c.before.before.before.before.before.before.before.before.before.before.before
 
   abbrev start : tie.Start invariant_loop decreases_loop
@@ -136,7 +136,7 @@ module _ (c : tie.After-column-arg10 invariant_loop decreases_loop) where
   e_row = row start.args.p3 _ (omega (arith, third)) (omega arith)
 
 -- the turn that is written, once the keys of its column are found
-abbrev by : tie.After-struct-told2 invariant_loop decreases_loop → tie.In-loop invariant_loop decreases_loop
+abbrev by : tie.After-struct_told-in-loop-l-1 invariant_loop decreases_loop → tie.In-loop-l invariant_loop decreases_loop
 by c = turn c.before.before.before
 
 read : {x y : ℤ} → Bounded 4104 (pair x y) → Bounded 4104 (pair (to_z w16 (of_z w16 x)) (to_z w16 (of_z w16 y)))
@@ -145,72 +145,51 @@ read h = record { real = within_read w16 (lit< tt) h.real; imag = within_read w1
 is : {x y : ℤ} → Bounded 4104 (pair x y) → pair (to_z w16 (of_z w16 x)) (to_z w16 (of_z w16 y)) ≡ pair x y
 is h = λ i. pair (small w16 4104 (lit< tt) _ h.real i) (small w16 4104 (lit< tt) _ h.imag i)
 
-column_requires : tie.Need-column-requires invariant_loop decreases_loop
+column_requires : tie.Need-column-c-requires invariant_loop decreases_loop
 column_requires c κs =
     (read (q_row c), read (p_row c), read (f_row c), read (e_row c), omega (arith, third c))
 
-loop_again : tie.Need-loop-preserved invariant_loop decreases_loop
+loop_again : tie.Need-loop-l-preserved invariant_loop decreases_loop
 loop_again c =
-    let col = c.before.before in
-    let t = turn col.before in
+    let t = turn c in
     let at = t.before in
-    let s = start col.before in
+    let s = start c in
     let few = t.loop-test.taken in
     let l = at.loop.l in
-    let v : to_z w16 (of_z w16 col.column.result.first) ≡ col.column.result.first = search rules in
-    let w : to_z w16 (of_z w16 col.column.result.second) ≡ col.column.result.second = search rules in
-    let read2 = col.before.before.before.before.before.before.before.before.before.before in (
+    let v : to_z w16 (of_z w16 c.column-c.result.first) ≡ c.column-c.result.first = search rules in
+    let w : to_z w16 (of_z w16 c.column-c.result.second) ≡ c.column-c.result.second = search rules in (
       omega arith,
       quartered_more _ _ _ at.loop.inv.1 (omega (arith, s.pre.3.first_long))
           (omega (arith, s.pre.3.second_long)) (omega (arith, s.pre.3.at_long))
-          ((λ i. held (v i) (w i) col.column.result.group)
-          ∙ col.column.ensures
-          ∙ (λ i. four_more (held (first_is read2.before i) (second_is read2 i) (get_or at.loop.at l 0))
-          (is (q_row col.before) i) (is (p_row col.before) i) (is (f_row col.before) i)
-          (is (e_row col.before) i) (4 * s.args.p3))),
+          ((λ i. held (v i) (w i) c.column-c.result.group)
+          ∙ c.column-c.ensures
+          ∙ (λ i. four_more (held (first_is c i) (second_is c i) (get_or at.loop.at l 0))
+          (is (q_row c) i) (is (p_row c) i) (is (f_row c) i)
+          (is (e_row c) i) (4 * s.args.p3))),
     )
 
 returns : tie.Need-returns invariant_loop decreases_loop
 returns c =
-    let e : c.before.loop.l ≡ 16 = omega (arith, c.before.loop.invariant.0, c.loop-test.false) in
-    sought_quarter c.before.before.before.requires.3 (rw e at c.before.loop.invariant.1)
+    let e : c.loop-l.l ≡ 16 = omega (arith, c.loop-l.invariant.0, c.loop-l-test.false) in
+    sought_quarter c.requires.3 (rw e at c.loop-l.invariant.1)
 
 pub quarter_spec : {M : Type 1} → statement M
 quarter_spec =
     tie.close
-    (tie.spec invariant_loop decreases_loop (λ c. search rules) (λ c. search rules) (λ c. search rules) (λ c. search rules)
+    (tie.spec
+    invariant_loop decreases_loop (λ c. search rules) (λ c. search rules) (λ c. search rules) (λ c. search rules)
     (λ c. search rules) (λ c. search rules) (λ c. search rules) (λ c. search rules) (λ c. search rules)
-    (λ c. search rules) (λ c. (omega arith, quartered_none _ _ _ _ _))
-    (λ c. size c) (λ c. in_first c) (λ c. size c.before) (λ c. in_second c.before)
-    (λ c. size c.before.before) (λ c. in_at c.before.before.before)
-    (λ c. place c.before.before.before 384 (lit≤ tt)) (λ c. twice c.before.before.before 384 (lit≤ tt))
-    (λ c. inside c.before.before.before 384 (lit≤ tt))
-    (λ c. place c.before.before.before.before 384 (lit≤ tt))
-    (λ c. place_q c.before.before.before.before 384 (lit≤ tt))
-    (λ c. twice_q c.before.before.before.before 384 (lit≤ tt))
-    (λ c. inside_q c.before.before.before.before 384 (lit≤ tt))
-    (λ c. place c.before.before.before.before.before 128 (lit≤ tt))
-    (λ c. twice c.before.before.before.before.before 128 (lit≤ tt))
-    (λ c. inside c.before.before.before.before.before 128 (lit≤ tt))
-    (λ c. place c.before.before.before.before.before.before 128 (lit≤ tt))
-    (λ c. place_q c.before.before.before.before.before.before 128 (lit≤ tt))
-    (λ c. twice_q c.before.before.before.before.before.before 128 (lit≤ tt))
-    (λ c. inside_q c.before.before.before.before.before.before 128 (lit≤ tt))
-    (λ c. place c.before.before.before.before.before.before.before 256 (lit≤ tt))
-    (λ c. twice c.before.before.before.before.before.before.before 256 (lit≤ tt))
-    (λ c. inside c.before.before.before.before.before.before.before 256 (lit≤ tt))
-    (λ c. place c.before.before.before.before.before.before.before.before 256 (lit≤ tt))
-    (λ c. place_q c.before.before.before.before.before.before.before.before 256 (lit≤ tt))
-    (λ c. twice_q c.before.before.before.before.before.before.before.before 256 (lit≤ tt))
-    (λ c. inside_q c.before.before.before.before.before.before.before.before 256 (lit≤ tt))
-    (λ c. place c.before.before.before.before.before.before.before.before.before 0 (lit≤ tt))
-    (λ c. twice c.before.before.before.before.before.before.before.before.before 0 (lit≤ tt))
-    (λ c. inside c.before.before.before.before.before.before.before.before.before 0 (lit≤ tt))
-    (λ c. place c.before.before.before.before.before.before.before.before.before.before 0 (lit≤ tt))
-    (λ c. place_q c.before.before.before.before.before.before.before.before.before.before 0 (lit≤ tt))
-    (λ c. twice_q c.before.before.before.before.before.before.before.before.before.before 0 (lit≤ tt))
-    (λ c. inside_q c.before.before.before.before.before.before.before.before.before.before 0 (lit≤ tt))
-    column_requires (λ c. size (by c)) (λ c. in_first (by c)) (λ c. size (by c)) (λ c. in_second (by c))
-    (λ c. size (by c)) (λ c. in_at (by c)) (λ c. next (by c)) (λ c. omega (arith, few_of (by c))) loop_again
-    (λ c. c.before.loop.invariant.1.first_long) (λ c. c.before.loop.invariant.1.second_long)
-    (λ c. c.before.loop.invariant.1.at_long) returns)
+    (λ c. search rules) (λ c. (omega arith, quartered_none _ _ _ _ _)) (λ c. size c) (λ c. in_first c) (λ c. size c)
+    (λ c. in_second c) (λ c. size c) (λ c. in_at c) (λ c. place c 384 (lit≤ tt)) (λ c. twice c 384 (lit≤ tt))
+    (λ c. inside c 384 (lit≤ tt)) (λ c. place c 384 (lit≤ tt)) (λ c. place_q c 384 (lit≤ tt))
+    (λ c. twice_q c 384 (lit≤ tt)) (λ c. inside_q c 384 (lit≤ tt)) (λ c. place c 128 (lit≤ tt))
+    (λ c. twice c 128 (lit≤ tt)) (λ c. inside c 128 (lit≤ tt)) (λ c. place c 128 (lit≤ tt))
+    (λ c. place_q c 128 (lit≤ tt)) (λ c. twice_q c 128 (lit≤ tt)) (λ c. inside_q c 128 (lit≤ tt))
+    (λ c. place c 256 (lit≤ tt)) (λ c. twice c 256 (lit≤ tt)) (λ c. inside c 256 (lit≤ tt))
+    (λ c. place c 256 (lit≤ tt)) (λ c. place_q c 256 (lit≤ tt)) (λ c. twice_q c 256 (lit≤ tt))
+    (λ c. inside_q c 256 (lit≤ tt)) (λ c. place c 0 (lit≤ tt)) (λ c. twice c 0 (lit≤ tt))
+    (λ c. inside c 0 (lit≤ tt)) (λ c. place c 0 (lit≤ tt)) (λ c. place_q c 0 (lit≤ tt)) (λ c. twice_q c 0 (lit≤ tt))
+    (λ c. inside_q c 0 (lit≤ tt)) column_requires (λ c. size (by c)) (λ c. in_first (by c)) (λ c. size (by c))
+    (λ c. in_second (by c)) (λ c. size (by c)) (λ c. in_at (by c)) (λ c. next (by c))
+    (λ c. omega (arith, few_of (by c))) loop_again (λ c. c.loop-l.invariant.1.first_long)
+    (λ c. c.loop-l.invariant.1.second_long) (λ c. c.loop-l.invariant.1.at_long) returns)

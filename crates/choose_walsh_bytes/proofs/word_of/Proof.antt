@@ -19,7 +19,7 @@ fits : (z : ℤ) → SFits w16 z → T (non_neg z) → Fits w16 (nat_abs z)
 fits (pos n) f t = record { fits = omega (arith, f.sfits) }
 fits (negsuc n) f t = absurd t
 
-cast_m : tie.Need-overflow-cast-m
+cast_m : tie.Need-overflow_cast-m
 cast_m c = rw (read c) (c.requires.0, fits c.args.key (search rules) c.requires.0)
 
 returns : tie.Need-returns
@@ -28,5 +28,6 @@ returns c = ap (λ (z : ℤ). 16 * (15 - (nat_abs z % 16 + 11) % 16) + c.args.g)
 pub word_of_spec : {M : Type 1} → statement M
 word_of_spec =
     tie.close
-    (tie.spec cast_m (λ c. search rules) (λ c. search rules) (λ c. search rules) (λ c. search rules)
-    (λ c. search rules) returns)
+    (tie.spec
+    cast_m (λ c. search rules) (λ c. search rules) (λ c. search rules) (λ c. search rules) (λ c. search rules)
+    returns)

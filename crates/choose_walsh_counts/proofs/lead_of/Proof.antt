@@ -18,7 +18,7 @@ below : (z : ℤ) → SFits w32 z → T (non_neg z) → nat_abs z < 2147483648
 below (pos n) f t = omega (arith, f.sfits)
 below (negsuc n) f t = absurd t
 
-module _ (c : tie.After-max) where
+module _ (c : tie.After-max-next) where
   abbrev start : tie.Start
   start = c.before
 
@@ -56,8 +56,8 @@ returns c =
 pub lead_of_spec : {M : Type 1} → statement M
 lead_of_spec =
     tie.close
-    (tie.spec (λ c κs. search rules)
-    (λ c. (first_natural c, record { fits = omega (arith, first_below c) }))
+    (tie.spec
+    (λ c κs. search rules) (λ c. (first_natural c, record { fits = omega (arith, first_below c) }))
     (λ c. record { fits = omega (arith, first_below c) })
     (λ c. (natural c, record { fits = omega (arith, first_below c, under c) }))
     (λ c. record { fits = omega (arith, first_below c, under c) }) (λ c. omega (arith, under c)) returns)

@@ -15,19 +15,15 @@ use Rattle.choose_walsh_counts.proofs.sixteen.Tie as tie
 
 pairs_requires : tie.Need-pairs-requires
 pairs_requires c κs =
-    let enter = c.before.before.before in
-    let e = enter.enter.ensures in
-    let s = enter.before.before in
-    (e.long, s.requires.2, entered_rows e s.requires.6)
+    let e = c.enter.ensures in
+    (e.long, c.requires.2, entered_rows e c.requires.6)
 
 search_requires : tie.Need-search-requires
 search_requires c κs =
-    let pairs = c.before.before.before.before.before in
-    let enter = pairs.before.before.before.before in
-    let e = enter.enter.ensures in
-    let p = pairs.pairs.ensures in (
+    let e = c.enter.ensures in
+    let p = c.pairs.ensures in (
       p.long,
-      paired_rows p (entered_rows e enter.before.before.requires.6),
+      paired_rows p (entered_rows e c.requires.6),
       sought_none _ _ _ _ refl refl refl
           (λ l few. subst⁻¹ (λ (z : ℤ). z <ℤ negsuc 0) (get_or-replicate 16 l (negsuc 1) (pos 0) few)
           (record { lt = tt }))
@@ -36,17 +32,16 @@ search_requires c κs =
 
 -- the stages behind what the search has found
 module _ (c : tie.After-search) where
-  abbrev pairs : tie.After-pairs
-  pairs = c.before.before.before.before.before.before
+  abbrev c : tie.After-pairs
+  c = c
 
-  abbrev enter : tie.After-enter
-  enter = pairs.before.before.before.before
+  abbrev c : tie.After-enter
+  c = c
 
 put_requires : tie.Need-put-requires
 put_requires c κs =
-    let searched = c.before.before.before.before.before.before.before.before in
-    let s = (enter searched).before.before in (
-      keyed (enter searched).enter.ensures (pairs searched).pairs.ensures searched.search.ensures,
+    let s = (enter c).before.before in (
+      keyed (enter c).enter.ensures (pairs c).pairs.ensures c.search.ensures,
       s.pre.3,
       s.pre.4,
       s.pre.5,
@@ -54,20 +49,20 @@ put_requires c κs =
 
 returns : tie.Need-returns
 returns c =
-    let searched = c.before.before.before.before.before.before.before.before.before in
-    let e = (enter searched).enter.ensures in
-    let p = (pairs searched).pairs.ensures in
-    let f = searched.search.ensures in (
+    let both = (let e = (enter c).enter.ensures in
+    let p = (pairs c).pairs.ensures in
+    let f = c.search.ensures in (
       (e.long, p.long),
       (
-        put_ext c.put.ensures.0 (λ s few. chosen _ _ _ s few e p _ (f.each s few)),
-        put_ext c.put.ensures.1 (λ s few. led _ _ _ s few e p _ (f.each s few)),
+        put_ext c.put.ensures.numbers (λ s few. chosen _ _ _ s few e p _ (f.each s few)),
+        put_ext c.put.ensures.leads (λ s few. led _ _ _ s few e p _ (f.each s few)),
       ),
-    )
+    )) in record { lengths = both.0; numbers = both.1; leads = both.2 }
 
 pub sixteen_spec : {M : Type 1} → statement M
 sixteen_spec =
     tie.close
-    (tie.spec (λ c κs. search rules) pairs_requires (λ c. search rules) (λ c. search rules) (λ c. search rules)
+    (tie.spec
+    (λ c κs. search rules) pairs_requires (λ c. search rules) (λ c. search rules) (λ c. search rules)
     search_requires (λ c. search rules) (λ c. search rules) (λ c. search rules) put_requires (λ c. search rules)
     (λ c. search rules) returns)

@@ -48,13 +48,13 @@ good : (g : Reading) (t : Told) (code used : ℕ) (least : Least) → g ≡ Good
     (record_of g)
 good g t code used least q a = rw (q, a, clock_byte t.clock)
 
-returns : tie.Need-returns
+returns : tie.Need-returns-in-Refused
 returns c =
-    refused _ _ _ _ _ c.before.before.before.before.g.given.1 c.before.before.number_of.ensures
-    c.before.place_of.ensures c.length_of.ensures
+    refused _ _ _ _ _ c.in-Refused.is c.number_of.ensures
+    c.place_of.ensures c.length_of.ensures
 
-returns_2 : tie.Need-returns-2
-returns_2 c = good _ _ _ _ _ c.before.before.before.g2.given.1 c.before.code.ensures
+returns_2 : tie.Need-returns-in-Good
+returns_2 c = good _ _ _ _ _ c.in-Good.is c.code.ensures
 
 pub record_of_spec : {M : Type 1} → statement M
 record_of_spec =

@@ -6,4 +6,5 @@ use Rattle.common_answers.proofs.written_of.Tie as tie
 pub written_of_spec : {M : Type 1} → statement M
 written_of_spec =
     tie.close
-    (tie.spec (λ c. search rules) (λ c κs. search rules) (λ c. search rules) (λ c. cc) (λ c. cc))
+    (tie.spec
+    (λ c. search rules) (λ c κs. search rules) (λ c. search rules) (λ c. cc) (λ c. cc))

@@ -9,4 +9,5 @@ returns : tie.Need-returns
 returns c = (sym (number_two c.args.low c.args.high (search rules) (search rules)), search rules)
 
 pub both_spec : {M : Type 1} → statement M
-both_spec = tie.close (tie.spec (λ c. search rules) (λ c. search rules) returns)
+both_spec = tie.close (tie.spec
+    (λ c. search rules) (λ c. search rules) returns)

@@ -11,7 +11,8 @@ six : (c : tie.Start) → length c.args.t1 ≡ 6
 six c = search rules
 
 returns : tie.Need-returns
-returns c = c.highest-first.ensures ∙ sym (ap highest_first (last_two _ (six c.before)))
+returns c = c.highest_first.ensures ∙ sym (ap highest_first (last_two _ (six c.before)))
 
 pub crc_read_spec : {M : Type 1} → statement M
-crc_read_spec = tie.close (tie.spec (λ c. search rules) (λ c. search rules) (λ c κs. search rules) returns)
+crc_read_spec = tie.close (tie.spec
+    (λ c. search rules) (λ c. search rules) (λ c κs. search rules) returns)

@@ -22,32 +22,29 @@ fits c i = search rules
 octets : (c : tie.Start) → Below 256 c.args.t1
 octets c = record { at = λ i. (fits c i).fits }
 
-crc_fits : (c : tie.After-crc-octets) (i : ℕ) → Fits w8 (get_or c.crc-octets.result i 0)
+crc_fits : (c : tie.After-crc_octets-crc) (i : ℕ) → Fits w8 (get_or c.crc-octets.result i 0)
 crc_fits c i = search rules
 
-crcs : (c : tie.After-crc-octets) → Below 256 c.crc-octets.result
+crcs : (c : tie.After-crc_octets-crc) → Below 256 c.crc_octets-crc.result
 crcs c = record { at = λ i. (crc_fits c i).fits }
 
-returns : tie.Need-returns
+returns : tie.Need-returns-then-crc-header
 returns c =
-    let crc = c.before in
-    crc_other _ (six crc.before) (octets crc.before) crc.crc-octets.result
-    crc.crc-octets.ensures.1 (crcs crc) crc.crc-octets.ensures.0
-    (λ e. c.if1.true (ap (λ (l : List ℕ). get_or l 0 0) e))
+    crc_other _ (six c.before.before) (octets c.before.before) c.crc_octets-crc.result
+    c.crc_octets-crc.ensures.1 (crcs c.before) c.crc_octets-crc.ensures.0
+    (λ e. c.if-crc-header.true (ap (λ (l : List ℕ). get_or l 0 0) e))
 
-returns_2 : tie.Need-returns-2
+returns_2 : tie.Need-returns-then-crc-header-2
 returns_2 c =
-    let crc = c.before.before in
-    crc_other _ (six crc.before) (octets crc.before) crc.crc-octets.result
-    crc.crc-octets.ensures.1 (crcs crc) crc.crc-octets.ensures.0
-    (λ e. c.if2.true (ap (λ (l : List ℕ). get_or l 1 0) e))
+    crc_other _ (six c.before.before.before) (octets c.before.before.before) c.crc_octets-crc.result
+    c.crc_octets-crc.ensures.1 (crcs c.before.before) c.crc_octets-crc.ensures.0
+    (λ e. c.if-crc-header-2.true (ap (λ (l : List ℕ). get_or l 1 0) e))
 
-returns_3 : tie.Need-returns-3
+returns_3 : tie.Need-returns
 returns_3 c =
-    let crc = c.before.before in
-    crc_same _ (six crc.before) crc.crc-octets.result crc.crc-octets.ensures.0
-    (two_is crc.crc-octets.result crc.crc-octets.ensures.1
-    ∙ ap₂ {C = List ℕ} (λ x y. x ∷ y ∷ []) c.before.if1.false c.if2.false)
+    crc_same _ (six c.before.before.before) c.crc_octets-crc.result c.crc_octets-crc.ensures.0
+    (two_is c.crc_octets-crc.result c.crc_octets-crc.ensures.1
+    ∙ ap₂ {C = List ℕ} (λ x y. x ∷ y ∷ []) c.if-crc-header.false c.if-crc-header-2.false)
 
 pub crc_right_spec : {M : Type 1} → statement M
 crc_right_spec =

@@ -14,8 +14,8 @@ six c = search rules
 
 returns : tie.Need-returns
 returns c =
-    let crc = c.before.crc-octets in
-    c.highest-first.ensures
+    let crc = c.crc_octets-crc in
+    c.highest_first.ensures
     ∙ ap highest_first
     (sym (ap octet_bits (two_is crc.result crc.ensures.1))
     ∙ crc.ensures.0

@@ -14,57 +14,49 @@ use Rattle.common_header.proofs.fields_of.Statement.{statement}
 use Rattle.common_header.proofs.fields_of.Tie as tie
 
 -- what the functions say, of the rate that SIGNAL names
-service_is : (c : tie.After-service-accepted)
-    → (let start = c.before.before.before in
-    c.service-accepted.result
-    ≡ (accepted_by start.args.by).services (rate_of start.args.signal) start.args.service)
+service_is : (c : tie.After-service_accepted-served)
+    → (c.service_accepted-served.result
+    ≡ (accepted_by c.args.by).services (rate_of c.args.signal) c.args.service)
 service_is c =
-    let start = c.before.before.before in
-    c.service-accepted.ensures
-    ∙ ap (λ (r : Rate). (accepted_by start.args.by).services r start.args.service)
-    c.before.before.rate_of_lem.ensures
+    c.service_accepted-served.ensures
+    ∙ ap (λ (r : Rate). (accepted_by c.args.by).services r c.args.service)
+    c.rate_of-r.ensures
 
-told_is : (c : tie.After-octets-told)
-    → (let start = c.before.before.before.before.before.before in
-    c.octets-told.result
-    ≡ octets_told (rate_of start.args.signal) start.args.length (start.args.service / 128 % 2))
+told_is : (c : tie.After-octets_told-n)
+    → (c.octets_told-n.result
+    ≡ octets_told (rate_of c.args.signal) c.args.length (c.args.service / 128 % 2))
 told_is c =
-    let start = c.before.before.before.before.before.before in
-    c.octets-told.ensures
-    ∙ ap (λ (r : Rate). octets_told r start.args.length (start.args.service / 128 % 2))
-    c.before.before.before.before.before.rate_of_lem.ensures
+    c.octets_told-n.ensures
+    ∙ ap (λ (r : Rate). octets_told r c.args.length (c.args.service / 128 % 2))
+    c.rate_of-r.ensures
 
 -- what is known past the first two tests
-coded : (c : tie.Else1)
-    → (let start = c.before.before.before.before in
-    (accepted_by start.args.by).signals start.args.k start.args.signal ≡ true)
-coded c = passed c.before.before.signal-accepted.ensures c.if1.false
+coded : (c : tie.Else-not-coded)
+    → ((accepted_by c.args.by).signals c.args.k c.args.signal ≡ true)
+coded c = passed c.signal_accepted-coded.ensures c.if-not-coded.false
 
-served : (c : tie.Else2)
-    → (let start = c.before.before.before.before.before in
-    (accepted_by start.args.by).services (rate_of start.args.signal) start.args.service ≡ true)
-served c = passed (service_is c.before.before) c.if2.false
+served : (c : tie.Else-not-served)
+    → ((accepted_by c.args.by).services (rate_of c.args.signal) c.args.service ≡ true)
+served c = passed (service_is c.before.before) c.if-not-served.false
 
-returns : tie.Need-returns
+returns : tie.Need-returns-then-not-coded
 unfolding fields_of
-returns c = rw (failed c.before.before.signal-accepted.ensures c.if1.true)
+returns c = rw (failed c.signal_accepted-coded.ensures c.if-not-coded.true)
 
-returns_2 : tie.Need-returns-2
+returns_2 : tie.Need-returns-then-not-served
 unfolding fields_of
-returns_2 c = rw (coded c.before, failed (service_is c.before.before) c.if2.true)
+returns_2 c = rw (coded c.before, failed (service_is c.before.before) c.if-not-served.true)
 
-returns_3 : tie.Need-returns-3
+returns_3 : tie.Need-returns-then-n-eq0
 unfolding fields_of
 returns_3 c =
-    let two = c.before.before in
-    rw (coded two.before, served two, told_fails _ _ _ _ (told_is c.before) c.if3.true)
+    rw (coded c.before.before.before, served c.before.before, told_fails _ _ _ _ (told_is c.before) c.if-n-eq0.true)
 
-returns_4 : tie.Need-returns-4
+returns_4 : tie.Need-returns
 unfolding fields_of
 returns_4 c =
-    let two = c.before.before in
-    let some = told_holds _ _ _ _ (told_is c.before) c.if3.false in
-    rw (coded two.before, served two, some.0, some.1, two.before.before.before.before.rate_of_lem.ensures)
+    let some = told_holds _ _ _ _ (told_is c.before) c.if-n-eq0.false in
+    rw (coded c.before.before.before, served c.before.before, some.0, some.1, c.rate_of-r.ensures)
 
 pub fields_of_spec : {M : Type 1} → statement M
 fields_of_spec =

@@ -13,16 +13,16 @@ use Rattle.rules_calls.proofs.ReadBack.{code_small}
 use Rattle.common_header.proofs.header_octets.Statement.{statement}
 use Rattle.common_header.proofs.header_octets.Tie as tie
 
-cast_signal : tie.Need-overflow-cast-signal
-cast_signal c = rw c.code.ensures (omega (arith, code_small c.before.args.r))
+cast_signal : tie.Need-overflow_cast-signal
+cast_signal c = rw c.code-signal.ensures (omega (arith, code_small c.args.r))
 
-mul_service : tie.Need-overflow-mul-service
+mul_service : tie.Need-overflow_mul-service
 mul_service c =
-    record { fits = omega (arith, clock_byte c.before.args.clock, clock_lt c.before.args.clock) }
+    record { fits = omega (arith, clock_byte c.args.clock, clock_lt c.args.clock) }
 
-add_service : tie.Need-overflow-add-service
+add_service : tie.Need-overflow_add-service
 add_service c =
-    let clock = c.before.before.args.clock in
+    let clock = c.args.clock in
     record { fits = omega (arith, clock_byte clock, clock_lt clock, c.bit7.ensures.1) }
 
 sent : (r : Rate) (clock : Bool) (n s v l : ℕ) → s ≡ code_of r → v ≡ service_field r clock n → l ≡ length_field r n
@@ -32,14 +32,12 @@ sent r clock n s v l es ev el = rw (es, ev, el)
 
 returns : tie.Need-returns
 returns c =
-    let fields = c.before in
-    let seven = fields.before in
-    let last = c.octets-of.ensures in (
+    let last = c.octets_of.ensures in (
       last.0
-          ∙ sent _ _ _ _ _ _ seven.before.code.ensures
-          (ap₂ {C = ℕ} (λ x y. 4 * x + 128 * y) (clock_byte seven.before.before.args.clock)
-          seven.bit7.ensures.0)
-          fields.length_field_lem.ensures.0,
+          ∙ sent _ _ _ _ _ _ c.code-signal.ensures
+          (ap₂ {C = ℕ} (λ x y. 4 * x + 128 * y) (clock_byte c.args.clock)
+          c.bit7.ensures.0)
+          c.length_field-micros.ensures.0,
       last.1,
     )
 
@@ -48,5 +46,4 @@ header_octets_spec =
     tie.close
     (tie.spec
     (λ c κs. search rules) cast_signal (λ c. search rules) mul_service (λ c κs. search rules) (λ c. search rules)
-    add_service (λ c κs. search rules)
-    (λ c. search rules) (λ c κs. search rules) returns)
+    add_service (λ c κs. search rules) (λ c. search rules) (λ c κs. search rules) returns)

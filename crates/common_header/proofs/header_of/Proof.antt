@@ -23,28 +23,26 @@ fits c i = search rules
 octets : (c : tie.Start) → Below 256 c.args.t4
 octets c = record { at = λ i. (fits c i).fits }
 
-returns : tie.Need-returns
+returns : tie.Need-returns-then-not-started
 unfolding header_of
-returns c = rw (failed c.before.before.sfd-right.ensures c.if1.true)
+returns c = rw (failed c.sfd_right-started.ensures c.if-not-started.true)
 
-returns_2 : tie.Need-returns-2
+returns_2 : tie.Need-returns-then-not-summed
 unfolding header_of
 returns_2 c =
     rw (
-      passed c.before.before.before.sfd-right.ensures c.before.if1.false,
-      failed c.before.before.crc-right.ensures c.if2.true,
+      passed c.sfd_right-started.ensures c.if-not-started.false,
+      failed c.crc_right-summed.ensures c.if-not-summed.true,
     )
 
-returns_3 : tie.Need-returns-3
+returns_3 : tie.Need-returns
 unfolding header_of
 returns_3 c =
-    let two = c.before.before in
-    let start = two.before.before.before.before in
     rw (
-      passed two.before.before.before.sfd-right.ensures two.before.if1.false,
-      passed two.before.before.crc-right.ensures two.if2.false,
+      passed c.sfd_right-started.ensures c.if-not-started.false,
+      passed c.crc_right-summed.ensures c.if-not-summed.false,
     )
-    (fields_cut _ _ _ (six start) (octets start) _ _ c.before.both.ensures.0 c.fields-of.ensures)
+    (fields_cut _ _ _ (six c.before.before.before.before.before.before) (octets c.before.before.before.before.before.before) _ _ c.both.ensures.0 c.fields_of.ensures)
 
 pub header_of_spec : {M : Type 1} → statement M
 header_of_spec =

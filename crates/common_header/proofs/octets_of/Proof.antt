@@ -8,12 +8,12 @@ use Rattle.common_header.proofs.octets_of.Tie as tie
 
 returns : tie.Need-returns
 returns c = (
-  with_crc _ _ _ _ c.crc-octets.result c.crc-octets.ensures.1 c.crc-octets.ensures.0
+  with_crc _ _ _ _ c.crc_octets-crc.result c.crc_octets-crc.ensures.1 c.crc_octets-crc.ensures.0
       ∙ header_is _ _ _,
   refl,
 )
 
 pub octets_of_spec : {M : Type 1} → statement M
 octets_of_spec =
-    tie.close (tie.spec (λ c. search rules) (λ c. search rules) (λ c κs. search rules) (λ c. search rules)
-    (λ c. search rules) returns)
+    tie.close (tie.spec
+    (λ c. search rules) (λ c. search rules) (λ c κs. search rules) (λ c. search rules) (λ c. search rules) returns)

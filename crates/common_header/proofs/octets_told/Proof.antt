@@ -7,40 +7,34 @@ use Rattle.common_header.proofs.Lengths.{told_over, told_length, told_seven, tol
 use Rattle.common_header.proofs.octets_told.Statement.{statement}
 use Rattle.common_header.proofs.octets_told.Tie as tie
 
-returns : tie.Need-returns
+returns : tie.Need-returns-then-not-is_payload
 returns c =
-    told_over _ _ _ _ c.before.before.octets-or-none.ensures
-    (failed c.before.is-payload.ensures c.if1.true)
+    told_over _ _ _ _ c.octets_or_none-n.ensures
+    (failed c.is_payload.ensures c.if-not-is_payload.true)
 
-length_field_requires : tie.Need-length-field-requires
-length_field_requires c κs = payload_high _ (passed c.before.is-payload.ensures c.if1.false)
+length_field_requires : tie.Need-length_field-requires
+length_field_requires c κs = payload_high _ (passed c.is_payload.ensures c.if-not-is_payload.false)
 
 bit7_requires : tie.Need-bit7-requires
 bit7_requires c κs =
-    let one = c.before.before in
-    payload_high _ (passed one.before.is-payload.ensures one.if1.false)
+    payload_high _ (passed c.is_payload.ensures c.if-not-is_payload.false)
 
-returns_2 : tie.Need-returns-2
+returns_2 : tie.Need-returns-then-length_field-length
 returns_2 c =
-    let one = c.before.before in
-    told_length _ _ _ _ one.before.before.octets-or-none.ensures
-    (passed one.before.is-payload.ensures one.if1.false) _ c.before.length_field_lem.ensures.0 c.if2.true
+    told_length _ _ _ _ c.octets_or_none-n.ensures
+    (passed c.is_payload.ensures c.if-not-is_payload.false) _ c.length_field.ensures.0 c.if-length_field-length.true
 
-returns_3 : tie.Need-returns-3
+returns_3 : tie.Need-returns-then-bit7-seven
 returns_3 c =
-    let two = c.before.before in
-    let one = two.before.before in
-    told_seven _ _ _ _ one.before.before.octets-or-none.ensures
-    (passed one.before.is-payload.ensures one.if1.false) _ two.before.length_field_lem.ensures.0
-    two.if2.false _ c.before.bit7.ensures.0 c.if3.true
+    told_seven _ _ _ _ c.octets_or_none-n.ensures
+    (passed c.is_payload.ensures c.if-not-is_payload.false) _ c.length_field.ensures.0
+    c.if-length_field-length.false _ c.bit7.ensures.0 c.if-bit7-seven.true
 
-returns_4 : tie.Need-returns-4
+returns_4 : tie.Need-returns
 returns_4 c =
-    let two = c.before.before in
-    let one = two.before.before in
-    told_all _ _ _ _ one.before.before.octets-or-none.ensures
-    (passed one.before.is-payload.ensures one.if1.false) _ two.before.length_field_lem.ensures.0
-    two.if2.false _ c.before.bit7.ensures.0 c.if3.false
+    told_all _ _ _ _ c.octets_or_none-n.ensures
+    (passed c.is_payload.ensures c.if-not-is_payload.false) _ c.length_field.ensures.0
+    c.if-length_field-length.false _ c.bit7.ensures.0 c.if-bit7-seven.false
 
 pub octets_told_spec : {M : Type 1} → statement M
 octets_told_spec =

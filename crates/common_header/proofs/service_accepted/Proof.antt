@@ -4,12 +4,13 @@ use borrow.Author.Rules.{rules}
 use Rattle.common_header.proofs.service_accepted.Statement.{statement}
 use Rattle.common_header.proofs.service_accepted.Tie as tie
 
-returns : tie.Need-returns
-returns c = rw c.before.enum_told.given.1 c.service-allowed.ensures
+returns : tie.Need-returns-in-Ours
+returns c = rw c.in-Ours.is c.service_allowed.ensures
 
-returns_2 : tie.Need-returns-2
-returns_2 c = rw c.enum-told2.given.1
+returns_2 : tie.Need-returns-in-Of1997
+returns_2 c = rw c.in-Of1997.is
 
 pub service_accepted_spec : {M : Type 1} → statement M
 service_accepted_spec =
-    tie.close (tie.spec (λ c. search rules) (λ c κs. search rules) (λ c. search rules) returns returns_2)
+    tie.close (tie.spec
+    (λ c. search rules) (λ c κs. search rules) (λ c. search rules) returns returns_2)

@@ -23,45 +23,40 @@ clock_set Two s n e = rw (ne_eqb _ _ n, eq-eqb _ _ e)
 clock_set Five s n e = rw (ne_eqb _ _ n, eq-eqb _ _ e)
 clock_set Eleven s n e = rw (ne_eqb _ _ n, eq-eqb _ _ e)
 
-returns : tie.Need-returns
-returns c = none_set c.before.args.r _ c.if1.true
+returns : tie.Need-returns-then-service-eq0
+returns c = none_set c.args.r _ c.if-service-eq0.true
 
-returns_2 : tie.Need-returns-2
-returns_2 c = clock_set c.before.before.args.r _ c.before.if1.false c.if2.true
+returns_2 : tie.Need-returns-then-service-eq4
+returns_2 c = clock_set c.args.r _ c.if-service-eq0.false c.if-service-eq4.true
 
-returns_3 : tie.Need-returns-3
+returns_3 : tie.Need-returns-then-service-eq128
 returns_3 c =
-    let other = c.before.before.before in
     rw (
-      c.before.enum-told4.given.1,
-      ne_eqb _ _ other.before.if1.false,
-      ne_eqb _ _ other.if2.false,
-      eq-eqb _ _ c.if3.true,
+      c.in-Eleven.is,
+      ne_eqb _ _ c.if-service-eq0.false,
+      ne_eqb _ _ c.if-service-eq4.false,
+      eq-eqb _ _ c.if-service-eq128.true,
     )
 
-returns_4 : tie.Need-returns-4
+returns_4 : tie.Need-returns-in-One
 returns_4 c =
-    let other = c.before.before in
-    rw (c.enum_told.given.1, ne_eqb _ _ other.before.if1.false, ne_eqb _ _ other.if2.false)
+    rw (c.in-One.is, ne_eqb _ _ c.if-service-eq0.false, ne_eqb _ _ c.if-service-eq4.false)
 
-returns_5 : tie.Need-returns-5
+returns_5 : tie.Need-returns-in-Two
 returns_5 c =
-    let other = c.before.before in
-    rw (c.enum-told2.given.1, ne_eqb _ _ other.before.if1.false, ne_eqb _ _ other.if2.false)
+    rw (c.in-Two.is, ne_eqb _ _ c.if-service-eq0.false, ne_eqb _ _ c.if-service-eq4.false)
 
-returns_6 : tie.Need-returns-6
+returns_6 : tie.Need-returns-in-Five
 returns_6 c =
-    let other = c.before.before in
-    rw (c.enum-told3.given.1, ne_eqb _ _ other.before.if1.false, ne_eqb _ _ other.if2.false)
+    rw (c.in-Five.is, ne_eqb _ _ c.if-service-eq0.false, ne_eqb _ _ c.if-service-eq4.false)
 
-returns_7 : tie.Need-returns-7
+returns_7 : tie.Need-returns-else-service-eq128
 returns_7 c =
-    let other = c.before.before.before in
     rw (
-      c.before.enum-told4.given.1,
-      ne_eqb _ _ other.before.if1.false,
-      ne_eqb _ _ other.if2.false,
-      ne_eqb _ _ c.if3.false,
+      c.in-Eleven.is,
+      ne_eqb _ _ c.if-service-eq0.false,
+      ne_eqb _ _ c.if-service-eq4.false,
+      ne_eqb _ _ c.if-service-eq128.false,
     )
 
 pub service_allowed_spec : {M : Type 1} → statement M

@@ -16,13 +16,13 @@ two c = search rules
 
 returns : tie.Need-returns
 returns c =
-    let start = c.before.before in
     ap₂ {C = Bool} (λ x y. eqb x y)
-    (c.before.both.ensures.0
-    ∙ sym (ap (λ (l : List ℕ). number_of (octet_bits l)) (two_is start.args.t2 (two start))))
-    c.sfd-of.ensures
+    (c.both.ensures.0
+    ∙ sym (ap (λ (l : List ℕ). number_of (octet_bits l)) (two_is c.args.t2 (two c.before.before))))
+    c.sfd_of.ensures
 
 pub sfd_right_spec : {M : Type 1} → statement M
 sfd_right_spec =
     tie.close
-    (tie.spec (λ c. search rules) (λ c. search rules) (λ c κs. search rules) (λ c κs. search rules) returns)
+    (tie.spec
+    (λ c. search rules) (λ c. search rules) (λ c κs. search rules) (λ c κs. search rules) returns)

@@ -7,15 +7,15 @@ use Rattle.base.proofs.Tests.{failed, passed}
 use Rattle.common_header.proofs.signal_allowed.Statement.{statement}
 use Rattle.common_header.proofs.signal_allowed.Tie as tie
 
-returns : tie.Need-returns
-returns c = rw (failed c.before.is_code_lem.ensures c.if1.true)
+returns : tie.Need-returns-then-not-is_code
+returns c = rw (failed c.is_code.ensures c.if-not-is_code.true)
 
-returns_2 : tie.Need-returns-2
+returns_2 : tie.Need-returns
 returns_2 c =
-    let one = c.before.before in
-    rw (passed one.before.is_code_lem.ensures one.if1.false)
-    (c.Goes-with.ensures ∙ ap (goes_with one.before.before.args.k) c.before.rate_of_lem.ensures)
+    rw (passed c.is_code.ensures c.if-not-is_code.false)
+    (c.goes_with.ensures ∙ ap (goes_with c.args.k) c.rate_of.ensures)
 
 pub signal_allowed_spec : {M : Type 1} → statement M
 signal_allowed_spec =
-    tie.close (tie.spec (λ c κs. search rules) returns (λ c κs. search rules) (λ c κs. search rules) returns_2)
+    tie.close (tie.spec
+    (λ c κs. search rules) returns (λ c κs. search rules) (λ c κs. search rules) returns_2)

@@ -6,13 +6,14 @@ use borrow.Author.Rules.{rules}
 use Rattle.common_kinds.proofs.first_line.Statement.{statement}
 use Rattle.common_kinds.proofs.first_line.Tie as tie
 
-returns : tie.Need-returns
+returns : tie.Need-returns-in-Long
 unfolding bits_of
-returns c = rw c.enum_told.given.1 (record { at_phase = refl; past = refl })
+returns c = rw c.in-Long.is (record { at_phase = refl; past = refl })
 
-returns_2 : tie.Need-returns-2
+returns_2 : tie.Need-returns-in-Short
 unfolding bits_of
-returns_2 c = rw c.enum-told2.given.1 (record { at_phase = refl; past = refl })
+returns_2 c = rw c.in-Short.is (record { at_phase = refl; past = refl })
 
 pub first_line_spec : {M : Type 1} → statement M
-first_line_spec = tie.close (tie.spec (λ c. search rules) (λ c. search rules) returns returns_2)
+first_line_spec = tie.close (tie.spec
+    (λ c. search rules) (λ c. search rules) returns returns_2)

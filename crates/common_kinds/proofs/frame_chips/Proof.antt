@@ -8,21 +8,20 @@ use Rattle.rules_frame.proofs.Sizes.{frame_small}
 use Rattle.common_kinds.proofs.frame_chips.Statement.{statement}
 use Rattle.common_kinds.proofs.frame_chips.Tie as tie
 
-mul_result : tie.Need-overflow-mul-result
+mul_result : tie.Need-overflow_mul-result
 mul_result c =
-    let start = c.before.before in
-    rw c.octet-chips.ensures
-    (omega (arith, frame_small start.args.k start.args.r start.args.n start.requires))
+    rw c.octet_chips.ensures
+    (omega (arith, frame_small c.args.k c.args.r c.args.n c.requires))
 
-add_result : tie.Need-overflow-add-result
+add_result : tie.Need-overflow_add-result
 add_result c =
-    let start = c.before.before in
-    rw (c.octet-chips.ensures, c.before.front-chips.ensures)
-    (omega (arith, frame_small start.args.k start.args.r start.args.n start.requires))
+    rw (c.octet_chips.ensures, c.front_chips.ensures)
+    (omega (arith, frame_small c.args.k c.args.r c.args.n c.requires))
 
 returns : tie.Need-returns
 returns c =
-    ap₂ {C = ℕ} (λ a b. a + b * c.before.before.args.n) c.before.front-chips.ensures c.octet-chips.ensures
+    ap₂ {C = ℕ} (λ a b. a + b * c.args.n) c.front_chips.ensures c.octet_chips.ensures
 
 pub frame_chips_spec : {M : Type 1} → statement M
-frame_chips_spec = tie.close (tie.spec (λ c κs. search rules) (λ c κs. search rules) mul_result add_result returns)
+frame_chips_spec = tie.close (tie.spec
+    (λ c κs. search rules) (λ c κs. search rules) mul_result add_result returns)

@@ -9,4 +9,5 @@ returns : tie.Need-returns
 returns c = unscrambled_number c.args.past c.args.x (omega arith) (omega arith)
 
 pub descramble_octet_spec : {M : Type 1} → statement M
-descramble_octet_spec = tie.close (tie.spec (λ c. search rules) (λ c. search rules) returns)
+descramble_octet_spec = tie.close (tie.spec
+    (λ c. search rules) (λ c. search rules) returns)

@@ -20,4 +20,5 @@ returns : tie.Need-returns
 returns c = let n = c.args.n in (entry n, rw (entry n) (small n))
 
 pub growth_spec : {M : Type 1} → statement M
-growth_spec = tie.close (tie.spec (λ c. search rules) (λ c. search rules) returns)
+growth_spec = tie.close (tie.spec
+    (λ c. search rules) (λ c. search rules) returns)

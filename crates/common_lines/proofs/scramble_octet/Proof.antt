@@ -10,4 +10,5 @@ returns : tie.Need-returns
 returns c = scrambled_octet c.args.past c.args.x _ _ (omega arith) refl refl
 
 pub scramble_octet_spec : {M : Type 1} → statement M
-scramble_octet_spec = tie.close (tie.spec (λ c. search rules) (λ c. search rules) returns)
+scramble_octet_spec = tie.close (tie.spec
+    (λ c. search rules) (λ c. search rules) returns)

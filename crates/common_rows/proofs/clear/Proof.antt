@@ -11,11 +11,11 @@ use borrow.Author.Rules.{rules}
 use Rattle.common_rows.proofs.clear.Statement.{statement}
 use Rattle.common_rows.proofs.clear.Tie as tie
 
-abbrev invariant_loop : tie.invariant-loop
+abbrev invariant_loop : tie.invariant-loop-i
 invariant_loop row₀ from i₀ row i = (from ≤ i) × (i ≤ length row₀) × (length row ≡ length row₀)
     × (take i row ≡ take from row₀ ++ replicate (i - from) 0)
 
-abbrev decreases_loop : tie.decreases-loop
+abbrev decreases_loop : tie.decreases-loop-i
 decreases_loop row₀ from i₀ row i = length row₀ - i
 
 -- one zero more at the end of zeros
@@ -42,10 +42,10 @@ whole : (s d : List ℕ) (i from : ℕ) → take i s ≡ take from d ++ replicat
 whole s d i from e h l =
     sym (take_all i s (omega arith)) ∙ e ∙ ap (λ (k : ℕ). take from d ++ replicate (k - from) 0) h
 
-loop_again : tie.Need-loop-preserved invariant_loop decreases_loop
+loop_again : tie.Need-loop-i-preserved invariant_loop decreases_loop
 loop_again c =
-    let loop = c.before.loop in
-    let args = c.before.before.args in (
+    let loop = c.loop-i in
+    let args = c.args in (
       omega arith,
       omega arith,
       simp length-set (omega arith),
@@ -54,8 +54,8 @@ loop_again c =
 
 returns : tie.Need-returns invariant_loop decreases_loop
 returns c =
-    let loop = c.before.loop in
-    let args = c.before.before.args in
+    let loop = c.loop-i in
+    let args = c.args in
     whole loop.row args.row.now loop.i args.from loop.invariant.3 (omega arith) loop.invariant.2
 
 pub clear_spec : {M : Type 1} → statement M

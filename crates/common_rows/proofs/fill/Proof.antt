@@ -11,11 +11,11 @@ use borrow.Author.Fill.{fill_more}
 use Rattle.common_rows.proofs.fill.Statement.{statement}
 use Rattle.common_rows.proofs.fill.Tie as tie
 
-abbrev invariant_loop : tie.invariant-loop
+abbrev invariant_loop : tie.invariant-loop-i
 invariant_loop row₀ v i₀ row i = (i ≤ length row₀) × (length row ≡ length row₀)
     × (row ≡ replicate i v ++ drop i row₀)
 
-abbrev decreases_loop : tie.decreases-loop
+abbrev decreases_loop : tie.decreases-loop-i
 decreases_loop row₀ v i₀ row i = length row₀ - i
 
 -- one more element set
@@ -26,15 +26,15 @@ turn s d i v e h = rw e (fill_more i v d h)
 whole : (s d : List ℕ) (i v : ℕ) → s ≡ replicate i v ++ drop i d → i ≡ length d → s ≡ replicate (length d) v
 whole s d i v e h = e ∙ ap (λ (k : ℕ). replicate k v ++ drop k d) h ∙ simp (drop-length, append-nil)
 
-loop_again : tie.Need-loop-preserved invariant_loop decreases_loop
-loop_again c = (omega arith, simp length-set (omega arith), turn _ _ _ _ c.before.loop.invariant.2 (omega arith))
+loop_again : tie.Need-loop-i-preserved invariant_loop decreases_loop
+loop_again c = (omega arith, simp length-set (omega arith), turn _ _ _ _ c.loop-i.invariant.2 (omega arith))
 
 returns : tie.Need-returns invariant_loop decreases_loop
-returns c = whole _ _ c.before.loop.i _ c.before.loop.invariant.2 (omega arith)
+returns c = whole _ _ c.loop-i.i _ c.loop-i.invariant.2 (omega arith)
 
 pub fill_spec : {M : Type 1} → statement M
 fill_spec =
     tie.close
     (tie.spec
-    invariant_loop decreases_loop (λ c. search rules) (λ c. search rules) (λ c. omega arith) (λ c. omega arith) loop_again
-    (λ c. search rules) returns)
+    invariant_loop decreases_loop (λ c. search rules) (λ c. search rules) (λ c. omega arith) (λ c. omega arith)
+    loop_again (λ c. search rules) returns)

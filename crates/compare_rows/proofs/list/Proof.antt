@@ -29,56 +29,50 @@ whole ds d e g p f l t h c =
     let n : length e - p ≡ length d - 3 * length ds = omega (arith, f, l) in
     c ∙ ap₂ {C = List ℕ} (λ x y. x ++ y) t (ap (λ (k : ℕ). replicate k 0) n) ∙ sym (laid_fits (length d) ds h)
 
-add_result : tie.Need-overflow-add-result
+add_result : tie.Need-overflow_add-result
 add_result c =
-    let count = c.before.before.before.before.before in
-    let put = count.before.before.before in
-    let shorter = put.before.before.shorter in
-    let args = put.before.before.before.before.before.before.args in
+    let shorter = c.shorter-end in
+    let args = c.args in
     let all =
-    put_counted args.a.now args.b.now put.put-blocks.result.at shorter.result
-    count.how-many.result shorter.ensures.2 put.put-blocks.ensures.1 count.how-many.ensures in
+    put_counted args.a.now args.b.now c.put_blocks-reached.result.at shorter.result
+    c.how_many-rest.result shorter.ensures.2 c.put_blocks-reached.ensures.1 c.how_many-rest.ensures in
     omega (arith, all, shorter.ensures.3)
 
-returns : tie.Need-returns
+returns : tie.Need-returns-then-row-p
 returns c =
-    let count = c.before.before.before.before.before in
-    let put = count.before.before.before in
-    let shorter = put.before.before.shorter in
-    let args = put.before.before.before.before.before.before.args in
-    let done = put.put-blocks.ensures.1 in
+    let shorter = c.shorter-end in
+    let args = c.args in
+    let done = c.put_blocks-reached.ensures.1 in
     let all =
-    put_counted args.a.now args.b.now put.put-blocks.result.at shorter.result
-    count.how-many.result shorter.ensures.2 done count.how-many.ensures in (
-      omega (arith, all),
-      not_fit (differences args.a.now args.b.now) args.row.now put.put-blocks.new.1.1.1.0
-          c.before.before.clear.new.0 done.long (omega (arith, all, done.long))
-          c.before.before.clear.ensures,
-    )
+    put_counted args.a.now args.b.now c.put_blocks-reached.result.at shorter.result
+    c.how_many-rest.result shorter.ensures.2 done c.how_many-rest.ensures in record {
+      answer = omega (arith, all);
+      row = not_fit (differences args.a.now args.b.now) args.row.now c.put_blocks-reached.new.row
+          c.clear.new.row done.long (omega (arith, all, done.long))
+          c.clear.ensures;
+    }
 
-returns_2 : tie.Need-returns-2
+returns_2 : tie.Need-returns
 returns_2 c =
-    let part = c.before.before.before.before.before.before in
-    let count = part.before.before.before in
-    let put = count.before.before.before in
-    let shorter = put.before.before.shorter in
-    let args = put.before.before.before.before.before.before.args in
+    let shorter = c.shorter-end in
+    let args = c.args in
     let a = args.a.now in
     let b = args.b.now in
-    let done = put.put-blocks.ensures.1 in
+    let done = c.put_blocks-reached.ensures.1 in
     let all =
-    put_counted a b put.put-blocks.result.at shorter.result count.how-many.result shorter.ensures.2 done
-    count.how-many.ensures in
+    put_counted a b c.put_blocks-reached.result.at shorter.result c.how_many-rest.result shorter.ensures.2 done
+    c.how_many-rest.ensures in
     let whole-list =
-    put_ended a b shorter.result shorter.ensures.2 refl (put_then a b done part.put-part.ensures) in (
-      omega (arith, whole-list.0),
-      whole (differences a b) args.row.now part.put-part.new.1.1.1.1.0
-          c.before.before.clear2.new.0 part.put-part.result whole-list.0 whole-list.1
-          whole-list.2 (omega (arith, all, done.long)) c.before.before.clear2.ensures,
-    )
+    put_ended a b shorter.result shorter.ensures.2 refl (put_then a b done c.put_part-q.ensures) in record {
+      answer = omega (arith, whole-list.0);
+      row = whole (differences a b) args.row.now c.put_part-q.new.row
+          c.clear-2.new.row c.put_part-q.result whole-list.0 whole-list.1
+          whole-list.2 (omega (arith, all, done.long)) c.clear-2.ensures;
+    }
 
 pub list_spec : {M : Type 1} → statement M
 list_spec =
     tie.close
-    (tie.spec (λ c κs. tt) (λ c κs. search rules) (λ c κs. search rules) (λ c. search rules) (λ c κs. search rules)
-    add_result (λ c. search rules) returns (λ c κs. search rules) (λ c κs. search rules) (λ c. search rules) returns_2)
+    (tie.spec
+    (λ c κs. tt) (λ c κs. search rules) (λ c κs. search rules) (λ c. search rules) (λ c κs. search rules) add_result
+    (λ c. search rules) returns (λ c κs. search rules) (λ c κs. search rules) (λ c. search rules) returns_2)

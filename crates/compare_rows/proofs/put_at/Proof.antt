@@ -7,37 +7,37 @@ use Rattle.compare_rows.proofs.Left.{put_same, put_room, put_entry}
 use Rattle.compare_rows.proofs.put_at.Statement.{statement}
 use Rattle.compare_rows.proofs.put_at.Tie as tie
 
-returns : tie.Need-returns
+returns : tie.Need-returns-then-x-y
 returns c =
-    let args = c.before.before.before.before.before.before.args in
+    let args = c.args in
     put_same args.a.now args.b.now args.i args.row.now args.p (omega arith) (omega arith)
     (omega arith)
 
-slice_write_row : tie.Need-slice-write-row
+slice_write_row : tie.Need-bounds-row-p
 slice_write_row c =
-    let args = c.before.before.before.before.before.before.args in
+    let args = c.args in
     let room = put_room args.a.now args.b.now args.i args.row.now args.p (omega arith)
     (omega arith) (λ e. omega arith) (omega arith) in
     omega (arith, room)
 
-slice_write_row_2 : tie.Need-slice-write-row-2
+slice_write_row_2 : tie.Need-bounds-row-p-2
 slice_write_row_2 c =
-    let args = c.before.before.before.before.before.before.before.args in
+    let args = c.args in
     let room = put_room args.a.now args.b.now args.i args.row.now args.p (omega arith)
     (omega arith) (λ e. omega arith) (omega arith) in
     simp length-set (omega (arith, room))
 
-slice_write_row_3 : tie.Need-slice-write-row-3
+slice_write_row_3 : tie.Need-bounds-row-p-3
 slice_write_row_3 c =
-    let args = c.before.before.before.before.before.before.before.before.args in
+    let args = c.args in
     simp length-set
     (put_room args.a.now args.b.now args.i args.row.now args.p (omega arith) (omega arith)
     (λ e. omega arith) (omega arith))
 
-returns_2 : tie.Need-returns-2
+returns_2 : tie.Need-returns
 returns_2 c =
-    let args = c.before.before.before.before.before.before.before.before.args in
-    rw (c.before.wide.ensures, c.wide2.ensures)
+    let args = c.args in
+    rw (c.wide.ensures, c.wide-2.ensures)
     (put_entry args.a.now args.b.now args.i args.row.now args.p (omega arith) (omega arith)
     (λ e. omega arith) (omega arith))
 

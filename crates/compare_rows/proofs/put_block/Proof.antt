@@ -6,19 +6,18 @@ use Rattle.compare_rows.proofs.Left.{put_skip}
 use Rattle.compare_rows.proofs.put_block.Statement.{statement}
 use Rattle.compare_rows.proofs.put_block.Tie as tie
 
-returns : tie.Need-returns
+returns : tie.Need-returns-then-n-eq0
 returns c =
-    let start = c.before.before.before.before in
-    let args = start.args in
+    let args = c.args in
     put_skip args.a.now args.b.now 64 args.at args.row.now args.p args.n (omega arith)
-    (omega arith) (omega arith) start.requires.2
+    (omega arith) (omega arith) c.requires.2
 
-put_part_requires : tie.Need-put-part-requires
+put_part_requires : tie.Need-put_part-requires
 put_part_requires c κs =
-    let start = c.before.before.before.before.before in
-    let few = start.requires.2 in (omega arith, omega arith, omega arith, omega (arith, few, start.requires.3))
+    let few = c.requires.2 in (omega arith, omega arith, omega arith, omega (arith, few, c.requires.3))
 
 pub put_block_spec : {M : Type 1} → statement M
 put_block_spec =
     tie.close
-    (tie.spec returns (λ c. search rules) put_part_requires (λ c. search rules) (λ c. search rules))
+    (tie.spec
+    returns (λ c. search rules) put_part_requires (λ c. search rules) (λ c. search rules))

@@ -28,5 +28,5 @@ second a b h = (h, le_refl _, ap length (left_ended a b (length b) (inr (le_refl
 pub shorter_spec : {M : Type 1} → statement M
 shorter_spec =
     tie.close
-    (tie.spec (λ c. first c.before.args.a.now c.before.args.b.now (omega arith))
-    (λ c. second c.before.args.a.now c.before.args.b.now (omega arith)))
+    (tie.spec
+    (λ c. first c.args.a.now c.args.b.now (omega arith)) (λ c. second c.args.a.now c.args.b.now (omega arith)))

@@ -43,42 +43,36 @@ module _ (kind offsets : ℕ) (rec : List Taken) (r : Found) where
         (sym is ∙ found ∙ ap (λ (j : Kind). first_start j 0 offsets rec) k-is
         ∙ sym (finding_first kind offsets rec h (offsets_tried offsets some few)))
 
-returns : tie.Need-returns
+returns : tie.Need-returns-then-not-is_kind
 returns c =
-    none _ _ _ _ (failed c.before.before.is_kind_lem.ensures c.before.if1.true) c.refused.ensures
+    none _ _ _ _ (failed c.is_kind.ensures c.if-not-is_kind.true) c.refused.ensures
 
-returns_2 : tie.Need-returns-2
+returns_2 : tie.Need-returns-then-offsets-lt1
 returns_2 c =
-    let asked = c.before.before in
-    not_tried _ _ _ _ (passed asked.before.is_kind_lem.ensures asked.if1.false)
-    (no_offsets _ c.before.if2.true) c.refused2.ensures
+    not_tried _ _ _ _ (passed c.is_kind.ensures c.if-not-is_kind.false)
+    (no_offsets _ c.if-offsets-lt1.true) c.refused-then-offsets-lt1.ensures
 
-returns_3 : tie.Need-returns-3
+returns_3 : tie.Need-returns-then-offsets-gt4096
 returns_3 c =
-    let asked = c.before.before.before in
-    not_tried _ _ _ _ (passed asked.before.is_kind_lem.ensures asked.if1.false)
-    (offsets_many _ c.before.if3.true) c.refused3.ensures
+    not_tried _ _ _ _ (passed c.is_kind.ensures c.if-not-is_kind.false)
+    (offsets_many _ c.if-offsets-gt4096.true) c.refused-then-offsets-gt4096.ensures
 
-returns_4 : tie.Need-returns-4
+returns_4 : tie.Need-returns-in-Refused
 returns_4 c =
-    let sought = c.before.before.before.before in
-    let some = sought.before.before in
-    let asked = some.before in
-    known _ _ _ _ (passed asked.before.is_kind_lem.ensures asked.if1.false) _ _ _
-    asked.before.before.kind_of_lem.ensures some.if2.false sought.before.if3.false sought.search.ensures
-    c.before.before.found.given.1 c.refused4.ensures
+    known _ _ _ _ (passed c.is_kind.ensures c.if-not-is_kind.false) _ _ _
+    c.kind_of-k.ensures c.if-offsets-lt1.false c.if-offsets-gt4096.false c.search-found.ensures
+    c.in-Refused.is c.refused-in-Refused.ensures
 
-returns_5 : tie.Need-returns-5
+returns_5 : tie.Need-returns-in-Start
 returns_5 c =
-    let sought = c.before.before.before.before in
-    let some = sought.before.before in
-    let asked = some.before in
-    known _ _ _ _ (passed asked.before.is_kind_lem.ensures asked.if1.false) _ _ _
-    asked.before.before.kind_of_lem.ensures some.if2.false sought.before.if3.false sought.search.ensures
-    c.before.before.found2.given.1 c.started.ensures
+    known _ _ _ _ (passed c.is_kind.ensures c.if-not-is_kind.false) _ _ _
+    c.kind_of-k.ensures c.if-offsets-lt1.false c.if-offsets-gt4096.false c.search-found.ensures
+    c.in-Start.is c.started.ensures
 
 pub find_spec : {M : Type 1} → statement M
 find_spec =
     tie.close
-    (tie.spec (λ c κs. tt) (λ c κs. tt) (λ c κs. tt) returns (λ c κs. tt) returns_2 (λ c κs. tt) returns_3
-    (λ c κs. c.if3.false) (λ c. search rules) (λ c κs. tt) (λ c. search rules) (λ c κs. tt) returns_4 returns_5)
+    (tie.spec
+    (λ c κs. tt) (λ c κs. tt) (λ c κs. tt) returns (λ c κs. tt) returns_2 (λ c κs. tt) returns_3
+    (λ c κs. c.if-offsets-gt4096.false) (λ c. search rules) (λ c κs. tt) (λ c. search rules) (λ c κs. tt) returns_4
+    returns_5)

@@ -12,13 +12,14 @@ use Rattle.find_start.proofs.front_at.Tie as tie
 
 returns : tie.Need-returns
 returns c =
-    let args = c.before.before.before.before.before.before.before.args in
-    c.read-front.ensures.told
+    let args = c.args in
+    c.read_front-opening.ensures.told
     ∙ ap (λ (xs : List ℕ). front_of args.kind (hard_recording xs)) (lent args.chips.now args.at)
     ∙ ap (front_of args.kind) (sym (drop_hard args.at args.chips.now))
 
 pub front_at_spec : {M : Type 1} → statement M
 front_at_spec =
     tie.close
-    (tie.spec (λ c. search rules) (λ c. search rules) (λ c. search rules) (λ c. search rules) (λ c. search rules)
+    (tie.spec
+    (λ c. search rules) (λ c. search rules) (λ c. search rules) (λ c. search rules) (λ c. search rules)
     (λ c. search rules) (λ c. search rules) (λ c. search rules) (λ c. search rules) (λ c κs. search rules) returns)

@@ -12,4 +12,5 @@ returns c =
     c.number_of.ensures
 
 pub refused_spec : {M : Type 1} → statement M
-refused_spec = tie.close (tie.spec (λ c κs. search rules) returns)
+refused_spec = tie.close (tie.spec
+    (λ c κs. search rules) returns)

@@ -17,13 +17,13 @@ use Rattle.find_start.proofs.Windows.{MissedBelow, unmarked, window_hit, window_
 use Rattle.find_start.proofs.search.Statement.{statement}
 use Rattle.find_start.proofs.search.Tie as tie
 
-abbrev invariant_loop : tie.invariant-loop
+abbrev invariant_loop : tie.invariant-loop-at
 invariant_loop kind chips offsets tried from sfd low high halves₀ marks₀ known₀ at₀ halves marks known at =
     (length halves ≡ 512) × (length marks ≡ 512)
     × MissedBelow kind (hard_recording chips) at tried
     × (at < tried → Row (λ j. half_at (hard_recording chips) (from + at + j)) known halves)
 
-abbrev decreases_loop : tie.decreases-loop
+abbrev decreases_loop : tie.decreases-loop-at
 decreases_loop kind chips offsets tried from sfd low high halves₀ marks₀ known₀ at₀ halves marks known at = tried - at
 
 few_high : (k : Kind) (s : ℕ) → s ≡ sfd_of k → s / 256 < 256
@@ -46,119 +46,83 @@ module _ (k : Kind) (chips tried at preamble count : ℕ) (left : at < tried) (p
   inside : at + count ≤ chips
   inside = omega (arith, within, left, p, enough k, there (omega arith))
 
-preamble_few : tie.Need-overflow-sub-from invariant_loop decreases_loop
-preamble_few c = omega (arith, c.preamble-chips.ensures, enough c.before.before.before.args.kind)
+preamble_few : tie.Need-overflow_sub-from invariant_loop decreases_loop
+preamble_few c = omega (arith, c.preamble_chips-from.ensures, enough c.args.kind)
 
-from_fits : tie.Need-overflow-add-decide invariant_loop decreases_loop
+from_fits : tie.Need-overflow_add-from invariant_loop decreases_loop
 from_fits c =
-    let turn = c.before in
-    let chips = turn.before.before.before in
-    let s = chips.before.before.before in
     omega (
       arith,
-      chips.preamble-chips.ensures,
-      enough s.args.kind,
-      turn.loop-test.true,
-      chips.before.tries.ensures.0,
-      s.requires,
+      c.preamble_chips-from.ensures,
+      enough c.args.kind,
+      c.loop-at-test.true,
+      c.tries-tried.ensures.0,
+      c.requires,
     )
 
 decide_requires : tie.Need-decide-requires invariant_loop decreases_loop
-decide_requires c κs =
-    let once = c.before in
-    let turn = once.before in
-    let chips = turn.before.before.before in
-    let s = chips.before.before.before in (
-      omega (arith, once.at-most.ensures),
-      room s.args.kind (length s.args.chips.now) _ _ _ _ turn.loop-test.true
-          chips.preamble-chips.ensures once.at-most.ensures chips.before.tries.ensures.1,
-      turn.before.loop.invariant.3 turn.loop-test.true,
-    )
+decide_requires c κs = (
+  omega (arith, c.at_most-count.ensures),
+  room c.args.kind (length c.args.chips.now) _ _ _ _ c.loop-at-test.true
+      c.preamble_chips-from.ensures c.at_most-count.ensures c.tries-tried.ensures.1,
+  c.loop-at.invariant.3 c.loop-at-test.true,
+)
 
-seek_requires : tie.Need-seek-requires invariant_loop decreases_loop
+seek_requires : tie.Need-seek-found-requires invariant_loop decreases_loop
 seek_requires c κs =
-    let marked = c.before in
-    let decided = marked.before.before.before in
-    let once = decided.before.before in
-    let turn = once.before in
-    let sfd = turn.before.before in
-    let chips = sfd.before in
-    let s = chips.before.before.before in
-    let few : once.at-most.result ≤ 256 = omega (arith, once.at-most.ensures) in (
+    let few : c.at_most-count.result ≤ 256 = omega (arith, c.at_most-count.ensures) in (
       few,
-      inside s.args.kind (length s.args.chips.now) _ _ _ _ turn.loop-test.true
-          chips.preamble-chips.ensures once.at-most.ensures chips.before.tries.ensures.1,
-      unmarked s.args.kind (hard_recording s.args.chips.now) _ _ _ _ _ _
-          (marked.marks2.ensures _ _ _ few decided.decide.ensures)
-          (ap (λ (n : ℕ). n - 264) chips.preamble-chips.ensures)
-          (ap (λ (n : ℕ). n % 256) sfd.sfd-of.ensures) (ap (λ (n : ℕ). n / 256) sfd.sfd-of.ensures),
+      inside c.args.kind (length c.args.chips.now) _ _ _ _ c.loop-at-test.true
+          c.preamble_chips-from.ensures c.at_most-count.ensures c.tries-tried.ensures.1,
+      unmarked c.args.kind (hard_recording c.args.chips.now) _ _ _ _ _ _
+          (c.marks.ensures _ _ _ few c.decide.ensures)
+          (ap (λ (n : ℕ). n - 264) c.preamble_chips-from.ensures)
+          (ap (λ (n : ℕ). n % 256) c.sfd_of-sfd.ensures) (ap (λ (n : ℕ). n / 256) c.sfd_of-sfd.ensures),
     )
 
-returns : tie.Need-returns invariant_loop decreases_loop
+returns : tie.Need-returns-in-Start invariant_loop decreases_loop
 returns c =
-    let sought = c.before.before.before in
-    let once = sought.before.before.before.before.before.before.before in
-    let turn = once.before in
-    let chips = turn.before.before.before in
-    let s = chips.before.before.before in
-    window_hit s.args.kind (hard_recording s.args.chips.now) _ _ _ _ _ sought.seek.ensures
-    turn.before.loop.invariant.2
-    (within s.args.kind (length s.args.chips.now) _ _ _ _ turn.loop-test.true
-    chips.preamble-chips.ensures once.at-most.ensures chips.before.tries.ensures.1)
-    chips.before.tries.ensures.0 _ _ c.before.found.given.1
+    window_hit c.args.kind (hard_recording c.args.chips.now) _ _ _ _ _ c.seek-found.ensures
+    c.loop-at.invariant.2
+    (within c.args.kind (length c.args.chips.now) _ _ _ _ c.loop-at-test.true
+    c.preamble_chips-from.ensures c.at_most-count.ensures c.tries-tried.ensures.1)
+    c.tries-tried.ensures.0 _ _ c.in-Start.is
 
 advance_requires : tie.Need-advance-requires invariant_loop decreases_loop
 advance_requires c κs =
-    let sought = c.before.before.before in
-    sought.before.before.before.before.before.decide.ensures.long
+    c.decide.ensures.long
 
-at_fits : tie.Need-overflow-add-at invariant_loop decreases_loop
+at_fits : tie.Need-overflow_add-at invariant_loop decreases_loop
 at_fits c =
-    let sought = c.before.before.before.before in
-    let turn = sought.before.before.before.before.before.before.before.before in
-    let tried = turn.before.before.before.before in
-    omega (arith, turn.loop-test.true, tried.tries.ensures.0, tried.before.before.requires)
+    omega (arith, c.loop-at-test.true, c.tries-tried.ensures.0, c.requires)
 
-at_less : tie.Need-loop-smaller invariant_loop decreases_loop
+at_less : tie.Need-loop-at-smaller invariant_loop decreases_loop
 at_less c =
-    let sought = c.before.before.before.before in
-    let turn = sought.before.before.before.before.before.before.before.before in
-    omega (arith, turn.loop-test.true)
+    omega (arith, c.loop-at-test.true)
 
-loop_again : tie.Need-loop-preserved invariant_loop decreases_loop
+loop_again : tie.Need-loop-at-preserved invariant_loop decreases_loop
 loop_again c =
-    let missed = c.before.before in
-    let sought = missed.before.before in
-    let marked = sought.before.before in
-    let decided = marked.before.before.before in
-    let once = decided.before.before in
-    let turn = once.before in
-    let s = turn.before.before.before.before.before.before in
-    let few : once.at-most.result ≤ 256 = omega (arith, once.at-most.ensures) in (
+    let few : c.at_most-count.result ≤ 256 = omega (arith, c.at_most-count.ensures) in (
       c.advance.ensures.long,
-      (marked.marks2.ensures _ _ _ few decided.decide.ensures).long,
-      window_miss s.args.kind (hard_recording s.args.chips.now) _ _ 0 _ _ sought.seek.ensures
-          turn.before.loop.invariant.2 once.at-most.ensures _ missed.enum_told.given.1,
-      λ l. carried (hard_recording s.args.chips.now) _ _ _ _ _ (omega (arith, once.at-most.ensures))
-          decided.decide.ensures c.advance.ensures,
+      (c.marks.ensures _ _ _ few c.decide.ensures).long,
+      window_miss c.args.kind (hard_recording c.args.chips.now) _ _ 0 _ _ c.seek-found.ensures
+          c.loop-at.invariant.2 c.at_most-count.ensures _ c.in_default.is,
+      λ l. carried (hard_recording c.args.chips.now) _ _ _ _ _ (omega (arith, c.at_most-count.ensures))
+          c.decide.ensures c.advance.ensures,
     )
 
-returns_2 : tie.Need-returns-2 invariant_loop decreases_loop
+returns_2 : tie.Need-returns invariant_loop decreases_loop
 returns_2 c =
-    let tried = c.before.before.before.before in
-    let s = tried.before.before in
-    window_end s.args.kind (hard_recording s.args.chips.now) _ _ _ c.loop-test.false
-    c.before.loop.invariant.2 (rw (length_hard s.args.chips.now) tried.tries.ensures.2)
+    window_end c.args.kind (hard_recording c.args.chips.now) _ _ _ c.loop-at-test.false
+    c.loop-at.invariant.2 (rw (length_hard c.args.chips.now) c.tries-tried.ensures.2)
 
 pub search_spec : {M : Type 1} → statement M
 search_spec =
     tie.close
-    (tie.spec invariant_loop decreases_loop (λ c κs. tt) (λ c κs. tt) preamble_few (λ c κs. tt) (λ c. omega arith)
-    (λ c. omega (arith, few_high c.before.before.before.before.args.kind _ c.sfd-of.ensures))
+    (tie.spec
+    invariant_loop decreases_loop (λ c κs. tt) (λ c κs. tt) preamble_few (λ c κs. tt) (λ c. omega arith)
+    (λ c. omega (arith, few_high c.args.kind _ c.sfd_of-sfd.ensures))
     (λ c. (refl, refl, (λ j h l. absurd (omega arith)), λ h. row_none _ _ refl))
-    (λ c. omega (arith, c.loop-test.true)) (λ c κs. tt) from_fits
-    (λ c. omega (arith, c.at-most.ensures)) decide_requires
-    (λ c κs. let decided = c.before.before in
-    (decided.decide.ensures.long, decided.before.before.before.before.loop.invariant.1))
-    seek_requires (λ c. search rules) returns (λ c. search rules) advance_requires at_fits
-    at_less loop_again returns_2)
+    (λ c. omega (arith, c.loop-at-test.true)) (λ c κs. tt) from_fits (λ c. omega (arith, c.at_most-count.ensures))
+    decide_requires (λ c κs. (c.decide.ensures.long, c.loop-at.invariant.1)) seek_requires (λ c. search rules)
+    returns (λ c. search rules) advance_requires at_fits at_less loop_again returns_2)

@@ -26,7 +26,8 @@ in_numbers : (offset : ℕ) (t : Told) (code : ℕ) → code ≡ code_of t.rate
 in_numbers offset t code e = rw (e, clock_byte t.clock)
 
 returns : tie.Need-returns
-returns c = let args = c.before.before.args in in_numbers args.offset args.t _ c.before.code.ensures
+returns c = let args = c.args in in_numbers args.offset args.t _ c.code.ensures
 
 pub started_spec : {M : Type 1} → statement M
-started_spec = tie.close (tie.spec (λ c κs. search rules) (λ c. search rules) returns)
+started_spec = tie.close (tie.spec
+    (λ c κs. search rules) (λ c. search rules) returns)

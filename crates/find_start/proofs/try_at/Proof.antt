@@ -18,26 +18,24 @@ use Rattle.find_start.proofs.try_at.Tie as tie
 abbrev try : ℕ → Front → Finding
 try at f = start_or at f (Refused NoStart)
 
-returns : tie.Need-returns
+returns : tie.Need-returns-then-mark-eq0
 returns c =
-    let s = c.before.before in
     sym
-    (missed_or s.args.at (front_of s.args.kind (drop s.args.at (hard_recording s.args.chips.now))) _
-    (s.requires.1 c.if1.true))
+    (missed_or c.args.at (front_of c.args.kind (drop c.args.at (hard_recording c.args.chips.now))) _
+    (c.requires.1 c.if-mark-eq0.true))
 
-returns_2 : tie.Need-returns-2
+returns_2 : tie.Need-returns-in-Refused
 returns_2 c =
-    let told = c.before.before in
-    ap {B = Finding} (try told.before.before.before.args.at)
-    (sym c.enum_told.given.1 ∙ told.front_at.ensures)
+    ap {B = Finding} (try c.args.at)
+    (sym c.in-Refused.is ∙ c.front_at-front.ensures)
 
-returns_3 : tie.Need-returns-3
+returns_3 : tie.Need-returns-in-Fields
 returns_3 c =
-    let told = c.before.before.before in
-    ap {B = Finding} (try told.before.before.before.args.at)
-    (sym c.before.front.given.1 ∙ told.front_at.ensures)
+    ap {B = Finding} (try c.args.at)
+    (sym c.in-Fields.is ∙ c.front_at-front.ensures)
 
 pub try_at_spec : {M : Type 1} → statement M
 try_at_spec =
     tie.close
-    (tie.spec returns (λ c κs. c.before.before.requires.0) (λ c. search rules) (λ c. search rules) returns_2 returns_3)
+    (tie.spec
+    returns (λ c κs. c.requires.0) (λ c. search rules) (λ c. search rules) returns_2 returns_3)

@@ -31,23 +31,23 @@ below_next xs l a h e j k = by (dec_lt j l)
         let q : j ≡ l = omega arith in
         rw q (or_none (get_or xs l 0) a (or_comm (get_or xs l 0) a ∙ e))
 
-abbrev invariant_loop : tie.invariant-loop
+abbrev invariant_loop : tie.invariant-loop-l
 invariant_loop marks all₀ l₀ all l = (l ≤ 256) × (all ≡ 0 → (j : ℕ) → j < l → get_or marks j 0 ≡ 0)
 
-abbrev decreases_loop : tie.decreases-loop
+abbrev decreases_loop : tie.decreases-loop-l
 decreases_loop marks all₀ l₀ all l = 256 - l
 
-loop_again : tie.Need-loop-preserved invariant_loop decreases_loop
+loop_again : tie.Need-loop-l-preserved invariant_loop decreases_loop
 loop_again c =
-    let turn = c.before.before in
-    let marks = turn.before.args.marks.now in
-    (omega arith, λ e. below_next marks turn.loop.l turn.loop.all turn.loop.invariant.1 e)
+    let marks = c.args.marks.now in
+    (omega arith, λ e. below_next marks c.loop-l.l c.loop-l.all c.loop-l.invariant.1 e)
 
 returns : tie.Need-returns invariant_loop decreases_loop
-returns c e j h = c.before.loop.invariant.1 (eqb-true _ _ (not-false _ e)) j (omega arith)
+returns c e j h = c.loop-l.invariant.1 (eqb-true _ _ (not-false _ e)) j (omega arith)
 
 pub any_spec : {M : Type 1} → statement M
 any_spec =
     tie.close
-    (tie.spec invariant_loop decreases_loop (λ c. (omega arith, λ e j h. absurd (omega arith))) (λ c. omega arith)
+    (tie.spec
+    invariant_loop decreases_loop (λ c. (omega arith, λ e j h. absurd (omega arith))) (λ c. omega arith)
     (λ c. omega arith) (λ c. omega arith) loop_again returns)

@@ -6,18 +6,17 @@ use Rattle.find_sweep.proofs.Rows.{added_none, added_more, added_less}
 use Rattle.find_sweep.proofs.fill.Statement.{statement}
 use Rattle.find_sweep.proofs.fill.Tie as tie
 
-abbrev invariant_loop : tie.invariant-loop
+abbrev invariant_loop : tie.invariant-loop-k
 invariant_loop evens odds l count halves₀ k₀ halves k = Added (half_of evens odds) l halves₀ halves k
 
-abbrev decreases_loop : tie.decreases-loop
+abbrev decreases_loop : tie.decreases-loop-k
 decreases_loop evens odds l count halves₀ k₀ halves k = count - k
 
 half_requires : tie.Need-half-requires invariant_loop decreases_loop
 half_requires c κs =
-    let turn = c.before.before.before.before.before.before.before.before.before.before.before.before in
-    let e = turn.before.requires.5 in
-    let o = turn.before.requires.6 in
-    let k = turn.loop.k in (
+    let e = c.requires.5 in
+    let o = c.requires.6 in
+    let k = c.loop-k.k in (
       e k (omega arith),
       o (k + 1) (omega arith),
       e (k + 2) (omega arith),
@@ -31,21 +30,20 @@ half_requires c κs =
       e (k + 10) (omega arith),
     )
 
-loop_again : tie.Need-loop-preserved invariant_loop decreases_loop
+loop_again : tie.Need-loop-k-preserved invariant_loop decreases_loop
 loop_again c =
-    let called = c.before.before.before.before.before.before.before.before.before.before.before in
-    let turn = called.before.before in
-    added_more _ (omega arith) c.half.ensures turn.loop.invariant
+    added_more _ (omega arith) c.half.ensures c.loop-k.invariant
 
 returns : tie.Need-returns invariant_loop decreases_loop
-returns c = added_less _ c.loop-test.false c.before.loop.invariant
+returns c = added_less _ c.loop-k-test.false c.loop-k.invariant
 
 pub fill_spec : {M : Type 1} → statement M
 fill_spec =
     tie.close
-    (tie.spec invariant_loop decreases_loop (λ c. added_none _ _ _ c.requires.4) (λ c. omega arith) (λ c. omega arith)
-    (λ c. omega arith) (λ c. omega arith) (λ c. omega arith) (λ c. omega arith) (λ c. omega arith) (λ c. omega arith)
-    (λ c. omega arith) (λ c. omega arith) (λ c. omega arith) (λ c. omega arith) (λ c. omega arith) (λ c. omega arith)
-    (λ c. omega arith) (λ c. omega arith) (λ c. omega arith) (λ c. omega arith) (λ c. omega arith) (λ c. omega arith)
-    (λ c. omega arith) half_requires (λ c. omega arith) (λ c. omega arith) (λ c. omega arith) (λ c. omega arith)
-    loop_again returns)
+    (tie.spec
+    invariant_loop decreases_loop (λ c. added_none _ _ _ c.requires.4) (λ c. omega arith) (λ c. omega arith)
+    (λ c. omega arith) (λ c. omega arith) (λ c. omega arith) (λ c. omega arith) (λ c. omega arith)
+    (λ c. omega arith) (λ c. omega arith) (λ c. omega arith) (λ c. omega arith) (λ c. omega arith)
+    (λ c. omega arith) (λ c. omega arith) (λ c. omega arith) (λ c. omega arith) (λ c. omega arith)
+    (λ c. omega arith) (λ c. omega arith) (λ c. omega arith) (λ c. omega arith) half_requires (λ c. omega arith)
+    (λ c. omega arith) (λ c. omega arith) (λ c. omega arith) loop_again returns)

@@ -11,4 +11,5 @@ returns c = λ a b d e. rw (eq-eqb _ _ a, eq-eqb _ _ b, eq-eqb _ _ d, eq-eqb _ _
 
 pub mark_spec : {M : Type 1} → statement M
 mark_spec =
-    tie.close (tie.spec (λ c. search rules) returns)
+    tie.close (tie.spec
+    (λ c. search rules) returns)

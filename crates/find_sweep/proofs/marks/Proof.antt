@@ -16,24 +16,19 @@ use Rattle.find_sweep.proofs.marks.Tie as tie
 
 returns : tie.Need-returns
 returns c rec at m few p =
-    let four = c.before.before in
-    let three = four.before.before in
-    let second = three.before.before in
-    let first = second.before.before in
     marked_row rec at m few _ _ _ _
     (fours_row rec at m few _ _
     (twos_row rec at m few _ _
-    (plains_row rec at m few _ _ (bits_row rec at m few _ _ p first.bits.ensures) second.plains.ensures)
-    three.join.ensures)
-    four.join2.ensures)
+    (plains_row rec at m few _ _ (bits_row rec at m few _ _ p c.bits.ensures) c.plains.ensures)
+    c.join.ensures)
+    c.join-2.ensures)
     c.compare.ensures
 
 pub marks_spec : {M : Type 1} → statement M
 marks_spec =
     tie.close
-    (tie.spec (λ c κs. search rules) (λ c κs. search rules)
-    (λ c κs. (omega arith, omega arith, plains_small (λ j. omega arith) c.before.plains.ensures))
-    (λ c κs.
-    let small = twos_small (λ j. omega arith) c.before.before.before.plains.ensures c.before.join.ensures in
-    (omega arith, omega arith, small))
+    (tie.spec
+    (λ c κs. search rules) (λ c κs. search rules)
+    (λ c κs. (omega arith, omega arith, plains_small (λ j. omega arith) c.plains.ensures))
+    (λ c κs. let small = twos_small (λ j. omega arith) c.before.before.before.plains.ensures c.before.join.ensures in (omega arith, omega arith, small))
     (λ c κs. search rules) returns)

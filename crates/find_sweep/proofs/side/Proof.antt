@@ -13,5 +13,6 @@ returns c = side_is c.args.octet
 pub side_spec : {M : Type 1} → statement M
 side_spec =
     tie.close
-    (tie.spec (λ c. search rules) (λ c. omega (arith, byte_most (eqb (c.args.octet / 2) 0))) (λ c. search rules)
+    (tie.spec
+    (λ c. search rules) (λ c. omega (arith, byte_most (eqb (c.args.octet / 2) 0))) (λ c. search rules)
     (λ c. omega (arith, byte_most (eqb (c.args.octet / 2) 1))) returns)

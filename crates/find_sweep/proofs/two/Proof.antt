@@ -13,5 +13,6 @@ few by b h k = let l : b ≤ 3 = omega arith in omega (arith, mul-le-mul_left by
 pub two_spec : {M : Type 1} → statement M
 two_spec =
     tie.close
-    (tie.spec (λ c. omega (arith, few _ _ c.requires.0 c.requires.2))
+    (tie.spec
+    (λ c. omega (arith, few _ _ c.requires.0 c.requires.2))
     (λ c. omega (arith, c.requires.1, few _ _ c.requires.0 c.requires.2)) (λ c. search rules))

@@ -17,74 +17,64 @@ ends : (r : Rate) (s n place : ℕ) → s ≡ octet_symbols r → place + octet_
     → place + symbol_chips r * (s * n) < 2 ^ 64
 ends r s n place e h = rw (e, part_chips r n) h
 
-mul_m : tie.Need-overflow-mul-m
+mul_m : tie.Need-overflow_mul-m
 mul_m c =
-    let start = c.before.before in
-    let h = within start.args.rate _ start.args.count c.octet-symbols.ensures start.requires.0 in
+    let h = within c.args.rate _ c.args.count c.octet_symbols-symbols.ensures c.requires.0 in
     record { fits = omega arith }
 
-growths_requires : tie.Need-growths-requires
+growths_requires : tie.Need-growths-g-requires
 growths_requires c κs =
-    let start = c.before.before.before in
-    phases_low start.args.rate start.args.line.phase _ start.requires.3 _ c.phases.ensures
+    phases_low c.args.rate c.args.line.phase _ c.requires.3 _ c.phases-ps.ensures
 
-codes_requires : tie.Need-codes-requires
+codes_requires : tie.Need-codes-c-requires
 codes_requires c κs =
-    growths_low c.before.before.before.before.args.rate _ c.before.phases.result _ c.growths.ensures
+    growths_low c.args.rate _ c.phases-ps.result _ c.growths-g.ensures
 
-octets_requires : tie.Need-octets-requires
-octets_requires c κs =
-    let start = c.before.before.before.before.before in (
-      start.requires.0,
-      count_fits start.args.rate start.args.count start.requires.0,
-      codes_low start.args.rate c.before.growths.result start.args.numbers _
-          (growths_low start.args.rate _ c.before.before.phases.result _ c.before.growths.ensures)
-          c.codes.ensures,
-    )
+octets_requires : tie.Need-octets-raw-requires
+octets_requires c κs = (
+  c.requires.0,
+  count_fits c.args.rate c.args.count c.requires.0,
+  codes_low c.args.rate c.growths-g.result c.args.numbers _
+      (growths_low c.args.rate _ c.phases-ps.result _ c.growths-g.ensures)
+      c.codes-c.ensures,
+)
 
 unscramble_requires : tie.Need-unscramble-requires
 unscramble_requires c κs =
-    let start = c.before.before.before.before.before.before.before in
-    (count_fits start.args.rate start.args.count start.requires.0, start.requires.1)
+    (count_fits c.args.rate c.args.count c.requires.0, c.requires.1)
 
-odd_in_requires : tie.Need-odd-in-requires
+odd_in_requires : tie.Need-odd_in-odd-requires
 odd_in_requires c κs =
-    let start = c.before.before.before.before.before.before.before.before.before.before in
-    let symbols = c.before.before.before.before.before.before.before.before.octet-symbols.ensures in (
-      within start.args.rate _ start.args.count symbols start.requires.0,
-      ends start.args.rate _ start.args.count start.args.place symbols start.requires.2,
+    let symbols = c.octet_symbols-symbols.ensures in (
+      within c.args.rate _ c.args.count symbols c.requires.0,
+      ends c.args.rate _ c.args.count c.args.place symbols c.requires.2,
     )
 
-array_read_past : tie.Need-array-read-past
+array_read_past : tie.Need-bounds-raw-count
 array_read_past c =
-    let start = c.before.before.before.before.before.before.before.before.before.before.before in
-    let h = count_fits start.args.rate start.args.count start.requires.0 in
+    let h = count_fits c.args.rate c.args.count c.requires.0 in
     omega arith
 
-array_read_phase : tie.Need-array-read-phase
+array_read_phase : tie.Need-bounds-ps-m
 array_read_phase c =
-    let start = c.before.before.before.before.before.before.before.before.before.before.before in
-    let h = within start.args.rate _ start.args.count
-    c.before.before.before.before.before.before.before.before.before.octet-symbols.ensures
-    start.requires.0 in
+    let h = within c.args.rate _ c.args.count
+    c.octet_symbols-symbols.ensures
+    c.requires.0 in
     omega arith
 
 returns : tie.Need-returns
-returns c =
-    let octets = c.before.before.before.before.before in
-    let phases = octets.before.before.before in
-    let start = phases.before.before.before in (
-      block_heard start.args.rate _ start.args.line _ start.args.numbers _ _ start.requires.0
-          start.requires.4 start.requires.5 phases.phases.ensures octets.before.before.growths.ensures
-          start.args.count _ octets.octets.result refl octets.before.codes.ensures
-          octets.octets.ensures _ _ _ phases.before.octet-symbols.ensures start.requires.3 c.odd-in.ensures,
-      c.before.before.before.unscramble.ensures
-          ∙ ap (λ (w : List ℕ). over w start.args.out.now)
-          (block_octets start.args.rate _ start.args.line _ start.args.numbers _ _ start.requires.0
-          start.requires.4 start.requires.5 phases.phases.ensures octets.before.before.growths.ensures
-          start.args.count _ octets.octets.result refl octets.before.codes.ensures
-          octets.octets.ensures),
-    )
+returns c = record {
+  answer = block_heard c.args.rate _ c.args.line _ c.args.numbers _ _ c.requires.0
+      c.requires.4 c.requires.5 c.phases-ps.ensures c.growths-g.ensures
+      c.args.count _ c.octets-raw.result refl c.codes-c.ensures
+      c.octets-raw.ensures _ _ _ c.octet_symbols-symbols.ensures c.requires.3 c.odd_in-odd.ensures;
+  out = c.unscramble.ensures
+      ∙ ap (λ (w : List ℕ). over w c.args.out.now)
+      (block_octets c.args.rate _ c.args.line _ c.args.numbers _ _ c.requires.0
+      c.requires.4 c.requires.5 c.phases-ps.ensures c.growths-g.ensures
+      c.args.count _ c.octets-raw.result refl c.codes-c.ensures
+      c.octets-raw.ensures);
+}
 
 pub hear_spec : {M : Type 1} → statement M
 hear_spec =

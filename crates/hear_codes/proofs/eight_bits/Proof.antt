@@ -6,8 +6,8 @@ use Rattle.hear_codes.proofs.eight_bits.Statement.{statement}
 use Rattle.hear_codes.proofs.eight_bits.Tie as tie
 
 returns : tie.Need-returns
-returns c = eight_number c.before.args.g c.before.args.n c.two-bits.result c.before.requires
-    c.two-bits.ensures.0
+returns c = eight_number c.args.g c.args.n c.two_bits.result c.requires
+    c.two_bits.ensures.0
 
 pub eight_bits_spec : {M : Type 1} → statement M
 eight_bits_spec =
@@ -15,9 +15,7 @@ eight_bits_spec =
     (tie.spec
     (λ c. search rules) (λ c. search rules) (λ c. search rules) (λ c. search rules) (λ c. search rules)
     (λ c. search rules) (λ c. search rules) (λ c. search rules) (λ c. search rules) (λ c κs. search rules)
-    (λ c. let n = c.before.args.n in record { fits = room_2 _ (n / 32) (n / 16) c.two-bits.ensures.1 })
-    (λ c. let n = c.before.args.n in
-    record { fits = room_4 _ (n / 32) (n / 16) (n / 8) (n / 4) c.two-bits.ensures.1 })
-    (λ c. let n = c.before.args.n in
-    record { fits = room_6 _ (n / 32) (n / 16) (n / 8) (n / 4) (n / 2) n c.two-bits.ensures.1 })
+    (λ c. let n = c.args.n in record { fits = room_2 _ (n / 32) (n / 16) c.two_bits.ensures.1 })
+    (λ c. let n = c.args.n in record { fits = room_4 _ (n / 32) (n / 16) (n / 8) (n / 4) c.two_bits.ensures.1 })
+    (λ c. let n = c.args.n in record { fits = room_6 _ (n / 32) (n / 16) (n / 8) (n / 4) (n / 2) n c.two_bits.ensures.1 })
     returns)

@@ -7,16 +7,15 @@ use Rattle.hear_codes.proofs.Codes.{eight_from}
 use Rattle.hear_codes.proofs.from_eight.Statement.{statement}
 use Rattle.hear_codes.proofs.from_eight.Tie as tie
 
-of_eight_requires : tie.Need-of-eight-requires
+of_eight_requires : tie.Need-of_eight-requires
 of_eight_requires c κs =
-    let low = c.before.before.before.before.before.before.before.before.requires.2.at in
+    let low = c.requires.2.at in
     (low _, low _, low _, low _, low _, low _, low _, low _)
 
 returns : tie.Need-returns
 returns c =
-    let start = c.before.before.before.before.before.before.before.before.before in
-    c.of-eight.ensures
-    ∙ ap (packed 1) (sym (eight_from start.args.c.now start.args.k (omega (arith, start.requires.1))))
+    c.of_eight.ensures
+    ∙ ap (packed 1) (sym (eight_from c.args.c.now c.args.k (omega (arith, c.requires.1))))
 
 pub from_eight_spec : {M : Type 1} → statement M
 from_eight_spec =

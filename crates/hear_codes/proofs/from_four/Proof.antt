@@ -7,16 +7,15 @@ use Rattle.hear_codes.proofs.Codes.{four_from}
 use Rattle.hear_codes.proofs.from_four.Statement.{statement}
 use Rattle.hear_codes.proofs.from_four.Tie as tie
 
-of_four_requires : tie.Need-of-four-requires
+of_four_requires : tie.Need-of_four-requires
 of_four_requires c κs =
-    let low = c.before.before.before.before.requires.2.at in
+    let low = c.requires.2.at in
     (low _, low _, low _, low _)
 
 returns : tie.Need-returns
 returns c =
-    let start = c.before.before.before.before.before in
     c.of_four.ensures
-    ∙ ap (packed 2) (sym (four_from start.args.c.now start.args.k (omega (arith, start.requires.1))))
+    ∙ ap (packed 2) (sym (four_from c.args.c.now c.args.k (omega (arith, c.requires.1))))
 
 pub from_four_spec : {M : Type 1} → statement M
 from_four_spec =

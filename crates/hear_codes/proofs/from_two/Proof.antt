@@ -7,16 +7,15 @@ use Rattle.hear_codes.proofs.Codes.{two_from}
 use Rattle.hear_codes.proofs.from_two.Statement.{statement}
 use Rattle.hear_codes.proofs.from_two.Tie as tie
 
-of_two_requires : tie.Need-of-two-requires
+of_two_requires : tie.Need-of_two-requires
 of_two_requires c κs =
-    let low = c.before.before.requires.2.at in
+    let low = c.requires.2.at in
     (low _, low _)
 
 returns : tie.Need-returns
 returns c =
-    let start = c.before.before.before in
     c.of_two.ensures
-    ∙ ap (packed 4) (sym (two_from start.args.c.now start.args.k (omega (arith, start.requires.1))))
+    ∙ ap (packed 4) (sym (two_from c.args.c.now c.args.k (omega (arith, c.requires.1))))
 
 pub from_two_spec : {M : Type 1} → statement M
 from_two_spec =

@@ -15,14 +15,15 @@ some Two = omega arith
 some Five = omega arith
 some Eleven = omega arith
 
-div_whole : tie.Need-nonzero-div-whole
-div_whole c = rw c.octet-symbols.ensures (some c.before.args.rate)
+div_whole : tie.Need-nonzero_div-whole
+div_whole c = rw c.octet_symbols-whole.ensures (some c.args.rate)
 
-returns : tie.Need-returns
-returns c = block_rest _ _ c.before.before.args.rate c.before.octet-symbols.ensures c.if1.true
+returns : tie.Need-returns-then-left-whole
+returns c = block_rest _ _ c.args.rate c.octet_symbols-whole.ensures c.if-left-whole.true
 
-returns_2 : tie.Need-returns-2
-returns_2 c = block_whole _ _ c.before.before.args.rate c.before.octet-symbols.ensures c.if1.false
+returns_2 : tie.Need-returns-else-left-whole
+returns_2 c = block_whole _ _ c.args.rate c.octet_symbols-whole.ensures c.if-left-whole.false
 
 pub block_octets_spec : {M : Type 1} → statement M
-block_octets_spec = tie.close (tie.spec (λ c κs. search rules) div_whole returns returns_2)
+block_octets_spec = tie.close (tie.spec
+    (λ c κs. search rules) div_whole returns returns_2)

@@ -34,81 +34,72 @@ module _ (r : Rate) (s n : ℕ) (e : s ≡ octet_symbols r) where
   numbered : (symbol : ℕ) → symbol + octet_symbols r * n < 2 ^ 64 → symbol + s * n < 2 ^ 64
   numbered symbol h = rw e h
 
-mul_m : tie.Need-overflow-mul-m
+mul_m : tie.Need-overflow_mul-m
 mul_m c =
-    let start = c.before.before.before.before.before in
-    let h = within start.args.rate _ start.args.count c.octet-symbols.ensures start.requires.0 in
+    let h = within c.args.rate _ c.args.count c.octet_symbols-symbols.ensures c.requires.0 in
     record { fits = omega arith }
 
 decide_requires : tie.Need-decide-requires
 decide_requires c κs =
-    let start = c.before.before.before.before.before.before.before in
-    let e = c.before.before.octet-symbols.ensures in (
-      within start.args.rate _ start.args.count e start.requires.0,
-      room start.args.rate _ start.args.count e start.args.place _ start.requires.2,
-      usable start.args.rate _ start.args.count e _ start.args.place start.requires.3,
+    let e = c.octet_symbols-symbols.ensures in (
+      within c.args.rate _ c.args.count e c.requires.0,
+      room c.args.rate _ c.args.count e c.args.place _ c.requires.2,
+      usable c.args.rate _ c.args.count e _ c.args.place c.requires.3,
       refl,
       refl,
     )
 
 -- the block's last chip
-ends : (c : tie.After-decide) → let a = c.before.before.before.before.before.before.before.before.args in
+ends : (c : tie.After-decide) → let a = c.args in
     a.place + octet_chips a.rate * a.count < 2 ^ 64
 ends c =
-    let start = c.before.before.before.before.before.before.before.before in
-    let a = start.args in
+    let a = c.args in
     omega (
       arith,
-      start.requires.2,
-      recording_fits a.rec a.row.now a.bytes.now a.i.now a.q.now (2 ^ 64) start.well-formed.1.0.0
-          start.well-formed.1.1.0.0 start.well-formed.1.1.1.0.0,
+      c.requires.2,
+      recording_fits a.rec a.row.now a.bytes.now a.i.now a.q.now (2 ^ 64) c.well_formed.1.0.0
+          c.well_formed.1.1.0.0 c.well_formed.1.1.1.0.0,
     )
 
-hear_requires : tie.Need-hear-requires
+hear_requires : tie.Need-hear-heard-requires
 hear_requires c κs =
-    let start = c.before.before.before.before.before.before.before.before.before in
-    let a = start.args in
-    let d = c.before.decide.ensures.0 in (
-      start.requires.0,
-      start.requires.1,
+    let a = c.args in
+    let d = c.decide.ensures.numbers in (
+      c.requires.0,
+      c.requires.1,
       ends c.before,
-      start.requires.4,
+      c.requires.4,
       d.long,
-      block_are_words a.rate _ a.count c.before.before.before.before.octet-symbols.ensures
-          (recording_of a.rec a.row.now a.bytes.now a.i.now a.q.now) a.place _ d start.requires.0,
+      block_are_words a.rate _ a.count c.octet_symbols-symbols.ensures
+          (recording_of a.rec a.row.now a.bytes.now a.i.now a.q.now) a.place _ d c.requires.0,
     )
 
-least_after_requires : tie.Need-least-after-requires
+least_after_requires : tie.Need-least_after-least-requires
 least_after_requires c κs =
-    let decided = c.before.before.before.before.before in
-    let start = decided.before.before.before.before.before.before.before.before in
-    let a = start.args in
-    let e = decided.before.before.before.octet-symbols.ensures in (
-      within a.rate _ a.count e start.requires.0,
-      numbered a.rate _ a.count e a.symbol start.requires.5,
-      decided.decide.ensures.1.long,
+    let a = c.args in
+    let e = c.octet_symbols-symbols.ensures in (
+      within a.rate _ a.count e c.requires.0,
+      numbered a.rate _ a.count e a.symbol c.requires.5,
+      c.decide.ensures.leads.long,
     )
 
 returns : tie.Need-returns
 returns c =
-    let heard = c.before.before.before.before in
-    let decided = heard.before.before in
-    let start = decided.before.before.before.before.before.before.before.before in
-    let a = start.args in
-    let e = decided.before.before.before.octet-symbols.ensures in
+    let both = (let a = c.args in
+    let e = c.octet_symbols-symbols.ensures in
     let rec = recording_of a.rec a.row.now a.bytes.now a.i.now a.q.now in
-    let words = block_words a.rate _ a.count e rec a.place _ decided.decide.ensures.0 start.requires.0 in (
-      subst (λ (ws : List ℕ). Heard a.rate a.symbol a.place a.line ws heard.hear.result) words
-          heard.hear.ensures.0,
+    let words = block_words a.rate _ a.count e rec a.place _ c.decide.ensures.numbers c.requires.0 in (
+      subst (λ (ws : List ℕ). Heard a.rate a.symbol a.place a.line ws c.hear-heard.result) words
+          c.hear-heard.ensures.answer,
       (
-        c.least-after.ensures
+        c.least_after-least.ensures
             ∙ ap (least_from a.symbol a.least)
-            (block_leads a.rate _ a.count e rec a.place _ decided.decide.ensures.1 start.requires.0),
-        heard.hear.ensures.1
+            (block_leads a.rate _ a.count e rec a.place _ c.decide.ensures.leads c.requires.0),
+        c.hear-heard.ensures.out
             ∙ ap (λ (ws : List ℕ). over (plain_octets a.rate a.symbol a.count a.line ws) a.out.now)
             words,
       ),
-    )
+    )) in record { answer = both.0; least = both.1; out = both.2 }
 
 pub hear_block_spec : {M : Type 1} → statement M
 hear_block_spec =

@@ -21,23 +21,23 @@ use Rattle.hear_parts.proofs.Parts.{
 use Rattle.hear_parts.proofs.hear_octets.Statement.{statement}
 use Rattle.hear_parts.proofs.hear_octets.Tie as tie
 
-abbrev invariant_loop : tie.invariant-loop
+abbrev invariant_loop : tie.invariant-loop-k
 invariant_loop rec row bytes i q rate at symbol out₀ chips symbols part₀ place₀ k₀ out part place k =
     Parts rate at (recording_of rec row bytes i q) part₀.heard.line symbol part₀.least out₀ part place k out
 
-abbrev decreases_loop : tie.decreases-loop
+abbrev decreases_loop : tie.decreases-loop-k
 decreases_loop rec row bytes i q rate at symbol out₀ chips symbols part₀ place₀ k₀ out part place k = length out₀ - k
 
 -- before the loop
-abbrev begun : tie.At-loop invariant_loop decreases_loop → tie.Start invariant_loop decreases_loop
+abbrev begun : tie.At-loop-k invariant_loop decreases_loop → tie.Start invariant_loop decreases_loop
 begun c = c.before.before.before.before.before.before.before
 
 -- in a turn there are octets left
-left : (c : tie.In-loop invariant_loop decreases_loop) → c.before.loop.k < length (begun c.before).args.out.now
+left : (c : tie.In-loop-k invariant_loop decreases_loop) → c.before.loop.k < length (begun c.before).args.out.now
 left c = omega (arith, parts_long c.before.loop.invariant)
 
 -- what the block asks of the recording
-held : (c : tie.After-block-octets invariant_loop decreases_loop) → let a = (begun c.before.before).args in
+held : (c : tie.After-block_octets-count invariant_loop decreases_loop) → let a = (begun c.before.before).args in
     c.before.before.loop.place + octet_chips a.rate * c.block_octets.result
     ≤ length (recording_of a.rec a.row.now a.bytes.now a.i.now a.q.now)
 held c =
@@ -45,7 +45,7 @@ held c =
     (begun c.before.before).pre.0
 
 -- and the product of its octets and chips
-ends : (c : tie.After-block-octets invariant_loop decreases_loop)
+ends : (c : tie.After-block_octets-count invariant_loop decreases_loop)
     → c.before.before.loop.place + c.before.before.before.before.octet-chips.result * c.block_octets.result
     < 2 ^ 64
 ends c =
@@ -61,7 +61,7 @@ ends c =
     ))
 
 -- the numbers of its symbols
-numbered : (c : tie.After-block-octets invariant_loop decreases_loop) → let a = (begun c.before.before).args in
+numbered : (c : tie.After-block_octets-count invariant_loop decreases_loop) → let a = (begun c.before.before).args in
     a.symbol + c.before.before.before.octet-symbols.result * c.before.before.loop.k
     + octet_symbols a.rate * c.block_octets.result < 2 ^ 64
 numbered c =
@@ -69,20 +69,20 @@ numbered c =
     c.block_octets.ensures _ _ c.before.before.before.octet-symbols.ensures
     (begun c.before.before).pre.3
 
-loop_holds : tie.Need-loop-init invariant_loop decreases_loop
-loop_holds c = parts_none _ _ _ _ _ _ _ c.before.before.before.before.before.before.requires.2
+loop_holds : tie.Need-loop-k-init invariant_loop decreases_loop
+loop_holds c = parts_none _ _ _ _ _ _ _ c.requires.2
 
-mul_number : tie.Need-overflow-mul-number invariant_loop decreases_loop
+mul_number : tie.Need-overflow_mul-number invariant_loop decreases_loop
 mul_number c = record { fits = omega (arith, numbered c) }
 
-add_number : tie.Need-overflow-add-number invariant_loop decreases_loop
+add_number : tie.Need-overflow_add-number invariant_loop decreases_loop
 add_number c = record { fits = omega (arith, numbered c) }
 
 -- a turn's block, once its octets are lent
-abbrev block : tie.After-hear-block-arg invariant_loop decreases_loop → tie.After-block-octets invariant_loop decreases_loop
+abbrev block : tie.After-hear_block-arg-1 invariant_loop decreases_loop → tie.After-block_octets-count invariant_loop decreases_loop
 block c = c.before.before.before.before
 
-hear_block_requires : tie.Need-hear-block-requires invariant_loop decreases_loop
+hear_block_requires : tie.Need-hear_block-more-requires invariant_loop decreases_loop
 hear_block_requires c κs =
     let loop = (block c).before.before.loop in
     let w = (block c).block_octets.ensures in
@@ -96,16 +96,16 @@ hear_block_requires c κs =
     )
 
 -- and once it is heard
-abbrev turn : tie.After-joined invariant_loop decreases_loop → tie.After-block-octets invariant_loop decreases_loop
+abbrev turn : tie.After-joined-part invariant_loop decreases_loop → tie.After-block_octets-count invariant_loop decreases_loop
 turn c = block c.before.before.before.before
 
-mul_place : tie.Need-overflow-mul-place invariant_loop decreases_loop
+mul_place : tie.Need-overflow_mul-place invariant_loop decreases_loop
 mul_place c = let h = ends (turn c) in record { fits = omega arith }
 
-add_place : tie.Need-overflow-add-place invariant_loop decreases_loop
+add_place : tie.Need-overflow_add-place invariant_loop decreases_loop
 add_place c = record { fits = ends (turn c) }
 
-add_k : tie.Need-overflow-add-k invariant_loop decreases_loop
+add_k : tie.Need-overflow_add-k invariant_loop decreases_loop
 add_k c =
     let w = (turn c).block_octets.ensures in
     let b = left (turn c).before in
@@ -118,28 +118,28 @@ add_k c =
       );
     }
 
-loop_less : tie.Need-loop-smaller invariant_loop decreases_loop
+loop_less : tie.Need-loop-k-smaller invariant_loop decreases_loop
 loop_less c =
     let w = (turn c).block_octets.ensures in
     let b = left (turn c).before in
     omega (arith, w.some (omega (arith, parts_long (turn c).before.before.loop.invariant)))
 
-loop_again : tie.Need-loop-preserved invariant_loop decreases_loop
+loop_again : tie.Need-loop-k-preserved invariant_loop decreases_loop
 loop_again c =
     let at = (turn c).before.before in
-    let call = c.before.before.before.hear-block.ensures in
+    let call = c.hear_block-more.ensures in
     parts_more _ _ _ _ _ _ _ _ _ _ _ _ at.loop.inv (left (turn c).before) (turn c).block_octets.ensures
-    _ _ _ _ _ call.0 call.1.0 call.1.1 c.joined.ensures at.before.before.octet-chips.ensures
+    _ _ _ _ _ call.0 call.1.0 call.1.1 c.joined-part.ensures at.before.before.octet-chips.ensures
     at.before.octet-symbols.ensures
 
 returns : tie.Need-returns invariant_loop decreases_loop
-returns c = parts_all c.before.loop.invariant (omega (arith, parts_long c.before.loop.invariant))
+returns c = parts_all c.loop-k.invariant (omega (arith, parts_long c.loop-k.invariant))
 
 pub hear_octets_spec : {M : Type 1} → statement M
 hear_octets_spec =
     tie.close
     (tie.spec
-    invariant_loop decreases_loop (λ c κs. search rules) (λ c κs. search rules) loop_holds (λ c. omega arith) (λ c κs. search rules)
-    mul_number add_number (λ c. omega arith) (λ c. search rules) (λ c. search rules) hear_block_requires
-    (λ c κs. search rules) mul_place add_place add_k loop_less loop_again (λ c. parts_long c.before.loop.invariant)
-    returns)
+    invariant_loop decreases_loop (λ c κs. search rules) (λ c κs. search rules) loop_holds (λ c. omega arith)
+    (λ c κs. search rules) mul_number add_number (λ c. omega arith) (λ c. search rules) (λ c. search rules)
+    hear_block_requires (λ c κs. search rules) mul_place add_place add_k loop_less loop_again
+    (λ c. parts_long c.loop-k.invariant) returns)

@@ -8,35 +8,31 @@ use Rattle.read_frames.proofs.Order.{read_no_kind, read_rows, read_ours, cleared
 use Rattle.read_frames.proofs.read.Statement.{statement}
 use Rattle.read_frames.proofs.read.Tie as tie
 
-returns : tie.Need-returns
-returns c = read_no_kind _ _ _ _ _ (sym c.before.is_kind_lem.ensures ∙ not-true _ c.if1.true)
-    c.before.before.before.before.fill.ensures
+returns : tie.Need-returns-then-not-is_kind
+returns c =
+    let both = (read_no_kind _ _ _ _ _ (sym c.is_kind.ensures ∙ not-true _ c.if-not-is_kind.true)
+    c.fill.ensures) in record { answer = both.0; octets = both.1 }
 
 -- past refusal 1
-kind_holds : (c : tie.Else1) → is_kind
-    c.before.before.before.before.before.before.before.before.before.before.args.kind ≡ true
-kind_holds c = sym c.before.is_kind_lem.ensures ∙ not-false _ c.if1.false
+kind_holds : (c : tie.Else-not-is_kind) → is_kind
+    c.args.kind ≡ true
+kind_holds c = sym c.is_kind.ensures ∙ not-false _ c.if-not-is_kind.false
 
-returns_2 : tie.Need-returns-2
+returns_2 : tie.Need-returns-then-not-agree
 returns_2 c =
-    let first = c.before in
-    read_rows _ _ _ _ _ (kind_holds first) (not-true _ c.if2.true)
-    first.before.before.before.before.fill.ensures
+    let both = (read_rows _ _ _ _ _ (kind_holds c.before) (not-true _ c.if-not-agree.true)
+    c.fill.ensures) in record { answer = both.0; octets = both.1 }
 
-read_as_requires : tie.Need-read-as-requires
+read_as_requires : tie.Need-read_as-requires
 read_as_requires c κs =
-    let filled = c.before.before.before.before.before.before.before in
-    cleared filled.before.before.before.before.before.before.args.octets.now _
-    filled.fill.ensures filled.fill.auto.0
+    cleared c.args.octets.now _
+    c.fill.ensures c.fill.auto.row
 
-returns_3 : tie.Need-returns-3
+returns_3 : tie.Need-returns
 returns_3 c =
-    let on = c.before.before in
-    let second = on.before.before.before in
-    let filled = second.before.before.before.before.before in
-    read_ours _ _ _ _ (kind_holds second.before) (not-false _ second.if2.false) _
-    on.before.before.kind_of_lem.ensures _ _
-    (as_long _ _ _ _ _ _ _ filled.fill.auto.0 on.read_as.ensures)
+    let both = (read_ours _ _ _ _ (kind_holds c.before.before.before.before.before.before) (not-false _ c.if-not-agree.false) _
+    c.kind_of-k.ensures _ _
+    (as_long _ _ _ _ _ _ _ c.fill.auto.row c.read_as.ensures)) in record { answer = both.0; octets = both.1 }
 
 pub read_spec : {M : Type 1} → statement M
 read_spec =

@@ -6,18 +6,15 @@ use Rattle.read_frames.proofs.Order.{read_of_1997, cleared, as_long, in_numbers}
 use Rattle.read_frames.proofs.read_1997.Statement.{statement}
 use Rattle.read_frames.proofs.read_1997.Tie as tie
 
-read_as_requires : tie.Need-read-as-requires
+read_as_requires : tie.Need-read_as-reading-requires
 read_as_requires c κs =
-    let filled = c.before.before.before.before.before.before.before in
-    cleared filled.before.before.before.before.args.octets.now _ filled.fill.ensures
-    filled.fill.auto.0
+    cleared c.args.octets.now _ c.fill.ensures
+    c.fill.auto.row
 
 returns : tie.Need-returns
 returns c =
-    let read = c.before.before.before in
-    let filled = read.before.before.before.before.before.before.before.before in
-    in_numbers c.record_of.ensures
-    (read_of_1997 _ refl _ _ _ _ (as_long _ _ _ _ _ _ _ filled.fill.auto.0 read.read_as.ensures))
+    let both = (in_numbers c.record_of.ensures
+    (read_of_1997 _ refl _ _ _ _ (as_long _ _ _ _ _ _ _ c.fill.auto.row c.read_as-reading.ensures))) in record { answer = both.0; octets = both.1 }
 
 pub read_1997_spec : {M : Type 1} → statement M
 read_1997_spec =

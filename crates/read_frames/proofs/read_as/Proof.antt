@@ -25,24 +25,21 @@ handed : (accepted : Accepted) (k : Kind) (rec : List Taken) (o : Opening) (t : 
     × (z ≡ replicate (length z) 0) × (o.least ≡ least_of (front_leads k rec))
 handed accepted k rec o t z x w e = (x.few t w, x.chips t w, x.line t w, e, x.least t w)
 
-read_payload_requires : tie.Need-read-payload-requires
+read_payload_requires : tie.Need-read_payload-requires
 read_payload_requires c κs =
-    let opened = c.before.before.before.before.before.before in
-    handed _ _ _ _ _ _ opened.read_whole.ensures c.before.before.before.before.told2.given.1
-    opened.before.before.before.before.before.requires
+    handed _ _ _ _ _ _ c.read_whole-opening.ensures c.in-Fields.is
+    c.requires
 
-returns : tie.Need-returns
+returns : tie.Need-returns-in-Refused
 returns c =
-    let opened = c.before.before.before in
-    as_refused _ _ _ _ _ opened.read_whole.ensures _ _ c.before.told.given.1
-    opened.before.before.before.before.before.requires
+    let both = (as_refused _ _ _ _ _ c.read_whole-opening.ensures _ _ c.in-Refused.is
+    c.requires) in record { answer = both.0; octets = both.1 }
 
-returns_2 : tie.Need-returns-2
+returns_2 : tie.Need-returns-in-Fields
 returns_2 c =
-    let opened = c.before.before.before.before.before.before.before.before.before in
-    as_told _ _ _ _ _ opened.read_whole.ensures _ _ _
-    c.before.before.before.before.before.before.before.told2.given.1
-    c.before.before.read_payload.ensures
+    let both = (as_told _ _ _ _ _ c.read_whole-opening.ensures _ _ _
+    c.in-Fields.is
+    c.read_payload.ensures) in record { answer = both.0; octets = both.1 }
 
 pub read_as_spec : {M : Type 1} → statement M
 read_as_spec =

@@ -6,7 +6,8 @@ use Rattle.read_frames.proofs.read_hard.Statement.{statement}
 use Rattle.read_frames.proofs.read_hard.Tie as tie
 
 returns : tie.Need-returns
-returns c = in_numbers c.record_of.ensures c.before.before.before.read.ensures
+returns c =
+    let both = (in_numbers c.record_of.ensures c.read-reading.ensures) in record { answer = both.0; octets = both.1 }
 
 pub read_hard_spec : {M : Type 1} → statement M
 read_hard_spec =

@@ -14,26 +14,22 @@ below a b x y e f h = omega arith
 within : (a b x : ℕ) → a ≡ x → b ≤ a → b ≤ x
 within a b x e h = omega arith
 
-returns : tie.Need-returns
+returns : tie.Need-returns-then-chip_count-chips
 returns c =
-    front_short _ _ (below _ _ _ _ c.before.chip-count.ensures c.before.before.front-chips.ensures
-    c.if1.true)
+    front_short _ _ (below _ _ _ _ c.chip_count.ensures c.front_chips-chips.ensures
+    c.if-chip_count-chips.true)
 
-returns_2 : tie.Need-returns-2
+returns_2 : tie.Need-returns-in-At
 returns_2 c =
-    let searched = c.before.before.before in
-    let tested = searched.before in
-    front_unusable _ _ _ _ tested.before.before.front-chips.ensures
-    (within _ _ _ tested.before.chip-count.ensures tested.if1.false) searched.first_unusable_lem.ensures _
-    c.before.bad.given.1
+    front_unusable _ _ _ _ c.front_chips-chips.ensures
+    (within _ _ _ c.chip_count.ensures c.if-chip_count-chips.false) c.first_unusable-bad.ensures _
+    c.in-At.is
 
-returns_3 : tie.Need-returns-3
+returns_3 : tie.Need-returns-in-Nothing
 returns_3 c =
-    let searched = c.before.before in
-    let tested = searched.before in
-    front_usable _ _ _ _ tested.before.before.front-chips.ensures
-    (within _ _ _ tested.before.chip-count.ensures tested.if1.false) searched.first_unusable_lem.ensures
-    c.enum_told.given.1
+    front_usable _ _ _ _ c.front_chips-chips.ensures
+    (within _ _ _ c.chip_count.ensures c.if-chip_count-chips.false) c.first_unusable-bad.ensures
+    c.in-Nothing.is
 
 pub look_at_front_spec : {M : Type 1} → statement M
 look_at_front_spec =

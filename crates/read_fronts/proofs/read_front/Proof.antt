@@ -5,23 +5,23 @@ use Rattle.read_fronts.proofs.Order.{opens_shorter, opens_unusable, all_usable, 
 use Rattle.read_fronts.proofs.read_front.Statement.{statement}
 use Rattle.read_fronts.proofs.read_front.Tie as tie
 
-hear_front_requires : tie.Need-hear-front-requires
-hear_front_requires c κs = all_usable _ _ _ c.before.before.look-at-front.ensures c.enum-told2.given.1
+hear_front_requires : tie.Need-hear_front-known-requires
+hear_front_requires c κs = all_usable _ _ _ c.look_at_front-looked.ensures c.in-Usable.is
 
-returns : tie.Need-returns
+returns : tie.Need-returns-in-Shorter
 returns c =
-    opens_shorter _ _ _ c.before.before.before.look-at-front.ensures _ _ c.before.enum_told.given.1
+    opens_shorter _ _ _ c.look_at_front-looked.ensures _ _ c.in-Shorter.is
     c.refused.ensures
 
-returns_2 : tie.Need-returns-2
+returns_2 : tie.Need-returns-in-Unusable
 returns_2 c =
-    opens_unusable _ _ _ c.before.before.before.before.look-at-front.ensures _ _ _
-    c.before.before.looked.given.1 c.refused2.ensures
+    opens_unusable _ _ _ c.look_at_front-looked.ensures _ _ _
+    c.in-Unusable.is c.refused-in-Unusable.ensures
 
-returns_3 : tie.Need-returns-3
+returns_3 : tie.Need-returns-in-Usable
 returns_3 c =
-    opens_usable _ _ _ c.before.before.before.before.look-at-front.ensures _ _
-    c.before.before.enum-told2.given.1 (c.told.ensures.0 _ c.before.hear-front.ensures)
+    opens_usable _ _ _ c.look_at_front-looked.ensures _ _
+    c.in-Usable.is (c.told.ensures.answer _ c.hear_front-known.ensures)
 
 pub read_front_spec : {M : Type 1} → statement M
 read_front_spec =

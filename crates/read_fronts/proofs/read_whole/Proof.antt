@@ -14,28 +14,26 @@ below a b x y e f h = omega arith
 within : (a b x y : ℕ) → a ≡ x → b ≡ y → b ≤ a → y ≤ x
 within a b x y e f h = omega arith
 
-frame_chips_requires : tie.Need-frame-chips-requires
+frame_chips_requires : tie.Need-frame_chips-all-requires
 frame_chips_requires c κs =
-    whole_few _ _ _ _ c.before.before.before.read-front.ensures _ c.before.told2.given.1
+    whole_few _ _ _ _ c.read_front-opening.ensures _ c.in-Fields.is
 
-returns : tie.Need-returns
+returns : tie.Need-returns-then-chip_count-all
 returns c =
-    let told = c.before.before.before.before.before in
-    whole_ends _ _ _ _ told.before.before.read-front.ensures _ told.told2.given.1 _
-    (below _ _ _ _ c.before.before.chip-count.ensures c.before.before.before.frame-chips.ensures
-    c.before.if1.true)
-    c.refused2.ensures
+    whole_ends _ _ _ _ c.read_front-opening.ensures _ c.in-Fields.is _
+    (below _ _ _ _ c.chip_count.ensures c.frame_chips-all.ensures
+    c.if-chip_count-all.true)
+    c.refused-then-chip_count-all.ensures
 
-returns_2 : tie.Need-returns-2
+returns_2 : tie.Need-returns-in-Refused
 returns_2 c =
-    whole_refused _ _ _ _ c.before.before.before.before.read-front.ensures _ _
-    c.before.before.told.given.1 c.refused.ensures
+    whole_refused _ _ _ _ c.read_front-opening.ensures _ _
+    c.in-Refused.is c.refused.ensures
 
-returns_3 : tie.Need-returns-3
+returns_3 : tie.Need-returns-else-chip_count-all
 returns_3 c =
-    let told = c.before.before.before.before in
-    whole_kept _ _ _ _ told.before.before.read-front.ensures _ told.told2.given.1
-    (within _ _ _ _ c.before.chip-count.ensures c.before.before.frame-chips.ensures c.if1.false)
+    whole_kept _ _ _ _ c.read_front-opening.ensures _ c.in-Fields.is
+    (within _ _ _ _ c.chip_count.ensures c.frame_chips-all.ensures c.if-chip_count-all.false)
 
 pub read_whole_spec : {M : Type 1} → statement M
 read_whole_spec =

@@ -15,54 +15,42 @@ use Rattle.receive_calls.proofs.Closes.{
 use Rattle.receive_calls.proofs.close_in.Statement.{statement}
 use Rattle.receive_calls.proofs.close_in.Tie as tie
 
-returns : tie.Need-returns
+returns : tie.Need-returns-then-status-eq1
 returns c =
-    let call = c.before.before in
-    let test = call.before.before in
-    let asked = test.before.before in
-    let a = asked.before.before.before.args in
-    close_taken a.s a.octets.now _ asked.takes.ensures _ _ call.refuse.new.1.0
-    test.before.if1.true refl (refused_other _ ShorterThanFront call.refuse.ensures.0 (omega arith))
-    call.refuse.auto.1.0
-    (way_short a.s a.octets.now _ _ call.refuse.ensures.1 test.if2.true call.refuse.ensures.0)
+    let a = c.args in
+    close_taken a.s a.octets.now _ c.takes.ensures _ _ c.refuse-answer.new.octets
+    c.if-takes.true refl (refused_other _ ShorterThanFront c.refuse-answer.ensures.answer (omega arith))
+    c.refuse-answer.auto.octets
+    (way_short a.s a.octets.now _ _ c.refuse-answer.ensures.octets c.if-status-eq1.true c.refuse-answer.ensures.answer)
 
-tell_payload_requires : tie.Need-tell-payload-requires
+tell_payload_requires : tie.Need-tell_payload-answer-requires
 tell_payload_requires c κs =
-    let test = c.before in
-    let asked = test.before.before.before in
-    let a = asked.before.before.before.args in
-    (takes_payload a.s.progress _ (sym asked.takes.ensures ∙ test.before.before.if1.true)
-    test.if3.true).few
+    let a = c.args in
+    (takes_payload a.s.progress _ (sym c.takes.ensures ∙ c.if-takes.true)
+    c.if-status-eq2.true).few
 
-returns_2 : tie.Need-returns-2
+returns_2 : tie.Need-returns-then-status-eq2
 returns_2 c =
-    let call = c.before.before in
-    let test = call.before.before in
-    let asked = test.before.before.before in
-    let a = asked.before.before.before.args in
-    close_taken a.s a.octets.now _ asked.takes.ensures _ _ call.tell-payload.new.1.0
-    test.before.before.if1.true refl call.tell-payload.ensures.1 call.tell-payload.auto.1.0
-    (λ kind fed y. call.tell-payload.ensures.0 kind fed a.s.hold a.s.preamble a.s.header
-    test.if3.true y)
+    let a = c.args in
+    close_taken a.s a.octets.now _ c.takes.ensures _ _ c.tell_payload-answer.new.octets
+    c.if-takes.true refl c.tell_payload-answer.ensures.other c.tell_payload-answer.auto.octets
+    (λ kind fed y. c.tell_payload-answer.ensures.answer kind fed a.s.hold a.s.preamble a.s.header
+    c.if-status-eq2.true y)
 
-returns_3 : tie.Need-returns-3
+returns_3 : tie.Need-returns-then-takes
 returns_3 c =
-    let call = c.before.before in
-    let test = call.before.before in
-    let asked = test.before.before.before in
-    let a = asked.before.before.before.args in
-    let taken = sym asked.takes.ensures ∙ test.before.before.if1.true in
-    let stays = takes_stays a.s.progress _ taken test.before.if2.false test.if3.false in
-    close_taken a.s a.octets.now _ asked.takes.ensures _ _ call.kept.new.1.0
-    test.before.before.if1.true refl
-    (kept_other a.s.progress _ call.kept.ensures.0 (takes_refused a.s.progress _ taken stays))
-    call.kept.auto.1.0 (way_stays a.s a.octets.now _ _ call.kept.ensures.1 stays call.kept.ensures.0)
+    let a = c.args in
+    let taken = sym c.takes.ensures ∙ c.if-takes.true in
+    let stays = takes_stays a.s.progress _ taken c.if-status-eq1.false c.if-status-eq2.false in
+    close_taken a.s a.octets.now _ c.takes.ensures _ _ c.kept-answer.new.octets
+    c.if-takes.true refl
+    (kept_other a.s.progress _ c.kept-answer.ensures.answer (takes_refused a.s.progress _ taken stays))
+    c.kept-answer.auto.octets (way_stays a.s a.octets.now _ _ c.kept-answer.ensures.octets stays c.kept-answer.ensures.answer)
 
-returns_4 : tie.Need-returns-4
+returns_4 : tie.Need-returns
 returns_4 c =
-    let asked = c.before.before in
-    let a = asked.before.before.before.args in
-    close_refused a.s a.octets.now _ asked.takes.ensures _ c.before.if1.false c.not-open.ensures
+    let a = c.args in
+    close_refused a.s a.octets.now _ c.takes.ensures _ c.if-takes.false c.not_open-answer.ensures
 
 pub close_in_spec : {M : Type 1} → statement M
 close_in_spec =

@@ -5,24 +5,22 @@ use borrow.Author.Rules.{rules}
 use Rattle.receive_calls.proofs.feed_in.Statement.{statement}
 use Rattle.receive_calls.proofs.feed_in.Tie as tie
 
-feed_all_requires : tie.Need-feed-all-requires
-feed_all_requires c κs = sym c.before.before.takes.ensures ∙ c.before.if1.true
+feed_all_requires : tie.Need-feed_all-receiver-requires
+feed_all_requires c κs = sym c.takes.ensures ∙ c.if-takes.true
 
-returns : tie.Need-returns
+returns : tie.Need-returns-then-takes
 returns c =
-    let call = c.before.before in
-    let test = call.before.before in
-    let a = test.before.before.before.before.before.args in
-    feed_taken a.s a.octets.now a.batch.now _ test.before.takes.ensures _ _ test.if1.true
-    call.feed-all.ensures
+    let a = c.args in
+    feed_taken a.s a.octets.now a.batch.now _ c.takes.ensures _ _ c.if-takes.true
+    c.feed_all-receiver.ensures
 
-returns_2 : tie.Need-returns-2
+returns_2 : tie.Need-returns
 returns_2 c =
-    let a = c.before.before.before.before.before.args in
-    feed_refused a.s a.octets.now a.batch.now _ c.before.takes.ensures c.if1.false
+    let a = c.args in
+    feed_refused a.s a.octets.now a.batch.now _ c.takes.ensures c.if-takes.false
 
 pub feed_in_spec : {M : Type 1} → statement M
 feed_in_spec =
     tie.close
     (tie.spec
-    (λ c κs. search rules) feed_all_requires (λ c. c.before.before.feed-all.ensures.long) returns returns_2)
+    (λ c κs. search rules) feed_all_requires (λ c. c.feed_all-receiver.ensures.long) returns returns_2)

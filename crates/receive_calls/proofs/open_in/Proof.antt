@@ -5,27 +5,25 @@ use Rattle.receive_calls.proofs.Opens.{opens_kind, opens_none}
 use Rattle.receive_calls.proofs.open_in.Statement.{statement}
 use Rattle.receive_calls.proofs.open_in.Tie as tie
 
-returns : tie.Need-returns
+returns : tie.Need-returns-then-is_kind
 returns c =
-    let asked = c.before.before in
-    let fill = asked.before.before.before.fill in
+    let fill = c.fill in
     record {
       answer_is = refl;
       receiver_is =
-          opens_kind _ _ _ _ _ fill.auto.0 asked.is_kind_lem.ensures c.fresh-receiver.ensures
-          c.before.if1.true;
+          opens_kind _ _ _ _ _ fill.auto.row c.is_kind.ensures c.fresh_receiver-receiver.ensures
+          c.if-is_kind.true;
       buffer_is = fill.ensures;
     }
 
-returns_2 : tie.Need-returns-2
+returns_2 : tie.Need-returns
 returns_2 c =
-    let asked = c.before.before in
-    let fill = asked.before.before.before.fill in
+    let fill = c.fill in
     record {
       answer_is = refl;
       receiver_is =
-          opens_none _ _ _ _ _ fill.auto.0 asked.is_kind_lem.ensures c.fresh-receiver2.ensures
-          c.before.if1.false;
+          opens_none _ _ _ _ _ fill.auto.row c.is_kind.ensures c.fresh_receiver-receiver-2.ensures
+          c.if-is_kind.false;
       buffer_is = fill.ensures;
     }
 

@@ -45,50 +45,42 @@ module _ (p : Report) (r : Recording) where
     unfolding added
     refusal q z e = counted q (rw (ne_eqb a.number 0 z) (e outcome refl))
 
-returns : tie.Need-returns
+returns : tie.Need-returns-then-not-takes_more
 returns c =
-    let a = c.before.before.before.args in
+    let a = c.args in
     full a.report (record { kind = a.kind; chips = a.chips.now })
-    (failed c.before.takes_more_lem.ensures c.if1.true)
+    (failed c.takes_more.ensures c.if-not-takes_more.true)
 
-with_frame_requires : tie.Need-with-frame-requires
+with_frame_requires : tie.Need-with_frame-more-requires
 with_frame_requires c κs =
-    let got = c.before.before in
-    let yes = got.before in
-    let a = yes.before.before.before.args in
-    let h = passed yes.before.takes_more_lem.ensures yes.if1.false in
-    let k = known a.report (record { kind = a.kind; chips = a.chips.now }) _ h got.read.ensures in
-    (h, k.few, k.brief c.if2.true)
+    let a = c.args in
+    let h = passed c.takes_more.ensures c.if-not-takes_more.false in
+    let k = known a.report (record { kind = a.kind; chips = a.chips.now }) _ h c.read-a.ensures in
+    (h, k.few, k.brief c.if-a-eq0.true)
 
-returns_2 : tie.Need-returns-2
+returns_2 : tie.Need-returns-then-a-eq0
 returns_2 c =
-    let got = c.before.before.before in
-    let yes = got.before in
-    let a = yes.before.before.before.args in
+    let a = c.args in
     frame a.report (record { kind = a.kind; chips = a.chips.now }) _
-    (passed yes.before.takes_more_lem.ensures yes.if1.false) got.read.ensures _ c.before.if2.true
-    c.with-frame.ensures
+    (passed c.takes_more.ensures c.if-not-takes_more.false) c.read-a.ensures _ c.if-a-eq0.true
+    c.with_frame-more.ensures
 
-with_refusal_requires : tie.Need-with-refusal-requires
+with_refusal_requires : tie.Need-with_refusal-more-requires
 with_refusal_requires c κs =
-    let got = c.before.before in
-    let yes = got.before in
-    let a = yes.before.before.before.args in
-    let h = passed yes.before.takes_more_lem.ensures yes.if1.false in
-    let k = known a.report (record { kind = a.kind; chips = a.chips.now }) _ h got.read.ensures in
+    let a = c.args in
+    let h = passed c.takes_more.ensures c.if-not-takes_more.false in
+    let k = known a.report (record { kind = a.kind; chips = a.chips.now }) _ h c.read-a.ensures in
     (h, omega (arith, k.most))
 
-returns_3 : tie.Need-returns-3
+returns_3 : tie.Need-returns
 returns_3 c =
-    let got = c.before.before.before in
-    let yes = got.before in
-    let a = yes.before.before.before.args in
+    let a = c.args in
     refusal a.report (record { kind = a.kind; chips = a.chips.now }) _
-    (passed yes.before.takes_more_lem.ensures yes.if1.false) got.read.ensures _ c.before.if2.false
-    c.with-refusal.ensures
+    (passed c.takes_more.ensures c.if-not-takes_more.false) c.read-a.ensures _ c.if-a-eq0.false
+    c.with_refusal-more.ensures
 
 pub add_spec : {M : Type 1} → statement M
 add_spec =
     tie.close
-    (tie.spec (λ c κs. tt) returns (λ c κs. tt) with_frame_requires returns_2 with_refusal_requires
-    returns_3)
+    (tie.spec
+    (λ c κs. tt) returns (λ c κs. tt) with_frame_requires returns_2 with_refusal_requires returns_3)

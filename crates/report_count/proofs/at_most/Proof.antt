@@ -9,36 +9,32 @@ use Rattle.rules_report.proofs.Lists.{at_most_more, at_most_past, at_most_end}
 use Rattle.report_count.proofs.at_most.Statement.{statement}
 use Rattle.report_count.proofs.at_most.Tie as tie
 
-abbrev invariant_loop : tie.invariant-loop
+abbrev invariant_loop : tie.invariant-loop-i
 invariant_loop most row i₀ i = (i ≤ length row) × (at_most most (drop i row) ≡ at_most most row)
 
-abbrev decreases_loop : tie.decreases-loop
+abbrev decreases_loop : tie.decreases-loop-i
 decreases_loop most row i₀ i = length row - i
 
-returns : tie.Need-returns invariant_loop decreases_loop
+returns : tie.Need-returns-then-most-row invariant_loop decreases_loop
 returns c =
-    let turn = c.before.before in
-    let s = turn.before.before in
-    sym (at_most_past s.args.most s.args.row.now turn.before.loop.i (omega arith) c.if1.true)
-    ∙ turn.before.loop.invariant.1
+    sym (at_most_past c.args.most c.args.row.now c.loop-i.i (omega arith) c.if-most-row.true)
+    ∙ c.loop-i.invariant.1
 
-loop_again : tie.Need-loop-preserved invariant_loop decreases_loop
-loop_again c =
-    let turn = c.before.before in
-    let s = turn.before.before in (
-      omega arith,
-      at_most_more s.args.most s.args.row.now turn.before.loop.i (omega arith) c.if1.false
-          ∙ turn.before.loop.invariant.1,
-    )
+loop_again : tie.Need-loop-i-preserved invariant_loop decreases_loop
+loop_again c = (
+  omega arith,
+  at_most_more c.args.most c.args.row.now c.loop-i.i (omega arith) c.if-most-row.false
+      ∙ c.loop-i.invariant.1,
+)
 
-returns_2 : tie.Need-returns-2 invariant_loop decreases_loop
+returns_2 : tie.Need-returns invariant_loop decreases_loop
 returns_2 c =
-    let s = c.before.before in
-    sym (at_most_end s.args.most s.args.row.now c.before.loop.i c.loop-test.false)
-    ∙ c.before.loop.invariant.1
+    sym (at_most_end c.args.most c.args.row.now c.loop-i.i c.loop-i-test.false)
+    ∙ c.loop-i.invariant.1
 
 pub at_most_spec : {M : Type 1} → statement M
 at_most_spec =
     tie.close
-    (tie.spec invariant_loop decreases_loop (λ c. (omega arith, refl)) (λ c. omega arith) (λ c. omega arith) returns
+    (tie.spec
+    invariant_loop decreases_loop (λ c. (omega arith, refl)) (λ c. omega arith) (λ c. omega arith) returns
     (λ c. omega arith) (λ c. omega arith) loop_again returns_2)

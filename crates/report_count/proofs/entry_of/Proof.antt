@@ -3,20 +3,21 @@ use borrow.Author.Tests.{ne_eqb}
 use Rattle.report_count.proofs.entry_of.Statement.{statement}
 use Rattle.report_count.proofs.entry_of.Tie as tie
 
-returns : tie.Need-returns
-returns c = rw c.match.keys1
+returns : tie.Need-returns-in-10
+returns c = rw c.in-10.is
 
-returns_2 : tie.Need-returns-2
-returns_2 c = rw c.match.keys2
+returns_2 : tie.Need-returns-in-20
+returns_2 c = rw c.in-20.is
 
-returns_3 : tie.Need-returns-3
-returns_3 c = rw c.match.keys3
+returns_3 : tie.Need-returns-in-55
+returns_3 c = rw c.in-55.is
 
-returns_4 : tie.Need-returns-4
+returns_4 : tie.Need-returns-in_default
 returns_4 c =
-    let code = c.before.args.code in
-    let h = c.match.rest in
+    let code = c.args.code in
+    let h = c.in_default.rest in
     rw (ne_eqb code 10 h.0.0.1, ne_eqb code 20 h.0.1, ne_eqb code 55 h.1)
 
 pub entry_of_spec : {M : Type 1} → statement M
-entry_of_spec = tie.close (tie.spec returns returns_2 returns_3 returns_4)
+entry_of_spec = tie.close (tie.spec
+    returns returns_2 returns_3 returns_4)

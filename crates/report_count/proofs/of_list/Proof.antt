@@ -74,54 +74,48 @@ module _ (kinds : List ℕ) (list : List (Bor (List ℕ))) where
         take_all i all (omega (arith, long)) ∙ sym (take_all 1000 all (omega (arith, long))) in
         rw (e, to_all, length-map, eq-eqb (length kinds) (length list) same, le-leb (length list) 1000 (omega arith))
 
-abbrev invariant_loop : tie.invariant-loop
+abbrev invariant_loop : tie.invariant-loop-i
 invariant_loop kinds list report₀ i₀ report i = (i ≤ length list) × (i ≤ 1000) × (report ≡ firsts kinds list i)
 
-abbrev decreases_loop : tie.decreases-loop
+abbrev decreases_loop : tie.decreases-loop-i
 decreases_loop kinds list report₀ i₀ report i = length list - i
 
-returns : tie.Need-returns invariant_loop decreases_loop
+returns : tie.Need-returns-then-kinds-list invariant_loop decreases_loop
 returns c =
-    let a = c.before.before.before.args in
-    ap (answer 7) c.before.none.ensures ∙ differ a.kinds.now a.list.now (λ e. omega (arith, c.if1.true))
+    let a = c.args in
+    ap (answer 7) c.none-report.ensures ∙ differ a.kinds.now a.list.now (λ e. omega (arith, c.if-kinds-list.true))
 
-loop_holds : tie.Need-loop-init invariant_loop decreases_loop
-loop_holds c = (omega arith, omega arith, c.before.none.ensures ∙ none_counted)
+loop_holds : tie.Need-loop-i-init invariant_loop decreases_loop
+loop_holds c = (omega arith, omega arith, c.none-report.ensures ∙ none_counted)
 
-returns_2 : tie.Need-returns-2 invariant_loop decreases_loop
+returns_2 : tie.Need-returns-then-i-eq1000 invariant_loop decreases_loop
 returns_2 c =
-    let turn = c.before in
-    let alike = turn.before.before in
-    let a = alike.before.before.before.args in
-    let same : length a.kinds.now ≡ length a.list.now = omega (arith, alike.if1.false) in
-    let last : turn.before.loop.i ≡ 1000 = omega (arith, turn.before.loop.invariant.1, c.if2.true) in
-    many a.kinds.now a.list.now same _ _ last turn.loop-test.true turn.before.loop.invariant.2
+    let a = c.args in
+    let same : length a.kinds.now ≡ length a.list.now = omega (arith, c.if-kinds-list.false) in
+    let last : c.loop-i.i ≡ 1000 = omega (arith, c.loop-i.invariant.1, c.if-i-eq1000.true) in
+    many a.kinds.now a.list.now same _ _ last c.loop-i-test.true c.loop-i.invariant.2
 
-loop_again : tie.Need-loop-preserved invariant_loop decreases_loop
+loop_again : tie.Need-loop-i-preserved invariant_loop decreases_loop
 loop_again c =
-    let counted = c.before in
-    let short = counted.before.before.before in
-    let turn = short.before in
-    let alike = turn.before.before in
-    let a = alike.before.before.before.args in
-    let same : length a.kinds.now ≡ length a.list.now = omega (arith, alike.if1.false) in
-    let few : turn.before.loop.i < 1000 = omega (arith, turn.before.loop.invariant.1, short.if2.false) in (
-      omega (arith, turn.loop-test.true),
+    let a = c.args in
+    let same : length a.kinds.now ≡ length a.list.now = omega (arith, c.if-kinds-list.false) in
+    let few : c.loop-i.i < 1000 = omega (arith, c.loop-i.invariant.1, c.if-i-eq1000.false) in (
+      omega (arith, c.loop-i-test.true),
       omega arith,
-      next a.kinds.now a.list.now same _ _ _ turn.loop-test.true few turn.before.loop.invariant.2
-          counted.add.ensures,
+      next a.kinds.now a.list.now same _ _ _ c.loop-i-test.true few c.loop-i.invariant.2
+          c.add-counted.ensures,
     )
 
-returns_3 : tie.Need-returns-3 invariant_loop decreases_loop
+returns_3 : tie.Need-returns invariant_loop decreases_loop
 returns_3 c =
-    let alike = c.before.before in
-    let a = alike.before.before.before.args in
-    let same : length a.kinds.now ≡ length a.list.now = omega (arith, alike.if1.false) in
-    whole a.kinds.now a.list.now same _ _ c.loop-test.false c.before.loop.invariant.1
-    c.before.loop.invariant.2
+    let a = c.args in
+    let same : length a.kinds.now ≡ length a.list.now = omega (arith, c.if-kinds-list.false) in
+    whole a.kinds.now a.list.now same _ _ c.loop-i-test.false c.loop-i.invariant.1
+    c.loop-i.invariant.2
 
 pub of_list_spec : {M : Type 1} → statement M
 of_list_spec =
     tie.close
-    (tie.spec invariant_loop decreases_loop (λ c κs. tt) returns loop_holds returns_2 (λ c. omega arith) (λ c. omega arith)
+    (tie.spec
+    invariant_loop decreases_loop (λ c κs. tt) returns loop_holds returns_2 (λ c. omega arith) (λ c. omega arith)
     (λ c. omega arith) (λ c. omega arith) (λ c κs. tt) (λ c. omega arith) (λ c. omega arith) loop_again returns_3)

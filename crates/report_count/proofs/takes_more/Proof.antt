@@ -34,20 +34,17 @@ module _ (p : Report) where
   unfolding takes_more
   all_few h f o r = simp (lt-ltb p.seen 1000 h, f, o, r)
 
-returns_5 : tie.Need-returns-5
+returns_5 : tie.Need-returns
 returns_5 c =
-    let third = c.before in
-    let second = third.before.before.before.before in
-    let first = second.before.before.before.before in
-    let few = first.before.before.before.before in
-    all_few _ few.if1.false (passed first.before.at-most.ensures first.if2.false)
-    (passed second.before.at-most2.ensures second.if3.false)
-    (passed third.before.at-most3.ensures third.if4.false)
+    all_few _ c.if-p-ge1000.false (passed c.at_most.ensures c.if-not-at_most.false)
+    (passed c.at_most-2.ensures c.if-not-at_most-2.false)
+    (passed c.at_most-3.ensures c.if-not-at_most-3.false)
 
 pub takes_more_spec : {M : Type 1} → statement M
 takes_more_spec =
     tie.close
-    (tie.spec (λ c. full _ c.if1.true) (λ c. search rules) (λ c κs. tt)
-    (λ c. frames_many _ (failed c.before.at-most.ensures c.if2.true)) (λ c. search rules) (λ c κs. tt)
-    (λ c. octets_many _ (failed c.before.at-most2.ensures c.if3.true)) (λ c. search rules) (λ c κs. tt)
-    (λ c. refused_many _ (failed c.before.at-most3.ensures c.if4.true)) returns_5)
+    (tie.spec
+    (λ c. full _ c.if-p-ge1000.true) (λ c. search rules) (λ c κs. tt)
+    (λ c. frames_many _ (failed c.at_most.ensures c.if-not-at_most.true)) (λ c. search rules) (λ c κs. tt)
+    (λ c. octets_many _ (failed c.at_most-2.ensures c.if-not-at_most-2.true)) (λ c. search rules) (λ c κs. tt)
+    (λ c. refused_many _ (failed c.at_most-3.ensures c.if-not-at_most-3.true)) returns_5)

@@ -44,66 +44,50 @@ module _ (p : Report) (kind : ℕ) (a : Record) (at time : ℕ) (closer : Bool) 
         ← more_set (entry_of a.rate) a.n p.octets,
       )
 
-frames_fit : tie.Need-overflow-add-q-2
+frames_fit : tie.Need-overflow_add-q-2
 frames_fit c =
-    let rate = c.before.before in
-    let s = rate.before in
-    omega (arith, (takes s.args.p s.requires.0).frames_within rate.entry_of.result)
+    omega (arith, (takes c.args.p c.requires.0).frames_within c.entry_of-at.result)
 
-octets_fit : tie.Need-overflow-add-q-3
+octets_fit : tie.Need-overflow_add-q-3
 octets_fit c =
-    let rate = c.before.before.before.before in
-    let s = rate.before in
-    omega (arith, (takes s.args.p s.requires.0).octets_within rate.entry_of.result, s.requires.1)
+    omega (arith, (takes c.args.p c.requires.0).octets_within c.entry_of-at.result, c.requires.1)
 
-time_fits : tie.Need-overflow-add-q-4
+time_fits : tie.Need-overflow_add-q-4
 time_fits c =
-    let s = c.before.before.before.before.before.before.before in
-    omega (arith, front_time_lem s.args.kind, c.before.front-time.ensures, s.requires.2)
+    omega (arith, front_time_lem c.args.kind, c.front_time.ensures, c.requires.2)
 
-airtime_fits : tie.Need-overflow-add-q-5
+airtime_fits : tie.Need-overflow_add-q-5
 airtime_fits c =
-    let s = c.before.before.before.before.before.before.before in
     omega (
       arith,
-      front_time_lem s.args.kind,
-      c.before.front-time.ensures,
-      s.requires.2,
-      (takes s.args.p s.requires.0).airtime_within,
+      front_time_lem c.args.kind,
+      c.front_time.ensures,
+      c.requires.2,
+      (takes c.args.p c.requires.0).airtime_within,
     )
 
-returns : tie.Need-returns
+returns : tie.Need-returns-then-not-closer
 returns c =
-    let time = c.before.before in
-    let closer = time.before.before.before.before in
-    let rate = closer.before in
-    let a = rate.before.args in
-    framed a.p a.kind a.a _ _ false rate.entry_of.ensures time.front-time.ensures
-    (sym (not-true _ c.if1.true) ∙ closer.is-closer.ensures)
+    let a = c.args in
+    framed a.p a.kind a.a _ _ false c.entry_of-at.ensures c.front_time.ensures
+    (sym (not-true _ c.if-not-closer.true) ∙ c.is_closer-closer.ensures)
 
-returns_2 : tie.Need-returns-2
+returns_2 : tie.Need-returns
 returns_2 c =
-    let time = c.before.before in
-    let closer = time.before.before.before.before in
-    let rate = closer.before in
-    let a = rate.before.args in
-    framed a.p a.kind a.a _ _ true rate.entry_of.ensures time.front-time.ensures
-    (sym (not-false _ c.if1.false) ∙ closer.is-closer.ensures)
+    let a = c.args in
+    framed a.p a.kind a.a _ _ true c.entry_of-at.ensures c.front_time.ensures
+    (sym (not-false _ c.if-not-closer.false) ∙ c.is_closer-closer.ensures)
 
 pub with_frame_spec : {M : Type 1} → statement M
 with_frame_spec =
     tie.close
-    (tie.spec (λ c κs. tt) (λ c κs. tt)
-    (λ c. let s = c.before.before in omega (arith, (takes s.args.p s.requires.0).seen_below))
-    (λ c. omega (arith, entry_few c.before.before.args.a.rate _ c.before.entry_of.ensures))
-    (λ c. entry_few c.before.before.args.a.rate _ c.before.entry_of.ensures)
-    frames_fit
-    (λ c. let r = c.before.before in omega (arith, entry_few r.before.args.a.rate _ r.entry_of.ensures))
-    (λ c. let r = c.before.before in entry_few r.before.args.a.rate _ r.entry_of.ensures)
-    (λ c. let r = c.before.before in omega (arith, entry_few r.before.args.a.rate _ r.entry_of.ensures))
-    (λ c. let r = c.before.before in entry_few r.before.args.a.rate _ r.entry_of.ensures)
-    octets_fit
-    (λ c. let r = c.before.before.before.before in
-    omega (arith, entry_few r.before.args.a.rate _ r.entry_of.ensures))
-    (λ c. let r = c.before.before.before.before in entry_few r.before.args.a.rate _ r.entry_of.ensures)
-    (λ c κs. tt) time_fits airtime_fits returns returns_2)
+    (tie.spec
+    (λ c κs. tt) (λ c κs. tt) (λ c. omega (arith, (takes c.args.p c.requires.0).seen_below))
+    (λ c. omega (arith, entry_few c.args.a.rate _ c.entry_of-at.ensures))
+    (λ c. entry_few c.args.a.rate _ c.entry_of-at.ensures) frames_fit
+    (λ c. omega (arith, entry_few c.args.a.rate _ c.entry_of-at.ensures))
+    (λ c. entry_few c.args.a.rate _ c.entry_of-at.ensures)
+    (λ c. omega (arith, entry_few c.args.a.rate _ c.entry_of-at.ensures))
+    (λ c. entry_few c.args.a.rate _ c.entry_of-at.ensures) octets_fit
+    (λ c. omega (arith, entry_few c.args.a.rate _ c.entry_of-at.ensures))
+    (λ c. entry_few c.args.a.rate _ c.entry_of-at.ensures) (λ c κs. tt) time_fits airtime_fits returns returns_2)

@@ -15,11 +15,12 @@ use Rattle.report_count.proofs.with_refusal.Tie as tie
 fits : (p : Report) → takes_more p ≡ true → (j : ℕ) → get_or p.refused j 0 + 1 < 2 ^ 64
 fits p h j = omega (arith, (takes p h).refused_within j)
 
-one_fits : tie.Need-overflow-add-q-2
-one_fits c = let s = c.before in record { fits = fits s.args.p s.requires.0 _ }
+one_fits : tie.Need-overflow_add-q-2
+one_fits c = record { fits = fits c.args.p c.requires.0 _ }
 
 pub with_refusal_spec : {M : Type 1} → statement M
 with_refusal_spec =
     tie.close
-    (tie.spec (λ c. omega (arith, (takes c.args.p c.requires.0).seen_below)) (λ c. search rules) (λ c. search rules)
-    one_fits (λ c. search rules) (λ c. search rules) (λ c o e. rw (e, more_set)))
+    (tie.spec
+    (λ c. omega (arith, (takes c.args.p c.requires.0).seen_below)) (λ c. search rules) (λ c. search rules) one_fits
+    (λ c. search rules) (λ c. search rules) (λ c o e. rw (e, more_set)))

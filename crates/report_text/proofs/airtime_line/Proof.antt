@@ -15,21 +15,21 @@ size : (airtime : ℕ) → length (airtime_line airtime) ≡ suc (length (word "
 unfolding word
 size airtime = simp length-append (omega arith)
 
-put_both_requires : tie.Need-put-both-requires
+put_both_requires : tie.Need-put_both-a-requires
 unfolding word
-put_both_requires c κs = omega (arith, size c.before.before.before.args.airtime)
+put_both_requires c κs = omega (arith, size c.args.airtime)
 
-slice_write_out : tie.Need-slice-write-out
+slice_write_out : tie.Need-bounds-out-a
 unfolding word
-slice_write_out c = omega (arith, size c.before.before.before.before.before.before.args.airtime)
+slice_write_out c = omega (arith, size c.args.airtime)
 
 returns : tie.Need-returns
 unfolding word
-returns c = put_more 10 c.before.before.put_both.ensures (slice_write_out c)
+returns c = put_more 10 c.put_both-a.ensures (slice_write_out c)
 
 pub airtime_line_spec : {M : Type 1} → statement M
 airtime_line_spec =
     tie.close
     (tie.spec
-    (λ c. search rules) put_both_requires slice_write_out (λ c. omega (arith, slice_write_out c)) (λ c. search rules)
-    returns)
+    (λ c. search rules) put_both_requires slice_write_out (λ c. omega (arith, slice_write_out c))
+    (λ c. search rules) returns)

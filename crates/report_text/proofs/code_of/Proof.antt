@@ -17,5 +17,5 @@ pub code_of_spec : {M : Type 1} → statement M
 code_of_spec =
     tie.close
     (tie.spec
-    (λ c. rw c.match.keys1) (λ c. rw c.match.keys2) (λ c. rw c.match.keys3)
-    (λ c. other _ c.match.rest.0.0.1 c.match.rest.0.1 c.match.rest.1))
+    (λ c. rw c.in-0.is) (λ c. rw c.in-1.is) (λ c. rw c.in-2.is)
+    (λ c. other _ c.in_default.rest.0.0.1 c.in_default.rest.0.1 c.in_default.rest.1))

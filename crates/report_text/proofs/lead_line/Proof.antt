@@ -16,33 +16,29 @@ there : (some lead recording : ℕ) → (some ≡ 0 → ⊥) → lead_line some 
     ≡ pair_line (word "lead ") lead (word " recording ") recording
 there some lead recording h = rw (ne_eqb some 0 h)
 
-put_word_requires : tie.Need-put-word-requires
+put_word_requires : tie.Need-put_word-requires
 unfolding word
 put_word_requires c κs =
-    let test = c.before.before in
-    let start = test.before.before.args in
-    rw (none start.some start.lead start.recording test.if1.true) at test.before.before.requires
+    let start = c.args in
+    rw (none start.some start.lead start.recording c.if-some-eq0.true) at c.requires
 
-returns : tie.Need-returns
+returns : tie.Need-returns-then-some-eq0
 unfolding word
 returns c =
-    let test = c.before.before.before.before.before in
-    let start = test.before.before.args in
-    rw (none start.some start.lead start.recording test.if1.true) c.before.before.put_word.ensures
+    let start = c.args in
+    rw (none start.some start.lead start.recording c.if-some-eq0.true) c.put_word.ensures
 
-put_line_requires : tie.Need-put-line-requires
+put_line_requires : tie.Need-put_line-requires
 unfolding word
 put_line_requires c κs =
-    let test = c.before.before.before in
-    let start = test.before.before.args in
-    rw (there start.some start.lead start.recording test.if1.false) at test.before.before.requires
+    let start = c.args in
+    rw (there start.some start.lead start.recording c.if-some-eq0.false) at c.requires
 
-returns_2 : tie.Need-returns-2
+returns_2 : tie.Need-returns
 unfolding word
 returns_2 c =
-    let test = c.before.before.before.before.before.before in
-    let start = test.before.before.args in
-    rw (there start.some start.lead start.recording test.if1.false) c.before.before.put-line.ensures
+    let start = c.args in
+    rw (there start.some start.lead start.recording c.if-some-eq0.false) c.put_line.ensures
 
 pub lead_line_spec : {M : Type 1} → statement M
 lead_line_spec =

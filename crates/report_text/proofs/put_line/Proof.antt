@@ -16,18 +16,18 @@ size : (f s : List ℕ) (x y : ℕ) → length (pair_line f x s y)
 unfolding word
 size f s x y = simp length-append (omega arith)
 
-put_both_requires : tie.Need-put-both-requires
+put_both_requires : tie.Need-put_both-a-requires
 put_both_requires c κs =
-    let start = c.before.before.before.before.args in
+    let start = c.args in
     omega (
       arith,
       size start.first.now start.second.now start.x start.y,
       length-append start.first.now (decimal start.x),
     )
 
-put_both_requires_2 : tie.Need-put-both-requires-2
+put_both_requires_2 : tie.Need-put_both-b-requires
 put_both_requires_2 c κs =
-    let start = c.before.before.before.before.before.before.before.before.args in
+    let start = c.args in
     omega (
       arith,
       size start.first.now start.second.now start.x start.y,
@@ -35,9 +35,9 @@ put_both_requires_2 c κs =
       length-append start.second.now (decimal start.y),
     )
 
-slice_write_out : tie.Need-slice-write-out
+slice_write_out : tie.Need-bounds-out-b
 slice_write_out c =
-    let start = c.before.before.before.before.before.before.before.before.before.before.before.args in
+    let start = c.args in
     omega (
       arith,
       size start.first.now start.second.now start.x start.y,
@@ -48,11 +48,9 @@ slice_write_out c =
 returns : tie.Need-returns
 unfolding word
 returns c =
-    let second = c.before.before in
-    let first = second.before.before.before.before in
-    let start = first.before.before.before.before.before.args in
+    let start = c.args in
     put_more 10
-    (put_pair start.second.now (decimal start.y) first.put_both.ensures second.put-both2.ensures)
+    (put_pair start.second.now (decimal start.y) c.put_both-a.ensures c.put_both-b.ensures)
     (slice_write_out c)
 
 pub put_line_spec : {M : Type 1} → statement M

@@ -24,12 +24,12 @@ use Rattle.report_text.specs.Placed.{Placed}
 use Rattle.report_text.proofs.put_number.Statement.{statement}
 use Rattle.report_text.proofs.put_number.Tie as tie
 
-abbrev invariant_loop : tie.invariant-loop
+abbrev invariant_loop : tie.invariant-loop-i
 invariant_loop x at out₀ end rest₀ i₀ out rest i = (at ≤ i) × (i ≤ end) × (length out ≡ length out₀)
     × (take at out ≡ take at out₀) × (drop end out ≡ drop end out₀)
     × (digits (end - at) x ≡ digits (i - at) rest ++ slice i end out)
 
-abbrev decreases_loop : tie.decreases-loop
+abbrev decreases_loop : tie.decreases-loop-i
 decreases_loop x at out₀ end rest₀ i₀ out rest i = i
 
 start : (x at end : ℕ) (d : List ℕ) → digits (end - at) x ≡ digits (end - at) x ++ slice end end d
@@ -79,33 +79,32 @@ whole x at n i rest d e h z f r g =
       rest = r;
     }
 
-add_end : tie.Need-overflow-add-end invariant_loop decreases_loop
-add_end c = omega (arith, length_decimal c.before.before.args.x)
+add_end : tie.Need-overflow_add-end invariant_loop decreases_loop
+add_end c = omega (arith, length_decimal c.args.x)
 
-loop_holds : tie.Need-loop-init invariant_loop decreases_loop
+loop_holds : tie.Need-loop-i-init invariant_loop decreases_loop
 loop_holds c = (omega arith, omega arith, refl, refl, refl, start _ _ _ _)
 
-slice_write_out : tie.Need-slice-write-out invariant_loop decreases_loop
-slice_write_out c = omega (arith, length_decimal c.before.before.before.before.args.x)
+slice_write_out : tie.Need-bounds-out-i invariant_loop decreases_loop
+slice_write_out c = omega (arith, length_decimal c.args.x)
 
-loop_again : tie.Need-loop-preserved invariant_loop decreases_loop
+loop_again : tie.Need-loop-i-preserved invariant_loop decreases_loop
 loop_again c =
-    let start = c.before.before.before.before in
-    let now = c.before.loop in
-    let end = start.args.at + c.before.before.places.result in (
+    let now = c.loop-i in
+    let end = c.args.at + c.places.result in (
       omega arith,
       omega arith,
       simp length-set (omega arith),
-      kept _ now.out start.args.at now.i _ (omega arith) now.invariant.3,
+      kept _ now.out c.args.at now.i _ (omega arith) now.invariant.3,
       after _ now.out now.i end _ (omega arith) (omega arith) now.invariant.4,
-      turn _ now.out start.args.at now.i end now.rest (omega arith) (omega arith)
-          (omega (arith, length_decimal start.args.x)) now.invariant.5,
+      turn _ now.out c.args.at now.i end now.rest (omega arith) (omega arith)
+          (omega (arith, length_decimal c.args.x)) now.invariant.5,
     )
 
 returns : tie.Need-returns invariant_loop decreases_loop
 returns c =
-    let now = c.before.loop in
-    whole _ _ _ now.i now.rest _ now.out c.before.before.places.ensures (omega arith) now.invariant.3
+    let now = c.loop-i in
+    whole _ _ _ now.i now.rest _ now.out c.places.ensures (omega arith) now.invariant.3
     now.invariant.4 now.invariant.5
 
 pub put_number_spec : {M : Type 1} → statement M

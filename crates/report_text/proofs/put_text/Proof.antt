@@ -20,33 +20,26 @@ size p =
     four_long (rate_lines 4 p.frames p.octets) (refused_lines 17 p.refused) (airtime_line p.airtime)
     (lead_line p.some p.lead p.recording)
 
-rate_lines_requires : tie.Need-rate-lines-requires
-rate_lines_requires c κs = omega (arith, size c.before.before.before.before.before.args.report)
+rate_lines_requires : tie.Need-rate_lines-a-requires
+rate_lines_requires c κs = omega (arith, size c.args.report)
 
-refused_lines_requires : tie.Need-refused-lines-requires
+refused_lines_requires : tie.Need-refused_lines-b-requires
 refused_lines_requires c κs =
-    let start = c.before.before.before.before.before.before.before.before.before in
-    omega (arith, size start.args.report)
+    omega (arith, size c.args.report)
 
-airtime_line_requires : tie.Need-airtime-line-requires
+airtime_line_requires : tie.Need-airtime_line-c-requires
 airtime_line_requires c κs =
-    let start = c.before.before.before.before.before.before.before.before.before.before.before.before.before in
-    omega (arith, size start.args.report)
+    omega (arith, size c.args.report)
 
-lead_line_requires : tie.Need-lead-line-requires
+lead_line_requires : tie.Need-lead_line-requires
 lead_line_requires c κs =
-    let start = c.before.before.before.before.before.before.before.before.before.before.before.before.before.before.before.before.before in
-    omega (arith, size start.args.report)
+    omega (arith, size c.args.report)
 
 returns : tie.Need-returns
 unfolding text_of rate_lines
 returns c =
-    let lead = c.before.before in
-    let airtime = lead.before.before.before.before in
-    let refused = airtime.before.before.before.before in
-    let rates = refused.before.before.before.before in
-    let front = put_next rates.rate-lines.ensures refused.refused-lines.ensures in
-    put_next (put_next front airtime.airtime-line.ensures) lead.lead-line.ensures
+    let front = put_next c.rate_lines-a.ensures c.refused_lines-b.ensures in
+    put_next (put_next front c.airtime_line-c.ensures) c.lead_line.ensures
 
 pub put_text_spec : {M : Type 1} → statement M
 put_text_spec =

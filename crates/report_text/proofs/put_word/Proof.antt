@@ -13,11 +13,11 @@ use Rattle.report_text.proofs.Puts.{put_none, put_more}
 use Rattle.report_text.proofs.put_word.Statement.{statement}
 use Rattle.report_text.proofs.put_word.Tie as tie
 
-abbrev invariant_loop : tie.invariant-loop
+abbrev invariant_loop : tie.invariant-loop-i
 invariant_loop word at out₀ i₀ out i = (i ≤ length word) × (length out ≡ length out₀)
     × Placed (take i word) at out₀ (at + i) out
 
-abbrev decreases_loop : tie.decreases-loop
+abbrev decreases_loop : tie.decreases-loop-i
 decreases_loop word at out₀ i₀ out i = length word - i
 
 turn : (w : List ℕ) (at : ℕ) (d : List ℕ) (i : ℕ) (e : List ℕ) → i < length w → at + i < length e
@@ -30,32 +30,22 @@ whole : (w : List ℕ) (at : ℕ) (d : List ℕ) (i : ℕ) (e : List ℕ) → le
     → Placed w at d (at + i) e
 whole w at d i e h p = rw (take_all i w h) at p
 
-loop_holds : tie.Need-loop-init invariant_loop decreases_loop
+loop_holds : tie.Need-loop-i-init invariant_loop decreases_loop
 loop_holds c = (search rules, search rules, put_none _ _ _ (omega arith))
 
-loop_again : tie.Need-loop-preserved invariant_loop decreases_loop
+loop_again : tie.Need-loop-i-preserved invariant_loop decreases_loop
 loop_again c = (
   omega arith,
   simp length-set (omega arith),
-  turn _ _ _ _ _ (omega arith) (omega arith) c.before.before.loop.invariant.2,
+  turn _ _ _ _ _ (omega arith) (omega arith) c.loop-i.invariant.2,
 )
 
 returns : tie.Need-returns invariant_loop decreases_loop
-returns c = whole _ _ _ _ _ (omega arith) c.before.loop.invariant.2
+returns c = whole _ _ _ _ _ (omega arith) c.loop-i.invariant.2
 
 pub put_word_spec : {M : Type 1} → statement M
 put_word_spec =
     tie.close
     (tie.spec
-    invariant_loop
-    decreases_loop
-    loop_holds
-    (λ c. search rules)
-    (λ c. omega arith)
-    (λ c. omega arith)
-    (λ c. omega arith)
-    (λ c. omega arith)
-    loop_again
-    (λ c. omega arith)
-    (λ c. search rules)
-    returns)
+    invariant_loop decreases_loop loop_holds (λ c. search rules) (λ c. omega arith) (λ c. omega arith)
+    (λ c. omega arith) (λ c. omega arith) loop_again (λ c. omega arith) (λ c. search rules) returns)

@@ -21,29 +21,27 @@ line : (rate frames octets : ℕ) {at a r : ℕ} {d o e : List ℕ} → Placed (
     → Placed (rate_line rate frames octets) at d r e
 line rate frames octets p q = simp append_assoc (simp append_assoc at (put_next p q))
 
-put_both_requires : tie.Need-put-both-requires
+put_both_requires : tie.Need-put_both-a-requires
 unfolding word
 put_both_requires c κs =
-    let start = c.before.before.before.args in
+    let start = c.args in
     omega (arith, size start.rate start.frames start.octets)
 
-put_line_requires : tie.Need-put-line-requires
+put_line_requires : tie.Need-put_line-requires
 unfolding word
 put_line_requires c κs =
-    let start = c.before.before.before.before.before.before.before.before.before.args in
+    let start = c.args in
     omega (arith, size start.rate start.frames start.octets)
 
 returns : tie.Need-returns
 unfolding word
 returns c =
-    let last = c.before.before in
-    let first = last.before.before.before.before.before.before in
-    let start = first.before.before.before.before.args in
-    line start.rate start.frames start.octets first.put_both.ensures last.put-line.ensures
+    let start = c.args in
+    line start.rate start.frames start.octets c.put_both-a.ensures c.put_line.ensures
 
 pub rate_line_spec : {M : Type 1} → statement M
 rate_line_spec =
     tie.close
     (tie.spec
-    (λ c. search rules) put_both_requires (λ c. search rules) (λ c. search rules) put_line_requires (λ c. search rules)
-    returns)
+    (λ c. search rules) put_both_requires (λ c. search rules) (λ c. search rules) put_line_requires
+    (λ c. search rules) returns)

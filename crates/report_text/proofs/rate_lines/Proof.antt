@@ -13,11 +13,11 @@ use Rattle.report_text.proofs.Puts.{put_none, lines_room, lines_turn}
 use Rattle.report_text.proofs.rate_lines.Statement.{statement}
 use Rattle.report_text.proofs.rate_lines.Tie as tie
 
-abbrev invariant_loop : tie.invariant-loop
+abbrev invariant_loop : tie.invariant-loop-k
 invariant_loop out₀ frames octets end₀ k₀ out end k = (k ≤ 4) × (length out ≡ length out₀)
     × Placed (rate_lines k frames octets) 0 out₀ end out
 
-abbrev decreases_loop : tie.decreases-loop
+abbrev decreases_loop : tie.decreases-loop-k
 decreases_loop out₀ frames octets end₀ k₀ out end k = 4 - k
 
 abbrev line : List ℕ → List ℕ → ℕ → List ℕ
@@ -44,31 +44,31 @@ turn f o k code c p t = lines_turn (λ j. rate_lines j f o) (line f o) (step f o
 whole : (f o d e : List ℕ) (k end : ℕ) → k ≡ 4 → Placed (rate_lines k f o) 0 d end e → Placed (rate_lines 4 f o) 0 d end e
 whole f o d e k end h p = rw h at p
 
-loop_holds : tie.Need-loop-init invariant_loop decreases_loop
+loop_holds : tie.Need-loop-k-init invariant_loop decreases_loop
 loop_holds c = (search rules, refl, none _ _ _)
 
-rate_line_requires : tie.Need-rate-line-requires invariant_loop decreases_loop
+rate_line_requires : tie.Need-rate_line-end-requires invariant_loop decreases_loop
 rate_line_requires c κs =
-    let start = c.before.before.before.before.before in
-    let now = c.before.before.before.loop in
-    room start.args.t1 start.args.t2 _ now.out now.k _ _ (omega arith) c.before.code_of_lem.ensures
-    now.invariant.2 start.requires now.invariant.1
+    let now = c.loop-k in
+    room c.args.t1 c.args.t2 _ now.out now.k _ _ (omega arith) c.code_of.ensures
+    now.invariant.2 c.requires now.invariant.1
 
-loop_again : tie.Need-loop-preserved invariant_loop decreases_loop
+loop_again : tie.Need-loop-k-preserved invariant_loop decreases_loop
 loop_again c =
-    let now = c.before.before.before.before.before.before.loop in (
+    let now = c.loop-k in (
       omega arith,
       omega arith,
-      turn _ _ now.k _ c.before.before.before.before.code_of_lem.ensures now.invariant.2
-          c.before.before.rate-line.ensures,
+      turn _ _ now.k _ c.code_of.ensures now.invariant.2
+          c.rate_line-end.ensures,
     )
 
 returns : tie.Need-returns invariant_loop decreases_loop
-returns c = whole _ _ _ _ c.before.loop.k _ (omega arith) c.before.loop.invariant.2
+returns c = whole _ _ _ _ c.loop-k.k _ (omega arith) c.loop-k.invariant.2
 
 pub rate_lines_spec : {M : Type 1} → statement M
 rate_lines_spec =
     tie.close
     (tie.spec
-    invariant_loop decreases_loop loop_holds (λ c κs. search rules) (λ c. omega arith) (λ c. omega arith) (λ c. omega arith)
-    (λ c. omega arith) rate_line_requires (λ c. omega arith) (λ c. omega arith) loop_again (λ c. search rules) returns)
+    invariant_loop decreases_loop loop_holds (λ c κs. search rules) (λ c. omega arith) (λ c. omega arith)
+    (λ c. omega arith) (λ c. omega arith) rate_line_requires (λ c. omega arith) (λ c. omega arith) loop_again
+    (λ c. search rules) returns)

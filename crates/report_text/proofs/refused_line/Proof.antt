@@ -18,24 +18,23 @@ met : (number count : ℕ) → (count ≡ 0 → ⊥) → refused_line number cou
     ≡ pair_line (word "refused ") number (word " count ") count
 met number count h = rw (ne_eqb count 0 h)
 
-returns : tie.Need-returns
-returns c = none _ _ _ _ c.if1.true
+returns : tie.Need-returns-then-count-eq0
+returns c = none _ _ _ _ c.if-count-eq0.true
 
-put_line_requires : tie.Need-put-line-requires
+put_line_requires : tie.Need-put_line-requires
 unfolding word
 put_line_requires c κs =
-    let test = c.before.before.before in
-    let start = test.before.before.args in
-    rw (met start.number start.count test.if1.false) at test.before.before.requires
+    let start = c.args in
+    rw (met start.number start.count c.if-count-eq0.false) at c.requires
 
-returns_2 : tie.Need-returns-2
+returns_2 : tie.Need-returns
 unfolding word
 returns_2 c =
-    let test = c.before.before.before.before.before.before in
-    let start = test.before.before.args in
-    rw (met start.number start.count test.if1.false) c.before.before.put-line.ensures
+    let start = c.args in
+    rw (met start.number start.count c.if-count-eq0.false) c.put_line.ensures
 
 pub refused_line_spec : {M : Type 1} → statement M
 refused_line_spec =
     tie.close
-    (tie.spec returns (λ c. search rules) (λ c. search rules) put_line_requires (λ c. search rules) returns_2)
+    (tie.spec
+    returns (λ c. search rules) (λ c. search rules) put_line_requires (λ c. search rules) returns_2)

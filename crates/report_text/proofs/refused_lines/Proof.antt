@@ -13,11 +13,11 @@ use Rattle.report_text.proofs.Puts.{put_none, lines_room, lines_turn}
 use Rattle.report_text.proofs.refused_lines.Statement.{statement}
 use Rattle.report_text.proofs.refused_lines.Tie as tie
 
-abbrev invariant_loop : tie.invariant-loop
+abbrev invariant_loop : tie.invariant-loop-number
 invariant_loop at out₀ refused end₀ number₀ out end number = (number ≤ 17) × (length out ≡ length out₀)
     × Placed (refused_lines number refused) at out₀ end out
 
-abbrev decreases_loop : tie.decreases-loop
+abbrev decreases_loop : tie.decreases-loop-number
 decreases_loop at out₀ refused end₀ number₀ out end number = 17 - number
 
 abbrev next : List ℕ → ℕ → List ℕ
@@ -35,32 +35,31 @@ whole : (refused d e : List ℕ) (k at end : ℕ) → k ≡ 17 → Placed (refus
     → Placed (refused_lines 17 refused) at d end e
 whole refused d e k at end h p = rw h at p
 
-loop_holds : tie.Need-loop-init invariant_loop decreases_loop
+loop_holds : tie.Need-loop-number-init invariant_loop decreases_loop
 loop_holds c = (search rules, refl, none _ _ _)
 
-refused_line_requires : tie.Need-refused-line-requires invariant_loop decreases_loop
+refused_line_requires : tie.Need-refused_line-end-requires invariant_loop decreases_loop
 refused_line_requires c κs =
-    let start = c.before.before.before.before in
-    let now = c.before.before.loop in
-    lines_room (λ k. refused_lines k start.args.t1) (next start.args.t1) (step start.args.t1) 17
-    now.number (omega arith) now.invariant.2 start.requires now.invariant.1
+    let now = c.loop-number in
+    lines_room (λ k. refused_lines k c.args.t1) (next c.args.t1) (step c.args.t1) 17
+    now.number (omega arith) now.invariant.2 c.requires now.invariant.1
 
-loop_again : tie.Need-loop-preserved invariant_loop decreases_loop
+loop_again : tie.Need-loop-number-preserved invariant_loop decreases_loop
 loop_again c =
-    let refused = c.before.before.before.before.before.before.before.args.t1 in
-    let now = c.before.before.before.before.before.loop in (
+    let refused = c.args.t1 in
+    let now = c.loop-number in (
       omega arith,
       omega arith,
       lines_turn (λ k. refused_lines k refused) (next refused) (step refused) now.number now.invariant.2
-          c.before.before.refused-line.ensures,
+          c.refused_line-end.ensures,
     )
 
 returns : tie.Need-returns invariant_loop decreases_loop
-returns c = whole _ _ _ c.before.loop.number _ _ (omega arith) c.before.loop.invariant.2
+returns c = whole _ _ _ c.loop-number.number _ _ (omega arith) c.loop-number.invariant.2
 
 pub refused_lines_spec : {M : Type 1} → statement M
 refused_lines_spec =
     tie.close
     (tie.spec
-    invariant_loop decreases_loop loop_holds (λ c. omega arith) (λ c. omega arith) (λ c. omega arith) refused_line_requires
-    (λ c. omega arith) loop_again (λ c. search rules) returns)
+    invariant_loop decreases_loop loop_holds (λ c. omega arith) (λ c. omega arith) (λ c. omega arith)
+    refused_line_requires (λ c. omega arith) loop_again (λ c. search rules) returns)

@@ -48,34 +48,28 @@ copied p d z row zs o n e put f h copy =
       sym (take-append-drop e o) ∙ ap₂ {C = List ℕ} (λ a b. a ++ b) text rest ∙ sym whole.1,
     )
 
-put_text_requires : tie.Need-put-text-requires
-put_text_requires c κs = text_most c.before.before.before.before.before.before.args.report
+put_text_requires : tie.Need-put_text-count-requires
+put_text_requires c κs = text_most c.args.report
 
-returns : tie.Need-returns
+returns : tie.Need-returns-then-octets-count
 returns c =
-    let put = c.before.before in
-    let fill = put.before.before.before.before in
-    refused _ fill.before.before.before.args.octets.now _ _ _ _ put.put-text.ensures fill.fill.ensures
-    c.if1.true
+    let both = (refused _ c.args.octets.now _ _ _ _ c.put_text-count.ensures c.fill.ensures
+    c.if-octets-count.true) in record { answer = both.0; octets = both.1 }
 
-array_share_prefix_row : tie.Need-array-share-prefix-row
+array_share_prefix_row : tie.Need-slice_bounds-row-end
 array_share_prefix_row c =
-    let put = c.before.before in
-    let start = put.before.before.before.before.before.before.before in
-    omega (arith, put.put-text.ensures.stop, text_most start.args.report)
+    omega (arith, c.put_text-count.ensures.stop, text_most c.args.report)
 
-slice_aggregate_put_word : tie.Need-slice-aggregate-put-word
-slice_aggregate_put_word c = counted _ _ _ _ c.before.before.before.put-text.ensures
+slice_aggregate_put_word : tie.Need-slice_bounds-put_word-end
+slice_aggregate_put_word c = counted _ _ _ _ c.put_text-count.ensures
 
-put_word_requires : tie.Need-put-word-requires
-put_word_requires c κs = omega (arith, counted _ _ _ _ c.before.before.before.before.put-text.ensures)
+put_word_requires : tie.Need-put_word-end-requires
+put_word_requires c κs = omega (arith, counted _ _ _ _ c.put_text-count.ensures)
 
-returns_2 : tie.Need-returns-2
+returns_2 : tie.Need-returns
 returns_2 c =
-    let test = c.before.before.before.before.before in
-    let fill = test.before.before.before.before.before.before in
-    copied _ fill.before.before.before.args.octets.now _ _ _ _ _ _ test.before.before.put-text.ensures
-    fill.fill.ensures test.if1.false c.before.before.put_word.ensures
+    let both = (copied _ c.args.octets.now _ _ _ _ _ _ c.put_text-count.ensures
+    c.fill.ensures c.if-octets-count.false c.put_word-end.ensures) in record { answer = both.0; octets = both.1 }
 
 pub text_spec : {M : Type 1} → statement M
 text_spec =

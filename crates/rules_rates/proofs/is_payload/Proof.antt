@@ -5,4 +5,5 @@ use Rattle.rules_rates.proofs.is_payload.Tie as tie
 
 pub is_payload_spec : {M : Type 1} → statement M
 is_payload_spec =
-    tie.close (tie.spec (λ c. rw (lt-leb _ _ c.if1.true)) (λ c. rw (le-leb _ _ c.if1.false)))
+    tie.close (tie.spec
+    (λ c. rw (lt-leb _ _ c.if-n-lt1.true)) (λ c. rw (le-leb _ _ c.if-n-lt1.false)))

@@ -4,19 +4,20 @@ use borrow.Author.Tests.{eq-eqb, ne_eqb}
 use Rattle.rules_rates.proofs.rate_of.Statement.{statement}
 use Rattle.rules_rates.proofs.rate_of.Tie as tie
 
-returns : tie.Need-returns
-returns c = rw (eq-eqb _ _ c.if1.true)
+returns : tie.Need-returns-then-code-eq-CODE_ONE
+returns c = rw (eq-eqb _ _ c.if-code-eq-CODE_ONE.true)
 
-returns_2 : tie.Need-returns-2
-returns_2 c = rw (ne_eqb _ _ c.before.if1.false, eq-eqb _ _ c.if2.true)
+returns_2 : tie.Need-returns-then-code-eq-CODE_TWO
+returns_2 c = rw (ne_eqb _ _ c.if-code-eq-CODE_ONE.false, eq-eqb _ _ c.if-code-eq-CODE_TWO.true)
 
-returns_3 : tie.Need-returns-3
+returns_3 : tie.Need-returns-then-code-eq-CODE_FIVE
 returns_3 c =
-    rw (ne_eqb _ _ c.before.before.if1.false, ne_eqb _ _ c.before.if2.false, eq-eqb _ _ c.if3.true)
+    rw (ne_eqb _ _ c.if-code-eq-CODE_ONE.false, ne_eqb _ _ c.if-code-eq-CODE_TWO.false, eq-eqb _ _ c.if-code-eq-CODE_FIVE.true)
 
-returns_4 : tie.Need-returns-4
+returns_4 : tie.Need-returns
 returns_4 c =
-    rw (ne_eqb _ _ c.before.before.if1.false, ne_eqb _ _ c.before.if2.false, ne_eqb _ _ c.if3.false)
+    rw (ne_eqb _ _ c.if-code-eq-CODE_ONE.false, ne_eqb _ _ c.if-code-eq-CODE_TWO.false, ne_eqb _ _ c.if-code-eq-CODE_FIVE.false)
 
 pub rate_of_spec : {M : Type 1} → statement M
-rate_of_spec = tie.close (tie.spec returns returns_2 returns_3 returns_4)
+rate_of_spec = tie.close (tie.spec
+    returns returns_2 returns_3 returns_4)

@@ -9,27 +9,25 @@ use Rattle.base.proofs.Tests.{failed, passed}
 use Rattle.store_keep.proofs.allowed.Statement.{statement}
 use Rattle.store_keep.proofs.allowed.Tie as tie
 
-known : (c : tie.Else1) → is_kind c.before.before.args.kind ≡ true
-known c = passed c.before.is_kind_lem.ensures c.if1.false
+known : (c : tie.Else-not-is_kind) → is_kind c.args.kind ≡ true
+known c = passed c.is_kind.ensures c.if-not-is_kind.false
 
-coded : (c : tie.Else2) → is_code c.before.before.before.before.args.rate ≡ true
-coded c = passed c.before.is_code_lem.ensures c.if2.false
+coded : (c : tie.Else-not-is_code) → is_code c.args.rate ≡ true
+coded c = passed c.is_code.ensures c.if-not-is_code.false
 
-returns : tie.Need-returns
-returns c = rw (failed c.before.is_kind_lem.ensures c.if1.true)
+returns : tie.Need-returns-then-not-is_kind
+returns c = rw (failed c.is_kind.ensures c.if-not-is_kind.true)
 
-returns_2 : tie.Need-returns-2
-returns_2 c = rw (known c.before.before, failed c.before.is_code_lem.ensures c.if2.true)
+returns_2 : tie.Need-returns-then-not-is_code
+returns_2 c = rw (known c.before.before, failed c.is_code.ensures c.if-not-is_code.true)
 
-returns_3 : tie.Need-returns-3
+returns_3 : tie.Need-returns-then-not-goes
 returns_3 c =
-    let code = c.before.before in
-    rw (known code.before.before, coded code, failed c.before.goes.ensures c.if3.true)
+    rw (known c.before.before.before.before, coded c.before.before, failed c.goes.ensures c.if-not-goes.true)
 
-returns_4 : tie.Need-returns-4
+returns_4 : tie.Need-returns
 returns_4 c =
-    let code = c.before.before in
-    rw (known code.before.before, coded code, passed c.before.goes.ensures c.if3.false)
+    rw (known c.before.before.before.before, coded c.before.before, passed c.goes.ensures c.if-not-goes.false)
 
 pub allowed_spec : {M : Type 1} → statement M
 allowed_spec =

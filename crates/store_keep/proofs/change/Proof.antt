@@ -17,101 +17,62 @@ use Rattle.rules_store.proofs.Returns.{
 use Rattle.store_keep.proofs.change.Statement.{statement}
 use Rattle.store_keep.proofs.change.Tie as tie
 
-returns : tie.Need-returns
+returns : tie.Need-returns-then-s-ne0
 returns c =
-    let read = c.before.before in
-    let start = read.before.before.before in
-    not_read start.args.store.now start.args.tag start.args.value _ read.read.ensures
-    c.if1.true
+    let both = (not_read c.args.store.now c.args.tag c.args.value _ c.read-s.ensures
+    c.if-s-ne0.true) in record { answer = both.0; store = both.1 }
 
-returns_2 : tie.Need-returns-2
+returns_2 : tie.Need-returns-then-tag-lt1
 returns_2 c =
-    let good = c.before in
-    let read = good.before.before in
-    let start = read.before.before.before in
-    not_tagged start.args.store.now start.args.tag start.args.value _ read.read.ensures
-    good.if1.false (tag_low _ c.if2.true)
+    let both = (not_tagged c.args.store.now c.args.tag c.args.value _ c.read-s.ensures
+    c.if-s-ne0.false (tag_low _ c.if-tag-lt1.true)) in record { answer = both.0; store = both.1 }
 
-returns_3 : tie.Need-returns-3
+returns_3 : tie.Need-returns-then-tag-gt3
 returns_3 c =
-    let low = c.before in
-    let good = low.before in
-    let read = good.before.before in
-    let start = read.before.before.before in
-    not_tagged start.args.store.now start.args.tag start.args.value _ read.read.ensures
-    good.if1.false (tag_high _ low.if2.false c.if3.true)
+    let both = (not_tagged c.args.store.now c.args.tag c.args.value _ c.read-s.ensures
+    c.if-s-ne0.false (tag_high _ c.if-tag-lt1.false c.if-tag-gt3.true)) in record { answer = both.0; store = both.1 }
 
 stands_requires : tie.Need-stands-requires
-stands_requires c κs =
-    let low = c.before in
-    let good = low.before in
-    let read = good.before.before in
-    let start = read.before.before.before in (
-      tag_right _ low.if2.false c.if3.false,
-      as_read start.args.store.now start.args.tag start.args.value _ read.read.ensures
-          good.if1.false,
-    )
+stands_requires c κs = (
+  tag_right _ c.if-tag-lt1.false c.if-tag-gt3.false,
+  as_read c.args.store.now c.args.tag c.args.value _ c.read-s.ensures
+      c.if-s-ne0.false,
+)
 
-returns_4 : tie.Need-returns-4
+returns_4 : tie.Need-returns-then-not-stands
 returns_4 c =
-    let high = c.before.before in
-    let low = high.before in
-    let good = low.before in
-    let read = good.before.before in
-    let start = read.before.before.before in
-    not_good start.args.store.now start.args.tag start.args.value _ read.read.ensures
-    good.if1.false (tag_right _ low.if2.false high.if3.false)
-    (failed c.before.stands.ensures c.if4.true)
+    let both = (not_good c.args.store.now c.args.tag c.args.value _ c.read-s.ensures
+    c.if-s-ne0.false (tag_right _ c.if-tag-lt1.false c.if-tag-gt3.false)
+    (failed c.stands.ensures c.if-not-stands.true)) in record { answer = both.0; store = both.1 }
 
-first_at_requires : tie.Need-first-at-requires
+first_at_requires : tie.Need-first_at-at-requires
 first_at_requires c κs =
-    let good = c.before.before.before.before.before in
-    let read = good.before.before in
-    let start = read.before.before.before in
-    has_three start.args.store.now start.args.tag start.args.value _ read.read.ensures
-    good.if1.false
+    has_three c.args.store.now c.args.tag c.args.value _ c.read-s.ensures
+    c.if-s-ne0.false
 
-cast_store : tie.Need-overflow-cast-store
+cast_store : tie.Need-overflow_cast-store
 cast_store c =
-    let right = c.before.before in
-    let high = right.before.before in
-    let low = high.before in
-    let good = low.before in
-    let read = good.before.before in
-    let start = read.before.before.before in
     omega (
       arith,
-      value_fits start.args.store.now start.args.tag start.args.value _ read.read.ensures
-          good.if1.false (tag_right _ low.if2.false high.if3.false)
-          (passed right.before.stands.ensures right.if4.false),
+      value_fits c.args.store.now c.args.tag c.args.value _ c.read-s.ensures
+          c.if-s-ne0.false (tag_right _ c.if-tag-lt1.false c.if-tag-gt3.false)
+          (passed c.stands.ensures c.if-not-stands.false),
     )
 
-slice_write_store : tie.Need-slice-write-store
+slice_write_store : tie.Need-bounds-store-at
 slice_write_store c =
-    let right = c.before.before in
-    let high = right.before.before in
-    let low = high.before in
-    let good = low.before in
-    let read = good.before.before in
-    let start = read.before.before.before in
-    place_in start.args.store.now start.args.tag start.args.value _ read.read.ensures
-    good.if1.false (tag_right _ low.if2.false high.if3.false)
-    (passed right.before.stands.ensures right.if4.false) _ c.first-at.ensures
+    place_in c.args.store.now c.args.tag c.args.value _ c.read-s.ensures
+    c.if-s-ne0.false (tag_right _ c.if-tag-lt1.false c.if-tag-gt3.false)
+    (passed c.stands.ensures c.if-not-stands.false) _ c.first_at-at.ensures
 
-add_store : tie.Need-overflow-add-store
+add_store : tie.Need-overflow_add-store
 add_store c = omega (arith, slice_write_store c)
 
-returns_5 : tie.Need-returns-5
+returns_5 : tie.Need-returns
 returns_5 c =
-    let right = c.before.before in
-    let high = right.before.before in
-    let low = high.before in
-    let good = low.before in
-    let read = good.before.before in
-    let start = read.before.before.before in
-    put_there start.args.store.now start.args.tag start.args.value _ read.read.ensures
-    good.if1.false (tag_right _ low.if2.false high.if3.false)
-    (passed right.before.stands.ensures right.if4.false) _ c.first-at.ensures
+    let both = (put_there c.args.store.now c.args.tag c.args.value _ c.read-s.ensures
+    c.if-s-ne0.false (tag_right _ c.if-tag-lt1.false c.if-tag-gt3.false)
+    (passed c.stands.ensures c.if-not-stands.false) _ c.first_at-at.ensures) in record { answer = both.0; store = both.1 }
 
 pub change_spec : {M : Type 1} → statement M
 change_spec =

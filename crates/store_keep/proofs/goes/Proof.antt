@@ -9,8 +9,9 @@ use Rattle.store_keep.proofs.goes.Tie as tie
 
 returns : tie.Need-returns
 returns c =
-    c.Goes-with.ensures
-    ∙ ap₂ {C = Bool} (λ k r. goes_with k r) c.before.before.kind_of_lem.ensures c.before.rate_of_lem.ensures
+    c.goes_with.ensures
+    ∙ ap₂ {C = Bool} (λ k r. goes_with k r) c.kind_of-k.ensures c.rate_of.ensures
 
 pub goes_spec : {M : Type 1} → statement M
-goes_spec = tie.close (tie.spec (λ c κs. search rules) (λ c κs. search rules) (λ c κs. search rules) returns)
+goes_spec = tie.close (tie.spec
+    (λ c κs. search rules) (λ c κs. search rules) (λ c κs. search rules) returns)

@@ -10,11 +10,8 @@ use Rattle.store_keep.proofs.put.Tie as tie
 returns : tie.Need-returns
 unfolding table_from bodies laid_out
 returns c =
-    let fill = c.before.before in
-    let copy = fill.before.before.before.before in
-    let start = copy.before.before.before.before in
-    over_filled (store_of start.args.kind start.args.rate start.args.phase) _ _ _ 17 0
-    copy.copy.ensures refl start.requires fill.fill.ensures
+    over_filled (store_of c.args.kind c.args.rate c.args.phase) _ _ _ 17 0
+    c.copy.ensures refl c.requires c.fill.ensures
 
 pub put_spec : {M : Type 1} → statement M
 put_spec =

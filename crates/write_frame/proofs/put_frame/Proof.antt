@@ -41,23 +41,20 @@ all k r p clock b e h xs d o y z s eh six es eo eb ey ee room ez =
 
 returns : tie.Need-returns
 returns c =
-    let start = c.before.before.before.before.before.before.before.before.before.before.before.before.before.before.before.before.before in
-    let header = c.before.before.before.before.before.before.before.before.before.before.before.before.before.before.header-octets in
-    let front = c.before.before.before.before.before.before.before.before.before.before.before.put_front in
-    let rest = c.before.before.before.before.before.before.put-octets in
-    all start.args.k start.args.r _ start.args.clock _ start.args.count _ _ _ front.new.1.1.1.0
-    rest.new.1.1.1.0
-    c.before.before.fill.new.0 _ header.ensures.0 header.ensures.1 front.ensures.0
-    front.ensures.1
-    c.before.before.before.before.before.before.before.before.front-chips.ensures rest.ensures.1
-    start.pre.1 start.pre.2 c.before.before.fill.ensures
+    let header = c.header_octets-header in
+    let front = c.put_front-l in
+    let rest = c.put_octets in
+    all c.args.k c.args.r _ c.args.clock _ c.args.count _ _ _ front.new.chips
+    rest.new.chips
+    c.fill.new.row _ header.ensures.0 header.ensures.1 front.ensures.answer
+    front.ensures.chips
+    c.front_chips-at.ensures rest.ensures.chips
+    c.requires.1 c.requires.2 c.fill.ensures
 
 pub put_frame_spec : {M : Type 1} → statement M
 put_frame_spec =
     tie.close
     (tie.spec
     (λ c κs. search rules) (λ c. search rules) (λ c κs. search rules) (λ c κs. search rules) (λ c. search rules)
-    (λ c. search rules)
-    (λ c. search rules) (λ c κs. search rules) (λ c. search rules) (λ c. search rules) (λ c. search rules)
-    (λ c κs. search rules)
-    (λ c. search rules) returns)
+    (λ c. search rules) (λ c. search rules) (λ c κs. search rules) (λ c. search rules) (λ c. search rules)
+    (λ c. search rules) (λ c κs. search rules) (λ c. search rules) returns)

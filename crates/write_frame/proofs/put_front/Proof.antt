@@ -58,42 +58,38 @@ unfolding first_state
 starts k p l s = ap₂ {C = State} (λ a b. record { past = a; phase = b }) s.past s.at_phase
 
 -- the buffer keeps its length, and the preamble is within
-long : (c : tie.After-header-rate)
-    → front_chips c.before.before.before.before.before.before.before.before.before.args.k ≤
-    length c.before.before.before.before.put-preamble.new.1.1.0
+long : (c : tie.After-header_rate)
+    → front_chips c.args.k ≤
+    length c.put_preamble-l1.new.chips
 long c =
-    rw c.before.before.before.before.put-preamble.auto.1.1.0
-    c.before.before.before.before.before.before.before.before.before.requires.1
+    rw c.put_preamble-l1.auto.chips
+    c.requires.1
 
-inside : (c : tie.After-header-rate) → c.before.preamble-chips.result ≤ length c.before.before.before.before.put-preamble.new.1.1.0
+inside : (c : tie.After-header_rate) → c.preamble_chips-at.result ≤ length c.put_preamble-l1.new.chips
 inside c =
-    rw c.before.preamble-chips.ensures
-    (le_trans (shorter c.before.before.before.before.before.before.before.before.before.args.k) (long c))
+    rw c.preamble_chips-at.ensures
+    (le_trans (shorter c.args.k) (long c))
 
-put_preamble_requires : tie.Need-put-preamble-requires
+put_preamble_requires : tie.Need-put_preamble-l1-requires
 put_preamble_requires c κs =
-    let start = c.before.before.before.before in le_trans (shorter start.args.k) start.requires.1
+    le_trans (shorter c.args.k) c.requires.1
 
-put_octets_requires : tie.Need-put-octets-requires
+put_octets_requires : tie.Need-put_octets-requires
 put_octets_requires c κs =
-    let at = c.before in
-    let start = at.before.before.before.before.before.before.before.before.before in
-    header_room start.args.k _ _ _ at.before.before.before.before.put-preamble.new.1.1.0
-    at.header-rate.ensures start.requires.0 at.before.preamble-chips.ensures (long at)
+    header_room c.args.k _ _ _ c.put_preamble-l1.new.chips
+    c.header_rate.ensures c.requires.0 c.preamble_chips-at.ensures (long c.before)
 
 returns : tie.Need-returns
 returns c =
-    let at = c.before.before.before.before in
-    let start = at.before.before.before.before.before.before.before.before.before in
-    let first = at.before.before.before.before.put-preamble in
-    let rest = c.before.before.put-octets in
-    front start.args.k _ _ _ _ _ first.new.1.1.0 rest.new.1.1.1.0 _ _ _
-    (starts _ _ _ at.before.before.before.before.before.before.first-line.ensures) first.ensures
-    at.before.preamble-chips.ensures at.header-rate.ensures rest.ensures
+    let both = (let first = c.put_preamble-l1 in
+    let rest = c.put_octets in
+    front c.args.k _ _ _ _ _ first.new.chips rest.new.chips _ _ _
+    (starts _ _ _ c.first_line-l0.ensures) first.ensures
+    c.preamble_chips-at.ensures c.header_rate.ensures rest.ensures) in record { answer = both.0; chips = both.1 }
 
 pub put_front_spec : {M : Type 1} → statement M
 put_front_spec =
     tie.close
     (tie.spec
-    (λ c κs. search rules) put_preamble_requires (λ c κs. search rules) (λ c κs. search rules)
-    (λ c. inside c) (λ c. inside c) (λ c. search rules) put_octets_requires (λ c. search rules) returns)
+    (λ c κs. search rules) put_preamble_requires (λ c κs. search rules) (λ c κs. search rules) (λ c. inside c)
+    (λ c. inside c) (λ c. search rules) put_octets_requires (λ c. search rules) returns)

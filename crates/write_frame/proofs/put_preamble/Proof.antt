@@ -21,23 +21,25 @@ with_kind : (k j : Kind) (s u : State) (o d : List ℕ) → k ≡ j
     → (u ≡ ran One 0 s (preamble_octets k)) × (o ≡ over (run One 0 s (preamble_octets k)) d)
 with_kind k j s u o d e h = rw e h
 
-put_octets_requires : tie.Need-put-octets-requires
+put_octets_requires : tie.Need-put_octets-requires
 put_octets_requires c κs =
-    room _ _ _ c.before.before.enum_told.given.1 c.before.before.before.before.before.requires
+    room _ _ _ c.in-Long.is c.requires
 
-put_octets_requires_2 : tie.Need-put-octets-requires-2
+put_octets_requires_2 : tie.Need-put_octets-requires-in-Short
 put_octets_requires_2 c κs =
-    room _ _ _ c.before.before.enum-told2.given.1 c.before.before.before.before.before.requires
+    room _ _ _ c.in-Short.is c.requires
 
-returns : tie.Need-returns
+returns : tie.Need-returns-in-Long
 unfolding preamble_octets
-returns c = with_kind _ _ _ _ _ _ c.before.before.before.before.before.enum_told.given.1
-    c.before.before.put-octets.ensures
+returns c =
+    let both = (with_kind _ _ _ _ _ _ c.in-Long.is
+    c.put_octets.ensures) in record { answer = both.0; chips = both.1 }
 
-returns_2 : tie.Need-returns-2
+returns_2 : tie.Need-returns-in-Short
 unfolding preamble_octets
-returns_2 c = with_kind _ _ _ _ _ _ c.before.before.before.before.before.enum-told2.given.1
-    c.before.before.put-octets2.ensures
+returns_2 c =
+    let both = (with_kind _ _ _ _ _ _ c.in-Short.is
+    c.put_octets-in-Short.ensures) in record { answer = both.0; chips = both.1 }
 
 pub put_preamble_spec : {M : Type 1} → statement M
 put_preamble_spec =

@@ -31,35 +31,34 @@ framed : (kind rate phase clock m : ℕ) (xs z : List ℕ) (w : Writing) (a : Wr
 unfolding chips_written
 framed kind rate phase clock m xs z w a k r c ew ea ee ez = (rw (← ew) ea, rw (← ew, ee) ez)
 
-cast_put_frame : tie.Need-overflow-cast-put-frame
+cast_put_frame : tie.Need-overflow_cast-phase
 cast_put_frame c =
-    let small = (accepted _ _ _ _ _ _ _ _ (sym c.before.before.before.before.check-write.ensures
-    ∙ c.before.writing.given.1)).1 in
+    let small = (accepted _ _ _ _ _ _ _ _ (sym c.check_write-writing.ensures
+    ∙ c.in-Good.is)).1 in
     record { fits = omega arith }
 
-put_frame_requires : tie.Need-put-frame-requires
+put_frame_requires : tie.Need-put_frame-requires
 put_frame_requires c κs =
-    let g = accepted _ _ _ _ _ _ _ _ (sym c.before.before.before.before.before.check-write.ensures
-    ∙ c.before.before.writing.given.1) in
+    let g = accepted _ _ _ _ _ _ _ _ (sym c.check_write-writing.ensures
+    ∙ c.in-Good.is) in
     (g.0, g.2, g.3)
 
-returns : tie.Need-returns
+returns : tie.Need-returns-in-Refused
 returns c =
-    refused _ _ _ _ _ _ _ _ _ _ c.before.before.before.before.before.before.before.check-write.ensures
-    c.before.before.before.before.before.before.written_of_lem.ensures
-    c.before.before.before.before.enum_told.given.1
-    c.before.before.fill.ensures
+    let both = (refused _ _ _ _ _ _ _ _ _ _ c.check_write-writing.ensures
+    c.written_of-written.ensures
+    c.in-Refused.is
+    c.fill.ensures) in record { answer = both.0; chips = both.1 }
 
-returns_2 : tie.Need-returns-2
+returns_2 : tie.Need-returns-in-Good
 returns_2 c =
-    framed _ _ _ _ _ _ _ _ _ _ _ _ c.before.before.before.before.before.before.before.before.check-write.ensures c.before.before.before.before.before.before.before.written_of_lem.ensures
-    c.before.before.before.before.before.writing.given.1
-    c.before.before.put-frame.ensures
+    let both = (framed _ _ _ _ _ _ _ _ _ _ _ _ c.check_write-writing.ensures c.written_of-written.ensures
+    c.in-Good.is
+    c.put_frame.ensures) in record { answer = both.0; chips = both.1 }
 
 pub write_spec : {M : Type 1} → statement M
 write_spec =
     tie.close
     (tie.spec
     (λ c κs. search rules) (λ c κs. search rules) (λ c. search rules) (λ c κs. search rules) (λ c. search rules)
-    cast_put_frame
-    put_frame_requires (λ c. search rules) returns (λ c. search rules) returns_2)
+    cast_put_frame put_frame_requires (λ c. search rules) returns (λ c. search rules) returns_2)

@@ -10,5 +10,5 @@ returns c = omega arith
 pub grown_cck_spec : {M : Type 1} → statement M
 grown_cck_spec =
     tie.close
-    (tie.spec (λ c κs. search rules) (λ c. search rules) (λ c. search rules) (λ c. search rules) (λ c. search rules)
-    returns)
+    (tie.spec
+    (λ c κs. search rules) (λ c. search rules) (λ c. search rules) (λ c. search rules) (λ c. search rules) returns)

@@ -26,37 +26,39 @@ unfolding symbols_at
 with_rate r s p j k q bs o d e f h =
     rw (e, ← symbols_from_parity s j (octet_symbols s * k) (octet_symbols s) bs f) h
 
-put_one_requires : tie.Need-put-one-requires
+put_one_requires : tie.Need-put_one-requires
 put_one_requires c κs =
-    let start = c.before.before.before.before in
-    (start.requires.0, room _ _ _ c.before.enum_told.given.1 start.requires.1)
+    (c.requires.0, room _ _ _ c.in-One.is c.requires.1)
 
-put_two_requires : tie.Need-put-two-requires
+put_two_requires : tie.Need-put_two-requires
 put_two_requires c κs =
-    let start = c.before.before.before.before in
-    (start.requires.0, room _ _ _ c.before.enum-told2.given.1 start.requires.1)
+    (c.requires.0, room _ _ _ c.in-Two.is c.requires.1)
 
-put_five_requires : tie.Need-put-five-requires
-put_five_requires c κs = room _ _ _ c.before.enum-told3.given.1 c.before.before.before.before.requires.1
+put_five_requires : tie.Need-put_five-requires
+put_five_requires c κs = room _ _ _ c.in-Five.is c.requires.1
 
-put_eleven_requires : tie.Need-put-eleven-requires
-put_eleven_requires c κs = room _ _ _ c.before.enum-told4.given.1 c.before.before.before.before.requires.1
+put_eleven_requires : tie.Need-put_eleven-requires
+put_eleven_requires c κs = room _ _ _ c.in-Eleven.is c.requires.1
 
-returns : tie.Need-returns
-returns c = with_rate _ _ _ 0 _ _ _ _ _ c.before.before.before.before.enum_told.given.1 (omega arith)
-    c.before.before.put_one.ensures
+returns : tie.Need-returns-in-One
+returns c =
+    let both = (with_rate _ _ _ 0 _ _ _ _ _ c.in-One.is (omega arith)
+    c.put_one.ensures) in record { answer = both.0; chips = both.1 }
 
-returns_2 : tie.Need-returns-2
-returns_2 c = with_rate _ _ _ 0 _ _ _ _ _ c.before.before.before.before.enum-told2.given.1 (omega arith)
-    c.before.before.put_two.ensures
+returns_2 : tie.Need-returns-in-Two
+returns_2 c =
+    let both = (with_rate _ _ _ 0 _ _ _ _ _ c.in-Two.is (omega arith)
+    c.put_two.ensures) in record { answer = both.0; chips = both.1 }
 
-returns_3 : tie.Need-returns-3
-returns_3 c = with_rate _ _ _ 0 _ _ _ _ _ c.before.before.before.before.enum-told3.given.1 (omega arith)
-    c.before.before.put_five.ensures
+returns_3 : tie.Need-returns-in-Five
+returns_3 c =
+    let both = (with_rate _ _ _ 0 _ _ _ _ _ c.in-Five.is (omega arith)
+    c.put_five.ensures) in record { answer = both.0; chips = both.1 }
 
-returns_4 : tie.Need-returns-4
-returns_4 c = with_rate _ _ _ _ _ _ _ _ _ c.before.before.before.before.enum-told4.given.1 (omega arith)
-    c.before.before.put-eleven.ensures
+returns_4 : tie.Need-returns-in-Eleven
+returns_4 c =
+    let both = (with_rate _ _ _ _ _ _ _ _ _ c.in-Eleven.is (omega arith)
+    c.put_eleven.ensures) in record { answer = both.0; chips = both.1 }
 
 pub put_bits_spec : {M : Type 1} → statement M
 put_bits_spec =

@@ -40,9 +40,8 @@ by_pairs p k o s q w d z e f g h =
 
 returns : tie.Need-returns
 returns c =
-    let calls = c.before.before.before.before.before in
-    by_pairs _ _ _ _ _ _ _ _ calls.before.before.pairs.ensures calls.before.grown-cck.ensures
-    calls.cck-word.ensures c.before.before.put.ensures
+    let both = (by_pairs _ _ _ _ _ _ _ _ c.pairs-s.ensures c.grown_cck-p1.ensures
+    c.cck_word-word.ensures c.put.ensures) in record { answer = both.0; chips = both.1 }
 
 pub put_eleven_spec : {M : Type 1} → statement M
 put_eleven_spec =

@@ -24,9 +24,9 @@ octet r k s x q bs o d b h = (cc, cc)
 
 returns : tie.Need-returns
 returns c =
-    let start = c.before.before.before.before.before.before in
-    octet start.args.r _ (state start.args.line) _ _ _ _ _
-    c.before.before.before.before.scramble-octet.ensures c.before.before.put-bits.ensures
+    let both = (octet c.args.r _ (state c.args.line) _ _ _ _ _
+    c.scramble_octet-o.ensures c.put_bits-phase.ensures) in record { answer = both.0; chips = both.1 }
 
 pub put_octet_spec : {M : Type 1} → statement M
-put_octet_spec = tie.close (tie.spec (λ c κs. search rules) (λ c κs. search rules) (λ c. search rules) returns)
+put_octet_spec = tie.close (tie.spec
+    (λ c κs. search rules) (λ c κs. search rules) (λ c. search rules) returns)

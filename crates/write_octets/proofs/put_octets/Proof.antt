@@ -23,17 +23,17 @@ use Rattle.write_octets.proofs.Run.{length_run, run_snoc, ran_snoc}
 use Rattle.write_octets.proofs.put_octets.Statement.{statement}
 use Rattle.write_octets.proofs.put_octets.Tie as tie
 
-abbrev invariant_loop : tie.invariant-loop
+abbrev invariant_loop : tie.invariant-loop-i
 invariant_loop r octets chips₀ per barkers l₀ i₀ at₀ chips l i at =
     (i ≤ length octets) × (at ≡ octet_chips r * i) × (length chips ≡ length chips₀) × (per ≡ octet_chips r)
     × (barkers ≡ tabulate barker_word 4) × (state l ≡ ran r 0 (state l₀) (take i octets))
     × (chips ≡ over (run r 0 (state l₀) (take i octets)) chips₀)
 
-abbrev decreases_loop : tie.decreases-loop
+abbrev decreases_loop : tie.decreases-loop-i
 decreases_loop r octets chips₀ per barkers l₀ i₀ at₀ chips l i at = length octets - i
 
 -- in a turn there is room for an octet more
-within : (c : tie.In-loop invariant_loop decreases_loop)
+within : (c : tie.In-loop-i invariant_loop decreases_loop)
     → c.before.loop.at + c.before.before.before.octet-chips.result ≤ length c.before.loop.chips
 within c =
     let start = c.before.before.before.before.before.before in
@@ -64,40 +64,39 @@ whole r s t xs d o i e f h =
     let all : take i xs ≡ xs = rw (h, take-length) in
     (e ∙ ap (ran r 0 s) all, f ∙ ap (λ (l : List ℕ). over (run r 0 s l) d) all)
 
-loop_holds : tie.Need-loop-init invariant_loop decreases_loop
+loop_holds : tie.Need-loop-i-init invariant_loop decreases_loop
 unfolding over run ran
 loop_holds c = (
   omega arith,
   sym (mul-zero _),
   refl,
-  c.before.octet-chips.ensures,
-  c.barker-words.ensures,
+  c.octet_chips-per.ensures,
+  c.barker_words-barkers.ensures,
   refl,
   refl,
 )
 
-put_octet_requires : tie.Need-put-octet-requires invariant_loop decreases_loop
+put_octet_requires : tie.Need-put_octet-l-requires invariant_loop decreases_loop
 put_octet_requires c κs =
-    let l = c.before.before.before.before.loop in (
+    let l = c.loop-i in (
       l.invariant.4,
-      simp (length-take, length-drop) (omega (arith, within c.before.before.before, l.invariant.3)),
+      simp (length-take, length-drop) (omega (arith, within c, l.invariant.3)),
     )
 
-add_at : tie.Need-overflow-add-at invariant_loop decreases_loop
+add_at : tie.Need-overflow_add-at invariant_loop decreases_loop
 add_at c =
-    let turn = c.before.before.before.before.before.before in
-    omega (arith, within turn, turn.before.before.before.before.before.before.well-formed)
+    omega (arith, within c, c.well_formed)
 
-loop_again : tie.Need-loop-preserved invariant_loop decreases_loop
+loop_again : tie.Need-loop-i-preserved invariant_loop decreases_loop
 loop_again c =
-    let l = c.before.before.before.before.before.before.before.loop in
-    let call = c.before.before.put-octet in
-    let next = turn _ _ _ _ _ _ _ call.new.1.1.1.1.1.0 l.i l.at l.invariant.5 l.invariant.6 l.invariant.1
-    c.before.before.before.before.before.before.loop-test.true call.ensures in (
+    let l = c.loop-i in
+    let call = c.put_octet-l in
+    let next = turn _ _ _ _ _ _ _ call.new.chips l.i l.at l.invariant.5 l.invariant.6 l.invariant.1
+    c.loop-i-test.true call.ensures in (
       omega arith,
       more _ l.i _ _ l.invariant.1 l.invariant.3,
-      same_len_mid l.at (length l.chips - l.at) l.chips call.new.1.1.1.1.1.0
-          call.auto.1.1.1.1.1.0 ∙ l.invariant.2,
+      same_len_mid l.at (length l.chips - l.at) l.chips call.new.chips
+          call.auto.chips ∙ l.invariant.2,
       l.invariant.3,
       l.invariant.4,
       next.0,
@@ -105,13 +104,13 @@ loop_again c =
     )
 
 returns : tie.Need-returns invariant_loop decreases_loop
-returns c = whole _ _ _ _ _ _ c.before.loop.i c.before.loop.invariant.5 c.before.loop.invariant.6 (omega arith)
+returns c =
+    let both = (whole _ _ _ _ _ _ c.loop-i.i c.loop-i.invariant.5 c.loop-i.invariant.6 (omega arith)) in record { answer = both.0; chips = both.1 }
 
 pub put_octets_spec : {M : Type 1} → statement M
 put_octets_spec =
     tie.close
     (tie.spec
     invariant_loop decreases_loop (λ c κs. search rules) (λ c κs. search rules) loop_holds (λ c. omega arith)
-    (λ c. omega (arith, within c.before.before)) (λ c. omega (arith, within c.before.before))
-    (λ c. search rules) put_octet_requires add_at (λ c. omega arith) (λ c. omega arith) loop_again (λ c. search rules)
-    returns)
+    (λ c. omega (arith, within c)) (λ c. omega (arith, within c)) (λ c. search rules) put_octet_requires add_at
+    (λ c. omega arith) (λ c. omega arith) loop_again (λ c. search rules) returns)

@@ -19,7 +19,7 @@ use Rattle.choose_keys.proofs.Floats.{float_two, first_asks, second_asks, first_
 use Rattle.choose_by_counts.proofs.barker.choose.Statement.{statement}
 use Rattle.choose_by_counts.proofs.barker.choose.Tie as tie
 
-module _ (c : tie.After-two-keys) where
+module _ (c : tie.After-two_keys-top) where
   abbrev i : ℤ
   i = c.before.args.i
 
@@ -42,8 +42,8 @@ module _ (c : tie.After-two-keys) where
         c.two_keys.ensures.1 ∙ (λ j. smaller_float (key_float (key_i j)) (key_float (key_q j))),
       )
 
-module _ (c : tie.After-key-of2) where
-  abbrev m : tie.After-two-keys
+module _ (c : tie.After-key_of-second) where
+  abbrev m : tie.After-two_keys-top
   m = c.before.before
 
   first : c.before.key_of.result ≡ (top m).x
@@ -52,21 +52,20 @@ module _ (c : tie.After-key-of2) where
   second : c.key-of2.result ≡ (top m).y
   second = c.key-of2.ensures ∙ second_back (top m)
 
-lead_of_requires : tie.Need-lead-of-requires
+lead_of_requires : tie.Need-lead_of-requires
 lead_of_requires c κs =
-    let d = c.before in
-    (lit< tt, lit≤ tt, omega (arith, first d, second d, second_le (top (m d)).two))
+    (lit< tt, lit≤ tt, omega (arith, first c, second c, second_le (top (m c)).two))
 
 returns : tie.Need-returns
 returns c =
-    let d = c.before.before in
-    let chosen = phase_by (i (m d)) (q (m d)) (top (m d)).two in (
-      c.before.number_of.ensures ∙ ap (λ (x : ℕ). 3 - x % 4) (first d) ∙ chosen.0,
-      c.lead-of.ensures ∙ (λ j. first d j / 4 - second d j / 4) ∙ chosen.1,
+    let chosen = phase_by (i (m c)) (q (m c)) (top (m c)).two in (
+      c.number_of.ensures ∙ ap (λ (x : ℕ). 3 - x % 4) (first c) ∙ chosen.0,
+      c.lead_of.ensures ∙ (λ j. first c j / 4 - second c j / 4) ∙ chosen.1,
     )
 
 pub choose_spec : {M : Type 1} → statement M
 choose_spec =
     tie.close
-    (tie.spec (λ c κs. search rules) (λ c κs. first_asks (top c)) (λ c κs. second_asks (top c.before))
-    (λ c κs. search rules) lead_of_requires returns)
+    (tie.spec
+    (λ c κs. search rules) (λ c κs. first_asks (top c)) (λ c κs. second_asks (top c)) (λ c κs. search rules)
+    lead_of_requires returns)

@@ -12,17 +12,16 @@ use Rattle.choose_keys.proofs.Floats.{first_asks, second_asks, first_back, secon
 use Rattle.choose_by_counts.proofs.five.decide.Statement.{statement}
 use Rattle.choose_by_counts.proofs.five.decide.Tie as tie
 
-two_largest_requires : tie.Need-two-largest-requires
+two_largest_requires : tie.Need-two_largest-top-requires
 two_largest_requires c κs =
-    let start = c.before in
-    eight_within 8192 start.args.i start.args.q _ c.halves.ensures start.requires.0 start.requires.1
+    eight_within 8192 c.args.i c.args.q _ c.halves.ensures c.requires.0 c.requires.1
 
-module _ (c : tie.After-key-of2) where
-  abbrev found : tie.After-two-largest
-  found = c.before.before
+module _ (c : tie.After-key_of-second) where
+  abbrev found : tie.After-two_largest-top
+  found = c
 
-  first : c.before.key_of.result ≡ found.two-largest.ensures.x
-  first = c.before.key_of.ensures ∙ first_back found.two-largest.ensures
+  first : c.key_of.result ≡ found.two-largest.ensures.x
+  first = c.key_of.ensures ∙ first_back found.two-largest.ensures
 
   second : c.key-of2.result ≡ found.two-largest.ensures.y
   second = c.key-of2.ensures ∙ second_back found.two-largest.ensures
@@ -30,25 +29,22 @@ module _ (c : tie.After-key-of2) where
 number_requires : tie.Need-number-requires
 number_requires c κs = omega (arith, c.number_of.ensures)
 
-lead_of_requires : tie.Need-lead-of-requires
+lead_of_requires : tie.Need-lead_of-requires
 lead_of_requires c κs =
-    let d = c.before.before in
-    (lit< tt, lit≤ tt, omega (arith, first d, second d, second_le (found d).two-largest.ensures.two))
+    (lit< tt, lit≤ tt, omega (arith, first c, second c, second_le (found c).two-largest.ensures.two))
 
 returns : tie.Need-returns
 returns c =
-    let number = c.before in
-    let d = number.before.before in
-    let chosen = eight_by _ _ (found d).before.halves.ensures (found d).two-largest.ensures.two in (
-      number.number.ensures
-          ∙ ap number5 (number.before.number_of.ensures ∙ ap (λ (x : ℕ). 15 - x % 16) (first d))
+    let chosen = eight_by _ _ (found c).before.halves.ensures (found c).two-largest.ensures.two in (
+      c.number.ensures
+          ∙ ap number5 (c.number_of.ensures ∙ ap (λ (x : ℕ). 15 - x % 16) (first c))
           ∙ chosen.0,
-      c.lead-of.ensures ∙ (λ j. first d j / 16 - second d j / 16) ∙ chosen.1,
+      c.lead_of.ensures ∙ (λ j. first c j / 16 - second c j / 16) ∙ chosen.1,
     )
 
 pub decide_spec : {M : Type 1} → statement M
 decide_spec =
     tie.close
-    (tie.spec (λ c κs. search rules) two_largest_requires (λ c κs. first_asks c.two-largest.ensures)
-    (λ c κs. second_asks c.before.two-largest.ensures) (λ c κs. search rules) number_requires lead_of_requires
-    returns)
+    (tie.spec
+    (λ c κs. search rules) two_largest_requires (λ c κs. first_asks c.two_largest-top.ensures)
+    (λ c κs. second_asks c.two_largest-top.ensures) (λ c κs. search rules) number_requires lead_of_requires returns)

@@ -7,10 +7,8 @@ use Rattle.choose_by_counts.proofs.five.halves.Tie as tie
 
 returns : tie.Need-returns
 returns c =
-    let at = c.before.before.before.before.before.before.before.before in
-    let start = at.before.before in
     let scores =
-    eight_scores _ _ start.args.i start.args.q at.before.crossed.ensures at.crossed2.ensures in
+    eight_scores _ _ c.args.i c.args.q c.crossed-m.ensures c.crossed-n.ensures in
     search (rules, scores)
 
 pub halves_spec : {M : Type 1} → statement M

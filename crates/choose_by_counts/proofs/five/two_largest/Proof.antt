@@ -51,28 +51,20 @@ two h j r e = float_two (key_at h) j (few j) (few (suc j)) (
 
 returns : tie.Need-returns
 returns c =
-    let k4 = c.before.before.before in
-    let k3 = k4.before.before.before in
-    let k2 = k3.before.before.before in
-    let k1 = k2.before.before.before in
-    let start = k1.before.before.before in
-    let row = start.args.t1 in
+    let row = c.args.t1 in
     float_merge
-    (float_merge (two row 0 start.requires k1.two_keys.ensures) (two row 2 start.requires k2.two-keys2.ensures)
-    c.before.before.merge.ensures)
-    (float_merge (two row 4 start.requires k3.two-keys3.ensures) (two row 6 start.requires k4.two-keys4.ensures)
-    c.before.merge2.ensures)
-    c.merge3.ensures
+    (float_merge (two row 0 c.requires c.two_keys-a.ensures) (two row 2 c.requires c.two_keys-b.ensures)
+    c.merge.ensures)
+    (float_merge (two row 4 c.requires c.two_keys-c.ensures) (two row 6 c.requires c.two_keys-d.ensures)
+    c.merge-2.ensures)
+    c.merge-3.ensures
 
 pub two_largest_spec : {M : Type 1} → statement M
 two_largest_spec =
     tie.close
-    (tie.spec (λ c. search rules) (λ c. search rules) (λ c κs. asks _ 0 (lit< tt) c.before.before.requires)
-    (λ c. search rules) (λ c. search rules)
-    (λ c κs. asks _ 2 (lit< tt) c.before.before.before.before.before.requires)
-    (λ c. search rules) (λ c. search rules)
-    (λ c κs. asks _ 4 (lit< tt) c.before.before.before.before.before.before.before.before.requires)
-    (λ c. search rules) (λ c. search rules)
-    (λ c κs. asks _ 6 (lit< tt)
-    c.before.before.before.before.before.before.before.before.before.before.before.requires)
-    (λ c κs. search rules) (λ c κs. search rules) (λ c κs. search rules) returns)
+    (tie.spec
+    (λ c. search rules) (λ c. search rules) (λ c κs. asks _ 0 (lit< tt) c.requires) (λ c. search rules)
+    (λ c. search rules) (λ c κs. asks _ 2 (lit< tt) c.requires) (λ c. search rules) (λ c. search rules)
+    (λ c κs. asks _ 4 (lit< tt) c.requires) (λ c. search rules) (λ c. search rules)
+    (λ c κs. asks _ 6 (lit< tt) c.requires) (λ c κs. search rules) (λ c κs. search rules) (λ c κs. search rules)
+    returns)

@@ -48,59 +48,53 @@ module _ (c : tie.Start) where
   f_small : Bounded 4104 (pair (to_z w16 (of_z w16 c.args.fr)) (to_z w16 (of_z w16 c.args.fi)))
   f_small = record { real = plain c.requires.2.real; imag = plain c.requires.2.imag }
 
-two : tie.Need-meet-requires-2
-two c κs =
-    let s = c.before in (
-      q_small s,
-      record { real = plain (pi s); imag = turned_small (pr s) },
-      f_small s,
-      record { real = plain (ei s); imag = turned_small (er s) },
-    )
+two : tie.Need-meet-b2-requires
+two c κs = (
+  q_small c,
+  record { real = plain (pi c); imag = turned_small (pr c) },
+  f_small c,
+  record { real = plain (ei c); imag = turned_small (er c) },
+)
 
-three : tie.Need-meet-requires-3
-three c κs =
-    let s = c.before.before in (
-      q_small s,
-      record { real = turned_small (pr s); imag = turned_small (pi s) },
-      f_small s,
-      record { real = turned_small (er s); imag = turned_small (ei s) },
-    )
+three : tie.Need-meet-b3-requires
+three c κs = (
+  q_small c,
+  record { real = turned_small (pr c); imag = turned_small (pi c) },
+  f_small c,
+  record { real = turned_small (er c); imag = turned_small (ei c) },
+)
 
-four : tie.Need-meet-requires-4
-four c κs =
-    let s = c.before.before.before in (
-      q_small s,
-      record { real = turned_small (pi s); imag = plain (pr s) },
-      f_small s,
-      record { real = turned_small (ei s); imag = plain (er s) },
-    )
+four : tie.Need-meet-requires
+four c κs = (
+  q_small c,
+  record { real = turned_small (pi c); imag = plain (pr c) },
+  f_small c,
+  record { real = turned_small (ei c); imag = plain (er c) },
+)
 
 returns : tie.Need-returns
 unfolding four_more
 returns c =
-    let m3 = c.before in
-    let m2 = m3.before in
-    let m1 = m2.before in
-    let s = m1.before in
-    let q = s.requires.0 in
-    let f = s.requires.2 in
-    let g = s.args.g in
-    met_as _ c.meet4.ensures
-    (met_as _ m3.meet3.ensures
-    (met_as _ m2.meet2.ensures
-    (met_as _ m1.meet.ensures refl
-    (λ i. plus (pair (is q.real i) (is q.imag i)) (pair (is (pr s) i) (is (pi s) i)))
-    (λ i. plus (pair (is f.real i) (is f.imag i)) (pair (is (er s) i) (is (ei s) i))))
-    (λ i. plus (pair (is q.real i) (is q.imag i)) (pair (is (pi s) i) (not (pr s) i)))
-    (λ i. plus (pair (is f.real i) (is f.imag i)) (pair (is (ei s) i) (not (er s) i))))
-    (λ i. plus (pair (is q.real i) (is q.imag i)) (pair (not (pr s) i) (not (pi s) i)))
-    (λ i. plus (pair (is f.real i) (is f.imag i)) (pair (not (er s) i) (not (ei s) i))))
-    (λ i. plus (pair (is q.real i) (is q.imag i)) (pair (not (pi s) i) (is (pr s) i)))
-    (λ i. plus (pair (is f.real i) (is f.imag i)) (pair (not (ei s) i) (is (er s) i)))
+    let q = c.requires.0 in
+    let f = c.requires.2 in
+    let g = c.args.g in
+    met_as _ c.meet.ensures
+    (met_as _ c.meet-b3.ensures
+    (met_as _ c.meet-b2.ensures
+    (met_as _ c.meet-b1.ensures refl
+    (λ i. plus (pair (is q.real i) (is q.imag i)) (pair (is (pr c) i) (is (pi c) i)))
+    (λ i. plus (pair (is f.real i) (is f.imag i)) (pair (is (er c) i) (is (ei c) i))))
+    (λ i. plus (pair (is q.real i) (is q.imag i)) (pair (is (pi c) i) (not (pr c) i)))
+    (λ i. plus (pair (is f.real i) (is f.imag i)) (pair (is (ei c) i) (not (er c) i))))
+    (λ i. plus (pair (is q.real i) (is q.imag i)) (pair (not (pr c) i) (not (pi c) i)))
+    (λ i. plus (pair (is f.real i) (is f.imag i)) (pair (not (er c) i) (not (ei c) i))))
+    (λ i. plus (pair (is q.real i) (is q.imag i)) (pair (not (pi c) i) (is (pr c) i)))
+    (λ i. plus (pair (is f.real i) (is f.imag i)) (pair (not (ei c) i) (is (er c) i)))
 
 pub column_spec : {M : Type 1} → statement M
 column_spec =
     tie.close
-    (tie.spec (λ c. neg_fits w16 4104 (lit< tt) _ (pr c)) (λ c. neg_fits w16 4104 (lit< tt) _ (pi c))
+    (tie.spec
+    (λ c. neg_fits w16 4104 (lit< tt) _ (pr c)) (λ c. neg_fits w16 4104 (lit< tt) _ (pi c))
     (λ c. neg_fits w16 4104 (lit< tt) _ (er c)) (λ c. neg_fits w16 4104 (lit< tt) _ (ei c)) (λ c κs. search rules)
     (λ c. search rules) two (λ c. search rules) three (λ c. search rules) four returns)

@@ -15,5 +15,6 @@ arg c = reads_of (lit< tt) c.requires
 pub credit_spec : {M : Type 1} → statement M
 credit_spec =
     tie.close
-    (tie.spec (λ c. two_minus_fits (lit< tt) (arg c)) (λ c κs. search rules)
+    (tie.spec
+    (λ c. two_minus_fits (lit< tt) (arg c)) (λ c κs. search rules)
     (λ c. credit_is (lit< tt) (arg c.before) c.max.ensures))

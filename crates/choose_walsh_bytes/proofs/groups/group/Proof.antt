@@ -39,7 +39,7 @@ module _ (c : tie.Start) where
     within = within_neg c.requires.2;
   }
 
-module _ (c : tie.After-four2) where
+module _ (c : tie.After-four-q) where
   abbrev start : tie.Start
   start = c.before.before
 
@@ -71,25 +71,19 @@ module _ (c : tie.After-four2) where
 
 returns : tie.Need-returns
 unfolding top_of next_of
-returns c =
-    let two = c.before.before in
-    let one = two.before in
-    let f = one.before.before.before.before.before.before.before in (
-      (reads_larger (lit< tt) (p_first f) (u f) two.max2.ensures).is,
-      (reads_larger (lit< tt) (reads_smaller (lit< tt) (p_first f) (u f) c.before.min.ensures)
-          (reads_larger (lit< tt) (p_second f) (v f) one.max.ensures) c.max3.ensures
-          ).is,
-    )
+returns c = (
+  (reads_larger (lit< tt) (p_first c) (u c) c.max.ensures).is,
+  (reads_larger (lit< tt) (reads_smaller (lit< tt) (p_first c) (u c) c.min.ensures)
+      (reads_larger (lit< tt) (p_second c) (v c) c.max-v.ensures) c.max-2.ensures
+      ).is,
+)
 
 pub group_spec : {M : Type 1} → statement M
 group_spec =
     tie.close
-    (tie.spec (λ c κs. search rules) (λ c. neg_fits w16 8208 (lit< tt) _ c.before.requires.2)
-    (λ c κs. (
-      within_read w16 (lit< tt) c.before.requires.1,
-      within_read w16 (lit< tt) c.before.requires.3,
-      rw (turned_reads c.before).is (turned_reads c.before).within,
-    ))
-    (λ c. less_fits (q_first c.before.before.before) (reads_const {c = 4} (lit< tt)) (lit< tt))
-    (λ c. less_fits (q_second c.before.before.before.before.before) (reads_const {c = 4} (lit< tt)) (lit< tt))
-    (λ c κs. search rules) (λ c κs. search rules) (λ c κs. search rules) (λ c κs. search rules) returns)
+    (tie.spec
+    (λ c κs. search rules) (λ c. neg_fits w16 8208 (lit< tt) _ c.requires.2)
+    (λ c κs. (within_read w16 (lit< tt) c.requires.1, within_read w16 (lit< tt) c.requires.3, rw (turned_reads c).is (turned_reads c).within))
+    (λ c. less_fits (q_first c) (reads_const {c = 4} (lit< tt)) (lit< tt))
+    (λ c. less_fits (q_second c) (reads_const {c = 4} (lit< tt)) (lit< tt)) (λ c κs. search rules)
+    (λ c κs. search rules) (λ c κs. search rules) (λ c κs. search rules) returns)

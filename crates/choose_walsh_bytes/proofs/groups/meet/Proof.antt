@@ -32,25 +32,20 @@ module _ (c : tie.Start) where
 
 returns : tie.Need-returns
 returns c =
-    let g = c.before in
-    let s = g.before in
     c.merge.ensures
-    ∙ (λ i. merged (held s.args.b.first s.args.b.second s.args.b.group)
-    ((g.group.ensures.0
-    ∙ (λ j. top_of (pair ((yr s).is j) ((yi s).is j)) (pair ((xr s).is j) ((xi s).is j)))) i)
-    ((g.group.ensures.1
-    ∙ (λ j. next_of (pair ((yr s).is j) ((yi s).is j)) (pair ((xr s).is j) ((xi s).is j)))) i) s.args.g)
+    ∙ (λ i. merged (held c.args.b.first c.args.b.second c.args.b.group)
+    ((c.group.ensures.0
+    ∙ (λ j. top_of (pair ((yr c).is j) ((yi c).is j)) (pair ((xr c).is j) ((xi c).is j)))) i)
+    ((c.group.ensures.1
+    ∙ (λ j. next_of (pair ((yr c).is j) ((yi c).is j)) (pair ((xr c).is j) ((xi c).is j)))) i) c.args.g)
 
 pub meet_spec : {M : Type 1} → statement M
 meet_spec =
     tie.close
-    (tie.spec (λ c. reads_fits (reads_of (lit< tt) c.requires.0.real) (reads_of (lit< tt) c.requires.1.real) (lit< tt))
+    (tie.spec
+    (λ c. reads_fits (reads_of (lit< tt) c.requires.0.real) (reads_of (lit< tt) c.requires.1.real) (lit< tt))
     (λ c. reads_fits (reads_of (lit< tt) c.requires.0.imag) (reads_of (lit< tt) c.requires.1.imag) (lit< tt))
     (λ c. reads_fits (reads_of (lit< tt) c.requires.2.real) (reads_of (lit< tt) c.requires.3.real) (lit< tt))
     (λ c. reads_fits (reads_of (lit< tt) c.requires.2.imag) (reads_of (lit< tt) c.requires.3.imag) (lit< tt))
-    (λ c κs. (
-      rw (yr c).is (yr c).within,
-      rw (yi c).is (yi c).within,
-      rw (xr c).is (xr c).within,
-      rw (xi c).is (xi c).within,
-    )) (λ c κs. search rules) returns)
+    (λ c κs. (rw (yr c).is (yr c).within, rw (yi c).is (yi c).within, rw (xr c).is (xr c).within, rw (xi c).is (xi c).within))
+    (λ c κs. search rules) returns)

@@ -36,5 +36,6 @@ module _ (c : tie.After-sign) where
 pub credit_spec : {M : Type 1} → statement M
 credit_spec =
     tie.close
-    (tie.spec (λ c κs. search rules) (λ c κs. search rules) (λ c. made_fits (sum c) (small c).within (lit< tt))
+    (tie.spec
+    (λ c κs. search rules) (λ c κs. search rules) (λ c. made_fits (sum c) (small c).within (lit< tt))
     (λ c. (made (sum c) (small c).within (lit< tt)).is))

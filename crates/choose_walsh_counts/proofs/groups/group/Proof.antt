@@ -40,7 +40,7 @@ module _ (c : tie.Start) where
     within = within_neg c.requires.2;
   }
 
-module _ (c : tie.After-four2) where
+module _ (c : tie.After-four-q) where
   abbrev start : tie.Start
   start = c.before.before
 
@@ -72,34 +72,27 @@ module _ (c : tie.After-four2) where
 
 lower_requires : tie.Need-lower-requires
 lower_requires c κs =
-    let f = c.before.before.before.before.before.before.before.before in
-    let top : to_z w32 (of_z w32 c.max2.result) ≡ c.max2.result = search rules in (
-      rw (p_first f).is (within_more (p_first f).within (lit≤ tt)),
-      rw (u f).is (within_more (u f).within (lit≤ tt)),
-      top ∙ c.max2.ensures,
+    let top : to_z w32 (of_z w32 c.max-top.result) ≡ c.max-top.result = search rules in (
+      rw (p_first c).is (within_more (p_first c).within (lit≤ tt)),
+      rw (u c).is (within_more (u c).within (lit≤ tt)),
+      top ∙ c.max-top.ensures,
     )
 
 returns : tie.Need-returns
 unfolding top_of next_of
-returns c =
-    let two = c.before.before in
-    let one = two.before in
-    let f = one.before.before.before.before.before.before.before in (
-      (reads_larger (lit< tt) (p_first f) (u f) two.max2.ensures).is,
-      (reads_larger (lit< tt) (reads_smaller (lit< tt) (p_first f) (u f) c.before.lower.ensures)
-          (reads_larger (lit< tt) (p_second f) (v f) one.max.ensures) c.max3.ensures
-          ).is,
-    )
+returns c = (
+  (reads_larger (lit< tt) (p_first c) (u c) c.max-top.ensures).is,
+  (reads_larger (lit< tt) (reads_smaller (lit< tt) (p_first c) (u c) c.lower.ensures)
+      (reads_larger (lit< tt) (p_second c) (v c) c.max-v.ensures) c.max.ensures
+      ).is,
+)
 
 pub group_spec : {M : Type 1} → statement M
 group_spec =
     tie.close
-    (tie.spec (λ c κs. search rules) (λ c. neg_fits w32 524304 (lit< tt) _ c.before.requires.2)
-    (λ c κs. (
-      within_read w32 (lit< tt) c.before.requires.1,
-      within_read w32 (lit< tt) c.before.requires.3,
-      rw (turned_reads c.before).is (turned_reads c.before).within,
-    ))
-    (λ c. less_fits (q_first c.before.before.before) (reads_const {c = 4} (lit< tt)) (lit< tt))
-    (λ c. less_fits (q_second c.before.before.before.before.before) (reads_const {c = 4} (lit< tt)) (lit< tt))
-    (λ c κs. search rules) (λ c κs. search rules) lower_requires (λ c κs. search rules) returns)
+    (tie.spec
+    (λ c κs. search rules) (λ c. neg_fits w32 524304 (lit< tt) _ c.requires.2)
+    (λ c κs. (within_read w32 (lit< tt) c.requires.1, within_read w32 (lit< tt) c.requires.3, rw (turned_reads c).is (turned_reads c).within))
+    (λ c. less_fits (q_first c) (reads_const {c = 4} (lit< tt)) (lit< tt))
+    (λ c. less_fits (q_second c) (reads_const {c = 4} (lit< tt)) (lit< tt)) (λ c κs. search rules)
+    (λ c κs. search rules) lower_requires (λ c κs. search rules) returns)

@@ -34,5 +34,6 @@ module _ (c : tie.Start) where
 pub lower_spec : {M : Type 1} → statement M
 lower_spec =
     tie.close
-    (tie.spec (λ c. reads_fits (a c) (b c) (lit< tt)) (λ c. made_fits (left c) (least c).within (lit< tt))
+    (tie.spec
+    (λ c. reads_fits (a c) (b c) (lit< tt)) (λ c. made_fits (left c) (least c).within (lit< tt))
     (λ c. (made (left c) (least c).within (lit< tt)).is))

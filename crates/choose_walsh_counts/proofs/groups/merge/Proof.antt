@@ -14,29 +14,26 @@ use Rattle.choose_walsh_counts.proofs.groups.merge.Tie as tie
 returns : tie.Need-returns
 unfolding merged
 returns c =
-    let three = c.before in
-    let two = three.before.before in
-    let low = two.before.before in
-    let one = low.before in
-    let s = one.before.before.before.args in
+    let s = c.args in
     let t : to_z w32 (of_z w32 s.b.first) ≡ s.b.first = search rules in
     let u : to_z w32 (of_z w32 s.k.first) ≡ s.k.first = search rules in
     let v : to_z w32 (of_z w32 s.b.second) ≡ s.b.second = search rules in
     let w : to_z w32 (of_z w32 s.k.second) ≡ s.k.second = search rules in
-    let first : to_z w32 (of_z w32 one.max.result) ≡ one.max.result = search rules in
-    let lower : to_z w32 (of_z w32 low.min.result) ≡ low.min.result = search rules in
-    let other : to_z w32 (of_z w32 two.max2.result) ≡ two.max2.result = search rules in
-    let second : to_z w32 (of_z w32 three.max3.result) ≡ three.max3.result = search rules in
-    let lost : to_z w32 (of_z w32 low.min.result) ≡ smaller s.b.first s.k.first =
-    lower ∙ low.min.ensures ∙ (λ i. smaller (t i) (u i)) in
-    let rest : to_z w32 (of_z w32 two.max2.result) ≡ larger (smaller s.b.first s.k.first) s.k.second =
-    other ∙ two.max2.ensures ∙ (λ i. larger (lost i) (w i)) in
-    λ i. held ((first ∙ one.max.ensures ∙ (λ j. larger (t j) (u j))) i)
-    ((second ∙ three.max3.ensures ∙ (λ j. larger (v j) (rest j))) i)
+    let first : to_z w32 (of_z w32 c.max.result) ≡ c.max.result = search rules in
+    let lower : to_z w32 (of_z w32 c.min.result) ≡ c.min.result = search rules in
+    let other : to_z w32 (of_z w32 c.max-2.result) ≡ c.max-2.result = search rules in
+    let second : to_z w32 (of_z w32 c.max-3.result) ≡ c.max-3.result = search rules in
+    let lost : to_z w32 (of_z w32 c.min.result) ≡ smaller s.b.first s.k.first =
+    lower ∙ c.min.ensures ∙ (λ i. smaller (t i) (u i)) in
+    let rest : to_z w32 (of_z w32 c.max-2.result) ≡ larger (smaller s.b.first s.k.first) s.k.second =
+    other ∙ c.max-2.ensures ∙ (λ i. larger (lost i) (w i)) in
+    λ i. held ((first ∙ c.max.ensures ∙ (λ j. larger (t j) (u j))) i)
+    ((second ∙ c.max-3.ensures ∙ (λ j. larger (v j) (rest j))) i)
     ((c.place.ensures ∙ (λ j. cond (lt_z (t j) (u j)) s.g s.b.group)) i)
 
 pub merge_spec : {M : Type 1} → statement M
 merge_spec =
     tie.close
-    (tie.spec (λ c κs. search rules) (λ c κs. search rules) (λ c κs. search rules) (λ c κs. search rules)
+    (tie.spec
+    (λ c κs. search rules) (λ c κs. search rules) (λ c κs. search rules) (λ c κs. search rules)
     (λ c κs. search rules) returns)

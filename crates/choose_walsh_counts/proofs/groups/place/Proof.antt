@@ -8,19 +8,20 @@ use borrow.Author.Rules.{rules}
 use Rattle.choose_walsh_counts.proofs.groups.place.Statement.{statement}
 use Rattle.choose_walsh_counts.proofs.groups.place.Tie as tie
 
-returns : tie.Need-returns
+returns : tie.Need-returns-then-best-key
 returns c =
-    let s = c.before.args in
+    let s = c.args in
     let a : to_z w32 (of_z w32 s.best) ≡ s.best = search rules in
     let b : to_z w32 (of_z w32 s.key) ≡ s.key = search rules in
-    sym (ap (λ (t : Bool). cond t s.g s.was) (rw (a, b) at c.if1.true))
+    sym (ap (λ (t : Bool). cond t s.g s.was) (rw (a, b) at c.if-best-key.true))
 
-returns_2 : tie.Need-returns-2
+returns_2 : tie.Need-returns-else-best-key
 returns_2 c =
-    let s = c.before.args in
+    let s = c.args in
     let a : to_z w32 (of_z w32 s.best) ≡ s.best = search rules in
     let b : to_z w32 (of_z w32 s.key) ≡ s.key = search rules in
-    sym (ap (λ (t : Bool). cond t s.g s.was) (rw (a, b) at c.if1.false))
+    sym (ap (λ (t : Bool). cond t s.g s.was) (rw (a, b) at c.if-best-key.false))
 
 pub place_spec : {M : Type 1} → statement M
-place_spec = tie.close (tie.spec returns returns_2)
+place_spec = tie.close (tie.spec
+    returns returns_2)

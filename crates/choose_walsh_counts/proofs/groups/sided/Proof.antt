@@ -12,21 +12,22 @@ use Rattle.choose_walsh.specs.Turns.{sided}
 use Rattle.choose_walsh_counts.proofs.groups.sided.Statement.{statement}
 use Rattle.choose_walsh_counts.proofs.groups.sided.Tie as tie
 
-returns : tie.Need-returns
+returns : tie.Need-returns-then-y-lt0
 unfolding sided
 returns c =
-    let s = c.before.args in
+    let s = c.args in
     let y : to_z w32 (of_z w32 s.y) ≡ s.y = search rules in
-    neg_read w32 524304 (lit< tt) s.a c.before.requires
-    ∙ sym (ap (λ (t : Bool). cond t (neg_ℤ s.a) s.a) (rw y at c.if1.true))
+    neg_read w32 524304 (lit< tt) s.a c.requires
+    ∙ sym (ap (λ (t : Bool). cond t (neg_ℤ s.a) s.a) (rw y at c.if-y-lt0.true))
 
-returns_2 : tie.Need-returns-2
+returns_2 : tie.Need-returns-else-y-lt0
 unfolding sided
 returns_2 c =
-    let s = c.before.args in
+    let s = c.args in
     let y : to_z w32 (of_z w32 s.y) ≡ s.y = search rules in
     let a : to_z w32 (of_z w32 s.a) ≡ s.a = search rules in
-    a ∙ sym (ap (λ (t : Bool). cond t (neg_ℤ s.a) s.a) (rw y at c.if1.false))
+    a ∙ sym (ap (λ (t : Bool). cond t (neg_ℤ s.a) s.a) (rw y at c.if-y-lt0.false))
 
 pub sided_spec : {M : Type 1} → statement M
-sided_spec = tie.close (tie.spec (λ c. neg_fits w32 524304 (lit< tt) _ c.before.requires) returns returns_2)
+sided_spec = tie.close (tie.spec
+    (λ c. neg_fits w32 524304 (lit< tt) _ c.requires) returns returns_2)

@@ -6,11 +6,10 @@ use Rattle.common_header.proofs.crc.complement_eight.Tie as tie
 
 returns : tie.Need-returns
 returns c =
-    let four = c.before.before.before.before in
     complement_eight _ _ _ _ _ _ _ _ _ _ _ _ _ _ _ _
-    four.before.before.before.xor.ensures four.before.before.xor2.ensures
-    four.before.xor3.ensures four.xor4.ensures c.before.before.before.xor5.ensures
-    c.before.before.xor6.ensures c.before.xor7.ensures c.xor8.ensures
+    c.xor-b0.ensures c.xor-b1.ensures
+    c.xor-b2.ensures c.xor-b3.ensures c.xor-b4.ensures
+    c.xor-b5.ensures c.xor-b6.ensures c.xor-b7.ensures
 
 pub complement_eight_spec : {M : Type 1} → statement M
 complement_eight_spec =

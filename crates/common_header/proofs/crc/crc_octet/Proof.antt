@@ -7,7 +7,8 @@ use Rattle.common_header.proofs.crc.crc_octet.Statement.{statement}
 use Rattle.common_header.proofs.crc.crc_octet.Tie as tie
 
 returns : tie.Need-returns
-returns c = c.crc-eight.ensures ∙ ap (remainder _) c.before.unpack.ensures
+returns c = c.crc_eight.ensures ∙ ap (remainder _) c.unpack.ensures
 
 pub crc_octet_spec : {M : Type 1} → statement M
-crc_octet_spec = tie.close (tie.spec (λ c κs. search rules) (λ c κs. search rules) returns)
+crc_octet_spec = tie.close (tie.spec
+    (λ c κs. search rules) (λ c κs. search rules) returns)

@@ -9,13 +9,13 @@ use Rattle.common_header.proofs.crc.crc_octets.Tie as tie
 
 returns : tie.Need-returns
 returns c =
-    let last = c.before.before.before.before.crc-octet4 in (
+    let last = c.crc_octet-r4 in (
       crc_is _ _ _ _ _ _ _ _ _ _ (in_time last.result.first) (in_time last.result.second)
-          c.before.before.before.before.before.before.before.before.unpack.ensures
-          c.before.before.before.before.before.before.before.crc-octet.ensures
-          c.before.before.before.before.before.before.crc-octet2.ensures
-          c.before.before.before.before.before.crc-octet3.ensures
-          last.ensures c.before.pack-not.ensures c.pack-not2.ensures,
+          c.unpack-ones.ensures
+          c.crc_octet-r1.ensures
+          c.crc_octet-r2.ensures
+          c.crc_octet-r3.ensures
+          last.ensures c.pack_not.ensures c.pack_not-2.ensures,
       refl,
     )
 
@@ -23,5 +23,5 @@ pub crc_octets_spec : {M : Type 1} → statement M
 crc_octets_spec =
     tie.close
     (tie.spec
-    (λ c κs. search rules) (λ c κs. search rules) (λ c κs. search rules) (λ c κs. search rules) (λ c κs. search rules)
-    (λ c κs. search rules) (λ c κs. search rules) returns)
+    (λ c κs. search rules) (λ c κs. search rules) (λ c κs. search rules) (λ c κs. search rules)
+    (λ c κs. search rules) (λ c κs. search rules) (λ c κs. search rules) returns)

@@ -11,14 +11,15 @@ use Rattle.common_header.proofs.crc.pack_not.Statement.{statement}
 use Rattle.common_header.proofs.crc.pack_not.Tie as tie
 
 pack_requires : tie.Need-pack-requires
-pack_requires c κs = rw c.complement-eight.ensures (complement_below (in_time c.before.args.e))
+pack_requires c κs = rw c.complement_eight.ensures (complement_below (in_time c.args.e))
 
 returns : tie.Need-returns
 returns c =
     ap (bits_of 8) c.pack.ensures
     ∙ bits_number 8 _ refl
-    (rw c.before.complement-eight.ensures (complement_below (in_time c.before.before.args.e)))
-    ∙ c.before.complement-eight.ensures
+    (rw c.complement_eight.ensures (complement_below (in_time c.args.e)))
+    ∙ c.complement_eight.ensures
 
 pub pack_not_spec : {M : Type 1} → statement M
-pack_not_spec = tie.close (tie.spec (λ c κs. search rules) pack_requires returns)
+pack_not_spec = tie.close (tie.spec
+    (λ c κs. search rules) pack_requires returns)

@@ -20,12 +20,13 @@ round a b c d e f g h = omega arith
 
 pack_requires : tie.Need-pack-requires
 pack_requires c κs =
-    let bits : Below 2 (in_time c.unpack.result) = rw c.unpack.ensures (bits_below 8 c.before.args.x) in
+    let bits : Below 2 (in_time c.unpack-e.result) = rw c.unpack-e.ensures (bits_below 8 c.args.x) in
     let each = below_each bits in
     below_eight each.7 each.6 each.5 each.4 each.3 each.2 each.1 each.0
 
 returns : tie.Need-returns
-returns c = c.pack.ensures ∙ round _ _ _ _ _ _ _ _ ∙ ap highest_first c.before.unpack.ensures
+returns c = c.pack.ensures ∙ round _ _ _ _ _ _ _ _ ∙ ap highest_first c.unpack-e.ensures
 
 pub turned_spec : {M : Type 1} → statement M
-turned_spec = tie.close (tie.spec (λ c κs. search rules) pack_requires returns)
+turned_spec = tie.close (tie.spec
+    (λ c κs. search rules) pack_requires returns)

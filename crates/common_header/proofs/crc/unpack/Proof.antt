@@ -9,4 +9,5 @@ unfolding bits_of
 returns c = refl
 
 pub unpack_spec : {M : Type 1} → statement M
-unpack_spec = tie.close (tie.spec returns)
+unpack_spec = tie.close (tie.spec
+    returns)

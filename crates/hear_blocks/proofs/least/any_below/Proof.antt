@@ -19,29 +19,28 @@ from_right a b = omega (arith, or_add_and a b, and_le_l a b)
 no_wrap : (d limit x : ℕ) → (d + limit) % 2 ^ 32 ≡ x → limit ≤ 2147483648 → d < 2147483648 → limit ≤ x
 no_wrap d limit x e h l = omega arith
 
-abbrev invariant_loop : tie.invariant-loop
+abbrev invariant_loop : tie.invariant-loop-l
 invariant_loop leads m limit any₀ l₀ any l = (l ≤ m) × None leads limit l any
 
-abbrev decreases_loop : tie.decreases-loop
+abbrev decreases_loop : tie.decreases-loop-l
 decreases_loop leads m limit any₀ l₀ any l = m - l
 
-loop_again : tie.Need-loop-preserved invariant_loop decreases_loop
+loop_again : tie.Need-loop-l-preserved invariant_loop decreases_loop
 loop_again c =
-    let loop = c.before.before.before.loop in
-    let s = c.before.before.before.before in
-    let d = c.wrapping-sub-u32.result in (
+    let loop = c.loop-l in
+    let d = c.wrapping_sub_u32-any.result in (
       omega arith,
       λ low. below_more _ _ (loop.invariant.1 (omega (arith, low, from_left loop.any d)))
-          (no_wrap d s.args.limit _ c.wrapping-sub-u32.ensures s.requires.1
+          (no_wrap d c.args.limit _ c.wrapping_sub_u32-any.ensures c.requires.1
           (omega (arith, low, from_right loop.any d))),
     )
 
 returns : tie.Need-returns invariant_loop decreases_loop
-returns c e j h = c.before.loop.invariant.1 (omega (arith, leb-false 2147483648 c.before.loop.any e)) j (omega arith)
+returns c e j h = c.loop-l.invariant.1 (omega (arith, leb-false 2147483648 c.loop-l.any e)) j (omega arith)
 
 pub any_below_spec : {M : Type 1} → statement M
 any_below_spec =
     tie.close
     (tie.spec
-    invariant_loop decreases_loop (λ c. (omega arith, λ n j h. absurd (omega arith))) (λ c. search rules) (λ c. search rules)
-    (λ c κs. search rules) (λ c. omega arith) (λ c. omega arith) loop_again returns)
+    invariant_loop decreases_loop (λ c. (omega arith, λ n j h. absurd (omega arith))) (λ c. search rules)
+    (λ c. search rules) (λ c κs. search rules) (λ c. omega arith) (λ c. omega arith) loop_again returns)

@@ -6,11 +6,10 @@ use Rattle.rules_reading.proofs.Lowest.{row_kept}
 use Rattle.hear_blocks.proofs.least.least_after.Statement.{statement}
 use Rattle.hear_blocks.proofs.least.least_after.Tie as tie
 
-returns : tie.Need-returns
+returns : tie.Need-returns-then-not-any_lower
 returns c =
-    let start = c.before.before.before in
-    sym (row_kept start.args.symbol start.args.least start.args.leads.now start.args.m (omega arith)
-    (c.before.any-lower.ensures (not-true _ c.if2.true)))
+    sym (row_kept c.args.symbol c.args.least c.args.leads.now c.args.m (omega arith)
+    (c.any_lower.ensures (not-true _ c.if-not-any_lower.true)))
 
 pub least_after_spec : {M : Type 1} → statement M
 least_after_spec =

@@ -6,30 +6,29 @@ use Rattle.rules_reading.proofs.Lowest.{row_more}
 use Rattle.hear_blocks.proofs.least.least_by_symbol.Statement.{statement}
 use Rattle.hear_blocks.proofs.least.least_by_symbol.Tie as tie
 
-abbrev invariant_loop : tie.invariant-loop
+abbrev invariant_loop : tie.invariant-loop-l
 invariant_loop symbol leads m low₀ l₀ low l = (l ≤ m) × (low ≡ least_from symbol low₀ (take l leads))
 
-abbrev decreases_loop : tie.decreases-loop
+abbrev decreases_loop : tie.decreases-loop-l
 decreases_loop symbol leads m low₀ l₀ low l = m - l
 
-loop_holds : tie.Need-loop-init invariant_loop decreases_loop
+loop_holds : tie.Need-loop-l-init invariant_loop decreases_loop
 unfolding least_from
 loop_holds c = (omega arith, refl)
 
-loop_again : tie.Need-loop-preserved invariant_loop decreases_loop
+loop_again : tie.Need-loop-l-preserved invariant_loop decreases_loop
 loop_again c =
-    let loop = c.before.before.before.loop in
-    let start = c.before.before.before.before in (
+    let loop = c.loop-l in (
       omega arith,
-      c.lower.ensures
-          ∙ row_more start.args.symbol start.args.least loop.low start.args.leads.now loop.l
+      c.lower-low.ensures
+          ∙ row_more c.args.symbol c.args.least loop.low c.args.leads.now loop.l
           (omega arith) loop.invariant.1,
     )
 
 returns : tie.Need-returns invariant_loop decreases_loop
 returns c =
-    let loop = c.before.loop in
-    let a = c.before.before.args in
+    let loop = c.loop-l in
+    let a = c.args in
     let e : loop.l ≡ a.m = omega arith in
     subst (λ (n : ℕ). loop.low ≡ least_from a.symbol a.least (take n a.leads.now)) e loop.invariant.1
 
@@ -37,5 +36,5 @@ pub least_by_symbol_spec : {M : Type 1} → statement M
 least_by_symbol_spec =
     tie.close
     (tie.spec
-    invariant_loop decreases_loop loop_holds (λ c. omega arith) (λ c. omega arith) (λ c. record { fits = omega arith }) (λ c κs. tt)
-    (λ c. omega arith) (λ c. omega arith) loop_again returns)
+    invariant_loop decreases_loop loop_holds (λ c. omega arith) (λ c. omega arith)
+    (λ c. record { fits = omega arith }) (λ c κs. tt) (λ c. omega arith) (λ c. omega arith) loop_again returns)

@@ -6,11 +6,11 @@ use Rattle.hear_blocks.proofs.least.least_of.Tie as tie
 
 returns : tie.Need-returns
 returns c =
-    let start = c.before.before.before in
-    c.least-after.ensures
-    ∙ row_least start.args.leads.now start.args.m _ start.requires.0 c.before.wide.ensures
+    c.least_after.ensures
+    ∙ row_least c.args.leads.now c.args.m _ c.requires.0 c.wide-lead.ensures
 
 pub least_of_spec : {M : Type 1} → statement M
 least_of_spec =
     tie.close
-    (tie.spec (λ c. search rules) (λ c κs. search rules) (λ c κs. search rules) returns)
+    (tie.spec
+    (λ c. search rules) (λ c κs. search rules) (λ c κs. search rules) returns)

@@ -76,53 +76,48 @@ module _
       ),
     )
 
-hear_octets_requires : tie.Need-hear-octets-requires
+hear_octets_requires : tie.Need-hear_octets-part-requires
 hear_octets_requires c κs =
-    let start = c.before.before.before.before.before.before in
-    let a = start.args in
-    let long = lent_long a.n a.octets.now start.requires.2 in
-    let from = c.before.front-chips.ensures in (
-      room a.kind a.rate a.n _ _ _ from long start.requires.0,
-      usable a.kind a.rate a.n _ _ _ from long start.requires.1,
-      start.requires.3.small,
+    let a = c.args in
+    let long = lent_long a.n a.octets.now c.requires.2 in
+    let from = c.front_chips-from.ensures in (
+      room a.kind a.rate a.n _ _ _ from long c.requires.0,
+      usable a.kind a.rate a.n _ _ _ from long c.requires.1,
+      c.requires.3.small,
       numbers a.kind a.rate a.n _ _ _ from long
           (omega (
             arith,
-            start.requires.0,
+            c.requires.0,
             recording_fits a.rec a.row.now a.bytes.now a.i.now a.q.now (2 ^ 64)
-                start.well-formed.1.0.0 start.well-formed.1.1.0.0 start.well-formed.1.1.1.0.0,
+                c.well_formed.1.0.0 c.well_formed.1.1.0.0 c.well_formed.1.1.1.0.0,
           )),
     )
 
-returns : tie.Need-returns
+returns : tie.Need-returns-in-At
 returns c =
-    let told = c.before.before.before.before.before.before in
-    let call = told.before.before.before.before.before.hear-octets in
-    let start = told.before.before.before.before.before.before.before.before.before.before.before.before in
-    let a = start.args in
+    let both = (let call = c.hear_octets-part in
+    let a = c.args in
     odd a.kind a.rate a.n _ _ a.line a.least _ a.octets.now
-    call.new.1.1.1.1.1.1.1.1.1.1.0 start.requires.3
-    told.before.before.before.before.before.before.before.front-chips.ensures
-    start.requires.2 start.requires.4 start.requires.5 call.ensures
-    _ _ c.before.before.before.before.before.odd.given.1
-    call.auto.1.1.1.1.1.1.1.1.1.1.0 c.before.before.fill.ensures
+    call.new.out c.requires.3
+    c.front_chips-from.ensures
+    c.requires.2 c.requires.4 c.requires.5 call.ensures
+    _ _ c.in-At.is
+    call.auto.out c.fill.ensures) in record { answer = both.0; least = both.1; octets = both.2 }
 
-returns_2 : tie.Need-returns-2
+returns_2 : tie.Need-returns-in-Nothing
 returns_2 c =
-    let told = c.before in
-    let call = told.before.before.before.before.before.hear-octets in
-    let start = told.before.before.before.before.before.before.before.before.before.before.before.before in
-    let a = start.args in
+    let both = (let call = c.hear_octets-part in
+    let a = c.args in
     good a.kind a.rate a.n _ _ a.line a.least _ a.octets.now
-    call.new.1.1.1.1.1.1.1.1.1.1.0 start.requires.3
-    told.before.before.before.before.before.before.before.front-chips.ensures
-    start.requires.2 start.requires.4 start.requires.5 call.ensures
-    c.enum_told.given.1
+    call.new.out c.requires.3
+    c.front_chips-from.ensures
+    c.requires.2 c.requires.4 c.requires.5 call.ensures
+    c.in-Nothing.is) in record { answer = both.0; least = both.1; octets = both.2 }
 
 pub hear_payload_spec : {M : Type 1} → statement M
 hear_payload_spec =
     tie.close
     (tie.spec
-    (λ c κs. search rules) (λ c. search rules) (λ c. search rules) (λ c. search rules)
-    hear_octets_requires (λ c. search rules) (λ c κs. search rules) (λ c. search rules) (λ c. search rules) returns
-    (λ c. search rules) returns_2)
+    (λ c κs. search rules) (λ c. search rules) (λ c. search rules) (λ c. search rules) hear_octets_requires
+    (λ c. search rules) (λ c κs. search rules) (λ c. search rules) (λ c. search rules) returns (λ c. search rules)
+    returns_2)

@@ -3,11 +3,12 @@ use borrow.Author.Rules.{rules}
 use Rattle.read_frames.proofs.payload.heard.Statement.{statement}
 use Rattle.read_frames.proofs.payload.heard.Tie as tie
 
-returns : tie.Need-returns
-returns c = rw c.before.odd.given.1
+returns : tie.Need-returns-in-At
+returns c = rw c.in-At.is
 
-returns_2 : tie.Need-returns-2
-returns_2 c = rw c.enum_told.given.1
+returns_2 : tie.Need-returns-in-Nothing
+returns_2 c = rw c.in-Nothing.is
 
 pub heard_spec : {M : Type 1} → statement M
-heard_spec = tie.close (tie.spec (λ c. search rules) (λ c. search rules) returns returns_2)
+heard_spec = tie.close (tie.spec
+    (λ c. search rules) (λ c. search rules) returns returns_2)

@@ -49,27 +49,25 @@ module _ (k : Kind) (r : Rate) (from : ℕ) (e : r ≡ header_rate k) (f : from 
       subst (λ (i : ℕ). PartHeard (header_rate k) i 6 rec l (i / 11) b h out) f
       (subst (λ (s : Rate). PartHeard s from 6 rec l (from / 11) b h out) e z)
 
-hear_octets_requires : tie.Need-hear-octets-requires
+hear_octets_requires : tie.Need-hear_octets-behind-requires
 hear_octets_requires c κs =
-    let start = c.before.before.before.before.before.before.before.before.before.before.before in
-    let k = start.args.kind in
-    let e = c.before.before.header-rate.ensures in
-    let f = c.before.preamble-chips.ensures in (
-      omega (arith, ends k _ _ e f, start.requires.0),
-      usable k _ _ e f _ start.requires.1,
-      c.before.before.before.before.before.before.before.hear-preamble.ensures.line.small,
-      omega (arith, ends k _ _ e f, few_symbols c.before.before.header-rate.result 6, few k _ _ e f),
+    let k = c.args.kind in
+    let e = c.header_rate-rate.ensures in
+    let f = c.preamble_chips-from.ensures in (
+      omega (arith, ends k _ _ e f, c.requires.0),
+      usable k _ _ e f _ c.requires.1,
+      c.hear_preamble-preamble.ensures.line.small,
+      omega (arith, ends k _ _ e f, few_symbols c.header_rate-rate.result 6, few k _ _ e f),
     )
 
 returns : tie.Need-returns
 returns c =
-    let first = c.before.before.before.before.before.before.before.before.before.before.before in
-    let k = first.before.before.before.before.args.kind in
-    front_known k _ _ _ _ _ first.hear-preamble.ensures
-    (part k _ _ c.before.before.before.before.before.before.header-rate.ensures
-    c.before.before.before.before.before.preamble-chips.ensures _ _ _ _ _
-    c.before.before.before.hear-octets.ensures)
-    c.before.joined.ensures
+    let k = c.args.kind in
+    front_known k _ _ _ _ _ c.hear_preamble-preamble.ensures
+    (part k _ _ c.header_rate-rate.ensures
+    c.preamble_chips-from.ensures _ _ _ _ _
+    c.hear_octets-behind.ensures)
+    c.joined-part.ensures
 
 pub hear_front_spec : {M : Type 1} → statement M
 hear_front_spec =

@@ -6,14 +6,15 @@ use Rattle.read_fronts.proofs.heard.hear_preamble.Tie as tie
 
 returns : tie.Need-returns
 returns c =
-    let call = c.before.before.hear-sync in
+    let call = c.hear_sync-part in
     record {
-      line = call.ensures.0;
-      sfd = preamble_sfd c.before.before.before.before.before.before.before.args.kind _ _ _
-          call.ensures.1.1 c.behind-sync.ensures;
-      least = call.ensures.1.0;
+      line = call.ensures.answer;
+      sfd = preamble_sfd c.args.kind _ _ _
+          call.ensures.octets c.behind_sync-sfd.ensures;
+      least = call.ensures.least;
     }
 
 pub hear_preamble_spec : {M : Type 1} → statement M
 hear_preamble_spec =
-    tie.close (tie.spec (λ c. search rules) (λ c κs. search rules) (λ c κs. search rules) returns)
+    tie.close (tie.spec
+    (λ c. search rules) (λ c κs. search rules) (λ c κs. search rules) returns)

@@ -30,74 +30,67 @@ few Long = omega arith
 few Short = omega arith
 
 -- how long the row is once the first block is heard
-long : (c : tie.After-hear) → length c.hear.new.1.1.1.1.1.1.0 ≡ 18
-long c = c.hear.auto.1.1.1.1.1.1.0
-    ∙ c.before.before.before.before.before.before.before.before.before.before.requires.2
+long : (c : tie.After-hear-first) → length c.hear-first.new.out ≡ 18
+long c = c.hear-first.auto.out
+    ∙ c.requires.2
 
 decide_requires : tie.Need-decide-requires
 decide_requires c κs =
-    let start = c.before.before.before.before.before.before in
-    let room = first_room start.args.kind _ start.requires.0 in
-    (omega arith, room, usable_part 0 704 start.requires.1 (first_room start.args.kind _ (omega arith)), refl, refl)
+    let room = first_room c.args.kind _ c.requires.0 in
+    (omega arith, room, usable_part 0 704 c.requires.1 (first_room c.args.kind _ (omega arith)), refl, refl)
 
-hear_requires : tie.Need-hear-requires
+hear_requires : tie.Need-hear-first-requires
 hear_requires c κs =
-    let start = c.before.before.before.before.before.before.before.before.before in
-    let a = start.args in
-    let d = c.before.before.decide.ensures.0 in (
+    let a = c.args in
+    let d = c.decide.ensures.numbers in (
       omega arith,
-      omega (arith, start.requires.2),
+      omega (arith, c.requires.2),
       omega arith,
-      rw c.before.first-line.ensures.at_phase (decided_small _ _ d _ (omega arith)),
+      rw c.first_line-line.ensures.at_phase (decided_small _ _ d _ (omega arith)),
       d.long,
       block_are_words One 8 8 refl
           (recording_of a.rec a.row.now a.bytes.now a.i.now a.q.now) 0 _ d (omega arith),
     )
 
-least_of_requires : tie.Need-least-of-requires
+least_of_requires : tie.Need-least_of-least-requires
 least_of_requires c κs =
-    (omega arith, omega arith, c.before.before.before.before.before.before.decide.ensures.1.long)
+    (omega arith, omega arith, c.decide.ensures.leads.long)
 
 -- the rest of the row
-within : (c : tie.After-l) → (8 ≤ c.before.preamble-octets.result) × (c.before.preamble-octets.result ≤ 18)
+within : (c : tie.After-l-1) → (8 ≤ c.preamble_octets-count.result) × (c.preamble_octets-count.result ≤ 18)
 within c =
-    let heard = c.before.before.before.before.before.before in
-    counted heard.before.before.before.before.before.before.before.before.before.before.args.kind _
-    c.before.preamble-octets.ensures
+    counted c.args.kind _
+    c.preamble_octets-count.ensures
 
-hear_octets_requires : tie.Need-hear-octets-requires
+hear_octets_requires : tie.Need-hear_octets-rest-requires
 hear_octets_requires c κs =
-    let heard = c.before.before.before.before.before.before.before in
-    let start = heard.before.before.before.before.before.before.before.before.before.before in
-    let a = start.args in
-    let rest = rest_lent a.kind heard.hear.new.1.1.1.1.1.1.0 _ (long heard)
-    c.before.before.preamble-octets.ensures in (
-      rest_room a.kind _ _ rest start.requires.0,
-      usable_part 704 _ start.requires.1 (rest_room a.kind _ _ rest (omega arith)),
-      heard.hear.ensures.0.small,
+    let a = c.args in
+    let rest = rest_lent a.kind c.hear-first.new.out _ (long c.before.before.before.before.before.before.before)
+    c.preamble_octets-count.ensures in (
+      rest_room a.kind _ _ rest c.requires.0,
+      usable_part 704 _ c.requires.1 (rest_room a.kind _ _ rest (omega arith)),
+      c.hear-first.ensures.answer.small,
       rw rest (few a.kind),
     )
 
 returns : tie.Need-returns
 returns c =
-    let heard = c.before.before.before.before.before.before.before.before.before.before.before in
-    let start = heard.before.before.before.before.before.before.before.before.before.before in
-    let a = start.args in
-    let count = c.before.before.before.before.before.before.preamble-octets.ensures in
-    let decided = heard.before.before.before.decide.ensures in
+    let both = (let a = c.args in
+    let count = c.preamble_octets-count.ensures in
+    let decided = c.decide.ensures in
     sync_heard a.kind (recording_of a.rec a.row.now a.bytes.now a.i.now a.q.now)
     _ _ _ _ _ _ _ _ _ _ _ _
-    decided.0 decided.1 c.before.before.before.before.before.before.before.least-of.ensures
-    heard.before.before.first-line.ensures heard.hear.ensures.0 heard.hear.ensures.1
-    (rest_lent a.kind heard.hear.new.1.1.1.1.1.1.0 _ (long heard) count) count
-    c.before.before.before.hear-octets.ensures
-    c.joined.ensures
+    decided.0 decided.1 c.least_of-least.ensures
+    c.first_line-line.ensures c.hear-first.ensures.answer c.hear-first.ensures.out
+    (rest_lent a.kind c.hear-first.new.out _ (long c.before.before.before.before.before.before.before.before.before.before.before) count) count
+    c.hear_octets-rest.ensures
+    c.joined.ensures) in record { answer = both.0; least = both.1; octets = both.2 }
 
 pub hear_sync_spec : {M : Type 1} → statement M
 hear_sync_spec =
     tie.close
     (tie.spec
-    decide_requires (λ c. search rules) (λ c κs. search rules) hear_requires least_of_requires (λ c κs. search rules)
-    (λ c. (within c).0) (λ c. omega (arith, within c))
-    (λ c. omega (arith, within c, long c.before.before.before.before.before.before))
-    hear_octets_requires (λ c κs. search rules) (λ c. search rules) returns)
+    decide_requires (λ c. search rules) (λ c κs. search rules) hear_requires least_of_requires
+    (λ c κs. search rules) (λ c. (within c).0) (λ c. omega (arith, within c))
+    (λ c. omega (arith, within c, long c.before.before.before.before.before.before)) hear_octets_requires
+    (λ c κs. search rules) (λ c. search rules) returns)

@@ -9,38 +9,37 @@ use borrow.Author.Rules.{rules}
 use Rattle.receive_calls.proofs.feeding.feed_all.Statement.{statement}
 use Rattle.receive_calls.proofs.feeding.feed_all.Tie as tie
 
-abbrev invariant_loop : tie.invariant-loop
+abbrev invariant_loop : tie.invariant-loop-at
 invariant_loop octets₀ batch n hold₀ preamble₀ header₀ p₀ at₀ octets hold preamble header p at =
     Gone p₀ hold₀ preamble₀ header₀ octets₀ batch at p hold preamble header octets
 
-abbrev decreases_loop : tie.decreases-loop
+abbrev decreases_loop : tie.decreases-loop-at
 decreases_loop octets₀ batch n hold₀ preamble₀ header₀ p₀ at₀ octets hold preamble header p at = n - at
 
-loop_holds : tie.Need-loop-init invariant_loop decreases_loop
+loop_holds : tie.Need-loop-at-init invariant_loop decreases_loop
 loop_holds c =
-    let start = c.before.before.before.before.before.before in
-    let a = start.args in
+    let a = c.args in
     gone_none a.s.progress a.s.hold a.s.preamble a.s.header a.octets.now a.batch.now
-    start.requires (sym (length-map a.s.hold (λ v. v)) ∙ start.well-formed.0.1.1.1.0.1.0.1)
-    (sym (length-map a.s.preamble (λ v. v)) ∙ start.well-formed.0.1.1.1.1.0.1.0.1)
-    (sym (length-map a.s.header (λ v. v)) ∙ start.well-formed.0.1.1.1.1.1.0.1.0.1)
+    c.requires (sym (length-map a.s.hold (λ v. v)) ∙ c.well_formed.0.1.1.1.0.1.0.1)
+    (sym (length-map a.s.preamble (λ v. v)) ∙ c.well_formed.0.1.1.1.1.0.1.0.1)
+    (sym (length-map a.s.header (λ v. v)) ∙ c.well_formed.0.1.1.1.1.1.0.1.0.1)
 
-next_piece_requires : tie.Need-next-piece-requires invariant_loop decreases_loop
+next_piece_requires : tie.Need-next_piece-q-requires invariant_loop decreases_loop
 next_piece_requires c κs =
-    let x = c.before.before.before.before.before.before.loop.invariant in
+    let x = c.loop-at.invariant in
     (x.takes_more_lem, x.hold_long, x.preamble_long, x.header_long)
 
 -- in a turn
-abbrev call : tie.After-struct-known invariant_loop decreases_loop → tie.After-next-piece invariant_loop decreases_loop
+abbrev call : tie.After-struct_known-1 invariant_loop decreases_loop → tie.After-next_piece-q invariant_loop decreases_loop
 call c = c.before.before.before.before.before.before.before
 
-abbrev turn : tie.After-struct-known invariant_loop decreases_loop → tie.In-loop invariant_loop decreases_loop
+abbrev turn : tie.After-struct_known-1 invariant_loop decreases_loop → tie.In-loop-at invariant_loop decreases_loop
 turn c = (call c).before.before.before.before.before.before
 
-abbrev begun : tie.At-loop invariant_loop decreases_loop → tie.Start invariant_loop decreases_loop
+abbrev begun : tie.At-loop-at invariant_loop decreases_loop → tie.Start invariant_loop decreases_loop
 begun c = c.before.before.before.before.before.before.before
 
-add_at : tie.Need-overflow-add-at invariant_loop decreases_loop
+add_at : tie.Need-overflow_add-at invariant_loop decreases_loop
 add_at c =
     let at = (turn c).before in
     let batch = (begun at).args.batch.now in
@@ -49,7 +48,7 @@ add_at c =
     let long = rest_long batch at.loop.at at.loop.inv.within in
     record { fits = omega (arith, y.most, long, at.loop.inv.within, small) }
 
-loop_less : tie.Need-loop-smaller invariant_loop decreases_loop
+loop_less : tie.Need-loop-at-smaller invariant_loop decreases_loop
 loop_less c =
     let at = (turn c).before in
     let batch = (begun at).args.batch.now in
@@ -58,25 +57,25 @@ loop_less c =
     let here = (turn c).loop-test.true in
     omega (arith, y.some_taken (omega (arith, long, here)), here)
 
-loop_again : tie.Need-loop-preserved invariant_loop decreases_loop
+loop_again : tie.Need-loop-at-preserved invariant_loop decreases_loop
 loop_again c =
     let at = (turn c).before in
     gone_more _ _ _ _ _ (begun at).args.batch.now at.loop.at _ _ _ _ _ at.loop.inv _ _ _ _ _
     (call c).next-piece.ensures
 
-same_length : tie.Need-same-length invariant_loop decreases_loop
-same_length c = c.before.loop.invariant.long
+same_length : tie.Need-shape_of-octets invariant_loop decreases_loop
+same_length c = c.loop-at.invariant.long
 
 returns : tie.Need-returns invariant_loop decreases_loop
 returns c =
-    let at = c.before in
-    let a = (begun at).args in
-    gone_all a.s a.octets.now a.batch.now at.loop.at at.loop.p at.loop.hold at.loop.preamble
-    at.loop.header at.loop.octets (omega (arith, c.loop-test.false)) at.loop.invariant
+    let a = (begun c).args in
+    gone_all a.s a.octets.now a.batch.now c.loop-at.at c.loop-at.p c.loop-at.hold c.loop-at.preamble
+    c.loop-at.header c.loop-at.octets (omega (arith, c.loop-at-test.false)) c.loop-at.invariant
 
 pub feed_all_spec : {M : Type 1} → statement M
 feed_all_spec =
     tie.close
     (tie.spec
-    invariant_loop decreases_loop loop_holds (λ c. search rules) (λ c. search rules) (λ c. search rules) (λ c. search rules)
-    (λ c. search rules) (λ c. search rules) next_piece_requires add_at loop_less loop_again same_length returns)
+    invariant_loop decreases_loop loop_holds (λ c. search rules) (λ c. search rules) (λ c. search rules)
+    (λ c. search rules) (λ c. search rules) (λ c. search rules) next_piece_requires add_at loop_less loop_again
+    same_length returns)

@@ -10,28 +10,26 @@ use borrow.Author.Rules.{rules}
 use Rattle.receive_calls.proofs.feeding.next_front.Statement.{statement}
 use Rattle.receive_calls.proofs.feeding.next_front.Tie as tie
 
-front_piece_requires : tie.Need-front-piece-requires
+front_piece_requires : tie.Need-front_piece-q-requires
 front_piece_requires c κs =
-    let kind = c.before.before.before in
-    let start = kind.before.before.before.before.before in
-    let p = start.args.p in (
-      subst (λ (k : Kind). p.count < front_chips k) (sym kind.kind_of_lem.ensures)
-          (takes_front p p.room start.requires.0 start.requires.1).short,
-      start.requires.2,
-      start.requires.3,
-      start.requires.4,
-      takes_phase p p.room start.requires.0,
-      takes_last p p.room start.requires.0,
+    let p = c.args.p in (
+      subst (λ (k : Kind). p.count < front_chips k) (sym c.kind_of-kind.ensures)
+          (takes_front p p.room c.requires.0 c.requires.1).short,
+      c.requires.2,
+      c.requires.3,
+      c.requires.4,
+      takes_phase p p.room c.requires.0,
+      takes_last p p.room c.requires.0,
     )
 
 -- the call, once the front's chips are counted
-abbrev call : tie.After-struct-known → tie.After-front-piece
+abbrev call : tie.After-struct_known-1 → tie.After-front_piece-q
 call c = c.before.before.before.before.before.before.before.before.before
 
-abbrev begun : tie.After-front-piece → tie.After-kind-of
+abbrev begun : tie.After-front_piece-q → tie.After-kind_of-kind
 begun c = c.before.before.before.before
 
-returns : tie.Need-returns
+returns : tie.Need-returns-then-progress-front_chips
 returns c =
     let piece = call c.before in
     let kind = begun piece in
@@ -39,18 +37,17 @@ returns c =
     let a = start.args in
     front_stays a.p _ a.hold.now a.preamble.now a.header.now a.rest.now piece.front-piece.result
     _ _ _ start.pre.1 kind.kind_of_lem.ensures piece.front-piece.ensures
-    (subst (λ (n : ℕ). piece.front-piece.result.progress.count < n) c.before.before.front-chips.ensures
-    c.if1.true)
+    (subst (λ (n : ℕ). piece.front-piece.result.progress.count < n) c.front_chips.ensures
+    c.if-progress-front_chips.true)
 
-front_told_requires : tie.Need-front-told-requires
+front_told_requires : tie.Need-front_told-progress-requires
 front_told_requires c κs =
-    let test = c.before.before in
-    let piece = call test.before in
+    let piece = call c.before in
     let kind = begun piece in
     let start = kind.before.before.before.before.before in
     let a = start.args in
     let x = piece.front-piece.ensures in (
-      omega (arith, x.count_is, x.within, test.if1.false, test.before.before.front-chips.ensures),
+      omega (arith, x.count_is, x.within, c.if-progress-front_chips.false, c.front_chips.ensures),
       ap is_kind x.kind_is ∙ (takes_front a.p a.p.room start.pre.0 start.pre.1).is_kind_lem,
       ap kind_of x.kind_is ∙ sym kind.kind_of_lem.ensures,
       x.preamble_long ∙ start.pre.3,
@@ -59,17 +56,16 @@ front_told_requires c κs =
       x.last_small,
     )
 
-returns_2 : tie.Need-returns-2
+returns_2 : tie.Need-returns
 returns_2 c =
-    let test = c.before.before.before in
-    let piece = call test.before in
+    let piece = call c.before.before in
     let kind = begun piece in
     let start = kind.before.before.before.before.before in
     let a = start.args in
     front_ends a.p _ a.hold.now a.preamble.now a.header.now a.rest.now piece.front-piece.result
     _ _ _ start.pre.1 kind.kind_of_lem.ensures piece.front-piece.ensures _
-    (subst (λ (n : ℕ). n ≤ piece.front-piece.result.progress.count) test.before.before.front-chips.ensures
-    test.if1.false) c.front_told.ensures
+    (subst (λ (n : ℕ). n ≤ piece.front-piece.result.progress.count) c.front_chips.ensures
+    c.if-progress-front_chips.false) c.front_told-progress.ensures
 
 pub next_front_spec : {M : Type 1} → statement M
 next_front_spec =

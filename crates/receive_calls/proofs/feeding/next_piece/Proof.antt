@@ -5,42 +5,31 @@ use borrow.Author.Rules.{rules}
 use Rattle.receive_calls.proofs.feeding.next_piece.Statement.{statement}
 use Rattle.receive_calls.proofs.feeding.next_piece.Tie as tie
 
-next_front_requires : tie.Need-next-front-requires
+next_front_requires : tie.Need-next_front-requires
 next_front_requires c κs =
-    let test = c.before.before.before in
-    let start = test.before.before.before.before.before.before in
-    (takes_own start.args.p _ start.requires.0, test.if1.true, start.requires.1, start.requires.2, start.requires.3)
+    (takes_own c.args.p _ c.requires.0, c.if-status-eq1.true, c.requires.1, c.requires.2, c.requires.3)
 
-returns : tie.Need-returns
+returns : tie.Need-returns-then-status-eq1
 returns c =
-    let call = c.before.before.before.before.before.before in
-    let start = call.before.before.before.before.before.before.before.before.before.before in
-    call.next-front.ensures start.args.octets.now start.requires.0
+    c.next_front.ensures c.args.octets.now c.requires.0
 
-payload_piece_requires : tie.Need-payload-piece-requires
+payload_piece_requires : tie.Need-payload_piece-requires
 payload_piece_requires c κs =
-    let rate = c.before.before in
-    let kind = rate.before in
-    let test = kind.before in
-    let start = test.before.before.before.before.before.before.before in
-    let p = start.args.p in (
-      paid_of p _ _ _ start.requires.0 test.if2.true kind.kind_of_lem.ensures rate.rate_of_lem.ensures,
-      takes_room p _ start.requires.0,
-      start.requires.1,
+    let p = c.args.p in (
+      paid_of p _ _ _ c.requires.0 c.if-status-eq2.true c.kind_of-kind.ensures c.rate_of-rate.ensures,
+      takes_room p _ c.requires.0,
+      c.requires.1,
     )
 
-returns_2 : tie.Need-returns-2
+returns_2 : tie.Need-returns-then-status-eq2
 returns_2 c =
-    let call = c.before.before.before.before in
-    let start = call.before.before.before.before.before.before.before.before.before.before.before.before in
-    call.payload-piece.ensures start.args.preamble.now start.args.header.now
+    c.payload_piece.ensures c.args.preamble.now c.args.header.now
 
-returns_3 : tie.Need-returns-3
+returns_3 : tie.Need-returns
 returns_3 c =
-    let start = c.before.before.before.before.before.before.before in
-    let a = start.args in
-    stays_some a.p a.hold.now a.preamble.now a.header.now a.octets.now a.rest.now start.requires.0
-    (takes_stays a.p _ start.requires.0 c.before.if1.false c.if2.false)
+    let a = c.args in
+    stays_some a.p a.hold.now a.preamble.now a.header.now a.octets.now a.rest.now c.requires.0
+    (takes_stays a.p _ c.requires.0 c.if-status-eq1.false c.if-status-eq2.false)
 
 pub next_piece_spec : {M : Type 1} → statement M
 next_piece_spec =

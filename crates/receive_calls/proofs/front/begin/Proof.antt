@@ -57,23 +57,20 @@ begun k row numbers leads l least d s x f =
 
 decide_requires : tie.Need-decide-requires
 decide_requires c κs =
-    let first = c.before.before.before.before.before.before.before in
-    let row = first.args.row.now in
-    let usable = all_usable row first.requires.0 first.requires.1 in
-    (omega arith, omega (arith, first.requires, length_hard row), usable, refl, refl)
+    let row = c.args.row.now in
+    let usable = all_usable row c.requires.0 c.requires.1 in
+    (omega arith, omega (arith, c.requires, length_hard row), usable, refl, refl)
 
-first_line_requires : tie.Need-first-line-requires
+first_line_requires : tie.Need-first_line-line-requires
 first_line_requires c κs = search rules
 
-least_of_requires : tie.Need-least-of-requires
-least_of_requires c κs = (omega arith, omega arith, c.before.before.decide.ensures.1.long)
+least_of_requires : tie.Need-least_of-least-requires
+least_of_requires c κs = (omega arith, omega arith, c.decide.ensures.leads.long)
 
 returns : tie.Need-returns
 returns c =
-    let heard = c.before.before.before in
-    let first = heard.before.before.before.before.before.before.before.before in
-    begun first.args.kind first.args.row.now _ _ _ _ heard.decide.ensures.0 heard.decide.ensures.1
-    c.before.before.first-line.ensures c.least-of.ensures
+    begun c.args.kind c.args.row.now _ _ _ _ c.decide.ensures.numbers c.decide.ensures.leads
+    c.first_line-line.ensures c.least_of-least.ensures
 
 pub begin_spec : {M : Type 1} → statement M
 begin_spec =

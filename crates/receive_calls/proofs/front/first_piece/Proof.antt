@@ -7,55 +7,39 @@ use Rattle.receive_calls.proofs.Firsts.{place_fits, first_row, first_bad, first_
 use Rattle.receive_calls.proofs.front.first_piece.Statement.{statement}
 use Rattle.receive_calls.proofs.front.first_piece.Tie as tie
 
-add_advance : tie.Need-overflow-add-advance
+add_advance : tie.Need-overflow_add-place
 add_advance c =
-    let b = place_fits _ _ c.before.found.given.1 c.before.before.before.unusable-from.ensures.1 in
+    let b = place_fits _ _ c.in-At.is c.unusable_from-found.ensures.few in
     record { fits = omega (arith, b) }
 
-begin_requires : tie.Need-begin-requires
+begin_requires : tie.Need-begin-start-requires
 begin_requires c κs =
-    let u = c.before.before.before in
-    let put = u.before.before.before.before.before in
-    let least = put.before.before.before in
-    let start = least.before.before.before.before in
-    let a = start.args in
-    first_row a.kind a.p least.at-most.result _ a.hold.now a.rest.now put.put.new.1.0
-    start.requires least.at-most.ensures refl put.put.ensures _ u.unusable-from.ensures.0
-    c.before.enum_told.given.1 c.if1.false
+    let a = c.args in
+    first_row a.kind a.p c.at_most-taken.result _ a.hold.now a.rest.now c.put.new.out
+    c.requires c.at_most-taken.ensures refl c.put.ensures _ c.unusable_from-found.ensures.answer
+    c.in-Nothing.is c.if-n-lt11.false
 
-returns : tie.Need-returns
+returns : tie.Need-returns-then-n-lt11
 returns c =
-    let u = c.before.before.before.before in
-    let put = u.before.before.before.before.before in
-    let least = put.before.before.before in
-    let start = least.before.before.before.before in
-    let a = start.args in
-    first_held a.kind a.p least.at-most.result _ a.hold.now a.rest.now put.put.new.1.0
-    start.requires least.at-most.ensures refl put.put.ensures _ u.unusable-from.ensures.0
-    c.before.before.enum_told.given.1 _ _ c.advance2.ensures c.before.if1.true refl
+    let a = c.args in
+    first_held a.kind a.p c.at_most-taken.result _ a.hold.now a.rest.now c.put.new.out
+    c.requires c.at_most-taken.ensures refl c.put.ensures _ c.unusable_from-found.ensures.answer
+    c.in-Nothing.is _ _ c.advance-progress-then-n-lt11.ensures c.if-n-lt11.true refl
 
-returns_2 : tie.Need-returns-2
+returns_2 : tie.Need-returns-in-At
 returns_2 c =
-    let u = c.before.before.before.before in
-    let put = u.before.before.before.before.before in
-    let least = put.before.before.before in
-    let start = least.before.before.before.before in
-    let a = start.args in
-    first_bad a.kind a.p least.at-most.result _ a.hold.now a.rest.now put.put.new.1.0
-    start.requires least.at-most.ensures refl put.put.ensures _ u.unusable-from.ensures.0
-    _ _ c.before.before.found.given.1 c.advance.ensures
+    let a = c.args in
+    first_bad a.kind a.p c.at_most-taken.result _ a.hold.now a.rest.now c.put.new.out
+    c.requires c.at_most-taken.ensures refl c.put.ensures _ c.unusable_from-found.ensures.answer
+    _ _ c.in-At.is c.advance-progress.ensures
 
-returns_3 : tie.Need-returns-3
+returns_3 : tie.Need-returns-else-n-lt11
 returns_3 c =
-    let u = c.before.before.before.before.before in
-    let put = u.before.before.before.before.before in
-    let least = put.before.before.before in
-    let start = least.before.before.before.before in
-    let a = start.args in
-    first_done a.kind a.p least.at-most.result _ a.hold.now a.rest.now put.put.new.1.0
-    start.requires least.at-most.ensures refl put.put.ensures _ u.unusable-from.ensures.0
-    c.before.before.before.enum_told.given.1 _ _ c.advance3.ensures c.before.before.if1.false
-    c.before.begin.ensures
+    let a = c.args in
+    first_done a.kind a.p c.at_most-taken.result _ a.hold.now a.rest.now c.put.new.out
+    c.requires c.at_most-taken.ensures refl c.put.ensures _ c.unusable_from-found.ensures.answer
+    c.in-Nothing.is _ _ c.advance-progress-in-Nothing.ensures c.if-n-lt11.false
+    c.begin-start.ensures
 
 pub first_piece_spec : {M : Type 1} → statement M
 first_piece_spec =

@@ -42,65 +42,50 @@ header_few k r from count e f h = by k (rw (e, f) at h)
 
 pass_requires : tie.Need-pass-requires
 pass_requires c κs =
-    let front = c.before.before in
-    let start = front.before.before.before.before.before in
-    left_few start.args.kind _ _ front.front-chips.ensures start.requires.0
+    left_few c.args.kind _ _ c.front_chips-front.ensures c.requires.0
 
-pass_requires_2 : tie.Need-pass-requires-2
+pass_requires_2 : tie.Need-pass-requires-then-p-ne0-2
 pass_requires_2 c κs =
-    let front = c.before.before.before.before in
-    let start = front.before.before.before.before.before in
-    left_few start.args.kind _ _ front.front-chips.ensures start.requires.0
+    left_few c.args.kind _ _ c.front_chips-front.ensures c.requires.0
 
-returns : tie.Need-returns
+returns : tie.Need-returns-then-p-ne0
 returns c =
-    let front = c.before.before.before in
-    let start = front.before.before.before.before.before in
-    let a = start.args in
-    front_passes a.kind a.p a.hold.now a.preamble.now a.header.now a.rest.now _ _ start.requires.0
-    (ap (λ (n : ℕ). n - a.p.count) front.front-chips.ensures) start.requires.4 start.requires.5 c.pass.ensures
-    (λ e f. c.before.if1.true e)
+    let a = c.args in
+    front_passes a.kind a.p a.hold.now a.preamble.now a.header.now a.rest.now _ _ c.requires.0
+    (ap (λ (n : ℕ). n - a.p.count) c.front_chips-front.ensures) c.requires.4 c.requires.5 c.pass.ensures
+    (λ e f. c.if-p-ne0.true e)
 
-returns_2 : tie.Need-returns-2
+returns_2 : tie.Need-returns-then-p-ne0-2
 returns_2 c =
-    let front = c.before.before.before.before.before in
-    let start = front.before.before.before.before.before in
-    let a = start.args in
-    front_passes a.kind a.p a.hold.now a.preamble.now a.header.now a.rest.now _ _ start.requires.0
-    (ap (λ (n : ℕ). n - a.p.count) front.front-chips.ensures) start.requires.4 start.requires.5 c.pass2.ensures
-    (λ e f. c.before.if2.true f)
+    let a = c.args in
+    front_passes a.kind a.p a.hold.now a.preamble.now a.header.now a.rest.now _ _ c.requires.0
+    (ap (λ (n : ℕ). n - a.p.count) c.front_chips-front.ensures) c.requires.4 c.requires.5 c.pass-then-p-ne0-2.ensures
+    (λ e f. c.if-p-ne0-2.true f)
 
-first_piece_requires : tie.Need-first-piece-requires
-first_piece_requires c κs =
-    let even = c.before.before in
-    let clear = even.before.before in
-    let start = clear.before.before.before.before.before.before.before in (
-      c.before.if3.true,
-      clear.if1.false,
-      even.if2.false,
-      start.requires.1,
-      start.requires.4,
-      start.requires.5,
-    )
+first_piece_requires : tie.Need-first_piece-requires
+first_piece_requires c κs = (
+  c.if-count-lt11.true,
+  c.if-p-ne0.false,
+  c.if-p-ne0-2.false,
+  c.requires.1,
+  c.requires.4,
+  c.requires.5,
+)
 
-returns_3 : tie.Need-returns-3
+returns_3 : tie.Need-returns-then-count-lt11
 returns_3 c =
-    let first = c.before.before in
-    let start = first.before.before.before.before.before.before.before.before.before.before.before.before in
-    first.first_piece.ensures start.args.preamble.now start.args.header.now
+    c.first_piece.ensures c.args.preamble.now c.args.header.now
 
--- what is known behind the first symbol
-abbrev begun : tie.After-ear → tie.Start
+-- what is known behind the c symbol
+abbrev begun : tie.After-ear-1 → tie.Start
 begun c =
     c.before.before.before.before.before.before.before.before.before.before.before
 
-take_piece_requires : tie.Need-take-piece-requires
+take_piece_requires : tie.Need-take_piece-t-requires
 take_piece_requires c κs =
-    let n = c.before.before in
-    let from = n.before.before in
-    let start = begun from.before in
-    let asks = preamble_asks start.args.kind _ _ _ start.args.preamble.now n.preamble_count_lem.ensures
-    from.preamble-chips.ensures start.pre.2 n.before.if4.true in (
+    let start = begun c.before.before.before.before.before in
+    let asks = preamble_asks start.args.kind _ _ _ start.args.preamble.now c.preamble_count-n.ensures
+    c.preamble_chips-from.ensures start.pre.2 c.if-count-from.true in (
       omega arith,
       asks.0,
       asks.1,
@@ -114,36 +99,27 @@ take_piece_requires c κs =
 
 keep_requires : tie.Need-keep-requires
 keep_requires c κs =
-    let take = c.before.before.before.before in
-    let n = take.before.before.before in
-    let from = n.before.before in
-    let x = take.take-piece.ensures in (
+    let x = c.take_piece-t.ensures in (
       x.bad_few,
       x.odd_few,
-      preamble_few (begun from.before).args.kind _ _ n.preamble_count_lem.ensures x.within,
+      preamble_few (begun c.before.before.before.before.before.before.before.before.before.before).args.kind _ _ c.preamble_count-n.ensures x.within,
     )
 
-returns_4 : tie.Need-returns-4
+returns_4 : tie.Need-returns-then-count-from
 returns_4 c =
-    let take = c.before.before.before.before.before in
-    let n = take.before.before.before in
-    let from = n.before.before in
-    let even = from.before.before.before in
-    let start = begun from.before in
+    let start = begun c.before.before.before.before.before.before.before.before.before.before.before in
     let a = start.args in
     preamble_keeps a.kind a.p a.hold.now a.preamble.now a.header.now a.rest.now _ _
-    c.keep.ensures even.before.before.if1.false even.if2.false _ _ _ n.preamble_count_lem.ensures
-    from.before.before.if3.false (below _ _ _ from.preamble-chips.ensures n.before.if4.true)
-    take.take-piece.ensures
+    c.keep.ensures c.if-p-ne0.false c.if-p-ne0-2.false _ _ _ c.preamble_count-n.ensures
+    c.if-count-lt11.false (below _ _ _ c.preamble_chips-from.ensures c.if-count-from.true)
+    c.take_piece-t.ensures
 
-take_piece_requires_2 : tie.Need-take-piece-requires-2
+take_piece_requires_2 : tie.Need-take_piece-t-requires-2
 take_piece_requires_2 c κs =
-    let r = c.before.before in
-    let from = r.before.before in
-    let start = begun from.before in
-    let asks = header_asks start.args.kind _ _ _ r.header-rate.ensures from.preamble-chips.ensures
+    let start = begun c.before.before.before.before.before in
+    let asks = header_asks start.args.kind _ _ _ c.header_rate-rate.ensures c.preamble_chips-from.ensures
     start.pre.0 in (
-      r.before.if4.false,
+      c.if-count-from.false,
       asks.0,
       omega (arith, start.pre.3),
       omega arith,
@@ -156,27 +132,20 @@ take_piece_requires_2 c κs =
 
 keep_requires_2 : tie.Need-keep-requires-2
 keep_requires_2 c κs =
-    let take = c.before.before.before.before in
-    let r = take.before.before.before in
-    let from = r.before.before in
-    let x = take.take-piece2.ensures in (
+    let x = c.take_piece-t-2.ensures in (
       x.bad_few,
       x.odd_few,
-      header_few (begun from.before).args.kind _ _ _ r.header-rate.ensures from.preamble-chips.ensures
+      header_few (begun c.before.before.before.before.before.before.before.before.before.before).args.kind _ _ _ c.header_rate-rate.ensures c.preamble_chips-from.ensures
           x.within,
     )
 
-returns_5 : tie.Need-returns-5
+returns_5 : tie.Need-returns
 returns_5 c =
-    let take = c.before.before.before.before.before in
-    let r = take.before.before.before in
-    let from = r.before.before in
-    let even = from.before.before.before in
-    let start = begun from.before in
+    let start = begun c.before.before.before.before.before.before.before.before.before.before.before in
     let a = start.args in
     header_keeps a.kind a.p a.hold.now a.preamble.now a.header.now a.rest.now _ _
-    c.keep2.ensures even.before.before.if1.false even.if2.false _ _ _ _ r.header-rate.ensures
-    from.preamble-chips.ensures r.before.if4.false take.take-piece2.ensures
+    c.keep-2.ensures c.if-p-ne0.false c.if-p-ne0-2.false _ _ _ _ c.header_rate-rate.ensures
+    c.preamble_chips-from.ensures c.if-count-from.false c.take_piece-t-2.ensures
 
 pub front_piece_spec : {M : Type 1} → statement M
 front_piece_spec =

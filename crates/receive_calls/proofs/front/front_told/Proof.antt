@@ -22,59 +22,46 @@ one_less n h = omega (arith, h)
 late : (n : ℕ) → (10 ≤ n) × (n ≤ 15) → (9 ≤ n) × (n ≤ 15)
 late n h = (omega (arith, h.0), h.1)
 
-returns : tie.Need-returns
+returns : tie.Need-returns-then-p-ne0
 returns c =
-    let then = c.before.before in
-    let start = then.before.before.before.before in
-    let a = start.args in
-    told_stays a.kind a.p _ a.preamble.now a.header.now start.requires.5 start.requires.6 _ c.stay.ensures
-    start.requires.1 (omega arith, omega arith)
+    let a = c.args in
+    told_stays a.kind a.p _ a.preamble.now a.header.now c.requires.5 c.requires.6 _ c.stay.ensures
+    c.requires.1 (omega arith, omega arith)
     (λ fed hold at x. stays_unusable a.kind fed a.p hold a.preamble.now a.header.now at x
-    (a.p.bad - 1) (one_less a.p.bad then.if1.true))
+    (a.p.bad - 1) (one_less a.p.bad c.if-p-ne0.true))
 
-returns_2 : tie.Need-returns-2
+returns_2 : tie.Need-returns-then-p-ne0-2
 returns_2 c =
-    let then = c.before.before in
-    let clear = then.before.before in
-    let start = clear.before.before.before.before in
-    let a = start.args in
-    told_stays a.kind a.p _ a.preamble.now a.header.now start.requires.5 start.requires.6 _
-    c.stay2.ensures start.requires.1 (omega arith, omega arith)
-    (λ fed hold at x. stays_odd a.kind fed a.p hold a.preamble.now a.header.now at x clear.if1.false
-    (a.p.odd - 1) (one_less a.p.odd then.if2.true))
+    let a = c.args in
+    told_stays a.kind a.p _ a.preamble.now a.header.now c.requires.5 c.requires.6 _
+    c.stay-then-p-ne0-2.ensures c.requires.1 (omega arith, omega arith)
+    (λ fed hold at x. stays_odd a.kind fed a.p hold a.preamble.now a.header.now at x c.if-p-ne0.false
+    (a.p.odd - 1) (one_less a.p.odd c.if-p-ne0-2.true))
 
-returns_3 : tie.Need-returns-3
+returns_3 : tie.Need-returns-in-Refused
 returns_3 c =
-    let told = c.before.before.before.before in
-    let even = told.before.before.before.before in
-    let clear = even.before.before in
-    let start = clear.before.before.before.before in
-    let a = start.args in
-    told_stays a.kind a.p _ a.preamble.now a.header.now start.requires.5 start.requires.6 _
-    c.stay3.ensures start.requires.1 (late _ (told.told.ensures.1.1 _ c.before.before.told2.given.1))
+    let a = c.args in
+    told_stays a.kind a.p _ a.preamble.now a.header.now c.requires.5 c.requires.6 _
+    c.stay-in-Refused.ensures c.requires.1 (late _ (c.told-opening.ensures.refuses _ c.in-Refused.is))
     (λ fed hold at x.
-    front_tells a.kind fed a.p hold a.preamble.now a.header.now at x clear.if1.false even.if2.false
-    start.requires.4 _ _ _ told.before.before.sfd-of.ensures told.before.header_of.ensures start.requires.5
-    told.told.ensures.0
-    ∙ c.before.before.told2.given.1)
+    front_tells a.kind fed a.p hold a.preamble.now a.header.now at x c.if-p-ne0.false c.if-p-ne0-2.false
+    c.requires.4 _ _ _ c.sfd_of-sfd.ensures c.header_of-header.ensures c.requires.5
+    c.told-opening.ensures.answer
+    ∙ c.in-Refused.is)
 
-returns_4 : tie.Need-returns-4
+returns_4 : tie.Need-returns-in-Fields
 returns_4 c =
-    let told = c.before.before.before.before in
-    let even = told.before.before.before.before in
-    let clear = even.before.before in
-    let start = clear.before.before.before.before in
-    let a = start.args in
-    told_tells a.kind a.p _ a.preamble.now a.header.now start.requires.5 start.requires.6 _
-    c.tell.ensures (told.told.ensures.1.0 _ c.before.before.told3.given.1) start.requires.0 start.requires.1
-    start.requires.2
+    let a = c.args in
+    told_tells a.kind a.p _ a.preamble.now a.header.now c.requires.5 c.requires.6 _
+    c.tell.ensures (c.told-opening.ensures.few _ c.in-Fields.is) c.requires.0 c.requires.1
+    c.requires.2
     (λ fed hold at x. (
-      front_tells a.kind fed a.p hold a.preamble.now a.header.now at x clear.if1.false
-          even.if2.false start.requires.4 _ _ _ told.before.before.sfd-of.ensures
-          told.before.header_of.ensures start.requires.5 told.told.ensures.0
-          ∙ c.before.before.told3.given.1,
-      front_ends a.kind fed a.p hold a.preamble.now a.header.now at x clear.if1.false even.if2.false
-          start.requires.4,
+      front_tells a.kind fed a.p hold a.preamble.now a.header.now at x c.if-p-ne0.false
+          c.if-p-ne0-2.false c.requires.4 _ _ _ c.sfd_of-sfd.ensures
+          c.header_of-header.ensures c.requires.5 c.told-opening.ensures.answer
+          ∙ c.in-Fields.is,
+      front_ends a.kind fed a.p hold a.preamble.now a.header.now at x c.if-p-ne0.false c.if-p-ne0-2.false
+          c.requires.4,
     ))
 
 pub front_told_spec : {M : Type 1} → statement M

@@ -16,8 +16,7 @@ six l e = sym (as_table l 6 0 e)
 
 returns : tie.Need-returns
 returns c =
-    let start = c.before.before.before.before.before.before in
-    six start.args.header.now start.requires
+    six c.args.header.now c.requires
 
 pub header_of_spec : {M : Type 1} → statement M
 header_of_spec =

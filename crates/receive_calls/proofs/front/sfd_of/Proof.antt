@@ -6,17 +6,15 @@ use borrow.Author.Rules.{rules}
 use Rattle.receive_calls.proofs.front.sfd_of.Statement.{statement}
 use Rattle.receive_calls.proofs.front.sfd_of.Tie as tie
 
-returns : tie.Need-returns
+returns : tie.Need-returns-in-Long
 returns c =
-    let start = c.before.before.before.before in
-    rw c.before.before.enum_told.given.1
-    (sym (two_from start.args.preamble.now 16 (omega (arith, start.requires))))
+    rw c.in-Long.is
+    (sym (two_from c.args.preamble.now 16 (omega (arith, c.requires))))
 
-returns_2 : tie.Need-returns-2
+returns_2 : tie.Need-returns-in-Short
 returns_2 c =
-    let start = c.before.before.before.before in
-    rw c.before.before.enum-told2.given.1
-    (sym (two_from start.args.preamble.now 7 (omega (arith, start.requires))))
+    rw c.in-Short.is
+    (sym (two_from c.args.preamble.now 7 (omega (arith, c.requires))))
 
 pub sfd_of_spec : {M : Type 1} → statement M
 sfd_of_spec =

@@ -33,7 +33,8 @@ stays : (p : Progress) (e : Refusal) (x : Record) → x ≡ record_of (reading.R
 stays p e x f = ap (staying p) f
 
 returns : tie.Need-returns
-returns c = stays c.before.args.p c.before.args.e _ c.record_of.ensures
+returns c = stays c.args.p c.args.e _ c.record_of-record.ensures
 
 pub stay_spec : {M : Type 1} → statement M
-stay_spec = tie.close (tie.spec (λ c κs. search rules) returns)
+stay_spec = tie.close (tie.spec
+    (λ c κs. search rules) returns)

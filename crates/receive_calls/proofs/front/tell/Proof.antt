@@ -43,8 +43,8 @@ tells p t rate clock e f = ap₂ {C = Progress} (with p t) e f
 
 returns : tie.Need-returns
 returns c =
-    let start = c.before.before.before in
-    tells start.args.p start.args.t _ _ c.before.code.ensures (clock_byte start.args.t.clock)
+    tells c.args.p c.args.t _ _ c.code.ensures (clock_byte c.args.t.clock)
 
 pub tell_spec : {M : Type 1} → statement M
-tell_spec = tie.close (tie.spec (λ c κs. search rules) (λ c. search rules) returns)
+tell_spec = tie.close (tie.spec
+    (λ c κs. search rules) (λ c. search rules) returns)

@@ -9,15 +9,12 @@ use Rattle.receive_calls.proofs.passing.keep.Tie as tie
 
 returns : tie.Need-returns
 returns c =
-    let known = c.before in
-    let odd = known.before in
-    let bad = odd.before in
-    let a = bad.before.before.before.args in
+    let a = c.args in
     record {
       taken_is = refl;
-      progress_is = c.advance.ensures
+      progress_is = c.advance-progress.ensures
           ∙ ap₂ {C = Progress} (λ x y. advanced a.p (a.p.count + a.t.taken) x y a.t.piece.ear)
-          bad.number_of.ensures odd.number-of2.ensures;
+          c.number_of-bad.ensures c.number_of-odd.ensures;
     }
 
 pub keep_spec : {M : Type 1} → statement M

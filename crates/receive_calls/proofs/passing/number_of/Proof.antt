@@ -19,13 +19,14 @@ number found place e =
     let next : place + 1 ≡ suc place = omega arith in
     next ∙ sym (ap (λ (x : Place). place_number (where_found x)) e)
 
-add_result : tie.Need-overflow-add-result
+add_result : tie.Need-overflow_add-result
 add_result c =
-    let h = below _ _ c.before.found.given.1 c.before.before.before.requires in
+    let h = below _ _ c.in-At.is c.requires in
     record { fits = omega (arith, h) }
 
-returns : tie.Need-returns
-returns c = number _ _ c.before.found.given.1
+returns : tie.Need-returns-in-At
+returns c = number _ _ c.in-At.is
 
 pub number_of_spec : {M : Type 1} → statement M
-number_of_spec = tie.close (tie.spec (λ c. search rules) add_result (λ c. search rules) returns (λ c. search rules))
+number_of_spec = tie.close (tie.spec
+    (λ c. search rules) add_result (λ c. search rules) returns (λ c. search rules))

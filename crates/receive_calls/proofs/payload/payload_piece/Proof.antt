@@ -18,101 +18,89 @@ use borrow.Author.Rules.{rules}
 use Rattle.receive_calls.proofs.payload.payload_piece.Statement.{statement}
 use Rattle.receive_calls.proofs.payload.payload_piece.Tie as tie
 
-abbrev begun : tie.After-frame-chips → tie.Start
+abbrev begun : tie.After-frame_chips-all → tie.Start
 begun c = c.before.before.before.before
 
-frame_chips_requires : tie.Need-frame-chips-requires
-frame_chips_requires c κs = c.before.before.before.requires.0.few
+frame_chips_requires : tie.Need-frame_chips-all-requires
+frame_chips_requires c κs = c.requires.0.few
 
-returns : tie.Need-returns
+returns : tie.Need-returns-then-count-all
 returns c =
     let start = begun c.before in
     let a = start.args in
     way_past a.p a.kind a.rate a.hold.now a.octets.now a.rest.now start.pre.0 start.pre.1
-    (c.if1.true ∙ c.before.frame-chips.ensures)
+    (c.if-count-all.true ∙ c.frame_chips-all.ensures)
 
-sub_left : tie.Need-overflow-sub-left
+sub_left : tie.Need-overflow_sub-left
 sub_left c =
     let start = begun c.before in
     let a = start.args in
-    (left_in a.p a.kind a.rate _ start.pre.0 c.before.frame-chips.ensures).0
+    (left_in a.p a.kind a.rate _ start.pre.0 c.frame_chips-all.ensures).0
 
 pass_requires : tie.Need-pass-requires
 pass_requires c κs =
-    let all = c.before.before in
-    let start = begun all in
+    let start = begun c.before.before in
     let a = start.args in
-    (left_in a.p a.kind a.rate _ start.pre.0 all.frame-chips.ensures).1
+    (left_in a.p a.kind a.rate _ start.pre.0 c.frame_chips-all.ensures).1
 
-returns_2 : tie.Need-returns-2
+returns_2 : tie.Need-returns-then-octets-n
 returns_2 c =
-    let less = c.before.before in
-    let all = less.before in
-    let start = begun all in
+    let start = begun c.before.before.before in
     let a = start.args in
     way_room a.p a.kind a.rate a.hold.now a.octets.now a.rest.now start.pre.0 start.pre.1
-    c.pass.result all.frame-chips.result all.frame-chips.ensures less.if1.false c.pass.ensures
-    c.before.if2.true
+    c.pass.result c.frame_chips-all.result c.frame_chips-all.ensures c.if-count-all.false c.pass.ensures
+    c.if-octets-n.true
 
-pass_requires_2 : tie.Need-pass-requires-2
+pass_requires_2 : tie.Need-pass-requires-then-p-ne0
 pass_requires_2 c κs =
-    let all = c.before.before.before.before in
-    let start = begun all in
+    let start = begun c.before.before.before.before in
     let a = start.args in
-    (left_in a.p a.kind a.rate _ start.pre.0 all.frame-chips.ensures).1
+    (left_in a.p a.kind a.rate _ start.pre.0 c.frame_chips-all.ensures).1
 
-returns_3 : tie.Need-returns-3
+returns_3 : tie.Need-returns-then-p-ne0
 returns_3 c =
-    let fits = c.before.before.before in
-    let less = fits.before in
-    let all = less.before in
-    let start = begun all in
+    let start = begun c.before.before.before.before.before in
     let a = start.args in
     way_certain a.p a.kind a.rate a.hold.now a.octets.now a.rest.now start.pre.0
-    start.pre.1 c.pass2.result all.frame-chips.result all.frame-chips.ensures less.if1.false
-    c.pass2.ensures fits.if2.false (λ b o. c.before.if3.true b)
+    start.pre.1 c.pass-then-p-ne0.result c.frame_chips-all.result c.frame_chips-all.ensures c.if-count-all.false
+    c.pass-then-p-ne0.ensures c.if-octets-n.false (λ b o. c.if-p-ne0.true b)
 
-pass_requires_3 : tie.Need-pass-requires-3
+pass_requires_3 : tie.Need-pass-requires-then-p-ne0-2
 pass_requires_3 c κs =
-    let all = c.before.before.before.before.before.before in
-    let start = begun all in
+    let start = begun c.before.before.before.before.before.before in
     let a = start.args in
-    (left_in a.p a.kind a.rate _ start.pre.0 all.frame-chips.ensures).1
+    (left_in a.p a.kind a.rate _ start.pre.0 c.frame_chips-all.ensures).1
 
-returns_4 : tie.Need-returns-4
+returns_4 : tie.Need-returns-then-p-ne0-2
 returns_4 c =
-    let fits = c.before.before.before.before.before in
-    let less = fits.before in
-    let all = less.before in
-    let start = begun all in
+    let start = begun c.before.before.before.before.before.before.before in
     let a = start.args in
     way_certain a.p a.kind a.rate a.hold.now a.octets.now a.rest.now start.pre.0
-    start.pre.1 c.pass3.result all.frame-chips.result all.frame-chips.ensures less.if1.false
-    c.pass3.ensures fits.if2.false (λ b o. c.before.if4.true o)
+    start.pre.1 c.pass-then-p-ne0-2.result c.frame_chips-all.result c.frame_chips-all.ensures c.if-count-all.false
+    c.pass-then-p-ne0-2.ensures c.if-octets-n.false (λ b o. c.if-p-ne0-2.true o)
 
 -- where no refusal is certain
-abbrev odd : tie.After-front-chips → tie.Else4
+abbrev odd : tie.After-front_chips-from → tie.Else-p-ne0-2
 odd c = c.before.before
 
-abbrev bad : tie.After-front-chips → tie.Else3
-bad c = (odd c).before.before
+abbrev bad : tie.After-front_chips-from → tie.Else-p-ne0
+bad c = c.before.before.before.before
 
-abbrev fits : tie.After-front-chips → tie.Else2
-fits c = (bad c).before.before
+abbrev fits : tie.After-front_chips-from → tie.Else-octets-n
+fits c = c.before.before.before.before.before.before
 
-abbrev less : tie.After-front-chips → tie.Else1
-less c = (fits c).before
+abbrev less : tie.After-front_chips-from → tie.Else-count-all
+less c = c.before.before.before.before.before.before.before
 
-take_piece_requires : tie.Need-take-piece-requires
+take_piece_requires : tie.Need-take_piece-t-requires
 take_piece_requires c κs =
-    let front = c.before.before in
-    let start = begun (less front).before in
+    let start = begun (less c.before.before).before in
     let a = start.args in
-    let e = front.front-chips.ensures in (
+    let e = c.front_chips-from.ensures in (
       subst (λ (n : ℕ). n ≤ a.p.count) (sym e) start.pre.0.from,
-      less_in a.p a.kind a.rate _ _ start.pre.0 (less front).before.frame-chips.ensures e
-          (less front).if1.false,
-      (fits front).if2.false,
+      less_in a.p a.kind a.rate _ _ start.pre.0 (less c.before.before).before.frame-chips.ensures e
+          (less c.before.before).if1.false,
+      (fits c.before.before).if2.false,
       start.pre.0.few,
       subst (λ (n : ℕ). n ≤ 2112) (sym e) (front_few a.kind),
       subst (λ (n : ℕ). n / 11 ≤ 192) (sym e) (first_few a.kind),
@@ -121,44 +109,41 @@ take_piece_requires c κs =
       start.pre.0.last_small,
     )
 
-keep_requires : tie.Need-keep-requires
+keep_requires : tie.Need-keep-q-requires
 keep_requires c κs =
-    let call = c.before.before.before.before in
-    let front = call.before.before.before in
-    let start = begun (less front).before in
+    let start = begun (less c.before.before.before.before.before.before.before).before in
     let a = start.args in
-    let x = call.take-piece.ensures in (
+    let x = c.take_piece-t.ensures in (
       x.bad_few,
       x.odd_few,
-      taken_in a.p a.kind a.rate _ _ start.pre.0 front.front-chips.ensures x.within,
+      taken_in a.p a.kind a.rate _ _ start.pre.0 c.front_chips-from.ensures x.within,
     )
 
 -- once the octets are settled
-abbrev call_of : tie.After-slice-known5 → tie.After-take-piece
+abbrev call_of : tie.After-slice_known-5-1 → tie.After-take_piece-t
 call_of c = c.before.before.before.before.before.before.before.before.before
 
-hold_same : tie.Need-same-length
+hold_same : tie.Need-shape_of-hold
 hold_same c = (call_of c).take-piece.ensures.hold_long
 
-returns_5 : tie.Need-returns-5
+returns_5 : tie.Need-returns
 returns_5 c =
-    let settled = c.before.before in
-    let kept = settled.before.before in
     let call = call_of c in
     let front = call.before.before.before in
     let start = begun (less front).before in
     let a = start.args in
     way_part a.p a.kind a.rate a.hold.now a.octets.now a.rest.now start.pre.0 start.pre.1
-    _ call.take-piece.result kept.keep.result _ _ _ _ front.front-chips.ensures (fits front).if2.left
-    (bad front).if3.left (odd front).if4.left call.take-piece.ensures kept.keep.ensures
-    settled.settle.ensures.0 settled.settle.ensures.1
+    _ call.take-piece.result c.keep-q.result _ _ _ _ front.front-chips.ensures (fits front).if2.left
+    (bad front).if3.left (odd front).if4.left call.take-piece.ensures c.keep-q.ensures
+    c.settle.ensures.answer c.settle.ensures.octets
 
-octets_same : tie.Need-same-length-2
+octets_same : tie.Need-shape_of-octets
 octets_same c = (returns_5 c [] []).long
 
 pub payload_piece_spec : {M : Type 1} → statement M
 payload_piece_spec =
     tie.close
     (tie.spec
-    frame_chips_requires returns sub_left pass_requires returns_2 pass_requires_2 returns_3 pass_requires_3 returns_4
-    (λ c κs. search rules) take_piece_requires keep_requires (λ c κs. search rules) hold_same octets_same returns_5)
+    frame_chips_requires returns sub_left pass_requires returns_2 pass_requires_2 returns_3 pass_requires_3
+    returns_4 (λ c κs. search rules) take_piece_requires keep_requires (λ c κs. search rules) hold_same octets_same
+    returns_5)

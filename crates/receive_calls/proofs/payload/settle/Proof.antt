@@ -5,30 +5,25 @@ use Rattle.receive_calls.proofs.Kept.{settled_bad, settled_odd, settled_none}
 use Rattle.receive_calls.proofs.payload.settle.Statement.{statement}
 use Rattle.receive_calls.proofs.payload.settle.Tie as tie
 
-returns : tie.Need-returns
+returns : tie.Need-returns-then-p-ne0
 returns c =
-    let test = c.before.before.before.before in
-    let a = test.before.before.before.before.args in
-    (refl, c.before.before.fill.ensures ∙ settled_bad a.q.progress a.octets.now test.if1.true)
+    let a = c.args in record { answer = refl; octets = c.fill.ensures ∙ settled_bad a.q.progress a.octets.now c.if-p-ne0.true }
 
-returns_2 : tie.Need-returns-2
+returns_2 : tie.Need-returns-then-p-ne0-2
 returns_2 c =
-    let test = c.before.before.before.before in
-    let bad = test.before.before in
-    let a = bad.before.before.before.before.args in (
-      refl,
-      c.before.before.fill2.ensures
-          ∙ settled_odd a.q.progress a.octets.now bad.if1.false test.if2.true,
-    )
+    let a = c.args in record {
+      answer = refl;
+      octets = c.fill-then-p-ne0-2.ensures
+          ∙ settled_odd a.q.progress a.octets.now c.if-p-ne0.false c.if-p-ne0-2.true;
+    }
 
-returns_3 : tie.Need-returns-3
+returns_3 : tie.Need-returns
 returns_3 c =
-    let bad = c.before.before in
-    let a = bad.before.before.before.before.args in
-    (refl, settled_none a.q.progress a.octets.now bad.if1.false c.if2.false)
+    let a = c.args in record { answer = refl; octets = settled_none a.q.progress a.octets.now c.if-p-ne0.false c.if-p-ne0-2.false }
 
 pub settle_spec : {M : Type 1} → statement M
 settle_spec =
     tie.close
     (tie.spec
-    (λ c κs. search rules) (λ c. search rules) returns (λ c κs. search rules) (λ c. search rules) returns_2 returns_3)
+    (λ c κs. search rules) (λ c. search rules) returns (λ c κs. search rules) (λ c. search rules) returns_2
+    returns_3)

@@ -4,43 +4,31 @@ use Rattle.receive_calls.proofs.Testing.{no_kind, no_code, too_many, too_few, pa
 use Rattle.receive_calls.proofs.sound.sound_payload.Statement.{statement}
 use Rattle.receive_calls.proofs.sound.sound_payload.Tie as tie
 
-returns : tie.Need-returns
-returns c = no_kind c.before.before.args.p _ c.before.is_kind_lem.ensures c.if1.true
+returns : tie.Need-returns-then-not-is_kind
+returns c = no_kind c.args.p _ c.is_kind.ensures c.if-not-is_kind.true
 
-returns_2 : tie.Need-returns-2
+returns_2 : tie.Need-returns-then-not-is_code
 returns_2 c =
-    let kind = c.before.before in
-    no_code kind.before.before.args.p _ kind.before.is_kind_lem.ensures kind.if1.false
-    _ c.before.is_code_lem.ensures c.if2.true
+    no_code c.args.p _ c.is_kind.ensures c.if-not-is_kind.false
+    _ c.is_code.ensures c.if-not-is_code.true
 
-returns_3 : tie.Need-returns-3
+returns_3 : tie.Need-returns-then-n-gt4095
 returns_3 c =
-    let code = c.before in
-    let kind = code.before.before in
-    too_many kind.before.before.args.p _ kind.before.is_kind_lem.ensures kind.if1.false
-    _ code.before.is_code_lem.ensures code.if2.false c.if3.true
+    too_many c.args.p _ c.is_kind.ensures c.if-not-is_kind.false
+    _ c.is_code.ensures c.if-not-is_code.false c.if-n-gt4095.true
 
-returns_4 : tie.Need-returns-4
+returns_4 : tie.Need-returns-then-count-front
 returns_4 c =
-    let front = c.before in
-    let few = front.before.before in
-    let code = few.before in
-    let kind = code.before.before in
-    too_few kind.before.before.args.p _ kind.before.is_kind_lem.ensures kind.if1.false
-    _ code.before.is_code_lem.ensures code.if2.false
-    few.if3.false _ _ front.before.kind_of_lem.ensures front.front-chips.ensures c.if4.true
+    too_few c.args.p _ c.is_kind.ensures c.if-not-is_kind.false
+    _ c.is_code.ensures c.if-not-is_code.false
+    c.if-n-gt4095.false _ _ c.kind_of-k.ensures c.front_chips-front.ensures c.if-count-front.true
 
-returns_5 : tie.Need-returns-5
+returns_5 : tie.Need-returns
 returns_5 c =
-    let enough = c.before.before in
-    let front = enough.before in
-    let few = front.before.before in
-    let code = few.before in
-    let kind = code.before.before in
-    payload_tested kind.before.before.args.p _ kind.before.is_kind_lem.ensures kind.if1.false
-    _ code.before.is_code_lem.ensures code.if2.false
-    few.if3.false _ _ front.before.kind_of_lem.ensures front.front-chips.ensures enough.if4.false
-    _ _ c.before.rate_of_lem.ensures c.frame-chips.ensures
+    payload_tested c.args.p _ c.is_kind.ensures c.if-not-is_kind.false
+    _ c.is_code.ensures c.if-not-is_code.false
+    c.if-n-gt4095.false _ _ c.kind_of-k.ensures c.front_chips-front.ensures c.if-count-front.false
+    _ _ c.rate_of-rate.ensures c.frame_chips-all.ensures
 
 pub sound_payload_spec : {M : Type 1} → statement M
 sound_payload_spec =

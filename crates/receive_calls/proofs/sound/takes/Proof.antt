@@ -12,57 +12,42 @@ use Rattle.receive_calls.proofs.Testing.{
 use Rattle.receive_calls.proofs.sound.takes.Statement.{statement}
 use Rattle.receive_calls.proofs.sound.takes.Tie as tie
 
-returns : tie.Need-returns
-returns c = let a = c.before.before.before.args in other_room a.p a.room c.if1.true
+returns : tie.Need-returns-then-p-room
+returns c = let a = c.args in other_room a.p a.room c.if-p-room.true
 
-returns_2 : tie.Need-returns-2
+returns_2 : tie.Need-returns-then-ear-gt3
 returns_2 c =
-    let room = c.before.before in
-    let a = room.before.before.before.args in
-    large_phase a.p a.room room.if1.false c.if2.true
+    let a = c.args in
+    large_phase a.p a.room c.if-p-room.false c.if-ear-gt3.true
 
-returns_3 : tie.Need-returns-3
+returns_3 : tie.Need-returns-then-ear-gt3-2
 returns_3 c =
-    let phase = c.before.before in
-    let room = phase.before.before in
-    let a = room.before.before.before.args in
-    large_last a.p a.room room.if1.false phase.if2.false c.if3.true
+    let a = c.args in
+    large_last a.p a.room c.if-p-room.false c.if-ear-gt3.false c.if-ear-gt3-2.true
 
-returns_4 : tie.Need-returns-4
+returns_4 : tie.Need-returns-then-status-eq1
 returns_4 c =
-    let last = c.before.before in
-    let phase = last.before.before in
-    let room = phase.before.before in
-    let a = room.before.before.before.args in
-    front_left a.p a.room room.if1.false phase.if2.false last.if3.false _ c.before.if4.true
-    c.sound-front.ensures
+    let a = c.args in
+    front_left a.p a.room c.if-p-room.false c.if-ear-gt3.false c.if-ear-gt3-2.false _ c.if-status-eq1.true
+    c.sound_front.ensures
 
-returns_5 : tie.Need-returns-5
+returns_5 : tie.Need-returns-then-status-eq2
 returns_5 c =
-    let last = c.before.before.before in
-    let phase = last.before.before in
-    let room = phase.before.before in
-    let a = room.before.before.before.args in
-    payload_left a.p a.room room.if1.false phase.if2.false last.if3.false _ c.before.if5.true
-    c.sound-payload.ensures
+    let a = c.args in
+    payload_left a.p a.room c.if-p-room.false c.if-ear-gt3.false c.if-ear-gt3-2.false _ c.if-status-eq2.true
+    c.sound_payload.ensures
 
-returns_6 : tie.Need-returns-6
+returns_6 : tie.Need-returns-then-status-eq3
 returns_6 c =
-    let last = c.before.before.before.before in
-    let phase = last.before.before in
-    let room = phase.before.before in
-    let a = room.before.before.before.args in
-    refused_left a.p a.room room.if1.false phase.if2.false last.if3.false _ c.before.if6.true
-    c.sound-refused.ensures
+    let a = c.args in
+    refused_left a.p a.room c.if-p-room.false c.if-ear-gt3.false c.if-ear-gt3-2.false _ c.if-status-eq3.true
+    c.sound_refused.ensures
 
-returns_7 : tie.Need-returns-7
+returns_7 : tie.Need-returns
 returns_7 c =
-    let last = c.before.before.before in
-    let phase = last.before.before in
-    let room = phase.before.before in
-    let a = room.before.before.before.args in
-    else_left a.p a.room room.if1.false phase.if2.false last.if3.false c.before.before.if4.false
-    c.before.if5.false c.if6.false
+    let a = c.args in
+    else_left a.p a.room c.if-p-room.false c.if-ear-gt3.false c.if-ear-gt3-2.false c.if-status-eq1.false
+    c.if-status-eq2.false c.if-status-eq3.false
 
 pub takes_spec : {M : Type 1} → statement M
 takes_spec =

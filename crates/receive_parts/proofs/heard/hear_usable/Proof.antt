@@ -7,10 +7,10 @@ use Rattle.receive_parts.proofs.Rows.{odd_moved, row_usable, symbols_few, chips_
 use Rattle.receive_parts.proofs.heard.hear_usable.Statement.{statement}
 use Rattle.receive_parts.proofs.heard.hear_usable.Tie as tie
 
-abbrev begun : tie.After-hear-octets-arg → tie.Start
-begun c = c.before.before.before.before.before.before.before
+abbrev begun : tie.After-hear_octets-arg-1 → tie.Start
+begun c = c.before.before.before.before.before
 
-hear_octets_requires : tie.Need-hear-octets-requires
+hear_octets_requires : tie.Need-hear_octets-part-requires
 hear_octets_requires c κs =
     let start = begun c in
     let a = start.args in (
@@ -20,10 +20,10 @@ hear_octets_requires c κs =
       symbols_few a.rate a.symbol _ _ start.pre.0 (omega (arith, start.pre.1)) start.pre.2,
     )
 
-abbrev heard : tie.After-low → tie.After-hear-octets
+abbrev heard : tie.After-low-1 → tie.After-hear_octets-part
 heard c = c.before.before.before.before.before
 
-placed_requires : tie.Need-placed-requires
+placed_requires : tie.Need-placed-odd-requires
 placed_requires c κs =
     let call = heard c in
     let start = begun call.before in
@@ -37,8 +37,8 @@ returns c =
     let call = heard c.before in
     let start = begun call.before in
     let a = start.args in
-    usable_heard a.rate a.at a.symbol a.ear a.row.now _ _ c.placed.result _
-    call.hear-octets.ensures start.pre.4 c.placed.ensures.0 c.placed.ensures.1
+    usable_heard a.rate a.at a.symbol a.ear a.row.now _ _ c.placed-odd.result _
+    call.hear-octets.ensures start.pre.4 c.placed-odd.ensures.answer c.placed-odd.ensures.few
 
 pub hear_usable_spec : {M : Type 1} → statement M
 hear_usable_spec =

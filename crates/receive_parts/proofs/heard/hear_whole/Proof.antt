@@ -6,25 +6,20 @@ use Rattle.receive_parts.proofs.Rows.{unusable_heard}
 use Rattle.receive_parts.proofs.heard.hear_whole.Statement.{statement}
 use Rattle.receive_parts.proofs.heard.hear_whole.Tie as tie
 
-hear_usable_requires : tie.Need-hear-usable-requires
+hear_usable_requires : tie.Need-hear_usable-requires
 hear_usable_requires c κs =
-    let told = c.before in
-    let search = told.before.before in
-    let p = search.before.before.before.requires in
-    (p.0, p.1, p.2, p.3, sym search.unusable-from.ensures.0 ∙ ap where_found told.enum_told.given.1)
+    let p = c.requires in
+    (p.0, p.1, p.2, p.3, sym c.unusable_from-found.ensures.answer ∙ ap where_found c.in-Nothing.is)
 
-returns : tie.Need-returns
+returns : tie.Need-returns-in-At
 returns c =
-    let told = c.before in
-    let search = told.before.before in
-    let start = search.before.before.before in
-    let a = start.args in
+    let a = c.args in
     unusable_heard a.rate a.at a.symbol a.ear a.row.now _ _ _
-    (sym (ap where_found told.found.given.1) ∙ search.unusable-from.ensures.0)
-    (rw told.found.given.1 at search.unusable-from.ensures.1) start.requires.3 start.requires.4
+    (sym (ap where_found c.in-At.is) ∙ c.unusable_from-found.ensures.answer)
+    (rw c.in-At.is at c.unusable_from-found.ensures.few) c.requires.3 c.requires.4
 
-returns_2 : tie.Need-returns-2
-returns_2 c = c.before.before.hear-usable.ensures
+returns_2 : tie.Need-returns-in-Nothing
+returns_2 c = c.hear_usable.ensures
 
 pub hear_whole_spec : {M : Type 1} → statement M
 hear_whole_spec =

@@ -15,66 +15,63 @@ use Rattle.receive_parts.proofs.Looks.{chips_most, held_bad, held_one, held_othe
 use Rattle.receive_parts.proofs.heard.hold_part.Statement.{statement}
 use Rattle.receive_parts.proofs.heard.hold_part.Tie as tie
 
-unusable_from_requires : tie.Need-unusable-from-requires
+unusable_from_requires : tie.Need-unusable_from-found-requires
 unusable_from_requires c κs =
-    let start = c.before in omega (arith, start.requires.0, start.requires.2, chips_most start.args.rate)
+    omega (arith, c.requires.0, c.requires.2, chips_most c.args.rate)
 
-abbrev begun : tie.After-unusable-from → tie.Start
+abbrev begun : tie.After-unusable_from-found → tie.Start
 begun c = c.before.before
 
 -- where nothing is found
-abbrev started : tie.After-enum-told → tie.Start
-started c = begun c.before.before
+abbrev started : tie.In-Nothing → tie.Start
+started c = c.before.before.before.before
 
-usable : (c : tie.After-enum-told) → let a = (started c).args in
+usable : (c : tie.In-Nothing) → let a = (started c).args in
     first_unusable a.at (hard_recording a.row.now) ≡ none
-usable c = sym c.before.before.unusable-from.ensures.0 ∙ ap where_found c.enum_told.given.1
+usable c = sym c.unusable_from-found.ensures.answer ∙ ap where_found c.in-Nothing.is
 
-look_requires : tie.Need-look-requires
+look_requires : tie.Need-look-looked-requires
 look_requires c κs =
     let start = started c.before.before in
     let p = start.pre in
     (omega (arith, p.0, chips_most start.args.rate), p.1, p.2, p.3, usable c.before.before)
 
-returns : tie.Need-returns
+returns : tie.Need-returns-in-At
 returns c =
-    let told = c.before in
-    let search = told.before.before in
-    let start = begun search in
+    let start = begun c.before.before.before in
     let a = start.args in
     held_bad a.rate a.at a.ear a.h a.row.now _
-    (sym (ap where_found told.found.given.1) ∙ search.unusable-from.ensures.0)
-    (rw told.found.given.1 at search.unusable-from.ensures.1) start.pre.3
+    (sym (ap where_found c.in-At.is) ∙ c.unusable_from-found.ensures.answer)
+    (rw c.in-At.is at c.unusable_from-found.ensures.few) start.pre.3
 
-returns_2 : tie.Need-returns-2
+returns_2 : tie.Need-returns-in-One
 returns_2 c =
-    let None-found = c.before.before.before in
-    let a = (started None-found).args in
-    held_one a.rate a.at a.ear a.h a.row.now c.look.result c.before.enum-told2.given.1
-    (usable None-found) c.look.ensures
+    let a = (started c.before.before.before).args in
+    held_one a.rate a.at a.ear a.h a.row.now c.look-looked.result c.in-One.is
+    (usable c.before.before.before) c.look-looked.ensures
 
 -- at the other rates nothing is looked at
-other : (c : tie.After-enum-told) (x : Piece) → let a = (started c).args in octet_chips a.rate < 88
+other : (c : tie.In-Nothing) (x : Piece) → let a = (started c).args in octet_chips a.rate < 88
     → (x.ear ≡ a.ear) × (x.bad ≡ Nothing) × (x.odd ≡ Nothing)
     → PartHeld a.rate a.at a.ear a.h a.row.now x
 other c x b s =
     let start = started c in
     let a = start.args in held_other a.rate a.at a.ear a.h a.row.now x b (usable c) start.pre.3 s
 
-returns_3 : tie.Need-returns-3
+returns_3 : tie.Need-returns-in-Two
 returns_3 c =
-    other c.before.before.before c.nothing-found.result (rw c.before.enum-told3.given.1 (omega arith))
-    c.nothing-found.ensures
+    other c c.nothing_found.result (rw c.in-Two.is (omega arith))
+    c.nothing_found.ensures
 
-returns_4 : tie.Need-returns-4
+returns_4 : tie.Need-returns-in-Five
 returns_4 c =
-    other c.before.before.before c.nothing-found2.result (rw c.before.enum-told4.given.1 (omega arith))
-    c.nothing-found2.ensures
+    other c c.nothing_found-in-Five.result (rw c.in-Five.is (omega arith))
+    c.nothing_found-in-Five.ensures
 
-returns_5 : tie.Need-returns-5
+returns_5 : tie.Need-returns-in-Eleven
 returns_5 c =
-    other c.before.before.before c.nothing-found3.result (rw c.before.enum-told5.given.1 (omega arith))
-    c.nothing-found3.ensures
+    other c c.nothing_found-in-Eleven.result (rw c.in-Eleven.is (omega arith))
+    c.nothing_found-in-Eleven.ensures
 
 pub hold_part_spec : {M : Type 1} → statement M
 hold_part_spec =

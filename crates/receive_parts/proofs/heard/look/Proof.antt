@@ -22,20 +22,20 @@ use Rattle.receive_parts.proofs.Looks.{
 use Rattle.receive_parts.proofs.heard.look.Statement.{statement}
 use Rattle.receive_parts.proofs.heard.look.Tie as tie
 
-abbrev invariant_loop : tie.invariant-loop
+abbrev invariant_loop : tie.invariant-loop-l
 invariant_loop row at h last numbers q m p₀ l₀ p l = (q ≡ h / 11) × Looks at q last (new_words One h row) l p
 
-abbrev decreases_loop : tie.decreases-loop
+abbrev decreases_loop : tie.decreases-loop-l
 decreases_loop row at h last numbers q m p₀ l₀ p l = m - l
 
-sub_m : tie.Need-overflow-sub-m invariant_loop decreases_loop
-sub_m c = omega (arith, c.before.before.before.before.before.requires.1)
+sub_m : tie.Need-overflow_sub-m invariant_loop decreases_loop
+sub_m c = omega (arith, c.requires.1)
 
-mul_decide : tie.Need-overflow-mul-decide invariant_loop decreases_loop
+mul_decide : tie.Need-overflow_mul-q invariant_loop decreases_loop
 mul_decide c =
-    let start = c.before.before.before.before.before in omega (arith, start.requires.0, start.requires.1)
+    omega (arith, c.requires.0, c.requires.1)
 
-abbrev begun : tie.After-leads invariant_loop decreases_loop → tie.Start invariant_loop decreases_loop
+abbrev begun : tie.After-leads-1 invariant_loop decreases_loop → tie.Start invariant_loop decreases_loop
 begun c = c.before.before.before.before.before.before.before
 
 decide_requires : tie.Need-decide-requires invariant_loop decreases_loop
@@ -49,83 +49,80 @@ decide_requires c κs =
       search rules,
     )
 
-loop_holds : tie.Need-loop-init invariant_loop decreases_loop
-loop_holds c = (refl, looks_none _ _ _ _ (begun c.before).pre.3)
+loop_holds : tie.Need-loop-l-init invariant_loop decreases_loop
+loop_holds c = (refl, looks_none _ _ _ _ (begun c).pre.3)
 
 -- where the numbers were decided
-abbrev decided : tie.In-loop invariant_loop decreases_loop → tie.After-decide invariant_loop decreases_loop
+abbrev decided : tie.In-loop-l invariant_loop decreases_loop → tie.After-decide invariant_loop decreases_loop
 decided c = c.before.before
 
-array_read_n : tie.Need-array-read-n invariant_loop decreases_loop
+array_read_n : tie.Need-bounds-numbers-l invariant_loop decreases_loop
 array_read_n c =
     let start = begun (decided c).before in
     omega (arith, start.pre.0, (decided c).decide.ensures.0.long)
 
-add_if1 : tie.Need-overflow-add-if1 invariant_loop decreases_loop
+add_if1 : tie.Need-overflow_add-n invariant_loop decreases_loop
 add_if1 c =
     let start = begun (decided c).before in
     omega (
       arith,
-      c.before.loop.invariant.1.small,
+      c.loop-l.invariant.1.small,
       row_small start.args.row.now _ start.args.h _ refl start.pre.0
-          (decided c).decide.ensures.0 c.before.loop.l c.loop-test.true,
+          (decided c).decide.ensures.0 c.loop-l.l c.loop-l-test.true,
     )
 
 -- a symbol of the octet is one of its eight
-add_t36 : tie.Need-overflow-add-t36 invariant_loop decreases_loop
-add_t36 c = omega (arith, (begun (decided c.before).before).pre.0)
+add_t36 : tie.Need-overflow_add-odd invariant_loop decreases_loop
+add_t36 c = omega (arith, (begun (decided c).before).pre.0)
 
-mul_t37 : tie.Need-overflow-mul-t37 invariant_loop decreases_loop
-mul_t37 c = omega (arith, (begun (decided c.before).before).pre.0)
+mul_t37 : tie.Need-overflow_mul-odd invariant_loop decreases_loop
+mul_t37 c = omega (arith, (begun (decided c).before).pre.0)
 
-add_t38 : tie.Need-overflow-add-t38 invariant_loop decreases_loop
+add_t38 : tie.Need-overflow_add-odd-then-n-p-eq1 invariant_loop decreases_loop
 add_t38 c =
-    let start = begun (decided c.before).before in omega (arith, start.pre.0, start.pre.2)
+    let start = begun (decided c).before in omega (arith, start.pre.0, start.pre.2)
 
-returns : tie.Need-returns invariant_loop decreases_loop
+returns : tie.Need-returns-then-n-p-eq1 invariant_loop decreases_loop
 returns c =
-    let turn = c.before in
-    let start = begun (decided turn).before in
+    let start = begun (decided c).before in
     let a = start.args in
     let few = start.pre.0 in
-    let d = (decided turn).decide.ensures.0 in
-    let l = turn.before.loop.l in
-    let b = turn.loop-test.true in
+    let d = (decided c).decide.ensures.0 in
+    let l = c.loop-l.l in
+    let b = c.loop-l-test.true in
     let n = row_small a.row.now _ a.h _ refl few d l b in
     record {
       odd_is = sym (looks_odd a.at (a.h / 11) a.last (new_words One a.h a.row.now) l _ _
-          turn.before.loop.invariant.1 (rw (row_long a.row.now _ a.h _ refl few d) b)
-          (row_each a.row.now _ a.h _ refl few d l b) n c.if1.true);
+          c.loop-l.invariant.1 (rw (row_long a.row.now _ a.h _ refl few d) b)
+          (row_each a.row.now _ a.h _ refl few d l b) n c.if-n-p-eq1.true);
       last_is = λ z. found_place _ z;
       small = n;
       odd_few = omega (arith, start.pre.0, start.pre.2);
     }
 
-loop_again : tie.Need-loop-preserved invariant_loop decreases_loop
+loop_again : tie.Need-loop-l-preserved invariant_loop decreases_loop
 loop_again c =
-    let turn = c.before in
-    let start = begun (decided turn).before in
+    let start = begun (decided c).before in
     let a = start.args in
     let few = start.pre.0 in
-    let d = (decided turn).decide.ensures.0 in
-    let l = turn.before.loop.l in
-    let b = turn.loop-test.true in
+    let d = (decided c).decide.ensures.0 in
+    let l = c.loop-l.l in
+    let b = c.loop-l-test.true in
     let n = row_small a.row.now _ a.h _ refl few d l b in (
       refl,
       looks_more a.at (a.h / 11) a.last (new_words One a.h a.row.now) l _ _
-          turn.before.loop.invariant.1 (rw (row_long a.row.now _ a.h _ refl few d) b)
-          (row_each a.row.now _ a.h _ refl few d l b) n c.if1.false,
+          c.loop-l.invariant.1 (rw (row_long a.row.now _ a.h _ refl few d) b)
+          (row_each a.row.now _ a.h _ refl few d l b) n c.if-n-p-eq1.false,
     )
 
-returns_2 : tie.Need-returns-2 invariant_loop decreases_loop
+returns_2 : tie.Need-returns invariant_loop decreases_loop
 returns_2 c =
-    let at = c.before in
-    let start = begun at.before.before in
+    let start = begun c in
     let a = start.args in
     let few = start.pre.0 in
-    let inv = at.loop.invariant.1 in
-    let over = looks_all a.at (a.h / 11) a.last (new_words One a.h a.row.now) at.loop.l _ inv
-    (rw (row_long a.row.now _ a.h _ refl few at.before.decide.ensures.0) c.loop-test.false) in
+    let inv = c.loop-l.invariant.1 in
+    let over = looks_all a.at (a.h / 11) a.last (new_words One a.h a.row.now) c.loop-l.l _ inv
+    (rw (row_long a.row.now _ a.h _ refl few c.decide.ensures.numbers) c.loop-l-test.false) in
     record { odd_is = sym over.0; last_is = λ z. sym over.1; small = inv.small; odd_few = tt }
 
 pub look_spec : {M : Type 1} → statement M

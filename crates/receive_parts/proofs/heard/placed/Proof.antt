@@ -4,18 +4,18 @@ use borrow.Author.Rules.{rules}
 use Rattle.receive_parts.proofs.heard.placed.Statement.{statement}
 use Rattle.receive_parts.proofs.heard.placed.Tie as tie
 
-add_t5 : tie.Need-overflow-add-t5
+add_t5 : tie.Need-overflow_add-result
 add_t5 c =
-    let below = rw c.before.found.given.1 at c.before.before.before.requires in
+    let below = rw c.in-At.is at c.requires in
     omega (arith, below)
 
-returns : tie.Need-returns
+returns : tie.Need-returns-in-At
 returns c =
-    let below = rw c.before.found.given.1 at c.before.before.before.requires in
-    (rw c.before.found.given.1, below)
+    let below = rw c.in-At.is at c.requires in record { answer = rw c.in-At.is; few = below }
 
-returns_2 : tie.Need-returns-2
-returns_2 c = (rw c.enum_told.given.1, tt)
+returns_2 : tie.Need-returns-in-Nothing
+returns_2 c = record { answer = rw c.in-Nothing.is; few = tt }
 
 pub placed_spec : {M : Type 1} → statement M
-placed_spec = tie.close (tie.spec (λ c. search rules) add_t5 (λ c. search rules) returns returns_2)
+placed_spec = tie.close (tie.spec
+    (λ c. search rules) add_t5 (λ c. search rules) returns returns_2)

@@ -18,14 +18,14 @@ use Rattle.receive_parts.proofs.Joined.{
 use Rattle.receive_parts.proofs.taken.join.Statement.{statement}
 use Rattle.receive_parts.proofs.taken.join.Tie as tie
 
-abbrev begun : tie.After-octet-chips → tie.Start
+abbrev begun : tie.After-octet_chips-chips → tie.Start
 begun c = c.before.before.before.before
 
-add_n : tie.Need-overflow-add-n
+add_n : tie.Need-overflow_add-n
 add_n c = let start = begun c in omega (arith, start.pre.0, chips_most start.args.rate)
 
 -- there is room behind the chips held
-room : (c : tie.After-octet-chips) → let a = (begun c).args in a.h + length a.piece.now ≤ length a.hold.now
+room : (c : tie.After-octet_chips-chips) → let a = (begun c).args in a.h + length a.piece.now ≤ length a.hold.now
 room c = let start = begun c in omega (arith, start.pre.0, start.pre.2, chips_most start.args.rate)
 
 put_requires : tie.Need-put-requires
@@ -34,67 +34,59 @@ put_requires c κs =
     omega (arith, put_fits a.hold.now a.piece.now a.h _ refl (room c.before))
 
 -- where the piece was put
-abbrev chips : tie.After-put → tie.After-octet-chips
+abbrev chips : tie.After-put → tie.After-octet_chips-chips
 chips c = c.before.before
 
-part_row_end : tie.Need-slice-bounds-row-end
+part_row_end : tie.Need-slice_bounds-row-end
 part_row_end c =
-    let put = c.before.before.before in
-    let a = (begun (chips put)).args in
-    let r = room (chips put) in
-    omega (arith, hold_long a.hold.now a.piece.now _ a.h _ refl r put.put.ensures)
+    let a = (begun (chips c.before.before)).args in
+    let r = room (chips c.before.before) in
+    omega (arith, hold_long a.hold.now a.piece.now _ a.h _ refl r c.put.ensures)
 
-hear_whole_requires : tie.Need-hear-whole-requires
+hear_whole_requires : tie.Need-hear_whole-requires
 hear_whole_requires c κs =
-    let put = c.before.before.before.before.before.before in
-    let start = begun (chips put) in
+    let start = begun (chips c.before.before.before.before.before) in
     let a = start.args in
     let p = start.pre in
-    let r = room (chips put) in
-    let long = row_long a.hold.now a.piece.now _ a.h _ refl r put.put.ensures in (
-      long ∙ one_octet a.rate _ _ _ c.before.if1.true (chips put).octet-chips.ensures p.1,
+    let r = room (chips c.before.before.before.before.before) in
+    let long = row_long a.hold.now a.piece.now _ a.h _ refl r c.put.ensures in (
+      long ∙ one_octet a.rate _ _ _ c.if-n-chips.true (chips c.before.before.before.before.before).octet-chips.ensures p.1,
       omega (arith, long, p.0, p.3, chips_most a.rate),
       p.4,
       p.5,
       p.6,
     )
 
-returns : tie.Need-returns
+returns : tie.Need-returns-then-n-chips
 returns c =
-    let call = c.before.before in
-    let test = call.before.before in
-    let put = test.before.before.before.before.before in
-    let start = begun (chips put) in
+    let start = begun (chips c.before.before.before.before.before.before.before.before) in
     let a = start.args in
-    let r = room (chips put) in
-    let y = put.put.ensures in
+    let r = room (chips c.before.before.before.before.before.before.before.before) in
+    let y = c.put.ensures in
     joined_whole a.rate a.at a.symbol a.ear a.h a.hold.now a.piece.now a.octet.now
-    call.hear-whole.result _ _ _ (hold_joined a.hold.now a.piece.now _ a.h _ refl r y)
+    c.hear_whole.result _ _ _ (hold_joined a.hold.now a.piece.now _ a.h _ refl r y)
     (row_joined a.hold.now a.piece.now _ a.h _ refl r y)
-    (test.if1.true ∙ (chips put).octet-chips.ensures) _ start.pre.1 call.hear-whole.ensures
+    (c.if-n-chips.true ∙ (chips c.before.before.before.before.before.before.before.before).octet-chips.ensures) _ start.pre.1 c.hear_whole.ensures
 
-hold_part_requires : tie.Need-hold-part-requires
+hold_part_requires : tie.Need-hold_part-requires
 hold_part_requires c κs =
-    let put = c.before.before.before.before.before in
-    let start = begun (chips put) in
+    let start = begun (chips c.before.before.before.before) in
     let a = start.args in
     let p = start.pre in
-    let r = room (chips put) in
-    let long = row_long a.hold.now a.piece.now _ a.h _ refl r put.put.ensures in
+    let r = room (chips c.before.before.before.before) in
+    let long = row_long a.hold.now a.piece.now _ a.h _ refl r c.put.ensures in
     (omega (arith, long, p.0), omega (arith, long), p.3, p.6)
 
-returns_2 : tie.Need-returns-2
+returns_2 : tie.Need-returns
 returns_2 c =
-    let test = c.before in
-    let put = test.before.before.before.before.before in
-    let start = begun (chips put) in
+    let start = begun (chips c.before.before.before.before.before) in
     let a = start.args in
-    let r = room (chips put) in
-    let y = put.put.ensures in
+    let r = room (chips c.before.before.before.before.before) in
+    let y = c.put.ensures in
     joined_part a.rate a.at a.symbol a.ear a.h a.hold.now a.piece.now a.octet.now
-    c.hold-part.result _ _ _ (hold_joined a.hold.now a.piece.now _ a.h _ refl r y)
+    c.hold_part.result _ _ _ (hold_joined a.hold.now a.piece.now _ a.h _ refl r y)
     (row_joined a.hold.now a.piece.now _ a.h _ refl r y)
-    (λ z. test.if1.false (z ∙ sym (chips put).octet-chips.ensures)) refl c.hold-part.ensures
+    (λ z. c.if-n-chips.false (z ∙ sym (chips c.before.before.before.before.before).octet-chips.ensures)) refl c.hold_part.ensures
 
 pub join_spec : {M : Type 1} → statement M
 join_spec =

@@ -10,26 +10,25 @@ use Rattle.base.proofs.Over.{over_more, over_whole}
 use Rattle.receive_parts.proofs.taken.put.Statement.{statement}
 use Rattle.receive_parts.proofs.taken.put.Tie as tie
 
-abbrev invariant_loop : tie.invariant-loop
+abbrev invariant_loop : tie.invariant-loop-i
 invariant_loop from out₀ i₀ out i = (i ≤ length from) × (length out ≡ length out₀) × (out ≡ take i from ++ drop i out₀)
 
-abbrev decreases_loop : tie.decreases-loop
+abbrev decreases_loop : tie.decreases-loop-i
 decreases_loop from out₀ i₀ out i = length from - i
 
-loop_again : tie.Need-loop-preserved invariant_loop decreases_loop
+loop_again : tie.Need-loop-i-preserved invariant_loop decreases_loop
 loop_again c = (
   omega arith,
   simp length-set (omega arith),
-  over_more _ _ _ _ c.before.before.loop.invariant.2 (omega arith) (omega arith),
+  over_more _ _ _ _ c.loop-i.invariant.2 (omega arith) (omega arith),
 )
 
 returns : tie.Need-returns invariant_loop decreases_loop
-returns c = over_whole _ _ _ c.before.loop.i c.before.loop.invariant.2 (omega arith)
+returns c = over_whole _ _ _ c.loop-i.i c.loop-i.invariant.2 (omega arith)
 
 pub put_spec : {M : Type 1} → statement M
 put_spec =
     tie.close
     (tie.spec
-    invariant_loop decreases_loop (λ c. search rules) (λ c. omega arith) (λ c. omega arith) (λ c. omega arith) (λ c. omega arith)
-    loop_again
-    (λ c. search rules) returns)
+    invariant_loop decreases_loop (λ c. search rules) (λ c. omega arith) (λ c. omega arith) (λ c. omega arith)
+    (λ c. omega arith) loop_again (λ c. search rules) returns)

@@ -27,13 +27,12 @@ there r c len w e h = by r (rw e at h)
 div_at_most : tie.Need-nonzero-div-at-most
 div_at_most c = omega (arith, some_chips c.before.before.args.rate _ c.octet-chips.ensures)
 
-returns_2 : tie.Need-returns-2
+returns_2 : tie.Need-returns
 returns_2 c =
-    let start = c.before.before.before in
-    let m = c.at-most.ensures in
+    let m = c.at_most.ensures in
     record {
-      within = omega (arith, start.requires, m.1);
-      there = there start.args.rate _ _ _ c.before.octet-chips.ensures m.0;
+      within = omega (arith, c.requires, m.1);
+      there = there c.args.rate _ _ _ c.octet_chips-chips.ensures m.0;
       edge = λ b. omega arith;
     }
 

@@ -7,15 +7,16 @@ use borrow.Author.Rules.{rules}
 use Rattle.rules_rates.proofs.Rate.bit7.Statement.{statement}
 use Rattle.rules_rates.proofs.Rate.bit7.Tie as tie
 
-returns_4 : tie.Need-returns-4
-returns_4 c = rw (c.before.enum-told4.given.1, le-leb _ _ c.if1.true) (refl, lit< tt)
+returns_4 : tie.Need-returns-then-n
+returns_4 c = rw (c.in-Eleven.is, le-leb _ _ c.if-n.true) (refl, lit< tt)
 
-returns_5 : tie.Need-returns-5
-returns_5 c = rw (c.before.enum-told4.given.1, lt-leb _ _ c.if1.false) (refl, lit< tt)
+returns_5 : tie.Need-returns-else-n
+returns_5 c = rw (c.in-Eleven.is, lt-leb _ _ c.if-n.false) (refl, lit< tt)
 
 pub bit7_spec : {M : Type 1} → statement M
 bit7_spec =
     tie.close
-    (tie.spec (λ c. search rules) (λ c. search rules) (λ c. search rules) (λ c. search rules)
+    (tie.spec
     (λ c. search rules) (λ c. search rules) (λ c. search rules) (λ c. search rules) (λ c. search rules)
-    (λ c. search rules) (λ c. search rules) (λ c. search rules) returns_4 returns_5)
+    (λ c. search rules) (λ c. search rules) (λ c. search rules) (λ c. search rules) (λ c. search rules)
+    (λ c. search rules) (λ c. search rules) returns_4 returns_5)

@@ -9,64 +9,55 @@ use Rattle.small_calls.proofs.compare.compare.Statement.{statement}
 use Rattle.small_calls.proofs.compare.compare.Tie as tie
 
 -- what is known where the payloads are compared: both reads, and the two numbers of octets
-list_payloads_requires : tie.Need-list-payloads-requires
+list_payloads_requires : tie.Need-list_payloads-octets_differ-requires
 list_payloads_requires c κs =
-    let other = c.before.before.before.before.before.before.before in
-    let one = other.before in
-    let read-b = one.before.before.before in
-    let read_a = read-b.before.before.before.before in
-    let args = read_a.before.before.before.before.before.before.before.before.args in
+    let args = c.args in
     let kind = args.kind in
     let a = args.a.now in
     let b = args.b.now in
     let room = length args.first.now in
     let room' = length args.second.now in
     let lengths =
-    lengths_are kind a b room room' read_a.read-hard.result read-b.read-hard2.result one.if-both.result
-    other.if-both2.result read_a.read-hard.ensures.0 read-b.read-hard2.ensures.0 one.if-both.ensures
-    other.if-both2.ensures in
-    lengths_fit kind a b room room' one.if-both.result other.if-both2.result read_a.read-hard.new.1.1.0
-    read-b.read-hard2.new.1.1.0 lengths.0 lengths.1 read_a.read-hard.ensures.1
-    read-b.read-hard2.ensures.1
+    lengths_are kind a b room room' c.read_hard-read_a.result c.read_hard-read_b.result c.if_both-n_a.result
+    c.if_both-n_b.result c.read_hard-read_a.ensures.answer c.read_hard-read_b.ensures.answer c.if_both-n_a.ensures
+    c.if_both-n_b.ensures in
+    lengths_fit kind a b room room' c.if_both-n_a.result c.if_both-n_b.result c.read_hard-read_a.new.octets
+    c.read_hard-read_b.new.octets lengths.0 lengths.1 c.read_hard-read_a.ensures.octets
+    c.read_hard-read_b.ensures.octets
 
 returns : tie.Need-returns
 returns c =
-    let payloads = c.before.before in
-    let chips = payloads.before.before.before.before.before.before in
-    let other = chips.before.before in
-    let one = other.before in
-    let read-b = one.before.before.before in
-    let read_a = read-b.before.before.before.before in
-    let args = read_a.before.before.before.before.before.before.before.before.args in
+    let both = (let args = c.args in
     let kind = args.kind in
     let a = args.a.now in
     let b = args.b.now in
     let room = length args.first.now in
     let room' = length args.second.now in
     let lengths =
-    lengths_are kind a b room room' read_a.read-hard.result read-b.read-hard2.result one.if-both.result
-    other.if-both2.result read_a.read-hard.ensures.0 read-b.read-hard2.ensures.0 one.if-both.ensures
-    other.if-both2.ensures in
+    lengths_are kind a b room room' c.read_hard-read_a.result c.read_hard-read_b.result c.if_both-n_a.result
+    c.if_both-n_b.result c.read_hard-read_a.ensures.answer c.read_hard-read_b.ensures.answer c.if_both-n_a.ensures
+    c.if_both-n_b.ensures in
     let list =
-    list_is kind a b room room' one.if-both.result other.if-both2.result read_a.read-hard.new.1.1.0
-    read-b.read-hard2.new.1.1.0 lengths.0 lengths.1 read_a.read-hard.ensures.1
-    read-b.read-hard2.ensures.1 in (
-      answer_is kind a b room room' read_a.read-hard.result read-b.read-hard2.result one.if-both.result
-          other.if-both2.result chips.list.result payloads.list-payloads.result
-          read_a.read-hard.ensures.0 read-b.read-hard2.ensures.0 lengths.0 lengths.1
-          chips.list.ensures.0 (payloads.list-payloads.ensures.0 ∙ ap length list),
+    list_is kind a b room room' c.if_both-n_a.result c.if_both-n_b.result c.read_hard-read_a.new.octets
+    c.read_hard-read_b.new.octets lengths.0 lengths.1 c.read_hard-read_a.ensures.octets
+    c.read_hard-read_b.ensures.octets in (
+      answer_is kind a b room room' c.read_hard-read_a.result c.read_hard-read_b.result c.if_both-n_a.result
+          c.if_both-n_b.result c.list-chips_differ.result c.list_payloads-octets_differ.result
+          c.read_hard-read_a.ensures.answer c.read_hard-read_b.ensures.answer lengths.0 lengths.1
+          c.list-chips_differ.ensures.answer (c.list_payloads-octets_differ.ensures.answer ∙ ap length list),
       (
-        chips.list.ensures.1,
+        c.list-chips_differ.ensures.row,
         (
-          payloads.list-payloads.ensures.1 ∙ ap (laid (length args.octets.now)) list,
-          (read_a.read-hard.ensures.1, read-b.read-hard2.ensures.1),
+          c.list_payloads-octets_differ.ensures.row ∙ ap (laid (length args.octets.now)) list,
+          (c.read_hard-read_a.ensures.octets, c.read_hard-read_b.ensures.octets),
         ),
       ),
-    )
+    )) in record { answer = both.0; chips = both.1; octets = both.2; first = both.3; second = both.4 }
 
 pub compare_spec : {M : Type 1} → statement M
 compare_spec =
     tie.close
-    (tie.spec (λ c κs. search rules) (λ c κs. search rules) (λ c κs. search rules) (λ c κs. search rules)
+    (tie.spec
+    (λ c κs. search rules) (λ c κs. search rules) (λ c κs. search rules) (λ c κs. search rules)
     (λ c κs. search rules) list_payloads_requires (λ c. search rules) (λ c. search rules) (λ c. search rules)
     (λ c. search rules) returns)

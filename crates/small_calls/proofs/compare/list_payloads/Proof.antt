@@ -19,13 +19,13 @@ fronts l k n m = ap₂ {C = List Difference} differences (front l n) (front k m)
 
 returns : tie.Need-returns
 returns c =
-    let args = c.before.before.before.before.before.before.before.before.before.args in
-    let list = c.before.before.list in
-    let same = fronts args.first.now args.second.now args.n args.m in
-    (list.ensures.0 ∙ ap length same, list.ensures.1 ∙ ap (laid (length args.row.now)) same)
+    let args = c.args in
+    let list = c.list in
+    let same = fronts args.first.now args.second.now args.n args.m in record { answer = list.ensures.answer ∙ ap length same; row = list.ensures.row ∙ ap (laid (length args.row.now)) same }
 
 pub list_payloads_spec : {M : Type 1} → statement M
 list_payloads_spec =
     tie.close
-    (tie.spec (λ c. search rules) (λ c. search rules) (λ c. search rules) (λ c. search rules) (λ c. search rules)
+    (tie.spec
+    (λ c. search rules) (λ c. search rules) (λ c. search rules) (λ c. search rules) (λ c. search rules)
     (λ c. search rules) (λ c κs. search rules) (λ c. search rules) returns)

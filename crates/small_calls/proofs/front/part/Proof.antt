@@ -24,20 +24,20 @@ module _ (c : Coming) (chips : List ℕ) where
       let e : c.at + c.count - c.at ≡ c.count = omega arith in
       record { chips_are = rw e (sym (part_there c.at c.count chips (omega arith))) }
 
-returns : tie.Need-returns
+returns : tie.Need-returns-then-chips-at
 returns c =
-    let args = c.before.before.args in
-    starts_past args.coming args.chips.now c.before.if1.true
+    let args = c.args in
+    starts_past args.coming args.chips.now c.if-chips-at.true
 
-returns_2 : tie.Need-returns-2
+returns_2 : tie.Need-returns-then-chips-at-2
 returns_2 c =
-    let args = c.before.before.before.args in
-    ends_past args.coming args.chips.now c.before.before.if1.false c.before.if2.true
+    let args = c.args in
+    ends_past args.coming args.chips.now c.if-chips-at.false c.if-chips-at-2.true
 
-returns_3 : tie.Need-returns-3
+returns_3 : tie.Need-returns
 returns_3 c =
-    let args = c.before.before.before.args in
-    there args.coming args.chips.now c.before.before.if1.false c.before.if2.false
+    let args = c.args in
+    there args.coming args.chips.now c.if-chips-at.false c.if-chips-at-2.false
 
 pub part_spec : {M : Type 1} → statement M
 part_spec =

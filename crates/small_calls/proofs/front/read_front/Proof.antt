@@ -33,34 +33,31 @@ module _ (kind : ℕ) (rec : List Taken) (k : Kind) (r : Coming) (k-is : k ≡ k
       ∙ ap₂ {C = Coming} coming_of k-is
       (sym g ∙ x.told ∙ ap (λ (j : Kind). whole_of j rec (front_of j rec)) k-is ∙ sym (coming_whole kind rec h))
 
-returns : tie.Need-returns
+returns : tie.Need-returns-then-not-is_kind
 returns c =
-    no_kind _ _ _ _ c.before.before.before.kind_of_lem.ensures
-    (failed c.before.before.is_kind_lem.ensures c.before.if1.true) c.refused.ensures
+    no_kind _ _ _ _ c.kind_of-k.ensures
+    (failed c.is_kind.ensures c.if-not-is_kind.true) c.refused.ensures
 
 told_requires : tie.Need-told-requires
-told_requires c κs = c.before.before.before.read_whole.ensures.few _ c.before.front2.given.1
+told_requires c κs = c.read_whole-opening.ensures.few _ c.in-Fields.is
 
-returns_2 : tie.Need-returns-2
+returns_2 : tie.Need-returns-in-Refused
 returns_2 c =
-    let opened = c.before.before.before.before in
-    let asked = opened.before.before.before.before.before in
-    known _ _ _ _ asked.before.before.kind_of_lem.ensures _ _
-    (passed asked.before.is_kind_lem.ensures asked.if1.false)
-    opened.read_whole.ensures c.before.before.front.given.1 c.refused2.ensures
+    known _ _ _ _ c.kind_of-k.ensures _ _
+    (passed c.is_kind.ensures c.if-not-is_kind.false)
+    c.read_whole-opening.ensures c.in-Refused.is c.refused-in-Refused.ensures
 
-returns_3 : tie.Need-returns-3
+returns_3 : tie.Need-returns-in-Fields
 returns_3 c =
-    let opened = c.before.before.before.before in
-    let asked = opened.before.before.before.before.before in
-    known _ _ _ _ asked.before.before.kind_of_lem.ensures _ _
-    (passed asked.before.is_kind_lem.ensures asked.if1.false)
-    opened.read_whole.ensures c.before.before.front2.given.1 c.told.ensures
+    known _ _ _ _ c.kind_of-k.ensures _ _
+    (passed c.is_kind.ensures c.if-not-is_kind.false)
+    c.read_whole-opening.ensures c.in-Fields.is c.told.ensures
 
 pub read_front_spec : {M : Type 1} → statement M
 read_front_spec =
     tie.close
     (tie.spec
-    (λ c κs. search rules) (λ c κs. search rules) (λ c κs. search rules) returns (λ c. search rules) (λ c. search rules)
-    (λ c. search rules) (λ c. search rules) (λ c. search rules) (λ c. search rules) (λ c κs. search rules)
-    (λ c. search rules) (λ c κs. search rules) (λ c. search rules) told_requires returns_2 returns_3)
+    (λ c κs. search rules) (λ c κs. search rules) (λ c κs. search rules) returns (λ c. search rules)
+    (λ c. search rules) (λ c. search rules) (λ c. search rules) (λ c. search rules) (λ c. search rules)
+    (λ c κs. search rules) (λ c. search rules) (λ c κs. search rules) (λ c. search rules) told_requires returns_2
+    returns_3)

@@ -30,9 +30,10 @@ in_numbers k e number place length a b c = rw (a, b, c)
 
 returns : tie.Need-returns
 returns c =
-    let args = c.before.before.before.args in
-    in_numbers args.kind args.e _ _ _ c.before.before.number_of.ensures
-    c.before.place_of.ensures c.length_of.ensures
+    let args = c.args in
+    in_numbers args.kind args.e _ _ _ c.number_of.ensures
+    c.place_of.ensures c.length_of.ensures
 
 pub refused_spec : {M : Type 1} → statement M
-refused_spec = tie.close (tie.spec (λ c κs. search rules) (λ c κs. search rules) (λ c κs. search rules) returns)
+refused_spec = tie.close (tie.spec
+    (λ c κs. search rules) (λ c κs. search rules) (λ c κs. search rules) returns)

@@ -34,9 +34,9 @@ in_numbers k t code at used a b c = rw (a, b, c, clock_byte t.clock)
 
 returns : tie.Need-returns
 returns c =
-    let args = c.before.before.before.before.args in
-    in_numbers args.kind args.t _ _ _ c.before.code.ensures c.before.before.before.front-chips.ensures
-    c.before.before.frame-chips.ensures
+    let args = c.args in
+    in_numbers args.kind args.t _ _ _ c.code.ensures c.front_chips-at.ensures
+    c.frame_chips-used.ensures
 
 pub told_spec : {M : Type 1} → statement M
 told_spec =

@@ -15,38 +15,34 @@ use Rattle.small_calls.proofs.odd.block.Tie as tie
 
 decide_requires : tie.Need-decide-requires
 decide_requires c κs =
-    let s = c.before.before in
-    let chips : 88 * s.args.count ≡ 11 * (8 * s.args.count) = omega arith in (
-      omega (arith, s.requires.1),
-      omega (arith, s.requires.2),
-      subst (AllUsable (hard_recording s.args.chips.now) s.args.place) chips s.requires.4,
+    let chips : 88 * c.args.count ≡ 11 * (8 * c.args.count) = omega arith in (
+      omega (arith, c.requires.1),
+      omega (arith, c.requires.2),
+      subst (AllUsable (hard_recording c.args.chips.now) c.args.place) chips c.requires.4,
       search rules,
     )
 
-odd_growth_requires : tie.Need-odd-growth-requires
+odd_growth_requires : tie.Need-odd_growth-odd-requires
 odd_growth_requires c κs =
-    let s = c.before.before.before in
     let d = c.decide.ensures in (
-      omega (arith, s.requires.1),
-      omega (arith, s.requires.2, s.well-formed.0.0),
-      s.requires.3,
+      omega (arith, c.requires.1),
+      omega (arith, c.requires.2, c.well_formed.0.0),
+      c.requires.3,
       d.long,
-      row_words (hard_recording s.args.chips.now) s.args.place s.args.count _ d s.requires.0 s.requires.1,
+      row_words (hard_recording c.args.chips.now) c.args.place c.args.count _ d c.requires.0 c.requires.1,
     )
 
 returns : tie.Need-returns
 returns c =
-    let decided = c.before in
-    let s = decided.before.before.before in
-    let rec = hard_recording s.args.chips.now in
-    let d = decided.decide.ensures in
+    let rec = hard_recording c.args.chips.now in
+    let d = c.decide.ensures in
     record {
       odd =
-          c.odd-growth.ensures
-          ∙ ap (λ (ws : List ℕ). first_odd s.args.place (growths_of One s.args.before ws))
-          (row_is rec s.args.place s.args.count _ d s.requires.0 s.requires.1);
-      last = block_last rec s.args.place s.args.count _ d s.requires.0 s.requires.1 s.args.before;
-      small = block_small rec s.args.place s.args.count _ d s.requires.0 s.requires.1;
+          c.odd_growth-odd.ensures
+          ∙ ap (λ (ws : List ℕ). first_odd c.args.place (growths_of One c.args.before ws))
+          (row_is rec c.args.place c.args.count _ d c.requires.0 c.requires.1);
+      last = block_last rec c.args.place c.args.count _ d c.requires.0 c.requires.1 c.args.before;
+      small = block_small rec c.args.place c.args.count _ d c.requires.0 c.requires.1;
     }
 
 pub block_spec : {M : Type 1} → statement M

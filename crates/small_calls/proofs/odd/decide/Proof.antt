@@ -6,17 +6,16 @@ use Rattle.small_calls.proofs.odd.decide.Statement.{statement}
 use Rattle.small_calls.proofs.odd.decide.Tie as tie
 
 decide_requires : tie.Need-decide-requires
-decide_requires c κs =
-    let s = c.before.before.before.before.before.before.before in (
-      s.requires.0,
-      omega (arith, s.requires.1, length_hard s.args.chips.now),
-      s.requires.2,
-      s.requires.3,
-      search rules,
-    )
+decide_requires c κs = (
+  c.requires.0,
+  omega (arith, c.requires.1, length_hard c.args.chips.now),
+  c.requires.2,
+  c.requires.3,
+  search rules,
+)
 
 returns : tie.Need-returns
-returns c = c.decide.ensures.0
+returns c = c.decide.ensures.numbers
 
 pub decide_spec : {M : Type 1} → statement M
 decide_spec =

@@ -6,22 +6,19 @@ use Rattle.small_calls.proofs.Blocks.{grown_small, grown_at}
 use Rattle.small_calls.proofs.odd.growth_at.Statement.{statement}
 use Rattle.small_calls.proofs.odd.growth_at.Tie as tie
 
-add_result : tie.Need-overflow-add-result
+add_result : tie.Need-overflow_add-result
 add_result c =
-    let s = c.before.before.before in
-    let h = grown_small (hard_recording s.args.chips.now) s.args.place _ s.requires.0 c.decide.ensures in
+    let h = grown_small (hard_recording c.args.chips.now) c.args.place _ c.requires.0 c.decide.ensures in
     record { fits = omega (arith, h.1) }
 
-sub_result : tie.Need-overflow-sub-result
+sub_result : tie.Need-overflow_sub-result
 sub_result c =
-    let s = c.before.before.before in
-    let h = grown_small (hard_recording s.args.chips.now) s.args.place _ s.requires.0 c.decide.ensures in
+    let h = grown_small (hard_recording c.args.chips.now) c.args.place _ c.requires.0 c.decide.ensures in
     omega (arith, h.0)
 
 returns : tie.Need-returns
 returns c =
-    let s = c.before.before.before in
-    grown_at (hard_recording s.args.chips.now) s.args.place _ s.requires.0 c.decide.ensures
+    grown_at (hard_recording c.args.chips.now) c.args.place _ c.requires.0 c.decide.ensures
 
 pub growth_at_spec : {M : Type 1} → statement M
 growth_at_spec =

@@ -3,16 +3,15 @@ use borrow.Author.Rules.{rules}
 use Rattle.small_calls.proofs.odd.odd_in_payload.Statement.{statement}
 use Rattle.small_calls.proofs.odd.odd_in_payload.Tie as tie
 
-first_odd_requires : tie.Need-first-odd-requires
-first_odd_requires c κs =
-    let s = c.before.before.before in (
-      rw c.enum_told.given.1 at s.requires.0,
-      s.requires.1,
-      rw c.enum_told.given.1 at s.requires.2,
-    )
+first_odd_requires : tie.Need-first_odd-requires
+first_odd_requires c κs = (
+  rw c.in-One.is at c.requires.0,
+  c.requires.1,
+  rw c.in-One.is at c.requires.2,
+)
 
-returns : tie.Need-returns
-returns c = rw c.before.enum_told.given.1 c.first-odd.ensures
+returns : tie.Need-returns-in-One
+returns c = rw c.in-One.is c.first_odd.ensures
 
 pub odd_in_payload_spec : {M : Type 1} → statement M
 odd_in_payload_spec =

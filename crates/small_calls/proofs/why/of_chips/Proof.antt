@@ -22,98 +22,87 @@ use Rattle.small_calls.proofs.Payload.{
 use Rattle.small_calls.proofs.why.of_chips.Statement.{statement}
 use Rattle.small_calls.proofs.why.of_chips.Tie as tie
 
-first_unusable_requires : tie.Need-first-unusable-requires
+first_unusable_requires : tie.Need-first_unusable-bad-requires
 first_unusable_requires c κs =
-    let frame = c.before.before.before.before in
-    let s = frame.before.before.before in
-    omega (arith, frame.frame-chips.ensures, s.requires.1, length_hard s.args.chips.now)
+    omega (arith, c.frame_chips-all.ensures, c.requires.1, length_hard c.args.chips.now)
 
 -- 9 is searched
-abbrev begun : tie.After-first-unusable → tie.Start
-begun c = c.before.before.before.before.before.before.before.before
+abbrev begun : tie.After-first_unusable-bad → tie.Start
+begun c = c.before.before.before.before.before.before
 
-found : (c : tie.After-first-unusable) → let a = (begun c).args in
-    where_found c.first_unusable_lem.result ≡ found_unusable a.kind a.told (hard_recording a.chips.now)
+found : (c : tie.After-first_unusable-bad) → let a = (begun c).args in
+    where_found c.first_unusable-bad.result ≡ found_unusable a.kind a.told (hard_recording a.chips.now)
 found c =
-    let frame = c.before.before.before.before.before in
     let a = (begun c).args in
-    unusable_is a.kind a.chips.now a.told c.first_unusable_lem.result frame.before.front-chips.ensures
-    frame.frame-chips.ensures c.first_unusable_lem.ensures
+    unusable_is a.kind a.chips.now a.told c.first_unusable-bad.result c.front_chips-from.ensures
+    c.frame_chips-all.ensures c.first_unusable-bad.ensures
 
 -- and then 10
-abbrev searched : tie.After-odd-in-payload → tie.After-first-unusable
+abbrev searched : tie.After-odd_in_payload-odd → tie.After-first_unusable-bad
 searched c = c.before.before.before
 
-odd : (c : tie.After-odd-in-payload) → let a = (begun (searched c)).args in
-    where_found c.odd-in-payload.result
+odd : (c : tie.After-odd_in_payload-odd) → let a = (begun (searched c)).args in
+    where_found c.odd_in_payload-odd.result
     ≡ payload_odd a.kind a.told.rate a.told.n (hard_recording a.chips.now)
 odd c =
     let frame = (searched c).before.before.before.before.before in
     let s = begun (searched c) in
     let a = s.args in
-    odd_is a.kind a.chips.now a.told c.odd-in-payload.result frame.before.front-chips.ensures
-    s.pre.2 c.odd-in-payload.ensures
+    odd_is a.kind a.chips.now a.told c.odd_in_payload-odd.result frame.before.front-chips.ensures
+    s.pre.2 c.odd_in_payload-odd.ensures
 
-shared_slice_read_refused : tie.Need-shared-slice-read-refused
+shared_slice_read_refused : tie.Need-bounds-chips-place
 shared_slice_read_refused c =
-    let bad = c.before.before in
-    let s = begun bad.before.before in
+    let s = begun c.before.before.before.before in
     unusable_there s.args.kind s.args.chips.now s.args.told s.pre.1 _
-    (sym (found bad.before.before) ∙ ap where_found bad.bad.given.1)
+    (sym (found c.before.before.before.before) ∙ ap where_found c.in-At.is)
 
-cast_refused : tie.Need-overflow-cast-refused
-cast_refused c = record { fits = omega (arith, c.shared-slice-known2.given c.before.before.bad.given.0.0) }
+cast_refused : tie.Need-overflow_cast-chips
+cast_refused c = record { fits = omega (arith, c.shared_slice_known-in-At-1.given c.in-At.place) }
 
-returns : tie.Need-returns
+returns : tie.Need-returns-in-At
 returns c number room fits =
-    let bad = c.before.before.before in
-    let a = (begun bad.before.before).args in
+    let a = (begun c.before.before.before.before.before).args in
     shown_unusable a.kind a.chips.now a.told number room fits _
-    (sym (found bad.before.before) ∙ ap where_found bad.bad.given.1) c.refused.ensures
+    (sym (found c.before.before.before.before.before) ∙ ap where_found c.in-At.is) c.refused.ensures
 
-odd_in_payload_requires : tie.Need-odd-in-payload-requires
+odd_in_payload_requires : tie.Need-odd_in_payload-odd-requires
 odd_in_payload_requires c κs =
     let s = begun c.before.before in
     let a = s.args in
-    let front = c.before.before.before.before.before.before.before.before.front-chips.ensures in (
+    let front = c.front_chips-from.ensures in (
       omega (arith, front, s.pre.1),
       s.pre.3,
       rw front
           (payload_usable a.kind a.chips.now a.told s.pre.1
-          (sym (found c.before.before) ∙ ap where_found c.enum_told.given.1)),
+          (sym (found c.before.before) ∙ ap where_found c.in_default.is)),
     )
 
-growth_at_requires : tie.Need-growth-at-requires
+growth_at_requires : tie.Need-growth_at-requires
 growth_at_requires c κs =
-    let at = c.before in
-    let sought = at.before.before in
-    let s = begun (searched sought) in
+    let s = begun (searched c.before.before.before) in
     let a = s.args in
-    let is = sym (odd sought) ∙ ap where_found at.odd.given.1 in
+    let is = sym (odd c.before.before.before) ∙ ap where_found c.in-At-odd.is in
     let room = odd_room a.kind a.chips.now a.told s.pre.1 _ is in (
       room.0,
       room.1,
       odd_usable a.kind a.chips.now a.told s.pre.1
-          (sym (found (searched sought)) ∙ ap where_found sought.before.enum_told.given.1) _ is s.pre.4,
+          (sym (found (searched c.before.before.before)) ∙ ap where_found c.in_default.is) _ is s.pre.4,
     )
 
-returns_2 : tie.Need-returns-2
+returns_2 : tie.Need-returns-in-At-odd
 returns_2 c number room fits =
-    let at = c.before.before.before in
-    let sought = at.before.before in
-    let a = (begun (searched sought)).args in
+    let a = (begun (searched c.before.before.before.before.before)).args in
     shown_odd a.kind a.chips.now a.told number room fits _
-    (sym (found (searched sought)) ∙ ap where_found sought.before.enum_told.given.1)
-    (sym (odd sought) ∙ ap where_found at.odd.given.1) c.before.growth-at.ensures c.refused2.ensures
+    (sym (found (searched c.before.before.before.before.before)) ∙ ap where_found c.in_default.is)
+    (sym (odd c.before.before.before.before.before) ∙ ap where_found c.in-At-odd.is) c.growth_at.ensures c.refused-in-At-odd.ensures
 
-returns_3 : tie.Need-returns-3
+returns_3 : tie.Need-returns-in-Nothing
 returns_3 c number room fits =
-    let none = c.before in
-    let sought = none.before.before in
-    let a = (begun (searched sought)).args in
+    let a = (begun (searched c.before.before.before)).args in
     shown_good a.kind a.chips.now a.told number room fits
-    (sym (found (searched sought)) ∙ ap where_found sought.before.enum_told.given.1)
-    (sym (odd sought) ∙ ap where_found none.enum-told2.given.1) c.good2.ensures
+    (sym (found (searched c.before.before.before)) ∙ ap where_found c.in_default.is)
+    (sym (odd c.before.before.before) ∙ ap where_found c.in-Nothing.is) c.good2.ensures
 
 pub of_chips_spec : {M : Type 1} → statement M
 of_chips_spec =
@@ -121,6 +110,6 @@ of_chips_spec =
     (tie.spec
     (λ c κs. search rules) (λ c κs. search rules) (λ c. search rules) (λ c. search rules) (λ c. search rules)
     (λ c. search rules) (λ c. search rules) (λ c. search rules) first_unusable_requires (λ c. search rules)
-    shared_slice_read_refused cast_refused (λ c κs. search rules) returns (λ c. search rules) odd_in_payload_requires
-    (λ c. search rules) growth_at_requires (λ c κs. search rules) (λ c. search rules) (λ c κs. search rules) returns_2
-    returns_3)
+    shared_slice_read_refused cast_refused (λ c κs. search rules) returns (λ c. search rules)
+    odd_in_payload_requires (λ c. search rules) growth_at_requires (λ c κs. search rules) (λ c. search rules)
+    (λ c κs. search rules) returns_2 returns_3)

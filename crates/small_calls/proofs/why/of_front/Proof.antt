@@ -63,61 +63,50 @@ not_odd (Ends l) h q = omega arith
 not_odd (OctetRoom l) h q = omega arith
 
 -- what was told
-abbrev begun : tie.After-told → tie.Start
+abbrev begun : tie.After-told-opening → tie.Start
 begun c = c.before.before.before.before
 
-opened : (c : tie.After-told) → let a = (begun c).args in
+opened : (c : tie.After-told-opening) → let a = (begun c).args in
     Opens a.kind (hard_recording a.chips.now) (after_usable ours a.kind (hard_recording a.chips.now))
-    c.told.result
-opened c = let s = begun c in c.told.ensures.0 (hard_recording s.args.chips.now) s.pre.1
+    c.told-opening.result
+opened c = let s = begun c in c.told-opening.ensures.answer (hard_recording s.args.chips.now) s.pre.1
 
-growth_at_requires : tie.Need-growth-at-requires
+growth_at_requires : tie.Need-growth_at-requires
 growth_at_requires c κs =
-    let at = c.before in
-    let front = at.before.before.before in
-    let told = front.before.before in
-    let s = begun told in
+    let s = begun c.before.before.before.before.before.before in
     odd_front 0 s.args.kind s.args.chips.now s.args.room _
-    (sym (opened told).told ∙ front.front.given.1) _ _ at.e.given.1 s.pre.0.1 s.pre.0.2
+    (sym (opened c.before.before.before.before.before.before).told ∙ c.in-Refused.is) _ _ c.in-OddGrowth.is s.pre.0.1 s.pre.0.2
 
-returns : tie.Need-returns
+returns : tie.Need-returns-in-OddGrowth
 returns c number =
-    let at = c.before.before.before in
-    let front = at.before.before.before in
-    let told = front.before.before in
-    let s = begun told in
+    let s = begun c.before.before.before.before.before.before.before.before in
     front_odd_lem number s.args.kind s.args.chips.now s.args.room _
-    (sym (opened told).told ∙ front.front.given.1) (s.pre.0.0 ours) _ _ at.e.given.1
-    c.before.growth-at.ensures c.refused.ensures
+    (sym (opened c.before.before.before.before.before.before.before.before).told ∙ c.in-Refused.is) (s.pre.0.0 ours) _ _ c.in-OddGrowth.is
+    c.growth_at.ensures c.refused.ensures
 
-returns_2 : tie.Need-returns-2
+returns_2 : tie.Need-returns-in_default
 returns_2 c number =
-    let other = c.before in
-    let front = other.before.before in
-    let told = front.before.before in
-    let s = begun told in
+    let s = begun c.before.before.before.before.before in
     front_header number s.args.kind s.args.chips.now s.args.room _
-    (sym (opened told).told ∙ front.front.given.1) (s.pre.0.0 ours)
-    (not_odd front.front.given.0.0 other.match2.keys2) s.pre.1.sfd s.pre.1.header
-    c.of-header.ensures
+    (sym (opened c.before.before.before.before.before).told ∙ c.in-Refused.is) (s.pre.0.0 ours)
+    (not_odd c.in-Refused.e c.in_default.keys2) s.pre.1.sfd s.pre.1.header
+    c.of_header.ensures
 
--- a front that told
-fields : (c : tie.After-line) → let a = (begun c.before.before.before.before).args in
-    front_of a.kind (hard_recording a.chips.now) ≡ Fields c.before.before.front2.given.0.0
+-- a c that c
+fields : (c : tie.After-line-1) → let a = (begun c.before.before.before.before).args in
+    front_of a.kind (hard_recording a.chips.now) ≡ Fields c.in-Fields.told
 fields c =
-    let told = c.before.before.before.before in
-    (begun told).requires.0.0 ours ∙ sym (opened told).told ∙ c.before.before.front2.given.1
+    (begun c.before.before.before.before).requires.0.0 ours ∙ sym (opened c.before.before.before.before).told ∙ c.in-Fields.is
 
-of_payload_requires : tie.Need-of-payload-requires
+of_payload_requires : tie.Need-of_payload-requires
 of_payload_requires c κs =
-    let told = c.before.before.before.before in
-    let line = (opened told).line _ c.before.before.front2.given.1 in
-    (fields c, line.at_phase, line.small, (begun told).requires.0.2)
+    let line = (opened c.before.before.before.before).line _ c.in-Fields.is in
+    (fields c, line.at_phase, line.small, (begun c.before.before.before.before).requires.0.2)
 
-returns_3 : tie.Need-returns-3
+returns_3 : tie.Need-returns-in-Fields
 returns_3 c number =
     let a = (begun c.before.before.before.before.before).args in
-    c.of-payload.ensures number
+    c.of_payload.ensures number
     ∙ sym (ap (after_told number a.kind a.chips.now a.room) (fields c.before))
 
 pub of_front_spec : {M : Type 1} → statement M

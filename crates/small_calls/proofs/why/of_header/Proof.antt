@@ -77,61 +77,46 @@ module _ (k : Kind) (sfd header : List ℕ) where
   nothing (Ends l) h = (refl, refl)
   nothing (OctetRoom l) h = (refl, refl)
 
-returns : tie.Need-returns
+returns : tie.Need-returns-in-Sfd
 returns c =
-    let told = c.before.before.before in
-    let s = told.before.before.before in
-    let a = s.args in
+    let a = c.args in
     row_of a.kind (octet_bits a.t2) (octet_bits a.t3) a.e Sfd c.refused.ensures
-    told.enum_told.given.1 c.before.before.sfd-of.ensures
-    (sfd_octets a.t2 (two s) c.before.both.ensures.0)
+    c.in-Sfd.is c.sfd_of.ensures
+    (sfd_octets a.t2 (two c.before.before.before.before.before.before) c.both.ensures.0)
 
-returns_2 : tie.Need-returns-2
+returns_2 : tie.Need-returns-in-Crc
 returns_2 c =
-    let told = c.before.before.before in
-    let s = told.before.before.before in
-    let a = s.args in
-    row_of a.kind (octet_bits a.t2) (octet_bits a.t3) a.e Crc c.refused2.ensures
-    told.enum-told2.given.1 c.before.before.crc-worked-out.ensures c.before.crc-read.ensures
+    let a = c.args in
+    row_of a.kind (octet_bits a.t2) (octet_bits a.t3) a.e Crc c.refused-in-Crc.ensures
+    c.in-Crc.is c.crc_worked_out.ensures c.crc_read.ensures
 
-returns_3 : tie.Need-returns-3
+returns_3 : tie.Need-returns-in-Signal
 returns_3 c =
-    let told = c.before in
-    let s = told.before.before.before in
-    let a = s.args in
-    row_of a.kind (octet_bits a.t2) (octet_bits a.t3) a.e (Signal _) c.refused3.ensures
-    told.enum-told3.given.1 refl (signal_row a.t3 (six s) (octets s))
+    let a = c.args in
+    row_of a.kind (octet_bits a.t2) (octet_bits a.t3) a.e (Signal _) c.refused-in-Signal.ensures
+    c.in-Signal.is refl (signal_row a.t3 (six c.before.before.before.before) (octets c.before.before.before.before))
 
-returns_4 : tie.Need-returns-4
+returns_4 : tie.Need-returns-in-Service
 returns_4 c =
-    let told = c.before.before in
-    let rate = told.before.before in
-    let s = rate.before in
-    let a = s.args in
-    row_of a.kind (octet_bits a.t2) (octet_bits a.t3) a.e (Service _) c.refused4.ensures
-    told.enum-told4.given.1 refl
-    (service_row a.t3 (six s) (octets s) _ rate.rate_of_lem.ensures c.before.service-left.ensures)
+    let a = c.args in
+    row_of a.kind (octet_bits a.t2) (octet_bits a.t3) a.e (Service _) c.refused-in-Service.ensures
+    c.in-Service.is refl
+    (service_row a.t3 (six c.before.before.before.before.before) (octets c.before.before.before.before.before) _ c.rate_of-r.ensures c.service_left.ensures)
 
-returns_5 : tie.Need-returns-5
+returns_5 : tie.Need-returns-in-Length
 returns_5 c =
-    let read = c.before.before in
-    let told = read.before in
-    let rate = told.before.before in
-    let s = rate.before in
-    let a = s.args in
-    row_of a.kind (octet_bits a.t2) (octet_bits a.t3) a.e (Length _) c.refused5.ensures
-    told.enum-told5.given.1
-    (length_row a.t3 (six s) (octets s) _ rate.rate_of_lem.ensures _ read.both2.ensures.0
-    c.before.length-for.ensures)
-    (micros_row a.t3 (six s) (octets s) _ read.both2.ensures.0)
+    let a = c.args in
+    row_of a.kind (octet_bits a.t2) (octet_bits a.t3) a.e (Length _) c.refused-in-Length.ensures
+    c.in-Length.is
+    (length_row a.t3 (six c.before.before.before.before.before.before) (octets c.before.before.before.before.before.before) _ c.rate_of-r.ensures _ c.both-length.ensures.0
+    c.length_for-expected.ensures)
+    (micros_row a.t3 (six c.before.before.before.before.before.before) (octets c.before.before.before.before.before.before) _ c.both-length.ensures.0)
 
-returns_6 : tie.Need-returns-6
+returns_6 : tie.Need-returns-in_default
 returns_6 c =
-    let other = c.before in
-    let s = other.before.before in
-    let a = s.args in
-    let row = nothing a.kind (octet_bits a.t2) (octet_bits a.t3) a.e other.match.keys6 in
-    row_of a.kind (octet_bits a.t2) (octet_bits a.t3) a.e a.e c.refused6.ensures refl row.0
+    let a = c.args in
+    let row = nothing a.kind (octet_bits a.t2) (octet_bits a.t3) a.e c.in_default.keys6 in
+    row_of a.kind (octet_bits a.t2) (octet_bits a.t3) a.e a.e c.refused-in_default.ensures refl row.0
     row.1
 
 pub of_header_spec : {M : Type 1} → statement M

@@ -8,48 +8,41 @@ use Rattle.small_calls.proofs.Payload.{few_octets, shown_ends, shown_room, shown
 use Rattle.small_calls.proofs.why.of_payload.Statement.{statement}
 use Rattle.small_calls.proofs.why.of_payload.Tie as tie
 
-frame_chips_requires : tie.Need-frame-chips-requires
+frame_chips_requires : tie.Need-frame_chips-all-requires
 frame_chips_requires c κs =
-    let s = c.before in few_octets s.args.kind s.args.chips.now s.args.told s.requires.0
+    few_octets c.args.kind c.args.chips.now c.args.told c.requires.0
 
 -- 16 is through
-there : (c : tie.Else1) → let a = c.before.before.before.args in
+there : (c : tie.Else-chips-all) → let a = c.args in
     frame_chips a.kind a.told.rate a.told.n ≤ length a.chips.now
-there c = omega (arith, c.before.frame-chips.ensures, c.if1.false)
+there c = omega (arith, c.frame_chips-all.ensures, c.if-chips-all.false)
 
-returns : tie.Need-returns
+returns : tie.Need-returns-then-chips-all
 returns c number =
-    let frame = c.before.before in
-    let s = frame.before.before in
-    let a = s.args in
-    shown_ends a.kind a.chips.now a.told number a.room s.requires.0 frame.frame-chips.ensures
-    c.before.if1.true c.refused.ensures
+    let a = c.args in
+    shown_ends a.kind a.chips.now a.told number a.room c.requires.0 c.frame_chips-all.ensures
+    c.if-chips-all.true c.refused.ensures
 
-returns_2 : tie.Need-returns-2
+returns_2 : tie.Need-returns-then-room-n
 returns_2 c number =
-    let long = c.before.before in
-    let s = long.before.before.before in
-    let a = s.args in
-    shown_room a.kind a.chips.now a.told number a.room s.requires.0 (there long) c.before.if2.true
-    c.refused2.ensures
+    let a = c.args in
+    shown_room a.kind a.chips.now a.told number a.room c.requires.0 (there c.before.before) c.if-room-n.true
+    c.refused-then-room-n.ensures
 
-of_chips_requires : tie.Need-of-chips-requires
-of_chips_requires c κs =
-    let s = c.before.before.before.before in (
-      few_octets s.args.kind s.args.chips.now s.args.told s.requires.0,
-      there c.before,
-      s.requires.1,
-      s.requires.2,
-      s.requires.3,
-    )
+of_chips_requires : tie.Need-of_chips-requires
+of_chips_requires c κs = (
+  few_octets c.args.kind c.args.chips.now c.args.told c.requires.0,
+  there c.before,
+  c.requires.1,
+  c.requires.2,
+  c.requires.3,
+)
 
-returns_3 : tie.Need-returns-3
+returns_3 : tie.Need-returns
 returns_3 c number =
-    let long = c.before.before in
-    let s = long.before.before.before in
-    let a = s.args in
-    shown_behind a.kind a.chips.now a.told number a.room s.requires.0 (there long)
-    (c.of-chips.ensures number a.room c.before.if2.false)
+    let a = c.args in
+    shown_behind a.kind a.chips.now a.told number a.room c.requires.0 (there c.before.before)
+    (c.of_chips.ensures number a.room c.if-room-n.false)
 
 pub of_payload_spec : {M : Type 1} → statement M
 of_payload_spec =

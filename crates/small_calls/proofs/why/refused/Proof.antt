@@ -9,9 +9,10 @@ use Rattle.small_calls.proofs.why.refused.Tie as tie
 
 returns : tie.Need-returns
 returns c =
-    let a = c.before.before.args in
-    ap₂ {C = Reason} (λ number place. reason number place a.expected a.found) c.before.number_of.ensures
+    let a = c.args in
+    ap₂ {C = Reason} (λ number place. reason number place a.expected a.found) c.number_of.ensures
     c.place_of.ensures
 
 pub refused_spec : {M : Type 1} → statement M
-refused_spec = tie.close (tie.spec (λ c κs. search rules) (λ c κs. search rules) returns)
+refused_spec = tie.close (tie.spec
+    (λ c κs. search rules) (λ c κs. search rules) returns)

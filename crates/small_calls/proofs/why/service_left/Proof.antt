@@ -3,17 +3,17 @@ use borrow.Author.Rules.{rules}
 use Rattle.small_calls.proofs.why.service_left.Statement.{statement}
 use Rattle.small_calls.proofs.why.service_left.Tie as tie
 
-returns : tie.Need-returns
-returns c = rw c.enum_told.given.1
+returns : tie.Need-returns-in-One
+returns c = rw c.in-One.is
 
-returns_2 : tie.Need-returns-2
-returns_2 c = rw c.enum-told2.given.1
+returns_2 : tie.Need-returns-in-Two
+returns_2 c = rw c.in-Two.is
 
-returns_3 : tie.Need-returns-3
-returns_3 c = rw c.enum-told3.given.1
+returns_3 : tie.Need-returns-in-Five
+returns_3 c = rw c.in-Five.is
 
-returns_4 : tie.Need-returns-4
-returns_4 c = rw c.enum-told4.given.1
+returns_4 : tie.Need-returns-in-Eleven
+returns_4 c = rw c.in-Eleven.is
 
 pub service_left_spec : {M : Type 1} → statement M
 service_left_spec =

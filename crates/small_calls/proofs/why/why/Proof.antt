@@ -12,77 +12,68 @@ use Rattle.small_calls.proofs.OfFront.{why_no_kind, why_told, why_shorter, why_u
 use Rattle.small_calls.proofs.why.why.Statement.{statement}
 use Rattle.small_calls.proofs.why.why.Tie as tie
 
-returns : tie.Need-returns
+returns : tie.Need-returns-then-not-is_kind
 returns c =
-    let asked = c.before.before in
-    let a = asked.before.before.args in
-    why_no_kind a.kind a.chips.now a.room (failed asked.is_kind_lem.ensures c.before.if1.true)
+    let a = c.args in
+    why_no_kind a.kind a.chips.now a.room (failed c.is_kind.ensures c.if-not-is_kind.true)
     c.refused.ensures
 
 -- before the look
-abbrev known : tie.After-look-at-front → tie.After-kind-of
-known c = c.before.before.before.before.before
+abbrev known : tie.After-look_at_front-looked → tie.After-kind_of-k
+known c = c.before.before.before
 
-abbrev begun : tie.After-look-at-front → tie.Start
-begun c = (known c).before.before.before.before
+abbrev begun : tie.After-look_at_front-looked → tie.Start
+begun c = c.before.before.before.before.before.before.before
 
-looked : (c : tie.After-look-at-front) {l : Look} → c.look-at-front.result ≡ l
+looked : (c : tie.After-look_at_front-looked) {l : Look} → c.look-at-front.result ≡ l
     → Looks (known c).kind_of_lem.result (hard_recording (begun c).args.chips.now) l
 looked c e =
     subst (Looks (known c).kind_of_lem.result (hard_recording (begun c).args.chips.now)) e c.look-at-front.ensures
 
-shared_slice_read_refused : tie.Need-shared-slice-read-refused
+shared_slice_read_refused : tie.Need-bounds-chips-place
 shared_slice_read_refused c =
-    let at = c.before.before in
-    let look = at.before.before in
-    omega (arith, (looked look at.looked.given.1).1, length_hard (begun look).args.chips.now)
+    omega (arith, (looked c c.in-Unusable.is).1, length_hard (begun c.before.before.before.before).args.chips.now)
 
-cast_refused : tie.Need-overflow-cast-refused
-cast_refused c = record { fits = omega (arith, c.shared-slice-known2.given c.before.before.looked.given.0.0) }
+cast_refused : tie.Need-overflow_cast-chips
+cast_refused c = record { fits = omega (arith, c.shared_slice_known-in-Unusable-1.given c.in-Unusable.place) }
 
-hear_front_requires : tie.Need-hear-front-requires
-hear_front_requires c κs = let w = looked c.before.before c.enum-told2.given.1 in (w.1, w.2)
+hear_front_requires : tie.Need-hear_front-known-requires
+hear_front_requires c κs = let w = looked c c.in-Usable.is in (w.1, w.2)
 
-of_front_requires : tie.Need-of-front-requires
+of_front_requires : tie.Need-of_front-requires
 of_front_requires c κs =
-    let usable = c.before in
-    (looked usable.before.before usable.enum-told2.given.1, c.hear-front.ensures)
+    (looked c c.in-Usable.is, c.hear_front-known.ensures)
 
-returns_2 : tie.Need-returns-2
+returns_2 : tie.Need-returns-in-Shorter
 returns_2 c =
-    let short = c.before.before in
-    let look = short.before.before in
-    let a = (begun look).args in
-    let kind = known look in
+    let a = (begun c.before.before.before.before).args in
+    let kind = known c.before.before.before.before in
     why_shorter a.kind a.chips.now a.room _
     (passed kind.before.before.is_kind_lem.ensures kind.before.if1.left) kind.kind_of_lem.ensures
-    (looked look short.enum_told.given.1 ours) c.before.front-chips.ensures c.refused2.ensures
+    (looked c c.in-Shorter.is ours) c.front_chips.ensures c.refused-in-Shorter.ensures
 
-returns_3 : tie.Need-returns-3
+returns_3 : tie.Need-returns-in-Unusable
 returns_3 c =
-    let at = c.before.before.before in
-    let look = at.before.before in
-    let a = (begun look).args in
-    let kind = known look in
+    let a = (begun c.before.before.before.before.before).args in
+    let kind = known c.before.before.before.before.before in
     why_unusable a.kind a.chips.now a.room _
     (passed kind.before.before.is_kind_lem.ensures kind.before.if1.left) kind.kind_of_lem.ensures _
-    ((looked look at.looked.given.1).0 ours) c.refused3.ensures
+    ((looked c c.in-Unusable.is).0 ours) c.refused-in-Unusable.ensures
 
-returns_4 : tie.Need-returns-4
+returns_4 : tie.Need-returns-in-Usable
 returns_4 c =
-    let look = c.before.before.before.before in
-    let a = (begun look).args in
-    let kind = known look in
+    let a = (begun c.before.before.before.before).args in
+    let kind = known c.before.before.before.before in
     why_told a.kind a.chips.now a.room _
     (passed kind.before.before.is_kind_lem.ensures kind.before.if1.left) kind.kind_of_lem.ensures
-    (c.of-front.ensures a.kind)
+    (c.of_front.ensures a.kind)
 
 pub why_spec : {M : Type 1} → statement M
 why_spec =
     tie.close
     (tie.spec
-    (λ c κs. search rules) (λ c κs. search rules) returns (λ c κs. search rules) (λ c. search rules) (λ c. search rules)
-    (λ c. search rules) (λ c. search rules) (λ c. search rules) (λ c. search rules) (λ c κs. search rules)
-    (λ c. search rules) (λ c κs. search rules) (λ c κs. search rules) (λ c. search rules) shared_slice_read_refused
-    cast_refused (λ c κs. search rules) (λ c. search rules) hear_front_requires of_front_requires returns_2 returns_3
-    returns_4)
+    (λ c κs. search rules) (λ c κs. search rules) returns (λ c κs. search rules) (λ c. search rules)
+    (λ c. search rules) (λ c. search rules) (λ c. search rules) (λ c. search rules) (λ c. search rules)
+    (λ c κs. search rules) (λ c. search rules) (λ c κs. search rules) (λ c κs. search rules) (λ c. search rules)
+    shared_slice_read_refused cast_refused (λ c κs. search rules) (λ c. search rules) hear_front_requires
+    of_front_requires returns_2 returns_3 returns_4)

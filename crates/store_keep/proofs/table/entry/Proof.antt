@@ -6,16 +6,12 @@ use Rattle.store_keep.proofs.table.entry.Statement.{statement}
 use Rattle.store_keep.proofs.table.entry.Tie as tie
 
 returns : tie.Need-returns
-returns c =
-    let three = c.before.before in
-    let two = three.before.before in
-    let one = two.before.before in
-    let start = one.before.before.before in (
-      entry_is start.args.store.now _ _ _ _ _ one.wide.ensures.0 two.wide2.ensures.0
-          three.wide3.ensures.0 c.wide4.ensures.0,
-      one.wide.ensures.1,
-      c.wide4.ensures.1,
-    )
+returns c = (
+  entry_is c.args.store.now _ _ _ _ _ c.wide-tag.ensures.0 c.wide-low.ensures.0
+      c.wide-high.ensures.0 c.wide-size.ensures.0,
+  c.wide-tag.ensures.1,
+  c.wide-size.ensures.1,
+)
 
 pub entry_spec : {M : Type 1} → statement M
 entry_spec =

@@ -11,43 +11,36 @@ use Rattle.rules_store.proofs.Firsts.{First, first_is, none_of_few, too_few, thi
 use Rattle.store_keep.proofs.table.find_three.Statement.{statement}
 use Rattle.store_keep.proofs.table.find_three.Tie as tie
 
-first : (c : tie.After-struct-known)
-    → (let start = c.before.before.before.before in
-    First start.args.store.now start.args.n (bool_byte (eqb c.before.entry.result.tag 0)))
+first : (c : tie.After-struct_known-1)
+    → (First c.args.store.now c.args.n (bool_byte (eqb c.entry-head.result.tag 0)))
 first c =
-    let start = c.before.before.before.before in
-    first_is _ _ (omega arith) start.requires.1 _ c.before.entry.ensures.0
+    first_is _ _ (omega arith) c.requires.1 _ c.entry-head.ensures.0
 
 one_most : (b : Bool) → bool_byte b ≤ 1
 one_most true = omega arith
 one_most false = omega arith
 
-returns : tie.Need-returns
+returns : tie.Need-returns-then-n-lt3
 returns c =
-    let start = c.before.before in
-    (none_of_few start.args.store.now start.args.n start.requires.1 c.if1.true, λ t. absurd (never t))
+    (none_of_few c.args.store.now c.args.n c.requires.1 c.if-n-lt3.true, λ t. absurd (never t))
 
-add_if2 : tie.Need-overflow-add-if2
-add_if2 c = omega (arith, one_most (eqb c.before.entry.result.tag 0))
+add_if2 : tie.Need-overflow_add-first
+add_if2 c = omega (arith, one_most (eqb c.entry-head.result.tag 0))
 
-returns_2 : tie.Need-returns-2
+returns_2 : tie.Need-returns-then-n-first
 returns_2 c =
-    (too_few _ _ _ (first c.before) c.if2.true, λ t. absurd (never t))
+    (too_few _ _ _ (first c.before) c.if-n-first.true, λ t. absurd (never t))
 
-returns_3 : tie.Need-returns-3
+returns_3 : tie.Need-returns
 returns_3 c =
-    let third = c.before.before.before.before in
-    let second = third.before in
-    let one = second.before in
-    let enough = one.before in
-    let k = first enough.before in (
-      third_tells _ _ _ k _ _ _ enough.if2.false one.entry2.ensures.0 second.entry3.ensures.0
-          third.entry4.ensures.0,
+    let k = first c.before.before.before.before.before.before.before.before in (
+      third_tells _ _ _ k _ _ _ c.if-n-first.false c.entry-a.ensures.0 c.entry-b.ensures.0
+          c.entry-c.ensures.0,
       λ t. (
-        ones_tell _ _ _ k _ _ _ enough.if2.false one.entry2.ensures.0 second.entry3.ensures.0
-            third.entry4.ensures.0 t,
-        place_tells _ _ _ k _ _ _ enough.if2.false one.entry2.ensures.0 second.entry3.ensures.0
-            third.entry4.ensures.0 t,
+        ones_tell _ _ _ k _ _ _ c.if-n-first.false c.entry-a.ensures.0 c.entry-b.ensures.0
+            c.entry-c.ensures.0 t,
+        place_tells _ _ _ k _ _ _ c.if-n-first.false c.entry-a.ensures.0 c.entry-b.ensures.0
+            c.entry-c.ensures.0 t,
       ),
     )
 

@@ -13,26 +13,23 @@ use Rattle.store_keep.proofs.table.first_at.Tie as tie
 least : (c : tie.Start) → 3 ≤ count c.args.store.now
 least c = least_three c.args.store.now _ c.requires.1 c.requires.2
 
-first : (c : tie.After-struct-known)
-    → (let start = c.before.before.before in
-    First start.args.store.now (count start.args.store.now)
-    (bool_byte (eqb c.before.entry.result.tag 0)))
+first : (c : tie.After-struct_known-1)
+    → (First c.args.store.now (count c.args.store.now)
+    (bool_byte (eqb c.entry-head.result.tag 0)))
 first c =
-    let start = c.before.before.before in
-    first_is _ _ (omega (arith, least start)) start.requires.1 _ c.before.entry.ensures.0
+    first_is _ _ (omega (arith, least c.before.before.before)) c.requires.1 _ c.entry-head.ensures.0
 
-entry_requires : tie.Need-entry-requires
-entry_requires c κs = omega (arith, c.before.requires.0, least c.before)
+entry_requires : tie.Need-entry-head-requires
+entry_requires c κs = omega (arith, c.requires.0, least c.before)
 
-entry_requires_2 : tie.Need-entry-requires-2
+entry_requires_2 : tie.Need-entry-a-requires
 entry_requires_2 c κs =
-    let start = c.before.before.before in
-    omega (arith, start.requires.0, enough _ _ _ (first c) start.requires.2)
+    omega (arith, c.requires.0, enough _ _ _ (first c) c.requires.2)
 
 returns : tie.Need-returns
 returns c =
-    let start = c.before.before.before.before in
-    first_place _ _ _ (first c.before) start.requires.2 _ c.entry2.ensures.0
+    first_place _ _ _ (first c.before) c.requires.2 _ c.entry-a.ensures.0
 
 pub first_at_spec : {M : Type 1} → statement M
-first_at_spec = tie.close (tie.spec entry_requires (λ c. search rules) entry_requires_2 returns)
+first_at_spec = tie.close (tie.spec
+    entry_requires (λ c. search rules) entry_requires_2 returns)

@@ -17,12 +17,12 @@ use Rattle.write_octets.proofs.Barkers.{barkers_snoc, length_barkers, barker_ent
 use Rattle.write_octets.proofs.puts.put_barkers.Statement.{statement}
 use Rattle.write_octets.proofs.puts.put_barkers.Tie as tie
 
-abbrev invariant_loop : tie.invariant-loop
+abbrev invariant_loop : tie.invariant-loop-i
 invariant_loop barkers phases chips₀ i₀ at₀ chips i at =
     (i ≤ length phases) × (at ≡ 11 * i) × (length chips ≡ length chips₀)
     × (chips ≡ over (barker_words (take i phases)) chips₀)
 
-abbrev decreases_loop : tie.decreases-loop
+abbrev decreases_loop : tie.decreases-loop-i
 decreases_loop barkers phases chips₀ i₀ at₀ chips i at = length phases - i
 
 -- one word more
@@ -37,46 +37,43 @@ turn ps w d o y i n e h k g f =
 whole : (ps d o : List ℕ) (i : ℕ) → o ≡ over (barker_words (take i ps)) d → i ≡ length ps → o ≡ over (barker_words ps) d
 whole ps d o i e h = e ∙ rw (h, take-length)
 
-loop_holds : tie.Need-loop-init invariant_loop decreases_loop
+loop_holds : tie.Need-loop-i-init invariant_loop decreases_loop
 unfolding over barker_words
 loop_holds c = search rules
 
-element_copy_out_word : tie.Need-element-copy-out-word invariant_loop decreases_loop
+element_copy_out_word : tie.Need-bounds-barkers-p invariant_loop decreases_loop
 element_copy_out_word c = search rules
 
-slice_aggregate_put : tie.Need-slice-aggregate-put invariant_loop decreases_loop
+slice_aggregate_put : tie.Need-slice_bounds-put-end invariant_loop decreases_loop
 slice_aggregate_put c =
-    let start = c.before.before.before.before.before.before.before in
-    let i = c.before.before.before.before.loop.i in
-    sym (length_entry _ (get_or start.args.phases.now i 0) start.requires.0)
+    let i = c.loop-i.i in
+    sym (length_entry _ (get_or c.args.phases.now i 0) c.requires.0)
 
 put_requires : tie.Need-put-requires invariant_loop decreases_loop
 put_requires c κs =
-    let start = c.before.before.before.before.before.before.before.before in
-    rw (length_entry _ (get_or start.args.phases.now c.before.before.before.before.before.loop.i 0)
-    start.requires.0)
+    rw (length_entry _ (get_or c.args.phases.now c.loop-i.i 0)
+    c.requires.0)
     (simp (length-take, length-drop) (omega arith))
 
-loop_again : tie.Need-loop-preserved invariant_loop decreases_loop
+loop_again : tie.Need-loop-i-preserved invariant_loop decreases_loop
 loop_again c =
-    let l = c.before.before.before.before.before.before.before.before.loop in
-    let start = c.before.before.before.before.before.before.before.before.before.before.before in
-    let phases = start.args.phases.now in
-    let call = c.before.before.put in (
+    let l = c.loop-i in
+    let phases = c.args.phases.now in
+    let call = c.put in (
       omega arith,
       omega arith,
-      same_len_mid l.at (length l.chips - l.at) l.chips call.new.1.0 call.auto.1.0 ∙ l.invariant.2,
+      same_len_mid l.at (length l.chips - l.at) l.chips call.new.chips call.auto.chips ∙ l.invariant.2,
       turn phases _ _ _ _ l.i _ l.invariant.3 l.invariant.1 (omega arith)
-          (barker_entry _ (get_or phases l.i 0) start.requires.0) call.ensures,
+          (barker_entry _ (get_or phases l.i 0) c.requires.0) call.ensures,
     )
 
 returns : tie.Need-returns invariant_loop decreases_loop
-returns c = whole _ _ _ c.before.loop.i c.before.loop.invariant.3 (omega arith)
+returns c = whole _ _ _ c.loop-i.i c.loop-i.invariant.3 (omega arith)
 
 pub put_barkers_spec : {M : Type 1} → statement M
 put_barkers_spec =
     tie.close
     (tie.spec
-    invariant_loop decreases_loop loop_holds (λ c. omega arith) (λ c. search rules) (λ c. search rules) element_copy_out_word
-    slice_aggregate_put (λ c. omega arith) (λ c. omega arith) (λ c. search rules) put_requires (λ c. omega arith)
-    (λ c. omega arith) (λ c. omega arith) loop_again (λ c. search rules) returns)
+    invariant_loop decreases_loop loop_holds (λ c. omega arith) (λ c. search rules) (λ c. search rules)
+    element_copy_out_word slice_aggregate_put (λ c. omega arith) (λ c. omega arith) (λ c. search rules) put_requires
+    (λ c. omega arith) (λ c. omega arith) (λ c. omega arith) loop_again (λ c. search rules) returns)
