@@ -7,7 +7,6 @@ use Prim.Native.Nat.{ℕ, zero, suc, ◌<◌}
 use native.Mathlib.Nat.{not-suc-le-zero}
 use native.Mathlib.Decide.{dec_lt}
 use native.Mathlib.Omega.{arith}
-use borrow.Author.Tests.{not-true, not-false}
 use lib.Dec.{T}
 
 abbrev pub implies : Bool → Bool → Bool
@@ -38,11 +37,11 @@ all_at f (suc n) t k h = by (dec_lt k n) (all_at f n (both_left (all f n) (f n) 
     by (yes p) rest = rest p
     by (no q) rest = let e : n ≡ k = omega arith in subst (λ (m : ℕ). T (f m)) e (both_right (all f n) (f n) t)
 
-pub failed : {a b : Bool} → a ≡ b → not a ≡ true → b ≡ false
-failed e t = sym e ∙ not-true _ t
+pub failed : {a b : Bool} → a ≡ b → a ≡ false → b ≡ false
+failed e t = sym e ∙ t
 
-pub passed : {a b : Bool} → a ≡ b → not a ≡ false → b ≡ true
-passed e t = sym e ∙ not-false _ t
+pub passed : {a b : Bool} → a ≡ b → a ≡ true → b ≡ true
+passed e t = sym e ∙ t
 
 pub held : (b : Bool) → T (not (not b)) → b ≡ true
 held true t = refl

@@ -91,14 +91,17 @@ three_of es r w =
     one es (start 1 es r (left_is a b two)) (right_is a b two) (right_is (a && b) c w)
   where
     last : (a b : Entry) → a.tag ≡ 1 → b.tag ≡ 2 → (es : List Entry) → Starts 3 es → Three (a ∷ b ∷ es)
+    last a b p q [] x' = elim x' [ ]
     last a b p q (c ∷ es) (starts s r) = three p q s
 
     second : (a : Entry) → a.tag ≡ 1 → (es : List Entry) → Starts 2 es → (body_of 3 es).there ≡ true → Three (a ∷ es)
+    second a p [] x'' u = elim x'' [ ]
     second a p (b ∷ es) (starts q r) u =
         last a b p q es
         (start 3 es r (ap (λ (x : Body). x.there) (sym (other 3 b es (λ k. omega arith))) ∙ u))
 
     one : (es : List Entry) → Starts 1 es → (body_of 2 es).there ≡ true → (body_of 3 es).there ≡ true → Three es
+    one [] x3 t u = elim x3 [ ]
     one (a ∷ es) (starts p r) t u =
         second a p es
         (start 2 es r (ap (λ (x : Body). x.there) (sym (other 2 a es (λ k. omega arith))) ∙ t))
@@ -155,6 +158,9 @@ length_entries zero l = refl
 length_entries (suc n) l = ap suc (length_entries n (drop 4 l))
 
 three_long : (es : List Entry) → Three es → 3 ≤ length es
+three_long [] x' = elim x' [ ]
+three_long (a ∷ []) x4 = elim x4 [ ]
+three_long (a ∷ (b ∷ [])) x7 = elim x7 [ ]
 three_long (a ∷ b ∷ c ∷ es) (three p q r) = omega arith
 
 third_is : (a b c : Entry) (es : List Entry) → Three (a ∷ b ∷ c ∷ es) → c.tag ≡ 3
@@ -273,6 +279,9 @@ ones es s t h = eqb-true _ 1 (each (λ t. eqb (body_of t es).size 1) s t h)
 
 row_three : (at : ℕ) (es : List Entry) (end : ℕ) → Three es → laid at es end ≡ true → single es ≡ true → InRow es
 unfolding laid
+row_three at [] end x3 l s = elim x3 [ ]
+row_three at (a ∷ []) end x8 l s = elim x8 [ ]
+row_three at (a ∷ (b ∷ [])) end x13 l s = elim x13 [ ]
 row_three at (a ∷ b ∷ c ∷ es) end (three p q r) l s =
     let on = laid (at + a.size) (b ∷ c ∷ es) end in
     let rest = laid (at + a.size + b.size) (c ∷ es) end in

@@ -39,6 +39,7 @@ passable_of at (p ∷ ps) h =
 impassable_of : (at : ℕ) (ps : List Piece) (p : Piece) → Memᴰ p ps → 128 ≤ p.tag
     → passable (entries_of at ps) ≡ false
 unfolding passable entries_of
+impassable_of at [] p x'' h = elim x'' [ ]
 impassable_of at (q ∷ ps) p (Memᴰ.head e) h =
     let same : p.tag ≡ q.tag = ap (λ (x : Piece). x.tag) e in
     rw (le-ltb q.tag 128 (omega arith))
@@ -53,6 +54,7 @@ record Stands (tag value : ℕ) (es : List Entry) (octets : List ℕ) : Type 0 w
 
 tag_least : (least : ℕ) (ps : List Piece) (p : Piece) → Rises least ps → Memᴰ p ps → least ≤ p.tag
 unfolding Rises
+tag_least least [] p r x'' = elim x'' [ ]
 tag_least least (q ∷ ps) p r (Memᴰ.head e) =
     let same : p.tag ≡ q.tag = ap (λ (x : Piece). x.tag) e in omega (arith, r.0)
 tag_least least (q ∷ ps) p r (Memᴰ.tail m) = omega (arith, r.0, tag_least (suc q.tag) ps p r.1 m)
@@ -76,6 +78,7 @@ stands : (tag value least at : ℕ) (ps : List Piece) (before : List ℕ) → Ri
     → Memᴰ (setting tag value) ps → length before ≡ at
     → Stands tag value (entries_of at ps) (before ++ bodies ps)
 unfolding Rises bodies
+stands tag value least at [] before r x3 h = elim x3 [ ]
 stands tag value least at (p ∷ ps) before r (Memᴰ.head e) h =
     subst (λ (q : Piece). Stands tag value (entries_of at (q ∷ ps)) (before ++ bodies (q ∷ ps))) e
     (stands_here tag value at ps before h)
@@ -152,5 +155,6 @@ written_read kind rate phase g =
     below p (Memᴰ.head e) = let t : p.tag ≡ 1 = ap (λ (x : Piece). x.tag) e in omega arith
     below p (Memᴰ.tail (Memᴰ.head e)) =
         let t : p.tag ≡ 2 = ap (λ (x : Piece). x.tag) e in omega arith
+    below p (Memᴰ.tail (Memᴰ.tail (Memᴰ.tail x12))) = elim x12 [ ]
     below p (Memᴰ.tail (Memᴰ.tail (Memᴰ.head e))) =
         let t : p.tag ≡ 3 = ap (λ (x : Piece). x.tag) e in omega arith

@@ -168,16 +168,16 @@ read_passed octets e =
           record {
             sound =
                 record {
-                  long = leb-true (table_end (count octets)) (length octets) p.is-long;
-                  most = leb-true (count octets) 16 p.is-most;
-                  rises = p.they-rise;
-                  out = p.are-out;
+                  long = leb-true (table_end (count octets)) (length octets) p.is_long;
+                  most = leb-true (count octets) 16 p.is_most;
+                  rises = p.they_rise;
+                  out = p.are_out;
                 };
-            passes = p.they-pass;
-            whole = p.are-whole;
-            ones = p.are-ones;
+            passes = p.they_pass;
+            whole = p.are_whole;
+            ones = p.are_ones;
           };
-      right = p.are-good;
+      right = p.are_good;
     }
 
 pub read_good : (octets : List ℕ) → Good octets → store_read octets ≡ values_of octets

@@ -118,7 +118,7 @@ module _ (octets : List ℕ) (n : ℕ) (e : n ≡ count octets) where
                 record { is_sound = sound x y; they_rise = x; they_pass = ap passable (sym same) ∙ w }
 
         pub rise : rising 0 es ≡ true
-        rise = all_asked.they-rise
+        rise = all_asked.they_rise
 
         module _
             (there ones : Bool) (at : ℕ) (t : there ≡ complete es)
@@ -136,8 +136,8 @@ module _ (octets : List ℕ) (n : ℕ) (e : n ≡ count octets) where
             module _ (q : ones ≡ true) where
               full : Full octets
               full = record {
-                sound = all_asked.is-sound;
-                passes = all_asked.they-pass;
+                sound = all_asked.is_sound;
+                passes = all_asked.they_pass;
                 whole = whole_is ∙ p;
                 ones = ones_is ∙ q;
               }
@@ -160,9 +160,9 @@ module _ (octets : List ℕ) (n : ℕ) (e : n ≡ count octets) where
           told s d = d ∙ sym (by there ones refl refl)
             where
               by : (x y : Bool) → there ≡ x → ones ≡ y → store_read octets ≡ Told x y
-              by false y p q = read_twenty_six octets all_asked.is-sound all_asked.they-pass (whole_is ∙ p)
+              by false y p q = read_twenty_six octets all_asked.is_sound all_asked.they_pass (whole_is ∙ p)
               by true false p q =
-                  read_twenty_seven octets all_asked.is-sound all_asked.they-pass (whole_is ∙ p) (ones_is p ∙ q)
+                  read_twenty_seven octets all_asked.is_sound all_asked.they_pass (whole_is ∙ p) (ones_is p ∙ q)
               by true true p q =
                   let row = full_row octets (full p q) in
                   let a = ap (λ (k : ℕ). get_or octets k 0) (sym (at_is p)) in

@@ -35,7 +35,7 @@ unfolding decided_soft
 whole n r d i q e c h t = t ∙ rw (← e, c, le-leb (symbol_chips r) (length (soft_recording i q)) h)
 
 returns : tie.Need-returns-then-not-is_code
-returns c = no_code _ _ _ (sym c.is_code.ensures ∙ not-true _ c.if-not-is_code.true)
+returns c = no_code _ _ _ (sym c.is_code.ensures ∙ c.if-not-is_code.true)
 
 returns_2 : tie.Need-returns-then-chip_count-symbol_chips
 returns_2 c =
@@ -45,7 +45,7 @@ returns_2 c =
 returns_3 : tie.Need-returns
 returns_3 c =
     whole _ _ _ _ _ c.rate_of-r.ensures
-    (sym c.is_code.ensures ∙ not-false _ c.if-not-is_code.false) (omega arith)
+    (sym c.is_code.ensures ∙ c.if-not-is_code.false) (omega arith)
     c.first_word.ensures
 
 pub timed_decide_spec : {M : Type 1} → statement M

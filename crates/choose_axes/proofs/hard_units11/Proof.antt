@@ -27,7 +27,7 @@ loop_again c =
 returns : tie.Need-returns invariant_loop decreases_loop
 returns c =
     filled_all c.loop-k.invariant c.loop-k-test.false
-    ∙ sym (map_tabulate (λ d. along c.args.axis (unit_of d)) c.args.t1 11 Lost (search rules))
+    ∙ sym (map_tabulate (λ d. along c.args.axis (unit_of d)) c.args.chips 11 Lost (search rules))
 
 pub hard_units11_spec : {M : Type 1} → statement M
 hard_units11_spec =

@@ -31,7 +31,7 @@ loop_again c =
 returns : tie.Need-returns invariant_loop decreases_loop
 returns c =
     filled_all c.loop-k.invariant c.loop-k-test.false
-    ∙ sym (map_tabulate (λ d. along c.args.axis (counts_of d)) c.args.t1 11 Lost (search rules))
+    ∙ sym (map_tabulate (λ d. along c.args.axis (counts_of d)) c.args.chips 11 Lost (search rules))
 
 pub soft_counts11_spec : {M : Type 1} → statement M
 soft_counts11_spec =

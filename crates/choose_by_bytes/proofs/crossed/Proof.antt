@@ -6,7 +6,7 @@ use Rattle.choose_sums.proofs.Crossed.{Sums, sums}
 use Rattle.choose_by_bytes.proofs.crossed.Statement.{statement}
 use Rattle.choose_by_bytes.proofs.crossed.Tie as tie
 
-of : (c : tie.Start) → Sums w16 c.args.t1 c.args.t2
+of : (c : tie.Start) → Sums w16 c.args.s c.args.t
 of c = sums w16 _ _ 128 (lit< tt) c.requires.0 c.requires.1
 
 -- where all chips have been read

@@ -25,7 +25,7 @@ asks h j l r = let two = within_two w16 (lit< tt) h r 1408 j (lit≤ tt) in (lit
 
 returns : tie.Need-returns
 returns c =
-    let row = c.args.t1 in
+    let row = c.args.h in
     holds_merge
     (holds_merge (holds_keys w16 (lit< tt) row c.requires 0 c.two_keys-a.ensures)
     (holds_keys w16 (lit< tt) row c.requires 2 c.two_keys-b.ensures) c.merge.ensures)

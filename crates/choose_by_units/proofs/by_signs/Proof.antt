@@ -19,17 +19,17 @@ decreases_loop c turns x₀ k₀ x k = 11 - k
 
 add_x : tie.Need-overflow_add-x invariant_loop decreases_loop
 add_x c =
-    let l : length c.args.t1 ≡ 11 = search rules in
+    let l : length c.args.c ≡ 11 = search rules in
     plus_fits (lit< tt) c.loop-k.invariant c.requires l (search rules) c.if-turns-k-eq0.true
 
 sub_x : tie.Need-overflow_sub-x invariant_loop decreases_loop
 sub_x c =
-    let l : length c.args.t1 ≡ 11 = search rules in
+    let l : length c.args.c ≡ 11 = search rules in
     minus_fits (lit< tt) c.loop-k.invariant c.requires l (search rules) c.if-turns-k-eq0.false
 
 loop_again : tie.Need-loop-k-preserved invariant_loop decreases_loop
 loop_again c =
-    let l : length c.args.t1 ≡ 11 = search rules in
+    let l : length c.args.c ≡ 11 = search rules in
     ⊎_elim (λ w. rw w.2 (plus_sum (lit< tt) c.loop-k.invariant c.requires l (search rules) w.0.taken))
     (λ w. rw w.2 (minus_sum (lit< tt) c.loop-k.invariant c.requires l (search rules) w.0.left))
     c.if-turns-k-eq0.branch

@@ -6,7 +6,7 @@ use Rattle.choose_sums.proofs.Crossed.{Sums, sums}
 use Rattle.choose_by_units.proofs.crossed.Statement.{statement}
 use Rattle.choose_by_units.proofs.crossed.Tie as tie
 
-of : (c : tie.Start) → Sums w8 c.args.t1 c.args.t2
+of : (c : tie.Start) → Sums w8 c.args.s c.args.t
 of c = sums w8 _ _ 1 (lit< tt) c.requires.0 c.requires.1
 
 -- where all chips have been read

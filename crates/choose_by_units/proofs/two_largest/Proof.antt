@@ -50,7 +50,7 @@ both t s e = two_is (two_merge t s) e.0 e.1
 
 returns : tie.Need-returns
 returns c =
-    let row = c.args.t1 in
+    let row = c.args.h in
     both
     (both (two row 0 c.requires c.two_keys-a.ensures) (two row 2 c.requires c.two_keys-b.ensures)
     c.merge.ensures)

@@ -29,7 +29,7 @@ returns c =
     sym (loop.invariant
     ∙ search_here (recording_of a.rec a.octets.now a.bytes.now a.i.now a.q.now) loop.at a.to
     unusable c.loop-at-test.true c.requires
-    (not-false _ (sym c.usable_at.ensures ∙ not-true _ c.if-not-usable_at.true)))
+    (not-false _ (sym c.usable_at.ensures ∙ c.if-not-usable_at.true)))
 
 loop_again : tie.Need-loop-at-preserved invariant_loop decreases_loop
 loop_again c =
@@ -38,7 +38,7 @@ loop_again c =
     loop.invariant
     ∙ search_on (recording_of a.rec a.octets.now a.bytes.now a.i.now a.q.now) loop.at a.to
     unusable c.loop-at-test.true c.requires
-    (not-true _ (sym c.usable_at.ensures ∙ not-false _ c.if-not-usable_at.false))
+    (not-true _ (sym c.usable_at.ensures ∙ c.if-not-usable_at.false))
 
 returns_2 : tie.Need-returns invariant_loop decreases_loop
 returns_2 c = sym (c.loop-at.invariant ∙ search_over _ c.loop-at.at _ c.loop-at-test.false)

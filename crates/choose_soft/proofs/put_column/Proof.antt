@@ -27,8 +27,8 @@ slice_set_2 c = rw length-set (omega (arith, c.loop-k.invariant.1.long))
 
 loop_again : tie.Need-loop-k-preserved invariant_loop decreases_loop
 loop_again c =
-    let i = get_or c.args.t1 c.loop-k.k (pos 0) in
-    let q = get_or c.args.t2 c.loop-k.k (pos 0) in
+    let i = get_or c.args.i c.loop-k.k (pos 0) in
+    let q = get_or c.args.q c.loop-k.k (pos 0) in
     let is_i : to_z w32 (of_z w32 i) ≡ i = search rules in
     let is_q : to_z w32 (of_z w32 q) ≡ q = search rules in
     (omega arith, column_more _ _ c.loop-k.invariant.1 (omega arith) c.requires.0 c.requires.1 is_i is_q)

@@ -7,7 +7,7 @@ use Rattle.rules_calls.proofs.Fields.{last_two}
 use Rattle.common_header.proofs.crc_read.Statement.{statement}
 use Rattle.common_header.proofs.crc_read.Tie as tie
 
-six : (c : tie.Start) → length c.args.t1 ≡ 6
+six : (c : tie.Start) → length c.args.header ≡ 6
 six c = search rules
 
 returns : tie.Need-returns

@@ -13,13 +13,13 @@ use Rattle.common_header.proofs.crc_right.Statement.{statement}
 use Rattle.common_header.proofs.crc_right.Tie as tie
 
 -- the arrays are as long as their types say, of octets
-six : (c : tie.Start) → length c.args.t1 ≡ 6
+six : (c : tie.Start) → length c.args.header ≡ 6
 six c = search rules
 
-fits : (c : tie.Start) (i : ℕ) → Fits w8 (get_or c.args.t1 i 0)
+fits : (c : tie.Start) (i : ℕ) → Fits w8 (get_or c.args.header i 0)
 fits c i = search rules
 
-octets : (c : tie.Start) → Below 256 c.args.t1
+octets : (c : tie.Start) → Below 256 c.args.header
 octets c = record { at = λ i. (fits c i).fits }
 
 crc_fits : (c : tie.After-crc_octets-crc) (i : ℕ) → Fits w8 (get_or c.crc-octets.result i 0)

@@ -9,7 +9,7 @@ use Rattle.rules_calls.proofs.Fields.{two_is, first_four}
 use Rattle.common_header.proofs.crc_worked_out.Statement.{statement}
 use Rattle.common_header.proofs.crc_worked_out.Tie as tie
 
-six : (c : tie.Start) → length c.args.t1 ≡ 6
+six : (c : tie.Start) → length c.args.header ≡ 6
 six c = search rules
 
 returns : tie.Need-returns

@@ -14,13 +14,13 @@ use Rattle.common_header.proofs.header_of.Statement.{statement}
 use Rattle.common_header.proofs.header_of.Tie as tie
 
 -- the header is six octets
-six : (c : tie.Start) → length c.args.t4 ≡ 6
+six : (c : tie.Start) → length c.args.header ≡ 6
 six c = search rules
 
-fits : (c : tie.Start) (i : ℕ) → Fits w8 (get_or c.args.t4 i 0)
+fits : (c : tie.Start) (i : ℕ) → Fits w8 (get_or c.args.header i 0)
 fits c i = search rules
 
-octets : (c : tie.Start) → Below 256 c.args.t4
+octets : (c : tie.Start) → Below 256 c.args.header
 octets c = record { at = λ i. (fits c i).fits }
 
 returns : tie.Need-returns-then-not-started

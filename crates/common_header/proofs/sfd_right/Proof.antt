@@ -11,14 +11,14 @@ use Rattle.rules_calls.proofs.Fields.{two_is}
 use Rattle.common_header.proofs.sfd_right.Statement.{statement}
 use Rattle.common_header.proofs.sfd_right.Tie as tie
 
-two : (c : tie.Start) → length c.args.t2 ≡ 2
+two : (c : tie.Start) → length c.args.sfd ≡ 2
 two c = search rules
 
 returns : tie.Need-returns
 returns c =
     ap₂ {C = Bool} (λ x y. eqb x y)
     (c.both.ensures.0
-    ∙ sym (ap (λ (l : List ℕ). number_of (octet_bits l)) (two_is c.args.t2 (two c.before.before))))
+    ∙ sym (ap (λ (l : List ℕ). number_of (octet_bits l)) (two_is c.args.sfd (two c.before.before))))
     c.sfd_of.ensures
 
 pub sfd_right_spec : {M : Type 1} → statement M

@@ -21,7 +21,7 @@ decreases_loop kind chips at count marks j₀ j = count - j
 returns : tie.Need-returns-then-not-any invariant_loop decreases_loop
 returns c =
     seek_none c.args.kind (hard_recording c.args.chips.now) c.args.at c.args.count
-    (λ j l. c.requires.2 j l (c.any.ensures (not-true _ c.if-not-any.true) j (omega (arith, c.requires.0))))
+    (λ j l. c.requires.2 j l (c.any.ensures (c.if-not-any.true) j (omega (arith, c.requires.0))))
 
 try_at_requires : tie.Need-try_at-found-requires invariant_loop decreases_loop
 try_at_requires c κs =

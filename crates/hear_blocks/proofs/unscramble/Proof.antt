@@ -18,7 +18,7 @@ loop_again c =
     let loop = c.loop-o in (
       omega arith,
       length-set loop.out _ _ ∙ loop.invariant.1,
-      plain_more c.args.t1 c.args.out.now _ c.args.count loop.o _ loop.invariant.2
+      plain_more c.args.raw c.args.out.now _ c.args.count loop.o _ loop.invariant.2
           (omega arith)
           c.requires.1 c.descramble_octet.ensures,
     )
@@ -28,8 +28,8 @@ returns c =
     over_whole _ _ _ c.loop-o.o c.loop-o.invariant.2
     (omega (
       arith,
-      plain_length c.args.count (get_or c.args.t1 0 0)
-          (behind c.args.t1 c.args.count),
+      plain_length c.args.count (get_or c.args.raw 0 0)
+          (behind c.args.raw c.args.count),
     ))
 
 pub unscramble_spec : {M : Type 1} → statement M

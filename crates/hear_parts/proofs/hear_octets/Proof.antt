@@ -129,7 +129,7 @@ loop_again c =
     let at = (turn c).before.before in
     let call = c.hear_block-more.ensures in
     parts_more _ _ _ _ _ _ _ _ _ _ _ _ at.loop.inv (left (turn c).before) (turn c).block_octets.ensures
-    _ _ _ _ _ call.0 call.1.0 call.1.1 c.joined-part.ensures at.before.before.octet-chips.ensures
+    _ _ _ _ _ call.0 call.1.0 call.1.1 c.joined_part.ensures at.before.before.octet-chips.ensures
     at.before.octet-symbols.ensures
 
 returns : tie.Need-returns invariant_loop decreases_loop

@@ -10,17 +10,17 @@ use Rattle.read_frames.proofs.read.Tie as tie
 
 returns : tie.Need-returns-then-not-is_kind
 returns c =
-    let both = (read_no_kind _ _ _ _ _ (sym c.is_kind.ensures ∙ not-true _ c.if-not-is_kind.true)
+    let both = (read_no_kind _ _ _ _ _ (sym c.is_kind.ensures ∙ c.if-not-is_kind.true)
     c.fill.ensures) in record { answer = both.0; octets = both.1 }
 
 -- past refusal 1
 kind_holds : (c : tie.Else-not-is_kind) → is_kind
     c.args.kind ≡ true
-kind_holds c = sym c.is_kind.ensures ∙ not-false _ c.if-not-is_kind.false
+kind_holds c = sym c.is_kind.ensures ∙ c.if-not-is_kind.false
 
 returns_2 : tie.Need-returns-then-not-agree
 returns_2 c =
-    let both = (read_rows _ _ _ _ _ (kind_holds c.before) (not-true _ c.if-not-agree.true)
+    let both = (read_rows _ _ _ _ _ (kind_holds c.before) (c.if-not-agree.true)
     c.fill.ensures) in record { answer = both.0; octets = both.1 }
 
 read_as_requires : tie.Need-read_as-requires
@@ -30,7 +30,7 @@ read_as_requires c κs =
 
 returns_3 : tie.Need-returns
 returns_3 c =
-    let both = (read_ours _ _ _ _ (kind_holds c.before.before.before.before.before.before) (not-false _ c.if-not-agree.false) _
+    let both = (read_ours _ _ _ _ (kind_holds c.before.before.before.before.before.before) (c.if-not-agree.false) _
     c.kind_of-k.ensures _ _
     (as_long _ _ _ _ _ _ _ c.fill.auto.row c.read_as.ensures)) in record { answer = both.0; octets = both.1 }
 

@@ -70,13 +70,13 @@ returns : tie.Need-returns-then-not-closer
 returns c =
     let a = c.args in
     framed a.p a.kind a.a _ _ false c.entry_of-at.ensures c.front_time.ensures
-    (sym (not-true _ c.if-not-closer.true) ∙ c.is_closer-closer.ensures)
+    (sym (c.if-not-closer.true) ∙ c.is_closer-closer.ensures)
 
 returns_2 : tie.Need-returns
 returns_2 c =
     let a = c.args in
     framed a.p a.kind a.a _ _ true c.entry_of-at.ensures c.front_time.ensures
-    (sym (not-false _ c.if-not-closer.false) ∙ c.is_closer-closer.ensures)
+    (sym (c.if-not-closer.false) ∙ c.is_closer-closer.ensures)
 
 pub with_frame_spec : {M : Type 1} → statement M
 with_frame_spec =

@@ -50,7 +50,7 @@ loop_holds c = (search rules, refl, none _ _ _)
 rate_line_requires : tie.Need-rate_line-end-requires invariant_loop decreases_loop
 rate_line_requires c κs =
     let now = c.loop-k in
-    room c.args.t1 c.args.t2 _ now.out now.k _ _ (omega arith) c.code_of.ensures
+    room c.args.frames c.args.octets _ now.out now.k _ _ (omega arith) c.code_of.ensures
     now.invariant.2 c.requires now.invariant.1
 
 loop_again : tie.Need-loop-k-preserved invariant_loop decreases_loop

@@ -41,12 +41,12 @@ loop_holds c = (search rules, refl, none _ _ _)
 refused_line_requires : tie.Need-refused_line-end-requires invariant_loop decreases_loop
 refused_line_requires c κs =
     let now = c.loop-number in
-    lines_room (λ k. refused_lines k c.args.t1) (next c.args.t1) (step c.args.t1) 17
+    lines_room (λ k. refused_lines k c.args.refused) (next c.args.refused) (step c.args.refused) 17
     now.number (omega arith) now.invariant.2 c.requires now.invariant.1
 
 loop_again : tie.Need-loop-number-preserved invariant_loop decreases_loop
 loop_again c =
-    let refused = c.args.t1 in
+    let refused = c.args.refused in
     let now = c.loop-number in (
       omega arith,
       omega arith,

@@ -13,18 +13,18 @@ use Rattle.store_keep.proofs.values.Tie as tie
 inside : (c : tie.Else-not-three-2)
     → (c.args.three.at + 2 < length c.args.store.now)
 inside c =
-    c.requires (not-false _ c.if-not-three.false) (not-false _ c.if-not-three-2.false)
+    c.requires (c.if-not-three.false) (c.if-not-three-2.false)
 
 returns : tie.Need-returns-then-not-three
 returns c =
     let three = c.args.three in
-    c.refused.ensures ∙ rw (not-true three.there c.if-not-three.true)
+    c.refused.ensures ∙ rw (c.if-not-three.true)
 
 returns_2 : tie.Need-returns-then-not-three-2
 returns_2 c =
     let three = c.args.three in
     c.refused-then-not-three-2.ensures
-    ∙ rw (not-false three.there c.if-not-three.false, not-true three.ones c.if-not-three-2.true)
+    ∙ rw (c.if-not-three.false, c.if-not-three-2.true)
 
 shared_slice_read_wide : tie.Need-bounds-store-at
 shared_slice_read_wide c = omega (arith, inside c.before)
@@ -46,8 +46,8 @@ returns_3 c =
     let three = c.args.three in
     c.refused-then-not-allowed.ensures
     ∙ rw (
-      not-false three.there c.if-not-three.false,
-      not-false three.ones c.if-not-three-2.false,
+      c.if-not-three.false,
+      c.if-not-three-2.false,
       ← c.wide-kind.ensures.0,
       ← c.wide-rate.ensures.0,
       ← c.wide-phase.ensures.0,
@@ -58,8 +58,8 @@ returns_4 : tie.Need-returns
 returns_4 c =
     let three = c.args.three in
     rw (
-      not-false three.there c.if-not-three.false,
-      not-false three.ones c.if-not-three-2.false,
+      c.if-not-three.false,
+      c.if-not-three-2.false,
       ← c.wide-kind.ensures.0,
       ← c.wide-rate.ensures.0,
       ← c.wide-phase.ensures.0,

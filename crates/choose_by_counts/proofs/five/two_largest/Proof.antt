@@ -51,7 +51,7 @@ two h j r e = float_two (key_at h) j (few j) (few (suc j)) (
 
 returns : tie.Need-returns
 returns c =
-    let row = c.args.t1 in
+    let row = c.args.h in
     float_merge
     (float_merge (two row 0 c.requires c.two_keys-a.ensures) (two row 2 c.requires c.two_keys-b.ensures)
     c.merge.ensures)

@@ -9,7 +9,7 @@ use Rattle.hear_blocks.proofs.least.least_after.Tie as tie
 returns : tie.Need-returns-then-not-any_lower
 returns c =
     sym (row_kept c.args.symbol c.args.least c.args.leads.now c.args.m (omega arith)
-    (c.any_lower.ensures (not-true _ c.if-not-any_lower.true)))
+    (c.any_lower.ensures (c.if-not-any_lower.true)))
 
 pub least_after_spec : {M : Type 1} → statement M
 least_after_spec =

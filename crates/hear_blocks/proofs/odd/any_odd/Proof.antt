@@ -14,7 +14,7 @@ decreases_loop m g any₀ l₀ any l = m - l
 loop_again : tie.Need-loop-l-preserved invariant_loop decreases_loop
 loop_again c =
     let loop = c.loop-l in
-    let x = get_or c.args.t1 loop.l 0 in (
+    let x = get_or c.args.g loop.l 0 in (
       omega arith,
       below_more _ _ (λ j h. le_trans (loop.invariant.1 j h) (or_low loop.any x).0) (or_low loop.any x).1,
     )

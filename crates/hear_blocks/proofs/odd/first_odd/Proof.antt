@@ -16,7 +16,7 @@ even x n = omega arith
 returns : tie.Need-returns-then-g-l-eq1 invariant_loop decreases_loop
 returns c =
     let loop = c.loop-l in
-    sym (row_first c.args.place c.args.t2 c.args.m (omega arith) loop.l (omega arith)
+    sym (row_first c.args.place c.args.g c.args.m (omega arith) loop.l (omega arith)
     loop.invariant.1 c.if-g-l-eq1.true)
 
 loop_again : tie.Need-loop-l-preserved invariant_loop decreases_loop
@@ -26,7 +26,7 @@ loop_again c =
 
 returns_2 : tie.Need-returns invariant_loop decreases_loop
 returns_2 c =
-    sym (row_none c.args.place c.args.t2 c.args.m (omega arith)
+    sym (row_none c.args.place c.args.g c.args.m (omega arith)
     (λ j h. c.loop-l.invariant.1 j (omega arith)))
 
 pub first_odd_spec : {M : Type 1} → statement M

@@ -9,13 +9,13 @@ use Rattle.read_fronts.proofs.heard.behind_sync.Tie as tie
 
 returns : tie.Need-returns-in-Long
 returns c =
-    let long : length c.args.t2 ≡ 18 = search rules in
-    rw c.in-Long.is (sym (two_from c.args.t2 16 (omega arith)))
+    let long : length c.args.preamble ≡ 18 = search rules in
+    rw c.in-Long.is (sym (two_from c.args.preamble 16 (omega arith)))
 
 returns_2 : tie.Need-returns-in-Short
 returns_2 c =
-    let long : length c.args.t2 ≡ 18 = search rules in
-    rw c.in-Short.is (sym (two_from c.args.t2 7 (omega arith)))
+    let long : length c.args.preamble ≡ 18 = search rules in
+    rw c.in-Short.is (sym (two_from c.args.preamble 7 (omega arith)))
 
 pub behind_sync_spec : {M : Type 1} → statement M
 behind_sync_spec =

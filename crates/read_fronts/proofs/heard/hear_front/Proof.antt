@@ -67,7 +67,7 @@ returns c =
     (part k _ _ c.header_rate-rate.ensures
     c.preamble_chips-from.ensures _ _ _ _ _
     c.hear_octets-behind.ensures)
-    c.joined-part.ensures
+    c.joined_part.ensures
 
 pub hear_front_spec : {M : Type 1} → statement M
 hear_front_spec =

@@ -38,16 +38,16 @@ use Rattle.small_calls.proofs.why.of_header.Statement.{statement}
 use Rattle.small_calls.proofs.why.of_header.Tie as tie
 
 -- the octets
-two : (c : tie.Start) → length c.args.t2 ≡ 2
+two : (c : tie.Start) → length c.args.sfd ≡ 2
 two c = search rules
 
-six : (c : tie.Start) → length c.args.t3 ≡ 6
+six : (c : tie.Start) → length c.args.header ≡ 6
 six c = search rules
 
-fits : (c : tie.Start) (i : ℕ) → Fits w8 (get_or c.args.t3 i 0)
+fits : (c : tie.Start) (i : ℕ) → Fits w8 (get_or c.args.header i 0)
 fits c i = search rules
 
-octets : (c : tie.Start) → Below 256 c.args.t3
+octets : (c : tie.Start) → Below 256 c.args.header
 octets c = record { at = λ i. (fits c i).fits }
 
 -- the other refusals, by their place in the enum

@@ -48,20 +48,20 @@ loop_again c = (
 
 returns_2 : tie.Need-returns-then-not-laid invariant_loop decreases_loop
 returns_2 c =
-    pass_gap _ _ _ _ _ _ c.loop-i.invariant.2 (omega arith) (not-true _ c.if-not-laid.true)
+    pass_gap _ _ _ _ _ _ c.loop-i.invariant.2 (omega arith) (c.if-not-laid.true)
 
 returns_3 : tie.Need-returns-then-at-store invariant_loop decreases_loop
 returns_3 c =
-    pass_over _ _ _ _ _ _ c.loop-i.invariant.2 (omega arith) (not-false _ c.if-not-laid.false) c.if-at-store.true
+    pass_over _ _ _ _ _ _ c.loop-i.invariant.2 (omega arith) (c.if-not-laid.false) c.if-at-store.true
 
 returns_4 : tie.Need-returns-then-least-gt128 invariant_loop decreases_loop
 returns_4 c =
-    pass_high _ _ _ _ _ _ c.loop-i.invariant.2 (omega arith) (not-false _ c.if-not-laid.false) c.if-at-store.false
+    pass_high _ _ _ _ _ _ c.loop-i.invariant.2 (omega arith) (c.if-not-laid.false) c.if-at-store.false
     c.if-least-gt128.true
 
 returns_5 : tie.Need-returns invariant_loop decreases_loop
 returns_5 c =
-    pass_all _ _ _ _ _ _ c.loop-i.invariant.2 (omega arith) (not-false _ c.if-not-laid.false) c.if-at-store.false
+    pass_all _ _ _ _ _ _ c.loop-i.invariant.2 (omega arith) (c.if-not-laid.false) c.if-at-store.false
     c.if-least-gt128.false
 
 pub ask_spec : {M : Type 1} → statement M
