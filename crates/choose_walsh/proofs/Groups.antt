@@ -320,15 +320,15 @@ module _ (y x : Counts) where
     over_near : (j : ℕ) → j < 8 → (j ≡ p → ⊥) → two_of j ≡ two_p → key_in j / 16 ≤ next_key key_in / 16
     over_near j h d same =
         let l = little two_p (omega (arith, to_p)) in
-        let far = over_far l.e l.to-e l.there in
+        let far = over_far l.e l.to_e l.there in
         let up_to : key_in j / 16 ≤ key_in l.c / 16 = by l (dec_lt l.c j) (dec_lt j l.c) in
-        omega (arith, rank l.c l.to-c, rank l.e l.to-e, l.le)
+        omega (arith, rank l.c l.to_c, rank l.e l.to_e, l.le)
       where
         under : key_in j ≤ key_in p
         under = omega (arith, won.is, won.top j (omega arith) h)
 
         winner : (l : Little two_p) → (l.c ≡ j → ⊥) → l.c ≡ p
-        winner l ne = one_of_two l.c j p l.to-c h to_p l.here same ne d
+        winner l ne = one_of_two l.c j p l.to_c h to_p l.here same ne d
 
         other : (l : Little two_p) → (l.c ≡ j → ⊥) → key_in j / 16 ≤ key_in l.c / 16
         other l ne = rw (winner l ne) (omega (arith, under))

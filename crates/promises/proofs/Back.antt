@@ -304,7 +304,7 @@ module _ (kind rate phase clock : ℕ) (payload : List ℕ) (w : Written) (chips
     g' : Read kind g.agree (take j (clean_recording sent)) room a left
     g' =
         subst (λ (x : List Taken). Read kind g.agree x room a left)
-        (ap (λ (x : List Taken). clean_recording (take j sent) ++ x) (nothing g.rest g.rest-is)
+        (ap (λ (x : List Taken). clean_recording (take j sent) ++ x) (nothing g.rest g.rest_is)
         ∙ append-nil (clean_recording (take j sent)) ∙ sym (clean_take j sent))
         g.read
 

@@ -95,7 +95,7 @@ keep_one : (rs : List Recording) (r : Recording) → KeptOf rs → KeptOf (rs ++
 keep_one rs r k = record {
   report = (counted_of k.report r).report;
   is_kept =
-      one_more rs k.report r.kind r.chips (counted_of k.report r) k.is-kept (record { answer = refl });
+      one_more rs k.report r.kind r.chips (counted_of k.report r) k.is_kept (record { answer = refl });
 }
 
 pub keeps : (rs : List Recording) → KeptOf rs
@@ -273,7 +273,7 @@ pub one_answered : (rs : List Recording) (r : Recording) (c : Counted)
     → Adds (keeps rs).report r.kind r.chips c
     → (length rs < 1000 → c.number ≡ 0) × (1000 ≤ length rs → c ≡ record { number = 31; report = (keeps rs).report })
 one_answered rs r c a =
-    let answers = kept_report.kept_answers rs (keeps rs).report r.kind r.chips c (keeps rs).is-kept a in
+    let answers = kept_report.kept_answers rs (keeps rs).report r.kind r.chips c (keeps rs).is_kept a in
     ((λ h. answers.0 (omega arith)), λ h. answers.1 (omega arith))
 
 -- ---- a report with impossible numbers comes back as it stood; up to the limits, with one more and nothing else
@@ -325,7 +325,7 @@ list_counted kinds list c l e =
     let all = (kept_report.list_alike kinds list c l).1 e in (
       (λ h. all.0 (omega arith)),
       (λ h. all.1 (omega arith)),
-      (λ k. all.2 k.report k.is-kept),
+      (λ k. all.2 k.report k.is_kept),
       alike _ _ (all.3 (map outcome_of (recordings kinds list)) (reads (recordings kinds list))),
     )
 

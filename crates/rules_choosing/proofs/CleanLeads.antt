@@ -229,7 +229,7 @@ module _ (full : ℕ) (some : 0 < full) (r : Rate) (w : ℕ) (h : w < numbers r)
   near_score = same (score_at r cs x.m) (pos (full * near r)) (omega (
     arith,
     (score_of x.m).is,
-    ap (λ (k : ℕ). full * k) x.is-near,
+    ap (λ (k : ℕ). full * k) x.is_near,
     mul-add full (near r) (opposed (word_of r x.m) (word_of r w)),
     up_pos (full * near r),
     dn_pos (full * near r),

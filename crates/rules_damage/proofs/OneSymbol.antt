@@ -124,15 +124,15 @@ ahead (p ∷ v) (q ∷ w) (x ∷ xs) hv hw hx e f =
     record {
       by_weight = omega (
         arith,
-        h.by-weight,
-        k.by-weight,
+        h.by_weight,
+        k.by_weight,
         add (term p (hard x)) (score v (counts xs)),
         add (term q (hard x)) (score w (counts xs)),
       );
       by_halves = omega (
         arith,
-        h.by-halves,
-        k.by-halves,
+        h.by_halves,
+        k.by_halves,
         add (term p (hard x)) (score v (counts xs)),
         add (term q (hard x)) (score w (counts xs)),
       );
@@ -223,8 +223,8 @@ module _ (r : Rate) (w : ℕ) (xs : List ℕ) (h : w < numbers r) (a : T (is_all
           → (T t → ag + limit_of r + 2 * op < symbol_chips r + op) → T (s || t)
           → up (score_at r (counts xs) n) + dn (score_at r (counts xs) w) + 1024
           ≤ up (score_at r (counts xs) w) + dn (score_at r (counts xs) n)
-      by true t f g u = omega (arith, f tt, k.by-weight, few)
-      by false true f g u = omega (arith, g tt, k.by-halves, few)
+      by true t f g u = omega (arith, f tt, k.by_weight, few)
+      by false true f g u = omega (arith, g tt, k.by_halves, few)
       by false false f g u = absurd u
 
   pub decided_spoiled : decided r (counts xs) ≡ w

@@ -61,12 +61,12 @@ loop_again c =
 
 returns : tie.Need-returns invariant_loop decreases_loop
 returns c =
-    let rec = byte_recording c.args.bytes.now in record {
-      numbers = all_decided One rec c.args.at c.loop-l.invariant.0 c.loop-l-test.false;
-      leads = leads_times One rec c.args.at 16 c.loop-l.invariant.1 c.loop-l-test.false c.requires.0
+    let rec = byte_recording c.args.bytes.now in (
+      all_decided One rec c.args.at c.loop-l.invariant.0 c.loop-l-test.false,
+      leads_times One rec c.args.at 16 c.loop-l.invariant.1 c.loop-l-test.false c.requires.0
           c.in_counts.ensures
-          (λ j b. (barker_units c.args.bytes.now (c.args.at + 11 * j) (omega (arith, c.requires.1))).1);
-    }
+          (λ j b. (barker_units c.args.bytes.now (c.args.at + 11 * j) (omega (arith, c.requires.1))).1),
+    )
 
 pub barkers_spec : {M : Type 1} → statement M
 barkers_spec =

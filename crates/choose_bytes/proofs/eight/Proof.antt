@@ -32,4 +32,4 @@ eight_spec =
     invariant_loop decreases_loop (λ c. gathered_none 8 _ _ _ refl) (λ c. omega arith) (λ c. omega arith)
     (λ c. omega arith) (λ c κs. search rules) (λ c. search rules) (λ c. search rules) (λ c. omega arith)
     (λ c. omega arith) loop_again
-    (λ c. let both = (gathered_all c.loop-k.invariant c.loop-k-test.false) in record { answer = both.0; small = both.1 }))
+    (λ c. gathered_all c.loop-k.invariant c.loop-k-test.false))

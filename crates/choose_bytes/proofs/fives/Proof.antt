@@ -61,12 +61,12 @@ loop_again c =
 
 returns : tie.Need-returns invariant_loop decreases_loop
 returns c =
-    let rec = byte_recording c.args.bytes.now in record {
-      numbers = all_decided Five rec c.args.at c.loop-l.invariant.0 c.loop-l-test.false;
-      leads = leads_times Five rec c.args.at 16 c.loop-l.invariant.1 c.loop-l-test.false c.requires.0
+    let rec = byte_recording c.args.bytes.now in (
+      all_decided Five rec c.args.at c.loop-l.invariant.0 c.loop-l-test.false,
+      leads_times Five rec c.args.at 16 c.loop-l.invariant.1 c.loop-l-test.false c.requires.0
           c.in_counts.ensures
-          (λ j b. (eight_units Five c.args.bytes.now (c.args.at + 8 * j) (omega (arith, c.requires.1))).1);
-    }
+          (λ j b. (eight_units Five c.args.bytes.now (c.args.at + 8 * j) (omega (arith, c.requires.1))).1),
+    )
 
 pub fives_spec : {M : Type 1} → statement M
 fives_spec =

@@ -43,7 +43,7 @@ loop_again c =
 returns : tie.Need-returns invariant_loop decreases_loop
 returns c =
     let all : c.loop-s.s ≡ 16 = omega (arith, c.loop-s.invariant.2) in
-    let row = c.args.row.now in record { numbers = subst (Put (number row) c.args.l c.args.numbers.now c.loop-s.numbers) all c.loop-s.invariant.0; raw = subst (Put (lead row) c.args.l c.args.raw.now c.loop-s.raw) all c.loop-s.invariant.1 }
+    let row = c.args.row.now in (subst (Put (number row) c.args.l c.args.numbers.now c.loop-s.numbers) all c.loop-s.invariant.0, subst (Put (lead row) c.args.l c.args.raw.now c.loop-s.raw) all c.loop-s.invariant.1)
 
 pub sixteen_barkers_spec : {M : Type 1} → statement M
 sixteen_barkers_spec =

@@ -19,7 +19,7 @@ cast_result c = subst⁻¹ (SFits w16) (read c) (record { sfits = omega (arith, 
 
 returns : tie.Need-returns
 returns c =
-    let e = to_z-of_z w16 _ (cast_result c) ∙ read c in record { answer = e; small = subst⁻¹ (Within 128) e (byte_within c.args.b c.well_formed.0) }
+    let e = to_z-of_z w16 _ (cast_result c) ∙ read c in (e, subst⁻¹ (Within 128) e (byte_within c.args.b c.well_formed.0))
 
 pub wide_spec : {M : Type 1} → statement M
 wide_spec = tie.close (tie.spec

@@ -37,12 +37,12 @@ loop_again c =
     )
 
 returns : tie.Need-returns invariant_loop decreases_loop
-returns c = record {
-  numbers = all_decided Five (hard_recording c.args.octets.now) c.args.at c.loop-l.invariant.0 c.loop-l-test.false;
-  leads = leads_times Five (hard_recording c.args.octets.now) c.args.at 1024 c.loop-l.invariant.1
+returns c = (
+  all_decided Five (hard_recording c.args.octets.now) c.args.at c.loop-l.invariant.0 c.loop-l-test.false,
+  leads_times Five (hard_recording c.args.octets.now) c.args.at 1024 c.loop-l.invariant.1
       c.loop-l-test.false c.requires.0 c.in_counts.ensures
-      (lead_hard Five c.args.octets.now c.args.at c.args.m c.requires.1);
-}
+      (lead_hard Five c.args.octets.now c.args.at c.args.m c.requires.1),
+)
 
 pub fives_spec : {M : Type 1} → statement M
 fives_spec =

@@ -25,15 +25,15 @@ barkers_requires_3 c κs =
 
 returns : tie.Need-returns-in-Hard
 returns c =
-    let both = (rw c.in-Hard.is c.barkers.ensures) in record { numbers = both.0; leads = both.1 }
+    rw c.in-Hard.is c.barkers.ensures
 
 returns_2 : tie.Need-returns-in-Soft
 returns_2 c =
-    let both = (rw c.in-Soft.is c.barkers-in-Soft.ensures) in record { numbers = both.0; leads = both.1 }
+    rw c.in-Soft.is c.barkers-in-Soft.ensures
 
 returns_3 : tie.Need-returns-in-Bytes
 returns_3 c =
-    let both = (rw c.in-Bytes.is c.barkers-in-Bytes.ensures) in record { numbers = both.0; leads = both.1 }
+    rw c.in-Bytes.is c.barkers-in-Bytes.ensures
 
 pub barkers_spec : {M : Type 1} → statement M
 barkers_spec =

@@ -27,20 +27,20 @@ elevens_requires c κs =
 
 returns : tie.Need-returns-in-One
 returns c =
-    let both = (rw c.in-One.is c.barkers.ensures) in record { numbers = both.0; leads = both.1 }
+    rw c.in-One.is c.barkers.ensures
 
 returns_2 : tie.Need-returns-in-Two
 returns_2 c =
-    let both = (rw c.in-Two.is
-    (decided_two _ _ _ _ c.barkers-in-Two.ensures.numbers, leads_two _ _ _ _ c.barkers-in-Two.ensures.leads)) in record { numbers = both.0; leads = both.1 }
+    rw c.in-Two.is
+    (decided_two _ _ _ _ c.barkers-in-Two.ensures.numbers, leads_two _ _ _ _ c.barkers-in-Two.ensures.leads)
 
 returns_3 : tie.Need-returns-in-Five
 returns_3 c =
-    let both = (rw c.in-Five.is c.fives.ensures) in record { numbers = both.0; leads = both.1 }
+    rw c.in-Five.is c.fives.ensures
 
 returns_4 : tie.Need-returns-in-Eleven
 returns_4 c =
-    let both = (rw c.in-Eleven.is c.elevens.ensures) in record { numbers = both.0; leads = both.1 }
+    rw c.in-Eleven.is c.elevens.ensures
 
 pub decide_spec : {M : Type 1} → statement M
 decide_spec =

@@ -25,15 +25,15 @@ fives_requires_3 c κs =
 
 returns : tie.Need-returns-in-Hard
 returns c =
-    let both = (rw c.in-Hard.is c.fives.ensures) in record { numbers = both.0; leads = both.1 }
+    rw c.in-Hard.is c.fives.ensures
 
 returns_2 : tie.Need-returns-in-Soft
 returns_2 c =
-    let both = (rw c.in-Soft.is c.fives-in-Soft.ensures) in record { numbers = both.0; leads = both.1 }
+    rw c.in-Soft.is c.fives-in-Soft.ensures
 
 returns_3 : tie.Need-returns-in-Bytes
 returns_3 c =
-    let both = (rw c.in-Bytes.is c.fives-in-Bytes.ensures) in record { numbers = both.0; leads = both.1 }
+    rw c.in-Bytes.is c.fives-in-Bytes.ensures
 
 pub fives_spec : {M : Type 1} → statement M
 fives_spec =

@@ -62,7 +62,7 @@ loop_again c =
 
 returns : tie.Need-returns invariant_loop decreases_loop
 returns c =
-    let all : c.loop-l.l ≡ c.args.count = omega arith in record { row = rw all at c.loop-l.invariant.1; small = c.loop-l.invariant.2 }
+    let all : c.loop-l.l ≡ c.args.count = omega arith in (rw all at c.loop-l.invariant.1, c.loop-l.invariant.2)
 
 pub columns_spec : {M : Type 1} → statement M
 columns_spec =

@@ -99,7 +99,7 @@ loop_again c =
 
 returns : tie.Need-returns invariant_loop decreases_loop
 returns c =
-    let rec = soft_recording c.args.i.now c.args.q.now in record { numbers = all_decided Eleven rec c.args.at c.loop-l.invariant.0 c.loop-l-test.false; leads = all_leads Eleven rec c.args.at c.loop-l.invariant.1 c.loop-l-test.false }
+    let rec = soft_recording c.args.i.now c.args.q.now in (all_decided Eleven rec c.args.at c.loop-l.invariant.0 c.loop-l-test.false, all_leads Eleven rec c.args.at c.loop-l.invariant.1 c.loop-l-test.false)
 
 pub elevens_spec : {M : Type 1} → statement M
 elevens_spec =

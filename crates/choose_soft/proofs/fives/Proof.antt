@@ -50,7 +50,7 @@ loop_again c =
 
 returns : tie.Need-returns invariant_loop decreases_loop
 returns c =
-    let rec = soft_recording c.args.i.now c.args.q.now in record { numbers = all_decided Five rec c.args.at c.loop-l.invariant.0 c.loop-l-test.false; leads = all_leads Five rec c.args.at c.loop-l.invariant.1 c.loop-l-test.false }
+    let rec = soft_recording c.args.i.now c.args.q.now in (all_decided Five rec c.args.at c.loop-l.invariant.0 c.loop-l-test.false, all_leads Five rec c.args.at c.loop-l.invariant.1 c.loop-l-test.false)
 
 pub fives_spec : {M : Type 1} → statement M
 fives_spec =

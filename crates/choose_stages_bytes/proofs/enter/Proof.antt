@@ -27,7 +27,7 @@ four_requires_2 c κs =
 
 returns : tie.Need-returns
 returns c =
-    let pre = c.requires in record { z = entered pre.1 c.four.ensures.z c.four-2.ensures.z; bytes = four_both c.four.ensures.bytes c.four-2.ensures.bytes pre.0 }
+    let pre = c.requires in (entered pre.1 c.four.ensures.z c.four-2.ensures.z, four_both c.four.ensures.bytes c.four-2.ensures.bytes pre.0)
 
 pub enter_spec : {M : Type 1} → statement M
 enter_spec = tie.close (tie.spec

@@ -134,7 +134,7 @@ loop_again c =
 
 returns : tie.Need-returns invariant_loop decreases_loop
 returns c =
-    let e : c.loop-l.l ≡ 32 = omega (arith, c.loop-l.invariant.0, c.loop-l-test.false) in record { z = rw (e, third_is c, fourth_is c, more_is c) c c.loop-l.invariant.1; bytes = rw e c c.loop-l.invariant.2 }
+    let e : c.loop-l.l ≡ 32 = omega (arith, c.loop-l.invariant.0, c.loop-l-test.false) in (rw (e, third_is c, fourth_is c, more_is c) c c.loop-l.invariant.1, rw e c c.loop-l.invariant.2)
 
 pub four_spec : {M : Type 1} → statement M
 four_spec =

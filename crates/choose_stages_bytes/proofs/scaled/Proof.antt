@@ -25,4 +25,4 @@ scaled_spec =
     (λ c. made_fits (read c) (byte c).within (lit< tt))
     (λ c. product_fits w16 (lit< tt) (lit< tt) (byte c) c.requires.0 c.requires.1)
     (λ c. raised_fits w16 (lit< tt) (lit< tt) (byte c) c.requires.0 c.requires.1)
-    (λ c. record { answer = raised_is w16 (lit< tt) (lit< tt) (byte c) c.requires.0 c.requires.1; byte = (byte c).within }))
+    (λ c. (raised_is w16 (lit< tt) (lit< tt) (byte c) c.requires.0 c.requires.1, (byte c).within)))

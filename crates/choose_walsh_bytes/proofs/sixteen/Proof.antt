@@ -51,7 +51,7 @@ put_requires c κs =
 
 returns : tie.Need-returns
 returns c =
-    let both = (let e = (enter c).enter.ensures.0 in
+    let e = (enter c).enter.ensures.0 in
     let p = (pairs c).pairs.ensures in
     let f = c.search.ensures in
     let unit = (enter c).before.before.args.unit in (
@@ -60,7 +60,7 @@ returns c =
         put_ext c.put.ensures.numbers (λ s few. chosen _ _ _ s few e p _ (f.each s few)),
         put_ext c.put.ensures.leads (λ s few. ap (λ (n : ℕ). unit * n) (led _ _ _ s few e p _ (f.each s few))),
       ),
-    )) in record { lengths = both.0; numbers = both.1; leads = both.2 }
+    )
 
 pub sixteen_spec : {M : Type 1} → statement M
 sixteen_spec =

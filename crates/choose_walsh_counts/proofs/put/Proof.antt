@@ -76,7 +76,7 @@ loop_again c =
 
 returns : tie.Need-returns invariant_loop decreases_loop
 returns c =
-    let all : c.loop-s.s ≡ 16 = omega (arith, c.loop-s.invariant.0) in record { numbers = rw all at c.loop-s.invariant.1; leads = rw all at c.loop-s.invariant.2 }
+    let all : c.loop-s.s ≡ 16 = omega (arith, c.loop-s.invariant.0) in (rw all at c.loop-s.invariant.1, rw all at c.loop-s.invariant.2)
 
 pub put_spec : {M : Type 1} → statement M
 put_spec =

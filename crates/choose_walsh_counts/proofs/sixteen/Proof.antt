@@ -49,7 +49,7 @@ put_requires c κs =
 
 returns : tie.Need-returns
 returns c =
-    let both = (let e = (enter c).enter.ensures in
+    let e = (enter c).enter.ensures in
     let p = (pairs c).pairs.ensures in
     let f = c.search.ensures in (
       (e.long, p.long),
@@ -57,7 +57,7 @@ returns c =
         put_ext c.put.ensures.numbers (λ s few. chosen _ _ _ s few e p _ (f.each s few)),
         put_ext c.put.ensures.leads (λ s few. led _ _ _ s few e p _ (f.each s few)),
       ),
-    )) in record { lengths = both.0; numbers = both.1; leads = both.2 }
+    )
 
 pub sixteen_spec : {M : Type 1} → statement M
 sixteen_spec =

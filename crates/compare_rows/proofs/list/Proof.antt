@@ -45,12 +45,12 @@ returns c =
     let done = c.put_blocks-reached.ensures.1 in
     let all =
     put_counted args.a.now args.b.now c.put_blocks-reached.result.at shorter.result
-    c.how_many-rest.result shorter.ensures.2 done c.how_many-rest.ensures in record {
-      answer = omega (arith, all);
-      row = not_fit (differences args.a.now args.b.now) args.row.now c.put_blocks-reached.new.row
+    c.how_many-rest.result shorter.ensures.2 done c.how_many-rest.ensures in (
+      omega (arith, all),
+      not_fit (differences args.a.now args.b.now) args.row.now c.put_blocks-reached.new.row
           c.clear.new.row done.long (omega (arith, all, done.long))
-          c.clear.ensures;
-    }
+          c.clear.ensures,
+    )
 
 returns_2 : tie.Need-returns
 returns_2 c =
@@ -63,12 +63,12 @@ returns_2 c =
     put_counted a b c.put_blocks-reached.result.at shorter.result c.how_many-rest.result shorter.ensures.2 done
     c.how_many-rest.ensures in
     let whole-list =
-    put_ended a b shorter.result shorter.ensures.2 refl (put_then a b done c.put_part-q.ensures) in record {
-      answer = omega (arith, whole-list.0);
-      row = whole (differences a b) args.row.now c.put_part-q.new.row
+    put_ended a b shorter.result shorter.ensures.2 refl (put_then a b done c.put_part-q.ensures) in (
+      omega (arith, whole-list.0),
+      whole (differences a b) args.row.now c.put_part-q.new.row
           c.clear-2.new.row c.put_part-q.result whole-list.0 whole-list.1
-          whole-list.2 (omega (arith, all, done.long)) c.clear-2.ensures;
-    }
+          whole-list.2 (omega (arith, all, done.long)) c.clear-2.ensures,
+    )
 
 pub list_spec : {M : Type 1} → statement M
 list_spec =

@@ -22,7 +22,7 @@ loop_again c = (
 
 returns : tie.Need-returns invariant_loop decreases_loop
 returns c =
-    let inv = c.loop-k.invariant in record { evens = sides_less _ c.loop-k-test.false inv.0; odds = sides_less _ c.loop-k-test.false inv.1 }
+    let inv = c.loop-k.invariant in (sides_less _ c.loop-k-test.false inv.0, sides_less _ c.loop-k-test.false inv.1)
 
 pub sides_spec : {M : Type 1} → statement M
 sides_spec =

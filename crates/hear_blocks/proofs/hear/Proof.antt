@@ -63,18 +63,18 @@ array_read_phase c =
     omega arith
 
 returns : tie.Need-returns
-returns c = record {
-  answer = block_heard c.args.rate _ c.args.line _ c.args.numbers _ _ c.requires.0
+returns c = (
+  block_heard c.args.rate _ c.args.line _ c.args.numbers _ _ c.requires.0
       c.requires.4 c.requires.5 c.phases-ps.ensures c.growths-g.ensures
       c.args.count _ c.octets-raw.result refl c.codes-c.ensures
-      c.octets-raw.ensures _ _ _ c.octet_symbols-symbols.ensures c.requires.3 c.odd_in-odd.ensures;
-  out = c.unscramble.ensures
+      c.octets-raw.ensures _ _ _ c.octet_symbols-symbols.ensures c.requires.3 c.odd_in-odd.ensures,
+  c.unscramble.ensures
       ∙ ap (λ (w : List ℕ). over w c.args.out.now)
       (block_octets c.args.rate _ c.args.line _ c.args.numbers _ _ c.requires.0
       c.requires.4 c.requires.5 c.phases-ps.ensures c.growths-g.ensures
       c.args.count _ c.octets-raw.result refl c.codes-c.ensures
-      c.octets-raw.ensures);
-}
+      c.octets-raw.ensures),
+)
 
 pub hear_spec : {M : Type 1} → statement M
 hear_spec =

@@ -85,7 +85,7 @@ least_after_requires c κs =
 
 returns : tie.Need-returns
 returns c =
-    let both = (let a = c.args in
+    let a = c.args in
     let e = c.octet_symbols-symbols.ensures in
     let rec = recording_of a.rec a.row.now a.bytes.now a.i.now a.q.now in
     let words = block_words a.rate _ a.count e rec a.place _ c.decide.ensures.numbers c.requires.0 in (
@@ -99,7 +99,7 @@ returns c =
             ∙ ap (λ (ws : List ℕ). over (plain_octets a.rate a.symbol a.count a.line ws) a.out.now)
             words,
       ),
-    )) in record { answer = both.0; least = both.1; out = both.2 }
+    )
 
 pub hear_block_spec : {M : Type 1} → statement M
 hear_block_spec =

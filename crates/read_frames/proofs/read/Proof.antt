@@ -10,8 +10,8 @@ use Rattle.read_frames.proofs.read.Tie as tie
 
 returns : tie.Need-returns-then-not-is_kind
 returns c =
-    let both = (read_no_kind _ _ _ _ _ (sym c.is_kind.ensures ∙ c.if-not-is_kind.true)
-    c.fill.ensures) in record { answer = both.0; octets = both.1 }
+    read_no_kind _ _ _ _ _ (sym c.is_kind.ensures ∙ c.if-not-is_kind.true)
+    c.fill.ensures
 
 -- past refusal 1
 kind_holds : (c : tie.Else-not-is_kind) → is_kind
@@ -20,8 +20,8 @@ kind_holds c = sym c.is_kind.ensures ∙ c.if-not-is_kind.false
 
 returns_2 : tie.Need-returns-then-not-agree
 returns_2 c =
-    let both = (read_rows _ _ _ _ _ (kind_holds c.before) (c.if-not-agree.true)
-    c.fill.ensures) in record { answer = both.0; octets = both.1 }
+    read_rows _ _ _ _ _ (kind_holds c.before) (c.if-not-agree.true)
+    c.fill.ensures
 
 read_as_requires : tie.Need-read_as-requires
 read_as_requires c κs =
@@ -30,9 +30,9 @@ read_as_requires c κs =
 
 returns_3 : tie.Need-returns
 returns_3 c =
-    let both = (read_ours _ _ _ _ (kind_holds c.before.before.before.before.before.before) (c.if-not-agree.false) _
+    read_ours _ _ _ _ (kind_holds c.before.before.before.before.before.before) (c.if-not-agree.false) _
     c.kind_of-k.ensures _ _
-    (as_long _ _ _ _ _ _ _ c.fill.auto.row c.read_as.ensures)) in record { answer = both.0; octets = both.1 }
+    (as_long _ _ _ _ _ _ _ c.fill.auto.row c.read_as.ensures)
 
 pub read_spec : {M : Type 1} → statement M
 read_spec =

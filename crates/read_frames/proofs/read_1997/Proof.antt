@@ -13,8 +13,8 @@ read_as_requires c κs =
 
 returns : tie.Need-returns
 returns c =
-    let both = (in_numbers c.record_of.ensures
-    (read_of_1997 _ refl _ _ _ _ (as_long _ _ _ _ _ _ _ c.fill.auto.row c.read_as-reading.ensures))) in record { answer = both.0; octets = both.1 }
+    in_numbers c.record_of.ensures
+    (read_of_1997 _ refl _ _ _ _ (as_long _ _ _ _ _ _ _ c.fill.auto.row c.read_as-reading.ensures))
 
 pub read_1997_spec : {M : Type 1} → statement M
 read_1997_spec =

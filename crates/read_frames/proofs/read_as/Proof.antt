@@ -32,14 +32,14 @@ read_payload_requires c κs =
 
 returns : tie.Need-returns-in-Refused
 returns c =
-    let both = (as_refused _ _ _ _ _ c.read_whole-opening.ensures _ _ c.in-Refused.is
-    c.requires) in record { answer = both.0; octets = both.1 }
+    as_refused _ _ _ _ _ c.read_whole-opening.ensures _ _ c.in-Refused.is
+    c.requires
 
 returns_2 : tie.Need-returns-in-Fields
 returns_2 c =
-    let both = (as_told _ _ _ _ _ c.read_whole-opening.ensures _ _ _
+    as_told _ _ _ _ _ c.read_whole-opening.ensures _ _ _
     c.in-Fields.is
-    c.read_payload.ensures) in record { answer = both.0; octets = both.1 }
+    c.read_payload.ensures
 
 pub read_as_spec : {M : Type 1} → statement M
 read_as_spec =

@@ -7,7 +7,7 @@ use Rattle.read_frames.proofs.read_soft.Tie as tie
 
 returns : tie.Need-returns
 returns c =
-    let both = (in_numbers c.record_of.ensures c.read-reading.ensures) in record { answer = both.0; octets = both.1 }
+    in_numbers c.record_of.ensures c.read-reading.ensures
 
 pub read_soft_spec : {M : Type 1} → statement M
 read_soft_spec =

@@ -7,23 +7,21 @@ use Rattle.read_fronts.proofs.told.Statement.{statement}
 use Rattle.read_fronts.proofs.told.Tie as tie
 
 returns : tie.Need-returns-in-At
-returns c =
-    let both = ((
-      (λ rec x. usable_odd _ rec _ _ _ _ c.in-At.is x.odd c.refused.ensures),
-      (refused_few _ _ c.refused.ensures, odd_late _ _ _ c.refused.ensures),
-    )) in record { answer = both.0; few = both.1; refuses = both.2 }
+returns c = (
+  (λ rec x. usable_odd _ rec _ _ _ _ c.in-At.is x.odd c.refused.ensures),
+  (refused_few _ _ c.refused.ensures, odd_late _ _ _ c.refused.ensures),
+)
 
 returns_2 : tie.Need-returns-in-Nothing
-returns_2 c =
-    let both = ((
-      (λ rec x.
-          usable_header _ rec _ _ _ x c.in-Nothing.is
-          c.header_of-front.ensures),
-      (
-        (λ t w. header_few _ _ _ _ t (sym c.header_of-front.ensures ∙ w)),
-        (λ e w. header_late _ _ _ _ e (sym c.header_of-front.ensures ∙ w)),
-      ),
-    )) in record { answer = both.0; few = both.1; refuses = both.2 }
+returns_2 c = (
+  (λ rec x.
+      usable_header _ rec _ _ _ x c.in-Nothing.is
+      c.header_of-front.ensures),
+  (
+    (λ t w. header_few _ _ _ _ t (sym c.header_of-front.ensures ∙ w)),
+    (λ e w. header_late _ _ _ _ e (sym c.header_of-front.ensures ∙ w)),
+  ),
+)
 
 pub told_spec : {M : Type 1} → statement M
 told_spec =

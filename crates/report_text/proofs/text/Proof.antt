@@ -53,8 +53,8 @@ put_text_requires c κs = text_most c.args.report
 
 returns : tie.Need-returns-then-octets-count
 returns c =
-    let both = (refused _ c.args.octets.now _ _ _ _ c.put_text-count.ensures c.fill.ensures
-    c.if-octets-count.true) in record { answer = both.0; octets = both.1 }
+    refused _ c.args.octets.now _ _ _ _ c.put_text-count.ensures c.fill.ensures
+    c.if-octets-count.true
 
 array_share_prefix_row : tie.Need-slice_bounds-row-end
 array_share_prefix_row c =
@@ -68,8 +68,8 @@ put_word_requires c κs = omega (arith, counted _ _ _ _ c.put_text-count.ensures
 
 returns_2 : tie.Need-returns
 returns_2 c =
-    let both = (copied _ c.args.octets.now _ _ _ _ _ _ c.put_text-count.ensures
-    c.fill.ensures c.if-octets-count.false c.put_word-end.ensures) in record { answer = both.0; octets = both.1 }
+    copied _ c.args.octets.now _ _ _ _ _ _ c.put_text-count.ensures
+    c.fill.ensures c.if-octets-count.false c.put_word-end.ensures
 
 pub text_spec : {M : Type 1} → statement M
 text_spec =

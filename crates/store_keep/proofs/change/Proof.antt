@@ -19,18 +19,18 @@ use Rattle.store_keep.proofs.change.Tie as tie
 
 returns : tie.Need-returns-then-s-ne0
 returns c =
-    let both = (not_read c.args.store.now c.args.tag c.args.value _ c.read-s.ensures
-    c.if-s-ne0.true) in record { answer = both.0; store = both.1 }
+    not_read c.args.store.now c.args.tag c.args.value _ c.read-s.ensures
+    c.if-s-ne0.true
 
 returns_2 : tie.Need-returns-then-tag-lt1
 returns_2 c =
-    let both = (not_tagged c.args.store.now c.args.tag c.args.value _ c.read-s.ensures
-    c.if-s-ne0.false (tag_low _ c.if-tag-lt1.true)) in record { answer = both.0; store = both.1 }
+    not_tagged c.args.store.now c.args.tag c.args.value _ c.read-s.ensures
+    c.if-s-ne0.false (tag_low _ c.if-tag-lt1.true)
 
 returns_3 : tie.Need-returns-then-tag-gt3
 returns_3 c =
-    let both = (not_tagged c.args.store.now c.args.tag c.args.value _ c.read-s.ensures
-    c.if-s-ne0.false (tag_high _ c.if-tag-lt1.false c.if-tag-gt3.true)) in record { answer = both.0; store = both.1 }
+    not_tagged c.args.store.now c.args.tag c.args.value _ c.read-s.ensures
+    c.if-s-ne0.false (tag_high _ c.if-tag-lt1.false c.if-tag-gt3.true)
 
 stands_requires : tie.Need-stands-requires
 stands_requires c κs = (
@@ -41,9 +41,9 @@ stands_requires c κs = (
 
 returns_4 : tie.Need-returns-then-not-stands
 returns_4 c =
-    let both = (not_good c.args.store.now c.args.tag c.args.value _ c.read-s.ensures
+    not_good c.args.store.now c.args.tag c.args.value _ c.read-s.ensures
     c.if-s-ne0.false (tag_right _ c.if-tag-lt1.false c.if-tag-gt3.false)
-    (failed c.stands.ensures c.if-not-stands.true)) in record { answer = both.0; store = both.1 }
+    (failed c.stands.ensures c.if-not-stands.true)
 
 first_at_requires : tie.Need-first_at-at-requires
 first_at_requires c κs =
@@ -70,9 +70,9 @@ add_store c = omega (arith, slice_write_store c)
 
 returns_5 : tie.Need-returns
 returns_5 c =
-    let both = (put_there c.args.store.now c.args.tag c.args.value _ c.read-s.ensures
+    put_there c.args.store.now c.args.tag c.args.value _ c.read-s.ensures
     c.if-s-ne0.false (tag_right _ c.if-tag-lt1.false c.if-tag-gt3.false)
-    (passed c.stands.ensures c.if-not-stands.false) _ c.first_at-at.ensures) in record { answer = both.0; store = both.1 }
+    (passed c.stands.ensures c.if-not-stands.false) _ c.first_at-at.ensures
 
 pub change_spec : {M : Type 1} → statement M
 change_spec =

@@ -11,13 +11,13 @@ use Rattle.store_keep.proofs.write.Tie as tie
 
 returns : tie.Need-returns-then-not-allowed
 returns c =
-    let both = (wrong_left _ _ _ c.args.store.now _ c.fill.ensures
-    (failed c.allowed.ensures c.if-not-allowed.true)) in record { answer = both.0; store = both.1 }
+    wrong_left _ _ _ c.args.store.now _ c.fill.ensures
+    (failed c.allowed.ensures c.if-not-allowed.true)
 
 returns_2 : tie.Need-returns-then-store-lt17
 returns_2 c =
-    let both = (short_left _ _ _ c.args.store.now (passed c.allowed.ensures c.if-not-allowed.false) _
-    c.fill-then-store-lt17.ensures c.if-store-lt17.true) in record { answer = both.0; store = both.1 }
+    short_left _ _ _ c.args.store.now (passed c.allowed.ensures c.if-not-allowed.false) _
+    c.fill-then-store-lt17.ensures c.if-store-lt17.true
 
 -- the three are octets
 octets : (c : tie.Else-not-allowed)
@@ -37,8 +37,8 @@ cast_put_3 c = omega (arith, (octets c.before).2)
 
 returns_3 : tie.Need-returns
 returns_3 c =
-    let both = (put_left _ _ _ c.args.store.now (passed c.allowed.ensures c.if-not-allowed.false) _
-    c.if-store-lt17.false c.put.ensures) in record { answer = both.0; store = both.1 }
+    put_left _ _ _ c.args.store.now (passed c.allowed.ensures c.if-not-allowed.false) _
+    c.if-store-lt17.false c.put.ensures
 
 pub write_spec : {M : Type 1} → statement M
 write_spec =

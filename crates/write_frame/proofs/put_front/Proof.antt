@@ -81,11 +81,11 @@ put_octets_requires c κs =
 
 returns : tie.Need-returns
 returns c =
-    let both = (let first = c.put_preamble-l1 in
+    let first = c.put_preamble-l1 in
     let rest = c.put_octets in
     front c.args.k _ _ _ _ _ first.new.chips rest.new.chips _ _ _
     (starts _ _ _ c.first_line-l0.ensures) first.ensures
-    c.preamble_chips-at.ensures c.header_rate.ensures rest.ensures) in record { answer = both.0; chips = both.1 }
+    c.preamble_chips-at.ensures c.header_rate.ensures rest.ensures
 
 pub put_front_spec : {M : Type 1} → statement M
 put_front_spec =

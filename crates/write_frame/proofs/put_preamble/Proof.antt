@@ -32,14 +32,14 @@ put_octets_requires_2 c κs =
 returns : tie.Need-returns-in-Long
 unfolding preamble_octets
 returns c =
-    let both = (with_kind _ _ _ _ _ _ c.in-Long.is
-    c.put_octets.ensures) in record { answer = both.0; chips = both.1 }
+    with_kind _ _ _ _ _ _ c.in-Long.is
+    c.put_octets.ensures
 
 returns_2 : tie.Need-returns-in-Short
 unfolding preamble_octets
 returns_2 c =
-    let both = (with_kind _ _ _ _ _ _ c.in-Short.is
-    c.put_octets-in-Short.ensures) in record { answer = both.0; chips = both.1 }
+    with_kind _ _ _ _ _ _ c.in-Short.is
+    c.put_octets-in-Short.ensures
 
 pub put_preamble_spec : {M : Type 1} → statement M
 put_preamble_spec =

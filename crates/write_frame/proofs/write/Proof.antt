@@ -45,16 +45,16 @@ put_frame_requires c κs =
 
 returns : tie.Need-returns-in-Refused
 returns c =
-    let both = (refused _ _ _ _ _ _ _ _ _ _ c.check_write-writing.ensures
+    refused _ _ _ _ _ _ _ _ _ _ c.check_write-writing.ensures
     c.written_of-written.ensures
     c.in-Refused.is
-    c.fill.ensures) in record { answer = both.0; chips = both.1 }
+    c.fill.ensures
 
 returns_2 : tie.Need-returns-in-Good
 returns_2 c =
-    let both = (framed _ _ _ _ _ _ _ _ _ _ _ _ c.check_write-writing.ensures c.written_of-written.ensures
+    framed _ _ _ _ _ _ _ _ _ _ _ _ c.check_write-writing.ensures c.written_of-written.ensures
     c.in-Good.is
-    c.put_frame.ensures) in record { answer = both.0; chips = both.1 }
+    c.put_frame.ensures
 
 pub write_spec : {M : Type 1} → statement M
 write_spec =

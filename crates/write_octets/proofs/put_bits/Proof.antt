@@ -42,23 +42,23 @@ put_eleven_requires c κs = room _ _ _ c.in-Eleven.is c.requires.1
 
 returns : tie.Need-returns-in-One
 returns c =
-    let both = (with_rate _ _ _ 0 _ _ _ _ _ c.in-One.is (omega arith)
-    c.put_one.ensures) in record { answer = both.0; chips = both.1 }
+    with_rate _ _ _ 0 _ _ _ _ _ c.in-One.is (omega arith)
+    c.put_one.ensures
 
 returns_2 : tie.Need-returns-in-Two
 returns_2 c =
-    let both = (with_rate _ _ _ 0 _ _ _ _ _ c.in-Two.is (omega arith)
-    c.put_two.ensures) in record { answer = both.0; chips = both.1 }
+    with_rate _ _ _ 0 _ _ _ _ _ c.in-Two.is (omega arith)
+    c.put_two.ensures
 
 returns_3 : tie.Need-returns-in-Five
 returns_3 c =
-    let both = (with_rate _ _ _ 0 _ _ _ _ _ c.in-Five.is (omega arith)
-    c.put_five.ensures) in record { answer = both.0; chips = both.1 }
+    with_rate _ _ _ 0 _ _ _ _ _ c.in-Five.is (omega arith)
+    c.put_five.ensures
 
 returns_4 : tie.Need-returns-in-Eleven
 returns_4 c =
-    let both = (with_rate _ _ _ _ _ _ _ _ _ c.in-Eleven.is (omega arith)
-    c.put_eleven.ensures) in record { answer = both.0; chips = both.1 }
+    with_rate _ _ _ _ _ _ _ _ _ c.in-Eleven.is (omega arith)
+    c.put_eleven.ensures
 
 pub put_bits_spec : {M : Type 1} → statement M
 put_bits_spec =

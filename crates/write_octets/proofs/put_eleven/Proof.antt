@@ -40,8 +40,8 @@ by_pairs p k o s q w d z e f g h =
 
 returns : tie.Need-returns
 returns c =
-    let both = (by_pairs _ _ _ _ _ _ _ _ c.pairs-s.ensures c.grown_cck-p1.ensures
-    c.cck_word-word.ensures c.put.ensures) in record { answer = both.0; chips = both.1 }
+    by_pairs _ _ _ _ _ _ _ _ c.pairs-s.ensures c.grown_cck-p1.ensures
+    c.cck_word-word.ensures c.put.ensures
 
 pub put_eleven_spec : {M : Type 1} → statement M
 put_eleven_spec =

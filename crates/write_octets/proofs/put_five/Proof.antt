@@ -51,12 +51,12 @@ by_pairs p o s q0 q1 w v d z y e e0 e1 f0 f1 g h =
 
 returns : tie.Need-returns
 returns c =
-    let both = (let first = c.put in
+    let first = c.put in
     let second = c.put-2 in
     by_pairs _ _ _ _ _ _ _ _ first.new.chips second.new.chips
     c.pairs-s.ensures c.grown_cck-p0.ensures
     c.grown_cck-p1.ensures c.five_word-first.ensures c.five_word-second.ensures
-    first.ensures second.ensures) in record { answer = both.0; chips = both.1 }
+    first.ensures second.ensures
 
 pub put_five_spec : {M : Type 1} → statement M
 put_five_spec =

@@ -24,8 +24,8 @@ octet r k s x q bs o d b h = (cc, cc)
 
 returns : tie.Need-returns
 returns c =
-    let both = (octet c.args.r _ (state c.args.line) _ _ _ _ _
-    c.scramble_octet-o.ensures c.put_bits-phase.ensures) in record { answer = both.0; chips = both.1 }
+    octet c.args.r _ (state c.args.line) _ _ _ _ _
+    c.scramble_octet-o.ensures c.put_bits-phase.ensures
 
 pub put_octet_spec : {M : Type 1} → statement M
 put_octet_spec = tie.close (tie.spec

@@ -105,7 +105,7 @@ loop_again c =
 
 returns : tie.Need-returns invariant_loop decreases_loop
 returns c =
-    let both = (whole _ _ _ _ _ _ c.loop-i.i c.loop-i.invariant.5 c.loop-i.invariant.6 (omega arith)) in record { answer = both.0; chips = both.1 }
+    whole _ _ _ _ _ _ c.loop-i.i c.loop-i.invariant.5 c.loop-i.invariant.6 (omega arith)
 
 pub put_octets_spec : {M : Type 1} → statement M
 put_octets_spec =

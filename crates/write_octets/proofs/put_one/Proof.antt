@@ -9,7 +9,7 @@ use Rattle.write_octets.proofs.put_one.Tie as tie
 
 returns : tie.Need-returns
 unfolding bits_of symbol_of symbols_from symbols_at chips_from last_phase barker_words
-returns c = record { answer = cc; chips = cc }
+returns c = (cc, cc)
 
 pub put_one_spec : {M : Type 1} → statement M
 put_one_spec =

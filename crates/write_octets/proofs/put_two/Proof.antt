@@ -40,9 +40,9 @@ two p o s q0 q1 q2 q3 z d e e0 e1 e2 e3 f =
 
 returns : tie.Need-returns
 returns c =
-    let both = (two _ _ _ _ _ _ _ _ _ c.pairs-s.ensures
+    two _ _ _ _ _ _ _ _ _ c.pairs-s.ensures
     c.grown-p0.ensures c.grown-p1.ensures
-    c.grown-p2.ensures c.grown-p3.ensures c.put_barkers.ensures) in record { answer = both.0; chips = both.1 }
+    c.grown-p2.ensures c.grown-p3.ensures c.put_barkers.ensures
 
 pub put_two_spec : {M : Type 1} → statement M
 put_two_spec =

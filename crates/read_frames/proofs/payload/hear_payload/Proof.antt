@@ -95,24 +95,24 @@ hear_octets_requires c κs =
 
 returns : tie.Need-returns-in-At
 returns c =
-    let both = (let call = c.hear_octets-part in
+    let call = c.hear_octets-part in
     let a = c.args in
     odd a.kind a.rate a.n _ _ a.line a.least _ a.octets.now
     call.new.out c.requires.3
     c.front_chips-from.ensures
     c.requires.2 c.requires.4 c.requires.5 call.ensures
     _ _ c.in-At.is
-    call.auto.out c.fill.ensures) in record { answer = both.0; least = both.1; octets = both.2 }
+    call.auto.out c.fill.ensures
 
 returns_2 : tie.Need-returns-in-Nothing
 returns_2 c =
-    let both = (let call = c.hear_octets-part in
+    let call = c.hear_octets-part in
     let a = c.args in
     good a.kind a.rate a.n _ _ a.line a.least _ a.octets.now
     call.new.out c.requires.3
     c.front_chips-from.ensures
     c.requires.2 c.requires.4 c.requires.5 call.ensures
-    c.in-Nothing.is) in record { answer = both.0; least = both.1; octets = both.2 }
+    c.in-Nothing.is
 
 pub hear_payload_spec : {M : Type 1} → statement M
 hear_payload_spec =

@@ -21,7 +21,7 @@ searched c = record {
 }
 
 returns : tie.Need-returns-then-octets-n
-returns c = record { answer = payload_room _ _ _ _ c.if-octets-n.true; octets = c.requires.3 }
+returns c = (payload_room _ _ _ _ c.if-octets-n.true, c.requires.3)
 
 hear_payload_requires : tie.Need-hear_payload-payload-requires
 hear_payload_requires c κs = (
@@ -34,13 +34,13 @@ hear_payload_requires c κs = (
 )
 
 returns_2 : tie.Need-returns-in-At
-returns_2 c = record { answer = payload_unusable _ _ _ _ _ (searched c.before.before.before) c.in-At.is; octets = c.requires.3 }
+returns_2 c = (payload_unusable _ _ _ _ _ (searched c.before.before.before) c.in-At.is, c.requires.3)
 
 returns_3 : tie.Need-returns-in-Nothing
 returns_3 c =
-    let both = (let call = c.hear_payload-payload in
+    let call = c.hear_payload-payload in
     payload_heard _ _ _ _ call.result.odd call.result.least _ _ (searched c.before.before.before.before.before.before.before.before)
-    c.in-Nothing.is call.ensures.answer call.ensures.least call.ensures.octets c.heard.ensures) in record { answer = both.0; octets = both.1 }
+    c.in-Nothing.is call.ensures.answer call.ensures.least call.ensures.octets c.heard.ensures
 
 pub read_payload_spec : {M : Type 1} → statement M
 read_payload_spec =

@@ -75,7 +75,7 @@ hear_octets_requires c κs =
 
 returns : tie.Need-returns
 returns c =
-    let both = (let a = c.args in
+    let a = c.args in
     let count = c.preamble_octets-count.ensures in
     let decided = c.decide.ensures in
     sync_heard a.kind (recording_of a.rec a.row.now a.bytes.now a.i.now a.q.now)
@@ -84,7 +84,7 @@ returns c =
     c.first_line-line.ensures c.hear-first.ensures.answer c.hear-first.ensures.out
     (rest_lent a.kind c.hear-first.new.out _ (long c.before.before.before.before.before.before.before.before.before.before.before) count) count
     c.hear_octets-rest.ensures
-    c.joined.ensures) in record { answer = both.0; least = both.1; octets = both.2 }
+    c.joined.ensures
 
 pub hear_sync_spec : {M : Type 1} → statement M
 hear_sync_spec =

@@ -7,19 +7,19 @@ use Rattle.receive_calls.proofs.payload.settle.Tie as tie
 
 returns : tie.Need-returns-then-p-ne0
 returns c =
-    let a = c.args in record { answer = refl; octets = c.fill.ensures ∙ settled_bad a.q.progress a.octets.now c.if-p-ne0.true }
+    let a = c.args in (refl, c.fill.ensures ∙ settled_bad a.q.progress a.octets.now c.if-p-ne0.true)
 
 returns_2 : tie.Need-returns-then-p-ne0-2
 returns_2 c =
-    let a = c.args in record {
-      answer = refl;
-      octets = c.fill-then-p-ne0-2.ensures
-          ∙ settled_odd a.q.progress a.octets.now c.if-p-ne0.false c.if-p-ne0-2.true;
-    }
+    let a = c.args in (
+      refl,
+      c.fill-then-p-ne0-2.ensures
+          ∙ settled_odd a.q.progress a.octets.now c.if-p-ne0.false c.if-p-ne0-2.true,
+    )
 
 returns_3 : tie.Need-returns
 returns_3 c =
-    let a = c.args in record { answer = refl; octets = settled_none a.q.progress a.octets.now c.if-p-ne0.false c.if-p-ne0-2.false }
+    let a = c.args in (refl, settled_none a.q.progress a.octets.now c.if-p-ne0.false c.if-p-ne0-2.false)
 
 pub settle_spec : {M : Type 1} → statement M
 settle_spec =

@@ -11,10 +11,10 @@ add_t5 c =
 
 returns : tie.Need-returns-in-At
 returns c =
-    let below = rw c.in-At.is at c.requires in record { answer = rw c.in-At.is; few = below }
+    let below = rw c.in-At.is at c.requires in (rw c.in-At.is, below)
 
 returns_2 : tie.Need-returns-in-Nothing
-returns_2 c = record { answer = rw c.in-Nothing.is; few = tt }
+returns_2 c = (rw c.in-Nothing.is, tt)
 
 pub placed_spec : {M : Type 1} → statement M
 placed_spec = tie.close (tie.spec

@@ -28,16 +28,16 @@ placed_requires c κs =
     (omega (arith, length_hard row, start.pre))
 
 returns : tie.Need-returns-then-largest-lt5
-returns c = record { answer = row_none c.args.at _ c.args.row.now c.largest.ensures c.if-largest-lt5.true; few = tt }
+returns c = (row_none c.args.at _ c.args.row.now c.largest.ensures c.if-largest-lt5.true, tt)
 
 returns_2 : tie.Need-returns
 returns_2 c =
     let start = begun c.before.before in
-    let row = start.args.row.now in record {
-      answer = row_unusable start.args.at row c.first_unusable-found.result c.placed.result (length row - 0)
-          (omega arith) c.first_unusable-found.ensures c.placed.ensures.answer;
-      few = c.placed.ensures.few;
-    }
+    let row = start.args.row.now in (
+      row_unusable start.args.at row c.first_unusable-found.result c.placed.result (length row - 0)
+          (omega arith) c.first_unusable-found.ensures c.placed.ensures.answer,
+      c.placed.ensures.few,
+    )
 
 pub unusable_from_spec : {M : Type 1} → statement M
 unusable_from_spec =

@@ -27,7 +27,7 @@ list_payloads_requires c κs =
 
 returns : tie.Need-returns
 returns c =
-    let both = (let args = c.args in
+    let args = c.args in
     let kind = args.kind in
     let a = args.a.now in
     let b = args.b.now in
@@ -52,7 +52,7 @@ returns c =
           (c.read_hard-read_a.ensures.octets, c.read_hard-read_b.ensures.octets),
         ),
       ),
-    )) in record { answer = both.0; chips = both.1; octets = both.2; first = both.3; second = both.4 }
+    )
 
 pub compare_spec : {M : Type 1} → statement M
 compare_spec =
