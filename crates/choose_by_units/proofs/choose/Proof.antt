@@ -34,18 +34,18 @@ module _ (c : tie.After-two_keys-top) where
   second : key_of 2 1 (to_z w8 (of_z w8 q)) ≡ sum_key i q 1
   second = λ j. key_of 2 1 (score q c.requires.1 j)
 
-  top : TwoLargest (sum_key i q) 0 2 c.two_keys.result.first c.two_keys.result.second
+  top : TwoLargest (sum_key i q) 0 2 c.two_keys-top.result.first c.two_keys-top.result.second
   top =
-      two_is (two_of_lem (sum_key i q) 0) (c.two_keys.ensures.0 ∙ (λ j. bigger (first j) (second j)))
-      (c.two_keys.ensures.1 ∙ (λ j. lesser (first j) (second j)))
+      two_is (two_of_lem (sum_key i q) 0) (c.two_keys-top.ensures.0 ∙ (λ j. bigger (first j) (second j)))
+      (c.two_keys-top.ensures.1 ∙ (λ j. lesser (first j) (second j)))
 
 returns : tie.Need-returns
 returns c =
-    let chosen = phase_by (i c) (q c) (top c) in
+    let chosen = phase_by (i c.before.before) (q c.before.before) (top c.before.before) in
     (c.number_of.ensures ∙ chosen.0, c.lead_of.ensures ∙ chosen.1)
 
 pub choose_spec : {M : Type 1} → statement M
 choose_spec =
     tie.close
     (tie.spec
-    two_keys_requires (λ c κs. search rules) (λ c κs. (lit< tt, lit≤ tt, second_le (top c))) returns)
+    two_keys_requires (λ c κs. search rules) (λ c κs. (lit< tt, lit≤ tt, second_le (top c.before))) returns)

@@ -36,32 +36,33 @@ module _ (c : tie.Start) where
 
 module _ (c : tie.Then-s-lt0) where
   below : to_z w8 (of_z w8 (pos 0 -ℤ to_z w8 (of_z w8 (s c.before)))) ≡ pos (nat_abs (s c.before))
-  below = opposite c.before ∙ abs_below (s c.before) (rw (score c.before) at c.if1.true)
+  below = opposite c.before ∙ abs_below (s c.before) (rw (score c.before) at c.if-s-lt0.true)
 
 module _ (c : tie.Else-s-lt0) where
   above : to_z w8 (of_z w8 (s c.before)) ≡ pos (nat_abs (s c.before))
-  above = score c.before ∙ abs_above (s c.before) (rw (score c.before) at c.if1.false)
+  above = score c.before ∙ abs_above (s c.before) (rw (score c.before) at c.if-s-lt0.false)
 
 returns : tie.Need-returns-then-s-lt0
 returns c =
-    ap (λ (z : ℤ). 4 * w c * nat_abs z + (2 * w c - 1 - c.args.n)) (below c)
-    ∙ key_below (w c) c.args.n (s c) (rw (score c) at c.if-s-lt0.true) c.requires.2
+    ap (λ (z : ℤ). 4 * w c.before * nat_abs z + (2 * w c.before - 1 - c.args.n)) (below c)
+    ∙ key_below (w c.before) c.args.n (s c.before) (rw (score c.before) at c.if-s-lt0.true) c.requires.2
 
 returns_2 : tie.Need-returns-else-s-lt0
 returns_2 c =
-    ap (λ (z : ℤ). 4 * w c * nat_abs z + (4 * w c - 1 - c.args.n)) (above c)
-    ∙ key_above (w c) c.args.n (s c) (rw (score c) at c.if-s-lt0.false) c.requires.2
+    ap (λ (z : ℤ). 4 * w c.before * nat_abs z + (4 * w c.before - 1 - c.args.n)) (above c)
+    ∙ key_above (w c.before) c.args.n (s c.before) (rw (score c.before) at c.if-s-lt0.false) c.requires.2
 
 pub key_spec : {M : Type 1} → statement M
 key_spec =
     tie.close
     (tie.spec
-    (λ c. omega (arith, c.requires.0)) (λ c. made_fits (minus c) (within_neg c.requires.1) (lit< tt))
+    (λ c. omega (arith, c.requires.0)) (λ c. made_fits (minus c.before) (within_neg c.requires.1) (lit< tt))
     (λ c. rw (below c) (tt, record { fits = omega (arith, abs_le c.requires.1) }))
-    (λ c. rw (below c) (record { fits = omega (arith, few c) })) (λ c. omega (arith, c.requires.0))
+    (λ c. rw (below c) (record { fits = omega (arith, few c.before) })) (λ c. omega (arith, c.requires.0))
     (λ c. omega (arith, c.requires.2)) (λ c. omega (arith, c.requires.2))
-    (λ c. rw (below c) (record { fits = omega (arith, few c, c.requires.0) })) (λ c. omega (arith, c.requires.0))
+    (λ c. rw (below c) (record { fits = omega (arith, few c.before, c.requires.0) }))
+    (λ c. omega (arith, c.requires.0))
     (λ c. rw (above c) (tt, record { fits = omega (arith, abs_le c.requires.1) }))
-    (λ c. rw (above c) (record { fits = omega (arith, few c) })) (λ c. omega (arith, c.requires.0))
+    (λ c. rw (above c) (record { fits = omega (arith, few c.before) })) (λ c. omega (arith, c.requires.0))
     (λ c. omega (arith, c.requires.2)) (λ c. omega (arith, c.requires.2))
-    (λ c. rw (above c) (record { fits = omega (arith, few c, c.requires.0) })) returns returns_2)
+    (λ c. rw (above c) (record { fits = omega (arith, few c.before, c.requires.0) })) returns returns_2)

@@ -37,26 +37,26 @@ key_requires_2 c κs =
 -- the keys, as they are read back
 module _ (c : tie.After-key) where
   abbrev s : tie.Start
-  s = c
+  s = c.before
 
   first : to_z w32 (of_z w32 c.key.result) ≡ pos (key_of (s.args.w + s.args.w) s.args.n s.args.s)
-  first = key_read w32 90112 s.args.w s.args.n s.args.s (lit< tt) (room s) s.pre.1
-      (omega (arith, s.pre.3)) c.key.ensures
+  first = key_read w32 90112 s.args.w s.args.n s.args.s (lit< tt) (room s) s.requires.1
+      (omega (arith, s.requires.3)) c.key.ensures
 
 module _ (c : tie.After-key-2) where
-  abbrev c : tie.Start
-  c = c
+  abbrev start : tie.Start
+  start = c.before.before.before
 
-  second : to_z w32 (of_z w32 c.key2.result)
-      ≡ pos (key_of (c.args.w + c.args.w) (c.args.n + 1) c.args.t)
-  second = key_read w32 90112 c.args.w (c.args.n + 1) c.args.t (lit< tt) (room c.before.before)
-      c.requires.2 c.requires.3 c.key2.ensures
+  second : to_z w32 (of_z w32 c.key-2.result)
+      ≡ pos (key_of (start.args.w + start.args.w) (start.args.n + 1) start.args.t)
+  second = key_read w32 90112 start.args.w (start.args.n + 1) start.args.t (lit< tt) (room start)
+      start.requires.2 start.requires.3 c.key-2.ensures
 
 returns : tie.Need-returns
 returns c =
     let a = c.float_of-a.ensures
-    ∙ ap (of_int binary32) (first c) in
-    let b = c.float_of-b.ensures ∙ ap (of_int binary32) (second c) in (
+    ∙ ap (of_int binary32) (first c.before.before.before.before.before) in
+    let b = c.float_of-b.ensures ∙ ap (of_int binary32) (second c.before.before.before) in (
       c.larger.ensures ∙ (λ i. larger_float (a i) (b i)),
       c.smaller.ensures ∙ (λ i. smaller_float (a i) (b i)),
     )
@@ -65,7 +65,7 @@ pub two_keys_spec : {M : Type 1} → statement M
 two_keys_spec =
     tie.close
     (tie.spec
-    key_requires (λ c κs. rw (first c) (may_float _ (few c _ _ c.requires.1)))
+    key_requires (λ c κs. rw (first c) (may_float _ (few c.before _ _ c.requires.1)))
     (λ c. omega (arith, c.requires.0, c.requires.3)) key_requires_2
     (λ c κs. rw (second c) (may_float _ (few (start c) _ _ (start c).requires.2))) (λ c κs. search rules)
     (λ c κs. search rules) returns)

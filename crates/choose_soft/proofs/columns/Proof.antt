@@ -25,16 +25,14 @@ abbrev decreases_loop : tie.decreases-loop-l
 decreases_loop i q at count row₀ l₀ row l = count - l
 
 -- the chips gathered are usable
-usable : (c : tie.After-eight-chips invariant_loop decreases_loop) → AllSoft 8 c.eight.result
+usable : (c : tie.After-eight-chips invariant_loop decreases_loop) → AllSoft 8 c.eight-chips.result
 usable c =
-    let turn = c.before.before in
-    let s = turn.before.before.before in
-    let l = turn.loop.l in
-    let h = c.before.loop-test.true in
-    rw c.eight.ensures
-    (usable_soft 8 s.args.i.now s.args.q.now (s.args.at + 8 * l)
-    (omega (arith, s.requires.1), omega (arith, s.requires.2))
-    (usable_part (8 * l) 8 s.requires.3 (omega arith)))
+    let l = c.loop-l.l in
+    let h = c.loop-l-test.true in
+    rw c.eight-chips.ensures
+    (usable_soft 8 c.args.i.now c.args.q.now (c.args.at + 8 * l)
+    (omega (arith, c.requires.1), omega (arith, c.requires.2))
+    (usable_part (8 * l) 8 c.requires.3 (omega arith)))
 
 eight_requires : tie.Need-eight-chips-requires invariant_loop decreases_loop
 eight_requires c κs = (omega (arith, c.requires.1), omega (arith, c.requires.2))
@@ -62,12 +60,13 @@ loop_again c =
 
 returns : tie.Need-returns invariant_loop decreases_loop
 returns c =
-    let all : c.loop-l.l ≡ c.args.count = omega arith in (rw all at c.loop-l.invariant.1, c.loop-l.invariant.2)
+    let all : c.loop-l.l ≡ c.args.count = omega arith in
+    (rw all at c.loop-l.invariant.1, c.loop-l.invariant.2)
 
 pub columns_spec : {M : Type 1} → statement M
 columns_spec =
     tie.close
     (tie.spec
     invariant_loop decreases_loop (λ c. (omega arith, columns_none _ _ _ c.requires.4, c.requires.5))
-    (λ c. omega arith) (λ c. omega arith) eight_requires (λ c κs. usable c) (λ c κs. usable c) put_column_requires
-    (λ c. omega arith) (λ c. omega arith) loop_again (λ c. search rules) returns)
+    (λ c. omega arith) (λ c. omega arith) eight_requires (λ c κs. usable c) (λ c κs. usable c.before)
+    put_column_requires (λ c. omega arith) (λ c. omega arith) loop_again (λ c. search rules) returns)

@@ -24,10 +24,10 @@ module _ (c : tie.In-loop-l invariant_loop decreases_loop) where
   start = c.before.before
 
   abbrev l : ℕ
-  l = c.before.loop.l
+  l = c.loop-l.l
 
   below : l < 16
-  below = c.loop-test.true
+  below = c.loop-l-test.true
 
   place : (p : ℕ) → p ≤ 384 → Fits w64 (p + l)
   place p h = record { fits = omega (arith, below) }
@@ -48,29 +48,29 @@ module _ (c : tie.In-loop-l invariant_loop decreases_loop) where
   few p h = omega arith
 
   inside : (p : ℕ) → p ≤ 224 → p + l < length start.args.s.now
-  inside p h = omega (arith, start.pre.0, below)
+  inside p h = omega (arith, start.requires.0, below)
 
   inside_on : (p : ℕ) → p ≤ 224 → p + l + 16 < length start.args.s.now
-  inside_on p h = omega (arith, start.pre.0, below)
+  inside_on p h = omega (arith, start.requires.0, below)
 
-  room : start.args.z + l < length c.before.loop.o
-  room = omega (arith, c.before.loop.invariant.1.long, start.pre.1, start.pre.4, below)
+  room : start.args.z + l < length c.loop-l.o
+  room = omega (arith, c.loop-l.invariant.1.long, start.requires.1, start.requires.4, below)
 
-  room_on : (k : ℕ) → k < 113 → start.args.z + l + k < length c.before.loop.o
-  room_on k h = omega (arith, c.before.loop.invariant.1.long, start.pre.1, start.pre.4, below)
+  room_on : (k : ℕ) → k < 113 → start.args.z + l + k < length c.loop-l.o
+  room_on k h = omega (arith, c.loop-l.invariant.1.long, start.requires.1, start.requires.4, below)
 
 -- the turn that a step is in: so many numbers are read
-abbrev by1 : tie.After-xr-1 invariant_loop decreases_loop → tie.In-loop-l invariant_loop decreases_loop
+abbrev by1 : tie.After-xr invariant_loop decreases_loop → tie.In-loop invariant_loop decreases_loop
 by1 c = c.before
 
-abbrev by2 : tie.After-xi-1 invariant_loop decreases_loop → tie.In-loop-l invariant_loop decreases_loop
-by2 c = by1 c.before
+abbrev by2 : tie.After-xi invariant_loop decreases_loop → tie.In-loop invariant_loop decreases_loop
+by2 c = c.before.before
 
-abbrev by3 : tie.After-yr-1 invariant_loop decreases_loop → tie.In-loop-l invariant_loop decreases_loop
-by3 c = by2 c.before
+abbrev by3 : tie.After-yr invariant_loop decreases_loop → tie.In-loop invariant_loop decreases_loop
+by3 c = c.before.before.before
 
-abbrev by4 : tie.After-yi-1 invariant_loop decreases_loop → tie.In-loop-l invariant_loop decreases_loop
-by4 c = by3 c.before
+abbrev by4 : tie.After-yi invariant_loop decreases_loop → tie.In-loop invariant_loop decreases_loop
+by4 c = c.before.before.before.before
 
 -- a turn, once its column is read
 module _ (c : tie.After-yi-1 invariant_loop decreases_loop) where

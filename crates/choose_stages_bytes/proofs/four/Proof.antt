@@ -52,10 +52,10 @@ module _ (c : tie.In-loop-l invariant_loop decreases_loop) where
   start = c.before.before
 
   abbrev a : ℕ
-  a = start.args.x + c.before.loop.l
+  a = start.args.x + c.loop-l.l
 
   below : a < 160
-  below = omega (arith, start.pre.2, c.loop-test.true)
+  below = omega (arith, start.requires.2, c.loop-l-test.true)
 
   place : Fits w64 a
   place = record { fits = omega (arith, below) }
@@ -69,36 +69,36 @@ module _ (c : tie.In-loop-l invariant_loop decreases_loop) where
   size_on : (k : ℕ) → k < 97 → Fits w64 ((a + k) * 2)
   size_on k h = record { fits = omega (arith, below) }
 
-  next : Fits w64 (c.before.loop.l + 1)
-  next = record { fits = omega (arith, c.loop-test.true) }
+  next : Fits w64 (c.loop-l.l + 1)
+  next = record { fits = omega (arith, c.loop-l-test.true) }
 
   inside : a < length start.args.row.now
-  inside = omega (arith, start.pre.0, below)
+  inside = omega (arith, start.requires.0, below)
 
   inside_on : (k : ℕ) → k < 97 → a + k < length start.args.row.now
-  inside_on k h = omega (arith, start.pre.0, below)
+  inside_on k h = omega (arith, start.requires.0, below)
 
-  long : length c.before.loop.z ≡ 256
-  long = c.before.loop.invariant.1.long ∙ start.pre.1
+  long : length c.loop-l.z ≡ 256
+  long = c.loop-l.invariant.1.long ∙ start.requires.1
 
-  room : a < length c.before.loop.z
+  room : a < length c.loop-l.z
   room = omega (arith, long, below)
 
-  room_on : (k : ℕ) → k < 97 → a + k < length c.before.loop.z
+  room_on : (k : ℕ) → k < 97 → a + k < length c.loop-l.z
   room_on k h = omega (arith, long, below)
 
 -- the turn that a step is in: k chips are scaled
-abbrev by1 : tie.After-scaled-c0 invariant_loop decreases_loop → tie.In-loop-l invariant_loop decreases_loop
+abbrev by1 : tie.After-scaled invariant_loop decreases_loop → tie.In-loop invariant_loop decreases_loop
 by1 c = c.before.before
 
-abbrev by2 : tie.After-scaled-c1 invariant_loop decreases_loop → tie.In-loop-l invariant_loop decreases_loop
-by2 c = by1 c.before.before
+abbrev by2 : tie.After-scaled2 invariant_loop decreases_loop → tie.In-loop invariant_loop decreases_loop
+by2 c = c.before.before.before.before
 
-abbrev by3 : tie.After-scaled-c2 invariant_loop decreases_loop → tie.In-loop-l invariant_loop decreases_loop
-by3 c = by2 c.before.before
+abbrev by3 : tie.After-scaled3 invariant_loop decreases_loop → tie.In-loop invariant_loop decreases_loop
+by3 c = c.before.before.before.before.before.before
 
-abbrev by4 : tie.After-scaled-c3 invariant_loop decreases_loop → tie.In-loop-l invariant_loop decreases_loop
-by4 c = by3 c.before.before
+abbrev by4 : tie.After-scaled4 invariant_loop decreases_loop → tie.In-loop invariant_loop decreases_loop
+by4 c = c.before.before.before.before.before.before.before.before
 
 -- a byte as it is read, scaled, and written
 entry : (times more : ℤ) {r b : ℤ} → to_z w16 (of_z w16 r) ≡ r → r ≡ (times *ℤ to_z w8 (of_z w8 b)) +ℤ more
@@ -134,7 +134,8 @@ loop_again c =
 
 returns : tie.Need-returns invariant_loop decreases_loop
 returns c =
-    let e : c.loop-l.l ≡ 32 = omega (arith, c.loop-l.invariant.0, c.loop-l-test.false) in (rw (e, third_is c, fourth_is c, more_is c) c c.loop-l.invariant.1, rw e c c.loop-l.invariant.2)
+    let e : c.loop-l.l ≡ 32 = omega (arith, c.loop-l.invariant.0, c.loop-l-test.false) in
+    (rw (e, third_is c.before.before, fourth_is c.before.before, more_is c.before.before) c c.loop-l.invariant.1, rw e c c.loop-l.invariant.2)
 
 pub four_spec : {M : Type 1} → statement M
 four_spec =
@@ -144,9 +145,10 @@ four_spec =
     (λ c κs. (within_pos 16, within_zero 4)) (λ c. place_on (by1 c) 32 (lit< tt))
     (λ c. inside_on (by1 c) 32 (lit< tt)) (λ c κs. (within_pos 16, within_zero 4))
     (λ c. place_on (by2 c) 64 (lit< tt)) (λ c. inside_on (by2 c) 64 (lit< tt))
-    (λ c κs. (third_within (start (by2 c)), within_zero 4)) (λ c. place_on (by3 c) 96 (lit< tt))
-    (λ c. inside_on (by3 c) 96 (lit< tt)) (λ c κs. (fourth_within (start (by3 c)), more_within (start (by3 c))))
-    (λ c. size (by4 c)) (λ c. room (by4 c)) (λ c. place_on (by4 c) 32 (lit< tt)) (λ c. size_on (by4 c) 32 (lit< tt))
+    (λ c κs. (third_within (start (by2 c.before)), within_zero 4)) (λ c. place_on (by3 c) 96 (lit< tt))
+    (λ c. inside_on (by3 c) 96 (lit< tt))
+    (λ c κs. (fourth_within (start (by3 c.before)), more_within (start (by3 c.before)))) (λ c. size (by4 c))
+    (λ c. room (by4 c)) (λ c. place_on (by4 c) 32 (lit< tt)) (λ c. size_on (by4 c) 32 (lit< tt))
     (λ c. simp length-set (room_on (by4 c) 32 (lit< tt))) (λ c. place_on (by4 c) 64 (lit< tt))
     (λ c. size_on (by4 c) 64 (lit< tt)) (λ c. simp length-set (room_on (by4 c) 64 (lit< tt)))
     (λ c. place_on (by4 c) 96 (lit< tt)) (λ c. size_on (by4 c) 96 (lit< tt))

@@ -52,10 +52,10 @@ module _ (c : tie.In-loop-l invariant_loop decreases_loop) where
   start = c.before.before
 
   abbrev a : ℕ
-  a = start.args.x + c.before.loop.l
+  a = start.args.x + c.loop-l.l
 
   below : a < 160
-  below = omega (arith, start.pre.2, c.loop-test.true)
+  below = omega (arith, start.requires.2, c.loop-l-test.true)
 
   place : Fits w64 a
   place = record { fits = omega (arith, below) }
@@ -69,36 +69,36 @@ module _ (c : tie.In-loop-l invariant_loop decreases_loop) where
   size_on : (k : ℕ) → k < 97 → Fits w64 ((a + k) * 4)
   size_on k h = record { fits = omega (arith, below) }
 
-  next : Fits w64 (c.before.loop.l + 1)
-  next = record { fits = omega (arith, c.loop-test.true) }
+  next : Fits w64 (c.loop-l.l + 1)
+  next = record { fits = omega (arith, c.loop-l-test.true) }
 
   inside : a < length start.args.row.now
-  inside = omega (arith, start.pre.0, below)
+  inside = omega (arith, start.requires.0, below)
 
   inside_on : (k : ℕ) → k < 97 → a + k < length start.args.row.now
-  inside_on k h = omega (arith, start.pre.0, below)
+  inside_on k h = omega (arith, start.requires.0, below)
 
-  long : length c.before.loop.z ≡ 256
-  long = c.before.loop.invariant.1.long ∙ start.pre.1
+  long : length c.loop-l.z ≡ 256
+  long = c.loop-l.invariant.1.long ∙ start.requires.1
 
-  room : a < length c.before.loop.z
+  room : a < length c.loop-l.z
   room = omega (arith, long, below)
 
-  room_on : (k : ℕ) → k < 97 → a + k < length c.before.loop.z
+  room_on : (k : ℕ) → k < 97 → a + k < length c.loop-l.z
   room_on k h = omega (arith, long, below)
 
 -- the turn that a step is in: k chips are scaled
-abbrev by1 : tie.After-scaled-c0 invariant_loop decreases_loop → tie.In-loop-l invariant_loop decreases_loop
+abbrev by1 : tie.After-scaled invariant_loop decreases_loop → tie.In-loop invariant_loop decreases_loop
 by1 c = c.before.before
 
-abbrev by2 : tie.After-scaled-c1 invariant_loop decreases_loop → tie.In-loop-l invariant_loop decreases_loop
-by2 c = by1 c.before.before
+abbrev by2 : tie.After-scaled2 invariant_loop decreases_loop → tie.In-loop invariant_loop decreases_loop
+by2 c = c.before.before.before.before
 
-abbrev by3 : tie.After-scaled-c2 invariant_loop decreases_loop → tie.In-loop-l invariant_loop decreases_loop
-by3 c = by2 c.before.before
+abbrev by3 : tie.After-scaled3 invariant_loop decreases_loop → tie.In-loop invariant_loop decreases_loop
+by3 c = c.before.before.before.before.before.before
 
-abbrev by4 : tie.After-scaled-c3 invariant_loop decreases_loop → tie.In-loop-l invariant_loop decreases_loop
-by4 c = by3 c.before.before
+abbrev by4 : tie.After-scaled4 invariant_loop decreases_loop → tie.In-loop invariant_loop decreases_loop
+by4 c = c.before.before.before.before.before.before.before.before
 
 -- a count as it is read, and as it is scaled and written
 module _ (c : tie.In-loop-l invariant_loop decreases_loop) (k : ℕ) where
@@ -134,17 +134,17 @@ loop_again c =
 returns : tie.Need-returns invariant_loop decreases_loop
 returns c =
     let e : c.loop-l.l ≡ 32 = omega (arith, c.loop-l.invariant.0, c.loop-l-test.false) in
-    rw (e, third_is c, fourth_is c, more_is c) c c.loop-l.invariant.1
+    rw (e, third_is c.before.before, fourth_is c.before.before, more_is c.before.before) c c.loop-l.invariant.1
 
 pub four_spec : {M : Type 1} → statement M
 four_spec =
     tie.close
     (tie.spec
     invariant_loop decreases_loop (λ c. (omega arith, scaled_none)) (λ c. place c) (λ c. size c) (λ c. inside c)
-    (λ c κs. (count c (a c), within_pos 16, within_zero 4)) (λ c. place_on (by1 c) 32 (lit< tt))
+    (λ c κs. (count c.before (a c.before), within_pos 16, within_zero 4)) (λ c. place_on (by1 c) 32 (lit< tt))
     (λ c. size_on (by1 c) 32 (lit< tt)) (λ c. inside_on (by1 c) 32 (lit< tt))
-    (λ c κs. (count (by1 c) (a (by1 c) + 32), within_pos 16, within_zero 4)) (λ c. place_on (by2 c) 64 (lit< tt))
-    (λ c. size_on (by2 c) 64 (lit< tt)) (λ c. inside_on (by2 c) 64 (lit< tt))
+    (λ c κs. (count (by1 c.before) (a (by1 c.before) + 32), within_pos 16, within_zero 4))
+    (λ c. place_on (by2 c) 64 (lit< tt)) (λ c. size_on (by2 c) 64 (lit< tt)) (λ c. inside_on (by2 c) 64 (lit< tt))
     (λ c κs. let turn = by2 c.before in (count turn (a turn + 64), third_within (start turn), within_zero 4))
     (λ c. place_on (by3 c) 96 (lit< tt)) (λ c. size_on (by3 c) 96 (lit< tt)) (λ c. inside_on (by3 c) 96 (lit< tt))
     (λ c κs. let turn = by3 c.before in (count turn (a turn + 96), fourth_within (start turn), more_within (start turn)))

@@ -28,15 +28,15 @@ module _ (c : tie.After-shared_slice_known-in-loop-s-1 invariant_loop decreases_
   turn = c.before.before
 
   abbrev start : tie.Start invariant_loop decreases_loop
-  start = turn.before.before.before
+  start = c.before.before.before.before.before
 
-  first_is : to_z w16 (of_z w16 (get_or start.args.first.now turn.before.loop.s (pos 0)))
-      ≡ get_or start.args.first.now turn.before.loop.s (pos 0)
+  first_is : to_z w16 (of_z w16 (get_or start.args.first.now turn.loop-s.s (pos 0)))
+      ≡ get_or start.args.first.now turn.loop-s.s (pos 0)
   first_is = search rules
 
 module _ (c : tie.After-lead_of-arg-in-loop-s-1 invariant_loop decreases_loop) where
   abbrev word : tie.After-shared_slice_known-in-loop-s-1 invariant_loop decreases_loop
-  word = c.before.before.before
+  word = c.before.before.before.before
 
   second_is : to_z w16 (of_z w16 (get_or (start word).args.second.now (turn word).before.loop.s (pos 0)))
       ≡ get_or (start word).args.second.now (turn word).before.loop.s (pos 0)
@@ -61,7 +61,7 @@ lead_of_requires c κs =
 
 loop_again : tie.Need-loop-s-preserved invariant_loop decreases_loop
 loop_again c =
-    let w = word c in
+    let w = word c.before.before in
     let at = (turn w).before in
     let s = start w in
     let few = (turn w).loop-test.taken in (
@@ -71,13 +71,14 @@ loop_again c =
           ∙ ap (λ (z : ℤ). word_of_key z (get_or s.args.at.now at.loop.s 0)) (first_is w))
           at.loop.inv.1,
       put_more _ (omega (arith, s.pre.2))
-          (c.lead_of.ensures ∙ (λ i. s.args.unit * lead_of_keys (first_is w i) (second_is c i)))
+          (c.lead_of.ensures ∙ (λ i. s.args.unit * lead_of_keys (first_is w i) (second_is c.before.before i)))
           at.loop.inv.2,
     )
 
 returns : tie.Need-returns invariant_loop decreases_loop
 returns c =
-    let all : c.loop-s.s ≡ 16 = omega (arith, c.loop-s.invariant.0) in (rw all at c.loop-s.invariant.1, rw all at c.loop-s.invariant.2)
+    let all : c.loop-s.s ≡ 16 = omega (arith, c.loop-s.invariant.0) in
+    (rw all at c.loop-s.invariant.1, rw all at c.loop-s.invariant.2)
 
 pub put_spec : {M : Type 1} → statement M
 put_spec =
@@ -86,6 +87,6 @@ put_spec =
     invariant_loop decreases_loop (λ c. (omega arith, put_none _ c.requires.3, put_none _ c.requires.4))
     (λ c. search rules) (λ c. omega (arith, c.requires.0.first_long)) (λ c. search rules)
     (λ c. omega (arith, c.requires.0.at_long)) word_of_requires (λ c. search rules) (λ c. search rules)
-    (λ c. search rules) (λ c. omega (arith, (start c).pre.0.first_long)) (λ c. search rules)
-    (λ c. omega (arith, (start c).pre.0.second_long)) lead_of_requires (λ c. search rules) (λ c. search rules)
-    (λ c. search rules) (λ c. search rules) (λ c. search rules) loop_again returns)
+    (λ c. search rules) (λ c. omega (arith, (start c.before.before).pre.0.first_long)) (λ c. search rules)
+    (λ c. omega (arith, (start c.before.before.before).pre.0.second_long)) lead_of_requires (λ c. search rules)
+    (λ c. search rules) (λ c. search rules) (λ c. search rules) (λ c. search rules) loop_again returns)

@@ -28,24 +28,24 @@ module _ (c : tie.After-max-next) where
   second : to_z w32 (of_z w32 start.args.second) ≡ start.args.second
   second = search rules
 
-  result : to_z w32 (of_z w32 c.max.result) ≡ c.max.result
+  result : to_z w32 (of_z w32 c.max-next.result) ≡ c.max-next.result
   result = search rules
 
-  next : to_z w32 (of_z w32 c.max.result) ≡ larger start.args.second (pos 0)
-  next = result ∙ c.max.ensures ∙ ap (λ (z : ℤ). larger z (pos 0)) second
+  next : to_z w32 (of_z w32 c.max-next.result) ≡ larger start.args.second (pos 0)
+  next = result ∙ c.max-next.ensures ∙ ap (λ (z : ℤ). larger z (pos 0)) second
 
   -- both are below 2 ^ 15
   first_natural : T (non_neg (to_z w32 (of_z w32 start.args.first)))
-  first_natural = rw first start.pre.0
+  first_natural = rw first start.requires.0
 
   first_below : nat_abs (to_z w32 (of_z w32 start.args.first)) < 2147483648
-  first_below = rw first (below start.args.first (search rules) start.pre.0)
+  first_below = rw first (below start.args.first (search rules) start.requires.0)
 
-  natural : T (non_neg (to_z w32 (of_z w32 c.max.result)))
+  natural : T (non_neg (to_z w32 (of_z w32 c.max-next.result)))
   natural = rw next (next_natural start.args.second)
 
-  under : nat_abs (to_z w32 (of_z w32 c.max.result)) ≤ nat_abs (to_z w32 (of_z w32 start.args.first))
-  under = rw (next, first) (next_under start.args.second start.args.first start.pre.0 start.pre.2)
+  under : nat_abs (to_z w32 (of_z w32 c.max-next.result)) ≤ nat_abs (to_z w32 (of_z w32 start.args.first))
+  under = rw (next, first) (next_under start.args.second start.args.first start.requires.0 start.requires.2)
 
 returns : tie.Need-returns
 returns c =

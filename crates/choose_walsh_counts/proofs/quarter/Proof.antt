@@ -48,16 +48,16 @@ decreases_loop a p3 first₀ second₀ at₀ e p f q g l₀ first second at l = 
 -- the places of a turn: k + 32 p3 + l, and sixteen on
 module _ (c : tie.In-loop-l invariant_loop decreases_loop) where
   abbrev b3 : ℕ
-  b3 = c.before.before.before.args.p3
+  b3 = c.args.p3
 
   abbrev bl : ℕ
-  bl = c.before.loop.l
+  bl = c.loop-l.l
 
   third_of : b3 < 4
-  third_of = c.before.before.before.requires.1
+  third_of = c.requires.1
 
   few_of : bl < 16
-  few_of = c.loop-test.true
+  few_of = c.loop-l-test.true
 
   place : (k : ℕ) → k ≤ 384 → Fits w64 (k + 32 * b3 + bl)
   place k h = fits_place k b3 bl h third_of few_of
@@ -65,8 +65,8 @@ module _ (c : tie.In-loop-l invariant_loop decreases_loop) where
   bytes : (k : ℕ) → k ≤ 384 → Fits w64 ((k + 32 * b3 + bl) * 4)
   bytes k h = fits_bytes k b3 bl h third_of few_of
 
-  inside : (k : ℕ) → k ≤ 384 → k + 32 * b3 + bl < length c.before.before.before.args.a.now
-  inside k h = in_row k b3 bl h third_of few_of c.before.before.before.requires.0
+  inside : (k : ℕ) → k ≤ 384 → k + 32 * b3 + bl < length c.args.a.now
+  inside k h = in_row k b3 bl h third_of few_of c.requires.0
 
   place_q : (k : ℕ) → k ≤ 384 → Fits w64 (k + 32 * b3 + bl + 16)
   place_q k h = fits_place_q k b3 bl h third_of few_of
@@ -74,8 +74,8 @@ module _ (c : tie.In-loop-l invariant_loop decreases_loop) where
   bytes_q : (k : ℕ) → k ≤ 384 → Fits w64 ((k + 32 * b3 + bl + 16) * 4)
   bytes_q k h = fits_bytes_q k b3 bl h third_of few_of
 
-  inside_q : (k : ℕ) → k ≤ 384 → k + 32 * b3 + bl + 16 < length c.before.before.before.args.a.now
-  inside_q k h = in_row_q k b3 bl h third_of few_of c.before.before.before.requires.0
+  inside_q : (k : ℕ) → k ≤ 384 → k + 32 * b3 + bl + 16 < length c.args.a.now
+  inside_q k h = in_row_q k b3 bl h third_of few_of c.requires.0
 
   -- and the place of its column in the rows of keys and groups
   size : Fits w64 (bl * 4)
@@ -84,25 +84,25 @@ module _ (c : tie.In-loop-l invariant_loop decreases_loop) where
   next : Fits w64 (bl + 1)
   next = record { fits = omega (arith, few_of) }
 
-  in_first : bl < length c.before.loop.first
-  in_first = omega (arith, c.before.loop.invariant.1.first_long, c.before.before.before.requires.3.first_long, few_of)
+  in_first : bl < length c.loop-l.first
+  in_first = omega (arith, c.loop-l.invariant.1.first_long, c.requires.3.first_long, few_of)
 
-  in_second : bl < length c.before.loop.second
+  in_second : bl < length c.loop-l.second
   in_second =
-      omega (arith, c.before.loop.invariant.1.second_long, c.before.before.before.requires.3.second_long, few_of)
+      omega (arith, c.loop-l.invariant.1.second_long, c.requires.3.second_long, few_of)
 
-  in_at : bl < length c.before.loop.at
-  in_at = omega (arith, c.before.loop.invariant.1.at_long, c.before.before.before.requires.3.at_long, few_of)
+  in_at : bl < length c.loop-l.at
+  in_at = omega (arith, c.loop-l.invariant.1.at_long, c.requires.3.at_long, few_of)
 
 -- what the column has, as it is read
 first_is : (c : tie.After-b-1 invariant_loop decreases_loop)
-    → to_z w32 (of_z w32 (get_or c.before.before.loop.first c.before.before.loop.l (pos 0)))
-    ≡ get_or c.before.before.loop.first c.before.before.loop.l (pos 0)
+    → to_z w32 (of_z w32 (get_or c.loop-l.first c.loop-l.l (pos 0)))
+    ≡ get_or c.loop-l.first c.loop-l.l (pos 0)
 first_is c = search rules
 
 second_is : (c : tie.After-b-in-loop-l-1 invariant_loop decreases_loop)
-    → to_z w32 (of_z w32 (get_or c.before.before.before.loop.second c.before.before.before.loop.l (pos 0)))
-    ≡ get_or c.before.before.before.loop.second c.before.before.before.loop.l (pos 0)
+    → to_z w32 (of_z w32 (get_or c.loop-l.second c.loop-l.l (pos 0)))
+    ≡ get_or c.loop-l.second c.loop-l.l (pos 0)
 second_is c = search rules
 
 -- a turn, once its column is read
@@ -111,33 +111,33 @@ module _ (c : tie.After-column-arg-in-loop-l-7-1 invariant_loop decreases_loop) 
   turn = c.before.before.before.before.before.before.before.before.before.before.before
 
   abbrev start : tie.Start invariant_loop decreases_loop
-  start = turn.before.before.before
+  start = c.before.before.before.before.before.before.before.before.before.before.before.before.before.before
 
-  few : turn.before.loop.l < 16
-  few = turn.loop-test.taken
+  few : turn.loop-l.l < 16
+  few = turn.loop-l-test.taken
 
   -- row k of the first stage is small
-  row : (k x : ℕ) → k < 16 → 32 * k ≡ x → Bounded 262152 (row_at start.args.a.now x turn.before.loop.l)
-  row k x h e = (row_at_lem k start.pre.2 h e).at _ few
+  row : (k x : ℕ) → k < 16 → 32 * k ≡ x → Bounded 262152 (row_at start.args.a.now x turn.loop-l.l)
+  row k x h e = (row_at_lem k start.requires.2 h e).at _ few
 
   third : start.args.p3 < 4
-  third = start.pre.1
+  third = start.requires.1
 
-  q_row : Bounded 262152 (row_at start.args.a.now (384 + 32 * start.args.p3) turn.before.loop.l)
+  q_row : Bounded 262152 (row_at start.args.a.now (384 + 32 * start.args.p3) turn.loop-l.l)
   q_row = row (12 + start.args.p3) _ (omega (arith, third)) (omega arith)
 
-  p_row : Bounded 262152 (row_at start.args.a.now (128 + 32 * start.args.p3) turn.before.loop.l)
+  p_row : Bounded 262152 (row_at start.args.a.now (128 + 32 * start.args.p3) turn.loop-l.l)
   p_row = row (4 + start.args.p3) _ (omega (arith, third)) (omega arith)
 
-  f_row : Bounded 262152 (row_at start.args.a.now (256 + 32 * start.args.p3) turn.before.loop.l)
+  f_row : Bounded 262152 (row_at start.args.a.now (256 + 32 * start.args.p3) turn.loop-l.l)
   f_row = row (8 + start.args.p3) _ (omega (arith, third)) (omega arith)
 
-  e_row : Bounded 262152 (row_at start.args.a.now (0 + 32 * start.args.p3) turn.before.loop.l)
+  e_row : Bounded 262152 (row_at start.args.a.now (0 + 32 * start.args.p3) turn.loop-l.l)
   e_row = row start.args.p3 _ (omega (arith, third)) (omega arith)
 
 -- the turn that is written, once the keys of its column are found
-abbrev by : tie.After-struct_told-in-loop-l-1 invariant_loop decreases_loop → tie.In-loop-l invariant_loop decreases_loop
-by c = turn c.before.before.before
+abbrev by : tie.After-struct-told2 invariant_loop decreases_loop → tie.In-loop invariant_loop decreases_loop
+by c = c.before.before.before.before.before.before.before.before.before.before.before.before.before.before
 
 read : {x y : ℤ} → Bounded 262152 (pair x y) → Bounded 262152 (pair (to_z w32 (of_z w32 x)) (to_z w32 (of_z w32 y)))
 read h = record { real = within_read w32 (lit< tt) h.real; imag = within_read w32 (lit< tt) h.imag }
@@ -151,9 +151,9 @@ column_requires c κs =
 
 loop_again : tie.Need-loop-l-preserved invariant_loop decreases_loop
 loop_again c =
-    let t = turn c in
+    let t = turn c.before.before.before in
     let at = t.before in
-    let s = start c in
+    let s = start c.before.before.before in
     let few = t.loop-test.taken in
     let l = at.loop.l in
     let v : to_z w32 (of_z w32 c.column-c.result.first) ≡ c.column-c.result.first = search rules in
@@ -163,9 +163,9 @@ loop_again c =
           (omega (arith, s.pre.3.second_long)) (omega (arith, s.pre.3.at_long))
           ((λ i. held (v i) (w i) c.column-c.result.group)
           ∙ c.column-c.ensures
-          ∙ (λ i. four_more (held (first_is c i) (second_is c i) (get_or at.loop.at l 0))
-          (is (q_row c) i) (is (p_row c) i) (is (f_row c) i)
-          (is (e_row c) i) (4 * s.args.p3))),
+          ∙ (λ i. four_more (held (first_is c.before.before.before.before.before.before.before.before.before.before.before.before.before i) (second_is c.before.before.before.before.before.before.before.before.before.before.before.before i) (get_or at.loop.at l 0))
+          (is (q_row c.before.before.before) i) (is (p_row c.before.before.before) i) (is (f_row c.before.before.before) i)
+          (is (e_row c.before.before.before) i) (4 * s.args.p3))),
     )
 
 returns : tie.Need-returns invariant_loop decreases_loop
@@ -179,17 +179,35 @@ quarter_spec =
     (tie.spec
     invariant_loop decreases_loop (λ c. search rules) (λ c. search rules) (λ c. search rules) (λ c. search rules)
     (λ c. search rules) (λ c. search rules) (λ c. search rules) (λ c. search rules) (λ c. search rules)
-    (λ c. search rules) (λ c. (omega arith, quartered_none _ _ _ _ _)) (λ c. size c) (λ c. in_first c) (λ c. size c)
-    (λ c. in_second c) (λ c. size c) (λ c. in_at c) (λ c. place c 384 (lit≤ tt)) (λ c. bytes c 384 (lit≤ tt))
-    (λ c. inside c 384 (lit≤ tt)) (λ c. place c 384 (lit≤ tt)) (λ c. place_q c 384 (lit≤ tt))
-    (λ c. bytes_q c 384 (lit≤ tt)) (λ c. inside_q c 384 (lit≤ tt)) (λ c. place c 128 (lit≤ tt))
-    (λ c. bytes c 128 (lit≤ tt)) (λ c. inside c 128 (lit≤ tt)) (λ c. place c 128 (lit≤ tt))
-    (λ c. place_q c 128 (lit≤ tt)) (λ c. bytes_q c 128 (lit≤ tt)) (λ c. inside_q c 128 (lit≤ tt))
-    (λ c. place c 256 (lit≤ tt)) (λ c. bytes c 256 (lit≤ tt)) (λ c. inside c 256 (lit≤ tt))
-    (λ c. place c 256 (lit≤ tt)) (λ c. place_q c 256 (lit≤ tt)) (λ c. bytes_q c 256 (lit≤ tt))
-    (λ c. inside_q c 256 (lit≤ tt)) (λ c. place c 0 (lit≤ tt)) (λ c. bytes c 0 (lit≤ tt))
-    (λ c. inside c 0 (lit≤ tt)) (λ c. place c 0 (lit≤ tt)) (λ c. place_q c 0 (lit≤ tt)) (λ c. bytes_q c 0 (lit≤ tt))
-    (λ c. inside_q c 0 (lit≤ tt)) column_requires (λ c. size (by c)) (λ c. in_first (by c)) (λ c. size (by c))
-    (λ c. in_second (by c)) (λ c. size (by c)) (λ c. in_at (by c)) (λ c. next (by c))
-    (λ c. omega (arith, few_of (by c))) loop_again (λ c. c.loop-l.invariant.1.first_long)
-    (λ c. c.loop-l.invariant.1.second_long) (λ c. c.loop-l.invariant.1.at_long) returns)
+    (λ c. search rules) (λ c. (omega arith, quartered_none _ _ _ _ _)) (λ c. size c) (λ c. in_first c)
+    (λ c. size c.before) (λ c. in_second c.before) (λ c. size c.before.before) (λ c. in_at c.before.before.before)
+    (λ c. place c.before.before.before 384 (lit≤ tt)) (λ c. bytes c.before.before.before 384 (lit≤ tt))
+    (λ c. inside c.before.before.before 384 (lit≤ tt)) (λ c. place c.before.before.before.before 384 (lit≤ tt))
+    (λ c. place_q c.before.before.before.before 384 (lit≤ tt))
+    (λ c. bytes_q c.before.before.before.before 384 (lit≤ tt))
+    (λ c. inside_q c.before.before.before.before 384 (lit≤ tt))
+    (λ c. place c.before.before.before.before.before 128 (lit≤ tt))
+    (λ c. bytes c.before.before.before.before.before 128 (lit≤ tt))
+    (λ c. inside c.before.before.before.before.before 128 (lit≤ tt))
+    (λ c. place c.before.before.before.before.before.before 128 (lit≤ tt))
+    (λ c. place_q c.before.before.before.before.before.before 128 (lit≤ tt))
+    (λ c. bytes_q c.before.before.before.before.before.before 128 (lit≤ tt))
+    (λ c. inside_q c.before.before.before.before.before.before 128 (lit≤ tt))
+    (λ c. place c.before.before.before.before.before.before.before 256 (lit≤ tt))
+    (λ c. bytes c.before.before.before.before.before.before.before 256 (lit≤ tt))
+    (λ c. inside c.before.before.before.before.before.before.before 256 (lit≤ tt))
+    (λ c. place c.before.before.before.before.before.before.before.before 256 (lit≤ tt))
+    (λ c. place_q c.before.before.before.before.before.before.before.before 256 (lit≤ tt))
+    (λ c. bytes_q c.before.before.before.before.before.before.before.before 256 (lit≤ tt))
+    (λ c. inside_q c.before.before.before.before.before.before.before.before 256 (lit≤ tt))
+    (λ c. place c.before.before.before.before.before.before.before.before.before 0 (lit≤ tt))
+    (λ c. bytes c.before.before.before.before.before.before.before.before.before 0 (lit≤ tt))
+    (λ c. inside c.before.before.before.before.before.before.before.before.before 0 (lit≤ tt))
+    (λ c. place c.before.before.before.before.before.before.before.before.before.before 0 (lit≤ tt))
+    (λ c. place_q c.before.before.before.before.before.before.before.before.before.before 0 (lit≤ tt))
+    (λ c. bytes_q c.before.before.before.before.before.before.before.before.before.before 0 (lit≤ tt))
+    (λ c. inside_q c.before.before.before.before.before.before.before.before.before.before 0 (lit≤ tt))
+    column_requires (λ c. size (by c)) (λ c. in_first (by c)) (λ c. size (by c)) (λ c. in_second (by c))
+    (λ c. size (by c)) (λ c. in_at (by c)) (λ c. next (by c)) (λ c. omega (arith, few_of (by c))) loop_again
+    (λ c. c.loop-l.invariant.1.first_long) (λ c. c.loop-l.invariant.1.second_long)
+    (λ c. c.loop-l.invariant.1.at_long) returns)

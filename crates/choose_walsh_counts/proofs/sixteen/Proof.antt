@@ -32,16 +32,16 @@ search_requires c κs =
 
 -- the stages behind what the search has found
 module _ (c : tie.After-search) where
-  abbrev c : tie.After-pairs
-  c = c
+  abbrev pairs : tie.After-pairs
+  pairs = c.before.before.before.before.before
 
-  abbrev c : tie.After-enter
-  c = c
+  abbrev enter : tie.After-enter
+  enter = c.before.before.before.before.before.before.before.before
 
 put_requires : tie.Need-put-requires
 put_requires c κs =
-    let s = (enter c).before.before in (
-      keyed (enter c).enter.ensures (pairs c).pairs.ensures c.search.ensures,
+    let s = (enter c.before.before.before.before.before.before.before.before).before.before in (
+      keyed (enter c.before.before.before.before.before.before.before.before).enter.ensures (pairs c.before.before.before.before.before.before.before.before).pairs.ensures c.search.ensures,
       s.pre.3,
       s.pre.4,
       s.pre.5,
@@ -49,8 +49,8 @@ put_requires c κs =
 
 returns : tie.Need-returns
 returns c =
-    let e = (enter c).enter.ensures in
-    let p = (pairs c).pairs.ensures in
+    let e = (enter c.before.before.before.before.before.before.before.before.before).enter.ensures in
+    let p = (pairs c.before.before.before.before.before.before.before.before.before).pairs.ensures in
     let f = c.search.ensures in (
       (e.long, p.long),
       (

@@ -22,7 +22,7 @@ fits c i = search rules
 octets : (c : tie.Start) → Below 256 c.args.header
 octets c = record { at = λ i. (fits c i).fits }
 
-crc_fits : (c : tie.After-crc_octets-crc) (i : ℕ) → Fits w8 (get_or c.crc-octets.result i 0)
+crc_fits : (c : tie.After-crc_octets-crc) (i : ℕ) → Fits w8 (get_or c.crc_octets-crc.result i 0)
 crc_fits c i = search rules
 
 crcs : (c : tie.After-crc_octets-crc) → Below 256 c.crc_octets-crc.result

@@ -29,30 +29,30 @@ abbrev decreases_loop : tie.decreases-loop-k
 decreases_loop rec row bytes i q rate at symbol out₀ chips symbols part₀ place₀ k₀ out part place k = length out₀ - k
 
 -- before the loop
-abbrev begun : tie.At-loop-k invariant_loop decreases_loop → tie.Start invariant_loop decreases_loop
+abbrev begun : tie.At-loop invariant_loop decreases_loop → tie.Start invariant_loop decreases_loop
 begun c = c.before.before.before.before.before.before.before
 
 -- in a turn there are octets left
-left : (c : tie.In-loop-k invariant_loop decreases_loop) → c.before.loop.k < length (begun c.before).args.out.now
-left c = omega (arith, parts_long c.before.loop.invariant)
+left : (c : tie.In-loop-k invariant_loop decreases_loop) → c.loop-k.k < length (begun c.before).args.out.now
+left c = omega (arith, parts_long c.loop-k.invariant)
 
 -- what the block asks of the recording
 held : (c : tie.After-block_octets-count invariant_loop decreases_loop) → let a = (begun c.before.before).args in
-    c.before.before.loop.place + octet_chips a.rate * c.block_octets.result
+    c.loop-k.place + octet_chips a.rate * c.block_octets-count.result
     ≤ length (recording_of a.rec a.row.now a.bytes.now a.i.now a.q.now)
 held c =
-    block_room _ _ _ _ _ _ _ _ _ _ _ _ c.before.before.loop.invariant (left c.before) c.block_octets.ensures _
+    block_room _ _ _ _ _ _ _ _ _ _ _ _ c.loop-k.invariant (left c.before) c.block_octets-count.ensures _
     (begun c.before.before).pre.0
 
 -- and the product of its octets and chips
 ends : (c : tie.After-block_octets-count invariant_loop decreases_loop)
-    → c.before.before.loop.place + c.before.before.before.before.octet-chips.result * c.block_octets.result
+    → c.loop-k.place + c.octet_chips-chips.result * c.block_octets-count.result
     < 2 ^ 64
 ends c =
     let start = begun c.before.before in
     let a = start.args in
     let h = held c in
-    rw c.before.before.before.before.octet-chips.ensures
+    rw c.octet_chips-chips.ensures
     (omega (
       arith,
       h,
@@ -62,11 +62,11 @@ ends c =
 
 -- the numbers of its symbols
 numbered : (c : tie.After-block_octets-count invariant_loop decreases_loop) → let a = (begun c.before.before).args in
-    a.symbol + c.before.before.before.octet-symbols.result * c.before.before.loop.k
-    + octet_symbols a.rate * c.block_octets.result < 2 ^ 64
+    a.symbol + c.octet_symbols-symbols.result * c.loop-k.k
+    + octet_symbols a.rate * c.block_octets-count.result < 2 ^ 64
 numbered c =
-    block_symbol _ _ _ _ _ _ _ _ _ _ _ _ c.before.before.loop.invariant (left c.before)
-    c.block_octets.ensures _ _ c.before.before.before.octet-symbols.ensures
+    block_symbol _ _ _ _ _ _ _ _ _ _ _ _ c.loop-k.invariant (left c.before)
+    c.block_octets-count.ensures _ _ c.octet_symbols-symbols.ensures
     (begun c.before.before).pre.3
 
 loop_holds : tie.Need-loop-k-init invariant_loop decreases_loop
@@ -79,7 +79,7 @@ add_number : tie.Need-overflow_add-number invariant_loop decreases_loop
 add_number c = record { fits = omega (arith, numbered c) }
 
 -- a turn's block, once its octets are lent
-abbrev block : tie.After-hear_block-arg-1 invariant_loop decreases_loop → tie.After-block_octets-count invariant_loop decreases_loop
+abbrev block : tie.After-hear-block-arg invariant_loop decreases_loop → tie.After-block-octets invariant_loop decreases_loop
 block c = c.before.before.before.before
 
 hear_block_requires : tie.Need-hear_block-more-requires invariant_loop decreases_loop
@@ -96,8 +96,8 @@ hear_block_requires c κs =
     )
 
 -- and once it is heard
-abbrev turn : tie.After-joined-part invariant_loop decreases_loop → tie.After-block_octets-count invariant_loop decreases_loop
-turn c = block c.before.before.before.before
+abbrev turn : tie.After-joined invariant_loop decreases_loop → tie.After-block-octets invariant_loop decreases_loop
+turn c = c.before.before.before.before.before.before.before.before
 
 mul_place : tie.Need-overflow_mul-place invariant_loop decreases_loop
 mul_place c = let h = ends (turn c) in record { fits = omega arith }
@@ -129,7 +129,7 @@ loop_again c =
     let at = (turn c).before.before in
     let call = c.hear_block-more.ensures in
     parts_more _ _ _ _ _ _ _ _ _ _ _ _ at.loop.inv (left (turn c).before) (turn c).block_octets.ensures
-    _ _ _ _ _ call.0 call.1.0 call.1.1 c.joined_part.ensures at.before.before.octet-chips.ensures
+    _ _ _ _ _ call.0 call.1.0 call.1.1 c.joined-part.ensures at.before.before.octet-chips.ensures
     at.before.octet-symbols.ensures
 
 returns : tie.Need-returns invariant_loop decreases_loop

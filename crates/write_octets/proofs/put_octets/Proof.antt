@@ -34,11 +34,10 @@ decreases_loop r octets chips₀ per barkers l₀ i₀ at₀ chips l i at = leng
 
 -- in a turn there is room for an octet more
 within : (c : tie.In-loop-i invariant_loop decreases_loop)
-    → c.before.loop.at + c.before.before.before.octet-chips.result ≤ length c.before.loop.chips
+    → c.loop-i.at + c.octet_chips-per.result ≤ length c.loop-i.chips
 within c =
-    let start = c.before.before.before.before.before.before in
-    let enough : _ = run_room _ c.before.loop.i _ _ c.loop-test.true start.requires in
-    omega (arith, c.before.loop.invariant.3)
+    let enough : _ = run_room _ c.loop-i.i _ _ c.loop-i-test.true c.requires in
+    omega (arith, c.loop-i.invariant.3)
 
 more : (k i n p : ℕ) → n ≡ k * i → p ≡ k → n + p ≡ k * (i + 1)
 more k i n p e f = rw add-one (omega (arith, mul-suc k i))
@@ -80,12 +79,12 @@ put_octet_requires : tie.Need-put_octet-l-requires invariant_loop decreases_loop
 put_octet_requires c κs =
     let l = c.loop-i in (
       l.invariant.4,
-      simp (length-take, length-drop) (omega (arith, within c, l.invariant.3)),
+      simp (length-take, length-drop) (omega (arith, within c.before.before.before, l.invariant.3)),
     )
 
 add_at : tie.Need-overflow_add-at invariant_loop decreases_loop
 add_at c =
-    omega (arith, within c, c.well_formed)
+    omega (arith, within c.before.before.before.before.before.before, c.well_formed)
 
 loop_again : tie.Need-loop-i-preserved invariant_loop decreases_loop
 loop_again c =
@@ -104,13 +103,12 @@ loop_again c =
     )
 
 returns : tie.Need-returns invariant_loop decreases_loop
-returns c =
-    whole _ _ _ _ _ _ c.loop-i.i c.loop-i.invariant.5 c.loop-i.invariant.6 (omega arith)
+returns c = whole _ _ _ _ _ _ c.loop-i.i c.loop-i.invariant.5 c.loop-i.invariant.6 (omega arith)
 
 pub put_octets_spec : {M : Type 1} → statement M
 put_octets_spec =
     tie.close
     (tie.spec
     invariant_loop decreases_loop (λ c κs. search rules) (λ c κs. search rules) loop_holds (λ c. omega arith)
-    (λ c. omega (arith, within c)) (λ c. omega (arith, within c)) (λ c. search rules) put_octet_requires add_at
-    (λ c. omega arith) (λ c. omega arith) loop_again (λ c. search rules) returns)
+    (λ c. omega (arith, within c.before.before)) (λ c. omega (arith, within c.before.before)) (λ c. search rules)
+    put_octet_requires add_at (λ c. omega arith) (λ c. omega arith) loop_again (λ c. search rules) returns)

@@ -18,28 +18,28 @@ two_largest_requires c κs =
 
 module _ (c : tie.After-key_of-second) where
   abbrev found : tie.After-two_largest-top
-  found = c
+  found = c.before.before
 
-  first : c.key_of.result ≡ found.two-largest.ensures.x
-  first = c.key_of.ensures ∙ first_back found.two-largest.ensures
+  first : c.key_of-first.result ≡ found.two_largest-top.ensures.x
+  first = c.key_of-first.ensures ∙ first_back found.two_largest-top.ensures
 
-  second : c.key-of2.result ≡ found.two-largest.ensures.y
-  second = c.key-of2.ensures ∙ second_back found.two-largest.ensures
+  second : c.key_of-second.result ≡ found.two_largest-top.ensures.y
+  second = c.key_of-second.ensures ∙ second_back found.two_largest-top.ensures
 
 number_requires : tie.Need-number-requires
 number_requires c κs = omega (arith, c.number_of.ensures)
 
 lead_of_requires : tie.Need-lead_of-requires
 lead_of_requires c κs =
-    (lit< tt, lit≤ tt, omega (arith, first c, second c, second_le (found c).two-largest.ensures.two))
+    (lit< tt, lit≤ tt, omega (arith, first c.before.before, second c.before.before, second_le (found c.before.before).two-largest.ensures.two))
 
 returns : tie.Need-returns
 returns c =
-    let chosen = eight_by _ _ (found c).before.halves.ensures (found c).two-largest.ensures.two in (
+    let chosen = eight_by _ _ (found c.before.before.before).before.halves.ensures (found c.before.before.before).two-largest.ensures.two in (
       c.number.ensures
-          ∙ ap number5 (c.number_of.ensures ∙ ap (λ (x : ℕ). 15 - x % 16) (first c))
+          ∙ ap number5 (c.number_of.ensures ∙ ap (λ (x : ℕ). 15 - x % 16) (first c.before.before.before))
           ∙ chosen.0,
-      c.lead_of.ensures ∙ (λ j. first c j / 16 - second c j / 16) ∙ chosen.1,
+      c.lead_of.ensures ∙ (λ j. first c.before.before.before j / 16 - second c.before.before.before j / 16) ∙ chosen.1,
     )
 
 pub decide_spec : {M : Type 1} → statement M

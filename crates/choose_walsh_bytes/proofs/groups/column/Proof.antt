@@ -50,26 +50,26 @@ module _ (c : tie.Start) where
 
 two : tie.Need-meet-b2-requires
 two c κs = (
-  q_small c,
-  record { real = plain (pi c); imag = turned_small (pr c) },
-  f_small c,
-  record { real = plain (ei c); imag = turned_small (er c) },
+  q_small c.before,
+  record { real = plain (pi c.before); imag = turned_small (pr c.before) },
+  f_small c.before,
+  record { real = plain (ei c.before); imag = turned_small (er c.before) },
 )
 
 three : tie.Need-meet-b3-requires
 three c κs = (
-  q_small c,
-  record { real = turned_small (pr c); imag = turned_small (pi c) },
-  f_small c,
-  record { real = turned_small (er c); imag = turned_small (ei c) },
+  q_small c.before.before,
+  record { real = turned_small (pr c.before.before); imag = turned_small (pi c.before.before) },
+  f_small c.before.before,
+  record { real = turned_small (er c.before.before); imag = turned_small (ei c.before.before) },
 )
 
 four : tie.Need-meet-requires
 four c κs = (
-  q_small c,
-  record { real = turned_small (pi c); imag = plain (pr c) },
-  f_small c,
-  record { real = turned_small (ei c); imag = plain (er c) },
+  q_small c.before.before.before,
+  record { real = turned_small (pi c.before.before.before); imag = plain (pr c.before.before.before) },
+  f_small c.before.before.before,
+  record { real = turned_small (ei c.before.before.before); imag = plain (er c.before.before.before) },
 )
 
 returns : tie.Need-returns
@@ -82,14 +82,14 @@ returns c =
     (met_as _ c.meet-b3.ensures
     (met_as _ c.meet-b2.ensures
     (met_as _ c.meet-b1.ensures refl
-    (λ i. plus (pair (is q.real i) (is q.imag i)) (pair (is (pr c) i) (is (pi c) i)))
-    (λ i. plus (pair (is f.real i) (is f.imag i)) (pair (is (er c) i) (is (ei c) i))))
-    (λ i. plus (pair (is q.real i) (is q.imag i)) (pair (is (pi c) i) (not (pr c) i)))
-    (λ i. plus (pair (is f.real i) (is f.imag i)) (pair (is (ei c) i) (not (er c) i))))
-    (λ i. plus (pair (is q.real i) (is q.imag i)) (pair (not (pr c) i) (not (pi c) i)))
-    (λ i. plus (pair (is f.real i) (is f.imag i)) (pair (not (er c) i) (not (ei c) i))))
-    (λ i. plus (pair (is q.real i) (is q.imag i)) (pair (not (pi c) i) (is (pr c) i)))
-    (λ i. plus (pair (is f.real i) (is f.imag i)) (pair (not (ei c) i) (is (er c) i)))
+    (λ i. plus (pair (is q.real i) (is q.imag i)) (pair (is (pr c.before.before.before.before) i) (is (pi c.before.before.before.before) i)))
+    (λ i. plus (pair (is f.real i) (is f.imag i)) (pair (is (er c.before.before.before.before) i) (is (ei c.before.before.before.before) i))))
+    (λ i. plus (pair (is q.real i) (is q.imag i)) (pair (is (pi c.before.before.before.before) i) (not (pr c.before.before.before.before) i)))
+    (λ i. plus (pair (is f.real i) (is f.imag i)) (pair (is (ei c.before.before.before.before) i) (not (er c.before.before.before.before) i))))
+    (λ i. plus (pair (is q.real i) (is q.imag i)) (pair (not (pr c.before.before.before.before) i) (not (pi c.before.before.before.before) i)))
+    (λ i. plus (pair (is f.real i) (is f.imag i)) (pair (not (er c.before.before.before.before) i) (not (ei c.before.before.before.before) i))))
+    (λ i. plus (pair (is q.real i) (is q.imag i)) (pair (not (pi c.before.before.before.before) i) (is (pr c.before.before.before.before) i)))
+    (λ i. plus (pair (is f.real i) (is f.imag i)) (pair (not (ei c.before.before.before.before) i) (is (er c.before.before.before.before) i)))
 
 pub column_spec : {M : Type 1} → statement M
 column_spec =

@@ -34,7 +34,7 @@ module _ (c : tie.Start) where
 -- a and b as they are added to the magnitude
 a_sided : (c : tie.After-sided)
     → Reads w16 8208 (of_z w16 c.sided.result) (sided c.args.y c.args.a)
-a_sided c = reads_sided (lit< tt) (y c) (a c) c.sided.ensures
+a_sided c = reads_sided (lit< tt) (y c.before) (a c.before) c.sided.ensures
 
 a_credit : (c : tie.After-credit-t) → Reads w16 8210 (of_z w16 c.credit-t.result)
     (credit (sided c.args.y c.args.a))
@@ -43,7 +43,7 @@ a_credit c = reads_credit (lit< tt) (a_sided c.before) c.credit-t.ensures
 b_sided : (c : tie.After-sided-2) → Reads w16 8208 (of_z w16 c.sided-2.result)
     (sided c.args.y c.args.b)
 b_sided c =
-    reads_sided (lit< tt) (y c) (b c) c.sided-2.ensures
+    reads_sided (lit< tt) (y c.before.before.before) (b c.before.before.before) c.sided-2.ensures
 
 b_credit : (c : tie.After-credit-u) → Reads w16 8210 (of_z w16 c.credit-u.result)
     (credit (sided c.args.y c.args.b))
@@ -51,34 +51,34 @@ b_credit c = reads_credit (lit< tt) (b_sided c.before) c.credit-u.ensures
 
 module _ (c : tie.After-abs-m) where
   abbrev start : tie.Start
-  start = c
+  start = c.before.before.before.before.before
 
-  size : Reads w16 8208 (of_z w16 c.abs.result) (pos (nat_abs start.args.y))
-  size = reads_abs (lit< tt) (y start) c.abs.ensures
+  size : Reads w16 8208 (of_z w16 c.abs-m.result) (pos (nat_abs start.args.y))
+  size = reads_abs (lit< tt) (y start) c.abs-m.ensures
 
   t : Reads w16 8211 (of_z w16 c.credit-t.result)
       (credit (sided start.args.y start.args.a))
-  t = reads_more (a_credit c.before.before) (lit≤ tt)
+  t = reads_more (a_credit c.before.before.before) (lit≤ tt)
 
   u : Reads w16 8211 (of_z w16 (to_z w16 (of_z w16 c.credit-u.result) -ℤ pos 1))
       (credit (sided start.args.y start.args.b) -ℤ pos 1)
-  u = reads_less (b_credit c) (reads_const {c = 1} (lit< tt)) (lit< tt)
+  u = reads_less (b_credit c.before) (reads_const {c = 1} (lit< tt)) (lit< tt)
 
 first : (c : tie.After-max) → Reads w16 8211 (of_z w16 c.max.result)
-    (larger (credit (sided (start c).args.y (start c).args.a))
-    (credit (sided (start c).args.y (start c).args.b) -ℤ pos 1))
-first c = reads_larger (lit< tt) (t c) (u c) c.max.ensures
+    (larger (credit (sided (start c.before).args.y (start c.before).args.a))
+    (credit (sided (start c.before).args.y (start c.before).args.b) -ℤ pos 1))
+first c = reads_larger (lit< tt) (t c.before) (u c.before) c.max.ensures
 
 second : (c : tie.After-min) → Reads w16 8211 (of_z w16 c.min.result)
-    (smaller (credit (sided (start c).args.y (start c).args.a))
-    (credit (sided (start c).args.y (start c).args.b) -ℤ pos 1))
-second c = reads_smaller (lit< tt) (t c) (u c) c.min.ensures
+    (smaller (credit (sided (start c.before.before).args.y (start c.before.before).args.a))
+    (credit (sided (start c.before.before).args.y (start c.before.before).args.b) -ℤ pos 1))
+second c = reads_smaller (lit< tt) (t c.before.before) (u c.before.before) c.min.ensures
 
 returns : tie.Need-returns
 unfolding four_top four_next
 returns c = (
-  (reads_add (size c) (first c.before) (lit< tt)).is,
-  (reads_add (size c) (second c) (lit< tt)).is,
+  (reads_add (size c.before.before) (first c.before) (lit< tt)).is,
+  (reads_add (size c.before.before) (second c) (lit< tt)).is,
 )
 
 pub four_spec : {M : Type 1} → statement M
@@ -88,6 +88,6 @@ four_spec =
     (λ c κs. search rules) (λ c κs. rw (a_sided c).is (a_sided c).within) (λ c κs. search rules)
     (λ c κs. rw (b_sided c).is (b_sided c).within)
     (λ c. less_fits (b_credit c) (reads_const {c = 1} (lit< tt)) (lit< tt))
-    (λ c κs. within_read w16 (lit< tt) (within_more (y c).within (lit≤ tt))) (λ c κs. search rules)
-    (λ c. reads_fits (size c) (first c) (lit< tt)) (λ c κs. search rules)
-    (λ c. reads_fits (size c) (second c) (lit< tt)) returns)
+    (λ c κs. within_read w16 (lit< tt) (within_more (y c.before.before.before.before).within (lit≤ tt)))
+    (λ c κs. search rules) (λ c. reads_fits (size c.before) (first c) (lit< tt)) (λ c κs. search rules)
+    (λ c. reads_fits (size c.before.before) (second c) (lit< tt)) returns)

@@ -43,38 +43,38 @@ module _ (c : tie.After-four-q) where
   abbrev start : tie.Start
   start = c.before.before
 
-  p_first : Reads w16 16423 (of_z w16 c.before.four.result.first)
+  p_first : Reads w16 16423 (of_z w16 c.four-p.result.first)
       (four_top start.args.yr start.args.xr start.args.xi)
   p_first =
-      reads_more (reads_four (lit< tt) (yr start) (xr start) (xi start) c.before.four.ensures.0) (lit≤ tt)
+      reads_more (reads_four (lit< tt) (yr start) (xr start) (xi start) c.four-p.ensures.0) (lit≤ tt)
 
-  p_second : Reads w16 16423 (of_z w16 c.before.four.result.second)
+  p_second : Reads w16 16423 (of_z w16 c.four-p.result.second)
       (four_next start.args.yr start.args.xr start.args.xi)
   p_second =
-      reads_more (reads_four_next (lit< tt) (yr start) (xr start) (xi start) c.before.four.ensures.1) (lit≤ tt)
+      reads_more (reads_four_next (lit< tt) (yr start) (xr start) (xi start) c.four-p.ensures.1) (lit≤ tt)
 
-  q_first : Reads w16 16419 (of_z w16 c.four2.result.first)
+  q_first : Reads w16 16419 (of_z w16 c.four-q.result.first)
       (four_top start.args.yi start.args.xi (neg_ℤ start.args.xr))
-  q_first = reads_four (lit< tt) (yi start) (xi start) (turned_reads start) c.four2.ensures.0
+  q_first = reads_four (lit< tt) (yi start) (xi start) (turned_reads start) c.four-q.ensures.0
 
-  q_second : Reads w16 16419 (of_z w16 c.four2.result.second)
+  q_second : Reads w16 16419 (of_z w16 c.four-q.result.second)
       (four_next start.args.yi start.args.xi (neg_ℤ start.args.xr))
-  q_second = reads_four_next (lit< tt) (yi start) (xi start) (turned_reads start) c.four2.ensures.1
+  q_second = reads_four_next (lit< tt) (yi start) (xi start) (turned_reads start) c.four-q.ensures.1
 
-  u : Reads w16 16423 (of_z w16 (to_z w16 (of_z w16 c.four2.result.first) -ℤ pos 4))
+  u : Reads w16 16423 (of_z w16 (to_z w16 (of_z w16 c.four-q.result.first) -ℤ pos 4))
       (four_top start.args.yi start.args.xi (neg_ℤ start.args.xr) -ℤ pos 4)
   u = reads_less q_first (reads_const {c = 4} (lit< tt)) (lit< tt)
 
-  v : Reads w16 16423 (of_z w16 (to_z w16 (of_z w16 c.four2.result.second) -ℤ pos 4))
+  v : Reads w16 16423 (of_z w16 (to_z w16 (of_z w16 c.four-q.result.second) -ℤ pos 4))
       (four_next start.args.yi start.args.xi (neg_ℤ start.args.xr) -ℤ pos 4)
   v = reads_less q_second (reads_const {c = 4} (lit< tt)) (lit< tt)
 
 returns : tie.Need-returns
 unfolding top_of next_of
 returns c = (
-  (reads_larger (lit< tt) (p_first c) (u c) c.max.ensures).is,
-  (reads_larger (lit< tt) (reads_smaller (lit< tt) (p_first c) (u c) c.min.ensures)
-      (reads_larger (lit< tt) (p_second c) (v c) c.max-v.ensures) c.max-2.ensures
+  (reads_larger (lit< tt) (p_first c.before.before.before.before.before.before.before.before.before.before) (u c.before.before.before.before.before.before.before.before.before.before) c.max.ensures).is,
+  (reads_larger (lit< tt) (reads_smaller (lit< tt) (p_first c.before.before.before.before.before.before.before.before.before.before) (u c.before.before.before.before.before.before.before.before.before.before) c.min.ensures)
+      (reads_larger (lit< tt) (p_second c.before.before.before.before.before.before.before.before.before.before) (v c.before.before.before.before.before.before.before.before.before.before) c.max-v.ensures) c.max-2.ensures
       ).is,
 )
 
@@ -83,7 +83,7 @@ group_spec =
     tie.close
     (tie.spec
     (λ c κs. search rules) (λ c. neg_fits w16 8208 (lit< tt) _ c.requires.2)
-    (λ c κs. (within_read w16 (lit< tt) c.requires.1, within_read w16 (lit< tt) c.requires.3, rw (turned_reads c).is (turned_reads c).within))
-    (λ c. less_fits (q_first c) (reads_const {c = 4} (lit< tt)) (lit< tt))
-    (λ c. less_fits (q_second c) (reads_const {c = 4} (lit< tt)) (lit< tt)) (λ c κs. search rules)
-    (λ c κs. search rules) (λ c κs. search rules) (λ c κs. search rules) returns)
+    (λ c κs. (within_read w16 (lit< tt) c.requires.1, within_read w16 (lit< tt) c.requires.3, rw (turned_reads c.before).is (turned_reads c.before).within))
+    (λ c. less_fits (q_first c.before.before.before) (reads_const {c = 4} (lit< tt)) (lit< tt))
+    (λ c. less_fits (q_second c.before.before.before.before.before) (reads_const {c = 4} (lit< tt)) (lit< tt))
+    (λ c κs. search rules) (λ c κs. search rules) (λ c κs. search rules) (λ c κs. search rules) returns)

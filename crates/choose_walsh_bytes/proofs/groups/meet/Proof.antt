@@ -35,9 +35,9 @@ returns c =
     c.merge.ensures
     ∙ (λ i. merged (held c.args.b.first c.args.b.second c.args.b.group)
     ((c.group.ensures.0
-    ∙ (λ j. top_of (pair ((yr c).is j) ((yi c).is j)) (pair ((xr c).is j) ((xi c).is j)))) i)
+    ∙ (λ j. top_of (pair ((yr c.before.before).is j) ((yi c.before.before).is j)) (pair ((xr c.before.before).is j) ((xi c.before.before).is j)))) i)
     ((c.group.ensures.1
-    ∙ (λ j. next_of (pair ((yr c).is j) ((yi c).is j)) (pair ((xr c).is j) ((xi c).is j)))) i) c.args.g)
+    ∙ (λ j. next_of (pair ((yr c.before.before).is j) ((yi c.before.before).is j)) (pair ((xr c.before.before).is j) ((xi c.before.before).is j)))) i) c.args.g)
 
 pub meet_spec : {M : Type 1} → statement M
 meet_spec =

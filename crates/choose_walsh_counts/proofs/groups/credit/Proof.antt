@@ -17,20 +17,20 @@ module _ (c : tie.After-sign) where
   start = c.before.before
 
   u : Reads w32 524304 (of_z w32 start.args.u) start.args.u
-  u = reads_of (lit< tt) start.pre
+  u = reads_of (lit< tt) start.requires
 
   small : Reads w32 524306 (of_z w32 (credit (to_z w32 (of_z w32 start.args.u)))) (credit start.args.u)
   small = reads_credit (lit< tt) u refl
 
-  ones : to_z w32 (of_z w32 c.before.ones.result) ≡ c.before.ones.result
+  ones : to_z w32 (of_z w32 c.ones.result) ≡ c.ones.result
   ones = search rules
 
   sign : to_z w32 (of_z w32 c.sign.result) ≡ c.sign.result
   sign = search rules
 
-  sum : to_z w32 (of_z w32 c.before.ones.result) +ℤ to_z w32 (of_z w32 c.sign.result) ≡ credit start.args.u
+  sum : to_z w32 (of_z w32 c.ones.result) +ℤ to_z w32 (of_z w32 c.sign.result) ≡ credit start.args.u
   sum =
-      (λ i. (ones ∙ c.before.ones.ensures) i +ℤ (sign ∙ c.sign.ensures) i)
+      (λ i. (ones ∙ c.ones.ensures) i +ℤ (sign ∙ c.sign.ensures) i)
       ∙ credit_by (to_z w32 (of_z w32 start.args.u)) ∙ ap credit u.is
 
 pub credit_spec : {M : Type 1} → statement M

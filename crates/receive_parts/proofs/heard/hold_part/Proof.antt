@@ -19,11 +19,11 @@ unusable_from_requires : tie.Need-unusable_from-found-requires
 unusable_from_requires c κs =
     omega (arith, c.requires.0, c.requires.2, chips_most c.args.rate)
 
-abbrev begun : tie.After-unusable_from-found → tie.Start
+abbrev begun : tie.After-unusable-from → tie.Start
 begun c = c.before.before
 
 -- where nothing is found
-abbrev started : tie.In-Nothing → tie.Start
+abbrev started : tie.After-enum-told → tie.Start
 started c = c.before.before.before.before
 
 usable : (c : tie.In-Nothing) → let a = (started c).args in
@@ -60,17 +60,17 @@ other c x b s =
 
 returns_3 : tie.Need-returns-in-Two
 returns_3 c =
-    other c c.nothing_found.result (rw c.in-Two.is (omega arith))
+    other c.before.before.before c.nothing_found.result (rw c.in-Two.is (omega arith))
     c.nothing_found.ensures
 
 returns_4 : tie.Need-returns-in-Five
 returns_4 c =
-    other c c.nothing_found-in-Five.result (rw c.in-Five.is (omega arith))
+    other c.before.before.before c.nothing_found-in-Five.result (rw c.in-Five.is (omega arith))
     c.nothing_found-in-Five.ensures
 
 returns_5 : tie.Need-returns-in-Eleven
 returns_5 c =
-    other c c.nothing_found-in-Eleven.result (rw c.in-Eleven.is (omega arith))
+    other c.before.before.before c.nothing_found-in-Eleven.result (rw c.in-Eleven.is (omega arith))
     c.nothing_found-in-Eleven.ensures
 
 pub hold_part_spec : {M : Type 1} → statement M

@@ -19,7 +19,7 @@ use Rattle.receive_parts.proofs.taken.take_piece.Statement.{statement}
 use Rattle.receive_parts.proofs.taken.take_piece.Tie as tie
 
 -- before the octets are counted
-abbrev begun : tie.After-octet_symbols-symbols → tie.Start
+abbrev begun : tie.After-octet-symbols → tie.Start
 begun c = c.before.before.before.before.before
 
 -- the octets and chips that have come

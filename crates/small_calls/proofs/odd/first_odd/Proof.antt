@@ -21,14 +21,14 @@ loop_holds c = sought_none _ _ _ _ c.requires.1
 
 -- the block's chips are there
 held : (c : tie.After-at_most_8-count invariant_loop decreases_loop)
-    → c.before.before.loop.place + 88 * c.at-most-8.result
-    ≤ length c.before.before.before.before.args.chips.now
+    → c.loop-left.place + 88 * c.at_most_8-count.result
+    ≤ length c.args.chips.now
 held c =
     omega (
       arith,
-      c.before.before.loop.invariant.fits,
-      c.at-most-8.ensures.2,
-      c.before.before.before.before.requires.0,
+      c.loop-left.invariant.fits,
+      c.at_most_8-count.ensures.2,
+      c.requires.0,
     )
 
 block_requires : tie.Need-block-grown-requires invariant_loop decreases_loop
@@ -48,7 +48,7 @@ returns c =
 
 add_place : tie.Need-overflow_add-place invariant_loop decreases_loop
 add_place c =
-    record { fits = omega (arith, held c, c.well_formed.0.0) }
+    record { fits = omega (arith, held c.before.before.before, c.well_formed.0.0) }
 
 loop_again : tie.Need-loop-left-preserved invariant_loop decreases_loop
 loop_again c =

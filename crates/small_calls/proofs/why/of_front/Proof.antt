@@ -63,7 +63,7 @@ not_odd (Ends l) h q = omega arith
 not_odd (OctetRoom l) h q = omega arith
 
 -- what was told
-abbrev begun : tie.After-told-opening → tie.Start
+abbrev begun : tie.After-told → tie.Start
 begun c = c.before.before.before.before
 
 opened : (c : tie.After-told-opening) → let a = (begun c).args in
