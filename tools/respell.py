@@ -16,8 +16,8 @@ import sys
 NAME = r'[^\s(){}.;,@"«»]+'
 WORDS = re.compile(r'(?P<comment>--[^\n]*|//[^\n]*)|(?P<text>"[^"\n]*")|(?P<name>' + NAME + r')|(?P<dot>\.)|(?P<other>[\s(){};,@"«»])')
 MODIFIERS = r'(?:(?:pub|abbrev|unfoldable|private|data|record|let|where) +)*'
-DECLARED = re.compile(r'(?m)^ *' + MODIFIERS + '(' + NAME + r')(?: +\{[^{}\n]*\}| +\([^()\n]*\))* +: ')
-FIELD = re.compile(r'(?m)^ +pub (' + NAME + r') +: ')
+DECLARED = re.compile(r'(?m)^ *' + MODIFIERS + '(' + NAME + r')(?: +\{[^{}\n]*\}| +\([^()\n]*\))* +:(?=\s)')
+FIELD = re.compile(r'(?m)^ +pub (' + NAME + r') +:(?=\s)')
 USE = re.compile(r'\buse +([^\s;{]+?)(?:\.?\{([^}]*)\}| as +([^\s;]+)|(?=[\s;]))')
 # spelled apart from the rule: `get_or` is today's word for `getD`
 APART = {

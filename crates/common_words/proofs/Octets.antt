@@ -51,11 +51,11 @@ module _ (p1 p2 p3 p4 : ℕ) where
       below_eight (omega arith) (omega arith) (omega arith) (omega arith) (omega arith) (omega arith) (omega arith)
       (omega arith)
 
-  sums-together :
+  sums_together :
       0x0101010101010101 * p1 + 0x0001000100010001 * p2 + 0x0000010100000101 * p3 + 0x0000000001010101 * p4
       ≡ together sums
   unfolding together
-  sums-together = omega arith
+  sums_together = omega arith
 
 -- the eight entries, two of them half a turn on
 abbrev halved : List ℕ → List ℕ
@@ -71,7 +71,7 @@ pub cck_sums : (p1 p2 p3 p4 w : ℕ) (q : List ℕ)
 unfolding cck_word
 cck_sums p1 p2 p3 p4 w q e f =
     ap halved
-    (f ∙ ap (quarters 8) (e ∙ sums-together (p1 % 64) (p2 % 64) (p3 % 64) (p4 % 64))
+    (f ∙ ap (quarters 8) (e ∙ sums_together (p1 % 64) (p2 % 64) (p3 % 64) (p4 % 64))
     ∙ quarters_octets (sums (p1 % 64) (p2 % 64) (p3 % 64) (p4 % 64))
     (sums_below _ _ _ _ (omega arith) (omega arith) (omega arith) (omega arith)))
     ∙ (λ i.

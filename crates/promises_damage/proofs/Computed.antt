@@ -80,7 +80,7 @@ read_with r phase x chips =
 -- rule: 3.10, 6.28
 -- code: dsss_read_hard_3
 -- no edit: it is computed; what reading is has edits of its own
-pub past-read :
+pub past_read :
     first Eleven 0 69 (replicate 8 0) ∷ read_with Eleven 0 69 (4 ∷ 0 ∷ 4 ∷ 2 ∷ 4 ∷ 0 ∷ 4 ∷ 0 ∷ [])
     ∷ first Five 2 0 (replicate 8 0) ∷ read_with Five 2 0 (4 ∷ 4 ∷ 4 ∷ 4 ∷ 1 ∷ 0 ∷ 3 ∷ 0 ∷ [])
     ∷ read_with Five 2 0 (1 ∷ 0 ∷ 3 ∷ 0 ∷ 1 ∷ 0 ∷ 3 ∷ 0 ∷ [])
@@ -99,4 +99,4 @@ unfolding
     preamble_bits field_bits header_bits sent_header frame_bits sent_bits parts_chips framed frame
     first_unusable first_odd decided_words preamble_words header_words reference header_phase payload_phase front_odd front_heard
     front_bits same_bits fields_of header_of front_by payload_words payload_odd payload_of payload_reading reading_of octets_found
-past-read = refl
+past_read = refl

@@ -97,7 +97,7 @@ module _ (k : Kind) (r : Rate) (p : ℕ) (header xs : List ℕ) where
     pub front : FrontAsSent rec
     pub payload_words_lem : payload_words k r n rec ≡ payload_sent
     pub frame_there : frame_chips k r n ≤ length rec
-    pub payload-usable :
+    pub payload_usable :
         first_unusable (front_chips k) (take (frame_chips k r n - front_chips k) (drop (front_chips k) rec)) ≡ none
 
   module _ (eh : length header ≡ header_length) where

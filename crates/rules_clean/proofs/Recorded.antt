@@ -116,10 +116,18 @@ module _ (x y : Float) (u : T (usable_sample (record { i = x; q = y }))) where
 pub soft_recorded : (chips : List ℕ) (i q j r : List Float) → Exactly chips i q
     → soft_recording (i ++ j) (q ++ r) ≡ clean_recording chips ++ soft_recording j r
 unfolding soft_recording clean_recording
+soft_recorded [] [] (y ∷ q) j r x3 = elim x3 [ ]
+soft_recorded [] (x ∷ i) q j r x4 = elim x4 [ ]
+soft_recorded (p ∷ chips) [] q j r x3 = elim x3 [ ]
+soft_recorded (p ∷ chips) (x ∷ i) [] j r x6 = elim x6 [ ]
 soft_recorded [] [] [] j r none = refl
 soft_recorded (p ∷ chips) (x ∷ i) (y ∷ q) j r (more u e h) =
     ap₂ {C = List Taken} (λ a b. a ∷ b) (soft_clean x y u p e) (soft_recorded chips i q j r h)
 
 pub rows_agree : (chips : List ℕ) (i q : List Float) → Exactly chips i q → length i ≡ length q
+rows_agree [] [] (y ∷ q) x3 = elim x3 [ ]
+rows_agree [] (x ∷ i) q x4 = elim x4 [ ]
+rows_agree (p ∷ chips) [] q x3 = elim x3 [ ]
+rows_agree (p ∷ chips) (x ∷ i) [] x6 = elim x6 [ ]
 rows_agree [] [] [] none = refl
 rows_agree (p ∷ chips) (x ∷ i) (y ∷ q) (more u e h) = ap suc (rows_agree chips i q h)

@@ -52,11 +52,11 @@ counted_none [] xs = (refl, refl)
 counted_none (p ∷ ps) xs = (refl, refl)
 
 -- two CCK symbols: the first with one wrong chip and one lost, the second with three lost
-pub two-symbols :
+pub two_symbols :
     damage 8 2 (replicate 16 0) (0 ∷ 2 ∷ 0 ∷ 0 ∷ 4 ∷ 0 ∷ 0 ∷ 0 ∷ 4 ∷ 0 ∷ 0 ∷ 4 ∷ 4 ∷ 0 ∷ 0 ∷ 0 ∷ [])
     ≡ 1 ∷ 1 ∷ 0 ∷ 3 ∷ []
 unfolding wrong lost damage
-two-symbols = refl
+two_symbols = refl
 
 -- a long frame of one octet at 5.5 Mbit/s, of phases 0, its last chip of the front, its first and its last one of the
 -- payload lost or wrong: 192 symbols, and two behind them

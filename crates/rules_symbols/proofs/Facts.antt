@@ -18,7 +18,7 @@ use Rattle.rules_symbols.specs.Choice.{term, score, those, allowed, going, first
 -- promise: Barker and CCK words, their numbers and phases, and the numbers that each rate allows
 -- rule: 3.1 to 3.4, 3.7
 -- code: barker_word, cck_word, five_word
--- with: numbered, numbers-words, barker_numbers, five-numbers, eleven_numbers
+-- with: numbered, numbers_words, barker_numbers, five_numbers, eleven_numbers
 pub words :
     cck_word 0 0 0 0 ∷ cck_word 1 1 0 0 ∷ cck_word 0 1 2 3 ∷ cck_word 1 0 0 0 ∷ cck_word 0 1 0 0 ∷ cck_word 0 0 1 0
     ∷ cck_word 0 0 0 1 ∷ map barker_word (0 ∷ 1 ∷ 2 ∷ 3 ∷ [])
@@ -45,10 +45,10 @@ pub numbered :
 numbered = refl
 
 -- the word of a number at each rate
-pub numbers-words :
+pub numbers_words :
     word_of One 1 ∷ word_of Two 3 ∷ word_of Five 198 ∷ word_of Eleven 198 ∷ []
     ≡ barker_word 1 ∷ barker_word 3 ∷ cck_word 3 0 1 2 ∷ cck_word 3 0 1 2 ∷ []
-numbers-words = refl
+numbers_words = refl
 
 pub barker_numbers : allowed One ∷ allowed Two ∷ [] ≡ (0 ∷ 1 ∷ 2 ∷ 3 ∷ []) ∷ (0 ∷ 1 ∷ 2 ∷ 3 ∷ []) ∷ []
 unfolding those
@@ -58,11 +58,11 @@ pub eleven_numbers : allowed Eleven ≡ tabulate (λ n. n) 256
 unfolding those tabulate
 eleven_numbers = refl
 
-pub five-numbers :
+pub five_numbers :
     allowed Five
     ≡ 16 ∷ 18 ∷ 48 ∷ 50 ∷ 80 ∷ 82 ∷ 112 ∷ 114 ∷ 144 ∷ 146 ∷ 176 ∷ 178 ∷ 208 ∷ 210 ∷ 240 ∷ 242 ∷ []
 unfolding those
-five-numbers = refl
+five_numbers = refl
 
 abbrev rates : List Rate
 rates = One ∷ Two ∷ Five ∷ Eleven ∷ []
@@ -107,11 +107,11 @@ tie_decided = refl
 
 -- ---- leads
 -- a list without one number, which is in it once, not, or more often
-pub others-left :
+pub others_left :
     others 3 (1 ∷ 3 ∷ 5 ∷ []) ∷ others 4 (1 ∷ 3 ∷ 5 ∷ []) ∷ others 0 (0 ∷ []) ∷ others 3 (3 ∷ 1 ∷ 3 ∷ []) ∷ []
     ≡ (1 ∷ 5 ∷ []) ∷ (1 ∷ 3 ∷ 5 ∷ []) ∷ [] ∷ (1 ∷ []) ∷ []
 unfolding others
-others-left = refl
+others_left = refl
 
 -- no lead where nothing was recorded, nor halfway between two phases: two words score alike, and one is left out
 pub ties_lead : map (λ r. lead_of r (replicate (symbol_chips r) nothing)) rates ≡ 0 ∷ 0 ∷ 0 ∷ 0 ∷ []
@@ -123,22 +123,22 @@ unfolding barker_word score those going first_largest decided others lead_of
 between_lead = refl
 
 -- clean words lead by 11 full chips of 11, by 8 of 8 among the sixteen of 5.5 Mbit/s, and by 4 of 8 among all
-pub clean-lead :
+pub clean_lead :
     map (λ r. lead_of r (map (full_chip 1024) (word_of r 178))) (Five ∷ Eleven ∷ [])
     ∷ map (λ r. lead_of r (map (full_chip 1024) (word_of r 3))) (One ∷ Two ∷ [])
     ∷ []
     ≡ (8192 ∷ 4096 ∷ []) ∷ (11264 ∷ 11264 ∷ []) ∷ []
 unfolding barker_word cck_word score those going first_largest decided others lead_of
-clean-lead = refl
+clean_lead = refl
 
 -- the best of the others may have a smaller number than the word decided, or a larger: phases 1, 3, 0 and 0 of one
 -- Barker symbol, I and Q of each chip being 3 and 5, 3 and -5, 5 and 3, 5 and 0
 abbrev mixed : ℤ → ℤ → List Counts
 mixed i q = map (λ p. get_or (pair i q ∷ []) p (pair (neg_ℤ i) (neg_ℤ q))) (barker_word 0)
 
-pub mixed-leads :
+pub mixed_leads :
     lead_of One (mixed (pos 3) (pos 5)) ∷ lead_of One (mixed (pos 3) (neg_ℤ (pos 5))) ∷ lead_of One (mixed (pos 5) (pos 3))
     ∷ lead_of One (mixed (pos 5) (pos 0)) ∷ []
     ≡ 22 ∷ 22 ∷ 22 ∷ 55 ∷ []
 unfolding barker_word score those going first_largest decided others lead_of
-mixed-leads = refl
+mixed_leads = refl

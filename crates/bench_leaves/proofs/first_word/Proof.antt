@@ -69,7 +69,7 @@ returns_2 c =
     c.wide.ensures
     ∙ word (start c.before.before.before.before.before.before).args.r (rec c.before.before.before.before.before.before) _ _ c.symbol_chips.ensures
     c.first_unusable-bad.ensures
-    c.in-Nothing.is _ c.decide.ensures.numbers
+    c.in-Nothing.is _ c.decide.ensures.0
 
 pub first_word_spec : {M : Type 1} → statement M
 first_word_spec =

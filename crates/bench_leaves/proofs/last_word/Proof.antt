@@ -31,7 +31,7 @@ decide_requires c κs = (
 returns_2 : tie.Need-returns-in-Nothing
 unfolding last_word
 returns_2 c =
-    c.wide.ensures ∙ c.decide.ensures.numbers.number 63 (lit< tt)
+    c.wide.ensures ∙ c.decide.ensures.0.number 63 (lit< tt)
     ∙ good (rec c.before.before.before.before.before.before.before.before.before.before) 512 _ c.first_unusable-bad.ensures _ c.in-Nothing.is
 
 pub last_word_spec : {M : Type 1} → statement M

@@ -30,9 +30,9 @@ sub_x c =
 loop_again : tie.Need-loop-k-preserved invariant_loop decreases_loop
 loop_again c =
     let l : length c.args.c ≡ 11 = search rules in
-    ⊎_elim (λ w. rw w.2 (plus_sum (lit< tt) c.loop-k.invariant c.requires l (search rules) w.0.taken))
-    (λ w. rw w.2 (minus_sum (lit< tt) c.loop-k.invariant c.requires l (search rules) w.0.left))
-    c.if-turns-k-eq0.branch
+    ⊎_elim (λ w. rw w.x-is-bits (plus_sum (lit< tt) c.loop-k.invariant c.requires l (search rules) w.if-turns-k-eq0.true))
+    (λ w. rw w.x-is-bits (minus_sum (lit< tt) c.loop-k.invariant c.requires l (search rules) w.if-turns-k-eq0.false))
+    c.if-turns-k-eq0.branch-raw
 
 returns : tie.Need-returns invariant_loop decreases_loop
 returns c = summed_all c.loop-k.invariant c.loop-k-test.false

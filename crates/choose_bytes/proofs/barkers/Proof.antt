@@ -49,10 +49,10 @@ loop_again c =
     λ j few there. barker_group c.args.bytes.now c.take_in.new.row row c.args.at l
     c.at_most_16-count.result j c.turn.ensures few (omega (arith, c.at_most_16-count.ensures))
     (search rules) c.take_in.ensures in (
-      firsts_sixteen _ _ _ c.loop-l.invariant.0 c.sixteen_barkers.ensures.numbers
+      firsts_sixteen _ _ _ c.loop-l.invariant.0 c.sixteen_barkers.ensures.0
           (λ j few there. ap (decided One) (group j few there)
           ∙ (barker_units c.args.bytes.now (c.args.at + 11 * (l + j)) (omega (arith, c.requires.1))).0),
-      firsts_sixteen _ _ _ c.loop-l.invariant.1 c.sixteen_barkers.ensures.raw
+      firsts_sixteen _ _ _ c.loop-l.invariant.1 c.sixteen_barkers.ensures.1
           (λ j few there. ap (lead_of One) (group j few there)),
       omega (arith, c.loop-l.invariant.2),
       search rules,

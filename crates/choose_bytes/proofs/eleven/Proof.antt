@@ -22,8 +22,8 @@ loop_again c =
     let b = byte_at c.args.row.now c.args.from c.loop-k.k in
     let byte : to_z w8 (of_z w8 b) ≡ b = search rules in
     let read : to_z w16 (of_z w16 c.wide.result) ≡ c.wide.result = search rules in
-    let is = c.wide.ensures.answer ∙ byte in
-    gathered_more c.loop-k.invariant _ (search rules) (read ∙ is) (subst (Within 128) is c.wide.ensures.small)
+    let is = c.wide.ensures.0 ∙ byte in
+    gathered_more c.loop-k.invariant _ (search rules) (read ∙ is) (subst (Within 128) is c.wide.ensures.1)
 
 pub eleven_spec : {M : Type 1} → statement M
 eleven_spec =

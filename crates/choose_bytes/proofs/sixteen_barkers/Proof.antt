@@ -28,13 +28,13 @@ abbrev decreases_loop : tie.decreases-loop-s
 decreases_loop row l numbers₀ raw₀ s₀ numbers raw s = 16 - s
 
 barker_requires : tie.Need-barker-c-requires invariant_loop decreases_loop
-barker_requires c κs = (c.eleven.ensures.small, c.eleven-in-loop-s.ensures.small)
+barker_requires c κs = (c.eleven.ensures.1, c.eleven-in-loop-s.ensures.1)
 
 loop_again : tie.Need-loop-s-preserved invariant_loop decreases_loop
 loop_again c =
     let symbol : as_chip (by_signs c.eleven.result) (by_signs c.eleven-in-loop-s.result)
     ≡ barker_at c.args.row.now c.loop-s.s =
-    λ i. as_chip (by_signs (c.eleven.ensures.answer i)) (by_signs (c.eleven-in-loop-s.ensures.answer i)) in (
+    λ i. as_chip (by_signs (c.eleven.ensures.0 i)) (by_signs (c.eleven-in-loop-s.ensures.0 i)) in (
       put_more _ (omega (arith, c.requires.1)) (c.barker-c.ensures.0 ∙ ap (decided One) symbol) c.loop-s.invariant.0,
       put_more _ (omega (arith, c.requires.1)) (c.barker-c.ensures.1 ∙ ap (lead_of One) symbol) c.loop-s.invariant.1,
       omega arith,

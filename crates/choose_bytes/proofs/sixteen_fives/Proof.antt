@@ -28,13 +28,13 @@ abbrev decreases_loop : tie.decreases-loop-s
 decreases_loop row l numbers₀ raw₀ s₀ numbers raw s = 16 - s
 
 five_requires : tie.Need-five-c-requires invariant_loop decreases_loop
-five_requires c κs = (c.eight.ensures.small, c.eight-in-loop-s.ensures.small)
+five_requires c κs = (c.eight.ensures.1, c.eight-in-loop-s.ensures.1)
 
 loop_again : tie.Need-loop-s-preserved invariant_loop decreases_loop
 loop_again c =
     let symbol : rows c.eight.result c.eight-in-loop-s.result
     ≡ five_at c.args.row.now c.loop-s.s =
-    λ i. rows (c.eight.ensures.answer i) (c.eight-in-loop-s.ensures.answer i) in (
+    λ i. rows (c.eight.ensures.0 i) (c.eight-in-loop-s.ensures.0 i) in (
       put_more _ (omega (arith, c.requires.1)) (c.five-c.ensures.0 ∙ ap (decided Five) symbol) c.loop-s.invariant.0,
       put_more _ (omega (arith, c.requires.1)) (c.five-c.ensures.1 ∙ ap (lead_of Five) symbol) c.loop-s.invariant.1,
       omega arith,

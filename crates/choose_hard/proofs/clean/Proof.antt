@@ -33,8 +33,8 @@ loop_again c =
     let step = raised c.args.octets.now c.args.at loop.k loop.top c.if-top-x.top
     loop.invariant.1 in (
       omega arith,
-      step (⊎_elim (λ w. omega arith) (λ w. omega arith) c.if-top-x.branch)
-          (⊎_elim (λ w. omega arith) (λ w. omega arith) c.if-top-x.branch),
+      step (⊎_elim (λ w. omega arith) (λ w. omega arith) c.if-top-x.branch-raw)
+          (⊎_elim (λ w. omega arith) (λ w. omega arith) c.if-top-x.branch-raw),
     )
 
 returns : tie.Need-returns invariant_loop decreases_loop

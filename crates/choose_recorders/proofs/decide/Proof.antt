@@ -32,7 +32,7 @@ returns c =
 returns_2 : tie.Need-returns-in-Two
 returns_2 c =
     rw c.in-Two.is
-    (decided_two _ _ _ _ c.barkers-in-Two.ensures.numbers, leads_two _ _ _ _ c.barkers-in-Two.ensures.leads)
+    (decided_two _ _ _ _ c.barkers-in-Two.ensures.0, leads_two _ _ _ _ c.barkers-in-Two.ensures.1)
 
 returns_3 : tie.Need-returns-in-Five
 returns_3 c =

@@ -63,13 +63,13 @@ columns_requires c κs =
 sixteen_requires : tie.Need-sixteen-requires invariant_loop decreases_loop
 sixteen_requires c κs =
     let h = c.loop-l-test.true in (
-      c.columns.ensures.row.long,
+      c.columns.ensures.0.long,
       c.loop-l.invariant.4,
       c.loop-l.invariant.5,
       omega (arith, c.loop-l.invariant.2, c.requires.0),
       c.loop-l.invariant.0.long,
       c.loop-l.invariant.1.long,
-      c.columns.ensures.small,
+      c.columns.ensures.1,
     )
 
 loop_again : tie.Need-loop-l-preserved invariant_loop decreases_loop
@@ -85,16 +85,16 @@ loop_again c =
     → rows (every_row row j 8) (every_row row (16 + j) 8)
     ≡ symbol_at Eleven (soft_recording i q) (c.args.at + 8 * (l + j)) =
     λ j small there. soft_column_lem c.args.at l n j (omega (arith, c.at_most_16-count.ensures)) i q
-    c.columns.ensures.row (omega (arith, c.requires.1)) (omega (arith, c.requires.2)) in (
-      firsts_sixteen _ _ _ c.loop-l.invariant.0 c.sixteen.ensures.numbers
+    c.columns.ensures.0 (omega (arith, c.requires.1)) (omega (arith, c.requires.2)) in (
+      firsts_sixteen _ _ _ c.loop-l.invariant.0 c.sixteen.ensures.1
           (λ j small there. ap (decided Eleven) (column j small there)),
-      firsts_sixteen _ _ _ c.loop-l.invariant.1 c.sixteen.ensures.leads
+      firsts_sixteen _ _ _ c.loop-l.invariant.1 c.sixteen.ensures.2
           (λ j small there. ap (lead_of Eleven) (column j small there)),
       omega (arith, c.loop-l.invariant.2),
-      c.columns.ensures.row.long,
-      c.sixteen.ensures.lengths.0,
-      c.sixteen.ensures.lengths.1,
-      c.columns.ensures.small,
+      c.columns.ensures.0.long,
+      c.sixteen.ensures.0.0,
+      c.sixteen.ensures.0.1,
+      c.columns.ensures.1,
     )
 
 returns : tie.Need-returns invariant_loop decreases_loop

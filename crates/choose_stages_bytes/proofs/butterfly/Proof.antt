@@ -77,20 +77,20 @@ module _ (c : tie.After-yi-1 invariant_loop decreases_loop) where
   of : Flight w16 (row_at (start (by4 c)).args.s.now (start (by4 c)).args.x (l (by4 c)))
       (row_at (start (by4 c)).args.s.now (start (by4 c)).args.y (l (by4 c)))
   of =
-      flight w16 _ _ 16383 (lit< tt) ((start (by4 c)).pre.5.at _ (below (by4 c)))
-      ((start (by4 c)).pre.6.at _ (below (by4 c)))
+      flight w16 _ _ 16383 (lit< tt) ((start (by4 c)).requires.5.at _ (below (by4 c)))
+      ((start (by4 c)).requires.6.at _ (below (by4 c)))
 
   on : (k : ℕ) → k < 113 → Fits w64 ((start (by4 c)).args.z + l (by4 c) + k)
-  on k h = place_on (by4 c) (start (by4 c)).args.z k (start (by4 c)).pre.4 h
+  on k h = place_on (by4 c) (start (by4 c)).args.z k (start (by4 c)).requires.4 h
 
   sized : (k : ℕ) → k < 113 → Fits w64 (((start (by4 c)).args.z + l (by4 c) + k) * 2)
-  sized k h = size_on (by4 c) (start (by4 c)).args.z k (start (by4 c)).pre.4 h
+  sized k h = size_on (by4 c) (start (by4 c)).args.z k (start (by4 c)).requires.4 h
 
 loop_again : tie.Need-loop-l-preserved invariant_loop decreases_loop
 loop_again c =
     let s = start (by4 c) in
-    let end : s.args.z + 128 ≤ length s.args.o.now = omega (arith, s.pre.1, s.pre.4) in
-    (omega (arith, below (by4 c)), flown_eight (by4 c).before.loop.invariant.1 (below (by4 c)) end (of c).are)
+    let end : s.args.z + 128 ≤ length s.args.o.now = omega (arith, s.requires.1, s.requires.4) in
+    (omega (arith, below (by4 c)), flown_eight (by4 c).loop-l.invariant.1 (below (by4 c)) end (of c).are)
 
 returns : tie.Need-returns invariant_loop decreases_loop
 returns c =
@@ -105,13 +105,13 @@ butterfly_spec =
     (λ c. place c _ (few c _ (start c).requires.2)) (λ c. place c _ (few c _ (start c).requires.3))
     (λ c. place c _ (start c).requires.4) (λ c. size c _ (few c _ (start c).requires.2))
     (λ c. inside c _ (start c).requires.2)
-    (λ c. place_on (by1 c) _ 16 (few (by1 c) _ (start (by1 c)).pre.2) (lit< tt))
-    (λ c. size_on (by1 c) _ 16 (few (by1 c) _ (start (by1 c)).pre.2) (lit< tt))
-    (λ c. inside_on (by1 c) _ (start (by1 c)).pre.2) (λ c. size (by2 c) _ (few (by2 c) _ (start (by2 c)).pre.3))
-    (λ c. inside (by2 c) _ (start (by2 c)).pre.3)
-    (λ c. place_on (by3 c) _ 16 (few (by3 c) _ (start (by3 c)).pre.3) (lit< tt))
-    (λ c. size_on (by3 c) _ 16 (few (by3 c) _ (start (by3 c)).pre.3) (lit< tt))
-    (λ c. inside_on (by3 c) _ (start (by3 c)).pre.3) (λ c. (of c).fits0) (λ c. size (by4 c) _ (start (by4 c)).pre.4)
+    (λ c. place_on (by1 c) _ 16 (few (by1 c) _ (start (by1 c)).requires.2) (lit< tt))
+    (λ c. size_on (by1 c) _ 16 (few (by1 c) _ (start (by1 c)).requires.2) (lit< tt))
+    (λ c. inside_on (by1 c) _ (start (by1 c)).requires.2) (λ c. size (by2 c) _ (few (by2 c) _ (start (by2 c)).requires.3))
+    (λ c. inside (by2 c) _ (start (by2 c)).requires.3)
+    (λ c. place_on (by3 c) _ 16 (few (by3 c) _ (start (by3 c)).requires.3) (lit< tt))
+    (λ c. size_on (by3 c) _ 16 (few (by3 c) _ (start (by3 c)).requires.3) (lit< tt))
+    (λ c. inside_on (by3 c) _ (start (by3 c)).requires.3) (λ c. (of c).fits0) (λ c. size (by4 c) _ (start (by4 c)).requires.4)
     (λ c. room (by4 c)) (λ c. (of c).fits1) (λ c. on c 16 (lit< tt)) (λ c. sized c 16 (lit< tt))
     (λ c. simp length-set (room_on (by4 c) 16 (lit< tt))) (λ c. (of c).fits2) (λ c. on c 32 (lit< tt))
     (λ c. sized c 32 (lit< tt)) (λ c. simp length-set (room_on (by4 c) 32 (lit< tt))) (λ c. (of c).fits3)

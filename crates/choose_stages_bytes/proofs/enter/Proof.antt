@@ -18,7 +18,7 @@ four_requires_2 : tie.Need-four-requires-2
 four_requires_2 c κs =
     let pre = c.requires in (
       pre.0,
-      c.four.ensures.z.long ∙ pre.1,
+      c.four.ensures.0.long ∙ pre.1,
       lit≤ tt,
       within_neg (within_pos 16),
       within_pos 16,
@@ -27,7 +27,7 @@ four_requires_2 c κs =
 
 returns : tie.Need-returns
 returns c =
-    let pre = c.requires in (entered pre.1 c.four.ensures.z c.four-2.ensures.z, four_both c.four.ensures.bytes c.four-2.ensures.bytes pre.0)
+    let pre = c.requires in (entered pre.1 c.four.ensures.0 c.four-2.ensures.0, four_both c.four.ensures.1 c.four-2.ensures.1 pre.0)
 
 pub enter_spec : {M : Type 1} → statement M
 enter_spec = tie.close (tie.spec

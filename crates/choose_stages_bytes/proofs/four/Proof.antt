@@ -113,8 +113,8 @@ loop_again c =
     let start = start (by4 c) in
     let row = start.args.row.now in
     let a = a (by4 c) in
-    let inv = (by4 c).before.loop.invariant in
-    let few = (by4 c).loop-test.true in
+    let inv = (by4 c).loop-l.invariant in
+    let few = (by4 c).loop-l-test.true in
     let third = to_z w16 (of_z w16 start.args.third) in
     let fourth = to_z w16 (of_z w16 start.args.fourth) in
     let more = to_z w16 (of_z w16 start.args.more) in
@@ -123,13 +123,13 @@ loop_again c =
     let b2 : to_z w8 (of_z w8 (get_or row (a + 64) (pos 0))) ≡ get_or row (a + 64) (pos 0) = search rules in
     let b3 : to_z w8 (of_z w8 (get_or row (a + 96) (pos 0))) ≡ get_or row (a + 96) (pos 0) = search rules in (
       omega (arith, few),
-      scaled_four inv.1 few (omega (arith, start.pre.1, start.pre.2))
-          (entry (pos 16) (pos 0) (search rules) c.scaled-c0.ensures.answer b0)
-          (entry (pos 16) (pos 0) (search rules) c.scaled-c1.ensures.answer b1)
-          (entry third (pos 0) (search rules) c.scaled-c2.ensures.answer b2)
-          (entry fourth more (search rules) c.scaled-c3.ensures.answer b3),
-      four_more_lem inv.2 (seen c.scaled-c0.ensures.byte b0) (seen c.scaled-c1.ensures.byte b1)
-          (seen c.scaled-c2.ensures.byte b2) (seen c.scaled-c3.ensures.byte b3),
+      scaled_four inv.1 few (omega (arith, start.requires.1, start.requires.2))
+          (entry (pos 16) (pos 0) (search rules) c.scaled-c0.ensures.0 b0)
+          (entry (pos 16) (pos 0) (search rules) c.scaled-c1.ensures.0 b1)
+          (entry third (pos 0) (search rules) c.scaled-c2.ensures.0 b2)
+          (entry fourth more (search rules) c.scaled-c3.ensures.0 b3),
+      four_more_lem inv.2 (seen c.scaled-c0.ensures.1 b0) (seen c.scaled-c1.ensures.1 b1)
+          (seen c.scaled-c2.ensures.1 b2) (seen c.scaled-c3.ensures.1 b3),
     )
 
 returns : tie.Need-returns invariant_loop decreases_loop
@@ -153,4 +153,4 @@ four_spec =
     (λ c. size_on (by4 c) 64 (lit< tt)) (λ c. simp length-set (room_on (by4 c) 64 (lit< tt)))
     (λ c. place_on (by4 c) 96 (lit< tt)) (λ c. size_on (by4 c) 96 (lit< tt))
     (λ c. simp length-set (room_on (by4 c) 96 (lit< tt))) (λ c. next (by4 c))
-    (λ c. omega (arith, (by4 c).loop-test.true)) loop_again (λ c. c.loop-l.invariant.1.long) returns)
+    (λ c. omega (arith, (by4 c).loop-l-test.true)) loop_again (λ c. c.loop-l.invariant.1.long) returns)

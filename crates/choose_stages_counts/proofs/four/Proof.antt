@@ -118,13 +118,13 @@ loop_again c =
     let turn = by4 c in
     let start = start turn in
     let a = a turn in
-    let inv = turn.before.loop.inv in
-    let few = turn.loop-test.taken in
+    let inv = turn.before.loop.invariant in
+    let few = turn.loop-l-test.true in
     let third = to_z w32 (of_z w32 start.args.third) in
     let fourth = to_z w32 (of_z w32 start.args.fourth) in
     let more = to_z w32 (of_z w32 start.args.more) in (
       omega (arith, few),
-      scaled_four inv.1 few (omega (arith, start.pre.1, start.pre.2))
+      scaled_four inv.1 few (omega (arith, start.requires.1, start.requires.2))
           (entry turn a (pos 16) (pos 0) (search rules) c.scaled-c0.ensures)
           (entry turn (a + 32) (pos 16) (pos 0) (search rules) c.scaled-c1.ensures)
           (entry turn (a + 64) third (pos 0) (search rules) c.scaled-c2.ensures)
@@ -153,4 +153,4 @@ four_spec =
     (λ c. size_on (by4 c) 64 (lit< tt)) (λ c. simp length-set (room_on (by4 c) 64 (lit< tt)))
     (λ c. place_on (by4 c) 96 (lit< tt)) (λ c. size_on (by4 c) 96 (lit< tt))
     (λ c. simp length-set (room_on (by4 c) 96 (lit< tt))) (λ c. next (by4 c))
-    (λ c. omega (arith, (by4 c).loop-test.true)) loop_again (λ c. c.loop-l.invariant.1.long) returns)
+    (λ c. omega (arith, (by4 c).loop-l-test.true)) loop_again (λ c. c.loop-l.invariant.1.long) returns)

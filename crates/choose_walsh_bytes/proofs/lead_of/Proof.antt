@@ -55,8 +55,8 @@ returns : tie.Need-returns
 returns c =
     let s = start c in
     λ i. s.args.unit
-    * ((ap (λ (z : ℤ). (nat_abs z + 11) / 16) (first c) ∙ size_of_first s.args.first s.pre.1) i
-    - (ap (λ (z : ℤ). (nat_abs z + 11) / 16) (next c) ∙ size_of_next s.args.second s.pre.2) i)
+    * ((ap (λ (z : ℤ). (nat_abs z + 11) / 16) (first c) ∙ size_of_first s.args.first s.requires.1) i
+    - (ap (λ (z : ℤ). (nat_abs z + 11) / 16) (next c) ∙ size_of_next s.args.second s.requires.2) i)
 
 pub lead_of_spec : {M : Type 1} → statement M
 lead_of_spec =

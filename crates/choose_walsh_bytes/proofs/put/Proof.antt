@@ -38,22 +38,22 @@ module _ (c : tie.After-lead_of-arg-in-loop-s-1 invariant_loop decreases_loop) w
   abbrev word : tie.After-shared_slice_known-in-loop-s-1 invariant_loop decreases_loop
   word = c.before.before.before.before
 
-  second_is : to_z w16 (of_z w16 (get_or (start word).args.second.now (turn word).before.loop.s (pos 0)))
-      ≡ get_or (start word).args.second.now (turn word).before.loop.s (pos 0)
+  second_is : to_z w16 (of_z w16 (get_or (start word).args.second.now (turn word).loop-s.s (pos 0)))
+      ≡ get_or (start word).args.second.now (turn word).loop-s.s (pos 0)
   second_is = search rules
 
 word_of_requires : tie.Need-word_of-requires invariant_loop decreases_loop
 word_of_requires c κs =
     let k = (start c).requires.0 in
-    let few = (turn c).loop-test.true in
+    let few = (turn c).loop-s-test.true in
     (rw (first_is c) (k.key _ few), k.place _ few)
 
 lead_of_requires : tie.Need-lead_of-requires invariant_loop decreases_loop
 lead_of_requires c κs =
     let w = word c in
-    let k = (start w).pre.0 in
-    let few = (turn w).loop-test.taken in (
-      (start w).pre.1,
+    let k = (start w).requires.0 in
+    let few = (turn w).loop-s-test.true in (
+      (start w).requires.1,
       rw (first_is w) (k.key _ few),
       rw (second_is c) (k.next _ few),
       rw (second_is c, first_is w) (k.order _ few),
@@ -64,15 +64,15 @@ loop_again c =
     let w = word c.before.before in
     let at = (turn w).before in
     let s = start w in
-    let few = (turn w).loop-test.taken in (
+    let few = (turn w).loop-s-test.true in (
       omega arith,
-      put_more _ (omega (arith, s.pre.2))
+      put_more _ (omega (arith, s.requires.2))
           (c.word_of.ensures
           ∙ ap (λ (z : ℤ). word_of_key z (get_or s.args.at.now at.loop.s 0)) (first_is w))
-          at.loop.inv.1,
-      put_more _ (omega (arith, s.pre.2))
+          at.loop.invariant.1,
+      put_more _ (omega (arith, s.requires.2))
           (c.lead_of.ensures ∙ (λ i. s.args.unit * lead_of_keys (first_is w i) (second_is c.before.before i)))
-          at.loop.inv.2,
+          at.loop.invariant.2,
     )
 
 returns : tie.Need-returns invariant_loop decreases_loop
@@ -87,6 +87,6 @@ put_spec =
     invariant_loop decreases_loop (λ c. (omega arith, put_none _ c.requires.3, put_none _ c.requires.4))
     (λ c. search rules) (λ c. omega (arith, c.requires.0.first_long)) (λ c. search rules)
     (λ c. omega (arith, c.requires.0.at_long)) word_of_requires (λ c. search rules) (λ c. search rules)
-    (λ c. search rules) (λ c. omega (arith, (start c.before.before).pre.0.first_long)) (λ c. search rules)
-    (λ c. omega (arith, (start c.before.before.before).pre.0.second_long)) lead_of_requires (λ c. search rules)
+    (λ c. search rules) (λ c. omega (arith, (start c.before.before).requires.0.first_long)) (λ c. search rules)
+    (λ c. omega (arith, (start c.before.before.before).requires.0.second_long)) lead_of_requires (λ c. search rules)
     (λ c. search rules) (λ c. search rules) (λ c. search rules) (λ c. search rules) loop_again returns)

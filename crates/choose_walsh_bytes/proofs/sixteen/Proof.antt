@@ -41,12 +41,12 @@ module _ (c : tie.After-search) where
 
 put_requires : tie.Need-put-requires
 put_requires c κs =
-    let s = (enter c.before.before.before.before.before.before.before.before).before.before in (
+    let s = (enter c.before.before.before.before.before.before.before.before).before in (
       keyed (enter c.before.before.before.before.before.before.before.before).enter.ensures.0 (pairs c.before.before.before.before.before.before.before.before).pairs.ensures c.search.ensures,
-      s.pre.3,
-      s.pre.4,
-      s.pre.5,
-      s.pre.6,
+      s.requires.3,
+      s.requires.4,
+      s.requires.5,
+      s.requires.6,
     )
 
 returns : tie.Need-returns
@@ -54,11 +54,11 @@ returns c =
     let e = (enter c.before.before.before.before.before.before.before.before.before).enter.ensures.0 in
     let p = (pairs c.before.before.before.before.before.before.before.before.before).pairs.ensures in
     let f = c.search.ensures in
-    let unit = (enter c.before.before.before.before.before.before.before.before.before).before.before.args.unit in (
+    let unit = (enter c.before.before.before.before.before.before.before.before.before).args.unit in (
       (e.long, p.long),
       (
-        put_ext c.put.ensures.numbers (λ s few. chosen _ _ _ s few e p _ (f.each s few)),
-        put_ext c.put.ensures.leads (λ s few. ap (λ (n : ℕ). unit * n) (led _ _ _ s few e p _ (f.each s few))),
+        put_ext c.put.ensures.0 (λ s few. chosen _ _ _ s few e p _ (f.each s few)),
+        put_ext c.put.ensures.1 (λ s few. ap (λ (n : ℕ). unit * n) (led _ _ _ s few e p _ (f.each s few))),
       ),
     )
 

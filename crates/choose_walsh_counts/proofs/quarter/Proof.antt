@@ -114,7 +114,7 @@ module _ (c : tie.After-column-arg-in-loop-l-7-1 invariant_loop decreases_loop) 
   start = c.before.before.before.before.before.before.before.before.before.before.before.before.before.before
 
   few : turn.loop-l.l < 16
-  few = turn.loop-l-test.taken
+  few = turn.loop-l-test.true
 
   -- row k of the first stage is small
   row : (k x : ℕ) → k < 16 → 32 * k ≡ x → Bounded 262152 (row_at start.args.a.now x turn.loop-l.l)
@@ -154,13 +154,13 @@ loop_again c =
     let t = turn c.before.before.before in
     let at = t.before in
     let s = start c.before.before.before in
-    let few = t.loop-test.taken in
+    let few = t.loop-test.true in
     let l = at.loop.l in
     let v : to_z w32 (of_z w32 c.column-c.result.first) ≡ c.column-c.result.first = search rules in
     let w : to_z w32 (of_z w32 c.column-c.result.second) ≡ c.column-c.result.second = search rules in (
       omega arith,
-      quartered_more _ _ _ at.loop.inv.1 (omega (arith, s.pre.3.first_long))
-          (omega (arith, s.pre.3.second_long)) (omega (arith, s.pre.3.at_long))
+      quartered_more _ _ _ at.loop.invariant.1 (omega (arith, s.requires.3.first_long))
+          (omega (arith, s.requires.3.second_long)) (omega (arith, s.requires.3.at_long))
           ((λ i. held (v i) (w i) c.column-c.result.group)
           ∙ c.column-c.ensures
           ∙ (λ i. four_more (held (first_is c.before.before.before.before.before.before.before.before.before.before.before.before.before i) (second_is c.before.before.before.before.before.before.before.before.before.before.before.before i) (get_or at.loop.at l 0))

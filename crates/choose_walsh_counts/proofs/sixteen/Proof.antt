@@ -40,11 +40,11 @@ module _ (c : tie.After-search) where
 
 put_requires : tie.Need-put-requires
 put_requires c κs =
-    let s = (enter c.before.before.before.before.before.before.before.before).before.before in (
+    let s = (enter c.before.before.before.before.before.before.before.before).before in (
       keyed (enter c.before.before.before.before.before.before.before.before).enter.ensures (pairs c.before.before.before.before.before.before.before.before).pairs.ensures c.search.ensures,
-      s.pre.3,
-      s.pre.4,
-      s.pre.5,
+      s.requires.3,
+      s.requires.4,
+      s.requires.5,
     )
 
 returns : tie.Need-returns
@@ -54,8 +54,8 @@ returns c =
     let f = c.search.ensures in (
       (e.long, p.long),
       (
-        put_ext c.put.ensures.numbers (λ s few. chosen _ _ _ s few e p _ (f.each s few)),
-        put_ext c.put.ensures.leads (λ s few. led _ _ _ s few e p _ (f.each s few)),
+        put_ext c.put.ensures.0 (λ s few. chosen _ _ _ s few e p _ (f.each s few)),
+        put_ext c.put.ensures.1 (λ s few. led _ _ _ s few e p _ (f.each s few)),
       ),
     )
 

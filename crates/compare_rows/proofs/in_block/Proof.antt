@@ -27,13 +27,13 @@ loop_again c =
     let b = start.b.now in
     let at = start.at in (
       omega arith,
-      ⊎_elim (λ w. omega arith) (λ w. omega arith) c.if-a-at.branch,
+      ⊎_elim (λ w. omega arith) (λ w. omega arith) c.if-a-at.branch-raw,
       ⊎_elim
           (λ w. between_same a b at (at + loop.k) (at + (loop.k + 1)) c.if-a-at.n loop.n (omega arith)
-          (omega arith) (omega arith) (omega arith) w.1 loop.invariant.2)
+          (omega arith) (omega arith) (omega arith) w.n-is loop.invariant.2)
           (λ w. between_other a b at (at + loop.k) (at + (loop.k + 1)) c.if-a-at.n loop.n (omega arith)
-          (omega arith) (λ e. omega arith) (omega arith) w.1 loop.invariant.2)
-          c.if-a-at.branch,
+          (omega arith) (λ e. omega arith) (omega arith) w.n-is loop.invariant.2)
+          c.if-a-at.branch-raw,
     )
 
 returns : tie.Need-returns invariant_loop decreases_loop

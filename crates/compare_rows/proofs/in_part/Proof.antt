@@ -31,13 +31,13 @@ loop_again c =
     let b = start.b.now in (
       omega arith,
       omega arith,
-      ⊎_elim (λ w. omega arith) (λ w. omega arith) c.if-a-i.branch,
+      ⊎_elim (λ w. omega arith) (λ w. omega arith) c.if-a-i.branch-raw,
       ⊎_elim
           (λ w. between_same a b start.from loop.i (loop.i + 1) c.if-a-i.n loop.n (omega arith)
-          (omega arith) (omega arith) (omega arith) w.1 loop.invariant.3)
+          (omega arith) (omega arith) (omega arith) w.n-is loop.invariant.3)
           (λ w. between_other a b start.from loop.i (loop.i + 1) c.if-a-i.n loop.n (omega arith)
-          (omega arith) (λ e. omega arith) (omega arith) w.1 loop.invariant.3)
-          c.if-a-i.branch,
+          (omega arith) (λ e. omega arith) (omega arith) w.n-is loop.invariant.3)
+          c.if-a-i.branch-raw,
     )
 
 returns : tie.Need-returns invariant_loop decreases_loop

@@ -111,7 +111,7 @@ module _ {M : Type 1} {𝓤 : Ura M} (𝓛 : Logic 𝓤) (at_mem : Memory → SP
   abbrev to : (Called 𝓛 at_mem run).Ghost
   to = (((κ₁, tt), (q₁, tt), tt, a', vals'), tt)
 
-  goes : ent 𝓤 (⋆ 𝓛 ((‵ (flft κ₁ q₁) ⊛ ‵ ftrue) ∷ ‵ (owns (T.the_row ∷ u64 ∷ MutSlice (named 0) κ₁ u8 ∷ []) a' vals') ∷ [])) ((Called 𝓛 at_mem run).pre to)
+  goes : ent 𝓤 (⋆ 𝓛 ((‵ (flft κ₁ q₁) ⊛ ‵ ftrue) ∷ ‵ (owns (T.the_row ∷ u64 ∷ MutSlice (named 0) κ₁ u8 ∷ []) a' vals') ∷ [])) ((Called 𝓛 at_mem run).requires to)
   goes = qed 𝓛 ((‵ (flft κ₁ q₁) ⊛ ‵ ftrue) ∷ ‵ (owns (T.the_row ∷ u64 ∷ MutSlice (named 0) κ₁ u8 ∷ []) a' vals') ∷ []) ∵ join ! $ frame ! $ done !
 
   exits : (r : Fed) (octets' : List ℕ) → Says h kind octets r octets' → r.answer < 2 ^ 64 → length octets' ≡ length octets
@@ -137,7 +137,7 @@ module _ {M : Type 1} {𝓤 : Ura M} (𝓛 : Logic 𝓤) (at_mem : Memory → SP
         assigns ! (addr ! (from ! (fld ! refl (hop ! (look_in ! 15 (sub ! 0 refl (whole !))) (stop !))))) (from ! (stop !)) (init ! 9 refl (tt, tt)) $
         assigns ! (agg ! (and_then ! (load ! (from ! (stop !)) (look ! 9 refl)) (and_then ! (load ! (from ! (fld ! refl (stop !))) (look_in ! 15 (sub ! 1 refl (whole !)))) (no_more !)))) (from ! (stop !)) (init ! 7 refl (tt, (tt, (record { fits = octets-room.0 }, tt)))) $
         -- `open_in`
-        move ! (1 ∷ 6 ∷ []) $ fjoin ! $ move ! (5 ∷ 0 ∷ []) $ use2 𝓛 (raw ((Called 𝓛 at_mem run).pre to)) goes $
+        move ! (1 ∷ 6 ∷ []) $ fjoin ! $ move ! (5 ∷ 0 ∷ []) $ use2 𝓛 (raw ((Called 𝓛 at_mem run).requires to)) goes $
         calls_at ! fm (Called 𝓛 at_mem run) known to (and_then ! (load ! (from ! (stop !)) (look ! 9 refl)) (and_then ! (load ! (from ! (stop !)) (look ! 15 refl)) (and_then ! (load ! (from ! (stop !)) (look ! 5 refl)) (no_more !)))) (λ w.
         use1 𝓛 (later (some (λ (r : Fed). ((‵ (flft κ₁ q₁) ⊛ ‵ ftrue) ⊛ ‵ ((F.the_row).own_val r (w ∷ []))) ⊛ raw (ensured 𝓛 open_in.ended (open_in.clauses 𝓛 at_mem run) (κ₁, tt) a' tt r)))) (id⊢ 𝓤 _) $ await ! tt $ pick ! (λ r.
         split ! $ move ! (1 ∷ []) $ use1 𝓛 (some (λ (zs : Unit {0} × (Unit {0} × (List ℕ × Unit {0}))). ‵ (lasts open_in.ended (κ₁, tt) a' zs) ⊛ raw (fact 𝓤 (Says h kind octets r zs.1.1.0)))) (id⊢ 𝓤 _) $ pick ! (λ zs.

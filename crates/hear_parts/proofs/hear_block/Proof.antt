@@ -64,7 +64,7 @@ ends c =
 hear_requires : tie.Need-hear-heard-requires
 hear_requires c κs =
     let a = c.args in
-    let d = c.decide.ensures.numbers in (
+    let d = c.decide.ensures.0 in (
       c.requires.0,
       c.requires.1,
       ends c.before,
@@ -80,7 +80,7 @@ least_after_requires c κs =
     let e = c.octet_symbols-symbols.ensures in (
       within a.rate _ a.count e c.requires.0,
       numbered a.rate _ a.count e a.symbol c.requires.5,
-      c.decide.ensures.leads.long,
+      c.decide.ensures.1.long,
     )
 
 returns : tie.Need-returns
@@ -88,14 +88,14 @@ returns c =
     let a = c.args in
     let e = c.octet_symbols-symbols.ensures in
     let rec = recording_of a.rec a.row.now a.bytes.now a.i.now a.q.now in
-    let words = block_words a.rate _ a.count e rec a.place _ c.decide.ensures.numbers c.requires.0 in (
+    let words = block_words a.rate _ a.count e rec a.place _ c.decide.ensures.0 c.requires.0 in (
       subst (λ (ws : List ℕ). Heard a.rate a.symbol a.place a.line ws c.hear-heard.result) words
-          c.hear-heard.ensures.answer,
+          c.hear-heard.ensures.0,
       (
         c.least_after-least.ensures
             ∙ ap (least_from a.symbol a.least)
-            (block_leads a.rate _ a.count e rec a.place _ c.decide.ensures.leads c.requires.0),
-        c.hear-heard.ensures.out
+            (block_leads a.rate _ a.count e rec a.place _ c.decide.ensures.1 c.requires.0),
+        c.hear-heard.ensures.1
             ∙ ap (λ (ws : List ℕ). over (plain_octets a.rate a.symbol a.count a.line ws) a.out.now)
             words,
       ),

@@ -42,7 +42,7 @@ held : (c : tie.After-block_octets-count invariant_loop decreases_loop) → let 
     ≤ length (recording_of a.rec a.row.now a.bytes.now a.i.now a.q.now)
 held c =
     block_room _ _ _ _ _ _ _ _ _ _ _ _ c.loop-k.invariant (left c.before) c.block_octets-count.ensures _
-    (begun c.before.before).pre.0
+    (begun c.before.before).requires.0
 
 -- and the product of its octets and chips
 ends : (c : tie.After-block_octets-count invariant_loop decreases_loop)
@@ -67,7 +67,7 @@ numbered : (c : tie.After-block_octets-count invariant_loop decreases_loop) → 
 numbered c =
     block_symbol _ _ _ _ _ _ _ _ _ _ _ _ c.loop-k.invariant (left c.before)
     c.block_octets-count.ensures _ _ c.octet_symbols-symbols.ensures
-    (begun c.before.before).pre.3
+    (begun c.before.before).requires.3
 
 loop_holds : tie.Need-loop-k-init invariant_loop decreases_loop
 loop_holds c = parts_none _ _ _ _ _ _ _ c.requires.2
@@ -84,14 +84,14 @@ block c = c.before.before.before.before
 
 hear_block_requires : tie.Need-hear_block-more-requires invariant_loop decreases_loop
 hear_block_requires c κs =
-    let loop = (block c).before.before.loop in
-    let w = (block c).block_octets.ensures in
+    let loop = (block c).loop-k in
+    let w = (block c).block_octets-count.ensures in
     let b = left (block c).before in (
       w.fits,
       rw (lent, length-drop) w.within,
       held (block c),
-      block_usable _ _ _ _ _ _ _ _ _ _ _ _ loop.inv b w (begun (block c).before.before).pre.1,
-      loop.inv.line.small,
+      block_usable _ _ _ _ _ _ _ _ _ _ _ _ loop.invariant b w (begun (block c).before).requires.1,
+      loop.invariant.line.small,
       numbered (block c),
     )
 
@@ -107,29 +107,29 @@ add_place c = record { fits = ends (turn c) }
 
 add_k : tie.Need-overflow_add-k invariant_loop decreases_loop
 add_k c =
-    let w = (turn c).block_octets.ensures in
+    let w = (turn c).block_octets-count.ensures in
     let b = left (turn c).before in
-    let long = parts_long (turn c).before.before.loop.invariant in
+    let long = parts_long (turn c).loop-k.invariant in
     record {
       fits = omega (
         arith,
         w.within,
-        (begun (turn c).before.before).good.1.1.1.1.1.1.1.1.1.1.0.0,
+        (begun (turn c).before).good.1.1.1.1.1.1.1.1.1.1.0.0,
       );
     }
 
 loop_less : tie.Need-loop-k-smaller invariant_loop decreases_loop
 loop_less c =
-    let w = (turn c).block_octets.ensures in
+    let w = (turn c).block_octets-count.ensures in
     let b = left (turn c).before in
-    omega (arith, w.some (omega (arith, parts_long (turn c).before.before.loop.invariant)))
+    omega (arith, w.some (omega (arith, parts_long (turn c).loop-k.invariant)))
 
 loop_again : tie.Need-loop-k-preserved invariant_loop decreases_loop
 loop_again c =
-    let at = (turn c).before.before in
+    let at = (turn c).before in
     let call = c.hear_block-more.ensures in
-    parts_more _ _ _ _ _ _ _ _ _ _ _ _ at.loop.inv (left (turn c).before) (turn c).block_octets.ensures
-    _ _ _ _ _ call.0 call.1.0 call.1.1 c.joined-part.ensures at.before.before.octet-chips.ensures
+    parts_more _ _ _ _ _ _ _ _ _ _ _ _ at.loop.invariant (left (turn c).before) (turn c).block_octets-count.ensures
+    _ _ _ _ _ call.0 call.1.0 call.1.1 c.joined_part.ensures at.before.before.octet-chips.ensures
     at.before.octet-symbols.ensures
 
 returns : tie.Need-returns invariant_loop decreases_loop

@@ -21,7 +21,7 @@ returns_2 c =
 returns_3 : tie.Need-returns-in-Usable
 returns_3 c =
     opens_usable _ _ _ c.look_at_front-looked.ensures _ _
-    c.in-Usable.is (c.told.ensures.answer _ c.hear_front-known.ensures)
+    c.in-Usable.is (c.told.ensures.0 _ c.hear_front-known.ensures)
 
 pub read_front_spec : {M : Type 1} → statement M
 read_front_spec =

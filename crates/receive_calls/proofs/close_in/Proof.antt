@@ -19,9 +19,9 @@ returns : tie.Need-returns-then-status-eq1
 returns c =
     let a = c.args in
     close_taken a.s a.octets.now _ c.takes.ensures _ _ c.refuse-answer.new.octets
-    c.if-takes.true refl (refused_other _ ShorterThanFront c.refuse-answer.ensures.answer (omega arith))
+    c.if-takes.true refl (refused_other _ ShorterThanFront c.refuse-answer.ensures.0 (omega arith))
     c.refuse-answer.auto.octets
-    (way_short a.s a.octets.now _ _ c.refuse-answer.ensures.octets c.if-status-eq1.true c.refuse-answer.ensures.answer)
+    (way_short a.s a.octets.now _ _ c.refuse-answer.ensures.1 c.if-status-eq1.true c.refuse-answer.ensures.0)
 
 tell_payload_requires : tie.Need-tell_payload-answer-requires
 tell_payload_requires c κs =
@@ -33,8 +33,8 @@ returns_2 : tie.Need-returns-then-status-eq2
 returns_2 c =
     let a = c.args in
     close_taken a.s a.octets.now _ c.takes.ensures _ _ c.tell_payload-answer.new.octets
-    c.if-takes.true refl c.tell_payload-answer.ensures.other c.tell_payload-answer.auto.octets
-    (λ kind fed y. c.tell_payload-answer.ensures.answer kind fed a.s.hold a.s.preamble a.s.header
+    c.if-takes.true refl c.tell_payload-answer.ensures.1 c.tell_payload-answer.auto.octets
+    (λ kind fed y. c.tell_payload-answer.ensures.0 kind fed a.s.hold a.s.preamble a.s.header
     c.if-status-eq2.true y)
 
 returns_3 : tie.Need-returns-then-takes
@@ -44,8 +44,8 @@ returns_3 c =
     let stays = takes_stays a.s.progress _ taken c.if-status-eq1.false c.if-status-eq2.false in
     close_taken a.s a.octets.now _ c.takes.ensures _ _ c.kept-answer.new.octets
     c.if-takes.true refl
-    (kept_other a.s.progress _ c.kept-answer.ensures.answer (takes_refused a.s.progress _ taken stays))
-    c.kept-answer.auto.octets (way_stays a.s a.octets.now _ _ c.kept-answer.ensures.octets stays c.kept-answer.ensures.answer)
+    (kept_other a.s.progress _ c.kept-answer.ensures.0 (takes_refused a.s.progress _ taken stays))
+    c.kept-answer.auto.octets (way_stays a.s a.octets.now _ _ c.kept-answer.ensures.1 stays c.kept-answer.ensures.0)
 
 returns_4 : tie.Need-returns
 returns_4 c =

@@ -46,9 +46,9 @@ returns c =
     let rest = c.put_octets in
     all c.args.k c.args.r _ c.args.clock _ c.args.count _ _ _ front.new.chips
     rest.new.chips
-    c.fill.new.row _ header.ensures.0 header.ensures.1 front.ensures.answer
-    front.ensures.chips
-    c.front_chips-at.ensures rest.ensures.chips
+    c.fill.new.row _ header.ensures.0 header.ensures.1 front.ensures.0
+    front.ensures.1
+    c.front_chips-at.ensures rest.ensures.1
     c.requires.1 c.requires.2 c.fill.ensures
 
 pub put_frame_spec : {M : Type 1} → statement M

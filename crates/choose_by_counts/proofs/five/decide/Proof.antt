@@ -31,11 +31,11 @@ number_requires c κs = omega (arith, c.number_of.ensures)
 
 lead_of_requires : tie.Need-lead_of-requires
 lead_of_requires c κs =
-    (lit< tt, lit≤ tt, omega (arith, first c.before.before, second c.before.before, second_le (found c.before.before).two-largest.ensures.two))
+    (lit< tt, lit≤ tt, omega (arith, first c.before.before, second c.before.before, second_le (found c.before.before).two_largest-top.ensures.two))
 
 returns : tie.Need-returns
 returns c =
-    let chosen = eight_by _ _ (found c.before.before.before).before.halves.ensures (found c.before.before.before).two-largest.ensures.two in (
+    let chosen = eight_by _ _ (found c.before.before.before).halves.ensures (found c.before.before.before).two_largest-top.ensures.two in (
       c.number.ensures
           ∙ ap number5 (c.number_of.ensures ∙ ap (λ (x : ℕ). 15 - x % 16) (first c.before.before.before))
           ∙ chosen.0,

@@ -8,10 +8,10 @@ returns : tie.Need-returns
 returns c =
     let call = c.hear_sync-part in
     record {
-      line = call.ensures.answer;
+      line = call.ensures.0;
       sfd = preamble_sfd c.args.kind _ _ _
-          call.ensures.octets c.behind_sync-sfd.ensures;
-      least = call.ensures.least;
+          call.ensures.2 c.behind_sync-sfd.ensures;
+      least = call.ensures.1;
     }
 
 pub hear_preamble_spec : {M : Type 1} → statement M

@@ -42,7 +42,7 @@ decide_requires c κs =
 hear_requires : tie.Need-hear-first-requires
 hear_requires c κs =
     let a = c.args in
-    let d = c.decide.ensures.numbers in (
+    let d = c.decide.ensures.0 in (
       omega arith,
       omega (arith, c.requires.2),
       omega arith,
@@ -54,7 +54,7 @@ hear_requires c κs =
 
 least_of_requires : tie.Need-least_of-least-requires
 least_of_requires c κs =
-    (omega arith, omega arith, c.decide.ensures.leads.long)
+    (omega arith, omega arith, c.decide.ensures.1.long)
 
 -- the rest of the row
 within : (c : tie.After-l-1) → (8 ≤ c.preamble_octets-count.result) × (c.preamble_octets-count.result ≤ 18)
@@ -69,7 +69,7 @@ hear_octets_requires c κs =
     c.preamble_octets-count.ensures in (
       rest_room a.kind _ _ rest c.requires.0,
       usable_part 704 _ c.requires.1 (rest_room a.kind _ _ rest (omega arith)),
-      c.hear-first.ensures.answer.small,
+      c.hear-first.ensures.0.small,
       rw rest (few a.kind),
     )
 
@@ -81,7 +81,7 @@ returns c =
     sync_heard a.kind (recording_of a.rec a.row.now a.bytes.now a.i.now a.q.now)
     _ _ _ _ _ _ _ _ _ _ _ _
     decided.0 decided.1 c.least_of-least.ensures
-    c.first_line-line.ensures c.hear-first.ensures.answer c.hear-first.ensures.out
+    c.first_line-line.ensures c.hear-first.ensures.0 c.hear-first.ensures.1
     (rest_lent a.kind c.hear-first.new.out _ (long c.before.before.before.before.before.before.before.before.before.before.before) count) count
     c.hear_octets-rest.ensures
     c.joined.ensures

@@ -18,17 +18,17 @@ returns : tie.Need-returns-then-p-all
 returns c =
     let a = c.args in (
       way_ends a.p a.octets.now _ _ _ c.kind_of-kind.ensures c.rate_of-rate.ensures
-          c.frame_chips-all.ensures _ _ c.if-p-all.true c.refuse.ensures.answer c.refuse.ensures.octets,
-      refused_other _ (Ends a.p.length) c.refuse.ensures.answer (omega arith),
+          c.frame_chips-all.ensures _ _ c.if-p-all.true c.refuse.ensures.0 c.refuse.ensures.1,
+      refused_other _ (Ends a.p.length) c.refuse.ensures.0 (omega arith),
     )
 
 returns_2 : tie.Need-returns-then-p-n
 returns_2 c =
     let a = c.args in (
       way_room a.p a.octets.now _ _ _ c.kind_of-kind.ensures c.rate_of-rate.ensures
-          c.frame_chips-all.ensures c.if-p-all.false _ _ c.if-p-n.true c.refuse-then-p-n.ensures.answer
-          c.refuse-then-p-n.ensures.octets,
-      refused_other _ (OctetRoom a.p.length) c.refuse-then-p-n.ensures.answer (omega arith),
+          c.frame_chips-all.ensures c.if-p-all.false _ _ c.if-p-n.true c.refuse-then-p-n.ensures.0
+          c.refuse-then-p-n.ensures.1,
+      refused_other _ (OctetRoom a.p.length) c.refuse-then-p-n.ensures.0 (omega arith),
     )
 
 returns_3 : tie.Need-returns-then-p-ne0
@@ -36,8 +36,8 @@ returns_3 c =
     let a = c.args in (
       way_unusable a.p a.octets.now _ _ _ c.kind_of-kind.ensures c.rate_of-rate.ensures
           c.frame_chips-all.ensures c.if-p-all.false _ _ c.if-p-n.false c.if-p-ne0.true
-          c.refuse-then-p-ne0.ensures.answer c.refuse-then-p-ne0.ensures.octets,
-      refused_other _ (Unusable (a.p.bad - 1) a.p.length) c.refuse-then-p-ne0.ensures.answer (omega arith),
+          c.refuse-then-p-ne0.ensures.0 c.refuse-then-p-ne0.ensures.1,
+      refused_other _ (Unusable (a.p.bad - 1) a.p.length) c.refuse-then-p-ne0.ensures.0 (omega arith),
     )
 
 returns_4 : tie.Need-returns-then-p-ne0-2
@@ -45,8 +45,8 @@ returns_4 c =
     let a = c.args in (
       way_odd a.p a.octets.now _ _ _ c.kind_of-kind.ensures c.rate_of-rate.ensures
           c.frame_chips-all.ensures c.if-p-all.false _ _ c.if-p-n.false c.if-p-ne0.false c.if-p-ne0-2.true
-          c.refuse-then-p-ne0-2.ensures.answer c.refuse-then-p-ne0-2.ensures.octets,
-      refused_other _ (OddGrowth (a.p.odd - 1) a.p.length) c.refuse-then-p-ne0-2.ensures.answer (omega arith),
+          c.refuse-then-p-ne0-2.ensures.0 c.refuse-then-p-ne0-2.ensures.1,
+      refused_other _ (OddGrowth (a.p.odd - 1) a.p.length) c.refuse-then-p-ne0-2.ensures.0 (omega arith),
     )
 
 returns_5 : tie.Need-returns

@@ -34,7 +34,7 @@ abbrev call : tie.After-struct_known-1 invariant_loop decreases_loop → tie.Aft
 call c = c.before.before.before.before.before.before.before
 
 abbrev turn : tie.After-struct_known-1 invariant_loop decreases_loop → tie.In-loop-at invariant_loop decreases_loop
-turn c = (call c).before.before.before.before.before.before
+turn c = (call c).before
 
 abbrev begun : tie.At-loop-at invariant_loop decreases_loop → tie.Start invariant_loop decreases_loop
 begun c = c.before.before.before.before.before.before.before
@@ -43,25 +43,25 @@ add_at : tie.Need-overflow_add-at invariant_loop decreases_loop
 add_at c =
     let at = (turn c).before in
     let batch = (begun at).args.batch.now in
-    let y = (call c).next-piece.ensures in
+    let y = (call c).next_piece-q.ensures in
     let small : length batch < 2 ^ 64 = search rules in
-    let long = rest_long batch at.loop.at at.loop.inv.within in
-    record { fits = omega (arith, y.most, long, at.loop.inv.within, small) }
+    let long = rest_long batch at.loop.at at.loop.invariant.within in
+    record { fits = omega (arith, y.most, long, at.loop.invariant.within, small) }
 
 loop_less : tie.Need-loop-at-smaller invariant_loop decreases_loop
 loop_less c =
     let at = (turn c).before in
     let batch = (begun at).args.batch.now in
-    let y = (call c).next-piece.ensures in
-    let long = rest_long batch at.loop.at at.loop.inv.within in
-    let here = (turn c).loop-test.true in
+    let y = (call c).next_piece-q.ensures in
+    let long = rest_long batch at.loop.at at.loop.invariant.within in
+    let here = (turn c).loop-at-test.true in
     omega (arith, y.some_taken (omega (arith, long, here)), here)
 
 loop_again : tie.Need-loop-at-preserved invariant_loop decreases_loop
 loop_again c =
     let at = (turn c).before in
-    gone_more _ _ _ _ _ (begun at).args.batch.now at.loop.at _ _ _ _ _ at.loop.inv _ _ _ _ _
-    (call c).next-piece.ensures
+    gone_more _ _ _ _ _ (begun at).args.batch.now at.loop.at _ _ _ _ _ at.loop.invariant _ _ _ _ _
+    (call c).next_piece-q.ensures
 
 same_length : tie.Need-shape_of-octets invariant_loop decreases_loop
 same_length c = c.loop-at.invariant.long

@@ -36,7 +36,7 @@ returns c =
     let start = kind.before.before.before.before.before in
     let a = start.args in
     front_stays a.p _ a.hold.now a.preamble.now a.header.now a.rest.now piece.front-piece.result
-    _ _ _ start.pre.1 kind.kind_of_lem.ensures piece.front-piece.ensures
+    _ _ _ start.requires.1 kind.kind_of_lem.ensures piece.front-piece.ensures
     (subst (λ (n : ℕ). piece.front-piece.result.progress.count < n) c.front_chips.ensures
     c.if-progress-front_chips.true)
 
@@ -48,10 +48,10 @@ front_told_requires c κs =
     let a = start.args in
     let x = piece.front-piece.ensures in (
       omega (arith, x.count_is, x.within, c.if-progress-front_chips.false, c.front_chips.ensures),
-      ap is_kind x.kind_is ∙ (takes_front a.p a.p.room start.pre.0 start.pre.1).is_kind_lem,
+      ap is_kind x.kind_is ∙ (takes_front a.p a.p.room start.requires.0 start.requires.1).is_kind_lem,
       ap kind_of x.kind_is ∙ sym kind.kind_of_lem.ensures,
-      x.preamble_long ∙ start.pre.3,
-      x.header_long ∙ start.pre.4,
+      x.preamble_long ∙ start.requires.3,
+      x.header_long ∙ start.requires.4,
       x.small,
       x.last_small,
     )
@@ -63,7 +63,7 @@ returns_2 c =
     let start = kind.before.before.before.before.before in
     let a = start.args in
     front_ends a.p _ a.hold.now a.preamble.now a.header.now a.rest.now piece.front-piece.result
-    _ _ _ start.pre.1 kind.kind_of_lem.ensures piece.front-piece.ensures _
+    _ _ _ start.requires.1 kind.kind_of_lem.ensures piece.front-piece.ensures _
     (subst (λ (n : ℕ). n ≤ piece.front-piece.result.progress.count) c.front_chips.ensures
     c.if-progress-front_chips.false) c.front_told-progress.ensures
 

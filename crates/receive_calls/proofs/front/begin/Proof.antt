@@ -65,11 +65,11 @@ first_line_requires : tie.Need-first_line-line-requires
 first_line_requires c κs = search rules
 
 least_of_requires : tie.Need-least_of-least-requires
-least_of_requires c κs = (omega arith, omega arith, c.decide.ensures.leads.long)
+least_of_requires c κs = (omega arith, omega arith, c.decide.ensures.1.long)
 
 returns : tie.Need-returns
 returns c =
-    begun c.args.kind c.args.row.now _ _ _ _ c.decide.ensures.numbers c.decide.ensures.leads
+    begun c.args.kind c.args.row.now _ _ _ _ c.decide.ensures.0 c.decide.ensures.1
     c.first_line-line.ensures c.least_of-least.ensures
 
 pub begin_spec : {M : Type 1} → statement M

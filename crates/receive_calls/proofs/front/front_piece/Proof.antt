@@ -85,16 +85,16 @@ take_piece_requires : tie.Need-take_piece-t-requires
 take_piece_requires c κs =
     let start = begun c.before.before.before.before.before in
     let asks = preamble_asks start.args.kind _ _ _ start.args.preamble.now c.preamble_count-n.ensures
-    c.preamble_chips-from.ensures start.pre.2 c.if-count-from.true in (
+    c.preamble_chips-from.ensures start.requires.2 c.if-count-from.true in (
       omega arith,
       asks.0,
       asks.1,
       asks.2,
       omega arith,
       omega arith,
-      start.pre.1,
-      start.pre.4,
-      start.pre.5,
+      start.requires.1,
+      start.requires.4,
+      start.requires.5,
     )
 
 keep_requires : tie.Need-keep-requires
@@ -118,16 +118,16 @@ take_piece_requires_2 : tie.Need-take_piece-t-requires-2
 take_piece_requires_2 c κs =
     let start = begun c.before.before.before.before.before in
     let asks = header_asks start.args.kind _ _ _ c.header_rate-rate.ensures c.preamble_chips-from.ensures
-    start.pre.0 in (
+    start.requires.0 in (
       c.if-count-from.false,
       asks.0,
-      omega (arith, start.pre.3),
+      omega (arith, start.requires.3),
       omega arith,
       asks.1,
       asks.2,
-      start.pre.1,
-      start.pre.4,
-      start.pre.5,
+      start.requires.1,
+      start.requires.4,
+      start.requires.5,
     )
 
 keep_requires_2 : tie.Need-keep-requires-2

@@ -14,7 +14,7 @@ returns_2 c =
     let a = c.args in
     passes_odd a.p _ a.rest.now a.left _ c.at_most-taken.ensures
     c.unusable_from-found.result _ c.if-before-ne0.false
-    c.unusable_from-found.ensures.answer c.number_of-bad.ensures c.advance-progress-2.ensures
+    c.unusable_from-found.ensures.0 c.number_of-bad.ensures c.advance-progress-2.ensures
 
 pub pass_spec : {M : Type 1} → statement M
 pass_spec =

@@ -14,10 +14,10 @@ hear_octets_requires : tie.Need-hear_octets-part-requires
 hear_octets_requires c κs =
     let start = begun c in
     let a = start.args in (
-      omega (arith, start.pre.0, length_hard a.row.now),
-      row_usable a.at _ a.row.now start.pre.0 start.pre.4,
-      start.pre.3,
-      symbols_few a.rate a.symbol _ _ start.pre.0 (omega (arith, start.pre.1)) start.pre.2,
+      omega (arith, start.requires.0, length_hard a.row.now),
+      row_usable a.at _ a.row.now start.requires.0 start.requires.4,
+      start.requires.3,
+      symbols_few a.rate a.symbol _ _ start.requires.0 (omega (arith, start.requires.1)) start.requires.2,
     )
 
 abbrev heard : tie.After-low-1 → tie.After-hear_octets-part
@@ -30,7 +30,7 @@ placed_requires c κs =
     let a = start.args in
     odd_moved a.rate a.at a.ear.phase _ call.hear-octets.result.heard.odd _
     call.hear-octets.ensures.line.place
-    (chips_few a.rate a.at _ _ start.pre.0 start.pre.1)
+    (chips_few a.rate a.at _ _ start.requires.0 start.requires.1)
 
 returns : tie.Need-returns
 returns c =
@@ -38,7 +38,7 @@ returns c =
     let start = begun call.before in
     let a = start.args in
     usable_heard a.rate a.at a.symbol a.ear a.row.now _ _ c.placed-odd.result _
-    call.hear-octets.ensures start.pre.4 c.placed-odd.ensures.answer c.placed-odd.ensures.few
+    call.hear-octets.ensures start.requires.4 c.placed-odd.ensures.0 c.placed-odd.ensures.1
 
 pub hear_usable_spec : {M : Type 1} → statement M
 hear_usable_spec =

@@ -28,12 +28,12 @@ started c = c.before.before.before.before
 
 usable : (c : tie.In-Nothing) → let a = (started c).args in
     first_unusable a.at (hard_recording a.row.now) ≡ none
-usable c = sym c.unusable_from-found.ensures.answer ∙ ap where_found c.in-Nothing.is
+usable c = sym c.unusable_from-found.ensures.0 ∙ ap where_found c.in-Nothing.is
 
 look_requires : tie.Need-look-looked-requires
 look_requires c κs =
     let start = started c.before.before in
-    let p = start.pre in
+    let p = start.requires in
     (omega (arith, p.0, chips_most start.args.rate), p.1, p.2, p.3, usable c.before.before)
 
 returns : tie.Need-returns-in-At
@@ -41,8 +41,8 @@ returns c =
     let start = begun c.before.before.before in
     let a = start.args in
     held_bad a.rate a.at a.ear a.h a.row.now _
-    (sym (ap where_found c.in-At.is) ∙ c.unusable_from-found.ensures.answer)
-    (rw c.in-At.is at c.unusable_from-found.ensures.few) start.pre.3
+    (sym (ap where_found c.in-At.is) ∙ c.unusable_from-found.ensures.0)
+    (rw c.in-At.is at c.unusable_from-found.ensures.1) start.requires.3
 
 returns_2 : tie.Need-returns-in-One
 returns_2 c =
@@ -56,7 +56,7 @@ other : (c : tie.In-Nothing) (x : Piece) → let a = (started c).args in octet_c
     → PartHeld a.rate a.at a.ear a.h a.row.now x
 other c x b s =
     let start = started c in
-    let a = start.args in held_other a.rate a.at a.ear a.h a.row.now x b (usable c) start.pre.3 s
+    let a = start.args in held_other a.rate a.at a.ear a.h a.row.now x b (usable c) start.requires.3 s
 
 returns_3 : tie.Need-returns-in-Two
 returns_3 c =

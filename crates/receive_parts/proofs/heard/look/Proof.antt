@@ -42,15 +42,15 @@ decide_requires : tie.Need-decide-requires invariant_loop decreases_loop
 decide_requires c κs =
     let start = begun c in
     let row = start.args.row.now in (
-      omega (arith, start.pre.0),
-      omega (arith, start.pre.1, length_hard row),
-      new_usable start.args.at start.args.h _ row refl start.pre.4 start.pre.1,
+      omega (arith, start.requires.0),
+      omega (arith, start.requires.1, length_hard row),
+      new_usable start.args.at start.args.h _ row refl start.requires.4 start.requires.1,
       search rules,
       search rules,
     )
 
 loop_holds : tie.Need-loop-l-init invariant_loop decreases_loop
-loop_holds c = (refl, looks_none _ _ _ _ (begun c).pre.3)
+loop_holds c = (refl, looks_none _ _ _ _ (begun c).requires.3)
 
 -- where the numbers were decided
 abbrev decided : tie.In-loop-l invariant_loop decreases_loop → tie.After-decide invariant_loop decreases_loop
@@ -59,7 +59,7 @@ decided c = c.before.before
 array_read_n : tie.Need-bounds-numbers-l invariant_loop decreases_loop
 array_read_n c =
     let start = begun (decided c).before in
-    omega (arith, start.pre.0, (decided c).decide.ensures.0.long)
+    omega (arith, start.requires.0, (decided c).decide.ensures.0.long)
 
 add_if1 : tie.Need-overflow_add-n invariant_loop decreases_loop
 add_if1 c =
@@ -67,26 +67,26 @@ add_if1 c =
     omega (
       arith,
       c.loop-l.invariant.1.small,
-      row_small start.args.row.now _ start.args.h _ refl start.pre.0
+      row_small start.args.row.now _ start.args.h _ refl start.requires.0
           (decided c).decide.ensures.0 c.loop-l.l c.loop-l-test.true,
     )
 
 -- a symbol of the octet is one of its eight
 add_t36 : tie.Need-overflow_add-odd invariant_loop decreases_loop
-add_t36 c = omega (arith, (begun (decided c).before).pre.0)
+add_t36 c = omega (arith, (begun (decided c).before).requires.0)
 
 mul_t37 : tie.Need-overflow_mul-odd invariant_loop decreases_loop
-mul_t37 c = omega (arith, (begun (decided c).before).pre.0)
+mul_t37 c = omega (arith, (begun (decided c).before).requires.0)
 
 add_t38 : tie.Need-overflow_add-odd-then-n-p-eq1 invariant_loop decreases_loop
 add_t38 c =
-    let start = begun (decided c).before in omega (arith, start.pre.0, start.pre.2)
+    let start = begun (decided c).before in omega (arith, start.requires.0, start.requires.2)
 
 returns : tie.Need-returns-then-n-p-eq1 invariant_loop decreases_loop
 returns c =
     let start = begun (decided c).before in
     let a = start.args in
-    let few = start.pre.0 in
+    let few = start.requires.0 in
     let d = (decided c).decide.ensures.0 in
     let l = c.loop-l.l in
     let b = c.loop-l-test.true in
@@ -97,14 +97,14 @@ returns c =
           (row_each a.row.now _ a.h _ refl few d l b) n c.if-n-p-eq1.true);
       last_is = λ z. found_place _ z;
       small = n;
-      odd_few = omega (arith, start.pre.0, start.pre.2);
+      odd_few = omega (arith, start.requires.0, start.requires.2);
     }
 
 loop_again : tie.Need-loop-l-preserved invariant_loop decreases_loop
 loop_again c =
     let start = begun (decided c).before in
     let a = start.args in
-    let few = start.pre.0 in
+    let few = start.requires.0 in
     let d = (decided c).decide.ensures.0 in
     let l = c.loop-l.l in
     let b = c.loop-l-test.true in
@@ -119,10 +119,10 @@ returns_2 : tie.Need-returns invariant_loop decreases_loop
 returns_2 c =
     let start = begun c in
     let a = start.args in
-    let few = start.pre.0 in
+    let few = start.requires.0 in
     let inv = c.loop-l.invariant.1 in
     let over = looks_all a.at (a.h / 11) a.last (new_words One a.h a.row.now) c.loop-l.l _ inv
-    (rw (row_long a.row.now _ a.h _ refl few c.decide.ensures.numbers) c.loop-l-test.false) in
+    (rw (row_long a.row.now _ a.h _ refl few c.decide.ensures.0) c.loop-l-test.false) in
     record { odd_is = sym over.0; last_is = λ z. sym over.1; small = inv.small; odd_few = tt }
 
 pub look_spec : {M : Type 1} → statement M

@@ -25,7 +25,7 @@ placed_requires c κs =
     unusable_moved start.args.at c.first_unusable-found.result (hard_recording row)
     (c.first_unusable-found.ensures
     ∙ ap (first_unusable 0) (take_all (length row - 0) (hard_recording row) (omega (arith, length_hard row))))
-    (omega (arith, length_hard row, start.pre))
+    (omega (arith, length_hard row, start.requires))
 
 returns : tie.Need-returns-then-largest-lt5
 returns c = (row_none c.args.at _ c.args.row.now c.largest.ensures c.if-largest-lt5.true, tt)
@@ -35,8 +35,8 @@ returns_2 c =
     let start = begun c.before.before in
     let row = start.args.row.now in (
       row_unusable start.args.at row c.first_unusable-found.result c.placed.result (length row - 0)
-          (omega arith) c.first_unusable-found.ensures c.placed.ensures.answer,
-      c.placed.ensures.few,
+          (omega arith) c.first_unusable-found.ensures c.placed.ensures.0,
+      c.placed.ensures.1,
     )
 
 pub unusable_from_spec : {M : Type 1} → statement M

@@ -41,8 +41,8 @@ returns c =
     let least = c.at_most-taken.ensures in
     joins_taken a.rate a.from a.first a.n a.count _ _ _ _ a.ear a.hold.now a.rest.now
     a.out.now c.join-piece.result _ _ c.join-piece.new.octet
-    c.octet_chips-chips.ensures c.octet_symbols-symbols.ensures (known c.before.before.before.before.before.before.before.before.before.before.before) start.pre.2
-    start.pre.6 start.pre.7 least.0 least.1 least.2 c.join-piece.ensures
+    c.octet_chips-chips.ensures c.octet_symbols-symbols.ensures (known c.before.before.before.before.before.before.before.before.before.before.before) start.requires.2
+    start.requires.6 start.requires.7 least.0 least.1 least.2 c.join-piece.ensures
     c.join-piece.auto.octet
 
 returns_2 : tie.Need-returns
@@ -51,7 +51,7 @@ returns_2 c =
     let a = start.args in
     heard_taken a.rate a.from a.first a.n a.count _ _ _ _ _ a.ear a.hold.now a.rest.now
     a.out.now c.hear_whole-piece.result c.hear_whole-piece.new.out
-    c.octet_chips-chips.ensures c.octet_symbols-symbols.ensures (known c.before.before.before.before.before.before.before) start.pre.2
+    c.octet_chips-chips.ensures c.octet_symbols-symbols.ensures (known c.before.before.before.before.before.before.before) start.requires.2
     c.whole_count-w.ensures
     (omega (arith, c.if-w-eq0.false))
     c.hear_whole-piece.ensures c.hear_whole-piece.auto.out
@@ -86,12 +86,12 @@ join_requires c κs =
     let least = c.at_most-taken.ensures in
     let chips = c.octet_chips-chips.ensures in (
       omega (arith, front_long c.at_most-taken.result a.rest.now least.0, least.1, (known c.before.before.before.before.before.before).part, chips),
-      part_long (octets c.before.before.before.before.before.before) 1 a.out.now (omega (arith, (known c.before.before.before.before.before.before).before, start.pre.2)),
-      start.pre.6,
-      omega (arith, chips_few c.before.before.before.before.before.before, start.pre.4),
-      omega (arith, symbols_few c.before.before.before.before.before.before, start.pre.5),
-      start.pre.7,
-      start.pre.8,
+      part_long (octets c.before.before.before.before.before.before) 1 a.out.now (omega (arith, (known c.before.before.before.before.before.before).before, start.requires.2)),
+      start.requires.6,
+      omega (arith, chips_few c.before.before.before.before.before.before, start.requires.4),
+      omega (arith, symbols_few c.before.before.before.before.before.before, start.requires.5),
+      start.requires.7,
+      start.requires.8,
     )
 
 -- the octets heard straight from the batch, and their chips
@@ -120,10 +120,10 @@ hear_whole_requires c κs =
     let row = front_long _ a.rest.now (straight_there c.before.before.before) in
     let lent = part_long (octets c.before.before.before.before) (straight c.before.before.before) a.out.now (straight_room c.before.before.before) in (
       row ∙ ap₂ {C = ℕ} (λ i j. i * j) c.octet_chips-chips.ensures (sym lent),
-      omega (arith, row, chips_few c.before.before.before.before, straight_few c.before.before.before, start.pre.4),
-      omega (arith, symbols_few c.before.before.before.before, start.pre.5),
-      start.pre.7,
-      start.pre.8,
+      omega (arith, row, chips_few c.before.before.before.before, straight_few c.before.before.before, start.requires.4),
+      omega (arith, symbols_few c.before.before.before.before, start.requires.5),
+      start.requires.7,
+      start.requires.8,
     )
 
 pub take_piece_spec : {M : Type 1} → statement M

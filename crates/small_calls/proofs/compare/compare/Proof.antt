@@ -19,11 +19,11 @@ list_payloads_requires c κs =
     let room' = length args.second.now in
     let lengths =
     lengths_are kind a b room room' c.read_hard-read_a.result c.read_hard-read_b.result c.if_both-n_a.result
-    c.if_both-n_b.result c.read_hard-read_a.ensures.answer c.read_hard-read_b.ensures.answer c.if_both-n_a.ensures
+    c.if_both-n_b.result c.read_hard-read_a.ensures.0 c.read_hard-read_b.ensures.0 c.if_both-n_a.ensures
     c.if_both-n_b.ensures in
     lengths_fit kind a b room room' c.if_both-n_a.result c.if_both-n_b.result c.read_hard-read_a.new.octets
-    c.read_hard-read_b.new.octets lengths.0 lengths.1 c.read_hard-read_a.ensures.octets
-    c.read_hard-read_b.ensures.octets
+    c.read_hard-read_b.new.octets lengths.0 lengths.1 c.read_hard-read_a.ensures.1
+    c.read_hard-read_b.ensures.1
 
 returns : tie.Need-returns
 returns c =
@@ -35,21 +35,21 @@ returns c =
     let room' = length args.second.now in
     let lengths =
     lengths_are kind a b room room' c.read_hard-read_a.result c.read_hard-read_b.result c.if_both-n_a.result
-    c.if_both-n_b.result c.read_hard-read_a.ensures.answer c.read_hard-read_b.ensures.answer c.if_both-n_a.ensures
+    c.if_both-n_b.result c.read_hard-read_a.ensures.0 c.read_hard-read_b.ensures.0 c.if_both-n_a.ensures
     c.if_both-n_b.ensures in
     let list =
     list_is kind a b room room' c.if_both-n_a.result c.if_both-n_b.result c.read_hard-read_a.new.octets
-    c.read_hard-read_b.new.octets lengths.0 lengths.1 c.read_hard-read_a.ensures.octets
-    c.read_hard-read_b.ensures.octets in (
+    c.read_hard-read_b.new.octets lengths.0 lengths.1 c.read_hard-read_a.ensures.1
+    c.read_hard-read_b.ensures.1 in (
       answer_is kind a b room room' c.read_hard-read_a.result c.read_hard-read_b.result c.if_both-n_a.result
           c.if_both-n_b.result c.list-chips_differ.result c.list_payloads-octets_differ.result
-          c.read_hard-read_a.ensures.answer c.read_hard-read_b.ensures.answer lengths.0 lengths.1
-          c.list-chips_differ.ensures.answer (c.list_payloads-octets_differ.ensures.answer ∙ ap length list),
+          c.read_hard-read_a.ensures.0 c.read_hard-read_b.ensures.0 lengths.0 lengths.1
+          c.list-chips_differ.ensures.0 (c.list_payloads-octets_differ.ensures.0 ∙ ap length list),
       (
-        c.list-chips_differ.ensures.row,
+        c.list-chips_differ.ensures.1,
         (
-          c.list_payloads-octets_differ.ensures.row ∙ ap (laid (length args.octets.now)) list,
-          (c.read_hard-read_a.ensures.octets, c.read_hard-read_b.ensures.octets),
+          c.list_payloads-octets_differ.ensures.1 ∙ ap (laid (length args.octets.now)) list,
+          (c.read_hard-read_a.ensures.1, c.read_hard-read_b.ensures.1),
         ),
       ),
     )

@@ -21,7 +21,7 @@ returns : tie.Need-returns
 returns c =
     let args = c.args in
     let list = c.list in
-    let same = fronts args.first.now args.second.now args.n args.m in (list.ensures.answer ∙ ap length same, list.ensures.row ∙ ap (laid (length args.row.now)) same)
+    let same = fronts args.first.now args.second.now args.n args.m in (list.ensures.0 ∙ ap length same, list.ensures.1 ∙ ap (laid (length args.row.now)) same)
 
 pub list_payloads_spec : {M : Type 1} → statement M
 list_payloads_spec =

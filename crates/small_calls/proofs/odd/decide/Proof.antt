@@ -15,7 +15,7 @@ decide_requires c κs = (
 )
 
 returns : tie.Need-returns
-returns c = c.decide.ensures.numbers
+returns c = c.decide.ensures.0
 
 pub decide_spec : {M : Type 1} → statement M
 decide_spec =

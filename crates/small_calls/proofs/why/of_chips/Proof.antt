@@ -45,16 +45,16 @@ odd : (c : tie.After-odd_in_payload-odd) → let a = (begun (searched c)).args i
     where_found c.odd_in_payload-odd.result
     ≡ payload_odd a.kind a.told.rate a.told.n (hard_recording a.chips.now)
 odd c =
-    let frame = (searched c).before.before.before.before.before in
+    let frame = (searched c).before in
     let s = begun (searched c) in
     let a = s.args in
     odd_is a.kind a.chips.now a.told c.odd_in_payload-odd.result frame.before.front-chips.ensures
-    s.pre.2 c.odd_in_payload-odd.ensures
+    s.requires.2 c.odd_in_payload-odd.ensures
 
 shared_slice_read_refused : tie.Need-bounds-chips-place
 shared_slice_read_refused c =
     let s = begun c.before.before.before.before in
-    unusable_there s.args.kind s.args.chips.now s.args.told s.pre.1 _
+    unusable_there s.args.kind s.args.chips.now s.args.told s.requires.1 _
     (sym (found c.before.before.before.before) ∙ ap where_found c.in-At.is)
 
 cast_refused : tie.Need-overflow_cast-chips
@@ -71,10 +71,10 @@ odd_in_payload_requires c κs =
     let s = begun c.before.before in
     let a = s.args in
     let front = c.front_chips-from.ensures in (
-      omega (arith, front, s.pre.1),
-      s.pre.3,
+      omega (arith, front, s.requires.1),
+      s.requires.3,
       rw front
-          (payload_usable a.kind a.chips.now a.told s.pre.1
+          (payload_usable a.kind a.chips.now a.told s.requires.1
           (sym (found c.before.before) ∙ ap where_found c.in_default.is)),
     )
 
@@ -83,11 +83,11 @@ growth_at_requires c κs =
     let s = begun (searched c.before.before.before) in
     let a = s.args in
     let is = sym (odd c.before.before.before) ∙ ap where_found c.in-At-odd.is in
-    let room = odd_room a.kind a.chips.now a.told s.pre.1 _ is in (
+    let room = odd_room a.kind a.chips.now a.told s.requires.1 _ is in (
       room.0,
       room.1,
-      odd_usable a.kind a.chips.now a.told s.pre.1
-          (sym (found (searched c.before.before.before)) ∙ ap where_found c.in_default.is) _ is s.pre.4,
+      odd_usable a.kind a.chips.now a.told s.requires.1
+          (sym (found (searched c.before.before.before)) ∙ ap where_found c.in_default.is) _ is s.requires.4,
     )
 
 returns_2 : tie.Need-returns-in-At-odd

@@ -69,27 +69,27 @@ begun c = c.before.before.before.before
 opened : (c : tie.After-told-opening) → let a = (begun c).args in
     Opens a.kind (hard_recording a.chips.now) (after_usable ours a.kind (hard_recording a.chips.now))
     c.told-opening.result
-opened c = let s = begun c in c.told-opening.ensures.answer (hard_recording s.args.chips.now) s.pre.1
+opened c = let s = begun c in c.told-opening.ensures.0 (hard_recording s.args.chips.now) s.requires.1
 
 growth_at_requires : tie.Need-growth_at-requires
 growth_at_requires c κs =
     let s = begun c.before.before.before.before.before.before in
     odd_front 0 s.args.kind s.args.chips.now s.args.room _
-    (sym (opened c.before.before.before.before.before.before).told ∙ c.in-Refused.is) _ _ c.in-OddGrowth.is s.pre.0.1 s.pre.0.2
+    (sym (opened c.before.before.before.before.before.before).told ∙ c.in-Refused.is) _ _ c.in-OddGrowth.is s.requires.0.1 s.requires.0.2
 
 returns : tie.Need-returns-in-OddGrowth
 returns c number =
     let s = begun c.before.before.before.before.before.before.before.before in
     front_odd_lem number s.args.kind s.args.chips.now s.args.room _
-    (sym (opened c.before.before.before.before.before.before.before.before).told ∙ c.in-Refused.is) (s.pre.0.0 ours) _ _ c.in-OddGrowth.is
+    (sym (opened c.before.before.before.before.before.before.before.before).told ∙ c.in-Refused.is) (s.requires.0.0 ours) _ _ c.in-OddGrowth.is
     c.growth_at.ensures c.refused.ensures
 
 returns_2 : tie.Need-returns-in_default
 returns_2 c number =
     let s = begun c.before.before.before.before.before in
     front_header number s.args.kind s.args.chips.now s.args.room _
-    (sym (opened c.before.before.before.before.before).told ∙ c.in-Refused.is) (s.pre.0.0 ours)
-    (not_odd c.in-Refused.e c.in_default.keys2) s.pre.1.sfd s.pre.1.header
+    (sym (opened c.before.before.before.before.before).told ∙ c.in-Refused.is) (s.requires.0.0 ours)
+    (not_odd c.in-Refused.e c.in_default.keys2) s.requires.1.sfd s.requires.1.header
     c.of_header.ensures
 
 -- a c that c
