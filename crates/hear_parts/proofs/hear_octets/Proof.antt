@@ -56,8 +56,8 @@ ends c =
     (omega (
       arith,
       h,
-      recording_fits a.rec a.row.now a.bytes.now a.i.now a.q.now (2 ^ 64) start.good.1.0.0
-          start.good.1.1.0.0 start.good.1.1.1.0.0,
+      recording_fits a.rec a.row.now a.bytes.now a.i.now a.q.now (2 ^ 64) start.well_formed.1.0.0
+          start.well_formed.1.1.0.0 start.well_formed.1.1.1.0.0,
     ))
 
 -- the numbers of its symbols
@@ -114,7 +114,7 @@ add_k c =
       fits = omega (
         arith,
         w.within,
-        (begun (turn c).before).good.1.1.1.1.1.1.1.1.1.1.0.0,
+        (begun (turn c).before).well_formed.1.1.1.1.1.1.1.1.1.1.0.0,
       );
     }
 

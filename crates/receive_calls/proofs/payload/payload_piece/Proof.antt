@@ -133,8 +133,8 @@ returns_5 c =
     let start = begun (less front).before in
     let a = start.args in
     way_part a.p a.kind a.rate a.hold.now a.octets.now a.rest.now start.requires.0 start.requires.1
-    _ call.take-piece.result c.keep-q.result _ _ _ _ front.front-chips.ensures (fits front).if-octets-n.left
-    (bad front).if-p-ne0.left (odd front).if-p-ne0-2.left call.take-piece.ensures c.keep-q.ensures
+    _ call.take-piece.result c.keep-q.result _ _ _ _ front.front-chips.ensures (fits front).if-octets-n.false
+    (bad front).if-p-ne0.false (odd front).if-p-ne0-2.false call.take-piece.ensures c.keep-q.ensures
     c.settle.ensures.0 c.settle.ensures.1
 
 octets_same : tie.Need-shape_of-octets

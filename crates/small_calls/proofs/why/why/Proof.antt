@@ -49,7 +49,7 @@ returns_2 c =
     let a = (begun c.before.before.before.before).args in
     let kind = known c.before.before.before.before in
     why_shorter a.kind a.chips.now a.room _
-    (passed kind.before.before.is_kind_lem.ensures kind.before.if1.left) kind.kind_of_lem.ensures
+    (passed kind.before.before.is_kind_lem.ensures kind.before.if1.false) kind.kind_of_lem.ensures
     (looked c.before.before.before.before c.in-Shorter.is ours) c.front_chips.ensures c.refused-in-Shorter.ensures
 
 returns_3 : tie.Need-returns-in-Unusable
@@ -57,7 +57,7 @@ returns_3 c =
     let a = (begun c.before.before.before.before.before).args in
     let kind = known c.before.before.before.before.before in
     why_unusable a.kind a.chips.now a.room _
-    (passed kind.before.before.is_kind_lem.ensures kind.before.if1.left) kind.kind_of_lem.ensures _
+    (passed kind.before.before.is_kind_lem.ensures kind.before.if1.false) kind.kind_of_lem.ensures _
     ((looked c.before.before.before.before.before c.in-Unusable.is).0 ours) c.refused-in-Unusable.ensures
 
 returns_4 : tie.Need-returns-in-Usable
@@ -65,7 +65,7 @@ returns_4 c =
     let a = (begun c.before.before.before.before).args in
     let kind = known c.before.before.before.before in
     why_told a.kind a.chips.now a.room _
-    (passed kind.before.before.is_kind_lem.ensures kind.before.if1.left) kind.kind_of_lem.ensures
+    (passed kind.before.before.is_kind_lem.ensures kind.before.if1.false) kind.kind_of_lem.ensures
     (c.of_front.ensures a.kind)
 
 pub why_spec : {M : Type 1} → statement M
