@@ -110,6 +110,8 @@ told_of (is_0 {service = service} lead symbol p t m u v) z =
 
 -- at a guide's rates, SERVICE without the clock bit is 0
 no_clock : {rate service : ℕ} → Rate1997 rate → ServiceOf rate service → service / 4 % 2 ≡ 0 → service ≡ 0
+no_clock y Rattle.promises.specs.Reasons.service_128 c = elim y [ ]
+no_clock y Rattle.promises.specs.Reasons.service_132 c = elim y [ ]
 no_clock y (service_0 rate) c = refl
 no_clock y (service_4 rate) c = absurd (omega arith)
 

@@ -50,6 +50,7 @@ each P v w x y z p (Memᴰ.head q) = subst P (sym q) v
 each P v w x y z p (Memᴰ.tail (Memᴰ.head q)) = subst P (sym q) w
 each P v w x y z p (Memᴰ.tail (Memᴰ.tail (Memᴰ.head q))) = subst P (sym q) x
 each P v w x y z p (Memᴰ.tail (Memᴰ.tail (Memᴰ.tail (Memᴰ.head q)))) = subst P (sym q) y
+each P {a = a} {b = b} {c = c} {d = d} {e = e} v w x y z p (Memᴰ.tail (Memᴰ.tail (Memᴰ.tail (Memᴰ.tail (Memᴰ.tail x21))))) = elim x21 [ ]
 each P v w x y z p (Memᴰ.tail (Memᴰ.tail (Memᴰ.tail (Memᴰ.tail (Memᴰ.head q))))) =
     subst P (sym q) z
 
@@ -131,6 +132,7 @@ full_rises least tag (suc k) h = (h, full_rises (suc tag) (suc tag) k (omega ari
 full_each : (P : Piece → Type 0) (m : ℕ)
     → ((t : ℕ) → t < m → P (record { tag = t; body = replicate 255 255 }))
     → (tag k : ℕ) → tag + k ≤ m → (p : Piece) → Memᴰ p (full tag k) → P p
+full_each P m f tag zero h p x'' = elim x'' [ ]
 full_each P m f tag (suc k) h p (Memᴰ.head q) = subst P (sym q) (f tag (omega arith))
 full_each P m f tag (suc k) h p (Memᴰ.tail q) = full_each P m f (suc tag) k (omega arith) p q
 

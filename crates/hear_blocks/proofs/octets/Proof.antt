@@ -56,7 +56,7 @@ returns c =
     let loop = c.loop-o in
     let a = c.args in
     let e : loop.o ≡ a.count = omega arith in
-    subst (λ (n : ℕ). take (n + 1) loop.raw ≡ tabulate (octet_after a.rate a.before a.t3) (n + 1)) e
+    subst (λ (n : ℕ). take (n + 1) loop.raw ≡ tabulate (octet_after a.rate a.before a.c) (n + 1)) e
     loop.invariant.1.front
 
 pub octets_spec : {M : Type 1} → statement M

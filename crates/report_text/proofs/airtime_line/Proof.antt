@@ -30,6 +30,4 @@ returns c = put_more 10 c.put_both-a.ensures (slice_write_out c)
 pub airtime_line_spec : {M : Type 1} → statement M
 airtime_line_spec =
     tie.close
-    (tie.spec
-    (λ c. search rules) put_both_requires slice_write_out (λ c. omega (arith, slice_write_out c))
-    (λ c. search rules) returns)
+    (tie.spec put_both_requires slice_write_out (λ c. omega (arith, slice_write_out c)) (λ c. search rules) returns)

@@ -43,6 +43,4 @@ returns_2 c =
 pub lead_line_spec : {M : Type 1} → statement M
 lead_line_spec =
     tie.close
-    (tie.spec
-    (λ c. search rules) put_word_requires (λ c. search rules) returns (λ c. search rules) (λ c. search rules)
-    put_line_requires (λ c. search rules) returns_2)
+    (tie.spec put_word_requires (λ c. search rules) returns put_line_requires (λ c. search rules) returns_2)

@@ -42,6 +42,4 @@ returns c =
 pub rate_line_spec : {M : Type 1} → statement M
 rate_line_spec =
     tie.close
-    (tie.spec
-    (λ c. search rules) put_both_requires (λ c. search rules) (λ c. search rules) put_line_requires
-    (λ c. search rules) returns)
+    (tie.spec put_both_requires put_line_requires (λ c. search rules) returns)

@@ -36,5 +36,4 @@ returns_2 c =
 pub refused_line_spec : {M : Type 1} → statement M
 refused_line_spec =
     tie.close
-    (tie.spec
-    returns (λ c. search rules) (λ c. search rules) put_line_requires (λ c. search rules) returns_2)
+    (tie.spec returns put_line_requires (λ c. search rules) returns_2)

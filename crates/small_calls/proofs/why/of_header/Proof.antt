@@ -80,43 +80,43 @@ module _ (k : Kind) (sfd header : List ℕ) where
 returns : tie.Need-returns-in-Sfd
 returns c =
     let a = c.args in
-    row_of a.kind (octet_bits a.t2) (octet_bits a.t3) a.e Sfd c.refused.ensures
+    row_of a.kind (octet_bits a.sfd) (octet_bits a.header) a.e Sfd c.refused.ensures
     c.in-Sfd.is c.sfd_of.ensures
-    (sfd_octets a.t2 (two c.before.before.before.before.before.before) c.both.ensures.0)
+    (sfd_octets a.sfd (two c.before.before.before.before.before.before) c.both.ensures.0)
 
 returns_2 : tie.Need-returns-in-Crc
 returns_2 c =
     let a = c.args in
-    row_of a.kind (octet_bits a.t2) (octet_bits a.t3) a.e Crc c.refused-in-Crc.ensures
+    row_of a.kind (octet_bits a.sfd) (octet_bits a.header) a.e Crc c.refused-in-Crc.ensures
     c.in-Crc.is c.crc_worked_out.ensures c.crc_read.ensures
 
 returns_3 : tie.Need-returns-in-Signal
 returns_3 c =
     let a = c.args in
-    row_of a.kind (octet_bits a.t2) (octet_bits a.t3) a.e (Signal _) c.refused-in-Signal.ensures
-    c.in-Signal.is refl (signal_row a.t3 (six c.before.before.before.before) (octets c.before.before.before.before))
+    row_of a.kind (octet_bits a.sfd) (octet_bits a.header) a.e (Signal _) c.refused-in-Signal.ensures
+    c.in-Signal.is refl (signal_row a.header (six c.before.before.before.before) (octets c.before.before.before.before))
 
 returns_4 : tie.Need-returns-in-Service
 returns_4 c =
     let a = c.args in
-    row_of a.kind (octet_bits a.t2) (octet_bits a.t3) a.e (Service _) c.refused-in-Service.ensures
+    row_of a.kind (octet_bits a.sfd) (octet_bits a.header) a.e (Service _) c.refused-in-Service.ensures
     c.in-Service.is refl
-    (service_row a.t3 (six c.before.before.before.before.before) (octets c.before.before.before.before.before) _ c.rate_of-r.ensures c.service_left.ensures)
+    (service_row a.header (six c.before.before.before.before.before) (octets c.before.before.before.before.before) _ c.rate_of-r.ensures c.service_left.ensures)
 
 returns_5 : tie.Need-returns-in-Length
 returns_5 c =
     let a = c.args in
-    row_of a.kind (octet_bits a.t2) (octet_bits a.t3) a.e (Length _) c.refused-in-Length.ensures
+    row_of a.kind (octet_bits a.sfd) (octet_bits a.header) a.e (Length _) c.refused-in-Length.ensures
     c.in-Length.is
-    (length_row a.t3 (six c.before.before.before.before.before.before) (octets c.before.before.before.before.before.before) _ c.rate_of-r.ensures _ c.both-length.ensures.0
+    (length_row a.header (six c.before.before.before.before.before.before) (octets c.before.before.before.before.before.before) _ c.rate_of-r.ensures _ c.both-length.ensures.0
     c.length_for-expected.ensures)
-    (micros_row a.t3 (six c.before.before.before.before.before.before) (octets c.before.before.before.before.before.before) _ c.both-length.ensures.0)
+    (micros_row a.header (six c.before.before.before.before.before.before) (octets c.before.before.before.before.before.before) _ c.both-length.ensures.0)
 
 returns_6 : tie.Need-returns-in_default
 returns_6 c =
     let a = c.args in
-    let row = nothing a.kind (octet_bits a.t2) (octet_bits a.t3) a.e c.in_default.keys6 in
-    row_of a.kind (octet_bits a.t2) (octet_bits a.t3) a.e a.e c.refused-in_default.ensures refl row.0
+    let row = nothing a.kind (octet_bits a.sfd) (octet_bits a.header) a.e c.in_default.keys6 in
+    row_of a.kind (octet_bits a.sfd) (octet_bits a.header) a.e a.e c.refused-in_default.ensures refl row.0
     row.1
 
 pub of_header_spec : {M : Type 1} → statement M
