@@ -18,7 +18,12 @@ import respell
 TAG = re.compile(r'^(\s*(?:--|//|#|/\*|\*)?\s*(?:for|with|code): )(.*)$')
 CODE = re.compile(r'`[^`\n]+`')
 WORD = re.compile(r"(?<![\w\-′'./])[A-Za-z_][\w\-′]*(?![\w\-′/]|\.antt|\.rt|\.edit)")
-MARKS = {'.antt': '--', '.rt': '//', '.rs': '//', '.c': '/*', '.h': '/*', '.cpp': '//', '.py': '#', '.sh': '#', '.txt': '#'}
+TAGGED = re.compile(r"(?<![\w\-′'])[A-Za-z_][\w\-′]*(?![\w\-′])")
+MARKS = {'.antt': '--', '.rt': '//', '.rs': '//', '.c': '/*', '.h': '/*', '.cpp': '//'}
+
+
+def git(*words):
+    return subprocess.run(['git', *words], capture_output=True, text=True, check=True).stdout
 
 
 def spelled():
@@ -27,11 +32,9 @@ def spelled():
         landed, ported = f.readline().strip(), f.readline().strip()
     old, between = set(), set()
     for commit, names in ((landed, old), (ported, between)):
-        paths = subprocess.run(['git', 'ls-tree', '-r', '--name-only', commit, 'crates'], capture_output=True, text=True,
-                               check=True).stdout.split('\n')
-        for path in (p for p in paths if p.endswith('.antt')):
-            text = subprocess.run(['git', 'show', f'{commit}:{path}'], capture_output=True, text=True, check=True).stdout
-            names.update(respell.DECLARED.findall(respell.code_of(text)))
+        for path in git('ls-tree', '-r', '--name-only', commit, 'crates').split('\n'):
+            if path.endswith('.antt'):
+                names.update(respell.DECLARED.findall(respell.code_of(git('show', f'{commit}:{path}'))))
     now = set()
     for path in respell.files():
         if path.endswith('.antt'):
@@ -49,8 +52,8 @@ def spelled():
     return found
 
 
-def turned(text, names):
-    return WORD.sub(lambda m: names.get(m[0], m[0]), text)
+def turned(text, names, word=WORD):
+    return word.sub(lambda m: names.get(m[0], m[0]), text)
 
 
 def recited(path, text, names):
@@ -62,7 +65,8 @@ def recited(path, text, names):
             out.append(CODE.sub(lambda m: turned(m[0], names), line))
             continue
         if path.endswith('.edit'):
-            out.append(TAG.sub(lambda m: m[1] + turned(m[2], names), line) if line.startswith('for: ') else line)
+            tagged = line.startswith('for: ')
+            out.append(TAG.sub(lambda m: m[1] + turned(m[2], names, TAGGED), line) if tagged else line)
             continue
         head = line.find(mark)
         at = 0 if inside else head
@@ -72,7 +76,7 @@ def recited(path, text, names):
             continue
         before, comment = line[:at], line[at:]
         tag = TAG.match(comment)
-        comment = tag[1] + turned(tag[2], names) if tag else CODE.sub(lambda m: turned(m[0], names), comment)
+        comment = tag[1] + turned(tag[2], names, TAGGED) if tag else CODE.sub(lambda m: turned(m[0], names), comment)
         out.append(before + comment)
     return '\n'.join(out)
 

@@ -241,11 +241,11 @@ families! {
     903 bytes::exchanged_bytes: "I and Q exchanged, negated, a byte late, and frames turned by an eighth",
     // for: ReadBytes, NoByteUnusable
     904 bytes::random_bytes: "bytes at random over all of the recording, the header or the payload",
-    // for: ToldAlike, RefusedAlike, reads_on, ReadFront.answer, FrontTold, Handed.chips-are, HandedPart
+    // for: ToldAlike, RefusedAlike, reads_on, ReadFront.answer, FrontTold, Handed.chips_are, HandedPart
     1001 coming::coming_rooms: "what is coming beside full reads with room 0, n - 1, n and 4,095, refused and not",
     // for: FrontOnly, SentTold, front_same
     1002 coming::payloads_not_looked_at: "recordings alike in the front, with any octets as the payload's chips",
-    // for: FrontTold, SentTold, ReadFront.answer, Handed.chips-are, HandedPart
+    // for: FrontTold, SentTold, ReadFront.answer, Handed.chips_are, HandedPart
     1003 coming::coming_every_n: "what is coming up to 4,095 octets, whole, cut and with chips behind",
     // for: FrontRefused, RefusedAlike, ReadFront.answer
     1004 coming::coming_any_octets: "what is coming in octets at random and in frames cut anywhere, by any kind",
