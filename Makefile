@@ -18,7 +18,7 @@ DOCDIR ?= $(PREFIX)/share/doc/dsss
 export PREFIX INCLUDEDIR LIBDIR BINDIR DOCDIR DESTDIR
 
 # All that is proved: a touched proof is proved again.
-PROVED := crates.txt $(shell find crates -name '*.rt' -o -name '*.antt')
+PROVED := crates.txt $(shell find crates -name out -prune -o \( -name '*.rt' -o -name '*.antt' \) -print)
 
 .PHONY: demo test edits-alone help clean month compare wrong bench instructions archives crc third-party faults install
 .PHONY: uninstall packages demo-packages install-look
@@ -38,14 +38,14 @@ test: ## everything that must pass; its last line is 'N passed, 0 failed'
 
 # Every edit alone and from nothing; the gate tries them together.
 edits-alone: ## tries every edit alone and from nothing, 20 minutes of processor time
-	rt check
+	rt all check
 	python3 scripts/refused.py --alone
 
 help: ## this list
 	awk -F ':.*## ' '/^[a-z-]+:.*## / { printf "make %-14s %s\n", $$1, $$2 }' Makefile
 
 clean: ## removes all that was proved and built
-	rm -rf target
+	rm -rf target crates/*/out
 
 # The program month over recordings of every sort, held to what is stored.
 month: $(OUT)/month $(OUT)/month_half ## runs the program month over files, and compares what it says with what is stored

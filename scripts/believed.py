@@ -29,7 +29,7 @@ HEAD = '| File | Lines | Calls | Promises | Working |\n|---|---|---|---|---|\n'
 
 def stripped(name):
     """A name as it stands in a text: an operator without its places."""
-    return name.strip('_')
+    return name.strip('◌')
 
 
 class Spec:
@@ -87,7 +87,7 @@ def imports(text):
 
 def file_of(module):
     """The file of definitions that a module is, or None."""
-    match = re.fullmatch(r'Rattle·(\w+)(?:·specs)?\.specs\.(\S+)', module)
+    match = re.fullmatch(r'Rattle\.(\w+)\.specs\.(\S+)', module)
     return f'crates/{match[1]}/specs/' + match[2].replace('.', '/') + '.antt' if match else None
 
 
@@ -126,7 +126,7 @@ def contracts(tree, specs):
     found = set()
     for path in tree.matching(r'crates/dsss/src/.*\.rt'):
         text = tree.text(path)
-        for clause in re.findall(r'\bensures\b[^⌜]*⌜([^⌝]*)⌝', text):
+        for clause in re.findall(r'\bensures\b[^{]*\{([^}]*)\}', text):
             found |= named(specs, path, imports(text), words([clause]))
     return found
 
@@ -185,22 +185,22 @@ def checked(root):
 
 # ---- the script tried on a small tree
 
-LOW = ('-- Numbers.\nuse Prim.Nat.{ℕ}\n\n-- twice\nabbrev pub twice : ℕ → ℕ\ntwice n = n + n\n\n'
+LOW = ('-- Numbers.\nuse Rattle.std.specs.Prelude.{ℕ}\n\n-- twice\nabbrev pub twice : ℕ → ℕ\ntwice n = n + n\n\n'
        'pub record Even (n : ℕ) : Type 0 where\n  pub half : ℕ\n  pub is : n ≡ twice half\n\n'
        '-- working notion: of the loop\nabbrev pub step : ℕ → ℕ\nstep n = n\n\n'
-       'unfoldable pub _⊕_ : ℕ → ℕ → ℕ\na ⊕ b = a\n')
+       'unfoldable pub ◌⊕◌ : ℕ → ℕ → ℕ\na ⊕ b = a\n')
 SMALL = {
     'docs/PROMISES.md': ''.join(promises.marks('definitions')).replace('promises.py', 'believed.py'),
     'crates.txt': 'low:\npromises: low\ndsss: promises\n',
     'crates/low/specs/Low.antt': LOW,
     'crates/low/specs/Loop.antt': '-- The loop.\n-- working notion: of the loop\n\n'
                                   'pub data At : Type 0 where\n  at : At\n',
-    'crates/promises/specs/Calls.antt': 'use Rattle·low.specs.Low.{Even}\n\npub record Wrote (n : ℕ) : Type 0 where\n'
+    'crates/promises/specs/Calls.antt': 'use Rattle.low.specs.Low.{Even}\n\npub record Wrote (n : ℕ) : Type 0 where\n'
                                         '  pub answer : Even n\n',
-    'crates/promises/specs/Promises.antt': 'use Rattle·low.specs.Low.{_⊕_}\n\n-- promise: It is one\n-- rule: 2.1\n'
+    'crates/promises/specs/Promises.antt': 'use Rattle.low.specs.Low.{◌⊕◌}\n\n-- promise: It is one\n-- rule: 2.1\n'
                                            'abbrev pub One : Type 0\nOne = 1 ⊕ 0 ≡ 1\n',
-    'crates/dsss/src/lib.rt': 'ghost use Rattle·promises.specs.Calls.{Wrote};\n'
-                              'pub extern "C" fn dsss(n: u64)\n    ensures wrote { λ w. ⌜ Wrote n ⌝ }\n',
+    'crates/dsss/src/lib.rt': 'ghost use Rattle.promises.specs.Calls.{Wrote};\n'
+                              'pub extern "C" fn dsss(n: u64)\n    ensures wrote { Wrote n }\n',
 }
 WRONG = [
     ('crates/low/specs/Low.antt', '-- working notion: of the loop\n', '', 'step: no promise reaches it'),

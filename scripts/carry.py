@@ -5,8 +5,10 @@
 
 FOLDER holds crates/, a folder a crate, and may hold crates.txt and patches of the tree. The table of the first file,
 "What became what", says which crate was renamed, which became a module of another, which file moved, and which type or
-definition has another name. Files are moved and rewritten in place, so work on a copy; `rt fmt` puts the layout right
-afterwards. Names are all that is rewritten: a patch may still not apply, and a proof may still want work.
+definition has another name. It reads paths as today's Rattle writes them: what is in an older form is brought over
+first, by the kit's `port.py` and by tools/respell.py. Files are moved and rewritten in place, so work on a copy; `rt
+fmt` puts the layout right afterwards. Names are all that is rewritten: a patch may still not apply, and a proof may
+still want work.
 """
 import os
 import re
@@ -14,8 +16,8 @@ import shutil
 import sys
 
 ROW = re.compile(r'^\| `([^`]+)` \| `([^`]+)` \| (renamed|joined|moved|named) \|', re.M)
-CITED = re.compile(r'Rattle·([a-z_0-9]+)(·specs|·proofs)?\.(specs|proofs)\.([\w·]+)')
-STACKED = re.compile(r'^([ +-]?)([a-z_0-9]+):((?: [a-z_0-9]+)*)$', re.M)
+CITED = re.compile(r'\bRattle\.([a-z_0-9]+)\.(specs|proofs)\.(\w+)')
+STACKED = re.compile(r'^([ +-]?)([a-z_0-9]+)( staticlib)?:((?: [a-z_0-9]+)*)$', re.M)
 TAGGED = re.compile(r'^(\s*(?:--|//|#)? ?(?:with|for): )(.*)$', re.M)
 TEXTS = ('.antt', '.rt', '.edit', '.md', '.patch', '.diff')
 
@@ -30,11 +32,11 @@ def worded(a, b):
     """How a file shows that it uses a type, CRATE::NAME, or what a file declares, CRATE/FILE.NAME; the old name and the
     new one."""
     old, new = re.split(r'::|\.', a)[-1], re.split(r'::|\.', b)[-1]
-    name = r'(?<![\w\-′])%s(?![\w\-′])' % re.escape(old)
+    name = r"(?<![\w\-'])%s(?![\w\-'])" % re.escape(old)
     if '::' in a:
         crate = a.split('::')[0]
-        return re.compile(r'Rattle·%s(·specs)?\.specs\.declared\.%s|\b%s::%s' % (crate, name, crate, name)), name, new
-    cited = r'Rattle·%s(·\w+)?\.%s\.%s\.' % placed(a.rsplit('.', 1)[0])
+        return re.compile(r'\bRattle\.%s\.specs\.declared\.%s|\b%s::%s' % (crate, name, crate, name)), name, new
+    cited = r'\bRattle\.%s\.%s\.%s\.' % placed(a.rsplit('.', 1)[0])
     return re.compile(r'%s\{[^}]*%s' % (cited, name)), name, new
 
 
@@ -54,18 +56,16 @@ class Names:
         name = self.joined.get(name, [name])[0]
         return self.crates.get(name, name)
 
-    def cited(self, own, match):
-        """A citation of a module, in a file of the crate `own`, if that is known: a crate cites its own modules by
-        another path."""
-        crate, inner, part, first = match.groups()
+    def cited(self, match):
+        """A citation of a module."""
+        crate, part, first = match.groups()
         if (crate, part, first) in self.files:
             crate, part, first = self.files[crate, part, first]
         elif crate in self.joined and part == 'proofs' and first[0].islower():
             first = f'{self.joined[crate][1]}.{first}'
         elif crate in self.joined and first == 'declared':
             first = f'declared.{self.joined[crate][1]}'
-        crate = self.crate(crate)
-        return f'Rattle·{crate}{f"·{part}" if (crate == own if own else inner) else ""}.{part}.{first}'
+        return f'Rattle.{self.crate(crate)}.{part}.{first}'
 
     def called(self, own, match):
         """The path before a function's name: a crate, or a module of the crate `own`."""
@@ -76,15 +76,15 @@ class Names:
 
     def stacked(self, match):
         """A line of crates.txt, in a patch."""
-        needs = dict.fromkeys(self.crate(name) for name in match[3].split())
-        return f'{match[1]}{self.crate(match[2])}: {" ".join(needs)}'.rstrip()
+        needs = dict.fromkeys(self.crate(name) for name in match[4].split())
+        return f'{match[1]}{self.crate(match[2])}{match[3] or ""}: {" ".join(needs)}'.rstrip()
 
     def of_crate(self, own, text):
         """The text of a file of the crate `own`, or of one that is of no crate."""
         for used, name, new in self.named:
             if used.search(text):  # not in comments, which may mean something else by the word
                 text = re.sub(r'^(?:(?!--|//).)+', lambda m: re.sub(name, new, m[0]), text, flags=re.M)
-        text = CITED.sub(lambda m: self.cited(own, m), text)
+        text = CITED.sub(self.cited, text)
         text = self.call.sub(lambda m: self.called(own, m), text)
         text = self.path.sub(lambda m: 'crates/' + self.crate(m[1]), text)
         text = TAGGED.sub(lambda m: m[1] + re.sub(r'\b(\w+)/', lambda c: self.crate(c[1]) + '/', m[2]), text)
@@ -177,10 +177,11 @@ def join_crates(folder, names):
 def rewrite_stack(path, names):
     """crates.txt: names, and what a joined crate needed goes to its user."""
     lines = read(path).split('\n')
-    stack = {line.split(':')[0].strip(): line.split(':')[1].split() for line in lines if ':' in line and line[0] != '#'}
+    stack = {line.split(':')[0].split()[0]: line.split(':')[1].split()
+             for line in lines if ':' in line and line[0] != '#'}
     out = []
     for line in lines:
-        name = line.split(':')[0].strip()
+        name, kind = (*line.split(':')[0].split(), '', '')[:2]
         if line[:1] == '#' or name not in stack:
             out.append(line)
             continue
@@ -189,7 +190,7 @@ def rewrite_stack(path, names):
         needs = stack[name] + [d for a, (b, _) in names.joined.items() if b == name for d in stack.get(a, [])]
         kept = dict.fromkeys(names.crate(d) for d in needs)
         kept.pop(names.crate(name), None)
-        out.append(f'{names.crate(name)}: {" ".join(kept)}'.rstrip())
+        out.append(f'{names.crate(name)}{" " * bool(kind)}{kind}: {" ".join(kept)}'.rstrip())
     write(path, '\n'.join(out))
 
 

@@ -1,7 +1,7 @@
 #!/usr/bin/env python3
 """imports.py: names that a file of Rattle or antt brings in and does not use. With --mend it takes them out.
 
-A name counts as used where it stands in the file outside its import; an operator, as _+_, where its sign stands.
+A name counts as used where it stands in the file outside its import; an operator, as ◌+◌, where its sign stands.
 """
 import os
 import re
@@ -25,15 +25,16 @@ def rest_of(text):
 
 def used(name, text):
     """Whether a name, or the sign of an operator, stands in the text."""
-    if name.startswith('_') or name.endswith('_'):
-        return all(part in text for part in name.split('_') if part)
-    return re.search(r"(?<![\w\-′·.])%s(?![\w\-′])" % re.escape(name), text) is not None
+    if '◌' in name:
+        return all(part in text for part in name.split('◌') if part)
+    return re.search(r"(?<![\w\-'.])%s(?![\w\-'])" % re.escape(name), text) is not None
 
 
-def line_of(start, path, names, end):
-    one = f'{start}{path}.{{{", ".join(names)}}}{end}\n'
-    if len(one) <= 121:
-        return one
+def import_of(match, names):
+    """An import of these names, on one line or a name a line, as it was; `rt fmt` does the rest."""
+    start, path, listed, end = match.groups()
+    if '\n' not in listed:
+        return f'{start}{path}.{{{", ".join(names)}}}{end}\n'
     return f'{start}{path}.{{\n' + ''.join(f'  {n},\n' for n in names) + f'}}{end}\n'
 
 
@@ -54,7 +55,7 @@ def main():
             count += len(names) - len(good)
             if not mend:
                 print(f'imports.py: {path}: {match.group(2)}: {", ".join(n for n in names if n not in good)}')
-            return line_of(match.group(1), match.group(2), good, match.group(4)) if good else ''
+            return import_of(match, good) if good else ''
 
         changed = IMPORT.sub(kept, text)
         if mend and changed != text:

@@ -146,15 +146,14 @@ def reached(items, imports):
         if item in live:
             continue
         live.add(item)
-        body = re.sub('⌜[^⌝]*⌝', ' ', item.body)
-        for path, bracket in WORD.findall(body):
+        for path, bracket in WORD.findall(item.body):
             if '::' not in path and not bracket and not path.isupper():
                 continue
             for place in places(item.crate, item.module, path, imports, crates):
                 todo += by_place.get(place, [])
                 if place[2]:
                     todo += by_owner.get((item.owner if place[2] == 'Self' else place[2], place[3]), [])
-        for name in METHOD.findall(body):
+        for name in METHOD.findall(item.body):
             todo += by_method.get(name, [])
     return live
 
@@ -171,11 +170,11 @@ def faults_of(items, imports, dead, silent):
 
 
 GOOD = {('low', ''): 'mod deep;\npub use deep::passed;\npub const USED: u8 = 1;\n'
-                     'pub fn low(x: u8) -> u8\n    ensures a { λ r. ⌜ r ≡ {x} dead ⌝ }\n'
+                     'pub fn low(x: u8) -> u8\n    ensures a { result ≡ {x} dead }\n'
                      '{ helper(x) + USED } // dead()\nfn helper(x: u8) -> u8 { match x { _ => b"}dead()"[0] } }\n',
         ('low', 'deep'): 'pub fn passed() ensures a { b } { }\n'
-                         'impl Rate { pub fn code(self) -> u8 ensures a { ⌜ b ⌝ } { 1 } }',
-        ('top', ''): 'use low::deep::Rate;\n#[no_mangle]\npub extern "C" fn top() -> u8\n'
+                         'impl Rate { pub fn code(self) -> u8 ensures a { c } { 1 } }',
+        ('top', ''): 'use low::deep::Rate;\n#[unsafe(no_mangle)]\npub extern "C" fn top() -> u8\n'
                      '    requires { x }\n    ensures a { y }\n{ low::passed(); low::low(3) + Rate::code(4) }\n'}
 WRONG = [
     (('low', ''), 'fn helper', 'fn dead() {}\nfn helper', 'low::dead: nothing reaches it'),
@@ -183,7 +182,7 @@ WRONG = [
     (('top', ''), 'low::low(3) + ', '', 'low::low: nothing reaches it'),
     (('top', ''), 'low::passed(); ', '', 'low::deep::passed: nothing reaches it'),
     (('top', ''), ' + Rate::code(4)', '', 'low::deep::Rate::code: nothing reaches it'),
-    (('low', 'deep'), 'ensures a { ⌜ b ⌝ } ', '', 'low::deep::Rate::code: public, and nothing says what it answers'),
+    (('low', 'deep'), 'ensures a { c } ', '', 'low::deep::Rate::code: public, and nothing says what it answers'),
 ]
 
 

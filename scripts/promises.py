@@ -9,7 +9,7 @@ A statement, law, contract or refusal is tagged in the comment lines directly ab
     -- promise: what it promises, in words; they may go on in the next comment line
     -- rule: 1.4 (1), 6.8 to 6.10        rules of docs/RULES.md; 6.4 (9) is refusal 9, 1.4 (3) demand 3
     -- code: usable, dsss::dsss_find     the functions that it is about (optional; with their crate where two have one)
-    -- with: no-other, isKind            more statements or definitions of the same row (optional)
+    -- with: no_other, is_kind           more statements or definitions of the same row (optional)
     -- no test: why none can show it     (optional), and `no edit:` likewise
 
 A field of a record is named RECORD.FIELD; two of one name are told apart as CRATE/NAME. In a .c file of programs/ the
@@ -343,7 +343,7 @@ def listed_cell(things, why):
 def order_of(tree):
     """The crates, bottom first."""
     text = tree.text('crates.txt') if 'crates.txt' in tree.paths else ''
-    return [line.split(':')[0].strip() for line in text.split('\n') if ':' in line and not line.startswith('#')]
+    return [line.split(':')[0].split()[0] for line in text.split('\n') if ':' in line and not line.startswith('#')]
 
 
 def tables_of(tree, rows):
@@ -427,12 +427,12 @@ def check_words(tree, text):
     names = {p.split('/')[1] for p in tree.paths if p.startswith('crates/')}
     names.update(os.path.basename(p)[:-5] for p in tree.paths if p.endswith('.edit'))
     for path in tree.matching(r'(?:crates|include)/.*\.(?:rt|antt|h)'):
-        names.update(re.findall(r"[\w\-′₀-₉]+", tree.text(path)))
+        names.update(re.findall(r"[\w\-'₀-₉]+", tree.text(path)))
     for number, line in by_hand(text):
         for quoted in re.findall(r'`([^`]+)`', line):
             if '/' in quoted and not os.path.exists(os.path.join(tree.root, quoted)):
                 tree.fault(f'{DOCUMENT}:{number}', f'no file {quoted}')
-            elif re.fullmatch(r"[\w\-′]+", quoted) and quoted not in names:
+            elif re.fullmatch(r"[\w\-']+", quoted) and quoted not in names:
                 tree.fault(f'{DOCUMENT}:{number}', f'no name {quoted} in the tree')
 
 
@@ -467,9 +467,9 @@ SMALL = {
                      '6.4 Places.\n\n| No. | When |\n|---|---|\n| 1 | no kind |\n\n6.5 SYNC.\n',
     'docs/PROMISES.md': 'See `Good`.\n\n' + ''.join('\n\n'.join(marks(t)) for t in TABLES),
     'crates.txt': 'low:\npromises: low\n',
-    'crates/low/src/lib.rt': '// promise: The kind is none\n// rule: 6.4 (1)\n// with: isKind\n    NoKind,\n\n'
+    'crates/low/src/lib.rt': '// promise: The kind is none\n// rule: 6.4 (1)\n// with: is_kind\n    NoKind,\n\n'
                              '// promise: The answer\n// rule: 2.1\n#[inline]\npub fn leaf() -> u8\n',
-    'crates/low/specs/Kinds.antt': 'abbrev pub isKind : ℕ → Bool\nisKind = cond\n\n-- promise: Twice\n-- rule: 2.1\n'
+    'crates/low/specs/Kinds.antt': 'abbrev pub is_kind : ℕ → Bool\nis_kind = cond\n\n-- promise: Twice\n-- rule: 2.1\n'
                                    'abbrev pub Same : Type 0\n',
     'crates/dsss/proofs/Kinds.antt': '-- promise: Twice too\n-- rule: 2.1\npub Same : Type 0\n',
     'crates/dsss/src/lib.rt': 'pub extern "C" fn dsss_call(kind: u64)\n',
@@ -491,7 +491,7 @@ WRONG = [
     ('docs/RULES.md', '| 1 | no kind |', '| 1 | no kind |\n| 2 | no rate |', 'no promise has rule 6.4 (2)'),
     ('docs/RULES.md', '(1) Ends.', '(1) Ends. (2) Reads.', 'no promise has rule 1.4 (2)'),
     ('crates/low/src/lib.rt', 'rule: 2.1', 'rule: 2.2', 'rule: 2.2, which docs/RULES.md does not have'),
-    ('crates/low/src/lib.rt', 'with: isKind', 'with: isNone', 'with: isNone, which no file declares'),
+    ('crates/low/src/lib.rt', 'with: is_kind', 'with: is_none', 'with: is_none, which no file declares'),
     ('crates/low/src/lib.rt', '#[inline]\npub fn', '\npub fn', 'a promise above nothing that is declared'),
     ('crates/promises/specs/Calls.antt', 'code: dsss_call', 'code: dsss_gone', 'dsss_gone, which no crate has'),
     ('crates/promises/specs/Promises.antt', ': Ends\n', ': Ends\n  pub more : More\n', 'More is promised and has no'),

@@ -1,17 +1,25 @@
 #!/usr/bin/env bash
-# staticlib.sh NAME: proves the crates that NAME stands on, side by side, then NAME itself, and builds
-# target/staticlib/libNAME.a. It says how many crates of how many are proved as it goes. All that rt says stands in
-# target/staticlib.NAME.log, and is shown if something fails.
+# staticlib.sh NAME: proves NAME and the crates that it stands on, side by side, and builds target/staticlib/libNAME.a.
+# It says how many crates of how many are proved as it goes. All that rt says stands in target/staticlib.NAME.log, and
+# is shown if something fails. RT_JOBS says how many crates are proved at a time; if it is not set, there is one for
+# each processor, as far as memory goes.
 set -euo pipefail
 cd "$(dirname "$0")/.."
 name=$1
-mkdir -p target
-log=target/staticlib.$name.log
+mkdir -p target/staticlib
+log=$PWD/target/staticlib.$name.log archive=target/staticlib/lib$name.a
 : >"$log"
 
-# The crates below NAME, by crates.txt, in its order.
-below=$(awk -F: -v name="$name" '
-    /^[a-z_0-9]+:/ { order[++many] = $1; below[$1] = $2 }
+at_a_time() { # at_a_time: a processor and 2.5 GB for each
+    awk -v cores="$(nproc)" '/^MemAvailable:/ {
+        room = int($2 / 2500000)
+        print room < 1 ? 1 : room < cores ? room : cores
+    }' /proc/meminfo
+}
+
+# NAME and the crates below it, by crates.txt.
+all=$(awk -F: -v name="$name" '
+    /^[a-z_0-9]+( staticlib)? *:/ { split($1, words, " "); order[++many] = words[1]; below[words[1]] = $2 }
     END {
         wanted[name] = 1
         for (k = many; k > 0; k--)
@@ -19,18 +27,12 @@ below=$(awk -F: -v name="$name" '
                 count = split(below[order[k]], words, " ")
                 for (w = 1; w <= count; w++) wanted[words[w]] = 1
             }
-        for (k = 1; k <= many; k++) if (wanted[order[k]] && order[k] != name) printf " %s", order[k]
+        for (k = 1; k <= many; k++) found += wanted[order[k]]
+        print found
     }' crates.txt)
-all=$(($(wc -w <<<"$below") + 1))
 
-told() { # told: from what rt says, a line for each crate as it is proved, and how many they are
-    awk -v all="$all" '
-        /^rt: [a-z_0-9]+ proved/ {
-            sub(/^rt: /, "")
-            sub(/unchanged since it was last proved/, "as before")
-            printf "  %2d of %d: %s\n", ++done, all, $0
-            fflush()
-        }'
+told() { # told: from what rt says, a line for each crate once its check has ended
+    awk -v all="$all" '/^== [a-z_0-9]+$/ && $2 != "summary" { printf "  %2d of %d: %s\n", ++done, all, $2; fflush() }'
 }
 
 fail() {
@@ -38,13 +40,11 @@ fail() {
     exit 1
 }
 
-# rt waits for all the checks that it started together: twice as many as cores leave no core idle meanwhile
-RT_JOBS=${RT_JOBS:-$((2 * $(nproc)))}
-export RT_JOBS
+RT_JOBS=${RT_JOBS:-$(at_a_time)}
 echo "proving $all crates, $RT_JOBS at a time: minutes where they are not proved yet, seconds where they are"
-# shellcheck disable=SC2086 # a list of names
-rt check $below 2>&1 | tee -a "$log" | told || fail
+# in the crate's own folder `rt all` takes it and those below it, and no other
+(cd "crates/$name" && rt all check --jobs "$RT_JOBS" 2>&1) | tee -a "$log" | told || fail
 began=$SECONDS
-rt staticlib "$name" >>"$log" 2>&1 || fail
-printf '  %2d of %d: %s proved, and built into target/staticlib/lib%s.a (%d s)\n' \
-    "$all" "$all" "$name" "$name" $((SECONDS - began))
+(cd "crates/$name" && rt lib) >>"$log" 2>&1 || fail
+cp "crates/$name/out/lib$name.a" "$archive"
+printf '  %s is built, of %d proved crates (%d s)\n' "$archive" "$all" $((SECONDS - began))

@@ -1,8 +1,9 @@
 #!/usr/bin/env python3
 """tree.py: holds the text of the tree to its own rules.
 
-- lines of Rattle, antt, C, Rust, scripts (a file that starts with #! is one) and documents are at most 120 characters
-  wide; a table of a document may be wider;
+- lines of C, Rust, scripts (a file that starts with #! is one) and documents are at most 120 characters wide; a table
+  of a document may be wider. Code of Rattle and antt is as wide as `rt fmt` leaves it, which `rt ci` asks for; lines
+  that are a comment there are at most 125;
 - a Rattle file has at most 250 lines, a definitions file 250, a proof file 400;
 - no tracked file holds a path of a machine;
 - crates.txt names just those crates that a crate uses;
@@ -29,9 +30,9 @@ def tracked():
 def limits(path, text):
     """Widest line and most lines allowed, or None."""
     if path.endswith('.rt'):
-        return 120, 250
+        return 125, 250
     if path.endswith('.antt'):
-        return 120, 250 if '/specs/' in path else 400
+        return 125, 250 if '/specs/' in path else 400
     if path.endswith(('.c', '.h', '.cpp', '.rs', '.py', '.sh', '.md')) or text.startswith('#!'):
         return 120, 1000
     return None
@@ -47,9 +48,10 @@ def check_sizes(path, text):
     if not allowed:
         return
     width, most = allowed
-    lines = text.split('\n')
+    lines, laid_out = text.split('\n'), path.endswith(('.rt', '.antt'))
     for number, line in enumerate(lines, 1):
-        if len(line) > width and not line.startswith('|'):
+        free = not line.lstrip().startswith(('--', '//')) if laid_out else line.startswith('|')
+        if len(line) > width and not free:
             faults.append(f'{path}:{number}: {len(line)} characters, more than {width}')
     if len(lines) - 1 > most:
         faults.append(f'{path}: {len(lines) - 1} lines, more than {most}')
@@ -78,7 +80,7 @@ def check_mode(path, text):
 def stack():
     """The crates of crates.txt with those that each names."""
     lines = [line.split(':') for line in text_of('crates.txt').split('\n') if ':' in line and line[0] != '#']
-    return {name.strip(): deps.split() for name, deps in lines}
+    return {name.split()[0]: deps.split() for name, deps in lines}
 
 
 def check_crates():
@@ -88,7 +90,7 @@ def check_crates():
         text = '\n'.join(re.sub(r'(--|//)[^\n]*', '', text_of(p)) for p in own)
         own_modules = set(re.findall(r'^(?:pub )?mod (\w+);', text, re.M))
         called = set(re.findall(r'\b([a-z_0-9]+)::', text)) - own_modules
-        used = set(re.findall(r'Rattle·([a-z_0-9]+)\b', text)) | called
+        used = set(re.findall(r'\bRattle\.([a-z_0-9]+)\b', text)) | called
         for dep in deps:
             if dep not in used:
                 faults.append(f'crates.txt: {name} does not use {dep}')

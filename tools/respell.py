@@ -14,7 +14,8 @@ import re
 import sys
 
 NAME = r'[^\s(){}.;,@"«»]+'
-WORDS = re.compile(r'(?P<comment>--[^\n]*|//[^\n]*)|(?P<text>"[^"\n]*")|(?P<name>' + NAME + r')|(?P<dot>\.)|(?P<other>[\s(){};,@"«»])')
+WORDS = re.compile(r'(?P<comment>--[^\n]*|//[^\n]*)|(?P<text>"[^"\n]*")|(?P<name>' + NAME
+                   + r')|(?P<dot>\.)|(?P<other>[\s(){};,@"«»])')
 MODIFIERS = r'(?:(?:pub|abbrev|unfoldable|private|data|record|let|where) +)*'
 DECLARED = re.compile(r'(?m)^ *' + MODIFIERS + '(' + NAME + r')(?: +\{[^{}\n]*\}| +\([^()\n]*\))* +:(?=\s)')
 FIELD = re.compile(r'(?m)^ +pub (' + NAME + r') +:(?=\s)')
@@ -77,7 +78,8 @@ class Tree:
         self.texts = {path: open(path, encoding='utf8').read() for path in files()}
         for path, text in self.texts.items():
             if path.endswith('.antt'):
-                DEFINED.update(plain(n) for n in DECLARED.findall(code_of(text)) if '-' not in n and ('/specs/' in path or plain(n) != n))
+                DEFINED.update(plain(n) for n in DECLARED.findall(code_of(text))
+                               if '-' not in n and ('/specs/' in path or plain(n) != n))
         self.declared = {p: {n for n in DECLARED.findall(code_of(t)) if turns(n)} if p.endswith('.antt') else set()
                          for p, t in self.texts.items()}
         self.names = set().union(*self.declared.values())

@@ -79,7 +79,7 @@ module _ (i q : ℤ) where
   -- is by the halves of two symbols
   -- rule: 6.17
   -- code: find_sweep::decide
-  -- with: front-even, front-bit
+  -- with: front_even, front_bit
   by_two : (p m : ℕ) → up i + up q + m + 1 ≡ dn i + dn q + p → bool_byte (leb p m) ≡ decided One (as_chip i q) / 2
   by_two p m e = by (dec_le p m)
     where

@@ -1,5 +1,5 @@
 -- A frame that was written is told of by its front, whatever follows it: any chips that are read as its front tell of
--- it (`tells`), and its own are. Its front is that of the clean frame (`front-sent` of rules_clean), since a front is
+-- it (`tells`), and its own are. Its front is that of the clean frame (`front_sent_lem` of rules_clean), since a front is
 -- read from its own chips (`front_same` of rules_reading). Assumes nothing.
 use mathlib.Core.Path.{◌≡◌, sym, ap, ap₂, ◌∙◌}
 use mathlib.Core.List.{List, [], ◌++◌, append-nil}

@@ -160,7 +160,7 @@ shown (suc clock) = 1
 
 -- the smallest lead of a frame as it was sent, in counts, and the first symbol that has it: 11 full chips at 1 and 2
 -- Mbit/s, the frame's first; 8 at 5.5 and 4 at 11 Mbit/s, the payload's first. In plain numbers, and the rates by their
--- codes: a promise must not cite the definition (`cleanLeast` of rules_clean); `lead_is` of proofs/Back.antt joins them
+-- codes: a promise must not cite the definition (`clean_least` of rules_clean); `lead_is` of proofs/Back.antt joins them
 abbrev pub sent_lead : ℕ → ℕ
 sent_lead rate = cond (eqb rate 110) 4096 (cond (eqb rate 55) 8192 11264)
 

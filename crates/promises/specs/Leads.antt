@@ -90,6 +90,6 @@ sure_above (in_bytes bytes) r = 0
 -- its front is Barker
 -- rule: 1.4 (3), 3.9
 -- code: dsss_read_hard_3, dsss_read_soft_3, dsss_read_bytes_3
--- with: hard-frame-sure, soft-frame-sure, bytes-frame-sure
+-- with: hard_frame_sure, soft_frame_sure, bytes_frame_sure
 abbrev pub RowsSure : Type 0
 RowsSure = (rows : Rows) → Sure (sure_above rows) (GoodAt rows) (exact_rows rows) (taken_of rows)

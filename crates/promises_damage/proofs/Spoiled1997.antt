@@ -1,5 +1,5 @@
 -- A long frame that stands its damage, read as a guide of 1997 reads it: our own long reader reads it back, and what
--- that accepts is what a guide reads alike, or refuses with 13 or 14 (`accepted-ours` of promises_1997). Assumes
+-- that accepts is what a guide reads alike, or refuses with 13 or 14 (`accepted_ours` of promises_1997). Assumes
 -- nothing.
 use mathlib.Core.Path.{◌≡◌, refl, sym, ap, ◌∙◌, subst}
 use mathlib.Core.Bool.{true}

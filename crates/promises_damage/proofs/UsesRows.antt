@@ -1,4 +1,4 @@
--- Uses of the statements about spoiled frames, of any recording and not only of those that `any-damage` makes: one as
+-- Uses of the statements about spoiled frames, of any recording and not only of those that `any_damage` makes: one as
 -- long as the frame, of phases and 4s, whose row of damage keeps the limits, number by number, is read back, counted,
 -- told of and found. And the row of any two rows, by each symbol's own chips. Assumes nothing.
 use mathlib.Core.Path.{◌≡◌, sym, ap, ◌∙◌, subst}

@@ -1,4 +1,4 @@
--- What a symbol's bits ask for, in plain numbers, for every number of a symbol and any bits. With `heard-symbol` of
+-- What a symbol's bits ask for, in plain numbers, for every number of a symbol and any bits. With `heard_symbol` of
 -- Heard.antt that says what its word is heard as, too. Assumes nothing.
 use mathlib.Core.Path.{◌≡◌, refl}
 use mathlib.Core.List.{[], ◌∷◌}

@@ -1,6 +1,6 @@
 -- The CRC (RULES 5.13): x^16 + x^12 + x^5 + 1, register preset to ones, over the header bits in sending order,
 -- remainder complemented, highest term sent first. The register is sixteen bits, highest term first; the CRC as a
--- number is `highestFirst` of its bits (Bits.antt).
+-- number is `highest_first` of its bits (Bits.antt).
 -- Definitions only. Assumes nothing.
 use Rattle.std.specs.Prelude.{ℕ, zero, suc, List, [], ◌∷◌, ◌++◌, map, get_or, drop, replicate}
 use Rattle.rules_bits.specs.Bits.{◌⊕◌}

@@ -117,8 +117,8 @@ module _ (k : Kind) (sfd header : List ℕ) where
   -- promise: A header that is accepted is one that a writer sends; each of 11 to 15 is given whatever stands in what is
   -- asked after it
   -- rule: 5.8 to 5.14, 6.4
-  -- code: header_of
-  -- with: sfd-refused, crc-refused, signal-refused, service-refused, length-refused, fields-read, headers-facts
+  -- code: common_header::header_of
+  -- with: sfd_refused, crc_refused, signal_refused, service_refused, length_refused, fields_read, headers_facts
   pub header_only : HeaderSends (header_of ours k sfd header)
   header_only = go (header_comes ours k sfd header)
     where

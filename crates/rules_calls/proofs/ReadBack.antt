@@ -159,7 +159,7 @@ header_sent_lem accepted k r clock n high =
 
 -- promise: A writer's header tells a reader its rate, LENGTH, n and clock bit
 -- rule: 5.8 to 5.14
--- code: header_octets, header_of
+-- code: header_octets, common_header::header_of
 pub header_back : (k : Kind) (r : Rate) (clock : Bool) (n : ℕ) → goes_with k r ≡ true → 1 ≤ n → n ≤ 4095
     → header_of ours k (bits_of 16 (sfd_of k)) (sent_header r clock n) ≡ Fields (told r (length_field r n) n clock)
 header_back k r clock n goes low high = header_sent_lem ours k r clock n high ∙ fields_back k r clock n goes low high

@@ -11,90 +11,90 @@ pub enum Refusal {
     // promise: the kind is neither 0 (long) nor 1 (short)
     // rule: 6.4 (1), 5.4, 6.14
     // code: is_kind
-    // with: isKind
+    // with: is_kind
     NoKind,
     // promise: the rate code is not one of the four
     // rule: 6.4 (2), 5.8
     // code: is_code
-    // with: isCode
+    // with: is_code
     NoRate,
     // promise: rate code 10 with the short kind
     // rule: 6.4 (3), 5.8
     // code: goes_with
-    // with: goesWith
+    // with: goes_with
     ShortRate,
     // promise: the payload is 0 octets or above 4,095
     // rule: 6.4 (4)
     // code: is_payload
-    // with: isPayload
+    // with: is_payload
     PayloadSize,
     // promise: the starting phase is above 3
     // rule: 6.4 (5), 6.1
     // code: check_write
-    // with: writingOf
+    // with: writing_of
     NoPhase,
     // promise: the chip buffer is shorter than the frame
     // rule: 6.4 (6), 5.2, 6.1
     // code: check_write, frame_chips
-    // with: frameChips
+    // with: frame_chips
     ChipRoom,
     // promise: I and Q rows differ in length, or the number of bytes is odd; of a list, there are not as many kinds as
     // recordings
     // rule: 6.4 (7)
     // code: read_soft, read_bytes, of_list
-    // with: readingOf, listOf
+    // with: reading_of, list_of
     RowsDiffer,
     // promise: the recording is shorter than the front
     // rule: 6.4 (8)
     // code: look_at_front
-    // with: frontBy
+    // with: front_by
     ShorterThanFront,
     // promise: a chip of the part is unusable; place: the first such chip. A byte recording has none
     // rule: 6.4 (9), 2.3, 2.4, 6.3
     // code: first_unusable
-    // with: firstUnusable
+    // with: first_unusable
     Unusable { place: usize, length: usize },
     // promise: a 1 Mbit/s symbol of the part, the recording's first excepted, has grown by 1 or 3; place: the first
     // chip of the first such symbol
     // rule: 6.4 (10), 6.3, 6.6
     // code: hear_blocks::first_odd, small_calls::first_odd
-    // with: firstOdd, oddGrowth
+    // with: first_odd, odd_growth
     OddGrowth { place: usize, length: usize },
     // promise: the unscrambled SFD differs; SYNC is not compared
     // rule: 6.4 (11), 6.5
-    // code: header_of
-    // with: headerOf, sfdOf
+    // code: common_header::header_of
+    // with: header_of, sfd_of
     Sfd,
     // promise: the CRC differs
     // rule: 6.4 (12), 5.13
-    // code: header_of, crc_octets
-    // with: crcBits
+    // code: common_header::header_of, crc_octets
+    // with: crc_bits
     Crc,
     // promise: SIGNAL is not a rate of this kind; of a guide of 1997, it is neither 10 nor 20
     // rule: 6.4 (13), 5.8, 6.30
     // code: fields_of, signal_accepted, signal_allowed
-    // with: fieldsOf
+    // with: fields_of
     Signal { length: usize },
     // promise: at 11 Mbit/s SERVICE is none of 0, 4, 128 and 132; at the other rates it is neither 0 nor 4; of a guide
     // of 1997, it is not 0
     // rule: 6.4 (14), 5.9, 5.14, 6.30
     // code: service_allowed, service_accepted
-    // with: serviceAllowed
+    // with: service_allowed
     Service { length: usize },
     // promise: n is outside 1 to 4,095, or the writer's LENGTH and bit 7 for n differ from those read
     // rule: 6.4 (15), 5.10 to 5.12
     // code: octets_told
-    // with: lengthHolds
+    // with: length_holds
     Length { length: usize },
     // promise: the recording ends inside the payload
     // rule: 6.4 (16), 6.7
     // code: read_whole
-    // with: wholeOf
+    // with: rules_reading/whole_of
     Ends { length: usize },
     // promise: the octet buffer is shorter than n; of a report's text, than the text
     // rule: 6.4 (17)
     // code: read_payload, report_text::text
-    // with: payloadReading, spelledOf
+    // with: payload_reading, spelled_of
     OctetRoom { length: usize },
 }
 

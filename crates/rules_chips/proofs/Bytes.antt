@@ -79,6 +79,6 @@ exact z = ap (λ (a : ℤ). a -ℤ pos (2 ^ 143) *ℤ z) (off (2 ^ 139) z) ∙ l
 
 -- promise: The count of a byte is exact
 -- rule: 2.8
--- with: byte-row, byte-table
+-- with: byte_row_lem, byte_table
 pub byte_exact_lem : (x y : ℤ) → Apart 0 (byte_counts x y) (byte_exact x y)
 byte_exact_lem x y = record { real = rw (exact x) (within_zero 0); imag = rw (exact y) (within_zero 0) }

@@ -127,7 +127,7 @@ too_far h s n a H c =
 -- other number is; the error is at most half a count
 -- rule: 2.6, 8.6
 -- code: count
--- with: no_other, count_near, worked-counts
+-- with: no_other, count_near, worked_counts
 pub counted : (x : Float) → T (usable x) → Nearest (value_of x) (count_of x)
 counted x u =
     let s = negative x in

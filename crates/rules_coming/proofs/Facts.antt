@@ -107,7 +107,7 @@ pub read : ℕ → List ℕ → Front
 read kind chips = front_reading kind (hard_recording chips)
 
 -- refused: 1 and 8; 1; 8; 9 and 10, the 9 at the front's end; 16 and the payload's 9, where a chip of the payload is
--- missing. That these are a reading's refusals up to 16, for every recording, is `coming-whole` of Laws.antt
+-- missing. That these are a reading's refusals up to 16, for every recording, is `coming_whole` of Laws.antt
 pub bad : read 2 [] ∷ read 256 short_frame ∷ read 1 [] ∷ read 1 (spoilt 1055 5 (turned_by 55 1 short_frame))
     ∷ read 1 (take 1063 (spoilt 1056 5 short_frame)) ∷ []
     ≡ Refused NoKind ∷ Refused NoKind ∷ Refused ShorterThanFront ∷ Refused (Unusable 1055 0) ∷ Refused (Ends 1) ∷ []

@@ -132,7 +132,7 @@ unfolding
 starts = refl
 
 -- Barker's side values decide every symbol there as its opposite, which growths do not see, and the front meets none of
--- 8 to 15. More offsets change nothing (`start-found` of Laws.antt)
+-- 8 to 15. More offsets change nothing (`start_found_lem` of Laws.antt)
 -- promise: THE LETTER AND THE TRUTH: behind 12 lost chips a clean frame is found at offset 2, 10 chips before it starts
 -- rule: 6.18
 pub early : find 1 3 (replicate 12 4 ++ short_frame) ≡ Start 2 (told Eleven 1 1 false)

@@ -10,12 +10,12 @@ pub enum NotFound {
     // promise: the number of offsets to try is 0 or above 4,096
     // rule: 6.4 (18), 6.17
     // code: find_start::find
-    // with: isOffsets
+    // with: is_offsets
     NoOffsets,
     // promise: none of the offsets has a front that a read accepts
     // rule: 6.4 (19), 6.17
     // code: find_start::search
-    // with: firstStart
+    // with: first_start
     NoStart,
 }
 

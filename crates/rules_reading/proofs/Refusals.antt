@@ -149,7 +149,7 @@ module _ (k : Kind) (rec : List Taken) where
 
   -- promise: What a front and a payload can be refused with; a place lies in its part
   -- rule: 6.2, 6.4
-  -- with: payload_comes, whole-place, payload-unusable-place, payload-odd-place
+  -- with: payload_comes, whole_place, payload_unusable_place, payload_odd_place
   pub whole_refuses : RefusesIf (whole_of k rec (front_of k rec))
   whole_refuses = go (front_of k rec) front_refuses
     where

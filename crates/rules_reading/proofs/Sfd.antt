@@ -138,7 +138,7 @@ module _ (k : Kind) (rec : List Taken) where
   -- of a sweep are others, it is refused
   -- rule: 6.17
   -- code: marks
-  -- with: sfd-low, sfd-high
+  -- with: sfd_low, sfd_high
   pub sfd_bit : (t : Told) → front_of k rec ≡ Fields t → (n i : ℕ) → n + 8 ≡ sync_bits k + i → i < 16
       → bit (n + 7) ⊕ bit (n + 3) ⊕ bit n ≡ get_or (bits_of 16 (sfd_of k)) i 0
   sfd_bit t e n i at h =

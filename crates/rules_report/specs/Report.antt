@@ -42,7 +42,7 @@ abbrev pub recording_told : Option Closest → ℕ
 recording_told none = 0
 recording_told (some c) = c.recording
 
--- the report at first: all zeros. It is the report of no recording (`none-counted` of proofs/Lists.antt)
+-- the report at first: all zeros. It is the report of no recording (`none_counted` of proofs/Lists.antt)
 abbrev pub empty : Report
 empty =
     record {
@@ -142,7 +142,7 @@ takes_more p =
     && leb p.airtime 32952000
 
 -- The same limits once more, in plain numbers, for what is promised of any report: a promise must not cite the test
--- that the code computes. `takes` and `limits-take` of proofs/Lists.antt join the two.
+-- that the code computes. `takes` and `limits_take` of proofs/Lists.antt join the two.
 pub record Limits (p : Report) : Type 0 where
   pub seen_below : p.seen < 1000
   pub frames_within : (j : ℕ) → get_or p.frames j 0 ≤ 1000

@@ -138,22 +138,22 @@ macro_rules! families {
 }
 
 families! {
-    // for: lengths-eleven, words, Crc, TableP, header-back, octets-back, length-holds, crc-divided
+    // for: lengths_eleven, words, Crc, TableP, header_back, octets_back, length_holds_lem, crc_divided
     101 published::published_figures: "LENGTH and bit 7 of every n and rate, CRCs, words from outside",
-    // for: Wrote.answer, Wrote.chips, WrittenFrame, WriteFills, words, sent-facts, facts-clock, from-header, PhaseTurns
-    // for: framed-turned, sync-long, SentBegins, SentWords, symbol-one, cck-adds
+    // for: Wrote.answer, Wrote.chips, WrittenFrame, WriteFills, words, sent_facts, facts_clock, from_header, PhaseTurns
+    // for: framed_turned, sync_long, SentBegins, SentWords, symbol_one, cck_adds
     201 written::write_short_payloads: "1 to 64 octets, all kinds, rates and phases",
-    // for: Wrote.chips, framed-length, Wrote.answer, WrittenFrame
+    // for: Wrote.chips, framed_length, Wrote.answer, WrittenFrame
     202 written::write_long_payloads: "1,023 to 1,026 and 4,095 octets",
-    // for: Wrote.chips, lengths-eleven, length-is, seven-is, Wrote.answer, WrittenFrame, frame-length
+    // for: Wrote.chips, lengths_eleven, length_is, seven_is, Wrote.answer, WrittenFrame, frame_length
     203 written::write_every_n: "every n at 11 Mbit/s; a sweep of n at the other kinds and rates",
     // for: Wrote.answer, NoKind, NoRate, ShortRate, NoPhase, WriteFills, WriteAnswers, Wrote.chips, OnlySent
     204 written::write_numbers: "kind, rate, phase, payload and buffer out of range, alone and together",
     // for: PayloadSize, ChipRoom, WriteFills, WriteAnswers, OnlySent, Wrote.answer, Wrote.chips
     205 written::write_edges: "payload of 0, 4,095 and 4,096 octets, buffers a chip short, exact and longer",
-    // for: Wrote.chips, facts-clock, Wrote.answer, WrittenFrame, OnlySent
+    // for: Wrote.chips, facts_clock, Wrote.answer, WrittenFrame, OnlySent
     206 written::write_clocks: "each of many clock numbers, at every kind, rate and phase, and beside each refusal",
-    // for: ReadBack, ReadHard, ReadSoft, ReadBytes, Read.octets, SoftRows, unscrambled, OneSource, decided-clean
+    // for: ReadBack, ReadHard, ReadSoft, ReadBytes, Read.octets, SoftRows, unscrambled, OneSource, decided_clean
     301 restored::read_short_payloads: "recordings of 1 to 64 octets, all kinds, rates and phases",
     // for: ReadBack, Read.octets, NotReadBack
     302 restored::read_long_payloads: "recordings of 1,023 to 1,026 and 4,095 octets",
@@ -161,19 +161,19 @@ families! {
     303 restored::read_rooms: "octet buffers shorter than n, exact and longer",
     // for: ReadBack, Ends, ReadFills
     304 restored::chips_after_the_frame: "anything after the frame, unusable chips too",
-    // for: Signal, Service, header-only, OnlyReadable, signal-refused, service-refused
+    // for: Signal, Service, header_only, OnlyReadable, signal_refused, service_refused
     401 headers::every_signal_and_service: "each SIGNAL, each SERVICE, all of both in the longer run, right CRC",
-    // for: Length, octets-back, OnlyReadable, header-only, length-refused
+    // for: Length, octets_back, OnlyReadable, header_only, length_refused
     402 headers::every_length: "LENGTH and bit 7 that no n has, and those around the longest payload",
-    // for: OnlyReadable, length-refused, length-holds, octets-back
+    // for: OnlyReadable, length_refused, length_holds_lem, octets_back
     407 headers::every_length_listed: "every LENGTH of each rate in fronts of lists, refused with 15 or 16",
-    // for: header-back, Length, OnlyReadable, header-only
+    // for: header_back, Length, OnlyReadable, header_only
     403 headers::headers_with_payload: "right CRC and chips behind it, LENGTH near the payload's",
-    // for: Sfd, Crc, header-only, OnlyReadable, sfd-refused, crc-refused
+    // for: Sfd, Crc, header_only, OnlyReadable, sfd_refused, crc_refused
     404 headers::sfd_and_crc: "SFD and CRC with bits changed, turned round, of the other kind",
-    // for: Sfd, bad, ReadHard, ReadBytes, first-unknown
+    // for: Sfd, bad, ReadHard, ReadBytes, first_unknown
     405 headers::sync_not_compared: "any SYNC bits at all",
-    // for: header-back, RefusedShows, Service, OnlyReadable
+    // for: header_back, RefusedShows, Service, OnlyReadable
     406 headers::clock_bits: "each SERVICE with and without the clock bit, whole, cut, short of room and spoiled",
     // for: NoKind, Read.answer, numbers, RefusedShows, RowsRefused, ReadFills
     501 refused::read_numbers: "kinds, lengths and buffers out of range, alone and together",
@@ -181,9 +181,9 @@ families! {
     502 refused::rows_that_differ: "I and Q rows of different length",
     // for: ShorterThanFront, Read.answer, RowsRefused, ReadFills, WriteFills
     503 refused::empty_rows: "every row empty, alone and together",
-    // for: bad, Read.answer, RefusedShows, ReadFills, whole-refuses, payload-comes, room-refused, ReadAnswers
+    // for: bad, Read.answer, RefusedShows, ReadFills, whole_refuses, payload_comes, room_refused, ReadAnswers
     504 refused::every_set_of_refusals: "each set of refusals that can be asked for at once",
-    // for: bad, Read.answer, RefusedShows, unusable-refused, odd-refused, payload-good, ReadAnswers
+    // for: bad, Read.answer, RefusedShows, unusable_refused, odd_refused, payload_good, ReadAnswers
     505 refused::pairs_of_refusals: "each refusal alone and with each other one, by each recorder",
     // for: Ends, ShorterThanFront, NotReadBack, FrontRefused
     506 refused::cut_recordings: "recordings cut at every length about the front's and the frame's end",
@@ -191,109 +191,109 @@ families! {
     507 refused::kinds_crossed: "long frames read as short and the other way",
     // for: RowsDiffer, RowsRefused
     508 refused::odd_rows: "odd numbers of bytes, about the fronts, the frame's end and powers of 2",
-    // for: FrontOnly, front-same, FrontRefused, RefusedAlike
+    // for: FrontOnly, front_same, FrontRefused, RefusedAlike
     509 refused::long_refused: "what the front refuses, in recordings of up to 71,000 chips that are alike there",
-    // for: Unusable, ReadHard, Octets, RowsRight, RefusedShows, whole-place, payload-unusable-place, ReadAnswers
+    // for: Unusable, ReadHard, Octets, RowsRight, RefusedShows, whole_place, payload_unusable_place, ReadAnswers
     601 damage::unusable_octets: "one or two unusable octets at every place",
-    // for: OddGrowth, whole-refuses, RefusedShows, payload-odd-place, ReadAnswers
+    // for: OddGrowth, whole_refuses, RefusedShows, payload_odd_place, ReadAnswers
     602 damage::odd_growths: "symbols turned by 1 to 3, alone or with all that follow",
-    // for: Read.octets, RowsRight, RecordedRight, decided-best, OctetsDecoded
+    // for: Read.octets, RowsRight, RecordedRight, decided_best, OctetsDecoded
     603 damage::damaged_chips: "chips changed to other phases, few to most",
-    // for: ReadHard, terms, RowsRight, RecordedRight, decided-best
+    // for: ReadHard, terms, RowsRight, RecordedRight, decided_best
     604 damage::lost_chips: "chips, symbols and whole parts lost",
-    // for: terms, decided-best, best-unique
+    // for: terms, decided_best, best_unique
     605 damage::tied_words: "payload symbols with few chips left, so that words tie",
     // for: Read.answer, ReadHard
     606 damage::random_recordings: "phases and marks at random",
     // for: RecordedRight, RowsRight, DecidedAt
     701 soft::noise: "noise over all of the frame or over its payload",
-    // for: counted, HalfACount, no-other, count-near
+    // for: counted, HalfACount, no_other, count_near
     702 soft::halves_of_a_count: "values on the halves of a count and next to them",
-    // for: counted, HalfACount, RowsRight, value-exact
+    // for: counted, HalfACount, RowsRight, value_exact
     703 soft::tiny_values: "subnormals, zeros of both signs, values below half a count",
     // for: usable, RowsRight, ReadSoft
     704 soft::exactly_eight: "8 and its neighbours, scores at both ends of their range",
     // for: Unusable, usable, ReadSoft, RefusedShows
     705 soft::unusable_values: "NaN, infinities and values above 8 at every place",
-    // for: Read.octets, DecidedAt, RowsRight, decided-leads
+    // for: Read.octets, DecidedAt, RowsRight, decided_leads_lem
     706 soft::soft_damage: "soft chips turned, faded and lost",
     // for: ReadSoft, RowsRight
     707 soft::one_row: "I and Q in one row, or in rows that overlap",
     // for: ReadBack, Read.octets, Read.answer
     801 long::long_payloads: "65 to 4,094 octets by each recorder, anything after the frame",
-    // for: Unusable, room-refused, RefusedShows, payload-unusable-place
+    // for: Unusable, room_refused, RefusedShows, payload_unusable_place
     802 long::long_unusable: "unusable chips at edges of symbols and blocks, first, last and any, up to 4,095 octets",
-    // for: OddGrowth, room-refused, RefusedShows, payload-odd-place
+    // for: OddGrowth, room_refused, RefusedShows, payload_odd_place
     803 long::long_growths: "payload symbols turned at edges of blocks, first, last and past chip 65,536",
     // for: Ends, NotReadBack, RefusedShows
     804 long::long_cuts: "long recordings that end inside the payload",
-    // for: OctetRoom, room-refused, NotReadBack, ReadFills
+    // for: OctetRoom, room_refused, NotReadBack, ReadFills
     805 long::long_rooms: "octet buffers shorter than a long payload",
     // for: Read.octets, RowsRight, DecidedAt, LeadsAt
     806 long::block_edges: "one symbol damaged at an edge of a block of symbols or octets",
     // for: Read.octets, RowsRight, OctetsDecoded
     807 long::long_damage: "damage and noise over payloads of 301 to 1,100 octets",
-    // for: ReadBytes, byte-exact, decided-times, RowsRight, NoByteUnusable
+    // for: ReadBytes, byte_exact_lem, decided_times, RowsRight, NoByteUnusable
     901 bytes::every_byte: "symbols decided otherwise if one byte, each of the 256, is 1 more or 1 less",
-    // for: ReadBytes, terms, RowsRight, best-unique
+    // for: ReadBytes, terms, RowsRight, best_unique
     902 bytes::equal_bytes: "bytes equal in size, so that words tie, in symbols and over all of a recording",
     // for: ReadBytes, RowsRight
     903 bytes::exchanged_bytes: "I and Q exchanged, negated, a byte late, and frames turned by an eighth",
     // for: ReadBytes, NoByteUnusable
     904 bytes::random_bytes: "bytes at random over all of the recording, the header or the payload",
-    // for: ToldAlike, RefusedAlike, reads-on, ReadFront.answer, FrontTold, Handed.chips-are, HandedPart
+    // for: ToldAlike, RefusedAlike, reads_on, ReadFront.answer, FrontTold, Handed.chips_are, HandedPart
     1001 coming::coming_rooms: "what is coming beside full reads with room 0, n - 1, n and 4,095, refused and not",
-    // for: FrontOnly, SentTold, front-same
+    // for: FrontOnly, SentTold, front_same
     1002 coming::payloads_not_looked_at: "recordings alike in the front, with any octets as the payload's chips",
-    // for: FrontTold, SentTold, ReadFront.answer, Handed.chips-are, HandedPart
+    // for: FrontTold, SentTold, ReadFront.answer, Handed.chips_are, HandedPart
     1003 coming::coming_every_n: "what is coming up to 4,095 octets, whole, cut and with chips behind",
     // for: FrontRefused, RefusedAlike, ReadFront.answer
     1004 coming::coming_any_octets: "what is coming in octets at random and in frames cut anywhere, by any kind",
-    // for: walsh, decided-best, best-unique, column-sum, two-keys
+    // for: walsh, decided_best, best_unique, column_sum, two_keys
     1101 ties::ties_eleven: "words that tie at 11 Mbit/s, by each recorder, payloads of each length to 70 and longer",
-    // for: walsh, best-unique
+    // for: walsh, best_unique
     1102 ties::ties_eleven_largest: "words that tie at 11 Mbit/s in values of 8 and -8, 127 and -128",
-    // for: walsh, decided-best, two-keys
+    // for: walsh, decided_best, two_keys
     1103 ties::ties_eleven_broken: "words that tie at 11 Mbit/s, and the same a step beside the tie, either way",
-    // for: lead-clean, lead-times, ReadBack, LeastTold
+    // for: lead_clean, lead_times, ReadBack, LeastTold
     1201 leads::leads_as_sent: "chips as sent, of every size that a recorder has: 11, 8 and 4 of them",
-    // for: LeastTold, least-is, RowsSure
+    // for: LeastTold, least_is, RowsSure
     1202 leads::leads_of_one_symbol: "the smallest lead in a chosen symbol of the preamble, the header or the payload",
-    // for: LeastTold, least-is, LeadsAt, leastOf-joined
+    // for: LeastTold, least_is, LeadsAt, least_of_joined
     1203 leads::leads_at_each_place: "the smallest lead in each symbol of the front and of a block of 64 behind it",
-    // for: LeastTold, least-is
+    // for: LeastTold, least_is
     1204 leads::leads_shared: "several symbols of one smallest lead, and others of a little more",
-    // for: lead-is, LeastTold, lead-tie, tied
+    // for: lead_is, LeastTold, lead_tie, tied
     1205 leads::leads_of_ties: "words that tie in a chosen symbol of the preamble, the header or the payload",
-    // for: lead-is, LeastTold, leads-by
+    // for: lead_is, LeastTold, leads_by
     1206 leads::leads_of_allowed_words: "words beside a symbol of 5.5 Mbit/s that aren't allowed there",
-    // for: lead-is, walsh, LeastTold, lead-behind, leads-once
+    // for: lead_is, walsh, LeastTold, lead_behind, leads_once
     1207 leads::leads_of_next_words: "each word that can come next behind another, alone, at 5.5 and 11 Mbit/s",
-    // for: LeastTold, RowsSure, lead-says
+    // for: LeastTold, RowsSure, lead_says
     1208 leads::leads_in_noise: "noise over all of a frame, front included",
-    // for: LeastTold, leastOf-joined
+    // for: LeastTold, least_of_joined
     1209 leads::leads_of_long_frames: "the smallest lead in far symbols, at edges of blocks and last of 4,095 octets",
     // for: RefusedShows
     1210 leads::leads_kept: "refused reads, 10 and more, with symbols of small leads",
-    // for: LeastTold, lead-is
+    // for: LeastTold, lead_is
     1211 leads::leads_of_each_word: "one octet at 11 Mbit/s, each of the 256 at each phase, each of its chips lost",
     // for: early, SentFound, StartFound, Finds.answer
     1301 finding::find_clean: "frames as sent, behind lost chips, phases, one phase, another frame, an unusable chip",
-    // for: NoOffsets, NotTried, Finds.answer, StartFound, NoneFound, start-comes, start-joined, short-missed
+    // for: NoOffsets, NotTried, Finds.answer, StartFound, NoneFound, start_comes, start_joined, short_missed
     1302 finding_edges::find_edges: "numbers of offsets, kinds and lengths at their edges, starts at each remainder",
-    // for: StartFound, SentFound, sfd-bit, by-two, NoneFound, sfd-low, sfd-high, front-even, front-bit
+    // for: StartFound, SentFound, sfd_bit, by_two, NoneFound, sfd_low, sfd_high, front_even, front_bit
     1303 finding_damage::find_damage: "fronts with chips spoiled, cut off and turned, behind wrong ones and others",
     // for: NoStart, NoneFound
     1304 finding::find_noise: "recordings without a frame or with one behind much else, up to 4,096 offsets",
-    // for: StartFound, NoneFound, start-comes, finding-comes
+    // for: StartFound, NoneFound, start_comes, finding_comes
     1305 finding::find_all: "every number of offsets from 1 on, and the front from each offset, one by one",
-    // for: ReportKept, KeptAnswers, Adds.answer, added-more, sent-counted, closest-more, fair, frames-sum
+    // for: ReportKept, KeptAnswers, Adds.answer, added_more, sent_counted, closest_more, fair, frames_sum
     1401 report::report_kept: "reports kept one recording after the other, beside those of the list so far",
-    // for: ListAlike, Lists.answer, takesMore, RowsDiffer
+    // for: ListAlike, Lists.answer, takes_more, RowsDiffer
     1402 report::report_lists: "whole lists of none to 16,384, of each sort, and with a kind too many or too few",
-    // for: AnyReport, takesMore, Adds.answer, added-any, takes-more, counted-next, counted-full
+    // for: AnyReport, takes_more, Adds.answer, added_any, takes_more_lem, counted_next, counted_full
     1403 report_edges::report_edges: "one recording more than any report has, at the limits of each number",
-    // for: Spells.answer, Spells.octets, TextFills, TextSays, decimal-value, OctetRoom
+    // for: Spells.answer, Spells.octets, TextFills, TextSays, decimal_value, OctetRoom
     1404 report_edges::report_text: "texts of any report, with rooms about the text's octets",
     // for: Wrote.answer, Wrote.chips, WriteFills, OnlySent
     1501 widths::wide_writes: "payloads and chip buffers of 2^16, 2^20, 2^22 and 2^24 and a few more",
@@ -321,21 +321,21 @@ families! {
     1607 why::why_every_n: "room for each n, an octet and any number too few, and 2^32 more than the first",
     // for: WhyAgrees, WhyTable, Explains.answer
     1606 why::why_wide: "reasons for recordings of 2^16, 2^20 and 2^24 chips, and of the longest frame",
-    // for: StoreWrites.answer, StoreWrites.octets, WriteTells, StoreReadBack, ReadTells, storeWritten
+    // for: StoreWrites.answer, StoreWrites.octets, WriteTells, StoreReadBack, ReadTells, store_written
     1701 store::store_written: "stores of all settings and of bad ones, in 0 to 20 octets and more, and read back",
     // for: StoreReads.answer, StoreChanges.answer, StoreChanges.octets, ReadTells, ChangeTouches
-    // for: tabled, few, rising, laid, passable, complete, single, allowedSettings, isSetting
+    // for: tabled, few, rising, laid, passable, complete, single, allowed_settings, is_setting
     1702 store::store_orders: "each set of refusals that can hold of a store at once, and tables cut, read and changed",
-    // for: StoreChanges.answer, StoreChanges.octets, ChangeTells, ChangeTouches, allowedSettings
+    // for: StoreChanges.answer, StoreChanges.octets, ChangeTells, ChangeTouches, allowed_settings
     1703 store::store_changes: "each setting changed to each octet value, good ones read back",
-    // for: StoreWrites.answer, StoreChanges.answer, ChangeTells, ReadTells, allowedSettings
+    // for: StoreWrites.answer, StoreChanges.answer, ChangeTells, ReadTells, allowed_settings
     1704 store::store_numbers: "each bit of 64 more in each number of a write and of a change",
-    // for: StoreServes, StoreWrites.answer, allowedSettings
+    // for: StoreServes, StoreWrites.answer, allowed_settings
     1705 store::store_serves: "many kinds, rates and phases, beside the write of a frame with the same",
     // for: StoreReads.answer, StoreChanges.answer, ReadTells, laid, complete
     1706 store_edges::store_small: "every store of up to 6 octets of a few values",
     // for: StoreReads.answer, StoreChanges.answer, StoreChanges.octets, ReadTells, ChangeTouches
-    // for: rising, laid, passable, complete, single, allowedSettings
+    // for: rising, laid, passable, complete, single, allowed_settings
     1707 store_edges::store_octets: "stores with one octet changed, taken out or put in, at every place",
     // for: OldReaders, StoreReads.answer, StoreChanges.octets, ChangeTouches, passable
     1708 store_edges::store_newer: "newer writers' stores: each unknown tag, version and body length, up to 16 entries",
@@ -344,10 +344,10 @@ families! {
     // for: StoreReads.answer, StoreChanges.octets, StoreWrites.octets, laid
     1710 store_edges::store_wide: "stores and buffers of 2^16, 2^20, 2^22 and 2^24 octets",
     // for: StoreReads.answer, StoreChanges.answer, StoreChanges.octets, ReadTells, ChangeTells, ChangeTouches
-    // for: OldReaders, tabled, few, rising, laid, passable, complete, single, allowedSettings, isSetting
+    // for: OldReaders, tabled, few, rising, laid, passable, complete, single, allowed_settings, is_setting
     1711 store_shapes::store_shapes: "every set of nine tags, every number of entries, each entry of 16 spoiled",
     // for: StoreReads.answer, StoreChanges.answer, StoreChanges.octets, ReadTells, ChangeTells, ChangeTouches
-    // for: laid, complete, single, allowedSettings, isSetting
+    // for: laid, complete, single, allowed_settings, is_setting
     1712 store_shapes::store_bodies: "bodies of settings of every length, changes that would put a store right, zeros",
     // for: SpoiledReadBack, SpoiledTold, SymbolStands, DamageRow, InOneSymbol, AnyDamage
     1801 spoiled::spoiled_eleven: "every pattern within the limit on every word of 11 Mbit/s, all symbols spoiled",
@@ -404,7 +404,7 @@ families! {
     2007 read_1997::read_1997_spoiled: "unusable chips of each octet, symbols turned and lost, each place and far ones",
     // for: Read1997.answer, Answers1997, BesideOurs
     2002 read_1997::read_1997_headers: "each SIGNAL, each SERVICE of each rate, LENGTH or what is behind it wrong",
-    // for: Read1997.answer, Fills1997, Answers1997, BesideOurs, guide-front
+    // for: Read1997.answer, Fills1997, Answers1997, BesideOurs, guide_front
     2003 read_1997::read_1997_orders: "each set of refusals that can hold at once; each refusal with long rows",
     // for: Read1997.answer, BesideOurs, AcceptedOurs
     2004 read_1997::read_1997_short_fronts: "short frames, and long ones that start early or late",
