@@ -13,7 +13,7 @@ use Rattle.choose_stages_bytes.proofs.scaled.Tie as tie
 
 module _ (c : tie.Start) where
   read : to_z w8 (of_z w8 c.args.b) ≡ c.args.b
-  read = to_z-of_z (record { sfits = c.well_formed.0 })
+  read = to_z-of_z {w = w8} (record { sfits = c.well_formed.0 })
 
   byte : Reads w16 128 (of_z w16 (to_z w8 (of_z w8 c.args.b))) c.args.b
   byte = made read (byte_within _ c.well_formed.0) (lit< tt)
