@@ -6,8 +6,7 @@ LIB := target/staticlib/libdsss.a
 LEAVES := target/staticlib/libbench_leaves.a
 PLAIN := bench/plain_write.c bench/plain_choose.c bench/plain_read.c bench/plain_find.c bench/plain_compare.c \
 	bench/plain_report.c bench/plain_store.c
-HOST := examples/host/host.c examples/host/compare.c examples/host/guides.c examples/host/receive.c \
-	examples/host/settings.c
+HOST := examples/host/host.c examples/host/compare.c examples/host/guides.c examples/host/settings.c
 OUT := target/c
 STRICT := -std=c99 -Wall -Wextra -Wpedantic -Werror -Iinclude
 PREFIX ?= /usr/local
@@ -25,7 +24,7 @@ PROVED := crates.txt $(shell find crates -name out -prune -o \( -name '*.rt' -o 
 .SILENT:
 
 # The host: captions written at every kind and rate, one spoilt, one cut short; two receivers compared; what guides of
-# 1997 make of captions; a caption read as its chips arrive; settings kept in a store.
+# 1997 make of captions; settings kept in a store.
 demo: $(OUT)/host ## builds the library and the host program, runs it and compares its output with the stored copy
 	scripts/x86run $(OUT)/host > $(OUT)/host.stdout
 	cat $(OUT)/host.stdout
