@@ -11,12 +11,6 @@ typedef dsss_record (*hard_reader)(uint64_t, const uint8_t *, size_t, uint8_t *,
 static const hard_reader read_hard = &dsss_read_hard;
 typedef dsss_record (*guide)(const uint8_t *, size_t, uint8_t *, size_t);
 static const guide read_1997 = &dsss_read_1997;
-typedef uint64_t (*opener)(dsss_receiver *, uint64_t, uint8_t *, size_t);
-static const opener open = &dsss_open;
-typedef uint64_t (*feeder)(dsss_receiver *, uint8_t *, size_t, const uint8_t *, size_t);
-static const feeder feed = &dsss_feed;
-typedef dsss_record (*closer)(dsss_receiver *, uint8_t *, size_t);
-static const closer close = &dsss_close;
 typedef dsss_coming (*front_reader)(uint64_t, const uint8_t *, size_t);
 static const front_reader read_front = &dsss_read_front;
 typedef dsss_reason (*asker)(uint64_t, const uint8_t *, size_t, uint64_t);
@@ -56,26 +50,6 @@ static bool reasons()
            && front.found == 0 && kind.number == DSSS_REFUSED_KIND && kind.expected == 0 && kind.found == 256;
 }
 
-// Whether a receiver is opened, fed and closed with empty rows, and refused with 20 before its open, after its close
-// and with a buffer of another length; a kind that is none is refused at the close.
-static bool receives()
-{
-    uint8_t octet[1] = {7};
-    dsss_receiver receiver = dsss_receiver();
-    uint64_t early = radio::feed(&receiver, NULL, 0, NULL, 0), never = ::dsss_close(&receiver, NULL, 0).number;
-    uint64_t opened = radio::open(&receiver, DSSS_LONG, NULL, 0), fed = ::dsss_feed(&receiver, NULL, 0, NULL, 0);
-    uint64_t longer = dsss_feed(&receiver, octet, 1, NULL, 0);
-    dsss_receiver moved = receiver;
-    dsss_record front = radio::close(&moved, NULL, 0), late = dsss_close(&moved, NULL, 0);
-    uint64_t again = ::dsss_open(&moved, DSSS_SHORT + 1, octet, 1);
-    dsss_record kind = dsss_close(&moved, octet, 1);
-
-    return early == DSSS_REFUSED_RECEIVER && never == DSSS_REFUSED_RECEIVER && opened == 0 && fed == 0
-           && longer == DSSS_REFUSED_RECEIVER && front.number == DSSS_REFUSED_FRONT
-           && late.number == DSSS_REFUSED_RECEIVER && late.length == 0 && again == 0 && octet[0] == 0
-           && kind.number == DSSS_REFUSED_KIND;
-}
-
 // Whether a store is written, read and changed, and refused where it has no room, no octets or another tag.
 static bool stores()
 {
@@ -105,7 +79,7 @@ int main()
         || guide.number != DSSS_REFUSED_FRONT || ::dsss_read_1997(NULL, 0, NULL, 0).length != 0
         || coming.number != DSSS_REFUSED_FRONT || coming.at != 0 || coming.count != 0
         || none.number != DSSS_REFUSED_OFFSETS || found.number != DSSS_REFUSED_NO_START || found.offset != 0
-        || hard.lead != 0 || soft.symbol != 0 || bytes.lead != 0 || !receives() || !reasons() || !reports()
+        || hard.lead != 0 || soft.symbol != 0 || bytes.lead != 0 || !reasons() || !reports()
         || !stores()) {
         std::puts("header.cpp: a refusal is not the one expected");
         return 1;
