@@ -60,16 +60,16 @@ module _ (c : tie.In-loop-l invariant_loop decreases_loop) where
   room_on k h = omega (arith, c.loop-l.invariant.1.long, start.requires.1, start.requires.4, below)
 
 -- the turn that a step is in: so many numbers are read
-abbrev by1 : tie.After-xr invariant_loop decreases_loop → tie.In-loop invariant_loop decreases_loop
+abbrev by1 : tie.After-xr-1 invariant_loop decreases_loop → tie.In-loop-l invariant_loop decreases_loop
 by1 c = c.before
 
-abbrev by2 : tie.After-xi invariant_loop decreases_loop → tie.In-loop invariant_loop decreases_loop
+abbrev by2 : tie.After-xi-1 invariant_loop decreases_loop → tie.In-loop-l invariant_loop decreases_loop
 by2 c = c.before.before
 
-abbrev by3 : tie.After-yr invariant_loop decreases_loop → tie.In-loop invariant_loop decreases_loop
+abbrev by3 : tie.After-yr-1 invariant_loop decreases_loop → tie.In-loop-l invariant_loop decreases_loop
 by3 c = c.before.before.before
 
-abbrev by4 : tie.After-yi invariant_loop decreases_loop → tie.In-loop invariant_loop decreases_loop
+abbrev by4 : tie.After-yi-1 invariant_loop decreases_loop → tie.In-loop-l invariant_loop decreases_loop
 by4 c = c.before.before.before.before
 
 -- a turn, once its column is read

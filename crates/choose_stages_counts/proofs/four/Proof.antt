@@ -88,16 +88,16 @@ module _ (c : tie.In-loop-l invariant_loop decreases_loop) where
   room_on k h = omega (arith, long, below)
 
 -- the turn that a step is in: k chips are scaled
-abbrev by1 : tie.After-scaled invariant_loop decreases_loop → tie.In-loop invariant_loop decreases_loop
+abbrev by1 : tie.After-scaled-c0 invariant_loop decreases_loop → tie.In-loop-l invariant_loop decreases_loop
 by1 c = c.before.before
 
-abbrev by2 : tie.After-scaled2 invariant_loop decreases_loop → tie.In-loop invariant_loop decreases_loop
+abbrev by2 : tie.After-scaled-c1 invariant_loop decreases_loop → tie.In-loop-l invariant_loop decreases_loop
 by2 c = c.before.before.before.before
 
-abbrev by3 : tie.After-scaled3 invariant_loop decreases_loop → tie.In-loop invariant_loop decreases_loop
+abbrev by3 : tie.After-scaled-c2 invariant_loop decreases_loop → tie.In-loop-l invariant_loop decreases_loop
 by3 c = c.before.before.before.before.before.before
 
-abbrev by4 : tie.After-scaled4 invariant_loop decreases_loop → tie.In-loop invariant_loop decreases_loop
+abbrev by4 : tie.After-scaled-c3 invariant_loop decreases_loop → tie.In-loop-l invariant_loop decreases_loop
 by4 c = c.before.before.before.before.before.before.before.before
 
 -- a count as it is read, and as it is scaled and written
@@ -118,7 +118,7 @@ loop_again c =
     let turn = by4 c in
     let start = start turn in
     let a = a turn in
-    let inv = turn.before.loop.invariant in
+    let inv = turn.loop-l.invariant in
     let few = turn.loop-l-test.true in
     let third = to_z w32 (of_z w32 start.args.third) in
     let fourth = to_z w32 (of_z w32 start.args.fourth) in
@@ -134,7 +134,7 @@ loop_again c =
 returns : tie.Need-returns invariant_loop decreases_loop
 returns c =
     let e : c.loop-l.l ≡ 32 = omega (arith, c.loop-l.invariant.0, c.loop-l-test.false) in
-    rw (e, third_is c.before.before, fourth_is c.before.before, more_is c.before.before) c c.loop-l.invariant.1
+    rw (e, third_is c.before.before, fourth_is c.before.before, more_is c.before.before) at c.loop-l.invariant.1
 
 pub four_spec : {M : Type 1} → statement M
 four_spec =
