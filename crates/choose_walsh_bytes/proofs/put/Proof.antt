@@ -62,17 +62,16 @@ lead_of_requires c κs =
 loop_again : tie.Need-loop-s-preserved invariant_loop decreases_loop
 loop_again c =
     let w = word c.before.before in
-    let at = (turn w).before in
     let s = start w in
     let few = (turn w).loop-s-test.true in (
       omega arith,
       put_more _ (omega (arith, s.requires.2))
           (c.word_of.ensures
-          ∙ ap (λ (z : ℤ). word_of_key z (get_or s.args.at.now at.loop.s 0)) (first_is w))
-          at.loop.invariant.1,
+          ∙ ap (λ (z : ℤ). word_of_key z (get_or s.args.at.now (turn w).loop-s.s 0)) (first_is w))
+          (turn w).loop-s.invariant.1,
       put_more _ (omega (arith, s.requires.2))
           (c.lead_of.ensures ∙ (λ i. s.args.unit * lead_of_keys (first_is w i) (second_is c.before.before i)))
-          at.loop.invariant.2,
+          (turn w).loop-s.invariant.2,
     )
 
 returns : tie.Need-returns invariant_loop decreases_loop

@@ -136,7 +136,7 @@ module _ (c : tie.After-column-arg-in-loop-l-7-1 invariant_loop decreases_loop) 
   e_row = row start.args.p3 _ (omega (arith, third)) (omega arith)
 
 -- the turn that is written, once the keys of its column are found
-abbrev by : tie.After-struct-told2 invariant_loop decreases_loop → tie.In-loop invariant_loop decreases_loop
+abbrev by : tie.After-struct_told-in-loop-l-1 invariant_loop decreases_loop → tie.In-loop-l invariant_loop decreases_loop
 by c = c.before.before.before.before.before.before.before.before.before.before.before.before.before.before
 
 read : {x y : ℤ} → Bounded 262152 (pair x y) → Bounded 262152 (pair (to_z w32 (of_z w32 x)) (to_z w32 (of_z w32 y)))
@@ -152,18 +152,17 @@ column_requires c κs =
 loop_again : tie.Need-loop-l-preserved invariant_loop decreases_loop
 loop_again c =
     let t = turn c.before.before.before in
-    let at = t.before in
     let s = start c.before.before.before in
-    let few = t.loop-test.true in
-    let l = at.loop.l in
+    let few = t.loop-l-test.true in
+    let l = t.loop-l.l in
     let v : to_z w32 (of_z w32 c.column-c.result.first) ≡ c.column-c.result.first = search rules in
     let w : to_z w32 (of_z w32 c.column-c.result.second) ≡ c.column-c.result.second = search rules in (
       omega arith,
-      quartered_more _ _ _ at.loop.invariant.1 (omega (arith, s.requires.3.first_long))
+      quartered_more _ _ _ t.loop-l.invariant.1 (omega (arith, s.requires.3.first_long))
           (omega (arith, s.requires.3.second_long)) (omega (arith, s.requires.3.at_long))
           ((λ i. held (v i) (w i) c.column-c.result.group)
           ∙ c.column-c.ensures
-          ∙ (λ i. four_more (held (first_is c.before.before.before.before.before.before.before.before.before.before.before.before.before i) (second_is c.before.before.before.before.before.before.before.before.before.before.before.before i) (get_or at.loop.at l 0))
+          ∙ (λ i. four_more (held (first_is c.before.before.before.before.before.before.before.before.before.before.before.before.before i) (second_is c.before.before.before.before.before.before.before.before.before.before.before.before i) (get_or t.loop-l.at l 0))
           (is (q_row c.before.before.before) i) (is (p_row c.before.before.before) i) (is (f_row c.before.before.before) i)
           (is (e_row c.before.before.before) i) (4 * s.args.p3))),
     )
