@@ -62,10 +62,10 @@ loop_again c =
     λ j few there. five_group c.args.bytes.now c.take_in.new.row row c.args.at l
     c.at_most_16-count.result j c.turn.ensures few (omega (arith, c.at_most_16-count.ensures))
     (search rules) c.take_in.ensures in (
-      firsts_sixteen _ _ _ c.loop-l.invariant.0 c.sixteen.ensures.1
+      firsts_sixteen _ _ _ c.loop-l.invariant.0 c.sixteen.ensures.1.0
           (λ j few there. ap (decided Eleven) (group j few there)
           ∙ (eight_units Eleven c.args.bytes.now (c.args.at + 8 * (l + j)) (omega (arith, c.requires.1))).0),
-      firsts_sixteen _ _ _ c.loop-l.invariant.1 c.sixteen.ensures.2
+      firsts_sixteen _ _ _ c.loop-l.invariant.1 c.sixteen.ensures.1.1
           (λ j few there. ap (λ (cs : List Counts). 16 * lead_of Eleven cs) (group j few there)
           ∙ (eight_units Eleven c.args.bytes.now (c.args.at + 8 * (l + j)) (omega (arith, c.requires.1))).1),
       omega (arith, c.loop-l.invariant.2),

@@ -36,4 +36,4 @@ lower_spec =
     tie.close
     (tie.spec
     (λ c. reads_fits (a c) (b c) (lit< tt)) (λ c. made_fits (left c) (least c).within (lit< tt))
-    (λ c. (made (left c) (least c).within (lit< tt)).is))
+    (λ c. (made {w = w32} (left c) (least c).within (lit< tt)).is))

@@ -16,7 +16,7 @@ returns : tie.Need-returns-then-u-lt0
 returns c =
     let s = c.args in
     let u : to_z w32 (of_z w32 s.u) ≡ s.u = search rules in
-    (made (ap (λ (z : ℤ). negsuc 0 -ℤ z) u) (within_add (within_neg (within_pos 1)) (within_neg c.requires))
+    (made {w = w32} (ap (λ (z : ℤ). negsuc 0 -ℤ z) u) (within_add (within_neg (within_pos 1)) (within_neg c.requires))
     (lit< tt)).is
     ∙ sym (ap (λ (t : Bool). cond t (negsuc 0 -ℤ s.u) s.u) (rw u at c.if-u-lt0.true))
 
