@@ -63,10 +63,10 @@ loop_again c =
     → rows (every_row row j 8) (every_row row (16 + j) 8) ≡ units_at Eleven octets c.args.at (l + j) =
     λ j few there. hard_column_lem c.args.at l n j (omega (arith, c.at_most_16-count.ensures)) octets
     c.columns.ensures in (
-      firsts_sixteen _ _ _ c.loop-l.invariant.0 c.sixteen.ensures.1
+      firsts_sixteen _ _ _ c.loop-l.invariant.0 c.sixteen.ensures.1.0
           (λ j few there. ap (decided Eleven) (units j few there)
           ∙ number_hard Eleven octets c.args.at c.args.m c.requires.1 (l + j) there),
-      firsts_sixteen _ _ _ c.loop-l.invariant.1 c.sixteen.ensures.2
+      firsts_sixteen _ _ _ c.loop-l.invariant.1 c.sixteen.ensures.1.1
           (λ j few there. ap (λ (cs : List Counts). 1024 * lead_of Eleven cs) (units j few there)
           ∙ lead_hard Eleven octets c.args.at c.args.m c.requires.1 (l + j) there),
       omega (arith, c.loop-l.invariant.2),

@@ -86,9 +86,9 @@ loop_again c =
     ≡ symbol_at Eleven (soft_recording i q) (c.args.at + 8 * (l + j)) =
     λ j small there. soft_column_lem c.args.at l n j (omega (arith, c.at_most_16-count.ensures)) i q
     c.columns.ensures.0 (omega (arith, c.requires.1)) (omega (arith, c.requires.2)) in (
-      firsts_sixteen _ _ _ c.loop-l.invariant.0 c.sixteen.ensures.1
+      firsts_sixteen _ _ _ c.loop-l.invariant.0 c.sixteen.ensures.1.0
           (λ j small there. ap (decided Eleven) (column j small there)),
-      firsts_sixteen _ _ _ c.loop-l.invariant.1 c.sixteen.ensures.2
+      firsts_sixteen _ _ _ c.loop-l.invariant.1 c.sixteen.ensures.1.1
           (λ j small there. ap (lead_of Eleven) (column j small there)),
       omega (arith, c.loop-l.invariant.2),
       c.columns.ensures.0.long,

@@ -38,4 +38,4 @@ credit_spec =
     tie.close
     (tie.spec
     (λ c κs. search rules) (λ c κs. search rules) (λ c. made_fits (sum c) (small c).within (lit< tt))
-    (λ c. (made (sum c) (small c).within (lit< tt)).is))
+    (λ c. (made {w = w32} (sum c) (small c).within (lit< tt)).is))
