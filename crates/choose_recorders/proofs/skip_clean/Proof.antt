@@ -5,7 +5,6 @@ use mathlib.Core.Path.{◌≡◌, refl, ◌∙◌}
 use Prim.Native.Nat.{◌-◌, ◌^◌}
 use native.Mathlib.Omega.{arith}
 use lib.ListN.{take, drop}
-use borrow.Author.Tests.{leb-true}
 use Rattle.rules_reading.specs.Reading.{first_unusable}
 use Rattle.choose_recorders.specs.Rows.{recording_of}
 use Rattle.choose_recorders.proofs.Rows.{recording_fits}
@@ -27,7 +26,7 @@ loop_again c =
     let loop = c.loop-at in
     loop.invariant
     ∙ search_past (recording_of a.rec a.octets.now a.bytes.now a.i.now a.q.now) loop.at a.to 64
-    (omega (arith, leb-true 64 (a.to - loop.at) c.if-to-at-ge64.true)) c.requires
+    (omega (arith, c.if-to-at-ge64.true)) c.requires
     (c.clean.ensures c.if-clean.true)
 
 returns : tie.Need-returns-else-clean invariant_loop decreases_loop
@@ -41,14 +40,14 @@ returns_3 c = c.loop-at.invariant
 
 clean_requires : tie.Need-clean-requires invariant_loop decreases_loop
 clean_requires c κs =
-    omega (arith, leb-true 64 (c.args.to - c.loop-at.at) c.if-to-at-ge64.true, c.requires)
+    omega (arith, c.if-to-at-ge64.true, c.requires)
 
 add_at : tie.Need-overflow_add-at invariant_loop decreases_loop
 add_at c =
     let a = c.args in
     let l = recording_fits a.rec a.octets.now a.bytes.now a.i.now a.q.now (2 ^ 64)
     (omega arith) (omega arith) (omega arith) in
-    omega (arith, leb-true 64 (a.to - c.loop-at.at) c.if-to-at-ge64.true)
+    omega (arith, c.if-to-at-ge64.true)
 
 pub skip_clean_spec : {M : Type 1} → statement M
 skip_clean_spec =
