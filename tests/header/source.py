@@ -228,7 +228,7 @@ def compare_call(name, declared, defined, records, sources):
     source_parameters = told_in_c(told_in_rattle(source_parameters, sources), records)
     faults = []
     if "no_mangle" not in attributes:
-        faults.append(f"{name}: no #[no_mangle] in the source")
+        faults.append(f"{name}: no #[unsafe(no_mangle)] in the source")
     if parameters != source_parameters:
         faults.append(f"{name}: the header has ({rows(parameters)}), "
                       f"the source ({rows(source_parameters)})")
@@ -269,7 +269,7 @@ def compare_comment(name, parameters, comment):
 def compare_contract(name, comment, contract):
     """The record that a comment names is what the call's contract ensures."""
     named = re.search(rf"crates/dsss, {name}, record (\w+)", comment)
-    if named and not re.search(rf"\bensures\b.*⌜ {named.group(1)}\s", contract, re.S):
+    if named and not re.search(rf"\bensures\b[^{{}}]*\{{\s*{named.group(1)}\s", contract):
         return [f"{name}: its contract does not ensure the record {named.group(1)} that the header names"]
     return []
 
@@ -332,22 +332,22 @@ static inline int dsss_sentence(uint64_t number) { return 0; }
 """
 SOURCES = {
     "dsss": """use frame::{Answer, Other};
-#[no_mangle]
+#[unsafe(no_mangle)]
 pub extern "C" fn dsss_read(kind: u64, chips: &[u8], octets: &mut [u8]) -> Answer
-    ensures read { λ a. ⌜ Read kind a ⌝ }
+    ensures read { Read kind a }
 { frame::read(kind) } // fn
-#[no_mangle]
+#[unsafe(no_mangle)]
 pub extern "C" fn dsss_count<'a>(sums: sums::Sums, kinds: &[u64], list: &'a [&'a [u8]]) -> Counted
-    ensures counted { λ c. ⌜ Sums
-        sums c ⌝ }
+    ensures counted { Sums
+        sums c }
 { sums::count(sums, kinds, list) }
-#[no_mangle]
+#[unsafe(no_mangle)]
 pub extern "C" fn dsss_keep(store: &mut [u8], tag: u64) -> u64
-    ensures kept { λ k. ⌜ Keeps tag k ⌝ }
+    ensures kept { Keeps tag k }
 { store::keep(store, tag) }
-#[no_mangle]
+#[unsafe(no_mangle)]
 pub extern "C" fn dsss_hear(ear: &mut ears::Ear, kind: u64) -> u64
-    ensures heard { λ h. ⌜ Hears kind h ⌝ }
+    ensures heard { Hears kind h }
 { ears::hear(ear, kind) }
 """,
     "ears": """#[repr(C)]
@@ -402,10 +402,10 @@ SPOILED = [  # which text, what, by what
     ("header", "crates/dsss, dsss_read", "crates/dsss, dsss_write"),
     ("header", "record Read:", "Read:"),
     ("header", "record Read:", "record Sums:"),
-    ("dsss", "⌜ Read kind a ⌝", "⌜ a ≡ a ⌝"),
-    ("dsss", "    ensures read { λ a. ⌜ Read kind a ⌝ }\n", ""),
-    ("dsss", "⌜ Sums\n", "⌜ Sum\n"),
-    ("dsss", "#[no_mangle]", ""),
+    ("dsss", "{ Read kind a }", "{ a ≡ a }"),
+    ("dsss", "    ensures read { Read kind a }\n", ""),
+    ("dsss", "{ Sums\n", "{ Sum\n"),
+    ("dsss", "#[unsafe(no_mangle)]", ""),
     ("dsss", "kind: u64, chips: &[u8]", "chips: &[u8], kind: u64"),
     ("dsss", "&mut [u8]", "&mut [u16]"),
     ("dsss", "-> Answer", "-> u64"),

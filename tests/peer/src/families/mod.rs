@@ -365,11 +365,11 @@ families! {
     1807 spoiled::spoiled_counted: "spoiled frames counted in lists and one by one",
     // for: SpoiledReadBack, SpoiledTold
     1808 spoiled::spoiled_unusable: "spoiled frames with one unusable octet, each of them, in the front and behind it",
-    // for: LimitsTight, past-read, SpoiledTold
+    // for: LimitsTight, past_read, SpoiledTold
     1809 beyond::beyond_five: "every pattern one beyond the limit on every word of 5.5 Mbit/s, in one symbol alone",
-    // for: LimitsTight, past-read, SpoiledTold
+    // for: LimitsTight, past_read, SpoiledTold
     1810 beyond::beyond_eleven: "patterns beyond the limit on every word of 11 Mbit/s, in one symbol alone",
-    // for: LimitsTight, past-read, SpoiledTold
+    // for: LimitsTight, past_read, SpoiledTold
     1811 beyond::beyond_barker: "each way one beyond the limit on Barker symbols of each phase, in one symbol alone",
     // for: WordsApart
     1812 beyond::words_apart: "each word of 11 Mbit/s as it was sent, by its lead",
