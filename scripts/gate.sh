@@ -26,7 +26,6 @@ trap 'rm -f "$log" "$faults"; kill $(jobs -p) 2>/dev/null || :' EXIT
 log='' faults=''
 log=$(mktemp)
 faults=$(mktemp)
-earlier=$(find crates -mindepth 2 -maxdepth 2 -name out | head -n 1)
 rt ci 2>&1 | tee "$log"
 verdict=$(tail -n 1 "$log")
 case $verdict in
@@ -42,11 +41,8 @@ if ! grep -q '^rt: ok; ' "$log" || grep -Eq '^rt: ok; .*, [0-9]+ bad' "$log"; th
     exit 1
 fi
 
-# where no earlier check left anything, the libraries that rt ci proved stand in the tree: the archive is built over them
-if [ -z "$earlier" ]; then
-    stage 'archive, over what is proved'
-    scripts/staticlib.sh --over-ci dsss
-fi
+stage 'proofs once more, kept for what follows'
+scripts/proved.sh
 
 stage 'edits: wrong programs and definitions, refused'
 python3 scripts/refused.py --self-test
