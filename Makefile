@@ -37,7 +37,7 @@ test: ## everything that must pass; its last line is 'N passed, 0 failed'
 
 # Every edit alone and from nothing; the gate tries them together.
 edits-alone: ## tries every edit alone and from nothing, 20 minutes of processor time
-	rt all check
+	scripts/proved.sh
 	python3 scripts/refused.py --alone
 
 help: ## this list

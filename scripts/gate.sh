@@ -41,6 +41,9 @@ if ! grep -q '^rt: ok; ' "$log" || grep -Eq '^rt: ok; .*, [0-9]+ bad' "$log"; th
     exit 1
 fi
 
+stage 'proofs once more, kept for what follows'
+scripts/proved.sh
+
 stage 'edits: wrong programs and definitions, refused'
 python3 scripts/refused.py --self-test
 python3 scripts/refused.py
