@@ -29,7 +29,7 @@ abbrev decreases_loop : tie.decreases-loop-k
 decreases_loop rec row bytes i q rate at symbol out₀ chips symbols part₀ place₀ k₀ out part place k = length out₀ - k
 
 -- before the loop
-abbrev begun : tie.At-loop invariant_loop decreases_loop → tie.Start invariant_loop decreases_loop
+abbrev begun : tie.At-loop-k invariant_loop decreases_loop → tie.Start invariant_loop decreases_loop
 begun c = c.before.before.before.before.before.before.before
 
 -- in a turn there are octets left
@@ -79,7 +79,7 @@ add_number : tie.Need-overflow_add-number invariant_loop decreases_loop
 add_number c = record { fits = omega (arith, numbered c) }
 
 -- a turn's block, once its octets are lent
-abbrev block : tie.After-hear-block-arg invariant_loop decreases_loop → tie.After-block-octets invariant_loop decreases_loop
+abbrev block : tie.After-hear_block-arg-1 invariant_loop decreases_loop → tie.After-block_octets-count invariant_loop decreases_loop
 block c = c.before.before.before.before
 
 hear_block_requires : tie.Need-hear_block-more-requires invariant_loop decreases_loop
@@ -90,13 +90,13 @@ hear_block_requires c κs =
       w.fits,
       rw (lent, length-drop) w.within,
       held (block c),
-      block_usable _ _ _ _ _ _ _ _ _ _ _ _ loop.invariant b w (begun (block c).before).requires.1,
+      block_usable _ _ _ _ _ _ _ _ _ _ _ _ loop.invariant b w (begun (block c).before.before).requires.1,
       loop.invariant.line.small,
       numbered (block c),
     )
 
 -- and once it is heard
-abbrev turn : tie.After-joined invariant_loop decreases_loop → tie.After-block-octets invariant_loop decreases_loop
+abbrev turn : tie.After-joined-part invariant_loop decreases_loop → tie.After-block_octets-count invariant_loop decreases_loop
 turn c = c.before.before.before.before.before.before.before.before
 
 mul_place : tie.Need-overflow_mul-place invariant_loop decreases_loop
@@ -114,7 +114,7 @@ add_k c =
       fits = omega (
         arith,
         w.within,
-        (begun (turn c).before).well_formed.1.1.1.1.1.1.1.1.1.1.0.0,
+        (begun (turn c).before.before).well_formed.1.1.1.1.1.1.1.1.1.1.0.0,
       );
     }
 
@@ -126,11 +126,11 @@ loop_less c =
 
 loop_again : tie.Need-loop-k-preserved invariant_loop decreases_loop
 loop_again c =
-    let at = (turn c).before in
+    let at = (turn c).before.before in
     let call = c.hear_block-more.ensures in
-    parts_more _ _ _ _ _ _ _ _ _ _ _ _ at.loop.invariant (left (turn c).before) (turn c).block_octets-count.ensures
-    _ _ _ _ _ call.0 call.1.0 call.1.1 c.joined_part.ensures at.before.before.octet-chips.ensures
-    at.before.octet-symbols.ensures
+    parts_more _ _ _ _ _ _ _ _ _ _ _ _ at.loop-k.invariant (left (turn c).before) (turn c).block_octets-count.ensures
+    _ _ _ _ _ call.0 call.1.0 call.1.1 c.joined-part.ensures at.octet_chips-chips.ensures
+    at.octet_symbols-symbols.ensures
 
 returns : tie.Need-returns invariant_loop decreases_loop
 returns c = parts_all c.loop-k.invariant (omega (arith, parts_long c.loop-k.invariant))
