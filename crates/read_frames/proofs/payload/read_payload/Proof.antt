@@ -40,7 +40,7 @@ returns_3 : tie.Need-returns-in-Nothing
 returns_3 c =
     let call = c.hear_payload-payload in
     payload_heard _ _ _ _ call.result.odd call.result.least _ _ (searched c.before.before.before.before.before.before.before.before)
-    c.in-Nothing.is call.ensures.0 call.ensures.1 call.ensures.2 c.heard.ensures
+    c.in-Nothing.is call.ensures.0 call.ensures.1.0 call.ensures.1.1 c.heard.ensures
 
 pub read_payload_spec : {M : Type 1} → statement M
 read_payload_spec =

@@ -56,7 +56,7 @@ hear_octets_requires c κs =
     let f = c.preamble_chips-from.ensures in (
       omega (arith, ends k _ _ e f, c.requires.0),
       usable k _ _ e f _ c.requires.1,
-      c.hear_preamble-preamble.ensures.0.small,
+      c.hear_preamble-preamble.ensures.line.small,
       omega (arith, ends k _ _ e f, few_symbols c.header_rate-rate.result 6, few k _ _ e f),
     )
 
@@ -67,7 +67,7 @@ returns c =
     (part k _ _ c.header_rate-rate.ensures
     c.preamble_chips-from.ensures _ _ _ _ _
     c.hear_octets-behind.ensures)
-    c.joined_part.ensures
+    c.joined-part.ensures
 
 pub hear_front_spec : {M : Type 1} → statement M
 hear_front_spec =

@@ -10,8 +10,8 @@ returns c =
     record {
       line = call.ensures.0;
       sfd = preamble_sfd c.args.kind _ _ _
-          call.ensures.2 c.behind_sync-sfd.ensures;
-      least = call.ensures.1;
+          call.ensures.1.1 c.behind_sync-sfd.ensures;
+      least = call.ensures.1.0;
     }
 
 pub hear_preamble_spec : {M : Type 1} → statement M

@@ -42,7 +42,7 @@ returns_3 : tie.Need-returns-in-Refused
 returns_3 c =
     let a = c.args in
     told_stays a.kind a.p _ a.preamble.now a.header.now c.requires.5 c.requires.6 _
-    c.stay-in-Refused.ensures c.requires.1 (late _ (c.told-opening.ensures.2 _ c.in-Refused.is))
+    c.stay-in-Refused.ensures c.requires.1 (late _ (c.told-opening.ensures.1.1 _ c.in-Refused.is))
     (λ fed hold at x.
     front_tells a.kind fed a.p hold a.preamble.now a.header.now at x c.if-p-ne0.false c.if-p-ne0-2.false
     c.requires.4 _ _ _ c.sfd_of-sfd.ensures c.header_of-header.ensures c.requires.5
@@ -53,7 +53,7 @@ returns_4 : tie.Need-returns-in-Fields
 returns_4 c =
     let a = c.args in
     told_tells a.kind a.p _ a.preamble.now a.header.now c.requires.5 c.requires.6 _
-    c.tell.ensures (c.told-opening.ensures.1 _ c.in-Fields.is) c.requires.0 c.requires.1
+    c.tell.ensures (c.told-opening.ensures.1.0 _ c.in-Fields.is) c.requires.0 c.requires.1
     c.requires.2
     (λ fed hold at x. (
       front_tells a.kind fed a.p hold a.preamble.now a.header.now at x c.if-p-ne0.false
