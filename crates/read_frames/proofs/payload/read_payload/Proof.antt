@@ -26,7 +26,7 @@ returns c = (payload_room _ _ _ _ c.if-octets-n.true, c.requires.3)
 hear_payload_requires : tie.Need-hear_payload-payload-requires
 hear_payload_requires c κs = (
   c.requires.1,
-  payload_usable _ _ _ _ (searched c.before.before.before) c.in-Nothing.is c.requires.1,
+  payload_usable _ _ _ _ (searched c.before.before) c.in-Nothing.is c.requires.1,
   c.if-octets-n.false,
   c.requires.2,
   c.requires.3,
@@ -34,12 +34,12 @@ hear_payload_requires c κs = (
 )
 
 returns_2 : tie.Need-returns-in-At
-returns_2 c = (payload_unusable _ _ _ _ _ (searched c.before.before.before) c.in-At.is, c.requires.3)
+returns_2 c = (payload_unusable _ _ _ _ _ (searched c.before) c.in-At.is, c.requires.3)
 
 returns_3 : tie.Need-returns-in-Nothing
 returns_3 c =
     let call = c.hear_payload-payload in
-    payload_heard _ _ _ _ call.result.odd call.result.least _ _ (searched c.before.before.before.before.before.before.before.before)
+    payload_heard _ _ _ _ call.result.odd call.result.least _ _ (searched c.before.before.before.before.before.before.before)
     c.in-Nothing.is call.ensures.0 call.ensures.1.0 call.ensures.1.1 c.heard.ensures
 
 pub read_payload_spec : {M : Type 1} → statement M

@@ -48,7 +48,7 @@ returns c =
 
 add_place : tie.Need-overflow_add-place invariant_loop decreases_loop
 add_place c =
-    record { fits = omega (arith, held c.before.before.before, c.well_formed.0.0) }
+    record { fits = omega (arith, held c.before.before, c.well_formed.0.0) }
 
 loop_again : tie.Need-loop-left-preserved invariant_loop decreases_loop
 loop_again c =

@@ -39,7 +39,7 @@ found c =
 
 -- and then 10
 abbrev searched : tie.After-odd_in_payload-odd → tie.After-first_unusable-bad
-searched c = c.before.before.before
+searched c = c.before.before
 
 odd : (c : tie.After-odd_in_payload-odd) → let a = (begun (searched c)).args in
     where_found c.odd_in_payload-odd.result
@@ -53,56 +53,56 @@ odd c =
 
 shared_slice_read_refused : tie.Need-bounds-chips-place
 shared_slice_read_refused c =
-    let s = begun c.before.before.before.before in
+    let s = begun c.before.before in
     unusable_there s.args.kind s.args.chips.now s.args.told s.requires.1 _
-    (sym (found c.before.before.before.before) ∙ ap where_found c.in-At.is)
+    (sym (found c.before.before) ∙ ap where_found c.in-At.is)
 
 cast_refused : tie.Need-overflow_cast-chips
 cast_refused c = record { fits = omega (arith, c.shared_slice_known-in-At-1.given c.in-At.place) }
 
 returns : tie.Need-returns-in-At
 returns c number room fits =
-    let a = (begun c.before.before.before.before.before).args in
+    let a = (begun c.before.before.before).args in
     shown_unusable a.kind a.chips.now a.told number room fits _
-    (sym (found c.before.before.before.before.before) ∙ ap where_found c.in-At.is) c.refused.ensures
+    (sym (found c.before.before.before) ∙ ap where_found c.in-At.is) c.refused.ensures
 
 odd_in_payload_requires : tie.Need-odd_in_payload-odd-requires
 odd_in_payload_requires c κs =
-    let s = begun c.before.before in
+    let s = begun c.before in
     let a = s.args in
     let front = c.front_chips-from.ensures in (
       omega (arith, front, s.requires.1),
       s.requires.3,
       rw front
           (payload_usable a.kind a.chips.now a.told s.requires.1
-          (sym (found c.before.before) ∙ ap where_found c.in_default.is)),
+          (sym (found c.before) ∙ ap where_found c.in_default.is)),
     )
 
 growth_at_requires : tie.Need-growth_at-requires
 growth_at_requires c κs =
-    let s = begun (searched c.before.before.before) in
+    let s = begun (searched c.before) in
     let a = s.args in
-    let is = sym (odd c.before.before.before) ∙ ap where_found c.in-At-odd.is in
+    let is = sym (odd c.before) ∙ ap where_found c.in-At-odd.is in
     let room = odd_room a.kind a.chips.now a.told s.requires.1 _ is in (
       room.0,
       room.1,
       odd_usable a.kind a.chips.now a.told s.requires.1
-          (sym (found (searched c.before.before.before)) ∙ ap where_found c.in_default.is) _ is s.requires.4,
+          (sym (found (searched c.before)) ∙ ap where_found c.in_default.is) _ is s.requires.4,
     )
 
 returns_2 : tie.Need-returns-in-At-odd
 returns_2 c number room fits =
-    let a = (begun (searched c.before.before.before.before.before)).args in
+    let a = (begun (searched c.before.before.before)).args in
     shown_odd a.kind a.chips.now a.told number room fits _
-    (sym (found (searched c.before.before.before.before.before)) ∙ ap where_found c.in_default.is)
-    (sym (odd c.before.before.before.before.before) ∙ ap where_found c.in-At-odd.is) c.growth_at.ensures c.refused-in-At-odd.ensures
+    (sym (found (searched c.before.before.before)) ∙ ap where_found c.in_default.is)
+    (sym (odd c.before.before.before) ∙ ap where_found c.in-At-odd.is) c.growth_at.ensures c.refused-in-At-odd.ensures
 
 returns_3 : tie.Need-returns-in-Nothing
 returns_3 c number room fits =
-    let a = (begun (searched c.before.before.before)).args in
+    let a = (begun (searched c.before.before)).args in
     shown_good a.kind a.chips.now a.told number room fits
-    (sym (found (searched c.before.before.before)) ∙ ap where_found c.in_default.is)
-    (sym (odd c.before.before.before) ∙ ap where_found c.in-Nothing.is) c.good2.ensures
+    (sym (found (searched c.before.before)) ∙ ap where_found c.in_default.is)
+    (sym (odd c.before.before) ∙ ap where_found c.in-Nothing.is) c.good2.ensures
 
 pub of_chips_spec : {M : Type 1} → statement M
 of_chips_spec =

@@ -82,7 +82,7 @@ returns c =
     let a = c.args in
     row_of a.kind (octet_bits a.sfd) (octet_bits a.header) a.e Sfd c.refused.ensures
     c.in-Sfd.is c.sfd_of.ensures
-    (sfd_octets a.sfd (two c.before.before.before.before.before.before) c.both.ensures.0)
+    (sfd_octets a.sfd (two c.before.before.before.before.before) c.both.ensures.0)
 
 returns_2 : tie.Need-returns-in-Crc
 returns_2 c =
@@ -94,23 +94,23 @@ returns_3 : tie.Need-returns-in-Signal
 returns_3 c =
     let a = c.args in
     row_of a.kind (octet_bits a.sfd) (octet_bits a.header) a.e (Signal _) c.refused-in-Signal.ensures
-    c.in-Signal.is refl (signal_row a.header (six c.before.before.before.before) (octets c.before.before.before.before))
+    c.in-Signal.is refl (signal_row a.header (six c.before.before.before) (octets c.before.before.before))
 
 returns_4 : tie.Need-returns-in-Service
 returns_4 c =
     let a = c.args in
     row_of a.kind (octet_bits a.sfd) (octet_bits a.header) a.e (Service _) c.refused-in-Service.ensures
     c.in-Service.is refl
-    (service_row a.header (six c.before.before.before.before.before) (octets c.before.before.before.before.before) _ c.rate_of-r.ensures c.service_left.ensures)
+    (service_row a.header (six c.before.before.before.before) (octets c.before.before.before.before) _ c.rate_of-r.ensures c.service_left.ensures)
 
 returns_5 : tie.Need-returns-in-Length
 returns_5 c =
     let a = c.args in
     row_of a.kind (octet_bits a.sfd) (octet_bits a.header) a.e (Length _) c.refused-in-Length.ensures
     c.in-Length.is
-    (length_row a.header (six c.before.before.before.before.before.before) (octets c.before.before.before.before.before.before) _ c.rate_of-r.ensures _ c.both-length.ensures.0
+    (length_row a.header (six c.before.before.before.before.before) (octets c.before.before.before.before.before) _ c.rate_of-r.ensures _ c.both-length.ensures.0
     c.length_for-expected.ensures)
-    (micros_row a.header (six c.before.before.before.before.before.before) (octets c.before.before.before.before.before.before) _ c.both-length.ensures.0)
+    (micros_row a.header (six c.before.before.before.before.before) (octets c.before.before.before.before.before) _ c.both-length.ensures.0)
 
 returns_6 : tie.Need-returns-in_default
 returns_6 c =

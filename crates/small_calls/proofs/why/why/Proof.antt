@@ -32,17 +32,17 @@ looked c e =
 
 shared_slice_read_refused : tie.Need-bounds-chips-place
 shared_slice_read_refused c =
-    omega (arith, (looked c.before.before.before.before c.in-Unusable.is).1, length_hard (begun c.before.before.before.before).args.chips.now)
+    omega (arith, (looked c.before.before c.in-Unusable.is).1, length_hard (begun c.before.before.before.before).args.chips.now)
 
 cast_refused : tie.Need-overflow_cast-chips
 cast_refused c = record { fits = omega (arith, c.shared_slice_known-in-Unusable-1.given c.in-Unusable.place) }
 
 hear_front_requires : tie.Need-hear_front-known-requires
-hear_front_requires c κs = let w = looked c.before.before c.in-Usable.is in (w.1, w.2)
+hear_front_requires c κs = let w = looked c.before c.in-Usable.is in (w.1, w.2)
 
 of_front_requires : tie.Need-of_front-requires
 of_front_requires c κs =
-    (looked c.before.before.before c.in-Usable.is, c.hear_front-known.ensures)
+    (looked c.before.before c.in-Usable.is, c.hear_front-known.ensures)
 
 returns_2 : tie.Need-returns-in-Shorter
 returns_2 c =
@@ -50,7 +50,7 @@ returns_2 c =
     let kind = known c.before.before.before.before in
     why_shorter a.kind a.chips.now a.room _
     (passed kind.before.before.is_kind_lem.ensures kind.before.if1.false) kind.kind_of_lem.ensures
-    (looked c.before.before.before.before c.in-Shorter.is ours) c.front_chips.ensures c.refused-in-Shorter.ensures
+    (looked c.before.before.before c.in-Shorter.is ours) c.front_chips.ensures c.refused-in-Shorter.ensures
 
 returns_3 : tie.Need-returns-in-Unusable
 returns_3 c =
@@ -58,7 +58,7 @@ returns_3 c =
     let kind = known c.before.before.before.before.before in
     why_unusable a.kind a.chips.now a.room _
     (passed kind.before.before.is_kind_lem.ensures kind.before.if1.false) kind.kind_of_lem.ensures _
-    ((looked c.before.before.before.before.before c.in-Unusable.is).0 ours) c.refused-in-Unusable.ensures
+    ((looked c.before.before.before c.in-Unusable.is).0 ours) c.refused-in-Unusable.ensures
 
 returns_4 : tie.Need-returns-in-Usable
 returns_4 c =
