@@ -77,7 +77,7 @@ def copy_of(name, label):
 
 
 def is_proved(name):
-    """Has `rt check` prove a crate, with the libraries below it built. Copies are checked over what it keeps in out/."""
+    """Has `rt check` prove a crate and build those below it. Copies are checked over what it keeps in out/."""
     done = subprocess.run(['rt', 'check'], cwd=os.path.join(CRATES, name), stdin=subprocess.DEVNULL,
                           stdout=subprocess.DEVNULL, stderr=subprocess.DEVNULL)
     return done.returncode == 0 and os.path.isdir(kept(name, 'incremental'))
