@@ -55,28 +55,28 @@ with_frame_requires : tie.Need-with_frame-more-requires
 with_frame_requires c κs =
     let a = c.args in
     let h = passed c.takes_more.ensures c.if-not-takes_more.false in
-    let k = known a.report (record { kind = a.kind; chips = a.chips.now }) _ h c.read_a.ensures in
+    let k = known a.report (record { kind = a.kind; chips = a.chips.now }) _ h c.read-a.ensures in
     (h, k.few, k.brief c.if-a-eq0.true)
 
 returns_2 : tie.Need-returns-then-a-eq0
 returns_2 c =
     let a = c.args in
     frame a.report (record { kind = a.kind; chips = a.chips.now }) _
-    (passed c.takes_more.ensures c.if-not-takes_more.false) c.read_a.ensures _ c.if-a-eq0.true
+    (passed c.takes_more.ensures c.if-not-takes_more.false) c.read-a.ensures _ c.if-a-eq0.true
     c.with_frame-more.ensures
 
 with_refusal_requires : tie.Need-with_refusal-more-requires
 with_refusal_requires c κs =
     let a = c.args in
     let h = passed c.takes_more.ensures c.if-not-takes_more.false in
-    let k = known a.report (record { kind = a.kind; chips = a.chips.now }) _ h c.read_a.ensures in
+    let k = known a.report (record { kind = a.kind; chips = a.chips.now }) _ h c.read-a.ensures in
     (h, omega (arith, k.most))
 
 returns_3 : tie.Need-returns
 returns_3 c =
     let a = c.args in
     refusal a.report (record { kind = a.kind; chips = a.chips.now }) _
-    (passed c.takes_more.ensures c.if-not-takes_more.false) c.read_a.ensures _ c.if-a-eq0.false
+    (passed c.takes_more.ensures c.if-not-takes_more.false) c.read-a.ensures _ c.if-a-eq0.false
     c.with_refusal-more.ensures
 
 pub add_spec : {M : Type 1} → statement M

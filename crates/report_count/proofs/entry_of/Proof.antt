@@ -15,7 +15,7 @@ returns_3 c = rw c.in-55.is
 returns_4 : tie.Need-returns-in_default
 returns_4 c =
     let code = c.args.code in
-    let h = c.in_default.rest in
+    let h = c.in_default.in_default-own.rest in
     rw (ne_eqb code 10 h.0.0.1, ne_eqb code 20 h.0.1, ne_eqb code 55 h.1)
 
 pub entry_of_spec : {M : Type 1} → statement M

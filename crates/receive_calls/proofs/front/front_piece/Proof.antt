@@ -76,7 +76,7 @@ returns_3 : tie.Need-returns-then-count-lt11
 returns_3 c =
     c.first_piece.ensures c.args.preamble.now c.args.header.now
 
--- what is known behind the c symbol
+-- what is known behind the first symbol
 abbrev begun : tie.After-ear-1 → tie.Start
 begun c =
     c.before.before.before.before.before.before.before.before.before.before.before

@@ -48,7 +48,7 @@ odd c =
     let frame = (searched c).before in
     let s = begun (searched c) in
     let a = s.args in
-    odd_is a.kind a.chips.now a.told c.odd_in_payload-odd.result frame.before.front-chips.ensures
+    odd_is a.kind a.chips.now a.told c.odd_in_payload-odd.result frame.front_chips-from.ensures
     s.requires.2 c.odd_in_payload-odd.ensures
 
 shared_slice_read_refused : tie.Need-bounds-chips-place
@@ -102,7 +102,7 @@ returns_3 c number room fits =
     let a = (begun (searched c.before.before)).args in
     shown_good a.kind a.chips.now a.told number room fits
     (sym (found (searched c.before.before)) ∙ ap where_found c.in_default.is)
-    (sym (odd c.before.before) ∙ ap where_found c.in-Nothing.is) c.good2.ensures
+    (sym (odd c.before.before) ∙ ap where_found c.in-Nothing.is) c.good.ensures
 
 pub of_chips_spec : {M : Type 1} → statement M
 of_chips_spec =

@@ -63,7 +63,7 @@ not_odd (Ends l) h q = omega arith
 not_odd (OctetRoom l) h q = omega arith
 
 -- what was told
-abbrev begun : tie.After-told → tie.Start
+abbrev begun : tie.After-told-opening → tie.Start
 begun c = c.before.before.before.before
 
 opened : (c : tie.After-told-opening) → let a = (begun c).args in
@@ -73,39 +73,39 @@ opened c = let s = begun c in c.told-opening.ensures.0 (hard_recording s.args.ch
 
 growth_at_requires : tie.Need-growth_at-requires
 growth_at_requires c κs =
-    let s = begun c.before.before.before.before.before.before in
+    let s = begun c.before.before in
     odd_front 0 s.args.kind s.args.chips.now s.args.room _
     (sym (opened c.before.before).told ∙ c.in-Refused.is) _ _ c.in-OddGrowth.is s.requires.0.1 s.requires.0.2
 
 returns : tie.Need-returns-in-OddGrowth
 returns c number =
-    let s = begun c.before.before.before.before.before.before.before.before in
+    let s = begun c.before.before.before.before in
     front_odd_lem number s.args.kind s.args.chips.now s.args.room _
     (sym (opened c.before.before.before.before).told ∙ c.in-Refused.is) (s.requires.0.0 ours) _ _ c.in-OddGrowth.is
     c.growth_at.ensures c.refused.ensures
 
 returns_2 : tie.Need-returns-in_default
 returns_2 c number =
-    let s = begun c.before.before.before.before.before in
+    let s = begun c.before.before.before in
     front_header number s.args.kind s.args.chips.now s.args.room _
     (sym (opened c.before.before.before).told ∙ c.in-Refused.is) (s.requires.0.0 ours)
-    (not_odd c.in-Refused.e c.in_default.keys2) s.requires.1.sfd s.requires.1.header
+    (not_odd c.in-Refused.e c.in_default.in_default-own.keys2) s.requires.1.sfd s.requires.1.header
     c.of_header.ensures
 
--- a c that c
-fields : (c : tie.After-line-1) → let a = (begun c.before.before.before.before).args in
+-- a front that told
+fields : (c : tie.After-line-1) → let a = (begun c.before.before).args in
     front_of a.kind (hard_recording a.chips.now) ≡ Fields c.in-Fields.told
 fields c =
-    (begun c.before.before.before.before).requires.0.0 ours ∙ sym (opened c.before.before).told ∙ c.in-Fields.is
+    (begun c.before.before).requires.0.0 ours ∙ sym (opened c.before.before).told ∙ c.in-Fields.is
 
 of_payload_requires : tie.Need-of_payload-requires
 of_payload_requires c κs =
     let line = (opened c.before.before).line _ c.in-Fields.is in
-    (fields c, line.at_phase, line.small, (begun c.before.before.before.before).requires.0.2)
+    (fields c, line.at_phase, line.small, (begun c.before.before).requires.0.2)
 
 returns_3 : tie.Need-returns-in-Fields
 returns_3 c number =
-    let a = (begun c.before.before.before.before.before).args in
+    let a = (begun c.before.before.before).args in
     c.of_payload.ensures number
     ∙ sym (ap (after_told number a.kind a.chips.now a.room) (fields c.before))
 

@@ -115,7 +115,7 @@ returns_5 c =
 returns_6 : tie.Need-returns-in_default
 returns_6 c =
     let a = c.args in
-    let row = nothing a.kind (octet_bits a.sfd) (octet_bits a.header) a.e c.in_default.keys6 in
+    let row = nothing a.kind (octet_bits a.sfd) (octet_bits a.header) a.e c.in_default.in_default-own.keys6 in
     row_of a.kind (octet_bits a.sfd) (octet_bits a.header) a.e a.e c.refused-in_default.ensures refl row.0
     row.1
 

@@ -19,20 +19,20 @@ returns c =
     c.refused.ensures
 
 -- before the look
-abbrev known : tie.After-look-at-front → tie.After-kind-of
+abbrev known : tie.After-look_at_front-looked → tie.After-kind_of-k
 known c = c.before.before.before
 
-abbrev begun : tie.After-look-at-front → tie.Start
+abbrev begun : tie.After-look_at_front-looked → tie.Start
 begun c = c.before.before.before.before.before.before.before
 
 looked : (c : tie.After-look_at_front-looked) {l : Look} → c.look_at_front-looked.result ≡ l
-    → Looks (known c).kind_of_lem.result (hard_recording (begun c).args.chips.now) l
+    → Looks (known c).kind_of-k.result (hard_recording (begun c).args.chips.now) l
 looked c e =
-    subst (Looks (known c).kind_of_lem.result (hard_recording (begun c).args.chips.now)) e c.look_at_front-looked.ensures
+    subst (Looks (known c).kind_of-k.result (hard_recording (begun c).args.chips.now)) e c.look_at_front-looked.ensures
 
 shared_slice_read_refused : tie.Need-bounds-chips-place
 shared_slice_read_refused c =
-    omega (arith, (looked c.before.before c.in-Unusable.is).1, length_hard (begun c.before.before.before.before).args.chips.now)
+    omega (arith, (looked c.before.before c.in-Unusable.is).1, length_hard (begun c.before.before).args.chips.now)
 
 cast_refused : tie.Need-overflow_cast-chips
 cast_refused c = record { fits = omega (arith, c.shared_slice_known-in-Unusable-1.given c.in-Unusable.place) }
@@ -46,26 +46,26 @@ of_front_requires c κs =
 
 returns_2 : tie.Need-returns-in-Shorter
 returns_2 c =
-    let a = (begun c.before.before.before.before).args in
-    let kind = known c.before.before.before.before in
+    let a = (begun c.before.before.before).args in
+    let kind = known c.before.before.before in
     why_shorter a.kind a.chips.now a.room _
-    (passed kind.before.before.is_kind_lem.ensures kind.before.if1.false) kind.kind_of_lem.ensures
+    (passed kind.is_kind.ensures kind.if-not-is_kind.false) kind.kind_of-k.ensures
     (looked c.before.before.before c.in-Shorter.is ours) c.front_chips.ensures c.refused-in-Shorter.ensures
 
 returns_3 : tie.Need-returns-in-Unusable
 returns_3 c =
-    let a = (begun c.before.before.before.before.before).args in
-    let kind = known c.before.before.before.before.before in
+    let a = (begun c.before.before.before).args in
+    let kind = known c.before.before.before in
     why_unusable a.kind a.chips.now a.room _
-    (passed kind.before.before.is_kind_lem.ensures kind.before.if1.false) kind.kind_of_lem.ensures _
+    (passed kind.is_kind.ensures kind.if-not-is_kind.false) kind.kind_of-k.ensures _
     ((looked c.before.before.before c.in-Unusable.is).0 ours) c.refused-in-Unusable.ensures
 
 returns_4 : tie.Need-returns-in-Usable
 returns_4 c =
-    let a = (begun c.before.before.before.before).args in
-    let kind = known c.before.before.before.before in
+    let a = (begun c.before.before.before).args in
+    let kind = known c.before.before.before in
     why_told a.kind a.chips.now a.room _
-    (passed kind.before.before.is_kind_lem.ensures kind.before.if1.false) kind.kind_of_lem.ensures
+    (passed kind.is_kind.ensures kind.if-not-is_kind.false) kind.kind_of-k.ensures
     (c.of_front.ensures a.kind)
 
 pub why_spec : {M : Type 1} → statement M
