@@ -1,6 +1,6 @@
 -- What a piece of a batch makes of a receiver. Definitions only. Assumes nothing.
 -- working notion: of the code of a receiver's calls; no promise needs it
-use Rattle.std.specs.Prelude.{◌≡◌, Bool, true, false, cond, List, ◌++◌, ℕ, ◌+◌, ◌≤◌, ◌<◌, eqb, length, take}
+use Rattle.std.specs.Prelude.{◌≡◌, true, cond, List, ◌++◌, ℕ, ◌+◌, ◌≤◌, ◌<◌, eqb, length, take}
 use Rattle.rules_rates.specs.declared.Rate.{Rate}
 use Rattle.rules_rates.specs.Rates.{code_of, is_code, rate_of}
 use Rattle.rules_chips.specs.Chips.{hard_recording}

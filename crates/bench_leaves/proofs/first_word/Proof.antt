@@ -41,33 +41,25 @@ module _ (r : Rate) (rec : List Taken) (n : ℕ) (f : Place) (e : n ≡ symbol_c
       ∙ ap (λ (m : ℕ). decided r (map taken_counts (take (symbol_chips r) (drop m rec)))) k
       ∙ good rec (symbol_chips r) f of_symbol _ h
 
--- what the search tells, and where it began
-abbrev start : tie.After-first_unusable-bad → tie.Start
-start c = c.before.before.before.before.before.before
-
-abbrev rec : tie.After-first_unusable-bad → List Taken
-rec c = soft_recording (start c).args.i.now (start c).args.q.now
-
 returns : tie.Need-returns-in-At
 returns c =
-    none (start c.before.before).args.r (rec c.before.before) _ _ c.symbol_chips.ensures
+    none c.args.r (soft_recording c.args.i.now c.args.q.now) _ _ c.symbol_chips.ensures
     c.first_unusable-bad.ensures _ c.in-At.is
 
 decide_requires : tie.Need-decide-requires
-decide_requires c κs =
-    let l = (start c.before.before.before.before).requires in (
-      lit≤ tt,
-      omega arith,
-      clean (start c.before.before.before.before).args.r (rec c.before.before.before.before) _ _ c.symbol_chips.ensures
-          c.first_unusable-bad.ensures c.in-Nothing.is l,
-      search rules,
-      search rules,
-    )
+decide_requires c κs = (
+  lit≤ tt,
+  omega arith,
+  clean c.args.r (soft_recording c.args.i.now c.args.q.now) _ _ c.symbol_chips.ensures c.first_unusable-bad.ensures
+      c.in-Nothing.is c.requires,
+  search rules,
+  search rules,
+)
 
 returns_2 : tie.Need-returns-in-Nothing
 returns_2 c =
     c.wide.ensures
-    ∙ word (start c.before.before.before.before.before.before).args.r (rec c.before.before.before.before.before.before) _ _ c.symbol_chips.ensures
+    ∙ word c.args.r (soft_recording c.args.i.now c.args.q.now) _ _ c.symbol_chips.ensures
     c.first_unusable-bad.ensures
     c.in-Nothing.is _ c.decide.ensures.0
 

@@ -1,29 +1,24 @@
 -- `bench_leaves::last_word` meets its contract: a search that found nothing leaves usable chips, and those are
 -- decided. Assumes nothing.
 use mathlib.Core.Path.{◌∙◌}
-use mathlib.Core.List.{List}
 use lib.Dec.{lit≤, lit<}
 use borrow.Author.Rules.{rules}
-use Rattle.rules_chips.specs.Chips.{Taken}
 use Rattle.choose_recorders.specs.Rows.{recording_of}
 use Rattle.bench_leaves.specs.Leaves.{last_word}
 use Rattle.choose_recorded.proofs.Searched.{bad, good, usable}
 use Rattle.bench_leaves.proofs.last_word.Statement.{statement}
 use Rattle.bench_leaves.proofs.last_word.Tie as tie
 
-abbrev rec : tie.Start → List Taken
-rec s = recording_of s.args.rec s.args.octets.now s.args.bytes.now s.args.i.now s.args.q.now
-
 returns : tie.Need-returns-in-At
 unfolding last_word
 returns c =
-    bad (rec c.before.before.before.before.before.before) 512 _ c.first_unusable-bad.ensures _ _ c.in-At.is
+    bad (recording_of c.args.rec c.args.octets.now c.args.bytes.now c.args.i.now c.args.q.now) 512 _ c.first_unusable-bad.ensures _ _ c.in-At.is
 
 decide_requires : tie.Need-decide-requires
 decide_requires c κs = (
   lit≤ tt,
   c.requires,
-  usable (rec c.before.before.before.before.before.before.before.before) 512 _ c.first_unusable-bad.ensures c.in-Nothing.is c.requires,
+  usable (recording_of c.args.rec c.args.octets.now c.args.bytes.now c.args.i.now c.args.q.now) 512 _ c.first_unusable-bad.ensures c.in-Nothing.is c.requires,
   search rules,
   search rules,
 )
@@ -32,7 +27,7 @@ returns_2 : tie.Need-returns-in-Nothing
 unfolding last_word
 returns_2 c =
     c.wide.ensures ∙ c.decide.ensures.0.number 63 (lit< tt)
-    ∙ good (rec c.before.before.before.before.before.before.before.before.before.before) 512 _ c.first_unusable-bad.ensures _ c.in-Nothing.is
+    ∙ good (recording_of c.args.rec c.args.octets.now c.args.bytes.now c.args.i.now c.args.q.now) 512 _ c.first_unusable-bad.ensures _ c.in-Nothing.is
 
 pub last_word_spec : {M : Type 1} → statement M
 last_word_spec =

@@ -47,7 +47,7 @@ loop_again c =
     let xs = c.args.xs.now in
     let v = to_z w32 (of_z w32 c.count_of.result) in
     let e : v ≡ count_of (get_or xs k nan) =
-    to_z-of_z w32 c.count_of.result (record { sfits = c.count_of.type-inv }) ∙ c.count_of.ensures in (
+    to_z-of_z w32 c.count_of.result (record { sfits = c.count_of.type_inv }) ∙ c.count_of.ensures in (
       simp length-set (omega arith),
       omega arith,
       below_more (λ (j : ℕ). get_or (set counts k v) j (pos 0) ≡ count_of (get_or xs j nan)) k

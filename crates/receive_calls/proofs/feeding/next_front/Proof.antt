@@ -22,49 +22,33 @@ front_piece_requires c κs =
       takes_last p p.room c.requires.0,
     )
 
--- the call, once the front's chips are counted
-abbrev call : tie.After-struct_known-1 → tie.After-front_piece-q
-call c = c.before.before.before.before.before.before.before.before.before
-
-abbrev begun : tie.After-front_piece-q → tie.After-kind_of-kind
-begun c = c.before.before.before.before
-
 returns : tie.Need-returns-then-progress-front_chips
 returns c =
-    let piece = call c.before in
-    let kind = begun piece in
-    let start = kind.before.before.before.before.before in
-    let a = start.args in
-    front_stays a.p _ a.hold.now a.preamble.now a.header.now a.rest.now piece.front-piece.result
-    _ _ _ start.requires.1 kind.kind_of_lem.ensures piece.front-piece.ensures
-    (subst (λ (n : ℕ). piece.front-piece.result.progress.count < n) c.front_chips.ensures
+    let a = c.args in
+    front_stays a.p _ a.hold.now a.preamble.now a.header.now a.rest.now c.front_piece-q.result
+    _ _ _ c.requires.1 c.kind_of-kind.ensures c.front_piece-q.ensures
+    (subst (λ (n : ℕ). c.front_piece-q.result.progress.count < n) c.front_chips.ensures
     c.if-progress-front_chips.true)
 
 front_told_requires : tie.Need-front_told-progress-requires
 front_told_requires c κs =
-    let piece = call c.before in
-    let kind = begun piece in
-    let start = kind.before.before.before.before.before in
-    let a = start.args in
-    let x = piece.front-piece.ensures in (
+    let a = c.args in
+    let x = c.front_piece-q.ensures in (
       omega (arith, x.count_is, x.within, c.if-progress-front_chips.false, c.front_chips.ensures),
-      ap is_kind x.kind_is ∙ (takes_front a.p a.p.room start.requires.0 start.requires.1).is_kind_lem,
-      ap kind_of x.kind_is ∙ sym kind.kind_of_lem.ensures,
-      x.preamble_long ∙ start.requires.3,
-      x.header_long ∙ start.requires.4,
+      ap is_kind x.kind_is ∙ (takes_front a.p a.p.room c.requires.0 c.requires.1).is_kind_lem,
+      ap kind_of x.kind_is ∙ sym c.kind_of-kind.ensures,
+      x.preamble_long ∙ c.requires.3,
+      x.header_long ∙ c.requires.4,
       x.small,
       x.last_small,
     )
 
 returns_2 : tie.Need-returns
 returns_2 c =
-    let piece = call c.before.before in
-    let kind = begun piece in
-    let start = kind.before.before.before.before.before in
-    let a = start.args in
-    front_ends a.p _ a.hold.now a.preamble.now a.header.now a.rest.now piece.front-piece.result
-    _ _ _ start.requires.1 kind.kind_of_lem.ensures piece.front-piece.ensures _
-    (subst (λ (n : ℕ). n ≤ piece.front-piece.result.progress.count) c.front_chips.ensures
+    let a = c.args in
+    front_ends a.p _ a.hold.now a.preamble.now a.header.now a.rest.now c.front_piece-q.result
+    _ _ _ c.requires.1 c.kind_of-kind.ensures c.front_piece-q.ensures _
+    (subst (λ (n : ℕ). n ≤ c.front_piece-q.result.progress.count) c.front_chips.ensures
     c.if-progress-front_chips.false) c.front_told-progress.ensures
 
 pub next_front_spec : {M : Type 1} → statement M

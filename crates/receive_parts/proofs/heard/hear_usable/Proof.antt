@@ -7,38 +7,27 @@ use Rattle.receive_parts.proofs.Rows.{odd_moved, row_usable, symbols_few, chips_
 use Rattle.receive_parts.proofs.heard.hear_usable.Statement.{statement}
 use Rattle.receive_parts.proofs.heard.hear_usable.Tie as tie
 
-abbrev begun : tie.After-hear_octets-arg-1 → tie.Start
-begun c = c.before.before.before.before.before
-
 hear_octets_requires : tie.Need-hear_octets-part-requires
 hear_octets_requires c κs =
-    let start = begun c in
-    let a = start.args in (
-      omega (arith, start.requires.0, length_hard a.row.now),
-      row_usable a.at _ a.row.now start.requires.0 start.requires.4,
-      start.requires.3,
-      symbols_few a.rate a.symbol _ _ start.requires.0 (omega (arith, start.requires.1)) start.requires.2,
+    let a = c.args in (
+      omega (arith, c.requires.0, length_hard a.row.now),
+      row_usable a.at _ a.row.now c.requires.0 c.requires.4,
+      c.requires.3,
+      symbols_few a.rate a.symbol _ _ c.requires.0 (omega (arith, c.requires.1)) c.requires.2,
     )
-
-abbrev heard : tie.After-low-1 → tie.After-hear_octets-part
-heard c = c.before.before.before.before.before
 
 placed_requires : tie.Need-placed-odd-requires
 placed_requires c κs =
-    let call = heard c in
-    let start = begun call.before in
-    let a = start.args in
-    odd_moved a.rate a.at a.ear.phase _ call.hear-octets.result.heard.odd _
-    call.hear-octets.ensures.line.place
-    (chips_few a.rate a.at _ _ start.requires.0 start.requires.1)
+    let a = c.args in
+    odd_moved a.rate a.at a.ear.phase _ c.hear_octets-part.result.heard.odd _
+    c.hear_octets-part.ensures.line.place
+    (chips_few a.rate a.at _ _ c.requires.0 c.requires.1)
 
 returns : tie.Need-returns
 returns c =
-    let call = heard c.before in
-    let start = begun call.before in
-    let a = start.args in
+    let a = c.args in
     usable_heard a.rate a.at a.symbol a.ear a.row.now _ _ c.placed-odd.result _
-    call.hear-octets.ensures start.requires.4 c.placed-odd.ensures.0 c.placed-odd.ensures.1
+    c.hear_octets-part.ensures c.requires.4 c.placed-odd.ensures.0 c.placed-odd.ensures.1
 
 pub hear_usable_spec : {M : Type 1} → statement M
 hear_usable_spec =

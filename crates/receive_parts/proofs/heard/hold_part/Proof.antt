@@ -19,58 +19,48 @@ unusable_from_requires : tie.Need-unusable_from-found-requires
 unusable_from_requires c κs =
     omega (arith, c.requires.0, c.requires.2, chips_most c.args.rate)
 
-abbrev begun : tie.After-unusable-from → tie.Start
-begun c = c.before.before
-
--- where nothing is found
-abbrev started : tie.After-enum-told → tie.Start
-started c = c.before.before.before.before
-
-usable : (c : tie.In-Nothing) → let a = (started c).args in
+usable : (c : tie.In-Nothing) → let a = c.args in
     first_unusable a.at (hard_recording a.row.now) ≡ none
 usable c = sym c.unusable_from-found.ensures.0 ∙ ap where_found c.in-Nothing.is
 
 look_requires : tie.Need-look-looked-requires
 look_requires c κs =
-    let start = started c.before.before in
-    let p = start.requires in
-    (omega (arith, p.0, chips_most start.args.rate), p.1, p.2, p.3, usable c.before.before)
+    let p = c.requires in
+    (omega (arith, p.0, chips_most c.args.rate), p.1, p.2, p.3, usable c.before)
 
 returns : tie.Need-returns-in-At
 returns c =
-    let start = begun c.before.before.before in
-    let a = start.args in
+    let a = c.args in
     held_bad a.rate a.at a.ear a.h a.row.now _
     (sym (ap where_found c.in-At.is) ∙ c.unusable_from-found.ensures.0)
-    (rw c.in-At.is at c.unusable_from-found.ensures.1) start.requires.3
+    (rw c.in-At.is at c.unusable_from-found.ensures.1) c.requires.3
 
 returns_2 : tie.Need-returns-in-One
 returns_2 c =
-    let a = (started c.before.before.before).args in
+    let a = c.args in
     held_one a.rate a.at a.ear a.h a.row.now c.look-looked.result c.in-One.is
-    (usable c.before.before.before) c.look-looked.ensures
+    (usable c.before.before) c.look-looked.ensures
 
 -- at the other rates nothing is looked at
-other : (c : tie.In-Nothing) (x : Piece) → let a = (started c).args in octet_chips a.rate < 88
+other : (c : tie.In-Nothing) (x : Piece) → let a = c.args in octet_chips a.rate < 88
     → (x.ear ≡ a.ear) × (x.bad ≡ Nothing) × (x.odd ≡ Nothing)
     → PartHeld a.rate a.at a.ear a.h a.row.now x
 other c x b s =
-    let start = started c in
-    let a = start.args in held_other a.rate a.at a.ear a.h a.row.now x b (usable c) start.requires.3 s
+    let a = c.args in held_other a.rate a.at a.ear a.h a.row.now x b (usable c) c.requires.3 s
 
 returns_3 : tie.Need-returns-in-Two
 returns_3 c =
-    other c.before.before.before c.nothing_found.result (rw c.in-Two.is (omega arith))
+    other c.before.before c.nothing_found.result (rw c.in-Two.is (omega arith))
     c.nothing_found.ensures
 
 returns_4 : tie.Need-returns-in-Five
 returns_4 c =
-    other c.before.before.before c.nothing_found-in-Five.result (rw c.in-Five.is (omega arith))
+    other c.before.before c.nothing_found-in-Five.result (rw c.in-Five.is (omega arith))
     c.nothing_found-in-Five.ensures
 
 returns_5 : tie.Need-returns-in-Eleven
 returns_5 c =
-    other c.before.before.before c.nothing_found-in-Eleven.result (rw c.in-Eleven.is (omega arith))
+    other c.before.before c.nothing_found-in-Eleven.result (rw c.in-Eleven.is (omega arith))
     c.nothing_found-in-Eleven.ensures
 
 pub hold_part_spec : {M : Type 1} → statement M

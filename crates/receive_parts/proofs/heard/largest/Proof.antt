@@ -1,6 +1,6 @@
 -- `receive_parts::heard::largest` meets its contract. The invariant: none of the first k octets is above the largest so
 -- far. Assumes nothing.
-use Prim.Native.Nat.{◌-◌, ◌≤◌, ◌<◌}
+use Prim.Native.Nat.{◌-◌, ◌≤◌}
 use native.Mathlib.Omega.{arith}
 use lib.ListN.{length}
 use borrow.Author.Count.{below_more}

@@ -35,59 +35,48 @@ mul_decide : tie.Need-overflow_mul-q invariant_loop decreases_loop
 mul_decide c =
     omega (arith, c.requires.0, c.requires.1)
 
-abbrev begun : tie.After-leads-1 invariant_loop decreases_loop → tie.Start invariant_loop decreases_loop
-begun c = c.before.before.before.before.before.before.before
-
 decide_requires : tie.Need-decide-requires invariant_loop decreases_loop
 decide_requires c κs =
-    let start = begun c in
-    let row = start.args.row.now in (
-      omega (arith, start.requires.0),
-      omega (arith, start.requires.1, length_hard row),
-      new_usable start.args.at start.args.h _ row refl start.requires.4 start.requires.1,
+    let row = c.args.row.now in (
+      omega (arith, c.requires.0),
+      omega (arith, c.requires.1, length_hard row),
+      new_usable c.args.at c.args.h _ row refl c.requires.4 c.requires.1,
       search rules,
       search rules,
     )
 
 loop_holds : tie.Need-loop-l-init invariant_loop decreases_loop
-loop_holds c = (refl, looks_none _ _ _ _ (begun c).requires.3)
-
--- where the numbers were decided
-abbrev decided : tie.In-loop-l invariant_loop decreases_loop → tie.After-decide invariant_loop decreases_loop
-decided c = c.before.before
+loop_holds c = (refl, looks_none _ _ _ _ c.requires.3)
 
 array_read_n : tie.Need-bounds-numbers-l invariant_loop decreases_loop
 array_read_n c =
-    let start = begun (decided c).before in
-    omega (arith, start.requires.0, (decided c).decide.ensures.0.long)
+    omega (arith, c.requires.0, c.decide.ensures.0.long)
 
 add_if1 : tie.Need-overflow_add-n invariant_loop decreases_loop
 add_if1 c =
-    let start = begun (decided c).before in
     omega (
       arith,
       c.loop-l.invariant.1.small,
-      row_small start.args.row.now _ start.args.h _ refl start.requires.0
-          (decided c).decide.ensures.0 c.loop-l.l c.loop-l-test.true,
+      row_small c.args.row.now _ c.args.h _ refl c.requires.0
+          c.decide.ensures.0 c.loop-l.l c.loop-l-test.true,
     )
 
 -- a symbol of the octet is one of its eight
 add_t36 : tie.Need-overflow_add-odd invariant_loop decreases_loop
-add_t36 c = omega (arith, (begun (decided c).before).requires.0)
+add_t36 c = omega (arith, c.requires.0)
 
 mul_t37 : tie.Need-overflow_mul-odd invariant_loop decreases_loop
-mul_t37 c = omega (arith, (begun (decided c).before).requires.0)
+mul_t37 c = omega (arith, c.requires.0)
 
 add_t38 : tie.Need-overflow_add-odd-then-n-p-eq1 invariant_loop decreases_loop
 add_t38 c =
-    let start = begun (decided c).before in omega (arith, start.requires.0, start.requires.2)
+    omega (arith, c.requires.0, c.requires.2)
 
 returns : tie.Need-returns-then-n-p-eq1 invariant_loop decreases_loop
 returns c =
-    let start = begun (decided c).before in
-    let a = start.args in
-    let few = start.requires.0 in
-    let d = (decided c).decide.ensures.0 in
+    let a = c.args in
+    let few = c.requires.0 in
+    let d = c.decide.ensures.0 in
     let l = c.loop-l.l in
     let b = c.loop-l-test.true in
     let n = row_small a.row.now _ a.h _ refl few d l b in
@@ -97,15 +86,14 @@ returns c =
           (row_each a.row.now _ a.h _ refl few d l b) n c.if-n-p-eq1.true);
       last_is = λ z. found_place _ z;
       small = n;
-      odd_few = omega (arith, start.requires.0, start.requires.2);
+      odd_few = omega (arith, c.requires.0, c.requires.2);
     }
 
 loop_again : tie.Need-loop-l-preserved invariant_loop decreases_loop
 loop_again c =
-    let start = begun (decided c).before in
-    let a = start.args in
-    let few = start.requires.0 in
-    let d = (decided c).decide.ensures.0 in
+    let a = c.args in
+    let few = c.requires.0 in
+    let d = c.decide.ensures.0 in
     let l = c.loop-l.l in
     let b = c.loop-l-test.true in
     let n = row_small a.row.now _ a.h _ refl few d l b in (
@@ -117,9 +105,8 @@ loop_again c =
 
 returns_2 : tie.Need-returns invariant_loop decreases_loop
 returns_2 c =
-    let start = begun c in
-    let a = start.args in
-    let few = start.requires.0 in
+    let a = c.args in
+    let few = c.requires.0 in
     let inv = c.loop-l.invariant.1 in
     let over = looks_all a.at (a.h / 11) a.last (new_words One a.h a.row.now) c.loop-l.l _ inv
     (rw (row_long a.row.now _ a.h _ refl few c.decide.ensures.0) c.loop-l-test.false) in

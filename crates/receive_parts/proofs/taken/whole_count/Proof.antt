@@ -24,8 +24,8 @@ there r c len w e h = by r (rw e at h)
     by Five h = omega arith
     by Eleven h = omega arith
 
-div_at_most : tie.Need-nonzero-div-at-most
-div_at_most c = omega (arith, some_chips c.before.before.args.rate _ c.octet_chips-chips.ensures)
+div_at_most : tie.Need-nonzero_div-len
+div_at_most c = omega (arith, some_chips c.args.rate _ c.octet_chips-chips.ensures)
 
 returns_2 : tie.Need-returns
 returns_2 c =
