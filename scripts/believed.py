@@ -150,13 +150,17 @@ def list_of(tree, rows):
     """The list's text."""
     specs = {path: Spec(path, tree.text(path)) for path in tree.matching(r'crates/\w+/specs/.*\.antt')}
     roots = contracts(tree, specs)
-    calls, everything = closure(specs, roots), closure(specs, roots | promises_of(tree, specs, rows))
+    wanted = roots | promises_of(tree, specs, rows)
+    calls, everything = closure(specs, roots), closure(specs, wanted)
+    # what has begun and has not landed may need a working notion of what has
+    early = promises.begun(tree.root)
+    landed = closure(specs, {one for one in wanted if one[0].split('/')[1] not in early})
     crates, lines, sums = promises.order_of(tree), [], [0, 0, 0, 0]
     for path in sorted(specs, key=lambda p: (crates.index(p.split('/')[1]) if p.split('/')[1] in crates else 0, p)):
         spec, counts = specs[path], [0, 0, 0, 0]
         for name, body in spec.lines.items():
             reached, marked = (path, name) in everything, name in spec.marked
-            if reached and marked:
+            if (path, name) in landed and marked:
                 tree.fault(path, f'{name} is marked as a working notion, and a promise reaches it')
             if not reached and not marked:
                 tree.fault(path, f'{name}: no promise reaches it, and it is not marked as a working notion')

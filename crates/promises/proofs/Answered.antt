@@ -3,8 +3,8 @@
 -- pairs of bytes. The frame is that of `Computed`: 1,056 + 8 chips. Assumes nothing.
 use mathlib.Core.Path.{◌≡◌, refl, ◌∙◌}
 use mathlib.Core.List.{List, [], ◌∷◌, ◌++◌}
-use Prim.Native.Nat.{ℕ, ◌+◌}
-use lib.ListN.{length, take, replicate}
+use Prim.Native.Nat.{ℕ}
+use lib.ListN.{take, replicate}
 use lib.IntN.{ℤ, pos, neg_ℤ}
 use lib.Ieee.{nan}
 use Rattle.rules_chips.specs.Chips.{hard_recording, byte_recording}

@@ -3,7 +3,7 @@
 use mathlib.Core.Path.{◌≡◌, sym, ap, ap₂, ◌∙◌, subst}
 use mathlib.Core.Bool.{Bool, true, false, not}
 use mathlib.Core.List.{List, [], ◌∷◌}
-use Prim.Native.Nat.{ℕ, zero, suc, ◌+◌, ◌-◌, ◌*◌, ◌≤◌, ◌<◌}
+use Prim.Native.Nat.{ℕ, zero, suc, ◌+◌, ◌*◌, ◌≤◌, ◌<◌}
 use native.Mathlib.Omega.{arith}
 use lib.Dec.{T, leb, leb→le}
 use lib.ListN.{length, get_or, get_or-map}
@@ -22,8 +22,6 @@ use Rattle.rules_frame.specs.declared.Kind.TheVariants.{Long, Short}
 use Rattle.rules_frame.specs.Frame.{kind_of, frame_chips}
 use Rattle.rules_reading.specs.Places.{UsableAt}
 use Rattle.rules_calls.specs.declared.Record.{Record}
-use Rattle.rules_calls.specs.declared.Front.TheVariants as front
-use Rattle.rules_calls.specs.declared.Reading.TheVariants as reading
 use Rattle.promises.specs.Calls.{Read, Goes}
 use Rattle.promises.specs.Reasons.{
   ReadAnswer,

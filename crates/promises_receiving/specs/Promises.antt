@@ -1,6 +1,7 @@
 -- What is promised of a receiver's calls, one after the other (RULES 6.31), by themselves and beside the hard reader and
--- the writer. Statements speak of calls that the contracts allow (`ReceiverOpens`, `ReceiverFeeds`, `ReceiverCloses` of rules_receiving, in
--- the order that `Runs` and `Shut` name; `ReadHard` and `Sent` of promises), so they are about the programs.
+-- the writer. Statements speak of calls that the contracts allow (`ReceiverOpens`, `ReceiverFeeds`, `ReceiverCloses` of
+-- rules_receiving, in the order that `Runs` and `Shut` name; `ReadHard` and `Sent` of promises), so they are about the
+-- programs.
 -- Definitions only. Assumes nothing.
 use Rattle.std.specs.Prelude.{ℕ, suc, ◌+◌, ◌-◌, ◌*◌, ◌≤◌, ◌<◌, ◌≡◌, List, ◌++◌, length, take, replicate}
 use Rattle.rules_chips.specs.Chips.{hard_recording}

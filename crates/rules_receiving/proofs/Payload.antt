@@ -3,27 +3,24 @@
 --     payload_words_prefix, payload_prefix, frame_leads_prefix    m octets whose chips are there
 --     octets_count, symbols_count, rest_count     by the chips of a part
 -- Assumes nothing.
-use mathlib.Core.Path.{◌≡◌, refl, sym, ap, ap₂, ◌∙◌}
-use mathlib.Core.Bool.{Bool, true, false, cond}
-use mathlib.Core.List.{List, [], ◌∷◌, ◌++◌, map}
-use mathlib.Core.Option.{Option, none, some}
-use Prim.Native.Nat.{ℕ, zero, suc, ◌+◌, ◌-◌, ◌*◌, ◌/◌, ◌%◌, ◌≤◌, ◌<◌}
-use native.Mathlib.Nat.{add-zero}
+use mathlib.Core.Path.{◌≡◌, ap, ap₂, ◌∙◌}
+use mathlib.Core.List.{List, ◌++◌}
+use Prim.Native.Nat.{ℕ, ◌+◌, ◌*◌, ◌/◌, ◌%◌, ◌≤◌, ◌<◌}
 use native.Mathlib.Omega.{arith}
-use lib.ListN.{length, take, drop, length-drop}
+use lib.ListN.{length, drop, length-drop}
 use lib.Seq.{drop-append-le}
 use Rattle.rules_rates.specs.declared.Rate.{Rate}
 use Rattle.rules_rates.specs.declared.Rate.TheVariants.{One, Two, Five, Eleven}
-use Rattle.rules_rates.specs.Rates.{symbol_chips, symbol_bits, octet_symbols, octet_chips}
+use Rattle.rules_rates.specs.Rates.{symbol_chips, octet_symbols, octet_chips}
 use Rattle.rules_rates.proofs.Octets.{part_symbols, part_chips}
-use Rattle.rules_chips.specs.Chips.{Taken, is_unusable, hard_taken, hard_recording}
+use Rattle.rules_chips.specs.Chips.{Taken}
 use Rattle.rules_bits.specs.Bits.{octets_of}
 use Rattle.rules_bits.specs.Growths.{heard}
 use Rattle.rules_bits.specs.Scrambler.{descramble}
 use Rattle.rules_frame.specs.declared.Kind.{Kind}
 use Rattle.rules_frame.specs.Frame.{start, front_chips, preamble_length, header_length}
-use Rattle.rules_reading.specs.Leads.{decided_leads, front_leads, payload_leads, frame_leads}
-use Rattle.rules_reading.specs.Reading.{or_else, first_unusable, decided_words, payload_words, payload_of}
+use Rattle.rules_reading.specs.Leads.{decided_leads, payload_leads, frame_leads}
+use Rattle.rules_reading.specs.Reading.{decided_words, payload_words, payload_of}
 use Rattle.rules_receiving.proofs.Prefix.{words_prefix, leads_prefix, phase_prefix, heard_prefix, front_leads_prefix}
 
 -- ---- m octets whose chips are there

@@ -4,9 +4,8 @@
 use mathlib.Core.Path.{◌≡◌, refl}
 use mathlib.Core.Bool.{true, false}
 use mathlib.Core.List.{List, [], ◌∷◌, ◌++◌, map}
-use mathlib.Core.Option.{some}
 use Prim.Native.Nat.{ℕ, zero, suc, ◌*◌}
-use lib.ListN.{length, replicate, set}
+use lib.ListN.{replicate, set}
 use Rattle.base.specs.Tables.{tabulate}
 use Rattle.rules_chips.specs.Chips.{hard_recording}
 use Rattle.rules_frame.specs.declared.Kind.TheVariants.{Long, Short}

@@ -5,7 +5,6 @@ use Prim.Native.Nat.{◌-◌, ◌≤◌}
 use native.Mathlib.Omega.{arith}
 use lib.ListN.{drop}
 use borrow.Author.Rules.{rules}
-use borrow.Author.Tests.{not-true}
 use Rattle.rules_chips.specs.Chips.{hard_recording}
 use Rattle.rules_finding.proofs.Laws.{AllMissed, start_none}
 use Rattle.rules_finding.proofs.Seeks.{seek_hit, seek_miss, seek_none}

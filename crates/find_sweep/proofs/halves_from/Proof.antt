@@ -1,6 +1,6 @@
 -- `find_sweep::halves_from` meets its contract: eleven chips decide by their sides as they do by their counts. Assumes
 -- nothing.
-use Prim.Native.Nat.{◌+◌, ◌-◌}
+use Prim.Native.Nat.{◌+◌}
 use native.Mathlib.Omega.{arith}
 use borrow.Author.Rules.{rules}
 use Rattle.find_sweep.proofs.Rows.{added_as}

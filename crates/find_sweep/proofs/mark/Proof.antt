@@ -1,5 +1,4 @@
 -- `find_sweep::mark` meets its contract: four numbers that are these give 1. Assumes nothing.
-use Prim.Native.Nat.{◌-◌}
 use native.Mathlib.Omega.{arith}
 use borrow.Author.Rules.{rules}
 use borrow.Author.Tests.{eq-eqb}

@@ -1,5 +1,4 @@
 -- `find_sweep::marks` meets its contract: five steps, each over the row that the one before it left. Assumes nothing.
-use Prim.Native.Nat.{◌-◌}
 use native.Mathlib.Omega.{arith}
 use Rattle.find_sweep.proofs.Chain.{
   plains_small,

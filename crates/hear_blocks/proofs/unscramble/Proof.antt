@@ -1,5 +1,5 @@
 -- `hear_blocks::unscramble` meets its contract. The invariant: the first o octets are stored. Assumes nothing.
-use Rattle.std.proofs.Common.{◌≡◌, ◌+◌, ◌-◌, ◌≤◌, ◌++◌, length, get_or, take, drop, refl, ◌∙◌, arith, length-set}
+use Rattle.std.proofs.Common.{◌≡◌, ◌-◌, ◌≤◌, ◌++◌, length, get_or, take, drop, refl, ◌∙◌, arith, length-set}
 use Rattle.base.proofs.Over.{over_whole}
 use Rattle.hear_codes.specs.Codes.{behind, plain}
 use Rattle.hear_codes.proofs.Plain.{plain_length, plain_more}

@@ -1,7 +1,6 @@
 -- `read_frames::read` meets its contract: 1, 7, then what our own readers come to. Assumes nothing.
 use mathlib.Core.Path.{◌≡◌, sym, ◌∙◌}
 use mathlib.Core.Bool.{true}
-use borrow.Author.Tests.{not-true, not-false}
 use Rattle.rules_frame.specs.Frame.{is_kind}
 use borrow.Author.Rules.{rules}
 use Rattle.read_frames.proofs.Order.{read_no_kind, read_rows, read_ours, cleared, as_long}

@@ -1,5 +1,5 @@
 -- `read_fronts::told` meets its contract: 10, then what the header tells. Assumes nothing.
-use mathlib.Core.Path.{◌≡◌, sym, ◌∙◌}
+use mathlib.Core.Path.{sym, ◌∙◌}
 use borrow.Author.Rules.{rules}
 use Rattle.read_fronts.proofs.Order.{usable_odd, usable_header}
 use Rattle.read_fronts.proofs.Sizes.{header_few, refused_few, header_late, odd_late}

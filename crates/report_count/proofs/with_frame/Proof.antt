@@ -6,7 +6,6 @@ use mathlib.Core.Bool.{Bool, true, false, cond}
 use Prim.Native.Nat.{ℕ, ◌+◌, ◌<◌}
 use native.Mathlib.Omega.{arith}
 use lib.ListN.{get_or, set}
-use borrow.Author.Tests.{not-true, not-false}
 use Rattle.rules_calls.specs.declared.Record.{Record}
 use Rattle.rules_report.specs.Totals.{front_time}
 use Rattle.rules_report.specs.Report.{entry_of, is_closer, with_frame}

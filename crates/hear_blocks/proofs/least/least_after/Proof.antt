@@ -1,7 +1,6 @@
 -- `hear_blocks::least::least_after` meets its contract: what the quick test passes has no smaller lead. Assumes
 -- nothing.
 use Rattle.std.proofs.Common.{sym, arith, rules}
-use borrow.Author.Tests.{not-true}
 use Rattle.rules_reading.proofs.Lowest.{row_kept}
 use Rattle.hear_blocks.proofs.least.least_after.Statement.{statement}
 use Rattle.hear_blocks.proofs.least.least_after.Tie as tie
