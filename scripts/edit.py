@@ -10,7 +10,8 @@ crates/NAME/refused/ERROR_IT_IS.edit, or one of must-fail/ beside it, which `rt 
 
 More pairs of old and new may follow a file, and more files the first. Of an edit of definitions or statements the file
 that refuses is a file of proofs/, with the fact or the law that no longer holds. Of an edit of a function's body it is
-the function's own proof, proofs/FUNCTION/Proof.antt, or the function's file in src/ where it has none.
+the function's own proof, Proof.antt, Answers.antt or Invariants.antt of proofs/FUNCTION/, or the function's file in
+src/ where it has none.
 """
 import os
 import re

@@ -1,7 +1,7 @@
 """refused_test.py: edits that are no good, each of which scripts/refused.py must find out (its --self-test)."""
 import os
 import refused
-from checker import ROOM, build_folder
+from checker import ROOM, prove
 from edit import Edit
 
 # what is tried, with what must be said of it; None: it is refused as it should be
@@ -20,37 +20,44 @@ new: 0x4640_0000 // 12288.0
 SAME_NUMBER = """# no input: the same number, written otherwise
 by: proofs/AnswerFacts.antt
 file: specs/Answers.antt
-old: refusalNumber NoRate = 2
-new: refusalNumber NoRate = 0x2
+old: refusal_number NoRate = 2
+new: refusal_number NoRate = 0x2
 """
 OTHER_FILE = """# rate code 21: 3 in place of 2, which no header knows of
 by: proofs/HeaderFacts.antt
 file: specs/Answers.antt
-old: refusalNumber NoRate = 2
-new: refusalNumber NoRate = 3
+old: refusal_number NoRate = 2
+new: refusal_number NoRate = 3
 """
 NO_TEXT = """# no input: no definition has this name
 by: proofs/AnswerFacts.antt
 file: specs/Answers.antt
-old: refusalNumber NoRate = 2
-new: refusalNumber NoRate = noSuchNumber
+old: refusal_number NoRate = 2
+new: refusal_number NoRate = no_such_number
 """
 NO_FILE = """# rate code 21: 3 in place of 2
 file: specs/Answers.antt
-old: refusalNumber NoRate = 2
-new: refusalNumber NoRate = 3
+old: refusal_number NoRate = 2
+new: refusal_number NoRate = 3
 """
 OLD_TEXT = """# rate code 21: 3 in place of 2
 by: proofs/AnswerFacts.antt
 file: specs/Answers.antt
-old: refusalNumber NoSuchRate = 2
-new: refusalNumber NoSuchRate = 3
+old: refusal_number NoSuchRate = 2
+new: refusal_number NoSuchRate = 3
+"""
+GONE = """# no input: a lemma is not public any more
+by: proofs/ReadBack.antt
+file: proofs/Accepting.antt
+old: pub same_refl :
+new: same_refl :
 """
 CASES = [
     ('choose_counts', [(WRONG_USABLE, None), (SAME_COUNT, 'NOT REFUSED')]),
     ('rules_calls', [(SAME_NUMBER, 'NOT REFUSED')]),
     ('rules_calls', [(OTHER_FILE, 'refused by')]),
     ('rules_calls', [(NO_TEXT, 'its text does not compile')]),
+    ('rules_calls', [(GONE, 'SHOWS NOTHING')]),
     ('rules_calls', [(NO_FILE, 'its second line')]),
     ('rules_calls', [(OLD_TEXT, 'its old text stands 0 times')]),
 ]
@@ -67,10 +74,13 @@ def written(crate, number, text):
 
 
 def run():
-    build, faults = build_folder(), 0
+    faults = 0
+    if prove(dict(CASES)):
+        print('refused.py: self-test: a crate is not proved: `rt ci` comes first')
+        return 1
     for crate, texts in CASES:
         edits = [written(crate, n, text) for n, (text, _) in enumerate(texts)]
-        answers, _ = refused.try_together(edits, build) if len(edits) > 1 else refused.try_alone(edits[0], build)
+        answers, _ = refused.try_together(edits) if len(edits) > 1 else refused.try_alone(edits[0])
         for (text, owed), (_, fault) in zip(texts, answers):
             if not (fault is None if owed is None else (fault or '').startswith(owed)):
                 faults += 1
