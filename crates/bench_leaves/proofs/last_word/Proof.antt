@@ -12,22 +12,27 @@ use Rattle.bench_leaves.proofs.last_word.Tie as tie
 returns : tie.Need-returns-in-At
 unfolding last_word
 returns c =
-    bad (recording_of c.args.rec c.args.octets.now c.args.bytes.now c.args.i.now c.args.q.now) 512 _ c.first_unusable-bad.ensures _ _ c.in-At.is
+    let a = c.args in
+    bad (recording_of a.rec a.octets.now a.bytes.now a.i.now a.q.now) 512 _ c.first_unusable-bad.ensures _ _ c.in-At.is
 
 decide_requires : tie.Need-decide-requires
-decide_requires c κs = (
-  lit≤ tt,
-  c.requires,
-  usable (recording_of c.args.rec c.args.octets.now c.args.bytes.now c.args.i.now c.args.q.now) 512 _ c.first_unusable-bad.ensures c.in-Nothing.is c.requires,
-  search rules,
-  search rules,
-)
+decide_requires c κs =
+    let a = c.args in (
+      lit≤ tt,
+      c.requires,
+      usable (recording_of a.rec a.octets.now a.bytes.now a.i.now a.q.now) 512 _ c.first_unusable-bad.ensures
+          c.in-Nothing.is c.requires,
+      search rules,
+      search rules,
+    )
 
 returns_2 : tie.Need-returns-in-Nothing
 unfolding last_word
 returns_2 c =
+    let a = c.args in
     c.wide.ensures ∙ c.decide.ensures.0.number 63 (lit< tt)
-    ∙ good (recording_of c.args.rec c.args.octets.now c.args.bytes.now c.args.i.now c.args.q.now) 512 _ c.first_unusable-bad.ensures _ c.in-Nothing.is
+    ∙ good (recording_of a.rec a.octets.now a.bytes.now a.i.now a.q.now) 512 _ c.first_unusable-bad.ensures _
+    c.in-Nothing.is
 
 pub last_word_spec : {M : Type 1} → statement M
 last_word_spec =

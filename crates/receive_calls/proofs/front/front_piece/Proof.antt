@@ -76,25 +76,19 @@ returns_3 : tie.Need-returns-then-count-lt11
 returns_3 c =
     c.first_piece.ensures c.args.preamble.now c.args.header.now
 
--- what is known behind the first symbol
-abbrev begun : tie.After-ear-1 → tie.Start
-begun c =
-    c.before.before.before.before.before.before.before.before.before.before.before
-
 take_piece_requires : tie.Need-take_piece-t-requires
 take_piece_requires c κs =
-    let start = begun c.before.before.before.before.before in
-    let asks = preamble_asks start.args.kind _ _ _ start.args.preamble.now c.preamble_count-n.ensures
-    c.preamble_chips-from.ensures start.requires.2 c.if-count-from.true in (
+    let asks = preamble_asks c.args.kind _ _ _ c.args.preamble.now c.preamble_count-n.ensures
+    c.preamble_chips-from.ensures c.requires.2 c.if-count-from.true in (
       omega arith,
       asks.0,
       asks.1,
       asks.2,
       omega arith,
       omega arith,
-      start.requires.1,
-      start.requires.4,
-      start.requires.5,
+      c.requires.1,
+      c.requires.4,
+      c.requires.5,
     )
 
 keep_requires : tie.Need-keep-requires
@@ -102,13 +96,12 @@ keep_requires c κs =
     let x = c.take_piece-t.ensures in (
       x.bad_few,
       x.odd_few,
-      preamble_few (begun c.before.before.before.before.before.before.before.before.before.before).args.kind _ _ c.preamble_count-n.ensures x.within,
+      preamble_few c.args.kind _ _ c.preamble_count-n.ensures x.within,
     )
 
 returns_4 : tie.Need-returns-then-count-from
 returns_4 c =
-    let start = begun c.before.before.before.before.before.before.before.before.before.before.before in
-    let a = start.args in
+    let a = c.args in
     preamble_keeps a.kind a.p a.hold.now a.preamble.now a.header.now a.rest.now _ _
     c.keep.ensures c.if-p-ne0.false c.if-p-ne0-2.false _ _ _ c.preamble_count-n.ensures
     c.if-count-lt11.false (below _ _ _ c.preamble_chips-from.ensures c.if-count-from.true)
@@ -116,18 +109,17 @@ returns_4 c =
 
 take_piece_requires_2 : tie.Need-take_piece-t-requires-2
 take_piece_requires_2 c κs =
-    let start = begun c.before.before.before.before.before in
-    let asks = header_asks start.args.kind _ _ _ c.header_rate-rate.ensures c.preamble_chips-from.ensures
-    start.requires.0 in (
+    let asks = header_asks c.args.kind _ _ _ c.header_rate-rate.ensures c.preamble_chips-from.ensures
+    c.requires.0 in (
       c.if-count-from.false,
       asks.0,
-      omega (arith, start.requires.3),
+      omega (arith, c.requires.3),
       omega arith,
       asks.1,
       asks.2,
-      start.requires.1,
-      start.requires.4,
-      start.requires.5,
+      c.requires.1,
+      c.requires.4,
+      c.requires.5,
     )
 
 keep_requires_2 : tie.Need-keep-requires-2
@@ -135,14 +127,13 @@ keep_requires_2 c κs =
     let x = c.take_piece-t-2.ensures in (
       x.bad_few,
       x.odd_few,
-      header_few (begun c.before.before.before.before.before.before.before.before.before.before).args.kind _ _ _ c.header_rate-rate.ensures c.preamble_chips-from.ensures
+      header_few c.args.kind _ _ _ c.header_rate-rate.ensures c.preamble_chips-from.ensures
           x.within,
     )
 
 returns_5 : tie.Need-returns
 returns_5 c =
-    let start = begun c.before.before.before.before.before.before.before.before.before.before.before in
-    let a = start.args in
+    let a = c.args in
     header_keeps a.kind a.p a.hold.now a.preamble.now a.header.now a.rest.now _ _
     c.keep-2.ensures c.if-p-ne0.false c.if-p-ne0-2.false _ _ _ _ c.header_rate-rate.ensures
     c.preamble_chips-from.ensures c.if-count-from.false c.take_piece-t-2.ensures

@@ -12,29 +12,24 @@ use Rattle.receive_parts.proofs.Rows.{row_none, unusable_moved, row_unusable}
 use Rattle.receive_parts.proofs.heard.unusable_from.Statement.{statement}
 use Rattle.receive_parts.proofs.heard.unusable_from.Tie as tie
 
-abbrev begun : tie.After-none-1 → tie.Start
-begun c = c.before.before.before.before.before
-
 first_unusable_requires : tie.Need-first_unusable-found-requires
-first_unusable_requires c κs = omega (arith, length_hard (begun c).args.row.now)
+first_unusable_requires c κs = omega (arith, length_hard c.args.row.now)
 
 placed_requires : tie.Need-placed-requires
 placed_requires c κs =
-    let start = begun c.before in
-    let row = start.args.row.now in
-    unusable_moved start.args.at c.first_unusable-found.result (hard_recording row)
+    let row = c.args.row.now in
+    unusable_moved c.args.at c.first_unusable-found.result (hard_recording row)
     (c.first_unusable-found.ensures
     ∙ ap (first_unusable 0) (take_all (length row - 0) (hard_recording row) (omega (arith, length_hard row))))
-    (omega (arith, length_hard row, start.requires))
+    (omega (arith, length_hard row, c.requires))
 
 returns : tie.Need-returns-then-largest-lt5
 returns c = (row_none c.args.at _ c.args.row.now c.largest.ensures c.if-largest-lt5.true, tt)
 
 returns_2 : tie.Need-returns
 returns_2 c =
-    let start = begun c.before.before in
-    let row = start.args.row.now in (
-      row_unusable start.args.at row c.first_unusable-found.result c.placed.result (length row - 0)
+    let row = c.args.row.now in (
+      row_unusable c.args.at row c.first_unusable-found.result c.placed.result (length row - 0)
           (omega arith) c.first_unusable-found.ensures c.placed.ensures.0,
       c.placed.ensures.1,
     )

@@ -36,7 +36,8 @@ returns c =
     let least = c.at_most-taken.ensures in
     joins_taken a.rate a.from a.first a.n a.count _ _ _ _ a.ear a.hold.now a.rest.now
     a.out.now c.join-piece.result _ _ c.join-piece.new.octet
-    c.octet_chips-chips.ensures c.octet_symbols-symbols.ensures (known c.before.before.before.before.before.before.before.before.before.before.before) c.requires.2
+    c.octet_chips-chips.ensures c.octet_symbols-symbols.ensures
+    (known c.before.before.before.before.before.before.before.before.before.before.before) c.requires.2
     c.requires.6 c.requires.7 least.0 least.1 least.2 c.join-piece.ensures
     c.join-piece.auto.octet
 
@@ -45,7 +46,8 @@ returns_2 c =
     let a = c.args in
     heard_taken a.rate a.from a.first a.n a.count _ _ _ _ _ a.ear a.hold.now a.rest.now
     a.out.now c.hear_whole-piece.result c.hear_whole-piece.new.out
-    c.octet_chips-chips.ensures c.octet_symbols-symbols.ensures (known c.before.before.before.before.before.before.before) c.requires.2
+    c.octet_chips-chips.ensures c.octet_symbols-symbols.ensures
+    (known c.before.before.before.before.before.before.before) c.requires.2
     c.whole_count-w.ensures
     (omega (arith, c.if-w-eq0.false))
     c.hear_whole-piece.ensures c.hear_whole-piece.auto.out
@@ -76,13 +78,14 @@ some_chips c = omega (arith, (known c).part, c.octet_chips-chips.ensures)
 join_requires : tie.Need-join-piece-requires
 join_requires c κs =
     let a = c.args in
+    let at = c.before.before.before.before.before.before in
     let least = c.at_most-taken.ensures in
     let chips = c.octet_chips-chips.ensures in (
-      omega (arith, front_long c.at_most-taken.result a.rest.now least.0, least.1, (known c.before.before.before.before.before.before).part, chips),
-      part_long (octets c.before.before.before.before.before.before) 1 a.out.now (omega (arith, (known c.before.before.before.before.before.before).before, c.requires.2)),
+      omega (arith, front_long c.at_most-taken.result a.rest.now least.0, least.1, (known at).part, chips),
+      part_long (octets at) 1 a.out.now (omega (arith, (known at).before, c.requires.2)),
       c.requires.6,
-      omega (arith, chips_few c.before.before.before.before.before.before, c.requires.4),
-      omega (arith, symbols_few c.before.before.before.before.before.before, c.requires.5),
+      omega (arith, chips_few at, c.requires.4),
+      omega (arith, symbols_few at, c.requires.5),
       c.requires.7,
       c.requires.8,
     )
@@ -109,11 +112,12 @@ straight_room c = omega (arith, c.whole_count-w.ensures.within, c.requires.2)
 hear_whole_requires : tie.Need-hear_whole-piece-requires
 hear_whole_requires c κs =
     let a = c.args in
-    let row = front_long _ a.rest.now (straight_there c.before.before.before) in
-    let lent = part_long (octets c.before.before.before.before) (straight c.before.before.before) a.out.now (straight_room c.before.before.before) in (
+    let at = c.before.before.before in
+    let row = front_long _ a.rest.now (straight_there at) in
+    let lent = part_long (octets at.before) (straight at) a.out.now (straight_room at) in (
       row ∙ ap₂ {C = ℕ} (λ i j. i * j) c.octet_chips-chips.ensures (sym lent),
-      omega (arith, row, chips_few c.before.before.before.before, straight_few c.before.before.before, c.requires.4),
-      omega (arith, symbols_few c.before.before.before.before, c.requires.5),
+      omega (arith, row, chips_few at.before, straight_few at, c.requires.4),
+      omega (arith, symbols_few at.before, c.requires.5),
       c.requires.7,
       c.requires.8,
     )
