@@ -126,7 +126,8 @@ def contracts(tree, specs):
     found = set()
     for path in tree.matching(r'crates/dsss/src/.*\.rt'):
         text = tree.text(path)
-        for clause in re.findall(r'\bensures\b[^{]*\{([^}]*)\}', text):
+        # a clause ends at its last brace, and may hold others
+        for clause in re.findall(r'\bensures\b[^{]*(\{(?:[^{}]|\{[^{}]*\})*\})', text):
             found |= named(specs, path, imports(text), words([clause]))
     return found
 
