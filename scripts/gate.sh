@@ -35,9 +35,9 @@ case $verdict in
     exit 1
     ;;
 esac
-# an edit that could not be tried shows nothing, and rt ci passes all the same
-if ! grep -q '^rt: ok; ' "$log" || grep -Eq '^rt: ok; .*, [0-9]+ bad' "$log"; then
-    echo 'gate.sh: must-fail edits are bad, or rt ci does not say that none is' >&2
+# an edit that could not be tried shows nothing, and one at which the prover gave up shows little: rt ci passes both
+if ! grep -q '^rt: ok; ' "$log" || grep -Eq '^rt: ok; .*, [0-9]+ (bad|of them only by a limit)' "$log"; then
+    echo 'gate.sh: must-fail edits are bad or refused by a limit only, or rt ci does not say that none is' >&2
     exit 1
 fi
 
