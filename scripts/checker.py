@@ -83,9 +83,17 @@ def is_proved(name):
     return done.returncode == 0 and os.path.isdir(kept(name, 'incremental'))
 
 
+def all_proved():
+    """Proves every crate in one run: checks that are started one by one wait for each other at the crates below."""
+    return subprocess.run([os.path.join(ROOT, 'scripts/proved.sh')], stdin=subprocess.DEVNULL,
+                          stdout=subprocess.DEVNULL, stderr=subprocess.DEVNULL).returncode == 0
+
+
 def prove(names):
     """Proves crates, the lower first; answers those that are not proved."""
     names = sorted(names, key=list(KNOWN).index)
+    if len(names) > CORES and all_proved():
+        return [name for name in names if not os.path.isdir(kept(name, 'incremental'))]
     with concurrent.futures.ThreadPoolExecutor(CORES) as pool:
         return [name for name, proved in zip(names, pool.map(is_proved, names)) if not proved]
 
