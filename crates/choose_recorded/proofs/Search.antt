@@ -9,7 +9,7 @@
 use mathlib.Core.Path.{◌≡◌, refl, ◌∙◌}
 use mathlib.Core.Bool.{Bool, true, false, cond}
 use mathlib.Core.List.{List, ◌∷◌}
-use mathlib.Core.Option.{Option, none, some}
+use Rattle.std.specs.Prelude.{Option, None, Some}
 use Prim.Native.Nat.{ℕ, zero, suc, ◌+◌, ◌-◌, ◌≤◌, ◌<◌}
 use native.Mathlib.Nat.{add-zero, add-suc, suc-add, add_assoc}
 use native.Mathlib.Numerals.{add-one}
@@ -36,11 +36,11 @@ search_on rec at to d h k u = rw (part_cons rec at to d h k, u, add-one)
 
 pub search_here : (rec : List Taken) (at to : ℕ) (d : Taken) → at < to → to ≤ length rec → is_unusable (get_or rec at d)
     ≡ true
-    → first_unusable at (take (to - at) (drop at rec)) ≡ some at
+    → first_unusable at (take (to - at) (drop at rec)) ≡ Some at
 unfolding first_unusable
 search_here rec at to d h k u = rw (part_cons rec at to d h k, u)
 
-pub search_over : (rec : List Taken) (at to : ℕ) → to ≤ at → first_unusable at (take (to - at) (drop at rec)) ≡ none
+pub search_over : (rec : List Taken) (at to : ℕ) → to ≤ at → first_unusable at (take (to - at) (drop at rec)) ≡ None
 unfolding first_unusable
 search_over rec at to h = let e : to - at ≡ 0 = omega arith in rw e
 
@@ -55,11 +55,11 @@ search_past rec at to (suc n) h l u =
     ∙ rw e refl
 
 -- where a search of these chips finds nothing, the first is usable and the search behind it finds nothing
-both : (b : Bool) (at : ℕ) (rest : Option ℕ) → cond b (some at) rest ≡ none → (b ≡ false) × (rest ≡ none)
+both : (b : Bool) (at : ℕ) (rest : Option ℕ) → cond b (Some at) rest ≡ None → (b ≡ false) × (rest ≡ None)
 both false at rest e = (refl, e)
 both true at rest e = absurd (let z : ◌≡◌ {A = ℕ} 0 1 = cc in omega arith)
 
-pub none_usable : (rec : List Taken) (at n : ℕ) → at + n ≤ length rec → first_unusable at (take n (drop at rec)) ≡ none
+pub none_usable : (rec : List Taken) (at n : ℕ) → at + n ≤ length rec → first_unusable at (take n (drop at rec)) ≡ None
     → AllUsable rec at n
 unfolding first_unusable
 none_usable rec at zero h e = record { each = λ k b. absurd (omega arith) }

@@ -2,7 +2,7 @@
 -- Definitions only. Assumes nothing.
 -- working notion: of the contracts of the recorders; no promise needs it
 use Rattle.std.specs.Prelude.{ℕ, ◌+◌, ◌*◌, ◌<◌, ◌≡◌, false, List, map, length, get_or, take, drop, Float}
-use Rattle.std.proofs.Math.Option.{Option, none, some}
+use Rattle.std.specs.Prelude.{Option, None, Some}
 use Rattle.std.specs.Float.{nan}
 use Rattle.base.specs.Tables.{tabulate}
 use Rattle.rules_rates.specs.declared.Rate.{Rate}
@@ -17,8 +17,8 @@ use Rattle.choose_recorded.specs.declared.Place.TheVariants.{Nothing, At}
 
 -- a place found, as the definitions of reading have it
 abbrev pub where_found : Place → Option ℕ
-where_found Nothing = none
-where_found (At place) = some place
+where_found Nothing = None
+where_found (At place) = Some place
 
 -- n chips of a row of octets from a place, and of two rows of f32
 abbrev pub hard_part : List ℕ → ℕ → ℕ → List Chip

@@ -11,7 +11,7 @@
 -- Assumes nothing.
 use mathlib.Core.Path.{◌≡◌, refl, sym, ap, ap₂, subst, ◌∙◌}
 use mathlib.Core.List.{List, [], ◌++◌, append-nil, map}
-use mathlib.Core.Option.{Option, none, some}
+use Rattle.std.specs.Prelude.{Option, None, Some}
 use Prim.Native.Nat.{ℕ, zero, suc, ◌+◌, ◌-◌, ◌*◌, ◌/◌, ◌≤◌, ◌<◌}
 use native.Mathlib.Nat.{mul-zero, add-zero, le_antisymm, le_of_suc-le-suc, not-suc-le-zero}
 use native.Mathlib.Omega.{arith}
@@ -194,7 +194,7 @@ module _ (r : Rate) (n at : ℕ) (l : Line) (a b : List ℕ) (h : Hearing) (x : 
 
     pub blocks_more : (g k : Hearing) → Heard r (n + length a) (at + symbol_chips r * length a) h.line b g
         → k.line ≡ g.line
-        → where_found k.odd ≡ or_else (where_found h.odd) (λ place. some place) (where_found g.odd)
+        → where_found k.odd ≡ or_else (where_found h.odd) (λ place. Some place) (where_found g.odd)
         → Heard r n at l (a ++ b) k
     blocks_more g k y e f = record {
       past =
@@ -207,7 +207,7 @@ module _ (r : Rate) (n at : ℕ) (l : Line) (a b : List ℕ) (h : Hearing) (x : 
       phase = ap (λ (m : Line). m.phase) e ∙ y.phase ∙ ap (λ (p : ℕ). last_heard r p b) x.phase
           ∙ sym (last_heard_append r l.phase a b);
       small = rw e y.small;
-      place = f ∙ ap₂ {C = Option ℕ} (λ o p. or_else o (λ place. some place) p) x.place
+      place = f ∙ ap₂ {C = Option ℕ} (λ o p. or_else o (λ place. Some place) p) x.place
           (y.place ∙ ap (λ (p : ℕ). odd_growth r (at + symbol_chips r * length a) (growths_of r p b)) x.phase
           ∙ ap (λ (m : ℕ). odd_growth r (at + symbol_chips r * m) (growths_of r (last_heard r l.phase a) b))
           (sym (growths_of_length r l.phase a)))
@@ -247,7 +247,7 @@ heard_none : (r : Rate) (f at : ℕ) (l : Line) → l.phase < 4 → Heard r f at
 unfolding bits_of heard last_heard growths_of first_odd past_after
 heard_none r f at l h = record { past = refl; phase = refl; small = h; place = by r }
   where
-    by : (r : Rate) → none ≡ odd_growth r at []
+    by : (r : Rate) → None ≡ odd_growth r at []
     by One = refl
     by Two = refl
     by Five = refl
@@ -324,7 +324,7 @@ module _
         ≡ over (plain_octets r (f + symbols * k) n p.heard.line (part_words r place n rec))
         (take (length out - k) (drop k out))
         → (m.heard.line ≡ g.heard.line) × ((where_found m.heard.odd
-        ≡ or_else (where_found p.heard.odd) (λ place. some place) (where_found g.heard.odd))
+        ≡ or_else (where_found p.heard.odd) (λ place. Some place) (where_found g.heard.odd))
         × (m.least ≡ g.least))
         → chips ≡ octet_chips r → symbols ≡ octet_symbols r
         → Parts r at rec l f a d m (place + chips * n) (k + n) (put_mid k (length out - k) out y)

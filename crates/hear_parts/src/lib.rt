@@ -3,7 +3,7 @@
 #![tactic(auto)]
 
 ghost use Rattle.std.specs.Prelude.{◌≡◌, ◌+◌, ◌*◌, ◌^◌, ◌≤◌, ◌<◌, length};
-ghost use Rattle.std.proofs.Math.Option.{some};
+ghost use Rattle.std.specs.Prelude.{Some};
 ghost use Rattle.base.specs.Over.{over};
 ghost use Rattle.rules_rates.specs.Rates.{octet_symbols, octet_chips};
 ghost use Rattle.rules_reading.specs.Reading.{or_else};
@@ -30,7 +30,7 @@ pub struct Part {
 
 // The first of two places.
 fn first_of(a: Place, b: Place) -> Place
-    ensures answer { where_found result ≡ or_else (where_found a) (λ place. some place) (where_found b) }
+    ensures answer { where_found result ≡ or_else (where_found a) (λ place. Some place) (where_found b) }
 {
     match a {
         Place::At(place) => Place::At(place),
@@ -42,7 +42,7 @@ fn first_of(a: Place, b: Place) -> Place
 pub fn joined(a: Hearing, b: Part) -> Part
     ensures line { result.heard.line ≡ b.heard.line }
     ensures odd { where_found result.heard.odd ≡
-        or_else (where_found a.odd) (λ place. some place) (where_found b.heard.odd) }
+        or_else (where_found a.odd) (λ place. Some place) (where_found b.heard.odd) }
     ensures least { result.least ≡ b.least }
 {
     let more = b.heard;

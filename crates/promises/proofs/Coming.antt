@@ -3,7 +3,7 @@
 use mathlib.Core.Path.{◌≡◌, refl, sym, ap, ◌∙◌, subst}
 use mathlib.Core.Bool.{true}
 use mathlib.Core.List.{List, []}
-use mathlib.Core.Option.{Option, none, some}
+use Rattle.std.specs.Prelude.{Option, None, Some}
 use Prim.Native.Nat.{ℕ, ◌-◌, ◌≤◌, ◌<◌}
 use native.Mathlib.Decide.{dec_le}
 use native.Mathlib.Omega.{arith}
@@ -187,13 +187,13 @@ module _ (kind : ℕ) (chips : List ℕ) where
 
       by : (o : Option ℕ) → found_unusable k t rec ≡ o → (q : Option ℕ) → payload_odd k t.rate t.n rec ≡ q
           → ComesTo (coming_of k (Fields t)) (record_of (payload_reading k t rec room))
-      by (some p) e q d =
+      by (Some p) e q d =
           let w = payload_unusable_place k rec p t e in
           to _ (unusable_refused k t rec room p h e) (comes_9 p w.0 w.1)
-      by none e (some p) d =
+      by None e (Some p) d =
           let w = payload_odd_place k rec p t d in
           to _ (odd_refused k t rec room p h e d) (comes_10 p (ap code_of (payload_odd_rate k rec p t d)) w.0 w.1)
-      by none e none d = to _ (payload_good k t rec room h e d) (comes_good _ _)
+      by None e None d = to _ (payload_good k t rec room h e d) (comes_good _ _)
 
   alike_told : (room : ℕ) (g : Front) → (coming_of k g).number ≡ 0
       → ((coming_of k g).n ≤ room → ComesTo (coming_of k g) (record_of (after_front k rec room g)))

@@ -3,7 +3,7 @@
 use mathlib.Core.Path.{◌≡◌, refl, sym, ap, ◌∙◌, subst}
 use mathlib.Core.Bool.{Bool, true, false, cond, not}
 use mathlib.Core.List.{List, [], ◌∷◌}
-use mathlib.Core.Option.{Option, none, some}
+use Rattle.std.specs.Prelude.{Option, None, Some}
 use Prim.Native.Nat.{ℕ, zero, suc, ◌-◌, ◌%◌, ◌<◌}
 use native.Mathlib.Omega.{arith}
 use borrow.Author.Tests.{lt-ltb, eq-eqb, ne_eqb}
@@ -65,7 +65,7 @@ usable_drop zero u = u
 usable_drop (suc n) none_left = none_left
 usable_drop (suc n) (one_more e u) = usable_drop n u
 
-none_found : (at : ℕ) {cs : List Taken} → NoneUnusable cs → first_unusable at cs ≡ none
+none_found : (at : ℕ) {cs : List Taken} → NoneUnusable cs → first_unusable at cs ≡ None
 unfolding first_unusable
 none_found at none_left = refl
 none_found at (one_more e u) = rw e (none_found (suc at) u)
@@ -125,12 +125,12 @@ unanswered n no-good kind agree rec room a left read never e =
     by (reading.Good t used least) h z = no-good z
 
 -- ---- 9 of bytes
-no_some : {p : ℕ} {o : Option ℕ} → o ≡ none → o ≡ some p → ⊥
+no_some : {p : ℕ} {o : Option ℕ} → o ≡ None → o ≡ Some p → ⊥
 no_some {p} e f = subst T (ap is_none (sym e ∙ f)) tt
   where
     is_none : Option ℕ → Bool
-    is_none none = true
-    is_none (some q) = false
+    is_none None = true
+    is_none (Some q) = false
 
 not_nine : (k : Kind) (agree : Bool) (rec : List Taken) (e : Refusal) → NoneUnusable rec → ReadingRefusal k agree rec e
     → refusal_number e ≡ 9 → ⊥

@@ -3,7 +3,7 @@
 use mathlib.Core.Path.{◌≡◌, refl, sym, ap, ap₂, ◌∙◌, subst}
 use mathlib.Core.Bool.{Bool, true, false, ◌&&◌, ◌||◌}
 use mathlib.Core.List.{List}
-use mathlib.Core.Option.{Option, none, some}
+use Rattle.std.specs.Prelude.{Option, None, Some}
 use Prim.Native.Nat.{ℕ, zero, suc, ◌+◌, ◌*◌, ◌/◌, ◌%◌, ◌≤◌, ◌<◌}
 use native.Mathlib.Decide.{dec_lt}
 use native.Mathlib.Omega.{arith}
@@ -306,12 +306,12 @@ module _ (kind : ℕ) (agree : Bool) (rec : List Taken) (room : ℕ) (known-kind
       rate_of_lem = (ours_sends k (signal_heard k rec) service (length_heard k rec) t h.tells).goes
 
       -- at 1 Mbit/s, where 10 was looked for and not found
-      even_to : payload_odd k r t.n rec ≡ none → code_of r ≡ 10 → (s : ℕ) → 11 * suc s < frame_chips k r t.n
+      even_to : payload_odd k r t.n rec ≡ None → code_of r ≡ 10 → (s : ℕ) → 11 * suc s < frame_chips k r t.n
           → odd_behind rec s ≡ 0
       even_to d ten s l = by k r rate_of_lem (sym (code_back r) ∙ ap rate_of ten) h.sound.clear.even d l
         where
-          by : (k : Kind) (r : Rate) → goes_with k r ≡ true → r ≡ One → front_odd k rec ≡ none
-              → payload_odd k r t.n rec ≡ none → 11 * suc s < frame_chips k r t.n → odd_behind rec s ≡ 0
+          by : (k : Kind) (r : Rate) → goes_with k r ≡ true → r ≡ One → front_odd k rec ≡ None
+              → payload_odd k r t.n rec ≡ None → 11 * suc s < frame_chips k r t.n → odd_behind rec s ≡ 0
           by Long One g o e d l = payload_even_ones rec Long One t.n g o e d s (omega (arith, l))
           by Short One g o e d l = absurd (subst T (sym g) tt)
           by k Two g o e d l = absurd (subst IsOne (sym o) tt)
@@ -328,19 +328,19 @@ module _ (kind : ℕ) (agree : Bool) (rec : List Taken) (room : ℕ) (known-kind
           by : Dec (room < t.n) → (o : Option ℕ) → found_unusable k t rec ≡ o → (q : Option ℕ)
               → payload_odd k r t.n rec ≡ q → Says (record_of (payload_reading k t rec room))
           by (yes l) o e q d = in_payload _ (room_refused k t rec room l) (is_17 has_payload there l)
-          by (no l) (some p) e q d =
+          by (no l) (Some p) e q d =
               let m : t.n ≤ room = omega (arith, l) in
               let w = payload_unusable_place k rec p t e in
               in_payload _ (unusable_refused k t rec room p m e)
               (payload_9 has_payload there m w.0 w.1 (payload_unusable_first k rec t there free p e))
-          by (no l) none e (some p) d =
+          by (no l) None e (Some p) d =
               let m : t.n ≤ room = omega (arith, l) in
               let w = payload_odd_place k rec p t d in
               in_payload _ (odd_refused k t rec room p m e d)
               (payload_10 has_payload there m (payload_all_usable k rec t there free e)
               (ap code_of (payload_odd_rate k rec p t d)) w.0 w.1
               (payload_odd_first rec k r t.n p rate_of_lem h.sound.clear.even d))
-          by (no l) none e none d =
+          by (no l) None e None d =
               let m : t.n ≤ room = omega (arith, l) in
               in_payload _ (payload_good k t rec room m e d)
               (subst (λ (c : ℕ). Says (record {

@@ -5,7 +5,7 @@
 use mathlib.Core.Path.{◌≡◌, refl, sym, ap, subst, ◌∙◌}
 use mathlib.Core.Bool.{true}
 use mathlib.Core.List.{List, ◌++◌}
-use mathlib.Core.Option.{none}
+use Rattle.std.specs.Prelude.{None}
 use Prim.Native.Nat.{ℕ, ◌-◌, ◌≤◌}
 use native.Mathlib.Nat.{sub-zero}
 use native.Mathlib.Omega.{arith}
@@ -61,8 +61,8 @@ module _ (kind room : ℕ) (rec : List Taken) (c : ℕ) where
 
   -- of a frame that is clean, by how far it has come
   module _
-      (t : Told) (w : WholeFrame kind rec t) (fits : t.n ≤ room) (u : found_unusable k t rec ≡ none)
-      (o : payload_odd k t.rate t.n rec ≡ none) where
+      (t : Told) (w : WholeFrame kind rec t) (fits : t.n ≤ room) (u : found_unusable k t rec ≡ None)
+      (o : payload_odd k t.rate t.n rec ≡ None) where
     clean : {m : ℕ} → Shown (front_chips k) (octet_chips t.rate) t.n c m
         → buffer_yet kind (take c rec) room
         ≡ take m (payload_of k t.rate t.n rec ++ replicate (room - t.n) 0) ++ replicate (room - m) 0

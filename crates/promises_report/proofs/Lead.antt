@@ -3,7 +3,7 @@
 use mathlib.Core.Path.{◌≡◌, refl, sym, ◌∙◌, subst}
 use mathlib.Core.Bool.{Bool, true, false, cond}
 use mathlib.Core.List.{List, [], ◌∷◌}
-use mathlib.Core.Option.{Option, none, some}
+use Rattle.std.specs.Prelude.{Option, None, Some}
 use Prim.Native.Nat.{ℕ, zero, suc, ◌+◌, ◌≤◌, ◌<◌}
 use native.Mathlib.Nat.{add-zero, zero-add, not-suc-le-zero, le_of_suc-le-suc}
 use native.Mathlib.Decide.{dec_lt}
@@ -32,8 +32,8 @@ record Led (at : ℕ) (os : List Outcome) (c : Closest) : Type 0 where
   first : (j other : ℕ) → FrameAt os j other → j < i → c.lead < other
 
 abbrev LedIf : ℕ → List Outcome → Option Closest → Type 0
-LedIf at os none = (j lead : ℕ) → FrameAt os j lead → ⊥
-LedIf at os (some c) = Led at os c
+LedIf at os None = (j lead : ℕ) → FrameAt os j lead → ⊥
+LedIf at os (Some c) = Led at os c
 
 module _ (at : ℕ) (o : Outcome) (os : List Outcome) where
   -- this one: it has the smallest lead
@@ -74,21 +74,21 @@ module _ (at : ℕ) (o : Outcome) (os : List Outcome) where
 
   accepted_one : o.answer.number ≡ 0 → (c : Option Closest) → LedIf (suc at) os c
       → Led at (o ∷ os) (closer o.answer.lead at c)
-  accepted_one z none h = here z (λ j other f. absurd (h j other f))
-  accepted_one z (some c) h = by (dec_lt c.lead o.answer.lead)
+  accepted_one z None h = here z (λ j other f. absurd (h j other f))
+  accepted_one z (Some c) h = by (dec_lt c.lead o.answer.lead)
     where
-      by : Dec (c.lead < o.answer.lead) → Led at (o ∷ os) (closer o.answer.lead at (some c))
+      by : Dec (c.lead < o.answer.lead) → Led at (o ∷ os) (closer o.answer.lead at (Some c))
       by (yes p) = rw (lt-ltb c.lead o.answer.lead p) (later c (λ z. p) h)
       by (no q) =
           rw (le-ltb c.lead o.answer.lead (omega arith)) (here z (λ j other f. omega (arith, h.low j other f)))
 
   refused_one : (o.answer.number ≡ 0 → ⊥) → (c : Option Closest) → LedIf (suc at) os c → LedIf at (o ∷ os) c
-  refused_one n none h = none_is
+  refused_one n None h = none_is
     where
       none_is : (j lead : ℕ) → FrameAt (o ∷ os) j lead → ⊥
       none_is zero lead f = n f.good
       none_is (suc j) lead f = h j lead (ended f)
-  refused_one n (some c) h = later c (λ z. absurd (n z)) h
+  refused_one n (Some c) h = later c (λ z. absurd (n z)) h
 
 closest_is : (at : ℕ) (os : List Outcome) → LedIf at os (closest_from at os)
 unfolding closest_from
@@ -96,7 +96,7 @@ closest_is at [] = λ j lead f. not-suc-le-zero f.there
 closest_is at (o ∷ os) = by (accepted o) refl (closest_from (suc at) os) (closest_is (suc at) os)
   where
     by : (t : Bool) → accepted o ≡ t → (c : Option Closest) → LedIf (suc at) os c
-        → LedIf at (o ∷ os) (cond t (some (closer o.answer.lead at c)) c)
+        → LedIf at (o ∷ os) (cond t (Some (closer o.answer.lead at c)) c)
     by true e c h = accepted_one at o os (eqb-true o.answer.number 0 e) c h
     by false e c h =
         refused_one at o os (λ z. subst T (sym (eq-eqb o.answer.number 0 z) ∙ e) tt) c h
@@ -107,8 +107,8 @@ pub lead_told_lem : (os : List Outcome)
 lead_told_lem os = by (closest_from 0 os) (closest_is 0 os)
   where
     by : (c : Option Closest) → LedIf 0 os c → LeadTold os (is_there c) (lead_told c) (recording_told c)
-    by none h = no_frame h
-    by (some c) h =
+    by None h = no_frame h
+    by (Some c) h =
         let e : h.i ≡ c.recording = sym (h.recording_is ∙ zero-add h.i) in
         smallest c.lead c.recording (subst (λ (n : ℕ). FrameAt os n c.lead) e h.frame) h.low
         (λ j other f l. h.first j other f (omega (arith, e)))

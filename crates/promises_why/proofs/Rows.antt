@@ -3,7 +3,7 @@
 use mathlib.Core.Path.{◌≡◌, refl, sym, ◌∙◌, subst}
 use mathlib.Core.Bool.{true, false}
 use mathlib.Core.List.{List}
-use mathlib.Core.Option.{Option, none, some}
+use Rattle.std.specs.Prelude.{Option, None, Some}
 use Prim.Native.Nat.{ℕ, ◌+◌, ◌*◌, ◌/◌, ◌%◌, ◌≤◌, ◌<◌}
 use native.Mathlib.Decide.{dec_lt}
 use native.Mathlib.Omega.{arith}
@@ -245,16 +245,16 @@ module _ (kind : ℕ) (chips : List ℕ) (room : ℕ) where
             by : Dec (room < t.n) → (o : Option ℕ) → found_unusable k t rec ≡ o → (q : Option ℕ)
                 → payload_odd k t.rate t.n rec ≡ q → ShowsIf (payload_reading k t rec room)
             by (yes m) o e q d = come _ (room_refused k t rec room m) (room_shows m)
-            by (no m) (some p) e q d =
+            by (no m) (Some p) e q d =
                 come _ (unusable_refused k t rec room p (omega (arith, m)) e)
                 (unusable_shows p t.length
                 (payload_unusable_first k rec t there (free kind true rec room known refl t h there) p e))
-            by (no m) none e (some p) d =
+            by (no m) None e (Some p) d =
                 come _ (odd_refused k t rec room p (omega (arith, m)) e d)
                 (odd_shows p t.length
                 (payload_odd_first rec k t.rate t.n p (rate_of_lem kind true rec room known refl t h there)
                 h.sound.clear.even d))
-            by (no m) none e none d =
+            by (no m) None e None d =
                 come _ (payload_good k t rec room (omega (arith, m)) e d)
                 (record { row = row_0; apart = λ e. all_zeros })
 

@@ -6,7 +6,7 @@
 -- Assumes nothing.
 use mathlib.Core.Path.{◌≡◌, refl, sym, ap, ap₂, subst, ◌∙◌}
 use mathlib.Core.List.{List, [], ◌∷◌, ◌++◌, append_assoc}
-use mathlib.Core.Option.{some}
+use Rattle.std.specs.Prelude.{Some}
 use Prim.Native.Nat.{ℕ, zero, suc, ◌+◌, ◌-◌, ◌*◌, ◌≤◌, ◌<◌}
 use native.Mathlib.Nat.{zero-add, suc-add}
 use native.Mathlib.Omega.{arith}
@@ -146,7 +146,7 @@ module _
     (x : Heard One 0 0 l (take 64 ns) a) (ox : o ≡ over (plain_octets One 0 8 l (take 64 ns)) d)
     (z : PartHeard One 704 (sync_octets k - 6) rec a.line 64 f b y)
     (ab : (p.heard.line ≡ b.heard.line) × ((where_found p.heard.odd
-    ≡ or_else (where_found a.odd) (λ place. some place) (where_found b.heard.odd)) × (p.least ≡ b.least))) where
+    ≡ or_else (where_found a.odd) (λ place. Some place) (where_found b.heard.odd)) × (p.least ≡ b.least))) where
   abbrev A : List ℕ
   A = part_words One 0 8 rec
 
@@ -224,7 +224,7 @@ pub sync_heard : (k : Kind) (rec : List Taken) (ns ls : List ℕ) (l : Line) (f 
     → o ≡ over (plain_octets One 0 8 l (take 64 ns)) d → n ≡ sync_octets k - 6 → count ≡ sync_octets k + 2
     → PartHeard One 704 n rec a.line 64 f b y
     → (p.heard.line ≡ b.heard.line) × ((where_found p.heard.odd
-    ≡ or_else (where_found a.odd) (λ place. some place) (where_found b.heard.odd)) × (p.least ≡ b.least))
+    ≡ or_else (where_found a.odd) (λ place. Some place) (where_found b.heard.odd)) × (p.least ≡ b.least))
     → PreambleLine k rec p.heard × ((p.least ≡ least_of (preamble_leads k rec))
     × (take (sync_octets k + 2) (put_mid 8 (count - 8) o y) ≡ preamble_octets k rec))
 sync_heard k rec ns ls l f a b p d o y count n dec lead lo s x ox en ec z ab =

@@ -4,7 +4,7 @@
 -- Assumes nothing.
 use mathlib.Core.Path.{◌≡◌, refl, sym, ap, ap₂, subst, ◌∙◌}
 use mathlib.Core.List.{List, ◌++◌, append_assoc}
-use mathlib.Core.Option.{Option, some}
+use Rattle.std.specs.Prelude.{Option, Some}
 use Prim.Native.Nat.{ℕ, ◌+◌, ◌/◌, ◌%◌}
 use native.Mathlib.Omega.{arith}
 use lib.ListN.{length, take, drop, take-append-drop, length-drop}
@@ -88,7 +88,7 @@ module _
     (z : PartHeard (header_rate k) (preamble_chips k) 6 rec p.part.heard.line (preamble_chips k / 11)
     p.part.least c header)
     (pc : (all.heard.line ≡ c.heard.line) × ((where_found all.heard.odd
-    ≡ or_else (where_found p.part.heard.odd) (λ place. some place) (where_found c.heard.odd))
+    ≡ or_else (where_found p.part.heard.odd) (λ place. Some place) (where_found c.heard.odd))
     × (all.least ≡ c.least))) where
   -- the line that the header is heard on
   abbrev L : Line
@@ -159,7 +159,7 @@ module _
   front_known = record {
     odd =
         pc.1.0
-        ∙ ap₂ {C = Option ℕ} (λ o q. or_else o (λ place. some place) q) x.line.odd
+        ∙ ap₂ {C = Option ℕ} (λ o q. or_else o (λ place. Some place) q) x.line.odd
         (header_part.place
         ∙ ap (λ (q : ℕ). odd_growth (header_rate k) (preamble_chips k) (growths_of (header_rate k) q (header_words k rec)))
         x.line.at_phase)

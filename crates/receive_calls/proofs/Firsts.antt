@@ -5,7 +5,7 @@
 -- Assumes nothing.
 use mathlib.Core.Path.{◌≡◌, refl, sym, ap, ap₂, subst, ◌∙◌}
 use mathlib.Core.List.{List, ◌++◌, append_assoc, append-nil}
-use mathlib.Core.Option.{none}
+use Rattle.std.specs.Prelude.{None}
 use Prim.Native.Nat.{ℕ, ◌+◌, ◌-◌, ◌≤◌, ◌<◌}
 use native.Mathlib.Omega.{arith}
 use lib.ListN.{length, take, drop, length-append, length-drop}
@@ -92,7 +92,7 @@ module _
     -- what the rows are where the front is as it is to be
     module _
         (preamble header fed : List ℕ) (x : FrontTo k fed p hold preamble header) where
-      usable : first_unusable 0 (hard_recording fed) ≡ none
+      usable : first_unusable 0 (hard_recording fed) ≡ None
       usable = number_none (first_unusable 0 (hard_recording fed)) (sym x.bad_is ∙ asked.1)
 
       few : length fed < 11
@@ -143,7 +143,7 @@ module _
 
     -- the first symbol's chips
     pub first_row : f ≡ Nothing → 11 ≤ n
-        → (length (take (n - 0) hold') ≡ 11) × (first_unusable 0 (hard_recording (take (n - 0) hold')) ≡ none)
+        → (length (take (n - 0) hold') ≡ 11) × (first_unusable 0 (hard_recording (take (n - 0) hold')) ≡ None)
     first_row t h =
         let size = length-append (take p.count hold) piece in
         let first = length-take-le p.count hold (omega (arith, asked)) in (
@@ -165,7 +165,7 @@ module _
 
     module _ (t : f ≡ Nothing) (q : Progress) (ear : Ear) (e : q ≡ advanced p n 0 p.odd ear) where
       clear : (preamble header fed : List ℕ) → FrontTo k fed p hold preamble header
-          → first_unusable 0 (hard_recording (fed ++ piece)) ≡ none
+          → first_unusable 0 (hard_recording (fed ++ piece)) ≡ None
       clear preamble header fed x =
           ap (λ (l : List ℕ). first_unusable 0 (hard_recording l)) (sym (row_fed preamble header fed x)) ∙ sym found
           ∙ ap where_found t

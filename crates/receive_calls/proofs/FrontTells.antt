@@ -6,7 +6,7 @@
 use mathlib.Core.Path.{◌≡◌, refl, sym, ap, subst, ◌∙◌}
 use mathlib.Core.Bool.{true}
 use mathlib.Core.List.{List}
-use mathlib.Core.Option.{Option, none, some}
+use Rattle.std.specs.Prelude.{Option, None, Some}
 use Prim.Native.Nat.{ℕ, suc, ◌+◌, ◌-◌, ◌≤◌, ◌<◌}
 use native.Mathlib.Omega.{arith}
 use lib.ListN.{length, take, drop, length-drop, length-replicate}
@@ -151,26 +151,26 @@ module _
   stays_unusable place e = by (first_unusable 0 rec) refl
     where
       by : (o : Option ℕ) → first_unusable 0 rec ≡ o → front_of k rec ≡ front.Refused (Unusable place 0)
-      by none f = absurd (omega (arith, e, x.bad_is, ap place_number f))
-      by (some i) f =
+      by None f = absurd (omega (arith, e, x.bad_is, ap place_number f))
+      by (Some i) f =
           let same : i ≡ place = omega (arith, e, x.bad_is, ap place_number f) in
-          told_unusable k rec long place (f ∙ ap (λ (j : ℕ). some j) same)
+          told_unusable k rec long place (f ∙ ap (λ (j : ℕ). Some j) same)
 
   module _ (clear : p.bad ≡ 0) where
-    usable : first_unusable 0 rec ≡ none
+    usable : first_unusable 0 rec ≡ None
     usable = number_none (first_unusable 0 rec) (sym x.bad_is ∙ clear)
 
     pub stays_odd : (place : ℕ) → p.odd ≡ suc place → front_of k rec ≡ front.Refused (OddGrowth place 0)
     stays_odd place e = by (front_odd_yet k rec) refl
       where
         by : (o : Option ℕ) → front_odd_yet k rec ≡ o → front_of k rec ≡ front.Refused (OddGrowth place 0)
-        by none f = absurd (omega (arith, e, x.odd_is usable, ap place_number f))
-        by (some i) f =
+        by None f = absurd (omega (arith, e, x.odd_is usable, ap place_number f))
+        by (Some i) f =
             let same : i ≡ place = omega (arith, e, x.odd_is usable, ap place_number f) in
-            told_odd k rec long usable place (f ∙ ap (λ (j : ℕ). some j) same)
+            told_odd k rec long usable place (f ∙ ap (λ (j : ℕ). Some j) same)
 
     module _ (even : p.odd ≡ 0) (size : length header ≡ 6) where
-      no_odd : front_odd_yet k rec ≡ none
+      no_odd : front_odd_yet k rec ≡ None
       no_odd = number_none (front_odd_yet k rec) (sym (x.odd_is usable) ∙ even)
 
       pub front_ends : Ends k rec p.ear header
@@ -234,14 +234,14 @@ module _
   code_is Eleven = (refl, refl)
 
   -- nothing of a payload has come
-  none_unusable : (fed : List ℕ) → length fed ≡ front_chips k → unusable_yet k (hard_recording fed) ≡ none
+  none_unusable : (fed : List ℕ) → length fed ≡ front_chips k → unusable_yet k (hard_recording fed) ≡ None
   unfolding first_unusable
   none_unusable fed at =
       let long : length (hard_recording fed) ≡ front_chips k = length_hard fed ∙ at in
       ap (first_unusable (front_chips k))
       (ap (λ (n : ℕ). drop n (hard_recording fed)) (sym long) ∙ drop-length (hard_recording fed))
 
-  none_odd : (r : Rate) (fed : List ℕ) → length fed ≡ front_chips k → odd_yet k r (hard_recording fed) ≡ none
+  none_odd : (r : Rate) (fed : List ℕ) → length fed ≡ front_chips k → odd_yet k r (hard_recording fed) ≡ None
   unfolding odd_yet section_odd
   none_odd r fed at = odd_early (payload_section k r (hard_recording fed)) (hard_recording fed) (by r)
     where

@@ -6,7 +6,7 @@
 -- Assumes nothing.
 use mathlib.Core.Path.{◌≡◌, refl, sym, ap, ap₂, subst, ◌∙◌}
 use mathlib.Core.List.{List, ◌++◌}
-use mathlib.Core.Option.{Option, none, some}
+use Rattle.std.specs.Prelude.{Option, None, Some}
 use Prim.Native.Nat.{ℕ, suc, ◌+◌, ◌-◌, ◌*◌, ◌/◌, ◌%◌, ◌≤◌, ◌<◌}
 use native.Mathlib.Omega.{arith}
 use lib.ListN.{length, take}
@@ -65,15 +65,15 @@ module _
 
       by : (u : Option ℕ) → first_unusable 0 (hard_recording fed) ≡ u → (o : Option ℕ)
           → front_odd_yet k (hard_recording fed) ≡ o → FrontTo k (fed ++ piece) q.progress hold preamble header
-      by (some place) e o f =
+      by (Some place) e o f =
           let number : p.bad ≡ suc place = y.bad_is ∙ ap place_number e in
           front_unusable k fed piece p q.progress hold preamble header y inside counted hold preamble header place e
           (behind ∙ rw (ne_eqb p.bad 0 (λ z. omega (arith, number, z))))
-      by none e (some place) f =
+      by None e (Some place) f =
           let number : p.bad ≡ 0 = y.bad_is ∙ ap place_number e in
           front_odd_lem k fed piece p q.progress hold preamble header y inside counted hold preamble header place e f
           (behind ∙ rw (eq-eqb p.bad 0 number)) (ap (λ (u : Progress). u.odd) x.progress_is)
-      by none e none f =
+      by None e None f =
           absurd (certain (y.bad_is ∙ ap place_number e) (y.odd_is e ∙ ap place_number f))
 
   pub front_passes : (p.bad ≡ 0 → p.odd ≡ 0 → ⊥)
@@ -143,10 +143,10 @@ module _
   ear_is : t.piece.ear ≡ q.progress.ear
   ear_is = sym (ap (λ (u : Progress). u.ear) x.progress_is)
 
-  usable : (fed : List ℕ) → FrontTo k fed p hold preamble header → first_unusable 0 (hard_recording fed) ≡ none
+  usable : (fed : List ℕ) → FrontTo k fed p hold preamble header → first_unusable 0 (hard_recording fed) ≡ None
   usable fed y = number_none (first_unusable 0 (hard_recording fed)) (sym y.bad_is ∙ clear)
 
-  no_odd : (fed : List ℕ) → FrontTo k fed p hold preamble header → front_odd_yet k (hard_recording fed) ≡ none
+  no_odd : (fed : List ℕ) → FrontTo k fed p hold preamble header → front_odd_yet k (hard_recording fed) ≡ None
   no_odd fed y = number_none (front_odd_yet k (hard_recording fed)) (sym (y.odd_is (usable fed y)) ∙ even)
 
   pub preamble_keeps : (n : ℕ) (hold' out : List ℕ) → n ≡ preamble_count k → 11 ≤ p.count

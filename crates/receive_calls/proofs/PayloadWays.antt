@@ -7,7 +7,7 @@
 use mathlib.Core.Path.{◌≡◌, refl, sym, ap, ap₂, subst, ◌∙◌}
 use mathlib.Core.Bool.{Bool, true, false, cond}
 use mathlib.Core.List.{List, ◌++◌}
-use mathlib.Core.Option.{none}
+use Rattle.std.specs.Prelude.{None}
 use Prim.Native.Nat.{ℕ, ◌+◌, ◌-◌, ◌*◌, ◌/◌, ◌%◌, ◌≤◌, ◌<◌}
 use native.Mathlib.Omega.{arith}
 use lib.Dec.{eqb}
@@ -248,9 +248,9 @@ module _
           → Went (kind_of kind) told (fed ++ take q.taken rest) q.progress hold' out
       heard kind told fed m w to z =
           let fits : told.n ≤ p.room = omega (arith, enough, room, m.n_of) in
-          let usable : unusable_yet (kind_of kind) (hard_recording fed) ≡ none =
+          let usable : unusable_yet (kind_of kind) (hard_recording fed) ≡ None =
           number_none (unusable_yet (kind_of kind) (hard_recording fed)) (sym (w.comes.bad_is fits) ∙ bad) in
-          let even : odd_yet (kind_of kind) told.rate (hard_recording fed) ≡ none =
+          let even : odd_yet (kind_of kind) told.rate (hard_recording fed) ≡ None =
           number_none (odd_yet (kind_of kind) told.rate (hard_recording fed))
           (sym (w.comes.odd_is fits usable) ∙ odd) in
           let from : front_chips (kind_of kind) ≡ front = ap front_chips (sym m.kind_of_lem) ∙ sym fi in

@@ -1,6 +1,6 @@
 // The front as it comes: its first symbol, the preamble, the header, and what it tells once it is whole.
 ghost use Rattle.std.specs.Prelude.{◌≡◌, true, ◌+◌, ◌-◌, ◌<◌, length, take, drop};
-ghost use Rattle.std.proofs.Math.Option.{none};
+ghost use Rattle.std.specs.Prelude.{None};
 ghost use Rattle.rules_chips.specs.Chips.{hard_recording};
 ghost use Rattle.rules_frame.specs.Frame.{is_kind, kind_of, front_chips};
 ghost use Rattle.rules_reading.specs.Reading.{first_unusable};
@@ -22,7 +22,7 @@ use rules_receiving::{Ear, Progress};
 
 // What hearing starts from: the phase and the lead of the first symbol, which serves only as reference.
 fn begin(kind: Kind, row: &[u8]) -> Ear
-    requires { (length row.now ≡ 11) × (first_unusable 0 (hard_recording row.now) ≡ none) }
+    requires { (length row.now ≡ 11) × (first_unusable 0 (hard_recording row.now) ≡ None) }
     ensures answer { Begun kind row.now result }
 {
     let byte = [0i8; 1];

@@ -5,7 +5,7 @@
 -- Assumes nothing.
 use mathlib.Core.Path.{◌≡◌, sym, ap, subst, ◌∙◌}
 use mathlib.Core.List.{List, ◌++◌, append_assoc}
-use mathlib.Core.Option.{none}
+use Rattle.std.specs.Prelude.{None}
 use Prim.Native.Nat.{ℕ, ◌+◌, ◌*◌, ◌%◌, ◌≤◌, ◌<◌}
 use native.Mathlib.Omega.{arith}
 use lib.ListN.{length, take, drop, take-append-drop, length-append, length-drop}
@@ -36,13 +36,13 @@ pub record Cut (k : Kind) (p : Section) (m h : ℕ) (fed : List ℕ) (e : Ear) (
   pub at : length first ≡ p.from + octet_chips p.rate * m
   pub held_long : length held ≡ h
   pub held_is : take h hold ≡ held
-  pub usable : section_unusable p (hard_recording first) ≡ none
-  pub even : section_odd p (hard_recording first) ≡ none
+  pub usable : section_unusable p (hard_recording first) ≡ None
+  pub even : section_odd p (hard_recording first) ≡ None
   pub stands : Stands k p m (hard_recording first) e out
 
 pub cut : (k : Kind) (p : Section) (m h : ℕ) (fed : List ℕ) (e : Ear) (hold out : List ℕ)
     → length fed ≡ p.from + octet_chips p.rate * m + h → h < octet_chips p.rate
-    → section_unusable p (hard_recording fed) ≡ none → section_odd p (hard_recording fed) ≡ none
+    → section_unusable p (hard_recording fed) ≡ None → section_odd p (hard_recording fed) ≡ None
     → GoesOn k p fed e hold out → Cut k p m h fed e hold out
 cut k p m h fed e hold out size part u o g = record {
   first = first;
@@ -52,9 +52,9 @@ cut k p m h fed e hold out size part u o g = record {
   held_long = long;
   held_is = ap (λ (i : ℕ). take i hold) (sym long) ∙ held_is k p m first held e hold out at small goes;
   usable = unusable_first p (hard_recording first) (hard_recording held) whole
-      (subst (λ (cs : List Taken). section_unusable p cs ≡ none) split u);
+      (subst (λ (cs : List Taken). section_unusable p cs ≡ None) split u);
   even = odd_first p (hard_recording first) (hard_recording held) whole
-      (subst (λ (cs : List Taken). section_odd p cs ≡ none) split o);
+      (subst (λ (cs : List Taken). section_odd p cs ≡ None) split o);
   stands = resume k p m first held e hold out at small goes;
 }
   where
@@ -93,7 +93,7 @@ cut k p m h fed e hold out size part u o g = record {
 whole_behind : (k : Kind) (p : Section) (m h w : ℕ) (fed : List ℕ) (e : Ear) (hold out piece : List ℕ) (x : Piece)
     (hold' y : List ℕ) → length fed ≡ p.from + octet_chips p.rate * m + h → h < octet_chips p.rate
     → h + length piece ≡ octet_chips p.rate * w → m + w ≤ length out → p.first % 2 ≡ 0
-    → section_unusable p (hard_recording fed) ≡ none → section_odd p (hard_recording fed) ≡ none → GoesOn k p fed e hold out
+    → section_unusable p (hard_recording fed) ≡ None → section_odd p (hard_recording fed) ≡ None → GoesOn k p fed e hold out
     → WholeHeard p.rate (p.from + octet_chips p.rate * m) (p.first + octet_symbols p.rate * m) e
     (take h hold ++ piece) w x y
     → SectionIs k p (fed ++ piece) (where_found x.bad) (where_found x.odd) x.ear hold'
@@ -126,7 +126,7 @@ becomes_whole r from first m h w count e hold out piece x hold' y size part long
 held_behind : (k : Kind) (p : Section) (m h : ℕ) (fed : List ℕ) (e : Ear) (hold out piece : List ℕ) (x : Piece)
     (hold' : List ℕ) → length fed ≡ p.from + octet_chips p.rate * m + h
     → h + length piece < octet_chips p.rate
-    → section_unusable p (hard_recording fed) ≡ none → section_odd p (hard_recording fed) ≡ none → GoesOn k p fed e hold out
+    → section_unusable p (hard_recording fed) ≡ None → section_odd p (hard_recording fed) ≡ None → GoesOn k p fed e hold out
     → take (h + length piece) hold' ≡ take h hold ++ piece
     → PartHeld p.rate (p.from + octet_chips p.rate * m) e h (take h hold ++ piece) x
     → SectionIs k p (fed ++ piece) (where_found x.bad) (where_found x.odd) x.ear hold' out
@@ -139,7 +139,7 @@ held_behind k p m h fed e hold out piece x hold' size part u o g keeps looked =
     let long : h ≡ length c.held = sym c.held_long in
     subst (λ (l : List ℕ). SectionIs k p l (where_found x.bad) (where_found x.odd) x.ear hold' out) all
     (part_held k p m c.first c.held piece e hold' out x c.at (omega (arith, part, long)) c.usable
-    (subst (λ (l : List ℕ). section_odd p (hard_recording l) ≡ none) old o) c.stands
+    (subst (λ (l : List ℕ). section_odd p (hard_recording l) ≡ None) old o) c.stands
     (λ one. g.last_is one ∙ ap (λ (l : List ℕ). last_heard One p.phase (words_yet p (hard_recording l))) old)
     (ap (λ (i : ℕ). take (i + length piece) hold') (sym long) ∙ keeps ∙ row)
     (subst (λ (i : ℕ). PartHeld p.rate (p.from + octet_chips p.rate * m) e i (c.held ++ piece) x) long

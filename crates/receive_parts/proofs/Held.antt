@@ -3,7 +3,7 @@
 -- Assumes nothing.
 use mathlib.Core.Path.{◌≡◌, refl, sym, ap, ap₂, subst, ◌∙◌}
 use mathlib.Core.List.{List, ◌++◌, append_assoc}
-use mathlib.Core.Option.{Option, none}
+use Rattle.std.specs.Prelude.{Option, None}
 use Prim.Native.Nat.{ℕ, ◌+◌, ◌-◌, ◌*◌, ◌/◌, ◌<◌}
 use native.Mathlib.Omega.{arith}
 use lib.ListN.{length, take, drop, length-append}
@@ -39,8 +39,8 @@ module _
     (k : Kind) (p : Section) (m : ℕ) (first held piece : List ℕ) (e : Ear) (hold out : List ℕ) (x : Piece)
     (at : length first ≡ p.from + octet_chips p.rate * m)
     (small : length held + length piece < octet_chips p.rate)
-    (usable : section_unusable p (hard_recording first) ≡ none)
-    (even : section_odd p (hard_recording (first ++ held)) ≡ none)
+    (usable : section_unusable p (hard_recording first) ≡ None)
+    (even : section_odd p (hard_recording (first ++ held)) ≡ None)
     (s : Stands k p m (hard_recording first) e out)
     (last : p.rate ≡ One → e.last ≡ last_heard One p.phase (words_yet p (hard_recording (first ++ held))))
     (keeps : take (length held + length piece) hold ≡ held ++ piece)

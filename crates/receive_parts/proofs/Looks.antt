@@ -9,7 +9,7 @@
 use mathlib.Core.Path.{◌≡◌, refl, sym, ap, ap₂, subst, ◌∙◌}
 use mathlib.Core.Bool.{cond}
 use mathlib.Core.List.{List, [], ◌∷◌}
-use mathlib.Core.Option.{none, some}
+use Rattle.std.specs.Prelude.{None, Some}
 use Prim.Native.Nat.{ℕ, ◌+◌, ◌-◌, ◌*◌, ◌/◌, ◌%◌, ◌≤◌, ◌<◌}
 use native.Mathlib.Nat.{add-zero}
 use native.Mathlib.Numerals.{add-one}
@@ -77,7 +77,7 @@ looks_none at q last ws h = record {
 
 odd_cons : (at p n : ℕ) (ws : List ℕ) → p < 4 → n < 4
     → first_odd at (growths_of One p (n ∷ ws))
-    ≡ cond (eqb ((n + p) % 2) 1) (some at) (first_odd (at + 11) (growths_of One n ws))
+    ≡ cond (eqb ((n + p) % 2) 1) (Some at) (first_odd (at + 11) (growths_of One n ws))
 unfolding first_odd growths_of
 odd_cons at p n ws h l = let e : (n + 4 - p) % 4 % 2 ≡ (n + p) % 2 = omega arith in rw e
 
@@ -92,14 +92,14 @@ module _
   words_left = drop-cons ws l 0 b ∙ ap₂ {C = List ℕ} (λ x i. x ∷ drop i ws) (sym e) (sym (add-one l))
 
   next : first_odd (at + 11 * q) (growths_of One last ws)
-      ≡ cond (eqb ((n + p) % 2) 1) (some (at + 11 * (q + l)))
+      ≡ cond (eqb ((n + p) % 2) 1) (Some (at + 11 * (q + l)))
       (first_odd (at + 11 * (q + l) + 11) (growths_of One n (drop (l + 1) ws)))
   next =
       s.odd
       ∙ ap (λ (vs : List ℕ). first_odd (at + 11 * (q + l)) (growths_of One p vs)) words_left
       ∙ odd_cons (at + 11 * (q + l)) p n (drop (l + 1) ws) s.small below
 
-  pub looks_odd : (n + p) % 2 ≡ 1 → first_odd (at + 11 * q) (growths_of One last ws) ≡ some (at + 11 * (q + l))
+  pub looks_odd : (n + p) % 2 ≡ 1 → first_odd (at + 11 * q) (growths_of One last ws) ≡ Some (at + 11 * (q + l))
   looks_odd f = next ∙ rw (eq-eqb ((n + p) % 2) 1 f)
 
   pub looks_more : ((n + p) % 2 ≡ 1 → ⊥) → Looks at q last ws (l + 1) n
@@ -113,7 +113,7 @@ module _
       step : (at q l : ℕ) → at + 11 * (q + l) + 11 ≡ at + 11 * (q + (l + 1))
       step at q l = omega arith
 
-over_odd : (at p : ℕ) → first_odd at (growths_of One p []) ≡ none
+over_odd : (at p : ℕ) → first_odd at (growths_of One p []) ≡ None
 unfolding first_odd growths_of
 over_odd at p = refl
 
@@ -122,7 +122,7 @@ unfolding last_heard
 over_last p = refl
 
 pub looks_all : (at q last : ℕ) (ws : List ℕ) (l p : ℕ) → Looks at q last ws l p → length ws ≤ l
-    → (first_odd (at + 11 * q) (growths_of One last ws) ≡ none) × (last_heard One last ws ≡ p)
+    → (first_odd (at + 11 * q) (growths_of One last ws) ≡ None) × (last_heard One last ws ≡ p)
 looks_all at q last ws l p s b =
     let over : drop l ws ≡ [] = drop_of_length-le ws {i = l} b in (
       s.odd ∙ ap (λ (vs : List ℕ). first_odd (at + 11 * (q + l)) (growths_of One p vs)) over
@@ -131,7 +131,7 @@ looks_all at q last ws l p s b =
     )
 
 pub new_usable : (at h m : ℕ) (row : List ℕ) → m ≡ length row / 11 - h / 11
-    → first_unusable at (hard_recording row) ≡ none → h ≤ length row
+    → first_unusable at (hard_recording row) ≡ None → h ≤ length row
     → AllUsable (hard_recording row) (11 * (h / 11)) (11 * m)
 new_usable at h m row e u b =
     subst (λ (i : ℕ). AllUsable (hard_recording row) i (11 * m)) (plus (11 * (h / 11)))
@@ -150,7 +150,7 @@ chips_most Five = omega arith
 chips_most Eleven = omega arith
 
 pub held_bad : (r : Rate) (at : ℕ) (e : Ear) (h : ℕ) (row : List ℕ) (q : ℕ)
-    → some q ≡ first_unusable at (hard_recording row) → q < 1000000 → e.last < 4
+    → Some q ≡ first_unusable at (hard_recording row) → q < 1000000 → e.last < 4
     → PartHeld r at e h row (record { ear = e; bad = At q; odd = Nothing })
 held_bad r at e h row q i b l = record {
   bad_is = i;
@@ -166,7 +166,7 @@ held_bad r at e h row q i b l = record {
 }
 
 pub held_one : (r : Rate) (at : ℕ) (e : Ear) (h : ℕ) (row : List ℕ) (x : Grown) → r ≡ One
-    → first_unusable at (hard_recording row) ≡ none → Looked at h row e.last x
+    → first_unusable at (hard_recording row) ≡ None → Looked at h row e.last x
     → PartHeld r at e h row
     (record {
       ear = record { lead = e.lead; symbol = e.symbol; past = e.past; phase = e.phase; last = x.last };
@@ -189,14 +189,14 @@ held_one r at e h row x i u l =
     })
 
 -- at the other rates any growth is allowed
-none_odd : (r : Rate) (at : ℕ) (gs : List ℕ) → octet_chips r < 88 → none ≡ odd_growth r at gs
+none_odd : (r : Rate) (at : ℕ) (gs : List ℕ) → octet_chips r < 88 → None ≡ odd_growth r at gs
 none_odd One at gs h = absurd (omega arith)
 none_odd Two at gs h = refl
 none_odd Five at gs h = refl
 none_odd Eleven at gs h = refl
 
 pub held_other : (r : Rate) (at : ℕ) (e : Ear) (h : ℕ) (row : List ℕ) (x : Piece) → octet_chips r < 88
-    → first_unusable at (hard_recording row) ≡ none → e.last < 4
+    → first_unusable at (hard_recording row) ≡ None → e.last < 4
     → (x.ear ≡ e) × (x.bad ≡ Nothing) × (x.odd ≡ Nothing) → PartHeld r at e h row x
 held_other r at e h row x b u l s = record {
   bad_is = ap where_found s.1 ∙ sym u;

@@ -10,7 +10,7 @@
 use mathlib.Core.Path.{◌≡◌, refl, sym, ap, ◌∙◌}
 use mathlib.Core.Bool.{Bool, true, false, cond}
 use mathlib.Core.List.{List, [], ◌∷◌}
-use mathlib.Core.Option.{Option, none, some}
+use Rattle.std.specs.Prelude.{Option, None, Some}
 use Prim.Native.Nat.{ℕ, suc, ◌+◌, ◌*◌, ◌/◌, ◌%◌, ◌^◌, ◌≤◌, ◌<◌}
 use native.Mathlib.Nat.{add-zero, add-suc}
 use native.Mathlib.Omega.{arith}
@@ -49,8 +49,8 @@ unusable_shift d at (c ∷ cs) =
     by (is_unusable c) (ap (λ (i : ℕ). first_unusable i cs) (sym (add-suc d at)) ∙ unusable_shift d (suc at) cs)
   where
     by : (b : Bool) → first_unusable (suc (d + at)) cs ≡ moved d (first_unusable (suc at) cs)
-        → cond b (some (d + at)) (first_unusable (suc (d + at)) cs)
-        ≡ moved d (cond b (some at) (first_unusable (suc at) cs))
+        → cond b (Some (d + at)) (first_unusable (suc (d + at)) cs)
+        ≡ moved d (cond b (Some at) (first_unusable (suc at) cs))
     by true e = refl
     by false e = e
 
@@ -64,7 +64,7 @@ first_shift d at (g ∷ gs) =
     next = omega arith
 
     by : (b : Bool) → first_odd (d + at + 11) gs ≡ moved d (first_odd (at + 11) gs)
-        → cond b (some (d + at)) (first_odd (d + at + 11) gs) ≡ moved d (cond b (some at) (first_odd (at + 11) gs))
+        → cond b (Some (d + at)) (first_odd (d + at + 11) gs) ≡ moved d (cond b (Some at) (first_odd (at + 11) gs))
     by true e = refl
     by false e = e
 
@@ -95,9 +95,9 @@ odd_moved Eleven at p m (At q) cs e h = absurd (no_place {p = q} e refl)
 
 -- ---- a row searched
 
-moved_none : (at : ℕ) (o : Option ℕ) → moved at o ≡ none → o ≡ none
-moved_none at none e = refl
-moved_none at (some p) e = absurd (no_place {p = at + p} e refl)
+moved_none : (at : ℕ) (o : Option ℕ) → moved at o ≡ None → o ≡ None
+moved_none at None e = refl
+moved_none at (Some p) e = absurd (no_place {p = at + p} e refl)
 
 pub row_unusable : (at : ℕ) (row : List ℕ) (f g : Place) (n : ℕ) → n ≡ length row
     → where_found f ≡ first_unusable 0 (take n (hard_recording row)) → where_found g ≡ moved at (where_found f)
@@ -110,7 +110,7 @@ row_unusable at row f g n s e i =
 
 -- a row with no octet above 4 has no unusable chip
 pub row_none : (at most : ℕ) (row : List ℕ) → NoneAbove most row (length row) → most < 5
-    → none ≡ first_unusable at (hard_recording row)
+    → None ≡ first_unusable at (hard_recording row)
 unfolding first_unusable hard_recording
 row_none at most [] each h = refl
 row_none at most (x ∷ row) each h =
@@ -118,12 +118,12 @@ row_none at most (x ∷ row) each h =
     rw (unusable_hard x, le-leb x 4 (omega arith))
     (row_none (suc at) most row (λ j l. each (suc j) (omega arith)) h)
 
-pub row_usable : (at n : ℕ) (row : List ℕ) → length row ≡ n → first_unusable at (hard_recording row) ≡ none
+pub row_usable : (at n : ℕ) (row : List ℕ) → length row ≡ n → first_unusable at (hard_recording row) ≡ None
     → AllUsable (hard_recording row) 0 n
 row_usable at n row s e =
     let rec = hard_recording row in
     let all : take n rec ≡ rec = take_all n rec (omega (arith, length_hard row)) in
-    let here : first_unusable 0 rec ≡ none =
+    let here : first_unusable 0 rec ≡ None =
     moved_none at (first_unusable 0 rec)
     (sym (unusable_shift at 0 rec) ∙ ap (λ (i : ℕ). first_unusable i rec) (add-zero at) ∙ e) in
     none_usable rec 0 n (omega (arith, length_hard row)) (ap (first_unusable 0) all ∙ here)
@@ -141,7 +141,7 @@ chips_few r at w n e h = rw (part_symbols r w, part_chips r w) (omega arith)
 pub usable_heard : (r : Rate) (at symbol : ℕ) (e : Ear) (row : List ℕ) (w : ℕ) (p : Part) (odd : Place) (out : List ℕ)
     → PartHeard r 0 w (hard_recording row) (record { past = e.past; phase = e.phase }) symbol
     (lead_at e.lead e.symbol) p out
-    → first_unusable at (hard_recording row) ≡ none → where_found odd ≡ moved at (where_found p.heard.odd)
+    → first_unusable at (hard_recording row) ≡ None → where_found odd ≡ moved at (where_found p.heard.odd)
     → PlaceBelow odd
     → WholeHeard r at symbol e row w
     (record {
@@ -176,7 +176,7 @@ pub found_place : {A : Type 0} (q : ℕ) → At q ≡ Nothing → A
 found_place q z = absurd (no_place {p = q} (ap where_found z) refl)
 
 pub unusable_heard : (r : Rate) (at symbol : ℕ) (e : Ear) (row : List ℕ) (w q : ℕ) (out : List ℕ)
-    → some q ≡ first_unusable at (hard_recording row) → q < 1000000 → e.phase < 4 → e.last < 4
+    → Some q ≡ first_unusable at (hard_recording row) → q < 1000000 → e.phase < 4 → e.last < 4
     → WholeHeard r at symbol e row w (record { ear = e; bad = At q; odd = Nothing }) out
 unusable_heard r at symbol e row w q out i b s l = record {
   bad_is = i;

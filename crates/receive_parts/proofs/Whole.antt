@@ -4,7 +4,7 @@
 -- Assumes nothing.
 use mathlib.Core.Path.{◌≡◌, refl, sym, ap, ap₂, subst, ◌∙◌}
 use mathlib.Core.List.{List, ◌++◌}
-use mathlib.Core.Option.{Option, none}
+use Rattle.std.specs.Prelude.{Option, None}
 use Prim.Native.Nat.{ℕ, ◌+◌, ◌-◌, ◌*◌, ◌/◌, ◌%◌, ◌≤◌, ◌<◌}
 use native.Mathlib.Nat.{mul-add}
 use native.Mathlib.Omega.{arith}
@@ -30,7 +30,7 @@ use Rattle.choose_recorded.specs.Recorded.{where_found}
 use Rattle.receive_parts.specs.declared.Piece.{Piece}
 use Rattle.receive_parts.specs.Pieces.{row_words, WholeHeard}
 
-pub nothing_found : (o : Place) → where_found o ≡ none → o ≡ Nothing
+pub nothing_found : (o : Place) → where_found o ≡ None → o ≡ Nothing
 nothing_found Nothing e = refl
 nothing_found (At place) e = absurd (let z : ◌≡◌ {A = ℕ} 0 1 = cc in omega arith)
 
@@ -43,7 +43,7 @@ some_chips Eleven = omega arith
 module _
     (k : Kind) (p : Section) (m w : ℕ) (fed row : List ℕ) (e : Ear) (hold out : List ℕ) (x : Piece) (y : List ℕ)
     (at : length fed ≡ p.from + octet_chips p.rate * m) (size : length row ≡ octet_chips p.rate * w)
-    (usable : section_unusable p (hard_recording fed) ≡ none) (even : section_odd p (hard_recording fed) ≡ none)
+    (usable : section_unusable p (hard_recording fed) ≡ None) (even : section_odd p (hard_recording fed) ≡ None)
     (s : Stands k p m (hard_recording fed) e out) (parity : p.first % 2 ≡ 0) (room : m + w ≤ length out)
     (heard : WholeHeard p.rate (p.from + octet_chips p.rate * m) (p.first + octet_symbols p.rate * m) e row w
     x y) where

@@ -1,7 +1,7 @@
 -- What a piece of a batch makes of a part that goes on. Definitions only. Assumes nothing.
 -- working notion: of the code that hears a part as it comes; no promise needs it
 use Rattle.std.specs.Prelude.{◌≡◌, List, ◌++◌, ℕ, ◌+◌, ◌-◌, ◌*◌, ◌/◌, ◌%◌, ◌≤◌, ◌<◌, length, get_or, take, drop}
-use Rattle.std.proofs.Math.Option.{Option, none, some}
+use Rattle.std.specs.Prelude.{Option, None, Some}
 use Rattle.rules_rates.specs.declared.Rate.{Rate}
 use Rattle.rules_rates.specs.declared.Rate.TheVariants.{One}
 use Rattle.rules_rates.specs.Rates.{symbol_chips, symbol_bits, octet_chips}
@@ -29,8 +29,8 @@ PlaceBelow (At place) = place < 1000000
 
 -- a place found in a row whose first chip is chip `at` of the recording, as a place of the recording
 abbrev pub moved : ℕ → Option ℕ → Option ℕ
-moved at none = none
-moved at (some place) = some (at + place)
+moved at None = None
+moved at (Some place) = Some (at + place)
 
 abbrev pub MovedBelow : ℕ → Place → Type 0
 MovedBelow at Nothing = Unit {0}
@@ -109,7 +109,7 @@ pub record WholeCount (r : Rate) (m h n len w : ℕ) : Type 0 where
 abbrev pub Becomes : Rate → ℕ → ℕ → ℕ → Ear → List ℕ → List ℕ → List ℕ → Piece → List ℕ → List ℕ → Type 0
 Becomes r from first count e hold out piece x hold' out' =
     (k : Kind) (p : Section) (fed : List ℕ) → p.rate ≡ r → p.from ≡ from → p.first ≡ first → first % 2 ≡ 0
-    → length fed ≡ count → section_unusable p (hard_recording fed) ≡ none → section_odd p (hard_recording fed) ≡ none
+    → length fed ≡ count → section_unusable p (hard_recording fed) ≡ None → section_odd p (hard_recording fed) ≡ None
     → GoesOn k p fed e hold out
     → SectionIs k p (fed ++ piece) (where_found x.bad) (where_found x.odd) x.ear hold' out'
 

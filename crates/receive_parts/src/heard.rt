@@ -1,6 +1,6 @@
 // A row of chips heard: whole octets, or the new symbols of an octet that is not whole.
 ghost use Rattle.std.specs.Prelude.{◌≡◌, ◌+◌, ◌*◌, ◌≤◌, ◌<◌, length};
-ghost use Rattle.std.proofs.Math.Option.{none};
+ghost use Rattle.std.specs.Prelude.{None};
 ghost use Rattle.rules_rates.specs.Rates.{octet_chips};
 ghost use Rattle.rules_chips.specs.Chips.{hard_recording};
 ghost use Rattle.rules_reading.specs.Reading.{first_unusable};
@@ -78,7 +78,7 @@ pub fn unusable_from(row: &[u8], at: usize) -> Place
 // Whole octets of usable chips.
 fn hear_usable(rate: Rate, at: usize, symbol: usize, ear: Ear, row: &[u8], out: &mut [u8]) -> Piece
     requires { (length row.now ≡ octet_chips rate * length out.old) × (at + length row.now ≤ 1000000)
-        × (symbol ≤ 1000000) × (ear.phase < 4) × (first_unusable at (hard_recording row.now) ≡ none) }
+        × (symbol ≤ 1000000) × (ear.phase < 4) × (first_unusable at (hard_recording row.now) ≡ None) }
     ensures answer { WholeHeard rate at symbol ear row.now (length out.old) result
         out.new }
 {
@@ -154,7 +154,7 @@ pub fn hear_whole(
 // first chip is chip `at` of the recording; the symbol before the new ones has phase `last`.
 fn look(row: &[u8], at: usize, h: usize, last: u8) -> Grown
     requires { (length row.now ≤ 88) × (h ≤ length row.now) × (at ≤ 900000) × (last < 4)
-        × (first_unusable at (hard_recording row.now) ≡ none) }
+        × (first_unusable at (hard_recording row.now) ≡ None) }
     ensures answer { Looked at h row.now last result }
 {
     let byte = [0i8; 1];

@@ -2,7 +2,7 @@
 -- symbol with the lead of a clean one; and its smallest lead. Assumes nothing.
 use mathlib.Core.Path.{◌≡◌, refl, sym, ap, ap₂, ◌∙◌}
 use mathlib.Core.List.{List, ◌++◌, append_assoc}
-use mathlib.Core.Option.{none}
+use Rattle.std.specs.Prelude.{None}
 use Prim.Native.Nat.{ℕ, ◌+◌, ◌-◌, ◌*◌, ◌/◌, ◌≤◌}
 use native.Mathlib.Omega.{arith}
 use lib.ListN.{length, take, drop, replicate, length-append, length-drop}
@@ -154,7 +154,7 @@ module _ (k : Kind) (r : Rate) (p : ℕ) (header xs : List ℕ) (rest : List Tak
       (omega arith)
 
   no_unusable : first_unusable (front_chips k) (take (frame_chips k r n - front_chips k) (drop (front_chips k) recording))
-      ≡ none
+      ≡ None
   no_unusable =
       ap (λ (t : List Taken). first_unusable (front_chips k) (take (frame_chips k r n - front_chips k) t)) dropped
       ∙ none_unusable (front_chips k) (frame_chips k r n - front_chips k)

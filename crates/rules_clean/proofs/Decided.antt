@@ -4,7 +4,7 @@
 use mathlib.Core.Path.{◌≡◌, refl, sym, ap, ap₂, ◌∙◌, subst}
 use mathlib.Core.Bool.{Bool}
 use mathlib.Core.List.{List, [], ◌∷◌, ◌++◌, map, map-append, append_assoc}
-use mathlib.Core.Option.{none}
+use Rattle.std.specs.Prelude.{None}
 use Prim.Native.Nat.{ℕ, zero, suc, ◌*◌, ◌≤◌}
 use native.Mathlib.Nat.{le_of_suc-le-suc, not-suc-le-zero}
 use lib.Dec.{T, lit<}
@@ -52,7 +52,7 @@ clean_take (suc j) (p ∷ a) = ap (λ (l : List Taken). clean_taken p ∷ l) (cl
 
 -- no chip of a clean recording is unusable
 pub none_unusable : (at m : ℕ) (chips : List ℕ) (rest : List Taken) → m ≤ length chips
-    → first_unusable at (take m (clean_recording chips ++ rest)) ≡ none
+    → first_unusable at (take m (clean_recording chips ++ rest)) ≡ None
 unfolding first_unusable clean_recording
 none_unusable at zero chips rest h = refl
 none_unusable at (suc m) [] rest h = absurd (not-suc-le-zero h)

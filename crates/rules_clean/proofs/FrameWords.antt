@@ -3,7 +3,7 @@
 -- a recording: a clean frame is one, and so is a spoiled one that stands its damage. Assumes nothing.
 use mathlib.Core.Path.{◌≡◌, sym, ap, ◌∙◌, subst}
 use mathlib.Core.List.{List, [], ◌∷◌, ◌++◌}
-use mathlib.Core.Option.{none}
+use Rattle.std.specs.Prelude.{None}
 use Prim.Native.Nat.{ℕ, ◌+◌, ◌-◌, ◌*◌, ◌/◌, ◌≤◌}
 use native.Mathlib.Omega.{arith}
 use lib.ListN.{length, take, drop, length-drop}
@@ -90,7 +90,7 @@ module _ (k : Kind) (r : Rate) (p : ℕ) (header xs : List ℕ) where
     pub preamble_words_lem : preamble_words k rec ≡ preamble_sent
     pub header_words_lem : header_words k rec ≡ header_sent
     pub front_there : front_chips k ≤ length rec
-    pub front_usable : first_unusable 0 (take (front_chips k) rec) ≡ none
+    pub front_usable : first_unusable 0 (take (front_chips k) rec) ≡ None
 
   -- and so is its payload
   pub record AsSent (rec : List Taken) : Type 0 where
@@ -98,7 +98,7 @@ module _ (k : Kind) (r : Rate) (p : ℕ) (header xs : List ℕ) where
     pub payload_words_lem : payload_words k r n rec ≡ payload_sent
     pub frame_there : frame_chips k r n ≤ length rec
     pub payload_usable :
-        first_unusable (front_chips k) (take (frame_chips k r n - front_chips k) (drop (front_chips k) rec)) ≡ none
+        first_unusable (front_chips k) (take (frame_chips k r n - front_chips k) (drop (front_chips k) rec)) ≡ None
 
   module _ (eh : length header ≡ header_length) where
     s_length : length s ≡ m + (48 + 8 * n)

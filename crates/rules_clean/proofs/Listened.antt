@@ -2,7 +2,7 @@
 -- part by part. Assumes nothing.
 use mathlib.Core.Path.{◌≡◌, refl, sym, ap, ap₂, ◌∙◌, subst}
 use mathlib.Core.List.{List, ◌∷◌, ◌++◌}
-use mathlib.Core.Option.{Option, none, some}
+use Rattle.std.specs.Prelude.{Option, None, Some}
 use Prim.Native.Nat.{ℕ, ◌*◌, ◌/◌, ◌<◌}
 use native.Mathlib.Omega.{arith}
 use lib.ListN.{length, get_or, drop}
@@ -44,12 +44,12 @@ use Rattle.rules_clean.proofs.FrameWords.{FrontAsSent, AsSent}
 use Rattle.rules_clean.proofs.FrameWords as words
 
 header_none : (k : Kind) (at p : ℕ) (bs : List ℕ) → p < 4
-    → odd_growth (header_rate k) at (growths_of (header_rate k) p (words_of (header_rate k) p bs)) ≡ none
+    → odd_growth (header_rate k) at (growths_of (header_rate k) p (words_of (header_rate k) p bs)) ≡ None
 unfolding symbols_of
 header_none Long at p bs l = none_odd at 0 p (length bs / 1) bs l
 header_none Short at p bs l = refl
 
-payload_none : (r : Rate) (at p : ℕ) (bs : List ℕ) → p < 4 → odd_growth r at (growths_of r p (words_of r p bs)) ≡ none
+payload_none : (r : Rate) (at p : ℕ) (bs : List ℕ) → p < 4 → odd_growth r at (growths_of r p (words_of r p bs)) ≡ None
 unfolding symbols_of
 payload_none One at p bs l = none_odd at 0 p (length bs / 1) bs l
 payload_none Two at p bs l = refl
@@ -131,10 +131,10 @@ module _ (k : Kind) (r : Rate) (p : ℕ) (header xs : List ℕ) (eh : length hea
       ap₂ {C = ℕ} (λ f w. last_heard rate f w) header_phase_lem begun.header_words_lem
       ∙ last_of rate q1 header_bits (words.header_below k r p header xs eh)
 
-  pub front_none : front_odd k rec ≡ none
+  pub front_none : front_odd k rec ≡ None
   unfolding front_odd
   front_none =
-      ap₂ {C = Option ℕ} (λ x y. or_else x (λ place. some place) y)
+      ap₂ {C = Option ℕ} (λ x y. or_else x (λ place. Some place) y)
       (ap₂ {C = Option ℕ} (λ f w. first_odd 0 (growths_of One f w)) reference_is preamble_words_lem
       ∙ none_own p first_bit later_bits l 0)
       (ap₂ {C = Option ℕ} (λ f w. odd_growth rate (preamble_chips k) (growths_of rate f w)) header_phase_lem
@@ -152,7 +152,7 @@ module _ (k : Kind) (r : Rate) (p : ℕ) (header xs : List ℕ) (eh : length hea
       (words.header_length_lem k r p header xs eh))
 
   module _ (sent : AsSent k r p header xs rec) where
-    pub payload_odd_lem : payload_odd k r n rec ≡ none
+    pub payload_odd_lem : payload_odd k r n rec ≡ None
     unfolding payload_odd
     payload_odd_lem =
         ap₂ {C = Option ℕ} (λ f w. odd_growth r (front_chips k) (growths_of r f w)) payload_phase_lem sent.payload_words_lem

@@ -4,7 +4,7 @@
 use mathlib.Core.Path.{◌≡◌, refl, sym, ap, ap₂, ◌∙◌}
 use mathlib.Core.Bool.{Bool, cond}
 use mathlib.Core.List.{List, [], ◌∷◌}
-use mathlib.Core.Option.{none, some}
+use Rattle.std.specs.Prelude.{None, Some}
 use Prim.Native.Nat.{ℕ, zero, suc, ◌+◌, ◌*◌, ◌/◌, ◌%◌, ◌<◌}
 use native.Mathlib.Nat.{suc-mul, zero-mul}
 use native.Mathlib.Omega.{arith}
@@ -88,13 +88,13 @@ quarter : (p g : ℕ) → turned p g < 4
 quarter p g = omega arith
 
 pub none_odd : (at k p m : ℕ) (bs : List ℕ) → p < 4
-    → first_odd at (growths_of One p (numbers_from One p (symbols_from One k m bs))) ≡ none
+    → first_odd at (growths_of One p (numbers_from One p (symbols_from One k m bs))) ≡ None
 unfolding symbols_from numbers_from growths_of first_odd symbol_of
 none_odd at k p zero bs l = refl
 none_odd at k p (suc m) bs l =
     let b = get_or (take 1 bs) 0 0 in
     let q = turned p (2 * b) in
-    ap (λ (t : Bool). cond t (some at) (first_odd (at + 11)
+    ap (λ (t : Bool). cond t (Some at) (first_odd (at + 11)
     (growths_of One q (numbers_from One q (symbols_from One (suc k) m (drop 1 bs))))))
     (ne_eqb (grown_by p q % 2) 1 (even p b l))
     ∙ none_odd (at + 11) (suc k) q m (drop 1 bs) (quarter p (2 * b))
@@ -143,10 +143,10 @@ module _ (p : ℕ) (b : ℕ) (bs : List ℕ) (l : p < 4) where
   skip : (at : ℕ) → first_odd at (growths_of One first (first ∷ later)) ≡ first_odd (at + 11) (growths_of One first later)
   unfolding growths_of first_odd
   skip at =
-      ap (λ (t : Bool). cond t (some at) (first_odd (at + 11) (growths_of One first later)))
+      ap (λ (t : Bool). cond t (Some at) (first_odd (at + 11) (growths_of One first later)))
       (ne_eqb (grown_by first first % 2) 1 (still first))
 
-  pub none_own : (at : ℕ) → first_odd at (growths_of One first words) ≡ none
+  pub none_own : (at : ℕ) → first_odd at (growths_of One first words) ≡ None
   unfolding later
   none_own at =
       ap (λ (w : List ℕ). first_odd at (growths_of One first w)) cons_words

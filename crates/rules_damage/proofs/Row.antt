@@ -6,7 +6,7 @@
 use mathlib.Core.Path.{◌≡◌, refl, sym, ap, ap₂, ◌∙◌, subst}
 use mathlib.Core.Bool.{Bool, true, not, cond}
 use mathlib.Core.List.{List, [], ◌∷◌, ◌++◌, map, append_assoc}
-use mathlib.Core.Option.{none, some}
+use Rattle.std.specs.Prelude.{None, Some}
 use Prim.Native.Nat.{ℕ, zero, suc, ◌+◌, ◌*◌, ◌≤◌, ◌<◌}
 use native.Mathlib.Nat.{mul-zero, mul-suc, suc-mul, mul-add, le_of_suc-le-suc, not-suc-le-zero}
 use native.Mathlib.Omega.{arith}
@@ -60,12 +60,12 @@ SymbolsKeep l c m sent rec =
 
 -- ---- no chip is unusable
 pub none_unusable : (at m : ℕ) (rec : List ℕ) (rest : List Taken) → Below 5 rec → m ≤ length rec
-    → first_unusable at (take m (hard_recording rec ++ rest)) ≡ none
+    → first_unusable at (take m (hard_recording rec ++ rest)) ≡ None
 unfolding first_unusable hard_recording
 none_unusable at zero rec rest b h = refl
 none_unusable at (suc m) [] rest b h = absurd (not-suc-le-zero h)
 none_unusable at (suc m) (x ∷ rec) rest b h =
-    ap (λ (t : Bool). cond t (some at) (first_unusable (suc at) (take m (map hard_taken rec ++ rest))))
+    ap (λ (t : Bool). cond t (Some at) (first_unusable (suc at) (take m (map hard_taken rec ++ rest))))
     (unusable_hard x ∙ ap not (le-leb x 4 (le_of_suc-le-suc (below_head b))))
     ∙ none_unusable (suc at) m rec rest (below_tail b) (le_of_suc-le-suc h)
 

@@ -3,7 +3,7 @@
 -- Assumes nothing.
 use mathlib.Core.Path.{◌≡◌, refl, sym, ap, ◌∙◌, subst}
 use mathlib.Core.List.{List}
-use mathlib.Core.Option.{Option, none, some}
+use Rattle.std.specs.Prelude.{Option, None, Some}
 use Prim.Native.Nat.{ℕ, ◌+◌, ◌%◌, ◌<◌}
 use native.Mathlib.Omega.{arith}
 use lib.ListN.{length, get_or}
@@ -21,16 +21,16 @@ use Rattle.rules_reading.proofs.First.{no_place, odd_none}
 use Rattle.rules_reading.proofs.Sfd.{word_at, words_length, word_here}
 
 -- ---- a search that found nothing
-or_none : (o rest : Option ℕ) → or_else o (λ p. some p) rest ≡ none → o ≡ none
-or_none none rest e = refl
-or_none (some p) rest e = absurd (no_place e refl)
+or_none : (o rest : Option ℕ) → or_else o (λ p. Some p) rest ≡ None → o ≡ None
+or_none None rest e = refl
+or_none (Some p) rest e = absurd (no_place e refl)
 
 -- ---- the front
 module _ (k : Kind) (rec : List Taken) where
   abbrev growths : List ℕ
   growths = growths_of One (reference k rec) (preamble_words k rec)
 
-  none_odd : front_odd k rec ≡ none → first_odd 0 growths ≡ none
+  none_odd : front_odd k rec ≡ None → first_odd 0 growths ≡ None
   unfolding front_odd
   none_odd e = or_none (first_odd 0 growths) _ e
 

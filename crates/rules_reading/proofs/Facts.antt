@@ -6,7 +6,7 @@
 -- refused for stands in `rules_calls`, HeaderFacts. Assumes nothing.
 use mathlib.Core.Path.{◌≡◌, refl}
 use mathlib.Core.Bool.{Bool, true, false}
-use mathlib.Core.Option.{none, some}
+use Rattle.std.specs.Prelude.{None, Some}
 use mathlib.Core.List.{List, [], ◌∷◌, ◌++◌, map}
 use Prim.Native.Nat.{ℕ, ◌+◌, ◌%◌}
 use lib.ListN.{take, drop, set, replicate}
@@ -101,7 +101,7 @@ pub parts : (first_unusable 7 (hard_recording (0 ∷ 4 ∷ 5 ∷ 255 ∷ [])) �
     ∷ first_odd 22 (0 ∷ 2 ∷ 3 ∷ 1 ∷ []) ∷ first_odd 22 (1 ∷ []) ∷ first_odd 22 (0 ∷ 2 ∷ [])
     ∷ odd_growth One 22 (1 ∷ []) ∷ odd_growth Two 22 (1 ∷ []) ∷ odd_growth Five 22 (1 ∷ []) ∷ odd_growth Eleven 22 (1 ∷ [])
     ∷ [])
-    ≡ (some 9 ∷ none ∷ some 44 ∷ some 22 ∷ none ∷ some 22 ∷ none ∷ none ∷ none ∷ [])
+    ≡ (Some 9 ∷ None ∷ Some 44 ∷ Some 22 ∷ None ∷ Some 22 ∷ None ∷ None ∷ None ∷ [])
 unfolding hard_recording first_unusable first_odd
 parts = refl
 
@@ -115,7 +115,7 @@ unfolding least_from least_of
 leasts = refl
 
 -- 10 in a long header: its first symbol grown by 1 from the preamble's last
-pub grown : front_odd Long (hard_recording (replicate 1584 0 ++ replicate 528 1)) ≡ some 1584
+pub grown : front_odd Long (hard_recording (replicate 1584 0 ++ replicate 528 1)) ≡ Some 1584
 unfolding
     hard_recording barker_word score those going first_largest decided growths_of last_heard first_odd decided_words
     preamble_words header_words reference header_phase front_odd

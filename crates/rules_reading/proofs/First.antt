@@ -5,7 +5,7 @@
 use mathlib.Core.Path.{◌≡◌, refl, sym, ◌∙◌, subst}
 use mathlib.Core.Bool.{Bool, true, false, cond, not}
 use mathlib.Core.List.{List, [], ◌∷◌}
-use mathlib.Core.Option.{Option, none, some}
+use Rattle.std.specs.Prelude.{Option, None, Some}
 use Prim.Native.Nat.{ℕ, zero, suc, ◌+◌, ◌*◌, ◌%◌, ◌<◌}
 use native.Mathlib.Omega.{arith}
 use borrow.Author.Tests.{eqb-true, eqb-false}
@@ -15,15 +15,15 @@ use Rattle.rules_chips.specs.Chips.{Taken, unusable, counted, is_unusable}
 use Rattle.rules_reading.specs.Reading.{first_unusable, first_odd}
 
 -- ---- a place that was found
-one_place : {p q : ℕ} → some p ≡ some q → p ≡ q
+one_place : {p q : ℕ} → Some p ≡ Some q → p ≡ q
 one_place {p} {q} e = cc
 
-pub no_place : {p : ℕ} {o : Option ℕ} → o ≡ none → o ≡ some p → ⊥
+pub no_place : {p : ℕ} {o : Option ℕ} → o ≡ None → o ≡ Some p → ⊥
 no_place e f = subst IsNone (sym e ∙ f) tt
   where
     IsNone : Option ℕ → Type 0
-    IsNone none = Unit {0}
-    IsNone (some q) = ⊥
+    IsNone None = Unit {0}
+    IsNone (Some q) = ⊥
 
 -- ---- 9
 pub record FirstUnusable (at : ℕ) (cs : List Taken) (p : ℕ) : Type 0 where
@@ -33,7 +33,7 @@ pub record FirstUnusable (at : ℕ) (cs : List Taken) (p : ℕ) : Type 0 where
   pub is_one : T (is_unusable (get_or cs index unusable))
   pub before : (i : ℕ) → i < index → T (not (is_unusable (get_or cs i unusable)))
 
-pub unusable_first : (at : ℕ) (cs : List Taken) (p : ℕ) → first_unusable at cs ≡ some p → FirstUnusable at cs p
+pub unusable_first : (at : ℕ) (cs : List Taken) (p : ℕ) → first_unusable at cs ≡ Some p → FirstUnusable at cs p
 unfolding first_unusable
 unusable_first at [] p e = absurd (no_place refl e)
 unusable_first at (unusable ∷ cs) p e =
@@ -60,7 +60,7 @@ unusable_first at (counted c ∷ cs) p e =
     go f zero l = tt
     go f (suc i) l = f.before i (omega (arith, l))
 
-pub unusable_none : (at : ℕ) (cs : List Taken) → first_unusable at cs ≡ none → (i : ℕ) → i < length cs
+pub unusable_none : (at : ℕ) (cs : List Taken) → first_unusable at cs ≡ None → (i : ℕ) → i < length cs
     → T (not (is_unusable (get_or cs i unusable)))
 unfolding first_unusable
 unusable_none at [] e i h = absurd (omega arith)
@@ -84,7 +84,7 @@ even x n = go (x % 2) (omega arith) n
     go (suc zero) a b = absurd (b refl)
     go (suc (suc y)) a b = absurd (omega arith)
 
-pub odd_first : (at : ℕ) (gs : List ℕ) (p : ℕ) → first_odd at gs ≡ some p → FirstOdd at gs p
+pub odd_first : (at : ℕ) (gs : List ℕ) (p : ℕ) → first_odd at gs ≡ Some p → FirstOdd at gs p
 unfolding first_odd
 odd_first at [] p e = absurd (no_place refl e)
 odd_first at (g ∷ gs) p e =
@@ -114,19 +114,19 @@ odd_first at (g ∷ gs) p e =
         go zero l = even g n
         go (suc i) l = f.before i (omega (arith, l))
 
-    by : (b : Bool) → cond b (some at) (first_odd (at + 11) gs) ≡ some p → (b ≡ true → g % 2 ≡ 1)
-        → (b ≡ false → g % 2 ≡ 1 → ⊥) → (first_odd (at + 11) gs ≡ some p → FirstOdd (at + 11) gs p)
+    by : (b : Bool) → cond b (Some at) (first_odd (at + 11) gs) ≡ Some p → (b ≡ true → g % 2 ≡ 1)
+        → (b ≡ false → g % 2 ≡ 1 → ⊥) → (first_odd (at + 11) gs ≡ Some p → FirstOdd (at + 11) gs p)
         → FirstOdd at (g ∷ gs) p
     by true e y n more = here (one_place e) (y refl)
     by false e y n more = later (n refl) (more e)
 
-pub odd_none : (at : ℕ) (gs : List ℕ) → first_odd at gs ≡ none → (i : ℕ) → i < length gs → get_or gs i 0 % 2 ≡ 0
+pub odd_none : (at : ℕ) (gs : List ℕ) → first_odd at gs ≡ None → (i : ℕ) → i < length gs → get_or gs i 0 % 2 ≡ 0
 unfolding first_odd
 odd_none at [] e i h = absurd (omega arith)
 odd_none at (g ∷ gs) e i h = by (eqb (g % 2) 1) e (eqb-false (g % 2) 1) (odd_none (at + 11) gs) i h
   where
-    by : (b : Bool) → cond b (some at) (first_odd (at + 11) gs) ≡ none → (b ≡ false → g % 2 ≡ 1 → ⊥)
-        → (first_odd (at + 11) gs ≡ none → (i : ℕ) → i < length gs → get_or gs i 0 % 2 ≡ 0) → (i : ℕ)
+    by : (b : Bool) → cond b (Some at) (first_odd (at + 11) gs) ≡ None → (b ≡ false → g % 2 ≡ 1 → ⊥)
+        → (first_odd (at + 11) gs ≡ None → (i : ℕ) → i < length gs → get_or gs i 0 % 2 ≡ 0) → (i : ℕ)
         → i < suc (length gs) → get_or (g ∷ gs) i 0 % 2 ≡ 0
     by true e n more i h = absurd (no_place e refl)
     by false e n more zero h = even g (n refl)

@@ -4,7 +4,7 @@
 -- Assumes nothing.
 use mathlib.Core.Path.{◌≡◌, refl, ap, ◌∙◌}
 use mathlib.Core.List.{List, [], ◌∷◌}
-use mathlib.Core.Option.{none, some}
+use Rattle.std.specs.Prelude.{None, Some}
 use Prim.Native.Nat.{ℕ, zero, suc, ◌+◌, ◌*◌, ◌%◌, ◌≤◌, ◌<◌, max}
 use native.Mathlib.Nat.{le_of_suc-le-suc, not-suc-le-zero}
 use native.Mathlib.Omega.{arith}
@@ -20,7 +20,7 @@ or_low a b = by (bit_or a b) _ (or_step a b)
     by : (z h : ℕ) → z ≡ h * 2 + max (a % 2) (b % 2) → (a % 2 ≤ z % 2) × (b % 2 ≤ z % 2)
     by z h e = (omega arith, omega arith)
 
-odd_none : (at : ℕ) (xs : List ℕ) → ((j : ℕ) → j < length xs → get_or xs j 0 % 2 ≡ 0) → first_odd at xs ≡ none
+odd_none : (at : ℕ) (xs : List ℕ) → ((j : ℕ) → j < length xs → get_or xs j 0 % 2 ≡ 0) → first_odd at xs ≡ None
 unfolding first_odd
 odd_none at [] h = refl
 odd_none at (x ∷ xs) h =
@@ -28,23 +28,23 @@ odd_none at (x ∷ xs) h =
     (odd_none (at + 11) xs (λ j l. h (suc j) (omega arith)))
 
 odd_first : (at : ℕ) (xs : List ℕ) (l : ℕ) → l < length xs → ((j : ℕ) → j < l → get_or xs j 0 % 2 ≡ 0)
-    → get_or xs l 0 % 2 ≡ 1 → first_odd at xs ≡ some (at + 11 * l)
+    → get_or xs l 0 % 2 ≡ 1 → first_odd at xs ≡ Some (at + 11 * l)
 unfolding first_odd
 odd_first at [] l h n e = absurd (not-suc-le-zero h)
-odd_first at (x ∷ xs) zero h n e = rw (eq-eqb (x % 2) 1 e) (ap some (omega arith))
+odd_first at (x ∷ xs) zero h n e = rw (eq-eqb (x % 2) 1 e) (ap Some (omega arith))
 odd_first at (x ∷ xs) (suc l) h n e =
     rw (ne_eqb (x % 2) 1 (λ q. omega (arith, n 0 (omega arith))))
-    (odd_first (at + 11) xs l (le_of_suc-le-suc h) (λ j k. n (suc j) (omega arith)) e ∙ ap some (omega arith))
+    (odd_first (at + 11) xs l (le_of_suc-le-suc h) (λ j k. n (suc j) (omega arith)) e ∙ ap Some (omega arith))
 
 module _ (at : ℕ) (g : List ℕ) (m : ℕ) (h : m ≤ length g) where
-  pub row_none : ((j : ℕ) → j < m → get_or g j 0 % 2 ≡ 0) → first_odd at (take m g) ≡ none
+  pub row_none : ((j : ℕ) → j < m → get_or g j 0 % 2 ≡ 0) → first_odd at (take m g) ≡ None
   row_none n =
       odd_none at (take m g)
       (λ j l. let k : j < m = omega (arith, length-take-le m g h) in
       ap (λ (x : ℕ). x % 2) (get_or-take m g j 0 k) ∙ n j k)
 
   pub row_first : (l : ℕ) → l < m → ((j : ℕ) → j < l → get_or g j 0 % 2 ≡ 0) → get_or g l 0 % 2 ≡ 1
-      → first_odd at (take m g) ≡ some (at + 11 * l)
+      → first_odd at (take m g) ≡ Some (at + 11 * l)
   row_first l b n e =
       odd_first at (take m g) l (omega (arith, length-take-le m g h))
       (λ j k. ap (λ (x : ℕ). x % 2) (get_or-take m g j 0 (omega arith)) ∙ n j k)

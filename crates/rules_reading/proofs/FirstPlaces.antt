@@ -8,7 +8,7 @@
 use mathlib.Core.Path.{◌≡◌, refl, sym, ap, ap₂, ◌∙◌, subst}
 use mathlib.Core.Bool.{not, true}
 use mathlib.Core.List.{List, map}
-use mathlib.Core.Option.{Option, none, some}
+use Rattle.std.specs.Prelude.{Option, None, Some}
 use Prim.Native.Nat.{ℕ, zero, suc, ◌+◌, ◌-◌, ◌*◌, ◌/◌, ◌%◌, ◌≤◌, ◌<◌}
 use native.Mathlib.Decide.{dec_lt}
 use native.Mathlib.Omega.{arith}
@@ -68,7 +68,7 @@ module _ (at m : ℕ) (rec : List Taken) (long : at + m ≤ length rec) (free : 
   part_at : (i : ℕ) → i < m → get_or part i unusable ≡ get_or rec (at + i) unusable
   part_at i l = get_or-take m (drop at rec) i unusable l ∙ get_or-drop at rec i unusable
 
-  pub part_unusable : (p : ℕ) → first_unusable at part ≡ some p → UnusableFirst rec p
+  pub part_unusable : (p : ℕ) → first_unusable at part ≡ Some p → UnusableFirst rec p
   part_unusable p e =
       let f = unusable_first at part p e in
       let i : f.index < m = omega (arith, f.inside, part_length) in
@@ -91,7 +91,7 @@ module _ (at m : ℕ) (rec : List Taken) (long : at + m ≤ length rec) (free : 
           (part_at (q - at) (omega (arith, h, l, f.inside, part_length)))
           (f.before (q - at) (omega (arith, h, l))))
 
-  pub part_usable : first_unusable at part ≡ none → (q : ℕ) → q < at + m → UsableAt rec q
+  pub part_usable : first_unusable at part ≡ None → (q : ℕ) → q < at + m → UsableAt rec q
   part_usable e q l = by (dec_lt q at)
     where
       by : Dec (q < at) → UsableAt rec q
@@ -106,11 +106,11 @@ nothing_before : (rec : List Taken) (q : ℕ) → q < 0 → UsableAt rec q
 nothing_before rec q l = absurd (omega arith)
 
 module _ (k : Kind) (rec : List Taken) where
-  pub front_unusable_first : (p : ℕ) → front_chips k ≤ length rec → first_unusable 0 (take (front_chips k) rec) ≡ some p
+  pub front_unusable_first : (p : ℕ) → front_chips k ≤ length rec → first_unusable 0 (take (front_chips k) rec) ≡ Some p
       → UnusableFirst rec p
   front_unusable_first p l e = part_unusable 0 (front_chips k) rec (omega (arith, l)) (nothing_before rec) p e
 
-  pub front_all_usable : front_chips k ≤ length rec → first_unusable 0 (take (front_chips k) rec) ≡ none
+  pub front_all_usable : front_chips k ≤ length rec → first_unusable 0 (take (front_chips k) rec) ≡ None
       → (q : ℕ) → q < front_chips k → UsableAt rec q
   front_all_usable l e q h =
       part_usable 0 (front_chips k) rec (omega (arith, l)) (nothing_before rec) e q (omega (arith, h))
@@ -120,14 +120,14 @@ module _ (k : Kind) (rec : List Taken) where
     abbrev size : ℕ
     size = frame_chips k t.rate t.n - front_chips k
 
-    pub payload_unusable_first : (p : ℕ) → found_unusable k t rec ≡ some p → UnusableFirst rec p
+    pub payload_unusable_first : (p : ℕ) → found_unusable k t rec ≡ Some p → UnusableFirst rec p
     payload_unusable_first p e = part_unusable (front_chips k) size rec (omega (arith, there)) free p e
 
-    pub payload_all_usable : found_unusable k t rec ≡ none → (q : ℕ) → q < frame_chips k t.rate t.n → UsableAt rec q
+    pub payload_all_usable : found_unusable k t rec ≡ None → (q : ℕ) → q < frame_chips k t.rate t.n → UsableAt rec q
     payload_all_usable e q h = part_usable (front_chips k) size rec (omega (arith, there)) free e q (omega (arith, h))
 
 -- ---- 10
-some_none : {p : ℕ} → none ≡ some p → ⊥
+some_none : {p : ℕ} → None ≡ Some p → ⊥
 some_none e = no_place refl e
 
 module _ (rec : List Taken) where
@@ -162,7 +162,7 @@ module _ (rec : List Taken) where
         ∙ ap₂ {C = ℕ} (λ x y. grown_by x y) (before_is j l)
         (word_is j l ∙ ap (λ (s : ℕ). word_from One (11 * s) rec) e))
 
-    part_odd : (q : ℕ) → first_odd (11 * suc b) gs ≡ some q → FirstOddSymbol rec q
+    part_odd : (q : ℕ) → first_odd (11 * suc b) gs ≡ Some q → FirstOddSymbol rec q
     part_odd q e =
         let f = odd_first (11 * suc b) gs q e in
         let i : f.index < m = omega (arith, f.inside, gs_length) in
@@ -182,7 +182,7 @@ module _ (rec : List Taken) where
             (sym (grown_is (s - b) (omega (arith, h, l, f.inside, gs_length)))
             ∙ f.before (s - b) (omega (arith, h, l)))
 
-    part_even : first_odd (11 * suc b) gs ≡ none → (s : ℕ) → s < b + m → odd_behind rec s ≡ 0
+    part_even : first_odd (11 * suc b) gs ≡ None → (s : ℕ) → s < b + m → odd_behind rec s ≡ 0
     part_even e s l = by (dec_lt s b)
       where
         by : Dec (s < b) → odd_behind rec s ≡ 0
@@ -222,7 +222,7 @@ module _ (rec : List Taken) where
         (growth_of One (get_or firsts 0 0) firsts (suc j) (omega (arith, l, decided_words_length One m rec))
         ∙ ap₂ {C = ℕ} (λ x y. grown_by x y) (first_is j (omega arith)) (first_is (suc j) l))
 
-    preamble_odd : (q : ℕ) → first_odd 0 grown ≡ some q → FirstOddSymbol rec q
+    preamble_odd : (q : ℕ) → first_odd 0 grown ≡ Some q → FirstOddSymbol rec q
     preamble_odd q e = by f.index refl
       where
         f : FirstOdd 0 grown q
@@ -239,10 +239,10 @@ module _ (rec : List Taken) where
               before = λ s h. sym (grown_next s (omega (arith, h, l))) ∙ f.before (suc s) (omega (arith, h, d));
             }
 
-    preamble_at : (q : ℕ) → first_odd 0 grown ≡ some q → q < 11 * m
+    preamble_at : (q : ℕ) → first_odd 0 grown ≡ Some q → q < 11 * m
     preamble_at q e = let f = odd_first 0 grown q e in omega (arith, f.place_is, f.inside, grown_length)
 
-    preamble_even : first_odd 0 grown ≡ none → (s : ℕ) → suc s < m → odd_behind rec s ≡ 0
+    preamble_even : first_odd 0 grown ≡ None → (s : ℕ) → suc s < m → odd_behind rec s ≡ 0
     preamble_even e s l = sym (grown_next s l) ∙ odd_none 0 grown e (suc s) (omega (arith, l, grown_length))
 
 -- how many symbols of a front, from its first on, are at 1 Mbit/s
@@ -257,14 +257,14 @@ IsOne Five = ⊥
 IsOne Eleven = ⊥
 
 -- one search after another
-or_some : {P : Type 0} (o rest : Option ℕ) (p : ℕ) → or_else o (λ q. some q) rest ≡ some p → (o ≡ some p → P)
-    → (o ≡ none → rest ≡ some p → P) → P
-or_some none rest p e f g = g refl e
-or_some (some q) rest p e f g = f e
+or_some : {P : Type 0} (o rest : Option ℕ) (p : ℕ) → or_else o (λ q. Some q) rest ≡ Some p → (o ≡ Some p → P)
+    → (o ≡ None → rest ≡ Some p → P) → P
+or_some None rest p e f g = g refl e
+or_some (Some q) rest p e f g = f e
 
-or_neither : (o rest : Option ℕ) → or_else o (λ q. some q) rest ≡ none → (o ≡ none) × (rest ≡ none)
-or_neither none rest e = (refl, e)
-or_neither (some q) rest e = absurd (no_place e refl)
+or_neither : (o rest : Option ℕ) → or_else o (λ q. Some q) rest ≡ None → (o ≡ None) × (rest ≡ None)
+or_neither None rest e = (refl, e)
+or_neither (Some q) rest e = absurd (no_place e refl)
 
 module _ (rec : List Taken) where
   long_header_phase : header_phase Long rec ≡ word_from One (11 * 143) rec
@@ -294,11 +294,11 @@ module _ (rec : List Taken) where
       odd_growth (header_rate k) (preamble_chips k) (growths_of (header_rate k) (header_phase k rec)
       (decided_words (header_rate k) (header_length / symbol_bits (header_rate k)) (drop (preamble_chips k) rec)))
 
-  front_search : (k : Kind) → front_odd k rec ≡ or_else (in_preamble k) (λ q. some q) (in_header k)
+  front_search : (k : Kind) → front_odd k rec ≡ or_else (in_preamble k) (λ q. Some q) (in_header k)
   unfolding front_odd reference preamble_words header_words
   front_search k = refl
 
-  pub front_odd_first : (k : Kind) (p : ℕ) → front_odd k rec ≡ some p → FirstOddSymbol rec p
+  pub front_odd_first : (k : Kind) (p : ℕ) → front_odd k rec ≡ Some p → FirstOddSymbol rec p
   front_odd_first Long p e =
       or_some (in_preamble Long) (in_header Long) p (sym (front_search Long) ∙ e) (preamble_odd rec 144 (omega arith) p)
       (λ a. part_odd rec 143 48 (header_phase Long rec) long_header_phase
@@ -307,28 +307,28 @@ module _ (rec : List Taken) where
       or_some (in_preamble Short) (in_header Short) p (sym (front_search Short) ∙ e)
       (preamble_odd rec 72 (omega arith) p) (λ a b. absurd (some_none b))
 
-  pub front_odd_at : (k : Kind) (p : ℕ) → front_odd k rec ≡ some p → p < 11 * ones_of k
+  pub front_odd_at : (k : Kind) (p : ℕ) → front_odd k rec ≡ Some p → p < 11 * ones_of k
   front_odd_at Long p e = front_odd_place Long rec p e
   front_odd_at Short p e =
       or_some (in_preamble Short) (in_header Short) p (sym (front_search Short) ∙ e)
       (preamble_at rec 72 (omega arith) p) (λ a b. absurd (some_none b))
 
   -- all of a long front's symbols are at 1 Mbit/s
-  long_front_even : front_odd Long rec ≡ none → (s : ℕ) → s < 191 → odd_behind rec s ≡ 0
+  long_front_even : front_odd Long rec ≡ None → (s : ℕ) → s < 191 → odd_behind rec s ≡ 0
   long_front_even e =
       let o = or_neither (in_preamble Long) (in_header Long) (sym (front_search Long) ∙ e) in
       part_even rec 143 48 (header_phase Long rec) long_header_phase
       (λ s l. preamble_even rec 144 (omega arith) o.0 s (omega arith)) o.1
 
   -- and a short one's up to the header
-  pub front_even_ones : (k : Kind) → front_odd k rec ≡ none → (s : ℕ) → suc s < ones_of k → odd_behind rec s ≡ 0
+  pub front_even_ones : (k : Kind) → front_odd k rec ≡ None → (s : ℕ) → suc s < ones_of k → odd_behind rec s ≡ 0
   front_even_ones Long e s l = long_front_even e s (omega arith)
   front_even_ones Short e s l =
       preamble_even rec 72 (omega arith)
       (or_neither (in_preamble Short) (in_header Short) (sym (front_search Short) ∙ e)).0 s l
 
-  pub payload_odd_first : (k : Kind) (r : Rate) (n p : ℕ) → goes_with k r ≡ true → front_odd k rec ≡ none
-      → payload_odd k r n rec ≡ some p → FirstOddSymbol rec p
+  pub payload_odd_first : (k : Kind) (r : Rate) (n p : ℕ) → goes_with k r ≡ true → front_odd k rec ≡ None
+      → payload_odd k r n rec ≡ Some p → FirstOddSymbol rec p
   unfolding payload_odd payload_words
   payload_odd_first Long One n p g e f =
       part_odd rec 191 (8 * n / 1) (payload_phase Long rec) long_payload_phase (long_front_even e) p f
@@ -337,8 +337,8 @@ module _ (rec : List Taken) where
   payload_odd_first k Five n p g e f = absurd (some_none f)
   payload_odd_first k Eleven n p g e f = absurd (some_none f)
 
-  pub payload_even_ones : (k : Kind) (r : Rate) (n : ℕ) → goes_with k r ≡ true → r ≡ One → front_odd k rec ≡ none
-      → payload_odd k r n rec ≡ none → (s : ℕ) → s < 191 + 8 * n → odd_behind rec s ≡ 0
+  pub payload_even_ones : (k : Kind) (r : Rate) (n : ℕ) → goes_with k r ≡ true → r ≡ One → front_odd k rec ≡ None
+      → payload_odd k r n rec ≡ None → (s : ℕ) → s < 191 + 8 * n → odd_behind rec s ≡ 0
   unfolding payload_odd payload_words
   payload_even_ones Long One n g o e f s l =
       part_even rec 191 (8 * n / 1) (payload_phase Long rec) long_payload_phase (long_front_even e) f s (omega arith)

@@ -4,7 +4,7 @@
 -- Assumes nothing.
 use mathlib.Core.Path.{◌≡◌, refl, sym, ap, ap₂, ◌∙◌}
 use mathlib.Core.List.{List, ◌∷◌, ◌++◌, map}
-use mathlib.Core.Option.{Option, some}
+use Rattle.std.specs.Prelude.{Option, Some}
 use Prim.Native.Nat.{ℕ, zero, suc, ◌+◌, ◌-◌, ◌*◌, ◌/◌, ◌≤◌, ◌<◌}
 use native.Mathlib.Nat.{mul-suc, le_refl}
 use native.Mathlib.Decide.{dec_le}
@@ -88,7 +88,7 @@ module _ (k : Kind) (rec : List Taken) where
   odd_local : front_odd k begin ≡ front_odd k rec
   unfolding front_odd
   odd_local =
-      ap₂ {C = Option ℕ} (λ x y. or_else x (λ place. some place) y)
+      ap₂ {C = Option ℕ} (λ x y. or_else x (λ place. Some place) y)
       (ap₂ {C = Option ℕ} (λ p w. odd_growth One 0 (growths_of One p w)) reference_local preamble_local)
       (ap₂ {C = Option ℕ} (λ p w. odd_growth (header_rate k) (preamble_chips k) (growths_of (header_rate k) p w)) phase_local
       header_local)

@@ -8,7 +8,7 @@
 use mathlib.Core.Path.{◌≡◌, refl, sym, ap, ◌∙◌}
 use mathlib.Core.Bool.{Bool, true, false, cond}
 use mathlib.Core.List.{List, [], ◌∷◌, ◌++◌}
-use mathlib.Core.Option.{some}
+use Rattle.std.specs.Prelude.{Some}
 use Prim.Native.Nat.{ℕ, zero, suc, ◌+◌, ◌*◌, ◌/◌, ◌%◌, ◌≤◌, ◌<◌}
 use native.Mathlib.Nat.{mul-suc, mul-zero, suc-add, zero-add, add-zero, add_comm}
 use native.Mathlib.Omega.{arith}
@@ -57,24 +57,24 @@ growth_two (suc (suc (suc (suc g)))) h = absurd (omega arith)
 -- ---- odd growths
 
 first_odd_append : (at : ℕ) (a b : List ℕ) → first_odd at (a ++ b)
-    ≡ or_else (first_odd at a) (λ place. some place) (first_odd (at + 11 * length a) b)
+    ≡ or_else (first_odd at a) (λ place. Some place) (first_odd (at + 11 * length a) b)
 unfolding first_odd
 first_odd_append at [] b = rw (mul-zero, add-zero)
 first_odd_append at (g ∷ a) b = by (eqb (g % 2) 1)
     (first_odd_append (at + 11) a b
-    ∙ ap (λ (k : ℕ). or_else (first_odd (at + 11) a) (λ place. some place) (first_odd k b))
+    ∙ ap (λ (k : ℕ). or_else (first_odd (at + 11) a) (λ place. Some place) (first_odd k b))
     (omega (arith, mul-suc 11 (length a))))
   where
     by : (c : Bool) → first_odd (at + 11) (a ++ b)
-        ≡ or_else (first_odd (at + 11) a) (λ place. some place) (first_odd (at + 11 * suc (length a)) b)
-        → cond c (some at) (first_odd (at + 11) (a ++ b))
-        ≡ or_else (cond c (some at) (first_odd (at + 11) a)) (λ place. some place)
+        ≡ or_else (first_odd (at + 11) a) (λ place. Some place) (first_odd (at + 11 * suc (length a)) b)
+        → cond c (Some at) (first_odd (at + 11) (a ++ b))
+        ≡ or_else (cond c (Some at) (first_odd (at + 11) a)) (λ place. Some place)
         (first_odd (at + 11 * suc (length a)) b)
     by true e = refl
     by false e = e
 
 pub odd_growth_append : (r : Rate) (at : ℕ) (a b : List ℕ)
-    → odd_growth r at (a ++ b) ≡ or_else (odd_growth r at a) (λ place. some place)
+    → odd_growth r at (a ++ b) ≡ or_else (odd_growth r at a) (λ place. Some place)
     (odd_growth r (at + symbol_chips r * length a) b)
 odd_growth_append One at a b = first_odd_append at a b
 odd_growth_append Two at a b = refl

@@ -1,7 +1,7 @@
 -- What any payload comes to, whatever its front told: 17, then 9, then 10, or good. Assumes nothing.
 use mathlib.Core.Path.{◌≡◌}
 use mathlib.Core.List.{List}
-use mathlib.Core.Option.{Option, none, some}
+use Rattle.std.specs.Prelude.{Option, None, Some}
 use Prim.Native.Nat.{ℕ, ◌-◌, ◌≤◌, ◌<◌}
 use borrow.Author.Tests.{lt-ltb, le-ltb}
 use lib.ListN.{take, drop}
@@ -29,17 +29,17 @@ module _ (k : Kind) (t : Told) (rec : List Taken) (room : ℕ) where
   unfolding payload_reading
   room_refused h = rw (lt-ltb room t.n h)
 
-  pub unusable_refused : (p : ℕ) → t.n ≤ room → found_unusable k t rec ≡ some p
+  pub unusable_refused : (p : ℕ) → t.n ≤ room → found_unusable k t rec ≡ Some p
       → payload_reading k t rec room ≡ Refused (Unusable p t.length)
   unfolding payload_reading
   unusable_refused p h e = rw (le-ltb room t.n h, e)
 
-  pub odd_refused : (p : ℕ) → t.n ≤ room → found_unusable k t rec ≡ none → payload_odd k t.rate t.n rec ≡ some p
+  pub odd_refused : (p : ℕ) → t.n ≤ room → found_unusable k t rec ≡ None → payload_odd k t.rate t.n rec ≡ Some p
       → payload_reading k t rec room ≡ Refused (OddGrowth p t.length)
   unfolding payload_reading
   odd_refused p h e o = rw (le-ltb room t.n h, e, o)
 
-  pub payload_good : t.n ≤ room → found_unusable k t rec ≡ none → payload_odd k t.rate t.n rec ≡ none
+  pub payload_good : t.n ≤ room → found_unusable k t rec ≡ None → payload_odd k t.rate t.n rec ≡ None
       → payload_reading k t rec room
       ≡ Good t (frame_chips k t.rate t.n) (least_of (frame_leads k t.rate t.n rec))
   unfolding payload_reading

@@ -6,7 +6,7 @@
 -- Assumes nothing.
 use mathlib.Core.Path.{◌≡◌, refl, ap, ◌∙◌, subst}
 use mathlib.Core.List.{List, [], ◌∷◌}
-use mathlib.Core.Option.{Option, none, some}
+use Rattle.std.specs.Prelude.{Option, None, Some}
 use Prim.Native.Nat.{ℕ, zero, suc, ◌+◌, ◌-◌, ◌*◌, ◌/◌, ◌≤◌, ◌<◌}
 use native.Mathlib.Omega.{arith}
 use lib.ListN.{length, take, drop}
@@ -63,14 +63,14 @@ decided_words_length r (suc m) cs = ap suc (decided_words_length r m (drop (symb
 -- ---- what a search finds
 
 abbrev Inside : ℕ → ℕ → Option ℕ → Type 0
-Inside at to none = Unit {0}
-Inside at to (some p) = (at ≤ p) × (p < to)
+Inside at to None = Unit {0}
+Inside at to (Some p) = (at ≤ p) × (p < to)
 
 within_wider : (at at' to to' : ℕ) (o : Option ℕ) → at ≤ at' → to' ≤ to → Inside at' to' o → Inside at to o
-within_wider at at' to to' none a b h = tt
-within_wider at at' to to' (some p) a b h = (omega (arith, a, h.0), omega (arith, b, h.1))
+within_wider at at' to to' None a b h = tt
+within_wider at at' to to' (Some p) a b h = (omega (arith, a, h.0), omega (arith, b, h.1))
 
-within_at : {at to p : ℕ} {o : Option ℕ} → Inside at to o → o ≡ some p → (at ≤ p) × (p < to)
+within_at : {at to p : ℕ} {o : Option ℕ} → Inside at to o → o ≡ Some p → (at ≤ p) × (p < to)
 within_at {at} {to} h e = subst (Inside at to) e h
 
 few : (n : ℕ) (cs : List Taken) → length (take n cs) ≤ n
@@ -82,8 +82,8 @@ unusable_within : (at n : ℕ) (cs : List Taken) → Inside at (at + n) (first_u
 unusable_within at n cs = go (first_unusable at (take n cs)) refl
   where
     go : (o : Option ℕ) → first_unusable at (take n cs) ≡ o → Inside at (at + n) o
-    go none e = tt
-    go (some p) e =
+    go None e = tt
+    go (Some p) e =
         let f = unusable_first at (take n cs) p e in
         (omega (arith, f.place_is), omega (arith, f.place_is, f.inside, few n cs))
 
@@ -91,8 +91,8 @@ odd_within : (at : ℕ) (gs : List ℕ) → Inside at (at + 11 * length gs) (fir
 odd_within at gs = go (first_odd at gs) refl
   where
     go : (o : Option ℕ) → first_odd at gs ≡ o → Inside at (at + 11 * length gs) o
-    go none e = tt
-    go (some p) e =
+    go None e = tt
+    go (Some p) e =
         let f = odd_first at gs p e in (omega (arith, f.place_is), omega (arith, f.place_is, f.inside))
 
 -- of m symbols of a rate
@@ -114,7 +114,7 @@ some_chips Long = omega arith
 some_chips Short = omega arith
 
 module _ (k : Kind) (rec : List Taken) (p : ℕ) where
-  front_unusable_place : first_unusable 0 (take (front_chips k) rec) ≡ some p → p < front_chips k
+  front_unusable_place : first_unusable 0 (take (front_chips k) rec) ≡ Some p → p < front_chips k
   front_unusable_place e = omega (arith, (within_at (unusable_within 0 (front_chips k) rec) e).1)
 
   odd_in_front : Inside 0 (front_chips k) (front_odd k rec)
@@ -126,12 +126,12 @@ module _ (k : Kind) (rec : List Taken) (p : ℕ) where
       let first = odd_growth One 0 (growths_of One (reference k rec) (preamble_words k rec)) in
       let second = odd_growth (header_rate k) (preamble_chips k)
       (growths_of (header_rate k) (header_phase k rec) (header_words k rec)) in
-      searched (Inside 0 (front_chips k)) first (λ place. some place) second
+      searched (Inside 0 (front_chips k)) first (λ place. Some place) second
       (λ q e. let w = within_at {at = 0} {to = 0 + symbol_chips One * preamble_length k} a e in
       (omega arith, omega (arith, w.1, preamble_fits k)))
       (within_wider 0 (preamble_chips k) (front_chips k) _ second (omega arith) (header_fits k) b)
 
-  pub front_odd_place : front_odd k rec ≡ some p → p < front_chips k
+  pub front_odd_place : front_odd k rec ≡ Some p → p < front_chips k
   front_odd_place e = (within_at odd_in_front e).1
 
 -- whatever a front is refused with
@@ -152,14 +152,14 @@ whole_place k rec (frame_ends t h l) = some_chips k
 -- ---- payloads
 
 abbrev IsNone : Option ℕ → Type 0
-IsNone none = Unit {0}
-IsNone (some q) = ⊥
+IsNone None = Unit {0}
+IsNone (Some q) = ⊥
 
 module _ (k : Kind) (rec : List Taken) (p : ℕ) (t : Told) where
   abbrev InPayload : Type 0
   InPayload = (front_chips k ≤ p) × (p < frame_chips k t.rate t.n)
 
-  pub payload_unusable_place : found_unusable k t rec ≡ some p → InPayload
+  pub payload_unusable_place : found_unusable k t rec ≡ Some p → InPayload
   payload_unusable_place e =
       let from = front_chips k in
       let all = frame_chips k t.rate t.n in
@@ -172,7 +172,7 @@ module _ (k : Kind) (rec : List Taken) (p : ℕ) (t : Told) where
   symbols_fit Five n = omega arith
   symbols_fit Eleven n = omega arith
 
-  pub payload_odd_place : payload_odd k t.rate t.n rec ≡ some p → InPayload
+  pub payload_odd_place : payload_odd k t.rate t.n rec ≡ Some p → InPayload
   unfolding payload_odd payload_words
   payload_odd_place e =
       let from = front_chips k in
@@ -181,12 +181,12 @@ module _ (k : Kind) (rec : List Taken) (p : ℕ) (t : Told) where
       (w.0, omega (arith, w.1, symbols_fit t.rate t.n))
 
   -- symbols of the other rates may grow by anything
-  odd_rate : (r : Rate) (gs : List ℕ) → odd_growth r (front_chips k) gs ≡ some p → r ≡ One
+  odd_rate : (r : Rate) (gs : List ℕ) → odd_growth r (front_chips k) gs ≡ Some p → r ≡ One
   odd_rate One gs e = refl
   odd_rate Two gs e = absurd (subst IsNone e tt)
   odd_rate Five gs e = absurd (subst IsNone e tt)
   odd_rate Eleven gs e = absurd (subst IsNone e tt)
 
-  pub payload_odd_rate : payload_odd k t.rate t.n rec ≡ some p → t.rate ≡ One
+  pub payload_odd_rate : payload_odd k t.rate t.n rec ≡ Some p → t.rate ≡ One
   unfolding payload_odd
   payload_odd_rate e = odd_rate t.rate _ e

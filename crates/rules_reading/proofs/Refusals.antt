@@ -7,7 +7,7 @@
 use mathlib.Core.Path.{◌≡◌, refl}
 use mathlib.Core.Bool.{true, false}
 use mathlib.Core.List.{List}
-use mathlib.Core.Option.{none, some}
+use Rattle.std.specs.Prelude.{None, Some}
 use Prim.Native.Nat.{ℕ, ◌/◌, ◌%◌, ◌≤◌, ◌<◌}
 use native.Mathlib.Omega.{arith}
 use borrow.Author.Tests.{ltb-true, ltb-false}
@@ -70,8 +70,8 @@ use Rattle.rules_reading.proofs.Telling.{found_or_none, decided_by, searched}
 -- what passed 8, 9 and 10; what passed 11 and 12 too; and then 13
 pub record Clear (k : Kind) (rec : List Taken) : Type 0 where
   pub long : front_chips k ≤ length rec
-  pub usable : first_unusable 0 (take (front_chips k) rec) ≡ none
-  pub even : front_odd k rec ≡ none
+  pub usable : first_unusable 0 (take (front_chips k) rec) ≡ None
+  pub even : front_odd k rec ≡ None
 
 module _ (k : Kind) (rec : List Taken) where
   abbrev pub SfdHeard : Type 0
@@ -87,10 +87,10 @@ pub record Sound (k : Kind) (rec : List Taken) : Type 0 where
 
 pub data FrontRefusal (k : Kind) (rec : List Taken) : Refusal → Type 0 where
   front_short : length rec < front_chips k → FrontRefusal k rec ShorterThanFront
-  front_unusable : (p : ℕ) → front_chips k ≤ length rec → first_unusable 0 (take (front_chips k) rec) ≡ some p
+  front_unusable : (p : ℕ) → front_chips k ≤ length rec → first_unusable 0 (take (front_chips k) rec) ≡ Some p
       → FrontRefusal k rec (Unusable p 0)
-  front_odd_lem : (p : ℕ) → front_chips k ≤ length rec → first_unusable 0 (take (front_chips k) rec) ≡ none
-      → front_odd k rec ≡ some p → FrontRefusal k rec (OddGrowth p 0)
+  front_odd_lem : (p : ℕ) → front_chips k ≤ length rec → first_unusable 0 (take (front_chips k) rec) ≡ None
+      → front_odd k rec ≡ Some p → FrontRefusal k rec (OddGrowth p 0)
   sfd_differs : Clear k rec → (SfdHeard k rec → ⊥) → FrontRefusal k rec Sfd
   crc_differs : Clear k rec → SfdHeard k rec → (CrcHeard k rec → ⊥) → FrontRefusal k rec Crc
   no_signal : Sound k rec → ours.signals k (signal_heard k rec) ≡ false
@@ -180,8 +180,8 @@ whole_number (frame_ends t h l) = (omega arith, omega arith)
 
 pub data PayloadRefusal (k : Kind) (t : Told) (rec : List Taken) : Refusal → Type 0 where
   no_room : PayloadRefusal k t rec (OctetRoom t.length)
-  payload_unusable : (p : ℕ) → found_unusable k t rec ≡ some p → PayloadRefusal k t rec (Unusable p t.length)
-  payload_odd_lem : (p : ℕ) → payload_odd k t.rate t.n rec ≡ some p → PayloadRefusal k t rec (OddGrowth p t.length)
+  payload_unusable : (p : ℕ) → found_unusable k t rec ≡ Some p → PayloadRefusal k t rec (Unusable p t.length)
+  payload_odd_lem : (p : ℕ) → payload_odd k t.rate t.n rec ≡ Some p → PayloadRefusal k t rec (OddGrowth p t.length)
 
 pub payload_number : {k : Kind} {t : Told} {rec : List Taken} {e : Refusal} → PayloadRefusal k t rec e
     → 9 ≤ refusal_number e

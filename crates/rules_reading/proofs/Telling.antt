@@ -4,7 +4,7 @@
 use mathlib.Core.Path.{◌≡◌, refl, ◌∙◌}
 use mathlib.Core.Bool.{Bool, true, false, cond}
 use mathlib.Core.List.{List}
-use mathlib.Core.Option.{Option, none, some}
+use Rattle.std.specs.Prelude.{Option, None, Some}
 use Prim.Native.Nat.{ℕ, ◌≤◌}
 use lib.Dec.{ltb, nltb→le}
 use lib.ListN.{length, take}
@@ -21,15 +21,15 @@ use Rattle.rules_calls.proofs.HeaderOnly.{HeaderSends, header_only}
 use Rattle.rules_reading.specs.Reading.{or_else, first_unusable, front_odd, front_by, front_of, whole_of}
 
 -- a search, with what it found, and what holds where it found nothing
-pub searched : {A : Type 0} (P : A → Type 0) (o : Option ℕ) (f : ℕ → A) (y : A) → ((p : ℕ) → o ≡ some p → P (f p)) → P y
+pub searched : {A : Type 0} (P : A → Type 0) (o : Option ℕ) (f : ℕ → A) (y : A) → ((p : ℕ) → o ≡ Some p → P (f p)) → P y
     → P (or_else o f y)
-searched P none f y h k = k
-searched P (some p) f y h k = h p refl
+searched P None f y h k = k
+searched P (Some p) f y h k = h p refl
 
-pub found_or_none : {A : Type 0} (P : A → Type 0) (o : Option ℕ) (f : ℕ → A) (y : A) → ((p : ℕ) → o ≡ some p → P (f p))
-    → (o ≡ none → P y) → P (or_else o f y)
-found_or_none P none f y h k = k refl
-found_or_none P (some p) f y h k = h p refl
+pub found_or_none : {A : Type 0} (P : A → Type 0) (o : Option ℕ) (f : ℕ → A) (y : A) → ((p : ℕ) → o ≡ Some p → P (f p))
+    → (o ≡ None → P y) → P (or_else o f y)
+found_or_none P None f y h k = k refl
+found_or_none P (Some p) f y h k = h p refl
 
 -- a test, with what it came to
 pub decided_by : {A : Type 0} (P : A → Type 0) (b : Bool) (x y : A) → (b ≡ true → P x) → (b ≡ false → P y)

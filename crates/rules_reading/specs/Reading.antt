@@ -3,7 +3,7 @@
 -- 17, then 9 and 10 over the payload; in each part 9 is looked for through the whole part before 10.
 -- Definitions only. Assumes nothing.
 use Rattle.std.specs.Prelude.{ℕ, zero, suc, ◌+◌, ◌-◌, ◌*◌, ◌/◌, ◌%◌, Bool, cond, not, List, [], ◌∷◌, ◌++◌, map, length, get_or, take, drop, replicate, eqb, ltb}
-use Rattle.std.proofs.Math.Option.{Option, none, some}
+use Rattle.std.specs.Prelude.{Option, None, Some}
 use Rattle.rules_rates.specs.declared.Rate.{Rate}
 use Rattle.rules_rates.specs.declared.Rate.TheVariants.{One, Two, Five, Eleven}
 use Rattle.rules_rates.specs.Rates.{symbol_chips, symbol_bits}
@@ -45,27 +45,27 @@ use Rattle.rules_frame.specs.Frame.{
 module _ {A : Type 0} where
   -- what a place found refuses, or what comes next
   abbrev pub or_else : Option ℕ → (ℕ → A) → A → A
-  or_else none found next = next
-  or_else (some place) found next = found place
+  or_else None found next = next
+  or_else (Some place) found next = found place
 
 -- ---- a part of the recording
 
 -- 9: the first unusable chip of a part that starts at place `at`
 unfoldable pub first_unusable : ℕ → List Taken → Option ℕ
-first_unusable at [] = none
-first_unusable at (c ∷ cs) = cond (is_unusable c) (some at) (first_unusable (suc at) cs)
+first_unusable at [] = None
+first_unusable at (c ∷ cs) = cond (is_unusable c) (Some at) (first_unusable (suc at) cs)
 
 -- 10: the first chip of the first symbol grown by 1 or 3, of 1 Mbit/s symbols that start at place `at`
 unfoldable pub first_odd : ℕ → List ℕ → Option ℕ
-first_odd at [] = none
-first_odd at (g ∷ gs) = cond (eqb (g % 2) 1) (some at) (first_odd (at + symbol_chips One) gs)
+first_odd at [] = None
+first_odd at (g ∷ gs) = cond (eqb (g % 2) 1) (Some at) (first_odd (at + symbol_chips One) gs)
 
 -- symbols of the other rates may grow by anything
 abbrev pub odd_growth : Rate → ℕ → List ℕ → Option ℕ
 odd_growth One at gs = first_odd at gs
-odd_growth Two at gs = none
-odd_growth Five at gs = none
-odd_growth Eleven at gs = none
+odd_growth Two at gs = None
+odd_growth Five at gs = None
+odd_growth Eleven at gs = None
 
 -- the words that m symbols are decided as
 unfoldable pub decided_words : Rate → ℕ → List Taken → List ℕ
@@ -96,7 +96,7 @@ payload_phase k rec = last_heard (header_rate k) (header_phase k rec) (header_wo
 
 unfoldable pub front_odd : Kind → List Taken → Option ℕ
 front_odd k rec =
-    or_else (odd_growth One 0 (growths_of One (reference k rec) (preamble_words k rec))) (λ place. some place)
+    or_else (odd_growth One 0 (growths_of One (reference k rec) (preamble_words k rec))) (λ place. Some place)
     (odd_growth (header_rate k) (preamble_chips k) (growths_of (header_rate k) (header_phase k rec) (header_words k rec)))
 
 -- the front's bits as they were sent, and unscrambled

@@ -9,7 +9,7 @@
 -- Assumes nothing.
 use mathlib.Core.Path.{◌≡◌, refl, sym, ap, ap₂, ◌∙◌}
 use mathlib.Core.List.{List, ◌++◌, append_assoc}
-use mathlib.Core.Option.{Option, none, some}
+use Rattle.std.specs.Prelude.{Option, None, Some}
 use Prim.Native.Nat.{ℕ, ◌+◌, ◌-◌, ◌*◌, ◌/◌, ◌%◌, ◌≤◌}
 use native.Mathlib.Nat.{mul-add}
 use native.Mathlib.Omega.{arith}
@@ -178,12 +178,12 @@ module _ (p : Section) (m : ℕ) (rec more : List Taken) (at : length rec ≡ p.
 
 -- ---- 9 and 10, wherever the recording ends
 
-first_none : (x y : Option ℕ) → or_else x (λ place. some place) y ≡ none → x ≡ none
-first_none none y e = refl
-first_none (some p) y e = e
+first_none : (x y : Option ℕ) → or_else x (λ place. Some place) y ≡ None → x ≡ None
+first_none None y e = refl
+first_none (Some p) y e = e
 
-second : (x y : Option ℕ) → x ≡ none → or_else x (λ place. some place) y ≡ y
-second x y e = ap (λ (o : Option ℕ). or_else o (λ place. some place) y) e
+second : (x y : Option ℕ) → x ≡ None → or_else x (λ place. Some place) y ≡ y
+second x y e = ap (λ (o : Option ℕ). or_else o (λ place. Some place) y) e
 
 -- the words of the symbols that more chips make whole
 abbrev pub next_words : Section → List Taken → List Taken → List ℕ
@@ -196,18 +196,18 @@ module _ (p : Section) (rec more : List Taken) (whole : p.from ≤ length rec) w
   rate = p.rate
 
   unusable_both : section_unusable p (rec ++ more)
-      ≡ or_else (section_unusable p rec) (λ place. some place) (first_unusable (length rec) more)
+      ≡ or_else (section_unusable p rec) (λ place. Some place) (first_unusable (length rec) more)
   unusable_both =
       let o = section_unusable p rec in
       ap (first_unusable p.from) (drop-append-le p.from rec more whole)
       ∙ unusable_append p.from (drop p.from rec) more
-      ∙ ap (λ (j : ℕ). or_else o (λ place. some place) (first_unusable j more))
+      ∙ ap (λ (j : ℕ). or_else o (λ place. Some place) (first_unusable j more))
       (omega (arith, length-drop p.from rec, whole))
 
-  pub unusable_next : section_unusable p rec ≡ none → section_unusable p (rec ++ more) ≡ first_unusable (length rec) more
+  pub unusable_next : section_unusable p rec ≡ None → section_unusable p (rec ++ more) ≡ first_unusable (length rec) more
   unusable_next e = unusable_both ∙ second (section_unusable p rec) (first_unusable (length rec) more) e
 
-  pub unusable_first : section_unusable p (rec ++ more) ≡ none → section_unusable p rec ≡ none
+  pub unusable_first : section_unusable p (rec ++ more) ≡ None → section_unusable p rec ≡ None
   unusable_first e = first_none (section_unusable p rec) (first_unusable (length rec) more) (sym unusable_both ∙ e)
 
   -- the symbols that are whole, and those that are once all have come
@@ -250,7 +250,7 @@ module _ (p : Section) (rec more : List Taken) (whole : p.from ≤ length rec) w
       ∙ words_prefix rate before (drop p.from rec) more there)
 
   odd_both : section_odd p (rec ++ more)
-      ≡ or_else (section_odd p rec) (λ place. some place)
+      ≡ or_else (section_odd p rec) (λ place. Some place)
       (odd_growth rate (p.from + symbol_chips rate * before)
       (growths_of rate (last_heard rate p.phase (words_yet p rec)) (next_words p rec more)))
   unfolding section_odd
@@ -262,16 +262,16 @@ module _ (p : Section) (rec more : List Taken) (whole : p.from ≤ length rec) w
       ap (λ (l : List ℕ). odd_growth rate f (growths_of rate h l)) words_next
       ∙ ap (odd_growth rate f) (growths_of_append rate h ws next)
       ∙ odd_growth_append rate f (growths_of rate h ws) then
-      ∙ ap (λ (j : ℕ). or_else (odd_growth rate f (growths_of rate h ws)) (λ place. some place)
+      ∙ ap (λ (j : ℕ). or_else (odd_growth rate f (growths_of rate h ws)) (λ place. Some place)
       (odd_growth rate (f + symbol_chips rate * j) then))
       (growths_of_length rate h ws ∙ decided_words_length rate before (drop f rec))
 
-  pub odd_next : section_odd p rec ≡ none → section_odd p (rec ++ more)
+  pub odd_next : section_odd p rec ≡ None → section_odd p (rec ++ more)
       ≡ odd_growth rate (p.from + symbol_chips rate * before)
       (growths_of rate (last_heard rate p.phase (words_yet p rec)) (next_words p rec more))
   odd_next e = odd_both ∙ second (section_odd p rec) _ e
 
-  pub odd_first : section_odd p (rec ++ more) ≡ none → section_odd p rec ≡ none
+  pub odd_first : section_odd p (rec ++ more) ≡ None → section_odd p rec ≡ None
   odd_first e = first_none (section_odd p rec) _ (sym odd_both ∙ e)
 
 -- ---- how many symbols are whole

@@ -7,7 +7,7 @@
 use mathlib.Core.Path.{◌≡◌, refl, sym, ap, ◌∙◌}
 use mathlib.Core.Bool.{Bool, true, false, cond, not}
 use mathlib.Core.List.{List, ◌++◌}
-use mathlib.Core.Option.{Option, none, some}
+use Rattle.std.specs.Prelude.{Option, None, Some}
 use Prim.Native.Nat.{ℕ, suc, ◌+◌, ◌-◌, ◌*◌, ◌/◌, ◌≤◌, ◌<◌}
 use native.Mathlib.Decide.{dec_lt}
 use native.Mathlib.Omega.{arith}
@@ -141,39 +141,39 @@ same_else : (b : Bool) (l : List ℕ) → cond b l l ≡ l
 same_else true l = refl
 same_else false l = refl
 
-zeros_unusable : (k : Kind) (t : Told) (rec : List Taken) (room : ℕ) → (unusable_yet k rec ≡ none → ⊥)
+zeros_unusable : (k : Kind) (t : Told) (rec : List Taken) (room : ℕ) → (unusable_yet k rec ≡ None → ⊥)
     → payload_yet k t rec room ≡ zeros room
 unfolding payload_yet
 zeros_unusable k t rec room h =
     by (unusable_yet k rec) h
     (or_else (odd_yet k t.rate rec) (λ place. zeros room) (octets_yet k t.rate rec room))
   where
-    by : (o : Option ℕ) → (o ≡ none → ⊥) → (l : List ℕ)
+    by : (o : Option ℕ) → (o ≡ None → ⊥) → (l : List ℕ)
         → cond (ltb room t.n) (zeros room) (or_else o (λ place. zeros room) l) ≡ zeros room
-    by none h l = absurd (h refl)
-    by (some p) h l = same_else (ltb room t.n) (zeros room)
+    by None h l = absurd (h refl)
+    by (Some p) h l = same_else (ltb room t.n) (zeros room)
 
-zeros_odd : (k : Kind) (t : Told) (rec : List Taken) (room : ℕ) → (odd_yet k t.rate rec ≡ none → ⊥)
+zeros_odd : (k : Kind) (t : Told) (rec : List Taken) (room : ℕ) → (odd_yet k t.rate rec ≡ None → ⊥)
     → payload_yet k t rec room ≡ zeros room
 unfolding payload_yet
 zeros_odd k t rec room h =
     by (unusable_yet k rec) (odd_yet k t.rate rec) h (octets_yet k t.rate rec room)
   where
-    by : (u o : Option ℕ) → (o ≡ none → ⊥) → (l : List ℕ)
+    by : (u o : Option ℕ) → (o ≡ None → ⊥) → (l : List ℕ)
         → cond (ltb room t.n) (zeros room) (or_else u (λ place. zeros room) (or_else o (λ place. zeros room) l))
         ≡ zeros room
-    by u none h l = absurd (h refl)
-    by none (some p) h l = same_else (ltb room t.n) (zeros room)
-    by (some q) (some p) h l = same_else (ltb room t.n) (zeros room)
+    by u None h l = absurd (h refl)
+    by None (Some p) h l = same_else (ltb room t.n) (zeros room)
+    by (Some q) (Some p) h l = same_else (ltb room t.n) (zeros room)
 
 -- the symbol of an odd growth ends inside the frame
-odd_ends : (k : Kind) (t : Told) (rec : List Taken) (p : ℕ) → payload_odd k t.rate t.n rec ≡ some p
+odd_ends : (k : Kind) (t : Told) (rec : List Taken) (p : ℕ) → payload_odd k t.rate t.n rec ≡ Some p
     → p + 11 ≤ frame_chips k t.rate t.n
 unfolding payload_odd
 odd_ends k t rec p e =
     by t.rate (payload_odd_rate k rec p t e) t.n _ e (payload_odd_place k rec p t e).1
   where
-    by : (r : Rate) → r ≡ One → (n : ℕ) (gs : List ℕ) → odd_growth r (front_chips k) gs ≡ some p
+    by : (r : Rate) → r ≡ One → (n : ℕ) (gs : List ℕ) → odd_growth r (front_chips k) gs ≡ Some p
         → p < frame_chips k r n → p + 11 ≤ frame_chips k r n
     by One i n gs e h = omega (arith, (odd_first (front_chips k) gs p e).place_is)
     by Two i n gs e h = absurd (no_place refl e)
@@ -240,14 +240,14 @@ module _
     to : length cut ≤ all
     to = omega (arith, e, far_most a)
 
-    unusable_here : (p : ℕ) → found_unusable k t rec ≡ some p → p < c → payload_yet k t cut room ≡ zeros room
+    unusable_here : (p : ℕ) → found_unusable k t rec ≡ Some p → p < c → payload_yet k t cut room ≡ zeros room
     unusable_here p f h =
         zeros_unusable k t cut room (λ z.
         let few = unusable_come k t cut more whole to p (joined (found_unusable k t) ∙ f) z in
         let there = far_from a (suc p) h (payload_unusable_place k rec p t f).1 in
         omega (arith, few, there, e))
 
-    odd_here : (p : ℕ) → payload_odd k r t.n rec ≡ some p → p + 11 ≤ c → payload_yet k t cut room ≡ zeros room
+    odd_here : (p : ℕ) → payload_odd k r t.n rec ≡ Some p → p + 11 ≤ c → payload_yet k t cut room ≡ zeros room
     odd_here p f h =
         zeros_odd k t cut room (λ z.
         let few = odd_come k t cut more whole to p (joined (payload_odd k r t.n) ∙ f) z in
@@ -255,7 +255,7 @@ module _
         omega (arith, few, there, e))
 
     -- what has come of a clean frame
-    clean_here : (m : ℕ) → t.n ≤ room → found_unusable k t rec ≡ none → payload_odd k r t.n rec ≡ none
+    clean_here : (m : ℕ) → t.n ≤ room → found_unusable k t rec ≡ None → payload_odd k r t.n rec ≡ None
         → m ≤ t.n → Whole r from d m
         → payload_yet k t cut room ≡ take m (payload_of k r t.n rec) ++ zeros (room - m)
     clean_here m fits u o few w =
@@ -271,15 +271,15 @@ module _
         parted : {x y : ℕ} → x ≤ y → x + (y - x) ≡ y
         parted h = omega arith
 
-  pub unusable_yet_lem : (p c : ℕ) → found_unusable k t rec ≡ some p → p < c → buffer_yet kind (take c rec) room ≡ zeros room
+  pub unusable_yet_lem : (p c : ℕ) → found_unusable k t rec ≡ Some p → p < c → buffer_yet kind (take c rec) room ≡ zeros room
   unusable_yet_lem p c f h = by_cut c (zeros room) (λ l. refl) (λ d a g e. unusable_here a g e p f h)
 
-  pub odd_yet_lem : (p c : ℕ) → payload_odd k r t.n rec ≡ some p → p + 11 ≤ c
+  pub odd_yet_lem : (p c : ℕ) → payload_odd k r t.n rec ≡ Some p → p + 11 ≤ c
       → buffer_yet kind (take c rec) room ≡ zeros room
   odd_yet_lem p c f h = by_cut c (zeros room) (λ l. refl) (λ d a g e. odd_here a g e p f h)
 
   module _
-      (fits : t.n ≤ room) (u : found_unusable k t rec ≡ none) (o : payload_odd k r t.n rec ≡ none) (c : ℕ) where
+      (fits : t.n ≤ room) (u : found_unusable k t rec ≡ None) (o : payload_odd k r t.n rec ≡ None) (c : ℕ) where
     abbrev Shows : ℕ → Type 0
     Shows m = buffer_yet kind (take c rec) room ≡ take m (payload_of k r t.n rec) ++ zeros (room - m)
 

@@ -6,7 +6,7 @@
 use mathlib.Core.Path.{◌≡◌, refl, sym, ap, ◌∙◌}
 use mathlib.Core.Bool.{Bool, true, false, cond, not}
 use mathlib.Core.List.{List, [], ◌++◌}
-use mathlib.Core.Option.{none}
+use Rattle.std.specs.Prelude.{None}
 use Prim.Native.Nat.{ℕ, ◌-◌, ◌/◌, ◌<◌}
 use native.Mathlib.Omega.{arith}
 use borrow.Author.Tests.{lt-ltb}
@@ -80,11 +80,11 @@ module _ (k : Kind) (t : Told) (rec : List Taken) (at : length rec ≡ front_chi
       let behind : length rec - front_chips k ≡ 0 = omega (arith, at) in
       ap (λ (i : ℕ). i / octet_chips t.rate) behind ∙ (none_of t.rate).0
 
-  usable : unusable_yet k rec ≡ none
+  usable : unusable_yet k rec ≡ None
   unfolding first_unusable
   usable = ap (first_unusable (front_chips k)) (drop_of_length-le rec {i = front_chips k} (omega (arith, at)))
 
-  even : odd_yet k t.rate rec ≡ none
+  even : odd_yet k t.rate rec ≡ None
   even =
       part_odd k t.rate rec
       ∙ odd_early (payload_section k t.rate rec) rec (omega (arith, at, (none_of t.rate).1))

@@ -9,7 +9,7 @@
 use mathlib.Core.Path.{◌≡◌, refl, sym, ap, subst, ◌∙◌}
 use mathlib.Core.Bool.{Bool, true, false, cond, not}
 use mathlib.Core.List.{List, []}
-use mathlib.Core.Option.{none}
+use Rattle.std.specs.Prelude.{None}
 use Prim.Native.Nat.{ℕ, ◌≤◌, ◌<◌}
 use native.Mathlib.Omega.{arith}
 use lib.ListN.{length}
@@ -96,11 +96,11 @@ empty_buffer kind room =
     by true = refl
     by false = refl
 
-empty_usable : first_unusable 0 (hard_recording []) ≡ none
+empty_usable : first_unusable 0 (hard_recording []) ≡ None
 unfolding first_unusable hard_recording
 empty_usable = refl
 
-empty_even : (k : Kind) → front_odd_yet k (hard_recording []) ≡ none
+empty_even : (k : Kind) → front_odd_yet k (hard_recording []) ≡ None
 unfolding front_odd_yet section_odd hard_recording decided_words growths_of first_odd
 empty_even Long = refl
 empty_even Short = refl

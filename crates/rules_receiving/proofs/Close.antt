@@ -7,7 +7,7 @@
 use mathlib.Core.Path.{◌≡◌, sym, ap, ap₂, subst, ◌∙◌}
 use mathlib.Core.Bool.{true, false}
 use mathlib.Core.List.{List, ◌++◌}
-use mathlib.Core.Option.{Option, none, some}
+use Rattle.std.specs.Prelude.{Option, None, Some}
 use Prim.Native.Nat.{ℕ, ◌+◌, ◌-◌, ◌*◌, ◌/◌, ◌≤◌, ◌<◌}
 use native.Mathlib.Omega.{arith}
 use borrow.Author.Tests.{lt-ltb, le-ltb}
@@ -243,15 +243,15 @@ module _
     pub reads_room : room < t.n → read_all kind fed room ≡ reading.Refused (OctetRoom t.length)
     reads_room h = by_payload ∙ room_refused k t rec room h
 
-    pub reads_unusable : (at : ℕ) → t.n ≤ room → unusable_yet k cut ≡ some at
+    pub reads_unusable : (at : ℕ) → t.n ≤ room → unusable_yet k cut ≡ Some at
         → read_all kind fed room ≡ reading.Refused (Unusable at t.length)
     reads_unusable at h e = by_payload ∙ unusable_refused k t rec room at h (found_is ∙ e)
 
-    pub reads_odd : (at : ℕ) → t.n ≤ room → unusable_yet k cut ≡ none → odd_yet k r cut ≡ some at
+    pub reads_odd : (at : ℕ) → t.n ≤ room → unusable_yet k cut ≡ None → odd_yet k r cut ≡ Some at
         → read_all kind fed room ≡ reading.Refused (OddGrowth at t.length)
     reads_odd at h e o = by_payload ∙ odd_refused k t rec room at h (found_is ∙ e) (odd_is ∙ o)
 
-    pub reads_good : t.n ≤ room → unusable_yet k cut ≡ none → odd_yet k r cut ≡ none
+    pub reads_good : t.n ≤ room → unusable_yet k cut ≡ None → odd_yet k r cut ≡ None
         → read_all kind fed room ≡ reading.Good t all (least_of (frame_leads k r (whole_octets r (front_chips k) cut) cut))
     reads_good h e o =
         by_payload
@@ -261,7 +261,7 @@ module _
         (frame_leads_prefix k r t.n cut (drop all rec) there)
         ∙ ap (λ (m : ℕ). frame_leads k r m cut) (sym octets_are))
 
-    pub octets_good : t.n ≤ room → unusable_yet k cut ≡ none → odd_yet k r cut ≡ none
+    pub octets_good : t.n ≤ room → unusable_yet k cut ≡ None → odd_yet k r cut ≡ None
         → octets_found kind true rec room ≡ octets_yet k r cut room
     octets_good h e o =
         found (reads_good h e o)

@@ -8,7 +8,7 @@
 -- Assumes nothing.
 use mathlib.Core.Path.{◌≡◌, refl, sym, ap, ap₂, ◌∙◌}
 use mathlib.Core.List.{List, ◌++◌, append-nil}
-use mathlib.Core.Option.{Option, none, some}
+use Rattle.std.specs.Prelude.{Option, None, Some}
 use Prim.Native.Nat.{ℕ, ◌-◌, ◌*◌, ◌/◌, ◌≤◌}
 use native.Mathlib.Omega.{arith}
 use lib.ListN.{length, take, drop, take-append-drop}
@@ -118,20 +118,20 @@ module _ (k : Kind) (rec : List Taken) (at : length rec ≡ front_chips k) where
   unfolding front_odd_yet front_odd section_odd
   yet_whole =
       ap₂ {C = Option ℕ}
-      (λ ws vs. or_else (odd_growth One 0 (growths_of One (reference k rec) ws)) (λ place. some place)
+      (λ ws vs. or_else (odd_growth One 0 (growths_of One (reference k rec) ws)) (λ place. Some place)
       (odd_growth (header_rate k) (preamble_chips k) (growths_of (header_rate k) (header_phase k rec) vs)))
       preamble_words_lem header_words_lem
 
   -- ---- what it tells
 
-  pub told_unusable : (place : ℕ) → first_unusable 0 rec ≡ some place
+  pub told_unusable : (place : ℕ) → first_unusable 0 rec ≡ Some place
       → front_of k rec ≡ front.Refused (Unusable place 0)
   unfolding front_by
   told_unusable place e =
       rw (le-ltb (length rec) (front_chips k) (omega (arith, at)), take_all (front_chips k) rec (omega (arith, at)), e)
 
-  module _ (usable : first_unusable 0 rec ≡ none) where
-    pub told_odd : (place : ℕ) → front_odd_yet k rec ≡ some place
+  module _ (usable : first_unusable 0 rec ≡ None) where
+    pub told_odd : (place : ℕ) → front_odd_yet k rec ≡ Some place
         → front_of k rec ≡ front.Refused (OddGrowth place 0)
     unfolding front_by
     told_odd place e =

@@ -8,7 +8,7 @@
 -- Assumes nothing.
 use mathlib.Core.Path.{◌≡◌, refl, sym, ap, ap₂, subst, ◌∙◌}
 use mathlib.Core.List.{List, ◌++◌, map}
-use mathlib.Core.Option.{Option, none, some}
+use Rattle.std.specs.Prelude.{Option, None, Some}
 use Prim.Native.Nat.{ℕ, suc, ◌+◌, ◌≤◌, ◌<◌}
 use native.Mathlib.Decide.{dec_le}
 use native.Mathlib.Nat.{zero-add}
@@ -64,23 +64,23 @@ use Rattle.rules_receiving.proofs.Preambles.{first_even, first_goes, preamble_en
 
 -- ---- places
 
-pub neither : (a b : Option ℕ) → or_else a (λ place. some place) b ≡ none → (a ≡ none) × (b ≡ none)
-neither none b e = (refl, e)
-neither (some place) b e = no_place e refl
+pub neither : (a b : Option ℕ) → or_else a (λ place. Some place) b ≡ None → (a ≡ None) × (b ≡ None)
+neither None b e = (refl, e)
+neither (Some place) b e = no_place e refl
 
-yet_parts : (k : Kind) (rec : List Taken) → front_odd_yet k rec ≡ none
-    → (section_odd (preamble_section k rec) (take (preamble_chips k) rec) ≡ none) × (section_odd (header_section k rec) rec ≡ none)
+yet_parts : (k : Kind) (rec : List Taken) → front_odd_yet k rec ≡ None
+    → (section_odd (preamble_section k rec) (take (preamble_chips k) rec) ≡ None) × (section_odd (header_section k rec) rec ≡ None)
 unfolding front_odd_yet
 yet_parts k rec e =
     neither (section_odd (preamble_section k rec) (take (preamble_chips k) rec)) (section_odd (header_section k rec) rec) e
 
-pub number_none : (o : Option ℕ) → place_number o ≡ 0 → o ≡ none
-number_none none e = refl
-number_none (some place) e = absurd (omega (arith, e))
+pub number_none : (o : Option ℕ) → place_number o ≡ 0 → o ≡ None
+number_none None e = refl
+number_none (Some place) e = absurd (omega (arith, e))
 
 -- a recording cut in two
-pub usable_parts : (n : ℕ) (rec : List Taken) → n ≤ length rec → first_unusable 0 rec ≡ none
-    → (first_unusable 0 (take n rec) ≡ none) × (first_unusable n (drop n rec) ≡ none)
+pub usable_parts : (n : ℕ) (rec : List Taken) → n ≤ length rec → first_unusable 0 rec ≡ None
+    → (first_unusable 0 (take n rec) ≡ None) × (first_unusable n (drop n rec) ≡ None)
 usable_parts n rec h e =
     let at : 0 + length (take n rec) ≡ n = zero-add _ ∙ length-take-le n rec h in
     let both = neither (first_unusable 0 (take n rec)) (first_unusable (0 + length (take n rec)) (drop n rec))
@@ -88,7 +88,7 @@ usable_parts n rec h e =
     (both.0, ap (λ (i : ℕ). first_unusable i (drop n rec)) (sym at) ∙ both.1)
 
 -- chips behind n usable ones
-pub unusable_behind : (n : ℕ) (rec : List Taken) → n ≤ length rec → first_unusable 0 (take n rec) ≡ none
+pub unusable_behind : (n : ℕ) (rec : List Taken) → n ≤ length rec → first_unusable 0 (take n rec) ≡ None
     → first_unusable 0 rec ≡ first_unusable n (drop n rec)
 unusable_behind n rec h e =
     let at : 0 + length (take n rec) ≡ n = zero-add _ ∙ length-take-le n rec h in
@@ -125,7 +125,7 @@ module _ (k : Kind) (fed : List ℕ) (e : Ear) (hold preamble header : List ℕ)
 
 -- the chips of the first symbol are held
 pub front_first : (k : Kind) (fed : List ℕ) (p : Progress) (hold preamble header : List ℕ)
-    → FrontTo k fed p hold preamble header → first_unusable 0 (hard_recording fed) ≡ none → length fed < 11
+    → FrontTo k fed p hold preamble header → first_unusable 0 (hard_recording fed) ≡ None → length fed < 11
     → (take (length fed) hold ≡ fed) × (preamble ≡ zeros 18) × (header ≡ zeros 6)
 front_first k fed p hold preamble header x usable h =
     first_is k fed p.ear hold preamble header h
@@ -161,10 +161,10 @@ module _
   -- ---- a refusal that was certain: nothing else is kept
 
   module _ (hold' preamble' header' : List ℕ) where
-    pub front_unusable : (place : ℕ) → first_unusable 0 rec ≡ some place → q.bad ≡ p.bad
+    pub front_unusable : (place : ℕ) → first_unusable 0 rec ≡ Some place → q.bad ≡ p.bad
         → FrontTo k (fed ++ piece) q hold' preamble' header'
     front_unusable place e bad =
-        let found : first_unusable 0 all ≡ some place =
+        let found : first_unusable 0 all ≡ Some place =
         ap (first_unusable 0) split ∙ unusable_append 0 rec more ∙ rw e in
         record {
           within = inside;
@@ -174,7 +174,7 @@ module _
           goes = λ n o. no_place n found;
         }
 
-    pub front_odd_lem : (place : ℕ) → first_unusable 0 rec ≡ none → front_odd_yet k rec ≡ some place
+    pub front_odd_lem : (place : ℕ) → first_unusable 0 rec ≡ None → front_odd_yet k rec ≡ Some place
         → q.bad ≡ place_number (first_unusable p.count more) → q.odd ≡ p.odd
         → FrontTo k (fed ++ piece) q hold' preamble' header'
     front_odd_lem place n e bad odd =
@@ -182,7 +182,7 @@ module _
         let found : first_unusable 0 all ≡ first_unusable p.count more =
         ap (first_unusable 0) split ∙ unusable_append 0 rec more
         ∙ rw n (ap (λ (i : ℕ). first_unusable i more) (sym at)) in
-        let grown : front_odd_yet k all ≡ some place = ap (front_odd_yet k) split ∙ yet_stays k rec more place e in
+        let grown : front_odd_yet k all ≡ Some place = ap (front_odd_yet k) split ∙ yet_stays k rec more place e in
         record {
           within = inside;
           count_is = counted;
@@ -193,9 +193,9 @@ module _
 
   -- ---- nothing was found
 
-  module _ (usable : first_unusable 0 rec ≡ none) where
+  module _ (usable : first_unusable 0 rec ≡ None) where
     module _ (hold' : List ℕ) (few : length fed < 11) where
-      pub first_unusable_lem : (place : ℕ) → first_unusable 0 all ≡ some place → q.bad ≡ suc place
+      pub first_unusable_lem : (place : ℕ) → first_unusable 0 all ≡ Some place → q.bad ≡ suc place
           → FrontTo k (fed ++ piece) q hold' preamble header
       first_unusable_lem place e bad = record {
         within = inside;
@@ -206,12 +206,12 @@ module _
       }
 
       module _
-          (clear : first_unusable 0 all ≡ none) (bad : q.bad ≡ 0) (odd : q.odd ≡ 0)
+          (clear : first_unusable 0 all ≡ None) (bad : q.bad ≡ 0) (odd : q.odd ≡ 0)
           (held : take (length (fed ++ piece)) hold' ≡ fed ++ piece) where
         pub first_some : length (fed ++ piece) < 11 → FrontTo k (fed ++ piece) q hold' preamble header
         first_some h =
             let start = front_first k fed p hold preamble header x usable few in
-            let even : front_odd_yet k all ≡ none = yet_early k all (omega (arith, h, length_hard (fed ++ piece))) in
+            let even : front_odd_yet k all ≡ None = yet_early k all (omega (arith, h, length_hard (fed ++ piece))) in
             record {
               within = inside;
               count_is = counted;
@@ -227,7 +227,7 @@ module _
             → FrontTo k (fed ++ piece) q hold' preamble header
         first_whole h phase last past lead symbol =
             let start = front_first k fed p hold preamble header x usable few in
-            let even : front_odd_yet k all ≡ none = first_even k (fed ++ piece) h in
+            let even : front_odd_yet k all ≡ None = first_even k (fed ++ piece) h in
             record {
               within = inside;
               count_is = counted;
@@ -240,11 +240,11 @@ module _
 
     -- the preamble and the header, by what the piece makes of each
     module _
-        (even : front_odd_yet k rec ≡ none) (bad odd : Option ℕ) (hold' out : List ℕ)
+        (even : front_odd_yet k rec ≡ None) (bad odd : Option ℕ) (hold' out : List ℕ)
         (kept-bad : q.bad ≡ place_number bad) (kept-odd : q.odd ≡ place_number odd) where
       pub front_preamble : 11 ≤ length fed → length fed < preamble_chips k
           → length fed + length piece ≤ preamble_chips k
-          → (section_unusable (preamble_section k rec) rec ≡ none → section_odd (preamble_section k rec) rec ≡ none
+          → (section_unusable (preamble_section k rec) rec ≡ None → section_odd (preamble_section k rec) rec ≡ None
           → GoesOn k (preamble_section k rec) fed p.ear hold preamble
           → SectionIs k (preamble_section k rec) (fed ++ piece) bad odd q.ear hold' out)
           → FrontTo k (fed ++ piece) q hold' out header
@@ -265,7 +265,7 @@ module _
             bad_is = kept-bad ∙ ap place_number is.bad_is;
             odd_is = λ c. kept-odd ∙ ap place_number (is.odd_is (is.bad_is ∙ c) ∙ sym behind);
             goes = λ c o.
-                let good : bad ≡ none = is.bad_is ∙ c in
+                let good : bad ≡ None = is.bad_is ∙ c in
                 by (dec_le (preamble_chips k) (length (fed ++ piece))) here.0
                 (is.goes good (is.odd_is good ∙ sym behind ∙ o));
           }
@@ -278,7 +278,7 @@ module _
           by (no a) z g = in_preamble_lem (omega (arith, h, long)) (omega (arith, a)) z g
 
       pub front_header : preamble_chips k ≤ length fed
-          → (section_unusable (header_section k rec) rec ≡ none → section_odd (header_section k rec) rec ≡ none
+          → (section_unusable (header_section k rec) rec ≡ None → section_odd (header_section k rec) rec ≡ None
           → GoesOn k (header_section k rec) fed p.ear hold header
           → SectionIs k (header_section k rec) (fed ++ piece) bad odd q.ear hold' out)
           → FrontTo k (fed ++ piece) q hold' preamble out
@@ -307,7 +307,7 @@ module _
             bad_is = kept-bad ∙ ap place_number (is.bad_is ∙ sym found);
             odd_is = λ c. kept-odd ∙ ap place_number (is.odd_is (is.bad_is ∙ sym found ∙ c) ∙ sym behind);
             goes = λ c o.
-                let good : bad ≡ none = is.bad_is ∙ sym found ∙ c in
+                let good : bad ≡ None = is.bad_is ∙ sym found ∙ c in
                 in_header_lem (omega (arith, h, long))
                 (here.0
                 ∙ ap (λ (bs : List ℕ). octets_of (preamble_count k) (descramble (start k) bs))

@@ -7,7 +7,7 @@
 -- Assumes nothing.
 use mathlib.Core.Path.{◌≡◌, refl, sym, ap, ap₂, ◌∙◌}
 use mathlib.Core.List.{List, [], ◌++◌, map}
-use mathlib.Core.Option.{Option, none, some}
+use Rattle.std.specs.Prelude.{Option, None, Some}
 use Prim.Native.Nat.{ℕ, ◌+◌, ◌-◌, ◌*◌, ◌/◌, ◌≤◌, ◌<◌}
 use native.Mathlib.Decide.{dec_le}
 use native.Mathlib.Omega.{arith}
@@ -72,7 +72,7 @@ module _ (k : Kind) (rec more : List Taken) (whole : preamble_chips k ≤ length
 
 -- ---- 10 of a part
 
-pub odd_early : (p : Section) (rec : List Taken) → length rec < p.from + symbol_chips p.rate → section_odd p rec ≡ none
+pub odd_early : (p : Section) (rec : List Taken) → length rec < p.from + symbol_chips p.rate → section_odd p rec ≡ None
 unfolding section_odd decided_words growths_of first_odd
 odd_early p rec h =
     ap (λ (n : ℕ). odd_growth p.rate p.from
@@ -85,7 +85,7 @@ odd_early p rec h =
     few Five l = omega arith
     few Eleven l = omega arith
 
-    nothing : (r : Rate) → odd_growth r p.from [] ≡ none
+    nothing : (r : Rate) → odd_growth r p.from [] ≡ None
     nothing One = refl
     nothing Two = refl
     nothing Five = refl
@@ -100,8 +100,8 @@ some_more Two m n h = (omega arith, omega arith)
 some_more Five m n h = (omega arith, omega arith)
 some_more Eleven m n h = (omega arith, omega arith)
 
-pub odd_stays : (p : Section) (rec more : List Taken) (place : ℕ) → p.from ≤ length rec → section_odd p rec ≡ some place
-    → section_odd p (rec ++ more) ≡ some place
+pub odd_stays : (p : Section) (rec more : List Taken) (place : ℕ) → p.from ≤ length rec → section_odd p rec ≡ Some place
+    → section_odd p (rec ++ more) ≡ Some place
 unfolding section_odd
 odd_stays p rec more place whole e =
     let r = p.rate in
@@ -129,7 +129,7 @@ pub yet_before : (k : Kind) (rec : List Taken) → length rec ≤ preamble_chips
     → front_odd_yet k rec ≡ section_odd (preamble_section k rec) rec
 unfolding front_odd_yet
 yet_before k rec h =
-    ap₂ {C = Option ℕ} (λ cs o. or_else (section_odd (preamble_section k rec) cs) (λ place. some place) o)
+    ap₂ {C = Option ℕ} (λ cs o. or_else (section_odd (preamble_section k rec) cs) (λ place. Some place) o)
     (take_all (preamble_chips k) rec h) (odd_early (header_section k rec) rec (short k h))
     ∙ same (section_odd (preamble_section k rec) rec)
   where
@@ -137,65 +137,65 @@ yet_before k rec h =
     short Long l = omega arith
     short Short l = omega arith
 
-    same : (o : Option ℕ) → or_else o (λ place. some place) none ≡ o
-    same none = refl
-    same (some place) = refl
+    same : (o : Option ℕ) → or_else o (λ place. Some place) None ≡ o
+    same None = refl
+    same (Some place) = refl
 
 -- and behind the preamble
-pub yet_behind : (k : Kind) (rec : List Taken) → section_odd (preamble_section k rec) (take (preamble_chips k) rec) ≡ none
+pub yet_behind : (k : Kind) (rec : List Taken) → section_odd (preamble_section k rec) (take (preamble_chips k) rec) ≡ None
     → front_odd_yet k rec ≡ section_odd (header_section k rec) rec
 unfolding front_odd_yet
 yet_behind k rec e = rw e
 
-pub yet_early : (k : Kind) (rec : List Taken) → length rec < 11 → front_odd_yet k rec ≡ none
+pub yet_early : (k : Kind) (rec : List Taken) → length rec < 11 → front_odd_yet k rec ≡ None
 yet_early k rec h = yet_before k rec (some_few k) ∙ odd_early (preamble_section k rec) rec h
   where
     some_few : (k : Kind) → length rec ≤ preamble_chips k
     some_few Long = omega arith
     some_few Short = omega arith
 
-pub no_place : {A : Type 0} {place : ℕ} {o : Option ℕ} → o ≡ none → o ≡ some place → A
+pub no_place : {A : Type 0} {place : ℕ} {o : Option ℕ} → o ≡ None → o ≡ Some place → A
 no_place e f = absurd (first.no_place e f)
 
-pub yet_stays : (k : Kind) (rec more : List Taken) (place : ℕ) → front_odd_yet k rec ≡ some place
-    → front_odd_yet k (rec ++ more) ≡ some place
+pub yet_stays : (k : Kind) (rec more : List Taken) (place : ℕ) → front_odd_yet k rec ≡ Some place
+    → front_odd_yet k (rec ++ more) ≡ Some place
 unfolding front_odd_yet
 yet_stays k rec more place e = by (dec_le (preamble_chips k) (length rec)) (dec_le 11 (length rec))
   where
     pc : ℕ
     pc = preamble_chips k
 
-    early : 11 ≤ length rec → length rec < pc → front_odd_yet k (rec ++ more) ≡ some place
+    early : 11 ≤ length rec → length rec < pc → front_odd_yet k (rec ++ more) ≡ Some place
     early h l =
-        let found : section_odd (preamble_section k rec) rec ≡ some place =
+        let found : section_odd (preamble_section k rec) rec ≡ Some place =
         sym (yet_before k rec (omega (arith, l))) ∙ e in
         let rest : pc ≡ length rec + (pc - length rec) = omega (arith, l) in
         let cut : take pc (rec ++ more) ≡ rec ++ take (pc - length rec) more =
         ap (λ (n : ℕ). take n (rec ++ more)) rest ∙ take-append-add rec more (pc - length rec) in
         ap₂ {C = Option ℕ}
-        (λ p cs. or_else (section_odd p cs) (λ i. some i) (section_odd (header_section k (rec ++ more)) (rec ++ more)))
+        (λ p cs. or_else (section_odd p cs) (λ i. Some i) (section_odd (header_section k (rec ++ more)) (rec ++ more)))
         (preamble_part k rec more h) cut
         ∙ rw (odd_stays (preamble_section k rec) rec (take (pc - length rec) more) place (omega arith) found)
 
-    late : pc ≤ length rec → 11 ≤ length rec → front_odd_yet k (rec ++ more) ≡ some place
+    late : pc ≤ length rec → 11 ≤ length rec → front_odd_yet k (rec ++ more) ≡ Some place
     late h f =
         ap₂ {C = Option ℕ}
-        (λ p cs. or_else (section_odd p cs) (λ i. some i) (section_odd (header_section k (rec ++ more)) (rec ++ more)))
+        (λ p cs. or_else (section_odd p cs) (λ i. Some i) (section_odd (header_section k (rec ++ more)) (rec ++ more)))
         (preamble_part k rec more f) (take-append-le pc rec more h)
-        ∙ ap (λ (p : Section). or_else (section_odd (preamble_section k rec) (take pc rec)) (λ i. some i) (section_odd p (rec ++ more)))
+        ∙ ap (λ (p : Section). or_else (section_odd (preamble_section k rec) (take pc rec)) (λ i. Some i) (section_odd p (rec ++ more)))
         (header_part k rec more h)
         ∙ go (section_odd (preamble_section k rec) (take pc rec)) (section_odd (header_section k rec) rec)
         (odd_stays (header_section k rec) rec more) e
       where
         go : (a b : Option ℕ)
-            → ((place : ℕ) → preamble_chips k ≤ length rec → b ≡ some place
-            → section_odd (header_section k rec) (rec ++ more) ≡ some place)
-            → or_else a (λ i. some i) b ≡ some place
-            → or_else a (λ i. some i) (section_odd (header_section k rec) (rec ++ more)) ≡ some place
-        go none b stays w = stays place h w
-        go (some i) b stays w = w
+            → ((place : ℕ) → preamble_chips k ≤ length rec → b ≡ Some place
+            → section_odd (header_section k rec) (rec ++ more) ≡ Some place)
+            → or_else a (λ i. Some i) b ≡ Some place
+            → or_else a (λ i. Some i) (section_odd (header_section k rec) (rec ++ more)) ≡ Some place
+        go None b stays w = stays place h w
+        go (Some i) b stays w = w
 
-    by : Dec (preamble_chips k ≤ length rec) → Dec (11 ≤ length rec) → front_odd_yet k (rec ++ more) ≡ some place
+    by : Dec (preamble_chips k ≤ length rec) → Dec (11 ≤ length rec) → front_odd_yet k (rec ++ more) ≡ Some place
     by (yes a) (yes b) = late a b
     by (no a) (yes b) = early b (omega (arith, a))
     by a (no b) = no_place (yet_early k rec (omega (arith, b))) e

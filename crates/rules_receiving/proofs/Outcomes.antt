@@ -5,7 +5,7 @@
 use mathlib.Core.Path.{◌≡◌, refl, sym, subst}
 use mathlib.Core.Bool.{Bool, true, false, cond, not}
 use mathlib.Core.List.{List}
-use mathlib.Core.Option.{none, some}
+use Rattle.std.specs.Prelude.{None, Some}
 use Prim.Native.Nat.{ℕ, ◌≤◌, ◌<◌}
 use borrow.Author.Tests.{ltb-true, ltb-false}
 use lib.Dec.{ltb}
@@ -43,12 +43,12 @@ module _ (kind : ℕ) (rec : List Taken) (room : ℕ) where
     by_front : {e : Refusal} → front_of k rec ≡ front.Refused e → HardComes (reading.Refused e)
     ends : (t : Told) → front_of k rec ≡ front.Fields t → HardComes (reading.Refused (Ends t.length))
     no_room : (t : Told) → WholeFrame kind rec t → room < t.n → HardComes (reading.Refused (OctetRoom t.length))
-    unusable : (t : Told) → WholeFrame kind rec t → (p : ℕ) → found_unusable k t rec ≡ some p
+    unusable : (t : Told) → WholeFrame kind rec t → (p : ℕ) → found_unusable k t rec ≡ Some p
         → HardComes (reading.Refused (Unusable p t.length))
-    odd : (t : Told) → WholeFrame kind rec t → (p : ℕ) → payload_odd k t.rate t.n rec ≡ some p
+    odd : (t : Told) → WholeFrame kind rec t → (p : ℕ) → payload_odd k t.rate t.n rec ≡ Some p
         → HardComes (reading.Refused (OddGrowth p t.length))
-    accepted : (t : Told) → WholeFrame kind rec t → t.n ≤ room → found_unusable k t rec ≡ none
-        → payload_odd k t.rate t.n rec ≡ none
+    accepted : (t : Told) → WholeFrame kind rec t → t.n ≤ room → found_unusable k t rec ≡ None
+        → payload_odd k t.rate t.n rec ≡ None
         → HardComes (reading.Good t (frame_chips k t.rate t.n) (least_of (frame_leads k t.rate t.n rec)))
 
   payload : (t : Told) → WholeFrame kind rec t → HardComes (payload_reading k t rec room)

@@ -7,7 +7,7 @@
 use mathlib.Core.Path.{◌≡◌, refl, sym, ap, ap₂, subst, ◌∙◌}
 use mathlib.Core.Bool.{Bool, true, false, cond}
 use mathlib.Core.List.{List, ◌++◌}
-use mathlib.Core.Option.{Option, none, some}
+use Rattle.std.specs.Prelude.{Option, None, Some}
 use Prim.Native.Nat.{ℕ, suc, ◌+◌, ◌-◌, ◌/◌, ◌≤◌, ◌<◌}
 use native.Mathlib.Omega.{arith}
 use borrow.Author.Tests.{lt-ltb, le-ltb, eq-eqb, ne_eqb}
@@ -81,21 +81,21 @@ unfolding payload_yet
 room_zeros k t rec room h = rw (lt-ltb room t.n h)
 
 certain_zeros : (k : Kind) (t : Told) (rec : List Taken) (room : ℕ)
-    → (unusable_yet k rec ≡ none → odd_yet k t.rate rec ≡ none → ⊥) → payload_yet k t rec room ≡ zeros room
+    → (unusable_yet k rec ≡ None → odd_yet k t.rate rec ≡ None → ⊥) → payload_yet k t rec room ≡ zeros room
 unfolding payload_yet
 certain_zeros k t rec room h =
     by (ltb room t.n) (unusable_yet k rec) (odd_yet k t.rate rec) (octets_yet k t.rate rec room) h
   where
-    by : (b : Bool) (x y : Option ℕ) (l : List ℕ) → (x ≡ none → y ≡ none → ⊥)
+    by : (b : Bool) (x y : Option ℕ) (l : List ℕ) → (x ≡ None → y ≡ None → ⊥)
         → cond b (zeros room) (or_else x (λ place. zeros room) (or_else y (λ place. zeros room) l)) ≡ zeros room
     by true x y l g = refl
-    by false (some place) y l g = refl
-    by false none (some place) l g = refl
-    by false none none l g = absurd (g refl refl)
+    by false (Some place) y l g = refl
+    by false None (Some place) l g = refl
+    by false None None l g = absurd (g refl refl)
 
 -- and where none is
 none_stored : (k : Kind) (t : Told) (rec : List Taken) (room : ℕ) (out : List ℕ) → t.n ≤ room
-    → unusable_yet k rec ≡ none → odd_yet k t.rate rec ≡ none → out ≡ octets_yet k t.rate rec room
+    → unusable_yet k rec ≡ None → odd_yet k t.rate rec ≡ None → out ≡ octets_yet k t.rate rec room
     → out ≡ payload_yet k t rec room
 unfolding payload_yet
 none_stored k t rec room out fits g e o = rw (le-ltb room t.n fits, g, e) o
@@ -138,22 +138,22 @@ module _
   part_on : payload_section k r rec ≡ payload_section k r all
   part_on = sym (ap (payload_section k r) (append_hard fed piece) ∙ payload_part k r rec more whole)
 
-  unusable_on : unusable_yet k all ≡ or_else (unusable_yet k rec) (λ place. some place) (first_unusable (length fed) more)
+  unusable_on : unusable_yet k all ≡ or_else (unusable_yet k rec) (λ place. Some place) (first_unusable (length fed) more)
   unusable_on =
       ap (unusable_yet k) (append_hard fed piece)
       ∙ ap (first_unusable (front_chips k)) (drop-append-le (front_chips k) rec more whole)
       ∙ unusable_append (front_chips k) (drop (front_chips k) rec) more
-      ∙ ap (λ (i : ℕ). or_else (unusable_yet k rec) (λ place. some place) (first_unusable i more))
+      ∙ ap (λ (i : ℕ). or_else (unusable_yet k rec) (λ place. Some place) (first_unusable i more))
       (there (length-drop (front_chips k) rec))
     where
       there : length (drop (front_chips k) rec) ≡ length rec - front_chips k
           → front_chips k + length (drop (front_chips k) rec) ≡ length fed
       there e = omega (arith, e, whole, length_hard fed)
 
-  usable_before : unusable_yet k all ≡ none → unusable_yet k rec ≡ none
+  usable_before : unusable_yet k all ≡ None → unusable_yet k rec ≡ None
   usable_before e = (neither (unusable_yet k rec) (first_unusable (length fed) more) (sym unusable_on ∙ e)).0
 
-  odd_on : (place : ℕ) → odd_yet k r rec ≡ some place → odd_yet k r all ≡ some place
+  odd_on : (place : ℕ) → odd_yet k r rec ≡ Some place → odd_yet k r all ≡ Some place
   odd_on place e =
       part_odd k r all
       ∙ ap₂ {C = Option ℕ} (λ q c. section_odd q c) (sym part_on) (append_hard fed piece)
@@ -180,7 +180,7 @@ module _
 
   module _ (fits : t.n ≤ p.room) where
     -- 9 is certain, or 10 unless 9 comes
-    pub pass_certain : (unusable_yet k rec ≡ none → odd_yet k r rec ≡ none → ⊥)
+    pub pass_certain : (unusable_yet k rec ≡ None → odd_yet k r rec ≡ None → ⊥)
         → u.bad ≡ cond (eqb p.bad 0) (place_number (first_unusable p.count more)) p.bad → u.odd ≡ p.odd
         → Went k t (fed ++ piece) u hold buf
     pass_certain certain bad odd = record {
@@ -201,22 +201,22 @@ module _
       where
         looked : (o : Option ℕ) → p.bad ≡ place_number o
             → cond (eqb p.bad 0) (place_number (first_unusable p.count more)) p.bad
-            ≡ place_number (or_else o (λ place. some place) (first_unusable (length fed) more))
-        looked none e =
+            ≡ place_number (or_else o (λ place. Some place) (first_unusable (length fed) more))
+        looked None e =
             rw (eq-eqb p.bad 0 e) (ap (λ (i : ℕ). place_number (first_unusable i more)) w.comes.count_is)
-        looked (some place) e = rw (ne_eqb p.bad 0 (λ z. omega (arith, e, z))) e
+        looked (Some place) e = rw (ne_eqb p.bad 0 (λ z. omega (arith, e, z))) e
 
-        grown : unusable_yet k rec ≡ none → (o : Option ℕ) → odd_yet k r rec ≡ o
+        grown : unusable_yet k rec ≡ None → (o : Option ℕ) → odd_yet k r rec ≡ o
             → place_number (odd_yet k r rec) ≡ place_number (odd_yet k r all)
-        grown g none e = absurd (certain g e)
-        grown g (some place) e = ap place_number (e ∙ sym (odd_on place e))
+        grown g None e = absurd (certain g e)
+        grown g (Some place) e = ap place_number (e ∙ sym (odd_on place e))
 
-        certain_on : unusable_yet k all ≡ none → odd_yet k r all ≡ none → ⊥
+        certain_on : unusable_yet k all ≡ None → odd_yet k r all ≡ None → ⊥
         certain_on g o = by (odd_yet k r rec) refl
           where
             by : (y : Option ℕ) → odd_yet k r rec ≡ y → ⊥
-            by none e = certain (usable_before g) e
-            by (some place) e = no_place o (odd_on place e)
+            by None e = certain (usable_before g) e
+            by (Some place) e = no_place o (odd_on place e)
 
     -- none is certain
     pub part_next : (bad odd : Option ℕ) (hold' out' out : List ℕ)
@@ -243,10 +243,10 @@ module _
         z : SectionIs k (payload_section k r all) (fed ++ piece) bad odd u.ear hold' out'
         z = subst (λ (q : Section). SectionIs k q (fed ++ piece) bad odd u.ear hold' out') part_on y
 
-        odd_of : unusable_yet k all ≡ none → odd ≡ odd_yet k r all
+        odd_of : unusable_yet k all ≡ None → odd ≡ odd_yet k r all
         odd_of g = z.odd_is (z.bad_is ∙ g) ∙ sym (part_odd k r all)
 
-        kept : bad ≡ none → odd ≡ none → out ≡ out'
+        kept : bad ≡ None → odd ≡ None → out ≡ out'
         kept e f =
             settled ∙ rw (eq-eqb u.bad 0 (b ∙ ap place_number e), eq-eqb u.odd 0 (o ∙ ap place_number f))
 
@@ -258,7 +258,7 @@ module _
         grown place e f =
             settled ∙ rw (eq-eqb u.bad 0 e, ne_eqb u.odd 0 (λ n. omega (arith, f, n))) (ap zeros size)
 
-        stored : unusable_yet k all ≡ none → odd_yet k r all ≡ none → out' ≡ payload_yet k t all p.room
+        stored : unusable_yet k all ≡ None → odd_yet k r all ≡ None → out' ≡ payload_yet k t all p.room
         stored g e =
             none_stored k t all p.room out' fits g e
             ((z.goes (z.bad_is ∙ g) (odd_of g ∙ e)).octets
@@ -266,12 +266,12 @@ module _
             (ap (λ (i : ℕ). zeros (i - whole_octets r (front_chips k) all)) size))
 
         by : (a c : Option ℕ) → bad ≡ a → odd ≡ c → out ≡ payload_yet k t all p.room
-        by (some place) c e f =
+        by (Some place) c e f =
             cleared place (b ∙ ap place_number e)
             ∙ sym (certain_zeros k t all p.room (λ g h. no_place (z.bad_is ∙ g) e))
-        by none (some place) e f =
+        by None (Some place) e f =
             grown place (b ∙ ap place_number e) (o ∙ ap place_number f)
             ∙ sym (certain_zeros k t all p.room (λ g h. no_place (odd_of g ∙ h) f))
-        by none none e f =
+        by None None e f =
             kept e f
             ∙ stored (sym z.bad_is ∙ e) (sym (odd_of (sym z.bad_is ∙ e)) ∙ f)

@@ -6,7 +6,7 @@
 -- Assumes nothing.
 use mathlib.Core.Path.{◌≡◌, refl, sym, ap, ap₂, ◌∙◌}
 use mathlib.Core.List.{List, [], ◌∷◌, ◌++◌, append-nil, map}
-use mathlib.Core.Option.{Option, none}
+use Rattle.std.specs.Prelude.{Option, None}
 use Prim.Native.Nat.{ℕ, ◌+◌, ◌-◌, ◌*◌, ◌/◌, ◌%◌, ◌≤◌, ◌<◌}
 use native.Mathlib.Omega.{arith}
 use lib.ListN.{length, get_or, take, drop}
@@ -239,7 +239,7 @@ module _ (k : Kind) (fed : List ℕ) (size : length fed ≡ 11) where
       ap (λ (n : ℕ). decided_words One n chips) one
 
   -- the first symbol is grown by 0 from itself
-  pub first_even : front_odd_yet k chips ≡ none
+  pub first_even : front_odd_yet k chips ≡ None
   unfolding section_odd growths_of first_odd
   first_even =
       let none_grown : (word + 4 - word) % 4 ≡ 0 = omega arith in

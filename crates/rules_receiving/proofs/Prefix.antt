@@ -7,7 +7,7 @@
 use mathlib.Core.Path.{◌≡◌, refl, ap, ap₂, ◌∙◌}
 use mathlib.Core.Bool.{Bool, true, false, cond}
 use mathlib.Core.List.{List, [], ◌∷◌, ◌++◌, map}
-use mathlib.Core.Option.{some}
+use Rattle.std.specs.Prelude.{Some}
 use Prim.Native.Nat.{ℕ, zero, suc, ◌+◌, ◌*◌, ◌/◌, ◌≤◌}
 use native.Mathlib.Nat.{mul-suc, add-zero}
 use native.Mathlib.Omega.{arith}
@@ -68,20 +68,20 @@ leads_prefix r (suc m) cs more h =
 -- ---- the first unusable chip of two parts
 
 pub unusable_append : (at : ℕ) (a b : List Taken) → first_unusable at (a ++ b)
-    ≡ or_else (first_unusable at a) (λ place. some place) (first_unusable (at + length a) b)
+    ≡ or_else (first_unusable at a) (λ place. Some place) (first_unusable (at + length a) b)
 unfolding first_unusable
 unusable_append at [] b = rw add-zero
 unusable_append at (c ∷ a) b = by (is_unusable c)
     (unusable_append (suc at) a b
-    ∙ ap (λ (j : ℕ). or_else (first_unusable (suc at) a) (λ place. some place) (first_unusable j b)) (next (length a)))
+    ∙ ap (λ (j : ℕ). or_else (first_unusable (suc at) a) (λ place. Some place) (first_unusable j b)) (next (length a)))
   where
     next : (n : ℕ) → suc at + n ≡ at + suc n
     next n = omega arith
 
     by : (c : Bool) → first_unusable (suc at) (a ++ b)
-        ≡ or_else (first_unusable (suc at) a) (λ place. some place) (first_unusable (at + suc (length a)) b)
-        → cond c (some at) (first_unusable (suc at) (a ++ b))
-        ≡ or_else (cond c (some at) (first_unusable (suc at) a)) (λ place. some place)
+        ≡ or_else (first_unusable (suc at) a) (λ place. Some place) (first_unusable (at + suc (length a)) b)
+        → cond c (Some at) (first_unusable (suc at) (a ++ b))
+        ≡ or_else (cond c (Some at) (first_unusable (suc at) a)) (λ place. Some place)
         (first_unusable (at + suc (length a)) b)
     by true e = refl
     by false e = e

@@ -7,7 +7,7 @@
 -- Assumes nothing.
 use mathlib.Core.Path.{◌≡◌, refl, sym, ap, ap₂, ◌∙◌}
 use mathlib.Core.List.{List, ◌++◌, append_assoc}
-use mathlib.Core.Option.{Option, none, some}
+use Rattle.std.specs.Prelude.{Option, None, Some}
 use Prim.Native.Nat.{ℕ, ◌+◌, ◌-◌, ◌*◌, ◌/◌, ◌≤◌, ◌<◌}
 use native.Mathlib.Omega.{arith}
 use lib.ListN.{length, take, drop, length-append, length-drop}
@@ -122,13 +122,13 @@ payload_begins k r m w rec =
 
 -- ---- 9 and 10 of the chips that have come, and of those behind
 
-none_first : (a b : Option ℕ) → or_else a (λ place. some place) b ≡ none → a ≡ none
-none_first none b e = refl
-none_first (some p) b e = e
+none_first : (a b : Option ℕ) → or_else a (λ place. Some place) b ≡ None → a ≡ None
+none_first None b e = refl
+none_first (Some p) b e = e
 
-some_second : (a b : Option ℕ) (p : ℕ) → or_else a (λ place. some place) b ≡ some p → a ≡ none → b ≡ some p
-some_second none b p e h = e
-some_second (some q) b p e h = absurd (no_place h refl)
+some_second : (a b : Option ℕ) (p : ℕ) → or_else a (λ place. Some place) b ≡ Some p → a ≡ None → b ≡ Some p
+some_second None b p e h = e
+some_second (Some q) b p e h = absurd (no_place h refl)
 
 symbols_within : (r : Rate) (x n : ℕ) → x ≤ octet_chips r * n
     → (x / symbol_chips r ≤ 8 * n / symbol_bits r) × (symbol_chips r * (x / symbol_chips r) ≤ x)
@@ -162,17 +162,17 @@ module _
       counted a h = omega (arith, length-drop from cut, whole)
 
   pub unusable_parted : found_unusable k t (cut ++ more)
-      ≡ or_else (unusable_yet k cut) (λ place. some place) (first_unusable (length cut) behind)
+      ≡ or_else (unusable_yet k cut) (λ place. Some place) (first_unusable (length cut) behind)
   unusable_parted =
       ap (first_unusable from) chips_parted
       ∙ unusable_append from (drop from cut) behind
-      ∙ ap (λ (i : ℕ). or_else (unusable_yet k cut) (λ place. some place) (first_unusable i behind))
+      ∙ ap (λ (i : ℕ). or_else (unusable_yet k cut) (λ place. Some place) (first_unusable i behind))
       (omega (arith, length-drop from cut, whole))
 
-  pub usable_yet : found_unusable k t (cut ++ more) ≡ none → unusable_yet k cut ≡ none
+  pub usable_yet : found_unusable k t (cut ++ more) ≡ None → unusable_yet k cut ≡ None
   usable_yet e = none_first (unusable_yet k cut) (first_unusable (length cut) behind) (sym unusable_parted ∙ e)
 
-  pub unusable_come : (p : ℕ) → found_unusable k t (cut ++ more) ≡ some p → unusable_yet k cut ≡ none → length cut ≤ p
+  pub unusable_come : (p : ℕ) → found_unusable k t (cut ++ more) ≡ Some p → unusable_yet k cut ≡ None → length cut ≤ p
   unusable_come p e h =
       let f = unusable_first (length cut) behind p
       (some_second (unusable_yet k cut) (first_unusable (length cut) behind) p (sym unusable_parted ∙ e) h) in
@@ -210,28 +210,28 @@ module _
   grown = growths_of r (last_heard r (payload_phase k cut) words) others
 
   pub odd_parted : payload_odd k r t.n (cut ++ more)
-      ≡ or_else (odd_yet k r cut) (λ place. some place) (odd_growth r (from + symbol_chips r * come) grown)
+      ≡ or_else (odd_yet k r cut) (λ place. Some place) (odd_growth r (from + symbol_chips r * come) grown)
   unfolding payload_odd odd_yet
   odd_parted =
       ap₂ {C = Option ℕ} (λ x y. odd_growth r from (growths_of r x y)) (phase_prefix k cut more whole) words_parted
       ∙ ap (odd_growth r from) (growths_of_append r (payload_phase k cut) words others)
       ∙ odd_growth_append r from (growths_of r (payload_phase k cut) words) grown
-      ∙ ap (λ (i : ℕ). or_else (odd_yet k r cut) (λ place. some place) (odd_growth r (from + symbol_chips r * i) grown))
+      ∙ ap (λ (i : ℕ). or_else (odd_yet k r cut) (λ place. Some place) (odd_growth r (from + symbol_chips r * i) grown))
       (growths_of_length r (payload_phase k cut) words ∙ decided_words_length r come (drop from cut))
 
-  pub even_yet : payload_odd k r t.n (cut ++ more) ≡ none → odd_yet k r cut ≡ none
+  pub even_yet : payload_odd k r t.n (cut ++ more) ≡ None → odd_yet k r cut ≡ None
   even_yet e =
       none_first (odd_yet k r cut) (odd_growth r (from + symbol_chips r * come) grown) (sym odd_parted ∙ e)
 
   -- a symbol is 11 chips, as it is one at 1 Mbit/s
-  pub odd_come : (p : ℕ) → payload_odd k r t.n (cut ++ more) ≡ some p → odd_yet k r cut ≡ none → length cut < p + 11
+  pub odd_come : (p : ℕ) → payload_odd k r t.n (cut ++ more) ≡ Some p → odd_yet k r cut ≡ None → length cut < p + 11
   odd_come p e h =
       let f = some_second (odd_yet k r cut) (odd_growth r (from + symbol_chips r * come) grown) p
       (sym odd_parted ∙ e) h in
       omega (arith, whole, by r (payload_odd_rate k (cut ++ more) p t e) (length cut - from) grown f)
     where
       by : (r : Rate) → r ≡ One → (x : ℕ) (gs : List ℕ)
-          → odd_growth r (from + symbol_chips r * (x / symbol_chips r)) gs ≡ some p → from + x < p + 11
+          → odd_growth r (from + symbol_chips r * (x / symbol_chips r)) gs ≡ Some p → from + x < p + 11
       by One i x gs e = omega (arith, (odd_first (from + 11 * (x / 11)) gs p e).place_is)
       by Two i x gs e = absurd (no_place refl e)
       by Five i x gs e = absurd (no_place refl e)

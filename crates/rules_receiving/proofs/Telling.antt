@@ -5,7 +5,7 @@
 use mathlib.Core.Path.{◌≡◌, refl, sym, ap, ap₂, subst, ◌∙◌}
 use mathlib.Core.Bool.{true}
 use mathlib.Core.List.{List}
-use mathlib.Core.Option.{Option, none, some}
+use Rattle.std.specs.Prelude.{Option, None, Some}
 use Prim.Native.Nat.{ℕ, suc, ◌-◌, ◌≤◌, ◌<◌}
 use native.Mathlib.Omega.{arith}
 use borrow.Author.Tests.{le-ltb}
@@ -80,16 +80,16 @@ stays_record e p h = λ i. record {
 }
 
 -- a place kept as a number
-place_some : (o : Option ℕ) (b : ℕ) → b ≡ place_number o → (b ≡ 0 → ⊥) → o ≡ some (b - 1)
-place_some none b e h = absurd (h e)
-place_some (some at) b e h = ap some (by b e)
+place_some : (o : Option ℕ) (b : ℕ) → b ≡ place_number o → (b ≡ 0 → ⊥) → o ≡ Some (b - 1)
+place_some None b e h = absurd (h e)
+place_some (Some at) b e h = ap Some (by b e)
   where
     by : (b : ℕ) → b ≡ suc at → at ≡ b - 1
     by b e = omega arith
 
-place_none : (o : Option ℕ) (b : ℕ) → b ≡ place_number o → b ≡ 0 → o ≡ none
-place_none none b e h = refl
-place_none (some at) b e h = absurd (by b e h)
+place_none : (o : Option ℕ) (b : ℕ) → b ≡ place_number o → b ≡ 0 → o ≡ None
+place_none None b e h = refl
+place_none (Some at) b e h = absurd (by b e h)
   where
     by : (b : ℕ) → b ≡ suc at → b ≡ 0 → ⊥
     by b e h = omega arith
@@ -124,8 +124,8 @@ good_record_lem t p all all' least c e f = λ i. record {
   symbol = (f i).symbol;
 }
 
-pub good_yet : (k : Kind) (t : Told) (rec : List Taken) (room : ℕ) → t.n ≤ room → unusable_yet k rec ≡ none
-    → odd_yet k t.rate rec ≡ none → payload_yet k t rec room ≡ octets_yet k t.rate rec room
+pub good_yet : (k : Kind) (t : Told) (rec : List Taken) (room : ℕ) → t.n ≤ room → unusable_yet k rec ≡ None
+    → odd_yet k t.rate rec ≡ None → payload_yet k t rec room ≡ octets_yet k t.rate rec room
 unfolding payload_yet
 good_yet k t rec room h e o = rw (le-ltb room t.n h, e, o)
 

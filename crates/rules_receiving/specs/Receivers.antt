@@ -2,7 +2,7 @@
 -- Definitions only. Assumes nothing.
 -- working notion: of the calls of a receiver; the promises are of the calls one after the other
 use Rattle.std.specs.Prelude.{◌≡◌, true, false, List, ℕ, suc, ◌≤◌, ◌<◌, length, take}
-use Rattle.std.proofs.Math.Option.{Option, none, some}
+use Rattle.std.specs.Prelude.{Option, None, Some}
 use Rattle.rules_rates.specs.Rates.{code_of}
 use Rattle.rules_chips.specs.Chips.{Taken, hard_recording}
 use Rattle.rules_bits.specs.Bits.{octets_of}
@@ -31,8 +31,8 @@ use Rattle.rules_receiving.specs.Sections.{
 
 -- a place as a number that is 0 where there is none
 abbrev pub place_number : Option ℕ → ℕ
-place_number none = 0
-place_number (some place) = suc place
+place_number None = 0
+place_number (Some place) = suc place
 
 -- ---- status 1: the front is not whole
 
@@ -44,7 +44,7 @@ preamble_count Short = 9
 -- 10 of what has come of a front: of the preamble, then of the header
 unfoldable pub front_odd_yet : Kind → List Taken → Option ℕ
 front_odd_yet k rec =
-    or_else (section_odd (preamble_section k rec) (take (preamble_chips k) rec)) (λ place. some place)
+    or_else (section_odd (preamble_section k rec) (take (preamble_chips k) rec)) (λ place. Some place)
     (section_odd (header_section k rec) rec)
 
 -- a front that goes on: its first symbol, the reference, is not whole; or the preamble goes on, or the header behind it
@@ -63,8 +63,8 @@ pub record FrontTo (k : Kind) (fed : List ℕ) (p : Progress) (hold preamble hea
   pub within : length fed ≤ front_chips k
   pub count_is : p.count ≡ length fed
   pub bad_is : p.bad ≡ place_number (first_unusable 0 (hard_recording fed))
-  pub odd_is : first_unusable 0 (hard_recording fed) ≡ none → p.odd ≡ place_number (front_odd_yet k (hard_recording fed))
-  pub goes : first_unusable 0 (hard_recording fed) ≡ none → front_odd_yet k (hard_recording fed) ≡ none
+  pub odd_is : first_unusable 0 (hard_recording fed) ≡ None → p.odd ≡ place_number (front_odd_yet k (hard_recording fed))
+  pub goes : first_unusable 0 (hard_recording fed) ≡ None → front_odd_yet k (hard_recording fed) ≡ None
       → FrontGoes k fed p.ear hold preamble header
 
 -- ---- status 3: a refusal that stays, whatever follows
@@ -90,10 +90,10 @@ pub record PayloadComes (k : Kind) (t : Told) (fed : List ℕ) (p : Progress) (h
   pub to : length fed ≤ frame_chips k t.rate t.n
   pub count_is : p.count ≡ length fed
   pub bad_is : t.n ≤ p.room → p.bad ≡ place_number (unusable_yet k (hard_recording fed))
-  pub odd_is : t.n ≤ p.room → unusable_yet k (hard_recording fed) ≡ none
+  pub odd_is : t.n ≤ p.room → unusable_yet k (hard_recording fed) ≡ None
       → p.odd ≡ place_number (odd_yet k t.rate (hard_recording fed))
-  pub goes : t.n ≤ p.room → unusable_yet k (hard_recording fed) ≡ none
-      → odd_yet k t.rate (hard_recording fed) ≡ none
+  pub goes : t.n ≤ p.room → unusable_yet k (hard_recording fed) ≡ None
+      → odd_yet k t.rate (hard_recording fed) ≡ None
       → GoesOn k (payload_section k t.rate (hard_recording fed)) fed p.ear hold buf
 
 -- ---- a receiver opened with a kind, and fed

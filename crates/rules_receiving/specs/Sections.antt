@@ -3,7 +3,7 @@
 -- Definitions only. Assumes nothing.
 -- working notion: of the calls of a receiver; no promise needs it
 use Rattle.std.specs.Prelude.{◌≡◌, List, [], ◌++◌, ℕ, ◌+◌, ◌-◌, ◌*◌, ◌/◌, length, get_or, take, drop}
-use Rattle.std.proofs.Math.Option.{Option, none}
+use Rattle.std.specs.Prelude.{Option, None}
 use Rattle.rules_rates.specs.declared.Rate.{Rate}
 use Rattle.rules_rates.specs.declared.Rate.TheVariants.{One}
 use Rattle.rules_rates.specs.Rates.{symbol_bits, octet_chips}
@@ -128,5 +128,5 @@ pub record GoesOn (k : Kind) (p : Section) (fed : List ℕ) (e : Ear) (hold out 
 pub record SectionIs (k : Kind) (p : Section) (fed : List ℕ) (bad odd : Option ℕ) (e : Ear) (hold out : List ℕ) : Type 0
   where
     pub bad_is : bad ≡ section_unusable p (hard_recording fed)
-    pub odd_is : bad ≡ none → odd ≡ section_odd p (hard_recording fed)
-    pub goes : bad ≡ none → odd ≡ none → GoesOn k p fed e hold out
+    pub odd_is : bad ≡ None → odd ≡ section_odd p (hard_recording fed)
+    pub goes : bad ≡ None → odd ≡ None → GoesOn k p fed e hold out

@@ -2,7 +2,7 @@
 -- the words of a whole reading (RULES 6.31).
 -- Definitions only. Assumes nothing.
 use Rattle.std.specs.Prelude.{cond, not, List, ◌++◌, ℕ, ◌-◌, ◌/◌, ltb, length, take, drop, replicate}
-use Rattle.std.proofs.Math.Option.{Option}
+use Rattle.std.specs.Prelude.{Option}
 use Rattle.rules_rates.specs.declared.Rate.{Rate}
 use Rattle.rules_rates.specs.Rates.{symbol_chips, octet_chips}
 use Rattle.rules_chips.specs.Chips.{Taken}

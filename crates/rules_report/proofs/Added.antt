@@ -4,7 +4,7 @@
 use mathlib.Core.Path.{◌≡◌, refl, sym, ap, ◌∙◌}
 use mathlib.Core.Bool.{Bool, true, false, cond, ◌||◌}
 use mathlib.Core.List.{List, [], ◌∷◌, ◌++◌, map}
-use mathlib.Core.Option.{Option, none, some}
+use Rattle.std.specs.Prelude.{Option, None, Some}
 use Prim.Native.Nat.compare
 use Prim.Native.Nat.{ℕ, zero, suc, ◌+◌, ◌<◌}
 use native.Mathlib.Nat.{add-zero, not-suc-le-zero, le_of_suc-le-suc, zero-add}
@@ -121,16 +121,16 @@ module _ (lead at : ℕ) where
   taken c = eqb (is_there c) 0 || ltb lead (lead_told c)
 
   there_more : (c : Option Closest) → cond (taken c) 1 (is_there c) ≡ is_there (behind true lead at c)
-  there_more none = refl
-  there_more (some c) = by (ltb lead c.lead)
+  there_more None = refl
+  there_more (Some c) = by (ltb lead c.lead)
     where
       by : (t : Bool) → cond {A = ℕ} t 1 1 ≡ 1
       by true = refl
       by false = refl
 
   lead_more : (c : Option Closest) → cond (taken c) lead (lead_told c) ≡ lead_told (behind true lead at c)
-  lead_more none = refl
-  lead_more (some c) = by (ltb lead c.lead)
+  lead_more None = refl
+  lead_more (Some c) = by (ltb lead c.lead)
     where
       by : (t : Bool) → cond t lead c.lead ≡ (cond t (record { lead = lead; recording = at }) c).lead
       by true = refl
@@ -138,8 +138,8 @@ module _ (lead at : ℕ) where
 
   recording_more : (c : Option Closest)
       → cond (taken c) at (recording_told c) ≡ recording_told (behind true lead at c)
-  recording_more none = refl
-  recording_more (some c) = by (ltb lead c.lead)
+  recording_more None = refl
+  recording_more (Some c) = by (ltb lead c.lead)
     where
       by : (t : Bool) → cond t at c.recording ≡ (cond t (record { lead = lead; recording = at }) c).recording
       by true = refl

@@ -5,7 +5,7 @@
 use mathlib.Core.Path.{◌≡◌, refl, sym, ap, ◌∙◌}
 use mathlib.Core.Bool.{Bool, true, false, cond}
 use mathlib.Core.List.{List, [], ◌∷◌, ◌++◌, map}
-use mathlib.Core.Option.{Option, none, some}
+use Rattle.std.specs.Prelude.{Option, None, Some}
 use Prim.Native.Nat.{ℕ, suc, ◌+◌, ◌*◌, ◌≤◌, ◌<◌}
 use native.Mathlib.Nat.{add-zero, mul-suc, mul-zero, add_assoc}
 use native.Mathlib.Decide.{dec_lt}
@@ -42,19 +42,19 @@ total_most f m h (r ∷ rs) = rw (mul-suc m (length rs)) (omega (arith, h r, tot
 
 -- one reading more, behind the smallest so far: its lead is taken if it is smaller
 abbrev pub nearest : ℕ → ℕ → Option Closest → Closest
-nearest lead at none = record { lead = lead; recording = at }
-nearest lead at (some c) = cond (ltb lead c.lead) (record { lead = lead; recording = at }) c
+nearest lead at None = record { lead = lead; recording = at }
+nearest lead at (Some c) = cond (ltb lead c.lead) (record { lead = lead; recording = at }) c
 
 abbrev pub behind : Bool → ℕ → ℕ → Option Closest → Option Closest
-behind good lead at c = cond good (some (nearest lead at c)) c
+behind good lead at c = cond good (Some (nearest lead at c)) c
 
 closer_behind : (a i l j : ℕ) (c : Option Closest)
-    → closer a i (some (nearest l j c)) ≡ nearest l j (some (closer a i c))
-closer_behind a i l j none = refl
-closer_behind a i l j (some c) = by (dec_lt l c.lead) (dec_lt c.lead a) (dec_lt l a)
+    → closer a i (Some (nearest l j c)) ≡ nearest l j (Some (closer a i c))
+closer_behind a i l j None = refl
+closer_behind a i l j (Some c) = by (dec_lt l c.lead) (dec_lt c.lead a) (dec_lt l a)
   where
     by : Dec (l < c.lead) → Dec (c.lead < a) → Dec (l < a)
-        → closer a i (some (nearest l j (some c))) ≡ nearest l j (some (closer a i (some c)))
+        → closer a i (Some (nearest l j (Some c))) ≡ nearest l j (Some (closer a i (Some c)))
     by (yes p) (yes q) d = simp (lt-ltb l c.lead p, lt-ltb c.lead a q, lt-ltb l a (omega arith))
     by (yes p) (no q) d = simp (lt-ltb l c.lead p, le-ltb c.lead a (omega arith))
     by (no p) (yes q) d = simp (le-ltb l c.lead (omega arith), lt-ltb c.lead a q)
@@ -66,7 +66,7 @@ pub closest_more : (at : ℕ) (os : List Outcome) (o : Outcome)
 unfolding closest_from
 closest_more at [] o = rw add-zero
 closest_more at (p ∷ os) o =
-    ap (λ (c : Option Closest). cond (accepted p) (some (closer p.answer.lead at c)) c) (closest_more (suc at) os o)
+    ap (λ (c : Option Closest). cond (accepted p) (Some (closer p.answer.lead at c)) c) (closest_more (suc at) os o)
     ∙ by (accepted p) (accepted o) (suc at + length os) (at + suc (length os)) (next (length os))
     (closest_from (suc at) os)
   where
@@ -74,9 +74,9 @@ closest_more at (p ∷ os) o =
     next n = omega arith
 
     by : (s t : Bool) (i j : ℕ) → i ≡ j → (c : Option Closest)
-        → cond s (some (closer p.answer.lead at (behind t o.answer.lead i c))) (behind t o.answer.lead i c)
-        ≡ behind t o.answer.lead j (cond s (some (closer p.answer.lead at c)) c)
-    by true true i j e c = rw (← e) (ap some (closer_behind p.answer.lead at o.answer.lead i c))
+        → cond s (Some (closer p.answer.lead at (behind t o.answer.lead i c))) (behind t o.answer.lead i c)
+        ≡ behind t o.answer.lead j (cond s (Some (closer p.answer.lead at c)) c)
+    by true true i j e c = rw (← e) (ap Some (closer_behind p.answer.lead at o.answer.lead i c))
     by true false i j e c = refl
     by false true i j e c = rw e
     by false false i j e c = refl

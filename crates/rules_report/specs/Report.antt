@@ -2,7 +2,7 @@
 -- what the two calls answer.
 -- Definitions only. Assumes nothing.
 use Rattle.std.specs.Prelude.{ℕ, zero, suc, ◌+◌, ◌≤◌, ◌<◌, Bool, true, cond, ◌&&◌, ◌||◌, List, [], ◌∷◌, map, length, get_or, take, replicate, eqb, ltb, leb}
-use Rattle.std.proofs.Math.Option.{Option, none, some}
+use Rattle.std.specs.Prelude.{Option, None, Some}
 use Rattle.base.specs.Tables.{tabulate}
 use Rattle.rules_rates.specs.declared.Rate.{Rate}
 use Rattle.rules_rates.specs.declared.Rate.TheVariants.{One, Two, Five, Eleven}
@@ -31,16 +31,16 @@ codes = code_of One ∷ code_of Two ∷ code_of Five ∷ code_of Eleven ∷ []
 
 -- whether there is a smallest lead, and what is told of it: lead 0 is a lead
 abbrev pub is_there : Option Closest → ℕ
-is_there none = 0
-is_there (some c) = 1
+is_there None = 0
+is_there (Some c) = 1
 
 abbrev pub lead_told : Option Closest → ℕ
-lead_told none = 0
-lead_told (some c) = c.lead
+lead_told None = 0
+lead_told (Some c) = c.lead
 
 abbrev pub recording_told : Option Closest → ℕ
-recording_told none = 0
-recording_told (some c) = c.recording
+recording_told None = 0
+recording_told (Some c) = c.recording
 
 -- the report at first: all zeros. It is the report of no recording (`none_counted` of proofs/Lists.antt)
 abbrev pub empty : Report

@@ -1,7 +1,7 @@
 -- Totals over a list of readings (RULES 6.19): each by its own definition, from what a read of each recording answers.
 -- Definitions only. Assumes nothing.
 use Rattle.std.specs.Prelude.{ℕ, suc, ◌+◌, Bool, true, cond, not, ◌&&◌, List, [], ◌∷◌, eqb, ltb}
-use Rattle.std.proofs.Math.Option.{Option, none, some}
+use Rattle.std.specs.Prelude.{Option, None, Some}
 use Rattle.rules_chips.specs.Chips.{hard_recording}
 use Rattle.rules_calls.specs.declared.Record.{Record}
 use Rattle.rules_calls.specs.Answers.{record_of}
@@ -62,11 +62,11 @@ pub record Closest : Type 0 where
 
 -- one with this lead, unless one after it has a smaller: so the first of equals
 abbrev pub closer : ℕ → ℕ → Option Closest → Closest
-closer lead at none = record { lead = lead; recording = at }
-closer lead at (some c) = cond (ltb c.lead lead) c (record { lead = lead; recording = at })
+closer lead at None = record { lead = lead; recording = at }
+closer lead at (Some c) = cond (ltb c.lead lead) c (record { lead = lead; recording = at })
 
 -- recordings are counted from `at` on, refused ones too; none, if no frame was accepted
 unfoldable pub closest_from : ℕ → List Outcome → Option Closest
-closest_from at [] = none
+closest_from at [] = None
 closest_from at (o ∷ os) =
-    cond (accepted o) (some (closer o.answer.lead at (closest_from (suc at) os))) (closest_from (suc at) os)
+    cond (accepted o) (Some (closer o.answer.lead at (closest_from (suc at) os))) (closest_from (suc at) os)

@@ -7,7 +7,7 @@
 -- Assumes nothing.
 use mathlib.Core.Path.{◌≡◌, refl, sym, ap, ap₂, subst, ◌∙◌}
 use mathlib.Core.List.{List, ◌++◌}
-use mathlib.Core.Option.{Option, none, some}
+use Rattle.std.specs.Prelude.{Option, None, Some}
 use Prim.Native.Nat.{ℕ, suc, ◌+◌, ◌-◌, ◌*◌, ◌%◌, ◌≤◌, ◌<◌}
 use native.Mathlib.Omega.{arith}
 use lib.ListN.{length, get_or, take}
@@ -93,7 +93,7 @@ module _ (rec : List Taken) (at p count left : ℕ) (g : Grown) (within : count 
 
   -- what is found in the block, or behind it
   block_then : first_odd at (growths_of One p (part_words One at left rec))
-      ≡ or_else (where_found g.odd) (λ q. some q) (first_odd (at + 88 * count) (growths_of One g.last behind))
+      ≡ or_else (where_found g.odd) (λ q. Some q) (first_odd (at + 88 * count) (growths_of One g.last behind))
   block_then =
       let size : length (growths_of One p block) ≡ 8 * count =
       growths_of_length One p block ∙ part_length One at count rec in
@@ -101,7 +101,7 @@ module _ (rec : List Taken) (at p count left : ℕ) (g : Grown) (within : count 
       ap (λ (ws : List ℕ). first_odd at (growths_of One p ws)) joined
       ∙ ap (first_odd at) (growths_of_append One p block behind)
       ∙ odd_growth_append One at (growths_of One p block) (growths_of One (last_heard One p block) behind)
-      ∙ ap₂ {C = Option ℕ} (λ o r. or_else o (λ q. some q) r) (sym x.odd)
+      ∙ ap₂ {C = Option ℕ} (λ o r. or_else o (λ q. Some q) r) (sym x.odd)
       (ap₂ {C = Option ℕ} (λ a q. first_odd a (growths_of One q behind)) place (sym x.last))
 
 -- what is found from here on is what is found from the start
@@ -133,13 +133,13 @@ module _ (rec : List Taken) (from n phase : ℕ) where
         first_odd (place + 88 * count) (growths_of One g.last (part_words One (place + 88 * count) (left - count) rec))
 
     found : (o : Place) → g.odd ≡ o
-        → first_odd from (growths_of One phase (part_words One from n rec)) ≡ or_else (where_found o) (λ q. some q) later
+        → first_odd from (growths_of One phase (part_words One from n rec)) ≡ or_else (where_found o) (λ q. Some q) later
     found o e =
         s.same ∙ block_then rec place last count left g within x
-        ∙ ap (λ (p : Place). or_else (where_found p) (λ q. some q) later) e
+        ∙ ap (λ (p : Place). or_else (where_found p) (λ q. Some q) later) e
 
     pub sought_here : (q : ℕ) → g.odd ≡ At q
-        → some q ≡ first_odd from (growths_of One phase (part_words One from n rec))
+        → Some q ≡ first_odd from (growths_of One phase (part_words One from n rec))
     sought_here q e = sym (found (At q) e)
 
     pub sought_more : g.odd ≡ Nothing
@@ -151,12 +151,12 @@ module _ (rec : List Taken) (from n phase : ℕ) where
       same = found Nothing e;
     }
 
-  none_left : (place last : ℕ) → none ≡ first_odd place (growths_of One last (part_words One place 0 rec))
+  none_left : (place last : ℕ) → None ≡ first_odd place (growths_of One last (part_words One place 0 rec))
   unfolding decided_words growths_of first_odd
   none_left place last = refl
 
   pub sought_all : {place left last : ℕ} → Sought rec from n phase place left last → left ≤ 0
-      → none ≡ first_odd from (growths_of One phase (part_words One from n rec))
+      → None ≡ first_odd from (growths_of One phase (part_words One from n rec))
   sought_all {place} {left} {last} s h =
       let e : left ≡ 0 = omega arith in
       none_left place last

@@ -6,7 +6,7 @@
 use mathlib.Core.Path.{◌≡◌, refl, sym, ap, ap₂, subst, ◌∙◌}
 use mathlib.Core.Bool.{true, false}
 use mathlib.Core.List.{List}
-use mathlib.Core.Option.{some}
+use Rattle.std.specs.Prelude.{Some}
 use Prim.Native.Nat.{ℕ, ◌+◌, ◌-◌, ◌*◌, ◌≤◌}
 use native.Mathlib.Omega.{arith}
 use lib.ListN.{length, get_or}
@@ -93,7 +93,7 @@ module _ (kind : ℕ) (k : Kind) (chips : List ℕ) (room : ℕ) where
           in_header_lem {e = Length (length_heard k rec)} (λ n. omega arith) refl refl
       go (fields_behind s c (fields_told t h)) = tt
 
-  odd_shown : (p : ℕ) → front_odd k rec ≡ some p → Shows (OddGrowth p 0)
+  odd_shown : (p : ℕ) → front_odd k rec ≡ Some p → Shows (OddGrowth p 0)
   odd_shown p e =
       let f = front_odd_first rec k p e in
       let l = front_odd_at rec k p e in

@@ -10,7 +10,7 @@
 use mathlib.Core.Path.{◌≡◌, refl, ap, ap₂, subst, ◌∙◌}
 use mathlib.Core.Bool.{false}
 use mathlib.Core.List.{List}
-use mathlib.Core.Option.{none, some}
+use Rattle.std.specs.Prelude.{None, Some}
 use Prim.Native.Nat.{ℕ, ◌+◌, ◌-◌, ◌*◌, ◌/◌, ◌≤◌, ◌<◌}
 use native.Mathlib.Decide.{dec_lt}
 use native.Mathlib.Omega.{arith}
@@ -58,7 +58,7 @@ use Rattle.small_calls.specs.Why.{after_told}
 -- ---- places
 -- the chips of a symbol that is found odd are all there
 odd_ends : (r : Rate) (at p m q : ℕ) (cs : List Taken)
-    → odd_growth r at (growths_of r p (decided_words r m cs)) ≡ some q → q + 11 ≤ at + symbol_chips r * m
+    → odd_growth r at (growths_of r p (decided_words r m cs)) ≡ Some q → q + 11 ≤ at + symbol_chips r * m
 odd_ends One at p m q cs e =
     let ws = decided_words One m cs in
     let f = odd_first at (growths_of One p ws) q e in
@@ -86,7 +86,7 @@ module _ (k : Kind) (chips : List ℕ) (t : Told) where
   all = frame_chips k t.rate t.n
 
   module _ (there : all ≤ length chips) (p : ℕ) where
-    pub odd_room : payload_odd k t.rate t.n rec ≡ some p → (11 ≤ p) × (p + 11 ≤ length chips)
+    pub odd_room : payload_odd k t.rate t.n rec ≡ Some p → (11 ≤ p) × (p + 11 ≤ length chips)
     unfolding payload_odd payload_words
     odd_room e =
         let ends = odd_ends t.rate (front_chips k) (payload_phase k rec) (8 * t.n / symbol_bits t.rate) p
@@ -96,18 +96,18 @@ module _ (k : Kind) (chips : List ℕ) (t : Told) where
           omega (arith, ends, symbols_fit t.rate t.n, there),
         )
 
-    pub unusable_there : found_unusable k t rec ≡ some p → p < length chips
+    pub unusable_there : found_unusable k t rec ≡ Some p → p < length chips
     unusable_there e = omega (arith, (payload_unusable_place k rec p t e).1, there)
 
   -- where 9 finds nothing the payload's chips are usable, and then those of two symbols across its beginning too
-  module _ (there : all ≤ length chips) (None-found : found_unusable k t rec ≡ none) where
+  module _ (there : all ≤ length chips) (None-found : found_unusable k t rec ≡ None) where
     pub payload_usable : AllUsable rec (front_chips k) (octet_chips t.rate * t.n)
     payload_usable =
         let part : all - front_chips k ≡ octet_chips t.rate * t.n = omega arith in
         none_usable rec (front_chips k) (octet_chips t.rate * t.n) (omega (arith, there, length_hard chips))
         (rw (← part) None-found)
 
-    pub odd_usable : (p : ℕ) → payload_odd k t.rate t.n rec ≡ some p → AllUsable rec 0 (front_chips k)
+    pub odd_usable : (p : ℕ) → payload_odd k t.rate t.n rec ≡ Some p → AllUsable rec 0 (front_chips k)
         → AllUsable rec (p - 11) 22
     unfolding payload_odd payload_words
     odd_usable p e u =
@@ -159,15 +159,15 @@ module _ (k : Kind) (chips : List ℕ) (t : Told) where
     Shown r = r ≡ reason_of kind k chips rec room (payload_reading k t rec room)
 
     module _ (fits : t.n ≤ room) where
-      pub shown_unusable : {r : Reason} (p : ℕ) → found_unusable k t rec ≡ some p → r ≡ reason 9 p 0 (get_or chips p 0)
+      pub shown_unusable : {r : Reason} (p : ℕ) → found_unusable k t rec ≡ Some p → r ≡ reason 9 p 0 (get_or chips p 0)
           → Shown r
       shown_unusable p e h = rw (unusable_refused k t rec room p fits e) h
 
-      pub shown_odd : {r : Reason} (p : ℕ) {g : ℕ} → found_unusable k t rec ≡ none
-          → payload_odd k t.rate t.n rec ≡ some p → g ≡ growth_at p rec → r ≡ reason 10 p 0 g → Shown r
+      pub shown_odd : {r : Reason} (p : ℕ) {g : ℕ} → found_unusable k t rec ≡ None
+          → payload_odd k t.rate t.n rec ≡ Some p → g ≡ growth_at p rec → r ≡ reason 10 p 0 g → Shown r
       shown_odd p e o g h = rw (odd_refused k t rec room p fits e o) (h ∙ ap (reason 10 p 0) g)
 
-      pub shown_good : {r : Reason} → found_unusable k t rec ≡ none → payload_odd k t.rate t.n rec ≡ none
+      pub shown_good : {r : Reason} → found_unusable k t rec ≡ None → payload_odd k t.rate t.n rec ≡ None
           → r ≡ reason 0 0 0 0 → Shown r
       shown_good e o h = rw (payload_good k t rec room fits e o) h
 

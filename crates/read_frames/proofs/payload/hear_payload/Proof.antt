@@ -2,7 +2,7 @@
 -- where a symbol is grown by 1 or 3. Assumes nothing.
 use mathlib.Core.Path.{◌≡◌, sym, ap, subst, ◌∙◌}
 use mathlib.Core.List.{List, ◌++◌}
-use mathlib.Core.Option.{none, some}
+use Rattle.std.specs.Prelude.{None, Some}
 use Prim.Native.Nat.{ℕ, ◌+◌, ◌-◌, ◌*◌, ◌/◌, ◌^◌, ◌≤◌, ◌<◌}
 use native.Mathlib.Omega.{arith}
 use lib.ListN.{length, take, drop, replicate}
@@ -55,7 +55,7 @@ module _
 
     odd : (place : ℕ) (z : List ℕ) → p.heard.odd ≡ At place → length out ≡ length (take (n - 0) d)
         → z ≡ replicate (length (out ++ drop (n - 0) d)) 0
-        → (some place ≡ payload_odd k r n rec)
+        → (Some place ≡ payload_odd k r n rec)
         × ((p.least ≡ least_of (frame_leads k r n rec)) × (z ≡ replicate (length d) 0))
     odd place z t kept q = (
       sym (ap where_found t) ∙ payload_odd_lem k r n rec l b p out o part,
@@ -65,7 +65,7 @@ module _
       ),
     )
 
-    good : p.heard.odd ≡ Nothing → (none ≡ payload_odd k r n rec)
+    good : p.heard.odd ≡ Nothing → (None ≡ payload_odd k r n rec)
         × ((p.least ≡ least_of (frame_leads k r n rec))
         × (out ++ drop (n - 0) d ≡ payload_of k r n rec ++ replicate (length d - n) 0))
     good t = (

@@ -2,7 +2,7 @@
 -- nothing.
 use mathlib.Core.Path.{◌≡◌, refl, ap, ◌∙◌}
 use mathlib.Core.List.{List, [], ◌∷◌}
-use mathlib.Core.Option.{none}
+use Rattle.std.specs.Prelude.{None}
 use Prim.Native.Nat.{ℕ}
 use native.Mathlib.Omega.{arith}
 use lib.ListN.{length, get_or, take}
@@ -26,7 +26,7 @@ use Rattle.receive_calls.specs.Steps.{Begun}
 use Rattle.receive_calls.proofs.front.begin.Statement.{statement}
 use Rattle.receive_calls.proofs.front.begin.Tie as tie
 
-all_usable : (row : List ℕ) → length row ≡ 11 → first_unusable 0 (hard_recording row) ≡ none
+all_usable : (row : List ℕ) → length row ≡ 11 → first_unusable 0 (hard_recording row) ≡ None
     → AllUsable (hard_recording row) 0 11
 all_usable row e u =
     none_usable (hard_recording row) 0 11 (omega (arith, e, length_hard row))

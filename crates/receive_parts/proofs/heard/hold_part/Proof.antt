@@ -1,6 +1,6 @@
 -- `receive_parts::heard::hold_part` meets its contract: 9, then 10 of the new symbols. Assumes nothing.
 use mathlib.Core.Path.{◌≡◌, sym, ap, ◌∙◌}
-use mathlib.Core.Option.{none}
+use Rattle.std.specs.Prelude.{None}
 use Prim.Native.Nat.{◌<◌}
 use native.Mathlib.Omega.{arith}
 use borrow.Author.Rules.{rules}
@@ -20,7 +20,7 @@ unusable_from_requires c κs =
     omega (arith, c.requires.0, c.requires.2, chips_most c.args.rate)
 
 usable : (c : tie.In-Nothing) → let a = c.args in
-    first_unusable a.at (hard_recording a.row.now) ≡ none
+    first_unusable a.at (hard_recording a.row.now) ≡ None
 usable c = sym c.unusable_from-found.ensures.0 ∙ ap where_found c.in-Nothing.is
 
 look_requires : tie.Need-look-looked-requires
