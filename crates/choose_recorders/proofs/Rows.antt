@@ -1,33 +1,37 @@
--- Laws of the rows that a recorder lends.
---     room_hard, room_soft, room_bytes    what fits a recording fits the rows of its recorder
---     recording_fits                      a recording is no longer than its rows may be
+-- Laws of the rows that are lent.
+--     room_hard, room_soft, room_bytes    what fits a recording fits its rows
+--     barker_numbers, barker_leads        symbols of 2 Mbit/s are decided as those of 1 Mbit/s are
 -- Assumes nothing.
 use mathlib.Core.Path.{◌≡◌}
+use mathlib.Core.Logic.{◌⊎◌, inl, inr}
 use mathlib.Core.List.{List}
-use Prim.Native.Nat.{ℕ, ◌/◌, ◌≤◌, ◌<◌}
+use Prim.Native.Nat.{ℕ, ◌/◌, ◌≤◌}
 use native.Mathlib.Omega.{arith}
 use lib.ListN.{length}
 use lib.IntN.{ℤ}
 use lib.Ieee.{Float}
-use Rattle.rules_chips.specs.Chips.{soft_recording}
+use Rattle.rules_rates.specs.declared.Rate.{Rate}
+use Rattle.rules_rates.specs.declared.Rate.TheVariants.{One, Two}
+use Rattle.rules_chips.specs.Chips.{Taken, hard_recording, soft_recording, byte_recording}
 use Rattle.rules_chips.proofs.Recorders.{length_hard, length_soft}
 use Rattle.rules_chips.proofs.Bytes.{length_bytes}
-use Rattle.choose_recorders.specs.declared.Recorder.{Recorder}
-use Rattle.choose_recorders.specs.declared.Recorder.TheVariants.{Hard, Soft, Bytes}
-use Rattle.choose_recorders.specs.Rows.{recording_of}
+use Rattle.choose_recorded.specs.Recorded.{DecidedAt, LeadsAt}
+use Rattle.choose_recorded.proofs.Firsts.{decided_two, leads_two}
 
-module _ {rec : Recorder} (octets : List ℕ) (bytes : List ℤ) (i q : List Float) (n : ℕ) where
-  pub room_hard : rec ≡ Hard → n ≤ length (recording_of rec octets bytes i q) → n ≤ length octets
-  room_hard e l = rw length_hard at (rw e at l)
+pub room_hard : (octets : List ℕ) (n : ℕ) → n ≤ length (hard_recording octets) → n ≤ length octets
+room_hard octets n l = rw length_hard at l
 
-  pub room_soft : rec ≡ Soft → n ≤ length (recording_of rec octets bytes i q) → (n ≤ length i) × (n ≤ length q)
-  room_soft e l = let k : n ≤ length (soft_recording i q) = rw e at l in omega (arith, length_soft i q)
+pub room_soft : (i q : List Float) (n : ℕ) → n ≤ length (soft_recording i q) → (n ≤ length i) × (n ≤ length q)
+room_soft i q n l = omega (arith, length_soft i q)
 
-  pub room_bytes : rec ≡ Bytes → n ≤ length (recording_of rec octets bytes i q) → n ≤ length bytes / 2
-  room_bytes e l = rw length_bytes at (rw e at l)
+pub room_bytes : (bytes : List ℤ) (n : ℕ) → n ≤ length (byte_recording bytes) → n ≤ length bytes / 2
+room_bytes bytes n l = rw length_bytes at l
 
-pub recording_fits : (rec : Recorder) (octets : List ℕ) (bytes : List ℤ) (i q : List Float) (m : ℕ)
-    → length octets < m → length bytes < m → length i < m → length (recording_of rec octets bytes i q) < m
-recording_fits Hard octets bytes i q m a b c = rw length_hard a
-recording_fits Soft octets bytes i q m a b c = omega (arith, length_soft i q)
-recording_fits Bytes octets bytes i q m a b c = omega (arith, length_bytes bytes)
+module _ (r : Rate) (rec : List Taken) (at m : ℕ) where
+  pub barker_numbers : (r ≡ One) ⊎ (r ≡ Two) → (ns : List ℕ) → DecidedAt One rec at m ns → DecidedAt r rec at m ns
+  barker_numbers (inl e) ns d = rw e d
+  barker_numbers (inr e) ns d = rw e (decided_two rec at m ns d)
+
+  pub barker_leads : (r ≡ One) ⊎ (r ≡ Two) → (ls : List ℕ) → LeadsAt One rec at m ls → LeadsAt r rec at m ls
+  barker_leads (inl e) ls d = rw e d
+  barker_leads (inr e) ls d = rw e (leads_two rec at m ls d)
