@@ -12,7 +12,7 @@ use Rattle.rules_reading.specs.Reading.{or_else, first_unusable}
 use Rattle.choose_recorded.specs.Recorded.{symbol_at}
 use Rattle.choose_recorders.specs.declared.Recorder.{Recorder}
 use Rattle.choose_recorders.specs.declared.Recorder.TheVariants.{Hard, Soft, Bytes}
-use Rattle.choose_recorders.specs.Rows.{recording_of}
+use Rattle.choose_recorders.specs.Rows.{taken_of}
 
 -- the number of the word that the first symbol of a recording is decided as; 0 where a chip of it is not usable
 unfoldable pub first_word : Rate → List Taken → ℕ

@@ -5,11 +5,10 @@ ghost use Rattle.std.specs.Prelude.{◌≡◌, min, ◌≤◌, length};
 ghost use Rattle.rules_rates.specs.Rates.{symbol_chips};
 ghost use Rattle.rules_chips.specs.Floats.{count_of};
 ghost use Rattle.rules_chips.specs.Chips.{soft_recording};
-ghost use Rattle.choose_recorders.specs.Rows.{lent};
+ghost use Rattle.choose_recorders.specs.Rows.{taken_of};
 ghost use Rattle.bench_leaves.specs.Leaves.{first_word, decided_soft, last_word, recorder_of, decided_last, CountsRow};
 
-use choose_recorded::Place;
-use choose_recorders::Recorder;
+use choose_recorders::Recording;
 use rules_rates::Rate;
 
 // The smaller of two lengths.
@@ -55,31 +54,15 @@ fn first_word(r: Rate, i: &[f32], q: &[f32]) -> u64
     requires { symbol_chips r ≤ length (soft_recording i.now q.now) }
     ensures answer { result ≡ first_word r (soft_recording i.now q.now) }
 {
-    let octet = [0u8; 1];
-    let row = &octet[0..0];
-    let byte = [0i8; 1];
-    let bytes = &byte[0..0];
-    let bad = choose_recorders::first_unusable(
-        Recorder::Soft,
-        row,
-        bytes,
-        i,
-        q,
-        0,
+    let bad = Recording::Soft { i, q }.first_unusable(0,
         r.symbol_chips(),
     );
     match bad {
-        Place::At(_) => 0,
-        Place::Nothing => {
+        Some(_) => 0,
+        None => {
             let mut numbers = [0u8; 64];
             let mut leads = [0u32; 64];
-            choose_recorders::decide(
-                Recorder::Soft,
-                row,
-                bytes,
-                i,
-                q,
-                r,
+            Recording::Soft { i, q }.decide(r,
                 0,
                 1,
                 &mut numbers,
@@ -95,38 +78,28 @@ fn first_word(r: Rate, i: &[f32], q: &[f32]) -> u64
 pub extern "C" fn timed_decide(rate: u64, i: &[f32], q: &[f32]) -> u64
     ensures answer { result ≡ decided_soft rate i.now q.now }
 {
-    let octet = [0u8; 1];
-    let row = &octet[0..0];
-    let byte = [0i8; 1];
-    let bytes = &byte[0..0];
     if !rules_rates::is_code(rate) {
         return 0;
     }
     let r = rules_rates::rate_of(rate);
-    if choose_recorders::chip_count(Recorder::Soft, row, bytes, i, q) < r.symbol_chips() {
+    if Recording::Soft { i, q }.chip_count() < r.symbol_chips() {
         return 0;
     }
     first_word(r, i, q)
 }
 
 // The number of the word that the last of 64 symbols is decided as, where all their chips are usable.
-fn last_word(rec: Recorder, octets: &[u8], bytes: &[i8], i: &[f32], q: &[f32]) -> u64
-    requires { 512 ≤ length (lent rec octets bytes i q) }
-    ensures answer { result ≡ last_word (lent rec octets.entry bytes.entry i.entry q.entry) }
+fn last_word(rec: Recording) -> u64
+    requires { 512 ≤ length (taken_of rec) }
+    ensures answer { result ≡ last_word (taken_of rec.entry) }
 {
-    let bad = choose_recorders::first_unusable(rec, octets, bytes, i, q, 0, 512);
+    let bad = rec.first_unusable(0, 512);
     match bad {
-        Place::At(_) => 0,
-        Place::Nothing => {
+        Some(_) => 0,
+        None => {
             let mut numbers = [0u8; 64];
             let mut leads = [0u32; 64];
-            choose_recorders::decide(
-                rec,
-                octets,
-                bytes,
-                i,
-                q,
-                Rate::Eleven,
+            rec.decide(Rate::Eleven,
                 0,
                 64,
                 &mut numbers,
@@ -166,8 +139,8 @@ pub extern "C" fn timed_eleven(
         return 0;
     }
     let rec = recorder_of(recorder);
-    if choose_recorders::chip_count(rec, octets, bytes, i, q) < 512 {
+    if rec.chip_count() < 512 {
         return 0;
     }
-    last_word(rec, octets, bytes, i, q)
+    last_word(rec)
 }

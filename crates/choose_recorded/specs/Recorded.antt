@@ -1,8 +1,7 @@
--- A place found or not, parts of rows, chips that are usable, and symbols decided in blocks of up to 64.
+-- Parts of rows, chips that are usable, and symbols decided in blocks of up to 64.
 -- Definitions only. Assumes nothing.
 -- working notion: of the contracts of the recorders; no promise needs it
 use Rattle.std.specs.Prelude.{ℕ, ◌+◌, ◌*◌, ◌<◌, ◌≡◌, false, List, map, length, get_or, take, drop, Float}
-use Rattle.std.specs.Prelude.{Option, None, Some}
 use Rattle.std.specs.Float.{nan}
 use Rattle.base.specs.Tables.{tabulate}
 use Rattle.rules_rates.specs.declared.Rate.{Rate}
@@ -12,13 +11,6 @@ use Rattle.rules_chips.specs.declared.Chip.{Chip}
 use Rattle.rules_chips.specs.declared.Chip.TheVariants as chip
 use Rattle.rules_chips.specs.Chips.{Taken, unusable, is_unusable, taken_counts, hard_chip}
 use Rattle.rules_symbols.specs.Choice.{decided, lead_of}
-use Rattle.choose_recorded.specs.declared.Place.{Place}
-use Rattle.choose_recorded.specs.declared.Place.TheVariants.{Nothing, At}
-
--- a place found, as the definitions of reading have it
-abbrev pub where_found : Place → Option ℕ
-where_found Nothing = None
-where_found (At place) = Some place
 
 -- n chips of a row of octets from a place, and of two rows of f32
 abbrev pub hard_part : List ℕ → ℕ → ℕ → List Chip

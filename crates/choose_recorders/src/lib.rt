@@ -2,7 +2,7 @@
 // chips in a crate of its own, and an arm in the methods below.
 #![tactic(auto)]
 
-ghost use Rattle.std.specs.Prelude.{◌≡◌, true, not, ◌+◌, ◌*◌, ◌-◌, ◌≤◌, ◌<◌, length, get_or, take, drop};
+ghost use Rattle.std.specs.Prelude.{◌≡◌, true, not, ◌+◌, ◌*◌, ◌-◌, ◌^◌, ◌≤◌, ◌<◌, length, get_or, take, drop};
 ghost use Rattle.rules_rates.specs.Rates.{symbol_chips};
 ghost use Rattle.rules_chips.specs.Chips.{unusable, is_unusable};
 ghost use Rattle.rules_reading.specs.Reading.{first_unusable};
@@ -29,6 +29,13 @@ impl<'a> Recording<'a> {
             Recording::Soft { i, q } => i.len().min(q.len()),
             Recording::Bytes(bytes) => bytes.len() / 2,
         }
+    }
+
+    // That an index counts a recording's chips. Nothing is left of it at run time: proofs ask it.
+    pub fn is_countable(self)
+        ensures few { length (taken_of self.entry) < 2 ^ 64 }
+    {
+        let _count = self.chip_count();
     }
 
     // Whether the chip at a place is usable.

@@ -9,7 +9,7 @@ ghost use Rattle.rules_reading.specs.Reading.{front_of};
 ghost use Rattle.rules_finding.specs.Finding.{start_or, first_start, finding_of, not_found_number, found_of};
 ghost use Rattle.rules_finding.proofs.Laws.{Missed};
 
-use choose_recorders::Recorder;
+use choose_recorders::Recording;
 use rules_calls::{Front, Reader, Told};
 use rules_finding::{Finding, Found, NotFound};
 use rules_frame::Kind;
@@ -64,17 +64,9 @@ fn front_at(kind: Kind, chips: &[u8], at: usize) -> Front
     requires { at ≤ length chips.now }
     ensures answer { result ≡ front_of kind (drop at (hard_recording chips.now)) }
 {
-    let byte = [0i8; 1];
-    let bytes = &byte[0..0];
-    let sample = [0.0f32; 1];
-    let row = &sample[0..0];
     let opening = read_fronts::read_front(
         Reader::Ours,
-        Recorder::Hard,
-        &chips[at..],
-        bytes,
-        row,
-        row,
+        Recording::Hard(&chips[at..]),
         kind,
     );
     opening.front

@@ -3,7 +3,7 @@
 --     block_heard, block_octets             the line behind whole octets of them with that growth, and the octets
 --     phases_low, growths_low, codes_low    the rows' entries are small
 -- Assumes nothing.
-use Rattle.std.proofs.Common.{◌≡◌, ℕ, zero, suc, ◌+◌, ◌*◌, ◌%◌, ◌^◌, ◌<◌, ◌≤◌, List, ◌∷◌, length, get_or, take, sym, refl, ap, ◌∙◌, subst, ap₂, add-one, arith, length-take-le, take_all, get_or-take, ext_get_or}
+use Rattle.std.proofs.Common.{◌≡◌, ℕ, Option, zero, suc, ◌+◌, ◌*◌, ◌%◌, ◌^◌, ◌<◌, ◌≤◌, List, ◌∷◌, length, get_or, take, sym, refl, ap, ◌∙◌, subst, ap₂, add-one, arith, length-take-le, take_all, get_or-take, ext_get_or}
 use Rattle.base.specs.Below.{Below}
 use Rattle.base.specs.Tables.{tabulate}
 use Rattle.base.proofs.Tables.{length_tabulate, get_or_tabulate, tabulate_all}
@@ -21,8 +21,6 @@ use Rattle.common_lines.specs.declared.Line.{Line}
 use Rattle.rules_bits.proofs.Bits.{octets_length, octets_bits}
 use Rattle.rules_bits.proofs.Heard.{heard_length, heard_below}
 use Rattle.rules_reading.specs.Reading.{first_odd, odd_growth}
-use Rattle.choose_recorded.specs.declared.Place.{Place}
-use Rattle.choose_recorded.specs.Recorded.{where_found}
 use Rattle.hear_codes.specs.Codes.{grown_for, word_bits, phase_before, octet_after, behind, plain, AreWords}
 use Rattle.hear_blocks.specs.Heard.{plain_octets, Heard}
 use Rattle.hear_codes.proofs.Codes.{word_bits_lem, code_small, octet_room}
@@ -209,8 +207,8 @@ module _
     counted s e = ap (λ (k : ℕ). k * n) e ∙ sym is_m
 
     -- the line behind the block
-    pub block_heard : (s at : ℕ) (o : Place) → s ≡ octet_symbols r → l.phase < 4
-        → where_found o ≡ odd_growth r at (take (s * n) g)
+    pub block_heard : (s at : ℕ) (o : Option ℕ) → s ≡ octet_symbols r → l.phase < 4
+        → o ≡ odd_growth r at (take (s * n) g)
         → Heard r f at l ws (record { line = record { past = get_or raw n 0; phase = get_or ps (s * n) 0 }; odd = o })
     block_heard s at o e h w = record {
       past = block_past;

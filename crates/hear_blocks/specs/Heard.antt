@@ -9,7 +9,6 @@ use Rattle.rules_bits.specs.Scrambler.{descramble}
 use Rattle.rules_bits.specs.Code.{past_of, past_after}
 use Rattle.common_lines.specs.declared.Line.{Line}
 use Rattle.rules_reading.specs.Reading.{odd_growth}
-use Rattle.choose_recorded.specs.Recorded.{where_found}
 use Rattle.hear_blocks.specs.declared.Hearing.{Hearing}
 
 -- the received bits of words on a line, the first of them number f
@@ -22,7 +21,7 @@ pub record Heard (r : Rate) (f at : ℕ) (l : Line) (ws : List ℕ) (h : Hearing
   pub past : past_of h.line.past ≡ take 8 (past_after (past_of l.past) (received r f l ws))
   pub phase : h.line.phase ≡ last_heard r l.phase ws
   pub small : h.line.phase < 4
-  pub place : where_found h.odd ≡ odd_growth r at (growths_of r l.phase ws)
+  pub place : h.odd ≡ odd_growth r at (growths_of r l.phase ws)
 
 -- the bits received of words, unscrambled, and n octets of them
 abbrev pub plain_bits : Rate → ℕ → Line → List ℕ → List ℕ

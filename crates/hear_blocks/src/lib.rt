@@ -10,11 +10,9 @@ ghost use Rattle.rules_rates.specs.Rates.{symbol_bits, octet_symbols, octet_chip
 ghost use Rattle.rules_bits.specs.Bits.{number_of};
 ghost use Rattle.rules_bits.specs.Growths.{growths_of};
 ghost use Rattle.rules_reading.specs.Reading.{first_odd};
-ghost use Rattle.choose_recorded.specs.Recorded.{where_found};
 ghost use Rattle.hear_codes.specs.Codes.{grown_for, word_bits, phase_before, octet_after, behind, plain, AreWords};
 ghost use Rattle.hear_blocks.specs.Heard.{plain_octets, Heard};
 
-use choose_recorded::Place;
 use common_lines::Line;
 use rules_rates::Rate;
 
@@ -25,7 +23,7 @@ mod odd;
 #[derive(Clone, Copy)]
 pub struct Hearing {
     pub line: Line,
-    pub odd: Place,
+    pub odd: Option<usize>,
 }
 
 // The phase before the block, and behind it those of its words.
@@ -124,10 +122,10 @@ pub fn hear(
 
 // The first of m words at 1 Mbit/s that is grown by 1 or 3, the first of them from a phase: its place. Their octets are
 // not asked for.
-pub fn odd_growth(place: usize, before: u8, numbers: [u8; 64], m: usize) -> Place
+pub fn odd_growth(place: usize, before: u8, numbers: [u8; 64], m: usize) -> Option<usize>
     requires { (m ≤ 64) × (place + 11 * m < 2 ^ 64) × (before < 4) × (length numbers ≡ 64)
         × AreWords Rate.One (take m numbers) }
-    ensures answer { where_found result ≡ first_odd place (growths_of Rate.One before (take m numbers)) }
+    ensures answer { result ≡ first_odd place (growths_of Rate.One before (take m numbers)) }
 {
     let ps = phases(Rate::One, before, numbers);
     let g = growths(Rate::One, 0, ps);

@@ -2,9 +2,7 @@
 ghost use Rattle.std.specs.Prelude.{◌≡◌, ℕ, ◌+◌, ◌*◌, ◌%◌, ◌^◌, ◌<◌, ◌≤◌, false, take, slice_index};
 ghost use Rattle.rules_rates.specs.Rates.{symbol_chips};
 ghost use Rattle.rules_reading.specs.Reading.{first_odd, odd_growth};
-ghost use Rattle.choose_recorded.specs.Recorded.{where_found};
 
-use choose_recorded::Place;
 use rules_rates::Rate;
 
 // Whether one of the first m growths may be 1 or 3: no says that none is.
@@ -20,41 +18,37 @@ fn any_odd(g: [u8; 64], m: usize) -> bool
 }
 
 // The place of the first of them, symbol by symbol.
-fn first_odd(place: usize, g: [u8; 64], m: usize) -> Place
+fn first_odd(place: usize, g: [u8; 64], m: usize) -> Option<usize>
     requires { (m ≤ 64) × (place + 11 * m < 2 ^ 64) }
-    ensures answer { where_found result ≡ first_odd place (take m g) }
+    ensures answer { result ≡ first_odd place (take m g) }
 {
-    let mut l: usize = 0;
-    while l < m {
+    for l in 0..m {
         if g[l] % 2 == 1 {
-            return Place::At(place + 11 * l);
+            return Some(place + 11 * l);
         }
-        l += 1;
     }
-    Place::Nothing
+    None
 }
 
 // The same, after the quick test.
-fn odd_of_one(place: usize, g: [u8; 64], m: usize) -> Place
+fn odd_of_one(place: usize, g: [u8; 64], m: usize) -> Option<usize>
     requires { (m ≤ 64) × (place + 11 * m < 2 ^ 64) }
-    ensures answer { where_found result ≡ first_odd place (take m g) }
+    ensures answer { result ≡ first_odd place (take m g) }
 {
     if any_odd(g, m) {
         first_odd(place, g, m)
     } else {
-        Place::Nothing
+        None
     }
 }
 
 // Of m symbols whose first chip is at a place; at the other rates a symbol may grow by anything.
-pub fn odd_in(rate: Rate, place: usize, g: [u8; 64], m: usize) -> Place
+pub fn odd_in(rate: Rate, place: usize, g: [u8; 64], m: usize) -> Option<usize>
     requires { (m ≤ 64) × (place + symbol_chips rate * m < 2 ^ 64) }
-    ensures answer { where_found result ≡ odd_growth rate place (take m g) }
+    ensures answer { result ≡ odd_growth rate place (take m g) }
 {
     match rate {
         Rate::One => odd_of_one(place, g, m),
-        Rate::Two => Place::Nothing,
-        Rate::Five => Place::Nothing,
-        Rate::Eleven => Place::Nothing,
+        Rate::Two | Rate::Five | Rate::Eleven => None,
     }
 }

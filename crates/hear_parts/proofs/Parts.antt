@@ -45,8 +45,7 @@ use Rattle.rules_bits.proofs.Heard.{
 use Rattle.rules_calls.specs.declared.Least.{Least}
 use Rattle.rules_reading.specs.Reading.{or_else, first_odd, odd_growth, decided_words}
 use Rattle.rules_reading.specs.Leads.{decided_leads, least_from}
-use Rattle.choose_recorded.specs.declared.Place.TheVariants.{Nothing}
-use Rattle.choose_recorded.specs.Recorded.{where_found, symbol_at, AllUsable, DecidedAt, LeadsAt}
+use Rattle.choose_recorded.specs.Recorded.{symbol_at, AllUsable, DecidedAt, LeadsAt}
 use Rattle.choose_recorded.proofs.Search.{usable_part}
 use Rattle.hear_blocks.specs.declared.Hearing.{Hearing}
 use Rattle.hear_codes.specs.Codes.{AreWords, BlockOf}
@@ -194,7 +193,7 @@ module _ (r : Rate) (n at : ℕ) (l : Line) (a b : List ℕ) (h : Hearing) (x : 
 
     pub blocks_more : (g k : Hearing) → Heard r (n + length a) (at + symbol_chips r * length a) h.line b g
         → k.line ≡ g.line
-        → where_found k.odd ≡ or_else (where_found h.odd) (λ place. Some place) (where_found g.odd)
+        → k.odd ≡ or_else h.odd (λ place. Some place) g.odd
         → Heard r n at l (a ++ b) k
     blocks_more g k y e f = record {
       past =
@@ -243,7 +242,7 @@ pub record Parts (r : Rate) (at : ℕ) (rec : List Taken) (l : Line) (f : ℕ) (
   pub stored : out ≡ over (plain_octets r f k l (part_words r at k rec)) d
   pub least : p.least ≡ least_from f b (part_leads r at k rec)
 
-heard_none : (r : Rate) (f at : ℕ) (l : Line) → l.phase < 4 → Heard r f at l [] (record { line = l; odd = Nothing })
+heard_none : (r : Rate) (f at : ℕ) (l : Line) → l.phase < 4 → Heard r f at l [] (record { line = l; odd = None })
 unfolding bits_of heard last_heard growths_of first_odd past_after
 heard_none r f at l h = record { past = refl; phase = refl; small = h; place = by r }
   where
@@ -254,7 +253,7 @@ heard_none r f at l h = record { past = refl; phase = refl; small = h; place = b
     by Eleven = refl
 
 pub parts_none : (r : Rate) (at : ℕ) (rec : List Taken) (l : Line) (f : ℕ) (b : Least) (d : List ℕ) → l.phase < 4
-    → Parts r at rec l f b d (record { heard = record { line = l; odd = Nothing }; least = b }) at 0 d
+    → Parts r at rec l f b d (record { heard = record { line = l; odd = None }; least = b }) at 0 d
 parts_none r at rec l f b d h = record {
   fits = omega arith;
   at_place = rw (mul-zero, add-zero);
@@ -268,7 +267,7 @@ pub parts_long : {r : Rate} {at : ℕ} {rec : List Taken} {l : Line} {f : ℕ} {
 parts_long {r} {at} {rec} {l} {d = d} {k = k} s =
     ap length s.stored ∙ length_over _ d (rw octets_length s.fits)
 
-chips_sum : (r : Rate) (k n : ℕ) → octet_chips r * (k + n) ≡ octet_chips r * k + octet_chips r * n
+pub chips_sum : (r : Rate) (k n : ℕ) → octet_chips r * (k + n) ≡ octet_chips r * k + octet_chips r * n
 chips_sum One k n = omega arith
 chips_sum Two k n = omega arith
 chips_sum Five k n = omega arith
@@ -323,8 +322,8 @@ module _
         → y
         ≡ over (plain_octets r (f + symbols * k) n p.heard.line (part_words r place n rec))
         (take (length out - k) (drop k out))
-        → (m.heard.line ≡ g.heard.line) × ((where_found m.heard.odd
-        ≡ or_else (where_found p.heard.odd) (λ place. Some place) (where_found g.heard.odd))
+        → (m.heard.line ≡ g.heard.line) × ((m.heard.odd
+        ≡ or_else p.heard.odd (λ place. Some place) g.heard.odd)
         × (m.least ≡ g.least))
         → chips ≡ octet_chips r → symbols ≡ octet_symbols r
         → Parts r at rec l f a d m (place + chips * n) (k + n) (put_mid k (length out - k) out y)

@@ -33,9 +33,7 @@ use Rattle.rules_reading.specs.Reading.{
 }
 use Rattle.rules_reading.specs.Guides.{reading1997, octets1997}
 use Rattle.rules_reading.specs.Leads.{frame_leads, least_of}
-use Rattle.choose_recorded.specs.declared.Place.{Place}
-use Rattle.choose_recorded.specs.declared.Place.TheVariants.{Nothing, At}
-use Rattle.choose_recorded.specs.Recorded.{where_found, AllUsable}
+use Rattle.choose_recorded.specs.Recorded.{AllUsable}
 use Rattle.choose_recorded.proofs.Search.{none_usable}
 use Rattle.read_fronts.specs.declared.Opening.{Opening}
 use Rattle.read_fronts.specs.Openings.{OpensWhole}
@@ -49,40 +47,40 @@ module _ (k : Kind) (t : Told) (rec : List Taken) (room : ℕ) where
   payload_room h = rw (lt-ltb room t.n h)
 
   -- 17 is through, and the payload's chips are searched
-  pub record Searched (all : ℕ) (f : Place) : Type 0 where
+  pub record Searched (all : ℕ) (f : Option ℕ) : Type 0 where
     pub whole : all ≡ frame_chips k t.rate t.n
     pub fits : t.n ≤ room
     pub from : ℕ
     pub at_front : from ≡ front_chips k
-    pub is : where_found f ≡ first_unusable from (take (all - from) (drop from rec))
+    pub is : f ≡ first_unusable from (take (all - from) (drop from rec))
 
-  pub payload_unusable : {all : ℕ} {f : Place} (place : ℕ) → Searched all f → f ≡ At place
+  pub payload_unusable : {all : ℕ} {f : Option ℕ} (place : ℕ) → Searched all f → f ≡ Some place
       → Refused (Unusable place t.length) ≡ payload_reading k t rec room
   unfolding payload_reading
   payload_unusable {all} place s e = rw (← s.whole, ← s.at_front, le-ltb room t.n s.fits, ← s.is, e)
 
-  pub payload_usable : {all : ℕ} {f : Place} → Searched all f → f ≡ Nothing
+  pub payload_usable : {all : ℕ} {f : Option ℕ} → Searched all f → f ≡ None
       → frame_chips k t.rate t.n ≤ length rec → AllUsable rec (front_chips k) (octet_chips t.rate * t.n)
   payload_usable {all} s e h =
       let part : all - s.from ≡ octet_chips t.rate * t.n = omega (arith, s.whole, s.at_front) in
       none_usable rec (front_chips k) (octet_chips t.rate * t.n) h
-      (rw (← part, ← s.at_front) (sym s.is ∙ ap where_found e))
+      (rw (← part, ← s.at_front) (sym s.is ∙ ap e))
 
   -- what hearing left is what reading leaves
-  left : (all : ℕ) (b : Least) (o : Place)
-      → octets_heard k t.rate t.n rec room (where_found o)
-      ≡ octets_after k rec room (after_heard t all b (where_found o))
-  left all b Nothing = refl
-  left all b (At place) = refl
+  left : (all : ℕ) (b : Least) (o : Option ℕ)
+      → octets_heard k t.rate t.n rec room o
+      ≡ octets_after k rec room (after_heard t all b o)
+  left all b None = refl
+  left all b (Some place) = refl
 
-  pub payload_heard : {all : ℕ} {f : Place} (o : Place) (b : Least) (g : Reading) (out : List ℕ) → Searched all f
-      → f ≡ Nothing → where_found o ≡ payload_odd k t.rate t.n rec
+  pub payload_heard : {all : ℕ} {f : Option ℕ} (o : Option ℕ) (b : Least) (g : Reading) (out : List ℕ) → Searched all f
+      → f ≡ None → o ≡ payload_odd k t.rate t.n rec
       → b ≡ least_of (frame_leads k t.rate t.n rec)
-      → out ≡ octets_heard k t.rate t.n rec room (where_found o)
-      → g ≡ after_heard t all b (where_found o) → (g ≡ payload_reading k t rec room) × (out ≡ octets_after k rec room g)
+      → out ≡ octets_heard k t.rate t.n rec room o
+      → g ≡ after_heard t all b o → (g ≡ payload_reading k t rec room) × (out ≡ octets_after k rec room g)
   unfolding payload_reading
   payload_heard {all} o b g out s e p l q w =
-      let tests : after_heard t all b (where_found o) ≡ payload_reading k t rec room =
+      let tests : after_heard t all b o ≡ payload_reading k t rec room =
       rw (← s.whole, ← s.at_front, le-ltb room t.n s.fits, ← s.is, e, ← p, ← l) in
       (w ∙ tests, rw w (q ∙ left all b o))
 

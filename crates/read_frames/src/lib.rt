@@ -7,9 +7,9 @@ ghost use Rattle.rules_calls.specs.Answers.{record_of};
 ghost use Rattle.rules_calls.specs.Headers.{accepted_by};
 ghost use Rattle.rules_reading.specs.Reading.{reading_by, reading_of, octets_after, octets_found};
 ghost use Rattle.rules_reading.specs.Guides.{reading1997, octets1997};
-ghost use Rattle.choose_recorders.specs.Rows.{lent};
+ghost use Rattle.choose_recorders.specs.Rows.{taken_of};
 
-use choose_recorders::Recorder;
+use choose_recorders::Recording;
 use rules_calls::{Front, Reader, Reading, Record, Refusal};
 use rules_frame::Kind;
 
@@ -20,27 +20,23 @@ pub mod payload;
 fn read_as(
     by: Reader,
     kind: Kind,
-    rec: Recorder,
-    row: &[u8],
-    bytes: &[i8],
-    i: &[f32],
-    q: &[f32],
+    rec: Recording,
     octets: &mut [u8],
 ) -> Reading
     requires { octets.old ≡ replicate (length octets.old) 0 }
     ensures answer { result ≡ reading_by (accepted_by by) kind
-        (lent rec row.entry bytes.entry i.entry q.entry) (length octets.old) }
+        (taken_of rec.entry) (length octets.old) }
     ensures octets { octets.new ≡ octets_after kind
-        (lent rec row.entry bytes.entry i.entry q.entry) (length octets.old) result }
+        (taken_of rec.entry) (length octets.old) result }
 {
-    let opening = read_fronts::read_whole(by, rec, row, bytes, i, q, kind);
+    let opening = read_fronts::read_whole(by, rec, kind);
     let told = opening.front;
     match told {
         Front::Refused(e) => Reading::Refused(e),
         Front::Fields(t) => {
             let line = opening.line;
             let least = opening.least;
-            payload::read_payload(rec, row, bytes, i, q, kind, t, line, least, octets)
+            payload::read_payload(rec, kind, t, line, least, octets)
         }
     }
 }
@@ -50,17 +46,13 @@ fn read_as(
 fn read(
     kind: u64,
     agree: bool,
-    rec: Recorder,
-    row: &[u8],
-    bytes: &[i8],
-    i: &[f32],
-    q: &[f32],
+    rec: Recording,
     octets: &mut [u8],
 ) -> Reading
     ensures answer { result ≡ reading_of kind agree
-        (lent rec row.entry bytes.entry i.entry q.entry) (length octets.old) }
+        (taken_of rec.entry) (length octets.old) }
     ensures octets { octets.new ≡ octets_found kind agree
-        (lent rec row.entry bytes.entry i.entry q.entry) (length octets.old) }
+        (taken_of rec.entry) (length octets.old) }
 {
     common_rows::fill(octets, 0);
     if !common_kinds::is_kind(kind) {
@@ -70,7 +62,7 @@ fn read(
         return Reading::Refused(Refusal::RowsDiffer);
     }
     let k = common_kinds::kind_of(kind);
-    read_as(Reader::Ours, k, rec, row, bytes, i, q, octets)
+    read_as(Reader::Ours, k, rec, octets)
 }
 
 // A hard recording: octets, 0 to 3 a phase, 4 lost, 5 to 255 unusable.
@@ -80,11 +72,7 @@ pub fn read_hard(kind: u64, chips: &[u8], octets: &mut [u8]) -> Record
     ensures octets { octets.new ≡
         octets_found kind true (hard_recording chips.now) (length octets.old) }
 {
-    let byte = [0i8; 1];
-    let bytes = &byte[0..0];
-    let sample = [0.0f32; 1];
-    let row = &sample[0..0];
-    let reading = read(kind, true, Recorder::Hard, chips, bytes, row, row, octets);
+    let reading = read(kind, true, Recording::Hard(chips), octets);
     common_answers::record_of(reading)
 }
 
@@ -96,12 +84,8 @@ pub fn read_soft(kind: u64, i: &[f32], q: &[f32], octets: &mut [u8]) -> Record
         octets_found kind (eqb (length i.now) (length q.now))
         (soft_recording i.now q.now) (length octets.old) }
 {
-    let octet = [0u8; 1];
-    let chips = &octet[0..0];
-    let byte = [0i8; 1];
-    let bytes = &byte[0..0];
     let agree = i.len() == q.len();
-    let reading = read(kind, agree, Recorder::Soft, chips, bytes, i, q, octets);
+    let reading = read(kind, agree, Recording::Soft { i, q }, octets);
     common_answers::record_of(reading)
 }
 
@@ -112,12 +96,8 @@ pub fn read_bytes(kind: u64, bytes: &[i8], octets: &mut [u8]) -> Record
     ensures octets { octets.new ≡ octets_found kind (eqb (length bytes.now % 2) 0)
         (byte_recording bytes.now) (length octets.old) }
 {
-    let octet = [0u8; 1];
-    let chips = &octet[0..0];
-    let sample = [0.0f32; 1];
-    let row = &sample[0..0];
     let agree = bytes.len() % 2 == 0;
-    let reading = read(kind, agree, Recorder::Bytes, chips, bytes, row, row, octets);
+    let reading = read(kind, agree, Recording::Bytes(bytes), octets);
     common_answers::record_of(reading)
 }
 
@@ -129,18 +109,10 @@ pub fn read_1997(chips: &[u8], octets: &mut [u8]) -> Record
         octets1997 (hard_recording chips.now) (length octets.old) }
 {
     common_rows::fill(octets, 0);
-    let byte = [0i8; 1];
-    let bytes = &byte[0..0];
-    let sample = [0.0f32; 1];
-    let row = &sample[0..0];
     let reading = read_as(
         Reader::Of1997,
         Kind::Long,
-        Recorder::Hard,
-        chips,
-        bytes,
-        row,
-        row,
+        Recording::Hard(chips),
         octets,
     );
     common_answers::record_of(reading)

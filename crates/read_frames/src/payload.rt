@@ -4,13 +4,12 @@ ghost use Rattle.rules_rates.specs.Rates.{octet_chips};
 ghost use Rattle.rules_frame.specs.Frame.{front_chips, frame_chips};
 ghost use Rattle.rules_reading.specs.Reading.{payload_odd, payload_reading, octets_after};
 ghost use Rattle.rules_reading.specs.Leads.{front_leads, frame_leads, least_of};
-ghost use Rattle.choose_recorders.specs.Rows.{lent};
-ghost use Rattle.choose_recorded.specs.Recorded.{where_found, AllUsable};
+ghost use Rattle.choose_recorders.specs.Rows.{taken_of};
+ghost use Rattle.choose_recorded.specs.Recorded.{AllUsable};
 ghost use Rattle.read_fronts.specs.Openings.{Opened};
 ghost use Rattle.read_frames.specs.Payloads.{octets_heard, after_heard};
 
-use choose_recorded::Place;
-use choose_recorders::Recorder;
+use choose_recorders::Recording;
 use common_lines::Line;
 use hear_blocks::Hearing;
 use hear_parts::Part;
@@ -21,17 +20,13 @@ use rules_rates::Rate;
 // A payload heard: the place of its first symbol grown by 1 or 3 at 1 Mbit/s, and the frame's smallest lead.
 #[derive(Clone, Copy)]
 pub struct Payload {
-    pub odd: Place,
+    pub odd: Option<usize>,
     pub least: Least,
 }
 
 // The payload's octets into a buffer of zeros, or the place of its first symbol grown by 1 or 3 at 1 Mbit/s, and zeros.
 fn hear_payload(
-    rec: Recorder,
-    row: &[u8],
-    bytes: &[i8],
-    i: &[f32],
-    q: &[f32],
+    rec: Recording,
     kind: Kind,
     rate: Rate,
     n: usize,
@@ -39,28 +34,24 @@ fn hear_payload(
     least: Least,
     octets: &mut [u8],
 ) -> Payload
-    requires { (frame_chips kind rate n ≤ length (lent rec row bytes i q))
-        × AllUsable (lent rec row bytes i q) (front_chips kind) (octet_chips rate * n)
-        × (n ≤ length octets.old) × (Opened kind (lent rec row bytes i q) line)
+    requires { (frame_chips kind rate n ≤ length (taken_of rec))
+        × AllUsable (taken_of rec) (front_chips kind) (octet_chips rate * n)
+        × (n ≤ length octets.old) × (Opened kind (taken_of rec) line)
         × (octets.old ≡ replicate (length octets.old) 0)
-        × (least ≡ least_of (front_leads kind (lent rec row bytes i q))) }
-    ensures answer { where_found result.odd ≡
-        payload_odd kind rate n (lent rec row.entry bytes.entry i.entry q.entry) }
+        × (least ≡ least_of (front_leads kind (taken_of rec))) }
+    ensures answer { result.odd ≡
+        payload_odd kind rate n (taken_of rec.entry) }
     ensures least { result.least ≡ least_of
-        (frame_leads kind rate n (lent rec row.entry bytes.entry i.entry q.entry)) }
+        (frame_leads kind rate n (taken_of rec.entry)) }
     ensures octets { octets.new ≡ octets_heard kind rate n
-        (lent rec row.entry bytes.entry i.entry q.entry)
-        (length octets.old) (where_found result.odd) }
+        (taken_of rec.entry)
+        (length octets.old) result.odd }
 {
     let from = common_kinds::front_chips(kind);
     // each symbol of the front is 11 chips
     let symbol = from / 11;
     let part = hear_parts::hear_octets(
         rec,
-        row,
-        bytes,
-        i,
-        q,
         rate,
         from,
         symbol,
@@ -72,39 +63,35 @@ fn hear_payload(
     let least = part.least;
     let odd = heard.odd;
     match odd {
-        Place::At(place) => {
+        Some(place) => {
             common_rows::fill(octets, 0);
-            let odd = Place::At(place);
+            let odd = Some(place);
             Payload { odd, least }
         }
-        Place::Nothing => {
-            let odd = Place::Nothing;
+        None => {
+            let odd = None;
             Payload { odd, least }
         }
     }
 }
 
 // What a payload of usable chips comes to: 10, or the whole answer.
-fn heard(told: Told, used: usize, least: Least, odd: Place) -> Reading
-    ensures answer { result ≡ after_heard told used least (where_found odd) }
+fn heard(told: Told, used: usize, least: Least, odd: Option<usize>) -> Reading
+    ensures answer { result ≡ after_heard told used least odd }
 {
     match odd {
-        Place::At(place) => {
+        Some(place) => {
             let length = told.length;
             Reading::Refused(Refusal::OddGrowth { place, length })
         }
-        Place::Nothing => Reading::Good { told, used, least },
+        None => Reading::Good { told, used, least },
     }
 }
 
 // The payload that a front tells of, in a recording that has it, into a buffer of zeros: 17, then 9 and 10 over it. The
 // smallest lead goes on from the front's.
 pub fn read_payload(
-    rec: Recorder,
-    row: &[u8],
-    bytes: &[i8],
-    i: &[f32],
-    q: &[f32],
+    rec: Recording,
     kind: Kind,
     told: Told,
     line: Line,
@@ -112,14 +99,14 @@ pub fn read_payload(
     octets: &mut [u8],
 ) -> Reading
     requires { (told.n ≤ 4095)
-        × (frame_chips kind told.rate told.n ≤ length (lent rec row bytes i q))
-        × (Opened kind (lent rec row bytes i q) line)
+        × (frame_chips kind told.rate told.n ≤ length (taken_of rec))
+        × (Opened kind (taken_of rec) line)
         × (octets.old ≡ replicate (length octets.old) 0)
-        × (least ≡ least_of (front_leads kind (lent rec row bytes i q))) }
+        × (least ≡ least_of (front_leads kind (taken_of rec))) }
     ensures answer { result ≡ payload_reading kind told
-        (lent rec row.entry bytes.entry i.entry q.entry) (length octets.old) }
+        (taken_of rec.entry) (length octets.old) }
     ensures octets { octets.new ≡ octets_after kind
-        (lent rec row.entry bytes.entry i.entry q.entry) (length octets.old) result }
+        (taken_of rec.entry) (length octets.old) result }
 {
     let n = told.n;
     let rate = told.rate;
@@ -129,11 +116,11 @@ pub fn read_payload(
     }
     let from = common_kinds::front_chips(kind);
     let all = common_kinds::frame_chips(kind, rate, n);
-    let bad = choose_recorders::first_unusable(rec, row, bytes, i, q, from, all);
+    let bad = rec.first_unusable(from, all);
     match bad {
-        Place::At(place) => Reading::Refused(Refusal::Unusable { place, length }),
-        Place::Nothing => {
-            let payload = hear_payload(rec, row, bytes, i, q, kind, rate, n, line, least, octets);
+        Some(place) => Reading::Refused(Refusal::Unusable { place, length }),
+        None => {
+            let payload = hear_payload(rec, kind, rate, n, line, least, octets);
             let odd = payload.odd;
             let low = payload.least;
             heard(told, all, low, odd)

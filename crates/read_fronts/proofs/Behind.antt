@@ -36,7 +36,6 @@ use Rattle.rules_reading.specs.Reading.{
 }
 use Rattle.rules_calls.specs.declared.Least.{Least}
 use Rattle.rules_reading.specs.Leads.{front_leads, frame_leads, least_from, least_of}
-use Rattle.choose_recorded.specs.Recorded.{where_found}
 use Rattle.common_lines.specs.declared.Line.{Line}
 use Rattle.hear_parts.specs.declared.Part.{Part}
 use Rattle.hear_parts.specs.Hearing.{part_leads, PartHeard}
@@ -72,7 +71,7 @@ even Short = refl
 module _
     (k : Kind) (r : Rate) (n : ℕ) (rec : List Taken) (l : Line) (b : Least) (p : Part) (out : List ℕ)
     (o : Opened k rec l) (x : PartHeard r (front_chips k) n rec l (front_chips k / 11) b p out) where
-  pub payload_odd_lem : where_found p.heard.odd ≡ payload_odd k r n rec
+  pub payload_odd_lem : p.heard.odd ≡ payload_odd k r n rec
   unfolding payload_odd payload_words
   payload_odd_lem =
       x.line.place

@@ -22,9 +22,7 @@ use Rattle.rules_calls.specs.declared.Front.TheVariants.{Refused}
 use Rattle.rules_calls.specs.Headers.{Accepted, header_of}
 use Rattle.rules_reading.specs.Reading.{first_unusable, front_odd, front_by}
 use Rattle.rules_reading.proofs.First.{unusable_first}
-use Rattle.choose_recorded.specs.declared.Place.{Place}
-use Rattle.choose_recorded.specs.declared.Place.TheVariants.{Nothing, At}
-use Rattle.choose_recorded.specs.Recorded.{where_found, AllUsable}
+use Rattle.choose_recorded.specs.Recorded.{AllUsable}
 use Rattle.choose_recorded.proofs.Search.{none_usable}
 use Rattle.read_fronts.specs.declared.FrontHeard.{FrontHeard}
 use Rattle.read_fronts.specs.declared.Look.{Look}
@@ -42,14 +40,14 @@ opens_refused k rec f e o p q = record {
 }
 
 module _ (k : Kind) (rec : List Taken) where
-  pub usable_odd : (accepted : Accepted) (o : Opening) (f : Place) (place : ℕ) → f ≡ At place
-      → where_found f ≡ front_odd k rec → o.front ≡ Refused (OddGrowth place 0)
+  pub usable_odd : (accepted : Accepted) (o : Opening) (f : Option ℕ) (place : ℕ) → f ≡ Some place
+      → f ≡ front_odd k rec → o.front ≡ Refused (OddGrowth place 0)
       → Opens k rec (after_usable accepted k rec) o
   usable_odd accepted o f place e g p =
       opens_refused k rec (after_usable accepted k rec) (OddGrowth place 0) o p (rw (← g, e))
 
   pub usable_header : (accepted : Accepted) (f : FrontHeard) (told : Front) → FrontKnown k rec f
-      → f.part.heard.odd ≡ Nothing → told ≡ header_of accepted k (octet_bits f.sfd) (octet_bits f.header)
+      → f.part.heard.odd ≡ None → told ≡ header_of accepted k (octet_bits f.sfd) (octet_bits f.header)
       → Opens k rec (after_usable accepted k rec)
       (record { front = told; line = f.part.heard.line; least = f.part.least })
   usable_header accepted f told x e p = record {
@@ -64,30 +62,30 @@ module _ (k : Kind) (rec : List Taken) where
   front_short h accepted = rw (lt-ltb (length rec) (front_chips k) h)
 
   module _
-      (chips : ℕ) (f : Place) (e : chips ≡ front_chips k) (h : chips ≤ length rec)
-      (g : where_found f ≡ first_unusable 0 (take (chips - 0) (drop 0 rec))) where
-    searched : first_unusable 0 (take (front_chips k) rec) ≡ where_found f
+      (chips : ℕ) (f : Option ℕ) (e : chips ≡ front_chips k) (h : chips ≤ length rec)
+      (g : f ≡ first_unusable 0 (take (chips - 0) (drop 0 rec))) where
+    searched : first_unusable 0 (take (front_chips k) rec) ≡ f
     searched = let z : chips - 0 ≡ front_chips k = omega arith in sym
         (g ∙ ap (λ (m : ℕ). first_unusable 0 (take m rec)) z)
 
     enough : front_chips k ≤ length rec
     enough = omega arith
 
-    pub front_unusable : (place : ℕ) → f ≡ At place
+    pub front_unusable : (place : ℕ) → f ≡ Some place
         → ((accepted : Accepted) → front_by accepted k rec ≡ Refused (refusal.Unusable place 0)) × (place < length rec)
     front_unusable place t =
-        let first = unusable_first 0 (take (front_chips k) rec) place (searched ∙ ap where_found t) in (
+        let first = unusable_first 0 (take (front_chips k) rec) place (searched ∙ ap t) in (
           (λ accepted. unfold front_by in rw (le-ltb (length rec) (front_chips k) enough, searched, t)),
           omega (arith, enough, first.place_is, first.inside, length-take-le (front_chips k) rec enough),
         )
 
-    pub front_usable : f ≡ Nothing
+    pub front_usable : f ≡ None
         → ((accepted : Accepted) → front_by accepted k rec ≡ after_usable accepted k rec)
         × (front_chips k ≤ length rec) × AllUsable rec 0 (front_chips k)
     front_usable t = (
       (λ accepted. unfold front_by in rw (le-ltb (length rec) (front_chips k) enough, searched, t)),
       enough,
-      none_usable rec 0 (front_chips k) (omega (arith, enough)) (searched ∙ ap where_found t),
+      none_usable rec 0 (front_chips k) (omega (arith, enough)) (searched ∙ ap t),
     )
 
   module _ (l : Look) (x : Looks k rec l) where

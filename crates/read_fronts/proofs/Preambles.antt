@@ -34,7 +34,7 @@ use Rattle.rules_frame.specs.Frame.{start, sync_bits, preamble_length, front_chi
 use Rattle.rules_reading.specs.Reading.{or_else, odd_growth, decided_words, preamble_words, reference, header_phase}
 use Rattle.rules_calls.specs.declared.Least.{Least}
 use Rattle.rules_reading.specs.Leads.{least_from, least_of}
-use Rattle.choose_recorded.specs.Recorded.{where_found, symbol_at, DecidedAt, LeadsAt}
+use Rattle.choose_recorded.specs.Recorded.{symbol_at, DecidedAt, LeadsAt}
 use Rattle.hear_blocks.specs.declared.Hearing.{Hearing}
 use Rattle.hear_blocks.specs.Heard.{received, plain_bits, plain_octets, Heard}
 use Rattle.hear_parts.specs.declared.Part.{Part}
@@ -145,8 +145,8 @@ module _
     (s : Starts k (get_or ns 0 0) l)
     (x : Heard One 0 0 l (take 64 ns) a) (ox : o ≡ over (plain_octets One 0 8 l (take 64 ns)) d)
     (z : PartHeard One 704 (sync_octets k - 6) rec a.line 64 f b y)
-    (ab : (p.heard.line ≡ b.heard.line) × ((where_found p.heard.odd
-    ≡ or_else (where_found a.odd) (λ place. Some place) (where_found b.heard.odd)) × (p.least ≡ b.least))) where
+    (ab : (p.heard.line ≡ b.heard.line) × ((p.heard.odd
+    ≡ or_else a.odd (λ place. Some place) b.heard.odd) × (p.least ≡ b.least))) where
   abbrev A : List ℕ
   A = part_words One 0 8 rec
 
@@ -223,8 +223,8 @@ pub sync_heard : (k : Kind) (rec : List Taken) (ns ls : List ℕ) (l : Line) (f 
     → Starts k (get_or ns 0 0) l → Heard One 0 0 l (take 64 ns) a
     → o ≡ over (plain_octets One 0 8 l (take 64 ns)) d → n ≡ sync_octets k - 6 → count ≡ sync_octets k + 2
     → PartHeard One 704 n rec a.line 64 f b y
-    → (p.heard.line ≡ b.heard.line) × ((where_found p.heard.odd
-    ≡ or_else (where_found a.odd) (λ place. Some place) (where_found b.heard.odd)) × (p.least ≡ b.least))
+    → (p.heard.line ≡ b.heard.line) × ((p.heard.odd
+    ≡ or_else a.odd (λ place. Some place) b.heard.odd) × (p.least ≡ b.least))
     → PreambleLine k rec p.heard × ((p.least ≡ least_of (preamble_leads k rec))
     × (take (sync_octets k + 2) (put_mid 8 (count - 8) o y) ≡ preamble_octets k rec))
 sync_heard k rec ns ls l f a b p d o y count n dec lead lo s x ox en ec z ab =

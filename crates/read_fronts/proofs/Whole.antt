@@ -44,7 +44,6 @@ use Rattle.rules_reading.specs.Reading.{
 use Rattle.rules_calls.specs.declared.Least.{Least}
 use Rattle.rules_reading.specs.Leads.{decided_leads, least_from}
 use Rattle.rules_reading.proofs.Leads.{front_least}
-use Rattle.choose_recorded.specs.Recorded.{where_found}
 use Rattle.hear_parts.specs.declared.Part.{Part}
 use Rattle.hear_blocks.specs.Heard.{received, plain_bits, Heard}
 use Rattle.hear_parts.specs.Hearing.{part_words, part_leads, PartHeard}
@@ -87,8 +86,8 @@ module _
     (x : PreambleKnown k rec p)
     (z : PartHeard (header_rate k) (preamble_chips k) 6 rec p.part.heard.line (preamble_chips k / 11)
     p.part.least c header)
-    (pc : (all.heard.line ≡ c.heard.line) × ((where_found all.heard.odd
-    ≡ or_else (where_found p.part.heard.odd) (λ place. Some place) (where_found c.heard.odd))
+    (pc : (all.heard.line ≡ c.heard.line) × ((all.heard.odd
+    ≡ or_else p.part.heard.odd (λ place. Some place) c.heard.odd)
     × (all.least ≡ c.least))) where
   -- the line that the header is heard on
   abbrev L : Line

@@ -32,7 +32,7 @@ use Rattle.rules_reading.specs.Reading.{
 }
 use Rattle.rules_reading.specs.Heard.{sfd_heard, header_heard}
 use Rattle.rules_reading.specs.Leads.{decided_leads, front_leads, least_of}
-use Rattle.choose_recorded.specs.Recorded.{where_found, AllUsable}
+use Rattle.choose_recorded.specs.Recorded.{AllUsable}
 use Rattle.hear_blocks.specs.declared.Hearing.{Hearing}
 use Rattle.read_fronts.specs.declared.Preamble.{Preamble}
 use Rattle.read_fronts.specs.declared.FrontHeard.{FrontHeard}
@@ -60,7 +60,7 @@ preamble_leads k rec = decided_leads One (preamble_length k) rec
 -- the line once the preamble is heard: the header's first symbol grows from its phase, and its bits are unscrambled
 -- after the preamble's
 pub record PreambleLine (k : Kind) (rec : List Taken) (h : Hearing) : Type 0 where
-  pub odd : where_found h.odd ≡ odd_growth One 0 (growths_of One (reference k rec) (preamble_words k rec))
+  pub odd : h.odd ≡ odd_growth One 0 (growths_of One (reference k rec) (preamble_words k rec))
   pub at_phase : h.line.phase ≡ header_phase k rec
   pub small : h.line.phase < 4
   pub past : take 7 (past_of h.line.past) ≡ take 7 (past_after (start k) (preamble_heard k rec))
@@ -80,7 +80,7 @@ pub record Opened (k : Kind) (rec : List Taken) (l : Line) : Type 0 where
 
 -- a front heard
 pub record FrontKnown (k : Kind) (rec : List Taken) (f : FrontHeard) : Type 0 where
-  pub odd : where_found f.part.heard.odd ≡ front_odd k rec
+  pub odd : f.part.heard.odd ≡ front_odd k rec
   pub sfd : octet_bits f.sfd ≡ sfd_heard k rec
   pub header : octet_bits f.header ≡ header_heard k rec
   pub line : Opened k rec f.part.heard.line

@@ -2,7 +2,7 @@
 ghost use Rattle.std.specs.Prelude.{◌≡◌, ◌+◌, ◌≤◌, length, take, drop};
 ghost use Rattle.rules_frame.specs.Frame.{front_chips};
 ghost use Rattle.rules_reading.specs.Leads.{least_of};
-ghost use Rattle.choose_recorders.specs.Rows.{lent};
+ghost use Rattle.choose_recorders.specs.Rows.{taken_of};
 ghost use Rattle.choose_recorded.specs.Recorded.{AllUsable};
 ghost use Rattle.read_fronts.specs.Openings.{
   sync_octets,
@@ -14,7 +14,7 @@ ghost use Rattle.read_fronts.specs.Openings.{
 };
 
 use super::{FrontHeard, Preamble};
-use choose_recorders::Recorder;
+use choose_recorders::Recording;
 use common_lines::Line;
 use hear_blocks::Hearing;
 use hear_parts::Part;
@@ -45,33 +45,23 @@ fn behind_sync(kind: Kind, preamble: [u8; 18]) -> [u8; 2]
 // SYNC and the SFD, heard to their end into a row. The first block of 64 symbols is decided before the line starts: its
 // first symbol is the reference.
 fn hear_sync(
-    rec: Recorder,
-    row: &[u8],
-    bytes: &[i8],
-    i: &[f32],
-    q: &[f32],
+    rec: Recording,
     kind: Kind,
     octets: &mut [u8],
 ) -> Part
-    requires { (front_chips kind ≤ length (lent rec row bytes i q))
-        × AllUsable (lent rec row bytes i q) 0 (front_chips kind)
+    requires { (front_chips kind ≤ length (taken_of rec))
+        × AllUsable (taken_of rec) 0 (front_chips kind)
         × (length octets.old ≡ 18) }
     ensures answer { PreambleLine kind
-        (lent rec row.entry bytes.entry i.entry q.entry) result.heard }
+        (taken_of rec.entry) result.heard }
     ensures least { result.least ≡ least_of (preamble_leads kind
-        (lent rec row.entry bytes.entry i.entry q.entry)) }
+        (taken_of rec.entry)) }
     ensures octets { take (sync_octets kind + 2) octets.new ≡ preamble_octets kind
-        (lent rec row.entry bytes.entry i.entry q.entry) }
+        (taken_of rec.entry) }
 {
     let mut numbers = [0u8; 64];
     let mut leads = [0u32; 64];
-    choose_recorders::decide(
-        rec,
-        row,
-        bytes,
-        i,
-        q,
-        Rate::One,
+    rec.decide(Rate::One,
         0,
         64,
         &mut numbers,
@@ -85,10 +75,6 @@ fn hear_sync(
     let l = first.line;
     let rest = hear_parts::hear_octets(
         rec,
-        row,
-        bytes,
-        i,
-        q,
         Rate::One,
         704,
         64,
@@ -101,39 +87,31 @@ fn hear_sync(
 
 // SYNC and the SFD, heard to their end, and the SFD's octets.
 fn hear_preamble(
-    rec: Recorder,
-    row: &[u8],
-    bytes: &[i8],
-    i: &[f32],
-    q: &[f32],
+    rec: Recording,
     kind: Kind,
 ) -> Preamble
-    requires { (front_chips kind ≤ length (lent rec row bytes i q))
-        × AllUsable (lent rec row bytes i q) 0 (front_chips kind) }
+    requires { (front_chips kind ≤ length (taken_of rec))
+        × AllUsable (taken_of rec) 0 (front_chips kind) }
     ensures answer { PreambleKnown kind
-        (lent rec row.entry bytes.entry i.entry q.entry) result }
+        (taken_of rec.entry) result }
 {
     let mut octets = [0u8; 18];
-    let part = hear_sync(rec, row, bytes, i, q, kind, &mut octets);
+    let part = hear_sync(rec, kind, &mut octets);
     let sfd = behind_sync(kind, octets);
     Preamble { part, sfd }
 }
 
 // SYNC, the SFD and the header, heard to their end. Each of their symbols is 11 chips.
 pub fn hear_front(
-    rec: Recorder,
-    row: &[u8],
-    bytes: &[i8],
-    i: &[f32],
-    q: &[f32],
+    rec: Recording,
     kind: Kind,
 ) -> FrontHeard
-    requires { (front_chips kind ≤ length (lent rec row bytes i q))
-        × AllUsable (lent rec row bytes i q) 0 (front_chips kind) }
+    requires { (front_chips kind ≤ length (taken_of rec))
+        × AllUsable (taken_of rec) 0 (front_chips kind) }
     ensures answer { FrontKnown kind
-        (lent rec row.entry bytes.entry i.entry q.entry) result }
+        (taken_of rec.entry) result }
 {
-    let preamble = hear_preamble(rec, row, bytes, i, q, kind);
+    let preamble = hear_preamble(rec, kind);
     let first = preamble.part;
     let before = first.heard;
     let line = before.line;
@@ -144,10 +122,6 @@ pub fn hear_front(
     let mut header = [0u8; 6];
     let behind = hear_parts::hear_octets(
         rec,
-        row,
-        bytes,
-        i,
-        q,
         rate,
         from,
         symbol,

@@ -7,11 +7,10 @@ ghost use Rattle.rules_calls.specs.declared.Told.{Told};
 ghost use Rattle.rules_calls.specs.Answers.{refusal_number};
 ghost use Rattle.rules_calls.specs.Headers.{accepted_by};
 ghost use Rattle.rules_reading.specs.Reading.{front_by};
-ghost use Rattle.choose_recorders.specs.Rows.{lent};
+ghost use Rattle.choose_recorders.specs.Rows.{taken_of};
 ghost use Rattle.read_fronts.specs.Openings.{FrontKnown, after_usable, Looks, Opens, OpensWhole};
 
-use choose_recorded::Place;
-use choose_recorders::Recorder;
+use choose_recorders::Recording;
 use common_lines::Line;
 use hear_blocks::Hearing;
 use hear_parts::Part;
@@ -77,8 +76,8 @@ pub fn told(by: Reader, kind: Kind, known: FrontHeard) -> Opening
     let heard = part.heard;
     let odd = heard.odd;
     match odd {
-        Place::At(place) => refused(Refusal::OddGrowth { place, length: 0 }),
-        Place::Nothing => {
+        Some(place) => refused(Refusal::OddGrowth { place, length: 0 }),
+        None => {
             let sfd = known.sfd;
             let header = known.header;
             let front = common_header::header_of(by, kind, sfd, header);
@@ -91,23 +90,19 @@ pub fn told(by: Reader, kind: Kind, known: FrontHeard) -> Opening
 
 // Whether a front can be heard: 8, 9.
 pub fn look_at_front(
-    rec: Recorder,
-    row: &[u8],
-    bytes: &[i8],
-    i: &[f32],
-    q: &[f32],
+    rec: Recording,
     kind: Kind,
 ) -> Look
-    ensures answer { Looks kind (lent rec row.entry bytes.entry i.entry q.entry) result }
+    ensures answer { Looks kind (taken_of rec.entry) result }
 {
     let chips = common_kinds::front_chips(kind);
-    if choose_recorders::chip_count(rec, row, bytes, i, q) < chips {
+    if rec.chip_count() < chips {
         return Look::Shorter;
     }
-    let bad = choose_recorders::first_unusable(rec, row, bytes, i, q, 0, chips);
+    let bad = rec.first_unusable(0, chips);
     match bad {
-        Place::At(place) => Look::Unusable(place),
-        Place::Nothing => Look::Usable,
+        Some(place) => Look::Unusable(place),
+        None => Look::Usable,
     }
 }
 
@@ -115,22 +110,18 @@ pub fn look_at_front(
 // 15.
 pub fn read_front(
     by: Reader,
-    rec: Recorder,
-    row: &[u8],
-    bytes: &[i8],
-    i: &[f32],
-    q: &[f32],
+    rec: Recording,
     kind: Kind,
 ) -> Opening
-    ensures answer { Opens kind (lent rec row.entry bytes.entry i.entry q.entry)
-        (front_by (accepted_by by) kind (lent rec row.entry bytes.entry i.entry q.entry)) result }
+    ensures answer { Opens kind (taken_of rec.entry)
+        (front_by (accepted_by by) kind (taken_of rec.entry)) result }
 {
-    let looked = look_at_front(rec, row, bytes, i, q, kind);
+    let looked = look_at_front(rec, kind);
     match looked {
         Look::Shorter => refused(Refusal::ShorterThanFront),
         Look::Unusable(place) => refused(Refusal::Unusable { place, length: 0 }),
         Look::Usable => {
-            let known = heard::hear_front(rec, row, bytes, i, q, kind);
+            let known = heard::hear_front(rec, kind);
             told(by, kind, known)
         }
     }
@@ -139,17 +130,13 @@ pub fn read_front(
 // The same, and 16: whether the recording has the chips of the frame that its front tells of.
 pub fn read_whole(
     by: Reader,
-    rec: Recorder,
-    row: &[u8],
-    bytes: &[i8],
-    i: &[f32],
-    q: &[f32],
+    rec: Recording,
     kind: Kind,
 ) -> Opening
     ensures answer { OpensWhole (accepted_by by) kind
-        (lent rec row.entry bytes.entry i.entry q.entry) result }
+        (taken_of rec.entry) result }
 {
-    let opening = read_front(by, rec, row, bytes, i, q, kind);
+    let opening = read_front(by, rec, kind);
     let told = opening.front;
     match told {
         Front::Refused(e) => refused(e),
@@ -157,7 +144,7 @@ pub fn read_whole(
             let rate = t.rate;
             let length = t.length;
             let all = common_kinds::frame_chips(kind, rate, t.n);
-            if choose_recorders::chip_count(rec, row, bytes, i, q) < all {
+            if rec.chip_count() < all {
                 return refused(Refusal::Ends { length });
             }
             opening

@@ -21,13 +21,10 @@ use Rattle.rules_receiving.specs.declared.Ear.{Ear}
 use Rattle.rules_receiving.specs.declared.Progress.{Progress}
 use Rattle.rules_receiving.specs.Receivers.{FrontTo}
 use Rattle.rules_receiving.proofs.FrontPieces.{number_none, front_first, first_unusable_lem, first_some, first_whole}
-use Rattle.choose_recorded.specs.declared.Place.{Place}
-use Rattle.choose_recorded.specs.declared.Place.TheVariants.{Nothing, At}
-use Rattle.choose_recorded.specs.Recorded.{where_found}
 use Rattle.receive_parts.specs.Pieces.{PlaceBelow}
 use Rattle.receive_calls.specs.Steps.{advanced, Begun, FirstTakes}
 
-pub place_fits : (f : Place) (place : ℕ) → f ≡ At place → PlaceBelow f → place < 1000000
+pub place_fits : (f : Option ℕ) (place : ℕ) → f ≡ Some place → PlaceBelow f → place < 1000000
 place_fits f place e b = subst PlaceBelow e b
 
 -- a row put behind the first h of another
@@ -71,8 +68,8 @@ module _
     (least : (taken ≤ length rest) × (taken ≤ 11 - p.count) × (0 < length rest → 0 < 11 - p.count → 0 < taken))
     (all : n ≡ p.count + taken)
     (y-is : y ≡ over (take (taken - 0) rest) (take (n - p.count) (drop p.count hold)))
-    (f : Place)
-    (found : where_found f ≡ first_unusable 0 (hard_recording (take (n - 0) (put_mid p.count (n - p.count) hold y))))
+    (f : Option ℕ)
+    (found : f ≡ first_unusable 0 (hard_recording (take (n - 0) (put_mid p.count (n - p.count) hold y))))
   where
     abbrev piece : List ℕ
     piece = take taken rest
@@ -142,17 +139,17 @@ module _
         by Short = omega (arith, least.1, asked.0)
 
     -- the first symbol's chips
-    pub first_row : f ≡ Nothing → 11 ≤ n
+    pub first_row : f ≡ None → 11 ≤ n
         → (length (take (n - 0) hold') ≡ 11) × (first_unusable 0 (hard_recording (take (n - 0) hold')) ≡ None)
     first_row t h =
         let size = length-append (take p.count hold) piece in
         let first = length-take-le p.count hold (omega (arith, asked)) in (
           ap length row_is ∙ size ∙ omega (arith, first, long, h, all, least, asked.0),
-          sym found ∙ ap where_found t,
+          sym found ∙ ap t,
         )
 
     -- a chip is unusable
-    pub first_bad : (q : Progress) (place : ℕ) → f ≡ At place → q ≡ advanced p n (place + 1) p.odd p.ear
+    pub first_bad : (q : Progress) (place : ℕ) → f ≡ Some place → q ≡ advanced p n (place + 1) p.odd p.ear
         → FirstTakes k p hold rest (record { progress = q; taken = taken }) hold'
     first_bad q place t e =
         takes_first q (place + 1) p.odd p.ear e asked.4 asked.5
@@ -160,15 +157,15 @@ module _
         first_unusable_lem k fed piece p q hold preamble header x (inside preamble header fed x) (count_more q _ _ _ e)
         (usable preamble header fed x) hold' (few preamble header fed x) place
         (ap (λ (l : List ℕ). first_unusable 0 (hard_recording l)) (sym (row_fed preamble header fed x)) ∙ sym found
-        ∙ ap where_found t)
+        ∙ ap t)
         (ap (λ (u : Progress). u.bad) e ∙ omega arith))
 
-    module _ (t : f ≡ Nothing) (q : Progress) (ear : Ear) (e : q ≡ advanced p n 0 p.odd ear) where
+    module _ (t : f ≡ None) (q : Progress) (ear : Ear) (e : q ≡ advanced p n 0 p.odd ear) where
       clear : (preamble header fed : List ℕ) → FrontTo k fed p hold preamble header
           → first_unusable 0 (hard_recording (fed ++ piece)) ≡ None
       clear preamble header fed x =
           ap (λ (l : List ℕ). first_unusable 0 (hard_recording l)) (sym (row_fed preamble header fed x)) ∙ sym found
-          ∙ ap where_found t
+          ∙ ap t
 
       size : (preamble header fed : List ℕ) → FrontTo k fed p hold preamble header → length (fed ++ piece) ≡ n
       size preamble header fed x =

@@ -77,7 +77,6 @@ use Rattle.rules_receiving.proofs.FrontEnds.{
   payload_starts,
 }
 use Rattle.rules_receiving.proofs.Takes.{refused_front, payload_takes, refused_takes}
-use Rattle.choose_recorded.specs.declared.Place.TheVariants.{Nothing}
 use Rattle.read_fronts.specs.declared.FrontHeard.{FrontHeard}
 use Rattle.read_fronts.specs.declared.Opening.{Opening}
 use Rattle.read_fronts.specs.Openings.{FrontKnown, after_usable, Opens}
@@ -131,7 +130,7 @@ heard_of e sfd header =
     record {
       part =
           record {
-            heard = record { line = record { past = e.past; phase = e.phase }; odd = Nothing };
+            heard = record { line = record { past = e.past; phase = e.phase }; odd = None };
             least = record { lead = e.lead; symbol = e.symbol };
           };
       sfd = sfd;

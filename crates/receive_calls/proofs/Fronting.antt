@@ -31,7 +31,6 @@ use Rattle.rules_receiving.proofs.FrontPieces.{
   front_preamble,
   front_header,
 }
-use Rattle.choose_recorded.specs.Recorded.{where_found}
 use Rattle.receive_parts.specs.declared.Taking.{Taking}
 use Rattle.receive_calls.specs.declared.Pieced.{Pieced}
 use Rattle.receive_parts.specs.Pieces.{Takes}
@@ -170,15 +169,15 @@ module _
         front_preamble k fed (take q.taken rest) p q.progress hold preamble header y
         (omega (arith, y.count_is, long, within, preamble_within k))
         (counts ∙ ap (λ (i : ℕ). p.count + i) (sym long))
-        (usable fed y) (no_odd fed y) (where_found t.piece.bad) (where_found t.piece.odd) hold' out
+        (usable fed y) (no_odd fed y) t.piece.bad t.piece.odd hold' out
         (ap (λ (u : Progress). u.bad) x.progress_is) (ap (λ (u : Progress). u.odd) x.progress_is)
         (omega (arith, first, y.count_is)) (omega (arith, before, y.count_is))
         (omega (arith, y.count_is, long, within))
         (λ a b g.
         subst (λ (ear : Ear). SectionIs k (preamble_section k (hard_recording fed)) (fed ++ take q.taken rest)
-        (where_found t.piece.bad) (where_found t.piece.odd) ear hold' out) ear_is
+        t.piece.bad t.piece.odd ear hold' out) ear_is
         (subst (λ (i : ℕ). SectionIs k (preamble_section k (hard_recording fed)) (fed ++ take i rest)
-        (where_found t.piece.bad) (where_found t.piece.odd) t.piece.ear hold' out) (sym x.taken_is)
+        t.piece.bad t.piece.odd t.piece.ear hold' out) (sym x.taken_is)
         (z.becomes k (preamble_section k (hard_recording fed)) fed refl refl refl refl (sym y.count_is) a b g)));
   }
     where
@@ -214,14 +213,14 @@ module _
         front_header k fed (take q.taken rest) p q.progress hold preamble header y
         (omega (arith, y.count_is, long, within))
         (counts ∙ ap (λ (i : ℕ). p.count + i) (sym long))
-        (usable fed y) (no_odd fed y) (where_found t.piece.bad) (where_found t.piece.odd) hold' out
+        (usable fed y) (no_odd fed y) t.piece.bad t.piece.odd hold' out
         (ap (λ (u : Progress). u.bad) x.progress_is) (ap (λ (u : Progress). u.odd) x.progress_is)
         (omega (arith, behind, f, y.count_is))
         (λ a b g.
         subst (λ (ear : Ear). SectionIs k (header_section k (hard_recording fed)) (fed ++ take q.taken rest)
-        (where_found t.piece.bad) (where_found t.piece.odd) ear hold' out) ear_is
+        t.piece.bad t.piece.odd ear hold' out) ear_is
         (subst (λ (i : ℕ). SectionIs k (header_section k (hard_recording fed)) (fed ++ take i rest)
-        (where_found t.piece.bad) (where_found t.piece.odd) t.piece.ear hold' out) (sym x.taken_is)
+        t.piece.bad t.piece.odd t.piece.ear hold' out) (sym x.taken_is)
         (z.becomes k (header_section k (hard_recording fed)) fed (sym e) (sym f) (ap (λ (i : ℕ). i / 11) (sym f))
         (rw f (header_even k)) (sym y.count_is) a b g)));
   }

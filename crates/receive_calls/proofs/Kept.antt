@@ -13,8 +13,6 @@ use Rattle.rules_reading.specs.Reading.{first_unusable}
 use Rattle.rules_receiving.specs.declared.Progress.{Progress}
 use Rattle.rules_receiving.specs.Yet.{zeros}
 use Rattle.rules_receiving.specs.Receivers.{place_number}
-use Rattle.choose_recorded.specs.declared.Place.{Place}
-use Rattle.choose_recorded.specs.Recorded.{where_found}
 use Rattle.receive_calls.specs.Steps.{advanced, bad_behind, Passes, settled}
 
 module _
@@ -32,9 +30,9 @@ module _
       found : bad_behind p (take taken rest) ≡ p.bad
       found = rw (ne_eqb p.bad 0 h)
 
-  pub passes_odd : (found : Place) (bad : ℕ) → p.bad ≡ 0
-      → where_found found ≡ first_unusable p.count (hard_recording (take (taken - 0) rest))
-      → bad ≡ place_number (where_found found) → u ≡ advanced p (p.count + taken) bad p.odd p.ear
+  pub passes_odd : (found : Option ℕ) (bad : ℕ) → p.bad ≡ 0
+      → found ≡ first_unusable p.count (hard_recording (take (taken - 0) rest))
+      → bad ≡ place_number found → u ≡ advanced p (p.count + taken) bad p.odd p.ear
       → Passes p rest left (record { progress = u; taken = taken })
   passes_odd found bad h f g w = record {
     some_taken = e.2;
@@ -46,7 +44,7 @@ module _
       same : taken - 0 ≡ taken
       same = omega arith
 
-      looked : bad_behind p (take taken rest) ≡ place_number (where_found found)
+      looked : bad_behind p (take taken rest) ≡ place_number found
       looked =
           rw (eq-eqb p.bad 0 h)
           (ap place_number

@@ -31,7 +31,6 @@ use Rattle.rules_receiving.proofs.Takes.{payload_takes}
 use Rattle.rules_receiving.proofs.FrontPieces.{number_none}
 use Rattle.rules_receiving.proofs.Payloads.{part_odd, Went, Counts, pass_room, pass_certain, part_next}
 use Rattle.rules_receiving.proofs.Cuts.{Matches, payload_past, payload_next}
-use Rattle.choose_recorded.specs.Recorded.{where_found}
 use Rattle.receive_calls.specs.declared.Pieced.{Pieced}
 use Rattle.receive_parts.specs.declared.Taking.{Taking}
 use Rattle.receive_parts.specs.Pieces.{Takes}
@@ -255,7 +254,7 @@ module _
           (sym (w.comes.odd_is fits usable) ∙ odd) in
           let from : front_chips (kind_of kind) ≡ front = ap front_chips (sym m.kind_of_lem) ∙ sym fi in
           part_next (kind_of kind) told fed (take q.taken rest) p q.progress hold buf w z to fits
-          (where_found t.piece.bad) (where_found t.piece.odd) hold' out' out
+          t.piece.bad t.piece.odd hold' out' out
           (subst (λ (n : ℕ). PartIs' kind told fed (take n rest) q.progress.ear) (sym y.taken_is)
           (subst (PartIs' kind told fed (take t.taken rest))
           (sym (ap (λ (v : Progress). v.ear) y.progress_is))
@@ -270,4 +269,4 @@ module _
           PartIs' : ℕ → Told → List ℕ → List ℕ → Ear → Type 0
           PartIs' kind told fed piece e =
               SectionIs (kind_of kind) (payload_section (kind_of kind) told.rate (hard_recording fed)) (fed ++ piece)
-              (where_found t.piece.bad) (where_found t.piece.odd) e hold' out'
+              t.piece.bad t.piece.odd e hold' out'

@@ -19,7 +19,7 @@ use Rattle.rules_receiving.specs.Yet.{zeros}
 use Rattle.rules_receiving.specs.declared.Receiver.{Receiver}
 use Rattle.rules_receiving.specs.Receivers.{place_number, FrontTo, Held, Going, Receives}
 use Rattle.rules_receiving.specs.Calls.{takes}
-use Rattle.choose_recorded.specs.Recorded.{where_found, symbol_at}
+use Rattle.choose_recorded.specs.Recorded.{symbol_at}
 use Rattle.receive_parts.specs.declared.Taking.{Taking}
 use Rattle.receive_calls.specs.declared.Pieced.{Pieced}
 
@@ -58,8 +58,8 @@ pub record Passes (p : Progress) (rest : List ℕ) (left : ℕ) (q : Pieced) : T
 pub record Keeps (p : Progress) (t : Taking) (q : Pieced) : Type 0 where
   pub taken_is : q.taken ≡ t.taken
   pub progress_is : q.progress
-      ≡ advanced p (p.count + t.taken) (place_number (where_found t.piece.bad))
-      (place_number (where_found t.piece.odd)) t.piece.ear
+      ≡ advanced p (p.count + t.taken) (place_number t.piece.bad)
+      (place_number t.piece.odd) t.piece.ear
 
 -- a refusal that stays
 abbrev pub stayed : Progress → Refusal → Progress

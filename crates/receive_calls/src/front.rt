@@ -8,8 +8,7 @@ ghost use Rattle.rules_receiving.specs.Receivers.{preamble_count};
 ghost use Rattle.receive_calls.specs.Steps.{Begun, FirstTakes, FrontTakes, FrontTold, stayed, telling};
 
 use super::{Pieced, passing};
-use choose_recorded::Place;
-use choose_recorders::Recorder;
+use choose_recorders::Recording;
 use common_lines::Line;
 use hear_blocks::Hearing;
 use hear_parts::Part;
@@ -25,19 +24,9 @@ fn begin(kind: Kind, row: &[u8]) -> Ear
     requires { (length row.now ≡ 11) × (first_unusable 0 (hard_recording row.now) ≡ None) }
     ensures answer { Begun kind row.now result }
 {
-    let byte = [0i8; 1];
-    let bytes = &byte[0..0];
-    let sample = [0.0f32; 1];
-    let none = &sample[0..0];
     let mut numbers = [0u8; 64];
     let mut leads = [0u32; 64];
-    choose_recorders::decide(
-        Recorder::Hard,
-        row,
-        bytes,
-        none,
-        none,
-        Rate::One,
+    Recording::Hard(row).decide(Rate::One,
         0,
         1,
         &mut numbers,
@@ -69,11 +58,11 @@ fn first_piece(p: Progress, kind: Kind, hold: &mut [u8], rest: &[u8]) -> Pieced
     let row = &hold[0..n];
     let found = receive_parts::heard::unusable_from(row, 0);
     match found {
-        Place::At(place) => {
+        Some(place) => {
             let progress = passing::advance(p, n, place + 1, odd, ear);
             Pieced { progress, taken }
         }
-        Place::Nothing => {
+        None => {
             if n < 11 {
                 let progress = passing::advance(p, n, 0, odd, ear);
                 return Pieced { progress, taken };
@@ -209,7 +198,7 @@ pub fn front_told(p: Progress, kind: Kind, preamble: &[u8], header: &[u8]) -> Pr
         lead: ear.lead,
         symbol: ear.symbol,
     };
-    let odd = Place::Nothing;
+    let odd = None;
     let heard = Hearing { line, odd };
     let part = Part { heard, least };
     let sfd = sfd_of(kind, preamble);

@@ -1,23 +1,21 @@
 // Chips counted, and what was found and heard of them kept.
 ghost use Rattle.std.specs.Prelude.{◌≡◌, ◌+◌, ◌≤◌};
-ghost use Rattle.choose_recorded.specs.Recorded.{where_found};
 ghost use Rattle.rules_receiving.specs.Receivers.{place_number};
 ghost use Rattle.receive_parts.specs.Pieces.{PlaceBelow};
 ghost use Rattle.receive_calls.specs.Steps.{advanced, Keeps, Passes};
 
 use super::Pieced;
-use choose_recorded::Place;
 use receive_parts::{Piece, Taking};
 use rules_receiving::{Ear, Progress};
 
 // A place as a number, 0 where there is none.
-pub fn number_of(found: Place) -> usize
+pub fn number_of(found: Option<usize>) -> usize
     requires { PlaceBelow found }
-    ensures answer { result ≡ place_number (where_found found) }
+    ensures answer { result ≡ place_number found }
 {
     match found {
-        Place::At(place) => place + 1,
-        Place::Nothing => 0,
+        Some(place) => place + 1,
+        None => 0,
     }
 }
 

@@ -3,7 +3,6 @@ ghost use Rattle.std.specs.Prelude.{◌≡◌, ◌<◌, length};
 ghost use Rattle.receive_calls.specs.Steps.{settled, Paid, PayloadSome};
 
 use super::{Pieced, passing};
-use choose_recorded::Place;
 use receive_parts::{Piece, Taking, taken};
 use rules_frame::Kind;
 use rules_rates::Rate;

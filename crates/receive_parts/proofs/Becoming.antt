@@ -21,7 +21,6 @@ use Rattle.rules_receiving.specs.declared.Ear.{Ear}
 use Rattle.rules_receiving.specs.Sections.{Section, words_yet, section_unusable, section_odd, GoesOn, SectionIs}
 use Rattle.rules_receiving.proofs.Advance.{unusable_first, odd_first}
 use Rattle.rules_receiving.proofs.Stands.{Stands, resume, held_is}
-use Rattle.choose_recorded.specs.Recorded.{where_found}
 use Rattle.receive_parts.specs.declared.Piece.{Piece}
 use Rattle.receive_parts.specs.Pieces.{WholeHeard, PartHeld, Becomes}
 use Rattle.receive_parts.proofs.Whole.{whole_octets_lem}
@@ -96,7 +95,7 @@ whole_behind : (k : Kind) (p : Section) (m h w : ℕ) (fed : List ℕ) (e : Ear)
     → section_unusable p (hard_recording fed) ≡ None → section_odd p (hard_recording fed) ≡ None → GoesOn k p fed e hold out
     → WholeHeard p.rate (p.from + octet_chips p.rate * m) (p.first + octet_symbols p.rate * m) e
     (take h hold ++ piece) w x y
-    → SectionIs k p (fed ++ piece) (where_found x.bad) (where_found x.odd) x.ear hold'
+    → SectionIs k p (fed ++ piece) x.bad x.odd x.ear hold'
     (take m out ++ (y ++ drop (m + w) out))
 whole_behind k p m h w fed e hold out piece x hold' y size part long room even u o g heard =
     let c = cut k p m h fed e hold out size part u o g in
@@ -107,7 +106,7 @@ whole_behind k p m h w fed e hold out piece x hold' y size part long room even u
     let all : c.first ++ row ≡ fed ++ piece =
     ap (λ (l : List ℕ). c.first ++ (l ++ piece)) c.held_is
     ∙ sym (append_assoc c.first c.held piece) ∙ ap (λ (l : List ℕ). l ++ piece) c.both in
-    subst (λ (l : List ℕ). SectionIs k p l (where_found x.bad) (where_found x.odd) x.ear hold'
+    subst (λ (l : List ℕ). SectionIs k p l x.bad x.odd x.ear hold'
     (take m out ++ (y ++ drop (m + w) out))) all
     (whole_octets_lem k p m w c.first row e hold' out x y c.at row_long c.usable c.even c.stands even room
     heard)
@@ -129,7 +128,7 @@ held_behind : (k : Kind) (p : Section) (m h : ℕ) (fed : List ℕ) (e : Ear) (h
     → section_unusable p (hard_recording fed) ≡ None → section_odd p (hard_recording fed) ≡ None → GoesOn k p fed e hold out
     → take (h + length piece) hold' ≡ take h hold ++ piece
     → PartHeld p.rate (p.from + octet_chips p.rate * m) e h (take h hold ++ piece) x
-    → SectionIs k p (fed ++ piece) (where_found x.bad) (where_found x.odd) x.ear hold' out
+    → SectionIs k p (fed ++ piece) x.bad x.odd x.ear hold' out
 held_behind k p m h fed e hold out piece x hold' size part u o g keeps looked =
     let c = cut k p m h fed e hold out size (omega (arith, part)) u o g in
     let all : c.first ++ (c.held ++ piece) ≡ fed ++ piece =
@@ -137,7 +136,7 @@ held_behind k p m h fed e hold out piece x hold' size part u o g keeps looked =
     let old : fed ≡ c.first ++ c.held = sym c.both in
     let row : take h hold ++ piece ≡ c.held ++ piece = ap (λ (l : List ℕ). l ++ piece) c.held_is in
     let long : h ≡ length c.held = sym c.held_long in
-    subst (λ (l : List ℕ). SectionIs k p l (where_found x.bad) (where_found x.odd) x.ear hold' out) all
+    subst (λ (l : List ℕ). SectionIs k p l x.bad x.odd x.ear hold' out) all
     (part_held k p m c.first c.held piece e hold' out x c.at (omega (arith, part, long)) c.usable
     (subst (λ (l : List ℕ). section_odd p (hard_recording l) ≡ None) old o) c.stands
     (λ one. g.last_is one ∙ ap (λ (l : List ℕ). last_heard One p.phase (words_yet p (hard_recording l))) old)

@@ -22,8 +22,6 @@ use Rattle.rules_receiving.specs.Yet.{whole_symbols}
 use Rattle.rules_receiving.specs.Sections.{Section, words_yet, section_unusable, section_odd, GoesOn, SectionIs}
 use Rattle.rules_receiving.proofs.Advance.{next_words, unusable_next, words_next, odd_next, symbols_whole}
 use Rattle.rules_receiving.proofs.Stands.{Stands, stands_goes, stands_ear, stands_longer}
-use Rattle.choose_recorded.specs.declared.Place.TheVariants.{Nothing}
-use Rattle.choose_recorded.specs.Recorded.{where_found}
 use Rattle.receive_parts.specs.declared.Piece.{Piece}
 use Rattle.receive_parts.proofs.Whole.{nothing_found}
 use Rattle.receive_parts.specs.Pieces.{new_words, PartHeld}
@@ -125,13 +123,13 @@ module _
       less : (a b c : ℕ) → a + b - (a + c) ≡ b - c
       less a b c = omega arith
 
-  part_bad : where_found x.bad ≡ section_unusable p (hard_recording (first ++ row))
+  part_bad : x.bad ≡ section_unusable p (hard_recording (first ++ row))
   part_bad =
       looked.bad_is
       ∙ ap (λ (j : ℕ). first_unusable j behind) (sym octets_end)
       ∙ sym (ap (section_unusable p) by_octets ∙ unusable_next p octets behind (omega (arith, octets_end)) usable)
 
-  part_odd : x.bad ≡ Nothing → where_found x.odd ≡ section_odd p (hard_recording (first ++ row))
+  part_odd : x.bad ≡ None → x.odd ≡ section_odd p (hard_recording (first ++ row))
   part_odd n =
       looked.odd_is n
       ∙ odd_phase q e.last p.phase _ (words_yet p old) (new_words q h row) last
@@ -140,7 +138,7 @@ module _
       ∙ ap₂ {C = Option ℕ} (λ j ws. odd_growth q j (growths_of q (last_heard q p.phase (words_yet p old)) ws)) place
       next_is)
 
-  part_goes : x.bad ≡ Nothing → x.odd ≡ Nothing → GoesOn k p (first ++ row) x.ear hold out
+  part_goes : x.bad ≡ None → x.odd ≡ None → GoesOn k p (first ++ row) x.ear hold out
   part_goes n f =
       stands_goes k p m (h + length piece) (first ++ row) x.ear hold out all_long small
       (stands_ear x.ear
@@ -154,7 +152,7 @@ module _
       ∙ ap (last_heard One p.phase)
       (sym (ap (words_yet p) by_piece ∙ words_next p old new (omega (arith, old_long)))))
 
-  pub part_held : SectionIs k p (first ++ row) (where_found x.bad) (where_found x.odd) x.ear hold out
+  pub part_held : SectionIs k p (first ++ row) x.bad x.odd x.ear hold out
   part_held = record {
     bad_is = part_bad;
     odd_is = λ n. part_odd (nothing_found x.bad n);

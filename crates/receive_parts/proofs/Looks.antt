@@ -26,8 +26,7 @@ use Rattle.rules_bits.specs.Growths.{growths_of, last_heard}
 use Rattle.rules_reading.specs.Reading.{first_unusable, first_odd, odd_growth, decided_words}
 use Rattle.rules_reading.proofs.Places.{decided_words_length}
 use Rattle.rules_receiving.specs.declared.Ear.{Ear}
-use Rattle.choose_recorded.specs.declared.Place.TheVariants.{Nothing, At}
-use Rattle.choose_recorded.specs.Recorded.{where_found, AllUsable, DecidedAt}
+use Rattle.choose_recorded.specs.Recorded.{AllUsable, DecidedAt}
 use Rattle.choose_recorded.proofs.Search.{usable_part}
 use Rattle.hear_parts.proofs.Parts.{decided_row, words_below}
 use Rattle.receive_parts.specs.declared.Piece.{Piece}
@@ -151,7 +150,7 @@ chips_most Eleven = omega arith
 
 pub held_bad : (r : Rate) (at : ℕ) (e : Ear) (h : ℕ) (row : List ℕ) (q : ℕ)
     → Some q ≡ first_unusable at (hard_recording row) → q < 1000000 → e.last < 4
-    → PartHeld r at e h row (record { ear = e; bad = At q; odd = Nothing })
+    → PartHeld r at e h row (record { ear = e; bad = Some q; odd = None })
 held_bad r at e h row q i b l = record {
   bad_is = i;
   odd_is = λ z. found_place q z;
@@ -170,7 +169,7 @@ pub held_one : (r : Rate) (at : ℕ) (e : Ear) (h : ℕ) (row : List ℕ) (x : G
     → PartHeld r at e h row
     (record {
       ear = record { lead = e.lead; symbol = e.symbol; past = e.past; phase = e.phase; last = x.last };
-      bad = Nothing;
+      bad = None;
       odd = x.odd;
     })
 held_one r at e h row x i u l =
@@ -197,10 +196,10 @@ none_odd Eleven at gs h = refl
 
 pub held_other : (r : Rate) (at : ℕ) (e : Ear) (h : ℕ) (row : List ℕ) (x : Piece) → octet_chips r < 88
     → first_unusable at (hard_recording row) ≡ None → e.last < 4
-    → (x.ear ≡ e) × (x.bad ≡ Nothing) × (x.odd ≡ Nothing) → PartHeld r at e h row x
+    → (x.ear ≡ e) × (x.bad ≡ None) × (x.odd ≡ None) → PartHeld r at e h row x
 held_other r at e h row x b u l s = record {
-  bad_is = ap where_found s.1 ∙ sym u;
-  odd_is = λ z. ap where_found s.2 ∙ none_odd r _ _ b;
+  bad_is = ap s.1 ∙ sym u;
+  odd_is = λ z. ap s.2 ∙ none_odd r _ _ b;
   past = ap (λ (f : Ear). f.past) s.0;
   phase = ap (λ (f : Ear). f.phase) s.0;
   lead = ap (λ (f : Ear). f.lead) s.0;

@@ -4,7 +4,7 @@
 --     row_none                       a row with no octet above 4 has no unusable chip
 --     row_unusable, row_usable       the search through a whole row; where it finds nothing all chips are usable
 --     chips_few, symbols_few         whole octets of a frame have few chips and symbols
---     found_place                    a place that is found is not Nothing
+--     found_place                    a place that is found is not None
 --     usable_heard, unusable_heard   whole octets heard, or not for an unusable chip
 -- Assumes nothing.
 use mathlib.Core.Path.{◌≡◌, refl, sym, ap, ◌∙◌}
@@ -31,9 +31,7 @@ use Rattle.rules_reading.specs.Leads.{lead_at}
 use Rattle.rules_reading.proofs.First.{no_place, unusable_first, odd_first}
 use Rattle.rules_reading.proofs.Places.{decided_words_length}
 use Rattle.rules_receiving.specs.declared.Ear.{Ear}
-use Rattle.choose_recorded.specs.declared.Place.{Place}
-use Rattle.choose_recorded.specs.declared.Place.TheVariants.{Nothing, At}
-use Rattle.choose_recorded.specs.Recorded.{where_found, AllUsable}
+use Rattle.choose_recorded.specs.Recorded.{AllUsable}
 use Rattle.choose_recorded.proofs.Search.{none_usable}
 use Rattle.hear_parts.specs.declared.Part.{Part}
 use Rattle.hear_parts.specs.Hearing.{PartHeard}
@@ -75,23 +73,23 @@ odd_shift Five d at gs = refl
 odd_shift Eleven d at gs = refl
 
 -- what is found in a row of a frame is a place of the frame
-pub unusable_moved : (at : ℕ) (f : Place) (cs : List Taken) → where_found f ≡ first_unusable 0 cs
+pub unusable_moved : (at : ℕ) (f : Option ℕ) (cs : List Taken) → f ≡ first_unusable 0 cs
     → at + length cs ≤ 1000000 → MovedBelow at f
-unusable_moved at Nothing cs e h = tt
-unusable_moved at (At p) cs e h =
+unusable_moved at None cs e h = tt
+unusable_moved at (Some p) cs e h =
     let f = unusable_first 0 cs p (sym e) in omega (arith, f.place_is, f.inside)
 
-pub odd_moved : (r : Rate) (at p m : ℕ) (f : Place) (cs : List Taken)
-    → where_found f ≡ odd_growth r 0 (growths_of r p (decided_words r m cs))
+pub odd_moved : (r : Rate) (at p m : ℕ) (f : Option ℕ) (cs : List Taken)
+    → f ≡ odd_growth r 0 (growths_of r p (decided_words r m cs))
     → at + symbol_chips r * m ≤ 1000000 → MovedBelow at f
-odd_moved r at p m Nothing cs e h = tt
-odd_moved One at p m (At q) cs e h =
+odd_moved r at p m None cs e h = tt
+odd_moved One at p m (Some q) cs e h =
     let gs = growths_of One p (decided_words One m cs) in
     let long : length gs ≡ m = growths_of_length One p (decided_words One m cs) ∙ decided_words_length One m cs in
     let f = odd_first 0 gs q (sym e) in omega (arith, f.place_is, f.inside)
-odd_moved Two at p m (At q) cs e h = absurd (no_place {p = q} e refl)
-odd_moved Five at p m (At q) cs e h = absurd (no_place {p = q} e refl)
-odd_moved Eleven at p m (At q) cs e h = absurd (no_place {p = q} e refl)
+odd_moved Two at p m (Some q) cs e h = absurd (no_place {p = q} e refl)
+odd_moved Five at p m (Some q) cs e h = absurd (no_place {p = q} e refl)
+odd_moved Eleven at p m (Some q) cs e h = absurd (no_place {p = q} e refl)
 
 -- ---- a row searched
 
@@ -99,9 +97,9 @@ moved_none : (at : ℕ) (o : Option ℕ) → moved at o ≡ None → o ≡ None
 moved_none at None e = refl
 moved_none at (Some p) e = absurd (no_place {p = at + p} e refl)
 
-pub row_unusable : (at : ℕ) (row : List ℕ) (f g : Place) (n : ℕ) → n ≡ length row
-    → where_found f ≡ first_unusable 0 (take n (hard_recording row)) → where_found g ≡ moved at (where_found f)
-    → where_found g ≡ first_unusable at (hard_recording row)
+pub row_unusable : (at : ℕ) (row : List ℕ) (f g : Option ℕ) (n : ℕ) → n ≡ length row
+    → f ≡ first_unusable 0 (take n (hard_recording row)) → g ≡ moved at f
+    → g ≡ first_unusable at (hard_recording row)
 row_unusable at row f g n s e i =
     let all : take n (hard_recording row) ≡ hard_recording row =
     take_all n (hard_recording row) (omega (arith, length_hard row)) in
@@ -138,10 +136,10 @@ pub chips_few : (r : Rate) (at w n : ℕ) → n ≡ octet_chips r * w → at + n
     → at + symbol_chips r * (8 * w / symbol_bits r) ≤ 1000000
 chips_few r at w n e h = rw (part_symbols r w, part_chips r w) (omega arith)
 
-pub usable_heard : (r : Rate) (at symbol : ℕ) (e : Ear) (row : List ℕ) (w : ℕ) (p : Part) (odd : Place) (out : List ℕ)
+pub usable_heard : (r : Rate) (at symbol : ℕ) (e : Ear) (row : List ℕ) (w : ℕ) (p : Part) (odd : Option ℕ) (out : List ℕ)
     → PartHeard r 0 w (hard_recording row) (record { past = e.past; phase = e.phase }) symbol
     (lead_at e.lead e.symbol) p out
-    → first_unusable at (hard_recording row) ≡ None → where_found odd ≡ moved at (where_found p.heard.odd)
+    → first_unusable at (hard_recording row) ≡ None → odd ≡ moved at p.heard.odd
     → PlaceBelow odd
     → WholeHeard r at symbol e row w
     (record {
@@ -152,7 +150,7 @@ pub usable_heard : (r : Rate) (at symbol : ℕ) (e : Ear) (row : List ℕ) (w : 
         phase = p.heard.line.phase;
         last = p.heard.line.phase;
       };
-      bad = Nothing;
+      bad = None;
       odd = odd;
     })
     out
@@ -172,12 +170,12 @@ usable_heard r at symbol e row w p odd out x u i b = record {
   odd_few = b;
 }
 
-pub found_place : {A : Type 0} (q : ℕ) → At q ≡ Nothing → A
-found_place q z = absurd (no_place {p = q} (ap where_found z) refl)
+pub found_place : {A : Type 0} (q : ℕ) → Some q ≡ None → A
+found_place q z = absurd (no_place {p = q} (ap z) refl)
 
 pub unusable_heard : (r : Rate) (at symbol : ℕ) (e : Ear) (row : List ℕ) (w q : ℕ) (out : List ℕ)
     → Some q ≡ first_unusable at (hard_recording row) → q < 1000000 → e.phase < 4 → e.last < 4
-    → WholeHeard r at symbol e row w (record { ear = e; bad = At q; odd = Nothing }) out
+    → WholeHeard r at symbol e row w (record { ear = e; bad = Some q; odd = None }) out
 unusable_heard r at symbol e row w q out i b s l = record {
   bad_is = i;
   odd_is = λ z. found_place q z;

@@ -24,15 +24,12 @@ use Rattle.rules_receiving.specs.Yet.{whole_symbols}
 use Rattle.rules_receiving.specs.Sections.{Section, words_yet, section_unusable, section_odd, GoesOn, SectionIs}
 use Rattle.rules_receiving.proofs.Advance.{next_words, unusable_next, odd_next, symbols_whole, words_yet_lem}
 use Rattle.rules_receiving.proofs.Stands.{Stands, stands_goes, stands_more}
-use Rattle.choose_recorded.specs.declared.Place.{Place}
-use Rattle.choose_recorded.specs.declared.Place.TheVariants.{Nothing, At}
-use Rattle.choose_recorded.specs.Recorded.{where_found}
 use Rattle.receive_parts.specs.declared.Piece.{Piece}
 use Rattle.receive_parts.specs.Pieces.{row_words, WholeHeard}
 
-pub nothing_found : (o : Place) → where_found o ≡ None → o ≡ Nothing
-nothing_found Nothing e = refl
-nothing_found (At place) e = absurd (let z : ◌≡◌ {A = ℕ} 0 1 = cc in omega arith)
+pub nothing_found : (o : Option ℕ) → o ≡ None → o ≡ None
+nothing_found None e = refl
+nothing_found (Some place) e = absurd (let z : ◌≡◌ {A = ℕ} 0 1 = cc in omega arith)
 
 some_chips : (r : Rate) → 0 < octet_chips r
 some_chips One = omega arith
@@ -106,13 +103,13 @@ module _
       less Five = omega arith
       less Eleven = omega arith
 
-  bad_is : where_found x.bad ≡ section_unusable p (hard_recording (fed ++ row))
+  bad_is : x.bad ≡ section_unusable p (hard_recording (fed ++ row))
   bad_is =
       heard.bad_is
       ∙ ap (λ (j : ℕ). first_unusable j more) (sym at_end)
       ∙ sym (ap (section_unusable p) split ∙ unusable_next p rec more whole usable)
 
-  odd_is : x.bad ≡ Nothing → where_found x.odd ≡ section_odd p (hard_recording (fed ++ row))
+  odd_is : x.bad ≡ None → x.odd ≡ section_odd p (hard_recording (fed ++ row))
   odd_is n =
       heard.odd_is n
       ∙ sym (ap (section_odd p) split
@@ -133,12 +130,12 @@ module _
           ap (λ (j : ℕ). p.from + symbol_chips r * j) (symbols_whole p m 0 rec (omega (arith, at_end)))
           ∙ ap (λ (j : ℕ). p.from + j) (none_more r)
 
-  more_octets : x.bad ≡ Nothing → Stands k p (m + w) (rec ++ more) x.ear (take m out ++ (y ++ drop (m + w) out))
+  more_octets : x.bad ≡ None → Stands k p (m + w) (rec ++ more) x.ear (take m out ++ (y ++ drop (m + w) out))
   more_octets n =
       stands_more k p m rec more e out at_end s parity w x.ear y room (heard.past n) (heard.phase n)
       (heard.least n) (heard.octets n)
 
-  goes : x.bad ≡ Nothing → GoesOn k p (fed ++ row) x.ear hold (take m out ++ (y ++ drop (m + w) out))
+  goes : x.bad ≡ None → GoesOn k p (fed ++ row) x.ear hold (take m out ++ (y ++ drop (m + w) out))
   goes n =
       let long : length (fed ++ row) ≡ p.from + octet_chips r * (m + w) =
       sym (length_hard (fed ++ row)) ∙ ap length split ∙ all_long in
@@ -151,7 +148,7 @@ module _
       (sym (ap (words_yet p) split ∙ words_yet_lem p (m + w) (rec ++ more) all_long))
       ∙ ap (λ (q : Rate). last_heard q p.phase (words_yet p (hard_recording (fed ++ row)))) one)
 
-  pub whole_octets_lem : SectionIs k p (fed ++ row) (where_found x.bad) (where_found x.odd) x.ear hold
+  pub whole_octets_lem : SectionIs k p (fed ++ row) x.bad x.odd x.ear hold
       (take m out ++ (y ++ drop (m + w) out))
   whole_octets_lem = record {
     bad_is = bad_is;

@@ -15,26 +15,23 @@ use Rattle.rules_reading.specs.Reading.{first_unusable, odd_growth, decided_word
 use Rattle.rules_reading.specs.Leads.{lead_at, decided_leads, least_from}
 use Rattle.rules_receiving.specs.declared.Ear.{Ear}
 use Rattle.rules_receiving.specs.Sections.{Section, section_unusable, section_odd, GoesOn, SectionIs}
-use Rattle.choose_recorded.specs.declared.Place.{Place}
-use Rattle.choose_recorded.specs.declared.Place.TheVariants.{Nothing, At}
-use Rattle.choose_recorded.specs.Recorded.{where_found}
 use Rattle.receive_parts.specs.declared.Piece.{Piece}
 use Rattle.receive_parts.specs.declared.Grown.{Grown}
 use Rattle.receive_parts.specs.declared.Taking.{Taking}
 
 -- a place, if there is one, is one of a frame
-abbrev pub PlaceBelow : Place → Type 0
-PlaceBelow Nothing = Unit {0}
-PlaceBelow (At place) = place < 1000000
+abbrev pub PlaceBelow : Option ℕ → Type 0
+PlaceBelow None = Unit {0}
+PlaceBelow (Some place) = place < 1000000
 
 -- a place found in a row whose first chip is chip `at` of the recording, as a place of the recording
 abbrev pub moved : ℕ → Option ℕ → Option ℕ
 moved at None = None
 moved at (Some place) = Some (at + place)
 
-abbrev pub MovedBelow : ℕ → Place → Type 0
-MovedBelow at Nothing = Unit {0}
-MovedBelow at (At place) = at + place < 1000000
+abbrev pub MovedBelow : ℕ → Option ℕ → Type 0
+MovedBelow at None = Unit {0}
+MovedBelow at (Some place) = at + place < 1000000
 
 -- none of the first k octets of a row is above a number
 abbrev pub NoneAbove : ℕ → List ℕ → ℕ → Type 0
@@ -48,15 +45,15 @@ row_words r w row = decided_words r (8 * w / symbol_bits r) (hard_recording row)
 -- `symbol` of the frame
 pub record WholeHeard (r : Rate) (at symbol : ℕ) (e : Ear) (row : List ℕ) (w : ℕ) (x : Piece) (out : List ℕ) : Type 0
   where
-    pub bad_is : where_found x.bad ≡ first_unusable at (hard_recording row)
-    pub odd_is : x.bad ≡ Nothing → where_found x.odd ≡ odd_growth r at (growths_of r e.phase (row_words r w row))
-    pub past : x.bad ≡ Nothing → past_of x.ear.past
+    pub bad_is : x.bad ≡ first_unusable at (hard_recording row)
+    pub odd_is : x.bad ≡ None → x.odd ≡ odd_growth r at (growths_of r e.phase (row_words r w row))
+    pub past : x.bad ≡ None → past_of x.ear.past
         ≡ take 8 (past_after (past_of e.past) (heard r symbol e.phase (row_words r w row)))
-    pub phase : x.bad ≡ Nothing → x.ear.phase ≡ last_heard r e.phase (row_words r w row)
-    pub last : x.bad ≡ Nothing → x.ear.last ≡ x.ear.phase
-    pub least : x.bad ≡ Nothing → lead_at x.ear.lead x.ear.symbol
+    pub phase : x.bad ≡ None → x.ear.phase ≡ last_heard r e.phase (row_words r w row)
+    pub last : x.bad ≡ None → x.ear.last ≡ x.ear.phase
+    pub least : x.bad ≡ None → lead_at x.ear.lead x.ear.symbol
         ≡ least_from symbol (lead_at e.lead e.symbol) (decided_leads r (8 * w / symbol_bits r) (hard_recording row))
-    pub octets : x.bad ≡ Nothing
+    pub octets : x.bad ≡ None
         → out ≡ octets_of w (descramble (past_of e.past) (heard r symbol e.phase (row_words r w row)))
     pub small : x.ear.phase < 4
     pub last_small : x.ear.last < 4
@@ -71,21 +68,21 @@ new_words r h row =
 
 -- they are looked at, at 1 Mbit/s; the symbol before them has phase `last`
 pub record Looked (at h : ℕ) (row : List ℕ) (last : ℕ) (x : Grown) : Type 0 where
-  pub odd_is : where_found x.odd ≡ odd_growth One (at + 11 * (h / 11)) (growths_of One last (new_words One h row))
-  pub last_is : x.odd ≡ Nothing → x.last ≡ last_heard One last (new_words One h row)
+  pub odd_is : x.odd ≡ odd_growth One (at + 11 * (h / 11)) (growths_of One last (new_words One h row))
+  pub last_is : x.odd ≡ None → x.last ≡ last_heard One last (new_words One h row)
   pub small : x.last < 4
   pub odd_few : PlaceBelow x.odd
 
 -- a part of an octet is held, of which h chips were held before
 pub record PartHeld (r : Rate) (at : ℕ) (e : Ear) (h : ℕ) (row : List ℕ) (x : Piece) : Type 0 where
-  pub bad_is : where_found x.bad ≡ first_unusable at (hard_recording row)
-  pub odd_is : x.bad ≡ Nothing → where_found x.odd
+  pub bad_is : x.bad ≡ first_unusable at (hard_recording row)
+  pub odd_is : x.bad ≡ None → x.odd
       ≡ odd_growth r (at + symbol_chips r * (h / symbol_chips r)) (growths_of r e.last (new_words r h row))
   pub past : x.ear.past ≡ e.past
   pub phase : x.ear.phase ≡ e.phase
   pub lead : x.ear.lead ≡ e.lead
   pub symbol : x.ear.symbol ≡ e.symbol
-  pub last_is : x.bad ≡ Nothing → x.odd ≡ Nothing → r ≡ One → x.ear.last ≡ last_heard One e.last (new_words r h row)
+  pub last_is : x.bad ≡ None → x.odd ≡ None → r ≡ One → x.ear.last ≡ last_heard One e.last (new_words r h row)
   pub last_small : x.ear.last < 4
   pub bad_few : PlaceBelow x.bad
   pub odd_few : PlaceBelow x.odd
@@ -111,7 +108,7 @@ Becomes r from first count e hold out piece x hold' out' =
     (k : Kind) (p : Section) (fed : List ℕ) → p.rate ≡ r → p.from ≡ from → p.first ≡ first → first % 2 ≡ 0
     → length fed ≡ count → section_unusable p (hard_recording fed) ≡ None → section_odd p (hard_recording fed) ≡ None
     → GoesOn k p fed e hold out
-    → SectionIs k p (fed ++ piece) (where_found x.bad) (where_found x.odd) x.ear hold' out'
+    → SectionIs k p (fed ++ piece) x.bad x.odd x.ear hold' out'
 
 -- some of the chips left are taken, at least one if there are any, none behind the part's n octets
 pub record Takes (r : Rate) (from first n count : ℕ) (e : Ear) (hold rest out : List ℕ) (t : Taking)

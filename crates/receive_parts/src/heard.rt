@@ -4,7 +4,6 @@ ghost use Rattle.std.specs.Prelude.{None};
 ghost use Rattle.rules_rates.specs.Rates.{octet_chips};
 ghost use Rattle.rules_chips.specs.Chips.{hard_recording};
 ghost use Rattle.rules_reading.specs.Reading.{first_unusable};
-ghost use Rattle.choose_recorded.specs.Recorded.{where_found};
 ghost use Rattle.receive_parts.specs.Pieces.{
   PlaceBelow,
   moved,
@@ -16,8 +15,7 @@ ghost use Rattle.receive_parts.specs.Pieces.{
 };
 
 use super::{Grown, Piece};
-use choose_recorded::Place;
-use choose_recorders::Recorder;
+use choose_recorders::Recording;
 use common_lines::Line;
 use hear_blocks::Hearing;
 use hear_parts::Part;
@@ -26,14 +24,14 @@ use rules_rates::Rate;
 use rules_receiving::Ear;
 
 // A place counted from a row's first chip, counted from the recording's.
-fn placed(found: Place, at: usize) -> Place
+fn placed(found: Option<usize>, at: usize) -> Option<usize>
     requires { MovedBelow at found }
-    ensures answer { where_found result ≡ moved at (where_found found) }
+    ensures answer { result ≡ moved at found }
     ensures few { PlaceBelow result }
 {
     match found {
-        Place::At(place) => Place::At(at + place),
-        Place::Nothing => Place::Nothing,
+        Some(place) => Some(at + place),
+        None => None,
     }
 }
 
@@ -58,20 +56,16 @@ fn largest(row: &[u8]) -> u8
 }
 
 // The first unusable chip of a row whose first chip is chip `at` of the recording.
-pub fn unusable_from(row: &[u8], at: usize) -> Place
+pub fn unusable_from(row: &[u8], at: usize) -> Option<usize>
     requires { at + length row.now ≤ 1000000 }
-    ensures answer { where_found result ≡ first_unusable at (hard_recording row.now) }
+    ensures answer { result ≡ first_unusable at (hard_recording row.now) }
     ensures few { PlaceBelow result }
 {
     if largest(row) < 5 {
-        return Place::Nothing;
+        return None;
     }
-    let byte = [0i8; 1];
-    let bytes = &byte[0..0];
-    let sample = [0.0f32; 1];
-    let none = &sample[0..0];
     let end = row.len();
-    let found = choose_recorders::first_unusable(Recorder::Hard, row, bytes, none, none, 0, end);
+    let found = Recording::Hard(row).first_unusable(0, end);
     placed(found, at)
 }
 
@@ -82,10 +76,6 @@ fn hear_usable(rate: Rate, at: usize, symbol: usize, ear: Ear, row: &[u8], out: 
     ensures answer { WholeHeard rate at symbol ear row.now (length out.old) result
         out.new }
 {
-    let byte = [0i8; 1];
-    let bytes = &byte[0..0];
-    let sample = [0.0f32; 1];
-    let none = &sample[0..0];
     let past = ear.past;
     let phase = ear.phase;
     let line = Line { past, phase };
@@ -96,11 +86,7 @@ fn hear_usable(rate: Rate, at: usize, symbol: usize, ear: Ear, row: &[u8], out: 
         symbol: number,
     };
     let part = hear_parts::hear_octets(
-        Recorder::Hard,
-        row,
-        bytes,
-        none,
-        none,
+        Recording::Hard(row),
         rate,
         0,
         symbol,
@@ -113,7 +99,7 @@ fn hear_usable(rate: Rate, at: usize, symbol: usize, ear: Ear, row: &[u8], out: 
     let low = part.least;
     let found = heard.odd;
     let odd = placed(found, at);
-    let bad = Place::Nothing;
+    let bad = None;
     let ear = Ear {
         lead: low.lead,
         symbol: low.symbol,
@@ -141,12 +127,12 @@ pub fn hear_whole(
 {
     let found = unusable_from(row, at);
     match found {
-        Place::At(place) => {
-            let bad = Place::At(place);
-            let odd = Place::Nothing;
+        Some(place) => {
+            let bad = Some(place);
+            let odd = None;
             Piece { ear, bad, odd }
         }
-        Place::Nothing => hear_usable(rate, at, symbol, ear, row, out),
+        None => hear_usable(rate, at, symbol, ear, row, out),
     }
 }
 
@@ -157,21 +143,11 @@ fn look(row: &[u8], at: usize, h: usize, last: u8) -> Grown
         × (first_unusable at (hard_recording row.now) ≡ None) }
     ensures answer { Looked at h row.now last result }
 {
-    let byte = [0i8; 1];
-    let bytes = &byte[0..0];
-    let sample = [0.0f32; 1];
-    let none = &sample[0..0];
     let mut numbers = [0u8; 64];
     let mut leads = [0u32; 64];
     let q = h / 11;
     let m = row.len() / 11 - q;
-    choose_recorders::decide(
-        Recorder::Hard,
-        row,
-        bytes,
-        none,
-        none,
-        Rate::One,
+    Recording::Hard(row).decide(Rate::One,
         11 * q,
         m,
         &mut numbers,
@@ -182,22 +158,22 @@ fn look(row: &[u8], at: usize, h: usize, last: u8) -> Grown
     while l < m {
         let n = numbers[l];
         if (n + p) % 2 == 1 {
-            let odd = Place::At(at + 11 * (q + l));
+            let odd = Some(at + 11 * (q + l));
             return Grown { odd, last: n };
         }
         p = n;
         l += 1;
     }
-    let odd = Place::Nothing;
+    let odd = None;
     Grown { odd, last: p }
 }
 
 // No symbol is grown by 1 or 3: at the other rates any growth is allowed.
 fn nothing_found(ear: Ear) -> Piece
-    ensures answer { (result.ear ≡ ear) × (result.bad ≡ Place.Nothing) × (result.odd ≡ Place.Nothing) }
+    ensures answer { (result.ear ≡ ear) × (result.bad ≡ None) × (result.odd ≡ None) }
 {
-    let bad = Place::Nothing;
-    let odd = Place::Nothing;
+    let bad = None;
+    let odd = None;
     Piece { ear, bad, odd }
 }
 
@@ -208,17 +184,17 @@ pub fn hold_part(rate: Rate, at: usize, ear: Ear, h: usize, row: &[u8]) -> Piece
 {
     let found = unusable_from(row, at);
     match found {
-        Place::At(place) => {
-            let bad = Place::At(place);
-            let odd = Place::Nothing;
+        Some(place) => {
+            let bad = Some(place);
+            let odd = None;
             Piece { ear, bad, odd }
         }
-        Place::Nothing => match rate {
+        None => match rate {
             Rate::One => {
                 let looked = look(row, at, h, ear.last);
                 let mut more = ear;
                 more.last = looked.last;
-                let bad = Place::Nothing;
+                let bad = None;
                 let odd = looked.odd;
                 Piece {
                     ear: more,

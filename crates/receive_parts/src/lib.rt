@@ -2,7 +2,6 @@
 // are held. Preamble, header and payload alike.
 #![tactic(auto)]
 
-use choose_recorded::Place;
 use rules_receiving::Ear;
 
 pub mod heard;
@@ -12,8 +11,8 @@ pub mod taken;
 #[derive(Clone, Copy)]
 pub struct Piece {
     pub ear: Ear,
-    pub bad: Place,
-    pub odd: Place,
+    pub bad: Option<usize>,
+    pub odd: Option<usize>,
 }
 
 // A piece, and how many chips of a batch it took.
@@ -26,6 +25,6 @@ pub struct Taking {
 // Symbols looked at: the first one grown by 1 or 3, and the phase of the last.
 #[derive(Clone, Copy)]
 pub struct Grown {
-    pub odd: Place,
+    pub odd: Option<usize>,
     pub last: u8,
 }

@@ -5,7 +5,6 @@ ghost use Rattle.rules_rates.specs.Rates.{octet_chips};
 ghost use Rattle.receive_parts.specs.Pieces.{WholeCount, Joins, Takes};
 
 use super::{Piece, Taking, heard};
-use choose_recorded::Place;
 use rules_rates::Rate;
 use rules_receiving::Ear;
 

@@ -23,9 +23,7 @@ use Rattle.rules_reading.specs.Places.{word_from}
 use Rattle.rules_reading.specs.Reading.{or_else, first_odd, decided_words}
 use Rattle.rules_reading.proofs.Passes.{odd_growth_append}
 use Rattle.rules_why.specs.Why.{growth_at}
-use Rattle.choose_recorded.specs.declared.Place.{Place}
-use Rattle.choose_recorded.specs.declared.Place.TheVariants.{Nothing, At}
-use Rattle.choose_recorded.specs.Recorded.{where_found, AllUsable, symbol_at, DecidedAt}
+use Rattle.choose_recorded.specs.Recorded.{AllUsable, symbol_at, DecidedAt}
 use Rattle.choose_recorded.proofs.Search.{usable_part}
 use Rattle.hear_codes.specs.Codes.{AreWords}
 use Rattle.hear_parts.specs.Hearing.{part_words}
@@ -93,7 +91,7 @@ module _ (rec : List Taken) (at p count left : ℕ) (g : Grown) (within : count 
 
   -- what is found in the block, or behind it
   block_then : first_odd at (growths_of One p (part_words One at left rec))
-      ≡ or_else (where_found g.odd) (λ q. Some q) (first_odd (at + 88 * count) (growths_of One g.last behind))
+      ≡ or_else g.odd (λ q. Some q) (first_odd (at + 88 * count) (growths_of One g.last behind))
   block_then =
       let size : length (growths_of One p block) ≡ 8 * count =
       growths_of_length One p block ∙ part_length One at count rec in
@@ -132,23 +130,23 @@ module _ (rec : List Taken) (from n phase : ℕ) where
     later =
         first_odd (place + 88 * count) (growths_of One g.last (part_words One (place + 88 * count) (left - count) rec))
 
-    found : (o : Place) → g.odd ≡ o
-        → first_odd from (growths_of One phase (part_words One from n rec)) ≡ or_else (where_found o) (λ q. Some q) later
+    found : (o : Option ℕ) → g.odd ≡ o
+        → first_odd from (growths_of One phase (part_words One from n rec)) ≡ or_else o (λ q. Some q) later
     found o e =
         s.same ∙ block_then rec place last count left g within x
-        ∙ ap (λ (p : Place). or_else (where_found p) (λ q. Some q) later) e
+        ∙ ap (λ (p : Option ℕ). or_else p (λ q. Some q) later) e
 
-    pub sought_here : (q : ℕ) → g.odd ≡ At q
+    pub sought_here : (q : ℕ) → g.odd ≡ Some q
         → Some q ≡ first_odd from (growths_of One phase (part_words One from n rec))
-    sought_here q e = sym (found (At q) e)
+    sought_here q e = sym (found (Some q) e)
 
-    pub sought_more : g.odd ≡ Nothing
+    pub sought_more : g.odd ≡ None
         → Sought rec from n phase (place + 88 * count) (left - count) g.last
     sought_more e = record {
       after = omega (arith, s.after);
       fits = omega (arith, s.fits);
       small = x.small;
-      same = found Nothing e;
+      same = found None e;
     }
 
   none_left : (place last : ℕ) → None ≡ first_odd place (growths_of One last (part_words One place 0 rec))

@@ -49,8 +49,7 @@ use Rattle.rules_reading.proofs.Places.{decided_words_length, payload_unusable_p
 use Rattle.rules_reading.proofs.Refusals.{FrontIf, front_refuses}
 use Rattle.rules_why.specs.declared.Reason.{Reason}
 use Rattle.rules_why.specs.Why.{growth_at, octets_said, reason, reason_of}
-use Rattle.choose_recorded.specs.declared.Place.{Place}
-use Rattle.choose_recorded.specs.Recorded.{where_found, AllUsable}
+use Rattle.choose_recorded.specs.Recorded.{AllUsable}
 use Rattle.choose_recorded.proofs.Search.{none_usable}
 use Rattle.hear_parts.specs.Hearing.{part_words}
 use Rattle.small_calls.specs.Why.{after_told}
@@ -131,13 +130,13 @@ module _ (k : Kind) (chips : List ℕ) (t : Told) where
             subst Usable z (payload_usable.each (q - front_chips k) (omega (arith, l, m)))
 
   -- ---- what is searched
-  pub unusable_is : {from to : ℕ} (f : Place) → from ≡ front_chips k → to ≡ all
-      → where_found f ≡ first_unusable from (take (to - from) (drop from rec)) → where_found f ≡ found_unusable k t rec
+  pub unusable_is : {from to : ℕ} (f : Option ℕ) → from ≡ front_chips k → to ≡ all
+      → f ≡ first_unusable from (take (to - from) (drop from rec)) → f ≡ found_unusable k t rec
   unusable_is f a b c = c ∙ ap₂ (λ x y. first_unusable x (take (y - x) (drop x rec))) a b
 
-  pub odd_is : {from phase : ℕ} (o : Place) → from ≡ front_chips k → phase ≡ payload_phase k rec
-      → where_found o ≡ odd_growth t.rate from (growths_of t.rate phase (part_words t.rate from t.n rec))
-      → where_found o ≡ payload_odd k t.rate t.n rec
+  pub odd_is : {from phase : ℕ} (o : Option ℕ) → from ≡ front_chips k → phase ≡ payload_phase k rec
+      → o ≡ odd_growth t.rate from (growths_of t.rate phase (part_words t.rate from t.n rec))
+      → o ≡ payload_odd k t.rate t.n rec
   unfolding payload_odd payload_words
   odd_is o a b c =
       c ∙ ap₂ (λ x y. odd_growth t.rate x (growths_of t.rate y (part_words t.rate x t.n rec))) a b

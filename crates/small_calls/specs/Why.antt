@@ -34,7 +34,6 @@ use Rattle.rules_calls.specs.declared.Refusal.TheVariants.{
 use Rattle.rules_calls.specs.declared.Front.{Front}
 use Rattle.rules_calls.specs.Answers.{refusal_number, refusal_place}
 use Rattle.rules_reading.specs.Reading.{first_odd, whole_of, after_front}
-use Rattle.choose_recorded.specs.Recorded.{where_found}
 use Rattle.rules_why.specs.declared.Reason.{Reason}
 use Rattle.rules_why.specs.Why.{service_left, length_for, reason, reason_of}
 use Rattle.small_calls.specs.declared.odd.Grown.{Grown}
@@ -82,6 +81,6 @@ after_told kind k chips room f =
 -- words at 1 Mbit/s from a place, the first of them grown from a phase: the first that is grown by 1 or 3, and the
 -- phase of the last
 pub record GrownOver (at phase : ℕ) (words : List ℕ) (g : Grown) : Type 0 where
-  pub odd : where_found g.odd ≡ first_odd at (growths_of One phase words)
+  pub odd : g.odd ≡ first_odd at (growths_of One phase words)
   pub last : g.last ≡ last_heard One phase words
   pub small : g.last < 4

@@ -6,7 +6,7 @@ ghost use Rattle.rules_frame.specs.Frame.{kind_of};
 ghost use Rattle.rules_coming.specs.Coming.{front_reading, coming_of};
 ghost use Rattle.promises.specs.Calls.{Handed};
 
-use choose_recorders::Recorder;
+use choose_recorders::Recording;
 use rules_calls::{Front, Reader, Refusal, Told};
 use rules_coming::Coming;
 use rules_frame::Kind;
@@ -59,11 +59,7 @@ pub fn read_front(kind: u64, chips: &[u8]) -> Coming
     if !common_kinds::is_kind(kind) {
         return refused(k, Refusal::NoKind);
     }
-    let byte = [0i8; 1];
-    let bytes = &byte[0..0];
-    let sample = [0.0f32; 1];
-    let row = &sample[0..0];
-    let opening = read_fronts::read_whole(Reader::Ours, Recorder::Hard, chips, bytes, row, row, k);
+    let opening = read_fronts::read_whole(Reader::Ours, Recording::Hard(chips), k);
     let front = opening.front;
     match front {
         Front::Refused(e) => refused(k, e),

@@ -6,18 +6,17 @@ ghost use Rattle.rules_chips.specs.Chips.{hard_recording};
 ghost use Rattle.rules_bits.specs.Growths.{growths_of};
 ghost use Rattle.rules_reading.specs.Reading.{first_odd, odd_growth};
 ghost use Rattle.rules_why.specs.Why.{growth_at};
-ghost use Rattle.choose_recorded.specs.Recorded.{where_found, AllUsable, DecidedAt};
+ghost use Rattle.choose_recorded.specs.Recorded.{AllUsable, DecidedAt};
 ghost use Rattle.hear_parts.specs.Hearing.{part_words};
 ghost use Rattle.small_calls.specs.Why.{GrownOver};
 
-use choose_recorded::Place;
-use choose_recorders::Recorder;
+use choose_recorders::Recording;
 use rules_rates::Rate;
 
 // Symbols at 1 Mbit/s: the place of the first that is grown by 1 or 3, and the phase of the last.
 #[derive(Clone, Copy)]
 pub struct Grown {
-    pub odd: Place,
+    pub odd: Option<usize>,
     pub last: u8,
 }
 
@@ -27,18 +26,8 @@ fn decide(chips: &[u8], place: usize, m: usize, numbers: &mut [u8; 64])
         × AllUsable (hard_recording chips.now) place (11 * m) × (length numbers.old ≡ 64) }
     ensures numbers { DecidedAt Rate.One (hard_recording chips.now) place m numbers.new }
 {
-    let byte = [0i8; 1];
-    let bytes = &byte[0..0];
-    let sample = [0.0f32; 1];
-    let row = &sample[0..0];
     let mut leads = [0u32; 64];
-    choose_recorders::decide(
-        Recorder::Hard,
-        chips,
-        bytes,
-        row,
-        row,
-        Rate::One,
+    Recording::Hard(chips).decide(Rate::One,
         place,
         m,
         numbers,
@@ -82,10 +71,10 @@ fn block(chips: &[u8], place: usize, count: usize, before: u8) -> Grown
 
 // 10 over octets at 1 Mbit/s that start at a place, block after block: the first symbol that is grown by 1 or 3, the
 // first of them from a phase.
-fn first_odd(chips: &[u8], from: usize, n: usize, phase: u8) -> Place
+fn first_odd(chips: &[u8], from: usize, n: usize, phase: u8) -> Option<usize>
     requires { (from + 88 * n ≤ length chips.now) × (phase < 4)
         × AllUsable (hard_recording chips.now) from (88 * n) }
-    ensures answer { where_found result ≡ first_odd from (growths_of Rate.One phase
+    ensures answer { result ≡ first_odd from (growths_of Rate.One phase
         (part_words Rate.One from n (hard_recording chips.now))) }
 {
     let mut place = from;
@@ -95,27 +84,27 @@ fn first_odd(chips: &[u8], from: usize, n: usize, phase: u8) -> Place
         let count = at_most_8(left);
         let grown = block(chips, place, count, before);
         let odd = grown.odd;
-        if let Place::At(at) = odd {
-            return Place::At(at);
+        if let Some(at) = odd {
+            return Some(at);
         }
         before = grown.last;
         place += 88 * count;
         left -= count;
     }
-    Place::Nothing
+    None
 }
 
 // 10 over a payload: symbols of the other rates may grow by anything, and none is looked at.
-pub fn odd_in_payload(chips: &[u8], from: usize, rate: Rate, n: usize, phase: u8) -> Place
+pub fn odd_in_payload(chips: &[u8], from: usize, rate: Rate, n: usize, phase: u8) -> Option<usize>
     requires { (from + octet_chips rate * n ≤ length chips.now) × (phase < 4)
         × AllUsable (hard_recording chips.now) from (octet_chips rate * n) }
-    ensures answer { where_found result ≡ odd_growth rate from (growths_of rate phase
+    ensures answer { result ≡ odd_growth rate from (growths_of rate phase
         (part_words rate from n (hard_recording chips.now))) }
 {
     match rate {
         Rate::One => first_odd(chips, from, n, phase),
-        Rate::Two => Place::Nothing,
-        Rate::Five => Place::Nothing,
-        Rate::Eleven => Place::Nothing,
+        Rate::Two => None,
+        Rate::Five => None,
+        Rate::Eleven => None,
     }
 }

@@ -12,8 +12,7 @@ ghost use Rattle.choose_recorded.specs.Recorded.{AllUsable};
 ghost use Rattle.read_fronts.specs.Openings.{FrontKnown, Looks};
 ghost use Rattle.small_calls.specs.Why.{header_shown, after_told};
 
-use choose_recorded::Place;
-use choose_recorders::Recorder;
+use choose_recorders::Recording;
 use common_lines::Line;
 use hear_blocks::Hearing;
 use hear_parts::Part;
@@ -114,22 +113,18 @@ fn of_chips(kind: Kind, chips: &[u8], told: Told, phase: u8) -> Reason
     let length = told.length;
     let from = common_kinds::front_chips(kind);
     let all = common_kinds::frame_chips(kind, rate, n);
-    let byte = [0i8; 1];
-    let bytes = &byte[0..0];
-    let sample = [0.0f32; 1];
-    let row = &sample[0..0];
-    let bad = choose_recorders::first_unusable(Recorder::Hard, chips, bytes, row, row, from, all);
-    if let Place::At(place) = bad {
+    let bad = Recording::Hard(chips).first_unusable(from, all);
+    if let Some(place) = bad {
         return refused(Refusal::Unusable { place, length }, 0, chips[place] as u64);
     }
     let odd = super::odd::odd_in_payload(chips, from, rate, n, phase);
     match odd {
-        Place::At(place) => refused(
+        Some(place) => refused(
             Refusal::OddGrowth { place, length },
             0,
             super::odd::growth_at(chips, place),
         ),
-        Place::Nothing => good(),
+        None => good(),
     }
 }
 
@@ -189,11 +184,7 @@ pub fn why(kind: u64, chips: &[u8], room: u64) -> Reason
         return refused(Refusal::NoKind, 0, kind);
     }
     let k = common_kinds::kind_of(kind);
-    let byte = [0i8; 1];
-    let bytes = &byte[0..0];
-    let sample = [0.0f32; 1];
-    let row = &sample[0..0];
-    let looked = read_fronts::look_at_front(Recorder::Hard, chips, bytes, row, row, k);
+    let looked = read_fronts::look_at_front(Recording::Hard(chips), k);
     match looked {
         Look::Shorter => refused(
             Refusal::ShorterThanFront,
@@ -206,7 +197,7 @@ pub fn why(kind: u64, chips: &[u8], room: u64) -> Reason
             chips[place] as u64,
         ),
         Look::Usable => {
-            let known = read_fronts::heard::hear_front(Recorder::Hard, chips, bytes, row, row, k);
+            let known = read_fronts::heard::hear_front(Recording::Hard(chips), k);
             of_front(k, chips, room, known)
         }
     }

@@ -12,28 +12,26 @@ use Rattle.rules_rates.specs.Rates.{symbol_chips}
 use Rattle.rules_chips.specs.Chips.{Taken, taken_counts, soft_recording}
 use Rattle.rules_symbols.specs.Choice.{decided}
 use Rattle.rules_reading.specs.Reading.{first_unusable}
-use Rattle.choose_recorded.specs.declared.Place.{Place}
-use Rattle.choose_recorded.specs.declared.Place.TheVariants.{Nothing, At}
-use Rattle.choose_recorded.specs.Recorded.{where_found, AllUsable, DecidedAt}
+use Rattle.choose_recorded.specs.Recorded.{AllUsable, DecidedAt}
 use Rattle.bench_leaves.specs.Leaves.{first_word}
 use Rattle.choose_recorded.proofs.Searched.{bad, good, usable}
 use Rattle.bench_leaves.proofs.first_word.Statement.{statement}
 use Rattle.bench_leaves.proofs.first_word.Tie as tie
 
-module _ (r : Rate) (rec : List Taken) (n : ℕ) (f : Place) (e : n ≡ symbol_chips r)
-    (g : where_found f ≡ first_unusable 0 (take (n - 0) (drop 0 rec))) where
-  of_symbol : where_found f ≡ first_unusable 0 (take (symbol_chips r - 0) (drop 0 rec))
+module _ (r : Rate) (rec : List Taken) (n : ℕ) (f : Option ℕ) (e : n ≡ symbol_chips r)
+    (g : f ≡ first_unusable 0 (take (n - 0) (drop 0 rec))) where
+  of_symbol : f ≡ first_unusable 0 (take (symbol_chips r - 0) (drop 0 rec))
   of_symbol = g ∙ ap (λ (m : ℕ). first_unusable 0 (take (m - 0) rec)) e
 
-  none : (place : ℕ) → f ≡ At place → 0 ≡ first_word r rec
+  none : (place : ℕ) → f ≡ Some place → 0 ≡ first_word r rec
   unfolding first_word
   none place h = bad rec (symbol_chips r) f of_symbol _ place h
 
-  clean : f ≡ Nothing → symbol_chips r ≤ length rec → AllUsable rec 0 (symbol_chips r * 1)
+  clean : f ≡ None → symbol_chips r ≤ length rec → AllUsable rec 0 (symbol_chips r * 1)
   clean h l = let k : symbol_chips r * 1 ≡ symbol_chips r = omega arith in
       rw k (usable rec (symbol_chips r) f of_symbol h l)
 
-  word : f ≡ Nothing → (ns : List ℕ) → DecidedAt r rec 0 1 ns → get_or ns 0 0 ≡ first_word r rec
+  word : f ≡ None → (ns : List ℕ) → DecidedAt r rec 0 1 ns → get_or ns 0 0 ≡ first_word r rec
   unfolding first_word
   word h ns d =
       let k : 0 + symbol_chips r * 0 ≡ 0 = omega arith in
@@ -41,27 +39,27 @@ module _ (r : Rate) (rec : List Taken) (n : ℕ) (f : Place) (e : n ≡ symbol_c
       ∙ ap (λ (m : ℕ). decided r (map taken_counts (take (symbol_chips r) (drop m rec)))) k
       ∙ good rec (symbol_chips r) f of_symbol _ h
 
-returns : tie.Need-returns-in-At
+returns : tie.Need-returns-in-Some
 returns c =
     none c.args.r (soft_recording c.args.i.now c.args.q.now) _ _ c.symbol_chips.ensures
-    c.first_unusable-bad.ensures _ c.in-At.is
+    c.first_unusable-bad.ensures _ c.in-Some.is
 
 decide_requires : tie.Need-decide-requires
 decide_requires c κs = (
   lit≤ tt,
   omega arith,
   clean c.args.r (soft_recording c.args.i.now c.args.q.now) _ _ c.symbol_chips.ensures c.first_unusable-bad.ensures
-      c.in-Nothing.is c.requires,
+      c.in-None.is c.requires,
   search rules,
   search rules,
 )
 
-returns_2 : tie.Need-returns-in-Nothing
+returns_2 : tie.Need-returns-in-None
 returns_2 c =
     c.wide.ensures
     ∙ word c.args.r (soft_recording c.args.i.now c.args.q.now) _ _ c.symbol_chips.ensures
     c.first_unusable-bad.ensures
-    c.in-Nothing.is _ c.decide.ensures.0
+    c.in-None.is _ c.decide.ensures.0
 
 pub first_word_spec : {M : Type 1} → statement M
 first_word_spec =

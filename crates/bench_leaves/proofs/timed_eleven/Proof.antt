@@ -10,7 +10,7 @@ use lib.Ieee.{Float}
 use borrow.Author.Rules.{rules}
 use borrow.Author.Tests.{le-leb, lt-leb}
 use Rattle.choose_recorders.specs.declared.Recorder.{Recorder}
-use Rattle.choose_recorders.specs.Rows.{recording_of}
+use Rattle.choose_recorders.specs.Rows.{taken_of}
 use Rattle.bench_leaves.specs.Leaves.{last_word, recorder_of, decided_last}
 use Rattle.bench_leaves.proofs.timed_eleven.Statement.{statement}
 use Rattle.bench_leaves.proofs.timed_eleven.Tie as tie
@@ -21,14 +21,14 @@ module _ (n : ℕ) (octets : List ℕ) (bytes : List ℤ) (i q : List Float) whe
   no_recorder h = rw (lt-leb n 2 h)
 
   module _ (rec : Recorder) (e : rec ≡ recorder_of n) (h : n ≤ 2) where
-    too_short : length (recording_of rec octets bytes i q) < 512 → 0 ≡ decided_last n octets bytes i q
+    too_short : length (taken_of rec) < 512 → 0 ≡ decided_last n octets bytes i q
     unfolding decided_last
-    too_short l = rw (← e, le-leb n 2 h, lt-leb 512 (length (recording_of rec octets bytes i q)) l)
+    too_short l = rw (← e, le-leb n 2 h, lt-leb 512 (length (taken_of rec)) l)
 
-    whole : (d : ℕ) → 512 ≤ length (recording_of rec octets bytes i q) → d ≡ last_word (recording_of rec octets bytes i q)
+    whole : (d : ℕ) → 512 ≤ length (taken_of rec) → d ≡ last_word (taken_of rec)
         → d ≡ decided_last n octets bytes i q
     unfolding decided_last
-    whole d l t = t ∙ rw (← e, le-leb n 2 h, le-leb 512 (length (recording_of rec octets bytes i q)) l)
+    whole d l t = t ∙ rw (← e, le-leb n 2 h, le-leb 512 (length (taken_of rec)) l)
 
 returns : tie.Need-returns-then-recorder-gt2
 returns c = no_recorder _ _ _ _ _ c.if-recorder-gt2.true

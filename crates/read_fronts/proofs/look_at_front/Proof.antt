@@ -19,17 +19,17 @@ returns c =
     front_short _ _ (below _ _ _ _ c.chip_count.ensures c.front_chips-chips.ensures
     c.if-chip_count-chips.true)
 
-returns_2 : tie.Need-returns-in-At
+returns_2 : tie.Need-returns-in-Some
 returns_2 c =
     front_unusable _ _ _ _ c.front_chips-chips.ensures
     (within _ _ _ c.chip_count.ensures c.if-chip_count-chips.false) c.first_unusable-bad.ensures _
-    c.in-At.is
+    c.in-Some.is
 
-returns_3 : tie.Need-returns-in-Nothing
+returns_3 : tie.Need-returns-in-None
 returns_3 c =
     front_usable _ _ _ _ c.front_chips-chips.ensures
     (within _ _ _ c.chip_count.ensures c.if-chip_count-chips.false) c.first_unusable-bad.ensures
-    c.in-Nothing.is
+    c.in-None.is
 
 pub look_at_front_spec : {M : Type 1} → statement M
 look_at_front_spec =

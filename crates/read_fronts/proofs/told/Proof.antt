@@ -6,16 +6,16 @@ use Rattle.read_fronts.proofs.Sizes.{header_few, refused_few, header_late, odd_l
 use Rattle.read_fronts.proofs.told.Statement.{statement}
 use Rattle.read_fronts.proofs.told.Tie as tie
 
-returns : tie.Need-returns-in-At
+returns : tie.Need-returns-in-Some
 returns c = (
-  (λ rec x. usable_odd _ rec _ _ _ _ c.in-At.is x.odd c.refused.ensures),
+  (λ rec x. usable_odd _ rec _ _ _ _ c.in-Some.is x.odd c.refused.ensures),
   (refused_few _ _ c.refused.ensures, odd_late _ _ _ c.refused.ensures),
 )
 
-returns_2 : tie.Need-returns-in-Nothing
+returns_2 : tie.Need-returns-in-None
 returns_2 c = (
   (λ rec x.
-      usable_header _ rec _ _ _ x c.in-Nothing.is
+      usable_header _ rec _ _ _ x c.in-None.is
       c.header_of-front.ensures),
   (
     (λ t w. header_few _ _ _ _ t (sym c.header_of-front.ensures ∙ w)),

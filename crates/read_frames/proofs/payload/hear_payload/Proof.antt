@@ -16,8 +16,7 @@ use Rattle.rules_frame.specs.Frame.{front_chips, frame_chips}
 use Rattle.rules_reading.specs.Reading.{payload_odd, payload_of}
 use Rattle.rules_calls.specs.declared.Least.{Least}
 use Rattle.rules_reading.specs.Leads.{front_leads, frame_leads, least_of}
-use Rattle.choose_recorded.specs.declared.Place.TheVariants.{Nothing, At}
-use Rattle.choose_recorded.specs.Recorded.{where_found, AllUsable}
+use Rattle.choose_recorded.specs.Recorded.{AllUsable}
 use Rattle.hear_parts.specs.declared.Part.{Part}
 use Rattle.hear_parts.specs.Hearing.{PartHeard}
 use Rattle.hear_parts.proofs.Parts.{few_symbols}
@@ -53,23 +52,23 @@ module _
         (subst (λ (i : ℕ). PartHeard r from i rec l (from / 11) b p out)
         (lent_long n d fits) x)
 
-    odd : (place : ℕ) (z : List ℕ) → p.heard.odd ≡ At place → length out ≡ length (take (n - 0) d)
+    odd : (place : ℕ) (z : List ℕ) → p.heard.odd ≡ Some place → length out ≡ length (take (n - 0) d)
         → z ≡ replicate (length (out ++ drop (n - 0) d)) 0
         → (Some place ≡ payload_odd k r n rec)
         × ((p.least ≡ least_of (frame_leads k r n rec)) × (z ≡ replicate (length d) 0))
     odd place z t kept q = (
-      sym (ap where_found t) ∙ payload_odd_lem k r n rec l b p out o part,
+      sym (ap t) ∙ payload_odd_lem k r n rec l b p out o part,
       (
         payload_least k r n rec l b p out o part first,
         q ∙ ap (λ (m : ℕ). replicate m 0) (length_front d out (n - 0) kept),
       ),
     )
 
-    good : p.heard.odd ≡ Nothing → (None ≡ payload_odd k r n rec)
+    good : p.heard.odd ≡ None → (None ≡ payload_odd k r n rec)
         × ((p.least ≡ least_of (frame_leads k r n rec))
         × (out ++ drop (n - 0) d ≡ payload_of k r n rec ++ replicate (length d - n) 0))
     good t = (
-      sym (ap where_found t) ∙ payload_odd_lem k r n rec l b p out o part,
+      sym (ap t) ∙ payload_odd_lem k r n rec l b p out o part,
       (
         payload_least k r n rec l b p out o part first,
         octets_back n d out (payload_of k r n rec) zeros (payload_octets k r n rec l b p out o part),
@@ -93,7 +92,7 @@ hear_octets_requires c κs =
           )),
     )
 
-returns : tie.Need-returns-in-At
+returns : tie.Need-returns-in-Some
 returns c =
     let call = c.hear_octets-part in
     let a = c.args in
@@ -101,10 +100,10 @@ returns c =
     call.new.out c.requires.3
     c.front_chips-from.ensures
     c.requires.2 c.requires.4 c.requires.5 call.ensures
-    _ _ c.in-At.is
+    _ _ c.in-Some.is
     call.auto.out c.fill.ensures
 
-returns_2 : tie.Need-returns-in-Nothing
+returns_2 : tie.Need-returns-in-None
 returns_2 c =
     let call = c.hear_octets-part in
     let a = c.args in
@@ -112,7 +111,7 @@ returns_2 c =
     call.new.out c.requires.3
     c.front_chips-from.ensures
     c.requires.2 c.requires.4 c.requires.5 call.ensures
-    c.in-Nothing.is
+    c.in-None.is
 
 pub hear_payload_spec : {M : Type 1} → statement M
 hear_payload_spec =

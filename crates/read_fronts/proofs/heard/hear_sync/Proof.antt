@@ -8,7 +8,7 @@ use Rattle.rules_rates.specs.declared.Rate.TheVariants.{One}
 use Rattle.rules_frame.specs.declared.Kind.{Kind}
 use Rattle.rules_frame.specs.declared.Kind.TheVariants.{Long, Short}
 use Rattle.rules_frame.specs.Frame.{front_chips}
-use Rattle.choose_recorders.specs.Rows.{recording_of}
+use Rattle.choose_recorders.specs.Rows.{taken_of}
 use Rattle.choose_recorded.proofs.Search.{usable_part}
 use Rattle.hear_parts.proofs.Parts.{block_are_words}
 use borrow.Author.Rules.{rules}
@@ -49,7 +49,7 @@ hear_requires c κs =
       rw c.first_line-line.ensures.at_phase (decided_small _ _ d _ (omega arith)),
       d.long,
       block_are_words One 8 8 refl
-          (recording_of a.rec a.row.now a.bytes.now a.i.now a.q.now) 0 _ d (omega arith),
+          (taken_of a.rec) 0 _ d (omega arith),
     )
 
 least_of_requires : tie.Need-least_of-least-requires
@@ -78,7 +78,7 @@ returns c =
     let a = c.args in
     let count = c.preamble_octets-count.ensures in
     let decided = c.decide.ensures in
-    sync_heard a.kind (recording_of a.rec a.row.now a.bytes.now a.i.now a.q.now)
+    sync_heard a.kind (taken_of a.rec)
     _ _ _ _ _ _ _ _ _ _ _ _
     decided.0 decided.1 c.least_of-least.ensures
     c.first_line-line.ensures c.hear-first.ensures.0 c.hear-first.ensures.1

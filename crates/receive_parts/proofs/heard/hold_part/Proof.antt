@@ -7,8 +7,6 @@ use borrow.Author.Rules.{rules}
 use Rattle.rules_rates.specs.Rates.{octet_chips}
 use Rattle.rules_chips.specs.Chips.{hard_recording}
 use Rattle.rules_reading.specs.Reading.{first_unusable}
-use Rattle.choose_recorded.specs.declared.Place.TheVariants.{Nothing}
-use Rattle.choose_recorded.specs.Recorded.{where_found}
 use Rattle.receive_parts.specs.declared.Piece.{Piece}
 use Rattle.receive_parts.specs.Pieces.{PartHeld}
 use Rattle.receive_parts.proofs.Looks.{chips_most, held_bad, held_one, held_other}
@@ -19,21 +17,21 @@ unusable_from_requires : tie.Need-unusable_from-found-requires
 unusable_from_requires c κs =
     omega (arith, c.requires.0, c.requires.2, chips_most c.args.rate)
 
-usable : (c : tie.In-Nothing) → let a = c.args in
+usable : (c : tie.In-None) → let a = c.args in
     first_unusable a.at (hard_recording a.row.now) ≡ None
-usable c = sym c.unusable_from-found.ensures.0 ∙ ap where_found c.in-Nothing.is
+usable c = sym c.unusable_from-found.ensures.0 ∙ ap c.in-None.is
 
 look_requires : tie.Need-look-looked-requires
 look_requires c κs =
     let p = c.requires in
     (omega (arith, p.0, chips_most c.args.rate), p.1, p.2, p.3, usable c.before)
 
-returns : tie.Need-returns-in-At
+returns : tie.Need-returns-in-Some
 returns c =
     let a = c.args in
     held_bad a.rate a.at a.ear a.h a.row.now _
-    (sym (ap where_found c.in-At.is) ∙ c.unusable_from-found.ensures.0)
-    (rw c.in-At.is at c.unusable_from-found.ensures.1) c.requires.3
+    (sym (ap c.in-Some.is) ∙ c.unusable_from-found.ensures.0)
+    (rw c.in-Some.is at c.unusable_from-found.ensures.1) c.requires.3
 
 returns_2 : tie.Need-returns-in-One
 returns_2 c =
@@ -42,8 +40,8 @@ returns_2 c =
     (usable c.before.before) c.look-looked.ensures
 
 -- at the other rates nothing is looked at
-other : (c : tie.In-Nothing) (x : Piece) → let a = c.args in octet_chips a.rate < 88
-    → (x.ear ≡ a.ear) × (x.bad ≡ Nothing) × (x.odd ≡ Nothing)
+other : (c : tie.In-None) (x : Piece) → let a = c.args in octet_chips a.rate < 88
+    → (x.ear ≡ a.ear) × (x.bad ≡ None) × (x.odd ≡ None)
     → PartHeld a.rate a.at a.ear a.h a.row.now x
 other c x b s =
     let a = c.args in held_other a.rate a.at a.ear a.h a.row.now x b (usable c) c.requires.3 s

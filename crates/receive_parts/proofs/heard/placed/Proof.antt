@@ -6,15 +6,15 @@ use Rattle.receive_parts.proofs.heard.placed.Tie as tie
 
 add_t5 : tie.Need-overflow_add-result
 add_t5 c =
-    let below = rw c.in-At.is at c.requires in
+    let below = rw c.in-Some.is at c.requires in
     omega (arith, below)
 
-returns : tie.Need-returns-in-At
+returns : tie.Need-returns-in-Some
 returns c =
-    let below = rw c.in-At.is at c.requires in (rw c.in-At.is, below)
+    let below = rw c.in-Some.is at c.requires in (rw c.in-Some.is, below)
 
-returns_2 : tie.Need-returns-in-Nothing
-returns_2 c = (rw c.in-Nothing.is, tt)
+returns_2 : tie.Need-returns-in-None
+returns_2 c = (rw c.in-None.is, tt)
 
 pub placed_spec : {M : Type 1} → statement M
 placed_spec = tie.close (tie.spec

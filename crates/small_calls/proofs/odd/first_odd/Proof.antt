@@ -40,11 +40,11 @@ block_requires c κs = (
   sought_usable _ c.loop-left.invariant c.at_most_8-count.ensures.2 c.requires.2,
 )
 
-returns : tie.Need-returns-in-At invariant_loop decreases_loop
+returns : tie.Need-returns-in-Some invariant_loop decreases_loop
 returns c =
     sought_here (hard_recording c.args.chips.now) c.args.from c.args.n c.args.phase _ _ _ _
     c.loop-left.invariant c.at_most_8-count.ensures.2 _ c.block-grown.ensures _
-    c.in-At.is
+    c.in-Some.is
 
 add_place : tie.Need-overflow_add-place invariant_loop decreases_loop
 add_place c =

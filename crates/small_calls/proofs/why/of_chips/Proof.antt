@@ -7,7 +7,6 @@ use Rattle.rules_chips.specs.Chips.{hard_recording}
 use Rattle.rules_chips.proofs.Recorders.{length_hard}
 use Rattle.rules_reading.specs.Reading.{payload_odd}
 use Rattle.rules_reading.proofs.Payloads.{found_unusable}
-use Rattle.choose_recorded.specs.Recorded.{where_found}
 use Rattle.small_calls.proofs.Payload.{
   odd_room,
   payload_usable,
@@ -31,7 +30,7 @@ abbrev begun : tie.After-first_unusable-bad → tie.Start
 begun c = c.before.before.before.before.before.before
 
 found : (c : tie.After-first_unusable-bad) → let a = (begun c).args in
-    where_found c.first_unusable-bad.result ≡ found_unusable a.kind a.told (hard_recording a.chips.now)
+    c.first_unusable-bad.result ≡ found_unusable a.kind a.told (hard_recording a.chips.now)
 found c =
     let a = (begun c).args in
     unusable_is a.kind a.chips.now a.told c.first_unusable-bad.result c.front_chips-from.ensures
@@ -42,7 +41,7 @@ abbrev searched : tie.After-odd_in_payload-odd → tie.After-first_unusable-bad
 searched c = c.before.before
 
 odd : (c : tie.After-odd_in_payload-odd) → let a = (begun (searched c)).args in
-    where_found c.odd_in_payload-odd.result
+    c.odd_in_payload-odd.result
     ≡ payload_odd a.kind a.told.rate a.told.n (hard_recording a.chips.now)
 odd c =
     let frame = (searched c).before in
@@ -55,16 +54,16 @@ shared_slice_read_refused : tie.Need-bounds-chips-place
 shared_slice_read_refused c =
     let s = begun c.before.before in
     unusable_there s.args.kind s.args.chips.now s.args.told s.requires.1 _
-    (sym (found c.before.before) ∙ ap where_found c.in-At.is)
+    (sym (found c.before.before) ∙ ap c.in-Some.is)
 
 cast_refused : tie.Need-overflow_cast-chips
-cast_refused c = record { fits = omega (arith, c.shared_slice_known-in-At-1.given c.in-At.place) }
+cast_refused c = record { fits = omega (arith, c.shared_slice_known-in-Some-1.given c.in-Some.place) }
 
-returns : tie.Need-returns-in-At
+returns : tie.Need-returns-in-Some
 returns c number room fits =
     let a = (begun c.before.before.before).args in
     shown_unusable a.kind a.chips.now a.told number room fits _
-    (sym (found c.before.before.before) ∙ ap where_found c.in-At.is) c.refused.ensures
+    (sym (found c.before.before.before) ∙ ap c.in-Some.is) c.refused.ensures
 
 odd_in_payload_requires : tie.Need-odd_in_payload-odd-requires
 odd_in_payload_requires c κs =
@@ -75,34 +74,34 @@ odd_in_payload_requires c κs =
       s.requires.3,
       rw front
           (payload_usable a.kind a.chips.now a.told s.requires.1
-          (sym (found c.before) ∙ ap where_found c.in_default.is)),
+          (sym (found c.before) ∙ ap c.in_default.is)),
     )
 
 growth_at_requires : tie.Need-growth_at-requires
 growth_at_requires c κs =
     let s = begun (searched c.before) in
     let a = s.args in
-    let is = sym (odd c.before) ∙ ap where_found c.in-At-odd.is in
+    let is = sym (odd c.before) ∙ ap c.in-Some-odd.is in
     let room = odd_room a.kind a.chips.now a.told s.requires.1 _ is in (
       room.0,
       room.1,
       odd_usable a.kind a.chips.now a.told s.requires.1
-          (sym (found (searched c.before)) ∙ ap where_found c.in_default.is) _ is s.requires.4,
+          (sym (found (searched c.before)) ∙ ap c.in_default.is) _ is s.requires.4,
     )
 
-returns_2 : tie.Need-returns-in-At-odd
+returns_2 : tie.Need-returns-in-Some-odd
 returns_2 c number room fits =
     let a = (begun (searched c.before.before.before)).args in
     shown_odd a.kind a.chips.now a.told number room fits _
-    (sym (found (searched c.before.before.before)) ∙ ap where_found c.in_default.is)
-    (sym (odd c.before.before.before) ∙ ap where_found c.in-At-odd.is) c.growth_at.ensures c.refused-in-At-odd.ensures
+    (sym (found (searched c.before.before.before)) ∙ ap c.in_default.is)
+    (sym (odd c.before.before.before) ∙ ap c.in-Some-odd.is) c.growth_at.ensures c.refused-in-Some-odd.ensures
 
-returns_3 : tie.Need-returns-in-Nothing
+returns_3 : tie.Need-returns-in-None
 returns_3 c number room fits =
     let a = (begun (searched c.before.before)).args in
     shown_good a.kind a.chips.now a.told number room fits
-    (sym (found (searched c.before.before)) ∙ ap where_found c.in_default.is)
-    (sym (odd c.before.before) ∙ ap where_found c.in-Nothing.is) c.good.ensures
+    (sym (found (searched c.before.before)) ∙ ap c.in_default.is)
+    (sym (odd c.before.before) ∙ ap c.in-None.is) c.good.ensures
 
 pub of_chips_spec : {M : Type 1} → statement M
 of_chips_spec =
