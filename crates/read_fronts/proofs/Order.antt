@@ -5,6 +5,7 @@
 -- Each follows by the tests that led there. Assumes nothing.
 use mathlib.Core.Path.{◌≡◌, sym, ap, ap₂, subst, ◌∙◌}
 use mathlib.Core.List.{List}
+use Rattle.std.specs.Prelude.{Option, None, Some}
 use Prim.Native.Nat.{ℕ, ◌-◌, ◌≤◌, ◌<◌}
 use native.Mathlib.Omega.{arith}
 use lib.ListN.{length, take, drop}
@@ -74,7 +75,7 @@ module _ (k : Kind) (rec : List Taken) where
     pub front_unusable : (place : ℕ) → f ≡ Some place
         → ((accepted : Accepted) → front_by accepted k rec ≡ Refused (refusal.Unusable place 0)) × (place < length rec)
     front_unusable place t =
-        let first = unusable_first 0 (take (front_chips k) rec) place (searched ∙ ap t) in (
+        let first = unusable_first 0 (take (front_chips k) rec) place (searched ∙ t) in (
           (λ accepted. unfold front_by in rw (le-ltb (length rec) (front_chips k) enough, searched, t)),
           omega (arith, enough, first.place_is, first.inside, length-take-le (front_chips k) rec enough),
         )
@@ -85,7 +86,7 @@ module _ (k : Kind) (rec : List Taken) where
     front_usable t = (
       (λ accepted. unfold front_by in rw (le-ltb (length rec) (front_chips k) enough, searched, t)),
       enough,
-      none_usable rec 0 (front_chips k) (omega (arith, enough)) (searched ∙ ap t),
+      none_usable rec 0 (front_chips k) (omega (arith, enough)) (searched ∙ t),
     )
 
   module _ (l : Look) (x : Looks k rec l) where

@@ -2,7 +2,6 @@
 -- refused with; and refusal 16, whether the recording has the frame's chips. Assumes nothing.
 use mathlib.Core.Path.{◌≡◌, sym, subst, ◌∙◌}
 use mathlib.Core.List.{List}
-use Rattle.std.specs.Prelude.{None}
 use Prim.Native.Nat.{ℕ, ◌≤◌, ◌<◌}
 use native.Mathlib.Omega.{arith}
 use lib.ListN.{length}
@@ -16,7 +15,7 @@ use Rattle.rules_calls.specs.declared.Front.{Front}
 use Rattle.rules_calls.specs.declared.Front.TheVariants.{Refused, Fields}
 use Rattle.rules_frame.specs.Frame.{frame_chips}
 use Rattle.rules_calls.specs.Answers.{refusal_number}
-use Rattle.rules_calls.specs.Headers.{Accepted, told, header_of}
+use Rattle.rules_calls.specs.Headers.{Accepted, header_of}
 use Rattle.rules_calls.proofs.Accepting.{
   FieldsCome,
   signal_out,

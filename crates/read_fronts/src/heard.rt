@@ -44,41 +44,28 @@ fn behind_sync(kind: Kind, preamble: [u8; 18]) -> [u8; 2]
 
 // SYNC and the SFD, heard to their end into a row. The first block of 64 symbols is decided before the line starts: its
 // first symbol is the reference.
-fn hear_sync(
-    rec: Recording,
-    kind: Kind,
-    octets: &mut [u8],
-) -> Part
+fn hear_sync(rec: Recording, kind: Kind, octets: &mut [u8]) -> Part
     requires { (front_chips kind ≤ length (taken_of rec))
         × AllUsable (taken_of rec) 0 (front_chips kind)
         × (length octets.old ≡ 18) }
-    ensures answer { PreambleLine kind
-        (taken_of rec.entry) result.heard }
-    ensures least { result.least ≡ least_of (preamble_leads kind
-        (taken_of rec.entry)) }
-    ensures octets { take (sync_octets kind + 2) octets.new ≡ preamble_octets kind
-        (taken_of rec.entry) }
+    ensures answer { PreambleLine kind (taken_of rec.entry) result.heard }
+    ensures least { result.least ≡ least_of (preamble_leads kind (taken_of rec.entry)) }
+    ensures octets { take (sync_octets kind + 2) octets.new ≡ preamble_octets kind (taken_of rec.entry) }
 {
     let mut numbers = [0u8; 64];
     let mut leads = [0u32; 64];
-    rec.decide(Rate::One,
-        0,
-        64,
-        &mut numbers,
-        &mut leads,
-    );
+    rec.decide(Rate::One, 0, 64, &mut numbers, &mut leads);
     // the first symbol serves only as reference: it counts as grown by 0 from its own phase
     let line = common_kinds::first_line(kind, numbers[0]);
     let first = hear_blocks::hear(Rate::One, 0, 0, line, numbers, 8, octets);
     let least = hear_blocks::least::least_of(&leads, 64);
     let count = preamble_octets(kind);
-    let l = first.line;
     let rest = hear_parts::hear_octets(
         rec,
         Rate::One,
         704,
         64,
-        l,
+        first.line,
         least,
         &mut octets[8..count],
     );
@@ -86,14 +73,10 @@ fn hear_sync(
 }
 
 // SYNC and the SFD, heard to their end, and the SFD's octets.
-fn hear_preamble(
-    rec: Recording,
-    kind: Kind,
-) -> Preamble
+fn hear_preamble(rec: Recording, kind: Kind) -> Preamble
     requires { (front_chips kind ≤ length (taken_of rec))
         × AllUsable (taken_of rec) 0 (front_chips kind) }
-    ensures answer { PreambleKnown kind
-        (taken_of rec.entry) result }
+    ensures answer { PreambleKnown kind (taken_of rec.entry) result }
 {
     let mut octets = [0u8; 18];
     let part = hear_sync(rec, kind, &mut octets);
@@ -102,20 +85,12 @@ fn hear_preamble(
 }
 
 // SYNC, the SFD and the header, heard to their end. Each of their symbols is 11 chips.
-pub fn hear_front(
-    rec: Recording,
-    kind: Kind,
-) -> FrontHeard
+pub fn hear_front(rec: Recording, kind: Kind) -> FrontHeard
     requires { (front_chips kind ≤ length (taken_of rec))
         × AllUsable (taken_of rec) 0 (front_chips kind) }
-    ensures answer { FrontKnown kind
-        (taken_of rec.entry) result }
+    ensures answer { FrontKnown kind (taken_of rec.entry) result }
 {
-    let preamble = hear_preamble(rec, kind);
-    let first = preamble.part;
-    let before = first.heard;
-    let line = before.line;
-    let least = first.least;
+    let Preamble { part: first, sfd } = hear_preamble(rec, kind);
     let rate = common_kinds::header_rate(kind);
     let from = common_kinds::preamble_chips(kind);
     let symbol = from / 11;
@@ -125,11 +100,10 @@ pub fn hear_front(
         rate,
         from,
         symbol,
-        line,
-        least,
+        first.heard.line,
+        first.least,
         &mut header,
     );
-    let part = hear_parts::joined(before, behind);
-    let sfd = preamble.sfd;
+    let part = hear_parts::joined(first.heard, behind);
     FrontHeard { part, sfd, header }
 }

@@ -72,35 +72,26 @@ pub fn told(by: Reader, kind: Kind, known: FrontHeard) -> Opening
     ensures refuses { (e : Refusal) → result.front ≡ Front.Refused e →
         (10 ≤ refusal_number e) × (refusal_number e ≤ 15) }
 {
-    let part = known.part;
-    let heard = part.heard;
-    let odd = heard.odd;
-    match odd {
+    let FrontHeard { part, sfd, header } = known;
+    match part.heard.odd {
         Some(place) => refused(Refusal::OddGrowth { place, length: 0 }),
-        None => {
-            let sfd = known.sfd;
-            let header = known.header;
-            let front = common_header::header_of(by, kind, sfd, header);
-            let line = heard.line;
-            let least = part.least;
-            Opening { front, line, least }
-        }
+        None => Opening {
+            front: common_header::header_of(by, kind, sfd, header),
+            line: part.heard.line,
+            least: part.least,
+        },
     }
 }
 
 // Whether a front can be heard: 8, 9.
-pub fn look_at_front(
-    rec: Recording,
-    kind: Kind,
-) -> Look
+pub fn look_at_front(rec: Recording, kind: Kind) -> Look
     ensures answer { Looks kind (taken_of rec.entry) result }
 {
     let chips = common_kinds::front_chips(kind);
     if rec.chip_count() < chips {
         return Look::Shorter;
     }
-    let bad = rec.first_unusable(0, chips);
-    match bad {
+    match rec.first_unusable(0, chips) {
         Some(place) => Look::Unusable(place),
         None => Look::Usable,
     }
@@ -108,44 +99,28 @@ pub fn look_at_front(
 
 // What a recording's front tells a reader, with the line and lead that its payload goes on from: 8, 9, 10, and 11 to
 // 15.
-pub fn read_front(
-    by: Reader,
-    rec: Recording,
-    kind: Kind,
-) -> Opening
+pub fn read_front(by: Reader, rec: Recording, kind: Kind) -> Opening
     ensures answer { Opens kind (taken_of rec.entry)
         (front_by (accepted_by by) kind (taken_of rec.entry)) result }
 {
-    let looked = look_at_front(rec, kind);
-    match looked {
+    match look_at_front(rec, kind) {
         Look::Shorter => refused(Refusal::ShorterThanFront),
         Look::Unusable(place) => refused(Refusal::Unusable { place, length: 0 }),
-        Look::Usable => {
-            let known = heard::hear_front(rec, kind);
-            told(by, kind, known)
-        }
+        Look::Usable => told(by, kind, heard::hear_front(rec, kind)),
     }
 }
 
 // The same, and 16: whether the recording has the chips of the frame that its front tells of.
-pub fn read_whole(
-    by: Reader,
-    rec: Recording,
-    kind: Kind,
-) -> Opening
-    ensures answer { OpensWhole (accepted_by by) kind
-        (taken_of rec.entry) result }
+pub fn read_whole(by: Reader, rec: Recording, kind: Kind) -> Opening
+    ensures answer { OpensWhole (accepted_by by) kind (taken_of rec.entry) result }
 {
     let opening = read_front(by, rec, kind);
-    let told = opening.front;
-    match told {
+    match opening.front {
         Front::Refused(e) => refused(e),
         Front::Fields(t) => {
-            let rate = t.rate;
-            let length = t.length;
-            let all = common_kinds::frame_chips(kind, rate, t.n);
+            let all = common_kinds::frame_chips(kind, t.rate, t.n);
             if rec.chip_count() < all {
-                return refused(Refusal::Ends { length });
+                return refused(Refusal::Ends { length: t.length });
             }
             opening
         }

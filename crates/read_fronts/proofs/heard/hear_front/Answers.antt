@@ -1,5 +1,4 @@
--- `read_fronts::heard::hear_front` meets its contract: the preamble and the header are heard one after the other on one
--- line. Assumes nothing.
+-- `heard::hear_front`: the preamble and the header are heard one after the other on one line.
 use mathlib.Core.Path.{◌≡◌, refl, subst}
 use Prim.Native.Nat.{ℕ, ◌+◌, ◌*◌, ◌/◌, ◌≤◌}
 use native.Mathlib.Nat.{zero-add}
@@ -18,10 +17,8 @@ use Rattle.hear_parts.specs.Hearing.{PartHeard}
 use Rattle.hear_parts.proofs.Parts.{few_symbols}
 use Rattle.common_lines.specs.declared.Line.{Line}
 use mathlib.Core.List.{List}
-use borrow.Author.Rules.{rules}
 use Rattle.read_fronts.proofs.Whole.{front_known}
-use Rattle.read_fronts.proofs.heard.hear_front.Statement.{statement}
-use Rattle.read_fronts.proofs.heard.hear_front.Tie as tie
+use Rattle.read_fronts.proofs.heard.hear_front.Goals as goal
 
 -- the header ends where the front does
 module _ (k : Kind) (r : Rate) (from : ℕ) (e : r ≡ header_rate k) (f : from ≡ preamble_chips k) where
@@ -49,29 +46,24 @@ module _ (k : Kind) (r : Rate) (from : ℕ) (e : r ≡ header_rate k) (f : from 
       subst (λ (i : ℕ). PartHeard (header_rate k) i 6 rec l (i / 11) b h out) f
       (subst (λ (s : Rate). PartHeard s from 6 rec l (from / 11) b h out) e z)
 
-hear_octets_requires : tie.Need-hear_octets-behind-requires
-hear_octets_requires c κs =
+pub hear_octets-behind-requires : goal.hear_octets-behind-requires
+hear_octets-behind-requires c =
     let k = c.args.kind in
-    let e = c.header_rate-rate.ensures in
-    let f = c.preamble_chips-from.ensures in (
+    let e = c.header_rate-rate.ensures.answer in
+    let f = c.preamble_chips-from.ensures.answer in (
       omega (arith, ends k _ _ e f, c.requires.0),
       usable k _ _ e f _ c.requires.1,
-      c.hear_preamble-preamble.ensures.line.small,
+      c.hear_preamble.ensures.answer.line.small,
       omega (arith, ends k _ _ e f, few_symbols c.header_rate-rate.result 6, few k _ _ e f),
     )
 
-returns : tie.Need-returns
+pub returns : goal.returns
 returns c =
     let k = c.args.kind in
-    front_known k _ _ _ _ _ c.hear_preamble-preamble.ensures
-    (part k _ _ c.header_rate-rate.ensures
-    c.preamble_chips-from.ensures _ _ _ _ _
-    c.hear_octets-behind.ensures)
-    c.joined-part.ensures
-
-pub hear_front_spec : {M : Type 1} → statement M
-hear_front_spec =
-    tie.close
-    (tie.spec
-    (λ c κs. search rules) (λ c κs. search rules) (λ c κs. search rules) (λ c. search rules) hear_octets_requires
-    (λ c κs. search rules) returns)
+    let j = c.joined-part.ensures in
+    record {
+      answer = front_known k _ _ _ _ _ c.hear_preamble.ensures.answer
+          (part k _ _ c.header_rate-rate.ensures.answer c.preamble_chips-from.ensures.answer _ _ _ _ _
+          c.hear_octets-behind.ensures.answer)
+          (j.line, (j.odd, j.least));
+    }
