@@ -3,6 +3,7 @@
 use mathlib.Core.Path.{◌≡◌, refl, sym, ap, ◌∙◌, subst}
 use mathlib.Core.Bool.{Bool, true, false}
 use mathlib.Core.List.{List}
+use Rattle.std.specs.Prelude.{Option, None, Some}
 use Prim.Native.Nat.{ℕ, ◌-◌, ◌*◌, ◌≤◌, ◌<◌}
 use native.Mathlib.Omega.{arith}
 use lib.ListN.{length, take, drop, replicate}
@@ -54,6 +55,10 @@ module _ (k : Kind) (t : Told) (rec : List Taken) (room : ℕ) where
     pub at_front : from ≡ front_chips k
     pub is : f ≡ first_unusable from (take (all - from) (drop from rec))
 
+  pub searched : {all : ℕ} {f : Option ℕ} → all ≡ frame_chips k t.rate t.n → t.n ≤ room → (from : ℕ)
+      → from ≡ front_chips k → f ≡ first_unusable from (take (all - from) (drop from rec)) → Searched all f
+  searched w h from e i = record { whole = w; fits = h; from = from; at_front = e; is = i }
+
   pub payload_unusable : {all : ℕ} {f : Option ℕ} (place : ℕ) → Searched all f → f ≡ Some place
       → Refused (Unusable place t.length) ≡ payload_reading k t rec room
   unfolding payload_reading
@@ -64,7 +69,7 @@ module _ (k : Kind) (t : Told) (rec : List Taken) (room : ℕ) where
   payload_usable {all} s e h =
       let part : all - s.from ≡ octet_chips t.rate * t.n = omega (arith, s.whole, s.at_front) in
       none_usable rec (front_chips k) (octet_chips t.rate * t.n) h
-      (rw (← part, ← s.at_front) (sym s.is ∙ ap e))
+      (rw (← part, ← s.at_front) (sym s.is ∙ e))
 
   -- what hearing left is what reading leaves
   left : (all : ℕ) (b : Least) (o : Option ℕ)

@@ -17,42 +17,30 @@ pub mod payload;
 
 // A recording of a kind and of any recorder, into a buffer of zeros, by who reads: 8, then 9 and 10 over the front, 11
 // to 17, then 9 and 10 over the payload.
-fn read_as(
-    by: Reader,
-    kind: Kind,
-    rec: Recording,
-    octets: &mut [u8],
-) -> Reading
+fn read_as(by: Reader, kind: Kind, rec: Recording, octets: &mut [u8]) -> Reading
     requires { octets.old ≡ replicate (length octets.old) 0 }
-    ensures answer { result ≡ reading_by (accepted_by by) kind
-        (taken_of rec.entry) (length octets.old) }
-    ensures octets { octets.new ≡ octets_after kind
-        (taken_of rec.entry) (length octets.old) result }
+    ensures answer { result ≡ reading_by (accepted_by by) kind (taken_of rec.entry) (length octets.old) }
+    ensures octets { octets.new ≡ octets_after kind (taken_of rec.entry) (length octets.old) result }
 {
     let opening = read_fronts::read_whole(by, rec, kind);
-    let told = opening.front;
-    match told {
+    match opening.front {
         Front::Refused(e) => Reading::Refused(e),
-        Front::Fields(t) => {
-            let line = opening.line;
-            let least = opening.least;
-            payload::read_payload(rec, kind, t, line, least, octets)
-        }
+        Front::Fields(t) => payload::read_payload(
+            rec,
+            kind,
+            t,
+            opening.line,
+            opening.least,
+            octets,
+        ),
     }
 }
 
 // A recording of any recorder, whose rows agree or not, by our own readers: 1, 7, and what comes after them. Octets
 // past the payload, and all after a refusal, are 0.
-fn read(
-    kind: u64,
-    agree: bool,
-    rec: Recording,
-    octets: &mut [u8],
-) -> Reading
-    ensures answer { result ≡ reading_of kind agree
-        (taken_of rec.entry) (length octets.old) }
-    ensures octets { octets.new ≡ octets_found kind agree
-        (taken_of rec.entry) (length octets.old) }
+fn read(kind: u64, agree: bool, rec: Recording, octets: &mut [u8]) -> Reading
+    ensures answer { result ≡ reading_of kind agree (taken_of rec.entry) (length octets.old) }
+    ensures octets { octets.new ≡ octets_found kind agree (taken_of rec.entry) (length octets.old) }
 {
     common_rows::fill(octets, 0);
     if !common_kinds::is_kind(kind) {
@@ -109,11 +97,6 @@ pub fn read_1997(chips: &[u8], octets: &mut [u8]) -> Record
         octets1997 (hard_recording chips.now) (length octets.old) }
 {
     common_rows::fill(octets, 0);
-    let reading = read_as(
-        Reader::Of1997,
-        Kind::Long,
-        Recording::Hard(chips),
-        octets,
-    );
+    let reading = read_as(Reader::Of1997, Kind::Long, Recording::Hard(chips), octets);
     common_answers::record_of(reading)
 }

@@ -39,52 +39,25 @@ fn hear_payload(
         × (n ≤ length octets.old) × (Opened kind (taken_of rec) line)
         × (octets.old ≡ replicate (length octets.old) 0)
         × (least ≡ least_of (front_leads kind (taken_of rec))) }
-    ensures answer { result.odd ≡
-        payload_odd kind rate n (taken_of rec.entry) }
-    ensures least { result.least ≡ least_of
-        (frame_leads kind rate n (taken_of rec.entry)) }
-    ensures octets { octets.new ≡ octets_heard kind rate n
-        (taken_of rec.entry)
-        (length octets.old) result.odd }
+    ensures answer { result.odd ≡ payload_odd kind rate n (taken_of rec.entry) }
+    ensures least { result.least ≡ least_of (frame_leads kind rate n (taken_of rec.entry)) }
+    ensures octets { octets.new ≡ octets_heard kind rate n (taken_of rec.entry) (length octets.old) result.odd }
 {
+    rec.is_countable();
     let from = common_kinds::front_chips(kind);
     // each symbol of the front is 11 chips
     let symbol = from / 11;
-    let part = hear_parts::hear_octets(
-        rec,
-        rate,
-        from,
-        symbol,
-        line,
-        least,
-        &mut octets[0..n],
-    );
-    let heard = part.heard;
+    let part = hear_parts::hear_octets(rec, rate, from, symbol, line, least, &mut octets[0..n]);
     let least = part.least;
-    let odd = heard.odd;
-    match odd {
+    match part.heard.odd {
         Some(place) => {
             common_rows::fill(octets, 0);
-            let odd = Some(place);
-            Payload { odd, least }
+            Payload {
+                odd: Some(place),
+                least,
+            }
         }
-        None => {
-            let odd = None;
-            Payload { odd, least }
-        }
-    }
-}
-
-// What a payload of usable chips comes to: 10, or the whole answer.
-fn heard(told: Told, used: usize, least: Least, odd: Option<usize>) -> Reading
-    ensures answer { result ≡ after_heard told used least odd }
-{
-    match odd {
-        Some(place) => {
-            let length = told.length;
-            Reading::Refused(Refusal::OddGrowth { place, length })
-        }
-        None => Reading::Good { told, used, least },
+        None => Payload { odd: None, least },
     }
 }
 
@@ -103,27 +76,26 @@ pub fn read_payload(
         × (Opened kind (taken_of rec) line)
         × (octets.old ≡ replicate (length octets.old) 0)
         × (least ≡ least_of (front_leads kind (taken_of rec))) }
-    ensures answer { result ≡ payload_reading kind told
-        (taken_of rec.entry) (length octets.old) }
-    ensures octets { octets.new ≡ octets_after kind
-        (taken_of rec.entry) (length octets.old) result }
+    ensures answer { result ≡ payload_reading kind told (taken_of rec.entry) (length octets.old) }
+    ensures octets { octets.new ≡ octets_after kind (taken_of rec.entry) (length octets.old) result }
 {
-    let n = told.n;
-    let rate = told.rate;
-    let length = told.length;
+    let Told {
+        rate,
+        length,
+        n,
+        clock: _,
+    } = told;
     if octets.len() < n {
         return Reading::Refused(Refusal::OctetRoom { length });
     }
     let from = common_kinds::front_chips(kind);
-    let all = common_kinds::frame_chips(kind, rate, n);
-    let bad = rec.first_unusable(from, all);
-    match bad {
-        Some(place) => Reading::Refused(Refusal::Unusable { place, length }),
-        None => {
-            let payload = hear_payload(rec, kind, rate, n, line, least, octets);
-            let odd = payload.odd;
-            let low = payload.least;
-            heard(told, all, low, odd)
-        }
+    let used = common_kinds::frame_chips(kind, rate, n);
+    if let Some(place) = rec.first_unusable(from, used) {
+        return Reading::Refused(Refusal::Unusable { place, length });
+    }
+    let Payload { odd, least } = hear_payload(rec, kind, rate, n, line, least, octets);
+    match odd {
+        Some(place) => Reading::Refused(Refusal::OddGrowth { place, length }),
+        None => Reading::Good { told, used, least },
     }
 }

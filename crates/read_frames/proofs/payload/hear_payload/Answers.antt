@@ -1,9 +1,8 @@
--- `read_frames::payload::hear_payload` meets its contract: the octets are heard into the buffer's front, and cleared
--- where a symbol is grown by 1 or 3. Assumes nothing.
+-- `payload::hear_payload`: the octets are heard into the buffer's front, and cleared where a symbol is grown by 1 or 3.
 use mathlib.Core.Path.{◌≡◌, sym, ap, subst, ◌∙◌}
 use mathlib.Core.List.{List, ◌++◌}
 use Rattle.std.specs.Prelude.{None, Some}
-use Prim.Native.Nat.{ℕ, ◌+◌, ◌-◌, ◌*◌, ◌/◌, ◌^◌, ◌≤◌, ◌<◌}
+use Prim.Native.Nat.{ℕ, ◌+◌, ◌-◌, ◌*◌, ◌/◌, ◌≤◌, ◌<◌}
 use native.Mathlib.Omega.{arith}
 use lib.ListN.{length, take, drop, replicate}
 use lib.Seq.{length_front}
@@ -20,12 +19,9 @@ use Rattle.choose_recorded.specs.Recorded.{AllUsable}
 use Rattle.hear_parts.specs.declared.Part.{Part}
 use Rattle.hear_parts.specs.Hearing.{PartHeard}
 use Rattle.hear_parts.proofs.Parts.{few_symbols}
-use Rattle.choose_recorders.proofs.Rows.{recording_fits}
 use Rattle.read_fronts.specs.Openings.{Opened}
-use borrow.Author.Rules.{rules}
 use Rattle.read_fronts.proofs.Behind.{payload_odd_lem, payload_octets, payload_least, lent_long, octets_back}
-use Rattle.read_frames.proofs.payload.hear_payload.Statement.{statement}
-use Rattle.read_frames.proofs.payload.hear_payload.Tie as tie
+use Rattle.read_frames.proofs.payload.hear_payload.Goals as goal
 
 room : (k : Kind) (r : Rate) (n from m all : ℕ) → from ≡ front_chips k → m ≡ n → frame_chips k r n ≤ all
     → from + octet_chips r * m ≤ all
@@ -57,7 +53,7 @@ module _
         → (Some place ≡ payload_odd k r n rec)
         × ((p.least ≡ least_of (frame_leads k r n rec)) × (z ≡ replicate (length d) 0))
     odd place z t kept q = (
-      sym (ap t) ∙ payload_odd_lem k r n rec l b p out o part,
+      sym t ∙ payload_odd_lem k r n rec l b p out o part,
       (
         payload_least k r n rec l b p out o part first,
         q ∙ ap (λ (m : ℕ). replicate m 0) (length_front d out (n - 0) kept),
@@ -68,55 +64,36 @@ module _
         × ((p.least ≡ least_of (frame_leads k r n rec))
         × (out ++ drop (n - 0) d ≡ payload_of k r n rec ++ replicate (length d - n) 0))
     good t = (
-      sym (ap t) ∙ payload_odd_lem k r n rec l b p out o part,
+      sym t ∙ payload_odd_lem k r n rec l b p out o part,
       (
         payload_least k r n rec l b p out o part first,
         octets_back n d out (payload_of k r n rec) zeros (payload_octets k r n rec l b p out o part),
       ),
     )
 
-hear_octets_requires : tie.Need-hear_octets-part-requires
-hear_octets_requires c κs =
+pub hear_octets-part-requires : goal.hear_octets-part-requires
+hear_octets-part-requires c =
     let a = c.args in
     let long = lent_long a.n a.octets.now c.requires.2 in
-    let from = c.front_chips-from.ensures in (
+    let from = c.front_chips-from.ensures.answer in (
       room a.kind a.rate a.n _ _ _ from long c.requires.0,
       usable a.kind a.rate a.n _ _ _ from long c.requires.1,
       c.requires.3.small,
-      numbers a.kind a.rate a.n _ _ _ from long
-          (omega (
-            arith,
-            c.requires.0,
-            recording_fits a.rec a.row.now a.bytes.now a.i.now a.q.now (2 ^ 64)
-                c.well_formed.1.0.0 c.well_formed.1.1.0.0 c.well_formed.1.1.1.0.0,
-          )),
+      numbers a.kind a.rate a.n _ _ _ from long (omega (arith, c.requires.0, c.is_countable.ensures.few)),
     )
 
-returns : tie.Need-returns-in-Some
-returns c =
+pub returns-in-Some : goal.returns-in-Some
+returns-in-Some c =
     let call = c.hear_octets-part in
     let a = c.args in
-    odd a.kind a.rate a.n _ _ a.line a.least _ a.octets.now
-    call.new.out c.requires.3
-    c.front_chips-from.ensures
-    c.requires.2 c.requires.4 c.requires.5 call.ensures
-    _ _ c.in-Some.is
-    call.auto.out c.fill.ensures
+    let h = odd a.kind a.rate a.n _ _ a.line a.least _ a.octets.now call.new.out c.requires.3 c.front_chips-from.ensures.answer
+    c.requires.2 c.requires.4 c.requires.5 call.ensures.answer _ _ c.in-Some.is call.auto.out c.fill.ensures.row in
+    record { answer = h.0; least = h.1.0; octets = h.1.1 }
 
-returns_2 : tie.Need-returns-in-None
-returns_2 c =
+pub returns-in-None : goal.returns-in-None
+returns-in-None c =
     let call = c.hear_octets-part in
     let a = c.args in
-    good a.kind a.rate a.n _ _ a.line a.least _ a.octets.now
-    call.new.out c.requires.3
-    c.front_chips-from.ensures
-    c.requires.2 c.requires.4 c.requires.5 call.ensures
-    c.in-None.is
-
-pub hear_payload_spec : {M : Type 1} → statement M
-hear_payload_spec =
-    tie.close
-    (tie.spec
-    (λ c κs. search rules) (λ c. search rules) (λ c. search rules) (λ c. search rules) hear_octets_requires
-    (λ c. search rules) (λ c κs. search rules) (λ c. search rules) (λ c. search rules) returns (λ c. search rules)
-    returns_2)
+    let h = good a.kind a.rate a.n _ _ a.line a.least _ a.octets.now call.new.out c.requires.3 c.front_chips-from.ensures.answer
+    c.requires.2 c.requires.4 c.requires.5 call.ensures.answer c.in-None.is in
+    record { answer = h.0; least = h.1.0; octets = h.1.1 }
