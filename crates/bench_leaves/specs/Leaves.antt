@@ -6,13 +6,10 @@ use Rattle.rules_rates.specs.declared.Rate.{Rate}
 use Rattle.rules_rates.specs.declared.Rate.TheVariants.{Eleven}
 use Rattle.rules_rates.specs.Rates.{is_code, rate_of, symbol_chips}
 use Rattle.rules_chips.specs.Floats.{count_of}
-use Rattle.rules_chips.specs.Chips.{Taken, taken_counts, soft_recording}
+use Rattle.rules_chips.specs.Chips.{Taken, taken_counts, hard_recording, soft_recording, byte_recording}
 use Rattle.rules_symbols.specs.Choice.{decided}
 use Rattle.rules_reading.specs.Reading.{or_else, first_unusable}
 use Rattle.choose_recorded.specs.Recorded.{symbol_at}
-use Rattle.choose_recorders.specs.declared.Recorder.{Recorder}
-use Rattle.choose_recorders.specs.declared.Recorder.TheVariants.{Hard, Soft, Bytes}
-use Rattle.choose_recorders.specs.Rows.{taken_of}
 
 -- the number of the word that the first symbol of a recording is decided as; 0 where a chip of it is not usable
 unfoldable pub first_word : Rate → List Taken → ℕ
@@ -26,9 +23,10 @@ decided_soft rate i q =
     let r = rate_of rate in
     cond (is_code rate && leb (symbol_chips r) (length (soft_recording i q))) (first_word r (soft_recording i q)) 0
 
--- a recorder by its number: 0 hard, 1 soft, 2 bytes
-abbrev pub recorder_of : ℕ → Recorder
-recorder_of n = cond (eqb n 0) Hard (cond (eqb n 1) Soft Bytes)
+-- the recording of a recorder by its number: 0 hard, 1 soft, 2 bytes
+abbrev pub recorded_by : ℕ → List ℕ → List ℤ → List Float → List Float → List Taken
+recorded_by n octets bytes i q =
+    cond (eqb n 0) (hard_recording octets) (cond (eqb n 1) (soft_recording i q) (byte_recording bytes))
 
 -- the number of the word that the last of the first 64 symbols of 11 Mbit/s is decided as; 0 where one of their 512
 -- chips is not usable
@@ -38,7 +36,7 @@ last_word rec = or_else (first_unusable 0 (take 512 rec)) (λ place. 0) (decided
 -- the same of a recorder's rows; 0 of a number that is no recorder's, and of fewer than 512 chips
 unfoldable pub decided_last : ℕ → List ℕ → List ℤ → List Float → List Float → ℕ
 decided_last recorder octets bytes i q =
-    let rec = recording_of (recorder_of recorder) octets bytes i q in
+    let rec = recorded_by recorder octets bytes i q in
     cond (leb recorder 2) (cond (leb 512 (length rec)) (last_word rec) 0) 0
 
 -- a row of counts: as far as both rows go each is the count of its f32, and past the shorter nothing has changed

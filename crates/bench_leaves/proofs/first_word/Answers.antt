@@ -1,12 +1,11 @@
--- `bench_leaves::first_word` meets its contract: a search that found nothing leaves usable chips, and those are
--- decided. Assumes nothing.
+-- `first_word`: a search that found nothing leaves usable chips, and those are decided.
 use mathlib.Core.Path.{◌≡◌, ap, ◌∙◌}
 use mathlib.Core.List.{List, map}
 use Prim.Native.Nat.{ℕ, ◌+◌, ◌*◌, ◌-◌, ◌≤◌}
 use native.Mathlib.Omega.{arith}
-use lib.Dec.{lit≤, lit<}
-use lib.ListN.{length, get_or, take, drop}
 use borrow.Author.Rules.{rules}
+use lib.Dec.{lit<}
+use lib.ListN.{length, get_or, take, drop}
 use Rattle.rules_rates.specs.declared.Rate.{Rate}
 use Rattle.rules_rates.specs.Rates.{symbol_chips}
 use Rattle.rules_chips.specs.Chips.{Taken, taken_counts, soft_recording}
@@ -15,8 +14,8 @@ use Rattle.rules_reading.specs.Reading.{first_unusable}
 use Rattle.choose_recorded.specs.Recorded.{AllUsable, DecidedAt}
 use Rattle.bench_leaves.specs.Leaves.{first_word}
 use Rattle.choose_recorded.proofs.Searched.{bad, good, usable}
-use Rattle.bench_leaves.proofs.first_word.Statement.{statement}
-use Rattle.bench_leaves.proofs.first_word.Tie as tie
+use Rattle.std.specs.Prelude.{Option, None, Some}
+use Rattle.bench_leaves.proofs.first_word.Goals as goal
 
 module _ (r : Rate) (rec : List Taken) (n : ℕ) (f : Option ℕ) (e : n ≡ symbol_chips r)
     (g : f ≡ first_unusable 0 (take (n - 0) (drop 0 rec))) where
@@ -39,33 +38,24 @@ module _ (r : Rate) (rec : List Taken) (n : ℕ) (f : Option ℕ) (e : n ≡ sym
       ∙ ap (λ (m : ℕ). decided r (map taken_counts (take (symbol_chips r) (drop m rec)))) k
       ∙ good rec (symbol_chips r) f of_symbol _ h
 
-returns : tie.Need-returns-in-Some
-returns c =
-    none c.args.r (soft_recording c.args.i.now c.args.q.now) _ _ c.symbol_chips.ensures
-    c.first_unusable-bad.ensures _ c.in-Some.is
+pub returns-in-Some : goal.returns-in-Some
+returns-in-Some c = record {
+  answer = none c.args.r (soft_recording c.args.i.now c.args.q.now) _ _ c.symbol_chips.ensures.answer
+      c.first_unusable.ensures.answer _ c.in-Some.is;
+}
 
-decide_requires : tie.Need-decide-requires
-decide_requires c κs = (
-  lit≤ tt,
+pub decide-requires : goal.decide-requires
+decide-requires c = (
   omega arith,
-  clean c.args.r (soft_recording c.args.i.now c.args.q.now) _ _ c.symbol_chips.ensures c.first_unusable-bad.ensures
-      c.in-None.is c.requires,
+  omega (arith, c.requires),
+  clean c.args.r (soft_recording c.args.i.now c.args.q.now) _ _ c.symbol_chips.ensures.answer
+      c.first_unusable.ensures.answer c.in_default.is c.requires,
   search rules,
   search rules,
 )
 
-returns_2 : tie.Need-returns-in-None
-returns_2 c =
-    c.wide.ensures
-    ∙ word c.args.r (soft_recording c.args.i.now c.args.q.now) _ _ c.symbol_chips.ensures
-    c.first_unusable-bad.ensures
-    c.in-None.is _ c.decide.ensures.0
-
-pub first_word_spec : {M : Type 1} → statement M
-first_word_spec =
-    tie.close
-    (tie.spec
-    (λ c. search rules) (λ c. search rules) (λ c. search rules) (λ c. search rules) (λ c. search rules)
-    (λ c. search rules) (λ c κs. search rules) (λ c κs. omega (arith, c.symbol_chips.ensures, c.requires))
-    (λ c. search rules) (λ c. search rules) decide_requires (λ c. search rules) (λ c κs. search rules) returns
-    returns_2)
+pub returns : goal.returns
+returns c = record {
+  answer = c.from.ensures ∙ word c.args.r (soft_recording c.args.i.now c.args.q.now) _ _ c.symbol_chips.ensures.answer
+      c.first_unusable.ensures.answer c.in_default.is _ c.decide.ensures.numbers;
+}
