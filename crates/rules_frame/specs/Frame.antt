@@ -21,6 +21,7 @@ abbrev pub kind_of : ℕ → Kind
 kind_of kind = cond (eqb kind 0) Long Short
 
 -- what comes of a number taken as a kind: the kind, or that it is none
+-- working notion: of the code that takes it so
 abbrev pub Kinded : ℕ → Result Kind UnknownKind → Type 0
 Kinded n r = MatchResult r (λ k. (is_kind n ≡ true) × (k ≡ kind_of n)) (λ e. (is_kind n ≡ false) × (e.0 ≡ n))
 

@@ -23,6 +23,7 @@ rate_of c =
     cond (eqb c (code_of One)) One (cond (eqb c (code_of Two)) Two (cond (eqb c (code_of Five)) Five Eleven))
 
 -- what comes of a number taken as a code: its rate, or that it is none
+-- working notion: of the code that takes it so
 abbrev pub Coded : ℕ → Result Rate UnknownRate → Type 0
 Coded c r = MatchResult r (λ rate. (is_code c ≡ true) × (rate ≡ rate_of c)) (λ e. (is_code c ≡ false) × (e.0 ≡ c))
 

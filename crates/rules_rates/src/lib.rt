@@ -138,7 +138,10 @@ pub fn is_payload(n: usize) -> bool
 pub fn is_code(code: u64) -> bool
     ensures answer { result ≡ is_code code }
 {
-    matches!(code, Rate::CODE_ONE | Rate::CODE_TWO | Rate::CODE_FIVE | Rate::CODE_ELEVEN)
+    matches!(
+        code,
+        Rate::CODE_ONE | Rate::CODE_TWO | Rate::CODE_FIVE | Rate::CODE_ELEVEN
+    )
 }
 
 // The rate of a code; of a number that is none, 11 Mbit/s.
