@@ -7,19 +7,20 @@ ghost use Rattle.rules_bits.specs.Crc.{crc_step, remainder, crc_bits};
 // x^12 + x^5 + 1.
 const POLYNOMIAL: u16 = 0x8408;
 
-// The register moves by one term; where the term that leaves and the lowest bit of b differ, the polynomial is added.
-fn crc_step(r: u16, b: u8) -> u16
-    ensures answer { bits_of 16 result ≡ crc_step (bits_of 16 r) b }
+// The register moves by one term; where the term that leaves is 1, the polynomial is added.
+fn crc_step(r: u16) -> u16
+    ensures answer { bits_of 16 result ≡ crc_step (bits_of 16 r) 0 }
 {
-    let differ = (r % 2 + (b % 2) as u16) % 2;
-    (r / 2) ^ (differ * POLYNOMIAL)
+    (r / 2) ^ (r % 2 * POLYNOMIAL)
 }
 
-fn crc_octet(mut r: u16, x: u8) -> u16
+// An octet's bits are added to the terms that they meet as these leave, all at once.
+fn crc_octet(r: u16, x: u8) -> u16
     ensures answer { bits_of 16 result ≡ remainder (bits_of 16 r) (bits_of 8 x) }
 {
-    for k in 0..8u32 {
-        r = crc_step(r, x >> k);
+    let mut r = r ^ x as u16;
+    for _step in 0..8u8 {
+        r = crc_step(r);
     }
     r
 }
