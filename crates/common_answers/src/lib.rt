@@ -1,7 +1,7 @@
 // The answers of the calls as numbers: for each case of an enum its number and values.
 #![tactic(auto)]
 
-use rules_calls::{Reading, Record, Refusal, Writing, Written};
+use rules_calls::{Frame, Reading, Record, Refusal, Written};
 // the type of a member that is passed over: a crate must know the types of what it takes apart
 ghost use Rattle.std.specs.Prelude.{◌≡◌};
 ghost use Rattle.rules_calls.specs.Answers.{refusal_number, refusal_place, refusal_length, written_of, record_of};
@@ -90,21 +90,17 @@ pub fn length_of(e: Refusal) -> u64
 }
 
 // The writer's answer.
-pub fn written_of(w: Writing) -> Written
+pub fn written_of(w: Result<Frame, Refusal>) -> Written
     ensures answer { result ≡ written_of w }
 {
     match w {
-        Writing::Refused(e) => Written {
+        Err(e) => Written {
             number: number_of(e),
             chips: 0,
         },
-        Writing::Good {
-            kind: _,
-            rate: _,
-            chips,
-        } => Written {
+        Ok(frame) => Written {
             number: 0,
-            chips: chips as u64,
+            chips: frame.chips as u64,
         },
     }
 }

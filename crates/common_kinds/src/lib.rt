@@ -20,10 +20,10 @@ pub fn is_kind(kind: u64) -> bool
 pub fn kind_of(kind: u64) -> Kind
     ensures answer { result ≡ kind_of kind }
 {
-    if kind == 0 {
-        return Kind::Long;
+    match kind {
+        0 => Kind::Long,
+        _ => Kind::Short,
     }
-    Kind::Short
 }
 
 // The rate of a kind's header.
@@ -40,15 +40,7 @@ pub fn header_rate(k: Kind) -> Rate
 pub fn goes_with(k: Kind, r: Rate) -> bool
     ensures answer { result ≡ goes_with k r }
 {
-    match k {
-        Kind::Long => true,
-        Kind::Short => match r {
-            Rate::One => false,
-            Rate::Two => true,
-            Rate::Five => true,
-            Rate::Eleven => true,
-        },
-    }
+    !matches!((k, r), (Kind::Short, Rate::One))
 }
 
 // The chips of a kind's preamble, SYNC and SFD.

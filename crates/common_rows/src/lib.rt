@@ -7,11 +7,7 @@ ghost use Rattle.std.specs.Prelude.{◌≡◌, ◌++◌, ◌-◌, ◌≤◌, len
 pub fn fill(row: &mut [u8], v: u8)
     ensures row { row.new ≡ replicate (length row.old) v }
 {
-    let mut i = 0;
-    while i < row.len() {
-        row[i] = v;
-        i += 1;
-    }
+    row.fill(v);
 }
 
 // The numbers of a row from a place on set to 0.
@@ -20,9 +16,5 @@ pub fn clear(row: &mut [u64], from: usize)
     ensures row { row.new
         ≡ take from row.old ++ replicate (length row.old - from) 0 }
 {
-    let mut i = from;
-    while i < row.len() {
-        row[i] = 0;
-        i += 1;
-    }
+    row[from..].fill(0);
 }

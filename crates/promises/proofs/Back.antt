@@ -11,6 +11,7 @@ use borrow.Author.Tests.{eq-eqb, le-ltb}
 use lib.Dec.{eqb}
 use lib.ListN.{length, take, replicate, length-append}
 use lib.Seq.{take_at, take-append-le}
+use Rattle.std.specs.Prelude.{Ok}
 use Rattle.rules_rates.specs.declared.Rate.{Rate}
 use Rattle.rules_rates.specs.Rates.{code_of, is_code, rate_of, octet_chips, length_field}
 use Rattle.rules_rates.specs.Plain.{LengthOf}
@@ -26,7 +27,6 @@ use Rattle.rules_frame.specs.Frame.{is_kind, kind_of, clock_of, clock_bit, goes_
 use Rattle.rules_frame.proofs.Phases.{is_phase_lem}
 use Rattle.rules_frame.proofs.Headers.{clock_some}
 use Rattle.rules_frame.proofs.Sizes.{frame_length}
-use Rattle.rules_calls.specs.declared.Writing.TheVariants as writing
 use Rattle.rules_calls.specs.declared.Written.{Written}
 use Rattle.rules_calls.specs.declared.Least.{Least}
 use Rattle.rules_calls.specs.declared.Record.{Record}
@@ -218,7 +218,7 @@ module _ (kind rate phase clock : ℕ) (payload : List ℕ) (w : Written) (chips
   pub size : c ≡ s.sendable.front + s.sendable.octet * n
   size = ap₂ {C = ℕ} (λ x y. x + y * n) pair.front_is pair.octet_is
 
-  written : writing_of kind rate phase n s.room ≡ writing.Good k r c
+  written : writing_of kind rate phase n s.room ≡ Ok (record { kind = k; rate = r; chips = c })
   unfolding writing_of
   written =
       rw (

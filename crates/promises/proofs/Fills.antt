@@ -8,8 +8,9 @@ use Prim.Native.Nat.{ℕ, ◌-◌, ◌≤◌}
 use native.Mathlib.Omega.{arith}
 use lib.ListN.{length, drop, replicate, length-append, length-replicate}
 use lib.Seq.{drop_at}
-use Rattle.rules_calls.specs.declared.Writing.{Writing}
-use Rattle.rules_calls.specs.declared.Writing.TheVariants as writing
+use Rattle.std.specs.Prelude.{Result, Ok, Err}
+use Rattle.rules_calls.specs.declared.Frame.{Frame}
+use Rattle.rules_calls.specs.declared.Refusal.{Refusal}
 use Rattle.rules_calls.specs.declared.Written.{Written}
 use Rattle.rules_calls.specs.declared.Record.{Record}
 use Rattle.rules_frame.specs.Frame.{frame, frame_chips, kind_of, clock_of}
@@ -23,31 +24,32 @@ use Rattle.rules_calls.proofs.AnswerFacts.{some_number}
 use Rattle.promises.specs.Promises.{WriteFills, ReadFills}
 
 -- ---- writing
-abbrev Fitting : ℕ → ℕ → Writing → Type 0
-Fitting n room (writing.Refused e) = Unit {0}
-Fitting n room (writing.Good k r c) = (c ≡ frame_chips k r n) × (c ≤ room)
+abbrev Fitting : ℕ → ℕ → Result Frame Refusal → Type 0
+Fitting n room (Err e) = Unit {0}
+Fitting n room (Ok f) = (f.chips ≡ frame_chips f.kind f.rate n) × (f.chips ≤ room)
 
 fitting : (kind rate phase n room : ℕ) → Fitting n room (writing_of kind rate phase n room)
 fitting kind rate phase n room = go (writing_of kind rate phase n room) refl
   where
-    go : (g : Writing) → writing_of kind rate phase n room ≡ g → Fitting n room g
-    go (writing.Refused e) h = tt
-    go (writing.Good k r c) h = let a = accepted kind rate phase n room k r c h in (a.2, a.3)
+    go : (g : Result Frame Refusal) → writing_of kind rate phase n room ≡ g → Fitting n room g
+    go (Err e) h = tt
+    go (Ok f) h = let a = accepted kind rate phase n room f h in (a.2, a.3)
 
-filled_chips : (phase : ℕ) (clock : Bool) (payload : List ℕ) (room : ℕ) (g : Writing) → Fitting (length payload) room g
+filled_chips : (phase : ℕ) (clock : Bool) (payload : List ℕ) (room : ℕ) (g : Result Frame Refusal) → Fitting (length payload) room g
     → (length (chips_after phase clock payload room g) ≡ room)
     × (((written_of g).number ≡ 0 → ⊥) → chips_after phase clock payload room g ≡ replicate room 4)
     × ((written_of g).number ≡ 0
     → drop (written_of g).chips (chips_after phase clock payload room g) ≡ replicate (room - (written_of g).chips) 4)
-filled_chips phase clock payload room (writing.Refused e) h =
+filled_chips phase clock payload room (Err e) h =
     (length-replicate room 4, (λ z. refl), λ z. absurd (some_number e z))
-filled_chips phase clock payload room (writing.Good k r c) h =
-    let e : length (frame k r phase clock payload) ≡ c = frame_length k r phase clock payload ∙ sym h.0 in
-    let within : c ≤ room = h.1 in (
-      length-append (frame k r phase clock payload) (replicate (room - c) 4)
-          ∙ omega (arith, length-replicate {A = ℕ} (room - c) 4),
+filled_chips phase clock payload room (Ok f) h =
+    let sent : List ℕ = frame f.kind f.rate phase clock payload in
+    let rest : List ℕ = replicate (room - f.chips) 4 in
+    let e : length sent ≡ f.chips = frame_length f.kind f.rate phase clock payload ∙ sym h.0 in
+    let within : f.chips ≤ room = h.1 in (
+      length-append sent rest ∙ omega (arith, length-replicate {A = ℕ} (room - f.chips) 4),
       (λ z. absurd (z refl)),
-      λ z. drop_at (frame k r phase clock payload) (replicate (room - c) 4) c e,
+      λ z. drop_at sent rest f.chips e,
     )
 
 pub write_fills : WriteFills

@@ -9,6 +9,7 @@ use borrow.Author.Tests.{leb-true, le-ltb}
 use lib.Dec.{T, ltb, leb, nltb→le}
 use lib.ListN.{length}
 use lib.IntN.{pos}
+use Rattle.std.specs.Prelude.{Result, Ok, Err}
 use Rattle.base.specs.Below.{Below}
 use Rattle.base.proofs.Tests.{held, left_is, right_is, branch}
 use Rattle.rules_rates.specs.declared.Rate.{Rate}
@@ -23,8 +24,8 @@ use Rattle.rules_frame.specs.declared.Kind.{Kind}
 use Rattle.rules_frame.specs.Frame.{is_kind, kind_of, goes_with, is_phase, front_chips, frame_chips}
 use Rattle.rules_frame.proofs.Phases.{phase_most}
 use Rattle.rules_frame.proofs.Headers.{clock_lt}
-use Rattle.rules_calls.specs.declared.Writing.{Writing}
-use Rattle.rules_calls.specs.declared.Writing.TheVariants as writing
+use Rattle.rules_calls.specs.declared.Frame.{Frame}
+use Rattle.rules_calls.specs.declared.Refusal.{Refusal}
 use Rattle.rules_calls.specs.declared.Told.{Told}
 use Rattle.rules_calls.specs.declared.Front.{Front}
 use Rattle.rules_calls.specs.declared.Front.TheVariants as front
@@ -69,9 +70,9 @@ module _ (kind rate phase : ℕ) (payload : List ℕ) (room : ℕ) (octets : Bel
   abbrev n : ℕ
   n = length payload
 
-  abbrev Sendable-in : Writing → Type 0
-  Sendable-in (writing.Refused e) = Unit {0}
-  Sendable-in (writing.Good k r c) =
+  abbrev Sendable-in : Result Frame Refusal → Type 0
+  Sendable-in (Err e) = Unit {0}
+  Sendable-in (Ok f) =
       Goes kind rate (front_chips (kind_of kind)) (octet_chips (rate_of rate))
       × (1 ≤ n) × (n ≤ 4095) × (phase ≤ 3) × (frame_chips (kind_of kind) (rate_of rate) n ≤ room)
 
@@ -99,10 +100,10 @@ only_sent kind rate phase clock payload room w left octets wrote zero_is =
     go (writing_of kind rate phase (length payload) room) (sendable_in kind rate phase payload room octets)
     (ap (λ (v : Written). v.number) (sym wrote.answer) ∙ zero_is)
   where
-    go : (g : Writing) → Sendable-in kind rate phase payload room octets g → (written_of g).number ≡ 0
+    go : (g : Result Frame Refusal) → Sendable-in kind rate phase payload room octets g → (written_of g).number ≡ 0
         → Sent kind rate phase clock payload w left
-    go (writing.Refused e) p z = absurd (some_number e z)
-    go (writing.Good k r c) p z = record {
+    go (Err e) p z = absurd (some_number e z)
+    go (Ok f) p z = record {
       room = room;
       sendable = record {
         front = front_chips (kind_of kind);

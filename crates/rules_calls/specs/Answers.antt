@@ -1,6 +1,6 @@
 -- What the calls answer: for each case of an enum answer its number and values (RULES 6.4, 6.8, 6.10, 6.11).
 -- Definitions only. Assumes nothing.
-use Rattle.std.specs.Prelude.{ℕ}
+use Rattle.std.specs.Prelude.{ℕ, Result, Ok, Err}
 use Rattle.rules_rates.specs.Rates.{code_of}
 use Rattle.rules_frame.specs.Frame.{clock_bit}
 use Rattle.rules_calls.specs.declared.Refusal.{Refusal}
@@ -23,8 +23,7 @@ use Rattle.rules_calls.specs.declared.Refusal.TheVariants.{
   Ends,
   OctetRoom,
 }
-use Rattle.rules_calls.specs.declared.Writing.{Writing}
-use Rattle.rules_calls.specs.declared.Writing.TheVariants as writing
+use Rattle.rules_calls.specs.declared.Frame.{Frame}
 use Rattle.rules_calls.specs.declared.Reading.{Reading}
 use Rattle.rules_calls.specs.declared.Reading.TheVariants as reading
 use Rattle.rules_calls.specs.declared.Written.{Written}
@@ -91,9 +90,9 @@ refusal_length (Ends l) = l
 refusal_length (OctetRoom l) = l
 
 -- a good write answers number 0 and the chips written, the frame's; a refusal its number, all else 0
-abbrev pub written_of : Writing → Written
-written_of (writing.Refused e) = record { number = refusal_number e; chips = 0 }
-written_of (writing.Good k r c) = record { number = 0; chips = c }
+abbrev pub written_of : Result Frame Refusal → Written
+written_of (Err e) = record { number = refusal_number e; chips = 0 }
+written_of (Ok f) = record { number = 0; chips = f.chips }
 
 -- a good read answers number 0, the rate code, LENGTH, n, chips used, the clock bit, the smallest lead and its symbol;
 -- a refusal its number, place and LENGTH, all else 0

@@ -98,15 +98,12 @@ pub enum Refusal {
     OctetRoom { length: usize },
 }
 
-// What a write comes to, before a chip is written.
+// A frame that a write is not refused for: its kind, its rate, and how many chips it is.
 #[derive(Clone, Copy)]
-pub enum Writing {
-    Refused(Refusal),
-    Good {
-        kind: Kind,
-        rate: Rate,
-        chips: usize,
-    },
+pub struct Frame {
+    pub kind: Kind,
+    pub rate: Rate,
+    pub chips: usize,
 }
 
 // What a good header tells: the rate, LENGTH, the payload's octets, and whether the clock bit is set.

@@ -1,7 +1,7 @@
 -- The frame: its two kinds of front, the header, the payload, and all of its chips (RULES 5.1 to 5.14).
 -- Source 002, an earlier draft, has a short header at 5.5 Mbit/s and uses the lowest SERVICE bit: both were given up.
 -- Definitions only. Assumes nothing.
-use Rattle.std.specs.Prelude.{ℕ, ◌+◌, ◌*◌, Bool, true, false, cond, not, List, [], ◌∷◌, ◌++◌, length, take, drop, replicate, eqb, ltb}
+use Rattle.std.specs.Prelude.{◌≡◌, Result, MatchResult, ℕ, ◌+◌, ◌*◌, Bool, true, false, cond, not, List, [], ◌∷◌, ◌++◌, length, take, drop, replicate, eqb, ltb}
 use Rattle.rules_rates.specs.declared.Rate.{Rate}
 use Rattle.rules_rates.specs.declared.Rate.TheVariants.{One, Two, Five, Eleven}
 use Rattle.rules_rates.specs.Rates.{code_of, symbol_chips, octet_chips, length_field, bit7}
@@ -10,6 +10,7 @@ use Rattle.rules_bits.specs.Growths.{symbols_of, chips_from, last_phase}
 use Rattle.rules_bits.specs.Scrambler.{scramble}
 use Rattle.rules_bits.specs.Crc.{crc_bits}
 use Rattle.rules_frame.specs.declared.Kind.{Kind}
+use Rattle.rules_frame.specs.declared.UnknownKind.{UnknownKind}
 use Rattle.rules_frame.specs.declared.Kind.TheVariants.{Long, Short}
 
 -- kind is 0 (long) or 1 (short)
@@ -18,6 +19,11 @@ is_kind kind = ltb kind 2
 
 abbrev pub kind_of : ℕ → Kind
 kind_of kind = cond (eqb kind 0) Long Short
+
+-- what comes of a number taken as a kind: the kind, or that it is none
+-- working notion: of the code that takes it so
+abbrev pub Kinded : ℕ → Result Kind UnknownKind → Type 0
+Kinded n r = MatchResult r (λ k. (is_kind n ≡ true) × (k ≡ kind_of n)) (λ e. (is_kind n ≡ false) × (e.0 ≡ n))
 
 -- SYNC, 1 Mbit/s: 128 ones, or 56 zeros
 abbrev pub sync_bits : Kind → ℕ

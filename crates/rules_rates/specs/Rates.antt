@@ -1,9 +1,10 @@
 -- The four rates: their codes, what a symbol and an octet take (RULES 3.1, 3.2, 4.1 to 4.5, 5.2, 5.8), LENGTH and bit 7
 -- (5.10 to 5.12, 6.4 no. 15). The draft's lower end of 16 microseconds is not applied (1.3).
 -- Definitions only. Assumes nothing.
-use Rattle.std.specs.Prelude.{Bool, cond, ◌&&◌, ◌||◌, ℕ, ◌+◌, ◌*◌, ◌/◌, leb, eqb, ℤ, pos, ◌-ℤ◌, nat_abs}
+use Rattle.std.specs.Prelude.{◌≡◌, Bool, true, false, cond, Result, MatchResult, ◌&&◌, ◌||◌, ℕ, ◌+◌, ◌*◌, ◌/◌, leb, eqb, ℤ, pos, ◌-ℤ◌, nat_abs}
 use Rattle.std.specs.Int.Signed.{le_z}
 use Rattle.rules_rates.specs.declared.Rate.{Rate}
+use Rattle.rules_rates.specs.declared.UnknownRate.{UnknownRate}
 use Rattle.rules_rates.specs.declared.Rate.TheVariants.{One, Two, Five, Eleven}
 
 -- SIGNAL is 10, 20, 55 or 110 for 1, 2, 5.5, 11 Mbit/s; these are also the rate codes
@@ -20,6 +21,11 @@ is_code c = eqb c (code_of One) || eqb c (code_of Two) || eqb c (code_of Five) |
 abbrev pub rate_of : ℕ → Rate
 rate_of c =
     cond (eqb c (code_of One)) One (cond (eqb c (code_of Two)) Two (cond (eqb c (code_of Five)) Five Eleven))
+
+-- what comes of a number taken as a code: its rate, or that it is none
+-- working notion: of the code that takes it so
+abbrev pub Coded : ℕ → Result Rate UnknownRate → Type 0
+Coded c r = MatchResult r (λ rate. (is_code c ≡ true) × (rate ≡ rate_of c)) (λ e. (is_code c ≡ false) × (e.0 ≡ c))
 
 -- Barker, 11 chips, at 1 and 2 Mbit/s; CCK, 8 chips, at 5.5 and 11
 abbrev pub symbol_chips : Rate → ℕ

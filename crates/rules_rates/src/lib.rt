@@ -6,6 +6,7 @@ ghost use Rattle.rules_rates.specs.Rates.{
   code_of,
   is_code,
   rate_of,
+  Coded,
   symbol_chips,
   octet_symbols,
   octet_chips,
@@ -60,10 +61,8 @@ impl Rate {
         ensures answer { result ≡ symbol_chips self }
     {
         match self {
-            Rate::One => Rate::BARKER_CHIPS,
-            Rate::Two => Rate::BARKER_CHIPS,
-            Rate::Five => Rate::CCK_CHIPS,
-            Rate::Eleven => Rate::CCK_CHIPS,
+            Rate::One | Rate::Two => Rate::BARKER_CHIPS,
+            Rate::Five | Rate::Eleven => Rate::CCK_CHIPS,
         }
     }
 
@@ -109,16 +108,8 @@ impl Rate {
         ensures answer { (result ≡ bit7 self n) × (result < 2) }
     {
         match self {
-            Rate::One => 0,
-            Rate::Two => 0,
-            Rate::Five => 0,
-            Rate::Eleven => {
-                if 8 * n + 8 <= 11 * ((8 * n + 10) / 11) {
-                    1
-                } else {
-                    0
-                }
-            }
+            Rate::One | Rate::Two | Rate::Five => 0,
+            Rate::Eleven => (8 * n + 8 <= 11 * ((8 * n + 10) / 11)) as u8,
         }
     }
 
@@ -140,40 +131,48 @@ impl Rate {
 pub fn is_payload(n: usize) -> bool
     ensures answer { result ≡ is_payload (pos n) }
 {
-    if n < 1 {
-        return false;
-    }
-    n <= 4095
+    (1..=4095).contains(&n)
 }
 
 // Whether a number is a rate's code.
 pub fn is_code(code: u64) -> bool
     ensures answer { result ≡ is_code code }
 {
-    if code == Rate::CODE_ONE {
-        return true;
-    }
-    if code == Rate::CODE_TWO {
-        return true;
-    }
-    if code == Rate::CODE_FIVE {
-        return true;
-    }
-    code == Rate::CODE_ELEVEN
+    matches!(
+        code,
+        Rate::CODE_ONE | Rate::CODE_TWO | Rate::CODE_FIVE | Rate::CODE_ELEVEN
+    )
 }
 
 // The rate of a code; of a number that is none, 11 Mbit/s.
 pub fn rate_of(code: u64) -> Rate
     ensures answer { result ≡ rate_of code }
 {
-    if code == Rate::CODE_ONE {
-        return Rate::One;
+    match code {
+        Rate::CODE_ONE => Rate::One,
+        Rate::CODE_TWO => Rate::Two,
+        Rate::CODE_FIVE => Rate::Five,
+        _ => Rate::Eleven,
     }
-    if code == Rate::CODE_TWO {
-        return Rate::Two;
+}
+
+// A number that is no rate's code.
+#[derive(Clone, Copy)]
+pub struct UnknownRate(pub u64);
+
+// The rate of a code.
+impl TryFrom<u64> for Rate {
+    type Error = UnknownRate;
+
+    ghost try_from_gives = { Coded };
+
+    fn try_from(code: u64) -> Result<Self, UnknownRate> {
+        match code {
+            Rate::CODE_ONE => Ok(Rate::One),
+            Rate::CODE_TWO => Ok(Rate::Two),
+            Rate::CODE_FIVE => Ok(Rate::Five),
+            Rate::CODE_ELEVEN => Ok(Rate::Eleven),
+            _ => Err(UnknownRate(code)),
+        }
     }
-    if code == Rate::CODE_FIVE {
-        return Rate::Five;
-    }
-    Rate::Eleven
 }

@@ -12,7 +12,7 @@ ghost use Rattle.write_octets.specs.Line.{state};
 ghost use Rattle.write_frame.specs.Parts.{preamble_octets, front_sent, after_front};
 
 use common_lines::Line;
-use rules_calls::{Writing, Written};
+use rules_calls::{Frame, Written};
 use rules_frame::Kind;
 use rules_rates::Rate;
 
@@ -56,17 +56,17 @@ pub fn put_front(k: Kind, p: u8, header: &[u8], chips: &mut [u8]) -> Line
 }
 
 // The whole frame, and 4s to the buffer's end.
-fn put_frame(k: Kind, r: Rate, p: u8, clock: bool, payload: &[u8], count: usize, chips: &mut [u8])
-    requires { (length payload.now ≤ 4095) × (count ≡ frame_chips k r (length payload.now))
-        × (count ≤ length chips.old) }
+fn put_frame(f: Frame, p: u8, clock: bool, payload: &[u8], chips: &mut [u8])
+    requires { (length payload.now ≤ 4095) × (f.chips ≡ frame_chips f.kind f.rate (length payload.now))
+        × (f.chips ≤ length chips.old) }
     ensures chips { chips.new
-        ≡ frame k r p clock payload.now ++ replicate (length chips.old - count) 4 }
+        ≡ frame f.kind f.rate p clock payload.now ++ replicate (length chips.old - f.chips) 4 }
 {
-    let header = common_header::header_octets(r, clock, payload.len());
-    let l = put_front(k, p, &header, chips);
-    let at = common_kinds::front_chips(k);
-    write_octets::put_octets(r, l, payload, &mut chips[at..]);
-    common_rows::fill(&mut chips[count..], 4);
+    let header = common_header::header_octets(f.rate, clock, payload.len());
+    let l = put_front(f.kind, p, &header, chips);
+    let at = common_kinds::front_chips(f.kind);
+    write_octets::put_octets(f.rate, l, payload, &mut chips[at..]);
+    chips[f.chips..].fill(4);
 }
 
 // A frame's chips from its payload; the answer tells the refusal, or how many chips were written. A clock of 0 is no,
@@ -85,19 +85,9 @@ pub fn write(
         ≡ chips_written kind rate phase clock payload.now (length chips.old) }
 {
     let writing = checks::check_write(kind, rate, phase, payload.len(), chips.len());
-    let written = common_answers::written_of(writing);
     match writing {
-        Writing::Refused(_) => {
-            common_rows::fill(chips, 4);
-            written
-        }
-        Writing::Good {
-            kind: k,
-            rate: r,
-            chips: count,
-        } => {
-            put_frame(k, r, phase as u8, clock != 0, payload, count, chips);
-            written
-        }
+        Ok(frame) => put_frame(frame, phase as u8, clock != 0, payload, chips),
+        Err(_) => chips.fill(4),
     }
+    common_answers::written_of(writing)
 }

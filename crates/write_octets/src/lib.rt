@@ -154,12 +154,8 @@ pub fn put_octets(r: Rate, line: Line, octets: &[u8], chips: &mut [u8]) -> Line
     let per = r.octet_chips();
     let barkers = common_words::barker_words();
     let mut l = line;
-    let mut i = 0;
-    let mut at = 0;
-    while i < octets.len() {
-        l = put_octet(&barkers, r, l, i, octets[i], &mut chips[at..]);
-        at += per;
-        i += 1;
+    for (i, &x) in octets.iter().enumerate() {
+        l = put_octet(&barkers, r, l, i, x, &mut chips[per * i..]);
     }
     l
 }

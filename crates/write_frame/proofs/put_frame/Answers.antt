@@ -1,11 +1,5 @@
--- `write_frame::put_frame` meets its contract: the payload's chips go over the part behind the front's, and the rest is
--- filled. Assumes nothing.
-use mathlib.Core.Path.{◌≡◌, sym, ap, ap₂, ◌∙◌}
-use mathlib.Core.Bool.{Bool}
-use mathlib.Core.List.{List, ◌++◌}
-use Prim.Native.Nat.{ℕ, ◌+◌, ◌-◌, ◌≤◌}
-use lib.ListN.{length, take, drop, replicate, length-append}
-use borrow.Author.Rules.{rules}
+-- The payload's chips go over the part behind the front's, and the rest is filled.
+use Rattle.std.proofs.Common.{◌≡◌, ℕ, ◌+◌, ◌-◌, ◌≤◌, Bool, List, ◌++◌, length, take, drop, replicate, sym, ap, ap₂, ◌∙◌, length-append}
 use borrow.Rule.Slice.PartMut.{put_mid}
 use Rattle.base.specs.Over.{over}
 use Rattle.base.proofs.Over.{over_next, over_filled}
@@ -17,8 +11,7 @@ use Rattle.write_octets.specs.Sending.{State, run}
 use Rattle.write_octets.proofs.Run.{length_run}
 use Rattle.write_frame.specs.Parts.{front_sent, after_front}
 use Rattle.write_frame.proofs.Fusion.{frame_parts, length_front}
-use Rattle.write_frame.proofs.put_frame.Statement.{statement}
-use Rattle.write_frame.proofs.put_frame.Tie as tie
+use Rattle.write_frame.proofs.put_frame.Goals as goal
 
 all : (k : Kind) (r : Rate) (p : ℕ) (clock : Bool) (b e : ℕ) (h xs d o y z : List ℕ) (s : State)
     → octet_bits h ≡ sent_header r clock (length xs) → length h ≡ 6
@@ -39,22 +32,14 @@ all k r p clock b e h xs d o y z s eh six es eo eb ey ee room ez =
     count room ez
     ∙ ap (λ (v : List ℕ). v ++ replicate (length d - e) 4) is
 
-returns : tie.Need-returns
+pub returns : goal.returns
 returns c =
     let header = c.header_octets-header in
     let front = c.put_front-l in
     let rest = c.put_octets in
-    all c.args.k c.args.r _ c.args.clock _ c.args.count _ _ _ front.new.chips
-    rest.new.chips
-    c.fill.new.row _ header.ensures.0 header.ensures.1 front.ensures.0
-    front.ensures.1
-    c.front_chips-at.ensures rest.ensures.1
-    c.requires.1 c.requires.2 c.fill.ensures
-
-pub put_frame_spec : {M : Type 1} → statement M
-put_frame_spec =
-    tie.close
-    (tie.spec
-    (λ c κs. search rules) (λ c. search rules) (λ c κs. search rules) (λ c κs. search rules) (λ c. search rules)
-    (λ c. search rules) (λ c. search rules) (λ c κs. search rules) (λ c. search rules) (λ c. search rules)
-    (λ c. search rules) (λ c κs. search rules) (λ c. search rules) returns)
+    record {
+      chips = all c.args.f.kind c.args.f.rate _ c.args.clock _ c.args.f.chips _ c.args.payload.now _ front.new.chips
+          rest.new.chips c.fill.new.self _ header.ensures.answer.0 header.ensures.answer.1 front.ensures.answer
+          front.ensures.chips c.front_chips-at.ensures.answer rest.ensures.chips c.requires.1 c.requires.2
+          (c.fill.ensures.after (λ y h. h));
+    }
