@@ -21,21 +21,15 @@ pub fn number_of(e: Refusal) -> u64
         Refusal::ChipRoom => 6,
         Refusal::RowsDiffer => 7,
         Refusal::ShorterThanFront => 8,
-        Refusal::Unusable {
-            place: _,
-            length: _,
-        } => 9,
-        Refusal::OddGrowth {
-            place: _,
-            length: _,
-        } => 10,
+        Refusal::Unusable { .. } => 9,
+        Refusal::OddGrowth { .. } => 10,
         Refusal::Sfd => 11,
         Refusal::Crc => 12,
-        Refusal::Signal { length: _ } => 13,
-        Refusal::Service { length: _ } => 14,
-        Refusal::Length { length: _ } => 15,
-        Refusal::Ends { length: _ } => 16,
-        Refusal::OctetRoom { length: _ } => 17,
+        Refusal::Signal { .. } => 13,
+        Refusal::Service { .. } => 14,
+        Refusal::Length { .. } => 15,
+        Refusal::Ends { .. } => 16,
+        Refusal::OctetRoom { .. } => 17,
     }
 }
 
@@ -44,23 +38,8 @@ pub fn place_of(e: Refusal) -> u64
     ensures answer { result ≡ refusal_place e }
 {
     match e {
-        Refusal::NoKind => 0,
-        Refusal::NoRate => 0,
-        Refusal::ShortRate => 0,
-        Refusal::PayloadSize => 0,
-        Refusal::NoPhase => 0,
-        Refusal::ChipRoom => 0,
-        Refusal::RowsDiffer => 0,
-        Refusal::ShorterThanFront => 0,
-        Refusal::Unusable { place, length: _ } => place as u64,
-        Refusal::OddGrowth { place, length: _ } => place as u64,
-        Refusal::Sfd => 0,
-        Refusal::Crc => 0,
-        Refusal::Signal { length: _ } => 0,
-        Refusal::Service { length: _ } => 0,
-        Refusal::Length { length: _ } => 0,
-        Refusal::Ends { length: _ } => 0,
-        Refusal::OctetRoom { length: _ } => 0,
+        Refusal::Unusable { place, .. } | Refusal::OddGrowth { place, .. } => place as u64,
+        _ => 0,
     }
 }
 
@@ -69,23 +48,14 @@ pub fn length_of(e: Refusal) -> u64
     ensures answer { result ≡ refusal_length e }
 {
     match e {
-        Refusal::NoKind => 0,
-        Refusal::NoRate => 0,
-        Refusal::ShortRate => 0,
-        Refusal::PayloadSize => 0,
-        Refusal::NoPhase => 0,
-        Refusal::ChipRoom => 0,
-        Refusal::RowsDiffer => 0,
-        Refusal::ShorterThanFront => 0,
-        Refusal::Unusable { place: _, length } => length as u64,
-        Refusal::OddGrowth { place: _, length } => length as u64,
-        Refusal::Sfd => 0,
-        Refusal::Crc => 0,
-        Refusal::Signal { length } => length as u64,
-        Refusal::Service { length } => length as u64,
-        Refusal::Length { length } => length as u64,
-        Refusal::Ends { length } => length as u64,
-        Refusal::OctetRoom { length } => length as u64,
+        Refusal::Unusable { length, .. }
+        | Refusal::OddGrowth { length, .. }
+        | Refusal::Signal { length }
+        | Refusal::Service { length }
+        | Refusal::Length { length }
+        | Refusal::Ends { length }
+        | Refusal::OctetRoom { length } => length as u64,
+        _ => 0,
     }
 }
 
@@ -106,11 +76,11 @@ pub fn written_of(w: Result<Frame, Refusal>) -> Written
 }
 
 // A reader's answer.
-pub fn record_of(g: Reading) -> Record
+pub fn record_of(g: Result<Reading, Refusal>) -> Record
     ensures answer { result ≡ record_of g }
 {
     match g {
-        Reading::Refused(e) => Record {
+        Err(e) => Record {
             number: number_of(e),
             place: place_of(e),
             rate: 0,
@@ -121,19 +91,16 @@ pub fn record_of(g: Reading) -> Record
             lead: 0,
             symbol: 0,
         },
-        Reading::Good { told, used, least } => {
-            let rate = told.rate;
-            Record {
-                number: 0,
-                place: 0,
-                rate: rate.code(),
-                length: told.length as u64,
-                n: told.n as u64,
-                used: used as u64,
-                clock: told.clock as u64,
-                lead: least.lead as u64,
-                symbol: least.symbol as u64,
-            }
-        }
+        Ok(Reading { told, used, least }) => Record {
+            number: 0,
+            place: 0,
+            rate: told.rate.code(),
+            length: told.length as u64,
+            n: told.n as u64,
+            used: used as u64,
+            clock: told.clock as u64,
+            lead: least.lead as u64,
+            symbol: least.symbol as u64,
+        },
     }
 }

@@ -6,7 +6,8 @@
 --     told_fails, told_holds                         LENGTH holds exactly when octets are told, and they are those read
 -- A difference that does not go below 0 is a natural number; one that does is no payload, nor is 0. Assumes nothing.
 use mathlib.Core.Path.{◌≡◌, refl, sym, ap, ◌∙◌, subst}
-use mathlib.Core.Bool.{Bool, true, false, cond, ◌&&◌}
+use Rattle.std.specs.Prelude.{Option, None, Some}
+use mathlib.Core.Bool.{Bool, true, false, cond}
 use Prim.Native.Nat.{ℕ, zero, suc, ◌+◌, ◌-◌, ◌≤◌}
 use native.Mathlib.Decide.{dec_le}
 use native.Mathlib.Omega.{arith}
@@ -65,43 +66,40 @@ module _ (r : Rate) (l s n : ℕ) (e : n ≡ whole_octets r l - s) where
       left : (w : ℕ) → n ≡ w - s → (n ≡ 0 → ⊥) → w ≡ n + s
       left w e some = omega arith
 
-  pub told_over : is_payload (pos n) ≡ false → 0 ≡ octets_told r l s
+  pub told_over : is_payload (pos n) ≡ false → None ≡ octets_told r l s
   unfolding octets_told
   told_over k = rw (read_payload, k)
 
   module _ (k : is_payload (pos n) ≡ true) (f : ℕ) (q : f ≡ length_field r n) where
-    pub told_length : (f ≡ l → ⊥) → 0 ≡ octets_told r l s
+    pub told_length : (f ≡ l → ⊥) → None ≡ octets_told r l s
     unfolding octets_told
     told_length m = rw (read_is k, k, ← q, ne_eqb f l m)
 
     module _ (m : f ≡ l) (g : ℕ) (p : g ≡ bit7 r n) where
-      pub told_seven : (g ≡ s → ⊥) → 0 ≡ octets_told r l s
+      pub told_seven : (g ≡ s → ⊥) → None ≡ octets_told r l s
       unfolding octets_told
       told_seven t = rw (read_is k, k, ← q, eq-eqb f l m, ← p, ne_eqb g s t)
 
-      pub told_all : g ≡ s → n ≡ octets_told r l s
+      pub told_all : g ≡ s → Some n ≡ octets_told r l s
       unfolding octets_told
       told_all t = rw (read_is k, k, ← q, eq-eqb f l m, ← p, eq-eqb g s t)
 
-first : (a b c : Bool) → a && b && c ≡ true → a ≡ true
-first true b c e = refl
-first false b c e = e
-
-module _ (r : Rate) (l s n : ℕ) (e : n ≡ octets_told r l s) where
-  when : (b : Bool) → length_holds r l s ≡ b → n ≡ cond b (nat_abs (octets_read r l s)) 0
+module _ (r : Rate) (l s : ℕ) (o : Option ℕ) (e : o ≡ octets_told r l s) where
+  when : (b : Bool) → length_holds r l s ≡ b → o ≡ cond b (Some (nat_abs (octets_read r l s))) None
   unfolding octets_told
-  when b q = e ∙ ap (λ (t : Bool). cond t (nat_abs (octets_read r l s)) 0) q
+  when b q = e ∙ ap (λ (t : Bool). cond t (Some (nat_abs (octets_read r l s))) None) q
 
-  pub told_fails : n ≡ 0 → length_holds r l s ≡ false
+  pub told_fails : o ≡ None → length_holds r l s ≡ false
   told_fails z = by (length_holds r l s) refl
     where
       by : (b : Bool) → length_holds r l s ≡ b → b ≡ false
-      by true q = absurd (payload_some (octets_read r l s) (first _ _ _ q) (sym (when true q) ∙ z))
+      by true q = absurd (let y : ◌≡◌ {A = Option ℕ} None (Some (nat_abs (octets_read r l s))) = sym z ∙ when true q in cc)
       by false q = refl
 
-  pub told_holds : (n ≡ 0 → ⊥) → (length_holds r l s ≡ true) × (nat_abs (octets_read r l s) ≡ n)
-  told_holds z = by (length_holds r l s) refl
+  pub told_holds : (n : ℕ) → o ≡ Some n → (length_holds r l s ≡ true) × (nat_abs (octets_read r l s) ≡ n)
+  told_holds n z = by (length_holds r l s) refl
     where
       by : (b : Bool) → length_holds r l s ≡ b → (b ≡ true) × (nat_abs (octets_read r l s) ≡ n)
-      by true q = (refl, sym (when true q))
-      by false q = absurd (z (when false q))
+      by true q =
+          let y : ◌≡◌ {A = Option ℕ} (Some (nat_abs (octets_read r l s))) (Some n) = sym (when true q) ∙ z in (refl, cc)
+      by false q = absurd (let y : ◌≡◌ {A = Option ℕ} None (Some n) = sym (when false q) ∙ z in cc)

@@ -9,7 +9,7 @@ ghost use Rattle.rules_frame.specs.Frame.{sfd_of, goes_with, header_bits, sent_h
 ghost use Rattle.rules_calls.specs.Headers.{service_allowed, accepted_by, same_bits, fields_of, header_of};
 ghost use Rattle.common_header.specs.Code.{octets_told};
 
-use rules_calls::{Front, Reader, Refusal, Told};
+use rules_calls::{Reader, Refusal, Told};
 use rules_frame::Kind;
 use rules_rates::Rate;
 
@@ -19,22 +19,10 @@ mod crc;
 fn service_allowed(r: Rate, service: u8) -> bool
     ensures answer { result ≡ service_allowed r service }
 {
-    if service == 0 {
-        return true;
-    }
-    if service == 4 {
-        return true;
-    }
-    match r {
-        Rate::One => false,
-        Rate::Two => false,
-        Rate::Five => false,
-        Rate::Eleven => {
-            if service == 128 {
-                return true;
-            }
-            service == 132
-        }
+    match service {
+        0 | 4 => true,
+        128 | 132 => matches!(r, Rate::Eleven),
+        _ => false,
     }
 }
 
@@ -44,41 +32,36 @@ pub fn octets_or_none(r: Rate, length: usize, seven: u8) -> usize
     requires { (length < 65536) × (seven < 2) }
     ensures answer { result ≡ whole_octets r length - seven }
 {
-    let whole = r.whole_octets(length);
-    let less = seven as usize;
-    if whole <= less {
-        return 0;
-    }
-    whole - less
+    r.whole_octets(length).saturating_sub(seven as usize)
 }
 
-// The octets that LENGTH and bit 7 tell; 0 where a writer would send others for them, or where they are
+// The octets that LENGTH and bit 7 tell; none where a writer would send others for them, or where they are
 // none or above 4,095.
-fn octets_told(r: Rate, length: usize, seven: u8) -> usize
+fn octets_told(r: Rate, length: usize, seven: u8) -> Option<usize>
     requires { (length < 65536) × (seven < 2) }
     ensures answer { result ≡ octets_told r length seven }
 {
     let n = octets_or_none(r, length, seven);
     if !rules_rates::is_payload(n) {
-        return 0;
+        return None;
     }
     if r.length_field(n) != length {
-        return 0;
+        return None;
     }
     if r.bit7(n) != seven {
-        return 0;
+        return None;
     }
-    n
+    Some(n)
 }
 
 // Whether SIGNAL is a rate of this kind.
 fn signal_allowed(k: Kind, code: u64) -> bool
     ensures answer { result ≡ (is_code code && goes_with k (rate_of code)) }
 {
-    if !rules_rates::is_code(code) {
-        return false;
+    match Rate::try_from(code) {
+        Ok(rate) => common_kinds::goes_with(k, rate),
+        Err(_) => false,
     }
-    common_kinds::goes_with(k, rules_rates::rate_of(code))
 }
 
 // 13: whether a reader accepts SIGNAL.
@@ -87,12 +70,7 @@ fn signal_accepted(by: Reader, k: Kind, code: u64) -> bool
 {
     match by {
         Reader::Ours => signal_allowed(k, code),
-        Reader::Of1997 => {
-            if code == 10 {
-                return true;
-            }
-            code == 20
-        }
+        Reader::Of1997 => matches!(code, Rate::CODE_ONE | Rate::CODE_TWO),
     }
 }
 
@@ -107,32 +85,28 @@ fn service_accepted(by: Reader, r: Rate, service: u8) -> bool
 }
 
 // What the three fields tell a reader: refusals 13, 14 and 15, in this order.
-fn fields_of(by: Reader, k: Kind, signal: u8, service: u8, length: usize) -> Front
+fn fields_of(by: Reader, k: Kind, signal: u8, service: u8, length: usize) -> Result<Told, Refusal>
     requires { length < 65536 }
     ensures answer { result ≡ fields_of (accepted_by by) k signal service length }
 {
     let code = signal as u64;
-    let r = rules_rates::rate_of(code);
-    let coded = signal_accepted(by, k, code);
-    let served = service_accepted(by, r, service);
-    if !coded {
-        return Front::Refused(Refusal::Signal { length });
+    let rate = rules_rates::rate_of(code);
+    if !signal_accepted(by, k, code) {
+        return Err(Refusal::Signal { length });
     }
-    if !served {
-        return Front::Refused(Refusal::Service { length });
+    if !service_accepted(by, rate, service) {
+        return Err(Refusal::Service { length });
     }
-    let n = octets_told(r, length, service / 128 % 2);
-    if n == 0 {
-        return Front::Refused(Refusal::Length { length });
-    }
+    let Some(n) = octets_told(rate, length, service / 128 % 2) else {
+        return Err(Refusal::Length { length });
+    };
     let clock = service / 4 % 2 == 1;
-    let told = Told {
-        rate: r,
+    Ok(Told {
+        rate,
         length,
         n,
         clock,
-    };
-    Front::Fields(told)
+    })
 }
 
 // The SFD of a kind, as a number.
@@ -188,16 +162,14 @@ pub fn crc_read(header: [u8; 6]) -> usize
 }
 
 // What the SFD and the header tell a reader: refusals 11 to 15, in this order.
-pub fn header_of(by: Reader, k: Kind, sfd: [u8; 2], header: [u8; 6]) -> Front
+pub fn header_of(by: Reader, k: Kind, sfd: [u8; 2], header: [u8; 6]) -> Result<Told, Refusal>
     ensures answer { result ≡ header_of (accepted_by by) k (octet_bits sfd) (octet_bits header) }
 {
-    let started = sfd_right(k, sfd);
-    let summed = crc_right(header);
-    if !started {
-        return Front::Refused(Refusal::Sfd);
+    if !sfd_right(k, sfd) {
+        return Err(Refusal::Sfd);
     }
-    if !summed {
-        return Front::Refused(Refusal::Crc);
+    if !crc_right(header) {
+        return Err(Refusal::Crc);
     }
     fields_of(by, k, header[0], header[1], both(header[2], header[3]))
 }

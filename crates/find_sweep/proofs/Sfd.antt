@@ -1,6 +1,7 @@
 -- A front that meets none of 8 to 15 has its kind's SFD, so the two octets there are its octets: where they are not, no
 -- front needs to be read.
 -- Assumes nothing.
+use Rattle.std.specs.Prelude.{Ok}
 use mathlib.Core.Path.{◌≡◌, refl, sym, ap, ◌∙◌}
 use mathlib.Core.List.{List, map}
 use Prim.Native.Nat.{ℕ, ◌+◌, ◌-◌, ◌*◌, ◌/◌, ◌%◌, ◌≤◌, ◌<◌}
@@ -18,7 +19,6 @@ use Rattle.rules_frame.specs.declared.Kind.{Kind}
 use Rattle.rules_frame.specs.declared.Kind.TheVariants.{Long, Short}
 use Rattle.rules_frame.specs.Frame.{sfd_of, sync_bits}
 use Rattle.rules_calls.specs.declared.Told.{Told}
-use Rattle.rules_calls.specs.declared.Front.TheVariants.{Fields}
 use Rattle.rules_reading.specs.Reading.{front_of}
 use Rattle.rules_reading.proofs.Sfd.{word_at, sfd_bit}
 use Rattle.find_sweep.specs.Sweep.{half_at, bit_at, plain_at, octet_at, sfd_from}
@@ -39,7 +39,7 @@ module _ (rec : List Taken) (o : ℕ) where
   abbrev bit : ℕ → ℕ
   bit n = grown_by (word_at One from n) (word_at One from (n + 1)) / 2
 
-  module _ (k : Kind) (t : Told) (told : front_of k from ≡ Fields t) where
+  module _ (k : Kind) (t : Told) (told : front_of k from ≡ Ok t) where
     bit_there : (n : ℕ) → n + 1 < sync_bits k + 16 → bit n ≡ bit_at rec (o + 11 * n)
     unfolding bit_at
     bit_there n h =

@@ -1,5 +1,6 @@
 -- What is coming, and the full reader's answer to the same recording: both follow one front (`reads_on`). Each
 -- statement by the cases of what that front tells. Assumes nothing.
+use Rattle.std.specs.Prelude.{Result, Ok, Err}
 use mathlib.Core.Path.{◌≡◌, refl, sym, ap, ◌∙◌, subst}
 use mathlib.Core.Bool.{true}
 use mathlib.Core.List.{List, []}
@@ -18,8 +19,6 @@ use Rattle.rules_frame.specs.Frame.{is_kind, kind_of, clock_bit, front_chips, fr
 use Rattle.rules_frame.proofs.Headers.{clock_lt}
 use Rattle.rules_calls.specs.declared.Refusal.{Refusal}
 use Rattle.rules_calls.specs.declared.Told.{Told}
-use Rattle.rules_calls.specs.declared.Front.{Front}
-use Rattle.rules_calls.specs.declared.Front.TheVariants.{Refused, Fields}
 use Rattle.rules_calls.specs.declared.Reading.{Reading}
 use Rattle.rules_calls.specs.declared.Record.{Record}
 use Rattle.rules_calls.specs.Answers.{refusal_place, record_of}
@@ -105,10 +104,10 @@ module _ (kind : ℕ) (chips : List ℕ) where
   rec = hard_recording chips
 
   -- ---- refused
-  empty_part : (e : Refusal) (part : List ℕ) → Handed (coming_of k (Refused e)) chips part → part ≡ []
+  empty_part : (e : Refusal) (part : List ℕ) → Handed (coming_of k (Err e)) chips part → part ≡ []
   empty_part e part h = h.chips_are ∙ part_there 0 0 chips (omega arith)
 
-  nothing_comes : {e : Refusal} → ComingRefusal kind rec e → WhenRefused kind chips (coming_of k (Refused e))
+  nothing_comes : {e : Refusal} → ComingRefusal kind rec e → WhenRefused kind chips (coming_of k (Err e))
   nothing_comes {e} (kind_is_none b) = record {
     only = refl;
     no_kind = λ h. refl;
@@ -126,20 +125,20 @@ module _ (kind : ℕ) (chips : List ℕ) where
     no_part = empty_part e;
   }
 
-  refused_front : (g : Front) → ComesIf kind rec g → ((coming_of k g).number ≡ 0 → ⊥)
+  refused_front : (g : Result Told Refusal) → ComesIf kind rec g → ((coming_of k g).number ≡ 0 → ⊥)
       → WhenRefused kind chips (coming_of k g)
-  refused_front (Refused e) h z = nothing_comes h
-  refused_front (Fields t) h z = absurd (z refl)
+  refused_front (Err e) h z = nothing_comes h
+  refused_front (Ok t) h z = absurd (z refl)
 
-  alike : (room : ℕ) (g : Front) → ((coming_of k g).number ≡ 0 → ⊥)
+  alike : (room : ℕ) (g : Result Told Refusal) → ((coming_of k g).number ≡ 0 → ⊥)
       → record_of (after_front k rec room g)
       ≡ refused_at (coming_of k g).number (coming_of k g).place (coming_of k g).length
-  alike room (Refused e) z = refl
-  alike room (Fields t) z = absurd (z refl)
+  alike room (Err e) z = refl
+  alike room (Ok t) z = absurd (z refl)
 
   -- ---- told
   something_comes : (t : Told) → is_kind kind ≡ true → TellingWhole k rec t
-      → WhenTold kind chips (coming_of k (Fields t))
+      → WhenTold kind chips (coming_of k (Ok t))
   something_comes t b h =
       let r = t.rate in
       let all = frame_chips k r t.n in
@@ -171,22 +170,22 @@ module _ (kind : ℕ) (chips : List ℕ) where
             λ part f. f.chips_are ∙ part_there (front_chips k) (all - front_chips k) chips (omega (arith, enough));
       }
 
-  told_front : (g : Front) → ComesIf kind rec g → (coming_of k g).number ≡ 0 → WhenTold kind chips (coming_of k g)
-  told_front (Refused e) h z = absurd (some_number e z)
-  told_front (Fields t) h z = something_comes t h.0 h.1
+  told_front : (g : Result Told Refusal) → ComesIf kind rec g → (coming_of k g).number ≡ 0 → WhenTold kind chips (coming_of k g)
+  told_front (Err e) h z = absurd (some_number e z)
+  told_front (Ok t) h z = something_comes t h.0 h.1
 
   comes : (t : Told) (room : ℕ) → t.n ≤ room
-      → ComesTo (coming_of k (Fields t)) (record_of (payload_reading k t rec room))
+      → ComesTo (coming_of k (Ok t)) (record_of (payload_reading k t rec room))
   comes t room h = by (found_unusable k t rec) refl (payload_odd k t.rate t.n rec) refl
     where
-      to : (g : Reading) → payload_reading (kind_of kind) t (hard_recording chips) room ≡ g
-          → ComesTo (coming_of (kind_of kind) (Fields t)) (record_of g)
-          → ComesTo (coming_of (kind_of kind) (Fields t))
+      to : (g : Result Reading Refusal) → payload_reading (kind_of kind) t (hard_recording chips) room ≡ g
+          → ComesTo (coming_of (kind_of kind) (Ok t)) (record_of g)
+          → ComesTo (coming_of (kind_of kind) (Ok t))
           (record_of (payload_reading (kind_of kind) t (hard_recording chips) room))
-      to g e = subst (λ (x : Reading). ComesTo (coming_of (kind_of kind) (Fields t)) (record_of x)) (sym e)
+      to g e = subst (λ (x : Result Reading Refusal). ComesTo (coming_of (kind_of kind) (Ok t)) (record_of x)) (sym e)
 
       by : (o : Option ℕ) → found_unusable k t rec ≡ o → (q : Option ℕ) → payload_odd k t.rate t.n rec ≡ q
-          → ComesTo (coming_of k (Fields t)) (record_of (payload_reading k t rec room))
+          → ComesTo (coming_of k (Ok t)) (record_of (payload_reading k t rec room))
       by (Some p) e q d =
           let w = payload_unusable_place k rec p t e in
           to _ (unusable_refused k t rec room p h e) (comes_9 p w.0 w.1)
@@ -195,11 +194,11 @@ module _ (kind : ℕ) (chips : List ℕ) where
           to _ (odd_refused k t rec room p h e d) (comes_10 p (ap code_of (payload_odd_rate k rec p t d)) w.0 w.1)
       by None e None d = to _ (payload_good k t rec room h e d) (comes_good _ _)
 
-  alike_told : (room : ℕ) (g : Front) → (coming_of k g).number ≡ 0
+  alike_told : (room : ℕ) (g : Result Told Refusal) → (coming_of k g).number ≡ 0
       → ((coming_of k g).n ≤ room → ComesTo (coming_of k g) (record_of (after_front k rec room g)))
       × (room < (coming_of k g).n → record_of (after_front k rec room g) ≡ refused 17 (coming_of k g).length)
-  alike_told room (Refused e) z = absurd (some_number e z)
-  alike_told room (Fields t) z = (comes t room, λ h. ap record_of (room_refused k t rec room h))
+  alike_told room (Err e) z = absurd (some_number e z)
+  alike_told room (Ok t) z = (comes t room, λ h. ap record_of (room_refused k t rec room h))
 
   -- the full reader goes on from the front
   pub goes_on : (room : ℕ) (a : Record) (left : List ℕ) → ReadHard kind chips room a left
@@ -262,7 +261,7 @@ module _ (kind front : ℕ) (chips chips' : List ℕ) (c c' : Coming) (x : Front
       × ((d.number ≡ 0 → ⊥) → (d.number ≡ 16 → length chips' ≤ length chips) → d' ≡ d)
 
   -- each told or refused by its length
-  by_told : (t : Told) → front_of kk one ≡ Fields t → front_of kk other ≡ Fields t
+  by_told : (t : Told) → front_of kk one ≡ Ok t → front_of kk other ≡ Ok t
       → Dec (frame_chips kk t.rate t.n ≤ length one) → Dec (frame_chips kk t.rate t.n ≤ length other)
       → Same (coming_of kk (front_reading kind one)) (coming_of kk (front_reading kind other))
   by_told t a b (yes p) (yes q) =
@@ -283,12 +282,12 @@ module _ (kind front : ℕ) (chips chips' : List ℕ) (c c' : Coming) (x : Front
       )
       ((λ z l. refl), λ z l. refl)
 
-  by_front : (g : Front) → front_of kk one ≡ g → front_of kk other ≡ g
+  by_front : (g : Result Told Refusal) → front_of kk one ≡ g → front_of kk other ≡ g
       → Same (coming_of kk (front_reading kind one)) (coming_of kk (front_reading kind other))
-  by_front (Refused r) a b =
+  by_front (Err r) a b =
       rw (coming_refused kind one (front_of_lem x).0 r a, coming_refused kind other (front_of_lem x).0 r b)
       ((λ z l. refl), λ z l. refl)
-  by_front (Fields t) a b =
+  by_front (Ok t) a b =
       by_told t a b (dec_le (frame_chips kk t.rate t.n) (length one))
       (dec_le (frame_chips kk t.rate t.n) (length other))
 

@@ -1,6 +1,7 @@
 -- Find the start, and the two readers' answers from each offset. A search ends at the first front that is told, or
 -- behind so many that are refused (`finding_comes` of rules_finding); what both readers answer to either is by the
 -- cases of what a front and a payload can be refused with (Refusals.antt of rules_reading). Assumes nothing.
+use Rattle.std.specs.Prelude.{Result, Ok, Err}
 use mathlib.Core.Path.{◌≡◌, refl, sym, ap, ◌∙◌, subst}
 use mathlib.Core.Bool.{true, false}
 use mathlib.Core.List.{List, ◌++◌}
@@ -19,10 +20,7 @@ use Rattle.rules_frame.specs.Frame.{is_kind, kind_of, clock_bit, front_chips, fr
 use Rattle.rules_frame.proofs.Headers.{clock_lt}
 use Rattle.rules_calls.specs.declared.Refusal.{Refusal}
 use Rattle.rules_calls.specs.declared.Told.{Told}
-use Rattle.rules_calls.specs.declared.Front.{Front}
-use Rattle.rules_calls.specs.declared.Front.TheVariants as front
 use Rattle.rules_calls.specs.declared.Reading.{Reading}
-use Rattle.rules_calls.specs.declared.Reading.TheVariants as reading
 use Rattle.rules_calls.specs.declared.Record.{Record}
 use Rattle.rules_calls.specs.Answers.{record_of}
 use Rattle.rules_calls.specs.Headers.{ours}
@@ -111,16 +109,16 @@ module _ (kind : ℕ) (chips : List ℕ) (b : is_kind kind ≡ true) where
   rec = hard_recording chips
 
   -- the full reader goes on from what the header-only one was told
-  read_from : (g : Front) → front_reading kind rec ≡ g → (room : ℕ) (a : Record) (left : List ℕ)
+  read_from : (g : Result Told Refusal) → front_reading kind rec ≡ g → (room : ℕ) (a : Record) (left : List ℕ)
       → ReadHard kind chips room a left → a ≡ record_of (after_front k rec room g)
   read_from g e room a left f =
-      goes_on kind chips room a left f ∙ ap (λ (x : Front). record_of (after_front k rec room x)) e
+      goes_on kind chips room a left f ∙ ap (λ (x : Result Told Refusal). record_of (after_front k rec room x)) e
 
-  told_from : (g : Front) → front_reading kind rec ≡ g → (c : Coming) → ReadFront kind chips c → c ≡ coming_of k g
+  told_from : (g : Result Told Refusal) → front_reading kind rec ≡ g → (c : Coming) → ReadFront kind chips c → c ≡ coming_of k g
   told_from g e c f = f.answer ∙ ap (coming_of k) e
 
   -- a front that is refused is met by both
-  both_meet : (e : Refusal) → front_of k rec ≡ front.Refused e → FrontRefusal k rec e → Meets kind chips
+  both_meet : (e : Refusal) → front_of k rec ≡ Err e → FrontRefusal k rec e → Meets kind chips
   both_meet e q r =
       let here = coming_refused kind rec b e q in
       let n = front_number r in
@@ -136,9 +134,9 @@ module _ (kind : ℕ) (chips : List ℕ) (b : is_kind kind ≡ true) where
   pub meets : Missed (front_of k rec) → Meets kind chips
   meets h = by (front_of k rec) refl (front_refuses k rec) h
     where
-      by : (g : Front) → front_of k rec ≡ g → FrontIf k rec g → Missed g → Meets kind chips
-      by (front.Refused e) q r m = both_meet e q r
-      by (front.Fields t) q r m = absurd m
+      by : (g : Result Told Refusal) → front_of k rec ≡ g → FrontIf k rec g → Missed g → Meets kind chips
+      by (Err e) q r m = both_meet e q r
+      by (Ok t) q r m = absurd m
 
   -- one that is told is not
   abbrev heard : Coming
@@ -147,20 +145,20 @@ module _ (kind : ℕ) (chips : List ℕ) (b : is_kind kind ≡ true) where
   pub missed : Meets kind chips → Missed (front_of k rec)
   missed h = by (front_of k rec) refl
     where
-      whole : (t : Told) → front_of k rec ≡ front.Fields t → Dec (frame_chips k t.rate t.n ≤ length rec) → ⊥
+      whole : (t : Told) → front_of k rec ≡ Ok t → Dec (frame_chips k t.rate t.n ≤ length rec) → ⊥
       whole t q (yes l) =
-          let e = ap (λ (g : Front). (coming_of k g).number) (coming_told kind rec b t q l) in
+          let e = ap (λ (g : Result Told Refusal). (coming_of k g).number) (coming_told kind rec b t q l) in
           omega (arith, e, h.front_meets heard (record { answer = refl }))
       whole t q (no l) =
-          let e = ap (λ (g : Front). (coming_of k g).number) (coming_ends kind rec b t q (omega (arith, l))) in
+          let e = ap (λ (g : Result Told Refusal). (coming_of k g).number) (coming_ends kind rec b t q (omega (arith, l))) in
           omega (arith, e, h.front_meets heard (record { answer = refl }))
 
-      by : (g : Front) → front_of k rec ≡ g → Missed g
-      by (front.Refused e) q = tt
-      by (front.Fields t) q = whole t q (dec_le (frame_chips k t.rate t.n) (length rec))
+      by : (g : Result Told Refusal) → front_of k rec ≡ g → Missed g
+      by (Err e) q = tt
+      by (Ok t) q = whole t q (dec_le (frame_chips k t.rate t.n) (length rec))
 
   -- a front that is told
-  module _ (t : Told) (q : front_of k rec ≡ front.Fields t) where
+  module _ (t : Told) (q : front_of k rec ≡ Ok t) where
     abbrev FrontTold : Coming → Type 0
     FrontTold =
         FrontTells (front_chips k) (octet_chips t.rate) (code_of t.rate) t.length (clock_bit t.clock) t.n
@@ -181,18 +179,18 @@ module _ (kind : ℕ) (chips : List ℕ) (b : is_kind kind ≡ true) where
         by (no l) =
             subst FrontTold (sym (told_from _ (coming_ends kind rec b t q (omega (arith, l))) c f)) front_cut
 
-    payload_tells : (room : ℕ) (g : Reading) → PayloadIf k t rec room g → ReaderTold (record_of g)
-    payload_tells room (reading.Refused e) h = refuses h
+    payload_tells : (room : ℕ) (g : Result Reading Refusal) → PayloadIf k t rec room g → ReaderTold (record_of g)
+    payload_tells room (Err e) h = refuses h
       where
-        refuses : {e : Refusal} → PayloadRefusal k t rec e → ReaderTold (record_of (reading.Refused e))
+        refuses : {e : Refusal} → PayloadRefusal k t rec e → ReaderTold (record_of (Err e))
         refuses no_room = reads_17
         refuses (payload_unusable p u) = let w = payload_unusable_place k rec p t u in reads_9 p w.0 w.1
         refuses (payload_odd_lem p u) =
             let w = payload_odd_place k rec p t u in
             reads_10 p (ap code_of (payload_odd_rate k rec p t u)) w.0 w.1
-    payload_tells room (reading.Good u used least) h =
-        subst (λ (v : Told). ReaderTold (record_of (reading.Good v used least))) (sym h.1)
-        (subst (λ (m : ℕ). ReaderTold (record_of (reading.Good t m least))) (sym h.2) (reads_good _ _))
+    payload_tells room (Ok g) h =
+        subst (λ (v : Told). ReaderTold (record_of (Ok (record { told = v; used = g.used; least = g.least })))) (sym h.1)
+        (subst (λ (m : ℕ). ReaderTold (record_of (Ok (record { told = t; used = m; least = g.least })))) (sym h.2) (reads_good _ _))
 
     pub reader_tells : (room : ℕ) (a : Record) (left : List ℕ) → ReadHard kind chips room a left → ReaderTold a
     reader_tells room a left f = by (dec_le (frame_chips k t.rate t.n) (length rec))
@@ -260,7 +258,7 @@ module _ (kind offsets : ℕ) (chips : List ℕ) where
         omega (arith, i, start_there (kind_of kind) h.i all t h.told_there, length_hard chips) in
         let tells : Telling (kind_of kind) t =
         subst (TellingIf (kind_of kind)) h.told_there (front_telling (kind_of kind) (drop h.i all)) in
-        let q : front_of (kind_of kind) (hard_recording (drop offset chips)) ≡ front.Fields t =
+        let q : front_of (kind_of kind) (hard_recording (drop offset chips)) ≡ Ok t =
         ap (front_of (kind_of kind)) (sym (drop_hard offset chips)) ∙ rw (← i) h.told_there in
         record {
           front = m;

@@ -1,6 +1,8 @@
 -- How clearly was it won: the smallest lead that a good read tells is that of its frame's symbols, and what a lead says
 -- of the exact recorded numbers. Each symbol's word and lead are those of the counts at its place; the rest is the law
 -- of the smallest of a list, and that of one symbol. Assumes nothing.
+use Rattle.std.specs.Prelude.{Result, Ok, Err}
+use Rattle.rules_calls.specs.declared.Refusal.{Refusal}
 use mathlib.Core.Path.{◌≡◌, refl, sym, ap, ◌∙◌, subst}
 use mathlib.Core.Bool.{Bool, not}
 use mathlib.Core.List.{List, ◌++◌, map}
@@ -36,10 +38,7 @@ use Rattle.rules_frame.specs.Frame.{
 use Rattle.rules_frame.proofs.Parity.{front_symbols_lem}
 use Rattle.rules_calls.specs.declared.Told.{Told}
 use Rattle.rules_calls.specs.declared.Record.{Record}
-use Rattle.rules_calls.specs.declared.Front.{Front}
-use Rattle.rules_calls.specs.declared.Front.TheVariants as front
 use Rattle.rules_calls.specs.declared.Reading.{Reading}
-use Rattle.rules_calls.specs.declared.Reading.TheVariants as reading
 use Rattle.rules_calls.specs.Answers.{record_of}
 use Rattle.rules_calls.proofs.AnswerFacts.{some_number}
 use Rattle.rules_reading.specs.Places.{UsableAt}
@@ -236,9 +235,9 @@ module _ (k : Kind) (r : Rate) (n : ℕ) (rec : List Taken) where
       here = numbered (least_of (frame_leads k r n rec)).symbol (omega (arith, d.among, leads_count))
 
 -- ---- a good reading has it
-abbrev LeastOf : ℕ → List Taken → Reading → Type 0
-LeastOf kind rec (reading.Refused e) = Unit {0}
-LeastOf kind rec (reading.Good t used least) = least ≡ least_of (frame_leads (kind_of kind) t.rate t.n rec)
+abbrev LeastOf : ℕ → List Taken → Result Reading Refusal → Type 0
+LeastOf kind rec (Err e) = Unit {0}
+LeastOf kind rec (Ok g) = g.least ≡ least_of (frame_leads (kind_of kind) g.told.rate g.told.n rec)
 
 has_least : (kind : ℕ) (agree : Bool) (rec : List Taken) (room : ℕ) → LeastOf kind rec (reading_of kind agree rec room)
 unfolding reading_of
@@ -247,14 +246,14 @@ has_least kind agree rec room =
     (λ a. branch (LeastOf kind rec) (not agree) _ _ tt
     (λ b. after (whole_of (kind_of kind) rec (front_of (kind_of kind) rec))))
   where
-    told : (t : Told) (g : Reading) → PayloadIf (kind_of kind) t rec room g → LeastOf kind rec g
-    told t (reading.Refused e) h = tt
-    told t (reading.Good u used least) h =
+    told : (t : Told) (g : Result Reading Refusal) → PayloadIf (kind_of kind) t rec room g → LeastOf kind rec g
+    told t (Err e) h = tt
+    told t (Ok g) h =
         h.3 ∙ ap (λ (v : Told). least_of (frame_leads (kind_of kind) v.rate v.n rec)) (sym h.1)
 
-    after : (f : Front) → LeastOf kind rec (after_front (kind_of kind) rec room f)
-    after (front.Refused e) = tt
-    after (front.Fields t) =
+    after : (f : Result Told Refusal) → LeastOf kind rec (after_front (kind_of kind) rec room f)
+    after (Err e) = tt
+    after (Ok t) =
         told t (payload_reading (kind_of kind) t rec room) (payload_comes (kind_of kind) t rec room)
 
 pub least_told : LeastTold
@@ -264,11 +263,11 @@ least_told kind agree rec room a left read zero_is =
     (go (reading_of kind agree rec room) (has_least kind agree rec room)
     (ap (λ (v : Record). v.number) (sym read.answer) ∙ zero_is))
   where
-    go : (g : Reading) → LeastOf kind rec g → (record_of g).number ≡ 0
+    go : (g : Result Reading Refusal) → LeastOf kind rec g → (record_of g).number ≡ 0
         → LeastIn (kind_of kind) (rate_of (record_of g).rate) (record_of g).n rec (record_of g).lead (record_of g).symbol
-    go (reading.Refused e) h z = absurd (some_number e z)
-    go (reading.Good t used least) h z =
-        rw (code_back t.rate, h) (least_in (kind_of kind) t.rate t.n rec)
+    go (Err e) h z = absurd (some_number e z)
+    go (Ok g) h z =
+        rw (code_back g.told.rate, h) (least_in (kind_of kind) g.told.rate g.told.n rec)
 
 -- ---- what a lead says of the exact numbers, once for every recorder
 sure : (half : ℕ) (above : Rate → ℕ) (good : ℕ → Type 0) (exact : List Counts) (rec : List Taken)

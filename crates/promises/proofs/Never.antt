@@ -1,5 +1,6 @@
 -- Numbers that a reading never answers: 9 of bytes, where the search for an unusable chip finds none; 7 where the rows
 -- agree. Both by what a reading is refused with (`reading_refuses`). Assumes nothing.
+use Rattle.std.specs.Prelude.{Result, Ok, Err}
 use mathlib.Core.Path.{◌≡◌, refl, sym, ap, ◌∙◌, subst}
 use mathlib.Core.Bool.{Bool, true, false, cond, not}
 use mathlib.Core.List.{List, [], ◌∷◌}
@@ -17,10 +18,7 @@ use Rattle.rules_frame.specs.Frame.{is_kind, kind_of, front_chips, frame_chips}
 use Rattle.rules_calls.specs.declared.Refusal.{Refusal}
 use Rattle.rules_calls.specs.declared.Refusal.TheVariants.{NoKind, RowsDiffer}
 use Rattle.rules_calls.specs.declared.Told.{Told}
-use Rattle.rules_calls.specs.declared.Front.{Front}
-use Rattle.rules_calls.specs.declared.Front.TheVariants as front
 use Rattle.rules_calls.specs.declared.Reading.{Reading}
-use Rattle.rules_calls.specs.declared.Reading.TheVariants as reading
 use Rattle.rules_calls.specs.declared.Record.{Record}
 use Rattle.rules_calls.specs.Answers.{refusal_number, record_of}
 use Rattle.rules_reading.specs.Reading.{first_unusable, front_of, whole_of, payload_reading, after_front, reading_of}
@@ -83,9 +81,9 @@ data ReadingRefusal (k : Kind) (agree : Bool) (rec : List Taken) : Refusal → T
   by_front : {e : Refusal} → WholeRefusal k rec e → ReadingRefusal k agree rec e
   by_payload : {e : Refusal} (t : Told) → PayloadRefusal k t rec e → ReadingRefusal k agree rec e
 
-abbrev RefusesReading : Kind → Bool → List Taken → Reading → Type 0
-RefusesReading k agree rec (reading.Refused e) = ReadingRefusal k agree rec e
-RefusesReading k agree rec (reading.Good t used least) = Unit {0}
+abbrev RefusesReading : Kind → Bool → List Taken → Result Reading Refusal → Type 0
+RefusesReading k agree rec (Err e) = ReadingRefusal k agree rec e
+RefusesReading k agree rec (Ok g) = Unit {0}
 
 reading_refuses : (kind : ℕ) (agree : Bool) (rec : List Taken) (room : ℕ)
     → RefusesReading (kind_of kind) agree rec (reading_of kind agree rec room)
@@ -95,19 +93,19 @@ reading_refuses kind agree rec room =
     branch (RefusesReading k agree rec) (not (is_kind kind)) _ _ no_kind
     (λ a. by agree _ rows_differ (after (whole_of k rec (front_of k rec)) (whole_refuses k rec)))
   where
-    told : (t : Told) (g : Reading) → PayloadIf (kind_of kind) t rec room g → RefusesReading (kind_of kind) agree rec g
-    told t (reading.Refused e) h = by_payload t h
-    told t (reading.Good u used least) h = tt
+    told : (t : Told) (g : Result Reading Refusal) → PayloadIf (kind_of kind) t rec room g → RefusesReading (kind_of kind) agree rec g
+    told t (Err e) h = by_payload t h
+    told t (Ok g) h = tt
 
-    after : (f : Front) → RefusesIf (kind_of kind) rec f
+    after : (f : Result Told Refusal) → RefusesIf (kind_of kind) rec f
         → RefusesReading (kind_of kind) agree rec (after_front (kind_of kind) rec room f)
-    after (front.Refused e) h = by_front h
-    after (front.Fields t) h =
+    after (Err e) h = by_front h
+    after (Ok t) h =
         told t (payload_reading (kind_of kind) t rec room) (payload_comes (kind_of kind) t rec room)
 
-    by : (b : Bool) (g : Reading) → (b ≡ false → ReadingRefusal (kind_of kind) agree rec RowsDiffer)
+    by : (b : Bool) (g : Result Reading Refusal) → (b ≡ false → ReadingRefusal (kind_of kind) agree rec RowsDiffer)
         → RefusesReading (kind_of kind) agree rec g
-        → RefusesReading (kind_of kind) agree rec (cond (not b) (reading.Refused RowsDiffer) g)
+        → RefusesReading (kind_of kind) agree rec (cond (not b) (Err RowsDiffer) g)
     by true g d h = h
     by false g d h = d refl
 
@@ -120,9 +118,9 @@ unanswered n no-good kind agree rec room a left read never e =
     by (reading_of kind agree rec room) (reading_refuses kind agree rec room)
     (ap (λ (v : Record). v.number) (sym read.answer) ∙ e)
   where
-    by : (g : Reading) → RefusesReading (kind_of kind) agree rec g → (record_of g).number ≡ n → ⊥
-    by (reading.Refused x) h z = never x h z
-    by (reading.Good t used least) h z = no-good z
+    by : (g : Result Reading Refusal) → RefusesReading (kind_of kind) agree rec g → (record_of g).number ≡ n → ⊥
+    by (Err x) h z = never x h z
+    by (Ok g) h z = no-good z
 
 -- ---- 9 of bytes
 no_some : {p : ℕ} {o : Option ℕ} → o ≡ None → o ≡ Some p → ⊥

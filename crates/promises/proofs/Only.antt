@@ -27,10 +27,7 @@ use Rattle.rules_frame.proofs.Headers.{clock_lt}
 use Rattle.rules_calls.specs.declared.Frame.{Frame}
 use Rattle.rules_calls.specs.declared.Refusal.{Refusal}
 use Rattle.rules_calls.specs.declared.Told.{Told}
-use Rattle.rules_calls.specs.declared.Front.{Front}
-use Rattle.rules_calls.specs.declared.Front.TheVariants as front
 use Rattle.rules_calls.specs.declared.Reading.{Reading}
-use Rattle.rules_calls.specs.declared.Reading.TheVariants as reading
 use Rattle.rules_calls.specs.declared.Written.{Written}
 use Rattle.rules_calls.specs.declared.Least.{Least}
 use Rattle.rules_calls.specs.declared.Record.{Record}
@@ -123,12 +120,12 @@ module _ (kind : ℕ) (rec : List Taken) (room : ℕ) (kind-is : is_kind kind �
   abbrev k : Kind
   k = kind_of kind
 
-  abbrev Readable-in : Reading → Type 0
-  Readable-in (reading.Refused e) = Unit {0}
-  Readable-in (reading.Good t used least) = Readable kind (length rec) room (record_of (reading.Good t used least))
+  abbrev Readable-in : Result Reading Refusal → Type 0
+  Readable-in (Err e) = Unit {0}
+  Readable-in (Ok g) = Readable kind (length rec) room (record_of (Ok g))
 
   readable : (t : Told) → TellingWhole k rec t → t.n ≤ room
-      → (least : Least) → Readable-in (reading.Good t (frame_chips k t.rate t.n) least)
+      → (least : Least) → Readable-in (Ok (record { told = t; used = frame_chips k t.rate t.n; least = least }))
   readable t h b least =
       let r = t.rate in
       record {
@@ -144,21 +141,21 @@ module _ (kind : ℕ) (rec : List Taken) (room : ℕ) (kind-is : is_kind kind �
         clock_is = clock_lt t.clock;
       }
 
-  readable_in : (f : Front) → TellingWholeIf k rec f → Readable-in (after_front k rec room f)
-  readable_in (front.Refused e) h = tt
-  readable_in (front.Fields t) h = go (payload_reading k t rec room) (payload_comes k t rec room)
+  readable_in : (f : Result Told Refusal) → TellingWholeIf k rec f → Readable-in (after_front k rec room f)
+  readable_in (Err e) h = tt
+  readable_in (Ok t) h = go (payload_reading k t rec room) (payload_comes k t rec room)
     where
-      go : (g : Reading) → PayloadIf k t rec room g → Readable-in g
-      go (reading.Refused e) p = tt
-      go (reading.Good u used least) p =
-          subst (λ (v : Told). Readable-in (reading.Good v used least)) (sym p.1)
-          (subst (λ (m : ℕ). Readable-in (reading.Good t m least)) (sym p.2) (readable t h p.0 least))
+      go : (g : Result Reading Refusal) → PayloadIf k t rec room g → Readable-in g
+      go (Err e) p = tt
+      go (Ok g) p =
+          subst (λ (v : Told). Readable-in (Ok (record { told = v; used = g.used; least = g.least }))) (sym p.1)
+          (subst (λ (m : ℕ). Readable-in (Ok (record { told = t; used = m; least = g.least }))) (sym p.2) (readable t h p.0 g.least))
 
 -- a whole reading, where kind and rows pass
-abbrev Agreed : ℕ → Bool → List Taken → ℕ → Reading → Type 0
-Agreed kind agree rec room (reading.Refused e) = Unit {0}
-Agreed kind agree rec room (reading.Good t used least) =
-    (agree ≡ true) × Readable kind (length rec) room (record_of (reading.Good t used least))
+abbrev Agreed : ℕ → Bool → List Taken → ℕ → Result Reading Refusal → Type 0
+Agreed kind agree rec room (Err e) = Unit {0}
+Agreed kind agree rec room (Ok g) =
+    (agree ≡ true) × Readable kind (length rec) room (record_of (Ok g))
 
 agreed : (kind : ℕ) (agree : Bool) (rec : List Taken) (room : ℕ)
     → Agreed kind agree rec room (reading_of kind agree rec room)
@@ -171,10 +168,10 @@ agreed kind agree rec room =
     with_rows known (held agree b) (after_front (kind_of kind) rec room f)
     (readable_in kind rec room known f (whole_telling (kind_of kind) rec))))
   where
-    with_rows : (known : is_kind kind ≡ true) → agree ≡ true → (g : Reading) → Readable-in kind rec room known g
+    with_rows : (known : is_kind kind ≡ true) → agree ≡ true → (g : Result Reading Refusal) → Readable-in kind rec room known g
         → Agreed kind agree rec room g
-    with_rows known e (reading.Refused x) h = tt
-    with_rows known e (reading.Good t used least) h = (e, h)
+    with_rows known e (Err x) h = tt
+    with_rows known e (Ok g) h = (e, h)
 
 pub only_readable : OnlyReadable
 only_readable kind agree rec room a left read zero_is =
@@ -182,10 +179,10 @@ only_readable kind agree rec room a left read zero_is =
     (go (reading_of kind agree rec room) (agreed kind agree rec room)
     (ap (λ (v : Record). v.number) (sym read.answer) ∙ zero_is))
   where
-    go : (g : Reading) → Agreed kind agree rec room g → (record_of g).number ≡ 0
+    go : (g : Result Reading Refusal) → Agreed kind agree rec room g → (record_of g).number ≡ 0
         → (agree ≡ true) × Readable kind (length rec) room (record_of g)
-    go (reading.Refused e) p z = absurd (some_number e z)
-    go (reading.Good t used least) p z = p
+    go (Err e) p z = absurd (some_number e z)
+    go (Ok g) p z = p
 
 -- ---- a refused record
 abbrev Nothing : Record → Type 0
@@ -196,6 +193,6 @@ refused_shows kind agree rec room a left read some_is =
     subst (λ (v : Record). (v.number ≡ 0 → ⊥) → Nothing v) (sym read.answer) (go (reading_of kind agree rec room))
     some_is
   where
-    go : (g : Reading) → ((record_of g).number ≡ 0 → ⊥) → Nothing (record_of g)
-    go (reading.Refused e) h = (refl, refl, refl, refl, refl, refl)
-    go (reading.Good t used least) h = absurd (h refl)
+    go : (g : Result Reading Refusal) → ((record_of g).number ≡ 0 → ⊥) → Nothing (record_of g)
+    go (Err e) h = (refl, refl, refl, refl, refl, refl)
+    go (Ok g) h = absurd (h refl)

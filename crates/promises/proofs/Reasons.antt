@@ -1,5 +1,6 @@
 -- A read answers by the numbers, in their order, and why: what any reading comes to (`reading_comes` of rules_reading),
 -- case by case, in plain numbers. Assumes nothing.
+use Rattle.std.specs.Prelude.{Result, Err}
 use mathlib.Core.Path.{◌≡◌, refl, sym, ap, ap₂, ◌∙◌, subst}
 use mathlib.Core.Bool.{Bool, true, false, ◌&&◌, ◌||◌}
 use mathlib.Core.List.{List}
@@ -27,7 +28,6 @@ use Rattle.rules_calls.specs.declared.Refusal.TheVariants.{Ends}
 use Rattle.rules_calls.specs.declared.Told.{Told}
 use Rattle.rules_calls.specs.declared.Record.{Record}
 use Rattle.rules_calls.specs.declared.Reading.{Reading}
-use Rattle.rules_calls.specs.declared.Reading.TheVariants as reading
 use Rattle.rules_calls.specs.Answers.{record_of}
 use Rattle.rules_calls.specs.Headers.{service_allowed, ours}
 use Rattle.rules_calls.proofs.HeaderOnly.{ours_sends}
@@ -234,7 +234,7 @@ module _ (kind : ℕ) (agree : Bool) (rec : List Taken) (room : ℕ) (known-kind
   code_of_lem signal e = sym (no_other_code signal (left_is (is_code signal) (goes_with k (rate_of signal)) e))
 
   -- ---- the front's refusals
-  in_front : {e : Refusal} → FrontRefusal k rec e → Says (record_of (reading.Refused e))
+  in_front : {e : Refusal} → FrontRefusal k rec e → Says (record_of (Err e))
   in_front (front_short l) = is_8 (front_known kind known-kind) rows l
   in_front (front_unusable p l f) =
       front_9 (has_front l) (front_place k rec (front_unusable p l f)) (front_unusable_first k rec p l f)
@@ -318,9 +318,9 @@ module _ (kind : ℕ) (agree : Bool) (rec : List Taken) (room : ℕ) (known-kind
           by k Five g o e d l = absurd (subst IsOne (sym o) tt)
           by k Eleven g o e d l = absurd (subst IsOne (sym o) tt)
 
-      in_payload : (g : Reading) → payload_reading k t rec room ≡ g → Says (record_of g)
+      in_payload : (g : Result Reading Refusal) → payload_reading k t rec room ≡ g → Says (record_of g)
           → Says (record_of (payload_reading k t rec room))
-      in_payload g e x = subst (λ (y : Reading). Says (record_of y)) (sym e) x
+      in_payload g e x = subst (λ (y : Result Reading Refusal). Says (record_of y)) (sym e) x
 
       payload_says : Says (record_of (payload_reading k t rec room))
       payload_says = by (dec_lt room t.n) (found_unusable k t rec) refl (payload_odd k r t.n rec) refl
@@ -356,14 +356,14 @@ module _ (kind : ℕ) (agree : Bool) (rec : List Taken) (room : ℕ) (known-kind
               }))
               (sym clock_is) (is_0 _ _ has_payload there m (payload_all_usable k rec t there free e) (even_to d)))
 
-    ends_says : length rec < frame_chips k r t.n → Says (record_of (reading.Refused (Ends t.length)))
+    ends_says : length rec < frame_chips k r t.n → Says (record_of (Err (Ends t.length)))
     ends_says l = is_16 has_payload l
 
-  whole_says : {e : Refusal} → WholeRefusal k rec e → Says (record_of (reading.Refused e))
+  whole_says : {e : Refusal} → WholeRefusal k rec e → Says (record_of (Err e))
   whole_says (met_in_front f) = in_front f
   whole_says (frame_ends t h l) = ends_says t h l
 
-answer_says : (kind : ℕ) (agree : Bool) (rec : List Taken) (room : ℕ) {g : Reading}
+answer_says : (kind : ℕ) (agree : Bool) (rec : List Taken) (room : ℕ) {g : Result Reading Refusal}
     → ReadingComes kind agree rec room g → ReadAnswer kind agree rec room (record_of g)
 answer_says kind agree rec room (kind_none b) = is_1 (ltb-false kind 2 b)
 answer_says kind agree rec room (rows_apart b d) = is_7 (ltb-true kind 2 b) d

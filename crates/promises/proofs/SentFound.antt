@@ -1,5 +1,7 @@
 -- A frame that was written is not missed, whatever stands before it and follows its front: chips that are read as its
 -- front are told from where they start, so a search that comes as far ends there or before. Assumes nothing.
+use Rattle.std.specs.Prelude.{Result, Ok}
+use Rattle.rules_calls.specs.declared.Refusal.{Refusal}
 use mathlib.Core.Path.{◌≡◌, refl, sym, ap, ◌∙◌, subst}
 use mathlib.Core.List.{List, ◌++◌}
 use Prim.Native.Nat.{ℕ, ◌≤◌, ◌<◌}
@@ -17,7 +19,6 @@ use Rattle.rules_frame.specs.declared.Kind.{Kind}
 use Rattle.rules_frame.specs.Frame.{kind_of}
 use Rattle.rules_calls.specs.declared.Written.{Written}
 use Rattle.rules_calls.specs.declared.Told.{Told}
-use Rattle.rules_calls.specs.declared.Front.TheVariants.{Fields}
 use Rattle.rules_reading.specs.Reading.{front_of}
 use Rattle.rules_finding.specs.declared.NotFound.TheVariants.{NoKind, NoOffsets, NoStart}
 use Rattle.rules_finding.specs.declared.Finding.{Finding}
@@ -33,7 +34,7 @@ use Rattle.promises.proofs.SentTold.{sent_told, begun_told}
 -- ---- chips that are read as the frame's front, behind others
 module _ (kind rate phase clock : ℕ) (payload : List ℕ) (w : Written) (chips : List ℕ)
     (s : Sent kind rate phase clock payload w chips) (behind : List ℕ)
-    (is-told : front_of (kind_of kind) (hard_recording behind) ≡ Fields (sent_told kind rate phase clock payload w chips s))
+    (is-told : front_of (kind_of kind) (hard_recording behind) ≡ Ok (sent_told kind rate phase clock payload w chips s))
     (before : List ℕ) (offsets : ℕ) (below : length before < offsets) (few : offsets ≤ 4096) where
   abbrev k : Kind
   k = kind_of kind
@@ -53,7 +54,7 @@ module _ (kind rate phase clock : ℕ) (payload : List ℕ) (w : Written) (chips
   pair : back.Known kind rate s.sendable.front s.sendable.octet
   pair = back.pair kind rate phase clock payload w chips s
 
-  told_there : front_of k (drop (length before) rec) ≡ Fields t
+  told_there : front_of k (drop (length before) rec) ≡ Ok t
   told_there =
       ap (front_of k)
       (drop_hard (length before) (before ++ behind)
@@ -72,7 +73,7 @@ module _ (kind rate phase clock : ℕ) (payload : List ℕ) (w : Written) (chips
   the_frame : found_of (Start (length before) t) ≡ start_found (length before) rate (length_field r n) (shown clock) n
   the_frame = rw (pair.code_back, back.shown_is clock)
 
-  one_told : (u : Told) → Fields u ≡ Fields t → u ≡ t
+  one_told : (u : Told) → ◌≡◌ {A = Result Told Refusal} (Ok u) (Ok t) → u ≡ t
   one_told u e = cc
 
   start_says : (offset : ℕ) (u : Told) → StartsAt k 0 offsets rec offset u → Says (found_of (Start offset u))
@@ -80,7 +81,7 @@ module _ (kind rate phase clock : ℕ) (payload : List ℕ) (w : Written) (chips
       let i : h.i ≡ offset = omega (arith, h.offset_is) in (
         refl,
         by (dec_le offset (length before)),
-        λ e. let same : front_of k (drop (length before) rec) ≡ Fields u = rw (← e, ← i) h.told_there in
+        λ e. let same : front_of k (drop (length before) rec) ≡ Ok u = rw (← e, ← i) h.told_there in
             ap (λ (m : ℕ). found_of (Start m u)) e
             ∙ ap (λ (v : Told). found_of (Start (length before) v)) (one_told u (sym same ∙ told_there)) ∙ the_frame,
       )

@@ -1,6 +1,7 @@
 -- A frame that was written is told of by its front, whatever follows it: any chips that are read as its front tell of
 -- it (`tells`), and its own are. Its front is that of the clean frame (`front_sent_lem` of rules_clean), since a front is
 -- read from its own chips (`front_same` of rules_reading). Assumes nothing.
+use Rattle.std.specs.Prelude.{Ok}
 use mathlib.Core.Path.{◌≡◌, sym, ap, ap₂, ◌∙◌}
 use mathlib.Core.List.{List, [], ◌++◌, append-nil}
 use Prim.Native.Nat.{ℕ, ◌+◌, ◌-◌, ◌*◌, ◌≤◌, ◌<◌}
@@ -16,7 +17,6 @@ use Rattle.rules_frame.specs.declared.Kind.{Kind}
 use Rattle.rules_frame.specs.Frame.{kind_of, clock_of, clock_bit, service_field, front_chips, frame_chips}
 use Rattle.rules_calls.specs.declared.Written.{Written}
 use Rattle.rules_calls.specs.declared.Told.{Told}
-use Rattle.rules_calls.specs.declared.Front.TheVariants.{Fields}
 use Rattle.rules_calls.specs.Headers.{Accepted, ours, fields_of, told}
 use Rattle.rules_calls.proofs.ReadBack.{fields_back}
 use Rattle.rules_reading.specs.Reading.{front_by, front_of}
@@ -33,7 +33,7 @@ use Rattle.promises.proofs.Back as back
 -- the answer in numbers
 pub in_numbers : (k : Kind) (t : Told) (rate clock front octet : ℕ) → code_of t.rate ≡ rate
     → clock_bit t.clock ≡ clock → front_chips k ≡ front → octet_chips t.rate ≡ octet
-    → coming_of k (Fields t) ≡ told_coming rate t.length clock t.n front (octet * t.n)
+    → coming_of k (Ok t) ≡ told_coming rate t.length clock t.n front (octet * t.n)
 in_numbers k t rate clock front octet a b c d =
     let e : front_chips k + octet_chips t.rate * t.n - front_chips k ≡ octet_chips t.rate * t.n = omega arith in
     rw (e, a, b, c, d)
@@ -66,7 +66,7 @@ module _ (kind rate phase clock : ℕ) (payload : List ℕ) (w : Written) (chips
   all_is = back.size kind rate phase clock payload w chips s
 
   module _ (begin tail : List ℕ) (begin-long : length begin ≡ front)
-      (told_is : front_of k (hard_recording (begin ++ tail)) ≡ Fields sent_told) (c : Coming)
+      (told_is : front_of k (hard_recording (begin ++ tail)) ≡ Ok sent_told) (c : Coming)
       (f : ReadFront kind (begin ++ tail) c) where
     recorded_long : length (hard_recording (begin ++ tail)) ≡ front + length tail
     recorded_long = length_hard (begin ++ tail) ∙ omega (arith, length-append begin tail, begin-long)
@@ -141,7 +141,7 @@ module _ (kind rate phase clock : ℕ) (payload : List ℕ) (w : Written) (chips
         ∙ clean.front_sent_lem kind r phase (clock_of clock) payload pair.kind_is s.sendable.phase_is
         pair.together s.sendable.some s.sendable.few (hard_recording []) accepted
 
-    pub begun_told : front_of k (hard_recording (begun ++ tail)) ≡ Fields sent_told
+    pub begun_told : front_of k (hard_recording (begun ++ tail)) ≡ Ok sent_told
     begun_told =
         begun_sent ours
         ∙ fields_back k r (clock_of clock) n pair.together s.sendable.some s.sendable.few

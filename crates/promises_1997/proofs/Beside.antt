@@ -3,6 +3,8 @@
 --     came, by_way     the four ways in which a guide answers, with what led there, and what follows from all of them
 --     beside_ours, accepted_ours    the statements
 -- Assumes nothing.
+use Rattle.std.specs.Prelude.{Result, Err}
+use Rattle.rules_calls.specs.declared.Told.{Told}
 use mathlib.Core.Path.{◌≡◌, refl, sym, ap, ◌∙◌, subst}
 use mathlib.Core.Bool.{true}
 use mathlib.Core.List.{List}
@@ -12,9 +14,6 @@ use Rattle.rules_chips.specs.Chips.{Taken, hard_recording}
 use Rattle.rules_frame.specs.declared.Kind.TheVariants.{Long}
 use Rattle.rules_calls.specs.declared.Refusal.{Refusal}
 use Rattle.rules_calls.specs.declared.Record.{Record}
-use Rattle.rules_calls.specs.declared.Front.{Front}
-use Rattle.rules_calls.specs.declared.Front.TheVariants as front
-use Rattle.rules_calls.specs.declared.Reading.TheVariants as reading
 use Rattle.rules_calls.specs.Answers.{refusal_number, refusal_length, record_of}
 use Rattle.rules_calls.specs.Headers.{ours, of1997}
 use Rattle.rules_calls.specs.Plain.{Rate1997}
@@ -139,7 +138,7 @@ module _ (chips : List ℕ) (room : ℕ) (a b : Record) (left kept : List ℕ) (
       let w = guide_alike rec room e in
       (f.answer ∙ ap record_of w.0 ∙ sym g.answer, f.octets ∙ w.1 ∙ sym g.octets)
 
-  answered : (e : Refusal) → front_by of1997 Long rec ≡ front.Refused e → a ≡ record_of (reading.Refused e)
+  answered : (e : Refusal) → front_by of1997 Long rec ≡ Err e → a ≡ record_of (Err e)
   answered e w = f.answer ∙ ap record_of (guide_refused rec room e w).0
 
   header : Sound Long rec → Headed (signal_heard Long rec) (service_heard Long rec) (length_heard Long rec)
@@ -148,10 +147,10 @@ module _ (chips : List ℕ) (room : ℕ) (a b : Record) (left kept : List ℕ) (
   pub came : Came
   came = by (guide_front rec) refl
     where
-      by : {x : Front} → GuideFront rec x → front_by of1997 Long rec ≡ x → Came
+      by : {x : Result Told Refusal} → GuideFront rec x → front_by of1997 Long rec ≡ x → Came
       by (as_unsound {e} r n) w =
           let z = alike (w ∙ sym (front_unsound Long rec r n ours)) in
-          let is : b ≡ record_of (reading.Refused e) = sym z.0 ∙ answered e w in
+          let is : b ≡ record_of (Err e) = sym z.0 ∙ answered e w in
           unsound z.0 z.1 (subst (λ (v : Record). 8 ≤ v.number) (sym is) (front_number r).0)
           (subst (λ (v : Record). v.number ≤ 12) (sym is) n)
           (ap (λ (v : Record). v.length) is ∙ no_length_yet r n)

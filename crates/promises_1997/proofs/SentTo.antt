@@ -4,6 +4,7 @@
 --     begun_1997    recordings that begin with the front of such a frame, whatever follows
 --     sent_1997     whole frames, whatever follows
 -- Assumes nothing.
+use Rattle.std.specs.Prelude.{Err}
 use mathlib.Core.Path.{◌≡◌, refl, sym, ap, ap₂, ◌∙◌, subst}
 use mathlib.Core.Bool.{true}
 use mathlib.Core.List.{List, ◌++◌, append_assoc}
@@ -20,8 +21,6 @@ use Rattle.rules_frame.specs.Frame.{clock_of, service_field}
 use Rattle.rules_calls.specs.declared.Written.{Written}
 use Rattle.rules_calls.specs.declared.Refusal.{Refusal}
 use Rattle.rules_calls.specs.declared.Refusal.TheVariants.{Signal, Service}
-use Rattle.rules_calls.specs.declared.Front.TheVariants as front
-use Rattle.rules_calls.specs.declared.Reading.TheVariants as reading
 use Rattle.rules_calls.specs.Answers.{record_of}
 use Rattle.rules_calls.specs.Headers.{ours, of1997, fields_of}
 use Rattle.rules_calls.specs.Plain.{Rate1997, at_1, at_2}
@@ -99,8 +98,8 @@ module _ (rate phase clock : ℕ) (payload : List ℕ) (w : Written) (chips : Li
         let v = guide_alike rec room (fields of1997 ∙ e ∙ sym (fields ours)) in
         (ap record_of v.0, v.1)
 
-    answered : (room : ℕ) (e : Refusal) → fields_of of1997 Long rate service l ≡ front.Refused e
-        → record_of (reading1997 rec room) ≡ record_of (reading.Refused e)
+    answered : (room : ℕ) (e : Refusal) → fields_of of1997 Long rate service l ≡ Err e
+        → record_of (reading1997 rec room) ≡ record_of (Err e)
     answered room e v = ap record_of (guide_refused rec room e (fields of1997 ∙ v)).0
 
 pub begun_1997 : Begun1997

@@ -6,6 +6,8 @@
 --     few_octets        how many entries a list of octets has at most
 --     list              the list of octets is that of the payloads in the buffers
 -- Assumes nothing.
+use Rattle.std.specs.Prelude.{Result}
+use Rattle.rules_calls.specs.declared.Refusal.{Refusal}
 use mathlib.Core.Path.{◌≡◌, sym, ap, ap₂, ◌∙◌, subst}
 use mathlib.Core.Bool.{true}
 use mathlib.Core.Logic.{◌⊎◌, inl, inr}
@@ -34,10 +36,10 @@ take_most j l = let e = length-take j l in omega (arith, e, min-le_left j (lengt
 
 module _ (kind : ℕ) (a b : List ℕ) (places places' room room' : ℕ) (c : Compared) (chips octets first second : List ℕ)
     (m : Compares kind a b places places' room room' c chips octets first second) where
-  abbrev f : Reading
+  abbrev f : Result Reading Refusal
   f = hard_reading kind a room
 
-  abbrev s : Reading
+  abbrev s : Result Reading Refusal
   s = hard_reading kind b room'
 
   pub record Answered : Type 0 where

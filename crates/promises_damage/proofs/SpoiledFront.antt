@@ -1,6 +1,7 @@
 -- The front of what was written, spoiled within the limit, tells what is coming and is not missed by a search: it is
 -- read as the frame's front (`front_spoiled` of rules_damage), and any chips that are tell of it and are found
 -- (`tells`, `found_there` of promises). Assumes nothing.
+use Rattle.std.specs.Prelude.{Ok}
 use mathlib.Core.Path.{◌≡◌, sym, ap, ◌∙◌, subst}
 use mathlib.Core.List.{List, ◌++◌}
 use Prim.Native.Nat.{ℕ}
@@ -11,7 +12,6 @@ use Rattle.rules_chips.specs.Chips.{hard_recording}
 use Rattle.rules_frame.specs.declared.Kind.{Kind}
 use Rattle.rules_frame.specs.Frame.{kind_of, clock_of, front_chips}
 use Rattle.rules_calls.specs.declared.Written.{Written}
-use Rattle.rules_calls.specs.declared.Front.TheVariants.{Fields}
 use Rattle.rules_reading.specs.Reading.{front_of}
 use Rattle.rules_damage.specs.Plain.{FrameStands}
 use Rattle.rules_damage.proofs.ReadBack.{front_spoiled}
@@ -47,7 +47,7 @@ module _ (kind rate phase clock : ℕ) (payload : List ℕ) (w : Written) (chips
       (begun_is kind rate phase clock payload w chips s ∙ ap (λ (m : ℕ). take m sent) (sym pair.front_is))
       (subst (λ (c : ℕ). FrameStands kind c 0 (take s.sendable.front chips) rec) (sym pair.code_back) stands)
 
-  told_is : front_of k (hard_recording (rec ++ tail)) ≡ Fields (sent_told kind rate phase clock payload w chips s)
+  told_is : front_of k (hard_recording (rec ++ tail)) ≡ Ok (sent_told kind rate phase clock payload w chips s)
   told_is =
       front_spoiled kind r phase (clock_of clock) payload pair.kind_is s.sendable.phase_is pair.together
       s.sendable.some s.sendable.few rec tail stands_front

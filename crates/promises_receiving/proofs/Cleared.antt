@@ -1,6 +1,8 @@
 -- Once a refusal is certain the buffer is zeros.
 --     received_cleared    by each outcome of the hard read
 -- Assumes nothing.
+use Rattle.std.specs.Prelude.{Result}
+use Rattle.rules_calls.specs.declared.Refusal.{Refusal}
 use mathlib.Core.Path.{◌≡◌, refl, subst, ◌∙◌}
 use mathlib.Core.List.{List}
 use Prim.Native.Nat.{ℕ}
@@ -30,7 +32,7 @@ use Rattle.promises_receiving.specs.Promises as certain
 use Rattle.promises_receiving.proofs.Shown.{cut_buffer}
 
 module _ (kind room : ℕ) (rec : List Taken) (c : ℕ) where
-  clears : {g : Reading} → HardComes kind rec room g → Certain (record_of g) c
+  clears : {g : Result Reading Refusal} → HardComes kind rec room g → Certain (record_of g) c
       → buffer_yet kind (take c rec) room ≡ replicate room 0
   clears (no_kind i) x = kind_yet kind room (take c rec) i
   clears (by_front {e} f) x = front_yet kind room c rec e f

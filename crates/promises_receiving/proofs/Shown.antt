@@ -2,6 +2,8 @@
 --     received_shown    the first octets of what the read leaves
 --     sent_shown        the first octets of the payload
 -- Assumes nothing.
+use Rattle.std.specs.Prelude.{Result}
+use Rattle.rules_calls.specs.declared.Refusal.{Refusal}
 use mathlib.Core.Path.{◌≡◌, refl, sym, ap, subst, ◌∙◌}
 use mathlib.Core.Bool.{true}
 use mathlib.Core.List.{List, ◌++◌}
@@ -76,7 +78,7 @@ module _ (kind room : ℕ) (rec : List Taken) (c : ℕ) where
         (sym (take_front k t.rate t.n t.n room rec (omega arith)))
 
   -- of any reading that is accepted
-  shows : {g : Reading} → HardComes kind rec room g → (record_of g).number ≡ 0 → {front octet m : ℕ}
+  shows : {g : Result Reading Refusal} → HardComes kind rec room g → (record_of g).number ≡ 0 → {front octet m : ℕ}
       → Goes kind (record_of g).rate front octet → Shown front octet (record_of g).n c m
       → buffer_yet kind (take c rec) room ≡ take m (octets_after k rec room g) ++ replicate (room - m) 0
   shows (no_kind i) z g x = absurd (some_number NoKind z)

@@ -9,6 +9,8 @@
 --     never_feeds, never_closes, closed_feeds, closed_closes, closed_twice    a receiver that is not open
 --     any_answer, any_more, any_twenty, any_long, any_close, any_close_long    any receiver whatever
 -- Assumes nothing.
+use Rattle.std.specs.Prelude.{Result, Ok, Err}
+use Rattle.rules_calls.specs.declared.Refusal.{Refusal}
 use mathlib.Core.Path.{◌≡◌, refl, sym, ap, subst, ◌∙◌}
 use mathlib.Core.Bool.{true}
 use mathlib.Core.List.{List, [], ◌∷◌, ◌++◌, append_assoc}
@@ -41,7 +43,6 @@ use Rattle.rules_calls.specs.declared.Refusal.TheVariants.{
   OctetRoom,
 }
 use Rattle.rules_calls.specs.declared.Reading.{Reading}
-use Rattle.rules_calls.specs.declared.Reading.TheVariants as reading
 use Rattle.rules_calls.specs.Answers.{record_of}
 use Rattle.rules_reading.specs.Reading.{reading_of}
 use Rattle.rules_receiving.specs.declared.Receiver.{Receiver}
@@ -130,25 +131,25 @@ module _ (promise : ReceivedYet) where
 -- ---- a close
 
 -- no refusal of a reading is 20
-not_twenty : (g : Reading) → (record_of g).number ≡ 20 → ⊥
-not_twenty (reading.Refused NoKind) h = omega arith
-not_twenty (reading.Refused NoRate) h = omega arith
-not_twenty (reading.Refused ShortRate) h = omega arith
-not_twenty (reading.Refused PayloadSize) h = omega arith
-not_twenty (reading.Refused NoPhase) h = omega arith
-not_twenty (reading.Refused ChipRoom) h = omega arith
-not_twenty (reading.Refused RowsDiffer) h = omega arith
-not_twenty (reading.Refused ShorterThanFront) h = omega arith
-not_twenty (reading.Refused (Unusable place l)) h = omega arith
-not_twenty (reading.Refused (OddGrowth place l)) h = omega arith
-not_twenty (reading.Refused Sfd) h = omega arith
-not_twenty (reading.Refused Crc) h = omega arith
-not_twenty (reading.Refused (Signal l)) h = omega arith
-not_twenty (reading.Refused (Service l)) h = omega arith
-not_twenty (reading.Refused (Length l)) h = omega arith
-not_twenty (reading.Refused (Ends l)) h = omega arith
-not_twenty (reading.Refused (OctetRoom l)) h = omega arith
-not_twenty (reading.Good t used least) h = omega arith
+not_twenty : (g : Result Reading Refusal) → (record_of g).number ≡ 20 → ⊥
+not_twenty (Err NoKind) h = omega arith
+not_twenty (Err NoRate) h = omega arith
+not_twenty (Err ShortRate) h = omega arith
+not_twenty (Err PayloadSize) h = omega arith
+not_twenty (Err NoPhase) h = omega arith
+not_twenty (Err ChipRoom) h = omega arith
+not_twenty (Err RowsDiffer) h = omega arith
+not_twenty (Err ShorterThanFront) h = omega arith
+not_twenty (Err (Unusable place l)) h = omega arith
+not_twenty (Err (OddGrowth place l)) h = omega arith
+not_twenty (Err Sfd) h = omega arith
+not_twenty (Err Crc) h = omega arith
+not_twenty (Err (Signal l)) h = omega arith
+not_twenty (Err (Service l)) h = omega arith
+not_twenty (Err (Length l)) h = omega arith
+not_twenty (Err (Ends l)) h = omega arith
+not_twenty (Err (OctetRoom l)) h = omega arith
+not_twenty (Ok g) h = omega arith
 
 module _ (promise : ReceivedAll) where
   -- beside the hard reader

@@ -9,6 +9,8 @@
 --     spoiled, grown_odd, by_front, by_crc, by_later, by_room, by_reason    refusals that are certain: zeros
 --     none_stays             an octet of 7 that stays is not allowed
 -- Assumes nothing.
+use Rattle.std.specs.Prelude.{Result, Ok, Err}
+use Rattle.rules_calls.specs.declared.Refusal.{Refusal}
 use mathlib.Core.Path.{◌≡◌, refl, sym, ap, subst, ◌∙◌}
 use mathlib.Core.Bool.{true}
 use mathlib.Core.List.{List, [], ◌∷◌, ◌++◌, append_assoc}
@@ -21,7 +23,6 @@ use Rattle.rules_chips.specs.Chips.{hard_recording}
 use Rattle.rules_calls.specs.declared.Written.{Written}
 use Rattle.rules_calls.specs.declared.Record.{Record}
 use Rattle.rules_calls.specs.declared.Reading.{Reading}
-use Rattle.rules_calls.specs.declared.Reading.TheVariants as reading
 use Rattle.rules_calls.specs.Answers.{record_of}
 use Rattle.rules_reading.specs.Reading.{reading_of}
 use Rattle.rules_reading.proofs.Buffers.{Fits, reading_fits}
@@ -134,9 +135,9 @@ entry_later m z j l h e =
     ∙ zero_at z (j - m)
 
 -- the octets of a read are at most its room
-record_fits : (room : ℕ) (g : Reading) → Fits room g → (record_of g).n ≤ room
-record_fits room (reading.Refused e) h = omega arith
-record_fits room (reading.Good t used least) h = h
+record_fits : (room : ℕ) (g : Result Reading Refusal) → Fits room g → (record_of g).n ≤ room
+record_fits room (Err e) h = omega arith
+record_fits room (Ok g) h = h
 
 -- ---- a recording that is accepted
 

@@ -1,5 +1,7 @@
 -- What is promised of the call that says why a read is refused is kept, by every program that meets its contract.
 -- Assumes nothing.
+use Rattle.std.specs.Prelude.{Result, Ok, Err}
+use Rattle.rules_calls.specs.declared.Refusal.{Refusal}
 use mathlib.Core.Path.{◌≡◌, refl, sym, ap, ◌∙◌, subst}
 use mathlib.Core.Bool.{true}
 use mathlib.Core.List.{List}
@@ -8,7 +10,6 @@ use Rattle.rules_chips.specs.Chips.{hard_recording}
 use Rattle.rules_frame.specs.Frame.{kind_of}
 use Rattle.rules_calls.specs.declared.Record.{Record}
 use Rattle.rules_calls.specs.declared.Reading.{Reading}
-use Rattle.rules_calls.specs.declared.Reading.TheVariants.{Refused, Good}
 use Rattle.rules_calls.specs.Answers.{record_of}
 use Rattle.rules_reading.specs.Reading.{reading_of}
 use Rattle.rules_calls.proofs.AnswerFacts.{some_number}
@@ -32,11 +33,11 @@ use Rattle.promises_why.specs.Promises.{
 use Rattle.promises_why.proofs.Rows.{Shows, why_shows}
 use Rattle.promises_why.proofs.Only.{row_once}
 
-good_zeros : (kind : ℕ) (chips : List ℕ) (room : ℕ) (g : Reading) → (record_of g).number ≡ 0
+good_zeros : (kind : ℕ) (chips : List ℕ) (room : ℕ) (g : Result Reading Refusal) → (record_of g).number ≡ 0
     → reason_of kind (kind_of kind) chips (hard_recording chips) room g ≡ reason 0 0 0 0
-good_zeros kind chips room (Refused e) z = absurd (some_number e z)
-good_zeros kind chips room (Good t used least) z =
-    reason_good kind (kind_of kind) chips (hard_recording chips) room t used least
+good_zeros kind chips room (Err e) z = absurd (some_number e z)
+good_zeros kind chips room (Ok g) z =
+    reason_good kind (kind_of kind) chips (hard_recording chips) room g.told g.used g.least
 
 why_agrees : WhyAgrees
 why_agrees kind chips room r a left x f = (

@@ -1,5 +1,6 @@
 -- Each refusal that a reading of a hard recording can come to (`reading_comes` of rules_reading) shows its row of the
 -- table, and two numbers that differ but where `Alike` says. Assumes nothing.
+use Rattle.std.specs.Prelude.{Result, Err}
 use mathlib.Core.Path.{◌≡◌, refl, sym, ◌∙◌, subst}
 use mathlib.Core.Bool.{true, false}
 use mathlib.Core.List.{List}
@@ -28,7 +29,6 @@ use Rattle.rules_calls.specs.declared.Refusal.{Refusal}
 use Rattle.rules_calls.specs.declared.Refusal.TheVariants.{Unusable, OddGrowth, Crc, Service, Length, Ends, OctetRoom}
 use Rattle.rules_calls.specs.declared.Told.{Told}
 use Rattle.rules_calls.specs.declared.Reading.{Reading}
-use Rattle.rules_calls.specs.declared.Reading.TheVariants.{Refused}
 use Rattle.rules_calls.specs.Headers.{service_allowed, ours}
 use Rattle.rules_reading.specs.Places.{UnusableFirst, FirstOddSymbol}
 use Rattle.rules_reading.specs.Heard.{header_heard, signal_heard, service_heard, length_heard}
@@ -128,7 +128,7 @@ module _ (kind : ℕ) (chips : List ℕ) (room : ℕ) where
   abbrev k : Kind
   k = kind_of kind
 
-  abbrev ShowsIf : Reading → Type 0
+  abbrev ShowsIf : Result Reading Refusal → Type 0
   ShowsIf g = Shows (reason_of kind k chips rec room g)
 
   abbrev signal : ℕ
@@ -141,19 +141,19 @@ module _ (kind : ℕ) (chips : List ℕ) (room : ℕ) where
   l = length_heard k rec
 
   -- ---- 9 and 10, in the front and in the payload
-  unusable_shows : (p m : ℕ) → UnusableFirst rec p → ShowsIf (Refused (Unusable p m))
+  unusable_shows : (p m : ℕ) → UnusableFirst rec p → ShowsIf (Err (Unusable p m))
   unusable_shows p m f =
       let o = unusable_octet chips p f in
       differ (row_9 p o) (λ e. omega (arith, e, o))
 
-  odd_shows : (p m : ℕ) → FirstOddSymbol rec p → ShowsIf (Refused (OddGrowth p m))
+  odd_shows : (p m : ℕ) → FirstOddSymbol rec p → ShowsIf (Err (OddGrowth p m))
   odd_shows p m f =
       let g = (shown_10 kind k chips rec room p m f).1 in
       differ (row_10 g) (λ e. omega (arith, e, g.odd))
 
   module _ (known : is_kind kind ≡ true) where
     -- ---- the front's
-    crc_shows : Clear k rec → (CrcHeard k rec → ⊥) → ShowsIf (Refused Crc)
+    crc_shows : Clear k rec → (CrcHeard k rec → ⊥) → ShowsIf (Err Crc)
     crc_shows c d =
         let header = header_heard k rec in
         let w = shown_12 kind k chips rec room in
@@ -176,7 +176,7 @@ module _ (kind : ℕ) (chips : List ℕ) (room : ℕ) where
       coded : code_of rate ≡ signal
       coded = code_of_lem kind true rec room known refl signal a
 
-      service_shows : (m : ℕ) → service_allowed rate service ≡ false → ShowsIf (Refused (Service m))
+      service_shows : (m : ℕ) → service_allowed rate service ≡ false → ShowsIf (Err (Service m))
       service_shows m b =
           let left = service_left rate service in
           differ
@@ -184,7 +184,7 @@ module _ (kind : ℕ) (chips : List ℕ) (room : ℕ) where
           (subst (λ (x : ℕ). Cleared x service left) coded (shown_14 kind k chips rec room m).1))
           (λ e. left_some rate service (service_below kind k chips rec room) b (sym e))
 
-      length_shows : length_holds rate l (service / 128 % 2) ≡ false → ShowsIf (Refused (Length l))
+      length_shows : length_holds rate l (service / 128 % 2) ≡ false → ShowsIf (Err (Length l))
       length_shows d =
           let seven = service / 128 % 2 in
           let wanted = length_for rate (octets_read rate l seven) in
@@ -196,7 +196,7 @@ module _ (kind : ℕ) (chips : List ℕ) (room : ℕ) where
                 subst (λ (x : ℕ × ℕ). Alike (reason 15 0 x.0 x.1)) (λ i. (sym (e ∙ z) i, sym z i)) length_0;
           }
 
-    in_front : {e : Refusal} → FrontRefusal k rec e → ShowsIf (Refused e)
+    in_front : {e : Refusal} → FrontRefusal k rec e → ShowsIf (Err e)
     in_front (front_short l) =
         differ (row_8 (front_known kind known)) (λ e. omega (arith, l, e, length_hard chips))
     in_front (front_unusable p l f) = unusable_shows p 0 (front_unusable_first k rec p l f)
@@ -222,14 +222,14 @@ module _ (kind : ℕ) (chips : List ℕ) (room : ℕ) where
           (λ i. octets_read (sym h.tells.rate_is i) (h.tells.length_is i) (sym h.tells.seven_is i))
           ∙ octets_back t.rate t.n
 
-      ends_shows : length rec < frame_chips k t.rate t.n → ShowsIf (Refused (Ends t.length))
+      ends_shows : length rec < frame_chips k t.rate t.n → ShowsIf (Err (Ends t.length))
       ends_shows m =
           by_shown
           (shown_16 kind k chips rec room t.n t.length octets_are
           ∙ (λ i. (front_chips k + octet_chips (sym h.tells.rate_is i) * t.n, length chips)))
           (differ (row_16 told) (λ e. omega (arith, m, e, length_hard chips)))
 
-      room_shows : room < t.n → ShowsIf (Refused (OctetRoom t.length))
+      room_shows : room < t.n → ShowsIf (Err (OctetRoom t.length))
       room_shows m =
           by_shown (shown_17 kind k chips rec room t.n t.length octets_are)
           (differ (row_17 told) (λ e. omega (arith, m, e)))
@@ -239,7 +239,7 @@ module _ (kind : ℕ) (chips : List ℕ) (room : ℕ) where
         payload_shows =
             by (dec_lt room t.n) (found_unusable k t rec) refl (payload_odd k t.rate t.n rec) refl
           where
-            come : (g : Reading) → payload_reading k t rec room ≡ g → ShowsIf g → ShowsIf (payload_reading k t rec room)
+            come : (g : Result Reading Refusal) → payload_reading k t rec room ≡ g → ShowsIf g → ShowsIf (payload_reading k t rec room)
             come g e x = subst ShowsIf (sym e) x
 
             by : Dec (room < t.n) → (o : Option ℕ) → found_unusable k t rec ≡ o → (q : Option ℕ)
@@ -258,11 +258,11 @@ module _ (kind : ℕ) (chips : List ℕ) (room : ℕ) where
                 come _ (payload_good k t rec room (omega (arith, m)) e d)
                 (record { row = row_0; apart = λ e. all_zeros })
 
-    whole_shows : {e : Refusal} → WholeRefusal k rec e → ShowsIf (Refused e)
+    whole_shows : {e : Refusal} → WholeRefusal k rec e → ShowsIf (Err e)
     whole_shows (met_in_front f) = in_front f
     whole_shows (frame_ends t h m) = ends_shows t h m
 
-  comes_shows : {g : Reading} → ReadingComes kind true rec room g → ShowsIf g
+  comes_shows : {g : Result Reading Refusal} → ReadingComes kind true rec room g → ShowsIf g
   comes_shows (kind_none b) = differ row_1 (λ e. omega (arith, e, ltb-false kind 2 b))
   comes_shows (rows_apart b d) = absurd (clash refl d)
   comes_shows (by_front b d w) = whole_shows b w

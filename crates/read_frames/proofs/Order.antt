@@ -1,5 +1,6 @@
 -- The order of refusals: for each way out of reading a payload and a whole recording, what the definition says there.
 -- Each follows by the tests that led there. Assumes nothing.
+use Rattle.std.specs.Prelude.{Result, Ok, Err}
 use mathlib.Core.Path.{◌≡◌, refl, sym, ap, ◌∙◌, subst}
 use mathlib.Core.Bool.{Bool, true, false}
 use mathlib.Core.List.{List}
@@ -17,9 +18,7 @@ use Rattle.rules_calls.specs.declared.Refusal.{Refusal}
 use Rattle.rules_calls.specs.declared.Refusal.TheVariants.{NoKind, RowsDiffer, Unusable, OctetRoom}
 use Rattle.rules_calls.specs.declared.Told.{Told}
 use Rattle.rules_calls.specs.declared.Least.{Least}
-use Rattle.rules_calls.specs.declared.Front.TheVariants as front
 use Rattle.rules_calls.specs.declared.Reading.{Reading}
-use Rattle.rules_calls.specs.declared.Reading.TheVariants.{Refused}
 use Rattle.rules_calls.specs.declared.Record.{Record}
 use Rattle.rules_calls.specs.Answers.{record_of}
 use Rattle.rules_calls.specs.Headers.{Accepted, ours, of1997}
@@ -43,7 +42,7 @@ use Rattle.read_frames.specs.Payloads.{octets_heard, after_heard}
 -- ---- the payload
 
 module _ (k : Kind) (t : Told) (rec : List Taken) (room : ℕ) where
-  pub payload_room : room < t.n → Refused (OctetRoom t.length) ≡ payload_reading k t rec room
+  pub payload_room : room < t.n → Err (OctetRoom t.length) ≡ payload_reading k t rec room
   unfolding payload_reading
   payload_room h = rw (lt-ltb room t.n h)
 
@@ -60,7 +59,7 @@ module _ (k : Kind) (t : Told) (rec : List Taken) (room : ℕ) where
   searched w h from e i = record { whole = w; fits = h; from = from; at_front = e; is = i }
 
   pub payload_unusable : {all : ℕ} {f : Option ℕ} (place : ℕ) → Searched all f → f ≡ Some place
-      → Refused (Unusable place t.length) ≡ payload_reading k t rec room
+      → Err (Unusable place t.length) ≡ payload_reading k t rec room
   unfolding payload_reading
   payload_unusable {all} place s e = rw (← s.whole, ← s.at_front, le-ltb room t.n s.fits, ← s.is, e)
 
@@ -78,7 +77,7 @@ module _ (k : Kind) (t : Told) (rec : List Taken) (room : ℕ) where
   left all b None = refl
   left all b (Some place) = refl
 
-  pub payload_heard : {all : ℕ} {f : Option ℕ} (o : Option ℕ) (b : Least) (g : Reading) (out : List ℕ) → Searched all f
+  pub payload_heard : {all : ℕ} {f : Option ℕ} (o : Option ℕ) (b : Least) (g : Result Reading Refusal) (out : List ℕ) → Searched all f
       → f ≡ None → o ≡ payload_odd k t.rate t.n rec
       → b ≡ least_of (frame_leads k t.rate t.n rec)
       → out ≡ octets_heard k t.rate t.n rec room o
@@ -93,11 +92,11 @@ module _ (k : Kind) (t : Told) (rec : List Taken) (room : ℕ) where
 
 module _ (accepted : Accepted) (k : Kind) (rec : List Taken) (room : ℕ) (o : Opening) (x : OpensWhole accepted k rec o)
   where
-    pub as_refused : (w : Refusal) (out : List ℕ) → o.front ≡ front.Refused w → out ≡ replicate room 0
-        → (Refused w ≡ reading_by accepted k rec room) × (out ≡ octets_after k rec room (Refused w))
+    pub as_refused : (w : Refusal) (out : List ℕ) → o.front ≡ Err w → out ≡ replicate room 0
+        → (Err w ≡ reading_by accepted k rec room) × (out ≡ octets_after k rec room (Err w))
     as_refused w out t z = (rw (← x.told, t), z)
 
-    pub as_told : (t : Told) (g : Reading) (out : List ℕ) → o.front ≡ front.Fields t
+    pub as_told : (t : Told) (g : Result Reading Refusal) (out : List ℕ) → o.front ≡ Ok t
         → (g ≡ payload_reading k t rec room) × (out ≡ octets_after k rec room g)
         → (g ≡ reading_by accepted k rec room) × (out ≡ octets_after k rec room g)
     as_told t g out w p = (p.0 ∙ rw (← x.told, w), p.1)
@@ -105,27 +104,27 @@ module _ (accepted : Accepted) (k : Kind) (rec : List Taken) (room : ℕ) (o : O
 -- ---- the whole
 
 module _ (kind : ℕ) (agree : Bool) (rec : List Taken) (room : ℕ) where
-  both : (g : Reading) (out : List ℕ) → g ≡ reading_of kind agree rec room → out ≡ octets_after (kind_of kind) rec room g
+  both : (g : Result Reading Refusal) (out : List ℕ) → g ≡ reading_of kind agree rec room → out ≡ octets_after (kind_of kind) rec room g
       → (g ≡ reading_of kind agree rec room) × (out ≡ octets_found kind agree rec room)
   unfolding octets_found
   both g out e f = (e, f ∙ ap (octets_after (kind_of kind) rec room) e)
 
   pub read_no_kind : (out : List ℕ) → is_kind kind ≡ false → out ≡ replicate room 0
-      → (Refused NoKind ≡ reading_of kind agree rec room) × (out ≡ octets_found kind agree rec room)
-  read_no_kind out e z = both (Refused NoKind) out (unfold reading_of in rw e) z
+      → (Err NoKind ≡ reading_of kind agree rec room) × (out ≡ octets_found kind agree rec room)
+  read_no_kind out e z = both (Err NoKind) out (unfold reading_of in rw e) z
 
   pub read_rows : (out : List ℕ) → is_kind kind ≡ true → agree ≡ false → out ≡ replicate room 0
-      → (Refused RowsDiffer ≡ reading_of kind agree rec room) × (out ≡ octets_found kind agree rec room)
-  read_rows out e a z = both (Refused RowsDiffer) out (unfold reading_of in rw (e, a)) z
+      → (Err RowsDiffer ≡ reading_of kind agree rec room) × (out ≡ octets_found kind agree rec room)
+  read_rows out e a z = both (Err RowsDiffer) out (unfold reading_of in rw (e, a)) z
 
-  pub read_ours : is_kind kind ≡ true → agree ≡ true → (k : Kind) → k ≡ kind_of kind → (g : Reading) (out : List ℕ)
+  pub read_ours : is_kind kind ≡ true → agree ≡ true → (k : Kind) → k ≡ kind_of kind → (g : Result Reading Refusal) (out : List ℕ)
       → (g ≡ reading_by ours k rec room) × (out ≡ octets_after k rec room g)
       → (g ≡ reading_of kind agree rec room) × (out ≡ octets_found kind agree rec room)
   read_ours e a k c g out p =
       both g out (p.0 ∙ (unfold reading_of in rw (e, a, ← c)))
       (p.1 ∙ ap (λ (i : Kind). octets_after i rec room g) c)
 
-pub read_of_1997 : (k : Kind) → k ≡ Long → (rec : List Taken) (room : ℕ) (g : Reading) (out : List ℕ)
+pub read_of_1997 : (k : Kind) → k ≡ Long → (rec : List Taken) (room : ℕ) (g : Result Reading Refusal) (out : List ℕ)
     → (g ≡ reading_by of1997 k rec room) × (out ≡ octets_after k rec room g)
     → (g ≡ reading1997 rec room) × (out ≡ octets1997 rec room)
 unfolding reading1997 octets1997
@@ -137,13 +136,13 @@ read_of_1997 k e rec room g out p =
 pub cleared : (d z : List ℕ) → z ≡ replicate (length d) 0 → length z ≡ length d → z ≡ replicate (length z) 0
 cleared d z e f = e ∙ ap (λ (m : ℕ). replicate m 0) (sym f)
 
-pub as_long : (accepted : Accepted) (k : Kind) (rec : List Taken) (g : Reading) (out : List ℕ) (m room : ℕ) → m ≡ room
+pub as_long : (accepted : Accepted) (k : Kind) (rec : List Taken) (g : Result Reading Refusal) (out : List ℕ) (m room : ℕ) → m ≡ room
     → (g ≡ reading_by accepted k rec m) × (out ≡ octets_after k rec m g)
     → (g ≡ reading_by accepted k rec room) × (out ≡ octets_after k rec room g)
 as_long accepted k rec g out m room e h =
     subst (λ (i : ℕ). (g ≡ reading_by accepted k rec i) × (out ≡ octets_after k rec i g)) e h
 
 -- a call answers the numbers of what reading comes to, and leaves what it leaves
-pub in_numbers : {g h : Reading} {r : Record} {out w : List ℕ} → r ≡ record_of g → (g ≡ h) × (out ≡ w)
+pub in_numbers : {g h : Result Reading Refusal} {r : Record} {out w : List ℕ} → r ≡ record_of g → (g ≡ h) × (out ≡ w)
     → (r ≡ record_of h) × (out ≡ w)
 in_numbers e p = (e ∙ ap record_of p.0, p.1)

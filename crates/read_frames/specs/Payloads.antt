@@ -1,5 +1,7 @@
 -- What a payload heard leaves in the octet buffer, and what it comes to. Definitions only. Assumes nothing.
 -- working notion: of the code that reads a payload; no promise needs it
+use Rattle.std.specs.Prelude.{Result, Ok, Err}
+use Rattle.rules_calls.specs.declared.Refusal.{Refusal}
 use Rattle.std.specs.Prelude.{List, ◌++◌, ℕ, ◌-◌, replicate}
 use Rattle.std.specs.Prelude.{Option, None, Some}
 use Rattle.rules_rates.specs.declared.Rate.{Rate}
@@ -9,7 +11,6 @@ use Rattle.rules_calls.specs.declared.Refusal.TheVariants.{OddGrowth}
 use Rattle.rules_calls.specs.declared.Told.{Told}
 use Rattle.rules_calls.specs.declared.Least.{Least}
 use Rattle.rules_calls.specs.declared.Reading.{Reading}
-use Rattle.rules_calls.specs.declared.Reading.TheVariants.{Refused, Good}
 use Rattle.rules_reading.specs.Reading.{or_else, payload_of}
 
 -- what a payload leaves in room for so many octets: zeros where a symbol is grown by 1 or 3
@@ -18,5 +19,5 @@ octets_heard k r n rec room None = payload_of k r n rec ++ replicate (room - n) 
 octets_heard k r n rec room (Some place) = replicate room 0
 
 -- what a payload of usable chips comes to: 10, or the whole answer
-abbrev pub after_heard : Told → ℕ → Least → Option ℕ → Reading
-after_heard t used least odd = or_else odd (λ place. Refused (OddGrowth place t.length)) (Good t used least)
+abbrev pub after_heard : Told → ℕ → Least → Option ℕ → Result Reading Refusal
+after_heard t used least odd = or_else odd (λ place. Err (OddGrowth place t.length)) (Ok (record { told = t; used = used; least = least }))

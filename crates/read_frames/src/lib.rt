@@ -10,22 +10,22 @@ ghost use Rattle.rules_reading.specs.Guides.{reading1997, octets1997};
 ghost use Rattle.choose_recorders.specs.Rows.{taken_of};
 
 use choose_recorders::Recording;
-use rules_calls::{Front, Reader, Reading, Record, Refusal};
+use rules_calls::{Reader, Reading, Record, Refusal};
 use rules_frame::Kind;
 
 pub mod payload;
 
 // A recording of a kind and of any recorder, into a buffer of zeros, by who reads: 8, then 9 and 10 over the front, 11
 // to 17, then 9 and 10 over the payload.
-fn read_as(by: Reader, kind: Kind, rec: Recording, octets: &mut [u8]) -> Reading
+fn read_as(by: Reader, kind: Kind, rec: Recording, octets: &mut [u8]) -> Result<Reading, Refusal>
     requires { octets.old ≡ replicate (length octets.old) 0 }
     ensures answer { result ≡ reading_by (accepted_by by) kind (taken_of rec.entry) (length octets.old) }
     ensures octets { octets.new ≡ octets_after kind (taken_of rec.entry) (length octets.old) result }
 {
     let opening = read_fronts::read_whole(by, rec, kind);
     match opening.front {
-        Front::Refused(e) => Reading::Refused(e),
-        Front::Fields(t) => payload::read_payload(
+        Err(e) => Err(e),
+        Ok(t) => payload::read_payload(
             rec,
             kind,
             t,
@@ -38,16 +38,16 @@ fn read_as(by: Reader, kind: Kind, rec: Recording, octets: &mut [u8]) -> Reading
 
 // A recording of any recorder, whose rows agree or not, by our own readers: 1, 7, and what comes after them. Octets
 // past the payload, and all after a refusal, are 0.
-fn read(kind: u64, agree: bool, rec: Recording, octets: &mut [u8]) -> Reading
+fn read(kind: u64, agree: bool, rec: Recording, octets: &mut [u8]) -> Result<Reading, Refusal>
     ensures answer { result ≡ reading_of kind agree (taken_of rec.entry) (length octets.old) }
     ensures octets { octets.new ≡ octets_found kind agree (taken_of rec.entry) (length octets.old) }
 {
     common_rows::fill(octets, 0);
     if !common_kinds::is_kind(kind) {
-        return Reading::Refused(Refusal::NoKind);
+        return Err(Refusal::NoKind);
     }
     if !agree {
-        return Reading::Refused(Refusal::RowsDiffer);
+        return Err(Refusal::RowsDiffer);
     }
     let k = common_kinds::kind_of(kind);
     read_as(Reader::Ours, k, rec, octets)

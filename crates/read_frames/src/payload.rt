@@ -70,7 +70,7 @@ pub fn read_payload(
     line: Line,
     least: Least,
     octets: &mut [u8],
-) -> Reading
+) -> Result<Reading, Refusal>
     requires { (told.n ≤ 4095)
         × (frame_chips kind told.rate told.n ≤ length (taken_of rec))
         × (Opened kind (taken_of rec) line)
@@ -86,16 +86,16 @@ pub fn read_payload(
         clock: _,
     } = told;
     if octets.len() < n {
-        return Reading::Refused(Refusal::OctetRoom { length });
+        return Err(Refusal::OctetRoom { length });
     }
     let from = common_kinds::front_chips(kind);
     let used = common_kinds::frame_chips(kind, rate, n);
     if let Some(place) = rec.first_unusable(from, used) {
-        return Reading::Refused(Refusal::Unusable { place, length });
+        return Err(Refusal::Unusable { place, length });
     }
     let Payload { odd, least } = hear_payload(rec, kind, rate, n, line, least, octets);
     match odd {
-        Some(place) => Reading::Refused(Refusal::OddGrowth { place, length }),
-        None => Reading::Good { told, used, least },
+        Some(place) => Err(Refusal::OddGrowth { place, length }),
+        None => Ok(Reading { told, used, least }),
     }
 }

@@ -1,5 +1,6 @@
 -- Sizes that a front tells: at most 4,095 octets, refusal 15 having refused all others; the numbers that a front is
 -- refused with; and refusal 16, whether the recording has the frame's chips. Assumes nothing.
+use Rattle.std.specs.Prelude.{Result, Ok, Err}
 use mathlib.Core.Path.{◌≡◌, sym, subst, ◌∙◌}
 use mathlib.Core.List.{List}
 use Prim.Native.Nat.{ℕ, ◌≤◌, ◌<◌}
@@ -11,8 +12,6 @@ use Rattle.rules_frame.specs.declared.Kind.{Kind}
 use Rattle.rules_calls.specs.declared.Refusal.{Refusal}
 use Rattle.rules_calls.specs.declared.Refusal.TheVariants.{OddGrowth, Ends}
 use Rattle.rules_calls.specs.declared.Told.{Told}
-use Rattle.rules_calls.specs.declared.Front.{Front}
-use Rattle.rules_calls.specs.declared.Front.TheVariants.{Refused, Fields}
 use Rattle.rules_frame.specs.Frame.{frame_chips}
 use Rattle.rules_calls.specs.Answers.{refusal_number}
 use Rattle.rules_calls.specs.Headers.{Accepted, header_of}
@@ -38,26 +37,26 @@ use Rattle.read_fronts.specs.declared.Opening.{Opening}
 
 -- ---- at most 4,095 octets
 
-told_not : (A : Type 0) (e : Refusal) (t : Told) → Refused e ≡ Fields t → A
+told_not : (A : Type 0) (e : Refusal) (t : Told) → Err e ≡ Ok t → A
 told_not A e t w = let z : ◌≡◌ {A = ℕ} 0 1 = cc in absurd (omega arith)
 
 pub header_few : (accepted : Accepted) (k : Kind) (sfd header : List ℕ) (t : Told)
-    → header_of accepted k sfd header ≡ Fields t → t.n ≤ 4095
+    → header_of accepted k sfd header ≡ Ok t → t.n ≤ 4095
 header_few accepted k sfd header t e = by (header_comes accepted k sfd header) e
   where
-    fields : {f : Front} → FieldsCome accepted k (signal_in accepted k sfd header) (service_in accepted k sfd header)
-        (length_in accepted k sfd header) f → f ≡ Fields t → t.n ≤ 4095
+    fields : {f : Result Told Refusal} → FieldsCome accepted k (signal_in accepted k sfd header) (service_in accepted k sfd header)
+        (length_in accepted k sfd header) f → f ≡ Ok t → t.n ≤ 4095
     fields (signal_out a) w = told_not _ _ t w
     fields (service_out a b) w = told_not _ _ t w
     fields (length_out a b c) w = told_not _ _ t w
     fields (fields_told u h) w = let z : u ≡ t = cc in subst (λ (v : Told). v.n ≤ 4095) z h.few
 
-    by : {f : Front} → HeaderComes accepted k sfd header f → f ≡ Fields t → t.n ≤ 4095
+    by : {f : Result Told Refusal} → HeaderComes accepted k sfd header f → f ≡ Ok t → t.n ≤ 4095
     by (sfd_other a) w = told_not _ _ t w
     by (crc_other a b) w = told_not _ _ t w
     by (fields_behind a b f) w = fields f w
 
-pub refused_few : (f : Front) (e : Refusal) → f ≡ Refused e → (t : Told) → f ≡ Fields t → t.n ≤ 4095
+pub refused_few : (f : Result Told Refusal) (e : Refusal) → f ≡ Err e → (t : Told) → f ≡ Ok t → t.n ≤ 4095
 refused_few f e g t w = told_not _ e t (sym g ∙ w)
 
 -- ---- 10 to 15
@@ -65,36 +64,36 @@ refused_few f e g t w = told_not _ e t (sym g ∙ w)
 abbrev pub Late : Refusal → Type 0
 Late e = (10 ≤ refusal_number e) × (refusal_number e ≤ 15)
 
-refused_same : (d e : Refusal) → Late d → Refused d ≡ Refused e → Late e
+refused_same : (d e : Refusal) → Late d → Err d ≡ Err e → Late e
 refused_same d e h w = let z : d ≡ e = cc in subst Late z h
 
 pub header_late : (accepted : Accepted) (k : Kind) (sfd header : List ℕ) (e : Refusal)
-    → header_of accepted k sfd header ≡ Refused e → Late e
+    → header_of accepted k sfd header ≡ Err e → Late e
 header_late accepted k sfd header e w = by (header_comes accepted k sfd header) w
   where
-    fields : {f : Front} → FieldsCome accepted k (signal_in accepted k sfd header) (service_in accepted k sfd header)
-        (length_in accepted k sfd header) f → f ≡ Refused e → Late e
+    fields : {f : Result Told Refusal} → FieldsCome accepted k (signal_in accepted k sfd header) (service_in accepted k sfd header)
+        (length_in accepted k sfd header) f → f ≡ Err e → Late e
     fields (signal_out a) v = refused_same _ e (omega arith, omega arith) v
     fields (service_out a b) v = refused_same _ e (omega arith, omega arith) v
     fields (length_out a b c) v = refused_same _ e (omega arith, omega arith) v
     fields (fields_told u h) v = told_not _ e u (sym v)
 
-    by : {f : Front} → HeaderComes accepted k sfd header f → f ≡ Refused e → Late e
+    by : {f : Result Told Refusal} → HeaderComes accepted k sfd header f → f ≡ Err e → Late e
     by (sfd_other a) v = refused_same _ e (omega arith, omega arith) v
     by (crc_other a b) v = refused_same _ e (omega arith, omega arith) v
     by (fields_behind a b f) v = fields f v
 
-pub odd_late : (f : Front) (place length : ℕ) → f ≡ Refused (OddGrowth place length) → (e : Refusal) → f ≡ Refused e
+pub odd_late : (f : Result Told Refusal) (place length : ℕ) → f ≡ Err (OddGrowth place length) → (e : Refusal) → f ≡ Err e
     → Late e
 odd_late f place length g e w = refused_same (OddGrowth place length) e (omega arith, omega arith) (sym g ∙ w)
 
 -- ---- 16
 
 -- an opening that refuses needs neither line nor lead nor sizes
-opens_none : (accepted : Accepted) (k : Kind) (rec : List Taken) (o : Opening) (e : Refusal) → o.front ≡ Refused e
-    → whole_of k rec (front_by accepted k rec) ≡ Refused e → OpensWhole accepted k rec o
+opens_none : (accepted : Accepted) (k : Kind) (rec : List Taken) (o : Opening) (e : Refusal) → o.front ≡ Err e
+    → whole_of k rec (front_by accepted k rec) ≡ Err e → OpensWhole accepted k rec o
 opens_none accepted k rec o e p q =
-    let none : (A : Type 0) (t : Told) → o.front ≡ Fields t → A =
+    let none : (A : Type 0) (t : Told) → o.front ≡ Ok t → A =
     λ A t w. let z : ◌≡◌ {A = ℕ} 0 1 = cc in absurd (omega arith) in
     record {
       told = p ∙ sym q;
@@ -106,16 +105,16 @@ opens_none accepted k rec o e p q =
 
 module _ (accepted : Accepted) (k : Kind) (rec : List Taken) (a : Opening) (x : Opens k rec (front_by accepted k rec) a)
   where
-    pub whole_refused : (o : Opening) (e : Refusal) → a.front ≡ Refused e → o.front ≡ Refused e
+    pub whole_refused : (o : Opening) (e : Refusal) → a.front ≡ Err e → o.front ≡ Err e
         → OpensWhole accepted k rec o
     whole_refused o e f p = opens_none accepted k rec o e p (rw (← x.told, f))
 
-    module _ (t : Told) (f : a.front ≡ Fields t) where
+    module _ (t : Told) (f : a.front ≡ Ok t) where
       pub whole_few : t.n ≤ 4095
       whole_few = front_few accepted k rec t (sym x.told ∙ f)
 
       pub whole_ends : (o : Opening) → length rec < frame_chips k t.rate t.n
-          → o.front ≡ Refused (Ends t.length) → OpensWhole accepted k rec o
+          → o.front ≡ Err (Ends t.length) → OpensWhole accepted k rec o
       whole_ends o h p =
           opens_none accepted k rec o (Ends t.length) p
           (rw (← x.told, f, lt-ltb (length rec) (frame_chips k t.rate t.n) h))

@@ -1,6 +1,8 @@
 -- What is known of a line and of leads once a preamble and a front are heard, and of a front once it is read.
 -- Definitions only. Assumes nothing.
 -- working notion: of the code that reads a front; no promise needs it
+use Rattle.std.specs.Prelude.{Result, Ok, Err}
+use Rattle.rules_calls.specs.declared.Refusal.{Refusal}
 use Rattle.std.specs.Prelude.{◌≡◌, List, ℕ, ◌+◌, ◌≤◌, ◌<◌, length, take, drop}
 use Rattle.rules_rates.specs.declared.Rate.TheVariants.{One}
 use Rattle.rules_chips.specs.Chips.{Taken}
@@ -15,8 +17,6 @@ use Rattle.rules_frame.specs.Frame.{start, sync_bits, preamble_length, front_chi
 use Rattle.rules_calls.specs.declared.Refusal.TheVariants.{ShorterThanFront, OddGrowth}
 use Rattle.rules_calls.specs.declared.Refusal.TheVariants as refusal
 use Rattle.rules_calls.specs.declared.Told.{Told}
-use Rattle.rules_calls.specs.declared.Front.{Front}
-use Rattle.rules_calls.specs.declared.Front.TheVariants.{Refused, Fields}
 use Rattle.rules_calls.specs.Headers.{Accepted, header_of}
 use Rattle.rules_reading.specs.Reading.{
   or_else,
@@ -87,32 +87,32 @@ pub record FrontKnown (k : Kind) (rec : List Taken) (f : FrontHeard) : Type 0 wh
   pub least : f.part.least ≡ least_of (front_leads k rec)
 
 -- what a front of usable chips tells a reader that accepts these headers: 10, then 11 to 15
-abbrev pub after_usable : Accepted → Kind → List Taken → Front
+abbrev pub after_usable : Accepted → Kind → List Taken → Result Told Refusal
 after_usable accepted k rec =
-    or_else (front_odd k rec) (λ place. Refused (OddGrowth place 0))
+    or_else (front_odd k rec) (λ place. Err (OddGrowth place 0))
     (header_of accepted k (sfd_heard k rec) (header_heard k rec))
 
 -- a look at a front, the same whoever reads: 8, or 9 with its place, or all of it can be heard, and then 10 to 15 are
 -- left to be told
 abbrev pub Looks : Kind → List Taken → Look → Type 0
-Looks k rec Shorter = (accepted : Accepted) → front_by accepted k rec ≡ Refused ShorterThanFront
+Looks k rec Shorter = (accepted : Accepted) → front_by accepted k rec ≡ Err ShorterThanFront
 Looks k rec (Unusable place) =
-    ((accepted : Accepted) → front_by accepted k rec ≡ Refused (refusal.Unusable place 0)) × (place < length rec)
+    ((accepted : Accepted) → front_by accepted k rec ≡ Err (refusal.Unusable place 0)) × (place < length rec)
 Looks k rec Usable =
     ((accepted : Accepted) → front_by accepted k rec ≡ after_usable accepted k rec)
     × (front_chips k ≤ length rec) × AllUsable rec 0 (front_chips k)
 
 -- an opening that tells f: where that is fields, the line goes on from the front, and so does the smallest lead
-pub record Opens (k : Kind) (rec : List Taken) (f : Front) (o : Opening) : Type 0 where
+pub record Opens (k : Kind) (rec : List Taken) (f : Result Told Refusal) (o : Opening) : Type 0 where
   pub told : o.front ≡ f
-  pub line : (t : Told) → o.front ≡ Fields t → Opened k rec o.line
-  pub least : (t : Told) → o.front ≡ Fields t → o.least ≡ least_of (front_leads k rec)
+  pub line : (t : Told) → o.front ≡ Ok t → Opened k rec o.line
+  pub least : (t : Told) → o.front ≡ Ok t → o.least ≡ least_of (front_leads k rec)
 
 -- an opening that tells what a recording's front does, refusal 16 included: where that is fields, the recording has the
 -- whole frame
 pub record OpensWhole (accepted : Accepted) (k : Kind) (rec : List Taken) (o : Opening) : Type 0 where
   pub told : o.front ≡ whole_of k rec (front_by accepted k rec)
-  pub line : (t : Told) → o.front ≡ Fields t → Opened k rec o.line
-  pub least : (t : Told) → o.front ≡ Fields t → o.least ≡ least_of (front_leads k rec)
-  pub few : (t : Told) → o.front ≡ Fields t → t.n ≤ 4095
-  pub chips : (t : Told) → o.front ≡ Fields t → frame_chips k t.rate t.n ≤ length rec
+  pub line : (t : Told) → o.front ≡ Ok t → Opened k rec o.line
+  pub least : (t : Told) → o.front ≡ Ok t → o.least ≡ least_of (front_leads k rec)
+  pub few : (t : Told) → o.front ≡ Ok t → t.n ≤ 4095
+  pub chips : (t : Told) → o.front ≡ Ok t → frame_chips k t.rate t.n ≤ length rec

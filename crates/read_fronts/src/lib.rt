@@ -1,7 +1,7 @@
 // The front of a recording: refusals 8, 9 and 10 over it, and 11 to 15.
 #![tactic(auto)]
 
-ghost use Rattle.std.specs.Prelude.{◌≡◌, List, ◌≤◌};
+ghost use Rattle.std.specs.Prelude.{◌≡◌, List, ◌≤◌, Ok, Err};
 ghost use Rattle.rules_chips.specs.Chips.{Taken};
 ghost use Rattle.rules_calls.specs.declared.Told.{Told};
 ghost use Rattle.rules_calls.specs.Answers.{refusal_number};
@@ -14,7 +14,7 @@ use choose_recorders::Recording;
 use common_lines::Line;
 use hear_blocks::Hearing;
 use hear_parts::Part;
-use rules_calls::{Front, Least, Reader, Refusal};
+use rules_calls::{Least, Reader, Refusal, Told};
 use rules_frame::Kind;
 use rules_rates::Rate;
 
@@ -47,16 +47,16 @@ pub enum Look {
 // A front read, the line that the payload starts on, and the smallest lead before it.
 #[derive(Clone, Copy)]
 pub struct Opening {
-    pub front: Front,
+    pub front: Result<Told, Refusal>,
     pub line: Line,
     pub least: Least,
 }
 
 // An opening that refuses; its line and lead are not used.
 fn refused(e: Refusal) -> Opening
-    ensures answer { result.front ≡ Front.Refused e }
+    ensures answer { result.front ≡ Err e }
 {
-    let front = Front::Refused(e);
+    let front = Err(e);
     let line = common_kinds::first_line(Kind::Long, 0);
     let least = Least { lead: 0, symbol: 0 };
     Opening { front, line, least }
@@ -68,8 +68,8 @@ fn refused(e: Refusal) -> Opening
 pub fn told(by: Reader, kind: Kind, known: FrontHeard) -> Opening
     ensures answer { (rec : List Taken) → FrontKnown kind rec known →
         Opens kind rec (after_usable (accepted_by by) kind rec) result }
-    ensures few { (t : Told) → result.front ≡ Front.Fields t → t.n ≤ 4095 }
-    ensures refuses { (e : Refusal) → result.front ≡ Front.Refused e →
+    ensures few { (t : Told) → result.front ≡ Ok t → t.n ≤ 4095 }
+    ensures refuses { (e : Refusal) → result.front ≡ Err e →
         (10 ≤ refusal_number e) × (refusal_number e ≤ 15) }
 {
     let FrontHeard { part, sfd, header } = known;
@@ -116,8 +116,8 @@ pub fn read_whole(by: Reader, rec: Recording, kind: Kind) -> Opening
 {
     let opening = read_front(by, rec, kind);
     match opening.front {
-        Front::Refused(e) => refused(e),
-        Front::Fields(t) => {
+        Err(e) => refused(e),
+        Ok(t) => {
             let all = common_kinds::frame_chips(kind, t.rate, t.n);
             if rec.chip_count() < all {
                 return refused(Refusal::Ends { length: t.length });

@@ -4,6 +4,7 @@
 --     way_short, way_stays          the front is not whole, and a refusal that stays
 --     close_taken, close_refused    the call
 -- Assumes nothing.
+use Rattle.std.specs.Prelude.{Err}
 use mathlib.Core.Path.{◌≡◌, refl, sym, ap, ap₂, subst, ◌∙◌}
 use mathlib.Core.Bool.{Bool, true, false, cond}
 use mathlib.Core.List.{List}
@@ -17,7 +18,6 @@ use Rattle.rules_frame.specs.Frame.{kind_of, frame_chips}
 use Rattle.rules_calls.specs.declared.Record.{Record}
 use Rattle.rules_calls.specs.declared.Refusal.{Refusal}
 use Rattle.rules_calls.specs.declared.Refusal.TheVariants.{ShorterThanFront, Unusable, OddGrowth, Ends, OctetRoom}
-use Rattle.rules_calls.specs.declared.Reading.TheVariants as reading
 use Rattle.rules_calls.specs.Answers.{refusal_number, record_of}
 use Rattle.rules_receiving.specs.declared.Progress.{Progress}
 use Rattle.rules_receiving.specs.declared.Receiver.{Receiver}
@@ -46,7 +46,7 @@ module _
   all_is : all ≡ all_of p
   all_is = ai ∙ ap₂ {C = ℕ} (λ x y. frame_chips x y p.n) ki ri
 
-  pub way_ends : (a : Record) (out : List ℕ) → p.count < all → a ≡ record_of (reading.Refused (Ends p.length))
+  pub way_ends : (a : Record) (out : List ℕ) → p.count < all → a ≡ record_of (Err (Ends p.length))
       → out ≡ replicate (length buf) 0 → Answers a out
   way_ends a out h e f kind fed hold preamble header st y =
       let z = tell_ends kind (length buf) fed p hold preamble header buf y.holds st y.kind_is y.room_is
@@ -57,7 +57,7 @@ module _
     there : all_of p ≤ p.count
     there = subst (λ (i : ℕ). i ≤ p.count) all_is enough
 
-    pub way_room : (a : Record) (out : List ℕ) → p.room < p.n → a ≡ record_of (reading.Refused (OctetRoom p.length))
+    pub way_room : (a : Record) (out : List ℕ) → p.room < p.n → a ≡ record_of (Err (OctetRoom p.length))
         → out ≡ replicate (length buf) 0 → Answers a out
     way_room a out h e f kind fed hold preamble header st y =
         let z = tell_room kind (length buf) fed p hold preamble header buf y.holds st y.kind_is y.room_is there
@@ -65,7 +65,7 @@ module _
         (e ∙ z.0, f ∙ z.1)
 
     pub way_unusable : (a : Record) (out : List ℕ) → p.n ≤ p.room → (p.bad ≡ 0 → ⊥)
-        → a ≡ record_of (reading.Refused (Unusable (p.bad - 1) p.length)) → out ≡ replicate (length buf) 0
+        → a ≡ record_of (Err (Unusable (p.bad - 1) p.length)) → out ≡ replicate (length buf) 0
         → Answers a out
     way_unusable a out h b e f kind fed hold preamble header st y =
         let z = tell_unusable kind (length buf) fed p hold preamble header buf y.holds st y.kind_is y.room_is
@@ -73,7 +73,7 @@ module _
         (e ∙ z.0, f ∙ z.1)
 
     pub way_odd : (a : Record) (out : List ℕ) → p.n ≤ p.room → p.bad ≡ 0 → (p.odd ≡ 0 → ⊥)
-        → a ≡ record_of (reading.Refused (OddGrowth (p.odd - 1) p.length)) → out ≡ replicate (length buf) 0
+        → a ≡ record_of (Err (OddGrowth (p.odd - 1) p.length)) → out ≡ replicate (length buf) 0
         → Answers a out
     way_odd a out h b o e f kind fed hold preamble header st y =
         let z = tell_odd kind (length buf) fed p hold preamble header buf y.holds st y.kind_is y.room_is there
@@ -89,7 +89,7 @@ module _
 -- ---- the call
 
 -- no number of these is 20
-pub refused_other : (a : Record) (e : Refusal) → a ≡ record_of (reading.Refused e) → refusal_number e ≤ 17
+pub refused_other : (a : Record) (e : Refusal) → a ≡ record_of (Err e) → refusal_number e ≤ 17
     → a.number ≡ 20 → ⊥
 refused_other a e f h g = omega (arith, ap (λ (x : Record). x.number) f, h, g)
 
@@ -127,7 +127,7 @@ module _ (s : Receiver) (buf : List ℕ) where
     }
 
   module _ (a : Record) (out : List ℕ) (f : out ≡ replicate (length buf) 0) where
-    pub way_short : s.progress.status ≡ 1 → a ≡ record_of (reading.Refused ShorterThanFront) → Reads a out
+    pub way_short : s.progress.status ≡ 1 → a ≡ record_of (Err ShorterThanFront) → Reads a out
     way_short st e kind fed y =
         let z = tell_short kind (length buf) fed s.progress s.hold s.preamble s.header buf y.holds st in
         (e ∙ z.0, f ∙ z.1)

@@ -3,6 +3,7 @@
 --     front_ends, front_known, front_tells  what was heard of it is a front heard, and tells what the front does
 --     told_stays, told_tells                both ways on
 -- Assumes nothing.
+use Rattle.std.specs.Prelude.{Ok, Err}
 use mathlib.Core.Path.{◌≡◌, refl, sym, ap, subst, ◌∙◌}
 use mathlib.Core.Bool.{true}
 use mathlib.Core.List.{List}
@@ -39,7 +40,6 @@ use Rattle.rules_frame.specs.Frame.{
 use Rattle.rules_calls.specs.declared.Refusal.{Refusal}
 use Rattle.rules_calls.specs.declared.Refusal.TheVariants.{Unusable, OddGrowth}
 use Rattle.rules_calls.specs.declared.Told.{Told}
-use Rattle.rules_calls.specs.declared.Front.TheVariants as front
 use Rattle.rules_calls.specs.Answers.{refusal_number}
 use Rattle.rules_calls.specs.Headers.{ours}
 use Rattle.rules_reading.specs.Heard.{sfd_heard, header_heard}
@@ -146,10 +146,10 @@ module _
   long : length rec ≡ front_chips k
   long = length_hard fed ∙ at
 
-  pub stays_unusable : (place : ℕ) → p.bad ≡ suc place → front_of k rec ≡ front.Refused (Unusable place 0)
+  pub stays_unusable : (place : ℕ) → p.bad ≡ suc place → front_of k rec ≡ Err (Unusable place 0)
   stays_unusable place e = by (first_unusable 0 rec) refl
     where
-      by : (o : Option ℕ) → first_unusable 0 rec ≡ o → front_of k rec ≡ front.Refused (Unusable place 0)
+      by : (o : Option ℕ) → first_unusable 0 rec ≡ o → front_of k rec ≡ Err (Unusable place 0)
       by None f = absurd (omega (arith, e, x.bad_is, ap place_number f))
       by (Some i) f =
           let same : i ≡ place = omega (arith, e, x.bad_is, ap place_number f) in
@@ -159,10 +159,10 @@ module _
     usable : first_unusable 0 rec ≡ None
     usable = number_none (first_unusable 0 rec) (sym x.bad_is ∙ clear)
 
-    pub stays_odd : (place : ℕ) → p.odd ≡ suc place → front_of k rec ≡ front.Refused (OddGrowth place 0)
+    pub stays_odd : (place : ℕ) → p.odd ≡ suc place → front_of k rec ≡ Err (OddGrowth place 0)
     stays_odd place e = by (front_odd_yet k rec) refl
       where
-        by : (o : Option ℕ) → front_odd_yet k rec ≡ o → front_of k rec ≡ front.Refused (OddGrowth place 0)
+        by : (o : Option ℕ) → front_odd_yet k rec ≡ o → front_of k rec ≡ Err (OddGrowth place 0)
         by None f = absurd (omega (arith, e, x.odd_is usable, ap place_number f))
         by (Some i) f =
             let same : i ≡ place = omega (arith, e, x.odd_is usable, ap place_number f) in
@@ -209,7 +209,7 @@ module _
   pub told_stays : (e : Refusal) → u ≡ stayed p e → is_kind p.kind ≡ true
       → (9 ≤ refusal_number e) × (refusal_number e ≤ 15)
       → ((fed hold : List ℕ) → length fed ≡ front_chips k → FrontTo k fed p hold preamble header
-      → front_of k (hard_recording fed) ≡ front.Refused e)
+      → front_of k (hard_recording fed) ≡ Err e)
       → FrontTold k p preamble header u
   told_stays e f is-kind number tells =
       subst (λ (v : Progress). FrontTold k p preamble header v) (sym f)
@@ -251,7 +251,7 @@ module _
       by Eleven = omega (arith, length_hard fed, at)
 
   comes : (t : Told) (fed hold buf : List ℕ) → length fed ≡ front_chips k → FrontTo k fed p hold preamble header
-      → buf ≡ zeros p.room → front_of k (hard_recording fed) ≡ front.Fields t
+      → buf ≡ zeros p.room → front_of k (hard_recording fed) ≡ Ok t
       → Ends k (hard_recording fed) p.ear header
       → PayloadComes k t fed (telling p t) hold buf
   comes t fed hold buf at x clear told ends = record {
@@ -270,7 +270,7 @@ module _
   pub told_tells : (t : Told) → u ≡ telling p t → t.n ≤ 4095 → p.count ≡ front_chips k → is_kind p.kind ≡ true
       → kind_of p.kind ≡ k
       → ((fed hold : List ℕ) → length fed ≡ front_chips k → FrontTo k fed p hold preamble header
-      → (front_of k (hard_recording fed) ≡ front.Fields t) × Ends k (hard_recording fed) p.ear header)
+      → (front_of k (hard_recording fed) ≡ Ok t) × Ends k (hard_recording fed) p.ear header)
       → FrontTold k p preamble header u
   told_tells t f few count is-kind kind-is tells =
       subst (λ (v : Progress). FrontTold k p preamble header v) (sym f)

@@ -14,7 +14,7 @@ use hear_blocks::Hearing;
 use hear_parts::Part;
 use read_fronts::{FrontHeard, Opening};
 use receive_parts::{Piece, Taking, taken};
-use rules_calls::{Front, Least, Reader, Reading, Record, Refusal, Told};
+use rules_calls::{Least, Reader, Reading, Record, Refusal, Told};
 use rules_frame::Kind;
 use rules_rates::Rate;
 use rules_receiving::{Ear, Progress};
@@ -146,7 +146,7 @@ fn header_of(header: &[u8]) -> [u8; 6]
 fn stay(p: Progress, e: Refusal) -> Progress
     ensures answer { result ≡ stayed p e }
 {
-    let reading = Reading::Refused(e);
+    let reading = Err(e);
     let record = common_answers::record_of(reading);
     let mut u = p;
     u.status = 3;
@@ -207,7 +207,7 @@ pub fn front_told(p: Progress, kind: Kind, preamble: &[u8], header: &[u8]) -> Pr
     let opening = read_fronts::told(Reader::Ours, kind, known);
     let told = opening.front;
     match told {
-        Front::Refused(e) => stay(p, e),
-        Front::Fields(t) => tell(p, t),
+        Err(e) => stay(p, e),
+        Ok(t) => tell(p, t),
     }
 }

@@ -8,6 +8,8 @@
 --     header_accepted, fields_accepted    and what comes where each test is passed
 --     same_refl, same_eq    rows of bits that are the same are equal, and the other way
 -- By the tests of the definition, followed to their end once. Assumes nothing.
+use Rattle.std.specs.Prelude.{Result, Ok, Err}
+use Rattle.rules_calls.specs.declared.Refusal.{Refusal}
 use mathlib.Core.Path.{◌≡◌, refl, sym, ap₂, ◌∙◌, subst}
 use mathlib.Core.Bool.{Bool, true, false, ◌&&◌}
 use mathlib.Core.List.{List, [], ◌∷◌}
@@ -26,8 +28,6 @@ use Rattle.rules_frame.specs.declared.Kind.{Kind}
 use Rattle.rules_frame.specs.Frame.{sfd_of}
 use Rattle.rules_calls.specs.declared.Refusal.TheVariants.{Sfd, Crc, Signal, Service, Length}
 use Rattle.rules_calls.specs.declared.Told.{Told}
-use Rattle.rules_calls.specs.declared.Front.{Front}
-use Rattle.rules_calls.specs.declared.Front.TheVariants as front
 use Rattle.rules_calls.specs.Answers.{refusal_length}
 use Rattle.rules_calls.specs.Headers.{Accepted, told, same_bits, fields_of, header_of}
 
@@ -67,27 +67,27 @@ module _ (accepted : Accepted) (k : Kind) (signal service l : ℕ) where
   abbrev seven : ℕ
   seven = service / 128 % 2
 
-  pub data FieldsCome : Front → Type 0 where
-    signal_out : accepted.signals k signal ≡ false → FieldsCome (front.Refused (Signal l))
+  pub data FieldsCome : Result Told Refusal → Type 0 where
+    signal_out : accepted.signals k signal ≡ false → FieldsCome (Err (Signal l))
     service_out : accepted.signals k signal ≡ true → accepted.services r service ≡ false
-        → FieldsCome (front.Refused (Service l))
+        → FieldsCome (Err (Service l))
     length_out : accepted.signals k signal ≡ true → accepted.services r service ≡ true
-        → length_holds r l seven ≡ false → FieldsCome (front.Refused (Length l))
-    fields_told : (t : Told) → Tells accepted k signal service l t → FieldsCome (front.Fields t)
+        → length_holds r l seven ≡ false → FieldsCome (Err (Length l))
+    fields_told : (t : Told) → Tells accepted k signal service l t → FieldsCome (Ok t)
 
   -- ---- each test, failed
   pub signal_refused : accepted.signals k signal ≡ false
-      → fields_of accepted k signal service l ≡ front.Refused (Signal l)
+      → fields_of accepted k signal service l ≡ Err (Signal l)
   unfolding fields_of
   signal_refused a = rw a
 
   pub service_refused : accepted.signals k signal ≡ true → accepted.services r service ≡ false
-      → fields_of accepted k signal service l ≡ front.Refused (Service l)
+      → fields_of accepted k signal service l ≡ Err (Service l)
   unfolding fields_of
   service_refused a b = rw (a, b)
 
   pub length_refused : accepted.signals k signal ≡ true → accepted.services r service ≡ true
-      → length_holds r l seven ≡ false → fields_of accepted k signal service l ≡ front.Refused (Length l)
+      → length_holds r l seven ≡ false → fields_of accepted k signal service l ≡ Err (Length l)
   unfolding fields_of
   length_refused a b c = rw (a, b, c)
 
@@ -99,7 +99,7 @@ module _ (accepted : Accepted) (k : Kind) (signal service l : ℕ) where
   all = told r l (nat_abs z) (eqb (service / 4 % 2) 1)
 
   pub fields_accepted : accepted.signals k signal ≡ true → accepted.services r service ≡ true
-      → length_holds r l seven ≡ true → fields_of accepted k signal service l ≡ front.Fields all
+      → length_holds r l seven ≡ true → fields_of accepted k signal service l ≡ Ok all
   unfolding fields_of
   fields_accepted a b c = rw (a, b, c)
 
@@ -133,14 +133,14 @@ module _ (accepted : Accepted) (k : Kind) (signal service l : ℕ) where
           subst FieldsCome (sym (fields_accepted ea eb ec)) (fields_told all (holding ea eb ec))
 
   -- ---- LENGTH
-  abbrev pub LengthTold : Front → Type 0
-  LengthTold (front.Refused e) = refusal_length e ≡ l
-  LengthTold (front.Fields t) = t.length ≡ l
+  abbrev pub LengthTold : Result Told Refusal → Type 0
+  LengthTold (Err e) = refusal_length e ≡ l
+  LengthTold (Ok t) = t.length ≡ l
 
   pub length_told : LengthTold (fields_of accepted k signal service l)
   length_told = go fields_come
     where
-      go : {f : Front} → FieldsCome f → LengthTold f
+      go : {f : Result Told Refusal} → FieldsCome f → LengthTold f
       go (signal_out a) = refl
       go (service_out a b) = refl
       go (length_out a b c) = refl
@@ -163,13 +163,13 @@ module _ (accepted : Accepted) (k : Kind) (sfd header : List ℕ) where
   abbrev summed : Bool
   summed = same_bits (crc_bits (take 32 header)) (drop 32 header)
 
-  pub data HeaderComes : Front → Type 0 where
-    sfd_other : (number_of sfd ≡ sfd_of k → ⊥) → HeaderComes (front.Refused Sfd)
-    crc_other : number_of sfd ≡ sfd_of k → (Summed → ⊥) → HeaderComes (front.Refused Crc)
-    fields_behind : number_of sfd ≡ sfd_of k → Summed → {f : Front} → FieldsCome accepted k signal_in service_in length_in f
+  pub data HeaderComes : Result Told Refusal → Type 0 where
+    sfd_other : (number_of sfd ≡ sfd_of k → ⊥) → HeaderComes (Err Sfd)
+    crc_other : number_of sfd ≡ sfd_of k → (Summed → ⊥) → HeaderComes (Err Crc)
+    fields_behind : number_of sfd ≡ sfd_of k → Summed → {f : Result Told Refusal} → FieldsCome accepted k signal_in service_in length_in f
         → HeaderComes f
 
-  pub sfd_refused : (number_of sfd ≡ sfd_of k → ⊥) → header_of accepted k sfd header ≡ front.Refused Sfd
+  pub sfd_refused : (number_of sfd ≡ sfd_of k → ⊥) → header_of accepted k sfd header ≡ Err Sfd
   unfolding header_of
   sfd_refused h = rw (ne_eqb _ _ h)
 
@@ -180,7 +180,7 @@ module _ (accepted : Accepted) (k : Kind) (sfd header : List ℕ) where
       go false e = refl
       go true e = absurd (h (same_eq _ _ e))
 
-  pub crc_refused : number_of sfd ≡ sfd_of k → (Summed → ⊥) → header_of accepted k sfd header ≡ front.Refused Crc
+  pub crc_refused : number_of sfd ≡ sfd_of k → (Summed → ⊥) → header_of accepted k sfd header ≡ Err Crc
   unfolding header_of
   crc_refused s h = rw (eq-eqb _ _ s, unequal h)
 

@@ -1,6 +1,7 @@
 -- Answers to a read, computed from the definition and compared with RULES 6.4, 6.8 and 6.10: every refusal's number, 1
 -- to 17, a place with 9 and 10 alone, LENGTH with what is asked after the header, and nothing else; what a good read
 -- shows. And a law of all of them: a refusal's number is not 0 (`some_number`). Assumes nothing.
+use Rattle.std.specs.Prelude.{Ok, Err}
 use mathlib.Core.Path.{◌≡◌, refl}
 use mathlib.Core.Bool.{Bool, true, false}
 use mathlib.Core.List.{List, [], ◌∷◌, map}
@@ -28,7 +29,6 @@ use Rattle.rules_calls.specs.declared.Refusal.TheVariants.{
   Ends,
   OctetRoom,
 }
-use Rattle.rules_calls.specs.declared.Reading.TheVariants as reading
 use Rattle.rules_calls.specs.declared.Record.{Record}
 use Rattle.rules_calls.specs.Answers.{refusal_number, record_of}
 use Rattle.rules_calls.specs.Headers.{told}
@@ -55,7 +55,7 @@ some_number (OctetRoom l) h = omega arith
 
 -- ---- refusals, for every place and every LENGTH
 abbrev answer : Refusal → Record
-answer e = record_of (reading.Refused e)
+answer e = record_of (Err e)
 
 module _ (place l : ℕ) where
   abbrev every : List Refusal
@@ -90,7 +90,7 @@ module _ (place l : ℕ) where
 module _ (l n used lead symbol : ℕ) where
   abbrev answered : Bool → List ℕ
   answered clock =
-      let a = record_of (reading.Good (told Five l n clock) used (record { lead = lead; symbol = symbol })) in
+      let a = record_of (Ok (record { told = (told Five l n clock); used = used; least = record { lead = lead; symbol = symbol } })) in
       a.number ∷ a.place ∷ a.rate ∷ a.length ∷ a.n ∷ a.used ∷ a.clock ∷ a.lead ∷ a.symbol ∷ []
 
   pub goods : answered false ∷ answered true ∷ []

@@ -6,6 +6,9 @@
 --     two_is, crc_other, crc_same, fields_cut    the six octets of a header: its CRC against the one made, its fields
 --     signal_cut, service_cut, length_cut        each field by itself
 -- Octets of eight bits each compute to rows of bits that are cut by computing. Assumes nothing.
+use Rattle.std.specs.Prelude.{Result}
+use Rattle.rules_calls.specs.declared.Told.{Told}
+use Rattle.rules_calls.specs.declared.Refusal.{Refusal}
 use mathlib.Core.Path.{◌≡◌, refl, sym, ap, ◌∙◌}
 use mathlib.Core.Bool.{Bool, true, false}
 use mathlib.Core.List.{List, [], ◌∷◌, ◌++◌, append-nil}
@@ -20,7 +23,6 @@ use Rattle.base.specs.Below.{Below}
 use Rattle.rules_bits.proofs.Bits.{bits_two, octet_bits_append, number_one, octets_same}
 use Rattle.base.proofs.Below.{below_nil, below_cons}
 use Rattle.rules_frame.specs.declared.Kind.{Kind}
-use Rattle.rules_calls.specs.declared.Front.{Front}
 use Rattle.rules_frame.specs.Frame.{field_bits, header_bits}
 use Rattle.rules_calls.specs.Headers.{Accepted, same_bits, fields_of}
 use Rattle.rules_calls.proofs.Accepting.{same_refl, same_eq}
@@ -113,7 +115,7 @@ module _ (header : List ℕ) (six : length header ≡ 6) where
   length_cut = rw (third header six)
 
 pub fields_cut : (accepted : Accepted) (k : Kind) (header : List ℕ) → length header ≡ 6 → Below 256 header
-    → (l : ℕ) (f : Front)
+    → (l : ℕ) (f : Result Told Refusal)
     → l ≡ number_of (octet_bits (get_or header 2 0 ∷ get_or header 3 0 ∷ []))
     → f ≡ fields_of accepted k (get_or header 0 0) (get_or header 1 0) l
     → f

@@ -4,6 +4,7 @@
 --     not_55, not_110   rates that a guide does not know
 --     fields_ours       else just what our own readers make of them under the long kind: 15, or what is told
 -- By the tests of the definition (`Accepting`), and what the guides' set of SIGNALs and SERVICEs has. Assumes nothing.
+use Rattle.std.specs.Prelude.{Err}
 use mathlib.Core.Path.{◌≡◌, refl, sym, subst}
 use mathlib.Core.Bool.{true, false}
 use Prim.Native.Nat.{ℕ}
@@ -12,7 +13,6 @@ use borrow.Author.Tests.{ne_eqb}
 use Rattle.rules_frame.specs.declared.Kind.{Kind}
 use Rattle.rules_frame.specs.declared.Kind.TheVariants.{Long}
 use Rattle.rules_calls.specs.declared.Refusal.TheVariants.{Signal, Service}
-use Rattle.rules_calls.specs.declared.Front.TheVariants as front
 use Rattle.rules_calls.specs.Headers.{ours, of1997, fields_of}
 use Rattle.rules_calls.specs.Plain.{Rate1997, at_1, at_2}
 use Rattle.rules_calls.proofs.Accepting.{signal_refused, service_refused}
@@ -37,11 +37,11 @@ not_110 e at_1 = omega arith
 not_110 e at_2 = omega arith
 
 pub signal_neither : (k : Kind) (signal service l : ℕ) → (Rate1997 signal → ⊥)
-    → fields_of of1997 k signal service l ≡ front.Refused (Signal l)
+    → fields_of of1997 k signal service l ≡ Err (Signal l)
 signal_neither k signal service l h = signal_refused of1997 k signal service l (unknown k signal h)
 
 pub service_set : (k : Kind) (signal service l : ℕ) → Rate1997 signal → (service ≡ 0 → ⊥)
-    → fields_of of1997 k signal service l ≡ front.Refused (Service l)
+    → fields_of of1997 k signal service l ≡ Err (Service l)
 service_set k signal service l s h = service_refused of1997 k signal service l (known k s) (ne_eqb service 0 h)
 
 -- promise: What three fields come to for a guide of 1997, for every SIGNAL, SERVICE and LENGTH: 13 where SIGNAL is

@@ -1,6 +1,9 @@
 -- Headers, computed from the definition and compared with what RULES 5.8 to 5.14 and 6.4 say of each: refusals 11 to 15
 -- with number, place and LENGTH, at their limits and where two hold together, and what a good header tells, all for
 -- what our readers accept; and what a guide of 1997 makes of a few (RULES 6.30). Assumes nothing.
+use Rattle.std.specs.Prelude.{Result, Ok, Err}
+use Rattle.rules_calls.specs.declared.Told.{Told}
+use Rattle.rules_calls.specs.declared.Refusal.{Refusal}
 use mathlib.Core.Path.{◌≡◌, refl}
 use mathlib.Core.Bool.{cond}
 use mathlib.Core.List.{List, [], ◌∷◌, ◌++◌, map}
@@ -15,9 +18,6 @@ use Rattle.rules_frame.specs.Frame.{clock_bit, field_bits, header_bits}
 use Rattle.rules_frame.specs.declared.Kind.{Kind}
 use Rattle.rules_frame.specs.declared.Kind.TheVariants.{Long, Short}
 use Rattle.rules_calls.specs.declared.Record.{Record}
-use Rattle.rules_calls.specs.declared.Front.{Front}
-use Rattle.rules_calls.specs.declared.Front.TheVariants as front
-use Rattle.rules_calls.specs.declared.Reading.TheVariants as reading
 use Rattle.rules_calls.specs.Answers.{record_of}
 use Rattle.rules_calls.specs.Headers.{service_allowed, ours, of1997, same_bits, fields_of, header_of}
 
@@ -25,9 +25,9 @@ use Rattle.rules_calls.specs.Headers.{service_allowed, ours, of1997, same_bits, 
 abbrev refused : Record → List ℕ
 refused a = a.number ∷ a.place ∷ a.length ∷ []
 
-abbrev told : Front → List ℕ
-told (front.Refused e) = refused (record_of (reading.Refused e))
-told (front.Fields t) = 0 ∷ code_of t.rate ∷ t.length ∷ t.n ∷ clock_bit t.clock ∷ []
+abbrev told : Result Told Refusal → List ℕ
+told (Err e) = refused (record_of (Err e))
+told (Ok t) = 0 ∷ code_of t.rate ∷ t.length ∷ t.n ∷ clock_bit t.clock ∷ []
 
 -- SIGNAL: the four codes of a long header, the three of a short one. LENGTH 8 with SERVICE 0 is 1, 2, 5 or 11 octets
 pub signals_long : map (λ (s : ℕ). told (fields_of ours Long s 0 8)) (10 ∷ 20 ∷ 55 ∷ 110 ∷ 0 ∷ 11 ∷ 21 ∷ 138 ∷ [])

@@ -3,6 +3,8 @@
 --     fields_only    of any three fields
 --     header_only    of any bits
 -- By what any header comes to (`Accepting`), and what our own set of SIGNALs and SERVICEs has. Assumes nothing.
+use Rattle.std.specs.Prelude.{Result, Ok, Err}
+use Rattle.rules_calls.specs.declared.Refusal.{Refusal}
 use mathlib.Core.Path.{◌≡◌, refl, sym, ap, ap₂, ◌∙◌, subst}
 use mathlib.Core.Bool.{Bool, true, false, ◌||◌}
 use mathlib.Core.List.{List}
@@ -20,8 +22,6 @@ use Rattle.rules_bits.specs.Crc.{crc_bits}
 use Rattle.rules_frame.specs.declared.Kind.{Kind}
 use Rattle.rules_frame.specs.Frame.{sfd_of, goes_with, clock_bit, service_field}
 use Rattle.rules_calls.specs.declared.Told.{Told}
-use Rattle.rules_calls.specs.declared.Front.{Front}
-use Rattle.rules_calls.specs.declared.Front.TheVariants as front
 use Rattle.rules_calls.specs.Headers.{service_allowed, ours, fields_of, header_of}
 use Rattle.rules_calls.proofs.Accepting.{
   Tells,
@@ -48,9 +48,9 @@ pub record Sends (k : Kind) (signal service l : ℕ) (t : Told) : Type 0 where
   pub length_is : l ≡ length_field t.rate t.n
   pub told_is : t.length ≡ l
 
-abbrev pub SendsIf : Kind → ℕ → ℕ → ℕ → Front → Type 0
-SendsIf k signal service l (front.Refused e) = Unit {0}
-SendsIf k signal service l (front.Fields t) = Sends k signal service l t
+abbrev pub SendsIf : Kind → ℕ → ℕ → ℕ → Result Told Refusal → Type 0
+SendsIf k signal service l (Err e) = Unit {0}
+SendsIf k signal service l (Ok t) = Sends k signal service l t
 
 -- SERVICE is its two bits
 abbrev TwoBits : ℕ → Type 0
@@ -101,16 +101,16 @@ ours_sends k signal service l t h =
 pub fields_only : (k : Kind) (signal service l : ℕ) → SendsIf k signal service l (fields_of ours k signal service l)
 fields_only k signal service l = go (fields_come ours k signal service l)
   where
-    go : {f : Front} → FieldsCome ours k signal service l f → SendsIf k signal service l f
+    go : {f : Result Told Refusal} → FieldsCome ours k signal service l f → SendsIf k signal service l f
     go (signal_out a) = tt
     go (service_out a b) = tt
     go (length_out a b c) = tt
     go (fields_told t h) = ours_sends k signal service l t h
 
 module _ (k : Kind) (sfd header : List ℕ) where
-  abbrev pub HeaderSends : Front → Type 0
-  HeaderSends (front.Refused e) = Unit {0}
-  HeaderSends (front.Fields t) =
+  abbrev pub HeaderSends : Result Told Refusal → Type 0
+  HeaderSends (Err e) = Unit {0}
+  HeaderSends (Ok t) =
       (number_of sfd ≡ sfd_of k) × (crc_bits (take 32 header) ≡ drop 32 header)
       × Sends k (number_of (take 8 header)) (number_of (take 8 (drop 8 header))) (number_of (take 16 (drop 16 header))) t
 
@@ -122,7 +122,7 @@ module _ (k : Kind) (sfd header : List ℕ) where
   pub header_only : HeaderSends (header_of ours k sfd header)
   header_only = go (header_comes ours k sfd header)
     where
-      go : {f : Front} → HeaderComes ours k sfd header f → HeaderSends f
+      go : {f : Result Told Refusal} → HeaderComes ours k sfd header f → HeaderSends f
       go (sfd_other s) = tt
       go (crc_other s c) = tt
       go (fields_behind s c (signal_out a)) = tt

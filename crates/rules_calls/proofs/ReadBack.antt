@@ -6,6 +6,7 @@
 --     header_sent_lem      so the 48 bits of the writer's header come to what its fields do, for any reader
 --     header_back      and ours are told the rate, n and the clock bit
 -- The fields are cut out of the bits by computing, and LENGTH and bit 7 give n back. Assumes nothing.
+use Rattle.std.specs.Prelude.{Ok, Err}
 use mathlib.Core.Path.{◌≡◌, refl, ap, ◌∙◌}
 use mathlib.Core.Bool.{Bool, true, false, cond, not}
 use mathlib.Core.List.{List}
@@ -24,7 +25,6 @@ use Rattle.rules_frame.specs.declared.Kind.{Kind}
 use Rattle.rules_frame.proofs.Headers.{clock_lt}
 use Rattle.rules_frame.specs.declared.Kind.TheVariants.{Long, Short}
 use Rattle.rules_calls.specs.declared.Refusal.TheVariants.{Sfd, Crc}
-use Rattle.rules_calls.specs.declared.Front.TheVariants.{Refused, Fields}
 use Rattle.rules_frame.specs.Frame.{sfd_of, goes_with, clock_bit, service_field, field_bits, header_bits, sent_header}
 use Rattle.rules_calls.specs.Headers.{Accepted, ours, told, same_bits, service_allowed, fields_of, header_of}
 use Rattle.rules_calls.proofs.Accepting.{same_refl}
@@ -94,7 +94,7 @@ service_back Eleven clock n = one clock (leb (8 * n + 8) (11 * length_field Elev
 pub fields_sent : (accepted : Accepted) (k : Kind) (r : Rate) (clock : Bool) (n : ℕ)
     → accepted.signals k (code_of r) ≡ true → accepted.services r (service_field r clock n) ≡ true → 1 ≤ n → n ≤ 4095
     → fields_of accepted k (code_of r) (service_field r clock n) (length_field r n)
-    ≡ Fields (told r (length_field r n) n clock)
+    ≡ Ok (told r (length_field r n) n clock)
 unfolding fields_of
 fields_sent accepted k r clock n signal service low high =
     rw (
@@ -110,14 +110,14 @@ fields_sent accepted k r clock n signal service low high =
 -- ours accept them at each rate of the kind
 module _ (k : Kind) (r : Rate) (clock : Bool) (n : ℕ) (goes : goes_with k r ≡ true) (low : 1 ≤ n) (high : n ≤ 4095) where
   pub fields_back : fields_of ours k (code_of r) (service_field r clock n) (length_field r n)
-      ≡ Fields (told r (length_field r n) n clock)
+      ≡ Ok (told r (length_field r n) n clock)
   fields_back = fields_sent ours k r clock n (rw (code_is r, rate_back r) goes) (service_back r clock n) low high
 
 -- the header's bits, cut
 cut : (accepted : Accepted) (k : Kind) (s v l : ℕ) (sfd : List ℕ)
     → header_of accepted k sfd (header_bits s v l)
-    ≡ cond (not (eqb (number_of sfd) (sfd_of k))) (Refused Sfd)
-    (cond (not (same_bits (crc_bits (field_bits s v l)) (crc_bits (field_bits s v l)))) (Refused Crc)
+    ≡ cond (not (eqb (number_of sfd) (sfd_of k))) (Err Sfd)
+    (cond (not (same_bits (crc_bits (field_bits s v l)) (crc_bits (field_bits s v l)))) (Err Crc)
     (fields_of accepted k (number_of (bits_of 8 s)) (number_of (bits_of 8 v)) (number_of (bits_of 16 l))))
 unfolding header_of header_bits field_bits bits_of
 cut accepted k s v l sfd = refl
@@ -161,5 +161,5 @@ header_sent_lem accepted k r clock n high =
 -- rule: 5.8 to 5.14
 -- code: header_octets, common_header::header_of
 pub header_back : (k : Kind) (r : Rate) (clock : Bool) (n : ℕ) → goes_with k r ≡ true → 1 ≤ n → n ≤ 4095
-    → header_of ours k (bits_of 16 (sfd_of k)) (sent_header r clock n) ≡ Fields (told r (length_field r n) n clock)
+    → header_of ours k (bits_of 16 (sfd_of k)) (sent_header r clock n) ≡ Ok (told r (length_field r n) n clock)
 header_back k r clock n goes low high = header_sent_lem ours k r clock n high ∙ fields_back k r clock n goes low high

@@ -25,7 +25,6 @@ use Rattle.rules_calls.specs.declared.Refusal.TheVariants.{
 }
 use Rattle.rules_calls.specs.declared.Frame.{Frame}
 use Rattle.rules_calls.specs.declared.Reading.{Reading}
-use Rattle.rules_calls.specs.declared.Reading.TheVariants as reading
 use Rattle.rules_calls.specs.declared.Written.{Written}
 use Rattle.rules_calls.specs.declared.Record.{Record}
 
@@ -96,8 +95,8 @@ written_of (Ok f) = record { number = 0; chips = f.chips }
 
 -- a good read answers number 0, the rate code, LENGTH, n, chips used, the clock bit, the smallest lead and its symbol;
 -- a refusal its number, place and LENGTH, all else 0
-abbrev pub record_of : Reading → Record
-record_of (reading.Refused e) =
+abbrev pub record_of : Result Reading Refusal → Record
+record_of (Err e) =
     record {
       number = refusal_number e;
       place = refusal_place e;
@@ -109,15 +108,15 @@ record_of (reading.Refused e) =
       lead = 0;
       symbol = 0;
     }
-record_of (reading.Good t used least) =
+record_of (Ok g) =
     record {
       number = 0;
       place = 0;
-      rate = code_of t.rate;
-      length = t.length;
-      n = t.n;
-      used = used;
-      clock = clock_bit t.clock;
-      lead = least.lead;
-      symbol = least.symbol;
+      rate = code_of g.told.rate;
+      length = g.told.length;
+      n = g.told.n;
+      used = g.used;
+      clock = clock_bit g.told.clock;
+      lead = g.least.lead;
+      symbol = g.least.symbol;
     }

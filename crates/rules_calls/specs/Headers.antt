@@ -1,5 +1,7 @@
 -- What a header tells, from its bits, by who reads: refusals 11 to 15, in this order (RULES 5.8 to 5.14, 6.4, 6.30).
 -- Definitions only. Assumes nothing.
+use Rattle.std.specs.Prelude.{Result, Ok, Err}
+use Rattle.rules_calls.specs.declared.Refusal.{Refusal}
 use Rattle.std.specs.Prelude.{ℕ, ◌/◌, ◌%◌, Bool, true, false, cond, not, ◌&&◌, ◌||◌, List, [], ◌∷◌, take, drop, eqb, nat_abs}
 use Rattle.rules_rates.specs.declared.Rate.{Rate}
 use Rattle.rules_rates.specs.declared.Rate.TheVariants.{One, Two, Five, Eleven}
@@ -12,8 +14,6 @@ use Rattle.rules_calls.specs.declared.Refusal.TheVariants.{Sfd, Crc, Signal, Ser
 use Rattle.rules_calls.specs.declared.Told.{Told}
 use Rattle.rules_calls.specs.declared.Reader.{Reader}
 use Rattle.rules_calls.specs.declared.Reader.TheVariants.{Ours, Of1997}
-use Rattle.rules_calls.specs.declared.Front.{Front}
-use Rattle.rules_calls.specs.declared.Front.TheVariants as front
 
 -- 14: SERVICE is 0 or 4, its bit 2 being the clock bit; at 11 Mbit/s, where bit 7 may be set, also 128 or 132
 abbrev pub service_allowed : Rate → ℕ → Bool
@@ -55,20 +55,20 @@ abbrev pub told : Rate → ℕ → ℕ → Bool → Told
 told r l n clock = record { rate = r; length = l; n = n; clock = clock }
 
 -- 13, 14, 15: from the three fields, for a reader that accepts these headers
-unfoldable pub fields_of : Accepted → Kind → ℕ → ℕ → ℕ → Front
+unfoldable pub fields_of : Accepted → Kind → ℕ → ℕ → ℕ → Result Told Refusal
 fields_of accepted k signal service l =
     let r = rate_of signal in
     let seven = service / 128 % 2 in
     let clock = eqb (service / 4 % 2) 1 in
-    cond (not (accepted.signals k signal)) (front.Refused (Signal l))
-    (cond (not (accepted.services r service)) (front.Refused (Service l))
-    (cond (not (length_holds r l seven)) (front.Refused (Length l))
-    (front.Fields (told r l (nat_abs (octets_read r l seven)) clock))))
+    cond (not (accepted.signals k signal)) (Err (Signal l))
+    (cond (not (accepted.services r service)) (Err (Service l))
+    (cond (not (length_holds r l seven)) (Err (Length l))
+    (Ok (told r l (nat_abs (octets_read r l seven)) clock))))
 
 -- 11 to 15: from the header's 48 bits and the SFD's sixteen. SYNC bits are not compared
-unfoldable pub header_of : Accepted → Kind → List ℕ → List ℕ → Front
+unfoldable pub header_of : Accepted → Kind → List ℕ → List ℕ → Result Told Refusal
 header_of accepted k sfd header =
-    cond (not (eqb (number_of sfd) (sfd_of k))) (front.Refused Sfd)
-    (cond (not (same_bits (crc_bits (take 32 header)) (drop 32 header))) (front.Refused Crc)
+    cond (not (eqb (number_of sfd) (sfd_of k))) (Err Sfd)
+    (cond (not (same_bits (crc_bits (take 32 header)) (drop 32 header))) (Err Crc)
     (fields_of accepted k (number_of (take 8 header)) (number_of (take 8 (drop 8 header)))
     (number_of (take 16 (drop 16 header)))))

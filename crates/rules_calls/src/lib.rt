@@ -122,13 +122,6 @@ pub enum Reader {
     Of1997,
 }
 
-// What a recording's front tells.
-#[derive(Clone, Copy)]
-pub enum Front {
-    Refused(Refusal),
-    Fields(Told),
-}
-
 // The smallest lead of symbols, in counts, and the number of the first symbol that has it.
 #[derive(Clone, Copy)]
 pub struct Least {
@@ -136,15 +129,13 @@ pub struct Least {
     pub symbol: usize,
 }
 
-// What a reading comes to: what its header tells, the chips of the whole frame, and the smallest lead in it.
+// What a recording that is not refused comes to: what its header tells, the chips of the whole frame, and the smallest
+// lead in it.
 #[derive(Clone, Copy)]
-pub enum Reading {
-    Refused(Refusal),
-    Good {
-        told: Told,
-        used: usize,
-        least: Least,
-    },
+pub struct Reading {
+    pub told: Told,
+    pub used: usize,
+    pub least: Least,
 }
 
 // The writer's answer.

@@ -1,6 +1,8 @@
 -- Readings of a clean frame with the header that is sent: good with room, 17 without, 16 where it is cut in the payload
 -- and 8 where it is cut in the front, whatever follows a whole one. A whole one is decided as it was sent
 -- (`clean_sent`), and read back as any recording that is (`ReadBack`). Assumes nothing.
+use Rattle.std.specs.Prelude.{Ok, Err}
+use Rattle.rules_calls.specs.declared.Least.{Least}
 use mathlib.Core.Path.{◌≡◌, sym, ap, ◌∙◌}
 use mathlib.Core.Bool.{Bool, true}
 use mathlib.Core.List.{List, ◌++◌, [], ◌∷◌, append-nil}
@@ -33,8 +35,6 @@ use Rattle.rules_frame.proofs.Headers.{sent_length, sent_below}
 use Rattle.rules_frame.proofs.Sizes.{frame_length}
 use Rattle.rules_calls.specs.declared.Told.{Told}
 use Rattle.rules_calls.specs.declared.Refusal.TheVariants.{ShorterThanFront, Ends, OctetRoom}
-use Rattle.rules_calls.specs.declared.Front.TheVariants as front
-use Rattle.rules_calls.specs.declared.Reading.TheVariants as reading
 use Rattle.rules_calls.specs.Headers.{Accepted, ours, fields_of, told}
 use Rattle.rules_reading.specs.Reading.{
   front_by,
@@ -97,7 +97,7 @@ module _ (kind : ℕ) (r : Rate) (p : ℕ) (clock : Bool) (xs : List ℕ) (is-ki
       (as_sent rest).front
 
   module _ (goes : goes_with k r ≡ true) (some : 1 ≤ n) (few : n ≤ 4095) where
-    front_is : (rest : List Taken) → front_of k (clean ++ rest) ≡ front.Fields t
+    front_is : (rest : List Taken) → front_of k (clean ++ rest) ≡ Ok t
     front_is rest = back.front_is kind r p clock xs is-kind l goes some few (clean ++ rest) (as_sent rest).front
 
     pub front_sent_lem : (rest : List Taken) (accepted : Accepted)
@@ -107,11 +107,11 @@ module _ (kind : ℕ) (r : Rate) (p : ℕ) (clock : Bool) (xs : List ℕ) (is-ki
     -- ---- whole, with anything after it
     module _ (rest : List Taken) (room : ℕ) (agree : Bool) (e : agree ≡ true) where
       pub good_reading : n ≤ room
-          → reading_of kind agree (clean ++ rest) room ≡ reading.Good t (frame_chips k r n) (clean_least k r)
+          → reading_of kind agree (clean ++ rest) room ≡ Ok (record { told = t; used = frame_chips k r n; least = clean_least k r })
       unfolding frame
       good_reading h =
           back.good_reading kind r p clock xs is-kind l goes some few (clean ++ rest) (as_sent rest) room agree e h
-          ∙ ap (reading.Good t (frame_chips k r n)) (smallest k r p header xs rest (sent_length r clock n) some)
+          ∙ ap (λ (l : Least). Ok (record { told = t; used = frame_chips k r n; least = l })) (smallest k r p header xs rest (sent_length r clock n) some)
 
       pub good_octets : n ≤ room → Below 256 xs
           → octets_found kind agree (clean ++ rest) room ≡ xs ++ replicate (room - n) 0
@@ -119,7 +119,7 @@ module _ (kind : ℕ) (r : Rate) (p : ℕ) (clock : Bool) (xs : List ℕ) (is-ki
           back.good_octets kind r p clock xs is-kind l goes some few (clean ++ rest) (as_sent rest) room agree e
 
       pub room_refused : room < n
-          → reading_of kind agree (clean ++ rest) room ≡ reading.Refused (OctetRoom (length_field r n))
+          → reading_of kind agree (clean ++ rest) room ≡ Err (OctetRoom (length_field r n))
       room_refused =
           back.room_refused kind r p clock xs is-kind l goes some few (clean ++ rest) (as_sent rest) room agree e
 
@@ -132,24 +132,24 @@ module _ (kind : ℕ) (r : Rate) (p : ℕ) (clock : Bool) (xs : List ℕ) (is-ki
       cut_length =
           length-take-le j clean (omega (arith, clean_length (frame k r p clock xs), frame_length k r p clock xs))
 
-      pub front_refused : j < front_chips k → reading_of kind agree cut room ≡ reading.Refused ShorterThanFront
+      pub front_refused : j < front_chips k → reading_of kind agree cut room ≡ Err ShorterThanFront
       front_refused h =
           back.opened kind is-kind agree cut room e ∙ ap (λ f. after_front k cut room (whole_of k cut f)) cut_refused
         where
-          cut_refused : front_of k cut ≡ front.Refused ShorterThanFront
+          cut_refused : front_of k cut ≡ Err ShorterThanFront
           cut_refused = unfold front_by in rw (lt-ltb (length cut) (front_chips k) (omega (arith, cut_length)))
 
       pub payload_refused : front_chips k ≤ j
-          → reading_of kind agree cut room ≡ reading.Refused (Ends (length_field r n))
+          → reading_of kind agree cut room ≡ Err (Ends (length_field r n))
       payload_refused h =
           back.opened kind is-kind agree cut room e ∙ ap (λ f. after_front k cut room (whole_of k cut f)) known
           ∙ ap (after_front k cut room) ends
         where
-          known : front_of k cut ≡ front.Fields t
+          known : front_of k cut ≡ Ok t
           known =
               front_same k cut (clean ++ [])
               (take-take (front_chips k) j clean h ∙ ap (take (front_chips k)) (sym (append-nil clean))) ours
               ∙ front_is []
 
-          ends : whole_of k cut (front.Fields t) ≡ front.Refused (Ends (length_field r n))
+          ends : whole_of k cut (Ok t) ≡ Err (Ends (length_field r n))
           ends = rw (lt-ltb (length cut) (frame_chips k r n) (omega (arith, cut_length)))

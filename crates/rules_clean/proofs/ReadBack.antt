@@ -1,5 +1,6 @@
 -- Readings of a recording that is decided as a frame was sent (`AsSent`), with the header that is sent, whatever
 -- recorded it: good with room, 17 without. Assumes nothing.
+use Rattle.std.specs.Prelude.{Ok, Err}
 use mathlib.Core.Path.{◌≡◌, ap, ◌∙◌}
 use mathlib.Core.Bool.{Bool, true}
 use mathlib.Core.List.{List, ◌++◌}
@@ -15,8 +16,6 @@ use Rattle.rules_frame.proofs.Headers.{sent_length, sent_below}
 use Rattle.rules_calls.proofs.ReadBack.{fields_back, header_sent_lem}
 use Rattle.rules_calls.specs.declared.Told.{Told}
 use Rattle.rules_calls.specs.declared.Refusal.TheVariants.{OctetRoom}
-use Rattle.rules_calls.specs.declared.Front.TheVariants as front
-use Rattle.rules_calls.specs.declared.Reading.TheVariants as reading
 use Rattle.rules_calls.specs.Headers.{Accepted, ours, fields_of, told}
 use Rattle.rules_reading.specs.Leads.{frame_leads, least_of}
 use Rattle.rules_reading.specs.Reading.{
@@ -60,7 +59,7 @@ module _ (kind : ℕ) (r : Rate) (p : ℕ) (clock : Bool) (xs : List ℕ) (is-ki
       whole.front_read k r p header xs (sent_length r clock n) rec l (sent_below r clock n) begun accepted
       ∙ header_sent_lem accepted k r clock n few
 
-  pub front_is : FrontAsSent k r p header xs rec → front_of k rec ≡ front.Fields t
+  pub front_is : FrontAsSent k r p header xs rec → front_of k rec ≡ Ok t
   front_is begun = front_sent_lem begun ours ∙ fields_back k r clock n goes some few
 
   module _ (sent : AsSent k r p header xs rec) (room : ℕ) (agree : Bool) (e : agree ≡ true) where
@@ -73,7 +72,7 @@ module _ (kind : ℕ) (r : Rate) (p : ℕ) (clock : Bool) (xs : List ℕ) (is-ki
         (length_field r n) clock)
 
     pub good_reading : n ≤ room
-        → reading_of kind agree rec room ≡ reading.Good t (frame_chips k r n) (least_of (frame_leads k r n rec))
+        → reading_of kind agree rec room ≡ Ok (record { told = t; used = frame_chips k r n; least = least_of (frame_leads k r n rec) })
     good_reading h =
         rec_is
         ∙ whole.payload_good k r p header xs (sent_length r clock n) rec l (sent_below r clock n) sent
@@ -87,7 +86,7 @@ module _ (kind : ℕ) (r : Rate) (p : ℕ) (clock : Bool) (xs : List ℕ) (is-ki
         found : octets_found kind agree rec room ≡ payload_of k r n rec ++ replicate (room - n) 0
         found = unfold octets_found in ap (octets_after k rec room) (good_reading h)
 
-    pub room_refused : room < n → reading_of kind agree rec room ≡ reading.Refused (OctetRoom (length_field r n))
+    pub room_refused : room < n → reading_of kind agree rec room ≡ Err (OctetRoom (length_field r n))
     room_refused h =
         rec_is
         ∙ whole.no_room k r p header xs (sent_length r clock n) rec l (sent_below r clock n) sent

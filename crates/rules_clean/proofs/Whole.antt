@@ -1,6 +1,7 @@
 -- A recording that is decided as a frame with any 48 header bits was sent (`AsSent`) is read back: SFD, header and
 -- payload. The sent bits are cut into the three parts; all but the first are heard (`Listened`), and unscrambling
 -- forgets the first after eight bits. Assumes nothing.
+use Rattle.std.specs.Prelude.{Ok, Err}
 use mathlib.Core.Path.{◌≡◌, refl, sym, ap, ap₂, ◌∙◌}
 use mathlib.Core.Bool.{Bool}
 use mathlib.Core.List.{List, [], ◌∷◌, ◌++◌, append_assoc}
@@ -39,8 +40,6 @@ use Rattle.rules_frame.specs.Frame.{
 }
 use Rattle.rules_frame.proofs.Sizes.{preamble_length_lem}
 use Rattle.rules_calls.specs.declared.Told.{Told}
-use Rattle.rules_calls.specs.declared.Front.TheVariants as front
-use Rattle.rules_calls.specs.declared.Reading.TheVariants as reading
 use Rattle.rules_calls.specs.declared.Refusal.TheVariants.{OctetRoom}
 use Rattle.rules_calls.specs.Headers.{Accepted, header_of, told}
 use Rattle.rules_reading.specs.Leads.{frame_leads, least_of}
@@ -245,11 +244,11 @@ module _ (k : Kind) (r : Rate) (p : ℕ) (header xs : List ℕ) (eh : length hea
       abbrev t : Told
       t = told r lf n clock
 
-      pub whole_there : whole_of k rec (front.Fields t) ≡ front.Fields t
+      pub whole_there : whole_of k rec (Ok t) ≡ Ok t
       whole_there = rw (le-ltb _ (frame_chips k r n) sent.frame_there)
 
       pub payload_good : (room : ℕ) → n ≤ room
-          → payload_reading k t rec room ≡ reading.Good t (frame_chips k r n) (least_of (frame_leads k r n rec))
+          → payload_reading k t rec room ≡ Ok (record { told = t; used = frame_chips k r n; least = least_of (frame_leads k r n rec) })
       unfolding payload_reading
       payload_good room h =
           rw (
@@ -258,6 +257,6 @@ module _ (k : Kind) (r : Rate) (p : ℕ) (header xs : List ℕ) (eh : length hea
             payload_odd_lem k r p header xs eh rec l sent.front sent,
           )
 
-      pub no_room : (room : ℕ) → room < n → payload_reading k t rec room ≡ reading.Refused (OctetRoom lf)
+      pub no_room : (room : ℕ) → room < n → payload_reading k t rec room ≡ Err (OctetRoom lf)
       unfolding payload_reading
       no_room room h = rw (lt-ltb room n h)

@@ -2,6 +2,9 @@
 -- clock bit, n, the whole frame's chips, where the payload's chips are and how many. The frames are those of reading's
 -- facts: the long one carries two octets at 1 Mbit/s and has the clock bit set (LENGTH 16; 2,112 + 176 chips), the
 -- short one an octet at 11 Mbit/s (LENGTH 1; 1,056 + 8 chips). Assumes nothing.
+use Rattle.std.specs.Prelude.{Result, Ok, Err}
+use Rattle.rules_calls.specs.declared.Told.{Told}
+use Rattle.rules_calls.specs.declared.Refusal.{Refusal}
 use mathlib.Core.Path.{◌≡◌, refl}
 use mathlib.Core.Bool.{true, false}
 use mathlib.Core.List.{List, [], ◌∷◌, ◌++◌}
@@ -51,8 +54,6 @@ use Rattle.rules_calls.specs.declared.Refusal.TheVariants.{
   Length,
   Ends,
 }
-use Rattle.rules_calls.specs.declared.Front.{Front}
-use Rattle.rules_calls.specs.declared.Front.TheVariants.{Refused, Fields}
 use Rattle.rules_calls.specs.Headers.{told, same_bits, fields_of, header_of}
 use Rattle.rules_reading.specs.Reading.{
   first_unusable,
@@ -77,14 +78,14 @@ fields c =
 
 -- ---- answers: every refusal, and a front that tells
 
-abbrev answers : Kind → List Front → List (List ℕ)
+abbrev answers : Kind → List (Result Told Refusal) → List (List ℕ)
 answers k [] = []
 answers k (f ∷ fs) = fields (coming_of k f) ∷ answers k fs
 
 pub refusals : answers Long
-    (Refused NoKind ∷ Refused ShorterThanFront ∷ Refused (Unusable 2111 0) ∷ Refused (OddGrowth 2101 0)
-    ∷ Refused Sfd ∷ Refused Crc ∷ Refused (Signal 65535) ∷ Refused (Service 8) ∷ Refused (Length 7)
-    ∷ Refused (Ends 16) ∷ [])
+    (Err NoKind ∷ Err ShorterThanFront ∷ Err (Unusable 2111 0) ∷ Err (OddGrowth 2101 0)
+    ∷ Err Sfd ∷ Err Crc ∷ Err (Signal 65535) ∷ Err (Service 8) ∷ Err (Length 7)
+    ∷ Err (Ends 16) ∷ [])
     ≡ (1 ∷ 0 ∷ 0 ∷ 0 ∷ replicate 5 0) ∷ (8 ∷ 0 ∷ 0 ∷ 0 ∷ replicate 5 0) ∷ (9 ∷ 2111 ∷ 0 ∷ 0 ∷ replicate 5 0)
     ∷ (10 ∷ 2101 ∷ 0 ∷ 0 ∷ replicate 5 0) ∷ (11 ∷ 0 ∷ 0 ∷ 0 ∷ replicate 5 0) ∷ (12 ∷ 0 ∷ 0 ∷ 0 ∷ replicate 5 0)
     ∷ (13 ∷ 0 ∷ 0 ∷ 65535 ∷ replicate 5 0) ∷ (14 ∷ 0 ∷ 0 ∷ 8 ∷ replicate 5 0) ∷ (15 ∷ 0 ∷ 0 ∷ 7 ∷ replicate 5 0)
@@ -92,8 +93,8 @@ pub refusals : answers Long
 unfolding fields
 refusals = refl
 
-pub tells : answers Long (Fields (told Two 5 1 false) ∷ Fields (told Five 5957 4095 true) ∷ [])
-    ++ answers Short (Fields (told Eleven 8 11 true) ∷ [])
+pub tells : answers Long (Ok (told Two 5 1 false) ∷ Ok (told Five 5957 4095 true) ∷ [])
+    ++ answers Short (Ok (told Eleven 8 11 true) ∷ [])
     ≡ (0 ∷ 0 ∷ 20 ∷ 5 ∷ 0 ∷ 1 ∷ 2156 ∷ 2112 ∷ 44 ∷ [])
     ∷ (0 ∷ 0 ∷ 55 ∷ 5957 ∷ 1 ∷ 4095 ∷ 67632 ∷ 2112 ∷ 65520 ∷ [])
     ∷ (0 ∷ 0 ∷ 110 ∷ 8 ∷ 1 ∷ 11 ∷ 1144 ∷ 1056 ∷ 88 ∷ []) ∷ []
@@ -103,14 +104,14 @@ tells = refl
 -- ---- recordings
 
 -- what the front of a hard recording comes to under a kind
-pub read : ℕ → List ℕ → Front
+pub read : ℕ → List ℕ → Result Told Refusal
 read kind chips = front_reading kind (hard_recording chips)
 
 -- refused: 1 and 8; 1; 8; 9 and 10, the 9 at the front's end; 16 and the payload's 9, where a chip of the payload is
 -- missing. That these are a reading's refusals up to 16, for every recording, is `coming_whole` of Laws.antt
 pub bad : read 2 [] ∷ read 256 short_frame ∷ read 1 [] ∷ read 1 (spoilt 1055 5 (turned_by 55 1 short_frame))
     ∷ read 1 (take 1063 (spoilt 1056 5 short_frame)) ∷ []
-    ≡ Refused NoKind ∷ Refused NoKind ∷ Refused ShorterThanFront ∷ Refused (Unusable 1055 0) ∷ Refused (Ends 1) ∷ []
+    ≡ Err NoKind ∷ Err NoKind ∷ Err ShorterThanFront ∷ Err (Unusable 1055 0) ∷ Err (Ends 1) ∷ []
 unfolding
     read short_frame spoilt turned_by hard_recording
     barker_word cck_word score those going first_largest decided
@@ -124,7 +125,7 @@ bad = refl
 -- told, whatever the payload's chips are: a frame whose payload's first symbol is grown by 1, with chips after it; a
 -- front with as many chips behind it as its payload has, all unusable
 pub good : read 0 (turned_by 2112 1 (long_frame ++ (9 ∷ 9 ∷ []))) ∷ read 1 (take 1056 short_frame ++ replicate 8 9) ∷ []
-    ≡ Fields (told One 16 2 true) ∷ Fields (told Eleven 1 1 false) ∷ []
+    ≡ Ok (told One 16 2 true) ∷ Ok (told Eleven 1 1 false) ∷ []
 unfolding
     read long_frame short_frame spoilt turned_by hard_recording
     barker_word cck_word score those going first_largest decided

@@ -5,6 +5,7 @@
 --                        from the kind, what a front tells, and how long the recording is
 --     part_there, part_none    the part of a recording that has it, and of one that does not
 -- Assumes nothing.
+use Rattle.std.specs.Prelude.{Result, Ok, Err}
 use mathlib.Core.Path.{◌≡◌, refl, ◌∙◌}
 use mathlib.Core.Bool.{Bool, true, false, cond, not}
 use mathlib.Core.List.{List, []}
@@ -17,9 +18,6 @@ use Rattle.rules_frame.specs.Frame.{is_kind, kind_of, frame_chips}
 use Rattle.rules_calls.specs.declared.Refusal.{Refusal}
 use Rattle.rules_calls.specs.declared.Refusal.TheVariants.{NoKind, Ends}
 use Rattle.rules_calls.specs.declared.Told.{Told}
-use Rattle.rules_calls.specs.declared.Front.{Front}
-use Rattle.rules_calls.specs.declared.Front.TheVariants as front
-use Rattle.rules_calls.specs.declared.Reading.TheVariants as reading
 use Rattle.rules_reading.specs.Reading.{front_of, whole_of, after_front, reading_of}
 use Rattle.rules_reading.proofs.Telling.{TellingWhole, TellingWholeIf, whole_telling}
 use Rattle.rules_reading.proofs.Refusals.{WholeRefusal, RefusesIf, whole_refuses}
@@ -40,27 +38,27 @@ module _ (kind : ℕ) (rec : List Taken) where
   unfolding reading_of front_reading
   reads_on room = by (is_kind kind) (whole_of k rec (front_of k rec))
     where
-      by : (b : Bool) (f : Front)
-          → cond (not b) (reading.Refused NoKind) (after_front (kind_of kind) rec room f)
-          ≡ after_front (kind_of kind) rec room (cond (not b) (front.Refused NoKind) f)
+      by : (b : Bool) (f : Result Told Refusal)
+          → cond (not b) (Err NoKind) (after_front (kind_of kind) rec room f)
+          ≡ after_front (kind_of kind) rec room (cond (not b) (Err NoKind) f)
       by true f = refl
       by false f = refl
 
-  abbrev pub ComesIf : Front → Type 0
-  ComesIf (front.Refused e) = ComingRefusal kind rec e
-  ComesIf (front.Fields t) = (is_kind kind ≡ true) × TellingWhole k rec t
+  abbrev pub ComesIf : Result Told Refusal → Type 0
+  ComesIf (Err e) = ComingRefusal kind rec e
+  ComesIf (Ok t) = (is_kind kind ≡ true) × TellingWhole k rec t
 
   pub coming_comes : ComesIf (front_reading kind rec)
   unfolding front_reading
   coming_comes = by (is_kind kind) refl (whole_of k rec (front_of k rec)) (whole_refuses k rec) (whole_telling k rec)
     where
-      by : (b : Bool) → is_kind kind ≡ b → (f : Front) → RefusesIf (kind_of kind) rec f
-          → TellingWholeIf (kind_of kind) rec f → ComesIf (cond (not b) (front.Refused NoKind) f)
-      by true e (front.Refused x) r t = of_front e r
-      by true e (front.Fields u) r t = (e, t)
+      by : (b : Bool) → is_kind kind ≡ b → (f : Result Told Refusal) → RefusesIf (kind_of kind) rec f
+          → TellingWholeIf (kind_of kind) rec f → ComesIf (cond (not b) (Err NoKind) f)
+      by true e (Err x) r t = of_front e r
+      by true e (Ok u) r t = (e, t)
       by false e f r t = kind_is_none e
 
-  pub coming_no_kind : is_kind kind ≡ false → front_reading kind rec ≡ front.Refused NoKind
+  pub coming_no_kind : is_kind kind ≡ false → front_reading kind rec ≡ Err NoKind
   unfolding front_reading
   coming_no_kind e = rw e
 
@@ -68,16 +66,16 @@ module _ (kind : ℕ) (rec : List Taken) where
   unfolding front_reading
   coming_whole h = rw h
 
-  pub coming_refused : is_kind kind ≡ true → (e : Refusal) → front_of k rec ≡ front.Refused e
-      → front_reading kind rec ≡ front.Refused e
+  pub coming_refused : is_kind kind ≡ true → (e : Refusal) → front_of k rec ≡ Err e
+      → front_reading kind rec ≡ Err e
   coming_refused h e f = coming_whole h ∙ rw f
 
-  module _ (h : is_kind kind ≡ true) (t : Told) (f : front_of k rec ≡ front.Fields t) where
-    pub coming_told : frame_chips k t.rate t.n ≤ length rec → front_reading kind rec ≡ front.Fields t
+  module _ (h : is_kind kind ≡ true) (t : Told) (f : front_of k rec ≡ Ok t) where
+    pub coming_told : frame_chips k t.rate t.n ≤ length rec → front_reading kind rec ≡ Ok t
     coming_told l = coming_whole h ∙ rw (f, le-ltb (length rec) (frame_chips k t.rate t.n) l)
 
     pub coming_ends : length rec < frame_chips k t.rate t.n
-        → front_reading kind rec ≡ front.Refused (Ends t.length)
+        → front_reading kind rec ≡ Err (Ends t.length)
     coming_ends l = coming_whole h ∙ rw (f, lt-ltb (length rec) (frame_chips k t.rate t.n) l)
 
 pub part_there : (at count : ℕ) (chips : List ℕ) → at + count ≤ length chips

@@ -1,28 +1,29 @@
 -- What is coming, from a recording's front only (RULES 6.15): the answer, and the part of the recording that holds the
 -- payload's chips.
 -- Definitions only. Assumes nothing.
+use Rattle.std.specs.Prelude.{Result, Ok, Err}
+use Rattle.rules_calls.specs.declared.Told.{Told}
+use Rattle.rules_calls.specs.declared.Refusal.{Refusal}
 use Rattle.std.specs.Prelude.{ℕ, ◌+◌, ◌-◌, cond, not, List, [], length, take, drop, ltb}
 use Rattle.rules_rates.specs.Rates.{code_of}
 use Rattle.rules_chips.specs.Chips.{Taken}
 use Rattle.rules_frame.specs.declared.Kind.{Kind}
 use Rattle.rules_frame.specs.Frame.{is_kind, kind_of, clock_bit, front_chips, frame_chips}
 use Rattle.rules_calls.specs.declared.Refusal.TheVariants.{NoKind}
-use Rattle.rules_calls.specs.declared.Front.{Front}
-use Rattle.rules_calls.specs.declared.Front.TheVariants.{Refused, Fields}
 use Rattle.rules_calls.specs.Answers.{refusal_number, refusal_place, refusal_length}
 use Rattle.rules_reading.specs.Reading.{front_of, whole_of}
 use Rattle.rules_coming.specs.declared.Coming.{Coming}
 
 -- 1, 8, then 9 and 10 over the front, 11 to 16, as a reader looks for them; 17 is not asked, nor are 9 and 10 over the
 -- payload
-unfoldable pub front_reading : ℕ → List Taken → Front
+unfoldable pub front_reading : ℕ → List Taken → Result Told Refusal
 front_reading kind rec =
-    cond (not (is_kind kind)) (Refused NoKind) (whole_of (kind_of kind) rec (front_of (kind_of kind) rec))
+    cond (not (is_kind kind)) (Err NoKind) (whole_of (kind_of kind) rec (front_of (kind_of kind) rec))
 
 -- a front that is not refused answers number 0, what its header tells, the whole frame's chips, and where the payload's
 -- are; a refusal its number, place and LENGTH, all else 0
-abbrev pub coming_of : Kind → Front → Coming
-coming_of k (Refused e) =
+abbrev pub coming_of : Kind → Result Told Refusal → Coming
+coming_of k (Err e) =
     record {
       number = refusal_number e;
       place = refusal_place e;
@@ -34,7 +35,7 @@ coming_of k (Refused e) =
       at = 0;
       count = 0;
     }
-coming_of k (Fields t) =
+coming_of k (Ok t) =
     let all = frame_chips k t.rate t.n in
     record {
       number = 0;

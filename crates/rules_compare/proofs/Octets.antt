@@ -5,6 +5,8 @@
 --                             the same from records and buffers that two reads answer and leave
 --     answer_is               and the whole answer
 -- By the cases of both readings. Assumes nothing.
+use Rattle.std.specs.Prelude.{Result, Ok, Err}
+use Rattle.rules_calls.specs.declared.Refusal.{Refusal}
 use mathlib.Core.Path.{◌≡◌, refl, sym, ap, ap₂, ◌∙◌}
 use mathlib.Core.Bool.{Bool, true, cond, ◌&&◌}
 use mathlib.Core.List.{List}
@@ -17,7 +19,6 @@ use Rattle.rules_chips.specs.Chips.{Taken, hard_recording}
 use Rattle.rules_frame.specs.declared.Kind.{Kind}
 use Rattle.rules_frame.specs.Frame.{kind_of}
 use Rattle.rules_calls.specs.declared.Reading.{Reading}
-use Rattle.rules_calls.specs.declared.Reading.TheVariants.{Refused, Good}
 use Rattle.rules_calls.specs.declared.Record.{Record}
 use Rattle.rules_calls.specs.Answers.{refusal_number, record_of}
 use Rattle.rules_calls.proofs.AnswerFacts.{some_number}
@@ -28,45 +29,45 @@ use Rattle.rules_compare.specs.Differences.{Difference, differences_from, differ
 use Rattle.rules_compare.specs.Compared.{hard_reading, payload_differences, length_beside, octet_list, compared_of}
 
 -- both readings are accepted
-abbrev both : Reading → Reading → Bool
+abbrev both : Result Reading Refusal → Result Reading Refusal → Bool
 both f s = eqb (record_of f).number 0 && eqb (record_of s).number 0
 
 refused_first : {A : Type 0} (m : ℕ) (b : Bool) (x y : A) → (m ≡ 0 → ⊥) → cond (eqb m 0 && b) x y ≡ y
 refused_first m b x y ne = rw (ne_eqb m 0 ne)
 
-pub beside_is : (f s : Reading) → length_beside f s ≡ cond (both f s) (record_of f).n 0
-beside_is (Refused e) s = sym (refused_first (refusal_number e) (eqb (record_of s).number 0) 0 0 (some_number e))
-beside_is (Good t used least) (Refused e) = rw (ne_eqb (refusal_number e) 0 (some_number e)) refl
-beside_is (Good t used least) (Good t' used' least') = refl
+pub beside_is : (f s : Result Reading Refusal) → length_beside f s ≡ cond (both f s) (record_of f).n 0
+beside_is (Err e) s = sym (refused_first (refusal_number e) (eqb (record_of s).number 0) 0 0 (some_number e))
+beside_is (Ok g) (Err e) = rw (ne_eqb (refusal_number e) 0 (some_number e)) refl
+beside_is (Ok g) (Ok g') = refl
 
-pub other_is : (f s : Reading) → length_beside s f ≡ cond (both f s) (record_of s).n 0
-other_is (Refused e) (Refused e') = sym (refused_first (refusal_number e) (eqb (refusal_number e') 0) 0 0 (some_number e))
-other_is (Refused e) (Good t used least) = sym (refused_first (refusal_number e) true t.n 0 (some_number e))
-other_is (Good t used least) (Refused e) = rw (ne_eqb (refusal_number e) 0 (some_number e)) refl
-other_is (Good t used least) (Good t' used' least') = refl
+pub other_is : (f s : Result Reading Refusal) → length_beside s f ≡ cond (both f s) (record_of s).n 0
+other_is (Err e) (Err e') = sym (refused_first (refusal_number e) (eqb (refusal_number e') 0) 0 0 (some_number e))
+other_is (Err e) (Ok g) = sym (refused_first (refusal_number e) true g.told.n 0 (some_number e))
+other_is (Ok g) (Err e) = rw (ne_eqb (refusal_number e) 0 (some_number e)) refl
+other_is (Ok g) (Ok g') = refl
 
-fits_beside : (room : ℕ) (f s : Reading) → Fits room f → length_beside f s ≤ room
-fits_beside room (Refused e) s h = omega arith
-fits_beside room (Good t used least) (Refused e) h = omega arith
-fits_beside room (Good t used least) (Good t' used' least') h = h
+fits_beside : (room : ℕ) (f s : Result Reading Refusal) → Fits room f → length_beside f s ≤ room
+fits_beside room (Err e) s h = omega arith
+fits_beside room (Ok g) (Err e) h = omega arith
+fits_beside room (Ok g) (Ok g') h = h
 
 module _ (k : Kind) (a b : List Taken) (room room' : ℕ) where
-  front_lists : (f s : Reading)
+  front_lists : (f s : Result Reading Refusal)
       → payload_differences k a b f s
       ≡ differences (take (length_beside f s) (octets_after k a room f))
       (take (length_beside s f) (octets_after k b room' s))
   unfolding differences_from
-  front_lists (Refused e) (Refused e') = refl
-  front_lists (Refused e) (Good t used least) = refl
-  front_lists (Good t used least) (Refused e) = refl
-  front_lists (Good t used least) (Good t' used' least') =
-      ap₂ {C = List Difference} differences (sym (payload_front k a room t)) (sym (payload_front k b room' t'))
+  front_lists (Err e) (Err e') = refl
+  front_lists (Err e) (Ok g) = refl
+  front_lists (Ok g) (Err e) = refl
+  front_lists (Ok g) (Ok g') =
+      ap₂ {C = List Difference} differences (sym (payload_front k a room g.told)) (sym (payload_front k b room' g'.told))
 
 module _ (kind : ℕ) (a b : List ℕ) (room room' : ℕ) where
-  abbrev f : Reading
+  abbrev f : Result Reading Refusal
   f = hard_reading kind a room
 
-  abbrev s : Reading
+  abbrev s : Result Reading Refusal
   s = hard_reading kind b room'
 
   beside_fits : (length_beside f s ≤ room) × (length_beside s f ≤ room')

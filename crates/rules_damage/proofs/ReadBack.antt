@@ -1,6 +1,7 @@
 -- A frame that stands its damage is read back, given room, whatever follows it: everything but the lead and its symbol;
 -- and its lead is a full chip at least. Without room it is refused with 17, as it would be unspoiled. A front that
 -- stands its damage tells what is coming, whatever follows it. Assumes nothing.
+use Rattle.std.specs.Prelude.{Ok, Err}
 use mathlib.Core.Path.{◌≡◌, refl, ap, ◌∙◌}
 use mathlib.Core.Bool.{Bool, true}
 use mathlib.Core.List.{List, ◌++◌}
@@ -16,8 +17,6 @@ use Rattle.rules_frame.specs.Frame.{is_kind, kind_of, goes_with, front_chips, se
 use Rattle.rules_frame.proofs.Headers.{sent_length}
 use Rattle.rules_calls.specs.declared.Told.{Told}
 use Rattle.rules_calls.specs.declared.Refusal.TheVariants.{OctetRoom}
-use Rattle.rules_calls.specs.declared.Front.TheVariants as front
-use Rattle.rules_calls.specs.declared.Reading.TheVariants as reading
 use Rattle.rules_calls.specs.Headers.{told}
 use Rattle.rules_reading.specs.Leads.{frame_leads, least_of}
 use Rattle.rules_reading.specs.Reading.{front_of, reading_of, octets_found}
@@ -45,7 +44,7 @@ module _ (kind : ℕ) (r : Rate) (p : ℕ) (clock : Bool) (xs : List ℕ) (is-ki
 
   -- ---- the front alone, whatever follows it
   pub front_spoiled : FrameStands kind (code_of r) 0 (take (front_chips k) sent) rec
-      → front_of k (hard_recording (rec ++ tail)) ≡ front.Fields t
+      → front_of k (hard_recording (rec ++ tail)) ≡ Ok t
   unfolding frame
   front_spoiled st =
       ap (front_of k) (append_hard rec tail)
@@ -68,7 +67,7 @@ module _ (kind : ℕ) (r : Rate) (p : ℕ) (clock : Bool) (xs : List ℕ) (is-ki
     module _ (room : ℕ) where
       pub reading_spoiled : n ≤ room
           → reading_of kind true (hard_recording (rec ++ tail)) room
-          ≡ reading.Good t (frame_chips k r n) (least_of (frame_leads k r n (hard_recording (rec ++ tail))))
+          ≡ Ok (record { told = t; used = frame_chips k r n; least = (least_of (frame_leads k r n (hard_recording (rec ++ tail)))) })
       reading_spoiled h =
           rw (append_hard rec tail)
           (back.good_reading kind r p clock xs is-kind l goes some few recording as_sent room true refl h)
@@ -80,7 +79,7 @@ module _ (kind : ℕ) (r : Rate) (p : ℕ) (clock : Bool) (xs : List ℕ) (is-ki
           (back.good_octets kind r p clock xs is-kind l goes some few recording as_sent room true refl h o)
 
       pub room_spoiled : room < n
-          → reading_of kind true (hard_recording (rec ++ tail)) room ≡ reading.Refused (OctetRoom (length_field r n))
+          → reading_of kind true (hard_recording (rec ++ tail)) room ≡ Err (OctetRoom (length_field r n))
       room_spoiled h =
           rw (append_hard rec tail)
           (back.room_refused kind r p clock xs is-kind l goes some few recording as_sent room true refl h)

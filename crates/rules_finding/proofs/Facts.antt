@@ -1,6 +1,7 @@
 -- Starts found, computed from the definition and compared with RULES 6.17: number, offset, rate code, LENGTH, the clock
 -- bit and n. The frame is the short one of reading's facts: an octet at 11 Mbit/s (LENGTH 1; 1,056 + 8 chips).
 -- Assumes nothing.
+use Rattle.std.specs.Prelude.{Ok, Err}
 use mathlib.Core.Path.{◌≡◌, refl}
 use mathlib.Core.Bool.{true, false}
 use mathlib.Core.List.{List, [], ◌∷◌, ◌++◌}
@@ -39,7 +40,6 @@ use Rattle.rules_frame.specs.Frame.{
   frame,
 }
 use Rattle.rules_calls.specs.declared.Refusal.TheVariants.{Crc}
-use Rattle.rules_calls.specs.declared.Front.TheVariants as front
 use Rattle.rules_calls.specs.declared.Told.{Told}
 use Rattle.rules_calls.specs.Headers.{told, same_bits, fields_of, header_of}
 use Rattle.rules_reading.specs.Reading.{
@@ -95,9 +95,9 @@ offsets = refl
 abbrev found : Finding
 found = Start 8 (told Two 5 1 false)
 
-pub smallest : start_or 7 (front.Fields (told Eleven 8 11 true)) found ∷ start_or 7 (front.Refused Crc) found
-    ∷ start_or 7 (front.Fields (told Eleven 8 11 true)) (Refused NoStart)
-    ∷ start_or 7 (front.Refused Crc) (Refused NoStart) ∷ []
+pub smallest : start_or 7 (Ok (told Eleven 8 11 true)) found ∷ start_or 7 (Err Crc) found
+    ∷ start_or 7 (Ok (told Eleven 8 11 true)) (Refused NoStart)
+    ∷ start_or 7 (Err Crc) (Refused NoStart) ∷ []
     ≡ Start 7 (told Eleven 8 11 true) ∷ found ∷ Start 7 (told Eleven 8 11 true) ∷ Refused NoStart ∷ []
 smallest = refl
 

@@ -8,6 +8,8 @@
 --     finding_no_kind, finding_no_offsets, finding_first    1, 18, and the search
 --     finding_comes              what all of it comes to: a refusal or a start, with what is then known
 -- Assumes nothing.
+use Rattle.std.specs.Prelude.{Result, Ok, Err}
+use Rattle.rules_calls.specs.declared.Refusal.{Refusal}
 use mathlib.Core.Path.{◌≡◌, refl, sym, ap, ◌∙◌, subst}
 use mathlib.Core.Bool.{Bool, true, false}
 use mathlib.Core.List.{List}
@@ -23,8 +25,6 @@ use Rattle.rules_chips.specs.Chips.{Taken}
 use Rattle.rules_frame.specs.declared.Kind.{Kind}
 use Rattle.rules_frame.specs.Frame.{is_kind, kind_of, front_chips}
 use Rattle.rules_calls.specs.declared.Told.{Told}
-use Rattle.rules_calls.specs.declared.Front.{Front}
-use Rattle.rules_calls.specs.declared.Front.TheVariants as front
 use Rattle.rules_reading.specs.Reading.{front_by, front_of}
 use Rattle.rules_reading.proofs.Places.{some_chips}
 use Rattle.rules_finding.specs.declared.NotFound.{NotFound}
@@ -34,19 +34,19 @@ use Rattle.rules_finding.specs.declared.Finding.TheVariants.{Refused, Start}
 use Rattle.rules_finding.specs.Finding.{is_offsets, start_or, first_start, finding_of}
 
 -- a front that meets one of 8 to 15
-abbrev pub Missed : Front → Type 0
-Missed (front.Refused e) = Unit {0}
-Missed (front.Fields t) = ⊥
+abbrev pub Missed : Result Told Refusal → Type 0
+Missed (Err e) = Unit {0}
+Missed (Ok t) = ⊥
 
-pub missed_or : (at : ℕ) (f : Front) (next : Finding) → Missed f → start_or at f next ≡ next
-missed_or at (front.Refused e) next h = refl
-missed_or at (front.Fields t) next h = absurd h
+pub missed_or : (at : ℕ) (f : Result Told Refusal) (next : Finding) → Missed f → start_or at f next ≡ next
+missed_or at (Err e) next h = refl
+missed_or at (Ok t) next h = absurd h
 
 drop_one : {A : Type 0} (n : ℕ) (xs : List A) → drop n (drop 1 xs) ≡ drop (suc n) xs
 drop_one n xs = let e : 1 + n ≡ suc n = omega arith in drop-drop n 1 xs ∙ ap (λ (m : ℕ). drop m xs) e
 
 module _ (k : Kind) where
-  start_here : (at m : ℕ) (rec : List Taken) (t : Told) → front_of k rec ≡ front.Fields t
+  start_here : (at m : ℕ) (rec : List Taken) (t : Told) → front_of k rec ≡ Ok t
       → first_start k at (suc m) rec ≡ Start at t
   unfolding first_start
   start_here at m rec t e = rw e
@@ -86,7 +86,7 @@ module _ (k : Kind) where
     pub i : ℕ
     pub offset_is : offset ≡ at + i
     pub below : i < m
-    pub told_there : front_of k (drop i rec) ≡ front.Fields t
+    pub told_there : front_of k (drop i rec) ≡ Ok t
     pub before : AllMissed i rec
 
   abbrev pub StartIf : ℕ → ℕ → List Taken → Finding → Type 0
@@ -118,18 +118,18 @@ module _ (k : Kind) where
         before = missed_here g.i rec h g.before;
       }
 
-      by : (f : Front) → front_of k rec ≡ f → (next : Finding) → StartIf (suc at) m (drop 1 rec) next
+      by : (f : Result Told Refusal) → front_of k rec ≡ f → (next : Finding) → StartIf (suc at) m (drop 1 rec) next
           → StartIf at (suc m) rec (start_or at f next)
-      by (front.Fields t) e next g = record {
+      by (Ok t) e next g = record {
         i = 0;
         offset_is = let z : at ≡ at + 0 = omega arith in z;
         below = omega arith;
         told_there = e;
         before = λ j l. absurd (omega arith);
       }
-      by (front.Refused r) e next g = later next (subst Missed (sym e) tt) g
+      by (Err r) e next g = later next (subst Missed (sym e) tt) g
 
-  pub start_found_lem : (at m i : ℕ) (rec : List Taken) (t : Told) → i < m → front_of k (drop i rec) ≡ front.Fields t
+  pub start_found_lem : (at m i : ℕ) (rec : List Taken) (t : Told) → i < m → front_of k (drop i rec) ≡ Ok t
       → AllMissed i rec → first_start k at m rec ≡ Start (at + i) t
   start_found_lem at m i rec t l e h =
       let n : ℕ = m - i - 1 in
@@ -165,7 +165,7 @@ module _ (k : Kind) where
   unfolding front_by
   short_missed rec h = rw (lt-ltb (length rec) (front_chips k) h) tt
 
-  pub start_there : (i : ℕ) (rec : List Taken) (t : Told) → front_of k (drop i rec) ≡ front.Fields t
+  pub start_there : (i : ℕ) (rec : List Taken) (t : Told) → front_of k (drop i rec) ≡ Ok t
       → i + front_chips k ≤ length rec
   start_there i rec t e = by (dec_le (front_chips k) (length (drop i rec)))
     where

@@ -1,5 +1,7 @@
 -- One offset after another: a front that tells ends the search, one that does not is passed over.
 -- Assumes nothing.
+use Rattle.std.specs.Prelude.{Result, Ok, Err}
+use Rattle.rules_calls.specs.declared.Refusal.{Refusal}
 use mathlib.Core.Path.{◌≡◌, refl, sym, ap, ◌∙◌, subst}
 use mathlib.Core.List.{List}
 use Prim.Native.Nat.{ℕ, ◌+◌, ◌<◌}
@@ -10,8 +12,6 @@ use lib.Seq.{drop-drop}
 use Rattle.rules_chips.specs.Chips.{Taken}
 use Rattle.rules_frame.specs.declared.Kind.{Kind}
 use Rattle.rules_calls.specs.declared.Told.{Told}
-use Rattle.rules_calls.specs.declared.Front.{Front}
-use Rattle.rules_calls.specs.declared.Front.TheVariants as front
 use Rattle.rules_reading.specs.Reading.{front_of}
 use Rattle.rules_finding.specs.declared.NotFound.{NotFound}
 use Rattle.rules_finding.specs.declared.NotFound.TheVariants.{NoStart}
@@ -29,10 +29,10 @@ pub not_both : {f : Finding} {e : NotFound} {offset : ℕ} {t : Told} → f ≡ 
 not_both a b = subst IsFound (sym a ∙ b) tt
 
 module _ (kind : Kind) (rec : List Taken) (at : ℕ) where
-  abbrev try : ℕ → Front → Finding
+  abbrev try : ℕ → Result Told Refusal → Finding
   try j f = start_or (at + j) f (Refused NoStart)
 
-  abbrev front_at : ℕ → Front
+  abbrev front_at : ℕ → Result Told Refusal
   front_at j = front_of kind (drop (at + j) rec)
 
   front_there : (j : ℕ) → front_of kind (drop j (drop at rec)) ≡ front_at j
@@ -43,9 +43,9 @@ module _ (kind : Kind) (rec : List Taken) (at : ℕ) where
       → f ≡ Start offset t → f ≡ try j (front_at j) → Start offset t ≡ first_start kind at count (drop at rec)
   seek_hit j count h m f offset t a b = by (front_at j) refl
     where
-      by : (x : Front) → front_at j ≡ x → Start offset t ≡ first_start kind at count (drop at rec)
-      by (front.Refused r) e = absurd (not_both a (b ∙ ap {B = Finding} (try j) e))
-      by (front.Fields u) e =
+      by : (x : Result Told Refusal) → front_at j ≡ x → Start offset t ≡ first_start kind at count (drop at rec)
+      by (Err r) e = absurd (not_both a (b ∙ ap {B = Finding} (try j) e))
+      by (Ok u) e =
           sym a ∙ b ∙ ap {B = Finding} (try j) e
           ∙ sym (start_found_lem kind at count j (drop at rec) u h (front_there j ∙ e) m)
 
@@ -54,9 +54,9 @@ module _ (kind : Kind) (rec : List Taken) (at : ℕ) where
       → f ≡ try j (front_at j) → AllMissed kind (j + 1) (drop at rec)
   seek_miss j m f e a b i l = by (dec_lt i j)
     where
-      missed : (x : Front) → front_at j ≡ x → Missed x
-      missed (front.Refused r) g = tt
-      missed (front.Fields u) g = not_both (b ∙ ap {B = Finding} (try j) g) a
+      missed : (x : Result Told Refusal) → front_at j ≡ x → Missed x
+      missed (Err r) g = tt
+      missed (Ok u) g = not_both (b ∙ ap {B = Finding} (try j) g) a
 
       by : Dec (i < j) → Missed (front_of kind (drop i (drop at rec)))
       by (yes p) = m i p

@@ -1,13 +1,14 @@
 -- Find the start (RULES 6.17): the smallest offset, of so many to try, from which a read meets none of refusals 8 to
 -- 15, 9 and 10 over the front only; and the call's answer.
 -- Definitions only. Assumes nothing.
+use Rattle.std.specs.Prelude.{Result, Ok, Err}
+use Rattle.rules_calls.specs.declared.Told.{Told}
+use Rattle.rules_calls.specs.declared.Refusal.{Refusal}
 use Rattle.std.specs.Prelude.{ℕ, zero, suc, Bool, cond, not, ◌&&◌, List, drop, leb}
 use Rattle.rules_rates.specs.Rates.{code_of}
 use Rattle.rules_chips.specs.Chips.{Taken}
 use Rattle.rules_frame.specs.declared.Kind.{Kind}
 use Rattle.rules_frame.specs.Frame.{is_kind, kind_of, clock_bit}
-use Rattle.rules_calls.specs.declared.Front.{Front}
-use Rattle.rules_calls.specs.declared.Front.TheVariants as front
 use Rattle.rules_reading.specs.Reading.{front_of}
 use Rattle.rules_finding.specs.declared.NotFound.{NotFound}
 use Rattle.rules_finding.specs.declared.NotFound.TheVariants.{NoKind, NoOffsets, NoStart}
@@ -20,9 +21,9 @@ abbrev pub is_offsets : ℕ → Bool
 is_offsets n = leb 1 n && leb n 4096
 
 -- a front that meets none of 8 to 15 starts at this offset; else what comes next
-abbrev pub start_or : ℕ → Front → Finding → Finding
-start_or at (front.Refused e) next = next
-start_or at (front.Fields t) next = Start at t
+abbrev pub start_or : ℕ → Result Told Refusal → Finding → Finding
+start_or at (Err e) next = next
+start_or at (Ok t) next = Start at t
 
 -- of m offsets from `at` on, where `rec` is what the recording has from there, the smallest; 19 where there is none
 unfoldable pub first_start : Kind → ℕ → ℕ → List Taken → Finding

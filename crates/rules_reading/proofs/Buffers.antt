@@ -6,6 +6,8 @@
 --     payload_front     the payload is the buffer's front
 --     found_long        a read leaves as many octets as there is room for
 -- Assumes nothing.
+use Rattle.std.specs.Prelude.{Result, Ok, Err}
+use Rattle.rules_calls.specs.declared.Refusal.{Refusal}
 use mathlib.Core.Path.{◌≡◌, refl, sym, ◌∙◌, subst}
 use mathlib.Core.Bool.{Bool, not}
 use mathlib.Core.List.{List, ◌++◌}
@@ -20,10 +22,7 @@ use Rattle.rules_bits.proofs.Bits.{octets_length}
 use Rattle.rules_frame.specs.declared.Kind.{Kind}
 use Rattle.rules_frame.specs.Frame.{is_kind, kind_of}
 use Rattle.rules_calls.specs.declared.Told.{Told}
-use Rattle.rules_calls.specs.declared.Front.{Front}
-use Rattle.rules_calls.specs.declared.Front.TheVariants as front
 use Rattle.rules_calls.specs.declared.Reading.{Reading}
-use Rattle.rules_calls.specs.declared.Reading.TheVariants as reading
 use Rattle.rules_calls.specs.Answers.{record_of}
 use Rattle.rules_calls.proofs.AnswerFacts.{some_number}
 use Rattle.rules_reading.specs.Reading.{
@@ -38,17 +37,17 @@ use Rattle.rules_reading.specs.Reading.{
 }
 use Rattle.rules_reading.proofs.Refusals.{PayloadIf, payload_comes}
 
-abbrev pub Fits : ℕ → Reading → Type 0
-Fits room (reading.Refused e) = Unit {0}
-Fits room (reading.Good t used least) = t.n ≤ room
+abbrev pub Fits : ℕ → Result Reading Refusal → Type 0
+Fits room (Err e) = Unit {0}
+Fits room (Ok g) = g.told.n ≤ room
 
-pub after_fits : (k : Kind) (rec : List Taken) (room : ℕ) (f : Front) → Fits room (after_front k rec room f)
-after_fits k rec room (front.Refused e) = tt
-after_fits k rec room (front.Fields t) = go (payload_reading k t rec room) (payload_comes k t rec room)
+pub after_fits : (k : Kind) (rec : List Taken) (room : ℕ) (f : Result Told Refusal) → Fits room (after_front k rec room f)
+after_fits k rec room (Err e) = tt
+after_fits k rec room (Ok t) = go (payload_reading k t rec room) (payload_comes k t rec room)
   where
-    go : (g : Reading) → PayloadIf k t rec room g → Fits room g
-    go (reading.Refused e) p = tt
-    go (reading.Good u used least) p = subst (λ (v : Told). v.n ≤ room) (sym p.1) p.0
+    go : (g : Result Reading Refusal) → PayloadIf k t rec room g → Fits room g
+    go (Err e) p = tt
+    go (Ok g) p = subst (λ (v : Told). v.n ≤ room) (sym p.1) p.0
 
 pub reading_fits : (kind : ℕ) (agree : Bool) (rec : List Taken) (room : ℕ) → Fits room (reading_of kind agree rec room)
 unfolding reading_of
@@ -61,18 +60,18 @@ pub payload_length : (k : Kind) (r : Rate) (n : ℕ) (rec : List Taken) → leng
 unfolding payload_of
 payload_length k r n rec = octets_length n _
 
-pub filled_octets : (k : Kind) (rec : List Taken) (room : ℕ) (g : Reading) → Fits room g
+pub filled_octets : (k : Kind) (rec : List Taken) (room : ℕ) (g : Result Reading Refusal) → Fits room g
     → (length (octets_after k rec room g) ≡ room)
     × (((record_of g).number ≡ 0 → ⊥) → octets_after k rec room g ≡ replicate room 0)
     × ((record_of g).number ≡ 0 → drop (record_of g).n (octets_after k rec room g) ≡ replicate (room - (record_of g).n) 0)
-filled_octets k rec room (reading.Refused e) h = (length-replicate room 0, (λ z. refl), λ z. absurd (some_number e z))
-filled_octets k rec room (reading.Good t used least) h =
-    let octets = payload_of k t.rate t.n rec in
-    let e : length octets ≡ t.n = payload_length k t.rate t.n rec in (
-      length-append octets (replicate (room - t.n) 0)
-          ∙ omega (arith, e, h, length-replicate {A = ℕ} (room - t.n) 0),
+filled_octets k rec room (Err e) h = (length-replicate room 0, (λ z. refl), λ z. absurd (some_number e z))
+filled_octets k rec room (Ok g) h =
+    let octets = payload_of k g.told.rate g.told.n rec in
+    let e : length octets ≡ g.told.n = payload_length k g.told.rate g.told.n rec in (
+      length-append octets (replicate (room - g.told.n) 0)
+          ∙ omega (arith, e, h, length-replicate {A = ℕ} (room - g.told.n) 0),
       (λ z. absurd (z refl)),
-      λ z. drop_at octets (replicate (room - t.n) 0) t.n e,
+      λ z. drop_at octets (replicate (room - g.told.n) 0) g.told.n e,
     )
 
 pub payload_front : (k : Kind) (rec : List Taken) (room : ℕ) (t : Told)

@@ -1,6 +1,7 @@
 -- A front that meets none of 8 to 15 has no odd growth in its preamble: 10 was looked for and not found.
 --     front_even    each growth there, by the words of two symbols
 -- Assumes nothing.
+use Rattle.std.specs.Prelude.{Ok}
 use mathlib.Core.Path.{◌≡◌, refl, sym, ap, ◌∙◌, subst}
 use mathlib.Core.List.{List}
 use Rattle.std.specs.Prelude.{Option, None, Some}
@@ -14,7 +15,6 @@ use Rattle.rules_bits.proofs.Heard.{growths_of_length, growth_at_lem}
 use Rattle.rules_frame.specs.declared.Kind.{Kind}
 use Rattle.rules_frame.specs.Frame.{sync_bits}
 use Rattle.rules_calls.specs.declared.Told.{Told}
-use Rattle.rules_calls.specs.declared.Front.TheVariants.{Fields}
 use Rattle.rules_reading.specs.Reading.{or_else, first_odd, front_odd, front_of, reference, preamble_words}
 use Rattle.rules_reading.proofs.Refusals.{FrontIf, front_refuses}
 use Rattle.rules_reading.proofs.First.{no_place, odd_none}
@@ -34,7 +34,7 @@ module _ (k : Kind) (rec : List Taken) where
   unfolding front_odd
   none_odd e = or_none (first_odd 0 growths) _ e
 
-  pub front_even : (t : Told) → front_of k rec ≡ Fields t → (n : ℕ) → n + 1 < sync_bits k + 16
+  pub front_even : (t : Told) → front_of k rec ≡ Ok t → (n : ℕ) → n + 1 < sync_bits k + 16
       → grown_by (word_at One rec n) (word_at One rec (n + 1)) % 2 ≡ 0
   front_even t e n h =
       ap (λ (g : ℕ). g % 2) (sym grown)

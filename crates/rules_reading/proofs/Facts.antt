@@ -4,6 +4,7 @@
 -- them. The long frame carries A5h and 3Ch at 1 Mbit/s and has the clock bit set (LENGTH 16; 2,112 + 176 chips), the
 -- short one 3Dh at 11 Mbit/s and has neither bit set (LENGTH 1; 1,056 + 8 chips). What a header with a right CRC is
 -- refused for stands in `rules_calls`, HeaderFacts. Assumes nothing.
+use Rattle.std.specs.Prelude.{Ok}
 use mathlib.Core.Path.{◌≡◌, refl}
 use mathlib.Core.Bool.{Bool, true, false}
 use Rattle.std.specs.Prelude.{None, Some}
@@ -31,7 +32,6 @@ use Rattle.rules_bits.specs.Scrambler.{mixed, scramble, descramble}
 use Rattle.rules_bits.specs.Crc.{add_where, crc_step, remainder, crc_bits}
 use Rattle.rules_frame.specs.declared.Kind.TheVariants.{Long, Short}
 use Rattle.rules_calls.specs.declared.Record.{Record}
-use Rattle.rules_calls.specs.declared.Front.TheVariants as front
 use Rattle.rules_frame.specs.Frame.{
   preamble_bits,
   field_bits,
@@ -123,7 +123,7 @@ grown = refl
 
 -- SYNC bits are not compared: of a short front the first, the sixth and the 48th symbol are turned by half
 pub sync_turned : front_of Short (hard_recording (turned_by 0 2 (turned_by 55 2 (turned_by 517 2 short_frame))))
-    ≡ front.Fields (told Eleven 1 1 false)
+    ≡ Ok (told Eleven 1 1 false)
 unfolding
     short_frame turned_by hard_recording
     barker_word cck_word score those going first_largest decided

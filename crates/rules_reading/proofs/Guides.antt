@@ -5,6 +5,8 @@
 --     guide_refused    a front that is refused is the reading, and leaves zeros
 -- By what readers have in common (`Readers`), and what three fields come to for a guide (`Guides` of rules_calls).
 -- Assumes nothing.
+use Rattle.std.specs.Prelude.{Result, Err}
+use Rattle.rules_calls.specs.declared.Told.{Told}
 use mathlib.Core.Path.{◌≡◌, refl, sym, ap, ◌∙◌, subst}
 use mathlib.Core.Bool.{true}
 use mathlib.Core.List.{List}
@@ -15,9 +17,6 @@ use Rattle.rules_chips.specs.Chips.{Taken}
 use Rattle.rules_frame.specs.declared.Kind.TheVariants.{Long}
 use Rattle.rules_calls.specs.declared.Refusal.{Refusal}
 use Rattle.rules_calls.specs.declared.Refusal.TheVariants.{Signal, Service}
-use Rattle.rules_calls.specs.declared.Front.{Front}
-use Rattle.rules_calls.specs.declared.Front.TheVariants as front
-use Rattle.rules_calls.specs.declared.Reading.TheVariants as reading
 use Rattle.rules_calls.specs.Answers.{refusal_number}
 use Rattle.rules_calls.specs.Headers.{ours, of1997}
 use Rattle.rules_calls.specs.Plain.{Rate1997, at_1, at_2}
@@ -51,11 +50,11 @@ module _ (rec : List Taken) where
   service = service_heard Long rec
 
   -- what a front comes to for a guide, and why
-  pub data GuideFront : Front → Type 0 where
-    as_unsound : {e : Refusal} → FrontRefusal Long rec e → refusal_number e ≤ 12 → GuideFront (front.Refused e)
-    by_signal : Sound Long rec → (Rate1997 signal → ⊥) → GuideFront (front.Refused (Signal (length_heard Long rec)))
+  pub data GuideFront : Result Told Refusal → Type 0 where
+    as_unsound : {e : Refusal} → FrontRefusal Long rec e → refusal_number e ≤ 12 → GuideFront (Err e)
+    by_signal : Sound Long rec → (Rate1997 signal → ⊥) → GuideFront (Err (Signal (length_heard Long rec)))
     by_service : Sound Long rec → Rate1997 signal → (service ≡ 0 → ⊥)
-        → GuideFront (front.Refused (Service (length_heard Long rec)))
+        → GuideFront (Err (Service (length_heard Long rec)))
     as_ours : Sound Long rec → Rate1997 signal → service ≡ 0 → GuideFront (front_of Long rec)
 
   known : Dec (Rate1997 signal)
@@ -96,14 +95,14 @@ module _ (rec : List Taken) where
         → (reading1997 rec room ≡ reading_of 0 true rec room) × (octets1997 rec room ≡ octets_found 0 true rec room)
     unfolding reading1997 octets1997 reading_of octets_found
     guide_alike e = (
-      ap (λ (f : Front). after_front Long rec room (whole_of Long rec f)) e,
-      ap (λ (f : Front). octets_after Long rec room (after_front Long rec room (whole_of Long rec f))) e,
+      ap (λ (f : Result Told Refusal). after_front Long rec room (whole_of Long rec f)) e,
+      ap (λ (f : Result Told Refusal). octets_after Long rec room (after_front Long rec room (whole_of Long rec f))) e,
     )
 
-    pub guide_refused : (e : Refusal) → front_by of1997 Long rec ≡ front.Refused e
-        → (reading1997 rec room ≡ reading.Refused e) × (octets1997 rec room ≡ replicate room 0)
+    pub guide_refused : (e : Refusal) → front_by of1997 Long rec ≡ Err e
+        → (reading1997 rec room ≡ Err e) × (octets1997 rec room ≡ replicate room 0)
     unfolding reading1997 octets1997
     guide_refused e w = (
-      ap (λ (f : Front). after_front Long rec room (whole_of Long rec f)) w,
-      ap (λ (f : Front). octets_after Long rec room (after_front Long rec room (whole_of Long rec f))) w,
+      ap (λ (f : Result Told Refusal). after_front Long rec room (whole_of Long rec f)) w,
+      ap (λ (f : Result Told Refusal). octets_after Long rec room (after_front Long rec room (whole_of Long rec f))) w,
     )

@@ -5,6 +5,7 @@
 --     sound_or_not     each recording is one or the other
 --     front_few        a front that tells tells of at most 4,095 octets
 -- Assumes nothing.
+use Rattle.std.specs.Prelude.{Result, Ok, Err}
 use mathlib.Core.Path.{◌≡◌, sym, ◌∙◌, subst}
 use mathlib.Core.List.{List}
 use Prim.Native.Nat.{ℕ, ◌≤◌}
@@ -16,8 +17,6 @@ use Rattle.rules_frame.specs.declared.Kind.{Kind}
 use Rattle.rules_frame.specs.Frame.{front_chips}
 use Rattle.rules_calls.specs.declared.Refusal.{Refusal}
 use Rattle.rules_calls.specs.declared.Told.{Told}
-use Rattle.rules_calls.specs.declared.Front.{Front}
-use Rattle.rules_calls.specs.declared.Front.TheVariants as front
 use Rattle.rules_calls.specs.Answers.{refusal_number}
 use Rattle.rules_calls.specs.Headers.{Accepted, fields_of}
 use Rattle.rules_calls.proofs.Accepting.{
@@ -50,7 +49,7 @@ use Rattle.rules_reading.proofs.Refusals.{
 
 module _ (k : Kind) (rec : List Taken) where
   pub front_unsound : {e : Refusal} → FrontRefusal k rec e → refusal_number e ≤ 12 → (accepted : Accepted)
-      → front_by accepted k rec ≡ front.Refused e
+      → front_by accepted k rec ≡ Err e
   unfolding front_by
   front_unsound (front_short l) n accepted = rw (lt-ltb (length rec) (front_chips k) l)
   front_unsound (front_unusable p l f) n accepted = rw (le-ltb (length rec) (front_chips k) l, f)
@@ -89,19 +88,19 @@ module _ (k : Kind) (rec : List Taken) where
       by (no_service s a b) = is_sound s
       by (no_length s a b d) = is_sound s
 
-      go : (f : Front) → FrontIf k rec f → SoundOrNot
-      go (front.Refused e) h = by h
-      go (front.Fields t) h = is_sound h.sound
+      go : (f : Result Told Refusal) → FrontIf k rec f → SoundOrNot
+      go (Err e) h = by h
+      go (Ok t) h = is_sound h.sound
 
 pub front_few : (accepted : Accepted) (k : Kind) (rec : List Taken) (t : Told)
-    → front_by accepted k rec ≡ front.Fields t → t.n ≤ 4095
+    → front_by accepted k rec ≡ Ok t → t.n ≤ 4095
 front_few accepted k rec t e = by (sound_or_not k rec)
   where
-    refused_not : (r : Refusal) → front.Refused r ≡ front.Fields t → t.n ≤ 4095
+    refused_not : (r : Refusal) → Err r ≡ Ok t → t.n ≤ 4095
     refused_not r w = let z : ◌≡◌ {A = ℕ} 0 1 = cc in absurd (omega arith)
 
-    told_few : {f : Front} → FieldsCome accepted k (signal_heard k rec) (service_heard k rec) (length_heard k rec) f
-        → f ≡ front.Fields t → t.n ≤ 4095
+    told_few : {f : Result Told Refusal} → FieldsCome accepted k (signal_heard k rec) (service_heard k rec) (length_heard k rec) f
+        → f ≡ Ok t → t.n ≤ 4095
     told_few (signal_out a) w = refused_not _ w
     told_few (service_out a b) w = refused_not _ w
     told_few (length_out a b c) w = refused_not _ w

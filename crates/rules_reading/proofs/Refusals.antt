@@ -4,6 +4,7 @@
 --     whole_refuses, whole_number      fronts, and recordings that end in the payload: 8 to 16
 --     payload_comes, payload_number    payloads, and that a good one had room
 -- By the tests of the definitions, followed to their ends. Assumes nothing.
+use Rattle.std.specs.Prelude.{Result, Ok, Err}
 use mathlib.Core.Path.{◌≡◌, refl}
 use mathlib.Core.Bool.{true, false}
 use mathlib.Core.List.{List}
@@ -33,10 +34,7 @@ use Rattle.rules_calls.specs.declared.Refusal.TheVariants.{
   OctetRoom,
 }
 use Rattle.rules_calls.specs.declared.Told.{Told}
-use Rattle.rules_calls.specs.declared.Front.{Front}
-use Rattle.rules_calls.specs.declared.Front.TheVariants as front
 use Rattle.rules_calls.specs.declared.Reading.{Reading}
-use Rattle.rules_calls.specs.declared.Reading.TheVariants as reading
 use Rattle.rules_calls.specs.Answers.{refusal_number}
 use Rattle.rules_calls.specs.Headers.{ours, header_of}
 use Rattle.rules_calls.proofs.Accepting.{
@@ -114,18 +112,18 @@ pub data WholeRefusal (k : Kind) (rec : List Taken) : Refusal → Type 0 where
       → WholeRefusal k rec (Ends t.length)
 
 module _ (k : Kind) (rec : List Taken) where
-  abbrev pub FrontIf : Front → Type 0
-  FrontIf (front.Refused e) = FrontRefusal k rec e
-  FrontIf (front.Fields t) = FrontHeard k rec t
+  abbrev pub FrontIf : Result Told Refusal → Type 0
+  FrontIf (Err e) = FrontRefusal k rec e
+  FrontIf (Ok t) = FrontHeard k rec t
 
-  abbrev pub RefusesIf : Front → Type 0
-  RefusesIf (front.Refused e) = WholeRefusal k rec e
-  RefusesIf (front.Fields t) = FrontHeard k rec t × (frame_chips k t.rate t.n ≤ length rec)
+  abbrev pub RefusesIf : Result Told Refusal → Type 0
+  RefusesIf (Err e) = WholeRefusal k rec e
+  RefusesIf (Ok t) = FrontHeard k rec t × (frame_chips k t.rate t.n ≤ length rec)
 
   header_refuses : Clear k rec → FrontIf (header_of ours k (sfd_heard k rec) (header_heard k rec))
   header_refuses clear = go (header_comes ours k (sfd_heard k rec) (header_heard k rec))
     where
-      go : {f : Front} → HeaderComes ours k (sfd_heard k rec) (header_heard k rec) f → FrontIf f
+      go : {f : Result Told Refusal} → HeaderComes ours k (sfd_heard k rec) (header_heard k rec) f → FrontIf f
       go (sfd_other s) = sfd_differs clear s
       go (crc_other s c) = crc_differs clear s c
       go (fields_behind s c (signal_out a)) = no_signal (record { clear = clear; sfd_is = s; crc_is = c }) a
@@ -141,9 +139,9 @@ module _ (k : Kind) (rec : List Taken) where
   front_refuses =
       decided_by FrontIf (ltb (length rec) (front_chips k)) _ _ (λ b. front_short (ltb-true _ _ b))
       (λ a. let long = ltb-false _ _ a in
-      found_or_none FrontIf (first_unusable 0 (take (front_chips k) rec)) (λ p. front.Refused (Unusable p 0)) _
+      found_or_none FrontIf (first_unusable 0 (take (front_chips k) rec)) (λ p. Err (Unusable p 0)) _
       (λ p e. front_unusable p long e)
-      (λ u. found_or_none FrontIf (front_odd k rec) (λ p. front.Refused (OddGrowth p 0)) _
+      (λ u. found_or_none FrontIf (front_odd k rec) (λ p. Err (OddGrowth p 0)) _
       (λ p e. front_odd_lem p long u e)
       (λ o. header_refuses (record { long = long; usable = u; even = o }))))
 
@@ -153,9 +151,9 @@ module _ (k : Kind) (rec : List Taken) where
   pub whole_refuses : RefusesIf (whole_of k rec (front_of k rec))
   whole_refuses = go (front_of k rec) front_refuses
     where
-      go : (f : Front) → FrontIf f → RefusesIf (whole_of k rec f)
-      go (front.Refused e) h = met_in_front h
-      go (front.Fields t) h =
+      go : (f : Result Told Refusal) → FrontIf f → RefusesIf (whole_of k rec f)
+      go (Err e) h = met_in_front h
+      go (Ok t) h =
           decided_by RefusesIf (ltb (length rec) (frame_chips k t.rate t.n)) _ _
           (λ b. frame_ends t h (ltb-true _ _ b)) (λ a. (h, ltb-false _ _ a))
 
@@ -190,18 +188,18 @@ payload_number (payload_unusable p f) = omega arith
 payload_number (payload_odd_lem p f) = omega arith
 
 module _ (k : Kind) (t : Told) (rec : List Taken) (room : ℕ) where
-  abbrev pub PayloadIf : Reading → Type 0
-  PayloadIf (reading.Refused e) = PayloadRefusal k t rec e
-  PayloadIf (reading.Good u used least) =
-      (t.n ≤ room) × (u ≡ t)
-      × (used ≡ frame_chips k t.rate t.n)
-      × (least ≡ least_of (frame_leads k t.rate t.n rec))
+  abbrev pub PayloadIf : Result Reading Refusal → Type 0
+  PayloadIf (Err e) = PayloadRefusal k t rec e
+  PayloadIf (Ok g) =
+      (t.n ≤ room) × (g.told ≡ t)
+      × (g.used ≡ frame_chips k t.rate t.n)
+      × (g.least ≡ least_of (frame_leads k t.rate t.n rec))
 
   pub payload_comes : PayloadIf (payload_reading k t rec room)
   unfolding payload_reading
   payload_comes =
       decided_by PayloadIf (ltb room t.n) _ _ (λ b. no_room)
-      (λ a. searched PayloadIf (found_unusable k t rec) (λ p. reading.Refused (Unusable p t.length)) _
+      (λ a. searched PayloadIf (found_unusable k t rec) (λ p. Err (Unusable p t.length)) _
       payload_unusable
-      (searched PayloadIf (payload_odd k t.rate t.n rec) (λ p. reading.Refused (OddGrowth p t.length)) _
+      (searched PayloadIf (payload_odd k t.rate t.n rec) (λ p. Err (OddGrowth p t.length)) _
       payload_odd_lem (ltb-false room t.n a, refl, refl, refl)))

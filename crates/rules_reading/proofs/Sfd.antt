@@ -3,6 +3,7 @@
 --     front_sfd    the sixteen bits are the kind's
 --     sfd_bit      each by the bits of three symbols, and those by the words of two
 -- Assumes nothing.
+use Rattle.std.specs.Prelude.{Ok}
 use mathlib.Core.Path.{◌≡◌, sym, ap, ◌∙◌, subst}
 use mathlib.Core.List.{List, map}
 use Prim.Native.Nat.{ℕ, zero, suc, ◌+◌, ◌*◌, ◌/◌, ◌≤◌, ◌<◌}
@@ -25,7 +26,6 @@ use Rattle.rules_bits.proofs.Scrambler.{descramble_length, descramble_below, des
 use Rattle.rules_frame.specs.declared.Kind.{Kind}
 use Rattle.rules_frame.specs.Frame.{sfd_of, sync_bits, header_rate, start}
 use Rattle.rules_calls.specs.declared.Told.{Told}
-use Rattle.rules_calls.specs.declared.Front.TheVariants.{Fields}
 use Rattle.rules_reading.specs.Places.{word_from}
 use Rattle.rules_reading.specs.Reading.{
   decided_words,
@@ -59,7 +59,7 @@ module _ (k : Kind) (rec : List Taken) where
   abbrev sfd : List ℕ
   sfd = take 16 (drop (sync_bits k) (front_bits k rec))
 
-  front_sfd : (t : Told) → front_of k rec ≡ Fields t → number_of sfd ≡ sfd_of k
+  front_sfd : (t : Told) → front_of k rec ≡ Ok t → number_of sfd ≡ sfd_of k
   front_sfd t e = (subst (FrontIf k rec) e (front_refuses k rec)).sound.sfd_is
 
   abbrev pub words : List ℕ
@@ -139,7 +139,7 @@ module _ (k : Kind) (rec : List Taken) where
   -- rule: 6.17
   -- code: marks
   -- with: sfd_low, sfd_high
-  pub sfd_bit : (t : Told) → front_of k rec ≡ Fields t → (n i : ℕ) → n + 8 ≡ sync_bits k + i → i < 16
+  pub sfd_bit : (t : Told) → front_of k rec ≡ Ok t → (n i : ℕ) → n + 8 ≡ sync_bits k + i → i < 16
       → bit (n + 7) ⊕ bit (n + 3) ⊕ bit n ≡ get_or (bits_of 16 (sfd_of k)) i 0
   sfd_bit t e n i at h =
       sym (plain_bit n (omega arith))

@@ -1,6 +1,8 @@
 -- What a front tells, where it is not refused: a rate of the kind, 1 to 4,095 octets, and their LENGTH; and where 16 is
 -- not given either, that the recording has the frame's chips. It is the header's own law (`header_only` of
 -- rules_calls), behind the tests before it. Assumes nothing.
+use Rattle.std.specs.Prelude.{Result, Ok, Err}
+use Rattle.rules_calls.specs.declared.Refusal.{Refusal}
 use mathlib.Core.Path.{◌≡◌, refl, ◌∙◌}
 use mathlib.Core.Bool.{Bool, true, false, cond}
 use mathlib.Core.List.{List}
@@ -14,8 +16,6 @@ use Rattle.rules_chips.specs.Chips.{Taken}
 use Rattle.rules_frame.specs.declared.Kind.{Kind}
 use Rattle.rules_frame.specs.Frame.{goes_with, front_chips, frame_chips}
 use Rattle.rules_calls.specs.declared.Told.{Told}
-use Rattle.rules_calls.specs.declared.Front.{Front}
-use Rattle.rules_calls.specs.declared.Front.TheVariants.{Refused, Fields}
 use Rattle.rules_calls.specs.Headers.{ours, header_of}
 use Rattle.rules_calls.proofs.HeaderOnly.{HeaderSends, header_only}
 use Rattle.rules_reading.specs.Reading.{or_else, first_unusable, front_odd, front_by, front_of, whole_of}
@@ -43,16 +43,16 @@ pub record Telling (k : Kind) (t : Told) : Type 0 where
   pub few : t.n ≤ 4095
   pub length_is : t.length ≡ length_field t.rate t.n
 
-abbrev pub TellingIf : Kind → Front → Type 0
-TellingIf k (Refused e) = Unit {0}
-TellingIf k (Fields t) = Telling k t
+abbrev pub TellingIf : Kind → Result Told Refusal → Type 0
+TellingIf k (Err e) = Unit {0}
+TellingIf k (Ok t) = Telling k t
 
 header_telling : (k : Kind) (sfd header : List ℕ) → TellingIf k (header_of ours k sfd header)
 header_telling k sfd header = go (header_of ours k sfd header) (header_only k sfd header)
   where
-    go : (f : Front) → HeaderSends k sfd header f → TellingIf k f
-    go (Refused e) h = tt
-    go (Fields t) h =
+    go : (f : Result Told Refusal) → HeaderSends k sfd header f → TellingIf k f
+    go (Err e) h = tt
+    go (Ok t) h =
         let s = h.2 in
         record { goes = s.goes; some_octets = s.some; few = s.few; length_is = s.told_is ∙ s.length_is }
 
@@ -68,16 +68,16 @@ pub record TellingWhole (k : Kind) (rec : List Taken) (t : Told) : Type 0 where
   pub telling : Telling k t
   pub there : frame_chips k t.rate t.n ≤ length rec
 
-abbrev pub TellingWholeIf : Kind → List Taken → Front → Type 0
-TellingWholeIf k rec (Refused e) = Unit {0}
-TellingWholeIf k rec (Fields t) = TellingWhole k rec t
+abbrev pub TellingWholeIf : Kind → List Taken → Result Told Refusal → Type 0
+TellingWholeIf k rec (Err e) = Unit {0}
+TellingWholeIf k rec (Ok t) = TellingWhole k rec t
 
 pub whole_telling : (k : Kind) (rec : List Taken) → TellingWholeIf k rec (whole_of k rec (front_of k rec))
 whole_telling k rec = go (front_of k rec) (front_telling k rec)
   where
-    go : (f : Front) → TellingIf k f → TellingWholeIf k rec (whole_of k rec f)
-    go (Refused e) h = tt
-    go (Fields t) h =
+    go : (f : Result Told Refusal) → TellingIf k f → TellingWholeIf k rec (whole_of k rec f)
+    go (Err e) h = tt
+    go (Ok t) h =
         let all = frame_chips k t.rate t.n in
         branch (TellingWholeIf k rec) (ltb (length rec) all) _ _ tt
         (λ a. record { telling = h; there = nltb→le (length rec) all a })

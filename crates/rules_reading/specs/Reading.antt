@@ -2,6 +2,8 @@
 -- (RULES 2.7, 6.2 to 6.10, 6.12, 6.30). The order is 1, 7, 8, then 9 and 10 over the front, 11, 12, 13, 14, 15, 16,
 -- 17, then 9 and 10 over the payload; in each part 9 is looked for through the whole part before 10.
 -- Definitions only. Assumes nothing.
+use Rattle.std.specs.Prelude.{Result, Ok, Err}
+use Rattle.rules_calls.specs.declared.Refusal.{Refusal}
 use Rattle.std.specs.Prelude.{ℕ, zero, suc, ◌+◌, ◌-◌, ◌*◌, ◌/◌, ◌%◌, Bool, cond, not, List, [], ◌∷◌, ◌++◌, map, length, get_or, take, drop, replicate, eqb, ltb}
 use Rattle.std.specs.Prelude.{Option, None, Some}
 use Rattle.rules_rates.specs.declared.Rate.{Rate}
@@ -23,10 +25,7 @@ use Rattle.rules_calls.specs.declared.Refusal.TheVariants.{
   OctetRoom,
 }
 use Rattle.rules_calls.specs.declared.Told.{Told}
-use Rattle.rules_calls.specs.declared.Front.{Front}
-use Rattle.rules_calls.specs.declared.Front.TheVariants as front
 use Rattle.rules_calls.specs.declared.Reading.{Reading}
-use Rattle.rules_calls.specs.declared.Reading.TheVariants as reading
 use Rattle.rules_calls.specs.Headers.{Accepted, ours, header_of}
 use Rattle.rules_reading.specs.Leads.{frame_leads, least_of}
 use Rattle.rules_frame.specs.Frame.{
@@ -109,15 +108,15 @@ unfoldable pub front_bits : Kind → List Taken → List ℕ
 front_bits k rec = descramble (start k) (front_heard k rec)
 
 -- 8, then 9 and 10 over the front, 11 to 15, for a reader that accepts these headers
-unfoldable pub front_by : Accepted → Kind → List Taken → Front
+unfoldable pub front_by : Accepted → Kind → List Taken → Result Told Refusal
 front_by accepted k rec =
-    cond (ltb (length rec) (front_chips k)) (front.Refused ShorterThanFront)
-    (or_else (first_unusable 0 (take (front_chips k) rec)) (λ place. front.Refused (Unusable place 0))
-    (or_else (front_odd k rec) (λ place. front.Refused (OddGrowth place 0))
+    cond (ltb (length rec) (front_chips k)) (Err ShorterThanFront)
+    (or_else (first_unusable 0 (take (front_chips k) rec)) (λ place. Err (Unusable place 0))
+    (or_else (front_odd k rec) (λ place. Err (OddGrowth place 0))
     (header_of accepted k (take 16 (drop (sync_bits k) (front_bits k rec))) (drop (preamble_length k) (front_bits k rec)))))
 
 -- and for our own readers
-abbrev pub front_of : Kind → List Taken → Front
+abbrev pub front_of : Kind → List Taken → Result Told Refusal
 front_of k rec = front_by ours k rec
 
 -- ---- the payload
@@ -136,43 +135,43 @@ payload_of k r n rec =
     (descramble (start k) (front_heard k rec ++ heard r 0 (payload_phase k rec) (payload_words k r n rec))))
 
 -- 16: the recording ends inside the payload that a front tells of
-abbrev pub whole_of : Kind → List Taken → Front → Front
-whole_of k rec (front.Refused e) = front.Refused e
-whole_of k rec (front.Fields t) =
-    cond (ltb (length rec) (frame_chips k t.rate t.n)) (front.Refused (Ends t.length)) (front.Fields t)
+abbrev pub whole_of : Kind → List Taken → Result Told Refusal → Result Told Refusal
+whole_of k rec (Err e) = Err e
+whole_of k rec (Ok t) =
+    cond (ltb (length rec) (frame_chips k t.rate t.n)) (Err (Ends t.length)) (Ok t)
 
 -- 17, then 9 and 10 over the payload; chips after the frame are not looked at. A good reading has the smallest lead
-unfoldable pub payload_reading : Kind → Told → List Taken → ℕ → Reading
+unfoldable pub payload_reading : Kind → Told → List Taken → ℕ → Result Reading Refusal
 payload_reading k t rec room =
     let all = frame_chips k t.rate t.n in
     let from = front_chips k in
-    cond (ltb room t.n) (reading.Refused (OctetRoom t.length))
-    (or_else (first_unusable from (take (all - from) (drop from rec))) (λ p. reading.Refused (Unusable p t.length))
-    (or_else (payload_odd k t.rate t.n rec) (λ p. reading.Refused (OddGrowth p t.length))
-    (reading.Good t all (least_of (frame_leads k t.rate t.n rec)))))
+    cond (ltb room t.n) (Err (OctetRoom t.length))
+    (or_else (first_unusable from (take (all - from) (drop from rec))) (λ p. Err (Unusable p t.length))
+    (or_else (payload_odd k t.rate t.n rec) (λ p. Err (OddGrowth p t.length))
+    (Ok (record { told = t; used = all; least = least_of (frame_leads k t.rate t.n rec) }))))
 
-abbrev pub after_front : Kind → List Taken → ℕ → Front → Reading
-after_front k rec room (front.Refused e) = reading.Refused e
-after_front k rec room (front.Fields t) = payload_reading k t rec room
+abbrev pub after_front : Kind → List Taken → ℕ → Result Told Refusal → Result Reading Refusal
+after_front k rec room (Err e) = Err e
+after_front k rec room (Ok t) = payload_reading k t rec room
 
 -- 8 to 17, and 9 and 10 over the payload: a recording of a kind, for a reader that accepts these headers, with room for
 -- so many octets
-abbrev pub reading_by : Accepted → Kind → List Taken → ℕ → Reading
+abbrev pub reading_by : Accepted → Kind → List Taken → ℕ → Result Reading Refusal
 reading_by accepted k rec room = after_front k rec room (whole_of k rec (front_by accepted k rec))
 
 -- ---- the whole
 
 -- from a kind as a number, whether the recorder's rows agree, the recording, and room for so many octets
-unfoldable pub reading_of : ℕ → Bool → List Taken → ℕ → Reading
+unfoldable pub reading_of : ℕ → Bool → List Taken → ℕ → Result Reading Refusal
 reading_of kind agree rec room =
-    cond (not (is_kind kind)) (reading.Refused NoKind)
-    (cond (not agree) (reading.Refused RowsDiffer)
+    cond (not (is_kind kind)) (Err NoKind)
+    (cond (not agree) (Err RowsDiffer)
     (reading_by ours (kind_of kind) rec room))
 
 -- octets past n are 0; after a refusal the octet buffer is zeros
-abbrev pub octets_after : Kind → List Taken → ℕ → Reading → List ℕ
-octets_after k rec room (reading.Refused e) = replicate room 0
-octets_after k rec room (reading.Good t used least) = payload_of k t.rate t.n rec ++ replicate (room - t.n) 0
+abbrev pub octets_after : Kind → List Taken → ℕ → Result Reading Refusal → List ℕ
+octets_after k rec room (Err e) = replicate room 0
+octets_after k rec room (Ok g) = payload_of k g.told.rate g.told.n rec ++ replicate (room - g.told.n) 0
 
 -- what a read leaves in the octet buffer
 unfoldable pub octets_found : ℕ → Bool → List Taken → ℕ → List ℕ

@@ -4,6 +4,7 @@
 --     room_yet, unusable_yet_lem, odd_yet_lem    17, and 9 and 10 of the payload once they are certain: zeros
 --     clean_within, clean_behind     else the octets whose chips have all come
 -- Assumes nothing.
+use Rattle.std.specs.Prelude.{Ok, Err}
 use mathlib.Core.Path.{◌≡◌, refl, sym, ap, ◌∙◌}
 use mathlib.Core.Bool.{Bool, true, false, cond, not}
 use mathlib.Core.List.{List, ◌++◌}
@@ -24,7 +25,6 @@ use Rattle.rules_frame.specs.Frame.{is_kind, kind_of, front_chips, frame_chips}
 use Rattle.rules_calls.specs.declared.Refusal.{Refusal}
 use Rattle.rules_calls.specs.declared.Refusal.TheVariants.{ShorterThanFront}
 use Rattle.rules_calls.specs.declared.Told.{Told}
-use Rattle.rules_calls.specs.declared.Front.TheVariants as front
 use Rattle.rules_reading.specs.Reading.{or_else, odd_growth, front_of, payload_odd, payload_of}
 use Rattle.rules_reading.proofs.Payloads.{found_unusable}
 use Rattle.rules_reading.proofs.Places.{payload_unusable_place, payload_odd_place, payload_odd_rate}
@@ -52,7 +52,7 @@ either : (b : Bool) (l : List ℕ) → cond (not b) l l ≡ l
 either true l = refl
 either false l = refl
 
-refused_yet : (kind room : ℕ) (rec : List Taken) (e : Refusal) → front_of (kind_of kind) rec ≡ front.Refused e
+refused_yet : (kind room : ℕ) (rec : List Taken) (e : Refusal) → front_of (kind_of kind) rec ≡ Err e
     → buffer_yet kind rec room ≡ zeros room
 unfolding buffer_yet
 refused_yet kind room rec e f = rw f (either (is_kind kind) (zeros room))
@@ -71,7 +71,7 @@ front_cut : (k : Kind) (c : ℕ) (rec : List Taken) → front_chips k ≤ length
     → front_of k (take c rec) ≡ front_of k rec
 front_cut k c rec h = sym (front_prefix k (take c rec) (drop c rec) h) ∙ ap (front_of k) (take-append-drop c rec)
 
-pub front_yet : (kind room c : ℕ) (rec : List Taken) (e : Refusal) → front_of (kind_of kind) rec ≡ front.Refused e
+pub front_yet : (kind room c : ℕ) (rec : List Taken) (e : Refusal) → front_of (kind_of kind) rec ≡ Err e
     → buffer_yet kind (take c rec) room ≡ zeros room
 front_yet kind room c rec e f = by (dec_lt (length (take c rec)) (front_chips (kind_of kind)))
   where
@@ -184,7 +184,7 @@ odd_ends k t rec p e =
 
 module _
     (kind room : ℕ) (rec : List Taken) (t : Told) (is : is_kind kind ≡ true)
-    (told : front_of (kind_of kind) rec ≡ front.Fields t)
+    (told : front_of (kind_of kind) rec ≡ Ok t)
     (long : frame_chips (kind_of kind) t.rate t.n ≤ length rec) where
   abbrev k : Kind
   k = kind_of kind

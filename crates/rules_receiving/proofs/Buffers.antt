@@ -3,6 +3,7 @@
 --     told_buffer                      so does a front that is whole, with nothing behind it
 --     stays_more                       a refusal that stays, whatever chips follow
 -- Assumes nothing.
+use Rattle.std.specs.Prelude.{Result, Ok, Err}
 use mathlib.Core.Path.{◌≡◌, refl, sym, ap, ◌∙◌}
 use mathlib.Core.Bool.{Bool, true, false, cond, not}
 use mathlib.Core.List.{List, [], ◌++◌}
@@ -24,8 +25,6 @@ use Rattle.rules_frame.specs.Frame.{is_kind, kind_of, front_chips, frame_chips}
 use Rattle.rules_calls.specs.declared.Refusal.{Refusal}
 use Rattle.rules_calls.specs.declared.Refusal.TheVariants.{ShorterThanFront}
 use Rattle.rules_calls.specs.declared.Told.{Told}
-use Rattle.rules_calls.specs.declared.Front.{Front}
-use Rattle.rules_calls.specs.declared.Front.TheVariants as front
 use Rattle.rules_reading.specs.Reading.{first_unusable, front_by, front_of, payload_of}
 use Rattle.rules_receiving.specs.declared.Progress.{Progress}
 use Rattle.rules_receiving.specs.Yet.{
@@ -47,12 +46,12 @@ either : (b : Bool) (l : List ℕ) → cond (not b) l l ≡ l
 either true l = refl
 either false l = refl
 
-pub refused_buffer : (kind room : ℕ) (rec : List Taken) (e : Refusal) → front_of (kind_of kind) rec ≡ front.Refused e
+pub refused_buffer : (kind room : ℕ) (rec : List Taken) (e : Refusal) → front_of (kind_of kind) rec ≡ Err e
     → buffer_yet kind rec room ≡ zeros room
 unfolding buffer_yet
 refused_buffer kind room rec e f = rw f (either (is_kind kind) (zeros room))
 
-short_front : (k : Kind) (rec : List Taken) → length rec < front_chips k → front_of k rec ≡ front.Refused ShorterThanFront
+short_front : (k : Kind) (rec : List Taken) → length rec < front_chips k → front_of k rec ≡ Err ShorterThanFront
 unfolding front_by
 short_front k rec h = rw (lt-ltb (length rec) (front_chips k) h)
 
@@ -110,9 +109,9 @@ told_buffer kind room fed h = opened ∙ by (front_of k rec)
     at : length rec ≡ front_chips k
     at = length_hard fed ∙ h
 
-    by : (f : Front) → cond (not (is_kind kind)) (zeros room) (after_front_yet k rec room f) ≡ zeros room
-    by (front.Refused e) = either (is_kind kind) (zeros room)
-    by (front.Fields t) =
+    by : (f : Result Told Refusal) → cond (not (is_kind kind)) (zeros room) (after_front_yet k rec room f) ≡ zeros room
+    by (Err e) = either (is_kind kind) (zeros room)
+    by (Ok t) =
         ap (cond (not (is_kind kind)) (zeros room))
         (ap (λ (x : List Taken). payload_yet k t x room)
         (take_all (frame_chips k t.rate t.n) rec (omega (arith, at)))

@@ -6,6 +6,7 @@
 --     going_takes, receives_takes     a receiver that was opened and fed takes a feed or a close
 --     close_shuts        after a close that was taken it takes nothing
 -- Assumes nothing.
+use Rattle.std.specs.Prelude.{Result, Ok, Err}
 use mathlib.Core.Path.{◌≡◌, refl, sym, ap, subst, ◌∙◌}
 use mathlib.Core.Bool.{Bool, true, false, cond, not}
 use mathlib.Core.List.{List, []}
@@ -26,8 +27,6 @@ use Rattle.rules_calls.specs.declared.Record.{Record}
 use Rattle.rules_calls.specs.declared.Refusal.{Refusal}
 use Rattle.rules_calls.specs.declared.Refusal.TheVariants.{ShorterThanFront}
 use Rattle.rules_calls.specs.declared.Told.{Told}
-use Rattle.rules_calls.specs.declared.Front.{Front}
-use Rattle.rules_calls.specs.declared.Front.TheVariants as front
 use Rattle.rules_calls.specs.Answers.{refusal_number}
 use Rattle.rules_reading.specs.Reading.{first_unusable, first_odd, decided_words, front_by, front_of}
 use Rattle.rules_reading.proofs.Refusals.{
@@ -82,7 +81,7 @@ some_front : (k : Kind) → 0 < front_chips k
 some_front Long = omega arith
 some_front Short = omega arith
 
-empty_front : (k : Kind) → front_of k (hard_recording []) ≡ front.Refused ShorterThanFront
+empty_front : (k : Kind) → front_of k (hard_recording []) ≡ Err ShorterThanFront
 unfolding front_by hard_recording
 empty_front Long = refl
 empty_front Short = refl
@@ -151,7 +150,7 @@ rate_back Two = refl
 rate_back Five = refl
 rate_back Eleven = refl
 
-telling_of : (k : Kind) (t : Told) (f : Front) → f ≡ front.Fields t → TellingIf k f → Telling k t
+telling_of : (k : Kind) (t : Told) (f : Result Told Refusal) → f ≡ Ok t → TellingIf k f → Telling k t
 telling_of k t f e h = subst (TellingIf k) e h
 
 pub comes_few : (k : Kind) (t : Told) (fed : List ℕ) (p : Progress) (hold buf : List ℕ)
@@ -181,7 +180,7 @@ payload_sound kind t fed p hold buf k i c = record {
     all_is = rw (k, c.tells.rate_is, c.tells.n_is, rate_back t.rate)
 
 pub whole_front_number : (k : Kind) (rec : List Taken) (e : Refusal) → front_chips k ≤ length rec
-    → front_of k rec ≡ front.Refused e → (9 ≤ refusal_number e) × (refusal_number e ≤ 15)
+    → front_of k rec ≡ Err e → (9 ≤ refusal_number e) × (refusal_number e ≤ 15)
 whole_front_number k rec e long f = by (subst (FrontIf k rec) f (front_refuses k rec))
   where
     by : {e : Refusal} → FrontRefusal k rec e → (9 ≤ refusal_number e) × (refusal_number e ≤ 15)
@@ -195,7 +194,7 @@ whole_front_number k rec e long f = by (subst (FrontIf k rec) f (front_refuses k
     by (no_length s a b d) = (omega arith, omega arith)
 
 stays_sound : (kind : ℕ) (fed : List ℕ) (p : Progress) (e : Refusal) → p.kind ≡ kind → is_kind kind ≡ true
-    → front_chips (kind_of kind) ≤ length fed → front_of (kind_of kind) (hard_recording fed) ≡ front.Refused e → Stays e p
+    → front_chips (kind_of kind) ≤ length fed → front_of (kind_of kind) (hard_recording fed) ≡ Err e → Stays e p
     → RefusedSound p
 stays_sound kind fed p e k i long f h =
     let n = whole_front_number (kind_of kind) (hard_recording fed) e (omega (arith, length_hard fed, long)) f in

@@ -4,6 +4,7 @@
 --     octets_good                                   what a good reading leaves in the buffer
 --     yet_is                                        the buffer until close, once the front told
 -- Assumes nothing.
+use Rattle.std.specs.Prelude.{Result, Ok, Err}
 use mathlib.Core.Path.{◌≡◌, sym, ap, ap₂, subst, ◌∙◌}
 use mathlib.Core.Bool.{true, false}
 use mathlib.Core.List.{List, ◌++◌}
@@ -32,10 +33,7 @@ use Rattle.rules_calls.specs.declared.Refusal.TheVariants.{
   OctetRoom,
 }
 use Rattle.rules_calls.specs.declared.Told.{Told}
-use Rattle.rules_calls.specs.declared.Front.{Front}
-use Rattle.rules_calls.specs.declared.Front.TheVariants as front
 use Rattle.rules_calls.specs.declared.Reading.{Reading}
-use Rattle.rules_calls.specs.declared.Reading.TheVariants as reading
 use Rattle.rules_reading.specs.Leads.{frame_leads, least_of}
 use Rattle.rules_reading.specs.Reading.{
   first_unusable,
@@ -76,17 +74,17 @@ use Rattle.rules_receiving.proofs.Payload.{
 }
 
 -- the reading of hard chips
-abbrev pub read_all : ℕ → List ℕ → ℕ → Reading
+abbrev pub read_all : ℕ → List ℕ → ℕ → Result Reading Refusal
 read_all kind fed room = reading_of kind true (hard_recording fed) room
 
 -- a refusal leaves zeros
-pub zeros_found : (kind room : ℕ) (fed : List ℕ) (e : Refusal) → read_all kind fed room ≡ reading.Refused e
+pub zeros_found : (kind room : ℕ) (fed : List ℕ) (e : Refusal) → read_all kind fed room ≡ Err e
     → octets_found kind true (hard_recording fed) room ≡ zeros room
 unfolding octets_found
 zeros_found kind room fed e h = ap (octets_after (kind_of kind) (hard_recording fed) room) h
 
 pub reads_no_kind : (kind room : ℕ) (fed : List ℕ) → is_kind kind ≡ false
-    → read_all kind fed room ≡ reading.Refused NoKind
+    → read_all kind fed room ≡ Err NoKind
 unfolding reading_of
 reads_no_kind kind room fed e = rw e
 
@@ -98,19 +96,19 @@ unfolding reading_of
 by_front kind room fed e = rw e
 
 pub reads_refused : (kind room : ℕ) (fed : List ℕ) (e : Refusal) → is_kind kind ≡ true
-    → front_of (kind_of kind) (hard_recording fed) ≡ front.Refused e → read_all kind fed room ≡ reading.Refused e
+    → front_of (kind_of kind) (hard_recording fed) ≡ Err e → read_all kind fed room ≡ Err e
 reads_refused kind room fed e h f =
     by_front kind room fed h
-    ∙ ap (λ (x : Front). after_front (kind_of kind) (hard_recording fed) room
+    ∙ ap (λ (x : Result Told Refusal). after_front (kind_of kind) (hard_recording fed) room
     (whole_of (kind_of kind) (hard_recording fed) x)) f
 
 pub short_front : (k : Kind) (rec : List Taken) → length rec < front_chips k
-    → front_of k rec ≡ front.Refused ShorterThanFront
+    → front_of k rec ≡ Err ShorterThanFront
 unfolding front_by
 short_front k rec h = rw (lt-ltb (length rec) (front_chips k) h)
 
 pub reads_short : (kind room : ℕ) (fed : List ℕ) → is_kind kind ≡ true → length fed < front_chips (kind_of kind)
-    → read_all kind fed room ≡ reading.Refused ShorterThanFront
+    → read_all kind fed room ≡ Err ShorterThanFront
 reads_short kind room fed h l =
     reads_refused kind room fed ShorterThanFront h
     (short_front (kind_of kind) (hard_recording fed) (omega (arith, length_hard fed)))
@@ -153,8 +151,8 @@ module _
   from_cut : front_chips k ≤ length cut
   from_cut = omega (arith, c.from, length_hard (take all fed))
 
-  told_all : front_of k rec ≡ front.Fields t
-  told_all = subst (λ (x : List Taken). front_of k x ≡ front.Fields t) apart
+  told_all : front_of k rec ≡ Ok t
+  told_all = subst (λ (x : List Taken). front_of k x ≡ Ok t) apart
       (front_prefix k cut (drop all rec) from_cut ∙ c.told)
 
   -- the buffer until close is by the chips of the frame
@@ -167,18 +165,18 @@ module _
       opened : buffer_yet kind rec room ≡ after_front_yet k rec room (front_of k rec)
       opened = unfold buffer_yet in rw is
 
-  ends_whole : length rec < all → whole_of k rec (front.Fields t) ≡ front.Refused (Ends t.length)
+  ends_whole : length rec < all → whole_of k rec (Ok t) ≡ Err (Ends t.length)
   ends_whole h = rw (lt-ltb (length rec) all h)
 
-  there_whole : all ≤ length rec → whole_of k rec (front.Fields t) ≡ front.Fields t
+  there_whole : all ≤ length rec → whole_of k rec (Ok t) ≡ Ok t
   there_whole h = rw (le-ltb (length rec) all h)
 
   -- 16: too few chips were counted
-  pub reads_ends : p.count < all → read_all kind fed room ≡ reading.Refused (Ends t.length)
+  pub reads_ends : p.count < all → read_all kind fed room ≡ Err (Ends t.length)
   reads_ends h =
       let few : length rec < all = few_chips (lt c.count_is h) in
       by_front kind room fed is
-      ∙ ap (λ (x : Front). after_front k rec room (whole_of k rec x)) told_all
+      ∙ ap (λ (x : Result Told Refusal). after_front k rec room (whole_of k rec x)) told_all
       ∙ ap (after_front k rec room) (ends_whole few)
     where
       lt : {a b d : ℕ} → a ≡ b → a < d → b < d
@@ -197,7 +195,7 @@ module _
     by_payload : read_all kind fed room ≡ payload_reading k t rec room
     by_payload =
         by_front kind room fed is
-        ∙ ap (λ (x : Front). after_front k rec room (whole_of k rec x)) told_all
+        ∙ ap (λ (x : Result Told Refusal). after_front k rec room (whole_of k rec x)) told_all
         ∙ ap (after_front k rec room) (there_whole (omega (arith, long, length_hard fed)))
 
     found_is : found_unusable k t rec ≡ unusable_yet k cut
@@ -240,23 +238,23 @@ module _
             (payload_words_prefix k r t.n cut (drop all rec) there)
             ∙ last
 
-    pub reads_room : room < t.n → read_all kind fed room ≡ reading.Refused (OctetRoom t.length)
+    pub reads_room : room < t.n → read_all kind fed room ≡ Err (OctetRoom t.length)
     reads_room h = by_payload ∙ room_refused k t rec room h
 
     pub reads_unusable : (at : ℕ) → t.n ≤ room → unusable_yet k cut ≡ Some at
-        → read_all kind fed room ≡ reading.Refused (Unusable at t.length)
+        → read_all kind fed room ≡ Err (Unusable at t.length)
     reads_unusable at h e = by_payload ∙ unusable_refused k t rec room at h (found_is ∙ e)
 
     pub reads_odd : (at : ℕ) → t.n ≤ room → unusable_yet k cut ≡ None → odd_yet k r cut ≡ Some at
-        → read_all kind fed room ≡ reading.Refused (OddGrowth at t.length)
+        → read_all kind fed room ≡ Err (OddGrowth at t.length)
     reads_odd at h e o = by_payload ∙ odd_refused k t rec room at h (found_is ∙ e) (odd_is ∙ o)
 
     pub reads_good : t.n ≤ room → unusable_yet k cut ≡ None → odd_yet k r cut ≡ None
-        → read_all kind fed room ≡ reading.Good t all (least_of (frame_leads k r (whole_octets r (front_chips k) cut) cut))
+        → read_all kind fed room ≡ Ok (record { told = t; used = all; least = (least_of (frame_leads k r (whole_octets r (front_chips k) cut) cut)) })
     reads_good h e o =
         by_payload
         ∙ payload_good k t rec room h (found_is ∙ e) (odd_is ∙ o)
-        ∙ ap (λ (x : List ℕ). reading.Good t all (least_of x))
+        ∙ ap (λ (x : List ℕ). Ok (record { told = t; used = all; least = least_of x }))
         (subst (λ (x : List Taken). frame_leads k r t.n x ≡ frame_leads k r t.n cut) apart
         (frame_leads_prefix k r t.n cut (drop all rec) there)
         ∙ ap (λ (m : ℕ). frame_leads k r m cut) (sym octets_are))
@@ -272,6 +270,6 @@ module _
         (sym octets_are)
       where
         found : read_all kind fed room
-            ≡ reading.Good t all (least_of (frame_leads k r (whole_octets r (front_chips k) cut) cut))
+            ≡ Ok (record { told = t; used = all; least = (least_of (frame_leads k r (whole_octets r (front_chips k) cut) cut)) })
             → octets_found kind true rec room ≡ payload_of k r t.n rec ++ replicate (room - t.n) 0
         found e = unfold octets_found in ap (octets_after k rec room) e

@@ -3,6 +3,7 @@
 --     Matches                  a receiver's numbers and what the front told
 --     payload_next, payload_past     what was received, with such a piece more
 -- Assumes nothing.
+use Rattle.std.specs.Prelude.{Ok}
 use mathlib.Core.Path.{◌≡◌, refl, sym, ap, ap₂, subst, ◌∙◌}
 use mathlib.Core.Bool.{true}
 use mathlib.Core.List.{List, [], ◌∷◌, ◌++◌, append-nil}
@@ -18,7 +19,6 @@ use Rattle.rules_chips.proofs.Recorders.{length_hard, take_hard}
 use Rattle.rules_frame.specs.declared.Kind.{Kind}
 use Rattle.rules_frame.specs.Frame.{is_kind, kind_of, frame_chips}
 use Rattle.rules_calls.specs.declared.Told.{Told}
-use Rattle.rules_calls.specs.declared.Front.TheVariants as front
 use Rattle.rules_reading.specs.Reading.{front_of}
 use Rattle.rules_receiving.specs.declared.Progress.{Progress}
 use Rattle.rules_receiving.specs.Yet.{payload_yet, after_front_yet, buffer_yet}
@@ -76,9 +76,9 @@ module _
   apart : cut ++ drop all rec ≡ rec
   apart = ap (λ (x : List Taken). x ++ drop all rec) (sym (take_hard all fed)) ∙ take-append-drop all rec
 
-  told_all : front_of k rec ≡ front.Fields t
+  told_all : front_of k rec ≡ Ok t
   told_all =
-      subst (λ (x : List Taken). front_of k x ≡ front.Fields t) apart
+      subst (λ (x : List Taken). front_of k x ≡ Ok t) apart
       (front_prefix k cut (drop all rec) (omega (arith, c.from, length_hard (take all fed))) ∙ c.told)
 
   yet_is : buffer_yet kind rec room ≡ payload_yet k t cut room

@@ -6,6 +6,7 @@
 --     told_unusable, told_odd, told_usable    what a front of so many chips tells
 --     payload_starts    a payload of which nothing has come
 -- Assumes nothing.
+use Rattle.std.specs.Prelude.{Err}
 use mathlib.Core.Path.{◌≡◌, refl, sym, ap, ap₂, ◌∙◌}
 use mathlib.Core.List.{List, ◌++◌, append-nil}
 use Rattle.std.specs.Prelude.{Option, None, Some}
@@ -36,7 +37,6 @@ use Rattle.rules_frame.specs.Frame.{
   preamble_chips,
 }
 use Rattle.rules_calls.specs.declared.Refusal.TheVariants.{Unusable, OddGrowth}
-use Rattle.rules_calls.specs.declared.Front.TheVariants as front
 use Rattle.rules_calls.specs.declared.Least.{Least}
 use Rattle.rules_calls.specs.Headers.{ours, header_of}
 use Rattle.rules_reading.specs.Leads.{lead_at, decided_leads, front_leads, least_from, least_of}
@@ -125,14 +125,14 @@ module _ (k : Kind) (rec : List Taken) (at : length rec ≡ front_chips k) where
   -- ---- what it tells
 
   pub told_unusable : (place : ℕ) → first_unusable 0 rec ≡ Some place
-      → front_of k rec ≡ front.Refused (Unusable place 0)
+      → front_of k rec ≡ Err (Unusable place 0)
   unfolding front_by
   told_unusable place e =
       rw (le-ltb (length rec) (front_chips k) (omega (arith, at)), take_all (front_chips k) rec (omega (arith, at)), e)
 
   module _ (usable : first_unusable 0 rec ≡ None) where
     pub told_odd : (place : ℕ) → front_odd_yet k rec ≡ Some place
-        → front_of k rec ≡ front.Refused (OddGrowth place 0)
+        → front_of k rec ≡ Err (OddGrowth place 0)
     unfolding front_by
     told_odd place e =
         rw (
@@ -144,7 +144,7 @@ module _ (k : Kind) (rec : List Taken) (at : length rec ≡ front_chips k) where
         )
 
     pub told_usable : front_of k rec
-        ≡ or_else (front_odd k rec) (λ place. front.Refused (OddGrowth place 0))
+        ≡ or_else (front_odd k rec) (λ place. Err (OddGrowth place 0))
         (header_of ours k (take 16 (drop (sync_bits k) (front_bits k rec))) (drop (preamble_length k) (front_bits k rec)))
     unfolding front_by
     told_usable =

@@ -2,6 +2,7 @@
 --     hard_comes     each outcome, by the definition's tests
 --     told_length    a front that told has a LENGTH of 1 and more
 -- Assumes nothing.
+use Rattle.std.specs.Prelude.{Result, Ok, Err}
 use mathlib.Core.Path.{◌≡◌, refl, sym, subst}
 use mathlib.Core.Bool.{Bool, true, false, cond, not}
 use mathlib.Core.List.{List}
@@ -19,10 +20,7 @@ use Rattle.rules_frame.specs.Frame.{is_kind, kind_of, frame_chips}
 use Rattle.rules_calls.specs.declared.Refusal.{Refusal}
 use Rattle.rules_calls.specs.declared.Refusal.TheVariants.{NoKind, Unusable, OddGrowth, Ends, OctetRoom}
 use Rattle.rules_calls.specs.declared.Told.{Told}
-use Rattle.rules_calls.specs.declared.Front.{Front}
-use Rattle.rules_calls.specs.declared.Front.TheVariants as front
 use Rattle.rules_calls.specs.declared.Reading.{Reading}
-use Rattle.rules_calls.specs.declared.Reading.TheVariants as reading
 use Rattle.rules_reading.specs.Leads.{frame_leads, least_of}
 use Rattle.rules_reading.specs.Reading.{front_of, whole_of, payload_odd, payload_reading, after_front, reading_of}
 use Rattle.rules_reading.proofs.Payloads.{found_unusable}
@@ -31,40 +29,40 @@ use Rattle.rules_reading.proofs.Telling.{found_or_none, decided_by, Telling, Tel
 -- what the front told, of a frame that is whole
 pub record WholeFrame (kind : ℕ) (rec : List Taken) (t : Told) : Type 0 where
   pub is_kind_lem : is_kind kind ≡ true
-  pub told : front_of (kind_of kind) rec ≡ front.Fields t
+  pub told : front_of (kind_of kind) rec ≡ Ok t
   pub long : frame_chips (kind_of kind) t.rate t.n ≤ length rec
 
 module _ (kind : ℕ) (rec : List Taken) (room : ℕ) where
   abbrev k : Kind
   k = kind_of kind
 
-  pub data HardComes : Reading → Type 0 where
-    no_kind : is_kind kind ≡ false → HardComes (reading.Refused NoKind)
-    by_front : {e : Refusal} → front_of k rec ≡ front.Refused e → HardComes (reading.Refused e)
-    ends : (t : Told) → front_of k rec ≡ front.Fields t → HardComes (reading.Refused (Ends t.length))
-    no_room : (t : Told) → WholeFrame kind rec t → room < t.n → HardComes (reading.Refused (OctetRoom t.length))
+  pub data HardComes : Result Reading Refusal → Type 0 where
+    no_kind : is_kind kind ≡ false → HardComes (Err NoKind)
+    by_front : {e : Refusal} → front_of k rec ≡ Err e → HardComes (Err e)
+    ends : (t : Told) → front_of k rec ≡ Ok t → HardComes (Err (Ends t.length))
+    no_room : (t : Told) → WholeFrame kind rec t → room < t.n → HardComes (Err (OctetRoom t.length))
     unusable : (t : Told) → WholeFrame kind rec t → (p : ℕ) → found_unusable k t rec ≡ Some p
-        → HardComes (reading.Refused (Unusable p t.length))
+        → HardComes (Err (Unusable p t.length))
     odd : (t : Told) → WholeFrame kind rec t → (p : ℕ) → payload_odd k t.rate t.n rec ≡ Some p
-        → HardComes (reading.Refused (OddGrowth p t.length))
+        → HardComes (Err (OddGrowth p t.length))
     accepted : (t : Told) → WholeFrame kind rec t → t.n ≤ room → found_unusable k t rec ≡ None
         → payload_odd k t.rate t.n rec ≡ None
-        → HardComes (reading.Good t (frame_chips k t.rate t.n) (least_of (frame_leads k t.rate t.n rec)))
+        → HardComes (Ok (record { told = t; used = frame_chips k t.rate t.n; least = least_of (frame_leads k t.rate t.n rec) }))
 
   payload : (t : Told) → WholeFrame kind rec t → HardComes (payload_reading k t rec room)
   unfolding payload_reading
   payload t w =
       decided_by HardComes (ltb room t.n) _ _ (λ b. no_room t w (ltb-true _ _ b))
-      (λ a. found_or_none HardComes (found_unusable k t rec) (λ p. reading.Refused (Unusable p t.length)) _
+      (λ a. found_or_none HardComes (found_unusable k t rec) (λ p. Err (Unusable p t.length)) _
       (unusable t w)
       (λ u. found_or_none HardComes (payload_odd k t.rate t.n rec)
-      (λ p. reading.Refused (OddGrowth p t.length)) _ (odd t w) (accepted t w (ltb-false _ _ a) u)))
+      (λ p. Err (OddGrowth p t.length)) _ (odd t w) (accepted t w (ltb-false _ _ a) u)))
 
-  behind : is_kind kind ≡ true → (f : Front) → front_of k rec ≡ f → HardComes (after_front k rec room (whole_of k rec f))
-  behind i (front.Refused e) h = by_front h
-  behind i (front.Fields t) h =
-      decided_by (λ (f : Front). HardComes (after_front k rec room f))
-      (ltb (length rec) (frame_chips k t.rate t.n)) (front.Refused (Ends t.length)) (front.Fields t)
+  behind : is_kind kind ≡ true → (f : Result Told Refusal) → front_of k rec ≡ f → HardComes (after_front k rec room (whole_of k rec f))
+  behind i (Err e) h = by_front h
+  behind i (Ok t) h =
+      decided_by (λ (f : Result Told Refusal). HardComes (after_front k rec room f))
+      (ltb (length rec) (frame_chips k t.rate t.n)) (Err (Ends t.length)) (Ok t)
       (λ b. ends t h)
       (λ a. payload t (record { is_kind_lem = i; told = h; long = ltb-false _ _ a }))
 
@@ -73,11 +71,11 @@ module _ (kind : ℕ) (rec : List Taken) (room : ℕ) where
   hard_comes = by (is_kind kind) refl
     where
       by : (b : Bool) → is_kind kind ≡ b
-          → HardComes (cond (not b) (reading.Refused NoKind) (after_front k rec room (whole_of k rec (front_of k rec))))
+          → HardComes (cond (not b) (Err NoKind) (after_front k rec room (whole_of k rec (front_of k rec))))
       by false e = no_kind e
       by true e = behind e (front_of k rec) refl
 
-pub told_length : (k : Kind) (rec : List Taken) (t : Told) → front_of k rec ≡ front.Fields t → 1 ≤ t.length
+pub told_length : (k : Kind) (rec : List Taken) (t : Told) → front_of k rec ≡ Ok t → 1 ≤ t.length
 told_length k rec t e =
     let h : Telling k t = subst (TellingIf k) e (front_telling k rec) in
     length_some (subst (LengthOf (code_of t.rate) t.n) (sym h.length_is) (length_is t.rate t.n))

@@ -4,6 +4,7 @@
 --     pass_room, pass_certain       a refusal is certain: only the count grows, and 9 is still looked for
 --     part_next                     none is certain: what the piece makes of the part
 -- Assumes nothing.
+use Rattle.std.specs.Prelude.{Ok}
 use mathlib.Core.Path.{◌≡◌, refl, sym, ap, ap₂, subst, ◌∙◌}
 use mathlib.Core.Bool.{Bool, true, false, cond}
 use mathlib.Core.List.{List, ◌++◌}
@@ -22,7 +23,6 @@ use Rattle.rules_bits.specs.Scrambler.{descramble}
 use Rattle.rules_frame.specs.declared.Kind.{Kind}
 use Rattle.rules_frame.specs.Frame.{start, front_chips, frame_chips}
 use Rattle.rules_calls.specs.declared.Told.{Told}
-use Rattle.rules_calls.specs.declared.Front.TheVariants as front
 use Rattle.rules_reading.specs.Leads.{least_of}
 use Rattle.rules_reading.specs.Reading.{or_else, first_unusable, front_of, payload_words, payload_of}
 use Rattle.rules_reading.proofs.Decoding.{front_length}
@@ -124,7 +124,7 @@ module _
   counted : u.count ≡ length (fed ++ piece)
   counted = x.count_is ∙ ap (λ (i : ℕ). i + length piece) w.comes.count_is ∙ sym long
 
-  told_on : front_of k all ≡ front.Fields t
+  told_on : front_of k all ≡ Ok t
   told_on = ap (front_of k) (append_hard fed piece) ∙ front_prefix k rec more whole ∙ w.comes.told
 
   tells_on : Tells t u

@@ -2,6 +2,7 @@
 --     tell_short, tell_stays, tell_ends, tell_room, tell_unusable, tell_odd, tell_good
 --     good_record     the record of a good reading, from the numbers
 -- Assumes nothing.
+use Rattle.std.specs.Prelude.{Ok, Err}
 use mathlib.Core.Path.{◌≡◌, refl, sym, ap, ap₂, subst, ◌∙◌}
 use mathlib.Core.Bool.{true}
 use mathlib.Core.List.{List}
@@ -19,7 +20,6 @@ use Rattle.rules_calls.specs.declared.Least.{Least}
 use Rattle.rules_calls.specs.declared.Refusal.{Refusal}
 use Rattle.rules_calls.specs.declared.Refusal.TheVariants.{ShorterThanFront, Unusable, OddGrowth, Ends, OctetRoom}
 use Rattle.rules_calls.specs.declared.Told.{Told}
-use Rattle.rules_calls.specs.declared.Reading.TheVariants as reading
 use Rattle.rules_calls.specs.Answers.{record_of}
 use Rattle.rules_reading.specs.Leads.{lead_at}
 use Rattle.rules_reading.proofs.Leads.{frame_least}
@@ -62,11 +62,11 @@ use Rattle.rules_receiving.proofs.Close.{
   octets_good,
 }
 
-refuses : (kind room : ℕ) (fed : List ℕ) (e : Refusal) → read_all kind fed room ≡ reading.Refused e
-    → ReadsAll kind room fed (record_of (reading.Refused e)) (zeros room)
+refuses : (kind room : ℕ) (fed : List ℕ) (e : Refusal) → read_all kind fed room ≡ Err e
+    → ReadsAll kind room fed (record_of (Err e)) (zeros room)
 refuses kind room fed e h = (ap record_of (sym h), sym (zeros_found kind room fed e h))
 
-stays_record : (e : Refusal) (p : Progress) → Stays e p → kept_record p ≡ record_of (reading.Refused e)
+stays_record : (e : Refusal) (p : Progress) → Stays e p → kept_record p ≡ record_of (Err e)
 stays_record e p h = λ i. record {
   number = h.number_is i;
   place = h.place_is i;
@@ -111,7 +111,7 @@ good_record p all =
 
 good_record_lem : (t : Told) (p : Progress) (all all' : ℕ) (least : Least) → Tells t p
     → all ≡ all' → lead_at p.ear.lead p.ear.symbol ≡ least
-    → good_record p all ≡ record_of (reading.Good t all' least)
+    → good_record p all ≡ record_of (Ok (record { told = t; used = all'; least = least }))
 good_record_lem t p all all' least c e f = λ i. record {
   number = 0;
   place = 0;
@@ -143,7 +143,7 @@ module _ (kind room : ℕ) (fed : List ℕ) (p : Progress) (hold preamble header
   by_told (payload_comes i e t c) st f = f t i c
 
   pub tell_short : Holds → p.status ≡ 1
-      → ReadsAll kind room fed (record_of (reading.Refused ShorterThanFront)) (zeros room)
+      → ReadsAll kind room fed (record_of (Err ShorterThanFront)) (zeros room)
   tell_short (no_kind i e h) st = absurd (omega (arith, e, st))
   tell_short (front_comes i e l h) st = refuses kind room fed ShorterThanFront (reads_short kind room fed i l)
   tell_short (refused i e r l g h) st = absurd (omega (arith, e, st))
@@ -165,7 +165,7 @@ module _ (kind room : ℕ) (fed : List ℕ) (p : Progress) (hold preamble header
         ∙ ap (frame_chips (kind_of kind) t.rate) c.tells.n_is
 
     pub tell_ends : p.count < all_of p
-        → ReadsAll kind room fed (record_of (reading.Refused (Ends p.length))) (zeros room)
+        → ReadsAll kind room fed (record_of (Err (Ends p.length))) (zeros room)
     tell_ends h = by_told x st (λ t i c. rw c.tells.length_is
         (refuses kind room fed (Ends t.length)
         (reads_ends kind room fed t p hold buf i c (subst (λ (a : ℕ). p.count < a) (all_is t c) h))))
@@ -175,13 +175,13 @@ module _ (kind room : ℕ) (fed : List ℕ) (p : Progress) (hold preamble header
       there t c = subst (λ (a : ℕ). a ≤ p.count) (all_is t c) enough
 
       pub tell_room : p.room < p.n
-          → ReadsAll kind room fed (record_of (reading.Refused (OctetRoom p.length))) (zeros room)
+          → ReadsAll kind room fed (record_of (Err (OctetRoom p.length))) (zeros room)
       tell_room h = by_told x st (λ t i c. rw c.tells.length_is
           (refuses kind room fed (OctetRoom t.length)
           (reads_room kind room fed t p hold buf i c (there t c) (omega (arith, h, room-is, c.tells.n_is)))))
 
       pub tell_unusable : p.n ≤ p.room → (p.bad ≡ 0 → ⊥)
-          → ReadsAll kind room fed (record_of (reading.Refused (Unusable (p.bad - 1) p.length))) (zeros room)
+          → ReadsAll kind room fed (record_of (Err (Unusable (p.bad - 1) p.length))) (zeros room)
       tell_unusable h b = by_told x st (λ t i c.
           let fits : t.n ≤ p.room = omega (arith, h, c.tells.n_is) in
           rw c.tells.length_is
@@ -190,7 +190,7 @@ module _ (kind room : ℕ) (fed : List ℕ) (p : Progress) (hold preamble header
           (place_some _ p.bad (c.bad_is fits) b))))
 
       pub tell_odd : p.n ≤ p.room → p.bad ≡ 0 → (p.odd ≡ 0 → ⊥)
-          → ReadsAll kind room fed (record_of (reading.Refused (OddGrowth (p.odd - 1) p.length))) (zeros room)
+          → ReadsAll kind room fed (record_of (Err (OddGrowth (p.odd - 1) p.length))) (zeros room)
       tell_odd h b o = by_told x st (λ t i c.
           let fits : t.n ≤ p.room = omega (arith, h, c.tells.n_is) in
           let usable = place_none _ p.bad (c.bad_is fits) b in

@@ -1,6 +1,7 @@
 -- What a receiver and the octet buffer are once so many chips have been fed.
 -- Definitions only. Assumes nothing.
 -- working notion: of the calls of a receiver; the promises are of the calls one after the other
+use Rattle.std.specs.Prelude.{Ok, Err}
 use Rattle.std.specs.Prelude.{◌≡◌, true, false, List, ℕ, suc, ◌≤◌, ◌<◌, length, take}
 use Rattle.std.specs.Prelude.{Option, None, Some}
 use Rattle.rules_rates.specs.Rates.{code_of}
@@ -13,7 +14,6 @@ use Rattle.rules_frame.specs.Frame.{is_kind, kind_of, start, front_chips, preamb
 use Rattle.rules_calls.specs.declared.Refusal.{Refusal}
 use Rattle.rules_calls.specs.declared.Refusal.TheVariants.{NoKind}
 use Rattle.rules_calls.specs.declared.Told.{Told}
-use Rattle.rules_calls.specs.declared.Front.TheVariants as front
 use Rattle.rules_calls.specs.Answers.{refusal_number, refusal_place, refusal_length}
 use Rattle.rules_reading.specs.Reading.{or_else, first_unusable, front_of}
 use Rattle.rules_receiving.specs.declared.Ear.{Ear}
@@ -85,7 +85,7 @@ pub record Tells (t : Told) (p : Progress) : Type 0 where
 -- `fed` are chips of the frame. Where 17 is certain, none of the payload's is looked at
 pub record PayloadComes (k : Kind) (t : Told) (fed : List ℕ) (p : Progress) (hold buf : List ℕ) : Type 0 where
   pub tells : Tells t p
-  pub told : front_of k (hard_recording fed) ≡ front.Fields t
+  pub told : front_of k (hard_recording fed) ≡ Ok t
   pub from : front_chips k ≤ length fed
   pub to : length fed ≤ frame_chips k t.rate t.n
   pub count_is : p.count ≡ length fed
@@ -104,7 +104,7 @@ pub data Held (kind : ℕ) (fed : List ℕ) (p : Progress) (hold preamble header
       → FrontTo (kind_of kind) fed p hold preamble header
       → Held kind fed p hold preamble header buf
   refused : is_kind kind ≡ true → p.status ≡ 3 → (e : Refusal)
-      → front_chips (kind_of kind) ≤ length fed → front_of (kind_of kind) (hard_recording fed) ≡ front.Refused e → Stays e p
+      → front_chips (kind_of kind) ≤ length fed → front_of (kind_of kind) (hard_recording fed) ≡ Err e → Stays e p
       → Held kind fed p hold preamble header buf
   payload_comes : is_kind kind ≡ true → p.status ≡ 2 → (t : Told)
       → PayloadComes (kind_of kind) t (take (frame_chips (kind_of kind) t.rate t.n) fed) p hold buf

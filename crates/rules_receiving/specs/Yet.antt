@@ -1,6 +1,8 @@
 -- Reading as the chips arrive: what the octet buffer holds until close, over the list of all chips fed so far and in
 -- the words of a whole reading (RULES 6.31).
 -- Definitions only. Assumes nothing.
+use Rattle.std.specs.Prelude.{Result, Ok, Err}
+use Rattle.rules_calls.specs.declared.Refusal.{Refusal}
 use Rattle.std.specs.Prelude.{cond, not, List, ◌++◌, ℕ, ◌-◌, ◌/◌, ltb, length, take, drop, replicate}
 use Rattle.std.specs.Prelude.{Option}
 use Rattle.rules_rates.specs.declared.Rate.{Rate}
@@ -10,8 +12,6 @@ use Rattle.rules_bits.specs.Growths.{growths_of}
 use Rattle.rules_frame.specs.declared.Kind.{Kind}
 use Rattle.rules_frame.specs.Frame.{is_kind, kind_of, front_chips, frame_chips}
 use Rattle.rules_calls.specs.declared.Told.{Told}
-use Rattle.rules_calls.specs.declared.Front.{Front}
-use Rattle.rules_calls.specs.declared.Front.TheVariants as front
 use Rattle.rules_reading.specs.Reading.{
   or_else,
   first_unusable,
@@ -59,9 +59,9 @@ payload_yet k t rec room =
     (or_else (odd_yet k t.rate rec) (λ place. zeros room) (octets_yet k t.rate rec room)))
 
 -- and so do 8 to 15, of which 8 may pass
-abbrev pub after_front_yet : Kind → List Taken → ℕ → Front → List ℕ
-after_front_yet k rec room (front.Refused e) = zeros room
-after_front_yet k rec room (front.Fields t) = payload_yet k t (of_frame k t rec) room
+abbrev pub after_front_yet : Kind → List Taken → ℕ → Result Told Refusal → List ℕ
+after_front_yet k rec room (Err e) = zeros room
+after_front_yet k rec room (Ok t) = payload_yet k t (of_frame k t rec) room
 
 -- from a kind as a number, all chips fed so far, and room for so many octets
 unfoldable pub buffer_yet : ℕ → List Taken → ℕ → List ℕ

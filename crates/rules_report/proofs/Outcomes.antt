@@ -1,5 +1,6 @@
 -- What a reading with room for 4,095 octets can come to: number 0 with a rate, at most 4,095 octets and a LENGTH of at
 -- most 32,760, or one of the refusals 1 and 8 to 16. Assumes nothing.
+use Rattle.std.specs.Prelude.{Result, Ok, Err}
 use mathlib.Core.Path.{◌≡◌, refl}
 use mathlib.Core.Bool.{not}
 use mathlib.Core.List.{List}
@@ -17,12 +18,9 @@ use Rattle.rules_frame.specs.Frame.{is_kind, kind_of}
 use Rattle.rules_calls.specs.declared.Refusal.TheVariants.{NoKind, Unusable, OddGrowth}
 use Rattle.rules_calls.specs.declared.Refusal.{Refusal}
 use Rattle.rules_calls.specs.declared.Told.{Told}
-use Rattle.rules_calls.specs.declared.Front.{Front}
-use Rattle.rules_calls.specs.declared.Front.TheVariants as front
 use Rattle.rules_calls.specs.declared.Least.{Least}
 use Rattle.rules_calls.specs.declared.Record.{Record}
 use Rattle.rules_calls.specs.declared.Reading.{Reading}
-use Rattle.rules_calls.specs.declared.Reading.TheVariants.{Refused, Good}
 use Rattle.rules_calls.specs.Answers.{refusal_number, record_of}
 use Rattle.rules_reading.specs.Reading.{front_of, whole_of, payload_odd, payload_reading, after_front, reading_of}
 use Rattle.rules_reading.proofs.Payloads.{found_unusable}
@@ -48,7 +46,7 @@ pub record Fair (a : Record) : Type 0 where
   pub least : 2 ≤ a.number → 8 ≤ a.number
 
 refused : (e : Refusal) → 1 ≤ refusal_number e → refusal_number e ≤ 16 → (2 ≤ refusal_number e → 8 ≤ refusal_number e)
-    → Fair (record_of (Refused e))
+    → Fair (record_of (Err e))
 refused e low high from-8 = record {
   rate = One;
   rate_is = λ z. absurd (none z);
@@ -62,10 +60,10 @@ refused e low high from-8 = record {
     none : refusal_number e ≡ 0 → ⊥
     none z = omega arith
 
-abbrev Fairly : Reading → Type 0
+abbrev Fairly : Result Reading Refusal → Type 0
 Fairly g = Fair (record_of g)
 
-good : (k : Kind) (t : Told) (used : ℕ) (least : Least) → Telling k t → Fairly (Good t used least)
+good : (k : Kind) (t : Told) (used : ℕ) (least : Least) → Telling k t → Fairly (Ok (record { told = t; used = used; least = least }))
 good k t used least h = record {
   rate = t.rate;
   rate_is = λ z. refl;
@@ -84,15 +82,15 @@ payload : (k : Kind) (t : Told) (rec : List Taken) → Telling k t → Fairly (p
 unfolding payload_reading
 payload k t rec h =
     rw (le-ltb 4095 t.n h.few)
-    (searched Fairly (found_unusable k t rec) (λ p. Refused (Unusable p t.length)) _
+    (searched Fairly (found_unusable k t rec) (λ p. Err (Unusable p t.length)) _
     (λ p e. refused (Unusable p t.length) (lit≤ tt) (lit≤ tt) (λ z. lit≤ tt))
-    (searched Fairly (payload_odd k t.rate t.n rec) (λ p. Refused (OddGrowth p t.length)) _
+    (searched Fairly (payload_odd k t.rate t.n rec) (λ p. Err (OddGrowth p t.length)) _
     (λ p e. refused (OddGrowth p t.length) (lit≤ tt) (lit≤ tt) (λ z. lit≤ tt)) (good k t _ _ h)))
 
-front_fair : (k : Kind) (rec : List Taken) (f : Front) → TellingWholeIf k rec f → RefusesIf k rec f
+front_fair : (k : Kind) (rec : List Taken) (f : Result Told Refusal) → TellingWholeIf k rec f → RefusesIf k rec f
     → Fairly (after_front k rec 4095 f)
-front_fair k rec (front.Refused e) h n = let b = whole_number n in refused e (omega (arith, b.0)) b.1 (λ z. b.0)
-front_fair k rec (front.Fields t) h n = payload k t rec h.telling
+front_fair k rec (Err e) h n = let b = whole_number n in refused e (omega (arith, b.0)) b.1 (λ z. b.0)
+front_fair k rec (Ok t) h n = payload k t rec h.telling
 
 -- whatever the kind and the chips
 -- promise: A reading with room for 4,095 octets: number 0 with a rate, at most 4,095 octets and a LENGTH of at most

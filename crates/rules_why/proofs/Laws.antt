@@ -6,6 +6,7 @@
 --     why_number, why_place              number and place are those of the reading with the same room
 --     reason_good                        and a good one shows four zeros
 -- By the laws of the reading's own fields and places. Assumes nothing.
+use Rattle.std.specs.Prelude.{Result, Ok, Err}
 use mathlib.Core.Path.{◌≡◌, refl, sym, ap, ◌∙◌, subst}
 use mathlib.Core.Bool.{Bool, true, false, not}
 use mathlib.Core.List.{List}
@@ -48,7 +49,6 @@ use Rattle.rules_calls.specs.declared.Refusal.TheVariants.{
 use Rattle.rules_calls.specs.declared.Told.{Told}
 use Rattle.rules_calls.specs.declared.Least.{Least}
 use Rattle.rules_calls.specs.declared.Reading.{Reading}
-use Rattle.rules_calls.specs.declared.Reading.TheVariants.{Refused, Good}
 use Rattle.rules_calls.specs.Answers.{record_of}
 use Rattle.rules_reading.specs.Places.{word_from, UnusableFirst, FirstOddSymbol}
 use Rattle.rules_reading.specs.Decoded.{PlainBit, of_three, FieldAt}
@@ -209,20 +209,20 @@ module _ (kind : ℕ) (k : Kind) (chips : List ℕ) (rec : List Taken) (room : �
   shown_17 n l e = λ i. (nat_abs (e i), room)
 
   pub reason_good : (t : Told) (used : ℕ) (least : Least)
-      → reason_of kind k chips rec room (Good t used least) ≡ reason 0 0 0 0
+      → reason_of kind k chips rec room (Ok (record { told = t; used = used; least = least })) ≡ reason 0 0 0 0
   reason_good t used least = refl
 
-  reason_number : (g : Reading) → (reason_of kind k chips rec room g).number ≡ (record_of g).number
-  reason_number (Refused e) = refl
-  reason_number (Good t used least) = refl
+  reason_number : (g : Result Reading Refusal) → (reason_of kind k chips rec room g).number ≡ (record_of g).number
+  reason_number (Err e) = refl
+  reason_number (Ok g) = refl
 
-  reason_place : (g : Reading) → (reason_of kind k chips rec room g).place ≡ (record_of g).place
-  reason_place (Refused e) = refl
-  reason_place (Good t used least) = refl
+  reason_place : (g : Result Reading Refusal) → (reason_of kind k chips rec room g).place ≡ (record_of g).place
+  reason_place (Err e) = refl
+  reason_place (Ok g) = refl
 
 -- ---- the whole: number and place are those of the reading with the same room, for every room
 module _ (kind : ℕ) (chips : List ℕ) (room : ℕ) where
-  abbrev read : Reading
+  abbrev read : Result Reading Refusal
   read = reading_of kind true (hard_recording chips) room
 
   pub why_is : why_of kind chips room ≡ reason_of kind (kind_of kind) chips (hard_recording chips) room read

@@ -1,6 +1,7 @@
 -- Why a read of a hard recording is refused (RULES 6.22): its number, its place, what was expected and what was found.
 -- Each number that is shown is one that reading itself goes by.
 -- Definitions only. Assumes nothing.
+use Rattle.std.specs.Prelude.{Result, Ok, Err}
 use Rattle.std.specs.Prelude.{ℕ, ◌-◌, ◌*◌, ◌/◌, ◌%◌, true, cond, List, length, get_or, take, drop, ℤ, nat_abs}
 use Rattle.rules_rates.specs.declared.Rate.{Rate}
 use Rattle.rules_rates.specs.declared.Rate.TheVariants.{One, Two, Five, Eleven}
@@ -32,7 +33,6 @@ use Rattle.rules_calls.specs.declared.Refusal.TheVariants.{
   OctetRoom,
 }
 use Rattle.rules_calls.specs.declared.Reading.{Reading}
-use Rattle.rules_calls.specs.declared.Reading.TheVariants.{Refused, Good}
 use Rattle.rules_calls.specs.Answers.{refusal_number, refusal_place}
 use Rattle.rules_reading.specs.Places.{word_from}
 use Rattle.rules_reading.specs.Heard.{sfd_heard, header_heard, signal_heard, service_heard, length_heard}
@@ -90,9 +90,9 @@ module _ (kind : ℕ) (k : Kind) (chips : List ℕ) (rec : List Taken) (room : �
   shown_of (OctetRoom l) = (nat_abs (octets_said k rec), room)
 
   -- a refusal answers its number, its place and its row of the table; a good read answers four zeros
-  abbrev pub reason_of : Reading → Reason
-  reason_of (Refused e) = reason (refusal_number e) (refusal_place e) (shown_of e).0 (shown_of e).1
-  reason_of (Good t used least) = reason 0 0 0 0
+  abbrev pub reason_of : Result Reading Refusal → Reason
+  reason_of (Err e) = reason (refusal_number e) (refusal_place e) (shown_of e).0 (shown_of e).1
+  reason_of (Ok g) = reason 0 0 0 0
 
 -- from a kind as a number, the octets of a hard recording, and room for so many octets, as a number
 unfoldable pub why_of : ℕ → List ℕ → ℕ → Reason

@@ -1,6 +1,6 @@
 // Why a read of a hard recording is refused: reading's own functions look for the refusal, and what it is about stands
 // in what they heard. No octet of a payload is worked out.
-ghost use Rattle.std.specs.Prelude.{◌≡◌, ℕ, ◌≤◌, ◌<◌, length};
+ghost use Rattle.std.specs.Prelude.{◌≡◌, ℕ, ◌≤◌, ◌<◌, length, Ok};
 ghost use Rattle.rules_rates.specs.Rates.{octets_read};
 ghost use Rattle.rules_chips.specs.Chips.{hard_recording};
 ghost use Rattle.rules_bits.specs.Bits.{octet_bits};
@@ -17,7 +17,7 @@ use common_lines::Line;
 use hear_blocks::Hearing;
 use hear_parts::Part;
 use read_fronts::{FrontHeard, Look, Opening};
-use rules_calls::{Front, Least, Reader, Refusal, Told};
+use rules_calls::{Least, Reader, Refusal, Told};
 use rules_frame::Kind;
 use rules_rates::Rate;
 use rules_why::Reason;
@@ -130,11 +130,11 @@ fn of_chips(kind: Kind, chips: &[u8], told: Told, phase: u8) -> Reason
 
 // What a front that told comes to: 16, 17, then 9 and 10 over the payload.
 fn of_payload(kind: Kind, chips: &[u8], room: u64, told: Told, phase: u8) -> Reason
-    requires { (front_of kind (hard_recording chips.now) ≡ Front.Fields told)
+    requires { (front_of kind (hard_recording chips.now) ≡ Ok told)
         × (phase ≡ payload_phase kind (hard_recording chips.now)) × (phase < 4)
         × AllUsable (hard_recording chips.now) 0 (front_chips kind) }
     ensures answer { (number : ℕ) → result ≡
-        after_told number kind chips.now room (Front.Fields told) }
+        after_told number kind chips.now room (Ok told) }
 {
     let n = told.n;
     let rate = told.rate;
@@ -161,7 +161,7 @@ fn of_front(kind: Kind, chips: &[u8], room: u64, known: FrontHeard) -> Reason
     let opening = read_fronts::told(Reader::Ours, kind, known);
     let front = opening.front;
     match front {
-        Front::Refused(e) => match e {
+        Err(e) => match e {
             Refusal::OddGrowth { place, length: _ } => refused(
                 e,
                 0,
@@ -169,7 +169,7 @@ fn of_front(kind: Kind, chips: &[u8], room: u64, known: FrontHeard) -> Reason
             ),
             _ => of_header(kind, sfd, header, e),
         },
-        Front::Fields(told) => {
+        Ok(told) => {
             let line = opening.line;
             of_payload(kind, chips, room, told, line.phase)
         }

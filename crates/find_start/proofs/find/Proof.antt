@@ -57,11 +57,11 @@ returns_3 c =
     not_tried _ _ _ _ (passed c.is_kind.ensures c.if-not-is_kind.false)
     (offsets_many _ c.if-offsets-gt4096.true) c.refused-then-offsets-gt4096.ensures
 
-returns_4 : tie.Need-returns-in-Refused
+returns_4 : tie.Need-returns-in-Err
 returns_4 c =
     known _ _ _ _ (passed c.is_kind.ensures c.if-not-is_kind.false) _ _ _
     c.kind_of-k.ensures c.if-offsets-lt1.false c.if-offsets-gt4096.false c.search-found.ensures
-    c.in-Refused.is c.refused-in-Refused.ensures
+    c.in-Err.is c.refused-in-Err.ensures
 
 returns_5 : tie.Need-returns-in-Start
 returns_5 c =

@@ -38,28 +38,28 @@ returns_2 c =
     (λ fed hold at x. stays_odd a.kind fed a.p hold a.preamble.now a.header.now at x c.if-p-ne0.false
     (a.p.odd - 1) (one_less a.p.odd c.if-p-ne0-2.true))
 
-returns_3 : tie.Need-returns-in-Refused
+returns_3 : tie.Need-returns-in-Err
 returns_3 c =
     let a = c.args in
     told_stays a.kind a.p _ a.preamble.now a.header.now c.requires.5 c.requires.6 _
-    c.stay-in-Refused.ensures c.requires.1 (late _ (c.told-opening.ensures.1.1 _ c.in-Refused.is))
+    c.stay-in-Err.ensures c.requires.1 (late _ (c.told-opening.ensures.1.1 _ c.in-Err.is))
     (λ fed hold at x.
     front_tells a.kind fed a.p hold a.preamble.now a.header.now at x c.if-p-ne0.false c.if-p-ne0-2.false
     c.requires.4 _ _ _ c.sfd_of-sfd.ensures c.header_of-header.ensures c.requires.5
     c.told-opening.ensures.0
-    ∙ c.in-Refused.is)
+    ∙ c.in-Err.is)
 
-returns_4 : tie.Need-returns-in-Fields
+returns_4 : tie.Need-returns-in-Ok
 returns_4 c =
     let a = c.args in
     told_tells a.kind a.p _ a.preamble.now a.header.now c.requires.5 c.requires.6 _
-    c.tell.ensures (c.told-opening.ensures.1.0 _ c.in-Fields.is) c.requires.0 c.requires.1
+    c.tell.ensures (c.told-opening.ensures.1.0 _ c.in-Ok.is) c.requires.0 c.requires.1
     c.requires.2
     (λ fed hold at x. (
       front_tells a.kind fed a.p hold a.preamble.now a.header.now at x c.if-p-ne0.false
           c.if-p-ne0-2.false c.requires.4 _ _ _ c.sfd_of-sfd.ensures
           c.header_of-header.ensures c.requires.5 c.told-opening.ensures.0
-          ∙ c.in-Fields.is,
+          ∙ c.in-Ok.is,
       front_ends a.kind fed a.p hold a.preamble.now a.header.now at x c.if-p-ne0.false c.if-p-ne0-2.false
           c.requires.4,
     ))

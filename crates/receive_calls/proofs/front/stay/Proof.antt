@@ -1,7 +1,7 @@
 -- `receive_calls::front::stay` meets its contract: the refusal as numbers, and all else as it was. Assumes nothing.
+use Rattle.std.specs.Prelude.{Err}
 use mathlib.Core.Path.{◌≡◌, ap}
 use Rattle.rules_calls.specs.declared.Refusal.{Refusal}
-use Rattle.rules_calls.specs.declared.Reading.TheVariants as reading
 use Rattle.rules_calls.specs.declared.Record.{Record}
 use Rattle.rules_calls.specs.Answers.{record_of}
 use Rattle.rules_receiving.specs.declared.Progress.{Progress}
@@ -29,7 +29,7 @@ staying p x =
       ear = p.ear;
     }
 
-stays : (p : Progress) (e : Refusal) (x : Record) → x ≡ record_of (reading.Refused e) → staying p x ≡ stayed p e
+stays : (p : Progress) (e : Refusal) (x : Record) → x ≡ record_of (Err e) → staying p x ≡ stayed p e
 stays p e x f = ap (staying p) f
 
 returns : tie.Need-returns

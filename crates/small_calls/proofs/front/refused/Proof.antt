@@ -1,10 +1,10 @@
 -- `small_calls::front::refused` meets its contract: a refusal's three numbers, and zeros. Assumes nothing.
+use Rattle.std.specs.Prelude.{Err}
 use mathlib.Core.Path.{◌≡◌}
 use Prim.Native.Nat.{ℕ}
 use borrow.Author.Rules.{rules}
 use Rattle.rules_frame.specs.declared.Kind.{Kind}
 use Rattle.rules_calls.specs.declared.Refusal.{Refusal}
-use Rattle.rules_calls.specs.declared.Front.TheVariants.{Refused}
 use Rattle.rules_calls.specs.Answers.{refusal_number, refusal_place, refusal_length}
 use Rattle.rules_coming.specs.declared.Coming.{Coming}
 use Rattle.rules_coming.specs.Coming.{coming_of}
@@ -25,7 +25,7 @@ in_numbers : (k : Kind) (e : Refusal) (number place length : ℕ) → number ≡
       at = 0;
       count = 0;
     })
-    (coming_of k (Refused e))
+    (coming_of k (Err e))
 in_numbers k e number place length a b c = rw (a, b, c)
 
 returns : tie.Need-returns

@@ -1,5 +1,6 @@
 -- `small_calls::front::told` meets its contract: what the header tells, and the chips of front and frame. Assumes
 -- nothing.
+use Rattle.std.specs.Prelude.{Ok}
 use mathlib.Core.Path.{◌≡◌}
 use Prim.Native.Nat.{ℕ, ◌-◌}
 use mir.Val.{bool_byte}
@@ -9,7 +10,6 @@ use Rattle.rules_frame.specs.declared.Kind.{Kind}
 use Rattle.rules_frame.specs.Frame.{front_chips, frame_chips}
 use Rattle.rules_frame.proofs.Headers.{clock_byte}
 use Rattle.rules_calls.specs.declared.Told.{Told}
-use Rattle.rules_calls.specs.declared.Front.TheVariants.{Fields}
 use Rattle.rules_coming.specs.declared.Coming.{Coming}
 use Rattle.rules_coming.specs.Coming.{coming_of}
 use Rattle.small_calls.proofs.front.told.Statement.{statement}
@@ -29,7 +29,7 @@ in_numbers : (k : Kind) (t : Told) (code at used : ℕ) → code ≡ code_of t.r
       at = at;
       count = used - at;
     })
-    (coming_of k (Fields t))
+    (coming_of k (Ok t))
 in_numbers k t code at used a b c = rw (a, b, c, clock_byte t.clock)
 
 returns : tie.Need-returns

@@ -1,5 +1,6 @@
 -- `small_calls::why::of_front` meets its contract: 10 by its place, 11 to 15 by what was heard, and then the payload.
 -- Assumes nothing.
+use Rattle.std.specs.Prelude.{Ok}
 use mathlib.Core.Path.{◌≡◌, sym, ap, ◌∙◌}
 use mathlib.Core.List.{List, [], ◌∷◌}
 use Prim.Native.Nat.{ℕ}
@@ -28,7 +29,6 @@ use Rattle.rules_calls.specs.declared.Refusal.TheVariants.{
   Ends,
   OctetRoom,
 }
-use Rattle.rules_calls.specs.declared.Front.TheVariants.{Fields}
 use Rattle.rules_calls.specs.Answers.{refusal_number}
 use Rattle.rules_calls.specs.Headers.{ours}
 use Rattle.rules_calls.specs.contracts.Refusal as refusal
@@ -75,35 +75,35 @@ growth_at_requires : tie.Need-growth_at-requires
 growth_at_requires c κs =
     let s = begun c.before.before in
     odd_front 0 s.args.kind s.args.chips.now s.args.room _
-    (sym (opened c.before.before).told ∙ c.in-Refused.is) _ _ c.in-OddGrowth.is s.requires.0.1 s.requires.0.2
+    (sym (opened c.before.before).told ∙ c.in-Err.is) _ _ c.in-OddGrowth.is s.requires.0.1 s.requires.0.2
 
 returns : tie.Need-returns-in-OddGrowth
 returns c number =
     let s = begun c.before.before.before.before in
     front_odd_lem number s.args.kind s.args.chips.now s.args.room _
-    (sym (opened c.before.before.before.before).told ∙ c.in-Refused.is) (s.requires.0.0 ours) _ _ c.in-OddGrowth.is
+    (sym (opened c.before.before.before.before).told ∙ c.in-Err.is) (s.requires.0.0 ours) _ _ c.in-OddGrowth.is
     c.growth_at.ensures c.refused.ensures
 
 returns_2 : tie.Need-returns-in_default
 returns_2 c number =
     let s = begun c.before.before.before in
     front_header number s.args.kind s.args.chips.now s.args.room _
-    (sym (opened c.before.before.before).told ∙ c.in-Refused.is) (s.requires.0.0 ours)
-    (not_odd c.in-Refused.e c.in_default.in_default-own.keys2) s.requires.1.sfd s.requires.1.header
+    (sym (opened c.before.before.before).told ∙ c.in-Err.is) (s.requires.0.0 ours)
+    (not_odd c.in-Err.e c.in_default.in_default-own.keys2) s.requires.1.sfd s.requires.1.header
     c.of_header.ensures
 
 -- a front that told
 fields : (c : tie.After-line-1) → let a = (begun c.before.before).args in
-    front_of a.kind (hard_recording a.chips.now) ≡ Fields c.in-Fields.told
+    front_of a.kind (hard_recording a.chips.now) ≡ Ok c.in-Ok.told
 fields c =
-    (begun c.before.before).requires.0.0 ours ∙ sym (opened c.before.before).told ∙ c.in-Fields.is
+    (begun c.before.before).requires.0.0 ours ∙ sym (opened c.before.before).told ∙ c.in-Ok.is
 
 of_payload_requires : tie.Need-of_payload-requires
 of_payload_requires c κs =
-    let line = (opened c.before.before).line _ c.in-Fields.is in
+    let line = (opened c.before.before).line _ c.in-Ok.is in
     (fields c, line.at_phase, line.small, (begun c.before.before).requires.0.2)
 
-returns_3 : tie.Need-returns-in-Fields
+returns_3 : tie.Need-returns-in-Ok
 returns_3 c number =
     let a = (begun c.before.before.before).args in
     c.of_payload.ensures number
