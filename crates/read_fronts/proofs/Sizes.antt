@@ -64,7 +64,7 @@ refused_few f e g t w = told_not _ e t (sym g ∙ w)
 abbrev pub Late : Refusal → Type 0
 Late e = (10 ≤ refusal_number e) × (refusal_number e ≤ 15)
 
-refused_same : (d e : Refusal) → Late d → Err d ≡ Err e → Late e
+refused_same : (d e : Refusal) → Late d → ◌≡◌ {A = Result Told Refusal} (Err d) (Err e) → Late e
 refused_same d e h w = let z : d ≡ e = cc in subst Late z h
 
 pub header_late : (accepted : Accepted) (k : Kind) (sfd header : List ℕ) (e : Refusal)
