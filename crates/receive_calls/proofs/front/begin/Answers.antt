@@ -1,11 +1,5 @@
--- `receive_calls::front::begin` meets its contract: one symbol is decided, and the line starts from its phase. Assumes
--- nothing.
-use mathlib.Core.Path.{◌≡◌, refl, ap, ◌∙◌}
-use mathlib.Core.List.{List, [], ◌∷◌}
-use Rattle.std.specs.Prelude.{None}
-use Prim.Native.Nat.{ℕ}
-use native.Mathlib.Omega.{arith}
-use lib.ListN.{length, get_or, take}
+-- `front::begin`: one symbol is decided, and the line starts from its phase.
+use Rattle.std.proofs.Common.{◌≡◌, ℕ, List, [], ◌∷◌, length, get_or, take, refl, ap, ◌∙◌, None, arith}
 use lib.Seq.{take_all}
 use borrow.Author.Tests.{le-ltb}
 use Rattle.rules_rates.specs.declared.Rate.TheVariants.{One}
@@ -21,10 +15,8 @@ use Rattle.choose_recorded.proofs.Search.{none_usable}
 use Rattle.common_lines.specs.declared.Line.{Line}
 use Rattle.common_kinds.specs.Starts.{Starts}
 use Rattle.read_fronts.proofs.Preambles.{start_seven}
-use borrow.Author.Rules.{rules}
 use Rattle.receive_calls.specs.Steps.{Begun}
-use Rattle.receive_calls.proofs.front.begin.Statement.{statement}
-use Rattle.receive_calls.proofs.front.begin.Tie as tie
+use Rattle.receive_calls.proofs.front.begin.Goals as goal
 
 all_usable : (row : List ℕ) → length row ≡ 11 → first_unusable 0 (hard_recording row) ≡ None
     → AllUsable (hard_recording row) 0 11
@@ -55,26 +47,18 @@ begun k row numbers leads l least d s x f =
       symbol = ap (λ (a : Least). a.symbol) one;
     }
 
-decide_requires : tie.Need-decide-requires
-decide_requires c κs =
-    let row = c.args.row.now in
-    let usable = all_usable row c.requires.0 c.requires.1 in
-    (omega arith, omega (arith, c.requires, length_hard row), usable, refl, refl)
+pub decide-requires : goal.decide-requires
+decide-requires c =
+    let row = c.args.row.now in (
+      omega arith,
+      omega (arith, c.requires, length_hard row),
+      all_usable row c.requires.0 c.requires.1,
+      refl,
+      refl,
+    )
 
-first_line_requires : tie.Need-first_line-line-requires
-first_line_requires c κs = search rules
-
-least_of_requires : tie.Need-least_of-least-requires
-least_of_requires c κs = (omega arith, omega arith, c.decide.ensures.1.long)
-
-returns : tie.Need-returns
-returns c =
-    begun c.args.kind c.args.row.now _ _ _ _ c.decide.ensures.0 c.decide.ensures.1
-    c.first_line-line.ensures c.least_of-least.ensures
-
-pub begin_spec : {M : Type 1} → statement M
-begin_spec =
-    tie.close
-    (tie.spec
-    (λ c. search rules) (λ c. search rules) (λ c. search rules) (λ c. search rules) (λ c. search rules)
-    (λ c. search rules) decide_requires (λ c. search rules) first_line_requires least_of_requires returns)
+pub returns : goal.returns
+returns c = record {
+  answer = begun c.args.kind c.args.row.now _ _ _ _ c.decide.ensures.numbers c.decide.ensures.leads
+      c.first_line-line.ensures.answer c.least_of-least.ensures.answer;
+}
