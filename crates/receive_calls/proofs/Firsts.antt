@@ -1,17 +1,14 @@
 -- The first symbol of a front, whose chips are held until it is whole.
---     place_fits                          a place found is small
---     first_row                           the row that is decided
---     first_bad, first_held, first_done   a chip is unusable; the symbol is not whole; it is, and the line begins
+--     first_starts, first_waits   the line begins with the symbol; or a chip is unusable, or the symbol is not whole
 -- Assumes nothing.
 use mathlib.Core.Path.{◌≡◌, refl, sym, ap, ap₂, subst, ◌∙◌}
-use mathlib.Core.List.{List, ◌++◌, append_assoc, append-nil}
-use Rattle.std.specs.Prelude.{None}
+use mathlib.Core.List.{List, ◌++◌, append_assoc}
+use Rattle.std.specs.Prelude.{Option, None, Some}
 use Prim.Native.Nat.{ℕ, ◌+◌, ◌-◌, ◌≤◌, ◌<◌}
 use native.Mathlib.Omega.{arith}
 use lib.ListN.{length, take, drop, length-append, length-drop}
-use lib.Seq.{take_at, length-take-le, drop-length}
+use lib.Seq.{take_at, length-take-le}
 use borrow.Rule.Slice.PartMut.{put_mid, same_len_mid}
-use Rattle.base.specs.Over.{over}
 use Rattle.rules_chips.specs.Chips.{hard_recording}
 use Rattle.rules_frame.specs.declared.Kind.{Kind}
 use Rattle.rules_frame.specs.declared.Kind.TheVariants.{Long, Short}
@@ -19,18 +16,14 @@ use Rattle.rules_frame.specs.Frame.{front_chips}
 use Rattle.rules_reading.specs.Reading.{first_unusable}
 use Rattle.rules_receiving.specs.declared.Ear.{Ear}
 use Rattle.rules_receiving.specs.declared.Progress.{Progress}
-use Rattle.rules_receiving.specs.Receivers.{FrontTo}
+use Rattle.rules_receiving.specs.Receivers.{place_number, FrontTo}
 use Rattle.rules_receiving.proofs.FrontPieces.{number_none, front_first, first_unusable_lem, first_some, first_whole}
-use Rattle.receive_parts.specs.Pieces.{PlaceBelow}
 use Rattle.receive_calls.specs.Steps.{advanced, Begun, FirstTakes}
-
-pub place_fits : (f : Option ℕ) (place : ℕ) → f ≡ Some place → PlaceBelow f → place < 1000000
-place_fits f place e b = subst PlaceBelow e b
 
 -- a row put behind the first h of another
 module _
     (h taken n : ℕ) (hold rest y : List ℕ) (most : taken ≤ length rest) (all : n ≡ h + taken) (room : n ≤ length hold)
-    (y-is : y ≡ over (take (taken - 0) rest) (take (n - h) (drop h hold))) where
+    (y-is : y ≡ take taken rest) where
   piece_long : length (take taken rest) ≡ taken
   piece_long = length-take-le taken rest most
 
@@ -38,28 +31,16 @@ module _
   part_long =
       length-take-le (n - h) (drop h hold) (omega (arith, room, all, length-drop h hold)) ∙ omega (arith, all)
 
-  put_is : y ≡ take taken rest
-  unfolding over
-  put_is =
-      let z : taken - 0 ≡ taken = omega arith in
-      let part = take (n - h) (drop h hold) in
-      y-is
-      ∙ ap (λ (i : ℕ). over (take i rest) part) z
-      ∙ ap (λ (i : ℕ). take taken rest ++ drop i part) (piece_long ∙ sym part_long)
-      ∙ ap (λ (l : List ℕ). take taken rest ++ l) (drop-length part)
-      ∙ append-nil (take taken rest)
-
-  put_row : take (n - 0) (put_mid h (n - h) hold y) ≡ take h hold ++ take taken rest
+  put_row : take n (put_mid h (n - h) hold y) ≡ take h hold ++ take taken rest
   put_row =
-      let z : n - 0 ≡ n = omega arith in
-      ap₂ {C = List ℕ} (λ i w. take i (take h hold ++ (w ++ drop (n - h) (drop h hold)))) z put_is
+      ap (λ (w : List ℕ). take n (take h hold ++ (w ++ drop (n - h) (drop h hold)))) y-is
       ∙ ap (take n) (sym (append_assoc (take h hold) (take taken rest) _))
       ∙ take_at (take h hold ++ take taken rest) _ n
       (length-append (take h hold) (take taken rest)
       ∙ ap₂ {C = ℕ} (λ i j. i + j) (length-take-le h hold (omega (arith, room, all))) piece_long ∙ sym all)
 
   put_long : length (put_mid h (n - h) hold y) ≡ length hold
-  put_long = same_len_mid h (n - h) hold y (ap length put_is ∙ piece_long ∙ sym part_long)
+  put_long = same_len_mid h (n - h) hold y (ap length y-is ∙ piece_long ∙ sym part_long)
 
 module _
     (k : Kind) (p : Progress) (taken n : ℕ) (hold rest y : List ℕ)
@@ -67,9 +48,9 @@ module _
     × (p.ear.last < 4))
     (least : (taken ≤ length rest) × (taken ≤ 11 - p.count) × (0 < length rest → 0 < 11 - p.count → 0 < taken))
     (all : n ≡ p.count + taken)
-    (y-is : y ≡ over (take (taken - 0) rest) (take (n - p.count) (drop p.count hold)))
+    (y-is : y ≡ take taken rest)
     (f : Option ℕ)
-    (found : f ≡ first_unusable 0 (hard_recording (take (n - 0) (put_mid p.count (n - p.count) hold y))))
+    (found : f ≡ first_unusable 0 (hard_recording (take n (put_mid p.count (n - p.count) hold y))))
   where
     abbrev piece : List ℕ
     piece = take taken rest
@@ -80,7 +61,7 @@ module _
     room : n ≤ length hold
     room = omega (arith, asked, least, all)
 
-    row_is : take (n - 0) hold' ≡ take p.count hold ++ piece
+    row_is : take n hold' ≡ take p.count hold ++ piece
     row_is = put_row p.count taken n hold rest y least.0 all room y-is
 
     long : length piece ≡ taken
@@ -102,7 +83,7 @@ module _
           by Long = omega (arith, long, least.1, few, x.count_is)
           by Short = omega (arith, long, least.1, few, x.count_is)
 
-      row_fed : take (n - 0) hold' ≡ fed ++ piece
+      row_fed : take n hold' ≡ fed ++ piece
       row_fed =
           row_is
           ∙ ap (λ (l : List ℕ). l ++ piece)
@@ -138,18 +119,8 @@ module _
         by Long = omega (arith, least.1, asked.0)
         by Short = omega (arith, least.1, asked.0)
 
-    -- the first symbol's chips
-    pub first_row : f ≡ None → 11 ≤ n
-        → (length (take (n - 0) hold') ≡ 11) × (first_unusable 0 (hard_recording (take (n - 0) hold')) ≡ None)
-    first_row t h =
-        let size = length-append (take p.count hold) piece in
-        let first = length-take-le p.count hold (omega (arith, asked)) in (
-          ap length row_is ∙ size ∙ omega (arith, first, long, h, all, least, asked.0),
-          sym found ∙ ap t,
-        )
-
     -- a chip is unusable
-    pub first_bad : (q : Progress) (place : ℕ) → f ≡ Some place → q ≡ advanced p n (place + 1) p.odd p.ear
+    first_bad : (q : Progress) (place : ℕ) → f ≡ Some place → q ≡ advanced p n (place + 1) p.odd p.ear
         → FirstTakes k p hold rest (record { progress = q; taken = taken }) hold'
     first_bad q place t e =
         takes_first q (place + 1) p.odd p.ear e asked.4 asked.5
@@ -157,7 +128,7 @@ module _
         first_unusable_lem k fed piece p q hold preamble header x (inside preamble header fed x) (count_more q _ _ _ e)
         (usable preamble header fed x) hold' (few preamble header fed x) place
         (ap (λ (l : List ℕ). first_unusable 0 (hard_recording l)) (sym (row_fed preamble header fed x)) ∙ sym found
-        ∙ ap t)
+        ∙ t)
         (ap (λ (u : Progress). u.bad) e ∙ omega arith))
 
     module _ (t : f ≡ None) (q : Progress) (ear : Ear) (e : q ≡ advanced p n 0 p.odd ear) where
@@ -165,7 +136,7 @@ module _
           → first_unusable 0 (hard_recording (fed ++ piece)) ≡ None
       clear preamble header fed x =
           ap (λ (l : List ℕ). first_unusable 0 (hard_recording l)) (sym (row_fed preamble header fed x)) ∙ sym found
-          ∙ ap t
+          ∙ t
 
       size : (preamble header fed : List ℕ) → FrontTo k fed p hold preamble header → length (fed ++ piece) ≡ n
       size preamble header fed x =
@@ -174,11 +145,10 @@ module _
       held : (preamble header fed : List ℕ) → FrontTo k fed p hold preamble header
           → take (length (fed ++ piece)) hold' ≡ fed ++ piece
       held preamble header fed x =
-          let z : n ≡ n - 0 = omega arith in
-          ap (λ (i : ℕ). take i hold') (size preamble header fed x ∙ z) ∙ row_fed preamble header fed x
+          ap (λ (i : ℕ). take i hold') (size preamble header fed x) ∙ row_fed preamble header fed x
 
       -- the symbol is not whole
-      pub first_held : n < 11 → ear ≡ p.ear → FirstTakes k p hold rest (record { progress = q; taken = taken }) hold'
+      first_held : n < 11 → ear ≡ p.ear → FirstTakes k p hold rest (record { progress = q; taken = taken }) hold'
       first_held h g =
           takes_first q 0 p.odd ear e (rw g asked.4) (rw g asked.5)
           (λ preamble header fed x.
@@ -188,7 +158,7 @@ module _
           (omega (arith, h, size preamble header fed x)))
 
       -- it is, and the line begins
-      pub first_done : 11 ≤ n → Begun k (take (n - 0) hold') ear
+      first_done : 11 ≤ n → Begun k (take n hold') ear
           → FirstTakes k p hold rest (record { progress = q; taken = taken }) hold'
       first_done h b =
           let all_eleven : n ≡ 11 = omega (arith, h, all, least, asked.0) in
@@ -196,9 +166,28 @@ module _
           (λ preamble header fed x.
           let b : Begun k (fed ++ piece) q.ear =
           subst (λ (l : List ℕ). Begun k l q.ear) (row_fed preamble header fed x)
-          (subst (λ (u : Progress). Begun k (take (n - 0) hold') u.ear) (sym e) b) in
+          (subst (λ (u : Progress). Begun k (take n hold') u.ear) (sym e) b) in
           first_whole k fed piece p q hold preamble header x (inside preamble header fed x) (count_more q _ _ _ e)
           (usable preamble header fed x) hold' (few preamble header fed x) (clear preamble header fed x)
           (ap (λ (u : Progress). u.bad) e) (ap (λ (u : Progress). u.odd) e ∙ asked.2) (held preamble header fed x)
           (size preamble header fed x ∙ all_eleven)
           b.phase b.last b.past b.lead b.symbol)
+
+    -- whatever was found: the line begins, or goes on as it was
+    pub first_starts : f ≡ None → 11 ≤ n → (q : Progress) (ear : Ear) → q ≡ advanced p n (place_number f) p.odd ear
+        → Begun k (take n hold') ear → FirstTakes k p hold rest (record { progress = q; taken = taken }) hold'
+    first_starts t h q ear e b =
+        first_done t q ear (e ∙ ap (λ (o : Option ℕ). advanced p n (place_number o) p.odd ear) t) h b
+
+    pub first_waits : (f ≡ None → n < 11) → (q : Progress) (ear : Ear) → q ≡ advanced p n (place_number f) p.odd ear
+        → ear ≡ p.ear → FirstTakes k p hold rest (record { progress = q; taken = taken }) hold'
+    first_waits less q ear e same = by f refl
+      where
+        by : (o : Option ℕ) → f ≡ o → FirstTakes k p hold rest (record { progress = q; taken = taken }) hold'
+        by None t =
+            first_held t q ear (e ∙ ap (λ (o : Option ℕ). advanced p n (place_number o) p.odd ear) t) (less t) same
+        by (Some place) t =
+            let next : place_number (Some place) ≡ place + 1 = omega arith in
+            first_bad q place t
+            (e ∙ ap (λ (o : Option ℕ). advanced p n (place_number o) p.odd ear) t
+            ∙ ap₂ {C = Progress} (λ i x. advanced p n i p.odd x) next same)

@@ -1,8 +1,6 @@
 -- Chips of a front taken: what each way of taking them makes of it.
 --     front_passes                     a refusal was certain
---     preamble_asks, preamble_keeps    a piece of the preamble
---     header_asks, header_keeps        a piece of the header
---     few_chips                        places in a front are small
+--     preamble_keeps, header_keeps     a piece of the preamble, and of the header
 -- Assumes nothing.
 use mathlib.Core.Path.{◌≡◌, refl, sym, ap, ap₂, subst, ◌∙◌}
 use mathlib.Core.List.{List, ◌++◌}
@@ -95,10 +93,6 @@ module _
 
 -- ---- a piece of a part
 
-pub few_chips : (k : Kind) → front_chips k ≤ 2112
-few_chips Long = omega arith
-few_chips Short = omega arith
-
 header_end : (k : Kind) → preamble_chips k + octet_chips (header_rate k) * 6 ≡ front_chips k
 header_end Long = refl
 header_end Short = refl
@@ -114,24 +108,6 @@ preamble_within Short = omega arith
 header_even : (k : Kind) → preamble_chips k / 11 % 2 ≡ 0
 header_even Long = refl
 header_even Short = refl
-
--- what taking a piece asks
-pub preamble_asks : (k : Kind) (n from count : ℕ) (out : List ℕ) → n ≡ preamble_count k → from ≡ preamble_chips k
-    → length out ≡ 18 → count < from → (count < 0 + 88 * n) × (n ≤ length out) × (n ≤ 4095)
-preamble_asks Long n from count out e f l h =
-    (omega (arith, e, f, h), omega (arith, e, l), omega (arith, e))
-preamble_asks Short n from count out e f l h =
-    (omega (arith, e, f, h), omega (arith, e, l), omega (arith, e))
-
-pub header_asks : (k : Kind) (r : Rate) (from count : ℕ) → r ≡ header_rate k → from ≡ preamble_chips k
-    → count < front_chips k → (count < from + octet_chips r * 6) × (from ≤ 2112) × (from / 11 ≤ 192)
-header_asks k r from count e f h = rw (e, f) (by k h)
-  where
-    by : (k : Kind) → count < front_chips k
-        → (count < preamble_chips k + octet_chips (header_rate k) * 6) × (preamble_chips k ≤ 2112)
-        × (preamble_chips k / 11 ≤ 192)
-    by Long l = (omega (arith, l), omega arith, omega arith)
-    by Short l = (omega (arith, l), omega arith, omega arith)
 
 module _
     (k : Kind) (p : Progress) (hold preamble header rest : List ℕ) (t : Taking) (q : Pieced) (x : Keeps p t q)

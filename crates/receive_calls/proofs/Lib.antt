@@ -3,9 +3,6 @@ pub mod Closes
 pub mod Firsts
 pub mod FrontTells
 pub mod Fronting
-pub mod Kept
 pub mod NextFronts
-pub mod Opens
 pub mod PayloadWays
 pub mod Stages
-pub mod Testing

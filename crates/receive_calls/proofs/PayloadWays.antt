@@ -1,5 +1,4 @@
 -- The ways out of a piece of the payload.
---     front_few, first_few, left_in, less_in, taken_in     numbers of a frame
 --     way_past        behind the frame
 --     way_room, way_certain     17 is certain, or 9 or 10
 --     way_part        the piece is heard
@@ -14,7 +13,6 @@ use lib.Dec.{eqb}
 use lib.ListN.{length, take, length-replicate}
 use lib.Seq.{length-take-le}
 use Rattle.rules_rates.specs.declared.Rate.{Rate}
-use Rattle.rules_rates.specs.declared.Rate.TheVariants.{One, Two, Five, Eleven}
 use Rattle.rules_rates.specs.Rates.{is_code, rate_of, octet_chips}
 use Rattle.rules_chips.specs.Chips.{hard_recording}
 use Rattle.rules_frame.specs.declared.Kind.{Kind}
@@ -38,49 +36,9 @@ use Rattle.receive_calls.specs.Steps.{advanced, Paid, Passes, Keeps, settled, Pa
 
 -- ---- numbers of a frame
 
-pub front_few : (k : Kind) → front_chips k ≤ 2112
-front_few Long = omega arith
-front_few Short = omega arith
-
-pub first_few : (k : Kind) → front_chips k / 11 ≤ 192
-first_few Long = omega arith
-first_few Short = omega arith
-
 first_even : (k : Kind) → front_chips k / 11 % 2 ≡ 0
 first_even Long = omega arith
 first_even Short = omega arith
-
-all_small : (k : Kind) (r : Rate) (n : ℕ) → n ≤ 4095 → frame_chips k r n ≤ 1000000
-all_small k One n h = omega (arith, front_few k)
-all_small k Two n h = omega (arith, front_few k)
-all_small k Five n h = omega (arith, front_few k)
-all_small k Eleven n h = omega (arith, front_few k)
-
-pub left_in : (p : Progress) (k : Kind) (r : Rate) (all : ℕ) → Paid p k r → all ≡ frame_chips k r p.n
-    → (p.count ≤ all) × (p.count + (all - p.count) ≤ 1000000)
-left_in p k r all a e =
-    by (subst (λ (i : ℕ). p.count ≤ i) (sym e) a.to)
-    (subst (λ (i : ℕ). i ≤ 1000000) (sym e) (all_small k r p.n a.few))
-  where
-    by : p.count ≤ all → all ≤ 1000000 → (p.count ≤ all) × (p.count + (all - p.count) ≤ 1000000)
-    by h g = (h, omega (arith, h, g))
-
-pub less_in : (p : Progress) (k : Kind) (r : Rate) (all front : ℕ) → Paid p k r → all ≡ frame_chips k r p.n
-    → front ≡ front_chips k → (p.count ≡ all → ⊥) → p.count < front + octet_chips r * p.n
-less_in p k r all front a e f h =
-    subst (λ (i : ℕ). p.count < i) (e ∙ ap (λ (i : ℕ). i + octet_chips r * p.n) (sym f))
-    (by (left_in p k r all a e).0)
-  where
-    by : p.count ≤ all → p.count < all
-    by l = omega (arith, l, h)
-
-pub taken_in : (p : Progress) (k : Kind) (r : Rate) (front n : ℕ) → Paid p k r → front ≡ front_chips k
-    → p.count + n ≤ front + octet_chips r * p.n → p.count + n ≤ 1000000
-taken_in p k r front n a f h =
-    by (subst (λ (i : ℕ). p.count + n ≤ i + octet_chips r * p.n) f h) (all_small k r p.n a.few)
-  where
-    by : {i : ℕ} → p.count + n ≤ i → i ≤ 1000000 → p.count + n ≤ 1000000
-    by l g = omega (arith, l, g)
 
 -- ---- chips counted
 

@@ -1,7 +1,7 @@
 -- A call of feed by the receiver's status, and its answer.
 --     takes_own, paid_of     what it says that a receiver takes a batch
 --     stays_some             a refusal that stays takes every chip and changes nothing
---     feed_taken, feed_refused     what feed answers
+--     feed_refused           what feed answers to a receiver that does not
 -- Assumes nothing.
 use mathlib.Core.Path.{◌≡◌, refl, sym, ap, subst, ◌∙◌}
 use mathlib.Core.Bool.{Bool, true, false}
@@ -19,7 +19,7 @@ use Rattle.rules_receiving.specs.Calls.{takes, ReceiverFeeds}
 use Rattle.rules_receiving.proofs.Takes.{takes_room, takes_phase, takes_last, takes_payload}
 use Rattle.rules_receiving.proofs.Calls.{receives_takes}
 use Rattle.rules_receiving.proofs.Buffers.{stays_more}
-use Rattle.receive_calls.specs.Steps.{Paid, TakesSome, BatchIs}
+use Rattle.receive_calls.specs.Steps.{Paid, TakesSome}
 use Rattle.receive_calls.proofs.Closes.{never}
 
 pub takes_own : (p : Progress) (room : ℕ) → takes p room ≡ true → takes p p.room ≡ true
@@ -60,14 +60,6 @@ stays_some p hold preamble header buf rest e st = record {
 -- ---- the call
 
 module _ (s : Receiver) (buf batch : List ℕ) (b : Bool) (t : b ≡ takes s.progress (length buf)) where
-  pub feed_taken : (u : Receiver) (out : List ℕ) → b ≡ true → BatchIs s buf batch u out → ReceiverFeeds s buf batch u 0 out
-  feed_taken u out e x = record {
-    refused = λ g. never (sym e ∙ t ∙ g);
-    taken = λ g. refl;
-    long = x.long;
-    receives = x.receives;
-  }
-
   pub feed_refused : b ≡ false → ReceiverFeeds s buf batch s 20 buf
   feed_refused e = record {
     refused = λ g. (refl, refl, refl);

@@ -1,5 +1,5 @@
 // What a receiver's numbers tell at close.
-ghost use Rattle.std.specs.Prelude.{◌≡◌, List, ℕ, ◌≤◌, length, replicate, Err};
+ghost use Rattle.std.specs.Prelude.{◌≡◌, List, ℕ, ◌≤◌, length, replicate};
 ghost use Rattle.rules_calls.specs.Answers.{record_of};
 ghost use Rattle.rules_receiving.specs.Receivers.{Going};
 ghost use Rattle.rules_receiving.specs.Calls.{kept_record, not_open, ReadsAll};
@@ -11,12 +11,11 @@ use rules_receiving::{Ear, Progress};
 
 // A refusal, and zeros.
 pub fn refuse(e: Refusal, octets: &mut [u8]) -> Record
-    ensures answer { result ≡ record_of (Err e) }
+    ensures answer { result ≡ record_of (Reading.Refused e) }
     ensures octets { octets.new ≡ replicate (length octets.old) 0 }
 {
     common_rows::fill(octets, 0);
-    let reading = Err(e);
-    common_answers::record_of(reading)
+    common_answers::record_of(Reading::Refused(e))
 }
 
 // A receiver whose front told: 16, 17, 9, 10, or the whole record.
@@ -27,38 +26,44 @@ pub fn tell_payload(p: Progress, octets: &mut [u8]) -> Record
         → ReadsAll kind (length octets.old) fed result octets.new }
     ensures other { result.number ≡ 20 → ⊥ }
 {
-    let number = p.kind;
-    let code = p.rate;
-    let n = p.n;
     let length = p.length;
-    let kind = common_kinds::kind_of(number);
-    let rate = rules_rates::rate_of(code);
-    let all = common_kinds::frame_chips(kind, rate, n);
+    let kind = common_kinds::kind_of(p.kind);
+    let rate = rules_rates::rate_of(p.rate);
+    let all = common_kinds::frame_chips(kind, rate, p.n);
     if p.count < all {
         return refuse(Refusal::Ends { length }, octets);
     }
-    if p.room < n {
+    if p.room < p.n {
         return refuse(Refusal::OctetRoom { length }, octets);
     }
     if p.bad != 0 {
-        let place = p.bad - 1;
-        return refuse(Refusal::Unusable { place, length }, octets);
+        return refuse(
+            Refusal::Unusable {
+                place: p.bad - 1,
+                length,
+            },
+            octets,
+        );
     }
     if p.odd != 0 {
-        let place = p.odd - 1;
-        return refuse(Refusal::OddGrowth { place, length }, octets);
+        return refuse(
+            Refusal::OddGrowth {
+                place: p.odd - 1,
+                length,
+            },
+            octets,
+        );
     }
-    let ear = p.ear;
     Record {
         number: 0,
         place: 0,
-        rate: code,
+        rate: p.rate,
         length: length as u64,
-        n: n as u64,
+        n: p.n as u64,
         used: all as u64,
         clock: p.clock,
-        lead: ear.lead as u64,
-        symbol: ear.symbol as u64,
+        lead: p.ear.lead as u64,
+        symbol: p.ear.symbol as u64,
     }
 }
 

@@ -21,16 +21,16 @@ fn next_front(
     ensures answer { FrontSome p hold.old preamble.old header.old
         rest.now result hold.new preamble.new header.new }
 {
-    let number = p.kind;
-    let kind = common_kinds::kind_of(number);
+    let kind = common_kinds::kind_of(p.kind);
     let q = front::front_piece(p, kind, hold, preamble, header, rest);
-    let progress = q.progress;
-    let taken = q.taken;
-    if progress.count < common_kinds::front_chips(kind) {
-        return Pieced { progress, taken };
+    if q.progress.count < common_kinds::front_chips(kind) {
+        return q;
     }
-    let progress = front::front_told(progress, kind, preamble, header);
-    Pieced { progress, taken }
+    let progress = front::front_told(q.progress, kind, preamble, header);
+    Pieced {
+        progress,
+        taken: q.taken,
+    }
 }
 
 // A piece of the chips left.
@@ -48,19 +48,18 @@ fn next_piece(
         octets.old rest.now result hold.new preamble.new header.new
         octets.new }
 {
-    let status = p.status;
-    if status == 1 {
-        return next_front(p, hold, preamble, header, rest);
+    match p.status {
+        1 => next_front(p, hold, preamble, header, rest),
+        2 => {
+            let kind = common_kinds::kind_of(p.kind);
+            let rate = rules_rates::rate_of(p.rate);
+            payload::payload_piece(p, kind, rate, hold, rest, octets)
+        }
+        _ => Pieced {
+            progress: p,
+            taken: rest.len(),
+        },
     }
-    if status == 2 {
-        let number = p.kind;
-        let code = p.rate;
-        let kind = common_kinds::kind_of(number);
-        let rate = rules_rates::rate_of(code);
-        return payload::payload_piece(p, kind, rate, hold, rest, octets);
-    }
-    let taken = rest.len();
-    Pieced { progress: p, taken }
 }
 
 // All pieces of a batch.
@@ -68,27 +67,25 @@ pub fn feed_all(s: Receiver, octets: &mut [u8], batch: &[u8]) -> Receiver
     requires { takes s.progress (length octets.old) ≡ true }
     ensures answer { BatchIs s octets.old batch.now result octets.new }
 {
-    let n = batch.len();
     let mut hold = s.hold;
     let mut preamble = s.preamble;
     let mut header = s.header;
-    let mut p = s.progress;
+    let mut progress = s.progress;
     let mut at = 0;
-    while at < n {
+    while at < batch.len() {
         let q = next_piece(
-            p,
+            progress,
             &mut hold,
             &mut preamble,
             &mut header,
-            &batch[at..n],
+            &batch[at..],
             octets,
         );
-        let v = q.progress;
-        p = v;
+        progress = q.progress;
         at += q.taken;
     }
     Receiver {
-        progress: p,
+        progress,
         hold,
         preamble,
         header,

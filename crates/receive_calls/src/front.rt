@@ -1,6 +1,5 @@
 // The front as it comes: its first symbol, the preamble, the header, and what it tells once it is whole.
-ghost use Rattle.std.specs.Prelude.{◌≡◌, true, ◌+◌, ◌-◌, ◌<◌, length, take, drop};
-ghost use Rattle.std.specs.Prelude.{None};
+ghost use Rattle.std.specs.Prelude.{◌≡◌, true, ◌+◌, ◌-◌, ◌<◌, length, take, drop, None};
 ghost use Rattle.rules_chips.specs.Chips.{hard_recording};
 ghost use Rattle.rules_frame.specs.Frame.{is_kind, kind_of, front_chips};
 ghost use Rattle.rules_reading.specs.Reading.{first_unusable};
@@ -14,7 +13,7 @@ use hear_blocks::Hearing;
 use hear_parts::Part;
 use read_fronts::{FrontHeard, Opening};
 use receive_parts::{Piece, Taking, taken};
-use rules_calls::{Least, Reader, Reading, Record, Refusal, Told};
+use rules_calls::{Front, Least, Reader, Reading, Record, Refusal, Told};
 use rules_frame::Kind;
 use rules_rates::Rate;
 use rules_receiving::{Ear, Progress};
@@ -26,12 +25,7 @@ fn begin(kind: Kind, row: &[u8]) -> Ear
 {
     let mut numbers = [0u8; 64];
     let mut leads = [0u32; 64];
-    Recording::Hard(row).decide(Rate::One,
-        0,
-        1,
-        &mut numbers,
-        &mut leads,
-    );
+    Recording::Hard(row).decide(Rate::One, 0, 1, &mut numbers, &mut leads);
     let line = common_kinds::first_line(kind, numbers[0]);
     let least = hear_blocks::least::least_of(&leads, 1);
     Ear {
@@ -49,29 +43,18 @@ fn first_piece(p: Progress, kind: Kind, hold: &mut [u8], rest: &[u8]) -> Pieced
         × (p.ear.last < 4) }
     ensures answer { FirstTakes kind p hold.old rest.now result hold.new }
 {
-    let count = p.count;
-    let ear = p.ear;
-    let odd = p.odd;
-    let taken = taken::at_most(rest.len(), 11 - count);
-    let n = count + taken;
-    taken::put(&rest[0..taken], &mut hold[count..n]);
-    let row = &hold[0..n];
-    let found = receive_parts::heard::unusable_from(row, 0);
-    match found {
-        Some(place) => {
-            let progress = passing::advance(p, n, place + 1, odd, ear);
-            Pieced { progress, taken }
-        }
-        None => {
-            if n < 11 {
-                let progress = passing::advance(p, n, 0, odd, ear);
-                return Pieced { progress, taken };
-            }
-            let start = begin(kind, row);
-            let progress = passing::advance(p, n, 0, odd, start);
-            Pieced { progress, taken }
-        }
-    }
+    let taken = rest.len().min(11 - p.count);
+    let n = p.count + taken;
+    hold[p.count..n].copy_from_slice(&rest[..taken]);
+    let row = &hold[..n];
+    let bad = receive_parts::heard::unusable_from(row, 0);
+    let ear = if bad.is_none() && n == 11 {
+        begin(kind, row)
+    } else {
+        p.ear
+    };
+    let progress = passing::advance(p, n, passing::number_of(bad), p.odd, ear);
+    Pieced { progress, taken }
 }
 
 // How many octets the preamble is.
@@ -98,26 +81,20 @@ pub fn front_piece(
     ensures answer { FrontTakes kind p hold.old preamble.old header.old
         rest.now result hold.new preamble.new header.new }
 {
-    let count = p.count;
-    let front = common_kinds::front_chips(kind);
-    if p.bad != 0 {
-        return passing::pass(p, rest, front - count);
+    if p.bad != 0 || p.odd != 0 {
+        return passing::pass(p, rest, common_kinds::front_chips(kind) - p.count);
     }
-    if p.odd != 0 {
-        return passing::pass(p, rest, front - count);
-    }
-    if count < 11 {
+    if p.count < 11 {
         return first_piece(p, kind, hold, rest);
     }
-    let ear = p.ear;
     let from = common_kinds::preamble_chips(kind);
-    if count < from {
+    if p.count < from {
         let n = preamble_count(kind);
-        let t = taken::take_piece(Rate::One, 0, 0, n, count, ear, hold, rest, preamble);
+        let t = taken::take_piece(Rate::One, 0, 0, n, p.count, p.ear, hold, rest, preamble);
         return passing::keep(p, t);
     }
     let rate = common_kinds::header_rate(kind);
-    let t = taken::take_piece(rate, from, from / 11, 6, count, ear, hold, rest, header);
+    let t = taken::take_piece(rate, from, from / 11, 6, p.count, p.ear, hold, rest, header);
     passing::keep(p, t)
 }
 
@@ -146,8 +123,7 @@ fn header_of(header: &[u8]) -> [u8; 6]
 fn stay(p: Progress, e: Refusal) -> Progress
     ensures answer { result ≡ stayed p e }
 {
-    let reading = Err(e);
-    let record = common_answers::record_of(reading);
+    let record = common_answers::record_of(Reading::Refused(e));
     let mut u = p;
     u.status = 3;
     u.number = record.number;
@@ -160,18 +136,15 @@ fn stay(p: Progress, e: Refusal) -> Progress
 fn tell(p: Progress, t: Told) -> Progress
     ensures answer { result ≡ telling p t }
 {
-    let rate = t.rate;
-    let mut ear = p.ear;
-    ear.last = ear.phase;
     let mut u = p;
     u.status = 2;
-    u.rate = rate.code();
+    u.rate = t.rate.code();
     u.length = t.length;
     u.n = t.n;
     u.clock = t.clock as u64;
     u.bad = 0;
     u.odd = 0;
-    u.ear = ear;
+    u.ear.last = p.ear.phase;
     u
 }
 
@@ -182,32 +155,42 @@ pub fn front_told(p: Progress, kind: Kind, preamble: &[u8], header: &[u8]) -> Pr
     ensures answer { FrontTold kind p preamble.now header.now result }
 {
     if p.bad != 0 {
-        let place = p.bad - 1;
-        return stay(p, Refusal::Unusable { place, length: 0 });
+        return stay(
+            p,
+            Refusal::Unusable {
+                place: p.bad - 1,
+                length: 0,
+            },
+        );
     }
     if p.odd != 0 {
-        let place = p.odd - 1;
-        return stay(p, Refusal::OddGrowth { place, length: 0 });
+        return stay(
+            p,
+            Refusal::OddGrowth {
+                place: p.odd - 1,
+                length: 0,
+            },
+        );
     }
-    let ear = p.ear;
     let line = Line {
-        past: ear.past,
-        phase: ear.phase,
+        past: p.ear.past,
+        phase: p.ear.phase,
     };
     let least = Least {
-        lead: ear.lead,
-        symbol: ear.symbol,
+        lead: p.ear.lead,
+        symbol: p.ear.symbol,
     };
-    let odd = None;
-    let heard = Hearing { line, odd };
-    let part = Part { heard, least };
-    let sfd = sfd_of(kind, preamble);
-    let header = header_of(header);
-    let known = FrontHeard { part, sfd, header };
-    let opening = read_fronts::told(Reader::Ours, kind, known);
-    let told = opening.front;
-    match told {
-        Err(e) => stay(p, e),
-        Ok(t) => tell(p, t),
+    let part = Part {
+        heard: Hearing { line, odd: None },
+        least,
+    };
+    let known = FrontHeard {
+        part,
+        sfd: sfd_of(kind, preamble),
+        header: header_of(header),
+    };
+    match read_fronts::told(Reader::Ours, kind, known).front {
+        Front::Refused(e) => stay(p, e),
+        Front::Fields(t) => tell(p, t),
     }
 }

@@ -27,15 +27,12 @@ pub fn open_in(s: Receiver, kind: u64, octets: &mut [u8]) -> Fed
     ensures { ReceiverOpens kind octets.old result.receiver result.answer octets.new }
 {
     common_rows::fill(octets, 0);
-    let room = octets.len();
-    if common_kinds::is_kind(kind) {
-        let receiver = opening::fresh_receiver(1, kind, room, 0);
-        return Fed {
-            receiver,
-            answer: 0,
-        };
-    }
-    let receiver = opening::fresh_receiver(3, kind, room, 1);
+    let (status, number) = if common_kinds::is_kind(kind) {
+        (1, 0)
+    } else {
+        (3, 1)
+    };
+    let receiver = opening::fresh_receiver(status, kind, octets.len(), number);
     Fed {
         receiver,
         answer: 0,
@@ -47,9 +44,7 @@ pub fn feed_in(s: Receiver, octets: &mut [u8], batch: &[u8]) -> Fed
     ensures { ReceiverFeeds s octets.old batch.now result.receiver result.answer
         octets.new }
 {
-    let room = octets.len();
-    let p = s.progress;
-    if sound::takes(p, room) {
+    if sound::takes(s.progress, octets.len()) {
         let receiver = feeding::feed_all(s, octets, batch);
         return Fed {
             receiver,
@@ -66,28 +61,19 @@ pub fn feed_in(s: Receiver, octets: &mut [u8], batch: &[u8]) -> Fed
 pub fn close_in(s: Receiver, octets: &mut [u8]) -> Closed
     ensures { ReceiverCloses s octets.old result.receiver result.answer octets.new }
 {
-    let room = octets.len();
     let p = s.progress;
-    if sound::takes(p, room) {
-        let mut q = p;
-        q.status = 0;
-        let mut receiver = s;
-        receiver.progress = q;
-        let status = p.status;
-        if status == 1 {
-            let answer = closing::refuse(Refusal::ShorterThanFront, octets);
-            return Closed { receiver, answer };
-        }
-        if status == 2 {
-            let answer = closing::tell_payload(p, octets);
-            return Closed { receiver, answer };
-        }
-        let answer = closing::kept(p, octets);
-        return Closed { receiver, answer };
+    if !sound::takes(p, octets.len()) {
+        return Closed {
+            receiver: s,
+            answer: closing::not_open(),
+        };
     }
-    let answer = closing::not_open();
-    Closed {
-        receiver: s,
-        answer,
-    }
+    let mut receiver = s;
+    receiver.progress.status = 0;
+    let answer = match p.status {
+        1 => closing::refuse(Refusal::ShorterThanFront, octets),
+        2 => closing::tell_payload(p, octets),
+        _ => closing::kept(p, octets),
+    };
+    Closed { receiver, answer }
 }

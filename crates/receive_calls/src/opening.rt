@@ -30,13 +30,10 @@ pub fn fresh_receiver(status: u64, kind: u64, room: usize, number: u64) -> Recei
         odd: 0,
         ear,
     };
-    let hold = [0u8; 88];
-    let preamble = [0u8; 18];
-    let header = [0u8; 6];
     Receiver {
         progress,
-        hold,
-        preamble,
-        header,
+        hold: [0; 88],
+        preamble: [0; 18],
+        header: [0; 6],
     }
 }

@@ -13,10 +13,7 @@ pub fn number_of(found: Option<usize>) -> usize
     requires { PlaceBelow found }
     ensures answer { result ≡ place_number found }
 {
-    match found {
-        Some(place) => place + 1,
-        None => 0,
-    }
+    found.map_or(0, |place| place + 1)
 }
 
 // So many chips have come, and what was found and heard of them.
@@ -36,16 +33,13 @@ pub fn keep(p: Progress, t: Taking) -> Pieced
     requires { PlaceBelow t.piece.bad × PlaceBelow t.piece.odd × (p.count + t.taken ≤ 1000000) }
     ensures answer { Keeps p t result }
 {
-    let piece = t.piece;
-    let taken = t.taken;
-    let ear = piece.ear;
-    let found = piece.bad;
-    let bad = number_of(found);
-    let grown = piece.odd;
-    let odd = number_of(grown);
-    let n = p.count + taken;
-    let progress = advance(p, n, bad, odd, ear);
-    Pieced { progress, taken }
+    let bad = number_of(t.piece.bad);
+    let odd = number_of(t.piece.odd);
+    let progress = advance(p, p.count + t.taken, bad, odd, t.piece.ear);
+    Pieced {
+        progress,
+        taken: t.taken,
+    }
 }
 
 // At most `left` chips where a refusal is certain: they are counted, and looked through for 9 where only 10 was found.
@@ -53,18 +47,12 @@ pub fn pass(p: Progress, rest: &[u8], left: usize) -> Pieced
     requires { p.count + left ≤ 1000000 }
     ensures answer { Passes p rest.now left result }
 {
-    let taken = receive_parts::taken::at_most(rest.len(), left);
-    let count = p.count;
-    let ear = p.ear;
-    let odd = p.odd;
-    let n = count + taken;
-    let before = p.bad;
-    if before != 0 {
-        let progress = advance(p, n, before, odd, ear);
-        return Pieced { progress, taken };
-    }
-    let found = receive_parts::heard::unusable_from(&rest[0..taken], count);
-    let bad = number_of(found);
-    let progress = advance(p, n, bad, odd, ear);
+    let taken = rest.len().min(left);
+    let bad = if p.bad == 0 {
+        number_of(receive_parts::heard::unusable_from(&rest[..taken], p.count))
+    } else {
+        p.bad
+    };
+    let progress = advance(p, p.count + taken, bad, p.odd, p.ear);
     Pieced { progress, taken }
 }

@@ -13,14 +13,8 @@ fn settle(q: Pieced, octets: &mut [u8]) -> Pieced
     ensures answer { result ≡ q }
     ensures octets { octets.new ≡ settled q.progress octets.old }
 {
-    let p = q.progress;
-    if p.bad != 0 {
+    if q.progress.bad != 0 || q.progress.odd != 0 {
         common_rows::fill(octets, 0);
-        return q;
-    }
-    if p.odd != 0 {
-        common_rows::fill(octets, 0);
-        return q;
     }
     q
 }
@@ -38,26 +32,27 @@ pub fn payload_piece(
     ensures answer { PayloadSome p hold.old octets.old rest.now result
         hold.new octets.new }
 {
-    let count = p.count;
-    let n = p.n;
-    let all = common_kinds::frame_chips(kind, rate, n);
-    if count == all {
-        let taken = rest.len();
-        return Pieced { progress: p, taken };
+    let all = common_kinds::frame_chips(kind, rate, p.n);
+    if p.count == all {
+        return Pieced {
+            progress: p,
+            taken: rest.len(),
+        };
     }
-    let left = all - count;
-    if octets.len() < n {
-        return passing::pass(p, rest, left);
+    if octets.len() < p.n || p.bad != 0 || p.odd != 0 {
+        return passing::pass(p, rest, all - p.count);
     }
-    if p.bad != 0 {
-        return passing::pass(p, rest, left);
-    }
-    if p.odd != 0 {
-        return passing::pass(p, rest, left);
-    }
-    let ear = p.ear;
     let from = common_kinds::front_chips(kind);
-    let t = taken::take_piece(rate, from, from / 11, n, count, ear, hold, rest, octets);
-    let q = passing::keep(p, t);
-    settle(q, octets)
+    let t = taken::take_piece(
+        rate,
+        from,
+        from / 11,
+        p.n,
+        p.count,
+        p.ear,
+        hold,
+        rest,
+        octets,
+    );
+    settle(passing::keep(p, t), octets)
 }

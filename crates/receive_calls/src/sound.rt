@@ -11,80 +11,45 @@ use rules_receiving::{Ear, Progress};
 fn sound_front(p: Progress) -> bool
     ensures answer { result ≡ sound_front p }
 {
-    let kind = p.kind;
-    if !common_kinds::is_kind(kind) {
-        return false;
-    }
-    let k = common_kinds::kind_of(kind);
-    let front = common_kinds::front_chips(k);
-    p.count < front
+    common_kinds::is_kind(p.kind)
+        && p.count < common_kinds::front_chips(common_kinds::kind_of(p.kind))
 }
 
 // The numbers of a receiver whose payload comes.
 fn sound_payload(p: Progress) -> bool
     ensures answer { result ≡ sound_payload p }
 {
-    let kind = p.kind;
-    let code = p.rate;
-    let n = p.n;
-    let count = p.count;
-    if !common_kinds::is_kind(kind) {
+    if !common_kinds::is_kind(p.kind) || !rules_rates::is_code(p.rate) || 4095 < p.n {
         return false;
     }
-    if !rules_rates::is_code(code) {
-        return false;
-    }
-    if 4095 < n {
-        return false;
-    }
-    let k = common_kinds::kind_of(kind);
-    let front = common_kinds::front_chips(k);
-    if count < front {
-        return false;
-    }
-    let rate = rules_rates::rate_of(code);
-    let all = common_kinds::frame_chips(k, rate, n);
-    count <= all
+    let kind = common_kinds::kind_of(p.kind);
+    let rate = rules_rates::rate_of(p.rate);
+    common_kinds::front_chips(kind) <= p.count
+        && p.count <= common_kinds::frame_chips(kind, rate, p.n)
 }
 
 // The numbers of a receiver whose refusal stays: 1 where the kind is none, else one of a front that is whole.
 fn sound_refused(p: Progress) -> bool
     ensures answer { result ≡ sound_refused p }
 {
-    let kind = p.kind;
-    let number = p.number;
-    if !common_kinds::is_kind(kind) {
-        return number == 1;
+    if common_kinds::is_kind(p.kind) {
+        9 <= p.number && p.number <= 15
+    } else {
+        p.number == 1
     }
-    if number < 9 {
-        return false;
-    }
-    number <= 15
 }
 
 // Whether a receiver takes a feed or a close with a buffer of so many octets.
 pub fn takes(p: Progress, room: usize) -> bool
     ensures answer { result ≡ takes p room }
 {
-    let status = p.status;
-    let ear = p.ear;
-    if p.room != room {
+    if p.room != room || 3 < p.ear.phase || 3 < p.ear.last {
         return false;
     }
-    if 3 < ear.phase {
-        return false;
+    match p.status {
+        1 => sound_front(p),
+        2 => sound_payload(p),
+        3 => sound_refused(p),
+        _ => false,
     }
-    if 3 < ear.last {
-        return false;
-    }
-    if status == 1 {
-        return sound_front(p);
-    }
-    if status == 2 {
-        return sound_payload(p);
-    }
-    if status == 3 {
-        return sound_refused(p);
-    }
-    false
 }

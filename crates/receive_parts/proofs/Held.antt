@@ -23,7 +23,6 @@ use Rattle.rules_receiving.specs.Sections.{Section, words_yet, section_unusable,
 use Rattle.rules_receiving.proofs.Advance.{next_words, unusable_next, words_next, odd_next, symbols_whole}
 use Rattle.rules_receiving.proofs.Stands.{Stands, stands_goes, stands_ear, stands_longer}
 use Rattle.receive_parts.specs.declared.Piece.{Piece}
-use Rattle.receive_parts.proofs.Whole.{nothing_found}
 use Rattle.receive_parts.specs.Pieces.{new_words, PartHeld}
 
 odd_phase : (r : Rate) (a b at : ℕ) (ws vs : List ℕ) → (r ≡ One → a ≡ last_heard One b ws)
@@ -155,6 +154,6 @@ module _
   pub part_held : SectionIs k p (first ++ row) x.bad x.odd x.ear hold out
   part_held = record {
     bad_is = part_bad;
-    odd_is = λ n. part_odd (nothing_found x.bad n);
-    goes = λ n f. part_goes (nothing_found x.bad n) (nothing_found x.odd f);
+    odd_is = part_odd;
+    goes = part_goes;
   }

@@ -1,10 +1,9 @@
--- The new symbols of an octet that is not whole, looked at one after the other at 1 Mbit/s; and such an octet held.
+-- The new symbols of an octet that is not whole, looked at one after the other at 1 Mbit/s.
 --     row_long, row_each, row_small        the numbers decided for the new symbols are their words, and small
 --     Looks, looks_none, looks_more        the loop over them: before it, and a symbol more
 --     looks_odd, looks_all                 a symbol grown by 1 or 3, and none
 --     new_usable                           the chips of the new symbols are usable
 --     chips_most                           an octet has at most 88 chips
---     held_bad, held_one, held_other       an octet held: an unusable chip in it, at 1 Mbit/s, at the other rates
 -- Assumes nothing.
 use mathlib.Core.Path.{◌≡◌, refl, sym, ap, ap₂, subst, ◌∙◌}
 use mathlib.Core.Bool.{cond}
@@ -23,16 +22,13 @@ use Rattle.rules_rates.specs.declared.Rate.TheVariants.{One, Two, Five, Eleven}
 use Rattle.rules_rates.specs.Rates.{octet_chips}
 use Rattle.rules_chips.specs.Chips.{hard_recording}
 use Rattle.rules_bits.specs.Growths.{growths_of, last_heard}
-use Rattle.rules_reading.specs.Reading.{first_unusable, first_odd, odd_growth, decided_words}
+use Rattle.rules_reading.specs.Reading.{first_unusable, first_odd, decided_words}
 use Rattle.rules_reading.proofs.Places.{decided_words_length}
-use Rattle.rules_receiving.specs.declared.Ear.{Ear}
 use Rattle.choose_recorded.specs.Recorded.{AllUsable, DecidedAt}
 use Rattle.choose_recorded.proofs.Search.{usable_part}
 use Rattle.hear_parts.proofs.Parts.{decided_row, words_below}
-use Rattle.receive_parts.specs.declared.Piece.{Piece}
-use Rattle.receive_parts.specs.declared.Grown.{Grown}
-use Rattle.receive_parts.specs.Pieces.{PlaceBelow, new_words, Looked, PartHeld}
-use Rattle.receive_parts.proofs.Rows.{row_usable, found_place}
+use Rattle.receive_parts.specs.Pieces.{new_words}
+use Rattle.receive_parts.proofs.Rows.{row_usable}
 
 -- ---- the words of the new symbols
 
@@ -140,75 +136,8 @@ new_usable at h m row e u b =
     plus : (i : ℕ) → 0 + i ≡ i
     plus i = omega arith
 
--- ---- an octet held
-
 pub chips_most : (r : Rate) → octet_chips r ≤ 88
 chips_most One = omega arith
 chips_most Two = omega arith
 chips_most Five = omega arith
 chips_most Eleven = omega arith
-
-pub held_bad : (r : Rate) (at : ℕ) (e : Ear) (h : ℕ) (row : List ℕ) (q : ℕ)
-    → Some q ≡ first_unusable at (hard_recording row) → q < 1000000 → e.last < 4
-    → PartHeld r at e h row (record { ear = e; bad = Some q; odd = None })
-held_bad r at e h row q i b l = record {
-  bad_is = i;
-  odd_is = λ z. found_place q z;
-  past = refl;
-  phase = refl;
-  lead = refl;
-  symbol = refl;
-  last_is = λ z. found_place q z;
-  last_small = l;
-  bad_few = b;
-  odd_few = tt;
-}
-
-pub held_one : (r : Rate) (at : ℕ) (e : Ear) (h : ℕ) (row : List ℕ) (x : Grown) → r ≡ One
-    → first_unusable at (hard_recording row) ≡ None → Looked at h row e.last x
-    → PartHeld r at e h row
-    (record {
-      ear = record { lead = e.lead; symbol = e.symbol; past = e.past; phase = e.phase; last = x.last };
-      bad = None;
-      odd = x.odd;
-    })
-held_one r at e h row x i u l =
-    rw i
-    (record {
-      bad_is = sym u;
-      odd_is = λ z. l.odd_is;
-      past = refl;
-      phase = refl;
-      lead = refl;
-      symbol = refl;
-      last_is = λ z o s. l.last_is o;
-      last_small = l.small;
-      bad_few = tt;
-      odd_few = l.odd_few;
-    })
-
--- at the other rates any growth is allowed
-none_odd : (r : Rate) (at : ℕ) (gs : List ℕ) → octet_chips r < 88 → None ≡ odd_growth r at gs
-none_odd One at gs h = absurd (omega arith)
-none_odd Two at gs h = refl
-none_odd Five at gs h = refl
-none_odd Eleven at gs h = refl
-
-pub held_other : (r : Rate) (at : ℕ) (e : Ear) (h : ℕ) (row : List ℕ) (x : Piece) → octet_chips r < 88
-    → first_unusable at (hard_recording row) ≡ None → e.last < 4
-    → (x.ear ≡ e) × (x.bad ≡ None) × (x.odd ≡ None) → PartHeld r at e h row x
-held_other r at e h row x b u l s = record {
-  bad_is = ap s.1 ∙ sym u;
-  odd_is = λ z. ap s.2 ∙ none_odd r _ _ b;
-  past = ap (λ (f : Ear). f.past) s.0;
-  phase = ap (λ (f : Ear). f.phase) s.0;
-  lead = ap (λ (f : Ear). f.lead) s.0;
-  symbol = ap (λ (f : Ear). f.symbol) s.0;
-  last_is = λ z o i. absurd (other (ap octet_chips i));
-  last_small = rw s.0 l;
-  bad_few = subst PlaceBelow (sym s.1) tt;
-  odd_few = subst PlaceBelow (sym s.2) tt;
-}
-  where
-    other : octet_chips r ≡ 88 → ⊥
-    other i = omega arith

@@ -5,7 +5,7 @@
 --     row_unusable, row_usable       the search through a whole row; where it finds nothing all chips are usable
 --     chips_few, symbols_few         whole octets of a frame have few chips and symbols
 --     found_place                    a place that is found is not None
---     usable_heard, unusable_heard   whole octets heard, or not for an unusable chip
+--     usable_heard                   whole octets heard
 -- Assumes nothing.
 use mathlib.Core.Path.{◌≡◌, refl, sym, ap, ◌∙◌}
 use mathlib.Core.Bool.{Bool, true, false, cond}
@@ -171,21 +171,4 @@ usable_heard r at symbol e row w p odd out x u i b = record {
 }
 
 pub found_place : {A : Type 0} (q : ℕ) → Some q ≡ None → A
-found_place q z = absurd (no_place {p = q} (ap z) refl)
-
-pub unusable_heard : (r : Rate) (at symbol : ℕ) (e : Ear) (row : List ℕ) (w q : ℕ) (out : List ℕ)
-    → Some q ≡ first_unusable at (hard_recording row) → q < 1000000 → e.phase < 4 → e.last < 4
-    → WholeHeard r at symbol e row w (record { ear = e; bad = Some q; odd = None }) out
-unusable_heard r at symbol e row w q out i b s l = record {
-  bad_is = i;
-  odd_is = λ z. found_place q z;
-  past = λ z. found_place q z;
-  phase = λ z. found_place q z;
-  last = λ z. found_place q z;
-  least = λ z. found_place q z;
-  octets = λ z. found_place q z;
-  small = s;
-  last_small = l;
-  bad_few = b;
-  odd_few = tt;
-}
+found_place q z = absurd (no_place z refl)

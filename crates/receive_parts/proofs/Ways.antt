@@ -1,7 +1,6 @@
 -- What `take_piece` leaves: the numbers as it counts them, and the two ways in which it takes a piece.
 --     Counted, counted     the octets and chips of a part that have come
---     few_chips, few_numbers, chips_there    a part's places and symbol numbers are small
---     front_long, part_long     the rows lent
+--     part_long            the octets lent
 --     takes_joined         a piece behind the chips that are held
 --     takes_whole          whole octets straight from the batch
 -- The last two also with the numbers as the code has them: joins_taken, heard_taken.
@@ -20,6 +19,7 @@ use Rattle.rules_rates.specs.Rates.{octet_symbols, octet_chips}
 use Rattle.rules_receiving.specs.declared.Ear.{Ear}
 use Rattle.receive_parts.specs.declared.Piece.{Piece}
 use Rattle.receive_parts.specs.Pieces.{WholeHeard, PartHeld, Joins, WholeCount, Becomes, Takes}
+use Rattle.receive_parts.proofs.Looks.{chips_most}
 use Rattle.receive_parts.proofs.Joined.{joined_long}
 use Rattle.receive_parts.proofs.Becoming.{becomes_whole, becomes_held}
 
@@ -42,33 +42,6 @@ counted r from n count chips e l b = rw e (by r b)
     by Five b = record { before = omega arith; part = omega arith; size = omega arith }
     by Eleven b = record { before = omega arith; part = omega arith; size = omega arith }
 
-pub few_chips : (r : Rate) (chips m : ℕ) → chips ≡ octet_chips r → m ≤ 4095 → chips * m ≤ 360360
-few_chips r chips m e l = rw e (by r)
-  where
-    by : (r : Rate) → octet_chips r * m ≤ 360360
-    by One = omega arith
-    by Two = omega arith
-    by Five = omega arith
-    by Eleven = omega arith
-
-pub few_numbers : (r : Rate) (symbols m : ℕ) → symbols ≡ octet_symbols r → m ≤ 4095 → symbols * m ≤ 360360
-few_numbers r symbols m e l = rw e (by r)
-  where
-    by : (r : Rate) → octet_symbols r * m ≤ 360360
-    by One = omega arith
-    by Two = omega arith
-    by Five = omega arith
-    by Eleven = omega arith
-
-pub chips_there : (r : Rate) (chips w len : ℕ) → chips ≡ octet_chips r → octet_chips r * w ≤ len → chips * w ≤ len
-chips_there r chips w len e h = rw e h
-
-most_chips : (r : Rate) → octet_chips r ≤ 88
-most_chips One = omega arith
-most_chips Two = omega arith
-most_chips Five = omega arith
-most_chips Eleven = omega arith
-
 -- the end of w octets behind m is within n
 ends : (r : Rate) (m w n : ℕ) → m + w ≤ n → octet_chips r * m + octet_chips r * w ≤ octet_chips r * n
 ends One m w n h = omega arith
@@ -81,10 +54,6 @@ some_octets One w h = omega arith
 some_octets Two w h = omega arith
 some_octets Five w h = omega arith
 some_octets Eleven w h = omega arith
-
--- a row lent from its first element
-pub front_long : (n : ℕ) (row : List ℕ) → n ≤ length row → length (take (n - 0) row) ≡ n
-front_long n row h = length-take-le (n - 0) row (omega arith) ∙ omega arith
 
 -- the octets lent, and back in their place
 pub part_long : (m w : ℕ) (out : List ℕ) → m + w ≤ length out → length (take (m + w - m) (drop m out)) ≡ w
@@ -115,7 +84,7 @@ module _
   upto = omega (arith, piece_long, end, k.part)
 
   held_long : length (take h hold) ≡ h
-  held_long = length-take-le h hold (omega (arith, k.part, most_chips r, size))
+  held_long = length-take-le h hold (omega (arith, k.part, chips_most r, size))
 
   keeps : take (h + length piece) hold' ≡ take h hold ++ piece
   keeps =
@@ -124,7 +93,7 @@ module _
       (length-append (take h hold) piece ∙ ap (λ (i : ℕ). i + length piece) held_long)
 
   hold_long : length hold' ≡ length hold
-  hold_long = ap length j.hold_is ∙ joined_long hold piece h (omega (arith, upto, most_chips r, size))
+  hold_long = ap length j.hold_is ∙ joined_long hold piece h (omega (arith, upto, chips_most r, size))
 
   within : count + taken ≤ from + octet_chips r * n
   within = by (octet_chips r * m) (octet_chips r * n) (octet_chips r) k.size (next r) end k.part
@@ -228,7 +197,7 @@ pub joins_taken : (r : Rate) (from first n count chips symbols m h : ℕ) (e : E
     (taken : ℕ) (hold' octet : List ℕ) → chips ≡ octet_chips r → symbols ≡ octet_symbols r
     → Counted r from n count m h → n ≤ length out → length hold ≡ 88 → e.phase < 4 → taken ≤ length rest
     → taken ≤ chips - h → (0 < length rest → 0 < chips - h → 0 < taken)
-    → Joins r (from + chips * m) (first + symbols * m) e h hold (take (taken - 0) rest) (take (m + 1 - m) (drop m out))
+    → Joins r (from + chips * m) (first + symbols * m) e h hold (take taken rest) (take (m + 1 - m) (drop m out))
     x hold' octet → length octet ≡ length (take (m + 1 - m) (drop m out))
     → Takes r from first n count e hold rest out (record { piece = x; taken = taken }) hold'
     (put_mid m (m + 1 - m) out octet)
@@ -236,25 +205,21 @@ joins_taken r from first n count chips symbols m h e hold rest out x taken hold'
     some j lent =
     let lend = take (m + 1 - m) (drop m out) in
     let piece = take taken rest in
-    let all : taken - 0 ≡ taken = omega arith in
     takes_joined r from first n count m h e hold rest out x taken hold' octet k room size small most
     (subst (λ (i : ℕ). taken ≤ i - h) c end)
     (subst (λ (i : ℕ). 0 < length rest → 0 < i - h → 0 < taken) c some)
     (subst (λ (i : ℕ). Joins r (from + i * m) (first + octet_symbols r * m) e h hold piece lend x hold' octet) c
-    (subst (λ (i : ℕ). Joins r (from + chips * m) (first + i * m) e h hold piece lend x hold' octet) s
-    (subst (λ (i : ℕ). Joins r (from + chips * m) (first + symbols * m) e h hold (take i rest) lend x hold' octet) all
-    j))) lent
+    (subst (λ (i : ℕ). Joins r (from + chips * m) (first + i * m) e h hold piece lend x hold' octet) s j)) lent
 
 pub heard_taken : (r : Rate) (from first n count chips symbols m h w : ℕ) (e : Ear) (hold rest out : List ℕ)
     (x : Piece) (y : List ℕ) → chips ≡ octet_chips r → symbols ≡ octet_symbols r
     → Counted r from n count m h → n ≤ length out → WholeCount r m h n (length rest) w → 0 < w
-    → WholeHeard r (from + chips * m) (first + symbols * m) e (take (chips * w - 0) rest)
+    → WholeHeard r (from + chips * m) (first + symbols * m) e (take (chips * w) rest)
     (length (take (m + w - m) (drop m out))) x y
     → length y ≡ length (take (m + w - m) (drop m out))
     → Takes r from first n count e hold rest out (record { piece = x; taken = chips * w }) hold
     (put_mid m (m + w - m) out y)
 heard_taken r from first n count chips symbols m h w e hold rest out x y c s k room count-is some heard lent =
-    let all : chips * w - 0 ≡ chips * w = omega arith in
     let long = part_long m w out (omega (arith, count-is.within, room)) in
     subst (λ (i : ℕ). Takes r from first n count e hold rest out (record { piece = x; taken = i * w }) hold
     (put_mid m (m + w - m) out y)) (sym c)
@@ -262,5 +227,4 @@ heard_taken r from first n count chips symbols m h w e hold rest out x y c s k r
     (subst (λ (i : ℕ). WholeHeard r (from + i * m) (first + octet_symbols r * m) e (take (i * w) rest) w x y) c
     (subst (λ (i : ℕ). WholeHeard r (from + chips * m) (first + i * m) e (take (chips * w) rest) w x y) s
     (subst (λ (i : ℕ). WholeHeard r (from + chips * m) (first + symbols * m) e (take (chips * w) rest) i x y) long
-    (subst (λ (i : ℕ). WholeHeard r (from + chips * m) (first + symbols * m) e (take i rest)
-    (length (take (m + w - m) (drop m out))) x y) all heard)))) lent)
+    heard))) lent)

@@ -1,8 +1,7 @@
 -- Whole octets heard behind a part's m-th octet: chips held and a piece, or a piece alone.
---     nothing_found     no place found
---     whole_octets_lem      what the part becomes
+--     whole_octets_lem     what the part becomes
 -- Assumes nothing.
-use mathlib.Core.Path.{◌≡◌, refl, sym, ap, ap₂, subst, ◌∙◌}
+use mathlib.Core.Path.{◌≡◌, sym, ap, ap₂, subst, ◌∙◌}
 use mathlib.Core.List.{List, ◌++◌}
 use Rattle.std.specs.Prelude.{Option, None}
 use Prim.Native.Nat.{ℕ, ◌+◌, ◌-◌, ◌*◌, ◌/◌, ◌%◌, ◌≤◌, ◌<◌}
@@ -26,10 +25,6 @@ use Rattle.rules_receiving.proofs.Advance.{next_words, unusable_next, odd_next, 
 use Rattle.rules_receiving.proofs.Stands.{Stands, stands_goes, stands_more}
 use Rattle.receive_parts.specs.declared.Piece.{Piece}
 use Rattle.receive_parts.specs.Pieces.{row_words, WholeHeard}
-
-pub nothing_found : (o : Option ℕ) → o ≡ None → o ≡ None
-nothing_found None e = refl
-nothing_found (Some place) e = absurd (let z : ◌≡◌ {A = ℕ} 0 1 = cc in omega arith)
 
 some_chips : (r : Rate) → 0 < octet_chips r
 some_chips One = omega arith
@@ -152,6 +147,6 @@ module _
       (take m out ++ (y ++ drop (m + w) out))
   whole_octets_lem = record {
     bad_is = bad_is;
-    odd_is = λ n. odd_is (nothing_found x.bad n);
-    goes = λ n f. goes (nothing_found x.bad n);
+    odd_is = odd_is;
+    goes = λ n f. goes n;
   }

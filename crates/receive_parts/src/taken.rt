@@ -1,34 +1,11 @@
 // A piece of a batch taken: whole octets straight from it, or chips behind those held.
 ghost use Rattle.std.specs.Prelude.{◌≡◌, ◌+◌, ◌-◌, ◌*◌, ◌/◌, ◌%◌, ◌≤◌, ◌<◌, length};
-ghost use Rattle.base.specs.Over.{over};
 ghost use Rattle.rules_rates.specs.Rates.{octet_chips};
 ghost use Rattle.receive_parts.specs.Pieces.{WholeCount, Joins, Takes};
 
 use super::{Piece, Taking, heard};
 use rules_rates::Rate;
 use rules_receiving::Ear;
-
-// The smaller of two sizes.
-pub fn at_most(a: usize, b: usize) -> usize
-    ensures answer { (result ≤ a) × (result ≤ b) × (0 < a → 0 < b → 0 < result) }
-{
-    if a < b {
-        return a;
-    }
-    b
-}
-
-// A row written over another's front.
-pub fn put(from: &[u8], out: &mut [u8])
-    requires { length from.now ≤ length out.old }
-    ensures out { out.new ≡ over from.now out.old }
-{
-    let mut i = 0;
-    while i < from.len() {
-        out[i] = from[i];
-        i += 1;
-    }
-}
 
 // Chips behind the h that are held, up to the end of their octet: it is heard if it is whole then.
 fn join(
@@ -48,8 +25,8 @@ fn join(
 {
     let chips = rate.octet_chips();
     let n = h + piece.len();
-    put(piece, &mut hold[h..n]);
-    let row = &hold[0..n];
+    hold[h..n].copy_from_slice(piece);
+    let row = &hold[..n];
     if n == chips {
         return heard::hear_whole(rate, at, symbol, ear, row, octet);
     }
@@ -64,9 +41,7 @@ fn whole_count(rate: Rate, m: usize, h: usize, n: usize, len: usize) -> usize
     if h != 0 {
         return 0;
     }
-    let chips = rate.octet_chips();
-    let left = n - m;
-    at_most(len / chips, left)
+    (len / rate.octet_chips()).min(n - m)
 }
 
 // A piece of the chips left, behind `count` chips of the recording, of a part that starts at chip `from` with symbol
@@ -96,8 +71,7 @@ pub fn take_piece(
     let symbol = first + symbols * m;
     let w = whole_count(rate, m, h, n, rest.len());
     if w == 0 {
-        let taken = at_most(rest.len(), chips - h);
-        let e = m + 1;
+        let taken = rest.len().min(chips - h);
         let piece = join(
             rate,
             at,
@@ -105,13 +79,12 @@ pub fn take_piece(
             ear,
             h,
             hold,
-            &rest[0..taken],
-            &mut out[m..e],
+            &rest[..taken],
+            &mut out[m..m + 1],
         );
         return Taking { piece, taken };
     }
     let taken = chips * w;
-    let e = m + w;
-    let piece = heard::hear_whole(rate, at, symbol, ear, &rest[0..taken], &mut out[m..e]);
+    let piece = heard::hear_whole(rate, at, symbol, ear, &rest[..taken], &mut out[m..m + w]);
     Taking { piece, taken }
 }
