@@ -1,5 +1,5 @@
 // What a receiver's numbers tell at close.
-ghost use Rattle.std.specs.Prelude.{◌≡◌, List, ℕ, ◌≤◌, length, replicate};
+ghost use Rattle.std.specs.Prelude.{◌≡◌, List, ℕ, ◌≤◌, length, replicate, Err};
 ghost use Rattle.rules_calls.specs.Answers.{record_of};
 ghost use Rattle.rules_receiving.specs.Receivers.{Going};
 ghost use Rattle.rules_receiving.specs.Calls.{kept_record, not_open, ReadsAll};
@@ -11,11 +11,11 @@ use rules_receiving::{Ear, Progress};
 
 // A refusal, and zeros.
 pub fn refuse(e: Refusal, octets: &mut [u8]) -> Record
-    ensures answer { result ≡ record_of (Reading.Refused e) }
+    ensures answer { result ≡ record_of (Err e) }
     ensures octets { octets.new ≡ replicate (length octets.old) 0 }
 {
     common_rows::fill(octets, 0);
-    common_answers::record_of(Reading::Refused(e))
+    common_answers::record_of(Err(e))
 }
 
 // A receiver whose front told: 16, 17, 9, 10, or the whole record.

@@ -13,7 +13,7 @@ use hear_blocks::Hearing;
 use hear_parts::Part;
 use read_fronts::{FrontHeard, Opening};
 use receive_parts::{Piece, Taking, taken};
-use rules_calls::{Front, Least, Reader, Reading, Record, Refusal, Told};
+use rules_calls::{Least, Reader, Reading, Record, Refusal, Told};
 use rules_frame::Kind;
 use rules_rates::Rate;
 use rules_receiving::{Ear, Progress};
@@ -123,7 +123,7 @@ fn header_of(header: &[u8]) -> [u8; 6]
 fn stay(p: Progress, e: Refusal) -> Progress
     ensures answer { result ≡ stayed p e }
 {
-    let record = common_answers::record_of(Reading::Refused(e));
+    let record = common_answers::record_of(Err(e));
     let mut u = p;
     u.status = 3;
     u.number = record.number;
@@ -190,7 +190,7 @@ pub fn front_told(p: Progress, kind: Kind, preamble: &[u8], header: &[u8]) -> Pr
         header: header_of(header),
     };
     match read_fronts::told(Reader::Ours, kind, known).front {
-        Front::Refused(e) => stay(p, e),
-        Front::Fields(t) => tell(p, t),
+        Err(e) => stay(p, e),
+        Ok(t) => tell(p, t),
     }
 }

@@ -34,30 +34,30 @@ returns-then-p-ne0-2 c =
           (a.p.odd - 1) (one_less a.p.odd c.if-p-ne0-2.true));
     }
 
-pub returns-in-Refused : goal.returns-in-Refused
-returns-in-Refused c =
+pub returns-in-Err : goal.returns-in-Err
+returns-in-Err c =
     let a = c.args in
-    let r = c.told.ensures.refuses _ c.in-Refused.is in
+    let r = c.told.ensures.refuses _ c.in-Err.is in
     record {
       answer = told_stays a.kind a.p _ a.preamble.now a.header.now c.requires.5 c.requires.6 _
-          c.stay-in-Refused.ensures.answer c.requires.1 (omega (arith, r.0), r.1)
+          c.stay-in-Err.ensures.answer c.requires.1 (omega (arith, r.0), r.1)
           (λ fed hold at x.
           front_tells a.kind fed a.p hold a.preamble.now a.header.now at x c.if-p-ne0.false c.if-p-ne0-2.false
           c.requires.4 _ _ _ c.sfd_of.ensures.answer c.header_of.ensures.answer c.requires.5 c.told.ensures.answer
-          ∙ c.in-Refused.is);
+          ∙ c.in-Err.is);
     }
 
-pub returns-in-Fields : goal.returns-in-Fields
-returns-in-Fields c =
+pub returns-in-Ok : goal.returns-in-Ok
+returns-in-Ok c =
     let a = c.args in
     record {
       answer = told_tells a.kind a.p _ a.preamble.now a.header.now c.requires.5 c.requires.6 _
-          c.tell.ensures.answer (c.told.ensures.few _ c.in-Fields.is) c.requires.0 c.requires.1 c.requires.2
+          c.tell.ensures.answer (c.told.ensures.few _ c.in-Ok.is) c.requires.0 c.requires.1 c.requires.2
           (λ fed hold at x. (
             front_tells a.kind fed a.p hold a.preamble.now a.header.now at x c.if-p-ne0.false c.if-p-ne0-2.false
                 c.requires.4 _ _ _ c.sfd_of.ensures.answer c.header_of.ensures.answer c.requires.5
                 c.told.ensures.answer
-                ∙ c.in-Fields.is,
+                ∙ c.in-Ok.is,
             front_ends a.kind fed a.p hold a.preamble.now a.header.now at x c.if-p-ne0.false c.if-p-ne0-2.false
                 c.requires.4,
           ));
