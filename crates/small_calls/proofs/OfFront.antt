@@ -133,14 +133,14 @@ module _ (kind : ℕ) (k : Kind) (chips : List ℕ) (room : ℕ) where
           ∙ ap (reason 10 p 0) x
           ∙ sym (is ∙ ap (λ (d : Refusal). reason_of kind k chips rec room (reading.Refused d)) q)
 
-      pub front_header : {r : Reason} {s h : List ℕ} → (refusal_number e ≡ 10 → ⊥) → s ≡ sfd → h ≡ header
+      pub front_header : {r : Reason} {s h : List ℕ} → ((p l : ℕ) → e ≡ OddGrowth p l → ⊥) → s ≡ sfd → h ≡ header
           → r ≡ header_shown k s h e → r ≡ after_told kind k chips room (front_of k rec)
       front_header {r} {s} {h} other a b q =
           q ∙ ap₂ {C = Reason} (λ x y. header_shown k x y e) a b ∙ go shown other ∙ sym is
         where
-          go : {e : Refusal} → Shows e → (refusal_number e ≡ 10 → ⊥)
+          go : {e : Refusal} → Shows e → ((p l : ℕ) → e ≡ OddGrowth p l → ⊥)
               → header_shown k sfd header e ≡ reason_of kind k chips rec room (reading.Refused e)
-          go (at_odd p l a b) n = absurd (n refl)
+          go (at_odd p l a b) n = absurd (n p l refl)
           go {e} (in_header_lem m x y) n = ap₂ {C = Reason} (reason (refusal_number e) (refusal_place e)) x y
 
 -- ---- the whole

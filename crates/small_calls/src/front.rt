@@ -34,13 +34,12 @@ fn told(kind: Kind, t: Told) -> Coming
     requires { t.n ≤ 4095 }
     ensures answer { result ≡ coming_of kind (Front.Fields t) }
 {
-    let rate = t.rate;
     let at = common_kinds::front_chips(kind);
-    let used = common_kinds::frame_chips(kind, rate, t.n);
+    let used = common_kinds::frame_chips(kind, t.rate, t.n);
     Coming {
         number: 0,
         place: 0,
-        rate: rate.code(),
+        rate: t.rate.code(),
         length: t.length as u64,
         clock: t.clock as u64,
         n: t.n as u64,
@@ -59,9 +58,7 @@ pub fn read_front(kind: u64, chips: &[u8]) -> Coming
     if !common_kinds::is_kind(kind) {
         return refused(k, Refusal::NoKind);
     }
-    let opening = read_fronts::read_whole(Reader::Ours, Recording::Hard(chips), k);
-    let front = opening.front;
-    match front {
+    match read_fronts::read_whole(Reader::Ours, Recording::Hard(chips), k).front {
         Front::Refused(e) => refused(k, e),
         Front::Fields(t) => told(k, t),
     }
@@ -74,12 +71,8 @@ pub fn part(coming: Coming, chips: &[u8]) -> &[u8]
 {
     let at = coming.at as usize;
     let count = coming.count as usize;
-    if chips.len() < at {
+    if chips.len() < at || chips.len() - at < count {
         return &chips[0..0];
     }
-    if chips.len() - at < count {
-        return &chips[0..0];
-    }
-    let end = at + count;
-    &chips[at..end]
+    &chips[at..at + count]
 }
