@@ -10,7 +10,7 @@ ghost use Rattle.rules_finding.specs.Finding.{start_or, first_start, finding_of,
 ghost use Rattle.rules_finding.proofs.Laws.{Missed};
 
 use choose_recorders::Recording;
-use rules_calls::{Reader, Refusal, Told};
+use rules_calls::{Front, Reader, Told};
 use rules_finding::{Finding, Found, NotFound};
 use rules_frame::Kind;
 use rules_rates::Rate;
@@ -46,11 +46,10 @@ fn refused(e: NotFound) -> Found
 fn started(offset: usize, t: Told) -> Found
     ensures answer { result ≡ found_of (Finding.Start offset t) }
 {
-    let rate = t.rate;
     Found {
         number: 0,
         offset: offset as u64,
-        rate: rate.code(),
+        rate: t.rate.code(),
         length: t.length as u64,
         clock: t.clock as u64,
         n: t.n as u64,
@@ -60,16 +59,11 @@ fn started(offset: usize, t: Told) -> Found
 // ---- fronts
 
 // What the front from an offset on tells.
-fn front_at(kind: Kind, chips: &[u8], at: usize) -> Result<Told, Refusal>
+fn front_at(kind: Kind, chips: &[u8], at: usize) -> Front
     requires { at ≤ length chips.now }
     ensures answer { result ≡ front_of kind (drop at (hard_recording chips.now)) }
 {
-    let opening = read_fronts::read_front(
-        Reader::Ours,
-        Recording::Hard(&chips[at..]),
-        kind,
-    );
-    opening.front
+    read_fronts::read_front(Reader::Ours, Recording::Hard(&chips[at..]), kind).front
 }
 
 // Whether a front that tells starts at an offset; it is not read where there is no mark.
@@ -82,10 +76,9 @@ fn try_at(kind: Kind, chips: &[u8], at: usize, mark: u8) -> Finding
     if mark == 0 {
         return Finding::Refused(NotFound::NoStart);
     }
-    let front = front_at(kind, chips, at);
-    match front {
-        Err(_) => Finding::Refused(NotFound::NoStart),
-        Ok(told) => Finding::Start { offset: at, told },
+    match front_at(kind, chips, at) {
+        Front::Refused(_) => Finding::Refused(NotFound::NoStart),
+        Front::Fields(told) => Finding::Start { offset: at, told },
     }
 }
 
@@ -99,13 +92,10 @@ fn seek(kind: Kind, chips: &[u8], at: usize, count: usize, marks: &[u8; 512]) ->
     if !find_sweep::any(marks) {
         return Finding::Refused(NotFound::NoStart);
     }
-    let mut j: usize = 0;
-    while j < count {
-        let found = try_at(kind, chips, at + j, marks[j]);
-        if let Finding::Start { offset, told } = found {
+    for j in 0..count {
+        if let Finding::Start { offset, told } = try_at(kind, chips, at + j, marks[j]) {
             return Finding::Start { offset, told };
         }
-        j += 1;
     }
     Finding::Refused(NotFound::NoStart)
 }
@@ -121,8 +111,7 @@ fn tries(kind: Kind, chips: usize, offsets: usize) -> usize
     if chips < front {
         return 0;
     }
-    let most = chips - front + 1;
-    if most < offsets { most } else { offsets }
+    (chips - front + 1).min(offsets)
 }
 
 // The search over all of them, 256 at once.
@@ -138,18 +127,15 @@ fn search(kind: Kind, chips: &[u8], offsets: usize) -> Finding
     let mut halves = [0u8; 512];
     let mut marks = [0u8; 512];
     let mut known: usize = 0;
-    let mut at: usize = 0;
-    while at < tried {
-        let count = find_sweep::at_most(tried - at, 256);
+    for at in (0..tried).step_by(256) {
+        let count = (tried - at).min(256);
         find_sweep::decide(chips, from + at, known, count + 253, &mut halves);
         find_sweep::marks(low, high, &halves, &mut marks);
-        let found = seek(kind, chips, at, count, &marks);
-        if let Finding::Start { offset, told } = found {
+        if let Finding::Start { offset, told } = seek(kind, chips, at, count, &marks) {
             return Finding::Start { offset, told };
         }
         find_sweep::advance(&mut halves);
         known = 253;
-        at += 256;
     }
     Finding::Refused(NotFound::NoStart)
 }
@@ -158,18 +144,13 @@ fn search(kind: Kind, chips: &[u8], offsets: usize) -> Finding
 pub fn find(kind: u64, chips: &[u8], offsets: u64) -> Found
     ensures answer { result ≡ found_of (finding_of kind offsets (hard_recording chips.now)) }
 {
-    let k = common_kinds::kind_of(kind);
     if !common_kinds::is_kind(kind) {
         return refused(NotFound::NoKind);
     }
-    if offsets < 1 {
+    if offsets < 1 || 4096 < offsets {
         return refused(NotFound::NoOffsets);
     }
-    if 4096 < offsets {
-        return refused(NotFound::NoOffsets);
-    }
-    let found = search(k, chips, offsets as usize);
-    match found {
+    match search(common_kinds::kind_of(kind), chips, offsets as usize) {
         Finding::Refused(e) => refused(e),
         Finding::Start { offset, told } => started(offset, told),
     }

@@ -1,14 +1,14 @@
 -- Symbols at 1 Mbit/s, block after block: the first that is grown by 1 or 3.
---     grown_at, grown_small                          how far one symbol grew from the one before it
+--     grown_small                                    two symbols' numbers are phases
 --     row_is, row_words                              the numbers decided for a block are its words
 --     block_last, block_small                        the phase of its last symbol
---     Sought, sought_usable, sought_none, sought_here, sought_more, sought_all
+--     Sought, sought_at, sought_usable, sought_none, sought_here, sought_more, sought_all
 --                                                    the search: before it, found in a block, a block more, after it
 -- Assumes nothing.
 use mathlib.Core.Path.{◌≡◌, refl, sym, ap, ap₂, subst, ◌∙◌}
 use mathlib.Core.List.{List, ◌++◌}
 use Rattle.std.specs.Prelude.{Option, None, Some}
-use Prim.Native.Nat.{ℕ, suc, ◌+◌, ◌-◌, ◌*◌, ◌%◌, ◌≤◌, ◌<◌}
+use Prim.Native.Nat.{ℕ, suc, ◌+◌, ◌-◌, ◌*◌, ◌≤◌, ◌<◌}
 use native.Mathlib.Omega.{arith}
 use lib.ListN.{length, get_or, take}
 use lib.Seq.{get_or-take}
@@ -22,7 +22,6 @@ use Rattle.rules_bits.proofs.Each.{before, last_heard_lem}
 use Rattle.rules_reading.specs.Places.{word_from}
 use Rattle.rules_reading.specs.Reading.{or_else, first_odd, decided_words}
 use Rattle.rules_reading.proofs.Passes.{odd_growth_append}
-use Rattle.rules_why.specs.Why.{growth_at}
 use Rattle.choose_recorded.specs.Recorded.{AllUsable, symbol_at, DecidedAt}
 use Rattle.choose_recorded.proofs.Search.{usable_part}
 use Rattle.hear_codes.specs.Codes.{AreWords}
@@ -45,9 +44,6 @@ module _ (rec : List Taken) (place : ℕ) (ns : List ℕ) (l : 11 ≤ place) (d 
 
   pub grown_small : (get_or ns 0 0 < 4) × (get_or ns 1 0 < 4)
   grown_small = (rw first_is (decided_below One _), rw second_is (decided_below One _))
-
-  pub grown_at : (get_or ns 1 0 + 4 - get_or ns 0 0) % 4 ≡ growth_at place rec
-  grown_at = ap₂ {C = ℕ} (λ x y. (y + 4 - x) % 4) first_is second_is
 
 -- ---- a block of count octets
 module _ (rec : List Taken) (at count : ℕ) (ns : List ℕ) (d : DecidedAt One rec at (8 * count) ns)
@@ -109,6 +105,11 @@ pub record Sought (rec : List Taken) (from n phase place left last : ℕ) : Type
   pub small : last < 4
   pub same : first_odd from (growths_of One phase (part_words One from n rec))
       ≡ first_odd place (growths_of One last (part_words One place left rec))
+
+-- the same of equal places and numbers of octets
+pub sought_at : {rec : List Taken} {from n phase place left last p l : ℕ} → Sought rec from n phase place left last
+    → place ≡ p → left ≡ l → Sought rec from n phase p l last
+sought_at s e f = rw (e, f) at s
 
 -- the chips of the next block are usable
 pub sought_usable : {rec : List Taken} {from n phase place left last : ℕ} (count : ℕ)

@@ -1,34 +1,22 @@
 -- What the SFD and the header show: 11 to 15.
---     length_none, length_some    the LENGTH that the writer makes for the octets read, or 0
---     row_of                      an answer shows the row of its refusal
---     sfd_octets, signal_row, service_row, length_row, micros_row    the bits of a row by the octets
+--     row_of                                             an answer shows the row of its refusal
+--     signal_row, service_row, length_row, micros_row    the bits of a row by the octets
 -- Assumes nothing.
 use mathlib.Core.Path.{◌≡◌, sym, ap, ap₂, ◌∙◌}
-use mathlib.Core.Bool.{true, false}
 use mathlib.Core.List.{List, [], ◌∷◌}
-use Prim.Native.Nat.{ℕ, ◌-◌, ◌/◌, ◌%◌}
-use lib.IntN.{pos}
+use Prim.Native.Nat.{ℕ, ◌/◌, ◌%◌}
 use lib.ListN.{length, get_or, take, drop}
 use Rattle.base.specs.Below.{Below}
 use Rattle.rules_rates.specs.declared.Rate.{Rate}
-use Rattle.rules_rates.specs.Rates.{rate_of, length_field, whole_octets, octets_read, is_payload}
+use Rattle.rules_rates.specs.Rates.{rate_of, octets_read}
 use Rattle.rules_bits.specs.Bits.{number_of, octet_bits}
 use Rattle.rules_frame.specs.declared.Kind.{Kind}
 use Rattle.rules_calls.specs.declared.Refusal.{Refusal}
 use Rattle.rules_calls.specs.Answers.{refusal_number, refusal_place}
-use Rattle.rules_calls.proofs.Fields.{two_is, signal_cut, service_cut, length_cut}
-use Rattle.common_header.proofs.Lengths.{read_payload, read_is}
+use Rattle.rules_calls.proofs.Fields.{signal_cut, service_cut, length_cut}
 use Rattle.rules_why.specs.declared.Reason.{Reason}
 use Rattle.rules_why.specs.Why.{service_left, length_for, reason}
 use Rattle.small_calls.specs.Why.{header_row, header_shown}
-
--- ---- 15: LENGTH for n octets read
-module _ (r : Rate) (l s n : ℕ) (e : n ≡ whole_octets r l - s) where
-  pub length_none : is_payload (pos n) ≡ false → 0 ≡ length_for r (octets_read r l s)
-  length_none k = rw (read_payload r l s n e, k)
-
-  pub length_some : is_payload (pos n) ≡ true → (f : ℕ) → f ≡ length_field r n → f ≡ length_for r (octets_read r l s)
-  length_some k f q = rw (read_is r l s n e k, k) q
 
 -- ---- a row
 module _ (k : Kind) (sfd header : List ℕ) where
@@ -40,10 +28,6 @@ module _ (k : Kind) (sfd header : List ℕ) where
       (y ∙ sym (ap (λ (d : Refusal). (header_row k sfd header d).1) q))
 
 -- ---- by the octets
-pub sfd_octets : {x : ℕ} (sfd : List ℕ) → length sfd ≡ 2
-    → x ≡ number_of (octet_bits (get_or sfd 0 0 ∷ get_or sfd 1 0 ∷ [])) → x ≡ number_of (octet_bits sfd)
-sfd_octets sfd two e = e ∙ sym (ap (λ (xs : List ℕ). number_of (octet_bits xs)) (two_is sfd two))
-
 module _ (header : List ℕ) (six : length header ≡ 6) (octets : Below 256 header) where
   abbrev bits : List ℕ
   bits = octet_bits header

@@ -13,13 +13,7 @@ use rules_compare::Compared;
 fn if_both(one: u64, other: u64, n: u64) -> u64
     ensures answer { result ≡ cond (eqb one 0 && eqb other 0) n 0 }
 {
-    if one != 0 {
-        return 0;
-    }
-    if other != 0 {
-        return 0;
-    }
-    n
+    if one == 0 && other == 0 { n } else { 0 }
 }
 
 // Lists where the first n octets of one buffer and the first m of another differ; answers how many do.

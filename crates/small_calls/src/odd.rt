@@ -27,12 +27,7 @@ fn decide(chips: &[u8], place: usize, m: usize, numbers: &mut [u8; 64])
     ensures numbers { DecidedAt Rate.One (hard_recording chips.now) place m numbers.new }
 {
     let mut leads = [0u32; 64];
-    Recording::Hard(chips).decide(Rate::One,
-        place,
-        m,
-        numbers,
-        &mut leads,
-    );
+    Recording::Hard(chips).decide(Rate::One, place, m, numbers, &mut leads);
 }
 
 // 10: how far the symbol at a place grew from the one before it.
@@ -46,14 +41,6 @@ pub fn growth_at(chips: &[u8], place: usize) -> u64
     ((numbers[1] + 4 - numbers[0]) % 4) as u64
 }
 
-// How many of so many octets the next block takes: eight, which are 64 symbols at 1 Mbit/s, or what is left.
-fn at_most_8(left: usize) -> usize
-    requires { 0 < left }
-    ensures answer { (0 < result) × (result ≤ 8) × (result ≤ left) }
-{
-    if left < 8 { left } else { 8 }
-}
-
 // Octets at 1 Mbit/s that start at a place, at most a block of them, the first symbol grown from a phase.
 fn block(chips: &[u8], place: usize, count: usize, before: u8) -> Grown
     requires { (0 < count) × (count ≤ 8) × (place + 88 * count ≤ length chips.now) × (before < 4)
@@ -64,32 +51,27 @@ fn block(chips: &[u8], place: usize, count: usize, before: u8) -> Grown
     let mut numbers = [0u8; 64];
     let m = 8 * count;
     decide(chips, place, m, &mut numbers);
-    let odd = hear_blocks::odd_growth(place, before, numbers, m);
-    let last = numbers[m - 1];
-    Grown { odd, last }
+    Grown {
+        odd: hear_blocks::odd_growth(place, before, numbers, m),
+        last: numbers[m - 1],
+    }
 }
 
-// 10 over octets at 1 Mbit/s that start at a place, block after block: the first symbol that is grown by 1 or 3, the
-// first of them from a phase.
+// 10 over octets at 1 Mbit/s that start at a place, eight after eight, which are 64 symbols: the first symbol that is
+// grown by 1 or 3, the first of them from a phase.
 fn first_odd(chips: &[u8], from: usize, n: usize, phase: u8) -> Option<usize>
     requires { (from + 88 * n ≤ length chips.now) × (phase < 4)
         × AllUsable (hard_recording chips.now) from (88 * n) }
     ensures answer { result ≡ first_odd from (growths_of Rate.One phase
         (part_words Rate.One from n (hard_recording chips.now))) }
 {
-    let mut place = from;
-    let mut left = n;
     let mut before = phase;
-    while 0 < left {
-        let count = at_most_8(left);
-        let grown = block(chips, place, count, before);
-        let odd = grown.odd;
-        if let Some(at) = odd {
-            return Some(at);
+    for k in (0..n).step_by(8) {
+        let Grown { odd, last } = block(chips, from + 88 * k, (n - k).min(8), before);
+        if let Some(place) = odd {
+            return Some(place);
         }
-        before = grown.last;
-        place += 88 * count;
-        left -= count;
+        before = last;
     }
     None
 }
@@ -103,8 +85,6 @@ pub fn odd_in_payload(chips: &[u8], from: usize, rate: Rate, n: usize, phase: u8
 {
     match rate {
         Rate::One => first_odd(chips, from, n, phase),
-        Rate::Two => None,
-        Rate::Five => None,
-        Rate::Eleven => None,
+        Rate::Two | Rate::Five | Rate::Eleven => None,
     }
 }

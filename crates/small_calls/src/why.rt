@@ -1,6 +1,6 @@
 // Why a read of a hard recording is refused: reading's own functions look for the refusal, and what it is about stands
 // in what they heard. No octet of a payload is worked out.
-ghost use Rattle.std.specs.Prelude.{◌≡◌, ℕ, ◌≤◌, ◌<◌, length, Ok};
+ghost use Rattle.std.specs.Prelude.{◌≡◌, ℕ, ◌≤◌, ◌<◌, length};
 ghost use Rattle.rules_rates.specs.Rates.{octets_read};
 ghost use Rattle.rules_chips.specs.Chips.{hard_recording};
 ghost use Rattle.rules_bits.specs.Bits.{octet_bits};
@@ -12,12 +12,13 @@ ghost use Rattle.choose_recorded.specs.Recorded.{AllUsable};
 ghost use Rattle.read_fronts.specs.Openings.{FrontKnown, Looks};
 ghost use Rattle.small_calls.specs.Why.{header_shown, after_told};
 
+use super::odd;
 use choose_recorders::Recording;
 use common_lines::Line;
 use hear_blocks::Hearing;
 use hear_parts::Part;
 use read_fronts::{FrontHeard, Look, Opening};
-use rules_calls::{Least, Reader, Refusal, Told};
+use rules_calls::{Front, Least, Reader, Refusal, Told};
 use rules_frame::Kind;
 use rules_rates::Rate;
 use rules_why::Reason;
@@ -52,9 +53,7 @@ fn service_left(r: Rate, service: u8) -> u8
 {
     let two = service - 4 * (service / 4 % 2);
     match r {
-        Rate::One => two,
-        Rate::Two => two,
-        Rate::Five => two,
+        Rate::One | Rate::Two | Rate::Five => two,
         Rate::Eleven => two - 128 * (service / 128 % 2),
     }
 }
@@ -88,9 +87,9 @@ fn of_header(kind: Kind, sfd: [u8; 2], header: [u8; 6], e: Refusal) -> Reason
             common_header::crc_worked_out(header) as u64,
             common_header::crc_read(header) as u64,
         ),
-        Refusal::Signal { length: _ } => refused(e, 0, header[0] as u64),
-        Refusal::Service { length: _ } => refused(e, 0, service_left(r, header[1]) as u64),
-        Refusal::Length { length: _ } => {
+        Refusal::Signal { .. } => refused(e, 0, header[0] as u64),
+        Refusal::Service { .. } => refused(e, 0, service_left(r, header[1]) as u64),
+        Refusal::Length { .. } => {
             let length = common_header::both(header[2], header[3]);
             let expected = length_for(r, length, header[1] / 128 % 2);
             refused(e, expected as u64, length as u64)
@@ -108,21 +107,17 @@ fn of_chips(kind: Kind, chips: &[u8], told: Told, phase: u8) -> Reason
         (hard_recording chips.now) room
         (payload_reading kind told (hard_recording chips.now) room) }
 {
-    let n = told.n;
-    let rate = told.rate;
-    let length = told.length;
     let from = common_kinds::front_chips(kind);
-    let all = common_kinds::frame_chips(kind, rate, n);
-    let bad = Recording::Hard(chips).first_unusable(from, all);
-    if let Some(place) = bad {
+    let all = common_kinds::frame_chips(kind, told.rate, told.n);
+    let length = told.length;
+    if let Some(place) = Recording::Hard(chips).first_unusable(from, all) {
         return refused(Refusal::Unusable { place, length }, 0, chips[place] as u64);
     }
-    let odd = super::odd::odd_in_payload(chips, from, rate, n, phase);
-    match odd {
+    match odd::odd_in_payload(chips, from, told.rate, told.n, phase) {
         Some(place) => refused(
             Refusal::OddGrowth { place, length },
             0,
-            super::odd::growth_at(chips, place),
+            odd::growth_at(chips, place),
         ),
         None => good(),
     }
@@ -130,21 +125,19 @@ fn of_chips(kind: Kind, chips: &[u8], told: Told, phase: u8) -> Reason
 
 // What a front that told comes to: 16, 17, then 9 and 10 over the payload.
 fn of_payload(kind: Kind, chips: &[u8], room: u64, told: Told, phase: u8) -> Reason
-    requires { (front_of kind (hard_recording chips.now) ≡ Ok told)
+    requires { (front_of kind (hard_recording chips.now) ≡ Front.Fields told)
         × (phase ≡ payload_phase kind (hard_recording chips.now)) × (phase < 4)
         × AllUsable (hard_recording chips.now) 0 (front_chips kind) }
     ensures answer { (number : ℕ) → result ≡
-        after_told number kind chips.now room (Ok told) }
+        after_told number kind chips.now room (Front.Fields told) }
 {
-    let n = told.n;
-    let rate = told.rate;
+    let all = common_kinds::frame_chips(kind, told.rate, told.n);
     let length = told.length;
-    let all = common_kinds::frame_chips(kind, rate, n);
     if chips.len() < all {
         return refused(Refusal::Ends { length }, all as u64, chips.len() as u64);
     }
-    if room < n as u64 {
-        return refused(Refusal::OctetRoom { length }, n as u64, room);
+    if room < told.n as u64 {
+        return refused(Refusal::OctetRoom { length }, told.n as u64, room);
     }
     of_chips(kind, chips, told, phase)
 }
@@ -156,23 +149,15 @@ fn of_front(kind: Kind, chips: &[u8], room: u64, known: FrontHeard) -> Reason
     ensures answer { (number : ℕ) → result ≡ after_told number kind chips.now room
         (front_of kind (hard_recording chips.now)) }
 {
-    let sfd = known.sfd;
-    let header = known.header;
-    let opening = read_fronts::told(Reader::Ours, kind, known);
-    let front = opening.front;
+    let Opening { front, line, .. } = read_fronts::told(Reader::Ours, kind, known);
     match front {
-        Err(e) => match e {
-            Refusal::OddGrowth { place, length: _ } => refused(
-                e,
-                0,
-                super::odd::growth_at(chips, place),
-            ),
-            _ => of_header(kind, sfd, header, e),
-        },
-        Ok(told) => {
-            let line = opening.line;
-            of_payload(kind, chips, room, told, line.phase)
-        }
+        Front::Refused(Refusal::OddGrowth { place, length }) => refused(
+            Refusal::OddGrowth { place, length },
+            0,
+            odd::growth_at(chips, place),
+        ),
+        Front::Refused(e) => of_header(kind, known.sfd, known.header, e),
+        Front::Fields(told) => of_payload(kind, chips, room, told, line.phase),
     }
 }
 
@@ -184,8 +169,7 @@ pub fn why(kind: u64, chips: &[u8], room: u64) -> Reason
         return refused(Refusal::NoKind, 0, kind);
     }
     let k = common_kinds::kind_of(kind);
-    let looked = read_fronts::look_at_front(Recording::Hard(chips), k);
-    match looked {
+    match read_fronts::look_at_front(Recording::Hard(chips), k) {
         Look::Shorter => refused(
             Refusal::ShorterThanFront,
             common_kinds::front_chips(k) as u64,
