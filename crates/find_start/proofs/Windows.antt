@@ -1,5 +1,7 @@
 -- 256 offsets after 256: what the marks say of fronts, where the search ends, and the halves that are carried on.
 -- Assumes nothing.
+use Rattle.std.specs.Prelude.{Result, Ok, Err}
+use Rattle.rules_calls.specs.declared.Refusal.{Refusal}
 use mathlib.Core.Path.{◌≡◌, refl, sym, ap, ◌∙◌, subst}
 use mathlib.Core.List.{List}
 use Prim.Native.Nat.{ℕ, ◌+◌, ◌-◌, ◌/◌, ◌%◌, ◌≤◌, ◌<◌, min}
@@ -12,8 +14,6 @@ use Rattle.rules_chips.specs.Chips.{Taken}
 use Rattle.rules_frame.specs.declared.Kind.{Kind}
 use Rattle.rules_frame.specs.Frame.{sfd_of, front_chips}
 use Rattle.rules_calls.specs.declared.Told.{Told}
-use Rattle.rules_calls.specs.declared.Front.{Front}
-use Rattle.rules_calls.specs.declared.Front.TheVariants as front
 use Rattle.rules_reading.specs.Reading.{front_of}
 use Rattle.rules_reading.proofs.Places.{some_chips}
 use Rattle.rules_finding.specs.declared.NotFound.{NotFound}
@@ -47,9 +47,9 @@ module _ (kind : Kind) (rec : List Taken) where
     pub unmarked : (j : ℕ) → j < count → get_or marks j 0 ≡ 0 → Missed (front_of kind (drop (at + j) rec))
     unmarked j l z = by (front_of kind (drop (at + j) rec)) refl
       where
-        by : (f : Front) → front_of kind (drop (at + j) rec) ≡ f → Missed f
-        by (front.Refused e) g = tt
-        by (front.Fields t) g =
+        by : (f : Result Told Refusal) → front_of kind (drop (at + j) rec) ≡ f → Missed f
+        by (Err e) g = tt
+        by (Ok t) g =
             let p : from + at + j ≡ at + j + sfd_from kind = omega (arith, from_is) in
             let q : from + at + j + 88 ≡ at + j + sfd_from kind + 88 = omega (arith, from_is) in
             m.each j l (ap (octet_at rec) p ∙ sfd_low rec (at + j) kind t g ∙ sym low-is)

@@ -10,7 +10,7 @@ ghost use Rattle.rules_finding.specs.Finding.{start_or, first_start, finding_of,
 ghost use Rattle.rules_finding.proofs.Laws.{Missed};
 
 use choose_recorders::Recording;
-use rules_calls::{Front, Reader, Told};
+use rules_calls::{Reader, Refusal, Told};
 use rules_finding::{Finding, Found, NotFound};
 use rules_frame::Kind;
 use rules_rates::Rate;
@@ -59,7 +59,7 @@ fn started(offset: usize, t: Told) -> Found
 // ---- fronts
 
 // What the front from an offset on tells.
-fn front_at(kind: Kind, chips: &[u8], at: usize) -> Front
+fn front_at(kind: Kind, chips: &[u8], at: usize) -> Result<Told, Refusal>
     requires { at ≤ length chips.now }
     ensures answer { result ≡ front_of kind (drop at (hard_recording chips.now)) }
 {
@@ -77,8 +77,8 @@ fn try_at(kind: Kind, chips: &[u8], at: usize, mark: u8) -> Finding
         return Finding::Refused(NotFound::NoStart);
     }
     match front_at(kind, chips, at) {
-        Front::Refused(_) => Finding::Refused(NotFound::NoStart),
-        Front::Fields(told) => Finding::Start { offset: at, told },
+        Err(_) => Finding::Refused(NotFound::NoStart),
+        Ok(told) => Finding::Start { offset: at, told },
     }
 }
 

@@ -3,6 +3,8 @@
 --     front_odd_lem, front_header        10 over the front, and 11 to 15
 --     why_no_kind, why_shorter, why_unusable, why_told    the whole: 1, 8, 9 over the front, and what a front comes to
 -- Assumes nothing.
+use Rattle.std.specs.Prelude.{Result, Ok, Err}
+use Rattle.rules_calls.specs.declared.Told.{Told}
 use mathlib.Core.Path.{◌≡◌, refl, sym, ap, ap₂, subst, ◌∙◌}
 use mathlib.Core.Bool.{true, false}
 use mathlib.Core.List.{List}
@@ -26,9 +28,6 @@ use Rattle.rules_calls.specs.declared.Refusal.TheVariants.{
   Service,
   Length,
 }
-use Rattle.rules_calls.specs.declared.Front.{Front}
-use Rattle.rules_calls.specs.declared.Front.TheVariants.{Refused, Fields}
-use Rattle.rules_calls.specs.declared.Reading.TheVariants as reading
 use Rattle.rules_calls.specs.Answers.{refusal_number, refusal_place}
 use Rattle.rules_calls.specs.Headers.{ours, header_of}
 use Rattle.rules_calls.proofs.Accepting.{
@@ -75,14 +74,14 @@ module _ (kind : ℕ) (k : Kind) (chips : List ℕ) (room : ℕ) where
         → (header_row k sfd header e).0 ≡ (shown_of kind k chips rec room e).0
         → (header_row k sfd header e).1 ≡ (shown_of kind k chips rec room e).1 → Shows e
 
-  abbrev ShownIf : Front → Type 0
-  ShownIf (Refused e) = Shows e
-  ShownIf (Fields t) = Unit {0}
+  abbrev ShownIf : Result Told Refusal → Type 0
+  ShownIf (Err e) = Shows e
+  ShownIf (Ok t) = Unit {0}
 
   header_shown_lem : ShownIf (header_of ours k sfd header)
   header_shown_lem = go (header_comes ours k sfd header)
     where
-      go : {f : Front} → HeaderComes ours k sfd header f → ShownIf f
+      go : {f : Result Told Refusal} → HeaderComes ours k sfd header f → ShownIf f
       go (sfd_other s) = in_header_lem {e = Sfd} (λ n. omega arith) refl refl
       go (crc_other s c) = in_header_lem {e = Crc} (λ n. omega arith) refl refl
       go (fields_behind s c (signal_out a)) =
@@ -101,9 +100,9 @@ module _ (kind : ℕ) (k : Kind) (chips : List ℕ) (room : ℕ) where
 
   front_shown : ShownIf (after_usable ours k rec)
   front_shown =
-      found_or_none ShownIf (front_odd k rec) (λ p. Refused (OddGrowth p 0)) _ odd_shown (λ e. header_shown_lem)
+      found_or_none ShownIf (front_odd k rec) (λ p. Err (OddGrowth p 0)) _ odd_shown (λ e. header_shown_lem)
 
-  module _ (e : Refusal) (told : after_usable ours k rec ≡ Refused e) where
+  module _ (e : Refusal) (told : after_usable ours k rec ≡ Err e) where
     shown : Shows e
     shown = subst ShownIf told front_shown
 
@@ -123,7 +122,7 @@ module _ (kind : ℕ) (k : Kind) (chips : List ℕ) (room : ℕ) where
         go (in_header_lem n x y) q = absurd (n (ap refusal_number q))
 
     module _ (usable : front_of k rec ≡ after_usable ours k rec) where
-      is : after_told kind k chips room (front_of k rec) ≡ reason_of kind k chips rec room (reading.Refused e)
+      is : after_told kind k chips room (front_of k rec) ≡ reason_of kind k chips rec room (Err e)
       is = ap (after_told kind k chips room) (usable ∙ told)
 
       pub front_odd_lem : {r : Reason} (p l : ℕ) {g : ℕ} → e ≡ OddGrowth p l → g ≡ growth_at p rec
@@ -131,7 +130,7 @@ module _ (kind : ℕ) (k : Kind) (chips : List ℕ) (room : ℕ) where
       front_odd_lem p l q x h =
           h
           ∙ ap (reason 10 p 0) x
-          ∙ sym (is ∙ ap (λ (d : Refusal). reason_of kind k chips rec room (reading.Refused d)) q)
+          ∙ sym (is ∙ ap (λ (d : Refusal). reason_of kind k chips rec room (Err d)) q)
 
       pub front_header : {r : Reason} {s h : List ℕ} → ((p l : ℕ) → e ≡ OddGrowth p l → ⊥) → s ≡ sfd → h ≡ header
           → r ≡ header_shown k s h e → r ≡ after_told kind k chips room (front_of k rec)
@@ -139,7 +138,7 @@ module _ (kind : ℕ) (k : Kind) (chips : List ℕ) (room : ℕ) where
           q ∙ ap₂ {C = Reason} (λ x y. header_shown k x y e) a b ∙ go shown other ∙ sym is
         where
           go : {e : Refusal} → Shows e → ((p l : ℕ) → e ≡ OddGrowth p l → ⊥)
-              → header_shown k sfd header e ≡ reason_of kind k chips rec room (reading.Refused e)
+              → header_shown k sfd header e ≡ reason_of kind k chips rec room (Err e)
           go (at_odd p l a b) n = absurd (n p l refl)
           go {e} (in_header_lem m x y) n = ap₂ {C = Reason} (reason (refusal_number e) (refusal_place e)) x y
 
@@ -157,10 +156,10 @@ module _ (kind : ℕ) (chips : List ℕ) (room : ℕ) where
     unfolding why_of reading_of
     why_told q = rw (h, ← e) q
 
-    pub why_shorter : {r : Reason} {n : ℕ} → front_of k all ≡ Refused ShorterThanFront → n ≡ front_chips k
+    pub why_shorter : {r : Reason} {n : ℕ} → front_of k all ≡ Err ShorterThanFront → n ≡ front_chips k
         → r ≡ reason 8 0 n (length chips) → r ≡ why_of kind chips room
     why_shorter f x q = why_told (q ∙ rw (f, x))
 
-    pub why_unusable : {r : Reason} (p : ℕ) → front_of k all ≡ Refused (Unusable p 0)
+    pub why_unusable : {r : Reason} (p : ℕ) → front_of k all ≡ Err (Unusable p 0)
         → r ≡ reason 9 p 0 (get_or chips p 0) → r ≡ why_of kind chips room
     why_unusable p f q = why_told (q ∙ rw f)

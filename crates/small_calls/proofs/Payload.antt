@@ -7,6 +7,7 @@
 --     shown_ends, shown_room, shown_behind         16, 17, and what is behind them
 --     few_octets                                   a front tells of at most 4,095 octets
 -- Assumes nothing.
+use Rattle.std.specs.Prelude.{Ok}
 use mathlib.Core.Path.{◌≡◌, refl, ap, ap₂, subst, ◌∙◌}
 use mathlib.Core.Bool.{false}
 use mathlib.Core.List.{List}
@@ -29,7 +30,6 @@ use Rattle.rules_frame.specs.declared.Kind.{Kind}
 use Rattle.rules_frame.specs.declared.Kind.TheVariants.{Long, Short}
 use Rattle.rules_frame.specs.Frame.{front_chips, frame_chips}
 use Rattle.rules_calls.specs.declared.Told.{Told}
-use Rattle.rules_calls.specs.declared.Front.TheVariants.{Fields}
 use Rattle.rules_calls.specs.Headers.{ours}
 use Rattle.rules_calls.proofs.Accepting.{Tells}
 use Rattle.rules_reading.specs.Heard.{signal_heard, service_heard, length_heard}
@@ -142,7 +142,7 @@ module _ (k : Kind) (chips : List ℕ) (t : Told) where
       c ∙ ap₂ (λ x y. odd_growth t.rate x (growths_of t.rate y (part_words t.rate x t.n rec))) a b
 
   -- ---- what a front told
-  module _ (told : front_of k rec ≡ Fields t) where
+  module _ (told : front_of k rec ≡ Ok t) where
     tells : Tells ours k (signal_heard k rec) (service_heard k rec) (length_heard k rec) t
     tells = (subst (FrontIf k rec) told (front_refuses k rec)).tells
 
@@ -172,9 +172,9 @@ module _ (k : Kind) (chips : List ℕ) (t : Told) where
 
     -- ---- 16 and 17 before it
     abbrev ShownAfter : Reason → Type 0
-    ShownAfter r = r ≡ after_told kind k chips room (Fields t)
+    ShownAfter r = r ≡ after_told kind k chips room (Ok t)
 
-    module _ (told : front_of k rec ≡ Fields t) where
+    module _ (told : front_of k rec ≡ Ok t) where
       pub shown_ends : {r : Reason} {a : ℕ} → a ≡ all → length chips < a → r ≡ reason 16 0 a (length chips)
           → ShownAfter r
       shown_ends {a = a} e l h =

@@ -2,6 +2,8 @@
 -- front, and growths over a block of symbols.
 -- Definitions only. Assumes nothing.
 -- working notion: of the code that says why; no promise needs it
+use Rattle.std.specs.Prelude.{Result}
+use Rattle.rules_calls.specs.declared.Told.{Told}
 use Rattle.std.specs.Prelude.{◌≡◌, List, ℕ, ◌/◌, ◌%◌, ◌<◌, take, drop}
 use Rattle.rules_rates.specs.declared.Rate.TheVariants.{One}
 use Rattle.rules_rates.specs.Rates.{rate_of, octets_read}
@@ -31,7 +33,6 @@ use Rattle.rules_calls.specs.declared.Refusal.TheVariants.{
   Ends,
   OctetRoom,
 }
-use Rattle.rules_calls.specs.declared.Front.{Front}
 use Rattle.rules_calls.specs.Answers.{refusal_number, refusal_place}
 use Rattle.rules_reading.specs.Reading.{first_odd, whole_of, after_front}
 use Rattle.rules_why.specs.declared.Reason.{Reason}
@@ -73,7 +74,7 @@ module _ (k : Kind) (sfd header : List ℕ) where
   header_shown e = reason (refusal_number e) (refusal_place e) (header_row e).0 (header_row e).1
 
 -- what is answered of a recording whose front tells f, for a kind as a number
-abbrev pub after_told : ℕ → Kind → List ℕ → ℕ → Front → Reason
+abbrev pub after_told : ℕ → Kind → List ℕ → ℕ → Result Told Refusal → Reason
 after_told kind k chips room f =
     let rec = hard_recording chips in
     reason_of kind k chips rec room (after_front k rec room (whole_of k rec f))

@@ -1,20 +1,20 @@
 // What is coming: a hard recording's front read, and none of its payload's chips; and the part of the recording that
 // holds those.
-ghost use Rattle.std.specs.Prelude.{◌≡◌, ◌≤◌};
+ghost use Rattle.std.specs.Prelude.{◌≡◌, ◌≤◌, Ok, Err};
 ghost use Rattle.rules_chips.specs.Chips.{hard_recording};
 ghost use Rattle.rules_frame.specs.Frame.{kind_of};
 ghost use Rattle.rules_coming.specs.Coming.{front_reading, coming_of};
 ghost use Rattle.promises.specs.Calls.{Handed};
 
 use choose_recorders::Recording;
-use rules_calls::{Front, Reader, Refusal, Told};
+use rules_calls::{Reader, Refusal, Told};
 use rules_coming::Coming;
 use rules_frame::Kind;
 use rules_rates::Rate;
 
 // A refusal in numbers: all else is 0.
 fn refused(kind: Kind, e: Refusal) -> Coming
-    ensures answer { result ≡ coming_of kind (Front.Refused e) }
+    ensures answer { result ≡ coming_of kind (Err e) }
 {
     Coming {
         number: common_answers::number_of(e),
@@ -32,7 +32,7 @@ fn refused(kind: Kind, e: Refusal) -> Coming
 // What a header tells in numbers, the whole frame's chips, and where the payload's are.
 fn told(kind: Kind, t: Told) -> Coming
     requires { t.n ≤ 4095 }
-    ensures answer { result ≡ coming_of kind (Front.Fields t) }
+    ensures answer { result ≡ coming_of kind (Ok t) }
 {
     let at = common_kinds::front_chips(kind);
     let used = common_kinds::frame_chips(kind, t.rate, t.n);
@@ -59,8 +59,8 @@ pub fn read_front(kind: u64, chips: &[u8]) -> Coming
         return refused(k, Refusal::NoKind);
     }
     match read_fronts::read_whole(Reader::Ours, Recording::Hard(chips), k).front {
-        Front::Refused(e) => refused(k, e),
-        Front::Fields(t) => told(k, t),
+        Err(e) => refused(k, e),
+        Ok(t) => told(k, t),
     }
 }
 

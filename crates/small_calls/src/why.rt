@@ -1,6 +1,6 @@
 // Why a read of a hard recording is refused: reading's own functions look for the refusal, and what it is about stands
 // in what they heard. No octet of a payload is worked out.
-ghost use Rattle.std.specs.Prelude.{◌≡◌, ℕ, ◌≤◌, ◌<◌, length};
+ghost use Rattle.std.specs.Prelude.{◌≡◌, ℕ, ◌≤◌, ◌<◌, length, Ok};
 ghost use Rattle.rules_rates.specs.Rates.{octets_read};
 ghost use Rattle.rules_chips.specs.Chips.{hard_recording};
 ghost use Rattle.rules_bits.specs.Bits.{octet_bits};
@@ -18,7 +18,7 @@ use common_lines::Line;
 use hear_blocks::Hearing;
 use hear_parts::Part;
 use read_fronts::{FrontHeard, Look, Opening};
-use rules_calls::{Front, Least, Reader, Refusal, Told};
+use rules_calls::{Least, Reader, Refusal, Told};
 use rules_frame::Kind;
 use rules_rates::Rate;
 use rules_why::Reason;
@@ -125,11 +125,11 @@ fn of_chips(kind: Kind, chips: &[u8], told: Told, phase: u8) -> Reason
 
 // What a front that told comes to: 16, 17, then 9 and 10 over the payload.
 fn of_payload(kind: Kind, chips: &[u8], room: u64, told: Told, phase: u8) -> Reason
-    requires { (front_of kind (hard_recording chips.now) ≡ Front.Fields told)
+    requires { (front_of kind (hard_recording chips.now) ≡ Ok told)
         × (phase ≡ payload_phase kind (hard_recording chips.now)) × (phase < 4)
         × AllUsable (hard_recording chips.now) 0 (front_chips kind) }
     ensures answer { (number : ℕ) → result ≡
-        after_told number kind chips.now room (Front.Fields told) }
+        after_told number kind chips.now room (Ok told) }
 {
     let all = common_kinds::frame_chips(kind, told.rate, told.n);
     let length = told.length;
@@ -151,13 +151,13 @@ fn of_front(kind: Kind, chips: &[u8], room: u64, known: FrontHeard) -> Reason
 {
     let Opening { front, line, .. } = read_fronts::told(Reader::Ours, kind, known);
     match front {
-        Front::Refused(Refusal::OddGrowth { place, length }) => refused(
+        Err(Refusal::OddGrowth { place, length }) => refused(
             Refusal::OddGrowth { place, length },
             0,
             odd::growth_at(chips, place),
         ),
-        Front::Refused(e) => of_header(kind, known.sfd, known.header, e),
-        Front::Fields(told) => of_payload(kind, chips, room, told, line.phase),
+        Err(e) => of_header(kind, known.sfd, known.header, e),
+        Ok(told) => of_payload(kind, chips, room, told, line.phase),
     }
 }
 

@@ -45,11 +45,11 @@ returns-then-offsets-lt1 c =
           ∙ ap found_of (sym (finding_no_offsets _ _ _ (passed c.is_kind.ensures.answer c.if-not-is_kind.false) out));
     }
 
-pub returns-in-Refused : goal.returns-in-Refused
-returns-in-Refused c = record {
+pub returns-in-Err : goal.returns-in-Err
+returns-in-Err c = record {
   answer = searched _ _ _ _ _ _ _ (passed c.is_kind.ensures.answer c.if-not-is_kind.false) c.kind_of.ensures.answer
-      c.if-offsets-lt1.false c.if-offsets-gt4096.false c.search.ensures.answer c.in-Refused.is
-      c.refused-in-Refused.ensures.answer;
+      c.if-offsets-lt1.false c.if-offsets-gt4096.false c.search.ensures.answer c.in-Err.is
+      c.refused-in-Err.ensures.answer;
 }
 
 pub returns-in-Start : goal.returns-in-Start

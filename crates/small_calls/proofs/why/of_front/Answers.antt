@@ -13,17 +13,17 @@ growth_at-requires c =
     let a = c.args in
     let r = c.requires in
     let opened = c.told-front.ensures.answer (hard_recording a.chips.now) r.1 in
-    let odd = c.in-Refused-OddGrowth in
+    let odd = c.in-Err-OddGrowth in
     let is : odd.field-0 ≡ OddGrowth odd.place odd.length = search rules in
     odd_front 0 a.kind a.chips.now a.room _ (sym opened.told ∙ odd.is) _ _ is r.0.1 r.0.2
 
-pub returns-in-Refused : goal.returns-in-Refused
-returns-in-Refused c =
+pub returns-in-Err : goal.returns-in-Err
+returns-in-Err c =
     let a = c.args in
     let r = c.requires in
     let opened = c.told-front.ensures.answer (hard_recording a.chips.now) r.1 in
-    let other : (p l : ℕ) → c.in-Refused.e ≡ OddGrowth p l → ⊥ = λ p l q. search rules in
+    let other : (p l : ℕ) → c.in-Err.e ≡ OddGrowth p l → ⊥ = λ p l q. search rules in
     record {
-      answer = λ number. front_header number a.kind a.chips.now a.room _ (sym opened.told ∙ c.in-Refused.is) (r.0.0 ours)
+      answer = λ number. front_header number a.kind a.chips.now a.room _ (sym opened.told ∙ c.in-Err.is) (r.0.0 ours)
           other r.1.sfd r.1.header c.of_header.ensures.answer;
     }
