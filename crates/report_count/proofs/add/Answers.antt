@@ -1,8 +1,5 @@
--- `report_count::add` meets its contract: 31, or what the reading adds; a reading is fair, so nothing wraps.
--- Assumes nothing.
-use mathlib.Core.Path.{◌≡◌, refl, sym, ap, subst, ◌∙◌}
-use mathlib.Core.Bool.{true, false}
-use native.Mathlib.Omega.{arith}
+-- 31, or what the reading adds; a reading is fair, so nothing wraps. Assumes nothing.
+use Rattle.std.proofs.Common.{◌≡◌, refl, sym, ap, subst, ◌∙◌, true, false, arith}
 use borrow.Author.Tests.{eq-eqb, ne_eqb}
 use Rattle.base.proofs.Tests.{failed, passed}
 use Rattle.rules_calls.specs.declared.Record.{Record}
@@ -11,8 +8,7 @@ use Rattle.rules_report.specs.Report.{with_frame, with_refusal, added, takes_mor
 use Rattle.rules_report.specs.declared.Report.{Report}
 use Rattle.rules_report.specs.declared.Counted.{Counted}
 use Rattle.rules_report.proofs.Outcomes.{Fair, fair}
-use Rattle.report_count.proofs.add.Statement.{statement}
-use Rattle.report_count.proofs.add.Tie as tie
+use Rattle.report_count.proofs.add.Goals as goal
 
 module _ (p : Report) (r : Recording) where
   full : takes_more p ≡ false → ◌≡◌ {A = Counted} (record { number = 31; report = p }) (counted_of p r)
@@ -45,42 +41,42 @@ module _ (p : Report) (r : Recording) where
     unfolding added
     refusal q z e = counted q (rw (ne_eqb a.number 0 z) (e outcome refl))
 
-returns : tie.Need-returns-then-not-takes_more
-returns c =
+pub returns-then-not-takes_more : goal.returns-then-not-takes_more
+returns-then-not-takes_more c =
     let a = c.args in
-    full a.report (record { kind = a.kind; chips = a.chips.now })
-    (failed c.takes_more.ensures c.if-not-takes_more.true)
+    record {
+      answer = full a.report (record { kind = a.kind; chips = a.chips.now })
+          (failed c.takes_more.ensures.answer c.if-not-takes_more.true);
+    }
 
-with_frame_requires : tie.Need-with_frame-more-requires
-with_frame_requires c κs =
+pub with_frame-more-requires : goal.with_frame-more-requires
+with_frame-more-requires c =
     let a = c.args in
-    let h = passed c.takes_more.ensures c.if-not-takes_more.false in
-    let k = known a.report (record { kind = a.kind; chips = a.chips.now }) _ h c.read-a.ensures in
+    let h = passed c.takes_more.ensures.answer c.if-not-takes_more.false in
+    let k = known a.report (record { kind = a.kind; chips = a.chips.now }) _ h c.read-a.ensures.answer in
     (h, k.few, k.brief c.if-a-eq0.true)
 
-returns_2 : tie.Need-returns-then-a-eq0
-returns_2 c =
+pub with_refusal-more-requires : goal.with_refusal-more-requires
+with_refusal-more-requires c =
     let a = c.args in
-    frame a.report (record { kind = a.kind; chips = a.chips.now }) _
-    (passed c.takes_more.ensures c.if-not-takes_more.false) c.read-a.ensures _ c.if-a-eq0.true
-    c.with_frame-more.ensures
-
-with_refusal_requires : tie.Need-with_refusal-more-requires
-with_refusal_requires c κs =
-    let a = c.args in
-    let h = passed c.takes_more.ensures c.if-not-takes_more.false in
-    let k = known a.report (record { kind = a.kind; chips = a.chips.now }) _ h c.read-a.ensures in
+    let h = passed c.takes_more.ensures.answer c.if-not-takes_more.false in
+    let k = known a.report (record { kind = a.kind; chips = a.chips.now }) _ h c.read-a.ensures.answer in
     (h, omega (arith, k.most))
 
-returns_3 : tie.Need-returns
-returns_3 c =
+pub returns-then-a-eq0 : goal.returns-then-a-eq0
+returns-then-a-eq0 c =
     let a = c.args in
-    refusal a.report (record { kind = a.kind; chips = a.chips.now }) _
-    (passed c.takes_more.ensures c.if-not-takes_more.false) c.read-a.ensures _ c.if-a-eq0.false
-    c.with_refusal-more.ensures
+    record {
+      answer = frame a.report (record { kind = a.kind; chips = a.chips.now }) _
+          (passed c.takes_more.ensures.answer c.if-not-takes_more.false) c.read-a.ensures.answer _ c.if-a-eq0.true
+          c.with_frame-more.ensures.answer;
+    }
 
-pub add_spec : {M : Type 1} → statement M
-add_spec =
-    tie.close
-    (tie.spec
-    (λ c κs. tt) returns (λ c κs. tt) with_frame_requires returns_2 with_refusal_requires returns_3)
+pub returns-else-a-eq0 : goal.returns-else-a-eq0
+returns-else-a-eq0 c =
+    let a = c.args in
+    record {
+      answer = refusal a.report (record { kind = a.kind; chips = a.chips.now }) _
+          (passed c.takes_more.ensures.answer c.if-not-takes_more.false) c.read-a.ensures.answer _ c.if-a-eq0.false
+          c.with_refusal-more.ensures.answer;
+    }
