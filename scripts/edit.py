@@ -84,16 +84,29 @@ class Edit:
 
 
 def function_at(path, old):
-    """The function in whose body a text stands: behind its contract, up to the brace that closes it."""
+    """The function in whose body a text stands, a method as `Type/name`: behind its contract, up to the brace that
+    closes it."""
     with open(path, encoding='utf8') as f:
         text = f.read()
     at = text.find(old)
-    for fn in re.finditer(r'^(?:pub )?(?:extern "C" )?fn (\w+)', text, re.M):
-        body = re.compile(r'^\{$|^(?:pub )?(?:extern "C" )?fn .*\{$', re.M).search(text, fn.start())
-        end = text.find('\n}', fn.start())
+    for fn in re.finditer(r'^(    )?(?:pub )?(?:extern "C" )?fn (\w+)', text, re.M):
+        indent, name = fn.group(1) or '', fn.group(2)
+        body = re.compile(rf'^{indent}\{{$|^{indent}(?:pub )?(?:extern "C" )?fn .*\{{$', re.M).search(text, fn.start())
+        end = text.find(f'\n{indent}}}', fn.start())
         if body and body.end() <= at < end and body.start() < end:
-            return fn.group(1)
+            of = impl_at(text, fn.start()) if indent else ''
+            return None if of is None else of + name
     return None
+
+
+def impl_at(text, at):
+    """The folder of an impl's methods: `Type/`, or `TypeTraitArgument/` of a trait's; None where it is of another
+    form."""
+    heads = re.findall(r'^impl (?:(\w+)(?:<(\w+)>)? for )?(\w+) \{$', text[:at], re.M)
+    if not heads or len(heads) != len(re.findall(r'^(?:impl|trait|pub trait)\b', text[:at], re.M)):
+        return None
+    trait, argument, of = heads[-1]
+    return of + trait + argument[:1].upper() + argument[1:] + '/'
 
 
 def edits_of(crates, name, folders=('must-fail', 'refused')):

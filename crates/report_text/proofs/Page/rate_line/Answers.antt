@@ -1,16 +1,13 @@
--- `report_text::rate_line` meets its contract.
--- Assumes nothing.
+-- The line's first piece, and the rest. Assumes nothing.
 use mathlib.Core.Path.{◌≡◌}
 use mathlib.Core.List.{List, ◌++◌, append_assoc}
 use Prim.Native.Nat.{ℕ, ◌+◌}
 use native.Mathlib.Omega.{arith}
 use lib.ListN.{length, length-append}
-use borrow.Author.Rules.{rules}
 use Rattle.rules_report.specs.Text.{word, decimal, rate_line}
 use Rattle.report_text.specs.Placed.{Placed, pair_line}
 use Rattle.report_text.proofs.Puts.{put_next}
-use Rattle.report_text.proofs.rate_line.Statement.{statement}
-use Rattle.report_text.proofs.rate_line.Tie as tie
+use Rattle.report_text.proofs.Page.rate_line.Goals as goal
 
 size : (rate frames octets : ℕ) → length (rate_line rate frames octets)
     ≡ length (word "rate " ++ decimal rate) + length (pair_line (word " frames ") frames (word " octets ") octets)
@@ -21,25 +18,20 @@ line : (rate frames octets : ℕ) {at a r : ℕ} {d o e : List ℕ} → Placed (
     → Placed (rate_line rate frames octets) at d r e
 line rate frames octets p q = simp append_assoc (simp append_assoc at (put_next p q))
 
-put_both_requires : tie.Need-put_both-a-requires
+pub put_both-requires : goal.put_both-requires
 unfolding word
-put_both_requires c κs =
+put_both-requires c =
     let start = c.args in
     omega (arith, size start.rate start.frames start.octets)
 
-put_line_requires : tie.Need-put_line-requires
+pub put_line-requires : goal.put_line-requires
 unfolding word
-put_line_requires c κs =
+put_line-requires c =
     let start = c.args in
-    omega (arith, size start.rate start.frames start.octets)
+    omega (arith, size start.rate start.frames start.octets, c.put_both.ensures.page.stop)
 
-returns : tie.Need-returns
+pub returns : goal.returns
 unfolding word
 returns c =
     let start = c.args in
-    line start.rate start.frames start.octets c.put_both-a.ensures c.put_line.ensures
-
-pub rate_line_spec : {M : Type 1} → statement M
-rate_line_spec =
-    tie.close
-    (tie.spec put_both_requires put_line_requires (λ c. search rules) returns)
+    record { page = line start.rate start.frames start.octets c.put_both.ensures.page c.put_line.ensures.page }

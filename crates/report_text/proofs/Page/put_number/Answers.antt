@@ -1,6 +1,4 @@
--- `report_text::put_number` meets its contract. The invariant: the number's digits are those of what is left of it, and
--- those put from i on; before `at` and from the end on nothing has changed.
--- Assumes nothing.
+-- A digit put is one less of what is left. Assumes nothing.
 use mathlib.Core.Path.{◌≡◌, refl, sym, ap, ◌∙◌}
 use mathlib.Core.List.{List, ◌∷◌, ◌++◌, append-nil}
 use Prim.Native.Nat.{ℕ, suc, ◌+◌, ◌-◌, ◌/◌, ◌%◌, ◌≤◌, ◌<◌}
@@ -21,16 +19,7 @@ use borrow.Author.Rules.{rules}
 use Rattle.rules_report.specs.Text.{digits, places, decimal}
 use Rattle.rules_report.proofs.Spelling.{length_decimal}
 use Rattle.report_text.specs.Placed.{Placed}
-use Rattle.report_text.proofs.put_number.Statement.{statement}
-use Rattle.report_text.proofs.put_number.Tie as tie
-
-abbrev invariant_loop : tie.invariant-loop-i
-invariant_loop x at out₀ end rest₀ i₀ out rest i = (at ≤ i) × (i ≤ end) × (length out ≡ length out₀)
-    × (take at out ≡ take at out₀) × (drop end out ≡ drop end out₀)
-    × (digits (end - at) x ≡ digits (i - at) rest ++ slice i end out)
-
-abbrev decreases_loop : tie.decreases-loop-i
-decreases_loop x at out₀ end rest₀ i₀ out rest i = i
+use Rattle.report_text.proofs.Page.put_number.Goals as goal
 
 start : (x at end : ℕ) (d : List ℕ) → digits (end - at) x ≡ digits (end - at) x ++ slice end end d
 start x at end d = rw (slice_empty end d) (sym (append-nil (digits (end - at) x)))
@@ -79,37 +68,32 @@ whole x at n i rest d e h z f r g =
       rest = r;
     }
 
-add_end : tie.Need-overflow_add-end invariant_loop decreases_loop
-add_end c = omega (arith, length_decimal c.args.x)
+pub overflow_add-end : goal.overflow_add-end
+overflow_add-end c = omega (arith, length_decimal c.args.x, c.digits_of.ensures.answer)
 
-loop_holds : tie.Need-loop-i-init invariant_loop decreases_loop
-loop_holds c = (omega arith, omega arith, refl, refl, refl, start _ _ _ _)
+pub loop-i-init : goal.loop-i-init
+loop-i-init c = (search rules, omega arith, refl, refl, start _ _ _ _)
 
-slice_write_out : tie.Need-bounds-out-i invariant_loop decreases_loop
-slice_write_out c = omega (arith, length_decimal c.args.x)
+pub bounds-self-i : goal.bounds-self-i
+bounds-self-i c = omega (arith, length_decimal c.args.x, c.digits_of.ensures.answer)
 
-loop_again : tie.Need-loop-i-preserved invariant_loop decreases_loop
-loop_again c =
+pub loop-i-preserved : goal.loop-i-preserved
+loop-i-preserved c =
     let now = c.loop-i in
-    let end = c.args.at + c.places.result in (
+    let at = c.args.self.now.end in
+    let row = now.self.row in (
+      simp length-set now.invariant.0,
       omega arith,
-      omega arith,
-      simp length-set (omega arith),
-      kept _ now.out c.args.at now.i _ (omega arith) now.invariant.3,
-      after _ now.out now.i end _ (omega arith) (omega arith) now.invariant.4,
-      turn _ now.out c.args.at now.i end now.rest (omega arith) (omega arith)
-          (omega (arith, length_decimal c.args.x)) now.invariant.5,
+      kept _ row at now.i _ (omega arith) now.invariant.2,
+      after _ row now.i (at + c.digits_of.result) _ (omega arith) (omega arith) now.invariant.3,
+      turn _ row at now.i (at + c.digits_of.result) now.rest (omega arith) (omega arith)
+          (omega (arith, length_decimal c.args.x, c.digits_of.ensures.answer)) now.invariant.4,
     )
 
-returns : tie.Need-returns invariant_loop decreases_loop
+pub returns : goal.returns
 returns c =
     let now = c.loop-i in
-    whole _ _ _ now.i now.rest _ now.out c.places.ensures (omega arith) now.invariant.3
-    now.invariant.4 now.invariant.5
-
-pub put_number_spec : {M : Type 1} → statement M
-put_number_spec =
-    tie.close
-    (tie.spec
-    invariant_loop decreases_loop (λ c κs. search rules) add_end loop_holds (λ c. omega arith) (λ c. omega arith)
-    (λ c. omega arith) slice_write_out (λ c. omega arith) loop_again (λ c. search rules) returns)
+    record {
+      page = whole _ _ _ now.i now.rest _ now.self.row c.digits_of.ensures.answer (omega arith) now.invariant.2
+          now.invariant.3 now.invariant.4;
+    }
