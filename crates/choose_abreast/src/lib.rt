@@ -17,7 +17,9 @@ pub fn take_in(bytes: &[i8], from: usize, count: usize, row: &mut [i8])
     requires { (from + count ≤ length bytes.now) × (count ≤ length row.old) }
     ensures row { Begins bytes.now from count row.new }
 {
-    row[..count].copy_from_slice(&bytes[from..from + count]);
+    for k in 0..count {
+        row[k] = bytes[from + k];
+    }
 }
 
 // A row's two halves in turn, byte by byte: what stood half a row apart stands side by side.

@@ -108,7 +108,9 @@ pub fn advance(halves: &mut [u8; 512])
     requires { length halves.old ≡ 512 }
     ensures halves { Row (λ j. get_or halves.old (j + 256) 0) 256 halves.new }
 {
-    halves.copy_within(256.., 0);
+    for l in 0..256 {
+        halves[l] = halves[l + 256];
+    }
 }
 
 // ---- bits, unscrambled, four at a time

@@ -44,6 +44,7 @@ struct Page {
 
 impl Page {
     // A number's digits, the last one first.
+    #[inline(never)]
     fn put_number(&mut self, x: u64)
         requires { self.old.end + length (decimal x) ≤ 980 }
         ensures page { PutOn (decimal x) self.old self.new }
@@ -57,7 +58,8 @@ impl Page {
         self.end = end;
     }
 
-    // A word's octets.
+    // A word's octets. Inlined, its length is known where it is put, and no call is made to copy it.
+    #[inline(always)]
     fn put_word(&mut self, word: &[u8])
         requires { self.old.end + length word.now ≤ 980 }
         ensures page { PutOn word.now self.old self.new }
@@ -68,6 +70,7 @@ impl Page {
     }
 
     // A word and a number.
+    #[inline(always)]
     fn put_both(&mut self, word: &[u8], x: u64)
         requires { self.old.end + length (word.now ++ decimal x) ≤ 980 }
         ensures page { PutOn (word.now ++ decimal x) self.old self.new }
@@ -86,6 +89,7 @@ impl Page {
     }
 
     // Two words, each with its number, and a line feed.
+    #[inline(always)]
     fn put_line(&mut self, first: &[u8], x: u64, second: &[u8], y: u64)
         requires { self.old.end + length (pair_line first.now x second.now y) ≤ 980 }
         ensures page { PutOn (pair_line first.now x second.now y) self.old self.new }
