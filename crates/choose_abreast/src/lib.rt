@@ -9,7 +9,7 @@ ghost use Rattle.choose_abreast.specs.Abreast.{Begins, Merged, Turned};
 pub fn at_most_16(left: usize) -> usize
     ensures answer { result ≡ min left 16 }
 {
-    if left < 16 { left } else { 16 }
+    left.min(16)
 }
 
 // Bytes from a place on, into a row's front.
@@ -17,10 +17,8 @@ pub fn take_in(bytes: &[i8], from: usize, count: usize, row: &mut [i8])
     requires { (from + count ≤ length bytes.now) × (count ≤ length row.old) }
     ensures row { Begins bytes.now from count row.new }
 {
-    let mut k: usize = 0;
-    while k < count {
+    for k in 0..count {
         row[k] = bytes[from + k];
-        k += 1;
     }
 }
 
@@ -30,11 +28,9 @@ fn merge(from: &[i8], to: &mut [i8])
     ensures to { Merged from.now to.new }
 {
     let half = from.len() / 2;
-    let mut k: usize = 0;
-    while k < half {
+    for k in 0..half {
         to[2 * k] = from[k];
         to[2 * k + 1] = from[half + k];
-        k += 1;
     }
 }
 

@@ -12,7 +12,7 @@ fn shorter(a: &[u8], b: &[u8]) -> usize
         × (left_over a.now b.now result ≡ 0)
         × (length (differences a.now b.now) ≤ result) }
 {
-    if a.len() < b.len() { a.len() } else { b.len() }
+    a.len().min(b.len())
 }
 
 // How many of the 64 octets from an index on differ.
@@ -22,7 +22,9 @@ fn in_block(a: &[u8], b: &[u8], at: usize) -> u8
 {
     let mut n: u8 = 0;
     for k in 0..64 {
-        n = if a[at + k] == b[at + k] { n } else { n + 1 };
+        if a[at + k] != b[at + k] {
+            n += 1;
+        }
     }
     n
 }
@@ -33,10 +35,10 @@ fn in_part(a: &[u8], b: &[u8], from: usize, to: usize) -> usize
     ensures answer { (result + from ≤ to) × Between a.now b.now from to result }
 {
     let mut n = 0;
-    let mut i = from;
-    while i < to {
-        n = if a[i] == b[i] { n } else { n + 1 };
-        i += 1;
+    for i in from..to {
+        if a[i] != b[i] {
+            n += 1;
+        }
     }
     n
 }
@@ -46,20 +48,12 @@ fn how_many(a: &[u8], b: &[u8], from: usize, end: usize) -> usize
     requires { (from ≤ end) × (end ≤ length a.now) × (end ≤ length b.now) }
     ensures answer { Between a.now b.now from end result }
 {
+    let blocks = (end - from) / 64;
     let mut n = 0;
-    let mut at = from;
-    while 64 <= end - at {
-        n += in_block(a, b, at) as usize;
-        at += 64;
+    for block in 0..blocks {
+        n += usize::from(in_block(a, b, from + 64 * block));
     }
-    n + in_part(a, b, at, end)
-}
-
-// An octet as a number.
-fn wide(x: u8) -> u64
-    ensures answer { result ≡ x }
-{
-    x as u64
+    n + in_part(a, b, from + 64 * blocks, end)
 }
 
 // The entry of one index, put at a place of the row where the rows differ there; the place behind it.
@@ -74,8 +68,8 @@ fn put_at(a: &[u8], b: &[u8], i: usize, row: &mut [u64], p: usize) -> usize
         return p;
     }
     row[p] = i as u64;
-    row[p + 1] = wide(x);
-    row[p + 2] = wide(y);
+    row[p + 1] = u64::from(x);
+    row[p + 2] = u64::from(y);
     p + 3
 }
 
@@ -85,11 +79,9 @@ fn put_part(a: &[u8], b: &[u8], from: usize, to: usize, row: &mut [u64], p: usiz
         × RoomFor a.now b.now from to p row.old }
     ensures answer { Put a.now b.now from to row.old p row.new result }
 {
-    let mut i = from;
     let mut q = p;
-    while i < to {
+    for i in from..to {
         q = put_at(a, b, i, row, q);
-        i += 1;
     }
     q
 }
@@ -121,17 +113,17 @@ fn put_blocks(a: &[u8], b: &[u8], end: usize, row: &mut [u64]) -> Reached
         × Put a.now b.now 0 result.at row.old 0 row.new result.p
         × (result.p ≤ length row.old) }
 {
-    let mut at = 0;
+    let blocks = end / 64;
     let mut p = 0;
-    while 64 <= end - at {
-        let n = in_block(a, b, at) as usize;
+    for block in 0..blocks {
+        let at = 64 * block;
+        let n = usize::from(in_block(a, b, at));
         if row.len() - p < 3 * n {
             return Reached { at, p };
         }
         p = put_block(a, b, at, n, row, p);
-        at += 64;
     }
-    Reached { at, p }
+    Reached { at: 64 * blocks, p }
 }
 
 // Every index at which two rows differ, as far as the shorter goes, with both octets, three places an entry, and zeros
@@ -142,9 +134,7 @@ pub fn list(a: &[u8], b: &[u8], row: &mut [u64]) -> u64
         ≡ laid (length row.old) (differences a.now b.now) }
 {
     let end = shorter(a, b);
-    let reached = put_blocks(a, b, end, row);
-    let at = reached.at;
-    let p = reached.p;
+    let Reached { at, p } = put_blocks(a, b, end, row);
     let rest = how_many(a, b, at, end);
     if (row.len() - p) / 3 < rest {
         common_rows::clear(row, 0);

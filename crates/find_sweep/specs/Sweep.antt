@@ -46,6 +46,12 @@ side_of x = get_or (2 ∷ 2 ∷ 0 ∷ 0 ∷ []) x 1
 abbrev pub half_of_eleven : ℕ → ℕ → ℕ → ℕ → ℕ → ℕ → ℕ → ℕ → ℕ → ℕ → ℕ → ℕ
 half_of_eleven a b c d e f g h i j k = bool_byte (leb (a + c + d + f + g + h) (b + e + i + j + k))
 
+-- and of eleven sides in a row
+abbrev pub half_of_sides : List ℕ → ℕ
+half_of_sides xs =
+    half_of_eleven (get_or xs 0 0) (get_or xs 1 0) (get_or xs 2 0) (get_or xs 3 0) (get_or xs 4 0) (get_or xs 5 0)
+    (get_or xs 6 0) (get_or xs 7 0) (get_or xs 8 0) (get_or xs 9 0) (get_or xs 10 0)
+
 -- the first m of a row of 144 are the sides of the octets from a place
 pub record Sides (octets : List ℕ) (at m : ℕ) (row : List ℕ) : Type 0 where
   pub long : length row ≡ 144

@@ -5,8 +5,9 @@
 #![tactic(auto)]
 
 ghost use Rattle.std.specs.Prelude.{false, List, ◌≡◌, ℕ, ◌+◌, ◌*◌, ◌/◌, ◌%◌, ◌≤◌, ◌<◌, min, length, get_or};
+ghost use Rattle.std.specs.List.{All};
 ghost use Rattle.rules_chips.specs.Chips.{Taken, hard_recording};
-ghost use Rattle.find_sweep.specs.Sweep.{side_of, half_of_eleven, Sides, half_at, Row, Added, half_of};
+ghost use Rattle.find_sweep.specs.Sweep.{side_of, half_of_sides, Sides, half_at, Row, Added, half_of};
 ghost use Rattle.find_sweep.specs.Sweep.{bit_of, plain_of, joined_of, Small, MarkedOf, Marked};
 
 // ---- halves
@@ -19,11 +20,11 @@ fn side(octet: u8) -> u8
 }
 
 // Whether eleven chips are decided as phase 2 or 3: their sides by the signs of a Barker symbol.
-fn half(a: u8, b: u8, c: u8, d: u8, e: u8, f: u8, g: u8, h: u8, i: u8, j: u8, k: u8) -> u8
-    requires { (a ≤ 2) × (b ≤ 2) × (c ≤ 2) × (d ≤ 2) × (e ≤ 2) × (f ≤ 2) × (g ≤ 2) × (h ≤ 2) × (i ≤ 2) × (j ≤ 2)
-        × (k ≤ 2) }
-    ensures answer { result ≡ half_of_eleven a b c d e f g h i j k }
+fn half(sides: [u8; 11]) -> u8
+    requires { All (λ x. x ≤ 2) sides }
+    ensures answer { result ≡ half_of_sides sides }
 {
+    let [a, b, c, d, e, f, g, h, i, j, k] = sides;
     (a + c + d + f + g + h <= b + e + i + j + k) as u8
 }
 
@@ -36,12 +37,10 @@ fn sides(octets: &[u8], at: usize, count: usize, evens: &mut [u8; 144], odds: &m
     ensures evens { Sides octets.now at count evens.new }
     ensures odds { Sides octets.now at count odds.new }
 {
-    let mut k: usize = 0;
-    while k < count {
+    for k in 0..count {
         let x = side(octets[at + k]);
         evens[k] = x;
         odds[k] = x;
-        k += 1;
     }
 }
 
@@ -53,9 +52,8 @@ fn fill(evens: &[u8; 144], odds: &[u8; 144], l: usize, count: usize, halves: &mu
     ensures halves { Added (half_of evens.now odds.now) l halves.old
         halves.new count }
 {
-    let mut k: usize = 0;
-    while k < count {
-        halves[l + k] = half(
+    for k in 0..count {
+        halves[l + k] = half([
             evens[k],
             odds[k + 1],
             evens[k + 2],
@@ -67,8 +65,7 @@ fn fill(evens: &[u8; 144], odds: &[u8; 144], l: usize, count: usize, halves: &mu
             evens[k + 8],
             odds[k + 9],
             evens[k + 10],
-        );
-        k += 1;
+        ]);
     }
 }
 
@@ -90,7 +87,7 @@ fn halves_from(octets: &[u8], at: usize, l: usize, count: usize, halves: &mut [u
 pub fn at_most(left: usize, most: usize) -> usize
     ensures answer { result ≡ min left most }
 {
-    if left < most { left } else { most }
+    left.min(most)
 }
 
 // The halves at every chip from a place on, count of them, of which the first so many are known.
@@ -100,11 +97,9 @@ pub fn decide(octets: &[u8], at: usize, known: usize, count: usize, halves: &mut
     ensures halves { Row (λ j. half_at (hard_recording octets.now) (at + j)) count
         halves.new }
 {
-    let mut l = known;
-    while l < count {
-        let n = at_most(count - l, 128);
+    for l in (known..count).step_by(128) {
+        let n = (count - l).min(128);
         halves_from(octets, at + l, l, n, halves);
-        l += n;
     }
 }
 
@@ -153,10 +148,8 @@ fn join(apart: usize, by: u8, count: usize, row: &mut [u8; 512])
     requires { (by ≤ 4) × (count + apart ≤ 512) × Small (count + apart) row.old }
     ensures row { Row (joined_of apart by row.old) count row.new }
 {
-    let mut l: usize = 0;
-    while l < count {
+    for l in 0..count {
         row[l] = two(by, row[l], row[l + apart]);
-        l += 1;
     }
 }
 
@@ -198,8 +191,8 @@ pub fn any(marks: &[u8; 512]) -> bool
     ensures answer { result ≡ false → (j : ℕ) → j < 256 → get_or marks.now j 0 ≡ 0 }
 {
     let mut all: u8 = 0;
-    for l in 0..256 {
-        all = all | marks[l];
+    for mark in &marks[..256] {
+        all |= *mark;
     }
     all != 0
 }

@@ -23,36 +23,18 @@ use rules_report::{Counted, Report};
 fn at_most(most: u64, row: &[u64]) -> bool
     ensures answer { result ≡ at_most most row.now }
 {
-    let mut i: usize = 0;
-    while i < row.len() {
-        if most < row[i] {
-            return false;
-        }
-        i += 1;
-    }
-    true
+    row.iter().all(|x| *x <= most)
 }
 
 // Whether a report can be one that was kept, with fewer than 1,000 seen.
 fn takes_more(p: Report) -> bool
     ensures answer { result ≡ takes_more p }
 {
-    if 1000 <= p.seen {
-        return false;
-    }
-    let frames = p.frames;
-    if !at_most(1000, &frames) {
-        return false;
-    }
-    let octets = p.octets;
-    if !at_most(4095000, &octets) {
-        return false;
-    }
-    let refused = p.refused;
-    if !at_most(1000, &refused) {
-        return false;
-    }
-    p.airtime <= 32952000
+    p.seen < 1000
+        && at_most(1000, &p.frames)
+        && at_most(4095000, &p.octets)
+        && at_most(1000, &p.refused)
+        && p.airtime <= 32952000
 }
 
 // ---- one reading more
@@ -80,10 +62,7 @@ fn front_time(kind: u64) -> u64
 fn is_closer(some: u64, least: u64, lead: u64) -> bool
     ensures answer { result ≡ (eqb some 0 || ltb lead least) }
 {
-    if some == 0 {
-        return true;
-    }
-    lead < least
+    some == 0 || lead < least
 }
 
 // One frame more: its octets, its airtime, and its lead if it is closer.
@@ -93,20 +72,16 @@ fn with_frame(p: Report, kind: u64, a: Record) -> Report
 {
     let at = entry_of(a.rate);
     let closer = is_closer(p.some, p.lead, a.lead);
-    let seen = p.seen;
     let mut q = p;
-    q.seen = seen + 1;
-    let frames = q.frames[at];
-    q.frames[at] = frames + 1;
-    let octets = q.octets[at];
-    q.octets[at] = octets + a.n;
-    q.airtime = q.airtime + (front_time(kind) + a.length);
-    if !closer {
-        return q;
+    q.seen += 1;
+    q.frames[at] += 1;
+    q.octets[at] += a.n;
+    q.airtime += front_time(kind) + a.length;
+    if closer {
+        q.some = 1;
+        q.lead = a.lead;
+        q.recording = p.seen;
     }
-    q.some = 1;
-    q.lead = a.lead;
-    q.recording = seen;
     q
 }
 
@@ -117,9 +92,8 @@ fn with_refusal(p: Report, number: u64) -> Report
 {
     let entry = number as usize;
     let mut q = p;
-    q.seen = q.seen + 1;
-    let old = q.refused[entry];
-    q.refused[entry] = old + 1;
+    q.seen += 1;
+    q.refused[entry] += 1;
     q
 }
 
@@ -141,14 +115,11 @@ pub fn add(report: Report, kind: u64, chips: &[u8]) -> Counted
         return Counted { number: 31, report };
     }
     let a = read(kind, chips);
-    if a.number == 0 {
-        let more = with_frame(report, kind, a);
-        return Counted {
-            number: 0,
-            report: more,
-        };
-    }
-    let more = with_refusal(report, a.number);
+    let more = if a.number == 0 {
+        with_frame(report, kind, a)
+    } else {
+        with_refusal(report, a.number)
+    };
     Counted {
         number: 0,
         report: more,
@@ -179,15 +150,9 @@ pub fn of_list(kinds: &[u64], list: &[&[u8]]) -> Counted
     if kinds.len() != list.len() {
         return Counted { number: 7, report };
     }
-    let mut i: usize = 0;
-    while i < list.len() {
-        if i == 1000 {
-            return Counted { number: 31, report };
-        }
-        let chips = list[i];
-        let counted = add(report, kinds[i], chips);
-        report = counted.report;
-        i += 1;
+    for (kind, chips) in kinds.iter().zip(list).take(1000) {
+        report = add(report, *kind, *chips).report;
     }
-    Counted { number: 0, report }
+    let number = if 1000 < list.len() { 31 } else { 0 };
+    Counted { number, report }
 }

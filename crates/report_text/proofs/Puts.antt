@@ -1,5 +1,6 @@
 -- Laws of putting octets into a row.
 --     put_none, put_more      nothing put; one octet more
+--     put_there               a word copied over the octets there
 --     put_next                what is put where the first ended is one with it
 --     put_pair                and so is a word and its number
 --     four_long               how long four lists are together
@@ -11,8 +12,9 @@ use Prim.Native.Nat.{ℕ, zero, suc, ◌+◌, ◌-◌, ◌≤◌, ◌<◌}
 use native.Mathlib.Nat.{le_refl}
 use native.Mathlib.Numerals.{add-one}
 use native.Mathlib.Omega.{arith}
-use lib.ListN.{length, take, drop, set, length-append}
-use lib.Seq.{take-suc-set, drop-set-lt, drop-drop}
+use lib.ListN.{length, take, drop, set, length-append, length-take}
+use lib.Seq.{take_at, take-suc-set, drop-set-lt, drop-drop, drop-append_seam}
+use borrow.Rule.Slice.PartMut.{put_mid}
 use Rattle.report_text.specs.Placed.{Placed}
 
 pub put_none : (at n : ℕ) (d : List ℕ) → n ≡ at → Placed [] at d n d
@@ -29,6 +31,31 @@ put_more {w} {at} {d} {n} {e} v p h = record {
   front = rw (add-one, take-suc-set e n v h, p.front) (append_assoc (take at d) w (v ∷ []));
   rest = drop-set-lt (n + 1) e n v (omega arith) ∙ further e d n 1 p.rest;
 }
+
+pub put_there : (w row y : List ℕ) (at : ℕ) → at + length w ≤ length row → y ≡ w
+    → Placed w at row (at + length w) (put_mid at (at + length w - at) row y)
+put_there w row y at h f = record {
+  stop = refl;
+  front = ap (take (at + length w)) whole ∙ take_at (take at row ++ w) behind (at + length w) size;
+  rest =
+      ap (drop (at + length w)) whole ∙ ap (λ (k : ℕ). drop k ((take at row ++ w) ++ behind)) (sym size)
+      ∙ drop-append_seam (take at row ++ w) behind;
+}
+  where
+    behind : List ℕ
+    behind = drop (at + length w) row
+
+    size : length (take at row ++ w) ≡ at + length w
+    size = length-append (take at row) w ∙ omega (arith, length-take at row)
+
+    count : at + length w - at ≡ length w
+    count = omega arith
+
+    whole : put_mid at (at + length w - at) row y ≡ (take at row ++ w) ++ behind
+    whole =
+        (λ i. take at row ++ (f i ++ drop (count i) (drop at row)))
+        ∙ ap (λ (l : List ℕ). take at row ++ (w ++ l)) (drop-drop (length w) at row)
+        ∙ sym (append_assoc (take at row) w behind)
 
 pub put_next : {a b : List ℕ} {at : ℕ} {d : List ℕ} {n : ℕ} {e : List ℕ} {m : ℕ} {f : List ℕ} → Placed a at d n e
     → Placed b n e m f → Placed (a ++ b) at d m f
@@ -56,12 +83,12 @@ module _ (all one : ℕ → List ℕ) (step : (k : ℕ) → all (k + 1) ≡ all 
   grows k (suc j) =
       let e : k + suc j ≡ (k + j) + 1 = omega arith in rw (e, longer) (omega (arith, grows k j))
 
-  pub lines_room : (n k : ℕ) {at end : ℕ} {d o : List ℕ} → k < n → Placed (all k) at d end o
-      → at + length (all n) ≤ length d → length o ≡ length d → end + length (one k) ≤ length o
-  lines_room n k h p g l =
+  pub lines_room : (n k at : ℕ) {end most : ℕ} → k < n → end ≡ at + length (all k) → at + length (all n) ≤ most
+      → end + length (one k) ≤ most
+  lines_room n k at h p g =
       let e : k + 1 + (n - (k + 1)) ≡ n = omega arith in
       let within : length (all (k + 1)) ≤ length (all n) = rw e at (grows (k + 1) (n - (k + 1))) in
-      omega (arith, p.stop, longer k)
+      omega (arith, longer k)
 
   pub lines_turn : (k : ℕ) {at end r : ℕ} {d o q : List ℕ} → Placed (all k) at d end o → Placed (one k) end o r q
       → Placed (all (k + 1)) at d r q

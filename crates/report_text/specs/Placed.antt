@@ -2,6 +2,7 @@
 -- Definitions only. Assumes nothing.
 -- working notion: of the code that makes a text; no promise needs it
 use Rattle.std.specs.Prelude.{◌≡◌, List, [], ◌++◌, ℕ, zero, suc, ◌+◌, length, get_or, take, drop}
+use Rattle.report_text.specs.declared.Page.{Page}
 use Rattle.rules_rates.specs.declared.Rate.TheVariants.{Eleven}
 use Rattle.rules_rates.specs.Rates.{code_of}
 use Rattle.rules_report.specs.Report.{codes}
@@ -13,6 +14,10 @@ pub record Placed (w : List ℕ) (at : ℕ) (d : List ℕ) (end : ℕ) (e : List
   pub stop : end ≡ at + length w
   pub front : take end e ≡ take at d ++ w
   pub rest : drop end e ≡ drop end d
+
+-- a page on which w is put behind what it has
+abbrev pub PutOn : List ℕ → Page → Page → Type 0
+PutOn w p q = Placed w p.end p.row q.end q.row
 
 -- a line of two words, each with its number
 abbrev pub pair_line : List ℕ → ℕ → List ℕ → ℕ → List ℕ

@@ -1,0 +1,8 @@
+-- The halves below l are known, up to as many as are asked for. Assumes nothing.
+use Rattle.std.proofs.Common.{◌+◌, min}
+use Rattle.rules_chips.specs.Chips.{hard_recording}
+use Rattle.find_sweep.specs.Sweep.{half_at, Row}
+use Rattle.find_sweep.proofs.decide.Given as goal
+
+abbrev pub invariant-loop-l : goal.invariant-loop-l
+invariant-loop-l l = Row (λ j. half_at (hard_recording l.octets) (l.at + j)) (min l.l l.count) l.halves
