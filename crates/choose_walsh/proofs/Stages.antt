@@ -57,28 +57,25 @@ use Rattle.choose_walsh.proofs.Turns.{turn, fly_bounded, eight_cases}
 
 -- ---- chips that enter
 -- a number of any width times a factor, and more
-module _ (w : Width) {b s : ℕ} {v times more : ℤ} (wide : 16 < 2 ^ hbits w) (room : 16 * b + 4 < 2 ^ hbits w)
-    (h : Reads w b s v) (ht : Within 16 times) (hm : Within 4 more) where
+module _ {w : Width} {b r s t : ℕ} {v times more : ℤ} (room : 16 * b + 4 < 2 ^ hbits w) (ht : Reads w 16 r times)
+    (h : Reads w b s v) (hm : Reads w 4 t more) where
   abbrev product : ℤ
-  product = to_z w (of_z w times) *ℤ to_z w s
+  product = to_z w r *ℤ to_z w s
 
   multiplied : product ≡ times *ℤ v
-  multiplied = λ i. small w 16 wide times ht i *ℤ h.is i
+  multiplied = λ i. ht.is i *ℤ h.is i
 
   pub product_fits : SFits w product
-  product_fits = made_fits multiplied (within_mul ht h.within) (omega arith)
+  product_fits = made_fits multiplied (within_mul ht.within h.within) (omega arith)
 
   number : Reads w (16 * b) (of_z w product) (times *ℤ v)
-  number = made multiplied (within_mul ht h.within) (omega arith)
+  number = made multiplied (within_mul ht.within h.within) (omega arith)
 
-  quarter : Reads w 4 (of_z w more) more
-  quarter = reads_of (omega arith) hm
+  pub raised_fits : SFits w (to_z w (of_z w product) +ℤ to_z w t)
+  raised_fits = reads_fits number hm room
 
-  pub raised_fits : SFits w (to_z w (of_z w product) +ℤ to_z w (of_z w more))
-  raised_fits = reads_fits number quarter room
-
-  pub raised_is : to_z w (of_z w (to_z w (of_z w product) +ℤ to_z w (of_z w more))) ≡ (times *ℤ v) +ℤ more
-  raised_is = (reads_add number quarter room).is
+  pub raised_is : to_z w (of_z w (to_z w (of_z w product) +ℤ to_z w t)) ≡ (times *ℤ v) +ℤ more
+  raised_is = (reads_add number hm room).is
 
 -- ---- four chips scaled, column after column, and all eight
 -- what is written of column l
