@@ -1,13 +1,14 @@
 // The words of a group share p3 and p4. By p4 the numbers of the first stage come to the two of a group's last
 // butterfly; that, by p2, gives the sums of the words with p1 = 0, and the four turns of each those of the others. It
 // comes to two keys: that of the group's best word, and the next.
-ghost use Rattle.std.specs.Prelude.{◌≡◌, cond, ◌+◌, ◌-◌, ◌*◌, ◌≤◌, ◌<◌, nat_abs};
+ghost use Rattle.std.specs.Prelude.{◌≡◌, cond, ◌+◌, ◌-◌, ◌*◌, ◌≤◌, ◌<◌};
 ghost use Rattle.std.specs.Int.Signed.{lt_z};
 ghost use Rattle.base.specs.Whole.{Within};
 ghost use Rattle.rules_chips.specs.Bounds.{Bounded};
 ghost use Rattle.rules_chips.specs.Chips.{pair};
 ghost use Rattle.choose_walsh.specs.Turns.{plus, sided, credit, four_top, four_next, top_of, next_of};
 ghost use Rattle.choose_walsh.specs.Search.{held, merged, met, four_more};
+ghost use Rattle.choose_search.specs.Groups.{group_of};
 
 use choose_stages::{Complex, Lane};
 
@@ -79,9 +80,9 @@ fn place<T: Lane>(best: T, key: T, g: T, was: T) -> T
 
 // One group more.
 fn merge<T: Lane>(b: Best<T>, k: Two<T>, g: T) -> Best<T>
-    ensures answer { held (T.value result.first) (T.value result.second) (nat_abs (T.value result.group))
-        ≡ merged (held (T.value b.first) (T.value b.second) (nat_abs (T.value b.group)))
-        (T.value k.first) (T.value k.second) (nat_abs (T.value g)) }
+    ensures answer { held (T.value result.first) (T.value result.second) (group_of (T.value result.group))
+        ≡ merged (held (T.value b.first) (T.value b.second) (group_of (T.value b.group)))
+        (T.value k.first) (T.value k.second) (group_of (T.value g)) }
 {
     let t = b.first;
     let u = k.first;
@@ -98,8 +99,8 @@ fn meet<T: Lane>(b: Best<T>, y: Complex<T>, a: Complex<T>, x: Complex<T>, c: Com
         × Bounded (2 * (16 * T.most + 4)) (pair (T.value a.i) (T.value a.q))
         × Bounded (2 * (16 * T.most + 4)) (pair (T.value x.i) (T.value x.q))
         × Bounded (2 * (16 * T.most + 4)) (pair (T.value c.i) (T.value c.q)) }
-    ensures answer { held (T.value result.first) (T.value result.second) (nat_abs (T.value result.group))
-        ≡ met (held (T.value b.first) (T.value b.second) (nat_abs (T.value b.group)))
+    ensures answer { held (T.value result.first) (T.value result.second) (group_of (T.value result.group))
+        ≡ met (held (T.value b.first) (T.value b.second) (group_of (T.value b.group)))
         (plus (pair (T.value y.i) (T.value y.q)) (pair (T.value a.i) (T.value a.q)))
         (plus (pair (T.value x.i) (T.value x.q)) (pair (T.value c.i) (T.value c.q))) g }
 {
@@ -112,8 +113,8 @@ pub fn column<T: Lane>(b: Best<T>, q: Complex<T>, p: Complex<T>, f: Complex<T>, 
         × Bounded (2 * (16 * T.most + 4)) (pair (T.value p.i) (T.value p.q))
         × Bounded (2 * (16 * T.most + 4)) (pair (T.value f.i) (T.value f.q))
         × Bounded (2 * (16 * T.most + 4)) (pair (T.value e.i) (T.value e.q)) × (g ≤ 12) }
-    ensures answer { held (T.value result.first) (T.value result.second) (nat_abs (T.value result.group))
-        ≡ four_more (held (T.value b.first) (T.value b.second) (nat_abs (T.value b.group)))
+    ensures answer { held (T.value result.first) (T.value result.second) (group_of (T.value result.group))
+        ≡ four_more (held (T.value b.first) (T.value b.second) (group_of (T.value b.group)))
         (pair (T.value q.i) (T.value q.q)) (pair (T.value p.i) (T.value p.q))
         (pair (T.value f.i) (T.value f.q)) (pair (T.value e.i) (T.value e.q)) g }
 {

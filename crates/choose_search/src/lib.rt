@@ -3,11 +3,12 @@
 // equal keys the first stays: the smallest number.
 #![tactic(auto)]
 
-ghost use Rattle.std.specs.Prelude.{◌≡◌, ◌+◌, ◌*◌, ◌-◌, ◌≤◌, ◌<◌, T, length, map, get_or, pos, negsuc, nat_abs, ◌≤ℤ◌};
+ghost use Rattle.std.specs.Prelude.{◌≡◌, ◌+◌, ◌*◌, ◌-◌, ◌≤◌, ◌<◌, T, length, map, get_or, pos, negsuc, ◌≤ℤ◌};
 ghost use Rattle.std.specs.Int.Signed.{non_neg};
 ghost use Rattle.choose_recorded.specs.Recorded.{Put};
 ghost use Rattle.choose_walsh.specs.Rows.{eleven_at, eleven_lead, RowsBounded};
 ghost use Rattle.choose_walsh.specs.Search.{Sought, Keyed, word_of_key, lead_of_keys};
+ghost use Rattle.choose_search.specs.Groups.{group_of};
 
 use choose_stages::Lane;
 
@@ -19,9 +20,9 @@ mod groups;
 fn quarter<N: Lane>(a: &[N], p3: usize, first: &mut [N], second: &mut [N], at: &mut [N])
     requires { (length a.now ≡ 512) × (p3 < 4) × RowsBounded (2 * (16 * N.most + 4)) 16 (map N.value a.now)
         × Sought (map N.value a.now) (4 * p3) (map N.value first.old) (map N.value second.old)
-            (map (λ g. nat_abs (N.value g)) at.old) }
+            (map (λ g. group_of (N.value g)) at.old) }
     ensures rows { Sought (map N.value a.now) (4 * p3 + 4) (map N.value first.new) (map N.value second.new)
-        (map (λ g. nat_abs (N.value g)) at.new) }
+        (map (λ g. group_of (N.value g)) at.new) }
 {
     let from = 32 * p3;
     let g = (4 * p3) as u8;
@@ -46,9 +47,9 @@ fn quarter<N: Lane>(a: &[N], p3: usize, first: &mut [N], second: &mut [N], at: &
 fn search<N: Lane>(a: &[N], first: &mut [N], second: &mut [N], at: &mut [N])
     requires { (length a.now ≡ 512) × RowsBounded (2 * (16 * N.most + 4)) 16 (map N.value a.now)
         × Sought (map N.value a.now) 0 (map N.value first.old) (map N.value second.old)
-            (map (λ g. nat_abs (N.value g)) at.old) }
+            (map (λ g. group_of (N.value g)) at.old) }
     ensures rows { Sought (map N.value a.now) 16 (map N.value first.new) (map N.value second.new)
-        (map (λ g. nat_abs (N.value g)) at.new) }
+        (map (λ g. group_of (N.value g)) at.new) }
 {
     for p3 in 0..4 {
         quarter(a, p3, first, second, at);
@@ -57,8 +58,8 @@ fn search<N: Lane>(a: &[N], first: &mut [N], second: &mut [N], at: &mut [N])
 
 // The number of the word that has a key in the group g.
 fn word_of<N: Lane>(key: N, g: N) -> u8
-    requires { T (non_neg (N.value key)) × T (non_neg (N.value g)) × (nat_abs (N.value g) < 16) }
-    ensures answer { result ≡ word_of_key (N.value key) (nat_abs (N.value g)) }
+    requires { T (non_neg (N.value key)) × (group_of (N.value g) < 16) }
+    ensures answer { result ≡ word_of_key (N.value key) (group_of (N.value g)) }
 {
     let m = 15 - (key.octet() % 16 + 11) % 16;
     16 * m + g.octet()
@@ -66,7 +67,7 @@ fn word_of<N: Lane>(key: N, g: N) -> u8
 
 // The lead of the word that has the first of two keys, in counts: UNIT to one of what its chips are told in.
 fn lead_of<N: Lane, const UNIT: u32>(first: N, second: N) -> u32
-    requires { (UNIT ≤ 1024) × T (non_neg (N.value first)) × (negsuc 1 ≤ℤ N.value second) × (N.value second ≤ℤ N.value first) }
+    requires { (UNIT ≤ N.units) × T (non_neg (N.value first)) × (negsuc 1 ≤ℤ N.value second) × (N.value second ≤ℤ N.value first) }
     ensures answer { result ≡ UNIT * lead_of_keys (N.value first) (N.value second) }
 {
     let next = second.larger(N::of(0));
@@ -82,9 +83,9 @@ fn put<N: Lane, const UNIT: u32>(
     numbers: &mut [u8; 64],
     leads: &mut [u32; 64],
 )
-    requires { Keyed (map N.value first.now) (map N.value second.now) (map (λ g. nat_abs (N.value g)) at.now) × (UNIT ≤ 1024) × (l + 16 ≤ 64)
+    requires { Keyed (map N.value first.now) (map N.value second.now) (map (λ g. group_of (N.value g)) at.now) × (UNIT ≤ N.units) × (l + 16 ≤ 64)
         × (length numbers.old ≡ 64) × (length leads.old ≡ 64) }
-    ensures numbers { Put (λ s. word_of_key (get_or (map N.value first.now) s (pos 0)) (get_or (map (λ g. nat_abs (N.value g)) at.now) s 0)) l
+    ensures numbers { Put (λ s. word_of_key (get_or (map N.value first.now) s (pos 0)) (get_or (map (λ g. group_of (N.value g)) at.now) s 0)) l
         numbers.old numbers.new 16 }
     ensures leads { Put
         (λ s. UNIT * lead_of_keys (get_or (map N.value first.now) s (pos 0)) (get_or (map N.value second.now) s (pos 0))) l
@@ -106,7 +107,7 @@ pub fn sixteen<N: Lane, const UNIT: u32>(
     numbers: &mut [u8; 64],
     leads: &mut [u32; 64],
 )
-    requires { (length row.now ≡ 256) × (length z.old ≡ 256) × (length a.old ≡ 512) × (UNIT ≤ 1024)
+    requires { (length row.now ≡ 256) × (length z.old ≡ 256) × (length a.old ≡ 512) × (UNIT ≤ N.units)
         × (l + 16 ≤ 64) × (length numbers.old ≡ 64) × (length leads.old ≡ 64) × N.Recorded row.now }
     ensures lengths { (length z.new ≡ 256) × (length a.new ≡ 512) }
     ensures numbers { Put (eleven_at (N.chips row.now)) l numbers.old numbers.new 16 }

@@ -28,6 +28,9 @@ pub trait Lane: Copy {
 
     ghost limit: { ℕ };
 
+    // so many counts at most are one of a row's numbers
+    ghost units: { ℕ };
+
     // A number of a row times a factor, and more.
     fn entered(row: &[Self::Chip], at: usize, times: i8, more: i8) -> Self
         requires { Recorded row.now × (at < length row.now) × Within 16 times × Within 4 more }
@@ -82,7 +85,8 @@ pub trait Lane: Copy {
     // The score of a key that is not below 0.
     fn score(self) -> u32
         requires { T (non_neg (value self)) }
-        ensures answer { result ≡ (nat_abs (value self) + 11) / 16 };
+        ensures answer { result ≡ (nat_abs (value self) + 11) / 16 }
+        ensures small { result * units < 4294967296 };
 
     ghost room: { 8 * (16 * most + 4) + 7 ≤ limit };
 
@@ -110,6 +114,8 @@ impl Lane for i16 {
     ghost most = { 128 };
 
     ghost limit = { 32767 };
+
+    ghost units = { 1024 };
 
     ghost room = { Prim.search rules };
 
@@ -197,6 +203,8 @@ impl Lane for i32 {
     ghost most = { 8192 };
 
     ghost limit = { 1073741823 };
+
+    ghost units = { 1 };
 
     ghost room = { Prim.search rules };
 

@@ -38,7 +38,7 @@ use Rattle.rules_choosing.proofs.Wide.{abs_le}
 use Rattle.choose_walsh.specs.Turns.{sided, credit, four_top, four_next}
 use Rattle.choose_walsh.specs.Search.{Held, met, size_of}
 
-within_one : {c : ℕ} {u v : ℤ} (t : Bool) → Within c u → Within c v → Within c (cond t u v)
+pub within_one : {c : ℕ} {u v : ℤ} (t : Bool) → Within c u → Within c v → Within c (cond t u v)
 within_one true h k = h
 within_one false h k = k
 
@@ -74,7 +74,7 @@ module _ {w : Width} {c : ℕ} (few : c < 2 ^ hbits w) where
 within_two : Within 2 (negsuc 1)
 within_two = within_neg (within_pos 2)
 
-credit_within : {b : ℕ} (u : ℤ) → Within b u → Within (2 + b) (credit u)
+pub credit_within : {b : ℕ} (u : ℤ) → Within b u → Within (2 + b) (credit u)
 unfolding credit
 credit_within {b} u h =
     within_one (lt_z u (negsuc 1 -ℤ u)) (within_add within_two (within_neg h)) (within_more h (omega arith))
