@@ -7,8 +7,7 @@ ghost use Rattle.base.specs.Whole.{Within};
 ghost use Rattle.rules_chips.specs.Bounds.{Bounded};
 ghost use Rattle.rules_chips.specs.Chips.{pair};
 ghost use Rattle.choose_walsh.specs.Turns.{plus, sided, credit, four_top, four_next, top_of, next_of};
-ghost use Rattle.choose_walsh.specs.Search.{held, merged, met, four_more};
-ghost use Rattle.choose_search.specs.Groups.{group_of};
+ghost use Rattle.choose_walsh.specs.Search.{group_of, held, merged, met, four_more};
 
 use choose_stages::{Complex, Lane};
 
@@ -94,7 +93,7 @@ fn merge<T: Lane>(b: Best<T>, k: Two<T>, g: T) -> Best<T>
 }
 
 // One group more, from what its last butterfly is of: y and x, each a sum of two.
-fn meet<T: Lane>(b: Best<T>, y: Complex<T>, a: Complex<T>, x: Complex<T>, c: Complex<T>, g: u8) -> Best<T>
+fn meet<T: Lane>(b: Best<T>, y: Complex<T>, a: Complex<T>, x: Complex<T>, c: Complex<T>, g: T) -> Best<T>
     requires { Bounded (2 * (16 * T.most + 4)) (pair (T.value y.i) (T.value y.q))
         × Bounded (2 * (16 * T.most + 4)) (pair (T.value a.i) (T.value a.q))
         × Bounded (2 * (16 * T.most + 4)) (pair (T.value x.i) (T.value x.q))
@@ -102,9 +101,9 @@ fn meet<T: Lane>(b: Best<T>, y: Complex<T>, a: Complex<T>, x: Complex<T>, c: Com
     ensures answer { held (T.value result.first) (T.value result.second) (group_of (T.value result.group))
         ≡ met (held (T.value b.first) (T.value b.second) (group_of (T.value b.group)))
         (plus (pair (T.value y.i) (T.value y.q)) (pair (T.value a.i) (T.value a.q)))
-        (plus (pair (T.value x.i) (T.value x.q)) (pair (T.value c.i) (T.value c.q))) g }
+        (plus (pair (T.value x.i) (T.value x.q)) (pair (T.value c.i) (T.value c.q))) (group_of (T.value g)) }
 {
-    merge(b, group(y.plus(a), x.plus(c)), T::of(g))
+    merge(b, group(y.plus(a), x.plus(c)), g)
 }
 
 // The four groups of one p3 in one column: q and p come to the odd chips' number by p4, f and e to the even ones'.
@@ -122,8 +121,12 @@ pub fn column<T: Lane>(b: Best<T>, q: Complex<T>, p: Complex<T>, f: Complex<T>, 
     let p2 = p1.back();
     let e1 = e.back();
     let e2 = e1.back();
-    let b1 = meet(b, q, p, f, e, g);
-    let b2 = meet(b1, q, p1, f, e1, g + 1);
-    let b3 = meet(b2, q, p2, f, e2, g + 2);
-    meet(b3, q, p2.back(), f, e2.back(), g + 3)
+    let one = T::of(1);
+    let g0 = T::of(g);
+    let g1 = g0.plus(one);
+    let g2 = g1.plus(one);
+    let b1 = meet(b, q, p, f, e, g0);
+    let b2 = meet(b1, q, p1, f, e1, g1);
+    let b3 = meet(b2, q, p2, f, e2, g2);
+    meet(b3, q, p2.back(), f, e2.back(), g2.plus(one))
 }

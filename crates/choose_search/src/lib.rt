@@ -7,8 +7,7 @@ ghost use Rattle.std.specs.Prelude.{◌≡◌, ◌+◌, ◌*◌, ◌-◌, ◌≤
 ghost use Rattle.std.specs.Int.Signed.{non_neg};
 ghost use Rattle.choose_recorded.specs.Recorded.{Put};
 ghost use Rattle.choose_walsh.specs.Rows.{eleven_at, eleven_lead, RowsBounded};
-ghost use Rattle.choose_walsh.specs.Search.{Sought, Keyed, word_of_key, lead_of_keys};
-ghost use Rattle.choose_search.specs.Groups.{group_of};
+ghost use Rattle.choose_walsh.specs.Search.{group_of, Sought, Keyed, word_of_key, lead_of_keys};
 
 use choose_stages::Lane;
 
@@ -56,62 +55,54 @@ fn search<N: Lane>(a: &[N], first: &mut [N], second: &mut [N], at: &mut [N])
     }
 }
 
-// The number of the word that has a key in the group g.
-fn word_of<N: Lane>(key: N, g: N) -> u8
-    requires { T (non_neg (N.value key)) × (group_of (N.value g) < 16) }
-    ensures answer { result ≡ word_of_key (N.value key) (group_of (N.value g)) }
+// The lead of the word that has the first of two keys, in counts: so many to one of what its chips are told in.
+fn lead_of<N: Lane>(unit: u32, first: N, second: N) -> u32
+    requires { (unit ≤ N.units) × T (non_neg (N.value first)) × (negsuc 1 ≤ℤ N.value second) × (N.value second ≤ℤ N.value first) }
+    ensures answer { result ≡ unit * lead_of_keys (N.value first) (N.value second) }
 {
-    let m = 15 - (key.octet() % 16 + 11) % 16;
-    16 * m + g.octet()
-}
-
-// The lead of the word that has the first of two keys, in counts: UNIT to one of what its chips are told in.
-fn lead_of<N: Lane, const UNIT: u32>(first: N, second: N) -> u32
-    requires { (UNIT ≤ N.units) × T (non_neg (N.value first)) × (negsuc 1 ≤ℤ N.value second) × (N.value second ≤ℤ N.value first) }
-    ensures answer { result ≡ UNIT * lead_of_keys (N.value first) (N.value second) }
-{
-    let next = second.larger(N::of(0));
-    UNIT * (first.score() - next.score())
+    unit * first.lead(second.larger(N::of(0)))
 }
 
 // The numbers of sixteen words and their leads, from place l on.
-fn put<N: Lane, const UNIT: u32>(
+fn put<N: Lane>(
     first: &[N],
     second: &[N],
     at: &[N],
+    unit: u32,
     l: usize,
     numbers: &mut [u8; 64],
     leads: &mut [u32; 64],
 )
-    requires { Keyed (map N.value first.now) (map N.value second.now) (map (λ g. group_of (N.value g)) at.now) × (UNIT ≤ N.units) × (l + 16 ≤ 64)
+    requires { Keyed (map N.value first.now) (map N.value second.now) (map (λ g. group_of (N.value g)) at.now) × (unit ≤ N.units) × (l + 16 ≤ 64)
         × (length numbers.old ≡ 64) × (length leads.old ≡ 64) }
     ensures numbers { Put (λ s. word_of_key (get_or (map N.value first.now) s (pos 0)) (get_or (map (λ g. group_of (N.value g)) at.now) s 0)) l
         numbers.old numbers.new 16 }
     ensures leads { Put
-        (λ s. UNIT * lead_of_keys (get_or (map N.value first.now) s (pos 0)) (get_or (map N.value second.now) s (pos 0))) l
+        (λ s. unit * lead_of_keys (get_or (map N.value first.now) s (pos 0)) (get_or (map N.value second.now) s (pos 0))) l
         leads.old leads.new 16 }
 {
     for s in 0..16 {
-        numbers[l + s] = word_of(first[s], at[s]);
-        leads[l + s] = lead_of::<N, UNIT>(first[s], second[s]);
+        numbers[l + s] = first[s].word(at[s]);
+        leads[l + s] = lead_of(unit, first[s], second[s]);
     }
 }
 
-// Sixteen symbols abreast, decided; their numbers and leads from place l on, the leads in counts: UNIT is how many
+// Sixteen symbols abreast, decided; their numbers and leads from place l on, the leads in counts: unit is how many
 // counts are one of the row's numbers. The rows z and a are to work in: chips as they enter, and the first stage.
-pub fn sixteen<N: Lane, const UNIT: u32>(
+pub fn sixteen<N: Lane>(
     row: &[N::Chip],
     z: &mut [N],
     a: &mut [N],
+    unit: u32,
     l: usize,
     numbers: &mut [u8; 64],
     leads: &mut [u32; 64],
 )
-    requires { (length row.now ≡ 256) × (length z.old ≡ 256) × (length a.old ≡ 512) × (UNIT ≤ N.units)
+    requires { (length row.now ≡ 256) × (length z.old ≡ 256) × (length a.old ≡ 512) × (unit ≤ N.units)
         × (l + 16 ≤ 64) × (length numbers.old ≡ 64) × (length leads.old ≡ 64) × N.Recorded row.now }
     ensures lengths { (length z.new ≡ 256) × (length a.new ≡ 512) }
     ensures numbers { Put (eleven_at (N.chips row.now)) l numbers.old numbers.new 16 }
-    ensures leads { Put (λ s. UNIT * eleven_lead (N.chips row.now) s) l leads.old leads.new 16 }
+    ensures leads { Put (λ s. unit * eleven_lead (N.chips row.now) s) l leads.old leads.new 16 }
 {
     let none = N::of(2).negated();
     let mut first = [none; 16];
@@ -120,5 +111,5 @@ pub fn sixteen<N: Lane, const UNIT: u32>(
     choose_stages::enter(row, z);
     choose_stages::pairs(z, a);
     search(a, &mut first, &mut second, &mut at);
-    put::<N, UNIT>(&first, &second, &at, l, numbers, leads);
+    put(&first, &second, &at, unit, l, numbers, leads);
 }

@@ -1,7 +1,7 @@
 // The numbers that sixteen symbols abreast are decided in: i16 where chips are signed bytes or full chips, i32 where
 // they are counts.
 ghost use Rattle.std.specs.Prelude.{
-    ◌≡◌, List, ℕ, ℤ, ◌+◌, ◌*◌, ◌/◌, ◌%◌, ◌≤◌, ◌<◌, T, cond, refl, length, get_or, pos, negsuc, neg_ℤ, nat_abs, ◌+ℤ◌, ◌-ℤ◌,
+    ◌≡◌, List, ℕ, ℤ, ◌+◌, ◌-◌, ◌*◌, ◌/◌, ◌%◌, ◌≤◌, ◌<◌, T, cond, refl, length, get_or, pos, negsuc, neg_ℤ, nat_abs, ◌+ℤ◌, ◌-ℤ◌,
     ◌*ℤ◌, ⊤,
 };
 ghost use Rattle.std.specs.Int.Signed.{lt_z, non_neg};
@@ -10,6 +10,7 @@ ghost use Rattle.base.specs.Whole.{Within};
 ghost use Rattle.rules_choosing.specs.Scores.{RowWithin};
 ghost use Rattle.rules_choosing.specs.Keys.{larger, smaller};
 ghost use Rattle.choose_walsh.specs.Turns.{credit};
+ghost use Rattle.choose_walsh.specs.Search.{group_of, word_of_key};
 
 pub trait Lane: Copy {
     // a number of a row of chips
@@ -77,15 +78,15 @@ pub trait Lane: Copy {
         requires { Within (4 * (16 * most + 4)) (value self) }
         ensures answer { value result ≡ credit (value self) };
 
-    // The last eight bits of a number that is not below 0.
-    fn octet(self) -> u8
-        requires { T (non_neg (value self)) }
-        ensures answer { result ≡ nat_abs (value self) % 256 };
+    // The number of the word that has a key, in a group.
+    fn word(self, group: Self) -> u8
+        requires { T (non_neg (value self)) × (group_of (value group) < 16) }
+        ensures answer { result ≡ word_of_key (value self) (group_of (value group)) };
 
-    // The score of a key that is not below 0.
-    fn score(self) -> u32
-        requires { T (non_neg (value self)) }
-        ensures answer { result ≡ (nat_abs (value self) + 11) / 16 }
+    // What a key is ahead of another by, in scores.
+    fn lead(self, next: Self) -> u32
+        requires { T (non_neg (value self)) × T (non_neg (value next)) × (nat_abs (value next) ≤ nat_abs (value self)) }
+        ensures answer { result ≡ (nat_abs (value self) + 11) / 16 - (nat_abs (value next) + 11) / 16 }
         ensures small { result * units < 4294967296 };
 
     ghost room: { 8 * (16 * most + 4) + 7 ≤ limit };
@@ -165,12 +166,13 @@ impl Lane for i16 {
         self.larger(-2 - self)
     }
 
-    fn octet(self) -> u8 {
-        (self as u16 % 256) as u8
+    fn word(self, group: i16) -> u8 {
+        let m = 15 - (self as u16 % 16 + 11) % 16;
+        (16 * m + group as u16) as u8
     }
 
-    fn score(self) -> u32 {
-        ((self as u16 + 11) / 16) as u32
+    fn lead(self, next: i16) -> u32 {
+        ((self as u16 + 11) / 16 - (next as u16 + 11) / 16) as u32
     }
 }
 
@@ -238,12 +240,13 @@ impl Lane for i32 {
         self < other
     }
 
+    // In the order of `below`, so that one comparison serves both.
     fn larger(self, other: i32) -> i32 {
-        self.max(other)
+        if self < other { other } else { self }
     }
 
     fn smaller(self, other: i32) -> i32 {
-        self.min(other)
+        if self < other { self } else { other }
     }
 
     fn lower(self, other: i32, top: i32) -> i32 {
@@ -254,11 +257,12 @@ impl Lane for i32 {
         ones(self) + sign(self)
     }
 
-    fn octet(self) -> u8 {
-        (self as u32 % 256) as u8
+    fn word(self, group: i32) -> u8 {
+        let m = 15 - (self as u32 % 16 + 11) % 16;
+        (16 * m + group as u32) as u8
     }
 
-    fn score(self) -> u32 {
-        (self as u32 + 11) / 16
+    fn lead(self, next: i32) -> u32 {
+        (self as u32 + 11) / 16 - (next as u32 + 11) / 16
     }
 }

@@ -1,7 +1,6 @@
 use Rattle.std.proofs.Common.{◌≤◌, ◌*◌, map, get_or, pos}
 use Rattle.choose_recorded.specs.Recorded.{Put}
-use Rattle.choose_walsh.specs.Search.{word_of_key, lead_of_keys}
-use Rattle.choose_search.specs.Groups.{group_of}
+use Rattle.choose_walsh.specs.Search.{group_of, word_of_key, lead_of_keys}
 use Rattle.choose_search.proofs.put.Given as goal
 
 abbrev pub invariant-loop-s : goal.invariant-loop-s
@@ -10,5 +9,5 @@ invariant-loop-s g l =
     (l.s ≤ 16)
     × Put (λ j. word_of_key (get_or (map value l.first) j (pos 0)) (get_or (map (λ k. group_of (value k)) l.at) j 0)) l.l
     l.fn.numbers l.numbers l.s
-    × Put (λ j. g.row.UNIT * lead_of_keys (get_or (map value l.first) j (pos 0)) (get_or (map value l.second) j (pos 0)))
+    × Put (λ j. l.unit * lead_of_keys (get_or (map value l.first) j (pos 0)) (get_or (map value l.second) j (pos 0)))
     l.l l.fn.leads l.leads l.s

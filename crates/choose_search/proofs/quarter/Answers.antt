@@ -1,11 +1,10 @@
 -- The groups are in the first l columns.
 use Rattle.std.proofs.Common.{◌≡◌, ◌+◌, ◌*◌, ◌∙◌, map, pos, arith}
 use Rattle.choose_walsh.specs.Rows.{row_at}
-use Rattle.choose_walsh.specs.Search.{held, four_more}
+use Rattle.choose_walsh.specs.Search.{group_of, held, four_more}
 use Rattle.choose_walsh.proofs.Stages.{row_at_lem}
 use Rattle.choose_walsh.proofs.Search.{sought_quarter}
 use Rattle.choose_stages.proofs.Columns.{bounded_by}
-use Rattle.choose_search.specs.Groups.{group_of}
 use Rattle.choose_search.proofs.Columns.{in_columns, read_as, quartered_column}
 use Rattle.choose_search.proofs.quarter.Goals as goal
 

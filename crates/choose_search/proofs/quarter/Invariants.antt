@@ -1,6 +1,5 @@
 use Rattle.std.proofs.Common.{◌≤◌, map}
-use Rattle.choose_walsh.specs.Search.{Quartered}
-use Rattle.choose_search.specs.Groups.{group_of}
+use Rattle.choose_walsh.specs.Search.{group_of, Quartered}
 use Rattle.choose_search.proofs.quarter.Given as goal
 
 abbrev pub invariant-loop-l : goal.invariant-loop-l

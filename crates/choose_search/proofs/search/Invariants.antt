@@ -1,6 +1,5 @@
 use Rattle.std.proofs.Common.{◌≤◌, ◌*◌, map}
-use Rattle.choose_walsh.specs.Search.{Sought}
-use Rattle.choose_search.specs.Groups.{group_of}
+use Rattle.choose_walsh.specs.Search.{group_of, Sought}
 use Rattle.choose_search.proofs.search.Given as goal
 
 abbrev pub invariant-loop-p3 : goal.invariant-loop-p3

@@ -10,7 +10,7 @@ use Rattle.choose_walsh.specs.Rows.{RowsBounded}
 use Rattle.choose_walsh.proofs.Stages.{entered_rows, paired_rows}
 use Rattle.choose_walsh.proofs.Search.{sought_none}
 use Rattle.choose_walsh.proofs.Chosen.{chosen, led, keyed}
-use Rattle.choose_search.specs.Groups.{group_of}
+use Rattle.choose_walsh.specs.Search.{group_of}
 use Rattle.choose_search.proofs.sixteen.Goals as goal
 
 pub negated-none-requires : goal.negated-none-requires
@@ -50,5 +50,5 @@ returns-clause-numbers g c =
 pub returns-clause-leads : goal.returns-clause-leads
 returns-clause-leads g c =
     put_ext c.put.ensures.leads
-    (λ s few. ap (λ (n : ℕ). g.row.UNIT * n)
+    (λ s few. ap (λ (n : ℕ). c.args.unit * n)
     (led _ _ _ s few c.enter.ensures.z c.pairs.ensures.a _ (c.search.ensures.rows.each s few)))

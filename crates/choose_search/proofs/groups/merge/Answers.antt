@@ -2,8 +2,7 @@
 use Rattle.std.proofs.Common.{◌∙◌, ap}
 use lib.Signed.{lt_z}
 use Rattle.rules_choosing.specs.Keys.{larger, smaller}
-use Rattle.choose_walsh.specs.Search.{held, merged}
-use Rattle.choose_search.specs.Groups.{group_of}
+use Rattle.choose_walsh.specs.Search.{group_of, held, merged}
 use Rattle.choose_search.proofs.Keys.{of_one}
 use Rattle.choose_search.proofs.groups.merge.Goals as goal
 
