@@ -5,9 +5,10 @@ ghost use Rattle.std.specs.Prelude.{◌≡◌, cond, ◌+◌, ◌-◌, ◌*◌, 
 ghost use Rattle.std.specs.Int.Signed.{lt_z};
 ghost use Rattle.base.specs.Whole.{Within};
 ghost use Rattle.rules_chips.specs.Bounds.{Bounded};
-ghost use Rattle.rules_chips.specs.Chips.{pair};
+ghost use Rattle.choose_stages.specs.Numbers.{whole};
 ghost use Rattle.choose_walsh.specs.Turns.{plus, sided, credit, four_top, four_next, top_of, next_of};
-ghost use Rattle.choose_walsh.specs.Search.{group_of, held, merged, met, four_more};
+ghost use Rattle.choose_search.specs.Keys.{told};
+ghost use Rattle.choose_walsh.specs.Search.{group_of, merged, met, four_more};
 
 use choose_stages::{Complex, Lane};
 
@@ -37,7 +38,8 @@ fn sided<T: Lane>(y: T, a: T) -> T
 // The larger key of the words whose sums are y + a and y - a, and that of those with b: the larger of both, and the
 // other. Opposite words count as one.
 fn four<T: Lane>(y: T, a: T, b: T) -> Two<T>
-    requires { Within (4 * (16 * T.most + 4)) (T.value y) × Within (4 * (16 * T.most + 4)) (T.value a) × Within (4 * (16 * T.most + 4)) (T.value b) }
+    requires { Within (4 * (16 * T.most + 4)) (T.value y) × Within (4 * (16 * T.most + 4)) (T.value a)
+        × Within (4 * (16 * T.most + 4)) (T.value b) }
     ensures answer { (T.value result.first ≡ four_top (T.value y) (T.value a) (T.value b))
         × (T.value result.second ≡ four_next (T.value y) (T.value a) (T.value b)) }
 {
@@ -53,10 +55,9 @@ fn four<T: Lane>(y: T, a: T, b: T) -> Two<T>
 
 // The two keys of a group in one column.
 fn group<T: Lane>(y: Complex<T>, x: Complex<T>) -> Two<T>
-    requires { Bounded (4 * (16 * T.most + 4)) (pair (T.value y.i) (T.value y.q))
-        × Bounded (4 * (16 * T.most + 4)) (pair (T.value x.i) (T.value x.q)) }
-    ensures answer { (T.value result.first ≡ top_of (pair (T.value y.i) (T.value y.q)) (pair (T.value x.i) (T.value x.q)))
-        × (T.value result.second ≡ next_of (pair (T.value y.i) (T.value y.q)) (pair (T.value x.i) (T.value x.q))) }
+    requires { Bounded (4 * (16 * T.most + 4)) (whole T.value y) × Bounded (4 * (16 * T.most + 4)) (whole T.value x) }
+    ensures answer { (T.value result.first ≡ top_of (whole T.value y) (whole T.value x))
+        × (T.value result.second ≡ next_of (whole T.value y) (whole T.value x)) }
 {
     let p = four(y.i, x.i, x.q);
     let q = four(y.q, x.q, x.i.negated());
@@ -79,9 +80,8 @@ fn place<T: Lane>(best: T, key: T, g: T, was: T) -> T
 
 // One group more.
 fn merge<T: Lane>(b: Best<T>, k: Two<T>, g: T) -> Best<T>
-    ensures answer { held (T.value result.first) (T.value result.second) (group_of (T.value result.group))
-        ≡ merged (held (T.value b.first) (T.value b.second) (group_of (T.value b.group)))
-        (T.value k.first) (T.value k.second) (group_of (T.value g)) }
+    ensures answer { told T.value result
+        ≡ merged (told T.value b) (T.value k.first) (T.value k.second) (group_of (T.value g)) }
 {
     let t = b.first;
     let u = k.first;
@@ -94,28 +94,22 @@ fn merge<T: Lane>(b: Best<T>, k: Two<T>, g: T) -> Best<T>
 
 // One group more, from what its last butterfly is of: y and x, each a sum of two.
 fn meet<T: Lane>(b: Best<T>, y: Complex<T>, a: Complex<T>, x: Complex<T>, c: Complex<T>, g: T) -> Best<T>
-    requires { Bounded (2 * (16 * T.most + 4)) (pair (T.value y.i) (T.value y.q))
-        × Bounded (2 * (16 * T.most + 4)) (pair (T.value a.i) (T.value a.q))
-        × Bounded (2 * (16 * T.most + 4)) (pair (T.value x.i) (T.value x.q))
-        × Bounded (2 * (16 * T.most + 4)) (pair (T.value c.i) (T.value c.q)) }
-    ensures answer { held (T.value result.first) (T.value result.second) (group_of (T.value result.group))
-        ≡ met (held (T.value b.first) (T.value b.second) (group_of (T.value b.group)))
-        (plus (pair (T.value y.i) (T.value y.q)) (pair (T.value a.i) (T.value a.q)))
-        (plus (pair (T.value x.i) (T.value x.q)) (pair (T.value c.i) (T.value c.q))) (group_of (T.value g)) }
+    requires { Bounded (2 * (16 * T.most + 4)) (whole T.value y) × Bounded (2 * (16 * T.most + 4)) (whole T.value a)
+        × Bounded (2 * (16 * T.most + 4)) (whole T.value x) × Bounded (2 * (16 * T.most + 4)) (whole T.value c) }
+    ensures answer { told T.value result
+        ≡ met (told T.value b) (plus (whole T.value y) (whole T.value a)) (plus (whole T.value x) (whole T.value c))
+        (group_of (T.value g)) }
 {
     merge(b, group(y.plus(a), x.plus(c)), g)
 }
 
 // The four groups of one p3 in one column: q and p come to the odd chips' number by p4, f and e to the even ones'.
 pub fn column<T: Lane>(b: Best<T>, q: Complex<T>, p: Complex<T>, f: Complex<T>, e: Complex<T>, g: u8) -> Best<T>
-    requires { Bounded (2 * (16 * T.most + 4)) (pair (T.value q.i) (T.value q.q))
-        × Bounded (2 * (16 * T.most + 4)) (pair (T.value p.i) (T.value p.q))
-        × Bounded (2 * (16 * T.most + 4)) (pair (T.value f.i) (T.value f.q))
-        × Bounded (2 * (16 * T.most + 4)) (pair (T.value e.i) (T.value e.q)) × (g ≤ 12) }
-    ensures answer { held (T.value result.first) (T.value result.second) (group_of (T.value result.group))
-        ≡ four_more (held (T.value b.first) (T.value b.second) (group_of (T.value b.group)))
-        (pair (T.value q.i) (T.value q.q)) (pair (T.value p.i) (T.value p.q))
-        (pair (T.value f.i) (T.value f.q)) (pair (T.value e.i) (T.value e.q)) g }
+    requires { Bounded (2 * (16 * T.most + 4)) (whole T.value q) × Bounded (2 * (16 * T.most + 4)) (whole T.value p)
+        × Bounded (2 * (16 * T.most + 4)) (whole T.value f) × Bounded (2 * (16 * T.most + 4)) (whole T.value e)
+        × (g ≤ 12) }
+    ensures answer { told T.value result
+        ≡ four_more (told T.value b) (whole T.value q) (whole T.value p) (whole T.value f) (whole T.value e) g }
 {
     let p1 = p.back();
     let p2 = p1.back();

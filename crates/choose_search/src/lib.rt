@@ -7,9 +7,10 @@ ghost use Rattle.std.specs.Prelude.{◌≡◌, ◌+◌, ◌*◌, ◌-◌, ◌≤
 ghost use Rattle.std.specs.Int.Signed.{non_neg};
 ghost use Rattle.choose_recorded.specs.Recorded.{Put};
 ghost use Rattle.choose_walsh.specs.Rows.{eleven_at, eleven_lead, RowsBounded};
-ghost use Rattle.choose_walsh.specs.Search.{group_of, Sought, Keyed, word_of_key, lead_of_keys};
+ghost use Rattle.choose_search.specs.Keys.{groups};
+ghost use Rattle.choose_walsh.specs.Search.{Sought, Keyed, word_of_key, lead_of_keys};
 
-use choose_stages::Lane;
+use choose_stages::{Complex, Lane};
 
 use crate::groups::Best;
 
@@ -18,10 +19,9 @@ mod groups;
 // The four groups of one p3 in all columns.
 fn quarter<N: Lane>(a: &[N], p3: usize, first: &mut [N], second: &mut [N], at: &mut [N])
     requires { (length a.now ≡ 512) × (p3 < 4) × RowsBounded (2 * (16 * N.most + 4)) 16 (map N.value a.now)
-        × Sought (map N.value a.now) (4 * p3) (map N.value first.old) (map N.value second.old)
-            (map (λ g. group_of (N.value g)) at.old) }
+        × Sought (map N.value a.now) (4 * p3) (map N.value first.old) (map N.value second.old) (groups N.value at.old) }
     ensures rows { Sought (map N.value a.now) (4 * p3 + 4) (map N.value first.new) (map N.value second.new)
-        (map (λ g. group_of (N.value g)) at.new) }
+        (groups N.value at.new) }
 {
     let from = 32 * p3;
     let g = (4 * p3) as u8;
@@ -31,10 +31,10 @@ fn quarter<N: Lane>(a: &[N], p3: usize, first: &mut [N], second: &mut [N], at: &
             second: second[l],
             group: at[l],
         };
-        let q = choose_stages::at(a, 384 + from, l);
-        let p = choose_stages::at(a, 128 + from, l);
-        let f = choose_stages::at(a, 256 + from, l);
-        let e = choose_stages::at(a, from, l);
+        let q = Complex::at(a, 384 + from, l);
+        let p = Complex::at(a, 128 + from, l);
+        let f = Complex::at(a, 256 + from, l);
+        let e = Complex::at(a, from, l);
         let c = groups::column(b, q, p, f, e, g);
         first[l] = c.first;
         second[l] = c.second;
@@ -45,10 +45,9 @@ fn quarter<N: Lane>(a: &[N], p3: usize, first: &mut [N], second: &mut [N], at: &
 // All sixteen groups.
 fn search<N: Lane>(a: &[N], first: &mut [N], second: &mut [N], at: &mut [N])
     requires { (length a.now ≡ 512) × RowsBounded (2 * (16 * N.most + 4)) 16 (map N.value a.now)
-        × Sought (map N.value a.now) 0 (map N.value first.old) (map N.value second.old)
-            (map (λ g. group_of (N.value g)) at.old) }
+        × Sought (map N.value a.now) 0 (map N.value first.old) (map N.value second.old) (groups N.value at.old) }
     ensures rows { Sought (map N.value a.now) 16 (map N.value first.new) (map N.value second.new)
-        (map (λ g. group_of (N.value g)) at.new) }
+        (groups N.value at.new) }
 {
     for p3 in 0..4 {
         quarter(a, p3, first, second, at);
@@ -73,9 +72,9 @@ fn put<N: Lane>(
     numbers: &mut [u8; 64],
     leads: &mut [u32; 64],
 )
-    requires { Keyed (map N.value first.now) (map N.value second.now) (map (λ g. group_of (N.value g)) at.now) × (unit ≤ N.units) × (l + 16 ≤ 64)
+    requires { Keyed (map N.value first.now) (map N.value second.now) (groups N.value at.now) × (unit ≤ N.units) × (l + 16 ≤ 64)
         × (length numbers.old ≡ 64) × (length leads.old ≡ 64) }
-    ensures numbers { Put (λ s. word_of_key (get_or (map N.value first.now) s (pos 0)) (get_or (map (λ g. group_of (N.value g)) at.now) s 0)) l
+    ensures numbers { Put (λ s. word_of_key (get_or (map N.value first.now) s (pos 0)) (get_or (groups N.value at.now) s 0)) l
         numbers.old numbers.new 16 }
     ensures leads { Put
         (λ s. unit * lead_of_keys (get_or (map N.value first.now) s (pos 0)) (get_or (map N.value second.now) s (pos 0))) l

@@ -6,9 +6,9 @@
 ghost use Rattle.std.specs.Prelude.{◌≡◌, [], ◌∷◌, ◌+◌, ◌*◌, ◌≤◌, ◌<◌, length, map, pos, ◌+ℤ◌, ◌*ℤ◌};
 ghost use Rattle.base.specs.Whole.{Within};
 ghost use Rattle.rules_choosing.specs.Scores.{RowWithin};
-ghost use Rattle.rules_chips.specs.Chips.{pair};
 ghost use Rattle.rules_chips.specs.Bounds.{Bounded};
 ghost use Rattle.choose_walsh.specs.Turns.{plus, back};
+ghost use Rattle.choose_stages.specs.Numbers.{whole};
 ghost use Rattle.choose_walsh.specs.Rows.{row_at, FourWithin, FourScaled, RowBounded, RowsBounded, Entered, Flown, Paired};
 
 pub mod lanes;
@@ -22,23 +22,23 @@ pub struct Complex<T> {
     pub q: T,
 }
 
-// The number in column l of the complex row that begins at x.
-pub fn at<T: Lane>(row: &[T], x: usize, l: usize) -> Complex<T>
-    requires { x + l + 16 < length row.now }
-    ensures answer { pair (T.value result.i) (T.value result.q) ≡ row_at (map T.value row.now) x l }
-{
-    Complex {
-        i: row[x + l],
-        q: row[x + l + 16],
-    }
-}
-
 impl<T: Lane> Complex<T> {
+    // The number in column l of the complex row that begins at x.
+    pub fn at(row: &[T], x: usize, l: usize) -> Complex<T>
+        requires { x + l + 16 < length row.now }
+        ensures answer { whole T.value result ≡ row_at (map T.value row.now) x l }
+    {
+        Complex {
+            i: row[x + l],
+            q: row[x + l + 16],
+        }
+    }
+
     // The sum of two.
     pub fn plus(self, other: Complex<T>) -> Complex<T>
-        requires { Bounded T.limit (plus (pair (T.value self.i) (T.value self.q)) (pair (T.value other.i) (T.value other.q))) }
-        ensures answer { pair (T.value result.i) (T.value result.q)
-            ≡ plus (pair (T.value self.i) (T.value self.q)) (pair (T.value other.i) (T.value other.q)) }
+        requires { Bounded T.limit (plus (whole T.value self) (whole T.value other)) }
+        ensures answer { whole T.value result
+            ≡ plus (whole T.value self) (whole T.value other) }
     {
         Complex {
             i: self.i.plus(other.i),
@@ -49,7 +49,7 @@ impl<T: Lane> Complex<T> {
     // Turned back by a quarter turn.
     pub fn back(self) -> Complex<T>
         requires { Within T.limit (T.value self.i) }
-        ensures answer { pair (T.value result.i) (T.value result.q) ≡ back 1 (pair (T.value self.i) (T.value self.q)) }
+        ensures answer { whole T.value result ≡ back 1 (whole T.value self) }
     {
         Complex {
             i: self.q,
@@ -97,8 +97,8 @@ fn butterfly<T: Lane>(s: &[T], x: usize, y: usize, o: &mut [T], z: usize)
     ensures o { Flown (map T.value s.now) x y (map T.value o.old) z 16 (map T.value o.new) }
 {
     for l in 0..16 {
-        let u = at(s, x, l);
-        let v = at(s, y, l);
+        let u = Complex::at(s, x, l);
+        let v = Complex::at(s, y, l);
         let u1 = u.back();
         let u2 = u1.back();
         let r0 = v.plus(u);
