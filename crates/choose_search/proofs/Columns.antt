@@ -3,7 +3,7 @@
 --     in_columns       a column of one of sixteen
 --     quartered_column the groups of one p3 in one column more
 -- Assumes nothing.
-use Rattle.std.proofs.Common.{◌≡◌, ℕ, ℤ, ◌+◌, ◌*◌, ◌<◌, List, length, map, set, get_or, pos, ap, sym, subst, ◌∙◌}
+use Rattle.std.proofs.Common.{◌≡◌, ℕ, ℤ, ◌+◌, ◌*◌, ◌<◌, List, length, map, set, get_or, ap, sym, subst, ◌∙◌}
 use Rattle.std.proofs.lemmas.List.{map-set, length-map, get_or-map}
 use Rattle.choose_walsh.specs.Rows.{row_at}
 use Rattle.choose_walsh.specs.Search.{held, held_at, four_more, Quartered}

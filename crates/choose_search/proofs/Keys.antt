@@ -1,6 +1,6 @@
 -- What a group's keys are made of is within a lane's limit, chips being from -most to most.
 -- Assumes nothing.
-use Rattle.std.proofs.Common.{◌≡◌, ℕ, ℤ, ◌+◌, ◌*◌, ◌≤◌, Bool, true, false, cond, pos, nat_abs, neg_ℤ, ◌+ℤ◌, ◌-ℤ◌, refl, arith}
+use Rattle.std.proofs.Common.{◌≡◌, ℕ, ℤ, ◌+◌, ◌*◌, ◌≤◌, Bool, true, false, cond, pos, nat_abs, ◌-ℤ◌, refl, arith}
 use lib.Signed.{lt_z}
 use Rattle.base.specs.Whole.{Within}
 use Rattle.base.proofs.Whole.{within_add, within_neg, within_more}

@@ -6,7 +6,7 @@ ghost use Rattle.std.specs.Int.Signed.{lt_z};
 ghost use Rattle.base.specs.Whole.{Within};
 ghost use Rattle.rules_chips.specs.Bounds.{Bounded};
 ghost use Rattle.choose_stages.specs.Numbers.{whole};
-ghost use Rattle.choose_walsh.specs.Turns.{plus, sided, credit, four_top, four_next, top_of, next_of};
+ghost use Rattle.choose_walsh.specs.Turns.{plus, sided, four_top, four_next, top_of, next_of};
 ghost use Rattle.choose_search.specs.Keys.{told};
 ghost use Rattle.choose_walsh.specs.Search.{group_of, merged, met, four_more};
 
@@ -93,7 +93,14 @@ fn merge<T: Lane>(b: Best<T>, k: Two<T>, g: T) -> Best<T>
 }
 
 // One group more, from what its last butterfly is of: y and x, each a sum of two.
-fn meet<T: Lane>(b: Best<T>, y: Complex<T>, a: Complex<T>, x: Complex<T>, c: Complex<T>, g: T) -> Best<T>
+fn meet<T: Lane>(
+    b: Best<T>,
+    y: Complex<T>,
+    a: Complex<T>,
+    x: Complex<T>,
+    c: Complex<T>,
+    g: T,
+) -> Best<T>
     requires { Bounded (2 * (16 * T.most + 4)) (whole T.value y) × Bounded (2 * (16 * T.most + 4)) (whole T.value a)
         × Bounded (2 * (16 * T.most + 4)) (whole T.value x) × Bounded (2 * (16 * T.most + 4)) (whole T.value c) }
     ensures answer { told T.value result
@@ -104,7 +111,14 @@ fn meet<T: Lane>(b: Best<T>, y: Complex<T>, a: Complex<T>, x: Complex<T>, c: Com
 }
 
 // The four groups of one p3 in one column: q and p come to the odd chips' number by p4, f and e to the even ones'.
-pub fn column<T: Lane>(b: Best<T>, q: Complex<T>, p: Complex<T>, f: Complex<T>, e: Complex<T>, g: u8) -> Best<T>
+pub fn column<T: Lane>(
+    b: Best<T>,
+    q: Complex<T>,
+    p: Complex<T>,
+    f: Complex<T>,
+    e: Complex<T>,
+    g: u8,
+) -> Best<T>
     requires { Bounded (2 * (16 * T.most + 4)) (whole T.value q) × Bounded (2 * (16 * T.most + 4)) (whole T.value p)
         × Bounded (2 * (16 * T.most + 4)) (whole T.value f) × Bounded (2 * (16 * T.most + 4)) (whole T.value e)
         × (g ≤ 12) }

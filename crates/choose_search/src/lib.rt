@@ -10,9 +10,8 @@ ghost use Rattle.choose_walsh.specs.Rows.{eleven_at, eleven_lead, RowsBounded};
 ghost use Rattle.choose_search.specs.Keys.{groups};
 ghost use Rattle.choose_walsh.specs.Search.{Sought, Keyed, word_of_key, lead_of_keys};
 
-use choose_stages::{Complex, Lane};
-
 use crate::groups::Best;
+use choose_stages::{Complex, Lane};
 
 mod groups;
 

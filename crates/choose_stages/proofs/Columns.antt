@@ -6,8 +6,31 @@
 --     place_fits                       a place in a row that is lent
 -- Assumes nothing.
 use Rattle.std.proofs.Common.{
-  ◌≡◌, ℕ, ℤ, ◌+◌, ◌*◌, ◌≤◌, ◌<◌, List, [], ◌∷◌, length, map, set, get_or, pos, neg_ℤ, ◌+ℤ◌, ◌*ℤ◌, ap, sym, subst, ◌∙◌,
-  Fits, w64, arith,
+  ◌≡◌,
+  ℕ,
+  ℤ,
+  ◌+◌,
+  ◌*◌,
+  ◌≤◌,
+  ◌<◌,
+  List,
+  [],
+  ◌∷◌,
+  length,
+  map,
+  set,
+  get_or,
+  pos,
+  neg_ℤ,
+  ◌+ℤ◌,
+  ◌*ℤ◌,
+  ap,
+  sym,
+  subst,
+  ◌∙◌,
+  Fits,
+  w64,
+  arith,
 }
 use Rattle.std.proofs.lemmas.List.{map-set, length-map}
 use native.Mathlib.Nat.{mul-le-mul_right}

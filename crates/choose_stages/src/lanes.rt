@@ -1,13 +1,27 @@
-// The numbers that sixteen symbols abreast are decided in: i16 where chips are signed bytes or full chips, i32 where
-// they are counts.
+// The numbers that sixteen symbols abreast are decided in, of any width.
 ghost use Rattle.std.specs.Prelude.{
-    ◌≡◌, List, ℕ, ℤ, ◌+◌, ◌-◌, ◌*◌, ◌/◌, ◌%◌, ◌≤◌, ◌<◌, T, cond, refl, length, get_or, pos, negsuc, neg_ℤ, nat_abs, ◌+ℤ◌, ◌-ℤ◌,
-    ◌*ℤ◌, ⊤,
+  ◌≡◌,
+  List,
+  ℕ,
+  ℤ,
+  ◌+◌,
+  ◌-◌,
+  ◌*◌,
+  ◌/◌,
+  ◌≤◌,
+  ◌<◌,
+  T,
+  length,
+  get_or,
+  pos,
+  neg_ℤ,
+  nat_abs,
+  ◌+ℤ◌,
+  ◌-ℤ◌,
+  ◌*ℤ◌,
 };
 ghost use Rattle.std.specs.Int.Signed.{lt_z, non_neg};
-ghost use Rattle.std.proofs.Common.{rules};
 ghost use Rattle.base.specs.Whole.{Within};
-ghost use Rattle.rules_choosing.specs.Scores.{RowWithin};
 ghost use Rattle.rules_choosing.specs.Keys.{larger, smaller};
 ghost use Rattle.choose_walsh.specs.Turns.{credit};
 ghost use Rattle.choose_walsh.specs.Search.{group_of, word_of_key};
@@ -92,177 +106,4 @@ pub trait Lane: Copy {
     ghost room: { 8 * (16 * most + 4) + 7 ≤ limit };
 
     ghost long: { (row : List Self.Chip) → length (chips row) ≡ length row };
-}
-
-// A byte times a factor, and more.
-fn scaled(b: i8, times: i8, more: i8) -> i16
-    requires { Within 16 times × Within 4 more }
-    ensures answer { result ≡ (times *ℤ b) +ℤ more }
-    ensures byte { Within 128 b }
-{
-    times as i16 * b as i16 + more as i16
-}
-
-impl Lane for i16 {
-    type Chip = i8;
-
-    ghost value = { λ n. n };
-
-    ghost chips = { λ row. row };
-
-    ghost Recorded = { λ _. ⊤ };
-
-    ghost most = { 128 };
-
-    ghost limit = { 32767 };
-
-    ghost units = { 1024 };
-
-    ghost room = { Prim.search rules };
-
-    ghost long = { λ _. refl };
-
-    fn entered(row: &[i8], at: usize, times: i8, more: i8) -> i16 {
-        scaled(row[at], times, more)
-    }
-
-    fn of(n: u8) -> i16 {
-        n as i16
-    }
-
-    fn plus(self, other: i16) -> i16 {
-        self + other
-    }
-
-    fn minus(self, other: i16) -> i16 {
-        self - other
-    }
-
-    fn negated(self) -> i16 {
-        -self
-    }
-
-    fn magnitude(self) -> i16 {
-        self.abs()
-    }
-
-    fn below(self, other: i16) -> bool {
-        self < other
-    }
-
-    fn larger(self, other: i16) -> i16 {
-        self.max(other)
-    }
-
-    fn smaller(self, other: i16) -> i16 {
-        self.min(other)
-    }
-
-    fn lower(self, other: i16, _top: i16) -> i16 {
-        self.min(other)
-    }
-
-    fn credit(self) -> i16 {
-        self.larger(-2 - self)
-    }
-
-    fn word(self, group: i16) -> u8 {
-        let m = 15 - (self as u16 % 16 + 11) % 16;
-        (16 * m + group as u16) as u8
-    }
-
-    fn lead(self, next: i16) -> u32 {
-        ((self as u16 + 11) / 16 - (next as u16 + 11) / 16) as u32
-    }
-}
-
-// A number, or its complement where it is below 0.
-fn ones(u: i32) -> i32
-    requires { Within 524304 u }
-    ensures answer { result ≡ cond (lt_z u (pos 0)) (negsuc 0 -ℤ u) u }
-{
-    if u < 0 { -1 - u } else { u }
-}
-
-// -1 where a number is below 0, else 0.
-fn sign(u: i32) -> i32
-    ensures answer { result ≡ cond (lt_z u (pos 0)) (negsuc 0) (pos 0) }
-{
-    if u < 0 { -1 } else { 0 }
-}
-
-// SSE2 has no instruction for the larger of two numbers of 32 bits, so a credit is made by its sign, and the smaller
-// of two is what the larger leaves of their sum.
-impl Lane for i32 {
-    type Chip = i32;
-
-    ghost value = { λ n. n };
-
-    ghost chips = { λ row. row };
-
-    ghost Recorded = { λ row. RowWithin 8192 row };
-
-    ghost most = { 8192 };
-
-    ghost limit = { 1073741823 };
-
-    ghost units = { 1 };
-
-    ghost room = { Prim.search rules };
-
-    ghost long = { λ _. refl };
-
-    fn entered(row: &[i32], at: usize, times: i8, more: i8) -> i32 {
-        times as i32 * row[at] + more as i32
-    }
-
-    fn of(n: u8) -> i32 {
-        n as i32
-    }
-
-    fn plus(self, other: i32) -> i32 {
-        self + other
-    }
-
-    fn minus(self, other: i32) -> i32 {
-        self - other
-    }
-
-    fn negated(self) -> i32 {
-        -self
-    }
-
-    fn magnitude(self) -> i32 {
-        self.abs()
-    }
-
-    fn below(self, other: i32) -> bool {
-        self < other
-    }
-
-    // In the order of `below`, so that one comparison serves both.
-    fn larger(self, other: i32) -> i32 {
-        if self < other { other } else { self }
-    }
-
-    fn smaller(self, other: i32) -> i32 {
-        if self < other { self } else { other }
-    }
-
-    fn lower(self, other: i32, top: i32) -> i32 {
-        self + other - top
-    }
-
-    fn credit(self) -> i32 {
-        ones(self) + sign(self)
-    }
-
-    fn word(self, group: i32) -> u8 {
-        let m = 15 - (self as u32 % 16 + 11) % 16;
-        (16 * m + group as u32) as u8
-    }
-
-    fn lead(self, next: i32) -> u32 {
-        (self as u32 + 11) / 16 - (next as u32 + 11) / 16
-    }
 }

@@ -3,7 +3,7 @@
 // Rows to work in are lent.
 #![tactic(auto)]
 
-ghost use Rattle.std.specs.Prelude.{◌≡◌, [], ◌∷◌, ◌+◌, ◌*◌, ◌≤◌, ◌<◌, length, map, pos, ◌+ℤ◌, ◌*ℤ◌};
+ghost use Rattle.std.specs.Prelude.{◌≡◌, [], ◌∷◌, ◌+◌, ◌*◌, ◌≤◌, ◌<◌, length, map, pos};
 ghost use Rattle.base.specs.Whole.{Within};
 ghost use Rattle.rules_choosing.specs.Scores.{RowWithin};
 ghost use Rattle.rules_chips.specs.Bounds.{Bounded};
@@ -12,6 +12,8 @@ ghost use Rattle.choose_stages.specs.Numbers.{whole};
 ghost use Rattle.choose_walsh.specs.Rows.{row_at, FourWithin, FourScaled, RowBounded, RowsBounded, Entered, Flown, Paired};
 
 pub mod lanes;
+mod narrow;
+mod wide;
 
 pub use crate::lanes::Lane;
 

@@ -22,9 +22,9 @@ lead_of-requires g c =
     let few = c.loop-s-test.true in
     let k = c.requires.0 in
     let first = read_as value c.args.first.now _ (pos 0) (in_columns value c.args.first.now k.first_long few)
-        c.index-first-s-in-loop-s.is in
+    c.index-first-s-in-loop-s.is in
     let second = read_as value c.args.second.now _ (pos 0) (in_columns value c.args.second.now k.second_long few)
-        c.index-second-s.is in (
+    c.index-second-s.is in (
       c.requires.1,
       rw first (k.key _ few),
       rw second (k.next _ few),
@@ -38,12 +38,12 @@ loop-s-preserved g c =
     let few = c.loop-s-test.true in
     let k = c.requires.0 in
     let key = read_as value c.args.first.now _ (pos 0) (in_columns value c.args.first.now k.first_long few)
-        c.index-first-s.is in
+    c.index-first-s.is in
     let group = read_as number c.args.at.now _ 0 (in_columns number c.args.at.now k.at_long few) c.index-at-s.is in
     let first = read_as value c.args.first.now _ (pos 0) (in_columns value c.args.first.now k.first_long few)
-        c.index-first-s-in-loop-s.is in
+    c.index-first-s-in-loop-s.is in
     let second = read_as value c.args.second.now _ (pos 0) (in_columns value c.args.second.now k.second_long few)
-        c.index-second-s.is in (
+    c.index-second-s.is in (
       omega (arith, few),
       put_more _ (omega (arith, c.requires.2, few)) (c.word.ensures.answer ∙ (λ i. word_of_key (key i) (group i)))
           c.loop-s.invariant.1,

@@ -33,11 +33,11 @@ loop-l-preserved g c =
     let now = c.loop-l.invariant.1 in
     let e : 32 * c.args.p3 ≡ 0 + 32 * c.args.p3 = omega arith in
     let first = read_as value c.loop-l.first _ (pos 0) (in_columns value c.loop-l.first (now.first_long ∙ s.first_long) few)
-        c.index-first-l.is in
+    c.index-first-l.is in
     let second = read_as value c.loop-l.second _ (pos 0)
-        (in_columns value c.loop-l.second (now.second_long ∙ s.second_long) few) c.index-second-l.is in
+    (in_columns value c.loop-l.second (now.second_long ∙ s.second_long) few) c.index-second-l.is in
     let group = read_as number c.loop-l.at _ 0 (in_columns number c.loop-l.at (now.at_long ∙ s.at_long) few)
-        c.index-at-l.is in (
+    c.index-at-l.is in (
       omega (arith, few),
       quartered_column value number c.args.first.now c.args.second.now c.args.at.now c.loop-l.first c.loop-l.second
           c.loop-l.at now (in_columns value c.args.first.now s.first_long few)

@@ -1,5 +1,5 @@
 -- What enters, the first stage and the search come to the words decided and their leads.
-use Rattle.std.proofs.Common.{◌≡◌, ℕ, ◌+◌, ◌*◌, ap, refl, subst, sym, ◌∙◌, map, pos, negsuc, neg_ℤ, arith}
+use Rattle.std.proofs.Common.{◌≡◌, ℕ, ◌+◌, ◌*◌, ap, refl, subst, ◌∙◌, map, pos, negsuc, neg_ℤ, arith}
 use mathlib.Core.Path.{subst⁻¹}
 use lib.ListN.{get_or-replicate}
 use lib.Signed.{◌<ℤ◌}

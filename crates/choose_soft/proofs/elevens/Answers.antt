@@ -1,4 +1,4 @@
-use Rattle.std.proofs.Common.{◌≡◌, ℕ, ◌+◌, ◌*◌, ◌≤◌, ◌<◌, List, ap, refl, ◌∙◌, arith}
+use Rattle.std.proofs.Common.{◌≡◌, ℕ, ◌+◌, ◌*◌, ◌≤◌, ◌<◌, ap, refl, ◌∙◌, arith}
 use native.Mathlib.Nat.{one-mul}
 use Rattle.rules_rates.specs.declared.Rate.TheVariants.{Eleven}
 use Rattle.rules_chips.specs.Chips.{soft_recording}

@@ -1,9 +1,14 @@
 -- Each turn of the loop is a butterfly of one column.
 use Rattle.std.proofs.Common.{◌∙◌, ap, arith}
 use Rattle.choose_walsh.specs.Turns.{plus, back}
-use Rattle.choose_walsh.specs.Rows.{row_at}
 use Rattle.choose_stages.proofs.Columns.{
-  flown_column, turned_twice, turned_thrice, bounded_by, bounded_back, bounded_sum, within_lane,
+  flown_column,
+  turned_twice,
+  turned_thrice,
+  bounded_by,
+  bounded_back,
+  bounded_sum,
+  within_lane,
 }
 use Rattle.choose_stages.proofs.butterfly.Goals as goal
 

@@ -1,5 +1,5 @@
 use lib.Dec.{lit≤}
-use Rattle.std.proofs.Common.{◌∙◌, length, arith, rules}
+use Rattle.std.proofs.Common.{◌∙◌, arith}
 use Rattle.std.proofs.lemmas.List.{length-map}
 use Rattle.base.proofs.Whole.{within_zero, within_neg}
 use Rattle.base.proofs.Adding.{within_pos}

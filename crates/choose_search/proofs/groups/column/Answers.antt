@@ -84,9 +84,9 @@ returns g c =
     let b0 = held (value c.args.b.first) (value c.args.b.second) (group_of (value c.args.b.group)) in
     let b1 = c.meet-b1.ensures.answer ∙ (λ i. met b0 (plus q p) (plus f e) (group_of (g0 i))) in
     let b2 = c.meet-b2.ensures.answer
-        ∙ (λ i. met (b1 i) (plus q (p1 i)) (plus f (e1 i)) (group_of (g1 i))) in
+    ∙ (λ i. met (b1 i) (plus q (p1 i)) (plus f (e1 i)) (group_of (g1 i))) in
     let b3 = c.meet-b3.ensures.answer
-        ∙ (λ i. met (b2 i) (plus q (p2 i)) (plus f (e2 i)) ((ap group_of g2 ∙ two) i)) in
+    ∙ (λ i. met (b2 i) (plus q (p2 i)) (plus f (e2 i)) ((ap group_of g2 ∙ two) i)) in
     record {
       answer = c.meet.ensures.answer
           ∙ (λ i. met (b3 i) (plus q (p3 i)) (plus f (e3 i)) ((ap group_of g3 ∙ three) i));

@@ -1,7 +1,7 @@
 -- What it makes is within the lane's limit, step by step, and comes to the two keys.
-use Rattle.std.proofs.Common.{◌∙◌, ap, pos, ◌+ℤ◌, ◌-ℤ◌}
+use Rattle.std.proofs.Common.{◌∙◌, ap, ◌+ℤ◌, ◌-ℤ◌}
 use Rattle.rules_choosing.specs.Keys.{larger, smaller}
-use Rattle.choose_walsh.specs.Turns.{sided, credit, four_top, four_next}
+use Rattle.choose_walsh.specs.Turns.{credit, four_top, four_next}
 use Rattle.choose_search.proofs.Keys.{sided_within, near_limit, far_limit, top_limit, next_limit}
 use Rattle.choose_search.proofs.groups.four.Goals as goal
 
@@ -19,8 +19,16 @@ minus-u-requires g c =
 pub plus-requires : goal.plus-requires
 unfolding four_top
 plus-requires g c =
-    rw (c.magnitude-m.ensures.answer, c.larger-top.ensures.answer, c.minus-u.ensures.answer, c.credit.ensures.answer,
-    c.credit-t.ensures.answer, c.sided.ensures.answer, c.sided-2.ensures.answer, c.of.ensures.answer)
+    rw (
+      c.magnitude-m.ensures.answer,
+      c.larger-top.ensures.answer,
+      c.minus-u.ensures.answer,
+      c.credit.ensures.answer,
+      c.credit-t.ensures.answer,
+      c.sided.ensures.answer,
+      c.sided-2.ensures.answer,
+      c.of.ensures.answer,
+    )
     (top_limit g.T.Lane.most g.met.T.Lane.room c.requires.0 c.requires.1 c.requires.2)
 
 pub lower-requires : goal.lower-requires
@@ -34,8 +42,16 @@ lower-requires g c = (
 pub plus-requires-2 : goal.plus-requires-2
 unfolding four_next
 plus-requires-2 g c =
-    rw (c.magnitude-m.ensures.answer, c.lower.ensures.answer, c.minus-u.ensures.answer, c.credit.ensures.answer,
-    c.credit-t.ensures.answer, c.sided.ensures.answer, c.sided-2.ensures.answer, c.of.ensures.answer)
+    rw (
+      c.magnitude-m.ensures.answer,
+      c.lower.ensures.answer,
+      c.minus-u.ensures.answer,
+      c.credit.ensures.answer,
+      c.credit-t.ensures.answer,
+      c.sided.ensures.answer,
+      c.sided-2.ensures.answer,
+      c.of.ensures.answer,
+    )
     (next_limit g.T.Lane.most g.met.T.Lane.room c.requires.0 c.requires.1 c.requires.2)
 
 pub returns : goal.returns

@@ -1,5 +1,5 @@
 -- The better of both pairs, and the next.
-use Rattle.std.proofs.Common.{◌∙◌, ap, pos, ◌-ℤ◌}
+use Rattle.std.proofs.Common.{◌∙◌, ap, ◌-ℤ◌}
 use Rattle.base.proofs.Whole.{within_neg}
 use Rattle.rules_choosing.specs.Keys.{larger, smaller}
 use Rattle.choose_walsh.specs.Turns.{four_top, four_next, top_of, next_of}
