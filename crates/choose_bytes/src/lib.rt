@@ -157,7 +157,7 @@ pub fn elevens(bytes: &[i8], at: usize, m: usize, numbers: &mut [u8; 64], leads:
         let count = choose_abreast::at_most_16(m - l);
         choose_abreast::take_in(bytes, 2 * (at + 8 * l), 16 * count, &mut row);
         choose_abreast::turn(&mut row, &mut other);
-        choose_walsh_bytes::sixteen(&row, &mut z, &mut a, 16, l, numbers, leads);
+        choose_search::sixteen(&row, &mut z, &mut a, 16, l, numbers, leads);
         l += 16;
     }
 }

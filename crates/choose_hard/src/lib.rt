@@ -157,7 +157,7 @@ pub fn elevens(octets: &[u8], at: usize, m: usize, numbers: &mut [u8; 64], leads
     while l < m {
         let count = choose_abreast::at_most_16(m - l);
         columns(octets, at + 8 * l, count, &mut row);
-        choose_walsh_bytes::sixteen(&row, &mut z, &mut a, 1024, l, numbers, leads);
+        choose_search::sixteen(&row, &mut z, &mut a, 1024, l, numbers, leads);
         l += 16;
     }
 }

@@ -181,7 +181,7 @@ pub fn elevens(
     while l < m {
         let count = choose_abreast::at_most_16(m - l);
         columns(i, q, at + 8 * l, count, &mut row);
-        choose_walsh_counts::sixteen(&row, &mut z, &mut a, l, numbers, leads);
+        choose_search::sixteen(&row, &mut z, &mut a, 1, l, numbers, leads);
         l += 16;
     }
 }

@@ -1,20 +1,15 @@
--- A turn of a butterfly's loop, at every width: eight numbers of one column, written sixteen apart.
---     Flight, flight             what the code adds fits, and is read back as it is
---     flown_none, flown_eight    before the first column, and one column more
+-- A turn of a butterfly's loop: eight numbers of one column, written sixteen apart.
+--     flown_eight    one column more
 -- Assumes nothing.
 use mathlib.Core.Path.{◌≡◌, refl, ap, ◌∙◌, subst}
 use mathlib.Core.List.{List, [], ◌∷◌}
-use Prim.Native.Nat.{ℕ, ◌+◌, ◌*◌, ◌^◌, ◌≤◌, ◌<◌}
+use Prim.Native.Nat.{ℕ, ◌+◌, ◌*◌, ◌≤◌, ◌<◌}
 use native.Mathlib.Decide.{dec_lt}
 use native.Mathlib.Omega.{arith}
 use lib.ListN.{length, get_or, set}
 use lib.IntN.{ℤ, pos, ◌+ℤ◌, ◌-ℤ◌}
-use mir.Syntax.{Width}
-use mir.Val.{SFits, to_z, of_z, hbits}
 use Rattle.rules_chips.specs.declared.Counts.{Counts}
 use Rattle.rules_chips.specs.Chips.{pair}
-use Rattle.rules_chips.specs.Bounds.{Bounded}
-use Rattle.base.proofs.Adding.{Reads, reads_of, reads_fits, reads_add, less_fits, reads_less}
 use Rattle.rules_choosing.proofs.Clean.{phase}
 use Rattle.choose_walsh.specs.Turns.{fly}
 use Rattle.choose_walsh.specs.Rows.{row_at, Flown}
@@ -32,14 +27,6 @@ outs_at : (x y : Counts) (r : ℕ) → r < 4
 outs_at x y r h =
     phase (λ r. pair (get_or (outs x y) (2 * r) (pos 0)) (get_or (outs x y) (2 * r + 1) (pos 0)) ≡ fly y x r)
     refl refl refl refl r h
-
-pub flown_none : (s : List ℤ) (x y : ℕ) (o : List ℤ) (z : ℕ) → Flown s x y o z 0 o
-flown_none s x y o z = record {
-  long = refl;
-  each = λ r l h k. absurd (omega arith);
-  below = λ j h. refl;
-  above = λ j h. refl;
-}
 
 flown_more : (s : List ℤ) (x y : ℕ) (o₀ : List ℤ) (z l : ℕ) (o vs : List ℤ)
     → Flown s x y o₀ z l o → l < 16 → z + 128 ≤ length o₀ → vs ≡ outs (row_at s x l) (row_at s y l)
@@ -96,52 +83,6 @@ flown_more s x y o₀ z l o vs f hl hz e = record {
         (here (z + 32 * r + l) (2 * r) (omega arith) (omega arith) i)
         (here (z + 32 * r + l + 16) (2 * r + 1) (omega arith) (omega arith) i))
         ∙ outs_at (row_at s x l) (row_at s y l) r hr)
-
--- ---- what the code makes of a column
-module _ (w : Width) (x y : Counts) where
-  abbrev rd : ℤ → ℤ
-  rd z = to_z w (of_z w z)
-
-  -- each of its eight sums, in its order, fits; and what they are as written
-  pub record Flight : Type 0 where
-    pub fits0 : SFits w (rd y.i +ℤ rd x.i)
-    pub fits1 : SFits w (rd y.q +ℤ rd x.q)
-    pub fits2 : SFits w (rd y.i +ℤ rd x.q)
-    pub fits3 : SFits w (rd y.q -ℤ rd x.i)
-    pub fits4 : SFits w (rd y.i -ℤ rd x.i)
-    pub fits5 : SFits w (rd y.q -ℤ rd x.q)
-    pub fits6 : SFits w (rd y.i -ℤ rd x.q)
-    pub fits7 : SFits w (rd y.q +ℤ rd x.i)
-    pub are : rd (rd y.i +ℤ rd x.i) ∷ rd (rd y.q +ℤ rd x.q) ∷ rd (rd y.i +ℤ rd x.q)
-        ∷ rd (rd y.q -ℤ rd x.i) ∷ rd (rd y.i -ℤ rd x.i) ∷ rd (rd y.q -ℤ rd x.q)
-        ∷ rd (rd y.i -ℤ rd x.q) ∷ rd (rd y.q +ℤ rd x.i) ∷ [] ≡ outs x y
-
-  pub flight : (b : ℕ) → b + b < 2 ^ hbits w → Bounded b x → Bounded b y → Flight
-  flight b room hx hy = record {
-    fits0 = reads_fits yi xi room;
-    fits1 = reads_fits yq xq room;
-    fits2 = reads_fits yi xq room;
-    fits3 = less_fits yq xi room;
-    fits4 = less_fits yi xi room;
-    fits5 = less_fits yq xq room;
-    fits6 = less_fits yi xq room;
-    fits7 = reads_fits yq xi room;
-    are = λ i. (reads_add yi xi room).is i ∷ (reads_add yq xq room).is i ∷ (reads_add yi xq room).is i
-        ∷ (reads_less yq xi room).is i ∷ (reads_less yi xi room).is i ∷ (reads_less yq xq room).is i
-        ∷ (reads_less yi xq room).is i ∷ (reads_add yq xi room).is i ∷ [];
-  }
-    where
-      xi : Reads w b (of_z w x.i) x.i
-      xi = reads_of (omega arith) hx.real
-
-      xq : Reads w b (of_z w x.q) x.q
-      xq = reads_of (omega arith) hx.imag
-
-      yi : Reads w b (of_z w y.i) y.i
-      yi = reads_of (omega arith) hy.real
-
-      yq : Reads w b (of_z w y.q) y.q
-      yq = reads_of (omega arith) hy.imag
 
 -- the turn with the eight as the code writes them
 pub flown_eight : {s : List ℤ} {x y : ℕ} {o₀ : List ℤ} {z l : ℕ} {o : List ℤ} {v0 v1 v2 v3 v4 v5 v6 v7 : ℤ}

@@ -1,7 +1,7 @@
 -- The search for the two largest keys, group after group and column by column.
 --     seeks_none, seeks_more           before the first group, and one more
 --     top_low                          what a group's key is never below
---     quartered_none, quartered_more   the loop over columns: before the first, and one column more
+--     quartered_more                   the loop over columns: one column more
 --     sought_none, sought_quarter      before the first group, and the four of one p3 more
 -- Assumes nothing.
 use mathlib.Core.Path.{◌≡◌, refl, sym, ap, ◌∙◌, subst}
@@ -223,16 +223,6 @@ module _ (k m : ℕ → ℤ) where
       rw (e, d) (more s.leads s.follows (subst (λ (z : ℤ). negsuc 0 ≤ℤ z) e (top_low y x)))
 
 -- ---- the loop over columns
-pub quartered_none : (a : List ℤ) (p3 : ℕ) (first second : List ℤ) (at : List ℕ)
-    → Quartered a p3 first second at 0 first second at
-quartered_none a p3 first second at = record {
-  first_long = refl;
-  second_long = refl;
-  at_long = refl;
-  each = λ l h. absurd (omega arith);
-  kept = λ l h. refl;
-}
-
 pub quartered_more : {a : List ℤ} {p3 : ℕ} {first second : List ℤ} {at : List ℕ} {n : ℕ} {first' second' : List ℤ}
     {at' : List ℕ} (v t : ℤ) (g : ℕ) → Quartered a p3 first second at n first' second' at' → n < length first
     → n < length second → n < length at

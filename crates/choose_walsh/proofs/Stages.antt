@@ -1,18 +1,16 @@
 -- What enters the stages and what they leave, from what their calls do, and how large the numbers grow.
 --     product_fits, raised_fits, raised_is      one number times a factor, and more
---     scaled_none, scaled_four                  a loop over the columns of four chips: before it, one more
+--     scaled_four                               a loop over the columns of four chips: one more
 --     entered                                   all eight chips have entered
---     four_none, four_more_lem, four_both           numbers that are seen to be small on the way
---     paired                                    four butterflies are the first stage
+--     four_more_lem, four_both                  numbers that are seen to be small on the way
 --     entered_rows, paired_rows                 numbers from -b to b grow to 16 b + 4, and then to 2 b
---     row_of                                    what a butterfly asks of a row that it is lent
 -- Assumes nothing.
 use mathlib.Core.Path.{◌≡◌, refl, sym, ap, ◌∙◌, subst}
 use mathlib.Core.List.{List, [], ◌∷◌}
 use Prim.Native.Nat.{ℕ, zero, suc, ◌+◌, ◌-◌, ◌*◌, ◌^◌, ◌/◌, ◌%◌, ◌≤◌, ◌<◌}
 use native.Mathlib.Decide.{dec_lt}
 use native.Mathlib.Omega.{arith}
-use lib.Dec.{lit<, lit≤}
+use lib.Dec.{lit<}
 use lib.ListN.{length, get_or, set, get_or-eq_default}
 use borrow.Author.Count.{below_more}
 use lib.IntN.{ℤ, pos, negsuc, ◌+ℤ◌, ◌*ℤ◌}
@@ -21,73 +19,44 @@ use mir.Val.{SFits, to_z, of_z, hbits}
 use Rattle.base.specs.Tables.{tabulate}
 use Rattle.base.specs.Whole.{Within}
 use Rattle.base.proofs.Tables.{length_tabulate, get_or_tabulate}
-use Rattle.base.proofs.Whole.{small, within_zero, within_neg, within_more, within_add}
+use Rattle.base.proofs.Whole.{within_zero, within_neg, within_add}
 use Rattle.rules_chips.specs.declared.Counts.{Counts}
-use Rattle.rules_chips.specs.Chips.{pair}
 use Rattle.rules_chips.specs.Bounds.{Bounded}
 use Rattle.rules_choosing.specs.Scores.{RowWithin}
-use Rattle.base.proofs.Adding.{
-  Reads,
-  made_fits,
-  made,
-  reads_of,
-  reads_fits,
-  reads_add,
-  within_pos,
-  within_mul,
-}
+use Rattle.base.proofs.Adding.{Reads, made_fits, made, reads_fits, reads_add, within_pos, within_mul}
 use Rattle.rules_choosing.proofs.Clean.{phase}
 use Rattle.choose_walsh.specs.Turns.{fly}
-use Rattle.choose_walsh.specs.Rows.{
-  row_at,
-  RowBounded,
-  RowsBounded,
-  factors,
-  quarters,
-  entering,
-  FourWithin,
-  FourScaled,
-  Entered,
-  Flown,
-  Joined,
-  Paired,
-}
+use Rattle.choose_walsh.specs.Rows.{row_at, RowBounded, RowsBounded, factors, quarters, entering, FourWithin, FourScaled, Entered, Joined, Paired}
 use Rattle.base.proofs.Puts.{puts, length_puts, puts_other, puts_at}
 use Rattle.choose_walsh.proofs.Turns.{turn, fly_bounded, eight_cases}
 
 -- ---- chips that enter
 -- a number of any width times a factor, and more
-module _ (w : Width) {b s : ℕ} {v times more : ℤ} (wide : 16 < 2 ^ hbits w) (room : 16 * b + 4 < 2 ^ hbits w)
-    (h : Reads w b s v) (ht : Within 16 times) (hm : Within 4 more) where
+module _ {w : Width} {b r s t : ℕ} {v times more : ℤ} (room : 16 * b + 4 < 2 ^ hbits w) (ht : Reads w 16 r times)
+    (h : Reads w b s v) (hm : Reads w 4 t more) where
   abbrev product : ℤ
-  product = to_z w (of_z w times) *ℤ to_z w s
+  product = to_z w r *ℤ to_z w s
 
   multiplied : product ≡ times *ℤ v
-  multiplied = λ i. small w 16 wide times ht i *ℤ h.is i
+  multiplied = λ i. ht.is i *ℤ h.is i
 
   pub product_fits : SFits w product
-  product_fits = made_fits multiplied (within_mul ht h.within) (omega arith)
+  product_fits = made_fits multiplied (within_mul ht.within h.within) (omega arith)
 
   number : Reads w (16 * b) (of_z w product) (times *ℤ v)
-  number = made multiplied (within_mul ht h.within) (omega arith)
+  number = made multiplied (within_mul ht.within h.within) (omega arith)
 
-  quarter : Reads w 4 (of_z w more) more
-  quarter = reads_of (omega arith) hm
+  pub raised_fits : SFits w (to_z w (of_z w product) +ℤ to_z w t)
+  raised_fits = reads_fits number hm room
 
-  pub raised_fits : SFits w (to_z w (of_z w product) +ℤ to_z w (of_z w more))
-  raised_fits = reads_fits number quarter room
-
-  pub raised_is : to_z w (of_z w (to_z w (of_z w product) +ℤ to_z w (of_z w more))) ≡ (times *ℤ v) +ℤ more
-  raised_is = (reads_add number quarter room).is
+  pub raised_is : to_z w (of_z w (to_z w (of_z w product) +ℤ to_z w t)) ≡ (times *ℤ v) +ℤ more
+  raised_is = (reads_add number hm room).is
 
 -- ---- four chips scaled, column after column, and all eight
 -- what is written of column l
 abbrev four : List ℤ → ℕ → List ℤ → List ℤ → ℕ → ℕ → ℤ
 four row x times more l k =
     (get_or times k (pos 0) *ℤ get_or row (x + l + 32 * k) (pos 0)) +ℤ get_or more k (pos 0)
-
-pub scaled_none : {row : List ℤ} {x : ℕ} {times more z : List ℤ} → FourScaled row x times more z 0 z
-scaled_none = record { long = refl; each = λ k l h g. absurd (omega arith); kept = λ j h. refl }
 
 scaled_more : (row : List ℤ) (x : ℕ) (times more z₀ : List ℤ) (l : ℕ) (z vs : List ℤ)
     → FourScaled row x times more z₀ l z → l < 32 → x + 128 ≤ length z₀ → vs ≡ tabulate (four row x times more l) 4
@@ -170,9 +139,6 @@ entered {row} {z₀} {z₁} {z₂} e s₁ s₂ = record {
         rw q at (s₂.each k l h g)
 
 -- ---- numbers that are seen to be small on the way, as bytes are
-pub four_none : {b : ℕ} {row : List ℤ} {x : ℕ} → FourWithin b row x 0
-four_none = record { at = λ k l h g. absurd (omega arith) }
-
 pub four_more_lem : {b : ℕ} {row : List ℤ} {x n : ℕ} → FourWithin b row x n → Within b (get_or row (x + n) (pos 0))
     → Within b (get_or row (x + n + 32) (pos 0)) → Within b (get_or row (x + n + 64) (pos 0))
     → Within b (get_or row (x + n + 96) (pos 0)) → FourWithin b row x (n + 1)
@@ -239,33 +205,7 @@ entered_rows {b} {row} {z} h r = record {
         subst (Within (16 * b + 4)) (sym (h.each k l hk hl))
         (within_add (within_mul (factors_within.at k) (r.at (32 * k + l))) (quarters_within.at k))
 
--- ---- rows that a butterfly leaves alone
-kept : {s : List ℤ} {x y : ℕ} {o : List ℤ} {z n : ℕ} {o' : List ℤ} → Flown s x y o z n o'
-    → (w l : ℕ) → w + 32 ≤ z → l < 16 → row_at o' w l ≡ row_at o w l
-kept f w l h g = λ i. pair (f.below (w + l) (omega arith) i) (f.below (w + l + 16) (omega arith) i)
-
-stays : {s : List ℤ} {x y : ℕ} {o : List ℤ} {v n : ℕ} {o' z : List ℤ} {u w : ℕ} → Joined z o u w
-    → Flown s x y o v n o' → w + 128 ≤ v → Joined z o' u w
-stays {w = w} j f h = record { at = λ p l hp hl. kept f (w + 32 * p) l (omega arith) hl ∙ j.at p l hp hl }
-
--- ---- the first stage
-pub paired : {z o₀ o₁ o₂ o₃ o₄ : List ℤ} → length o₀ ≡ 512 → Flown z 0 64 o₀ 0 16 o₁ → Flown z 32 96 o₁ 128 16 o₂
-    → Flown z 128 192 o₂ 256 16 o₃ → Flown z 160 224 o₃ 384 16 o₄ → Paired z o₄
-paired e f₁ f₂ f₃ f₄ = record {
-  long = f₄.long ∙ f₃.long ∙ f₂.long ∙ f₁.long ∙ e;
-  first = stays (stays (stays (record { at = f₁.each }) f₂ (lit≤ tt)) f₃ (lit≤ tt)) f₄ (lit≤ tt);
-  second = stays (stays (record { at = f₂.each }) f₃ (lit≤ tt)) f₄ (lit≤ tt);
-  third = stays (record { at = f₃.each }) f₄ (lit≤ tt);
-  fourth = record { at = f₄.each };
-}
-
 -- ---- bounds
-row_more : {b d : ℕ} {t : List ℤ} {x : ℕ} → RowBounded b t x → b ≤ d → RowBounded d t x
-row_more h l = record {
-  at = λ k g.
-      let c = h.at k g in record { real = within_more c.real l; imag = within_more c.imag l };
-}
-
 pub row_at_lem : {b n : ℕ} {t : List ℤ} {x : ℕ} (k : ℕ) → RowsBounded b n t → k < n → 32 * k ≡ x → RowBounded b t x
 row_at_lem {b} {n} {t} k h l e = subst (λ (x : ℕ). RowBounded b t x) e (h.row k l)
 
@@ -295,8 +235,3 @@ paired_rows {b} {z} {a} h r = record {
     one : {x w : ℕ} → Joined z a x w → (i j : ℕ) → i < 8 → j < 8 → 32 * i ≡ x → 32 * j ≡ x + 64 → (p : ℕ) → p < 4
         → RowBounded (b + b) a (w + 32 * p)
     one f i j hi hj ei ej p hp = flies p (λ l hl. f.at p l hp hl) (row_at_lem j r hj ej) (row_at_lem i r hi ei)
-
--- ---- what a butterfly asks of a row that it is lent
-pub row_of : {b d n : ℕ} {t : List ℤ} {x : ℕ} (k : ℕ) → RowsBounded b n t → b ≤ d → k < n → 32 * k ≡ x
-    → RowBounded d t x
-row_of k r more h e = row_more (row_at_lem k r h e) more

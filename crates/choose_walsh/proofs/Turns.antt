@@ -125,9 +125,7 @@ module _ (c0 c1 c2 c3 c4 c5 c6 c7 : Counts) (p1 p2 p3 p4 : ℕ) (h1 : p1 < 4) (h
     -- promise: Three stages of butterflies give every score at 11 Mbit/s, and the search over them ends with the word
     -- decided and its lead
     -- rule: 3.5, 3.6, 3.9
-    -- code: choose_stages_bytes::pairs, choose_stages_counts::pairs, choose_walsh_bytes::column,
-    -- choose_walsh_counts::column, choose_walsh_bytes::search, choose_walsh_counts::search,
-    -- choose_walsh_bytes::lead_of, choose_walsh_counts::lead_of
+    -- code: choose_stages::pairs, choose_search::column, choose_search::search, choose_search::lead_of
     -- with: column_sum, two_keys, chosen, led
     pub walsh : term p1 (fly (odd c0 c1 c2 c3 c4 c5 c6 c7 p3 p4) (even c0 c1 c2 c3 c4 c5 c6 c7 p3 p4) p2)
         ≡ score (cck_word p1 p2 p3 p4) (c0 ∷ c1 ∷ c2 ∷ c3 ∷ c4 ∷ c5 ∷ c6 ∷ c7 ∷ [])

@@ -92,6 +92,11 @@ pub record Keyed (first second : List ℤ) (at : List ℕ) : Type 0 where
   pub next : (l : ℕ) → l < 16 → negsuc 1 ≤ℤ get_or second l (pos 0)
   pub order : (l : ℕ) → l < 16 → get_or second l (pos 0) ≤ℤ get_or first l (pos 0)
 
+-- the number of a group as the code holds it; what is below 0 is none of the sixteen
+abbrev pub group_of : ℤ → ℕ
+group_of (pos n) = n
+group_of (negsuc n) = 16 + n
+
 -- the number of the word that has a key, in the group g
 abbrev pub word_of_key : ℤ → ℕ → ℕ
 word_of_key v g = 16 * (15 - (nat_abs v % 16 + 11) % 16) + g
