@@ -28,8 +28,8 @@ pub fn decide_barker(chips: [Chip; 11]) -> Choice
     ensures answer { ChosenAs Rate.One (map counts_of chips) result.number result.lead }
 {
     barker::decide(
-        choose_axes::soft_counts11(chips, Axis::I),
-        choose_axes::soft_counts11(chips, Axis::Q),
+        choose_axes::soft_counts(chips, Axis::I),
+        choose_axes::soft_counts(chips, Axis::Q),
     )
 }
 
@@ -39,7 +39,7 @@ pub fn decide_five(chips: [Chip; 8]) -> Choice
     ensures answer { ChosenAs Rate.Five (map counts_of chips) result.number result.lead }
 {
     five::decide(
-        choose_axes::soft_counts8(chips, Axis::I),
-        choose_axes::soft_counts8(chips, Axis::Q),
+        choose_axes::soft_counts(chips, Axis::I),
+        choose_axes::soft_counts(chips, Axis::Q),
     )
 }

@@ -195,8 +195,8 @@ pub fn decide_barker(chips: [Chip; 11]) -> Choice
     ensures answer { ChosenAs Rate.One (map unit_of chips) result.number result.lead }
 {
     barker(
-        choose_axes::hard_units11(chips, Axis::I),
-        choose_axes::hard_units11(chips, Axis::Q),
+        choose_axes::hard_units(chips, Axis::I),
+        choose_axes::hard_units(chips, Axis::Q),
     )
 }
 
@@ -205,7 +205,7 @@ pub fn decide_five(chips: [Chip; 8]) -> Choice
     ensures answer { ChosenAs Rate.Five (map unit_of chips) result.number result.lead }
 {
     five(
-        choose_axes::hard_units8(chips, Axis::I),
-        choose_axes::hard_units8(chips, Axis::Q),
+        choose_axes::hard_units(chips, Axis::I),
+        choose_axes::hard_units(chips, Axis::Q),
     )
 }

@@ -15,15 +15,15 @@ use Rattle.choose_by_counts.proofs.decide_barker.Tie as tie
 decide_requires : tie.Need-decide-requires
 decide_requires c κs =
     let chips = c.args.chips in (
-      subst (RowWithin 8192) (sym c.soft_counts11.ensures) (counts_small I chips),
-      subst (RowWithin 8192) (sym c.soft_counts11-2.ensures) (counts_small Q chips),
+      subst (RowWithin 8192) (sym c.soft_counts.ensures) (counts_small I chips),
+      subst (RowWithin 8192) (sym c.soft_counts-2.ensures) (counts_small Q chips),
     )
 
 returns : tie.Need-returns
 returns c =
     counts_barker c.args.chips
     (subst (λ (cs : List Counts). ChosenAs One cs c.decide.result.number c.decide.result.lead)
-    (λ i. as_chip (by_signs (c.soft_counts11.ensures i)) (by_signs (c.soft_counts11-2.ensures i)))
+    (λ i. as_chip (by_signs (c.soft_counts.ensures i)) (by_signs (c.soft_counts-2.ensures i)))
     c.decide.ensures)
 
 pub decide_barker_spec : {M : Type 1} → statement M

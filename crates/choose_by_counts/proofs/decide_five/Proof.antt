@@ -16,8 +16,8 @@ use Rattle.choose_by_counts.proofs.decide_five.Tie as tie
 decide_requires : tie.Need-decide-requires
 decide_requires c κs =
     let chips = c.args.chips in (
-      subst (RowWithin 8192) (sym c.soft_counts8.ensures) (counts_small I chips),
-      subst (RowWithin 8192) (sym c.soft_counts8-2.ensures) (counts_small Q chips),
+      subst (RowWithin 8192) (sym c.soft_counts.ensures) (counts_small I chips),
+      subst (RowWithin 8192) (sym c.soft_counts-2.ensures) (counts_small Q chips),
     )
 
 returns : tie.Need-returns
@@ -25,7 +25,7 @@ returns c =
     let chips = c.args.chips in
     let eight : length chips ≡ 8 = search rules in
     subst (λ (cs : List Counts). ChosenAs Five cs c.decide.result.number c.decide.result.lead)
-    ((λ i. rows (c.soft_counts8.ensures i) (c.soft_counts8-2.ensures i))
+    ((λ i. rows (c.soft_counts.ensures i) (c.soft_counts-2.ensures i))
     ∙ counts_eight chips eight) c.decide.ensures
 
 pub decide_five_spec : {M : Type 1} → statement M

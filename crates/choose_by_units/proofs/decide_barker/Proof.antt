@@ -15,15 +15,15 @@ use Rattle.choose_by_units.proofs.decide_barker.Tie as tie
 barker_requires : tie.Need-barker-requires
 barker_requires c κs =
     let chips = c.args.chips in (
-      subst (RowWithin 1) (sym c.hard_units11.ensures) (units_small I chips),
-      subst (RowWithin 1) (sym c.hard_units11-2.ensures) (units_small Q chips),
+      subst (RowWithin 1) (sym c.hard_units.ensures) (units_small I chips),
+      subst (RowWithin 1) (sym c.hard_units-2.ensures) (units_small Q chips),
     )
 
 returns : tie.Need-returns
 returns c =
     units_barker c.args.chips
     (subst (λ (cs : List Counts). ChosenAs One cs c.barker.result.number c.barker.result.lead)
-    (λ i. as_chip (by_signs (c.hard_units11.ensures i)) (by_signs (c.hard_units11-2.ensures i)))
+    (λ i. as_chip (by_signs (c.hard_units.ensures i)) (by_signs (c.hard_units-2.ensures i)))
     c.barker.ensures)
 
 pub decide_barker_spec : {M : Type 1} → statement M

@@ -16,8 +16,8 @@ use Rattle.choose_by_units.proofs.decide_five.Tie as tie
 five_requires : tie.Need-five-requires
 five_requires c κs =
     let chips = c.args.chips in (
-      subst (RowWithin 1) (sym c.hard_units8.ensures) (units_small I chips),
-      subst (RowWithin 1) (sym c.hard_units8-2.ensures) (units_small Q chips),
+      subst (RowWithin 1) (sym c.hard_units.ensures) (units_small I chips),
+      subst (RowWithin 1) (sym c.hard_units-2.ensures) (units_small Q chips),
     )
 
 returns : tie.Need-returns
@@ -25,7 +25,7 @@ returns c =
     let chips = c.args.chips in
     let eight : length chips ≡ 8 = search rules in
     subst (λ (cs : List Counts). ChosenAs Five cs c.five.result.number c.five.result.lead)
-    ((λ i. rows (c.hard_units8.ensures i) (c.hard_units8-2.ensures i)) ∙ units_rows chips eight)
+    ((λ i. rows (c.hard_units.ensures i) (c.hard_units-2.ensures i)) ∙ units_rows chips eight)
     c.five.ensures
 
 pub decide_five_spec : {M : Type 1} → statement M
