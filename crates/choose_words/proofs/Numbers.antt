@@ -4,9 +4,10 @@
 --     may_take, difference_is          and so of a difference
 --     score_within                     a score of a row, where the row's are small
 --     held_keys                        two keys of a row of scores
+--     four_read, whole_row             four sums of each of two rows; a row of numbers that are whole ones
 -- Assumes nothing.
 use Rattle.std.proofs.Common.{◌≡◌, ℕ, ◌+◌, ◌<◌, ◌≤◌, List, [], ◌∷◌, map, length, get_or, suc, sym, ap, ◌∙◌, subst, ℤ, pos, ◌+ℤ◌, ◌-ℤ◌, arith}
-use Rattle.std.proofs.lemmas.List.{get_or-map}
+use Rattle.std.proofs.lemmas.List.{get_or-map, map-id}
 use Rattle.base.specs.Whole.{Within}
 use Rattle.base.proofs.Whole.{within_more, within_add, within_neg}
 use Rattle.rules_choosing.specs.Scores.{RowWithin}
@@ -85,3 +86,7 @@ four_read {T} whole m n a b c d e f g h em en = λ i.
   where
     at : (t : List T) → length t ≡ 4 → (k : ℕ) (d : T) → k < 4 → whole (get_or t k d) ≡ get_or (map whole t) k (pos 0)
     at t e k d h = sym (get_or-map whole t k d (pos 0) (omega arith))
+
+-- numbers that are the whole numbers themselves
+pub whole_row : {xs ys : List ℤ} → xs ≡ ys → map (λ z. z) xs ≡ ys
+whole_row {xs} e = map-id xs ∙ e

@@ -14,6 +14,10 @@ ghost use Rattle.choose_words.specs.Held.{HeldTwo};
 use rules_rates::Rate;
 use std::ops::{Add, Sub};
 
+mod bytes;
+mod counts;
+mod units;
+
 // The number in which one axis of a chip is told, with the keys by which its scores are compared. Sums of eleven chips
 // have room in it, and so do their keys in theirs.
 pub trait Number: Copy + Add<Output = Self> + Sub<Output = Self> {
