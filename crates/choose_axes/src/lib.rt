@@ -60,28 +60,14 @@ fn soft_count(c: Chip, axis: Axis) -> i32
     }
 }
 
-// The counts of a CCK symbol's soft chips on an axis.
-pub fn soft_counts8(chips: [Chip; 8], axis: Axis) -> [i32; 8]
-    requires { AllSoft 8 chips }
-    ensures answer { result ≡ counts_along axis chips }
+// The counts of a symbol's soft chips on an axis.
+pub fn soft_counts<const N: usize>(chips: [Chip; N], axis: Axis) -> [i32; N]
+    requires { AllSoft N chips }
+    ensures answer { result ≡ counts_along axis chips.entry }
 {
-    let mut out = [0i32; 8];
-    for k in 0..8 {
-        let c = chips[k];
-        out[k] = soft_count(c, axis);
-    }
-    out
-}
-
-// The counts of a Barker symbol's soft chips on an axis.
-pub fn soft_counts11(chips: [Chip; 11], axis: Axis) -> [i32; 11]
-    requires { AllSoft 11 chips }
-    ensures answer { result ≡ counts_along axis chips }
-{
-    let mut out = [0i32; 11];
-    for k in 0..11 {
-        let c = chips[k];
-        out[k] = soft_count(c, axis);
+    let mut out = [0i32; N];
+    for k in 0..N {
+        out[k] = soft_count(chips[k], axis);
     }
     out
 }
@@ -105,26 +91,13 @@ fn hard_unit(c: Chip, axis: Axis) -> i8
     (x == plus) as i8 - (x == plus + 2) as i8
 }
 
-// The units of a CCK symbol's hard chips on an axis.
-pub fn hard_units8(chips: [Chip; 8], axis: Axis) -> [i8; 8]
-    ensures answer { result ≡ units_along axis chips }
+// The units of a symbol's hard chips on an axis.
+pub fn hard_units<const N: usize>(chips: [Chip; N], axis: Axis) -> [i8; N]
+    ensures answer { result ≡ units_along axis chips.entry }
 {
-    let mut out = [0i8; 8];
-    for k in 0..8 {
-        let c = chips[k];
-        out[k] = hard_unit(c, axis);
-    }
-    out
-}
-
-// The units of a Barker symbol's hard chips on an axis.
-pub fn hard_units11(chips: [Chip; 11], axis: Axis) -> [i8; 11]
-    ensures answer { result ≡ units_along axis chips }
-{
-    let mut out = [0i8; 11];
-    for k in 0..11 {
-        let c = chips[k];
-        out[k] = hard_unit(c, axis);
+    let mut out = [0i8; N];
+    for k in 0..N {
+        out[k] = hard_unit(chips[k], axis);
     }
     out
 }

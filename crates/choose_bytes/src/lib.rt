@@ -13,7 +13,6 @@ ghost use Rattle.choose_sums.specs.Sums.{every_row};
 ghost use Rattle.choose_recorded.specs.Recorded.{DecidedAt, LeadsAt, Put};
 ghost use Rattle.choose_bytes.specs.Rows.{barker_at, five_at};
 
-use choose_by_bytes::Choice;
 use rules_rates::Rate;
 
 // A byte as a wider number.
@@ -24,27 +23,14 @@ fn wide(b: i8) -> i16
     b as i16
 }
 
-// The bytes of one axis of a CCK symbol among sixteen abreast.
-fn eight(row: &[i8], from: usize) -> [i16; 8]
-    requires { from + 224 < length row.now }
-    ensures answer { result ≡ every_row row.now from 8 }
+// The bytes of one axis of a symbol among sixteen abreast.
+fn symbol<const N: usize>(row: &[i8], from: usize) -> [i16; N]
+    requires { from + 32 * N < length row.now + 32 }
+    ensures answer { result ≡ every_row row.now from N }
     ensures small { RowWithin 128 result }
 {
-    let mut out = [0i16; 8];
-    for k in 0..8 {
-        out[k] = wide(row[from + 32 * k]);
-    }
-    out
-}
-
-// The same of a Barker symbol.
-fn eleven(row: &[i8], from: usize) -> [i16; 11]
-    requires { from + 320 < length row.now }
-    ensures answer { result ≡ every_row row.now from 11 }
-    ensures small { RowWithin 128 result }
-{
-    let mut out = [0i16; 11];
-    for k in 0..11 {
+    let mut out = [0i16; N];
+    for k in 0..N {
         out[k] = wide(row[from + 32 * k]);
     }
     out
@@ -60,7 +46,7 @@ fn sixteen_barkers(row: &[i8], l: usize, numbers: &mut [u8; 64], raw: &mut [u16;
         raw.new 16 }
 {
     for s in 0..16 {
-        let c = choose_by_bytes::barker(eleven(row, s), eleven(row, 16 + s));
+        let c = choose_words::barker(symbol(row, s), symbol(row, 16 + s));
         numbers[l + s] = c.number;
         raw[l + s] = c.lead;
     }
@@ -76,7 +62,7 @@ fn sixteen_fives(row: &[i8], l: usize, numbers: &mut [u8; 64], raw: &mut [u16; 6
         raw.new 16 }
 {
     for s in 0..16 {
-        let c = choose_by_bytes::five(eight(row, s), eight(row, 16 + s));
+        let c = choose_words::five(symbol(row, s), symbol(row, 16 + s));
         numbers[l + s] = c.number;
         raw[l + s] = c.lead;
     }

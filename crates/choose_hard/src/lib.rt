@@ -10,7 +10,6 @@ ghost use Rattle.choose_recorded.specs.Columns.{ColumnSet, Columns, hard_column}
 ghost use Rattle.choose_recorded.specs.Recorded.{hard_part, AllUsable, DecidedAt, LeadsAt};
 
 use choose_axes::Axis;
-use choose_by_units::Choice;
 use rules_chips::Chip;
 use rules_rates::Rate;
 
@@ -35,25 +34,13 @@ pub fn clean(octets: &[u8], at: usize) -> bool
     top < 5
 }
 
-// The chips of a CCK symbol.
-fn eight(octets: &[u8], at: usize) -> [Chip; 8]
-    requires { at + 8 ≤ length octets.now }
-    ensures answer { result ≡ hard_part octets.now at 8 }
+// The chips of a symbol.
+fn symbol<const N: usize>(octets: &[u8], at: usize) -> [Chip; N]
+    requires { at + N ≤ length octets.now }
+    ensures answer { result ≡ hard_part octets.now at N }
 {
-    let mut chips = [Chip::Lost; 8];
-    for k in 0..8 {
-        chips[k] = choose_counts::hard_chip(octets[at + k]);
-    }
-    chips
-}
-
-// The chips of a Barker symbol.
-fn eleven(octets: &[u8], at: usize) -> [Chip; 11]
-    requires { at + 11 ≤ length octets.now }
-    ensures answer { result ≡ hard_part octets.now at 11 }
-{
-    let mut chips = [Chip::Lost; 11];
-    for k in 0..11 {
+    let mut chips = [Chip::Lost; N];
+    for k in 0..N {
         chips[k] = choose_counts::hard_chip(octets[at + k]);
     }
     chips
@@ -84,12 +71,10 @@ pub fn barkers(octets: &[u8], at: usize, m: usize, numbers: &mut [u8; 64], leads
     ensures leads { LeadsAt Rate.One (hard_recording octets.now) at m leads.new }
 {
     let mut full = [0u8; 64];
-    let mut l: usize = 0;
-    while l < m {
-        let c = choose_by_units::decide_barker(eleven(octets, at + 11 * l));
+    for l in 0..m {
+        let c = choose_by_units::decide_barker(symbol(octets, at + 11 * l));
         numbers[l] = c.number;
         full[l] = c.lead;
-        l += 1;
     }
     in_counts(&full, leads);
 }
@@ -102,12 +87,10 @@ pub fn fives(octets: &[u8], at: usize, m: usize, numbers: &mut [u8; 64], leads: 
     ensures leads { LeadsAt Rate.Five (hard_recording octets.now) at m leads.new }
 {
     let mut full = [0u8; 64];
-    let mut l: usize = 0;
-    while l < m {
-        let c = choose_by_units::decide_five(eight(octets, at + 8 * l));
+    for l in 0..m {
+        let c = choose_by_units::decide_five(symbol(octets, at + 8 * l));
         numbers[l] = c.number;
         full[l] = c.lead;
-        l += 1;
     }
     in_counts(&full, leads);
 }
@@ -130,16 +113,14 @@ fn columns(octets: &[u8], at: usize, count: usize, row: &mut [i8])
     ensures row { Columns (hard_column Axis.I octets.now at)
         (hard_column Axis.Q octets.now at) row.new count }
 {
-    let mut l: usize = 0;
-    while l < count {
-        let chips = eight(octets, at + 8 * l);
+    for l in 0..count {
+        let chips = symbol(octets, at + 8 * l);
         put_column(
-            choose_axes::hard_units8(chips, Axis::I),
-            choose_axes::hard_units8(chips, Axis::Q),
+            choose_axes::hard_units(chips, Axis::I),
+            choose_axes::hard_units(chips, Axis::Q),
             l,
             row,
         );
-        l += 1;
     }
 }
 

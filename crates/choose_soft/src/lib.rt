@@ -9,7 +9,6 @@ ghost use Rattle.choose_recorded.specs.Columns.{ColumnSet, Columns, soft_column}
 ghost use Rattle.choose_recorded.specs.Recorded.{soft_part, AllUsable, DecidedAt, LeadsAt};
 
 use choose_axes::Axis;
-use choose_by_counts::Choice;
 use rules_chips::{Chip, Sample};
 use rules_rates::Rate;
 
@@ -39,34 +38,17 @@ pub fn clean(i: &[f32], q: &[f32], at: usize) -> bool
     ok
 }
 
-// The chips of a CCK symbol.
-fn eight(i: &[f32], q: &[f32], at: usize) -> [Chip; 8]
-    requires { (at + 8 ≤ length i.now) × (at + 8 ≤ length q.now) }
-    ensures answer { result ≡ soft_part i.now q.now at 8 }
+// The chips of a symbol.
+fn symbol<const N: usize>(i: &[f32], q: &[f32], at: usize) -> [Chip; N]
+    requires { (at + N ≤ length i.now) × (at + N ≤ length q.now) }
+    ensures answer { result ≡ soft_part i.now q.now at N }
 {
-    let mut chips = [Chip::Lost; 8];
-    for k in 0..8 {
-        let s = Sample {
+    let mut chips = [Chip::Lost; N];
+    for k in 0..N {
+        chips[k] = Chip::Soft(Sample {
             i: i[at + k],
             q: q[at + k],
-        };
-        chips[k] = Chip::Soft(s);
-    }
-    chips
-}
-
-// The chips of a Barker symbol.
-fn eleven(i: &[f32], q: &[f32], at: usize) -> [Chip; 11]
-    requires { (at + 11 ≤ length i.now) × (at + 11 ≤ length q.now) }
-    ensures answer { result ≡ soft_part i.now q.now at 11 }
-{
-    let mut chips = [Chip::Lost; 11];
-    for k in 0..11 {
-        let s = Sample {
-            i: i[at + k],
-            q: q[at + k],
-        };
-        chips[k] = Chip::Soft(s);
+        });
     }
     chips
 }
@@ -88,12 +70,10 @@ pub fn barkers(
     ensures leads { LeadsAt Rate.One (soft_recording i.now q.now) at m
         leads.new }
 {
-    let mut l: usize = 0;
-    while l < m {
-        let c = choose_by_counts::decide_barker(eleven(i, q, at + 11 * l));
+    for l in 0..m {
+        let c = choose_by_counts::decide_barker(symbol(i, q, at + 11 * l));
         numbers[l] = c.number;
         leads[l] = c.lead;
-        l += 1;
     }
 }
 
@@ -114,12 +94,10 @@ pub fn fives(
     ensures leads { LeadsAt Rate.Five (soft_recording i.now q.now) at m
         leads.new }
 {
-    let mut l: usize = 0;
-    while l < m {
-        let c = choose_by_counts::decide_five(eight(i, q, at + 8 * l));
+    for l in 0..m {
+        let c = choose_by_counts::decide_five(symbol(i, q, at + 8 * l));
         numbers[l] = c.number;
         leads[l] = c.lead;
-        l += 1;
     }
 }
 
@@ -144,16 +122,14 @@ fn columns(i: &[f32], q: &[f32], at: usize, count: usize, row: &mut [i32])
         (soft_column Axis.Q i.now q.now at) row.new count }
     ensures small { RowWithin 8192 row.new }
 {
-    let mut l: usize = 0;
-    while l < count {
-        let chips = eight(i, q, at + 8 * l);
+    for l in 0..count {
+        let chips = symbol(i, q, at + 8 * l);
         put_column(
-            choose_axes::soft_counts8(chips, Axis::I),
-            choose_axes::soft_counts8(chips, Axis::Q),
+            choose_axes::soft_counts(chips, Axis::I),
+            choose_axes::soft_counts(chips, Axis::Q),
             l,
             row,
         );
-        l += 1;
     }
 }
 
