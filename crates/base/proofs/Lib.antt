@@ -7,3 +7,4 @@ pub mod Lists
 pub mod Adding
 pub mod Puts
 pub mod SoMany
+pub mod Arrays

@@ -4,8 +4,9 @@
 -- By induction: the lowest octet leaves a remainder and the others a quotient. Assumes nothing.
 use mathlib.Core.Path.{◌≡◌, refl, ap, ap₂, ◌∙◌}
 use mathlib.Core.List.{List, [], ◌∷◌, map}
-use Prim.Native.Nat.{ℕ, ◌+◌, ◌*◌, ◌/◌, ◌%◌, ◌≤◌, ◌<◌}
+use Prim.Native.Nat.{ℕ, ◌+◌, ◌*◌, ◌/◌, ◌%◌, ◌<◌}
 use native.Mathlib.Omega.{arith}
+use Rattle.std.specs.Int.{from_le_bytes, w64}
 use lib.ListN.{length, get_or}
 use Rattle.base.specs.Below.{Below}
 use Rattle.base.proofs.Below.{below_head, below_tail, below_eight}
@@ -105,10 +106,6 @@ module _ (c0 c1 c2 c3 c4 c5 c6 c7 p : ℕ) (h0 : c0 < 4) (h1 : c1 < 4) (h2 : c2 
   abbrev row : List ℕ
   row = c0 ∷ c1 ∷ c2 ∷ c3 ∷ c4 ∷ c5 ∷ c6 ∷ c7 ∷ []
 
-  row_small : together row ≤ 3 * 0x0101010101010101
-  unfolding together
-  row_small = omega arith
-
   raised : together row + 0x0101010101010101 * (p % 4) ≡ together (map (λ (c : ℕ). c + p % 4) row)
   unfolding together
   raised = omega arith
@@ -125,19 +122,17 @@ module _ (c0 c1 c2 c3 c4 c5 c6 c7 p : ℕ) (h0 : c0 < 4) (h1 : c1 < 4) (h2 : c2 
       on c = omega arith
 
 -- ---- the words of 5.5 Mbit/s, from the table's row
-abbrev entries : List ℕ → List ℕ
+abbrev pub entries : List ℕ → List ℕ
 entries r =
     get_or r 0 0 ∷ get_or r 1 0 ∷ get_or r 2 0 ∷ get_or r 3 0 ∷ get_or r 4 0 ∷ get_or r 5 0 ∷ get_or r 6 0 ∷ get_or r 7 0 ∷ []
+
+pub bytes_together : (r : List ℕ) → from_le_bytes w64 r ≡ together (entries r)
+unfolding together
+bytes_together r = omega arith
 
 entries_word : (p1 p2 p3 p4 : ℕ) → entries (cck_word p1 p2 p3 p4) ≡ cck_word p1 p2 p3 p4
 unfolding cck_word
 entries_word p1 p2 p3 p4 = refl
-
-word_small : (p1 p2 p3 p4 : ℕ) → together (cck_word p1 p2 p3 p4) ≤ 3 * 0x0101010101010101
-unfolding cck_word
-word_small p1 p2 p3 p4 =
-    row_small _ _ _ _ _ _ _ _ 0 (omega arith) (omega arith) (omega arith) (omega arith) (omega arith) (omega arith)
-    (omega arith) (omega arith)
 
 word_turned : (p p1 p2 p3 p4 : ℕ)
     → quarters 8 (together (cck_word p1 p2 p3 p4) + 0x0101010101010101 * (p % 4)) ≡ map (turned p) (cck_word p1 p2 p3 p4)
@@ -148,9 +143,6 @@ word_turned p p1 p2 p3 p4 =
 
 row_is : (d : ℕ) → entries (get_or five_table (d % 4) []) ≡ five_word 0 (d % 4)
 row_is d = ap entries (five_at_lem (d % 4) (omega arith)) ∙ entries_word _ _ _ _
-
-pub five_small : (d w : ℕ) → w ≡ together (entries (get_or five_table (d % 4) [])) → w ≤ 3 * 0x0101010101010101
-five_small d w e = rw (e, row_is d) (word_small _ _ _ _)
 
 pub five_sums : (p d w : ℕ) (q : List ℕ) → w ≡ together (entries (get_or five_table (d % 4) []))
     → q ≡ quarters 8 (w + 0x0101010101010101 * (p % 4)) → q ≡ cck_word p (2 * (d / 2 % 2) + 1) 0 (2 * (d % 2))

