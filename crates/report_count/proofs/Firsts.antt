@@ -5,7 +5,9 @@ use mathlib.Core.List.{List, [], map}
 use Prim.Native.Nat.{ℕ, ◌+◌, ◌≤◌, ◌<◌, min}
 use native.Mathlib.Omega.{arith}
 use denote.Ref.{Bor}
-use lib.ListN.{length, get_or, take, length-take, length-map, get_or-map}
+use Rattle.std.specs.Array.{AllOfLen}
+use Rattle.std.proofs.lemmas.List.FromFn.{fill_by_all}
+use lib.ListN.{replicate, length, get_or, take, length-take, length-map, get_or-map}
 use lib.Seq.{take_all, get_or-take}
 use borrow.Author.Tests.{eq-eqb, ne_eqb, le-leb, lt-leb}
 use Rattle.std.specs.List.{zip}
@@ -17,6 +19,29 @@ use Rattle.rules_report.specs.declared.Report.{Report}
 use Rattle.rules_report.specs.declared.Counted.{Counted}
 use Rattle.rules_report.proofs.Taking.{counted_next}
 use Rattle.rules_report.proofs.Lists.{length_recordings, recordings_next}
+
+-- a report by default is one of nothing counted
+abbrev Zeros : List ℕ → ℕ → Type 0
+Zeros row n = AllOfLen (λ x. x ≡ 0) row n
+
+pub nothing_counted : (p : Report)
+    → (p.seen ≡ 0) × (Zeros p.frames 4 × (Zeros p.octets 4 × (Zeros p.refused 18 × ((p.airtime ≡ 0) × ((p.some ≡ 0)
+    × ((p.lead ≡ 0) × (p.recording ≡ 0))))))) → p ≡ empty
+nothing_counted p h =
+    let frames : p.frames ≡ replicate 4 0 = fill_by_all (λ k. 0) p.frames 4 0 h.1.0.long (λ k l. h.1.0.at k 0 l) in
+    let octets : p.octets ≡ replicate 4 0 = fill_by_all (λ k. 0) p.octets 4 0 h.1.1.0.long (λ k l. h.1.1.0.at k 0 l) in
+    let refused : p.refused ≡ replicate 18 0 = fill_by_all (λ k. 0) p.refused 18 0 h.1.1.1.0.long (λ k l. h.1.1.1.0.at k 0 l) in
+    λ i.
+    record {
+      seen = h.0 i;
+      frames = frames i;
+      octets = octets i;
+      refused = refused i;
+      airtime = h.1.1.1.1.0 i;
+      some = h.1.1.1.1.1.0 i;
+      lead = h.1.1.1.1.1.1.0 i;
+      recording = h.1.1.1.1.1.1.1 i;
+    }
 
 abbrev rows : List (Bor (List ℕ)) → List (List ℕ)
 rows list = map (λ r. r.now) list

@@ -4,7 +4,6 @@
 ghost use Rattle.std.specs.Prelude.{◌≡◌, true, ◌||◌, map, ◌≤◌, eqb, ltb};
 ghost use Rattle.rules_report.specs.Totals.{Outcome, outcome_of, front_time};
 ghost use Rattle.rules_report.specs.Report.{
-  empty,
   entry_of,
   with_frame,
   with_refusal,
@@ -126,27 +125,11 @@ pub fn add(report: Report, kind: u64, chips: &[u8]) -> Counted
     }
 }
 
-// Nothing counted.
-fn none() -> Report
-    ensures answer { result ≡ empty }
-{
-    Report {
-        seen: 0,
-        frames: [0; 4],
-        octets: [0; 4],
-        refused: [0; 18],
-        airtime: 0,
-        some: 0,
-        lead: 0,
-        recording: 0,
-    }
-}
-
 // A whole list: 7 where there are not as many kinds as recordings; else the first 1,000, with 31 where there are more.
 pub fn of_list(kinds: &[u64], list: &[&[u8]]) -> Counted
     ensures answer { result ≡ list_of kinds.now (map (λ r. r.now) list.now) }
 {
-    let mut report = none();
+    let mut report = Report::default();
     if kinds.len() != list.len() {
         return Counted { number: 7, report };
     }

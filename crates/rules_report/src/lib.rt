@@ -5,7 +5,7 @@
 // to 17. `lead` is the smallest of all frames, `recording` the first that has it, and `some` is 1; with no frame all
 // three are 0.
 #[repr(C)]
-#[derive(Clone, Copy)]
+#[derive(Clone, Copy, Default)]
 pub struct Report {
     pub seen: u64,
     pub frames: [u64; 4],

@@ -4,15 +4,15 @@ use Rattle.std.proofs.lemmas.Iterator.{YieldsList-from_slice, YieldsList-from_ta
 use Rattle.std.proofs.lemmas.Iterator.Consumers.{YieldsList-turn, YieldsList-end}
 use Rattle.std.proofs.lemmas.List.{length_push}
 use Rattle.rules_report.proofs.Lists.{none_counted}
-use Rattle.report_count.proofs.Firsts.{differ, firsts, next_pair, many_pairs, many, whole}
+use Rattle.report_count.proofs.Firsts.{nothing_counted, differ, firsts, next_pair, many_pairs, many, whole}
 use Rattle.report_count.proofs.of_list.Goals as goal
 
 pub returns-then-kinds-list : goal.returns-then-kinds-list
 returns-then-kinds-list c =
-    record { answer = (λ i. record { number = 7; report = c.none-report.ensures.answer i }) ∙ differ c.args.kinds.now c.args.list.now c.if-kinds-list.true }
+    record { answer = (λ i. record { number = 7; report = nothing_counted c.default-report.result c.default-report.ensures i }) ∙ differ c.args.kinds.now c.args.list.now c.if-kinds-list.true }
 
 pub loop-kind-init : goal.loop-kind-init
-loop-kind-init c = c.none-report.ensures.answer ∙ none_counted
+loop-kind-init c = nothing_counted c.default-report.result c.default-report.ensures ∙ none_counted
 
 pub loop-kind-preserved : goal.loop-kind-preserved
 loop-kind-preserved c =
