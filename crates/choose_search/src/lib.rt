@@ -55,7 +55,8 @@ fn search<N: Lane>(a: &[N], first: &mut [N], second: &mut [N], at: &mut [N])
 
 // The lead of the word that has the first of two keys, in counts: so many to one of what its chips are told in.
 fn lead_of<N: Lane>(unit: u32, first: N, second: N) -> u32
-    requires { (unit ≤ N.units) × T (non_neg (N.value first)) × (negsuc 1 ≤ℤ N.value second) × (N.value second ≤ℤ N.value first) }
+    requires { (unit ≤ N.units) × T (non_neg (N.value first)) × (negsuc 1 ≤ℤ N.value second)
+        × (N.value second ≤ℤ N.value first) }
     ensures answer { result ≡ unit * lead_of_keys (N.value first) (N.value second) }
 {
     unit * first.lead(second.larger(N::of(0)))
@@ -71,12 +72,14 @@ fn put<N: Lane>(
     numbers: &mut [u8; 64],
     leads: &mut [u32; 64],
 )
-    requires { Keyed (map N.value first.now) (map N.value second.now) (groups N.value at.now) × (unit ≤ N.units) × (l + 16 ≤ 64)
-        × (length numbers.old ≡ 64) × (length leads.old ≡ 64) }
-    ensures numbers { Put (λ s. word_of_key (get_or (map N.value first.now) s (pos 0)) (get_or (groups N.value at.now) s 0)) l
+    requires { Keyed (map N.value first.now) (map N.value second.now) (groups N.value at.now) × (unit ≤ N.units)
+        × (l + 16 ≤ 64) × (length numbers.old ≡ 64) × (length leads.old ≡ 64) }
+    ensures numbers { Put
+        (λ s. word_of_key (get_or (map N.value first.now) s (pos 0)) (get_or (groups N.value at.now) s 0)) l
         numbers.old numbers.new 16 }
     ensures leads { Put
-        (λ s. unit * lead_of_keys (get_or (map N.value first.now) s (pos 0)) (get_or (map N.value second.now) s (pos 0))) l
+        (λ s. unit
+        * lead_of_keys (get_or (map N.value first.now) s (pos 0)) (get_or (map N.value second.now) s (pos 0))) l
         leads.old leads.new 16 }
 {
     for s in 0..16 {

@@ -1,25 +1,6 @@
 // The numbers that sixteen symbols abreast are decided in, of any width.
-ghost use Rattle.std.specs.Prelude.{
-  ◌≡◌,
-  List,
-  ℕ,
-  ℤ,
-  ◌+◌,
-  ◌-◌,
-  ◌*◌,
-  ◌/◌,
-  ◌≤◌,
-  ◌<◌,
-  T,
-  length,
-  get_or,
-  pos,
-  neg_ℤ,
-  nat_abs,
-  ◌+ℤ◌,
-  ◌-ℤ◌,
-  ◌*ℤ◌,
-};
+ghost use Rattle.std.specs.Prelude.{◌≡◌, List, ℕ, ℤ, ◌+◌, ◌-◌, ◌*◌, ◌/◌, ◌≤◌, ◌<◌, T, length, get_or, pos, neg_ℤ, nat_abs};
+ghost use Rattle.std.specs.Prelude.{◌+ℤ◌, ◌-ℤ◌, ◌*ℤ◌};
 ghost use Rattle.std.specs.Int.Signed.{lt_z, non_neg};
 ghost use Rattle.base.specs.Whole.{Within};
 ghost use Rattle.rules_choosing.specs.Keys.{larger, smaller};
@@ -103,7 +84,9 @@ pub trait Lane: Copy {
         ensures answer { result ≡ (nat_abs (value self) + 11) / 16 - (nat_abs (value next) + 11) / 16 }
         ensures small { result * units < 4294967296 };
 
+    // four butterflies and a key have room
     ghost room: { 8 * (16 * most + 4) + 7 ≤ limit };
 
+    // a row of chips has a number for each
     ghost long: { (row : List Self.Chip) → length (chips row) ≡ length row };
 }
